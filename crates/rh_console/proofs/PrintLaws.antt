@@ -1,5 +1,6 @@
 -- How long a text is, and what lent bytes have of one that was printed into them.
-use Rattle.std.proofs.Common.{◌≡◌, ℕ, ◌+◌, ◌-◌, ◌<◌, ◌≤◌, Bool, true, false, List, [], ◌∷◌, ◌++◌, length, take, replicate, Option, Some, None, Result, Ok, Err, refl, sym, ap, ◌∙◌, arith, append-nil, length-append}
+use Rattle.std.proofs.Common.{◌≡◌, ℕ, ◌+◌, ◌-◌, ◌<◌, ◌≤◌, Bool, true, false, List, [], ◌∷◌, ◌++◌, length, take, replicate, Option, Some, None, Result, Ok}
+use Rattle.std.proofs.Common.{Err, refl, sym, ap, ◌∙◌, arith, append-nil, length-append}
 use Rattle.std.specs.Prelude.{nat_le, nat_lt, ◌&&◌, if◌then◌else◌}
 use borrow.Author.Tests.{tests}
 use Rattle.rh_lines.specs.Flow.{Output, Puts, count_after}
@@ -88,7 +89,8 @@ same_parts : {x y : ℕ} {xs ys : List ℕ} → x ∷ xs ≡ y ∷ ys → (x ≡
 same_parts e = (cc, cc)
 
 -- a text that was printed into lent bytes that had nothing yet
-pub printed : {E : Type 0} (old new : LentText) (r : Result Unit E) (text : List ℕ) → old.taken ≡ 0 → Puts (output_of old) (output_of new) r text → Printed old new text
+pub printed : {E : Type 0} (old new : LentText) (r : Result Unit E) (text : List ℕ) → old.taken ≡ 0 → Puts (output_of old) (output_of new) r text
+    → Printed old new text
 unfolding output_of
 printed old new (Ok u) text none puts =
     let empty : taken_in old ≡ [] = ap (λ t. take t (old.bytes.now ++ old.beyond ∷ [])) none in

@@ -17,7 +17,8 @@ is_free size k place (b ∷ blocks) h = go (b.anchor == k) refl h (is_free size 
     still_none (Some s) e = absurd (cc)
 
     go : (t : Bool) → (b.anchor == k) ≡ t
-        → is_some (cond t (Some (record { before = []; here = b; after = blocks })) (option_map (behind b) (first_at size (λ _ c. c.anchor == k) (place + size b) blocks))) ≡ false
+        → is_some (cond t (Some (record { before = []; here = b; after = blocks }))
+        (option_map (behind b) (first_at size (λ _ c. c.anchor == k) (place + size b) blocks))) ≡ false
         → (is_some (first_at size (λ _ c. c.anchor == k) (place + size b) blocks) ≡ false → IsFree k blocks) → (b.anchor ≢ k) × IsFree k blocks
     go true e n rest = absurd (cc)
     go false e n rest = (eqb-false _ _ e, rest (still_none _ n))

@@ -11,7 +11,8 @@ use Rattle.rh_defs.specs.declared.refusal.Refusal.TheVariants.{NotABlock, BadSiz
 use Rattle.rh_defs.proofs.BlockLaws.{placed-puts, block_at-bytes, bytes_here, release-frees}
 use Rattle.rh_defs.proofs.ModuleLaws.{module_free-some, module_free-none}
 
-granted-is : (t u : Bool) (p : Placed) (there : Heap × ℕ) → ◌≡◌ {A = Granted (Heap × ℕ)} (refuse_if t BadSize >> (refuse_if u NoRoom >> Ok (p.heap, p.address))) (Ok there)
+granted-is : (t u : Bool) (p : Placed) (there : Heap × ℕ)
+    → ◌≡◌ {A = Granted (Heap × ℕ)} (refuse_if t BadSize >> (refuse_if u NoRoom >> Ok (p.heap, p.address))) (Ok there)
     → ◌≡◌ {A = Heap × ℕ} there (p.heap, p.address)
 unfolding ◌>>=◌ ◌>>◌ refuse_if
 granted-is true u p there e = absurd cc
@@ -33,7 +34,11 @@ room_enough n = omega arith
 -- the block that was claimed has the bytes that were asked for
 pub module_claim-has : (free n : ℕ) (h : Heap) (there : Heap × ℕ) → module_claim free n h ≡ Ok there → HasBlock there.1 n there.0
 module_claim-has free n h there e =
-    record { bytes = zeros (block_room n); found = (module_claim-puts free n h there e).here; room = omega (arith, room_enough n, length-replicate {A = ℕ} (block_room n) 0) }
+    record {
+      bytes = zeros (block_room n);
+      found = (module_claim-puts free n h there e).here;
+      room = omega (arith, room_enough n, length-replicate {A = ℕ} (block_room n) 0);
+    }
 
 -- a block that is there is freed
 pub module_free-there : (a : ℕ) (h : Heap) (bs : List ℕ) → block_bytes a h ≡ Some bs → module_free a h ≡ Ok (release a h)

@@ -1,12 +1,14 @@
 -- Blocks by their addresses, after each edit of a heap.
-use Rattle.std.proofs.Common.{◌≡◌, ℕ, zero, suc, ◌+◌, ◌-◌, ◌%◌, ◌<◌, ◌≤◌, ◌≢◌, inl, inr, Bool, true, false, cond, eqb, List, [], ◌∷◌, ◌++◌, length, refl, sym, ap, subst, ◌∙◌, arith, append-nil}
+use Rattle.std.proofs.Common.{◌≡◌, ℕ, zero, suc, ◌+◌, ◌-◌, ◌%◌, ◌<◌, ◌≤◌, ◌≢◌, inl, inr, Bool, true, false, cond, eqb, List, [], ◌∷◌, ◌++◌, length, refl, sym}
+use Rattle.std.proofs.Common.{ap, subst, ◌∙◌, arith, append-nil}
 use Rattle.std.proofs.lemmas.Bool.{cases_eq, cases_lt}
 use Rattle.std.proofs.lemmas.Bool.Decides.{nat_tests}
 use Rattle.std.specs.Prelude.{Option, Some, None, IfSome}
 use Rattle.std.specs.Option.{option_map}
 use Rattle.rh_defs.specs.Pieces.{total, Split, first_at}
 use Rattle.rh_defs.specs.Pieces as pieces
-use Rattle.rh_defs.specs.Heap.{Segment, Used, Hole, Heap, size_of, bytes_of, with_hole, joined, hole_for, is_hole_for, block_at, is_block_at, placed, placed_in, release, release_found}
+use Rattle.rh_defs.specs.Heap.{Segment, Used, Hole, Heap, size_of, bytes_of, with_hole, joined, hole_for, is_hole_for, block_at, is_block_at, placed}
+use Rattle.rh_defs.specs.Heap.{placed_in, release, release_found}
 use Rattle.rh_defs.proofs.HeapLists.{cond_true, cond_false, eqb_same, eqb_apart, IsCut, first_at-cuts}
 use Rattle.std.proofs.lemmas.Grind.{same_number_lists}
 use Rattle.rh_defs.specs.Bytes.{part, put}
@@ -55,7 +57,8 @@ in_hole : (bs : List ℕ) (xs ys : List Segment) (n r q : ℕ) → q ≡ 16 + to
     → Puts bs (record { segments = xs ++ Hole n ∷ ys; end = end }) (record { segments = xs ++ Used bs ∷ with_hole r ys; end = end' }) (q + 4)
 in_hole bs xs ys n r q eq en end end' =
     let old : (a : ℕ) → q + 4 ≤ a → bytes_at a 16 (xs ++ Hole n ∷ ys) ≡ bytes_at a (q + n) ys = λ a h. behind a 16 q xs (Hole n ∷ ys) eq h in
-    let new : (a : ℕ) → q + 4 ≤ a → bytes_at a 16 (xs ++ Used bs ∷ with_hole r ys) ≡ bytes_at a q (Used bs ∷ with_hole r ys) = λ a h. behind a 16 q xs (Used bs ∷ with_hole r ys) eq h in
+    let new : (a : ℕ) → q + 4 ≤ a → bytes_at a 16 (xs ++ Used bs ∷ with_hole r ys) ≡ bytes_at a q (Used bs ∷ with_hole r ys) =
+    λ a h. behind a 16 q xs (Used bs ∷ with_hole r ys) eq h in
     record {
       fresh = old (q + 4) (omega arith) ∙ below (q + 4) (q + n) ys (omega arith);
       here = new (q + 4) (omega arith) ∙ cond_true (eqb (q + 4) (q + 4)) _ _ (eqb_same (q + 4) (q + 4) refl);
@@ -86,14 +89,17 @@ fits_hole bs h s (Hole n) eg e t =
     let le : 4 + length bs ≤ n = grind (arith, nat_tests) in
     let p = in_hole bs s.before s.after n (n - (4 + length bs)) (16 + total size_of s.before) refl (omega arith) h.end h.end in
     let q : Puts bs h (record { segments = s.before ++ Used bs ∷ with_hole (n - (4 + length bs)) s.after; end = h.end }) (16 + total size_of s.before + 4) =
-    subst (λ (l : List Segment). Puts bs (record { segments = l; end = h.end }) (record { segments = s.before ++ Used bs ∷ with_hole (n - (4 + length bs)) s.after; end = h.end }) (16 + total size_of s.before + 4)) (sym e) p in
-    subst (λ (i : ℕ). Puts bs h (record { segments = s.before ++ Used bs ∷ with_hole (i - (4 + length bs)) s.after; end = h.end }) (16 + total size_of s.before + 4)) (sym (ap size_of eg)) q
+    subst (λ (l : List Segment). Puts bs (record { segments = l; end = h.end })
+    (record { segments = s.before ++ Used bs ∷ with_hole (n - (4 + length bs)) s.after; end = h.end }) (16 + total size_of s.before + 4)) (sym e) p in
+    subst (λ (i : ℕ). Puts bs h (record { segments = s.before ++ Used bs ∷ with_hole (i - (4 + length bs)) s.after; end = h.end })
+    (16 + total size_of s.before + 4)) (sym (ap size_of eg)) q
 
 -- a block that is placed is a new one, and no other changes
 pub placed-puts : (bs : List ℕ) (h : Heap) → Puts bs h (placed bs h).heap (placed bs h).address
 placed-puts bs h = go (hole_for (4 + length bs) h.segments) (first_at-cuts size_of (is_hole_for (4 + length bs)) 16 h.segments)
   where
-    go : (o : Option (Split Segment)) → IfSome o (IsCut size_of (is_hole_for (4 + length bs)) 16 h.segments) → Puts bs h (placed_in bs h o).heap (placed_in bs h o).address
+    go : (o : Option (Split Segment)) → IfSome o (IsCut size_of (is_hole_for (4 + length bs)) 16 h.segments)
+        → Puts bs h (placed_in bs h o).heap (placed_in bs h o).address
     go None c = at_top bs h.segments (16 + total size_of h.segments) refl h.end h.end
     go (Some s) c = fits_hole bs h s s.here refl c.whole c.passes
 
@@ -111,8 +117,10 @@ first-bytes a p [] = refl
 first-bytes a p (Used bs ∷ ss) =
     go (eqb a (p + 4)) (passed_on (Used bs) (first_at size_of (is_block_at a) (p + (4 + length bs)) ss) ∙ first-bytes a (p + (4 + length bs)) ss)
   where
-    go : (t : Bool) → bytes_here (option_map (pieces.behind (Used bs)) (first_at size_of (is_block_at a) (p + (4 + length bs)) ss)) ≡ bytes_at a (p + (4 + length bs)) ss
-        → bytes_here (cond t (Some (record { before = []; here = Used bs; after = ss })) (option_map (pieces.behind (Used bs)) (first_at size_of (is_block_at a) (p + (4 + length bs)) ss)))
+    go : (t : Bool) → bytes_here (option_map (pieces.behind (Used bs)) (first_at size_of (is_block_at a) (p + (4 + length bs)) ss)) ≡ bytes_at a
+        (p + (4 + length bs)) ss
+        → bytes_here (cond t (Some (record { before = []; here = Used bs; after = ss }))
+        (option_map (pieces.behind (Used bs)) (first_at size_of (is_block_at a) (p + (4 + length bs)) ss)))
         ≡ cond t (Some bs) (bytes_at a (p + (4 + length bs)) ss)
     go true e = refl
     go false e = e
@@ -157,25 +165,29 @@ release-frees x h = go (block_at x h) (block_at-bytes x h) (first_at-cuts size_o
 pub range_at : (a p : ℕ) (ss : List Segment) (bs : List ℕ) → bytes_at a p ss ≡ Some bs → (p + 4 ≤ a) × (a + length bs ≤ p + total size_of ss)
 range_at a p [] bs e = absurd cc
 range_at a p (Used cs ∷ ss) bs e = elim (cases_eq a (p + 4)) [
-  | inl q ↦ let same : Some cs ≡ Some bs = sym (cond_true (eqb a (p + 4)) _ _ (eqb_same a (p + 4) q)) ∙ e in let here : cs ≡ bs = cc in let l = ap length here in (omega arith, omega arith)
+  | inl q ↦ let same : Some cs ≡ Some bs =
+      sym (cond_true (eqb a (p + 4)) _ _ (eqb_same a (p + 4) q)) ∙ e in let here : cs ≡ bs = cc in let l = ap length here in (omega arith, omega arith)
   | inr ne ↦ let r = range_at a (p + (4 + length cs)) ss bs (sym (cond_false (eqb a (p + 4)) _ _ (eqb_apart a (p + 4) ne)) ∙ e) in (omega arith, omega arith)
 ]
 range_at a p (Hole n ∷ ss) bs e = let r = range_at a (p + n) ss bs e in (omega arith, omega arith)
 
 pub total-written : (a o : ℕ) (xs : List ℕ) (p : ℕ) (ss : List Segment) → total size_of (written_at a o xs p ss) ≡ total size_of ss
 total-written a o xs p [] = refl
-total-written a o xs p (Used bs ∷ ss) = elim (eqb a (p + 4)) as (λ t. total size_of (cond t (Used (put bs o xs) ∷ ss) (Used bs ∷ written_at a o xs (p + (4 + length bs)) ss)) ≡ total size_of (Used bs ∷ ss)) [
-  | true ↦ omega (arith, length-put bs o xs)
-  | false ↦ omega (arith, total-written a o xs (p + (4 + length bs)) ss)
-]
+total-written a o xs p (Used bs ∷ ss) = elim (eqb a (p + 4)) as (λ t. total size_of
+    (cond t (Used (put bs o xs) ∷ ss) (Used bs ∷ written_at a o xs (p + (4 + length bs)) ss)) ≡ total size_of (Used bs ∷ ss)) [
+      | true ↦ omega (arith, length-put bs o xs)
+      | false ↦ omega (arith, total-written a o xs (p + (4 + length bs)) ss)
+    ]
 total-written a o xs p (Hole n ∷ ss) = omega (arith, total-written a o xs (p + n) ss)
 
-written-here : (a o : ℕ) (xs : List ℕ) (p : ℕ) (ss : List Segment) (bs : List ℕ) → bytes_at a p ss ≡ Some bs → bytes_at a p (written_at a o xs p ss) ≡ Some (put bs o xs)
+written-here : (a o : ℕ) (xs : List ℕ) (p : ℕ) (ss : List Segment) (bs : List ℕ) → bytes_at a p ss ≡ Some bs
+    → bytes_at a p (written_at a o xs p ss) ≡ Some (put bs o xs)
 written-here a o xs p [] bs e = absurd cc
 written-here a o xs p (Used cs ∷ ss) bs e = elim (cases_eq a (p + 4)) [
   | inl q ↦ let t = eqb_same a (p + 4) q in
       let same : Some cs ≡ Some bs = sym (cond_true (eqb a (p + 4)) _ _ t) ∙ e in
-      ap (bytes_at a p) (cond_true (eqb a (p + 4)) _ _ t) ∙ cond_true (eqb a (p + 4)) _ _ t ∙ ap (λ (o' : Option (List ℕ)). option_map (λ l. put l o xs) o') same
+      ap (bytes_at a p) (cond_true (eqb a (p + 4)) _ _ t) ∙ cond_true (eqb a (p + 4)) _ _ t
+      ∙ ap (λ (o' : Option (List ℕ)). option_map (λ l. put l o xs) o') same
   | inr ne ↦ let f = eqb_apart a (p + 4) ne in
       ap (bytes_at a p) (cond_false (eqb a (p + 4)) _ _ f) ∙ cond_false (eqb a (p + 4)) _ _ f
       ∙ written-here a o xs (p + (4 + length cs)) ss bs (sym (cond_false (eqb a (p + 4)) _ _ f) ∙ e)
@@ -200,14 +212,16 @@ poked-pokes a o xs h bs e = record { here = written-here a o xs 16 h.segments bs
 pub tidy-written : (f : Bool) (a o : ℕ) (xs : List ℕ) (p : ℕ) (ss : List Segment) → IsTidy f ss → IsTidy f (written_at a o xs p ss)
 tidy-written false a o xs p [] t = t
 tidy-written true a o xs p [] t = t
-tidy-written false a o xs p (Used bs ∷ ss) t = elim (eqb a (p + 4)) as (λ b. IsTidy false (cond b (Used (put bs o xs) ∷ ss) (Used bs ∷ written_at a o xs (p + (4 + length bs)) ss))) [
-  | true ↦ (ap (λ n. (4 + n) % 8) (length-put bs o xs) ∙ t.0, t.1)
-  | false ↦ (t.0, tidy-written false a o xs (p + (4 + length bs)) ss t.1)
-]
-tidy-written true a o xs p (Used bs ∷ ss) t = elim (eqb a (p + 4)) as (λ b. IsTidy true (cond b (Used (put bs o xs) ∷ ss) (Used bs ∷ written_at a o xs (p + (4 + length bs)) ss))) [
-  | true ↦ (ap (λ n. (4 + n) % 8) (length-put bs o xs) ∙ t.0, t.1)
-  | false ↦ (t.0, tidy-written false a o xs (p + (4 + length bs)) ss t.1)
-]
+tidy-written false a o xs p (Used bs ∷ ss) t =
+    elim (eqb a (p + 4)) as (λ b. IsTidy false (cond b (Used (put bs o xs) ∷ ss) (Used bs ∷ written_at a o xs (p + (4 + length bs)) ss))) [
+      | true ↦ (ap (λ n. (4 + n) % 8) (length-put bs o xs) ∙ t.0, t.1)
+      | false ↦ (t.0, tidy-written false a o xs (p + (4 + length bs)) ss t.1)
+    ]
+tidy-written true a o xs p (Used bs ∷ ss) t =
+    elim (eqb a (p + 4)) as (λ b. IsTidy true (cond b (Used (put bs o xs) ∷ ss) (Used bs ∷ written_at a o xs (p + (4 + length bs)) ss))) [
+      | true ↦ (ap (λ n. (4 + n) % 8) (length-put bs o xs) ∙ t.0, t.1)
+      | false ↦ (t.0, tidy-written false a o xs (p + (4 + length bs)) ss t.1)
+    ]
 tidy-written false a o xs p (Hole n ∷ ss) t = (t.0, t.1, tidy-written true a o xs (p + n) ss t.2)
 tidy-written true a o xs p (Hole n ∷ ss) t = absurd t
 
@@ -221,13 +235,14 @@ part-written b at n o xs f w =
     (λ i h. let i-below : i < n = omega arith in get-part (put b (at + o) xs) at n i i-below ∙ elim (cases_lt i o) [
       | inl u ↦ put_below b (at + o) xs (at + i) (omega arith) ∙ sym (put_below (part b at n) o xs i u ∙ get-part b at n i i-below)
       | inr u ↦ elim (cases_lt i (o + length xs)) [
-        | inl v ↦ put_inside b (at + o) xs (at + i) (i - o) (omega arith) (omega arith) (omega arith) ∙ sym (put_inside (part b at n) o xs i (i - o) (omega arith) (omega arith) (omega arith))
+        | inl v ↦ put_inside b (at + o) xs (at + i) (i - o) (omega arith) (omega arith) (omega arith)
+            ∙ sym (put_inside (part b at n) o xs i (i - o) (omega arith) (omega arith) (omega arith))
         | inr v ↦ put_above b (at + o) xs (at + i) (omega arith) ∙ sym (put_above (part b at n) o xs i (omega arith) ∙ get-part b at n i i-below)
       ]
     ])
 
-Stand-written : (b : List ℕ) (a o : ℕ) (xs : List ℕ) (f p : ℕ) (ss : List Segment) (bs : List ℕ) → HasRoom ss → bytes_at a p ss ≡ Some bs → o + length xs ≤ length bs
-    → p + total size_of ss ≤ length b → f + 4 ≤ p → Stand b f p ss → Stand (put b (a + o) xs) f p (written_at a o xs p ss)
+Stand-written : (b : List ℕ) (a o : ℕ) (xs : List ℕ) (f p : ℕ) (ss : List Segment) (bs : List ℕ) → HasRoom ss → bytes_at a p ss ≡ Some bs
+    → o + length xs ≤ length bs → p + total size_of ss ≤ length b → f + 4 ≤ p → Stand b f p ss → Stand (put b (a + o) xs) f p (written_at a o xs p ss)
 Stand-written b a o xs f p [] bs r e i w l s = absurd cc
 Stand-written b a o xs f p (Used cs ∷ ss) bs r e i w l s = elim (cases_eq a (p + 4)) [
   | inl q ↦
@@ -263,7 +278,8 @@ Stand-written b a o xs f p (Hole n ∷ ss) bs r e i w l s =
     )
 
 -- bytes written inside a block leave a heap that is spelled, with that block changed alone
-pub Spells-written : (b : List ℕ) (h : Heap) (a o : ℕ) (xs bs : List ℕ) → Spells b 0 h → block_bytes a h ≡ Some bs → o + length xs ≤ length bs → Spells (put b (a + o) xs) 0 (poked a o xs h)
+pub Spells-written : (b : List ℕ) (h : Heap) (a o : ℕ) (xs bs : List ℕ) → Spells b 0 h → block_bytes a h ≡ Some bs → o + length xs ≤ length bs
+    → Spells (put b (a + o) xs) 0 (poked a o xs h)
 Spells-written b h a o xs bs s e i =
     let t = total-written a o xs 16 h.segments in
     let g = range_at a 16 h.segments bs e in
@@ -278,11 +294,13 @@ Spells-written b h a o xs bs s e i =
       stand = Stand-written b a o xs 4 16 h.segments bs (HasRoom-from_tidy false h.segments s.heap.tidy) e i (omega arith) (omega arith) s.stand;
     }
 
-pub IsImage-written : (b : List ℕ) (h : Heap) (a o : ℕ) (xs bs : List ℕ) → IsImage b h → block_bytes a h ≡ Some bs → o + length xs ≤ length bs → IsImage (put b (a + o) xs) (poked a o xs h)
+pub IsImage-written : (b : List ℕ) (h : Heap) (a o : ℕ) (xs bs : List ℕ) → IsImage b h → block_bytes a h ≡ Some bs → o + length xs ≤ length bs
+    → IsImage (put b (a + o) xs) (poked a o xs h)
 IsImage-written b h a o xs bs s e i = record { whole = length-put b (a + o) xs ∙ s.whole; spells = Spells-written b h a o xs bs s.spells e i }
 
 -- two writes into one block, the second where the first ends
-written-row : (a o q : ℕ) (xs ys : List ℕ) (p : ℕ) (ss : List Segment) → q ≡ o + length xs → written_at a q ys p (written_at a o xs p ss) ≡ written_at a o (xs ++ ys) p ss
+written-row : (a o q : ℕ) (xs ys : List ℕ) (p : ℕ) (ss : List Segment) → q ≡ o + length xs
+    → written_at a q ys p (written_at a o xs p ss) ≡ written_at a o (xs ++ ys) p ss
 written-row a o q xs ys p [] e = refl
 written-row a o q xs ys p (Used bs ∷ ss) e = elim (cases_eq a (p + 4)) [
   | inl z ↦ let t = eqb_same a (p + 4) z in
@@ -298,7 +316,12 @@ pub poked-row : (a o q : ℕ) (xs ys : List ℕ) (h : Heap) → q ≡ o + length
 poked-row a o q xs ys h e = ap (λ (l : List Segment). let k : Heap = record { segments = l; end = h.end } in k) (written-row a o q xs ys 16 h.segments e)
 
 pub has-poked : (a n o : ℕ) (xs : List ℕ) (h : Heap) → HasBlock a n h → HasBlock a n (poked a o xs h)
-has-poked a n o xs h b = record { bytes = put b.bytes o xs; found = (poked-pokes a o xs h b.bytes b.found).here; room = (let r = b.room in omega (arith, length-put b.bytes o xs)) }
+has-poked a n o xs h b =
+    record {
+      bytes = put b.bytes o xs;
+      found = (poked-pokes a o xs h b.bytes b.found).here;
+      room = (let r = b.room in omega (arith, length-put b.bytes o xs));
+    }
 
 pub has-less : (a n k : ℕ) (h : Heap) → k ≤ n → HasBlock a n h → HasBlock a k h
 has-less a n k h l b = record { bytes = b.bytes; found = b.found; room = (let r = b.room in omega arith) }
@@ -313,28 +336,36 @@ block-above a h bs e = let r = range_at a 16 h.segments bs e in r.0
 abbrev poked_cut : ℕ → List ℕ → Split Segment → Split Segment
 poked_cut o xs s = record { before = s.before; here = Used (put (bytes_of s.here) o xs); after = s.after }
 
-poked-behind : (o : ℕ) (xs : List ℕ) (g : Segment) (q : Option (Split Segment)) → option_map (pieces.behind g) (option_map (poked_cut o xs) q) ≡ option_map (poked_cut o xs) (option_map (pieces.behind g) q)
+poked-behind : (o : ℕ) (xs : List ℕ) (g : Segment) (q : Option (Split Segment))
+    → option_map (pieces.behind g) (option_map (poked_cut o xs) q) ≡ option_map (poked_cut o xs) (option_map (pieces.behind g) q)
 poked-behind o xs g None = refl
 poked-behind o xs g (Some s) = refl
 
-first-poked : (a o : ℕ) (xs : List ℕ) (p : ℕ) (ss : List Segment) → first_at size_of (is_block_at a) p (written_at a o xs p ss) ≡ option_map (poked_cut o xs) (first_at size_of (is_block_at a) p ss)
+first-poked : (a o : ℕ) (xs : List ℕ) (p : ℕ) (ss : List Segment)
+    → first_at size_of (is_block_at a) p (written_at a o xs p ss) ≡ option_map (poked_cut o xs) (first_at size_of (is_block_at a) p ss)
 first-poked a o xs p [] = refl
-first-poked a o xs p (Hole n ∷ ss) = ap (option_map (pieces.behind (Hole n))) (first-poked a o xs (p + n) ss) ∙ poked-behind o xs (Hole n) (first_at size_of (is_block_at a) (p + n) ss)
+first-poked a o xs p (Hole n ∷ ss) =
+    ap (option_map (pieces.behind (Hole n))) (first-poked a o xs (p + n) ss) ∙ poked-behind o xs (Hole n) (first_at size_of (is_block_at a) (p + n) ss)
 first-poked a o xs p (Used bs ∷ ss) = elim (cases_eq a (p + 4)) [
   | inl z ↦ let t = eqb_same a (p + 4) z in
-      ap (first_at size_of (is_block_at a) p) (cond_true (eqb a (p + 4)) _ _ t) ∙ cond_true (eqb a (p + 4)) _ _ t ∙ sym (ap (option_map (poked_cut o xs)) (cond_true (eqb a (p + 4)) _ _ t))
+      ap (first_at size_of (is_block_at a) p) (cond_true (eqb a (p + 4)) _ _ t) ∙ cond_true (eqb a (p + 4)) _ _ t
+      ∙ sym (ap (option_map (poked_cut o xs)) (cond_true (eqb a (p + 4)) _ _ t))
   | inr ne ↦ let f = eqb_apart a (p + 4) ne in
       ap (first_at size_of (is_block_at a) p) (cond_false (eqb a (p + 4)) _ _ f) ∙ cond_false (eqb a (p + 4)) _ _ f
-      ∙ ap (option_map (pieces.behind (Used bs))) (first-poked a o xs (p + (4 + length bs)) ss) ∙ poked-behind o xs (Used bs) (first_at size_of (is_block_at a) (p + (4 + length bs)) ss)
+      ∙ ap (option_map (pieces.behind (Used bs))) (first-poked a o xs (p + (4 + length bs)) ss)
+      ∙ poked-behind o xs (Used bs) (first_at size_of (is_block_at a) (p + (4 + length bs)) ss)
       ∙ sym (ap (option_map (poked_cut o xs)) (cond_false (eqb a (p + 4)) _ _ f))
 ]
 
 pub release-poked : (a o : ℕ) (xs : List ℕ) (h : Heap) (bs : List ℕ) → block_bytes a h ≡ Some bs → release a (poked a o xs h) ≡ release a h
-release-poked a o xs h bs e = ap (λ q. release_found q (poked a o xs h)) (first-poked a o xs 16 h.segments) ∙ go (block_at a h) (block_at-bytes a h) (first_at-cuts size_of (is_block_at a) 16 h.segments)
+release-poked a o xs h bs e = ap (λ q. release_found q (poked a o xs h)) (first-poked a o xs 16 h.segments)
+    ∙ go (block_at a h) (block_at-bytes a h) (first_at-cuts size_of (is_block_at a) 16 h.segments)
   where
-    go : (q : Option (Split Segment)) → bytes_here q ≡ block_bytes a h → IfSome q (IsCut size_of (is_block_at a) 16 h.segments) → release_found (option_map (poked_cut o xs) q) (poked a o xs h) ≡ release_found q h
+    go : (q : Option (Split Segment)) → bytes_here q ≡ block_bytes a h → IfSome q (IsCut size_of (is_block_at a) 16 h.segments)
+        → release_found (option_map (poked_cut o xs) q) (poked a o xs h) ≡ release_found q h
     go None f c = absurd (let bad : None ≡ Some bs = f ∙ e in cc)
     go (Some s) f c =
         let b = block_cut a (16 + total size_of s.before) s.here c.passes in
-        let n : 4 + length (put (bytes_of s.here) o xs) ≡ size_of s.here = ap (λ k. 4 + k) (length-put (bytes_of s.here) o xs ∙ ap (λ g. length (bytes_of g)) b.1) ∙ sym (ap size_of b.1) in
+        let n : 4 + length (put (bytes_of s.here) o xs) ≡ size_of s.here =
+        ap (λ k. 4 + k) (length-put (bytes_of s.here) o xs ∙ ap (λ g. length (bytes_of g)) b.1) ∙ sym (ap size_of b.1) in
         ap (λ (k : ℕ). let r : Heap = record { segments = joined (s.before ++ Hole k ∷ s.after); end = h.end } in r) n

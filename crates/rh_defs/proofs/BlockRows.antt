@@ -20,7 +20,8 @@ pub no_bytes : (block_bytes 28 two_blocks ≡ None) × (block_bytes 37 two_block
 no_bytes = (refl, refl)
 
 -- a claim of 3 bytes fills the hole with a block of 4 zeros
-pub claimed : module_claim 0 3 two_blocks ≡ Ok (record two_blocks { segments = Used (1 ∷ 2 ∷ 3 ∷ 4 ∷ []) ∷ Used (0 ∷ 0 ∷ 0 ∷ 0 ∷ []) ∷ Used (5 ∷ 6 ∷ 7 ∷ 8 ∷ []) ∷ [] }, 28)
+pub claimed : module_claim 0 3 two_blocks ≡ Ok
+    (record two_blocks { segments = Used (1 ∷ 2 ∷ 3 ∷ 4 ∷ []) ∷ Used (0 ∷ 0 ∷ 0 ∷ 0 ∷ []) ∷ Used (5 ∷ 6 ∷ 7 ∷ 8 ∷ []) ∷ [] }, 28)
 unfolding chain.computing module_area.computing
 claimed = refl
 

@@ -1,7 +1,9 @@
 -- Laws of words, ranges and writes of bytes.
-use Rattle.std.proofs.Common.{◌≡◌, ℕ, zero, suc, ◌+◌, ◌-◌, ◌<◌, ◌≤◌, ◌≢◌, ◌^◌, List, [], ◌∷◌, ◌++◌, length, replicate, get_or, set, take, drop, refl, sym, ap, ◌∙◌, inl, inr, arith, get_or-set_same, get_or-set_other}
+use Rattle.std.proofs.Common.{◌≡◌, ℕ, zero, suc, ◌+◌, ◌-◌, ◌<◌, ◌≤◌, ◌≢◌, ◌^◌, List, [], ◌∷◌, ◌++◌, length, replicate, get_or, set, take, drop, refl, sym, ap}
+use Rattle.std.proofs.Common.{◌∙◌, inl, inr, arith, get_or-set_same, get_or-set_other}
 use Rattle.std.proofs.lemmas.Grind.{same_number_lists}
-use Rattle.std.proofs.lemmas.List.{length-set, length-replicate, append_assoc, append-nil, drop_more, get_or-replicate, get_or-take, get_or_append_left, get_or-append-add, take-append-le, drop-append-le}
+use Rattle.std.proofs.lemmas.List.{length-set, length-replicate, append_assoc, append-nil, drop_more, get_or-replicate, get_or-take, get_or_append_left}
+use Rattle.std.proofs.lemmas.List.{get_or-append-add, take-append-le, drop-append-le}
 use Rattle.std.proofs.lemmas.List.Edits.{sets, sets-eq}
 use Rattle.std.proofs.Math.ListN.{length-append, drop_of_length-le}
 use Rattle.std.proofs.Math.Seq.{take-append-add, drop-append-add}
@@ -100,7 +102,8 @@ pub word-put_above : (b : List ℕ) (at : ℕ) (xs : List ℕ) (p : ℕ) → at 
 word-put_above b at xs p h = word_same b (put b at xs) p (record { each = λ k lo hi. put_above b at xs k (omega arith) })
 
 -- a word inside what was written
-pub word-put_inside : (b : List ℕ) (at : ℕ) (xs : List ℕ) (p k : ℕ) → p ≡ at + k → k + 4 ≤ length xs → at + length xs ≤ length b → word (put b at xs) p ≡ word xs k
+pub word-put_inside : (b : List ℕ) (at : ℕ) (xs : List ℕ) (p k : ℕ) → p ≡ at + k → k + 4 ≤ length xs → at + length xs ≤ length b
+    → word (put b at xs) p ≡ word xs k
 word-put_inside b at xs p k e h l = words_same xs (put b at xs) k p (λ j i. put_inside b at xs (p + j) (k + j) (omega arith) (omega arith) (omega arith))
 
 pub word-put_word_below : (b : List ℕ) (at w p : ℕ) → p + 4 ≤ at → word (put_word b at w) p ≡ word b p
@@ -131,7 +134,8 @@ part-put_below b at xs p n h = part_same b (put b at xs) p n (record { each = λ
 pub part-put_above : (b : List ℕ) (at : ℕ) (xs : List ℕ) (p n : ℕ) → at + length xs ≤ p → part (put b at xs) p n ≡ part b p n
 part-put_above b at xs p n h = part_same b (put b at xs) p n (record { each = λ k lo hi. put_above b at xs k (omega arith) })
 
-pub part-put_inside : (b : List ℕ) (at : ℕ) (xs : List ℕ) (p k n : ℕ) → p ≡ at + k → k + n ≤ length xs → at + length xs ≤ length b → part (put b at xs) p n ≡ part xs k n
+pub part-put_inside : (b : List ℕ) (at : ℕ) (xs : List ℕ) (p k n : ℕ) → p ≡ at + k → k + n ≤ length xs → at + length xs ≤ length b
+    → part (put b at xs) p n ≡ part xs k n
 part-put_inside b at xs p k n e h l = parts_same xs (put b at xs) k p n (λ j i. put_inside b at xs (p + j) (k + j) (omega arith) (omega arith) (omega arith))
 
 pub part-put_word_below : (b : List ℕ) (at w p n : ℕ) → p + n ≤ at → part (put_word b at w) p n ≡ part b p n
@@ -170,7 +174,8 @@ pub word-part : (b : List ℕ) (at n p : ℕ) → p + 4 ≤ n → word (part b a
 word-part b at n p h = words_same b (part b at n) (at + p) p (λ k l. get-part b at n (p + k) (omega arith) ∙ get_at b (at + (p + k)) (at + p + k) (omega arith))
 
 pub part-part : (b : List ℕ) (at n p k : ℕ) → p + k ≤ n → part (part b at n) p k ≡ part b (at + p) k
-part-part b at n p k h = parts_same b (part b at n) (at + p) p k (λ j l. get-part b at n (p + j) (omega arith) ∙ get_at b (at + (p + j)) (at + p + j) (omega arith))
+part-part b at n p k h =
+    parts_same b (part b at n) (at + p) p k (λ j l. get-part b at n (p + j) (omega arith) ∙ get_at b (at + (p + j)) (at + p + j) (omega arith))
 
 -- two ranges, or two writes, that lie one after the other
 pub part_more : (b : List ℕ) (at n k : ℕ) → part b at (n + k) ≡ part b at n ++ part b (at + n) k
@@ -200,7 +205,8 @@ part_all b = same_number_lists (part b 0 (length b)) b (length-part b 0 (length 
     (λ k h. get-part b 0 (length b) k (omega (arith, length-part b 0 (length b))) ∙ get_at b (0 + k) k (omega arith))
 
 -- a byte of a written list, by where it lies
-get-put : (b : List ℕ) (at : ℕ) (xs ys : List ℕ) (k : ℕ) → at + length xs ≤ length b → (k < at → get_or b k 0 ≡ get_or ys k 0) → ((j : ℕ) → j < length xs → k ≡ at + j → get_or xs j 0 ≡ get_or ys k 0)
+get-put : (b : List ℕ) (at : ℕ) (xs ys : List ℕ) (k : ℕ) → at + length xs ≤ length b → (k < at → get_or b k 0 ≡ get_or ys k 0)
+    → ((j : ℕ) → j < length xs → k ≡ at + j → get_or xs j 0 ≡ get_or ys k 0)
     → (at + length xs ≤ k → get_or b k 0 ≡ get_or ys k 0) → get_or (put b at xs) k 0 ≡ get_or ys k 0
 get-put b at xs ys k h below inside above = elim (cases_lt k at) [
   | inl l ↦ put_below b at xs k l ∙ below l
@@ -228,7 +234,8 @@ put-put b at xs ys h l =
     (λ j. put_above b at xs k (omega arith) ∙ sym (put_above b at ys k j)))
 
 -- two writes apart, in either order
-pub put_apart : (b : List ℕ) (p : ℕ) (xs : List ℕ) (q : ℕ) (ys : List ℕ) → p + length xs ≤ q → q + length ys ≤ length b → put (put b p xs) q ys ≡ put (put b q ys) p xs
+pub put_apart : (b : List ℕ) (p : ℕ) (xs : List ℕ) (q : ℕ) (ys : List ℕ) → p + length xs ≤ q → q + length ys ≤ length b
+    → put (put b p xs) q ys ≡ put (put b q ys) p xs
 put_apart b p xs q ys h l =
     let left = length-put b p xs in
     let right = length-put b q ys in
@@ -242,7 +249,8 @@ put_apart b p xs q ys h l =
     (λ j. put_above b p xs k (omega arith) ∙ sym (put_above (put b q ys) p xs k (omega arith) ∙ put_above b q ys k j)))
 
 -- a write before another that begins where it ends
-pub put_before : (b : List ℕ) (at : ℕ) (xs ys : List ℕ) (n : ℕ) → n ≡ length xs → at + n + length ys ≤ length b → put (put b (at + n) ys) at xs ≡ put b at (xs ++ ys)
+pub put_before : (b : List ℕ) (at : ℕ) (xs ys : List ℕ) (n : ℕ) → n ≡ length xs → at + n + length ys ≤ length b
+    → put (put b (at + n) ys) at xs ≡ put b at (xs ++ ys)
 put_before b at xs ys n e h = sym (put_apart b at xs (at + n) ys (omega arith) h) ∙ ap (λ k. put (put b at xs) (at + k) ys) e ∙ sym (put_more b at xs ys)
 
 -- the steps of a slide in parts: towards lower offsets from the lower end on, towards higher ones from the upper end
@@ -271,10 +279,12 @@ pub part-append_left : (b c : List ℕ) (p n : ℕ) → p + n ≤ length b → p
 part-append_left b c p n h = part_same b (b ++ c) p n (record { each = λ k lo hi. get_or_append_left b c 0 k (omega arith) })
 
 pub word-append_right : (b c : List ℕ) (p : ℕ) → word (b ++ c) (length b + p) ≡ word c p
-word-append_right b c p = words_same c (b ++ c) p (length b + p) (λ k h. get_at (b ++ c) (length b + p + k) (length b + (p + k)) (omega arith) ∙ get_or-append-add b c (p + k) 0)
+word-append_right b c p =
+    words_same c (b ++ c) p (length b + p) (λ k h. get_at (b ++ c) (length b + p + k) (length b + (p + k)) (omega arith) ∙ get_or-append-add b c (p + k) 0)
 
 pub part-append_right : (b c : List ℕ) (p n : ℕ) → part (b ++ c) (length b + p) n ≡ part c p n
-part-append_right b c p n = parts_same c (b ++ c) p (length b + p) n (λ k h. get_at (b ++ c) (length b + p + k) (length b + (p + k)) (omega arith) ∙ get_or-append-add b c (p + k) 0)
+part-append_right b c p n = parts_same c (b ++ c) p (length b + p) n (λ k h. get_at (b ++ c) (length b + p + k) (length b + (p + k)) (omega arith)
+    ∙ get_or-append-add b c (p + k) 0)
 
 pub word-take : (n : ℕ) (b : List ℕ) (p : ℕ) → p + 4 ≤ n → word (take n b) p ≡ word b p
 word-take n b p h = word_same b (take n b) p (record { each = λ k lo hi. get_or-take n b k 0 (omega arith) })
@@ -308,7 +318,8 @@ put-append_left b c at xs h =
     put-parts (b ++ c) at xs (omega (arith, length-append b c))
     ∙ ap (λ l. l ++ (xs ++ drop (at + length xs) (b ++ c))) (take-append-le at b c (omega arith))
     ∙ ap (λ l. take at b ++ (xs ++ l)) (drop-append-le (at + length xs) b c h)
-    ∙ sym (ap (λ l. l ++ c) (put-parts b at xs h) ∙ append_assoc (take at b) (xs ++ drop (at + length xs) b) c ∙ ap (λ l. take at b ++ l) (append_assoc xs (drop (at + length xs) b) c))
+    ∙ sym (ap (λ l. l ++ c) (put-parts b at xs h) ∙ append_assoc (take at b) (xs ++ drop (at + length xs) b) c
+    ∙ ap (λ l. take at b ++ l) (append_assoc xs (drop (at + length xs) b) c))
 
 pub put-append_right : (b c : List ℕ) (at : ℕ) (xs : List ℕ) → at + length xs ≤ length c → put (b ++ c) (length b + at) xs ≡ b ++ put c at xs
 put-append_right b c at xs h =
@@ -355,4 +366,25 @@ pub SameIn-take : (n : ℕ) (b : List ℕ) (lo hi : ℕ) → hi ≤ n → SameIn
 SameIn-take n b lo hi h = record { each = λ k x y. get_or-take n b k 0 (omega arith) }
 
 -- for `grind`
-pub ruleset word_laws = (length-put_word, word-put_word, word-put_word_below, word-put_word_above, get-put_word_below, get-put_word_above, length-put, length-part, put_below, put_above, word-put_below, word-put_above, part-put, part-put_below, part-put_above, part-put_word_below, part-put_word_above, part-put_zeros, put_zeros_below, put_zeros_above)
+pub ruleset word_laws = (
+  length-put_word,
+  word-put_word,
+  word-put_word_below,
+  word-put_word_above,
+  get-put_word_below,
+  get-put_word_above,
+  length-put,
+  length-part,
+  put_below,
+  put_above,
+  word-put_below,
+  word-put_above,
+  part-put,
+  part-put_below,
+  part-put_above,
+  part-put_word_below,
+  part-put_word_above,
+  part-put_zeros,
+  put_zeros_below,
+  put_zeros_above,
+)

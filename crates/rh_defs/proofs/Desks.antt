@@ -12,7 +12,8 @@ use Rattle.rh_defs.specs.Pieces.{total, page}
 use Rattle.rh_defs.specs.Heap.{Heap}
 use Rattle.rh_defs.specs.Slot.{Slot, IsSlot, slot_pages}
 use Rattle.rh_defs.specs.Post.{Post, post_is_live}
-use Rattle.rh_defs.specs.Desk.{Desk, Task, Scrap, task_pages, used_pages, free_pages, has_name, named, edit_task, with_task, with_slot, with_sending, with_taking, with_module, with_post, kept_scrap, with_delivered, send_letter}
+use Rattle.rh_defs.specs.Desk.{Desk, Task, Scrap, task_pages, used_pages, free_pages, has_name, named, edit_task, with_task, with_slot, with_sending}
+use Rattle.rh_defs.specs.Desk.{with_taking, with_module, with_post, kept_scrap, with_delivered, send_letter}
 use Rattle.rh_defs.specs.Commands.{file_length, scrap_area, least_length}
 use Rattle.rh_defs.specs.Laws.{IsPost, IsDesk, task_handles}
 use Rattle.rh_defs.proofs.Chains.{OnGrant, granted, granted-with, found_or-grants}
@@ -44,7 +45,8 @@ named-task name d is = found_or-grants (IsTask d) (find (has_name name) d.tasks)
     }
 
 -- other tasks with the same handles
-pub tasks-keep : (tasks : List Task) (d : Desk) → used_pages (record d { tasks = tasks }) ≤ d.pool → task_handles tasks ≡ task_handles d.tasks → AllByRecursion HasSlot tasks → IsDesk d → IsDesk (record d { tasks = tasks })
+pub tasks-keep : (tasks : List Task) (d : Desk) → used_pages (record d { tasks = tasks }) ≤ d.pool → task_handles tasks ≡ task_handles d.tasks
+    → AllByRecursion HasSlot tasks → IsDesk d → IsDesk (record d { tasks = tasks })
 tasks-keep tasks d room handles slots is = record {
   pool = is.pool;
   pages = room;
@@ -72,22 +74,27 @@ module _ (h : ℕ) (edit : Task → Task) where
       elim (t.handle == h) as (λ b. task_handles (cond b (edit t ∷ tasks) (t ∷ edit_task h edit tasks)) ≡ t.handle ∷ task_handles tasks)
       [ true ↦ ap (λ a. a ∷ task_handles tasks) (keeps t) | false ↦ ap (λ hs. t.handle ∷ hs) (edit-handles keeps tasks) ]
 
-  edit-less : ((t : Task) → HasSlot t → task_pages (edit t) ≤ task_pages t) → (tasks : List Task) → AllByRecursion HasSlot tasks → total task_pages (edit_task h edit tasks) ≤ total task_pages tasks
+  edit-less : ((t : Task) → HasSlot t → task_pages (edit t) ≤ task_pages t) → (tasks : List Task) → AllByRecursion HasSlot tasks
+      → total task_pages (edit_task h edit tasks) ≤ total task_pages tasks
   edit-less less [] all = omega arith
   edit-less less (t ∷ tasks) all =
       elim (t.handle == h) as (λ b. total task_pages (cond b (edit t ∷ tasks) (t ∷ edit_task h edit tasks)) ≤ task_pages t + total task_pages tasks)
       [ true ↦ omega (arith, less t all.0) | false ↦ omega (arith, edit-less less tasks all.1) ]
 
-  edit-pages : (tasks : List Task) (t : Task) → find (λ (u : Task). u.handle == h) tasks ≡ Some t → total task_pages (edit_task h edit tasks) + task_pages t ≡ total task_pages tasks + task_pages (edit t)
+  edit-pages : (tasks : List Task) (t : Task) → find (λ (u : Task). u.handle == h) tasks ≡ Some t
+      → total task_pages (edit_task h edit tasks) + task_pages t ≡ total task_pages tasks + task_pages (edit t)
   edit-pages [] t is = absurd cc
   edit-pages (x ∷ tasks) t is =
-      elim (x.handle == h) as (λ b. cond b (Some x) (find (λ (u : Task). u.handle == h) tasks) ≡ Some t → total task_pages (cond b (edit x ∷ tasks) (x ∷ edit_task h edit tasks)) + task_pages t ≡ (task_pages x + total task_pages tasks) + task_pages (edit t)) [
+      elim (x.handle == h) as (λ b. cond b (Some x) (find (λ (u : Task). u.handle == h) tasks) ≡ Some t
+      → total task_pages (cond b (edit x ∷ tasks) (x ∷ edit_task h edit tasks)) + task_pages t ≡ (task_pages x + total task_pages tasks) + task_pages
+      (edit t)) [
         | true ↦ λ (q : Some x ≡ Some t). (let e : x ≡ t = cc in omega (arith, ap task_pages e, ap (λ y. task_pages (edit y)) e))
         | false ↦ λ (q : find (λ (u : Task). u.handle == h) tasks ≡ Some t). omega (arith, edit-pages tasks t q)
       ] is
 
 -- a task edited so that it takes no page
-pub with_task-keeps : (h : ℕ) (edit : Task → Task) (d : Desk) → ((t : Task) → (edit t).handle ≡ t.handle) → ((t : Task) → IsSlot t.slot → IsKept t.slot (edit t).slot) → IsDesk d → IsDesk (with_task h edit d)
+pub with_task-keeps : (h : ℕ) (edit : Task → Task) (d : Desk) → ((t : Task) → (edit t).handle ≡ t.handle)
+    → ((t : Task) → IsSlot t.slot → IsKept t.slot (edit t).slot) → IsDesk d → IsDesk (with_task h edit d)
 unfolding with_task
 with_task-keeps h edit d same keeps is =
     let less = edit-less h edit (λ t slot. (keeps t slot).pages) d.tasks is.slots in
@@ -115,7 +122,8 @@ with_slot-keeps d t s task fits is =
     (edit-all t.handle (λ t. record t { slot = s }) (λ t _. fits.slot) d.tasks is.slots) is
 
 -- a slot after another, in what the first one left
-pub roomed-then : (d : Desk) (t : Task) (s new : Slot) → IsTask d t → IsDesk d → IsRoomed (free_pages d) t.slot s → IsRoomed (free_pages (with_slot t.handle s d)) s new → IsRoomed (free_pages d) t.slot new
+pub roomed-then : (d : Desk) (t : Task) (s new : Slot) → IsTask d t → IsDesk d → IsRoomed (free_pages d) t.slot s
+    → IsRoomed (free_pages (with_slot t.handle s d)) s new → IsRoomed (free_pages d) t.slot new
 unfolding with_task
 roomed-then d t s new task is first second =
     record { room = omega (arith, is.pages, first.room, second.room, with_slot-pages d t s task); slot = second.slot }
@@ -127,7 +135,9 @@ roomed-after first second = record { room = omega (arith, first.room, second.roo
 -- ---- the post and the module area
 
 -- another post with the same seats
-posted-keeps : (p : Post) (o : Option Scrap) (d : Desk) → p.heap.end / page ≤ free_pages d + d.post.heap.end / page → task_handles d.tasks ≡ map (λ s. s.handle) p.seats → IsPost p → file_length o ≤ file_length d.scrap → IsDesk d → IsDesk (record d { post = p; scrap = o })
+posted-keeps : (p : Post) (o : Option Scrap) (d : Desk) → p.heap.end / page ≤ free_pages d + d.post.heap.end / page
+    → task_handles d.tasks ≡ map (λ s. s.handle) p.seats → IsPost p → file_length o ≤ file_length d.scrap → IsDesk d
+    → IsDesk (record d { post = p; scrap = o })
 posted-keeps p o d room handles post file is = record {
   pool = is.pool;
   pages = omega (arith, is.pages, room);
@@ -152,7 +162,8 @@ kept_scrap-less p (Some file) =
 pub with_delivered-keeps : (p : Post) (d : Desk) → PostKept 0 d.post p → IsDesk d → IsDesk (with_delivered p d)
 unfolding with_delivered
 with_delivered-keeps p d kept is =
-    posted-keeps p (kept_scrap p d.scrap) d (omega (arith, ap (λ n. n / page) kept.end)) (sym is.seats ∙ sym kept.handles) kept.post.is (kept_scrap-less p d.scrap) is
+    posted-keeps p (kept_scrap p d.scrap) d (omega (arith, ap (λ n. n / page) kept.end)) (sym is.seats ∙ sym kept.handles) kept.post.is
+    (kept_scrap-less p d.scrap) is
 
 with_task-areas : (h : ℕ) (edit : Task → Task) (d : Desk) → (with_task h edit d).areas ≡ d.areas
 unfolding with_task
@@ -182,7 +193,8 @@ with_module-keeps h d fills is =
 -- ---- areas
 
 -- other pages of one of the six areas that isn't the module area
-pub areas-keep : (k n : ℕ) (d : Desk) → k < length d.areas → (1 ≡ k → ⊥) → n ≤ free_pages d + slice_index d.areas k → least_length k d ≤ page * n → IsDesk d → IsDesk (record d { areas = slice_set d.areas k n })
+pub areas-keep : (k n : ℕ) (d : Desk) → k < length d.areas → (1 ≡ k → ⊥) → n ≤ free_pages d + slice_index d.areas k → least_length k d ≤ page * n → IsDesk d
+    → IsDesk (record d { areas = slice_set d.areas k n })
 areas-keep k n d below other room least is = record {
   pool = is.pool;
   pages = omega (arith, is.pages, room, total-set d.areas k n below);
@@ -197,7 +209,8 @@ areas-keep k n d below other room least is = record {
   scrap = go (k == scrap_area) refl least;
 }
   where
-    go : (b : Bool) → (k == scrap_area) ≡ b → cond b (file_length d.scrap) 0 ≤ page * n → file_length d.scrap ≤ page * slice_index (slice_set d.areas k n) scrap_area
+    go : (b : Bool) → (k == scrap_area) ≡ b → cond b (file_length d.scrap) 0 ≤ page * n
+        → file_length d.scrap ≤ page * slice_index (slice_set d.areas k n) scrap_area
     go true e h =
         let same : k ≡ scrap_area = eqb-true _ _ e in
         omega (arith, h, subst (λ a. slice_index (slice_set d.areas k n) a ≡ n) same (get_or-set_same d.areas k n 0 below))

@@ -1,5 +1,5 @@
 -- Worked scripts, by computation: what each writes, in full.
-use Rattle.std.specs.Prelude.{◌≡◌, refl, [], codes, true, false}
+use Rattle.std.specs.Prelude.{◌≡◌, ◌++◌, refl, [], codes, true, false}
 use Rattle.hex.proofs.OnLiterals.{hex_on_literals}
 use Rattle.rh_defs.specs.Script.{text, has_bad_line}
 use Rattle.rh_defs.specs.Script
@@ -16,8 +16,10 @@ unfolding Script.computing hex_on_literals
 empty_block = refl
 
 -- the refusals of these commands, each where the ones before it don't hold
-pub refused_commands : text (codes "task a 5\ntask a 5\nalloc b 0 1\nalloc a 0 3\nalloc a 0 1\nput b 0 0 00\nput a 1 0 00\nput a 0 2 0000\nshow a 1\nblocks b\nalloc a 1 24569\n") 8 []
-    ≡ codes "ok 1\nrefused NameInUse\nrefused NoName\nok &9008\nrefused AnchorInUse\nrefused NoName\nrefused NoBlock\nrefused BadRange\nrefused NoBlock\nrefused NoName\nrefused NoRoom\n"
+pub refused_commands : text (codes "task a 5\ntask a 5\nalloc b 0 1\nalloc a 0 3\nalloc a 0 1\nput b 0 0 00\nput a 1 0 00\n"
+    ++ codes "put a 0 2 0000\nshow a 1\nblocks b\nalloc a 1 24569\n") 8 []
+    ≡ codes "ok 1\nrefused NameInUse\nrefused NoName\nok &9008\nrefused AnchorInUse\nrefused NoName\nrefused NoBlock\n"
+    ++ codes "refused BadRange\nrefused NoBlock\nrefused NoName\nrefused NoRoom\n"
 unfolding Script.computing hex_on_literals
 refused_commands = refl
 
@@ -46,8 +48,11 @@ unfolding Script.computing
 strange_words = refl
 
 -- words that are not of their form, the leftmost first; how many words a line may have
-pub strange_lines : text (codes "task a 1 loud\ntask a 1 deaf x\nrma\nrma free\nrma free 1\nrma x\nmid a 0 0 -\nmid a 0 0 --1\nrelease a &\nrelease a &123456789\nbudge a On\ncancel a up 0\ncancel a in 0\ncancel a in 4294967296\ncancel a\narea 65536 0\nmake 1025\nremove 5\nsave a 0 b abcdefghijk\n") 64 []
-    ≡ codes "bad Word 4\nbad Count\nbad Count\nbad Count\nbad Word 3\nbad Word 2\nbad Word 5\nbad Word 5\nbad Word 3\nbad Word 3\nbad Word 3\nbad Word 3\nbad Word 4\nbad Word 4\nbad Count\nbad Word 2\nbad Word 2\nbad Word 2\nbad Word 5\n"
+pub strange_lines : text (codes "task a 1 loud\ntask a 1 deaf x\nrma\nrma free\nrma free 1\nrma x\nmid a 0 0 -\nmid a 0 0 --1\n"
+    ++ codes "release a &\nrelease a &123456789\nbudge a On\ncancel a up 0\ncancel a in 0\ncancel a in 4294967296\n"
+    ++ codes "cancel a\narea 65536 0\nmake 1025\nremove 5\nsave a 0 b abcdefghijk\n") 64 []
+    ≡ codes "bad Word 4\nbad Count\nbad Count\nbad Count\nbad Word 3\nbad Word 2\nbad Word 5\nbad Word 5\nbad Word 3\nbad Word 3\n"
+    ++ codes "bad Word 3\nbad Word 3\nbad Word 4\nbad Word 4\nbad Count\nbad Word 2\nbad Word 2\nbad Word 2\nbad Word 5\n"
 unfolding Script.computing
 strange_lines = refl
 

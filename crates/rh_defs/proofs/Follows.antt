@@ -10,25 +10,29 @@ pub data Follows {A : Type 0} (R : A → A → Type 0) : Granted A → Granted A
   neither : {refusal : Refusal} → Follows R (Err refusal) (Err refusal)
 
 -- chains with the same first step
-pub follows-same : {A B : Type 0} {R : B → B → Type 0} (first : Granted A) (next other : A → Granted B) → ((x : A) → Follows R (next x) (other x)) → Follows R (first >>= next) (first >>= other)
+pub follows-same : {A B : Type 0} {R : B → B → Type 0} (first : Granted A) (next other : A → Granted B) → ((x : A) → Follows R (next x) (other x))
+    → Follows R (first >>= next) (first >>= other)
 unfolding ◌>>=◌
 follows-same (Ok x) next other h = h x
 follows-same (Err refusal) next other h = Follows.neither
 
 -- chains whose first steps are related
-pub follows-with : {A B : Type 0} {Q : A → A → Type 0} {R : B → B → Type 0} {first second : Granted A} (next other : A → Granted B) → Follows Q first second → ((x y : A) → Q x y → Follows R (next x) (other y)) → Follows R (first >>= next) (second >>= other)
+pub follows-with : {A B : Type 0} {Q : A → A → Type 0} {R : B → B → Type 0} {first second : Granted A} (next other : A → Granted B) → Follows Q first second
+    → ((x y : A) → Q x y → Follows R (next x) (other y)) → Follows R (first >>= next) (second >>= other)
 unfolding ◌>>=◌
 follows-with next other (Follows.both {x = x} {y = y} q) h = h x y q
 follows-with next other Follows.neither h = Follows.neither
 
 -- the same first step, which gives nothing
-pub follows-then : {A B : Type 0} {R : B → B → Type 0} (first : Granted A) (next other : Granted B) → Follows R next other → Follows R (first >> next) (first >> other)
+pub follows-then : {A B : Type 0} {R : B → B → Type 0} (first : Granted A) (next other : Granted B) → Follows R next other
+    → Follows R (first >> next) (first >> other)
 unfolding ◌>>=◌ ◌>>◌
 follows-then (Ok x) next other h = h
 follows-then (Err refusal) next other h = Follows.neither
 
 -- what is granted, or what stands in its place
-pub or_else-follows : {A : Type 0} (R : A → A → Type 0) {first second : Granted A} (instead other : Refusal → A) → Follows R first second → ((refusal : Refusal) → R (instead refusal) (other refusal)) → R (or_else first instead) (or_else second other)
+pub or_else-follows : {A : Type 0} (R : A → A → Type 0) {first second : Granted A} (instead other : Refusal → A) → Follows R first second
+    → ((refusal : Refusal) → R (instead refusal) (other refusal)) → R (or_else first instead) (or_else second other)
 unfolding or_else
 or_else-follows R instead other (Follows.both r) h = r
 or_else-follows R instead other (Follows.neither {refusal = e}) h = h e
@@ -39,8 +43,10 @@ chosen-both R true x y z w p q = p
 chosen-both R false x y z w p q = q
 
 -- equal first steps
-pub follows-equal : {A B : Type 0} {R : B → B → Type 0} (first second : Granted A) (next other : A → Granted B) → second ≡ first → ((x : A) → Follows R (next x) (other x)) → Follows R (first >>= next) (second >>= other)
+pub follows-equal : {A B : Type 0} {R : B → B → Type 0} (first second : Granted A) (next other : A → Granted B) → second ≡ first
+    → ((x : A) → Follows R (next x) (other x)) → Follows R (first >>= next) (second >>= other)
 follows-equal {R = R} first second next other e h = subst (λ third. Follows R (first >>= next) (third >>= other)) (sym e) (follows-same first next other h)
 
-pub follows-as : {A B : Type 0} {R : B → B → Type 0} (first second : Granted A) (next other : Granted B) → second ≡ first → Follows R next other → Follows R (first >> next) (second >> other)
+pub follows-as : {A B : Type 0} {R : B → B → Type 0} (first second : Granted A) (next other : Granted B) → second ≡ first → Follows R next other
+    → Follows R (first >> next) (second >> other)
 follows-as {R = R} first second next other e h = subst (λ third. Follows R (first >> next) (third >> other)) (sym e) (follows-then first next other h)

@@ -17,18 +17,24 @@ pub released_at-some : (address : ℕ) (h : Heap) (b : Split Segment) → block_
 released_at-some address h b e = ap (λ o. ok_or (option_map (λ s. released s h) o) NotABlock) e ∙ ap (λ o. Ok (release_found o h)) (sym e)
 
 -- what a release's answer says
-pub released-found : (address : ℕ) (h : Heap) {x : Unit {0}} → Ok x ≡ answer_of (no_answer (released_at address h)) → (b : Split Segment) × (block_at address h ≡ Some b)
+pub released-found : (address : ℕ) (h : Heap) {x : Unit {0}} → Ok x ≡ answer_of (no_answer (released_at address h))
+    → (b : Split Segment) × (block_at address h ≡ Some b)
 released-found address h e = go (block_at address h) refl
   where
     go : (o : Option (Split Segment)) → block_at address h ≡ o → (b : Split Segment) × (block_at address h ≡ Some b)
     go None q = absurd (let bad = e ∙ ap (λ g. answer_of (no_answer g)) (released_at-none address h q) in cc)
     go (Some b) q = (b, q)
 
-pub released-refused : (address : ℕ) (h : Heap) {refusal : HeapRefusal} → Err refusal ≡ answer_of (no_answer (released_at address h)) → (block_at address h ≡ None) × (refusal ≡ NotABlock)
+pub released-refused : (address : ℕ) (h : Heap) {refusal : HeapRefusal} → Err refusal ≡ answer_of (no_answer (released_at address h))
+    → (block_at address h ≡ None) × (refusal ≡ NotABlock)
 released-refused address h {refusal} e = go (block_at address h) refl
   where
     go : (o : Option (Split Segment)) → block_at address h ≡ o → (block_at address h ≡ None) × (refusal ≡ NotABlock)
-    go None q = (q, let is : ◌≡◌ {A = Result (Unit {0}) HeapRefusal} (Err refusal) (Err NotABlock) = e ∙ ap (λ g. answer_of (no_answer g)) (released_at-none address h q) in cc)
+    go None q = (
+      q,
+      let is : ◌≡◌ {A = Result (Unit {0}) HeapRefusal} (Err refusal) (Err NotABlock) = e ∙ ap (λ g. answer_of (no_answer g)) (released_at-none address
+          h q) in cc,
+    )
     go (Some b) q = absurd (let bad = e ∙ ap (λ g. answer_of (no_answer g)) (released_at-some address h b q) in cc)
 
 pub extend-low : (delta : ℤ) (h : Heap) → moved h.end delta < base h → extend delta h ≡ Err ExcessiveShrink
@@ -44,8 +50,13 @@ extend-fits delta h e = elim (cases_lt (moved h.end delta) (base h)) [
   | inr l ↦ l
 ]
 
-pub extend-refused : (delta : ℤ) (h : Heap) {refusal : HeapRefusal} → Err refusal ≡ answer_of (no_answer (extend delta h)) → (moved h.end delta < base h) × (refusal ≡ ExcessiveShrink)
+pub extend-refused : (delta : ℤ) (h : Heap) {refusal : HeapRefusal} → Err refusal ≡ answer_of (no_answer (extend delta h))
+    → (moved h.end delta < base h) × (refusal ≡ ExcessiveShrink)
 extend-refused delta h {refusal} e = elim (cases_lt (moved h.end delta) (base h)) [
-  | inl l ↦ (l, let is : ◌≡◌ {A = Result (Unit {0}) HeapRefusal} (Err refusal) (Err ExcessiveShrink) = e ∙ ap (λ g. answer_of (no_answer g)) (extend-low delta h l) in cc)
+  | inl l ↦ (
+    l,
+    let is : ◌≡◌ {A = Result (Unit {0}) HeapRefusal} (Err refusal) (Err ExcessiveShrink) = e ∙ ap (λ g. answer_of (no_answer g)) (extend-low delta h l) in
+        cc,
+  )
   | inr l ↦ absurd (let bad = e ∙ ap (λ g. answer_of (no_answer g)) (extend-done delta h l) in cc)
 ]

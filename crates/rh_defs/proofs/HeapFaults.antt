@@ -1,5 +1,6 @@
 -- Laws of faults: the tests on sizes and links, and that an image has no fault.
-use Rattle.std.proofs.Common.{◌≡◌, ℕ, zero, suc, ◌+◌, ◌%◌, ◌<◌, ◌≤◌, ◌≢◌, ◌⊎◌, inl, inr, Bool, true, false, List, [], ◌∷◌, length, leb, ltb, eqb, refl, sym, ap, ◌∙◌, arith}
+use Rattle.std.proofs.Common.{◌≡◌, ℕ, zero, suc, ◌+◌, ◌%◌, ◌<◌, ◌≤◌, ◌≢◌, ◌⊎◌, inl, inr, Bool, true, false, List, [], ◌∷◌, length, leb, ltb, eqb, refl, sym}
+use Rattle.std.proofs.Common.{ap, ◌∙◌, arith}
 use Rattle.std.proofs.lemmas.Bool.Decides.{nat_tests, eqb_tells}
 use Rattle.std.specs.Prelude.{Some, None, ◌&&◌, ◌||◌}
 use Rattle.rh_defs.specs.Bytes.{word}
@@ -74,7 +75,8 @@ pub link_yes : (b : List ℕ) (base f p : ℕ) → LinkIs b base f p → is_link
 link_yes b base f p (ends z) = or_left (eqb (word b f) 0) _ (eqb_same (word b f) 0 z)
 link_yes b base f p (leads l m h) = or_right (eqb (word b f) 0) _
     (and_true (eqb ((f + word b f) % 8) 0 && leb p (f + word b f)) (leb (f + word b f + 8) base)
-    (and_true (eqb ((f + word b f) % 8) 0) (leb p (f + word b f)) (eqb_same ((f + word b f) % 8) 0 m) (leb_yes p (f + word b f) l)) (leb_yes (f + word b f + 8) base h))
+    (and_true (eqb ((f + word b f) % 8) 0) (leb p (f + word b f)) (eqb_same ((f + word b f) % 8) 0 m) (leb_yes p (f + word b f) l))
+    (leb_yes (f + word b f + 8) base h))
 
 -- a link to a place further on leads to a place before it, too
 pub LinkIs-sooner : (b : List ℕ) (base f p q : ℕ) → q ≤ p → LinkIs b base f p → LinkIs b base f q
@@ -110,7 +112,8 @@ module _ (k : ℕ) (b : List ℕ) (base f p : ℕ) where
       → fault_from (suc k) b base f p ≡ fault_from k b base f (p + word b p)
   unfolding fault_from
   fault-used lb ln s l = cond_false (leb base p) _ _ (leb_no base p lb) ∙ cond_true (ltb p (next_place b base f)) _ _ (lt_yes p (next_place b base f) ln)
-      ∙ cond_true (is_size (word b p) && leb (p + word b p) (next_place b base f)) _ _ (and_true (is_size (word b p)) _ s (leb_yes (p + word b p) (next_place b base f) l))
+      ∙ cond_true (is_size (word b p) && leb (p + word b p) (next_place b base f)) _ _
+      (and_true (is_size (word b p)) _ s (leb_yes (p + word b p) (next_place b base f) l))
 
   pub fault-used_size : p < base → p < next_place b base f → (is_size (word b p) ≡ false) ⊎ (next_place b base f < p + word b p)
       → fault_from (suc k) b base f p ≡ Some BadSize
@@ -119,8 +122,8 @@ module _ (k : ℕ) (b : List ℕ) (base f p : ℕ) where
       ∙ cond_false (is_size (word b p) && leb (p + word b p) (next_place b base f)) _ _
       (elim s [ inl e ↦ and_left (is_size (word b p)) _ e | inr g ↦ and_right (is_size (word b p)) _ (leb_no (p + word b p) (next_place b base f) g) ])
 
-  pub fault-hole : p < base → next_place b base f ≤ p → is_size (word b (p + 4)) ≡ true → p + word b (p + 4) < base → is_link b base p (p + word b (p + 4) + 1) ≡ true
-      → fault_from (suc k) b base f p ≡ fault_from k b base p (p + word b (p + 4))
+  pub fault-hole : p < base → next_place b base f ≤ p → is_size (word b (p + 4)) ≡ true → p + word b (p + 4) < base
+      → is_link b base p (p + word b (p + 4) + 1) ≡ true → fault_from (suc k) b base f p ≡ fault_from k b base p (p + word b (p + 4))
   unfolding fault_from
   fault-hole lb ln s l g = cond_false (leb base p) _ _ (leb_no base p lb) ∙ cond_false (ltb p (next_place b base f)) _ _ (lt_no p (next_place b base f) ln)
       ∙ cond_true (is_size (word b (p + 4)) && ltb (p + word b (p + 4)) base) _ _ (and_true (is_size (word b (p + 4))) _ s (lt_yes (p + word b (p + 4)) base l))
@@ -133,8 +136,8 @@ module _ (k : ℕ) (b : List ℕ) (base f p : ℕ) where
       ∙ cond_false (is_size (word b (p + 4)) && ltb (p + word b (p + 4)) base) _ _
       (elim s [ inl e ↦ and_left (is_size (word b (p + 4))) _ e | inr g ↦ and_right (is_size (word b (p + 4))) _ (lt_no (p + word b (p + 4)) base g) ])
 
-  pub fault-hole_link : p < base → next_place b base f ≤ p → is_size (word b (p + 4)) ≡ true → p + word b (p + 4) < base → is_link b base p (p + word b (p + 4) + 1) ≡ false
-      → fault_from (suc k) b base f p ≡ Some BadLink
+  pub fault-hole_link : p < base → next_place b base f ≤ p → is_size (word b (p + 4)) ≡ true → p + word b (p + 4) < base
+      → is_link b base p (p + word b (p + 4) + 1) ≡ false → fault_from (suc k) b base f p ≡ Some BadLink
   unfolding fault_from
   fault-hole_link lb ln s l g = cond_false (leb base p) _ _ (leb_no base p lb) ∙ cond_false (ltb p (next_place b base f)) _ _ (lt_no p (next_place b base f) ln)
       ∙ cond_true (is_size (word b (p + 4)) && ltb (p + word b (p + 4)) base) _ _ (and_true (is_size (word b (p + 4))) _ s (lt_yes (p + word b (p + 4)) base l))
@@ -156,46 +159,58 @@ module _ (b : List ℕ) where
 -- ---- an image has no fault
 
 -- the link before tidy segments is right
-link_is : (b : List ℕ) (base f p : ℕ) (after : Bool) (ss : List Segment) → f < p → p % 8 ≡ 0 → p + total size_of ss ≡ base → IsTidy after ss → Stand b f p ss → LinkIs b base f p
+link_is : (b : List ℕ) (base f p : ℕ) (after : Bool) (ss : List Segment) → f < p → p % 8 ≡ 0 → p + total size_of ss ≡ base → IsTidy after ss → Stand b f p ss
+    → LinkIs b base f p
 link_is b base f p false [] l m e t h = ends h
 link_is b base f p true [] l m e t h = absurd t
-link_is b base f p false (Used bs ∷ ss) l m e t h = LinkIs-sooner b base f (p + (4 + length bs)) p (omega arith) (link_is b base f (p + (4 + length bs)) false ss (omega arith) (let q = t.0 in omega arith) (omega arith) t.1 h.2)
-link_is b base f p true (Used bs ∷ ss) l m e t h = LinkIs-sooner b base f (p + (4 + length bs)) p (omega arith) (link_is b base f (p + (4 + length bs)) false ss (omega arith) (let q = t.0 in omega arith) (omega arith) t.1 h.2)
+link_is b base f p false (Used bs ∷ ss) l m e t h = LinkIs-sooner b base f (p + (4 + length bs)) p (omega arith)
+    (link_is b base f (p + (4 + length bs)) false ss (omega arith) (let q = t.0 in omega arith) (omega arith) t.1 h.2)
+link_is b base f p true (Used bs ∷ ss) l m e t h = LinkIs-sooner b base f (p + (4 + length bs)) p (omega arith)
+    (link_is b base f (p + (4 + length bs)) false ss (omega arith) (let q = t.0 in omega arith) (omega arith) t.1 h.2)
 link_is b base f p true (Hole n ∷ ss) l m e t h = absurd t
 link_is b base f p false (Hole n ∷ ss) l m e t h =
     let at = h.0 in let some = t.0 in let mult = t.1 in
     leads (omega arith) (rw at m) (omega arith)
 
 -- and the link of a hole leads past the segment behind it
-link_is_past : (b : List ℕ) (base f p : ℕ) (ss : List Segment) → f < p → p % 8 ≡ 0 → p + total size_of ss ≡ base → IsTidy true ss → Stand b f p ss → LinkIs b base f (p + 1) × (p < base)
+link_is_past : (b : List ℕ) (base f p : ℕ) (ss : List Segment) → f < p → p % 8 ≡ 0 → p + total size_of ss ≡ base → IsTidy true ss → Stand b f p ss
+    → LinkIs b base f (p + 1) × (p < base)
 link_is_past b base f p [] l m e t h = absurd t
 link_is_past b base f p (Hole n ∷ ss) l m e t h = absurd t
-link_is_past b base f p (Used bs ∷ ss) l m e t h =
-    (LinkIs-sooner b base f (p + (4 + length bs)) (p + 1) (omega arith) (link_is b base f (p + (4 + length bs)) false ss (omega arith) (let q = t.0 in omega arith) (omega arith) t.1 h.2), omega arith)
+link_is_past b base f p (Used bs ∷ ss) l m e t h = (
+  LinkIs-sooner b base f (p + (4 + length bs)) (p + 1) (omega arith) (link_is b base f (p + (4 + length bs)) false ss (omega arith) (let q = t.0 in omega
+      arith) (omega arith) t.1 h.2),
+  omega arith,
+)
 
 fault-zero : (b : List ℕ) (base f p : ℕ) → fault_from zero b base f p ≡ None
 unfolding fault_from
 fault-zero b base f p = refl
 
-clean_used : (k : ℕ) (b : List ℕ) (base f p : ℕ) (bs : List ℕ) (ss : List Segment) → f < p → p % 8 ≡ 0 → p + (4 + length bs + total size_of ss) ≡ base → (4 + length bs) % 8 ≡ 0 → IsTidy false ss → Stand b f p (Used bs ∷ ss)
+clean_used : (k : ℕ) (b : List ℕ) (base f p : ℕ) (bs : List ℕ) (ss : List Segment) → f < p → p % 8 ≡ 0 → p + (4 + length bs + total size_of ss) ≡ base
+    → (4 + length bs) % 8 ≡ 0 → IsTidy false ss → Stand b f p (Used bs ∷ ss)
     → fault_from k b base f (p + (4 + length bs)) ≡ None → fault_from (suc k) b base f p ≡ None
 clean_used k b base f p bs ss l m e s t h rest =
     let size = h.0 in
-    let where_to : p + (4 + length bs) ≤ next_place b base f = elim (next_is b base f (p + (4 + length bs)) (omega arith) (link_is b base f (p + (4 + length bs)) false ss (omega arith) (omega arith) (omega arith) t h.2)) [
+    let where_to : p + (4 + length bs) ≤ next_place b base f = elim (next_is b base f (p + (4 + length bs)) (omega arith)
+    (link_is b base f (p + (4 + length bs)) false ss (omega arith) (omega arith) (omega arith) t h.2)) [
       | at_base z n ↦ omega arith
       | at_hole n a x y ↦ omega arith
     ] in
     fault-used k b base f p (omega arith) (omega arith) (size_yes (word b p) (omega arith) (rw size s)) (omega arith)
     ∙ ap (λ i. fault_from k b base f (p + i)) size ∙ rest
 
-clean : (k : ℕ) (b : List ℕ) (base f p : ℕ) (after : Bool) (ss : List Segment) → f < p → p % 8 ≡ 0 → p + total size_of ss ≡ base → IsTidy after ss → Stand b f p ss → fault_from k b base f p ≡ None
+clean : (k : ℕ) (b : List ℕ) (base f p : ℕ) (after : Bool) (ss : List Segment) → f < p → p % 8 ≡ 0 → p + total size_of ss ≡ base → IsTidy after ss
+    → Stand b f p ss → fault_from k b base f p ≡ None
 clean zero b base f p after ss l m e t h = fault-zero b base f p
 clean (suc k) b base f p false [] l m e t h = fault-end (suc k) b base f p (omega arith)
 clean (suc k) b base f p true [] l m e t h = absurd t
 clean (suc k) b base f p false (Used bs ∷ ss) l m e t h =
-    clean_used k b base f p bs ss l m e t.0 t.1 h (clean k b base f (p + (4 + length bs)) false ss (omega arith) (let q = t.0 in omega arith) (omega arith) t.1 h.2)
+    clean_used k b base f p bs ss l m e t.0 t.1 h (clean k b base f (p + (4 + length bs)) false ss (omega arith) (let q = t.0 in omega arith) (omega arith)
+    t.1 h.2)
 clean (suc k) b base f p true (Used bs ∷ ss) l m e t h =
-    clean_used k b base f p bs ss l m e t.0 t.1 h (clean k b base f (p + (4 + length bs)) false ss (omega arith) (let q = t.0 in omega arith) (omega arith) t.1 h.2)
+    clean_used k b base f p bs ss l m e t.0 t.1 h (clean k b base f (p + (4 + length bs)) false ss (omega arith) (let q = t.0 in omega arith) (omega arith)
+    t.1 h.2)
 clean (suc k) b base f p true (Hole n ∷ ss) l m e t h = absurd t
 clean (suc k) b base f p false (Hole n ∷ ss) l m e t h =
     let at = h.0 in let size = h.1 in let some = t.0 in let mult = t.1 in
@@ -225,7 +240,8 @@ image_has_descriptor b h i =
     let base = s.base in
     let last = s.last in
     and_true _ _ (and_true _ _ (and_true _ _ (and_true _ _ (and_true _ _ (and_true _ _
-    (eqb_same (length b % 8) 0 (rw w m)) (leb_yes 16 (length b) (omega arith))) (eqb_same (word b 0) special_word s.special)) (eqb_same (word b 12) (length b) (omega arith)))
+    (eqb_same (length b % 8) 0 (rw w m)) (leb_yes 16 (length b) (omega arith))) (eqb_same (word b 0) special_word s.special)) (eqb_same (word b 12) (length
+    b) (omega arith)))
     (eqb_same (word b 8 % 8) 0 (omega arith))) (leb_yes 16 (word b 8) (omega arith))) (leb_yes (word b 8) (length b) (omega arith))
 
 -- bytes that spell a heap have no fault
@@ -234,7 +250,8 @@ image_clean b h i =
     let s = i.spells in
     let base = s.base in
     let link = link_is b (word b 8) 4 16 false h.segments (omega arith) refl (omega arith) s.heap.tidy s.stand in
-    fault_of-segments b (image_has_descriptor b h i) (link_yes b (word b 8) 4 16 link) ∙ clean (length b) b (word b 8) 4 16 false h.segments (omega arith) refl (omega arith) s.heap.tidy s.stand
+    fault_of-segments b (image_has_descriptor b h i) (link_yes b (word b 8) 4 16 link)
+    ∙ clean (length b) b (word b 8) 4 16 false h.segments (omega arith) refl (omega arith) s.heap.tidy s.stand
 
 -- what the test on the descriptor says
 pub record Descriptor (b : List ℕ) : Type 0 where

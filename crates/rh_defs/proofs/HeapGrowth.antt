@@ -5,7 +5,10 @@ use Rattle.std.proofs.lemmas.Bool.Decides.{nat_tests}
 use Rattle.std.specs.Prelude.{Option, Some, None, Ok, ℤ}
 use Rattle.rh_defs.specs.Chain.{answer_of}
 use Rattle.rh_defs.specs.Pieces.{Split, page, pages_for}
-use Rattle.rh_defs.specs.Heap.{Segment, Used, Hole, Heap, Way, Stays, Shrinks, GrowsIntoHole, GrowsAtTop, MovesToHole, MovesToTop, size_of, place_after, hole_for, shortage_in, segment_size, need, claim, claim_need, new_size, resize_found, need_found, as_granted, raised, claim_growing, way_beyond, way_to_grow, way_to, end_for, resize_need, resized, resized_by, fitted, block_room, bytes_of, resize_growing}
+use Rattle.rh_defs.specs.Heap.{Segment, Used, Hole, Heap, Way, Stays, Shrinks, GrowsIntoHole, GrowsAtTop, MovesToHole, MovesToTop, size_of, place_after}
+use Rattle.rh_defs.specs.Heap.{hole_for, shortage_in, segment_size, need, claim, claim_need, new_size, resize_found, need_found, as_granted, raised}
+use Rattle.rh_defs.specs.Heap.{claim_growing, way_beyond, way_to_grow, way_to, end_for, resize_need, resized, resized_by, fitted, block_room, bytes_of}
+use Rattle.rh_defs.specs.Heap.{resize_growing}
 use Rattle.rh_defs.proofs.HeapLists.{cond_true, cond_false, eqb_same, eqb_apart, leb_yes, leb_no}
 
 none_short : (t : ℕ) (h : Heap) (o : Option (Split Segment)) → shortage_in t (raised (shortage_in t h o) h) o ≡ 0
@@ -32,21 +35,26 @@ same_top true o e = refl
 same_top false o e = ap (way_beyond []) e
 
 -- a longer heap, by what the way wants, leaves the way
-grow_same : (t : ℕ) (s : Split Segment) (after : List Segment) (h : Heap) (k : ℕ) → k ≡ end_for (way_to_grow t s after h) t s h - h.end → way_to_grow t s after (raised k h) ≡ way_to_grow t s after h
+grow_same : (t : ℕ) (s : Split Segment) (after : List Segment) (h : Heap) (k : ℕ) → k ≡ end_for (way_to_grow t s after h) t s h - h.end
+    → way_to_grow t s after (raised k h) ≡ way_to_grow t s after h
 grow_same t s (Used bs ∷ after) h k e = refl
 grow_same t s (Hole n ∷ after) h k e = refl
 grow_same t s [] h k e = go (leb (place_after s.before + t) h.end) refl (hole_for t h.segments) refl
   where
-    go : (b : Bool) → leb (place_after s.before + t) h.end ≡ b → (o : Option (Split Segment)) → hole_for t h.segments ≡ o → way_to_grow t s [] (raised k h) ≡ way_to_grow t s [] h
+    go : (b : Bool) → leb (place_after s.before + t) h.end ≡ b → (o : Option (Split Segment)) → hole_for t h.segments ≡ o
+        → way_to_grow t s [] (raised k h) ≡ way_to_grow t s [] h
     go true eb o eo =
         let l = le_of (place_after s.before + t) h.end eb in
-        cond_true (leb (place_after s.before + t) (raised k h).end) _ _ (leb_yes (place_after s.before + t) (raised k h).end (omega arith)) ∙ sym (cond_true (leb (place_after s.before + t) h.end) _ _ eb)
-    go false eb None eo = same_top (leb (place_after s.before + t) (raised k h).end) (hole_for t h.segments) eo ∙ sym (same_top (leb (place_after s.before + t) h.end) (hole_for t h.segments) eo)
+        cond_true (leb (place_after s.before + t) (raised k h).end) _ _ (leb_yes (place_after s.before + t) (raised k h).end (omega arith))
+        ∙ sym (cond_true (leb (place_after s.before + t) h.end) _ _ eb)
+    go false eb None eo = same_top (leb (place_after s.before + t) (raised k h).end) (hole_for t h.segments) eo
+        ∙ sym (same_top (leb (place_after s.before + t) h.end) (hole_for t h.segments) eo)
     go false eb (Some hole) eo =
         let g = gt_of (place_after s.before + t) h.end eb in
         let v : way_to_grow t s [] h ≡ MovesToHole hole = cond_false (leb (place_after s.before + t) h.end) _ _ eb ∙ ap (way_beyond []) eo in
         let z : k ≡ 0 = e ∙ ap (λ (w : Way). end_for w t s h - h.end) v ∙ omega arith in
-        cond_false (leb (place_after s.before + t) (raised k h).end) _ _ (leb_no (place_after s.before + t) (raised k h).end (omega arith)) ∙ sym (cond_false (leb (place_after s.before + t) h.end) _ _ eb)
+        cond_false (leb (place_after s.before + t) (raised k h).end) _ _ (leb_no (place_after s.before + t) (raised k h).end (omega arith))
+        ∙ sym (cond_false (leb (place_after s.before + t) h.end) _ _ eb)
 
 pub way-raised : (t : ℕ) (s : Split Segment) (h : Heap) → way_to t s (raised (end_for (way_to t s h) t s h - h.end) h) ≡ way_to t s h
 way-raised t s h = go (eqb t (size_of s.here)) (ltb t (size_of s.here)) (end_for (way_to t s h) t s h - h.end) refl
@@ -89,7 +97,8 @@ claim-granted n x h e = elim (cases_eq n 0) [
   | inl z ↦ absurd (let q = e ∙ ap answer_of (cond_true (eqb n 0) _ _ (eqb_same n 0 z)) in cc)
   | inr ne ↦ elim (cases_eq (need n h) 0) [
     | inl none ↦ sym (cond_false (eqb n 0) _ _ (eqb_apart n 0 ne) ∙ ap (λ i. Ok i) none)
-    | inr some ↦ absurd (let q = e ∙ ap answer_of (cond_false (eqb n 0) _ _ (eqb_apart n 0 ne) ∙ cond_false (eqb (need n h) 0) _ _ (eqb_apart (need n h) 0 some)) in cc)
+    | inr some ↦ absurd (let q = e ∙ ap answer_of (cond_false (eqb n 0) _ _ (eqb_apart n 0 ne)
+        ∙ cond_false (eqb (need n h) 0) _ _ (eqb_apart (need n h) 0 some)) in cc)
   ]
 ]
 

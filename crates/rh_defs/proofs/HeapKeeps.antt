@@ -1,11 +1,16 @@
 -- A heap stays one after each call on it.
-use Rattle.std.proofs.Common.{◌≡◌, ℕ, ◌+◌, ◌-◌, ◌≤◌, ◌<◌, ◌%◌, Bool, true, false, cond, refl, sym, ap, subst, ◌∙◌, arith, List, [], ◌∷◌, ◌++◌, length, append_assoc}
+use Rattle.std.proofs.Common.{◌≡◌, ℕ, ◌+◌, ◌-◌, ◌≤◌, ◌<◌, ◌%◌, Bool, true, false, cond, refl, sym, ap, subst, ◌∙◌, arith, List, [], ◌∷◌, ◌++◌, length}
+use Rattle.std.proofs.Common.{append_assoc}
 use Rattle.std.proofs.lemmas.List.{length-replicate}
 use Rattle.std.specs.Prelude.{Option, Some, None, IfSome, nat_le, nat_lt, ◌==◌}
 use borrow.Author.Tests.{ltb-true, leb-true}
 use Rattle.rh_defs.specs.Pieces.{total, zeros, Split}
-use Rattle.rh_defs.specs.Heap.{Heap, Segment, Used, Hole, Way, Stays, Shrinks, GrowsIntoHole, GrowsAtTop, MovesToHole, MovesToTop, IsTidy, IsHeap, size_of, bytes_of, base, place_after, first_place, with_hole, joined, placed_in, hole_for, is_hole_for, is_block_at, block_at, shortage_in, need, raised, segment_size, block_room, claim_growing, released, release, release_found, fitted, way_to, way_to_grow, way_beyond, resized_by, end_for, resize_growing}
-use Rattle.rh_defs.proofs.HeapLists.{total-append, tidy_after, tidy_before, tidy_front, tidy_other, tidy_behind_used, tidy_behind_hole, tidy_join, tidy_with_hole, total-with_hole, IsCut, first_at-cuts}
+use Rattle.rh_defs.specs.Heap.{Heap, Segment, Used, Hole, Way, Stays, Shrinks, GrowsIntoHole, GrowsAtTop, MovesToHole, MovesToTop, IsTidy, IsHeap, size_of}
+use Rattle.rh_defs.specs.Heap.{bytes_of, base, place_after, first_place, with_hole, joined, placed_in, hole_for, is_hole_for, is_block_at, block_at}
+use Rattle.rh_defs.specs.Heap.{shortage_in, need, raised, segment_size, block_room, claim_growing, released, release, release_found, fitted, way_to}
+use Rattle.rh_defs.specs.Heap.{way_to_grow, way_beyond, resized_by, end_for, resize_growing}
+use Rattle.rh_defs.proofs.HeapLists.{total-append, tidy_after, tidy_before, tidy_front, tidy_other, tidy_behind_used, tidy_behind_hole, tidy_join}
+use Rattle.rh_defs.proofs.HeapLists.{tidy_with_hole, total-with_hole, IsCut, first_at-cuts}
 use Rattle.rh_defs.proofs.SlotRooms.{length-fitted}
 
 -- ---- lists of segments whose sizes are multiples of 8
@@ -22,11 +27,13 @@ units-tidy true (Used bytes ∷ segments) t = (t.0, units-tidy false segments t.
 units-tidy false (Hole n ∷ segments) t = (t.1, units-tidy true segments t.2)
 units-tidy true (Hole n ∷ segments) t = absurd t
 
-units-here : (before : List Segment) (g other : Segment) (after : List Segment) → size_of other % 8 ≡ 0 → AreUnits (before ++ g ∷ after) → AreUnits (before ++ other ∷ after)
+units-here : (before : List Segment) (g other : Segment) (after : List Segment) → size_of other % 8 ≡ 0 → AreUnits (before ++ g ∷ after)
+    → AreUnits (before ++ other ∷ after)
 units-here [] g other after m u = (m, u.1)
 units-here (x ∷ before) g other after m u = (u.0, units-here before g other after m u.1)
 
-units-more : (before : List Segment) (g more : Segment) (after : List Segment) → size_of more % 8 ≡ 0 → AreUnits (before ++ g ∷ after) → AreUnits (before ++ g ∷ more ∷ after)
+units-more : (before : List Segment) (g more : Segment) (after : List Segment) → size_of more % 8 ≡ 0 → AreUnits (before ++ g ∷ after)
+    → AreUnits (before ++ g ∷ more ∷ after)
 units-more [] g more after m u = (u.0, (m, u.1))
 units-more (x ∷ before) g more after m u = (u.0, units-more before g more after m u.1)
 
@@ -43,7 +50,8 @@ total-joined (Used bytes ∷ segments) = omega (arith, total-joined segments)
 total-joined (Hole n ∷ segments) = omega (arith, total-joined segments, total-with_hole n (joined segments))
 
 -- the sizes round a cut
-cut-total : {test : ℕ → Segment → Bool} {place : ℕ} {segments : List Segment} {s : Split Segment} → IsCut size_of test place segments s → total size_of segments ≡ total size_of s.before + (size_of s.here + total size_of s.after)
+cut-total : {test : ℕ → Segment → Bool} {place : ℕ} {segments : List Segment} {s : Split Segment} → IsCut size_of test place segments s
+    → total size_of segments ≡ total size_of s.before + (size_of s.here + total size_of s.after)
 cut-total {s = s} c = ap (total size_of) c.whole ∙ total-append s.before (s.here ∷ s.after)
 
 -- ---- claims
@@ -56,7 +64,8 @@ hole-found : (t place : ℕ) (g : Segment) → is_hole_for t place g ≡ true �
 hole-found t place (Used bytes) e = absurd cc
 hole-found t place (Hole n) e = (refl, leb-true _ _ e)
 
-placed-hole : (bytes : List ℕ) (h : Heap) (s : Split Segment) → (4 + length bytes) % 8 ≡ 0 → IsHeap h → IsCut size_of (is_hole_for (4 + length bytes)) first_place h.segments s → IsHeap (placed_in bytes h (Some s)).heap
+placed-hole : (bytes : List ℕ) (h : Heap) (s : Split Segment) → (4 + length bytes) % 8 ≡ 0 → IsHeap h
+    → IsCut size_of (is_hole_for (4 + length bytes)) first_place h.segments s → IsHeap (placed_in bytes h (Some s)).heap
 placed-hole bytes h s m is c =
     let n = size_of s.here in
     let found = hole-found (4 + length bytes) (first_place + total size_of s.before) s.here c.passes in
@@ -85,7 +94,9 @@ placed-top bytes h m room is = record {
   multiple = is.multiple;
 }
 
-placed-heap : (bytes : List ℕ) (h : Heap) (o : Option (Split Segment)) → (4 + length bytes) % 8 ≡ 0 → IsHeap h → IfSome o (IsCut size_of (is_hole_for (4 + length bytes)) first_place h.segments) → shortage_in (4 + length bytes) h o ≡ 0 → IsHeap (placed_in bytes h o).heap
+placed-heap : (bytes : List ℕ) (h : Heap) (o : Option (Split Segment)) → (4 + length bytes) % 8 ≡ 0 → IsHeap h
+    → IfSome o (IsCut size_of (is_hole_for (4 + length bytes)) first_place h.segments) → shortage_in (4 + length bytes) h o ≡ 0
+    → IsHeap (placed_in bytes h o).heap
 placed-heap bytes h (Some s) m is c e = placed-hole bytes h s m is c
 placed-heap bytes h None m is c e = placed-top bytes h m (omega arith) is
 
@@ -98,7 +109,8 @@ claim_growing-heap n h is =
     let bytes = zeros (block_room n) in
     let size : 4 + length bytes ≡ segment_size n = omega (arith, length-replicate {A = ℕ} (block_room n) 0) in
     let room : shortage_in (4 + length bytes) (raised (need n h) h) (hole_for (4 + length bytes) h.segments) ≡ 0 =
-    subst (λ t. shortage_in t (raised (need n h) h) (hole_for t h.segments) ≡ 0) (sym size) (raised-room (segment_size n) h (hole_for (segment_size n) h.segments)) in
+    subst (λ t. shortage_in t (raised (need n h) h) (hole_for t h.segments) ≡ 0) (sym size)
+    (raised-room (segment_size n) h (hole_for (segment_size n) h.segments)) in
     placed-heap bytes (raised (need n h) h) (hole_for (4 + length bytes) h.segments) (omega (arith, size)) (raised-heap (need n h) h is)
     (first_at-cuts size_of (is_hole_for (4 + length bytes)) first_place h.segments) room
 
@@ -125,7 +137,8 @@ released-heap test s h is c =
     unit-here [] g after u = u.0
     unit-here (x ∷ before) g after u = unit-here before g after u.1
 
-release_found-heap : (address : ℕ) (h : Heap) (o : Option (Split Segment)) → IsHeap h → IfSome o (IsCut size_of (is_block_at address) first_place h.segments) → IsHeap (release_found o h)
+release_found-heap : (address : ℕ) (h : Heap) (o : Option (Split Segment)) → IsHeap h → IfSome o (IsCut size_of (is_block_at address) first_place h.segments)
+    → IsHeap (release_found o h)
 release_found-heap address h None is c = is
 release_found-heap address h (Some s) is c = released-heap (is_block_at address) s h is c
 
@@ -144,7 +157,8 @@ WayHolds (MovesToHole hole) t s h = IsCut size_of (is_hole_for t) first_place h.
 WayHolds MovesToTop t s h = Unit {0}
 
 module _ (t : ℕ) (s : Split Segment) (h : Heap) where
-  beyond-holds : (after : List Segment) → s.after ≡ after → (o : Option (Split Segment)) → IfSome o (IsCut size_of (is_hole_for t) first_place h.segments) → WayHolds (way_beyond after o) t s h
+  beyond-holds : (after : List Segment) → s.after ≡ after → (o : Option (Split Segment)) → IfSome o (IsCut size_of (is_hole_for t) first_place h.segments)
+      → WayHolds (way_beyond after o) t s h
   beyond-holds after e (Some hole) c = c
   beyond-holds [] e None c = e
   beyond-holds (g ∷ after) e None c = tt
@@ -159,7 +173,8 @@ module _ (t : ℕ) (s : Split Segment) (h : Heap) where
   grow-holds (Used bytes ∷ after) e = beyond-holds (Used bytes ∷ after) e (hole_for t h.segments) hole-cuts
   grow-holds (Hole n ∷ after) e = go (nat_le t (size_of s.here + n)) refl
     where
-      go : (b : Bool) → nat_le t (size_of s.here + n) ≡ b → WayHolds (cond b (GrowsIntoHole n after) (way_beyond (Hole n ∷ after) (hole_for t h.segments))) t s h
+      go : (b : Bool) → nat_le t (size_of s.here + n) ≡ b
+          → WayHolds (cond b (GrowsIntoHole n after) (way_beyond (Hole n ∷ after) (hole_for t h.segments))) t s h
       go true le = (leb-true _ _ le, e)
       go false le = beyond-holds (Hole n ∷ after) e (hole_for t h.segments) hole-cuts
 
@@ -172,13 +187,15 @@ module _ (t : ℕ) (s : Split Segment) (h : Heap) where
       go false false e = grow-holds s.after refl
 
 -- other bytes in a block, and other segments behind it
-tidy-behind : (before : List Segment) (old new : List ℕ) (after rest : List Segment) → (4 + length new) % 8 ≡ 0 → IsTidy false (before ++ Used old ∷ after) → IsTidy false rest → IsTidy false (before ++ Used new ∷ rest)
+tidy-behind : (before : List Segment) (old new : List ℕ) (after rest : List Segment) → (4 + length new) % 8 ≡ 0 → IsTidy false (before ++ Used old ∷ after)
+    → IsTidy false rest → IsTidy false (before ++ Used new ∷ rest)
 tidy-behind before old new after rest m t r =
     subst (IsTidy false) (append_assoc before (Used new ∷ []) rest)
     (tidy_join false (before ++ Used new ∷ []) rest (tidy_other false before old new [] m (tidy_front false before old after t)) r)
 
 -- the cut is at a block
-module _ (bytes old : List ℕ) (test : ℕ → Segment → Bool) (s : Split Segment) (h : Heap) (is : IsHeap h) (c : IsCut size_of test first_place h.segments s) (used : s.here ≡ Used old) (m : (4 + length bytes) % 8 ≡ 0) where
+module _ (bytes old : List ℕ) (test : ℕ → Segment → Bool) (s : Split Segment) (h : Heap) (is : IsHeap h) (c : IsCut size_of test first_place h.segments s)
+    (used : s.here ≡ Used old) (m : (4 + length bytes) % 8 ≡ 0) where
   whole : h.segments ≡ s.before ++ Used old ∷ s.after
   whole = c.whole ∙ ap (λ g. s.before ++ g ∷ s.after) used
 
@@ -242,7 +259,8 @@ block-found : (address place : ℕ) (g : Segment) → is_block_at address place 
 block-found address place (Used bytes) e = refl
 block-found address place (Hole n) e = absurd cc
 
-pub resize_growing-heap : (address n : ℕ) (s : Split Segment) (h : Heap) → IsHeap h → IsCut size_of (is_block_at address) first_place h.segments s → IsHeap (resize_growing n s h).heap
+pub resize_growing-heap : (address n : ℕ) (s : Split Segment) (h : Heap) → IsHeap h → IsCut size_of (is_block_at address) first_place h.segments s
+    → IsHeap (resize_growing n s h).heap
 resize_growing-heap address n s h is c =
     let bytes = fitted (block_room n) (bytes_of s.here) in
     let size : 4 + length bytes ≡ segment_size n = omega (arith, length-fitted (block_room n) (bytes_of s.here)) in

@@ -1,5 +1,6 @@
 -- Laws of lists of segments.
-use Rattle.std.proofs.Common.{◌≡◌, ℕ, zero, suc, ◌+◌, ◌%◌, ◌<◌, ◌≤◌, ◌≢◌, inl, inr, Bool, true, false, List, [], ◌∷◌, ◌++◌, length, leb, eqb, cond, refl, sym, ap, ◌∙◌, arith, ltb}
+use Rattle.std.proofs.Common.{◌≡◌, ℕ, zero, suc, ◌+◌, ◌%◌, ◌<◌, ◌≤◌, ◌≢◌, inl, inr, Bool, true, false, List, [], ◌∷◌, ◌++◌, length, leb, eqb, cond, refl, sym}
+use Rattle.std.proofs.Common.{ap, ◌∙◌, arith, ltb}
 use Rattle.std.proofs.lemmas.Bool.Decides.{nat_tests, eqb_tells}
 use Rattle.std.specs.Prelude.{Option, Some, None, IfSome}
 use Rattle.std.specs.Option.{option_map}
@@ -46,9 +47,11 @@ module _ {A : Type 0} (size : A → ℕ) (test : ℕ → A → Bool) where
       cond_false (test place z) _ _ n.0
       ∙ ap (option_map (behind z)) (first_at-found (place + size z) xs x ys n.1 (ap (λ p. test p x) (omega arith) ∙ t))
 
-  pub NonePass-append : (place : ℕ) (xs ys : List A) → NonePass size test place xs → NonePass size test (place + total size xs) ys → NonePass size test place (xs ++ ys)
+  pub NonePass-append : (place : ℕ) (xs ys : List A) → NonePass size test place xs → NonePass size test (place + total size xs) ys
+      → NonePass size test place (xs ++ ys)
   NonePass-append place [] ys n m = rw (let e : place ≡ place + 0 = omega arith in e) m
-  NonePass-append place (x ∷ xs) ys n m = (n.0, NonePass-append (place + size x) xs ys n.1 (rw (let e : place + size x + total size xs ≡ place + (size x + total size xs) = omega arith in e) m))
+  NonePass-append place (x ∷ xs) ys n m =
+      (n.0, NonePass-append (place + size x) xs ys n.1 (rw (let e : place + size x + total size xs ≡ place + (size x + total size xs) = omega arith in e) m))
 
 -- ---- sizes
 pub sum-append : {A : Type 0} (f : A → ℕ) (xs ys : List A) → total f (xs ++ ys) ≡ total f xs + total f ys
@@ -108,7 +111,8 @@ tidy_before false (Hole m ∷ xs) n ys t = (t.0, t.1, tidy_before true xs n ys t
 tidy_before true (Hole m ∷ xs) n ys t = absurd t
 
 -- another used segment in the place of one
-pub tidy_other : (h : Bool) (xs : List Segment) (bs cs : List ℕ) (ys : List Segment) → (4 + length cs) % 8 ≡ 0 → IsTidy h (xs ++ Used bs ∷ ys) → IsTidy h (xs ++ Used cs ∷ ys)
+pub tidy_other : (h : Bool) (xs : List Segment) (bs cs : List ℕ) (ys : List Segment) → (4 + length cs) % 8 ≡ 0 → IsTidy h (xs ++ Used bs ∷ ys)
+    → IsTidy h (xs ++ Used cs ∷ ys)
 tidy_other false [] bs cs ys m t = (m, t.1)
 tidy_other true [] bs cs ys m t = (m, t.1)
 tidy_other false (Used ds ∷ xs) bs cs ys m t = (t.0, tidy_other false xs bs cs ys m t.1)
@@ -117,7 +121,8 @@ tidy_other false (Hole n ∷ xs) bs cs ys m t = (t.0, t.1, tidy_other true xs bs
 tidy_other true (Hole n ∷ xs) bs cs ys m t = absurd t
 
 -- what stands behind a member of a tidy list
-pub tidy_behind_used : (h : Bool) (xs : List Segment) (bs : List ℕ) (ys : List Segment) → IsTidy h (xs ++ Used bs ∷ ys) → ((4 + length bs) % 8 ≡ 0) × IsTidy false ys
+pub tidy_behind_used : (h : Bool) (xs : List Segment) (bs : List ℕ) (ys : List Segment) → IsTidy h (xs ++ Used bs ∷ ys)
+    → ((4 + length bs) % 8 ≡ 0) × IsTidy false ys
 tidy_behind_used false [] bs ys t = t
 tidy_behind_used true [] bs ys t = t
 tidy_behind_used false (Used cs ∷ xs) bs ys t = tidy_behind_used false xs bs ys t.1
@@ -206,21 +211,25 @@ pub record IsCut {A : Type 0} (size : A → ℕ) (test : ℕ → A → Bool) (pl
   pub whole : xs ≡ s.before ++ s.here ∷ s.after
   pub passes : test (place + total size s.before) s.here ≡ true
 
-cut_behind : {A : Type 0} (size : A → ℕ) (test : ℕ → A → Bool) (place : ℕ) (x : A) (xs : List A) (s : Split A) → IsCut size test (place + size x) xs s → IsCut size test place (x ∷ xs) (behind x s)
+cut_behind : {A : Type 0} (size : A → ℕ) (test : ℕ → A → Bool) (place : ℕ) (x : A) (xs : List A) (s : Split A) → IsCut size test (place + size x) xs s
+    → IsCut size test place (x ∷ xs) (behind x s)
 cut_behind size test place x xs s c = record {
   whole = ap (λ ys. x ∷ ys) c.whole;
   passes = ap (λ p. test p s.here) (omega arith) ∙ c.passes;
 }
 
-some_behind : {A : Type 0} (size : A → ℕ) (test : ℕ → A → Bool) (place : ℕ) (x : A) (xs : List A) (o : Option (Split A)) → IfSome o (IsCut size test (place + size x) xs) → IfSome (option_map (behind x) o) (IsCut size test place (x ∷ xs))
+some_behind : {A : Type 0} (size : A → ℕ) (test : ℕ → A → Bool) (place : ℕ) (x : A) (xs : List A) (o : Option (Split A))
+    → IfSome o (IsCut size test (place + size x) xs) → IfSome (option_map (behind x) o) (IsCut size test place (x ∷ xs))
 some_behind size test place x xs None h = tt
 some_behind size test place x xs (Some s) h = cut_behind size test place x xs s h
 
-pub first_at-cuts : {A : Type 0} (size : A → ℕ) (test : ℕ → A → Bool) (place : ℕ) (xs : List A) → IfSome (first_at size test place xs) (IsCut size test place xs)
+pub first_at-cuts : {A : Type 0} (size : A → ℕ) (test : ℕ → A → Bool) (place : ℕ) (xs : List A)
+    → IfSome (first_at size test place xs) (IsCut size test place xs)
 first_at-cuts size test place [] = tt
 first_at-cuts {A} size test place (x ∷ xs) = go (test place x) refl (first_at-cuts size test (place + size x) xs)
   where
     go : (b : Bool) → test place x ≡ b → IfSome (first_at size test (place + size x) xs) (IsCut size test (place + size x) xs)
-        → IfSome (cond b (Some (record { before = []; here = x; after = xs })) (option_map (behind x) (first_at size test (place + size x) xs))) (IsCut size test place (x ∷ xs))
+        → IfSome (cond b (Some (record { before = []; here = x; after = xs })) (option_map (behind x) (first_at size test (place + size x) xs)))
+        (IsCut size test place (x ∷ xs))
     go true e h = record { whole = refl; passes = ap (λ p. test p x) (omega arith) ∙ e }
     go false e h = some_behind size test place x xs (first_at size test (place + size x) xs) h

@@ -74,12 +74,14 @@ ways_in_place = refl
 
 -- The last block shrinks, a block moves to the top, one moves to a hole, and some calls are refused.
 pub ways_to_move : answers (record { segments = Hole 24 ∷ Used (zeros 20) ∷ Used (zeros 28) ∷ []; end = 200 })
-    (Resize 68 (negsuc 19) ∷ Resize 44 (pos 30) ∷ Resize 68 (pos 10) ∷ Resize 68 (pos 1) ∷ Resize 84 (pos 500) ∷ Resize 84 (negsuc 51) ∷ Resize 84 (pos 20) ∷ Release 84
+    (Resize 68 (negsuc 19) ∷ Resize 44 (pos 30) ∷ Resize 68 (pos 10) ∷ Resize 68 (pos 1) ∷ Resize 84 (pos 500) ∷ Resize 84 (negsuc 51) ∷ Resize 84 (pos 20)
+    ∷ Release 84
     ∷ Extend (negsuc 151) ∷ Extend (negsuc 7) ∷ [])
     ≡ Ok 68 ∷ Ok 84 ∷ Ok 20 ∷ Err NotABlock ∷ Err NoRoom ∷ Err BadSize ∷ Ok 84 ∷ Ok 0 ∷ Ok 0 ∷ Err ExcessiveShrink ∷ []
 ways_to_move = refl
 
 -- the old bytes go along, and those past them are 0
-pub bytes_move : (heap_after (record { segments = Hole 16 ∷ Used (1 ∷ 2 ∷ 3 ∷ 4 ∷ []) ∷ Used (5 ∷ 6 ∷ 7 ∷ 8 ∷ []) ∷ []; end = 48 }) (Resize 36 (pos 8) ∷ [])).segments
+pub bytes_move : (heap_after (record { segments = Hole 16 ∷ Used (1 ∷ 2 ∷ 3 ∷ 4 ∷ []) ∷ Used (5 ∷ 6 ∷ 7 ∷ 8 ∷ []) ∷ []; end = 48 })
+    (Resize 36 (pos 8) ∷ [])).segments
     ≡ Used (1 ∷ 2 ∷ 3 ∷ 4 ∷ 0 ∷ 0 ∷ 0 ∷ 0 ∷ 0 ∷ 0 ∷ 0 ∷ 0 ∷ []) ∷ Hole 8 ∷ Used (5 ∷ 6 ∷ 7 ∷ 8 ∷ []) ∷ []
 bytes_move = refl

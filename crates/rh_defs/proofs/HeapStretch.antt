@@ -1,5 +1,6 @@
 -- A heap with a stretch of bytes open in its midst: how it is opened, filled from below, and closed.
-use Rattle.std.proofs.Common.{◌≡◌, ℕ, zero, suc, ◌+◌, ◌<◌, ◌≤◌, ◌≢◌, ◌⊎◌, inl, inr, false, List, [], ◌∷◌, ◌++◌, length, get_or, refl, sym, ap, subst, ◌∙◌, arith}
+use Rattle.std.proofs.Common.{◌≡◌, ℕ, zero, suc, ◌+◌, ◌<◌, ◌≤◌, ◌≢◌, ◌⊎◌, inl, inr, false, List, [], ◌∷◌, ◌++◌, length, get_or, refl, sym, ap, subst, ◌∙◌}
+use Rattle.std.proofs.Common.{arith}
 use Rattle.rh_defs.specs.Bytes.{word, part, SameIn}
 use Rattle.rh_defs.specs.Pieces.{total}
 use Rattle.rh_defs.specs.Heap.{Segment, Used, Hole, Heap, size_of, IsTidy}
@@ -16,14 +17,20 @@ zero_or (suc n) = inr (omega arith)
 pub Await-from_link : (b : List ℕ) (at f x p : ℕ) (ss : List Segment) → at < f → f < p → LinksTo b at f x → Stand b f p ss → Await b at x p ss
 Await-from_link b at f x p [] g l k h = elim (zero_or x) [ inl z ↦ z | inr nz ↦ let e = k.some nz in let l' = k.ahead nz in absurd (omega arith) ]
 Await-from_link b at f x p (Used bs ∷ ss) g l k h = (h.0, h.1, Await-from_link b at f x (p + (4 + length bs)) ss g (omega arith) k h.2)
-Await-from_link b at f x p (Hole n ∷ ss) g l k h = (elim (zero_or x) [ inl z ↦ let e = k.none z in absurd (let h0 = h.0 in omega arith) | inr nz ↦ let e = k.some nz in let h0 = h.0 in omega arith ], h.1, h.2)
+Await-from_link b at f x p (Hole n ∷ ss) g l k h = (
+  elim (zero_or x) [ inl z ↦ let e = k.none z in absurd (let h0 = h.0 in omega arith) | inr nz ↦ let e = k.some nz in let h0 = h.0 in omega arith ],
+  h.1,
+  h.2,
+)
 
-pub Stand-kept : (b c : List ℕ) (f p : ℕ) (ss : List Segment) → HasRoom ss → word c f ≡ word b f → SameIn b c p (p + total size_of ss) → Stand b f p ss → Stand c f p ss
+pub Stand-kept : (b c : List ℕ) (f p : ℕ) (ss : List Segment) → HasRoom ss → word c f ≡ word b f → SameIn b c p (p + total size_of ss) → Stand b f p ss
+    → Stand c f p ss
 Stand-kept b c f p [] r k s h = k ∙ h
 Stand-kept b c f p (Used bs ∷ ys) r k s h = (
   word_same b c p (narrower b c p (p + total size_of (Used bs ∷ ys)) p (p + 4) s (omega arith) (omega arith)) ∙ h.0,
   part_same b c (p + 4) (length bs) (narrower b c p (p + total size_of (Used bs ∷ ys)) (p + 4) (p + 4 + length bs) s (omega arith) (omega arith)) ∙ h.1,
-  Stand-kept b c f (p + (4 + length bs)) ys r k (narrower b c p (p + total size_of (Used bs ∷ ys)) (p + (4 + length bs)) (p + (4 + length bs) + total size_of ys) s (omega arith) (omega arith)) h.2,
+  Stand-kept b c f (p + (4 + length bs)) ys r k (narrower b c p (p + total size_of (Used bs ∷ ys)) (p + (4 + length bs))
+      (p + (4 + length bs) + total size_of ys) s (omega arith) (omega arith)) h.2,
 )
 Stand-kept b c f p (Hole n ∷ ys) r k s h = (
   ap (λ w. f + w) k ∙ h.0,
@@ -37,7 +44,8 @@ Await-kept b c at x p [] r s h = h
 Await-kept b c at x p (Used bs ∷ ys) r s h = (
   word_same b c p (narrower b c p (p + total size_of (Used bs ∷ ys)) p (p + 4) s (omega arith) (omega arith)) ∙ h.0,
   part_same b c (p + 4) (length bs) (narrower b c p (p + total size_of (Used bs ∷ ys)) (p + 4) (p + 4 + length bs) s (omega arith) (omega arith)) ∙ h.1,
-  Await-kept b c at x (p + (4 + length bs)) ys r (narrower b c p (p + total size_of (Used bs ∷ ys)) (p + (4 + length bs)) (p + (4 + length bs) + total size_of ys) s (omega arith) (omega arith)) h.2,
+  Await-kept b c at x (p + (4 + length bs)) ys r (narrower b c p (p + total size_of (Used bs ∷ ys)) (p + (4 + length bs))
+      (p + (4 + length bs) + total size_of ys) s (omega arith) (omega arith)) h.2,
 )
 Await-kept b c at x p (Hole n ∷ ys) r s h = (
   h.0,
@@ -57,7 +65,8 @@ pub record LinkPlace (at q low : ℕ) : Type 0 where
   pub most : q + 4 ≤ low
   pub apart : (q ≡ at + 4) ⊎ (at + 16 ≤ q)
 
-pub link_place : (at : ℕ) (xs : List Segment) (q low : ℕ) → HasRoom xs → q ≡ last_link (at + 4) (at + 16) xs → low ≡ at + 16 + total size_of xs → LinkPlace at q low
+pub link_place : (at : ℕ) (xs : List Segment) (q low : ℕ) → HasRoom xs → q ≡ last_link (at + 4) (at + 16) xs → low ≡ at + 16 + total size_of xs
+    → LinkPlace at q low
 link_place at xs q low r e p = elim (last_link_range (at + 4) (at + 16) xs r (omega arith)) [
   | inl u ↦ record { least = omega arith; most = omega arith; apart = inl (e ∙ u) }
   | inr w ↦ record { least = omega arith; most = omega arith; apart = inr (omega arith) }
@@ -71,7 +80,8 @@ opened b at h xs mid ys q low x upper s is eq el eu k =
     let room = HasRoom-append xs (mid ++ ys) (subst HasRoom is (HasRoom-from_tidy false h.segments s.heap.tidy)) in
     let rooms = HasRoom-append mid ys room.1 in
     let one = Stand-split b (at + 4) (at + 16) xs (mid ++ ys) (subst (Stand b (at + 4) (at + 16)) is s.stand) in
-    let there : Stand b q low (mid ++ ys) = subst (λ f. Stand b f low (mid ++ ys)) (sym eq) (subst (λ p. Stand b (last_link (at + 4) (at + 16) xs) p (mid ++ ys)) (sym el) one.1) in
+    let there : Stand b q low (mid ++ ys) =
+    subst (λ f. Stand b f low (mid ++ ys)) (sym eq) (subst (λ p. Stand b (last_link (at + 4) (at + 16) xs) p (mid ++ ys)) (sym el) one.1) in
     let two = Stand-split b q low mid ys there in
     let sums : total size_of h.segments ≡ total size_of xs + (total size_of mid + total size_of ys) =
     ap (total size_of) is ∙ total-append xs (mid ++ ys) ∙ ap (λ n. total size_of xs + n) (total-append mid ys) in
@@ -104,7 +114,8 @@ pub record SameBut (b c : List ℕ) (q low edge w : ℕ) : Type 0 where
   pub same : (k : ℕ) → (k < q) ⊎ (q + 4 ≤ k) → (k < low) ⊎ (edge ≤ k) → (k < w) ⊎ (w + 4 ≤ k) → get_or c k 0 ≡ get_or b k 0
 
 -- a stretch stays open while writes keep to it, to the link before and to the base
-pub HasStretch-kept : (b c : List ℕ) (at end : ℕ) (xs ys : List Segment) (q low x upper : ℕ) → HasStretch b at end xs ys q low x upper → SameBut b c q low upper (at + 8) → HasStretch c at end xs ys q low x upper
+pub HasStretch-kept : (b c : List ℕ) (at end : ℕ) (xs ys : List Segment) (q low x upper : ℕ) → HasStretch b at end xs ys q low x upper
+    → SameBut b c q low upper (at + 8) → HasStretch c at end xs ys q low x upper
 HasStretch-kept b c at end xs ys q low x upper s k =
     let l = link_place at xs q low s.room_before s.link s.place in
     let least = l.least in
@@ -118,7 +129,8 @@ HasStretch-kept b c at end xs ys q low x upper s k =
     ] in
     record {
       special = word_same b c at (record { each = λ j lo hi. k.same j (inl (omega arith)) (inl (omega arith)) (inl (omega arith)) }) ∙ s.special;
-      last = word_same b c (at + 12) (record { each = λ j lo hi. k.same j (off j (inr (omega arith, omega arith))) (inl (omega arith)) (inr (omega arith)) }) ∙ s.last;
+      last = word_same b c (at + 12) (record { each = λ j lo hi. k.same j (off j (inr (omega arith, omega arith))) (inl (omega arith)) (inr (omega arith)) })
+          ∙ s.last;
       within = let n = k.len in let w = s.within in omega arith;
       multiple = s.multiple;
       fits = s.fits;
@@ -130,7 +142,8 @@ HasStretch-kept b c at end xs ys q low x upper s k =
       link = s.link;
       place = s.place;
       order = s.order;
-      tail = Await-kept b c at x upper ys s.room_behind (record { each = λ j lo hi. k.same j (inr (omega arith)) (inr (omega arith)) (inr (omega arith)) }) s.tail;
+      tail = Await-kept b c at x upper ys s.room_behind (record { each = λ j lo hi. k.same j (inr (omega arith)) (inr (omega arith)) (inr (omega arith)) })
+          s.tail;
       room_before = s.room_before;
       room_behind = s.room_behind;
     }
@@ -199,7 +212,8 @@ absorbed b at end xs ys q low x y upper m s k =
     }
 
 -- where nothing stands behind, the stretch may reach up to the heap's end
-pub reaching : (b : List ℕ) (at end : ℕ) (xs : List Segment) (q low x upper top : ℕ) → HasStretch b at end xs [] q low x upper → low ≤ top → top ≤ at + end → HasStretch b at end xs [] q low x top
+pub reaching : (b : List ℕ) (at end : ℕ) (xs : List Segment) (q low x upper top : ℕ) → HasStretch b at end xs [] q low x upper → low ≤ top → top ≤ at + end
+    → HasStretch b at end xs [] q low x top
 reaching b at end xs q low x upper top s l h = record {
   special = s.special;
   last = s.last;
@@ -229,5 +243,6 @@ closed b at end xs ys q low x upper s e k base tidy =
       special = s.special;
       base = omega arith;
       last = s.last;
-      stand = Stand-join b (at + 4) (at + 16) xs ys s.front (subst (λ f. Stand b f (at + 16 + total size_of xs) ys) s.link (subst (λ p. Stand b q p ys) place there));
+      stand = Stand-join b (at + 4) (at + 16) xs ys s.front (subst (λ f. Stand b f (at + 16 + total size_of xs) ys) s.link
+          (subst (λ p. Stand b q p ys) place there));
     }

@@ -1,5 +1,6 @@
 -- Lists whose members are found, edited, added and left out: what holds of each member, and their sizes.
-use Rattle.std.proofs.Common.{◌≡◌, ℕ, zero, suc, ◌+◌, ◌≤◌, ◌<◌, Bool, true, false, cond, refl, ap, sym, subst, arith, List, [], ◌∷◌, ◌++◌, length, map, set, get_or}
+use Rattle.std.proofs.Common.{◌≡◌, ℕ, zero, suc, ◌+◌, ◌≤◌, ◌<◌, Bool, true, false, cond, refl, ap, sym, subst, arith, List, [], ◌∷◌, ◌++◌, length, map, set}
+use Rattle.std.proofs.Common.{get_or}
 use Rattle.std.specs.Prelude.{Option, Some, None, IfSome, ◌==◌, find, filter, not}
 use Rattle.std.specs.List.{AllByRecursion}
 use Rattle.rh_defs.specs.Pieces.{total}
@@ -35,11 +36,13 @@ filter-all P test (x ∷ xs) all =
     [ true ↦ (all.0, filter-all P test xs all.1) | false ↦ filter-all P test xs all.1 ]
 
 -- what passes the test, too
-pub filter-passes : {A : Type 0} (P : A → Type 0) (test : A → Bool) (xs : List A) → AllByRecursion P xs → AllByRecursion (λ x. P x × (test x ≡ true)) (filter test xs)
+pub filter-passes : {A : Type 0} (P : A → Type 0) (test : A → Bool) (xs : List A) → AllByRecursion P xs
+    → AllByRecursion (λ x. P x × (test x ≡ true)) (filter test xs)
 filter-passes P test [] all = tt
 filter-passes {A} P test (x ∷ xs) all = go (test x) refl (filter-passes P test xs all.1)
   where
-    go : (b : Bool) → test x ≡ b → AllByRecursion (λ x. P x × (test x ≡ true)) (filter test xs) → AllByRecursion (λ x. P x × (test x ≡ true)) (cond b (x ∷ filter test xs) (filter test xs))
+    go : (b : Bool) → test x ≡ b → AllByRecursion (λ x. P x × (test x ≡ true)) (filter test xs)
+        → AllByRecursion (λ x. P x × (test x ≡ true)) (cond b (x ∷ filter test xs) (filter test xs))
     go true e rest = ((all.0, e), rest)
     go false e rest = rest
 
@@ -61,7 +64,8 @@ filter-length test (x ∷ xs) =
 pub filter-both : {A : Type 0} (test : A → Bool) (xs : List A) → length (filter (λ x. not (test x)) xs) + length (filter test xs) ≡ length xs
 filter-both test [] = refl
 filter-both test (x ∷ xs) =
-    elim (test x) as (λ b. length (cond (not b) (x ∷ filter (λ x. not (test x)) xs) (filter (λ x. not (test x)) xs)) + length (cond b (x ∷ filter test xs) (filter test xs)) ≡ length (x ∷ xs))
+    elim (test x) as (λ b. length (cond (not b) (x ∷ filter (λ x. not (test x)) xs) (filter (λ x. not (test x)) xs)) + length
+    (cond b (x ∷ filter test xs) (filter test xs)) ≡ length (x ∷ xs))
     [ true ↦ omega (arith, filter-both test xs) | false ↦ omega (arith, filter-both test xs) ]
 
 -- the sum of numbers, one of which is another
@@ -75,7 +79,8 @@ total-set (x ∷ xs) (suc k) n h = omega (arith, total-set xs k n (omega arith))
 pub map-filter : {A : Type 0} (number : A → ℕ) (test : ℕ → Bool) (xs : List A) → map number (filter (λ x. test (number x)) xs) ≡ filter test (map number xs)
 map-filter number test [] = refl
 map-filter number test (x ∷ xs) =
-    elim (test (number x)) as (λ b. map number (cond b (x ∷ filter (λ x. test (number x)) xs) (filter (λ x. test (number x)) xs)) ≡ cond b (number x ∷ filter test (map number xs)) (filter test (map number xs)))
+    elim (test (number x)) as (λ b. map number (cond b (x ∷ filter (λ x. test (number x)) xs) (filter (λ x. test (number x)) xs)) ≡ cond b
+    (number x ∷ filter test (map number xs)) (filter test (map number xs)))
     [ true ↦ ap (λ ns. number x ∷ ns) (map-filter number test xs) | false ↦ map-filter number test xs ]
 
 module _ {A : Type 0} (number : A → ℕ) where
@@ -119,7 +124,8 @@ module _ {A : Type 0} (number : A → ℕ) where
       ] e
 
   -- a member that a test finds is the one of its number
-  pub number-finds : (test : A → Bool) (least next : ℕ) (xs : List A) (x : A) → Rise number least next xs → find test xs ≡ Some x → find (λ y. number y == number x) xs ≡ Some x
+  pub number-finds : (test : A → Bool) (least next : ℕ) (xs : List A) (x : A) → Rise number least next xs → find test xs ≡ Some x
+      → find (λ y. number y == number x) xs ≡ Some x
   number-finds test least next [] x h e = absurd cc
   number-finds test least next (y ∷ xs) x h e =
       elim (test y) as (λ b. cond b (Some y) (find test xs) ≡ Some x → cond (number y == number x) (Some y) (find (λ y. number y == number x) xs) ≡ Some x) [

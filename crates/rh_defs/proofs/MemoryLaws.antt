@@ -1,5 +1,6 @@
 -- Laws of memories: what each call leaves of the areas, and frames.
-use Rattle.std.proofs.Common.{inl, inr, ◌≡◌, ℕ, zero, suc, ◌+◌, ◌-◌, ◌*◌, ◌/◌, ◌<◌, ◌≤◌, ◌≢◌, ◌==◌, cond, Bool, true, false, List, [], ◌++◌, length, take, replicate, refl, sym, ap, subst, ◌∙◌, arith}
+use Rattle.std.proofs.Common.{inl, inr, ◌≡◌, ℕ, zero, suc, ◌+◌, ◌-◌, ◌*◌, ◌/◌, ◌<◌, ◌≤◌, ◌≢◌, ◌==◌, cond, Bool, true, false, List, [], ◌++◌, length, take}
+use Rattle.std.proofs.Common.{replicate, refl, sym, ap, subst, ◌∙◌, arith}
 use Rattle.std.proofs.lemmas.Bool.Decides.{nat_tests}
 use Rattle.std.proofs.lemmas.Bool.{cases_eq}
 use Rattle.rh_defs.specs.Pieces.{page}
@@ -9,7 +10,8 @@ use Rattle.std.proofs.Math.ListN.{length-append}
 use Rattle.std.specs.Prelude.{unwrap_or, Some, None, Option, IsSome, IsNone, is_some}
 use Rattle.std.proofs.Math.Path.{fun_ext}
 use Rattle.rh_defs.specs.Bytes.{SameIn, SameOutside}
-use Rattle.rh_defs.specs.Memory.{Memory, IsOpen, bytes, area_set, fresh, with_bytes, opened, closed, grown, shrunk, one_if_open, open_below, pages_below, Edited, OnlyArea}
+use Rattle.rh_defs.specs.Memory.{Memory, IsOpen, bytes, area_set, fresh, with_bytes, opened, closed, grown, shrunk, one_if_open, open_below, pages_below}
+use Rattle.rh_defs.specs.Memory.{Edited, OnlyArea}
 
 -- one area is set
 pub area_set-same : (area : ℕ → Option (List ℕ)) (id : ℕ) (o : Option (List ℕ)) → area_set area id o id ≡ o
@@ -68,7 +70,8 @@ pub loan-with_bytes : (m : Memory) (id : ℕ) (bs : List ℕ) → (with_bytes m 
 unfolding with_bytes
 loan-with_bytes m id bs = refl
 
-memory_is : (f g : ℕ → Option (List ℕ)) (free pages loan : ℕ) → f ≡ g → (let r : Memory = record { area = f; free = free; pages = pages; loan = loan } in r) ≡ record { area = g; free = free; pages = pages; loan = loan }
+memory_is : (f g : ℕ → Option (List ℕ)) (free pages loan : ℕ) → f ≡ g
+    → (let r : Memory = record { area = f; free = free; pages = pages; loan = loan } in r) ≡ record { area = g; free = free; pages = pages; loan = loan }
 memory_is f g free pages loan e = ap (λ (h : ℕ → Option (List ℕ)). let r : Memory = record { area = h; free = free; pages = pages; loan = loan } in r) e
 
 pub with_bytes-with_bytes : (m : Memory) (id : ℕ) (x y : List ℕ) → with_bytes (with_bytes m id x) id y ≡ with_bytes m id y
@@ -186,7 +189,8 @@ unfolding bytes
 bytes-grown m id n = ap (λ (o : Option (List ℕ)). unwrap_or o []) (area-grown_same m id n)
 
 pub length-grown : (m : Memory) (id n : ℕ) → length (bytes (grown m id n) id) ≡ length (bytes m id) + page * n
-length-grown m id n = ap length (bytes-grown m id n) ∙ length-append (bytes m id) (replicate (page * n) 0) ∙ ap (λ k. length (bytes m id) + k) (length-replicate {A = ℕ} (page * n) 0)
+length-grown m id n = ap length (bytes-grown m id n) ∙ length-append (bytes m id) (replicate (page * n) 0)
+    ∙ ap (λ k. length (bytes m id) + k) (length-replicate {A = ℕ} (page * n) 0)
 
 pub IsOpen-grown : (m : Memory) (id n : ℕ) → IsOpen (grown m id n) id
 IsOpen-grown m id n = rw (area-grown_same m id n) refl
@@ -267,7 +271,8 @@ pages_set-above : (area : ℕ → Option (List ℕ)) (id : ℕ) (o : Option (Lis
 unfolding pages_below
 pages_set-above area id o zero h = refl
 pages_set-above area id o (suc n) h =
-    ap (λ (p : Option (List ℕ)). length (unwrap_or p []) / page + pages_below (area_set area id o) n) (let ne : n ≢ id = omega arith in area_set-other area id o n ne)
+    ap (λ (p : Option (List ℕ)). length (unwrap_or p []) / page + pages_below (area_set area id o) n)
+    (let ne : n ≢ id = omega arith in area_set-other area id o n ne)
     ∙ ap (λ k. length (unwrap_or (area n) []) / page + k) (pages_set-above area id o n (omega arith))
 
 -- how many pages areas have after one is set
@@ -278,11 +283,13 @@ pages_below-set area id o zero h = absurd (omega arith)
 pages_below-set area id o (suc n) h = elim (cases_eq id n) [
   | inl e ↦ let top : area_set area id o n ≡ o = ap (area_set area id o) (sym e) ∙ area_set-same area id o in
       let rest = pages_set-above area id o n (omega arith) in
-      let here : length (unwrap_or (area_set area id o n) []) / page ≡ length (unwrap_or o []) / page = ap (λ (p : Option (List ℕ)). length (unwrap_or p []) / page) top in
+      let here : length (unwrap_or (area_set area id o n) []) / page ≡ length (unwrap_or o []) / page =
+      ap (λ (p : Option (List ℕ)). length (unwrap_or p []) / page) top in
       let there : length (unwrap_or (area id) []) / page ≡ length (unwrap_or (area n) []) / page = ap (λ (k : ℕ). length (unwrap_or (area k) []) / page) e in
       omega arith
   | inr ne ↦ let other : n ≢ id = λ q. ne (sym q) in
-      let here : length (unwrap_or (area_set area id o n) []) / page ≡ length (unwrap_or (area n) []) / page = ap (λ (p : Option (List ℕ)). length (unwrap_or p []) / page) (area_set-other area id o n other) in
+      let here : length (unwrap_or (area_set area id o n) []) / page ≡ length (unwrap_or (area n) []) / page =
+      ap (λ (p : Option (List ℕ)). length (unwrap_or p []) / page) (area_set-other area id o n other) in
       let rest = pages_below-set area id o n (omega arith) in
       omega arith
 ]
@@ -304,7 +311,8 @@ pub pages_below-one : (area : ℕ → Option (List ℕ)) (id n : ℕ) → id < n
 unfolding pages_below
 pages_below-one area id zero h = absurd (omega arith)
 pages_below-one area id (suc n) h = elim (cases_eq id n) [
-  | inl e ↦ let here : length (unwrap_or (area id) []) / page ≡ length (unwrap_or (area n) []) / page = ap (λ (k : ℕ). length (unwrap_or (area k) []) / page) e in omega arith
+  | inl e ↦ let here : length (unwrap_or (area id) []) / page ≡ length (unwrap_or (area n) []) / page =
+      ap (λ (k : ℕ). length (unwrap_or (area k) []) / page) e in omega arith
   | inr ne ↦ let rest = pages_below-one area id n (omega arith) in omega arith
 ]
 
@@ -373,7 +381,15 @@ pub Edited-self : (m : Memory) (id lo hi : ℕ) → IsOpen m id → Edited m m i
 Edited-self m id lo hi o = record { opened = o; others = λ j ne. refl; free = refl; pages = refl; loan = refl; outside = SameOutside-self (bytes m id) lo hi }
 
 pub Edited-wider : (m n : Memory) (id lo hi lo' hi' : ℕ) → Edited m n id lo hi → lo' ≤ lo → hi ≤ hi' → Edited m n id lo' hi'
-Edited-wider m n id lo hi lo' hi' e l h = record { opened = e.opened; others = e.others; free = e.free; pages = e.pages; loan = e.loan; outside = SameOutside-wider (bytes m id) (bytes n id) lo hi lo' hi' e.outside l h }
+Edited-wider m n id lo hi lo' hi' e l h =
+    record {
+      opened = e.opened;
+      others = e.others;
+      free = e.free;
+      pages = e.pages;
+      loan = e.loan;
+      outside = SameOutside-wider (bytes m id) (bytes n id) lo hi lo' hi' e.outside l h;
+    }
 
 pub Edited-both : (m n k : Memory) (id lo hi : ℕ) → Edited m n id lo hi → Edited n k id lo hi → Edited m k id lo hi
 Edited-both m n k id lo hi d e = record {
@@ -399,13 +415,21 @@ Edited-with_bytes m id lo hi bs s =
     }
 
 pub OnlyArea-from_Edited : (m n : Memory) (id lo hi : ℕ) → Edited m n id lo hi → OnlyArea m n id
-OnlyArea-from_Edited m n id lo hi e = record { opened = e.opened; others = e.others; ledger = let len = e.outside.len in let free = e.free in omega arith; pages = e.pages; loan = e.loan }
+OnlyArea-from_Edited m n id lo hi e =
+    record { opened = e.opened; others = e.others; ledger = let len = e.outside.len in let free = e.free in omega arith; pages = e.pages; loan = e.loan }
 
 pub OnlyArea-self : (m : Memory) (id : ℕ) → IsOpen m id → OnlyArea m m id
 OnlyArea-self m id o = record { opened = o; others = λ j ne. refl; ledger = refl; pages = refl; loan = refl }
 
 pub OnlyArea-both : (m n k : Memory) (id : ℕ) → OnlyArea m n id → OnlyArea n k id → OnlyArea m k id
-OnlyArea-both m n k id d e = record { opened = e.opened; others = λ j ne. e.others j ne ∙ d.others j ne; ledger = e.ledger ∙ d.ledger; pages = e.pages ∙ d.pages; loan = e.loan ∙ d.loan }
+OnlyArea-both m n k id d e =
+    record {
+      opened = e.opened;
+      others = λ j ne. e.others j ne ∙ d.others j ne;
+      ledger = e.ledger ∙ d.ledger;
+      pages = e.pages ∙ d.pages;
+      loan = e.loan ∙ d.loan;
+    }
 
 pub OnlyArea-with_bytes : (m : Memory) (id : ℕ) (bs : List ℕ) → length bs ≡ length (bytes m id) → OnlyArea m (with_bytes m id bs) id
 OnlyArea-with_bytes m id bs h = record {
@@ -442,6 +466,37 @@ pub SameIn-shrunk : (m : Memory) (id n lo hi : ℕ) → hi + page * n ≤ length
 SameIn-shrunk m id n lo hi h = rw (bytes-shrunk m id n) (SameIn-take (length (bytes m id) - page * n) (bytes m id) lo hi (omega arith))
 
 -- for `grind`
-pub ruleset memory_laws = (bytes-with_bytes, with_bytes-with_bytes, IsOpen-with_bytes, area-with_bytes, bytes-with_other, free-with_bytes, pages-with_bytes, loan-with_bytes)
+pub ruleset memory_laws =
+    (bytes-with_bytes, with_bytes-with_bytes, IsOpen-with_bytes, area-with_bytes, bytes-with_other, free-with_bytes, pages-with_bytes, loan-with_bytes)
 
-pub ruleset pool_laws = (open_apart, bytes-opened_other, bytes-closed_other, bytes-grown_other, bytes-shrunk_other, area-opened, bytes-opened, IsOpen-opened, free-opened, pages-opened, loan-opened, area-closed_same, area-closed, bytes-closed, free-closed, pages-closed, loan-closed, area-grown, length-grown, IsOpen-grown, free-grown, pages-grown, loan-grown, area-shrunk, length-shrunk, IsOpen-shrunk, free-shrunk, pages-shrunk, loan-shrunk)
+pub ruleset pool_laws = (
+  open_apart,
+  bytes-opened_other,
+  bytes-closed_other,
+  bytes-grown_other,
+  bytes-shrunk_other,
+  area-opened,
+  bytes-opened,
+  IsOpen-opened,
+  free-opened,
+  pages-opened,
+  loan-opened,
+  area-closed_same,
+  area-closed,
+  bytes-closed,
+  free-closed,
+  pages-closed,
+  loan-closed,
+  area-grown,
+  length-grown,
+  IsOpen-grown,
+  free-grown,
+  pages-grown,
+  loan-grown,
+  area-shrunk,
+  length-shrunk,
+  IsOpen-shrunk,
+  free-shrunk,
+  pages-shrunk,
+  loan-shrunk,
+)

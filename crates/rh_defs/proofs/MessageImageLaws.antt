@@ -1,5 +1,6 @@
 -- The decoder answers a message exactly where the bytes spell it, and what was encoded is spelled.
-use Rattle.std.proofs.Common.{◌≡◌, ℕ, zero, suc, ◌+◌, ◌-◌, ◌*◌, ◌/◌, ◌%◌, ◌<◌, ◌≤◌, ◌≢◌, inl, inr, Bool, true, false, cond, eqb, ltb, leb, List, [], ◌∷◌, length, get_or, refl, sym, ap, subst, ◌∙◌, arith}
+use Rattle.std.proofs.Common.{◌≡◌, ℕ, zero, suc, ◌+◌, ◌-◌, ◌*◌, ◌/◌, ◌%◌, ◌<◌, ◌≤◌, ◌≢◌, inl, inr, Bool, true, false, cond, eqb, ltb, leb, List, [], ◌∷◌}
+use Rattle.std.proofs.Common.{length, get_or, refl, sym, ap, subst, ◌∙◌, arith}
 use Rattle.std.proofs.lemmas.Bool.{cases_eq}
 use Rattle.std.proofs.lemmas.Bool.Decides.{nat_tests}
 use Rattle.std.proofs.lemmas.List.{length-append, length-replicate, get_or-append-add, get_or-replicate}
@@ -12,7 +13,8 @@ use Rattle.rh_defs.specs.Bytes.{word, part}
 use Rattle.rh_defs.specs.Pieces.{zeros}
 use Rattle.rh_defs.specs.Pathnames.{is_plain}
 use Rattle.rh_defs.specs.Messages.{action_at, action_number, action_of, file_words, data_words, name_bytes, tail_bytes, encoded, encoded_length, HasName, Fits}
-use Rattle.rh_defs.specs.MessageImage.{SpellWords, SpellsName, SpellsTail, SpellsMessage, name_length, file_named, file_in, about_file, body_for, body_in, message_in, has_length, decoded}
+use Rattle.rh_defs.specs.MessageImage.{SpellWords, SpellsName, SpellsTail, SpellsMessage, name_length, file_named, file_in, about_file, body_for, body_in}
+use Rattle.rh_defs.specs.MessageImage.{message_in, has_length, decoded}
 use Rattle.rh_defs.specs.declared.message.Action.{Action}
 use Rattle.rh_defs.specs.declared.message.Action.TheVariants as action
 use Rattle.rh_defs.specs.declared.message.FileData.{FileData}
@@ -49,7 +51,8 @@ all_plain b at zero f = refl
 all_plain b at (suc n) f =
     let here : get_or b at 0 ≢ 0 = λ z. f 0 (omega arith) (ap (λ i. get_or b i 0) (let e : at + 0 ≡ at = omega arith in e) ∙ z) in
     let t : ltb 0 (get_or b at 0) ≡ true = ltb_yes 0 (get_or b at 0) (omega arith) in
-    both_are (ltb 0 (get_or b at 0)) (is_plain (part b (at + 1) n)) t (all_plain b (at + 1) n (λ k l z. f (k + 1) (omega arith) (ap (λ i. get_or b i 0) (omega arith) ∙ z)))
+    both_are (ltb 0 (get_or b at 0)) (is_plain (part b (at + 1) n)) t (all_plain b (at + 1) n
+    (λ k l z. f (k + 1) (omega arith) (ap (λ i. get_or b i 0) (omega arith) ∙ z)))
 
 plain_at : (name : List ℕ) (i : ℕ) → is_plain name ≡ true → i < length name → eqb (get_or name i 0) 0 ≡ false
 plain_at [] i t l = absurd (omega arith)
@@ -178,12 +181,18 @@ body-spelled b end body e = go (action_at (word b 16)) refl e
 
     go : (o : Option Action) → action_at (word b 16) ≡ o → body_for b end o ≡ Ok body → BodySpelled b end body
     go None eo z = absurd cc
-    go (Some action.DataSave) eo z = filed DataSave (file_in b end) refl z (λ f s. record { action = action-at (word b 16) action.DataSave eo; numbers = s.0; rest = s.1 })
-    go (Some action.DataSaveAck) eo z = filed DataSaveAck (file_in b end) refl z (λ f s. record { action = action-at (word b 16) action.DataSaveAck eo; numbers = s.0; rest = s.1 })
-    go (Some action.DataLoad) eo z = filed DataLoad (file_in b end) refl z (λ f s. record { action = action-at (word b 16) action.DataLoad eo; numbers = s.0; rest = s.1 })
-    go (Some action.DataLoadAck) eo z = filed DataLoadAck (file_in b end) refl z (λ f s. record { action = action-at (word b 16) action.DataLoadAck eo; numbers = s.0; rest = s.1 })
-    go (Some action.RamFetch) eo z = rammed RamFetch (ltb end 28) refl z (λ l. record { action = action-at (word b 16) action.RamFetch eo; numbers = (refl, (refl, tt)); rest = l })
-    go (Some action.RamTransmit) eo z = rammed RamTransmit (ltb end 28) refl z (λ l. record { action = action-at (word b 16) action.RamTransmit eo; numbers = (refl, (refl, tt)); rest = l })
+    go (Some action.DataSave) eo z =
+        filed DataSave (file_in b end) refl z (λ f s. record { action = action-at (word b 16) action.DataSave eo; numbers = s.0; rest = s.1 })
+    go (Some action.DataSaveAck) eo z =
+        filed DataSaveAck (file_in b end) refl z (λ f s. record { action = action-at (word b 16) action.DataSaveAck eo; numbers = s.0; rest = s.1 })
+    go (Some action.DataLoad) eo z =
+        filed DataLoad (file_in b end) refl z (λ f s. record { action = action-at (word b 16) action.DataLoad eo; numbers = s.0; rest = s.1 })
+    go (Some action.DataLoadAck) eo z =
+        filed DataLoadAck (file_in b end) refl z (λ f s. record { action = action-at (word b 16) action.DataLoadAck eo; numbers = s.0; rest = s.1 })
+    go (Some action.RamFetch) eo z =
+        rammed RamFetch (ltb end 28) refl z (λ l. record { action = action-at (word b 16) action.RamFetch eo; numbers = (refl, (refl, tt)); rest = l })
+    go (Some action.RamTransmit) eo z = rammed RamTransmit (ltb end 28) refl z
+        (λ l. record { action = action-at (word b 16) action.RamTransmit eo; numbers = (refl, (refl, tt)); rest = l })
 
 spelled-body : (b : List ℕ) (end : ℕ) (body : Body) → BodySpelled b end body → body_in b end ≡ Ok body
 spelled-body b end (DataSave f) s = ap (λ n. body_for b end (action_at n)) s.action ∙ ap (about_file DataSave) (spelled-file b end f (s.numbers, s.rest))
@@ -294,7 +303,8 @@ encoded-spells m f =
       tail = subst (λ i. SpellsTail (encoded m) i m.body) (sym n) (tail m.body refl f.name);
     }
   where
-    about : (f : FileData) → length (data_words m.body) ≡ 6 → tail_bytes m.body ≡ name_bytes f.name → is_plain f.name ≡ true → SpellsName (encoded m) (encoded_length m) f.name
+    about : (f : FileData) → length (data_words m.body) ≡ 6 → tail_bytes m.body ≡ name_bytes f.name → is_plain f.name ≡ true
+        → SpellsName (encoded m) (encoded_length m) f.name
     about g en et p =
         let lb = length-body m.body in
         let lt = ap length et in

@@ -1,5 +1,6 @@
 -- Laws of the bytes of messages.
-use Rattle.std.proofs.Common.{◌≡◌, ℕ, ◌+◌, ◌-◌, ◌*◌, ◌/◌, ◌%◌, ◌<◌, ◌≤◌, ◌^◌, Bool, true, false, leb, lit<, List, [], ◌∷◌, ◌++◌, length, refl, sym, ap, subst, ◌∙◌, arith}
+use Rattle.std.proofs.Common.{◌≡◌, ℕ, ◌+◌, ◌-◌, ◌*◌, ◌/◌, ◌%◌, ◌<◌, ◌≤◌, ◌^◌, Bool, true, false, leb, lit<, List, [], ◌∷◌, ◌++◌, length, refl, sym, ap, subst}
+use Rattle.std.proofs.Common.{◌∙◌, arith}
 use Rattle.std.proofs.lemmas.Bool.Decides.{nat_tests}
 use Rattle.std.proofs.lemmas.List.{length-append, length-replicate, append_assoc}
 use Rattle.std.proofs.lemmas.Nat.{from_le_bytes-to_le_bytes_4}
@@ -8,7 +9,8 @@ use Rattle.rh_defs.specs.declared.sizes.TheConstants.{LONGEST_MESSAGE}
 use Rattle.rh_defs.specs.Bytes.{word, part, put, word_bytes}
 use Rattle.rh_defs.specs.Pieces.{zeros}
 use Rattle.rh_defs.specs.Pathnames.{is_plain, is_pathname}
-use Rattle.rh_defs.specs.Messages.{words, name_bytes, data_words, tail_bytes, body_bytes, encoded, encoded_length, action_of, action_number, AreWords, HasName, Fits}
+use Rattle.rh_defs.specs.Messages.{words, name_bytes, data_words, tail_bytes, body_bytes, encoded, encoded_length, action_of, action_number, AreWords}
+use Rattle.rh_defs.specs.Messages.{HasName, Fits}
 use Rattle.rh_defs.specs.MessageImage.{SpellWords}
 use Rattle.rh_defs.specs.declared.message.Body.{Body}
 use Rattle.rh_defs.specs.declared.message.Body.TheVariants.{DataSave, DataSaveAck, DataLoad, DataLoadAck, RamFetch, RamTransmit}
@@ -52,10 +54,12 @@ SpellWords-words [] tail w = tt
 SpellWords-words (n ∷ ns) tail w =
     let e : words (n ∷ ns) ++ tail ≡ word_bytes n ++ (words ns ++ tail) = append_assoc (word_bytes n) (words ns) tail in (
       ap (λ l. word l 0) e ∙ word_first n (words ns ++ tail) w.0,
-      subst (λ l. SpellWords l 4 ns) (sym e) (SpellWords-behind (word_bytes n) (words ns ++ tail) 0 4 ns (omega (arith, length-word_bytes n)) (SpellWords-words ns tail w.1)),
+      subst (λ l. SpellWords l 4 ns) (sym e) (SpellWords-behind (word_bytes n) (words ns ++ tail) 0 4 ns (omega (arith, length-word_bytes n))
+          (SpellWords-words ns tail w.1)),
     )
 
-pub SpellWords-are : (b c : List ℕ) (at : ℕ) (ns : List ℕ) → ((k : ℕ) → k + 4 ≤ at + 4 * length ns → word c k ≡ word b k) → SpellWords b at ns → SpellWords c at ns
+pub SpellWords-are : (b c : List ℕ) (at : ℕ) (ns : List ℕ) → ((k : ℕ) → k + 4 ≤ at + 4 * length ns → word c k ≡ word b k) → SpellWords b at ns
+    → SpellWords c at ns
 SpellWords-are b c at [] f s = tt
 SpellWords-are b c at (n ∷ ns) f s = (f at (omega arith) ∙ s.0, SpellWords-are b c (at + 4) ns (λ k l. f k (omega arith)) s.1)
 
@@ -94,10 +98,14 @@ length-body b =
 
 -- a body has at most 240 bytes, and whole words
 pub body-most : (b : Body) → HasName b → (12 ≤ length (body_bytes b)) × (length (body_bytes b) ≤ 240) × (length (body_bytes b) % 4 ≡ 0)
-body-most (DataSave f) h = let l = length-body (DataSave f) in let n = length-name_bytes f.name in let s = name_short f.name h in (omega arith, omega arith, omega arith)
-body-most (DataSaveAck f) h = let l = length-body (DataSaveAck f) in let n = length-name_bytes f.name in let s = name_short f.name h in (omega arith, omega arith, omega arith)
-body-most (DataLoad f) h = let l = length-body (DataLoad f) in let n = length-name_bytes f.name in let s = name_short f.name h in (omega arith, omega arith, omega arith)
-body-most (DataLoadAck f) h = let l = length-body (DataLoadAck f) in let n = length-name_bytes f.name in let s = name_short f.name h in (omega arith, omega arith, omega arith)
+body-most (DataSave f) h =
+    let l = length-body (DataSave f) in let n = length-name_bytes f.name in let s = name_short f.name h in (omega arith, omega arith, omega arith)
+body-most (DataSaveAck f) h =
+    let l = length-body (DataSaveAck f) in let n = length-name_bytes f.name in let s = name_short f.name h in (omega arith, omega arith, omega arith)
+body-most (DataLoad f) h =
+    let l = length-body (DataLoad f) in let n = length-name_bytes f.name in let s = name_short f.name h in (omega arith, omega arith, omega arith)
+body-most (DataLoadAck f) h =
+    let l = length-body (DataLoadAck f) in let n = length-name_bytes f.name in let s = name_short f.name h in (omega arith, omega arith, omega arith)
 body-most (RamFetch buffer n) h = let l = length-body (RamFetch buffer n) in (omega arith, omega arith, omega arith)
 body-most (RamTransmit buffer n) h = let l = length-body (RamTransmit buffer n) in (omega arith, omega arith, omega arith)
 
@@ -136,7 +144,8 @@ message-are_words m f =
     (omega arith, (f.from, (f.my_ref, (f.your_ref, (action-small m.body, f.numbers)))))
 
 pub encoded-words : (m : Message) → Fits m → SpellWords (encoded m) 0 (message_words m)
-encoded-words m f = subst (λ l. SpellWords l 0 (message_words m)) (sym (encoded-whole m)) (SpellWords-words (message_words m) (tail_bytes m.body) (message-are_words m f))
+encoded-words m f =
+    subst (λ l. SpellWords l 0 (message_words m)) (sym (encoded-whole m)) (SpellWords-words (message_words m) (tail_bytes m.body) (message-are_words m f))
 
 -- what stands behind the words
 pub encoded-tail : (m : Message) (at n : ℕ) → at ≡ 20 + 4 * length (data_words m.body) → part (encoded m) at n ≡ part (tail_bytes m.body) 0 n

@@ -19,7 +19,8 @@ abbrev pub data_save : Message
 data_save = record { from = 1; my_ref = 1; your_ref = 0; body = DataSave (file 5 (codes "doc")) }
 
 abbrev pub data_save_image : List ℕ
-data_save_image = 48 ∷ 0 ∷ 0 ∷ 0 ∷ 1 ∷ 0 ∷ 0 ∷ 0 ∷ 1 ∷ 0 ∷ 0 ∷ 0 ∷ 0 ∷ 0 ∷ 0 ∷ 0 ∷ 1 ∷ 0 ∷ 0 ∷ 0 ∷ 0 ∷ 0 ∷ 0 ∷ 0 ∷ 0 ∷ 0 ∷ 0 ∷ 0 ∷ 0 ∷ 0 ∷ 0 ∷ 0 ∷ 0 ∷ 0 ∷ 0 ∷ 0 ∷ 5 ∷ 0 ∷ 0 ∷ 0 ∷ 253 ∷ 15 ∷ 0 ∷ 0 ∷ 100 ∷ 111 ∷ 99 ∷ 0 ∷ []
+data_save_image = 48 ∷ 0 ∷ 0 ∷ 0 ∷ 1 ∷ 0 ∷ 0 ∷ 0 ∷ 1 ∷ 0 ∷ 0 ∷ 0 ∷ 0 ∷ 0 ∷ 0 ∷ 0 ∷ 1 ∷ 0 ∷ 0 ∷ 0 ∷ 0 ∷ 0 ∷ 0 ∷ 0 ∷ 0 ∷ 0 ∷ 0 ∷ 0 ∷ 0 ∷ 0 ∷ 0 ∷ 0 ∷ 0 ∷ 0 ∷ 0
+    ∷ 0 ∷ 5 ∷ 0 ∷ 0 ∷ 0 ∷ 253 ∷ 15 ∷ 0 ∷ 0 ∷ 100 ∷ 111 ∷ 99 ∷ 0 ∷ []
 
 pub data_save_bytes : encoded data_save ≡ data_save_image
 unfolding messages.computing
@@ -76,7 +77,8 @@ abbrev pub data_save_ack : Message
 data_save_ack = record { from = 2; my_ref = 3; your_ref = 1; body = DataSaveAck (file 0xffffffff (codes "<Wimp$Scrap>")) }
 
 abbrev pub data_save_ack_image : List ℕ
-data_save_ack_image = 60 ∷ 0 ∷ 0 ∷ 0 ∷ 2 ∷ 0 ∷ 0 ∷ 0 ∷ 3 ∷ 0 ∷ 0 ∷ 0 ∷ 1 ∷ 0 ∷ 0 ∷ 0 ∷ 2 ∷ 0 ∷ 0 ∷ 0 ∷ 0 ∷ 0 ∷ 0 ∷ 0 ∷ 0 ∷ 0 ∷ 0 ∷ 0 ∷ 0 ∷ 0 ∷ 0 ∷ 0 ∷ 0 ∷ 0 ∷ 0 ∷ 0 ∷ 255 ∷ 255 ∷ 255 ∷ 255 ∷ 253 ∷ 15 ∷ 0 ∷ 0 ∷ 60 ∷ 87 ∷ 105 ∷ 109 ∷ 112 ∷ 36 ∷ 83 ∷ 99 ∷ 114 ∷ 97 ∷ 112 ∷ 62 ∷ 0 ∷ 0 ∷ 0 ∷ 0 ∷ []
+data_save_ack_image = 60 ∷ 0 ∷ 0 ∷ 0 ∷ 2 ∷ 0 ∷ 0 ∷ 0 ∷ 3 ∷ 0 ∷ 0 ∷ 0 ∷ 1 ∷ 0 ∷ 0 ∷ 0 ∷ 2 ∷ 0 ∷ 0 ∷ 0 ∷ 0 ∷ 0 ∷ 0 ∷ 0 ∷ 0 ∷ 0 ∷ 0 ∷ 0 ∷ 0 ∷ 0 ∷ 0 ∷ 0 ∷ 0 ∷ 0
+    ∷ 0 ∷ 0 ∷ 255 ∷ 255 ∷ 255 ∷ 255 ∷ 253 ∷ 15 ∷ 0 ∷ 0 ∷ 60 ∷ 87 ∷ 105 ∷ 109 ∷ 112 ∷ 36 ∷ 83 ∷ 99 ∷ 114 ∷ 97 ∷ 112 ∷ 62 ∷ 0 ∷ 0 ∷ 0 ∷ 0 ∷ []
 
 pub data_save_ack_bytes : encoded data_save_ack ≡ data_save_ack_image
 unfolding messages.computing

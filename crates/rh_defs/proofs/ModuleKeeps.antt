@@ -3,7 +3,8 @@ use Rattle.std.proofs.Common.{◌≡◌, ℕ, ◌+◌, ◌/◌, ◌≤◌, ◌%�
 use Rattle.std.specs.Prelude.{IfSome, ℤ, pos, negsuc}
 use borrow.Author.Tests.{ltb-false}
 use Rattle.rh_defs.specs.Pieces.{page, lacks_pages, zeros, Split}
-use Rattle.rh_defs.specs.Heap.{Heap, Segment, IsHeap, size_of, first_place, block_at, is_block_at, need, raised, claim_growing, hole_for, block_room, release, new_size, resize_need, resize_growing, way_to, segment_size, fitted, bytes_of}
+use Rattle.rh_defs.specs.Heap.{Heap, Segment, IsHeap, size_of, first_place, block_at, is_block_at, need, raised, claim_growing, hole_for, block_room, release}
+use Rattle.rh_defs.specs.Heap.{new_size, resize_need, resize_growing, way_to, segment_size, fitted, bytes_of}
 use Rattle.rh_defs.specs.Module.{FillsPages, module_claim, module_free, module_resize, module_change, changed_length}
 use Rattle.rh_defs.specs.Blocks.{poked}
 use Rattle.rh_defs.proofs.BlockLaws.{tidy-written, total-written}
@@ -24,7 +25,8 @@ pub resize_growing-end : (n : ℕ) (s : Split Segment) (h : Heap) → (resize_gr
 resize_growing-end n s h = resized_by-end (way_to (segment_size n) s h) (fitted (block_room n) (bytes_of s.here)) s (raised (resize_need n s h) h)
 
 -- a heap that grew by whole pages
-grown : (free shortage : ℕ) (old new : Heap) → FillsPages old → IsHeap new → new.end ≡ (raised shortage old).end → lacks_pages free shortage ≡ false → Fills free old new
+grown : (free shortage : ℕ) (old new : Heap) → FillsPages old → IsHeap new → new.end ≡ (raised shortage old).end → lacks_pages free shortage ≡ false
+    → Fills free old new
 grown free shortage old new is heap e room =
     let some = ltb-false _ _ room in
     record {
@@ -51,12 +53,14 @@ module_free-grants free address h is =
     granted-with _ (found_or-grants _ _ _ (block-cuts address h)) λ b cut.
     granted (kept free is (released-heap (is_block_at address) b h is.heap cut) refl)
 
-pub module_resize-grants : (free address : ℕ) (delta : ℤ) (h : Heap) → FillsPages h → OnGrant (λ (c : Heap × ℕ). Fills free h c.0) (module_resize free address delta h)
+pub module_resize-grants : (free address : ℕ) (delta : ℤ) (h : Heap) → FillsPages h
+    → OnGrant (λ (c : Heap × ℕ). Fills free h c.0) (module_resize free address delta h)
 unfolding module_resize
 module_resize-grants free address delta h is =
     granted-with _ (found_or-grants _ _ _ (block-cuts address h)) λ b cut.
     granted-unless _ _ _ λ some. granted-unless _ _ _ λ room.
-    granted (grown free (resize_need (new_size delta b) b h) h _ is (resize_growing-heap address (new_size delta b) b h is.heap cut) (resize_growing-end (new_size delta b) b h) room)
+    granted (grown free (resize_need (new_size delta b) b h) h _ is (resize_growing-heap address (new_size delta b) b h is.heap cut)
+    (resize_growing-end (new_size delta b) b h) room)
 
 pub changed-whole : (n : ℕ) (delta : ℤ) → n % page ≡ 0 → changed_length n delta % page ≡ 0
 changed-whole n (pos by) e = omega (arith, e)

@@ -5,7 +5,10 @@ use Rattle.std.specs.Prelude.{Option, Some, None, Result, Ok, Err, ℤ}
 use Rattle.rh_defs.specs.Bytes.{SameIn}
 use Rattle.rh_defs.specs.Chain.{Granted, ◌>>=◌, found_or}
 use Rattle.rh_defs.specs.Pieces.{pages_for, lacks_pages, zeros, Split}
-use Rattle.rh_defs.specs.Heap.{Segment, Heap, Placed, as_granted, Way, Stays, Shrinks, GrowsIntoHole, GrowsAtTop, MovesToHole, MovesToTop, segment_size, block_room, bytes_of, place_after, hole_for, placed_in, fitted, way_to, resized_by, base, block_at, need, claim, claim_need, claim_growing, raised, release, release_found, new_size, resize, resize_found, resize_need, resize_growing, need_at, need_found, refusal_of}
+use Rattle.rh_defs.specs.Heap.{Segment, Heap, Placed, as_granted, Way, Stays, Shrinks, GrowsIntoHole, GrowsAtTop, MovesToHole, MovesToTop, segment_size}
+use Rattle.rh_defs.specs.Heap.{block_room, bytes_of, place_after, hole_for, placed_in, fitted, way_to, resized_by, base, block_at, need, claim, claim_need}
+use Rattle.rh_defs.specs.Heap.{claim_growing, raised, release, release_found, new_size, resize, resize_found, resize_need, resize_growing, need_at}
+use Rattle.rh_defs.specs.Heap.{need_found, refusal_of}
 use Rattle.rh_defs.specs.HeapImage.{Spells}
 use Rattle.rh_defs.specs.Module.{module_claim, module_free, module_resize, module_change, module_need_pages, changed_length, whole_pages}
 use Rattle.rh_defs.specs.declared.refusal.Refusal.{Refusal}
@@ -72,7 +75,8 @@ resized_by-end Stays bytes s h = refl
 resized_by-end Shrinks bytes s h = refl
 resized_by-end (GrowsIntoHole size rest) bytes s h = refl
 resized_by-end GrowsAtTop bytes s h = refl
-resized_by-end (MovesToHole hole) bytes s h = let there = (placed_in bytes h (Some hole)).heap in release_found-end (block_at (place_after s.before + 4) there) there
+resized_by-end (MovesToHole hole) bytes s h =
+    let there = (placed_in bytes h (Some hole)).heap in release_found-end (block_at (place_after s.before + 4) there) there
 resized_by-end MovesToTop bytes s h = let there = (placed_in bytes h None).heap in release_found-end (block_at (place_after s.before + 4) there) there
 
 -- ---- claims, by what the heap's need was answered to be
@@ -98,15 +102,18 @@ module_claim-short free k n h e l =
     let w = could_need k n h e in
     refuse_if-false (eqb n 0) BadSize _ w.0 ∙ refuse_if-true (lacks_pages free (need n h)) NoRoom _ (lacking free (need n h) (rw (sym w.2) l))
 
-pub module_claim-grows : (free k n : ℕ) (h : Heap) → Ok k ≡ claim_need n h → pages_for k ≤ free → Grows (raised k h).end (claim n (raised k h)) (module_claim free n h)
+pub module_claim-grows : (free k n : ℕ) (h : Heap) → Ok k ≡ claim_need n h → pages_for k ≤ free
+    → Grows (raised k h).end (claim n (raised k h)) (module_claim free n h)
 unfolding module_claim
 module_claim-grows free k n h e l =
     let w = could_need k n h e in
     record {
       placed = claim_growing n h;
       called_is = ap (λ i. claim n (raised i h)) w.2 ∙ claim-raised n h w.1;
-      granted_is = refuse_if-false (eqb n 0) BadSize _ w.0 ∙ refuse_if-false (lacks_pages free (need n h)) NoRoom _ (sufficing free (need n h) (rw (sym w.2) l));
-      end_is = let g = raised (need n h) h in let bytes = zeros (block_room n) in placed_in-end bytes g (hole_for (4 + length bytes) g.segments) ∙ ap (λ i. (raised i h).end) (sym w.2);
+      granted_is = refuse_if-false (eqb n 0) BadSize _ w.0
+          ∙ refuse_if-false (lacks_pages free (need n h)) NoRoom _ (sufficing free (need n h) (rw (sym w.2) l));
+      end_is = let g = raised (need n h) h in let bytes =
+          zeros (block_room n) in placed_in-end bytes g (hole_for (4 + length bytes) g.segments) ∙ ap (λ i. (raised i h).end) (sym w.2);
     }
 
 pub module_need_pages-zero : (n : ℕ) (h : Heap) (refusal : HeapRefusal) → Err refusal ≡ claim_need n h → module_need_pages n h ≡ Err (refusal_of refusal)
@@ -144,11 +151,13 @@ could_resize k address delta h e = go (block_at address h) refl
         let here : Ok k ≡ need_found delta (Some b) h = e ∙ ap (λ o. need_found delta o h) eo in
         elim (eqb_tells (new_size delta b) 0) [
           | inl u ↦ let bad : Ok k ≡ Err heap_refusal.BadSize = here ∙ cond_true (eqb (new_size delta b) 0) _ _ u.0 in absurd cc
-          | inr v ↦ let good : ◌≡◌ {A = Result ℕ HeapRefusal} (Ok k) (Ok (resize_need (new_size delta b) b h)) = here ∙ cond_false (eqb (new_size delta b) 0) _ _ v.0 in
+          | inr v ↦ let good : ◌≡◌ {A = Result ℕ HeapRefusal} (Ok k) (Ok (resize_need (new_size delta b) b h)) =
+              here ∙ cond_false (eqb (new_size delta b) 0) _ _ v.0 in
               record { block = b; found = eo; left = v.0; need_is = cc }
         ]
 
-pub module_resize-refused : (free address : ℕ) (delta : ℤ) (h : Heap) (refusal : HeapRefusal) → Err refusal ≡ need_at address delta h → module_resize free address delta h ≡ Err (refusal_of refusal)
+pub module_resize-refused : (free address : ℕ) (delta : ℤ) (h : Heap) (refusal : HeapRefusal) → Err refusal ≡ need_at address delta h
+    → module_resize free address delta h ≡ Err (refusal_of refusal)
 unfolding module_resize
 module_resize-refused free address delta h refusal e = go (block_at address h) refl
   where
@@ -166,7 +175,8 @@ module_resize-refused free address delta h refusal e = go (block_at address h) r
           | inr v ↦ let good : Err refusal ≡ Ok (resize_need (new_size delta b) b h) = here ∙ cond_false (eqb (new_size delta b) 0) _ _ v.0 in absurd cc
         ]
 
-pub module_resize-short : (free k address : ℕ) (delta : ℤ) (h : Heap) → Ok k ≡ need_at address delta h → free < pages_for k → module_resize free address delta h ≡ Err NoRoom
+pub module_resize-short : (free k address : ℕ) (delta : ℤ) (h : Heap) → Ok k ≡ need_at address delta h → free < pages_for k
+    → module_resize free address delta h ≡ Err NoRoom
 unfolding module_resize
 module_resize-short free k address delta h e l =
     let w = could_resize k address delta h e in
@@ -174,7 +184,8 @@ module_resize-short free k address delta h e l =
     found (block_at address h) w.block NotABlock _ w.found ∙ refuse_if-false (eqb n 0) BadSize _ w.left
     ∙ refuse_if-true (lacks_pages free (resize_need n w.block h)) NoRoom _ (lacking free (resize_need n w.block h) (rw (sym w.need_is) l))
 
-pub module_resize-grows : (free k address : ℕ) (delta : ℤ) (h : Heap) → Ok k ≡ need_at address delta h → pages_for k ≤ free → Grows (raised k h).end (resize address delta (raised k h)) (module_resize free address delta h)
+pub module_resize-grows : (free k address : ℕ) (delta : ℤ) (h : Heap) → Ok k ≡ need_at address delta h → pages_for k ≤ free
+    → Grows (raised k h).end (resize address delta (raised k h)) (module_resize free address delta h)
 unfolding module_resize
 module_resize-grows free k address delta h e l =
     let w = could_resize k address delta h e in
@@ -183,19 +194,23 @@ module_resize-grows free k address delta h e l =
     record {
       placed = resize_growing n w.block h;
       called_is = ap (λ i. resize address delta (raised i h)) w.need_is ∙ ap (λ o. resize_found delta o g) w.found
-          ∙ cond_false (eqb n 0) _ _ w.left ∙ cond_true (eqb (resize_need n w.block g) 0) _ _ (eqb_same (resize_need n w.block g) 0 (resize_need-raised n w.block h))
+          ∙ cond_false (eqb n 0) _ _ w.left
+          ∙ cond_true (eqb (resize_need n w.block g) 0) _ _ (eqb_same (resize_need n w.block g) 0 (resize_need-raised n w.block h))
           ∙ ap (λ p. Ok (as_granted p)) (resize-raised n w.block h);
       granted_is = found (block_at address h) w.block NotABlock _ w.found ∙ refuse_if-false (eqb n 0) BadSize _ w.left
           ∙ refuse_if-false (lacks_pages free (resize_need n w.block h)) NoRoom _ (sufficing free (resize_need n w.block h) (rw (sym w.need_is) l));
-      end_is = resized_by-end (way_to (segment_size n) w.block h) (fitted (block_room n) (bytes_of w.block.here)) w.block g ∙ ap (λ i. (raised i h).end) (sym w.need_is);
+      end_is = resized_by-end (way_to (segment_size n) w.block h) (fitted (block_room n) (bytes_of w.block.here)) w.block g
+          ∙ ap (λ i. (raised i h).end) (sym w.need_is);
     }
 
 -- ---- changes of the length
 pub module_change-low : (free : ℕ) (delta : ℤ) (h : Heap) → changed_length h.end delta < base h → module_change free delta h ≡ Err ExcessiveShrink
 unfolding module_change
-module_change-low free delta h l = refuse_if-true (ltb (changed_length h.end delta) (base h)) ExcessiveShrink _ (ltb_yes (changed_length h.end delta) (base h) l)
+module_change-low free delta h l =
+    refuse_if-true (ltb (changed_length h.end delta) (base h)) ExcessiveShrink _ (ltb_yes (changed_length h.end delta) (base h) l)
 
-pub module_change-short : (free : ℕ) (delta : ℤ) (h : Heap) → base h ≤ changed_length h.end delta → free < pages_for (changed_length h.end delta - h.end) → module_change free delta h ≡ Err NoRoom
+pub module_change-short : (free : ℕ) (delta : ℤ) (h : Heap) → base h ≤ changed_length h.end delta → free < pages_for (changed_length h.end delta - h.end)
+    → module_change free delta h ≡ Err NoRoom
 unfolding module_change
 module_change-short free delta h b l =
     refuse_if-false (ltb (changed_length h.end delta) (base h)) ExcessiveShrink _ (ltb_no (changed_length h.end delta) (base h) b)

@@ -24,10 +24,12 @@ use Rattle.rh_defs.specs.Slot.{Flex}
 use Rattle.rh_defs.specs.Messages.{Parcel}
 use Rattle.rh_defs.specs.Post.{Post, post_join}
 use Rattle.rh_defs.specs.Desk.{Desk, Task, Scrap, free_pages, named, with_task, with_post, kept_scrap, with_delivered, send_letter}
-use Rattle.rh_defs.specs.Commands.{Answer, start_task, kill, alloc, load, put, free, extend, mid, claim, release, resize, budge, module_area, module_start, change_module, change_pages, change_made, change_area, make, remove, own_block, rma_claim, rma_free, rma_resize}
+use Rattle.rh_defs.specs.Commands.{Answer, start_task, kill, alloc, load, put, free, extend, mid, claim, release, resize, budge, module_area, module_start}
+use Rattle.rh_defs.specs.Commands.{change_module, change_pages, change_made, change_area, make, remove, own_block, rma_claim, rma_free, rma_resize}
 use Rattle.rh_defs.specs.Questions.{asked}
 use Rattle.rh_defs.specs.OutgoingEvents.{Handled, transmit, refused, answer_fetch, fail_sending, save_scrap, answer_ack, finish_load}
-use Rattle.rh_defs.specs.IncomingEvents.{ended, accept, take_save, appended, fetch_more, took, is_uncountable, take_bytes, ask, fetch_back, ack_back, loaded, load_file, take_file}
+use Rattle.rh_defs.specs.IncomingEvents.{ended, accept, take_save, appended, fetch_more, took, is_uncountable, take_bytes, ask, fetch_back, ack_back, loaded}
+use Rattle.rh_defs.specs.IncomingEvents.{load_file, take_file}
 use Rattle.rh_defs.specs.Transfer.{came, came_back, handled}
 use Rattle.rh_defs.specs.Step.{save, repeat, event, poll_taken, poll, cancel_in, cancel_out, change, step}
 use Rattle.rh_defs.specs.Order.{SameForEach, requeued, with_queue, IsReordered, StepsAlike, IgnoresOrder}
@@ -44,14 +46,16 @@ pub data Alike {B : Type 0} : Desk × B → Desk × B → Type 0 where
   alike : (d : Desk) (queue : List Parcel) (x : B) → SameForEach d.post.queued queue → Alike (d, x) (with_queue queue d, x)
 
 -- chains that go on from two such desks
-follows-desk : {B : Type 0} {R : B → B → Type 0} {first second : Granted Desk} (next other : Desk → Granted B) → Follows DeskAlike first second → ((d : Desk) (queue : List Parcel) → SameForEach d.post.queued queue → Follows R (next d) (other (with_queue queue d)))
+follows-desk : {B : Type 0} {R : B → B → Type 0} {first second : Granted Desk} (next other : Desk → Granted B) → Follows DeskAlike first second
+    → ((d : Desk) (queue : List Parcel) → SameForEach d.post.queued queue → Follows R (next d) (other (with_queue queue d)))
     → Follows R (first >>= next) (second >>= other)
 follows-desk {R = R} next other pair h = follows-with next other pair λ x y a. go x y a
   where
     go : (x y : Desk) → DeskAlike x y → Follows R (next x) (other y)
     go _ _ (DeskAlike.alike d queue same) = h d queue same
 
-send_letter-alike : (l : Letter) (d : Desk) (queue : List Parcel) → SameForEach d.post.queued queue → Follows DeskAlike (send_letter l d) (send_letter l (with_queue queue d))
+send_letter-alike : (l : Letter) (d : Desk) (queue : List Parcel) → SameForEach d.post.queued queue
+    → Follows DeskAlike (send_letter l d) (send_letter l (with_queue queue d))
 unfolding send_letter with_task
 send_letter-alike l d queue same = follows-with _ _ (post_send-alike (free_pages d) l d.post queue same) λ x y a. go x y a
   where
@@ -64,7 +68,8 @@ send_letter-alike l d queue same = follows-with _ _ (post_send-alike (free_pages
 -- ---- the sender
 
 module _ (d : Desk) (queue : List Parcel) (same : SameForEach d.post.queued queue) where
-  transmit-alike : (t : Task) (m : Parcel) (buffer amount : ℕ) (x : Sending) (source : Split Flex) → Follows Alike (transmit d t m buffer amount x source) (transmit (with_queue queue d) t m buffer amount x source)
+  transmit-alike : (t : Task) (m : Parcel) (buffer amount : ℕ) (x : Sending) (source : Split Flex)
+      → Follows Alike (transmit d t m buffer amount x source) (transmit (with_queue queue d) t m buffer amount x source)
   unfolding transmit with_task
   transmit-alike t m buffer amount x source =
       follows-same _ _ _ λ r. follows-then _ _ _ (follows-desk _ _ (send_letter-alike _ d queue same) λ sent q s. Follows.both (Alike.alike _ q _ s))
@@ -73,7 +78,8 @@ module _ (d : Desk) (queue : List Parcel) (same : SameForEach d.post.queued queu
   unfolding with_task
   refused-alike t x refusal = Alike.alike _ queue _ same
 
-  answer_fetch-alike : (t : Task) (m : Parcel) (buffer amount : ℕ) (o : Option Sending) → Alike (answer_fetch d t m buffer amount o) (answer_fetch (with_queue queue d) t m buffer amount o)
+  answer_fetch-alike : (t : Task) (m : Parcel) (buffer amount : ℕ) (o : Option Sending)
+      → Alike (answer_fetch d t m buffer amount o) (answer_fetch (with_queue queue d) t m buffer amount o)
   unfolding answer_fetch
   answer_fetch-alike t m buffer amount None = Alike.alike d queue _ same
   answer_fetch-alike t m buffer amount (Some x) =
@@ -84,7 +90,8 @@ module _ (d : Desk) (queue : List Parcel) (same : SameForEach d.post.queued queu
   fail_sending-alike t None = Alike.alike d queue _ same
   fail_sending-alike t (Some x) = Alike.alike _ queue _ same
 
-  save_scrap-alike : (t : Task) (m : Parcel) (x : Sending) (source : Split Flex) → Follows Alike (save_scrap d t m x source) (save_scrap (with_queue queue d) t m x source)
+  save_scrap-alike : (t : Task) (m : Parcel) (x : Sending) (source : Split Flex)
+      → Follows Alike (save_scrap d t m x source) (save_scrap (with_queue queue d) t m x source)
   unfolding save_scrap with_task
   save_scrap-alike t m x source =
       follows-then _ _ _ (follows-as _ _ _ _ (sendable-same _ d.post queue same) (follows-then _ _ _
@@ -130,7 +137,8 @@ module _ (d : Desk) (queue : List Parcel) (same : SameForEach d.post.queued queu
       chosen-both Alike (nat_lt n t.buffer) _ _ _ _ (Alike.alike _ queue _ same)
       (or_else-follows Alike _ _ (fetch_more-alike t m f n) (λ refusal. Alike.alike _ queue _ same))
 
-take_bytes-alike : (d : Desk) (queue : List Parcel) (t : Task) (m : Parcel) (n : ℕ) (o : Option Incoming) → SameForEach d.post.queued queue → Alike (take_bytes d t m n o) (take_bytes (with_queue queue d) t m n o)
+take_bytes-alike : (d : Desk) (queue : List Parcel) (t : Task) (m : Parcel) (n : ℕ) (o : Option Incoming) → SameForEach d.post.queued queue
+    → Alike (take_bytes d t m n o) (take_bytes (with_queue queue d) t m n o)
 unfolding take_bytes ended with_task
 take_bytes-alike d queue t m n None same = Alike.alike d queue _ same
 take_bytes-alike d queue t m n (Some (incoming.Fetching f)) same =
@@ -143,32 +151,38 @@ take_bytes-alike d queue t m n (Some (incoming.Asking q)) same = Alike.alike d q
 take_bytes-alike d queue t m n (Some (incoming.Done id anchor count)) same = Alike.alike d queue _ same
 take_bytes-alike d queue t m n (Some (incoming.Failed id anchor count)) same = Alike.alike d queue _ same
 
-ask-alike : (d : Desk) (queue : List Parcel) (t : Task) (f : Taking) → SameForEach d.post.queued queue → Follows Alike (ask d t f) (ask (with_queue queue d) t f)
+ask-alike : (d : Desk) (queue : List Parcel) (t : Task) (f : Taking) → SameForEach d.post.queued queue
+    → Follows Alike (ask d t f) (ask (with_queue queue d) t f)
 unfolding ask ended with_task
 ask-alike d queue t f same = follows-desk _ _ (send_letter-alike _ d queue same) λ sent q s. Follows.both (Alike.alike _ q _ s)
 
-fetch_back-alike : (d : Desk) (queue : List Parcel) (t : Task) (o : Option Incoming) → SameForEach d.post.queued queue → Alike (fetch_back d t o) (fetch_back (with_queue queue d) t o)
+fetch_back-alike : (d : Desk) (queue : List Parcel) (t : Task) (o : Option Incoming) → SameForEach d.post.queued queue
+    → Alike (fetch_back d t o) (fetch_back (with_queue queue d) t o)
 unfolding fetch_back ended with_task
 fetch_back-alike d queue t None same = Alike.alike d queue _ same
 fetch_back-alike d queue t (Some (incoming.Fetching f)) same =
-    chosen-both Alike (f.count == 0) _ _ _ _ (or_else-follows Alike _ _ (ask-alike d queue t f same) (λ refusal. Alike.alike _ queue _ same)) (Alike.alike _ queue _ same)
+    chosen-both Alike (f.count == 0) _ _ _ _ (or_else-follows Alike _ _ (ask-alike d queue t f same) (λ refusal. Alike.alike _ queue _ same))
+    (Alike.alike _ queue _ same)
 fetch_back-alike d queue t (Some (incoming.Draining f)) same = Alike.alike _ queue _ same
 fetch_back-alike d queue t (Some (incoming.Asking q)) same = Alike.alike d queue _ same
 fetch_back-alike d queue t (Some (incoming.Done id anchor count)) same = Alike.alike d queue _ same
 fetch_back-alike d queue t (Some (incoming.Failed id anchor count)) same = Alike.alike d queue _ same
 
-ack_back-alike : (d : Desk) (queue : List Parcel) (t : Task) (o : Option Asked) → SameForEach d.post.queued queue → Alike (ack_back d t o) (ack_back (with_queue queue d) t o)
+ack_back-alike : (d : Desk) (queue : List Parcel) (t : Task) (o : Option Asked) → SameForEach d.post.queued queue
+    → Alike (ack_back d t o) (ack_back (with_queue queue d) t o)
 unfolding ack_back with_task
 ack_back-alike d queue t None same = Alike.alike d queue _ same
 ack_back-alike d queue t (Some q) same = Alike.alike _ queue _ same
 
-loaded-alike : (d : Desk) (queue : List Parcel) (t : Task) (m : Parcel) (q : Asked) (n : ℕ) → SameForEach d.post.queued queue → Alike (loaded d t m q n) (loaded (with_queue queue d) t m q n)
+loaded-alike : (d : Desk) (queue : List Parcel) (t : Task) (m : Parcel) (q : Asked) (n : ℕ) → SameForEach d.post.queued queue
+    → Alike (loaded d t m q n) (loaded (with_queue queue d) t m q n)
 unfolding loaded with_task
 loaded-alike d queue t m q n same =
     or_else-follows Alike _ _ (follows-desk _ _ (send_letter-alike _ d queue same) λ sent q' s. Follows.both (Alike.alike _ q' _ s))
     (λ refusal. Alike.alike _ queue _ same)
 
-load_file-alike : (d : Desk) (queue : List Parcel) (t : Task) (m : Parcel) (q : Asked) (o : Option Scrap) → SameForEach d.post.queued queue → Alike (load_file d t m q o) (load_file (with_queue queue d) t m q o)
+load_file-alike : (d : Desk) (queue : List Parcel) (t : Task) (m : Parcel) (q : Asked) (o : Option Scrap) → SameForEach d.post.queued queue
+    → Alike (load_file d t m q o) (load_file (with_queue queue d) t m q o)
 unfolding load_file with_task
 load_file-alike d queue t m q None same = Alike.alike d queue _ same
 load_file-alike d queue t m q (Some file) same =
@@ -179,14 +193,16 @@ load_file-alike d queue t m q (Some file) same =
     (λ refusal. Alike.alike _ queue _ same))
     (Alike.alike d queue _ same)
 
-take_file-alike : (d : Desk) (queue : List Parcel) (t : Task) (m : Parcel) (o : Option Asked) → SameForEach d.post.queued queue → Alike (take_file d t m o) (take_file (with_queue queue d) t m o)
+take_file-alike : (d : Desk) (queue : List Parcel) (t : Task) (m : Parcel) (o : Option Asked) → SameForEach d.post.queued queue
+    → Alike (take_file d t m o) (take_file (with_queue queue d) t m o)
 unfolding take_file
 take_file-alike d queue t m None same = Alike.alike d queue _ same
 take_file-alike d queue t m (Some q) same = load_file-alike d queue t m q d.scrap same
 
 -- ---- one message
 
-came-alike : (d : Desk) (queue : List Parcel) (t : Task) (m : Parcel) (body : Body) → SameForEach d.post.queued queue → Alike (came d t m body) (came (with_queue queue d) t m body)
+came-alike : (d : Desk) (queue : List Parcel) (t : Task) (m : Parcel) (body : Body) → SameForEach d.post.queued queue
+    → Alike (came d t m body) (came (with_queue queue d) t m body)
 unfolding came
 came-alike d queue t m (DataSave file) same = take_save-alike d queue same t m
 came-alike d queue t m (DataSaveAck file) same = answer_ack-alike d queue same t m _
@@ -196,7 +212,8 @@ came-alike d queue t m (RamFetch buffer amount) same =
     chosen-both Alike _ _ _ _ _ (Alike.alike d queue _ same) (answer_fetch-alike d queue same t m buffer amount _)
 came-alike d queue t m (RamTransmit buffer n) same = take_bytes-alike d queue t m n _ same
 
-came_back-alike : (d : Desk) (queue : List Parcel) (t : Task) (m : Parcel) (body : Body) → SameForEach d.post.queued queue → Alike (came_back d t m body) (came_back (with_queue queue d) t m body)
+came_back-alike : (d : Desk) (queue : List Parcel) (t : Task) (m : Parcel) (body : Body) → SameForEach d.post.queued queue
+    → Alike (came_back d t m body) (came_back (with_queue queue d) t m body)
 unfolding came_back
 came_back-alike d queue t m (DataSave file) same = fail_sending-alike d queue same t _
 came_back-alike d queue t m (DataSaveAck file) same = ack_back-alike d queue t _ same
@@ -205,7 +222,8 @@ came_back-alike d queue t m (DataLoadAck file) same = Alike.alike d queue _ same
 came_back-alike d queue t m (RamFetch buffer amount) same = fetch_back-alike d queue t _ same
 came_back-alike d queue t m (RamTransmit buffer n) same = fail_sending-alike d queue same t _
 
-pub handled-alike : (d : Desk) (queue : List Parcel) (t : Task) (m : Parcel) (code : EventCode) → SameForEach d.post.queued queue → Alike (handled d t m code) (handled (with_queue queue d) t m code)
+pub handled-alike : (d : Desk) (queue : List Parcel) (t : Task) (m : Parcel) (code : EventCode) → SameForEach d.post.queued queue
+    → Alike (handled d t m code) (handled (with_queue queue d) t m code)
 unfolding handled
 handled-alike d queue t m User same = came-alike d queue t m m.message.body same
 handled-alike d queue t m Recorded same = came-alike d queue t m m.message.body same
@@ -216,7 +234,8 @@ handled-alike d queue t m Acknowledge same = came_back-alike d queue t m m.messa
 delivered-alike : (d : Desk) (queue : List Parcel) {a b : Post} → PostAlike a b → DeskAlike (with_delivered a d) (with_delivered b (with_queue queue d))
 unfolding with_delivered
 delivered-alike d queue (PostAlike.alike post q s) =
-    subst (λ (scrap : Option Scrap). DeskAlike (record d { post = post; scrap = kept_scrap post d.scrap }) (record d { post = requeued q post; scrap = scrap })) (sym (kept d.scrap))
+    subst (λ (scrap : Option Scrap). DeskAlike (record d { post = post; scrap = kept_scrap post d.scrap })
+    (record d { post = requeued q post; scrap = scrap })) (sym (kept d.scrap))
     (DeskAlike.alike (record d { post = post; scrap = kept_scrap post d.scrap }) q s)
   where
     kept : (o : Option Scrap) → kept_scrap (requeued q post) o ≡ kept_scrap post o
@@ -231,7 +250,8 @@ unfolding poll_taken
 poll_taken-alike t None (DeskAlike.alike d queue same) = Alike.alike d queue _ same
 poll_taken-alike t (Some m) (DeskAlike.alike d queue same) = event-alike m (handled-alike d queue t m m.code same)
 
-polled-alike : (d : Desk) (queue : List Parcel) (t : Task) {x y : Post × Option Parcel} → AnswerAlike x y → Alike (poll_taken (with_delivered x.0 d) t x.1) (poll_taken (with_delivered y.0 (with_queue queue d)) t y.1)
+polled-alike : (d : Desk) (queue : List Parcel) (t : Task) {x y : Post × Option Parcel} → AnswerAlike x y
+    → Alike (poll_taken (with_delivered x.0 d) t x.1) (poll_taken (with_delivered y.0 (with_queue queue d)) t y.1)
 polled-alike d queue t (AnswerAlike.alike post q o s) = poll_taken-alike t o (delivered-alike d queue (PostAlike.alike post q s))
 
 killed-alike : {B : Type 0} (tasks : List Task) (x : B) {a b : Desk} → DeskAlike a b → Alike (record a { tasks = tasks }, x) (record b { tasks = tasks }, x)
@@ -269,7 +289,8 @@ module _ (d : Desk) (queue : List Parcel) (same : SameForEach d.post.queued queu
 
   -- ---- slots and records
 
-  start_task-alike : (name : List ℕ) (buffer : ℕ) (manner : Manner) → Follows Alike (start_task d name buffer manner) (start_task (with_queue queue d) name buffer manner)
+  start_task-alike : (name : List ℕ) (buffer : ℕ) (manner : Manner)
+      → Follows Alike (start_task d name buffer manner) (start_task (with_queue queue d) name buffer manner)
   unfolding start_task post_join
   start_task-alike name buffer manner =
       follows-then _ _ _ (follows-then _ _ _ (follows-then _ _ _ (follows-same _ _ _ λ s. Follows.both (Alike.alike _ queue _ same))))
@@ -280,7 +301,8 @@ module _ (d : Desk) (queue : List Parcel) (same : SameForEach d.post.queued queu
 
   load-alike : (name : List ℕ) (k : ℕ) (file : List ℕ) → Follows Alike (load d name k file) (load (with_queue queue d) name k file)
   unfolding load named with_task
-  load-alike name k file = follows-same _ _ _ λ t. follows-same _ _ _ λ entry. follows-same _ _ _ λ p. follows-same _ _ _ λ s. Follows.both (Alike.alike _ queue _ same)
+  load-alike name k file =
+      follows-same _ _ _ λ t. follows-same _ _ _ λ entry. follows-same _ _ _ λ p. follows-same _ _ _ λ s. Follows.both (Alike.alike _ queue _ same)
 
   put-alike : (name : List ℕ) (k offset : ℕ) (bytes : List ℕ) → Follows Alike (put d name k offset bytes) (put (with_queue queue d) name k offset bytes)
   unfolding put named with_task

@@ -12,7 +12,9 @@ use Rattle.rh_defs.specs.Heap.{Heap}
 use Rattle.rh_defs.specs.Module.{module_claim}
 use Rattle.rh_defs.specs.Blocks.{poked}
 use Rattle.rh_defs.specs.Messages.{Parcel, is_recorded, parcel_bytes, parcel_size}
-use Rattle.rh_defs.specs.Post.{Seat, Post, most_messages, has_seat, held_by, with_held, count_held, holds_such, has_message, post_is_message, post_is_live, answers_held, put_down, queued_in, posted, message_of, parcel_of, sendable, post_send, as_returned, without_block, bounced, bounce_held, behind_first, first_for, held_or_released, taken_from, taken, post_poll, bounce_all, post_death}
+use Rattle.rh_defs.specs.Post.{Seat, Post, most_messages, has_seat, held_by, with_held, count_held, holds_such, has_message, post_is_message, post_is_live}
+use Rattle.rh_defs.specs.Post.{answers_held, put_down, queued_in, posted, message_of, parcel_of, sendable, post_send, as_returned, without_block, bounced}
+use Rattle.rh_defs.specs.Post.{bounce_held, behind_first, first_for, held_or_released, taken_from, taken, post_poll, bounce_all, post_death}
 use Rattle.rh_defs.specs.Order.{is_to, SameForEach, requeued}
 use Rattle.rh_defs.proofs.Follows.{Follows, follows-same, follows-as}
 
@@ -44,7 +46,8 @@ first_for-takes h (p ∷ queue) = go (p.to == h) refl (first_for h queue) (first
     other k e ne true f = absurd (ne (sym (eqb-true p.to k f) ∙ e))
     other k e ne false f = refl
 
-    go : (b : Bool) → (p.to == h) ≡ b → (o : Option (Parcel × List Parcel)) → Takes h queue o → Takes h (p ∷ queue) (cond b (Some (p, queue)) (behind_first p o))
+    go : (b : Bool) → (p.to == h) ≡ b → (o : Option (Parcel × List Parcel)) → Takes h queue o
+        → Takes h (p ∷ queue) (cond b (Some (p, queue)) (behind_first p o))
     go true e o takes = (rw e refl, λ k ne. other k (eqb-true p.to h e) ne (p.to == k) refl)
     go false e None takes = rw e takes
     go false e (Some t) takes = (rw e takes.0, λ k ne. past k t.1 (takes.1 k ne))
@@ -57,7 +60,8 @@ data TakeAlike : Option (Parcel × List Parcel) → Option (Parcel × List Parce
 take-alike : (h : ℕ) (xs ys : List Parcel) → SameForEach xs ys → TakeAlike (first_for h xs) (first_for h ys)
 take-alike h xs ys same = go (first_for h xs) (first_for h ys) (first_for-takes h xs) (first_for-takes h ys)
   where
-    each : (rest other : List Parcel) → ((k : ℕ) → k ≢ h → filter (is_to k) xs ≡ filter (is_to k) rest) → ((k : ℕ) → k ≢ h → filter (is_to k) ys ≡ filter (is_to k) other)
+    each : (rest other : List Parcel) → ((k : ℕ) → k ≢ h → filter (is_to k) xs ≡ filter (is_to k) rest)
+        → ((k : ℕ) → k ≢ h → filter (is_to k) ys ≡ filter (is_to k) other)
         → filter (is_to h) rest ≡ filter (is_to h) other → (k : ℕ) (b : Bool) → (k == h) ≡ b → filter (is_to k) rest ≡ filter (is_to k) other
     each rest other f g here k true e = subst (λ j. filter (is_to j) rest ≡ filter (is_to j) other) (sym (eqb-true k h e)) here
     each rest other f g here k false e = sym (f k (eqb-false k h e)) ∙ same.each k ∙ g k (eqb-false k h e)
@@ -81,7 +85,8 @@ own-first : (p : Parcel) (xs : List Parcel) → first_for p.to (p ∷ xs) ≡ So
 own-first p xs = ap (λ b. cond b (Some (p, xs)) (behind_first p (first_for p.to xs))) (equal p.to)
 
 -- what is added up over a queue, in whatever order
-module _ {X : Type 0} (sum : List Parcel → X) (add : Parcel → X → X) (cons : (p : Parcel) (queue : List Parcel) → sum (p ∷ queue) ≡ add p (sum queue)) (swap : (p q : Parcel) (x : X) → add p (add q x) ≡ add q (add p x)) where
+module _ {X : Type 0} (sum : List Parcel → X) (add : Parcel → X → X) (cons : (p : Parcel) (queue : List Parcel) → sum (p ∷ queue) ≡ add p (sum queue))
+    (swap : (p q : Parcel) (x : X) → add p (add q x) ≡ add q (add p x)) where
   abbrev Adds : List Parcel → Option (Parcel × List Parcel) → Type 0
   Adds queue None = Unit {0}
   Adds queue (Some t) = sum queue ≡ add t.0 (sum t.1)
@@ -101,9 +106,11 @@ module _ {X : Type 0} (sum : List Parcel → X) (add : Parcel → X → X) (cons
       let empty : [] ≡ p ∷ filter (is_to p.to) ys = same.each p.to ∙ ap (λ b. cond b (p ∷ filter (is_to p.to) ys) (filter (is_to p.to) ys)) (equal p.to) in
       absurd (cc empty)
   same-sum (p ∷ xs) ys same =
-      go (first_for p.to (p ∷ xs)) (first_for p.to ys) (take-alike p.to (p ∷ xs) ys same) (own-first p xs) (first_for-adds p.to ys) (λ other s. same-sum xs other s)
+      go (first_for p.to (p ∷ xs)) (first_for p.to ys) (take-alike p.to (p ∷ xs) ys same) (own-first p xs) (first_for-adds p.to ys)
+      (λ other s. same-sum xs other s)
     where
-      go : (o o' : Option (Parcel × List Parcel)) → TakeAlike o o' → o ≡ Some (p, xs) → Adds ys o' → ((other : List Parcel) → SameForEach xs other → sum xs ≡ sum other) → sum (p ∷ xs) ≡ sum ys
+      go : (o o' : Option (Parcel × List Parcel)) → TakeAlike o o' → o ≡ Some (p, xs) → Adds ys o'
+          → ((other : List Parcel) → SameForEach xs other → sum xs ≡ sum other) → sum (p ∷ xs) ≡ sum ys
       go _ _ TakeAlike.none e adds rest = absurd cc
       go _ _ (TakeAlike.first q left other s) e adds rest =
           let pair : ◌≡◌ {A = Parcel × List Parcel} (q, left) (p, xs) = cc in
@@ -125,21 +132,25 @@ same-any test xs ys same = same-sum (list_any test) (λ p b. test p || b) (λ p 
 
 -- ---- what is asked of a post
 
-pub has_message-same : (test : Parcel → Bool) (post : Post) (queue : List Parcel) → SameForEach post.queued queue → has_message test (requeued queue post) ≡ has_message test post
+pub has_message-same : (test : Parcel → Bool) (post : Post) (queue : List Parcel) → SameForEach post.queued queue
+    → has_message test (requeued queue post) ≡ has_message test post
 has_message-same test post queue same = ap (λ b. b || list_any (λ (s : Seat). holds_such test s.holds) post.seats) (sym (same-any test post.queued queue same))
 
-pub is_live-same : (ref : ℕ) (post : Post) (queue : List Parcel) → SameForEach post.queued queue → post_is_live ref (requeued queue post) ≡ post_is_live ref post
+pub is_live-same : (ref : ℕ) (post : Post) (queue : List Parcel) → SameForEach post.queued queue
+    → post_is_live ref (requeued queue post) ≡ post_is_live ref post
 unfolding post_is_live
 is_live-same ref post queue same = has_message-same (λ (p : Parcel). p.message.my_ref == ref) post queue same
 
-pub is_message-same : (block : ℕ) (post : Post) (queue : List Parcel) → SameForEach post.queued queue → post_is_message block (requeued queue post) ≡ post_is_message block post
+pub is_message-same : (block : ℕ) (post : Post) (queue : List Parcel) → SameForEach post.queued queue
+    → post_is_message block (requeued queue post) ≡ post_is_message block post
 unfolding post_is_message
 is_message-same block post queue same = has_message-same (λ (p : Parcel). p.block == block) post queue same
 
 pub sendable-same : (l : Letter) (post : Post) (queue : List Parcel) → SameForEach post.queued queue → sendable l (requeued queue post) ≡ sendable l post
 unfolding sendable
 sendable-same l post queue same =
-    ap (λ n. refuse_if (not (has_seat l.to post.seats)) NoTask >> (refuse_if (nat_le (2 ^ 32) post.next_ref) NoRefs >> refuse_if (nat_le most_messages (n + total (λ (s : Seat). count_held s.holds) post.seats)) QueueFull))
+    ap (λ n. refuse_if (not (has_seat l.to post.seats)) NoTask >> (refuse_if (nat_le (2 ^ 32) post.next_ref) NoRefs >> refuse_if
+    (nat_le most_messages (n + total (λ (s : Seat). count_held s.holds) post.seats)) QueueFull))
     (sym (same-length post.queued queue same))
 
 -- ---- two posts
@@ -165,20 +176,24 @@ bounced-alike p post queue same = go (has_seat p.message.from post.seats)
     go true = PostAlike.alike (back post.queued) (queue ++ as_returned p ∷ []) (same-append post.queued queue (as_returned p) same)
     go false = PostAlike.alike (without_block p post) queue same
 
-bounce_held-alike : (h : ℕ) (o : Option Parcel) (post : Post) (queue : List Parcel) → SameForEach post.queued queue → PostAlike (bounce_held h o post) (bounce_held h o (requeued queue post))
+bounce_held-alike : (h : ℕ) (o : Option Parcel) (post : Post) (queue : List Parcel) → SameForEach post.queued queue
+    → PostAlike (bounce_held h o post) (bounce_held h o (requeued queue post))
 bounce_held-alike h None post queue same = PostAlike.alike post queue same
 bounce_held-alike h (Some p) post queue same = bounced-alike p (record post { seats = with_held h None post.seats }) queue same
 
 -- ---- polls
 
-held_or_released-alike : (h : ℕ) (p : Parcel) (post : Post) (queue : List Parcel) → SameForEach post.queued queue → AnswerAlike (held_or_released h p post, Some p) (held_or_released h p (requeued queue post), Some p)
+held_or_released-alike : (h : ℕ) (p : Parcel) (post : Post) (queue : List Parcel) → SameForEach post.queued queue
+    → AnswerAlike (held_or_released h p post, Some p) (held_or_released h p (requeued queue post), Some p)
 held_or_released-alike h p post queue same =
-    elim (is_recorded p.code) as (λ b. AnswerAlike (cond b (record post { seats = with_held h (Some p) post.seats }) (without_block p post), Some p) (cond b (record post { queued = queue; seats = with_held h (Some p) post.seats }) (without_block p (requeued queue post)), Some p)) [
+    elim (is_recorded p.code) as (λ b. AnswerAlike (cond b (record post { seats = with_held h (Some p) post.seats }) (without_block p post), Some p)
+    (cond b (record post { queued = queue; seats = with_held h (Some p) post.seats }) (without_block p (requeued queue post)), Some p)) [
       | true ↦ AnswerAlike.alike (record post { seats = with_held h (Some p) post.seats }) queue (Some p) same
       | false ↦ AnswerAlike.alike (without_block p post) queue (Some p) same
     ]
 
-taken_from-alike : (h : ℕ) (post : Post) (queue : List Parcel) → SameForEach post.queued queue → (o o' : Option (Parcel × List Parcel)) → TakeAlike o o' → AnswerAlike (taken_from h o post) (taken_from h o' (requeued queue post))
+taken_from-alike : (h : ℕ) (post : Post) (queue : List Parcel) → SameForEach post.queued queue → (o o' : Option (Parcel × List Parcel)) → TakeAlike o o'
+    → AnswerAlike (taken_from h o post) (taken_from h o' (requeued queue post))
 taken_from-alike h post queue same _ _ TakeAlike.none = AnswerAlike.alike post queue None same
 taken_from-alike h post queue same _ _ (TakeAlike.first p rest other s) = held_or_released-alike h p (record post { queued = rest }) other s
 
@@ -186,7 +201,8 @@ taken-alike : (h : ℕ) {a b : Post} → PostAlike a b → AnswerAlike (taken h 
 taken-alike h (PostAlike.alike post queue same) =
     taken_from-alike h post queue same (first_for h post.queued) (first_for h queue) (take-alike h post.queued queue same)
 
-pub post_poll-alike : (h : ℕ) (post : Post) (queue : List Parcel) → SameForEach post.queued queue → AnswerAlike (post_poll h post) (post_poll h (requeued queue post))
+pub post_poll-alike : (h : ℕ) (post : Post) (queue : List Parcel) → SameForEach post.queued queue
+    → AnswerAlike (post_poll h post) (post_poll h (requeued queue post))
 unfolding post_poll
 post_poll-alike h post queue same = taken-alike h (bounce_held-alike h (held_by h post.seats) post queue same)
 
@@ -196,9 +212,11 @@ bounce_all-alike : (gone : List Parcel) {a b : Post} → PostAlike a b → PostA
 bounce_all-alike [] pair = pair
 bounce_all-alike (p ∷ gone) pair = bounce_all-alike gone (one pair)
   where
-    one : {a b : Post} → PostAlike a b → PostAlike (cond (is_recorded p.code) (bounced p a) (without_block p a)) (cond (is_recorded p.code) (bounced p b) (without_block p b))
+    one : {a b : Post} → PostAlike a b
+        → PostAlike (cond (is_recorded p.code) (bounced p a) (without_block p a)) (cond (is_recorded p.code) (bounced p b) (without_block p b))
     one (PostAlike.alike post queue same) =
-        elim (is_recorded p.code) as (λ t. PostAlike (cond t (bounced p post) (without_block p post)) (cond t (bounced p (requeued queue post)) (without_block p (requeued queue post))))
+        elim (is_recorded p.code) as (λ t. PostAlike (cond t (bounced p post) (without_block p post))
+        (cond t (bounced p (requeued queue post)) (without_block p (requeued queue post))))
         [ true ↦ bounced-alike p post queue same | false ↦ PostAlike.alike (without_block p post) queue same ]
 
 -- two tests may be made in either order
@@ -206,7 +224,8 @@ filter-swap : {A : Type 0} (f g : A → Bool) (xs : List A) → filter f (filter
 filter-swap f g [] = refl
 filter-swap {A} f g (x ∷ xs) = go (f x) (g x) refl refl (filter-swap f g xs)
   where
-    go : (a b : Bool) → f x ≡ a → g x ≡ b → filter f (filter g xs) ≡ filter g (filter f xs) → filter f (cond b (x ∷ filter g xs) (filter g xs)) ≡ filter g (cond a (x ∷ filter f xs) (filter f xs))
+    go : (a b : Bool) → f x ≡ a → g x ≡ b → filter f (filter g xs) ≡ filter g (filter f xs)
+        → filter f (cond b (x ∷ filter g xs) (filter g xs)) ≡ filter g (cond a (x ∷ filter f xs) (filter f xs))
     go true true e e' h =
         ap (λ t. cond t (x ∷ filter f (filter g xs)) (filter f (filter g xs))) e ∙ ap (λ l. x ∷ l) h
         ∙ sym (ap (λ t. cond t (x ∷ filter g (filter f xs)) (filter g (filter f xs))) e')
@@ -218,7 +237,8 @@ filter-swap {A} f g (x ∷ xs) = go (f x) (g x) refl refl (filter-swap f g xs)
 filter-same : (test : Parcel → Bool) (xs ys : List Parcel) → SameForEach xs ys → SameForEach (filter test xs) (filter test ys)
 filter-same test xs ys same = record { each = λ h. filter-swap (is_to h) test xs ∙ ap (filter test) (same.each h) ∙ sym (filter-swap (is_to h) test ys) }
 
-pub post_death-alike : (h : ℕ) (post : Post) (queue : List Parcel) → SameForEach post.queued queue → PostAlike (post_death h post) (post_death h (requeued queue post))
+pub post_death-alike : (h : ℕ) (post : Post) (queue : List Parcel) → SameForEach post.queued queue
+    → PostAlike (post_death h post) (post_death h (requeued queue post))
 unfolding post_death
 post_death-alike h post queue same =
     subst (λ gone. PostAlike (post_death h post) (bounce_all gone (bounce_held h (held_by h post.seats) (requeued (others queue) base)))) (same.each h)
@@ -236,16 +256,20 @@ post_death-alike h post queue same =
 
 -- ---- sends
 
-posted-alike : (l : Letter) (there : Heap × ℕ) (post : Post) (queue : List Parcel) → SameForEach post.queued queue → AnswerAlike (posted l there post, post.next_ref) (posted l there (requeued queue post), post.next_ref)
+posted-alike : (l : Letter) (there : Heap × ℕ) (post : Post) (queue : List Parcel) → SameForEach post.queued queue
+    → AnswerAlike (posted l there post, post.next_ref) (posted l there (requeued queue post), post.next_ref)
 posted-alike l there post queue same =
     let p : Parcel = parcel_of l post.next_ref there.1 in
     let more : SameForEach (post.queued ++ p ∷ []) (queue ++ p ∷ []) = same-append post.queued queue p same in
-    elim (answers_held l.your_ref (held_by l.from post.seats)) as (λ b. AnswerAlike (cond b (put_down l.from (queued_in l there post)) (queued_in l there post), post.next_ref) (cond b (put_down l.from (queued_in l there (requeued queue post))) (queued_in l there (requeued queue post)), post.next_ref)) [
+    elim (answers_held l.your_ref (held_by l.from post.seats)) as (λ b. AnswerAlike
+    (cond b (put_down l.from (queued_in l there post)) (queued_in l there post), post.next_ref)
+    (cond b (put_down l.from (queued_in l there (requeued queue post))) (queued_in l there (requeued queue post)), post.next_ref)) [
       | true ↦ AnswerAlike.alike (put_down l.from (queued_in l there post)) (queue ++ p ∷ []) post.next_ref more
       | false ↦ AnswerAlike.alike (queued_in l there post) (queue ++ p ∷ []) post.next_ref more
     ]
 
-pub post_send-alike : (free : ℕ) (l : Letter) (post : Post) (queue : List Parcel) → SameForEach post.queued queue → Follows AnswerAlike (post_send free l post) (post_send free l (requeued queue post))
+pub post_send-alike : (free : ℕ) (l : Letter) (post : Post) (queue : List Parcel) → SameForEach post.queued queue
+    → Follows AnswerAlike (post_send free l post) (post_send free l (requeued queue post))
 unfolding post_send
 post_send-alike free l post queue same =
     follows-as (sendable l post) (sendable l (requeued queue post)) _ _ (sendable-same l post queue same)

@@ -11,7 +11,8 @@ use Rattle.rh_defs.specs.declared.message.EventCode.TheVariants.{User, Recorded,
 use Rattle.rh_defs.specs.declared.message.Message.{Message}
 use Rattle.rh_defs.proofs.BytesLaws.{length-put, put_apart, put-put, word-put_inside, part-put_inside, part-append_right, part_all}
 use Rattle.rh_defs.proofs.BlockCalls.{room_enough}
-use Rattle.rh_defs.proofs.MessageLaws.{length-word_bytes, length-words, puts_in_row, SpellWords-words, SpellWords-behind, SpellWords-are, encoded-words, length-encoded, message_words, length-body}
+use Rattle.rh_defs.proofs.MessageLaws.{length-word_bytes, length-words, puts_in_row, SpellWords-words, SpellWords-behind, SpellWords-are, encoded-words}
+use Rattle.rh_defs.proofs.MessageLaws.{length-encoded, message_words, length-body}
 
 pub code-small : (c : EventCode) → code_number c < 2 ^ 32
 code-small User = lit< tt
@@ -41,7 +42,8 @@ length-parcel_bytes link p =
 
 pub length-padded : (link : ℕ) (p : Parcel) → length (padded link p) ≡ block_room (parcel_size p.message)
 unfolding padded
-length-padded link p = length-put (zeros (block_room (parcel_size p.message))) 0 (parcel_bytes link p) ∙ length-replicate {A = ℕ} (block_room (parcel_size p.message)) 0
+length-padded link p =
+    length-put (zeros (block_room (parcel_size p.message))) 0 (parcel_bytes link p) ∙ length-replicate {A = ℕ} (block_room (parcel_size p.message)) 0
 
 pub padded-least : (link : ℕ) (p : Parcel) → 24 ≤ length (padded link p)
 padded-least link p = omega (arith, length-padded link p, room_enough (parcel_size p.message))
@@ -114,8 +116,13 @@ parcel-spelled : (link : ℕ) (p : Parcel) → link < 2 ^ 32 → Fits p.message 
 unfolding parcel_bytes
 parcel-spelled link p l f =
     let head : List ℕ = link ∷ code_number p.code ∷ [] in
-    let w = SpellWords-words head (encoded p.message) (l, (code-small p.code, tt)) in
-    (w.0, (w.1.0, SpellWords-behind (words head) (encoded p.message) 0 8 (message_words p.message) (omega (arith, length-words head)) (encoded-words p.message f)))
+    let w = SpellWords-words head (encoded p.message) (l, (code-small p.code, tt)) in (
+      w.0,
+      (
+        w.1.0,
+        SpellWords-behind (words head) (encoded p.message) 0 8 (message_words p.message) (omega (arith, length-words head)) (encoded-words p.message f),
+      ),
+    )
 
 word_in_padded : (x : ℕ) (p : Parcel) (k : ℕ) → k + 4 ≤ parcel_size p.message → word (padded x p) k ≡ word (parcel_bytes x p) k
 unfolding padded

@@ -10,7 +10,9 @@ use Rattle.rh_defs.specs.Heap.{Heap}
 use Rattle.rh_defs.specs.Module.{FillsPages}
 use Rattle.rh_defs.specs.Blocks.{poked}
 use Rattle.rh_defs.specs.Messages.{Parcel, is_recorded, parcel_bytes, parcel_size}
-use Rattle.rh_defs.specs.Post.{Seat, Post, most_messages, has_seat, held_by, with_held, count_held, live_count, post_join, answers_held, release_held, put_down, queued_in, posted, message_of, parcel_of, sendable, post_send, as_returned, without_block, bounced, bounce_held, behind_first, first_for, taken_from, post_poll, bounce_all, post_death}
+use Rattle.rh_defs.specs.Post.{Seat, Post, most_messages, has_seat, held_by, with_held, count_held, live_count, post_join, answers_held, release_held}
+use Rattle.rh_defs.specs.Post.{put_down, queued_in, posted, message_of, parcel_of, sendable, post_send, as_returned, without_block, bounced, bounce_held}
+use Rattle.rh_defs.specs.Post.{behind_first, first_for, taken_from, post_poll, bounce_all, post_death}
 use Rattle.rh_defs.specs.Laws.{IsQueued, IsHeld, HoldsOwn, IsPost, seat_handles}
 use Rattle.rh_defs.proofs.Chains.{OnGrant, granted, granted-with, granted-both, granted-past, granted-last}
 use Rattle.rh_defs.proofs.Cuts.{total-append}
@@ -33,20 +35,24 @@ module _ (h : ℕ) (held : Option Parcel) where
   pub with_held-seat : (a : ℕ) (seats : List Seat) → has_seat a (with_held h held seats) ≡ has_seat a seats
   with_held-seat a [] = refl
   with_held-seat a (s ∷ seats) =
-      elim (s.handle == h) as (λ b. has_seat a (cond b (record s { holds = held } ∷ seats) (s ∷ with_held h held seats)) ≡ cond (s.handle == a) true (has_seat a seats))
+      elim (s.handle == h) as (λ b. has_seat a (cond b (record s { holds = held } ∷ seats) (s ∷ with_held h held seats)) ≡ cond (s.handle == a) true
+      (has_seat a seats))
       [ true ↦ refl | false ↦ ap (cond (s.handle == a) true) (with_held-seat a seats) ]
 
   pub with_held-count : (seats : List Seat) → held_count (with_held h held seats) + count_held (held_by h seats) ≤ held_count seats + count_held held
   with_held-count [] = omega arith
   with_held-count (s ∷ seats) =
-      elim (s.handle == h) as (λ b. held_count (cond b (record s { holds = held } ∷ seats) (s ∷ with_held h held seats)) + count_held (cond b s.holds (held_by h seats)) ≤ (count_held s.holds + held_count seats) + count_held held)
+      elim (s.handle == h) as (λ b. held_count (cond b (record s { holds = held } ∷ seats) (s ∷ with_held h held seats)) + count_held
+      (cond b s.holds (held_by h seats)) ≤ (count_held s.holds + held_count seats) + count_held held)
       [ true ↦ omega arith | false ↦ omega (arith, with_held-count seats) ]
 
-  pub with_held-own : (next : ℕ) (seats : List Seat) → IfSome held (IsHeld next h) → AllByRecursion (HoldsOwn next) seats → AllByRecursion (HoldsOwn next) (with_held h held seats)
+  pub with_held-own : (next : ℕ) (seats : List Seat) → IfSome held (IsHeld next h) → AllByRecursion (HoldsOwn next) seats
+      → AllByRecursion (HoldsOwn next) (with_held h held seats)
   with_held-own next [] is all = tt
   with_held-own next (s ∷ seats) is all = go (s.handle == h) refl (with_held-own next seats is all.1)
     where
-      go : (b : Bool) → (s.handle == h) ≡ b → AllByRecursion (HoldsOwn next) (with_held h held seats) → AllByRecursion (HoldsOwn next) (cond b (record s { holds = held } ∷ seats) (s ∷ with_held h held seats))
+      go : (b : Bool) → (s.handle == h) ≡ b → AllByRecursion (HoldsOwn next) (with_held h held seats)
+          → AllByRecursion (HoldsOwn next) (cond b (record s { holds = held } ∷ seats) (s ∷ with_held h held seats))
       go true e rest = (subst (λ a. IfSome held (IsHeld next a)) (sym (eqb-true _ _ e)) is, all.1)
       go false e rest = (all.0, rest)
 
@@ -66,11 +72,13 @@ own-later next later seats more all = all-mono (λ s own. one s.handle s.holds o
     one h None is = tt
     one h (Some p) is = record { given = omega (arith, more, is.given); own = is.own; recorded = is.recorded }
 
-queued-later : (next later : ℕ) (seats : List Seat) (queue : List Parcel) → next ≤ later → AllByRecursion (IsQueued next seats) queue → AllByRecursion (IsQueued later seats) queue
+queued-later : (next later : ℕ) (seats : List Seat) (queue : List Parcel) → next ≤ later → AllByRecursion (IsQueued next seats) queue
+    → AllByRecursion (IsQueued later seats) queue
 queued-later next later seats queue more all = all-mono (λ p is. record { given = omega (arith, more, is.given); live = is.live }) queue all
 
 -- seats with the same handles
-queued-with_held : (h : ℕ) (held : Option Parcel) (next : ℕ) (seats : List Seat) (queue : List Parcel) → AllByRecursion (IsQueued next seats) queue → AllByRecursion (IsQueued next (with_held h held seats)) queue
+queued-with_held : (h : ℕ) (held : Option Parcel) (next : ℕ) (seats : List Seat) (queue : List Parcel) → AllByRecursion (IsQueued next seats) queue
+    → AllByRecursion (IsQueued next (with_held h held seats)) queue
 queued-with_held h held next seats queue all =
     all-mono (λ p is. record { given = is.given; live = with_held-seat h held p.to seats ∙ is.live }) queue all
 
@@ -144,7 +152,8 @@ bounced-kept spare p post given has = go (has_seat p.message.from post.seats) re
     go false e = released-kept spare p post (record { is = has.is; room = omega (arith, has.room) })
 
 -- what the task held is held no more
-unheld : (spare h : ℕ) (post : Post) → HasRoom spare post → HasRoom (spare + count_held (held_by h post.seats)) (record post { seats = with_held h None post.seats })
+unheld : (spare h : ℕ) (post : Post) → HasRoom spare post
+    → HasRoom (spare + count_held (held_by h post.seats)) (record post { seats = with_held h None post.seats })
 unheld spare h post has =
     let fewer = with_held-count h None post.seats in
     record {
@@ -159,7 +168,8 @@ unheld spare h post has =
     }
 
 -- a message that was held bounces, where there is room for it
-bounce-kept : (spare h : ℕ) (o : Option Parcel) (post : Post) → IfSome o (λ p. p.message.my_ref < post.next_ref) → HasRoom spare post → HasRoom (spare + count_held o) (record post { seats = with_held h None post.seats }) → PostKept spare post (bounce_held h o post)
+bounce-kept : (spare h : ℕ) (o : Option Parcel) (post : Post) → IfSome o (λ p. p.message.my_ref < post.next_ref) → HasRoom spare post
+    → HasRoom (spare + count_held o) (record post { seats = with_held h None post.seats }) → PostKept spare post (bounce_held h o post)
 bounce-kept spare h None post given has room = kept-same spare post has
 bounce-kept spare h (Some p) post given has room =
     let one = bounced-kept spare p (record post { seats = with_held h None post.seats }) given room in
@@ -182,12 +192,14 @@ first_for-is P h (p ∷ queue) all = go (p.to == h) refl (first_for h queue) (fi
     behind None is = tt
     behind (Some t) is = record { own = is.own; shorter = omega (arith, is.shorter); here = is.here; rest = (all.0, is.rest) }
 
-    go : (b : Bool) → (p.to == h) ≡ b → (o : Option (Parcel × List Parcel)) → IfSome o (IsFirst P h queue) → IfSome (cond b (Some (p, queue)) (behind_first p o)) (IsFirst P h (p ∷ queue))
+    go : (b : Bool) → (p.to == h) ≡ b → (o : Option (Parcel × List Parcel)) → IfSome o (IsFirst P h queue)
+        → IfSome (cond b (Some (p, queue)) (behind_first p o)) (IsFirst P h (p ∷ queue))
     go true e o is = record { own = eqb-true _ _ e; shorter = omega arith; here = all.0; rest = all.1 }
     go false e o is = behind o is
 
 -- the first message is taken: recorded it is held, else its block is released
-taken_from-kept : (h : ℕ) (o : Option (Parcel × List Parcel)) (post : Post) → HasRoom 0 post → IfSome o (IsFirst (IsQueued post.next_ref post.seats) h post.queued) → PostKept 0 post (taken_from h o post).0
+taken_from-kept : (h : ℕ) (o : Option (Parcel × List Parcel)) (post : Post) → HasRoom 0 post
+    → IfSome o (IsFirst (IsQueued post.next_ref post.seats) h post.queued) → PostKept 0 post (taken_from h o post).0
 taken_from-kept h None post has is = kept-same 0 post has
 taken_from-kept h (Some t) post has is = go (is_recorded t.0.code) refl
   where
@@ -203,7 +215,9 @@ taken_from-kept h (Some t) post has is = go (is_recorded t.0.code) refl
       room = omega (arith, has.is.few, is.shorter);
     }
 
-    go : (b : Bool) → is_recorded t.0.code ≡ b → PostKept 0 post (cond b (record post { queued = t.1; seats = with_held h (Some t.0) post.seats }) (without_block t.0 (record post { queued = t.1 })))
+    go : (b : Bool) → is_recorded t.0.code ≡ b
+        → PostKept 0 post (cond b (record post { queued = t.1; seats = with_held h (Some t.0) post.seats })
+        (without_block t.0 (record post { queued = t.1 })))
     go true e =
         let more = with_held-count h (Some t.0) post.seats in
         let own : IsHeld post.next_ref h t.0 = record { given = is.here.given; own = is.own; recorded = e } in
@@ -242,7 +256,8 @@ post_poll-kept h post is =
 
 -- ---- deaths
 
-bounce_all-kept : (spare next : ℕ) (queue : List Parcel) (post : Post) → post.next_ref ≡ next → AllByRecursion (λ p. p.message.my_ref < next) queue → HasRoom (spare + length queue) post → PostKept spare post (bounce_all queue post)
+bounce_all-kept : (spare next : ℕ) (queue : List Parcel) (post : Post) → post.next_ref ≡ next → AllByRecursion (λ p. p.message.my_ref < next) queue
+    → HasRoom (spare + length queue) post → PostKept spare post (bounce_all queue post)
 bounce_all-kept spare next [] post e given has = kept-same spare post (record { is = has.is; room = omega (arith, has.room) })
 bounce_all-kept spare next (p ∷ queue) post e given has = go (is_recorded p.code) (λ new. bounce_all-kept spare next queue new)
   where
@@ -255,8 +270,8 @@ bounce_all-kept spare next (p ∷ queue) post e given has = go (is_recorded p.co
     here : p.message.my_ref < post.next_ref
     here = omega (arith, e, given.0)
 
-    go : (b : Bool) → ((new : Post) → new.next_ref ≡ next → AllByRecursion (λ p. p.message.my_ref < next) queue → HasRoom (spare + length queue) new → PostKept spare new (bounce_all queue new))
-        → PostKept spare post (bounce_all queue (cond b (bounced p post) (without_block p post)))
+    go : (b : Bool) → ((new : Post) → new.next_ref ≡ next → AllByRecursion (λ p. p.message.my_ref < next) queue → HasRoom (spare + length queue) new
+        → PostKept spare new (bounce_all queue new)) → PostKept spare post (bounce_all queue (cond b (bounced p post) (without_block p post)))
     go true rest =
         let one = bounced-kept (spare + length queue) p post here room in
         kept-after one (rest (bounced p post) (one.next ∙ e) given.1 one.post)
@@ -272,7 +287,8 @@ module _ (h : ℕ) where
   others-count : (seats : List Seat) → held_count (filter (λ (s : Seat). not (s.handle == h)) seats) + count_held (held_by h seats) ≤ held_count seats
   others-count [] = omega arith
   others-count (s ∷ seats) =
-      elim (s.handle == h) as (λ b. held_count (cond (not b) (s ∷ filter (λ (s : Seat). not (s.handle == h)) seats) (filter (λ (s : Seat). not (s.handle == h)) seats)) + count_held (cond b s.holds (held_by h seats)) ≤ count_held s.holds + held_count seats)
+      elim (s.handle == h) as (λ b. held_count (cond (not b) (s ∷ filter (λ (s : Seat). not (s.handle == h)) seats)
+      (filter (λ (s : Seat). not (s.handle == h)) seats)) + count_held (cond b s.holds (held_by h seats)) ≤ count_held s.holds + held_count seats)
       [ true ↦ omega (arith, others-count seats) | false ↦ omega (arith, others-count seats) ]
 
   others-seat : (a : ℕ) (seats : List Seat) → (a == h) ≡ false → has_seat a seats ≡ true → has_seat a (filter (λ (s : Seat). not (s.handle == h)) seats) ≡ true
@@ -299,8 +315,14 @@ pub record PostDead (h : ℕ) (old new : Post) : Type 0 where
 pub post_death-kept : (h : ℕ) (post : Post) → IsPost post → PostDead h post (post_death h post)
 unfolding post_death
 post_death-kept h post is =
-    let first = bounce-kept (length own) h held base given less (record { is = (unheld (length own + count_held held) h base spare).is; room = (let r = (unheld (length own + count_held held) h base spare).room in omega (arith, r)) }) in
-    let all = bounce_all-kept 0 post.next_ref own (bounce_held h held base) first.next owned (record { is = first.post.is; room = omega (arith, first.post.room) }) in
+    let first =
+    bounce-kept (length own) h held base given less
+    (record {
+      is = (unheld (length own + count_held held) h base spare).is;
+      room = (let r = (unheld (length own + count_held held) h base spare).room in omega (arith, r));
+    }) in
+    let all = bounce_all-kept 0 post.next_ref own (bounce_held h held base) first.next owned
+    (record { is = first.post.is; room = omega (arith, first.post.room) }) in
     record {
       end = all.end ∙ first.end;
       handles = all.handles ∙ first.handles ∙ map-filter (λ (s : Seat). s.handle) (λ a. not (a == h)) post.seats;
@@ -378,7 +400,8 @@ sendable-grants l post =
     is_live true e = refl
     is_live false e = absurd cc
 
-queued_in-sent : (free : ℕ) (l : Letter) (there : Heap × ℕ) (post : Post) → IsPost post → IsSendable l post → Fills free post.heap there.0 → PostSent free post (queued_in l there post)
+queued_in-sent : (free : ℕ) (l : Letter) (there : Heap × ℕ) (post : Post) → IsPost post → IsSendable l post → Fills free post.heap there.0
+    → PostSent free post (queued_in l there post)
 queued_in-sent free l there post is can fills =
     let p : Parcel = parcel_of l post.next_ref there.1 in
     let longer = length-append post.queued (p ∷ []) in
@@ -417,10 +440,12 @@ put_down-sent free h old post sent =
     release_held-kept None heap is = (is, refl)
     release_held-kept (Some p) heap is = (released-fills p.block heap is, release-end p.block heap)
 
-posted-sent : (free : ℕ) (l : Letter) (there : Heap × ℕ) (post : Post) → IsPost post → IsSendable l post → Fills free post.heap there.0 → PostSent free post (posted l there post)
+posted-sent : (free : ℕ) (l : Letter) (there : Heap × ℕ) (post : Post) → IsPost post → IsSendable l post → Fills free post.heap there.0
+    → PostSent free post (posted l there post)
 posted-sent free l there post is can fills =
     let one = queued_in-sent free l there post is can fills in
-    elim (answers_held l.your_ref (held_by l.from post.seats)) as (λ b. PostSent free post (cond b (put_down l.from (queued_in l there post)) (queued_in l there post)))
+    elim (answers_held l.your_ref (held_by l.from post.seats)) as (λ b. PostSent free post
+    (cond b (put_down l.from (queued_in l there post)) (queued_in l there post)))
     [ true ↦ put_down-sent free l.from post (queued_in l there post) one | false ↦ one ]
 
 pub post_send-grants : (free : ℕ) (l : Letter) (post : Post) → IsPost post → OnGrant (λ (sent : Post × ℕ). PostSent free post sent.0) (post_send free l post)
@@ -444,7 +469,8 @@ post_join-is h post is = record {
     joined : (a : ℕ) (seats : List Seat) → has_seat a seats ≡ true → has_seat a (seats ++ record { handle = h; holds = None } ∷ []) ≡ true
     joined a [] e = absurd cc
     joined a (s ∷ seats) e =
-        elim (s.handle == a) as (λ b. cond b true (has_seat a seats) ≡ true → cond b true (has_seat a (seats ++ record { handle = h; holds = None } ∷ [])) ≡ true)
+        elim (s.handle == a) as (λ b. cond b true (has_seat a seats) ≡ true
+        → cond b true (has_seat a (seats ++ record { handle = h; holds = None } ∷ [])) ≡ true)
         [ true ↦ λ (q : true ≡ true). refl | false ↦ λ (q : has_seat a seats ≡ true). joined a seats q ] e
 
 pub post_join-handles : (h : ℕ) (post : Post) → seat_handles (post_join h post).seats ≡ seat_handles post.seats ++ h ∷ []

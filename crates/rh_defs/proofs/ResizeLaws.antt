@@ -1,5 +1,6 @@
 -- What a resize does to a heap's shape and to its blocks.
-use Rattle.std.proofs.Common.{◌≡◌, ◌≢◌, ℕ, ◌+◌, ◌-◌, ◌<◌, ◌≤◌, inl, inr, Bool, true, false, cond, eqb, leb, ltb, List, [], ◌∷◌, ◌++◌, length, append-nil, refl, sym, ap, subst, ◌∙◌, arith}
+use Rattle.std.proofs.Common.{◌≡◌, ◌≢◌, ℕ, ◌+◌, ◌-◌, ◌<◌, ◌≤◌, inl, inr, Bool, true, false, cond, eqb, leb, ltb, List, [], ◌∷◌, ◌++◌, length, append-nil}
+use Rattle.std.proofs.Common.{refl, sym, ap, subst, ◌∙◌, arith}
 use Rattle.std.proofs.lemmas.Bool.{cases_lt}
 use Rattle.std.proofs.lemmas.Bool.Decides.{nat_tests, eqb_tells}
 use Rattle.std.proofs.lemmas.List.{take_all}
@@ -7,10 +8,13 @@ use Rattle.std.specs.Prelude.{Option, Some, None, IfSome}
 use Rattle.std.specs.Option.{option_map}
 use Rattle.rh_defs.specs.Blocks.{blank, blanked, block_bytes, bytes_at, SameShape, Puts}
 use Rattle.rh_defs.specs.Pieces.{Split, total, zeros}
-use Rattle.rh_defs.specs.Heap.{Segment, Used, Hole, Heap, Placed, Way, Stays, Shrinks, GrowsIntoHole, GrowsAtTop, MovesToHole, MovesToTop, size_of, bytes_of, place_after, with_hole, joined, placed, placed_in, hole_for, is_block_at, block_at, segment_size, block_room, raised, release, release_found, fitted, way_to, way_to_grow, way_beyond, end_for, resize_need, resized_by, resize_growing}
+use Rattle.rh_defs.specs.Heap.{Segment, Used, Hole, Heap, Placed, Way, Stays, Shrinks, GrowsIntoHole, GrowsAtTop, MovesToHole, MovesToTop, size_of, bytes_of}
+use Rattle.rh_defs.specs.Heap.{place_after, with_hole, joined, placed, placed_in, hole_for, is_block_at, block_at, segment_size, block_room, raised, release}
+use Rattle.rh_defs.specs.Heap.{release_found, fitted, way_to, way_to_grow, way_beyond, end_for, resize_need, resized_by, resize_growing}
 use Rattle.rh_defs.proofs.BlockLaws.{in_front, behind, with_hole-blocks, joined-blocks, placed-puts, release-frees, block_cut}
 use Rattle.rh_defs.proofs.HeapLists.{IsCut, first_at-cuts, cond_true, cond_false, eqb_same, eqb_apart}
-use Rattle.rh_defs.proofs.ShapeLaws.{PutAlike, blank_cut, blank_one, blank-append, blank-joined, blank-with_hole, block-blank, heap_with, hole-blank, len0, same_heap, size-blank_one, total-blank}
+use Rattle.rh_defs.proofs.ShapeLaws.{PutAlike, blank_cut, blank_one, blank-append, blank-joined, blank-with_hole, block-blank, heap_with, hole-blank, len0}
+use Rattle.rh_defs.proofs.ShapeLaws.{same_heap, size-blank_one, total-blank}
 use Rattle.rh_defs.proofs.SlotRooms.{length-fitted}
 
 -- ---- the way to another size looks at no bytes
@@ -37,7 +41,8 @@ module _ (t : ℕ) (s : Split Segment) (h : Heap) where
       ap (λ n. cond (leb (16 + n + t) h.end) GrowsAtTop (way_beyond [] (hole_for t (blank h.segments)))) (total-blank s.before)
       ∙ go (leb (place_after s.before + t) h.end)
     where
-      go : (b : Bool) → cond b GrowsAtTop (way_beyond [] (hole_for t (blank h.segments))) ≡ blank_way (cond b GrowsAtTop (way_beyond [] (hole_for t h.segments)))
+      go : (b : Bool) → cond b GrowsAtTop (way_beyond [] (hole_for t (blank h.segments))) ≡ blank_way
+          (cond b GrowsAtTop (way_beyond [] (hole_for t h.segments)))
       go true = refl
       go false = to_hole []
   grow-blank (Used bs ∷ after) = to_hole (Used bs ∷ after)
@@ -103,7 +108,8 @@ release-blanked a h = ap (λ o. release_found o (blanked h)) (block-blank a 16 h
 
 -- a block that moves to a place
 moved-blank : (bytes : List ℕ) (before : List Segment) (h : Heap) (o : Option (Split Segment))
-    → release (place_after (blank before) + 4) (placed_in (zeros (length bytes)) (blanked h) (option_map blank_cut o)).heap ≡ blanked (release (place_after before + 4) (placed_in bytes h o).heap)
+    → release (place_after (blank before) + 4) (placed_in (zeros (length bytes)) (blanked h) (option_map blank_cut o)).heap ≡ blanked
+    (release (place_after before + 4) (placed_in bytes h o).heap)
 moved-blank bytes before h o =
     ap (λ x. release (16 + x + 4) (placed_in (zeros (length bytes)) (blanked h) (option_map blank_cut o)).heap) (total-blank before)
     ∙ ap (release (place_after before + 4)) (placed-blank bytes h o).0
@@ -113,7 +119,8 @@ moved-blank bytes before h o =
 abbrev IsBlanked : Placed → Placed → Type 0
 IsBlanked p q = (p.heap ≡ blanked q.heap) × (p.address ≡ q.address)
 
-by-blank : (bytes : List ℕ) (s : Split Segment) (h : Heap) (w : Way) → IsBlanked (resized_by (blank_way w) (zeros (length bytes)) (blank_cut s) (blanked h)) (resized_by w bytes s h)
+by-blank : (bytes : List ℕ) (s : Split Segment) (h : Heap) (w : Way)
+    → IsBlanked (resized_by (blank_way w) (zeros (length bytes)) (blank_cut s) (blanked h)) (resized_by w bytes s h)
 by-blank bytes s h Stays = (refl, omega (arith, total-blank s.before))
 by-blank bytes s h Shrinks =
     let z = zeros (length bytes) in
@@ -161,8 +168,10 @@ resize_growing-alike n h d s c a =
     let long = raised (resize_need n s h) h in
     let longer = raised (resize_need n c d) d in
     let alike : blanked long ≡ blanked longer =
-    ap (λ k. heap_with k.segments (raised (resize_need n s h) k).end) (same_heap h d a.shape) ∙ ap (λ m. heap_with (blank d.segments) (raised m d).end) (resize_need-alike n h d s c a) in
-    let both : resized_by (blank_way (way_to t s h)) (zeros (length bytes)) (blank_cut s) (blanked long) ≡ resized_by (blank_way (way_to t c d)) (zeros (length other)) (blank_cut c) (blanked longer) =
+    ap (λ k. heap_with k.segments (raised (resize_need n s h) k).end) (same_heap h d a.shape)
+    ∙ ap (λ m. heap_with (blank d.segments) (raised m d).end) (resize_need-alike n h d s c a) in
+    let both : resized_by (blank_way (way_to t s h)) (zeros (length bytes)) (blank_cut s) (blanked long) ≡ resized_by (blank_way (way_to t c d))
+    (zeros (length other)) (blank_cut c) (blanked longer) =
     ap (λ w. resized_by w (zeros (length bytes)) (blank_cut s) (blanked long)) (sym (way-blank t s h))
     ∙ ap (λ x. resized_by (way_to t x (blanked h)) (zeros (length bytes)) x (blanked long)) a.cut
     ∙ ap (λ k. resized_by (way_to t (blank_cut c) k) (zeros (length bytes)) (blank_cut c) (blanked long)) (same_heap h d a.shape)
@@ -200,7 +209,8 @@ in_place xs ys zs old new q end end' e f = record {
 }
 
 -- a block that was put elsewhere, and is released where it lay
-elsewhere : (a : ℕ) (old bytes : List ℕ) (h k : Heap) (address : ℕ) → block_bytes a h ≡ Some old → Puts bytes h k address → Moves a bytes h (release a k) address
+elsewhere : (a : ℕ) (old bytes : List ℕ) (h k : Heap) (address : ℕ) → block_bytes a h ≡ Some old → Puts bytes h k address
+    → Moves a bytes h (release a k) address
 elsewhere a old bytes h k address e p =
     let w = release-frees a k in
     let apart : address ≢ a = λ z. let bad : Some old ≡ None = sym e ∙ ap (λ b. block_bytes b h) (sym z) ∙ p.fresh in absurd cc in
@@ -241,16 +251,19 @@ module _ (t : ℕ) (s : Split Segment) (h : Heap) where
   way-is : WayIs t s h (way_to t s h)
   way-is = go (eqb t (size_of s.here)) (ltb t (size_of s.here)) refl refl
     where
-      go : (same less : Bool) → eqb t (size_of s.here) ≡ same → ltb t (size_of s.here) ≡ less → WayIs t s h (cond same Stays (cond less Shrinks (way_to_grow t s s.after h)))
+      go : (same less : Bool) → eqb t (size_of s.here) ≡ same → ltb t (size_of s.here) ≡ less
+          → WayIs t s h (cond same Stays (cond less Shrinks (way_to_grow t s s.after h)))
       go true less e f = elim (eqb_tells t (size_of s.here)) [ inl u ↦ u.1 | inr v ↦ absurd (let z = v.0 in cc) ]
       go false true e f = let l : t < size_of s.here = grind (arith, nat_tests) in omega arith
       go false false e f = grow-is s.after refl
 
 fitted-same : (n : ℕ) (bs : List ℕ) → n ≡ length bs → fitted n bs ≡ bs
-fitted-same n bs e = ap (λ l. l ++ zeros (n - length bs)) (take_all n bs (omega arith)) ∙ ap (λ m. bs ++ zeros m) (let z : n - length bs ≡ 0 = omega arith in z) ∙ append-nil bs
+fitted-same n bs e = ap (λ l. l ++ zeros (n - length bs)) (take_all n bs (omega arith))
+    ∙ ap (λ m. bs ++ zeros m) (let z : n - length bs ≡ 0 = omega arith in z) ∙ append-nil bs
 
 -- the block at a cut gets bytes of another length
-module _ (s : Split Segment) (h k : Heap) (old bytes : List ℕ) (used : s.here ≡ Used old) (whole : h.segments ≡ s.before ++ Used old ∷ s.after) (same : k.segments ≡ h.segments) where
+module _ (s : Split Segment) (h k : Heap) (old bytes : List ℕ) (used : s.here ≡ Used old) (whole : h.segments ≡ s.before ++ Used old ∷ s.after)
+    (same : k.segments ≡ h.segments) where
   abbrev at_cut : ℕ
   at_cut = place_after s.before + 4
 
@@ -258,15 +271,19 @@ module _ (s : Split Segment) (h k : Heap) (old bytes : List ℕ) (used : s.here 
   size-is = ap size_of used
 
   there : block_bytes at_cut h ≡ Some old
-  there = ap (bytes_at at_cut 16) whole ∙ behind at_cut 16 (place_after s.before) s.before (Used old ∷ s.after) refl (omega arith) ∙ cond_true (eqb at_cut at_cut) _ _ (eqb_same at_cut at_cut refl)
+  there = ap (bytes_at at_cut 16) whole ∙ behind at_cut 16 (place_after s.before) s.before (Used old ∷ s.after) refl (omega arith)
+      ∙ cond_true (eqb at_cut at_cut) _ _ (eqb_same at_cut at_cut refl)
 
-  stretched : (zs : List Segment) → ((b : ℕ) → bytes_at b (place_after s.before + (4 + length bytes)) zs ≡ bytes_at b (place_after s.before + (4 + length old)) s.after)
+  stretched : (zs : List Segment)
+      → ((b : ℕ) → bytes_at b (place_after s.before + (4 + length bytes)) zs ≡ bytes_at b (place_after s.before + (4 + length old)) s.after)
       → Moves at_cut bytes h (record { segments = s.before ++ Used bytes ∷ zs; end = k.end }) at_cut
-  stretched zs f = subst (λ l. Moves at_cut bytes (record { segments = l; end = h.end }) (record { segments = s.before ++ Used bytes ∷ zs; end = k.end }) at_cut) (sym whole)
+  stretched zs f = subst (λ l. Moves at_cut bytes (record { segments = l; end = h.end }) (record { segments = s.before ++ Used bytes ∷ zs; end = k.end })
+      at_cut) (sym whole)
       (in_place s.before s.after zs old bytes (place_after s.before) h.end k.end refl f)
 
   -- holes that are joined have the same blocks
-  after-joined : (l : List Segment) (e : ℕ) → Moves at_cut bytes h (record { segments = l; end = e }) at_cut → Moves at_cut bytes h (record { segments = joined l; end = e }) at_cut
+  after-joined : (l : List Segment) (e : ℕ) → Moves at_cut bytes h (record { segments = l; end = e }) at_cut
+      → Moves at_cut bytes h (record { segments = joined l; end = e }) at_cut
   after-joined l e m = record {
     here = joined-blocks at_cut 16 l ∙ m.here;
     others = λ b ne new. joined-blocks b 16 l ∙ m.others b ne new;
@@ -274,7 +291,8 @@ module _ (s : Split Segment) (h k : Heap) (old bytes : List ℕ) (used : s.here 
     fresh = λ ne. absurd (ne refl);
   }
 
-  moves_to : (o : Option (Split Segment)) → hole_for (4 + length bytes) h.segments ≡ o → Moves at_cut bytes h (release at_cut (placed_in bytes k o).heap) (placed_in bytes k o).address
+  moves_to : (o : Option (Split Segment)) → hole_for (4 + length bytes) h.segments ≡ o
+      → Moves at_cut bytes h (release at_cut (placed_in bytes k o).heap) (placed_in bytes k o).address
   moves_to o e =
       let w = placed-puts bytes k in
       let o_is : hole_for (4 + length bytes) k.segments ≡ o = ap (hole_for (4 + length bytes)) same ∙ e in
@@ -283,9 +301,11 @@ module _ (s : Split Segment) (h k : Heap) (old bytes : List ℕ) (used : s.here 
         here = w.here;
         others = λ b ne. w.others b ne ∙ ap (bytes_at b 16) same;
       } in
-      subst (λ x. Moves at_cut bytes h (release at_cut (placed_in bytes k x).heap) (placed_in bytes k x).address) o_is (elsewhere at_cut old bytes h (placed bytes k).heap (placed bytes k).address there p)
+      subst (λ x. Moves at_cut bytes h (release at_cut (placed_in bytes k x).heap) (placed_in bytes k x).address) o_is
+      (elsewhere at_cut old bytes h (placed bytes k).heap (placed bytes k).address there p)
 
-  by-moves : (w : Way) → WayIs (4 + length bytes) s h w → (w ≡ Stays → bytes ≡ old) → Moves at_cut bytes h (resized_by w bytes s k).heap (resized_by w bytes s k).address
+  by-moves : (w : Way) → WayIs (4 + length bytes) s h w → (w ≡ Stays → bytes ≡ old)
+      → Moves at_cut bytes h (resized_by w bytes s k).heap (resized_by w bytes s k).address
   by-moves Stays i st = record {
     here = ap (bytes_at at_cut 16) same ∙ there ∙ ap Some (sym (st refl));
     others = λ b ne new. ap (bytes_at b 16) same;
@@ -294,7 +314,8 @@ module _ (s : Split Segment) (h k : Heap) (old bytes : List ℕ) (used : s.here 
   }
   by-moves Shrinks i st =
       let r : ℕ = size_of s.here - (4 + length bytes) in
-      after-joined (s.before ++ Used bytes ∷ Hole r ∷ s.after) k.end (stretched (Hole r ∷ s.after) (λ b. ap (λ p. bytes_at b p s.after) (omega (arith, size-is, i))))
+      after-joined (s.before ++ Used bytes ∷ Hole r ∷ s.after) k.end (stretched (Hole r ∷ s.after)
+      (λ b. ap (λ p. bytes_at b p s.after) (omega (arith, size-is, i))))
   by-moves (GrowsIntoHole n rest) i st =
       let r : ℕ = (size_of s.here + n) - (4 + length bytes) in
       stretched (with_hole r rest) (λ b. with_hole-blocks b (place_after s.before + (4 + length bytes)) r rest
@@ -305,18 +326,22 @@ module _ (s : Split Segment) (h k : Heap) (old bytes : List ℕ) (used : s.here 
   by-moves MovesToTop i st = moves_to None i
 
 -- a block that is resized
-pub resize_growing-moves : (a n : ℕ) (s : Split Segment) (h : Heap) → block_at a h ≡ Some s → Moves a (fitted (block_room n) (bytes_of s.here)) h (resize_growing n s h).heap (resize_growing n s h).address
+pub resize_growing-moves : (a n : ℕ) (s : Split Segment) (h : Heap) → block_at a h ≡ Some s
+    → Moves a (fitted (block_room n) (bytes_of s.here)) h (resize_growing n s h).heap (resize_growing n s h).address
 resize_growing-moves a n s h e =
-    let c : IsCut size_of (is_block_at a) 16 h.segments s = subst (λ o. IfSome o (IsCut size_of (is_block_at a) 16 h.segments)) e (first_at-cuts size_of (is_block_at a) 16 h.segments) in
+    let c : IsCut size_of (is_block_at a) 16 h.segments s =
+    subst (λ o. IfSome o (IsCut size_of (is_block_at a) 16 h.segments)) e (first_at-cuts size_of (is_block_at a) 16 h.segments) in
     let b = block_cut a (16 + total size_of s.before) s.here c.passes in
     let old = b.0 in
     let bytes = fitted (block_room n) (bytes_of s.here) in
     let size : 4 + length bytes ≡ segment_size n = omega (arith, length-fitted (block_room n) (bytes_of s.here)) in
     let whole : h.segments ≡ s.before ++ Used old ∷ s.after = c.whole ∙ ap (λ g. s.before ++ g ∷ s.after) b.1 in
-    let is : WayIs (4 + length bytes) s h (way_to (segment_size n) s h) = subst (λ t. WayIs t s h (way_to (segment_size n) s h)) (sym size) (way-is (segment_size n) s h) in
+    let is : WayIs (4 + length bytes) s h (way_to (segment_size n) s h) =
+    subst (λ t. WayIs t s h (way_to (segment_size n) s h)) (sym size) (way-is (segment_size n) s h) in
     let stays : way_to (segment_size n) s h ≡ Stays → bytes ≡ old = λ w.
     let same : 4 + length bytes ≡ size_of s.here = subst (WayIs (4 + length bytes) s h) w is in
     let here : bytes_of s.here ≡ old = ap bytes_of b.1 in
-    fitted-same (block_room n) (bytes_of s.here) (omega (arith, length-fitted (block_room n) (bytes_of s.here), ap size_of b.1, ap (λ l. length l) here)) ∙ here in
+    fitted-same (block_room n) (bytes_of s.here) (omega (arith, length-fitted (block_room n) (bytes_of s.here), ap size_of b.1, ap (λ l. length l) here))
+    ∙ here in
     let m = by-moves s h (raised (resize_need n s h) h) old bytes b.1 whole refl (way_to (segment_size n) s h) is stays in
     subst (λ x. Moves x bytes h (resize_growing n s h).heap (resize_growing n s h).address) (sym b.2) m

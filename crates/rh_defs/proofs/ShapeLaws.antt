@@ -1,12 +1,14 @@
 -- What a heap's calls do to its shape, and that they look at no block's bytes.
-use Rattle.std.proofs.Common.{◌≡◌, ℕ, zero, suc, ◌+◌, ◌-◌, Bool, true, false, cond, eqb, leb, ltb, List, [], ◌∷◌, ◌++◌, length, refl, sym, ap, subst, ◌∙◌, arith}
+use Rattle.std.proofs.Common.{◌≡◌, ℕ, zero, suc, ◌+◌, ◌-◌, Bool, true, false, cond, eqb, leb, ltb, List, [], ◌∷◌, ◌++◌, length, refl, sym, ap, subst, ◌∙◌}
+use Rattle.std.proofs.Common.{arith}
 use Rattle.std.proofs.lemmas.List.{length-replicate}
 use Rattle.std.specs.Prelude.{Option, Some, None, Ok, Err}
 use Rattle.std.specs.Option.{option_map}
 use Rattle.rh_defs.specs.Bytes.{put}
 use Rattle.rh_defs.specs.Chain.{Granted, ◌>>=◌, ◌>>◌, refuse_if}
 use Rattle.rh_defs.specs.Pieces.{total, Split, behind, first_at, zeros, pages_for}
-use Rattle.rh_defs.specs.Heap.{Segment, Used, Hole, Heap, Placed, size_of, bytes_of, block_size, with_hole, joined, hole_for, is_hole_for, block_at, is_block_at, placed, placed_in, segment_size, block_room, shortage_in, need, raised, claim_growing, release, release_found}
+use Rattle.rh_defs.specs.Heap.{Segment, Used, Hole, Heap, Placed, size_of, bytes_of, block_size, with_hole, joined, hole_for, is_hole_for, block_at}
+use Rattle.rh_defs.specs.Heap.{is_block_at, placed, placed_in, segment_size, block_room, shortage_in, need, raised, claim_growing, release, release_found}
 use Rattle.rh_defs.specs.Module.{module_claim, module_need_pages}
 use Rattle.rh_defs.specs.declared.refusal.Refusal.TheVariants.{BadSize, NoRoom}
 use Rattle.rh_defs.proofs.BytesLaws.{length-put}
@@ -39,10 +41,11 @@ blank-joined (Hole n ∷ ss) = blank-with_hole n (joined ss) ∙ ap (with_hole n
 
 pub blank-written : (a o : ℕ) (xs : List ℕ) (p : ℕ) (ss : List Segment) → blank (written_at a o xs p ss) ≡ blank ss
 blank-written a o xs p [] = refl
-blank-written a o xs p (Used bs ∷ ss) = elim (eqb a (p + 4)) as (λ t. blank (cond t (Used (put bs o xs) ∷ ss) (Used bs ∷ written_at a o xs (p + (4 + length bs)) ss)) ≡ blank (Used bs ∷ ss)) [
-  | true ↦ ap (λ n. Used (zeros n) ∷ blank ss) (length-put bs o xs)
-  | false ↦ ap (λ l. Used (zeros (length bs)) ∷ l) (blank-written a o xs (p + (4 + length bs)) ss)
-]
+blank-written a o xs p (Used bs ∷ ss) =
+    elim (eqb a (p + 4)) as (λ t. blank (cond t (Used (put bs o xs) ∷ ss) (Used bs ∷ written_at a o xs (p + (4 + length bs)) ss)) ≡ blank (Used bs ∷ ss)) [
+      | true ↦ ap (λ n. Used (zeros n) ∷ blank ss) (length-put bs o xs)
+      | false ↦ ap (λ l. Used (zeros (length bs)) ∷ l) (blank-written a o xs (p + (4 + length bs)) ss)
+    ]
 blank-written a o xs p (Hole n ∷ ss) = ap (λ l. Hole n ∷ l) (blank-written a o xs (p + n) ss)
 
 -- ---- one segment, and a cut
@@ -57,7 +60,8 @@ size-blank_one (Hole n) = refl
 abbrev pub blank_cut : Split Segment → Split Segment
 blank_cut s = record { before = blank s.before; here = blank_one s.here; after = blank s.after }
 
-passed_on : (g : Segment) (o : Option (Split Segment)) → option_map (behind (blank_one g)) (option_map blank_cut o) ≡ option_map blank_cut (option_map (behind g) o)
+passed_on : (g : Segment) (o : Option (Split Segment))
+    → option_map (behind (blank_one g)) (option_map blank_cut o) ≡ option_map blank_cut (option_map (behind g) o)
 passed_on (Used bs) None = refl
 passed_on (Used bs) (Some s) = refl
 passed_on (Hole n) None = refl
@@ -72,8 +76,10 @@ hole-blank t p (Used bs ∷ ss) =
 hole-blank t p (Hole n ∷ ss) = go (leb t n) (hole-blank t (p + n) ss)
   where
     go : (b : Bool) → first_at size_of (is_hole_for t) (p + n) (blank ss) ≡ option_map blank_cut (first_at size_of (is_hole_for t) (p + n) ss)
-        → cond b (Some (record { before = []; here = Hole n; after = blank ss })) (option_map (behind (Hole n)) (first_at size_of (is_hole_for t) (p + n) (blank ss)))
-        ≡ option_map blank_cut (cond b (Some (record { before = []; here = Hole n; after = ss })) (option_map (behind (Hole n)) (first_at size_of (is_hole_for t) (p + n) ss)))
+        → cond b (Some (record { before = []; here = Hole n; after = blank ss }))
+        (option_map (behind (Hole n)) (first_at size_of (is_hole_for t) (p + n) (blank ss)))
+        ≡ option_map blank_cut (cond b (Some (record { before = []; here = Hole n; after = ss }))
+        (option_map (behind (Hole n)) (first_at size_of (is_hole_for t) (p + n) ss)))
     go true e = refl
     go false e = ap (option_map (behind (Hole n))) e ∙ passed_on (Hole n) (first_at size_of (is_hole_for t) (p + n) ss)
 
@@ -83,9 +89,12 @@ block-blank a p (Hole n ∷ ss) = ap (option_map (behind (Hole n))) (block-blank
 block-blank a p (Used bs ∷ ss) =
     go (eqb a (p + 4)) (ap (λ n. first_at size_of (is_block_at a) (p + (4 + n)) (blank ss)) (len0 (length bs)) ∙ block-blank a (p + (4 + length bs)) ss)
   where
-    go : (b : Bool) → first_at size_of (is_block_at a) (p + (4 + length (zeros (length bs)))) (blank ss) ≡ option_map blank_cut (first_at size_of (is_block_at a) (p + (4 + length bs)) ss)
-        → cond b (Some (record { before = []; here = Used (zeros (length bs)); after = blank ss })) (option_map (behind (Used (zeros (length bs)))) (first_at size_of (is_block_at a) (p + (4 + length (zeros (length bs)))) (blank ss)))
-        ≡ option_map blank_cut (cond b (Some (record { before = []; here = Used bs; after = ss })) (option_map (behind (Used bs)) (first_at size_of (is_block_at a) (p + (4 + length bs)) ss)))
+    go : (b : Bool) → first_at size_of (is_block_at a) (p + (4 + length (zeros (length bs)))) (blank ss) ≡ option_map blank_cut
+        (first_at size_of (is_block_at a) (p + (4 + length bs)) ss)
+        → cond b (Some (record { before = []; here = Used (zeros (length bs)); after = blank ss }))
+        (option_map (behind (Used (zeros (length bs)))) (first_at size_of (is_block_at a) (p + (4 + length (zeros (length bs)))) (blank ss)))
+        ≡ option_map blank_cut (cond b (Some (record { before = []; here = Used bs; after = ss }))
+        (option_map (behind (Used bs)) (first_at size_of (is_block_at a) (p + (4 + length bs)) ss)))
     go true e = refl
     go false e = ap (option_map (behind (Used (zeros (length bs))))) e ∙ passed_on (Used bs) (first_at size_of (is_block_at a) (p + (4 + length bs)) ss)
 
@@ -98,7 +107,8 @@ shortage-blank t h None = omega (arith, total-blank h.segments)
 shortage-blank t h (Some s) = refl
 
 pub need-blank : (n : ℕ) (h : Heap) → need n (blanked h) ≡ need n h
-need-blank n h = ap (shortage_in (segment_size n) (blanked h)) (hole-blank (segment_size n) 16 h.segments) ∙ shortage-blank (segment_size n) h (hole_for (segment_size n) h.segments)
+need-blank n h = ap (shortage_in (segment_size n) (blanked h)) (hole-blank (segment_size n) 16 h.segments)
+    ∙ shortage-blank (segment_size n) h (hole_for (segment_size n) h.segments)
 
 -- two blocks that are put alike
 pub record PutAlike (p q : Placed) : Type 0 where
@@ -114,7 +124,8 @@ in-blank : (m : ℕ) (h : Heap) (o : Option (Split Segment)) → PutAlike (place
 in-blank m h None = record {
   address = omega (arith, total-blank h.segments);
   shape = record {
-    blank = blank-append (blank h.segments) (Used (zeros m) ∷ []) ∙ ap (λ l. l ++ blank (Used (zeros m) ∷ [])) (blanked-blank h.segments) ∙ sym (blank-append h.segments (Used (zeros m) ∷ []));
+    blank = blank-append (blank h.segments) (Used (zeros m) ∷ []) ∙ ap (λ l. l ++ blank (Used (zeros m) ∷ [])) (blanked-blank h.segments)
+        ∙ sym (blank-append h.segments (Used (zeros m) ∷ []));
     end = refl;
   };
 }
@@ -127,8 +138,8 @@ in-blank m h (Some s) =
         blank = ap (λ n. blank (blank s.before ++ g ∷ with_hole (n - (4 + length (zeros m))) (blank s.after))) (size-blank_one s.here)
             ∙ blank-append (blank s.before) (g ∷ with_hole r (blank s.after))
             ∙ ap (λ l. l ++ blank (g ∷ with_hole r (blank s.after))) (blanked-blank s.before)
-            ∙ ap (λ l. blank s.before ++ blank_one g ∷ l) (blank-with_hole r (blank s.after) ∙ ap (with_hole r) (blanked-blank s.after) ∙ sym (blank-with_hole r s.after))
-            ∙ sym (blank-append s.before (g ∷ with_hole r s.after));
+            ∙ ap (λ l. blank s.before ++ blank_one g ∷ l) (blank-with_hole r (blank s.after) ∙ ap (with_hole r) (blanked-blank s.after)
+            ∙ sym (blank-with_hole r s.after)) ∙ sym (blank-append s.before (g ∷ with_hole r s.after));
         end = refl;
       };
     }
@@ -153,13 +164,15 @@ need-alike n h d s = sym (need-blank n h) ∙ ap (need n) (same_heap h d s) ∙ 
 placed-alike : (m : ℕ) (h d : Heap) → SameShape h d → PutAlike (placed (zeros m) h) (placed (zeros m) d)
 placed-alike m h d s =
     let x = placed-blank m h in
-    let y : PutAlike (placed (zeros m) (blanked h)) (placed (zeros m) d) = subst (λ (k : Heap). PutAlike (placed (zeros m) k) (placed (zeros m) d)) (sym (same_heap h d s)) (placed-blank m d) in
+    let y : PutAlike (placed (zeros m) (blanked h)) (placed (zeros m) d) =
+    subst (λ (k : Heap). PutAlike (placed (zeros m) k) (placed (zeros m) d)) (sym (same_heap h d s)) (placed-blank m d) in
     record { address = sym x.address ∙ y.address; shape = shape-both (shape-sym x.shape) y.shape }
 
 pub growing-alike : (n : ℕ) (h d : Heap) → SameShape h d → PutAlike (claim_growing n h) (claim_growing n d)
 growing-alike n h d s =
     subst (λ k. PutAlike (claim_growing n h) (placed (zeros (block_room n)) (raised k d))) (need-alike n h d s)
-    (placed-alike (block_room n) (raised (need n h) h) (raised (need n h) d) (record { blank = s.blank; end = ap (λ e. (raised (need n h) (heap_with [] e)).end) s.end }))
+    (placed-alike (block_room n) (raised (need n h) h) (raised (need n h) d)
+    (record { blank = s.blank; end = ap (λ e. (raised (need n h) (heap_with [] e)).end) s.end }))
 
 -- ---- claims in the module area
 abbrev pub Alike : Granted (Heap × ℕ) → Granted (Heap × ℕ) → Type 0
@@ -178,8 +191,10 @@ claims false false p q a = (a.address, a.shape)
 pub module_claim-alike : (free n : ℕ) (h d : Heap) → SameShape h d → Alike (module_claim free n h) (module_claim free n d)
 unfolding module_claim ◌>>◌
 module_claim-alike free n h d s =
-    subst (λ k. Alike (refuse_if (eqb n 0) BadSize >> (refuse_if (ltb free (pages_for (need n h))) NoRoom >> Ok ((claim_growing n h).heap, (claim_growing n h).address)))
-    (refuse_if (eqb n 0) BadSize >> (refuse_if (ltb free (pages_for k)) NoRoom >> Ok ((claim_growing n d).heap, (claim_growing n d).address)))) (need-alike n h d s)
+    subst (λ k. Alike (refuse_if (eqb n 0) BadSize >> (refuse_if (ltb free (pages_for (need n h))) NoRoom >> Ok
+    ((claim_growing n h).heap, (claim_growing n h).address)))
+    (refuse_if (eqb n 0) BadSize >> (refuse_if (ltb free (pages_for k)) NoRoom >> Ok ((claim_growing n d).heap, (claim_growing n d).address)))) (need-alike n
+    h d s)
     (claims (eqb n 0) (ltb free (pages_for (need n h))) (claim_growing n h) (claim_growing n d) (growing-alike n h d s))
 
 pub module_need_pages-alike : (n : ℕ) (h d : Heap) → SameShape h d → module_need_pages n h ≡ module_need_pages n d
@@ -195,7 +210,8 @@ found-blank h None = record { blank = blanked-blank h.segments; end = refl }
 found-blank h (Some s) = record {
   blank = ap (λ n. blank (joined (blank s.before ++ Hole n ∷ blank s.after))) (size-blank_one s.here)
       ∙ blank-joined (blank s.before ++ Hole (size_of s.here) ∷ blank s.after)
-      ∙ ap joined (blank-append (blank s.before) (Hole (size_of s.here) ∷ blank s.after) ∙ ap (λ l. l ++ Hole (size_of s.here) ∷ blank (blank s.after)) (blanked-blank s.before)
+      ∙ ap joined (blank-append (blank s.before) (Hole (size_of s.here) ∷ blank s.after)
+      ∙ ap (λ l. l ++ Hole (size_of s.here) ∷ blank (blank s.after)) (blanked-blank s.before)
       ∙ ap (λ l. blank s.before ++ Hole (size_of s.here) ∷ l) (blanked-blank s.after) ∙ sym (blank-append s.before (Hole (size_of s.here) ∷ s.after)))
       ∙ sym (blank-joined (s.before ++ Hole (size_of s.here) ∷ s.after));
   end = refl;

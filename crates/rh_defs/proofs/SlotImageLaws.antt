@@ -1,5 +1,6 @@
 -- Laws of bytes that spell a slot: they spell at most one, and what keeps them so.
-use Rattle.std.proofs.Common.{◌≡◌, ℕ, zero, suc, ◌+◌, ◌-◌, ◌*◌, ◌/◌, ◌%◌, ◌<◌, ◌≤◌, ◌≢◌, inl, inr, Bool, true, false, List, [], ◌∷◌, length, leb, ltb, eqb, refl, sym, ap, subst, ◌∙◌, arith}
+use Rattle.std.proofs.Common.{◌≡◌, ℕ, zero, suc, ◌+◌, ◌-◌, ◌*◌, ◌/◌, ◌%◌, ◌<◌, ◌≤◌, ◌≢◌, inl, inr, Bool, true, false, List, [], ◌∷◌, length, leb, ltb, eqb}
+use Rattle.std.proofs.Common.{refl, sym, ap, subst, ◌∙◌, arith}
 use Rattle.std.proofs.lemmas.Bool.{cases_eq}
 use Rattle.std.proofs.lemmas.Bool.Decides.{nat_tests}
 use Rattle.std.specs.Prelude.{◌&&◌}
@@ -47,7 +48,13 @@ not_true true h = absurd (h refl)
 not_true false h = refl
 
 pub is_block-yes : (b : List ℕ) (p : ℕ) → IsBlock b p → is_block b p ≡ true
-is_block-yes b p i = rw (leb_yes slot_start (word b p) i.least, ltb_yes (word b p) heap_start i.most, eqb_yes (word b p % 4) 0 i.multiple, eqb_yes (word b (word b p - slot_start)) (slot_start + p + 8) i.back) refl
+is_block-yes b p i =
+    rw (
+      leb_yes slot_start (word b p) i.least,
+      ltb_yes (word b p) heap_start i.most,
+      eqb_yes (word b p % 4) 0 i.multiple,
+      eqb_yes (word b (word b p - slot_start)) (slot_start + p + 8) i.back,
+    ) refl
 
 pub is_block-is : (b : List ℕ) (p : ℕ) → is_block b p ≡ true → IsBlock b p
 is_block-is b p e =
@@ -94,7 +101,8 @@ is_block-top b s p w e = not_true (is_block b p) (λ z. none (is_block-is b p z)
 
 -- ---- the bytes spell at most one slot
 
-pub flex_in-Lie : (k : ℕ) (b : List ℕ) (p t : ℕ) (fs : List Flex) → Lie b p fs → Hang b p fs → HaveAnchors fs → p + total weight fs ≡ t → is_block b t ≡ false → total weight fs ≤ k → flex_in k b p ≡ fs
+pub flex_in-Lie : (k : ℕ) (b : List ℕ) (p t : ℕ) (fs : List Flex) → Lie b p fs → Hang b p fs → HaveAnchors fs → p + total weight fs ≡ t
+    → is_block b t ≡ false → total weight fs ≤ k → flex_in k b p ≡ fs
 unfolding flex_in
 flex_in-Lie zero b p t [] l h a e n m = refl
 flex_in-Lie zero b p t (f ∷ fs) l h a e n m = absurd (omega arith)
@@ -105,7 +113,9 @@ flex_in-Lie (suc k) b p t (f ∷ fs) l h a e n m =
     let small = a.0 in
     let bytes : part b (p + 8) (word b (p + 4)) ≡ f.bytes = ap (part b (p + 8)) size ∙ l.2 in
     cond_true (is_block b p) _ _ (is_block-here b p f fs l h small)
-    ∙ ap (λ r. r ∷ flex_in k b (p + flex_weight (word b (p + 4)))) (flex_same (record { anchor = (word b p - slot_start) / 4; bytes = part b (p + 8) (word b (p + 4)) }) f (let q : (word b p - slot_start) / 4 ≡ f.anchor = omega arith in q) bytes)
+    ∙ ap (λ r. r ∷ flex_in k b (p + flex_weight (word b (p + 4)))) (flex_same
+    (record { anchor = (word b p - slot_start) / 4; bytes = part b (p + 8) (word b (p + 4)) }) f
+    (let q : (word b p - slot_start) / 4 ≡ f.anchor = omega arith in q) bytes)
     ∙ ap (λ r. f ∷ r) (ap (λ n. flex_in k b (p + flex_weight n)) size ∙ flex_in-Lie k b (p + weight f) t fs l.3 h.1 a.2 (omega arith) n (omega arith))
 
 -- the slot with budging on or off, which does not stand in the bytes
@@ -118,7 +128,9 @@ slot_of-SlotWords on b s w =
     let h : heap_of b heap_place ≡ s.heap = heap_of-Spells b heap_place s.heap w.heap in
     let fits = w.within in
     let d : flex_in (length b) b (heap_place + (heap_of b heap_place).end) ≡ s.blocks =
-    ap (λ (i : Heap). flex_in (length b) b (heap_place + i.end)) h ∙ flex_in-Lie (length b) b (flex_place s) (slot_length s) s.blocks w.lie w.hang w.anchors refl (is_block-top b s (slot_length s) w refl) (omega arith) in
+    ap (λ (i : Heap). flex_in (length b) b (heap_place + i.end)) h
+    ∙ flex_in-Lie (length b) b (flex_place s) (slot_length s) s.blocks w.lie w.hang w.anchors refl (is_block-top b s (slot_length s) w refl)
+    (omega arith) in
     ap (λ (i : Heap). let r : Slot = record { heap = i; blocks = flex_in (length b) b (heap_place + (heap_of b heap_place).end); budging = on } in r) h
     ∙ ap (λ (l : List Flex). let r : Slot = record { heap = s.heap; blocks = l; budging = on } in r) d
 
@@ -147,7 +159,8 @@ SlotWords-kept b c s o l w = record {
 }
 
 -- another heap with the same end in the C heap's bytes
-pub SlotWords-with_heap : (b c : List ℕ) (s : Slot) (h : Heap) → SlotWords b s → SameOutside b c heap_place (heap_place + s.heap.end) → Spells c heap_place h → h.end ≡ s.heap.end → SlotWords c (with_heap h s)
+pub SlotWords-with_heap : (b c : List ℕ) (s : Slot) (h : Heap) → SlotWords b s → SameOutside b c heap_place (heap_place + s.heap.end) → Spells c heap_place h
+    → h.end ≡ s.heap.end → SlotWords c (with_heap h s)
 SlotWords-with_heap b c s h w o k e =
     let l = w.within in
     let len = o.len in
@@ -155,14 +168,16 @@ SlotWords-with_heap b c s h w o k e =
     record {
       heap = k;
       within = omega arith;
-      lie = subst (λ p. Lie c p s.blocks) (ap (λ n. heap_place + n) (sym e)) (Lie-same b c (flex_place s) (slot_length s) s.blocks (in_above o (omega arith)) (omega arith) w.lie);
+      lie = subst (λ p. Lie c p s.blocks) (ap (λ n. heap_place + n) (sym e))
+          (Lie-same b c (flex_place s) (slot_length s) s.blocks (in_above o (omega arith)) (omega arith) w.lie);
       hang = subst (λ p. Hang c p s.blocks) (ap (λ n. heap_place + n) (sym e)) (Hang-same b c (flex_place s) s.blocks w.anchors anchors w.hang);
       none = λ j u v. word_same b c (4 * j) (part_of anchors (omega arith) (omega arith)) ∙ w.none j u v;
       anchors = w.anchors;
     }
 
 -- and then the bytes spell that slot
-pub SpellsSlot-with_heap : (b c : List ℕ) (s : Slot) (h : Heap) → SpellsSlot b s → SameOutside b c heap_place (heap_place + s.heap.end) → Spells c heap_place h → h.end ≡ s.heap.end → SpellsSlot c (with_heap h s)
+pub SpellsSlot-with_heap : (b c : List ℕ) (s : Slot) (h : Heap) → SpellsSlot b s → SameOutside b c heap_place (heap_place + s.heap.end)
+    → Spells c heap_place h → h.end ≡ s.heap.end → SpellsSlot c (with_heap h s)
 SpellsSlot-with_heap b c s h j o k e = record {
   words = SlotWords-with_heap b c s h j.words o k e;
   pages = let len = o.len in let p = j.pages in omega arith;

@@ -1,12 +1,16 @@
 -- A slot stays one after each call on it, and takes no more pages than are free.
-use Rattle.std.proofs.Common.{◌≡◌, ℕ, ◌+◌, ◌-◌, ◌≤◌, ◌<◌, Bool, true, false, cond, refl, sym, ap, subst, ◌∙◌, arith, List, ◌∷◌, ◌++◌, length, length-append, length-take, length-drop}
+use Rattle.std.proofs.Common.{◌≡◌, ℕ, ◌+◌, ◌-◌, ◌≤◌, ◌<◌, Bool, true, false, cond, refl, sym, ap, subst, ◌∙◌, arith, List, ◌∷◌, ◌++◌, length, length-append}
+use Rattle.std.proofs.Common.{length-take, length-drop}
 use Rattle.std.specs.Prelude.{Option, Some, None, IfSome, ℤ, ◌==◌, ◌||◌, nat_lt, nat_le}
 use Rattle.std.proofs.lemmas.Bool.Decides.{nat_tests}
 use borrow.Author.Tests.{ltb-false, leb-true}
 use Rattle.rh_defs.specs.Chain.{Granted, result_or}
 use Rattle.rh_defs.specs.Pieces.{Split, written, total, moved, pages_for, lacks_pages, is_inside}
-use Rattle.rh_defs.specs.Heap.{Heap, Segment, Used, Hole, IsHeap, IsTidy, size_of, bytes_of, first_place, place_after, is_block_at, block_around, is_around, need, raised, new_size, resize_need, released, fitted}
-use Rattle.rh_defs.specs.Slot.{Slot, Flex, IsSlot, HaveAnchors, weight, flex_weight, slot_length, slot_pages, flex_start, heap_start, flex_address, block_of, flex_around, heap_block_at, with_bytes, with_heap, length_with, lacks_room, opened_at, taken_out, slot_begin, slot_alloc, slot_block, slot_free, slot_extend, slot_mid, slot_put, slot_claim, slot_release, slot_resize, anchor_count}
+use Rattle.rh_defs.specs.Heap.{Heap, Segment, Used, Hole, IsHeap, IsTidy, size_of, bytes_of, first_place, place_after, is_block_at, block_around, is_around}
+use Rattle.rh_defs.specs.Heap.{need, raised, new_size, resize_need, released, fitted}
+use Rattle.rh_defs.specs.Slot.{Slot, Flex, IsSlot, HaveAnchors, weight, flex_weight, slot_length, slot_pages, flex_start, heap_start, flex_address, block_of}
+use Rattle.rh_defs.specs.Slot.{flex_around, heap_block_at, with_bytes, with_heap, length_with, lacks_room, opened_at, taken_out, slot_begin, slot_alloc}
+use Rattle.rh_defs.specs.Slot.{slot_block, slot_free, slot_extend, slot_mid, slot_put, slot_claim, slot_release, slot_resize, anchor_count}
 use Rattle.rh_defs.specs.Places.{with_heap_bytes, roomy_in, buffer_at, written_heap, written_around, written_in}
 use Rattle.rh_defs.specs.IncomingEvents.{without_buffer}
 use Rattle.rh_defs.proofs.Chains.{OnGrant, granted, refused, granted-with, granted-unless, found_or-grants}
@@ -33,18 +37,24 @@ unfolding slot_block
 block-grants k s = found_or-grants (AtAnchor k s) (block_of k s) _ (first_at-cuts weight (λ _ b. b.anchor == k) (flex_start s) s.blocks)
 
 -- other bytes in a block
-bytes-slot : {test : ℕ → Flex → Bool} {place : ℕ} (b : Split Flex) (bytes : List ℕ) (s : Slot) → IsCut weight test place s.blocks b → IsSlot s → IsSlot (with_bytes b bytes s)
-bytes-slot b bytes s cut is = record { heap = is.heap; anchors = anchors-here b.here (record { anchor = b.here.anchor; bytes = bytes }) b.after refl b.before (subst HaveAnchors (sym cut.whole) is.anchors) }
+bytes-slot : {test : ℕ → Flex → Bool} {place : ℕ} (b : Split Flex) (bytes : List ℕ) (s : Slot) → IsCut weight test place s.blocks b → IsSlot s
+    → IsSlot (with_bytes b bytes s)
+bytes-slot b bytes s cut is =
+    record {
+      heap = is.heap;
+      anchors = anchors-here b.here (record { anchor = b.here.anchor; bytes = bytes }) b.after refl b.before (subst HaveAnchors (sym cut.whole) is.anchors);
+    }
 
-bytes-room : {test : ℕ → Flex → Bool} {place : ℕ} (free n : ℕ) (b : Split Flex) (bytes : List ℕ) (s : Slot) → IsCut weight test place s.blocks b → length bytes ≡ n → lacks_room free (length_with b n s) s ≡ false
-    → IsSlot s → IsRoomed free s (with_bytes b bytes s)
+bytes-room : {test : ℕ → Flex → Bool} {place : ℕ} (free n : ℕ) (b : Split Flex) (bytes : List ℕ) (s : Slot) → IsCut weight test place s.blocks b
+    → length bytes ≡ n → lacks_room free (length_with b n s) s ≡ false → IsSlot s → IsRoomed free s (with_bytes b bytes s)
 bytes-room free n b bytes s cut e room is =
     let size : slot_length (with_bytes b bytes s) ≡ length_with b n s = length-with_bytes b bytes s (sym cut.whole) ∙ ap (λ m. length_with b m s) e in
     let some : pages_for (length_with b n s) - slot_pages s ≤ free = ltb-false _ _ room in
     record { room = omega (arith, ap pages_for size, some); slot = bytes-slot b bytes s cut is }
 
 -- as many bytes as before
-same-room : {test : ℕ → Flex → Bool} {place : ℕ} (b : Split Flex) (bytes : List ℕ) (s : Slot) → IsCut weight test place s.blocks b → length bytes ≡ length b.here.bytes → slot_pages (with_bytes b bytes s) ≡ slot_pages s
+same-room : {test : ℕ → Flex → Bool} {place : ℕ} (b : Split Flex) (bytes : List ℕ) (s : Slot) → IsCut weight test place s.blocks b
+    → length bytes ≡ length b.here.bytes → slot_pages (with_bytes b bytes s) ≡ slot_pages s
 same-room b bytes s cut e =
     ap pages_for (omega (
       arith,
@@ -57,7 +67,9 @@ same-room b bytes s cut e =
 
 pub slot_begin-grants : (free : ℕ) → OnGrant (λ s. (slot_pages s ≤ free) × IsSlot s) (slot_begin free)
 unfolding slot_begin
-slot_begin-grants free = granted-unless _ _ _ λ room. granted (omega (arith, ltb-false _ _ room), record { heap = record { tidy = tt; fits = omega arith; multiple = omega arith }; anchors = tt })
+slot_begin-grants free =
+    granted-unless _ _ _ λ room. granted
+    (omega (arith, ltb-false _ _ room), record { heap = record { tidy = tt; fits = omega arith; multiple = omega arith }; anchors = tt })
 
 pub slot_alloc-grants : (free k n : ℕ) (s : Slot) → k < anchor_count → IsSlot s → OnGrant (λ (p : Slot × ℕ). IsRoomed free s p.0) (slot_alloc free k n s)
 unfolding slot_alloc
@@ -117,7 +129,8 @@ slot_put-grants free k offset bytes s is =
 heap-slot : (h : Heap) (s : Slot) → IsHeap h → IsSlot s → IsSlot (with_heap h s)
 heap-slot h s heap is = record { heap = heap; anchors = is.anchors }
 
-grown-room : (free shortage : ℕ) (h : Heap) (s : Slot) → h.end ≡ (raised shortage s.heap).end → lacks_pages free shortage ≡ false → IsHeap h → IsSlot s → IsRoomed free s (with_heap h s)
+grown-room : (free shortage : ℕ) (h : Heap) (s : Slot) → h.end ≡ (raised shortage s.heap).end → lacks_pages free shortage ≡ false → IsHeap h → IsSlot s
+    → IsRoomed free s (with_heap h s)
 grown-room free shortage h s e room heap is =
     record { room = omega (arith, ltb-false _ _ room, pages-with_heap shortage h s e); slot = heap-slot h s heap is }
 
@@ -133,7 +146,8 @@ slot_release-grants free address s is =
     granted-with _ (found_or-grants _ _ _ (block-cuts (address - heap_start) s.heap)) λ b cut.
     granted (record { room = omega arith; slot = heap-slot (released b s.heap) s (released-heap _ b s.heap is.heap cut) is })
 
-pub slot_resize-grants : (free address : ℕ) (delta : ℤ) (s : Slot) → IsSlot s → OnGrant (λ (p : Slot × ℕ). IsRoomed free s p.0) (slot_resize free address delta s)
+pub slot_resize-grants : (free address : ℕ) (delta : ℤ) (s : Slot) → IsSlot s
+    → OnGrant (λ (p : Slot × ℕ). IsRoomed free s p.0) (slot_resize free address delta s)
 unfolding slot_resize
 slot_resize-grants free address delta s is =
     granted-with _ (found_or-grants _ _ _ (block-cuts (address - heap_start) s.heap)) λ b cut.
@@ -152,11 +166,13 @@ pub kept-same : (s : Slot) → IsSlot s → IsKept s s
 kept-same s is = record { pages = omega arith; slot = is }
 
 -- bytes written whole inside a block of the C heap
-heap_bytes-kept : {test : ℕ → Segment → Bool} (b : Split Segment) (old : List ℕ) (offset : ℕ) (bytes : List ℕ) (s : Slot) → IsSlot s → lists.IsCut size_of test first_place s.heap.segments b → b.here ≡ Used old → offset + length bytes ≤ length old
+heap_bytes-kept : {test : ℕ → Segment → Bool} (b : Split Segment) (old : List ℕ) (offset : ℕ) (bytes : List ℕ) (s : Slot) → IsSlot s
+    → lists.IsCut size_of test first_place s.heap.segments b → b.here ≡ Used old → offset + length bytes ≤ length old
     → IsKept s (with_heap_bytes b offset bytes s)
 heap_bytes-kept b old offset bytes s is cut used inside =
     let new = written (bytes_of b.here) offset bytes in
-    let size : length new ≡ length old = length-written (bytes_of b.here) offset bytes (omega (arith, ap (λ g. length (bytes_of g)) used)) ∙ ap (λ g. length (bytes_of g)) used in
+    let size : length new ≡ length old =
+    length-written (bytes_of b.here) offset bytes (omega (arith, ap (λ g. length (bytes_of g)) used)) ∙ ap (λ g. length (bytes_of g)) used in
     let whole : s.heap.segments ≡ b.before ++ Used old ∷ b.after = cut.whole ∙ ap (λ g. b.before ++ g ∷ b.after) used in
     let tidy : IsTidy false (b.before ++ Used old ∷ b.after) = subst (IsTidy false) whole is.heap.tidy in
     let behind = lists.tidy_behind_used false b.before old b.after tidy in
@@ -183,21 +199,26 @@ heap_bytes-kept b old offset bytes s is cut used inside =
 is_inside-true : (x n a m : ℕ) → is_inside x n a m ≡ true → (a ≤ x) × (x + n ≤ a + m)
 is_inside-true x n a m e = grind (arith, nat_tests)
 
-around-used : (x n place : ℕ) (g : Segment) → is_around x n place g ≡ true → (g ≡ Used (bytes_of g)) × ((place + 4 ≤ x) × (x + n ≤ place + 4 + length (bytes_of g)))
+around-used : (x n place : ℕ) (g : Segment) → is_around x n place g ≡ true
+    → (g ≡ Used (bytes_of g)) × ((place + 4 ≤ x) × (x + n ≤ place + 4 + length (bytes_of g)))
 around-used x n place (Used bytes) e = (refl, is_inside-true x n (place + 4) (length bytes) e)
 around-used x n place (Hole size) e = absurd cc
 
 -- bytes written inside the block of the C heap that holds them
-written_heap-kept : (x : ℕ) (bytes : List ℕ) (s : Slot) (o : Option (Split Segment)) → IsSlot s → IfSome o (lists.IsCut size_of (is_around (x - heap_start) (length bytes)) first_place s.heap.segments) → IsKept s (written_heap x bytes o s)
+written_heap-kept : (x : ℕ) (bytes : List ℕ) (s : Slot) (o : Option (Split Segment)) → IsSlot s
+    → IfSome o (lists.IsCut size_of (is_around (x - heap_start) (length bytes)) first_place s.heap.segments) → IsKept s (written_heap x bytes o s)
 written_heap-kept x bytes s None is c = kept-same s is
 written_heap-kept x bytes s (Some b) is c =
     let found = around-used (x - heap_start) (length bytes) (first_place + total size_of b.before) b.here c.passes in
     heap_bytes-kept b (bytes_of b.here) (x - (heap_start + place_after b.before + 4)) bytes s is c found.0 (omega (arith, found.1.0, found.1.1))
 
 -- and inside the flex block that does
-written_around-kept : (x : ℕ) (bytes : List ℕ) (s : Slot) (o : Option (Split Flex)) → IsSlot s → IfSome o (IsCut weight (λ place b. is_inside x (length bytes) (place + 8) (length b.bytes)) (flex_start s) s.blocks) → IsKept s (written_around x bytes o s)
+written_around-kept : (x : ℕ) (bytes : List ℕ) (s : Slot) (o : Option (Split Flex)) → IsSlot s
+    → IfSome o (IsCut weight (λ place b. is_inside x (length bytes) (place + 8) (length b.bytes)) (flex_start s) s.blocks)
+    → IsKept s (written_around x bytes o s)
 written_around-kept x bytes s None is c =
-    written_heap-kept x bytes s (block_around (x - heap_start) (length bytes) s.heap) is (lists.first_at-cuts size_of (is_around (x - heap_start) (length bytes)) first_place s.heap.segments)
+    written_heap-kept x bytes s (block_around (x - heap_start) (length bytes) s.heap) is
+    (lists.first_at-cuts size_of (is_around (x - heap_start) (length bytes)) first_place s.heap.segments)
 written_around-kept x bytes s (Some b) is c =
     let inside = is_inside-true x (length bytes) ((flex_start s + total weight b.before) + 8) (length b.here.bytes) c.passes in
     let new = written b.here.bytes (x - flex_address s b.before) bytes in
@@ -219,11 +240,13 @@ buffer_at-is address n s = go (heap_block_at address s) (block-cuts (address - h
     at-block a place (Used bytes) e = refl
     at-block a place (Hole size) e = absurd cc
 
-    roomy : (b : Split Segment) → lists.IsCut size_of (is_block_at (address - heap_start)) first_place s.heap.segments b → (t : Bool) → nat_le n (length (bytes_of b.here)) ≡ t → IfSome (cond t (Some b) None) (IsBuffer n s)
+    roomy : (b : Split Segment) → lists.IsCut size_of (is_block_at (address - heap_start)) first_place s.heap.segments b → (t : Bool)
+        → nat_le n (length (bytes_of b.here)) ≡ t → IfSome (cond t (Some b) None) (IsBuffer n s)
     roomy b c true e = record { old = bytes_of b.here; used = at-block _ _ b.here c.passes; room = leb-true _ _ e; address = address - heap_start; cut = c }
     roomy b c false e = tt
 
-    go : (o : Option (Split Segment)) → IfSome o (lists.IsCut size_of (is_block_at (address - heap_start)) first_place s.heap.segments) → IfSome (roomy_in n o) (IsBuffer n s)
+    go : (o : Option (Split Segment)) → IfSome o (lists.IsCut size_of (is_block_at (address - heap_start)) first_place s.heap.segments)
+        → IfSome (roomy_in n o) (IsBuffer n s)
     go None c = tt
     go (Some b) c = roomy b c (nat_le n (length (bytes_of b.here))) refl
 

@@ -62,9 +62,11 @@ Lie-same b c p e (f ∷ fs) s h l = (
 pub record Carried (b c : List ℕ) (from to n : ℕ) : Type 0 where
   pub each : (k : ℕ) → k < n → get_or c (to + k) 0 ≡ get_or b (from + k) 0
 
-moved_by : {b c : List ℕ} {from to n : ℕ} → Carried b c from to n → {m : ℕ} (d : ℕ) → d + m ≤ n → (k : ℕ) → k < m → get_or c (to + d + k) 0 ≡ get_or b (from + d + k) 0
+moved_by : {b c : List ℕ} {from to n : ℕ} → Carried b c from to n → {m : ℕ} (d : ℕ) → d + m ≤ n → (k : ℕ) → k < m
+    → get_or c (to + d + k) 0 ≡ get_or b (from + d + k) 0
 moved_by {b} {c} {from} {to} s d h k l =
-    ap (λ i. get_or c i 0) (let e : to + d + k ≡ to + (d + k) = omega arith in e) ∙ s.each (d + k) (omega arith) ∙ ap (λ i. get_or b i 0) (let e : from + (d + k) ≡ from + d + k = omega arith in e)
+    ap (λ i. get_or c i 0) (let e : to + d + k ≡ to + (d + k) = omega arith in e) ∙ s.each (d + k) (omega arith)
+    ∙ ap (λ i. get_or b i 0) (let e : from + (d + k) ≡ from + d + k = omega arith in e)
 
 rest_of : {b c : List ℕ} {from to n : ℕ} → Carried b c from to n → {m : ℕ} (d : ℕ) → d + m ≤ n → Carried b c (from + d) (to + d) m
 rest_of s d h = record { each = moved_by s d h }
@@ -90,7 +92,8 @@ Lie-unique b p (f ∷ fs) (g ∷ gs) l m e =
     let bytes : f.bytes ≡ g.bytes = sym l.2 ∙ ap (part b (p + 8)) long ∙ m.2 in
     let one : f ≡ g = flex_same f g anchor bytes in
     let rest : Lie b (p + weight f) gs = subst (λ n. Lie b (p + flex_weight n) gs) (sym long) m.3 in
-    ap (λ h. h ∷ fs) one ∙ ap (λ hs. g ∷ hs) (Lie-unique b (p + weight f) fs gs l.3 rest (let w : flex_weight (length f.bytes) ≡ flex_weight (length g.bytes) = ap flex_weight long in omega arith))
+    ap (λ h. h ∷ fs) one ∙ ap (λ hs. g ∷ hs) (Lie-unique b (p + weight f) fs gs l.3 rest
+    (let w : flex_weight (length f.bytes) ≡ flex_weight (length g.bytes) = ap flex_weight long in omega arith))
 
 pub none_weigh : (fs : List Flex) → total weight fs ≡ 0 → fs ≡ []
 none_weigh [] e = refl

@@ -15,7 +15,8 @@ pub length-with_zeros : (k n : ℕ) (s : Slot) → slot_length (with_block k (ze
 length-with_zeros k n s = omega (arith, total-append weight s.blocks (record { anchor = k; bytes = zeros n } ∷ []), length-replicate {A = ℕ} n 0)
 
 -- other bytes in a block
-pub length-with_bytes : (b : Split Flex) (bytes : List ℕ) (s : Slot) → s.blocks ≡ b.before ++ b.here ∷ b.after → slot_length (with_bytes b bytes s) ≡ length_with b (length bytes) s
+pub length-with_bytes : (b : Split Flex) (bytes : List ℕ) (s : Slot) → s.blocks ≡ b.before ++ b.here ∷ b.after
+    → slot_length (with_bytes b bytes s) ≡ length_with b (length bytes) s
 length-with_bytes b bytes s whole =
     omega (
       arith,
@@ -25,7 +26,8 @@ length-with_bytes b bytes s whole =
     )
 
 -- a longer C heap: the pages of what it grew by
-pub pages-with_heap : (shortage : ℕ) (h : Heap) (s : Slot) → h.end ≡ (raised shortage s.heap).end → slot_pages (with_heap h s) ≡ slot_pages s + pages_for shortage
+pub pages-with_heap : (shortage : ℕ) (h : Heap) (s : Slot) → h.end ≡ (raised shortage s.heap).end
+    → slot_pages (with_heap h s) ≡ slot_pages s + pages_for shortage
 pages-with_heap shortage h s e = omega (arith, e)
 
 -- ---- lengths of bytes
@@ -34,6 +36,7 @@ pub length-fitted : (n : ℕ) (bytes : List ℕ) → length (fitted n bytes) ≡
 length-fitted n bytes = simp (length-append, length-take) (omega (arith, length-replicate {A = ℕ} (n - length bytes) 0))
 
 -- zeros put in, or bytes taken out, inside the block
-pub length-opened_at : (offset : ℕ) (by : ℤ) (bytes : List ℕ) → offset ≤ length bytes → taken_out by ≤ offset → length (opened_at offset by bytes) ≡ moved (length bytes) by
+pub length-opened_at : (offset : ℕ) (by : ℤ) (bytes : List ℕ) → offset ≤ length bytes → taken_out by ≤ offset
+    → length (opened_at offset by bytes) ≡ moved (length bytes) by
 length-opened_at offset (pos by) bytes inside out = simp (length-append, length-take, length-drop) (omega (arith, length-replicate {A = ℕ} by 0))
 length-opened_at offset (negsuc by) bytes inside out = simp (length-append, length-take, length-drop) (omega arith)

@@ -7,7 +7,8 @@ use Rattle.rh_defs.specs.Chain.{Granted, answer_of, left_of, result_or}
 use Rattle.rh_defs.specs.Pieces.{page}
 use Rattle.rh_defs.specs.Heap.{Heap, empty_heap}
 use Rattle.rh_defs.specs.Slot as slot
-use Rattle.rh_defs.specs.Slot.{Slot, new_slot, slot_pages, slot_alloc, slot_free, slot_extend, slot_mid, slot_put, slot_read, slot_claim, slot_release, slot_resize, slot_take_pages, holds}
+use Rattle.rh_defs.specs.Slot.{Slot, new_slot, slot_pages, slot_alloc, slot_free, slot_extend, slot_mid, slot_put, slot_read, slot_claim, slot_release}
+use Rattle.rh_defs.specs.Slot.{slot_resize, slot_take_pages, holds}
 use Rattle.rh_defs.specs.Module as module_area
 use Rattle.rh_defs.specs.Module.{module_claim, module_free, module_resize, module_change, module_need_pages}
 use Rattle.rh_defs.specs.Listing.{block_items}
@@ -109,7 +110,8 @@ unfolding slot.computing chain.computing
 sliding_end = refl
 
 -- the C heap's blocks get other sizes
-pub resizing : answers new_slot (Claim 10 ∷ Claim 10 ∷ Resize 0x8114 (pos 1) ∷ Resize 0x8134 (pos 8) ∷ Resize 0x8124 (negsuc 11) ∷ Resize 0x8124 (negsuc 0) ∷ Resize 0x8124 (negsuc 7) ∷ Resize 0x8124 (pos 8) ∷ Claim 0 ∷ [])
+pub resizing : answers new_slot (Claim 10 ∷ Claim 10 ∷ Resize 0x8114 (pos 1) ∷ Resize 0x8134 (pos 8) ∷ Resize 0x8124 (negsuc 11) ∷ Resize 0x8124 (negsuc 0)
+    ∷ Resize 0x8124 (negsuc 7) ∷ Resize 0x8124 (pos 8) ∷ Claim 0 ∷ [])
     ≡ Ok 0x8114 ∷ Ok 0x8124 ∷ Ok 0x8134 ∷ Ok 0x8134 ∷ Err BadSize ∷ Ok 0x8124 ∷ Ok 0x8124 ∷ Ok 0x8124 ∷ Err BadSize ∷ []
 unfolding slot.computing chain.computing
 resizing = refl
@@ -127,13 +129,15 @@ unfolding slot.computing chain.computing
 extending_end = refl
 
 -- ranges: whole in a flex block, past its end, whole in a block of the C heap, in a hole's place
-pub held : map (λ (r : ℕ × ℕ). holds r.0 r.1 (slot_after new_slot (Alloc 0 5 ∷ Claim 10 ∷ []))) ((0x9008, 5) ∷ (0x9009, 5) ∷ (0x9007, 1) ∷ (0x8114, 12) ∷ (0x8114, 13) ∷ (0x8113, 1) ∷ [])
+pub held : map (λ (r : ℕ × ℕ). holds r.0 r.1 (slot_after new_slot (Alloc 0 5 ∷ Claim 10 ∷ [])))
+    ((0x9008, 5) ∷ (0x9009, 5) ∷ (0x9007, 1) ∷ (0x8114, 12) ∷ (0x8114, 13) ∷ (0x8113, 1) ∷ [])
     ≡ true ∷ false ∷ false ∷ true ∷ false ∷ false ∷ []
 unfolding slot.computing chain.computing
 held = refl
 
 -- sizes that no pool holds are refused, before a block of such a size is thought of
-pub huge : answers new_slot (Alloc 0 2147483647 ∷ Alloc 0 5 ∷ Extend 0 2147483647 ∷ Mid 0 5 (pos 2147483647) ∷ Claim 2147483647 ∷ Claim 10 ∷ Resize 0x8114 (pos 2147483647) ∷ [])
+pub huge : answers new_slot (Alloc 0 2147483647 ∷ Alloc 0 5 ∷ Extend 0 2147483647 ∷ Mid 0 5 (pos 2147483647) ∷ Claim 2147483647 ∷ Claim 10 ∷ Resize 0x8114
+    (pos 2147483647) ∷ [])
     ≡ Err NoRoom ∷ Ok 0x9008 ∷ Err NoRoom ∷ Err NoRoom ∷ Err NoRoom ∷ Ok 0x8114 ∷ Err NoRoom ∷ []
 unfolding slot.computing chain.computing
 huge = refl
@@ -167,7 +171,8 @@ unfolding module_area.computing chain.computing
 huge_module_blocks = refl
 
 -- blocks that make the area grow, and an area that shrinks
-pub module_blocks : module_answers (empty_heap 4096) (ModuleClaim 4076 ∷ ModuleClaim 1 ∷ Change (negsuc 4095) ∷ ModuleFree 0x1004 ∷ Change (negsuc 4095) ∷ ModuleFree 0x1004
+pub module_blocks : module_answers (empty_heap 4096) (ModuleClaim 4076 ∷ ModuleClaim 1 ∷ Change (negsuc 4095) ∷ ModuleFree 0x1004 ∷ Change (negsuc 4095)
+    ∷ ModuleFree 0x1004
     ∷ ModuleResize 0x14 (pos 4096) ∷ ModuleResize 0x14 (negsuc 8171) ∷ ModuleClaim 0 ∷ ModuleClaim 2147483647 ∷ [])
     ≡ Ok 0x14 ∷ Ok 0x1004 ∷ Err ExcessiveShrink ∷ Ok 0 ∷ Ok 4096 ∷ Err NotABlock ∷ Ok 0x14 ∷ Err BadSize ∷ Err BadSize ∷ Err NoRoom ∷ []
 unfolding module_area.computing chain.computing

@@ -24,7 +24,8 @@ flex_spans-within place (b ∷ blocks) = (
 )
 
 -- a span that ends where others begin
-pub before-all : (a : Span) (from to : ℕ) (spans : List Span) → a.start + a.size ≤ from → AllByRecursion (IsWithin from to) spans → AllByRecursion (IsApart a) spans
+pub before-all : (a : Span) (from to : ℕ) (spans : List Span) → a.start + a.size ≤ from → AllByRecursion (IsWithin from to) spans
+    → AllByRecursion (IsApart a) spans
 before-all a from to spans h all = all-mono (λ span w. inl (omega (arith, w.0))) spans all
 
 pub flex_spans-apart : (place : ℕ) (blocks : List Flex) → AreApart (flex_spans place blocks)

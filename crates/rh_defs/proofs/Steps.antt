@@ -1,5 +1,6 @@
 -- Each command keeps what holds of a desk.
-use Rattle.std.proofs.Common.{◌≡◌, ◌≢◌, ℕ, ◌+◌, ◌*◌, ◌/◌, ◌≤◌, ◌<◌, ◌^◌, Bool, true, false, cond, refl, ap, sym, subst, ◌∙◌, arith, List, [], ◌∷◌, ◌++◌, length, length-append, map}
+use Rattle.std.proofs.Common.{◌≡◌, ◌≢◌, ℕ, ◌+◌, ◌*◌, ◌/◌, ◌≤◌, ◌<◌, ◌^◌, Bool, true, false, cond, refl, ap, sym, subst, ◌∙◌, arith, List, [], ◌∷◌, ◌++◌}
+use Rattle.std.proofs.Common.{length, length-append, map}
 use Rattle.std.proofs.lemmas.List.{map-append, length-map}
 use Rattle.std.specs.Prelude.{Option, Some, None, ℤ, pos, negsuc, ◌&&◌, ◌==◌, nat_lt, not, find, filter, slice_index}
 use Rattle.std.specs.List.{AllByRecursion, list_all}
@@ -17,7 +18,9 @@ use Rattle.rh_defs.specs.Module.{changed_length}
 use Rattle.rh_defs.specs.Messages.{Parcel}
 use Rattle.rh_defs.specs.Post.{Post, post_poll, post_death, post_join}
 use Rattle.rh_defs.specs.Desk.{Desk, Task, Made, most_tasks, task_pages, used_pages, free_pages, with_delivered}
-use Rattle.rh_defs.specs.Commands.{Answer, start_task, kill, alloc, load, put, free, extend, mid, claim, release, resize, budge, module_area, scrap_area, file_length, least_length, shrinks_below, pages_after, change_module, change_pages, is_numbered, with_pages, change_made, change_area, make, remove, rma_claim, rma_free, rma_resize}
+use Rattle.rh_defs.specs.Commands.{Answer, start_task, kill, alloc, load, put, free, extend, mid, claim, release, resize, budge, module_area, scrap_area}
+use Rattle.rh_defs.specs.Commands.{file_length, least_length, shrinks_below, pages_after, change_module, change_pages, is_numbered, with_pages, change_made}
+use Rattle.rh_defs.specs.Commands.{change_area, make, remove, rma_claim, rma_free, rma_resize}
 use Rattle.rh_defs.specs.Questions.{asked}
 use Rattle.rh_defs.specs.Step.{save, repeat, poll, poll_taken, cancel_in, cancel_out, change, step}
 use Rattle.rh_defs.specs.Transfer.{handled}
@@ -28,8 +31,10 @@ use Rattle.rh_defs.proofs.Cuts.{total-append}
 use Rattle.rh_defs.proofs.Lists.{append-all, filter-all, filter-total, filter-length, map-filter, rise-append, rise-filter, rise-same, some-is}
 use Rattle.rh_defs.proofs.ModuleKeeps.{module_claim-grants, module_free-grants, module_resize-grants, module_change-grants, changed-whole}
 use Rattle.rh_defs.proofs.PostKeeps.{post_poll-kept, post_death-kept, post_join-is, post_join-handles, post_join-end}
-use Rattle.rh_defs.proofs.SlotKeeps.{slot_begin-grants, slot_alloc-grants, slot_free-grants, slot_extend-grants, slot_mid-grants, slot_put-grants, slot_claim-grants, slot_release-grants, slot_resize-grants}
-use Rattle.rh_defs.proofs.Desks.{IsTask, HasSlot, named-task, with_slot-keeps, with_sending-keeps, with_taking-keeps, roomed-after, kept_scrap-less, with_delivered-keeps, send_letter-keeps, with_module-keeps, areas-keep}
+use Rattle.rh_defs.proofs.SlotKeeps.{slot_begin-grants, slot_alloc-grants, slot_free-grants, slot_extend-grants, slot_mid-grants, slot_put-grants}
+use Rattle.rh_defs.proofs.SlotKeeps.{slot_claim-grants, slot_release-grants, slot_resize-grants}
+use Rattle.rh_defs.proofs.Desks.{IsTask, HasSlot, named-task, with_slot-keeps, with_sending-keeps, with_taking-keeps, roomed-after, kept_scrap-less}
+use Rattle.rh_defs.proofs.Desks.{with_delivered-keeps, send_letter-keeps, with_module-keeps, areas-keep}
 use Rattle.rh_defs.proofs.Transfers.{IsAfter, handled-keeps}
 
 -- the desk of an answer is one of a run
@@ -46,8 +51,8 @@ Keeps d r = IsDesk d → OnGrant IsAnswer r
 -- ---- parts of commands
 
 -- a desk with one more task
-with_new_task-keeps : (d : Desk) (t : Task) → t.handle ≡ d.next_handle → length d.tasks < most_tasks → d.next_handle < 2 ^ 32 → task_pages t ≤ free_pages d → HasSlot t → IsDesk d
-    → IsDesk (record d { tasks = d.tasks ++ t ∷ []; post = post_join d.next_handle d.post; next_handle = d.next_handle + 1 })
+with_new_task-keeps : (d : Desk) (t : Task) → t.handle ≡ d.next_handle → length d.tasks < most_tasks → d.next_handle < 2 ^ 32 → task_pages t ≤ free_pages d
+    → HasSlot t → IsDesk d → IsDesk (record d { tasks = d.tasks ++ t ∷ []; post = post_join d.next_handle d.post; next_handle = d.next_handle + 1 })
 with_new_task-keeps d t next few more room slot is =
     let handles : seat_handles (post_join d.next_handle d.post).seats ≡ task_handles (d.tasks ++ t ∷ []) =
     post_join-handles d.next_handle d.post ∙ ap (λ hs. hs ++ d.next_handle ∷ []) is.seats ∙ ap (λ h. task_handles d.tasks ++ h ∷ []) (sym next)
@@ -67,7 +72,8 @@ with_new_task-keeps d t next few more room slot is =
     }
 
 -- other made areas
-made-keep : (made : List Made) (next : ℕ) (d : Desk) → used_pages (record d { made = made; next_area = next }) ≤ d.pool → AreMade next made → IsDesk d → IsDesk (record d { made = made; next_area = next })
+made-keep : (made : List Made) (next : ℕ) (d : Desk) → used_pages (record d { made = made; next_area = next }) ≤ d.pool → AreMade next made → IsDesk d
+    → IsDesk (record d { made = made; next_area = next })
 made-keep made next d room are is = record {
   pool = is.pool;
   pages = room;
@@ -109,7 +115,8 @@ module _ (k n : ℕ) where
   changed-numbers : (made : List Made) → map (λ (m : Made). m.number) (map (with_pages k n) made) ≡ map (λ (m : Made). m.number) made
   changed-numbers [] = refl
   changed-numbers (m ∷ made) =
-      elim (is_numbered k m) as (λ b. (let r : Made = cond b (record m { pages = n }) m in r.number) ∷ map (λ (m : Made). m.number) (map (with_pages k n) made) ≡ m.number ∷ map (λ (m : Made). m.number) made)
+      elim (is_numbered k m) as (λ b. (let r : Made = cond b (record m { pages = n }) m in r.number) ∷ map (λ (m : Made). m.number)
+      (map (with_pages k n) made) ≡ m.number ∷ map (λ (m : Made). m.number) made)
       [ true ↦ ap (λ ns. m.number ∷ ns) (changed-numbers made) | false ↦ ap (λ ns. m.number ∷ ns) (changed-numbers made) ]
 
   -- areas of greater numbers stay
@@ -130,15 +137,16 @@ module _ (k n : ℕ) where
     where
       go : (b : Bool) → (x.number == k) ≡ b → cond b (Some x) (find (is_numbered k) made) ≡ Some m
           → (find (is_numbered k) made ≡ Some m → total (λ (m : Made). m.pages) (map (with_pages k n) made) + m.pages ≡ total (λ (m : Made). m.pages) made + n)
-          → total (λ (m : Made). m.pages) (cond b (record x { pages = n }) x ∷ map (with_pages k n) made) + m.pages ≡ (x.pages + total (λ (m : Made). m.pages) made) + n
+          → total (λ (m : Made). m.pages) (cond b (record x { pages = n }) x ∷ map (with_pages k n) made) + m.pages ≡
+          (x.pages + total (λ (m : Made). m.pages) made) + n
       go true e q rest =
           let same : x ≡ m = cc in
           let stay = others-stay (x.number + 1) next made (omega (arith, eqb-true _ _ e)) up.1 in
           omega (arith, ap (λ (m : Made). m.pages) same, ap (total (λ (m : Made). m.pages)) stay)
       go false e q rest = omega (arith, rest q)
 
-  changed-sizes : (least next : ℕ) (made : List Made) (m : Made) → Rise (λ (m : Made). m.number) least next made → find (is_numbered k) made ≡ Some m → n ≤ m.most
-      → AllByRecursion (λ (m : Made). m.pages ≤ m.most) made → AllByRecursion (λ (m : Made). m.pages ≤ m.most) (map (with_pages k n) made)
+  changed-sizes : (least next : ℕ) (made : List Made) (m : Made) → Rise (λ (m : Made). m.number) least next made → find (is_numbered k) made ≡ Some m
+      → n ≤ m.most → AllByRecursion (λ (m : Made). m.pages ≤ m.most) made → AllByRecursion (λ (m : Made). m.pages ≤ m.most) (map (with_pages k n) made)
   changed-sizes least next [] m up e small all = tt
   changed-sizes least next (x ∷ made) m up e small all = go (x.number == k) refl e (λ q. changed-sizes (x.number + 1) next made m up.1 q small all.1)
     where
@@ -334,7 +342,8 @@ module _ (d : Desk) where
   change_made-keeps : (k : ℕ) (delta : ℤ) → Keeps d (change_made d k delta)
   unfolding change_made
   change_made-keeps k delta is =
-      granted-with _ (found_or-grants (λ m. find (is_numbered k) d.made ≡ Some m) (find (is_numbered k) d.made) _ (some-is (find (is_numbered k) d.made))) λ m found.
+      granted-with _ (found_or-grants (λ m. find (is_numbered k) d.made ≡ Some m) (find (is_numbered k) d.made) _ (some-is (find (is_numbered k) d.made)))
+      λ m found.
       granted-with _ (pages_after-grants (free_pages d) 0 m.pages delta (omega arith)) λ n fits.
       granted-past _ _ _ λ big.
       granted (answer-is (made-keep (map (with_pages k n) d.made) d.next_area d
@@ -349,7 +358,8 @@ module _ (d : Desk) where
   change_area-keeps : (k : ℕ) (delta : ℤ) → Keeps d (change_area d k delta)
   change_area-keeps k delta is = go (k == module_area) (nat_lt k (length d.areas)) refl refl
     where
-      go : (a b : Bool) → (k == module_area) ≡ a → nat_lt k (length d.areas) ≡ b → OnGrant IsAnswer (cond a (change_module d delta) (cond b (change_pages d k delta) (change_made d k delta)))
+      go : (a b : Bool) → (k == module_area) ≡ a → nat_lt k (length d.areas) ≡ b
+          → OnGrant IsAnswer (cond a (change_module d delta) (cond b (change_pages d k delta) (change_made d k delta)))
       go true b e f = change_module-keeps delta is
       go false true e f = change_pages-keeps k delta (ltb-true _ _ f) (λ q. eqb-false _ _ e (sym q)) is
       go false false e f = change_made-keeps k delta is

@@ -19,14 +19,18 @@ use Rattle.rh_defs.specs.Messages.{Parcel}
 use Rattle.rh_defs.specs.Places.{free_from, free_anchor}
 use Rattle.rh_defs.specs.Desk.{Desk, Task, Scrap, next_ref, free_pages, with_slot}
 use Rattle.rh_defs.specs.Commands.{scrap_area, file_length}
-use Rattle.rh_defs.specs.OutgoingEvents.{Handled, refused as failed_by, portion, transmit, answer_fetch, fail_sending, scrap_shortage, wider, save_scrap, answer_ack, finish_load}
-use Rattle.rh_defs.specs.IncomingEvents.{without_buffer, ended, accept, take_save, appended, fetch_more, took, take_bytes, ask, fetch_back, ack_back, loaded, load_file, take_file}
+use Rattle.rh_defs.specs.OutgoingEvents.{Handled, refused as failed_by, portion, transmit, answer_fetch, fail_sending, scrap_shortage, wider, save_scrap}
+use Rattle.rh_defs.specs.OutgoingEvents.{answer_ack, finish_load}
+use Rattle.rh_defs.specs.IncomingEvents.{without_buffer, ended, accept, take_save, appended, fetch_more, took, take_bytes, ask, fetch_back, ack_back, loaded}
+use Rattle.rh_defs.specs.IncomingEvents.{load_file, take_file}
 use Rattle.rh_defs.specs.Transfer.{came, came_back, handled}
 use Rattle.rh_defs.specs.Laws.{IsDesk}
-use Rattle.rh_defs.proofs.Chains.{OnGrant, granted, granted-then, granted-with, granted-both, granted-past, granted-unless, found_or-grants, or_else-keeps, chosen}
+use Rattle.rh_defs.proofs.Chains.{OnGrant, granted, granted-then, granted-with, granted-both, granted-past, granted-unless, found_or-grants, or_else-keeps}
+use Rattle.rh_defs.proofs.Chains.{chosen}
 use Rattle.rh_defs.proofs.PostKeeps.{sendable-grants}
 use Rattle.rh_defs.proofs.SlotKeeps.{slot_alloc-grants, slot_claim-grants, slot_extend-grants, slot_put-grants, written_in-kept, without_buffer-kept}
-use Rattle.rh_defs.proofs.Desks.{IsTask, areas-keep, with_task-keeps, with_sending-keeps, with_taking-keeps, with_slot-keeps, roomed-then, roomed-after, send_letter-keeps}
+use Rattle.rh_defs.proofs.Desks.{IsTask, areas-keep, with_task-keeps, with_sending-keeps, with_taking-keeps, with_slot-keeps, roomed-then, roomed-after}
+use Rattle.rh_defs.proofs.Desks.{send_letter-keeps}
 
 -- a desk, and what a poll did with its message
 pub record IsAfter (after : Handled) : Type 0 where
@@ -37,7 +41,8 @@ after-is is = record { desk = is }
 
 -- ---- the sender
 
-transmit-keeps : (d : Desk) (t : Task) (m : Parcel) (buffer amount : ℕ) (x : Sending) (source : Split Flex) → IsDesk d → OnGrant IsAfter (transmit d t m buffer amount x source)
+transmit-keeps : (d : Desk) (t : Task) (m : Parcel) (buffer amount : ℕ) (x : Sending) (source : Split Flex) → IsDesk d
+    → OnGrant IsAfter (transmit d t m buffer amount x source)
 unfolding transmit
 transmit-keeps d t m buffer amount x source is =
     let bytes : List ℕ = take (portion x amount source) (drop x.count source.here.bytes) in

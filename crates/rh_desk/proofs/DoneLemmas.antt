@@ -1,5 +1,6 @@
 -- How a run, a check and the words end, from what their calls say.
-use Rattle.std.proofs.Common.{◌≡◌, ◌≢◌, ◌⊎◌, inl, inr, refl, sym, ap, subst, ◌∙◌, ℕ, ◌+◌, ◌≤◌, min, arith, true, false, Bool, Bor, List, [], ◌∷◌, ◌++◌, length, map, take, codes, Option, Some, None, Result, Ok, Err, IfOk, IfErr, IfSome, option_map}
+use Rattle.std.proofs.Common.{◌≡◌, ◌≢◌, ◌⊎◌, inl, inr, refl, sym, ap, subst, ◌∙◌, ℕ, ◌+◌, ◌≤◌, min, arith, true, false, Bool, Bor, List, [], ◌∷◌, ◌++◌}
+use Rattle.std.proofs.Common.{length, map, take, codes, Option, Some, None, Result, Ok, Err, IfOk, IfErr, IfSome, option_map}
 use Rattle.std.proofs.lemmas.List.{length-take, take_all}
 use Rattle.std.specs.Prelude.{All, IsErrOf}
 use Rattle.std.specs.Io.Take.{take_inner, take_limit, take_remaining}
@@ -18,7 +19,8 @@ use Rattle.clap.specs.Words.{Row, Text, fault_of, subcommand_of}
 use Rattle.clap.specs.declared.error.kind.ErrorKind.{ErrorKind}
 use Rattle.clap.specs.declared.error.kind.ErrorKind.TheVariants as kind
 use Rattle.rh_desk.specs.CommandLine.{program_words}
-use Rattle.rh_desk.specs.Done.{CheckOver, ErrorEnds, FileOver, IsWhole, MapOver, RequestEnds, RunEnds, RunOver, SheetOver, ShownOver, Streams, Untouched, WordsEnd, line_as, status_as}
+use Rattle.rh_desk.specs.Done.{CheckOver, ErrorEnds, FileOver, IsWhole, MapOver, RequestEnds, RunEnds, RunOver, SheetOver, ShownOver, Streams, Untouched}
+use Rattle.rh_desk.specs.Done.{WordsEnd, line_as, status_as}
 use Rattle.rh_desk.specs.Ending.{ending_of, exit_status}
 use Rattle.rh_desk.specs.FileWords.{AreGood, TellsBadFile, word_name}
 use Rattle.rh_desk.specs.Requests.{AsksFor, AsksNothing}
@@ -32,18 +34,20 @@ use Rattle.rh_figure.specs.Map.{place}
 use Rattle.rh_painted.specs.Painted.{Painted, PaintedSoFar, PaintedUntil}
 use Rattle.rh_desk.specs.Telling.{Tells, run_fault_text}
 
-cut : (n : ℕ) (known : Option (List ℕ)) (old new : List ℕ) → IfSome (option_map (take n) known) (λ xs. new ≡ old ++ xs) → IfSome known (λ had. new ≡ old ++ take n had)
+cut : (n : ℕ) (known : Option (List ℕ)) (old new : List ℕ) → IfSome (option_map (take n) known) (λ xs. new ≡ old ++ xs)
+    → IfSome known (λ had. new ≡ old ++ take n had)
 cut n None old new is = is
 cut n (Some had) old new is = is
 
 -- what was read of a file through a reader that stops at a limit
-pub cut-file : {F : Type 0} (remaining : F → Option (List ℕ)) (t : Take F) (file : F) (limit : ℕ) (old new : List ℕ) → take_limit t ≡ limit → take_inner t ≡ file
-    → IfSome (take_remaining remaining t) (λ xs. new ≡ old ++ xs) → IfSome (remaining file) (λ had. new ≡ old ++ take limit had)
+pub cut-file : {F : Type 0} (remaining : F → Option (List ℕ)) (t : Take F) (file : F) (limit : ℕ) (old new : List ℕ) → take_limit t ≡ limit
+    → take_inner t ≡ file → IfSome (take_remaining remaining t) (λ xs. new ≡ old ++ xs) → IfSome (remaining file) (λ had. new ≡ old ++ take limit had)
 cut-file remaining t file limit old new at of is =
     subst (λ f. IfSome (remaining f) (λ had. new ≡ old ++ take limit had)) of
     (subst (λ n. IfSome (remaining (take_inner t)) (λ had. new ≡ old ++ take n had)) at (cut (take_limit t) (remaining (take_inner t)) old new is))
 
-whole-of : (most : ℕ) (had : Option (List ℕ)) (bytes : List ℕ) → length bytes ≤ most → IfSome had (λ xs. bytes ≡ [] ++ take (most + 1) xs) → IfSome had (λ xs. bytes ≡ xs)
+whole-of : (most : ℕ) (had : Option (List ℕ)) (bytes : List ℕ) → length bytes ≤ most → IfSome had (λ xs. bytes ≡ [] ++ take (most + 1) xs)
+    → IfSome had (λ xs. bytes ≡ xs)
 whole-of most None bytes small is = is
 whole-of most (Some xs) bytes small is =
     let size : length bytes ≡ min (most + 1) (length xs) = ap length is ∙ length-take (most + 1) xs in
@@ -57,7 +61,8 @@ whole-is remaining old bytes none small found = (
   small,
   (
     found.0,
-    whole-of LONGEST_FILE (remaining found.0) bytes small (subst (λ l. IfSome (remaining found.0) (λ had. bytes ≡ l ++ take (LONGEST_FILE + 1) had)) none found.1),
+    whole-of LONGEST_FILE (remaining found.0) bytes small (subst (λ l. IfSome (remaining found.0) (λ had. bytes ≡ l ++ take (LONGEST_FILE + 1) had)) none
+        found.1),
   ),
 )
 
@@ -114,7 +119,8 @@ sheet-over marked name d s (Ok status.Clean) ok memory read painted long so_far 
 sheet-over marked name d s (Ok status.BadLines) ok memory read painted long so_far broke quiet told = (ok, quiet status.BadLines refl)
 sheet-over marked name d s (Err NoMemory) ok memory read painted long so_far broke quiet told = (NoMemory, memory refl, told NoMemory refl)
 sheet-over marked name d s (Err ReadFailed) ok memory read painted long so_far broke quiet told = (ReadFailed, (read refl, painted refl), told ReadFailed refl)
-sheet-over marked name d s (Err TooLong) ok memory read painted long so_far broke quiet told = (TooLong, ((long refl).0, (long refl).1, so_far refl), told TooLong refl)
+sheet-over marked name d s (Err TooLong) ok memory read painted long so_far broke quiet told =
+    (TooLong, ((long refl).0, (long refl).1, so_far refl), told TooLong refl)
 sheet-over marked name d s (Err WriteFailed) ok memory read painted long so_far broke quiet told = (WriteFailed, broke refl, told WriteFailed refl)
 
 check-ends : (k : ImageKind) (bytes : List ℕ) (s : Streams) (outcome : Result Status RunFault)
@@ -136,10 +142,12 @@ pub check-over : (k : ImageKind) (image bytes : List ℕ) (s : Streams) (outcome
     → ((status : Status) → outcome ≡ Ok status → s.told ≡ s.quiet)
     → ((fault : RunFault) → outcome ≡ Err fault → Tells s.quiet s.told (run_fault_text fault))
     → CheckOver k bytes s (ending_of outcome)
-check-over k image bytes s outcome same takes is broke quiet told = subst (λ b. CheckOver k b s (ending_of outcome)) same (check-ends k image s outcome takes is broke quiet told)
+check-over k image bytes s outcome same takes is broke quiet told =
+    subst (λ b. CheckOver k b s (ending_of outcome)) same (check-ends k image s outcome takes is broke quiet told)
 
 -- what stops a run before its script
-pub files-fail : {F : Type 0} (remaining : F → Option (List ℕ)) (shown : Shown) (pages : ℕ) (script : List ℕ) (words : List (List ℕ)) (s : Streams) (ending : Ending)
+pub files-fail : {F : Type 0} (remaining : F → Option (List ℕ)) (shown : Shown) (pages : ℕ) (script : List ℕ) (words : List (List ℕ)) (s : Streams)
+    (ending : Ending)
     → AreGood words → Untouched s → TellsBadFile s.quiet s.told words ending → RunEnds remaining shown pages script words s ending
 files-fail remaining shown pages script words s ending good still (inl bad) = inr (still, inl bad)
 files-fail remaining shown pages script words s ending good still (inr lost) = inr (still, inr (good, lost))
@@ -152,7 +160,8 @@ names-of (w ∷ ws) = ap (λ ns. word_name w.now ∷ ns) (names-of ws)
 pub script-over : {F : Type 0} (remaining : F → Option (List ℕ)) (shown : Shown) (pages : ℕ) (script : List ℕ) (ws : List (Bor (List ℕ)))
     (files : FileList) (s : Streams) (ending : Ending)
     → AreGood (map (λ w. w.now) ws) → map (λ file. file.0) files ≡ map (λ w. word_name w.now) ws → All (λ file. IsWhole remaining file.1) files
-    → (script ≡ codes "-" → ShownOver shown script (start pages files) s ending) → (script ≢ codes "-" → FileOver remaining shown (start pages files) script s ending)
+    → (script ≡ codes "-" → ShownOver shown script (start pages files) s ending)
+    → (script ≢ codes "-" → FileOver remaining shown (start pages files) script s ending)
     → RunEnds remaining shown pages script (map (λ w. w.now) ws) s ending
 script-over remaining shown pages script ws files s ending good named whole from_input from_file =
     inl (record { files = files; good = good; named = named ∙ names-of ws; whole = whole; from_input = from_input; from_file = from_file })
@@ -188,7 +197,8 @@ error-ends k s WrongWords ran memory shown mistake well wrong quiet fault =
 error-ends k s Fault ran memory shown mistake well wrong quiet fault = fault refl
 
 -- the words are `clap`'s, and ask for this
-pub words-ask : {F : Type 0} (remaining : F → Option (List ℕ)) (words : List (List ℕ)) (found : Option (Text × List Row)) (request : Request) (s : Streams) (ending : Ending)
+pub words-ask : {F : Type 0} (remaining : F → Option (List ℕ)) (words : List (List ℕ)) (found : Option (Text × List Row)) (request : Request) (s : Streams)
+    (ending : Ending)
     → found ≡ subcommand_of program_words words → fault_of program_words words ≡ [] → AsksFor found request → RequestEnds remaining request s ending
     → WordsEnd remaining words s ending
 words-ask remaining words found request s ending is none asks ends = inl (none, (request, subst (λ f. AsksFor f request) is asks, ends))

@@ -1,5 +1,6 @@
 -- How the words are looked over, one after the other.
-use Rattle.std.proofs.Common.{◌≡◌, ◌≢◌, ◌⊎◌, inl, inr, refl, sym, ap, subst, ◌∙◌, ℕ, ◌+◌, ◌<◌, ◌≤◌, arith, Result, Ok, Err, OnOk, Bool, true, false, ◌||◌, if◌then◌else◌, List, [], ◌∷◌, ◌++◌, length, map, drop, take, Some, None, Bor}
+use Rattle.std.proofs.Common.{◌≡◌, ◌≢◌, ◌⊎◌, inl, inr, refl, sym, ap, subst, ◌∙◌, ℕ, ◌+◌, ◌<◌, ◌≤◌, arith, Result, Ok, Err, OnOk, Bool, true, false, ◌||◌}
+use Rattle.std.proofs.Common.{if◌then◌else◌, List, [], ◌∷◌, ◌++◌, length, map, drop, take, Some, None, Bor}
 use Rattle.std.proofs.Math.ListN.{get_or}
 use Rattle.std.proofs.lemmas.List.{at_drop_more, get_or-map, length-map, map-append, map_more, take-append-drop, take_all}
 use Rattle.std.proofs.lemmas.List.Elements.{All-more, All-nil, Contains-get_or}
@@ -85,17 +86,20 @@ bad-lost ws i d inside lost good =
     first-bad (texts ws) i d.now (get_or ws i d).now at.0 at.1 good (inl (none-if (is_file_word (get_or ws i d).now) _ lost))
 
 -- so is one whose name was given before
-pub bad-given : (files : FileList) (ws : List (Bor (List ℕ))) (i : ℕ) (d : Bor (List ℕ)) (name path : List ℕ) → i < length ws → Some (name, path) ≡ file_word (get_or ws i d).now
+pub bad-given : (files : FileList) (ws : List (Bor (List ℕ))) (i : ℕ) (d : Bor (List ℕ)) (name path : List ℕ) → i < length ws
+    → Some (name, path) ≡ file_word (get_or ws i d).now
     → true ≡ has_file name files → names files ≡ map word_name (take i (texts ws)) → AreGood (take i (texts ws)) → IsFirstBad (texts ws) (get_or ws i d).now
 bad-given files ws i d name path inside found old named good =
     let at = text-at ws i d inside in
     let is = found-is (get_or ws i d).now name path found in
     let held : list_any (bytes_eq (word_name (get_or ws i d).now)) (map word_name (take i (texts ws))) ≡ true =
-    ap (λ ns. list_any (bytes_eq (word_name (get_or ws i d).now)) ns) (sym named) ∙ ap (λ n. list_any (bytes_eq n) (names files)) (sym is.1) ∙ sym (has_file-names name files) ∙ sym old in
+    ap (λ ns. list_any (bytes_eq (word_name (get_or ws i d).now)) ns) (sym named) ∙ ap (λ n. list_any (bytes_eq n) (names files)) (sym is.1)
+    ∙ sym (has_file-names name files) ∙ sym old in
     first-bad (texts ws) i d.now (get_or ws i d).now at.0 at.1 good (inr (Contains-from_any (λ x y. (bytes_eq-Decides x y).0) _ _ held))
 
 -- behind good words one that is found and has a name of its own is good
-pub good-new : (files : FileList) (ws : List (Bor (List ℕ))) (i : ℕ) (d : Bor (List ℕ)) (name path : List ℕ) → i < length ws → Some (name, path) ≡ file_word (get_or ws i d).now
+pub good-new : (files : FileList) (ws : List (Bor (List ℕ))) (i : ℕ) (d : Bor (List ℕ)) (name path : List ℕ) → i < length ws
+    → Some (name, path) ≡ file_word (get_or ws i d).now
     → false ≡ has_file name files → names files ≡ map word_name (take i (texts ws)) → AreGood (take i (texts ws)) → AreGood (take (i + 1) (texts ws))
 good-new files ws i d name path inside found new named good =
     let at = text-at ws i d inside in
@@ -106,7 +110,8 @@ good-new files ws i d name path inside found new named good =
     good-more (texts ws) i d.now at.0 (ap is_file_word at.1 ∙ is.0) own good
 
 -- the files that are there, and one more, have the names of the words so far
-pub names-more : (files : FileList) (ws : List (Bor (List ℕ))) (i : ℕ) (d : Bor (List ℕ)) (name path bytes : List ℕ) → i < length ws → Some (name, path) ≡ file_word (get_or ws i d).now
+pub names-more : (files : FileList) (ws : List (Bor (List ℕ))) (i : ℕ) (d : Bor (List ℕ)) (name path bytes : List ℕ) → i < length ws
+    → Some (name, path) ≡ file_word (get_or ws i d).now
     → names files ≡ map word_name (take i (texts ws)) → names (files ++ (name, bytes) ∷ []) ≡ map word_name (take (i + 1) (texts ws))
 names-more files ws i d name path bytes inside found named =
     let at = text-at ws i d inside in
@@ -139,7 +144,8 @@ names-of-texts [] = refl
 names-of-texts (w ∷ ws) = ap (λ ns. word_name w.now ∷ ns) (names-of-texts ws)
 
 -- and the files have the names of all
-pub all-named : (files : FileList) (ws : List (Bor (List ℕ))) (i : ℕ) → length ws ≤ i → names files ≡ map word_name (take i (texts ws)) → names files ≡ map (λ w. word_name w.now) ws
+pub all-named : (files : FileList) (ws : List (Bor (List ℕ))) (i : ℕ) → length ws ≤ i → names files ≡ map word_name (take i (texts ws))
+    → names files ≡ map (λ w. word_name w.now) ws
 all-named files ws i past named =
     named ∙ ap (map word_name) (take_all i (texts ws) (subst (λ n. n ≤ i) (sym (length-map ws (λ w. w.now))) past)) ∙ names-of-texts ws
 

@@ -1,5 +1,6 @@
 -- What was found is what is asked for.
-use Rattle.std.proofs.Common.{◌≡◌, ◌≢◌, ◌≤◌, ap, arith, refl, subst, sym, ◌∙◌, ℕ, codes, List, [], map, Bool, true, false, Option, Some, None, Result, Ok, Err, Bor, option_map, unwrap_or}
+use Rattle.std.proofs.Common.{◌≡◌, ◌≢◌, ◌≤◌, ap, arith, refl, subst, sym, ◌∙◌, ℕ, codes, List, [], map, Bool, true, false, Option, Some, None, Result, Ok}
+use Rattle.std.proofs.Common.{Err, Bor, option_map, unwrap_or}
 use Rattle.std.specs.Str.Parse.{ParsesUnsigned}
 use Rattle.clap.specs.Words.{ReadsOne, Row, Text, first_of, one_of}
 use Rattle.rh_desk.specs.declared.command_line.TheConstants.{PAGES}
@@ -17,16 +18,18 @@ both-are f g (Some x) a b first second = let e = first in let h = second in cc
 both-are f g None a b first second = absurd (let e = first in cc)
 
 -- the pages that are read
-pub pages-are : {E : Type 0} (G : List ℕ → Result ℕ E → Type 0) (text : Option Text) (read : Option ℕ) → ((t : List ℕ) (x : Result ℕ E) → G t x → ParsesUnsigned 32 10 t x)
+pub pages-are : {E : Type 0} (G : List ℕ → Result ℕ E → Type 0) (text : Option Text) (read : Option ℕ)
+    → ((t : List ℕ) (x : Result ℕ E) → G t x → ParsesUnsigned 32 10 t x)
     → (text ≡ None → read ≡ None) → ((t : List ℕ) → text ≡ Some t → ReadsOne G t read) → AsksPages text (unwrap_or read PAGES)
 pages-are G None read parses none some = ap (λ r. unwrap_or r PAGES) (none refl)
 pages-are G (Some t) (Some n) parses none some = λ numeral small. (parses t (Ok n) (some t refl)).1
 pages-are G (Some t) None parses none some = λ numeral small. let got = some t refl in absurd (parses t (Err got.0) got.1 (numeral, small))
 
 -- where pages in the range are asked for, those that are read are in the range
-pub pages-fit : {E : Type 0} (G : List ℕ → Result ℕ E → Type 0) (text : Option Text) (read : Option ℕ) → ((t : List ℕ) (x : Result ℕ E) → G t x → ParsesUnsigned 32 10 t x)
-    → (text ≡ None → read ≡ None) → ((t : List ℕ) → text ≡ Some t → ReadsOne G t read) → (pages : ℕ) → MIN_PAGES ≤ pages → pages ≤ most_pages → AsksPages text pages
-    → (MIN_PAGES ≤ unwrap_or read PAGES) × (unwrap_or read PAGES ≤ most_pages)
+pub pages-fit : {E : Type 0} (G : List ℕ → Result ℕ E → Type 0) (text : Option Text) (read : Option ℕ)
+    → ((t : List ℕ) (x : Result ℕ E) → G t x → ParsesUnsigned 32 10 t x)
+    → (text ≡ None → read ≡ None) → ((t : List ℕ) → text ≡ Some t → ReadsOne G t read) → (pages : ℕ) → MIN_PAGES ≤ pages → pages ≤ most_pages
+    → AsksPages text pages → (MIN_PAGES ≤ unwrap_or read PAGES) × (unwrap_or read PAGES ≤ most_pages)
 pages-fit G text None parses none some pages least most asks = (omega arith, omega arith)
 pages-fit G None (Some n) parses none some pages least most asks = absurd (let no = none refl in cc)
 pages-fit G (Some t) (Some n) parses none some pages least most asks =
@@ -47,7 +50,8 @@ words-are (Some s) others all same none = ap (λ a. unwrap_or a []) same
 words-are None others all same none = ap (map (λ v. v.now)) none ∙ ap (λ a. unwrap_or a []) same
 
 -- a slot is asked for where the flag was found
-pub slot-asked : (text : Option Text) (flag : Bool) → (text ≡ None → flag ≡ false) → (text ≡ Some (codes "false") → flag ≡ false) → flag ≡ true → AsksKind text Slot
+pub slot-asked : (text : Option Text) (flag : Bool) → (text ≡ None → flag ≡ false) → (text ≡ Some (codes "false") → flag ≡ false) → flag ≡ true
+    → AsksKind text Slot
 slot-asked None flag none other is = absurd (let no = none refl in cc)
 slot-asked (Some t) flag none other is = (λ yes. refl, λ no. absurd (let is_false = other (ap Some no) in cc))
 
@@ -57,12 +61,14 @@ heap-asked None flag value is = refl
 heap-asked (Some t) flag value is = (λ yes. absurd (let is_true = value (ap Some yes) in cc), λ no. refl)
 
 -- a check without a file asks for nothing
-pub asks-no-file : (name : Text) (rows : List Row) → name ≡ codes "check" → first_of (codes "file") rows ≡ None → (request : Request) → AsksFor (Some (name, rows)) request → ⊥
+pub asks-no-file : (name : Text) (rows : List Row) → name ≡ codes "check" → first_of (codes "file") rows ≡ None → (request : Request)
+    → AsksFor (Some (name, rows)) request → ⊥
 asks-no-file name rows is none (Check k file) asks = let some = asks.2 in cc
 asks-no-file name rows is none (Run request) asks = asks.0 is
 
 -- neither does a run without a script
-pub asks-no-script : (name : Text) (rows : List Row) → name ≢ codes "check" → first_of (codes "script") rows ≡ None → (request : Request) → AsksFor (Some (name, rows)) request → ⊥
+pub asks-no-script : (name : Text) (rows : List Row) → name ≢ codes "check" → first_of (codes "script") rows ≡ None → (request : Request)
+    → AsksFor (Some (name, rows)) request → ⊥
 asks-no-script name rows other none (Check k file) asks = other asks.0
 asks-no-script name rows other none (Run request) asks = let some = asks.2 in cc
 

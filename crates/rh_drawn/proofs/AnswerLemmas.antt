@@ -1,5 +1,6 @@
 -- Answers as they are kept: how many lines each has, and what the first 4,096 bytes show of them.
-use Rattle.std.proofs.Common.{◌≡◌, ℕ, zero, suc, ◌+◌, ◌*◌, ◌/◌, ◌%◌, ◌<◌, ◌≤◌, ◌⊎◌, inl, inr, Bool, true, false, eqb, refl, ap, ap₂, sym, subst, ◌∙◌, arith, rules, List, [], ◌∷◌, ◌++◌, append-nil, append_assoc, length, take, map, Option, Some, None, Result, Ok, Err}
+use Rattle.std.proofs.Common.{◌≡◌, ℕ, zero, suc, ◌+◌, ◌*◌, ◌/◌, ◌%◌, ◌<◌, ◌≤◌, ◌⊎◌, inl, inr, Bool, true, false, eqb, refl, ap, ap₂, sym, subst, ◌∙◌, arith}
+use Rattle.std.proofs.Common.{rules, List, [], ◌∷◌, ◌++◌, append-nil, append_assoc, length, take, map, Option, Some, None, Result, Ok, Err}
 use Rattle.std.specs.Prelude.{codes, find, if◌then◌else◌, max, nat_le, slice_get, slice_index, ◌==◌}
 use Rattle.std.specs.Fmt.{decimal, digit_glyph, digits, digits_onto}
 use Rattle.std.specs.List.{AllByRecursion, enumerate_from, flat_map}
@@ -29,7 +30,8 @@ use Rattle.rh_defs.specs.Listing.{Areas, Blocks, Bytes, Listed, Records, Segment
 use Rattle.rh_defs.specs.Questions.{Told, areas, asked, blocks, heap, show, status}
 use Rattle.rh_defs.specs.Script.{ended, onto_line, unended, unended_after}
 use Rattle.rh_defs.specs.Slot.{slot_block}
-use Rattle.rh_defs.specs.Text.{Words, address, answer_text, area_line, block_line, first_line, hex_words, later, later_lines, line, record_line, record_lines, rest_of_line, segment_line, state_name}
+use Rattle.rh_defs.specs.Text.{Words, address, answer_text, area_line, block_line, first_line, hex_words, later, later_lines, line, record_line, record_lines}
+use Rattle.rh_defs.specs.Text.{rest_of_line, segment_line, state_name}
 use Rattle.rh_feed.proofs.LineLemmas.{NoFeed, bool_cases, ended-unended, ended_first, no_feed_open, unended-append, unended_first}
 use Rattle.rh_figure.specs.Map.{reply_lines}
 use Rattle.rh_figure.specs.Phrases.{cut}
@@ -188,7 +190,8 @@ onto-few (suc k) base upper n acc =
   where
     go : (t : Bool)
         → length (digits_onto k base upper (n / base) (digit_glyph upper (n % base) ∷ acc)) ≤ k + length (digit_glyph upper (n % base) ∷ acc)
-        → length (if t then digit_glyph upper (n % base) ∷ acc else digits_onto k base upper (n / base) (digit_glyph upper (n % base) ∷ acc)) ≤ suc k + length acc
+        → length (if t then digit_glyph upper (n % base) ∷ acc else digits_onto k base upper (n / base) (digit_glyph upper (n % base) ∷ acc)) ≤ suc k
+        + length acc
     go true a = omega arith
     go false a = omega arith
 

@@ -1,5 +1,6 @@
 -- Bands of cards: which cards of a list are shown.
-use Rattle.std.proofs.Common.{◌≡◌, ◌⊎◌, inl, inr, add-one, append-nil, append_assoc, ℕ, zero, suc, ◌+◌, ◌-◌, ◌<◌, ◌≤◌, Bool, true, false, refl, ap, sym, subst, ◌∙◌, arith, List, [], ◌∷◌, ◌++◌, length, take, drop, get_or, Some, None}
+use Rattle.std.proofs.Common.{◌≡◌, ◌⊎◌, inl, inr, add-one, append-nil, append_assoc, ℕ, zero, suc, ◌+◌, ◌-◌, ◌<◌, ◌≤◌, Bool, true, false, refl, ap, sym}
+use Rattle.std.proofs.Common.{subst, ◌∙◌, arith, List, [], ◌∷◌, ◌++◌, length, take, drop, get_or, Some, None}
 use Rattle.std.specs.Prelude.{min, filter, if◌then◌else◌, nat_le, slice_get}
 use Rattle.std.proofs.lemmas.Bool.Decides.{nat_tests}
 use Rattle.std.proofs.lemmas.List.{drop_all, drop_more, map-append, take_all}
@@ -27,7 +28,8 @@ shown-few cards few = let e : nat_le (length cards) 24 ≡ true = grind (arith, 
 
 pub shown-many : (cards : List Card) → 24 < length cards → (fresh : List Card) → take 1 (filter (λ (c : Card). c.fresh) (drop 22 cards)) ≡ fresh
     → shown_cards cards ≡ take 22 cards ++ (fresh ++ more_card (length cards - 22 - length fresh) ∷ [])
-shown-many cards many fresh e = let k : nat_le (length cards) 24 ≡ false = grind (arith, nat_tests) in rw (k, e) (append_assoc (take 22 cards) fresh (more_card (length cards - 22 - length fresh) ∷ []))
+shown-many cards many fresh e = let k : nat_le (length cards) 24 ≡ false =
+    grind (arith, nat_tests) in rw (k, e) (append_assoc (take 22 cards) fresh (more_card (length cards - 22 - length fresh) ∷ []))
 
 pub shown-parts : (cards : List Card) → 24 < length cards → shown_cards cards ≡ take 22 cards ++ cards_behind cards
 shown-parts cards many =
@@ -35,7 +37,8 @@ shown-parts cards many =
     let fresh = take 1 (filter (λ (c : Card). c.fresh) (drop 22 cards)) in
     rw k (append_assoc (take 22 cards) fresh (more_card (length cards - 22 - length fresh) ∷ []))
 
-pub behind-are : (cards : List Card) (fresh : List Card) → take 1 (filter (λ (c : Card). c.fresh) (drop 22 cards)) ≡ fresh → cards_behind cards ≡ fresh ++ more_card (length cards - 22 - length fresh) ∷ []
+pub behind-are : (cards : List Card) (fresh : List Card) → take 1 (filter (λ (c : Card). c.fresh) (drop 22 cards)) ≡ fresh
+    → cards_behind cards ≡ fresh ++ more_card (length cards - 22 - length fresh) ∷ []
 behind-are cards fresh e = rw e refl
 
 -- ---- the first changed one
@@ -60,13 +63,15 @@ alike-long test [] (c ∷ cards) a = absurd a
 alike-long test (x ∷ items) [] a = absurd a
 alike-long test (x ∷ items) (c ∷ cards) a = ap suc (alike-long test items cards a.1)
 
-pub pick-none : {A : Type 0} (test : A → Bool) (n : ℕ) (items : List A) (cards : List Card) → Alike test items cards → place_from test n items ≡ None → take 1 (filter (λ (c : Card). c.fresh) cards) ≡ []
+pub pick-none : {A : Type 0} (test : A → Bool) (n : ℕ) (items : List A) (cards : List Card) → Alike test items cards → place_from test n items ≡ None
+    → take 1 (filter (λ (c : Card). c.fresh) cards) ≡ []
 pick-none test n [] [] a e = refl
 pick-none test n [] (c ∷ cards) a e = absurd a
 pick-none test n (x ∷ items) [] a e = absurd a
 pick-none test n (x ∷ items) (c ∷ cards) a e = go (pick-none test (suc n) items cards a.1) (test x) refl
   where
-    go : (place_from test (suc n) items ≡ None → take 1 (filter (λ (d : Card). d.fresh) cards) ≡ []) → (b : Bool) → test x ≡ b → take 1 (filter (λ (d : Card). d.fresh) (c ∷ cards)) ≡ []
+    go : (place_from test (suc n) items ≡ None → take 1 (filter (λ (d : Card). d.fresh) cards) ≡ []) → (b : Bool) → test x ≡ b
+        → take 1 (filter (λ (d : Card). d.fresh) (c ∷ cards)) ≡ []
     go before true k = let q : Some n ≡ None = rw k at e in absurd (cc)
     go before false k =
         let q : place_from test (suc n) items ≡ None = rw k at e in
@@ -86,7 +91,8 @@ picked-on n k c cards off p =
     let here : k - n ≡ suc (k - suc n) = omega arith in
     record { card = p.card; above = omega arith; at = ap (slice_get (c ∷ cards)) here ∙ p.at; first = rw off p.first }
 
-pub pick-some : {A : Type 0} (test : A → Bool) (n k : ℕ) (items : List A) (cards : List Card) → Alike test items cards → place_from test n items ≡ Some k → Picked n k cards
+pub pick-some : {A : Type 0} (test : A → Bool) (n k : ℕ) (items : List A) (cards : List Card) → Alike test items cards → place_from test n items ≡ Some k
+    → Picked n k cards
 pick-some test n k [] cards a e = absurd (cc)
 pick-some test n k (x ∷ items) [] a e = absurd a
 pick-some test n k (x ∷ items) (c ∷ cards) a e = go (pick-some test (suc n) k items cards a.1) (test x) refl
@@ -104,7 +110,8 @@ pick-some test n k (x ∷ items) (c ∷ cards) a e = go (pick-some test (suc n) 
 
 -- ---- flex blocks
 
-pub flex-alike : (x : Scene) (t : Task) (place : ℕ) (blocks : List Flex) → Alike (λ (b : BlockItem). is_fresh_flex x t.handle b.anchor b.size) (block_items_from place blocks) (flex_cards_from x t place blocks)
+pub flex-alike : (x : Scene) (t : Task) (place : ℕ) (blocks : List Flex)
+    → Alike (λ (b : BlockItem). is_fresh_flex x t.handle b.anchor b.size) (block_items_from place blocks) (flex_cards_from x t place blocks)
 flex-alike x t place [] = tt
 flex-alike x t place (b ∷ blocks) = (refl, flex-alike x t (place + weight b) blocks)
 
@@ -173,8 +180,18 @@ pub shown-split : (cards : List Card) → ShownSplit cards
 shown-split cards = go (le-or (length cards))
   where
     go : (length cards ≤ 24) ⊎ (24 < length cards) → ShownSplit cards
-    go (inl few) = record { behind = []; is = shown-few cards few ∙ (sym (take_all (count_shown (length cards)) cards (omega (arith, all-count (length cards) few))) ∙ sym (append-nil (take (count_shown (length cards)) cards))) }
-    go (inr many) = record { behind = cards_behind cards; is = shown-parts cards many ∙ ap (λ n. take n cards ++ cards_behind cards) (sym (some-count (length cards) many)) }
+    go (inl few) =
+        record {
+          behind = [];
+          is = shown-few cards few
+              ∙ (sym (take_all (count_shown (length cards)) cards (omega (arith, all-count (length cards) few)))
+              ∙ sym (append-nil (take (count_shown (length cards)) cards)));
+        }
+    go (inr many) =
+        record {
+          behind = cards_behind cards;
+          is = shown-parts cards many ∙ ap (λ n. take n cards ++ cards_behind cards) (sym (some-count (length cards) many));
+        }
 
 pub cards-append : (xs ys : List Card) → card_lines (xs ++ ys) ≡ card_lines xs ++ card_lines ys
 cards-append xs ys = map-append card_line xs ys
@@ -187,7 +204,8 @@ pub record FlexHere (x : Scene) (t : Task) (blocks : List Flex) (k : ℕ) (item 
   pub size : length block.bytes ≡ item.size
   pub card_is : card ≡ flex_card item.address item.anchor block.bytes (use_of_block t item.anchor) (is_fresh_flex x t.handle item.anchor item.size)
 
-pub flex-here : (x : Scene) (t : Task) (place : ℕ) (blocks : List Flex) (k : ℕ) (item : BlockItem) (card : Card) → slice_get (block_items_from place blocks) k ≡ Some item → slice_get (flex_cards_from x t place blocks) k ≡ Some card → FlexHere x t blocks k item card
+pub flex-here : (x : Scene) (t : Task) (place : ℕ) (blocks : List Flex) (k : ℕ) (item : BlockItem) (card : Card)
+    → slice_get (block_items_from place blocks) k ≡ Some item → slice_get (flex_cards_from x t place blocks) k ≡ Some card → FlexHere x t blocks k item card
 flex-here x t place [] k item card e f = absurd (cc)
 flex-here x t place (b ∷ blocks) zero item card e f =
     let i : record { anchor = b.anchor; address = place + 8; size = length b.bytes } ≡ item = cc in
@@ -256,7 +274,8 @@ pub record FlexPicked (x : Scene) (t : Task) (k : ℕ) : Type 0 where
   pub low : k < length (flex_cards x t)
   pub first : take 1 (filter (λ (c : Card). c.fresh) (drop 22 (flex_cards x t))) ≡ card ∷ []
 
-pub flex-picked : (x : Scene) (t : Task) (k : ℕ) → place_behind (λ (b : BlockItem). is_fresh_flex x t.handle b.anchor b.size) 22 (block_items t.slot) ≡ Some k → FlexPicked x t k
+pub flex-picked : (x : Scene) (t : Task) (k : ℕ)
+    → place_behind (λ (b : BlockItem). is_fresh_flex x t.handle b.anchor b.size) 22 (block_items t.slot) ≡ Some k → FlexPicked x t k
 flex-picked x t k e =
     let test = λ (b : BlockItem). is_fresh_flex x t.handle b.anchor b.size in
     let all = flex-alike x t (flex_start t.slot) t.slot.blocks in
@@ -266,7 +285,9 @@ flex-picked x t k e =
     let at = ap (slice_get (flex_cards x t)) (sym same) ∙ (sym (get-drop 22 (k - 22) (flex_cards x t)) ∙ p.at) in
     record { card = p.card; at = at; low = slice_get_within (flex_cards x t) k p.card at; first = p.first }
 
-pub flex-unpicked : (x : Scene) (t : Task) → place_behind (λ (b : BlockItem). is_fresh_flex x t.handle b.anchor b.size) 22 (block_items t.slot) ≡ None → take 1 (filter (λ (c : Card). c.fresh) (drop 22 (flex_cards x t))) ≡ []
+pub flex-unpicked : (x : Scene) (t : Task) → place_behind (λ (b : BlockItem). is_fresh_flex x t.handle b.anchor b.size) 22 (block_items t.slot) ≡ None
+    → take 1 (filter (λ (c : Card). c.fresh) (drop 22 (flex_cards x t))) ≡ []
 flex-unpicked x t e =
     let test = λ (b : BlockItem). is_fresh_flex x t.handle b.anchor b.size in
-    pick-none test 22 (drop 22 (block_items t.slot)) (drop 22 (flex_cards x t)) (alike-drop test 22 (block_items t.slot) (flex_cards x t) (flex-alike x t (flex_start t.slot) t.slot.blocks)) e
+    pick-none test 22 (drop 22 (block_items t.slot)) (drop 22 (flex_cards x t))
+    (alike-drop test 22 (block_items t.slot) (flex_cards x t) (flex-alike x t (flex_start t.slot) t.slot.blocks)) e

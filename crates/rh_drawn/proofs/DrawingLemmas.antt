@@ -23,7 +23,8 @@ rows-same start pages pieces cards n zero = refl
 rows-same start pages pieces cards n (suc i) =
     ap (λ rest. area_row (area_of start pages pieces) n i ∷ rest) (rows-same start pages pieces cards n i)
 
-pub rows-are : (g : Drawing) (start : ℕ) (pages : List ℕ) (pieces : List Piece) → start ≡ g.start → pages ≡ g.pages → pieces ≡ g.pieces → area_rows (area_of start pages pieces) ≡ area_rows g
+pub rows-are : (g : Drawing) (start : ℕ) (pages : List ℕ) (pieces : List Piece) → start ≡ g.start → pages ≡ g.pages → pieces ≡ g.pieces
+    → area_rows (area_of start pages pieces) ≡ area_rows g
 rows-are g start pages pieces s p q =
     ap (λ z. area_rows (area_of z pages pieces)) s
     ∙ (ap (λ z. area_rows (area_of g.start z pieces)) p
@@ -35,7 +36,8 @@ abbrev pub is_slot_of : ℕ → Panel → Bool
 is_slot_of h p = is_owner p.owner (SlotOf h)
 
 -- a later task has a higher handle
-later-handle : (least next : ℕ) (tasks : List Task) (i : ℕ) (t : Task) → Rise (λ (u : Task). u.handle) least next tasks → slice_get tasks i ≡ Some t → least ≤ t.handle
+later-handle : (least next : ℕ) (tasks : List Task) (i : ℕ) (t : Task) → Rise (λ (u : Task). u.handle) least next tasks → slice_get tasks i ≡ Some t
+    → least ≤ t.handle
 later-handle least next [] i t r e = absurd (cc)
 later-handle least next (u ∷ us) zero t r e = let k : u ≡ t = cc in subst (λ (z : Task). least ≤ z.handle) k r.0
 later-handle least next (u ∷ us) (suc i) t r e =
@@ -55,7 +57,8 @@ slot-place x least next (u ∷ us) (suc i) t r e =
     let rest : position_or_len (is_slot_of t.handle) (map (slot_panel x) us) ≡ i = slot-place x (u.handle + 1) next us i t r.1 e in
     rw other (ap (λ n. 1 + n) rest ∙ omega arith)
 
-pub slot-stands : {d : Desk} (is : IsDesk d) (x : Scene) (i : ℕ) (t : Task) → slice_get d.tasks i ≡ Some t → position (is_slot_of t.handle) (map (slot_panel x) d.tasks) ≡ Some i
+pub slot-stands : {d : Desk} (is : IsDesk d) (x : Scene) (i : ℕ) (t : Task) → slice_get d.tasks i ≡ Some t
+    → position (is_slot_of t.handle) (map (slot_panel x) d.tasks) ≡ Some i
 slot-stands {d} is x i t e =
     let at = slot-place x 0 d.next_handle d.tasks i t is.handles e in
     let low : i < length (map (slot_panel x) d.tasks) = omega (arith, slice_get_within d.tasks i t e, length-map d.tasks (slot_panel x)) in
@@ -67,7 +70,8 @@ pub seen-same : {A : Type 0} (P : A → Type 0) (xs : List A) (i : ℕ) (a b : A
 seen-same P xs i a b e f h = let k : a ≡ b = cc in subst P k h
 
 -- the task with a handle
-task-found : (least next : ℕ) (tasks : List Task) (i : ℕ) (t : Task) → Rise (λ (u : Task). u.handle) least next tasks → slice_get tasks i ≡ Some t → find (λ (u : Task). u.handle == t.handle) tasks ≡ Some t
+task-found : (least next : ℕ) (tasks : List Task) (i : ℕ) (t : Task) → Rise (λ (u : Task). u.handle) least next tasks → slice_get tasks i ≡ Some t
+    → find (λ (u : Task). u.handle == t.handle) tasks ≡ Some t
 task-found least next [] i t r e = absurd (cc)
 task-found least next (u ∷ us) zero t r e =
     let k : u ≡ t = cc in

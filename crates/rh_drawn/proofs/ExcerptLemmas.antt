@@ -1,5 +1,6 @@
 -- Replies as they are kept: how many lines they have, and what their front shows.
-use Rattle.std.proofs.Common.{◌≡◌, ℕ, zero, suc, ◌+◌, ◌/◌, ◌%◌, ◌<◌, ◌≤◌, Bool, true, false, eqb, refl, ap, ap₂, sym, subst, ◌∙◌, arith, List, [], ◌∷◌, ◌++◌, append-nil, append_assoc, length, take, drop, Some, None, Result, Ok, Err}
+use Rattle.std.proofs.Common.{◌≡◌, ℕ, zero, suc, ◌+◌, ◌/◌, ◌%◌, ◌<◌, ◌≤◌, Bool, true, false, eqb, refl, ap, ap₂, sym, subst, ◌∙◌, arith, List, [], ◌∷◌, ◌++◌}
+use Rattle.std.proofs.Common.{append-nil, append_assoc, length, take, drop, Some, None, Result, Ok, Err}
 use Rattle.std.specs.Prelude.{codes, if◌then◌else◌, max, nat_le, nat_lt, slice_index, ◌==◌}
 use Rattle.std.specs.Fmt.{decimal, digit_glyph, digits, digits_onto}
 use Rattle.std.specs.List.{AllByRecursion}
@@ -12,7 +13,9 @@ use Rattle.rh_defs.specs.declared.fault.LineFault.TheVariants.{TooLong, Unended,
 use Rattle.rh_defs.specs.declared.message.Action.{Action}
 use Rattle.rh_defs.specs.declared.message.Action.TheVariants as action
 use Rattle.rh_defs.specs.declared.refusal.Refusal.{Refusal}
-use Rattle.rh_defs.specs.declared.refusal.Refusal.TheVariants.{NameInUse, NoName, TooManyTasks, NoHandles, NoFile, NoBlock, AnchorInUse, NotABlock, NotYours, Busy, NotOpen, NothingSent, BadRange, BadSize, ExcessiveShrink, NoTask, NoRefs, QueueFull, NoBudge, NoRoom, NoArea, TooManyAreas, NoNumbers, TooBig}
+use Rattle.rh_defs.specs.declared.refusal.Refusal.TheVariants.{NameInUse, NoName, TooManyTasks, NoHandles, NoFile, NoBlock, AnchorInUse, NotABlock, NotYours}
+use Rattle.rh_defs.specs.declared.refusal.Refusal.TheVariants.{Busy, NotOpen, NothingSent, BadRange, BadSize, ExcessiveShrink, NoTask, NoRefs, QueueFull}
+use Rattle.rh_defs.specs.declared.refusal.Refusal.TheVariants.{NoBudge, NoRoom, NoArea, TooManyAreas, NoNumbers, TooBig}
 use Rattle.rh_defs.specs.declared.reply.Outcome.{Outcome}
 use Rattle.rh_defs.specs.declared.reply.Outcome.TheVariants as outcome
 use Rattle.rh_defs.specs.declared.reply.Reply.{Reply}
@@ -137,12 +140,15 @@ outcome-open (outcome.Refused refusal) = (no_feed_open (codes "failed") refl, (r
 outcome-open outcome.Failed = (no_feed_open (codes "failed") refl, tt)
 outcome-open outcome.Drained = (no_feed_open (codes "drained") refl, tt)
 outcome-open (outcome.TookLast count) = (no_feed_open (codes "took") refl, (decimal-open count, (no_feed_open (codes "done") refl, tt)))
-outcome-open (outcome.TookFull count ref) = (no_feed_open (codes "took") refl, (decimal-open count, (no_feed_open (codes "fetch") refl, (decimal-open ref, tt))))
-outcome-open (outcome.TookFailed count refusal) = (no_feed_open (codes "took") refl, (decimal-open count, (no_feed_open (codes "failed") refl, (refusal-open refusal, tt))))
+outcome-open (outcome.TookFull count ref) =
+    (no_feed_open (codes "took") refl, (decimal-open count, (no_feed_open (codes "fetch") refl, (decimal-open ref, tt))))
+outcome-open (outcome.TookFailed count refusal) =
+    (no_feed_open (codes "took") refl, (decimal-open count, (no_feed_open (codes "failed") refl, (refusal-open refusal, tt))))
 outcome-open (outcome.Asked ref) = (no_feed_open (codes "asked") refl, (decimal-open ref, tt))
 outcome-open (outcome.Saved count ref) = (no_feed_open (codes "saved") refl, (decimal-open count, (decimal-open ref, tt)))
 outcome-open (outcome.Loaded count) = (no_feed_open (codes "loaded") refl, (decimal-open count, (no_feed_open (codes "done") refl, tt)))
-outcome-open (outcome.LoadedFailed count refusal) = (no_feed_open (codes "loaded") refl, (decimal-open count, (no_feed_open (codes "failed") refl, (refusal-open refusal, tt))))
+outcome-open (outcome.LoadedFailed count refusal) =
+    (no_feed_open (codes "loaded") refl, (decimal-open count, (no_feed_open (codes "failed") refl, (refusal-open refusal, tt))))
 outcome-open outcome.Done = (no_feed_open (codes "done") refl, tt)
 
 -- ---- texts of one line
@@ -183,7 +189,8 @@ first-one (reply.Moved bytes) = ok-one (decimal bytes ∷ []) (decimal-open byte
 first-one (reply.Made number) = ok-one (decimal number ∷ []) (decimal-open number, tt)
 first-one (reply.Shown size) = ok-one (decimal size ∷ []) (decimal-open size, tt)
 first-one (reply.BlockCount count) = ok-one (decimal count ∷ []) (decimal-open count, tt)
-first-one (reply.HeapSums length largest free) = ok-one (decimal length ∷ decimal largest ∷ decimal free ∷ []) (decimal-open length, (decimal-open largest, (decimal-open free, tt)))
+first-one (reply.HeapSums length largest free) =
+    ok-one (decimal length ∷ decimal largest ∷ decimal free ∷ []) (decimal-open length, (decimal-open largest, (decimal-open free, tt)))
 first-one (reply.StatusOf handle) = ok-one (decimal handle ∷ []) (decimal-open handle, tt)
 first-one (reply.FreePages pages) = ok-one (decimal pages ∷ []) (decimal-open pages, tt)
 first-one reply.NoEvent = ok-one (codes "0" ∷ []) (no_feed_open (codes "0") refl, tt)
@@ -197,7 +204,8 @@ fault-one TooLong = line-one (codes "bad") (codes "TooLong" ∷ []) (no_feed_ope
 fault-one Unended = line-one (codes "bad") (codes "Unended" ∷ []) (no_feed_open (codes "bad") refl) (no_feed_open (codes "Unended") refl, tt)
 fault-one Unknown = line-one (codes "bad") (codes "Unknown" ∷ []) (no_feed_open (codes "bad") refl) (no_feed_open (codes "Unknown") refl, tt)
 fault-one Count = line-one (codes "bad") (codes "Count" ∷ []) (no_feed_open (codes "bad") refl) (no_feed_open (codes "Count") refl, tt)
-fault-one (Word n) = line-one (codes "bad") (codes "Word" ∷ decimal n ∷ []) (no_feed_open (codes "bad") refl) (no_feed_open (codes "Word") refl, (decimal-open n, tt))
+fault-one (Word n) =
+    line-one (codes "bad") (codes "Word" ∷ decimal n ∷ []) (no_feed_open (codes "bad") refl) (no_feed_open (codes "Word") refl, (decimal-open n, tt))
 
 -- ---- what a front shows
 
@@ -265,7 +273,8 @@ abbrev pub out_of : Holding → Output
 out_of h = record { taken = Some h.bytes; count = None; failed = h.failed }
 
 -- a text of one line that was written to a front that had nothing
-pub one-kept : {E : Type 0} {old new : Holding} (r : Result Unit E) (text : List ℕ) → OneLine text → old.bytes ≡ [] → (new.failed ≡ true → length new.bytes ≡ 4096) → Puts (out_of old) (out_of new) r text → OneKept new.bytes text
+pub one-kept : {E : Type 0} {old new : Holding} (r : Result Unit E) (text : List ℕ) → OneLine text → old.bytes ≡ []
+    → (new.failed ≡ true → length new.bytes ≡ 4096) → Puts (out_of old) (out_of new) r text → OneKept new.bytes text
 one-kept {E} {old} {new} (Ok v) text t none full p =
     let is : new.bytes ≡ text = p.ok.taken ∙ ap (λ z. z ++ text) none in
     let P : List ℕ → Type 0 = λ z. OneKept z text in

@@ -12,7 +12,8 @@ use Rattle.rh_figure.specs.Phrases.{Text}
 use Rattle.rh_figure.specs.Rows.{marks_rows, page_mark, pool_rows}
 use Rattle.rh_figure.specs.Scene.{Scene}
 use Rattle.rh_drawn.proofs.MarkLemmas.{map-twice}
-use Rattle.rh_drawn.specs.Parts.{area_part, block_part, change_part, letter_part, module_part, page_part, pool_part, post_part, slide_part, slot_panels, slot_part, transfer_part}
+use Rattle.rh_drawn.specs.Parts.{area_part, block_part, change_part, letter_part, module_part, page_part, pool_part, post_part, slide_part, slot_panels}
+use Rattle.rh_drawn.specs.Parts.{slot_part, transfer_part}
 use Rattle.rh_drawn.proofs.Walks.{indented-append}
 
 -- what has changed

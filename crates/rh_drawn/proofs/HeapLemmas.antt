@@ -1,5 +1,6 @@
 -- Bands of a heap's cards: the survey of its segments, and the card of each.
-use Rattle.std.proofs.Common.{◌≡◌, ℕ, zero, suc, ◌+◌, ◌-◌, ◌<◌, ◌≤◌, Bool, true, false, refl, ap, ap₂, sym, subst, ◌∙◌, arith, eq-eqb, List, [], ◌∷◌, ◌++◌, length, take, drop, get_or, Option, Some, None}
+use Rattle.std.proofs.Common.{◌≡◌, ℕ, zero, suc, ◌+◌, ◌-◌, ◌<◌, ◌≤◌, Bool, true, false, refl, ap, ap₂, sym, subst, ◌∙◌, arith, eq-eqb, List, [], ◌∷◌, ◌++◌}
+use Rattle.std.proofs.Common.{length, take, drop, get_or, Option, Some, None}
 use Rattle.std.specs.Prelude.{IfSome, ◌&&◌, ◌||◌, ◌==◌, filter, find, if◌then◌else◌, nat_le, slice_get}
 use Rattle.std.specs.List.{AllByRecursion, flat_map, list_any}
 use Rattle.std.specs.Option.{option_map}
@@ -31,7 +32,8 @@ use Rattle.rh_sight.specs.Walks.{ComesTo, IsInArea}
 use Rattle.rh_sight.proofs.Heaps.{Counted, told}
 use Rattle.rh_sight.proofs.PieceWalks.{item-in-area}
 use Rattle.rh_sight.proofs.SegmentWalks.{length-items, take-items}
-use Rattle.rh_drawn.specs.Bands.{HasSegment, IsBandFor, IsBandOf, IsItemOf, band_card, band_cards, card_for, card_of_task, is_fresh_at, is_fresh_block_of, is_fresh_card, is_fresh_or_posted, is_fresh_used, with_items}
+use Rattle.rh_drawn.specs.Bands.{HasSegment, IsBandFor, IsBandOf, IsItemOf, band_card, band_cards, card_for, card_of_task, is_fresh_at, is_fresh_block_of}
+use Rattle.rh_drawn.specs.Bands.{is_fresh_card, is_fresh_or_posted, is_fresh_used, with_items}
 use Rattle.rh_drawn.specs.declared.heap_cards.Band.{Band}
 use Rattle.rh_drawn.specs.declared.heap_cards.Survey.{Survey}
 use Rattle.rh_drawn.proofs.CardLemmas.{Alike, get-front}
@@ -87,7 +89,8 @@ items-append p (x ∷ xs) ys =
 
 take-past : {A : Type 0} (xs ys : List A) (m : ℕ) → take (length xs + m) (xs ++ ys) ≡ xs ++ take m ys
 take-past [] ys m = let e : 0 + m ≡ m = omega arith in ap (λ n. take n ys) e
-take-past (x ∷ xs) ys m = let e : suc (length xs) + m ≡ suc (length xs + m) = omega arith in ap (λ n. take n (x ∷ (xs ++ ys))) e ∙ ap (λ z. x ∷ z) (take-past xs ys m)
+take-past (x ∷ xs) ys m =
+    let e : suc (length xs) + m ≡ suc (length xs + m) = omega arith in ap (λ n. take n (x ∷ (xs ++ ys))) e ∙ ap (λ z. x ∷ z) (take-past xs ys m)
 
 take-here : {A : Type 0} (xs ys : List A) → take (length xs) (xs ++ ys) ≡ xs
 take-here [] ys = refl
@@ -105,7 +108,8 @@ taken-more {start} {end} {count} {items} {all} k =
     let front = segment_items_from (start + 16) k.passed in
     let back = segment_items_from (start + end) k.left in
     let same : start + 16 + total size_of k.passed ≡ start + end = omega (arith, k.at) in
-    let whole : segment_items_from (start + 16) all ≡ front ++ back = ap (segment_items_from (start + 16)) k.whole ∙ (items-append (start + 16) k.passed k.left ∙ ap (λ p. front ++ segment_items_from p k.left) same) in
+    let whole : segment_items_from (start + 16) all ≡ front ++ back =
+    ap (segment_items_from (start + 16)) k.whole ∙ (items-append (start + 16) k.passed k.left ∙ ap (λ p. front ++ segment_items_from p k.left) same) in
     let many : count ≡ length front = k.count_is ∙ sym (length-items (start + 16) k.passed) in
     let next : items ≡ take SEGMENTS_AT_ONCE back = k.items_are ∙ sym (take-items SEGMENTS_AT_ONCE (start + end) k.left) in
     ap₂ (λ n xs. take (n + length items) xs) many whole
@@ -118,7 +122,8 @@ pub record Surveyed (test : SegmentItem → Bool) (start end : ℕ) (s : Survey)
   pub counted : Counted start 16 end s.count items all
   pub so_far : s ≡ with_items test (take s.count (segment_items_from (start + 16) all)) (none_at 0)
 
-pub surveyed-more : {test : SegmentItem → Bool} {start end next : ℕ} {s : Survey} {items items2 : List SegmentItem} {all : List Segment} (t : Survey) → Surveyed test start end s items all
+pub surveyed-more : {test : SegmentItem → Bool} {start end next : ℕ} {s : Survey} {items items2 : List SegmentItem} {all : List Segment} (t : Survey)
+    → Surveyed test start end s items all
     → t ≡ with_items test items s → Counted start 16 next (s.count + length items) items2 all → Surveyed test start next t items2 all
 surveyed-more {test} {start} {end} {next} {s} {items} {items2} {all} t v e k =
     let many : s.count + length items ≡ t.count = sym (ap (λ (z : Survey). z.count) e ∙ with-count test items s) in
@@ -131,8 +136,8 @@ surveyed-more {test} {start} {end} {next} {s} {items} {items2} {all} t v e k =
           ∙ ap (λ z. with_items test z (none_at 0)) (sym (taken-more v.counted) ∙ ap (λ n. take n list) many)));
     }
 
-pub surveyed-all : {test : SegmentItem → Bool} {start end : ℕ} {s : Survey} {items : List SegmentItem} {all : List Segment} → Surveyed test start end s items all → s.count ≡ length all
-    → s ≡ with_items test (segment_items_from (start + 16) all) (none_at 0)
+pub surveyed-all : {test : SegmentItem → Bool} {start end : ℕ} {s : Survey} {items : List SegmentItem} {all : List Segment}
+    → Surveyed test start end s items all → s.count ≡ length all → s ≡ with_items test (segment_items_from (start + 16) all) (none_at 0)
 surveyed-all {test} {start} {end} {s} {items} {all} v e =
     let list = segment_items_from (start + 16) all in
     v.so_far ∙ ap (λ z. with_items test z (none_at 0)) (take_all s.count list (omega (arith, e, length-items (start + 16) all)))
@@ -142,7 +147,8 @@ all-get : (P : SegmentItem → Type 0) (xs : List SegmentItem) → ((i : ℕ) �
 all-get P [] f = tt
 all-get P (x ∷ xs) f = (f 0 (omega arith) x, all-get P xs (λ i low d. f (suc i) (omega arith) d))
 
-pub all-in-area : (heap : HeapOf) (place : ℕ) (segments : List Segment) (items : List SegmentItem) → items ≡ segment_items_from (heap_start_of heap + place) segments → AllByRecursion (IsInArea heap) items
+pub all-in-area : (heap : HeapOf) (place : ℕ) (segments : List Segment) (items : List SegmentItem)
+    → items ≡ segment_items_from (heap_start_of heap + place) segments → AllByRecursion (IsInArea heap) items
 all-in-area heap place segments items e = all-get (IsInArea heap) items (λ i low d. item-in-area heap place segments items i d e low)
 
 -- ---- which card is changed
@@ -162,15 +168,18 @@ abbrev pub Says : Option SegmentItem → List SegmentItem → List Card → List
 Says None items cards behind = firsts behind ≡ []
 Says (Some item) items cards behind = SaysAt item items cards behind
 
-says-on : (o : Option SegmentItem) (x : SegmentItem) (c : Card) (items : List SegmentItem) (cards behind behind2 : List Card) → firsts behind ≡ firsts behind2 → Says o items cards behind → Says o (x ∷ items) (c ∷ cards) behind2
+says-on : (o : Option SegmentItem) (x : SegmentItem) (c : Card) (items : List SegmentItem) (cards behind behind2 : List Card)
+    → firsts behind ≡ firsts behind2 → Says o items cards behind → Says o (x ∷ items) (c ∷ cards) behind2
 says-on None x c items cards behind behind2 e s = sym e ∙ s
-says-on (Some item) x c items cards behind behind2 e s = record { k = suc s.k; card = s.card; item_at = s.item_at; card_at = s.card_at; first = sym e ∙ s.first }
+says-on (Some item) x c items cards behind behind2 e s =
+    record { k = suc s.k; card = s.card; item_at = s.item_at; card_at = s.card_at; first = sym e ∙ s.first }
 
 -- what is found of items, where it is known of the first of them
 abbrev picked_after : (SegmentItem → Bool) → List SegmentItem → ℕ → SegmentItem → Bool → Bool → Option SegmentItem
 picked_after test items c x p q = (with_items test items (record { count = c + 1; fresh = if p && q then Some x else None })).fresh
 
-pub says : (test : SegmentItem → Bool) (items : List SegmentItem) (cards : List Card) (c : ℕ) → Alike test items cards → Says (with_items test items (none_at c)).fresh items cards (drop (22 - c) cards)
+pub says : (test : SegmentItem → Bool) (items : List SegmentItem) (cards : List Card) (c : ℕ) → Alike test items cards
+    → Says (with_items test items (none_at c)).fresh items cards (drop (22 - c) cards)
 says test [] [] c a = ap firsts (drop_all (22 - c) [] (omega arith))
 says test [] (z ∷ cards) c a = absurd a
 says test (x ∷ items) [] c a = absurd a
@@ -210,7 +219,8 @@ posted-fresh : (x : Scene) (at : ℕ) (bytes : List ℕ) (o : Option Parcel) →
 posted-fresh x at bytes None = refl
 posted-fresh x at bytes (Some p) = refl
 
-fresh-used : (x : Scene) (d : Desk) (b : Band) (o : HeapOf) (p : ℕ) (bytes : List ℕ) → IsBandFor d b o → is_fresh_at x b.handle o (p + 4) ≡ (card_for x d o p (Used bytes)).fresh
+fresh-used : (x : Scene) (d : Desk) (b : Band) (o : HeapOf) (p : ℕ) (bytes : List ℕ) → IsBandFor d b o
+    → is_fresh_at x b.handle o (p + 4) ≡ (card_for x d o p (Used bytes)).fresh
 fresh-used x d b (heap_of.Task i) p bytes r = ap (λ h. is_fresh_block x h (p + 4)) r.2 ∙ sym (ap (λ o. (card_of_task x o p (Used bytes)).fresh) r.1)
 fresh-used x d b heap_of.Module p bytes r = posted-fresh x (p + 4) bytes (message_in x (p + 4 - 25165824))
 
@@ -222,7 +232,8 @@ band-fresh : (x : Scene) (d : Desk) (b : Band) (p : ℕ) (s : Segment) → IsBan
 band-fresh x d b p (Used bytes) r = fresh-used x d b b.heap p bytes r
 band-fresh x d b p (Hole n) r = fresh-hole x d b b.heap p n r
 
-pub band-alike : (x : Scene) (d : Desk) (b : Band) (p : ℕ) (segments : List Segment) → IsBandOf d b → Alike (is_fresh_card x b) (segment_items_from p segments) (cards_from (band_card x d b) p segments)
+pub band-alike : (x : Scene) (d : Desk) (b : Band) (p : ℕ) (segments : List Segment) → IsBandOf d b
+    → Alike (is_fresh_card x b) (segment_items_from p segments) (cards_from (band_card x d b) p segments)
 band-alike x d b p [] r = tt
 band-alike x d b p (s ∷ segments) r = (band-fresh x d b p s r, band-alike x d b (p + size_of s) segments r)
 
@@ -285,11 +296,15 @@ pub record BandPicked (x : Scene) (d : Desk) (b : Band) (h : Heap) (item : Segme
   pub item_is : item ≡ segment_item (heap_start_of b.heap + place) segment
   pub first : firsts (drop 22 (band_cards x d b h)) ≡ band_card x d b (heap_start_of b.heap + place) segment ∷ []
 
-module _ (x : Scene) (d : Desk) (b : Band) (h : Heap) (r : IsBandOf d b) (s : Survey) (is : s ≡ with_items (is_fresh_card x b) (segment_items_from (heap_start_of b.heap + 16) h.segments) (none_at 0)) where
-  band-says : (o : Option SegmentItem) → s.fresh ≡ o → Says o (segment_items_from (heap_start_of b.heap + 16) h.segments) (band_cards x d b h) (drop 22 (band_cards x d b h))
+module _ (x : Scene) (d : Desk) (b : Band) (h : Heap) (r : IsBandOf d b) (s : Survey)
+    (is : s ≡ with_items (is_fresh_card x b) (segment_items_from (heap_start_of b.heap + 16) h.segments) (none_at 0)) where
+  band-says : (o : Option SegmentItem) → s.fresh ≡ o
+      → Says o (segment_items_from (heap_start_of b.heap + 16) h.segments) (band_cards x d b h) (drop 22 (band_cards x d b h))
   band-says o e =
-      let P : Option SegmentItem → Type 0 = λ z. Says z (segment_items_from (heap_start_of b.heap + 16) h.segments) (band_cards x d b h) (drop 22 (band_cards x d b h)) in
-      subst P (ap (λ (z : Survey). z.fresh) (sym is) ∙ e) (says (is_fresh_card x b) (segment_items_from (heap_start_of b.heap + 16) h.segments) (band_cards x d b h) 0 (band-alike x d b (heap_start_of b.heap + 16) h.segments r))
+      let P : Option SegmentItem → Type 0 =
+      λ z. Says z (segment_items_from (heap_start_of b.heap + 16) h.segments) (band_cards x d b h) (drop 22 (band_cards x d b h)) in
+      subst P (ap (λ (z : Survey). z.fresh) (sym is) ∙ e) (says (is_fresh_card x b) (segment_items_from (heap_start_of b.heap + 16) h.segments)
+      (band_cards x d b h) 0 (band-alike x d b (heap_start_of b.heap + 16) h.segments r))
 
   pub band-none : s.fresh ≡ None → firsts (drop 22 (band_cards x d b h)) ≡ []
   band-none e = band-says None e
@@ -297,7 +312,12 @@ module _ (x : Scene) (d : Desk) (b : Band) (h : Heap) (r : IsBandOf d b) (s : Su
   pub band-some : (item : SegmentItem) → s.fresh ≡ Some item → heap_seen b.heap d ≡ Some h → BandPicked x d b h item
   band-some item e seen =
       let w = band-says (Some item) e in
-      let low : w.k < length h.segments = omega (arith, slice_get_within (segment_items_from (heap_start_of b.heap + 16) h.segments) w.k item w.item_at, length-items (heap_start_of b.heap + 16) h.segments) in
+      let low : w.k < length h.segments =
+      omega (
+        arith,
+        slice_get_within (segment_items_from (heap_start_of b.heap + 16) h.segments) w.k item w.item_at,
+        length-items (heap_start_of b.heap + 16) h.segments,
+      ) in
       let q = in-band x d b h w.k seen low in
       let there : item ≡ segment_item (heap_start_of b.heap + q.place) q.segment = (let u = w.item_at in let v = q.item_at in cc) in
       let card : w.card ≡ band_card x d b (heap_start_of b.heap + q.place) q.segment = (let u = w.card_at in let v = q.card_at in cc) in
@@ -305,15 +325,19 @@ module _ (x : Scene) (d : Desk) (b : Band) (h : Heap) (r : IsBandOf d b) (s : Su
 
   pub band-many : s.count ≡ length h.segments
   band-many =
-      ap (λ (z : Survey). z.count) is ∙ (with-count (is_fresh_card x b) (segment_items_from (heap_start_of b.heap + 16) h.segments) (none_at 0) ∙ omega (arith, length-items (heap_start_of b.heap + 16) h.segments))
+      ap (λ (z : Survey). z.count) is
+      ∙ (with-count (is_fresh_card x b) (segment_items_from (heap_start_of b.heap + 16) h.segments) (none_at 0)
+      ∙ omega (arith, length-items (heap_start_of b.heap + 16) h.segments))
 
 -- ---- the items that are told
 
 pub told-here : {o : Option Heap} (start : ℕ) (h : Heap) (items : List SegmentItem) (k : ℕ) → o ≡ Some h
-    → IfSome o (λ h. (below : List Segment) (rest : List Segment) → h.segments ≡ below ++ rest → 16 ≡ place_after below → items ≡ take SEGMENTS_AT_ONCE (segment_items_from (start + 16) rest))
+    → IfSome o (λ h. (below : List Segment) (rest : List Segment) → h.segments ≡ below ++ rest → 16 ≡ place_after below
+    → items ≡ take SEGMENTS_AT_ONCE (segment_items_from (start + 16) rest))
     → k < SEGMENTS_AT_ONCE → slice_get items k ≡ slice_get (segment_items_from (start + 16) h.segments) k
 told-here start h items k e f low =
-    ap (λ xs. slice_get xs k) (told start (from-first h e) f ∙ sym (take-items SEGMENTS_AT_ONCE (start + 16) h.segments)) ∙ get-front SEGMENTS_AT_ONCE k (segment_items_from (start + 16) h.segments) low
+    ap (λ xs. slice_get xs k) (told start (from-first h e) f ∙ sym (take-items SEGMENTS_AT_ONCE (start + 16) h.segments))
+    ∙ get-front SEGMENTS_AT_ONCE k (segment_items_from (start + 16) h.segments) low
 
 -- ---- the card of a segment
 
@@ -353,12 +377,14 @@ abbrev pub plain_card : Scene → Band → ℕ → List ℕ → Card
 plain_card x b a bytes = used_card a bytes (in_use_text (find (is_buffer_of a) b.taking.now)) (is_fresh_used x b a)
 
 used-task : (x : Scene) (d : Desk) (b : Band) (i p : ℕ) (bytes : List ℕ) → IsBandFor d b (heap_of.Task i)
-    → used_card (p + 4) bytes (in_use_text (find (is_buffer_of (p + 4)) b.taking.now)) (is_fresh_block x b.handle (p + 4)) ≡ card_for x d (heap_of.Task i) p (Used bytes)
+    → used_card (p + 4) bytes (in_use_text (find (is_buffer_of (p + 4)) b.taking.now)) (is_fresh_block x b.handle (p + 4)) ≡ card_for x d (heap_of.Task i) p
+    (Used bytes)
 used-task x d b i p bytes r =
     ap₂ (λ tk h. used_card (p + 4) bytes (in_use_text (find (is_buffer_of (p + 4)) tk)) (is_fresh_block x h (p + 4))) r.3 r.2
     ∙ sym (ap (λ o. card_of_task x o p (Used bytes)) r.1)
 
-pub task-is : (x : Scene) (d : Desk) (b : Band) (i p a n : ℕ) (s : Segment) → b.heap ≡ heap_of.Task i → IsBandOf d b → (q : UsedHere p a n s) → plain_card x b a q.bytes ≡ band_card x d b p s
+pub task-is : (x : Scene) (d : Desk) (b : Band) (i p a n : ℕ) (s : Segment) → b.heap ≡ heap_of.Task i → IsBandOf d b → (q : UsedHere p a n s)
+    → plain_card x b a q.bytes ≡ band_card x d b p s
 task-is x d b i p a n s heap r q =
     ap (λ z. plain_card x b z q.bytes) (sym q.at)
     ∙ (ap (λ o. used_card (p + 4) q.bytes (in_use_text (find (is_buffer_of (p + 4)) b.taking.now)) (is_fresh_block_of x b.handle o (p + 4))) heap
@@ -366,19 +392,22 @@ task-is x d b i p a n s heap r q =
     ∙ (ap (λ o. card_for x d o p (Used q.bytes)) (sym heap) ∙ ap (band_card x d b p) (sym q.is))))
 
 used-module : (x : Scene) (d : Desk) (b : Band) (p : ℕ) (bytes : List ℕ) → b.taking.now ≡ [] → message_in x (p + 4 - 25165824) ≡ None
-    → used_card (p + 4) bytes (in_use_text (find (is_buffer_of (p + 4)) b.taking.now)) (x.marks.module_block == p + 4) ≡ card_for x d heap_of.Module p (Used bytes)
+    → used_card (p + 4) bytes (in_use_text (find (is_buffer_of (p + 4)) b.taking.now)) (x.marks.module_block == p + 4) ≡ card_for x d heap_of.Module p
+    (Used bytes)
 used-module x d b p bytes none e =
     ap (λ tk. used_card (p + 4) bytes (in_use_text (find (is_buffer_of (p + 4)) tk)) (x.marks.module_block == p + 4)) none
     ∙ sym (ap (λ o. post_or_used_card x (p + 4) bytes o) e)
 
-pub module-is : (x : Scene) (d : Desk) (b : Band) (p a n : ℕ) (s : Segment) → b.heap ≡ heap_of.Module → IsBandOf d b → message_in x (a - 25165824) ≡ None → (q : UsedHere p a n s) → plain_card x b a q.bytes ≡ band_card x d b p s
+pub module-is : (x : Scene) (d : Desk) (b : Band) (p a n : ℕ) (s : Segment) → b.heap ≡ heap_of.Module → IsBandOf d b → message_in x (a - 25165824) ≡ None
+    → (q : UsedHere p a n s) → plain_card x b a q.bytes ≡ band_card x d b p s
 module-is x d b p a n s heap r e q =
     ap (λ z. plain_card x b z q.bytes) (sym q.at)
     ∙ (ap (λ o. used_card (p + 4) q.bytes (in_use_text (find (is_buffer_of (p + 4)) b.taking.now)) (is_fresh_block_of x b.handle o (p + 4))) heap
     ∙ (used-module x d b p q.bytes (subst (IsBandFor d b) heap r) (ap (λ z. message_in x (z - 25165824)) q.at ∙ e)
     ∙ (ap (λ o. card_for x d o p (Used q.bytes)) (sym heap) ∙ ap (band_card x d b p) (sym q.is))))
 
-pub posted-is : (x : Scene) (d : Desk) (b : Band) (p a n : ℕ) (s : Segment) (m : Parcel) → b.heap ≡ heap_of.Module → message_in x (a - 25165824) ≡ Some m → UsedHere p a n s → post_card x m ≡ band_card x d b p s
+pub posted-is : (x : Scene) (d : Desk) (b : Band) (p a n : ℕ) (s : Segment) (m : Parcel) → b.heap ≡ heap_of.Module → message_in x (a - 25165824) ≡ Some m
+    → UsedHere p a n s → post_card x m ≡ band_card x d b p s
 posted-is x d b p a n s m heap e q =
     sym (ap (λ o. post_or_used_card x (p + 4) q.bytes o) (ap (λ z. message_in x (z - 25165824)) q.at ∙ e))
     ∙ (ap (λ o. card_for x d o p (Used q.bytes)) (sym heap) ∙ ap (band_card x d b p) (sym q.is))
@@ -412,15 +441,20 @@ find-front b (x ∷ xs) ys e = go (x.block == b) refl (find-front b xs ys)
 abbrev NoneFor : ℕ → List Parcel → ℕ → Type 0
 NoneFor b ps h = find (stands_in b) (filter (is_to h) ps) ≡ None
 
-seat-none : (b h : ℕ) (queued : List Parcel) (seats : List Seat) → find (stands_in b) (flat_map (λ (s : Seat). filter (is_to s.handle) queued) seats) ≡ None → has_seat h seats ≡ true → NoneFor b queued h
+seat-none : (b h : ℕ) (queued : List Parcel) (seats : List Seat) → find (stands_in b) (flat_map (λ (s : Seat). filter (is_to s.handle) queued) seats) ≡ None
+    → has_seat h seats ≡ true → NoneFor b queued h
 seat-none b h queued [] e live = absurd (cc)
-seat-none b h queued (s ∷ seats) e live = go (seat-none b h queued seats) (s.handle == h) refl (find-front b (filter (is_to s.handle) queued) (flat_map (λ (z : Seat). filter (is_to z.handle) queued) seats) e)
+seat-none b h queued (s ∷ seats) e live = go (seat-none b h queued seats) (s.handle == h) refl
+    (find-front b (filter (is_to s.handle) queued) (flat_map (λ (z : Seat). filter (is_to z.handle) queued) seats) e)
   where
-    go : (find (stands_in b) (flat_map (λ (z : Seat). filter (is_to z.handle) queued) seats) ≡ None → has_seat h seats ≡ true → NoneFor b queued h) → (t : Bool) → (s.handle == h) ≡ t → (NoneFor b queued s.handle) × (find (stands_in b) (flat_map (λ (z : Seat). filter (is_to z.handle) queued) seats) ≡ None) → NoneFor b queued h
+    go : (find (stands_in b) (flat_map (λ (z : Seat). filter (is_to z.handle) queued) seats) ≡ None → has_seat h seats ≡ true → NoneFor b queued h)
+        → (t : Bool) → (s.handle == h) ≡ t
+        → (NoneFor b queued s.handle) × (find (stands_in b) (flat_map (λ (z : Seat). filter (is_to z.handle) queued) seats) ≡ None) → NoneFor b queued h
     go more true k r = subst (NoneFor b queued) (eqb-true s.handle h k) r.0
     go more false k r = let q : has_seat h seats ≡ true = rw k at live in more r.1 q
 
-queue-none : (b next : ℕ) (seats : List Seat) (ps : List Parcel) → AllByRecursion (IsQueued next seats) ps → ((h : ℕ) → has_seat h seats ≡ true → NoneFor b ps h) → list_any (stands_in b) ps ≡ false
+queue-none : (b next : ℕ) (seats : List Seat) (ps : List Parcel) → AllByRecursion (IsQueued next seats) ps
+    → ((h : ℕ) → has_seat h seats ≡ true → NoneFor b ps h) → list_any (stands_in b) ps ≡ false
 queue-none b next seats [] all f = refl
 queue-none b next seats (p ∷ ps) all f =
     let mine : NoneFor b (p ∷ ps) p.to = f p.to all.0.live in
@@ -435,15 +469,19 @@ queue-none b next seats (p ∷ ps) all f =
         pick true e n = rw (e, k) at n
         pick false e n = rw e at n
 
-    go : (((h : ℕ) → has_seat h seats ≡ true → NoneFor b ps h) → list_any (stands_in b) ps ≡ false) → (t : Bool) → (p.block == b) ≡ t → (if t then Some p else find (stands_in b) (filter (is_to p.to) ps)) ≡ None → list_any (stands_in b) (p ∷ ps) ≡ false
+    go : (((h : ℕ) → has_seat h seats ≡ true → NoneFor b ps h) → list_any (stands_in b) ps ≡ false) → (t : Bool) → (p.block == b) ≡ t
+        → (if t then Some p else find (stands_in b) (filter (is_to p.to) ps)) ≡ None → list_any (stands_in b) (p ∷ ps) ≡ false
     go more true k e = absurd (cc)
     go more false k e = rw k (more (rest k))
 
-held-none : (b : ℕ) (seats : List Seat) → find (stands_in b) (flat_map (λ (s : Seat). held_list s.holds) seats) ≡ None → list_any (λ (s : Seat). holds_such (stands_in b) s.holds) seats ≡ false
+held-none : (b : ℕ) (seats : List Seat) → find (stands_in b) (flat_map (λ (s : Seat). held_list s.holds) seats) ≡ None
+    → list_any (λ (s : Seat). holds_such (stands_in b) s.holds) seats ≡ false
 held-none b [] e = refl
 held-none b (s ∷ seats) e = go (held-none b seats) s.holds refl e
   where
-    go : (find (stands_in b) (flat_map (λ (z : Seat). held_list z.holds) seats) ≡ None → list_any (λ (z : Seat). holds_such (stands_in b) z.holds) seats ≡ false) → (o : Option Parcel) → s.holds ≡ o → find (stands_in b) (held_list o ++ flat_map (λ (z : Seat). held_list z.holds) seats) ≡ None → list_any (λ (z : Seat). holds_such (stands_in b) z.holds) (s ∷ seats) ≡ false
+    go : (find (stands_in b) (flat_map (λ (z : Seat). held_list z.holds) seats) ≡ None
+        → list_any (λ (z : Seat). holds_such (stands_in b) z.holds) seats ≡ false) → (o : Option Parcel) → s.holds ≡ o → find (stands_in b) (held_list o
+        ++ flat_map (λ (z : Seat). held_list z.holds) seats) ≡ None → list_any (λ (z : Seat). holds_such (stands_in b) z.holds) (s ∷ seats) ≡ false
     go more None k q = rw k (more q)
     go more (Some p) k q =
         let r = find-front b (p ∷ []) (flat_map (λ (z : Seat). held_list z.holds) seats) q in
@@ -470,5 +508,6 @@ got-is items k item none e =
     let there = slice_get-get_or items k none low in
     cc
 
-pub band-long : (x : Scene) (d : Desk) (b : Band) (h : Heap) (r : IsBandOf d b) (s : Survey) → s ≡ with_items (is_fresh_card x b) (segment_items_from (heap_start_of b.heap + 16) h.segments) (none_at 0) → s.count ≡ length (band_cards x d b h)
+pub band-long : (x : Scene) (d : Desk) (b : Band) (h : Heap) (r : IsBandOf d b) (s : Survey)
+    → s ≡ with_items (is_fresh_card x b) (segment_items_from (heap_start_of b.heap + 16) h.segments) (none_at 0) → s.count ≡ length (band_cards x d b h)
 band-long x d b h r s is = band-many x d b h r s is ∙ sym (cards-long (band_card x d b) (heap_start_of b.heap + 16) h.segments)

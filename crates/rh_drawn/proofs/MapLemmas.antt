@@ -78,7 +78,8 @@ pub stands_place : {D : Type 0} {desk : D → Desk} {marked : Bool} {p : Place} 
 stands_place is = record { desks = is.desk_is; steps = is.steps; wanted = is.wanted }
 
 -- behind a line a mapper stands where the map does
-pub stands_on : {D : Type 0} {desk : D → Desk} {marked : Bool} {p : Place} {m n : Mapper D} (r : Read) → Stands desk marked p m → Follows desk m r n → Stands desk marked (after_read p r) n
+pub stands_on : {D : Type 0} {desk : D → Desk} {marked : Bool} {p : Place} {m n : Mapper D} (r : Read) → Stands desk marked p m → Follows desk m r n
+    → Stands desk marked (after_read p r) n
 stands_on {desk = desk} {p = p} {m = m} r is f =
     let same = after_alike p (place_in desk m) r (stands_place is) in
     record {
@@ -94,14 +95,16 @@ pub record Shows (marked : Bool) (p : Place) (r : Read) (o q : Output) : Type 0 
   pub shared : IsShared share (after_read p r).desk
   pub written : Takes o q (written_lines (lines_of_read marked share p r))
 
-pub shows : {D : Type 0} {desk : D → Desk} {marked : Bool} {p : Place} {m n : Mapper D} {o q : Output} (line : Text) (meaning : Meaning (Option Command)) → Stands desk marked p m → Drew desk m o line meaning n q → Shows marked p (line, meaning) o q
+pub shows : {D : Type 0} {desk : D → Desk} {marked : Bool} {p : Place} {m n : Mapper D} {o q : Output} (line : Text) (meaning : Meaning (Option Command))
+    → Stands desk marked p m → Drew desk m o line meaning n q → Shows marked p (line, meaning) o q
 shows {D} {desk} {marked} {p} {m} {n} {o} {q} line meaning is drew =
     let r : Read = (line, meaning) in
     let P : List Text → Type 0 = λ z. Takes o q (written_lines z) in
     record {
       share = drew.share;
       shared = shared_alike drew.share (after_alike p (place_in desk m) r (stands_place is)).desks drew.shared;
-      written = subst P (ap (λ k. lines_of_read k drew.share (place_in desk m) r) is.marked_is ∙ lines_alike marked drew.share p (place_in desk m) r (stands_place is)) drew.written;
+      written = subst P (ap (λ k. lines_of_read k drew.share (place_in desk m) r) is.marked_is
+          ∙ lines_alike marked drew.share p (place_in desk m) r (stands_place is)) drew.written;
     }
 
 -- ---- lines one after the other
@@ -127,7 +130,8 @@ pub record Drawn {D : Type 0} (desk : D → Desk) (marked : Bool) (p : Place) (r
   pub stands : Stands desk marked (after_reads p reads) n
   pub bad_is : n.has_bad_line ≡ (bad || list_any is_bad_read reads)
 
-drawn_none : {D : Type 0} {desk : D → Desk} {marked : Bool} {p : Place} {m : Mapper D} (o : Output) → Stands desk marked p m → Drawn desk marked p [] m.has_bad_line m o o
+drawn_none : {D : Type 0} {desk : D → Desk} {marked : Bool} {p : Place} {m : Mapper D} (o : Output) → Stands desk marked p m
+    → Drawn desk marked p [] m.has_bad_line m o o
 drawn_none o is = record {
   stages = [];
   lines = refl;
@@ -145,7 +149,9 @@ either_first : (a b c : Bool) → ((a || b) || c) ≡ (a || (b || c))
 either_first true b c = refl
 either_first false b c = refl
 
-drawn_more : {D : Type 0} {desk : D → Desk} {marked : Bool} {p : Place} {m n l : Mapper D} {o q u : Output} (line : Text) (meaning : Meaning (Option Command)) (reads : List Read) → Stands desk marked p m → Drew desk m o line meaning n q → Drawn desk marked (after_read p (line, meaning)) reads n.has_bad_line l q u → Drawn desk marked p ((line, meaning) ∷ reads) m.has_bad_line l o u
+drawn_more : {D : Type 0} {desk : D → Desk} {marked : Bool} {p : Place} {m n l : Mapper D} {o q u : Output} (line : Text)
+    (meaning : Meaning (Option Command)) (reads : List Read) → Stands desk marked p m → Drew desk m o line meaning n q
+    → Drawn desk marked (after_read p (line, meaning)) reads n.has_bad_line l q u → Drawn desk marked p ((line, meaning) ∷ reads) m.has_bad_line l o u
 drawn_more {D} {desk} {marked} {p} {m} {n} {l} {o} {q} {u} line meaning reads is drew rest =
     let here = shows line meaning is drew in
     let r : Read = (line, meaning) in
@@ -154,13 +160,16 @@ drawn_more {D} {desk} {marked} {p} {m} {n} {l} {o} {q} {u} line meaning reads is
       stages = (r, here.share) ∷ rest.stages;
       lines = ap (λ rs. r ∷ rs) rest.lines;
       shared = (here.shared, rest.shared);
-      written = subst P (sym (written_more (lines_of_read marked here.share p r) (map_lines marked (after_read p r) rest.stages))) (takes_more here.written rest.written);
+      written = subst P (sym (written_more (lines_of_read marked here.share p r) (map_lines marked (after_read p r) rest.stages)))
+          (takes_more here.written rest.written);
       stands = rest.stands;
-      bad_is = rest.bad_is ∙ (ap (λ b. b || list_any is_bad_read reads) drew.follows.bad ∙ either_first m.has_bad_line (is_err meaning) (list_any is_bad_read reads));
+      bad_is = rest.bad_is ∙ (ap (λ b. b || list_any is_bad_read reads) drew.follows.bad
+          ∙ either_first m.has_bad_line (is_err meaning) (list_any is_bad_read reads));
     }
 
 -- all lines that were taken, as far as they are kept
-pub took_map : {D : Type 0} {desk : D → Desk} {marked : Bool} {p : Place} {m n : Mapper D} {o q : Output} (lines : List Text) → Stands desk marked p m → TookAll (TookLine desk) m o lines n q → Drawn desk marked p (map read_line lines) m.has_bad_line n o q
+pub took_map : {D : Type 0} {desk : D → Desk} {marked : Bool} {p : Place} {m n : Mapper D} {o q : Output} (lines : List Text) → Stands desk marked p m
+    → TookAll (TookLine desk) m o lines n q → Drawn desk marked p (map read_line lines) m.has_bad_line n o q
 took_map {D} {desk} {marked} {p} {m} {n} {o} {q} [] is (a, b) =
     let P : Mapper D → Type 0 = λ z. Drawn desk marked p [] m.has_bad_line z o q in
     let Q : Output → Type 0 = λ z. Drawn desk marked p [] m.has_bad_line m o z in
@@ -183,7 +192,8 @@ record Wholes (marked : Bool) (p : Place) (lines : List Text) (stages : List Sta
   text : map_lines marked p (whole_stages lines stages) ≡ map_lines marked p stages
   after : after_reads p (map read_line lines) ≡ after_reads p (map read_line (map kept lines))
 
-stage_is : (r q : Read) (s : Share) (stages : List Stage) (reads : List Read) → map read_of ((r, s) ∷ stages) ≡ q ∷ reads → (r ≡ q) × (map read_of stages ≡ reads)
+stage_is : (r q : Read) (s : Share) (stages : List Stage) (reads : List Read) → map read_of ((r, s) ∷ stages) ≡ q ∷ reads
+    → (r ≡ q) × (map read_of stages ≡ reads)
 stage_is r q s stages reads e = (ap first_read e, ap rest_reads e)
   where
     first_read : List Read → Read
@@ -194,7 +204,8 @@ stage_is r q s stages reads e = (ap first_read e, ap rest_reads e)
     rest_reads [] = []
     rest_reads (x ∷ xs) = xs
 
-wholes : (marked : Bool) (p : Place) (lines : List Text) (stages : List Stage) → map read_of stages ≡ map read_line (map kept lines) → AreShared p stages → Wholes marked p lines stages
+wholes : (marked : Bool) (p : Place) (lines : List Text) (stages : List Stage) → map read_of stages ≡ map read_line (map kept lines) → AreShared p stages
+    → Wholes marked p lines stages
 wholes marked p [] [] e shared = record { reads = refl; shared = tt; text = refl; after = refl }
 wholes marked p [] (x ∷ stages) e shared = absurd (cc)
 wholes marked p (l ∷ ls) [] e shared = absurd (cc)
@@ -208,7 +219,8 @@ wholes marked p (l ∷ ls) ((r, s) ∷ stages) e shared =
     record {
       reads = ap (λ rs. read_line l ∷ rs) rest.reads;
       shared = (subst Q here shared.0, rest.shared);
-      text = ap₂ (λ xs ys. xs ++ ys) (sym (same.lines marked s p) ∙ sym (ap (lines_of_read marked s p) parts.0)) (rest.text ∙ ap (λ z. map_lines marked z stages) (sym here));
+      text = ap₂ (λ xs ys. xs ++ ys) (sym (same.lines marked s p) ∙ sym (ap (lines_of_read marked s p) parts.0))
+          (rest.text ∙ ap (λ z. map_lines marked z stages) (sym here));
       after = rest.after ∙ ap (λ z. after_reads z (map read_line (map kept ls))) (sym (same.after p));
     }
 
@@ -218,7 +230,8 @@ bad_kept [] = refl
 bad_kept (l ∷ ls) = ap₂ (λ a b. a || b) (ap is_err (kept_means l)) (bad_kept ls)
 
 -- all lines that were taken, each whole
-pub took_lines : {D : Type 0} {desk : D → Desk} {marked : Bool} {p : Place} {m n : Mapper D} {o q : Output} (lines : List Text) → Stands desk marked p m → TookAll (TookLine desk) m o (map kept lines) n q → Drawn desk marked p (map read_line lines) m.has_bad_line n o q
+pub took_lines : {D : Type 0} {desk : D → Desk} {marked : Bool} {p : Place} {m n : Mapper D} {o q : Output} (lines : List Text) → Stands desk marked p m
+    → TookAll (TookLine desk) m o (map kept lines) n q → Drawn desk marked p (map read_line lines) m.has_bad_line n o q
 took_lines {D} {desk} {marked} {p} {m} {n} {o} {q} lines is took =
     let drawn = took_map (map kept lines) is took in
     let whole = wholes marked p lines drawn.stages drawn.lines drawn.shared in
@@ -238,5 +251,6 @@ took_lines {D} {desk} {marked} {p} {m} {n} {o} {q} lines is took =
     bad_reads (l ∷ ls) = ap (λ b. is_bad l || b) (bad_reads ls)
 
 -- the map of these lines
-pub map_is : {D : Type 0} {desk : D → Desk} {marked : Bool} {p : Place} {reads : List Read} {bad : Bool} {n : Mapper D} {o q : Output} (d : Drawn desk marked p reads bad n o q) → IsMap marked p reads (written_lines (map_lines marked p d.stages))
+pub map_is : {D : Type 0} {desk : D → Desk} {marked : Bool} {p : Place} {reads : List Read} {bad : Bool} {n : Mapper D} {o q : Output}
+    (d : Drawn desk marked p reads bad n o q) → IsMap marked p reads (written_lines (map_lines marked p d.stages))
 map_is d = record { stages = d.stages; lines = d.lines; shared = d.shared; is = refl }

@@ -1,5 +1,6 @@
 -- Characters of pages, owner by owner.
-use Rattle.std.proofs.Common.{◌≡◌, ℕ, zero, suc, ◌+◌, ◌<◌, ◌≤◌, Bool, true, false, eq-eqb, refl, ap, ap₂, sym, ◌∙◌, append_assoc, arith, List, [], ◌∷◌, ◌++◌, length, map, set, get_or, Option, Some, None}
+use Rattle.std.proofs.Common.{◌≡◌, ℕ, zero, suc, ◌+◌, ◌<◌, ◌≤◌, Bool, true, false, eq-eqb, refl, ap, ap₂, sym, ◌∙◌, append_assoc, arith, List, [], ◌∷◌, ◌++◌}
+use Rattle.std.proofs.Common.{length, map, set, get_or, Option, Some, None}
 use Rattle.std.specs.Prelude.{◌==◌, ◌&&◌, ◌||◌, find, replicate, if◌then◌else◌, nat_lt, slice_get, slice_index}
 use Rattle.std.specs.List.{enumerate_from, list_any, position, range_with_len}
 use Rattle.std.proofs.lemmas.Bool.{ne_eqb}
@@ -97,7 +98,8 @@ abbrev mark_at : List (List ℕ × ℕ) → ℕ → ℕ → ℕ
 mark_at [] k m = m
 mark_at (x ∷ xs) k m = mark_at xs k (one x.0 x.1 (k, m))
 
-map-numbered : (g f : ℕ × ℕ → ℕ) (n : ℕ) (ms : List ℕ) → map g (enumerate_from n (map f (enumerate_from n ms))) ≡ map (λ at. g (at.0, f at)) (enumerate_from n ms)
+map-numbered : (g f : ℕ × ℕ → ℕ) (n : ℕ) (ms : List ℕ)
+    → map g (enumerate_from n (map f (enumerate_from n ms))) ≡ map (λ at. g (at.0, f at)) (enumerate_from n ms)
 map-numbered g f n [] = refl
 map-numbered g f n (m ∷ ms) = ap (λ z. g (n, f (n, m)) ∷ z) (map-numbered g f (n + 1) ms)
 
@@ -168,7 +170,8 @@ owner-found : (x : Scene) (k : ℕ) (o : Option Holding) → find (has_page x.sh
 owner-found x k None e = rw e refl
 owner-found x k (Some h) e = rw e refl
 
-first-mark : (s : Share) (slots : List Panel) (k : ℕ) (hs : List Holding) → mark_at (map (of_holding s slots) hs) k 46 ≡ page_mark slots (owner_in (find (has_page s k) hs))
+first-mark : (s : Share) (slots : List Panel) (k : ℕ) (hs : List Holding)
+    → mark_at (map (of_holding s slots) hs) k 46 ≡ page_mark slots (owner_in (find (has_page s k) hs))
 first-mark s slots k [] = refl
 first-mark s slots k (h ∷ hs) = go (has_page s k h) refl (first-mark s slots k hs)
   where
@@ -193,16 +196,19 @@ map-twice f g (x ∷ xs) = ap (λ z. f (g x) ∷ z) (map-twice f g xs)
 abbrev pub fixed_pages : Share → ℕ × ℕ → List ℕ × ℕ
 fixed_pages s a = (s.pages_of (AreaOf a.0), owner_mark [] (AreaOf a.0))
 
-fixed-same : (d : Desk) (s : Share) (slots : List Panel) (areas : List (ℕ × ℕ)) → map (fixed_pages s) areas ≡ map (λ (a : ℕ × ℕ). of_holding s slots (fixed_holding d a)) areas
+fixed-same : (d : Desk) (s : Share) (slots : List Panel) (areas : List (ℕ × ℕ))
+    → map (fixed_pages s) areas ≡ map (λ (a : ℕ × ℕ). of_holding s slots (fixed_holding d a)) areas
 fixed-same d s slots [] = refl
 fixed-same d s slots (a ∷ areas) = ap (λ z. fixed_pages s a ∷ z) (fixed-same d s slots areas)
 
-made-same : (s : Share) (slots : List Panel) (ms : List Made) → map (made_pages s) ms ≡ map (λ (m : Made). let h : Holding = (AreaOf m.number, m.pages) in of_holding s slots h) ms
+made-same : (s : Share) (slots : List Panel) (ms : List Made)
+    → map (made_pages s) ms ≡ map (λ (m : Made). let h : Holding = (AreaOf m.number, m.pages) in of_holding s slots h) ms
 made-same s slots [] = refl
 made-same s slots (m ∷ ms) = ap (λ z. made_pages s m ∷ z) (made-same s slots ms)
 
 -- the letters of slots from a place on
-slots-are : {d : Desk} (is : IsDesk d) (x : Scene) (s : Share) (i : ℕ) (ts : List Task) → ((k : ℕ) (t : Task) → slice_get ts k ≡ Some t → slice_get d.tasks (i + k) ≡ Some t)
+slots-are : {d : Desk} (is : IsDesk d) (x : Scene) (s : Share) (i : ℕ) (ts : List Task)
+    → ((k : ℕ) (t : Task) → slice_get ts k ≡ Some t → slice_get d.tasks (i + k) ≡ Some t)
     → slot_pages_from s i ts ≡ map (λ (t : Task). let h : Holding = (SlotOf t.handle, task_pages t) in of_holding s (map (slot_panel x) d.tasks) h) ts
 slots-are is x s i [] stand = refl
 slots-are {d} is x s i (t ∷ ts) stand =
@@ -221,19 +227,27 @@ module _ {d : Desk} (is : IsDesk d) (x : Scene) (tasks : x.desk.tasks ≡ d.task
       let a = map (fixed_holding d) (enumerate_from 0 d.areas) in
       let b = map (λ (m : Made). let h : Holding = (AreaOf m.number, m.pages) in h) d.made in
       let c = map (λ (t : Task). let h : Holding = (SlotOf t.handle, task_pages t) in h) d.tasks in
-      ap₂ (λ u v. u ++ v) (fixed-same d x.share (map (slot_panel x) d.tasks) (enumerate_from 0 d.areas) ∙ sym (map-twice of (fixed_holding d) (enumerate_from 0 d.areas)))
-      (ap₂ (λ u v. u ++ v) (made-same x.share (map (slot_panel x) d.tasks) d.made ∙ sym (map-twice of (λ (m : Made). let h : Holding = (AreaOf m.number, m.pages) in h) d.made))
-      (slots-are is x x.share 0 d.tasks (λ k t e. ap (slice_get d.tasks) (omega arith) ∙ e) ∙ sym (map-twice of (λ (t : Task). let h : Holding = (SlotOf t.handle, task_pages t) in h) d.tasks)))
+      ap₂ (λ u v. u ++ v) (fixed-same d x.share (map (slot_panel x) d.tasks) (enumerate_from 0 d.areas)
+      ∙ sym (map-twice of (fixed_holding d) (enumerate_from 0 d.areas)))
+      (ap₂ (λ u v. u ++ v) (made-same x.share (map (slot_panel x) d.tasks) d.made
+      ∙ sym (map-twice of (λ (m : Made). let h : Holding = (AreaOf m.number, m.pages) in h) d.made))
+      (slots-are is x x.share 0 d.tasks (λ k t e. ap (slice_get d.tasks) (omega arith) ∙ e)
+      ∙ sym (map-twice of (λ (t : Task). let h : Holding = (SlotOf t.handle, task_pages t) in h) d.tasks)))
       ∙ (sym (append_assoc (map of a) (map of b) (map of c)) ∙ (ap (λ z. z ++ map of c) (sym (map-append of a b)) ∙ sym (map-append of (a ++ b) c)))
 
-  pub pool-marked : (ms : List ℕ) → marked_all (slot_pages_from x.share 0 d.tasks) (marked_all (map (made_pages x.share) d.made) (marked_all (map (fixed_pages x.share) (enumerate_from 0 d.areas)) (replicate (length ms) 46)))
+  pub pool-marked : (ms : List ℕ)
+      → marked_all (slot_pages_from x.share 0 d.tasks) (marked_all (map (made_pages x.share) d.made)
+      (marked_all (map (fixed_pages x.share) (enumerate_from 0 d.areas)) (replicate (length ms) 46)))
       ≡ map (λ k. page_mark (slot_panels x) (owner_of x k)) (range_with_len 0 (length ms))
   pool-marked ms =
       let free = map (λ _. 46) ms in
       let start : replicate (length ms) 46 ≡ free = all-free ms in
-      let one_by_one = all-both (map (fixed_pages x.share) (enumerate_from 0 d.areas)) (map (made_pages x.share) d.made ++ slot_pages_from x.share 0 d.tasks) free in
-      let next = all-both (map (made_pages x.share) d.made) (slot_pages_from x.share 0 d.tasks) (marked_all (map (fixed_pages x.share) (enumerate_from 0 d.areas)) free) in
-      ap (λ z. marked_all (slot_pages_from x.share 0 d.tasks) (marked_all (map (made_pages x.share) d.made) (marked_all (map (fixed_pages x.share) (enumerate_from 0 d.areas)) z))) start
+      let one_by_one =
+      all-both (map (fixed_pages x.share) (enumerate_from 0 d.areas)) (map (made_pages x.share) d.made ++ slot_pages_from x.share 0 d.tasks) free in
+      let next = all-both (map (made_pages x.share) d.made) (slot_pages_from x.share 0 d.tasks)
+      (marked_all (map (fixed_pages x.share) (enumerate_from 0 d.areas)) free) in
+      ap (λ z. marked_all (slot_pages_from x.share 0 d.tasks) (marked_all (map (made_pages x.share) d.made)
+      (marked_all (map (fixed_pages x.share) (enumerate_from 0 d.areas)) z))) start
       ∙ (sym (one_by_one ∙ next)
       ∙ (all-marked owners free
       ∙ (map-free (λ (at : ℕ × ℕ). mark_at owners at.0 at.1) 0 ms

@@ -24,7 +24,8 @@ pub is-some : {A : Type 0} {o : Option A} {x : A} → o ≡ Some x → IsSome o
 is-some {A} {o} {x} e = let P : Option A → Type 0 = λ z. IsSome z in subst P (sym e) refl
 
 -- a member's number is at least the first one
-rise-least : {A : Type 0} (number : A → ℕ) (least next : ℕ) (xs : List A) (i : ℕ) (x : A) → Rise number least next xs → slice_get xs i ≡ Some x → least ≤ number x
+rise-least : {A : Type 0} (number : A → ℕ) (least next : ℕ) (xs : List A) (i : ℕ) (x : A) → Rise number least next xs → slice_get xs i ≡ Some x
+    → least ≤ number x
 rise-least number least next [] i x r e = absurd (cc)
 rise-least number least next (y ∷ ys) zero x r e = let k : y ≡ x = cc in subst (λ z. least ≤ number z) k r.0
 rise-least number least next (y ∷ ys) (suc i) x r e =
@@ -47,10 +48,12 @@ module _ {d : Desk} (is : IsDesk d) where
 
   -- how many pages they are
   module _ (numbers : List ℕ) (shared : IsShared (share_in numbers d) d) where
-    pub owned : (owner : PagesOf) (o : Owner) (found : List ℕ) → owner_seen owner d ≡ Some o → IfSome (owner_seen owner d) (λ q. found ≡ (share_in numbers d).pages_of q) → found ≡ (share_in numbers d).pages_of o
+    pub owned : (owner : PagesOf) (o : Owner) (found : List ℕ) → owner_seen owner d ≡ Some o
+        → IfSome (owner_seen owner d) (λ q. found ≡ (share_in numbers d).pages_of q) → found ≡ (share_in numbers d).pages_of o
     owned owner o found e h = at-some (owner_seen owner d) (λ q. found ≡ (share_in numbers d).pages_of q) o e h
 
-    pub owned-few : (owner : PagesOf) (o : Owner) → owner_seen owner d ≡ Some o → length numbers ≡ d.pool → length ((share_in numbers d).pages_of o) ≤ most_pages
+    pub owned-few : (owner : PagesOf) (o : Owner) → owner_seen owner d ≡ Some o → length numbers ≡ d.pool
+        → length ((share_in numbers d).pages_of o) ≤ most_pages
     owned-few owner o e all = omega (arith, room-of is numbers owner o shared e, shared.each o, is.pool)
 
     pub owned-made : (i : ℕ) (m : Made) → slice_get d.made i ≡ Some m → length ((share_in numbers d).pages_of (AreaOf m.number)) ≡ m.pages
@@ -59,8 +62,10 @@ module _ {d : Desk} (is : IsDesk d) where
     pub owned-slot : (i : ℕ) (t : Task) → slice_get d.tasks i ≡ Some t → length ((share_in numbers d).pages_of (SlotOf t.handle)) ≡ task_pages t
     owned-slot i t e = shared.each (SlotOf t.handle) ∙ sym (count-slot is (pages.Slot i) (SlotOf t.handle) i t refl (seen-slot i t e) e)
 
-    pub owned-fixed : (number n : ℕ) → number < 6 → n ≡ (if number == module_area then module_pages d else slice_index d.areas number) → length ((share_in numbers d).pages_of (AreaOf number)) ≡ n
-    owned-fixed number n low told = shared.each (AreaOf number) ∙ sym (count-fixed is (pages.Fixed number) (AreaOf number) number n refl (seen-fixed number low) told)
+    pub owned-fixed : (number n : ℕ) → number < 6 → n ≡ (if number == module_area then module_pages d else slice_index d.areas number)
+        → length ((share_in numbers d).pages_of (AreaOf number)) ≡ n
+    owned-fixed number n low told =
+        shared.each (AreaOf number) ∙ sym (count-fixed is (pages.Fixed number) (AreaOf number) number n refl (seen-fixed number low) told)
 
 -- ---- areas 0 to 5, one after the other
 
@@ -75,7 +80,8 @@ takes-none x o n low =
     let off : nat_lt (count_of o x.before.holdings) n ≡ false = grind (arith, nat_tests) in
     ap (λ b. indented (if b then taken_line (owner_name x.desk o) (taken_pages x (o, n)) ∷ [] else [])) off
 
-pub takes-some : (x : Scene) (o : Owner) (n : ℕ) → count_of o x.before.holdings < n → takes_part x (o, n) ≡ (codes "  " ++ taken_line (owner_name x.desk o) (taken_pages x (o, n))) ∷ []
+pub takes-some : (x : Scene) (o : Owner) (n : ℕ) → count_of o x.before.holdings < n
+    → takes_part x (o, n) ≡ (codes "  " ++ taken_line (owner_name x.desk o) (taken_pages x (o, n))) ∷ []
 takes-some x o n low =
     let on : nat_lt (count_of o x.before.holdings) n ≡ true = grind (arith, nat_tests) in
     ap (λ b. indented (if b then taken_line (owner_name x.desk o) (taken_pages x (o, n)) ∷ [] else [])) on

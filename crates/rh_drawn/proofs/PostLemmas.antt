@@ -1,5 +1,6 @@
 -- The list of all messages, and the post that it lists, task by task.
-use Rattle.std.proofs.Common.{◌≡◌, ℕ, ◌+◌, ◌<◌, ◌≤◌, Bool, true, false, refl, ap, ap₂, sym, subst, ◌∙◌, arith, List, [], ◌∷◌, ◌++◌, length, map, take, Option, Some, None, append-nil}
+use Rattle.std.proofs.Common.{◌≡◌, ℕ, ◌+◌, ◌<◌, ◌≤◌, Bool, true, false, refl, ap, ap₂, sym, subst, ◌∙◌, arith, List, [], ◌∷◌, ◌++◌, length, map, take, Option}
+use Rattle.std.proofs.Common.{Some, None, append-nil}
 use Rattle.std.specs.Prelude.{◌==◌, ◌&&◌, not, IfSome, codes, filter, find, if◌then◌else◌}
 use Rattle.std.specs.List.{AllByRecursion, flat_map, join_by, list_any}
 use Rattle.std.specs.Option.{option_map}
@@ -24,7 +25,8 @@ use Rattle.rh_map.specs.Messages as lines
 use Rattle.rh_defs.specs.declared.listing.MessageItem.{MessageItem}
 use Rattle.rh_sight.specs.declared.message_list.Place.{Place}
 use Rattle.rh_sight.specs.declared.message_list.Place.TheVariants.{Held}
-use Rattle.rh_sight.specs.Messages.{before_next, behind, first_ref, held_on, held_ref, is_held_by, item_of, lies_in, message_items, place_among, waiting_on, waits_for}
+use Rattle.rh_sight.specs.Messages.{before_next, behind, first_ref, held_on, held_ref, is_held_by, item_of, lies_in, message_items, place_among, waiting_on}
+use Rattle.rh_sight.specs.Messages.{waits_for}
 use Rattle.rh_sight.proofs.Posts.{held-is}
 use Rattle.rh_drawn.specs.Bands.{IsItemOf, place_seen}
 use Rattle.rh_drawn.specs.Letters.{entry_seen, has_letters_in, letterbox_in, letterboxes_in}
@@ -35,11 +37,13 @@ waits-held : (h : ℕ) (qs : List Parcel) → filter (waits_for h) (map (item_of
 waits-held h [] = refl
 waits-held h (q ∷ qs) = waits-held h qs
 
-waits-listed : (h : ℕ) (ps : List Parcel) (ms : List MessageItem) → filter (waits_for h) (map (item_of false) ps ++ ms) ≡ map (item_of false) (filter (is_to h) ps) ++ filter (waits_for h) ms
+waits-listed : (h : ℕ) (ps : List Parcel) (ms : List MessageItem)
+    → filter (waits_for h) (map (item_of false) ps ++ ms) ≡ map (item_of false) (filter (is_to h) ps) ++ filter (waits_for h) ms
 waits-listed h [] ms = refl
 waits-listed h (p ∷ ps) ms = go (p.to == h) refl (waits-listed h ps ms)
   where
-    go : (t : Bool) → (p.to == h) ≡ t → filter (waits_for h) (map (item_of false) ps ++ ms) ≡ map (item_of false) (filter (is_to h) ps) ++ filter (waits_for h) ms
+    go : (t : Bool) → (p.to == h) ≡ t
+        → filter (waits_for h) (map (item_of false) ps ++ ms) ≡ map (item_of false) (filter (is_to h) ps) ++ filter (waits_for h) ms
         → filter (waits_for h) (map (item_of false) (p ∷ ps) ++ ms) ≡ map (item_of false) (filter (is_to h) (p ∷ ps)) ++ filter (waits_for h) ms
     go true k rest = rw k (ap (λ z. item_of false p ∷ z) rest)
     go false k rest = rw k rest
@@ -48,7 +52,8 @@ to-same : (h : ℕ) (ps : List Parcel) → filter (is_to h) (filter (is_to h) ps
 to-same h [] = refl
 to-same h (p ∷ ps) = go (p.to == h) refl (to-same h ps)
   where
-    go : (t : Bool) → (p.to == h) ≡ t → filter (is_to h) (filter (is_to h) ps) ≡ filter (is_to h) ps → filter (is_to h) (filter (is_to h) (p ∷ ps)) ≡ filter (is_to h) (p ∷ ps)
+    go : (t : Bool) → (p.to == h) ≡ t → filter (is_to h) (filter (is_to h) ps) ≡ filter (is_to h) ps
+        → filter (is_to h) (filter (is_to h) (p ∷ ps)) ≡ filter (is_to h) (p ∷ ps)
     go true k rest = rw (k, k) (ap (λ z. p ∷ z) rest)
     go false k rest = rw k rest
 
@@ -66,7 +71,8 @@ to-other h k (p ∷ ps) off = go (p.to == k) refl (to-other h k ps off)
 abbrev Others : ℕ → List Seat → Type 0
 Others h seats = AllByRecursion (λ (s : Seat). (s.handle == h) ≡ false) seats
 
-others-above : (least next h : ℕ) (tasks : List Task) (seats : List Seat) → seat_handles seats ≡ task_handles tasks → Rise (λ (t : Task). t.handle) least next tasks → h < least → Others h seats
+others-above : (least next h : ℕ) (tasks : List Task) (seats : List Seat) → seat_handles seats ≡ task_handles tasks
+    → Rise (λ (t : Task). t.handle) least next tasks → h < least → Others h seats
 others-above least next h tasks [] e r l = tt
 others-above least next h [] (s ∷ seats) e r l = absurd (cc)
 others-above least next h (t ∷ tasks) (s ∷ seats) e r l =
@@ -86,8 +92,8 @@ module _ (queued : List Parcel) (h : ℕ) where
       filter-append (is_to h) (filter (is_to s.handle) queued) (of_seats seats)
       ∙ ap₂ (λ x y. x ++ y) (to-other h s.handle queued off.0) (seats-other seats off.1)
 
-  seats-waits : (least next : ℕ) (tasks : List Task) (seats : List Seat) → seat_handles seats ≡ task_handles tasks → Rise (λ (t : Task). t.handle) least next tasks
-      → filter (is_to h) (of_seats seats) ≡ (if has_seat h seats then filter (is_to h) queued else [])
+  seats-waits : (least next : ℕ) (tasks : List Task) (seats : List Seat) → seat_handles seats ≡ task_handles tasks
+      → Rise (λ (t : Task). t.handle) least next tasks → filter (is_to h) (of_seats seats) ≡ (if has_seat h seats then filter (is_to h) queued else [])
   seats-waits least next tasks [] e r = refl
   seats-waits least next [] (s ∷ seats) e r = absurd (cc)
   seats-waits least next (t ∷ tasks) (s ∷ seats) e r =
@@ -98,7 +104,8 @@ module _ (queued : List Parcel) (h : ℕ) where
     where
       go : s.handle ≡ t.handle → seat_handles seats ≡ task_handles tasks → (b : Bool) → (s.handle == h) ≡ b
           → filter (is_to h) (of_seats seats) ≡ (if has_seat h seats then filter (is_to h) queued else [])
-          → filter (is_to h) (filter (is_to s.handle) queued) ++ filter (is_to h) (of_seats seats) ≡ (if (if b then true else has_seat h seats) then filter (is_to h) queued else [])
+          → filter (is_to h) (filter (is_to s.handle) queued) ++ filter (is_to h) (of_seats seats) ≡
+          (if (if b then true else has_seat h seats) then filter (is_to h) queued else [])
       go here rest true k more =
           let same : s.handle ≡ h = eqb-true s.handle h k in
           let off = others-above (t.handle + 1) next h tasks seats rest r.1 (omega arith) in
@@ -106,7 +113,8 @@ module _ (queued : List Parcel) (h : ℕ) where
           ∙ (ap₂ (λ x y. x ++ y) (to-same h queued) (seats-other seats off) ∙ append-nil (filter (is_to h) queued))
       go here rest false k more = ap₂ (λ x y. x ++ y) (to-other h s.handle queued k) more
 
-none-queued : (next h : ℕ) (seats : List Seat) (ps : List Parcel) → AllByRecursion (IsQueued next seats) ps → has_seat h seats ≡ false → filter (is_to h) ps ≡ []
+none-queued : (next h : ℕ) (seats : List Seat) (ps : List Parcel) → AllByRecursion (IsQueued next seats) ps → has_seat h seats ≡ false
+    → filter (is_to h) ps ≡ []
 none-queued next h seats [] all e = refl
 none-queued next h seats (p ∷ ps) all e = go (p.to == h) refl (none-queued next h seats ps all.1 e)
   where
@@ -151,7 +159,8 @@ held-other next h (s ∷ seats) own off = go s.holds own.0 (held-other next h se
         let mine : (p.to == h) ≡ false = ap (λ n. n == h) is.own ∙ off.0 in
         rw mine rest
 
-held-first : (least next given h : ℕ) (tasks : List Task) (seats : List Seat) → seat_handles seats ≡ task_handles tasks → Rise (λ (t : Task). t.handle) least next tasks → AllByRecursion (HoldsOwn given) seats
+held-first : (least next given h : ℕ) (tasks : List Task) (seats : List Seat) → seat_handles seats ≡ task_handles tasks
+    → Rise (λ (t : Task). t.handle) least next tasks → AllByRecursion (HoldsOwn given) seats
     → find (is_held_by h) (holds_of seats) ≡ option_map (item_of true) (held_by h seats)
 held-first least next given h tasks [] e r own = refl
 held-first least next given h [] (s ∷ seats) e r own = absurd (cc)
@@ -160,9 +169,10 @@ held-first least next given h (t ∷ tasks) (s ∷ seats) e r own =
     let rest : seat_handles seats ≡ task_handles tasks = cc in
     go here rest (s.handle == h) refl s.holds own.0 (held-first (t.handle + 1) next given h tasks seats rest r.1 own.1)
   where
-    go : s.handle ≡ t.handle → seat_handles seats ≡ task_handles tasks → (b : Bool) → (s.handle == h) ≡ b → (o : Option Parcel) → IfSome o (IsHeld given s.handle)
-        → find (is_held_by h) (holds_of seats) ≡ option_map (item_of true) (held_by h seats)
-        → find (is_held_by h) (map (item_of true) (held_list o ++ flat_map (λ (x : Seat). held_list x.holds) seats)) ≡ option_map (item_of true) (if b then o else held_by h seats)
+    go : s.handle ≡ t.handle → seat_handles seats ≡ task_handles tasks → (b : Bool) → (s.handle == h) ≡ b → (o : Option Parcel)
+        → IfSome o (IsHeld given s.handle) → find (is_held_by h) (holds_of seats) ≡ option_map (item_of true) (held_by h seats)
+        → find (is_held_by h) (map (item_of true) (held_list o ++ flat_map (λ (x : Seat). held_list x.holds) seats)) ≡ option_map (item_of true)
+        (if b then o else held_by h seats)
     go here rest true k None is more =
         let same : s.handle ≡ h = eqb-true s.handle h k in
         held-other given h seats own.1 (others-above (t.handle + 1) next h tasks seats rest r.1 (omega arith))
@@ -186,7 +196,8 @@ pub waits-few : (h : ℕ) (ms : List MessageItem) → length (map entry_seen (fi
 waits-few h [] = omega arith
 waits-few h (m ∷ ms) = go (waits_for h m) refl (waits-few h ms)
   where
-    go : (b : Bool) → waits_for h m ≡ b → length (map entry_seen (filter (waits_for h) ms)) ≤ length ms → length (map entry_seen (filter (waits_for h) (m ∷ ms))) ≤ length (m ∷ ms)
+    go : (b : Bool) → waits_for h m ≡ b → length (map entry_seen (filter (waits_for h) ms)) ≤ length ms
+        → length (map entry_seen (filter (waits_for h) (m ∷ ms))) ≤ length (m ∷ ms)
     go true e rest = rw e (omega (arith, rest))
     go false e rest = rw e (omega (arith, rest))
 
@@ -200,7 +211,8 @@ module _ (h : ℕ) where
       and_false true = refl
       and_false false = refl
 
-      go : (filter (waits_for h) ms ≡ [] → find (is_held_by h) ms ≡ None → has_letters_in h ms ≡ false) → (a : Bool) → m.held ≡ a → (b : Bool) → (m.to == h) ≡ b → has_letters_in h (m ∷ ms) ≡ false
+      go : (filter (waits_for h) ms ≡ [] → find (is_held_by h) ms ≡ None → has_letters_in h ms ≡ false) → (a : Bool) → m.held ≡ a → (b : Bool)
+          → (m.to == h) ≡ b → has_letters_in h (m ∷ ms) ≡ false
       go before a x false y =
           let u : waits_for h m ≡ false = ap₂ (λ p q. not p && q) x y ∙ and_false (not a) in
           let v : is_held_by h m ≡ false = ap₂ (λ p q. p && q) x y ∙ and_false a in
@@ -224,7 +236,8 @@ module _ (h : ℕ) where
       and_none true = refl
       and_none false = refl
 
-      go : (has_letters_in h ms ≡ false → (filter (waits_for h) ms ≡ []) × (find (is_held_by h) ms ≡ None)) → (b : Bool) → (m.to == h) ≡ b → (filter (waits_for h) (m ∷ ms) ≡ []) × (find (is_held_by h) (m ∷ ms) ≡ None)
+      go : (has_letters_in h ms ≡ false → (filter (waits_for h) ms ≡ []) × (find (is_held_by h) ms ≡ None)) → (b : Bool) → (m.to == h) ≡ b
+          → (filter (waits_for h) (m ∷ ms) ≡ []) × (find (is_held_by h) (m ∷ ms) ≡ None)
       go before true y = let k : true ≡ false = rw y at e in absurd (cc)
       go before false y =
           let k : has_letters_in h ms ≡ false = rw y at e in
@@ -237,12 +250,14 @@ join-map : {A B C : Type 0} (f : B → List C) (g : A → B) (sep : List C) (xs 
 join-map f g sep [] = refl
 join-map f g sep (x ∷ xs) = ap (λ z. f (g x) ++ z) (flat_map-map (λ y. sep ++ f y) g xs)
 
-waits-text : (ws : List Parcel) → waits_text (take MOST_LISTED (map entry_seen (map (item_of false) ws))) (length (map entry_seen (map (item_of false) ws))) ≡ messages_text ws
+waits-text : (ws : List Parcel)
+    → waits_text (take MOST_LISTED (map entry_seen (map (item_of false) ws))) (length (map entry_seen (map (item_of false) ws))) ≡ messages_text ws
 waits-text ws =
     let items = map (item_of false) ws in
     ap (λ n. waits_text (take MOST_LISTED (map entry_seen items)) n) (length-map items entry_seen ∙ length-map ws (item_of false))
     ∙ (ap (λ z. waits_text z (length ws)) (take-map entry_seen MOST_LISTED items ∙ ap (map entry_seen) (take-map (item_of false) MOST_LISTED ws))
-    ∙ ap (λ z. z ++ and_more (length ws)) (join-map text_of entry_seen (codes ", ") (map (item_of false) (take MOST_LISTED ws)) ∙ join-map (λ (m : MessageItem). text_of (entry_seen m)) (item_of false) (codes ", ") (take MOST_LISTED ws)))
+    ∙ ap (λ z. z ++ and_more (length ws)) (join-map text_of entry_seen (codes ", ") (map (item_of false) (take MOST_LISTED ws))
+    ∙ join-map (λ (m : MessageItem). text_of (entry_seen m)) (item_of false) (codes ", ") (take MOST_LISTED ws)))
 
 held-text : (o : Option Parcel) → held_text (option_map entry_seen (option_map (item_of true) o)) ≡ flat_map message_text (held_list o)
 held-text None = refl
@@ -252,20 +267,23 @@ abbrev box : Text → Option Parcel → List Parcel → Letterbox
 box name o ws = record { name = name; held = flat_map message_text (held_list o); waits = messages_text ws }
 
 box-is : (name : Text) (o : Option Parcel) (ws : List Parcel)
-    → lines.letterbox_of name (option_map entry_seen (option_map (item_of true) o)) (take MOST_LISTED (map entry_seen (map (item_of false) ws))) (length (map entry_seen (map (item_of false) ws))) ≡ box name o ws
+    → lines.letterbox_of name (option_map entry_seen (option_map (item_of true) o)) (take MOST_LISTED (map entry_seen (map (item_of false) ws)))
+    (length (map entry_seen (map (item_of false) ws))) ≡ box name o ws
 box-is name o ws = ap₂ (λ a b. let r : Letterbox = record { name = name; held = a; waits = b } in r) (held-text o) (waits-text ws)
 
 -- the list tells a task's letterbox
-pub letters-are : (name : Text) (h : ℕ) (ms : List MessageItem) (o : Option Parcel) (ws : List Parcel) → find (is_held_by h) ms ≡ option_map (item_of true) o → filter (waits_for h) ms ≡ map (item_of false) ws
-    → letterboxes_in name h ms ≡ figure.letterbox_of name (held_list o) ws
+pub letters-are : (name : Text) (h : ℕ) (ms : List MessageItem) (o : Option Parcel) (ws : List Parcel) → find (is_held_by h) ms ≡ option_map (item_of true) o
+    → filter (waits_for h) ms ≡ map (item_of false) ws → letterboxes_in name h ms ≡ figure.letterbox_of name (held_list o) ws
 letters-are name h ms o ws held waits = go (has_letters_in h ms) refl o ws held waits
   where
-    here : (o : Option Parcel) (ws : List Parcel) → find (is_held_by h) ms ≡ option_map (item_of true) o → filter (waits_for h) ms ≡ map (item_of false) ws → letterbox_in name h ms ≡ box name o ws
+    here : (o : Option Parcel) (ws : List Parcel) → find (is_held_by h) ms ≡ option_map (item_of true) o → filter (waits_for h) ms ≡ map (item_of false) ws
+        → letterbox_in name h ms ≡ box name o ws
     here o ws held waits =
-        ap₂ (λ a b. lines.letterbox_of name (option_map entry_seen a) (take MOST_LISTED (map entry_seen b)) (length (map entry_seen b))) held waits ∙ box-is name o ws
+        ap₂ (λ a b. lines.letterbox_of name (option_map entry_seen a) (take MOST_LISTED (map entry_seen b)) (length (map entry_seen b))) held waits
+        ∙ box-is name o ws
 
-    go : (b : Bool) → has_letters_in h ms ≡ b → (o : Option Parcel) (ws : List Parcel) → find (is_held_by h) ms ≡ option_map (item_of true) o → filter (waits_for h) ms ≡ map (item_of false) ws
-        → (if b then letterbox_in name h ms ∷ [] else []) ≡ figure.letterbox_of name (held_list o) ws
+    go : (b : Bool) → has_letters_in h ms ≡ b → (o : Option Parcel) (ws : List Parcel) → find (is_held_by h) ms ≡ option_map (item_of true) o
+        → filter (waits_for h) ms ≡ map (item_of false) ws → (if b then letterbox_in name h ms ∷ [] else []) ≡ figure.letterbox_of name (held_list o) ws
     go false e None [] held waits = refl
     go false e (Some p) ws held waits = let k = letters-some h ms e in absurd (cc)
     go false e None (w ∷ ws) held waits = let k = letters-some h ms e in absurd (cc)
@@ -280,10 +298,12 @@ boxes ms t = map letterbox_line (letterboxes_in t.name t.handle ms)
 
 -- the letterboxes of a figure, by the list of messages
 pub boxes-are : {d : Desk} (is : IsDesk d) (ms : List MessageItem) → ms ≡ message_items d → (ts : List Task)
-    → map letterbox_line (flat_map (λ (t : Task). figure.letterbox_of t.name (held_list (held_by t.handle d.post.seats)) (filter (is_to t.handle) d.post.queued)) ts) ≡ flat_map (boxes ms) ts
+    → map letterbox_line (flat_map (λ (t : Task). figure.letterbox_of t.name (held_list (held_by t.handle d.post.seats))
+    (filter (is_to t.handle) d.post.queued)) ts) ≡ flat_map (boxes ms) ts
 boxes-are is ms e [] = refl
 boxes-are {d} is ms e (t ∷ ts) =
-    map-append letterbox_line (figure.letterbox_of t.name (held_list (held_by t.handle d.post.seats)) (filter (is_to t.handle) d.post.queued)) (flat_map (λ (u : Task). figure.letterbox_of u.name (held_list (held_by u.handle d.post.seats)) (filter (is_to u.handle) d.post.queued)) ts)
+    map-append letterbox_line (figure.letterbox_of t.name (held_list (held_by t.handle d.post.seats)) (filter (is_to t.handle) d.post.queued))
+    (flat_map (λ (u : Task). figure.letterbox_of u.name (held_list (held_by u.handle d.post.seats)) (filter (is_to u.handle) d.post.queued)) ts)
     ∙ ap₂ (λ x y. x ++ y)
     (ap (map letterbox_line) (sym (letters-are t.name t.handle ms (held_by t.handle d.post.seats) (filter (is_to t.handle) d.post.queued)
     (ap (find (is_held_by t.handle)) e ∙ held-are is t.handle) (ap (filter (waits_for t.handle)) e ∙ waits-are is t.handle))))
@@ -294,15 +314,18 @@ pub boxes-none : (ms : List MessageItem) (ts : List Task) → list_any (λ (t : 
 boxes-none ms [] e = refl
 boxes-none ms (t ∷ ts) e = go (boxes-none ms ts) (has_letters_in t.handle ms) refl
   where
-    go : (list_any (λ (u : Task). has_letters_in u.handle ms) ts ≡ false → flat_map (boxes ms) ts ≡ []) → (b : Bool) → has_letters_in t.handle ms ≡ b → flat_map (boxes ms) (t ∷ ts) ≡ []
+    go : (list_any (λ (u : Task). has_letters_in u.handle ms) ts ≡ false → flat_map (boxes ms) ts ≡ []) → (b : Bool) → has_letters_in t.handle ms ≡ b
+        → flat_map (boxes ms) (t ∷ ts) ≡ []
     go before true k = let q : true ≡ false = rw k at e in absurd (cc)
     go before false k = let q : list_any (λ (u : Task). has_letters_in u.handle ms) ts ≡ false = rw k at e in rw k (before q)
 
-pub boxes-some : (heading : Text) (ms : List MessageItem) (ts : List Task) → list_any (λ (t : Task). has_letters_in t.handle ms) ts ≡ true → under heading (flat_map (boxes ms) ts) ≡ heading ∷ flat_map (boxes ms) ts
+pub boxes-some : (heading : Text) (ms : List MessageItem) (ts : List Task) → list_any (λ (t : Task). has_letters_in t.handle ms) ts ≡ true
+    → under heading (flat_map (boxes ms) ts) ≡ heading ∷ flat_map (boxes ms) ts
 boxes-some heading ms [] e = absurd (cc)
 boxes-some heading ms (t ∷ ts) e = go (boxes-some heading ms ts) (has_letters_in t.handle ms) refl
   where
-    go : (list_any (λ (u : Task). has_letters_in u.handle ms) ts ≡ true → under heading (flat_map (boxes ms) ts) ≡ heading ∷ flat_map (boxes ms) ts) → (b : Bool) → has_letters_in t.handle ms ≡ b → under heading (flat_map (boxes ms) (t ∷ ts)) ≡ heading ∷ flat_map (boxes ms) (t ∷ ts)
+    go : (list_any (λ (u : Task). has_letters_in u.handle ms) ts ≡ true → under heading (flat_map (boxes ms) ts) ≡ heading ∷ flat_map (boxes ms) ts)
+        → (b : Bool) → has_letters_in t.handle ms ≡ b → under heading (flat_map (boxes ms) (t ∷ ts)) ≡ heading ∷ flat_map (boxes ms) (t ∷ ts)
     go before true k = rw k refl
     go before false k = let q : list_any (λ (u : Task). has_letters_in u.handle ms) ts ≡ true = rw k at e in rw k (before q)
 
@@ -312,7 +335,8 @@ behind-are : (held : Bool) (ref : ℕ) (ps : List Parcel) → behind ref (map (i
 behind-are held ref [] = refl
 behind-are held ref (p ∷ ps) = go (p.message.my_ref == ref) refl (behind-are held ref ps)
   where
-    go : (b : Bool) → (p.message.my_ref == ref) ≡ b → behind ref (map (item_of held) ps) ≡ map (item_of held) (after_ref ref ps) → behind ref (map (item_of held) (p ∷ ps)) ≡ map (item_of held) (after_ref ref (p ∷ ps))
+    go : (b : Bool) → (p.message.my_ref == ref) ≡ b → behind ref (map (item_of held) ps) ≡ map (item_of held) (after_ref ref ps)
+        → behind ref (map (item_of held) (p ∷ ps)) ≡ map (item_of held) (after_ref ref (p ∷ ps))
     go true e rest = rw e refl
     go false e rest = rw e rest
 
@@ -328,11 +352,13 @@ pub chain-is : {d : Desk} (is : IsDesk d) (h ref : ℕ) (m : MessageItem) → m.
     → place_seen (place_among (message_items d) m)
     ≡ (if ref_of (held_by h d.post.seats) == ref then codes "held" else next_text (after_ref ref (filter (is_to h) d.post.queued)))
 chain-is {d} is h ref m to mine =
-    ap₂ (λ k r. place_seen (if held_ref k (message_items d) == r then Held else before_next (first_ref (behind r (filter (waits_for k) (message_items d)))))) to mine
+    ap₂ (λ k r. place_seen (if held_ref k (message_items d) == r then Held else before_next (first_ref (behind r (filter (waits_for k) (message_items d))))))
+    to mine
     ∙ (if-seen (held_ref h (message_items d) == ref) Held (before_next (first_ref (behind ref (filter (waits_for h) (message_items d)))))
     ∙ ap₂ (λ k z. if k == ref then codes "held" else z) (held-is d is h)
     (ap (λ z. place_seen (before_next (first_ref (behind ref z)))) (waits-are is h)
-    ∙ (ap (λ z. place_seen (before_next (first_ref z))) (behind-are false ref (filter (is_to h) d.post.queued)) ∙ next-is (after_ref ref (filter (is_to h) d.post.queued)))))
+    ∙ (ap (λ z. place_seen (before_next (first_ref z))) (behind-are false ref (filter (is_to h) d.post.queued))
+    ∙ next-is (after_ref ref (filter (is_to h) d.post.queued)))))
 
 -- ---- the message in a block
 

@@ -1,5 +1,6 @@
 -- A whole map, from the lines that were taken.
-use Rattle.std.proofs.Common.{◌≡◌, ◌⊎◌, inl, inr, ℕ, ◌<◌, ◌≤◌, Bool, true, false, ◌||◌, List, [], ◌∷◌, ◌++◌, length, map, take, refl, sym, ap, ap₂, ◌∙◌, subst, append-nil, append_assoc, arith}
+use Rattle.std.proofs.Common.{◌≡◌, ◌⊎◌, inl, inr, ℕ, ◌<◌, ◌≤◌, Bool, true, false, ◌||◌, List, [], ◌∷◌, ◌++◌, length, map, take, refl, sym, ap, ap₂, ◌∙◌}
+use Rattle.std.proofs.Common.{subst, append-nil, append_assoc, arith}
 use Rattle.std.specs.Prelude.{◌+◌, Option, Err, IsErrOf, is_err, if◌then◌else◌, nat_lt, not, ◌==◌}
 use Rattle.std.specs.Io.KnownBytes.{Consumes, IsAtEnd}
 use Rattle.std.specs.List.{list_any}
@@ -31,7 +32,8 @@ use Rattle.rh_drawn.specs.Mapped.{Mapped, MappedSoFar, MappedUntil, fault_of}
 use Rattle.rh_drawn.specs.Deeds.{rest_means}
 use Rattle.rh_drawn.specs.Places.{Broke, BrokeLine, BrokeRest, Drew, IsFirst, TookLine, TookRest, place_in}
 use Rattle.rh_drawn.proofs.ReadLemmas.{long_lines, same_read}
-use Rattle.rh_drawn.proofs.MapLemmas.{Drawn, Shows, Stands, after_alike, after_reads, is_bad_read, lines_alike, map_is, shared_alike, shows, stands_place, took_lines, written_more}
+use Rattle.rh_drawn.proofs.MapLemmas.{Drawn, Shows, Stands, after_alike, after_reads, is_bad_read, lines_alike, map_is, shared_alike, shows, stands_place}
+use Rattle.rh_drawn.proofs.MapLemmas.{took_lines, written_more}
 
 -- ---- one line more at the end
 

@@ -51,16 +51,22 @@ outs t = map (λ r. (t.name, out_item r)) t.sending
 abbrev pub ins : Task → List Side
 ins t = map (λ r. (t.name, in_item r)) t.taking
 
-pub find-in : (name : Text) (id : ℕ) (rs : List Incoming) → find (has_id id) (map (λ r. let s : Side = (name, in_item r) in s) rs) ≡ option_map (λ r. let s : Side = (name, in_item r) in s) (find (λ r. in_id r == id) rs)
+pub find-in : (name : Text) (id : ℕ) (rs : List Incoming)
+    → find (has_id id) (map (λ r. let s : Side = (name, in_item r) in s) rs) ≡ option_map (λ r. let s : Side = (name, in_item r) in s)
+    (find (λ r. in_id r == id) rs)
 find-in name id [] = refl
 find-in name id (r ∷ rs) = go (in_id r == id) refl (find-in name id rs)
   where
-    go : (b : Bool) → (in_id r == id) ≡ b → find (has_id id) (map (λ q. let s : Side = (name, in_item q) in s) rs) ≡ option_map (λ q. let s : Side = (name, in_item q) in s) (find (λ q. in_id q == id) rs)
-        → find (has_id id) (map (λ q. let s : Side = (name, in_item q) in s) (r ∷ rs)) ≡ option_map (λ q. let s : Side = (name, in_item q) in s) (find (λ q. in_id q == id) (r ∷ rs))
+    go : (b : Bool) → (in_id r == id) ≡ b
+        → find (has_id id) (map (λ q. let s : Side = (name, in_item q) in s) rs) ≡ option_map (λ q. let s : Side = (name, in_item q) in s)
+        (find (λ q. in_id q == id) rs)
+        → find (has_id id) (map (λ q. let s : Side = (name, in_item q) in s) (r ∷ rs)) ≡ option_map (λ q. let s : Side = (name, in_item q) in s)
+        (find (λ q. in_id q == id) (r ∷ rs))
     go true e rest = let k : ((in_item r).id == id) ≡ true = ap (λ n. n == id) (in-id r) ∙ e in rw (e, k) refl
     go false e rest = let k : ((in_item r).id == id) ≡ false = ap (λ n. n == id) (in-id r) ∙ e in rw (e, k) rest
 
-pub any-out : (name : Text) (id : ℕ) (rs : List Outgoing) → list_any (has_id id) (map (λ r. let s : Side = (name, out_item r) in s) rs) ≡ list_any (λ r. out_id r == id) rs
+pub any-out : (name : Text) (id : ℕ) (rs : List Outgoing)
+    → list_any (has_id id) (map (λ r. let s : Side = (name, out_item r) in s) rs) ≡ list_any (λ r. out_id r == id) rs
 any-out name id [] = refl
 any-out name id (r ∷ rs) = ap₂ (λ a b. a || b) (ap (λ n. n == id) (out-id r)) (any-out name id rs)
 
@@ -77,34 +83,41 @@ module _ (id : ℕ) (t : Task) (ts : List Task) where
       find-append (has_id id) (ins t) (flat_map ins ts)
       ∙ rw (find-in t.name id t.taking, e) refl
 
-  pub side-told : (y : RecordItem) → Some y ≡ option_map in_item (find (λ q. in_id q == id) t.taking) → find (has_id id) (flat_map ins (t ∷ ts)) ≡ Some (t.name, y)
+  pub side-told : (y : RecordItem) → Some y ≡ option_map in_item (find (λ q. in_id q == id) t.taking)
+      → find (has_id id) (flat_map ins (t ∷ ts)) ≡ Some (t.name, y)
   side-told y e = go (find (λ q. in_id q == id) t.taking) refl e
     where
-      go : (o : Option Incoming) → find (λ q. in_id q == id) t.taking ≡ o → Some y ≡ option_map in_item o → find (has_id id) (flat_map ins (t ∷ ts)) ≡ Some (t.name, y)
+      go : (o : Option Incoming) → find (λ q. in_id q == id) t.taking ≡ o → Some y ≡ option_map in_item o
+          → find (has_id id) (flat_map ins (t ∷ ts)) ≡ Some (t.name, y)
       go None k e = absurd (cc)
       go (Some r) k e = let same : y ≡ in_item r = cc in side-here r k ∙ ap (λ z. let s : Side = (t.name, z) in Some s) (sym same)
 
-  pub side-untold : None ≡ option_map in_item (find (λ q. in_id q == id) t.taking) → find (has_id id) (flat_map ins (t ∷ ts)) ≡ find (has_id id) (flat_map ins ts)
+  pub side-untold : None ≡ option_map in_item (find (λ q. in_id q == id) t.taking)
+      → find (has_id id) (flat_map ins (t ∷ ts)) ≡ find (has_id id) (flat_map ins ts)
   side-untold e = go (find (λ q. in_id q == id) t.taking) refl e
     where
-      go : (o : Option Incoming) → find (λ q. in_id q == id) t.taking ≡ o → None ≡ option_map in_item o → find (has_id id) (flat_map ins (t ∷ ts)) ≡ find (has_id id) (flat_map ins ts)
+      go : (o : Option Incoming) → find (λ q. in_id q == id) t.taking ≡ o → None ≡ option_map in_item o
+          → find (has_id id) (flat_map ins (t ∷ ts)) ≡ find (has_id id) (flat_map ins ts)
       go None k e = side-past k
       go (Some r) k e = absurd (cc)
 
-  pub out-step : (b : Bool) → list_any (λ q. out_id q == id) t.sending ≡ b → list_any (has_id id) (flat_map outs (t ∷ ts)) ≡ (b || list_any (has_id id) (flat_map outs ts))
+  pub out-step : (b : Bool) → list_any (λ q. out_id q == id) t.sending ≡ b
+      → list_any (has_id id) (flat_map outs (t ∷ ts)) ≡ (b || list_any (has_id id) (flat_map outs ts))
   out-step b e =
       list_any-append (has_id id) (outs t) (flat_map outs ts)
       ∙ ap (λ z. z || list_any (has_id id) (flat_map outs ts)) (any-out t.name id t.sending ∙ e)
 
 -- a side that comes in, if it comes alone
 pub alone-each : (name : Text) (out : List Side) (r : Incoming) (rs : List Incoming)
-    → map transfer_line (map comes_alone (filter (λ (s : Side). not (list_any (has_id s.1.id) out)) (map (λ q. let s : Side = (name, in_item q) in s) (r ∷ rs))))
+    → map transfer_line (map comes_alone (filter (λ (s : Side). not (list_any (has_id s.1.id) out))
+    (map (λ q. let s : Side = (name, in_item q) in s) (r ∷ rs))))
     ≡ map transfer_line (if list_any (has_id (in_id r)) out then [] else comes_alone (name, in_item r) ∷ [])
     ++ map transfer_line (map comes_alone (filter (λ (s : Side). not (list_any (has_id s.1.id) out)) (map (λ q. let s : Side = (name, in_item q) in s) rs)))
 alone-each name out r rs = go (list_any (has_id (in_id r)) out) refl
   where
     go : (b : Bool) → list_any (has_id (in_id r)) out ≡ b
-        → map transfer_line (map comes_alone (filter (λ (s : Side). not (list_any (has_id s.1.id) out)) (map (λ q. let s : Side = (name, in_item q) in s) (r ∷ rs))))
+        → map transfer_line (map comes_alone (filter (λ (s : Side). not (list_any (has_id s.1.id) out))
+        (map (λ q. let s : Side = (name, in_item q) in s) (r ∷ rs))))
         ≡ map transfer_line (if b then [] else comes_alone (name, in_item r) ∷ [])
         ++ map transfer_line (map comes_alone (filter (λ (s : Side). not (list_any (has_id s.1.id) out)) (map (λ q. let s : Side = (name, in_item q) in s) rs)))
     go true e = let k : list_any (has_id (in_item r).id) out ≡ true = ap (λ n. list_any (has_id n) out) (in-id r) ∙ e in rw k refl
@@ -134,14 +147,17 @@ some-here t ts e = go t.sending t.taking e
     go : (a : List Outgoing) (b : List Incoming) → are_some a b ≡ true
         → are_some (map (λ r. (t.name, out_item r)) a ++ flat_map outs ts) (map (λ r. (t.name, in_item r)) b ++ flat_map ins ts) ≡ true
     go [] [] e = absurd (cc)
-    go (r ∷ rs) b e = some-left (t.name, out_item r) (map (λ q. (t.name, out_item q)) rs ++ flat_map outs ts) (map (λ q. (t.name, in_item q)) b ++ flat_map ins ts)
+    go (r ∷ rs) b e =
+        some-left (t.name, out_item r) (map (λ q. (t.name, out_item q)) rs ++ flat_map outs ts) (map (λ q. (t.name, in_item q)) b ++ flat_map ins ts)
     go [] (r ∷ rs) e = some-right (flat_map outs ts) (t.name, in_item r) (map (λ q. (t.name, in_item q)) rs ++ flat_map ins ts)
 
-pub some-past : (t : Task) (ts : List Task) → are_some t.sending t.taking ≡ false → are_some (flat_map outs (t ∷ ts)) (flat_map ins (t ∷ ts)) ≡ are_some (flat_map outs ts) (flat_map ins ts)
+pub some-past : (t : Task) (ts : List Task) → are_some t.sending t.taking ≡ false
+    → are_some (flat_map outs (t ∷ ts)) (flat_map ins (t ∷ ts)) ≡ are_some (flat_map outs ts) (flat_map ins ts)
 some-past t ts e = go t.sending t.taking e
   where
     go : (a : List Outgoing) (b : List Incoming) → are_some a b ≡ false
-        → are_some (map (λ r. (t.name, out_item r)) a ++ flat_map outs ts) (map (λ r. (t.name, in_item r)) b ++ flat_map ins ts) ≡ are_some (flat_map outs ts) (flat_map ins ts)
+        → are_some (map (λ r. (t.name, out_item r)) a ++ flat_map outs ts) (map (λ r. (t.name, in_item r)) b ++ flat_map ins ts) ≡ are_some
+        (flat_map outs ts) (flat_map ins ts)
     go [] [] e = refl
     go (r ∷ rs) b e = let k : false ≡ true = sym e ∙ some-left r rs b in absurd (cc)
     go [] (r ∷ rs) e = let k : false ≡ true = sym e ∙ some-right (let no : List Outgoing = [] in no) r rs in absurd (cc)
@@ -152,8 +168,10 @@ transfers-none heading (s ∷ out) in_ e = let k : false ≡ true = sym e ∙ so
 transfers-none heading [] (s ∷ in_) e = let k : false ≡ true = sym e ∙ some-right (let no : List Side = [] in no) s in_ in absurd (cc)
 
 pub transfers-some : (heading : Text) (out in_ : List Side) → are_some out in_ ≡ true
-    → under heading (map transfer_line (transfers_of out in_)) ≡ heading ∷ (map transfer_line (map (goes_out in_) out) ++ map transfer_line (map comes_alone (filter (λ (s : Side). not (list_any (has_id s.1.id) out)) in_)))
+    → under heading (map transfer_line (transfers_of out in_)) ≡ heading ∷
+    (map transfer_line (map (goes_out in_) out) ++ map transfer_line (map comes_alone (filter (λ (s : Side). not (list_any (has_id s.1.id) out)) in_)))
 transfers-some heading [] [] e = absurd (cc)
 transfers-some heading (s ∷ out) in_ e =
-    ap (λ z. heading ∷ z) (map-append transfer_line (map (goes_out in_) (s ∷ out)) (map comes_alone (filter (λ (u : Side). not (list_any (has_id u.1.id) (s ∷ out))) in_)))
+    ap (λ z. heading ∷ z) (map-append transfer_line (map (goes_out in_) (s ∷ out))
+    (map comes_alone (filter (λ (u : Side). not (list_any (has_id u.1.id) (s ∷ out))) in_)))
 transfers-some heading [] (s ∷ in_) e = refl

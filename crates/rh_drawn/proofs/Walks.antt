@@ -15,7 +15,8 @@ use Rattle.rh_sight.proofs.Places.{rest-none, rest-some}
 use Rattle.rh_drawn.specs.Parts.{indented}
 
 -- lines that are made member by member
-module _ {A : Type 0} (lines : List A → List Text) (of_one : A → List Text) (each : (x : A) (rest : List A) → lines (x ∷ rest) ≡ of_one x ++ lines rest) (xs : List A) (i : ℕ) where
+module _ {A : Type 0} (lines : List A → List Text) (of_one : A → List Text) (each : (x : A) (rest : List A) → lines (x ∷ rest) ≡ of_one x ++ lines rest)
+    (xs : List A) (i : ℕ) where
   -- the member at a place, told by a call
   pub walk-some : (x : A) → slice_get xs i ≡ Some x → shown_lines (lines (drop i xs)) ≡ shown_lines (of_one x) ++ shown_lines (lines (drop (i + 1) xs))
   walk-some x e =
@@ -62,7 +63,8 @@ pub puts_same : {E : Type 0} {s t : Output} {r : Result Unit E} {x y : List ℕ}
 puts_same {E} {s} {t} {r} e p = let P : List ℕ → Type 0 = λ z. Puts s t r z in subst P e p
 
 -- a single line
-pub puts_line : {E : Type 0} {s t : Output} {r : Result Unit E} {x y : Text} → x ≡ y → Puts s t r (shown_line x ++ codes "\n") → Puts s t r (shown_lines (y ∷ []))
+pub puts_line : {E : Type 0} {s t : Output} {r : Result Unit E} {x y : Text} → x ≡ y → Puts s t r (shown_line x ++ codes "\n")
+    → Puts s t r (shown_lines (y ∷ []))
 puts_line {y = y} e p = puts_same (ap (λ l. shown_line l ++ codes "\n") e ∙ sym (shown-one y)) p
 
 -- no line
@@ -70,11 +72,13 @@ pub puts_none : {E : Type 0} (s : Output) → Puts {E = E} s s (Ok tt) []
 puts_none s = record { ok = takes_none s; err = tt }
 
 -- lines behind lines
-pub lines_then : {E : Type 0} {s t u : Output} {v : Unit {0}} {r : Result Unit E} (xs ys : List Text) → Puts {E = E} s t (Ok v) (shown_lines xs) → Puts t u r (shown_lines ys) → Puts s u r (shown_lines (xs ++ ys))
+pub lines_then : {E : Type 0} {s t u : Output} {v : Unit {0}} {r : Result Unit E} (xs ys : List Text) → Puts {E = E} s t (Ok v) (shown_lines xs)
+    → Puts t u r (shown_lines ys) → Puts s u r (shown_lines (xs ++ ys))
 lines_then {u = u} {r = r} xs ys p q = puts_same (sym (shown-append xs ys)) (puts_more u r (shown_lines ys) p q)
 
 -- the writer failed in the first of them
-pub lines_stop : {E : Type 0} {s t : Output} {e : E} (r : Result Unit E) (xs ys : List Text) → Puts s t (Err e) (shown_lines xs) → IsErr r → Puts s t r (shown_lines (xs ++ ys))
+pub lines_stop : {E : Type 0} {s t : Output} {e : E} (r : Result Unit E) (xs ys : List Text) → Puts s t (Err e) (shown_lines xs) → IsErr r
+    → Puts s t r (shown_lines (xs ++ ys))
 lines_stop r xs ys p h = puts_same (sym (shown-append xs ys)) (puts_stops r (puts_before (shown_lines ys) p refl) h)
 
 -- what was left is written at last

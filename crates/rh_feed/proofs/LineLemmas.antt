@@ -1,5 +1,6 @@
 -- Lines of a script: where they end, and as far as they are kept.
-use Rattle.std.proofs.Common.{◌≡◌, ℕ, zero, suc, ◌-◌, ◌<◌, ◌≤◌, Bool, true, false, eqb, nat_lt, ◌⊎◌, inl, inr, List, [], ◌∷◌, ◌++◌, length, take, drop, map, append-nil, refl, sym, ◌∙◌, ap, subst, arith, rules}
+use Rattle.std.proofs.Common.{◌≡◌, ℕ, zero, suc, ◌-◌, ◌<◌, ◌≤◌, Bool, true, false, eqb, nat_lt, ◌⊎◌, inl, inr, List, [], ◌∷◌, ◌++◌, length, take, drop, map}
+use Rattle.std.proofs.Common.{append-nil, refl, sym, ◌∙◌, ap, subst, arith, rules}
 use Rattle.std.specs.Prelude.{◌+◌, slice_index}
 use Rattle.std.proofs.lemmas.List.{take_all, take_rest, length-take, map-append}
 use borrow.Author.Tests.{tests}
@@ -35,7 +36,10 @@ means_same : (n : ℕ) (line : List ℕ) → (n ≤ longest_line) ⊎ (longest_l
 unfolding kept line_means
 means_same n line (inl h) e = ap line_means (take_all (longest_line + 1) line (omega arith))
 means_same n line (inr h) e =
-    rw (is_above longest_line (length line) (omega arith), is_above longest_line (length (take (longest_line + 1) line)) (still_long longest_line (longest_line + 1) line (omega arith) (omega arith))) refl
+    rw (
+      is_above longest_line (length line) (omega arith),
+      is_above longest_line (length (take (longest_line + 1) line)) (still_long longest_line (longest_line + 1) line (omega arith) (omega arith)),
+    ) refl
 
 pub split_at : (n : ℕ) → (n ≤ longest_line) ⊎ (longest_line < n)
 split_at n = grind arith

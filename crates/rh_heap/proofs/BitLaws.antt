@@ -1,5 +1,6 @@
 -- The bits of a map: one that is set or cleared, and the search for the last one that is set.
-use Rattle.std.proofs.Common.{◌≡◌, ◌≢◌, ℕ, ◌+◌, ◌-◌, ◌*◌, ◌/◌, ◌%◌, ◌^◌, ◌<◌, ◌≤◌, inl, inr, Bool, true, false, eqb, List, length, get_or, set, suc, refl, sym, ap, subst, ◌∙◌, arith}
+use Rattle.std.proofs.Common.{◌≡◌, ◌≢◌, ℕ, ◌+◌, ◌-◌, ◌*◌, ◌/◌, ◌%◌, ◌^◌, ◌<◌, ◌≤◌, inl, inr, Bool, true, false, eqb, List, length, get_or, set, suc, refl}
+use Rattle.std.proofs.Common.{sym, ap, subst, ◌∙◌, arith}
 use Rattle.std.specs.Int.{bit_at}
 use Rattle.std.specs.Int.Count.{count_leading_zeros}
 use Rattle.std.specs.Prelude.{bit_and}
@@ -16,16 +17,19 @@ use Rattle.rh_heap.specs.Starts.{Became, LastBit}
 -- ---- one word of a map is changed
 module _ (lane k v b : ℕ) (old new : List ℕ) (lt : lane < 2) (e : new ≡ set old (2 * (k / BITS) + lane) v) (inside : 2 * (k / BITS) + lane < length old) where
   word_now : (j lane' : ℕ) → 2 * (j / BITS) + lane' ≡ 2 * (k / BITS) + lane → get_or new (2 * (j / BITS) + lane') 0 ≡ v
-  word_now j lane' q = ap (λ l. get_or l (2 * (j / BITS) + lane') 0) e ∙ ap (λ i. get_or (set old (2 * (k / BITS) + lane) v) i 0) q ∙ get_or-set_same old (2 * (k / BITS) + lane) v 0 inside
+  word_now j lane' q = ap (λ l. get_or l (2 * (j / BITS) + lane') 0) e ∙ ap (λ i. get_or (set old (2 * (k / BITS) + lane) v) i 0) q
+      ∙ get_or-set_same old (2 * (k / BITS) + lane) v 0 inside
 
   word_still : (j lane' : ℕ) → 2 * (j / BITS) + lane' ≢ 2 * (k / BITS) + lane → get_or new (2 * (j / BITS) + lane') 0 ≡ get_or old (2 * (j / BITS) + lane') 0
   word_still j lane' q = ap (λ l. get_or l (2 * (j / BITS) + lane') 0) e ∙ get_or-set_other old (2 * (k / BITS) + lane) (2 * (j / BITS) + lane') v 0 q
 
-  pub became : bit_at v (k % BITS) ≡ b → ((m : ℕ) → m < BITS → m ≢ k % BITS → bit_at v m ≡ bit_at (get_or old (2 * (k / BITS) + lane) 0) m) → Became lane k b old new
+  pub became : bit_at v (k % BITS) ≡ b → ((m : ℕ) → m < BITS → m ≢ k % BITS → bit_at v m ≡ bit_at (get_or old (2 * (k / BITS) + lane) 0) m)
+      → Became lane k b old new
   became here others = record {
     here = ap (λ w. bit_at w (k % BITS)) (word_now k lane refl) ∙ here;
     same = λ j ne. elim (cases_eq (2 * (j / BITS) + lane) (2 * (k / BITS) + lane)) [
-      | inl q ↦ ap (λ w. bit_at w (j % BITS)) (word_now j lane q) ∙ others (j % BITS) (omega arith) (omega arith) ∙ ap (λ i. bit_at (get_or old i 0) (j % BITS)) (sym q)
+      | inl q ↦ ap (λ w. bit_at w (j % BITS)) (word_now j lane q) ∙ others (j % BITS) (omega arith) (omega arith)
+          ∙ ap (λ i. bit_at (get_or old i 0) (j % BITS)) (sym q)
       | inr q ↦ ap (λ w. bit_at w (j % BITS)) (word_still j lane q)
     ];
     other = λ lane' j small ne. ap (λ w. bit_at w (j % BITS)) (word_still j lane' (omega arith));
@@ -90,7 +94,8 @@ highest word j lo hi =
       none = λ i l. bit_at_above word (suc j) i hi (omega arith);
     }
 
-pub scan_found : (lane : ℕ) (starts : List ℕ) (n line word zeros : ℕ) → Scan lane starts n line word → word ≢ 0 → zeros ≡ count_leading_zeros 64 word → LastBit lane starts n (BITS * line + (63 - zeros))
+pub scan_found : (lane : ℕ) (starts : List ℕ) (n line word zeros : ℕ) → Scan lane starts n line word → word ≢ 0 → zeros ≡ count_leading_zeros 64 word
+    → LastBit lane starts n (BITS * line + (63 - zeros))
 scan_found lane starts n line word zeros s ne e =
     let top = leading_top BITS word (omega arith) s.small in
     let j = top.0 in
@@ -111,16 +116,18 @@ scan_found lane starts n line word zeros s ne e =
     })
 
 -- a line without a set bit is passed
-pub none_from : (lane : ℕ) (starts : List ℕ) (n line word : ℕ) → Scan lane starts n line word → word ≡ 0 → (j : ℕ) → BITS * line ≤ j → j < n → bit lane starts j ≡ 0
+pub none_from : (lane : ℕ) (starts : List ℕ) (n line word : ℕ) → Scan lane starts n line word → word ≡ 0 → (j : ℕ) → BITS * line ≤ j → j < n
+    → bit lane starts j ≡ 0
 none_from lane starts n line word s e j from below = elim (cases_lt j (BITS * (line + 1))) [
   | inl l ↦
       let same : BITS * line + (j - BITS * line) ≡ j = omega arith in
-      subst (λ q. bit lane starts q ≡ 0) same (sym (s.here (j - BITS * line) (omega arith) (omega arith)) ∙ ap (λ w. bit_at w (j - BITS * line)) e ∙ bit_at-zero (j - BITS * line))
+      subst (λ q. bit lane starts q ≡ 0) same (sym (s.here (j - BITS * line) (omega arith) (omega arith)) ∙ ap (λ w. bit_at w (j - BITS * line)) e
+      ∙ bit_at-zero (j - BITS * line))
   | inr l ↦ s.passed j l below
 ]
 
-pub scan_next : (lane : ℕ) (starts : List ℕ) (n line word line' word' : ℕ) → Scan lane starts n line word → word ≡ 0 → line ≡ line' + 1 → word' < 2 ^ 64 → word' ≡ get_or starts (2 * line' + lane) 0
-    → Scan lane starts n line' word'
+pub scan_next : (lane : ℕ) (starts : List ℕ) (n line word line' word' : ℕ) → Scan lane starts n line word → word ≡ 0 → line ≡ line' + 1 → word' < 2 ^ 64
+    → word' ≡ get_or starts (2 * line' + lane) 0 → Scan lane starts n line' word'
 scan_next lane starts n line word line' word' s e next small read =
     let up = s.up_to in
     let room = s.inside in

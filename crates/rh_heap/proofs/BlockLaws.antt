@@ -15,8 +15,10 @@ pub zeros_part : (b : List ℕ) (p n : ℕ) → part b p n ≡ replicate n 0 →
 zeros_part b p n e = ap (part b p) (length-replicate {A = ℕ} n 0) ∙ e
 
 -- a block whose size word is written, and zeros behind its bytes
-pub longer_part : (b b1 c : List ℕ) (at place size t : ℕ) → 8 ≤ size → size ≤ t → SameOutside b b1 (at + place) (at + place + 4) → SameOutside b1 c (at + (place + size)) (at + (place + size) + (t - size))
-    → part c (at + (place + size)) (t - size) ≡ replicate (t - size) 0 → part c (at + place + 4) (t - 4) ≡ part b (at + place + 4) (size - 4) ++ replicate (t - size) 0
+pub longer_part : (b b1 c : List ℕ) (at place size t : ℕ) → 8 ≤ size → size ≤ t → SameOutside b b1 (at + place) (at + place + 4)
+    → SameOutside b1 c (at + (place + size)) (at + (place + size) + (t - size))
+    → part c (at + (place + size)) (t - size) ≡ replicate (t - size) 0
+    → part c (at + place + 4) (t - 4) ≡ part b (at + place + 4) (size - 4) ++ replicate (t - size) 0
 longer_part b b1 c at place size t l g o1 o2 z =
     let p = at + place + 4 in
     let n = size - 4 in
@@ -26,7 +28,8 @@ longer_part b b1 c at place size t l g o1 o2 z =
     e1 ∙ part_more c p n (t - size) ∙ ap (λ l. l ++ part c (p + n) (t - size)) e2 ∙ ap (λ l. part b p n ++ l) e3
 
 -- bytes that slid to another place
-pub slid_bytes : (m n : Memory) (id from to k : ℕ) → n ≡ with_bytes m id (put (bytes m id) to (part (bytes m id) from k)) → to + k ≤ length (bytes m id) → part (bytes n id) to k ≡ part (bytes m id) from k
+pub slid_bytes : (m n : Memory) (id from to k : ℕ) → n ≡ with_bytes m id (put (bytes m id) to (part (bytes m id) from k)) → to + k ≤ length (bytes m id)
+    → part (bytes n id) to k ≡ part (bytes m id) from k
 slid_bytes m n id from to k e h =
     let new = put (bytes m id) to (part (bytes m id) from k) in
     ap (λ (r : Memory). part (bytes r id) to k) e ∙ ap (λ b. part b to k) (bytes-with_bytes m id new)
@@ -35,4 +38,5 @@ slid_bytes m n id from to k e h =
 pub slid_only : (m n : Memory) (id from to k : ℕ) → n ≡ with_bytes m id (put (bytes m id) to (part (bytes m id) from k)) → Edited m n id to (to + k)
 slid_only m n id from to k e =
     let xs = part (bytes m id) from k in
-    subst (λ (r : Memory). Edited m r id to (to + k)) (sym e) (Edited-with_bytes m id to (to + k) (put (bytes m id) to xs) (put_outside (bytes m id) to xs (to + k) (omega (arith, length-part (bytes m id) from k))))
+    subst (λ (r : Memory). Edited m r id to (to + k)) (sym e) (Edited-with_bytes m id to (to + k) (put (bytes m id) to xs)
+    (put_outside (bytes m id) to xs (to + k) (omega (arith, length-part (bytes m id) from k))))

@@ -3,7 +3,8 @@ use Rattle.std.proofs.Common.{◌≡◌, ℕ, ◌+◌, ◌-◌, ◌<◌, ◌≤�
 use Rattle.std.specs.Prelude.{Some, None, Result, Ok, Err, ℤ, MatchResult}
 use Rattle.rh_defs.specs.Memory.{Memory}
 use Rattle.rh_defs.specs.Pieces.{Split, moved}
-use Rattle.rh_defs.specs.Heap.{Segment, Heap, Placed, way_to, resized_by, fitted, segment_size, new_size, resize_need, resized, resize, resize_found, need_at, need_found, as_granted, shortage_in, hole_for, block_at}
+use Rattle.rh_defs.specs.Heap.{Segment, Heap, Placed, way_to, resized_by, fitted, segment_size, new_size, resize_need, resized, resize, resize_found, need_at}
+use Rattle.rh_defs.specs.Heap.{need_found, as_granted, shortage_in, hole_for, block_at}
 use Rattle.rh_defs.specs.Heap as heap
 use Rattle.rh_defs.specs.declared.heap.HeapRefusal.{HeapRefusal}
 use Rattle.rh_defs.specs.declared.heap.HeapRefusal.TheVariants.{NotABlock, BadSize, NoRoom}
@@ -17,7 +18,8 @@ use Rattle.rh_heap.specs.declared.span.segments.Spot.{Spot}
 use Rattle.rh_heap.specs.declared.span.resize.Way.TheVariants as way
 use Rattle.rh_heap.proofs.CallLaws.{leaves, refuses}
 use Rattle.rh_heap.proofs.WayLaws.{cut_of, at_cut, from_cut, at_place}
-use Rattle.rh_heap.proofs.MoveLaws.{short_stays, short_shrinks, short_into, short_top, short_moves, resized_moves, same_way, address_stays, address_shrinks, address_into, address_top}
+use Rattle.rh_heap.proofs.MoveLaws.{short_stays, short_shrinks, short_into, short_top, short_moves, resized_moves, same_way, address_stays, address_shrinks}
+use Rattle.rh_heap.proofs.MoveLaws.{address_into, address_top}
 
 module _ (m n : Memory) (span : Span) (spot : Spot) (t : ℕ) (f : FoundBlock span.at (heap_in m span) (spot.place + 4) spot) where
   abbrev h : Heap
@@ -26,20 +28,26 @@ module _ (m n : Memory) (span : Span) (spot : Spot) (t : ℕ) (f : FoundBlock sp
   abbrev here : Split Segment
   here = cut_of span.at h spot f
 
-  changed : (address : ℕ) → short_by t here h ≡ 0 → address ≡ (resized_in t here h).address → SpellsResized m n span t spot → WithBlock spot h (Changed m n span t address)
+  changed : (address : ℕ) → short_by t here h ≡ 0 → address ≡ (resized_in t here h).address → SpellsResized m n span t spot
+      → WithBlock spot h (Changed m n span t address)
   changed address room e k = at_cut span.at h spot f (Changed m n span t address)
       (record { room = room; address_is = e; spells = from_cut span.at h spot f (λ s. SpellsIn n span (resized_in t s h).heap) k })
 
   pub changed_shrinks : WayOf t spot h way.Shrinks → SpellsResized m n span t spot → WithBlock spot h (Changed m n span t (spot.place + 4))
-  changed_shrinks w k = changed (spot.place + 4) (short_shrinks span.at h spot f t w) (address_shrinks span.at h spot f t (way_to t here h) (from_cut span.at h spot f (λ q. WayIs (way_to t q h) way.Shrinks) w)) k
+  changed_shrinks w k = changed (spot.place + 4) (short_shrinks span.at h spot f t w)
+      (address_shrinks span.at h spot f t (way_to t here h) (from_cut span.at h spot f (λ q. WayIs (way_to t q h) way.Shrinks) w)) k
 
   pub changed_into : (room : ℕ) → WayOf t spot h (way.IntoHole room) → SpellsResized m n span t spot → WithBlock spot h (Changed m n span t (spot.place + 4))
-  changed_into room w k = changed (spot.place + 4) (short_into span.at h spot f t room w) (address_into span.at h spot f t room (way_to t here h) (from_cut span.at h spot f (λ q. WayIs (way_to t q h) (way.IntoHole room)) w)) k
+  changed_into room w k = changed (spot.place + 4) (short_into span.at h spot f t room w)
+      (address_into span.at h spot f t room (way_to t here h) (from_cut span.at h spot f (λ q. WayIs (way_to t q h) (way.IntoHole room)) w)) k
 
-  pub changed_top : (end : ℕ) → end ≡ h.end → spot.place + t ≤ end → WayOf t spot h way.AtTop → SpellsResized m n span t spot → WithBlock spot h (Changed m n span t (spot.place + 4))
-  changed_top end e fit w k = changed (spot.place + 4) (short_top span.at h spot f t w ∙ omega arith) (address_top span.at h spot f t (way_to t here h) (from_cut span.at h spot f (λ q. WayIs (way_to t q h) way.AtTop) w)) k
+  pub changed_top : (end : ℕ) → end ≡ h.end → spot.place + t ≤ end → WayOf t spot h way.AtTop → SpellsResized m n span t spot
+      → WithBlock spot h (Changed m n span t (spot.place + 4))
+  changed_top end e fit w k = changed (spot.place + 4) (short_top span.at h spot f t w ∙ omega arith)
+      (address_top span.at h spot f t (way_to t here h) (from_cut span.at h spot f (λ q. WayIs (way_to t q h) way.AtTop) w)) k
 
-  pub changed_moves : (address : ℕ) → WayOf t spot h way.Moves → WithBlock spot h (Moved m n span t address (spot.place + 4)) → WithBlock spot h (Changed m n span t address)
+  pub changed_moves : (address : ℕ) → WayOf t spot h way.Moves → WithBlock spot h (Moved m n span t address (spot.place + 4))
+      → WithBlock spot h (Changed m n span t address)
   changed_moves address w k =
       let v = from_cut span.at h spot f (Moved m n span t address (spot.place + 4)) k in
       let r = resized_moves span.at h spot f t w in
@@ -57,8 +65,8 @@ module _ (m n : Memory) (span : Span) (spot : Spot) (t : ℕ) (f : FoundBlock sp
   not_changed_moves w short same = at_cut span.at h spot f (NotChanged m n span t NoRoom)
       (record { no_room = λ z. short (sym (short_moves span.at h spot f t w) ∙ z); refusal_is = refl; same = same })
 
-pub changed_stays : (m : Memory) (span : Span) (spot : Spot) (t : ℕ) → (f : FoundBlock span.at (heap_in m span) (spot.place + 4) spot) → SpellsIn m span (heap_in m span) → WayOf t spot (heap_in m span) way.Stays
-    → WithBlock spot (heap_in m span) (Changed m m span t (spot.place + 4))
+pub changed_stays : (m : Memory) (span : Span) (spot : Spot) (t : ℕ) → (f : FoundBlock span.at (heap_in m span) (spot.place + 4) spot)
+    → SpellsIn m span (heap_in m span) → WayOf t spot (heap_in m span) way.Stays → WithBlock spot (heap_in m span) (Changed m m span t (spot.place + 4))
 changed_stays m span spot t f s w =
     let h = heap_in m span in
     let here = cut_of span.at h spot f in
@@ -101,7 +109,8 @@ module _ (delta : ℤ) (s : Split Segment) (h : Heap) (n : ℕ) (en : n ≡ new_
 
   found_full : n ≢ 0 → short_by (segment_size n) s h ≢ 0 → resize_found delta (Some s) h ≡ Err NoRoom
   found_full nz e = cond_false (eqb (new_size delta s) 0) _ _ (eqb_apart (new_size delta s) 0 (λ z. nz (en ∙ z)))
-      ∙ cond_false (eqb (resize_need (new_size delta s) s h) 0) _ _ (eqb_apart (resize_need (new_size delta s) s h) 0 (λ z. e (ap (λ i. resize_need i s h) en ∙ z)))
+      ∙ cond_false (eqb (resize_need (new_size delta s) s h) 0) _ _ (eqb_apart (resize_need (new_size delta s) s h) 0
+      (λ z. e (ap (λ i. resize_need i s h) en ∙ z)))
 
   need_zero : n ≡ 0 → need_found delta (Some s) h ≡ Err BadSize
   need_zero z = cond_true (eqb (new_size delta s) 0) _ _ (eqb_same (new_size delta s) 0 (sym en ∙ z))
@@ -138,22 +147,28 @@ module _ (at : ℕ) (h : Heap) (address : ℕ) (spot : Spot) (f : FoundBlock at 
 
   pub resize_done : (t : ℕ) → n ≢ 0 → t ≡ segment_size n → short_by t s h ≡ 0 → resize address delta h ≡ Ok (as_granted (resized_in t s h))
   resize_done t nz et e =
-      ap (λ o. resize_found delta o h) found_s ∙ found_done delta s h n size_s nz (ap (λ i. short_by i s h) (sym et) ∙ e) ∙ ap (λ i. Ok (as_granted (resized_in i s h))) (sym et)
+      ap (λ o. resize_found delta o h) found_s ∙ found_done delta s h n size_s nz (ap (λ i. short_by i s h) (sym et) ∙ e)
+      ∙ ap (λ i. Ok (as_granted (resized_in i s h))) (sym et)
 
   pub resize_full : (t : ℕ) → n ≢ 0 → t ≡ segment_size n → short_by t s h ≢ 0 → resize address delta h ≡ Err NoRoom
   resize_full t nz et e = ap (λ o. resize_found delta o h) found_s ∙ found_full delta s h n size_s nz (λ z. e (ap (λ i. short_by i s h) et ∙ z))
 
-module _ (m k : Memory) (span : Span) (address : ℕ) (spot : Spot) (f : FoundBlock span.at (heap_in m span) address spot) (delta : ℤ) (n : ℕ) (en : n ≡ moved (spot.size - 4) delta) (t : ℕ) (nz : n ≢ 0) (et : t ≡ segment_size n) (s0 : IsSpan m span)
+module _ (m k : Memory) (span : Span) (address : ℕ) (spot : Spot) (f : FoundBlock span.at (heap_in m span) address spot) (delta : ℤ) (n : ℕ)
+    (en : n ≡ moved (spot.size - 4) delta) (t : ℕ) (nz : n ≢ 0) (et : t ≡ segment_size n) (s0 : IsSpan m span)
     (only : OnlySpan m k span) where
   -- what the code's answer says of the call
-  pub answered : (r : Result ℕ HeapRefusal) → MatchResult r (λ a. WithBlock spot (heap_in m span) (Changed m k span t a)) (λ refusal. WithBlock spot (heap_in m span) (NotChanged m k span t refusal))
+  pub answered : (r : Result ℕ HeapRefusal)
+      → MatchResult r (λ a. WithBlock spot (heap_in m span) (Changed m k span t a))
+      (λ refusal. WithBlock spot (heap_in m span) (NotChanged m k span t refusal))
       → Leaves m k span (resize address delta (heap_in m span)) r
   answered (Ok a) w =
       let h = heap_in m span in
       let v = from_cut span.at h spot (at_place f) (Changed m k span t a) w in
       let g = resized_in t (cut_of span.at h spot (at_place f)) h in
-      leaves m k span (resize address delta h) g.heap a (resize_done span.at h address spot f delta n en t nz et v.room ∙ ap (λ i. Ok (g.heap, i)) (sym v.address_is)) v.spells only
+      leaves m k span (resize address delta h) g.heap a (resize_done span.at h address spot f delta n en t nz et v.room
+      ∙ ap (λ i. Ok (g.heap, i)) (sym v.address_is)) v.spells only
   answered (Err refusal) w =
       let h = heap_in m span in
       let v = from_cut span.at h spot (at_place f) (NotChanged m k span t refusal) w in
-      refuses m k span (resize address delta h) refusal (resize_full span.at h address spot f delta n en t nz et v.no_room ∙ ap Err (sym v.refusal_is)) v.same s0
+      refuses m k span (resize address delta h) refusal (resize_full span.at h address spot f delta n en t nz et v.no_room ∙ ap Err (sym v.refusal_is))
+      v.same s0

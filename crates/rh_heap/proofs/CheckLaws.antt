@@ -1,5 +1,6 @@
 -- How far a check has come.
-use Rattle.std.proofs.Common.{◌≡◌, ℕ, zero, suc, ◌+◌, ◌-◌, ◌%◌, ◌<◌, ◌≤◌, ◌⊎◌, inl, inr, Bool, true, false, List, [], ◌∷◌, ◌++◌, length, refl, sym, ap, subst, ◌∙◌, append_assoc, arith}
+use Rattle.std.proofs.Common.{◌≡◌, ℕ, zero, suc, ◌+◌, ◌-◌, ◌%◌, ◌<◌, ◌≤◌, ◌⊎◌, inl, inr, Bool, true, false, List, [], ◌∷◌, ◌++◌, length, refl, sym, ap, subst}
+use Rattle.std.proofs.Common.{◌∙◌, append_assoc, arith}
 use Rattle.std.proofs.lemmas.List.{append-nil}
 use Rattle.std.specs.Prelude.{Some, None}
 use Rattle.rh_defs.specs.Bytes.{word, part}
@@ -11,7 +12,8 @@ use Rattle.rh_defs.specs.declared.heap.HeapFault.TheVariants.{BadSize, BadLink}
 use Rattle.rh_defs.proofs.BytesLaws.{length-part}
 use Rattle.rh_defs.proofs.HeapLists.{sum-append, total-append}
 use Rattle.rh_defs.proofs.HeapLaws.{last_link-append, Open-join, Stand-join, heap_of-Spells}
-use Rattle.rh_defs.proofs.HeapFaults.{LinkIs, ends, leads, link_from, size_from, at_base, at_hole, next_is, fault-end, fault-used, fault-used_size, fault-hole, fault-hole_size, fault-hole_link, fault_of-segments, fault_of-link, descriptor_from, image_clean}
+use Rattle.rh_defs.proofs.HeapFaults.{LinkIs, ends, leads, link_from, size_from, at_base, at_hole, next_is, fault-end, fault-used, fault-used_size}
+use Rattle.rh_defs.proofs.HeapFaults.{fault-hole, fault-hole_size, fault-hole_link, fault_of-segments, fault_of-link, descriptor_from, image_clean}
 use Rattle.rh_heap.specs.Image.{used_count, used_size, hole_count, summary_of}
 use Rattle.rh_heap.specs.declared.image.Summary.{Summary}
 use Rattle.rh_defs.specs.HeapParts.{last_link, Open}
@@ -88,12 +90,14 @@ next_place_is b base from place l h k = elim (next_is b base from place l k) [
   | at_hole n a m t ↦ record { least = omega arith; most = omega arith; room = inr (omega arith) }
 ]
 
-pub next_is_at : (b : List ℕ) (base from place : ℕ) (sums : Summary) (next : ℕ) → Checked b base from place sums → next ≡ next_place b base from → NextPlace base place next
+pub next_is_at : (b : List ℕ) (base from place : ℕ) (sums : Summary) (next : ℕ) → Checked b base from place sums → next ≡ next_place b base from
+    → NextPlace base place next
 next_is_at b base from place sums next w e =
     let a = w.ahead in
     subst (NextPlace base place) (sym e) (next_place_is b base from place (omega arith) w.below w.link)
 
-pub used_room : (b : List ℕ) (base from place : ℕ) (sums : Summary) (next : ℕ) → Checked b base from place sums → next ≡ next_place b base from → place < next → place + 4 ≤ length b
+pub used_room : (b : List ℕ) (base from place : ℕ) (sums : Summary) (next : ℕ) → Checked b base from place sums → next ≡ next_place b base from
+    → place < next → place + 4 ≤ length b
 used_room b base from place sums next w e l =
     let n = next_is_at b base from place sums next w e in
     let m = n.most in
@@ -106,14 +110,17 @@ fuel_more : (n base place : ℕ) → base ≤ place + n → place < base → (k 
 fuel_more zero base place h l = absurd (omega arith)
 fuel_more (suc k) base place h l = (k, refl)
 
-tidy_used : (passed : List Segment) (after : Bool) (bs : List ℕ) → ((ys : List Segment) → IsTidy after ys → IsTidy false (passed ++ ys)) → (4 + length bs) % 8 ≡ 0
-    → (ys : List Segment) → IsTidy false ys → IsTidy false ((passed ++ Used bs ∷ []) ++ ys)
+tidy_used : (passed : List Segment) (after : Bool) (bs : List ℕ) → ((ys : List Segment) → IsTidy after ys → IsTidy false (passed ++ ys))
+    → (4 + length bs) % 8 ≡ 0 → (ys : List Segment) → IsTidy false ys → IsTidy false ((passed ++ Used bs ∷ []) ++ ys)
 tidy_used passed false bs t m ys y = rw (append_assoc passed (Used bs ∷ []) ys) (t (Used bs ∷ ys) (m, y))
 tidy_used passed true bs t m ys y = rw (append_assoc passed (Used bs ∷ []) ys) (t (Used bs ∷ ys) (m, y))
 
 -- a used segment is right
-pub pass_used : (b : List ℕ) (base from place : ℕ) (sums : Summary) (next size : ℕ) → Checked b base from place sums → next ≡ next_place b base from → place < next → size ≡ word b place
-    → is_size size ≡ true → place + size ≤ next → Checked b base from (place + size) (record { used = sums.used + 1; used_bytes = sums.used_bytes + size; holes = sums.holes; hole_bytes = sums.hole_bytes; top = sums.top })
+pub pass_used : (b : List ℕ) (base from place : ℕ) (sums : Summary) (next size : ℕ) → Checked b base from place sums → next ≡ next_place b base from
+    → place < next → size ≡ word b place
+    → is_size size ≡ true → place + size ≤ next
+    → Checked b base from (place + size)
+    (record { used = sums.used + 1; used_bytes = sums.used_bytes + size; holes = sums.holes; hole_bytes = sums.hole_bytes; top = sums.top })
 pass_used b base from place sums next size w en ln es s fit =
     let n = next_is_at b base from place sums next w en in
     let nm = n.most in
@@ -167,8 +174,8 @@ pass_used b base from place sums next size w en ln es s fit =
       whole = w.whole;
     }
 
-pub used_fault : (b : List ℕ) (base from place : ℕ) (sums : Summary) (next size : ℕ) → Checked b base from place sums → next ≡ next_place b base from → place < next → size ≡ word b place
-    → (is_size size ≡ false) ⊎ (next < place + size) → fault_of b ≡ Some BadSize
+pub used_fault : (b : List ℕ) (base from place : ℕ) (sums : Summary) (next size : ℕ) → Checked b base from place sums → next ≡ next_place b base from
+    → place < next → size ≡ word b place → (is_size size ≡ false) ⊎ (next < place + size) → fault_of b ≡ Some BadSize
 used_fault b base from place sums next size w en ln es s =
     let n = next_is_at b base from place sums next w en in
     let nm = n.most in
@@ -177,8 +184,8 @@ used_fault b base from place sums next size w en ln es s =
     sym w.fault ∙ ap (λ i. fault_from i b base from place) more.1
     ∙ fault-used_size more.0 b base from place lb (omega arith) (elim s [ inl e ↦ inl (subst (λ i. is_size i ≡ false) es e) | inr g ↦ inr (omega arith) ])
 
-tidy_hole : (passed : List Segment) (after : Bool) (n : ℕ) → after ≡ false → ((ys : List Segment) → IsTidy after ys → IsTidy false (passed ++ ys)) → 0 < n → n % 8 ≡ 0
-    → (ys : List Segment) → IsTidy true ys → IsTidy false ((passed ++ Hole n ∷ []) ++ ys)
+tidy_hole : (passed : List Segment) (after : Bool) (n : ℕ) → after ≡ false → ((ys : List Segment) → IsTidy after ys → IsTidy false (passed ++ ys)) → 0 < n
+    → n % 8 ≡ 0 → (ys : List Segment) → IsTidy true ys → IsTidy false ((passed ++ Hole n ∷ []) ++ ys)
 tidy_hole passed true n e t h m ys y = absurd cc
 tidy_hole passed false n e t h m ys y = rw (append_assoc passed (Hole n ∷ []) ys) (t (Hole n ∷ ys) (h, m, y))
 
@@ -187,13 +194,15 @@ not_true true f = absurd (f refl)
 not_true false f = refl
 
 -- a hole stands where the link leads
-at_a_hole : (b : List ℕ) (base from place next : ℕ) → LinkIs b base from place → from < place → place < base → next ≡ next_place b base from → next ≤ place → (from + word b from ≡ place) × (place + 8 ≤ base)
+at_a_hole : (b : List ℕ) (base from place next : ℕ) → LinkIs b base from place → from < place → place < base → next ≡ next_place b base from → next ≤ place
+    → (from + word b from ≡ place) × (place + 8 ≤ base)
 at_a_hole b base from place next k l lb en ln = elim (next_is b base from place l k) [
   | at_base z e ↦ absurd (omega arith)
   | at_hole e a m t ↦ (omega arith, omega arith)
 ]
 
-pub hole_room : (b : List ℕ) (base from place : ℕ) (sums : Summary) (next : ℕ) → Checked b base from place sums → place < base → next ≡ next_place b base from → next ≤ place → place + 8 ≤ length b
+pub hole_room : (b : List ℕ) (base from place : ℕ) (sums : Summary) (next : ℕ) → Checked b base from place sums → place < base
+    → next ≡ next_place b base from → next ≤ place → place + 8 ≤ length b
 hole_room b base from place sums next w lb en ln =
     let a = w.ahead in
     let r = (at_a_hole b base from place next w.link (omega arith) lb en ln).1 in
@@ -201,9 +210,11 @@ hole_room b base from place sums next w lb en ln =
     omega arith
 
 -- a hole is right
-pub pass_hole : (b : List ℕ) (base from place : ℕ) (sums : Summary) (next size : ℕ) → Checked b base from place sums → place < base → next ≡ next_place b base from → next ≤ place → size ≡ word b (place + 4)
+pub pass_hole : (b : List ℕ) (base from place : ℕ) (sums : Summary) (next size : ℕ) → Checked b base from place sums → place < base
+    → next ≡ next_place b base from → next ≤ place → size ≡ word b (place + 4)
     → is_size size ≡ true → place + size < base → is_link b base place (place + size + 1) ≡ true
-    → Checked b base place (place + size) (record { used = sums.used; used_bytes = sums.used_bytes; holes = sums.holes + 1; hole_bytes = sums.hole_bytes + size; top = sums.top })
+    → Checked b base place (place + size)
+    (record { used = sums.used; used_bytes = sums.used_bytes; holes = sums.holes + 1; hole_bytes = sums.hole_bytes + size; top = sums.top })
 pass_hole b base from place sums next size w lb en ln es s fit g =
     let a = w.ahead in
     let there = at_a_hole b base from place next w.link (omega arith) lb en ln in
@@ -224,7 +235,8 @@ pass_hole b base from place sums next size w lb en ln es s fit g =
       passed = w.passed ++ Hole size ∷ [];
       after_hole = true;
       open_ = Open-join b 4 16 w.passed (Hole size ∷ []) w.open_
-          (subst (λ f. Open b f (16 + total size_of w.passed) (Hole size ∷ [])) w.at_link (subst (λ p. Open b from p (Hole size ∷ [])) w.at_place (here, sym es, tt)));
+          (subst (λ f. Open b f (16 + total size_of w.passed) (Hole size ∷ [])) w.at_link
+          (subst (λ p. Open b from p (Hole size ∷ [])) w.at_place (here, sym es, tt)));
       at_place = omega (arith, total-append w.passed (Hole size ∷ []));
       at_link = w.at_place ∙ sym (last_link-append 4 16 w.passed (Hole size ∷ []));
       tidy = tidy_hole w.passed w.after_hole size free w.tidy (omega arith) mult;
@@ -233,7 +245,8 @@ pass_hole b base from place sums next size w lb en ln es s fit g =
       fuel = k;
       enough = omega arith;
       fault = ap (λ i. fault_from k b base place (place + i)) es
-          ∙ sym (fault-hole k b base from place lb (omega arith) (subst (λ i. is_size i ≡ true) es s) (omega arith) (subst (λ i. is_link b base place (place + i + 1) ≡ true) es g))
+          ∙ sym (fault-hole k b base from place lb (omega arith) (subst (λ i. is_size i ≡ true) es s) (omega arith)
+          (subst (λ i. is_link b base place (place + i + 1) ≡ true) es g))
           ∙ ap (λ i. fault_from i b base from place) (sym ek) ∙ w.fault;
       sums_of = record {
         used = omega (arith, us.used, sum-append used_count w.passed (Hole size ∷ []));
@@ -251,19 +264,21 @@ pass_hole b base from place sums next size w lb en ln es s fit g =
       whole = w.whole;
     }
 
-pub hole_fault : (b : List ℕ) (base from place : ℕ) (sums : Summary) (next size : ℕ) → Checked b base from place sums → place < base → next ≡ next_place b base from → next ≤ place → size ≡ word b (place + 4)
-    → (is_size size ≡ false) ⊎ (base ≤ place + size) → fault_of b ≡ Some BadSize
+pub hole_fault : (b : List ℕ) (base from place : ℕ) (sums : Summary) (next size : ℕ) → Checked b base from place sums → place < base
+    → next ≡ next_place b base from → next ≤ place → size ≡ word b (place + 4) → (is_size size ≡ false) ⊎ (base ≤ place + size) → fault_of b ≡ Some BadSize
 hole_fault b base from place sums next size w lb en ln es s =
     let more = fuel_more w.fuel base place w.enough lb in
     sym w.fault ∙ ap (λ i. fault_from i b base from place) more.1
     ∙ fault-hole_size more.0 b base from place lb (omega arith) (elim s [ inl e ↦ inl (subst (λ i. is_size i ≡ false) es e) | inr g ↦ inr (omega arith) ])
 
-pub link_fault : (b : List ℕ) (base from place : ℕ) (sums : Summary) (next size : ℕ) → Checked b base from place sums → place < base → next ≡ next_place b base from → next ≤ place → size ≡ word b (place + 4)
+pub link_fault : (b : List ℕ) (base from place : ℕ) (sums : Summary) (next size : ℕ) → Checked b base from place sums → place < base
+    → next ≡ next_place b base from → next ≤ place → size ≡ word b (place + 4)
     → is_size size ≡ true → place + size < base → is_link b base place (place + size + 1) ≡ false → fault_of b ≡ Some BadLink
 link_fault b base from place sums next size w lb en ln es s fit g =
     let more = fuel_more w.fuel base place w.enough lb in
     sym w.fault ∙ ap (λ i. fault_from i b base from place) more.1
-    ∙ fault-hole_link more.0 b base from place lb (omega arith) (subst (λ i. is_size i ≡ true) es s) (omega arith) (subst (λ i. is_link b base place (place + i + 1) ≡ false) es g)
+    ∙ fault-hole_link more.0 b base from place lb (omega arith) (subst (λ i. is_size i ≡ true) es s) (omega arith)
+    (subst (λ i. is_link b base place (place + i + 1) ≡ false) es g)
 
 -- all is passed
 pub record Accepted (b : List ℕ) (sums : Summary) : Type 0 where
@@ -274,13 +289,15 @@ pub record Accepted (b : List ℕ) (sums : Summary) : Type 0 where
 made : ℕ → ℕ → ℕ → ℕ → ℕ → Summary
 made u ub o ob t = record { used = u; used_bytes = ub; holes = o; hole_bytes = ob; top = t }
 
-summary_same : (s : Summary) (u ub o ob t : ℕ) → s.used ≡ u → s.used_bytes ≡ ub → s.holes ≡ o → s.hole_bytes ≡ ob → s.top ≡ t → s ≡ record { used = u; used_bytes = ub; holes = o; hole_bytes = ob; top = t }
+summary_same : (s : Summary) (u ub o ob t : ℕ) → s.used ≡ u → s.used_bytes ≡ ub → s.holes ≡ o → s.hole_bytes ≡ ob → s.top ≡ t
+    → s ≡ record { used = u; used_bytes = ub; holes = o; hole_bytes = ob; top = t }
 unfolding made
 summary_same s u ub o ob t eu eub eo eob et =
     ap (λ x. made x s.used_bytes s.holes s.hole_bytes s.top) eu ∙ ap (λ x. made u x s.holes s.hole_bytes s.top) eub
     ∙ ap (λ x. made u ub x s.hole_bytes s.top) eo ∙ ap (λ x. made u ub o x s.top) eob ∙ ap (made u ub o ob) et
 
-accepted_at : (b : List ℕ) (base from place : ℕ) (sums : Summary) → (d : has_descriptor b ≡ true) → base ≡ word b 8 → (w : Checked b base from place sums) → place ≡ base → w.after_hole ≡ false → Accepted b sums
+accepted_at : (b : List ℕ) (base from place : ℕ) (sums : Summary) → (d : has_descriptor b ≡ true) → base ≡ word b 8 → (w : Checked b base from place sums)
+    → place ≡ base → w.after_hole ≡ false → Accepted b sums
 accepted_at b base from place sums d e w at free =
     let desc = descriptor_from b d in
     let a = w.ahead in
@@ -299,14 +316,16 @@ accepted_at b base from place sums d e w at free =
     } in
     let same = heap_of-Spells b 0 h spells in
     let us = w.sums_of in
-    let all : sums ≡ summary_of h = summary_same sums _ _ _ _ _ us.used us.used_bytes us.holes us.hole_bytes (w.top ∙ ap (λ i. length b - i) (sym at ∙ w.at_place)) in
+    let all : sums ≡ summary_of h =
+    summary_same sums _ _ _ _ _ us.used us.used_bytes us.holes us.hole_bytes (w.top ∙ ap (λ i. length b - i) (sym at ∙ w.at_place)) in
     record {
       image = subst (IsImage b) (sym same) (record { whole = refl; spells = spells });
       sums_of = all ∙ ap summary_of (sym same);
       clean = sym w.fault ∙ fault-end w.fuel b base from place (omega arith);
     }
 
-pub accepted : (b : List ℕ) (base from place : ℕ) (sums : Summary) → has_descriptor b ≡ true → base ≡ word b 8 → Checked b base from place sums → base ≤ place → Accepted b sums
+pub accepted : (b : List ℕ) (base from place : ℕ) (sums : Summary) → has_descriptor b ≡ true → base ≡ word b 8 → Checked b base from place sums
+    → base ≤ place → Accepted b sums
 accepted b base from place sums d e w l =
     let low = w.below in
     let a = w.ahead in

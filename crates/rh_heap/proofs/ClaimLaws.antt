@@ -1,14 +1,17 @@
 -- The walk over holes, and what a claim makes of a heap.
-use Rattle.std.proofs.Common.{◌≡◌, ℕ, ◌+◌, ◌-◌, ◌%◌, ◌<◌, ◌≤◌, ◌≢◌, inl, inr, false, eqb, List, [], ◌∷◌, ◌++◌, length, refl, sym, ap, subst, ◌∙◌, append_assoc, arith}
+use Rattle.std.proofs.Common.{◌≡◌, ℕ, ◌+◌, ◌-◌, ◌%◌, ◌<◌, ◌≤◌, ◌≢◌, inl, inr, false, eqb, List, [], ◌∷◌, ◌++◌, length, refl, sym, ap, subst, ◌∙◌}
+use Rattle.std.proofs.Common.{append_assoc, arith}
 use Rattle.std.proofs.lemmas.List.{append-nil}
 use Rattle.std.specs.Prelude.{None, Ok, Err}
 use Rattle.rh_defs.specs.Bytes.{word, part, SameOutside}
 use Rattle.rh_defs.specs.Pieces.{total, NonePass}
-use Rattle.rh_defs.specs.Heap.{Segment, Used, Hole, Heap, Placed, IsTidy, size_of, base, is_hole_for, hole_for, placed, placed_in, with_hole, shortage_in, segment_size, block_room, need, claim, claim_need, as_granted}
+use Rattle.rh_defs.specs.Heap.{Segment, Used, Hole, Heap, Placed, IsTidy, size_of, base, is_hole_for, hole_for, placed, placed_in, with_hole, shortage_in}
+use Rattle.rh_defs.specs.Heap.{segment_size, block_room, need, claim, claim_need, as_granted}
 use Rattle.rh_defs.specs.Pieces.{zeros}
 use Rattle.rh_defs.specs.HeapImage.{Stand, Spells}
 use Rattle.rh_defs.specs.declared.heap.HeapRefusal.TheVariants.{BadSize, NoRoom}
-use Rattle.rh_defs.proofs.HeapLists.{HasRoom-from_tidy, HasRoom-append, total-append, tidy_before, tidy_behind_hole, tidy_join, tidy_after, NonePass-append, first_at-none, first_at-found, cond_true, cond_false, eqb_same, eqb_apart, leb_yes, leb_no}
+use Rattle.rh_defs.proofs.HeapLists.{HasRoom-from_tidy, HasRoom-append, total-append, tidy_before, tidy_behind_hole, tidy_join, tidy_after, NonePass-append}
+use Rattle.rh_defs.proofs.HeapLists.{first_at-none, first_at-found, cond_true, cond_false, eqb_same, eqb_apart, leb_yes, leb_no}
 use Rattle.rh_defs.proofs.HeapLaws.{last_link-append, last_link-none, last_link_range, Stand-split, HasNone, NextHole, next_hole}
 use Rattle.rh_defs.proofs.HeapStretch.{opened}
 use Rattle.rh_heap.specs.Stretches.{StretchBetween, IsStretch, Settles}
@@ -65,7 +68,8 @@ found_turn b at h t from place s w k nz q =
     let some = k.some nz in
     let is : h.segments ≡ zs ++ Hole q.size ∷ q.rest = w.is ∙ ap (λ l. xs ++ l) q.is ∙ sym (append_assoc xs q.before (Hole q.size ∷ q.rest)) in
     let is' : h.segments ≡ (zs ++ Hole q.size ∷ []) ++ q.rest = is ∙ sym (append_assoc zs (Hole q.size ∷ []) q.rest) in
-    let links : at + from ≡ last_link (at + 4) (at + 16) zs = w.link ∙ sym (last_link-append (at + 4) (at + 16) xs q.before ∙ last_link-none f (at + 16 + total size_of xs) q.before q.none) in
+    let links : at + from ≡ last_link (at + 4) (at + 16) zs =
+    w.link ∙ sym (last_link-append (at + 4) (at + 16) xs q.before ∙ last_link-none f (at + 16 + total size_of xs) q.before q.none) in
     let none = NonePass-append size_of (is_hole_for t) 16 xs q.before w.none (none_fits t (16 + total size_of xs) q.before q.none) in
     let sums = total-append xs q.before in
     let all = ap (total size_of) is ∙ total-append zs (Hole q.size ∷ q.rest) in
@@ -85,7 +89,8 @@ found_turn b at h t from place s w k nz q =
         before = zs;
         after = q.rest;
         is = is;
-        found = ap (hole_for t) is ∙ first_at-found size_of (is_hole_for t) 16 zs (Hole q.size) q.rest none (leb_yes t q.size (let es = e ∙ read in omega arith));
+        found = ap (hole_for t) is
+            ∙ first_at-found size_of (is_hole_for t) 16 zs (Hole q.size) q.rest none (leb_yes t q.size (let es = e ∙ read in omega arith));
         link = links;
         place_is = there;
         fits = (let es = e ∙ read in omega arith);
@@ -109,7 +114,8 @@ found_turn b at h t from place s w k nz q =
       });
     }
 
-pub walk_turn : (b : List ℕ) (at : ℕ) (h : Heap) (t from place : ℕ) → Spells b at h → (w : Passed at h t from) → LinksTo b at (at + from) place → WalkTurn b at h t from place w.before w.rest
+pub walk_turn : (b : List ℕ) (at : ℕ) (h : Heap) (t from place : ℕ) → Spells b at h → (w : Passed at h t from) → LinksTo b at (at + from) place
+    → WalkTurn b at h t from place w.before w.rest
 walk_turn b at h t from place s w k =
     let xs = w.before in
     let ys = w.rest in
@@ -121,7 +127,9 @@ walk_turn b at h t from place s w k =
     let here : word b (at + from) ≡ word b f = ap (word b) w.link in
     record {
       none = λ z. elim step [
-        | inl n ↦ ap (hole_for t) w.is ∙ first_at-none size_of (is_hole_for t) 16 (xs ++ ys) (NonePass-append size_of (is_hole_for t) 16 xs ys w.none (none_fits t (16 + total size_of xs) ys n.0))
+        | inl n ↦ ap (hole_for t) w.is
+            ∙ first_at-none size_of (is_hole_for t) 16 (xs ++ ys) (NonePass-append size_of (is_hole_for t) 16 xs ys w.none
+            (none_fits t (16 + total size_of xs) ys n.0))
         | inr n ↦ absurd (n.0 (sym here ∙ k.none z))
       ];
       no_more = λ z. elim step [ inl n ↦ n.0 | inr n ↦ absurd (n.0 (sym here ∙ k.none z)) ];
@@ -133,7 +141,10 @@ walk_turn b at h t from place s w k =
 
 -- ---- a block in a hole
 module _ (at : ℕ) (h : Heap) (t : ℕ) (gap : Gap) (f : FoundHole at h t gap) (bs : List ℕ) (et : t ≡ 4 + length bs) where
-  pub placed_found : placed bs h ≡ record { heap = record { segments = f.before ++ Used bs ∷ with_hole (gap.size - (4 + length bs)) f.after; end = h.end }; address = 16 + total size_of f.before + 4 }
+  pub placed_found : placed bs h ≡ record {
+    heap = record { segments = f.before ++ Used bs ∷ with_hole (gap.size - (4 + length bs)) f.after; end = h.end };
+    address = 16 + total size_of f.before + 4;
+  }
   placed_found = ap (λ n. placed_in bs h (hole_for n h.segments)) (sym et) ∙ ap (placed_in bs h) f.found
 
   pub placed_there : gap.place + 4 ≡ (placed bs h).address
@@ -141,7 +152,8 @@ module _ (at : ℕ) (h : Heap) (t : ℕ) (gap : Gap) (f : FoundHole at h t gap) 
 
   pub fill_between : (b c : List ℕ) (next : ℕ) → Spells b at h → LinksTo b at (at + gap.place) next → SameOutside b c (at + gap.place) (at + gap.place + t)
       → word c (at + gap.place) ≡ t → part c (at + gap.place + 4) (length bs) ≡ bs → t % 8 ≡ 0
-      → StretchBetween c at h.end (f.before ++ Used bs ∷ []) f.after (record { link = gap.from; low = gap.place + t; next = next; upper = gap.place + gap.size })
+      → StretchBetween c at h.end (f.before ++ Used bs ∷ []) f.after (record
+      { link = gap.from; low = gap.place + t; next = next; upper = gap.place + gap.size })
   fill_between b c next s k o sized block mult =
       let tidy = subst (IsTidy false) f.is s.heap.tidy in
       let behind = tidy_behind_hole false f.before gap.size f.after tidy in
@@ -150,14 +162,19 @@ module _ (at : ℕ) (h : Heap) (t : ℕ) (gap : Gap) (f : FoundHole at h t gap) 
       let m = f.multiple in
       let all = ap (total size_of) f.is ∙ total-append f.before (Hole gap.size ∷ f.after) in
       let b0 = s.base in
-      let has = opened b at h f.before (Hole gap.size ∷ []) f.after (at + gap.from) (at + gap.place) next (at + (gap.place + gap.size)) s f.is f.link (omega arith) (omega arith) k in
-      filled_between b c at h.end f.before f.after gap.from gap.place next (gap.place + gap.size) t bs has (omega arith) o et sized block (omega arith) (omega arith)
-      (tidy_join false f.before (Used bs ∷ []) (tidy_before false f.before gap.size f.after tidy) ((let e : 4 + length bs ≡ t = sym et in rw e mult), tt)) (tidy_after f.after behind.1)
+      let has = opened b at h f.before (Hole gap.size ∷ []) f.after (at + gap.from) (at + gap.place) next (at + (gap.place + gap.size)) s f.is f.link
+      (omega arith) (omega arith) k in
+      filled_between b c at h.end f.before f.after gap.from gap.place next (gap.place + gap.size) t bs has (omega arith) o et sized block (omega arith)
+      (omega arith)
+      (tidy_join false f.before (Used bs ∷ []) (tidy_before false f.before gap.size f.after tidy) ((let e : 4 + length bs ≡ t = sym et in rw e mult), tt))
+      (tidy_after f.after behind.1)
 
   pub fill_is_stretch : (b c : List ℕ) (next : ℕ) → Spells b at h → LinksTo b at (at + gap.place) next → SameOutside b c (at + gap.place) (at + gap.place + t)
-      → word c (at + gap.place) ≡ t → part c (at + gap.place + 4) (length bs) ≡ bs → t % 8 ≡ 0 → IsStretch c at (record { link = gap.from; low = gap.place + t; next = next; upper = gap.place + gap.size })
+      → word c (at + gap.place) ≡ t → part c (at + gap.place + 4) (length bs) ≡ bs → t % 8 ≡ 0
+      → IsStretch c at (record { link = gap.from; low = gap.place + t; next = next; upper = gap.place + gap.size })
   fill_is_stretch b c next s k o sized block mult =
-      is_stretch c at h.end (f.before ++ Used bs ∷ []) f.after (record { link = gap.from; low = gap.place + t; next = next; upper = gap.place + gap.size }) (fill_between b c next s k o sized block mult)
+      is_stretch c at h.end (f.before ++ Used bs ∷ []) f.after (record { link = gap.from; low = gap.place + t; next = next; upper = gap.place + gap.size })
+      (fill_between b c next s k o sized block mult)
 
   pub fill_edges : (b c : List ℕ) (next : ℕ) → Spells b at h → LinksTo b at (at + gap.place) next → SameOutside b c (at + gap.place) (at + gap.place + t)
       → word c (at + gap.place) ≡ t → part c (at + gap.place + 4) (length bs) ≡ bs → t % 8 ≡ 0
@@ -170,8 +187,10 @@ module _ (at : ℕ) (h : Heap) (t : ℕ) (gap : Gap) (f : FoundHole at h t gap) 
       → word c (at + gap.place) ≡ t → part c (at + gap.place + 4) (length bs) ≡ bs → t % 8 ≡ 0
       → Settles c d at (record { link = gap.from; low = gap.place + t; next = next; upper = gap.place + gap.size }) → Spells d at (placed bs h).heap
   fill_spells b c d next s k o sized block mult settles =
-      let flat : (f.before ++ Used bs ∷ []) ++ with_hole (gap.place + gap.size - (gap.place + t)) f.after ≡ f.before ++ Used bs ∷ with_hole (gap.size - (4 + length bs)) f.after =
-      append_assoc f.before (Used bs ∷ []) (with_hole (gap.place + gap.size - (gap.place + t)) f.after) ∙ ap (λ n. f.before ++ Used bs ∷ with_hole n f.after) (omega arith) in
+      let flat : (f.before ++ Used bs ∷ []) ++ with_hole (gap.place + gap.size - (gap.place + t)) f.after ≡ f.before ++ Used bs ∷ with_hole
+      (gap.size - (4 + length bs)) f.after =
+      append_assoc f.before (Used bs ∷ []) (with_hole (gap.place + gap.size - (gap.place + t)) f.after)
+      ∙ ap (λ n. f.before ++ Used bs ∷ with_hole n f.after) (omega arith) in
       subst (λ (p : Placed). Spells d at p.heap) (sym placed_found)
       (subst (λ ss. Spells d at (record { segments = ss; end = h.end })) flat
       (settles h.end (f.before ++ Used bs ∷ []) f.after (fill_between b c next s k o sized block mult)))
@@ -185,7 +204,8 @@ module _ (at : ℕ) (h : Heap) (t : ℕ) (none : hole_for t h.segments ≡ None)
   placed_top place e = ap (λ n. n + 4) e ∙ sym (ap (λ (p : Placed). p.address) placed_none)
 
   pub append_spells : (b c d : List ℕ) (place : ℕ) → Spells b at h → place ≡ base h → place + t ≤ h.end → SameOutside b c (at + place) (at + place + t)
-      → word c (at + place) ≡ t → part c (at + place + 4) (length bs) ≡ bs → SameOutside c d (at + 8) (at + 8 + 4) → word d (at + 8) ≡ place + t → t % 8 ≡ 0 → Spells d at (placed bs h).heap
+      → word c (at + place) ≡ t → part c (at + place + 4) (length bs) ≡ bs → SameOutside c d (at + 8) (at + 8 + 4) → word d (at + 8) ≡ place + t → t % 8 ≡ 0
+      → Spells d at (placed bs h).heap
   append_spells b c d place s e fit o1 sized block o2 based mult =
       let q = last_link (at + 4) (at + 16) h.segments in
       let is : h.segments ≡ h.segments ++ ([] ++ []) = sym (append-nil h.segments) in
@@ -223,8 +243,8 @@ module _ (n : ℕ) (h : Heap) where
   claim_need_some ne = cond_false (eqb n 0) _ _ (eqb_apart n 0 ne)
 
 -- what a block that was put there answers
-pub claim_answered : (n : ℕ) (h : Heap) (t address : ℕ) → n ≢ 0 → t ≡ segment_size n → shortage_in t h (hole_for t h.segments) ≡ 0 → address ≡ (placed (zeros (t - 4)) h).address
-    → claim n h ≡ Ok ((placed (zeros (t - 4)) h).heap, address)
+pub claim_answered : (n : ℕ) (h : Heap) (t address : ℕ) → n ≢ 0 → t ≡ segment_size n → shortage_in t h (hole_for t h.segments) ≡ 0
+    → address ≡ (placed (zeros (t - 4)) h).address → claim n h ≡ Ok ((placed (zeros (t - 4)) h).heap, address)
 claim_answered n h t address ne et e a =
     let none : need n h ≡ 0 = subst (λ i. shortage_in i h (hole_for i h.segments) ≡ 0) et e in
     let same : placed (zeros (block_room n)) h ≡ placed (zeros (t - 4)) h = ap (λ i. placed (zeros (i - 4)) h) (sym et) in

@@ -18,14 +18,16 @@ pub part_above : {b c : List ℕ} {lo hi : ℕ} → SameOutside b c lo hi → (p
 part_above {b} {c} s p n h = part_same b c p n (record { each = λ k u v. s.above k (omega arith) })
 
 -- a used segment is written at the low end of a stretch, and the rest of it stays open
-pub filled_between : (b c : List ℕ) (at end : ℕ) (xs ys : List Segment) (link low next upper size : ℕ) (bs : List ℕ) → HasStretch b at end xs ys (at + link) (at + low) next (at + upper)
+pub filled_between : (b c : List ℕ) (at end : ℕ) (xs ys : List Segment) (link low next upper size : ℕ) (bs : List ℕ)
+    → HasStretch b at end xs ys (at + link) (at + low) next (at + upper)
     → word b (at + 8) ≡ upper + total size_of ys → SameOutside b c (at + low) (at + low + size) → size ≡ 4 + length bs
     → word c (at + low) ≡ size → part c (at + low + 4) (length bs) ≡ bs → low + size ≤ upper → (upper - (low + size)) % 8 ≡ 0
     → IsTidy false (xs ++ Used bs ∷ []) → IsTidy false ys
     → StretchBetween c at end (xs ++ Used bs ∷ []) ys (record { link = link; low = low + size; next = next; upper = upper })
 filled_between b c at end xs ys link low next upper size bs s based o es sized block fit mult tidy behind =
     let place = s.place in
-    let kept = HasStretch-kept b c at end xs ys (at + link) (at + low) next (at + upper) s (but_body o (at + link) (at + low) (at + upper) (at + 8) (omega arith) (omega arith)) in
+    let kept = HasStretch-kept b c at end xs ys (at + link) (at + low) next (at + upper) s
+    (but_body o (at + link) (at + low) (at + upper) (at + 8) (omega arith) (omega arith)) in
     let full = filled c at end xs ys (at + link) (at + low) next (at + upper) bs kept (sized ∙ es) block (omega arith) in
     record {
       has = subst (λ l. HasStretch c at end (xs ++ Used bs ∷ []) ys (at + link) l next (at + upper)) (omega arith) full;
@@ -36,7 +38,8 @@ filled_between b c at end xs ys link low next upper size bs s based o es sized b
     }
 
 -- a used segment is written at the top, and then the base
-pub topped : (b b1 c : List ℕ) (at end : ℕ) (xs : List Segment) (q low x upper size base : ℕ) (bs : List ℕ) → HasStretch b at end xs [] q (at + low) x upper → LinksTo b at q x
+pub topped : (b b1 c : List ℕ) (at end : ℕ) (xs : List Segment) (q low x upper size base : ℕ) (bs : List ℕ) → HasStretch b at end xs [] q (at + low) x upper
+    → LinksTo b at q x
     → SameOutside b b1 (at + low) (at + low + size) → size ≡ 4 + length bs → word b1 (at + low) ≡ size → part b1 (at + low + 4) (length bs) ≡ bs
     → SameOutside b1 c (at + 8) (at + 8 + 4) → word c (at + 8) ≡ base → base ≡ low + size → low + size ≤ end → IsTidy false (xs ++ Used bs ∷ [])
     → Spells c at (record { segments = xs ++ Used bs ∷ []; end = end })

@@ -1,5 +1,6 @@
 -- Whether bytes lie in a block, by the segment round the place before them or by the marks of a map.
-use Rattle.std.proofs.Common.{◌≡◌, ℕ, ◌+◌, ◌-◌, ◌*◌, ◌/◌, ◌%◌, ◌<◌, ◌≤◌, inl, inr, Bool, true, false, List, [], ◌∷◌, ◌++◌, length, refl, sym, ap, subst, ◌∙◌, arith}
+use Rattle.std.proofs.Common.{◌≡◌, ℕ, ◌+◌, ◌-◌, ◌*◌, ◌/◌, ◌%◌, ◌<◌, ◌≤◌, inl, inr, Bool, true, false, List, [], ◌∷◌, ◌++◌, length, refl, sym, ap, subst, ◌∙◌}
+use Rattle.std.proofs.Common.{arith}
 use Rattle.std.proofs.lemmas.Bool.{cases_lt}
 use Rattle.std.specs.Prelude.{is_some, ◌&&◌, nat_le}
 use Rattle.rh_defs.specs.Bytes.{word}
@@ -23,7 +24,8 @@ and_no false t e = refl
 -- blocks above the address
 none_above : (x n p : ℕ) (ss : List Segment) → x < p + 4 → NonePass size_of (is_around x n) p ss
 none_above x n p [] l = tt
-none_above x n p (Used bs ∷ ss) l = (ap (λ s. s && nat_le (x + n) (p + 4 + length bs)) (leb_no (p + 4) x l), none_above x n (p + (4 + length bs)) ss (omega arith))
+none_above x n p (Used bs ∷ ss) l =
+    (ap (λ s. s && nat_le (x + n) (p + 4 + length bs)) (leb_no (p + 4) x l), none_above x n (p + (4 + length bs)) ss (omega arith))
 none_above x n p (Hole m ∷ ss) l = (refl, none_above x n (p + m) ss (omega arith))
 
 -- and blocks that end below it
@@ -38,10 +40,12 @@ none_below x n p (Hole m ∷ ss) r l = (refl, none_below x n (p + m) ss r.1 (ome
 pub held_below : (h : Heap) (x n : ℕ) → x < 20 → is_some (block_around x n h) ≡ false
 held_below h x n l = ap (λ o. is_some o) (first_at-none size_of (is_around x n) 16 h.segments (none_above x n 16 h.segments (omega arith)))
 
-pub held_above : (b : List ℕ) (at : ℕ) (h : Heap) (x n base' : ℕ) → Spells b at h → base' ≡ word b (at + 8) → base' + 4 ≤ x → is_some (block_around x n h) ≡ false
+pub held_above : (b : List ℕ) (at : ℕ) (h : Heap) (x n base' : ℕ) → Spells b at h → base' ≡ word b (at + 8) → base' + 4 ≤ x
+    → is_some (block_around x n h) ≡ false
 held_above b at h x n base' s e l =
     let eb = s.base in
-    ap (λ o. is_some o) (first_at-none size_of (is_around x n) 16 h.segments (none_below x n 16 h.segments (HasRoom-from_tidy false h.segments s.heap.tidy) (omega arith)))
+    ap (λ o. is_some o) (first_at-none size_of (is_around x n) 16 h.segments
+    (none_below x n 16 h.segments (HasRoom-from_tidy false h.segments s.heap.tidy) (omega arith)))
 
 -- what the segment at its place says of the bytes
 around_here : (x n place size : ℕ) (u : Bool) (g : Segment) → HereIs size u g → is_around x n place g ≡ (u && is_inside x n (place + 4) (size - 4))
@@ -69,7 +73,8 @@ held_here at h x n spot t l a =
     let low = a.from_on in
     let up = a.up_to in
     let z = parts.size in
-    let e = ap (λ q. is_around x n q m.here) (let i : 16 + total size_of xs ≡ spot.place = omega arith in i) ∙ around_here x n spot.place spot.size spot.used m.here m.here_is in
+    let e = ap (λ q. is_around x n q m.here) (let i : 16 + total size_of xs ≡ spot.place = omega arith in i)
+    ∙ around_here x n spot.place spot.size spot.used m.here m.here_is in
     ap (λ ss. is_some (first_at size_of (is_around x n) 16 ss)) parts.is
     ∙ around_by x n 16 xs m.here m.after (spot.used && is_inside x n (spot.place + 4) (spot.size - 4))
     (none_below x n 16 xs parts.room (omega arith)) (none_above x n (16 + total size_of xs + size_of m.here) m.after (omega arith)) e

@@ -1,5 +1,6 @@
 -- What keeps a map the map of its heap.
-use Rattle.std.proofs.Common.{◌≡◌, ◌≢◌, ℕ, ◌+◌, ◌-◌, ◌*◌, ◌/◌, ◌%◌, ◌<◌, ◌≤◌, inl, inr, true, false, List, [], ◌∷◌, ◌++◌, length, refl, sym, ap, subst, ◌∙◌, append_assoc, arith}
+use Rattle.std.proofs.Common.{◌≡◌, ◌≢◌, ℕ, ◌+◌, ◌-◌, ◌*◌, ◌/◌, ◌%◌, ◌<◌, ◌≤◌, inl, inr, true, false, List, [], ◌∷◌, ◌++◌, length, refl, sym, ap, subst, ◌∙◌}
+use Rattle.std.proofs.Common.{append_assoc, arith}
 use Rattle.std.specs.Prelude.{None}
 use Rattle.std.proofs.lemmas.Bool.{cases_eq, cases_lt}
 use Rattle.rh_defs.specs.Pieces.{total}
@@ -22,7 +23,8 @@ use Rattle.rh_heap.proofs.ClaimLaws.{placed_found, placed_none}
 use Rattle.rh_heap.proofs.ResizeLaws.{length-fitted, IntoOf, TopOf, shrunk_is, widened_is}
 use Rattle.rh_heap.proofs.WayLaws.{cut_of, from_cut, WayFacts, if_stays, if_shrinks, if_into, if_top, if_to_hole, if_to_top, way_facts}
 use Rattle.rh_heap.proofs.MoveLaws.{placed_at}
-use Rattle.rh_heap.proofs.StartLaws.{once_same, once_apart, used_at-append, hole_at-append, used_at-low, hole_at-low, used_at-high, hole_at-high, HasUnits, units_of, units-append, units-total, used_with_hole, hole_noted}
+use Rattle.rh_heap.proofs.StartLaws.{once_same, once_apart, used_at-append, hole_at-append, used_at-low, hole_at-low, used_at-high, hole_at-high, HasUnits}
+use Rattle.rh_heap.proofs.StartLaws.{units_of, units-append, units-total, used_with_hole, hole_noted}
 
 -- what a call has noted of a stretch: the marks that stood open before are in mid
 pub record Settled (mid new : List ℕ) (low upper base : ℕ) : Type 0 where
@@ -34,7 +36,8 @@ pub record Open (mid : List ℕ) (front after : List Segment) (low upper : ℕ) 
   pub used : (j : ℕ) → bit USED mid j ≡ used_at (8 * j) 16 front + used_at (8 * j) upper after
   pub holes : (j : ℕ) → 8 * j ≢ low → 8 * j ≢ upper → bit HOLES mid j ≡ hole_at (8 * j) 16 front + hole_at (8 * j) upper after
 
-same_mark : (p low upper base v x w front y : ℕ) → Noted p low upper base v w → Noted p low upper base x y → (p ≡ low → front ≡ 0) → (p ≡ upper → front ≡ 0) → (p ≢ low → p ≢ upper → v ≡ front + x) → w ≡ front + y
+same_mark : (p low upper base v x w front y : ℕ) → Noted p low upper base v w → Noted p low upper base x y → (p ≡ low → front ≡ 0) → (p ≡ upper → front ≡ 0)
+    → (p ≢ low → p ≢ upper → v ≡ front + x) → w ≡ front + y
 same_mark p low upper base v x w front y m n at_low at_upper beside = elim (cases_eq p low) [
   | inl here ↦ elim (cases_lt low upper) [
     | inl some ↦ elim (cases_lt low base) [
@@ -49,35 +52,44 @@ same_mark p low upper base v x w front y m n at_low at_upper beside = elim (case
   ]
 ]
 
-pub settled : (mid new : List ℕ) (k : Heap) (front after : List Segment) (low upper base' : ℕ) → k.segments ≡ front ++ with_hole (upper - low) after → low ≡ 16 + total size_of front → low ≤ upper → (low ≡ upper → IsTidy true after)
-    → HasRoom front → HasRoom after → base' ≡ base k → k.end ≤ 512 * (length new / 2) → Open mid front after low upper → Settled mid new low upper base' → IsIndex new k
+pub settled : (mid new : List ℕ) (k : Heap) (front after : List Segment) (low upper base' : ℕ) → k.segments ≡ front ++ with_hole (upper - low) after
+    → low ≡ 16 + total size_of front → low ≤ upper → (low ≡ upper → IsTidy true after)
+    → HasRoom front → HasRoom after → base' ≡ base k → k.end ≤ 512 * (length new / 2) → Open mid front after low upper → Settled mid new low upper base'
+    → IsIndex new k
 settled mid new k front after low upper base' is at le closed room room' eb long o n =
     let rest = with_hole (upper - low) after in
     let used_is : (p : ℕ) → used_at p 16 k.segments ≡ used_at p 16 front + used_at p upper after =
     λ p. ap (used_at p 16) is ∙ used_at-append p 16 front rest
     ∙ ap (λ q. used_at p 16 front + used_at p q rest) (sym at)
-    ∙ ap (λ n. used_at p 16 front + n) (used_with_hole p low (upper - low) after ∙ ap (λ q. used_at p q after) (let e : low + (upper - low) ≡ upper = omega arith in e)) in
+    ∙ ap (λ n. used_at p 16 front + n) (used_with_hole p low (upper - low) after
+    ∙ ap (λ q. used_at p q after) (let e : low + (upper - low) ≡ upper = omega arith in e)) in
     let hole_is : (p : ℕ) → hole_at p 16 k.segments ≡ hole_at p 16 front + hole_at p low rest =
     λ p. ap (hole_at p 16) is ∙ hole_at-append p 16 front rest ∙ ap (λ q. hole_at p 16 front + hole_at p q rest) (sym at) in
     let based : low + total size_of rest ≡ base' = omega (arith, ap (total size_of) is, total-append front rest) in
     record {
       long = long;
       used = λ j. n.used j ∙ o.used j ∙ sym (used_is (8 * j));
-      holes = λ j. same_mark (8 * j) low upper base' (bit HOLES mid j) (hole_at (8 * j) upper after) (bit HOLES new j) (hole_at (8 * j) 16 front) (hole_at (8 * j) low rest) (n.holes j)
-          (subst (λ i. Noted (8 * j) low upper i (hole_at (8 * j) upper after) (hole_at (8 * j) low rest)) based (hole_noted (8 * j) low upper after le closed room'))
-          (λ here. hole_at-high (8 * j) 16 front room (omega arith)) (λ here. hole_at-high (8 * j) 16 front room (omega arith)) (o.holes j) ∙ sym (hole_is (8 * j));
+      holes = λ j. same_mark (8 * j) low upper base' (bit HOLES mid j) (hole_at (8 * j) upper after) (bit HOLES new j) (hole_at (8 * j) 16 front)
+          (hole_at (8 * j) low rest) (n.holes j)
+          (subst (λ i. Noted (8 * j) low upper i (hole_at (8 * j) upper after) (hole_at (8 * j) low rest)) based
+          (hole_noted (8 * j) low upper after le closed room'))
+          (λ here. hole_at-high (8 * j) 16 front room (omega arith)) (λ here. hole_at-high (8 * j) 16 front room (omega arith)) (o.holes j)
+          ∙ sym (hole_is (8 * j));
     }
 
 -- ---- releases
-gap_used : (p low place link from : ℕ) (gap : List Segment) (bs : List ℕ) (after : List Segment) → GapIs low place link from gap → used_at p low (gap ++ Used bs ∷ after) ≡ once p place + used_at p (place + (4 + length bs)) after
+gap_used : (p low place link from : ℕ) (gap : List Segment) (bs : List ℕ) (after : List Segment) → GapIs low place link from gap
+    → used_at p low (gap ++ Used bs ∷ after) ≡ once p place + used_at p (place + (4 + length bs)) after
 gap_used p low place link from [] bs after (no_gap e f) = ap (λ q. once p q + used_at p (q + (4 + length bs)) after) e
 gap_used p low place link from (Hole n ∷ []) bs after (a_gap _ e f) = ap (λ q. once p q + used_at p (q + (4 + length bs)) after) (sym e ∙ refl)
 gap_used p low place link from (Used cs ∷ ss) bs after k = elim k [ ]
 gap_used p low place link from (Hole n ∷ x ∷ ss) bs after k = elim k [ ]
 
-gap_holes : (p low place link from : ℕ) (gap : List Segment) (bs : List ℕ) (after : List Segment) → GapIs low place link from gap → p ≢ low → hole_at p low (gap ++ Used bs ∷ after) ≡ hole_at p (place + (4 + length bs)) after
+gap_holes : (p low place link from : ℕ) (gap : List Segment) (bs : List ℕ) (after : List Segment) → GapIs low place link from gap → p ≢ low
+    → hole_at p low (gap ++ Used bs ∷ after) ≡ hole_at p (place + (4 + length bs)) after
 gap_holes p low place link from [] bs after (no_gap e f) off = ap (λ q. hole_at p (q + (4 + length bs)) after) e
-gap_holes p low place link from (Hole n ∷ []) bs after (a_gap _ e f) off = omega (arith, once_apart p low off, ap (λ q. hole_at p (q + (4 + length bs)) after) e)
+gap_holes p low place link from (Hole n ∷ []) bs after (a_gap _ e f) off =
+    omega (arith, once_apart p low off, ap (λ q. hole_at p (q + (4 + length bs)) after) e)
 gap_holes p low place link from (Used cs ∷ ss) bs after k off = elim k [ ]
 gap_holes p low place link from (Hole n ∷ x ∷ ss) bs after k off = elim k [ ]
 
@@ -93,15 +105,24 @@ module _ (at : ℕ) (h : Heap) (address : ℕ) (spot : Spot) (t : IsTidy false h
       let r = f.reached in
       let passed = r.front ++ r.gap in
       let p = r.place_is in
-      omega (arith, units-total passed (units-append passed (Used f.bytes ∷ f.after) (subst HasUnits (r.is ∙ ap (λ l. passed ++ l) f.rest_is) (units_of false h.segments t))).0)
+      omega (
+        arith,
+        units-total passed (units-append passed (Used f.bytes ∷ f.after)
+            (subst HasUnits (r.is ∙ ap (λ l. passed ++ l) f.rest_is) (units_of false h.segments t))).0,
+      )
 
   pub low_even : spot.low % 8 ≡ 0
   low_even =
       let r = f.reached in
       let low = r.low_is in
-      omega (arith, units-total r.front (units-append r.front (r.gap ++ r.rest) (subst HasUnits (r.is ∙ append_assoc r.front r.gap r.rest) (units_of false h.segments t))).0)
+      omega (
+        arith,
+        units-total r.front (units-append r.front (r.gap ++ r.rest) (subst HasUnits (r.is ∙ append_assoc r.front r.gap r.rest)
+            (units_of false h.segments t))).0,
+      )
 
-  pub release_index : (old mid new : List ℕ) (base' : ℕ) → IsIndex old h → Became USED (spot.place / 8) 0 old mid → Settled mid new spot.low (spot.place + spot.size) base' → length new ≡ length old
+  pub release_index : (old mid new : List ℕ) (base' : ℕ) → IsIndex old h → Became USED (spot.place / 8) 0 old mid
+      → Settled mid new spot.low (spot.place + spot.size) base' → length new ≡ length old
       → base' ≡ base (release address h) → IsIndex new (release address h)
   release_index old mid new base' i b n el eb =
       let r = f.reached in
@@ -111,7 +132,8 @@ module _ (at : ℕ) (h : Heap) (address : ℕ) (spot : Spot) (t : IsTidy false h
       let is' : h.segments ≡ r.front ++ (r.gap ++ Used bs ∷ f.after) = is ∙ append_assoc r.front r.gap (Used bs ∷ f.after) in
       let tidy = subst (IsTidy false) is t in
       let behind = tidy_behind_used false passed bs f.after tidy in
-      let room = (HasRoom-append r.front (r.gap ++ Used bs ∷ f.after) (HasRoom-from_tidy false (r.front ++ (r.gap ++ Used bs ∷ f.after)) (subst (IsTidy false) is' t))).0 in
+      let room = (HasRoom-append r.front (r.gap ++ Used bs ∷ f.after) (HasRoom-from_tidy false (r.front ++ (r.gap ++ Used bs ∷ f.after))
+      (subst (IsTidy false) is' t))).0 in
       let order = gap_order spot.low spot.place spot.link spot.from r.gap r.gap_is in
       let low = r.low_is in
       let size = f.size_is in
@@ -122,13 +144,18 @@ module _ (at : ℕ) (h : Heap) (address : ℕ) (spot : Spot) (t : IsTidy false h
       let upper_is : spot.place + (4 + length bs) ≡ upper = ap (λ n. spot.place + n) (sym size) in
       let done = released_is at h address spot t f in
       let used_is : (p : ℕ) → used_at p 16 h.segments ≡ used_at p 16 r.front + (once p spot.place + used_at p upper f.after) =
-      λ p. ap (used_at p 16) is' ∙ used_at-append p 16 r.front (r.gap ++ Used bs ∷ f.after) ∙ ap (λ q. used_at p 16 r.front + used_at p q (r.gap ++ Used bs ∷ f.after)) (sym low)
-      ∙ ap (λ n. used_at p 16 r.front + n) (gap_used p spot.low spot.place spot.link spot.from r.gap bs f.after r.gap_is ∙ ap (λ q. once p spot.place + used_at p q f.after) upper_is) in
+      λ p. ap (used_at p 16) is' ∙ used_at-append p 16 r.front (r.gap ++ Used bs ∷ f.after)
+      ∙ ap (λ q. used_at p 16 r.front + used_at p q (r.gap ++ Used bs ∷ f.after)) (sym low)
+      ∙ ap (λ n. used_at p 16 r.front + n) (gap_used p spot.low spot.place spot.link spot.from r.gap bs f.after r.gap_is
+      ∙ ap (λ q. once p spot.place + used_at p q f.after) upper_is) in
       let hole_is : (p : ℕ) → p ≢ spot.low → hole_at p 16 h.segments ≡ hole_at p 16 r.front + hole_at p upper f.after =
-      λ p off. ap (hole_at p 16) is' ∙ hole_at-append p 16 r.front (r.gap ++ Used bs ∷ f.after) ∙ ap (λ q. hole_at p 16 r.front + hole_at p q (r.gap ++ Used bs ∷ f.after)) (sym low)
-      ∙ ap (λ n. hole_at p 16 r.front + n) (gap_holes p spot.low spot.place spot.link spot.from r.gap bs f.after r.gap_is off ∙ ap (λ q. hole_at p q f.after) upper_is) in
+      λ p off. ap (hole_at p 16) is' ∙ hole_at-append p 16 r.front (r.gap ++ Used bs ∷ f.after)
+      ∙ ap (λ q. hole_at p 16 r.front + hole_at p q (r.gap ++ Used bs ∷ f.after)) (sym low)
+      ∙ ap (λ n. hole_at p 16 r.front + n) (gap_holes p spot.low spot.place spot.link spot.from r.gap bs f.after r.gap_is off
+      ∙ ap (λ q. hole_at p q f.after) upper_is) in
       let long = i.long in
-      settled mid new (release address h) r.front f.after spot.low upper base' (ap (λ (k : Heap). k.segments) done) low (omega arith) (λ z. absurd (omega arith)) room (HasRoom-from_tidy false f.after behind.1) eb
+      settled mid new (release address h) r.front f.after spot.low upper base' (ap (λ (k : Heap). k.segments) done) low (omega arith)
+      (λ z. absurd (omega arith)) room (HasRoom-from_tidy false f.after behind.1) eb
       (let en : (release address h).end ≡ h.end = ap (λ (k : Heap). k.end) done in let half = ap (λ x. 512 * (x / 2)) el in omega arith)
       (record {
         used = λ j. elim (cases_eq j (spot.place / 8)) [
@@ -148,7 +175,8 @@ hole_even at h t gap f tidy =
     omega (arith, units-total f.before (units-append f.before (Hole gap.size ∷ f.after) (subst HasUnits f.is (units_of false h.segments tidy))).0)
 
 module _ (at : ℕ) (h : Heap) (t : ℕ) (gap : Gap) (f : FoundHole at h t gap) (bs : List ℕ) (et : t ≡ 4 + length bs) (tidy : IsTidy false h.segments) where
-  pub fill_index : (old one mid new : List ℕ) (base' : ℕ) → IsIndex old h → Became USED (gap.place / 8) 1 old one → Became HOLES (gap.place / 8) 0 one mid → Settled mid new (gap.place + t) (gap.place + gap.size) base'
+  pub fill_index : (old one mid new : List ℕ) (base' : ℕ) → IsIndex old h → Became USED (gap.place / 8) 1 old one → Became HOLES (gap.place / 8) 0 one mid
+      → Settled mid new (gap.place + t) (gap.place + gap.size) base'
       → length new ≡ length old → base' ≡ base (placed bs h).heap → IsIndex new (placed bs h).heap
   fill_index old one mid new base' i b c n el eb =
       let place = f.place_is in
@@ -158,30 +186,41 @@ module _ (at : ℕ) (h : Heap) (t : ℕ) (gap : Gap) (f : FoundHole at h t gap) 
       let front = f.before ++ Used bs ∷ [] in
       let sums = total-append f.before (Used bs ∷ []) in
       let behind = tidy_behind_hole false f.before gap.size f.after (subst (IsTidy false) f.is tidy) in
-      let rooms = HasRoom-append f.before (Hole gap.size ∷ f.after) (HasRoom-from_tidy false (f.before ++ Hole gap.size ∷ f.after) (subst (IsTidy false) f.is tidy)) in
+      let rooms = HasRoom-append f.before (Hole gap.size ∷ f.after) (HasRoom-from_tidy false (f.before ++ Hole gap.size ∷ f.after)
+      (subst (IsTidy false) f.is tidy)) in
       let big = rooms.1.0 in
       let even = hole_even at h t gap f tidy in
       let done = placed_found at h t gap f bs et in
       let segments_are : (placed bs h).heap.segments ≡ front ++ with_hole (upper - low) f.after =
-      ap (λ (p : Placed). p.heap.segments) done ∙ ap (λ n. f.before ++ Used bs ∷ with_hole n f.after) (let e : gap.size - (4 + length bs) ≡ upper - low = omega arith in e)
+      ap (λ (p : Placed). p.heap.segments) done
+      ∙ ap (λ n. f.before ++ Used bs ∷ with_hole n f.after) (let e : gap.size - (4 + length bs) ≡ upper - low = omega arith in e)
       ∙ sym (append_assoc f.before (Used bs ∷ []) (with_hole (upper - low) f.after)) in
       let p8 : 8 * (gap.place / 8) ≡ gap.place = omega arith in
       let used_is : (p : ℕ) → used_at p 16 h.segments ≡ used_at p 16 f.before + used_at p upper f.after =
-      λ p. ap (used_at p 16) f.is ∙ used_at-append p 16 f.before (Hole gap.size ∷ f.after) ∙ ap (λ q. used_at p 16 f.before + used_at p (q + gap.size) f.after) (sym place) in
+      λ p. ap (used_at p 16) f.is ∙ used_at-append p 16 f.before (Hole gap.size ∷ f.after)
+      ∙ ap (λ q. used_at p 16 f.before + used_at p (q + gap.size) f.after) (sym place) in
       let hole_is : (p : ℕ) → hole_at p 16 h.segments ≡ hole_at p 16 f.before + (once p gap.place + hole_at p upper f.after) =
-      λ p. ap (hole_at p 16) f.is ∙ hole_at-append p 16 f.before (Hole gap.size ∷ f.after) ∙ ap (λ q. hole_at p 16 f.before + (once p q + hole_at p (q + gap.size) f.after)) (sym place) in
+      λ p. ap (hole_at p 16) f.is ∙ hole_at-append p 16 f.before (Hole gap.size ∷ f.after)
+      ∙ ap (λ q. hole_at p 16 f.before + (once p q + hole_at p (q + gap.size) f.after)) (sym place) in
       let front_used : (p : ℕ) → used_at p 16 front ≡ used_at p 16 f.before + once p gap.place =
       λ p. used_at-append p 16 f.before (Used bs ∷ []) ∙ omega (arith, ap (once p) place) in
       let front_hole : (p : ℕ) → hole_at p 16 front ≡ hole_at p 16 f.before = λ p. omega (arith, hole_at-append p 16 f.before (Used bs ∷ [])) in
       let long = i.long in
-      settled mid new (placed bs h).heap front f.after low upper base' segments_are (omega arith) (omega arith) (λ z. behind.1) (HasRoom-join f.before (Used bs ∷ []) rooms.0 tt) rooms.1.1 eb
+      settled mid new (placed bs h).heap front f.after low upper base' segments_are (omega arith) (omega arith) (λ z. behind.1)
+      (HasRoom-join f.before (Used bs ∷ []) rooms.0 tt) rooms.1.1 eb
       (let en : (placed bs h).heap.end ≡ h.end = ap (λ (p : Placed). p.heap.end) done in let half = ap (λ x. 512 * (x / 2)) el in omega arith)
       (record {
         used = λ j. c.other USED j (omega arith) (omega arith) ∙ elim (cases_eq j (gap.place / 8)) [
           | inl same ↦
               let p : 8 * j ≡ gap.place = omega arith in
               ap (bit USED one) same ∙ b.here
-              ∙ omega (arith, front_used (8 * j), once_same (8 * j) gap.place p, used_at-high (8 * j) 16 f.before (omega arith), used_at-low (8 * j) upper f.after (omega arith))
+              ∙ omega (
+                arith,
+                front_used (8 * j),
+                once_same (8 * j) gap.place p,
+                used_at-high (8 * j) 16 f.before (omega arith),
+                used_at-low (8 * j) upper f.after (omega arith),
+              )
           | inr apart ↦ omega (arith, b.same j apart, i.used j, used_is (8 * j), front_used (8 * j), once_apart (8 * j) gap.place (omega arith))
         ];
         holes = λ j off beside. elim (cases_eq j (gap.place / 8)) [
@@ -190,7 +229,15 @@ module _ (at : ℕ) (h : Heap) (t : ℕ) (gap : Gap) (f : FoundHole at h t gap) 
               ap (bit HOLES mid) same ∙ c.here
               ∙ omega (arith, front_hole (8 * j), hole_at-high (8 * j) 16 f.before rooms.0 (omega arith), hole_at-low (8 * j) upper f.after (omega arith))
           | inr apart ↦
-              omega (arith, c.same j apart, b.other HOLES j (omega arith) (omega arith), i.holes j, hole_is (8 * j), front_hole (8 * j), once_apart (8 * j) gap.place (omega arith))
+              omega (
+                arith,
+                c.same j apart,
+                b.other HOLES j (omega arith) (omega arith),
+                i.holes j,
+                hole_is (8 * j),
+                front_hole (8 * j),
+                once_apart (8 * j) gap.place (omega arith),
+              )
         ];
       }) n
 
@@ -231,7 +278,8 @@ module _ (b : List ℕ) (at : ℕ) (h : Heap) (spot : Spot) (s : Spells b at h) 
   here_is = f.reached.is ∙ ap (λ l. passed ++ l) f.rest_is
 
   passed_room : HasRoom passed
-  passed_room = (HasRoom-append passed (Used f.bytes ∷ f.after) (HasRoom-from_tidy false (passed ++ Used f.bytes ∷ f.after) (subst (IsTidy false) here_is s.heap.tidy))).0
+  passed_room = (HasRoom-append passed (Used f.bytes ∷ f.after) (HasRoom-from_tidy false (passed ++ Used f.bytes ∷ f.after)
+      (subst (IsTidy false) here_is s.heap.tidy))).0
 
   behind_is : IsTidy false f.after
   behind_is = (tidy_behind_used false passed f.bytes f.after (subst (IsTidy false) here_is s.heap.tidy)).1
@@ -270,16 +318,19 @@ module _ (b : List ℕ) (at : ℕ) (h : Heap) (spot : Spot) (s : Spells b at h) 
   pub shrinks_shorter : WithBlock spot h (λ q. WayIs (way_to t q h) way.Shrinks) → t < spot.size
   shrinks_shorter w =
       let z = f.size_is in
-      let l = shorter_of (way_to t (cut_of at h spot f) h) (way_facts t (cut_of at h spot f) h) (from_cut at h spot f (λ q. WayIs (way_to t q h) way.Shrinks) w) in
+      let l = shorter_of (way_to t (cut_of at h spot f) h) (way_facts t (cut_of at h spot f) h)
+      (from_cut at h spot f (λ q. WayIs (way_to t q h) way.Shrinks) w) in
       omega arith
 
   -- a block that gets shorter
-  pub shrink_index : (old new : List ℕ) (base' : ℕ) → t % 8 ≡ 0 → t < spot.size → IsIndex old h → Settled old new (spot.place + t) (spot.place + spot.size) base' → length new ≡ length old
+  pub shrink_index : (old new : List ℕ) (base' : ℕ) → t % 8 ≡ 0 → t < spot.size → IsIndex old h
+      → Settled old new (spot.place + t) (spot.place + spot.size) base' → length new ≡ length old
       → base' ≡ base (resized_in t (cut_of at h spot f) h).heap → IsIndex new (resized_in t (cut_of at h spot f) h).heap
   shrink_index old new base' mult shorter i n el eb =
       let done = shrunk_is b at h spot s f t least mult shorter in
       let long = i.long in
-      settled old new (resized_in t (cut_of at h spot f) h).heap (passed ++ Used now ∷ []) f.after (spot.place + t) (spot.place + spot.size) base' (ap (λ (k : Heap). k.segments) done) (sym front_total) (omega arith) (λ z. absurd (omega arith))
+      settled old new (resized_in t (cut_of at h spot f) h).heap (passed ++ Used now ∷ []) f.after (spot.place + t) (spot.place + spot.size) base'
+      (ap (λ (k : Heap). k.segments) done) (sym front_total) (omega arith) (λ z. absurd (omega arith))
       (HasRoom-join passed (Used now ∷ []) passed_room tt) (HasRoom-from_tidy false f.after behind_is) eb
       (let en : (resized_in t (cut_of at h spot f) h).heap.end ≡ h.end = ap (λ (k : Heap). k.end) done in let half = ap (λ x. 512 * (x / 2)) el in omega arith)
       (record {
@@ -288,7 +339,8 @@ module _ (b : List ℕ) (at : ℕ) (h : Heap) (spot : Spot) (s : Spells b at h) 
       }) n
 
   -- a block that grows into the hole behind it
-  pub widen_index : (old mid new : List ℕ) (base' room : ℕ) → t % 8 ≡ 0 → (w : IntoOf at h spot f t room (way_to t (cut_of at h spot f) h)) → IsIndex old h → Became HOLES ((spot.place + spot.size) / 8) 0 old mid
+  pub widen_index : (old mid new : List ℕ) (base' room : ℕ) → t % 8 ≡ 0 → (w : IntoOf at h spot f t room (way_to t (cut_of at h spot f) h)) → IsIndex old h
+      → Became HOLES ((spot.place + spot.size) / 8) 0 old mid
       → Settled mid new (spot.place + t) (spot.place + spot.size + room) base' → length new ≡ length old
       → base' ≡ base (resized_in t (cut_of at h spot f) h).heap → IsIndex new (resized_in t (cut_of at h spot f) h).heap
   widen_index old mid new base' room mult w i c n el eb =
@@ -302,12 +354,15 @@ module _ (b : List ℕ) (at : ℕ) (h : Heap) (spot : Spot) (s : Spells b at h) 
       let p = f.reached.place_is in
       let upper = spot.place + spot.size + room in
       let behind = tidy_behind_hole false [] room w.rest (subst (IsTidy false) w.after_is behind_is) in
-      let hole_there : (p : ℕ) → hole_at p (spot.place + spot.size) f.after ≡ once p (spot.place + spot.size) + hole_at p upper w.rest = λ p. ap (hole_at p (spot.place + spot.size)) w.after_is in
-      let used_there : (p : ℕ) → used_at p (spot.place + spot.size) f.after ≡ used_at p upper w.rest = λ p. ap (used_at p (spot.place + spot.size)) w.after_is in
+      let hole_there : (p : ℕ) → hole_at p (spot.place + spot.size) f.after ≡ once p (spot.place + spot.size) + hole_at p upper w.rest =
+      λ p. ap (hole_at p (spot.place + spot.size)) w.after_is in
+      let used_there : (p : ℕ) → used_at p (spot.place + spot.size) f.after ≡ used_at p upper w.rest =
+      λ p. ap (used_at p (spot.place + spot.size)) w.after_is in
       let least' = f.least in
       let room_is = (HasRoom-from_tidy false (Hole room ∷ w.rest) (subst (IsTidy false) w.after_is behind_is)) in
       let big = room_is.0 in
-      settled mid new (resized_in t (cut_of at h spot f) h).heap (passed ++ Used now ∷ []) w.rest (spot.place + t) upper base' (ap (λ (k : Heap). k.segments) done) (sym front_total) (omega arith) (λ z. behind.1)
+      settled mid new (resized_in t (cut_of at h spot f) h).heap (passed ++ Used now ∷ []) w.rest (spot.place + t) upper base'
+      (ap (λ (k : Heap). k.segments) done) (sym front_total) (omega arith) (λ z. behind.1)
       (HasRoom-join passed (Used now ∷ []) passed_room tt) room_is.1 eb
       (let en : (resized_in t (cut_of at h spot f) h).heap.end ≡ h.end = ap (λ (k : Heap). k.end) done in let half = ap (λ x. 512 * (x / 2)) el in omega arith)
       (record {
@@ -315,15 +370,31 @@ module _ (b : List ℕ) (at : ℕ) (h : Heap) (spot : Spot) (s : Spells b at h) 
         holes = λ j off beside. elim (cases_eq j ((spot.place + spot.size) / 8)) [
           | inl same ↦
               let at_it : 8 * j ≡ spot.place + spot.size = omega arith in
-              ap (bit HOLES mid) same ∙ c.here ∙ omega (arith, hole_front (8 * j), hole_at-high (8 * j) 16 passed passed_room (omega arith), hole_at-low (8 * j) upper w.rest (omega arith))
-          | inr apart ↦ omega (arith, c.same j apart, i.holes j, hole_whole (8 * j), hole_front (8 * j), hole_there (8 * j), once_apart (8 * j) (spot.place + spot.size) (omega arith))
+              ap (bit HOLES mid) same ∙ c.here
+              ∙ omega (
+                arith,
+                hole_front (8 * j),
+                hole_at-high (8 * j) 16 passed passed_room (omega arith),
+                hole_at-low (8 * j) upper w.rest (omega arith),
+              )
+          | inr apart ↦ omega (
+            arith,
+            c.same j apart,
+            i.holes j,
+            hole_whole (8 * j),
+            hole_front (8 * j),
+            hole_there (8 * j),
+            once_apart (8 * j) (spot.place + spot.size) (omega arith),
+          )
         ];
       }) n
 
   -- the last block grows
-  pub raise_index : (old : List ℕ) → (w : TopOf at h spot f t (way_to t (cut_of at h spot f) h)) → IsIndex old h → IsIndex old (resized_in t (cut_of at h spot f) h).heap
+  pub raise_index : (old : List ℕ) → (w : TopOf at h spot f t (way_to t (cut_of at h spot f) h)) → IsIndex old h
+      → IsIndex old (resized_in t (cut_of at h spot f) h).heap
   raise_index old w i =
-      let done : (resized_in t (cut_of at h spot f) h).heap ≡ record { segments = passed ++ Used now ∷ []; end = h.end } = ap (λ (v : heap.Way). (resized_by v now (cut_of at h spot f) h).heap) w.way_is in
+      let done : (resized_in t (cut_of at h spot f) h).heap ≡ record { segments = passed ++ Used now ∷ []; end = h.end } =
+      ap (λ (v : heap.Way). (resized_by v now (cut_of at h spot f) h).heap) w.way_is in
       let used_there : (p : ℕ) → used_at p (spot.place + spot.size) f.after ≡ 0 = λ p. ap (used_at p (spot.place + spot.size)) w.after_is in
       let hole_there : (p : ℕ) → hole_at p (spot.place + spot.size) f.after ≡ 0 = λ p. ap (hole_at p (spot.place + spot.size)) w.after_is in
       subst (IsIndex old) (sym done) (record {
@@ -333,7 +404,8 @@ module _ (b : List ℕ) (at : ℕ) (h : Heap) (spot : Spot) (s : Spells b at h) 
       })
 
 -- ---- a block's bytes don't matter
-pub other_bytes : (starts : List ℕ) (h : Heap) (t : ℕ) (bs cs : List ℕ) → t ≡ 4 + length bs → t ≡ 4 + length cs → IsIndex starts (placed bs h).heap → IsIndex starts (placed cs h).heap
+pub other_bytes : (starts : List ℕ) (h : Heap) (t : ℕ) (bs cs : List ℕ) → t ≡ 4 + length bs → t ≡ 4 + length cs → IsIndex starts (placed bs h).heap
+    → IsIndex starts (placed cs h).heap
 other_bytes starts h t bs cs eb ec i =
     let p = placed_at h t in
     let one = p.is bs eb in
@@ -341,7 +413,8 @@ other_bytes starts h t bs cs eb ec i =
     let long = i.long in
     let used_same : (k : ℕ) → used_at k 16 (p.front ++ Used bs ∷ p.rest) ≡ used_at k 16 (p.front ++ Used cs ∷ p.rest) =
     λ k. used_at-append k 16 p.front (Used bs ∷ p.rest)
-    ∙ ap (λ n. used_at k 16 p.front + (once k (16 + total size_of p.front) + used_at k (16 + total size_of p.front + n) p.rest)) (let e : 4 + length bs ≡ 4 + length cs = omega arith in e)
+    ∙ ap (λ n. used_at k 16 p.front + (once k (16 + total size_of p.front) + used_at k (16 + total size_of p.front + n) p.rest))
+    (let e : 4 + length bs ≡ 4 + length cs = omega arith in e)
     ∙ sym (used_at-append k 16 p.front (Used cs ∷ p.rest)) in
     let hole_same : (k : ℕ) → hole_at k 16 (p.front ++ Used bs ∷ p.rest) ≡ hole_at k 16 (p.front ++ Used cs ∷ p.rest) =
     λ k. hole_at-append k 16 p.front (Used bs ∷ p.rest)
@@ -349,6 +422,8 @@ other_bytes starts h t bs cs eb ec i =
     ∙ sym (hole_at-append k 16 p.front (Used cs ∷ p.rest)) in
     record {
       long = omega (arith, ap (λ (r : Placed). r.heap.end) one, ap (λ (r : Placed). r.heap.end) two);
-      used = λ j. i.used j ∙ ap (λ (r : Placed). used_at (8 * j) 16 r.heap.segments) one ∙ used_same (8 * j) ∙ sym (ap (λ (r : Placed). used_at (8 * j) 16 r.heap.segments) two);
-      holes = λ j. i.holes j ∙ ap (λ (r : Placed). hole_at (8 * j) 16 r.heap.segments) one ∙ hole_same (8 * j) ∙ sym (ap (λ (r : Placed). hole_at (8 * j) 16 r.heap.segments) two);
+      used = λ j. i.used j ∙ ap (λ (r : Placed). used_at (8 * j) 16 r.heap.segments) one ∙ used_same (8 * j)
+          ∙ sym (ap (λ (r : Placed). used_at (8 * j) 16 r.heap.segments) two);
+      holes = λ j. i.holes j ∙ ap (λ (r : Placed). hole_at (8 * j) 16 r.heap.segments) one ∙ hole_same (8 * j)
+          ∙ sym (ap (λ (r : Placed). hole_at (8 * j) 16 r.heap.segments) two);
     }

@@ -1,5 +1,6 @@
 -- One step of the walk that lists a heap's segments, and how it ends.
-use Rattle.std.proofs.Common.{◌≡◌, ℕ, ◌+◌, ◌<◌, ◌≤◌, ◌≢◌, inl, inr, Bool, true, false, List, [], ◌∷◌, ◌++◌, length, take, refl, sym, ap, subst, ◌∙◌, append_assoc, append-nil, arith}
+use Rattle.std.proofs.Common.{◌≡◌, ℕ, ◌+◌, ◌<◌, ◌≤◌, ◌≢◌, inl, inr, Bool, true, false, List, [], ◌∷◌, ◌++◌, length, take, refl, sym, ap, subst, ◌∙◌}
+use Rattle.std.proofs.Common.{append_assoc, append-nil, arith}
 use Rattle.std.proofs.lemmas.List.{take-append-le, take_all, append_cancel_left}
 use Rattle.rh_defs.specs.Bytes.{word}
 use Rattle.rh_defs.specs.Pieces.{total}
@@ -16,7 +17,8 @@ use Rattle.rh_heap.proofs.WalkLaws.{leads_here, stands}
 use Rattle.rh_heap.specs.declared.layout.Segment.{Segment}
 use Rattle.rh_heap.specs.declared.span.segments.Spot.{Spot}
 
-pub lists_start : (at : ℕ) (h : Heap) (target : ℕ) (spot : Spot) (items : List Segment) → Found at h target spot → items ≡ [] → HasListed at h spot.from spot.place items (listed target (from_cut (segment_at target h)))
+pub lists_start : (at : ℕ) (h : Heap) (target : ℕ) (spot : Spot) (items : List Segment) → Found at h target spot → items ≡ []
+    → HasListed at h spot.from spot.place items (listed target (from_cut (segment_at target h)))
 lists_start at h target spot items f none = record {
   link = spot.link;
   low = spot.low;
@@ -28,13 +30,15 @@ lists_start at h target spot items f none = record {
 
 -- the next segment
 pub data NextSegment (b : List ℕ) (at : ℕ) (h : Heap) (from place next : ℕ) (passed : List heap.Segment) : List heap.Segment → Type 0 where
-  next_used : (bytes : List ℕ) (ys : List heap.Segment) → next ≢ place → word b (at + place) ≡ 4 + length bytes → place + (4 + length bytes) ≤ base h → 8 ≤ 4 + length bytes
-      → (r : Reached at h from (place + (4 + length bytes)) from (place + (4 + length bytes))) → r.front ++ r.gap ≡ passed ++ Used bytes ∷ [] → NextSegment b at h from place next passed (Used bytes ∷ ys)
+  next_used : (bytes : List ℕ) (ys : List heap.Segment) → next ≢ place → word b (at + place) ≡ 4 + length bytes → place + (4 + length bytes) ≤ base h
+      → 8 ≤ 4 + length bytes
+      → (r : Reached at h from (place + (4 + length bytes)) from (place + (4 + length bytes))) → r.front ++ r.gap ≡ passed ++ Used bytes ∷ []
+      → NextSegment b at h from place next passed (Used bytes ∷ ys)
   next_hole : (n : ℕ) (ys : List heap.Segment) → next ≡ place → word b (at + (place + 4)) ≡ n → place + n ≤ base h → 8 ≤ n
       → (r : Reached at h from place place (place + n)) → r.front ++ r.gap ≡ passed ++ Hole n ∷ [] → NextSegment b at h from place next passed (Hole n ∷ ys)
 
-pub next_segment_at : (b : List ℕ) (at : ℕ) (h : Heap) (link low from place next : ℕ) (r : Reached at h link low from place) → (rest : List heap.Segment) → r.rest ≡ rest → Spells b at h → LinksTo b at (at + from) next → place < base h
-    → NextSegment b at h from place next (r.front ++ r.gap) rest
+pub next_segment_at : (b : List ℕ) (at : ℕ) (h : Heap) (link low from place next : ℕ) (r : Reached at h link low from place) → (rest : List heap.Segment)
+    → r.rest ≡ rest → Spells b at h → LinksTo b at (at + from) next → place < base h → NextSegment b at h from place next (r.front ++ r.gap) rest
 next_segment_at b at h link low from place next r [] e s k lt =
     absurd (let p = r.place_is in omega (arith, ap (total size_of) r.is, ap (total size_of) e, total-append (r.front ++ r.gap) r.rest))
 next_segment_at b at h link low from place next r (Used bs ∷ ys) e s k lt =
@@ -50,7 +54,8 @@ next_segment_at b at h link low from place next r (Used bs ∷ ys) e s k lt =
     let some = k.some in
     let on = k.ahead in
     let i = r.behind in
-    let off : next ≢ place = λ q. let l = on (omega arith) in let m = some (omega arith) in elim ahead [ inl z ↦ absurd (omega arith) | inr w ↦ absurd (omega arith) ] in
+    let off : next ≢ place = λ q. let l = on (omega arith) in let m = some (omega arith) in
+    elim ahead [ inl z ↦ absurd (omega arith) | inr w ↦ absurd (omega arith) ] in
     let sums = total-append passed (Used bs ∷ []) in
     let all = ap (total size_of) is' ∙ total-append (passed ++ Used bs ∷ []) ys in
     next_used bs ys off here.0 (omega arith) (omega arith) (record {
@@ -62,7 +67,8 @@ next_segment_at b at h link low from place next r (Used bs ∷ ys) e s k lt =
       low_is = omega arith;
       link_is = r.from_is ∙ sym (last_link-append (at + 4) (at + 16) passed (Used bs ∷ []));
       place_is = omega (arith, ap (total size_of) (append-nil (passed ++ Used bs ∷ [])));
-      from_is = r.from_is ∙ sym (last_link-append (at + 4) (at + 16) passed (Used bs ∷ [])) ∙ ap (last_link (at + 4) (at + 16)) (sym (append-nil (passed ++ Used bs ∷ [])));
+      from_is = r.from_is ∙ sym (last_link-append (at + 4) (at + 16) passed (Used bs ∷ []))
+          ∙ ap (last_link (at + 4) (at + 16)) (sym (append-nil (passed ++ Used bs ∷ [])));
       tidy = tidy_front false passed bs ys tidy;
       link_below = omega arith;
       behind = omega arith;
@@ -114,7 +120,8 @@ pub record Turn (b : List ℕ) (at : ℕ) (h : Heap) (from place next : ℕ) (it
   pub used : next ≢ place → (size : ℕ) → size ≡ word b (at + place) → Step at h from place (at_place place size true) items all
 
 -- what is left behind a segment
-left : {h : Heap} {at link low from place link' low' from' place' : ℕ} (w : Reached at h link low from place) (r : Reached at h link' low' from' place') (x : heap.Segment) (ys : List heap.Segment)
+left : {h : Heap} {at link low from place link' low' from' place' : ℕ} (w : Reached at h link low from place) (r : Reached at h link' low' from' place')
+    (x : heap.Segment) (ys : List heap.Segment)
     → w.rest ≡ x ∷ ys → r.front ++ r.gap ≡ (w.front ++ w.gap) ++ x ∷ [] → r.rest ≡ ys
 left {h} w r x ys er e =
     let passed = w.front ++ w.gap in
@@ -122,7 +129,8 @@ left {h} w r x ys er e =
     let two : h.segments ≡ (passed ++ x ∷ []) ++ ys = w.is ∙ (ap (λ l. passed ++ l) er ∙ sym (append_assoc passed (x ∷ []) ys)) in
     append_cancel_left (passed ++ x ∷ []) r.rest ys (one ∙ two)
 
-turn_at : (b : List ℕ) (at : ℕ) (h : Heap) (from place next : ℕ) (items all : List Segment) (w : HasListed at h from place items all) (rest : List heap.Segment) → w.reached.rest ≡ rest
+turn_at : (b : List ℕ) (at : ℕ) (h : Heap) (from place next : ℕ) (items all : List Segment) (w : HasListed at h from place items all)
+    (rest : List heap.Segment) → w.reached.rest ≡ rest
     → NextSegment b at h from place next (w.reached.front ++ w.reached.gap) rest → Turn b at h from place next items all
 turn_at b at h from place next items all w [] er x = elim x [ ]
 turn_at b at h from place next items all w (Used bs ∷ ys) er (next_used _ _ off read fits least r e) = record {
@@ -157,11 +165,12 @@ turn_at b at h from place next items all w (Hole n ∷ ys) er (next_hole _ _ her
   });
 }
 
-pub turn : (b : List ℕ) (at : ℕ) (h : Heap) (from place next base' : ℕ) (items all : List Segment) → Spells b at h → HasListed at h from place items all → base' ≡ word b (at + 8) → place < base' → LinksTo b at (at + from) next
-    → Turn b at h from place next items all
+pub turn : (b : List ℕ) (at : ℕ) (h : Heap) (from place next base' : ℕ) (items all : List Segment) → Spells b at h → HasListed at h from place items all
+    → base' ≡ word b (at + 8) → place < base' → LinksTo b at (at + from) next → Turn b at h from place next items all
 turn b at h from place next base' items all s w eb lt k =
     let e = s.base in
-    turn_at b at h from place next items all w w.reached.rest refl (next_segment_at b at h w.link w.low from place next w.reached w.reached.rest refl s k (omega arith))
+    turn_at b at h from place next items all w w.reached.rest refl (next_segment_at b at h w.link w.low from place next w.reached w.reached.rest refl s k
+    (omega arith))
 
 -- as many are listed as may be
 pub lists_full : (at : ℕ) (h : Heap) (from place n : ℕ) (items all : List Segment) → HasListed at h from place items all → length items ≡ n → items ≡ take n all
@@ -169,7 +178,8 @@ lists_full at h from place n items all w e =
     sym (ap (take n) (sym w.all_is) ∙ (take-append-le n items (listed place w.reached.rest) (omega arith) ∙ take_all n items (omega arith)))
 
 -- all are listed
-pub lists_all : (b : List ℕ) (at : ℕ) (h : Heap) (from place n base' : ℕ) (items all : List Segment) → Spells b at h → HasListed at h from place items all → base' ≡ word b (at + 8) → base' ≤ place → length items ≤ n → items ≡ take n all
+pub lists_all : (b : List ℕ) (at : ℕ) (h : Heap) (from place n base' : ℕ) (items all : List Segment) → Spells b at h → HasListed at h from place items all
+    → base' ≡ word b (at + 8) → base' ≤ place → length items ≤ n → items ≡ take n all
 lists_all b at h from place n base' items all s w eb le few =
     let r = w.reached in
     let passed = r.front ++ r.gap in

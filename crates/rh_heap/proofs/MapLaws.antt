@@ -1,5 +1,6 @@
 -- The walk that makes a map: the marks are those of the segments that it has passed.
-use Rattle.std.proofs.Common.{◌≡◌, ◌≢◌, ℕ, ◌+◌, ◌*◌, ◌/◌, ◌%◌, ◌<◌, ◌≤◌, inl, inr, false, List, [], ◌∷◌, ◌++◌, length, replicate, get_or, refl, sym, ap, subst, ◌∙◌, append-nil, arith}
+use Rattle.std.proofs.Common.{◌≡◌, ◌≢◌, ℕ, ◌+◌, ◌*◌, ◌/◌, ◌%◌, ◌<◌, ◌≤◌, inl, inr, false, List, [], ◌∷◌, ◌++◌, length, replicate, get_or, refl, sym, ap}
+use Rattle.std.proofs.Common.{subst, ◌∙◌, append-nil, arith}
 use Rattle.std.specs.Int.{bit_at}
 use Rattle.std.proofs.lemmas.Bool.{cases_eq, cases_lt}
 use Rattle.std.proofs.lemmas.List.{get_or-replicate, get_or_past, length-replicate}
@@ -48,36 +49,48 @@ mapped_start starts n at h e = record {
 -- where the walk goes on from a place, for the size that is read there
 pub record MapTurn (b starts : List ℕ) (at : ℕ) (h : Heap) (from place next : ℕ) : Type 0 where
   pub room : place + 8 ≤ base h
-  pub hole : next ≡ place → (size : ℕ) → size ≡ word b (at + (place + 4)) → (new : List ℕ) → Became HOLES (place / 8) 1 starts new → Mapped new at h place (place + size) × (8 ≤ size)
-  pub used : next ≢ place → (size : ℕ) → size ≡ word b (at + place) → (new : List ℕ) → Became USED (place / 8) 1 starts new → Mapped new at h from (place + size) × (8 ≤ size)
+  pub hole : next ≡ place → (size : ℕ) → size ≡ word b (at + (place + 4)) → (new : List ℕ) → Became HOLES (place / 8) 1 starts new
+      → Mapped new at h place (place + size) × (8 ≤ size)
+  pub used : next ≢ place → (size : ℕ) → size ≡ word b (at + place) → (new : List ℕ) → Became USED (place / 8) 1 starts new
+      → Mapped new at h from (place + size) × (8 ≤ size)
 
 module _ (starts : List ℕ) (passed : List Segment) (place : ℕ) (at_place : place ≡ 16 + total size_of passed) (even : place % 8 ≡ 0)
     (used : (j : ℕ) → bit USED starts j ≡ used_at (8 * j) 16 passed) (holes : (j : ℕ) → bit HOLES starts j ≡ hole_at (8 * j) 16 passed) (new : List ℕ) where
-  more_used : (bs : List ℕ) → Became USED (place / 8) 1 starts new → (j : ℕ) → (bit USED new j ≡ used_at (8 * j) 16 (passed ++ Used bs ∷ [])) × (bit HOLES new j ≡ hole_at (8 * j) 16 (passed ++ Used bs ∷ []))
+  more_used : (bs : List ℕ) → Became USED (place / 8) 1 starts new → (j : ℕ)
+      → (bit USED new j ≡ used_at (8 * j) 16 (passed ++ Used bs ∷ [])) × (bit HOLES new j ≡ hole_at (8 * j) 16 (passed ++ Used bs ∷ []))
   more_used bs b j =
       let here = ap (once (8 * j)) at_place in (
         elim (cases_eq j (place / 8)) [
           | inl same ↦
               let p : 8 * j ≡ place = omega arith in
-              ap (bit USED new) same ∙ b.here ∙ omega (arith, used_at-append (8 * j) 16 passed (Used bs ∷ []), once_same (8 * j) place p, used_at-high (8 * j) 16 passed (omega arith))
+              ap (bit USED new) same ∙ b.here
+              ∙ omega (arith, used_at-append (8 * j) 16 passed (Used bs ∷ []), once_same (8 * j) place p, used_at-high (8 * j) 16 passed (omega arith))
           | inr apart ↦ omega (arith, b.same j apart, used j, used_at-append (8 * j) 16 passed (Used bs ∷ []), once_apart (8 * j) place (omega arith))
         ],
         omega (arith, b.other HOLES j (omega arith) (omega arith), holes j, hole_at-append (8 * j) 16 passed (Used bs ∷ [])),
       )
 
-  more_hole : (n : ℕ) → HasRoom passed → Became HOLES (place / 8) 1 starts new → (j : ℕ) → (bit USED new j ≡ used_at (8 * j) 16 (passed ++ Hole n ∷ [])) × (bit HOLES new j ≡ hole_at (8 * j) 16 (passed ++ Hole n ∷ []))
+  more_hole : (n : ℕ) → HasRoom passed → Became HOLES (place / 8) 1 starts new → (j : ℕ)
+      → (bit USED new j ≡ used_at (8 * j) 16 (passed ++ Hole n ∷ [])) × (bit HOLES new j ≡ hole_at (8 * j) 16 (passed ++ Hole n ∷ []))
   more_hole n room b j =
       let here = ap (once (8 * j)) at_place in (
         omega (arith, b.other USED j (omega arith) (omega arith), used j, used_at-append (8 * j) 16 passed (Hole n ∷ [])),
         elim (cases_eq j (place / 8)) [
           | inl same ↦
               let p : 8 * j ≡ place = omega arith in
-              ap (bit HOLES new) same ∙ b.here ∙ omega (arith, hole_at-append (8 * j) 16 passed (Hole n ∷ []), once_same (8 * j) place p, hole_at-high (8 * j) 16 passed room (omega arith))
+              ap (bit HOLES new) same ∙ b.here
+              ∙ omega (
+                arith,
+                hole_at-append (8 * j) 16 passed (Hole n ∷ []),
+                once_same (8 * j) place p,
+                hole_at-high (8 * j) 16 passed room (omega arith),
+              )
           | inr apart ↦ omega (arith, b.same j apart, holes j, hole_at-append (8 * j) 16 passed (Hole n ∷ []), once_apart (8 * j) place (omega arith))
         ],
       )
 
-map_turn_at : (b starts : List ℕ) (at : ℕ) (h : Heap) (from place next : ℕ) (m : Mapped starts at h from place) → HasRoom (m.reached.front ++ m.reached.gap) → place % 8 ≡ 0 → (rest : List Segment)
+map_turn_at : (b starts : List ℕ) (at : ℕ) (h : Heap) (from place next : ℕ) (m : Mapped starts at h from place) → HasRoom (m.reached.front ++ m.reached.gap)
+    → place % 8 ≡ 0 → (rest : List Segment)
     → NextSegment b at h from place next (m.reached.front ++ m.reached.gap) rest → MapTurn b starts at h from place next
 map_turn_at b starts at h from place next m room even [] x = elim x [ ]
 map_turn_at b starts at h from place next m room even (Used bs ∷ ys) (next_used _ _ off read fits least on cut) =
@@ -117,7 +130,8 @@ map_turn_at b starts at h from place next m room even (Hole n ∷ ys) (next_hole
           );
     }
 
-pub map_turn : (b starts : List ℕ) (at : ℕ) (h : Heap) (from place next : ℕ) → Spells b at h → Mapped starts at h from place → LinksTo b at (at + from) next → place < base h → MapTurn b starts at h from place next
+pub map_turn : (b starts : List ℕ) (at : ℕ) (h : Heap) (from place next : ℕ) → Spells b at h → Mapped starts at h from place → LinksTo b at (at + from) next
+    → place < base h → MapTurn b starts at h from place next
 map_turn b starts at h from place next s m k lt =
     let r = m.reached in
     let passed = r.front ++ r.gap in
@@ -128,7 +142,8 @@ map_turn b starts at h from place next s m k lt =
     (next_segment_at b at h m.link m.low from place next r r.rest refl s k lt)
 
 -- at the base all are passed
-pub mapped_all : (starts : List ℕ) (at : ℕ) (h : Heap) (from place : ℕ) → IsTidy false h.segments → Mapped starts at h from place → base h ≤ place → h.end ≤ 512 * (length starts / 2) → IsIndex starts h
+pub mapped_all : (starts : List ℕ) (at : ℕ) (h : Heap) (from place : ℕ) → IsTidy false h.segments → Mapped starts at h from place → base h ≤ place
+    → h.end ≤ 512 * (length starts / 2) → IsIndex starts h
 mapped_all starts at h from place t m le long =
     let r = m.reached in
     let passed = r.front ++ r.gap in

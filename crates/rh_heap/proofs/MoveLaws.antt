@@ -1,11 +1,14 @@
 -- A block that moves.
-use Rattle.std.proofs.Common.{◌≡◌, ℕ, zero, suc, ◌+◌, ◌-◌, ◌%◌, ◌<◌, ◌≤◌, ◌⊎◌, inl, inr, Bool, false, true, cond, eqb, List, [], ◌∷◌, ◌++◌, length, replicate, refl, sym, ap, subst, ◌∙◌, append_assoc, arith}
+use Rattle.std.proofs.Common.{◌≡◌, ℕ, zero, suc, ◌+◌, ◌-◌, ◌%◌, ◌<◌, ◌≤◌, ◌⊎◌, inl, inr, Bool, false, true, cond, eqb, List, [], ◌∷◌, ◌++◌, length, replicate}
+use Rattle.std.proofs.Common.{refl, sym, ap, subst, ◌∙◌, append_assoc, arith}
 use Rattle.std.specs.Prelude.{Option, Some, None, IfSome, Ok}
 use Rattle.std.specs.Option.{option_map}
 use Rattle.rh_defs.specs.Bytes.{word, part, SameOutside}
 use Rattle.rh_defs.specs.Pieces.{total, Split, first_at}
 use Rattle.rh_defs.specs.Pieces as pieces
-use Rattle.rh_defs.specs.Heap.{Segment, Used, Hole, Heap, Placed, IsTidy, size_of, bytes_of, base, place_after, with_hole, fitted, is_hole_for, hole_for, placed, placed_in, release, shortage_in, block_at, is_block_at, released_at, way_to, end_for, resized_by, segment_size, block_room, new_size, resize_need, resized, resize, resize_found, need_at, need_found}
+use Rattle.rh_defs.specs.Heap.{Segment, Used, Hole, Heap, Placed, IsTidy, size_of, bytes_of, base, place_after, with_hole, fitted, is_hole_for, hole_for}
+use Rattle.rh_defs.specs.Heap.{placed, placed_in, release, shortage_in, block_at, is_block_at, released_at, way_to, end_for, resized_by, segment_size}
+use Rattle.rh_defs.specs.Heap.{block_room, new_size, resize_need, resized, resize, resize_found, need_at, need_found}
 use Rattle.rh_defs.specs.Pieces.{zeros}
 use Rattle.rh_defs.specs.Heap as heap
 use Rattle.rh_defs.specs.HeapImage.{Stand, Spells}
@@ -38,8 +41,10 @@ BlockIn a p bytes (Hole n ∷ ss) = BlockIn a (p + n) bytes ss
 
 BlockIn-behind : (a p : ℕ) (bytes : List ℕ) (xs ys : List Segment) → BlockIn a (p + total size_of xs) bytes ys → BlockIn a p bytes (xs ++ ys)
 BlockIn-behind a p bytes [] ys k = subst (λ q. BlockIn a q bytes ys) (let e : p + 0 ≡ p = omega arith in e) k
-BlockIn-behind a p bytes (Used bs ∷ xs) ys k = inr (BlockIn-behind a (p + (4 + length bs)) bytes xs ys (subst (λ q. BlockIn a q bytes ys) (let e : p + (4 + length bs + total size_of xs) ≡ p + (4 + length bs) + total size_of xs = omega arith in e) k))
-BlockIn-behind a p bytes (Hole n ∷ xs) ys k = BlockIn-behind a (p + n) bytes xs ys (subst (λ q. BlockIn a q bytes ys) (let e : p + (n + total size_of xs) ≡ p + n + total size_of xs = omega arith in e) k)
+BlockIn-behind a p bytes (Used bs ∷ xs) ys k = inr (BlockIn-behind a (p + (4 + length bs)) bytes xs ys
+    (subst (λ q. BlockIn a q bytes ys) (let e : p + (4 + length bs + total size_of xs) ≡ p + (4 + length bs) + total size_of xs = omega arith in e) k))
+BlockIn-behind a p bytes (Hole n ∷ xs) ys k = BlockIn-behind a (p + n) bytes xs ys
+    (subst (λ q. BlockIn a q bytes ys) (let e : p + (n + total size_of xs) ≡ p + n + total size_of xs = omega arith in e) k)
 
 BlockIn-front : (a p : ℕ) (bytes : List ℕ) (xs ys : List Segment) → BlockIn a p bytes xs → BlockIn a p bytes (xs ++ ys)
 BlockIn-front a p bytes [] ys k = absurd k
@@ -54,15 +59,18 @@ BlockIn-rest a p (suc k) bytes [] b = absurd b
 BlockIn-rest a p (suc k) bytes (Hole m ∷ ys) b = subst (λ q. BlockIn a q bytes ys) (let e : p + suc k + m ≡ p + (suc k + m) = omega arith in e) b
 BlockIn-rest a p (suc k) bytes (Used bs ∷ ys) b = b
 
-BlockIn-filled : (a p n : ℕ) (bytes new : List ℕ) (xs ys : List Segment) → 4 + length new ≤ n → BlockIn a p bytes (xs ++ Hole n ∷ ys) → BlockIn a p bytes (xs ++ Used new ∷ with_hole (n - (4 + length new)) ys)
+BlockIn-filled : (a p n : ℕ) (bytes new : List ℕ) (xs ys : List Segment) → 4 + length new ≤ n → BlockIn a p bytes (xs ++ Hole n ∷ ys)
+    → BlockIn a p bytes (xs ++ Used new ∷ with_hole (n - (4 + length new)) ys)
 BlockIn-filled a p n bytes new [] ys l k =
-    inr (BlockIn-rest a (p + (4 + length new)) (n - (4 + length new)) bytes ys (subst (λ q. BlockIn a q bytes ys) (let e : p + n ≡ p + (4 + length new) + (n - (4 + length new)) = omega arith in e) k))
+    inr (BlockIn-rest a (p + (4 + length new)) (n - (4 + length new)) bytes ys
+    (subst (λ q. BlockIn a q bytes ys) (let e : p + n ≡ p + (4 + length new) + (n - (4 + length new)) = omega arith in e) k))
 BlockIn-filled a p n bytes new (Used bs ∷ xs) ys l (inl e) = inl e
 BlockIn-filled a p n bytes new (Used bs ∷ xs) ys l (inr k) = inr (BlockIn-filled a (p + (4 + length bs)) n bytes new xs ys l k)
 BlockIn-filled a p n bytes new (Hole m ∷ xs) ys l k = BlockIn-filled a (p + m) n bytes new xs ys l k
 
 -- a block's bytes where the list stands
-block_bytes : (b : List ℕ) (at f a p : ℕ) (bytes : List ℕ) (ss : List Segment) → Stand b f (at + p) ss → BlockIn a p bytes ss → part b (at + a) (length bytes) ≡ bytes
+block_bytes : (b : List ℕ) (at f a p : ℕ) (bytes : List ℕ) (ss : List Segment) → Stand b f (at + p) ss → BlockIn a p bytes ss
+    → part b (at + a) (length bytes) ≡ bytes
 block_bytes b at f a p bytes [] st k = absurd k
 block_bytes b at f a p bytes (Used bs ∷ ss) st (inl e) =
     let here : at + a ≡ at + p + 4 = (let q = e.0 in omega arith) in
@@ -74,14 +82,16 @@ block_bytes b at f a p bytes (Hole n ∷ ss) st k = block_bytes b at (at + p) a 
 pub record PlacedAt (h : Heap) (t : ℕ) : Type 0 where
   pub front : List Segment
   pub rest : List Segment
-  pub is : (bs : List ℕ) → t ≡ 4 + length bs → placed bs h ≡ record { heap = record { segments = front ++ Used bs ∷ rest; end = h.end }; address = 16 + total size_of front + 4 }
+  pub is : (bs : List ℕ) → t ≡ 4 + length bs
+      → placed bs h ≡ record { heap = record { segments = front ++ Used bs ∷ rest; end = h.end }; address = 16 + total size_of front + 4 }
   pub keeps : (a : ℕ) (bytes new : List ℕ) → t ≡ 4 + length new → BlockIn a 16 bytes h.segments → BlockIn a 16 bytes (front ++ Used new ∷ rest)
 
 hole_here : (t place : ℕ) (g : Segment) → is_hole_for t place g ≡ true → (g ≡ Hole (size_of g)) × (t ≤ size_of g)
 hole_here t place (Used bs) e = absurd cc
 hole_here t place (Hole n) e = (refl, le_from t n e)
 
-placed_at_of : (h : Heap) (t : ℕ) (o : Option (Split Segment)) → hole_for t h.segments ≡ o → IfSome o (IsCut size_of (is_hole_for t) 16 h.segments) → PlacedAt h t
+placed_at_of : (h : Heap) (t : ℕ) (o : Option (Split Segment)) → hole_for t h.segments ≡ o → IfSome o (IsCut size_of (is_hole_for t) 16 h.segments)
+    → PlacedAt h t
 placed_at_of h t None e c = record {
   front = h.segments;
   rest = [];
@@ -92,7 +102,11 @@ placed_at_of h t (Some s) e c = record {
   front = s.before;
   rest = with_hole (size_of s.here - t) s.after;
   is = λ bs et. ap (λ n. placed_in bs h (hole_for n h.segments)) (sym et) ∙ ap (placed_in bs h) e
-      ∙ ap (λ n. let p : Placed = record { heap = record { segments = s.before ++ Used bs ∷ with_hole (size_of s.here - n) s.after; end = h.end }; address = 16 + total size_of s.before + 4 } in p) (sym et);
+      ∙ ap (λ n. let p : Placed =
+      record {
+        heap = record { segments = s.before ++ Used bs ∷ with_hole (size_of s.here - n) s.after; end = h.end };
+        address = 16 + total size_of s.before + 4;
+      } in p) (sym et);
   keeps = λ a bytes new et k.
       let g = hole_here t (16 + total size_of s.before) s.here c.passes in
       let whole : h.segments ≡ s.before ++ Hole (size_of s.here) ∷ s.after = c.whole ∙ ap (λ x. s.before ++ x ∷ s.after) g.0 in
@@ -107,12 +121,14 @@ placed_at h t = placed_at_of h t (hole_for t h.segments) refl (first_at-cuts siz
 -- ---- a link as it stands
 a_link : (b : List ℕ) (at f : ℕ) → at < f → (n : ℕ) → word b f ≡ n → (x : ℕ) × LinksTo b at f x
 a_link b at f l zero e = (0, record { none = λ _. e; some = λ nz. absurd (nz refl); ahead = λ nz. absurd (nz refl) })
-a_link b at f l (suc n) e = (f + suc n - at, record { none = λ z. absurd (let q : f + suc n - at ≡ 0 = z in omega arith); some = λ nz. omega arith; ahead = λ nz. omega arith })
+a_link b at f l (suc n) e =
+    (f + suc n - at, record { none = λ z. absurd (let q : f + suc n - at ≡ 0 = z in omega arith); some = λ nz. omega arith; ahead = λ nz. omega arith })
 
 -- ---- other bytes in a block
-rewritten : (b c : List ℕ) (at end : ℕ) (xs ys : List Segment) (old new : List ℕ) → Spells b at (record { segments = xs ++ Used old ∷ ys; end = end }) → length new ≡ length old
-    → SameOutside b c (at + (16 + total size_of xs + 4)) (at + (16 + total size_of xs + 4) + length new) → part c (at + (16 + total size_of xs + 4)) (length new) ≡ new
-    → Spells c at (record { segments = xs ++ Used new ∷ ys; end = end })
+rewritten : (b c : List ℕ) (at end : ℕ) (xs ys : List Segment) (old new : List ℕ) → Spells b at (record { segments = xs ++ Used old ∷ ys; end = end })
+    → length new ≡ length old
+    → SameOutside b c (at + (16 + total size_of xs + 4)) (at + (16 + total size_of xs + 4) + length new)
+    → part c (at + (16 + total size_of xs + 4)) (length new) ≡ new → Spells c at (record { segments = xs ++ Used new ∷ ys; end = end })
 rewritten b c at end xs ys old new s len o block =
     let h : Heap = record { segments = xs ++ Used old ∷ ys; end = end } in
     let q = last_link (at + 4) (at + 16) xs in
@@ -159,10 +175,12 @@ module _ (b : List ℕ) (at : ℕ) (h : Heap) (spot : Spot) (s : Spells b at h) 
   pub new_address : (address : ℕ) → address ≡ (placed (zeros (t - 4)) h).address → address ≡ 16 + total size_of p.front + 4
   new_address address e = e ∙ ap (λ (q : Placed). q.address) (p.is (zeros (t - 4)) zeros_are)
 
-  pub new_spells : (c : List ℕ) → Spells c at (placed (zeros (t - 4)) h).heap → Spells c at (record { segments = p.front ++ Used (zeros (t - 4)) ∷ p.rest; end = h.end })
+  pub new_spells : (c : List ℕ) → Spells c at (placed (zeros (t - 4)) h).heap
+      → Spells c at (record { segments = p.front ++ Used (zeros (t - 4)) ∷ p.rest; end = h.end })
   new_spells c k = subst (λ (q : Placed). Spells c at q.heap) (p.is (zeros (t - 4)) zeros_are) k
 
-  pub new_inside : (c : List ℕ) (address : ℕ) → Spells c at (placed (zeros (t - 4)) h).heap → address ≡ (placed (zeros (t - 4)) h).address → address + (t - 4) ≤ h.end
+  pub new_inside : (c : List ℕ) (address : ℕ) → Spells c at (placed (zeros (t - 4)) h).heap → address ≡ (placed (zeros (t - 4)) h).address
+      → address + (t - 4) ≤ h.end
   new_inside c address k e =
       let w = new_spells c k in
       let fits = w.heap.fits in
@@ -181,7 +199,8 @@ module _ (b : List ℕ) (at : ℕ) (h : Heap) (spot : Spot) (s : Spells b at h) 
       let w = new_spells c k in
       let z = f.size_is in
       ap (part c (at + (spot.place + 4))) (let e : spot.size - 4 ≡ length f.bytes = omega arith in e)
-      ∙ block_bytes c at (at + 4) (spot.place + 4) 16 f.bytes (p.front ++ Used (zeros (t - 4)) ∷ p.rest) w.stand (p.keeps (spot.place + 4) f.bytes (zeros (t - 4)) zeros_are old_in)
+      ∙ block_bytes c at (at + 4) (spot.place + 4) 16 f.bytes (p.front ++ Used (zeros (t - 4)) ∷ p.rest) w.stand
+      (p.keeps (spot.place + 4) f.bytes (zeros (t - 4)) zeros_are old_in)
 
   pub moved_spells : (c d : List ℕ) (address : ℕ) → Spells c at (placed (zeros (t - 4)) h).heap → address ≡ (placed (zeros (t - 4)) h).address
       → part d (at + address) (spot.size - 4) ≡ part c (at + (spot.place + 4)) (spot.size - 4) → SameOutside c d (at + address) (at + address + (spot.size - 4))
@@ -202,16 +221,20 @@ module _ (b : List ℕ) (at : ℕ) (h : Heap) (spot : Spot) (s : Spells b at h) 
       let zs' : part c place (t - 4) ≡ zeros (t - 4) = ap (part c place) (let q : t - 4 ≡ length (zeros (t - 4)) = omega arith in q) ∙ zs in
       let high : part d (place + m) (t - spot.size) ≡ replicate (t - spot.size) 0 =
       part_above o (place + m) (t - spot.size) (omega arith)
-      ∙ sym (part-part c place (t - 4) m (t - spot.size) (omega arith)) ∙ ap (λ l. part l m (t - spot.size)) zs' ∙ part-zeros (t - 4) m (t - spot.size) (omega arith) in
+      ∙ sym (part-part c place (t - 4) m (t - spot.size) (omega arith)) ∙ ap (λ l. part l m (t - spot.size)) zs'
+      ∙ part-zeros (t - 4) m (t - spot.size) (omega arith) in
       let whole : part d place (length now) ≡ now =
       ap (part d place) (let q : length now ≡ m + (t - spot.size) = omega arith in q) ∙ part_more d place m (t - spot.size)
       ∙ ap (λ l. l ++ part d (place + m) (t - spot.size)) low ∙ ap (λ l. f.bytes ++ l) high
-      ∙ ap (λ i. f.bytes ++ replicate i 0) (let q : t - spot.size ≡ t - 4 - length f.bytes = omega arith in q) ∙ sym (fitted_long (t - 4) f.bytes (omega arith)) in
-      let wide : SameOutside c d place (place + length now) = record { len = o.len; below = λ i l. o.below i (omega arith); above = λ i l. o.above i (omega arith) } in
+      ∙ ap (λ i. f.bytes ++ replicate i 0) (let q : t - spot.size ≡ t - 4 - length f.bytes = omega arith in q)
+      ∙ sym (fitted_long (t - 4) f.bytes (omega arith)) in
+      let wide : SameOutside c d place (place + length now) =
+      record { len = o.len; below = λ i l. o.below i (omega arith); above = λ i l. o.above i (omega arith) } in
       subst (λ (q : Placed). Spells d at q.heap) (sym (p.is now now_is)) (rewritten c d at h.end p.front p.rest (zeros (t - 4)) now w (omega arith) wide whole)
 
   still_there : BlockIn (spot.place + 4) 16 f.bytes (placed now h).heap.segments
-  still_there = subst (λ (q : Placed). BlockIn (spot.place + 4) 16 f.bytes q.heap.segments) (sym (p.is now now_is)) (p.keeps (spot.place + 4) f.bytes now now_is old_in)
+  still_there = subst (λ (q : Placed). BlockIn (spot.place + 4) 16 f.bytes q.heap.segments) (sym (p.is now now_is))
+      (p.keeps (spot.place + 4) f.bytes now now_is old_in)
 
   pub placed_end : (placed now h).heap.end ≡ h.end
   placed_end = ap (λ (q : Placed). q.heap.end) (p.is now now_is)
@@ -220,7 +243,8 @@ module _ (b : List ℕ) (at : ℕ) (h : Heap) (spot : Spot) (s : Spells b at h) 
   same_address = ap (λ (q : Placed). q.address) (p.is now now_is) ∙ sym (ap (λ (q : Placed). q.address) (p.is (zeros (t - 4)) zeros_are))
 
 -- ---- the span
-pub moved_done : (m m2 n : Memory) (span : Span) (spot : Spot) (t address : ℕ) → Spells (bytes_in m span) span.at (heap_in m span) → (f : FoundBlock span.at (heap_in m span) (spot.place + 4) spot) → spot.size < t
+pub moved_done : (m m2 n : Memory) (span : Span) (spot : Spot) (t address : ℕ) → Spells (bytes_in m span) span.at (heap_in m span)
+    → (f : FoundBlock span.at (heap_in m span) (spot.place + 4) spot) → spot.size < t
     → shortage_in t (heap_in m span) (hole_for t (heap_in m span).segments) ≡ 0 → address ≡ (placed (zeros (t - 4)) (heap_in m span)).address
     → SpellsIn m2 span (placed (fitted (t - 4) f.bytes) (heap_in m span)).heap → SpellsIn n span (release (spot.place + 4) (heap_in m2 span))
     → WithBlock spot (heap_in m span) (Moved m n span t address (spot.place + 4))
@@ -228,10 +252,12 @@ moved_done m m2 n span spot t address s f longer room e k r =
     at_cut span.at (heap_in m span) spot f (Moved m n span t address (spot.place + 4)) (record {
       room = room;
       address_is = e ∙ sym (same_address (bytes_in m span) span.at (heap_in m span) spot s f t longer);
-      spells = subst (λ (h : Heap). SpellsIn n span (release (spot.place + 4) h)) (heap_of-Spells (bytes_in m2 span) span.at (placed (fitted (t - 4) f.bytes) (heap_in m span)).heap k) r;
+      spells = subst (λ (h : Heap). SpellsIn n span (release (spot.place + 4) h))
+          (heap_of-Spells (bytes_in m2 span) span.at (placed (fitted (t - 4) f.bytes) (heap_in m span)).heap k) r;
     })
 
-pub moved_end : (m m2 : Memory) (span : Span) (spot : Spot) (t : ℕ) → Spells (bytes_in m span) span.at (heap_in m span) → (f : FoundBlock span.at (heap_in m span) (spot.place + 4) spot) → spot.size < t
+pub moved_end : (m m2 : Memory) (span : Span) (spot : Spot) (t : ℕ) → Spells (bytes_in m span) span.at (heap_in m span)
+    → (f : FoundBlock span.at (heap_in m span) (spot.place + 4) spot) → spot.size < t
     → SpellsIn m2 span (placed (fitted (t - 4) f.bytes) (heap_in m span)).heap → (heap_in m2 span).end ≡ (heap_in m span).end
 moved_end m m2 span spot t s f longer k =
     ap (λ (h : Heap). h.end) (heap_of-Spells (bytes_in m2 span) span.at (placed (fitted (t - 4) f.bytes) (heap_in m span)).heap k)
@@ -260,13 +286,16 @@ released_there a h f = go (block_at a h) refl
     go (Some s) e = released_at-some a h s e
 
 -- the old block is still there, so its release is done
-pub moved_released : (m m2 : Memory) (span : Span) (spot : Spot) (t : ℕ) → Spells (bytes_in m span) span.at (heap_in m span) → (f : FoundBlock span.at (heap_in m span) (spot.place + 4) spot) → spot.size < t
-    → SpellsIn m2 span (placed (fitted (t - 4) f.bytes) (heap_in m span)).heap → released_at (spot.place + 4) (heap_in m2 span) ≡ Ok (release (spot.place + 4) (heap_in m2 span))
+pub moved_released : (m m2 : Memory) (span : Span) (spot : Spot) (t : ℕ) → Spells (bytes_in m span) span.at (heap_in m span)
+    → (f : FoundBlock span.at (heap_in m span) (spot.place + 4) spot) → spot.size < t
+    → SpellsIn m2 span (placed (fitted (t - 4) f.bytes) (heap_in m span)).heap
+    → released_at (spot.place + 4) (heap_in m2 span) ≡ Ok (release (spot.place + 4) (heap_in m2 span))
 moved_released m m2 span spot t s f longer k =
     let a = spot.place + 4 in
     let same = heap_of-Spells (bytes_in m2 span) span.at (placed (fitted (t - 4) f.bytes) (heap_in m span)).heap k in
     let there = still_there (bytes_in m span) span.at (heap_in m span) spot s f t longer in
-    released_there a (heap_in m2 span) (not_missed a 16 f.bytes (heap_in m2 span).segments (subst (λ (h : Heap). BlockIn a 16 f.bytes h.segments) (sym same) there))
+    released_there a (heap_in m2 span) (not_missed a 16 f.bytes (heap_in m2 span).segments
+    (subst (λ (h : Heap). BlockIn a 16 f.bytes h.segments) (sym same) there))
 
 -- ---- what a change answers
 -- which way a move is
@@ -321,18 +350,22 @@ module _ (at : ℕ) (h : Heap) (spot : Spot) (f : FoundBlock at h (spot.place + 
 
   -- by how much the heap is too short, by the way
   pub short_stays : WithBlock spot h (λ q. WayIs (way_to t q h) way.Stays) → short_by t here h ≡ 0
-  short_stays w = ap (λ (v : heap.Way). end_for v t here h - h.end) (same_way (way_to t here h) (from_cut at h spot f (λ q. WayIs (way_to t q h) way.Stays) w)) ∙ omega arith
+  short_stays w = ap (λ (v : heap.Way). end_for v t here h - h.end) (same_way (way_to t here h)
+      (from_cut at h spot f (λ q. WayIs (way_to t q h) way.Stays) w)) ∙ omega arith
 
   pub short_shrinks : WithBlock spot h (λ q. WayIs (way_to t q h) way.Shrinks) → short_by t here h ≡ 0
-  short_shrinks w = ap (λ (v : heap.Way). end_for v t here h - h.end) (same_shrink (way_to t here h) (from_cut at h spot f (λ q. WayIs (way_to t q h) way.Shrinks) w)) ∙ omega arith
+  short_shrinks w = ap (λ (v : heap.Way). end_for v t here h - h.end) (same_shrink (way_to t here h)
+      (from_cut at h spot f (λ q. WayIs (way_to t q h) way.Shrinks) w)) ∙ omega arith
 
   pub short_into : (n : ℕ) → WithBlock spot h (λ q. WayIs (way_to t q h) (way.IntoHole n)) → short_by t here h ≡ 0
-  short_into n w = ap (λ (v : heap.Way). end_for v t here h - h.end) (same_into n (way_to t here h) (from_cut at h spot f (λ q. WayIs (way_to t q h) (way.IntoHole n)) w)).1 ∙ omega arith
+  short_into n w = ap (λ (v : heap.Way). end_for v t here h - h.end) (same_into n (way_to t here h)
+      (from_cut at h spot f (λ q. WayIs (way_to t q h) (way.IntoHole n)) w)).1 ∙ omega arith
 
   pub short_top : WithBlock spot h (λ q. WayIs (way_to t q h) way.AtTop) → short_by t here h ≡ spot.place + t - h.end
   short_top w =
       let p = f.reached.place_is in
-      ap (λ (v : heap.Way). end_for v t here h - h.end) (same_top (way_to t here h) (from_cut at h spot f (λ q. WayIs (way_to t q h) way.AtTop) w)) ∙ ap (λ n. n + t - h.end) (sym p)
+      ap (λ (v : heap.Way). end_for v t here h - h.end) (same_top (way_to t here h) (from_cut at h spot f (λ q. WayIs (way_to t q h) way.AtTop) w))
+      ∙ ap (λ n. n + t - h.end) (sym p)
 
   moves : WithBlock spot h (λ q. WayIs (way_to t q h) way.Moves) → MovesBy t h (way_to t here h) × (size_of here.here < t)
   moves w = moves_by t (4 + length f.bytes) f.after h (way_to t here h) (way_facts t here h) (from_cut at h spot f (λ q. WayIs (way_to t q h) way.Moves) w)
@@ -355,17 +388,21 @@ module _ (at : ℕ) (h : Heap) (spot : Spot) (f : FoundBlock at h (spot.place + 
   there = placed (fitted (t - 4) f.bytes) h
 
   resized_moves_of : (v : heap.Way) → t ≡ 4 + length (fitted (t - 4) f.bytes) → MovesBy t h v
-      → resized_by v (fitted (t - 4) f.bytes) here h ≡ record { heap = release (place_after (f.reached.front ++ f.reached.gap) + 4) there.heap; address = there.address }
-  resized_moves_of (heap.MovesToHole hole) et (by_hole _ e) = ap (λ (p : Placed). let r : Placed = record { heap = release (place_after (f.reached.front ++ f.reached.gap) + 4) p.heap; address = p.address } in r)
+      → resized_by v (fitted
+      (t - 4) f.bytes) here h ≡ record { heap = release (place_after (f.reached.front ++ f.reached.gap) + 4) there.heap; address = there.address }
+  resized_moves_of (heap.MovesToHole hole) et (by_hole _ e) =
+      ap (λ (p : Placed). let r : Placed = record { heap = release (place_after (f.reached.front ++ f.reached.gap) + 4) p.heap; address = p.address } in r)
       (sym (ap (λ n. placed_in (fitted (t - 4) f.bytes) h (hole_for n h.segments)) (sym et) ∙ ap (placed_in (fitted (t - 4) f.bytes) h) e))
-  resized_moves_of heap.MovesToTop et (by_top e) = ap (λ (p : Placed). let r : Placed = record { heap = release (place_after (f.reached.front ++ f.reached.gap) + 4) p.heap; address = p.address } in r)
+  resized_moves_of heap.MovesToTop et (by_top e) =
+      ap (λ (p : Placed). let r : Placed = record { heap = release (place_after (f.reached.front ++ f.reached.gap) + 4) p.heap; address = p.address } in r)
       (sym (ap (λ n. placed_in (fitted (t - 4) f.bytes) h (hole_for n h.segments)) (sym et) ∙ ap (placed_in (fitted (t - 4) f.bytes) h) e))
   resized_moves_of heap.Stays et k = elim k [ ]
   resized_moves_of heap.Shrinks et k = elim k [ ]
   resized_moves_of (heap.GrowsIntoHole n rest) et k = elim k [ ]
   resized_moves_of heap.GrowsAtTop et k = elim k [ ]
 
-  pub resized_moves : WithBlock spot h (λ q. WayIs (way_to t q h) way.Moves) → resized_in t here h ≡ record { heap = release (spot.place + 4) there.heap; address = there.address }
+  pub resized_moves : WithBlock spot h (λ q. WayIs (way_to t q h) way.Moves)
+      → resized_in t here h ≡ record { heap = release (spot.place + 4) there.heap; address = there.address }
   resized_moves w =
       let l = f.least in
       let g = moves_longer w in
@@ -376,13 +413,17 @@ module _ (at : ℕ) (h : Heap) (spot : Spot) (f : FoundBlock at h (spot.place + 
 
   -- the address where the block stays
   pub address_stays : (v : heap.Way) → WayIs v way.Stays → spot.place + 4 ≡ (resized_by v (fitted (t - 4) f.bytes) here h).address
-  address_stays v k = let p = f.reached.place_is in ap (λ n. n + 4) p ∙ sym (ap (λ (u : heap.Way). (resized_by u (fitted (t - 4) f.bytes) here h).address) (same_way v k))
+  address_stays v k =
+      let p = f.reached.place_is in ap (λ n. n + 4) p ∙ sym (ap (λ (u : heap.Way). (resized_by u (fitted (t - 4) f.bytes) here h).address) (same_way v k))
 
   pub address_shrinks : (v : heap.Way) → WayIs v way.Shrinks → spot.place + 4 ≡ (resized_by v (fitted (t - 4) f.bytes) here h).address
-  address_shrinks v k = let p = f.reached.place_is in ap (λ n. n + 4) p ∙ sym (ap (λ (u : heap.Way). (resized_by u (fitted (t - 4) f.bytes) here h).address) (same_shrink v k))
+  address_shrinks v k = let p =
+      f.reached.place_is in ap (λ n. n + 4) p ∙ sym (ap (λ (u : heap.Way). (resized_by u (fitted (t - 4) f.bytes) here h).address) (same_shrink v k))
 
   pub address_into : (n : ℕ) (v : heap.Way) → WayIs v (way.IntoHole n) → spot.place + 4 ≡ (resized_by v (fitted (t - 4) f.bytes) here h).address
-  address_into n v k = let p = f.reached.place_is in ap (λ n. n + 4) p ∙ sym (ap (λ (u : heap.Way). (resized_by u (fitted (t - 4) f.bytes) here h).address) (same_into n v k).1)
+  address_into n v k = let p =
+      f.reached.place_is in ap (λ n. n + 4) p ∙ sym (ap (λ (u : heap.Way). (resized_by u (fitted (t - 4) f.bytes) here h).address) (same_into n v k).1)
 
   pub address_top : (v : heap.Way) → WayIs v way.AtTop → spot.place + 4 ≡ (resized_by v (fitted (t - 4) f.bytes) here h).address
-  address_top v k = let p = f.reached.place_is in ap (λ n. n + 4) p ∙ sym (ap (λ (u : heap.Way). (resized_by u (fitted (t - 4) f.bytes) here h).address) (same_top v k))
+  address_top v k =
+      let p = f.reached.place_is in ap (λ n. n + 4) p ∙ sym (ap (λ (u : heap.Way). (resized_by u (fitted (t - 4) f.bytes) here h).address) (same_top v k))

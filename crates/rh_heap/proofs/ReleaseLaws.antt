@@ -16,21 +16,23 @@ use Rattle.rh_defs.specs.HeapParts.{last_link, LinksTo}
 abbrev pub release_stretch : Spot → ℕ → Stretch
 release_stretch spot next = record { link = spot.link; low = spot.low; next = next; upper = spot.place + spot.size }
 
-gap_last : (at low place link from : ℕ) (gap : List Segment) (bs : List ℕ) → GapIs low place link from gap → last_link (at + link) (at + low) (gap ++ Used bs ∷ []) ≡ at + from
+gap_last : (at low place link from : ℕ) (gap : List Segment) (bs : List ℕ) → GapIs low place link from gap
+    → last_link (at + link) (at + low) (gap ++ Used bs ∷ []) ≡ at + from
 gap_last at low place link from [] bs (no_gap e f) = omega arith
 gap_last at low place link from (Hole n ∷ []) bs (a_gap _ e f) = omega arith
 gap_last at low place link from (Used cs ∷ ss) bs k = elim k [ ]
 gap_last at low place link from (Hole n ∷ x ∷ ss) bs k = elim k [ ]
 
-pub release_between : (b : List ℕ) (at : ℕ) (h : Heap) (address : ℕ) (spot : Spot) (next : ℕ) → Spells b at h → (f : FoundBlock at h address spot) → LinksTo b at (at + spot.from) next
-    → StretchBetween b at h.end f.reached.front f.after (release_stretch spot next)
+pub release_between : (b : List ℕ) (at : ℕ) (h : Heap) (address : ℕ) (spot : Spot) (next : ℕ) → Spells b at h → (f : FoundBlock at h address spot)
+    → LinksTo b at (at + spot.from) next → StretchBetween b at h.end f.reached.front f.after (release_stretch spot next)
 release_between b at h address spot next s f k =
     let r = f.reached in
     let bs = f.bytes in
     let passed = r.front ++ r.gap in
     let is : h.segments ≡ passed ++ Used bs ∷ f.after = r.is ∙ ap (λ l. passed ++ l) f.rest_is in
     let mid = r.gap ++ Used bs ∷ [] in
-    let is' : h.segments ≡ r.front ++ (mid ++ f.after) = is ∙ append_assoc r.front r.gap (Used bs ∷ f.after) ∙ ap (λ l. r.front ++ l) (sym (append_assoc r.gap (Used bs ∷ []) f.after)) in
+    let is' : h.segments ≡ r.front ++ (mid ++ f.after) =
+    is ∙ append_assoc r.front r.gap (Used bs ∷ f.after) ∙ ap (λ l. r.front ++ l) (sym (append_assoc r.gap (Used bs ∷ []) f.after)) in
     let tidy = subst (IsTidy false) is s.heap.tidy in
     let behind = tidy_behind_used false passed bs f.after tidy in
     let low = r.low_is in
@@ -52,10 +54,13 @@ release_between b at h address spot next s f k =
       tidy_behind = behind.1;
     }
 
-pub release_is_stretch : (b : List ℕ) (at : ℕ) (h : Heap) (address : ℕ) (spot : Spot) (next : ℕ) → Spells b at h → FoundBlock at h address spot → LinksTo b at (at + spot.from) next → IsStretch b at (release_stretch spot next)
-release_is_stretch b at h address spot next s f k = is_stretch b at h.end f.reached.front f.after (release_stretch spot next) (release_between b at h address spot next s f k)
+pub release_is_stretch : (b : List ℕ) (at : ℕ) (h : Heap) (address : ℕ) (spot : Spot) (next : ℕ) → Spells b at h → FoundBlock at h address spot
+    → LinksTo b at (at + spot.from) next → IsStretch b at (release_stretch spot next)
+release_is_stretch b at h address spot next s f k =
+    is_stretch b at h.end f.reached.front f.after (release_stretch spot next) (release_between b at h address spot next s f k)
 
-joined_gap : (low place link from size : ℕ) (gap after : List Segment) → GapIs low place link from gap → IsTidy false after → 0 < size → joined (gap ++ Hole size ∷ after) ≡ with_hole (place + size - low) after
+joined_gap : (low place link from size : ℕ) (gap after : List Segment) → GapIs low place link from gap → IsTidy false after → 0 < size
+    → joined (gap ++ Hole size ∷ after) ≡ with_hole (place + size - low) after
 joined_gap low place link from size [] after (no_gap e f) t h = ap (with_hole size) (joined-tidy false after t) ∙ ap (λ n. with_hole n after) (omega arith)
 joined_gap low place link from size (Hole n ∷ []) after (a_gap _ e f) t h =
     ap (λ l. with_hole n (with_hole size l)) (joined-tidy false after t) ∙ with_hole-with_hole n size after h ∙ ap (λ i. with_hole i after) (omega arith)
@@ -77,7 +82,8 @@ released_is at h address spot t f =
     ∙ ap (λ l. r.front ++ l) (joined_gap spot.low spot.place spot.link spot.from (4 + length bs) r.gap f.after r.gap_is behind.1 (omega arith)
     ∙ ap (λ n. with_hole (spot.place + n - spot.low) f.after) (sym f.size_is)))
 
-pub release_spells : (b c : List ℕ) (at : ℕ) (h : Heap) (address : ℕ) (spot : Spot) (next : ℕ) → Spells b at h → FoundBlock at h address spot → LinksTo b at (at + spot.from) next
-    → Settles b c at (release_stretch spot next) → Spells c at (release address h)
+pub release_spells : (b c : List ℕ) (at : ℕ) (h : Heap) (address : ℕ) (spot : Spot) (next : ℕ) → Spells b at h → FoundBlock at h address spot
+    → LinksTo b at (at + spot.from) next → Settles b c at (release_stretch spot next) → Spells c at (release address h)
 release_spells b c at h address spot next s f k settles =
-    subst (Spells c at) (sym (released_is at h address spot s.heap.tidy f)) (settles h.end f.reached.front f.after (release_between b at h address spot next s f k))
+    subst (Spells c at) (sym (released_is at h address spot s.heap.tidy f))
+    (settles h.end f.reached.front f.after (release_between b at h address spot next s f k))

@@ -10,8 +10,8 @@ use Rattle.rh_heap.specs.Image.{listed}
 use Rattle.rh_defs.specs.HeapParts.{HasRoom, IsRest, rest_in}
 
 -- segments that stand there are those that are left
-pub is_rest : (b : List ℕ) (base from place : ℕ) (ss : List Segment) → Stand b from place ss → HasRoom ss → place + total size_of ss ≡ base → base ≤ length b → from + 4 ≤ place
-    → IsRest b base from place × (rest_in b base from place ≡ ss)
+pub is_rest : (b : List ℕ) (base from place : ℕ) (ss : List Segment) → Stand b from place ss → HasRoom ss → place + total size_of ss ≡ base → base ≤ length b
+    → from + 4 ≤ place → IsRest b base from place × (rest_in b base from place ≡ ss)
 is_rest b base from place ss h r e w a =
     let same : rest_in b base from place ≡ ss = segments_in-Stand (length b) b from place (base - place) ss (omega arith) r (omega arith) (omega arith) h in (
       record {
@@ -28,14 +28,17 @@ is_rest b base from place ss h r e w a =
 pub data FirstIs (b : List ℕ) (base from place : ℕ) : Type 0 where
   no_more : place ≡ base → rest_in b base from place ≡ [] → FirstIs b base from place
   a_used : (bs : List ℕ) → place ≢ base → from + word b from ≢ place → word b place ≡ 4 + length bs → place + (4 + length bs) ≤ base
-      → IsRest b base from (place + (4 + length bs)) → rest_in b base from place ≡ Used bs ∷ rest_in b base from (place + (4 + length bs)) → FirstIs b base from place
+      → IsRest b base from (place + (4 + length bs)) → rest_in b base from place ≡ Used bs ∷ rest_in b base from (place + (4 + length bs))
+      → FirstIs b base from place
   a_hole : (n : ℕ) → place ≢ base → from + word b from ≡ place → word b (place + 4) ≡ n → place + 8 ≤ base → place + n ≤ base
       → IsRest b base place (place + n) → rest_in b base from place ≡ Hole n ∷ rest_in b base place (place + n) → FirstIs b base from place
 
-first_is_of : (b : List ℕ) (base from place : ℕ) (ss : List Segment) → rest_in b base from place ≡ ss → Stand b from place ss → HasRoom ss → place + total size_of ss ≡ base → base ≤ length b → from + 4 ≤ place → FirstIs b base from place
+first_is_of : (b : List ℕ) (base from place : ℕ) (ss : List Segment) → rest_in b base from place ≡ ss → Stand b from place ss → HasRoom ss
+    → place + total size_of ss ≡ base → base ≤ length b → from + 4 ≤ place → FirstIs b base from place
 first_is_of b base from place [] is h r e w a = no_more (omega arith) is
 first_is_of b base from place (Used bs ∷ ss) is h r e w a =
-    let off : from + word b from ≢ place = elim (link_ahead b from (place + (4 + length bs)) ss (omega arith) h.2) [ inl z ↦ omega arith | inr l ↦ omega arith ] in
+    let off : from + word b from ≢ place =
+    elim (link_ahead b from (place + (4 + length bs)) ss (omega arith) h.2) [ inl z ↦ omega arith | inr l ↦ omega arith ] in
     let next = is_rest b base from (place + (4 + length bs)) ss h.2 r (omega arith) w (omega arith) in
     a_used bs (omega arith) off h.0 (omega arith) next.0 (is ∙ ap (λ l. Used bs ∷ l) (sym next.1))
 first_is_of b base from place (Hole n ∷ ss) is h r e w a =
@@ -67,13 +70,15 @@ given_end b base from place r e = elim (first_is b base from place r) [
 pub record Gives (b : List ℕ) (base from place from' size : ℕ) (used : Bool) : Type 0 where
   pub fits : place + size ≤ base
   pub rest : IsRest b base from' (place + size)
-  pub gives : listed place (rest_in b base from place) ≡ record { place = place; size = size; used = used } ∷ listed (place + size) (rest_in b base from' (place + size))
+  pub gives : listed place (rest_in b base from place) ≡ record { place = place; size = size; used = used } ∷ listed (place + size)
+      (rest_in b base from' (place + size))
 
 pub record HoleTurn (b : List ℕ) (base from place : ℕ) : Type 0 where
   pub room : place + 8 ≤ length b
   pub given : (size : ℕ) → size ≡ word b (place + 4) → Gives b base from place place size false
 
-pub hole_turn : (b : List ℕ) (base from place link : ℕ) → IsRest b base from place → place ≢ base → link ≡ word b from → from + link ≡ place → HoleTurn b base from place
+pub hole_turn : (b : List ℕ) (base from place link : ℕ) → IsRest b base from place → place ≢ base → link ≡ word b from → from + link ≡ place
+    → HoleTurn b base from place
 hole_turn b base from place link r ne e here = elim (first_is b base from place r) [
   | no_more at none ↦ absurd (ne at)
   | a_used bs _ off _ _ _ _ ↦ absurd (off (omega arith))
@@ -81,7 +86,8 @@ hole_turn b base from place link r ne e here = elim (first_is b base from place 
       let w = r.within in
       record {
         room = omega arith;
-        given = λ size es. subst (λ i. Gives b base from place place i false) (sym (es ∙ read)) (record { fits = fits; rest = rest; gives = ap (listed place) is });
+        given = λ size es. subst (λ i. Gives b base from place place i false) (sym (es ∙ read))
+            (record { fits = fits; rest = rest; gives = ap (listed place) is });
       }
 ]
 
@@ -89,7 +95,8 @@ pub record UsedTurn (b : List ℕ) (base from place : ℕ) : Type 0 where
   pub room : place + 4 ≤ length b
   pub given : (size : ℕ) → size ≡ word b place → Gives b base from place from size true
 
-pub used_turn : (b : List ℕ) (base from place link : ℕ) → IsRest b base from place → place ≢ base → link ≡ word b from → from + link ≢ place → UsedTurn b base from place
+pub used_turn : (b : List ℕ) (base from place link : ℕ) → IsRest b base from place → place ≢ base → link ≡ word b from → from + link ≢ place
+    → UsedTurn b base from place
 used_turn b base from place link r ne e off = elim (first_is b base from place r) [
   | no_more at none ↦ absurd (ne at)
   | a_hole n _ here _ _ _ _ _ ↦ absurd (off (omega arith))
@@ -97,6 +104,7 @@ used_turn b base from place link r ne e off = elim (first_is b base from place r
       let w = r.within in
       record {
         room = omega arith;
-        given = λ size es. subst (λ i. Gives b base from place from i true) (sym (es ∙ read)) (record { fits = room; rest = rest; gives = ap (listed place) is });
+        given = λ size es. subst (λ i. Gives b base from place from i true) (sym (es ∙ read))
+            (record { fits = room; rest = rest; gives = ap (listed place) is });
       }
 ]

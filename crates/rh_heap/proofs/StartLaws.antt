@@ -1,5 +1,6 @@
 -- Where segments begin: in a list that is cut, and what a place tells of the segments before it.
-use Rattle.std.proofs.Common.{◌≡◌, ◌≢◌, ℕ, zero, suc, ◌+◌, ◌-◌, ◌*◌, ◌/◌, ◌%◌, ◌<◌, ◌≤◌, inl, inr, Bool, true, false, List, [], ◌∷◌, ◌++◌, length, refl, ap, subst, eqb, arith}
+use Rattle.std.proofs.Common.{◌≡◌, ◌≢◌, ℕ, zero, suc, ◌+◌, ◌-◌, ◌*◌, ◌/◌, ◌%◌, ◌<◌, ◌≤◌, inl, inr, Bool, true, false, List, [], ◌∷◌, ◌++◌, length, refl, ap}
+use Rattle.std.proofs.Common.{subst, eqb, arith}
 use Rattle.std.proofs.lemmas.Bool.{cases_eq, cases_lt}
 use Rattle.rh_defs.specs.Pieces.{total, NonePass}
 use Rattle.rh_defs.specs.Heap.{Segment, Used, Hole, IsTidy, size_of, is_block_at, with_hole}
@@ -18,13 +19,33 @@ once_apart p q ne = cond_false (eqb p q) 1 0 (eqb_apart p q ne)
 -- ---- lists that are cut
 pub used_at-append : (p q : ℕ) (xs ys : List Segment) → used_at p q (xs ++ ys) ≡ used_at p q xs + used_at p (q + total size_of xs) ys
 used_at-append p q [] ys = omega (arith, ap (λ i. used_at p i ys) (let e : q + 0 ≡ q = omega arith in e))
-used_at-append p q (Used bs ∷ xs) ys = omega (arith, used_at-append p (q + (4 + length bs)) xs ys, ap (λ i. used_at p i ys) (let e : q + (4 + length bs) + total size_of xs ≡ q + (4 + length bs + total size_of xs) = omega arith in e))
-used_at-append p q (Hole n ∷ xs) ys = omega (arith, used_at-append p (q + n) xs ys, ap (λ i. used_at p i ys) (let e : q + n + total size_of xs ≡ q + (n + total size_of xs) = omega arith in e))
+used_at-append p q (Used bs ∷ xs) ys =
+    omega (
+      arith,
+      used_at-append p (q + (4 + length bs)) xs ys,
+      ap (λ i. used_at p i ys) (let e : q + (4 + length bs) + total size_of xs ≡ q + (4 + length bs + total size_of xs) = omega arith in e),
+    )
+used_at-append p q (Hole n ∷ xs) ys =
+    omega (
+      arith,
+      used_at-append p (q + n) xs ys,
+      ap (λ i. used_at p i ys) (let e : q + n + total size_of xs ≡ q + (n + total size_of xs) = omega arith in e),
+    )
 
 pub hole_at-append : (p q : ℕ) (xs ys : List Segment) → hole_at p q (xs ++ ys) ≡ hole_at p q xs + hole_at p (q + total size_of xs) ys
 hole_at-append p q [] ys = omega (arith, ap (λ i. hole_at p i ys) (let e : q + 0 ≡ q = omega arith in e))
-hole_at-append p q (Used bs ∷ xs) ys = omega (arith, hole_at-append p (q + (4 + length bs)) xs ys, ap (λ i. hole_at p i ys) (let e : q + (4 + length bs) + total size_of xs ≡ q + (4 + length bs + total size_of xs) = omega arith in e))
-hole_at-append p q (Hole n ∷ xs) ys = omega (arith, hole_at-append p (q + n) xs ys, ap (λ i. hole_at p i ys) (let e : q + n + total size_of xs ≡ q + (n + total size_of xs) = omega arith in e))
+hole_at-append p q (Used bs ∷ xs) ys =
+    omega (
+      arith,
+      hole_at-append p (q + (4 + length bs)) xs ys,
+      ap (λ i. hole_at p i ys) (let e : q + (4 + length bs) + total size_of xs ≡ q + (4 + length bs + total size_of xs) = omega arith in e),
+    )
+hole_at-append p q (Hole n ∷ xs) ys =
+    omega (
+      arith,
+      hole_at-append p (q + n) xs ys,
+      ap (λ i. hole_at p i ys) (let e : q + n + total size_of xs ≡ q + (n + total size_of xs) = omega arith in e),
+    )
 
 -- none begins below the first one's place
 pub used_at-low : (p q : ℕ) (ss : List Segment) → p < q → used_at p q ss ≡ 0
@@ -41,7 +62,8 @@ hole_at-low p q (Hole n ∷ ss) l = omega (arith, once_apart p q (omega arith), 
 pub hole_at-before_first : (b : List ℕ) (at x p q : ℕ) (ss : List Segment) → 0 < q → Await b at x (at + q) ss → (x ≢ 0 → p < x) → hole_at p q ss ≡ 0
 hole_at-before_first b at x p q [] l w f = refl
 hole_at-before_first b at x p q (Used bs ∷ ss) l w f =
-    hole_at-before_first b at x p (q + (4 + length bs)) ss (omega arith) (subst (λ i. Await b at x i ss) (let e : at + q + (4 + length bs) ≡ at + (q + (4 + length bs)) = omega arith in e) w.2) f
+    hole_at-before_first b at x p (q + (4 + length bs)) ss (omega arith)
+    (subst (λ i. Await b at x i ss) (let e : at + q + (4 + length bs) ≡ at + (q + (4 + length bs)) = omega arith in e) w.2) f
 hole_at-before_first b at x p q (Hole n ∷ ss) l w f =
     let here = w.0 in
     let below = f (omega arith) in
@@ -175,7 +197,8 @@ pub hole_noted : (p low upper : ℕ) (after : List Segment) → low ≤ upper �
     → Noted p low upper (low + total size_of (with_hole (upper - low) after)) (hole_at p upper after) (hole_at p low (with_hole (upper - low) after))
 hole_noted p low upper after le closed room = go (upper - low) after refl closed room
   where
-    go : (n : ℕ) (ss : List Segment) → n ≡ upper - low → (low ≡ upper → IsTidy true ss) → HasRoom ss → Noted p low upper (low + total size_of (with_hole n ss)) (hole_at p upper ss) (hole_at p low (with_hole n ss))
+    go : (n : ℕ) (ss : List Segment) → n ≡ upper - low → (low ≡ upper → IsTidy true ss) → HasRoom ss
+        → Noted p low upper (low + total size_of (with_hole n ss)) (hole_at p upper ss) (hole_at p low (with_hole n ss))
     go zero [] e t r = record {
       begins = λ here some more. absurd (t (omega arith));
       closed = λ here none. refl;
@@ -203,7 +226,8 @@ hole_noted p low upper after le closed room = go (upper - low) after refl closed
       closed = λ here none. absurd (omega arith);
       top = λ here none. absurd (omega arith);
       joins = λ off here. omega (arith, once_apart p low off, hole_at-low p (low + suc n + (4 + length bs)) ss (omega arith));
-      stays = λ off beside. omega (arith, once_apart p low off, ap (λ q. hole_at p q ss) (let f : low + suc n + (4 + length bs) ≡ upper + (4 + length bs) = omega arith in f));
+      stays = λ off beside. omega
+          (arith, once_apart p low off, ap (λ q. hole_at p q ss) (let f : low + suc n + (4 + length bs) ≡ upper + (4 + length bs) = omega arith in f));
     }
     go (suc n) (Hole m ∷ ss) e t r =
         let big = r.0 in
@@ -212,5 +236,6 @@ hole_noted p low upper after le closed room = go (upper - low) after refl closed
           closed = λ here none. absurd (omega arith);
           top = λ here none. absurd (omega arith);
           joins = λ off here. omega (arith, once_apart p low off, hole_at-low p (low + (suc n + m)) ss (omega arith));
-          stays = λ off beside. omega (arith, once_apart p low off, once_apart p upper beside, ap (λ q. hole_at p q ss) (let f : low + (suc n + m) ≡ upper + m = omega arith in f));
+          stays = λ off beside. omega
+              (arith, once_apart p low off, once_apart p upper beside, ap (λ q. hole_at p q ss) (let f : low + (suc n + m) ≡ upper + m = omega arith in f));
         }

@@ -88,7 +88,8 @@ puts_hole b b1 b2 c at stretch some o1 k1 o2 k2 o3 size end xs ys k t =
     let l = link_place at xs q low s.room_before s.link s.place in
     let most = l.most in
     let place = s.place in
-    let but = but_both (but_link o1 low upper (at + 8)) (but_both (but_body o2 q low upper (at + 8) (omega arith) (omega arith)) (but_body o3 q low upper (at + 8) (omega arith) (omega arith))) in
+    let but = but_both (but_link o1 low upper (at + 8)) (but_both (but_body o2 q low upper (at + 8) (omega arith) (omega arith))
+    (but_body o3 q low upper (at + 8) (omega arith) (omega arith))) in
     let kept = HasStretch-kept b c at end xs ys q low stretch.next upper s but in
     let word_q : word c q ≡ word b1 q = word_below o3 q (omega arith) ∙ word_below o2 q (omega arith) in
     let leads : q + word c q ≡ low = ap (λ w. q + w) word_q ∙ k1.some (omega arith) in
@@ -99,12 +100,13 @@ puts_hole b b1 b2 c at stretch some o1 k1 o2 k2 o3 size end xs ys k t =
     let based = k.based in
     let flat = append_assoc xs (Hole n ∷ []) ys in
     subst (λ ss. Spells c at (record { segments = ss; end = end })) flat
-    (closed c at end (xs ++ Hole n ∷ []) ys low (low + n) stretch.next upper whole (omega arith) (LinksTo-kept k2 (word_below o3 low (omega arith))) (omega arith)
+    (closed c at end (xs ++ Hole n ∷ []) ys low (low + n) stretch.next upper whole (omega arith) (LinksTo-kept k2 (word_below o3 low (omega arith)))
+    (omega arith)
     (subst (IsTidy false) (sym flat) (tidy_join false xs (Hole n ∷ ys) k.tidy_before (omega arith, mult, t))))
 
 -- ---- a stretch that is settled
-settles_top_at : (b b1 c : List ℕ) (at : ℕ) (stretch : Stretch) (end : ℕ) (xs ys : List Segment) → StretchBetween b at end xs ys stretch → stretch.upper ≡ word b (at + 8)
-    → SameOutside b b1 (at + stretch.link) (at + stretch.link + 4) → LinksTo b1 at (at + stretch.link) 0
+settles_top_at : (b b1 c : List ℕ) (at : ℕ) (stretch : Stretch) (end : ℕ) (xs ys : List Segment) → StretchBetween b at end xs ys stretch
+    → stretch.upper ≡ word b (at + 8) → SameOutside b b1 (at + stretch.link) (at + stretch.link + 4) → LinksTo b1 at (at + stretch.link) 0
     → SameOutside b1 c (at + 8) (at + 8 + 4) → word c (at + 8) ≡ stretch.low
     → Spells c at (record { segments = xs ++ with_hole (stretch.upper - stretch.low) ys; end = end })
 settles_top_at b b1 c at stretch end xs (Used bs ∷ ys) k e o1 k1 o2 low = absurd (let h = k.based in omega arith)
@@ -148,8 +150,8 @@ settles_none b c at stretch e o k1 end xs ys k =
 abbrev pub grown_stretch : Stretch → ℕ → ℕ → Stretch
 grown_stretch stretch size next = record { link = stretch.link; low = stretch.low; next = next; upper = stretch.upper + size }
 
-grown_between : (b : List ℕ) (at : ℕ) (stretch : Stretch) (size next end m : ℕ) (xs ys : List Segment) → StretchBetween b at end xs (Hole m ∷ ys) stretch → size ≡ m → LinksTo b at (at + stretch.upper) next
-    → StretchBetween b at end xs ys (grown_stretch stretch size next)
+grown_between : (b : List ℕ) (at : ℕ) (stretch : Stretch) (size next end m : ℕ) (xs ys : List Segment) → StretchBetween b at end xs (Hole m ∷ ys) stretch
+    → size ≡ m → LinksTo b at (at + stretch.upper) next → StretchBetween b at end xs ys (grown_stretch stretch size next)
 grown_between b at stretch size next end m xs ys k e l =
     let t = k.tidy_behind in
     let mult = k.multiple in
@@ -166,9 +168,11 @@ grown_between b at stretch size next end m xs ys k e l =
 
 -- the segment behind a stretch to whose end the next link leads
 data HoleBehind (b : List ℕ) (at end : ℕ) (xs : List Segment) (stretch : Stretch) : List Segment → Type 0 where
-  hole_behind : (m : ℕ) (ys : List Segment) → at + stretch.upper + 8 ≤ length b → word b (at + (stretch.upper + 4)) ≡ m → HoleBehind b at end xs stretch (Hole m ∷ ys)
+  hole_behind : (m : ℕ) (ys : List Segment) → at + stretch.upper + 8 ≤ length b → word b (at + (stretch.upper + 4)) ≡ m
+      → HoleBehind b at end xs stretch (Hole m ∷ ys)
 
-hole_behind_at : (b : List ℕ) (at : ℕ) (stretch : Stretch) (end : ℕ) (xs ys : List Segment) → StretchBetween b at end xs ys stretch → stretch.upper ≢ word b (at + 8) → stretch.next ≡ stretch.upper → HoleBehind b at end xs stretch ys
+hole_behind_at : (b : List ℕ) (at : ℕ) (stretch : Stretch) (end : ℕ) (xs ys : List Segment) → StretchBetween b at end xs ys stretch
+    → stretch.upper ≢ word b (at + 8) → stretch.next ≡ stretch.upper → HoleBehind b at end xs stretch ys
 hole_behind_at b at stretch end xs [] k ne e = absurd (ne (let h = k.based in omega arith))
 hole_behind_at b at stretch end xs (Used bs ∷ ys) k ne e =
     let s = k.has in
@@ -186,18 +190,25 @@ hole_behind_at b at stretch end xs (Hole m ∷ ys) k ne e =
 room_behind : {b : List ℕ} {at end : ℕ} {xs ys : List Segment} {stretch : Stretch} → HoleBehind b at end xs stretch ys → at + stretch.upper + 8 ≤ length b
 room_behind (hole_behind m zs r w) = r
 
-pub joined_room : (b : List ℕ) (at : ℕ) (stretch : Stretch) → IsStretch b at stretch → stretch.upper ≢ word b (at + 8) → stretch.next ≡ stretch.upper → at + stretch.upper + 8 ≤ length b
+pub joined_room : (b : List ℕ) (at : ℕ) (stretch : Stretch) → IsStretch b at stretch → stretch.upper ≢ word b (at + 8) → stretch.next ≡ stretch.upper
+    → at + stretch.upper + 8 ≤ length b
 joined_room b at stretch k ne e = room_behind (hole_behind_at b at stretch k.end k.before k.behind k.between ne e)
 
-joined_stretch_at : (b : List ℕ) (at : ℕ) (stretch : Stretch) (size next end : ℕ) (xs ys : List Segment) → StretchBetween b at end xs ys stretch → HoleBehind b at end xs stretch ys → size ≡ word b (at + (stretch.upper + 4)) → LinksTo b at (at + stretch.upper) next
+joined_stretch_at : (b : List ℕ) (at : ℕ) (stretch : Stretch) (size next end : ℕ) (xs ys : List Segment) → StretchBetween b at end xs ys stretch
+    → HoleBehind b at end xs stretch ys → size ≡ word b (at + (stretch.upper + 4)) → LinksTo b at (at + stretch.upper) next
     → IsStretch b at (grown_stretch stretch size next)
-joined_stretch_at b at stretch size next end xs ys k (hole_behind m zs r w) e l = is_stretch b at end xs zs (grown_stretch stretch size next) (grown_between b at stretch size next end m xs zs k (e ∙ w) l)
+joined_stretch_at b at stretch size next end xs ys k (hole_behind m zs r w) e l =
+    is_stretch b at end xs zs (grown_stretch stretch size next) (grown_between b at stretch size next end m xs zs k (e ∙ w) l)
 
-pub joined_stretch : (b : List ℕ) (at : ℕ) (stretch : Stretch) (size next : ℕ) → IsStretch b at stretch → stretch.upper ≢ word b (at + 8) → stretch.next ≡ stretch.upper → size ≡ word b (at + (stretch.upper + 4)) → LinksTo b at (at + stretch.upper) next
+pub joined_stretch : (b : List ℕ) (at : ℕ) (stretch : Stretch) (size next : ℕ) → IsStretch b at stretch → stretch.upper ≢ word b (at + 8)
+    → stretch.next ≡ stretch.upper → size ≡ word b (at + (stretch.upper + 4)) → LinksTo b at (at + stretch.upper) next
     → IsStretch b at (grown_stretch stretch size next)
-joined_stretch b at stretch size next k ne e es l = joined_stretch_at b at stretch size next k.end k.before k.behind k.between (hole_behind_at b at stretch k.end k.before k.behind k.between ne e) es l
+joined_stretch b at stretch size next k ne e es l =
+    joined_stretch_at b at stretch size next k.end k.before k.behind k.between (hole_behind_at b at stretch k.end k.before k.behind k.between ne e) es l
 
-settles_joined_at : (b c : List ℕ) (at : ℕ) (stretch : Stretch) (size next end : ℕ) (xs ys : List Segment) → stretch.low ≢ stretch.upper → StretchBetween b at end xs ys stretch → HoleBehind b at end xs stretch ys → size ≡ word b (at + (stretch.upper + 4)) → LinksTo b at (at + stretch.upper) next
+settles_joined_at : (b c : List ℕ) (at : ℕ) (stretch : Stretch) (size next end : ℕ) (xs ys : List Segment) → stretch.low ≢ stretch.upper
+    → StretchBetween b at end xs ys stretch → HoleBehind b at end xs stretch ys → size ≡ word b (at + (stretch.upper + 4))
+    → LinksTo b at (at + stretch.upper) next
     → PutsHole b c at (grown_stretch stretch size next) → Spells c at (record { segments = xs ++ with_hole (stretch.upper - stretch.low) ys; end = end })
 settles_joined_at b c at stretch size next end xs ys ne k (hole_behind m zs r w) e l puts =
     let order = k.has.order in
@@ -205,11 +216,14 @@ settles_joined_at b c at stretch size next end xs ys ne k (hole_behind m zs r w)
     (ap (λ i. Hole i ∷ zs) (let es = e ∙ w in omega arith) ∙ sym (with_hole-hole (stretch.upper - stretch.low) m zs (omega arith)))
     (puts end xs zs (grown_between b at stretch size next end m xs zs k (e ∙ w) l) k.tidy_behind.2)
 
-pub settles_joined : (b c : List ℕ) (at : ℕ) (stretch : Stretch) (size next : ℕ) → stretch.upper ≢ word b (at + 8) → stretch.low ≢ stretch.upper → stretch.next ≡ stretch.upper → size ≡ word b (at + (stretch.upper + 4)) → LinksTo b at (at + stretch.upper) next
+pub settles_joined : (b c : List ℕ) (at : ℕ) (stretch : Stretch) (size next : ℕ) → stretch.upper ≢ word b (at + 8) → stretch.low ≢ stretch.upper
+    → stretch.next ≡ stretch.upper → size ≡ word b (at + (stretch.upper + 4)) → LinksTo b at (at + stretch.upper) next
     → PutsHole b c at (grown_stretch stretch size next) → Settles b c at stretch
-settles_joined b c at stretch size next ne nl e es l puts end xs ys k = settles_joined_at b c at stretch size next end xs ys nl k (hole_behind_at b at stretch end xs ys k ne e) es l puts
+settles_joined b c at stretch size next ne nl e es l puts end xs ys k =
+    settles_joined_at b c at stretch size next end xs ys nl k (hole_behind_at b at stretch end xs ys k ne e) es l puts
 
-settles_apart_at : (b c : List ℕ) (at : ℕ) (stretch : Stretch) (end : ℕ) (xs ys : List Segment) → stretch.upper ≢ word b (at + 8) → stretch.low ≢ stretch.upper → stretch.next ≢ stretch.upper → StretchBetween b at end xs ys stretch → PutsHole b c at stretch
+settles_apart_at : (b c : List ℕ) (at : ℕ) (stretch : Stretch) (end : ℕ) (xs ys : List Segment) → stretch.upper ≢ word b (at + 8)
+    → stretch.low ≢ stretch.upper → stretch.next ≢ stretch.upper → StretchBetween b at end xs ys stretch → PutsHole b c at stretch
     → Spells c at (record { segments = xs ++ with_hole (stretch.upper - stretch.low) ys; end = end })
 settles_apart_at b c at stretch end xs [] nb nl nn k puts = absurd (nb (let h = k.based in omega arith))
 settles_apart_at b c at stretch end xs (Hole m ∷ ys) nb nl nn k puts = absurd (nn (let h = k.has.tail.0 in omega arith))
@@ -218,7 +232,8 @@ settles_apart_at b c at stretch end xs (Used bs ∷ ys) nb nl nn k puts =
     subst (λ l. Spells c at (record { segments = xs ++ l; end = end })) (sym (with_hole-used (stretch.upper - stretch.low) bs ys (omega arith)))
     (puts end xs (Used bs ∷ ys) k k.tidy_behind)
 
-pub settles_apart : (b c : List ℕ) (at : ℕ) (stretch : Stretch) → stretch.upper ≢ word b (at + 8) → stretch.low ≢ stretch.upper → stretch.next ≢ stretch.upper → PutsHole b c at stretch → Settles b c at stretch
+pub settles_apart : (b c : List ℕ) (at : ℕ) (stretch : Stretch) → stretch.upper ≢ word b (at + 8) → stretch.low ≢ stretch.upper
+    → stretch.next ≢ stretch.upper → PutsHole b c at stretch → Settles b c at stretch
 settles_apart b c at stretch nb nl nn puts end xs ys k = settles_apart_at b c at stretch end xs ys nb nl nn k puts
 
 -- a used segment follows: the stretch ends below the base, and no hole begins at its end

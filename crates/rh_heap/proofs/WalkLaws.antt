@@ -1,5 +1,6 @@
 -- One step of the walk over a heap's segments, and what it finds.
-use Rattle.std.proofs.Common.{◌≡◌, ℕ, zero, suc, ◌+◌, ◌-◌, ◌<◌, ◌≤◌, ◌≢◌, ◌⊎◌, inl, inr, Bool, true, false, eqb, List, [], ◌∷◌, ◌++◌, length, refl, sym, ap, subst, ◌∙◌, append_assoc, arith}
+use Rattle.std.proofs.Common.{◌≡◌, ℕ, zero, suc, ◌+◌, ◌-◌, ◌<◌, ◌≤◌, ◌≢◌, ◌⊎◌, inl, inr, Bool, true, false, eqb, List, [], ◌∷◌, ◌++◌, length, refl, sym, ap}
+use Rattle.std.proofs.Common.{subst, ◌∙◌, append_assoc, arith}
 use Rattle.std.proofs.lemmas.List.{append-nil}
 use Rattle.std.specs.Prelude.{Option, Some, None, ◌==◌}
 use Rattle.std.proofs.Common.{cond}
@@ -8,7 +9,8 @@ use Rattle.rh_defs.specs.Bytes.{word, part}
 use Rattle.rh_defs.specs.Pieces.{total, Split, first_at, behind, NonePass}
 use Rattle.rh_defs.specs.Heap.{Segment, Used, Hole, Heap, IsTidy, size_of, base, is_block_at, block_at, segment_at}
 use Rattle.rh_defs.specs.HeapImage.{Stand, Spells}
-use Rattle.rh_defs.proofs.HeapLists.{HasRoom-from_tidy, HasRoom-append, total-append, tidy_before, tidy_front, tidy_behind_used, NonePass-append, first_at-none, first_at-found, eqb_same, eqb_apart}
+use Rattle.rh_defs.proofs.HeapLists.{HasRoom-from_tidy, HasRoom-append, total-append, tidy_before, tidy_front, tidy_behind_used, NonePass-append}
+use Rattle.rh_defs.proofs.HeapLists.{first_at-none, first_at-found, eqb_same, eqb_apart}
 use Rattle.rh_defs.proofs.HeapLaws.{last_link-append, last_link-none, Stand-split, NextHole, next_hole}
 use Rattle.rh_defs.proofs.BytesLaws.{length-part, word-part}
 use Rattle.rh_heap.specs.Segments.{GapIs, no_gap, a_gap, Reached, HereIs, used_here, hole_here, Met, Around, Found, NoHole, hole_spot, FoundBlock}
@@ -39,7 +41,8 @@ reached_start at h = record {
 -- the holes up to the one at `from` are passed, and the link before that is at `link`
 pub data HolesPassed (b : List ℕ) (at : ℕ) (h : Heap) (link from : ℕ) : Type 0 where
   none_passed : link ≡ 4 → from ≡ 4 → HolesPassed b at h link from
-  hole_passed : (size : ℕ) → size ≡ word b (at + (from + 4)) → Met at h (hole_spot (record { from = link; place = from; size = size })) → HolesPassed b at h link from
+  hole_passed : (size : ℕ) → size ≡ word b (at + (from + 4)) → Met at h (hole_spot (record { from = link; place = from; size = size }))
+      → HolesPassed b at h link from
 
 -- where such a walk goes on
 record Behind (at : ℕ) (h : Heap) (from : ℕ) : Type 0 where
@@ -68,7 +71,8 @@ behind_hole at h gap m =
     let none = no_gap_at gap.place gap.from gap.from r.gap r.gap_is r.behind in
     let alone : r.front ++ r.gap ≡ r.front = ap (λ l. r.front ++ l) none ∙ append-nil r.front in
     let here = hole_is n false m.here m.here_is refl in
-    let is : h.segments ≡ r.front ++ Hole n ∷ m.after = r.is ∙ ap (λ l. (r.front ++ r.gap) ++ l) (m.rest_is ∙ ap (λ x. x ∷ m.after) here) ∙ ap (λ l. l ++ Hole n ∷ m.after) alone in
+    let is : h.segments ≡ r.front ++ Hole n ∷ m.after =
+    r.is ∙ ap (λ l. (r.front ++ r.gap) ++ l) (m.rest_is ∙ ap (λ x. x ∷ m.after) here) ∙ ap (λ l. l ++ Hole n ∷ m.after) alone in
     let sums = total-append r.front (Hole n ∷ []) in
     let low = r.low_is in
     let fits = m.size_fits in
@@ -90,10 +94,13 @@ behind_hole at h gap m =
     }
 
 walked : (b : List ℕ) (at : ℕ) (h : Heap) (link from : ℕ) → HolesPassed b at h link from → Behind at h from
-walked b at h link from (none_passed e f) = record { link = 4; low = 16; place = 16; reached = subst (λ i. Reached at h 4 16 i 16) (sym f) (reached_start at h) }
-walked b at h link from (hole_passed size e m) = record { link = link; low = from; place = from + size; reached = behind_hole at h (record { from = link; place = from; size = size }) m }
+walked b at h link from (none_passed e f) =
+    record { link = 4; low = 16; place = 16; reached = subst (λ i. Reached at h 4 16 i 16) (sym f) (reached_start at h) }
+walked b at h link from (hole_passed size e m) =
+    record { link = link; low = from; place = from + size; reached = behind_hole at h (record { from = link; place = from; size = size }) m }
 
-hole_after : (b : List ℕ) (at : ℕ) (h : Heap) (link low from place next : ℕ) (r : Reached at h link low from place) → Spells b at h → LinksTo b at (at + from) next → next ≢ 0
+hole_after : (b : List ℕ) (at : ℕ) (h : Heap) (link low from place next : ℕ) (r : Reached at h link low from place) → Spells b at h
+    → LinksTo b at (at + from) next → next ≢ 0
     → NextHole b (last_link (at + 4) (at + 16) (r.front ++ r.gap)) (at + 16 + total size_of (r.front ++ r.gap)) r.rest → HolesPassed b at h from next
 hole_after b at h link low from place next r s k nz q =
     let xs = r.front ++ r.gap in
@@ -101,7 +108,8 @@ hole_after b at h link low from place next r s k nz q =
     let zs = xs ++ q.before in
     let some = k.some nz in
     let is : h.segments ≡ zs ++ Hole q.size ∷ q.rest = r.is ∙ ap (λ l. xs ++ l) q.is ∙ sym (append_assoc xs q.before (Hole q.size ∷ q.rest)) in
-    let links : at + from ≡ last_link (at + 4) (at + 16) zs = r.from_is ∙ sym (last_link-append (at + 4) (at + 16) xs q.before ∙ last_link-none f (at + 16 + total size_of xs) q.before q.none) in
+    let links : at + from ≡ last_link (at + 4) (at + 16) zs =
+    r.from_is ∙ sym (last_link-append (at + 4) (at + 16) xs q.before ∙ last_link-none f (at + 16 + total size_of xs) q.before q.none) in
     let sums = total-append xs q.before in
     let all = ap (total size_of) is ∙ total-append zs (Hole q.size ∷ q.rest) in
     let tidy = subst (IsTidy false) is s.heap.tidy in
@@ -136,7 +144,8 @@ hole_after b at h link low from place next r s k nz q =
     })
 
 -- the next hole is passed
-pub next_passed : (b : List ℕ) (at : ℕ) (h : Heap) (link from next : ℕ) → Spells b at h → HolesPassed b at h link from → LinksTo b at (at + from) next → next ≢ 0 → HolesPassed b at h from next
+pub next_passed : (b : List ℕ) (at : ℕ) (h : Heap) (link from next : ℕ) → Spells b at h → HolesPassed b at h link from → LinksTo b at (at + from) next
+    → next ≢ 0 → HolesPassed b at h from next
 next_passed b at h link from next s w k nz =
     let v = walked b at h link from w in
     let r = v.reached in
@@ -178,12 +187,14 @@ pub record UsedTurn (b : List ℕ) (at : ℕ) (h : Heap) (link low from place : 
   pub met : (size : ℕ) → size ≡ word b (at + place) → Met at h (record { place = place; size = size; used = true; from = from; low = low; link = link })
   pub on : (size : ℕ) → size ≡ word b (at + place) → Reached at h from (place + size) from (place + size)
 
-pub leads_here : (b : List ℕ) (at from place next : ℕ) → LinksTo b at (at + from) next → at + from + word b (at + from) ≡ at + place → from + 4 ≤ place → next ≡ place
+pub leads_here : (b : List ℕ) (at from place next : ℕ) → LinksTo b at (at + from) next → at + from + word b (at + from) ≡ at + place → from + 4 ≤ place
+    → next ≡ place
 leads_here b at from place zero k e i = absurd (let z = k.none refl in omega arith)
 leads_here b at from place (suc n) k e i = let m = k.some (omega arith) in omega arith
 
 -- the segments that are left stand there
-pub stands : (b : List ℕ) (at : ℕ) (h : Heap) (link low from place : ℕ) (r : Reached at h link low from place) (rest : List Segment) → r.rest ≡ rest → Spells b at h → Stand b (at + from) (at + place) rest
+pub stands : (b : List ℕ) (at : ℕ) (h : Heap) (link low from place : ℕ) (r : Reached at h link low from place) (rest : List Segment) → r.rest ≡ rest
+    → Spells b at h → Stand b (at + from) (at + place) rest
 stands b at h link low from place r rest e s =
     let passed = r.front ++ r.gap in
     let is : h.segments ≡ passed ++ rest = r.is ∙ ap (λ l. passed ++ l) e in
@@ -192,8 +203,8 @@ stands b at h link low from place r rest e s =
     subst (λ f. Stand b f (at + place) rest) (sym r.from_is) (subst (λ q. Stand b (last_link (at + 4) (at + 16) passed) q rest) (omega arith) parts.1)
 
 -- a used segment is passed
-used_passed : (at : ℕ) (h : Heap) (link low from place : ℕ) (r : Reached at h link low from place) (bs : List ℕ) (ys : List Segment) → r.rest ≡ Used bs ∷ ys → IsTidy false h.segments
-    → Reached at h from (place + (4 + length bs)) from (place + (4 + length bs))
+used_passed : (at : ℕ) (h : Heap) (link low from place : ℕ) (r : Reached at h link low from place) (bs : List ℕ) (ys : List Segment) → r.rest ≡ Used bs ∷ ys
+    → IsTidy false h.segments → Reached at h from (place + (4 + length bs)) from (place + (4 + length bs))
 used_passed at h link low from place r bs ys e t =
     let passed = r.front ++ r.gap in
     let is : h.segments ≡ passed ++ Used bs ∷ ys = r.is ∙ ap (λ l. passed ++ l) e in
@@ -211,18 +222,20 @@ used_passed at h link low from place r bs ys e t =
       low_is = omega arith;
       link_is = r.from_is ∙ sym (last_link-append (at + 4) (at + 16) passed (Used bs ∷ []));
       place_is = omega (arith, ap (total size_of) (append-nil (passed ++ Used bs ∷ [])));
-      from_is = r.from_is ∙ sym (last_link-append (at + 4) (at + 16) passed (Used bs ∷ [])) ∙ ap (last_link (at + 4) (at + 16)) (sym (append-nil (passed ++ Used bs ∷ [])));
+      from_is = r.from_is ∙ sym (last_link-append (at + 4) (at + 16) passed (Used bs ∷ []))
+          ∙ ap (last_link (at + 4) (at + 16)) (sym (append-nil (passed ++ Used bs ∷ [])));
       tidy = tidy_front false passed bs ys (subst (IsTidy false) is t);
       link_below = omega arith;
       behind = omega arith;
       inside = omega arith;
     }
 
-used_turn_at : (b : List ℕ) (at : ℕ) (h : Heap) (link low from place next : ℕ) (r : Reached at h link low from place) (rest : List Segment) → r.rest ≡ rest → Spells b at h → LinksTo b at (at + from) next
-    → next ≢ place → place < base h → UsedTurn b at h link low from place
+used_turn_at : (b : List ℕ) (at : ℕ) (h : Heap) (link low from place next : ℕ) (r : Reached at h link low from place) (rest : List Segment) → r.rest ≡ rest
+    → Spells b at h → LinksTo b at (at + from) next → next ≢ place → place < base h → UsedTurn b at h link low from place
 used_turn_at b at h link low from place next r [] e s k ne lt =
     absurd (let p = r.place_is in omega (arith, ap (total size_of) r.is, ap (total size_of) e, total-append (r.front ++ r.gap) r.rest))
-used_turn_at b at h link low from place next r (Hole n ∷ ys) e s k ne lt = absurd (ne (leads_here b at from place next k (stands b at h link low from place r (Hole n ∷ ys) e s).0 r.behind))
+used_turn_at b at h link low from place next r (Hole n ∷ ys) e s k ne lt =
+    absurd (ne (leads_here b at from place next k (stands b at h link low from place r (Hole n ∷ ys) e s).0 r.behind))
 used_turn_at b at h link low from place next r (Used bs ∷ ys) e s k ne lt =
     let passed = r.front ++ r.gap in
     let read = (stands b at h link low from place r (Used bs ∷ ys) e s).0 in
@@ -243,8 +256,8 @@ used_turn_at b at h link low from place next r (Used bs ∷ ys) e s k ne lt =
       on = λ size es. subst (λ i. Reached at h from (place + i) from (place + i)) (sym (es ∙ read)) on;
     }
 
-pub used_turn : (b : List ℕ) (at : ℕ) (h : Heap) (link low from place target : ℕ) → Spells b at h → Reached at h link low from place → NoHole b at from target → place ≤ target → target < base h
-    → UsedTurn b at h link low from place
+pub used_turn : (b : List ℕ) (at : ℕ) (h : Heap) (link low from place target : ℕ) → Spells b at h → Reached at h link low from place
+    → NoHole b at from target → place ≤ target → target < base h → UsedTurn b at h link low from place
 used_turn b at h link low from place target s r n le lt =
     let p = r.place_is in
     let beyond = n.beyond in
@@ -260,7 +273,8 @@ pub record UsedStep (at : ℕ) (h : Heap) (start : Mark) (target place size : �
   pub least : 8 ≤ size
   pub passed : place + size ≤ target → UsedWalk at h start target (place + size)
 
-module _ (b : List ℕ) (at : ℕ) (h : Heap) (start : Mark) (target : ℕ) (s : Spells b at h) (r : Reached at h start.link start.low start.from start.place) (n : NoHole b at start.from target) (lt : target < base h) where
+module _ (b : List ℕ) (at : ℕ) (h : Heap) (start : Mark) (target : ℕ) (s : Spells b at h) (r : Reached at h start.link start.low start.from start.place)
+    (n : NoHole b at start.from target) (lt : target < base h) where
   pub used_step : (place size : ℕ) → UsedWalk at h start target place → size ≡ word b (at + place) → UsedStep at h start target place size
   used_step place size w e =
       let up = w.up_to in
@@ -274,11 +288,12 @@ module _ (b : List ℕ) (at : ℕ) (h : Heap) (start : Mark) (target : ℕ) (s :
       ]
 
   -- where a walk stands that went through a slice of the bytes
-  pub step_in : (bytes : List ℕ) (k passed size : ℕ) → bytes ≡ part b (at + start.place) k → passed + 4 ≤ length bytes → size ≡ word bytes passed → UsedWalk at h start target (start.place + passed)
-      → UsedStep at h start target (start.place + passed) size
+  pub step_in : (bytes : List ℕ) (k passed size : ℕ) → bytes ≡ part b (at + start.place) k → passed + 4 ≤ length bytes → size ≡ word bytes passed
+      → UsedWalk at h start target (start.place + passed) → UsedStep at h start target (start.place + passed) size
   step_in bytes k passed size eb room e w =
       let long : length bytes ≡ k = ap length eb ∙ length-part b (at + start.place) k in
-      used_step (start.place + passed) size w (e ∙ ap (λ l. word l passed) eb ∙ word-part b (at + start.place) k passed (omega arith) ∙ ap (word b) (omega arith))
+      used_step (start.place + passed) size w (e ∙ ap (λ l. word l passed) eb ∙ word-part b (at + start.place) k passed (omega arith)
+      ∙ ap (word b) (omega arith))
 
 -- the mark of the walk to a place
 pub record MarkWalk (at : ℕ) (h : Heap) (from target : ℕ) (mark : Mark) : Type 0 where
@@ -286,7 +301,8 @@ pub record MarkWalk (at : ℕ) (h : Heap) (from target : ℕ) (mark : Mark) : Ty
   pub same : mark.from ≡ from
   pub up_to : mark.place ≤ target
 
-module _ (b : List ℕ) (at : ℕ) (h : Heap) (from target : ℕ) (mark : Mark) (s : Spells b at h) (n : NoHole b at from target) (lt : target < base h) (w : MarkWalk at h from target mark) where
+module _ (b : List ℕ) (at : ℕ) (h : Heap) (from target : ℕ) (mark : Mark) (s : Spells b at h) (n : NoHole b at from target) (lt : target < base h)
+    (w : MarkWalk at h from target mark) where
   pub none_on : NoHole b at mark.from target
   none_on = subst (λ i. NoHole b at i target) (sym w.same) n
 
@@ -334,7 +350,8 @@ parts_of at h spot t m =
     }
 
 -- the segment round a place begins there
-pub found_here : (at : ℕ) (h : Heap) (target : ℕ) (spot : Spot) → IsTidy false h.segments → Around at h target spot → spot.place ≡ target → Found at h target spot
+pub found_here : (at : ℕ) (h : Heap) (target : ℕ) (spot : Spot) → IsTidy false h.segments → Around at h target spot → spot.place ≡ target
+    → Found at h target spot
 found_here at h target spot t a e =
     let m = a.met in
     let xs = m.reached.front ++ m.reached.gap in
@@ -344,11 +361,13 @@ found_here at h target spot t a e =
       met = m;
       place_is = e;
       found = ap (first_at size_of (λ p g. target == p) 16) parts.is
-          ∙ first_at-found size_of (λ p g. target == p) 16 xs m.here m.after (below_target target 16 xs parts.room (omega arith)) (eqb_same target (16 + total size_of xs) (omega arith));
+          ∙ first_at-found size_of (λ p g. target == p) 16 xs m.here m.after (below_target target 16 xs parts.room (omega arith))
+          (eqb_same target (16 + total size_of xs) (omega arith));
     }
 
 -- or none does
-pub none_here : (at : ℕ) (h : Heap) (target : ℕ) (spot : Spot) → IsTidy false h.segments → Around at h target spot → spot.place ≢ target → segment_at target h ≡ None
+pub none_here : (at : ℕ) (h : Heap) (target : ℕ) (spot : Spot) → IsTidy false h.segments → Around at h target spot → spot.place ≢ target
+    → segment_at target h ≡ None
 none_here at h target spot t a ne =
     let m = a.met in
     let xs = m.reached.front ++ m.reached.gap in
@@ -363,19 +382,22 @@ none_here at h target spot t a ne =
     (eqb_apart target (16 + total size_of xs) (omega arith), above_target target (16 + total size_of xs + size_of m.here) m.after (omega arith)))
 
 -- ---- the block at an address
-first_is_none : {A : Type 0} (t : Bool) (s : Split A) (f : Split A → Split A) (o : Option (Split A)) → cond t (Some s) (option_map f o) ≡ None → (t ≡ false) × (o ≡ None)
+first_is_none : {A : Type 0} (t : Bool) (s : Split A) (f : Split A → Split A) (o : Option (Split A)) → cond t (Some s) (option_map f o) ≡ None
+    → (t ≡ false) × (o ≡ None)
 first_is_none true s f o e = absurd cc
 first_is_none false s f None e = (refl, refl)
 first_is_none false s f (Some x) e = absurd cc
 
 other_block : (target p : ℕ) (x : Segment) → eqb target p ≡ false → is_block_at (target + 4) p x ≡ false
-other_block target p (Used bs) e = eqb_apart (target + 4) (p + 4) (λ q. let same : eqb target p ≡ true = eqb_same target p (omega arith) in let f : true ≡ false = sym same ∙ e in cc)
+other_block target p (Used bs) e =
+    eqb_apart (target + 4) (p + 4) (λ q. let same : eqb target p ≡ true = eqb_same target p (omega arith) in let f : true ≡ false = sym same ∙ e in cc)
 other_block target p (Hole n) e = refl
 
 no_block : (target p : ℕ) (ss : List Segment) → first_at size_of (λ q g. target == q) p ss ≡ None → NonePass size_of (is_block_at (target + 4)) p ss
 no_block target p [] e = tt
 no_block target p (x ∷ ss) e =
-    let n = first_is_none (eqb target p) (record { before = []; here = x; after = ss }) (behind x) (first_at size_of (λ q g. target == q) (p + size_of x) ss) e in
+    let n = first_is_none (eqb target p) (record { before = []; here = x; after = ss }) (behind x) (first_at size_of (λ q g. target == q) (p + size_of x) ss)
+    e in
     (other_block target p x n.0, no_block target (p + size_of x) ss n.1)
 
 pub no_block_at : (address : ℕ) (h : Heap) → 4 ≤ address → segment_at (address - 4) h ≡ None → block_at address h ≡ None
@@ -396,7 +418,8 @@ none_below address p (Hole n ∷ ss) r l = (refl, none_below address (p + n) ss 
 pub no_low_block : (address : ℕ) (h : Heap) → address < 4 → block_at address h ≡ None
 no_low_block address h l = first_at-none size_of (is_block_at address) 16 h.segments (none_above address 16 h.segments (omega arith))
 
-found_block_at : (at : ℕ) (h : Heap) (address : ℕ) (spot : Spot) → IsTidy false h.segments → 4 ≤ address → (f : Found at h (address - 4) spot) → (bs : List ℕ) → f.met.here ≡ Used bs → spot.size ≡ 4 + length bs → FoundBlock at h address spot
+found_block_at : (at : ℕ) (h : Heap) (address : ℕ) (spot : Spot) → IsTidy false h.segments → 4 ≤ address → (f : Found at h (address - 4) spot)
+    → (bs : List ℕ) → f.met.here ≡ Used bs → spot.size ≡ 4 + length bs → FoundBlock at h address spot
 found_block_at at h address spot t l f bs eh es =
     let m = f.met in
     let r = m.reached in
@@ -416,7 +439,8 @@ found_block_at at h address spot t l f bs eh es =
       size_is = es;
       address_is = omega arith;
       found = ap (first_at size_of (is_block_at address) 16) is
-          ∙ first_at-found size_of (is_block_at address) 16 passed (Used bs) m.after (none_below address 16 passed room (omega arith)) (eqb_same address (16 + total size_of passed + 4) (omega arith));
+          ∙ first_at-found size_of (is_block_at address) 16 passed (Used bs) m.after (none_below address 16 passed room (omega arith))
+          (eqb_same address (16 + total size_of passed + 4) (omega arith));
       size_fits = m.size_fits;
       least = m.least;
       multiple = rw es mult;
@@ -428,12 +452,14 @@ block_is size false (Hole n) (hole_here _ e) t = absurd cc
 block_is size true (Hole n) k t = elim k [ ]
 block_is size false (Used bs) k t = elim k [ ]
 
-pub found_block : (at : ℕ) (h : Heap) (address : ℕ) (spot : Spot) → IsTidy false h.segments → 4 ≤ address → Found at h (address - 4) spot → spot.used ≡ true → FoundBlock at h address spot
+pub found_block : (at : ℕ) (h : Heap) (address : ℕ) (spot : Spot) → IsTidy false h.segments → 4 ≤ address → Found at h (address - 4) spot → spot.used ≡ true
+    → FoundBlock at h address spot
 found_block at h address spot t l f e =
     let k = block_is spot.size spot.used f.met.here f.met.here_is e in
     found_block_at at h address spot t l f k.0 k.1 k.2
 
-pub found_hole : (at : ℕ) (h : Heap) (address : ℕ) (spot : Spot) → IsTidy false h.segments → 4 ≤ address → Found at h (address - 4) spot → spot.used ≡ false → block_at address h ≡ None
+pub found_hole : (at : ℕ) (h : Heap) (address : ℕ) (spot : Spot) → IsTidy false h.segments → 4 ≤ address → Found at h (address - 4) spot → spot.used ≡ false
+    → block_at address h ≡ None
 found_hole at h address spot t l f e =
     let m = f.met in
     let here = hole_is spot.size spot.used m.here m.here_is e in

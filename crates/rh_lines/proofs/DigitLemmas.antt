@@ -1,5 +1,6 @@
 -- Digits, two at a time from the last ones on.
-use Rattle.std.proofs.Common.{◌≡◌, ◌≢◌, ℕ, zero, suc, ◌+◌, ◌/◌, ◌%◌, ◌^◌, ◌<◌, ◌≤◌, inl, inr, Bool, true, false, cond, eqb, List, [], ◌∷◌, ◌++◌, append_assoc, refl, sym, ap, ◌∙◌, arith, rules}
+use Rattle.std.proofs.Common.{◌≡◌, ◌≢◌, ℕ, zero, suc, ◌+◌, ◌/◌, ◌%◌, ◌^◌, ◌<◌, ◌≤◌, inl, inr, Bool, true, false, cond, eqb, List, [], ◌∷◌, ◌++◌, append_assoc}
+use Rattle.std.proofs.Common.{refl, sym, ap, ◌∙◌, arith, rules}
 use Rattle.std.specs.Fmt.{decimal, digits, digits_onto, digit_glyph}
 use Rattle.std.proofs.lemmas.Fmt.{decimal_digit, decimal_step}
 use Rattle.std.proofs.lemmas.Bool.{cases_lt}
@@ -48,7 +49,8 @@ unfolding digits
 hex_step n h small = next 63 n [] h ∙ sym (onto_more 62 (n / 16) (glyph n ∷ []) (omega arith)) ∙ onto_append 64 (n / 16) (glyph n ∷ [])
 
 -- the last two digits of a number that has more of them
-pub hex_pair : (n : ℕ) → 256 ≤ n → n < 2 ^ 32 → digits 16 true n ≡ digits 16 true (n / 256) ++ (digit_glyph true (n % 256 / 16) ∷ digit_glyph true (n % 256 % 16) ∷ [])
+pub hex_pair : (n : ℕ) → 256 ≤ n → n < 2 ^ 32
+    → digits 16 true n ≡ digits 16 true (n / 256) ++ (digit_glyph true (n % 256 / 16) ∷ digit_glyph true (n % 256 % 16) ∷ [])
 hex_pair n h small =
     let front : n / 16 / 16 ≡ n / 256 = omega arith in
     let high : n / 16 % 16 ≡ n % 256 / 16 = omega arith in
@@ -59,7 +61,8 @@ hex_pair n h small =
     ∙ ap (λ d. digits 16 true (n / 256) ++ (digit_glyph true (n % 256 / 16) ∷ digit_glyph true d ∷ [])) low
 
 -- two digits more, after those of the front q
-pub hex_next : (n q : ℕ) (old front new : List ℕ) → 256 ≤ n → n < 2 ^ 32 → n / 256 ≡ q → front ≡ old ++ digits 16 true q → new ≡ front ++ (digit_glyph true (n % 256 / 16) ∷ digit_glyph true (n % 256 % 16) ∷ []) → new ≡ old ++ digits 16 true n
+pub hex_next : (n q : ℕ) (old front new : List ℕ) → 256 ≤ n → n < 2 ^ 32 → n / 256 ≡ q → front ≡ old ++ digits 16 true q
+    → new ≡ front ++ (digit_glyph true (n % 256 / 16) ∷ digit_glyph true (n % 256 % 16) ∷ []) → new ≡ old ++ digits 16 true n
 hex_next n q old front new h small is before after =
     let last : List ℕ = digit_glyph true (n % 256 / 16) ∷ digit_glyph true (n % 256 % 16) ∷ [] in
     after ∙ ap (λ x. x ++ last) (before ∙ ap (λ m. old ++ digits 16 true m) (sym is)) ∙ append_assoc old (digits 16 true (n / 256)) last
@@ -81,7 +84,8 @@ decimal_pair n h small =
     ∙ ap (λ d. decimal (n / 100) ++ ((48 + n % 100 / 10) ∷ (48 + d) ∷ [])) ones
 
 -- two digits more, after those of the front q
-pub decimal_next : (n q : ℕ) (old front new : List ℕ) → 100 ≤ n → n < 2 ^ 32 → n / 100 ≡ q → front ≡ old ++ decimal q → new ≡ front ++ ((48 + n % 100 / 10) ∷ (48 + n % 100 % 10) ∷ []) → new ≡ old ++ decimal n
+pub decimal_next : (n q : ℕ) (old front new : List ℕ) → 100 ≤ n → n < 2 ^ 32 → n / 100 ≡ q → front ≡ old ++ decimal q
+    → new ≡ front ++ ((48 + n % 100 / 10) ∷ (48 + n % 100 % 10) ∷ []) → new ≡ old ++ decimal n
 decimal_next n q old front new h small is before after =
     let last : List ℕ = (48 + n % 100 / 10) ∷ (48 + n % 100 % 10) ∷ [] in
     after ∙ ap (λ x. x ++ last) (before ∙ ap (λ m. old ++ decimal m) (sym is)) ∙ append_assoc old (decimal (n / 100)) last

@@ -68,7 +68,8 @@ breaks_before {s} {t} {x} y q = record {
 }
 
 -- one write after another, which may fail
-pub puts_more : {E : Type 0} {s t : Output} {x : List ℕ} {v : Unit {0}} (u : Output) (r : Result Unit E) (y : List ℕ) → Puts {E = E} s t (Ok v) x → Puts t u r y → Puts s u r (x ++ y)
+pub puts_more : {E : Type 0} {s t : Output} {x : List ℕ} {v : Unit {0}} (u : Output) (r : Result Unit E) (y : List ℕ) → Puts {E = E} s t (Ok v) x
+    → Puts t u r y → Puts s u r (x ++ y)
 puts_more u (Ok v) y p q = record { ok = takes_more p.ok q.ok; err = tt }
 puts_more u (Err e) y p q = record { ok = tt; err = takes_breaks p.ok q.err }
 
@@ -85,30 +86,40 @@ puts_stops (Err e) p h = record { ok = tt; err = p.err }
 -- the front grows by n bytes of the rest
 pub next_front : (bytes front rest : List ℕ) (n : ℕ) → bytes ≡ front ++ rest → bytes ≡ (front ++ take n rest) ++ take (length rest - n) (drop n rest)
 next_front bytes front rest n e =
-    e ∙ (ap (λ z. front ++ z) (sym (take-append-drop n rest) ∙ ap (λ z. take n rest ++ z) (sym (take_rest rest n))) ∙ sym (append_assoc front (take n rest) (take (length rest - n) (drop n rest))))
+    e ∙ (ap (λ z. front ++ z) (sym (take-append-drop n rest) ∙ ap (λ z. take n rest ++ z) (sym (take_rest rest n)))
+    ∙ sym (append_assoc front (take n rest) (take (length rest - n) (drop n rest))))
 
-each_splits : {X : Type 0} (f : X → List ℕ) (xs : List X) (i : ℕ) (d : X) → i < length xs → flat_map f xs ≡ flat_map f (take i xs) ++ f (get_or xs i d) ++ flat_map f (drop (suc i) xs)
+each_splits : {X : Type 0} (f : X → List ℕ) (xs : List X) (i : ℕ) (d : X) → i < length xs
+    → flat_map f xs ≡ flat_map f (take i xs) ++ f (get_or xs i d) ++ flat_map f (drop (suc i) xs)
 each_splits f [] i d h = absurd (omega arith)
 each_splits f (x ∷ xs) zero d h = refl
 each_splits f (x ∷ xs) (suc i) d h =
-    ap (λ z. f x ++ z) (each_splits f xs i d (omega arith)) ∙ (ap (λ z. f x ++ z) (append_assoc (flat_map f (take i xs)) (f (get_or xs i d)) (flat_map f (drop (suc i) xs))) ∙ (sym (append_assoc (f x) (flat_map f (take i xs)) (f (get_or xs i d) ++ flat_map f (drop (suc i) xs))) ∙ sym (append_assoc (f x ++ flat_map f (take i xs)) (f (get_or xs i d)) (flat_map f (drop (suc i) xs)))))
+    ap (λ z. f x ++ z) (each_splits f xs i d (omega arith)) ∙ (ap (λ z. f x ++ z)
+    (append_assoc (flat_map f (take i xs)) (f (get_or xs i d)) (flat_map f (drop (suc i) xs)))
+    ∙ (sym (append_assoc (f x) (flat_map f (take i xs)) (f (get_or xs i d) ++ flat_map f (drop (suc i) xs)))
+    ∙ sym (append_assoc (f x ++ flat_map f (take i xs)) (f (get_or xs i d)) (flat_map f (drop (suc i) xs)))))
 
-each_more : {X : Type 0} (f : X → List ℕ) (xs : List X) (i : ℕ) (d : X) → i < length xs → flat_map f (take (i + 1) xs) ≡ flat_map f (take i xs) ++ f (get_or xs i d)
-each_more f xs i d h = ap (flat_map f) (take_more xs i d h) ∙ (flat_map-append f (take i xs) (get_or xs i d ∷ []) ∙ ap (λ z. flat_map f (take i xs) ++ z) (append-nil (f (get_or xs i d))))
+each_more : {X : Type 0} (f : X → List ℕ) (xs : List X) (i : ℕ) (d : X) → i < length xs
+    → flat_map f (take (i + 1) xs) ≡ flat_map f (take i xs) ++ f (get_or xs i d)
+each_more f xs i d h = ap (flat_map f) (take_more xs i d h)
+    ∙ (flat_map-append f (take i xs) (get_or xs i d ∷ []) ∙ ap (λ z. flat_map f (take i xs) ++ z) (append-nil (f (get_or xs i d))))
 
 -- one more item of a list, of which each is written in turn
-pub takes_each : {X : Type 0} (f : X → List ℕ) {s t u : Output} (xs : List X) (i : ℕ) (x d : X) → x ≡ get_or xs i d → i < length xs → Takes s t (flat_map f (take i xs)) → Takes t u (f x) → Takes s u (flat_map f (take (i + 1) xs))
+pub takes_each : {X : Type 0} (f : X → List ℕ) {s t u : Output} (xs : List X) (i : ℕ) (x d : X) → x ≡ get_or xs i d → i < length xs
+    → Takes s t (flat_map f (take i xs)) → Takes t u (f x) → Takes s u (flat_map f (take (i + 1) xs))
 takes_each f {s} {t} {u} xs i x d e h p q =
     let P : List ℕ → Type 0 = λ z. Takes s u z in
     subst P (ap (λ z. flat_map f (take i xs) ++ f z) e ∙ sym (each_more f xs i d h)) (takes_more p q)
 
 -- the item that is not written whole
-pub puts_each : {E X : Type 0} (f : X → List ℕ) {s t u : Output} (xs : List X) (i : ℕ) (x d : X) (e : E) (r : Result Unit E) → x ≡ get_or xs i d → IsErr r → i < length xs → Takes s t (flat_map f (take i xs)) → Puts t u (Err e) (f x) → Puts s u r (flat_map f xs)
+pub puts_each : {E X : Type 0} (f : X → List ℕ) {s t u : Output} (xs : List X) (i : ℕ) (x d : X) (e : E) (r : Result Unit E) → x ≡ get_or xs i d → IsErr r
+    → i < length xs → Takes s t (flat_map f (take i xs)) → Puts t u (Err e) (f x) → Puts s u r (flat_map f xs)
 puts_each {E} f {s} {t} {u} xs i x d e r k z h p q =
     let P : List ℕ → Type 0 = λ z. Breaks s u z in
     puts_stops {e = e} r (record {
       ok = tt;
-      err = subst P (ap (λ z. (flat_map f (take i xs) ++ f z) ++ flat_map f (drop (suc i) xs)) k ∙ sym (each_splits f xs i d h)) (breaks_before (flat_map f (drop (suc i) xs)) (takes_breaks p q.err));
+      err = subst P (ap (λ z. (flat_map f (take i xs) ++ f z) ++ flat_map f (drop (suc i) xs)) k ∙ sym (each_splits f xs i d h))
+          (breaks_before (flat_map f (drop (suc i) xs)) (takes_breaks p q.err));
     }) z
 
 pub ruleset writing = (puts_more, puts_before, puts_stops)

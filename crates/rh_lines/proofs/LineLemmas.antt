@@ -1,5 +1,6 @@
 -- What a line means, by its first word and its first six words.
-use Rattle.std.proofs.Common.{◌≡◌, ℕ, ◌+◌, ◌<◌, ◌≤◌, Bool, true, false, eqb, List, [], ◌∷◌, length, take, get_or, subst, Option, Some, None, refl, sym, ◌∙◌, ap, arith, rules, cond, ◌&&◌, ◌||◌, ◌⊎◌, inl, inr}
+use Rattle.std.proofs.Common.{◌≡◌, ℕ, ◌+◌, ◌<◌, ◌≤◌, Bool, true, false, eqb, List, [], ◌∷◌, length, take, get_or, subst, Option, Some, None, refl, sym, ◌∙◌}
+use Rattle.std.proofs.Common.{ap, arith, rules, cond, ◌&&◌, ◌||◌, ◌⊎◌, inl, inr}
 use Rattle.std.specs.Prelude.{find, IfSome, IfNone, map, nat_le, nat_lt, if◌then◌else◌, Ok, Err, IsErr, IsErrAnd}
 use Rattle.rh_defs.specs.declared.fault.LineFault.{LineFault}
 use Rattle.rh_lines.specs.Placed.{if_placed}
@@ -166,24 +167,30 @@ is_skipped-first_words line = skipped_same (words_of line)
 
 -- ---- keywords
 
-found_first : {X : Type 0} (of : X → Keyword) (w text : List ℕ) (x : X) (rest : Option X) (fits : Bool) → bytes_eq w text ≡ fits → text ≡ spelled (of x) → IfSome (option_map of rest) (λ k. w ≡ spelled k) → IfSome (option_map of (cond fits (Some x) rest)) (λ k. w ≡ spelled k)
+found_first : {X : Type 0} (of : X → Keyword) (w text : List ℕ) (x : X) (rest : Option X) (fits : Bool) → bytes_eq w text ≡ fits → text ≡ spelled (of x)
+    → IfSome (option_map of rest) (λ k. w ≡ spelled k) → IfSome (option_map of (cond fits (Some x) rest)) (λ k. w ≡ spelled k)
 found_first of w text x rest true e same h = same_bytes w text e ∙ same
 found_first of w text x rest false e same h = h
 
 -- the first entry that fits is spelled like the word
-pub found_keyword : {X : Type 0} (text : X → List ℕ) (of : X → Keyword) (w : List ℕ) (entries : List X) → list_all (λ e. bytes_eq (text e) (spelled (of e))) entries ≡ true → IfSome (option_map of (find (λ e. bytes_eq w (text e)) entries)) (λ k. w ≡ spelled k)
+pub found_keyword : {X : Type 0} (text : X → List ℕ) (of : X → Keyword) (w : List ℕ) (entries : List X)
+    → list_all (λ e. bytes_eq (text e) (spelled (of e))) entries ≡ true
+    → IfSome (option_map of (find (λ e. bytes_eq w (text e)) entries)) (λ k. w ≡ spelled k)
 found_keyword text of w [] h = tt
 found_keyword text of w (x ∷ entries) h =
     let both = and_true (bytes_eq (text x) (spelled (of x))) (list_all (λ e. bytes_eq (text e) (spelled (of e))) entries) h in
-    found_first of w (text x) x (find (λ e. bytes_eq w (text e)) entries) (bytes_eq w (text x)) refl (same_bytes (text x) (spelled (of x)) both.0) (found_keyword text of w entries both.1)
+    found_first of w (text x) x (find (λ e. bytes_eq w (text e)) entries) (bytes_eq w (text x)) refl (same_bytes (text x) (spelled (of x)) both.0)
+    (found_keyword text of w entries both.1)
 
-no_first : {X : Type 0} (of : X → Keyword) (w text : List ℕ) (x : X) (rest : Option X) (texts : List (List ℕ)) (fits : Bool) → bytes_eq w text ≡ fits → IfNone (option_map of rest) (SpellsNone w texts) → IfNone (option_map of (cond fits (Some x) rest)) (SpellsNone w (text ∷ texts))
+no_first : {X : Type 0} (of : X → Keyword) (w text : List ℕ) (x : X) (rest : Option X) (texts : List (List ℕ)) (fits : Bool) → bytes_eq w text ≡ fits
+    → IfNone (option_map of rest) (SpellsNone w texts) → IfNone (option_map of (cond fits (Some x) rest)) (SpellsNone w (text ∷ texts))
 no_first of w text x rest texts true e h = tt
 no_first of w text x None texts false e h = (e, h)
 no_first of w text x (Some y) texts false e h = tt
 
 -- where none fits, none is spelled like the word
-no_keyword : {X : Type 0} (text : X → List ℕ) (of : X → Keyword) (w : List ℕ) (entries : List X) → IfNone (option_map of (find (λ e. bytes_eq w (text e)) entries)) (SpellsNone w (map text entries))
+no_keyword : {X : Type 0} (text : X → List ℕ) (of : X → Keyword) (w : List ℕ) (entries : List X)
+    → IfNone (option_map of (find (λ e. bytes_eq w (text e)) entries)) (SpellsNone w (map text entries))
 no_keyword text of w [] = tt
 no_keyword text of w (x ∷ entries) =
     no_first of w (text x) x (find (λ e. bytes_eq w (text e)) entries) (map text entries) (bytes_eq w (text x)) refl (no_keyword text of w entries)
@@ -193,7 +200,8 @@ abbrev pub asked : Meaning Command → Meaning (Option Command)
 asked meaning = meaning >>= λ command. Ok (Some command)
 
 -- what a line means that isn't too long, and isn't skipped, by its first six words
-pub means_asked : (line : List ℕ) (words : List (List ℕ)) → words ≡ first_words line → length line ≤ longest_line → is_skipped words ≡ false → asked (command_of words) ≡ line_means line
+pub means_asked : (line : List ℕ) (words : List (List ℕ)) → words ≡ first_words line → length line ≤ longest_line → is_skipped words ≡ false
+    → asked (command_of words) ≡ line_means line
 unfolding line_means
 means_asked line words all fits not =
     let few : nat_lt longest_line (length line) ≡ false = search (rules, arith, tests) in
@@ -213,22 +221,27 @@ differs w text first true e begins other =
     absurd (search (rules, tests, other, one))
 differs w text first false e begins other = refl
 
-next_text : (w text : List ℕ) (first : ℕ) (rest some : List (List ℕ)) (fits : Bool) → eqb (get_or text 0 0) first ≡ fits → get_or w 0 0 ≡ first → (SpellsNone w some → SpellsNone w rest) → SpellsNone w (cond fits (text ∷ some) some) → SpellsNone w (text ∷ rest)
+next_text : (w text : List ℕ) (first : ℕ) (rest some : List (List ℕ)) (fits : Bool) → eqb (get_or text 0 0) first ≡ fits → get_or w 0 0 ≡ first
+    → (SpellsNone w some → SpellsNone w rest) → SpellsNone w (cond fits (text ∷ some) some) → SpellsNone w (text ∷ rest)
 next_text w text first rest some true e begins before h = (h.0, before h.1)
 next_text w text first rest some false e begins before h = (differs w text first (bytes_eq w text) refl begins e, before h)
 
 -- a word is none of the texts, if it is none of those that begin as it does
-by_first : (w : List ℕ) (first : ℕ) (texts : List (List ℕ)) → get_or w 0 0 ≡ first → SpellsNone w (filter (λ text. eqb (get_or text 0 0) first) texts) → SpellsNone w texts
+by_first : (w : List ℕ) (first : ℕ) (texts : List (List ℕ)) → get_or w 0 0 ≡ first → SpellsNone w (filter (λ text. eqb (get_or text 0 0) first) texts)
+    → SpellsNone w texts
 by_first w first [] begins h = tt
 by_first w first (text ∷ texts) begins h =
-    next_text w text first texts (filter (λ text. eqb (get_or text 0 0) first) texts) (eqb (get_or text 0 0) first) refl begins (by_first w first texts begins) h
+    next_text w text first texts (filter (λ text. eqb (get_or text 0 0) first) texts) (eqb (get_or text 0 0) first) refl begins
+    (by_first w first texts begins) h
 
 if_none : {X : Type 0} (P Q : Type 0) (found : Option X) → (P → Q) → IfNone found P → IfNone found Q
 if_none P Q None f h = f h
 if_none P Q (Some x) f h = tt
 
 -- where none of those that begin as the word does fits, it is none of the texts
-pub no_keyword_from : {X : Type 0} (text : X → List ℕ) (of : X → Keyword) (w : List ℕ) (first : ℕ) (entries : List X) (texts : List (List ℕ)) → get_or w 0 0 ≡ first → map text entries ≡ filter (λ name. eqb (get_or name 0 0) first) texts → IfNone (option_map of (find (λ e. bytes_eq w (text e)) entries)) (SpellsNone w texts)
+pub no_keyword_from : {X : Type 0} (text : X → List ℕ) (of : X → Keyword) (w : List ℕ) (first : ℕ) (entries : List X) (texts : List (List ℕ))
+    → get_or w 0 0 ≡ first → map text entries ≡ filter (λ name. eqb (get_or name 0 0) first) texts
+    → IfNone (option_map of (find (λ e. bytes_eq w (text e)) entries)) (SpellsNone w texts)
 no_keyword_from text of w first entries texts begins are =
     if_none (SpellsNone w (map text entries)) (SpellsNone w texts) (option_map of (find (λ e. bytes_eq w (text e)) entries))
     (λ h. let P : List (List ℕ) → Type 0 = λ names. SpellsNone w names in by_first w first texts begins (subst P are h))

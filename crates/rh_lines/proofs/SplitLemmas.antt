@@ -1,5 +1,6 @@
 -- A line is cut at its spaces, from left to right.
-use Rattle.std.proofs.Common.{◌≡◌, ℕ, zero, suc, ◌+◌, ◌<◌, ◌≤◌, Bool, true, false, not, eqb, List, [], ◌∷◌, ◌++◌, length, take, drop, add-one, refl, sym, ◌∙◌, ap, arith, rules, lit≤, append_assoc, map, length-append, ◌-◌}
+use Rattle.std.proofs.Common.{◌≡◌, ℕ, zero, suc, ◌+◌, ◌<◌, ◌≤◌, Bool, true, false, not, eqb, List, [], ◌∷◌, ◌++◌, length, take, drop, add-one, refl, sym, ◌∙◌}
+use Rattle.std.proofs.Common.{ap, arith, rules, lit≤, append_assoc, map, length-append, ◌-◌}
 use Rattle.std.proofs.lemmas.List.{take_all, take-append-le, take_rest, length-map}
 use borrow.Author.Tests.{tests}
 use Rattle.std.specs.List.{slice_split, onto_first, filter}
@@ -21,7 +22,8 @@ split_none p [] h = refl
 split_none p (x ∷ xs) h =
     no_first p x xs (p x) refl (h 0 (omega arith)) ∙ ap (onto_first x) (split_none p xs (λ k lt. h (suc k) (omega arith)))
 
-split_at : (p : ℕ → Bool) (xs : List ℕ) (n : ℕ) → n < length xs → NoneBelow p xs n → p (slice_index xs n) ≡ true → slice_split p xs ≡ take n xs ∷ slice_split p (drop (suc n) xs)
+split_at : (p : ℕ → Bool) (xs : List ℕ) (n : ℕ) → n < length xs → NoneBelow p xs n → p (slice_index xs n) ≡ true
+    → slice_split p xs ≡ take n xs ∷ slice_split p (drop (suc n) xs)
 split_at p [] n lt h e = absurd (omega arith)
 split_at p (x ∷ xs) zero lt h e = rw e refl
 split_at p (x ∷ xs) (suc n) lt h e =
@@ -36,9 +38,11 @@ filter_first q w ws true e = rw e refl
 filter_first q w ws false e = rw e refl
 
 -- what stands before the first space, and the rest behind it
-pub words_next : (xs : List ℕ) (n : ℕ) → n < length xs → NoneBelow (λ b. eqb b space) xs n → eqb (slice_index xs n) space ≡ true → words_of xs ≡ piece_words (take n xs) ++ words_of (drop (suc n) xs)
+pub words_next : (xs : List ℕ) (n : ℕ) → n < length xs → NoneBelow (λ b. eqb b space) xs n → eqb (slice_index xs n) space ≡ true
+    → words_of xs ≡ piece_words (take n xs) ++ words_of (drop (suc n) xs)
 words_next xs n lt h e =
-    ap (filter (λ w. not (eqb (length w) 0))) (split_at (λ b. eqb b space) xs n lt h e) ∙ filter_first (λ w. not (eqb (length w) 0)) (take n xs) (slice_split (λ b. eqb b space) (drop (suc n) xs)) _ refl
+    ap (filter (λ w. not (eqb (length w) 0))) (split_at (λ b. eqb b space) xs n lt h e)
+    ∙ filter_first (λ w. not (eqb (length w) 0)) (take n xs) (slice_split (λ b. eqb b space) (drop (suc n) xs)) _ refl
 
 -- ---- the words found so far
 
@@ -50,7 +54,8 @@ short_piece : (piece : List ℕ) → length (piece_words piece) ≤ 1
 short_piece piece = one_at_most (λ w. not (eqb (length w) 0)) piece _ refl
 
 -- the rest is the last piece
-pub found_last : {X : Type 0} (f : X → List ℕ) (line rest : List ℕ) (old new : List X) → words_of line ≡ map f old ++ words_of rest → length old < 6 → NoneBelow (λ b. eqb b space) rest (length rest) → map f new ≡ map f old ++ piece_words rest → map f new ≡ first_words line
+pub found_last : {X : Type 0} (f : X → List ℕ) (line rest : List ℕ) (old new : List X) → words_of line ≡ map f old ++ words_of rest → length old < 6
+    → NoneBelow (λ b. eqb b space) rest (length rest) → map f new ≡ map f old ++ piece_words rest → map f new ≡ first_words line
 unfolding first_words
 found_last f line rest old new so_far room none e =
     let all : words_of line ≡ map f new = so_far ∙ (ap (λ z. map f old ++ z) (words_last rest none) ∙ sym e) in
@@ -59,16 +64,21 @@ found_last f line rest old new so_far room none e =
     sym (ap (take 6) all ∙ take_all 6 (map f new) short)
 
 -- one more piece, where there is room for another
-pub found_next : {X : Type 0} (f : X → List ℕ) (line rest : List ℕ) (n : ℕ) (old new : List X) → words_of line ≡ map f old ++ words_of rest → n < length rest → NoneBelow (λ b. eqb b space) rest n → eqb (slice_index rest n) space ≡ true → map f new ≡ map f old ++ piece_words (take n rest) → words_of line ≡ map f new ++ words_of (take (length rest - (n + 1)) (drop (n + 1) rest))
+pub found_next : {X : Type 0} (f : X → List ℕ) (line rest : List ℕ) (n : ℕ) (old new : List X) → words_of line ≡ map f old ++ words_of rest → n < length rest
+    → NoneBelow (λ b. eqb b space) rest n → eqb (slice_index rest n) space ≡ true → map f new ≡ map f old ++ piece_words (take n rest)
+    → words_of line ≡ map f new ++ words_of (take (length rest - (n + 1)) (drop (n + 1) rest))
 found_next f line rest n old new so_far lt none e same =
     let whole : take (length rest - (n + 1)) (drop (n + 1) rest) ≡ drop (n + 1) rest = take_rest rest (n + 1) in
-    rw (whole, add-one) (so_far ∙ (ap (λ z. map f old ++ z) (words_next rest n lt none e) ∙ (sym (append_assoc (map f old) (piece_words (take n rest)) (words_of (drop (suc n) rest))) ∙ ap (λ z. z ++ words_of (drop (suc n) rest)) (sym same))))
+    rw (whole, add-one) (so_far ∙ (ap (λ z. map f old ++ z) (words_next rest n lt none e)
+    ∙ (sym (append_assoc (map f old) (piece_words (take n rest)) (words_of (drop (suc n) rest)))
+    ∙ ap (λ z. z ++ words_of (drop (suc n) rest)) (sym same))))
 
 found_more : {X : Type 0} (f : X → List ℕ) (old new : List X) (piece : List ℕ) → length old < 6 → map f new ≡ map f old ++ piece_words piece → length new ≤ 6
 found_more f old new piece room e =
     omega (arith, simp (length-append, length-map) at (ap length e), short_piece piece)
 
-pub still_room : {X : Type 0} (f : X → List ℕ) (old new : List X) (piece : List ℕ) (full : Bool) → length old < 6 → map f new ≡ map f old ++ piece_words piece → full ≡ eqb (length new) 6 → full ≡ false → length new < 6
+pub still_room : {X : Type 0} (f : X → List ℕ) (old new : List X) (piece : List ℕ) (full : Bool) → length old < 6
+    → map f new ≡ map f old ++ piece_words piece → full ≡ eqb (length new) 6 → full ≡ false → length new < 6
 still_room f old new piece full room e is not_full =
     let most : length new ≤ 6 = found_more f old new piece room e in
     let differs : eqb (length new) 6 ≡ false = sym is ∙ not_full in
@@ -78,8 +88,10 @@ pub no_room : (n : ℕ) (full : Bool) → full ≡ eqb n 6 → full ≡ true →
 no_room n full is full_is = let same : eqb n 6 ≡ true = sym is ∙ full_is in search (rules, tests)
 
 -- there is no room for more
-pub found_full : {X : Type 0} (f : X → List ℕ) (line : List ℕ) (new : List X) (rest : List (List ℕ)) → words_of line ≡ map f new ++ rest → length new ≡ 6 → map f new ≡ first_words line
+pub found_full : {X : Type 0} (f : X → List ℕ) (line : List ℕ) (new : List X) (rest : List (List ℕ)) → words_of line ≡ map f new ++ rest → length new ≡ 6
+    → map f new ≡ first_words line
 unfolding first_words
 found_full f line new rest all full =
     let same : 6 ≡ length (map f new) = simp length-map (sym full) in
-    sym (ap (take 6) all ∙ (ap (λ k. take k (map f new ++ rest)) same ∙ (take-append-le (length (map f new)) (map f new) rest (omega arith) ∙ take_all (length (map f new)) (map f new) (omega arith))))
+    sym (ap (take 6) all ∙ (ap (λ k. take k (map f new ++ rest)) same ∙ (take-append-le (length (map f new)) (map f new) rest (omega arith)
+    ∙ take_all (length (map f new)) (map f new) (omega arith))))

@@ -1,5 +1,6 @@
 -- A text in lent bytes after one more write.
-use Rattle.std.proofs.Common.{◌≡◌, ℕ, ◌+◌, ◌-◌, ◌≤◌, ◌^◌, true, false, List, [], ◌∷◌, ◌++◌, length, take, drop, min, refl, sym, ap, ◌∙◌, arith, append_assoc, length-append, length-drop, length-take-le, take-append-drop}
+use Rattle.std.proofs.Common.{◌≡◌, ℕ, ◌+◌, ◌-◌, ◌≤◌, ◌^◌, true, false, List, [], ◌∷◌, ◌++◌, length, take, drop, min, refl, sym, ap, ◌∙◌, arith, append_assoc}
+use Rattle.std.proofs.Common.{length-append, length-drop, length-take-le, take-append-drop}
 use Rattle.std.proofs.Math.Seq.{drop-append-add, drop-append_seam}
 use borrow.Rule.Slice.PartMut.{put_mid}
 use Rattle.std.specs.Prelude.{nat_lt, ◌&&◌}
@@ -83,7 +84,8 @@ pub wrote : {old new : WholeText} {bytes : List ℕ} → Takes (output_of old) (
 unfolding output_of
 wrote {old} {new} {bytes} takes =
     let split = parts takes.taken in
-    let both = fronts (before_of new) (text_of new) (before_of old) (text_of old ++ bytes) split.1.0 (split.1.1 ∙ append_assoc (before_of old) (text_of old) bytes) in
+    let both = fronts (before_of new) (text_of new) (before_of old) (text_of old ++ bytes) split.1.0
+    (split.1.1 ∙ append_assoc (before_of old) (text_of old) bytes) in
     record { same_reference = split.0; before = both.0; text = both.1 }
 
 -- no write fails

@@ -41,7 +41,8 @@ reads n (v ∷ ws) (suc i) w h e = reads n ws i w h.1 e
 
 pub short_word : (line : List ℕ) (i : ℕ) (w : List ℕ) → slice_get (words_of line) i ≡ Some w → length w ≤ length line
 short_word line i w e =
-    reads (length line) (words_of line) i w (kept (λ w. not (eqb (length w) 0)) (length line) (slice_split (λ b. eqb b space) line) (short_parts (λ b. eqb b space) line)) e
+    reads (length line) (words_of line) i w (kept (λ w. not (eqb (length w) 0)) (length line) (slice_split (λ b. eqb b space) line)
+    (short_parts (λ b. eqb b space) line)) e
 
 -- what a word of hexadecimal digits spells is half as long
 half_of : (w b : List ℕ) (d : Result (List ℕ) FromHexError) → decode_of w ≡ d → Some b ≡ result_ok d → length w ≡ 2 * length b

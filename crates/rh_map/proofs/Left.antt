@@ -28,7 +28,8 @@ left_none {s} {t} {whole} p e =
     subst (λ (z : List ℕ). Takes s t z) (sym (p.is ∙ (ap (λ z. p.written ++ z) e ∙ append-nil p.written))) p.takes
 
 -- a part that is not written whole
-pub left_breaks : {E : Type 0} {s t u : Output} {whole rest part : List ℕ} {e : E} (behind : List ℕ) (r : Result Unit E) → Left s t whole rest → rest ≡ part ++ behind → Puts t u (Err e) part → IsErr r → Puts s u r whole
+pub left_breaks : {E : Type 0} {s t u : Output} {whole rest part : List ℕ} {e : E} (behind : List ℕ) (r : Result Unit E) → Left s t whole rest
+    → rest ≡ part ++ behind → Puts t u (Err e) part → IsErr r → Puts s u r whole
 left_breaks {s = s} {u = u} {whole = whole} {part = part} {e = e} behind r p k q h =
     let broken = takes_breaks p.takes q.err in
     puts_stops {e = e} r (record {

@@ -8,7 +8,8 @@ use Rattle.rh_defs.specs.Memory.{Memory, bytes, with_bytes, opened, closed, grow
 use Rattle.rh_defs.specs.HeapImage.{Spells, heap_of}
 use Rattle.rh_defs.proofs.BytesLaws.{SameIn-below, SameIn-above}
 use Rattle.rh_defs.proofs.HeapLaws.{heap_of-Spells}
-use Rattle.rh_defs.proofs.MemoryLaws.{bytes-with_bytes, bytes-with_other, bytes-none, bytes-opened, bytes-opened_other, bytes-closed_other, bytes-grown_other, bytes-shrunk_other, length-grown, length-shrunk, SameIn-grown, SameIn-shrunk}
+use Rattle.rh_defs.proofs.MemoryLaws.{bytes-with_bytes, bytes-with_other, bytes-none, bytes-opened, bytes-opened_other, bytes-closed_other, bytes-grown_other}
+use Rattle.rh_defs.proofs.MemoryLaws.{bytes-shrunk_other, length-grown, length-shrunk, SameIn-grown, SameIn-shrunk}
 use Rattle.rh_defs.proofs.SlotLaws.{Spells-same}
 use Rattle.rh_store.specs.Starts.{IsIndex, IsMapOf}
 use Rattle.rh_store.specs.declared.store.AreaId.{AreaId}
@@ -32,7 +33,8 @@ pub map_within : (starts b : List ℕ) (at upper : ℕ) → IsMapOf starts b at 
 map_within starts b at upper k = let w = k.spells.within in omega (arith, k.upper_is)
 
 -- one that is off the bytes that change stays
-pub kept_off : (b c : List ℕ) (low upper : ℕ) → SameOutside b c low upper → (o : Option Map) → IfSome o (IsOff low upper) → IfSome o (IsKeptMap b) → IfSome o (IsKeptMap c)
+pub kept_off : (b c : List ℕ) (low upper : ℕ) → SameOutside b c low upper → (o : Option Map) → IfSome o (IsOff low upper) → IfSome o (IsKeptMap b)
+    → IfSome o (IsKeptMap c)
 kept_off b c low upper out None off k = tt
 kept_off b c low upper out (Some s) off k = λ known.
     let m = k known in
@@ -49,7 +51,8 @@ kept_unknown c (Some s) off = λ known. absurd (let bad : false ≡ true = sym o
 
 module _ (m n : Memory) (old new : List (Option Map)) (id : ℕ) where
   -- what is known of one area and of the others
-  pub each : AreKept m old → ((j : ℕ) → j ≢ id → map_of new j ≡ map_of old j) → ((j : ℕ) → j ≢ id → bytes n j ≡ bytes m j) → IfSome (map_of new id) (IsKeptMap (bytes n id)) → AreKept n new
+  pub each : AreKept m old → ((j : ℕ) → j ≢ id → map_of new j ≡ map_of old j) → ((j : ℕ) → j ≢ id → bytes n j ≡ bytes m j)
+      → IfSome (map_of new id) (IsKeptMap (bytes n id)) → AreKept n new
   each k others stay here j = elim (cases_eq j id) [
     | inl same ↦ subst (λ i. IfSome (map_of new i) (IsKeptMap (bytes n i))) (sym same) here
     | inr apart ↦ rw (others j apart, stay j apart) (k j)
@@ -61,7 +64,8 @@ ends_unknown reach None off = tt
 ends_unknown reach (Some s) off = λ known. absurd (let bad : false ≡ true = sym off ∙ known in cc)
 
 module _ (old new : List (Option Map)) (reach : List ℕ) (id : ℕ) where
-  reached_each : AreReached old reach → ((j : ℕ) → j ≢ id → map_of new j ≡ map_of old j) → IfSome (map_of new id) (EndsBy (slice_index reach id)) → AreReached new reach
+  reached_each : AreReached old reach → ((j : ℕ) → j ≢ id → map_of new j ≡ map_of old j) → IfSome (map_of new id) (EndsBy (slice_index reach id))
+      → AreReached new reach
   reached_each r others here j = elim (cases_eq j id) [
     | inl same ↦ subst (λ i. IfSome (map_of new i) (EndsBy (slice_index reach i))) (sym same) here
     | inr apart ↦ rw (others j apart) (r j)
@@ -74,15 +78,16 @@ module _ (old new : List (Option Map)) (reach : List ℕ) (id : ℕ) where
   reached_spoilt r s = reached_each r s.others (ends_unknown (slice_index reach id) (map_of new id) s.off)
 
 -- bytes of an area are written
-written : (m : Memory) (old new : List (Option Map)) (id low upper : ℕ) (bs : List ℕ) → AreKept m old → Forgot old new id low upper → SameOutside (bytes m id) bs low upper
-    → AreKept (with_bytes m id bs) new
+written : (m : Memory) (old new : List (Option Map)) (id low upper : ℕ) (bs : List ℕ) → AreKept m old → Forgot old new id low upper
+    → SameOutside (bytes m id) bs low upper → AreKept (with_bytes m id bs) new
 written m old new id low upper bs k f out =
     each m (with_bytes m id bs) old new id k f.others (bytes-with_other m id bs)
     (rw (bytes-with_bytes m id bs) (kept_off (bytes m id) bs low upper out (map_of new id) f.off (f.still (bytes m id) (k id))))
 
-pub kept_written : (m : Memory) (old new : List (Option Map)) (reach : List ℕ) (id low upper : ℕ) (bs : List ℕ) → AreTied m old reach → Forgot old new id low upper → SameOutside (bytes m id) bs low upper
-    → AreTied (with_bytes m id bs) new reach
-kept_written m old new reach id low upper bs t f out = record { kept = written m old new id low upper bs t.kept f out; reached = reached_forgot old new reach id low upper t.reached f }
+pub kept_written : (m : Memory) (old new : List (Option Map)) (reach : List ℕ) (id low upper : ℕ) (bs : List ℕ) → AreTied m old reach
+    → Forgot old new id low upper → SameOutside (bytes m id) bs low upper → AreTied (with_bytes m id bs) new reach
+kept_written m old new reach id low upper bs t f out =
+    record { kept = written m old new id low upper bs t.kept f out; reached = reached_forgot old new reach id low upper t.reached f }
 
 -- an area gets pages
 grown_here : (m : Memory) (id n : ℕ) (o : Option Map) → IfSome o (IsKeptMap (bytes m id)) → IfSome o (IsKeptMap (bytes (grown m id n) id))
@@ -96,7 +101,8 @@ pub kept_grown : (m : Memory) (maps : List (Option Map)) (id n : ℕ) → AreKep
 kept_grown m maps id n k = each m (grown m id n) maps maps id k (λ j apart. refl) (bytes-grown_other m id n) (grown_here m id n (map_of maps id) (k id))
 
 -- an area loses its last pages
-shrunk_here : (m : Memory) (id n : ℕ) → PAGE * n ≤ length (bytes m id) → (o : Option Map) → IfSome o (IsOff (length (bytes m id) - PAGE * n) (length (bytes m id))) → IfSome o (IsKeptMap (bytes m id))
+shrunk_here : (m : Memory) (id n : ℕ) → PAGE * n ≤ length (bytes m id) → (o : Option Map)
+    → IfSome o (IsOff (length (bytes m id) - PAGE * n) (length (bytes m id))) → IfSome o (IsKeptMap (bytes m id))
     → IfSome o (IsKeptMap (bytes (shrunk m id n) id))
 shrunk_here m id n room None off k = tt
 shrunk_here m id n room (Some s) off k = λ known.
@@ -105,13 +111,15 @@ shrunk_here m id n room (Some s) off k = λ known.
     let fits = at.spells.heap.fits in
     elim (off known) [
       | inl above ↦ absurd (let up = at.upper_is in let least : 16 ≤ (heap_of (bytes m id) s.at).end = omega arith in omega arith)
-      | inr below ↦ map_same s.lines.items (bytes m id) (bytes (shrunk m id n) id) s.at s.upper (SameIn-shrunk m id n s.at s.upper (omega arith)) (omega (arith, length-shrunk m id n)) at
+      | inr below ↦ map_same s.lines.items (bytes m id) (bytes (shrunk m id n) id) s.at s.upper (SameIn-shrunk m id n s.at s.upper (omega arith))
+          (omega (arith, length-shrunk m id n)) at
     ]
 
 pub kept_shrunk : (m : Memory) (old new : List (Option Map)) (reach : List ℕ) (id n : ℕ) → PAGE * n ≤ length (bytes m id) → AreTied m old reach
     → Forgot old new id (length (bytes m id) - PAGE * n) (length (bytes m id)) → AreTied (shrunk m id n) new reach
 kept_shrunk m old new reach id n room t f = record {
-  kept = each m (shrunk m id n) old new id t.kept f.others (bytes-shrunk_other m id n) (shrunk_here m id n room (map_of new id) f.off (f.still (bytes m id) (t.kept id)));
+  kept = each m (shrunk m id n) old new id t.kept f.others (bytes-shrunk_other m id n)
+      (shrunk_here m id n room (map_of new id) f.off (f.still (bytes m id) (t.kept id)));
   reached = reached_forgot old new reach id _ _ t.reached f;
 }
 
@@ -121,14 +129,16 @@ kept_opened m maps id closed k =
     each m (opened m id) maps maps id k (λ j apart. refl) (bytes-opened_other m id) (rw (bytes-opened m id, ← bytes-none m id closed) (k id))
 
 -- an area is closed
-pub kept_closed : (m : Memory) (old new : List (Option Map)) (reach : List ℕ) (id : ℕ) → AreTied m old reach → Spoilt old new id → AreTied (closed m id) new reach
+pub kept_closed : (m : Memory) (old new : List (Option Map)) (reach : List ℕ) (id : ℕ) → AreTied m old reach → Spoilt old new id
+    → AreTied (closed m id) new reach
 kept_closed m old new reach id t s = record {
   kept = each m (closed m id) old new id t.kept s.others (bytes-closed_other m id) (kept_unknown (bytes (closed m id) id) (map_of new id) s.off);
   reached = reached_spoilt old new reach id t.reached s;
 }
 
 -- ---- calls that may be refused
-pub kept_grow : (m n : Memory) (maps : List (Option Map)) (id pages : ℕ) (result : Result (Unit {0}) StoreFault) → AreKept m maps → OnOk result (n ≡ grown m id pages) → OnErr result (n ≡ m) → AreKept n maps
+pub kept_grow : (m n : Memory) (maps : List (Option Map)) (id pages : ℕ) (result : Result (Unit {0}) StoreFault) → AreKept m maps
+    → OnOk result (n ≡ grown m id pages) → OnErr result (n ≡ m) → AreKept n maps
 kept_grow m n maps id pages (Ok x) k ok err = rw ok (kept_grown m maps id pages k)
 kept_grow m n maps id pages (Err e) k ok err = rw err k
 
@@ -136,7 +146,8 @@ none_is : (o : Option (List ℕ)) → IsNone o → o ≡ None
 none_is None h = refl
 none_is (Some x) h = absurd cc
 
-pub kept_open : (m n : Memory) (maps : List (Option Map)) (result : Result AreaId StoreFault) → AreKept m maps → IfOk result (λ id. IsNone (m.area id.0) × (n ≡ opened m id.0)) → OnErr result (n ≡ m) → AreKept n maps
+pub kept_open : (m n : Memory) (maps : List (Option Map)) (result : Result AreaId StoreFault) → AreKept m maps
+    → IfOk result (λ id. IsNone (m.area id.0) × (n ≡ opened m id.0)) → OnErr result (n ≡ m) → AreKept n maps
 kept_open m n maps (Ok id) k ok err = rw ok.1 (kept_opened m maps id.0 (none_is (m.area id.0) ok.0) k)
 kept_open m n maps (Err e) k ok err = rw err k
 

@@ -56,16 +56,16 @@ block_within m rma a n s b = let w = stands m rma a b.bytes s b.found in let r =
 one_of : {x y : List ℕ} → ◌≡◌ {A = Option (List ℕ)} (Some x) (Some y) → x ≡ y
 one_of e = cc
 
-pub word_there : (m : Memory) (rma : Module) (a o : ℕ) (bs : List ℕ) → IsModule m rma → HasBlock a (o + 4) (heap_in m rma) → block_bytes a (heap_in m rma) ≡ Some bs
-    → word (bytes m rma.area.0) (a + o) ≡ word bs o
+pub word_there : (m : Memory) (rma : Module) (a o : ℕ) (bs : List ℕ) → IsModule m rma → HasBlock a (o + 4) (heap_in m rma)
+    → block_bytes a (heap_in m rma) ≡ Some bs → word (bytes m rma.area.0) (a + o) ≡ word bs o
 word_there m rma a o bs s b e =
     let w = stands m rma a bs s e in
     let same : b.bytes ≡ bs = one_of (sym b.found ∙ e) in
     let r : o + 4 ≤ length bs = subst (λ l. o + 4 ≤ length l) same b.room in
     sym (word-part (bytes m rma.area.0) a (length bs) o r) ∙ ap (λ l. word l o) w.part
 
-pub part_there : (m : Memory) (rma : Module) (a o n : ℕ) (bs : List ℕ) → IsModule m rma → HasBlock a (o + n) (heap_in m rma) → block_bytes a (heap_in m rma) ≡ Some bs
-    → part (bytes m rma.area.0) (a + o) n ≡ part bs o n
+pub part_there : (m : Memory) (rma : Module) (a o n : ℕ) (bs : List ℕ) → IsModule m rma → HasBlock a (o + n) (heap_in m rma)
+    → block_bytes a (heap_in m rma) ≡ Some bs → part (bytes m rma.area.0) (a + o) n ≡ part bs o n
 part_there m rma a o n bs s b e =
     let w = stands m rma a bs s e in
     let same : b.bytes ≡ bs = one_of (sym b.found ∙ e) in
@@ -86,7 +86,8 @@ wrote m n rma a o xs s b e =
     let c = put (bytes m rma.area.0) (a + o) xs in
     let image = IsImage-written (bytes m rma.area.0) (heap_in m rma) a o xs b.bytes s.spells b.found b.room in
     let k : Memory = with_bytes m rma.area.0 c in
-    let there : SpellsIn k rma (poked a o xs (heap_in m rma)) = subst (λ l. IsImage l (poked a o xs (heap_in m rma))) (sym (bytes-with_bytes m rma.area.0 c)) image in
+    let there : SpellsIn k rma (poked a o xs (heap_in m rma)) =
+    subst (λ l. IsImage l (poked a o xs (heap_in m rma))) (sym (bytes-with_bytes m rma.area.0 c)) image in
     let made : Wrote m k rma a o xs = record {
       still = is_module k rma (poked a o xs (heap_in m rma)) (IsOpen-with_bytes m rma.area.0 c) there;
       heap = heap_is k rma (poked a o xs (heap_in m rma)) there;
@@ -102,13 +103,14 @@ wrote_word m n rma a o w s b e = wrote m n rma a o (word_bytes w) s b e
 
 -- ---- the map that is kept beside the area
 
-pub maps_on : {A : Type 0} (items : A → List ℕ) (h d : Heap) → SameShape d h → (o : Option A) → IfSome o (λ x. IsIndex (items x) h) → IfSome o (λ x. IsIndex (items x) d)
+pub maps_on : {A : Type 0} (items : A → List ℕ) (h d : Heap) → SameShape d h → (o : Option A) → IfSome o (λ x. IsIndex (items x) h)
+    → IfSome o (λ x. IsIndex (items x) d)
 maps_on items h d s None i = tt
 maps_on items h d s (Some x) i = index_shape (items x) d h s i
 
 -- what was written in a block left the heap its shape
-pub same_shape : (m n : Memory) (rma : Module) (a o : ℕ) (xs : List ℕ) (before behind : Span) → Wrote m n rma a o xs → IsModule m rma → before ≡ span_of rma → behind ≡ span_of rma
-    → SameShape (spans.heap_in n behind) (spans.heap_in m before)
+pub same_shape : (m n : Memory) (rma : Module) (a o : ℕ) (xs : List ℕ) (before behind : Span) → Wrote m n rma a o xs → IsModule m rma → before ≡ span_of rma
+    → behind ≡ span_of rma → SameShape (spans.heap_in n behind) (spans.heap_in m before)
 same_shape m n rma a o xs before behind w s e f = rw (old_heap f w.still, w.heap, old_heap e s) (poked-shape a o xs (heap_in m rma))
 
 pub span_after : (m n : Memory) (rma : Module) (a o : ℕ) (xs : List ℕ) (span : Span) → Wrote m n rma a o xs → span ≡ span_of rma → spans.IsSpan n span

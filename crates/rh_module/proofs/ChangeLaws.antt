@@ -54,7 +54,8 @@ module _ {z : ℤ} {size pages : ℕ} (free : ℕ) (h : Heap) (a : Amount z size
   change_shortened l =
       let e = low in
       module_change-done free z h (omega arith) (omega arith)
-      ∙ ap (λ (n : ℕ). let g : Heap = record { segments = h.segments; end = n } in Ok (g, whole_pages z)) e ∙ ap (λ (n : ℕ). Ok (shorter pages h, n)) (whole_is a)
+      ∙ ap (λ (n : ℕ). let g : Heap = record { segments = h.segments; end = n } in Ok (g, whole_pages z)) e
+      ∙ ap (λ (n : ℕ). Ok (shorter pages h, n)) (whole_is a)
 
 module _ {z : ℤ} {size pages : ℕ} (free : ℕ) (h : Heap) (a : Amount z size pages false) (fits : base h ≤ h.end) where
   high : changed_length h.end z ≡ h.end + PAGE * pages
@@ -67,4 +68,5 @@ module _ {z : ℤ} {size pages : ℕ} (free : ℕ) (h : Heap) (a : Amount z size
   change_lengthened l =
       let e = high in
       module_change-done free z h (omega arith) (omega arith)
-      ∙ ap (λ (n : ℕ). let g : Heap = record { segments = h.segments; end = n } in Ok (g, whole_pages z)) e ∙ ap (λ (n : ℕ). Ok (longer pages h, n)) (whole_is a)
+      ∙ ap (λ (n : ℕ). let g : Heap = record { segments = h.segments; end = n } in Ok (g, whole_pages z)) e
+      ∙ ap (λ (n : ℕ). Ok (longer pages h, n)) (whole_is a)

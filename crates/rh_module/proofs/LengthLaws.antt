@@ -11,7 +11,8 @@ use Rattle.rh_defs.specs.Heap.{Heap, extend, extended, base}
 use Rattle.rh_defs.specs.declared.heap.HeapRefusal.{HeapRefusal}
 use Rattle.rh_defs.specs.declared.heap.HeapRefusal.TheVariants.{ExcessiveShrink}
 use Rattle.rh_defs.specs.HeapImage.{IsImage}
-use Rattle.rh_defs.proofs.MemoryLaws.{IsOpen-grown, length-grown, length-shrunk, SameIn-grown, SameIn-shrunk, OnlyArea-grown, OnlyArea-shrunk, OnlyArea-from_Edited, OnlyArea-both}
+use Rattle.rh_defs.proofs.MemoryLaws.{IsOpen-grown, length-grown, length-shrunk, SameIn-grown, SameIn-shrunk, OnlyArea-grown, OnlyArea-shrunk}
+use Rattle.rh_defs.proofs.MemoryLaws.{OnlyArea-from_Edited, OnlyArea-both}
 use Rattle.rh_defs.proofs.HeapCalls.{extend-done, extend-fits, extend-refused}
 use Rattle.rh_defs.proofs.ModuleLaws.{Spells-kept}
 use Rattle.rh_heap.specs.Spans as spans
@@ -38,16 +39,19 @@ moved_up : (e pages : ℕ) → pages ≤ pool_limit → moved e (to_z w32 (pages
 moved_up e pages l = ap (moved e) (to_z_pos w32 (pages * PAGE) (omega arith)) ∙ omega arith
 
 -- an area that has grown
-pub grown_may_move : (m k : Memory) (rma : Module) (span : Span) (pages : ℕ) → IsModule m rma → k ≡ grown m rma.area.0 pages → span ≡ span_of rma → pages ≤ pool_limit
-    → MayMove k rma span (heap_in m rma) pages (to_z w32 (pages * PAGE))
+pub grown_may_move : (m k : Memory) (rma : Module) (span : Span) (pages : ℕ) → IsModule m rma → k ≡ grown m rma.area.0 pages → span ≡ span_of rma
+    → pages ≤ pool_limit → MayMove k rma span (heap_in m rma) pages (to_z w32 (pages * PAGE))
 grown_may_move m k rma span pages s e at l =
     let id = rma.area.0 in
     let h = heap_in m rma in
-    let long : length (bytes k id) ≡ h.end + PAGE * pages = subst (λ n. length (bytes n id) ≡ h.end + PAGE * pages) (sym e) (length-grown m id pages ∙ ap (λ n. n + PAGE * pages) s.spells.whole) in
+    let long : length (bytes k id) ≡ h.end + PAGE * pages =
+    subst (λ n. length (bytes n id) ≡ h.end + PAGE * pages) (sym e) (length-grown m id pages ∙ ap (λ n. n + PAGE * pages) s.spells.whole) in
     let begins : Begins k rma h = subst (λ n. Begins n rma h) (sym e)
-    (Spells-kept (bytes m id) (bytes (grown m id pages) id) 0 h s.spells.spells (SameIn-grown m id pages 0 (0 + h.end) (omega (arith, s.spells.whole))) (omega (arith, length-grown m id pages, s.spells.whole))) in
+    (Spells-kept (bytes m id) (bytes (grown m id pages) id) 0 h s.spells.spells (SameIn-grown m id pages 0 (0 + h.end) (omega (arith, s.spells.whole)))
+    (omega (arith, length-grown m id pages, s.spells.whole))) in
     let same = heap_there k rma span h at begins in
-    let ended : moved (spans.heap_in k span).end (to_z w32 (pages * PAGE)) ≡ h.end + PAGE * pages = ap (λ (g : Heap). moved g.end (to_z w32 (pages * PAGE))) same ∙ moved_up h.end pages l in
+    let ended : moved (spans.heap_in k span).end (to_z w32 (pages * PAGE)) ≡ h.end + PAGE * pages =
+    ap (λ (g : Heap). moved g.end (to_z w32 (pages * PAGE))) same ∙ moved_up h.end pages l in
     let mult = s.spells.spells.heap.multiple in
     let fits = s.spells.spells.heap.fits in
     let low : base (spans.heap_in k span) ≡ base h = ap base same in
@@ -57,16 +61,18 @@ grown_may_move m k rma span pages s e at l =
       moved_is = ended;
       len = long;
       multiple = omega arith;
-      within = let zero : span.at ≡ 0 = ap (λ (t : Span). t.at) at in let area : length (bytes k span.area.0) ≡ length (bytes k id) = ap (λ (t : Span). length (bytes k t.area.0)) at in omega arith;
+      within = let zero : span.at ≡ 0 = ap (λ (t : Span). t.at) at in let area : length (bytes k span.area.0) ≡ length (bytes k id) =
+          ap (λ (t : Span). length (bytes k t.area.0)) at in omega arith;
       high = omega arith;
     }
 
 -- the end has moved
-pub lengthened : (k n : Memory) (rma : Module) (span : Span) (h : Heap) (pages : ℕ) (delta : ℤ) → MayMove k rma span h pages delta → span ≡ span_of rma → spans.OnlySpan k n span → spans.SpellsIn n span (extended delta (spans.heap_in k span))
-    → SpellsIn n rma (longer pages h)
+pub lengthened : (k n : Memory) (rma : Module) (span : Span) (h : Heap) (pages : ℕ) (delta : ℤ) → MayMove k rma span h pages delta → span ≡ span_of rma
+    → spans.OnlySpan k n span → spans.SpellsIn n span (extended delta (spans.heap_in k span)) → SpellsIn n rma (longer pages h)
 lengthened k n rma span h pages delta w at only s =
     let same : extended delta (spans.heap_in k span) ≡ longer pages h =
-    ap (λ (e : ℕ). let g : Heap = record { segments = (spans.heap_in k span).segments; end = e } in g) w.moved_is ∙ ap (λ (g : Heap). longer pages (let r : Heap = record { segments = g.segments; end = h.end } in r)) w.heap_is in
+    ap (λ (e : ℕ). let g : Heap = record { segments = (spans.heap_in k span).segments; end = e } in g) w.moved_is
+    ∙ ap (λ (g : Heap). longer pages (let r : Heap = record { segments = g.segments; end = h.end } in r)) w.heap_is in
     let len : length (bytes n span.area.0) ≡ length (bytes k span.area.0) = only.outside.len in
     let area : span.area ≡ rma.area = ap (λ (t : Span). t.area) at in
     record {
@@ -74,7 +80,8 @@ lengthened k n rma span h pages delta w at only s =
       spells = begins_there n rma span (longer pages h) at (subst (spans.SpellsIn n span) same s);
     }
 
-pub only_lengthened : (m k n : Memory) (rma : Module) (span : Span) (pages : ℕ) → k ≡ grown m rma.area.0 pages → pages ≤ m.free → span ≡ span_of rma → spans.OnlySpan k n span → OnlyArea m n rma.area.0
+pub only_lengthened : (m k n : Memory) (rma : Module) (span : Span) (pages : ℕ) → k ≡ grown m rma.area.0 pages → pages ≤ m.free → span ≡ span_of rma
+    → spans.OnlySpan k n span → OnlyArea m n rma.area.0
 only_lengthened m k n rma span pages e l at only =
     OnlyArea-both m k n rma.area.0 (subst (λ i. OnlyArea m i rma.area.0) (sym e) (OnlyArea-grown m rma.area.0 pages l))
     (subst (λ t. OnlyArea k n t.area.0) at (OnlyArea-from_Edited k n span.area.0 _ _ only))
@@ -96,23 +103,28 @@ moved_down : (e pages : ℕ) → pages ≤ 2 ^ 19 → moved e (down pages) ≡ e
 moved_down e pages l = ap (moved e) (down_is pages l) ∙ minus e (pages * PAGE) ∙ omega arith
 
 -- the end may be moved, or lies too low
-pub may_shorten : (m : Memory) (rma : Module) (span : Span) (pages : ℕ) → IsModule m rma → span ≡ span_of rma → pages ≤ 2 ^ 19 → {x : Unit {0}} → Ok x ≡ answer_of (no_answer (extend (down pages) (spans.heap_in m span)))
-    → (base (heap_in m rma) ≤ (shorter pages (heap_in m rma)).end) × (extend (down pages) (spans.heap_in m span) ≡ Ok (extended (down pages) (spans.heap_in m span)))
+pub may_shorten : (m : Memory) (rma : Module) (span : Span) (pages : ℕ) → IsModule m rma → span ≡ span_of rma → pages ≤ 2 ^ 19 → {x : Unit {0}}
+    → Ok x ≡ answer_of (no_answer (extend (down pages) (spans.heap_in m span)))
+    → (base (heap_in m rma) ≤ (shorter pages (heap_in m rma)).end) × (extend (down pages) (spans.heap_in m span) ≡ Ok
+    (extended (down pages) (spans.heap_in m span)))
 may_shorten m rma span pages s at l e =
     let fits = extend-fits (down pages) (spans.heap_in m span) e in
     let same = old_heap at s in
     let low : base (spans.heap_in m span) ≡ base (heap_in m rma) = ap base same in
-    let now : moved (spans.heap_in m span).end (down pages) ≡ (heap_in m rma).end - PAGE * pages = ap (λ (g : Heap). moved g.end (down pages)) same ∙ moved_down (heap_in m rma).end pages l in
+    let now : moved (spans.heap_in m span).end (down pages) ≡ (heap_in m rma).end - PAGE * pages =
+    ap (λ (g : Heap). moved g.end (down pages)) same ∙ moved_down (heap_in m rma).end pages l in
     (omega arith, extend-done (down pages) (spans.heap_in m span) fits)
 
-pub may_not_shorten : (m : Memory) (rma : Module) (span : Span) (pages : ℕ) {refusal : HeapRefusal} → IsModule m rma → span ≡ span_of rma → pages ≤ 2 ^ 19 → Err refusal ≡ answer_of (no_answer (extend (down pages) (spans.heap_in m span)))
+pub may_not_shorten : (m : Memory) (rma : Module) (span : Span) (pages : ℕ) {refusal : HeapRefusal} → IsModule m rma → span ≡ span_of rma → pages ≤ 2 ^ 19
+    → Err refusal ≡ answer_of (no_answer (extend (down pages) (spans.heap_in m span)))
     → ((shorter pages (heap_in m rma)).end < base (heap_in m rma)) × (refusal ≡ ExcessiveShrink)
 may_not_shorten m rma span pages s at l e =
     let low = extend-refused (down pages) (spans.heap_in m span) e in
     let under = low.0 in
     let same = old_heap at s in
     let based : base (spans.heap_in m span) ≡ base (heap_in m rma) = ap base same in
-    let now : moved (spans.heap_in m span).end (down pages) ≡ (heap_in m rma).end - PAGE * pages = ap (λ (g : Heap). moved g.end (down pages)) same ∙ moved_down (heap_in m rma).end pages l in
+    let now : moved (spans.heap_in m span).end (down pages) ≡ (heap_in m rma).end - PAGE * pages =
+    ap (λ (g : Heap). moved g.end (down pages)) same ∙ moved_down (heap_in m rma).end pages l in
     (omega arith, low.1)
 
 -- the area's last pages, where the heap leaves them
@@ -121,20 +133,22 @@ record Spare (m k : Memory) (rma : Module) (pages : ℕ) : Type 0 where
   len : length (bytes k rma.area.0) ≡ (heap_in m rma).end
   inside : PAGE * pages ≤ length (bytes k rma.area.0)
 
-spare : (m k : Memory) (rma : Module) (span : Span) (pages : ℕ) → IsModule m rma → span ≡ span_of rma → pages ≤ 2 ^ 19 → spans.OnlySpan m k span → spans.SpellsIn k span (extended (down pages) (spans.heap_in m span))
-    → Spare m k rma pages
+spare : (m k : Memory) (rma : Module) (span : Span) (pages : ℕ) → IsModule m rma → span ≡ span_of rma → pages ≤ 2 ^ 19 → spans.OnlySpan m k span
+    → spans.SpellsIn k span (extended (down pages) (spans.heap_in m span)) → Spare m k rma pages
 spare m k rma span pages s at l only sp =
     let h = heap_in m rma in
     let same : extended (down pages) (spans.heap_in m span) ≡ shorter pages h =
-    ap (extended (down pages)) (heap_there m rma span h at s.spells.spells) ∙ ap (λ (e : ℕ). let g : Heap = record { segments = h.segments; end = e } in g) (moved_down h.end pages l) in
+    ap (extended (down pages)) (heap_there m rma span h at s.spells.spells)
+    ∙ ap (λ (e : ℕ). let g : Heap = record { segments = h.segments; end = e } in g) (moved_down h.end pages l) in
     let there : Begins k rma (shorter pages h) = begins_there k rma span (shorter pages h) at (subst (spans.SpellsIn k span) same sp) in
     let fits = there.heap.fits in
-    let long : length (bytes k rma.area.0) ≡ length (bytes m rma.area.0) = subst (λ (t : Span). length (bytes k t.area.0) ≡ length (bytes m t.area.0)) at only.outside.len in
+    let long : length (bytes k rma.area.0) ≡ length (bytes m rma.area.0) =
+    subst (λ (t : Span). length (bytes k t.area.0) ≡ length (bytes m t.area.0)) at only.outside.len in
     record { begins = there; len = long ∙ s.spells.whole; inside = let w = s.spells.whole in omega arith }
 
 -- the pages are gone
-pub shortened : (m k n : Memory) (rma : Module) (span : Span) (pages : ℕ) → IsModule m rma → span ≡ span_of rma → pages ≤ 2 ^ 19 → spans.OnlySpan m k span → spans.SpellsIn k span (extended (down pages) (spans.heap_in m span))
-    → n ≡ shrunk k rma.area.0 pages → SpellsIn n rma (shorter pages (heap_in m rma))
+pub shortened : (m k n : Memory) (rma : Module) (span : Span) (pages : ℕ) → IsModule m rma → span ≡ span_of rma → pages ≤ 2 ^ 19 → spans.OnlySpan m k span
+    → spans.SpellsIn k span (extended (down pages) (spans.heap_in m span)) → n ≡ shrunk k rma.area.0 pages → SpellsIn n rma (shorter pages (heap_in m rma))
 shortened m k n rma span pages s at l only sp e =
     let id = rma.area.0 in
     let g = shorter pages (heap_in m rma) in
@@ -148,7 +162,8 @@ shortened m k n rma span pages s at l only sp e =
     } in
     subst (λ i. SpellsIn i rma g) (sym e) image
 
-pub only_shortened : (m k n : Memory) (rma : Module) (span : Span) (pages : ℕ) → IsModule m rma → span ≡ span_of rma → pages ≤ 2 ^ 19 → spans.OnlySpan m k span → spans.SpellsIn k span (extended (down pages) (spans.heap_in m span))
+pub only_shortened : (m k n : Memory) (rma : Module) (span : Span) (pages : ℕ) → IsModule m rma → span ≡ span_of rma → pages ≤ 2 ^ 19
+    → spans.OnlySpan m k span → spans.SpellsIn k span (extended (down pages) (spans.heap_in m span))
     → n ≡ shrunk k rma.area.0 pages → OnlyArea m n rma.area.0
 only_shortened m k n rma span pages s at l only sp e =
     OnlyArea-both m k n rma.area.0 (subst (λ (t : Span). OnlyArea m k t.area.0) at (OnlyArea-from_Edited m k span.area.0 _ _ only))

@@ -1,11 +1,13 @@
 -- What a write inside one page does to the bytes of page lists.
-use Rattle.std.proofs.Common.{◌≡◌, ◌≢◌, ℕ, zero, suc, ◌+◌, ◌-◌, ◌*◌, ◌<◌, ◌≤◌, ◌⊎◌, inl, inr, ◌==◌, cond, List, [], ◌∷◌, ◌++◌, length, get_or, refl, sym, ap, ◌∙◌, arith}
+use Rattle.std.proofs.Common.{◌≡◌, ◌≢◌, ℕ, zero, suc, ◌+◌, ◌-◌, ◌*◌, ◌<◌, ◌≤◌, ◌⊎◌, inl, inr, ◌==◌, cond, List, [], ◌∷◌, ◌++◌, length, get_or, refl, sym, ap}
+use Rattle.std.proofs.Common.{◌∙◌, arith}
 use Rattle.std.proofs.lemmas.Bool.{cases_eq, cases_lt}
 use Rattle.std.proofs.lemmas.Bool.Decides.{nat_tests}
 use Rattle.std.proofs.lemmas.Grind.{same_number_lists}
 use Rattle.rh_defs.specs.declared.sizes.TheConstants.{PAGE}
 use Rattle.rh_defs.specs.Bytes.{part, put}
-use Rattle.rh_defs.proofs.BytesLaws.{length-part, length-put, get-part, put_below, put_above, put_inside, part-part, part-put_below, part-put_above, part-append_left, part-append_right, put-append_left, put-append_right}
+use Rattle.rh_defs.proofs.BytesLaws.{length-part, length-put, get-part, put_below, put_above, put_inside, part-part, part-put_below, part-put_above}
+use Rattle.rh_defs.proofs.BytesLaws.{part-append_left, part-append_right, put-append_left, put-append_right}
 use Rattle.rh_pages.specs.Pages.{page, bytes_of}
 use Rattle.rh_store.specs.Shares.{times}
 use Rattle.rh_pages.specs.Kept.{length-bytes}
@@ -36,7 +38,8 @@ part-put_over b p n o ws fits inside =
     get-part (put b (p + o) ws) p n k i ∙ elim (cases_lt k o) [
       | inl h ↦ put_below b (p + o) ws (p + k) (omega arith) ∙ sym (put_below (part b p n) o ws k h ∙ get-part b p n k i)
       | inr g ↦ elim (cases_lt k (o + length ws)) [
-        | inl h ↦ put_inside b (p + o) ws (p + k) (k - o) (omega arith) (omega arith) (omega arith) ∙ sym (put_inside (part b p n) o ws k (k - o) (omega arith) (omega arith) (omega arith))
+        | inl h ↦ put_inside b (p + o) ws (p + k) (k - o) (omega arith) (omega arith) (omega arith)
+            ∙ sym (put_inside (part b p n) o ws k (k - o) (omega arith) (omega arith) (omega arith))
         | inr f ↦ put_above b (p + o) ws (p + k) (omega arith) ∙ sym (put_above (part b p n) o ws k f ∙ get-part b p n k i)
       ]
     ])
@@ -85,7 +88,8 @@ module _ (r : List ℕ) (k o : ℕ) (ws : List ℕ) (fits : o + length ws ≤ PA
   bytes_same (j ∷ ks) zero li at once = elim (head_tells j k) [
     | inl e ↦
         let one = e.1 in let rest : times k ks ≡ 0 = omega arith in let z : PAGE * 0 + o ≡ o = omega arith in let len = length-part r (PAGE * j) PAGE in
-        ap (λ l. l ++ bytes_of r' ks) (ap (page r') e.0 ∙ page_same ∙ ap (λ m. put (page r m) o ws) (sym e.0)) ∙ ap (λ l. put (page r j) o ws ++ l) (bytes_other ks rest)
+        ap (λ l. l ++ bytes_of r' ks) (ap (page r') e.0 ∙ page_same ∙ ap (λ m. put (page r m) o ws) (sym e.0))
+        ∙ ap (λ l. put (page r j) o ws ++ l) (bytes_other ks rest)
         ∙ sym (put-append_left (page r j) (bytes_of r ks) o ws (omega arith)) ∙ ap (λ m. put (page r j ++ bytes_of r ks) m ws) (sym z)
     | inr h ↦ absurd (h.0 at)
   ]

@@ -1,5 +1,6 @@
 -- Lists that stand in sections of one row: how one is read, and what a longer or a shorter one makes of all.
-use Rattle.std.proofs.Common.{◌≡◌, ℕ, zero, suc, ◌+◌, ◌*◌, ◌<◌, ◌≤◌, List, [], ◌∷◌, ◌++◌, length, get_or, set, take, drop, replicate, refl, sym, ap, ap₂, ◌∙◌, arith, length-drop, length-take}
+use Rattle.std.proofs.Common.{◌≡◌, ℕ, zero, suc, ◌+◌, ◌*◌, ◌<◌, ◌≤◌, List, [], ◌∷◌, ◌++◌, length, get_or, set, take, drop, replicate, refl, sym, ap, ap₂, ◌∙◌}
+use Rattle.std.proofs.Common.{arith, length-drop, length-take}
 use Rattle.std.proofs.lemmas.List.{take-set-le, drop-drop, drop-set-lt, drop-set-add, get_or-drop, get_or-set_same, take_more, take_more_set}
 use Rattle.std.proofs.lemmas.Nat.{mul-le}
 use Rattle.std.proofs.Math.Nat.{suc-mul}
@@ -10,7 +11,8 @@ next : (k room : ℕ) → suc k * room ≡ room + k * room
 next k room = let e = suc-mul k room in omega arith
 
 -- a list of them
-pub list_rows : (numbers : List ℕ) (room : ℕ) (lengths : List ℕ) (k : ℕ) → list_at (rows numbers room lengths) k ≡ take (get_or lengths k 0) (drop (k * room) numbers)
+pub list_rows : (numbers : List ℕ) (room : ℕ) (lengths : List ℕ) (k : ℕ)
+    → list_at (rows numbers room lengths) k ≡ take (get_or lengths k 0) (drop (k * room) numbers)
 list_rows numbers room [] k = refl
 list_rows numbers room (n ∷ lengths) zero = let z : 0 ≡ 0 * room = omega arith in ap (λ i. take n (drop i numbers)) z
 list_rows numbers room (n ∷ lengths) (suc k) =
@@ -32,7 +34,8 @@ no_length room (suc n) zero = omega arith
 no_length room (suc n) (suc k) = no_length room n k
 
 -- one of them has another length
-pub set_rows : (numbers : List ℕ) (room : ℕ) (lengths : List ℕ) (k m : ℕ) → rows numbers room (set lengths k m) ≡ set (rows numbers room lengths) k (take m (drop (k * room) numbers))
+pub set_rows : (numbers : List ℕ) (room : ℕ) (lengths : List ℕ) (k m : ℕ)
+    → rows numbers room (set lengths k m) ≡ set (rows numbers room lengths) k (take m (drop (k * room) numbers))
 set_rows numbers room [] k m = refl
 set_rows numbers room (n ∷ lengths) zero m = let z : 0 ≡ 0 * room = omega arith in ap (λ i. take m (drop i numbers) ∷ rows (drop room numbers) room lengths) z
 set_rows numbers room (n ∷ lengths) (suc k) m =
@@ -47,7 +50,8 @@ section_room numbers room count k lt long = let most = mul-le (suc k) room count
 
 module _ (room : ℕ) where
   -- a write behind the end of one list, in its section
-  behind_rows : (numbers lengths : List ℕ) (k n v : ℕ) → ((j : ℕ) → get_or lengths j 0 ≤ room) → get_or lengths k 0 ≤ n → n < room → rows (set numbers (k * room + n) v) room lengths ≡ rows numbers room lengths
+  behind_rows : (numbers lengths : List ℕ) (k n v : ℕ) → ((j : ℕ) → get_or lengths j 0 ≤ room) → get_or lengths k 0 ≤ n → n < room
+      → rows (set numbers (k * room + n) v) room lengths ≡ rows numbers room lengths
   behind_rows numbers [] k n v fits end inside = refl
   behind_rows numbers (m ∷ lengths) zero n v fits end inside =
       ap₂ ◌∷◌ (take-set-le m numbers (0 * room + n) v (omega arith)) (ap (λ l. rows l room lengths) (drop-set-lt room numbers (0 * room + n) v (omega arith)))
@@ -56,10 +60,12 @@ module _ (room : ℕ) where
       let first = fits 0 in
       ap (λ i. rows (set numbers i v) room (m ∷ lengths)) at
       ∙ ap₂ ◌∷◌ (take-set-le m numbers (room + (k * room + n)) v (omega arith))
-      (ap (λ l. rows l room lengths) (drop-set-add room numbers (k * room + n) v) ∙ behind_rows (drop room numbers) lengths k n v (λ j. fits (suc j)) end inside)
+      (ap (λ l. rows l room lengths) (drop-set-add room numbers (k * room + n) v)
+      ∙ behind_rows (drop room numbers) lengths k n v (λ j. fits (suc j)) end inside)
 
   -- a number is appended to a list
-  module _ (numbers lengths : List ℕ) (k v : ℕ) (lt : k < length lengths) (long : length lengths * room ≤ length numbers) (fits : (j : ℕ) → get_or lengths j 0 ≤ room) where
+  module _ (numbers lengths : List ℕ) (k v : ℕ) (lt : k < length lengths) (long : length lengths * room ≤ length numbers)
+      (fits : (j : ℕ) → get_or lengths j 0 ≤ room) where
     abbrev n : ℕ
     n = get_or lengths k 0
 
@@ -72,7 +78,9 @@ module _ (room : ℕ) where
         let most = fits k in
         ap length (list_rows numbers room lengths k) ∙ omega (arith, length-take n here, length-drop (k * room) numbers)
 
-    pub push_rows : n < room → rows (set numbers (k * room + n) v) room (set lengths k (n + 1)) ≡ set (rows numbers room lengths) k (list_at (rows numbers room lengths) k ++ v ∷ [])
+    pub push_rows : n < room
+        → rows (set numbers (k * room + n) v) room (set lengths k (n + 1)) ≡ set (rows numbers room lengths) k
+        (list_at (rows numbers room lengths) k ++ v ∷ [])
     push_rows inside =
         let there = section_room numbers room (length lengths) k lt long in
         set_rows (set numbers (k * room + n) v) room lengths k (n + 1)

@@ -24,14 +24,17 @@ area_below s id o = let h = numbered_law s id o in omega arith
 pub list_read : {G : _} {d : _} (s : PagedStore G d) (id : ℕ) → IsOpen (memory_of s) id → list_at (table_of s) id ≡ list_at (pages_of s) id
 list_read s id o = sym (get_or-take MAX_AREAS (table_of s) id [] (numbered_law s id o))
 
-pub number_read : {G : _} {d : _} (s : PagedStore G d) (id i k : ℕ) → IsOpen (memory_of s) id → k ≡ get_or (list_at (table_of s) id) i 0 → k ≡ get_or (list_at (pages_of s) id) i 0
+pub number_read : {G : _} {d : _} (s : PagedStore G d) (id i k : ℕ) → IsOpen (memory_of s) id → k ≡ get_or (list_at (table_of s) id) i 0
+    → k ≡ get_or (list_at (pages_of s) id) i 0
 number_read s id i k o e = e ∙ ap (λ l. get_or l i 0) (list_read s id o)
 
-pub area_long : {G : _} {d : _} (s : PagedStore G d) (id : ℕ) → IsOpen (memory_of s) id → length (bytes (memory_of s) id) ≡ PAGE * length (list_at (pages_of s) id)
+pub area_long : {G : _} {d : _} (s : PagedStore G d) (id : ℕ) → IsOpen (memory_of s) id
+    → length (bytes (memory_of s) id) ≡ PAGE * length (list_at (pages_of s) id)
 unfolding memory_of
 area_long s id o = length_are (region_of s) (pages_of s) s.opened (free_of s) s.table.room MAX_AREAS s.kept id o
 
-pub table_long : {G : _} {d : _} (s : PagedStore G d) (id : ℕ) → IsOpen (memory_of s) id → length (bytes (memory_of s) id) ≡ PAGE * length (list_at (table_of s) id)
+pub table_long : {G : _} {d : _} (s : PagedStore G d) (id : ℕ) → IsOpen (memory_of s) id
+    → length (bytes (memory_of s) id) ≡ PAGE * length (list_at (table_of s) id)
 table_long s id o = let e = ap length (list_read s id o) in let long = area_long s id o in omega arith
 
 pub record Seat {G : _} {d : _} (s : PagedStore G d) (id at n p : ℕ) : Type 0 where
@@ -40,13 +43,15 @@ pub record Seat {G : _} {d : _} (s : PagedStore G d) (id at n p : ℕ) : Type 0 
   pub kept : (r numbers ws : List ℕ) → r ≡ put (region_of s) p ws → numbers ≡ d.numbers s.site → length ws ≡ n
       → IsStore r (areas_in (lists_of numbers s.table)) s.opened (free_in (lists_of numbers s.table)) s.table.room MAX_AREAS
   pub memory : (r numbers ws : List ℕ) → r ≡ put (region_of s) p ws → numbers ≡ d.numbers s.site → length ws ≡ n
-      → memory_in r (areas_in (lists_of numbers s.table)) s.opened (free_in (lists_of numbers s.table)) s.table.room ≡ with_bytes (memory_of s) id (put (bytes (memory_of s) id) at ws)
+      → memory_in r (areas_in (lists_of numbers s.table)) s.opened (free_in (lists_of numbers s.table)) s.table.room ≡ with_bytes (memory_of s) id
+      (put (bytes (memory_of s) id) at ws)
 
 -- a row of as many numbers is long enough
 pub still_long : {G : _} {d : _} (s : PagedStore G d) (numbers : List ℕ) → numbers ≡ d.numbers s.site → LISTS * s.table.room ≤ length numbers
 still_long s numbers e = omega (arith, ap length e, s.long)
 
-at_spot : {G : _} {d : _} (s : PagedStore G d) (id at n : ℕ) → Spot (region_of s) (pages_of s) s.opened (free_of s) s.table.room MAX_AREAS id at n → Seat s id at n (spot_in (pages_of s) id at)
+at_spot : {G : _} {d : _} (s : PagedStore G d) (id at n : ℕ) → Spot (region_of s) (pages_of s) s.opened (free_of s) s.table.room MAX_AREAS id at n
+    → Seat s id at n (spot_in (pages_of s) id at)
 unfolding memory_of
 at_spot s id at n there = record {
   within = there.within;
@@ -59,21 +64,26 @@ at_spot s id at n there = record {
       ∙ ap (λ x. memory_in x (pages_of s) s.opened (free_of s) s.table.room) e ∙ there.memory ws l;
 }
 
-spot_there : {G : _} {d : _} (s : PagedStore G d) (id at n : ℕ) → IsOpen (memory_of s) id → 0 < n → at + n ≤ length (bytes (memory_of s) id) → at % PAGE + n ≤ PAGE → Spot (region_of s) (pages_of s) s.opened (free_of s) s.table.room MAX_AREAS id at n
+spot_there : {G : _} {d : _} (s : PagedStore G d) (id at n : ℕ) → IsOpen (memory_of s) id → 0 < n → at + n ≤ length (bytes (memory_of s) id)
+    → at % PAGE + n ≤ PAGE → Spot (region_of s) (pages_of s) s.opened (free_of s) s.table.room MAX_AREAS id at n
 unfolding memory_of
 spot_there s id at n o some inside fits = spot (region_of s) (pages_of s) s.opened (free_of s) s.table.room MAX_AREAS s.kept id o at n some inside fits
 
-pub seat : {G : _} {d : _} (s : PagedStore G d) (id at n p : ℕ) → IsOpen (memory_of s) id → 0 < n → at + n ≤ length (bytes (memory_of s) id) → at % PAGE + n ≤ PAGE → p ≡ spot_in (pages_of s) id at → Seat s id at n p
+pub seat : {G : _} {d : _} (s : PagedStore G d) (id at n p : ℕ) → IsOpen (memory_of s) id → 0 < n → at + n ≤ length (bytes (memory_of s) id)
+    → at % PAGE + n ≤ PAGE → p ≡ spot_in (pages_of s) id at → Seat s id at n p
 seat s id at n p o some inside fits e = subst (Seat s id at n) (sym e) (at_spot s id at n (spot_there s id at n o some inside fits))
 
 -- the byte at an offset stands where its page does, and as far on as the offset goes past the page's start
-pub on_from_place : {G : _} {d : _} (s : PagedStore G d) (id at start : ℕ) → start ≡ place_of s id (at / PAGE) → start + (at - PAGE * (at / PAGE)) ≡ spot_in (pages_of s) id at
+pub on_from_place : {G : _} {d : _} (s : PagedStore G d) (id at start : ℕ) → start ≡ place_of s id (at / PAGE)
+    → start + (at - PAGE * (at / PAGE)) ≡ spot_in (pages_of s) id at
 unfolding place_of
 on_from_place s id at start e = omega arith
 
 -- a page number as the code reads it
-pub page_small : {G : _} {d : _} (s : PagedStore G d) (id i : ℕ) → i < length (list_at (pages_of s) id) → (k : ℕ) → k ≡ get_or (list_at (pages_of s) id) i 0 → k < MAX_PAGES
-page_small s id i lt k e = let a = page_below (region_of s) (pages_of s) s.opened (free_of s) s.table.room MAX_AREAS s.kept id i lt in let b = s.few in omega arith
+pub page_small : {G : _} {d : _} (s : PagedStore G d) (id i : ℕ) → i < length (list_at (pages_of s) id) → (k : ℕ) → k ≡ get_or (list_at (pages_of s) id) i 0
+    → k < MAX_PAGES
+page_small s id i lt k e =
+    let a = page_below (region_of s) (pages_of s) s.opened (free_of s) s.table.room MAX_AREAS s.kept id i lt in let b = s.few in omega arith
 
 -- page i of an area has the number k
 pub record Placed {G : _} {d : _} (s : PagedStore G d) (id i k : ℕ) : Type 0 where
@@ -81,7 +91,8 @@ pub record Placed {G : _} {d : _} (s : PagedStore G d) (id i k : ℕ) : Type 0 w
   pub same : part (region_of s) (PAGE * k) PAGE ≡ part (bytes (memory_of s) id) (PAGE * i) PAGE
   pub apart : (a j : ℕ) → IsOpen (memory_of s) a → PAGE * j < length (bytes (memory_of s) a) → place_of s a j ≡ PAGE * k → (a ≡ id) × (j ≡ i)
 
-pub placed : {G : _} {d : _} (s : PagedStore G d) (id i k : ℕ) → IsOpen (memory_of s) id → PAGE * i < length (bytes (memory_of s) id) → k ≡ get_or (list_at (pages_of s) id) i 0 → Placed s id i k
+pub placed : {G : _} {d : _} (s : PagedStore G d) (id i k : ℕ) → IsOpen (memory_of s) id → PAGE * i < length (bytes (memory_of s) id)
+    → k ≡ get_or (list_at (pages_of s) id) i 0 → Placed s id i k
 unfolding memory_of place_of
 placed s id i k o inside at =
     let lists = (pages_of s) in let long = area_long s id o in let li : i < length (list_at lists id) = omega arith in
@@ -89,7 +100,8 @@ placed s id i k o inside at =
     let y : PAGE * k ≡ PAGE * get_or (list_at lists id) i 0 + 0 = omega arith in let z : PAGE * i + 0 ≡ PAGE * i = omega arith in
     record {
       within = omega arith;
-      same = ap (λ p. part (region_of s) p PAGE) y ∙ sym (bytes_read (region_of s) (list_at lists id) i 0 PAGE li (lit≤ tt)) ∙ ap (λ p. part (bytes_of (region_of s) (list_at lists id)) p PAGE) z
+      same = ap (λ p. part (region_of s) p PAGE) y ∙ sym (bytes_read (region_of s) (list_at lists id) i 0 PAGE li (lit≤ tt))
+          ∙ ap (λ p. part (bytes_of (region_of s) (list_at lists id)) p PAGE) z
           ∙ ap (λ l. part l (PAGE * i) PAGE) (sym (bytes_are (region_of s) lists s.opened (free_of s) s.table.room MAX_AREAS s.kept id o));
       apart = λ a j oa lj e.
           let there = area_long s a oa in let in' : j < length (list_at lists a) = omega arith in

@@ -19,7 +19,8 @@ module _ (r : List ℕ) (areas : List (List ℕ)) (flags : List Bool) (free free
   renamed_memory = ap₂ (λ l n. memory_in r areas flags l n) f p
 
 -- where the last free page stands
-pub free_within : {G : _} {d : _} (s : PagedStore G d) (id k : ℕ) (free : List ℕ) → IsOpen (memory_of s) id → free_of s ≡ free ++ k ∷ [] → PAGE * k + PAGE ≤ length (region_of s)
+pub free_within : {G : _} {d : _} (s : PagedStore G d) (id k : ℕ) (free : List ℕ) → IsOpen (memory_of s) id → free_of s ≡ free ++ k ∷ []
+    → PAGE * k + PAGE ≤ length (region_of s)
 unfolding memory_of
 free_within s id k free o last = page_within (region_of s) (pages_of s) s.opened (free_of s) s.table.room MAX_AREAS s.kept id o free k last
 
@@ -37,16 +38,19 @@ module _ {G : _} {d : _} (s : PagedStore G d) (id k room : ℕ) (mid new : List 
     unfolding memory_of
     grown_is_kept =
         renamed r (areas_in new) s.opened (free_in mid) (free_in new) s.table.room room free_given same
-        (grown_kept (region_of s) (pages_of s) s.opened (free_of s) s.table.room MAX_AREAS s.kept id o (free_in mid) k last r ws written whole (areas_in new) areas_given)
+        (grown_kept (region_of s) (pages_of s) s.opened (free_of s) s.table.room MAX_AREAS s.kept id o (free_in mid) k last r ws written whole (areas_in new)
+        areas_given)
 
     pub grown_is_memory : ws ≡ replicate PAGE 0 → memory_in r (areas_in new) s.opened (free_in new) room ≡ grown (memory_of s) id 1
     unfolding memory_of
     grown_is_memory zeros =
         renamed_memory r (areas_in new) s.opened (free_in mid) (free_in new) s.table.room room free_given same
-        ∙ grown_memory (region_of s) (pages_of s) s.opened (free_of s) s.table.room MAX_AREAS s.kept id o (free_in mid) k last r ws written whole (areas_in new) areas_given 1 refl zeros
+        ∙ grown_memory (region_of s) (pages_of s) s.opened (free_of s) s.table.room MAX_AREAS s.kept id o (free_in mid) k last r ws written whole
+        (areas_in new) areas_given 1 refl zeros
 
   -- the last page of an area was appended to the free ones
-  module _ (last : list_at (pages_of s) id ≡ list_at mid id ++ k ∷ []) (off : mid ≡ set (table_of s) id (list_at mid id)) (on : new ≡ set mid MAX_AREAS (free_in mid ++ k ∷ []))
+  module _ (last : list_at (pages_of s) id ≡ list_at mid id ++ k ∷ []) (off : mid ≡ set (table_of s) id (list_at mid id))
+      (on : new ≡ set mid MAX_AREAS (free_in mid ++ k ∷ []))
       (long : MAX_AREAS < length mid) (r : List ℕ) (still : r ≡ region_of s) where
     areas_taken : areas_in new ≡ set (pages_of s) id (list_at mid id)
     areas_taken = taken_areas (table_of s) mid new MAX_AREAS id k (numbered_law s id o) off on
@@ -59,7 +63,8 @@ module _ {G : _} {d : _} (s : PagedStore G d) (id k room : ℕ) (mid new : List 
     shrunk_is_kept =
         subst (λ (l : List ℕ). IsStore l (areas_in new) s.opened (free_in new) room MAX_AREAS) (sym still) (
         renamed (region_of s) (areas_in new) s.opened (free_in new) (free_in new) s.table.room room refl same
-        (shrunk_kept (region_of s) (pages_of s) s.opened (free_of s) s.table.room MAX_AREAS s.kept id o (list_at mid id) k last (areas_in new) areas_taken (free_in new) free_taken)
+        (shrunk_kept (region_of s) (pages_of s) s.opened (free_of s) s.table.room MAX_AREAS s.kept id o (list_at mid id) k last (areas_in new) areas_taken
+        (free_in new) free_taken)
         )
 
     pub shrunk_is_memory : memory_in r (areas_in new) s.opened (free_in new) room ≡ shrunk (memory_of s) id 1
@@ -67,4 +72,5 @@ module _ {G : _} {d : _} (s : PagedStore G d) (id k room : ℕ) (mid new : List 
     shrunk_is_memory =
         ap (λ l. memory_in l (areas_in new) s.opened (free_in new) room) still
         ∙ renamed_memory (region_of s) (areas_in new) s.opened (free_in new) (free_in new) s.table.room room refl same
-        ∙ shrunk_memory (region_of s) (pages_of s) s.opened (free_of s) s.table.room MAX_AREAS s.kept id o (list_at mid id) k last (areas_in new) areas_taken (free_in new) free_taken 1 refl
+        ∙ shrunk_memory (region_of s) (pages_of s) s.opened (free_of s) s.table.room MAX_AREAS s.kept id o (list_at mid id) k last (areas_in new) areas_taken
+        (free_in new) free_taken 1 refl

@@ -19,7 +19,9 @@ pub record Spot (r : List ℕ) (lists : List (List ℕ)) (flags : List Bool) (fr
   pub within : spot_in lists id at + n ≤ length r
   pub read : part r (spot_in lists id at) n ≡ part (bytes (memory_in r lists flags free pages) id) at n
   pub kept : (ws : List ℕ) → length ws ≡ n → IsStore (put r (spot_in lists id at) ws) lists flags free pages limit
-  pub memory : (ws : List ℕ) → length ws ≡ n → memory_in (put r (spot_in lists id at) ws) lists flags free pages ≡ with_bytes (memory_in r lists flags free pages) id (put (bytes (memory_in r lists flags free pages) id) at ws)
+  pub memory : (ws : List ℕ) → length ws ≡ n
+      → memory_in (put r (spot_in lists id at) ws) lists flags free pages ≡ with_bytes (memory_in r lists flags free pages) id
+      (put (bytes (memory_in r lists flags free pages) id) at ws)
 
 module _ (r : List ℕ) (lists : List (List ℕ)) (flags : List Bool) (free : List ℕ) (pages limit : ℕ) (ok : IsStore r lists flags free pages limit) where
   -- a page that stands in an area is one of the region
@@ -84,7 +86,8 @@ module _ (r : List ℕ) (lists : List (List ℕ)) (flags : List Bool) (free : Li
         here = bytes_same r k f ws fit page_in ks i listed refl one ∙ ap (λ m. put (bytes_of r ks) m ws) is ∙ ap (λ l. put l at ws) (sym bytes_are)
 
         changed : contents (put r (spot_in lists id at) ws) lists flags ≡ area_set (contents r lists flags) id (Some (put was at ws))
-        changed = rewritten r (put r (spot_in lists id at) ws) lists lists flags id (put was at ws) o here (λ j ne. bytes_other r k f ws fit page_in (list_at lists j) (none j ne))
+        changed = rewritten r (put r (spot_in lists id at) ws) lists lists flags id (put was at ws) o here
+            (λ j ne. bytes_other r k f ws fit page_in (list_at lists j) (none j ne))
 
         sum : length free + length (put was at ws) / PAGE ≡ length free + length (unwrap_or (contents r lists flags id) []) / PAGE
         unfolding bytes
@@ -98,13 +101,15 @@ module _ (r : List ℕ) (lists : List (List ℕ)) (flags : List Bool) (free : Li
           once = ok.once;
           below = ok.below;
           empty = ok.empty;
-          ledger = ledger_set (contents r lists flags) (contents (put r (spot_in lists id at) ws) lists flags) id (Some (put was at ws)) (length free) (length free) pages limit changed
+          ledger = ledger_set (contents r lists flags) (contents (put r (spot_in lists id at) ws) lists flags) id (Some (put was at ws)) (length free)
+              (length free) pages limit changed
               (numbered_areas r lists flags free pages limit id ok o) sum ok.ledger;
         }
 
         is_memory : memory_in (put r (spot_in lists id at) ws) lists flags free pages ≡ with_bytes (memory_in r lists flags free pages) id (put was at ws)
         unfolding with_bytes
-        is_memory = memory_set (contents r lists flags) (contents (put r (spot_in lists id at) ws) lists flags) id (Some (put was at ws)) (length free) pages changed
+        is_memory = memory_set (contents r lists flags) (contents (put r (spot_in lists id at) ws) lists flags) id (Some (put was at ws)) (length free) pages
+            changed
 
       pub spot : Spot r lists flags free pages limit id at n
       spot = record {

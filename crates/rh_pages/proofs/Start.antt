@@ -1,5 +1,6 @@
 -- A store whose pages are all free, and areas that are opened and closed.
-use Rattle.std.proofs.Common.{◌≡◌, ℕ, zero, suc, ◌+◌, ◌*◌, ◌/◌, ◌<◌, ◌≤◌, Bool, true, false, inl, inr, List, [], ◌∷◌, ◌++◌, length, get_or, set, replicate, refl, sym, ap, ◌∙◌, arith}
+use Rattle.std.proofs.Common.{◌≡◌, ℕ, zero, suc, ◌+◌, ◌*◌, ◌/◌, ◌<◌, ◌≤◌, Bool, true, false, inl, inr, List, [], ◌∷◌, ◌++◌, length, get_or, set, replicate}
+use Rattle.std.proofs.Common.{refl, sym, ap, ◌∙◌, arith}
 use Rattle.std.specs.Prelude.{Option, Some, None, unwrap_or}
 use Rattle.std.proofs.Math.Path.{fun_ext}
 use Rattle.std.proofs.lemmas.Bool.{cases_eq}
@@ -24,7 +25,8 @@ length_first (suc n) = let a = length_first n in let b = length_push (first n) n
 
 pub times_past : (j n : ℕ) → n ≤ j → times j (first n) ≡ 0
 times_past j zero le = refl
-times_past j (suc n) le = let a = times-push j n (first n) in let b = times_past j n (omega arith) in elim (head_tells n j) [ inl h ↦ let e = h.0 in absurd (omega arith) | inr h ↦ let z = h.1 in omega arith ]
+times_past j (suc n) le = let a = times-push j n (first n) in let b =
+    times_past j n (omega arith) in elim (head_tells n j) [ inl h ↦ let e = h.0 in absurd (omega arith) | inr h ↦ let z = h.1 in omega arith ]
 
 pub times_first : (j n : ℕ) → times j (first n) ≤ 1
 times_first j zero = omega arith
@@ -47,7 +49,8 @@ flag_none zero j = refl
 flag_none (suc n) zero = refl
 flag_none (suc n) (suc j) = flag_none n j
 
-module _ (r : List ℕ) (lists : List (List ℕ)) (flags : List Bool) (free : List ℕ) (pages limit : ℕ) (no_lists : lists ≡ replicate limit []) (no_flags : flags ≡ replicate limit false) (all : free ≡ first pages) where
+module _ (r : List ℕ) (lists : List (List ℕ)) (flags : List Bool) (free : List ℕ) (pages limit : ℕ) (no_lists : lists ≡ replicate limit [])
+    (no_flags : flags ≡ replicate limit false) (all : free ≡ first pages) where
   all_closed : (j : ℕ) → contents r lists flags j ≡ None
   all_closed j = contents_marked r lists flags j false (ap (λ (l : List Bool). get_or l j false) no_flags ∙ flag_none limit j)
 
@@ -67,9 +70,11 @@ module _ (r : List ℕ) (lists : List (List ℕ)) (flags : List Bool) (free : Li
 
   pub fresh_memory : memory_in r lists flags free pages ≡ fresh pages
   unfolding fresh
-  fresh_memory = let areas : contents r lists flags ≡ (λ k. None) = fun_ext all_closed in λ i. record { area = areas i; free = count i; pages = pages; loan = 0 }
+  fresh_memory =
+      let areas : contents r lists flags ≡ (λ k. None) = fun_ext all_closed in λ i. record { area = areas i; free = count i; pages = pages; loan = 0 }
 
-module _ (r : List ℕ) (lists : List (List ℕ)) (flags : List Bool) (free : List ℕ) (pages limit : ℕ) (ok : IsStore r lists flags free pages limit) (id : ℕ) (lt : id < limit) where
+module _ (r : List ℕ) (lists : List (List ℕ)) (flags : List Bool) (free : List ℕ) (pages limit : ℕ) (ok : IsStore r lists flags free pages limit) (id : ℕ)
+    (lt : id < limit) where
   in_table : id < length flags
   in_table = let t = ok.flags in omega arith
 
@@ -123,5 +128,6 @@ module _ (r : List ℕ) (lists : List (List ℕ)) (flags : List Bool) (free : Li
           (ap (λ k. length free + k / PAGE) (sym no_bytes)) ok.ledger;
     }
 
-    pub closed_memory : memory_in r lists (set flags id false) free pages ≡ record { area = area_set (contents r lists flags) id None; free = length free; pages = pages; loan = 0 }
+    pub closed_memory : memory_in r lists (set flags id false) free pages ≡ record
+        { area = area_set (contents r lists flags) id None; free = length free; pages = pages; loan = 0 }
     closed_memory = memory_set (contents r lists flags) (contents r lists (set flags id false)) id None (length free) pages area_closed

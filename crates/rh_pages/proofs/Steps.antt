@@ -7,58 +7,70 @@ use Rattle.rh_defs.specs.declared.sizes.TheConstants.{PAGE}
 use Rattle.rh_defs.specs.Bytes.{part, put}
 use Rattle.rh_defs.specs.Memory.{Memory, IsOpen, area_set, bytes, with_bytes, grown, shrunk, closed}
 use Rattle.rh_defs.proofs.BytesLaws.{put_none, put_more, part_more, length-part, length-put, slide_down, slide_up}
-use Rattle.rh_defs.proofs.MemoryLaws.{area_set-area_set, area_set-self, bytes-with_bytes, bytes-with_other, area-with_bytes, IsOpen-with_bytes, with_bytes-with_bytes, with_bytes-self, bytes-grown, bytes-shrunk, length-shrunk}
+use Rattle.rh_defs.proofs.MemoryLaws.{area_set-area_set, area_set-self, bytes-with_bytes, bytes-with_other, area-with_bytes, IsOpen-with_bytes}
+use Rattle.rh_defs.proofs.MemoryLaws.{with_bytes-with_bytes, with_bytes-self, bytes-grown, bytes-shrunk, length-shrunk}
 
 -- an edit of an area that was edited
-pub edited : (m w u : Memory) (id : ℕ) (x : List ℕ) (f : List ℕ → List ℕ) → w ≡ with_bytes m id x → u ≡ with_bytes w id (f (bytes w id)) → u ≡ with_bytes m id (f x)
+pub edited : (m w u : Memory) (id : ℕ) (x : List ℕ) (f : List ℕ → List ℕ) → w ≡ with_bytes m id x → u ≡ with_bytes w id (f (bytes w id))
+    → u ≡ with_bytes m id (f x)
 edited m w u id x f e g =
     let seen : bytes w id ≡ x = ap (λ k. bytes k id) e ∙ bytes-with_bytes m id x in
     g ∙ ap (λ l. with_bytes w id (f l)) seen ∙ ap (λ k. with_bytes k id (f x)) e ∙ with_bytes-with_bytes m id x (f x)
 
 -- nothing written yet
 pub none_written : (m : Memory) (id at : ℕ) (xs : List ℕ) → IsOpen m id → xs ≡ [] → m ≡ with_bytes m id (put (bytes m id) at xs)
-none_written m id at xs o e = sym (ap (λ l. with_bytes m id (put (bytes m id) at l)) e ∙ ap (with_bytes m id) (put_none (bytes m id) at) ∙ with_bytes-self m id o)
+none_written m id at xs o e =
+    sym (ap (λ l. with_bytes m id (put (bytes m id) at l)) e ∙ ap (with_bytes m id) (put_none (bytes m id) at) ∙ with_bytes-self m id o)
 
 -- more written behind what was
-pub written_more : (m w u : Memory) (id at d : ℕ) (xs ys : List ℕ) → length xs ≡ d → w ≡ with_bytes m id (put (bytes m id) at xs) → u ≡ with_bytes w id (put (bytes w id) (at + d) ys)
-    → u ≡ with_bytes m id (put (bytes m id) at (xs ++ ys))
+pub written_more : (m w u : Memory) (id at d : ℕ) (xs ys : List ℕ) → length xs ≡ d → w ≡ with_bytes m id (put (bytes m id) at xs)
+    → u ≡ with_bytes w id (put (bytes w id) (at + d) ys) → u ≡ with_bytes m id (put (bytes m id) at (xs ++ ys))
 written_more m w u id at d xs ys l e g =
     edited m w u id (put (bytes m id) at xs) (λ b. put b (at + d) ys) e g
     ∙ ap (λ k. with_bytes m id (put (put (bytes m id) at xs) (at + k) ys)) (sym l) ∙ ap (with_bytes m id) (sym (put_more (bytes m id) at xs ys))
 
-pub zeroed_more : (m w u : Memory) (id at d n : ℕ) → w ≡ with_bytes m id (put (bytes m id) at (replicate d 0)) → u ≡ with_bytes w id (put (bytes w id) (at + d) (replicate n 0))
-    → u ≡ with_bytes m id (put (bytes m id) at (replicate (d + n) 0))
+pub zeroed_more : (m w u : Memory) (id at d n : ℕ) → w ≡ with_bytes m id (put (bytes m id) at (replicate d 0))
+    → u ≡ with_bytes w id (put (bytes w id) (at + d) (replicate n 0)) → u ≡ with_bytes m id (put (bytes m id) at (replicate (d + n) 0))
 zeroed_more m w u id at d n e g =
-    written_more m w u id at d (replicate d 0) (replicate n 0) (length-replicate {A = ℕ} d 0) e g ∙ ap (λ l. with_bytes m id (put (bytes m id) at l)) (replicate-append-replicate {A = ℕ} d n 0)
+    written_more m w u id at d (replicate d 0) (replicate n 0) (length-replicate {A = ℕ} d 0) e g
+    ∙ ap (λ l. with_bytes m id (put (bytes m id) at l)) (replicate-append-replicate {A = ℕ} d n 0)
 
 -- bytes from elsewhere, d of them written
-pub copied_more : (m w u : Memory) (id at d n p : ℕ) (from : List ℕ) → w ≡ with_bytes m id (put (bytes m id) at (part from p d)) → u ≡ with_bytes w id (put (bytes w id) (at + d) (part from (p + d) n))
-    → u ≡ with_bytes m id (put (bytes m id) at (part from p (d + n)))
+pub copied_more : (m w u : Memory) (id at d n p : ℕ) (from : List ℕ) → w ≡ with_bytes m id (put (bytes m id) at (part from p d))
+    → u ≡ with_bytes w id (put (bytes w id) (at + d) (part from (p + d) n)) → u ≡ with_bytes m id (put (bytes m id) at (part from p (d + n)))
 copied_more m w u id at d n p from e g =
-    written_more m w u id at d (part from p d) (part from (p + d) n) (length-part from p d) e g ∙ ap (λ l. with_bytes m id (put (bytes m id) at l)) (sym (part_more from p d n))
+    written_more m w u id at d (part from p d) (part from (p + d) n) (length-part from p d) e g
+    ∙ ap (λ l. with_bytes m id (put (bytes m id) at l)) (sym (part_more from p d n))
 
 pub across_more : (m w u : Memory) (id id2 at at2 d n : ℕ) → id ≢ id2 → w ≡ with_bytes m id2 (put (bytes m id2) at2 (part (bytes m id) at d))
-    → u ≡ with_bytes w id2 (put (bytes w id2) (at2 + d) (part (bytes w id) (at + d) n)) → u ≡ with_bytes m id2 (put (bytes m id2) at2 (part (bytes m id) at (d + n)))
+    → u ≡ with_bytes w id2 (put (bytes w id2) (at2 + d) (part (bytes w id) (at + d) n))
+    → u ≡ with_bytes m id2 (put (bytes m id2) at2 (part (bytes m id) at (d + n)))
 across_more m w u id id2 at at2 d n ne e g =
     let same : bytes w id ≡ bytes m id = ap (λ k. bytes k id) e ∙ bytes-with_other m id2 (put (bytes m id2) at2 (part (bytes m id) at d)) id ne in
     copied_more m w u id2 at2 d n at (bytes m id) e (g ∙ ap (λ l. with_bytes w id2 (put (bytes w id2) (at2 + d) (part l (at + d) n))) same)
 
-pub down_more : (m w u : Memory) (id from to d n : ℕ) → to ≤ from → from + (d + n) ≤ length (bytes m id) → w ≡ with_bytes m id (put (bytes m id) to (part (bytes m id) from d))
-    → u ≡ with_bytes w id (put (bytes w id) (to + d) (part (bytes w id) (from + d) n)) → u ≡ with_bytes m id (put (bytes m id) to (part (bytes m id) from (d + n)))
+pub down_more : (m w u : Memory) (id from to d n : ℕ) → to ≤ from → from + (d + n) ≤ length (bytes m id)
+    → w ≡ with_bytes m id (put (bytes m id) to (part (bytes m id) from d))
+    → u ≡ with_bytes w id (put (bytes w id) (to + d) (part (bytes w id) (from + d) n))
+    → u ≡ with_bytes m id (put (bytes m id) to (part (bytes m id) from (d + n)))
 down_more m w u id from to d n low h e g =
     edited m w u id (put (bytes m id) to (part (bytes m id) from d)) (λ b. put b (to + d) (part b (from + d) n)) e g
     ∙ ap (with_bytes m id) (slide_down (bytes m id) from to d n low (omega arith))
 
 -- from the upper end: the last k bytes were moved, and n more below them
-pub up_more : (m w u : Memory) (id from to left n k : ℕ) → from ≤ to → to + left + n + k ≤ length (bytes m id) → w ≡ with_bytes m id (put (bytes m id) (to + (left + n)) (part (bytes m id) (from + (left + n)) k))
-    → u ≡ with_bytes w id (put (bytes w id) (to + left) (part (bytes w id) (from + left) n)) → u ≡ with_bytes m id (put (bytes m id) (to + left) (part (bytes m id) (from + left) (n + k)))
+pub up_more : (m w u : Memory) (id from to left n k : ℕ) → from ≤ to → to + left + n + k ≤ length (bytes m id)
+    → w ≡ with_bytes m id (put (bytes m id) (to + (left + n)) (part (bytes m id) (from + (left + n)) k))
+    → u ≡ with_bytes w id (put (bytes w id) (to + left) (part (bytes w id) (from + left) n))
+    → u ≡ with_bytes m id (put (bytes m id) (to + left) (part (bytes m id) (from + left) (n + k)))
 up_more m w u id from to left n k low h e g =
     let a : to + (left + n) ≡ to + left + n = omega arith in let b : from + (left + n) ≡ from + left + n = omega arith in
-    let e' = e ∙ ap (λ i. with_bytes m id (put (bytes m id) i (part (bytes m id) (from + (left + n)) k))) a ∙ ap (λ i. with_bytes m id (put (bytes m id) (to + left + n) (part (bytes m id) i k))) b in
+    let e' = e ∙ ap (λ i. with_bytes m id (put (bytes m id) i (part (bytes m id) (from + (left + n)) k))) a
+    ∙ ap (λ i. with_bytes m id (put (bytes m id) (to + left + n) (part (bytes m id) i k))) b in
     edited m w u id (put (bytes m id) (to + left + n) (part (bytes m id) (from + left + n) k)) (λ l. put l (to + left) (part l (from + left) n)) e' g
     ∙ ap (with_bytes m id) (slide_up (bytes m id) (from + left) (to + left) n k (omega arith) h)
 
-same_memory : (area area' : ℕ → Option (List ℕ)) (free free' pages loan : ℕ) → area ≡ area' → free ≡ free' → ◌≡◌ {A = Memory} (record { area = area; free = free; pages = pages; loan = loan }) (record { area = area'; free = free'; pages = pages; loan = loan })
+same_memory : (area area' : ℕ → Option (List ℕ)) (free free' pages loan : ℕ) → area ≡ area' → free ≡ free'
+    → ◌≡◌ {A = Memory} (record { area = area; free = free; pages = pages; loan = loan }) (record { area = area'; free = free'; pages = pages; loan = loan })
 same_memory area area' free free' pages loan a f = λ i. record { area = a i; free = f i; pages = pages; loan = loan }
 
 some_bytes : (o : Option (List ℕ)) → IsSome o → Some (unwrap_or o []) ≡ o
@@ -71,7 +83,8 @@ unfolding grown bytes
 grown_none m id o =
     let free : m.free ≡ m.free - 0 = omega arith in
     same_memory m.area (area_set m.area id (Some (unwrap_or (m.area id) [] ++ []))) m.free (m.free - 0) m.pages m.loan
-    (sym (ap (λ (l : List ℕ). area_set m.area id (Some l)) (append-nil (unwrap_or (m.area id) [])) ∙ ap (area_set m.area id) (some_bytes (m.area id) o) ∙ area_set-self m.area id)) free
+    (sym (ap (λ (l : List ℕ). area_set m.area id (Some l)) (append-nil (unwrap_or (m.area id) [])) ∙ ap (area_set m.area id) (some_bytes (m.area id) o)
+    ∙ area_set-self m.area id)) free
 
 -- pages grown one after another
 pub grown_more : (m : Memory) (id d n : ℕ) → grown (grown m id d) id n ≡ grown m id (d + n)
@@ -81,7 +94,8 @@ grown_more m id d n =
     let all : PAGE * d + PAGE * n ≡ PAGE * (d + n) = omega arith in
     let left : m.free - d - n ≡ m.free - (d + n) = omega arith in
     let joined : x ++ replicate (PAGE * n) 0 ≡ b ++ replicate (PAGE * (d + n)) 0 =
-    append_assoc b (replicate (PAGE * d) 0) (replicate (PAGE * n) 0) ∙ ap (λ l. b ++ l) (replicate-append-replicate {A = ℕ} (PAGE * d) (PAGE * n) 0 ∙ ap (λ k. replicate {A = ℕ} k 0) all) in
+    append_assoc b (replicate (PAGE * d) 0) (replicate (PAGE * n) 0)
+    ∙ ap (λ l. b ++ l) (replicate-append-replicate {A = ℕ} (PAGE * d) (PAGE * n) 0 ∙ ap (λ k. replicate {A = ℕ} k 0) all) in
     same_memory _ _ _ _ m.pages m.loan
     (ap (λ (l : List ℕ). area_set (area_set m.area id (Some x)) id (Some (l ++ replicate (PAGE * n) 0))) (bytes-grown m id d)
     ∙ area_set-area_set m.area id (Some x) (Some (x ++ replicate (PAGE * n) 0)) ∙ ap (λ (l : List ℕ). area_set m.area id (Some l)) joined)
@@ -93,7 +107,8 @@ unfolding shrunk bytes
 shrunk_none m id o =
     let b = unwrap_or (m.area id) [] in let free : m.free ≡ m.free + 0 = omega arith in let all : length b - PAGE * 0 ≡ length b = omega arith in
     same_memory _ _ _ _ m.pages m.loan
-    (sym (ap (λ k. area_set m.area id (Some (take k b))) all ∙ ap (λ (l : List ℕ). area_set m.area id (Some l)) (take-length b) ∙ ap (area_set m.area id) (some_bytes (m.area id) o) ∙ area_set-self m.area id))
+    (sym (ap (λ k. area_set m.area id (Some (take k b))) all ∙ ap (λ (l : List ℕ). area_set m.area id (Some l)) (take-length b)
+    ∙ ap (area_set m.area id) (some_bytes (m.area id) o) ∙ area_set-self m.area id))
     free
 
 -- pages cut off one after another
@@ -113,7 +128,9 @@ shrunk_more m id d n =
 
 -- an area is closed once its pages are cut off
 pub closed_shrunk : (m : Memory) (id n : ℕ) → n ≡ length (bytes m id) / PAGE
-    → ◌≡◌ {A = Memory} (record { area = area_set (shrunk m id n).area id None; free = (shrunk m id n).free; pages = (shrunk m id n).pages; loan = (shrunk m id n).loan }) (closed m id)
+    → ◌≡◌ {A =
+    Memory} (record
+    { area = area_set (shrunk m id n).area id None; free = (shrunk m id n).free; pages = (shrunk m id n).pages; loan = (shrunk m id n).loan }) (closed m id)
 unfolding shrunk closed
 closed_shrunk m id n e =
     same_memory _ _ _ _ m.pages m.loan

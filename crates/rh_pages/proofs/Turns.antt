@@ -1,5 +1,6 @@
 -- A page goes from the free list to the end of an area, and back.
-use Rattle.std.proofs.Common.{◌≡◌, ◌≢◌, ℕ, ◌+◌, ◌-◌, ◌*◌, ◌/◌, ◌<◌, ◌≤◌, Bool, true, false, inl, inr, List, [], ◌∷◌, ◌++◌, length, take, replicate, get_or, set, sym, ap, ◌∙◌, arith, length-append, append_assoc}
+use Rattle.std.proofs.Common.{◌≡◌, ◌≢◌, ℕ, ◌+◌, ◌-◌, ◌*◌, ◌/◌, ◌<◌, ◌≤◌, Bool, true, false, inl, inr, List, [], ◌∷◌, ◌++◌, length, take, replicate, get_or}
+use Rattle.std.proofs.Common.{set, sym, ap, ◌∙◌, arith, length-append, append_assoc}
 use Rattle.std.specs.Prelude.{Some, IsSome, unwrap_or}
 use Rattle.std.proofs.lemmas.Bool.{cases_eq, cases_lt}
 use Rattle.std.proofs.lemmas.List.{append-nil, length_push, length-set, get_or-set_same, get_or-set_other, take_at}
@@ -20,14 +21,15 @@ bytes-push : (r : List ℕ) (k : ℕ) (xs : List ℕ) → bytes_of r (xs ++ k �
 bytes-push r k [] = append-nil (page r k)
 bytes-push r k (x ∷ xs) = ap (λ l. page r x ++ l) (bytes-push r k xs) ∙ sym (append_assoc (page r x) (bytes_of r xs) (page r k))
 
-still_empty : (lists : List (List ℕ)) (flags : List Bool) (id : ℕ) (ks : List ℕ) → get_or flags id false ≡ true → ((j : ℕ) → get_or flags j false ≡ false → list_at lists j ≡ [])
-    → (j : ℕ) → get_or flags j false ≡ false → list_at (set lists id ks) j ≡ []
+still_empty : (lists : List (List ℕ)) (flags : List Bool) (id : ℕ) (ks : List ℕ) → get_or flags id false ≡ true
+    → ((j : ℕ) → get_or flags j false ≡ false → list_at lists j ≡ []) → (j : ℕ) → get_or flags j false ≡ false → list_at (set lists id ks) j ≡ []
 still_empty lists flags id ks on empty j off = elim (cases_eq j id) [
   | inl e ↦ absurd (let q : true ≡ false = sym on ∙ ap (λ k. get_or flags k false) (sym e) ∙ off in cc)
   | inr ne ↦ get_or-set_other lists id j ks [] ne ∙ empty j off
 ]
 
-module _ (r : List ℕ) (lists : List (List ℕ)) (flags : List Bool) (pool : List ℕ) (pages limit : ℕ) (ok : IsStore r lists flags pool pages limit) (id : ℕ) (o : IsSome (contents r lists flags id)) where
+module _ (r : List ℕ) (lists : List (List ℕ)) (flags : List Bool) (pool : List ℕ) (pages limit : ℕ) (ok : IsStore r lists flags pool pages limit) (id : ℕ)
+    (o : IsSome (contents r lists flags id)) where
   inside : id < length lists
   inside = let a = numbered_areas r lists flags pool pages limit id ok o in let b = ok.table in omega arith
 
@@ -58,7 +60,8 @@ module _ (r : List ℕ) (lists : List (List ℕ)) (flags : List Bool) (pool : Li
     nowhere : times_all k lists ≡ 0
     nowhere = let a = ok.once k in let b = stands_free in omega arith
 
-    module _ (r' ws : List ℕ) (zeroed : r' ≡ put r (PAGE * k) ws) (lw : length ws ≡ PAGE) (lists' : List (List ℕ)) (pushed : lists' ≡ set lists id (list_at lists id ++ k ∷ [])) where
+    module _ (r' ws : List ℕ) (zeroed : r' ≡ put r (PAGE * k) ws) (lw : length ws ≡ PAGE) (lists' : List (List ℕ))
+        (pushed : lists' ≡ set lists id (list_at lists id ++ k ∷ [])) where
       same : r' ≡ put r (PAGE * k + 0) ws
       same = let z : PAGE * k ≡ PAGE * k + 0 = omega arith in zeroed ∙ ap (λ p. put r p ws) z
 
@@ -77,14 +80,16 @@ module _ (r : List ℕ) (lists : List (List ℕ)) (flags : List Bool) (pool : Li
           ∙ ap (λ l. was ++ l) (ap (λ l. page l k) zeroed ∙ part-put r (PAGE * k) ws PAGE (sym lw) page_within)
 
       others : (j : ℕ) → j ≢ id → bytes_of r' (list_at lists' j) ≡ bytes_of r (list_at lists j)
-      others j ne = ap (λ l. bytes_of r' (list_at l j)) pushed ∙ ap (bytes_of r') (get_or-set_other lists id j (list_at lists id ++ k ∷ []) [] ne) ∙ untouched (list_at lists j) (none_at j)
+      others j ne = ap (λ l. bytes_of r' (list_at l j)) pushed ∙ ap (bytes_of r') (get_or-set_other lists id j (list_at lists id ++ k ∷ []) [] ne)
+          ∙ untouched (list_at lists j) (none_at j)
 
       area_grown : contents r' lists' flags ≡ area_set (contents r lists flags) id (Some (was ++ ws))
       area_grown = rewritten r r' lists lists' flags id (was ++ ws) o here others
 
       counted : (j : ℕ) → times_all j lists' + times j free ≡ times_all j lists + times j pool
       counted j =
-          let a = ap (times_all j) pushed in let b = times_all-set j (list_at lists id ++ k ∷ []) lists id inside in let c = times-push j k (list_at lists id) in
+          let a = ap (times_all j) pushed in let b = times_all-set j (list_at lists id ++ k ∷ []) lists id inside in
+          let c = times-push j k (list_at lists id) in
           let d = ap (times j) popped in let e = times-push j k free in omega arith
 
       sum : length free + length (was ++ ws) / PAGE ≡ length pool + length (unwrap_or (contents r lists flags id) []) / PAGE
@@ -131,7 +136,8 @@ module _ (r : List ℕ) (lists : List (List ℕ)) (flags : List Bool) (pool : Li
       sum_back : length free + length (bytes_of r ks) / PAGE ≡ length pool + length (unwrap_or (contents r lists flags id) []) / PAGE
       unfolding bytes
       sum_back =
-          let long = length_are r lists flags pool pages limit ok id o in let all = ap length popped in let one = length_push ks k in let less = length-bytes r ks in
+          let long = length_are r lists flags pool pages limit ok id o in let all = ap length popped in let one = length_push ks k in
+          let less = length-bytes r ks in
           let a = ap length pushed in let b = length_push pool k in omega arith
 
       pub shrunk_kept : IsStore r lists' flags free pages limit
@@ -152,6 +158,7 @@ module _ (r : List ℕ) (lists : List (List ℕ)) (flags : List Bool) (pool : Li
           let a = ap length pushed in let b = length_push pool k in let more : length free ≡ length pool + n = omega arith in
           let c = ap length joined in let d = length-append (bytes_of r ks) (page r k) in let e = length-part r (PAGE * k) PAGE in
           let less : length (bytes_of r ks) ≡ length was - PAGE * n = omega arith in
-          let front : bytes_of r ks ≡ take (length was - PAGE * n) was = sym (ap (take (length was - PAGE * n)) joined ∙ take_at (bytes_of r ks) (page r k) (length was - PAGE * n) less) in
+          let front : bytes_of r ks ≡ take (length was - PAGE * n) was =
+          sym (ap (take (length was - PAGE * n)) joined ∙ take_at (bytes_of r ks) (page r k) (length was - PAGE * n) less) in
           memory_set (contents r lists flags) (contents r lists' flags) id (Some (bytes_of r ks)) (length free) pages area_shrunk
           ∙ (λ i. record { area = area_set (contents r lists flags) id (Some (front i)); free = more i; pages = pages; loan = 0 })

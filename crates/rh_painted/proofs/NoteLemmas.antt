@@ -1,5 +1,6 @@
 -- What is kept of the last messages.
-use Rattle.std.proofs.Common.{◌≡◌, ℕ, ◌+◌, ◌-◌, ◌<◌, ◌≤◌, Bool, true, false, refl, ap, ap₂, sym, ◌∙◌, arith, List, [], ◌∷◌, ◌++◌, length, map, take, drop, set, get_or, Option, append-nil}
+use Rattle.std.proofs.Common.{◌≡◌, ℕ, ◌+◌, ◌-◌, ◌<◌, ◌≤◌, Bool, true, false, refl, ap, ap₂, sym, ◌∙◌, arith, List, [], ◌∷◌, ◌++◌, length, map, take, drop}
+use Rattle.std.proofs.Common.{set, get_or, Option, append-nil}
 use Rattle.std.specs.Prelude.{◌==◌, find}
 use Rattle.std.specs.List.{refill}
 use Rattle.std.proofs.lemmas.List.{drop_all, get_or_default, take_all}

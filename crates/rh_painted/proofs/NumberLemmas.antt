@@ -1,5 +1,6 @@
 -- Numbers in order, put in one by one.
-use Rattle.std.proofs.Common.{◌≡◌, ◌≢◌, ℕ, suc, ◌<◌, ◌≤◌, Bool, true, false, refl, ap, ap₂, sym, ◌∙◌, arith, eq-eqb, List, [], ◌∷◌, ◌++◌, length, get_or, nat_lt, Option, Some, None}
+use Rattle.std.proofs.Common.{◌≡◌, ◌≢◌, ℕ, suc, ◌<◌, ◌≤◌, Bool, true, false, refl, ap, ap₂, sym, ◌∙◌, arith, eq-eqb, List, [], ◌∷◌, ◌++◌, length, get_or}
+use Rattle.std.proofs.Common.{nat_lt, Option, Some, None}
 use Rattle.std.specs.Prelude.{◌==◌, nat_le, not, if◌then◌else◌, insert}
 use Rattle.std.specs.List.{position, position_or_len}
 use Rattle.std.proofs.lemmas.Bool.{ne_eqb}

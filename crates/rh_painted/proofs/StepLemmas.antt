@@ -24,7 +24,8 @@ use Rattle.rh_lines.proofs.FlowLemmas.{takes_none}
 use Rattle.rh_sheet.specs.Chart.{noted}
 use Rattle.rh_sheet.specs.declared.note.Note.{Note}
 use Rattle.rh_sheet.specs.Laws.{at_desk}
-use Rattle.rh_sheet.specs.Sheet.{Happened, behind_happened, behind_read, behind_step, command_happened, fault_happened, happened_text, is_shown, is_shown_remark, opening, read_text, shown_step}
+use Rattle.rh_sheet.specs.Sheet.{Happened, behind_happened, behind_read, behind_step, command_happened, fault_happened, happened_text, is_shown}
+use Rattle.rh_sheet.specs.Sheet.{is_shown_remark, opening, read_text, shown_step}
 use Rattle.rh_sheet.specs.Steps.{remark_text, step_text}
 use Rattle.rh_sheet.specs.declared.sizes.TheConstants.{MOST_STEPS}
 use Rattle.rh_painted.specs.declared.painter.Painter.{Painter}

@@ -14,11 +14,13 @@ pub offer-refused : (id recipient k : ℕ) (records : List Outgoing) → is_full
 unfolding offer ◌>>=◌ refuse_if
 offer-refused id recipient k records full = rw full refl
 
-pub offer-granted : (id recipient k : ℕ) (records : List Outgoing) → is_full is_open records ≡ false → offer id recipient k records ≡ Ok (offered id recipient k records)
+pub offer-granted : (id recipient k : ℕ) (records : List Outgoing) → is_full is_open records ≡ false
+    → offer id recipient k records ≡ Ok (offered id recipient k records)
 unfolding offer ◌>>=◌ refuse_if
 offer-granted id recipient k records few = rw few refl
 
-pub cancel_out-refused : (wanted : Option ℕ) (records : List Outgoing) → open_of (λ x. is_meant wanted x.id) records ≡ None → cancel_out wanted records ≡ Err NotOpen
+pub cancel_out-refused : (wanted : Option ℕ) (records : List Outgoing) → open_of (λ x. is_meant wanted x.id) records ≡ None
+    → cancel_out wanted records ≡ Err NotOpen
 unfolding cancel_out ◌>>=◌ found_or
 cancel_out-refused wanted records none = rw none refl
 

@@ -64,7 +64,8 @@ module _ (test : Asked → Bool) where
   pub asking-here : (r : Incoming) (q : Asked) → r ≡ incoming.Asking q → true ≡ test q → (rest : List Incoming) → asking_of test (r ∷ rest) ≡ Some q
   asking-here r q is passes rest = rw is (rw (sym passes) refl)
 
-  pub asking-past : (r : Incoming) (q : Asked) → r ≡ incoming.Asking q → false ≡ test q → (rest : List Incoming) → asking_of test (r ∷ rest) ≡ asking_of test rest
+  pub asking-past : (r : Incoming) (q : Asked) → r ≡ incoming.Asking q → false ≡ test q → (rest : List Incoming)
+      → asking_of test (r ∷ rest) ≡ asking_of test rest
   asking-past r q is fails rest = rw is (rw (sym fails) refl)
 
   pub unasked-past : (r : Incoming) → ((q : Asked) → r ≡ incoming.Asking q → ⊥) → (rest : List Incoming) → asking_of test (r ∷ rest) ≡ asking_of test rest

@@ -27,7 +27,8 @@ module _ {A : Type 0} (lasts : A → Bool) where
   all-last : (xs : List A) → prefix_len (λ x. not (not (lasts x))) xs ≡ length xs → length (filter lasts xs) ≡ length xs
   all-last [] none = refl
   all-last (x ∷ xs) none =
-      elim (lasts x) as (λ b. cond (not (not b)) (1 + prefix_len (λ x. not (not (lasts x))) xs) 0 ≡ suc (length xs) → length (cond b (x ∷ filter lasts xs) (filter lasts xs)) ≡ suc (length xs))
+      elim (lasts x) as (λ b. cond (not (not b)) (1 + prefix_len (λ x. not (not (lasts x))) xs) 0 ≡ suc (length xs)
+      → length (cond b (x ∷ filter lasts xs) (filter lasts xs)) ≡ suc (length xs))
       [ true ↦ λ e. omega (arith, all-last xs (omega (arith, e))) | false ↦ λ e. absurd (omega (arith, e)) ] none
 
   -- room after the first that has ended goes

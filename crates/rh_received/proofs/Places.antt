@@ -1,5 +1,6 @@
 -- A block of a slot stands where its anchor's word says.
-use Rattle.std.proofs.Common.{◌≡◌, ℕ, inl, inr, ◌+◌, ◌*◌, ◌<◌, ◌≤◌, List, [], ◌∷◌, ◌++◌, length, Option, Some, None, Bool, true, false, refl, sym, ap, subst, ◌∙◌, arith}
+use Rattle.std.proofs.Common.{◌≡◌, ℕ, inl, inr, ◌+◌, ◌*◌, ◌<◌, ◌≤◌, List, [], ◌∷◌, ◌++◌, length, Option, Some, None, Bool, true, false, refl, sym, ap, subst}
+use Rattle.std.proofs.Common.{◌∙◌, arith}
 use Rattle.std.specs.Prelude.{◌==◌, if◌then◌else◌, find}
 use Rattle.std.specs.Option.{option_map}
 use Rattle.rh_defs.specs.Bytes.{word}
@@ -52,7 +53,8 @@ anchored b s k got w e = elim (slots.find k s.blocks) [
 ]
   where
     found : (t : slots.At k s.blocks) → bytes_of_block s k ≡ Some t.here.bytes
-    found t = ap (option_map (λ (c : Split Flex). c.here.bytes)) (slots.block_of-at k s (record { before = t.before; here = t.here; after = t.after }) t.is t.free t.anchor)
+    found t = ap (option_map (λ (c : Split Flex). c.here.bytes)) (slots.block_of-at k s (record { before = t.before; here = t.here; after = t.after }) t.is
+        t.free t.anchor)
 
 -- ---- of the task with the handle
 

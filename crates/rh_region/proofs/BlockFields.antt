@@ -62,13 +62,17 @@ module _ {M : Type 1} {𝓤 : Ura M} (𝓛 : Logic 𝓤) where
     start_shown = qed 𝓛 (‵ Shown ∷ []) ∵ shr_dup ! Fields laws (fields d) b o κ $ unhide ! $ fsplit ! $ fsplit ! $ hide ! $ keep ! (0 ∷ 3 ∷ []) $ done !
 
     pub len_shown : ent 𝓤 (sem 𝓛 Shown) (sep 𝓤 (sem 𝓛 (hidden_shr usize κ d.len b (o + 8))) (sem 𝓛 Shown))
-    len_shown = qed 𝓛 (‵ Shown ∷ []) ∵ shr_dup ! Fields laws (fields d) b o κ $ unhide ! $ fsplit ! $ fsplit ! $ drop ! $ fsplit ! $ hide ! $ keep ! (0 ∷ 3 ∷ []) $ done !
+    len_shown = qed 𝓛 (‵ Shown ∷ []) ∵ shr_dup ! Fields laws (fields d) b o κ $ unhide ! $ fsplit ! $ fsplit ! $ drop ! $ fsplit ! $ hide ! $
+        keep ! (0 ∷ 3 ∷ []) $ done !
 
   -- a block whose bytes are let go is room for as many, and the right to free it
-  pub emptied : (d : Block) → ent 𝓤 (sem 𝓛 (block_owns d.start d.len d.alloc d.bytes)) (guard 𝓤 (d.len < 2 ^ 63) (sep 𝓤 (sem 𝓛 (room_of d.start d.len)) (sem 𝓛 (right d.alloc d.len d.start))))
+  pub emptied : (d : Block)
+      → ent 𝓤 (sem 𝓛 (block_owns d.start d.len d.alloc d.bytes)) (guard 𝓤 (d.len < 2 ^ 63)
+      (sep 𝓤 (sem 𝓛 (room_of d.start d.len)) (sem 𝓛 (right d.alloc d.len d.start))))
   emptied d =
       let n = d.len in
-      qed 𝓛 (‵ (block_owns d.start n d.alloc d.bytes) ∷ []) ∵ fsplit3 ! $ flt_l ! (λ small. in_a_block ! d.start (λ p. lies_at (Array u8 n) full_share p d.bytes) (id⊢ 𝓤 _) (λ b o e.
+      qed 𝓛 (‵ (block_owns d.start n d.alloc d.bytes) ∷ []) ∵ fsplit3 ! $
+      flt_l ! (λ small. in_a_block ! d.start (λ p. lies_at (Array u8 n) full_share p d.bytes) (id⊢ 𝓤 _) (λ b o e.
       use1 𝓛 (‵ (fsep (feq ℕ (length d.bytes) n) (bytes full_share d.bytes b o))) (bytes_apart 𝓛 full_share n d.bytes b o) $ fsplit ! $ feq_l ! (λ long.
       use1 𝓛 (‵ (froom (ty_array (ty_int w8) (length d.bytes)) b o)) (bytes-room 𝓛 d.bytes b o) $
       rewrite ! 0 (λ (k : ℕ). ‵ (froom (ty_array (ty_int w8) k) b o)) long refl $ rewrite ! 0 (λ (p : Ptr). ‵ (room_for (array_of u8 n) p)) (sym e) refl $

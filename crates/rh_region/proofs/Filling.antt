@@ -66,8 +66,10 @@ module _ {M : Type 1} {𝓤 : Ura M} (𝓛 : Logic 𝓤) (n b o : ℕ) where
     pub next_in : ent 𝓤 (sep 𝓤 (sem 𝓛 (next_zero b o i)) (sem 𝓛 (Around n b o i))) (sem 𝓛 (Filling n b o (i + 1)))
     next_in =
         qed 𝓛 (‵ (next_zero b o i) ∷ ‵ (Around n b o i) ∷ []) ∵ use1 𝓛 (‵ (part_at u8 full_share 0 b (i + o))) (uint_in 𝓛 full_share w8 0 b (i + o)) $
-        rewrite ! 0 (λ (at : ℕ). ‵ (part_at u8 full_share 0 b at)) {x = o + length (zeros i)} (omega (arith, length-zeros i)) refl $ nothing ! $ move ! (1 ∷ 0 ∷ []) $ fjoin ! $
-        move ! (1 ∷ []) $ fsplit ! $ move ! (0 ∷ 2 ∷ []) $ use2 𝓛 (‵ (bytes full_share (zeros i ++ 0 ∷ []) b o)) (bytes_glue 𝓛 full_share (zeros i) (0 ∷ []) b o) $
+        rewrite ! 0 (λ (at : ℕ). ‵ (part_at u8 full_share 0 b at)) {x = o + length (zeros i)} (omega (arith, length-zeros i)) refl $ nothing ! $
+        move ! (1 ∷ 0 ∷ []) $ fjoin ! $
+        move ! (1 ∷ []) $ fsplit ! $ move ! (0 ∷ 2 ∷ []) $
+        use2 𝓛 (‵ (bytes full_share (zeros i ++ 0 ∷ []) b o)) (bytes_glue 𝓛 full_share (zeros i) (0 ∷ []) b o) $
         rewrite ! 0 (λ (xs : List ℕ). ‵ (bytes full_share xs b o)) (zeros_more i) refl $
         rewrite ! 1 (λ (at : ℕ). ‵ (room (n - (i + 1)) b at)) {x = o + (i + 1)} (omega arith) refl $ fjoin ! $ done !
 
@@ -75,4 +77,5 @@ module _ {M : Type 1} {𝓤 : Ura M} (𝓛 : Logic 𝓤) (n b o : ℕ) where
   pub all_filled : (i : ℕ) → i ≡ n → ent 𝓤 (sem 𝓛 (Filling n b o i)) (sem 𝓛 (zeros_at (block_ptr b o) n))
   all_filled i all =
       qed 𝓛 (‵ (Filling n b o i) ∷ []) ∵ fsplit ! $ rewrite ! 0 (λ (m : ℕ). ‵ (bytes full_share (zeros m) b o)) all refl $ move ! (1 ∷ []) $ drop ! $
-      feq_i ! ℕ (length (zeros n)) n (length-zeros n) $ fjoin ! $ use1 𝓛 (‵ (part_at (Array u8 n) full_share (zeros n) b o)) (bytes_whole 𝓛 full_share n (zeros n) b o) $ done !
+      feq_i ! ℕ (length (zeros n)) n (length-zeros n) $ fjoin ! $
+      use1 𝓛 (‵ (part_at (Array u8 n) full_share (zeros n) b o)) (bytes_whole 𝓛 full_share n (zeros n) b o) $ done !

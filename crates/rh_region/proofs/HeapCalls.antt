@@ -17,7 +17,8 @@ use prog.Capped.{capped_is}
 use prog.Model.{Model}
 use types.Logic.{Logic, sem}
 use types.Match.{live}
-use types.Kit.{Item, ⋆, mean, ‵, raw, ◌⊛◌, some, given, later, ◌$◌, ◌∵◌, !, qed, by, move, keep, use0, use1, split, join, pick, fjoin, updating, await, show, check, done}
+use types.Kit.{Item, ⋆, mean, ‵, raw, ◌⊛◌, some, given, later, ◌$◌, ◌∵◌, !, qed, by, move, keep, use0, use1, split, join, pick, fjoin, updating, await, show}
+use types.Kit.{check, done}
 use types.Kit.{now as at_once}
 use denote.Builtin.{u8, unit}
 use denote.Laws.{Is, shows}
@@ -71,7 +72,8 @@ handed h n refused = ftrue
 
 spells_granted : (p : Ptr) (v : Val) (b o : ℕ) → p ≡ block_ptr b o → Is Answer (Ok p) (v ∷ []) → v ≡ spelled (granted b o)
 spells_granted p v b o at is =
-    ap only is.1.0 ∙ ap (λ (us : List Val). live 0 (of_list us)) (is.1.1.1.0 ∙ ap (λ (us : List Val). us ++ []) is.1.1.1.1.0) ∙ ap (λ (z : Ptr). live 0 (vcons (ptr_val z) vnil)) at
+    ap only is.1.0 ∙ ap (λ (us : List Val). live 0 (of_list us)) (is.1.1.1.0 ∙ ap (λ (us : List Val). us ++ []) is.1.1.1.1.0)
+    ∙ ap (λ (z : Ptr). live 0 (vcons (ptr_val z) vnil)) at
 
 spells_refused : (e : AllocError) (v : Val) → Is Answer (Err e) (v ∷ []) → v ≡ spelled refused
 spells_refused e v is = ap only is.1.0 ∙ ap (λ (us : List Val). live 1 (of_list us)) (is.1.1.1.0 ∙ ap (λ (us : List Val). us ++ []) is.1.1.1.1.0.1.0)
@@ -93,14 +95,17 @@ module _ {M : Type 1} {𝓤 : Ura M} (𝓛 : Logic 𝓤) (𝓜 : Model 𝓤 𝓛
   pub ask : n < 2 ^ 63 → ent 𝓤 (⋆ 𝓛 (Handle ∷ Token ∷ [])) (Asking.pre asked)
   ask small =
       qed 𝓛 (Handle ∷ Token ∷ []) ∵ use0 𝓛 (raw (fact 𝓤 (HasLayout (array_of u8 n) n 1))) (fact_i 𝓤 _ (emp 𝓤) (layout_is n small)) $
-      nothing ! $ number ! 1 (lit< tt) $ fjoin ! $ number ! n (omega arith) $ fjoin ! $ move ! (2 ∷ 0 ∷ []) $ fjoin ! $ move ! (2 ∷ 0 ∷ []) $ join ! $ join ! $ done !
+      nothing ! $ number ! 1 (lit< tt) $ fjoin ! $ number ! n (omega arith) $ fjoin ! $ move ! (2 ∷ 0 ∷ []) $ fjoin ! $ move ! (2 ∷ 0 ∷ []) $ join ! $
+      join ! $ done !
 
   abbrev Comes : Val → Outcome → SProp 𝓤
   Comes v h = guard 𝓤 (v ≡ spelled h) (sep 𝓤 (sem 𝓛 (handed r.now n h)) (mean 𝓛 Token))
 
-  comes : (a : Answer.Denot) (v : Val) → ent 𝓤 (⋆ 𝓛 (‵ (Answer.own_val a (v ∷ [])) ∷ ‵ (block_if_ok (ghosts.dealloc_token r.now) (array_of u8 n) a) ∷ Token ∷ [])) (ex 𝓤 (Comes v))
+  comes : (a : Answer.Denot) (v : Val)
+      → ent 𝓤 (⋆ 𝓛 (‵ (Answer.own_val a (v ∷ [])) ∷ ‵ (block_if_ok (ghosts.dealloc_token r.now) (array_of u8 n) a) ∷ Token ∷ [])) (ex 𝓤 (Comes v))
   comes (Ok p) v =
-      qed 𝓛 (‵ (Answer.own_val (Ok p) (v ∷ [])) ∷ ‵ (fsep (room_of p n) (right r.now n p)) ∷ Token ∷ []) ∵ facts ! Answer (Is Answer) (shows 𝓛 Answer) (Ok p) (v ∷ []) (λ is.
+      qed 𝓛 (‵ (Answer.own_val (Ok p) (v ∷ [])) ∷ ‵ (fsep (room_of p n) (right r.now n p)) ∷ Token ∷ []) ∵
+      facts ! Answer (Is Answer) (shows 𝓛 Answer) (Ok p) (v ∷ []) (λ is.
       in_a_block ! p (λ z. fsep (room_of z n) (right r.now n z)) (fst∗ 𝓤 (never 𝓤) (sem 𝓛 (right r.now n null_ptr))) (λ b o at.
       show ! (Comes v) (granted b o) $ check ! (spells_granted p v b o at is) $ done !))
   comes (Err e) v =
@@ -111,7 +116,8 @@ module _ {M : Type 1} {𝓤 : Ura M} (𝓛 : Logic 𝓤) (𝓜 : Model 𝓤 𝓛
   answer v =
       qed 𝓛 (raw (Asking.post asked v) ∷ []) ∵ updating ! $
       use1 𝓛 (later (some (λ (a : Answer.Denot). (Token ⊛ ‵ (Answer.own_val a (v ∷ []))) ⊛
-      some (λ (ws : Unit {0} × (Unit {0} × (Unit {0} × Unit {0}))). ‵ (lasts asking.ended (κ, tt) asked.0.3 ws) ⊛ ‵ (block_if_ok (ghosts.dealloc_token r.now) (array_of u8 n) a))))) (id⊢ 𝓤 _) $
+      some (λ (ws : Unit {0} × (Unit {0} × (Unit {0} × Unit {0}))). ‵ (lasts asking.ended (κ, tt) asked.0.3 ws) ⊛ ‵
+      (block_if_ok (ghosts.dealloc_token r.now) (array_of u8 n) a))))) (id⊢ 𝓤 _) $
       await ! tt $ at_once ! $ pick ! (λ a. split ! $ split ! $ move ! (2 ∷ []) $ pick ! (λ ws. split ! $ keep ! (3 ∷ 1 ∷ 2 ∷ []) $ by ! (comes a v)))
 
   module _ (p : Ptr) where
@@ -123,8 +129,10 @@ module _ {M : Type 1} {𝓤 : Ura M} (𝓛 : Logic 𝓤) (𝓜 : Model 𝓤 𝓛
 
     pub give : n < 2 ^ 63 → ent 𝓤 (⋆ 𝓛 (‵ (room_of p n) ∷ ‵ (right r.now n p) ∷ Handle ∷ Token ∷ [])) (Giving.pre given_back)
     give small =
-        qed 𝓛 (‵ (room_of p n) ∷ ‵ (right r.now n p) ∷ Handle ∷ Token ∷ []) ∵ fjoin ! $ use0 𝓛 (raw (fact 𝓤 (HasLayout (array_of u8 n) n 1))) (fact_i 𝓤 _ (emp 𝓤) (layout_is n small)) $ join ! $
-        nothing ! $ number ! 1 (lit< tt) $ fjoin ! $ number ! n (omega arith) $ fjoin ! $ address ! p $ fjoin ! $ move ! (2 ∷ 0 ∷ []) $ fjoin ! $ move ! (2 ∷ 0 ∷ []) $ join ! $ join ! $ done !
+        qed 𝓛 (‵ (room_of p n) ∷ ‵ (right r.now n p) ∷ Handle ∷ Token ∷ []) ∵ fjoin ! $
+        use0 𝓛 (raw (fact 𝓤 (HasLayout (array_of u8 n) n 1))) (fact_i 𝓤 _ (emp 𝓤) (layout_is n small)) $ join ! $
+        nothing ! $ number ! 1 (lit< tt) $ fjoin ! $ number ! n (omega arith) $ fjoin ! $ address ! p $ fjoin ! $ move ! (2 ∷ 0 ∷ []) $ fjoin ! $
+        move ! (2 ∷ 0 ∷ []) $ join ! $ join ! $ done !
 
     pub taken : (v : Val) → ent 𝓤 (Giving.post given_back v) (mean 𝓛 (later (‵ (unit.own_val tt (v ∷ [])) ⊛ Token)))
     taken v =

@@ -49,10 +49,12 @@ module _ {M : Type 1} {𝓤 : Ura M} (𝓛 : Logic 𝓤) (at n b o : ℕ) (xs : 
 
   cut : ent 𝓤 (sem 𝓛 (bytes full_share xs b o)) (sem 𝓛 (In3 run))
   cut =
-      let here = starts in let long = run_long in let rest : drop at xs ≡ run ++ past = sym (take-append-drop n (drop at xs)) ∙ ap (λ (ys : List ℕ). run ++ ys) (drop-drop n at xs) in
+      let here = starts in let long = run_long in let rest : drop at xs ≡ run ++ past = sym (take-append-drop n (drop at xs))
+      ∙ ap (λ (ys : List ℕ). run ++ ys) (drop-drop n at xs) in
       qed 𝓛 (‵ (bytes full_share xs b o) ∷ []) ∵ rewrite ! 0 (λ (ys : List ℕ). ‵ (bytes full_share ys b o)) (sym (take-append-drop at xs)) refl $
       use1 𝓛 (‵ Before ⊛ ‵ (bytes full_share (drop at xs) b (o + length before))) (bytes_cut 𝓛 full_share before (drop at xs) b o) $ split ! $ move ! (1 ∷ []) $
-      rewrite ! 0 (λ (k : ℕ). ‵ (bytes full_share (drop at xs) b k)) (sym here) refl $ rewrite ! 0 (λ (ys : List ℕ). ‵ (bytes full_share ys b (at + o))) rest refl $
+      rewrite ! 0 (λ (k : ℕ). ‵ (bytes full_share (drop at xs) b k)) (sym here) refl $
+      rewrite ! 0 (λ (ys : List ℕ). ‵ (bytes full_share ys b (at + o))) rest refl $
       use1 𝓛 (‵ (bytes full_share run b (at + o)) ⊛ ‵ (bytes full_share past b (at + o + length run))) (bytes_cut 𝓛 full_share run past b (at + o)) $ split ! $
       rewrite ! 1 (λ (k : ℕ). ‵ (bytes full_share past b (at + o + k))) long refl $ move ! (2 ∷ 0 ∷ 1 ∷ []) $ fjoin3 ! $ done !
 
@@ -69,14 +71,20 @@ module _ {M : Type 1} {𝓤 : Ura M} (𝓛 : Logic 𝓤) (at n b o : ℕ) (xs : 
   Outside = fsep Before Past
 
   -- the same between an array of bytes and the cells of a slice
-  pub run_out : (all : ℕ) → ent 𝓤 (sem 𝓛 (part_at (Array u8 all) full_share xs b o)) (guard 𝓤 (length xs ≡ all) (sep 𝓤 (sem 𝓛 (cells (mem u8) run b (at + o))) (sem 𝓛 Outside)))
+  pub run_out : (all : ℕ) → ent 𝓤 (sem 𝓛 (part_at (Array u8 all) full_share xs b o))
+      (guard 𝓤 (length xs ≡ all) (sep 𝓤 (sem 𝓛 (cells (mem u8) run b (at + o))) (sem 𝓛 Outside)))
   run_out all =
-      qed 𝓛 (‵ (part_at (Array u8 all) full_share xs b o) ∷ []) ∵ use1 𝓛 (‵ (fsep (feq ℕ (length xs) all) (bytes full_share xs b o))) (bytes_apart 𝓛 full_share all xs b o) $
+      qed 𝓛 (‵ (part_at (Array u8 all) full_share xs b o) ∷ []) ∵
+      use1 𝓛 (‵ (fsep (feq ℕ (length xs) all) (bytes full_share xs b o))) (bytes_apart 𝓛 full_share all xs b o) $
       fsplit ! $ feq_l ! (λ long. use1 𝓛 (‵ (In3 run)) cut $ fsplit3 ! $ move ! (1 ∷ []) $
       use1 𝓛 (‵ (cells (mem u8) run b (at + o))) (whole_in 𝓛 u8 run b (at + o)) $ check ! long $ frame ! $ fjoin ! $ done !)
 
-  pub run_in : (all : ℕ) (ws : List ℕ) → length xs ≡ all → length ws ≡ n → ent 𝓤 (⋆ 𝓛 (‵ (cells (mem u8) ws b (at + o)) ∷ ‵ Outside ∷ [])) (sem 𝓛 (part_at (Array u8 all) full_share (with_run xs at n ws) b o))
+  pub run_in : (all : ℕ) (ws : List ℕ) → length xs ≡ all → length ws ≡ n
+      → ent 𝓤 (⋆ 𝓛 (‵ (cells (mem u8) ws b (at + o)) ∷ ‵ Outside ∷ [])) (sem 𝓛 (part_at (Array u8 all) full_share (with_run xs at n ws) b o))
   run_in all ws long same =
-      let count : length (with_run xs at n ws) ≡ all = omega (arith, length-append before (ws ++ past), length-append ws past, length-take at xs, length-drop (at + n) xs, long, same, within) in
-      qed 𝓛 (‵ (cells (mem u8) ws b (at + o)) ∷ ‵ Outside ∷ []) ∵ use1 𝓛 (‵ (bytes full_share ws b (at + o))) (whole_out 𝓛 u8 ws b (at + o)) $ move ! (1 ∷ []) $ fsplit ! $ move ! (0 ∷ 2 ∷ 1 ∷ []) $ fjoin3 ! $
-      use1 𝓛 (‵ (bytes full_share (with_run xs at n ws) b o)) (glue ws same) $ feq_i ! ℕ (length (with_run xs at n ws)) all count $ fjoin ! $ by ! (bytes_whole 𝓛 full_share all (with_run xs at n ws) b o)
+      let count : length (with_run xs at n ws) ≡ all =
+      omega (arith, length-append before (ws ++ past), length-append ws past, length-take at xs, length-drop (at + n) xs, long, same, within) in
+      qed 𝓛 (‵ (cells (mem u8) ws b (at + o)) ∷ ‵ Outside ∷ []) ∵ use1 𝓛 (‵ (bytes full_share ws b (at + o))) (whole_out 𝓛 u8 ws b (at + o)) $
+      move ! (1 ∷ []) $ fsplit ! $ move ! (0 ∷ 2 ∷ 1 ∷ []) $ fjoin3 ! $
+      use1 𝓛 (‵ (bytes full_share (with_run xs at n ws) b o)) (glue ws same) $ feq_i ! ℕ (length (with_run xs at n ws)) all count $ fjoin ! $
+      by ! (bytes_whole 𝓛 full_share all (with_run xs at n ws) b o)

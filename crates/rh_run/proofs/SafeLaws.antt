@@ -13,7 +13,8 @@ use Rattle.rh_run.specs.Safely.{RanSafely}
 
 module _ (pages : ℕ) (files : FileList) (least : MIN_PAGES ≤ pages) (most : pages ≤ most_pages) {before after : Input} {old new : Output} where
   -- where the whole script was read
-  pub finished_safely : (status : Status) → Finished (start pages files) before after old new status → RanSafely script_text (start pages files) before after old new
+  pub finished_safely : (status : Status) → Finished (start pages files) before after old new status
+      → RanSafely script_text (start pages files) before after old new
   finished_safely status f = record {
     script = f.bytes;
     read = f.read;

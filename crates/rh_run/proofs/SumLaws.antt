@@ -43,7 +43,8 @@ sums_below h heap below =
     }
 
 -- the sums of an image whose length is a word are words
-pub sums_are_words : (image : List ℕ) (sums : Summary) → sums ≡ summary_of (heap_of image 0) → IsImage image (heap_of image 0) → word image 12 < 2 ^ 32 → AreWords sums
+pub sums_are_words : (image : List ℕ) (sums : Summary) → sums ≡ summary_of (heap_of image 0) → IsImage image (heap_of image 0) → word image 12 < 2 ^ 32
+    → AreWords sums
 sums_are_words image sums e i below =
     let last = i.spells.last in
     subst AreWords (sym e) (sums_below (heap_of image 0) i.spells.heap (omega arith))

@@ -1,5 +1,6 @@
 -- What is read of a live task that is seen, and of the module area.
-use Rattle.std.proofs.Common.{◌≡◌, ℕ, zero, suc, ◌+◌, ◌-◌, ◌≤◌, Bool, true, false, refl, ap, sym, subst, ◌∙◌, arith, eq-eqb, List, [], ◌∷◌, ◌++◌, length, take, Option, Some, None, Result, Ok, Err}
+use Rattle.std.proofs.Common.{◌≡◌, ℕ, zero, suc, ◌+◌, ◌-◌, ◌≤◌, Bool, true, false, refl, ap, sym, subst, ◌∙◌, arith, eq-eqb, List, [], ◌∷◌, ◌++◌, length}
+use Rattle.std.proofs.Common.{take, Option, Some, None, Result, Ok, Err}
 use Rattle.std.specs.Prelude.{IfErr, IfOk, IsOk, OnOk, slice_get}
 use Rattle.std.specs.Option.{option_map}
 use Rattle.std.specs.Result.{MatchResult}

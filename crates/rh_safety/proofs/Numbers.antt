@@ -25,12 +25,15 @@ use Rattle.rh_defs.specs.Pieces.{Split}
 use Rattle.rh_defs.specs.Heap.{Heap}
 use Rattle.rh_defs.specs.Slot.{Flex}
 use Rattle.rh_defs.specs.Messages.{Parcel, is_recorded}
-use Rattle.rh_defs.specs.Post.{Post, Seat, answers_held, held_by, has_seat, bounced, bounce_held, bounce_all, without_block, first_for, taken_from, queued_in, put_down, post_join, post_send, post_poll, post_death}
+use Rattle.rh_defs.specs.Post.{Post, Seat, answers_held, held_by, has_seat, bounced, bounce_held, bounce_all, without_block, first_for, taken_from, queued_in}
+use Rattle.rh_defs.specs.Post.{put_down, post_join, post_send, post_poll, post_death}
 use Rattle.rh_defs.specs.Desk.{Desk, Task, Scrap, next_ref, free_pages, with_task, with_module, with_delivered, send_letter}
 use Rattle.rh_defs.specs.OutgoingEvents.{Handled, transmit, answer_fetch, fail_sending, save_scrap, answer_ack, finish_load, refused as failed_by}
-use Rattle.rh_defs.specs.IncomingEvents.{ended, accept, take_save, appended, fetch_more, took, take_bytes, ask, fetch_back, ack_back, loaded, load_file, take_file}
+use Rattle.rh_defs.specs.IncomingEvents.{ended, accept, take_save, appended, fetch_more, took, take_bytes, ask, fetch_back, ack_back, loaded, load_file}
+use Rattle.rh_defs.specs.IncomingEvents.{take_file}
 use Rattle.rh_defs.specs.Transfer.{came, came_back, handled}
-use Rattle.rh_defs.specs.Commands.{Answer, start_task, kill, alloc, load, put, free, extend, mid, claim, release, resize, budge, module_area, change_module, change_pages, change_made, change_area, make, remove, rma_claim, rma_free, rma_resize}
+use Rattle.rh_defs.specs.Commands.{Answer, start_task, kill, alloc, load, put, free, extend, mid, claim, release, resize, budge, module_area, change_module}
+use Rattle.rh_defs.specs.Commands.{change_pages, change_made, change_area, make, remove, rma_claim, rma_free, rma_resize}
 use Rattle.rh_defs.proofs.QuestionLaws.{IsFirst, shown, block_count, heap_sums, status_of, free_page_count, first-is}
 use Rattle.rh_defs.specs.Step.{save, repeat, poll, poll_taken, cancel_in, cancel_out, change, step}
 use Rattle.rh_defs.specs.Runs.{after, start_with}
@@ -106,7 +109,8 @@ unfolding post_send
 post_send-ref room l post =
     granted-both _ (any-grant _) λ x u. granted-then _ _ λ there e.
     granted (record {
-      next = chosen (λ (x : Post). x.next_ref ≡ post.next_ref + 1) (answers_held l.your_ref (held_by l.from post.seats)) (put_down l.from (queued_in l there post)) (queued_in l there post) refl refl;
+      next = chosen (λ (x : Post). x.next_ref ≡ post.next_ref + 1) (answers_held l.your_ref (held_by l.from post.seats))
+          (put_down l.from (queued_in l there post)) (queued_in l there post) refl refl;
       mail = posted-one l there post;
     })
 

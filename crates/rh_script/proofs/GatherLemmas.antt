@@ -1,5 +1,6 @@
 -- Lists whose lines are gathered in a row.
-use Rattle.std.proofs.Common.{◌≡◌, ℕ, zero, suc, ◌+◌, List, [], ◌∷◌, ◌++◌, take, drop, Some, None, Result, get_or, length, ◌<◌, ◌≤◌, sym, ◌∙◌, ap, subst, refl, append_assoc, append-nil}
+use Rattle.std.proofs.Common.{◌≡◌, ℕ, zero, suc, ◌+◌, List, [], ◌∷◌, ◌++◌, take, drop, Some, None, Result, get_or, length, ◌<◌, ◌≤◌, sym, ◌∙◌, ap, subst}
+use Rattle.std.proofs.Common.{refl, append_assoc, append-nil}
 use Rattle.std.specs.Prelude.{slice_get}
 use Rattle.std.specs.List.{flat_map}
 use Rattle.std.specs.Result.{IsErr}
@@ -30,20 +31,26 @@ gathered_line {row = row} line grown p = record {
   is = ap (λ z. z ++ line) p.is ∙ (append_assoc p.written row line ∙ ap (λ z. p.written ++ z) (sym grown));
 }
 
-item_more : {X : Type 0} (f : X → List ℕ) (first : List ℕ) (xs : List X) (i : ℕ) (x d : X) → x ≡ get_or xs i d → i < length xs → (first ++ flat_map f (take i xs)) ++ f x ≡ first ++ flat_map f (take (i + 1) xs)
+item_more : {X : Type 0} (f : X → List ℕ) (first : List ℕ) (xs : List X) (i : ℕ) (x d : X) → x ≡ get_or xs i d → i < length xs
+    → (first ++ flat_map f (take i xs)) ++ f x ≡ first ++ flat_map f (take (i + 1) xs)
 item_more f first xs i x d e h =
     ap (λ y. (first ++ flat_map f (take i xs)) ++ f y) e
     ∙ (append_assoc first (flat_map f (take i xs)) (f (get_or xs i d))
-    ∙ ap (λ z. first ++ z) (sym (ap (flat_map f) (take_more xs i d h) ∙ (flat_map-append f (take i xs) (get_or xs i d ∷ []) ∙ ap (λ z. flat_map f (take i xs) ++ z) (append-nil (f (get_or xs i d)))))))
+    ∙ ap (λ z. first ++ z) (sym (ap (flat_map f) (take_more xs i d h) ∙ (flat_map-append f (take i xs) (get_or xs i d ∷ [])
+    ∙ ap (λ z. flat_map f (take i xs) ++ z) (append-nil (f (get_or xs i d)))))))
 
 -- one more item of a list, whose line goes into the row behind what still waits there
-pub gathered_each : {X : Type 0} (f : X → List ℕ) (first : List ℕ) {s t u : Output} {row rest new : List ℕ} (xs : List X) (i : ℕ) (x d : X) → x ≡ get_or xs i d → i < length xs → Gathered s t row (first ++ flat_map f (take i xs)) → Gathered t u rest row → new ≡ rest ++ f x → Gathered s u new (first ++ flat_map f (take (i + 1) xs))
+pub gathered_each : {X : Type 0} (f : X → List ℕ) (first : List ℕ) {s t u : Output} {row rest new : List ℕ} (xs : List X) (i : ℕ) (x d : X)
+    → x ≡ get_or xs i d → i < length xs → Gathered s t row (first ++ flat_map f (take i xs)) → Gathered t u rest row → new ≡ rest ++ f x
+    → Gathered s u new (first ++ flat_map f (take (i + 1) xs))
 gathered_each f first {s} {t} {u} {row} {rest} {new} xs i x d e h p q grown =
     let P : List ℕ → Type 0 = λ z. Gathered s u new z in
     subst P (item_more f first xs i x d e h) (gathered_line (f x) grown (gathered_more p q))
 
 -- the same, where a reader has answered the item
-pub gathered_next : {X : Type 0} (f : X → List ℕ) (first : List ℕ) {s t u : Output} {row rest new : List ℕ} (xs : List X) (i : ℕ) (x : X) → Some x ≡ slice_get xs i → Gathered s t row (first ++ flat_map f (take i xs)) → Gathered t u rest row → new ≡ rest ++ f x → Gathered s u new (first ++ flat_map f (take (i + 1) xs))
+pub gathered_next : {X : Type 0} (f : X → List ℕ) (first : List ℕ) {s t u : Output} {row rest new : List ℕ} (xs : List X) (i : ℕ) (x : X)
+    → Some x ≡ slice_get xs i → Gathered s t row (first ++ flat_map f (take i xs)) → Gathered t u rest row → new ≡ rest ++ f x
+    → Gathered s u new (first ++ flat_map f (take (i + 1) xs))
 gathered_next f first xs i x e p q grown =
     gathered_each f first xs i x x (sym (get_or_from_slice_get xs i x x (sym e))) (slice_get_within xs i x (sym e)) p q grown
 
@@ -54,18 +61,21 @@ take_past (x ∷ xs) zero e = absurd (cc)
 take_past (x ∷ xs) (suc i) e = ap (λ z. x ∷ z) (take_past xs i e)
 
 -- all items, where there is no further one
-pub gathered_whole : {X : Type 0} (f : X → List ℕ) (first : List ℕ) {s t : Output} {row : List ℕ} (xs : List X) (i : ℕ) → None ≡ slice_get xs i → Gathered s t row (first ++ flat_map f (take i xs)) → Gathered s t row (first ++ flat_map f xs)
+pub gathered_whole : {X : Type 0} (f : X → List ℕ) (first : List ℕ) {s t : Output} {row : List ℕ} (xs : List X) (i : ℕ) → None ≡ slice_get xs i
+    → Gathered s t row (first ++ flat_map f (take i xs)) → Gathered s t row (first ++ flat_map f xs)
 gathered_whole f first {s} {t} {row} xs i e p =
     let P : List ℕ → Type 0 = λ z. Gathered s t row z in
     subst P (ap (λ z. first ++ flat_map f z) (take_past xs i e)) p
 
-pub gathered_all : {X : Type 0} (f : X → List ℕ) (first : List ℕ) {s t : Output} {row : List ℕ} (xs : List X) (i : ℕ) → length xs ≤ i → Gathered s t row (first ++ flat_map f (take i xs)) → Gathered s t row (first ++ flat_map f xs)
+pub gathered_all : {X : Type 0} (f : X → List ℕ) (first : List ℕ) {s t : Output} {row : List ℕ} (xs : List X) (i : ℕ) → length xs ≤ i
+    → Gathered s t row (first ++ flat_map f (take i xs)) → Gathered s t row (first ++ flat_map f xs)
 gathered_all f first {s} {t} {row} xs i past p =
     let P : List ℕ → Type 0 = λ z. Gathered s t row z in
     subst P (ap (λ z. first ++ flat_map f z) (take_all i xs past)) p
 
 -- the row is not written whole
-pub gathered_stops : {E X : Type 0} (f : X → List ℕ) (first : List ℕ) {s t u : Output} {row : List ℕ} (xs : List X) (i : ℕ) (e : E) (r : Result Unit E) → IsErr r → Gathered s t row (first ++ flat_map f (take i xs)) → Breaks t u row → Puts s u r (first ++ flat_map f xs)
+pub gathered_stops : {E X : Type 0} (f : X → List ℕ) (first : List ℕ) {s t u : Output} {row : List ℕ} (xs : List X) (i : ℕ) (e : E) (r : Result Unit E)
+    → IsErr r → Gathered s t row (first ++ flat_map f (take i xs)) → Breaks t u row → Puts s u r (first ++ flat_map f xs)
 gathered_stops {E} f first {s} {t} {u} {row} xs i e r z p q =
     let P : List ℕ → Type 0 = λ y. Breaks s u y in
     let all : (p.written ++ row) ++ flat_map f (drop i xs) ≡ first ++ flat_map f xs =

@@ -1,5 +1,6 @@
 -- Bytes that are written part by part, records, and whole answers.
-use Rattle.std.proofs.Common.{◌≡◌, ◌≢◌, ℕ, suc, Bool, true, false, ◌+◌, List, [], ◌∷◌, ◌++◌, length, take, drop, Some, None, Result, Ok, Err, get_or, ◌<◌, ◌≤◌, refl, sym, ◌∙◌, ap, append-nil, subst, arith, Option, find}
+use Rattle.std.proofs.Common.{◌≡◌, ◌≢◌, ℕ, suc, Bool, true, false, ◌+◌, List, [], ◌∷◌, ◌++◌, length, take, drop, Some, None, Result, Ok, Err, get_or, ◌<◌}
+use Rattle.std.proofs.Common.{◌≤◌, refl, sym, ◌∙◌, ap, append-nil, subst, arith, Option, find}
 use Rattle.std.specs.Prelude.{map, codes, if◌then◌else◌}
 use Rattle.std.specs.Option.{option_map}
 use Rattle.rh_defs.specs.declared.listing.BlockItem.{BlockItem}
@@ -16,7 +17,8 @@ use Rattle.rh_script.specs.Named.{slot_in, segments_of_named}
 use Rattle.std.specs.Fmt.{decimal}
 use Rattle.rh_defs.specs.Chain.{Granted, ◌>>=◌, found_or}
 use Rattle.rh_defs.specs.Desk.{Desk, Task, has_name, named, free_pages}
-use Rattle.rh_defs.specs.Listing.{Nothing, Bytes, Blocks, Segments, Records, block_items, block_items_from, segment_item, segment_items, segment_items_from, area_items, out_item, in_item, heap_at, status_at}
+use Rattle.rh_defs.specs.Listing.{Nothing, Bytes, Blocks, Segments, Records, block_items, block_items_from, segment_item, segment_items, segment_items_from}
+use Rattle.rh_defs.specs.Listing.{area_items, out_item, in_item, heap_at, status_at}
 use Rattle.rh_defs.specs.declared.command.Command.{Command}
 use Rattle.rh_defs.specs.declared.command.Command.TheVariants as command
 use Rattle.rh_defs.specs.declared.question.Question.{Question}
@@ -29,7 +31,8 @@ use Rattle.std.specs.Result.{IsErr}
 use Rattle.std.proofs.Math.Seq.{take-add}
 use Rattle.std.proofs.lemmas.List.{take-append-drop, take_all}
 use Rattle.hex.specs.Hex.{encode_with, encode_lower, lower_digits}
-use Rattle.rh_defs.specs.Text.{ok, answer_text, reply_text, area_line, block_line, first_line, hex_words, rest_of_line, later_lines, record_line, record_lines, segment_line}
+use Rattle.rh_defs.specs.Text.{ok, answer_text, reply_text, area_line, block_line, first_line, hex_words, rest_of_line, later_lines, record_line}
+use Rattle.rh_defs.specs.Text.{record_lines, segment_line}
 use Rattle.rh_lines.specs.Flow.{Output, Takes, Breaks, Puts}
 use Rattle.rh_lines.proofs.FlowLemmas.{takes_none, takes_each, puts_each, takes_more, takes_breaks, breaks_before, puts_stops}
 
@@ -45,20 +48,23 @@ part_more : (bytes : List ℕ) (i n : ℕ) → encode_lower (take (i + n) bytes)
 part_more bytes i n =
     ap encode_lower (take-add i n bytes) ∙ encode_with-append lower_digits (take i bytes) (take n (drop i bytes))
 
-part_splits : (bytes : List ℕ) (i n : ℕ) → encode_lower bytes ≡ (encode_lower (take i bytes) ++ encode_lower (take n (drop i bytes))) ++ encode_lower (drop (i + n) bytes)
+part_splits : (bytes : List ℕ) (i n : ℕ)
+    → encode_lower bytes ≡ (encode_lower (take i bytes) ++ encode_lower (take n (drop i bytes))) ++ encode_lower (drop (i + n) bytes)
 part_splits bytes i n =
     ap encode_lower (sym (take-append-drop (i + n) bytes))
     ∙ (encode_with-append lower_digits (take (i + n) bytes) (drop (i + n) bytes)
     ∙ ap (λ z. z ++ encode_lower (drop (i + n) bytes)) (part_more bytes i n))
 
 -- n more bytes
-pub takes_part : {s t u : Output} (bytes : List ℕ) (i n : ℕ) → Takes s t (encode_lower (take i bytes)) → Takes t u (encode_lower (take n (drop i bytes))) → Takes s u (encode_lower (take (i + n) bytes))
+pub takes_part : {s t u : Output} (bytes : List ℕ) (i n : ℕ) → Takes s t (encode_lower (take i bytes)) → Takes t u (encode_lower (take n (drop i bytes)))
+    → Takes s u (encode_lower (take (i + n) bytes))
 takes_part {s} {t} {u} bytes i n p q =
     let P : List ℕ → Type 0 = λ z. Takes s u z in
     subst P (sym (part_more bytes i n)) (takes_more p q)
 
 -- the part that is not written whole
-pub puts_part : {E : Type 0} {s t u : Output} (bytes : List ℕ) (i n : ℕ) (e : E) (r : Result Unit E) → IsErr r → Takes s t (encode_lower (take i bytes)) → Puts t u (Err e) (encode_lower (take n (drop i bytes))) → Puts s u r (encode_lower bytes)
+pub puts_part : {E : Type 0} {s t u : Output} (bytes : List ℕ) (i n : ℕ) (e : E) (r : Result Unit E) → IsErr r → Takes s t (encode_lower (take i bytes))
+    → Puts t u (Err e) (encode_lower (take n (drop i bytes))) → Puts s u r (encode_lower bytes)
 puts_part {E} {s} {t} {u} bytes i n e r z p q =
     let P : List ℕ → Type 0 = λ x. Breaks s u x in
     puts_stops {e = e} r (record {
@@ -83,18 +89,23 @@ each_map : {X : Type 0} (f : X → RecordItem) (way : List ℕ) (xs : List X) �
 each_map f way [] = refl
 each_map f way (x ∷ xs) = ap (λ z. record_line way (f x) ++ z) (each_map f way xs)
 
-some_records : {X : Type 0} (f : X → RecordItem) (way : List ℕ) (xs : List X) → length xs ≢ 0 → flat_map (λ x. record_line way (f x)) xs ≡ record_lines way (map f xs)
+some_records : {X : Type 0} (f : X → RecordItem) (way : List ℕ) (xs : List X) → length xs ≢ 0
+    → flat_map (λ x. record_line way (f x)) xs ≡ record_lines way (map f xs)
 some_records f way [] some = absurd (some refl)
 some_records f way (x ∷ xs) some = each_map f way (x ∷ xs)
 
 -- one more record
-pub takes_record : {X : Type 0} (f : X → RecordItem) (way : List ℕ) {s t u : Output} (xs : List X) (i : ℕ) (x : X) (item : RecordItem) → item ≡ f x → x ≡ get_or xs i x → i < length xs → Takes s t (flat_map (λ y. record_line way (f y)) (take i xs)) → Takes t u (record_line way item) → Takes s u (flat_map (λ y. record_line way (f y)) (take (i + 1) xs))
+pub takes_record : {X : Type 0} (f : X → RecordItem) (way : List ℕ) {s t u : Output} (xs : List X) (i : ℕ) (x : X) (item : RecordItem) → item ≡ f x
+    → x ≡ get_or xs i x → i < length xs → Takes s t (flat_map (λ y. record_line way (f y)) (take i xs)) → Takes t u (record_line way item)
+    → Takes s u (flat_map (λ y. record_line way (f y)) (take (i + 1) xs))
 takes_record f way {s} {t} {u} xs i x item e at within p q =
     let P : RecordItem → Type 0 = λ y. Takes t u (record_line way y) in
     takes_each (λ y. record_line way (f y)) xs i x x at within p (subst P e q)
 
 -- the record that is not written whole
-pub puts_record : {E X : Type 0} (f : X → RecordItem) (way : List ℕ) {s t u : Output} (xs : List X) (i : ℕ) (x : X) (item : RecordItem) (e : E) (r : Result Unit E) → item ≡ f x → x ≡ get_or xs i x → IsErr r → i < length xs → Takes s t (flat_map (λ y. record_line way (f y)) (take i xs)) → Puts t u (Err e) (record_line way item) → Puts s u r (record_lines way (map f xs))
+pub puts_record : {E X : Type 0} (f : X → RecordItem) (way : List ℕ) {s t u : Output} (xs : List X) (i : ℕ) (x : X) (item : RecordItem) (e : E)
+    (r : Result Unit E) → item ≡ f x → x ≡ get_or xs i x → IsErr r → i < length xs → Takes s t (flat_map (λ y. record_line way (f y)) (take i xs))
+    → Puts t u (Err e) (record_line way item) → Puts s u r (record_lines way (map f xs))
 puts_record {E} f way {s} {t} {u} xs i x item e r is at z within p q =
     let P : RecordItem → Type 0 = λ y. Puts {E = E} t u (Err e) (record_line way y) in
     let Q : List ℕ → Type 0 = λ y. Puts {E = E} s u r y in
@@ -102,7 +113,8 @@ puts_record {E} f way {s} {t} {u} xs i x item e r is at z within p q =
     subst Q (some_records f way xs some) (puts_each (λ y. record_line way (f y)) xs i x x e r at z within p (subst P is q))
 
 -- all records, of which there are some
-pub takes_records : {X : Type 0} (f : X → RecordItem) (way : List ℕ) {s t : Output} (xs : List X) (i : ℕ) → length xs ≢ 0 → length xs ≤ i → Takes s t (flat_map (λ y. record_line way (f y)) (take i xs)) → Takes s t (record_lines way (map f xs))
+pub takes_records : {X : Type 0} (f : X → RecordItem) (way : List ℕ) {s t : Output} (xs : List X) (i : ℕ) → length xs ≢ 0 → length xs ≤ i
+    → Takes s t (flat_map (λ y. record_line way (f y)) (take i xs)) → Takes s t (record_lines way (map f xs))
 takes_records f way {s} {t} xs i some past p =
     let P : List ℕ → Type 0 = λ y. Takes s t y in
     subst P (ap (flat_map (λ y. record_line way (f y))) (take_all i xs past) ∙ some_records f way xs some) p
@@ -115,7 +127,8 @@ unfolding answer_text
 refused_text answer refusal e = rw e refl
 
 -- where one question about a task has no task, no other has one
-refused_alike : {A B : Type 0} (g : Granted Task) (one : Task → A) (whole : Task → Granted B) (refusal : Refusal) → (g >>= λ t. Ok (one t)) ≡ Err refusal → (g >>= whole) ≡ Err refusal
+refused_alike : {A B : Type 0} (g : Granted Task) (one : Task → A) (whole : Task → Granted B) (refusal : Refusal) → (g >>= λ t. Ok (one t)) ≡ Err refusal
+    → (g >>= whole) ≡ Err refusal
 unfolding ◌>>=◌
 refused_alike (Ok t) one whole refusal e = absurd (cc)
 refused_alike (Err r) one whole refusal e = cc
@@ -128,7 +141,8 @@ items_length place [] = refl
 items_length place (b ∷ blocks) = ap suc (items_length (place + weight b) blocks)
 
 counted_text : (g : Granted Task) (items : List BlockItem) → (g >>= λ t. Ok (block_items t.slot)) ≡ Ok items
-    → ok (decimal (length items) ∷ []) ++ flat_map block_line items ≡ answer_text (g >>= λ t. Ok (reply.BlockCount (length t.slot.blocks), Blocks (block_items t.slot)))
+    → ok (decimal (length items) ∷ []) ++ flat_map block_line items ≡ answer_text
+    (g >>= λ t. Ok (reply.BlockCount (length t.slot.blocks), Blocks (block_items t.slot)))
 unfolding ◌>>=◌ answer_text first_line later_lines
 counted_text (Ok t) items e =
     let same : items ≡ block_items t.slot = cc in
@@ -136,7 +150,8 @@ counted_text (Ok t) items e =
     rw same (ap (λ n. ok (decimal n ∷ []) ++ flat_map block_line (block_items t.slot)) count)
 counted_text (Err r) items e = absurd (cc)
 
-told_text : (g : Granted Task) (h : ℕ) (out : List Outgoing) (taken : List Incoming) → (g >>= λ t. (let r : Granted (ℕ × List Outgoing × List Incoming) = Ok (t.handle, t.sending, t.taking) in r)) ≡ Ok (h, out, taken)
+told_text : (g : Granted Task) (h : ℕ) (out : List Outgoing) (taken : List Incoming)
+    → (g >>= λ t. (let r : Granted (ℕ × List Outgoing × List Incoming) = Ok (t.handle, t.sending, t.taking) in r)) ≡ Ok (h, out, taken)
     → first_line (reply.StatusOf h) Nothing ++ (record_lines (codes "out") (map out_item out) ++ record_lines (codes "in") (map in_item taken))
     ≡ answer_text (g >>= λ t. Ok (reply.StatusOf t.handle, Records (map out_item t.sending) (map in_item t.taking)))
 unfolding ◌>>=◌ answer_text first_line later_lines
@@ -149,9 +164,15 @@ told_text (Ok t) h out taken e =
 told_text (Err r) h out taken e = absurd (cc)
 
 summed_text : (o : Option Task) (place : ℕ) (sums : ℕ × ℕ × ℕ) (item : Option SegmentItem)
-    → (found_or o NoName >>= λ t. (let r : Granted ((ℕ × ℕ × ℕ) × Option SegmentItem) = Ok ((t.slot.heap.end, largest t.slot.heap, free_bytes t.slot.heap), option_map (λ s. segment_item (heap_start + place) s.here) (segment_at place t.slot.heap)) in r)) ≡ Ok (sums, item)
-    → first_line (reply.HeapSums sums.0 sums.1 sums.2) Nothing ++ flat_map segment_line (segment_items_from (heap_start + first_place) (slot_in o).heap.segments)
-    ≡ answer_text (found_or o NoName >>= λ t. Ok (reply.HeapSums t.slot.heap.end (largest t.slot.heap) (free_bytes t.slot.heap), Segments (segment_items t.slot)))
+    → (found_or o NoName >>= λ t. (let r : Granted ((ℕ × ℕ × ℕ) × Option SegmentItem) =
+    Ok (
+      (t.slot.heap.end, largest t.slot.heap, free_bytes t.slot.heap),
+      option_map (λ s. segment_item (heap_start + place) s.here) (segment_at place t.slot.heap),
+    ) in r)) ≡ Ok (sums, item)
+    → first_line (reply.HeapSums sums.0 sums.1 sums.2) Nothing ++ flat_map segment_line
+    (segment_items_from (heap_start + first_place) (slot_in o).heap.segments)
+    ≡ answer_text (found_or o NoName
+    >>= λ t. Ok (reply.HeapSums t.slot.heap.end (largest t.slot.heap) (free_bytes t.slot.heap), Segments (segment_items t.slot)))
 unfolding ◌>>=◌ found_or answer_text first_line later_lines
 summed_text None place sums item e = absurd (cc)
 summed_text (Some t) place sums item e =
@@ -161,7 +182,8 @@ summed_text (Some t) place sums item e =
 
 module _ (d : Desk) (name : List ℕ) where
   -- how many blocks a task has, and each of them
-  pub blocks_text : (items : List BlockItem) → blocks_of d name ≡ Ok items → ok (decimal (length items) ∷ []) ++ flat_map block_line items ≡ answer_text (blocks d name)
+  pub blocks_text : (items : List BlockItem) → blocks_of d name ≡ Ok items
+      → ok (decimal (length items) ∷ []) ++ flat_map block_line items ≡ answer_text (blocks d name)
   unfolding blocks_of blocks
   blocks_text items e = counted_text (named name d) items e
 
@@ -181,7 +203,8 @@ module _ (d : Desk) (name : List ℕ) where
 
   -- a task's handle, and its records
   pub status_text : (h : ℕ) (out : List Outgoing) (taken : List Incoming) → status_at d name ≡ Ok (h, out, taken)
-      → first_line (reply.StatusOf h) Nothing ++ (record_lines (codes "out") (map out_item out) ++ record_lines (codes "in") (map in_item taken)) ≡ answer_text (status d name)
+      → first_line (reply.StatusOf h) Nothing ++ (record_lines (codes "out") (map out_item out) ++ record_lines (codes "in")
+      (map in_item taken)) ≡ answer_text (status d name)
   unfolding status_at status
   status_text h out taken e = told_text (named name d) h out taken e
 
@@ -194,7 +217,8 @@ module _ (d : Desk) (name : List ℕ) where
   unnamed_shows k refusal e = refused_alike (named name d) _ _ refusal e
 
 -- a block's size and bytes
-pub show_text : (answer : Granted Told) (size : ℕ) (bytes : List ℕ) → answer ≡ Ok (reply.Shown size, Bytes bytes) → ok (decimal size ∷ hex_words bytes) ≡ answer_text answer
+pub show_text : (answer : Granted Told) (size : ℕ) (bytes : List ℕ) → answer ≡ Ok (reply.Shown size, Bytes bytes)
+    → ok (decimal size ∷ hex_words bytes) ≡ answer_text answer
 unfolding answer_text first_line later_lines
 show_text answer size bytes e = rw e (sym (append-nil (ok (decimal size ∷ hex_words bytes))))
 

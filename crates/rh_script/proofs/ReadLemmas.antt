@@ -1,5 +1,6 @@
 -- What a desk's readers give, in terms of what is printed of a named task's slot.
-use Rattle.std.proofs.Common.{◌≡◌, ℕ, ◌+◌, ◌≤◌, ◌<◌, ◌^◌, Bool, true, false, cond, List, [], ◌∷◌, length, take, drop, Option, Some, None, Result, Ok, Err, refl, sym, ap, ◌∙◌, arith}
+use Rattle.std.proofs.Common.{◌≡◌, ℕ, ◌+◌, ◌≤◌, ◌<◌, ◌^◌, Bool, true, false, cond, List, [], ◌∷◌, length, take, drop, Option, Some, None, Result, Ok, Err}
+use Rattle.std.proofs.Common.{refl, sym, ap, ◌∙◌, arith}
 use Rattle.std.specs.Prelude.{MatchResult, IfOk, IfErr, nat_lt, ◌==◌, find}
 use Rattle.std.specs.List.{AllByRecursion}
 use Rattle.std.specs.Option.{option_map}
@@ -22,17 +23,22 @@ use Rattle.rh_script.specs.Named.{slot_in, slot_named, heap_of_named, bytes_of_c
 
 -- ---- the C heap
 
-given_segments : (found : Option Task) (place : ℕ) (items : List SegmentItem) → (found_or found NoName >>= (λ t. (let r : Granted (List SegmentItem) = Ok (segment_items_at place t.slot.heap) in r))) ≡ Ok items → items ≡ segment_items_at place (slot_in found).heap
+given_segments : (found : Option Task) (place : ℕ) (items : List SegmentItem)
+    → (found_or found NoName >>= (λ t. (let r : Granted (List SegmentItem) = Ok (segment_items_at place t.slot.heap) in r))) ≡ Ok items
+    → items ≡ segment_items_at place (slot_in found).heap
 unfolding found_or ◌>>=◌
 given_segments None place items e = absurd (cc)
 given_segments (Some t) place items e = cc
 
-refused_segments : (found : Option Task) (place : ℕ) (f : Refusal) → (found_or found NoName >>= (λ t. (let r : Granted (List SegmentItem) = Ok (segment_items_at place t.slot.heap) in r))) ≡ Err f → [] ≡ segment_items_at place (slot_in found).heap
+refused_segments : (found : Option Task) (place : ℕ) (f : Refusal) → (found_or found NoName
+    >>= (λ t. (let r : Granted (List SegmentItem) = Ok (segment_items_at place t.slot.heap) in r))) ≡ Err f → [] ≡ segment_items_at place (slot_in
+    found).heap
 unfolding found_or ◌>>=◌
 refused_segments None place f e = refl
 refused_segments (Some t) place f e = absurd (cc)
 
-pub segments_read : (d : Desk) (name : List ℕ) (place : ℕ) (items : List SegmentItem) → segments_of d name place ≡ Ok items → items ≡ segment_items_at place (heap_of_named name d)
+pub segments_read : (d : Desk) (name : List ℕ) (place : ℕ) (items : List SegmentItem) → segments_of d name place ≡ Ok items
+    → items ≡ segment_items_at place (heap_of_named name d)
 unfolding segments_of named
 segments_read d name place items e = given_segments (find (has_name name) d.tasks) place items e
 
@@ -60,7 +66,8 @@ found_pages : (p : Task → Bool) (tasks : List Task) → slot_pages (slot_in (f
 found_pages p [] = omega arith
 found_pages p (t ∷ tasks) = go (p t) (found_pages p tasks)
   where
-    go : (b : Bool) → slot_pages (slot_in (find p tasks)) ≤ total task_pages tasks + 1 → slot_pages (slot_in (cond b (Some t) (find p tasks))) ≤ task_pages t + total task_pages tasks + 1
+    go : (b : Bool) → slot_pages (slot_in (find p tasks)) ≤ total task_pages tasks + 1
+        → slot_pages (slot_in (cond b (Some t) (find p tasks))) ≤ task_pages t + total task_pages tasks + 1
     go true rest = omega arith
     go false rest = omega (arith, rest)
 
@@ -75,17 +82,22 @@ abbrev pub ReadsPart : Granted (ℕ × List ℕ) → List ℕ → ℕ → ℕ �
 ReadsPart given bytes offset n =
     MatchResult given (λ p. (p.0 ≡ length bytes) × (p.1 ≡ take n (drop offset bytes))) (λ e. offset + n ≤ length bytes → length bytes ≡ 0)
 
-of_test : (b : Bool) (bytes : List ℕ) (offset n : ℕ) → nat_lt (length bytes) (offset + n) ≡ b → ReadsPart (refuse_if b BadRange >> Ok (length bytes, take n (drop offset bytes))) bytes offset n
+of_test : (b : Bool) (bytes : List ℕ) (offset n : ℕ) → nat_lt (length bytes) (offset + n) ≡ b
+    → ReadsPart (refuse_if b BadRange >> Ok (length bytes, take n (drop offset bytes))) bytes offset n
 unfolding ◌>>=◌ ◌>>◌ refuse_if
 of_test true bytes offset n short = λ room. absurd (grind (arith, tests))
 of_test false bytes offset n short = (refl, refl)
 
-of_block : (found : Option (Split Flex)) (offset n : ℕ) → ReadsPart (found_or found NoBlock >>= (λ b. refuse_if (nat_lt (length b.here.bytes) (offset + n)) BadRange >> Ok (length b.here.bytes, take n (drop offset b.here.bytes)))) (bytes_of_cut found) offset n
+of_block : (found : Option (Split Flex)) (offset n : ℕ) → ReadsPart (found_or found NoBlock
+    >>= (λ b. refuse_if (nat_lt (length b.here.bytes) (offset + n)) BadRange >> Ok (length b.here.bytes, take n (drop offset b.here.bytes)))) (bytes_of_cut
+    found) offset n
 unfolding found_or ◌>>=◌
 of_block None offset n = λ room. refl
 of_block (Some b) offset n = of_test (nat_lt (length b.here.bytes) (offset + n)) b.here.bytes offset n refl
 
-of_owner : (found : Option Task) (k offset n : ℕ) → ReadsPart (found_or found NoName >>= (λ t. slot_block k t.slot >>= (λ b. refuse_if (nat_lt (length b.here.bytes) (offset + n)) BadRange >> Ok (length b.here.bytes, take n (drop offset b.here.bytes))))) (bytes_of_cut (block_of k (slot_in found))) offset n
+of_owner : (found : Option Task) (k offset n : ℕ) → ReadsPart (found_or found NoName
+    >>= (λ t. slot_block k t.slot >>= (λ b. refuse_if (nat_lt (length b.here.bytes) (offset + n)) BadRange >> Ok
+    (length b.here.bytes, take n (drop offset b.here.bytes))))) (bytes_of_cut (block_of k (slot_in found))) offset n
 unfolding found_or ◌>>=◌ slot_block
 of_owner None k offset n = λ room. refl
 of_owner (Some t) k offset n = of_block (block_of k t.slot) offset n
@@ -104,7 +116,8 @@ nothing_read [] bytes h = refl
 nothing_read (x ∷ old) bytes h = absurd (omega arith)
 
 -- with room for a part within the bytes, that part
-pub answered_part : (given : Granted (ℕ × List ℕ)) (answer : Result ℕ Refusal) (bytes old new : List ℕ) (offset : ℕ) → Answers given answer old new → ReadsPart given bytes offset (length old) → offset + length old ≤ length bytes → new ≡ take (length old) (drop offset bytes)
+pub answered_part : (given : Granted (ℕ × List ℕ)) (answer : Result ℕ Refusal) (bytes old new : List ℕ) (offset : ℕ) → Answers given answer old new
+    → ReadsPart given bytes offset (length old) → offset + length old ≤ length bytes → new ≡ take (length old) (drop offset bytes)
 answered_part (Ok p) answer bytes old new offset a r h = cc
 answered_part (Err e) answer bytes old new offset a r h =
     let none : length bytes ≡ 0 = r h in
@@ -116,7 +129,9 @@ none_has : (k place : ℕ) (blocks : List Flex) → HaveAnchors blocks → ancho
 none_has k place [] all past = refl
 none_has k place (b ∷ blocks) all past = go (b.anchor == k) refl (none_has k (place + weight b) blocks all.2 past)
   where
-    go : (t : Bool) → (b.anchor == k) ≡ t → first_at weight (λ _ x. x.anchor == k) (place + weight b) blocks ≡ None → cond t (Some (record { before = []; here = b; after = blocks })) (option_map (behind b) (first_at weight (λ _ x. x.anchor == k) (place + weight b) blocks)) ≡ None
+    go : (t : Bool) → (b.anchor == k) ≡ t → first_at weight (λ _ x. x.anchor == k) (place + weight b) blocks ≡ None
+        → cond t (Some (record { before = []; here = b; after = blocks })) (option_map (behind b)
+        (first_at weight (λ _ x. x.anchor == k) (place + weight b) blocks)) ≡ None
     go true e h = let low : b.anchor < anchor_count = all.0 in absurd (grind (arith, tests))
     go false e h = ap (option_map (behind b)) h
 
@@ -124,14 +139,17 @@ no_block : (k : ℕ) (s : Slot) → IsSlot s → anchor_count ≤ k → slot_blo
 unfolding slot_block found_or
 no_block k s is past = ap (λ o. found_or o NoBlock) (none_has k (flex_start s) s.blocks is.anchors past)
 
-missed : {A : Type 0} (o : Option Task) (k : ℕ) (one : Task → A) (x : A) → IsSlot (slot_in o) → anchor_count ≤ k → (found_or o NoName >>= λ t. Ok (one t)) ≡ Ok x
-    → (found_or o NoName >>= λ t. slot_block k t.slot >>= λ b. (let r : Granted Told = Ok (reply.Shown (length b.here.bytes), Bytes b.here.bytes) in r)) ≡ Err NoBlock
+missed : {A : Type 0} (o : Option Task) (k : ℕ) (one : Task → A) (x : A) → IsSlot (slot_in o) → anchor_count ≤ k
+    → (found_or o NoName >>= λ t. Ok (one t)) ≡ Ok x
+    → (found_or o NoName >>= λ t. slot_block k t.slot >>= λ b. (let r : Granted Told = Ok (reply.Shown (length b.here.bytes), Bytes b.here.bytes) in
+    r)) ≡ Err NoBlock
 unfolding ◌>>=◌ found_or
 missed None k one x is past e = absurd (cc)
 missed (Some t) k one x is past e = rw (no_block k t.slot is past) refl
 
 -- a task has no block at such an anchor
-pub shows_none : (d : Desk) (name : List ℕ) (k h : ℕ) (out : List Outgoing) (taken : List Incoming) → IsSlot (slot_named name d) → anchor_count ≤ k → status_at d name ≡ Ok (h, out, taken) → show d name k ≡ Err NoBlock
+pub shows_none : (d : Desk) (name : List ℕ) (k h : ℕ) (out : List Outgoing) (taken : List Incoming) → IsSlot (slot_named name d) → anchor_count ≤ k
+    → status_at d name ≡ Ok (h, out, taken) → show d name k ≡ Err NoBlock
 unfolding status_at show named
 shows_none d name k h out taken is past e = missed (find (has_name name) d.tasks) k _ _ is past e
 
@@ -143,10 +161,12 @@ pub record IsSize (answer : Granted Told) (bytes : List ℕ) (r : Result ℕ Ref
   pub size : IfOk r (λ size. size ≡ length bytes)
   pub refused : IfErr r (λ refusal. answer ≡ Err refusal)
 
-size_refused : {answer : Granted Told} {bytes : List ℕ} {r : Result ℕ Refusal} (refusal : Refusal) → r ≡ Err refusal → answer ≡ Err refusal → IsSize answer bytes r
+size_refused : {answer : Granted Told} {bytes : List ℕ} {r : Result ℕ Refusal} (refusal : Refusal) → r ≡ Err refusal → answer ≡ Err refusal
+    → IsSize answer bytes r
 size_refused refusal e a = record { told = rw e tt; size = rw e tt; refused = rw e a }
 
-size_told : {answer : Granted Told} {bytes : List ℕ} {r : Result ℕ Refusal} → r ≡ Ok (length bytes) → answer ≡ Ok (reply.Shown (length bytes), Bytes bytes) → IsSize answer bytes r
+size_told : {answer : Granted Told} {bytes : List ℕ} {r : Result ℕ Refusal} → r ≡ Ok (length bytes) → answer ≡ Ok (reply.Shown (length bytes), Bytes bytes)
+    → IsSize answer bytes r
 size_told e a = record { told = rw e a; size = rw e refl; refused = rw e tt }
 
 size_by : (t : Bool) (bytes : List ℕ) (r : Result ℕ Refusal) (old new : List ℕ) → nat_lt (length bytes) (0 + 0) ≡ t
@@ -156,19 +176,23 @@ size_by true bytes r old new short a = absurd (grind (arith, tests))
 size_by false bytes r old new short a = size_told a.0 refl
 
 size_in : (o : Option (Split Flex)) (r : Result ℕ Refusal) (old new : List ℕ)
-    → Answers (found_or o NoBlock >>= (λ b. refuse_if (nat_lt (length b.here.bytes) (0 + 0)) BadRange >> Ok (length b.here.bytes, take 0 (drop 0 b.here.bytes)))) r old new
+    → Answers (found_or o NoBlock >>= (λ b. refuse_if (nat_lt (length b.here.bytes) (0 + 0)) BadRange >> Ok
+    (length b.here.bytes, take 0 (drop 0 b.here.bytes)))) r old new
     → IsSize (found_or o NoBlock >>= λ b. Ok (reply.Shown (length b.here.bytes), Bytes b.here.bytes)) (bytes_of_cut o) r
 unfolding ◌>>=◌ found_or
 size_in None r old new a = size_refused NoBlock a.0 refl
 size_in (Some b) r old new a = size_by (nat_lt (length b.here.bytes) (0 + 0)) b.here.bytes r old new refl a
 
 size_named : (o : Option Task) (k : ℕ) (r : Result ℕ Refusal) (old new : List ℕ)
-    → Answers (found_or o NoName >>= (λ t. slot_block k t.slot >>= (λ b. refuse_if (nat_lt (length b.here.bytes) (0 + 0)) BadRange >> Ok (length b.here.bytes, take 0 (drop 0 b.here.bytes))))) r old new
-    → IsSize (found_or o NoName >>= λ t. slot_block k t.slot >>= λ b. Ok (reply.Shown (length b.here.bytes), Bytes b.here.bytes)) (bytes_of_cut (block_of k (slot_in o))) r
+    → Answers (found_or o NoName >>= (λ t. slot_block k t.slot >>= (λ b. refuse_if (nat_lt (length b.here.bytes) (0 + 0)) BadRange >> Ok
+    (length b.here.bytes, take 0 (drop 0 b.here.bytes))))) r old new
+    → IsSize (found_or o NoName >>= λ t. slot_block k t.slot >>= λ b. Ok (reply.Shown (length b.here.bytes), Bytes b.here.bytes))
+    (bytes_of_cut (block_of k (slot_in o))) r
 unfolding ◌>>=◌ found_or slot_block
 size_named None k r old new a = size_refused NoName a.0 refl
 size_named (Some t) k r old new a = size_in (block_of k t.slot) r old new a
 
-pub size_read : (d : Desk) (name : List ℕ) (k : ℕ) (r : Result ℕ Refusal) (old new : List ℕ) → Answers (shown_at d name k 0 0) r old new → IsSize (show d name k) (bytes_of_named name k d) r
+pub size_read : (d : Desk) (name : List ℕ) (k : ℕ) (r : Result ℕ Refusal) (old new : List ℕ) → Answers (shown_at d name k 0 0) r old new
+    → IsSize (show d name k) (bytes_of_named name k d) r
 unfolding shown_at show named
 size_read d name k r old new a = size_named (find (has_name name) d.tasks) k r old new a

@@ -1,5 +1,6 @@
 -- The segments of a heap, place by place.
-use Rattle.std.proofs.Common.{◌≡◌, ℕ, zero, suc, ◌+◌, ◌-◌, ◌≤◌, ◌<◌, Bool, true, false, cond, List, [], ◌∷◌, ◌++◌, length, take, drop, Option, Some, None, refl, sym, ap, subst, ◌∙◌, arith, append_assoc, append-nil}
+use Rattle.std.proofs.Common.{◌≡◌, ℕ, zero, suc, ◌+◌, ◌-◌, ◌≤◌, ◌<◌, Bool, true, false, cond, List, [], ◌∷◌, ◌++◌, length, take, drop, Option, Some, None}
+use Rattle.std.proofs.Common.{refl, sym, ap, subst, ◌∙◌, arith, append_assoc, append-nil}
 use Rattle.std.specs.Prelude.{◌==◌, Result, Err, slice_get}
 use Rattle.std.specs.Result.{IsErr}
 use Rattle.std.proofs.lemmas.List.{take-append-drop}
@@ -43,16 +44,21 @@ from_cut-behind x None = refl
 from_cut-behind x (Some s) = refl
 
 -- behind some segments stand the next ones
-at_place : (start place : ℕ) (before after : List Segment) → AllSized before → place ≡ start + total size_of before → from_cut (first_at size_of (λ q g. place == q) start (before ++ after)) ≡ after
+at_place : (start place : ℕ) (before after : List Segment) → AllSized before → place ≡ start + total size_of before
+    → from_cut (first_at size_of (λ q g. place == q) start (before ++ after)) ≡ after
 at_place start place [] [] all e = refl
 at_place start place [] (g ∷ after) all e = go (place == start) refl
   where
-    go : (b : Bool) → (place == start) ≡ b → from_cut (cond b (Some (record { before = []; here = g; after = after })) (option_map (behind g) (first_at size_of (λ q x. place == q) (start + size_of g) after))) ≡ g ∷ after
+    go : (b : Bool) → (place == start) ≡ b
+        → from_cut (cond b (Some (record { before = []; here = g; after = after }))
+        (option_map (behind g) (first_at size_of (λ q x. place == q) (start + size_of g) after))) ≡ g ∷ after
     go true k = refl
     go false k = absurd (grind (arith, tests))
 at_place start place (x ∷ xs) after all e = go (place == start) refl (at_place (start + size_of x) place xs after all.1 (omega arith))
   where
-    go : (b : Bool) → (place == start) ≡ b → from_cut (first_at size_of (λ q g. place == q) (start + size_of x) (xs ++ after)) ≡ after → from_cut (cond b (Some (record { before = []; here = x; after = xs ++ after })) (option_map (behind x) (first_at size_of (λ q g. place == q) (start + size_of x) (xs ++ after)))) ≡ after
+    go : (b : Bool) → (place == start) ≡ b → from_cut (first_at size_of (λ q g. place == q) (start + size_of x) (xs ++ after)) ≡ after
+        → from_cut (cond b (Some (record { before = []; here = x; after = xs ++ after }))
+        (option_map (behind x) (first_at size_of (λ q g. place == q) (start + size_of x) (xs ++ after)))) ≡ after
     go true k h = let low : 0 < size_of x = all.0 in absurd (grind (arith, tests))
     go false k h = from_cut-behind x (first_at size_of (λ q g. place == q) (start + size_of x) (xs ++ after)) ∙ h
 
@@ -74,13 +80,15 @@ item_ends p (Used bytes) = omega arith
 item_ends p (Hole n) = refl
 
 -- the last of some segments ends where they all do
-last_at : (p : ℕ) (g : Segment) (gs : List Segment) (x : SegmentItem) → Some x ≡ slice_get (segment_items_from p (g ∷ gs)) (length (segment_items_from (p + size_of g) gs)) → item_end x ≡ p + total size_of (g ∷ gs)
+last_at : (p : ℕ) (g : Segment) (gs : List Segment) (x : SegmentItem)
+    → Some x ≡ slice_get (segment_items_from p (g ∷ gs)) (length (segment_items_from (p + size_of g) gs)) → item_end x ≡ p + total size_of (g ∷ gs)
 last_at p g [] x e =
     let is : x ≡ segment_item p g = cc in
     omega (arith, ap item_end is, item_ends p g)
 last_at p g (f ∷ gs) x e = omega (arith, last_at (p + size_of g) f gs x e)
 
-last_ends : (p : ℕ) (gs : List Segment) (x : SegmentItem) → Some x ≡ slice_get (segment_items_from p gs) (length (segment_items_from p gs) - 1) → item_end x ≡ p + total size_of gs
+last_ends : (p : ℕ) (gs : List Segment) (x : SegmentItem) → Some x ≡ slice_get (segment_items_from p gs) (length (segment_items_from p gs) - 1)
+    → item_end x ≡ p + total size_of gs
 last_ends p [] x e = absurd (cc)
 last_ends p (g ∷ gs) x e = last_at p g gs x (e ∙ ap (slice_get (segment_items_from p (g ∷ gs))) (omega arith))
 
@@ -108,17 +116,21 @@ pub walk_none : (segments : List Segment) (o : Output) → Walked segments 16 o 
 walk_none segments o = record { before = []; after = segments; whole = refl; stands = refl; written = takes_none o }
 
 -- what is read at the place
-there : (h : Heap) (place : ℕ) {o n : Output} (items : List SegmentItem) → IsHeap h → (w : Walked h.segments place o n) → items ≡ segment_items_at place h → items ≡ segment_items_from (heap_start + place) (take SEGMENTS_AT_ONCE w.after)
+there : (h : Heap) (place : ℕ) {o n : Output} (items : List SegmentItem) → IsHeap h → (w : Walked h.segments place o n) → items ≡ segment_items_at place h
+    → items ≡ segment_items_from (heap_start + place) (take SEGMENTS_AT_ONCE w.after)
 there h place items is w e =
     let all : AllSized (w.before ++ w.after) = (let P : List Segment → Type 0 = AllSized in subst P (sym w.whole) (sized false h.segments is.tidy)) in
-    let after : from_cut (segment_at place h) ≡ w.after = ap (λ gs. from_cut (first_at size_of (λ q g. place == q) first_place gs)) (sym w.whole) ∙ at_place first_place place w.before w.after (sized-front w.before w.after all) w.stands in
+    let after : from_cut (segment_at place h) ≡ w.after = ap (λ gs. from_cut (first_at size_of (λ q g. place == q) first_place gs)) (sym w.whole)
+    ∙ at_place first_place place w.before w.after (sized-front w.before w.after all) w.stands in
     e ∙ (ap (λ gs. take SEGMENTS_AT_ONCE (segment_items_from (heap_start + place) gs)) after ∙ items_taken SEGMENTS_AT_ONCE (heap_start + place) w.after)
 
 -- the lines up to some segments and their own
-lines_more : (place : ℕ) (before front : List Segment) → place ≡ place_after before → lines (before ++ front) ≡ lines before ++ flat_map segment_line (segment_items_from (heap_start + place) front)
+lines_more : (place : ℕ) (before front : List Segment) → place ≡ place_after before
+    → lines (before ++ front) ≡ lines before ++ flat_map segment_line (segment_items_from (heap_start + place) front)
 lines_more place before front e =
     let same : heap_start + first_place + total size_of before ≡ heap_start + place = omega arith in
-    ap (flat_map segment_line) (items_append (heap_start + first_place) before front ∙ ap (λ n. segment_items_from (heap_start + first_place) before ++ segment_items_from n front) same)
+    ap (flat_map segment_line) (items_append (heap_start + first_place) before front
+    ∙ ap (λ n. segment_items_from (heap_start + first_place) before ++ segment_items_from n front) same)
     ∙ flat_map-append segment_line (segment_items_from (heap_start + first_place) before) (segment_items_from (heap_start + place) front)
 
 -- the same, and those behind
@@ -130,15 +142,18 @@ lines_split place before after e =
     let back = drop SEGMENTS_AT_ONCE after in
     ap (λ l. lines (before ++ l)) (sym (take-append-drop SEGMENTS_AT_ONCE after))
     ∙ (lines_more place before (front ++ back) e
-    ∙ (ap (λ l. lines before ++ l) (ap (flat_map segment_line) (items_append (heap_start + place) front back) ∙ flat_map-append segment_line (segment_items_from (heap_start + place) front) (segment_items_from (heap_start + place + total size_of front) back))
-    ∙ sym (append_assoc (lines before) (flat_map segment_line (segment_items_from (heap_start + place) front)) (flat_map segment_line (segment_items_from (heap_start + place + total size_of front) back)))))
+    ∙ (ap (λ l. lines before ++ l) (ap (flat_map segment_line) (items_append (heap_start + place) front back)
+    ∙ flat_map-append segment_line (segment_items_from (heap_start + place) front) (segment_items_from (heap_start + place + total size_of front) back))
+    ∙ sym (append_assoc (lines before) (flat_map segment_line (segment_items_from (heap_start + place) front))
+    (flat_map segment_line (segment_items_from (heap_start + place + total size_of front) back)))))
 
 -- where these segments end
 pub record Ends (h : Heap) (place : ℕ) (last : SegmentItem) : Type 0 where
   pub low : place + heap_start < item_end last
   pub within : item_end last ≤ h.end + heap_start
 
-sized_some : (gs : List Segment) (p : ℕ) (x : SegmentItem) → AllSized gs → Some x ≡ slice_get (segment_items_from p gs) (length (segment_items_from p gs) - 1) → 0 < total size_of gs
+sized_some : (gs : List Segment) (p : ℕ) (x : SegmentItem) → AllSized gs
+    → Some x ≡ slice_get (segment_items_from p gs) (length (segment_items_from p gs) - 1) → 0 < total size_of gs
 sized_some [] p x all e = absurd (cc)
 sized_some (g ∷ gs) p x all e = omega (arith, all.0)
 
@@ -146,13 +161,16 @@ sized-back : (xs ys : List Segment) → AllSized (xs ++ ys) → AllSized ys
 sized-back [] ys all = all
 sized-back (x ∷ xs) ys all = sized-back xs ys all.1
 
-pub batch_ends : (h : Heap) (place : ℕ) {o n : Output} (items : List SegmentItem) (last : SegmentItem) → IsHeap h → Walked h.segments place o n → items ≡ segment_items_at place h → Some last ≡ slice_get items (length items - 1) → Ends h place last
+pub batch_ends : (h : Heap) (place : ℕ) {o n : Output} (items : List SegmentItem) (last : SegmentItem) → IsHeap h → Walked h.segments place o n
+    → items ≡ segment_items_at place h → Some last ≡ slice_get items (length items - 1) → Ends h place last
 batch_ends h place items last is w e l =
     let front = take SEGMENTS_AT_ONCE w.after in
     let back = drop SEGMENTS_AT_ONCE w.after in
-    let here : Some last ≡ slice_get (segment_items_from (heap_start + place) front) (length (segment_items_from (heap_start + place) front) - 1) = l ∙ ap (λ xs. slice_get xs (length xs - 1)) (there h place items is w e) in
+    let here : Some last ≡ slice_get (segment_items_from (heap_start + place) front) (length (segment_items_from (heap_start + place) front) - 1) =
+    l ∙ ap (λ xs. slice_get xs (length xs - 1)) (there h place items is w e) in
     let all : AllSized (w.before ++ w.after) = (let P : List Segment → Type 0 = AllSized in subst P (sym w.whole) (sized false h.segments is.tidy)) in
-    let after : AllSized (front ++ back) = (let P : List Segment → Type 0 = AllSized in subst P (sym (take-append-drop SEGMENTS_AT_ONCE w.after)) (sized-back w.before w.after all)) in
+    let after : AllSized (front ++ back) =
+    (let P : List Segment → Type 0 = AllSized in subst P (sym (take-append-drop SEGMENTS_AT_ONCE w.after)) (sized-back w.before w.after all)) in
     let some = sized_some front (heap_start + place) last (sized-front front back after) here in
     let ends = last_ends (heap_start + place) front last here in
     let sum1 : total size_of (w.before ++ w.after) ≡ total size_of h.segments = ap (total size_of) w.whole in
@@ -162,13 +180,15 @@ batch_ends h place items last is w e l =
     record { low = omega (arith, ends, some); within = omega (arith, ends, sum1, sum2, sum3, sum4, w.stands, is.fits) }
 
 -- the segments below the next place were written
-pub batch_more : (h : Heap) (place next : ℕ) {o n u : Output} (items : List SegmentItem) (last : SegmentItem) → IsHeap h → Walked h.segments place o n → items ≡ segment_items_at place h → Some last ≡ slice_get items (length items - 1)
+pub batch_more : (h : Heap) (place next : ℕ) {o n u : Output} (items : List SegmentItem) (last : SegmentItem) → IsHeap h → Walked h.segments place o n
+    → items ≡ segment_items_at place h → Some last ≡ slice_get items (length items - 1)
     → next + heap_start ≡ item_end last → Takes n u (flat_map segment_line items) → Walked h.segments next o u
 batch_more h place next {o} {n} {u} items last is w e l q t =
     let front = take SEGMENTS_AT_ONCE w.after in
     let back = drop SEGMENTS_AT_ONCE w.after in
     let these = there h place items is w e in
-    let here : Some last ≡ slice_get (segment_items_from (heap_start + place) front) (length (segment_items_from (heap_start + place) front) - 1) = l ∙ ap (λ xs. slice_get xs (length xs - 1)) these in
+    let here : Some last ≡ slice_get (segment_items_from (heap_start + place) front) (length (segment_items_from (heap_start + place) front) - 1) =
+    l ∙ ap (λ xs. slice_get xs (length xs - 1)) these in
     let ends = last_ends (heap_start + place) front last here in
     let P : List SegmentItem → Type 0 = λ xs. Takes n u (flat_map segment_line xs) in
     let Q : List ℕ → Type 0 = λ z. Takes o u z in
@@ -181,7 +201,8 @@ batch_more h place next {o} {n} {u} items last is w e l q t =
     }
 
 -- some segments that are not written whole
-pub batch_breaks : {E : Type 0} (h : Heap) (place : ℕ) {o n u : Output} (items : List SegmentItem) (e : E) (r : Result Unit E) → IsHeap h → Walked h.segments place o n → items ≡ segment_items_at place h → IsErr r
+pub batch_breaks : {E : Type 0} (h : Heap) (place : ℕ) {o n u : Output} (items : List SegmentItem) (e : E) (r : Result Unit E) → IsHeap h
+    → Walked h.segments place o n → items ≡ segment_items_at place h → IsErr r
     → Puts n u (Err e) (flat_map segment_line items) → Puts o u r (lines h.segments)
 batch_breaks h place {o} {n} {u} items e r is w k z p =
     let front = take SEGMENTS_AT_ONCE w.after in
@@ -192,13 +213,15 @@ batch_breaks h place {o} {n} {u} items e r is w k z p =
     ap (λ i. (lines w.before ++ flat_map segment_line i) ++ behind_it) these ∙ (sym (lines_split place w.before w.after w.stands) ∙ ap lines w.whole) in
     puts_stops {e = e} r (record { ok = tt; err = subst P same (breaks_before behind_it (takes_breaks w.written p.err)) }) z
 
-all_walked : (segments : List Segment) (p : ℕ) {o n : Output} (before after : List Segment) → before ++ after ≡ segments → Takes o n (lines before) → segment_items_from p (take SEGMENTS_AT_ONCE after) ≡ [] → Takes o n (lines segments)
+all_walked : (segments : List Segment) (p : ℕ) {o n : Output} (before after : List Segment) → before ++ after ≡ segments → Takes o n (lines before)
+    → segment_items_from p (take SEGMENTS_AT_ONCE after) ≡ [] → Takes o n (lines segments)
 all_walked segments p {o} {n} before [] whole written e =
     let P : List Segment → Type 0 = λ gs. Takes o n (lines gs) in
     subst P (sym (append-nil before) ∙ whole) written
 all_walked segments p before (g ∷ rest) whole written e = absurd (cc)
 
 -- all were written where none stands at the place
-pub batch_none : (h : Heap) (place : ℕ) {o n : Output} (items : List SegmentItem) → IsHeap h → Walked h.segments place o n → items ≡ segment_items_at place h → None ≡ slice_get items (length items - 1) → Takes o n (lines h.segments)
+pub batch_none : (h : Heap) (place : ℕ) {o n : Output} (items : List SegmentItem) → IsHeap h → Walked h.segments place o n → items ≡ segment_items_at place h
+    → None ≡ slice_get items (length items - 1) → Takes o n (lines h.segments)
 batch_none h place items is w e none =
     all_walked h.segments (heap_start + place) w.before w.after w.whole w.written (sym (there h place items is w e) ∙ none_last items none)

@@ -24,7 +24,8 @@ pub holds_more : {o p q : Output} {h i j x y : List ℕ} → Holds o p h i x →
 holds_more {o} {p} {q} {h} {i} {j} {x} {y} a b = record {
   front = a.front ++ b.front;
   taken = takes_more a.taken b.taken;
-  whole = sym (append_assoc h x y) ∙ (ap (λ z. z ++ y) a.whole ∙ (append_assoc a.front i y ∙ (ap (λ z. a.front ++ z) b.whole ∙ sym (append_assoc a.front b.front j))));
+  whole = sym (append_assoc h x y)
+      ∙ (ap (λ z. z ++ y) a.whole ∙ (append_assoc a.front i y ∙ (ap (λ z. a.front ++ z) b.whole ∙ sym (append_assoc a.front b.front j))));
 }
 
 -- a write that fails after others
@@ -43,7 +44,8 @@ holds_written {o} {p} {h} {x} i e a =
 -- ---- whole writes
 
 -- all was held
-pub gathers_held : {E : Type 0} {v : Unit {0}} (o : Output) (before after bytes : List ℕ) → after ≡ before ++ bytes → Gathers {E = E} o o (Ok v) before after bytes
+pub gathers_held : {E : Type 0} {v : Unit {0}} (o : Output) (before after bytes : List ℕ) → after ≡ before ++ bytes
+    → Gathers {E = E} o o (Ok v) before after bytes
 gathers_held o before after bytes e = record { ok = holds_here o before after bytes e; err = tt }
 
 -- what was held could not be written
@@ -53,13 +55,15 @@ gathers_stopped {o = o} {p = p} (Err f) h i after bytes z e b =
     let P : List ℕ → Type 0 = λ x. Breaks o p (x ++ bytes) in record { ok = tt; err = subst P e (breaks_before bytes b) }
 
 -- what was held was written, and the bytes are held
-pub gathers_after : {E : Type 0} {v : Unit {0}} {o p : Output} (h i j after bytes : List ℕ) → i ≡ h → Takes o p i → j ≡ [] → after ≡ j ++ bytes → Gathers {E = E} o p (Ok v) h after bytes
+pub gathers_after : {E : Type 0} {v : Unit {0}} {o p : Output} (h i j after bytes : List ℕ) → i ≡ h → Takes o p i → j ≡ [] → after ≡ j ++ bytes
+    → Gathers {E = E} o p (Ok v) h after bytes
 gathers_after {o = o} {p = p} h i j after bytes e t none held =
     let P : List ℕ → Type 0 = λ x. Takes o p x in
     record { ok = record { front = h; taken = subst P e t; whole = ap (λ z. h ++ z) (sym (held ∙ ap (λ z. z ++ bytes) none)) }; err = tt }
 
 -- what was held was written, and then the bytes straight
-pub gathers_straight : {E : Type 0} {o p q : Output} (r : Result Unit E) (h i j after bytes : List ℕ) → i ≡ h → Takes o p i → j ≡ [] → after ≡ j → Puts p q r bytes → Gathers o q r h after bytes
+pub gathers_straight : {E : Type 0} {o p q : Output} (r : Result Unit E) (h i j after bytes : List ℕ) → i ≡ h → Takes o p i → j ≡ [] → after ≡ j
+    → Puts p q r bytes → Gathers o q r h after bytes
 gathers_straight {o = o} {p = p} {q = q} (Ok v) h i j after bytes e t none held w =
     let P : List ℕ → Type 0 = λ x. Takes o q (x ++ bytes) in
     record { ok = holds_written after (held ∙ none) (subst P e (takes_more t w.ok)); err = tt }
@@ -68,12 +72,14 @@ gathers_straight {o = o} {p = p} {q = q} (Err f) h i j after bytes e t none held
     record { ok = tt; err = subst P e (takes_breaks t w.err) }
 
 -- a front of some bytes behind those that were there is cut off again
-pub cut_back : (before now after bytes : List ℕ) (o p : Output) (n : ℕ) → o.taken ≡ Some before → p.taken ≡ Some now → n ≡ length before → Breaks o p bytes → after ≡ take n now → after ≡ before
+pub cut_back : (before now after bytes : List ℕ) (o p : Output) (n : ℕ) → o.taken ≡ Some before → p.taken ≡ Some now → n ≡ length before → Breaks o p bytes
+    → after ≡ take n now → after ≡ before
 cut_back before now after bytes o p n eo ep en b e =
     let P : Option (List ℕ) → Type 0 = λ z. Appends z p.taken b.front in
     let Q : Option (List ℕ) → Type 0 = λ z. Appends (Some before) z b.front in
     let grown : now ≡ before ++ b.front = subst Q ep (subst P eo b.taken) in
-    e ∙ (ap (λ k. take k now) en ∙ (ap (take (length before)) grown ∙ (take-append-le (length before) before b.front (omega arith) ∙ take_all (length before) before (omega arith))))
+    e ∙ (ap (λ k. take k now) en ∙ (ap (take (length before)) grown ∙ (take-append-le (length before) before b.front (omega arith)
+    ∙ take_all (length before) before (omega arith))))
 
 -- ---- what is held at last is written
 
@@ -87,12 +93,14 @@ flushed_err {o} {p} {q} {h} {i} {x} e a b =
     let P : List ℕ → Type 0 = λ z. Breaks o q z in
     let same : a.front ++ i ≡ x = sym a.whole ∙ ap (λ z. z ++ x) e in subst P same (takes_breaks a.taken b)
 
-pub flushed : {E : Type 0} {o p q : Output} {i : List ℕ} (r : Result Unit E) (h x : List ℕ) → h ≡ [] → Holds o p h i x → OnOk r (Takes p q i) → OnErr r (Breaks p q i) → Puts o q r x
+pub flushed : {E : Type 0} {o p q : Output} {i : List ℕ} (r : Result Unit E) (h x : List ℕ) → h ≡ [] → Holds o p h i x → OnOk r (Takes p q i)
+    → OnErr r (Breaks p q i) → Puts o q r x
 flushed (Ok v) h x e a t b = record { ok = flushed_ok e a t; err = tt }
 flushed (Err f) h x e a t b = record { ok = tt; err = flushed_err e a b }
 
 -- a write failed before that
-pub not_flushed : {E : Type 0} {o p : Output} {f : E} {i : List ℕ} (r : Result Unit E) (h x : List ℕ) → h ≡ [] → IsErr r → Gathers o p (Err f) h i x → Puts o p r x
+pub not_flushed : {E : Type 0} {o p : Output} {f : E} {i : List ℕ} (r : Result Unit E) (h x : List ℕ) → h ≡ [] → IsErr r → Gathers o p (Err f) h i x
+    → Puts o p r x
 not_flushed {o = o} {p = p} (Ok v) h x e z a = absurd (cc)
 not_flushed {o = o} {p = p} (Err f) h x e z a =
     let P : List ℕ → Type 0 = λ w. Breaks o p (w ++ x) in record { ok = tt; err = subst P e a.err }

@@ -1,6 +1,7 @@
 -- A run, read by read.
 use Rattle.std.specs.Prelude.{◌+◌}
-use Rattle.std.proofs.Common.{◌≡◌, ℕ, ◌≤◌, ◌<◌, false, Bool, ◌||◌, not, ◌==◌, List, [], ◌∷◌, ◌++◌, length, take, Option, Some, None, IfErr, IfSome, Result, Ok, Err, append_assoc, append-nil, ◌⊎◌, inl, inr, refl, sym, ◌∙◌, ap, subst, arith, rules}
+use Rattle.std.proofs.Common.{◌≡◌, ℕ, ◌≤◌, ◌<◌, false, Bool, ◌||◌, not, ◌==◌, List, [], ◌∷◌, ◌++◌, length, take, Option, Some, None, IfErr, IfSome, Result}
+use Rattle.std.proofs.Common.{Ok, Err, append_assoc, append-nil, ◌⊎◌, inl, inr, refl, sym, ◌∙◌, ap, subst, arith, rules}
 use Rattle.std.specs.Io.KnownBytes.{Consumes, Keeps, IsAtEnd}
 use Rattle.rh_defs.specs.Line.{longest_line}
 use Rattle.rh_defs.specs.Desk.{Desk}
@@ -35,11 +36,15 @@ pub record Going {D : Type 0} (spells : D → Desk → Type 0) (d : Desk) (befor
   pub state_is : IsState spells session (state_of (begin d) bytes)
   pub written : Takes old new (text_of (begin d) bytes)
 
-pub going_starts : {D : Type 0} {spells : D → Desk → Type 0} {session : Session D} (d : Desk) (i : Input) (o : Output) → IsState spells session (begin d) → Going spells d i i o o session
+pub going_starts : {D : Type 0} {spells : D → Desk → Type 0} {session : Session D} (d : Desk) (i : Input) (o : Output) → IsState spells session (begin d)
+    → Going spells d i i o o session
 going_starts d i o h = record { bytes = []; read = Consumes-none i.left; state_is = h; written = takes_none o }
 
 -- one more read
-pub going_on : {D : Type 0} {spells : D → Desk → Type 0} {session next : Session D} {d : Desk} {before now : Input} {old new : Output} (after : Input) (last : Output) (more : List ℕ) → Going spells d before now old new session → Consumes now.left after.left more → ((s : State) → IsState spells session s → IsState spells next (state_of s more)) → ((s : State) → IsState spells session s → Takes new last (text_of s more)) → Going spells d before after old last next
+pub going_on : {D : Type 0} {spells : D → Desk → Type 0} {session next : Session D} {d : Desk} {before now : Input} {old new : Output} (after : Input)
+    (last : Output) (more : List ℕ) → Going spells d before now old new session → Consumes now.left after.left more
+    → ((s : State) → IsState spells session s → IsState spells next (state_of s more))
+    → ((s : State) → IsState spells session s → Takes new last (text_of s more)) → Going spells d before after old last next
 going_on {D} {spells} {session} {next} {d} {before} {now} {old} {new} after last more g c s t =
     let P : List ℕ → Type 0 = λ z. Takes old last z in
     let Q : State → Type 0 = λ z. IsState spells next z in
@@ -51,7 +56,8 @@ going_on {D} {spells} {session} {next} {d} {before} {now} {old} {new} after last
     }
 
 -- a read failed, or there were too many
-pub answered : {D : Type 0} {spells : D → Desk → Type 0} {session : Session D} {d : Desk} {before now : Input} {old new : Output} (after : Input) → Going spells d before now old new session → Keeps now.left after.left → Answered d before after old new
+pub answered : {D : Type 0} {spells : D → Desk → Type 0} {session : Session D} {d : Desk} {before now : Input} {old new : Output} (after : Input)
+    → Going spells d before now old new session → Keeps now.left after.left → Answered d before after old new
 answered {d = d} {before = before} {now = now} {old = old} {new = new} after g k =
     let P : List ℕ → Type 0 = λ z. Takes old new z in record {
       bytes = g.bytes;
@@ -78,13 +84,17 @@ nothing_kept_at : (rest : List ℕ) → (length rest ≤ longest_line) ⊎ (long
 unfolding kept
 nothing_kept_at rest (inl h) = ap (λ z. length z == 0) (take_all (longest_line + 1) rest (omega arith))
 nothing_kept_at rest (inr h) =
-    not_none (length (take (longest_line + 1) rest)) (omega (arith, still_long longest_line (longest_line + 1) rest (omega arith) h)) ∙ sym (not_none (length rest) (omega arith))
+    not_none (length (take (longest_line + 1) rest)) (omega (arith, still_long longest_line (longest_line + 1) rest (omega arith) h))
+    ∙ sym (not_none (length rest) (omega arith))
 
 nothing_kept : (rest : List ℕ) → (length (kept rest) == 0) ≡ (length rest == 0)
 nothing_kept rest = nothing_kept_at rest (split_at (length rest))
 
 -- the reader came to its end
-pub finished : {D : Type 0} {spells : D → Desk → Type 0} {session : Session D} {d : Desk} {before now : Input} {old new : Output} (after : Input) (last : Output) (bad : Bool) (status : Status) → Going spells d before now old new session → Consumes now.left after.left [] → IsAtEnd after.left → after.failed ≡ before.failed → ((s : State) → IsState spells session s → Takes new last (rest_text s.line)) → ((s : State) → IsState spells session s → bad ≡ (s.bad || not (length s.line == 0))) → status ≡ status_of bad → Finished d before after old last status
+pub finished : {D : Type 0} {spells : D → Desk → Type 0} {session : Session D} {d : Desk} {before now : Input} {old new : Output} (after : Input)
+    (last : Output) (bad : Bool) (status : Status) → Going spells d before now old new session → Consumes now.left after.left [] → IsAtEnd after.left
+    → after.failed ≡ before.failed → ((s : State) → IsState spells session s → Takes new last (rest_text s.line))
+    → ((s : State) → IsState spells session s → bad ≡ (s.bad || not (length s.line == 0))) → status ≡ status_of bad → Finished d before after old last status
 finished {d = d} {before = before} {now = now} {old = old} {new = new} after last bad status g c e f t b s =
     let r = reached d g.bytes in
     let state : State = state_of (begin d) g.bytes in
@@ -97,35 +107,51 @@ finished {d = d} {before = before} {now = now} {old = old} {new = new} after las
       read = subst Q (append-nil g.bytes) (Consumes-more before.left now.left after.left g.bytes [] g.read c);
       at_end = e;
       well = f;
-      written = subst P (ap (λ z. text_of (begin d) g.bytes ++ rest_text z) line ∙ (ap (λ z. text_of (begin d) g.bytes ++ z) (rest_kept (unended g.bytes)) ∙ ap (λ z. z ++ rest_text (unended g.bytes)) r.text)) (takes_more g.written (t state g.state_is));
-      status_is = s ∙ ap status_of (b state g.state_is ∙ (ap (λ z. z || not (length state.line == 0)) said ∙ ap (λ z. list_any is_bad (ended g.bytes) || not z) (ap (λ z. length z == 0) line ∙ nothing_kept (unended g.bytes))));
+      written = subst P (ap (λ z. text_of (begin d) g.bytes ++ rest_text z) line
+          ∙ (ap (λ z. text_of (begin d) g.bytes ++ z) (rest_kept (unended g.bytes)) ∙ ap (λ z. z ++ rest_text (unended g.bytes)) r.text)) (takes_more
+          g.written (t state g.state_is));
+      status_is = s ∙ ap status_of (b state g.state_is ∙ (ap (λ z. z || not (length state.line == 0)) said
+          ∙ ap (λ z. list_any is_bad (ended g.bytes) || not z) (ap (λ z. length z == 0) line ∙ nothing_kept (unended g.bytes))));
     }
 
-broke_known : (d : Desk) {old new last : Output} {state : State} (bytes more rest script : List ℕ) → state ≡ state_of (begin d) bytes → Takes old new (text_of (begin d) bytes) → Breaks new last (text_of state more) → script ≡ bytes ++ (more ++ rest) → Breaks old last (script_text d script)
+broke_known : (d : Desk) {old new last : Output} {state : State} (bytes more rest script : List ℕ) → state ≡ state_of (begin d) bytes
+    → Takes old new (text_of (begin d) bytes) → Breaks new last (text_of state more) → script ≡ bytes ++ (more ++ rest)
+    → Breaks old last (script_text d script)
 broke_known d {old} {new} {last} {state} bytes more rest script s t w e =
     let P : List ℕ → Type 0 = λ z. Breaks old last z in
     let later = text_of (state_of (state_of (begin d) bytes) more) rest in
     let parts : text_of (begin d) script ≡ (text_of (begin d) bytes ++ text_of state more) ++ later =
-    ap (text_of (begin d)) e ∙ (text_of-append (begin d) bytes (more ++ rest) ∙ (ap (λ z. text_of (begin d) bytes ++ z) (text_of-append (state_of (begin d) bytes) more rest) ∙ (sym (append_assoc (text_of (begin d) bytes) (text_of (state_of (begin d) bytes) more) later) ∙ ap (λ z. (text_of (begin d) bytes ++ text_of z more) ++ later) (sym s)))) in
-    subst P (ap (λ z. z ++ rest_text (unended script)) (sym parts ∙ (reached d script).text)) (breaks_before (rest_text (unended script)) (breaks_before later (takes_breaks t w)))
+    ap (text_of (begin d)) e ∙ (text_of-append (begin d) bytes (more ++ rest)
+    ∙ (ap (λ z. text_of (begin d) bytes ++ z) (text_of-append (state_of (begin d) bytes) more rest)
+    ∙ (sym (append_assoc (text_of (begin d) bytes) (text_of (state_of (begin d) bytes) more) later)
+    ∙ ap (λ z. (text_of (begin d) bytes ++ text_of z more) ++ later) (sym s)))) in
+    subst P (ap (λ z. z ++ rest_text (unended script)) (sym parts ∙ (reached d script).text))
+    (breaks_before (rest_text (unended script)) (breaks_before later (takes_breaks t w)))
 
-broke_left : (d : Desk) {old new last : Output} {state : State} (a b c : Option (List ℕ)) (bytes more : List ℕ) → state ≡ state_of (begin d) bytes → Takes old new (text_of (begin d) bytes) → Breaks new last (text_of state more) → Consumes a b bytes → Consumes b c more → IfSome a (λ script. Breaks old last (script_text d script))
+broke_left : (d : Desk) {old new last : Output} {state : State} (a b c : Option (List ℕ)) (bytes more : List ℕ) → state ≡ state_of (begin d) bytes
+    → Takes old new (text_of (begin d) bytes) → Breaks new last (text_of state more) → Consumes a b bytes → Consumes b c more
+    → IfSome a (λ script. Breaks old last (script_text d script))
 broke_left d None b c bytes more s t w p q = tt
 broke_left d (Some a) None c bytes more s t w p q = absurd p
 broke_left d (Some a) (Some b) None bytes more s t w p q = absurd q
 broke_left d (Some a) (Some b) (Some c) bytes more s t w p q = broke_known d bytes more c a s t w (p ∙ ap (λ z. bytes ++ z) q)
 
 -- the writer failed while lines were answered
-pub broke : {D : Type 0} {spells : D → Desk → Type 0} {session : Session D} {d : Desk} {before now : Input} {old new : Output} (after : Input) (last : Output) (more : List ℕ) → Going spells d before now old new session → Consumes now.left after.left more → ((s : State) → IsState spells session s → Breaks new last (text_of s more)) → BrokeOff d before old last
+pub broke : {D : Type 0} {spells : D → Desk → Type 0} {session : Session D} {d : Desk} {before now : Input} {old new : Output} (after : Input)
+    (last : Output) (more : List ℕ) → Going spells d before now old new session → Consumes now.left after.left more
+    → ((s : State) → IsState spells session s → Breaks new last (text_of s more)) → BrokeOff d before old last
 broke {d = d} {before = before} {now = now} after last more g c w = record {
   failed = (w (state_of (begin d) g.bytes) g.state_is).failed;
   written = broke_left d before.left now.left after.left g.bytes more refl g.written (w (state_of (begin d) g.bytes) g.state_is) g.read c;
 }
 
-pub answered_here : {D : Type 0} {spells : D → Desk → Type 0} {session : Session D} {d : Desk} {before now : Input} {old new : Output} → Going spells d before now old new session → Answered d before now old new
+pub answered_here : {D : Type 0} {spells : D → Desk → Type 0} {session : Session D} {d : Desk} {before now : Input} {old new : Output}
+    → Going spells d before now old new session → Answered d before now old new
 answered_here {now = now} g = answered now g (keeps_same now.left)
 
-broke_end : (d : Desk) {old new last : Output} {state : State} (a b c : Option (List ℕ)) (bytes : List ℕ) → state ≡ state_of (begin d) bytes → Takes old new (text_of (begin d) bytes) → Breaks new last (rest_text state.line) → Consumes a b bytes → Consumes b c [] → IsAtEnd c → IfSome a (λ script. Breaks old last (script_text d script))
+broke_end : (d : Desk) {old new last : Output} {state : State} (a b c : Option (List ℕ)) (bytes : List ℕ) → state ≡ state_of (begin d) bytes
+    → Takes old new (text_of (begin d) bytes) → Breaks new last (rest_text state.line) → Consumes a b bytes → Consumes b c [] → IsAtEnd c
+    → IfSome a (λ script. Breaks old last (script_text d script))
 broke_end d None b c bytes s t w p q e = tt
 broke_end d (Some a) None c bytes s t w p q e = absurd p
 broke_end d (Some a) (Some b) None bytes s t w p q e = absurd q
@@ -134,10 +160,13 @@ broke_end d {old} {new} {last} {state} (Some a) (Some b) (Some c) bytes s t w p 
     let P : List ℕ → Type 0 = λ z. Breaks old last z in
     let all : bytes ≡ a = sym (append-nil bytes) ∙ (ap (λ z. bytes ++ z) (sym (q ∙ e)) ∙ sym p) in
     let line : state.line ≡ kept (unended bytes) = ap (λ z. z.line) (s ∙ r.state) in
-    subst P (ap (λ z. text_of (begin d) bytes ++ rest_text z) line ∙ (ap (λ z. text_of (begin d) bytes ++ z) (rest_kept (unended bytes)) ∙ (ap (λ z. z ++ rest_text (unended bytes)) r.text ∙ ap (script_text d) all))) (takes_breaks t w)
+    subst P (ap (λ z. text_of (begin d) bytes ++ rest_text z) line ∙ (ap (λ z. text_of (begin d) bytes ++ z) (rest_kept (unended bytes))
+    ∙ (ap (λ z. z ++ rest_text (unended bytes)) r.text ∙ ap (script_text d) all))) (takes_breaks t w)
 
 -- the writer failed while the cut line was answered
-pub broke_last : {D : Type 0} {spells : D → Desk → Type 0} {session : Session D} {d : Desk} {before now : Input} {old new : Output} (after : Input) (last : Output) → Going spells d before now old new session → Consumes now.left after.left [] → IsAtEnd after.left → ((s : State) → IsState spells session s → Breaks new last (rest_text s.line)) → BrokeOff d before old last
+pub broke_last : {D : Type 0} {spells : D → Desk → Type 0} {session : Session D} {d : Desk} {before now : Input} {old new : Output} (after : Input)
+    (last : Output) → Going spells d before now old new session → Consumes now.left after.left [] → IsAtEnd after.left
+    → ((s : State) → IsState spells session s → Breaks new last (rest_text s.line)) → BrokeOff d before old last
 broke_last {d = d} {before = before} {now = now} after last g c e w = record {
   failed = (w (state_of (begin d) g.bytes) g.state_is).failed;
   written = broke_end d before.left now.left after.left g.bytes refl g.written (w (state_of (begin d) g.bytes) g.state_is) g.read c e;

@@ -16,7 +16,8 @@ state_of-append s (x ∷ xs) ys = state_of-append (state_after s x) xs ys
 pub text_of-append : (s : State) (xs ys : List ℕ) → text_of s (xs ++ ys) ≡ text_of s xs ++ text_of (state_of s xs) ys
 text_of-append s [] ys = refl
 text_of-append s (x ∷ xs) ys =
-    ap (λ z. text_after s x ++ z) (text_of-append (state_after s x) xs ys) ∙ sym (append_assoc (text_after s x) (text_of (state_after s x) xs) (text_of (state_of (state_after s x) xs) ys))
+    ap (λ z. text_after s x ++ z) (text_of-append (state_after s x) xs ys)
+    ∙ sym (append_assoc (text_after s x) (text_of (state_after s x) xs) (text_of (state_of (state_after s x) xs) ys))
 
 -- the state and the text, by lines
 abbrev pub at_line : Desk → List ℕ → Bool → State
@@ -39,18 +40,24 @@ pub record Reaches (desk : Desk) (bad : Bool) (all bs : List ℕ) (s : State) : 
   pub text : text_of s bs ≡ lines_text desk (ended all)
 
 -- one more byte: a line feed, or one that goes on with the line
-reach_feed : (desk : Desk) (bad : Bool) (line bs : List ℕ) → NoFeed line → Reaches (line_desk desk line) (bad || is_bad line) bs bs (at_line (line_desk desk line) [] (bad || is_bad line)) → Reaches desk bad (line ++ 10 ∷ bs) (10 ∷ bs) (at_line desk line bad)
+reach_feed : (desk : Desk) (bad : Bool) (line bs : List ℕ) → NoFeed line
+    → Reaches (line_desk desk line) (bad || is_bad line) bs bs (at_line (line_desk desk line) [] (bad || is_bad line))
+    → Reaches desk bad (line ++ 10 ∷ bs) (10 ∷ bs) (at_line desk line bad)
 unfolding state_after text_after
 reach_feed desk bad line bs h k =
     let next : state_after (at_line desk line bad) 10 ≡ at_line (line_desk desk line) [] (bad || is_bad line) = rw (kept_means line, kept_nil) refl in
-    let lines : at_line (lines_desk (line_desk desk line) (ended bs)) (unended bs) ((bad || is_bad line) || list_any is_bad (ended bs)) ≡ at_line (lines_desk desk (ended (line ++ 10 ∷ bs))) (unended (line ++ 10 ∷ bs)) (bad || list_any is_bad (ended (line ++ 10 ∷ bs))) =
+    let lines : at_line (lines_desk (line_desk desk line) (ended bs)) (unended bs) ((bad || is_bad line) || list_any is_bad (ended bs)) ≡ at_line
+    (lines_desk desk (ended (line ++ 10 ∷ bs))) (unended (line ++ 10 ∷ bs)) (bad || list_any is_bad (ended (line ++ 10 ∷ bs))) =
     rw (ended_first line bs h, unended_first line bs h, one_bool bad (is_bad line) (list_any is_bad (ended bs))) refl in
     record {
       state = ap (λ s. state_of s bs) next ∙ (k.state ∙ lines);
-      text = ap (λ z. line_text desk (kept line) ++ text_of z bs) next ∙ (ap (λ m. meaning_text desk m ++ text_of (at_line (line_desk desk line) [] (bad || is_bad line)) bs) (kept_means line) ∙ (ap (λ z. line_text desk line ++ z) k.text ∙ sym (ap (lines_text desk) (ended_first line bs h))));
+      text = ap (λ z. line_text desk (kept line) ++ text_of z bs) next ∙ (ap
+          (λ m. meaning_text desk m ++ text_of (at_line (line_desk desk line) [] (bad || is_bad line)) bs) (kept_means line)
+          ∙ (ap (λ z. line_text desk line ++ z) k.text ∙ sym (ap (lines_text desk) (ended_first line bs h))));
     }
 
-reach_byte : (desk : Desk) (bad : Bool) (line bs : List ℕ) (b : ℕ) → eqb b 10 ≡ false → Reaches desk bad ((line ++ b ∷ []) ++ bs) bs (at_line desk (line ++ b ∷ []) bad) → Reaches desk bad (line ++ b ∷ bs) (b ∷ bs) (at_line desk line bad)
+reach_byte : (desk : Desk) (bad : Bool) (line bs : List ℕ) (b : ℕ) → eqb b 10 ≡ false
+    → Reaches desk bad ((line ++ b ∷ []) ++ bs) bs (at_line desk (line ++ b ∷ []) bad) → Reaches desk bad (line ++ b ∷ bs) (b ∷ bs) (at_line desk line bad)
 unfolding state_after text_after
 reach_byte desk bad line bs b e k =
     let next : state_after (at_line desk line bad) b ≡ at_line desk (line ++ b ∷ []) bad = rw (e, kept_again line b) refl in
@@ -66,7 +73,9 @@ reach_byte desk bad line bs b e k =
 is_ten : (b : ℕ) → eqb b 10 ≡ true → 10 ≡ b
 is_ten b e = search (rules, tests)
 
-reach_next : (bs : List ℕ) (go : (desk : Desk) (bad : Bool) (line : List ℕ) → NoFeed line → Reaches desk bad (line ++ bs) bs (at_line desk line bad)) (desk : Desk) (bad : Bool) (line : List ℕ) (b : ℕ) → NoFeed line → (eqb b 10 ≡ true) ⊎ (eqb b 10 ≡ false) → Reaches desk bad (line ++ b ∷ bs) (b ∷ bs) (at_line desk line bad)
+reach_next : (bs : List ℕ) (go : (desk : Desk) (bad : Bool) (line : List ℕ) → NoFeed line → Reaches desk bad (line ++ bs) bs (at_line desk line bad))
+    (desk : Desk) (bad : Bool) (line : List ℕ) (b : ℕ) → NoFeed line → (eqb b 10 ≡ true) ⊎ (eqb b 10 ≡ false)
+    → Reaches desk bad (line ++ b ∷ bs) (b ∷ bs) (at_line desk line bad)
 reach_next bs go desk bad line b h (inl e) =
     let P : ℕ → Type 0 = λ z. Reaches desk bad (line ++ z ∷ bs) (z ∷ bs) (at_line desk line bad) in
     subst P (is_ten b e) (reach_feed desk bad line bs h (go (line_desk desk line) (bad || is_bad line) [] tt))

@@ -1,5 +1,6 @@
 -- Heaps that are seen, and walks over their segments.
-use Rattle.std.proofs.Common.{◌≡◌, ℕ, zero, suc, ◌+◌, ◌-◌, ◌*◌, ◌<◌, ◌≤◌, Bool, true, false, refl, ap, sym, subst, ◌∙◌, arith, List, [], ◌∷◌, ◌++◌, length, take, drop, Option, Some, None}
+use Rattle.std.proofs.Common.{◌≡◌, ℕ, zero, suc, ◌+◌, ◌-◌, ◌*◌, ◌<◌, ◌≤◌, Bool, true, false, refl, ap, sym, subst, ◌∙◌, arith, List, [], ◌∷◌, ◌++◌, length}
+use Rattle.std.proofs.Common.{take, drop, Option, Some, None}
 use Rattle.std.specs.Prelude.{slice_get, IfSome}
 use Rattle.std.specs.List.{AllByRecursion}
 use Rattle.std.specs.Option.{option_map}
@@ -108,10 +109,11 @@ room {rest = rest} w s =
 
 -- the items that are told there
 pub told : {o : Option Heap} {place : ℕ} (start : ℕ) {rest : List Segment} {items : List SegmentItem} (w : ComesTo o place rest)
-    → IfSome o (λ h. (below : List Segment) (rest : List Segment) → h.segments ≡ below ++ rest → place ≡ place_after below → items ≡ take SEGMENTS_AT_ONCE (segment_items_from (start + place) rest))
-    → items ≡ segment_items_from (start + place) (take SEGMENTS_AT_ONCE rest)
+    → IfSome o (λ h. (below : List Segment) (rest : List Segment) → h.segments ≡ below ++ rest → place ≡ place_after below
+    → items ≡ take SEGMENTS_AT_ONCE (segment_items_from (start + place) rest)) → items ≡ segment_items_from (start + place) (take SEGMENTS_AT_ONCE rest)
 told {place = place} start {rest = rest} {items = items} w f =
-    let P : Option Heap → Type 0 = λ o. IfSome o (λ h. (below : List Segment) (rest : List Segment) → h.segments ≡ below ++ rest → place ≡ place_after below → items ≡ take SEGMENTS_AT_ONCE (segment_items_from (start + place) rest)) in
+    let P : Option Heap → Type 0 = λ o. IfSome o (λ h. (below : List Segment) (rest : List Segment) → h.segments ≡ below ++ rest → place ≡ place_after below
+    → items ≡ take SEGMENTS_AT_ONCE (segment_items_from (start + place) rest)) in
     let g = subst P w.is f in
     g w.below rest w.whole w.at ∙ take-items SEGMENTS_AT_ONCE (start + place) rest
 
@@ -144,7 +146,8 @@ pub record Counted (start place end count : ℕ) (items : List SegmentItem) (res
   pub count_is : count ≡ length passed
   pub items_are : items ≡ segment_items_from (start + end) (take SEGMENTS_AT_ONCE left)
 
-pub counted-none : {start place : ℕ} {items : List SegmentItem} {rest : List Segment} → items ≡ segment_items_from (start + place) (take SEGMENTS_AT_ONCE rest) → Counted start place place 0 items rest
+pub counted-none : {start place : ℕ} {items : List SegmentItem} {rest : List Segment}
+    → items ≡ segment_items_from (start + place) (take SEGMENTS_AT_ONCE rest) → Counted start place place 0 items rest
 counted-none {rest = rest} e = record { passed = []; left = rest; whole = refl; at = omega arith; count_is = refl; items_are = e }
 
 -- the next ones
@@ -155,7 +158,8 @@ pub record Stepped (o : Option Heap) (start end next count : ℕ) (items : List 
   pub within : next + start ≡ item_end last → next ≤ end_of o
   pub few : count + length items ≤ 4194304
 
-module _ {o : Option Heap} {start place end count : ℕ} {items : List SegmentItem} {rest : List Segment} (w : ComesTo o place rest) (k : Counted start place end count items rest) where
+module _ {o : Option Heap} {start place end count : ℕ} {items : List SegmentItem} {rest : List Segment} (w : ComesTo o place rest)
+    (k : Counted start place end count items rest) where
   comes : ComesTo o end k.left
   comes =
       let P : List Segment → Type 0 = λ z. ComesTo o place z in
@@ -171,9 +175,11 @@ module _ {o : Option Heap} {start place end count : ℕ} {items : List SegmentIt
   parts : front ++ back ≡ k.left
   parts = take-append-drop SEGMENTS_AT_ONCE k.left
 
-  last-here : (last : SegmentItem) → Some last ≡ slice_get items (length items - 1) → (item_end last ≡ (start + end) + total size_of front) × (0 < length front) × (length items ≡ length front)
+  last-here : (last : SegmentItem) → Some last ≡ slice_get items (length items - 1)
+      → (item_end last ≡ (start + end) + total size_of front) × (0 < length front) × (length items ≡ length front)
   last-here last e =
-      let here : Some last ≡ slice_get (segment_items_from (start + end) front) (length (segment_items_from (start + end) front) - 1) = e ∙ ap (λ xs. slice_get xs (length xs - 1)) k.items_are in
+      let here : Some last ≡ slice_get (segment_items_from (start + end) front) (length (segment_items_from (start + end) front) - 1) =
+      e ∙ ap (λ xs. slice_get xs (length xs - 1)) k.items_are in
       let long : length items ≡ length front = ap length k.items_are ∙ length-items (start + end) front in
       let some = some-last items last e in
       (last-ends (start + end) front last here, omega arith, long)
@@ -199,8 +205,8 @@ module _ {o : Option Heap} {start place end count : ℕ} {items : List SegmentIt
       record { low = omega arith; small = omega arith; goes = λ q. omega arith; within = λ q. omega arith; few = omega arith }
 
   pub counted-more : (next : ℕ) (last : SegmentItem) (items2 : List SegmentItem) → Some last ≡ slice_get items (length items - 1) → next + start ≡ item_end last
-      → IfSome o (λ h. (below : List Segment) (rest : List Segment) → h.segments ≡ below ++ rest → next ≡ place_after below → items2 ≡ take SEGMENTS_AT_ONCE (segment_items_from (start + next) rest))
-      → Counted start place next (count + length items) items2 rest
+      → IfSome o (λ h. (below : List Segment) (rest : List Segment) → h.segments ≡ below ++ rest → next ≡ place_after below
+      → items2 ≡ take SEGMENTS_AT_ONCE (segment_items_from (start + next) rest)) → Counted start place next (count + length items) items2 rest
   counted-more next last items2 e q f =
       let h = last-here last e in
       let ends = h.0 in
@@ -240,14 +246,17 @@ module _ {o : Option Heap} {start place end count : ℕ} {items : List SegmentIt
       (omega arith, omega arith)
 
 -- as a call asks for it
-pub comes-parts : {o : Option Heap} {place : ℕ} {rest : List Segment} → ComesTo o place rest → IfSome o (λ h. (x : List Segment) × (y : List Segment) × (h.segments ≡ x ++ y) × (place ≡ place_after x))
+pub comes-parts : {o : Option Heap} {place : ℕ} {rest : List Segment} → ComesTo o place rest
+    → IfSome o (λ h. (x : List Segment) × (y : List Segment) × (h.segments ≡ x ++ y) × (place ≡ place_after x))
 comes-parts {o = o} {place = place} {rest = rest} w =
     let P : Option Heap → Type 0 = λ z. IfSome z (λ h. (x : List Segment) × (y : List Segment) × (h.segments ≡ x ++ y) × (place ≡ place_after x)) in
     subst P (sym w.is) (w.below, rest, w.whole, w.at)
 
-pub counted-so : {start place end n : ℕ} {items : List SegmentItem} {rest : List Segment} (count : ℕ) (next : List SegmentItem) → Counted start place end (count + length next) items rest → n ≡ length next → Counted start place end (count + n) items rest
+pub counted-so : {start place end n : ℕ} {items : List SegmentItem} {rest : List Segment} (count : ℕ) (next : List SegmentItem)
+    → Counted start place end (count + length next) items rest → n ≡ length next → Counted start place end (count + n) items rest
 counted-so {start = start} {place = place} {end = end} {items = items} {rest = rest} count next k e =
     let P : ℕ → Type 0 = λ m. Counted start place end (count + m) items rest in subst P (sym e) k
 
-pub census-is : {count end : ℕ} (place : ℕ) (rest : List Segment) → (count ≡ length rest) × (end ≡ place + total size_of rest) → (let x : Census = record { count = count; end = end } in x) ≡ census_of place rest
+pub census-is : {count end : ℕ} (place : ℕ) (rest : List Segment) → (count ≡ length rest) × (end ≡ place + total size_of rest)
+    → (let x : Census = record { count = count; end = end } in x) ≡ census_of place rest
 census-is place rest e = let a = e.0 in let b = e.1 in cc

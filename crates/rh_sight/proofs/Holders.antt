@@ -1,6 +1,7 @@
 -- Whose pages stand where in the list of all pages: no two owners are one, so each owner's pages stand behind those of
 -- the owners before it.
-use Rattle.std.proofs.Common.{◌≡◌, ℕ, zero, suc, ◌+◌, ◌-◌, ◌<◌, ◌≤◌, Bool, true, false, refl, ap, sym, subst, ◌∙◌, arith, eq-eqb, List, [], ◌∷◌, ◌++◌, length, take, drop}
+use Rattle.std.proofs.Common.{◌≡◌, ℕ, zero, suc, ◌+◌, ◌-◌, ◌<◌, ◌≤◌, Bool, true, false, refl, ap, sym, subst, ◌∙◌, arith, eq-eqb, List, [], ◌∷◌, ◌++◌, length}
+use Rattle.std.proofs.Common.{take, drop}
 use Rattle.std.specs.Prelude.{Option, Some, None, if◌then◌else◌, ◌==◌, slice_get, slice_index, map, IfSome, IsSome}
 use Rattle.std.specs.List.{AllByRecursion, enumerate_from}
 use Rattle.std.specs.Option.{option_map}
@@ -77,7 +78,8 @@ fixed-apart : (d : Desk) (n : ℕ) (areas : List ℕ) → AreApart (map (fixed_h
 fixed-apart d n [] = tt
 fixed-apart d n (a ∷ areas) = (fixed-above d (n + 1) n areas (omega arith), fixed-apart d (n + 1) areas)
 
-made-above : (least next n : ℕ) (made : List Made) → Rise (λ (m : Made). m.number) least next made → n < least → AllByRecursion (IsOther (AreaOf n)) (map made_holding made)
+made-above : (least next n : ℕ) (made : List Made) → Rise (λ (m : Made). m.number) least next made → n < least
+    → AllByRecursion (IsOther (AreaOf n)) (map made_holding made)
 made-above least next n [] r l = tt
 made-above least next n (m ∷ made) r l =
     let low : least ≤ m.number = r.0 in
@@ -87,7 +89,8 @@ made-apart : (least next : ℕ) (made : List Made) → Rise (λ (m : Made). m.nu
 made-apart least next [] r = tt
 made-apart least next (m ∷ made) r = (made-above (m.number + 1) next m.number made r.1 (omega arith), made-apart (m.number + 1) next made r.1)
 
-slots-above : (least next n : ℕ) (tasks : List Task) → Rise (λ (t : Task). t.handle) least next tasks → n < least → AllByRecursion (IsOther (SlotOf n)) (map slot_holding tasks)
+slots-above : (least next n : ℕ) (tasks : List Task) → Rise (λ (t : Task). t.handle) least next tasks → n < least
+    → AllByRecursion (IsOther (SlotOf n)) (map slot_holding tasks)
 slots-above least next n [] r l = tt
 slots-above least next n (t ∷ tasks) r l =
     let low : least ≤ t.handle = r.0 in
@@ -102,12 +105,14 @@ slots-other : (n : ℕ) (tasks : List Task) → AllByRecursion (IsOther (AreaOf 
 slots-other n [] = tt
 slots-other n (t ∷ tasks) = (refl, slots-other n tasks)
 
-fixed-beside : (d : Desk) (n : ℕ) (areas : List ℕ) (others : List Holding) → n + length areas ≤ 6 → ((k : ℕ) → k < 6 → AllByRecursion (IsOther (AreaOf k)) others)
+fixed-beside : (d : Desk) (n : ℕ) (areas : List ℕ) (others : List Holding) → n + length areas ≤ 6
+    → ((k : ℕ) → k < 6 → AllByRecursion (IsOther (AreaOf k)) others)
     → AllByRecursion (λ (x : Holding). AllByRecursion (IsOther x.0) others) (map (fixed_holding d) (enumerate_from n areas))
 fixed-beside d n [] others l f = tt
 fixed-beside d n (a ∷ areas) others l f = (f n (omega arith), fixed-beside d (n + 1) areas others (omega arith) f)
 
-made-beside : (made : List Made) (tasks : List Task) → AllByRecursion (λ (x : Holding). AllByRecursion (IsOther x.0) (map slot_holding tasks)) (map made_holding made)
+made-beside : (made : List Made) (tasks : List Task)
+    → AllByRecursion (λ (x : Holding). AllByRecursion (IsOther x.0) (map slot_holding tasks)) (map made_holding made)
 made-beside [] tasks = tt
 made-beside (m ∷ made) tasks = (slots-other m.number tasks, made-beside made tasks)
 
@@ -156,7 +161,8 @@ among-at (y ∷ xs) (suc k) x numbers apart e =
     let rest = among-at xs k x (drop y.1 numbers) apart.1 e in
     (rw off (rest.0 ∙ ap (take x.1) (drop-drop (total counted (take k xs)) y.1 numbers)), rw off rest.1)
 
-later-each : (x : Holding) (xs : List Holding) (numbers : List ℕ) → AreApart (x ∷ xs) → ((o : Owner) → length (pages_among o (x ∷ xs) numbers) ≡ count_of o (x ∷ xs))
+later-each : (x : Holding) (xs : List Holding) (numbers : List ℕ) → AreApart (x ∷ xs)
+    → ((o : Owner) → length (pages_among o (x ∷ xs) numbers) ≡ count_of o (x ∷ xs))
     → (o : Owner) (b : Bool) → is_owner o x.0 ≡ b → length (pages_among o xs (drop x.1 numbers)) ≡ count_of o xs
 later-each x xs numbers apart each o false e = rw e at (each o)
 later-each x xs numbers apart each o true e =
@@ -165,11 +171,13 @@ later-each x xs numbers apart each o true e =
     subst P (sym (owner-same o x.0 e)) (ap length none.0 ∙ sym none.1)
 
 -- where each owner has its pages, there are so many
-pub all-among : (xs : List Holding) (numbers : List ℕ) → AreApart xs → ((o : Owner) → length (pages_among o xs numbers) ≡ count_of o xs) → total counted xs ≤ length numbers
+pub all-among : (xs : List Holding) (numbers : List ℕ) → AreApart xs → ((o : Owner) → length (pages_among o xs numbers) ≡ count_of o xs)
+    → total counted xs ≤ length numbers
 all-among [] numbers apart each = omega arith
 all-among (x ∷ xs) numbers apart each =
     let own : length (take x.1 numbers) ≡ x.1 = rw (owner-refl x.0) at (each x.0) in
-    let rest : total counted xs ≤ length (drop x.1 numbers) = all-among xs (drop x.1 numbers) apart.1 (λ o. later-each x xs numbers apart each o (is_owner o x.0) refl) in
+    let rest : total counted xs ≤ length (drop x.1 numbers) =
+    all-among xs (drop x.1 numbers) apart.1 (λ o. later-each x xs numbers apart each o (is_owner o x.0) refl) in
     omega (arith, length-take x.1 numbers, length-drop x.1 numbers)
 
 pub total-at : (xs : List Holding) (k : ℕ) (x : Holding) → slice_get xs k ≡ Some x → total counted (take k xs) + x.1 ≤ total counted xs
@@ -205,7 +213,9 @@ module _ {d : Desk} (is : IsDesk d) where
   pub stands-fixed : (number a : ℕ) → slice_get d.areas number ≡ Some a → Stands d (pages.Fixed number) (AreaOf number) (fixed_holding d (number, a)).1
   stands-fixed number a e =
       let here : slice_get (map (fixed_holding d) (enumerate_from 0 d.areas)) number ≡ Some (fixed_holding d (number, a)) =
-      slice_get-map (fixed_holding d) (enumerate_from 0 d.areas) number ∙ ap (option_map (fixed_holding d)) (get-numbered 0 d.areas number ∙ ap (option_map (λ (b : ℕ). (0 + number, b))) e ∙ ap (λ z. Some (z, a)) (omega arith)) in
+      slice_get-map (fixed_holding d) (enumerate_from 0 d.areas) number
+      ∙ ap (option_map (fixed_holding d)) (get-numbered 0 d.areas number ∙ ap (option_map (λ (b : ℕ). (0 + number, b))) e
+      ∙ ap (λ z. Some (z, a)) (omega arith)) in
       record { is = get-front (fixed is ++ mades is) (slots is) number _ (get-front (fixed is) (mades is) number _ here) }
 
   long : length (fixed is) ≡ length d.areas
@@ -219,7 +229,10 @@ module _ {d : Desk} (is : IsDesk d) where
   pub stands-slot : (i : ℕ) (t : Task) → slice_get d.tasks i ≡ Some t → Stands d (pages.Slot i) (SlotOf t.handle) (task_pages t)
   stands-slot i t e =
       let here : slice_get (slots is) i ≡ Some (slot_holding t) = slice_get-map slot_holding d.tasks i ∙ ap (option_map slot_holding) e in
-      record { is = get-behind (fixed is ++ mades is) (slots is) (length d.areas + length d.made) i (length-append (fixed is) (mades is) ∙ omega (arith, long, length-map d.made made_holding)) ∙ here }
+      record {
+        is = get-behind (fixed is ++ mades is) (slots is) (length d.areas + length d.made) i
+            (length-append (fixed is) (mades is) ∙ omega (arith, long, length-map d.made made_holding)) ∙ here;
+      }
 
   -- how many pages the owner has
   pub stands-count : (owner : PagesOf) (o : Owner) (n : ℕ) → Stands d owner o n → count_of o (holdings d) ≡ n
@@ -231,15 +244,18 @@ module _ {d : Desk} (is : IsDesk d) where
 
     pub room-all : free_pages d + total counted (holdings d) ≤ length numbers
     room-all =
-        let rest : total counted (holdings d) ≤ length (drop (free_pages d) numbers) = all-among (holdings d) (drop (free_pages d) numbers) (desk-apart is) shared.each in
+        let rest : total counted (holdings d) ≤ length (drop (free_pages d) numbers) =
+        all-among (holdings d) (drop (free_pages d) numbers) (desk-apart is) shared.each in
         omega (arith, length-drop (free_pages d) numbers, room-free)
 
     pub stands-room : (owner : PagesOf) (o : Owner) (n : ℕ) → Stands d owner o n → free_pages d + pages_before owner d + n ≤ length numbers
     stands-room owner o n at =
-        let front : total counted (take (place_among owner d) (holdings d)) + n ≤ total counted (holdings d) = total-at (holdings d) (place_among owner d) (o, n) at.is in
+        let front : total counted (take (place_among owner d) (holdings d)) + n ≤ total counted (holdings d) =
+        total-at (holdings d) (place_among owner d) (o, n) at.is in
         omega (arith, room-all)
 
-    pub stands-pages : (owner : PagesOf) (o : Owner) (n : ℕ) → Stands d owner o n → take n (drop (free_pages d + pages_before owner d) numbers) ≡ (share_in numbers d).pages_of o
+    pub stands-pages : (owner : PagesOf) (o : Owner) (n : ℕ) → Stands d owner o n
+        → take n (drop (free_pages d + pages_before owner d) numbers) ≡ (share_in numbers d).pages_of o
     stands-pages owner o n at =
         sym ((among-at (holdings d) (place_among owner d) (o, n) (drop (free_pages d) numbers) (desk-apart is) at.is).0
         ∙ ap (take n) (drop-drop (pages_before owner d) (free_pages d) numbers))
@@ -256,7 +272,8 @@ total-take f (suc n) [] = omega arith
 total-take f (suc n) (x ∷ xs) = let rest : total f (take n xs) ≤ total f xs = total-take f n xs in omega arith
 
 -- areas 0 to 5, of which the list has 0 for the module area
-fixed-used : (d : Desk) (areas : List ℕ) → length areas ≡ 6 → slice_index areas 1 ≡ 0 → total counted (map (fixed_holding d) (enumerate_from 0 areas)) ≡ total (λ (n : ℕ). n) areas + module_pages d
+fixed-used : (d : Desk) (areas : List ℕ) → length areas ≡ 6 → slice_index areas 1 ≡ 0
+    → total counted (map (fixed_holding d) (enumerate_from 0 areas)) ≡ total (λ (n : ℕ). n) areas + module_pages d
 fixed-used d [] six none = absurd (omega arith)
 fixed-used d (a ∷ []) six none = absurd (omega arith)
 fixed-used d (a ∷ b ∷ []) six none = absurd (omega arith)
@@ -279,7 +296,9 @@ module _ {d : Desk} (is : IsDesk d) where
 
   fixed-at : (number a : ℕ) → slice_get d.areas number ≡ Some a → slice_get (fixed is) number ≡ Some (fixed_holding d (number, a))
   fixed-at number a e =
-      slice_get-map (fixed_holding d) (enumerate_from 0 d.areas) number ∙ ap (option_map (fixed_holding d)) (get-numbered 0 d.areas number ∙ ap (option_map (λ (b : ℕ). (0 + number, b))) e ∙ ap (λ z. Some (z, a)) (omega arith))
+      slice_get-map (fixed_holding d) (enumerate_from 0 d.areas) number
+      ∙ ap (option_map (fixed_holding d)) (get-numbered 0 d.areas number ∙ ap (option_map (λ (b : ℕ). (0 + number, b))) e
+      ∙ ap (λ z. Some (z, a)) (omega arith))
 
   pub area-at : (number : ℕ) → number < 6 → slice_get d.areas number ≡ Some (slice_index d.areas number)
   area-at number l = slice_get-get_or d.areas number 0 (omega (arith, is.areas.six))
@@ -306,12 +325,14 @@ module _ {d : Desk} (is : IsDesk d) where
   front-all : total counted (take 6 (fixed is)) ≡ total counted (fixed is)
   front-all = ap (total counted) (take_all 6 (fixed is) (omega (arith, fixed-long)))
 
-  pub before-made : (i : ℕ) → i ≤ length d.made → total counted (take 6 (fixed is)) + total (λ (m : Made). m.pages) (take i d.made) ≡ pages_before (pages.Made i) d
+  pub before-made : (i : ℕ) → i ≤ length d.made
+      → total counted (take 6 (fixed is)) + total (λ (m : Made). m.pages) (take i d.made) ≡ pages_before (pages.Made i) d
   before-made i l =
       let long-both = length-append (fixed is) (mades is) in
       let long-made = length-map d.made made_holding in
       let same : length d.areas + i ≡ length (fixed is) + i = omega (arith, fixed-long, is.areas.six) in
-      let made-part : total counted (take i (mades is)) ≡ total (λ (m : Made). m.pages) (take i d.made) = ap (total counted) (take-map made_holding i d.made) ∙ total-map counted made_holding (take i d.made) in
+      let made-part : total counted (take i (mades is)) ≡ total (λ (m : Made). m.pages) (take i d.made) =
+      ap (total counted) (take-map made_holding i d.made) ∙ total-map counted made_holding (take i d.made) in
       let whole : total counted (take (length d.areas + i) (holdings d)) ≡ total counted (fixed is) + total counted (take i (mades is)) =
       ap (total counted) (ap (λ n. take n (holdings d)) same
       ∙ take-append-le (length (fixed is) + i) (fixed is ++ mades is) (slots is) (omega arith)
@@ -319,14 +340,17 @@ module _ {d : Desk} (is : IsDesk d) where
       ∙ total-append counted (fixed is) (take i (mades is)) in
       omega (arith, front-all)
 
-  pub before-slot : (i : ℕ) → total counted (take 6 (fixed is)) + total (λ (m : Made). m.pages) d.made + total task_pages (take i d.tasks) ≡ pages_before (pages.Slot i) d
+  pub before-slot : (i : ℕ)
+      → total counted (take 6 (fixed is)) + total (λ (m : Made). m.pages) d.made + total task_pages (take i d.tasks) ≡ pages_before (pages.Slot i) d
   before-slot i =
       let long-both = length-append (fixed is) (mades is) in
       let long-made = length-map d.made made_holding in
       let same : length d.areas + length d.made + i ≡ length (fixed is ++ mades is) + i = omega (arith, fixed-long, is.areas.six) in
       let made-part : total counted (mades is) ≡ total (λ (m : Made). m.pages) d.made = total-map counted made_holding d.made in
-      let slot-part : total counted (take i (slots is)) ≡ total task_pages (take i d.tasks) = ap (total counted) (take-map slot_holding i d.tasks) ∙ total-map counted slot_holding (take i d.tasks) in
-      let whole : total counted (take (length d.areas + length d.made + i) (holdings d)) ≡ total counted (fixed is ++ mades is) + total counted (take i (slots is)) =
+      let slot-part : total counted (take i (slots is)) ≡ total task_pages (take i d.tasks) =
+      ap (total counted) (take-map slot_holding i d.tasks) ∙ total-map counted slot_holding (take i d.tasks) in
+      let whole : total counted (take (length d.areas + length d.made + i) (holdings d)) ≡ total counted (fixed is ++ mades is) + total counted
+      (take i (slots is)) =
       ap (total counted) (ap (λ n. take n (holdings d)) same ∙ take-append-add (fixed is ++ mades is) (slots is) i)
       ∙ total-append counted (fixed is ++ mades is) (take i (slots is)) in
       omega (arith, front-all, total-append counted (fixed is) (mades is))
@@ -416,7 +440,8 @@ module _ {d : Desk} (is : IsDesk d) where
   before-few owner = let some = total-take counted (place_among owner d) (holdings d) in omega (arith, holdings-few is)
 
   -- where an owner's pages begin and end in the list
-  pub room-of : (numbers : List ℕ) (owner : PagesOf) (o : Owner) → IsShared (share_in numbers d) d → owner_seen owner d ≡ Some o → free_pages d + pages_before owner d + count_of o (holdings d) ≤ length numbers
+  pub room-of : (numbers : List ℕ) (owner : PagesOf) (o : Owner) → IsShared (share_in numbers d) d → owner_seen owner d ≡ Some o
+      → free_pages d + pages_before owner d + count_of o (holdings d) ≤ length numbers
   room-of numbers owner o shared e =
       let f = found is owner o e in
       omega (arith, stands-room is numbers shared owner o f.pages f.stands, stands-count is owner o f.pages f.stands)
@@ -446,7 +471,8 @@ module _ {d : Desk} (is : IsDesk d) where
           told ∙ (ap (λ m. if number == module_area then module_pages d else m) is_a
           ∙ sym (ap (λ z. count_of z (holdings d)) (sym same) ∙ stands-count is (pages.Fixed number) (AreaOf number) _ (stands-fixed is number a q)))
 
-  pub count-made : (owner : PagesOf) (o : Owner) (i : ℕ) (m : Made) → owner ≡ pages.Made i → owner_seen owner d ≡ Some o → slice_get d.made i ≡ Some m → m.pages ≡ count_of o (holdings d)
+  pub count-made : (owner : PagesOf) (o : Owner) (i : ℕ) (m : Made) → owner ≡ pages.Made i → owner_seen owner d ≡ Some o → slice_get d.made i ≡ Some m
+      → m.pages ≡ count_of o (holdings d)
   count-made owner o i m k e q =
       let t : owner_seen (pages.Made i) d ≡ Some o = subst (λ z. owner_seen z d ≡ Some o) k e in
       let u : option_map (λ (x : Made). AreaOf x.number) (Some m) ≡ Some o = subst (λ z. option_map (λ (x : Made). AreaOf x.number) z ≡ Some o) q t in
@@ -459,7 +485,8 @@ module _ {d : Desk} (is : IsDesk d) where
       let u : option_map (λ (x : Made). AreaOf x.number) None ≡ Some o = subst (λ z. option_map (λ (x : Made). AreaOf x.number) z ≡ Some o) q t in
       cc
 
-  pub count-slot : (owner : PagesOf) (o : Owner) (i : ℕ) (t : Task) → owner ≡ pages.Slot i → owner_seen owner d ≡ Some o → slice_get d.tasks i ≡ Some t → task_pages t ≡ count_of o (holdings d)
+  pub count-slot : (owner : PagesOf) (o : Owner) (i : ℕ) (t : Task) → owner ≡ pages.Slot i → owner_seen owner d ≡ Some o → slice_get d.tasks i ≡ Some t
+      → task_pages t ≡ count_of o (holdings d)
   count-slot owner o i t k e q =
       let r : owner_seen (pages.Slot i) d ≡ Some o = subst (λ z. owner_seen z d ≡ Some o) k e in
       let u : option_map (λ (x : Task). SlotOf x.handle) (Some t) ≡ Some o = subst (λ z. option_map (λ (x : Task). SlotOf x.handle) z ≡ Some o) q r in

@@ -1,5 +1,6 @@
 -- The pieces of segments and of flex blocks, some at a time.
-use Rattle.std.proofs.Common.{◌≡◌, ℕ, zero, suc, ◌+◌, ◌-◌, ◌*◌, ◌<◌, ◌≤◌, Bool, false, refl, ap, sym, subst, ◌∙◌, arith, List, [], ◌∷◌, ◌++◌, length, take, drop, get_or, Option, Some, None}
+use Rattle.std.proofs.Common.{◌≡◌, ℕ, zero, suc, ◌+◌, ◌-◌, ◌*◌, ◌<◌, ◌≤◌, Bool, false, refl, ap, sym, subst, ◌∙◌, arith, List, [], ◌∷◌, ◌++◌, length, take}
+use Rattle.std.proofs.Common.{drop, get_or, Option, Some, None}
 use Rattle.std.specs.Prelude.{slice_get, IfSome}
 use Rattle.std.proofs.lemmas.List.{append_assoc, append-nil, drop-take, drop_all, drop_more, length-append, length-take, take-append-drop, take-take, take_more}
 use Rattle.rh_defs.specs.declared.sizes.TheConstants.{SEGMENTS_AT_ONCE}
@@ -47,9 +48,11 @@ pieces-on g off n place segments old now new at p q =
     ∙ (pieces-append g (off + first_place) (take n segments) (take SEGMENTS_AT_ONCE (drop n segments))
     ∙ ap (λ k. front ++ segment_pieces g k (take SEGMENTS_AT_ONCE (drop n segments))) same)))))
 
-after-add : (n : ℕ) (segments : List Segment) → place_after (take (n + SEGMENTS_AT_ONCE) segments) ≡ place_after (take n segments) + total size_of (take SEGMENTS_AT_ONCE (drop n segments))
+after-add : (n : ℕ) (segments : List Segment)
+    → place_after (take (n + SEGMENTS_AT_ONCE) segments) ≡ place_after (take n segments) + total size_of (take SEGMENTS_AT_ONCE (drop n segments))
 after-add n segments =
-    let more : total size_of (take (n + SEGMENTS_AT_ONCE) segments) ≡ total size_of (take n segments) + total size_of (take SEGMENTS_AT_ONCE (drop n segments)) =
+    let more : total size_of (take (n + SEGMENTS_AT_ONCE) segments) ≡ total size_of (take n segments) + total size_of
+    (take SEGMENTS_AT_ONCE (drop n segments)) =
     ap (total size_of) (take-add n SEGMENTS_AT_ONCE segments) ∙ total-append size_of (take n segments) (take SEGMENTS_AT_ONCE (drop n segments)) in
     omega arith
 
@@ -59,7 +62,8 @@ pub place-on : (start n place next : ℕ) (segments : List Segment) (items : Lis
     → next + start ≡ item_end last → next ≡ place_after (take (n + SEGMENTS_AT_ONCE) segments)
 place-on start n place next segments items last at e l q =
     let front = take SEGMENTS_AT_ONCE (drop n segments) in
-    let here : Some last ≡ slice_get (segment_items_from (start + place) front) (length (segment_items_from (start + place) front) - 1) = l ∙ ap (λ xs. slice_get xs (length xs - 1)) e in
+    let here : Some last ≡ slice_get (segment_items_from (start + place) front) (length (segment_items_from (start + place) front) - 1) =
+    l ∙ ap (λ xs. slice_get xs (length xs - 1)) e in
     let ends : item_end last ≡ (start + place) + total size_of front = last-ends (start + place) front last here in
     omega (arith, after-add n segments)
 
@@ -69,7 +73,8 @@ pub place-same : (start n place : ℕ) (segments : List Segment) (items : List S
     → place ≡ place_after (take (n + SEGMENTS_AT_ONCE) segments)
 place-same start n place segments items at e l =
     let none : items ≡ [] = none-last items l in
-    let long : length items ≡ length (take SEGMENTS_AT_ONCE (drop n segments)) = ap length e ∙ length-items (start + place) (take SEGMENTS_AT_ONCE (drop n segments)) in
+    let long : length items ≡ length (take SEGMENTS_AT_ONCE (drop n segments)) =
+    ap length e ∙ length-items (start + place) (take SEGMENTS_AT_ONCE (drop n segments)) in
     let zero-items : length items ≡ 0 = ap length none in
     let no-bytes : total size_of (take SEGMENTS_AT_ONCE (drop n segments)) ≡ 0 = empty-total (take SEGMENTS_AT_ONCE (drop n segments)) (omega arith) in
     omega (arith, after-add n segments)
@@ -79,13 +84,14 @@ place-same start n place segments items at e l =
     empty-total (x ∷ xs) z = absurd (omega arith)
 
 -- one more segment
-pub item-at : (p : ℕ) (segments : List Segment) (items : List SegmentItem) (i : ℕ) (d : SegmentItem) (s : Segment) → items ≡ segment_items_from p segments → i < length items
-    → get_or items i d ≡ segment_item (p + total size_of (take i segments)) (get_or segments i s)
+pub item-at : (p : ℕ) (segments : List Segment) (items : List SegmentItem) (i : ℕ) (d : SegmentItem) (s : Segment) → items ≡ segment_items_from p segments
+    → i < length items → get_or items i d ≡ segment_item (p + total size_of (take i segments)) (get_or segments i s)
 item-at p segments items i d s e inside =
     let long : length items ≡ length segments = ap length e ∙ length-items p segments in
     ap (λ z. get_or z i d) e ∙ go p segments i (omega arith)
   where
-    go : (p : ℕ) (segments : List Segment) (i : ℕ) → i < length segments → get_or (segment_items_from p segments) i d ≡ segment_item (p + total size_of (take i segments)) (get_or segments i s)
+    go : (p : ℕ) (segments : List Segment) (i : ℕ) → i < length segments
+        → get_or (segment_items_from p segments) i d ≡ segment_item (p + total size_of (take i segments)) (get_or segments i s)
     go p [] i l = absurd (omega arith)
     go p (x ∷ xs) zero l = let same : p ≡ p + 0 = omega arith in ap (λ k. segment_item k x) same
     go p (x ∷ xs) (suc i) l =
@@ -93,16 +99,19 @@ item-at p segments items i d s e inside =
         go (p + size_of x) xs i (omega arith) ∙ ap (λ k. segment_item k (get_or xs i s)) same
 
 pub piece-more : (g : Legend) (p i : ℕ) (segments : List Segment) (s : Segment) → i < length segments
-    → segment_pieces g p (take (i + 1) segments) ≡ segment_pieces g p (take i segments) ++ segment_piece g (p + total size_of (take i segments)) (get_or segments i s) ∷ []
+    → segment_pieces g p (take (i + 1) segments) ≡ segment_pieces g p (take i segments) ++ segment_piece g (p + total size_of (take i segments))
+    (get_or segments i s) ∷ []
 piece-more g p i segments s l = ap (segment_pieces g p) (take_more segments i s l) ∙ pieces-append g p (take i segments) (get_or segments i s ∷ [])
 
-pub item-here : (start place : ℕ) (segments : List Segment) (items : List SegmentItem) (i : ℕ) (d : SegmentItem) → items ≡ segment_items_from (start + place) segments → i < length items
+pub item-here : (start place : ℕ) (segments : List Segment) (items : List SegmentItem) (i : ℕ) (d : SegmentItem)
+    → items ≡ segment_items_from (start + place) segments → i < length items
     → get_or items i d ≡ segment_item (start + (place + total size_of (take i segments))) (get_or segments i (Hole 0))
 item-here start place segments items i d e inside =
     let same : (start + place) + total size_of (take i segments) ≡ start + (place + total size_of (take i segments)) = omega arith in
     item-at (start + place) segments items i d (Hole 0) e inside ∙ ap (λ k. segment_item k (get_or segments i (Hole 0))) same
 
-pub items-on : (g : Legend) (off start place i : ℕ) (segments : List Segment) (items : List SegmentItem) (old now new : List Piece) (x : Piece) → items ≡ segment_items_from (start + place) segments → i < length items
+pub items-on : (g : Legend) (off start place i : ℕ) (segments : List Segment) (items : List SegmentItem) (old now new : List Piece) (x : Piece)
+    → items ≡ segment_items_from (start + place) segments → i < length items
     → now ≡ old ++ segment_pieces g (off + place) (take i segments) → new ≡ now ++ x ∷ []
     → x ≡ segment_piece g (off + (place + total size_of (take i segments))) (get_or segments i (Hole 0))
     → new ≡ old ++ segment_pieces g (off + place) (take (i + 1) segments)
@@ -110,7 +119,8 @@ items-on g off start place i segments items old now new x e inside p q r =
     let long : length items ≡ length segments = ap length e ∙ length-items (start + place) segments in
     let l : i < length segments = omega arith in
     let same : off + (place + total size_of (take i segments)) ≡ (off + place) + total size_of (take i segments) = omega arith in
-    let here : x ≡ segment_piece g ((off + place) + total size_of (take i segments)) (get_or segments i (Hole 0)) = r ∙ ap (λ k. segment_piece g k (get_or segments i (Hole 0))) same in
+    let here : x ≡ segment_piece g ((off + place) + total size_of (take i segments)) (get_or segments i (Hole 0)) =
+    r ∙ ap (λ k. segment_piece g k (get_or segments i (Hole 0))) same in
     q ∙ (ap (λ z. z ++ x ∷ []) p
     ∙ (append_assoc old (segment_pieces g (off + place) (take i segments)) (x ∷ [])
     ∙ ap (λ z. old ++ z) (ap (λ y. segment_pieces g (off + place) (take i segments) ++ y ∷ []) here ∙ sym (piece-more g (off + place) i segments (Hole 0) l))))
@@ -118,7 +128,8 @@ items-on g off start place i segments items old now new x e inside p q r =
 -- ---- flex blocks
 
 pub blocks-more : (x : Scene) (h end i : ℕ) (blocks : List BlockItem) (b : BlockItem) → i < length blocks → b ≡ get_or blocks i b
-    → item_pieces x h end (drop i blocks) ≡ flex_piece end b.anchor b.size (is_fresh_flex x h b.anchor b.size) ∷ item_pieces x h (end + item_weight b) (drop (i + 1) blocks)
+    → item_pieces x h end (drop i blocks) ≡ flex_piece end b.anchor b.size (is_fresh_flex x h b.anchor b.size) ∷ item_pieces x h (end + item_weight b)
+    (drop (i + 1) blocks)
 blocks-more x h end i blocks b l e =
     ap (item_pieces x h end) (drop_more blocks i b l ∙ ap (λ z. z ∷ drop (i + 1) blocks) (sym e))
 
@@ -127,9 +138,10 @@ pub weights-more : (i : ℕ) (blocks : List BlockItem) (b : BlockItem) → i < l
 weights-more i blocks b l e = ap (total item_weight) (drop_more blocks i b l ∙ ap (λ z. z ∷ drop (i + 1) blocks) (sym e))
 
 -- one more block
-pub blocks-step : (x : Scene) (h end i : ℕ) (blocks : List BlockItem) (b : BlockItem) (k n w : ℕ) (f : Bool) (now new all : List Piece) → i < length blocks → b ≡ get_or blocks i b
-    → new ≡ now ++ record { kind = FlexBlock k n; at = end; size = w; fresh = f } ∷ [] → k ≡ b.anchor → n ≡ b.size → w ≡ flex_weight b.size → f ≡ is_fresh_flex x h b.anchor b.size
-    → now ++ item_pieces x h end (drop i blocks) ≡ all → new ++ item_pieces x h (end + w) (drop (i + 1) blocks) ≡ all
+pub blocks-step : (x : Scene) (h end i : ℕ) (blocks : List BlockItem) (b : BlockItem) (k n w : ℕ) (f : Bool) (now new all : List Piece) → i < length blocks
+    → b ≡ get_or blocks i b
+    → new ≡ now ++ record { kind = FlexBlock k n; at = end; size = w; fresh = f } ∷ [] → k ≡ b.anchor → n ≡ b.size → w ≡ flex_weight b.size
+    → f ≡ is_fresh_flex x h b.anchor b.size → now ++ item_pieces x h end (drop i blocks) ≡ all → new ++ item_pieces x h (end + w) (drop (i + 1) blocks) ≡ all
 blocks-step x h end i blocks b k n w f now new all l is e ek en ew ef so_far =
     let p : Piece = record { kind = FlexBlock k n; at = end; size = w; fresh = f } in
     let q : Piece = flex_piece end b.anchor b.size (is_fresh_flex x h b.anchor b.size) in
@@ -137,14 +149,15 @@ blocks-step x h end i blocks b k n w f now new all l is e ek en ew ef so_far =
     let rest = item_pieces x h (end + w) (drop (i + 1) blocks) in
     ap (λ z. z ++ rest) e
     ∙ (append_assoc now (p ∷ []) rest
-    ∙ (ap (λ z. now ++ z) (ap (λ y. y ∷ rest) same ∙ (ap (λ m. q ∷ item_pieces x h (end + m) (drop (i + 1) blocks)) ew ∙ sym (blocks-more x h end i blocks b l is)))
-    ∙ so_far))
+    ∙ (ap (λ z. now ++ z) (ap (λ y. y ∷ rest) same ∙ (ap (λ m. q ∷ item_pieces x h (end + m) (drop (i + 1) blocks)) ew
+    ∙ sym (blocks-more x h end i blocks b l is))) ∙ so_far))
 
 -- the pieces of blocks as they are listed are the scene's
 pub items-pieces : (x : Scene) (h place at : ℕ) (blocks : List Flex) → item_pieces x h at (block_items_from place blocks) ≡ flex_pieces x h at blocks
 items-pieces x h place at [] = refl
 items-pieces x h place at (b ∷ blocks) =
-    ap (λ l. flex_piece at b.anchor (length b.bytes) (is_fresh_flex x h b.anchor (length b.bytes)) ∷ l) (items-pieces x h (place + weight b) (at + weight b) blocks)
+    ap (λ l. flex_piece at b.anchor (length b.bytes) (is_fresh_flex x h b.anchor (length b.bytes)) ∷ l)
+    (items-pieces x h (place + weight b) (at + weight b) blocks)
 
 pub items-weight : (place : ℕ) (blocks : List Flex) → total item_weight (block_items_from place blocks) ≡ total weight blocks
 items-weight place [] = refl
@@ -165,11 +178,13 @@ module _ {o : Option Heap} (h : Heap) (e : o ≡ Some h) where
 
   -- the items that are told there
   pub turn-items : (start n place : ℕ) (items : List SegmentItem) → IfSome o (λ k. place ≡ place_after (take n k.segments))
-      → IfSome o (λ k. (below : List Segment) (rest : List Segment) → k.segments ≡ below ++ rest → place ≡ place_after below → items ≡ take SEGMENTS_AT_ONCE (segment_items_from (start + place) rest))
+      → IfSome o (λ k. (below : List Segment) (rest : List Segment) → k.segments ≡ below ++ rest → place ≡ place_after below
+      → items ≡ take SEGMENTS_AT_ONCE (segment_items_from (start + place) rest))
       → items ≡ segment_items_from (start + place) (take SEGMENTS_AT_ONCE (drop n h.segments))
   turn-items start n place items at f =
       let here : place ≡ place_after (take n h.segments) = at-heap (λ k. place ≡ place_after (take n k.segments)) at in
-      let told = at-heap (λ k. (below : List Segment) (rest : List Segment) → k.segments ≡ below ++ rest → place ≡ place_after below → items ≡ take SEGMENTS_AT_ONCE (segment_items_from (start + place) rest)) f in
+      let told = at-heap (λ k. (below : List Segment) (rest : List Segment) → k.segments ≡ below ++ rest → place ≡ place_after below
+      → items ≡ take SEGMENTS_AT_ONCE (segment_items_from (start + place) rest)) f in
       told (take n h.segments) (drop n h.segments) (sym (take-append-drop n h.segments)) here ∙ take-items SEGMENTS_AT_ONCE (start + place) (drop n h.segments)
 
   pub turn-place : (n place : ℕ) → IfSome o (λ k. place ≡ place_after (take n k.segments)) → place ≡ place_after (take n h.segments)
@@ -181,7 +196,8 @@ pub turn-ends : (start n place : ℕ) (h : Heap) (items : List SegmentItem) (las
     → (start ≤ item_end last) × (item_end last ≤ start + 4194304)
 turn-ends start n place h items last at e l s =
     let front = take SEGMENTS_AT_ONCE (drop n h.segments) in
-    let here : Some last ≡ slice_get (segment_items_from (start + place) front) (length (segment_items_from (start + place) front) - 1) = l ∙ ap (λ xs. slice_get xs (length xs - 1)) e in
+    let here : Some last ≡ slice_get (segment_items_from (start + place) front) (length (segment_items_from (start + place) front) - 1) =
+    l ∙ ap (λ xs. slice_get xs (length xs - 1)) e in
     let ends : item_end last ≡ (start + place) + total size_of front = last-ends (start + place) front last here in
     let after = after-add n h.segments in
     let some = total-take size_of (n + SEGMENTS_AT_ONCE) h.segments in
@@ -196,10 +212,19 @@ pieces-long g p [] = refl
 pieces-long g p (x ∷ xs) = ap suc (pieces-long g (p + size_of x) xs)
 
 -- at most 64 pieces more
-pub pieces-turn : (g : Legend) (p : ℕ) (xs : List Segment) (now new : List Piece) → new ≡ now ++ segment_pieces g p (take SEGMENTS_AT_ONCE xs) → length new ≤ length now + SEGMENTS_AT_ONCE
-pieces-turn g p xs now new e = omega (arith, ap length e, length-append now (segment_pieces g p (take SEGMENTS_AT_ONCE xs)), pieces-long g p (take SEGMENTS_AT_ONCE xs), length-take SEGMENTS_AT_ONCE xs)
+pub pieces-turn : (g : Legend) (p : ℕ) (xs : List Segment) (now new : List Piece) → new ≡ now ++ segment_pieces g p (take SEGMENTS_AT_ONCE xs)
+    → length new ≤ length now + SEGMENTS_AT_ONCE
+pieces-turn g p xs now new e =
+    omega (
+      arith,
+      ap length e,
+      length-append now (segment_pieces g p (take SEGMENTS_AT_ONCE xs)),
+      pieces-long g p (take SEGMENTS_AT_ONCE xs),
+      length-take SEGMENTS_AT_ONCE xs,
+    )
 
-pub more-some : (p : ℕ) (rest : List Segment) → 0 < length rest → more_pieces p rest ≡ record { kind = MoreSegments (length rest); at = p; size = total size_of rest; fresh = false } ∷ []
+pub more-some : (p : ℕ) (rest : List Segment) → 0 < length rest
+    → more_pieces p rest ≡ record { kind = MoreSegments (length rest); at = p; size = total size_of rest; fresh = false } ∷ []
 more-some p [] l = absurd (omega arith)
 more-some p (x ∷ rest) l = refl
 
@@ -208,7 +233,8 @@ more-none p [] l = refl
 more-none p (x ∷ rest) l = absurd (omega arith)
 
 -- a first piece, segments, more of them, and a last piece
-pub heap-join : (old segs more a b c e : List Piece) (desc top : Piece) → a ≡ old ++ desc ∷ [] → b ≡ a ++ segs → c ≡ b ++ more → e ≡ c ++ top ∷ [] → e ≡ old ++ desc ∷ ((segs ++ more) ++ top ∷ [])
+pub heap-join : (old segs more a b c e : List Piece) (desc top : Piece) → a ≡ old ++ desc ∷ [] → b ≡ a ++ segs → c ≡ b ++ more → e ≡ c ++ top ∷ []
+    → e ≡ old ++ desc ∷ ((segs ++ more) ++ top ∷ [])
 heap-join old segs more a b c e desc top p q r s =
     s ∙ (ap (λ z. z ++ top ∷ []) (r ∙ ap (λ z. z ++ more) (q ∙ ap (λ z. z ++ segs) p))
     ∙ (ap (λ z. z ++ top ∷ []) (append_assoc (old ++ desc ∷ []) segs more)
@@ -222,8 +248,8 @@ in-area (heap_of.Task i) p (Hole n) = omega arith
 in-area heap_of.Module p (Used bytes) = omega arith
 in-area heap_of.Module p (Hole n) = omega arith
 
-pub item-in-area : (heap : HeapOf) (place : ℕ) (segments : List Segment) (items : List SegmentItem) (i : ℕ) (d : SegmentItem) → items ≡ segment_items_from (heap_start_of heap + place) segments → i < length items
-    → IsInArea heap (get_or items i d)
+pub item-in-area : (heap : HeapOf) (place : ℕ) (segments : List Segment) (items : List SegmentItem) (i : ℕ) (d : SegmentItem)
+    → items ≡ segment_items_from (heap_start_of heap + place) segments → i < length items → IsInArea heap (get_or items i d)
 item-in-area heap place segments items i d e inside =
     let same : (heap_start_of heap + place) + total size_of (take i segments) ≡ heap_start_of heap + (place + total size_of (take i segments)) = omega arith in
     subst (IsInArea heap) (sym (item-at (heap_start_of heap + place) segments items i d (Hole 0) e inside

@@ -52,7 +52,8 @@ pub total-more : {A : Type 0} (f : A → ℕ) (xs : List A) (i : ℕ) (x : A) �
 total-more f xs i x e = ap (total f) (front-some xs i x e) ∙ (total-append f (take i xs) (x ∷ []) ∙ omega arith)
 
 -- ---- a walk over a slice that is at a member, which it leaves or takes
-module _ {A B : Type 0} (first : List A → B) (xs : List A) (i : ℕ) (x : A) (inside : i < length xs) (is : x ≡ get_or xs i x) (so_far : first (drop i xs) ≡ first xs) where
+module _ {A B : Type 0} (first : List A → B) (xs : List A) (i : ℕ) (x : A) (inside : i < length xs) (is : x ≡ get_or xs i x)
+    (so_far : first (drop i xs) ≡ first xs) where
   here : first (x ∷ drop (i + 1) xs) ≡ first xs
   here = ap (λ y. first (y ∷ drop (i + 1) xs)) is ∙ ap first (sym (drop_more xs i x inside)) ∙ so_far
 

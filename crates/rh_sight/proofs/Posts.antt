@@ -59,7 +59,8 @@ none-waits h (p ∷ ps) ms = none-waits h ps ms
 abbrev Others : ℕ → List Seat → Type 0
 Others h seats = AllByRecursion (λ (s : Seat). (s.handle == h) ≡ false) seats
 
-others-above : (least next h : ℕ) (tasks : List Task) (seats : List Seat) → seat_handles seats ≡ task_handles tasks → Rise (λ (t : Task). t.handle) least next tasks → h < least → Others h seats
+others-above : (least next h : ℕ) (tasks : List Task) (seats : List Seat) → seat_handles seats ≡ task_handles tasks
+    → Rise (λ (t : Task). t.handle) least next tasks → h < least → Others h seats
 others-above least next h tasks [] e r l = tt
 others-above least next h [] (s ∷ seats) e r l = absurd (cc)
 others-above least next h (t ∷ tasks) (s ∷ seats) e r l =
@@ -68,18 +69,21 @@ others-above least next h (t ∷ tasks) (s ∷ seats) e r l =
     let low : least ≤ t.handle = r.0 in
     (ne_eqb s.handle h (λ q. omega arith), others-above (t.handle + 1) next h tasks seats rest r.1 (omega arith))
 
-held-other : (next h : ℕ) (seats : List Seat) → AllByRecursion (HoldsOwn next) seats → Others h seats → find (is_held_by h) (map (item_of true) (flat_map (λ (s : Seat). held_list s.holds) seats)) ≡ None
+held-other : (next h : ℕ) (seats : List Seat) → AllByRecursion (HoldsOwn next) seats → Others h seats
+    → find (is_held_by h) (map (item_of true) (flat_map (λ (s : Seat). held_list s.holds) seats)) ≡ None
 held-other next h [] own off = refl
 held-other next h (s ∷ seats) own off = go s.holds own.0 (held-other next h seats own.1 off.1)
   where
-    go : (o : Option Parcel) → IfSome o (IsHeld next s.handle) → find (is_held_by h) (map (item_of true) (flat_map (λ (x : Seat). held_list x.holds) seats)) ≡ None
+    go : (o : Option Parcel) → IfSome o (IsHeld next s.handle)
+        → find (is_held_by h) (map (item_of true) (flat_map (λ (x : Seat). held_list x.holds) seats)) ≡ None
         → find (is_held_by h) (map (item_of true) (held_list o ++ flat_map (λ (x : Seat). held_list x.holds) seats)) ≡ None
     go None is rest = rest
     go (Some p) is rest =
         let mine : (p.to == h) ≡ false = ap (λ n. n == h) is.own ∙ off.0 in
         rw mine rest
 
-held-first : (least next given h : ℕ) (tasks : List Task) (seats : List Seat) → seat_handles seats ≡ task_handles tasks → Rise (λ (t : Task). t.handle) least next tasks → AllByRecursion (HoldsOwn given) seats
+held-first : (least next given h : ℕ) (tasks : List Task) (seats : List Seat) → seat_handles seats ≡ task_handles tasks
+    → Rise (λ (t : Task). t.handle) least next tasks → AllByRecursion (HoldsOwn given) seats
     → ref_or_none (find (is_held_by h) (map (item_of true) (flat_map (λ (s : Seat). held_list s.holds) seats))) ≡ ref_of (held_by h seats)
 held-first least next given h tasks [] e r own = refl
 held-first least next given h [] (s ∷ seats) e r own = absurd (cc)
@@ -88,9 +92,11 @@ held-first least next given h (t ∷ tasks) (s ∷ seats) e r own =
     let rest : seat_handles seats ≡ task_handles tasks = cc in
     go here rest (s.handle == h) refl s.holds own.0 (held-first (t.handle + 1) next given h tasks seats rest r.1 own.1)
   where
-    go : s.handle ≡ t.handle → seat_handles seats ≡ task_handles tasks → (b : Bool) → (s.handle == h) ≡ b → (o : Option Parcel) → IfSome o (IsHeld given s.handle)
+    go : s.handle ≡ t.handle → seat_handles seats ≡ task_handles tasks → (b : Bool) → (s.handle == h) ≡ b → (o : Option Parcel)
+        → IfSome o (IsHeld given s.handle)
         → ref_or_none (find (is_held_by h) (map (item_of true) (flat_map (λ (x : Seat). held_list x.holds) seats))) ≡ ref_of (held_by h seats)
-        → ref_or_none (find (is_held_by h) (map (item_of true) (held_list o ++ flat_map (λ (x : Seat). held_list x.holds) seats))) ≡ ref_of (if b then o else held_by h seats)
+        → ref_or_none (find (is_held_by h) (map (item_of true) (held_list o ++ flat_map (λ (x : Seat). held_list x.holds) seats))) ≡ ref_of
+        (if b then o else held_by h seats)
     go here rest true k None is more =
         let same : s.handle ≡ h = eqb-true s.handle h k in
         ap ref_or_none (held-other given h seats own.1 (others-above (t.handle + 1) next h tasks seats rest r.1 (omega arith)))

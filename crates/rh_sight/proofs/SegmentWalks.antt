@@ -18,7 +18,8 @@ pub length-items : (p : ℕ) (segments : List Segment) → length (segment_items
 length-items p [] = refl
 length-items p (g ∷ segments) = ap suc (length-items (p + size_of g) segments)
 
-pub pieces-append : (g : Legend) (p : ℕ) (xs ys : List Segment) → segment_pieces g p (xs ++ ys) ≡ segment_pieces g p xs ++ segment_pieces g (p + total size_of xs) ys
+pub pieces-append : (g : Legend) (p : ℕ) (xs ys : List Segment)
+    → segment_pieces g p (xs ++ ys) ≡ segment_pieces g p xs ++ segment_pieces g (p + total size_of xs) ys
 pieces-append g p [] ys = let same : p ≡ p + 0 = omega arith in ap (λ q. segment_pieces g q ys) same
 pieces-append g p (x ∷ xs) ys =
     let same : (p + size_of x) + total size_of xs ≡ p + (size_of x + total size_of xs) = omega arith in
@@ -29,12 +30,14 @@ item-end p (Used bytes) = omega arith
 item-end p (Hole size) = omega arith
 
 -- the last of some segments ends where they all do
-last-at : (p : ℕ) (g : Segment) (gs : List Segment) (x : SegmentItem) → Some x ≡ slice_get (segment_items_from p (g ∷ gs)) (length (segment_items_from (p + size_of g) gs)) → item_end x ≡ p + total size_of (g ∷ gs)
+last-at : (p : ℕ) (g : Segment) (gs : List Segment) (x : SegmentItem)
+    → Some x ≡ slice_get (segment_items_from p (g ∷ gs)) (length (segment_items_from (p + size_of g) gs)) → item_end x ≡ p + total size_of (g ∷ gs)
 last-at p g [] x e = let is : x ≡ segment_item p g = cc in ap item_end is ∙ item-end p g
 last-at p g (f ∷ gs) x e =
     let rest : item_end x ≡ (p + size_of g) + total size_of (f ∷ gs) = last-at (p + size_of g) f gs x e in rest ∙ omega arith
 
-pub last-ends : (p : ℕ) (gs : List Segment) (x : SegmentItem) → Some x ≡ slice_get (segment_items_from p gs) (length (segment_items_from p gs) - 1) → item_end x ≡ p + total size_of gs
+pub last-ends : (p : ℕ) (gs : List Segment) (x : SegmentItem) → Some x ≡ slice_get (segment_items_from p gs) (length (segment_items_from p gs) - 1)
+    → item_end x ≡ p + total size_of gs
 last-ends p [] x e = absurd (cc)
 last-ends p (g ∷ gs) x e = last-at p g gs x (e ∙ ap (slice_get (segment_items_from p (g ∷ gs))) (omega arith))
 

@@ -41,7 +41,8 @@ unfolding anchors
 small [] h q e = absurd (cc)
 small (b ∷ blocks) h q e = go (eqb q b.anchor) refl e (small blocks h.2 q)
   where
-    go : (t : Bool) → eqb q b.anchor ≡ t → (t || list_any (eqb q) (anchors blocks)) ≡ true → (list_any (eqb q) (anchors blocks) ≡ true → q < anchor_count) → q < anchor_count
+    go : (t : Bool) → eqb q b.anchor ≡ t → (t || list_any (eqb q) (anchors blocks)) ≡ true → (list_any (eqb q) (anchors blocks) ≡ true → q < anchor_count)
+        → q < anchor_count
     go true s e rest = let same : q ≡ b.anchor = eqb-true _ _ s in omega (arith, h.0)
     go false s e rest = rest e
 
@@ -80,8 +81,10 @@ items-few x h at (b ∷ blocks) = let rest = items-few x h (at + item_weight b) 
 -- ---- a heap's pieces
 
 -- segments that aren't drawn one by one
-pub more-then : (off p count end place at : ℕ) (rest : List Segment) (b c : List Piece) (x : Piece) → at ≡ off → place ≡ first_place + p → count ≡ length rest → end ≡ place + total size_of rest
-    → 0 < count → x ≡ record { kind = MoreSegments count; at = at + place; size = end - place; fresh = false } → c ≡ b ++ x ∷ [] → c ≡ b ++ more_pieces (off + first_place + p) rest
+pub more-then : (off p count end place at : ℕ) (rest : List Segment) (b c : List Piece) (x : Piece) → at ≡ off → place ≡ first_place + p
+    → count ≡ length rest → end ≡ place + total size_of rest
+    → 0 < count → x ≡ record { kind = MoreSegments count; at = at + place; size = end - place; fresh = false } → c ≡ b ++ x ∷ []
+    → c ≡ b ++ more_pieces (off + first_place + p) rest
 more-then off p count end place at rest b c x ea ep ec ee lt ex e =
     let q : at + place ≡ off + first_place + p = omega arith in
     let n : end - place ≡ total size_of rest = omega arith in

@@ -30,7 +30,8 @@ unfolding held
 held_below f fs zero h = refl
 held_below f fs (suc n) h =
     let r = held_below f fs n (omega arith) in
-    let s : one_if (eqb f.anchor n || has_anchor fs n) ≡ one_if (has_anchor fs n) = ap (λ t. one_if (t || has_anchor fs n)) (eqb_apart f.anchor n (λ e. absurd (omega arith))) in
+    let s : one_if (eqb f.anchor n || has_anchor fs n) ≡ one_if (has_anchor fs n) =
+    ap (λ t. one_if (t || has_anchor fs n)) (eqb_apart f.anchor n (λ e. absurd (omega arith))) in
     omega arith
 
 held_above : (f : Flex) (fs : List Flex) (n : ℕ) → IsFree f.anchor fs → f.anchor < n → held (f ∷ fs) n ≡ suc (held fs n)
@@ -71,7 +72,8 @@ record Counted (b : List ℕ) (fs : List Flex) (n : ℕ) : Type 0 where
   back : words_in_use b n ≡ held fs n → are_hung b fs n ≡ true
 
 module _ (b : List ℕ) (fs : List Flex) (lead : (k : ℕ) → has_anchor fs k ≡ true → word b (4 * k) ≡ 0 → ⊥) where
-  hung_on : (n d : ℕ) → words_in_use b (suc n) ≡ words_in_use b n + d → held fs (suc n) ≡ held fs n + d → is_hung b fs n ≡ true → Counted b fs n → Counted b fs (suc n)
+  hung_on : (n d : ℕ) → words_in_use b (suc n) ≡ words_in_use b n + d → held fs (suc n) ≡ held fs n + d → is_hung b fs n ≡ true → Counted b fs n
+      → Counted b fs (suc n)
   unfolding are_hung
   hung_on n d w h i c =
       let m = c.most in
@@ -81,7 +83,8 @@ module _ (b : List ℕ) (fs : List Flex) (lead : (k : ℕ) → has_anchor fs k �
         back = λ e. and_both (are_hung b fs n) (is_hung b fs n) (c.back (omega arith)) i;
       }
 
-  loose_on : (n : ℕ) → words_in_use b (suc n) ≡ words_in_use b n + 1 → held fs (suc n) ≡ held fs n + 0 → is_hung b fs n ≡ false → Counted b fs n → Counted b fs (suc n)
+  loose_on : (n : ℕ) → words_in_use b (suc n) ≡ words_in_use b n + 1 → held fs (suc n) ≡ held fs n + 0 → is_hung b fs n ≡ false → Counted b fs n
+      → Counted b fs (suc n)
   unfolding are_hung
   loose_on n w h i c =
       let m = c.most in

@@ -1,5 +1,6 @@
 -- A block gets bytes at its end.
-use Rattle.std.proofs.Common.{◌≡◌, ℕ, ◌+◌, ◌-◌, ◌/◌, ◌*◌, ◌<◌, ◌≤◌, ◌≢◌, ◌⊎◌, inl, inr, Bool, true, false, List, [], ◌∷◌, ◌++◌, length, replicate, take, drop, ltb, refl, sym, ap, subst, ◌∙◌, arith}
+use Rattle.std.proofs.Common.{◌≡◌, ℕ, ◌+◌, ◌-◌, ◌/◌, ◌*◌, ◌<◌, ◌≤◌, ◌≢◌, ◌⊎◌, inl, inr, Bool, true, false, List, [], ◌∷◌, ◌++◌, length, replicate, take, drop}
+use Rattle.std.proofs.Common.{ltb, refl, sym, ap, subst, ◌∙◌, arith}
 use Rattle.std.proofs.lemmas.List.{length-replicate, take_at, take_all, drop_all, append-nil}
 use Rattle.std.proofs.Math.ListN.{length-append}
 use Rattle.std.proofs.lemmas.Bool.{cases_eq, cases_lt}
@@ -46,7 +47,8 @@ appended_words b b2 b3 d s k place size from n to cut xs w t ef en et sh same fi
     let o : SameOutside b2 d (place + 4) to = same_both (wider o3 (omega arith) (omega arith)) (wider o4 (omega arith) (omega arith)) in
     let hd : word d (place + 4) ≡ length nb = word_same b3 d (place + 4) (in_below o4 (omega arith)) ∙ h3 ∙ sym ln in
     let e1 : part d p size ≡ old =
-    part_same b3 d p size (in_below o4 (omega arith)) ∙ part_same b2 b3 p size (in_above o3 (omega arith)) ∙ part_same b b2 p size (part_of same (omega arith) (omega arith)) ∙ whole in
+    part_same b3 d p size (in_below o4 (omega arith)) ∙ part_same b2 b3 p size (in_above o3 (omega arith))
+    ∙ part_same b b2 p size (part_of same (omega arith) (omega arith)) ∙ whole in
     let e2 : part d (p + size) (length xs) ≡ xs = ap (λ c. part c (p + size) (length xs)) e ∙ part-put b3 (p + size) xs (length xs) refl (omega arith) in
     let now : part d p (length nb) ≡ nb =
     ap (part d p) ln ∙ part_more d p size (length xs) ∙ ap (λ l. l ++ part d (p + size) (length xs)) e1 ∙ ap (λ l. old ++ l) e2 in
@@ -69,7 +71,8 @@ other : {m n : Memory} {id : ℕ} (from : ℕ) → OnlyArea m n id → from ≢ 
 unfolding bytes
 other from only ne = ap (λ o. unwrap_or o []) (only.others from ne)
 
-pub source_inside : (m n : Memory) (id from place more : ℕ) → OnlyArea m n id → length (bytes m id) ≤ length (bytes n id) → place + more ≤ length (bytes m from) → place + more ≤ length (bytes n from)
+pub source_inside : (m n : Memory) (id from place more : ℕ) → OnlyArea m n id → length (bytes m id) ≤ length (bytes n id)
+    → place + more ≤ length (bytes m from) → place + more ≤ length (bytes n from)
 source_inside m n id from place more only l h = elim (cases_eq from id) [
   | inl q ↦ subst (λ i. place + more ≤ length (bytes n i)) (sym q) (omega (arith, l, subst (λ i. place + more ≤ length (bytes m i)) q h))
   | inr ne ↦ rw (other from only ne) h
@@ -80,8 +83,8 @@ unfolding part
 no_part b c place more e = rw e refl
 
 -- they stay below the blocks
-pub source_stays : (m n : Memory) (id from place more hi : ℕ) → OnlyArea m n id → SameIn (bytes m id) (bytes n id) heap_place hi → (from ≡ id → 0 < more → heap_place ≤ place) → (from ≡ id → place + more ≤ hi)
-    → part (bytes n from) place more ≡ part (bytes m from) place more
+pub source_stays : (m n : Memory) (id from place more hi : ℕ) → OnlyArea m n id → SameIn (bytes m id) (bytes n id) heap_place hi
+    → (from ≡ id → 0 < more → heap_place ≤ place) → (from ≡ id → place + more ≤ hi) → part (bytes n from) place more ≡ part (bytes m from) place more
 source_stays m n id from place more hi only o low high = elim (cases_eq from id) [
   | inl q ↦ ap (λ i. part (bytes n i) place more) q ∙ here q (cases_lt 0 more) ∙ ap (λ i. part (bytes m i) place more) (sym q)
   | inr ne ↦ ap (λ (b : List ℕ). part b place more) (other from only ne)
@@ -105,7 +108,8 @@ refitted bytes xs =
     let is : fitted n bytes ≡ bytes ++ z = ap (λ l. l ++ z) (take_all n bytes (omega arith)) in
     let front : take (length bytes) (bytes ++ z) ≡ bytes = take_at bytes z (length bytes) refl in
     let rest : drop n (bytes ++ z) ≡ [] = drop_all n (bytes ++ z) (omega (arith, length-append bytes z, lz)) in
-    ap (λ l. written l (length bytes) xs) is ∙ ap (λ l. l ++ (xs ++ drop n (bytes ++ z))) front ∙ ap (λ l. bytes ++ (xs ++ l)) rest ∙ ap (λ l. bytes ++ l) (append-nil xs)
+    ap (λ l. written l (length bytes) xs) is ∙ ap (λ l. l ++ (xs ++ drop n (bytes ++ z))) front ∙ ap (λ l. bytes ++ (xs ++ l)) rest
+    ∙ ap (λ l. bytes ++ l) (append-nil xs)
 
 module _ (free k : ℕ) (xs : List ℕ) (s : Slot) (place size : ℕ) (cut : Split Flex) (t : FoundAt k s place size cut) where
   abbrev more : ℕ
@@ -133,9 +137,11 @@ module _ (free k : ℕ) (xs : List ℕ) (s : Slot) (place size : ℕ) (cut : Spl
   overwritten : slot_put k (length cut.here.bytes) xs longer ≡ Ok (with_bytes cut (cut.here.bytes ++ xs) s)
   unfolding slot_put slot_block found_or ◌>>=◌
   overwritten =
-      ap (λ (o : Granted (Split Flex)). o >>= λ b. refuse_if (ltb (length b.here.bytes) more) BadRange >>= λ _. Ok (with_bytes b (written b.here.bytes (length cut.here.bytes) xs) longer))
+      ap (λ (o : Granted (Split Flex)). o >>= λ b. refuse_if (ltb (length b.here.bytes) more) BadRange
+      >>= λ _. Ok (with_bytes b (written b.here.bytes (length cut.here.bytes) xs) longer))
       (ap (λ o. found_or o NoBlock) (block_of-at k longer there refl t.free t.anchor))
-      ∙ refuse_if-false (ltb (length there.here.bytes) more) BadRange _ (ltb_no (length there.here.bytes) more (omega (arith, length-fitted more cut.here.bytes)))
+      ∙ refuse_if-false (ltb (length there.here.bytes) more) BadRange _ (ltb_no (length there.here.bytes) more
+      (omega (arith, length-fitted more cut.here.bytes)))
       ∙ ap (λ l. Ok (with_bytes cut l s)) (refitted cut.here.bytes xs)
 
   pub append_done : need ≤ free → slot_append free k xs s ≡ Ok (with_bytes cut (cut.here.bytes ++ xs) s)

@@ -5,7 +5,8 @@ use Rattle.rh_defs.specs.declared.sizes.TheConstants.{PAGE}
 use Rattle.rh_defs.specs.Bytes.{part, put}
 use Rattle.rh_defs.specs.Memory.{Memory, Edited, Resized, bytes, with_bytes, grown, shrunk}
 use Rattle.rh_defs.proofs.BytesLaws.{put_inside, put_outside, get-part, length-part}
-use Rattle.rh_defs.proofs.MemoryLaws.{bytes-with_bytes, Edited-with_bytes, SameIn-grown, SameIn-shrunk, length-grown, length-shrunk, OnlyArea-grown, OnlyArea-shrunk}
+use Rattle.rh_defs.proofs.MemoryLaws.{bytes-with_bytes, Edited-with_bytes, SameIn-grown, SameIn-shrunk, length-grown, length-shrunk, OnlyArea-grown}
+use Rattle.rh_defs.proofs.MemoryLaws.{OnlyArea-shrunk}
 use Rattle.rh_defs.proofs.SlotLaws.{Carried}
 
 -- bytes put into an area
@@ -14,7 +15,8 @@ Edited-put m n id lo hi xs e h =
     subst (λ (r : Memory). Edited m r id lo hi) (sym e) (Edited-with_bytes m id lo hi (put (bytes m id) lo xs) (put_outside (bytes m id) lo xs hi h))
 
 slid : (b : List ℕ) (from to k : ℕ) → to + k ≤ length b → Carried b (put b to (part b from k)) from to k
-slid b from to k h = record { each = λ i u. put_inside b to (part b from k) (to + i) i (omega (arith, length-part b from k)) refl (omega arith) ∙ get-part b from k i u }
+slid b from to k h =
+    record { each = λ i u. put_inside b to (part b from k) (to + i) i (omega (arith, length-part b from k)) refl (omega arith) ∙ get-part b from k i u }
 
 -- bytes slid in an area
 pub Carried-slid : (m n : Memory) (id from to k : ℕ) → n ≡ with_bytes m id (put (bytes m id) to (part (bytes m id) from k)) → to + k ≤ length (bytes m id)
@@ -24,12 +26,14 @@ Carried-slid m n id from to k e h =
     let q : bytes n id ≡ xs = ap (λ (r : Memory). bytes r id) e ∙ bytes-with_bytes m id xs in
     subst (λ c. Carried (bytes m id) c from to k) (sym q) (slid (bytes m id) from to k h)
 
-pub Resized-grown : (m n : Memory) (id k count : ℕ) → n ≡ grown m id k → k ≤ m.free → length (bytes m id) + PAGE * k ≡ PAGE * count → Resized m n id (length (bytes m id)) count
+pub Resized-grown : (m n : Memory) (id k count : ℕ) → n ≡ grown m id k → k ≤ m.free → length (bytes m id) + PAGE * k ≡ PAGE * count
+    → Resized m n id (length (bytes m id)) count
 Resized-grown m n id k count e h l =
     subst (λ (r : Memory). Resized m r id (length (bytes m id)) count) (sym e)
     (record { same = SameIn-grown m id k 0 (length (bytes m id)) (omega arith); len = length-grown m id k ∙ l; only = OnlyArea-grown m id k h })
 
-pub Resized-shrunk : (m n : Memory) (id keep k count : ℕ) → n ≡ shrunk m id k → keep + PAGE * k ≤ length (bytes m id) → length (bytes m id) ≡ PAGE * count + PAGE * k → Resized m n id keep count
+pub Resized-shrunk : (m n : Memory) (id keep k count : ℕ) → n ≡ shrunk m id k → keep + PAGE * k ≤ length (bytes m id)
+    → length (bytes m id) ≡ PAGE * count + PAGE * k → Resized m n id keep count
 Resized-shrunk m n id keep k count e h l =
     subst (λ (r : Memory). Resized m r id keep count) (sym e)
     (record { same = SameIn-shrunk m id k 0 keep h; len = length-shrunk m id k ∙ omega arith; only = OnlyArea-shrunk m id k (omega arith) })

@@ -1,5 +1,6 @@
 -- A block gets other bytes.
-use Rattle.std.proofs.Common.{◌≡◌, ℕ, ◌+◌, ◌-◌, ◌*◌, ◌/◌, ◌<◌, ◌≤◌, inl, inr, ℤ, pos, negsuc, Bool, true, false, List, [], ◌∷◌, ◌++◌, length, replicate, take, drop, ltb, refl, sym, ap, subst, ◌∙◌, arith}
+use Rattle.std.proofs.Common.{◌≡◌, ℕ, ◌+◌, ◌-◌, ◌*◌, ◌/◌, ◌<◌, ◌≤◌, inl, inr, ℤ, pos, negsuc, Bool, true, false, List, [], ◌∷◌, ◌++◌, length, replicate, take}
+use Rattle.std.proofs.Common.{drop, ltb, refl, sym, ap, subst, ◌∙◌, arith}
 use Rattle.std.proofs.lemmas.List.{length-replicate, length-take-le, length-drop, take_all, drop_all, append-nil}
 use Rattle.std.proofs.Math.ListN.{length-append}
 use Rattle.std.proofs.lemmas.Bool.{cases_lt}
@@ -10,12 +11,15 @@ use Rattle.rh_defs.specs.Bytes.{word, part, put, SameIn, SameOutside}
 use Rattle.rh_defs.specs.Pieces.{total, pages_for, zeros, moved, written, Split}
 use Rattle.rh_defs.specs.Heap.{fitted}
 use Rattle.rh_defs.specs.Slot as slot
-use Rattle.rh_defs.specs.Slot.{Flex, Slot, weight, flex_weight, slot_length, slot_pages, IsFree, HaveAnchors, with_bytes, opened_at, taken_out, lacks_room, slot_extend, slot_mid, slot_put, slot_read}
+use Rattle.rh_defs.specs.Slot.{Flex, Slot, weight, flex_weight, slot_length, slot_pages, IsFree, HaveAnchors, with_bytes, opened_at, taken_out, lacks_room}
+use Rattle.rh_defs.specs.Slot.{slot_extend, slot_mid, slot_put, slot_read}
 use Rattle.rh_defs.specs.SlotImage.{Lie, Hang, SlotWords, flex_place, heap_place}
 use Rattle.rh_defs.proofs.Anchors.{anchors-here}
-use Rattle.rh_defs.proofs.BytesLaws.{word_same, part_same, parts_same, part_more, part-part, part-drop, part-put, part-put_below, part-put_above, length-part, put_outside, SameOutside-self}
+use Rattle.rh_defs.proofs.BytesLaws.{word_same, part_same, parts_same, part_more, part-part, part-drop, part-put, part-put_below, part-put_above, length-part}
+use Rattle.rh_defs.proofs.BytesLaws.{put_outside, SameOutside-self}
 use Rattle.rh_defs.proofs.HeapLists.{sum-append, ltb_yes, ltb_no}
-use Rattle.rh_defs.proofs.SlotLaws.{part_of, wider, same_both, in_below, in_above, in_both, Carried, Lie-split, Lie-same, Lie-unique, Hang-split, Hang-same, HaveAnchors-cut}
+use Rattle.rh_defs.proofs.SlotLaws.{part_of, wider, same_both, in_below, in_above, in_both, Carried, Lie-split, Lie-same, Lie-unique, Hang-split, Hang-same}
+use Rattle.rh_defs.proofs.SlotLaws.{HaveAnchors-cut}
 use Rattle.rh_slot.specs.Row.{Row, Shifted}
 use Rattle.rh_slot.specs.Flex.{FoundAt, Found, spliced, splice}
 use Rattle.rh_defs.specs.Chain.{◌>>=◌, refuse_if}
@@ -27,22 +31,24 @@ pub length_with : (s : Slot) (k place size : ℕ) (cut : Split Flex) (bytes : Li
     → slot_length (with_bytes cut bytes s) + flex_weight size ≡ slot_length s + flex_weight (length bytes)
 length_with s k place size cut bytes t =
     let new : Flex = record { anchor = cut.here.anchor; bytes = bytes } in
-    let old : total weight s.blocks ≡ total weight cut.before + (weight cut.here + total weight cut.after) = ap (total weight) t.is ∙ sum-append weight cut.before (cut.here ∷ cut.after) in
-    let now : total weight (cut.before ++ new ∷ cut.after) ≡ total weight cut.before + (flex_weight (length bytes) + total weight cut.after) = sum-append weight cut.before (new ∷ cut.after) in
+    let old : total weight s.blocks ≡ total weight cut.before + (weight cut.here + total weight cut.after) =
+    ap (total weight) t.is ∙ sum-append weight cut.before (cut.here ∷ cut.after) in
+    let now : total weight (cut.before ++ new ∷ cut.after) ≡ total weight cut.before + (flex_weight (length bytes) + total weight cut.after) =
+    sum-append weight cut.before (new ∷ cut.after) in
     let wl : flex_weight size ≡ weight cut.here = ap flex_weight t.long in
     omega arith
 
 -- the blocks above a block, where bytes in it have changed
-pub row_over : (b b1 : List ℕ) (s : Slot) (k place size from n : ℕ) → SlotWords b s → Found k s place size → from ≡ place + flex_weight size → from + n ≡ slot_length s
-    → SameOutside b b1 (place + 8) from → Row b1 from n
+pub row_over : (b b1 : List ℕ) (s : Slot) (k place size from n : ℕ) → SlotWords b s → Found k s place size → from ≡ place + flex_weight size
+    → from + n ≡ slot_length s → SameOutside b b1 (place + 8) from → Row b1 from n
 row_over b b1 s k place size from n w t ef en o =
     let a = above b s k place size from n t.cut w t.at ef en in
     let sum = a.1 in
     record { blocks = t.cut.after; lie = Lie-same b b1 from (from + n) t.cut.after (in_above o (omega arith)) (omega arith) a.0; sum = a.1; anchors = a.2 }
 
 -- bytes in a block change, the blocks above slide, and the block gets its new size and bytes
-pub changed : (b b1 c d : List ℕ) (s : Slot) (k place size from n to : ℕ) (cut : Split Flex) (bytes : List ℕ) → SlotWords b s → FoundAt k s place size cut → from ≡ place + flex_weight size → from + n ≡ slot_length s
-    → SameOutside b b1 (place + 8) from
+pub changed : (b b1 c d : List ℕ) (s : Slot) (k place size from n to : ℕ) (cut : Split Flex) (bytes : List ℕ) → SlotWords b s → FoundAt k s place size cut
+    → from ≡ place + flex_weight size → from + n ≡ slot_length s → SameOutside b b1 (place + 8) from
     → ((fs : List Flex) → Lie b1 from fs → total weight fs ≡ n → Shifted b1 c to fs) → SameIn b1 c heap_place to → to + n ≤ length d
     → to ≡ place + flex_weight (length bytes)
     → SameOutside c d (place + 4) to → word d (place + 4) ≡ length bytes → part d (place + 8) (length bytes) ≡ bytes
@@ -62,10 +68,13 @@ changed b b1 c d s k place size from n to cut bytes w t ef en ob sh same fits et
     let apart_of = HaveAnchors-cut xs f ys (subst HaveAnchors t.is w.anchors) in
     let sm = apart_of.small in
     let header : word d place ≡ 32768 + 4 * f.anchor =
-    word_same c d place (in_below o (omega arith)) ∙ word_same b1 c place (part_of same (omega arith) (omega arith)) ∙ word_same b b1 place (in_below ob (omega arith)) ∙ ap (word b) st ∙ lf.0 in
+    word_same c d place (in_below o (omega arith)) ∙ word_same b1 c place (part_of same (omega arith) (omega arith))
+    ∙ word_same b b1 place (in_below ob (omega arith)) ∙ ap (word b) st ∙ lf.0 in
     let link : word d (4 * f.anchor) ≡ 32768 + place + 8 =
-    word_same c d (4 * f.anchor) (in_below o (omega arith)) ∙ x.hung.others f.anchor sm apart_of.after ∙ word_same b b1 (4 * f.anchor) (in_below ob (omega arith)) ∙ hf.0 ∙ ap (λ i. 32768 + i + 8) (sym st) in
-    let below : SameIn b d heap_place place = in_both (in_below ob (omega arith)) (in_both (part_of same (omega arith) (omega arith)) (in_below o (omega arith))) in
+    word_same c d (4 * f.anchor) (in_below o (omega arith)) ∙ x.hung.others f.anchor sm apart_of.after
+    ∙ word_same b b1 (4 * f.anchor) (in_below ob (omega arith)) ∙ hf.0 ∙ ap (λ i. 32768 + i + 8) (sym st) in
+    let below : SameIn b d heap_place place =
+    in_both (in_below ob (omega arith)) (in_both (part_of same (omega arith) (omega arith)) (in_below o (omega arith))) in
     let long = length_with s k place size cut bytes t in (
       rebuilt b d s xs (f ∷ []) (new ∷ []) ys place to w t.is st (omega arith)
           below (omega arith)
@@ -79,8 +88,8 @@ changed b b1 c d s k place size from n to cut bytes w t ef en ob sh same fits et
     )
 
 -- no block has moved
-unmoved : (b : List ℕ) (s : Slot) (k place size from n : ℕ) (cut : Split Flex) → SlotWords b s → FoundAt k s place size cut → from ≡ place + flex_weight size → from + n ≡ slot_length s
-    → (fs : List Flex) → Lie b from fs → total weight fs ≡ n → Shifted b b from fs
+unmoved : (b : List ℕ) (s : Slot) (k place size from n : ℕ) (cut : Split Flex) → SlotWords b s → FoundAt k s place size cut → from ≡ place + flex_weight size
+    → from + n ≡ slot_length s → (fs : List Flex) → Lie b from fs → total weight fs ≡ n → Shifted b b from fs
 unmoved b s k place size from n cut w t ef en fs l e =
     let a = above b s k place size from n cut w t ef en in
     let same : cut.after ≡ fs = Lie-unique b from cut.after fs a.0 l (a.1 ∙ sym e) in
@@ -103,13 +112,15 @@ part_rest b p n a r bytes e h =
     sym (part-part b p n a r (omega arith)) ∙ ap (λ l. part l a r) e ∙ part-drop bytes a r (omega arith)
     ∙ take_all r (drop a bytes) (omega (arith, length-drop a bytes))
 
-three_parts : (d : List ℕ) (p n a m r : ℕ) (xs ys zs : List ℕ) → n ≡ a + (m + r) → part d p a ≡ xs → part d (p + a) m ≡ ys → part d (p + a + m) r ≡ zs → part d p n ≡ xs ++ (ys ++ zs)
+three_parts : (d : List ℕ) (p n a m r : ℕ) (xs ys zs : List ℕ) → n ≡ a + (m + r) → part d p a ≡ xs → part d (p + a) m ≡ ys → part d (p + a + m) r ≡ zs
+    → part d p n ≡ xs ++ (ys ++ zs)
 three_parts d p n a m r xs ys zs e ex ey ez =
     ap (part d p) e ∙ part_more d p a (m + r) ∙ ap (λ l. l ++ part d (p + a) (m + r)) ex
     ∙ ap (λ l. xs ++ l) (part_more d (p + a) m r ∙ ap (λ l. l ++ part d (p + a + m) r) ey ∙ ap (λ l. ys ++ l) ez)
 
 -- a block's own bytes
-pub block_bytes : (b : List ℕ) (s : Slot) (k place size : ℕ) (cut : Split Flex) → SlotWords b s → FoundAt k s place size cut → part b (place + 8) size ≡ cut.here.bytes
+pub block_bytes : (b : List ℕ) (s : Slot) (k place size : ℕ) (cut : Split Flex) → SlotWords b s → FoundAt k s place size cut
+    → part b (place + 8) size ≡ cut.here.bytes
 block_bytes b s k place size cut w t =
     let lf = (Lie-split b (flex_place s) cut.before (cut.here ∷ cut.after) (subst (Lie b (flex_place s)) t.is w.lie)).1 in
     ap (part b (place + 8)) t.long ∙ ap (λ q. part b (q + 8) (length cut.here.bytes)) t.stands ∙ lf.2
@@ -122,9 +133,16 @@ block_size b s k place size cut w t =
 -- ---- bytes written
 length_written : (bytes xs : List ℕ) (offset : ℕ) → offset + length xs ≤ length bytes → length (written bytes offset xs) ≡ length bytes
 length_written bytes xs offset h =
-    omega (arith, length-append (take offset bytes) (xs ++ drop (offset + length xs) bytes), length-append xs (drop (offset + length xs) bytes), length-take-le offset bytes (omega arith), length-drop (offset + length xs) bytes)
+    omega (
+      arith,
+      length-append (take offset bytes) (xs ++ drop (offset + length xs) bytes),
+      length-append xs (drop (offset + length xs) bytes),
+      length-take-le offset bytes (omega arith),
+      length-drop (offset + length xs) bytes,
+    )
 
-pub put_words : (b d : List ℕ) (s : Slot) (k place size offset : ℕ) (cut : Split Flex) (xs : List ℕ) → SlotWords b s → FoundAt k s place size cut → offset + length xs ≤ size → d ≡ put b (place + 8 + offset) xs
+pub put_words : (b d : List ℕ) (s : Slot) (k place size offset : ℕ) (cut : Split Flex) (xs : List ℕ) → SlotWords b s → FoundAt k s place size cut
+    → offset + length xs ≤ size → d ≡ put b (place + 8 + offset) xs
     → SlotWords d (with_bytes cut (written cut.here.bytes offset xs) s) × (slot_length (with_bytes cut (written cut.here.bytes offset xs) s) ≡ slot_length s)
 put_words b d s k place size offset cut xs w t h e =
     let old = cut.here.bytes in
@@ -139,17 +157,21 @@ put_words b d s k place size offset cut xs w t h e =
     let p = place + 8 in
     let r = size - (offset + length xs) in
     let same = block_bytes b s k place size cut w t in
-    let o : SameOutside b d (place + 8) from = subst (λ c. SameOutside b c (place + 8) from) (sym e) (wider (put_outside b (p + offset) xs (p + offset + length xs) (omega arith)) (omega arith) (omega arith)) in
-    let e1 : part (put b (p + offset) xs) p offset ≡ take offset old = part-put_below b (p + offset) xs p offset (omega arith) ∙ part_take b p size offset old same (omega arith) in
+    let o : SameOutside b d (place + 8) from = subst (λ c. SameOutside b c (place + 8) from) (sym e)
+    (wider (put_outside b (p + offset) xs (p + offset + length xs) (omega arith)) (omega arith) (omega arith)) in
+    let e1 : part (put b (p + offset) xs) p offset ≡ take offset old =
+    part-put_below b (p + offset) xs p offset (omega arith) ∙ part_take b p size offset old same (omega arith) in
     let e2 : part (put b (p + offset) xs) (p + offset) (length xs) ≡ xs = part-put b (p + offset) xs (length xs) refl (omega arith) in
     let e3 : part (put b (p + offset) xs) (p + offset + length xs) r ≡ drop (offset + length xs) old =
-    part-put_above b (p + offset) xs (p + offset + length xs) r (omega arith) ∙ ap (λ q. part b q r) (let z : p + offset + length xs ≡ p + (offset + length xs) = omega arith in z)
+    part-put_above b (p + offset) xs (p + offset + length xs) r (omega arith)
+    ∙ ap (λ q. part b q r) (let z : p + offset + length xs ≡ p + (offset + length xs) = omega arith in z)
     ∙ part_rest b p size (offset + length xs) r old same (omega arith) in
     let now : part d p (length new) ≡ new =
     ap (part d p) ln ∙ ap (λ c. part c p size) e ∙ three_parts (put b (p + offset) xs) p size offset (length xs) r _ _ _ (omega arith) e1 e2 e3 in
     let ol = o.len in
     let wl : flex_weight (length new) ≡ flex_weight size = ap flex_weight ln in
-    let c = changed b b b d s k place size from n from cut new w t refl en (SameOutside-self b (place + 8) from) (unmoved b s k place size from n cut w t refl en) (record { each = λ j u v. refl }) (omega arith) (omega arith)
+    let c = changed b b b d s k place size from n from cut new w t refl en (SameOutside-self b (place + 8) from)
+    (unmoved b s k place size from n cut w t refl en) (record { each = λ j u v. refl }) (omega arith) (omega arith)
     (wider o (omega arith) (omega arith)) (word_same b d (place + 4) (in_below o (omega arith)) ∙ block_size b s k place size cut w t ∙ sym ln) now in
     (c.0, c.1 ∙ en)
 
@@ -157,18 +179,27 @@ pub read_bytes : (b : List ℕ) (s : Slot) (k place size offset n : ℕ) (cut : 
     → part b (place + 8 + offset) n ≡ take n (drop offset cut.here.bytes)
 read_bytes b s k place size offset n cut w t h =
     let long = t.long in
-    sym (part-part b (place + 8) size offset n h) ∙ ap (λ l. part l offset n) (block_bytes b s k place size cut w t) ∙ part-drop cut.here.bytes offset n (omega arith)
+    sym (part-part b (place + 8) size offset n h) ∙ ap (λ l. part l offset n) (block_bytes b s k place size cut w t)
+    ∙ part-drop cut.here.bytes offset n (omega arith)
 
 -- ---- bytes taken out and zeros put in
 length_spliced : (bytes : List ℕ) (offset out put : ℕ) → offset ≤ length bytes → out ≤ offset → length (spliced offset out put bytes) ≡ length bytes - out + put
 length_spliced bytes offset out put h l =
-    omega (arith, length-append (take (offset - out) bytes) (zeros put ++ drop offset bytes), length-append (zeros put) (drop offset bytes), length-take-le (offset - out) bytes (omega arith), length-drop offset bytes, length-replicate {A = ℕ} put 0)
+    omega (
+      arith,
+      length-append (take (offset - out) bytes) (zeros put ++ drop offset bytes),
+      length-append (zeros put) (drop offset bytes),
+      length-take-le (offset - out) bytes (omega arith),
+      length-drop offset bytes,
+      length-replicate {A = ℕ} put 0,
+    )
 
 part_carried : {b c : List ℕ} {from to n : ℕ} → Carried b c from to n → part c to n ≡ part b from n
 part_carried {b} {c} {from} {to} {n} s = parts_same b c from to n (λ k h. s.each k h)
 
 -- the steps of a splice: a slide in the block, the slide of those above, the size word, a slide in the block, and zeros
-pub spliced_words : (b b1 b2 b3 b4 d : List ℕ) (s : Slot) (k place size from n to offset out put tail opened m new : ℕ) (cut : Split Flex) → SlotWords b s → FoundAt k s place size cut
+pub spliced_words : (b b1 b2 b3 b4 d : List ℕ) (s : Slot) (k place size from n to offset out put tail opened m new : ℕ) (cut : Split Flex) → SlotWords b s
+    → FoundAt k s place size cut
     → offset ≤ size → out ≤ offset → new ≡ size - out + put → from ≡ place + flex_weight size → from + n ≡ slot_length s → to ≡ place + flex_weight new
     → tail ≡ place + 8 + offset → opened ≡ tail - out → m ≡ size - offset
     → Carried b b1 tail opened m → SameOutside b b1 opened (opened + m)
@@ -177,7 +208,8 @@ pub spliced_words : (b b1 b2 b3 b4 d : List ℕ) (s : Slot) (k place size from n
     → Carried b3 b4 opened (opened + put) m → SameOutside b3 b4 (opened + put) (opened + put + m)
     → part d opened put ≡ replicate put 0 → SameOutside b4 d opened (opened + put)
     → SlotWords d (with_bytes cut (spliced offset out put cut.here.bytes) s) × (slot_length (with_bytes cut (spliced offset out put cut.here.bytes) s) ≡ to + n)
-spliced_words b b1 b2 b3 b4 d s k place size from n to offset out put tail opened m new cut w t ho hl en_new ef en et e_tail e_opened em s1 o1 sh same fits h3 o3 s4 o4 z o5 =
+spliced_words b b1 b2 b3 b4 d s k place size from n to offset out put tail opened m new cut w t ho hl en_new ef en et e_tail e_opened em s1 o1 sh same fits
+    h3 o3 s4 o4 z o5 =
     let old = cut.here.bytes in
     let nb = spliced offset out put old in
     let long = t.long in
@@ -189,12 +221,14 @@ spliced_words b b1 b2 b3 b4 d s k place size from n to offset out put tail opene
     let po : opened ≡ p + a = omega arith in
     let whole = block_bytes b s k place size cut w t in
     let ob : SameOutside b b1 (place + 8) from = wider o1 (omega arith) (omega arith) in
-    let o : SameOutside b2 d (place + 4) to = same_both (wider o3 (omega arith) (omega arith)) (same_both (wider o4 (omega arith) (omega arith)) (wider o5 (omega arith) (omega arith))) in
+    let o : SameOutside b2 d (place + 4) to =
+    same_both (wider o3 (omega arith) (omega arith)) (same_both (wider o4 (omega arith) (omega arith)) (wider o5 (omega arith) (omega arith))) in
     let hd : word d (place + 4) ≡ length nb =
     word_same b4 d (place + 4) (in_below o5 (omega arith)) ∙ word_same b3 b4 (place + 4) (in_below o4 (omega arith)) ∙ h3 ∙ sym ln in
     let e1 : part d p a ≡ take a old =
     part_same b4 d p a (in_below o5 (omega arith)) ∙ part_same b3 b4 p a (in_below o4 (omega arith)) ∙ part_same b2 b3 p a (in_above o3 (omega arith))
-    ∙ part_same b1 b2 p a (part_of same (omega arith) (omega arith)) ∙ part_same b b1 p a (in_below o1 (omega arith)) ∙ part_take b p size a old whole (omega arith) in
+    ∙ part_same b1 b2 p a (part_of same (omega arith) (omega arith)) ∙ part_same b b1 p a (in_below o1 (omega arith))
+    ∙ part_take b p size a old whole (omega arith) in
     let e2 : part d (p + a) put ≡ zeros put = ap (λ q. part d q put) (sym po) ∙ z in
     let e3 : part d (p + a + put) m ≡ drop offset old =
     ap (λ q. part d q m) (let q : p + a + put ≡ opened + put = omega arith in q) ∙ part_same b4 d (opened + put) m (in_above o5 (omega arith)) ∙ part_carried s4
@@ -220,17 +254,22 @@ spliced_pages b s k place size out put v w t cut f l ev ew et =
     rw (q, top) refl
 
 -- ---- what the calls answer
-pub splice_full : (free offset out put : ℕ) (cut : Split Flex) (s : Slot) → free < pages_for (slot.length_with cut (length cut.here.bytes - out + put) s) - slot_pages s → splice free offset out put cut s ≡ Err NoRoom
+pub splice_full : (free offset out put : ℕ) (cut : Split Flex) (s : Slot)
+    → free < pages_for (slot.length_with cut (length cut.here.bytes - out + put) s) - slot_pages s → splice free offset out put cut s ≡ Err NoRoom
 unfolding splice
-splice_full free offset out put cut s h = refuse_if-true (lacks_room free (after_splice cut out put s) s) NoRoom _ (ltb_yes free (pages_for (after_splice cut out put s) - slot_pages s) h)
+splice_full free offset out put cut s h =
+    refuse_if-true (lacks_room free (after_splice cut out put s) s) NoRoom _ (ltb_yes free (pages_for (after_splice cut out put s) - slot_pages s) h)
 
-pub splice_done : (free offset out put : ℕ) (cut : Split Flex) (s : Slot) → pages_for (slot.length_with cut (length cut.here.bytes - out + put) s) - slot_pages s ≤ free
+pub splice_done : (free offset out put : ℕ) (cut : Split Flex) (s : Slot)
+    → pages_for (slot.length_with cut (length cut.here.bytes - out + put) s) - slot_pages s ≤ free
     → splice free offset out put cut s ≡ Ok (with_bytes cut (spliced offset out put cut.here.bytes) s)
 unfolding splice
-splice_done free offset out put cut s h = refuse_if-false (lacks_room free (after_splice cut out put s) s) NoRoom _ (ltb_no free (pages_for (after_splice cut out put s) - slot_pages s) h)
+splice_done free offset out put cut s h =
+    refuse_if-false (lacks_room free (after_splice cut out put s) s) NoRoom _ (ltb_no free (pages_for (after_splice cut out put s) - slot_pages s) h)
 
 -- a call that gives the block another size and other bytes is a splice of them
-splice_as : (free n offset out put : ℕ) (bytes : List ℕ) (cut : Split Flex) (s : Slot) → n ≡ length cut.here.bytes - out + put → bytes ≡ spliced offset out put cut.here.bytes
+splice_as : (free n offset out put : ℕ) (bytes : List ℕ) (cut : Split Flex) (s : Slot) → n ≡ length cut.here.bytes - out + put
+    → bytes ≡ spliced offset out put cut.here.bytes
     → (refuse_if (lacks_room free (slot.length_with cut n s) s) NoRoom >>= λ _. Ok (with_bytes cut bytes s)) ≡ splice free offset out put cut s
 unfolding splice
 splice_as free n offset out put bytes cut s e q =
@@ -245,7 +284,8 @@ fitted_spliced bytes n size e =
       | inr l ↦ take_all n bytes (omega arith) ∙ sym (take_all (size - (size - n)) bytes (omega arith))
     ] in
     ap (λ l. l ++ zeros (n - length bytes)) front
-    ∙ ap (λ l. take (size - (size - n)) bytes ++ l) (ap (λ i. zeros (n - i)) (sym e) ∙ sym (append-nil (zeros (n - size))) ∙ ap (λ l. zeros (n - size) ++ l) (sym tail))
+    ∙ ap (λ l. take (size - (size - n)) bytes ++ l) (ap (λ i. zeros (n - i)) (sym e) ∙ sym (append-nil (zeros (n - size)))
+    ∙ ap (λ l. zeros (n - size) ++ l) (sym tail))
 
 pub extend_none : (free k n : ℕ) (s : Slot) → IsFree k s.blocks → slot_extend free k n s ≡ Err NoBlock
 unfolding slot_extend
@@ -257,11 +297,13 @@ unfolding slot_extend
 extend_at free k n out put s place size cut t eo ep =
     let long = t.long in
     let q : fitted n cut.here.bytes ≡ spliced size out put cut.here.bytes =
-    fitted_spliced cut.here.bytes n size t.long ∙ ap (λ i. spliced size i (n - size) cut.here.bytes) (sym eo) ∙ ap (λ i. spliced size out i cut.here.bytes) (sym ep) in
+    fitted_spliced cut.here.bytes n size t.long ∙ ap (λ i. spliced size i (n - size) cut.here.bytes) (sym eo)
+    ∙ ap (λ i. spliced size out i cut.here.bytes) (sym ep) in
     then_at k s place size cut _ t ∙ splice_as free n size out put (fitted n cut.here.bytes) cut s (omega arith) q
 
 opened_spliced : (bytes : List ℕ) (offset : ℕ) (by : ℤ) → opened_at offset by bytes ≡ spliced offset (taken_out by) (moved 0 by) bytes
-opened_spliced bytes offset (pos n) = ap (λ i. take i bytes ++ (zeros n ++ drop offset bytes)) (omega arith) ∙ ap (λ i. take (offset - 0) bytes ++ (zeros i ++ drop offset bytes)) (omega arith)
+opened_spliced bytes offset (pos n) = ap (λ i. take i bytes ++ (zeros n ++ drop offset bytes)) (omega arith)
+    ∙ ap (λ i. take (offset - 0) bytes ++ (zeros i ++ drop offset bytes)) (omega arith)
 opened_spliced bytes offset (negsuc n) = ap (λ i. take (offset - (n + 1)) bytes ++ (zeros i ++ drop offset bytes)) (let z : 0 ≡ 0 - (n + 1) = omega arith in z)
 
 moved_parts : (n out put : ℕ) (by : ℤ) → out ≡ taken_out by → put ≡ moved 0 by → moved n by ≡ n - out + put
@@ -288,40 +330,52 @@ pub mid_above : (free k offset : ℕ) (by : ℤ) (s : Slot) (place size : ℕ) �
 unfolding slot_mid
 mid_above free k offset by s place size t h =
     let long = t.at.long in
-    then_at k s place size t.cut _ t.at ∙ refuse_if-true (ltb (length t.cut.here.bytes) offset || ltb offset (taken_out by)) BadRange _ (or_left _ _ (ltb_yes (length t.cut.here.bytes) offset (omega arith)))
+    then_at k s place size t.cut _ t.at
+    ∙ refuse_if-true (ltb (length t.cut.here.bytes) offset || ltb offset (taken_out by)) BadRange _
+    (or_left _ _ (ltb_yes (length t.cut.here.bytes) offset (omega arith)))
 
-pub mid_short : (free k offset out : ℕ) (by : ℤ) (s : Slot) (place size : ℕ) → Found k s place size → out ≡ taken_out by → offset < out → slot_mid free k offset by s ≡ Err BadRange
+pub mid_short : (free k offset out : ℕ) (by : ℤ) (s : Slot) (place size : ℕ) → Found k s place size → out ≡ taken_out by → offset < out
+    → slot_mid free k offset by s ≡ Err BadRange
 unfolding slot_mid
 mid_short free k offset out by s place size t e h =
-    then_at k s place size t.cut _ t.at ∙ refuse_if-true (ltb (length t.cut.here.bytes) offset || ltb offset (taken_out by)) BadRange _ (or_right _ _ (ltb_yes offset (taken_out by) (omega arith)))
+    then_at k s place size t.cut _ t.at
+    ∙ refuse_if-true (ltb (length t.cut.here.bytes) offset || ltb offset (taken_out by)) BadRange _
+    (or_right _ _ (ltb_yes offset (taken_out by) (omega arith)))
 
-pub mid_at : (free k offset out put : ℕ) (by : ℤ) (s : Slot) (place size : ℕ) (cut : Split Flex) → FoundAt k s place size cut → out ≡ taken_out by → put ≡ moved 0 by → offset ≤ size → out ≤ offset
-    → slot_mid free k offset by s ≡ splice free offset out put cut s
+pub mid_at : (free k offset out put : ℕ) (by : ℤ) (s : Slot) (place size : ℕ) (cut : Split Flex) → FoundAt k s place size cut → out ≡ taken_out by
+    → put ≡ moved 0 by → offset ≤ size → out ≤ offset → slot_mid free k offset by s ≡ splice free offset out put cut s
 unfolding slot_mid
 mid_at free k offset out put by s place size cut t eo ep h l =
     let long = t.long in
     let q : opened_at offset by cut.here.bytes ≡ spliced offset out put cut.here.bytes =
-    opened_spliced cut.here.bytes offset by ∙ ap (λ i. spliced offset i (moved 0 by) cut.here.bytes) (sym eo) ∙ ap (λ i. spliced offset out i cut.here.bytes) (sym ep) in
+    opened_spliced cut.here.bytes offset by ∙ ap (λ i. spliced offset i (moved 0 by) cut.here.bytes) (sym eo)
+    ∙ ap (λ i. spliced offset out i cut.here.bytes) (sym ep) in
     then_at k s place size cut _ t
-    ∙ refuse_if-false (ltb (length cut.here.bytes) offset || ltb offset (taken_out by)) BadRange _ (or_none _ _ (ltb_no (length cut.here.bytes) offset (omega arith)) (ltb_no offset (taken_out by) (omega arith)))
-    ∙ splice_as free (moved (length cut.here.bytes) by) offset out put (opened_at offset by cut.here.bytes) cut s (moved_parts (length cut.here.bytes) out put by eo ep) q
+    ∙ refuse_if-false (ltb (length cut.here.bytes) offset || ltb offset (taken_out by)) BadRange _
+    (or_none _ _ (ltb_no (length cut.here.bytes) offset (omega arith)) (ltb_no offset (taken_out by) (omega arith)))
+    ∙ splice_as free (moved (length cut.here.bytes) by) offset out put (opened_at offset by cut.here.bytes) cut s
+    (moved_parts (length cut.here.bytes) out put by eo ep) q
 
 pub put_none : (k offset : ℕ) (xs : List ℕ) (s : Slot) → IsFree k s.blocks → slot_put k offset xs s ≡ Err NoBlock
 unfolding slot_put
 put_none k offset xs s u = then_none k s _ u
 
-pub put_beyond : (k offset : ℕ) (xs : List ℕ) (s : Slot) (place size : ℕ) → Found k s place size → size < offset + length xs → slot_put k offset xs s ≡ Err BadRange
+pub put_beyond : (k offset : ℕ) (xs : List ℕ) (s : Slot) (place size : ℕ) → Found k s place size → size < offset + length xs
+    → slot_put k offset xs s ≡ Err BadRange
 unfolding slot_put
 put_beyond k offset xs s place size t h =
     let long = t.at.long in
-    then_at k s place size t.cut _ t.at ∙ refuse_if-true (ltb (length t.cut.here.bytes) (offset + length xs)) BadRange _ (ltb_yes (length t.cut.here.bytes) (offset + length xs) (omega arith))
+    then_at k s place size t.cut _ t.at
+    ∙ refuse_if-true (ltb (length t.cut.here.bytes) (offset + length xs)) BadRange _
+    (ltb_yes (length t.cut.here.bytes) (offset + length xs) (omega arith))
 
 pub put_at : (k offset : ℕ) (xs : List ℕ) (s : Slot) (place size : ℕ) (cut : Split Flex) → FoundAt k s place size cut → offset + length xs ≤ size
     → slot_put k offset xs s ≡ Ok (with_bytes cut (written cut.here.bytes offset xs) s)
 unfolding slot_put
 put_at k offset xs s place size cut t h =
     let long = t.long in
-    then_at k s place size cut _ t ∙ refuse_if-false (ltb (length cut.here.bytes) (offset + length xs)) BadRange _ (ltb_no (length cut.here.bytes) (offset + length xs) (omega arith))
+    then_at k s place size cut _ t
+    ∙ refuse_if-false (ltb (length cut.here.bytes) (offset + length xs)) BadRange _ (ltb_no (length cut.here.bytes) (offset + length xs) (omega arith))
 
 pub read_none : (k offset n : ℕ) (s : Slot) → IsFree k s.blocks → slot_read k offset n s ≡ Err NoBlock
 unfolding slot_read
@@ -331,13 +385,16 @@ pub read_beyond : (k offset n : ℕ) (s : Slot) (place size : ℕ) → Found k s
 unfolding slot_read
 read_beyond k offset n s place size t h =
     let long = t.at.long in
-    then_at k s place size t.cut _ t.at ∙ refuse_if-true (ltb (length t.cut.here.bytes) (offset + n)) BadRange _ (ltb_yes (length t.cut.here.bytes) (offset + n) (omega arith))
+    then_at k s place size t.cut _ t.at
+    ∙ refuse_if-true (ltb (length t.cut.here.bytes) (offset + n)) BadRange _ (ltb_yes (length t.cut.here.bytes) (offset + n) (omega arith))
 
-pub read_at : (k offset n : ℕ) (s : Slot) (place size : ℕ) (cut : Split Flex) → FoundAt k s place size cut → offset + n ≤ size → slot_read k offset n s ≡ Ok (take n (drop offset cut.here.bytes))
+pub read_at : (k offset n : ℕ) (s : Slot) (place size : ℕ) (cut : Split Flex) → FoundAt k s place size cut → offset + n ≤ size
+    → slot_read k offset n s ≡ Ok (take n (drop offset cut.here.bytes))
 unfolding slot_read
 read_at k offset n s place size cut t h =
     let long = t.long in
-    then_at k s place size cut _ t ∙ refuse_if-false (ltb (length cut.here.bytes) (offset + n)) BadRange _ (ltb_no (length cut.here.bytes) (offset + n) (omega arith))
+    then_at k s place size cut _ t
+    ∙ refuse_if-false (ltb (length cut.here.bytes) (offset + n)) BadRange _ (ltb_no (length cut.here.bytes) (offset + n) (omega arith))
 
 -- a test that says when a range lies in a block
 pub beyond : (t : Bool) (reach size : ℕ) → (IsTrue t ↔ (reach ≤ size)) → t ≡ false → size < reach

@@ -1,5 +1,6 @@
 -- What the calls that find, add and take away blocks do to the words of a slot.
-use Rattle.std.proofs.Common.{◌≡◌, ℕ, ◌+◌, ◌-◌, ◌*◌, ◌/◌, ◌<◌, ◌≤◌, ◌≢◌, ◌⊎◌, inl, inr, true, false, List, [], ◌∷◌, ◌++◌, length, replicate, refl, sym, ap, subst, ◌∙◌, append_assoc, arith, rules}
+use Rattle.std.proofs.Common.{◌≡◌, ℕ, ◌+◌, ◌-◌, ◌*◌, ◌/◌, ◌<◌, ◌≤◌, ◌≢◌, ◌⊎◌, inl, inr, true, false, List, [], ◌∷◌, ◌++◌, length, replicate, refl, sym, ap}
+use Rattle.std.proofs.Common.{subst, ◌∙◌, append_assoc, arith, rules}
 use Rattle.std.proofs.lemmas.List.{append-nil, length-replicate}
 use Rattle.std.proofs.lemmas.Bool.{cases_eq, cases_lt}
 use Rattle.std.specs.Prelude.{is_some, Ok, Err, ◌↔◌}
@@ -8,12 +9,14 @@ use Rattle.rh_defs.specs.declared.refusal.Refusal.TheVariants.{NoBlock, AnchorIn
 use Rattle.rh_defs.specs.Bytes.{word, part, SameIn, SameOutside}
 use Rattle.rh_defs.specs.Chain.{Granted, ◌>>=◌, found_or}
 use Rattle.rh_defs.specs.Pieces.{total, pages_for, zeros, Split}
-use Rattle.rh_defs.specs.Slot.{Flex, Slot, weight, flex_weight, slot_length, slot_pages, flex_address, IsFree, HaveAnchors, without, with_block, is_used, lacks_room, slot_block, slot_size, slot_address, slot_free, slot_alloc, anchor_count}
+use Rattle.rh_defs.specs.Slot.{Flex, Slot, weight, flex_weight, slot_length, slot_pages, flex_address, IsFree, HaveAnchors, without, with_block, is_used}
+use Rattle.rh_defs.specs.Slot.{lacks_room, slot_block, slot_size, slot_address, slot_free, slot_alloc, anchor_count}
 use Rattle.rh_defs.specs.SlotImage.{Lie, Hang, SlotWords, SpellsSlot, flex_place, heap_place}
 use Rattle.rh_defs.proofs.Anchors.{anchors-append}
 use Rattle.rh_defs.proofs.BytesLaws.{word_same, part_same}
 use Rattle.rh_defs.proofs.HeapLists.{sum-append, ltb_yes, ltb_no}
-use Rattle.rh_defs.proofs.SlotLaws.{part_of, wider, same_both, in_below, in_above, in_both, Lie-split, Lie-join, Lie-same, Hang-split, Hang-join, Hang-same, IsFree-split, IsFree-join, HaveAnchors-cut, find, block_of-none, block_of-at, Spells-same}
+use Rattle.rh_defs.proofs.SlotLaws.{part_of, wider, same_both, in_below, in_above, in_both, Lie-split, Lie-join, Lie-same, Hang-split, Hang-join, Hang-same}
+use Rattle.rh_defs.proofs.SlotLaws.{IsFree-split, IsFree-join, HaveAnchors-cut, find, block_of-none, block_of-at, Spells-same}
 use Rattle.rh_slot.specs.Row.{Row, Shifted, Walked}
 use Rattle.rh_slot.specs.Flex.{FoundAt, Found}
 use Rattle.rh_slot.proofs.ShiftLaws.{apart, Hang-apart}
@@ -51,7 +54,8 @@ pub record Leads (b : List ℕ) (s : Slot) (k a : ℕ) : Type 0 where
   pub within : a - 32768 - 8 + 8 ≤ length b
   pub found : (size : ℕ) → size ≡ word b (a - 32768 - 8 + 4) → Found k s (a - 32768 - 8) size
 
-leads_at : (b : List ℕ) (s : Slot) (k a : ℕ) (xs : List Flex) (f : Flex) (ys : List Flex) → SlotWords b s → s.blocks ≡ xs ++ f ∷ ys → f.anchor ≡ k → IsFree k xs → a ≡ word b (4 * k) → Leads b s k a
+leads_at : (b : List ℕ) (s : Slot) (k a : ℕ) (xs : List Flex) (f : Flex) (ys : List Flex) → SlotWords b s → s.blocks ≡ xs ++ f ∷ ys → f.anchor ≡ k
+    → IsFree k xs → a ≡ word b (4 * k) → Leads b s k a
 leads_at b s k a xs f ys w is e u r =
     let l = Lie-split b (flex_place s) xs (f ∷ ys) (subst (Lie b (flex_place s)) is w.lie) in
     let h = Hang-split b (flex_place s) xs (f ∷ ys) (subst (Hang b (flex_place s)) is w.hang) in
@@ -71,7 +75,8 @@ leads_at b s k a xs f ys w is e u r =
           };
     }
 
-pub leads : (b : List ℕ) (s : Slot) (k p a : ℕ) → SlotWords b s → k < anchor_count → p ≡ 4 * k → a ≡ word b p → (a ≡ 0 → IsFree k s.blocks) × (a ≢ 0 → Leads b s k a)
+pub leads : (b : List ℕ) (s : Slot) (k p a : ℕ) → SlotWords b s → k < anchor_count → p ≡ 4 * k → a ≡ word b p
+    → (a ≡ 0 → IsFree k s.blocks) × (a ≢ 0 → Leads b s k a)
 leads b s k p a w l ep e =
     let r : a ≡ word b (4 * k) = e ∙ ap (word b) ep in
     elim (find k s.blocks) [
@@ -101,12 +106,15 @@ rebuilt b d s xs mid new ys p q w is pp qq same fits ln hn ly hy others lost anc
     let lx = (Lie-split b (flex_place s) xs (mid ++ ys) (subst (Lie b (flex_place s)) is w.lie)).0 in
     let hx = (Hang-split b (flex_place s) xs (mid ++ ys) (subst (Hang b (flex_place s)) is w.hang)).0 in
     let old = subst HaveAnchors is w.anchors in
-    let sum : total weight (xs ++ (new ++ ys)) ≡ total weight xs + (total weight new + total weight ys) = sum-append weight xs (new ++ ys) ∙ ap (λ n. total weight xs + n) (sum-append weight new ys) in
+    let sum : total weight (xs ++ (new ++ ys)) ≡ total weight xs + (total weight new + total weight ys) =
+    sum-append weight xs (new ++ ys) ∙ ap (λ n. total weight xs + n) (sum-append weight new ys) in
     record {
       heap = Spells-same b d heap_place s.heap (part_of same (omega arith) (omega arith)) (omega arith) w.heap;
       within = omega arith;
-      lie = Lie-join d (flex_place s) p xs (new ++ ys) pp (Lie-same b d (flex_place s) p xs (part_of same (omega arith) (omega arith)) (omega arith) lx) (Lie-join d p q new ys qq ln ly);
-      hang = Hang-join d (flex_place s) p xs (new ++ ys) pp (Hang-kept b d (flex_place s) xs mid new ys old anchors others hx) (Hang-join d p q new ys qq hn hy);
+      lie = Lie-join d (flex_place s) p xs (new ++ ys) pp (Lie-same b d (flex_place s) p xs (part_of same (omega arith) (omega arith)) (omega arith) lx)
+          (Lie-join d p q new ys qq ln ly);
+      hang = Hang-join d (flex_place s) p xs (new ++ ys) pp (Hang-kept b d (flex_place s) xs mid new ys old anchors others hx)
+          (Hang-join d p q new ys qq hn hy);
       none = λ j u v.
           let a = IsFree-split j xs (new ++ ys) v in
           let r = IsFree-split j new ys a.1 in
@@ -118,7 +126,8 @@ rebuilt b d s xs mid new ys p q w is pp qq same fits ln hn ly hy others lost anc
     }
 
 -- where the blocks above a block begin, and how many bytes they take
-pub reach : (s : Slot) (k place size w t : ℕ) (cut : Split Flex) → FoundAt k s place size cut → w ≡ flex_weight size → t ≡ slot_length s → place + w + (t - (place + w)) ≡ slot_length s
+pub reach : (s : Slot) (k place size w t : ℕ) (cut : Split Flex) → FoundAt k s place size cut → w ≡ flex_weight size → t ≡ slot_length s
+    → place + w + (t - (place + w)) ≡ slot_length s
 reach s k place size w t cut f ew et = let i = f.inside in omega arith
 
 -- the walk that has passed the blocks up to one
@@ -131,24 +140,27 @@ walked_past s k place size w cut f ew = record {
 }
 
 -- the blocks above a block
-pub above : (b : List ℕ) (s : Slot) (k place size from n : ℕ) (cut : Split Flex) → SlotWords b s → FoundAt k s place size cut → from ≡ place + flex_weight size → from + n ≡ slot_length s
-    → Lie b from cut.after × (total weight cut.after ≡ n) × HaveAnchors cut.after
+pub above : (b : List ℕ) (s : Slot) (k place size from n : ℕ) (cut : Split Flex) → SlotWords b s → FoundAt k s place size cut
+    → from ≡ place + flex_weight size → from + n ≡ slot_length s → Lie b from cut.after × (total weight cut.after ≡ n) × HaveAnchors cut.after
 above b s k place size from n cut w t ef en =
     let is = t.is in
-    let sum : total weight s.blocks ≡ total weight cut.before + (weight cut.here + total weight cut.after) = ap (total weight) is ∙ sum-append weight cut.before (cut.here ∷ cut.after) in
+    let sum : total weight s.blocks ≡ total weight cut.before + (weight cut.here + total weight cut.after) =
+    ap (total weight) is ∙ sum-append weight cut.before (cut.here ∷ cut.after) in
     let l = (Lie-split b (flex_place s) cut.before (cut.here ∷ cut.after) (subst (Lie b (flex_place s)) is w.lie)).1.3 in
     let st = t.stands in
     let wl : flex_weight size ≡ weight cut.here = ap flex_weight t.long in
     let e : flex_place s + total weight cut.before + weight cut.here ≡ from = omega arith in
     (subst (λ p. Lie b p cut.after) e l, omega arith, (HaveAnchors-cut cut.before cut.here cut.after (subst HaveAnchors is w.anchors)).above)
 
-pub row_above : (b : List ℕ) (s : Slot) (k place size from n : ℕ) → SlotWords b s → Found k s place size → from ≡ place + flex_weight size → from + n ≡ slot_length s → Row b from n
+pub row_above : (b : List ℕ) (s : Slot) (k place size from n : ℕ) → SlotWords b s → Found k s place size → from ≡ place + flex_weight size
+    → from + n ≡ slot_length s → Row b from n
 row_above b s k place size from n w t ef en =
     let a = above b s k place size from n t.cut w t.at ef en in
     record { blocks = t.cut.after; lie = a.0; sum = a.1; anchors = a.2 }
 
 -- a block goes, and those above it slide down
-pub freed : (b c d : List ℕ) (s : Slot) (k p place size from n : ℕ) (cut : Split Flex) → SlotWords b s → FoundAt k s place size cut → k < anchor_count → p ≡ 4 * k → from ≡ place + flex_weight size → from + n ≡ slot_length s
+pub freed : (b c d : List ℕ) (s : Slot) (k p place size from n : ℕ) (cut : Split Flex) → SlotWords b s → FoundAt k s place size cut → k < anchor_count
+    → p ≡ 4 * k → from ≡ place + flex_weight size → from + n ≡ slot_length s
     → ((fs : List Flex) → Lie b from fs → total weight fs ≡ n → Shifted b c place fs) → SameIn b c heap_place place → length c ≡ length b
     → SameOutside c d p (p + 4) → word d p ≡ 0
     → SlotWords d (without cut s) × (slot_length (without cut s) ≡ place + n)
@@ -177,8 +189,8 @@ freed b c d s k p place size from n cut w t l ep ef en sh same len op zp =
     )
 
 -- the words of a new block are written one after another
-pub alloced : (b b1 b2 b3 d : List ℕ) (s : Slot) (k p n t : ℕ) → SlotWords b s → IsFree k s.blocks → k < anchor_count → p ≡ 4 * k → t ≡ slot_length s → t + flex_weight n ≤ length b
-    → word b1 t ≡ 32768 + p → SameOutside b b1 t (t + 4)
+pub alloced : (b b1 b2 b3 d : List ℕ) (s : Slot) (k p n t : ℕ) → SlotWords b s → IsFree k s.blocks → k < anchor_count → p ≡ 4 * k → t ≡ slot_length s
+    → t + flex_weight n ≤ length b → word b1 t ≡ 32768 + p → SameOutside b b1 t (t + 4)
     → word b2 (t + 4) ≡ n → SameOutside b1 b2 (t + 4) (t + 4 + 4)
     → part b3 (t + 8) n ≡ replicate n 0 → SameOutside b2 b3 (t + 8) (t + 8 + n)
     → word d p ≡ 32768 + t + 8 → SameOutside b3 d p (p + 4)
@@ -189,9 +201,11 @@ alloced b b1 b2 b3 d s k p n t w u l ep e fits h0 o0 h1 o1 h2 o2 hp op =
     let f : Flex = record { anchor = k; bytes = zeros n } in
     let ln = length-replicate {A = ℕ} n 0 in
     let wl : weight f ≡ flex_weight n = ap flex_weight ln in
-    let big : SameOutside b b3 t (t + 8 + n) = same_both (wider o0 (omega arith) (omega arith)) (same_both (wider o1 (omega arith) (omega arith)) (wider o2 (omega arith) (omega arith))) in
+    let big : SameOutside b b3 t (t + 8 + n) =
+    same_both (wider o0 (omega arith) (omega arith)) (same_both (wider o1 (omega arith) (omega arith)) (wider o2 (omega arith) (omega arith))) in
     let a0 : word d t ≡ 32768 + 4 * k =
-    word_same b3 d t (in_above o3 (omega arith)) ∙ word_same b2 b3 t (in_below o2 (omega arith)) ∙ word_same b1 b2 t (in_below o1 (omega arith)) ∙ h0 ∙ ap (λ i. 32768 + i) ep in
+    word_same b3 d t (in_above o3 (omega arith)) ∙ word_same b2 b3 t (in_below o2 (omega arith)) ∙ word_same b1 b2 t (in_below o1 (omega arith)) ∙ h0
+    ∙ ap (λ i. 32768 + i) ep in
     let a1 : word d (t + 4) ≡ length (zeros n) =
     word_same b3 d (t + 4) (in_above o3 (omega arith)) ∙ word_same b2 b3 (t + 4) (in_below o2 (omega arith)) ∙ h1 ∙ sym ln in
     let a2 : part d (t + 8) (length (zeros n)) ≡ zeros n =
@@ -220,7 +234,8 @@ pub then_none : {B : Type 0} (k : ℕ) (s : Slot) (next : Split Flex → Granted
 unfolding ◌>>=◌
 then_none k s next u = ap (λ (o : Granted (Split Flex)). o >>= next) (block_none k s u)
 
-pub then_at : {B : Type 0} (k : ℕ) (s : Slot) (place size : ℕ) (cut : Split Flex) (next : Split Flex → Granted B) → FoundAt k s place size cut → (slot_block k s >>= next) ≡ next cut
+pub then_at : {B : Type 0} (k : ℕ) (s : Slot) (place size : ℕ) (cut : Split Flex) (next : Split Flex → Granted B) → FoundAt k s place size cut
+    → (slot_block k s >>= next) ≡ next cut
 unfolding ◌>>=◌
 then_at k s place size cut next t = ap (λ (o : Granted (Split Flex)). o >>= next) (block_at k s place size cut t)
 
@@ -252,14 +267,15 @@ pub alloc_used : (free k n : ℕ) (s : Slot) (place size : ℕ) → Found k s pl
 unfolding slot_alloc
 alloc_used free k n s place size t = refuse_if-true (is_used k s) AnchorInUse _ (ap is_some (block_of-at k s t.cut t.at.is t.at.free t.at.anchor))
 
-pub alloc_full : (free k n : ℕ) (s : Slot) → IsFree k s.blocks → free < pages_for (slot_length s + flex_weight n) - slot_pages s → slot_alloc free k n s ≡ Err NoRoom
+pub alloc_full : (free k n : ℕ) (s : Slot) → IsFree k s.blocks → free < pages_for (slot_length s + flex_weight n) - slot_pages s
+    → slot_alloc free k n s ≡ Err NoRoom
 unfolding slot_alloc
 alloc_full free k n s u h =
     refuse_if-false (is_used k s) AnchorInUse _ (ap is_some (block_of-none k s u))
     ∙ refuse_if-true (lacks_room free (slot_length s + flex_weight n) s) NoRoom _ (ltb_yes free (pages_for (slot_length s + flex_weight n) - slot_pages s) h)
 
-pub alloc_done : (free k n : ℕ) (s : Slot) (a : ℕ) → IsFree k s.blocks → pages_for (slot_length s + flex_weight n) - slot_pages s ≤ free → a ≡ flex_address s s.blocks
-    → slot_alloc free k n s ≡ Ok (with_block k (zeros n) s, a)
+pub alloc_done : (free k n : ℕ) (s : Slot) (a : ℕ) → IsFree k s.blocks → pages_for (slot_length s + flex_weight n) - slot_pages s ≤ free
+    → a ≡ flex_address s s.blocks → slot_alloc free k n s ≡ Ok (with_block k (zeros n) s, a)
 unfolding slot_alloc
 alloc_done free k n s a u h e =
     refuse_if-false (is_used k s) AnchorInUse _ (ap is_some (block_of-none k s u))

@@ -8,9 +8,11 @@ use Rattle.rh_defs.specs.Bytes.{SameIn, SameOutside}
 use Rattle.rh_defs.specs.Memory.{Memory, IsOpen, Resized, bytes}
 use Rattle.rh_defs.specs.Pieces.{total, pages_for, zeros, moved, Split}
 use Rattle.rh_defs.specs.Chain.{Granted, ◌>>=◌, refuse_if}
-use Rattle.rh_defs.specs.Heap.{Segment, Heap, Placed, need, claim_need, claim_growing, raised, placed, placed_in, hole_for, shortage_in, block_room, segment_size, base, extended}
+use Rattle.rh_defs.specs.Heap.{Segment, Heap, Placed, need, claim_need, claim_growing, raised, placed, placed_in, hole_for, shortage_in, block_room}
+use Rattle.rh_defs.specs.Heap.{segment_size, base, extended}
 use Rattle.rh_defs.specs.HeapImage.{Spells}
-use Rattle.rh_defs.specs.Slot.{Flex, weight, slot_length, slot_pages, is_stuck, with_heap, with_block, with_placed, slot_claim, slot_resize, slot_release, slot_take_pages, heap_block_at, HaveAnchors, heap_start}
+use Rattle.rh_defs.specs.Slot.{Flex, weight, slot_length, slot_pages, is_stuck, with_heap, with_block, with_placed, slot_claim, slot_resize, slot_release}
+use Rattle.rh_defs.specs.Slot.{slot_take_pages, heap_block_at, HaveAnchors, heap_start}
 use Rattle.rh_defs.specs.Slot as plain
 use Rattle.rh_defs.specs.SlotImage.{Lie, Hang, SlotWords, SpellsSlot, flex_place, heap_place}
 use Rattle.rh_defs.specs.declared.heap.HeapRefusal.{HeapRefusal}
@@ -40,8 +42,8 @@ pub all_blocks : (b : List ℕ) (s : plain.Slot) (from n : ℕ) → SlotWords b 
 all_blocks b s from n w e q = record { blocks = s.blocks; lie = subst (λ p. Lie b p s.blocks) (sym e) w.lie; sum = omega arith; anchors = w.anchors }
 
 -- the blocks have slid, and then a heap with the higher end stands below them
-pub budged : (b c d : List ℕ) (s : plain.Slot) (h : Heap) (more from to n edge : ℕ) → SlotWords b s → from ≡ flex_place s → to ≡ from + more → from + n ≡ slot_length s → to + n ≤ length b
-    → ((fs : List Flex) → Lie b from fs → total weight fs ≡ n → Shifted b c to fs) → length c ≡ length b
+pub budged : (b c d : List ℕ) (s : plain.Slot) (h : Heap) (more from to n edge : ℕ) → SlotWords b s → from ≡ flex_place s → to ≡ from + more
+    → from + n ≡ slot_length s → to + n ≤ length b → ((fs : List Flex) → Lie b from fs → total weight fs ≡ n → Shifted b c to fs) → length c ≡ length b
     → SameOutside c d heap_place edge → edge ≤ to → Spells d heap_place h → h.end ≡ s.heap.end + more → SlotWords d (with_heap h s)
 budged b c d s h more from to n edge w ef et en fits sh len o low k eh =
     let x = sh s.blocks (subst (λ p. Lie b p s.blocks) (sym ef) w.lie) (omega arith) in
@@ -62,7 +64,8 @@ moved_up n k delta e = ap (moved n) e
 
 pub raised_by : (k more : ℕ) (delta : ℤ) (h g : Heap) → delta ≡ pos more → more ≡ pages_for k * PAGE → g ≡ h → extended delta g ≡ raised k h
 raised_by k more delta h g e m q =
-    ap (extended delta) q ∙ ap (λ (n : ℕ). let r : Heap = record h { end = n } in r) (moved_up h.end more delta e ∙ (let z : h.end + more ≡ h.end + PAGE * ((k + (PAGE - 1)) / PAGE) = omega arith in z))
+    ap (extended delta) q ∙ ap (λ (n : ℕ). let r : Heap = record h { end = n } in r)
+    (moved_up h.end more delta e ∙ (let z : h.end + more ≡ h.end + PAGE * ((k + (PAGE - 1)) / PAGE) = omega arith in z))
 
 -- the blocks have slid away from the heap's end
 pub record Slid (m : Memory) (span : Span) (s : plain.Slot) (more : ℕ) : Type 0 where
@@ -70,14 +73,16 @@ pub record Slid (m : Memory) (span : Span) (s : plain.Slot) (more : ℕ) : Type 
   pub heap : heap_in m span ≡ s.heap
   pub room : span.at + (s.heap.end + more) ≤ length (bytes m span.area.0)
 
-pub slid : (l m n : Memory) (slot : Slot) (span : Span) (from top more : ℕ) → (let s = slot_in l slot in SpellsIn l slot s → Resized l m slot.area.0 (length (bytes l slot.area.0)) (pages_for (top + more))
-    → IsOpen n slot.area.0 → SameIn (bytes m slot.area.0) (bytes n slot.area.0) heap_place (from + more) → length (bytes n slot.area.0) ≡ length (bytes m slot.area.0)
-    → from ≡ flex_place s → top ≡ slot_length s → span ≡ span_of slot → Slid n span s more)
+pub slid : (l m n : Memory) (slot : Slot) (span : Span) (from top more : ℕ)
+    → (let s = slot_in l slot in SpellsIn l slot s → Resized l m slot.area.0 (length (bytes l slot.area.0)) (pages_for (top + more))
+    → IsOpen n slot.area.0 → SameIn (bytes m slot.area.0) (bytes n slot.area.0) heap_place (from + more)
+    → length (bytes n slot.area.0) ≡ length (bytes m slot.area.0) → from ≡ flex_place s → top ≡ slot_length s → span ≡ span_of slot → Slid n span s more)
 slid l m n slot span from top more k r o same len ef et e =
     let s = slot_in l slot in
     let big = r.len in
     let first = words_grown (bytes l slot.area.0) (bytes m slot.area.0) s k r.same (let p = k.pages in omega arith) in
-    let spells : Spells (bytes n slot.area.0) heap_place s.heap = Spells-same (bytes m slot.area.0) (bytes n slot.area.0) heap_place s.heap (part_of same (omega arith) (omega arith)) (let w = first.within in omega arith) first.heap in
+    let spells : Spells (bytes n slot.area.0) heap_place s.heap = Spells-same (bytes m slot.area.0) (bytes n slot.area.0) heap_place s.heap
+    (part_of same (omega arith) (omega arith)) (let w = first.within in omega arith) first.heap in
     subst (λ (x : Span). Slid n x s more) (sym e) (record {
       is_span = is_span n (span_of slot) s.heap o spells;
       heap = heap_now n (span_of slot) s.heap spells;
@@ -106,7 +111,8 @@ pub growth_done : (free k : ℕ) (s : plain.Slot) → is_stuck k s ≡ false →
 unfolding after_growth ◌>>=◌ refuse_if
 growth_done free k s e l = rw (e, ltb_no free (pages_for k) l) refl
 
-pub growth_by : (r : Granted (Unit {0})) (free k : ℕ) (s : plain.Slot) → is_stuck k s ≡ false → (IsErr r ↔ (free < pages_for k)) → (IsErr r → IsErrOf r NoRoom) → Gives r free k s
+pub growth_by : (r : Granted (Unit {0})) (free k : ℕ) (s : plain.Slot) → is_stuck k s ≡ false → (IsErr r ↔ (free < pages_for k))
+    → (IsErr r → IsErrOf r NoRoom) → Gives r free k s
 growth_by (Ok x) free k s e i n = growth_done free k s e (elim (cases_lt free (pages_for k)) [ inl l ↦ absurd (let q = i.1 l in cc) | inr h ↦ h ])
 growth_by (Err x) free k s e i n = (let q = n refl in cc) ∙ growth_full free k s e (i.0 refl)
 
@@ -159,11 +165,14 @@ slot_claim-zero free n s e = rw e refl
 -- ---- the heap's own call, in a heap that is long enough
 
 -- a block was placed in the longer heap
-pub placed_there : (m n : Memory) (slot : Slot) (s : plain.Slot) (k : ℕ) (p : Placed) → SpellsIn m slot (lengthened k s) → s.budging ≡ slot.budge → p.heap.end ≡ (raised k s.heap).end
+pub placed_there : (m n : Memory) (slot : Slot) (s : plain.Slot) (k : ℕ) (p : Placed) → SpellsIn m slot (lengthened k s) → s.budging ≡ slot.budge
+    → p.heap.end ≡ (raised k s.heap).end
     → OnlySpan m n (span_of slot) → Spells (bytes n slot.area.0) heap_place p.heap → SpellsIn n slot (with_heap p.heap s)
 placed_there m n slot s k p w b q o h =
-    let now : (heap_in m (span_of slot)).end ≡ (raised k s.heap).end = ap (λ (x : Heap). x.end) (heap_same m slot ∙ ap (λ (x : plain.Slot). x.heap) (slot_now m slot (lengthened k s) w b)) in
-    SpellsSlot-with_heap (bytes m slot.area.0) (bytes n slot.area.0) (lengthened k s) p.heap w (subst (λ i. SameOutside (bytes m slot.area.0) (bytes n slot.area.0) heap_place (heap_place + i)) now o.outside) h q
+    let now : (heap_in m (span_of slot)).end ≡ (raised k s.heap).end =
+    ap (λ (x : Heap). x.end) (heap_same m slot ∙ ap (λ (x : plain.Slot). x.heap) (slot_now m slot (lengthened k s) w b)) in
+    SpellsSlot-with_heap (bytes m slot.area.0) (bytes n slot.area.0) (lengthened k s) p.heap w
+    (subst (λ i. SameOutside (bytes m slot.area.0) (bytes n slot.area.0) heap_place (heap_place + i)) now o.outside) h q
 
 -- what a claim's need says
 pub need_ok : (n k : ℕ) (h : Heap) → Ok k ≡ claim_need n h → (n ≢ 0) × (k ≡ need n h)

@@ -1,5 +1,6 @@
 -- When bytes are a slot's, and what their first fault is.
-use Rattle.std.proofs.Common.{◌≡◌, ℕ, zero, suc, ◌+◌, ◌-◌, ◌*◌, ◌/◌, ◌%◌, ◌<◌, ◌≤◌, ◌⊎◌, inl, inr, Bool, true, false, leb, eqb, List, [], ◌∷◌, length, take, drop, get_or, refl, sym, ap, subst, ◌∙◌, arith}
+use Rattle.std.proofs.Common.{◌≡◌, ℕ, zero, suc, ◌+◌, ◌-◌, ◌*◌, ◌/◌, ◌%◌, ◌<◌, ◌≤◌, ◌⊎◌, inl, inr, Bool, true, false, leb, eqb, List, [], ◌∷◌, length, take}
+use Rattle.std.proofs.Common.{drop, get_or, refl, sym, ap, subst, ◌∙◌, arith}
 use Rattle.std.specs.Prelude.{Some, None, ◌&&◌, ◌||◌, ◌==◌, nat_le}
 use Rattle.std.proofs.lemmas.Bool.{cases_eq}
 use Rattle.std.proofs.lemmas.Bool.Decides.{nat_tests}
@@ -27,7 +28,8 @@ use Rattle.rh_slot.specs.declared.image.SlotFault.TheVariants.{BadLength, BadHea
 module _ (b c : List ℕ) (n m : ℕ) (each : (k : ℕ) → get_or c (m + k) 0 ≡ get_or b (n + k) 0) where
   byte_to : (p q k : ℕ) → m ≤ p → q + m ≡ p + n → get_or c (p + k) 0 ≡ get_or b (q + k) 0
   byte_to p q k l e =
-      ap (λ i. get_or c i 0) (let x : p + k ≡ m + (p - m + k) = omega arith in x) ∙ each (p - m + k) ∙ ap (λ i. get_or b i 0) (let x : n + (p - m + k) ≡ q + k = omega arith in x)
+      ap (λ i. get_or c i 0) (let x : p + k ≡ m + (p - m + k) = omega arith in x) ∙ each (p - m + k)
+      ∙ ap (λ i. get_or b i 0) (let x : n + (p - m + k) ≡ q + k = omega arith in x)
 
   word_to : (p q : ℕ) → m ≤ p → q + m ≡ p + n → word c p ≡ word b q
   word_to p q l e = words_same b c q p (λ k h. byte_to p q k l e)
@@ -80,7 +82,8 @@ heap_from b h i =
     let ld : length d ≡ length b - heap_place = length-drop heap_place b in
     let end : h.end ≤ length d = omega arith in
     let fits = i.spells.heap.fits in
-    let s : Spells d 0 h = Spells-same (heap_bytes b) d 0 h (record { each = λ k u v. sym (get_or-take n d k 0 (omega arith)) }) (let x : 0 + h.end ≤ length d = omega arith in x) i.spells in
+    let s : Spells d 0 h = Spells-same (heap_bytes b) d 0 h (record { each = λ k u v. sym (get_or-take n d k 0 (omega arith)) })
+    (let x : 0 + h.end ≤ length d = omega arith in x) i.spells in
     Spells_to b d heap_place 0 (λ k. ap (λ i. get_or d i 0) (let x : 0 + k ≡ k = omega arith in x) ∙ get_or-drop heap_place b k 0) h (omega arith) s
 
 pub heap_back : (b : List ℕ) (h : Heap) → Spells b heap_place h → IsImage (heap_bytes b) h
@@ -90,7 +93,8 @@ heap_back b h s =
     let last : n ≡ h.end = s.last in
     let w = s.within in
     let ld : length d ≡ length b - heap_place = length-drop heap_place b in
-    let t : Spells d 0 h = Spells_to d b 0 heap_place (λ k. sym (get_or-drop heap_place b k 0) ∙ ap (λ i. get_or d i 0) (let x : k ≡ 0 + k = omega arith in x)) h (let x : 0 + h.end ≤ length d = omega arith in x) s in
+    let t : Spells d 0 h = Spells_to d b 0 heap_place (λ k. sym (get_or-drop heap_place b k 0)
+    ∙ ap (λ i. get_or d i 0) (let x : k ≡ 0 + k = omega arith in x)) h (let x : 0 + h.end ≤ length d = omega arith in x) s in
     let long : length (take n d) ≡ n = length-take-le n d (omega arith) in
     record {
       whole = long ∙ last;
@@ -98,7 +102,8 @@ heap_back b h s =
     }
 
 -- where so many are not there, all bytes behind the anchor words
-pub all_behind : (b : List ℕ) (n : ℕ) → n ≡ word b (heap_place + 12) → length (take (length b - heap_place) (drop heap_place b)) ≤ n → take (length b - heap_place) (drop heap_place b) ≡ heap_bytes b
+pub all_behind : (b : List ℕ) (n : ℕ) → n ≡ word b (heap_place + 12) → length (take (length b - heap_place) (drop heap_place b)) ≤ n
+    → take (length b - heap_place) (drop heap_place b) ≡ heap_bytes b
 all_behind b n e h =
     let ld : length (drop heap_place b) ≡ length b - heap_place = length-drop heap_place b in
     let lt = length-take-le (length b - heap_place) (drop heap_place b) (omega arith) in
@@ -135,8 +140,10 @@ pub record Rows (b : List ℕ) (p : ℕ) (fs : List Flex) : Type 0 where
 -- an anchor that leads to a place is that of no block above it
 free_above : (b : List ℕ) (k p q : ℕ) (fs : List Flex) → Hang b q fs → p < q → word b (4 * k) ≡ slot_start + p + 8 → IsFree k fs
 free_above b k p q [] h l w = tt
-free_above b k p q (f ∷ fs) h l w =
-    ((λ e. let v : word b (4 * k) ≡ slot_start + q + 8 = ap (λ a. word b (4 * a)) (sym e) ∙ h.0 in absurd (omega arith)), free_above b k p (q + weight f) fs h.1 (omega arith) w)
+free_above b k p q (f ∷ fs) h l w = (
+  (λ e. let v : word b (4 * k) ≡ slot_start + q + 8 = ap (λ a. word b (4 * a)) (sym e) ∙ h.0 in absurd (omega arith)),
+  free_above b k p (q + weight f) fs h.1 (omega arith) w,
+)
 
 rows_on : (b : List ℕ) (p : ℕ) (fs : List Flex) → IsBlock b p → Rows b (after b p) fs → Rows b p (block_at b p ∷ fs)
 rows_on b p fs i r =
@@ -278,7 +285,8 @@ pub blocks_from : (b : List ℕ) → (read b).blocks ≡ flex_in (length b) b (h
 unfolding slot_of heap_of
 blocks_from b = refl
 
-pub long : (b : List ℕ) → slot_length (read b) ≡ heap_place + word b (heap_place + 12) + total weight (flex_in (length b) b (heap_place + word b (heap_place + 12)))
+pub long : (b : List ℕ) → slot_length (read b) ≡ heap_place + word b (heap_place + 12) + total weight
+    (flex_in (length b) b (heap_place + word b (heap_place + 12)))
 unfolding slot_of heap_of
 long b = refl
 
@@ -286,7 +294,8 @@ pub heap_is : (b : List ℕ) (h : Heap) → IsImage (heap_bytes b) h → (read b
 unfolding slot_of
 heap_is b h i = heap_of-Spells b heap_place h (heap_from b h i)
 
-pub is_slot : (b : List ℕ) (h : Heap) → IsImage (heap_bytes b) h → Length b → slot_length (read b) ≤ length b → are_hung b (read b).blocks anchor_count ≡ true → length b ≡ PAGE * slot_pages (read b) → IsSlotImage b (read b)
+pub is_slot : (b : List ℕ) (h : Heap) → IsImage (heap_bytes b) h → Length b → slot_length (read b) ≤ length b
+    → are_hung b (read b).blocks anchor_count ≡ true → length b ≡ PAGE * slot_pages (read b) → IsSlotImage b (read b)
 unfolding slot_of
 is_slot b h i l within hung pages =
     let s = heap_from b h i in
@@ -320,17 +329,18 @@ module _ (b : List ℕ) where
   unfolding slot_fault_of
   fault-size e h w = rw (e, h, w) refl
 
-  pub fault-anchor : has_length b ≡ true → fault_of (heap_bytes b) ≡ None → nat_le (slot_length (read b)) (length b) ≡ true → are_hung b (read b).blocks anchor_count ≡ false → slot_fault_of b ≡ Some BadAnchor
+  pub fault-anchor : has_length b ≡ true → fault_of (heap_bytes b) ≡ None → nat_le (slot_length (read b)) (length b) ≡ true
+      → are_hung b (read b).blocks anchor_count ≡ false → slot_fault_of b ≡ Some BadAnchor
   unfolding slot_fault_of
   fault-anchor e h w a = rw (e, h, w, a) refl
 
-  pub fault-page : has_length b ≡ true → fault_of (heap_bytes b) ≡ None → nat_le (slot_length (read b)) (length b) ≡ true → are_hung b (read b).blocks anchor_count ≡ true → (length b == PAGE * slot_pages (read b)) ≡ false
-      → slot_fault_of b ≡ Some SparePage
+  pub fault-page : has_length b ≡ true → fault_of (heap_bytes b) ≡ None → nat_le (slot_length (read b)) (length b) ≡ true
+      → are_hung b (read b).blocks anchor_count ≡ true → (length b == PAGE * slot_pages (read b)) ≡ false → slot_fault_of b ≡ Some SparePage
   unfolding slot_fault_of
   fault-page e h w a p = rw (e, h, w, a, p) refl
 
-  pub fault-none : has_length b ≡ true → fault_of (heap_bytes b) ≡ None → nat_le (slot_length (read b)) (length b) ≡ true → are_hung b (read b).blocks anchor_count ≡ true → (length b == PAGE * slot_pages (read b)) ≡ true
-      → slot_fault_of b ≡ None
+  pub fault-none : has_length b ≡ true → fault_of (heap_bytes b) ≡ None → nat_le (slot_length (read b)) (length b) ≡ true
+      → are_hung b (read b).blocks anchor_count ≡ true → (length b == PAGE * slot_pages (read b)) ≡ true → slot_fault_of b ≡ None
   unfolding slot_fault_of
   fault-none e h w a p = rw (e, h, w, a, p) refl
 

@@ -1,5 +1,6 @@
 -- How far a check of a slot's bytes has come.
-use Rattle.std.proofs.Common.{◌≡◌, ℕ, zero, suc, ◌+◌, ◌-◌, ◌*◌, ◌%◌, ◌<◌, ◌≤◌, true, false, leb, List, [], ◌∷◌, ◌++◌, length, refl, sym, ap, ◌∙◌, append_assoc, length-append, arith}
+use Rattle.std.proofs.Common.{◌≡◌, ℕ, zero, suc, ◌+◌, ◌-◌, ◌*◌, ◌%◌, ◌<◌, ◌≤◌, true, false, leb, List, [], ◌∷◌, ◌++◌, length, refl, sym, ap, ◌∙◌}
+use Rattle.std.proofs.Common.{append_assoc, length-append, arith}
 use Rattle.std.specs.Prelude.{Some, None, nat_le}
 use Rattle.std.proofs.lemmas.Bool.Decides.{nat_tests}
 use Rattle.std.proofs.lemmas.List.{append-nil}
@@ -18,7 +19,8 @@ use Rattle.rh_slot.specs.Image.{IsSlotImage, IsRow, flex_size, has_length, heap_
 use Rattle.rh_slot.specs.declared.image.BlockSums.{BlockSums}
 use Rattle.rh_slot.specs.declared.image.SlotFault.TheVariants.{BadSize, BadAnchor, SparePage}
 use Rattle.rh_slot.specs.declared.image.SlotSummary.{SlotSummary}
-use Rattle.rh_slot.proofs.ImageLaws.{block_at, after, flex_in-yes, flex_in-no, weight-block_at, Length, length_from, read, blocks_from, long, heap_is, heap_from, is_slot, fault-size, fault-anchor, fault-page, not_true, slot_clean}
+use Rattle.rh_slot.proofs.ImageLaws.{block_at, after, flex_in-yes, flex_in-no, weight-block_at, Length, length_from, read, blocks_from, long, heap_is}
+use Rattle.rh_slot.proofs.ImageLaws.{heap_from, is_slot, fault-size, fault-anchor, fault-page, not_true, slot_clean}
 use Rattle.rh_slot.proofs.AnchorCounts.{as_many, hung_by}
 
 sum_both : (size : Flex → ℕ) (xs ys : List Flex) → total size (xs ++ ys) ≡ total size xs + total size ys
@@ -45,14 +47,16 @@ more zero h = absurd (omega arith)
 more (suc k) h = record { left = k; is = refl }
 
 -- what stands at the walk's place
-pub is_now : (b : List ℕ) (from p : ℕ) (w : Passing b from p) (m : More w.fuel) → is_block b p ≡ true → flex_in (length b) b from ≡ w.passed ++ block_at b p ∷ flex_in m.left b (after b p)
+pub is_now : (b : List ℕ) (from p : ℕ) (w : Passing b from p) (m : More w.fuel) → is_block b p ≡ true
+    → flex_in (length b) b from ≡ w.passed ++ block_at b p ∷ flex_in m.left b (after b p)
 is_now b from p w m t = w.is ∙ ap (λ l. w.passed ++ l) (ap (λ i. flex_in i b p) m.is ∙ flex_in-yes m.left b p t)
 
 pub passing_on : (b : List ℕ) (from p q : ℕ) (w : Passing b from p) (m : More w.fuel) → is_block b p ≡ true → q ≡ after b p → Passing b from q
 passing_on b from p q w m t e = record {
   passed = w.passed ++ block_at b p ∷ [];
   fuel = m.left;
-  is = is_now b from p w m t ∙ sym (append_assoc w.passed (block_at b p ∷ []) (flex_in m.left b (after b p))) ∙ ap (λ i. (w.passed ++ block_at b p ∷ []) ++ flex_in m.left b i) (sym e);
+  is = is_now b from p w m t ∙ sym (append_assoc w.passed (block_at b p ∷ []) (flex_in m.left b (after b p)))
+      ∙ ap (λ i. (w.passed ++ block_at b p ∷ []) ++ flex_in m.left b i) (sym e);
   place = omega (arith, w.place, sum_both weight w.passed (block_at b p ∷ []), weight-block_at b p);
 }
 
@@ -73,9 +77,11 @@ pub record RowWalk (b : List ℕ) (from : ℕ) (sums : BlockSums) : Type 0 where
 
 pub row_start : (b : List ℕ) (from : ℕ) → heap_place ≤ from → from ≤ length b → from % 4 ≡ 0 → RowWalk b from (record { top = from; blocks = 0; bytes = 0 })
 unfolding passing_start
-row_start b from l h e = record { walk = passing_start b from; enough = omega arith; within = h; whole = e; blocks = refl; bytes = refl; few = omega arith; small = omega arith }
+row_start b from l h e =
+    record { walk = passing_start b from; enough = omega arith; within = h; whole = e; blocks = refl; bytes = refl; few = omega arith; small = omega arith }
 
-pub row_turn : (b : List ℕ) (from : ℕ) (sums : BlockSums) (size step : ℕ) → RowWalk b from sums → is_block b sums.top ≡ true → size ≡ word b (sums.top + 4) → step ≡ flex_weight size → sums.top + step ≤ length b
+pub row_turn : (b : List ℕ) (from : ℕ) (sums : BlockSums) (size step : ℕ) → RowWalk b from sums → is_block b sums.top ≡ true → size ≡ word b (sums.top + 4)
+    → step ≡ flex_weight size → sums.top + step ≤ length b
     → RowWalk b from (record { top = sums.top + step; blocks = sums.blocks + 1; bytes = sums.bytes + size })
 unfolding passing_on
 row_turn b from sums size step w t es e fits =
@@ -100,7 +106,8 @@ row_turn b from sums size step w t es e fits =
       small = omega arith;
     }
 
-pub row_over : (b : List ℕ) (from : ℕ) (sums : BlockSums) → RowWalk b from sums → is_block b sums.top ≡ true → length b < sums.top + flex_weight (word b (sums.top + 4)) → length b < from + total weight (flex_in (length b) b from)
+pub row_over : (b : List ℕ) (from : ℕ) (sums : BlockSums) → RowWalk b from sums → is_block b sums.top ≡ true
+    → length b < sums.top + flex_weight (word b (sums.top + 4)) → length b < from + total weight (flex_in (length b) b from)
 row_over b from sums w t h =
     let enough = w.enough in
     let within = w.within in
@@ -130,7 +137,8 @@ pub record Ready (b : List ℕ) (from : ℕ) : Type 0 where
   pub within : from ≤ length b
   pub whole : from % 4 ≡ 0
 
-pub ready : (b : List ℕ) (from w : ℕ) → has_length b ≡ true → IsImage (heap_bytes b) (heap_of (heap_bytes b) 0) → w ≡ word b (heap_place + 12) → from ≡ heap_place + w → Ready b from
+pub ready : (b : List ℕ) (from w : ℕ) → has_length b ≡ true → IsImage (heap_bytes b) (heap_of (heap_bytes b) 0) → w ≡ word b (heap_place + 12)
+    → from ≡ heap_place + w → Ready b from
 ready b from w e i ew ef =
     let s = heap_from b (heap_of (heap_bytes b) 0) i in
     let last = s.last in
@@ -174,7 +182,8 @@ module _ (b : List ℕ) (from : ℕ) (r : Ready b from) where
     hung e = ap (λ l. are_hung b l anchor_count) row_is ∙ hung_by b (length b) from (e ∙ i.blocks)
 
     pub bad_anchor : (words_in_use b anchor_count ≡ row.blocks → ⊥) → slot_fault_of b ≡ Some BadAnchor
-    bad_anchor d = fault-anchor b r.right r.clean inside (not_true (are_hung b (read b).blocks anchor_count) (λ e. d (as_many b (length b) from (ap (λ l. are_hung b l anchor_count) (sym row_is) ∙ e) ∙ sym i.blocks)))
+    bad_anchor d = fault-anchor b r.right r.clean inside (not_true (are_hung b (read b).blocks anchor_count)
+        (λ e. d (as_many b (length b) from (ap (λ l. are_hung b l anchor_count) (sym row_is) ∙ e) ∙ sym i.blocks)))
 
     pub spare : words_in_use b anchor_count ≡ row.blocks → PAGE ≤ length b - row.top → slot_fault_of b ≡ Some SparePage
     spare e h = fault-page b r.right r.clean inside (hung e)
@@ -189,10 +198,17 @@ module _ (b : List ℕ) (from : ℕ) (r : Ready b from) where
     pub no_fault : words_in_use b anchor_count ≡ row.blocks → length b - row.top < PAGE → slot_fault_of b ≡ None
     no_fault e h = slot_clean b (read b) (all_right e h) refl
 
-    pub sums_are : (heap : Summary) → heap ≡ summary_of (heap_of (heap_bytes b) 0) → (let s : SlotSummary = record { blocks = row.blocks; bytes = row.bytes; heap = heap; unused = length b - row.top } in s) ≡ slot_summary (length b) (read b)
+    pub sums_are : (heap : Summary) → heap ≡ summary_of (heap_of (heap_bytes b) 0)
+        → (let s : SlotSummary = record { blocks = row.blocks; bytes = row.bytes; heap = heap; unused = length b - row.top } in s) ≡ slot_summary (length b)
+        (read b)
     sums_are heap e =
         let he : heap ≡ summary_of (read b).heap = e ∙ ap summary_of (sym (heap_is b (heap_of (heap_bytes b) 0) r.image)) in
-        ap (λ (x : ℕ). let s : SlotSummary = record { blocks = x; bytes = row.bytes; heap = heap; unused = length b - row.top } in s) (i.blocks ∙ ap length (sym row_is))
-        ∙ ap (λ (x : ℕ). let s : SlotSummary = record { blocks = length (read b).blocks; bytes = x; heap = heap; unused = length b - row.top } in s) (i.bytes ∙ ap (total flex_size) (sym row_is))
-        ∙ ap (λ (x : Summary). let s : SlotSummary = record { blocks = length (read b).blocks; bytes = total flex_size (read b).blocks; heap = x; unused = length b - row.top } in s) he
-        ∙ ap (λ (x : ℕ). let s : SlotSummary = record { blocks = length (read b).blocks; bytes = total flex_size (read b).blocks; heap = summary_of (read b).heap; unused = length b - x } in s) (sym length_here)
+        ap (λ (x : ℕ). let s : SlotSummary = record { blocks = x; bytes = row.bytes; heap = heap; unused = length b - row.top } in s)
+        (i.blocks ∙ ap length (sym row_is))
+        ∙ ap (λ (x : ℕ). let s : SlotSummary = record { blocks = length (read b).blocks; bytes = x; heap = heap; unused = length b - row.top } in s)
+        (i.bytes ∙ ap (total flex_size) (sym row_is))
+        ∙ ap (λ (x : Summary). let s : SlotSummary =
+        record { blocks = length (read b).blocks; bytes = total flex_size (read b).blocks; heap = x; unused = length b - row.top } in s) he
+        ∙ ap (λ (x : ℕ). let s : SlotSummary =
+        record { blocks = length (read b).blocks; bytes = total flex_size (read b).blocks; heap = summary_of (read b).heap; unused = length b - x } in
+        s) (sym length_here)

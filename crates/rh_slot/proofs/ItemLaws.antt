@@ -31,7 +31,8 @@ unfolding anchors
 small [] h q e = absurd (cc)
 small (b ∷ blocks) h q e = go (eqb q b.anchor) refl e (small blocks h.2 q)
   where
-    go : (t : Bool) → eqb q b.anchor ≡ t → (t || list_any (eqb q) (anchors blocks)) ≡ true → (list_any (eqb q) (anchors blocks) ≡ true → q < anchor_count) → q < anchor_count
+    go : (t : Bool) → eqb q b.anchor ≡ t → (t || list_any (eqb q) (anchors blocks)) ≡ true → (list_any (eqb q) (anchors blocks) ≡ true → q < anchor_count)
+        → q < anchor_count
     go true s e rest = let same : q ≡ b.anchor = eqb-true _ _ s in omega (arith, h.0)
     go false s e rest = rest e
 
@@ -47,12 +48,14 @@ items_length place [] = refl
 items_length place (b ∷ blocks) = let rest = items_length (place + weight b) blocks in omega (arith, rest)
 
 -- as many items are listed as blocks were passed, and there is one more
-pub room_left : (s : Slot) (n : ℕ) (items : List BlockItem) (x : BlockItem) → HaveAnchors s.blocks → items ≡ take n (block_items s) → Some x ≡ slice_get (block_items s) n → length items < anchor_count
+pub room_left : (s : Slot) (n : ℕ) (items : List BlockItem) (x : BlockItem) → HaveAnchors s.blocks → items ≡ take n (block_items s)
+    → Some x ≡ slice_get (block_items s) n → length items < anchor_count
 room_left s n items x h is e =
     let l = slice_get_within (block_items s) n x (sym e) in
     omega (arith, ap length is, length-take-le n (block_items s) (omega arith), few_blocks s.blocks h, items_length (flex_start s) s.blocks, l)
 
-pub one_more : (xs : List BlockItem) (n : ℕ) (items : List BlockItem) (x : BlockItem) → items ≡ take n xs → Some x ≡ slice_get xs n → items ++ x ∷ [] ≡ take (n + 1) xs
+pub one_more : (xs : List BlockItem) (n : ℕ) (items : List BlockItem) (x : BlockItem) → items ≡ take n xs → Some x ≡ slice_get xs n
+    → items ++ x ∷ [] ≡ take (n + 1) xs
 one_more xs n items x is e =
     ap (λ l. l ++ x ∷ []) is
     ∙ (ap (λ y. take n xs ++ y ∷ []) (sym (get_or_from_slice_get xs n x x (sym e))) ∙ sym (take_more xs n x (slice_get_within xs n x (sym e))))

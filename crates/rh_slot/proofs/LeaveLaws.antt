@@ -13,7 +13,8 @@ use Rattle.rh_slot.proofs.SpanLaws.{slot_now, is_slot}
 
 module _ {A : Type 0} (m n : Memory) (slot : Slot) (granted : Granted (plain.Slot × A)) where
   -- it is done
-  pub leaves : (s : plain.Slot) (answer : A) → granted ≡ Ok (s, answer) → s.budging ≡ slot.budge → SpellsIn n slot s → OnlyArea m n slot.area.0 → Leaves m n slot granted (Ok answer)
+  pub leaves : (s : plain.Slot) (answer : A) → granted ≡ Ok (s, answer) → s.budging ≡ slot.budge → SpellsIn n slot s → OnlyArea m n slot.area.0
+      → Leaves m n slot granted (Ok answer)
   leaves s answer e b k only = record {
     answer = sym (ap answer_of e);
     slot = slot_now n slot s k b ∙ sym (ap (left_of (slot_in m slot)) e);

@@ -15,7 +15,8 @@ use Rattle.rh_slot.proofs.WalkLaws.{Turn, turn}
 pub anchors_long : (b anchors : List ℕ) → anchors ≡ part b 0 PAGE → heap_place ≤ length anchors
 anchors_long b anchors e = omega (arith, ap length e, length-part b 0 PAGE)
 
-module _ (b anchors page : List ℕ) (start n at place : ℕ) (item : BlockItem) (first : anchors ≡ part b 0 PAGE) (rest : page ≡ part b start n) (e : place ≡ start + at) (h : Headed anchors page at place item) where
+module _ (b anchors page : List ℕ) (start n at place : ℕ) (item : BlockItem) (first : anchors ≡ part b 0 PAGE) (rest : page ≡ part b start n)
+    (e : place ≡ start + at) (h : Headed anchors page at place item) where
   long : length page ≡ n
   long = ap length rest ∙ length-part b start n
 
@@ -52,11 +53,13 @@ module _ (b anchors page : List ℕ) (start n at place : ℕ) (item : BlockItem)
       ∙ ap (λ w. let r : BlockItem = record { anchor = (word b place - 32768) / 4; address = 32768 + place + 8; size = w } in r) (in_header 4 (omega arith)))
 
 -- a block's header that lies whole in the page
-module _ (b anchors page : List ℕ) (start n at place : ℕ) (first : anchors ≡ part b 0 PAGE) (rest : page ≡ part b start n) (e : place ≡ start + at) (within : at + 8 ≤ n) where
+module _ (b anchors page : List ℕ) (start n at place : ℕ) (first : anchors ≡ part b 0 PAGE) (rest : page ≡ part b start n) (e : place ≡ start + at)
+    (within : at + 8 ≤ n) where
   first_word : word page at ≡ word b place
   first_word = ap (λ l. word l at) rest ∙ word-part b start n at (omega arith) ∙ ap (word b) (omega arith)
 
-  header_in : is_block b place ≡ true → Headed anchors page at place (record { anchor = (word page at - slot_start) / 4; address = slot_start + place + 8; size = word page (at + 4) })
+  header_in : is_block b place ≡ true
+      → Headed anchors page at place (record { anchor = (word page at - slot_start) / 4; address = slot_start + place + 8; size = word page (at + 4) })
   header_in t =
       let i = is_block-is b place t in
       let w = first_word in
@@ -68,13 +71,14 @@ module _ (b anchors page : List ℕ) (start n at place : ℕ) (first : anchors �
         least = omega arith;
         most = omega arith;
         multiple = omega arith;
-        back = ap (λ l. word l (word page at - slot_start)) first ∙ word-part b 0 PAGE (word page at - slot_start) (omega arith) ∙ ap (word b) (omega arith) ∙ i.back;
+        back = ap (λ l. word l (word page at - slot_start)) first ∙ word-part b 0 PAGE (word page at - slot_start) (omega arith) ∙ ap (word b) (omega arith)
+            ∙ i.back;
         is = refl;
       }
 
 -- where no header was found, none lies whole in the page
-pub beyond : (b anchors page : List ℕ) (start n at place : ℕ) → anchors ≡ part b 0 PAGE → page ≡ part b start n → place ≡ start + at → ((item : BlockItem) → Headed anchors page at place item → ⊥)
-    → is_block b place ≡ true → start + n < place + 8
+pub beyond : (b anchors page : List ℕ) (start n at place : ℕ) → anchors ≡ part b 0 PAGE → page ≡ part b start n → place ≡ start + at
+    → ((item : BlockItem) → Headed anchors page at place item → ⊥) → is_block b place ≡ true → start + n < place + 8
 beyond b anchors page start n at place first rest e none t = elim (cases_lt (start + n) (place + 8)) [
   | inl l ↦ l
   | inr l ↦ absurd (none _ (header_in b anchors page start n at place first rest e (omega arith) t))
@@ -87,9 +91,14 @@ pub record Passes (b : List ℕ) (s : Slot) (place : ℕ) (item : BlockItem) : T
   pub is : item ≡ item_of b place
   pub turned : Turn b s place item.size
 
-pub passes : (b anchors page : List ℕ) (s : Slot) (start n at place : ℕ) (item : BlockItem) → SlotWords b s → Walked s place → anchors ≡ part b 0 PAGE → page ≡ part b start n → place ≡ start + at
-    → Headed anchors page at place item → Passes b s place item
+pub passes : (b anchors page : List ℕ) (s : Slot) (start n at place : ℕ) (item : BlockItem) → SlotWords b s → Walked s place → anchors ≡ part b 0 PAGE
+    → page ≡ part b start n → place ≡ start + at → Headed anchors page at place item → Passes b s place item
 passes b anchors page s start n at place item k w first rest e h =
     let block = headed_block b anchors page start n at place item first rest e h in
     let size = headed_size b anchors page start n at place item first rest e h in
-    record { block = block; size = size; is = headed_item b anchors page start n at place item first rest e h; turned = turn b s place k w block item.size size }
+    record {
+      block = block;
+      size = size;
+      is = headed_item b anchors page start n at place item first rest e h;
+      turned = turn b s place k w block item.size size;
+    }

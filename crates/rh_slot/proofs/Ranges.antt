@@ -30,11 +30,13 @@ pub record Standing (b xs : List ℕ) (place n floor ceiling : ℕ) : Type 0 whe
 pub cut_found : (s : plain.Slot) (k : ℕ) (cut : Split Flex) → s.blocks ≡ cut.before ++ cut.here ∷ cut.after → cut.here.anchor ≡ k → IsFree k cut.before
     → FoundAt k s (flex_place s + total weight cut.before) (length cut.here.bytes) cut
 cut_found s k cut is e u =
-    let sum : total weight s.blocks ≡ total weight cut.before + (weight cut.here + total weight cut.after) = ap (total weight) is ∙ sum-append weight cut.before (cut.here ∷ cut.after) in
+    let sum : total weight s.blocks ≡ total weight cut.before + (weight cut.here + total weight cut.after) =
+    ap (total weight) is ∙ sum-append weight cut.before (cut.here ∷ cut.after) in
     record { is = is; anchor = e; free = u; stands = refl; long = refl; low = omega arith; inside = omega arith }
 
 -- the block that an anchor's calls find is at a cut
-pub found_block : (s : plain.Slot) (k : ℕ) (cut : Split Flex) → slot_block k s ≡ Ok cut → FoundAt k s (flex_place s + total weight cut.before) (length cut.here.bytes) cut
+pub found_block : (s : plain.Slot) (k : ℕ) (cut : Split Flex) → slot_block k s ≡ Ok cut
+    → FoundAt k s (flex_place s + total weight cut.before) (length cut.here.bytes) cut
 found_block s k cut e = elim (find k s.blocks) [
   | inl u ↦ absurd (let x = block_none k s u in cc)
   | inr t ↦
@@ -46,7 +48,8 @@ found_block s k cut e = elim (find k s.blocks) [
 ]
 
 -- bytes of a flex block
-pub flex-part : (m : Memory) (self : Slot) (k offset n : ℕ) (b : Split Flex) → IsSlot m self → slot_block k (slot_in m self) ≡ Ok b → offset + n ≤ length b.here.bytes
+pub flex-part : (m : Memory) (self : Slot) (k offset n : ℕ) (b : Split Flex) → IsSlot m self → slot_block k (slot_in m self) ≡ Ok b
+    → offset + n ≤ length b.here.bytes
     → Standing (bytes m self.area.0) (take n (drop offset b.here.bytes)) (flex_address (slot_in m self) b.before + offset - slot_start) n
     (flex_place (slot_in m self)) (length (bytes m self.area.0))
 flex-part m self k offset n b s e h =
@@ -57,7 +60,8 @@ flex-part m self k offset n b s e h =
     let inside = f.inside in
     let place : flex_place z + total weight b.before + 8 + offset ≡ flex_address z b.before + offset - slot_start = omega arith in
     record {
-      is = sym (read_bytes (bytes m self.area.0) z k (flex_place z + total weight b.before) (length b.here.bytes) offset n b w f h) ∙ ap (λ p. part (bytes m self.area.0) p n) place;
+      is = sym (read_bytes (bytes m self.area.0) z k (flex_place z + total weight b.before) (length b.here.bytes) offset n b w f h)
+          ∙ ap (λ p. part (bytes m self.area.0) p n) place;
       low = omega arith;
       high = omega arith;
     }
@@ -71,7 +75,8 @@ pub record HeapCut (h : Heap) (x : ℕ) (cut : Split Segment) : Type 0 where
 
 pub heap_cut : (h : Heap) (x : ℕ) (cut : Split Segment) → block_at x h ≡ Some cut → HeapCut h x cut
 heap_cut h x cut e =
-    let c : IsCut size_of (is_block_at x) 16 h.segments cut = subst (λ o. IfSome o (IsCut size_of (is_block_at x) 16 h.segments)) e (first_at-cuts size_of (is_block_at x) 16 h.segments) in
+    let c : IsCut size_of (is_block_at x) 16 h.segments cut =
+    subst (λ o. IfSome o (IsCut size_of (is_block_at x) 16 h.segments)) e (first_at-cuts size_of (is_block_at x) 16 h.segments) in
     let t = block_cut x (16 + total size_of cut.before) cut.here c.passes in
     let here : cut.here ≡ Used (bytes_of cut.here) = t.1 ∙ ap (λ g. Used (bytes_of g)) (sym t.1) in
     let is : h.segments ≡ cut.before ++ Used (bytes_of cut.here) ∷ cut.after = c.whole ∙ ap (λ g. cut.before ++ g ∷ cut.after) here in
@@ -81,7 +86,8 @@ heap_cut h x cut e =
     record { is = is; here = here; stands = stands; inside = omega arith }
 
 -- the bytes of a heap's block
-pub cut_bytes : (b : List ℕ) (at : ℕ) (h : Heap) (x : ℕ) (cut : Split Segment) → Spells b at h → HeapCut h x cut → part b (at + x) (length (bytes_of cut.here)) ≡ bytes_of cut.here
+pub cut_bytes : (b : List ℕ) (at : ℕ) (h : Heap) (x : ℕ) (cut : Split Segment) → Spells b at h → HeapCut h x cut
+    → part b (at + x) (length (bytes_of cut.here)) ≡ bytes_of cut.here
 cut_bytes b at h x cut s c =
     let t = Stand-split b (at + 4) (at + 16) cut.before (Used (bytes_of cut.here) ∷ cut.after) (subst (Stand b (at + 4) (at + 16)) c.is s.stand) in
     ap (λ p. part b p (length (bytes_of cut.here))) (let e = c.stands in omega arith) ∙ t.1.1
@@ -94,7 +100,8 @@ heap-low m self a b s e =
     omega arith
 
 -- the first bytes of a block of the C heap
-pub heap-part : (m : Memory) (self : Slot) (a n : ℕ) (b : Split Segment) → IsSlot m self → heap_block_at a (slot_in m self) ≡ Some b → n ≤ length (bytes_of b.here)
+pub heap-part : (m : Memory) (self : Slot) (a n : ℕ) (b : Split Segment) → IsSlot m self → heap_block_at a (slot_in m self) ≡ Some b
+    → n ≤ length (bytes_of b.here)
     → (slot_start ≤ a) × Standing (bytes m self.area.0) (take n (bytes_of b.here)) (a - slot_start) n 0 (flex_place (slot_in m self))
 heap-part m self a n b s e h =
     let z = slot_in m self in
@@ -107,7 +114,8 @@ heap-part m self a n b s e h =
     let place : heap_place + (a - heap_start) + 0 ≡ a - slot_start = omega arith in (
       omega arith,
       record {
-        is = sym (ap (λ p. part (bytes m self.area.0) p n) (sym place) ∙ sym (part-part (bytes m self.area.0) (heap_place + (a - heap_start)) (length (bytes_of b.here)) 0 n (omega arith))
+        is = sym (ap (λ p. part (bytes m self.area.0) p n) (sym place) ∙ sym
+            (part-part (bytes m self.area.0) (heap_place + (a - heap_start)) (length (bytes_of b.here)) 0 n (omega arith))
             ∙ ap (λ l. part l 0 n) whole ∙ part-drop (bytes_of b.here) 0 n (omega arith));
         low = omega arith;
         high = omega arith;

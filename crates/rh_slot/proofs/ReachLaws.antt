@@ -35,7 +35,8 @@ tidy_with false (Used bs ∷ xs) ys old new e h = (h.0, tidy_with false xs ys ol
 tidy_with true (Hole n ∷ xs) ys old new e h = absurd h
 tidy_with false (Hole n ∷ xs) ys old new e h = (h.0, h.1, tidy_with true xs ys old new e h.2)
 
-pub Spells-with : (b c : List ℕ) (at : ℕ) (h : Heap) (xs ys : List Segment) (old new : List ℕ) (p : ℕ) → Spells b at h → h.segments ≡ xs ++ Used old ∷ ys → p ≡ at + 16 + total size_of xs → length new ≡ length old
+pub Spells-with : (b c : List ℕ) (at : ℕ) (h : Heap) (xs ys : List Segment) (old new : List ℕ) (p : ℕ) → Spells b at h → h.segments ≡ xs ++ Used old ∷ ys
+    → p ≡ at + 16 + total size_of xs → length new ≡ length old
     → SameOutside b c (p + 4) (p + 4 + length old) → part c (p + 4) (length new) ≡ new → Spells c at (record h { segments = xs ++ Used new ∷ ys })
 Spells-with b c at h xs ys old new p s is ep e o now =
     let room = HasRoom-append xs (Used old ∷ ys) (subst HasRoom is (HasRoom-from_tidy false h.segments s.heap.tidy)) in
@@ -56,16 +57,19 @@ Spells-with b c at h xs ys old new p s is ep e o now =
       base = word_same b c (at + 8) (in_below o (omega arith)) ∙ s.base ∙ omega arith;
       last = word_same b c (at + 12) (in_below o (omega arith)) ∙ s.last;
       stand = Stand-join c (at + 4) (at + 16) xs (Used new ∷ ys)
-          (Open-kept b c (at + 4) (at + 16) xs room.0 (omega arith) (record { link = λ k x y z. o.below k (omega arith); body = λ k x y z. o.below k (omega arith) }) st.0)
+          (Open-kept b c (at + 4) (at + 16) xs room.0 (omega arith)
+          (record { link = λ k x y z. o.below k (omega arith); body = λ k x y z. o.below k (omega arith) }) st.0)
           (subst (λ q. Stand c f q (Used new ∷ ys)) ep (
             word_same b c p (in_below o (omega arith)) ∙ here.0 ∙ ap (λ n. 4 + n) (sym e),
             now,
-            subst (λ n. Stand c f (p + (4 + n)) ys) (sym e) (Stand-kept b c f (p + (4 + length old)) ys room.1 (word_same b c f (in_below o (omega arith))) (in_above o (omega arith)) here.2),
+            subst (λ n. Stand c f (p + (4 + n)) ys) (sym e) (Stand-kept b c f (p + (4 + length old)) ys room.1 (word_same b c f (in_below o (omega arith)))
+                (in_above o (omega arith)) here.2),
           ));
     }
 
 -- bytes put into a block of a heap
-pub Spells-put : (b : List ℕ) (at : ℕ) (h : Heap) (y offset q : ℕ) (cut : Split Segment) (xs : List ℕ) → Spells b at h → HeapCut h y cut → offset + length xs ≤ length (bytes_of cut.here) → q ≡ at + y + offset
+pub Spells-put : (b : List ℕ) (at : ℕ) (h : Heap) (y offset q : ℕ) (cut : Split Segment) (xs : List ℕ) → Spells b at h → HeapCut h y cut
+    → offset + length xs ≤ length (bytes_of cut.here) → q ≡ at + y + offset
     → Spells (put b q xs) at (record h { segments = with_here cut (Used (written (bytes_of cut.here) offset xs)) })
 Spells-put b at h y offset q cut xs s c h1 eq =
     let old = bytes_of cut.here in
@@ -115,19 +119,22 @@ heap_below x n p (Hole m ∷ ss) h = (refl, heap_below x n (p + m) ss (omega ari
 
 -- the n bytes at an address lie in one block
 pub data Holder (s : Slot) (x n : ℕ) : Type 0 where
-  flex_holder : (cut : Split Flex) (offset : ℕ) → flex_around x n s ≡ Some cut → s.blocks ≡ cut.before ++ cut.here ∷ cut.after → x ≡ flex_address s cut.before + offset
-      → offset + n ≤ length cut.here.bytes → Holder s x n
-  heap_holder : (cut : Split Segment) (offset : ℕ) → flex_around x n s ≡ None → block_around (x - heap_start) n s.heap ≡ Some cut → HeapCut s.heap (16 + total size_of cut.before + 4) cut
+  flex_holder : (cut : Split Flex) (offset : ℕ) → flex_around x n s ≡ Some cut → s.blocks ≡ cut.before ++ cut.here ∷ cut.after
+      → x ≡ flex_address s cut.before + offset → offset + n ≤ length cut.here.bytes → Holder s x n
+  heap_holder : (cut : Split Segment) (offset : ℕ) → flex_around x n s ≡ None → block_around (x - heap_start) n s.heap ≡ Some cut
+      → HeapCut s.heap (16 + total size_of cut.before + 4) cut
       → x ≡ heap_start + (16 + total size_of cut.before + 4) + offset → offset + n ≤ length (bytes_of cut.here) → Holder s x n
 
-around_used : (x n place : ℕ) (g : Segment) → is_around x n place g ≡ true → (g ≡ Used (bytes_of g)) × ((place + 4 ≤ x) × (x + n ≤ place + 4 + length (bytes_of g)))
+around_used : (x n place : ℕ) (g : Segment) → is_around x n place g ≡ true
+    → (g ≡ Used (bytes_of g)) × ((place + 4 ≤ x) × (x + n ≤ place + 4 + length (bytes_of g)))
 around_used x n place (Used bs) e = (refl, is_inside_from x n (place + 4) (length bs) e)
 around_used x n place (Hole m) e = absurd cc
 
 module _ (s : Slot) (x n : ℕ) where
   in_some_flex : (cut : Split Flex) → flex_around x n s ≡ Some cut → Holder s x n
   in_some_flex cut f =
-      let c : IsCut weight (is_at x n) (flex_start s) s.blocks cut = subst (λ o. IfSome o (IsCut weight (is_at x n) (flex_start s) s.blocks)) f (first_at-cuts weight (is_at x n) (flex_start s) s.blocks) in
+      let c : IsCut weight (is_at x n) (flex_start s) s.blocks cut =
+      subst (λ o. IfSome o (IsCut weight (is_at x n) (flex_start s) s.blocks)) f (first_at-cuts weight (is_at x n) (flex_start s) s.blocks) in
       let r = is_inside_from x n (flex_start s + total weight cut.before + 8) (length cut.here.bytes) c.passes in
       let low = r.0 in
       let high = r.1 in
@@ -136,21 +143,25 @@ module _ (s : Slot) (x n : ℕ) where
   in_some_segment : (cut : Split Segment) → flex_around x n s ≡ None → heap_start ≤ x → block_around (x - heap_start) n s.heap ≡ Some cut → Holder s x n
   in_some_segment cut e l f =
       let y = x - heap_start in
-      let c : IsCut size_of (is_around y n) 16 s.heap.segments cut = subst (λ o. IfSome o (IsCut size_of (is_around y n) 16 s.heap.segments)) f (first_at-cuts size_of (is_around y n) 16 s.heap.segments) in
+      let c : IsCut size_of (is_around y n) 16 s.heap.segments cut =
+      subst (λ o. IfSome o (IsCut size_of (is_around y n) 16 s.heap.segments)) f (first_at-cuts size_of (is_around y n) 16 s.heap.segments) in
       let r = around_used y n (16 + total size_of cut.before) cut.here c.passes in
       let low = r.1.0 in
       let high = r.1.1 in
       let is : s.heap.segments ≡ cut.before ++ Used (bytes_of cut.here) ∷ cut.after = c.whole ∙ ap (λ g. cut.before ++ g ∷ cut.after) r.0 in
       let sum : total size_of s.heap.segments ≡ total size_of cut.before + (4 + length (bytes_of cut.here) + total size_of cut.after) =
       ap (total size_of) is ∙ total-append cut.before (Used (bytes_of cut.here) ∷ cut.after) in
-      heap_holder cut (x - (heap_start + (16 + total size_of cut.before) + 4)) e f (record { is = is; here = r.0; stands = refl; inside = omega arith }) (omega arith) (omega arith)
+      heap_holder cut (x - (heap_start + (16 + total size_of cut.before) + 4)) e f (record { is = is; here = r.0; stands = refl; inside = omega arith })
+      (omega arith) (omega arith)
 
-  in_segment : (t : Bool) (o : Option (Split Segment)) → flex_around x n s ≡ None → nat_le heap_start x ≡ t → block_around (x - heap_start) n s.heap ≡ o → (t && is_some o) ≡ true → Holder s x n
+  in_segment : (t : Bool) (o : Option (Split Segment)) → flex_around x n s ≡ None → nat_le heap_start x ≡ t → block_around (x - heap_start) n s.heap ≡ o
+      → (t && is_some o) ≡ true → Holder s x n
   in_segment true (Some cut) e l f q = in_some_segment cut e (le_from heap_start x l) f
   in_segment true None e l f q = absurd cc
   in_segment false o e l f q = absurd cc
 
-  in_block : (o : Option (Split Flex)) → flex_around x n s ≡ o → (is_some o || (nat_le heap_start x && is_some (block_around (x - heap_start) n s.heap))) ≡ true → Holder s x n
+  in_block : (o : Option (Split Flex)) → flex_around x n s ≡ o
+      → (is_some o || (nat_le heap_start x && is_some (block_around (x - heap_start) n s.heap))) ≡ true → Holder s x n
   in_block (Some cut) f q = in_some_flex cut f
   in_block None f q = in_segment (nat_le heap_start x) (block_around (x - heap_start) n s.heap) f refl refl q
 
@@ -170,7 +181,8 @@ holder_of_fewer s x n k few fits (heap_holder cut offset e f c q h) =
     let inside = c.inside in
     let none : flex_around x k s ≡ None = first_at-none weight (is_at x k) (flex_start s) s.blocks (flex_above x k (flex_start s) s.blocks (omega arith)) in
     let passes : is_around y k (16 + total size_of cut.before) cut.here ≡ true =
-    ap (is_around y k (16 + total size_of cut.before)) c.here ∙ is_inside_yes y k (16 + total size_of cut.before + 4) (length (bytes_of cut.here)) (omega arith) (omega arith) in
+    ap (is_around y k (16 + total size_of cut.before)) c.here
+    ∙ is_inside_yes y k (16 + total size_of cut.before + 4) (length (bytes_of cut.here)) (omega arith) (omega arith) in
     let found : block_around y k s.heap ≡ Some cut =
     ap (first_at size_of (is_around y k) 16) (c.is ∙ ap (λ g. cut.before ++ g ∷ cut.after) (sym c.here))
     ∙ first_at-found size_of (is_around y k) 16 cut.before cut.here cut.after (heap_below y k 16 cut.before (omega arith)) passes in
@@ -180,7 +192,8 @@ holder_of_fewer s x n k few fits (heap_holder cut offset e f c q h) =
 pub data Reached (s : Slot) (x room : ℕ) (xs : List ℕ) : Type 0 where
   in_heap : (cut : Split Segment) (y offset : ℕ) → HeapCut s.heap y cut → x ≡ heap_start + y + offset → offset + length xs ≤ length (bytes_of cut.here)
       → written_in x xs (buffer_at x room s) s ≡ with_heap_bytes cut offset xs s → Reached s x room xs
-  in_flex : (cut : Split Flex) (offset : ℕ) → s.blocks ≡ cut.before ++ cut.here ∷ cut.after → x ≡ flex_address s cut.before + offset → offset + length xs ≤ length cut.here.bytes
+  in_flex : (cut : Split Flex) (offset : ℕ) → s.blocks ≡ cut.before ++ cut.here ∷ cut.after → x ≡ flex_address s cut.before + offset
+      → offset + length xs ≤ length cut.here.bytes
       → written_in x xs (buffer_at x room s) s ≡ with_bytes cut (written cut.here.bytes offset xs) s → Reached s x room xs
 
 roomy : (n : ℕ) (o : Option (Split Segment)) (cut : Split Segment) → roomy_in n o ≡ Some cut → (o ≡ Some cut) × (n ≤ length (bytes_of cut.here))
@@ -202,7 +215,8 @@ module _ (s : Slot) (x room : ℕ) (xs : List ℕ) (few : length xs ≤ room) (f
   in_holder : buffer_at x room s ≡ None → Holder s x (length xs) → Reached s x room xs
   in_holder e (flex_holder cut offset f is q h) =
       let same : x - flex_address s cut.before ≡ offset = omega arith in
-      in_flex cut offset is q h (ap (λ o. written_in x xs o s) e ∙ ap (λ o. written_around x xs o s) f ∙ ap (λ k. with_bytes cut (written cut.here.bytes k xs) s) same)
+      in_flex cut offset is q h (ap (λ o. written_in x xs o s) e ∙ ap (λ o. written_around x xs o s) f
+      ∙ ap (λ k. with_bytes cut (written cut.here.bytes k xs) s) same)
   in_holder e (heap_holder cut offset f g c q h) =
       let same : x - (heap_start + (16 + total size_of cut.before) + 4) ≡ offset = omega arith in
       in_heap cut (16 + total size_of cut.before + 4) offset c q h
@@ -216,7 +230,8 @@ module _ (s : Slot) (x room : ℕ) (xs : List ℕ) (few : length xs ≤ room) (f
   reached q = in_any (buffer_at x room s) refl q
 
 -- the same of n bytes of an area
-pub reached_part : (s : Slot) (x room n : ℕ) (b : List ℕ) (place : ℕ) (c : List ℕ) → SpellsSlot c s → n ≤ room → (is_some (buffer_at x room s) || holds x room s) ≡ true → Reached s x room (part b place n)
+pub reached_part : (s : Slot) (x room n : ℕ) (b : List ℕ) (place : ℕ) (c : List ℕ) → SpellsSlot c s → n ≤ room
+    → (is_some (buffer_at x room s) || holds x room s) ≡ true → Reached s x room (part b place n)
 reached_part s x room n b place c k few q = let l = length-part b place n in reached s x room (part b place n) (omega arith) k.words.heap.heap.fits q
 
 -- ---- where they lie, and what the area's bytes spell then
@@ -238,7 +253,8 @@ within b s x room xs k (in_flex cut offset is e h q) =
     let most = k.words.within in
     record { low = omega arith; high = omega arith }
 
-pub reached_spells : (b : List ℕ) (s : Slot) (x room : ℕ) (xs : List ℕ) → SpellsSlot b s → Reached s x room xs → SpellsSlot (put b (x - 32768) xs) (written_in x xs (buffer_at x room s) s)
+pub reached_spells : (b : List ℕ) (s : Slot) (x room : ℕ) (xs : List ℕ) → SpellsSlot b s → Reached s x room xs
+    → SpellsSlot (put b (x - 32768) xs) (written_in x xs (buffer_at x room s) s)
 reached_spells b s x room xs k (in_heap cut y offset c e h q) =
     let inside = c.inside in
     let stands = c.stands in
@@ -250,7 +266,8 @@ reached_spells b s x room xs k (in_heap cut y offset c e h q) =
 reached_spells b s x room xs k (in_flex cut offset is e h q) =
     let f = cut_found s cut.here.anchor cut is refl (HaveAnchors-cut cut.before cut.here cut.after (subst HaveAnchors is k.words.anchors)).before in
     let place : x - 32768 ≡ flex_place s + total weight cut.before + 8 + offset = omega arith in
-    let w = put_words b (put b (x - 32768) xs) s cut.here.anchor (flex_place s + total weight cut.before) (length cut.here.bytes) offset cut xs k.words f h (ap (λ p. put b p xs) place) in
+    let w = put_words b (put b (x - 32768) xs) s cut.here.anchor (flex_place s + total weight cut.before) (length cut.here.bytes) offset cut xs k.words f h
+    (ap (λ p. put b p xs) place) in
     subst (SpellsSlot (put b (x - 32768) xs)) (sym q) (paged _ _ _ w.0 w.1 (length-put b (x - 32768) xs ∙ k.pages))
 
 pub reached_budging : (s : Slot) (x room : ℕ) (xs : List ℕ) → Reached s x room xs → (written_in x xs (buffer_at x room s) s).budging ≡ s.budging
@@ -262,7 +279,8 @@ pub reached_shape : (s : Slot) (x room : ℕ) (xs : List ℕ) → Reached s x ro
 reached_shape s x room xs (in_heap cut y offset c e h q) =
     let new = written (bytes_of cut.here) offset xs in
     subst (λ (t : Slot). SameShape t.heap s.heap) (sym q) (record {
-      blank = blank-append cut.before (Used new ∷ cut.after) ∙ ap (λ n. blank cut.before ++ Used (zeros n) ∷ blank cut.after) (length-written (bytes_of cut.here) offset xs h)
+      blank = blank-append cut.before (Used new ∷ cut.after)
+          ∙ ap (λ n. blank cut.before ++ Used (zeros n) ∷ blank cut.after) (length-written (bytes_of cut.here) offset xs h)
           ∙ sym (ap blank c.is ∙ blank-append cut.before (Used (bytes_of cut.here) ∷ cut.after));
       end = refl;
     })

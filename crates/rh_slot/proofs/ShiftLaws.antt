@@ -1,14 +1,17 @@
 -- Blocks that slid, and the walk that writes their anchor words.
-use Rattle.std.proofs.Common.{◌≡◌, ℕ, ◌+◌, ◌-◌, ◌*◌, ◌^◌, ◌<◌, ◌≤◌, ◌≢◌, ◌⊎◌, inl, inr, List, [], ◌∷◌, ◌++◌, length, get_or, refl, sym, ap, subst, ◌∙◌, append_assoc, arith}
+use Rattle.std.proofs.Common.{◌≡◌, ℕ, ◌+◌, ◌-◌, ◌*◌, ◌^◌, ◌<◌, ◌≤◌, ◌≢◌, ◌⊎◌, inl, inr, List, [], ◌∷◌, ◌++◌, length, get_or, refl, sym, ap, subst, ◌∙◌}
+use Rattle.std.proofs.Common.{append_assoc, arith}
 use Rattle.std.proofs.lemmas.Bool.{cases_lt}
 use Rattle.std.proofs.lemmas.List.{append-nil}
 use Rattle.rh_defs.specs.Bytes.{word, put, put_word, part, SameOutside}
 use Rattle.rh_defs.specs.Pieces.{total}
 use Rattle.rh_defs.specs.Slot.{Flex, weight, flex_weight, IsFree, HaveAnchors, heap_start}
 use Rattle.rh_defs.specs.SlotImage.{Lie, Hang, heap_place}
-use Rattle.rh_defs.proofs.BytesLaws.{word_same, length-put, length-put_word, length-part, put_above, put_inside, put-part, put_word_outside, word-part, word-put_above, word-put_inside, word-put_word, SameOutside-self}
+use Rattle.rh_defs.proofs.BytesLaws.{word_same, length-put, length-put_word, length-part, put_above, put_inside, put-part, put_word_outside, word-part}
+use Rattle.rh_defs.proofs.BytesLaws.{word-put_above, word-put_inside, word-put_word, SameOutside-self}
 use Rattle.rh_defs.proofs.HeapLists.{sum-append}
-use Rattle.rh_defs.proofs.SlotLaws.{wider, same_both, in_below, in_above, Lie-same, Lie-carried, Lie-unique, Hang-join, IsFree-split, HaveAnchors-cut, Carried, none_weigh}
+use Rattle.rh_defs.proofs.SlotLaws.{wider, same_both, in_below, in_above, Lie-same, Lie-carried, Lie-unique, Hang-join, IsFree-split, HaveAnchors-cut}
+use Rattle.rh_defs.proofs.SlotLaws.{Carried, none_weigh}
 use Rattle.rh_slot.specs.Row.{Row, Hung, Shifted, Hanging, HangsApart}
 
 pub hanging_start : (b : List ℕ) (from n : ℕ) → Row b from n → Hanging b b from n from
@@ -25,11 +28,13 @@ hanging_start b from n r = record {
   outside = SameOutside-self b 0 heap_place;
 }
 
-pub hanging_end : (b c : List ℕ) (from n p : ℕ) → Hanging b c from n p → from + n ≤ p → (fs : List Flex) → Lie b from fs → total weight fs ≡ n → Hung b c from fs
+pub hanging_end : (b c : List ℕ) (from n p : ℕ) → Hanging b c from n p → from + n ≤ p → (fs : List Flex) → Lie b from fs → total weight fs ≡ n
+    → Hung b c from fs
 hanging_end b c from n p w h fs l e =
     let z : total weight w.rest ≡ 0 = let q = w.left in omega arith in
     let none : w.rest ≡ [] = none_weigh w.rest z in
-    let same : w.before ≡ fs = sym (append-nil w.before) ∙ ap (λ r. w.before ++ r) (sym none) ∙ Lie-unique b from (w.before ++ w.rest) fs w.lie l (w.sum ∙ sym e) in
+    let same : w.before ≡ fs =
+    sym (append-nil w.before) ∙ ap (λ r. w.before ++ r) (sym none) ∙ Lie-unique b from (w.before ++ w.rest) fs w.lie l (w.sum ∙ sym e) in
     subst (Hung b c from) same w.hung
 
 sides : (j k : ℕ) → j ≢ k → (j < k) ⊎ (k < j)
@@ -51,10 +56,11 @@ pub record Turn (b c : List ℕ) (from n p a s : ℕ) : Type 0 where
   pub least : 32768 ≤ a
   pub most : a + 4 ≤ heap_start
   pub on : p + flex_weight s ≤ from + n
-  pub next : (d : List ℕ) (w : ℕ) → w ≡ flex_weight s → SameOutside c d (a - 32768) (a - 32768 + 4) → word d (a - 32768) ≡ 32768 + p + 8 → Hanging b d from n (p + w)
+  pub next : (d : List ℕ) (w : ℕ) → w ≡ flex_weight s → SameOutside c d (a - 32768) (a - 32768 + 4) → word d (a - 32768) ≡ 32768 + p + 8
+      → Hanging b d from n (p + w)
 
-turn_at : (b c : List ℕ) (from n p a s : ℕ) (xs ys : List Flex) → Lie b from (xs ++ ys) → total weight (xs ++ ys) ≡ n → HaveAnchors (xs ++ ys) → p ≡ from + total weight xs
-    → p + total weight ys ≡ from + n → Lie c p ys → Hung b c from xs → SameOutside b c 0 heap_place
+turn_at : (b c : List ℕ) (from n p a s : ℕ) (xs ys : List Flex) → Lie b from (xs ++ ys) → total weight (xs ++ ys) ≡ n → HaveAnchors (xs ++ ys)
+    → p ≡ from + total weight xs → p + total weight ys ≡ from + n → Lie c p ys → Hung b c from xs → SameOutside b c 0 heap_place
     → p < from + n → heap_place ≤ from → a ≡ word c p → s ≡ word c (p + 4) → Turn b c from n p a s
 turn_at b c from n p a s xs [] l sum dis pl left lies hung out lt low ea es = absurd (omega arith)
 turn_at b c from n p a s xs (f ∷ ys) l sum dis pl left lies hung out lt low ea es =
@@ -93,7 +99,8 @@ turn_at b c from n p a s xs (f ∷ ys) l sum dis pl left lies hung out lt low ea
           };
     }
 
-pub turn : (b c : List ℕ) (from n p a s : ℕ) → Hanging b c from n p → p < from + n → heap_place ≤ from → a ≡ word c p → s ≡ word c (p + 4) → Turn b c from n p a s
+pub turn : (b c : List ℕ) (from n p a s : ℕ) → Hanging b c from n p → p < from + n → heap_place ≤ from → a ≡ word c p → s ≡ word c (p + 4)
+    → Turn b c from n p a s
 turn b c from n p a s w lt low ea es = turn_at b c from n p a s w.before w.rest w.lie w.sum w.anchors w.place w.left w.rest_lies w.hung w.outside lt low ea es
 
 room_at : (c : List ℕ) (p e : ℕ) (ys : List Flex) → p + total weight ys ≡ e → p < e → p + 8 ≤ e
@@ -128,7 +135,8 @@ apart_start b x from n k r w ek ex =
       walk = subst (λ c. Hanging b c from n from) (sym same) (hanging_start b from n r);
     }
 
-pub apart_end : (b x c : List ℕ) (from n p : ℕ) → HangsApart b x from n p → c ≡ put b 0 x → from + n ≤ p → (fs : List Flex) → Lie b from fs → total weight fs ≡ n → Hung b c from fs
+pub apart_end : (b x c : List ℕ) (from n p : ℕ) → HangsApart b x from n p → c ≡ put b 0 x → from + n ≤ p → (fs : List Flex) → Lie b from fs
+    → total weight fs ≡ n → Hung b c from fs
 apart_end b x c from n p h e le fs l s = subst (λ r. Hung b r from fs) (sym e) (hanging_end b (put b 0 x) from n p h.walk le fs l s)
 
 pub apart_room : (b x : List ℕ) (from n p : ℕ) → HangsApart b x from n p → p < from + n → p + 8 ≤ from + n
@@ -141,8 +149,8 @@ pub record TurnApart (b x : List ℕ) (from n p a s : ℕ) : Type 0 where
   pub on : p + flex_weight s ≤ from + n
   pub next : (y : List ℕ) (q : ℕ) → y ≡ put_word x (a - 32768) (32768 + p + 8) → q ≡ p + flex_weight s → HangsApart b y from n q
 
-pub turn_apart : (b x : List ℕ) (from n p a s : ℕ) → HangsApart b x from n p → p < from + n → heap_place ≤ from → from + n ≤ length b → length b ≤ 2 ^ 30 → a ≡ word b p → s ≡ word b (p + 4)
-    → TurnApart b x from n p a s
+pub turn_apart : (b x : List ℕ) (from n p a s : ℕ) → HangsApart b x from n p → p < from + n → heap_place ≤ from → from + n ≤ length b → length b ≤ 2 ^ 30
+    → a ≡ word b p → s ≡ word b (p + 4) → TurnApart b x from n p a s
 turn_apart b x from n p a s h lt low within small ea es =
     let long = h.long in
     let at = h.walk.place in
@@ -157,8 +165,10 @@ turn_apart b x from n p a s h lt low within small ea es =
       on = t.on;
       next = λ y q ey eq.
           let len : length y ≡ length x = ap length ey ∙ length-put_word x (a - 32768) (32768 + p + 8) in
-          let o : SameOutside x y (a - 32768) (a - 32768 + 4) = subst (λ z. SameOutside x z (a - 32768) (a - 32768 + 4)) (sym ey) (put_word_outside x (a - 32768) (32768 + p + 8) (a - 32768 + 4) (omega arith)) in
-          let e : word y (a - 32768) ≡ 32768 + p + 8 = ap (λ z. word z (a - 32768)) ey ∙ word-put_word x (a - 32768) (32768 + p + 8) (omega arith) (omega arith) in
+          let o : SameOutside x y (a - 32768) (a - 32768 + 4) = subst (λ z. SameOutside x z (a - 32768) (a - 32768 + 4)) (sym ey)
+          (put_word_outside x (a - 32768) (32768 + p + 8) (a - 32768 + 4) (omega arith)) in
+          let e : word y (a - 32768) ≡ 32768 + p + 8 =
+          ap (λ z. word z (a - 32768)) ey ∙ word-put_word x (a - 32768) (32768 + p + 8) (omega arith) (omega arith) in
           record {
             long = len ∙ long;
             walk = subst (Hanging b (put b 0 y) from n) (sym eq)
@@ -169,10 +179,12 @@ turn_apart b x from n p a s h lt low within small ea es =
 
 -- a word of a page is the area's
 word_of_page : (b page : List ℕ) (start k at p : ℕ) → page ≡ part b start k → at + 4 ≤ length page → p ≡ start + at → word page at ≡ word b p
-word_of_page b page start k at p e l ep = ap (λ z. word z at) e ∙ word-part b start k at (omega (arith, ap length e, length-part b start k)) ∙ ap (word b) (sym ep)
+word_of_page b page start k at p e l ep =
+    ap (λ z. word z at) e ∙ word-part b start k at (omega (arith, ap length e, length-part b start k)) ∙ ap (word b) (sym ep)
 
 -- the same where the header is read in the bytes of a page
-pub turn_in_page : (b x page : List ℕ) (from n start k p a s : ℕ) → HangsApart b x from n p → page ≡ part b start k → start ≤ p → p + 8 ≤ start + length page → p + 8 ≤ from + n
+pub turn_in_page : (b x page : List ℕ) (from n start k p a s : ℕ) → HangsApart b x from n p → page ≡ part b start k → start ≤ p → p + 8 ≤ start + length page
+    → p + 8 ≤ from + n
     → heap_place ≤ from → from + n ≤ length b → length b ≤ 2 ^ 30 → a ≡ word page (p - start) → s ≡ word page (p - start + 4) → TurnApart b x from n p a s
 turn_in_page b x page from n start k p a s h e lo hi lt low within small ea es =
     turn_apart b x from n p a s h (omega arith) low within small
@@ -180,8 +192,8 @@ turn_in_page b x page from n start k p a s h e lo hi lt low within small ea es =
     (es ∙ word_of_page b page start k (p - start + 4) (p + 4) e (omega arith) (omega arith))
 
 -- what slid and then was hung
-pub shifted : (b c d : List ℕ) (from to n : ℕ) (fs : List Flex) → Carried b c from to n → SameOutside b c to (to + n) → heap_place ≤ to → SameOutside c d 0 heap_place → to + n ≤ length b
-    → Lie b from fs → total weight fs ≡ n → Hung c d to fs → Shifted b d to fs
+pub shifted : (b c d : List ℕ) (from to n : ℕ) (fs : List Flex) → Carried b c from to n → SameOutside b c to (to + n) → heap_place ≤ to
+    → SameOutside c d 0 heap_place → to + n ≤ length b → Lie b from fs → total weight fs ≡ n → Hung c d to fs → Shifted b d to fs
 shifted b c d from to n fs s o t h r l e x = record {
   lie = Lie-same c d to (to + n) fs (in_above h t) (omega arith) (Lie-carried b c from to fs (subst (Carried b c from to) (sym e) s) l);
   hung = record {

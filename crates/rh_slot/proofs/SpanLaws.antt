@@ -44,12 +44,15 @@ slot_now m slot s k e = ap (λ t. slot_of t (bytes m slot.area.0)) (sym e) ∙ s
 pub is_slot : (m : Memory) (slot : Slot) (s : plain.Slot) → IsOpen m slot.area.0 → SpellsIn m slot s → IsSlot m slot
 is_slot m slot s o k = record {
   opened = o;
-  spells = subst (SpellsSlot (bytes m slot.area.0)) (sym (slot_of-SlotWords slot.budge (bytes m slot.area.0) s k.words)) (SpellsSlot-budging slot.budge (bytes m slot.area.0) s k);
+  spells = subst (SpellsSlot (bytes m slot.area.0)) (sym (slot_of-SlotWords slot.budge (bytes m slot.area.0) s k.words))
+      (SpellsSlot-budging slot.budge (bytes m slot.area.0) s k);
 }
 
 -- bytes in no flex block are in a block of the C heap or in none
-pub inside_heap : (x n : ℕ) (s : plain.Slot) (h : Heap) (r : Bool) → is_some (plain.flex_around x n s) ≡ false → heap_start ≤ x → h ≡ s.heap → r ≡ is_some (block_around (x - heap_start) n h) → r ≡ plain.holds x n s
+pub inside_heap : (x n : ℕ) (s : plain.Slot) (h : Heap) (r : Bool) → is_some (plain.flex_around x n s) ≡ false → heap_start ≤ x → h ≡ s.heap
+    → r ≡ is_some (block_around (x - heap_start) n h) → r ≡ plain.holds x n s
 inside_heap x n s h r f l e q =
     let yes : leb heap_start x ≡ true = leb_yes heap_start x l in
     q ∙ ap (λ i. is_some (block_around (x - heap_start) n i)) e
-    ∙ sym (ap (λ t. t || (leb heap_start x && is_some (block_around (x - heap_start) n s.heap))) f ∙ ap (λ t. t && is_some (block_around (x - heap_start) n s.heap)) yes)
+    ∙ sym (ap (λ t. t || (leb heap_start x && is_some (block_around (x - heap_start) n s.heap))) f
+    ∙ ap (λ t. t && is_some (block_around (x - heap_start) n s.heap)) yes)

@@ -12,7 +12,8 @@ use Rattle.rh_defs.specs.Slot.{new_slot, slot_begin}
 use Rattle.rh_defs.specs.SlotImage.{SpellsSlot, heap_place}
 use Rattle.rh_defs.specs.declared.refusal.Refusal.TheVariants.{NoRoom}
 use Rattle.rh_defs.proofs.BytesLaws.{word_same, word-zeros}
-use Rattle.rh_defs.proofs.MemoryLaws.{bytes-none, bytes-opened, bytes-grown, area-opened, free-opened, pages-opened, loan-opened, IsOpen-opened, IsOpen-grown, OnlyArea-both, OnlyArea-grown}
+use Rattle.rh_defs.proofs.MemoryLaws.{bytes-none, bytes-opened, bytes-grown, area-opened, free-opened, pages-opened, loan-opened, IsOpen-opened, IsOpen-grown}
+use Rattle.rh_defs.proofs.MemoryLaws.{OnlyArea-both, OnlyArea-grown}
 use Rattle.rh_defs.proofs.SlotLaws.{in_below}
 use Rattle.rh_defs.proofs.HeapLists.{ltb_no}
 
@@ -36,7 +37,8 @@ is_granted (Ok x) n = refl
 is_granted (Err x) n = absurd (n refl)
 
 pub page_granted : {A E : Type 0} (m k : Memory) (id : ℕ) (r : Result A E) → m.free ≢ 0 → k ≡ opened m id → (IsErr r ↔ (k.free < 1)) → IsOk r
-page_granted m k id r ne e h = is_granted r (λ z. let l = h.0 z in let free : k.free ≡ m.free = ap (λ (x : Memory). x.free) e ∙ free-opened m id in ne (omega arith))
+page_granted m k id r ne e h =
+    is_granted r (λ z. let l = h.0 z in let free : k.free ≡ m.free = ap (λ (x : Memory). x.free) e ∙ free-opened m id in ne (omega arith))
 
 none_is : (o : Option (List ℕ)) → IsNone o → o ≡ None
 none_is None h = refl
@@ -52,7 +54,8 @@ pub record Opened (m n : Memory) (id : ℕ) : Type 0 where
   pub len : length (bytes n id) ≡ PAGE
   pub only : OnlyArea m n id
 
-pub opened_page : {A E : Type 0} (m k n : Memory) (id : ℕ) (r : Result A E) → m.free ≢ 0 → IsNone (m.area id) × (k ≡ opened m id) → OnOk r (n ≡ grown k id 1) → (IsErr r ↔ (k.free < 1)) → Opened m n id
+pub opened_page : {A E : Type 0} (m k n : Memory) (id : ℕ) (r : Result A E) → m.free ≢ 0 → IsNone (m.area id) × (k ≡ opened m id) → OnOk r (n ≡ grown k id 1)
+    → (IsErr r ↔ (k.free < 1)) → Opened m n id
 opened_page m k n id r ne o e h =
     let free : k.free ≡ m.free = ap (λ (x : Memory). x.free) o.1 ∙ free-opened m id in
     let is : n ≡ grown (opened m id) id 1 = page_grown k n id r e h (λ z. ne (sym free ∙ z)) ∙ ap (λ x. grown x id 1) o.1 in
@@ -68,11 +71,13 @@ opened_page m k n id r ne o e h =
       opened = subst (λ x. IsOpen x id) (sym is) (IsOpen-grown (opened m id) id 1);
       bytes_are = bs;
       len = ap length bs ∙ length-replicate {A = ℕ} PAGE 0;
-      only = subst (λ x. OnlyArea m x id) (sym is) (OnlyArea-both m (opened m id) (grown (opened m id) id 1) id first (OnlyArea-grown (opened m id) id 1 (omega (arith, free-opened m id))));
+      only = subst (λ x. OnlyArea m x id) (sym is) (OnlyArea-both m (opened m id) (grown (opened m id) id 1) id first
+          (OnlyArea-grown (opened m id) id 1 (omega (arith, free-opened m id))));
     }
 
 -- with an empty heap behind the anchor words it spells a slot with no block
-pub spells_new : (m n k : Memory) (id : ℕ) → Opened m n id → Edited n k id heap_place PAGE → Spells (bytes k id) heap_place (empty_heap 3840) → SpellsSlot (bytes k id) new_slot
+pub spells_new : (m n k : Memory) (id : ℕ) → Opened m n id → Edited n k id heap_place PAGE → Spells (bytes k id) heap_place (empty_heap 3840)
+    → SpellsSlot (bytes k id) new_slot
 spells_new m n k id o e s =
     let len = e.outside.len in
     let l = o.len in
@@ -82,7 +87,8 @@ spells_new m n k id o e s =
         within = omega arith;
         lie = tt;
         hang = tt;
-        none = λ j u v. word_same (bytes n id) (bytes k id) (4 * j) (in_below e.outside (omega arith)) ∙ ap (λ b. word b (4 * j)) o.bytes_are ∙ word-zeros PAGE (4 * j) (omega arith);
+        none = λ j u v. word_same (bytes n id) (bytes k id) (4 * j) (in_below e.outside (omega arith)) ∙ ap (λ b. word b (4 * j)) o.bytes_are
+            ∙ word-zeros PAGE (4 * j) (omega arith);
         anchors = tt;
       };
       pages = omega arith;

@@ -1,5 +1,6 @@
 -- One turn of the walk over a slot's flex blocks, and how it ends.
-use Rattle.std.proofs.Common.{◌≡◌, ℕ, zero, suc, ◌+◌, ◌-◌, ◌*◌, ◌/◌, ◌<◌, ◌≤◌, Bool, true, false, List, [], ◌∷◌, ◌++◌, length, refl, sym, ap, subst, ◌∙◌, append_assoc, arith, length-append, take, drop}
+use Rattle.std.proofs.Common.{◌≡◌, ℕ, zero, suc, ◌+◌, ◌-◌, ◌*◌, ◌/◌, ◌<◌, ◌≤◌, Bool, true, false, List, [], ◌∷◌, ◌++◌, length, refl, sym, ap, subst, ◌∙◌}
+use Rattle.std.proofs.Common.{append_assoc, arith, length-append, take, drop}
 use Rattle.std.specs.Prelude.{Some, None, is_some, slice_get}
 use Rattle.rh_defs.specs.declared.sizes.TheConstants.{PAGE}
 use Rattle.rh_defs.specs.Bytes.{word}
@@ -82,10 +83,12 @@ pub below_last : (b : List ℕ) (s : Slot) (place : ℕ) → SpellsSlot b s → 
 below_last b s place k w l = elim (stands b s place k.words w) [ at_block n ↦ n.test | at_top e f ↦ absurd (omega (arith, at_end s place w e, k.pages)) ]
 
 -- the walk after one block
-pub onward : (b : List ℕ) (s : Slot) (place : ℕ) (w : Walked s place) (n : Next b s place w) (size step : ℕ) → size ≡ word b (place + 4) → step ≡ flex_weight size → step ≡ weight n.here
+pub onward : (b : List ℕ) (s : Slot) (place : ℕ) (w : Walked s place) (n : Next b s place w) (size step : ℕ) → size ≡ word b (place + 4)
+    → step ≡ flex_weight size → step ≡ weight n.here
 onward b s place w n size step es e = e ∙ ap flex_weight (es ∙ n.size)
 
-abbrev pub walked_on : (b : List ℕ) (s : Slot) (place : ℕ) (w : Walked s place) (n : Next b s place w) (step : ℕ) → step ≡ weight n.here → Walked s (place + step)
+abbrev pub walked_on : (b : List ℕ) (s : Slot) (place : ℕ) (w : Walked s place) (n : Next b s place w) (step : ℕ) → step ≡ weight n.here
+    → Walked s (place + step)
 walked_on b s place w n step e = record {
   before = w.before ++ n.here ∷ [];
   rest = n.after;
@@ -99,7 +102,8 @@ pub record Turn (b : List ℕ) (s : Slot) (place size : ℕ) : Type 0 where
   pub inside : place + flex_weight size ≤ length b
   pub walked : (step : ℕ) → step ≡ flex_weight size → Walked s (place + step)
 
-pub turn : (b : List ℕ) (s : Slot) (place : ℕ) → SlotWords b s → (w : Walked s place) → is_block b place ≡ true → (size : ℕ) → size ≡ word b (place + 4) → Turn b s place size
+pub turn : (b : List ℕ) (s : Slot) (place : ℕ) → SlotWords b s → (w : Walked s place) → is_block b place ≡ true → (size : ℕ) → size ≡ word b (place + 4)
+    → Turn b s place size
 turn b s place k w t size es =
     let n = next b s place k w t in
     let e = onward b s place w n size (flex_weight size) es refl in
@@ -109,7 +113,8 @@ turn b s place k w t size es =
 
 -- ---- the blocks as they are listed
 
-items_past : (place : ℕ) (xs ys : List Flex) → slice_get (block_items_from place (xs ++ ys)) (length xs) ≡ slice_get (block_items_from (place + total weight xs) ys) 0
+items_past : (place : ℕ) (xs ys : List Flex)
+    → slice_get (block_items_from place (xs ++ ys)) (length xs) ≡ slice_get (block_items_from (place + total weight xs) ys) 0
 items_past place [] ys = ap (λ p. slice_get (block_items_from p ys) 0) (omega arith)
 items_past place (x ∷ xs) ys = items_past (place + weight x) xs ys ∙ ap (λ p. slice_get (block_items_from p ys) 0) (omega arith)
 
@@ -118,14 +123,16 @@ no_item place [] i h = refl
 no_item place (x ∷ xs) zero h = absurd (omega arith)
 no_item place (x ∷ xs) (suc i) h = no_item (place + weight x) xs i (omega arith)
 
-item_is : (k a n k' a' n' : ℕ) → k ≡ k' → a ≡ a' → n ≡ n' → (let r : BlockItem = record { anchor = k; address = a; size = n } in r) ≡ record { anchor = k'; address = a'; size = n' }
+item_is : (k a n k' a' n' : ℕ) → k ≡ k' → a ≡ a' → n ≡ n'
+    → (let r : BlockItem = record { anchor = k; address = a; size = n } in r) ≡ record { anchor = k'; address = a'; size = n' }
 item_is k a n k' a' n' e f h =
     ap (λ (j : ℕ). let r : BlockItem = record { anchor = j; address = a; size = n } in r) e
     ∙ ap (λ (j : ℕ). let r : BlockItem = record { anchor = k'; address = j; size = n } in r) f
     ∙ ap (λ (j : ℕ). let r : BlockItem = record { anchor = k'; address = a'; size = j } in r) h
 
 -- the block that follows so many
-pub item_here : (b : List ℕ) (s : Slot) (place i : ℕ) → SlotWords b s → (w : Walked s place) → i ≡ length w.before → is_block b place ≡ true → Some (item_of b place) ≡ slice_get (block_items s) i
+pub item_here : (b : List ℕ) (s : Slot) (place i : ℕ) → SlotWords b s → (w : Walked s place) → i ≡ length w.before → is_block b place ≡ true
+    → Some (item_of b place) ≡ slice_get (block_items s) i
 item_here b s place i x w e t =
     let n = next b s place x w t in
     let is : s.blocks ≡ w.before ++ n.here ∷ n.after = w.is ∙ ap (λ l. w.before ++ l) n.rest_is in
@@ -134,10 +141,12 @@ item_here b s place i x w e t =
     sym (ap (λ l. slice_get (block_items_from (flex_start s) l) i) is
     ∙ ap (slice_get (block_items_from (flex_start s) (w.before ++ n.here ∷ n.after))) e
     ∙ items_past (flex_start s) w.before (n.here ∷ n.after)
-    ∙ ap (λ (r : BlockItem). Some r) (item_is n.here.anchor (flex_start s + total weight w.before + 8) (length n.here.bytes) ((word b place - slot_start) / 4) (slot_start + place + 8) (word b (place + 4))
+    ∙ ap (λ (r : BlockItem). Some r) (item_is n.here.anchor (flex_start s + total weight w.before + 8) (length n.here.bytes)
+    ((word b place - slot_start) / 4) (slot_start + place + 8) (word b (place + 4))
     (omega arith) (omega arith) (sym n.size)))
 
-pub item_none : (b : List ℕ) (s : Slot) (place i : ℕ) → SlotWords b s → (w : Walked s place) → i ≡ length w.before → is_block b place ≡ false → slice_get (block_items s) i ≡ None
+pub item_none : (b : List ℕ) (s : Slot) (place i : ℕ) → SlotWords b s → (w : Walked s place) → i ≡ length w.before → is_block b place ≡ false
+    → slice_get (block_items s) i ≡ None
 item_none b s place i x w e t =
     no_item (flex_start s) s.blocks i (omega (arith, e, ap length w.is, length-append w.before w.rest, ap length (last b s place x w t)))
 
@@ -161,8 +170,8 @@ test_here : (b : List ℕ) (s : Slot) (place x n : ℕ) (w : Unheld s place x n)
 test_here b s place x n w m size es =
     ap (λ p. is_inside x n p (length m.here.bytes)) (omega (arith, w.walked.place_is)) ∙ ap (is_inside x n (slot_start + place + 8)) (sym (es ∙ m.size))
 
-pub unheld_on : (b : List ℕ) (s : Slot) (place x n : ℕ) → SlotWords b s → (w : Unheld s place x n) → is_block b place ≡ true → (size step : ℕ) → size ≡ word b (place + 4) → step ≡ flex_weight size
-    → is_inside x n (slot_start + place + 8) size ≡ false → Unheld s (place + step) x n
+pub unheld_on : (b : List ℕ) (s : Slot) (place x n : ℕ) → SlotWords b s → (w : Unheld s place x n) → is_block b place ≡ true → (size step : ℕ)
+    → size ≡ word b (place + 4) → step ≡ flex_weight size → is_inside x n (slot_start + place + 8) size ≡ false → Unheld s (place + step) x n
 unheld_on b s place x n k w t size step es e f =
     let m = next b s place k w.walked t in
     record {
@@ -177,10 +186,12 @@ held b s place x n k w t size es f =
     ap (λ l. is_some (first_at weight (is_at x n) (flex_start s) l)) (w.walked.is ∙ ap (λ l. w.walked.before ++ l) m.rest_is)
     ∙ ap (λ o. is_some o) (first_at-found weight (is_at x n) (flex_start s) w.walked.before m.here m.after w.none (test_here b s place x n w m size es ∙ f))
 
-pub not_held : (b : List ℕ) (s : Slot) (place x n : ℕ) → SlotWords b s → (w : Unheld s place x n) → is_block b place ≡ false → is_some (flex_around x n s) ≡ false
+pub not_held : (b : List ℕ) (s : Slot) (place x n : ℕ) → SlotWords b s → (w : Unheld s place x n) → is_block b place ≡ false
+    → is_some (flex_around x n s) ≡ false
 not_held b s place x n k w t =
     ap (λ l. is_some (first_at weight (is_at x n) (flex_start s) l)) (w.walked.is ∙ ap (λ l. w.walked.before ++ l) (last b s place k w.walked t))
-    ∙ ap (λ o. is_some o) (first_at-none weight (is_at x n) (flex_start s) (w.walked.before ++ []) (NonePass-append weight (is_at x n) (flex_start s) w.walked.before [] w.none tt))
+    ∙ ap (λ o. is_some o) (first_at-none weight (is_at x n) (flex_start s) (w.walked.before ++ [])
+    (NonePass-append weight (is_at x n) (flex_start s) w.walked.before [] w.none tt))
 
 -- ---- the walk that its caller takes step by step
 
@@ -197,7 +208,8 @@ walk_at s w h = record {
 }
 
 -- the block at which a walk stands
-pub step_item : (b : List ℕ) (s : Slot) (w : FlexWalk) → SlotWords b s → WalksIn s w → is_block b w.place ≡ true → Some (item_of b w.place) ≡ slice_get (block_items s) w.passed
+pub step_item : (b : List ℕ) (s : Slot) (w : FlexWalk) → SlotWords b s → WalksIn s w → is_block b w.place ≡ true
+    → Some (item_of b w.place) ≡ slice_get (block_items s) w.passed
 step_item b s w k h t = item_here b s w.place w.passed k (walk_at s w h) (sym (length-take-le w.passed s.blocks h.most)) t
 
 pub no_step : (b : List ℕ) (s : Slot) (w : FlexWalk) → SlotWords b s → WalksIn s w → is_block b w.place ≡ false → slice_get (block_items s) w.passed ≡ None
@@ -206,7 +218,12 @@ no_step b s w k h t = item_none b s w.place w.passed k (walk_at s w h) (sym (len
 pub all_passed : (b : List ℕ) (s : Slot) (w : FlexWalk) → SlotWords b s → WalksIn s w → is_block b w.place ≡ false → w.passed ≡ length s.blocks
 all_passed b s w k h t =
     let l = length-take-le w.passed s.blocks h.most in
-    omega (arith, ap length (take-append-drop w.passed s.blocks), length-append (take w.passed s.blocks) (drop w.passed s.blocks), ap length (last b s w.place k (walk_at s w h) t))
+    omega (
+      arith,
+      ap length (take-append-drop w.passed s.blocks),
+      length-append (take w.passed s.blocks) (drop w.passed s.blocks),
+      ap length (last b s w.place k (walk_at s w h) t),
+    )
 
 one_more : (xs ys : List Flex) (p : ℕ) (f : Flex) (after : List Flex) → xs ≡ ys ++ f ∷ after → length ys ≡ p → take (p + 1) xs ≡ ys ++ f ∷ []
 one_more xs ys p f after e l =
@@ -215,12 +232,13 @@ one_more xs ys p f after e l =
     ap (λ i. take i xs) n ∙ ap (take (length (ys ++ f ∷ []))) whole ∙ take-append_seam (ys ++ f ∷ []) after
 
 -- the walk after one block
-pub walks_on : (b : List ℕ) (s : Slot) (w : FlexWalk) → SlotWords b s → WalksIn s w → is_block b w.place ≡ true → (size step : ℕ) → size ≡ word b (w.place + 4) → step ≡ flex_weight size
-    → WalksIn s (record { passed = w.passed + 1; place = w.place + step })
+pub walks_on : (b : List ℕ) (s : Slot) (w : FlexWalk) → SlotWords b s → WalksIn s w → is_block b w.place ≡ true → (size step : ℕ)
+    → size ≡ word b (w.place + 4) → step ≡ flex_weight size → WalksIn s (record { passed = w.passed + 1; place = w.place + step })
 walks_on b s w k h t size step es e =
     let n = next b s w.place k (walk_at s w h) t in
     let l = length-take-le w.passed s.blocks h.most in
-    let is : s.blocks ≡ take w.passed s.blocks ++ n.here ∷ n.after = sym (take-append-drop w.passed s.blocks) ∙ ap (λ r. take w.passed s.blocks ++ r) n.rest_is in
+    let is : s.blocks ≡ take w.passed s.blocks ++ n.here ∷ n.after =
+    sym (take-append-drop w.passed s.blocks) ∙ ap (λ r. take w.passed s.blocks ++ r) n.rest_is in
     let more = one_more s.blocks (take w.passed s.blocks) w.passed n.here n.after is l in
     let wt = onward b s w.place (walk_at s w h) n size step es e in
     let place = h.place_is in

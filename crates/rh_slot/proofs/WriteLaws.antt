@@ -27,7 +27,8 @@ use Rattle.rh_slot.proofs.LeaveLaws.{leaves}
 use Rattle.rh_slot.proofs.SpanLaws.{span_of, heap_at, budging_same}
 
 -- bytes are put into a slot's area, where they spell the slot that is granted
-pub copied : (m n : Memory) (slot : Slot) (granted : Granted (plain.Slot × Unit {0})) (s : plain.Slot) (at : ℕ) (xs : List ℕ) → granted ≡ Ok (s, tt) → s.budging ≡ (slot_in m slot).budging
+pub copied : (m n : Memory) (slot : Slot) (granted : Granted (plain.Slot × Unit {0})) (s : plain.Slot) (at : ℕ) (xs : List ℕ) → granted ≡ Ok (s, tt)
+    → s.budging ≡ (slot_in m slot).budging
     → n ≡ with_bytes m slot.area.0 (put (bytes m slot.area.0) at xs) → SpellsSlot (put (bytes m slot.area.0) at xs) s → Leaves m n slot granted (Ok tt)
 copied m n slot granted s at xs e b ne k =
     let id = slot.area.0 in
@@ -36,8 +37,10 @@ copied m n slot granted s at xs e b ne k =
     (OnlyArea-from_Edited m n id at (at + length xs) (Edited-put m n id at (at + length xs) xs ne (omega arith)))
 
 -- bytes are put into an anchor's block
-pub put_copied : (m n : Memory) (slot : Slot) (k offset place size : ℕ) (cut : Split Flex) (xs : List ℕ) → IsSlot m slot → FoundAt k (slot_in m slot) place size cut → offset + length xs ≤ size
-    → n ≡ with_bytes m slot.area.0 (put (bytes m slot.area.0) (place + 8 + offset) xs) → Leaves m n slot (no_answer (slot_put k offset xs (slot_in m slot))) (Ok tt)
+pub put_copied : (m n : Memory) (slot : Slot) (k offset place size : ℕ) (cut : Split Flex) (xs : List ℕ) → IsSlot m slot
+    → FoundAt k (slot_in m slot) place size cut → offset + length xs ≤ size
+    → n ≡ with_bytes m slot.area.0 (put (bytes m slot.area.0) (place + 8 + offset) xs)
+    → Leaves m n slot (no_answer (slot_put k offset xs (slot_in m slot))) (Ok tt)
 put_copied m n slot k offset place size cut xs s f h e =
     let b = bytes m slot.area.0 in
     let w = put_words b (put b (place + 8 + offset) xs) (slot_in m slot) k place size offset cut xs s.spells.words f h refl in
@@ -46,12 +49,14 @@ put_copied m n slot k offset place size cut xs s f h e =
 
 -- ---- the map that is kept beside the slot
 
-maps_on : {A : Type 0} (items : A → List ℕ) (h d : Heap) → SameShape d h → (o : Option A) → IfSome o (λ x. IsIndex (items x) h) → IfSome o (λ x. IsIndex (items x) d)
+maps_on : {A : Type 0} (items : A → List ℕ) (h d : Heap) → SameShape d h → (o : Option A) → IfSome o (λ x. IsIndex (items x) h)
+    → IfSome o (λ x. IsIndex (items x) d)
 maps_on items h d s None i = tt
 maps_on items h d s (Some x) i = index_shape (items x) d h s i
 
 -- what was written in the slot left its C heap the shape
-pub map_after : {A : Type 0} (items : A → List ℕ) (m n : Memory) (slot : Slot) (s : plain.Slot) (before behind : Span) → slot_in n slot ≡ s → SameShape s.heap (slot_in m slot).heap → before ≡ span_of slot
+pub map_after : {A : Type 0} (items : A → List ℕ) (m n : Memory) (slot : Slot) (s : plain.Slot) (before behind : Span) → slot_in n slot ≡ s
+    → SameShape s.heap (slot_in m slot).heap → before ≡ span_of slot
     → behind ≡ span_of slot → (o : Option A) → IfSome o (λ x. IsIndex (items x) (heap_in m before)) → IfSome o (λ x. IsIndex (items x) (heap_in n behind))
 map_after items m n slot s before behind is shape e f =
     maps_on items (heap_in m before) (heap_in n behind) (rw (heap_at n slot behind f, is, heap_at m slot before e) shape)

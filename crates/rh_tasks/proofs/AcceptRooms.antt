@@ -47,13 +47,15 @@ module _ {o : Memory} {seats : List Seat} {made : List MadeArea} {files : FileLi
         ap (λ (x : Task). fetch_letter x.handle message.from message.my_ref 0 x.buffer) (seat-is w at t here.at)
         ∙ ap (λ (x : Message). fetch_letter t.handle x.from x.my_ref 0 t.buffer) (sym here.message_is)
 
-    send-here : {g : Granted ℕ} {letter : Letter} → letter ≡ own_fetch → Answers o the_module kept.queue (post_send_pages letter) g → post_send_pages (the_fetch d t m 0) d.post ≡ g
+    send-here : {g : Granted ℕ} {letter : Letter} → letter ≡ own_fetch → Answers o the_module kept.queue (post_send_pages letter) g
+        → post_send_pages (the_fetch d t m 0) d.post ≡ g
     send-here e a = ap (λ l. post_send_pages l d.post) (sym (e ∙ fetch-here)) ∙ sym (a d.post (is-post w))
 
     pub room-no_buffer : {r : Refusal} → Err r ≡ slot_take_pages s.buffer (slot_in o s.slot) → false ≡ is_ok (accept d t m)
     room-no_buffer e = sym (accept-no_buffer d i t m k w.desk here.at free (take-here e))
 
-    pub room-no_fetch : {r : Refusal} {letter : Letter} → letter ≡ own_fetch → Answers o the_module kept.queue (post_send_pages letter) (Err r) → false ≡ is_ok (accept d t m)
+    pub room-no_fetch : {r : Refusal} {letter : Letter} → letter ≡ own_fetch → Answers o the_module kept.queue (post_send_pages letter) (Err r)
+        → false ≡ is_ok (accept d t m)
     room-no_fetch e a = sym (accept-no_fetch d i t m k w.desk here.at free (send-here e a))
 
     module _ {pages more n : ℕ} {letter : Letter} (take : Ok pages ≡ slot_take_pages s.buffer (slot_in o s.slot)) (same : letter ≡ own_fetch)

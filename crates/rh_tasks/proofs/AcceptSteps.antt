@@ -63,7 +63,8 @@ map-granted f (Err q) e = absurd cc
 
 -- ---- a task that is edited twice
 
-twice : (h : ℕ) (f g : Task → Task) → ((t : Task) → (g t).handle ≡ t.handle) → (tasks : List Task) → edit_task h f (edit_task h g tasks) ≡ edit_task h (λ t. f (g t)) tasks
+twice : (h : ℕ) (f g : Task → Task) → ((t : Task) → (g t).handle ≡ t.handle) → (tasks : List Task)
+    → edit_task h f (edit_task h g tasks) ≡ edit_task h (λ t. f (g t)) tasks
 twice h f g keeps [] = refl
 twice h f g keeps (t ∷ tasks) = elim (cases_eq t.handle h) [
   | inl e ↦ ap (edit_task h f) (if_same t.handle h (g t ∷ tasks) (t ∷ edit_task h g tasks) e)
@@ -79,7 +80,8 @@ twice h f g keeps (t ∷ tasks) = elim (cases_eq t.handle h) [
 pub last-slot : (h : ℕ) (s first : Slot) (d : Desk) → with_slot h s (with_slot h first d) ≡ with_slot h s d
 unfolding with_task
 last-slot h s first d =
-    ap (λ (l : List Task). let x : Desk = record d { tasks = l } in x) (twice h (λ t. record t { slot = s }) (λ t. record t { slot = first }) (λ t. refl) d.tasks)
+    ap (λ (l : List Task). let x : Desk = record d { tasks = l } in x) (twice h (λ t. record t { slot = s }) (λ t. record t { slot = first }) (λ t. refl)
+    d.tasks)
 
 -- ---- what is known before the first step
 
@@ -166,7 +168,8 @@ module _ {v : Shown} {i : ℕ} {t : Task} {m : Parcel} {message : Message} {k h 
   buffer-must v1 (Ok a) c = refl
   buffer-must v1 (Err e) c = absurd (no-refusal (after_buffer v.desk t m k) all-ok (same-claim c.0))
 
-  pub buffer-got : {v1 : Shown} {a : ℕ} (r : Result ℕ Refusal) → Claims t.handle (slot_claim (free_pages v.desk) n t.slot) v v1 r → r ≡ Ok a → HasBuffer v v1 t a
+  pub buffer-got : {v1 : Shown} {a : ℕ} (r : Result ℕ Refusal) → Claims t.handle (slot_claim (free_pages v.desk) n t.slot) v v1 r → r ≡ Ok a
+      → HasBuffer v v1 t a
   buffer-got {a} (Ok x) c e =
       let same : x ≡ a = cc in
       record { slot = c.0; granted = same-claim c.1.0 ∙ ap (λ y. let g : Granted (Slot × ℕ) = Ok (c.0, y) in g) same; desk = c.1.1 }
@@ -192,7 +195,8 @@ module _ {v : Shown} {i : ℕ} {t : Task} {m : Parcel} {message : Message} {k h 
     document-must v2 (Ok u) c = refl
     document-must v2 (Err e) c = absurd (no-refusal (after_document v.desk t m k (one.slot, a)) document-ok (map-refused _ _ (same-document c.0)))
 
-    pub document-got : {v2 : Shown} {u : Unit {0}} (r : Result (Unit {0}) Refusal) → Becomes (with_document v1.desk with_buffer k) v1 v2 r → r ≡ Ok u → HasDocument v v2 t k one.slot
+    pub document-got : {v2 : Shown} {u : Unit {0}} (r : Result (Unit {0}) Refusal) → Becomes (with_document v1.desk with_buffer k) v1 v2 r → r ≡ Ok u
+        → HasDocument v v2 t k one.slot
     document-got (Ok x) c e =
         let made = map-granted (λ (p : Slot × ℕ). with_slot t.handle p.0 (with_slot t.handle one.slot v.desk)) _ (same-document c) in
         record { placed = made.from; granted = made.granted; desk = made.is ∙ last-slot t.handle made.from.0 one.slot v.desk }
@@ -243,11 +247,14 @@ module _ {v : Shown} {i : ℕ} {t : Task} {m : Parcel} {message : Message} {k h 
             let made = map-granted (sent_desk l v2.desk) _ three.granted in
             let last : Task → Task = λ x. record x { last_sent = Some (l, made.from.1) } in
             let both : Task → Task = λ x. record x { slot = two.placed.0; last_sent = Some (l, made.from.1) } in
-            let tasks : three.sent.tasks ≡ edit_task t.handle both v.desk.tasks = ap (λ (x : Desk). x.tasks) made.is ∙ ap (λ h. edit_task h last v2.desk.tasks) from-own
-            ∙ ap (λ (x : Desk). edit_task t.handle last x.tasks) two.desk ∙ twice t.handle last (λ x. record x { slot = two.placed.0 }) (λ x. refl) v.desk.tasks in
+            let tasks : three.sent.tasks ≡ edit_task t.handle both v.desk.tasks =
+            ap (λ (x : Desk). x.tasks) made.is ∙ ap (λ h. edit_task h last v2.desk.tasks) from-own
+            ∙ ap (λ (x : Desk). edit_task t.handle last x.tasks) two.desk
+            ∙ twice t.handle last (λ x. record x { slot = two.placed.0 }) (λ x. refl) v.desk.tasks in
             record {
               task = both t;
-              at = reordered-at three.sent v3.desk i (both t) three.alike (ap (λ (l : List Task). slice_get l i) tasks ∙ edited-at t.handle both 0 v.desk.next_handle v.desk.tasks i t can.is.handles can.here.at refl);
+              at = reordered-at three.sent v3.desk i (both t) three.alike (ap (λ (l : List Task). slice_get l i) tasks
+                  ∙ edited-at t.handle both 0 v.desk.next_handle v.desk.tasks i t can.is.handles can.here.at refl);
               handle = refl;
               taking = refl;
             }
@@ -270,7 +277,8 @@ module _ {v : Shown} {i : ℕ} {t : Task} {m : Parcel} {message : Message} {k h 
             let begun : (x : Message) (r : ℕ) → Desk → Desk = λ x r. with_taking t.handle (receiver.fetching (receiver.begun x.my_ref x.from k a r)) in
             let desk : v4.desk ≡ begun message ref v3.desk = recorded sent-task.task sent-task.at
             ∙ ap (λ h. with_taking h (receiver.fetching (receiver.begun message.my_ref message.from k a ref)) v3.desk) sent-task.handle in
-            let granted : accept v.desk t m ≡ Ok (begun m.message (next_ref v.desk) three.sent, outcome.Fetch (next_ref v.desk)) = accept-is v.desk t m k can.free
+            let granted : accept v.desk t m ≡ Ok (begun m.message (next_ref v.desk) three.sent, outcome.Fetch (next_ref v.desk)) =
+            accept-is v.desk t m k can.free
             ∙ begins (after_buffer v.desk t m k) one.granted (begins (after_document v.desk t m k (one.slot, a)) two.granted
             (begins (after_fetch v.desk t m k (one.slot, a)) (same-send three.granted) refl)) in (
               begun message ref three.sent,

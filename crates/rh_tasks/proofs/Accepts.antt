@@ -24,7 +24,8 @@ use Rattle.rh_defs.proofs.SlotRooms.{length-with_zeros, pages-with_heap}
 use Rattle.rh_tasks.specs.Polls.{IsAt, IsFreeAnchor}
 use Rattle.rh_tasks.proofs.Chains.{begins, ends}
 use Rattle.rh_tasks.proofs.SendRooms.{where_free, sent_post, send-refused, send-fits, send-lacks, fetch-pages}
-use Rattle.rh_tasks.proofs.Rooms.{free-given, free-lacking, claimed, both_pages, claim-by_pages, take-is, documented, alloc-by_pages, unused-above, anchor-unused}
+use Rattle.rh_tasks.proofs.Rooms.{free-given, free-lacking, claimed, both_pages, claim-by_pages, take-is, documented, alloc-by_pages, unused-above}
+use Rattle.rh_tasks.proofs.Rooms.{anchor-unused}
 use Rattle.rh_tasks.proofs.Slides.{at-task}
 
 -- ---- chains that are granted or refused
@@ -84,7 +85,8 @@ module _ (h : ℕ) (s : Slot) (l : Letter) (d : Desk) where
   unfolding with_task
   slot-post = refl
 
-  there : {g : Granted (Post × ℕ)} → post_send (free_pages (with_slot h s d)) l d.post ≡ g → post_send (free_pages (with_slot h s d)) l (with_slot h s d).post ≡ g
+  there : {g : Granted (Post × ℕ)} → post_send (free_pages (with_slot h s d)) l d.post ≡ g
+      → post_send (free_pages (with_slot h s d)) l (with_slot h s d).post ≡ g
   there e = ap (post_send (free_pages (with_slot h s d)) l) slot-post ∙ e
 
   pub fetch-refused : {r : Refusal} → post_send_pages l d.post ≡ Err r → send_letter l (with_slot h s d) ≡ Err r
@@ -130,7 +132,8 @@ module _ (d : Desk) (i : ℕ) (t : Task) (m : Parcel) (k : ℕ) (is : IsDesk d) 
   buffer-fits take room = claim-by_pages (free_pages d) t.buffer t.slot ∙ begins _ take (free-given (free_pages d) (pages_for shortage) b room)
 
   document-unused : slot_alloc (free_pages (with_slot t.handle b.0 d)) k 0 b.0 ≡ where_free (free_pages (with_slot t.handle b.0 d)) p document_pages
-  document-unused = alloc-by_pages (free_pages (with_slot t.handle b.0 d)) k b.0 (unused-above k (claim_growing t.buffer t.slot.heap).heap t.slot (anchor-unused k t.slot free))
+  document-unused = alloc-by_pages (free_pages (with_slot t.handle b.0 d)) k b.0
+      (unused-above k (claim_growing t.buffer t.slot.heap).heap t.slot (anchor-unused k t.slot free))
 
   abbrev letter : Letter
   letter = the_fetch d t m 0
@@ -162,11 +165,13 @@ module _ (d : Desk) (i : ℕ) (t : Task) (m : Parcel) (k : ℕ) (is : IsDesk d) 
         ap is_ok accepted
         ∙ ok-begins (after_buffer d t m k) (buffer-fits take (omega (arith, pages-are, room)))
         (ok-begins (after_document d t m k b) (document-unused ∙ free-given _ document_pages p (omega (arith, pages-are, room, free-with b.0, buffer-pages)))
-        (ok-begins (after_fetch d t m k b) (fetch-fits t.handle p.0 fetch d needs (omega (arith, pages-are, room, free-with p.0, document-pages, both-are))) refl))
+        (ok-begins (after_fetch d t m k b) (fetch-fits t.handle p.0 fetch d needs (omega (arith, pages-are, room, free-with p.0, document-pages, both-are)))
+        refl))
 
     pub accept-lacks : free_pages d < pages + more → is_ok (accept d t m) ≡ false
     accept-lacks short = ap is_ok accepted ∙ elim (cases_lt (free_pages d) (pages_for shortage)) [
-      | inl few ↦ ok-ends (after_buffer d t m k) (claim-by_pages (free_pages d) t.buffer t.slot ∙ begins _ take (free-lacking (free_pages d) (pages_for shortage) b few))
+      | inl few ↦ ok-ends (after_buffer d t m k) (claim-by_pages (free_pages d) t.buffer t.slot
+          ∙ begins _ take (free-lacking (free_pages d) (pages_for shortage) b few))
       | inr some ↦ ok-begins (after_buffer d t m k) (buffer-fits take some) (elim (cases_lt (free_pages (with_slot t.handle b.0 d)) document_pages) [
         | inl few ↦ ok-ends (after_document d t m k b) (document-unused ∙ free-lacking _ document_pages p few)
         | inr more-are ↦ ok-begins (after_document d t m k b) (document-unused ∙ free-given _ document_pages p more-are)

@@ -5,7 +5,9 @@ use Rattle.std.proofs.lemmas.Int.{ints}
 use Rattle.std.specs.Prelude.{ℤ, pos, negsuc, Option, Some, None, IfSome, Ok, nat_le, nat_lt, ◌==◌}
 use Rattle.rh_defs.specs.Chain.{Granted}
 use Rattle.rh_defs.specs.Pieces.{Split, zeros}
-use Rattle.rh_defs.specs.Heap.{Segment, Heap, Way, Stays, Shrinks, GrowsIntoHole, GrowsAtTop, MovesToHole, MovesToTop, Used, Hole, size_of, base, first_place, place_after, block_at, hole_for, is_block_at, is_hole_for, placed_in, raised, need, claim_growing, block_room, way_to, way_to_grow, way_beyond, resized_by, resize_growing, resize_need, segment_size, fitted, bytes_of, new_size}
+use Rattle.rh_defs.specs.Heap.{Segment, Heap, Way, Stays, Shrinks, GrowsIntoHole, GrowsAtTop, MovesToHole, MovesToTop, Used, Hole, size_of, base, first_place}
+use Rattle.rh_defs.specs.Heap.{place_after, block_at, hole_for, is_block_at, is_hole_for, placed_in, raised, need, claim_growing, block_room, way_to}
+use Rattle.rh_defs.specs.Heap.{way_to_grow, way_beyond, resized_by, resize_growing, resize_need, segment_size, fitted, bytes_of, new_size}
 use Rattle.rh_defs.specs.Module.{whole_pages, module_claim, module_resize, module_change}
 use Rattle.rh_defs.specs.Slot.{Slot, slot_alloc, slot_claim, slot_resize, slot_length, heap_block_at, heap_start}
 use Rattle.rh_defs.proofs.Cuts.{IsCut, first_at-cuts, cut-total}
@@ -22,7 +24,8 @@ hole-low t h = go (hole_for t h.segments) (first_at-cuts size_of (is_hole_for t)
     go None c = tt
     go (Some s) c = cut-low h c
 
-placed_in-low : (bytes : List ℕ) (h : Heap) (o : Option (Split Segment)) → IfSome o (λ s. place_after s.before + 4 ≤ base h + 4) → (placed_in bytes h o).address ≤ base h + 4
+placed_in-low : (bytes : List ℕ) (h : Heap) (o : Option (Split Segment)) → IfSome o (λ s. place_after s.before + 4 ≤ base h + 4)
+    → (placed_in bytes h o).address ≤ base h + 4
 placed_in-low bytes h None low = omega arith
 placed_in-low bytes h (Some s) low = low
 
@@ -35,7 +38,8 @@ abbrev LeadsLow : Heap → Way → Type 0
 LeadsLow h (MovesToHole hole) = place_after hole.before + 4 ≤ base h + 4
 LeadsLow h _ = Unit {0}
 
-beyond-low : (h : Heap) (after : List Segment) (o : Option (Split Segment)) → IfSome o (λ s. place_after s.before + 4 ≤ base h + 4) → LeadsLow h (way_beyond after o)
+beyond-low : (h : Heap) (after : List Segment) (o : Option (Split Segment)) → IfSome o (λ s. place_after s.before + 4 ≤ base h + 4)
+    → LeadsLow h (way_beyond after o)
 beyond-low h [] None low = tt
 beyond-low h (g ∷ after) None low = tt
 beyond-low h [] (Some s) low = low
@@ -49,7 +53,8 @@ grow-low t s (Hole size ∷ after) h = chosen (LeadsLow h) (nat_le t (size_of s.
 way-low : (t : ℕ) (s : Split Segment) (h : Heap) → LeadsLow h (way_to t s h)
 way-low t s h = chosen (LeadsLow h) (t == size_of s.here) _ _ tt (chosen (LeadsLow h) (nat_lt t (size_of s.here)) _ _ tt (grow-low t s s.after h))
 
-resized-low : (way : Way) (bytes : List ℕ) (s : Split Segment) (h longer : Heap) → base longer ≡ base h → LeadsLow h way → place_after s.before + 4 ≤ base h + 4 → (resized_by way bytes s longer).address ≤ base h + 4
+resized-low : (way : Way) (bytes : List ℕ) (s : Split Segment) (h longer : Heap) → base longer ≡ base h → LeadsLow h way
+    → place_after s.before + 4 ≤ base h + 4 → (resized_by way bytes s longer).address ≤ base h + 4
 resized-low Stays bytes s h longer e low cut = cut
 resized-low Shrinks bytes s h longer e low cut = cut
 resized-low (GrowsIntoHole size rest) bytes s h longer e low cut = cut
@@ -59,12 +64,14 @@ resized-low MovesToTop bytes s h longer e low cut = omega (arith, e)
 
 -- a resized block
 pub resize-low : (n : ℕ) (s : Split Segment) (h : Heap) → place_after s.before + 4 ≤ base h + 4 → (resize_growing n s h).address ≤ base h + 4
-resize-low n s h cut = resized-low (way_to (segment_size n) s h) (fitted (block_room n) (bytes_of s.here)) s h (raised (resize_need n s h) h) refl (way-low (segment_size n) s h) cut
+resize-low n s h cut = resized-low (way_to (segment_size n) s h) (fitted (block_room n) (bytes_of s.here)) s h (raised (resize_need n s h) h) refl
+    (way-low (segment_size n) s h) cut
 
 block-low : (address : ℕ) (h : Heap) → IfSome (block_at address h) (λ s. place_after s.before + 4 ≤ base h + 4)
 block-low address h = go (block_at address h) (first_at-cuts size_of (is_block_at address) first_place h.segments)
   where
-    go : (o : Option (Split Segment)) → IfSome o (IsCut size_of (is_block_at address) first_place h.segments) → IfSome o (λ s. place_after s.before + 4 ≤ base h + 4)
+    go : (o : Option (Split Segment)) → IfSome o (IsCut size_of (is_block_at address) first_place h.segments)
+        → IfSome o (λ s. place_after s.before + 4 ≤ base h + 4)
     go None c = tt
     go (Some s) c = cut-low h c
 
@@ -91,11 +98,13 @@ pub slot_claim-low : (free n : ℕ) (s : Slot) → OnGrant (λ (p : Slot × ℕ)
 unfolding slot_claim
 slot_claim-low free n s = granted-unless _ _ _ (λ e. granted-unless _ _ _ (λ f. granted-unless _ _ _ (λ g. granted (omega (arith, claim-low n s.heap)))))
 
-pub slot_resize-low : (free address : ℕ) (delta : ℤ) (s : Slot) → OnGrant (λ (p : Slot × ℕ). p.1 ≤ heap_start + (base s.heap + 4)) (slot_resize free address delta s)
+pub slot_resize-low : (free address : ℕ) (delta : ℤ) (s : Slot)
+    → OnGrant (λ (p : Slot × ℕ). p.1 ≤ heap_start + (base s.heap + 4)) (slot_resize free address delta s)
 unfolding slot_resize
 slot_resize-low free address delta s =
     granted-with _ (found_or-grants _ (heap_block_at address s) _ (block-low (address - heap_start) s.heap))
-    (λ b low. granted-unless _ _ _ (λ e. granted-unless _ _ _ (λ f. granted-unless _ _ _ (λ g. granted (omega (arith, resize-low (new_size delta b) b s.heap low))))))
+    (λ b low. granted-unless _ _ _ (λ e. granted-unless _ _ _ (λ f. granted-unless _ _ _
+    (λ g. granted (omega (arith, resize-low (new_size delta b) b s.heap low))))))
 
 pub slot_alloc-low : (free k n : ℕ) (s : Slot) → OnGrant (λ (p : Slot × ℕ). p.1 ≤ 32776 + slot_length s) (slot_alloc free k n s)
 unfolding slot_alloc

@@ -91,7 +91,8 @@ module _ (buffer : ℕ) (s : Slot) where
   abbrev told : Granted ℕ
   told = ok_or (block_size (buffer - heap_start) s.heap) NotABlock
 
-  none-told : (r : Refusal) (count : ℕ) (o : Option (Split Segment)) → Err r ≡ ok_or (option_map (λ b. length (bytes_of b.here)) o) NotABlock → [] ≡ first_bytes count o
+  none-told : (r : Refusal) (count : ℕ) (o : Option (Split Segment)) → Err r ≡ ok_or (option_map (λ b. length (bytes_of b.here)) o) NotABlock
+      → [] ≡ first_bytes count o
   none-told r count None e = refl
   none-told r count (Some b) e = absurd cc
 

@@ -35,7 +35,8 @@ use Rattle.rh_tasks.proofs.Finding.{no-made}
 
 -- ---- how many pages an area has after the change
 
-pub after-more : (free least pages more : ℕ) (delta : ℤ) → lt_z delta (pos 0) ≡ false → PAGE * more ≡ whole_pages delta → more ≤ free → pages_after free least pages delta ≡ Ok (pages + more)
+pub after-more : (free least pages more : ℕ) (delta : ℤ) → lt_z delta (pos 0) ≡ false → PAGE * more ≡ whole_pages delta → more ≤ free
+    → pages_after free least pages delta ≡ Ok (pages + more)
 unfolding pages_after ◌>>=◌ ◌>>◌ refuse_if
 after-more free least pages more (pos n) up is room =
     let enough : lacks_pages free (changed_length (page * pages) (pos n) - page * pages) ≡ false = lt-false free _ (omega (arith, is, room)) in
@@ -43,14 +44,16 @@ after-more free least pages more (pos n) up is room =
     rw (enough, long) refl
 after-more free least pages more (negsuc n) up is room = absurd (cc)
 
-pub after-full : (free least pages more : ℕ) (delta : ℤ) → lt_z delta (pos 0) ≡ false → PAGE * more ≡ whole_pages delta → free < more → pages_after free least pages delta ≡ Err NoRoom
+pub after-full : (free least pages more : ℕ) (delta : ℤ) → lt_z delta (pos 0) ≡ false → PAGE * more ≡ whole_pages delta → free < more
+    → pages_after free least pages delta ≡ Err NoRoom
 unfolding pages_after ◌>>=◌ ◌>>◌ refuse_if
 after-full free least pages more (pos n) up is full =
     let lacks : lacks_pages free (changed_length (page * pages) (pos n) - page * pages) ≡ true = lt-true free _ (omega (arith, is, full)) in
     rw lacks refl
 after-full free least pages more (negsuc n) up is full = absurd (cc)
 
-pub after-less : (free least pages more : ℕ) (delta : ℤ) → lt_z delta (pos 0) ≡ true → PAGE * more ≡ whole_pages delta → least + PAGE * more ≤ PAGE * pages → pages_after free least pages delta ≡ Ok (pages - more)
+pub after-less : (free least pages more : ℕ) (delta : ℤ) → lt_z delta (pos 0) ≡ true → PAGE * more ≡ whole_pages delta → least + PAGE * more ≤ PAGE * pages
+    → pages_after free least pages delta ≡ Ok (pages - more)
 unfolding pages_after ◌>>=◌ ◌>>◌ refuse_if
 after-less free least pages more (pos n) down is room = absurd (omega (arith, ints))
 after-less free least pages more (negsuc n) down is room =
@@ -59,7 +62,8 @@ after-less free least pages more (negsuc n) down is room =
     let long : changed_length (page * pages) (negsuc n) / page ≡ pages - more = omega (arith, is, room) in
     rw (fits, enough, long) refl
 
-pub after-short : (free least pages more : ℕ) (delta : ℤ) → lt_z delta (pos 0) ≡ true → PAGE * more ≡ whole_pages delta → PAGE * pages < least + PAGE * more → pages_after free least pages delta ≡ Err ExcessiveShrink
+pub after-short : (free least pages more : ℕ) (delta : ℤ) → lt_z delta (pos 0) ≡ true → PAGE * more ≡ whole_pages delta → PAGE * pages < least + PAGE * more
+    → pages_after free least pages delta ≡ Err ExcessiveShrink
 unfolding pages_after ◌>>=◌ ◌>>◌ refuse_if
 after-short free least pages more (pos n) down is short = absurd (omega (arith, ints))
 after-short free least pages more (negsuc n) down is short =
@@ -74,12 +78,15 @@ pub room-if : (free least pages : ℕ) (delta : ℤ) (p : ℕ) → pages_after f
 unfolding pages_after ◌>>=◌ ◌>>◌ refuse_if
 room-if free least pages (pos n) p e = go (lacks_pages free (changed_length (page * pages) (pos n) - page * pages)) refl e
   where
-    go : (b : Bool) → nat_lt free (pages_for (changed_length (page * pages) (pos n) - page * pages)) ≡ b → (refuse_if b NoRoom >>= (λ _. Ok (changed_length (page * pages) (pos n) / page))) ≡ Ok p → p ≤ pages + free
+    go : (b : Bool) → nat_lt free (pages_for (changed_length (page * pages) (pos n) - page * pages)) ≡ b
+        → (refuse_if b NoRoom >>= (λ _. Ok (changed_length (page * pages) (pos n) / page))) ≡ Ok p → p ≤ pages + free
     go true t q = absurd (cc)
     go false t q = let same : changed_length (page * pages) (pos n) / page ≡ p = cc in omega (arith, same, ltb-false _ _ t)
-room-if free least pages (negsuc n) p e = go (shrinks_below least (page * pages) (negsuc n)) (lacks_pages free (changed_length (page * pages) (negsuc n) - page * pages)) e
+room-if free least pages (negsuc n) p e =
+    go (shrinks_below least (page * pages) (negsuc n)) (lacks_pages free (changed_length (page * pages) (negsuc n) - page * pages)) e
   where
-    go : (b c : Bool) → (refuse_if b ExcessiveShrink >>= (λ _. refuse_if c NoRoom >>= (λ _. Ok (changed_length (page * pages) (negsuc n) / page)))) ≡ Ok p → p ≤ pages + free
+    go : (b c : Bool) → (refuse_if b ExcessiveShrink >>= (λ _. refuse_if c NoRoom >>= (λ _. Ok (changed_length (page * pages) (negsuc n) / page)))) ≡ Ok p
+        → p ≤ pages + free
     go true c q = absurd (cc)
     go false true q = absurd (cc)
     go false false q = let same : changed_length (page * pages) (negsuc n) / page ≡ p = cc in omega (arith, same)
@@ -115,7 +122,8 @@ module _ (d : Desk) where
   pub least-here : (k : ℕ) → k ≡ 5 → least_length k d ≡ file_length d.scrap
   least-here k e = if_same k 5 _ _ e
 
-module _ {m : Memory} {seats : List Seat} {made : List MadeArea} {files : FileList} {kept : Kept} (w : IsWorld m seats made files kept) (k : ℕ) (delta : ℤ) where
+module _ {m : Memory} {seats : List Seat} {made : List MadeArea} {files : FileList} {kept : Kept} (w : IsWorld m seats made files kept) (k : ℕ)
+    (delta : ℤ) where
   abbrev d : Desk
   d = desk_of m seats made files kept
 
@@ -148,7 +156,8 @@ module _ {m : Memory} {seats : List Seat} {made : List MadeArea} {files : FileLi
     pub fixed-refused : {r : Refusal} → pages_after m.free (least_length k d) (pages_at m k) delta ≡ Err r → change_area d k delta ≡ Err r
     fixed-refused e = fixed-way ne low ∙ pages-refused e
 
-    module _ {n : Memory} {p : ℕ} (granted : pages_after m.free (least_length k d) (pages_at m k) delta ≡ Ok p) (is : pages_at n k ≡ p) (only : OnlyArea m n k) (keeps : KeepsFirst m n k)
+    module _ {n : Memory} {p : ℕ} (granted : pages_after m.free (least_length k d) (pages_at m k) delta ≡ Ok p) (is : pages_at n k ≡ p)
+        (only : OnlyArea m n k) (keeps : KeepsFirst m n k)
         (whole_before : length (bytes m k) % PAGE ≡ 0) (whole_after : length (bytes n k) % PAGE ≡ 0) where
       -- the scrap file still fits in its area
       fits : scrap_size kept.scrap ≤ length (bytes n 5)
@@ -166,13 +175,15 @@ module _ {m : Memory} {seats : List Seat} {made : List MadeArea} {files : FileLi
 
       pages-done : change_pages d k delta ≡ Ok (desk_of n seats made files kept, reply.Moved (whole_pages delta))
       unfolding change_pages
-      pages-done = begins _ (args-are ∙ granted) (granted-same (sym (fixed-desk w low only ne keeps fits whole_before whole_after ∙ ap (λ v. let e : Desk = record d { areas = slice_set (fixed_pages m) k v } in e) is)) refl)
+      pages-done = begins _ (args-are ∙ granted) (granted-same (sym (fixed-desk w low only ne keeps fits whole_before whole_after
+          ∙ ap (λ v. let e : Desk = record d { areas = slice_set (fixed_pages m) k v } in e) is)) refl)
 
       pub fixed-done : change_area d k delta ≡ Ok (desk_of n seats made files kept, reply.Moved (whole_pages delta))
       fixed-done = fixed-way ne low ∙ pages-done
 
       pub fixed-kept : in_range (command.Area k delta) ≡ true → IsWorld n seats made files kept
-      fixed-kept ranged = fixed-world w low only ne keeps fits whole_before whole_after (granted-keeps d _ (command.Area k delta) (reply.Moved (whole_pages delta)) fixed-done ranged w.desk)
+      fixed-kept ranged = fixed-world w low only ne keeps fits whole_before whole_after
+          (granted-keeps d _ (command.Area k delta) (reply.Moved (whole_pages delta)) fixed-done ranged w.desk)
 
   -- ---- made areas
 
@@ -196,7 +207,8 @@ module _ {m : Memory} {seats : List Seat} {made : List MadeArea} {files : FileLi
     unfolding change_made made_of
     made-too-big {p} e big = made-way high ∙ begins _ (made-found w k a h) (begins _ (made-args ∙ e) (stops _ _ _ (lt-true a.most p big)))
 
-    module _ {n : Memory} {p : ℕ} (granted : pages_after m.free 0 (pages_at m a.area.0) delta ≡ Ok p) (fits : p ≤ a.most) (is : pages_at n a.area.0 ≡ p) (only : OnlyArea m n a.area.0)
+    module _ {n : Memory} {p : ℕ} (granted : pages_after m.free 0 (pages_at m a.area.0) delta ≡ Ok p) (fits : p ≤ a.most) (is : pages_at n a.area.0 ≡ p)
+        (only : OnlyArea m n a.area.0)
         (whole_before : length (bytes m a.area.0) % PAGE ≡ 0) (whole_after : length (bytes n a.area.0) % PAGE ≡ 0) where
       area-done : change_made d k delta ≡ Ok (desk_of n seats made files kept, reply.Moved (whole_pages delta))
       unfolding change_made made_of
@@ -210,4 +222,5 @@ module _ {m : Memory} {seats : List Seat} {made : List MadeArea} {files : FileLi
       made-done = made-way high ∙ area-done
 
       pub made-kept : in_range (command.Area k delta) ≡ true → IsWorld n seats made files kept
-      made-kept ranged = made-world w h.sits only whole_before whole_after (granted-keeps d _ (command.Area k delta) (reply.Moved (whole_pages delta)) made-done ranged w.desk)
+      made-kept ranged = made-world w h.sits only whole_before whole_after
+          (granted-keeps d _ (command.Area k delta) (reply.Moved (whole_pages delta)) made-done ranged w.desk)

@@ -29,7 +29,8 @@ pub record Flagged (m : Memory) (old new : Slot) (on was : Bool) : Type 0 where
   pub still : IsSlot m old → IsSlot m new
   pub spelled : (slot_in m new, was) ≡ plain.slot_set_budge on (slot_in m old)
 
-module _ {m : Memory} {seats : List Seat} {made : List MadeArea} {files : FileList} {kept : Kept} {name : List ℕ} {i : ℕ} {s : Seat} {slot : Slot} {on was : Bool}
+module _ {m : Memory} {seats : List Seat} {made : List MadeArea} {files : FileList} {kept : Kept} {name : List ℕ} {i : ℕ} {s : Seat} {slot : Slot}
+    {on was : Bool}
     (w : IsWorld m seats made files kept) (f : Found name seats i s) (flag : Flagged m s.slot slot on was) where
   has : IsSlot m s.slot
   has = all-at (HasSlot m) seats i s w.areas.slots (sits f)
@@ -38,10 +39,13 @@ module _ {m : Memory} {seats : List Seat} {made : List MadeArea} {files : FileLi
   unfolding task_of
   moves = record { handle = refl; area = flag.area; still = flag.still has; only = OnlyArea-self m s.slot.area.0 has.opened; task = refl }
 
-  pub budge-done : budge (desk_of m seats made files kept) name on ≡ Ok (desk_of m (set seats i (record s { slot = slot })) made files kept, reply.WasBudging was)
+  pub budge-done : budge (desk_of m seats made files kept) name on ≡ Ok
+      (desk_of m (set seats i (record s { slot = slot })) made files kept, reply.WasBudging was)
   unfolding budge task_of
   budge-done = begins _ (named-is m made files kept f) (granted-same
-      (sym (moved-desk w (sits f) moves ∙ ap (λ (p : plain.Slot × Bool). with_slot s.handle p.0 (desk_of m seats made files kept)) flag.spelled)) (ap (λ (p : plain.Slot × Bool). reply.WasBudging p.1) (sym flag.spelled)))
+      (sym (moved-desk w (sits f) moves ∙ ap (λ (p : plain.Slot × Bool). with_slot s.handle p.0 (desk_of m seats made files kept)) flag.spelled))
+      (ap (λ (p : plain.Slot × Bool). reply.WasBudging p.1) (sym flag.spelled)))
 
   pub budge-world : in_range (command.Budge name on) ≡ true → IsWorld m (set seats i (record s { slot = slot })) made files kept
-  budge-world ranged = moved-world w (sits f) moves (granted-keeps (desk_of m seats made files kept) _ (command.Budge name on) (reply.WasBudging was) budge-done ranged w.desk)
+  budge-world ranged = moved-world w (sits f) moves (granted-keeps (desk_of m seats made files kept) _ (command.Budge name on) (reply.WasBudging was)
+      budge-done ranged w.desk)

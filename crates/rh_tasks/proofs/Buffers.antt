@@ -101,7 +101,8 @@ module _ {m : Memory} {seats : List Seat} {made : List MadeArea} {files : FileLi
     slot = record { heap = has.spells.words.heap.heap; anchors = has.spells.words.anchors };
   }
 
-  module _ {n : Memory} (edit : plain.Slot → plain.Slot) (still : IsSlot n s.slot) (only : OnlyArea m n s.slot.area.0) (is : slot_in n s.slot ≡ edit (slot_in m s.slot)) where
+  module _ {n : Memory} (edit : plain.Slot → plain.Slot) (still : IsSlot n s.slot) (only : OnlyArea m n s.slot.area.0)
+      (is : slot_in n s.slot ≡ edit (slot_in m s.slot)) where
     slot-moves : Moves m n s s (λ t. record t { slot = edit t.slot })
     unfolding task_of
     slot-moves = record {
@@ -129,19 +130,22 @@ module _ {m : Memory} {seats : List Seat} {made : List MadeArea} {files : FileLi
     released-is : slot_in n s.slot ≡ without_buffer buffer (slot_in m s.slot)
     released-is = l.slot ∙ left-is (slot_in m s.slot) (slot_release buffer (slot_in m s.slot))
 
-    pub dropped-desk : desk_of n seats made files kept ≡ with_task s.handle (λ t. record t { slot = without_buffer buffer t.slot }) (desk_of m seats made files kept)
+    pub dropped-desk : desk_of n seats made files kept ≡ with_task s.handle (λ t. record t { slot = without_buffer buffer t.slot })
+        (desk_of m seats made files kept)
     dropped-desk = edited-desk (without_buffer buffer) l.still l.only released-is
 
     pub dropped-world : IsWorld n seats made files kept
     dropped-world =
         edited-world (without_buffer buffer) l.still l.only released-is
         (subst IsDesk (sym dropped-desk)
-        (with_task-keeps s.handle (λ t. record t { slot = without_buffer buffer t.slot }) (desk_of m seats made files kept) (λ t. refl) (λ t slot. without_buffer-kept buffer t.slot slot) w.desk))
+        (with_task-keeps s.handle (λ t. record t { slot = without_buffer buffer t.slot }) (desk_of m seats made files kept) (λ t. refl)
+        (λ t slot. without_buffer-kept buffer t.slot slot) w.desk))
 
     pub dropped-returns : {old : Shown} → shown_of m seats made files kept ≡ old → (t : Task) → IsAt i t old.desk
         → desk_of n seats made files kept ≡ with_task t.handle (λ t. record t { slot = without_buffer buffer t.slot }) old.desk
     dropped-returns view t there =
-        dropped-desk ∙ ap (λ h. with_task h (λ t. record t { slot = without_buffer buffer t.slot }) (desk_of m seats made files kept)) (seat-handle w view at there)
+        dropped-desk ∙ ap (λ h. with_task h (λ t. record t { slot = without_buffer buffer t.slot }) (desk_of m seats made files kept))
+        (seat-handle w view at there)
         ∙ ap (λ (x : Shown). with_task t.handle (λ t. record t { slot = without_buffer buffer t.slot }) x.desk) view
 
   -- ---- bytes are put at a document's end
@@ -182,7 +186,8 @@ module _ {m : Memory} {seats : List Seat} {made : List MadeArea} {files : FileLi
     unfolding task_of ◌>>=◌
     appended-not l = sym (appended-as d (task_of m s) k xs) ∙ ap (λ g. g >>= λ x. Ok (with_slot s.handle x d)) (the-append ∙ unchanged l)
 
-    pub appended-becomes : {n : Memory} (r : Granted (Unit {0})) → Leaves m n s.slot (no_answer call) r → Becomes (appended d (task_of m s) k xs) (shown_of m seats made files kept) (shown_of n seats made files kept) r
+    pub appended-becomes : {n : Memory} (r : Granted (Unit {0})) → Leaves m n s.slot (no_answer call) r
+        → Becomes (appended d (task_of m s) k xs) (shown_of m seats made files kept) (shown_of n seats made files kept) r
     appended-becomes (Ok x) l = appended-done l
     appended-becomes (Err r) l = (appended-not l, ap (λ x. shown_of x seats made files kept) l.err)
 
@@ -191,7 +196,8 @@ module _ {m : Memory} {seats : List Seat} {made : List MadeArea} {files : FileLi
         → Becomes (appended old.desk t k (first_bytes count (heap_block_at buffer t.slot))) old (shown_of n seats made files kept) r
     unfolding task_of
     appended-returns {n} {old} view r l buffer count is t there =
-        let P : Task → Type 0 = λ u. Becomes (appended d u k (first_bytes count (heap_block_at buffer u.slot))) (shown_of m seats made files kept) (shown_of n seats made files kept) r in
+        let P : Task → Type 0 = λ u. Becomes (appended d u k (first_bytes count (heap_block_at buffer u.slot))) (shown_of m seats made files kept)
+        (shown_of n seats made files kept) r in
         let Q : Shown → Type 0 = λ o. Becomes (appended o.desk t k (first_bytes count (heap_block_at buffer t.slot))) o (shown_of n seats made files kept) r in
         let R : List ℕ → Type 0 = λ ys. Becomes (appended d (task_of m s) k ys) (shown_of m seats made files kept) (shown_of n seats made files kept) r in
         subst Q view (subst P (seat-task w view at there) (subst R is (appended-becomes r l)))

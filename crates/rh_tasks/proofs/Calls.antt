@@ -50,7 +50,8 @@ module _ {A : Type 0} {m : Memory} {seats : List Seat} {made : List MadeArea} {f
   module _ {n : Memory} (slid : Slid m n slot) {a : A} (granted : call m.free (slot_in m slot) ≡ Ok a) (is : slot_in n slot ≡ out a) where
     pub slot-done : on_slot call out said name d ≡ Ok (desk_of n seats made files kept, said a)
     unfolding task_of
-    slot-done = begins _ (found-named w o) (begins _ (the_call ∙ granted) (granted-same (sym (slid-desk w o slid ∙ ap (λ s. with_slot o.seat.handle s d) is)) refl))
+    slot-done = begins _ (found-named w o) (begins _ (the_call ∙ granted)
+        (granted-same (sym (slid-desk w o slid ∙ ap (λ s. with_slot o.seat.handle s d) is)) refl))
 
     pub slot-world : (c : Command) → change d c ≡ on_slot call out said name d → in_range c ≡ true → IsWorld n seats made files kept
     slot-world c same ranged = slid-world w o slid (granted-keeps d _ c (said a) (same ∙ slot-done) ranged w.desk)
@@ -61,7 +62,8 @@ module _ {A : Type 0} {m : Memory} {seats : List Seat} {made : List MadeArea} {f
       begins _ (found-named w o) (skipped (look (task_of m o.seat)) _ is) ∙ sym (begins _ (found-named w o) refl)
 
   -- behind a step that is refused only as the call is
-  pub first-is : {B : Type 0} (look : Task → Granted B) → ((r : Refusal) → look (task_of m o.seat) ≡ Err r → call m.free (slot_in m slot) ≡ Err r) → on_idle look call out said name d ≡ on_slot call out said name d
+  pub first-is : {B : Type 0} (look : Task → Granted B) → ((r : Refusal) → look (task_of m o.seat) ≡ Err r → call m.free (slot_in m slot) ≡ Err r)
+      → on_idle look call out said name d ≡ on_slot call out said name d
   first-is {B} look refuses = go (look (task_of m o.seat)) refl
     where
       go : (g : Granted B) → look (task_of m o.seat) ≡ g → on_idle look call out said name d ≡ on_slot call out said name d

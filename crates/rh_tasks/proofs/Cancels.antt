@@ -58,7 +58,8 @@ module _ {m : Memory} {seats : List Seat} {made : List MadeArea} {files : FileLi
       cancel_in-world ranged = moved-world w (sits f) taking-moves (granted-keeps d _ (command.CancelIn name id) reply.Done cancel_in-done ranged w.desk)
 
   -- where it is refused the records stay
-  module _ (id : Option ℕ) {r : Refusal} {records : List Incoming} (given : receiver.cancel id s.taking ≡ Err r) (is : records ≡ result_or s.taking (receiver.cancel id s.taking)) where
+  module _ (id : Option ℕ) {r : Refusal} {records : List Incoming} (given : receiver.cancel id s.taking ≡ Err r)
+      (is : records ≡ result_or s.taking (receiver.cancel id s.taking)) where
     pub taking-stay : set seats i (taking_seat records) ≡ seats
     taking-stay = same-seat (taking_seat records) (ap taking_seat (is ∙ ap (result_or s.taking) given))
 
@@ -88,7 +89,8 @@ module _ {m : Memory} {seats : List Seat} {made : List MadeArea} {files : FileLi
       cancel_out-world ranged = moved-world w (sits f) sending-moves (granted-keeps d _ (command.CancelOut name id) reply.Done cancel_out-done ranged w.desk)
 
   -- where it is refused the records stay
-  module _ (id : Option ℕ) {r : Refusal} {records : List Outgoing} (given : sender.cancel id s.sending ≡ Err r) (is : records ≡ result_or s.sending (sender.cancel id s.sending)) where
+  module _ (id : Option ℕ) {r : Refusal} {records : List Outgoing} (given : sender.cancel id s.sending ≡ Err r)
+      (is : records ≡ result_or s.sending (sender.cancel id s.sending)) where
     pub sending-stay : set seats i (sending_seat records) ≡ seats
     sending-stay = same-seat (sending_seat records) (ap sending_seat (is ∙ ap (result_or s.sending) given))
 

@@ -37,7 +37,8 @@ skipped (Ok a) x h = refl
 skipped (Err r) x h = absurd (cc)
 
 -- a chain that is refused is refused with more steps behind it
-pub stopped : {A B C : Type 0} (first : Granted A) (look : A → Granted B) (next : A → B → Granted C) {r : Refusal} → (first >>= look) ≡ Err r → (first >>= (λ a. look a >>= next a)) ≡ Err r
+pub stopped : {A B C : Type 0} (first : Granted A) (look : A → Granted B) (next : A → B → Granted C) {r : Refusal} → (first >>= look) ≡ Err r
+    → (first >>= (λ a. look a >>= next a)) ≡ Err r
 unfolding ◌>>=◌
 stopped (Ok a) look next e = rw e refl
 stopped (Err q) look next e = let same : q ≡ _ = cc in rw same refl

@@ -24,7 +24,8 @@ use Rattle.rh_wimp.proofs.PostCalls.{IsRequeued, post_in-requeued, spells-stays}
 use Rattle.rh_tasks.specs.declared.seat.Seat.{Seat}
 use Rattle.rh_tasks.specs.declared.made.MadeArea.{MadeArea}
 use Rattle.rh_tasks.specs.declared.scrap.ScrapFile.{ScrapFile}
-use Rattle.rh_tasks.specs.View.{Kept, the_module, kept_file, scrap_from, scrap_size, scrap_of, slot_area, made_area, Avoids, HasSlot, HasAreas, desk_of, task_of, made_of, fixed_pages, IsWorld}
+use Rattle.rh_tasks.specs.View.{Kept, the_module, kept_file, scrap_from, scrap_size, scrap_of, slot_area, made_area, Avoids, HasSlot, HasAreas, desk_of}
+use Rattle.rh_tasks.specs.View.{task_of, made_of, fixed_pages, IsWorld}
 use Rattle.rh_tasks.specs.Finding.{Found}
 use Rattle.rh_tasks.proofs.Chains.{begins}
 use Rattle.rh_tasks.proofs.Lists.{Sits, all-at, avoids-below}
@@ -42,7 +43,8 @@ unfolding scrap_of
 scrap-kept m post None = refl
 scrap-kept m post (Some file) =
     let has : ScrapFile → Option Scrap = λ x. Some (scrap_from (bytes m 5) x) in
-    elim (post_is_live file.load post) as (λ b. option_map (scrap_from (bytes m 5)) (cond b (Some file) None) ≡ cond b (has file) None) [ true ↦ refl | false ↦ refl ]
+    elim (post_is_live file.load post) as (λ b. option_map (scrap_from (bytes m 5)) (cond b (Some file) None) ≡ cond b (has file) None)
+    [ true ↦ refl | false ↦ refl ]
 
 pub kept-fits : (post : Post) (scrap : Option ScrapFile) (n : ℕ) → scrap_size scrap ≤ n → scrap_size (kept_file post scrap) ≤ n
 kept-fits post None n fits = fits
@@ -128,7 +130,8 @@ module _ {m n : Memory} {seats : List Seat} {made : List MadeArea} {files : File
     post-is : IsRequeued death (post_in n the_module k)
     unfolding with_delivered
     post-is =
-        post_in-requeued n the_module k death (smaller w module-only) l.still.area (l.spells (post_in m the_module kept.queue) (is-post w)) (dead-kept ranged).post.held
+        post_in-requeued n the_module k death (smaller w module-only) l.still.area (l.spells (post_in m the_module kept.queue) (is-post w))
+        (dead-kept ranged).post.held
 
     post-now : IsRequeued death (post_in p the_module k)
     post-now = subst (IsRequeued death) (sym (post-stays k closes not-module)) post-is

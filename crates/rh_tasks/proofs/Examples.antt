@@ -13,7 +13,8 @@ use Rattle.rh_tasks.specs.Lists.{segment_items_at, blocks_of, segments_of}
 
 -- a block of 5 bytes at anchor 7 and an empty one at anchor 1, above a heap of 48 bytes
 abbrev pub two_by_two : Slot
-two_by_two = record { heap = two_blocks; blocks = record { anchor = 7; bytes = 1 ∷ 2 ∷ 3 ∷ 4 ∷ 5 ∷ [] } ∷ record { anchor = 1; bytes = [] } ∷ []; budging = true }
+two_by_two =
+    record { heap = two_blocks; blocks = record { anchor = 7; bytes = 1 ∷ 2 ∷ 3 ∷ 4 ∷ 5 ∷ [] } ∷ record { anchor = 1; bytes = [] } ∷ []; budging = true }
 
 abbrev pub task_a : Task
 task_a = record { handle = 1; name = codes "a"; buffer = 100; manner = Plain; slot = two_by_two; sending = []; taking = []; last_sent = None }
@@ -21,7 +22,8 @@ task_a = record { handle = 1; name = codes "a"; buffer = 100; manner = Plain; sl
 abbrev pub one_task : Desk
 one_task = record (start 8 []) { tasks = task_a ∷ [] }
 
-pub listed_blocks : blocks_of one_task (codes "a") ≡ Ok (record { anchor = 7; address = 0x8138; size = 5 } ∷ record { anchor = 1; address = 0x8148; size = 0 } ∷ [])
+pub listed_blocks : blocks_of one_task (codes "a") ≡ Ok (record { anchor = 7; address = 0x8138; size = 5 } ∷ record
+    { anchor = 1; address = 0x8148; size = 0 } ∷ [])
 unfolding chain.computing desk.computing blocks_of
 listed_blocks = refl
 

@@ -58,7 +58,8 @@ apart-at f (z ∷ xs) zero (suc j) x y all at bt ne q =
 apart-at f (z ∷ xs) (suc i) zero x y all at bt ne q =
     avoids-at f (f z) xs i x all.0 (record { inside = omega (arith, at.inside); is = at.is }) (q ∙ sym (ap f bt.is))
 apart-at f (z ∷ xs) (suc i) (suc j) x y all at bt ne q =
-    apart-at f xs i j x y all.1 (record { inside = omega (arith, at.inside); is = at.is }) (record { inside = omega (arith, bt.inside); is = bt.is }) (λ e. ne (ap suc e)) q
+    apart-at f xs i j x y all.1 (record { inside = omega (arith, at.inside); is = at.is }) (record { inside = omega (arith, bt.inside); is = bt.is })
+    (λ e. ne (ap suc e)) q
 
 test-apart : (a b : ℕ) → a ≢ b → (a == b) ≡ false
 test-apart a b h = grind (arith, nat_tests)
@@ -96,5 +97,6 @@ module _ {m : Memory} {seats : List Seat} {i j : ℕ} {t r : Task} (a : Seated m
       unfolding task_of
       in-other handles ne =
           let apart : t.handle ≢ r.handle =
-          λ q. apart-at (λ (x : Seat). x.handle) seats i j a.seat b.seat handles a.sits b.sits ne (ap (λ (x : Task). x.handle) (sym a.is) ∙ q ∙ ap (λ (x : Task). x.handle) b.is) in
+          λ q. apart-at (λ (x : Seat). x.handle) seats i j a.seat b.seat handles a.sits b.sits ne
+          (ap (λ (x : Task). x.handle) (sym a.is) ∙ q ∙ ap (λ (x : Task). x.handle) b.is) in
           test-apart i j ne ∙ sym (in-block ∙ rw (test-apart t.handle r.handle apart) refl)

@@ -62,13 +62,16 @@ pub find-named : {name : List ℕ} {seats : List Seat} {i : ℕ} {s : Seat} (m :
 unfolding task_of
 find-named {name} {seats} {i} {s} m f =
     let first = position-Some (is_named name) seats i s f.at in
-    find-first (task_of m) (has_name name) seats i s first.0 f.is (let P : Seat → Type 0 = λ y. bytes_eq y.name name ≡ true in subst P f.is first.1) (λ j h. first.2 j h)
+    find-first (task_of m) (has_name name) seats i s first.0 f.is (let P : Seat → Type 0 = λ y. bytes_eq y.name name ≡ true in subst P f.is first.1)
+    (λ j h. first.2 j h)
 
-pub nobody-named : (m : Memory) (name : List ℕ) (seats : List Seat) → position (is_named name) seats ≡ None → found_or (find (has_name name) (map (task_of m) seats)) NoName ≡ Err NoName
+pub nobody-named : (m : Memory) (name : List ℕ) (seats : List Seat) → position (is_named name) seats ≡ None
+    → found_or (find (has_name name) (map (task_of m) seats)) NoName ≡ Err NoName
 unfolding found_or task_of
 nobody-named m name seats h = rw (find-map (task_of m) (has_name name) seats (find-none (is_named name) seats h)) refl
 
-pub somebody-named : {name : List ℕ} {seats : List Seat} {i : ℕ} {s : Seat} (m : Memory) → Found name seats i s → found_or (find (has_name name) (map (task_of m) seats)) NoName ≡ Ok (task_of m s)
+pub somebody-named : {name : List ℕ} {seats : List Seat} {i : ℕ} {s : Seat} (m : Memory) → Found name seats i s
+    → found_or (find (has_name name) (map (task_of m) seats)) NoName ≡ Ok (task_of m s)
 unfolding found_or
 somebody-named m f = rw (find-named m f) refl
 
@@ -96,7 +99,8 @@ made-number k made i a at is =
     let P : MadeArea → Type 0 = λ y. (y.number == k) ≡ true in
     eqb-true _ _ (subst P is (position-Some (has_number k) made i a at).1)
 
-pub no-made : (m : Memory) (k : ℕ) (made : List MadeArea) → position (has_number k) made ≡ None → found_or (find (is_numbered k) (map (made_of m) made)) NoArea ≡ Err NoArea
+pub no-made : (m : Memory) (k : ℕ) (made : List MadeArea) → position (has_number k) made ≡ None
+    → found_or (find (is_numbered k) (map (made_of m) made)) NoArea ≡ Err NoArea
 unfolding found_or made_of
 no-made m k made h = rw (find-map (made_of m) (is_numbered k) made (find-none (has_number k) made h)) refl
 

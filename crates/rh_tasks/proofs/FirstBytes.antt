@@ -63,7 +63,8 @@ module _ (s : Slot) (before after : List Flex) (b : Flex) (n : ℕ) (is : s.bloc
       ∙ ap (λ k. take n (drop k b.bytes)) (let none : x - flex_address s before ≡ 0 = omega arith in none)
 
 -- ---- a block of the C heap
-module _ (s : Slot) (before after : List Segment) (bs : List ℕ) (n : ℕ) (is : s.heap.segments ≡ before ++ Used bs ∷ after) (fits : base s.heap ≤ s.heap.end) (few : n ≤ length bs) where
+module _ (s : Slot) (before after : List Segment) (bs : List ℕ) (n : ℕ) (is : s.heap.segments ≡ before ++ Used bs ∷ after) (fits : base s.heap ≤ s.heap.end)
+    (few : n ≤ length bs) where
   abbrev y : ℕ
   y = 16 + total size_of before + 4
 
@@ -75,13 +76,15 @@ module _ (s : Slot) (before after : List Segment) (bs : List ℕ) (n : ℕ) (is 
       total-with (z ∷ xs) g ys = omega (arith, total-with xs g ys)
 
   no-flex : flex_around (heap_start + y) n s ≡ None
-  no-flex = first_at-none weight (flex_at (heap_start + y) n) (flex_start s) s.blocks (flex-ahead (heap_start + y) n (flex_start s) s.blocks (omega (arith, in-heap)))
+  no-flex = first_at-none weight (flex_at (heap_start + y) n) (flex_start s) s.blocks
+      (flex-ahead (heap_start + y) n (flex_start s) s.blocks (omega (arith, in-heap)))
 
   heap-found : block_around (heap_start + y - heap_start) n s.heap ≡ Some (record { before = before; here = Used bs; after = after })
   heap-found =
       ap (λ z. block_around z n s.heap) (let same : heap_start + y - heap_start ≡ y = omega arith in same)
       ∙ ap (first_at size_of (is_around y n) 16) is
-      ∙ first_at-found size_of (is_around y n) 16 before (Used bs) after (heap-past y n 16 before (omega arith)) (inside-yes y n (16 + total size_of before + 4) (length bs) (omega arith) (omega arith))
+      ∙ first_at-found size_of (is_around y n) 16 before (Used bs) after (heap-past y n 16 before (omega arith))
+      (inside-yes y n (16 + total size_of before + 4) (length bs) (omega arith) (omega arith))
 
   pub heap-holds : holds (heap_start + y) n s ≡ true
   heap-holds =
@@ -99,7 +102,8 @@ module _ (s : Slot) (before after : List Segment) (bs : List ℕ) (n : ℕ) (is 
       ∙ ap (λ k. take n (drop k bs)) (let none : heap_start + y - (heap_start + (16 + total size_of before) + 4) ≡ 0 = omega arith in none)
 
 -- ---- what is read of a live task's slot
-pub first-read : (d : Desk) (h x n : ℕ) (t : Task) (bytes : List ℕ) → task_at h d ≡ Some t → holds x n t.slot ≡ true → bytes_held x n t.slot ≡ bytes → slot_bytes d h x n ≡ Ok bytes
+pub first-read : (d : Desk) (h x n : ℕ) (t : Task) (bytes : List ℕ) → task_at h d ≡ Some t → holds x n t.slot ≡ true → bytes_held x n t.slot ≡ bytes
+    → slot_bytes d h x n ≡ Ok bytes
 unfolding slot_bytes found_or
 first-read d h x n t bytes live inside same =
     begins _ (ap (λ o. found_or o NoTask) live) (past _ BadRange _ (ap not inside) (ap (λ l. Ok l) same))

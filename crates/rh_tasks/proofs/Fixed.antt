@@ -18,7 +18,8 @@ use Rattle.rh_tasks.specs.declared.seat.Seat.{Seat}
 use Rattle.rh_tasks.specs.declared.made.MadeArea.{MadeArea}
 use Rattle.rh_tasks.specs.View.{Kept, the_module, pages_at, fixed_pages, scrap_size, scrap_of, desk_of, slot_area, made_area, HasAreas, IsWorld}
 use Rattle.rh_tasks.proofs.Lists.{avoids-below}
-use Rattle.rh_tasks.proofs.Frames.{Stay, pages-stay, tasks-stay, slots-stay, mades-stay, mades-opened, fixed-opened, post-stays, queue-stays, scrap-same, scrap-stays, scrap-fits, module-stays, count-stays}
+use Rattle.rh_tasks.proofs.Frames.{Stay, pages-stay, tasks-stay, slots-stay, mades-stay, mades-opened, fixed-opened, post-stays, queue-stays, scrap-same}
+use Rattle.rh_tasks.proofs.Frames.{scrap-stays, scrap-fits, module-stays, count-stays}
 use Rattle.rh_tasks.proofs.Worlds.{same-desk}
 use Rattle.rh_tasks.proofs.Posts.{end-is, module-length}
 
@@ -48,18 +49,24 @@ listed p q r s t = cc
 
 fixed-set : {m n : Memory} (k : ℕ) → Stay m n k → k < 6 → k ≢ 1 → fixed_pages n ≡ slice_set (fixed_pages m) k (pages_at n k)
 unfolding fixed_pages
-fixed-set zero stay low ne = listed refl (pages-stay 2 stay (λ q. absurd (omega arith))) (pages-stay 3 stay (λ q. absurd (omega arith))) (pages-stay 4 stay (λ q. absurd (omega arith))) (pages-stay 5 stay (λ q. absurd (omega arith)))
+fixed-set zero stay low ne = listed refl (pages-stay 2 stay (λ q. absurd (omega arith))) (pages-stay 3 stay (λ q. absurd (omega arith)))
+    (pages-stay 4 stay (λ q. absurd (omega arith))) (pages-stay 5 stay (λ q. absurd (omega arith)))
 fixed-set (suc zero) stay low ne = absurd (ne refl)
-fixed-set (suc (suc zero)) stay low ne = listed (pages-stay 0 stay (λ q. absurd (omega arith))) refl (pages-stay 3 stay (λ q. absurd (omega arith))) (pages-stay 4 stay (λ q. absurd (omega arith))) (pages-stay 5 stay (λ q. absurd (omega arith)))
-fixed-set (suc (suc (suc zero))) stay low ne = listed (pages-stay 0 stay (λ q. absurd (omega arith))) (pages-stay 2 stay (λ q. absurd (omega arith))) refl (pages-stay 4 stay (λ q. absurd (omega arith))) (pages-stay 5 stay (λ q. absurd (omega arith)))
-fixed-set (suc (suc (suc (suc zero)))) stay low ne = listed (pages-stay 0 stay (λ q. absurd (omega arith))) (pages-stay 2 stay (λ q. absurd (omega arith))) (pages-stay 3 stay (λ q. absurd (omega arith))) refl (pages-stay 5 stay (λ q. absurd (omega arith)))
-fixed-set (suc (suc (suc (suc (suc zero))))) stay low ne = listed (pages-stay 0 stay (λ q. absurd (omega arith))) (pages-stay 2 stay (λ q. absurd (omega arith))) (pages-stay 3 stay (λ q. absurd (omega arith))) (pages-stay 4 stay (λ q. absurd (omega arith))) refl
+fixed-set (suc (suc zero)) stay low ne = listed (pages-stay 0 stay (λ q. absurd (omega arith))) refl (pages-stay 3 stay (λ q. absurd (omega arith)))
+    (pages-stay 4 stay (λ q. absurd (omega arith))) (pages-stay 5 stay (λ q. absurd (omega arith)))
+fixed-set (suc (suc (suc zero))) stay low ne = listed (pages-stay 0 stay (λ q. absurd (omega arith))) (pages-stay 2 stay (λ q. absurd (omega arith))) refl
+    (pages-stay 4 stay (λ q. absurd (omega arith))) (pages-stay 5 stay (λ q. absurd (omega arith)))
+fixed-set (suc (suc (suc (suc zero)))) stay low ne = listed (pages-stay 0 stay (λ q. absurd (omega arith))) (pages-stay 2 stay (λ q. absurd (omega arith)))
+    (pages-stay 3 stay (λ q. absurd (omega arith))) refl (pages-stay 5 stay (λ q. absurd (omega arith)))
+fixed-set (suc (suc (suc (suc (suc zero))))) stay low ne = listed (pages-stay 0 stay (λ q. absurd (omega arith)))
+    (pages-stay 2 stay (λ q. absurd (omega arith))) (pages-stay 3 stay (λ q. absurd (omega arith))) (pages-stay 4 stay (λ q. absurd (omega arith))) refl
 fixed-set (suc (suc (suc (suc (suc (suc k)))))) stay low ne = absurd (omega arith)
 
 -- all but the module area's change
 pub fixed-rest : {m n : Memory} → Stay m n 1 → fixed_pages n ≡ fixed_pages m
 unfolding fixed_pages
-fixed-rest stay = listed (pages-stay 0 stay (λ q. absurd (omega arith))) (pages-stay 2 stay (λ q. absurd (omega arith))) (pages-stay 3 stay (λ q. absurd (omega arith))) (pages-stay 4 stay (λ q. absurd (omega arith))) (pages-stay 5 stay (λ q. absurd (omega arith)))
+fixed-rest stay = listed (pages-stay 0 stay (λ q. absurd (omega arith))) (pages-stay 2 stay (λ q. absurd (omega arith)))
+    (pages-stay 3 stay (λ q. absurd (omega arith))) (pages-stay 4 stay (λ q. absurd (omega arith))) (pages-stay 5 stay (λ q. absurd (omega arith)))
 
 -- one of areas 0 to 5 is open
 pub fixed-open : {m : Memory} {seats : List Seat} {made : List MadeArea} (k : ℕ) → HasAreas m seats made → k < 6 → IsOpen m k
@@ -77,7 +84,8 @@ unfolding pages_at
 pages-of m id whole = omega arith
 
 -- of areas 0 to 5 one has changed, and the module area is one still
-pub changed-areas : {m n : Memory} {seats : List Seat} {made : List MadeArea} {k : ℕ} → HasAreas m seats made → k < 6 → OnlyArea m n k → IsModule n the_module → HasAreas n seats made
+pub changed-areas : {m n : Memory} {seats : List Seat} {made : List MadeArea} {k : ℕ} → HasAreas m seats made → k < 6 → OnlyArea m n k
+    → IsModule n the_module → HasAreas n seats made
 changed-areas {m} {n} {seats} {made} {k} areas low only is =
     let stay : Stay m n k = record { others = only.others } in record {
       fixed_open = fixed-opened stay only.opened areas.fixed_open;
@@ -109,9 +117,11 @@ module _ {m n : Memory} {seats : List Seat} {made : List MadeArea} {files : File
     | inr other ↦ scrap-stays kept.scrap stay other
   ]
 
-  pub fixed-desk : desk_of n seats made files kept ≡ (let d : Desk = record (desk_of m seats made files kept) { areas = slice_set (fixed_pages m) k (pages_at n k) } in d)
+  pub fixed-desk : desk_of n seats made files kept ≡ (let d : Desk = record (desk_of m seats made files kept)
+      { areas = slice_set (fixed_pages m) k (pages_at n k) } in d)
   fixed-desk = same-desk (desk_of m seats made files kept)
-      (tasks-stay seats stay (avoids-below slot_area 6 k seats low w.areas.slots_above)) (post-stays kept.queue stay (λ q. ne (sym q))) (fixed-set k stay low ne)
+      (tasks-stay seats stay (avoids-below slot_area 6 k seats low w.areas.slots_above)) (post-stays kept.queue stay (λ q. ne (sym q)))
+      (fixed-set k stay low ne)
       (mades-stay made stay (avoids-below made_area 6 k made low w.areas.made_above)) only.pages scrap-is
 
   fixed-ledger : n.free + used_pages (desk_of n seats made files kept) ≡ n.pages
@@ -146,7 +156,8 @@ module _ {m n : Memory} {seats : List Seat} {made : List MadeArea} {files : File
   pub module-desk : desk_of n seats made files kept ≡ with_module h (desk_of m seats made files kept)
   module-desk = same-desk (desk_of m seats made files kept)
       (tasks-stay seats around (avoids-below slot_area 6 1 seats (omega arith) w.areas.slots_above)) same (fixed-rest around)
-      (mades-stay made around (avoids-below made_area 6 1 made (omega arith) w.areas.made_above)) only.pages (scrap-stays kept.scrap around (λ q. absurd (omega arith)))
+      (mades-stay made around (avoids-below made_area 6 1 made (omega arith) w.areas.made_above)) only.pages
+      (scrap-stays kept.scrap around (λ q. absurd (omega arith)))
 
   module-ledger : length (bytes n 1) % PAGE ≡ 0 → n.free + used_pages (desk_of n seats made files kept) ≡ n.pages
   module-ledger whole_after =

@@ -22,7 +22,8 @@ use Rattle.rh_wimp.proofs.PostCalls.{post_in-stays, spells-stays}
 use Rattle.rh_tasks.specs.declared.seat.Seat.{Seat}
 use Rattle.rh_tasks.specs.declared.made.MadeArea.{MadeArea}
 use Rattle.rh_tasks.specs.declared.scrap.ScrapFile.{ScrapFile}
-use Rattle.rh_tasks.specs.View.{the_module, fixed, pages_at, task_of, made_of, fixed_pages, scrap_size, scrap_of, slot_area, made_area, made_number, Avoids, AreDistinct, HasSlot, IsAbove}
+use Rattle.rh_tasks.specs.View.{the_module, fixed, pages_at, task_of, made_of, fixed_pages, scrap_size, scrap_of, slot_area, made_area, made_number, Avoids}
+use Rattle.rh_tasks.specs.View.{AreDistinct, HasSlot, IsAbove}
 use Rattle.rh_tasks.proofs.Lists.{Sits, cons, avoids-at}
 
 pub if_apart : {A : Type 0} (a b : ℕ) (x y : A) → a ≢ b → (if a == b then x else y) ≡ y
@@ -77,7 +78,8 @@ pub tasks-stay : {m n : Memory} {id : ℕ} (seats : List Seat) → Stay m n id �
 tasks-stay [] stay all = refl
 tasks-stay (s ∷ seats) stay all = cons (task-stays s stay all.0) (tasks-stay seats stay all.1)
 
-pub slots-stay : {m n : Memory} {id : ℕ} (seats : List Seat) → Stay m n id → Avoids id (map slot_area seats) → AllByRecursion (HasSlot m) seats → AllByRecursion (HasSlot n) seats
+pub slots-stay : {m n : Memory} {id : ℕ} (seats : List Seat) → Stay m n id → Avoids id (map slot_area seats) → AllByRecursion (HasSlot m) seats
+    → AllByRecursion (HasSlot n) seats
 slots-stay [] stay off all = tt
 slots-stay (s ∷ seats) stay off all = (has-slot-stays s.slot stay off.0 all.0, slots-stay seats stay off.1 all.1)
 
@@ -125,7 +127,8 @@ mades-opened [] stay off all = tt
 mades-opened (a ∷ made) stay off all = (opened-stays a.area.0 stay off.0 all.0, mades-opened made stay off.1 all.1)
 
 -- one of the areas has another number of pages
-none-numbered : (k p : ℕ) (m : Memory) (made : List MadeArea) → Avoids k (map made_number made) → map (with_pages k p) (map (made_of m) made) ≡ map (made_of m) made
+none-numbered : (k p : ℕ) (m : Memory) (made : List MadeArea) → Avoids k (map made_number made)
+    → map (with_pages k p) (map (made_of m) made) ≡ map (made_of m) made
 unfolding made_of
 none-numbered k p m [] off = refl
 none-numbered k p m (a ∷ made) off = cons (if_apart a.number k _ _ off.0) (none-numbered k p m made off.1)
@@ -139,7 +142,8 @@ mades-edited {m} {n} (x ∷ made) zero a at numbers areas stay =
     let P : MadeArea → Type 0 = λ y. map (made_of n) (x ∷ made) ≡ map (with_pages y.number (pages_at n y.area.0)) (map (made_of m) (x ∷ made)) in
     let off : Avoids x.area.0 (map made_area made) = areas.0 in
     let stay' : Stay m n x.area.0 = (let Q : MadeArea → Type 0 = λ y. Stay m n y.area.0 in subst Q (sym at.is) stay) in
-    subst P at.is (cons (sym (if_same x.number x.number _ _ refl)) (mades-stay made stay' off ∙ sym (none-numbered x.number (pages_at n x.area.0) m made numbers.0)))
+    subst P at.is (cons (sym (if_same x.number x.number _ _ refl)) (mades-stay made stay' off
+    ∙ sym (none-numbered x.number (pages_at n x.area.0) m made numbers.0)))
 mades-edited {m} {n} (x ∷ made) (suc i) a at numbers areas stay =
     cons (made-stays x stay (λ q. avoids-at made_area x.area.0 made i a areas.0 (step at) (sym q))
     ∙ sym (if_apart x.number a.number _ _ (λ q. avoids-at made_number x.number made i a numbers.0 (step at) (sym q))))
@@ -153,8 +157,10 @@ mades-opened-at {m} {n} (x ∷ made) zero a at areas stay o all =
     let P : MadeArea → Type 0 = λ y. IsOpen n y.area.0 in
     let off : Avoids a.area.0 (map made_area made) = (let Q : ℕ → Type 0 = λ k. Avoids k (map made_area made) in subst Q (ap made_area at.is) areas.0) in
     (subst P (sym at.is) o, mades-opened made stay off all.1)
-mades-opened-at (x ∷ made) (suc i) a at areas stay o all =
-    (opened-stays x.area.0 stay (λ q. avoids-at made_area x.area.0 made i a areas.0 (step at) (sym q)) all.0, mades-opened-at made i a (step at) areas.1 stay o all.1)
+mades-opened-at (x ∷ made) (suc i) a at areas stay o all = (
+  opened-stays x.area.0 stay (λ q. avoids-at made_area x.area.0 made i a areas.0 (step at) (sym q)) all.0,
+  mades-opened-at made i a (step at) areas.1 stay o all.1,
+)
 
 -- ---- areas 0 to 5, and the post
 
@@ -162,11 +168,15 @@ pub fixed-stay : {m n : Memory} {id : ℕ} → Stay m n id → IsAbove id → fi
 unfolding fixed_pages
 fixed-stay {m} {n} {id} stay above =
     cons (pages-stay 0 stay (λ q. absurd (omega arith))) (cons refl (cons (pages-stay 2 stay (λ q. absurd (omega arith)))
-    (cons (pages-stay 3 stay (λ q. absurd (omega arith))) (cons (pages-stay 4 stay (λ q. absurd (omega arith))) (cons (pages-stay 5 stay (λ q. absurd (omega arith))) refl)))))
+    (cons (pages-stay 3 stay (λ q. absurd (omega arith))) (cons (pages-stay 4 stay (λ q. absurd (omega arith)))
+    (cons (pages-stay 5 stay (λ q. absurd (omega arith))) refl)))))
 
 all-opened : {m n : Memory} {id : ℕ} (ids : List ℕ) → Stay m n id → IsOpen n id → AllByRecursion (IsOpen m) ids → AllByRecursion (IsOpen n) ids
 all-opened [] stay o all = tt
-all-opened {m} {n} {id} (j ∷ ids) stay o all = (elim (cases_eq j id) [ inl e ↦ (let P : ℕ → Type 0 = λ k. IsOpen n k in subst P (sym e) o) | inr ne ↦ opened-stays j stay ne all.0 ], all-opened ids stay o all.1)
+all-opened {m} {n} {id} (j ∷ ids) stay o all = (
+  elim (cases_eq j id) [ inl e ↦ (let P : ℕ → Type 0 = λ k. IsOpen n k in subst P (sym e) o) | inr ne ↦ opened-stays j stay ne all.0 ],
+  all-opened ids stay o all.1,
+)
 
 pub fixed-opened : {m n : Memory} {id : ℕ} → Stay m n id → IsOpen n id → AllByRecursion (IsOpen m) fixed → AllByRecursion (IsOpen n) fixed
 fixed-opened stay o all = all-opened fixed stay o all
@@ -181,7 +191,8 @@ queue-stays {m} {n} {id} {q} stay h is =
 -- ---- the scrap file
 
 -- its bytes stay, so it does
-pub scrap-same : (m n : Memory) (scrap : Option ScrapFile) → take (scrap_size scrap) (bytes n 5) ≡ take (scrap_size scrap) (bytes m 5) → scrap_of n scrap ≡ scrap_of m scrap
+pub scrap-same : (m n : Memory) (scrap : Option ScrapFile) → take (scrap_size scrap) (bytes n 5) ≡ take (scrap_size scrap) (bytes m 5)
+    → scrap_of n scrap ≡ scrap_of m scrap
 unfolding scrap_of
 scrap-same m n None e = refl
 scrap-same m n (Some file) e = ap (λ (b : List ℕ). let x : Option Scrap = Some (record { load = file.load; bytes = b }) in x) e
@@ -189,7 +200,8 @@ scrap-same m n (Some file) e = ap (λ (b : List ℕ). let x : Option Scrap = Som
 pub scrap-stays : {m n : Memory} {id : ℕ} (scrap : Option ScrapFile) → Stay m n id → 5 ≢ id → scrap_of n scrap ≡ scrap_of m scrap
 scrap-stays {m} {n} scrap stay h = scrap-same m n scrap (ap (take (scrap_size scrap)) (bytes-stay 5 stay h))
 
-pub scrap-fits : {m n : Memory} {id : ℕ} (scrap : Option ScrapFile) → Stay m n id → 5 ≢ id → scrap_size scrap ≤ length (bytes m 5) → scrap_size scrap ≤ length (bytes n 5)
+pub scrap-fits : {m n : Memory} {id : ℕ} (scrap : Option ScrapFile) → Stay m n id → 5 ≢ id → scrap_size scrap ≤ length (bytes m 5)
+    → scrap_size scrap ≤ length (bytes n 5)
 scrap-fits scrap stay h fits = let P : List ℕ → Type 0 = λ b. scrap_size scrap ≤ length b in subst P (sym (bytes-stay 5 stay h)) fits
 
 -- ---- how many areas are open

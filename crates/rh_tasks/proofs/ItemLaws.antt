@@ -51,7 +51,8 @@ pub pages-slot : (m : Memory) (s : Seat) → HasSlot m s → plain.slot_pages (s
 unfolding pages_at
 pages-slot m s has = omega (arith, has.spells.pages)
 
-slots-listed : (m : Memory) (seats : List Seat) → AllByRecursion (HasSlot m) seats → map (λ (t : Task). item.Slot t.name (task_pages t)) (map (task_of m) seats) ≡ slot_items m seats
+slots-listed : (m : Memory) (seats : List Seat) → AllByRecursion (HasSlot m) seats
+    → map (λ (t : Task). item.Slot t.name (task_pages t)) (map (task_of m) seats) ≡ slot_items m seats
 unfolding task_of
 slots-listed m [] all = refl
 slots-listed m (s ∷ seats) all = cons (ap (λ n. item.Slot s.name n) (pages-slot m s all.0)) (slots-listed m seats all.1)
@@ -66,7 +67,8 @@ module _ {m : Memory} {seats : List Seat} {made : List MadeArea} {files : FileLi
 
   fixed-listed : map (area_item d) (enumerate_from 0 (fixed_pages m)) ≡ fixed_items m
   unfolding fixed_pages
-  fixed-listed = ap (λ n. item.Area 0 (pages_at m 0) ∷ item.Area 1 n ∷ item.Area 2 (pages_at m 2) ∷ item.Area 3 (pages_at m 3) ∷ item.Area 4 (pages_at m 4) ∷ item.Area 5 (pages_at m 5) ∷ []) module-pages
+  fixed-listed = ap (λ n. item.Area 0 (pages_at m 0) ∷ item.Area 1 n ∷ item.Area 2 (pages_at m 2) ∷ item.Area 3 (pages_at m 3) ∷ item.Area 4 (pages_at m 4)
+      ∷ item.Area 5 (pages_at m 5) ∷ []) module-pages
 
   pub items-are : area_items d ≡ items_in m seats made
   items-are =
@@ -92,7 +94,8 @@ module _ {m : Memory} {seats : List Seat} {made : List MadeArea} {files : FileLi
   told i {free} {x} p q = let e : x ≡ slice_get (area_items d) i = q ∙ ap (λ l. slice_get l i) (sym items-are) in cc
 
 -- item i, by where it stands
-pub item-fixed : (m : Memory) (seats : List Seat) (made : List MadeArea) (i : ℕ) → i < 6 → slice_get (items_in m seats made) i ≡ Some (item.Area i (pages_at m i))
+pub item-fixed : (m : Memory) (seats : List Seat) (made : List MadeArea) (i : ℕ) → i < 6
+    → slice_get (items_in m seats made) i ≡ Some (item.Area i (pages_at m i))
 item-fixed m seats made zero low = refl
 item-fixed m seats made (suc zero) low = refl
 item-fixed m seats made (suc (suc zero)) low = refl
@@ -102,16 +105,19 @@ item-fixed m seats made (suc (suc (suc (suc (suc zero))))) low = refl
 item-fixed m seats made (suc (suc (suc (suc (suc (suc i)))))) low = absurd (omega arith)
 
 made-long : (m : Memory) (made : List MadeArea) → length (fixed_items m ++ made_items m made) ≡ 6 + length made
-made-long m made = omega (arith, length-append (fixed_items m) (made_items m made), length-map made (λ (a : MadeArea). item.Area a.number (pages_at m a.area.0)))
+made-long m made =
+    omega (arith, length-append (fixed_items m) (made_items m made), length-map made (λ (a : MadeArea). item.Area a.number (pages_at m a.area.0)))
 
-pub item-made : (m : Memory) (seats : List Seat) (made : List MadeArea) (i : ℕ) (a : MadeArea) → 6 ≤ i → i - 6 < length made → get_or made (i - 6) a ≡ a → slice_get (items_in m seats made) i ≡ Some (item.Area a.number (pages_at m a.area.0))
+pub item-made : (m : Memory) (seats : List Seat) (made : List MadeArea) (i : ℕ) (a : MadeArea) → 6 ≤ i → i - 6 < length made → get_or made (i - 6) a ≡ a
+    → slice_get (items_in m seats made) i ≡ Some (item.Area a.number (pages_at m a.area.0))
 item-made m seats made i a high inside is =
     get-front (fixed_items m ++ made_items m made) (slot_items m seats) i (omega (arith, made-long m made))
     ∙ get-behind (fixed_items m) (made_items m made) i (omega arith)
     ∙ slice_get-map (λ (x : MadeArea). item.Area x.number (pages_at m x.area.0)) made (i - 6)
     ∙ ap (option_map (λ (x : MadeArea). item.Area x.number (pages_at m x.area.0))) (get-at made (i - 6) a inside is)
 
-pub item-slot : (m : Memory) (seats : List Seat) (made : List MadeArea) (i : ℕ) → 6 ≤ i → length made ≤ i - 6 → slice_get (items_in m seats made) i ≡ slice_get (slot_items m seats) ((i - 6) - length made)
+pub item-slot : (m : Memory) (seats : List Seat) (made : List MadeArea) (i : ℕ) → 6 ≤ i → length made ≤ i - 6
+    → slice_get (items_in m seats made) i ≡ slice_get (slot_items m seats) ((i - 6) - length made)
 item-slot m seats made i high past =
     get-behind (fixed_items m ++ made_items m made) (slot_items m seats) i (omega (arith, made-long m made))
     ∙ ap (slice_get (slot_items m seats)) (omega (arith, made-long m made))
@@ -119,7 +125,8 @@ item-slot m seats made i high past =
 pub slot-past : (m : Memory) (seats : List Seat) (i : ℕ) → length seats ≤ i → slice_get (slot_items m seats) i ≡ None
 slot-past m seats i past = slice_get_past (slot_items m seats) i (omega (arith, length-map seats (λ (s : Seat). item.Slot s.name (pages_at m s.slot.area.0))))
 
-pub slot-there : (m : Memory) (seats : List Seat) (i : ℕ) (s : Seat) → i < length seats → get_or seats i s ≡ s → slice_get (slot_items m seats) i ≡ Some (item.Slot s.name (pages_at m s.slot.area.0))
+pub slot-there : (m : Memory) (seats : List Seat) (i : ℕ) (s : Seat) → i < length seats → get_or seats i s ≡ s
+    → slice_get (slot_items m seats) i ≡ Some (item.Slot s.name (pages_at m s.slot.area.0))
 slot-there m seats i s inside is =
     slice_get-map (λ (x : Seat). item.Slot x.name (pages_at m x.slot.area.0)) seats i
     ∙ ap (option_map (λ (x : Seat). item.Slot x.name (pages_at m x.slot.area.0))) (get-at seats i s inside is)

@@ -24,7 +24,8 @@ use Rattle.rh_tasks.specs.declared.seat.Seat.{Seat}
 use Rattle.rh_tasks.specs.declared.made.MadeArea.{MadeArea}
 use Rattle.rh_tasks.specs.View.{Kept, the_module, task_of, desk_of, slot_area, made_area, Avoids, AreDistinct, HasSlot, IsAbove, HasAreas, IsWorld}
 use Rattle.rh_tasks.proofs.Lists.{Sits, all-at, all-map, all-push, all-removed, avoids-at, avoids-removed, distinct-push, distinct-removed}
-use Rattle.rh_tasks.proofs.Frames.{Stay, tasks-stay, slots-stay, mades-stay, mades-opened, fixed-stay, fixed-opened, post-stays, queue-stays, scrap-stays, scrap-fits, module-stays, opened-stays}
+use Rattle.rh_tasks.proofs.Frames.{Stay, tasks-stay, slots-stay, mades-stay, mades-opened, fixed-stay, fixed-opened, post-stays, queue-stays, scrap-stays}
+use Rattle.rh_tasks.proofs.Frames.{scrap-fits, module-stays, opened-stays}
 use Rattle.rh_tasks.proofs.Moves.{slot-pages}
 use Rattle.rh_tasks.proofs.Worlds.{same-desk}
 use Rattle.rh_tasks.proofs.Posts.{post-joins}
@@ -35,7 +36,8 @@ pub none-is : (o : Option (List ℕ)) → IsNone o → o ≡ None
 none-is None h = refl
 none-is (Some x) h = absurd (cc)
 
-pub off-open : {A : Type 0} (f : A → ℕ) (m : Memory) (id : ℕ) (xs : List A) → IsNone (m.area id) → AllByRecursion (λ x. IsOpen m (f x)) xs → Avoids id (map f xs)
+pub off-open : {A : Type 0} (f : A → ℕ) (m : Memory) (id : ℕ) (xs : List A) → IsNone (m.area id) → AllByRecursion (λ x. IsOpen m (f x)) xs
+    → Avoids id (map f xs)
 off-open f m id [] none all = tt
 off-open f m id (x ∷ xs) none all = ((λ q. open_apart m (f x) id all.0 none (sym q)), off-open f m id xs none all.1)
 
@@ -65,7 +67,8 @@ count-more {m} {n} {id} k stay none is low =
 
 -- ---- a member taken out of a list by its number
 
-filter-all : {A B : Type 0} (key : A → ℕ) (f : A → B) (number : B → ℕ) → ((x : A) → number (f x) ≡ key x) → (k : ℕ) (xs : List A) → Avoids k (map key xs) → filter (λ y. not (number y == k)) (map f xs) ≡ map f xs
+filter-all : {A B : Type 0} (key : A → ℕ) (f : A → B) (number : B → ℕ) → ((x : A) → number (f x) ≡ key x) → (k : ℕ) (xs : List A) → Avoids k (map key xs)
+    → filter (λ y. not (number y == k)) (map f xs) ≡ map f xs
 filter-all key f number is k [] off = refl
 filter-all key f number is k (x ∷ xs) off =
     let other : (number (f x) == k) ≡ false = differs (number (f x)) k (λ q. off.0 (sym (is x) ∙ q)) in
@@ -74,8 +77,8 @@ filter-all key f number is k (x ∷ xs) off =
     differs : (a b : ℕ) → a ≢ b → (a == b) ≡ false
     differs a b h = grind (arith, nat_tests)
 
-pub filter-others : {A B : Type 0} (key : A → ℕ) (f : A → B) (number : B → ℕ) → ((x : A) → number (f x) ≡ key x) → (xs : List A) (i : ℕ) (x : A) → Sits xs i x → AreDistinct (map key xs)
-    → filter (λ y. not (number y == key x)) (map f xs) ≡ map f (remove xs i)
+pub filter-others : {A B : Type 0} (key : A → ℕ) (f : A → B) (number : B → ℕ) → ((x : A) → number (f x) ≡ key x) → (xs : List A) (i : ℕ) (x : A)
+    → Sits xs i x → AreDistinct (map key xs) → filter (λ y. not (number y == key x)) (map f xs) ≡ map f (remove xs i)
 filter-others key f number is [] i x at distinct = absurd (omega (arith, at.inside))
 filter-others key f number is (y ∷ xs) zero x at distinct =
     let same : (number (f y) == key x) ≡ true = equals (number (f y)) (key x) (is y ∙ ap key at.is) in
@@ -105,7 +108,8 @@ total-map size f (x ∷ xs) = ap (λ k. size (f x) + k) (total-map size f xs)
 -- ---- a seat comes
 
 module _ {m n : Memory} {seats : List Seat} {made : List MadeArea} {files : FileList} {kept : Kept} (s : Seat)
-    (w : IsWorld m seats made files kept) (none : IsNone (m.area s.slot.area.0)) (low : s.slot.area.0 < MAX_AREAS) (only : OnlyArea m n s.slot.area.0) (still : IsSlot n s.slot) where
+    (w : IsWorld m seats made files kept) (none : IsNone (m.area s.slot.area.0)) (low : s.slot.area.0 < MAX_AREAS) (only : OnlyArea m n s.slot.area.0)
+    (still : IsSlot n s.slot) where
   stay : Stay m n s.slot.area.0
   stay = record { others = only.others }
 
@@ -132,9 +136,12 @@ module _ {m n : Memory} {seats : List Seat} {made : List MadeArea} {files : File
   posts = post-joins n kept.queue s.handle ∙ ap (post_join s.handle) (post-stays kept.queue stay not-module)
 
   pub joined-desk : (handle : ℕ) → desk_of n (seats ++ s ∷ []) made files (joined_kept handle)
-      ≡ (let d : Desk = record (desk_of m seats made files kept) { tasks = map (task_of m) seats ++ task_of n s ∷ []; post = post_join s.handle (post_in m the_module kept.queue); next_handle = handle } in d)
+      ≡ (let d : Desk =
+      record (desk_of m seats made files kept)
+      { tasks = map (task_of m) seats ++ task_of n s ∷ []; post = post_join s.handle (post_in m the_module kept.queue); next_handle = handle } in d)
   joined-desk handle = same-desk (let d : Desk = record (desk_of m seats made files kept) { next_handle = handle } in d)
-      (map-append (task_of n) seats (s ∷ []) ∙ ap (λ l. l ++ task_of n s ∷ []) (tasks-stay seats stay off-slots)) posts (fixed-stay stay above) (mades-stay made stay off-made) only.pages (scrap-stays kept.scrap stay not-scrap)
+      (map-append (task_of n) seats (s ∷ []) ∙ ap (λ l. l ++ task_of n s ∷ []) (tasks-stay seats stay off-slots)) posts (fixed-stay stay above)
+      (mades-stay made stay off-made) only.pages (scrap-stays kept.scrap stay not-scrap)
 
   joined-areas : HasAreas n (seats ++ s ∷ []) made
   joined-areas = record {
@@ -164,8 +171,8 @@ module _ {m n : Memory} {seats : List Seat} {made : List MadeArea} {files : File
         total-append task_pages (map (task_of m) seats) (task_of n s ∷ []),
       )
 
-  pub joined-world : (handle : ℕ) → (IsQueue n the_module kept.queue → IsQueue n the_module (joined s.handle kept.queue)) → IsDesk (desk_of n (seats ++ s ∷ []) made files (joined_kept handle))
-      → IsWorld n (seats ++ s ∷ []) made files (joined_kept handle)
+  pub joined-world : (handle : ℕ) → (IsQueue n the_module kept.queue → IsQueue n the_module (joined s.handle kept.queue))
+      → IsDesk (desk_of n (seats ++ s ∷ []) made files (joined_kept handle)) → IsWorld n (seats ++ s ∷ []) made files (joined_kept handle)
   joined-world handle joins is = record {
     desk = is;
     areas = joined-areas;
@@ -183,10 +190,16 @@ all-opened-else : (m : Memory) (id : ℕ) (ids : List ℕ) → Avoids id ids →
 all-opened-else m id [] off all = tt
 all-opened-else m id (j ∷ ids) off all = (opened-stays j (closed-stay m id) off.0 all.0, all-opened-else m id ids off.1 all.1)
 
-pub fixed-opened-else : (m : Memory) (id : ℕ) → IsAbove id → AllByRecursion (IsOpen m) (0 ∷ 1 ∷ 2 ∷ 3 ∷ 4 ∷ 5 ∷ []) → AllByRecursion (IsOpen (closed m id)) (0 ∷ 1 ∷ 2 ∷ 3 ∷ 4 ∷ 5 ∷ [])
+pub fixed-opened-else : (m : Memory) (id : ℕ) → IsAbove id → AllByRecursion (IsOpen m) (0 ∷ 1 ∷ 2 ∷ 3 ∷ 4 ∷ 5 ∷ [])
+    → AllByRecursion (IsOpen (closed m id)) (0 ∷ 1 ∷ 2 ∷ 3 ∷ 4 ∷ 5 ∷ [])
 fixed-opened-else m id up all =
-    all-opened-else m id (0 ∷ 1 ∷ 2 ∷ 3 ∷ 4 ∷ 5 ∷ [])
-    ((λ q. absurd (omega arith)), ((λ q. absurd (omega arith)), ((λ q. absurd (omega arith)), ((λ q. absurd (omega arith)), ((λ q. absurd (omega arith)), ((λ q. absurd (omega arith)), tt)))))) all
+    all-opened-else m id (0 ∷ 1 ∷ 2 ∷ 3 ∷ 4 ∷ 5 ∷ []) (
+      (λ q. absurd (omega arith)),
+      (
+        (λ q. absurd (omega arith)),
+        ((λ q. absurd (omega arith)), ((λ q. absurd (omega arith)), ((λ q. absurd (omega arith)), ((λ q. absurd (omega arith)), tt)))),
+      ),
+    ) all
 
 module _ {m : Memory} {seats : List Seat} {made : List MadeArea} {i : ℕ} {s : Seat}
     (areas : HasAreas m seats made) (at : Sits seats i s) (low : s.slot.area.0 < MAX_AREAS) where
@@ -208,7 +221,8 @@ module _ {m : Memory} {seats : List Seat} {made : List MadeArea} {i : ℕ} {s : 
   abbrev handle_of : Seat → ℕ
   handle_of x = x.handle
 
-  pub left-tasks : AreDistinct (map handle_of seats) → map (task_of n) (remove seats i) ≡ filter (λ (t : Task). not (t.handle == s.handle)) (map (task_of m) seats)
+  pub left-tasks : AreDistinct (map handle_of seats)
+      → map (task_of n) (remove seats i) ≡ filter (λ (t : Task). not (t.handle == s.handle)) (map (task_of m) seats)
   unfolding task_of
   left-tasks distinct = tasks-stay (remove seats i) around off-others
       ∙ sym (filter-others handle_of (task_of m) (λ (t : Task). t.handle) (λ x. refl) seats i s at distinct)
@@ -224,7 +238,12 @@ module _ {m : Memory} {seats : List Seat} {made : List MadeArea} {i : ℕ} {s : 
     slots_apart = distinct-removed slot_area seats i areas.slots_apart;
     made_apart = areas.made_apart;
     beside = all-removed (λ (x : Seat). Avoids x.slot.area.0 (map made_area made)) seats i areas.beside;
-    count = omega (arith, open_below-closed m s.slot.area.0 MAX_AREAS (all-at (HasSlot m) seats i s areas.slots at).opened low, areas.count, length-remove seats i at.inside);
+    count = omega (
+      arith,
+      open_below-closed m s.slot.area.0 MAX_AREAS (all-at (HasSlot m) seats i s areas.slots at).opened low,
+      areas.count,
+      length-remove seats i at.inside,
+    );
   }
 
   -- the pages of the other tasks, and those of the task that goes
@@ -232,7 +251,8 @@ module _ {m : Memory} {seats : List Seat} {made : List MadeArea} {i : ℕ} {s : 
   unfolding task_of
   left-pages =
       let gone : total task_pages (map (task_of m) (remove seats i)) + task_pages (task_of m s) ≡ total task_pages (map (task_of m) seats) =
-      (let r = total-removed (λ (x : Seat). task_pages (task_of m x)) seats i s at in omega (arith, r, total-map task_pages (task_of m) seats, total-map task_pages (task_of m) (remove seats i))) in
+      (let r = total-removed (λ (x : Seat). task_pages (task_of m x)) seats i s at in
+      omega (arith, r, total-map task_pages (task_of m) seats, total-map task_pages (task_of m) (remove seats i))) in
       omega (
         arith,
         gone,

@@ -45,7 +45,8 @@ avoids-at {A} f a (y ∷ xs) zero x all at = let P : A → Type 0 = λ z. f z �
 avoids-at {A} f a (y ∷ xs) (suc i) x all at = avoids-at f a xs i x all.1 (record { inside = omega (arith, at.inside); is = at.is })
 
 -- another way round: each member's number is none of a list's, so none of the list's is a member's
-pub avoids-back : {A : Type 0} (f : A → ℕ) (ids : List ℕ) (xs : List A) → AllByRecursion (λ x. Avoids (f x) ids) xs → (i : ℕ) (id : ℕ) → Sits ids i id → Avoids id (map f xs)
+pub avoids-back : {A : Type 0} (f : A → ℕ) (ids : List ℕ) (xs : List A) → AllByRecursion (λ x. Avoids (f x) ids) xs → (i : ℕ) (id : ℕ) → Sits ids i id
+    → Avoids id (map f xs)
 avoids-back f ids [] all i id at = tt
 avoids-back f ids (x ∷ xs) all i id at =
     ((λ q. all-at (λ other. other ≢ f x) ids i id all.0 at (sym q)), avoids-back f ids xs all.1 i id at)

@@ -40,7 +40,8 @@ pub record HasFile (name : List ℕ) (files : FileList) (bytes : List ℕ) : Typ
   pub found : find (λ file. bytes_eq file.0 name) files ≡ Some file
   pub bytes_are : file.1 ≡ bytes
 
-of-some : (name : List ℕ) (files : FileList) (bytes : List ℕ) (o : Option (List ℕ × List ℕ)) → find (λ file. bytes_eq file.0 name) files ≡ o → option_map (λ file. file.1) o ≡ Some bytes → HasFile name files bytes
+of-some : (name : List ℕ) (files : FileList) (bytes : List ℕ) (o : Option (List ℕ × List ℕ)) → find (λ file. bytes_eq file.0 name) files ≡ o
+    → option_map (λ file. file.1) o ≡ Some bytes → HasFile name files bytes
 of-some name files bytes None e h = absurd (cc)
 of-some name files bytes (Some file) e h = record { file = file; found = e; bytes_are = cc }
 
@@ -69,10 +70,12 @@ alloc-new : (free k n : ℕ) (s : Slot) → OnGrant (IsNew k n s) (slot_alloc fr
 unfolding slot_alloc
 alloc-new free k n s = granted-unless _ _ _ (λ e. granted-unless _ _ _ (λ f. granted (record { unused = e; slot = refl })))
 
-new-block : (k n : ℕ) (s : Slot) → is_used k s ≡ false → slot_block k (with_block k (zeros n) s) ≡ Ok (record { before = s.blocks; here = record { anchor = k; bytes = zeros n }; after = [] })
+new-block : (k n : ℕ) (s : Slot) → is_used k s ≡ false
+    → slot_block k (with_block k (zeros n) s) ≡ Ok (record { before = s.blocks; here = record { anchor = k; bytes = zeros n }; after = [] })
 unfolding slot_block found_or
 new-block k n s unused =
-    let e = block_of-at k (with_block k (zeros n) s) (record { before = s.blocks; here = record { anchor = k; bytes = zeros n }; after = [] }) refl (is_free weight k (flex_start s) s.blocks unused) refl in
+    let e = block_of-at k (with_block k (zeros n) s) (record { before = s.blocks; here = record { anchor = k; bytes = zeros n }; after = [] }) refl
+    (is_free weight k (flex_start s) s.blocks unused) refl in
     rw e refl
 
 put-fits : (k n : ℕ) (bytes : List ℕ) (s : Slot) → is_used k s ≡ false → length bytes ≤ n → IsOk (slot_put k 0 bytes (with_block k (zeros n) s))
@@ -134,7 +137,8 @@ module _ {m : Memory} {seats : List Seat} {made : List MadeArea} {files : FileLi
 
         pub load-done : load d name k file ≡ Ok (desk_of p seats made files kept, reply.Block a)
         unfolding load task_of
-        load-done = begins _ (found-named w o) (begins _ (some-file _ _ the-file.found) (begins _ (the-alloc ∙ leaves.granted l) (begins _ the-put (granted-same (sym (slid-desk w o slid)) refl))))
+        load-done = begins _ (found-named w o) (begins _ (some-file _ _ the-file.found)
+            (begins _ (the-alloc ∙ leaves.granted l) (begins _ the-put (granted-same (sym (slid-desk w o slid)) refl))))
 
         pub load-world : in_range (command.Load name k file) ≡ true → IsWorld p seats made files kept
         load-world ranged = slid-world w o slid (granted-keeps d _ (command.Load name k file) (reply.Block a) load-done ranged w.desk)

@@ -21,11 +21,13 @@ use Rattle.rh_tasks.proofs.Chains.{begins, ends}
 use Rattle.rh_tasks.proofs.Finding.{nobody-named, somebody-named}
 
 -- no task has the name
-pub looked-none : {B : Type 0} (look : Task → Granted B) (m : Memory) (name : List ℕ) (seats : List Seat) → position (is_named name) seats ≡ None → looked look m name seats ≡ Err NoName
+pub looked-none : {B : Type 0} (look : Task → Granted B) (m : Memory) (name : List ℕ) (seats : List Seat) → position (is_named name) seats ≡ None
+    → looked look m name seats ≡ Err NoName
 looked-none look m name seats h = ends _ (nobody-named m name seats h)
 
 -- what the look at the task gives
-pub looked-at : {B : Type 0} {name : List ℕ} {seats : List Seat} {i : ℕ} {s : Seat} (look : Task → Granted B) (m : Memory) {g : Granted B} → Found name seats i s → look (task_of m s) ≡ g → looked look m name seats ≡ g
+pub looked-at : {B : Type 0} {name : List ℕ} {seats : List Seat} {i : ℕ} {s : Seat} (look : Task → Granted B) (m : Memory) {g : Granted B}
+    → Found name seats i s → look (task_of m s) ≡ g → looked look m name seats ≡ g
 looked-at look m f e = begins _ (somebody-named m f) e
 
 -- ---- a step that finds a block, and one that asks whether it is busy
@@ -35,12 +37,14 @@ unfolding ◌>>=◌
 missed (Ok a) size next r e = absurd cc
 missed (Err q) size next r e = let same : q ≡ r = cc in rw same refl
 
-busy-if : {A : Type 0} (g : Granted A) (size : A → ℕ) (b : Bool) (n : ℕ) → Ok n ≡ (g >>= λ a. Ok (size a)) → b ≡ true → (g >>= λ a. refuse_if b Busy >> (let r : Granted A = Ok a in r)) ≡ Err Busy
+busy-if : {A : Type 0} (g : Granted A) (size : A → ℕ) (b : Bool) (n : ℕ) → Ok n ≡ (g >>= λ a. Ok (size a)) → b ≡ true
+    → (g >>= λ a. refuse_if b Busy >> (let r : Granted A = Ok a in r)) ≡ Err Busy
 unfolding ◌>>=◌ ◌>>◌ refuse_if
 busy-if (Ok a) size b n e is = rw is refl
 busy-if (Err r) size b n e is = absurd cc
 
-idle-if : {A : Type 0} (g : Granted A) (size : A → ℕ) (b : Bool) (n : ℕ) → Ok n ≡ (g >>= λ a. Ok (size a)) → b ≡ false → IsOk (g >>= λ a. refuse_if b Busy >> Ok a)
+idle-if : {A : Type 0} (g : Granted A) (size : A → ℕ) (b : Bool) (n : ℕ) → Ok n ≡ (g >>= λ a. Ok (size a)) → b ≡ false
+    → IsOk (g >>= λ a. refuse_if b Busy >> Ok a)
 unfolding ◌>>=◌ ◌>>◌ refuse_if
 idle-if (Ok a) size b n e is = rw is refl
 idle-if (Err r) size b n e is = absurd cc
@@ -76,7 +80,8 @@ none-found None r e = (refl, let q : NotABlock ≡ r = cc in sym q)
 none-found (Some x) r e = absurd cc
 
 module _ (m : Memory) (s : Seat) (address : ℕ) where
-  pub buffer-missing : {r : Refusal} → Err r ≡ ok_or (block_size (address - plain.heap_start) (slot_in m s.slot).heap) NotABlock → idle_buffer address (task_of m s) ≡ Err r
+  pub buffer-missing : {r : Refusal} → Err r ≡ ok_or (block_size (address - plain.heap_start) (slot_in m s.slot).heap) NotABlock
+      → idle_buffer address (task_of m s) ≡ Err r
   unfolding idle_buffer task_of
   buffer-missing {r} e =
       let o = block_at (address - plain.heap_start) (slot_in m s.slot).heap in
@@ -90,7 +95,8 @@ module _ (m : Memory) (s : Seat) (address : ℕ) where
         busy-if (found_or o NotABlock) _ _ n (rw (asked o _) at is) e
 
   -- where no transfer has its buffer at the address, the look is refused only where no block is there
-  pub buffer-none : list_any (is_buffer_of address) s.taking ≡ false → (r : Refusal) → idle_buffer address (task_of m s) ≡ Err r → (plain.heap_block_at address (slot_in m s.slot) ≡ None) × (r ≡ NotABlock)
+  pub buffer-none : list_any (is_buffer_of address) s.taking ≡ false → (r : Refusal) → idle_buffer address (task_of m s) ≡ Err r
+      → (plain.heap_block_at address (slot_in m s.slot) ≡ None) × (r ≡ NotABlock)
   unfolding idle_buffer task_of
   buffer-none e r q =
       let o = plain.heap_block_at address (slot_in m s.slot) in

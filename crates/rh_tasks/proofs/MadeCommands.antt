@@ -60,7 +60,8 @@ module _ {m : Memory} {seats : List Seat} {made : List MadeArea} {files : FileLi
 
         pub make-done : commands.make d most ≡ Ok (desk_of (opened m id) seats (made ++ new_made ∷ []) files then, reply.Made kept.next.area)
         unfolding commands.make
-        make-done = past _ _ _ (le-false most_made _ few-desk) (past _ _ _ (lt-false last_made kept.next.area some) (granted-same (sym (made-more new_made w none low (kept.next.area + 1))) refl))
+        make-done = past _ _ _ (le-false most_made _ few-desk) (past _ _ _ (lt-false last_made kept.next.area some)
+            (granted-same (sym (made-more new_made w none low (kept.next.area + 1))) refl))
 
         pub make-world : in_range (command.Make most) ≡ true → IsWorld (opened m id) seats (made ++ new_made ∷ []) files then
         make-world ranged = more-world new_made w none low (granted-keeps d _ (command.Make most) (reply.Made kept.next.area) make-done ranged w.desk)
@@ -81,7 +82,9 @@ module _ {m : Memory} {seats : List Seat} {made : List MadeArea} {files : FileLi
       pub remove-done : commands.remove d k ≡ Ok (desk_of (closed m a.area.0) seats (remove made i) files kept, reply.Done)
       unfolding commands.remove
       remove-done =
-          begins _ (made-found a h) (granted-same (sym (made-less w h.sits whole inside ∙ ap (λ n. let e : Desk = record d { made = filter (λ (x : Made). not (commands.is_numbered n x)) (map (made_of m) made) } in e) h.number)) refl)
+          begins _ (made-found a h) (granted-same (sym (made-less w h.sits whole inside
+          ∙ ap (λ n. let e : Desk = record d { made = filter (λ (x : Made). not (commands.is_numbered n x)) (map (made_of m) made) } in e)
+          h.number)) refl)
 
       pub remove-world : in_range (command.Remove k) ≡ true → IsWorld (closed m a.area.0) seats (remove made i) files kept
       remove-world ranged = less-world w h.sits whole inside (granted-keeps d _ (command.Remove k) reply.Done remove-done ranged w.desk)

@@ -12,7 +12,8 @@ use Rattle.rh_tasks.specs.declared.seat.Seat.{Seat}
 use Rattle.rh_tasks.specs.declared.made.MadeArea.{MadeArea}
 use Rattle.rh_tasks.specs.View.{Kept, pages_at, made_of, desk_of, slot_area, made_area, made_number, Avoids, AreDistinct, IsAbove, HasAreas, IsWorld}
 use Rattle.rh_tasks.proofs.Lists.{Sits, all-at, avoids-at, avoids-back}
-use Rattle.rh_tasks.proofs.Frames.{Stay, if_same, if_apart, tasks-stay, slots-stay, mades-edited, mades-opened-at, fixed-stay, fixed-opened, post-stays, queue-stays, scrap-stays, scrap-fits, module-stays, count-stays}
+use Rattle.rh_tasks.proofs.Frames.{Stay, if_same, if_apart, tasks-stay, slots-stay, mades-edited, mades-opened-at, fixed-stay, fixed-opened, post-stays}
+use Rattle.rh_tasks.proofs.Frames.{queue-stays, scrap-stays, scrap-fits, module-stays, count-stays}
 use Rattle.rh_tasks.proofs.Worlds.{numbers, same-desk}
 use Rattle.rh_tasks.proofs.Fixed.{pages-of}
 
@@ -20,7 +21,8 @@ abbrev pages_of_made : Made → ℕ
 pages_of_made m = m.pages
 
 -- the sum with other pages for the area of a number
-none-changed : (k p : ℕ) (m : Memory) (made : List MadeArea) → Avoids k (map made_number made) → total pages_of_made (map (with_pages k p) (map (made_of m) made)) ≡ total pages_of_made (map (made_of m) made)
+none-changed : (k p : ℕ) (m : Memory) (made : List MadeArea) → Avoids k (map made_number made)
+    → total pages_of_made (map (with_pages k p) (map (made_of m) made)) ≡ total pages_of_made (map (made_of m) made)
 unfolding made_of
 none-changed k p m [] off = refl
 none-changed k p m (a ∷ made) off =
@@ -32,12 +34,15 @@ total-with_pages : (p : ℕ) (m : Memory) (made : List MadeArea) (i : ℕ) (a : 
 unfolding made_of
 total-with_pages p m [] i a at numbers = absurd (omega (arith, at.inside))
 total-with_pages p m (x ∷ made) zero a at numbers =
-    let same : with_pages a.number p (made_of m x) ≡ (let y : Made = record (made_of m x) { pages = p } in y) = if_same x.number a.number _ _ (ap made_number at.is) in
-    let off : Avoids a.number (map made_number made) = (let P : ℕ → Type 0 = λ k. Avoids k (map made_number made) in subst P (ap made_number at.is) numbers.0) in
+    let same : with_pages a.number p (made_of m x) ≡ (let y : Made = record (made_of m x) { pages = p } in y) =
+    if_same x.number a.number _ _ (ap made_number at.is) in
+    let off : Avoids a.number (map made_number made) =
+    (let P : ℕ → Type 0 = λ k. Avoids k (map made_number made) in subst P (ap made_number at.is) numbers.0) in
     omega (arith, ap pages_of_made same, none-changed a.number p m made off, ap (λ (y : MadeArea). pages_at m y.area.0) at.is)
 total-with_pages p m (x ∷ made) (suc i) a at numbers =
     let rest : Sits made i a = record { inside = omega (arith, at.inside); is = at.is } in
-    let other : with_pages a.number p (made_of m x) ≡ made_of m x = if_apart x.number a.number _ _ (λ q. avoids-at made_number x.number made i a numbers.0 rest (sym q)) in
+    let other : with_pages a.number p (made_of m x) ≡ made_of m x =
+    if_apart x.number a.number _ _ (λ q. avoids-at made_number x.number made i a numbers.0 rest (sym q)) in
     omega (arith, ap pages_of_made other, total-with_pages p m made i a rest numbers.1)
 
 -- the area of a number is the one that has it
@@ -76,7 +81,8 @@ module _ {m n : Memory} {seats : List Seat} {made : List MadeArea} {files : File
   off : Avoids a.area.0 (map slot_area seats)
   off = avoids-back slot_area (map made_area made) seats w.areas.beside i a.area.0 (area-sits made i a at)
 
-  pub made-desk : desk_of n seats made files kept ≡ (let d : Desk = record (desk_of m seats made files kept) { made = map (with_pages a.number (pages_at n a.area.0)) (map (made_of m) made) } in d)
+  pub made-desk : desk_of n seats made files kept ≡ (let d : Desk = record (desk_of m seats made files kept)
+      { made = map (with_pages a.number (pages_at n a.area.0)) (map (made_of m) made) } in d)
   made-desk = same-desk (desk_of m seats made files kept)
       (tasks-stay seats stay off) (post-stays kept.queue stay not-module) (fixed-stay stay above)
       (mades-edited made i a at (numbers w) w.areas.made_apart stay) only.pages (scrap-stays kept.scrap stay not-scrap)
@@ -108,7 +114,8 @@ module _ {m n : Memory} {seats : List Seat} {made : List MadeArea} {files : File
         pages-of n a.area.0 whole_after,
       )
 
-  pub made-world : length (bytes m a.area.0) % PAGE ≡ 0 → length (bytes n a.area.0) % PAGE ≡ 0 → IsDesk (desk_of n seats made files kept) → IsWorld n seats made files kept
+  pub made-world : length (bytes m a.area.0) % PAGE ≡ 0 → length (bytes n a.area.0) % PAGE ≡ 0 → IsDesk (desk_of n seats made files kept)
+      → IsWorld n seats made files kept
   made-world whole_before whole_after is = record {
     desk = is;
     areas = made-areas;

@@ -6,7 +6,8 @@ use Rattle.std.proofs.Math.ListN.{length-append}
 use Rattle.std.proofs.lemmas.List.{map-append}
 use Rattle.std.proofs.lemmas.List.Edits.{length-remove}
 use Rattle.rh_defs.specs.Memory.{Memory, IsOpen, bytes, opened, closed}
-use Rattle.rh_defs.proofs.MemoryLaws.{open_below-opened, open_below-closed, area-opened, bytes-opened, free-opened, pages-opened, IsOpen-opened, free-closed, pages-closed}
+use Rattle.rh_defs.proofs.MemoryLaws.{open_below-opened, open_below-closed, area-opened, bytes-opened, free-opened, pages-opened, IsOpen-opened, free-closed}
+use Rattle.rh_defs.proofs.MemoryLaws.{pages-closed}
 use Rattle.rh_defs.specs.Pieces.{total}
 use Rattle.rh_defs.proofs.Cuts.{total-append}
 use Rattle.rh_defs.specs.Files.{FileList}
@@ -18,8 +19,10 @@ use Rattle.rh_defs.specs.declared.sizes.TheConstants.{MAX_AREAS, PAGE}
 use Rattle.rh_tasks.specs.declared.seat.Seat.{Seat}
 use Rattle.rh_tasks.specs.declared.made.MadeArea.{MadeArea}
 use Rattle.rh_tasks.specs.View.{Kept, pages_at, made_of, desk_of, slot_area, made_area, made_number, Avoids, HasSlot, IsAbove, HasAreas, IsWorld}
-use Rattle.rh_tasks.proofs.Lists.{Sits, all-at, all-map, all-push, all-removed, avoids-back, avoids-push, avoids-fewer, avoids-removed, distinct-push, distinct-removed}
-use Rattle.rh_tasks.proofs.Frames.{Stay, tasks-stay, slots-stay, mades-stay, mades-opened, fixed-stay, fixed-opened, post-stays, queue-stays, scrap-stays, scrap-fits, module-stays}
+use Rattle.rh_tasks.proofs.Lists.{Sits, all-at, all-map, all-push, all-removed, avoids-back, avoids-push, avoids-fewer, avoids-removed, distinct-push}
+use Rattle.rh_tasks.proofs.Lists.{distinct-removed}
+use Rattle.rh_tasks.proofs.Frames.{Stay, tasks-stay, slots-stay, mades-stay, mades-opened, fixed-stay, fixed-opened, post-stays, queue-stays, scrap-stays}
+use Rattle.rh_tasks.proofs.Frames.{scrap-fits, module-stays}
 use Rattle.rh_tasks.proofs.Worlds.{numbers, same-desk}
 use Rattle.rh_tasks.proofs.Mades.{area-sits}
 use Rattle.rh_tasks.proofs.Joins.{none-is, off-open, closed-above, closed-stay, fixed-opened-else, filter-others, total-removed, total-map}
@@ -28,8 +31,8 @@ abbrev pages_of_made : Made → ℕ
 pages_of_made m = m.pages
 
 -- one more number to be avoided
-also-avoids : (seats : List Seat) (made : List MadeArea) (a : MadeArea) → AllByRecursion (λ (s : Seat). Avoids s.slot.area.0 (map made_area made)) seats → Avoids a.area.0 (map slot_area seats)
-    → AllByRecursion (λ (s : Seat). Avoids s.slot.area.0 (map made_area (made ++ a ∷ []))) seats
+also-avoids : (seats : List Seat) (made : List MadeArea) (a : MadeArea) → AllByRecursion (λ (s : Seat). Avoids s.slot.area.0 (map made_area made)) seats
+    → Avoids a.area.0 (map slot_area seats) → AllByRecursion (λ (s : Seat). Avoids s.slot.area.0 (map made_area (made ++ a ∷ []))) seats
 also-avoids [] made a all off = tt
 also-avoids (s ∷ seats) made a all off = (avoids-push made_area s.slot.area.0 made a all.0 (λ q. off.0 (sym q)), also-avoids seats made a all.1 off.1)
 
@@ -68,11 +71,14 @@ module _ {m : Memory} {seats : List Seat} {made : List MadeArea} {files : FileLi
   no-page = ap (λ (b : List ℕ). length b / PAGE) (bytes-opened m a.area.0)
 
   pub made-more : (number : ℕ) → (let x : Kept = record kept { next = record kept.next { area = number } } in desk_of n seats (made ++ a ∷ []) files x)
-      ≡ (let d : Desk = record (desk_of m seats made files kept) { made = map (made_of m) made ++ record { number = a.number; most = a.most; pages = 0 } ∷ []; next_area = number } in d)
+      ≡ (let d : Desk =
+      record (desk_of m seats made files kept)
+      { made = map (made_of m) made ++ record { number = a.number; most = a.most; pages = 0 } ∷ []; next_area = number } in d)
   unfolding made_of
   made-more number = same-desk (let d : Desk = record (desk_of m seats made files kept) { next_area = number } in d)
       (tasks-stay seats stay off-slots) (post-stays kept.queue stay not-module) (fixed-stay stay above)
-      (map-append (made_of n) made (a ∷ []) ∙ (let e = mades-stay made stay off-made in rw (e, no-page) refl)) (pages-opened m a.area.0) (scrap-stays kept.scrap stay not-scrap)
+      (map-append (made_of n) made (a ∷ []) ∙ (let e = mades-stay made stay off-made in rw (e, no-page) refl)) (pages-opened m a.area.0)
+      (scrap-stays kept.scrap stay not-scrap)
 
   more-areas : HasAreas n seats (made ++ a ∷ [])
   more-areas = record {
@@ -88,7 +94,9 @@ module _ {m : Memory} {seats : List Seat} {made : List MadeArea} {files : FileLi
     count = omega (arith, open_below-opened m a.area.0 MAX_AREAS (none-is _ none) low, w.areas.count, length-append made (a ∷ []));
   }
 
-  more-ledger : (number : ℕ) → n.free + (let x : Kept = record kept { next = record kept.next { area = number } } in used_pages (desk_of n seats (made ++ a ∷ []) files x)) ≡ n.pages
+  more-ledger : (number : ℕ)
+      → n.free + (let x : Kept = record kept { next = record kept.next { area = number } } in
+      used_pages (desk_of n seats (made ++ a ∷ []) files x)) ≡ n.pages
   unfolding made_of
   more-ledger number =
       omega (
@@ -100,7 +108,8 @@ module _ {m : Memory} {seats : List Seat} {made : List MadeArea} {files : FileLi
         total-append pages_of_made (map (made_of m) made) (record { number = a.number; most = a.most; pages = 0 } ∷ []),
       )
 
-  pub more-world : (let x : Kept = record kept { next = record kept.next { area = kept.next.area + 1 } } in IsDesk (desk_of n seats (made ++ a ∷ []) files x) → IsWorld n seats (made ++ a ∷ []) files x)
+  pub more-world : (let x : Kept = record kept { next = record kept.next { area = kept.next.area + 1 } } in IsDesk (desk_of n seats (made ++ a ∷ []) files x)
+      → IsWorld n seats (made ++ a ∷ []) files x)
   more-world d = record {
     desk = d;
     areas = more-areas;
@@ -139,7 +148,8 @@ module _ {m : Memory} {seats : List Seat} {made : List MadeArea} {files : FileLi
   unfolding made_of
   made-less = same-desk (desk_of m seats made files kept)
       (tasks-stay seats around off-seats) (post-stays kept.queue around off-module) (fixed-stay around high)
-      (mades-stay (remove made i) around off-others ∙ sym (filter-others made_number (made_of m) (λ (x : Made). x.number) (λ x. refl) made i a at (numbers w))) (pages-closed m a.area.0) (scrap-stays kept.scrap around off-scrap)
+      (mades-stay (remove made i) around off-others ∙ sym (filter-others made_number (made_of m) (λ (x : Made). x.number) (λ x. refl) made i a at
+      (numbers w))) (pages-closed m a.area.0) (scrap-stays kept.scrap around off-scrap)
 
   less-areas : HasAreas k seats (remove made i)
   less-areas = record {
@@ -152,7 +162,12 @@ module _ {m : Memory} {seats : List Seat} {made : List MadeArea} {files : FileLi
     slots_apart = w.areas.slots_apart;
     made_apart = distinct-removed made_area made i w.areas.made_apart;
     beside = fewer-avoids seats made i w.areas.beside;
-    count = omega (arith, open_below-closed m a.area.0 MAX_AREAS (all-at (λ (x : MadeArea). IsOpen m x.area.0) made i a w.areas.made_open at) inside, w.areas.count, length-remove made i at.inside);
+    count = omega (
+      arith,
+      open_below-closed m a.area.0 MAX_AREAS (all-at (λ (x : MadeArea). IsOpen m x.area.0) made i a w.areas.made_open at) inside,
+      w.areas.count,
+      length-remove made i at.inside,
+    );
   }
 
   less-ledger : k.free + used_pages (desk_of k seats (remove made i) files kept) ≡ k.pages

@@ -59,19 +59,22 @@ shape-found a h d s =
     ∙ ap is_some (block-blank a 16 d.segments) ∙ some-mapped blank_cut (block_at a d)
 
 -- a block's size is answered where a block was found
-missing : (o p : Option (Split Segment)) (f : Split Segment → ℕ) (r : Refusal) → is_some o ≡ is_some p → Err r ≡ ok_or (option_map f o) NotABlock → found_or p NotABlock ≡ Err r
+missing : (o p : Option (Split Segment)) (f : Split Segment → ℕ) (r : Refusal) → is_some o ≡ is_some p → Err r ≡ ok_or (option_map f o) NotABlock
+    → found_or p NotABlock ≡ Err r
 unfolding found_or
 missing None None f r e h = let q : r ≡ NotABlock = cc in rw q refl
 missing None (Some s) f r e h = absurd cc
 missing (Some t) p f r e h = absurd cc
 
-found : (o p : Option (Split Segment)) (f : Split Segment → ℕ) (n : ℕ) → is_some o ≡ is_some p → Ok n ≡ ok_or (option_map f o) NotABlock → IsOk (found_or p NotABlock)
+found : (o p : Option (Split Segment)) (f : Split Segment → ℕ) (n : ℕ) → is_some o ≡ is_some p → Ok n ≡ ok_or (option_map f o) NotABlock
+    → IsOk (found_or p NotABlock)
 unfolding found_or
 found None p f n e h = absurd cc
 found (Some t) None f n e h = absurd cc
 found (Some t) (Some s) f n e h = refl
 
-yours-if : (g : Granted (Split Segment)) (b : Bool) → IsOk g → b ≡ true → (g >>= (λ x. refuse_if b NotYours >> (let r : Granted (Split Segment) = Ok x in r))) ≡ Err NotYours
+yours-if : (g : Granted (Split Segment)) (b : Bool) → IsOk g → b ≡ true
+    → (g >>= (λ x. refuse_if b NotYours >> (let r : Granted (Split Segment) = Ok x in r))) ≡ Err NotYours
 unfolding ◌>>=◌ ◌>>◌ refuse_if
 yours-if (Ok x) b h e = rw e refl
 yours-if (Err r) b h e = absurd cc
@@ -82,7 +85,8 @@ unmarked (Ok x) b e = rw e refl
 unmarked (Err r) b e = refl
 
 -- where no message lies, the look is refused only where no block is there
-pub unmarked-is : (address : ℕ) (d : Desk) → post_is_message (address - module_start) d.post ≡ false → own_block address d ≡ found_or (block_at (address - module_start) d.post.heap) NotABlock
+pub unmarked-is : (address : ℕ) (d : Desk) → post_is_message (address - module_start) d.post ≡ false
+    → own_block address d ≡ found_or (block_at (address - module_start) d.post.heap) NotABlock
 unfolding own_block
 unmarked-is address d e = unmarked (found_or (block_at (address - module_start) d.post.heap) NotABlock) (post_is_message (address - module_start) d.post) e
 
@@ -110,7 +114,8 @@ unanswered (Err r) next = refl
 -- the command that frees a block is a call that answers nothing
 pub own-unanswered : (address : ℕ) (call : Heap → Granted Heap) (said : Reply) (d : Desk)
     → (own_block address d >>= (λ b. call d.post.heap >>= (λ h. Ok (with_module h d, said)))) ≡ on_own address (λ free h. no_answer (call h)) (λ a. said) d
-own-unanswered address call said d = ap (λ (x : Granted Answer). own_block address d >>= (λ b. x)) (unanswered (call d.post.heap) (λ h. Ok (with_module h d, said)))
+own-unanswered address call said d =
+    ap (λ (x : Granted Answer). own_block address d >>= (λ b. x)) (unanswered (call d.post.heap) (λ h. Ok (with_module h d, said)))
 
 module _ {m : Memory} {seats : List Seat} {made : List MadeArea} {files : FileList} {kept : Kept} (w : IsWorld m seats made files kept) where
   abbrev d : Desk
@@ -151,28 +156,33 @@ module _ {m : Memory} {seats : List Seat} {made : List MadeArea} {files : FileLi
     off : IsOff (address - module_start) the_post
     off = off-message h kept.queue the_post (address - module_start) (is-post w) none
 
-    pub frees : Beside h kept.queue the_post (no_answer (module_free (address - module_start) h)) (no_answer (module_free (address - module_start) the_post.heap))
+    pub frees : Beside h kept.queue the_post (no_answer (module_free (address - module_start) h))
+        (no_answer (module_free (address - module_start) the_post.heap))
     frees = free-beside h kept.queue the_post (address - module_start) (is-post w) off
 
     pub resizes : (delta : ℤ)
-        → Beside h kept.queue the_post (module_resize m.free (address - module_start) delta h) (module_resize m.free (address - module_start) delta the_post.heap)
+        → Beside h kept.queue the_post (module_resize m.free (address - module_start) delta h)
+        (module_resize m.free (address - module_start) delta the_post.heap)
     resizes delta = resize-beside h kept.queue the_post m.free (address - module_start) delta (is-post w) off
 
   -- ---- a call
 
-  module _ {A : Type 0} (call : ℕ → Heap → Granted (Heap × A)) (said : A → Reply) (beside : Beside h kept.queue the_post (call m.free h) (call m.free the_post.heap)) where
+  module _ {A : Type 0} (call : ℕ → Heap → Granted (Heap × A)) (said : A → Reply)
+      (beside : Beside h kept.queue the_post (call m.free h) (call m.free the_post.heap)) where
     the_call : call (free_pages d) d.post.heap ≡ call m.free the_post.heap
     the_call = ap (λ f. call f the_post.heap) (free-is w)
 
     pub area-refused : {n : Memory} {r : Refusal} → module_calls.Leaves m n the_module (call m.free h) (Err r) → on_module call said d ≡ Err r
-    area-refused {n} {r} l = ends _ (the_call ∙ answer-refused (call m.free the_post.heap) (answers-beside m n the_module kept.queue (call m.free h) (Err r) l the_post _ beside))
+    area-refused {n} {r} l = ends _ (the_call ∙ answer-refused (call m.free the_post.heap)
+        (answers-beside m n the_module kept.queue (call m.free h) (Err r) l the_post _ beside))
 
     module _ {n : Memory} {a : A} (l : module_calls.Leaves m n the_module (call m.free h) (Ok a)) where
       abbrev heap : Heap
       heap = left_of the_post.heap (call m.free the_post.heap)
 
       plain-is : call m.free the_post.heap ≡ Ok (heap, a)
-      plain-is = answered heap a the_post.heap (call m.free the_post.heap) (answers-beside m n the_module kept.queue (call m.free h) (Ok a) l the_post _ beside) refl
+      plain-is = answered heap a the_post.heap (call m.free the_post.heap)
+          (answers-beside m n the_module kept.queue (call m.free h) (Ok a) l the_post _ beside) refl
 
       post-is : post_in n the_module kept.queue ≡ with_heap heap the_post
       post-is = post_in-calls m n the_module kept.queue (call m.free h) (Ok a) l (call m.free the_post.heap) (small w) (smaller w l.only) w.queue beside
@@ -187,7 +197,8 @@ module _ {m : Memory} {seats : List Seat} {made : List MadeArea} {files : FileLi
       area-world c same ranged whole = module-world w l.only still post-is whole (granted-keeps d _ c (said a) (same ∙ area-done) ranged w.desk)
 
     -- behind the look for a block, where no message lies
-    pub own-is : (address : ℕ) → post_is_message (address - module_start) the_post ≡ false → (block_at (address - module_start) the_post.heap ≡ None → call m.free the_post.heap ≡ Err NotABlock)
+    pub own-is : (address : ℕ) → post_is_message (address - module_start) the_post ≡ false
+        → (block_at (address - module_start) the_post.heap ≡ None → call m.free the_post.heap ≡ Err NotABlock)
         → on_own address call said d ≡ on_module call said d
     own-is address none refused = go (block_at (address - module_start) the_post.heap) refl
       where

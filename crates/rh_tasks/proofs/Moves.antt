@@ -18,7 +18,8 @@ use Rattle.rh_tasks.specs.declared.made.MadeArea.{MadeArea}
 use Rattle.rh_tasks.specs.View.{Kept, task_of, desk_of, slot_area, made_area, Avoids, AreDistinct, HasSlot, IsAbove, HasAreas, IsWorld}
 use Rattle.rh_tasks.specs.Finding.{Owns}
 use Rattle.rh_tasks.proofs.Lists.{Sits, set_same, all-at, all-set, avoids-at}
-use Rattle.rh_tasks.proofs.Frames.{Stay, if_apart, if_same, tasks-edited, slots-edited, mades-stay, mades-opened, fixed-stay, fixed-opened, post-stays, queue-stays, scrap-stays, scrap-fits, module-stays, count-stays}
+use Rattle.rh_tasks.proofs.Frames.{Stay, if_apart, if_same, tasks-edited, slots-edited, mades-stay, mades-opened, fixed-stay, fixed-opened, post-stays}
+use Rattle.rh_tasks.proofs.Frames.{queue-stays, scrap-stays, scrap-fits, module-stays, count-stays}
 use Rattle.rh_tasks.proofs.Worlds.{handles, same-desk}
 use Rattle.rh_tasks.proofs.Finding.{sits, named-is}
 
@@ -49,7 +50,9 @@ total-edited : (h : ℕ) (edit : Task → Task) (tasks : List Task) (t : Task) �
     → total task_pages (edit_task h edit tasks) + task_pages t ≡ total task_pages tasks + task_pages (edit t)
 total-edited h edit [] t is = absurd (cc)
 total-edited h edit (x ∷ tasks) t is =
-    elim (x.handle == h) as (λ b. cond b (Some x) (find (λ (x : Task). x.handle == h) tasks) ≡ Some t → total task_pages (cond b (edit x ∷ tasks) (x ∷ edit_task h edit tasks)) + task_pages t ≡ (task_pages x + total task_pages tasks) + task_pages (edit t)) [
+    elim (x.handle == h) as (λ b. cond b (Some x) (find (λ (x : Task). x.handle == h) tasks) ≡ Some t
+    → total task_pages (cond b (edit x ∷ tasks) (x ∷ edit_task h edit tasks)) + task_pages t ≡ (task_pages x + total task_pages tasks) + task_pages
+    (edit t)) [
       | true ↦ λ (q : Some x ≡ Some t). (let e : x ≡ t = cc in omega (arith, ap task_pages e, ap (λ y. task_pages (edit y)) e))
       | false ↦ λ (q : find (λ (x : Task). x.handle == h) tasks ≡ Some t). omega (arith, total-edited h edit tasks t q)
     ] is
@@ -80,7 +83,8 @@ module _ {m n : Memory} {seats : List Seat} {made : List MadeArea} {files : File
   pub moved-desk : desk_of n (set seats i s') made files kept ≡ with_task s.handle edit before
   unfolding with_task
   moved-desk = same-desk before
-      (tasks-edited seats i s s' edit at (handles w) w.areas.slots_apart stay moves.task) (post-stays kept.queue stay not-module) (fixed-stay stay above) (mades-stay made stay off) moves.only.pages (scrap-stays kept.scrap stay not-scrap)
+      (tasks-edited seats i s s' edit at (handles w) w.areas.slots_apart stay moves.task) (post-stays kept.queue stay not-module) (fixed-stay stay above)
+      (mades-stay made stay off) moves.only.pages (scrap-stays kept.scrap stay not-scrap)
 
   pub moved-areas : HasAreas n (set seats i s') made
   moved-areas = record {
@@ -92,8 +96,10 @@ module _ {m n : Memory} {seats : List Seat} {made : List MadeArea} {files : File
     made_above = w.areas.made_above;
     slots_apart = subst AreDistinct (sym (same-at slot_area moves.area)) w.areas.slots_apart;
     made_apart = w.areas.made_apart;
-    beside = all-set (λ (x : Seat). Avoids x.slot.area.0 (map made_area made)) seats i s' w.areas.beside (let P : ℕ → Type 0 = λ a. Avoids a (map made_area made) in subst P (sym moves.area) off);
-    count = count-stays _ stay (all-at (HasSlot m) seats i s w.areas.slots at).opened moves.only.opened ∙ w.areas.count ∙ ap (λ k. 6 + k + length made) (sym (length-set seats i s'));
+    beside = all-set (λ (x : Seat). Avoids x.slot.area.0 (map made_area made)) seats i s' w.areas.beside
+        (let P : ℕ → Type 0 = λ a. Avoids a (map made_area made) in subst P (sym moves.area) off);
+    count = count-stays _ stay (all-at (HasSlot m) seats i s w.areas.slots at).opened moves.only.opened ∙ w.areas.count
+        ∙ ap (λ k. 6 + k + length made) (sym (length-set seats i s'));
   }
 
   pub moved-ledger : n.free + used_pages (desk_of n (set seats i s') made files kept) ≡ n.pages
@@ -103,7 +109,18 @@ module _ {m n : Memory} {seats : List Seat} {made : List MadeArea} {files : File
       let old : length (bytes m s.slot.area.0) ≡ PAGE * task_pages t = slot-pages (all-at (HasSlot m) seats i s w.areas.slots at) in
       let new : length (bytes n s'.slot.area.0) ≡ PAGE * task_pages (task_of n s') = slot-pages moves.still in
       let sums = total-edited s.handle edit (map (task_of m) seats) t (handle-first m seats i s at (handles w)) in
-      omega (arith, w.ledger, moves.only.ledger, moves.only.pages, old, new, sums, ap used_pages moved-desk, ap task_pages moves.task, ap (λ (a : ℕ). length (bytes n a)) moves.area)
+      omega (
+        arith,
+        w.ledger,
+        moves.only.ledger,
+        moves.only.pages,
+        old,
+        new,
+        sums,
+        ap used_pages moved-desk,
+        ap task_pages moves.task,
+        ap (λ (a : ℕ). length (bytes n a)) moves.area,
+      )
 
   pub moved-world : IsDesk (desk_of n (set seats i s') made files kept) → IsWorld n (set seats i s') made files kept
   moved-world is = record {

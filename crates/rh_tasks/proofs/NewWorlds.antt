@@ -55,7 +55,18 @@ module _ {m : Memory} {pages : ℕ} (f : IsFurnished m pages) (files : FileList)
   pub first-world : IsStart pages handle ref → IsQueue m the_module queue → IsWorld m [] [] files kept
   first-world is starts = record {
     desk = subst IsDesk (sym first-desk) (start-is pages handle ref files is);
-    areas = record { fixed_open = f.opened; module_area = f.module_area; slots = tt; made_open = tt; slots_above = tt; made_above = tt; slots_apart = tt; made_apart = tt; beside = tt; count = f.count };
+    areas = record {
+      fixed_open = f.opened;
+      module_area = f.module_area;
+      slots = tt;
+      made_open = tt;
+      slots_above = tt;
+      made_above = tt;
+      slots_apart = tt;
+      made_apart = tt;
+      beside = tt;
+      count = f.count;
+    };
     queue = starts;
     scrap = omega arith;
     ledger = first-ledger;

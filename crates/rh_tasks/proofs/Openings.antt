@@ -5,7 +5,8 @@ use Rattle.std.proofs.lemmas.Bool.{cases_eq}
 use Rattle.rh_defs.specs.Memory.{Memory, IsOpen, OnlyArea, bytes, fresh, opened, grown, open_below}
 use Rattle.rh_defs.specs.Heap.{Heap, empty_heap}
 use Rattle.rh_defs.specs.Pieces.{page}
-use Rattle.rh_defs.proofs.MemoryLaws.{area-fresh, free-fresh, pages-fresh, open_below-fresh, open_below-opened, area-opened, area-opened_same, free-opened, pages-opened, OnlyArea-grown, length-grown, OnlyArea-both}
+use Rattle.rh_defs.proofs.MemoryLaws.{area-fresh, free-fresh, pages-fresh, open_below-fresh, open_below-opened, area-opened, area-opened_same, free-opened}
+use Rattle.rh_defs.proofs.MemoryLaws.{pages-opened, OnlyArea-grown, length-grown, OnlyArea-both}
 use Rattle.rh_defs.specs.declared.sizes.TheConstants.{MAX_AREAS, PAGE}
 use Rattle.rh_module.specs.Area.{IsModule, heap_in}
 use Rattle.rh_tasks.specs.View.{the_module, pages_at}
@@ -45,12 +46,17 @@ next-is m k pages id o none least =
     let over : k < id → ⊥ = λ h. none-some (m.area k) (o.above k (omega arith)) (least k h) in
     omega (arith, under, over)
 
-pub next-opened : (m n : Memory) (k pages id : ℕ) → AreOpened m k pages → k < MAX_AREAS → IsNone (m.area id) → n ≡ opened m id → ((j : ℕ) → j < id → IsOpen m j) → AreOpened n (k + 1) pages
+pub next-opened : (m n : Memory) (k pages id : ℕ) → AreOpened m k pages → k < MAX_AREAS → IsNone (m.area id) → n ≡ opened m id
+    → ((j : ℕ) → j < id → IsOpen m j) → AreOpened n (k + 1) pages
 next-opened m n k pages id o low none is least =
     let e : id ≡ k = next-is m k pages id o none least in
     let P : Memory → Type 0 = λ x. AreOpened x (k + 1) pages in
     subst P (sym (is ∙ ap (opened m) e)) (record {
-      below = λ j h. elim (cases_eq j k) [ inl q ↦ ap (λ i. (opened m k).area i) q ∙ area-opened_same m k | inr ne ↦ area-opened m k j ne ∙ o.below j (omega (arith, h, ne)) ];
+      below = λ j h. elim (cases_eq j k) [
+        | inl q ↦ ap (λ i. (opened m k).area i) q ∙ area-opened_same m k
+        | inr ne ↦ area-opened m k j ne
+            ∙ o.below j (omega (arith, h, ne))
+      ];
       above = λ j h. area-opened m k j (λ q. absurd (omega (arith, q, h))) ∙ o.above j (omega arith);
       count = open_below-opened m k MAX_AREAS (o.above k (omega arith)) low ∙ omega (arith, o.count);
       free = free-opened m k ∙ o.free;
@@ -105,7 +111,13 @@ module _ {m n : Memory} {pages : ℕ} (o : AreOpened m 6 pages) (least : 1 ≤ p
           all.opened,
           (
             opened-stays 2 stay (λ q. absurd (omega arith)) (open-at o 2 (omega arith)),
-            (opened-stays 3 stay (λ q. absurd (omega arith)) (open-at o 3 (omega arith)), (opened-stays 4 stay (λ q. absurd (omega arith)) (open-at o 4 (omega arith)), (opened-stays 5 stay (λ q. absurd (omega arith)) (open-at o 5 (omega arith)), tt))),
+            (
+              opened-stays 3 stay (λ q. absurd (omega arith)) (open-at o 3 (omega arith)),
+              (
+                opened-stays 4 stay (λ q. absurd (omega arith)) (open-at o 4 (omega arith)),
+                (opened-stays 5 stay (λ q. absurd (omega arith)) (open-at o 5 (omega arith)), tt),
+              ),
+            ),
           ),
         ),
       );

@@ -33,7 +33,8 @@ module _ (m n : Memory) (id pages now : ℕ) (is : now ≡ length (bytes m id)) 
 
     pub more-first : (k : ℕ) → k ≤ length (bytes m id) → take k (bytes n id) ≡ take k (bytes m id)
     more-first k inside =
-        ap (λ x. take k (bytes x id)) e ∙ ap (take k) (bytes-grown m id (pages - now / PAGE)) ∙ take-append-le k (bytes m id) (replicate (PAGE * (pages - now / PAGE)) 0) inside
+        ap (λ x. take k (bytes x id)) e ∙ ap (take k) (bytes-grown m id (pages - now / PAGE))
+        ∙ take-append-le k (bytes m id) (replicate (PAGE * (pages - now / PAGE)) 0) inside
 
     pub more-only : pages - now / PAGE ≤ m.free → OnlyArea m n id
     more-only room = let P : Memory → Type 0 = λ x. OnlyArea m x id in subst P (sym e) (OnlyArea-grown m id (pages - now / PAGE) room)

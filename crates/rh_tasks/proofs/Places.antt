@@ -21,7 +21,8 @@ member-at (x ∷ xs) zero h = (x, refl)
 member-at (x ∷ xs) (suc i) h = member-at xs i (omega (arith, h))
 
 -- numbers that go up are at least the least one
-pub rise-at : {A : Type 0} (number : A → ℕ) (least next : ℕ) (xs : List A) (i : ℕ) (x : A) → Rise number least next xs → slice_get xs i ≡ Some x → least ≤ number x
+pub rise-at : {A : Type 0} (number : A → ℕ) (least next : ℕ) (xs : List A) (i : ℕ) (x : A) → Rise number least next xs → slice_get xs i ≡ Some x
+    → least ≤ number x
 rise-at number least next [] i x up at = absurd cc
 rise-at number least next (y ∷ xs) zero x up at = omega (arith, up.0, ap number (some-same at))
 rise-at number least next (y ∷ xs) (suc i) x up at = omega (arith, up.0, rise-at number (number y + 1) next xs i x up.1 at)
@@ -41,7 +42,8 @@ mapped-is f xs i x y at e = some-same (sym (mapped-at f xs i x at) ∙ e)
 -- ---- a task is edited
 
 -- the task at a place is the first with its handle
-pub found-at : (h least next : ℕ) (tasks : List Task) (i : ℕ) (t : Task) → Ascend least next tasks → slice_get tasks i ≡ Some t → t.handle ≡ h → find (λ (x : Task). x.handle == h) tasks ≡ Some t
+pub found-at : (h least next : ℕ) (tasks : List Task) (i : ℕ) (t : Task) → Ascend least next tasks → slice_get tasks i ≡ Some t → t.handle ≡ h
+    → find (λ (x : Task). x.handle == h) tasks ≡ Some t
 found-at h least next [] i t up at is = absurd cc
 found-at h least next (x ∷ tasks) zero t up at is = if_same x.handle h _ _ (ap (λ (y : Task). y.handle) (some-same at) ∙ is) ∙ at
 found-at h least next (x ∷ tasks) (suc i) t up at is =
@@ -49,13 +51,14 @@ found-at h least next (x ∷ tasks) (suc i) t up at is =
     ∙ found-at h (x.handle + 1) next tasks i t up.1 at is
 
 -- and it is the one that is edited
-pub edited-at : (h : ℕ) (edit : Task → Task) (least next : ℕ) (tasks : List Task) (i : ℕ) (t : Task) → Ascend least next tasks → slice_get tasks i ≡ Some t → t.handle ≡ h
-    → slice_get (edit_task h edit tasks) i ≡ Some (edit t)
+pub edited-at : (h : ℕ) (edit : Task → Task) (least next : ℕ) (tasks : List Task) (i : ℕ) (t : Task) → Ascend least next tasks → slice_get tasks i ≡ Some t
+    → t.handle ≡ h → slice_get (edit_task h edit tasks) i ≡ Some (edit t)
 edited-at h edit least next [] i t up at is = absurd cc
 edited-at h edit least next (x ∷ tasks) zero t up at is =
     ap (λ (l : List Task). slice_get l 0) (if_same x.handle h _ _ (ap (λ (y : Task). y.handle) (some-same at) ∙ is)) ∙ ap (λ y. Some (edit y)) (some-same at)
 edited-at h edit least next (x ∷ tasks) (suc i) t up at is =
-    ap (λ (l : List Task). slice_get l (suc i)) (if_apart x.handle h _ _ (λ q. absurd (omega (arith, q, is, rise-at (λ (y : Task). y.handle) (x.handle + 1) next tasks i t up.1 at))))
+    ap (λ (l : List Task). slice_get l (suc i)) (if_apart x.handle h _ _
+    (λ q. absurd (omega (arith, q, is, rise-at (λ (y : Task). y.handle) (x.handle + 1) next tasks i t up.1 at))))
     ∙ edited-at h edit (x.handle + 1) next tasks i t up.1 at is
 
 -- ---- a desk's task at a place

@@ -57,7 +57,8 @@ alike-handled _ _ (Alike.alike d queue x same) last r =
     (refl, reordered-trans (let q : IsReordered d (with_queue queue d) = record { same = same; rest = refl } in q) r)
 
 -- handled on the other desk, a message has the same outcome, and leaves again such a desk
-pub handled-too : (d e : Desk) (t : Task) (p : Parcel) (code : EventCode) → IsReordered d e → (last : Desk) (outcome : Outcome) → outcome ≡ (handled e t p code).1 → IsReordered (handled e t p code).0 last
+pub handled-too : (d e : Desk) (t : Task) (p : Parcel) (code : EventCode) → IsReordered d e → (last : Desk) (outcome : Outcome)
+    → outcome ≡ (handled e t p code).1 → IsReordered (handled e t p code).0 last
     → (outcome ≡ (handled d t p code).1) × IsReordered (handled d t p code).0 last
 handled-too d e t p code r last outcome q h =
     let other : Desk = with_queue e.post.queued d in
@@ -78,7 +79,9 @@ module _ {m : Memory} {seats : List Seat} {made : List MadeArea} {files : FileLi
   pub task-there : IsAt i (task_of m s) (desk_of m seats made files kept)
   task-there = mapped-at (task_of m) seats i s (sits f)
 
-  poll-is : poll (desk_of m seats made files kept) name ≡ Ok (poll_taken (with_delivered (post_poll s.handle (desk_of m seats made files kept).post).0 (desk_of m seats made files kept)) (task_of m s) (post_poll s.handle (desk_of m seats made files kept).post).1)
+  poll-is : poll (desk_of m seats made files kept) name ≡ Ok (poll_taken
+      (with_delivered (post_poll s.handle (desk_of m seats made files kept).post).0 (desk_of m seats made files kept)) (task_of m s)
+      (post_poll s.handle (desk_of m seats made files kept).post).1)
   unfolding poll task_of
   poll-is = begins _ (named-is m made files kept f) refl
 
@@ -110,15 +113,24 @@ module _ {m : Memory} {seats : List Seat} {made : List MadeArea} {files : FileLi
     -- a message was handled, on a desk that differs in that order alone
     pub poll-some : (mid last : Desk) (outcome : Outcome) → IsReordered taken mid
         → ((t : Task) (p : Parcel) → IsFor i t mid p message → (outcome ≡ (handled mid t p code).1) × IsReordered (handled mid t p code).0 last)
-        → (y : Desk) × ((poll (desk_of m seats made files kept) name ≡ Ok (y, reply.Event code (action_of message.body) message.my_ref message.your_ref outcome)) × IsReordered y last)
+        → (y : Desk) × ((poll (desk_of m seats made files kept) name ≡ Ok
+        (y, reply.Event code (action_of message.body) message.my_ref message.your_ref outcome)) × IsReordered y last)
     unfolding poll_taken
     poll-some mid last outcome r done =
         let own : IsFor i (task_of m s) mid e.parcel message = record { at = there mid r; message_is = e.message_is } in
         let q = done (task_of m s) e.parcel own in
         let h = handled-too taken mid (task_of m s) e.parcel code r last outcome q.0 q.1 in
-        let answer : EventCode → Answer = λ k. ((handled taken (task_of m s) e.parcel k).0, reply_with k e.parcel.message (handled taken (task_of m s) e.parcel k).1) in
+        let answer : EventCode → Answer =
+        λ k. ((handled taken (task_of m s) e.parcel k).0, reply_with k e.parcel.message (handled taken (task_of m s) e.parcel k).1) in
         let by_code : answer e.parcel.code ≡ answer code = ap answer e.code_is in
         let by_message : answer code ≡ (x.0, reply_with code message x.1) = ap (λ y. let a : Answer = (x.0, reply_with code y x.1) in a) e.message_is in
-        let by_outcome : (let a : Answer = (x.0, reply_with code message x.1) in a) ≡ (x.0, reply_with code message outcome) = ap (λ o. let a : Answer = (x.0, reply_with code message o) in a) (sym h.0) in
-        let whole = by_code ∙ by_message ∙ by_outcome in
-        (x.0, (poll-is ∙ ap (λ o. let a : Granted Answer = Ok (poll_taken taken (task_of m s) o) in a) e.is ∙ ap (λ a. let b : Granted Answer = Ok a in b) whole, h.1))
+        let by_outcome : (let a : Answer = (x.0, reply_with code message x.1) in a) ≡ (x.0, reply_with code message outcome) =
+        ap (λ o. let a : Answer = (x.0, reply_with code message o) in a) (sym h.0) in
+        let whole = by_code ∙ by_message ∙ by_outcome in (
+          x.0,
+          (
+            poll-is ∙ ap (λ o. let a : Granted Answer = Ok (poll_taken taken (task_of m s) o) in a) e.is ∙ ap (λ a. let b : Granted Answer = Ok a in b)
+                whole,
+            h.1,
+          ),
+        )

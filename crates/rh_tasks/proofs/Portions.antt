@@ -9,7 +9,8 @@ use Rattle.rh_defs.specs.Chain.{Granted, ◌>>=◌, found_or}
 use Rattle.rh_defs.specs.Pieces.{Split}
 use Rattle.rh_defs.specs.Heap.{Segment, bytes_of, block_size}
 use Rattle.rh_defs.specs.Slot as plain
-use Rattle.rh_defs.specs.Slot.{Flex, weight, block_of, slot_block, slot_size, slot_address, slot_start, slot_length, heap_start, heap_block_at, flex_address, flex_start, holds, HaveAnchors, anchor_count}
+use Rattle.rh_defs.specs.Slot.{Flex, weight, block_of, slot_block, slot_size, slot_address, slot_start, slot_length, heap_start, heap_block_at, flex_address}
+use Rattle.rh_defs.specs.Slot.{flex_start, holds, HaveAnchors, anchor_count}
 use Rattle.rh_defs.specs.Places.{buffer_at, roomy_in, overlap}
 use Rattle.rh_defs.specs.Desk.{Task}
 use Rattle.rh_defs.specs.OutgoingEvents.{is_out_of_reach}
@@ -76,13 +77,15 @@ stands {k} {s} {cut} anchors e =
 
 -- ---- a buffer in the C heap
 
-roomy : (n size : ℕ) (o : Option (Split Segment)) → Ok size ≡ ok_or (option_map (λ s. length (bytes_of s.here)) o) NotABlock → is_some (roomy_in n o) ≡ nat_le n size
+roomy : (n size : ℕ) (o : Option (Split Segment)) → Ok size ≡ ok_or (option_map (λ s. length (bytes_of s.here)) o) NotABlock
+    → is_some (roomy_in n o) ≡ nat_le n size
 roomy n size None e = absurd (cc)
 roomy n size (Some b) e =
     let same : size ≡ length (bytes_of b.here) = cc in
     rw same (elim (nat_le n (length (bytes_of b.here))) as (λ t. is_some (if t then Some b else None) ≡ t) [ true ↦ refl | false ↦ refl ])
 
-roomless : {r : Refusal} (n : ℕ) (o : Option (Split Segment)) → Err r ≡ ok_or (option_map (λ s. length (bytes_of s.here)) o) NotABlock → is_some (roomy_in n o) ≡ false
+roomless : {r : Refusal} (n : ℕ) (o : Option (Split Segment)) → Err r ≡ ok_or (option_map (λ s. length (bytes_of s.here)) o) NotABlock
+    → is_some (roomy_in n o) ≡ false
 roomless n None e = refl
 roomless n (Some b) e = absurd (cc)
 
@@ -90,7 +93,8 @@ module _ (address room : ℕ) (s : plain.Slot) where
   pub buffer-wide : {size : ℕ} → Ok size ≡ ok_or (block_size (address - heap_start) s.heap) NotABlock → room ≤ size → is_some (buffer_at address room s) ≡ true
   buffer-wide {size} e h = roomy room size (heap_block_at address s) e ∙ le-true room size h
 
-  pub buffer-narrow : {size : ℕ} → Ok size ≡ ok_or (block_size (address - heap_start) s.heap) NotABlock → size < room → is_some (buffer_at address room s) ≡ false
+  pub buffer-narrow : {size : ℕ} → Ok size ≡ ok_or (block_size (address - heap_start) s.heap) NotABlock → size < room
+      → is_some (buffer_at address room s) ≡ false
   buffer-narrow {size} e h = roomy room size (heap_block_at address s) e ∙ le-false room size h
 
   pub buffer-none : {r : Refusal} → Err r ≡ ok_or (block_size (address - heap_start) s.heap) NotABlock → is_some (buffer_at address room s) ≡ false

@@ -52,7 +52,8 @@ abbrev new_entry : ℕ → Entry
 new_entry h = record { handle = h; first = 0; last = 0; held = 0 }
 
 same-post : {seats seats' : List PostSeat} {queued queued' : List Parcel} {heap heap' : Heap} {ref : ℕ} → seats ≡ seats' → queued ≡ queued' → heap ≡ heap'
-    → (let x : Post = record { seats = seats; queued = queued; heap = heap; next_ref = ref } in x) ≡ (let y : Post = record { seats = seats'; queued = queued'; heap = heap'; next_ref = ref } in y)
+    → (let x : Post = record { seats = seats; queued = queued; heap = heap; next_ref = ref } in x) ≡
+    (let y : Post = record { seats = seats'; queued = queued'; heap = heap'; next_ref = ref } in y)
 same-post p q r = cc
 
 pub post-joins : (m : Memory) (q : Chains) (h : ℕ) → post_in m the_module (joined h q) ≡ post_join h (post_in m the_module q)
@@ -61,7 +62,8 @@ post-joins m q h =
     let heap = heap_in m the_module in
     let rows = rows_in heap q in
     let e : rows_in heap (joined h q) ≡ rows ++ new_row h ∷ [] = map-append (row_in heap) q.entries (new_entry h ∷ []) in
-    same-post (ap (map seat_of) e ∙ map-append seat_of rows (new_row h ∷ [])) (ap chains_of e ∙ more-chains h rows) (ap (λ l. unlinked (parcels_of l) heap) e ∙ ap (λ l. unlinked l heap) (more-parcels h rows))
+    same-post (ap (map seat_of) e ∙ map-append seat_of rows (new_row h ∷ [])) (ap chains_of e ∙ more-chains h rows)
+    (ap (λ l. unlinked (parcels_of l) heap) e ∙ ap (λ l. unlinked l heap) (more-parcels h rows))
 
 -- ---- whose handles the queue has
 
@@ -83,7 +85,8 @@ avoided k [] i off inside = absurd (omega arith)
 avoided k (e ∷ es) zero off inside = off.0
 avoided k (e ∷ es) (suc i) off inside = avoided k es i off.1 (omega arith)
 
-same-place : (es : List Entry) (seats : List Seat) (i : ℕ) (s : Seat) → map (λ (e : Entry). e.handle) es ≡ map (λ (x : Seat). x.handle) seats → Sits seats i s → (entry_at es i).handle ≡ s.handle
+same-place : (es : List Entry) (seats : List Seat) (i : ℕ) (s : Seat) → map (λ (e : Entry). e.handle) es ≡ map (λ (x : Seat). x.handle) seats
+    → Sits seats i s → (entry_at es i).handle ≡ s.handle
 same-place es [] i s e at = absurd (omega (arith, at.inside))
 same-place [] (x ∷ seats) i s e at = absurd cc
 same-place (y ∷ es) (x ∷ seats) zero s e at = let first : y.handle ≡ x.handle = cc in first ∙ ap (λ (z : Seat). z.handle) at.is

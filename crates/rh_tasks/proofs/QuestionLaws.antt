@@ -44,23 +44,27 @@ module _ {m : Memory} {seats : List Seat} {made : List MadeArea} {files : FileLi
 
 -- ---- a block's bytes
 
-unsized-by : {A : Type 0} (g : Granted (Split plain.Flex)) (r : Refusal) (next : Split plain.Flex → Granted A) → Err r ≡ (g >>= λ b. Ok (length b.here.bytes)) → (g >>= next) ≡ Err r
+unsized-by : {A : Type 0} (g : Granted (Split plain.Flex)) (r : Refusal) (next : Split plain.Flex → Granted A)
+    → Err r ≡ (g >>= λ b. Ok (length b.here.bytes)) → (g >>= next) ≡ Err r
 unfolding ◌>>=◌
 unsized-by (Ok b) r next h = absurd (cc)
 unsized-by (Err q) r next h = cc
 
-pub unsized : {A : Type 0} (k : ℕ) (s : plain.Slot) (r : Refusal) (next : Split plain.Flex → Granted A) → Err r ≡ plain.slot_size k s → (plain.slot_block k s >>= next) ≡ Err r
+pub unsized : {A : Type 0} (k : ℕ) (s : plain.Slot) (r : Refusal) (next : Split plain.Flex → Granted A) → Err r ≡ plain.slot_size k s
+    → (plain.slot_block k s >>= next) ≡ Err r
 unfolding plain.slot_size
 unsized k s r next h = unsized-by (plain.slot_block k s) r next h
 
 -- the size and n bytes from an offset on
 abbrev pub shown_of_slot : ℕ → ℕ → ℕ → plain.Slot → Granted (ℕ × List ℕ)
-shown_of_slot k offset n s = plain.slot_block k s >>= λ b. refuse_if (nat_lt (length b.here.bytes) (offset + n)) BadRange >> Ok (length b.here.bytes, take n (drop offset b.here.bytes))
+shown_of_slot k offset n s = plain.slot_block k s
+    >>= λ b. refuse_if (nat_lt (length b.here.bytes) (offset + n)) BadRange >> Ok (length b.here.bytes, take n (drop offset b.here.bytes))
 
 read-by : (g : Granted (Split plain.Flex)) (offset n size : ℕ) (old new : List ℕ) → Ok size ≡ (g >>= λ b. Ok (length b.here.bytes))
     → Ok tt ≡ outcome_of (g >>= λ b. refuse_if (nat_lt (length b.here.bytes) (offset + n)) BadRange >>= λ _. Ok (take n (drop offset b.here.bytes)))
     → new ≡ result_or old (g >>= λ b. refuse_if (nat_lt (length b.here.bytes) (offset + n)) BadRange >>= λ _. Ok (take n (drop offset b.here.bytes)))
-    → (g >>= λ b. refuse_if (nat_lt (length b.here.bytes) (offset + n)) BadRange >> (let r : Granted (ℕ × List ℕ) = Ok (length b.here.bytes, take n (drop offset b.here.bytes)) in r)) ≡ Ok (size, new)
+    → (g >>= λ b. refuse_if (nat_lt (length b.here.bytes) (offset + n)) BadRange >>
+    (let r : Granted (ℕ × List ℕ) = Ok (length b.here.bytes, take n (drop offset b.here.bytes)) in r)) ≡ Ok (size, new)
 unfolding ◌>>=◌ ◌>>◌ refuse_if
 read-by (Err r) offset n size old new h j q = absurd (cc)
 read-by (Ok b) offset n size old new h j q = go (nat_lt (length b.here.bytes) (offset + n)) j q
@@ -71,13 +75,15 @@ read-by (Ok b) offset n size old new h j q = go (nat_lt (length b.here.bytes) (o
     go true j q = absurd (cc)
     go false j q = let s : size ≡ length b.here.bytes = cc in rw (s, q) refl
 
-pub read-done : (k offset n size : ℕ) (s : plain.Slot) (old new : List ℕ) → Ok size ≡ plain.slot_size k s → Ok tt ≡ outcome_of (plain.slot_read k offset n s) → new ≡ result_or old (plain.slot_read k offset n s)
-    → shown_of_slot k offset n s ≡ Ok (size, new)
+pub read-done : (k offset n size : ℕ) (s : plain.Slot) (old new : List ℕ) → Ok size ≡ plain.slot_size k s → Ok tt ≡ outcome_of (plain.slot_read k offset n s)
+    → new ≡ result_or old (plain.slot_read k offset n s) → shown_of_slot k offset n s ≡ Ok (size, new)
 unfolding plain.slot_size plain.slot_read
 read-done k offset n size s old new h j q = read-by (plain.slot_block k s) offset n size old new h j q
 
-unread-by : (g : Granted (Split plain.Flex)) (offset n : ℕ) (r : Refusal) → Err r ≡ outcome_of (g >>= λ b. refuse_if (nat_lt (length b.here.bytes) (offset + n)) BadRange >>= λ _. Ok (take n (drop offset b.here.bytes)))
-    → (g >>= λ b. refuse_if (nat_lt (length b.here.bytes) (offset + n)) BadRange >> (let x : Granted (ℕ × List ℕ) = Ok (length b.here.bytes, take n (drop offset b.here.bytes)) in x)) ≡ Err r
+unread-by : (g : Granted (Split plain.Flex)) (offset n : ℕ) (r : Refusal)
+    → Err r ≡ outcome_of (g >>= λ b. refuse_if (nat_lt (length b.here.bytes) (offset + n)) BadRange >>= λ _. Ok (take n (drop offset b.here.bytes)))
+    → (g >>= λ b. refuse_if (nat_lt (length b.here.bytes) (offset + n)) BadRange >>
+    (let x : Granted (ℕ × List ℕ) = Ok (length b.here.bytes, take n (drop offset b.here.bytes)) in x)) ≡ Err r
 unfolding ◌>>=◌ ◌>>◌ refuse_if
 unread-by (Err q) offset n r h = cc
 unread-by (Ok b) offset n r h = go (nat_lt (length b.here.bytes) (offset + n)) h
@@ -107,7 +113,8 @@ cut-place h place cut c =
 pub piece-at : (place : ℕ) (h : Heap) (p : Piece) → Some p ≡ option_map piece (segment_at place h) → IsPiece place h p
 piece-at place h p e = go (segment_at place h) refl (first_at-cuts size_of (λ q g. place == q) first_place h.segments) e
   where
-    go : (o : Option (Split Segment)) → segment_at place h ≡ o → IfSome o (IsCut size_of (λ q g. place == q) first_place h.segments) → Some p ≡ option_map piece o → IsPiece place h p
+    go : (o : Option (Split Segment)) → segment_at place h ≡ o → IfSome o (IsCut size_of (λ q g. place == q) first_place h.segments)
+        → Some p ≡ option_map piece o → IsPiece place h p
     go None s c e = absurd (cc)
     go (Some cut) s c e = record { cut = cut; found = s; is = cc; low = cut-place h place cut c }
 
@@ -119,6 +126,7 @@ piece-none place h e = go (segment_at place h) e
     go (Some cut) e = absurd (cc)
 
 -- a segment as it is listed
-pub segment-listed : (place : ℕ) (g : Segment) (before after : List Segment) → segment_item_of plain.heap_start place (piece (record { before = before; here = g; after = after })) ≡ segment_item (plain.heap_start + place) g
+pub segment-listed : (place : ℕ) (g : Segment) (before after : List Segment)
+    → segment_item_of plain.heap_start place (piece (record { before = before; here = g; after = after })) ≡ segment_item (plain.heap_start + place) g
 segment-listed place (Used bytes) before after = ap (λ n. segment.Used (plain.heap_start + place + 4) n) (omega arith)
 segment-listed place (Hole size) before after = refl

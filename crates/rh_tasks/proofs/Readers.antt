@@ -49,24 +49,26 @@ pub listed-none : (place : ℕ) (h : Heap) → None ≡ option_map piece (segmen
 listed-none place h e =
     ap (λ o. with_sums h (option_map (λ c. segment_item (plain.heap_start + place) c.here) o)) (piece-none place h e)
 
-pub listed-some : (place : ℕ) (h : Heap) (p : Segment) (i : SegmentItem) → Some p ≡ option_map piece (segment_at place h) → i ≡ segment_item_of plain.heap_start place p
-    → listed_heap place h ≡ with_sums h (Some i)
+pub listed-some : (place : ℕ) (h : Heap) (p : Segment) (i : SegmentItem) → Some p ≡ option_map piece (segment_at place h)
+    → i ≡ segment_item_of plain.heap_start place p → listed_heap place h ≡ with_sums h (Some i)
 listed-some place h p i e is =
     let at = piece-at place h p e in
     ap (λ o. with_sums h (option_map (λ c. segment_item (plain.heap_start + place) c.here) o)) at.found
-    ∙ ap (λ x. with_sums h (Some x)) (sym (is ∙ ap (segment_item_of plain.heap_start place) (sym at.is) ∙ segment-listed place at.cut.here at.cut.before at.cut.after))
+    ∙ ap (λ x. with_sums h (Some x)) (sym (is ∙ ap (segment_item_of plain.heap_start place) (sym at.is)
+    ∙ segment-listed place at.cut.here at.cut.before at.cut.after))
 
 -- ---- all that is told of a slot fits a word
 
-size-by : (test : ℕ → plain.Flex → Bool) (place : ℕ) (blocks : List plain.Flex) (o : Option (Split plain.Flex)) (n : ℕ) → IfSome o (IsCut plain.weight test place blocks)
-    → Ok n ≡ (found_or o NoBlock >>= λ b. Ok (length b.here.bytes)) → n ≤ total plain.weight blocks
+size-by : (test : ℕ → plain.Flex → Bool) (place : ℕ) (blocks : List plain.Flex) (o : Option (Split plain.Flex)) (n : ℕ)
+    → IfSome o (IsCut plain.weight test place blocks) → Ok n ≡ (found_or o NoBlock >>= λ b. Ok (length b.here.bytes)) → n ≤ total plain.weight blocks
 unfolding ◌>>=◌ found_or
 size-by test place blocks None n cut e = absurd (cc)
 size-by test place blocks (Some b) n cut e = let q : n ≡ length b.here.bytes = cc in omega (arith, q, cut-total cut)
 
 size-within : (k n : ℕ) (s : plain.Slot) → Ok n ≡ plain.slot_size k s → n ≤ total plain.weight s.blocks
 unfolding plain.slot_size plain.slot_block
-size-within k n s e = size-by (λ _ b. b.anchor == k) (plain.flex_start s) s.blocks (plain.block_of k s) n (first_at-cuts plain.weight (λ _ b. b.anchor == k) (plain.flex_start s) s.blocks) e
+size-within k n s e = size-by (λ _ b. b.anchor == k) (plain.flex_start s) s.blocks (plain.block_of k s) n
+    (first_at-cuts plain.weight (λ _ b. b.anchor == k) (plain.flex_start s) s.blocks) e
 
 module _ {m : Memory} {slot : Slot} (is : IsSlot m slot) (small : length (bytes m slot.area.0) ≤ area_limit) where
   abbrev s : plain.Slot

@@ -34,7 +34,8 @@ same-alike {d} q = subst (IsReordered d) q (reordered-refl d)
 all-filtered : {A : Type 0} (P : A → Type 0) (test : A → Bool) (xs : List A) → AllByRecursion P xs → AllByRecursion P (filter test xs)
 all-filtered P test [] all = tt
 all-filtered P test (x ∷ xs) all =
-    elim (test x) as (λ b. AllByRecursion P (cond b (x ∷ filter test xs) (filter test xs))) [ true ↦ (all.0, all-filtered P test xs all.1) | false ↦ all-filtered P test xs all.1 ]
+    elim (test x) as (λ b. AllByRecursion P (cond b (x ∷ filter test xs) (filter test xs)))
+    [ true ↦ (all.0, all-filtered P test xs all.1) | false ↦ all-filtered P test xs all.1 ]
 
 equal : (n : ℕ) → (n == n) ≡ true
 equal n = grind arith

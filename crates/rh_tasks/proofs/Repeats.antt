@@ -40,7 +40,8 @@ use Rattle.rh_tasks.proofs.Moves.{Moves}
 use Rattle.rh_tasks.proofs.Sends.{desk_then, sent-alike, sent-world}
 
 -- a letter that is sent gets the next ref
-sent-ref : {A B C : Type 0} (first : Granted A) (there : Granted B) (out : B → C) (n : ℕ) (p : C × ℕ) → (first >> (there >>= (λ b. let r : Granted (C × ℕ) = Ok (out b, n) in r))) ≡ Ok p → p.1 ≡ n
+sent-ref : {A B C : Type 0} (first : Granted A) (there : Granted B) (out : B → C) (n : ℕ) (p : C × ℕ)
+    → (first >> (there >>= (λ b. let r : Granted (C × ℕ) = Ok (out b, n) in r))) ≡ Ok p → p.1 ≡ n
 unfolding ◌>>◌ ◌>>=◌
 sent-ref (Ok a) (Ok b) out n p e = let same : ◌≡◌ {A = _ × ℕ} (out b, n) p = cc in sym (ap (λ (x : _ × ℕ). x.1) same)
 sent-ref (Ok a) (Err r) out n p e = absurd cc
@@ -51,7 +52,8 @@ unfolding post_send
 post_send-ref free l post p e = sent-ref _ _ _ post.next_ref p e
 
 -- what is shown of a world that stays
-pub same-shown : {m n : Memory} {seats seats' : List Seat} {queue queue' : Chains} (made : List MadeArea) (files : FileList) (next : Next) (scrap : Option ScrapFile) → n ≡ m → seats' ≡ seats → queue' ≡ queue
+pub same-shown : {m n : Memory} {seats seats' : List Seat} {queue queue' : Chains} (made : List MadeArea) (files : FileList) (next : Next)
+    (scrap : Option ScrapFile) → n ≡ m → seats' ≡ seats → queue' ≡ queue
     → shown_of n seats' made files (kept_of next queue' scrap) ≡ shown_of m seats made files (kept_of next queue scrap)
 same-shown made files next scrap p q r = rw (p, q, r) refl
 
@@ -166,7 +168,8 @@ module _ {m : Memory} {seats : List Seat} {made : List MadeArea} {files : FileLi
 
       repeated : repeat e name ≡ Ok (then, reply.Sent ref)
       repeated =
-          repeat-is ∙ begins _ (letter-sent w (sits f) letter again-own ref a l) (ap (λ x. let r : Granted (Desk × _) = Ok (then, reply.Sent x) in r) (sym (ref-is w (sits f) letter again-own ref a l)))
+          repeat-is ∙ begins _ (letter-sent w (sits f) letter again-own ref a l)
+          (ap (λ x. let r : Granted (Desk × _) = Ok (then, reply.Sent x) in r) (sym (ref-is w (sits f) letter again-own ref a l)))
 
       is-desk : IsDesk then
       is-desk = granted-keeps e then (command.Repeat name) (reply.Sent ref) repeated ranged w.desk
@@ -174,5 +177,6 @@ module _ {m : Memory} {seats : List Seat} {made : List MadeArea} {files : FileLi
       pub repeat-world : IsWorld n (set seats i (with_last letter ref s)) made files (record kept { queue = k })
       repeat-world = sent-world w (sits f) (last-moves w (sits f) letter again-own ref a l) l kept.scrap w.scrap is-desk
 
-      pub repeat-done : (x : Desk) × ((repeat e name ≡ Ok (x, reply.Sent ref)) × IsReordered x (desk_of n (set seats i (with_last letter ref s)) made files (record kept { queue = k })))
+      pub repeat-done : (x : Desk) × ((repeat e name ≡ Ok (x, reply.Sent ref)) × IsReordered x
+          (desk_of n (set seats i (with_last letter ref s)) made files (record kept { queue = k })))
       repeat-done = (then, (repeated, sent-alike w (sits f) (last-moves w (sits f) letter again-own ref a l) l kept.scrap w.scrap is-desk))

@@ -5,7 +5,8 @@ use Rattle.rh_defs.specs.declared.command.Command.{Command}
 use Rattle.rh_defs.specs.declared.command.Command.TheVariants as command
 use Rattle.rh_defs.specs.declared.reply.Reply.{Reply}
 use Rattle.rh_defs.specs.declared.reply.Reply.TheVariants as reply
-use Rattle.rh_defs.specs.Commands.{Answer, start_task, kill, alloc, load, put, free, extend, mid, claim, release, resize, budge, module_area, change_module, change_pages, change_made, change_area, make, remove, rma_claim, rma_free, rma_resize}
+use Rattle.rh_defs.specs.Commands.{Answer, start_task, kill, alloc, load, put, free, extend, mid, claim, release, resize, budge, module_area, change_module}
+use Rattle.rh_defs.specs.Commands.{change_pages, change_made, change_area, make, remove, rma_claim, rma_free, rma_resize}
 use Rattle.rh_defs.specs.Desk.{Desk, Task}
 use Rattle.rh_defs.specs.Messages.{Parcel}
 use Rattle.rh_defs.specs.Step.{save, repeat, poll, poll_taken, cancel_in, cancel_out, change}
@@ -47,8 +48,10 @@ change_area-says d k delta = go (k == module_area) (nat_lt k (length d.areas))
     go false false = granted-then _ _ λ m e. granted-then _ _ λ n f. granted-past _ _ _ λ big. says refl
 
 pub change-says : (d : Desk) (c : Command) → OnGrant IsSaid (change d c)
-unfolding start_task kill alloc load put free extend mid claim release resize budge make remove rma_claim rma_free rma_resize save repeat poll cancel_in cancel_out
-change-says d (command.Task name buffer manner) = granted-past _ _ _ λ new. granted-past _ _ _ λ few. granted-past _ _ _ λ more. granted-then _ _ λ s e. says refl
+unfolding start_task kill alloc load put free extend mid claim release resize budge make remove rma_claim rma_free rma_resize save repeat poll cancel_in
+    cancel_out
+change-says d (command.Task name buffer manner) =
+    granted-past _ _ _ λ new. granted-past _ _ _ λ few. granted-past _ _ _ λ more. granted-then _ _ λ s e. says refl
 change-says d (command.Kill name) = granted-then _ _ λ t e. says refl
 change-says d (command.Alloc name k n) = granted-then _ _ λ t e. granted-then _ _ λ p f. says refl
 change-says d (command.Load name k file) = granted-then _ _ λ t e. granted-then _ _ λ entry f. granted-then _ _ λ p g. granted-then _ _ λ s h. says refl
@@ -60,7 +63,8 @@ change-says d (command.Claim name n) = granted-then _ _ λ t e. granted-then _ _
 change-says d (command.Release name address) = granted-then _ _ λ t e. granted-then _ _ λ b f. granted-then _ _ λ s g. says refl
 change-says d (command.Resize name address delta) = granted-then _ _ λ t e. granted-then _ _ λ b f. granted-then _ _ λ p g. says refl
 change-says d (command.Budge name on) = granted-then _ _ λ t e. says refl
-change-says d (command.Save name k to leaf) = granted-then _ _ λ t e. granted-then _ _ λ b f. granted-past _ _ _ λ room. granted-then _ _ λ r g. granted-then _ _ λ sent h. says refl
+change-says d (command.Save name k to leaf) =
+    granted-then _ _ λ t e. granted-then _ _ λ b f. granted-past _ _ _ λ room. granted-then _ _ λ r g. granted-then _ _ λ sent h. says refl
 change-says d (command.Poll name) = granted-then _ _ λ t e. granted (poll_taken-says _ t _)
 change-says d (command.CancelIn name id) = granted-then _ _ λ t e. granted-then _ _ λ records f. says refl
 change-says d (command.CancelOut name id) = granted-then _ _ λ t e. granted-then _ _ λ records f. says refl

@@ -6,7 +6,8 @@ use Rattle.rh_defs.specs.declared.refusal.Refusal.TheVariants.{BadSize, NoBudge,
 use Rattle.rh_defs.specs.Chain.{Granted, ◌>>=◌, refuse_if}
 use Rattle.rh_defs.specs.Pieces.{round_up, page, pages_for, zeros, Split, first_at, behind}
 use Rattle.rh_defs.specs.Heap.{Heap, need, claim_growing}
-use Rattle.rh_defs.specs.Slot.{Slot, Flex, weight, flex_weight, flex_address, slot_length, slot_pages, is_used, is_stuck, with_heap, with_block, with_placed, slot_alloc, slot_claim, slot_take_pages, flex_start, anchor_count}
+use Rattle.rh_defs.specs.Slot.{Slot, Flex, weight, flex_weight, flex_address, slot_length, slot_pages, is_used, is_stuck, with_heap, with_block, with_placed}
+use Rattle.rh_defs.specs.Slot.{slot_alloc, slot_claim, slot_take_pages, flex_start, anchor_count}
 use Rattle.rh_defs.specs.Places.{free_from}
 use Rattle.rh_tasks.specs.Polls.{IsFreeAnchor}
 use Rattle.rh_tasks.proofs.Chains.{lt-true, lt-false}
@@ -39,7 +40,8 @@ claim-by_pages free n s = go (n == 0) (is_stuck (need n s.heap) s)
   where
     go : (a b : Bool)
         → (refuse_if a BadSize >>= (λ _. refuse_if b NoBudge >>= (λ _. where_free free (claimed n s) (pages_for (need n s.heap)))))
-        ≡ ((refuse_if a BadSize >>= (λ _. refuse_if b NoBudge >>= (λ _. let r : Granted ℕ = Ok (both_pages n s) in r))) >>= (λ _. where_free free (claimed n s) (pages_for (need n s.heap))))
+        ≡ ((refuse_if a BadSize >>= (λ _. refuse_if b NoBudge >>= (λ _. let r : Granted ℕ = Ok (both_pages n s) in r)))
+        >>= (λ _. where_free free (claimed n s) (pages_for (need n s.heap))))
     go true b = refl
     go false true = refl
     go false false = refl
@@ -57,14 +59,16 @@ take-is n p s e = go (n == 0) (is_stuck (need n s.heap) s) e
 abbrev pub documented : ℕ → Slot → Slot × ℕ
 documented k s = (with_block k (zeros 0) s, flex_address s s.blocks)
 
-pub alloc-by_pages : (free k : ℕ) (s : Slot) → is_used k s ≡ false → slot_alloc free k 0 s ≡ where_free free (documented k s) (pages_for (slot_length s + flex_weight 0) - slot_pages s)
+pub alloc-by_pages : (free k : ℕ) (s : Slot) → is_used k s ≡ false
+    → slot_alloc free k 0 s ≡ where_free free (documented k s) (pages_for (slot_length s + flex_weight 0) - slot_pages s)
 unfolding slot_alloc ◌>>=◌ refuse_if
 alloc-by_pages free k s e = rw e refl
 
 -- ---- an anchor without a block
 
 -- the first member that passes a test of itself doesn't depend on the place
-found-anywhere : {A : Type 0} (size : A → ℕ) (test : A → Bool) (a b : ℕ) (xs : List A) → is_some (first_at size (λ _ x. test x) a xs) ≡ is_some (first_at size (λ _ x. test x) b xs)
+found-anywhere : {A : Type 0} (size : A → ℕ) (test : A → Bool) (a b : ℕ) (xs : List A)
+    → is_some (first_at size (λ _ x. test x) a xs) ≡ is_some (first_at size (λ _ x. test x) b xs)
 found-anywhere size test a b [] = refl
 found-anywhere {A} size test a b (x ∷ xs) = go (test x) _ _ (found-anywhere size test (a + size x) (b + size x) xs)
   where
@@ -75,7 +79,8 @@ found-anywhere {A} size test a b (x ∷ xs) = go (test x) _ _ (found-anywhere si
     mapped None = refl
     mapped (Some s) = refl
 
-    go : (t : Bool) (o p : Option (Split A)) → is_some o ≡ is_some p → is_some (cond t here (option_map (behind x) o)) ≡ is_some (cond t here (option_map (behind x) p))
+    go : (t : Bool) (o p : Option (Split A)) → is_some o ≡ is_some p
+        → is_some (cond t here (option_map (behind x) o)) ≡ is_some (cond t here (option_map (behind x) p))
     go true o p e = refl
     go false o p e = mapped o ∙ e ∙ sym (mapped p)
 

@@ -76,7 +76,8 @@ busy-or-full (Ok a) size false true n e = refl
 busy-or-full (Ok a) size false false n e = let same : n ≡ size a = cc in ap (λ x. Ok x) (sym same)
 
 pub source-is : (m : Memory) (s : Seat) (k n : ℕ) → Ok n ≡ plain.slot_size k (slot_in m s.slot)
-    → source_block k (task_of m s) ≡ cond (list_any (is_source k) s.sending || list_any (is_document k) s.taking) (Err Busy) (cond (is_full is_open s.sending) (Err Busy) (Ok n))
+    → source_block k (task_of m s) ≡ cond (list_any (is_source k) s.sending || list_any (is_document k) s.taking) (Err Busy)
+    (cond (is_full is_open s.sending) (Err Busy) (Ok n))
 unfolding plain.slot_size idle_block task_of
 source-is m s k n e = busy-or-full (plain.slot_block k (slot_in m s.slot)) _ _ _ n e
 
@@ -101,22 +102,22 @@ again-found f is = record { at = f.at; is = is }
 pub again-same : {name : List ℕ} {seats : List Seat} {i : ℕ} {s t : Seat} → Found name seats i s → Found name seats i t → s ≡ t
 again-same {name} {seats} {i} {s} {t} f g = sym f.is ∙ get_or-any seats i s t (sits f).inside ∙ g.is
 
-pub again-given : {B : Type 0} (look : Task → Granted B) (m : Memory) {name : List ℕ} {seats : List Seat} {i : ℕ} {s t : Seat} {b : Granted B} → Found name seats i s → Found name seats i t
-    → look (task_of m s) ≡ b → look (task_of m t) ≡ b
+pub again-given : {B : Type 0} (look : Task → Granted B) (m : Memory) {name : List ℕ} {seats : List Seat} {i : ℕ} {s t : Seat} {b : Granted B}
+    → Found name seats i s → Found name seats i t → look (task_of m s) ≡ b → look (task_of m t) ≡ b
 again-given look m f g e = ap (λ x. look (task_of m x)) (sym (again-same f g)) ∙ e
 
 -- ---- behind the look at the source
 
 module _ {B : Type 0} where
-  behind-given : {A : Type 0} (g : Granted A) (size : A → ℕ) (full : Bool) (next : ℕ → Granted B) (n : ℕ) → (g >>= (λ a. refuse_if full Busy >> Ok (size a))) ≡ Ok n
-      → (g >>= (λ a. refuse_if full Busy >> next (size a))) ≡ next n
+  behind-given : {A : Type 0} (g : Granted A) (size : A → ℕ) (full : Bool) (next : ℕ → Granted B) (n : ℕ)
+      → (g >>= (λ a. refuse_if full Busy >> Ok (size a))) ≡ Ok n → (g >>= (λ a. refuse_if full Busy >> next (size a))) ≡ next n
   unfolding ◌>>=◌ ◌>>◌ refuse_if
   behind-given (Ok a) size true next n e = absurd cc
   behind-given (Ok a) size false next n e = let same : size a ≡ n = cc in ap next same
   behind-given (Err r) size full next n e = absurd cc
 
-  behind-refused : {A : Type 0} (g : Granted A) (size : A → ℕ) (full : Bool) (next : ℕ → Granted B) {r : Refusal} → (let x : Granted ℕ = (g >>= (λ a. refuse_if full Busy >> Ok (size a))) in x ≡ Err r)
-      → (g >>= (λ a. refuse_if full Busy >> next (size a))) ≡ Err r
+  behind-refused : {A : Type 0} (g : Granted A) (size : A → ℕ) (full : Bool) (next : ℕ → Granted B) {r : Refusal}
+      → (let x : Granted ℕ = (g >>= (λ a. refuse_if full Busy >> Ok (size a))) in x ≡ Err r) → (g >>= (λ a. refuse_if full Busy >> next (size a))) ≡ Err r
   unfolding ◌>>=◌ ◌>>◌ refuse_if
   behind-refused (Ok a) size true next e = let same : Busy ≡ _ = cc in ap (λ x. Err x) same
   behind-refused (Ok a) size false next e = absurd cc
@@ -130,12 +131,14 @@ module _ {B : Type 0} where
 
 -- ---- one task edited twice
 
-edit-twice : (h : ℕ) (first second : Task → Task) → ((t : Task) → (first t).handle ≡ t.handle) → (tasks : List Task) → edit_task h second (edit_task h first tasks) ≡ edit_task h (λ t. second (first t)) tasks
+edit-twice : (h : ℕ) (first second : Task → Task) → ((t : Task) → (first t).handle ≡ t.handle) → (tasks : List Task)
+    → edit_task h second (edit_task h first tasks) ≡ edit_task h (λ t. second (first t)) tasks
 edit-twice h first second same [] = refl
 edit-twice h first second same (t ∷ tasks) = go (t.handle == h) refl (edit-twice h first second same tasks)
   where
     go : (b : Bool) → (t.handle == h) ≡ b → edit_task h second (edit_task h first tasks) ≡ edit_task h (λ x. second (first x)) tasks
-        → edit_task h second (cond b (first t ∷ tasks) (t ∷ edit_task h first tasks)) ≡ cond b (second (first t) ∷ tasks) (t ∷ edit_task h (λ x. second (first x)) tasks)
+        → edit_task h second (cond b (first t ∷ tasks) (t ∷ edit_task h first tasks)) ≡ cond b (second (first t) ∷ tasks)
+        (t ∷ edit_task h (λ x. second (first x)) tasks)
     go true e r = let q : ((first t).handle == h) ≡ true = ap (λ x. x == h) (same t) ∙ e in rw q refl
     go false e r = rw e (ap (λ l. t ∷ l) r)
 
@@ -148,7 +151,8 @@ module _ {m : Memory} {seats : List Seat} {made : List MadeArea} {files : FileLi
 
   -- what is done with a task and a size
   abbrev then_to : Task → ℕ → Task → Granted Answer
-  then_to t n r = send_letter (save_letter t.handle r.handle n leaf) d >>= (λ sent. Ok (with_sending t.handle (sender.offered (next_ref d) r.handle k) sent, reply.Sent (next_ref d)))
+  then_to t n r = send_letter (save_letter t.handle r.handle n leaf) d
+      >>= (λ sent. Ok (with_sending t.handle (sender.offered (next_ref d) r.handle k) sent, reply.Sent (next_ref d)))
 
   abbrev then_sized : Task → ℕ → Granted Answer
   then_sized t n = found_or (find (has_name to) d.tasks) NoTask >>= then_to t n
@@ -160,7 +164,8 @@ module _ {m : Memory} {seats : List Seat} {made : List MadeArea} {files : FileLi
   module _ {name : List ℕ} {i : ℕ} {s : Seat} (f : Found name seats i s) (n : ℕ) (given : source_block k (task_of m s) ≡ Ok n) where
     save-sized : save d name k to leaf ≡ then_sized (task_of m s) n
     unfolding save
-    save-sized = begins _ (named-is m made files kept f) (behind-given (idle_block k (task_of m s)) (λ b. length b.here.bytes) (is_full is_open (task_of m s).sending) (then_sized (task_of m s)) n given)
+    save-sized = begins _ (named-is m made files kept f) (behind-given (idle_block k (task_of m s)) (λ b. length b.here.bytes)
+        (is_full is_open (task_of m s).sending) (then_sized (task_of m s)) n given)
 
     pub may-open : is_full is_open s.sending ≡ false
     unfolding task_of
@@ -186,7 +191,8 @@ module _ {m : Memory} {seats : List Seat} {made : List MadeArea} {files : FileLi
       task-found = let e = find-named m there in rw e refl
 
       abbrev then_from : ℕ → Granted Answer
-      then_from r = send_letter (save_letter s.handle r n leaf) d >>= (λ sent. Ok (with_sending s.handle (sender.offered (next_ref d) r k) sent, reply.Sent (next_ref d)))
+      then_from r = send_letter (save_letter s.handle r n leaf) d
+          >>= (λ sent. Ok (with_sending s.handle (sender.offered (next_ref d) r k) sent, reply.Sent (next_ref d)))
 
       save-is : save d name k to leaf ≡ then_from h
       unfolding task_of
@@ -219,12 +225,14 @@ module _ {m : Memory} {seats : List Seat} {made : List MadeArea} {files : FileLi
         opened : with_sending s.handle (sender.offered ref h k) sent ≡ then
         unfolding with_task
         opened = ap (λ (tasks : List Task). let y : Desk = record sent { tasks = tasks } in y)
-            (edit-twice s.handle (λ t. record t { last_sent = Some (letter, ref) }) (λ t. record t { sending = sender.offered ref h k t.sending }) (λ t. refl) (map (task_of m) seats))
+            (edit-twice s.handle (λ t. record t { last_sent = Some (letter, ref) }) (λ t. record t { sending = sender.offered ref h k t.sending })
+            (λ t. refl) (map (task_of m) seats))
 
         saved : save d name k to leaf ≡ Ok (then, reply.Sent ref)
         saved =
             save-is ∙ begins _ (letter-sent w (sits f) letter refl ref a l)
-            (ap (λ r. let y : Granted Answer = Ok (with_sending s.handle (sender.offered r h k) sent, reply.Sent r) in y) (sym (ref-is w (sits f) letter refl ref a l))
+            (ap (λ r. let y : Granted Answer = Ok (with_sending s.handle (sender.offered r h k) sent, reply.Sent r) in y)
+            (sym (ref-is w (sits f) letter refl ref a l))
             ∙ ap (λ (y : Desk). let z : Granted Answer = Ok (y, reply.Sent ref) in z) opened)
 
         is-desk : IsDesk then
@@ -233,5 +241,6 @@ module _ {m : Memory} {seats : List Seat} {made : List MadeArea} {files : FileLi
         pub save-world : IsWorld p (set seats i saved_seat) made files (record kept { queue = q })
         save-world = sent-world w (sits f) moves l kept.scrap w.scrap is-desk
 
-        pub save-done : (y : Desk) × ((save d name k to leaf ≡ Ok (y, reply.Sent ref)) × IsReordered y (desk_of p (set seats i saved_seat) made files (record kept { queue = q })))
+        pub save-done : (y : Desk) × ((save d name k to leaf ≡ Ok (y, reply.Sent ref)) × IsReordered y
+            (desk_of p (set seats i saved_seat) made files (record kept { queue = q })))
         save-done = (then, (saved, sent-alike w (sits f) moves l kept.scrap w.scrap is-desk))

@@ -43,7 +43,8 @@ pub scrap-alike : {a b : Desk} (o : Option Scrap) → IsReordered a b → IsReor
 scrap-alike o r = record { same = r.same; rest = ap (λ (x : Desk). let y : Desk = record x { scrap = o } in y) r.rest }
 
 -- what was done is done
-pub as-after : {after other : Handled} {o : Outcome} {new : Desk} → after ≡ other → ((o ≡ other.1) × IsReordered other.0 new) → ((o ≡ after.1) × IsReordered after.0 new)
+pub as-after : {after other : Handled} {o : Outcome} {new : Desk} → after ≡ other → ((o ≡ other.1) × IsReordered other.0 new)
+    → ((o ≡ after.1) × IsReordered after.0 new)
 as-after {o = o} {new = new} e h = let P : Handled → Type 0 = λ a. (o ≡ a.1) × IsReordered a.0 new in subst P (sym e) h
 
 pub not-true : (b : Bool) → not b ≡ true → b ≡ false
@@ -71,7 +72,8 @@ sent-at d e i t l is at own given = go (post_send (free_pages d) l d.post) given
     edit : ℕ → Task → Task
     edit ref u = record u { last_sent = Some (l, ref) }
 
-    go : (p : Granted (Post × ℕ)) → (p >>= (λ sent. let r : Granted Desk = Ok (with_task l.from (edit sent.1) (with_post sent.0 d)) in r)) ≡ Ok e → HasSent i t e
+    go : (p : Granted (Post × ℕ)) → (p >>= (λ sent. let r : Granted Desk = Ok (with_task l.from (edit sent.1) (with_post sent.0 d)) in r)) ≡ Ok e
+        → HasSent i t e
     go (Ok p) h =
         let same : with_task l.from (edit p.1) (with_post p.0 d) ≡ e = cc in
         record {
@@ -80,7 +82,8 @@ sent-at d e i t l is at own given = go (post_send (free_pages d) l d.post) given
         }
     go (Err r) h = absurd cc
 
-pub sent-inside : (d : Desk) (i : ℕ) (t : Task) (l : Letter) {mid : Desk} → IsDesk d → IsAt i t d → l.from ≡ t.handle → ((e : Desk) × ((send_letter l d ≡ Ok e) × IsReordered e mid)) → i < length mid.tasks
+pub sent-inside : (d : Desk) (i : ℕ) (t : Task) (l : Letter) {mid : Desk} → IsDesk d → IsAt i t d → l.from ≡ t.handle
+    → ((e : Desk) × ((send_letter l d ≡ Ok e) × IsReordered e mid)) → i < length mid.tasks
 sent-inside d i t l {mid} is at own sent =
     let s = sent-at d sent.0 i t l is at own sent.1.0 in
     let u : Task = record t { last_sent = s.last } in
@@ -101,18 +104,21 @@ appended-at d e i t k xs is at given = go (slot_block k t.slot) _ given
         record { slot = z; at = ap (λ (x : Desk). slice_get x.tasks i) (sym same) ∙ edited-is d i t (λ u. record u { slot = z }) is at }
     last (Err r) h = absurd cc
 
-    next : (g : Granted Slot) (f : Slot → Granted Slot) → (g >>= (λ longer. f longer >>= (λ z. let r : Granted Desk = Ok (with_slot t.handle z d) in r))) ≡ Ok e → HasSlid i t e
+    next : (g : Granted Slot) (f : Slot → Granted Slot)
+        → (g >>= (λ longer. f longer >>= (λ z. let r : Granted Desk = Ok (with_slot t.handle z d) in r))) ≡ Ok e → HasSlid i t e
     next (Ok longer) f h = last (f longer) h
     next (Err r) f h = absurd cc
 
     go : (b : Granted (Split Flex)) (g : Split Flex → Granted Slot)
-        → (b >>= (λ c. g c >>= (λ longer. slot_put k (length c.here.bytes) xs longer >>= (λ z. let r : Granted Desk = Ok (with_slot t.handle z d) in r)))) ≡ Ok e → HasSlid i t e
+        → (b >>= (λ c. g c >>= (λ longer. slot_put k (length c.here.bytes) xs longer
+        >>= (λ z. let r : Granted Desk = Ok (with_slot t.handle z d) in r)))) ≡ Ok e → HasSlid i t e
     go (Ok c) g h = next (g c) (slot_put k (length c.here.bytes) xs) h
     go (Err r) g h = absurd cc
 
 -- ---- the document is there
 
-module _ (d : Desk) (i : ℕ) (t : Task) (is : IsDesk d) (at : IsAt i t d) (m : Parcel) (q : Asked) (n : ℕ) (letter : Letter) (same : letter ≡ load_ack_letter t.handle m n) where
+module _ (d : Desk) (i : ℕ) (t : Task) (is : IsDesk d) (at : IsAt i t d) (m : Parcel) (q : Asked) (n : ℕ) (letter : Letter)
+    (same : letter ≡ load_ack_letter t.handle m n) where
   told : {e : Desk} → send_letter letter d ≡ Ok e → loaded d t m q n ≡ (with_taking t.handle (receiver.loaded q n) e, outcome.Loaded n)
   unfolding loaded ◌>>=◌ or_else
   told h = let g = ap (λ l. send_letter l d) (sym same) ∙ h in rw g refl
@@ -136,7 +142,11 @@ module _ (d : Desk) (i : ℕ) (t : Task) (is : IsDesk d) (at : IsAt i t d) (m : 
       → (outcome.LoadedFailed n r ≡ (loaded d t m q n).1) × IsReordered (loaded d t m q n).0 new
   loaded-failed {r} {mid} {new} h stays edited =
       let now : new ≡ with_taking t.handle (receiver.abandoned q n) mid = edited t (same-at d mid i t (ap (λ (x : Desk). x.tasks) stays) at) in
-      as-after (untold h) (refl, subst (IsReordered (with_taking t.handle (receiver.abandoned q n) d)) (ap (with_taking t.handle (receiver.abandoned q n)) (sym stays) ∙ sym now) (reordered-refl _))
+      as-after (untold h) (
+        refl,
+        subst (IsReordered (with_taking t.handle (receiver.abandoned q n) d)) (ap (with_taking t.handle (receiver.abandoned q n)) (sym stays) ∙ sym
+            now) (reordered-refl _),
+      )
 
 -- ---- the file becomes the document
 
@@ -164,15 +174,18 @@ module _ (d : Desk) (t : Task) (m : Parcel) (q : Asked) where
     take-other other = taken-is ∙ (rw other refl)
 
     module _ (own : (file.load == m.message.my_ref) ≡ true) where
-      pub take-refused : {r : Refusal} → appended d t q.anchor file.bytes ≡ Err r → take_file d t m (Some q) ≡ (with_taking t.handle (receiver.abandoned q 0) d, outcome.Refused r)
+      pub take-refused : {r : Refusal} → appended d t q.anchor file.bytes ≡ Err r
+          → take_file d t m (Some q) ≡ (with_taking t.handle (receiver.abandoned q 0) d, outcome.Refused r)
       unfolding load_file ◌>>=◌ or_else
       take-refused h = taken-is ∙ (rw (own, h) refl)
 
-      pub take-done : {e : Desk} → appended d t q.anchor file.bytes ≡ Ok e → take_file d t m (Some q) ≡ loaded (record e { scrap = None }) t m q (length file.bytes)
+      pub take-done : {e : Desk} → appended d t q.anchor file.bytes ≡ Ok e
+          → take_file d t m (Some q) ≡ loaded (record e { scrap = None }) t m q (length file.bytes)
       unfolding load_file ◌>>=◌ or_else
       take-done h = taken-is ∙ (rw (own, h) refl)
 
-      pub take-loaded : {e mid new : Desk} {o : Outcome} (i size : ℕ) → IsDesk d → IsAt i t d → appended d t q.anchor file.bytes ≡ Ok e → mid ≡ (let x : Desk = record e { scrap = None } in x) → size ≡ length file.bytes
+      pub take-loaded : {e mid new : Desk} {o : Outcome} (i size : ℕ) → IsDesk d → IsAt i t d → appended d t q.anchor file.bytes ≡ Ok e
+          → mid ≡ (let x : Desk = record e { scrap = None } in x) → size ≡ length file.bytes
           → ((u : Task) → IsAt i u mid → (o ≡ (loaded mid u m q size).1) × IsReordered (loaded mid u m q size).0 new)
           → (o ≡ (take_file d t m (Some q)).1) × IsReordered (take_file d t m (Some q)).0 new
       take-loaded {e} {mid} {new} {o} i size is at h dropped long told =
@@ -187,7 +200,11 @@ module _ (d : Desk) (t : Task) (m : Parcel) (q : Asked) where
           → (outcome.Refused r ≡ (take_file d t m (Some q)).1) × IsReordered (take_file d t m (Some q)).0 new
       take-failed {r} {mid} {new} i at h stays edited =
           let now : new ≡ with_taking t.handle (receiver.abandoned q 0) mid = edited t (same-at d mid i t (ap (λ (x : Desk). x.tasks) stays) at) in
-          as-after (take-refused h) (refl, subst (IsReordered (with_taking t.handle (receiver.abandoned q 0) d)) (ap (with_taking t.handle (receiver.abandoned q 0)) (sym stays) ∙ sym now) (reordered-refl _))
+          as-after (take-refused h) (
+            refl,
+            subst (IsReordered (with_taking t.handle (receiver.abandoned q 0) d)) (ap (with_taking t.handle (receiver.abandoned q 0)) (sym stays) ∙
+                sym now) (reordered-refl _),
+          )
 
 -- ---- a block becomes the scrap file
 
@@ -199,7 +216,8 @@ module _ (l : Letter) (post : Post) where
   unfolding post_send_pages module_need_pages ◌>>=◌ ◌>>◌ refuse_if
   unsendable {r} h = go (sendable l post) (parcel_size (message_of l 0) == 0) _ (nonzero _) h
     where
-      go : (s : Granted (Unit {0})) (none : Bool) (n : ℕ) → none ≡ false → (s >> (refuse_if none BadSize >>= (λ _. let x : Granted ℕ = Ok n in x))) ≡ Err r → s ≡ Err r
+      go : (s : Granted (Unit {0})) (none : Bool) (n : ℕ) → none ≡ false → (s >> (refuse_if none BadSize >>= (λ _. let x : Granted ℕ = Ok n in x))) ≡ Err r
+          → s ≡ Err r
       go (Err q) none n z e = let same : q ≡ r = cc in ap (λ x. Err x) same
       go (Ok u) true n z e = absurd cc
       go (Ok u) false n z e = absurd cc
@@ -333,7 +351,8 @@ module _ (d : Desk) (i : ℕ) (t : Task) (is : IsDesk d) (at : IsAt i t d) (m : 
 
       pub second-room : n ≤ page * slice_index second.areas scrap_area
       second-room =
-          let areas : second.areas ≡ (wider (scrap_shortage n d) d).areas = ap (λ (x : Desk). x.areas) sent.1.1.rest ∙ sent-areas ∙ ap (λ (x : Desk). x.areas) widened in
+          let areas : second.areas ≡ (wider (scrap_shortage n d) d).areas =
+          ap (λ (x : Desk). x.areas) sent.1.1.rest ∙ sent-areas ∙ ap (λ (x : Desk). x.areas) widened in
           subst (λ (a : List ℕ). n ≤ page * slice_index a scrap_area) (sym areas) (wider-room n d is)
 
       pub second-block : (v : Task) → IsAt i v second → slot_size x.anchor v.slot ≡ Ok n
@@ -359,7 +378,8 @@ module _ (d : Desk) (i : ℕ) (t : Task) (is : IsDesk d) (at : IsAt i t d) (m : 
             let g : send_letter (load_letter t.handle m n) (wider (scrap_shortage n d) d) ≡ Ok sent.0 =
             ap (λ l. send_letter l (wider (scrap_shortage n d) d)) (sym same) ∙ ap (send_letter l) (sym widened) ∙ sent.1.0 in
             let done = save-done d t m x n given idle p e is room g in
-            let last : ℕ → Desk = λ k. with_sending t.handle (sender.saved x k) (record second { scrap = Some (record { load = k; bytes = there.cut.here.bytes }) }) in
+            let last : ℕ → Desk =
+            λ k. with_sending t.handle (sender.saved x k) (record second { scrap = Some (record { load = k; bytes = there.cut.here.bytes }) }) in
             let now : new ≡ last (next_ref d) = edited u third-at ∙ ap (with_sending t.handle (sender.saved x load)) third-is ∙ ap last r in (
               saved_desk d t m x n given sent.0,
               (

@@ -27,7 +27,8 @@ use Rattle.rh_slot.proofs.Ranges.{Standing, flex-part}
 use Rattle.rh_tasks.specs.declared.seat.Seat.{Seat}
 use Rattle.rh_tasks.specs.declared.made.MadeArea.{MadeArea}
 use Rattle.rh_tasks.specs.declared.scrap.ScrapFile.{ScrapFile}
-use Rattle.rh_tasks.specs.View.{Kept, the_module, HasSlot, pages_at, fixed_pages, scrap_from, scrap_size, scrap_of, slot_area, made_area, task_of, desk_of, shown_of, IsWorld}
+use Rattle.rh_tasks.specs.View.{Kept, the_module, HasSlot, pages_at, fixed_pages, scrap_from, scrap_size, scrap_of, slot_area, made_area, task_of, desk_of}
+use Rattle.rh_tasks.specs.View.{shown_of, IsWorld}
 use Rattle.rh_tasks.specs.Shown.{Shown}
 use Rattle.rh_slot.specs.Flex.{slot_append}
 use Rattle.rh_tasks.specs.Polls.{IsAt, Becomes}
@@ -96,7 +97,8 @@ module _ {m n : Memory} {seats : List Seat} {made : List MadeArea} {files : File
 
   pub rewritten-desk : desk_of n seats made files rewritten ≡ (let e : Desk = record d { scrap = scrap_of n scrap } in e)
   rewritten-desk = same-desk d
-      (tasks-stay seats stay (avoids-below slot_area 6 5 seats (omega arith) w.areas.slots_above)) (post-stays kept.queue stay (λ q. absurd (omega arith))) pages-same
+      (tasks-stay seats stay (avoids-below slot_area 6 5 seats (omega arith) w.areas.slots_above)) (post-stays kept.queue stay (λ q. absurd (omega arith)))
+      pages-same
       (mades-stay made stay (avoids-below made_area 6 5 made (omega arith) w.areas.made_above)) only.pages refl
 
   module _ (fits : scrap_size scrap ≤ length (bytes m 5)) (whole : length (bytes m 5) % PAGE ≡ 0) where
@@ -157,7 +159,8 @@ module _ {m : Memory} {seats : List Seat} {made : List MadeArea} {files : FileLi
     pub source-high : 32768 ≤ address
     source-high = omega (arith, place-is)
 
-    stands : Standing (bytes m s.slot.area.0) (take size (drop 0 source.cut.here.bytes)) (flex_address z source.cut.before + 0 - slot_start) size (flex_place z) (length (bytes m s.slot.area.0))
+    stands : Standing (bytes m s.slot.area.0) (take size (drop 0 source.cut.here.bytes)) (flex_address z source.cut.before + 0 - slot_start) size
+        (flex_place z) (length (bytes m s.slot.area.0))
     stands = flex-part m s.slot k 0 size source.cut has source.block (omega (arith, source.long))
 
     pub source-inside : address - 32768 + size ≤ length (bytes m s.slot.area.0)
@@ -198,17 +201,20 @@ module _ {m : Memory} {seats : List Seat} {made : List MadeArea} {files : FileLi
       filled-world = rewritten-world w only (ap (λ b. length b) bytes-then ∙ length-same) file room whole
 
       pub filled-desk : (b : Split Flex) → slot_block k z ≡ Ok b
-          → desk_of filled seats made files (record kept { scrap = file }) ≡ (let e : Desk = record (desk_of m seats made files kept) { scrap = Some (record { load = load; bytes = b.here.bytes }) } in e)
+          → desk_of filled seats made files (record kept { scrap = file }) ≡
+          (let e : Desk = record (desk_of m seats made files kept) { scrap = Some (record { load = load; bytes = b.here.bytes }) } in e)
       unfolding scrap_of
       filled-desk b is =
           let same : source.cut ≡ b = (let q = sym source.block ∙ is in cc) in
           rewritten-desk w only (ap (λ b. length b) bytes-then ∙ length-same) file
-          ∙ ap (λ (b : List ℕ). let e : Desk = record (desk_of m seats made files kept) { scrap = Some (record { load = load; bytes = b }) } in e) (first-are ∙ ap (λ (b : Split Flex). b.here.bytes) same)
+          ∙ ap (λ (b : List ℕ). let e : Desk = record (desk_of m seats made files kept) { scrap = Some (record { load = load; bytes = b }) } in e)
+          (first-are ∙ ap (λ (b : Split Flex). b.here.bytes) same)
 
 -- ---- the scrap file's bytes at the end of a document
 
 -- the scrap file's bytes are the first of area 5
-scrap-part : (m : Memory) (scrap : Option ScrapFile) (file : Scrap) → scrap_size scrap ≤ length (bytes m 5) → scrap_of m scrap ≡ Some file → part (bytes m 5) 0 (scrap_size scrap) ≡ file.bytes
+scrap-part : (m : Memory) (scrap : Option ScrapFile) (file : Scrap) → scrap_size scrap ≤ length (bytes m 5) → scrap_of m scrap ≡ Some file
+    → part (bytes m 5) 0 (scrap_size scrap) ≡ file.bytes
 unfolding scrap_of
 scrap-part m None file fits e = absurd cc
 scrap-part m (Some f) file fits e =

@@ -52,7 +52,14 @@ module _ {m : Memory} {seats : List Seat} {made : List MadeArea} {files : FileLi
 
       sending-moves : Moves m m s sending_seat (λ t. record t { sending = edit t.sending })
       unfolding task_of
-      sending-moves = record { handle = refl; area = refl; still = has; only = OnlyArea-self m s.slot.area.0 has.opened; task = ap (λ (l : List Outgoing). let t : Task = record (task_of m s) { sending = l } in t) is }
+      sending-moves =
+          record {
+            handle = refl;
+            area = refl;
+            still = has;
+            only = OnlyArea-self m s.slot.area.0 has.opened;
+            task = ap (λ (l : List Outgoing). let t : Task = record (task_of m s) { sending = l } in t) is;
+          }
 
       sending-desk : desk_of m (set seats i sending_seat) made files kept ≡ with_sending s.handle edit d
       sending-desk = moved-desk w at sending-moves
@@ -71,7 +78,14 @@ module _ {m : Memory} {seats : List Seat} {made : List MadeArea} {files : FileLi
 
       taking-moves : Moves m m s taking_seat (λ t. record t { taking = edit t.taking })
       unfolding task_of
-      taking-moves = record { handle = refl; area = refl; still = has; only = OnlyArea-self m s.slot.area.0 has.opened; task = ap (λ (l : List Incoming). let t : Task = record (task_of m s) { taking = l } in t) is }
+      taking-moves =
+          record {
+            handle = refl;
+            area = refl;
+            still = has;
+            only = OnlyArea-self m s.slot.area.0 has.opened;
+            task = ap (λ (l : List Incoming). let t : Task = record (task_of m s) { taking = l } in t) is;
+          }
 
       taking-desk : desk_of m (set seats i taking_seat) made files kept ≡ with_taking s.handle edit d
       taking-desk = moved-desk w at taking-moves

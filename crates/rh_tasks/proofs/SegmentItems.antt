@@ -33,7 +33,8 @@ items_listed start place (Hole n ∷ gs) =
 -- the segments that a heap gives, as they are listed
 pub items_from : (start place : ℕ) (h : Heap) → map (placed_item start) (segments_from place h) ≡ items_at start place h
 items_from start place h =
-    sym (take-map (placed_item start) SEGMENTS_AT_ONCE (listed place (from_cut (segment_at place h)))) ∙ ap (take SEGMENTS_AT_ONCE) (items_listed start place (from_cut (segment_at place h)))
+    sym (take-map (placed_item start) SEGMENTS_AT_ONCE (listed place (from_cut (segment_at place h))))
+    ∙ ap (take SEGMENTS_AT_ONCE) (items_listed start place (from_cut (segment_at place h)))
 
 -- ---- they are small
 
@@ -47,7 +48,8 @@ small_taken zero xs all = tt
 small_taken (suc n) [] all = tt
 small_taken (suc n) (x ∷ xs) all = (all.0, small_taken n xs all.1)
 
-small_cut : (place : ℕ) (h : Heap) (o : Option (Split heap.Segment)) → IfSome o (IsCut size_of (λ q g. place == q) first_place h.segments) → base h ≤ area_limit → AllByRecursion IsSmall (listed place (from_cut o))
+small_cut : (place : ℕ) (h : Heap) (o : Option (Split heap.Segment)) → IfSome o (IsCut size_of (λ q g. place == q) first_place h.segments)
+    → base h ≤ area_limit → AllByRecursion IsSmall (listed place (from_cut o))
 small_cut place h None c l = tt
 small_cut place h (Some cut) c l =
     let same : place ≡ first_place + total size_of cut.before = eqb-true _ _ c.passes in
@@ -71,8 +73,10 @@ listed_more start xs i d items is l =
     ap (λ z. z ++ placed_item start (get_or xs i d) ∷ []) is
     ∙ (sym (map-append (placed_item start) (take i xs) (get_or xs i d ∷ [])) ∙ ap (map (placed_item start)) (sym (take_more xs i d l)))
 
-pub listed_few : (start : ℕ) (xs : List Segment) (i : ℕ) (items : List SegmentItem) → items ≡ map (placed_item start) (take i xs) → i < length xs → length xs ≤ SEGMENTS_AT_ONCE → length items < SEGMENTS_AT_ONCE
+pub listed_few : (start : ℕ) (xs : List Segment) (i : ℕ) (items : List SegmentItem) → items ≡ map (placed_item start) (take i xs) → i < length xs
+    → length xs ≤ SEGMENTS_AT_ONCE → length items < SEGMENTS_AT_ONCE
 listed_few start xs i items is l few = omega (arith, ap length is, length-map (take i xs) (placed_item start), length-take i xs)
 
-pub listed_all : (start : ℕ) (xs : List Segment) (i : ℕ) (items : List SegmentItem) → items ≡ map (placed_item start) (take i xs) → length xs ≤ i → items ≡ map (placed_item start) xs
+pub listed_all : (start : ℕ) (xs : List Segment) (i : ℕ) (items : List SegmentItem) → items ≡ map (placed_item start) (take i xs) → length xs ≤ i
+    → items ≡ map (placed_item start) xs
 listed_all start xs i items is l = is ∙ ap (map (placed_item start)) (take_all i xs l)

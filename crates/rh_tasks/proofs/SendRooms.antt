@@ -25,15 +25,18 @@ where_free free x pages = refuse_if (nat_lt free pages) NoRoom >>= (λ _. Ok x)
 
 pub send-by_pages : (free : ℕ) (l : Letter) (post : Post) → post_send free l post ≡ (post_send_pages l post >>= where_free free (sent_post l post))
 unfolding post_send post_send_pages module_claim module_need_pages ◌>>=◌ ◌>>◌ refuse_if
-send-by_pages free l post = go (sendable l post) (parcel_size (message_of l 0) == 0) (need (parcel_size (message_of l 0)) post.heap) (as_granted (claim_growing (parcel_size (message_of l 0)) post.heap))
+send-by_pages free l post = go (sendable l post) (parcel_size (message_of l 0) == 0) (need (parcel_size (message_of l 0)) post.heap)
+    (as_granted (claim_growing (parcel_size (message_of l 0)) post.heap))
   where
     go : (s : Granted (Unit {0})) (none : Bool) (n : ℕ) (there : Heap × ℕ)
-        → (s >> ((refuse_if none BadSize >>= (λ _. refuse_if (nat_lt free (pages_for n)) NoRoom >>= (λ _. Ok there))) >>= (λ there. Ok (posted l there post, post.next_ref))))
+        → (s >> ((refuse_if none BadSize >>= (λ _. refuse_if (nat_lt free (pages_for n)) NoRoom >>= (λ _. Ok there)))
+        >>= (λ there. Ok (posted l there post, post.next_ref))))
         ≡ ((s >> (refuse_if none BadSize >>= (λ _. Ok (pages_for n)))) >>= where_free {A = Post × ℕ} free (posted l there post, post.next_ref))
     go (Err r) none n there = refl
     go (Ok u) true n there = refl
     go (Ok u) false n there =
-        elim (nat_lt free (pages_for n)) as (λ b. ((refuse_if b NoRoom >>= (λ _. Ok there)) >>= (λ there. Ok (posted l there post, post.next_ref))) ≡ (refuse_if b NoRoom >>= (λ _. let r : Granted (Post × ℕ) = Ok (posted l there post, post.next_ref) in r)))
+        elim (nat_lt free (pages_for n)) as (λ b. ((refuse_if b NoRoom >>= (λ _. Ok there)) >>= (λ there. Ok (posted l there post, post.next_ref))) ≡
+        (refuse_if b NoRoom >>= (λ _. let r : Granted (Post × ℕ) = Ok (posted l there post, post.next_ref) in r)))
         [ true ↦ refl | false ↦ refl ]
 
 module _ (free : ℕ) (l : Letter) (post : Post) where
@@ -50,7 +53,9 @@ module _ (free : ℕ) (l : Letter) (post : Post) where
     send-lacks short = send-by_pages free l post ∙ begins _ needs (ap (λ b. refuse_if b NoRoom >>= (λ _. Ok (sent_post l post))) (lt-true free pages short))
 
 -- the pages of a fetch don't depend on its buffer's address
-pub fetch-pages : (from to your_ref x y room : ℕ) (post : Post) → post_send_pages (fetch_letter from to your_ref x room) post ≡ post_send_pages (fetch_letter from to your_ref y room) post
+pub fetch-pages : (from to your_ref x y room : ℕ) (post : Post)
+    → post_send_pages (fetch_letter from to your_ref x room) post ≡ post_send_pages (fetch_letter from to your_ref y room) post
 unfolding post_send_pages sendable
 fetch-pages from to your_ref x y room post =
-    ap (λ n. sendable (fetch_letter from to your_ref x room) post >> module_need_pages (8 + (16 + n)) post.heap) (length-body (RamFetch x room) ∙ sym (length-body (RamFetch y room)))
+    ap (λ n. sendable (fetch_letter from to your_ref x room) post >> module_need_pages (8 + (16 + n)) post.heap)
+    (length-body (RamFetch x room) ∙ sym (length-body (RamFetch y room)))

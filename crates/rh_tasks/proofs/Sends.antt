@@ -25,7 +25,8 @@ use Rattle.rh_tasks.proofs.Fixed.{changed-areas, fixed-rest}
 use Rattle.rh_tasks.proofs.Moves.{Moves, moved-desk, moved-areas, moved-ledger}
 use Rattle.rh_tasks.proofs.Reorders.{desk-reordered}
 
-module _ {m n : Memory} {seats : List Seat} {made : List MadeArea} {files : FileList} {kept : Kept} {i : ℕ} {s t : Seat} {edit : Task → Task} {k : Chains} {next : Post → Post}
+module _ {m n : Memory} {seats : List Seat} {made : List MadeArea} {files : FileList} {kept : Kept} {i : ℕ} {s t : Seat} {edit : Task → Task} {k : Chains}
+    {next : Post → Post}
     (w : IsWorld m seats made files kept) (at : Sits seats i s) (moves : Moves m m s t edit) (l : Leaves m n the_module kept.queue k next)
     (scrap : Option ScrapFile) (fits : scrap_size scrap ≤ length (bytes m 5)) where
   abbrev d : Desk
@@ -68,7 +69,8 @@ module _ {m n : Memory} {seats : List Seat} {made : List MadeArea} {files : File
 
   module _ (is : IsDesk desk_then) where
     post-is : IsRequeued post_then (post_in n the_module k)
-    post-is = post_in-requeued n the_module k post_then (smaller w module-only) l.still.area (l.spells (post_in m the_module kept.queue) (is-post w)) is.post.held
+    post-is = post_in-requeued n the_module k post_then (smaller w module-only) l.still.area (l.spells (post_in m the_module kept.queue) (is-post w))
+        is.post.held
 
     edited : map (task_of m) seats_then ≡ (with_task s.handle edit d).tasks
     edited = ap (λ (x : Desk). x.tasks) (moved-desk w at moves)

@@ -42,12 +42,14 @@ total-same : (f g : ℕ → ℕ) (ids : List ℕ) → AllByRecursion (λ id. f i
 total-same f g [] e = refl
 total-same f g (id ∷ ids) e = ap (λ n. n + total f ids) e.0 ∙ ap (λ n. g id + n) (total-same f g ids e.1)
 
-others-same : (k id : ℕ) (lists : List (List ℕ)) (ids : List ℕ) → Avoids id ids → AllByRecursion (λ j. times k (list_at (set lists id []) j) ≡ times k (list_at lists j)) ids
+others-same : (k id : ℕ) (lists : List (List ℕ)) (ids : List ℕ) → Avoids id ids
+    → AllByRecursion (λ j. times k (list_at (set lists id []) j) ≡ times k (list_at lists j)) ids
 others-same k id lists [] off = tt
 others-same k id lists (j ∷ ids) off = (ap (times k) (emptied-other lists id j off.0), others-same k id lists ids off.1)
 
 -- where all other lists are empty, these have all pages
-listed-all : (k : ℕ) (ids : List ℕ) (lists : List (List ℕ)) → AreDistinct ids → ((id : ℕ) → Avoids id ids → list_at lists id ≡ []) → total (λ id. times k (list_at lists id)) ids ≡ times_all k lists
+listed-all : (k : ℕ) (ids : List ℕ) (lists : List (List ℕ)) → AreDistinct ids → ((id : ℕ) → Avoids id ids → list_at lists id ≡ [])
+    → total (λ id. times k (list_at lists id)) ids ≡ times_all k lists
 listed-all k [] lists apart none = sym (none-all k lists (λ id. none id tt))
 listed-all k (id ∷ ids) lists apart none =
     ap (λ n. times k (list_at lists id) + n)
@@ -70,7 +72,8 @@ still-open area id limit (j ∷ ids) off all =
     ((subst IsSome (sym (area_set-other area id None j off.0)) all.0.0, all.0.1), still-open area id limit ids off.1 all.1)
 
 -- so many areas are open at least
-enough-open : (area : ℕ → Option (List ℕ)) (limit : ℕ) (ids : List ℕ) → AreDistinct ids → AllByRecursion (λ j. IsSome (area j) × (j < limit)) ids → length ids ≤ open_below area limit
+enough-open : (area : ℕ → Option (List ℕ)) (limit : ℕ) (ids : List ℕ) → AreDistinct ids → AllByRecursion (λ j. IsSome (area j) × (j < limit)) ids
+    → length ids ≤ open_below area limit
 enough-open area limit [] apart all = omega arith
 enough-open area limit (id ∷ ids) apart all =
     let rest = enough-open (area_set area id None) limit ids apart.1 (still-open area id limit ids apart.0 all.1) in
@@ -98,8 +101,10 @@ module _ {m : Memory} {ids : List ℕ} {s : Shown} (w : StandsIn m ids s) (numbe
       absurd (omega arith)
 
   -- each page of the pool is one listed area's or free
-  pub page-once : (lists : List (List ℕ)) (free : List ℕ) → SharesOut m lists free → (k : ℕ) → k < m.pages → total (λ id. times k (list_at lists id)) ids + times k free ≡ 1
+  pub page-once : (lists : List (List ℕ)) (free : List ℕ) → SharesOut m lists free → (k : ℕ) → k < m.pages
+      → total (λ id. times k (list_at lists id)) ids + times k free ≡ 1
   unfolding bytes
   page-once lists free share k l =
-      let none : (id : ℕ) → Avoids id ids → list_at lists id ≡ [] = λ id off. no-pages _ (list_at lists id) (share.areas id) (none-here (m.area id) (closed-elsewhere id off)) in
+      let none : (id : ℕ) → Avoids id ids → list_at lists id ≡ [] =
+      λ id off. no-pages _ (list_at lists id) (share.areas id) (none-here (m.area id) (closed-elsewhere id off)) in
       ap (λ n. n + times k free) (listed-all k ids lists w.apart none) ∙ share.once k l

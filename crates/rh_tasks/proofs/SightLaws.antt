@@ -64,7 +64,8 @@ from-behind g (Some cut) = refl
 tail-on : (p q : ℕ) (g : Segment) (ss : List Segment) → tail p q (g ∷ ss) ≡ cond (p == q) (g ∷ ss) (tail p (q + size_of g) ss)
 tail-on p q g ss = go (p == q)
   where
-    go : (t : Bool) → from_cut (cond t (Some (record { before = []; here = g; after = ss })) (option_map (behind g) (first_at size_of (λ place x. p == place) (q + size_of g) ss)))
+    go : (t : Bool) → from_cut (cond t (Some (record { before = []; here = g; after = ss }))
+        (option_map (behind g) (first_at size_of (λ place x. p == place) (q + size_of g) ss)))
         ≡ cond t (g ∷ ss) (tail p (q + size_of g) ss)
     go true = refl
     go false = from-behind g (first_at size_of (λ place x. p == place) (q + size_of g) ss)
@@ -91,7 +92,8 @@ items-alike : (start place : ℕ) (h k : Heap) → SameShape h k → items_at st
 items-alike start place h k s =
     let there : blank (tail place 16 h.segments) ≡ blank (tail place 16 k.segments) =
     sym (tail-blank place 16 h.segments) ∙ ap (tail place 16) s.blank ∙ tail-blank place 16 k.segments in
-    ap (take SEGMENTS_AT_ONCE) (sym (blank-items (start + place) (tail place 16 h.segments)) ∙ ap (segment_items_from (start + place)) there ∙ blank-items (start + place) (tail place 16 k.segments))
+    ap (take SEGMENTS_AT_ONCE) (sym (blank-items (start + place) (tail place 16 h.segments)) ∙ ap (segment_items_from (start + place)) there
+    ∙ blank-items (start + place) (tail place 16 k.segments))
 
 -- ---- the block with an address
 
@@ -114,11 +116,13 @@ sized-bytes a h n e = go (block_at a h) (block_at-bytes a h) e
 pub unsized-block : (a : ℕ) (h : Heap) (r : Refusal) → Err r ≡ ok_or (block_size a h) NotABlock → (block_bytes a h ≡ None) × (r ≡ NotABlock)
 unsized-block a h r e = go (block_at a h) (block_at-bytes a h) e
   where
-    go : (o : Option (Split Segment)) → bytes_here o ≡ block_bytes a h → Err r ≡ ok_or (option_map (λ (s : Split Segment). length (bytes_of s.here)) o) NotABlock → (block_bytes a h ≡ None) × (r ≡ NotABlock)
+    go : (o : Option (Split Segment)) → bytes_here o ≡ block_bytes a h
+        → Err r ≡ ok_or (option_map (λ (s : Split Segment). length (bytes_of s.here)) o) NotABlock → (block_bytes a h ≡ None) × (r ≡ NotABlock)
     go None b e = (sym b, cc)
     go (Some cut) b e = absurd cc
 
-none-there : {B : Type 0} (o : Option (Split Segment)) (next : Split Segment → Granted B) → bytes_here o ≡ None → (found_or o NotABlock >>= next) ≡ Err NotABlock
+none-there : {B : Type 0} (o : Option (Split Segment)) (next : Split Segment → Granted B) → bytes_here o ≡ None
+    → (found_or o NotABlock >>= next) ≡ Err NotABlock
 unfolding ◌>>=◌ found_or
 none-there None next e = refl
 none-there (Some cut) next e = absurd cc
@@ -204,7 +208,8 @@ module _ {m : Memory} {seats : List Seat} {made : List MadeArea} {files : FileLi
     pub module-unsized : (offset n : ℕ) → block_bytes place (heap_in m the_module) ≡ None → module_shown d address offset n ≡ Err NotABlock
     unfolding module_shown
     module-unsized offset n e =
-        ap (λ g. g >>= (λ b. refuse_if (nat_lt (length (bytes_of b.here)) (offset + n)) BadRange >> Ok (length (bytes_of b.here), take n (drop offset (bytes_of b.here))))) (unmarked-is address d none)
+        ap (λ g. g >>= (λ b. refuse_if (nat_lt (length (bytes_of b.here)) (offset + n)) BadRange >> Ok
+        (length (bytes_of b.here), take n (drop offset (bytes_of b.here))))) (unmarked-is address d none)
         ∙ none-there (block_at place the_post.heap) _ (block_at-bytes place the_post.heap ∙ sym plain-bytes ∙ e)
 
     module _ (offset n : ℕ) (bs : List ℕ) (e : block_bytes place (heap_in m the_module) ≡ Some bs) where

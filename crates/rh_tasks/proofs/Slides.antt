@@ -68,7 +68,8 @@ module _ {m : Memory} {seats : List Seat} {made : List MadeArea} {files : FileLi
     unfolding task_of
     slides-world fits =
         let P : List Seat → Type 0 = λ l. IsDesk (desk_of n l made files kept) → IsWorld n l made files kept in
-        subst P same (λ is. moved-world w at moves is) (subst IsDesk (sym slides-desk) (with_slot-keeps d (task_of m s) (slot_in n s.slot) seat-task fits w.desk))
+        subst P same (λ is. moved-world w at moves is) (subst IsDesk (sym slides-desk)
+        (with_slot-keeps d (task_of m s) (slot_in n s.slot) seat-task fits w.desk))
 
   -- ---- a call that answers something
 
@@ -77,7 +78,8 @@ module _ {m : Memory} {seats : List Seat} {made : List MadeArea} {files : FileLi
     unfolding task_of
     call-is t e = ap (λ (x : Task). call (free_pages d) x.slot) (sym (seat-is t e)) ∙ ap (λ k. call k (slot_in m s.slot)) (free-is w)
 
-    pub slide-refused : {n : Memory} {r : Refusal} → Leaves m n s.slot (call m.free (slot_in m s.slot)) (Err r) → (t : Task) → IsAt i t d → call (free_pages d) t.slot ≡ Err r
+    pub slide-refused : {n : Memory} {r : Refusal} → Leaves m n s.slot (call m.free (slot_in m s.slot)) (Err r) → (t : Task) → IsAt i t d
+        → call (free_pages d) t.slot ≡ Err r
     slide-refused l t e = call-is t e ∙ refused l
 
     module _ {n : Memory} {a : A} (l : Leaves m n s.slot (call m.free (slot_in m s.slot)) (Ok a)) where
@@ -88,7 +90,8 @@ module _ {m : Memory} {seats : List Seat} {made : List MadeArea} {files : FileLi
       unfolding task_of
       slide-desk t e = slides-desk (slid l) ∙ ap (λ (x : Task). with_slot x.handle (slot_in n s.slot) d) (seat-is t e)
 
-      pub slide-world : ((slot : plain.Slot) → plain.IsSlot slot → OnGrant (λ (p : plain.Slot × A). IsRoomed (free_pages d) slot p.0) (call (free_pages d) slot)) → IsWorld n seats made files kept
+      pub slide-world : ((slot : plain.Slot) → plain.IsSlot slot → OnGrant (λ (p : plain.Slot × A). IsRoomed (free_pages d) slot p.0)
+          (call (free_pages d) slot)) → IsWorld n seats made files kept
       unfolding task_of
       slide-world keeps = slides-world (slid l) (grant-holds (keeps (slot_in m s.slot) seat-task.slot) (slide-granted (task_of m s) seat-at))
 

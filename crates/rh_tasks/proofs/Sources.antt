@@ -33,8 +33,8 @@ pub record Portioned (m : Memory) (slot : Slot) (k count n place : ℕ) (source 
   pub some : 0 < n → place ≡ flex_address (slot_in m slot) source.before + count - 32768
   pub within : 0 < n → count + n ≤ length source.here.bytes
 
-pub portioned : {t : Task} {x : Sending} {amount address n : ℕ} (m : Memory) (slot : Slot) (p : IsPortion t x amount address n) → t.slot ≡ slot_in m slot → (place : ℕ)
-    → (n ≡ 0 → place ≡ 0) → (0 < n → place ≡ address - 32768) → Portioned m slot x.anchor x.count n place p.source
+pub portioned : {t : Task} {x : Sending} {amount address n : ℕ} (m : Memory) (slot : Slot) (p : IsPortion t x amount address n) → t.slot ≡ slot_in m slot
+    → (place : ℕ) → (n ≡ 0 → place ≡ 0) → (0 < n → place ≡ address - 32768) → Portioned m slot x.anchor x.count n place p.source
 portioned {t} {x} {amount} {address} {n} m slot p e place none some = record {
   block = subst (λ s. slot_block x.anchor s ≡ Ok p.source) e p.block;
   none = none;
@@ -94,8 +94,8 @@ buffer-cut n (Some b) e = (b, (refl, go (nat_le n (length (bytes_of b.here))) re
     go true q h = leb-true _ _ q
     go false q h = absurd (cc)
 
-flex-low : (x n : ℕ) (s : plain.Slot) (o : Option (Split Flex)) → IfSome o (IsCut weight (λ place b. is_inside x n (place + 8) (length b.bytes)) (flex_start s) s.blocks)
-    → is_some o ≡ true → 32768 ≤ x
+flex-low : (x n : ℕ) (s : plain.Slot) (o : Option (Split Flex))
+    → IfSome o (IsCut weight (λ place b. is_inside x n (place + 8) (length b.bytes)) (flex_start s) s.blocks) → is_some o ≡ true → 32768 ≤ x
 flex-low x n s None c e = absurd (cc)
 flex-low x n s (Some b) c e =
     let start : ℕ = flex_start s + total weight b.before + 8 in
@@ -124,7 +124,8 @@ module _ {m : Memory} {slot : Slot} {k count n place : ℕ} {source : Split Flex
       let z = heap-part m slot address room b.0 is b.1.0 b.1.1 in
       omega (arith, z.1.high, fits, portion-above is p h)
 
-  block-apart : holds address room s ≡ true → (same && overlap address room from n) ≡ false → 0 < n → (place + n ≤ address - 32768) ⊎ (address - 32768 + n ≤ place)
+  block-apart : holds address room s ≡ true → (same && overlap address room from n) ≡ false → 0 < n
+      → (place + n ≤ address - 32768) ⊎ (address - 32768 + n ≤ place)
   block-apart e f h =
       let o : overlap address room from n ≡ false = rw yes at f in
       elim (apart-of address room from n o (omega (arith, h, fits)) h) [
@@ -136,5 +137,6 @@ module _ {m : Memory} {slot : Slot} {k count n place : ℕ} {source : Split Flex
   pub ranges-apart : (place + n ≤ address - 32768) ⊎ (address - 32768 + n ≤ place)
   ranges-apart = elim (zero-or n) [
     | inl q ↦ inl (omega (arith, q, p.none q))
-    | inr h ↦ elim (held-or (is_some (buffer_at address room s)) (holds address room s) (same && overlap address room from n) reach) [ inl e ↦ inr (buffer-apart e h) | inr e ↦ block-apart e.0 e.1 h ]
+    | inr h ↦ elim (held-or (is_some (buffer_at address room s)) (holds address room s) (same && overlap address room from n) reach)
+        [ inl e ↦ inr (buffer-apart e h) | inr e ↦ block-apart e.0 e.1 h ]
   ]

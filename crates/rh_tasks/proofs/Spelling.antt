@@ -33,7 +33,8 @@ use Rattle.rh_tasks.proofs.Fixed.{pages-of}
 pub record AreWhole (m : Memory) : Type 0 where
   pub each : (id : ℕ) → length (bytes m id) % PAGE ≡ 0
 
-spell-slots : (m : Memory) (seats : List Seat) → AllByRecursion (HasSlot m) seats → SpellSlots (map (λ (s : Seat). bytes m s.slot.area.0) seats) (map (task_of m) seats)
+spell-slots : (m : Memory) (seats : List Seat) → AllByRecursion (HasSlot m) seats
+    → SpellSlots (map (λ (s : Seat). bytes m s.slot.area.0) seats) (map (task_of m) seats)
 unfolding task_of
 spell-slots m [] all = tt
 spell-slots m (s ∷ seats) all = (all.0.spells, spell-slots m seats all.1)
@@ -43,10 +44,13 @@ apart-slots : (m : Memory) (seats : List Seat) → AllByRecursion (HasSlot m) se
     → LieApart (map (λ (s : Seat). bytes m s.slot.area.0) seats) (map (task_of m) seats)
 unfolding task_of
 apart-slots m [] all apart = tt
-apart-slots m (s ∷ seats) all apart =
-    (let P : ℕ → Type 0 = λ n. AreLaidOut plain.slot_start n (slot_spans (task_of m s).slot) in subst P (sym all.0.spells.pages) apart.0, apart-slots m seats all.1 apart.1)
+apart-slots m (s ∷ seats) all apart = (
+  let P : ℕ → Type 0 = λ n. AreLaidOut plain.slot_start n (slot_spans (task_of m s).slot) in subst P (sym all.0.spells.pages) apart.0,
+  apart-slots m seats all.1 apart.1,
+)
 
-made-lengths : (m : Memory) → AreWhole m → (made : List MadeArea) → map (λ (a : MadeArea). length (bytes m a.area.0)) made ≡ map (λ (x : Made). page * x.pages) (map (made_of m) made)
+made-lengths : (m : Memory) → AreWhole m → (made : List MadeArea)
+    → map (λ (a : MadeArea). length (bytes m a.area.0)) made ≡ map (λ (x : Made). page * x.pages) (map (made_of m) made)
 unfolding made_of
 made-lengths m whole [] = refl
 made-lengths m whole (a ∷ made) =
@@ -57,7 +61,8 @@ made-lengths m whole (a ∷ made) =
 six : {a b c d e f a' b' c' d' e' f' : ℕ} → a ≡ a' → b ≡ b' → c ≡ c' → d ≡ d' → e ≡ e' → f ≡ f' → a ∷ b ∷ c ∷ d ∷ e ∷ f ∷ [] ≡ a' ∷ b' ∷ c' ∷ d' ∷ e' ∷ f' ∷ []
 six p q r s t u = cc
 
-slot-lengths : (m : Memory) (seats : List Seat) → AllByRecursion (HasSlot m) seats → total length (map (λ (s : Seat). bytes m s.slot.area.0) seats) ≡ PAGE * total task_pages (map (task_of m) seats)
+slot-lengths : (m : Memory) (seats : List Seat) → AllByRecursion (HasSlot m) seats
+    → total length (map (λ (s : Seat). bytes m s.slot.area.0) seats) ≡ PAGE * total task_pages (map (task_of m) seats)
 unfolding task_of
 slot-lengths m [] all = refl
 slot-lengths m (s ∷ seats) all = omega (arith, all.0.spells.pages, slot-lengths m seats all.1)
@@ -74,7 +79,8 @@ clear-none (p ∷ ps) = (tt, clear-none ps)
 
 clear-of : (ps : List Parcel) (rows : List Row) → ((i : ℕ) → i < length rows → Clear ps (row_parcels (row_at rows i))) → Clear ps (parcels_of rows)
 clear-of ps [] each = clear-none ps
-clear-of ps (r ∷ rows) each = Clear-behind ps (row_parcels r) (parcels_of rows) (each 0 (omega arith)) (clear-of ps rows (λ i inside. each (suc i) (omega arith)))
+clear-of ps (r ∷ rows) each =
+    Clear-behind ps (row_parcels r) (parcels_of rows) (each 0 (omega arith)) (clear-of ps rows (λ i inside. each (suc i) (omega arith)))
 
 all-apart : (rows : List Row) → ((i : ℕ) → i < length rows → Apart (row_parcels (row_at rows i)))
     → ((i j : ℕ) → i < length rows → j < length rows → i ≢ j → Clear (row_parcels (row_at rows i)) (row_parcels (row_at rows j)))
@@ -82,7 +88,8 @@ all-apart : (rows : List Row) → ((i : ℕ) → i < length rows → Apart (row_
 all-apart [] own cross = tt
 all-apart (r ∷ rows) own cross =
     Apart-append (row_parcels r) (parcels_of rows) (own 0 (omega arith))
-    (all-apart rows (λ i inside. own (suc i) (omega arith)) (λ i j a b other. cross (suc i) (suc j) (omega arith) (omega arith) (λ e. other (omega (arith, e)))))
+    (all-apart rows (λ i inside. own (suc i) (omega arith)) (λ i j a b other. cross (suc i) (suc j) (omega arith) (omega arith)
+    (λ e. other (omega (arith, e)))))
     (clear-of (row_parcels r) rows (λ i inside. cross 0 (suc i) (omega arith) (omega arith) (λ e. absurd (omega (arith, e)))))
 
 scrap-spelled : (m : Memory) (scrap : Option ScrapFile) → take (scrap_size scrap) (bytes m 5) ≡ scrap_bytes (scrap_of m scrap)
@@ -94,7 +101,8 @@ made-sum : (made : List Made) → total (λ n. n) (map (λ (x : Made). page * x.
 made-sum [] = refl
 made-sum (x ∷ made) = omega (arith, made-sum made)
 
-module _ {m : Memory} {seats : List Seat} {made : List MadeArea} {files : FileList} {kept : Kept} (w : IsWorld m seats made files kept) (whole : AreWhole m) where
+module _ {m : Memory} {seats : List Seat} {made : List MadeArea} {files : FileList} {kept : Kept} (w : IsWorld m seats made files kept)
+    (whole : AreWhole m) where
   abbrev s : Shown
   s = shown_of m seats made files kept
 
@@ -135,4 +143,16 @@ module _ {m : Memory} {seats : List Seat} {made : List MadeArea} {files : FileLi
   pub is-balanced : IsBalanced s
   unfolding fixed_pages
   is-balanced =
-      omega (arith, w.ledger, module-length w, of 0, of 2, of 3, of 4, of 5, slot-lengths m seats w.areas.slots, made-sum (map (made_of m) made), ap (total (λ n. n)) (made-lengths m whole made))
+      omega (
+        arith,
+        w.ledger,
+        module-length w,
+        of 0,
+        of 2,
+        of 3,
+        of 4,
+        of 5,
+        slot-lengths m seats w.areas.slots,
+        made-sum (map (made_of m) made),
+        ap (total (λ n. n)) (made-lengths m whole made),
+      )

@@ -37,7 +37,8 @@ fixed-more (suc (suc (suc (suc zero)))) l = refl
 fixed-more (suc (suc (suc (suc (suc zero))))) l = refl
 fixed-more (suc (suc (suc (suc (suc (suc i)))))) l = absurd (omega arith)
 
-pub numbers-more : (i : ℕ) (items : List AreaId) (a : AreaId) → a.0 ≡ i → numbers items ≡ take i fixed → i < FIXED_AREAS → numbers (items ++ a ∷ []) ≡ take (i + 1) fixed
+pub numbers-more : (i : ℕ) (items : List AreaId) (a : AreaId) → a.0 ≡ i → numbers items ≡ take i fixed → i < FIXED_AREAS
+    → numbers (items ++ a ∷ []) ≡ take (i + 1) fixed
 numbers-more i items a e so_far l =
     map-append (λ (x : AreaId). x.0) items (a ∷ []) ∙ ap (λ z. z ++ a.0 ∷ []) so_far ∙ ap (λ k. take i fixed ++ k ∷ []) e ∙ fixed-more i l
 
@@ -98,14 +99,16 @@ module _ {m : Memory} {seats : List Seat} {made : List MadeArea} {files : FileLi
       let four : AreDistinct (4 ∷ 5 ∷ []) = ((ne 4 5 (omega arith), tt), (tt, tt)) in
       let three : AreDistinct (3 ∷ 4 ∷ 5 ∷ []) = ((ne 3 4 (omega arith), (ne 3 5 (omega arith), tt)), four) in
       let two : AreDistinct (2 ∷ 3 ∷ 4 ∷ 5 ∷ []) = ((ne 2 3 (omega arith), (ne 2 4 (omega arith), (ne 2 5 (omega arith), tt))), three) in
-      let one : AreDistinct (1 ∷ 2 ∷ 3 ∷ 4 ∷ 5 ∷ []) = ((ne 1 2 (omega arith), (ne 1 3 (omega arith), (ne 1 4 (omega arith), (ne 1 5 (omega arith), tt)))), two) in
+      let one : AreDistinct (1 ∷ 2 ∷ 3 ∷ 4 ∷ 5 ∷ []) =
+      ((ne 1 2 (omega arith), (ne 1 3 (omega arith), (ne 1 4 (omega arith), (ne 1 5 (omega arith), tt)))), two) in
       ((ne 0 1 (omega arith), (ne 0 2 (omega arith), (ne 0 3 (omega arith), (ne 0 4 (omega arith), (ne 0 5 (omega arith), tt))))), one)
 
   all-distinct : AreDistinct ids
   all-distinct =
       subst AreDistinct (sym (append_assoc fixed mades slots))
       (distinct-both fixed (mades ++ slots) fixed-distinct
-      (distinct-both mades slots w.areas.made_apart w.areas.slots_apart (all-placed (λ id. Avoids id slots) mades (λ i id at. avoids-back slot_area mades seats w.areas.beside i id at)))
+      (distinct-both mades slots w.areas.made_apart w.areas.slots_apart (all-placed (λ id. Avoids id slots) mades
+      (λ i id at. avoids-back slot_area mades seats w.areas.beside i id at)))
       (low 0 (omega arith), (low 1 (omega arith), (low 2 (omega arith), (low 3 (omega arith), (low 4 (omega arith), (low 5 (omega arith), tt)))))))
 
   long : length (fixed ++ mades) ≡ 6 + length made
@@ -134,19 +137,22 @@ module _ {m : Memory} {seats : List Seat} {made : List MadeArea} {files : FileLi
       }
 
   -- what is listed
-  pub numbered : (first second all : List AreaId) → numbers first ≡ fixed → second ≡ first ++ map (λ (a : MadeArea). a.area) made → all ≡ second ++ map (λ (s : Seat). s.slot.area) seats → numbers all ≡ ids
+  pub numbered : (first second all : List AreaId) → numbers first ≡ fixed → second ≡ first ++ map (λ (a : MadeArea). a.area) made
+      → all ≡ second ++ map (λ (s : Seat). s.slot.area) seats → numbers all ≡ ids
   numbered first second all e f g =
       let number : AreaId → ℕ = λ a. a.0 in
       ap numbers g ∙ map-append number second (map (λ (s : Seat). s.slot.area) seats)
       ∙ ap (λ l. l ++ numbers (map (λ (s : Seat). s.slot.area) seats))
-      (ap numbers f ∙ map-append number first (map (λ (a : MadeArea). a.area) made) ∙ ap (λ l. l ++ numbers (map (λ (a : MadeArea). a.area) made)) e ∙ ap (λ l. fixed ++ l) (map-twice number (λ (a : MadeArea). a.area) made))
+      (ap numbers f ∙ map-append number first (map (λ (a : MadeArea). a.area) made) ∙ ap (λ l. l ++ numbers (map (λ (a : MadeArea). a.area) made)) e
+      ∙ ap (λ l. fixed ++ l) (map-twice number (λ (a : MadeArea). a.area) made))
       ∙ ap (λ l. (fixed ++ mades) ++ l) (map-twice number (λ (s : Seat). s.slot.area) seats)
 
   -- there is room for all
   pub room-made : (first : List AreaId) → numbers first ≡ fixed → length first + length made ≤ MAX_AREAS
   room-made first e = omega (arith, ap length e, length-map first (λ (a : AreaId). a.0), few-made w)
 
-  pub room-slots : (first second : List AreaId) → numbers first ≡ fixed → second ≡ first ++ map (λ (a : MadeArea). a.area) made → length second + length seats ≤ MAX_AREAS
+  pub room-slots : (first second : List AreaId) → numbers first ≡ fixed → second ≡ first ++ map (λ (a : MadeArea). a.area) made
+      → length second + length seats ≤ MAX_AREAS
   room-slots first second e f =
       omega (
         arith,

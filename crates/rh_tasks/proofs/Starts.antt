@@ -51,7 +51,8 @@ module _ {m : Memory} {seats : List Seat} {made : List MadeArea} {files : FileLi
   module _ (unused : list_any (is_named name) seats ≡ false) where
     pub too-many : most_tasks ≤ length seats → start_task d name buffer manner ≡ Err TooManyTasks
     unfolding start_task
-    too-many many = past _ _ _ (sym (named-any m name seats) ∙ unused) (stops _ _ _ (le-true most_tasks (length (map (task_of m) seats)) (omega (arith, many, length-map seats (task_of m)))))
+    too-many many = past _ _ _ (sym (named-any m name seats) ∙ unused) (stops _ _ _
+        (le-true most_tasks (length (map (task_of m) seats)) (omega (arith, many, length-map seats (task_of m)))))
 
     module _ (few : length seats < most_tasks) where
       few-tasks : length (map (task_of m) seats) < most_tasks
@@ -63,13 +64,15 @@ module _ {m : Memory} {seats : List Seat} {made : List MadeArea} {files : FileLi
 
       pub no-handles : 2 ^ 32 ≤ kept.next.handle → start_task d name buffer manner ≡ Err NoHandles
       unfolding start_task
-      no-handles used = past _ _ _ (sym (named-any m name seats) ∙ unused) (past _ _ _ (le-false most_tasks _ few-tasks) (stops _ _ _ (le-true (2 ^ 32) kept.next.handle used)))
+      no-handles used = past _ _ _ (sym (named-any m name seats) ∙ unused)
+          (past _ _ _ (le-false most_tasks _ few-tasks) (stops _ _ _ (le-true (2 ^ 32) kept.next.handle used)))
 
       module _ (some : kept.next.handle < 2 ^ 32) where
         pub no-room : {r : Refusal} → Err r ≡ outcome_of (plain.slot_begin m.free) → start_task d name buffer manner ≡ Err r
         unfolding start_task
         no-room e =
-            past _ _ _ (sym (named-any m name seats) ∙ unused) (past _ _ _ (le-false most_tasks _ few-tasks) (past _ _ _ (le-false (2 ^ 32) kept.next.handle some)
+            past _ _ _ (sym (named-any m name seats) ∙ unused) (past _ _ _ (le-false most_tasks _ few-tasks)
+            (past _ _ _ (le-false (2 ^ 32) kept.next.handle some)
             (ends _ (ap plain.slot_begin (free-is w) ∙ done-refused (plain.slot_begin m.free) e))))
 
         module _ {n : Memory} (slot : Slot) (is : slot_in n slot ≡ plain.new_slot) (begins_so : Ok tt ≡ outcome_of (plain.slot_begin m.free))
@@ -83,11 +86,20 @@ module _ {m : Memory} {seats : List Seat} {made : List MadeArea} {files : FileLi
           pub start-done : start_task d name buffer manner ≡ Ok (desk_of n (seats ++ seat ∷ []) made files then, reply.Started kept.next.handle)
           unfolding start_task task_of
           start-done =
-              past _ _ _ (sym (named-any m name seats) ∙ unused) (past _ _ _ (le-false most_tasks _ few-tasks) (past _ _ _ (le-false (2 ^ 32) kept.next.handle some)
+              past _ _ _ (sym (named-any m name seats) ∙ unused) (past _ _ _ (le-false most_tasks _ few-tasks)
+              (past _ _ _ (le-false (2 ^ 32) kept.next.handle some)
               (begins _ (ap plain.slot_begin (free-is w) ∙ begun m.free begins_so)
               (granted-same (sym (joined-desk seat w none low only still (kept.next.handle + 1)
-              ∙ ap (λ (s : plain.Slot). let e : Desk = record (desk_of n (seats ++ seat ∷ []) made files then) { tasks = map (task_of m) seats ++ record (task_of n seat) { slot = s } ∷ []; post = post.post_join kept.next.handle d.post; areas = d.areas; made = d.made; pool = d.pool; scrap = d.scrap } in e) is)) refl))))
+              ∙ ap (λ (s : plain.Slot). let e : Desk = record (desk_of n (seats ++ seat ∷ []) made files then) {
+                tasks = map (task_of m) seats ++ record (task_of n seat) { slot = s } ∷ [];
+                post = post.post_join kept.next.handle d.post;
+                areas = d.areas;
+                made = d.made;
+                pool = d.pool;
+                scrap = d.scrap;
+              } in e) is)) refl))))
 
-          pub start-world : (IsQueue n the_module kept.queue → IsQueue n the_module (joined kept.next.handle kept.queue)) → in_range (command.Task name buffer manner) ≡ true
-              → IsWorld n (seats ++ seat ∷ []) made files then
-          start-world joins ranged = joined-world seat w none low only still (kept.next.handle + 1) joins (granted-keeps d _ (command.Task name buffer manner) (reply.Started kept.next.handle) start-done ranged w.desk)
+          pub start-world : (IsQueue n the_module kept.queue → IsQueue n the_module (joined kept.next.handle kept.queue))
+              → in_range (command.Task name buffer manner) ≡ true → IsWorld n (seats ++ seat ∷ []) made files then
+          start-world joins ranged = joined-world seat w none low only still (kept.next.handle + 1) joins
+              (granted-keeps d _ (command.Task name buffer manner) (reply.Started kept.next.handle) start-done ranged w.desk)

@@ -25,8 +25,8 @@ steps-from c old new said e r d alike =
     let both = order-ignored d old c alike in
     (sym both.reply ∙ e, reordered-trans both.desks r)
 
-equal-steps : (granted : Granted Answer) (old new : Shown) (result : Result Reply Refusal) (said : Reply) → Gives granted old new result → said ≡ reply_of result
-    → or_else granted (λ refusal. (old.desk, reply.Refused refusal)) ≡ (new.desk, said)
+equal-steps : (granted : Granted Answer) (old new : Shown) (result : Result Reply Refusal) (said : Reply) → Gives granted old new result
+    → said ≡ reply_of result → or_else granted (λ refusal. (old.desk, reply.Refused refusal)) ≡ (new.desk, said)
 unfolding or_else
 equal-steps granted old new (Ok answer) said h s = rw (h, s) refl
 equal-steps granted old new (Err refusal) said h s = rw (h.0, h.1, s) refl
@@ -35,7 +35,8 @@ steps-so : (c : Command) (granted : Granted Answer) (old new : Shown) (result : 
     → Gives granted old new result → said ≡ reply_of result → StepsTo c old.desk new.desk said
 steps-so c granted old new result said same h s =
     let e = ap (λ (g : Granted Answer). or_else g (λ refusal. (old.desk, reply.Refused refusal))) same ∙ equal-steps granted old new result said h s in
-    steps-from c old.desk new.desk said (ap (λ (p : Answer). p.1) e) (subst (IsReordered (step old.desk c).0) (ap (λ (p : Answer). p.0) e) (reordered-refl (step old.desk c).0))
+    steps-from c old.desk new.desk said (ap (λ (p : Answer). p.1) e) (subst (IsReordered (step old.desk c).0) (ap (λ (p : Answer). p.0) e)
+    (reordered-refl (step old.desk c).0))
 
 steps-alike : (c : Command) (granted : Granted Answer) (old new : Shown) (result : Result Reply Refusal) (said : Reply) → change old.desk c ≡ granted
     → GivesAlike granted old new result → said ≡ reply_of result → StepsTo c old.desk new.desk said
@@ -80,8 +81,8 @@ unasked : (c : Command) (old new : Shown) → asks c ≡ false → StaysIfAsked 
 unasked c old new changes q is = absurd (let both : ◌≡◌ {A = Bool} true false = sym (ap asks is) ∙ changes in (cc))
 
 -- a change
-pub stepped : (c : Command) (granted : Granted Answer) (old new : Shown) (result : Result Reply Refusal) (said : Reply) → change old.desk c ≡ granted → asks c ≡ false
-    → Gives granted old new result → said ≡ reply_of result → Does c old new said
+pub stepped : (c : Command) (granted : Granted Answer) (old new : Shown) (result : Result Reply Refusal) (said : Reply) → change old.desk c ≡ granted
+    → asks c ≡ false → Gives granted old new result → said ≡ reply_of result → Does c old new said
 stepped c granted old new result said given changes h s = record {
   steps = steps-so c granted old new result said given h s;
   refused = refused-stays c granted old new result said given h s;
@@ -89,8 +90,8 @@ stepped c granted old new result said given changes h s = record {
 }
 
 -- the same, but for the order of messages to different tasks
-pub stepped-alike : (c : Command) (granted : Granted Answer) (old new : Shown) (result : Result Reply Refusal) (said : Reply) → change old.desk c ≡ granted → asks c ≡ false
-    → GivesAlike granted old new result → said ≡ reply_of result → Does c old new said
+pub stepped-alike : (c : Command) (granted : Granted Answer) (old new : Shown) (result : Result Reply Refusal) (said : Reply) → change old.desk c ≡ granted
+    → asks c ≡ false → GivesAlike granted old new result → said ≡ reply_of result → Does c old new said
 stepped-alike c granted old new result said given changes h s = record {
   steps = steps-alike c granted old new result said given h s;
   refused = refused-alike c granted old new result said given h s;
@@ -98,8 +99,8 @@ stepped-alike c granted old new result said given changes h s = record {
 }
 
 -- a question
-pub asked : (q : Question) (granted : Granted Answer) (world : Shown) (result : Result Reply Refusal) (said : Reply) → change world.desk (command.Ask q) ≡ granted
-    → Gives granted world world result → said ≡ reply_of result → Does (command.Ask q) world world said
+pub asked : (q : Question) (granted : Granted Answer) (world : Shown) (result : Result Reply Refusal) (said : Reply)
+    → change world.desk (command.Ask q) ≡ granted → Gives granted world world result → said ≡ reply_of result → Does (command.Ask q) world world said
 asked q granted world result said given h s = record {
   steps = steps-so (command.Ask q) granted world world result said given h s;
   refused = λ refusal is. refl;

@@ -50,7 +50,8 @@ module _ (d : Desk) (t : Task) (m : Parcel) where
   unfolding take_save
   ends-not e = rw e (refl, reordered-refl d)
 
-  pub ends-some : (new : Desk) (fetch : ℕ) → takes t ≡ true → (x : Desk) × ((accept d t m ≡ Ok (x, outcome.Fetch fetch)) × IsReordered x new) → Ends d t m (outcome.Fetch fetch) new
+  pub ends-some : (new : Desk) (fetch : ℕ) → takes t ≡ true → (x : Desk) × ((accept d t m ≡ Ok (x, outcome.Fetch fetch)) × IsReordered x new)
+      → Ends d t m (outcome.Fetch fetch) new
   unfolding take_save or_else
   ends-some new fetch e a = rw (e, a.1.0) (refl, a.1.1)
 

@@ -36,7 +36,8 @@ use Rattle.rh_tasks.proofs.Reorders.{edit-alike, same-alike}
 
 module _ (P : Task → Type 0) (h : ℕ) (edit : Task → Task) where
   -- what holds of a task and of the edited one
-  after-edit : (tasks : List Task) (i : ℕ) (t : Task) → slice_get tasks i ≡ Some t → P t → P (edit t) → (u : Task) × ((slice_get (edit_task h edit tasks) i ≡ Some u) × P u)
+  after-edit : (tasks : List Task) (i : ℕ) (t : Task) → slice_get tasks i ≡ Some t → P t → P (edit t)
+      → (u : Task) × ((slice_get (edit_task h edit tasks) i ≡ Some u) × P u)
   after-edit [] i t at p q = absurd (cc)
   after-edit (x ∷ tasks) zero t at p q =
       let same : x ≡ t = some-same at in
@@ -46,7 +47,8 @@ module _ (P : Task → Type 0) (h : ℕ) (edit : Task → Task) where
       ]
   after-edit (x ∷ tasks) (suc i) t at p q =
       let rest = after-edit tasks i t at p q in
-      elim (x.handle == h) as (λ b. (u : Task) × ((slice_get (cond b (edit x ∷ tasks) (x ∷ edit_task h edit tasks)) (suc i) ≡ Some u) × P u)) [ true ↦ (t, (at, p)) | false ↦ rest ]
+      elim (x.handle == h) as (λ b. (u : Task) × ((slice_get (cond b (edit x ∷ tasks) (x ∷ edit_task h edit tasks)) (suc i) ≡ Some u) × P u))
+      [ true ↦ (t, (at, p)) | false ↦ rest ]
 
   pub at-edited : (d : Desk) (i : ℕ) (t : Task) → IsAt i t d → P t → P (edit t) → (u : Task) × (IsAt i u (with_task h edit d) × P u)
   unfolding with_task
@@ -66,7 +68,8 @@ pub record Stands (i : ℕ) (t : Task) (d : Desk) : Type 0 where
   pub at : IsAt i task d
   pub like : IsLike t task
 
-pub stands-edited : (d e : Desk) (i h : ℕ) (t : Task) (edit : Task → Task) → e ≡ with_task h edit d → ((u : Task) → IsLike u (edit u)) → IsAt i t d → Stands i t e
+pub stands-edited : (d e : Desk) (i h : ℕ) (t : Task) (edit : Task → Task) → e ≡ with_task h edit d → ((u : Task) → IsLike u (edit u)) → IsAt i t d
+    → Stands i t e
 stands-edited d e i h t edit is like at =
     let u = at-edited (IsLike t) h edit d i t at (like-self t) (like t) in
     record { task = u.0; at = subst (IsAt i u.0) (sym is) u.1.0; like = u.1.1 }
@@ -80,7 +83,8 @@ stands-reordered {d} {e} {i} {t} r s = record { task = s.task; at = ap (λ (x : 
 -- ---- a letter
 
 sent-by : (l : Letter) (d e : Desk) (i : ℕ) (t : Task) (g : Granted (Post × ℕ))
-    → (g >>= λ sent. let r : Granted Desk = Ok (with_task l.from (λ t. record t { last_sent = Some (l, sent.1) }) (with_post sent.0 d)) in r) ≡ Ok e → IsAt i t d → Stands i t e
+    → (g >>= λ sent. let r : Granted Desk = Ok (with_task l.from (λ t. record t { last_sent = Some (l, sent.1) }) (with_post sent.0 d)) in r) ≡ Ok e
+    → IsAt i t d → Stands i t e
 unfolding ◌>>=◌
 sent-by l d e i t (Err r) q at = absurd cc
 sent-by l d e i t (Ok sent) q at =
@@ -98,7 +102,8 @@ abbrev pub dropped : ℕ → ℕ → Desk → Desk
 dropped h buffer d = with_task h (λ t. record t { slot = without_buffer buffer t.slot }) d
 
 pub stands-dropped : (d e : Desk) (i h buffer : ℕ) (t : Task) → e ≡ dropped h buffer d → IsAt i t d → Stands i t e
-stands-dropped d e i h buffer t is at = stands-edited d e i h t (λ t. record t { slot = without_buffer buffer t.slot }) is (λ u. record { handle = refl; buffer = refl }) at
+stands-dropped d e i h buffer t is at =
+    stands-edited d e i h t (λ t. record t { slot = without_buffer buffer t.slot }) is (λ u. record { handle = refl; buffer = refl }) at
 
 -- its buffer goes, and then its records are others
 pub ended-is : (old mid new : Desk) (i : ℕ) (f : Taking) (edit : List Incoming → List Incoming) (t : Task) → IsAt i t old → mid ≡ dropped t.handle f.buffer old
@@ -114,7 +119,8 @@ pub handles-as : {after : Handled} {o : Outcome} (new : Shown) (d : Desk) → af
 handles-as {after} {o} new d q r = let P : Handled → Type 0 = λ a. Handles a new o in subst P (sym q) (refl, r)
 
 -- the transfer has failed, where nothing changed before
-pub failed-as : {after : Handled} {o : Outcome} (old : Desk) (mid new : Shown) (i : ℕ) (t : Task) (f : Taking) (count : ℕ) → after ≡ (end_failed t.handle f count old, o) → IsAt i t old → mid.desk ≡ old
+pub failed-as : {after : Handled} {o : Outcome} (old : Desk) (mid new : Shown) (i : ℕ) (t : Task) (f : Taking) (count : ℕ)
+    → after ≡ (end_failed t.handle f count old, o) → IsAt i t old → mid.desk ≡ old
     → ((u : Task) → IsAt i u mid.desk → new.desk ≡ end_failed u.handle f count mid.desk) → Handles after new o
 failed-as old mid new i t f count q at same ended =
     let there : IsAt i t mid.desk = subst (IsAt i t) (sym same) at in
@@ -145,11 +151,13 @@ ack-from l h to your_ref e = ap (λ (x : Letter). x.from) e
 -- ---- more bytes are asked for
 
 module _ (f : Taking) (n : ℕ) {old : Desk} {i : ℕ} {t : Task} {m : Parcel} {message : Message} {letter : Letter} {h room : ℕ}
-    (for : IsFor i t old m message) (handle : h ≡ t.handle) (buffer : room ≡ t.buffer) (letter-is : letter ≡ fetch_letter h f.sender message.my_ref f.buffer room) where
+    (for : IsFor i t old m message) (handle : h ≡ t.handle) (buffer : room ≡ t.buffer)
+    (letter-is : letter ≡ fetch_letter h f.sender message.my_ref f.buffer room) where
   the-fetch : send_letter letter old ≡ send_letter (fetch_letter t.handle f.sender m.message.my_ref f.buffer t.buffer) old
   the-fetch =
       ap (λ l. send_letter l old)
-      (letter-is ∙ ap (λ k. fetch_letter k f.sender message.my_ref f.buffer room) handle ∙ ap (λ k. fetch_letter t.handle f.sender message.my_ref f.buffer k) buffer
+      (letter-is ∙ ap (λ k. fetch_letter k f.sender message.my_ref f.buffer room) handle
+      ∙ ap (λ k. fetch_letter t.handle f.sender message.my_ref f.buffer k) buffer
       ∙ ap (λ (x : Message). fetch_letter t.handle f.sender x.my_ref f.buffer t.buffer) (sym for.message_is))
 
   pub fetch-refused : {r : Refusal} → send_letter letter old ≡ Err r → fetch_more old t m f n ≡ Err r
@@ -166,7 +174,10 @@ module _ (f : Taking) (n : ℕ) {old : Desk} {i : ℕ} {t : Task} {m : Parcel} {
       let is : new ≡ with_taking t.handle (receiver.fetched f n fetch) mid =
       recorded s.task s.at ∙ ap (λ k. with_taking k (receiver.fetched f n fetch) mid) s.like.handle in (
         with_taking t.handle (receiver.fetched f n fetch) d,
-        (begins _ (sym the-fetch ∙ q) (ap then (sym ref)), subst (IsReordered _) (sym is) (edit-alike t.handle (λ t. record t { taking = receiver.fetched f n fetch t.taking }) r)),
+        (
+          begins _ (sym the-fetch ∙ q) (ap then (sym ref)),
+          subst (IsReordered _) (sym is) (edit-alike t.handle (λ t. record t { taking = receiver.fetched f n fetch t.taking }) r),
+        ),
       )
 
 -- ---- bytes were taken
@@ -178,7 +189,8 @@ module _ (d : Desk) (t : Task) (m : Parcel) (f : Taking) (n : ℕ) where
       ap (λ b. cond b (ended t.handle f (receiver.finished f n) d, outcome.TookLast n)
       (or_else (fetch_more d t m f n) (λ refusal. (end_failed t.handle f (f.count + n) d, outcome.TookFailed n refusal)))) e
 
-  took-full : nat_lt n t.buffer ≡ false → took d t m f n ≡ or_else (fetch_more d t m f n) (λ refusal. (end_failed t.handle f (f.count + n) d, outcome.TookFailed n refusal))
+  took-full : nat_lt n t.buffer ≡ false
+      → took d t m f n ≡ or_else (fetch_more d t m f n) (λ refusal. (end_failed t.handle f (f.count + n) d, outcome.TookFailed n refusal))
   unfolding took
   took-full e =
       ap (λ b. cond b (ended t.handle f (receiver.finished f n) d, outcome.TookLast n)
@@ -188,7 +200,8 @@ module _ (d : Desk) (t : Task) (m : Parcel) (f : Taking) (n : ℕ) where
   unfolding or_else
   took-more x e q = took-full e ∙ ap (λ g. or_else g (λ refusal. (end_failed t.handle f (f.count + n) d, outcome.TookFailed n refusal))) q
 
-  pub took-failed : (r : Refusal) → nat_lt n t.buffer ≡ false → fetch_more d t m f n ≡ Err r → took d t m f n ≡ (end_failed t.handle f (f.count + n) d, outcome.TookFailed n r)
+  pub took-failed : (r : Refusal) → nat_lt n t.buffer ≡ false → fetch_more d t m f n ≡ Err r
+      → took d t m f n ≡ (end_failed t.handle f (f.count + n) d, outcome.TookFailed n r)
   unfolding or_else
   took-failed r e q = took-full e ∙ ap (λ g. or_else g (λ refusal. (end_failed t.handle f (f.count + n) d, outcome.TookFailed n refusal))) q
 
@@ -198,7 +211,8 @@ module _ (d : Desk) (t : Task) (m : Parcel) (f : Taking) (n : ℕ) where
   took-like u like =
       ap (λ h. took d (record t { handle = h; buffer = u.buffer }) m f n) like.handle ∙ ap (λ b. took d (record t { buffer = b }) m f n) like.buffer
 
-pub took-ended : (old mid : Desk) (new : Shown) (i : ℕ) (t : Task) (m : Parcel) (f : Taking) (n : ℕ) → nat_lt n t.buffer ≡ true → IsAt i t old → mid ≡ dropped t.handle f.buffer old
+pub took-ended : (old mid : Desk) (new : Shown) (i : ℕ) (t : Task) (m : Parcel) (f : Taking) (n : ℕ) → nat_lt n t.buffer ≡ true → IsAt i t old
+    → mid ≡ dropped t.handle f.buffer old
     → ((u : Task) → IsAt i u mid → new.desk ≡ with_taking u.handle (receiver.finished f n) mid) → Handles (took old t m f n) new (outcome.TookLast n)
 took-ended old mid new i t m f n e at is recorded =
     handles-as new (ended t.handle f (receiver.finished f n) old) (took-last old t m f n e)
@@ -226,7 +240,8 @@ module _ (d : Desk) (t : Task) (m : Parcel) (f : Taking) (n : ℕ) where
   unfolding take_bytes ◌>>=◌ refuse_if or_else
   taken-uncounted e = ap (λ b. or_else (refuse_if b NoRoom >>= λ _. appended d t f.anchor xs >>= λ longer. Ok (took longer t m f n)) failed) e
 
-  taken-counted : is_uncountable f n ≡ false → take_bytes d t m n (Some (incoming.Fetching f)) ≡ or_else (appended d t f.anchor xs >>= λ longer. Ok (took longer t m f n)) failed
+  taken-counted : is_uncountable f n ≡ false
+      → take_bytes d t m n (Some (incoming.Fetching f)) ≡ or_else (appended d t f.anchor xs >>= λ longer. Ok (took longer t m f n)) failed
   unfolding take_bytes ◌>>=◌ refuse_if
   taken-counted e = ap (λ b. or_else (refuse_if b NoRoom >>= λ _. appended d t f.anchor xs >>= λ longer. Ok (took longer t m f n)) failed) e
 
@@ -234,13 +249,16 @@ module _ (d : Desk) (t : Task) (m : Parcel) (f : Taking) (n : ℕ) where
   unfolding ◌>>=◌ or_else
   taken-refused r e q = taken-counted e ∙ ap (λ g. or_else (g >>= λ longer. Ok (took longer t m f n)) failed) q
 
-  pub taken-more : (longer : Desk) → is_uncountable f n ≡ false → appended d t f.anchor xs ≡ Ok longer → take_bytes d t m n (Some (incoming.Fetching f)) ≡ took longer t m f n
+  pub taken-more : (longer : Desk) → is_uncountable f n ≡ false → appended d t f.anchor xs ≡ Ok longer
+      → take_bytes d t m n (Some (incoming.Fetching f)) ≡ took longer t m f n
   unfolding ◌>>=◌ or_else
   taken-more longer e q = taken-counted e ∙ ap (λ g. or_else (g >>= λ longer. Ok (took longer t m f n)) failed) q
 
-pub taken-on : {o : Outcome} {message : Message} (old : Desk) (longer mid new : Shown) (i : ℕ) (t : Task) (m : Parcel) (f : Taking) (n : ℕ) → IsFor i t old m message → f.count + n < 2 ^ 32
+pub taken-on : {o : Outcome} {message : Message} (old : Desk) (longer mid new : Shown) (i : ℕ) (t : Task) (m : Parcel) (f : Taking) (n : ℕ)
+    → IsFor i t old m message → f.count + n < 2 ^ 32
     → appended old t f.anchor (first_bytes n (heap_block_at f.buffer t.slot)) ≡ Ok longer.desk → mid ≡ longer
-    → ((u : Task) (p : Parcel) → IsFor i u mid.desk p message → Handles (took mid.desk u p f n) new o) → Handles (take_bytes old t m n (Some (incoming.Fetching f))) new o
+    → ((u : Task) (p : Parcel) → IsFor i u mid.desk p message → Handles (took mid.desk u p f n) new o)
+    → Handles (take_bytes old t m n (Some (incoming.Fetching f))) new o
 taken-on {o} old longer mid new i t m f n for small done same h =
     let q : appended old t f.anchor (first_bytes n (heap_block_at f.buffer t.slot)) ≡ Ok mid.desk =
     subst (λ (x : Shown). appended old t f.anchor (first_bytes n (heap_block_at f.buffer t.slot)) ≡ Ok x.desk) (sym same) done in
@@ -258,7 +276,8 @@ uncounted {o} v a b s e = let no : a < b → ⊥ = (let Q : Option ℕ → Type 
 
 -- ---- a file is asked for
 
-module _ (f : Taking) (old : Desk) (i : ℕ) {t : Task} {letter : Letter} {h : ℕ} (at : IsAt i t old) (handle : h ≡ t.handle) (letter-is : letter ≡ ack_letter h f.sender f.id) where
+module _ (f : Taking) (old : Desk) (i : ℕ) {t : Task} {letter : Letter} {h : ℕ} (at : IsAt i t old) (handle : h ≡ t.handle)
+    (letter-is : letter ≡ ack_letter h f.sender f.id) where
   the-ack : send_letter letter old ≡ send_letter (ack_letter t.handle f.sender f.id) old
   the-ack = ap (λ l. send_letter l old) (letter-is ∙ ap (λ k. ack_letter k f.sender f.id) handle)
 
@@ -275,7 +294,8 @@ module _ (f : Taking) (old : Desk) (i : ℕ) {t : Task} {letter : Letter} {h : �
       let s = stands-sent letter old d i t q r at in
       let then : ℕ → Granted Handled = λ k. Ok (ended t.handle f (receiver.asking f k) d, outcome.Asked k) in
       let end : new ≡ ended t.handle f (receiver.asking f ref) mid =
-      ended-is mid next new i f (receiver.asking f ref) s.task s.at (drop s.task s.at) recorded ∙ ap (λ k. ended k f (receiver.asking f ref) mid) s.like.handle in (
+      ended-is mid next new i f (receiver.asking f ref) s.task s.at (drop s.task s.at) recorded
+      ∙ ap (λ k. ended k f (receiver.asking f ref) mid) s.like.handle in (
         ended t.handle f (receiver.asking f ref) d,
         (
           begins _ (sym the-ack ∙ q) (ap then (sym is)),

@@ -31,8 +31,8 @@ abbrev say : {A : Type 0} → (A → Reply) → Granted A → Granted Reply
 say f (Ok x) = Ok (f x)
 say f (Err refusal) = Err refusal
 
-same-first : {A : Type 0} (f : A → Reply) (g : Granted Task) (whole : Task → Granted Told) (one : Task → Granted A) → ((t : Task) → first_told (whole t) ≡ say f (one t))
-    → first_told (g >>= whole) ≡ say f (g >>= one)
+same-first : {A : Type 0} (f : A → Reply) (g : Granted Task) (whole : Task → Granted Told) (one : Task → Granted A)
+    → ((t : Task) → first_told (whole t) ≡ say f (one t)) → first_told (g >>= whole) ≡ say f (g >>= one)
 unfolding ◌>>=◌
 same-first f (Ok t) whole one h = h t
 same-first f (Err refusal) whole one h = refl
@@ -73,11 +73,13 @@ module _ (d : Desk) (name : List ℕ) where
   status-told = same-first said_handle (named name d) _ _ λ t. refl
 
   -- what is told of a reader's result
-  pub show-said : (k : ℕ) (r : Result ℕ Refusal) (old new : List ℕ) → MatchResult (shown_at d name k 0 0) (λ p. (r ≡ Ok p.0) × (new ≡ p.1)) (λ e. (r ≡ Err e) × (new ≡ old))
+  pub show-said : (k : ℕ) (r : Result ℕ Refusal) (old new : List ℕ)
+      → MatchResult (shown_at d name k 0 0) (λ p. (r ≡ Ok p.0) × (new ≡ p.1)) (λ e. (r ≡ Err e) × (new ≡ old))
       → say (λ n. reply.Shown n) r ≡ first_told (show d name k)
   show-said k r old new a = go (shown_at d name k 0 0) (show-told k) a
     where
-      go : (g : Granted (ℕ × List ℕ)) → first_told (show d name k) ≡ say said_size g → MatchResult g (λ p. (r ≡ Ok p.0) × (new ≡ p.1)) (λ e. (r ≡ Err e) × (new ≡ old)) → say (λ n. reply.Shown n) r ≡ first_told (show d name k)
+      go : (g : Granted (ℕ × List ℕ)) → first_told (show d name k) ≡ say said_size g
+          → MatchResult g (λ p. (r ≡ Ok p.0) × (new ≡ p.1)) (λ e. (r ≡ Err e) × (new ≡ old)) → say (λ n. reply.Shown n) r ≡ first_told (show d name k)
       go (Ok p) e a = rw (a.0, e) refl
       go (Err x) e a = rw (a.0, e) refl
 

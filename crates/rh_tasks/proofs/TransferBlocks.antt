@@ -42,7 +42,8 @@ use Rattle.rh_tasks.proofs.Slides.{at-task, seat-slot, seat-at, slides-desk, sli
 
 -- ---- where the bytes stand
 
-held-at : (b : List ℕ) (s : plain.Slot) (x n : ℕ) → SpellsSlot b s → Holder s x n → (slot_start ≤ x) × Standing b (bytes_held x n s) (x - slot_start) n 0 (length b)
+held-at : (b : List ℕ) (s : plain.Slot) (x n : ℕ) → SpellsSlot b s → Holder s x n
+    → (slot_start ≤ x) × Standing b (bytes_held x n s) (x - slot_start) n 0 (length b)
 held-at b s x n k (flex_holder cut offset f is e h) =
     let found = cut_found s cut.here.anchor cut is refl (HaveAnchors-cut cut.before cut.here cut.after (subst plain.HaveAnchors is k.words.anchors)).before in
     let inside = found.inside in
@@ -52,7 +53,8 @@ held-at b s x n k (flex_holder cut offset f is e h) =
       omega arith,
       record {
         is = ap (λ o. bytes_around x n s o) f ∙ ap (λ i. take n (drop i cut.here.bytes)) same
-            ∙ sym (read_bytes b s cut.here.anchor (flex_place s + total weight cut.before) (length cut.here.bytes) offset n cut k.words found h) ∙ ap (λ p. part b p n) place;
+            ∙ sym (read_bytes b s cut.here.anchor (flex_place s + total weight cut.before) (length cut.here.bytes) offset n cut k.words found h)
+            ∙ ap (λ p. part b p n) place;
         low = omega arith;
         high = omega arith;
       },
@@ -87,7 +89,8 @@ apart-from x y n e = elim (cases_lt x (y + n)) [
   | inr l ↦ inr l
   | inl l ↦ elim (cases_lt y (x + n)) [
     | inr k ↦ inl k
-    | inl k ↦ absurd (let some = lt-true 0 n (omega arith) in let low = lt-true x (y + n) l in let high = lt-true y (x + n) k in false-true (sym e ∙ rw (some, low, high) refl))
+    | inl k ↦ absurd (let some = lt-true 0 n (omega arith) in let low = lt-true x (y + n) l in let high = lt-true y (x + n) k in
+        false-true (sym e ∙ rw (some, low, high) refl))
   ]
 ]
 
@@ -188,15 +191,18 @@ module _ {m : Memory} {seats : List Seat} {made : List MadeArea} {files : FileLi
 
       pub colliding : (from == to && overlap x n y n) ≡ true → transferred d from x to y n ≡ Err BadRange
       unfolding transferred found_or task_of
-      colliding e = begins _ (ap (λ o. found_or o NoTask) (a-task a)) (begins _ (ap (λ o. found_or o NoTask) (a-task b)) (past _ BadRange _ within (stops _ BadRange _ e)))
+      colliding e = begins _ (ap (λ o. found_or o NoTask) (a-task a)) (begins _ (ap (λ o. found_or o NoTask) (a-task b))
+          (past _ BadRange _ within (stops _ BadRange _ e)))
 
       pub reach : (is_some (buffer_at y n (slot_in m r.slot)) || holds y n (slot_in m r.slot)) ≡ true
       reach = or-right _ _ rh
 
       module _ (e : (from == to && overlap x n y n) ≡ false) where
-        is-granted : transferred d from x to y n ≡ Ok (with_slot to (written_in y (bytes_held x n (slot_in m s.slot)) (buffer_at y n (slot_in m r.slot)) (slot_in m r.slot)) d)
+        is-granted : transferred d from x to y n ≡ Ok (with_slot to (written_in y (bytes_held x n (slot_in m s.slot)) (buffer_at y n (slot_in m r.slot))
+            (slot_in m r.slot)) d)
         unfolding transferred found_or task_of
-        is-granted = begins _ (ap (λ o. found_or o NoTask) (a-task a)) (begins _ (ap (λ o. found_or o NoTask) (a-task b)) (past _ BadRange _ within (past _ BadRange _ e refl)))
+        is-granted = begins _ (ap (λ o. found_or o NoTask) (a-task a)) (begins _ (ap (λ o. found_or o NoTask) (a-task b))
+            (past _ BadRange _ within (past _ BadRange _ e refl)))
 
         -- in one slot the two ranges are apart
         pub apart : s.slot.area.0 ≡ r.slot.area.0 → (x - slot_start + n ≤ y - slot_start) ⊎ (y - slot_start + n ≤ x - slot_start)
@@ -208,7 +214,8 @@ module _ {m : Memory} {seats : List Seat} {made : List MadeArea} {files : FileLi
             let low2 = (held-part m r.slot y n (seat-slot w b.at) rh).0 in
             elim (apart-from x y n over) [ inl l ↦ inl (omega arith) | inr l ↦ inr (omega arith) ]
 
-        module _ {k : Memory} (l : Leaves m k r.slot (no_answer (Ok (written_in y (part (bytes m s.slot.area.0) (x - slot_start) n) (buffer_at y n (slot_in m r.slot)) (slot_in m r.slot)))) (Ok tt)) where
+        module _ {k : Memory} (l : Leaves m k r.slot (no_answer (Ok (written_in y (part (bytes m s.slot.area.0) (x - slot_start) n)
+            (buffer_at y n (slot_in m r.slot)) (slot_in m r.slot)))) (Ok tt)) where
           now : written_in y (part (bytes m s.slot.area.0) (x - slot_start) n) (buffer_at y n (slot_in m r.slot)) (slot_in m r.slot) ≡ slot_in k r.slot
           now = ok-same (changed l)
 
@@ -225,4 +232,5 @@ module _ {m : Memory} {seats : List Seat} {made : List MadeArea} {files : FileLi
               let task = at-task d j (task_of m r) w.desk (seat-at w b.at) in
               let len = length-part (bytes m s.slot.area.0) (x - slot_start) n in
               let kept = written_in-kept y n (part (bytes m s.slot.area.0) (x - slot_start) n) (slot_in m r.slot) (omega arith) task.slot in
-              slides-world w b.at (slid l) (subst (IsRoomed (free_pages d) (slot_in m r.slot)) now (record { room = omega (arith, kept.pages); slot = kept.slot }))
+              slides-world w b.at (slid l) (subst (IsRoomed (free_pages d) (slot_in m r.slot)) now
+              (record { room = omega (arith, kept.pages); slot = kept.slot }))

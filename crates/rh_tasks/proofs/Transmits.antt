@@ -109,7 +109,8 @@ portion-seen {t} {u} {x} e p =
       length_is = p.length_is;
     }
 
-block-seen : (t u : Task) {x : Sending} {amount address n : ℕ} → pair_of u ≡ pair_of t → (p : IsPortion t x amount address n) → slot_block x.anchor u.slot ≡ Ok p.source
+block-seen : (t u : Task) {x : Sending} {amount address n : ℕ} → pair_of u ≡ pair_of t → (p : IsPortion t x amount address n)
+    → slot_block x.anchor u.slot ≡ Ok p.source
 block-seen t u {x} e p = subst (λ s. slot_block x.anchor s ≡ Ok p.source) (ap (λ (q : ℕ × plain.Slot). q.1) (sym e)) p.block
 
 pub reach-seen : (t u r s : Task) (buffer amount address n : ℕ) → pair_of u ≡ pair_of t → pair_of s ≡ pair_of r
@@ -157,8 +158,10 @@ module _ (d : Desk) (t : Task) (m : Parcel) (buffer amount : ℕ) (x : Sending) 
       unfolding found_or
       there = ap (λ o. found_or o NoTask) found
 
-      out-same : is_out_of_reach t r buffer amount (flex_address t.slot p.source.before + x.count) (portion x amount p.source) ≡ is_out_of_reach t r buffer amount address n
-      out-same = ap (λ a. is_out_of_reach t r buffer amount a (portion x amount p.source)) (sym p.address_is) ∙ ap (λ k. is_out_of_reach t r buffer amount address k) (sym p.length_is)
+      out-same : is_out_of_reach t r buffer amount (flex_address t.slot p.source.before + x.count) (portion x amount p.source) ≡ is_out_of_reach t r buffer
+          amount address n
+      out-same = ap (λ a. is_out_of_reach t r buffer amount a (portion x amount p.source)) (sym p.address_is)
+          ∙ ap (λ k. is_out_of_reach t r buffer amount address k) (sym p.length_is)
 
       pub transmit-far : true ≡ is_out_of_reach t r buffer amount address n → given ≡ Err BadRange
       unfolding transmit
@@ -176,7 +179,8 @@ module _ (d : Desk) (t : Task) (m : Parcel) (buffer amount : ℕ) (x : Sending) 
 
         pub transmit-refused : {e : Refusal} → send_letter (letter_of n) d ≡ Err e → given ≡ Err e
         unfolding transmit
-        transmit-refused q = inside ∙ begins _ there (past _ BadRange _ (out-same ∙ sym near) (ends _ (ap (λ k. send_letter (letter_of k) d) (sym p.length_is) ∙ q)))
+        transmit-refused q =
+            inside ∙ begins _ there (past _ BadRange _ (out-same ∙ sym near) (ends _ (ap (λ k. send_letter (letter_of k) d) (sym p.length_is) ∙ q)))
 
         transmit-done : {sent : Desk} → send_letter (letter_of n) d ≡ Ok sent → given ≡ Ok (after_sent n (next_ref d) sent)
         unfolding transmit
@@ -203,11 +207,13 @@ module _ (d : Desk) (t : Task) (m : Parcel) (buffer amount : ℕ) (x : Sending) 
 -- ---- the handlers
 
 module _ (d : Desk) (t : Task) (x : Sending) where
-  pub fetch-done : (m : Parcel) (buffer amount : ℕ) {after : Handled} → transmitted d t m buffer amount x ≡ Ok after → answer_fetch d t m buffer amount (Some x) ≡ after
+  pub fetch-done : (m : Parcel) (buffer amount : ℕ) {after : Handled} → transmitted d t m buffer amount x ≡ Ok after
+      → answer_fetch d t m buffer amount (Some x) ≡ after
   unfolding answer_fetch or_else
   fetch-done m buffer amount e = rw e refl
 
-  pub fetch-refused : (m : Parcel) (buffer amount : ℕ) {r : Refusal} → transmitted d t m buffer amount x ≡ Err r → answer_fetch d t m buffer amount (Some x) ≡ refused d t x r
+  pub fetch-refused : (m : Parcel) (buffer amount : ℕ) {r : Refusal} → transmitted d t m buffer amount x ≡ Err r
+      → answer_fetch d t m buffer amount (Some x) ≡ refused d t x r
   unfolding answer_fetch or_else
   fetch-refused m buffer amount e = rw e refl
 

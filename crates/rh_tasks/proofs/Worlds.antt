@@ -20,13 +20,15 @@ use Rattle.rh_tasks.specs.declared.seat.Seat.{Seat}
 use Rattle.rh_tasks.specs.declared.made.MadeArea.{MadeArea}
 use Rattle.rh_tasks.specs.View.{Kept, task_of, made_of, made_number, desk_of, Avoids, AreDistinct, IsWorld}
 
-above-avoids : {A B : Type 0} (number : B → ℕ) (f : A → B) (key : A → ℕ) → ((x : A) → number (f x) ≡ key x) → (least next k : ℕ) (xs : List A) → k < least → Rise number least next (map f xs) → Avoids k (map key xs)
+above-avoids : {A B : Type 0} (number : B → ℕ) (f : A → B) (key : A → ℕ) → ((x : A) → number (f x) ≡ key x) → (least next k : ℕ) (xs : List A) → k < least
+    → Rise number least next (map f xs) → Avoids k (map key xs)
 above-avoids number f key is least next k [] low up = tt
 above-avoids number f key is least next k (x ∷ xs) low up =
     ((λ q. absurd (omega (arith, up.0, is x))), above-avoids number f key is (number (f x) + 1) next k xs (omega (arith, up.0)) up.1)
 
 -- numbers that go up are distinct
-pub rise-distinct : {A B : Type 0} (number : B → ℕ) (f : A → B) (key : A → ℕ) → ((x : A) → number (f x) ≡ key x) → (least next : ℕ) (xs : List A) → Rise number least next (map f xs) → AreDistinct (map key xs)
+pub rise-distinct : {A B : Type 0} (number : B → ℕ) (f : A → B) (key : A → ℕ) → ((x : A) → number (f x) ≡ key x) → (least next : ℕ) (xs : List A)
+    → Rise number least next (map f xs) → AreDistinct (map key xs)
 rise-distinct number f key is least next [] up = tt
 rise-distinct number f key is least next (x ∷ xs) up =
     (above-avoids number f key is (number (f x) + 1) next (key x) xs (omega (arith, is x)) up.1, rise-distinct number f key is (number (f x) + 1) next xs up.1)
@@ -53,8 +55,8 @@ module _ {m : Memory} {seats : List Seat} {made : List MadeArea} {files : FileLi
   few-seats = omega (arith, w.desk.few, length-map seats (task_of m))
 
 -- numbers that go up stay below the next one
-pub rise-below : {A B : Type 0} (number : B → ℕ) (f : A → B) (key : A → ℕ) → ((x : A) → number (f x) ≡ key x) → (least next : ℕ) (xs : List A) → Rise number least next (map f xs)
-    → (least ≤ next) × Avoids next (map key xs)
+pub rise-below : {A B : Type 0} (number : B → ℕ) (f : A → B) (key : A → ℕ) → ((x : A) → number (f x) ≡ key x) → (least next : ℕ) (xs : List A)
+    → Rise number least next (map f xs) → (least ≤ next) × Avoids next (map key xs)
 rise-below number f key is least next [] up = (up, tt)
 rise-below number f key is least next (x ∷ xs) up =
     let rest = rise-below number f key is (number (f x) + 1) next xs up.1 in
@@ -66,7 +68,8 @@ unfolding or_else
 granted-keeps d new c said e ranged is =
     subst IsDesk (ap (λ (r : Granted Answer). (or_else r (λ refusal. (d, reply.Refused refusal))).0) e) (step-keeps d c ranged is)
 
-pub same-desk : {tasks tasks' : List Task} {post post' : post.Post} {areas areas' : List ℕ} {made made' : List Made} {pool pool' : ℕ} {scrap scrap' : Option Scrap} (d : Desk)
+pub same-desk : {tasks tasks' : List Task} {post post' : post.Post} {areas areas' : List ℕ} {made made' : List Made} {pool pool' : ℕ}
+    {scrap scrap' : Option Scrap} (d : Desk)
     → tasks ≡ tasks' → post ≡ post' → areas ≡ areas' → made ≡ made' → pool ≡ pool' → scrap ≡ scrap'
     → (let x : Desk = record d { tasks = tasks; post = post; areas = areas; made = made; pool = pool; scrap = scrap } in x)
     ≡ (let y : Desk = record d { tasks = tasks'; post = post'; areas = areas'; made = made'; pool = pool'; scrap = scrap' } in y)

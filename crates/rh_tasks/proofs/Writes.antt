@@ -68,7 +68,8 @@ module _ {m n : Memory} {seats : List Seat} {made : List MadeArea} {files : File
   written-desk = ap (λ (x : List Seat). desk_of n x made files kept) (sym same) ∙ moved-desk w at moves
 
   written-is : IsDesk (desk_of n (set seats j s) made files kept)
-  written-is = subst IsDesk (sym (moved-desk w at moves)) (with_task-keeps s.handle edit old (λ r. refl) (λ r slot. written_in-kept address room bytes r.slot few slot) w.desk)
+  written-is = subst IsDesk (sym (moved-desk w at moves)) (with_task-keeps s.handle edit old (λ r. refl)
+      (λ r slot. written_in-kept address room bytes r.slot few slot) w.desk)
 
   pub written-world : IsWorld n seats made files kept
   written-world = subst (λ (x : List Seat). IsWorld n x made files kept) same (moved-world w at moves written-is)
@@ -81,7 +82,8 @@ module _ {m n : Memory} {seats : List Seat} {made : List MadeArea} {files : File
 module _ {m : Memory} {seats : List Seat} {made : List MadeArea} {files : FileList} {kept : Kept} {i j : ℕ} {a b : Seat}
     (w : IsWorld m seats made files kept) (at : Sits seats i a) (bt : Sits seats j b) (x : Sending) (amount address n buffer room place : ℕ)
     (given : (t : Task) → IsAt i t (desk_of m seats made files kept) → IsPortion t x amount address n)
-    (near : (t r : Task) → IsAt i t (desk_of m seats made files kept) → IsAt j r (desk_of m seats made files kept) → is_out_of_reach t r buffer room address n ≡ false)
+    (near : (t r : Task) → IsAt i t (desk_of m seats made files kept) → IsAt j r (desk_of m seats made files kept)
+    → is_out_of_reach t r buffer room address n ≡ false)
     (fits : n ≤ room) (none : n ≡ 0 → place ≡ 0) (some : 0 < n → place ≡ address - 32768) where
   the-portion : IsPortion (task_of m a) x amount address n
   the-portion = given (task_of m a) (mapped-at (task_of m) seats i a at)
@@ -102,7 +104,8 @@ module _ {m : Memory} {seats : List Seat} {made : List MadeArea} {files : FileLi
   pub to-reach : (is_some (buffer_at buffer room (slot_in m b.slot)) || holds buffer room (slot_in m b.slot)) ≡ true
   unfolding task_of
   to-reach =
-      in-reach (is_some (buffer_at buffer room (slot_in m b.slot))) (holds buffer room (slot_in m b.slot)) (a.handle == b.handle && overlap buffer room address n) reached
+      in-reach (is_some (buffer_at buffer room (slot_in m b.slot))) (holds buffer room (slot_in m b.slot))
+      (a.handle == b.handle && overlap buffer room address n) reached
 
   own-apart : i ≡ j → (place + n ≤ buffer - 32768) ⊎ (buffer - 32768 + n ≤ place)
   unfolding task_of
@@ -111,7 +114,8 @@ module _ {m : Memory} {seats : List Seat} {made : List MadeArea} {files : FileLi
       let one : a ≡ b = one-member seats i a b at (subst P (sym e) bt.is) in
       let Q : Seat → Type 0 = λ y. is_out_of_reach (task_of m a) (task_of m y) buffer room address n ≡ false in
       let R : ℕ → Type 0 = λ k. is_out_of_reach (task_of m a) (task_of m a) buffer room k n ≡ false in
-      ranges-apart has ported buffer room fits (a.handle == a.handle) (test-same a.handle a.handle refl) (subst R the-portion.address_is (subst Q (sym one) reached))
+      ranges-apart has ported buffer room fits (a.handle == a.handle) (test-same a.handle a.handle refl)
+      (subst R the-portion.address_is (subst Q (sym one) reached))
 
   pub from-apart : a.slot.area.0 ≡ b.slot.area.0 → (place + n ≤ buffer - 32768) ⊎ (buffer - 32768 + n ≤ place)
   from-apart q = elim (cases_eq i j) [ inl e ↦ own-apart e | inr ne ↦ absurd (apart-at slot_area seats i j a b w.areas.slots_apart at bt ne q) ]
@@ -122,12 +126,15 @@ module _ {m : Memory} {seats : List Seat} {made : List MadeArea} {files : FileLi
   few : length written ≤ room
   few = omega (arith, length-part (bytes m a.slot.area.0) place n, fits)
 
-  module _ {o : Memory} (l : Leaves m o b.slot (no_answer (Ok (written_in buffer written (buffer_at buffer room (slot_in m b.slot)) (slot_in m b.slot)))) (Ok tt)) where
+  module _ {o : Memory} (l : Leaves m o b.slot (no_answer (Ok (written_in buffer written (buffer_at buffer room (slot_in m b.slot)) (slot_in m b.slot))))
+      (Ok tt)) where
     pub wrote-world : IsWorld o seats made files kept
     wrote-world = written-world w bt buffer room written few l
 
-    pub wrote-desk : (t r : Task) (source : Split Flex) → IsAt i t (desk_of m seats made files kept) → IsAt j r (desk_of m seats made files kept) → slot_block x.anchor t.slot ≡ Ok source
-        → desk_of o seats made files kept ≡ with_task r.handle (with_written buffer room (take n (drop x.count source.here.bytes))) (desk_of m seats made files kept)
+    pub wrote-desk : (t r : Task) (source : Split Flex) → IsAt i t (desk_of m seats made files kept) → IsAt j r (desk_of m seats made files kept)
+        → slot_block x.anchor t.slot ≡ Ok source
+        → desk_of o seats made files kept ≡ with_task r.handle (with_written buffer room (take n (drop x.count source.here.bytes)))
+        (desk_of m seats made files kept)
     unfolding task_of
     wrote-desk t r source ti rj e =
         let P : Task → Type 0 = λ u. slot_block x.anchor u.slot ≡ Ok the-portion.source in
@@ -139,7 +146,8 @@ module _ {m : Memory} {seats : List Seat} {made : List MadeArea} {files : FileLi
 
 -- ---- tasks that are edited
 
-edited-key : {K : Type 0} (key : Task → K) (h : ℕ) (edit : Task → Task) (tasks : List Task) → ((t : Task) → key (edit t) ≡ key t) → map key (edit_task h edit tasks) ≡ map key tasks
+edited-key : {K : Type 0} (key : Task → K) (h : ℕ) (edit : Task → Task) (tasks : List Task) → ((t : Task) → key (edit t) ≡ key t)
+    → map key (edit_task h edit tasks) ≡ map key tasks
 edited-key key h edit [] e = refl
 edited-key {K} key h edit (t ∷ tasks) e =
     elim (t.handle == h) as (λ b. map key (cond b (edit t ∷ tasks) (t ∷ edit_task h edit tasks)) ≡ key t ∷ map key tasks) [
@@ -169,9 +177,13 @@ module _ {K : Type 0} (key : Task → K) where
   sent-alike l d e (Ok sent) f q =
       let x : Desk = with_task l.from (λ t. record t { last_sent = Some (l, sent.1) }) (with_post sent.0 d) in
       let is : x ≡ e = cc in
-      record { keys = ap (λ (y : Desk). map key y.tasks) (sym is) ∙ edited-key key l.from (λ t. record t { last_sent = Some (l, sent.1) }) d.tasks (λ t. f t (l, sent.1)) }
+      record {
+        keys = ap (λ (y : Desk). map key y.tasks) (sym is) ∙ edited-key key l.from (λ t. record t { last_sent = Some (l, sent.1) }) d.tasks
+            (λ t. f t (l, sent.1));
+      }
 
-  pub alike-sent : (l : Letter) (d e : Desk) → ((t : Task) (x : Letter × ℕ) → key (record t { last_sent = Some x }) ≡ key t) → send_letter l d ≡ Ok e → KeyAlike key d e
+  pub alike-sent : (l : Letter) (d e : Desk) → ((t : Task) (x : Letter × ℕ) → key (record t { last_sent = Some x }) ≡ key t) → send_letter l d ≡ Ok e
+      → KeyAlike key d e
   unfolding send_letter
   alike-sent l d e f q = sent-alike l d e (post_send (free_pages d) l d.post) f q
 

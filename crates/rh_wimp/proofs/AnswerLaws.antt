@@ -19,7 +19,8 @@ pub read_entry : (es : List Entry) (i : ℕ) (e : Entry) → i < length es → e
 read_entry es i e l r = r ∙ get_or_default es i e no_entry l
 
 -- one entry alone has a handle
-pub one_entry : (h : Heap) (es : List Entry) (rows : List Row) (x at i : ℕ) → RowsLie h es rows → position (λ (e : Entry). e.handle == x) es ≡ Some at → i < length rows → (row_at rows i).handle ≡ x → at ≡ i
+pub one_entry : (h : Heap) (es : List Entry) (rows : List Row) (x at i : ℕ) → RowsLie h es rows → position (λ (e : Entry). e.handle == x) es ≡ Some at
+    → i < length rows → (row_at rows i).handle ≡ x → at ≡ i
 one_entry h es rows x at i s f l e =
     let w = found-at es x at f in
     let len = s.len in
@@ -28,7 +29,8 @@ one_entry h es rows x at i s f l e =
       | inr ne ↦ absurd (s.handles at i (omega arith) l ne (sym (s.each at (omega arith)).handle ∙ w.1 ∙ sym e))
     ]
 
-pub some_entry : (h : Heap) (es : List Entry) (rows : List Row) (x i : ℕ) → RowsLie h es rows → position (λ (e : Entry). e.handle == x) es ≡ None → i < length rows → (row_at rows i).handle ≢ x
+pub some_entry : (h : Heap) (es : List Entry) (rows : List Row) (x i : ℕ) → RowsLie h es rows → position (λ (e : Entry). e.handle == x) es ≡ None
+    → i < length rows → (row_at rows i).handle ≢ x
 some_entry h es rows x i s n l = λ z. let len = s.len in not-found es x n i (omega arith) ((s.each i l).handle ∙ z)
 
 -- ---- what a task holds
@@ -36,7 +38,8 @@ pub held-has : (h : Heap) (b : ℕ) (o : Option Parcel) → Holds h b o → b �
 held-has h b None s ne = absurd (ne s)
 held-has h b (Some p) s ne = record { bytes = padded 0 p; found = ap (λ a. block_bytes a h) s.0 ∙ s.1.block; room = padded-least 0 p }
 
-pub held-test : (h : Heap) (b n : ℕ) (o : Option Parcel) (t : Bool) → Holds h b o → (b ≡ 0 → t ≡ false) → (b ≢ 0 → (bytes : List ℕ) → block_bytes b h ≡ Some bytes → t ≡ (word bytes 16 == n)) → t ≡ answers_held n o
+pub held-test : (h : Heap) (b n : ℕ) (o : Option Parcel) (t : Bool) → Holds h b o → (b ≡ 0 → t ≡ false)
+    → (b ≢ 0 → (bytes : List ℕ) → block_bytes b h ≡ Some bytes → t ≡ (word bytes 16 == n)) → t ≡ answers_held n o
 held-test h b n None t s none some = none s
 held-test h b n (Some p) t s none some =
     let a = lies-above h 0 p s.1 in

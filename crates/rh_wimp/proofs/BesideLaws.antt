@@ -7,7 +7,8 @@ use Rattle.std.specs.List.{list_any}
 use Rattle.std.specs.Option.{option_map}
 use Rattle.rh_defs.specs.Blocks.{block_bytes, SameShape}
 use Rattle.rh_defs.specs.Chain.{Granted, ◌>>=◌, refuse_if, found_or, answer_of, left_of, no_answer}
-use Rattle.rh_defs.specs.Heap.{Heap, Segment, Placed, as_granted, base, block_at, block_room, block_size, bytes_of, fitted, new_size, release, resize_growing, resize_need, size_of}
+use Rattle.rh_defs.specs.Heap.{Heap, Segment, Placed, as_granted, base, block_at, block_room, block_size, bytes_of, fitted, new_size, release, resize_growing}
+use Rattle.rh_defs.specs.Heap.{resize_need, size_of}
 use Rattle.rh_defs.specs.Pieces.{Split, lacks_pages, moved, pages_for, total}
 use Rattle.rh_defs.specs.declared.refusal.Refusal.{Refusal}
 use Rattle.rh_defs.specs.declared.refusal.Refusal.TheVariants.{BadSize, NotABlock, ExcessiveShrink, NoRoom}
@@ -65,20 +66,24 @@ pub record Beside {A : Type 0} (h : Heap) (q : Chains) (post : Post) (granted pl
 
 module _ {A : Type 0} (h : Heap) (q : Chains) (post : Post) where
   -- both are refused
-  pub both-refused : (granted plain : Granted (Heap × A)) (refusal : Refusal) → IsPost h q post → granted ≡ Err refusal → plain ≡ Err refusal → Beside h q post granted plain
+  pub both-refused : (granted plain : Granted (Heap × A)) (refusal : Refusal) → IsPost h q post → granted ≡ Err refusal → plain ≡ Err refusal
+      → Beside h q post granted plain
   both-refused granted plain refusal s e f =
       subst (λ g. Beside h q post g plain) (sym e) (subst (Beside h q post (Err refusal)) (sym f) (record { answer = refl; spells = s }))
 
   -- both are granted
-  pub both-granted : (granted plain : Granted (Heap × A)) (k d : Heap) (answer : A) → IsPost k q (with_heap d post) → granted ≡ Ok (k, answer) → plain ≡ Ok (d, answer) → Beside h q post granted plain
+  pub both-granted : (granted plain : Granted (Heap × A)) (k d : Heap) (answer : A) → IsPost k q (with_heap d post) → granted ≡ Ok (k, answer)
+      → plain ≡ Ok (d, answer) → Beside h q post granted plain
   both-granted granted plain k d answer s e f =
       subst (λ g. Beside h q post g plain) (sym e) (subst (Beside h q post (Ok (k, answer))) (sym f) (record { answer = refl; spells = s }))
 
 -- a claim
-pub claim-beside : (h : Heap) (q : Chains) (post : Post) (free n : ℕ) → IsPost h q post → Beside h q post (module_claim free n h) (module_claim free n post.heap)
+pub claim-beside : (h : Heap) (q : Chains) (post : Post) (free n : ℕ) → IsPost h q post
+    → Beside h q post (module_claim free n h) (module_claim free n post.heap)
 claim-beside h q post free n s = go (module_claim free n h) refl (module_claim free n post.heap) refl (module_claim-alike free n h post.heap s.linked.shape)
   where
-    go : (g : Granted (Heap × ℕ)) → module_claim free n h ≡ g → (p : Granted (Heap × ℕ)) → module_claim free n post.heap ≡ p → Alike g p → Beside h q post (module_claim free n h) (module_claim free n post.heap)
+    go : (g : Granted (Heap × ℕ)) → module_claim free n h ≡ g → (p : Granted (Heap × ℕ)) → module_claim free n post.heap ≡ p → Alike g p
+        → Beside h q post (module_claim free n h) (module_claim free n post.heap)
     go (Ok x) e (Ok y) f a = let w = claimed-beside h q post free n x s e in both-granted h q post _ _ x.0 w.plain x.1 w.spells e w.granted
     go (Ok x) e (Err r) f a = absurd a
     go (Err r) e (Ok y) f a = absurd a
@@ -93,11 +98,13 @@ gone-nowhere a h e = go (block_at a h) refl (block_at-bytes a h)
     go (Some s) f b = let bad = b ∙ e in absurd cc
 
 -- a block of others is freed
-pub free-beside : (h : Heap) (q : Chains) (post : Post) (a : ℕ) → IsPost h q post → IsOff a post → Beside h q post (no_answer (module_free a h)) (no_answer (module_free a post.heap))
+pub free-beside : (h : Heap) (q : Chains) (post : Post) (a : ℕ) → IsPost h q post → IsOff a post
+    → Beside h q post (no_answer (module_free a h)) (no_answer (module_free a post.heap))
 free-beside h q post a s off = go (block_bytes a h) refl
   where
     go : (o : Option (List ℕ)) → block_bytes a h ≡ o → Beside h q post (no_answer (module_free a h)) (no_answer (module_free a post.heap))
-    go None e = both-refused h q post _ _ NotABlock s (ap (λ g. no_answer g) (gone-nowhere a h e)) (ap (λ g. no_answer g) (gone-nowhere a post.heap (sym (s.linked.others a off) ∙ e)))
+    go None e = both-refused h q post _ _ NotABlock s (ap (λ g. no_answer g) (gone-nowhere a h e))
+        (ap (λ g. no_answer g) (gone-nowhere a post.heap (sym (s.linked.others a off) ∙ e)))
     go (Some bs) e =
         both-granted h q post _ _ (release a h) (release a post.heap) tt (freed-beside h q post a s off)
         (ap (λ g. no_answer g) (module_free-there a h bs e)) (ap (λ g. no_answer g) (module_free-there a post.heap bs (sym (s.linked.others a off) ∙ e)))
@@ -110,17 +117,19 @@ bytes_of_cut : (bs cs : List ℕ) → ◌≡◌ {A = Option (List ℕ)} (Some bs
 bytes_of_cut bs cs e = cc
 
 -- a block of others is at the same cut in both heaps
-cuts-alike : (h d : Heap) (a : ℕ) (s c : Split Segment) → SameShape h d → block_bytes a h ≡ block_bytes a d → block_at a h ≡ Some s → block_at a d ≡ Some c → CutAlike h d s c
+cuts-alike : (h d : Heap) (a : ℕ) (s c : Split Segment) → SameShape h d → block_bytes a h ≡ block_bytes a d → block_at a h ≡ Some s → block_at a d ≡ Some c
+    → CutAlike h d s c
 cuts-alike h d a s c shape same e f = record {
   shape = shape;
   cut = cut_of (blank_cut s) (blank_cut c)
-      (ap (option_map blank_cut) (sym e) ∙ sym (block-blank a 16 h.segments) ∙ ap (λ (k : Heap). block_at a k) (same_heap h d shape) ∙ block-blank a 16 d.segments ∙ ap (option_map blank_cut) f);
+      (ap (option_map blank_cut) (sym e) ∙ sym (block-blank a 16 h.segments) ∙ ap (λ (k : Heap). block_at a k) (same_heap h d shape)
+      ∙ block-blank a 16 d.segments ∙ ap (option_map blank_cut) f);
   bytes = bytes_of_cut (bytes_of s.here) (bytes_of c.here) (ap bytes_here (sym e) ∙ block_at-bytes a h ∙ same ∙ sym (block_at-bytes a d) ∙ ap bytes_here f);
 }
 
 -- a block of others is resized in both heaps
-resized-beside : (h : Heap) (q : Chains) (post : Post) (a n : ℕ) (s c : Split Segment) → IsPost h q post → IsOff a post → block_at a h ≡ Some s → block_at a post.heap ≡ Some c → CutAlike h post.heap s c
-    → IsPost (resize_growing n s h).heap q (with_heap (resize_growing n c post.heap).heap post)
+resized-beside : (h : Heap) (q : Chains) (post : Post) (a n : ℕ) (s c : Split Segment) → IsPost h q post → IsOff a post → block_at a h ≡ Some s
+    → block_at a post.heap ≡ Some c → CutAlike h post.heap s c → IsPost (resize_growing n s h).heap q (with_heap (resize_growing n c post.heap).heap post)
 resized-beside h q post a n s c w off e f alike =
     let d = post.heap in
     let k = resize_growing n s h in
@@ -141,7 +150,8 @@ resized-beside h q post a n s c w off e f alike =
     blocks-changed h k.heap q post l.heap a k.address w off off_there p.shape x.others y.others there here
 
 -- a resize of a block of others
-pub resize-beside : (h : Heap) (q : Chains) (post : Post) (free a : ℕ) (delta : ℤ) → IsPost h q post → IsOff a post → Beside h q post (module_resize free a delta h) (module_resize free a delta post.heap)
+pub resize-beside : (h : Heap) (q : Chains) (post : Post) (free a : ℕ) (delta : ℤ) → IsPost h q post → IsOff a post
+    → Beside h q post (module_resize free a delta h) (module_resize free a delta post.heap)
 unfolding module_resize ◌>>=◌ refuse_if found_or
 resize-beside h q post free a delta w off = go (block_at a h) refl (block_at a d) refl
   where
@@ -152,7 +162,9 @@ resize-beside h q post free a delta w off = go (block_at a h) refl (block_at a d
     same = w.linked.others a off
 
     granted : Heap → Split Segment → Granted (Heap × ℕ)
-    granted g s = refuse_if (new_size delta s == 0) BadSize >>= (λ x. refuse_if (lacks_pages free (resize_need (new_size delta s) s g)) NoRoom >>= (λ y. Ok (as_granted (resize_growing (new_size delta s) s g))))
+    granted g s = refuse_if (new_size delta s == 0) BadSize
+        >>= (λ x. refuse_if (lacks_pages free (resize_need (new_size delta s) s g)) NoRoom
+        >>= (λ y. Ok (as_granted (resize_growing (new_size delta s) s g))))
 
     found : (g : Heap) (s : Split Segment) → block_at a g ≡ Some s → module_resize free a delta g ≡ granted g s
     found g s e = ap (λ o. found_or o NotABlock >>= granted g) e
@@ -161,7 +173,8 @@ resize-beside h q post free a delta w off = go (block_at a h) refl (block_at a d
     missing g e = ap (λ o. found_or o NotABlock >>= granted g) e
 
     chosen : (t u : Bool) (k l : Placed) → k.address ≡ l.address → IsPost k.heap q (with_heap l.heap post)
-        → Beside h q post (refuse_if t BadSize >>= (λ x. refuse_if u NoRoom >>= (λ y. Ok (as_granted k)))) (refuse_if t BadSize >>= (λ x. refuse_if u NoRoom >>= (λ y. Ok (as_granted l))))
+        → Beside h q post (refuse_if t BadSize >>= (λ x. refuse_if u NoRoom >>= (λ y. Ok (as_granted k))))
+        (refuse_if t BadSize >>= (λ x. refuse_if u NoRoom >>= (λ y. Ok (as_granted l))))
     chosen true u k l e v = record { answer = refl; spells = w }
     chosen false true k l e v = record { answer = refl; spells = w }
     chosen false false k l e v = record { answer = ap (λ x. Ok x) e; spells = v }
@@ -171,15 +184,22 @@ resize-beside h q post free a delta w off = go (block_at a h) refl (block_at a d
         let alike = cuts-alike h d a s c w.linked.shape same e f in
         let size : new_size delta s ≡ new_size delta c = ap (λ l. moved (length l) delta) alike.bytes in
         let n = new_size delta s in
-        subst (λ m. Beside h q post (granted h s) (refuse_if (m == 0) BadSize >>= (λ x. refuse_if (lacks_pages free (resize_need m c d)) NoRoom >>= (λ y. Ok (as_granted (resize_growing m c d)))))) size
-        (subst (λ m. Beside h q post (granted h s) (refuse_if (n == 0) BadSize >>= (λ x. refuse_if (lacks_pages free m) NoRoom >>= (λ y. Ok (as_granted (resize_growing n c d)))))) (resize_need-alike n h d s c alike)
-        (chosen (n == 0) (lacks_pages free (resize_need n s h)) (resize_growing n s h) (resize_growing n c d) (resize_growing-alike n h d s c alike).address (resized-beside h q post a n s c w off e f alike)))
+        subst (λ m. Beside h q post (granted h s) (refuse_if (m == 0) BadSize
+        >>= (λ x. refuse_if (lacks_pages free (resize_need m c d)) NoRoom >>= (λ y. Ok (as_granted (resize_growing m c d)))))) size
+        (subst (λ m. Beside h q post (granted h s) (refuse_if (n == 0) BadSize
+        >>= (λ x. refuse_if (lacks_pages free m) NoRoom >>= (λ y. Ok (as_granted (resize_growing n c d)))))) (resize_need-alike n h d s c alike)
+        (chosen (n == 0) (lacks_pages free (resize_need n s h)) (resize_growing n s h) (resize_growing n c d) (resize_growing-alike n h d s c alike).address
+        (resized-beside h q post a n s c w off e f alike)))
 
-    go : (o : Option (Split Segment)) → block_at a h ≡ o → (p : Option (Split Segment)) → block_at a d ≡ p → Beside h q post (module_resize free a delta h) (module_resize free a delta d)
+    go : (o : Option (Split Segment)) → block_at a h ≡ o → (p : Option (Split Segment)) → block_at a d ≡ p
+        → Beside h q post (module_resize free a delta h) (module_resize free a delta d)
     go None e None f = both-refused h q post _ _ NotABlock w (missing h e) (missing d f)
-    go (Some s) e (Some c) f = subst (λ g. Beside h q post g (module_resize free a delta d)) (sym (found h s e)) (subst (Beside h q post (granted h s)) (sym (found d c f)) (both s c e f))
-    go None e (Some c) f = absurd (let bad : None ≡ Some (bytes_of c.here) = ap bytes_here (sym e) ∙ block_at-bytes a h ∙ same ∙ sym (block_at-bytes a d) ∙ ap bytes_here f in cc)
-    go (Some s) e None f = absurd (let bad : Some (bytes_of s.here) ≡ None = ap bytes_here (sym e) ∙ block_at-bytes a h ∙ same ∙ sym (block_at-bytes a d) ∙ ap bytes_here f in cc)
+    go (Some s) e (Some c) f = subst (λ g. Beside h q post g (module_resize free a delta d)) (sym (found h s e))
+        (subst (Beside h q post (granted h s)) (sym (found d c f)) (both s c e f))
+    go None e (Some c) f = absurd (let bad : None ≡ Some (bytes_of c.here) = ap bytes_here (sym e) ∙ block_at-bytes a h ∙ same ∙ sym (block_at-bytes a d)
+        ∙ ap bytes_here f in cc)
+    go (Some s) e None f = absurd (let bad : Some (bytes_of s.here) ≡ None = ap bytes_here (sym e) ∙ block_at-bytes a h ∙ same ∙ sym (block_at-bytes a d)
+        ∙ ap bytes_here f in cc)
 
 -- ---- the area's end
 abbrev pub ended : ℕ → Heap → Heap
@@ -195,29 +215,35 @@ same-base : (h d : Heap) → SameShape h d → base h ≡ base d
 same-base h d s = omega (arith, total-blank h.segments, total-blank d.segments, ap (λ l. total size_of l) s.blank)
 
 -- a change of the area's length
-pub change-beside : (h : Heap) (q : Chains) (post : Post) (free : ℕ) (delta : ℤ) → IsPost h q post → Beside h q post (module_change free delta h) (module_change free delta post.heap)
+pub change-beside : (h : Heap) (q : Chains) (post : Post) (free : ℕ) (delta : ℤ) → IsPost h q post
+    → Beside h q post (module_change free delta h) (module_change free delta post.heap)
 change-beside h q post free delta s =
     let d = post.heap in
     let e : changed_length h.end delta ≡ changed_length d.end delta = ap (λ n. changed_length n delta) s.linked.shape.end in
     let b = same-base h d s.linked.shape in
     let more : changed_length h.end delta - h.end ≡ changed_length d.end delta - d.end = ap (λ n. changed_length n delta - n) s.linked.shape.end in
     elim (cases_lt (changed_length h.end delta) (base h)) [
-      | inl l ↦ both-refused h q post _ _ ExcessiveShrink s (module_change-low free delta h l) (module_change-low free delta d (subst (λ n. n < base d) e (subst (λ n. changed_length h.end delta < n) b l)))
+      | inl l ↦ both-refused h q post _ _ ExcessiveShrink s (module_change-low free delta h l)
+          (module_change-low free delta d (subst (λ n. n < base d) e (subst (λ n. changed_length h.end delta < n) b l)))
       | inr g ↦
           let g' = subst (λ n. base d ≤ n) e (subst (λ n. n ≤ changed_length h.end delta) b g) in
           elim (cases_lt free (pages_for (changed_length h.end delta - h.end))) [
-            | inl l ↦ both-refused h q post _ _ NoRoom s (module_change-short free delta h g l) (module_change-short free delta d g' (subst (λ n. free < pages_for n) more l))
-            | inr r ↦ both-granted h q post _ _ (ended (changed_length h.end delta) h) (ended (changed_length d.end delta) d) _ (ended-beside h q post (changed_length h.end delta) (changed_length d.end delta) e s)
+            | inl l ↦ both-refused h q post _ _ NoRoom s (module_change-short free delta h g l)
+                (module_change-short free delta d g' (subst (λ n. free < pages_for n) more l))
+            | inr r ↦ both-granted h q post _ _ (ended (changed_length h.end delta) h) (ended (changed_length d.end delta) d) _
+                (ended-beside h q post (changed_length h.end delta) (changed_length d.end delta) e s)
                 (module_change-done free delta h g r) (module_change-done free delta d g' (subst (λ n. pages_for n ≤ free) more r))
           ]
     ]
 
 -- ---- in the module area
-module _ {A : Type 0} (m n : Memory) (rma : Module) (q : Chains) (granted : Granted (Heap × A)) (result : Granted A) (l : module_calls.Leaves m n rma granted result) where
+module _ {A : Type 0} (m n : Memory) (rma : Module) (q : Chains) (granted : Granted (Heap × A)) (result : Granted A)
+    (l : module_calls.Leaves m n rma granted result) where
   pub answers-beside : (post : Post) (plain : Granted (Heap × A)) → Beside (heap_in m rma) q post granted plain → result ≡ answer_of plain
   answers-beside post plain b = l.answer ∙ b.answer
 
-  pub spells-beside : (post : Post) (plain : Granted (Heap × A)) → Beside (heap_in m rma) q post granted plain → SpellsPost n rma q (with_heap (left_of post.heap plain) post)
+  pub spells-beside : (post : Post) (plain : Granted (Heap × A)) → Beside (heap_in m rma) q post granted plain
+      → SpellsPost n rma q (with_heap (left_of post.heap plain) post)
   spells-beside post plain b = subst (λ h. IsPost h q (with_heap (left_of post.heap plain) post)) (sym l.heap) b.spells
 
   -- it still is a queue
@@ -233,20 +259,25 @@ module _ {A : Type 0} (m n : Memory) (rma : Module) (q : Chains) (granted : Gran
       ∙ sym (ap (with_heap (left_of post.heap plain)) (post_in-in_order m rma q small s))
 
 -- a call that the post's heap grants as the area's does
-goes-beside : {A : Type 0} (allowed : Post → Type 0) (call : ℕ → Heap → Granted (Heap × A)) → ((h : Heap) (q : Chains) (post : Post) (free : ℕ) → allowed post → IsPost h q post → Beside h q post (call free h) (call free post.heap))
+goes-beside : {A : Type 0} (allowed : Post → Type 0) (call : ℕ → Heap → Granted (Heap × A))
+    → ((h : Heap) (q : Chains) (post : Post) (free : ℕ) → allowed post → IsPost h q post → Beside h q post (call free h) (call free post.heap))
     → GoesBeside allowed call
 goes-beside allowed call f m n rma q post result a s l =
-    let b = f (heap_in m rma) q post m.free a s in
-    (answers-beside m n rma q (call m.free (heap_in m rma)) result l post (call m.free post.heap) b, spells-beside m n rma q (call m.free (heap_in m rma)) result l post (call m.free post.heap) b)
+    let b = f (heap_in m rma) q post m.free a s in (
+      answers-beside m n rma q (call m.free (heap_in m rma)) result l post (call m.free post.heap) b,
+      spells-beside m n rma q (call m.free (heap_in m rma)) result l post (call m.free post.heap) b,
+    )
 
 pub claims-beside : (n : ℕ) → GoesBeside (λ post. Unit {0}) (λ free h. module_claim free n h)
 claims-beside n = goes-beside (λ post. Unit {0}) (λ free h. module_claim free n h) (λ h q post free a s. claim-beside h q post free n s)
 
 pub frees-beside : (a : ℕ) → GoesBeside (λ post. post_is_message a post ≡ false) (λ free h. no_answer (module_free a h))
-frees-beside a = goes-beside (λ post. post_is_message a post ≡ false) (λ free h. no_answer (module_free a h)) (λ h q post free e s. free-beside h q post a s (off-message h q post a s e))
+frees-beside a = goes-beside (λ post. post_is_message a post ≡ false) (λ free h. no_answer (module_free a h))
+    (λ h q post free e s. free-beside h q post a s (off-message h q post a s e))
 
 pub resizes-beside : (a : ℕ) (delta : ℤ) → GoesBeside (λ post. post_is_message a post ≡ false) (λ free h. module_resize free a delta h)
-resizes-beside a delta = goes-beside (λ post. post_is_message a post ≡ false) (λ free h. module_resize free a delta h) (λ h q post free e s. resize-beside h q post free a delta s (off-message h q post a s e))
+resizes-beside a delta = goes-beside (λ post. post_is_message a post ≡ false) (λ free h. module_resize free a delta h)
+    (λ h q post free e s. resize-beside h q post free a delta s (off-message h q post a s e))
 
 pub changes-beside : (delta : ℤ) → GoesBeside (λ post. Unit {0}) (λ free h. module_change free delta h)
 changes-beside delta = goes-beside (λ post. Unit {0}) (λ free h. module_change free delta h) (λ h q post free a s. change-beside h q post free delta s)

@@ -10,7 +10,8 @@ use Rattle.rh_defs.specs.Blocks.{block_bytes, poked, SameShape}
 use Rattle.rh_defs.specs.Bytes.{word_bytes}
 use Rattle.rh_defs.specs.Messages.{Parcel, parcel_bytes, padded}
 use Rattle.rh_defs.specs.Post.{Seat, Post, has_seat, held_by, with_held, count_held, live_count, most_messages, as_returned}
-use Rattle.rh_wimp.specs.Chains.{Loose, Chains, Holds, Row, RowLies, RowsLie, IsLinked, IsPost, AllLie, AllLive, Off, no_row, entry_at, row_at, row_of, rows_of, row_parcels, held_list, lengthened, emptied, emptied_chains, last_block}
+use Rattle.rh_wimp.specs.Chains.{Loose, Chains, Holds, Row, RowLies, RowsLie, IsLinked, IsPost, AllLie, AllLive, Off, no_row, entry_at, row_at, row_of}
+use Rattle.rh_wimp.specs.Chains.{rows_of, row_parcels, held_list, lengthened, emptied, emptied_chains, last_block}
 use Rattle.rh_wimp.specs.Deaths.{lifted}
 use Rattle.rh_wimp.specs.declared.chain.Entry.{Entry}
 use Rattle.rh_defs.proofs.BlockLaws.{poked-pokes, poked-other, block-above, release-frees}
@@ -23,8 +24,8 @@ use Rattle.rh_wimp.proofs.SendLaws.{Links, relinked-other, relinked-last, relink
 use Rattle.rh_defs.proofs.ShapeLaws.{poked-shape, shape-both, shape-sym, release-alike}
 
 -- ---- what a task holds is lifted
-linked-lifted : (h d : Heap) (es : List Entry) (rows : List Row) (i : ℕ) (q : Parcel) → i < length rows → RowsLie h es rows → (row_at rows i).held ≡ Some q → IsLinked h d rows
-    → block_bytes q.block h ≡ block_bytes q.block d → IsLinked h d (set rows i (without_held (row_at rows i)))
+linked-lifted : (h d : Heap) (es : List Entry) (rows : List Row) (i : ℕ) (q : Parcel) → i < length rows → RowsLie h es rows → (row_at rows i).held ≡ Some q
+    → IsLinked h d rows → block_bytes q.block h ≡ block_bytes q.block d → IsLinked h d (set rows i (without_held (row_at rows i)))
 linked-lifted h d es rows i q l s held linked same-bytes =
     let r = row_at rows i in
     let n = length-set rows i (without_held r) in
@@ -41,7 +42,8 @@ linked-lifted h d es rows i q l s held linked same-bytes =
         | inl z ↦ subst (λ m. block_bytes m h ≡ block_bytes m d) (sym z) same-bytes
         | inr ne ↦ linked.others b (λ j c. elim (cases_eq j i) [
           | inl z ↦ subst (λ m. Off b (row_parcels (row_at rows m))) (sym z) (subst (λ o. Off b (r.chain ++ held_list o)) (sym held)
-              (Off-append b r.chain (q ∷ []) (Off-parts b r.chain [] (subst (λ x. Off b (row_parcels x)) same (out i (omega arith)))).0 ((λ y. ne (sym y)), tt)))
+              (Off-append b r.chain (q ∷ []) (Off-parts b r.chain [] (subst (λ x. Off b (row_parcels x)) same (out i (omega arith)))).0
+              ((λ y. ne (sym y)), tt)))
           | inr nj ↦ subst (λ x. Off b (row_parcels x)) (other j nj) (out j (omega arith))
         ])
       ];
@@ -60,9 +62,11 @@ module _ (h : Heap) (q : Chains) (post : Post) (x i : ℕ) (p : Parcel) where
       let holds = subst (Holds h (entry_at q.entries i).held) row-holds (s.rows.each i w.row).held in
       let plain : block_bytes p.block post.heap ≡ Some (padded 0 p) =
       (subst (λ o. AllLie post.heap (held_list o)) row-holds (AllLie-parts post.heap row.chain (held_list row.held) (s.linked.lie i w.row)).1).0 in
-      let seats-are : with_held x None post.seats ≡ set post.seats i (seat_with None seat) = with_held-at None post.seats i x names w.seat (sym w.handle ∙ handle) in
+      let seats-are : with_held x None post.seats ≡ set post.seats i (seat_with None seat) =
+      with_held-at None post.seats i x names w.seat (sym w.handle ∙ handle) in
       let rows-are : map (row_of post.queued) (with_held x None post.seats) ≡ set (rows_of post) i (without_held row) =
-      ap (map (row_of post.queued)) seats-are ∙ rows-seat post.queued post.seats i (seat_with None seat) ∙ ap (λ r. set (rows_of post) i (without_held r)) (sym w.row_is) in
+      ap (map (row_of post.queued)) seats-are ∙ rows-seat post.queued post.seats i (seat_with None seat)
+      ∙ ap (λ r. set (rows_of post) i (without_held r)) (sym w.row_is) in
       let keeps : KeepsBut h h p.block p.block = record { each = λ b ne ne'. refl } in
       let counts = count-seat post.seats i (seat_with None seat) w.seat in
       let one : count_held seat.holds ≡ 1 = ap count_held here in
@@ -71,8 +75,10 @@ module _ (h : Heap) (q : Chains) (post : Post) (x i : ℕ) (p : Parcel) where
       let few = s.few in
       let n = length-set (rows_of post) i (without_held row) in (
         record {
-          rows = subst (RowsLie h (set q.entries i (emptied (entry_at q.entries i)))) (sym rows-are) (dropped h h q.entries (rows_of post) i p w.row s.rows row-holds keeps);
-          linked = subst (IsLinked h post.heap) (sym rows-are) (linked-lifted h post.heap q.entries (rows_of post) i p w.row s.rows row-holds s.linked (holds.1.block ∙ sym plain));
+          rows = subst (RowsLie h (set q.entries i (emptied (entry_at q.entries i)))) (sym rows-are)
+              (dropped h h q.entries (rows_of post) i p w.row s.rows row-holds keeps);
+          linked = subst (IsLinked h post.heap) (sym rows-are) (linked-lifted h post.heap q.entries (rows_of post) i p w.row s.rows row-holds s.linked
+              (holds.1.block ∙ sym plain));
           live = omega arith;
           recipients = subst (λ ss. AllLive ss post.queued) (sym seats-are) (all-live-same None post.seats i post.queued s.recipients);
           few = omega arith;
@@ -81,13 +87,16 @@ module _ (h : Heap) (q : Chains) (post : Post) (x i : ℕ) (p : Parcel) where
         record {
           lies = holds.1;
           plain = plain;
-          off = λ j b. subst (λ rs. Off p.block (row_parcels (row_at rs j))) (sym rows-are) (dropped-off h h q.entries (rows_of post) i p w.row s.rows row-holds j (let z = ap length rows-are in omega arith));
+          off = λ j b. subst (λ rs. Off p.block (row_parcels (row_at rs j))) (sym rows-are)
+              (dropped-off h h q.entries (rows_of post) i p w.row s.rows row-holds j (let z = ap length rows-are in omega arith));
         },
       )
 
 -- ---- a loose message goes back to its sender
-pub returned-queued : (h h1 k : Heap) (q : Chains) (post : Post) (p : Parcel) (to : ℕ) → IsPost h q post → Loose h post p → has_seat p.message.from post.seats ≡ true → live_count post < most_messages
-    → to < length q.entries → (entry_at q.entries to).handle ≡ p.message.from → h1 ≡ poked p.block 4 (word_bytes 19) h → k ≡ relinked (entry_at q.entries to).last p.block h1
+pub returned-queued : (h h1 k : Heap) (q : Chains) (post : Post) (p : Parcel) (to : ℕ) → IsPost h q post → Loose h post p
+    → has_seat p.message.from post.seats ≡ true → live_count post < most_messages
+    → to < length q.entries → (entry_at q.entries to).handle ≡ p.message.from → h1 ≡ poked p.block 4 (word_bytes 19) h
+    → k ≡ relinked (entry_at q.entries to).last p.block h1
     → IsPost k (record { entries = set q.entries to (lengthened p.block (entry_at q.entries to)); live = q.live + 1; next_ref = q.next_ref })
     (record post { queued = post.queued ++ as_returned p ∷ []; heap = poked p.block 0 (parcel_bytes 0 (as_returned p)) post.heap })
 returned-queued h h1 k q post p to s loose alive few lt named-to e1 ek =
@@ -99,13 +108,16 @@ returned-queued h h1 k q post p to s loose alive few lt named-to e1 ek =
     let here = s.rows.each to w.row in
     let off = loose.off to w.row in
     let apart : p.block ≢ last = apart-last h (entry_at q.entries to) row p.block (block-above p.block h (padded 0 p) loose.lies.block) here off in
-    let in-h1 : block_bytes p.block h1 ≡ Some (padded 0 new) = ap (block_bytes p.block) e1 ∙ (poked-pokes p.block 4 (word_bytes 19) h (padded 0 p) loose.lies.block).here ∙ ap Some (padded-recoded 0 p new refl) in
+    let in-h1 : block_bytes p.block h1 ≡ Some (padded 0 new) = ap (block_bytes p.block) e1
+    ∙ (poked-pokes p.block 4 (word_bytes 19) h (padded 0 p) loose.lies.block).here ∙ ap Some (padded-recoded 0 p new refl) in
     let keeps1 : (b : ℕ) → b ≢ p.block → block_bytes b h1 ≡ block_bytes b h = λ b ne. ap (block_bytes b) e1 ∙ poked-other p.block b 4 (word_bytes 19) h ne in
     let in-k : block_bytes p.block k ≡ Some (padded 0 new) = ap (block_bytes p.block) ek ∙ relinked-other last p.block p.block h1 apart ∙ in-h1 in
     let joins : Links h k last p.block = links-apart h h1 k last p.block (λ z. apart (sym z)) keeps1 ek in
-    let in-d : block_bytes p.block d ≡ Some (padded 0 new) = (poked-pokes p.block 0 (parcel_bytes 0 new) post.heap (padded 0 p) loose.plain).here ∙ ap Some (padded-rewritten 0 0 p new refl) in
+    let in-d : block_bytes p.block d ≡ Some (padded 0 new) =
+    (poked-pokes p.block 0 (parcel_bytes 0 new) post.heap (padded 0 p) loose.plain).here ∙ ap Some (padded-rewritten 0 0 p new refl) in
     let shape : SameShape k d =
-    shape-both (subst (λ (x : Heap). SameShape x h1) (sym ek) (relinked-shape last p.block h1)) (shape-both (subst (λ (x : Heap). SameShape x h) (sym e1) (poked-shape p.block 4 (word_bytes 19) h))
+    shape-both (subst (λ (x : Heap). SameShape x h1) (sym ek) (relinked-shape last p.block h1))
+    (shape-both (subst (λ (x : Heap). SameShape x h) (sym e1) (poked-shape p.block 4 (word_bytes 19) h))
     (shape-both s.linked.shape (shape-sym (poked-shape p.block 0 (parcel_bytes 0 new) post.heap)))) in
     queue-longer h k q post new to d s alive few lt named-to loose.off joins (record { block = in-k; fits = loose.lies.fits }) shape in-d
     (λ b ne. poked-other p.block b 0 (parcel_bytes 0 new) post.heap ne) q.next_ref post.next_ref s.next_ref
@@ -117,14 +129,19 @@ returned-queued h h1 k q post p to s loose alive few lt named-to e1 ek =
         go [] el o = omega arith
         go (y ∷ ps) el o = λ z. Off-last b y ps o (sym (z ∙ el))
 
-    links-apart : (g g1 g2 : Heap) (last block : ℕ) → last ≢ block → ((b : ℕ) → b ≢ block → block_bytes b g1 ≡ block_bytes b g) → g2 ≡ relinked last block g1 → Links g g2 last block
+    links-apart : (g g1 g2 : Heap) (last block : ℕ) → last ≢ block → ((b : ℕ) → b ≢ block → block_bytes b g1 ≡ block_bytes b g) → g2 ≡ relinked last block g1
+        → Links g g2 last block
     links-apart g g1 g2 last block ne keeps e = record {
       keeps = record { each = λ b nl nb. ap (block_bytes b) e ∙ relinked-other last block b g1 nl ∙ keeps b nb };
-      linked = record { there = λ bs t. let above = block-above last g bs t in ap (block_bytes last) e ∙ relinked-last last block g1 bs (omega arith) (keeps last ne ∙ t) };
+      linked = record {
+        there = λ bs t. let above = block-above last g bs t in ap (block_bytes last) e
+            ∙ relinked-last last block g1 bs (omega arith) (keeps last ne ∙ t);
+      };
     }
 
 -- ---- a loose message vanishes
-pub vanished : (h : Heap) (q : Chains) (post : Post) (p : Parcel) → IsPost h q post → Loose h post p → IsPost (release p.block h) q (record post { heap = release p.block post.heap })
+pub vanished : (h : Heap) (q : Chains) (post : Post) (p : Parcel) → IsPost h q post → Loose h post p
+    → IsPost (release p.block h) q (record post { heap = release p.block post.heap })
 vanished h q post p s loose =
     let f = release-frees p.block h in
     let f' = release-frees p.block post.heap in
@@ -132,14 +149,16 @@ vanished h q post p s loose =
       rows = record {
         len = s.rows.len;
         each = λ i l. row-kept h (release p.block h) (entry_at q.entries i) (row_at (rows_of post) i)
-            (agree-off h (release p.block h) p.block p.block (row_parcels (row_at (rows_of post) i)) (record { each = λ b ne ne'. f.others b ne }) (loose.off i l) (loose.off i l)) (s.rows.each i l);
+            (agree-off h (release p.block h) p.block p.block (row_parcels (row_at (rows_of post) i)) (record { each = λ b ne ne'. f.others b ne })
+            (loose.off i l) (loose.off i l)) (s.rows.each i l);
         own = s.rows.own;
         cross = s.rows.cross;
         handles = s.rows.handles;
       };
       linked = record {
         shape = release-alike p.block h post.heap s.linked.shape;
-        lie = λ i l. AllLie-kept post.heap (release p.block post.heap) p.block (row_parcels (row_at (rows_of post) i)) f'.others (loose.off i l) (s.linked.lie i l);
+        lie = λ i l. AllLie-kept post.heap (release p.block post.heap) p.block (row_parcels (row_at (rows_of post) i)) f'.others (loose.off i l)
+            (s.linked.lie i l);
         others = λ b out. elim (cases_eq b p.block) [
           | inl z ↦ subst (λ m. block_bytes m (release p.block h) ≡ block_bytes m (release p.block post.heap)) (sym z) (f.gone ∙ sym f'.gone)
           | inr ne ↦ f.others b ne ∙ s.linked.others b out ∙ sym (f'.others b ne)

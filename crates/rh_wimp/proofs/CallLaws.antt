@@ -34,7 +34,8 @@ pub record Claimed (m n : Memory) (rma : Module) (size block : ℕ) : Type 0 whe
 pub claimed : (m n : Memory) (rma : Module) (size block : ℕ) → Leaves m n rma (module_claim m.free size (heap_in m rma)) (Ok block) → Claimed m n rma size block
 claimed m n rma size block w = go (module_claim m.free size (heap_in m rma)) refl w.answer w.heap
   where
-    go : (g : Granted (Heap × ℕ)) → module_claim m.free size (heap_in m rma) ≡ g → Ok block ≡ answer_of g → heap_in n rma ≡ left_of (heap_in m rma) g → Claimed m n rma size block
+    go : (g : Granted (Heap × ℕ)) → module_claim m.free size (heap_in m rma) ≡ g → Ok block ≡ answer_of g → heap_in n rma ≡ left_of (heap_in m rma) g
+        → Claimed m n rma size block
     go (Err e) eg a h = absurd cc
     go (Ok there) eg a h = record {
       there = there;
@@ -46,7 +47,8 @@ claimed m n rma size block w = go (module_claim m.free size (heap_in m rma)) ref
 
 pub claimed-block : (m n : Memory) (rma : Module) (size block : ℕ) → Claimed m n rma size block → HasBlock block size (heap_in n rma)
 claimed-block m n rma size block c =
-    subst (λ (h : Heap). HasBlock block size h) (sym c.turns.heap) (subst (λ a. HasBlock a size c.there.0) (sym c.block_is) (module_claim-has m.free size (heap_in m rma) c.there c.granted))
+    subst (λ (h : Heap). HasBlock block size h) (sym c.turns.heap) (subst (λ a. HasBlock a size c.there.0) (sym c.block_is)
+    (module_claim-has m.free size (heap_in m rma) c.there c.granted))
 
 -- ---- writes in a row
 pub wrote-block : (m n : Memory) (rma : Module) (a o k : ℕ) (xs : List ℕ) → Wrote m n rma a o xs → HasBlock a k (heap_in m rma) → HasBlock a k (heap_in n rma)
@@ -86,7 +88,8 @@ placed-there m n n1 rma size block xs c w there e =
     })
 
 -- ---- frees
-module _ (m n : Memory) (rma : Module) (a k : ℕ) (result : Granted (Unit {0})) (b : HasBlock a k (heap_in m rma)) (w : Leaves m n rma (no_answer (module_free a (heap_in m rma))) result) where
+module _ (m n : Memory) (rma : Module) (a k : ℕ) (result : Granted (Unit {0})) (b : HasBlock a k (heap_in m rma))
+    (w : Leaves m n rma (no_answer (module_free a (heap_in m rma))) result) where
   granted : no_answer (module_free a (heap_in m rma)) ≡ Ok (release a (heap_in m rma), tt)
   granted = ap no_answer (module_free-there a (heap_in m rma) b.bytes b.found)
 

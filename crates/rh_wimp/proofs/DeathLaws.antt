@@ -23,7 +23,8 @@ seat-gone : (h : ℕ) (seats : List Seat) → has_seat h (seats_but h seats) ≡
 seat-gone h [] = refl
 seat-gone h (s ∷ seats) = go (eqb s.handle h) refl (seat-gone h seats)
   where
-    go : (t : Bool) → eqb s.handle h ≡ t → has_seat h (seats_but h seats) ≡ false → has_seat h (cond (not t) (s ∷ seats_but h seats) (seats_but h seats)) ≡ false
+    go : (t : Bool) → eqb s.handle h ≡ t → has_seat h (seats_but h seats) ≡ false
+        → has_seat h (cond (not t) (s ∷ seats_but h seats) (seats_but h seats)) ≡ false
     go true e f = f
     go false e f = cond_false (eqb s.handle h) _ _ e ∙ f
 
@@ -33,7 +34,8 @@ seat-other h y [] ne = refl
 seat-other h y (s ∷ seats) ne = elim (cases_eq s.handle h) [
   | inl e ↦ ap (λ t. has_seat y (cond (not t) (s ∷ seats_but h seats) (seats_but h seats))) (eqb_same s.handle h e) ∙ seat-other h y seats ne
       ∙ sym (cond_false (eqb s.handle y) _ _ (eqb_apart s.handle y (λ z. ne (sym z ∙ e))))
-  | inr n ↦ ap (λ t. has_seat y (cond (not t) (s ∷ seats_but h seats) (seats_but h seats))) (eqb_apart s.handle h n) ∙ ap (cond (eqb s.handle y) true) (seat-other h y seats ne)
+  | inr n ↦ ap (λ t. has_seat y (cond (not t) (s ∷ seats_but h seats) (seats_but h seats))) (eqb_apart s.handle h n)
+      ∙ ap (cond (eqb s.handle y) true) (seat-other h y seats ne)
 ]
 
 -- what the dead one held is of no account
@@ -60,9 +62,11 @@ abbrev queued_more : Parcel → Post → Post
 queued_more p post = record post { queued = post.queued ++ as_returned p ∷ []; heap = poked p.block 0 (parcel_bytes 0 (as_returned p)) post.heap }
 
 pub from-itself : (h : ℕ) (p : Parcel) (post : Post) → p.message.from ≡ h → bounced p (without_seat h post) ≡ without_block p (without_seat h post)
-from-itself h p post e = cond_false (has_seat p.message.from (seats_but h post.seats)) _ _ (ap (λ y. has_seat y (seats_but h post.seats)) e ∙ seat-gone h post.seats)
+from-itself h p post e =
+    cond_false (has_seat p.message.from (seats_but h post.seats)) _ _ (ap (λ y. has_seat y (seats_but h post.seats)) e ∙ seat-gone h post.seats)
 
-away-more : (h : ℕ) (p : Parcel) (queue : List Parcel) → p.message.from ≢ h → queue_but h (queue ++ as_returned p ∷ []) ≡ queue_but h queue ++ as_returned p ∷ []
+away-more : (h : ℕ) (p : Parcel) (queue : List Parcel) → p.message.from ≢ h
+    → queue_but h (queue ++ as_returned p ∷ []) ≡ queue_but h queue ++ as_returned p ∷ []
 away-more h p queue ne =
     filter-append (λ (r : Parcel). not (r.to == h)) queue (as_returned p ∷ [])
     ∙ ap (λ l. queue_but h queue ++ l) (cond_true (not (eqb p.message.from h)) _ _ (ap not (eqb_apart p.message.from h ne)))
@@ -76,34 +80,45 @@ without-bounced h p post ne = go (has_seat p.message.from post.seats) refl
     go : (t : Bool) → has_seat p.message.from post.seats ≡ t → without_seat h (bounced p post) ≡ bounced p (without_seat h post)
     go true e =
         ap (without_seat h) (cond_true (has_seat p.message.from post.seats) (queued_more p post) (without_block p post) e)
-        ∙ ap (λ (l : List Parcel). let k : Post = record { seats = seats_but h post.seats; queued = l; heap = poked p.block 0 (parcel_bytes 0 (as_returned p)) post.heap; next_ref = post.next_ref } in k) (away-more h p post.queued ne)
-        ∙ sym (cond_true (has_seat p.message.from (seats_but h post.seats)) (queued_more p (without_seat h post)) (without_block p (without_seat h post)) (same ∙ e))
+        ∙ ap (λ (l : List Parcel). let k : Post =
+        record { seats = seats_but h post.seats; queued = l; heap = poked p.block 0 (parcel_bytes 0 (as_returned p)) post.heap; next_ref = post.next_ref } in
+        k) (away-more h p post.queued ne)
+        ∙ sym (cond_true (has_seat p.message.from (seats_but h post.seats)) (queued_more p (without_seat h post)) (without_block p (without_seat h post))
+        (same ∙ e))
     go false e =
         ap (without_seat h) (cond_false (has_seat p.message.from post.seats) (queued_more p post) (without_block p post) e)
-        ∙ sym (cond_false (has_seat p.message.from (seats_but h post.seats)) (queued_more p (without_seat h post)) (without_block p (without_seat h post)) (same ∙ e))
+        ∙ sym (cond_false (has_seat p.message.from (seats_but h post.seats)) (queued_more p (without_seat h post)) (without_block p (without_seat h post))
+        (same ∙ e))
 
 pub queue-bounced : (h : ℕ) (p : Parcel) (post : Post) → p.message.from ≢ h → queue_to h (bounced p post).queued ≡ queue_to h post.queued
-queue-bounced h p post ne = elim (has_seat p.message.from post.seats) as (λ t. queue_to h (cond t (queued_more p post) (without_block p post)).queued ≡ queue_to h post.queued) [
-  | true ↦ filter-append (λ (r : Parcel). r.to == h) post.queued (as_returned p ∷ []) ∙ ap (λ l. queue_to h post.queued ++ l) (cond_false (eqb p.message.from h) _ _ (eqb_apart p.message.from h ne)) ∙ append-nil (queue_to h post.queued)
-  | false ↦ refl
-]
+queue-bounced h p post ne =
+    elim (has_seat p.message.from post.seats) as (λ t. queue_to h (cond t (queued_more p post) (without_block p post)).queued ≡ queue_to h post.queued) [
+      | true ↦ filter-append (λ (r : Parcel). r.to == h) post.queued (as_returned p ∷ [])
+          ∙ ap (λ l. queue_to h post.queued ++ l) (cond_false (eqb p.message.from h) _ _ (eqb_apart p.message.from h ne)) ∙ append-nil (queue_to h post.queued)
+      | false ↦ refl
+    ]
 
 -- a message bounces alike, whether the dying task's seat is still there or not
-pub rest-bounced : (h : ℕ) (p : Parcel) (post : Post) → rest_of_death h (bounced_from h p post) ≡ bounce_all (queue_to h post.queued) (bounced p (without_seat h post))
+pub rest-bounced : (h : ℕ) (p : Parcel) (post : Post)
+    → rest_of_death h (bounced_from h p post) ≡ bounce_all (queue_to h post.queued) (bounced p (without_seat h post))
 rest-bounced h p post = elim (cases_eq p.message.from h) [
-  | inl e ↦ ap (rest_of_death h) (cond_true (eqb p.message.from h) (without_block p post) (bounced p post) (eqb_same p.message.from h e)) ∙ ap (bounce_all (queue_to h post.queued)) (sym (from-itself h p post e))
+  | inl e ↦ ap (rest_of_death h) (cond_true (eqb p.message.from h) (without_block p post) (bounced p post) (eqb_same p.message.from h e))
+      ∙ ap (bounce_all (queue_to h post.queued)) (sym (from-itself h p post e))
   | inr ne ↦ ap (rest_of_death h) (cond_false (eqb p.message.from h) (without_block p post) (bounced p post) (eqb_apart p.message.from h ne))
-      ∙ ap (λ l. bounce_all l (without_seat h (bounced p post))) (queue-bounced h p post ne) ∙ ap (bounce_all (queue_to h post.queued)) (without-bounced h p post ne)
+      ∙ ap (λ l. bounce_all l (without_seat h (bounced p post))) (queue-bounced h p post ne)
+      ∙ ap (bounce_all (queue_to h post.queued)) (without-bounced h p post ne)
 ]
 
 pub queue-from : (h : ℕ) (p : Parcel) (post : Post) → queue_to h (bounced_from h p post).queued ≡ queue_to h post.queued
 queue-from h p post = elim (cases_eq p.message.from h) [
   | inl e ↦ ap (λ (k : Post). queue_to h k.queued) (cond_true (eqb p.message.from h) (without_block p post) (bounced p post) (eqb_same p.message.from h e))
-  | inr ne ↦ ap (λ (k : Post). queue_to h k.queued) (cond_false (eqb p.message.from h) (without_block p post) (bounced p post) (eqb_apart p.message.from h ne)) ∙ queue-bounced h p post ne
+  | inr ne ↦ ap (λ (k : Post). queue_to h k.queued) (cond_false (eqb p.message.from h) (without_block p post) (bounced p post)
+      (eqb_apart p.message.from h ne)) ∙ queue-bounced h p post ne
 ]
 
 pub seats-from : (h : ℕ) (p : Parcel) (post : Post) → (bounced_from h p post).seats ≡ post.seats
-seats-from h p post = elim (eqb p.message.from h) as (λ t. (cond t (without_block p post) (bounced p post)).seats ≡ post.seats) [ true ↦ refl | false ↦ bounced-seats p post ]
+seats-from h p post =
+    elim (eqb p.message.from h) as (λ t. (cond t (without_block p post) (bounced p post)).seats ≡ post.seats) [ true ↦ refl | false ↦ bounced-seats p post ]
 
 -- ---- the message that is held
 pub death-settled : (h : ℕ) (post : Post) → post_death h post ≡ rest_of_death h (settled_from h (held_by h post.seats) post)
@@ -113,29 +128,38 @@ death-settled h post = go (held_by h post.seats)
     go : (o : Option Parcel) → bounce_all (queue_to h post.queued) (bounce_held h o (without_seat h post)) ≡ rest_of_death h (settled_from h o post)
     go None = refl
     go (Some p) =
-        ap (λ (ss : List Seat). bounce_all (queue_to h post.queued) (bounced p (let k : Post = record { seats = ss; queued = queue_but h post.queued; heap = post.heap; next_ref = post.next_ref } in k)))
+        ap (λ (ss : List Seat). bounce_all (queue_to h post.queued) (bounced p
+        (let k : Post = record { seats = ss; queued = queue_but h post.queued; heap = post.heap; next_ref = post.next_ref } in k)))
         (none-to-hold h None post.seats ∙ sym (held-dropped h None post.seats))
         ∙ sym (rest-bounced h p (lifted h post))
 
 -- ---- one message that was queued
-pub death-step : (h : ℕ) (post : Post) (p : Parcel) (rest : List Parcel) → FirstFor h post.queued p rest → rest_of_death h (ended_from h p (rest_of rest post)) ≡ rest_of_death h post
+pub death-step : (h : ℕ) (post : Post) (p : Parcel) (rest : List Parcel) → FirstFor h post.queued p rest
+    → rest_of_death h (ended_from h p (rest_of rest post)) ≡ rest_of_death h post
 death-step h post p rest w = go (is_recorded p.code) refl
   where
-    all-are : rest_of_death h post ≡ bounce_all (queue_to h rest) (cond (is_recorded p.code) (bounced p (without_seat h (rest_of rest post))) (without_block p (without_seat h (rest_of rest post))))
+    all-are : rest_of_death h post ≡ bounce_all (queue_to h rest) (cond (is_recorded p.code) (bounced p (without_seat h (rest_of rest post)))
+        (without_block p (without_seat h (rest_of rest post))))
     all-are =
         ap (λ l. bounce_all l (without_seat h post)) w.same
-        ∙ ap (λ (l : List Parcel). let k : Post = record { seats = seats_but h post.seats; queued = l; heap = post.heap; next_ref = post.next_ref } in bounce_all (queue_to h rest) (cond (is_recorded p.code) (bounced p k) (without_block p k))) w.away
+        ∙ ap (λ (l : List Parcel). let k : Post = record { seats = seats_but h post.seats; queued = l; heap = post.heap; next_ref = post.next_ref } in
+        bounce_all (queue_to h rest) (cond (is_recorded p.code) (bounced p k) (without_block p k))) w.away
 
     go : (t : Bool) → is_recorded p.code ≡ t → rest_of_death h (ended_from h p (rest_of rest post)) ≡ rest_of_death h post
     go true e =
-        ap (rest_of_death h) (cond_true (is_recorded p.code) (bounced_from h p (rest_of rest post)) (without_block p (rest_of rest post)) e) ∙ rest-bounced h p (rest_of rest post)
-        ∙ sym (all-are ∙ ap (bounce_all (queue_to h rest)) (cond_true (is_recorded p.code) (bounced p (without_seat h (rest_of rest post))) (without_block p (without_seat h (rest_of rest post))) e))
+        ap (rest_of_death h) (cond_true (is_recorded p.code) (bounced_from h p (rest_of rest post)) (without_block p (rest_of rest post)) e)
+        ∙ rest-bounced h p (rest_of rest post)
+        ∙ sym (all-are ∙ ap (bounce_all (queue_to h rest)) (cond_true (is_recorded p.code) (bounced p (without_seat h (rest_of rest post)))
+        (without_block p (without_seat h (rest_of rest post))) e))
     go false e =
         ap (rest_of_death h) (cond_false (is_recorded p.code) (bounced_from h p (rest_of rest post)) (without_block p (rest_of rest post)) e)
-        ∙ sym (all-are ∙ ap (bounce_all (queue_to h rest)) (cond_false (is_recorded p.code) (bounced p (without_seat h (rest_of rest post))) (without_block p (without_seat h (rest_of rest post))) e))
+        ∙ sym (all-are ∙ ap (bounce_all (queue_to h rest)) (cond_false (is_recorded p.code) (bounced p (without_seat h (rest_of rest post)))
+        (without_block p (without_seat h (rest_of rest post))) e))
 
 pub queue-ended : (h : ℕ) (p : Parcel) (post : Post) → queue_to h (ended_from h p post).queued ≡ queue_to h post.queued
-queue-ended h p post = elim (is_recorded p.code) as (λ t. queue_to h (cond t (bounced_from h p post) (without_block p post)).queued ≡ queue_to h post.queued) [ true ↦ queue-from h p post | false ↦ refl ]
+queue-ended h p post = elim (is_recorded p.code) as (λ t. queue_to h (cond t (bounced_from h p post) (without_block p post)).queued ≡ queue_to h post.queued)
+    [ true ↦ queue-from h p post | false ↦ refl ]
 
 pub seats-ended : (h : ℕ) (p : Parcel) (post : Post) → (ended_from h p post).seats ≡ post.seats
-seats-ended h p post = elim (is_recorded p.code) as (λ t. (cond t (bounced_from h p post) (without_block p post)).seats ≡ post.seats) [ true ↦ seats-from h p post | false ↦ refl ]
+seats-ended h p post = elim (is_recorded p.code) as (λ t. (cond t (bounced_from h p post) (without_block p post)).seats ≡ post.seats)
+    [ true ↦ seats-from h p post | false ↦ refl ]

@@ -18,7 +18,8 @@ pub name-within : (b : List ℕ) (end n : ℕ) → 48 ≤ end → name_length b 
 name-within b end n low e = let s = (found_spelled b end n low e).3 in omega (arith, length-part b 44 n)
 
 -- the answer, by the action and what was read for it
-pub decoded-body : (b : List ℕ) (o : Option Action) (r : Result Body MessageFault) → has_length b ≡ true → action_at (word b 16) ≡ o → body_for b (word b 0) o ≡ r → decoded b ≡ message_in b r
+pub decoded-body : (b : List ℕ) (o : Option Action) (r : Result Body MessageFault) → has_length b ≡ true → action_at (word b 16) ≡ o
+    → body_for b (word b 0) o ≡ r → decoded b ≡ message_in b r
 unfolding decoded
 decoded-body b o r t eo er = cond_true (has_length b) _ _ t ∙ ap (λ a. message_in b (body_for b (word b 0) a)) eo ∙ ap (message_in b) er
 

@@ -15,13 +15,15 @@ are-words [] f = tt
 are-words (n ∷ ns) f = (f 0 (omega arith), are-words ns (λ i l. f (suc i) (omega arith)))
 
 -- one word more
-pub words-one : (o : List ℕ) (at p : ℕ) (ns : List ℕ) (n : ℕ) → p ≡ at + 4 * length ns → put (put o at (words ns)) p (word_bytes n) ≡ put o at (words (ns ++ n ∷ []))
+pub words-one : (o : List ℕ) (at p : ℕ) (ns : List ℕ) (n : ℕ) → p ≡ at + 4 * length ns
+    → put (put o at (words ns)) p (word_bytes n) ≡ put o at (words (ns ++ n ∷ []))
 words-one o at p ns n e =
     puts_in_row o at p (words ns) (word_bytes n) (omega (arith, length-words ns))
     ∙ ap (put o at) (sym (words-append ns (n ∷ []) ∙ ap (λ l. words ns ++ l) (append-nil (word_bytes n))))
 
 -- a name, and the zeros behind it
-pub name-put : (o o1 o2 name : List ℕ) (room : ℕ) → o1 ≡ put o 44 name → o2 ≡ put o1 (44 + length name) (zeros (room - length name)) → room ≡ length (name_bytes name) → o2 ≡ put o 44 (name_bytes name)
+pub name-put : (o o1 o2 name : List ℕ) (room : ℕ) → o1 ≡ put o 44 name → o2 ≡ put o1 (44 + length name) (zeros (room - length name))
+    → room ≡ length (name_bytes name) → o2 ≡ put o 44 (name_bytes name)
 name-put o o1 o2 name room e1 e2 er =
     let pad : ℕ = 4 * ((length name + 1 + 3) / 4) - length name in
     let l = length-append name (zeros pad) in
@@ -31,8 +33,8 @@ name-put o o1 o2 name room e1 e2 er =
     ∙ ap (λ k. put o 44 (name ++ zeros k)) (omega arith)
 
 -- the action, and what follows it
-pub body-put : (body made : Body) (o o1 o2 : List ℕ) (n : ℕ) → body ≡ made → n ≡ action_number (action_of body) → o1 ≡ put o 16 (word_bytes n) → o2 ≡ put o1 20 (words (data_words made) ++ tail_bytes made)
-    → o2 ≡ put o 16 (body_bytes body)
+pub body-put : (body made : Body) (o o1 o2 : List ℕ) (n : ℕ) → body ≡ made → n ≡ action_number (action_of body) → o1 ≡ put o 16 (word_bytes n)
+    → o2 ≡ put o1 20 (words (data_words made) ++ tail_bytes made) → o2 ≡ put o 16 (body_bytes body)
 unfolding body_bytes
 body-put body made o o1 o2 n e en e1 e2 =
     let rest : List ℕ = words (data_words made) ++ tail_bytes made in
@@ -42,8 +44,8 @@ body-put body made o o1 o2 n e en e1 e2 =
     ∙ ap (λ b. put o 16 (words (action_number (action_of body) ∷ data_words b) ++ tail_bytes b)) (sym e)
 
 -- the head before the body
-pub encoded-put : (o o1 o2 : List ℕ) (m : Message) (n : ℕ) → length o ≡ LONGEST_MESSAGE → o1 ≡ put o 16 (body_bytes m.body) → o2 ≡ put o1 0 (words (n ∷ m.from ∷ m.my_ref ∷ m.your_ref ∷ [])) → n ≡ encoded_length m → n ≤ LONGEST_MESSAGE
-    → o2 ≡ put o 0 (encoded m)
+pub encoded-put : (o o1 o2 : List ℕ) (m : Message) (n : ℕ) → length o ≡ LONGEST_MESSAGE → o1 ≡ put o 16 (body_bytes m.body)
+    → o2 ≡ put o1 0 (words (n ∷ m.from ∷ m.my_ref ∷ m.your_ref ∷ [])) → n ≡ encoded_length m → n ≤ LONGEST_MESSAGE → o2 ≡ put o 0 (encoded m)
 unfolding encoded
 encoded-put o o1 o2 m n lo e1 e2 en few =
     let head : List ℕ = words (encoded_length m ∷ m.from ∷ m.my_ref ∷ m.your_ref ∷ []) in

@@ -21,9 +21,11 @@ use Rattle.rh_wimp.proofs.TakeLaws.{first-none, first-some, rest_of}
 
 -- ---- one message
 -- a loose message whose block was freed
-pub may-vanish : (m : Memory) (rma : Module) (q : Chains) (post : Post) (p : Parcel) (block : ℕ) (k : Heap) → MayBounce m rma q post p block → k ≡ release block (heap_in m rma) → IsPost k q (without_block p post)
+pub may-vanish : (m : Memory) (rma : Module) (q : Chains) (post : Post) (p : Parcel) (block : ℕ) (k : Heap) → MayBounce m rma q post p block
+    → k ≡ release block (heap_in m rma) → IsPost k q (without_block p post)
 may-vanish m rma q post p block k w e =
-    subst (λ (g : Heap). IsPost g q (without_block p post)) (sym (e ∙ ap (λ a. release a (heap_in m rma)) w.block_is)) (vanished (heap_in m rma) q post p w.spells w.loose)
+    subst (λ (g : Heap). IsPost g q (without_block p post)) (sym (e ∙ ap (λ a. release a (heap_in m rma)) w.block_is))
+    (vanished (heap_in m rma) q post p w.spells w.loose)
 
 pub from-dying : (h : ℕ) (p : Parcel) (post : Post) → p.message.from ≡ h → bounced_from h p post ≡ without_block p post
 from-dying h p post e = cond_true (p.message.from == h) (without_block p post) (bounced p post) (eqb_same p.message.from h e)
@@ -44,16 +46,20 @@ drained-start m rma q post h s =
     let few = s.few in
     (post, record { spells = s; same = refl; few = omega arith; seats = refl })
 
-pub drained-step : (m n k : Memory) (rma : Module) (q q1 q2 : Chains) (post now : Post) (h turn block : ℕ) (t : Parcel × List Parcel) → Drained m rma q post h turn now → Lifted n rma q1 now h block t
+pub drained-step : (m n k : Memory) (rma : Module) (q q1 q2 : Chains) (post now : Post) (h turn block : ℕ) (t : Parcel × List Parcel)
+    → Drained m rma q post h turn now → Lifted n rma q1 now h block t
     → SpellsPost k rma q2 (ended_from h t.0 (rest_of t.1 now)) → Drains k rma q2 post h (turn + 1)
 drained-step m n k rma q q1 q2 post now h turn block t d w s =
     let f = first-some h now.queued t w.first in
     let l = ap length f.same in
     let e = ap length (queue-ended h t.0 (rest_of t.1 now)) in
-    let few = d.few in
-    (ended_from h t.0 (rest_of t.1 now), record { spells = s; same = death-step h now t.0 t.1 f ∙ d.same; few = omega arith; seats = seats-ended h t.0 (rest_of t.1 now) ∙ d.seats })
+    let few = d.few in (
+      ended_from h t.0 (rest_of t.1 now),
+      record { spells = s; same = death-step h now t.0 t.1 f ∙ d.same; few = omega arith; seats = seats-ended h t.0 (rest_of t.1 now) ∙ d.seats },
+    )
 
-pub drained-end : (m n : Memory) (rma : Module) (q q1 : Chains) (post now : Post) (h turn : ℕ) → Drained m rma q post h turn now → LiftsFirst n rma q1 now h None → Drains n rma q1 post h most_messages
+pub drained-end : (m n : Memory) (rma : Module) (q q1 : Chains) (post now : Post) (h turn : ℕ) → Drained m rma q post h turn now
+    → LiftsFirst n rma q1 now h None → Drains n rma q1 post h most_messages
 drained-end m n rma q q1 post now h turn d w =
     let l = ap length (first-none h now.queued w.0) in
     (now, record { spells = w.1; same = d.same; few = omega arith; seats = d.seats })
@@ -68,18 +74,20 @@ pub record Ends (m n : Memory) (rma : Module) (q k : Chains) (h i turn : ℕ) : 
 
 -- ---- places
 -- the place of a task stays where the seats have the same handles
-pub place-stays : (h g : Heap) (q k : Chains) (post other : Post) (i : ℕ) → length other.seats ≡ length post.seats → (seat_at other.seats i).handle ≡ (seat_at post.seats i).handle → IsPost h q post → IsPost g k other → i < length q.entries
-    → Stays q k i
+pub place-stays : (h g : Heap) (q k : Chains) (post other : Post) (i : ℕ) → length other.seats ≡ length post.seats
+    → (seat_at other.seats i).handle ≡ (seat_at post.seats i).handle → IsPost h q post → IsPost g k other → i < length q.entries → Stays q k i
 place-stays h g q k post other i el eh s t l =
     let a = as_many h q post s in
     let b = as_many g k other t in
     record { within = omega arith; handle = (seated g k other i t (omega arith)).handle ∙ eh ∙ sym (seated h q post i s l).handle }
 
-pub settled-stays : (h g : Heap) (q k : Chains) (post : Post) (x i : ℕ) (o : Option Parcel) → IsPost h q post → IsPost g k (settled_from x o post) → i < length q.entries → Stays q k i
+pub settled-stays : (h g : Heap) (q k : Chains) (post : Post) (x i : ℕ) (o : Option Parcel) → IsPost h q post → IsPost g k (settled_from x o post)
+    → i < length q.entries → Stays q k i
 settled-stays h g q k post x i None s t l = place-stays h g q k post post i refl refl s t l
 settled-stays h g q k post x i (Some p) s t l =
     let e = seats-from x p (lifted x post) in
-    place-stays h g q k post (bounced_from x p (lifted x post)) i (ap length e ∙ same-length x post.seats) (ap (λ ss. (seat_at ss i).handle) e ∙ same-handle x post.seats i) s t l
+    place-stays h g q k post (bounced_from x p (lifted x post)) i (ap length e ∙ same-length x post.seats)
+    (ap (λ ss. (seat_at ss i).handle) e ∙ same-handle x post.seats i) s t l
 
 pub settled-none : (x : ℕ) (o : Option Parcel) (post : Post) → held_by x post.seats ≡ o → held_by x (settled_from x o post).seats ≡ None
 settled-none x None post e = e
@@ -91,8 +99,8 @@ no_length [] l = refl
 no_length (p ∷ ps) l = absurd (omega arith)
 
 -- once no message is left for the handle, its seat goes
-pub death-done : (m : Memory) (rma : Module) (q : Chains) (post : Post) (x i : ℕ) → i < length q.entries → (entry_at q.entries i).handle ≡ x → Drains m rma q (settled_from x (held_by x post.seats) post) x most_messages
-    → IsPost (heap_in m rma) (left_chains i q) (post_death x post)
+pub death-done : (m : Memory) (rma : Module) (q : Chains) (post : Post) (x i : ℕ) → i < length q.entries → (entry_at q.entries i).handle ≡ x
+    → Drains m rma q (settled_from x (held_by x post.seats) post) x most_messages → IsPost (heap_in m rma) (left_chains i q) (post_death x post)
 death-done m rma q post x i lt e d =
     let now : Post = d.0 in
     let few = d.1.few in

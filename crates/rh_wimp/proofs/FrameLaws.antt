@@ -15,7 +15,8 @@ use Rattle.rh_wimp.proofs.SendLaws.{alike-ok}
 use Rattle.rh_defs.proofs.ShapeLaws.{module_claim-alike, release-alike}
 
 -- the messages' blocks stay where but two others change
-AllLie-but : (d k : Heap) (x y : ℕ) (ps : List Parcel) → ((b : ℕ) → b ≢ x → b ≢ y → block_bytes b k ≡ block_bytes b d) → Off x ps → Off y ps → AllLie d ps → AllLie k ps
+AllLie-but : (d k : Heap) (x y : ℕ) (ps : List Parcel) → ((b : ℕ) → b ≢ x → b ≢ y → block_bytes b k ≡ block_bytes b d) → Off x ps → Off y ps → AllLie d ps
+    → AllLie k ps
 AllLie-but d k x y [] s o r a = tt
 AllLie-but d k x y (p ∷ ps) s o r a = (s p.block o.0 r.0 ∙ a.0, AllLie-but d k x y ps s o.1 r.1 a.1)
 
@@ -57,7 +58,8 @@ module _ (h k : Heap) (q : Chains) (post : Post) (d : Heap) (x y : ℕ) where
 -- one block that holds no message changes, in both heaps alike
 module _ (h k : Heap) (q : Chains) (post : Post) (d : Heap) (a : ℕ) where
   pub block-changed : IsPost h q post → IsOff a post → SameShape k d
-      → ((b : ℕ) → b ≢ a → block_bytes b k ≡ block_bytes b h) → ((b : ℕ) → b ≢ a → block_bytes b d ≡ block_bytes b post.heap) → block_bytes a k ≡ block_bytes a d → IsPost k q (record post { heap = d })
+      → ((b : ℕ) → b ≢ a → block_bytes b k ≡ block_bytes b h) → ((b : ℕ) → b ≢ a → block_bytes b d ≡ block_bytes b post.heap)
+      → block_bytes a k ≡ block_bytes a d → IsPost k q (record post { heap = d })
   block-changed s off shape keeps keeps' same = blocks-changed h k q post d a a s off off shape (λ b ne ne'. keeps b ne) (λ b ne ne'. keeps' b ne) same same
 
 -- a block that others claim: the plain heap grants the same, and the post stays
@@ -66,7 +68,8 @@ pub record ClaimedBeside (h : Heap) (q : Chains) (post : Post) (free n : ℕ) (t
   pub granted : module_claim free n post.heap ≡ Ok (plain, there.1)
   pub spells : IsPost there.0 q (record post { heap = plain })
 
-pub claimed-beside : (h : Heap) (q : Chains) (post : Post) (free n : ℕ) (there : Heap × ℕ) → IsPost h q post → module_claim free n h ≡ Ok there → ClaimedBeside h q post free n there
+pub claimed-beside : (h : Heap) (q : Chains) (post : Post) (free n : ℕ) (there : Heap × ℕ) → IsPost h q post → module_claim free n h ≡ Ok there
+    → ClaimedBeside h q post free n there
 claimed-beside h q post free n there s e =
     let d = alike-ok (module_claim free n h) (module_claim free n post.heap) there (module_claim-alike free n h post.heap s.linked.shape) e in
     let w = module_claim-puts free n h there e in
@@ -74,7 +77,8 @@ claimed-beside h q post free n there s e =
     record {
       plain = d.0;
       granted = d.1.0;
-      spells = block-changed h there.0 q post d.0 there.1 s (λ j l. row-fresh h (entry_at q.entries j) (row_at (rows_of post) j) there.1 w.fresh (s.rows.each j l)) d.1.1 w.others v.others (w.here ∙ sym v.here);
+      spells = block-changed h there.0 q post d.0 there.1 s (λ j l. row-fresh h (entry_at q.entries j) (row_at (rows_of post) j) there.1 w.fresh
+          (s.rows.each j l)) d.1.1 w.others v.others (w.here ∙ sym v.here);
     }
 
 -- a block of others that is freed

@@ -1,5 +1,6 @@
 -- The live messages as they are listed.
-use Rattle.std.proofs.Common.{◌≡◌, ℕ, zero, suc, ◌+◌, ◌<◌, ◌≤◌, ◌≢◌, ◌^◌, Bool, true, false, List, [], ◌∷◌, ◌++◌, length, map, drop, get_or, refl, sym, ap, ◌∙◌, arith, append-nil}
+use Rattle.std.proofs.Common.{◌≡◌, ℕ, zero, suc, ◌+◌, ◌<◌, ◌≤◌, ◌≢◌, ◌^◌, Bool, true, false, List, [], ◌∷◌, ◌++◌, length, map, drop, get_or, refl, sym, ap}
+use Rattle.std.proofs.Common.{◌∙◌, arith, append-nil}
 use Rattle.std.proofs.Math.ListN.{drop_of_length-le}
 use Rattle.std.proofs.lemmas.List.{length-map, length-append, append_assoc}
 use Rattle.std.specs.Prelude.{Option, Some, None}
@@ -85,29 +86,32 @@ pub record Meets (m : Memory) (rma : Module) (block turn to : ℕ) (ps : List Pa
   pub room : suc (length items) + length rest ≤ most_messages
   pub all : items ++ (item_of to false parcel ∷ waiting to rest) ≡ old ++ waiting to ps
 
-pub walk-begins : (h : Heap) (first to : ℕ) (ps : List Parcel) (old : List MessageItem) → first ≡ first_block ps 0 → Chain h ps 0 → length old + length ps ≤ most_messages → Walks h first 0 to ps old old
+pub walk-begins : (h : Heap) (first to : ℕ) (ps : List Parcel) (old : List MessageItem) → first ≡ first_block ps 0 → Chain h ps 0
+    → length old + length ps ≤ most_messages → Walks h first 0 to ps old old
 walk-begins h first to ps old e c l = record { rest = ps; block_is = e; chain = c; few = omega arith; room = l; all = refl }
 
-pub walk-none : (h : Heap) (block turn to : ℕ) (ps : List Parcel) (old items : List MessageItem) → Walks h block turn to ps old items → block ≡ 0 → items ≡ old ++ waiting to ps
+pub walk-none : (h : Heap) (block turn to : ℕ) (ps : List Parcel) (old items : List MessageItem) → Walks h block turn to ps old items → block ≡ 0
+    → items ≡ old ++ waiting to ps
 walk-none h block turn to ps old items w z = go w.rest w.block_is w.chain w.all
   where
     go : (rest : List Parcel) → block ≡ first_block rest 0 → Chain h rest 0 → items ++ waiting to rest ≡ old ++ waiting to ps → items ≡ old ++ waiting to ps
     go [] e c all = sym (append-nil items) ∙ all
     go (p ∷ rest) e c all = let l = lies-above h (first_block rest 0) p c.0 in absurd (omega arith)
 
-pub walk-past : (h : Heap) (block turn to : ℕ) (ps : List Parcel) (old items : List MessageItem) → Walks h block turn to ps old items → most_messages ≤ turn → items ≡ old ++ waiting to ps
+pub walk-past : (h : Heap) (block turn to : ℕ) (ps : List Parcel) (old items : List MessageItem) → Walks h block turn to ps old items → most_messages ≤ turn
+    → items ≡ old ++ waiting to ps
 walk-past h block turn to ps old items w z = go w.rest w.few w.all
   where
     go : (rest : List Parcel) → length rest + turn ≤ most_messages → items ++ waiting to rest ≡ old ++ waiting to ps → items ≡ old ++ waiting to ps
     go [] f all = sym (append-nil items) ∙ all
     go (p ∷ rest) f all = absurd (omega arith)
 
-pub walk-some : (m : Memory) (rma : Module) (block turn to : ℕ) (ps : List Parcel) (old items : List MessageItem) → IsModule m rma → length (bytes m rma.area.0) ≤ area_limit
-    → Walks (heap_in m rma) block turn to ps old items → block ≢ 0 → Meets m rma block turn to ps old items
+pub walk-some : (m : Memory) (rma : Module) (block turn to : ℕ) (ps : List Parcel) (old items : List MessageItem) → IsModule m rma
+    → length (bytes m rma.area.0) ≤ area_limit → Walks (heap_in m rma) block turn to ps old items → block ≢ 0 → Meets m rma block turn to ps old items
 walk-some m rma block turn to ps old items s l w ne = go w.rest w.block_is w.chain w.few w.room w.all
   where
-    go : (rest : List Parcel) → block ≡ first_block rest 0 → Chain (heap_in m rma) rest 0 → length rest + turn ≤ most_messages → length items + length rest ≤ most_messages
-        → items ++ waiting to rest ≡ old ++ waiting to ps → Meets m rma block turn to ps old items
+    go : (rest : List Parcel) → block ≡ first_block rest 0 → Chain (heap_in m rma) rest 0 → length rest + turn ≤ most_messages
+        → length items + length rest ≤ most_messages → items ++ waiting to rest ≡ old ++ waiting to ps → Meets m rma block turn to ps old items
     go [] e c f r all = absurd (ne e)
     go (p ∷ rest) e c f r all = record {
       parcel = p;
@@ -119,8 +123,10 @@ walk-some m rma block turn to ps old items s l w ne = go w.rest w.block_is w.cha
       all = all;
     }
 
-pub walk-on : (m : Memory) (rma : Module) (block turn to next : ℕ) (ps : List Parcel) (old items more : List MessageItem) (item : MessageItem) (w : Meets m rma block turn to ps old items)
-    → more ≡ items ++ item ∷ [] → item ≡ item_of to false w.parcel → ((bs : List ℕ) → block_bytes block (heap_in m rma) ≡ Some bs → next ≡ word bs 0) → Walks (heap_in m rma) next (turn + 1) to ps old more
+pub walk-on : (m : Memory) (rma : Module) (block turn to next : ℕ) (ps : List Parcel) (old items more : List MessageItem) (item : MessageItem)
+    (w : Meets m rma block turn to ps old items)
+    → more ≡ items ++ item ∷ [] → item ≡ item_of to false w.parcel → ((bs : List ℕ) → block_bytes block (heap_in m rma) ≡ Some bs → next ≡ word bs 0)
+    → Walks (heap_in m rma) next (turn + 1) to ps old more
 walk-on m rma block turn to next ps old items more item w e f r = record {
   rest = w.rest;
   block_is = r (padded (first_block w.rest 0) w.parcel) (links-bytes w.links) ∙ link_read (first_block w.rest 0) w.parcel w.links.small w.links.lies.fits;
@@ -145,8 +151,8 @@ abbrev pub Goes : (List Row → List MessageItem) → ℕ → List Row → List 
 Goes listed i rows old items = items ++ listed (drop i rows) ≡ old ++ listed rows
 
 pub goes-room : (listed : List Row → List MessageItem) (here : Row → List MessageItem) (i : ℕ) (rows : List Row) (old items : List MessageItem)
-    → ((r : Row) (rs : List Row) → listed (r ∷ rs) ≡ here r ++ listed rs) → i < length rows → Goes listed i rows old items → length old + length (listed rows) ≤ most_messages
-    → length items + length (here (row_at rows i)) ≤ most_messages
+    → ((r : Row) (rs : List Row) → listed (r ∷ rs) ≡ here r ++ listed rs) → i < length rows → Goes listed i rows old items
+    → length old + length (listed rows) ≤ most_messages → length items + length (here (row_at rows i)) ≤ most_messages
 goes-room listed here i rows old items by l g few =
     omega (
       arith,
@@ -158,15 +164,16 @@ goes-room listed here i rows old items by l g few =
     )
 
 pub goes-on : (listed : List Row → List MessageItem) (here : Row → List MessageItem) (i : ℕ) (rows : List Row) (old items more : List MessageItem)
-    → ((r : Row) (rs : List Row) → listed (r ∷ rs) ≡ here r ++ listed rs) → i < length rows → Goes listed i rows old items → more ≡ items ++ here (row_at rows i)
-    → Goes listed (i + 1) rows old more
+    → ((r : Row) (rs : List Row) → listed (r ∷ rs) ≡ here r ++ listed rs) → i < length rows → Goes listed i rows old items
+    → more ≡ items ++ here (row_at rows i) → Goes listed (i + 1) rows old more
 goes-on listed here i rows old items more by l g e =
     ap (λ x. x ++ listed (drop (i + 1) rows)) e
     ∙ append_assoc items (here (row_at rows i)) (listed (drop (i + 1) rows))
     ∙ ap (λ x. items ++ x) (sym (by (row_at rows i) (drop (i + 1) rows)) ∙ ap listed (sym (drop-at rows i no_row l)))
     ∙ g
 
-pub goes-past : (listed : List Row → List MessageItem) (i : ℕ) (rows : List Row) (old items : List MessageItem) → listed [] ≡ [] → length rows ≤ i → Goes listed i rows old items → items ≡ old ++ listed rows
+pub goes-past : (listed : List Row → List MessageItem) (i : ℕ) (rows : List Row) (old items : List MessageItem) → listed [] ≡ [] → length rows ≤ i
+    → Goes listed i rows old items → items ≡ old ++ listed rows
 goes-past listed i rows old items none l g =
     sym (append-nil items) ∙ ap (λ x. items ++ x) (sym none ∙ ap listed (sym (drop_of_length-le rows l))) ∙ g
 
@@ -197,9 +204,16 @@ held-count queued [] = refl
 held-count queued (s ∷ seats) =
     omega (arith, length-append (held_of (row_of queued s)) (held_items (map (row_of queued) seats)), held-one s.handle s.holds, held-count queued seats)
 
-pub items-few : (h : Heap) (q : Chains) (post : Post) → IsPost h q post → length (waiting_items (rows_of post)) + length (held_items (rows_of post)) ≤ most_messages
+pub items-few : (h : Heap) (q : Chains) (post : Post) → IsPost h q post
+    → length (waiting_items (rows_of post)) + length (held_items (rows_of post)) ≤ most_messages
 items-few h q post s =
-    omega (arith, waiting-count post.queued post.seats, held-count post.queued post.seats, by_seats-length post.seats post.queued (named h q post s) s.recipients, s.few)
+    omega (
+      arith,
+      waiting-count post.queued post.seats,
+      held-count post.queued post.seats,
+      by_seats-length post.seats post.queued (named h q post s) s.recipients,
+      s.few,
+    )
 
 -- ---- what is held
 pub nothing-held : (h : Heap) (o : Option Parcel) (block : ℕ) → Holds h block o → block ≡ 0 → o ≡ None

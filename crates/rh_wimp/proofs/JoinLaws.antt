@@ -8,7 +8,8 @@ use Rattle.rh_defs.specs.Heap.{Heap}
 use Rattle.rh_defs.proofs.HeapLists.{cond_true, cond_false, sum-append}
 use Rattle.rh_defs.specs.Messages.{Parcel}
 use Rattle.rh_defs.specs.Post.{Seat, Post, has_seat, count_held, post_join}
-use Rattle.rh_wimp.specs.Chains.{Chains, Row, RowLies, RowsLie, IsLinked, IsPost, AllLie, AllLive, Apart, Clear, Off, HasEntry, no_row, no_entry, entry_at, row_at, row_of, rows_of, row_parcels, joined}
+use Rattle.rh_wimp.specs.Chains.{Chains, Row, RowLies, RowsLie, IsLinked, IsPost, AllLie, AllLive, Apart, Clear, Off, HasEntry, no_row, no_entry, entry_at}
+use Rattle.rh_wimp.specs.Chains.{row_at, row_of, rows_of, row_parcels, joined}
 use Rattle.rh_wimp.specs.declared.chain.Entry.{Entry}
 use Rattle.rh_wimp.proofs.PostLaws.{live-no}
 use Rattle.rh_wimp.proofs.RowLaws.{Clear-none}
@@ -35,7 +36,8 @@ live-more : (y x : ℕ) (seats : List Seat) → has_seat y seats ≡ true → ha
 live-more y x [] e = absurd cc
 live-more y x (s ∷ seats) e = go (eqb s.handle y) refl e (λ f. live-more y x seats f)
   where
-    go : (t : Bool) → eqb s.handle y ≡ t → cond (eqb s.handle y) true (has_seat y seats) ≡ true → (has_seat y seats ≡ true → has_seat y (seats ++ new_seat x ∷ []) ≡ true)
+    go : (t : Bool) → eqb s.handle y ≡ t → cond (eqb s.handle y) true (has_seat y seats) ≡ true
+        → (has_seat y seats ≡ true → has_seat y (seats ++ new_seat x ∷ []) ≡ true)
         → cond (eqb s.handle y) true (has_seat y (seats ++ new_seat x ∷ [])) ≡ true
     go true et f g = cond_true (eqb s.handle y) _ _ et
     go false et f g = cond_false (eqb s.handle y) _ _ et ∙ g (sym (cond_false (eqb s.handle y) _ _ et) ∙ f)
@@ -63,7 +65,8 @@ module _ (h : Heap) (es : List Entry) (rows : List Row) (x : ℕ) where
           | inl l ↦ subst (λ r. RowLies h (entry_at (es ++ new_entry x ∷ []) i) r) (sym (row-old x rows i l))
               (subst (λ e. RowLies h e (row_at rows i)) (sym (get_or_append_left es (new_entry x ∷ []) no_entry i (omega arith))) (s.each i l))
           | inr g ↦ subst (λ r. RowLies h (entry_at (es ++ new_entry x ∷ []) i) r) (sym (row-new x rows i (omega arith)))
-              (subst (λ e. RowLies h e (new_row x)) (sym (get_or_at es (new_entry x) [] no_entry i (omega arith))) (record { handle = refl; first = refl; last = refl; chain = tt; held = refl }))
+              (subst (λ e. RowLies h e (new_row x)) (sym (get_or_at es (new_entry x) [] no_entry i (omega arith)))
+              (record { handle = refl; first = refl; last = refl; chain = tt; held = refl }))
         ];
         own = λ i b. elim (cases_lt i (length rows)) [
           | inl l ↦ subst (λ (r : Row). Apart (row_parcels r)) (sym (row-old x rows i l)) (s.own i l)
@@ -73,17 +76,21 @@ module _ (h : Heap) (es : List Entry) (rows : List Row) (x : ℕ) where
           | inl li ↦ elim (cases_lt j (length rows)) [
             | inl lj ↦ subst (λ (r : Row). Clear (row_parcels r) (row_parcels (row_at (rows ++ new_row x ∷ []) j))) (sym (row-old x rows i li))
                 (subst (λ (r : Row). Clear (row_parcels (row_at rows i)) (row_parcels r)) (sym (row-old x rows j lj)) (s.cross i j li lj ne))
-            | inr gj ↦ subst (λ (r : Row). Clear (row_parcels (row_at (rows ++ new_row x ∷ []) i)) (row_parcels r)) (sym (row-new x rows j (omega arith))) (Clear-none (row_parcels (row_at (rows ++ new_row x ∷ []) i)))
+            | inr gj ↦ subst (λ (r : Row). Clear (row_parcels (row_at (rows ++ new_row x ∷ []) i)) (row_parcels r)) (sym (row-new x rows j (omega arith)))
+                (Clear-none (row_parcels (row_at (rows ++ new_row x ∷ []) i)))
           ]
           | inr gi ↦ subst (λ (r : Row). Clear (row_parcels r) (row_parcels (row_at (rows ++ new_row x ∷ []) j))) (sym (row-new x rows i (omega arith))) tt
         ];
         handles = λ i j bi bj ne. elim (cases_lt i (length rows)) [
           | inl li ↦ elim (cases_lt j (length rows)) [
-            | inl lj ↦ λ z. s.handles i j li lj ne (sym (ap (λ (r : Row). r.handle) (row-old x rows i li)) ∙ z ∙ ap (λ (r : Row). r.handle) (row-old x rows j lj))
-            | inr gj ↦ λ z. apart i li (sym (ap (λ (r : Row). r.handle) (row-old x rows i li)) ∙ z ∙ ap (λ (r : Row). r.handle) (row-new x rows j (omega arith)))
+            | inl lj ↦ λ z. s.handles i j li lj ne (sym (ap (λ (r : Row). r.handle) (row-old x rows i li)) ∙ z
+                ∙ ap (λ (r : Row). r.handle) (row-old x rows j lj))
+            | inr gj ↦ λ z. apart i li (sym (ap (λ (r : Row). r.handle) (row-old x rows i li)) ∙ z
+                ∙ ap (λ (r : Row). r.handle) (row-new x rows j (omega arith)))
           ]
           | inr gi ↦ elim (cases_lt j (length rows)) [
-            | inl lj ↦ λ z. apart j lj (sym (ap (λ (r : Row). r.handle) (row-old x rows j lj)) ∙ sym z ∙ ap (λ (r : Row). r.handle) (row-new x rows i (omega arith)))
+            | inl lj ↦ λ z. apart j lj (sym (ap (λ (r : Row). r.handle) (row-old x rows j lj)) ∙ sym z
+                ∙ ap (λ (r : Row). r.handle) (row-new x rows i (omega arith)))
             | inr gj ↦ absurd (ne (omega arith))
           ]
         ];
@@ -106,8 +113,10 @@ unfolding post_join
 join-spells h q post x s fresh =
     let m = as_many h q post s in
     let dead = live-no post.seats x (λ j b. let t = seated h q post j s (omega arith) in λ z. fresh (j, (omega arith, t.handle ∙ z))) in
-    let last : row_of post.queued (new_seat x) ≡ new_row x = ap (λ (l : List Parcel). let r : Row = record { handle = x; chain = l; held = None } in r) (none-for post.seats x post.queued s.recipients dead) in
-    let rows-are : map (row_of post.queued) (post.seats ++ new_seat x ∷ []) ≡ rows_of post ++ new_row x ∷ [] = map-append (row_of post.queued) post.seats (new_seat x ∷ []) ∙ ap (λ r. rows_of post ++ r ∷ []) last in
+    let last : row_of post.queued (new_seat x) ≡ new_row x =
+    ap (λ (l : List Parcel). let r : Row = record { handle = x; chain = l; held = None } in r) (none-for post.seats x post.queued s.recipients dead) in
+    let rows-are : map (row_of post.queued) (post.seats ++ new_seat x ∷ []) ≡ rows_of post ++ new_row x ∷ [] =
+    map-append (row_of post.queued) post.seats (new_seat x ∷ []) ∙ ap (λ r. rows_of post ++ r ∷ []) last in
     let len = s.rows.len in
     let counts = sum-append (λ (t : Seat). count_held t.holds) post.seats (new_seat x ∷ []) in
     let live = s.live in
@@ -123,9 +132,16 @@ join-spells h q post x s fresh =
     }
 
 -- the post of a queue with no task
-pub start-spells : (h : Heap) (ref : ℕ) → IsPost h (record { entries = []; live = 0; next_ref = ref }) (record { seats = []; queued = []; heap = h; next_ref = ref })
+pub start-spells : (h : Heap) (ref : ℕ)
+    → IsPost h (record { entries = []; live = 0; next_ref = ref }) (record { seats = []; queued = []; heap = h; next_ref = ref })
 start-spells h ref = record {
-  rows = record { len = refl; each = λ i l. absurd (omega arith); own = λ i l. absurd (omega arith); cross = λ i j l m ne. absurd (omega arith); handles = λ i j l m ne. absurd (omega arith) };
+  rows = record {
+    len = refl;
+    each = λ i l. absurd (omega arith);
+    own = λ i l. absurd (omega arith);
+    cross = λ i j l m ne. absurd (omega arith);
+    handles = λ i j l m ne. absurd (omega arith);
+  };
   linked = record { shape = record { blank = refl; end = refl }; lie = λ i l. absurd (omega arith); others = λ a out. refl };
   live = refl;
   recipients = tt;

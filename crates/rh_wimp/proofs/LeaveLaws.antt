@@ -1,5 +1,6 @@
 -- A post that loses the seat of a task with no messages.
-use Rattle.std.proofs.Common.{◌≡◌, ℕ, zero, suc, ◌+◌, ◌-◌, ◌<◌, ◌≤◌, ◌≢◌, ◌⊎◌, inl, inr, eqb, List, [], ◌∷◌, ◌++◌, length, map, refl, sym, ap, subst, ◌∙◌, arith}
+use Rattle.std.proofs.Common.{◌≡◌, ℕ, zero, suc, ◌+◌, ◌-◌, ◌<◌, ◌≤◌, ◌≢◌, ◌⊎◌, inl, inr, eqb, List, [], ◌∷◌, ◌++◌, length, map, refl, sym, ap, subst, ◌∙◌}
+use Rattle.std.proofs.Common.{arith}
 use Rattle.std.proofs.lemmas.Bool.{cases_eq, cases_lt}
 use Rattle.std.proofs.lemmas.List.Edits.{length-remove, get_or-remove_below, get_or-remove_above}
 use Rattle.std.specs.Prelude.{None, not}
@@ -9,7 +10,8 @@ use Rattle.rh_defs.specs.Messages.{Parcel}
 use Rattle.rh_defs.specs.Pieces.{total}
 use Rattle.rh_defs.specs.Post.{Seat, Post, held_by, count_held}
 use Rattle.rh_defs.proofs.HeapLists.{cond_true, cond_false, eqb_same, eqb_apart}
-use Rattle.rh_wimp.specs.Chains.{Chains, Row, IsPost, IsLinked, RowLies, RowsLie, AllLie, AllLive, Apart, Clear, Off, entry_at, held_list, no_entry, no_row, row_at, row_of, rows_of, row_parcels}
+use Rattle.rh_wimp.specs.Chains.{Chains, Row, IsPost, IsLinked, RowLies, RowsLie, AllLie, AllLive, Apart, Clear, Off, entry_at, held_list, no_entry, no_row}
+use Rattle.rh_wimp.specs.Chains.{row_at, row_of, rows_of, row_parcels}
 use Rattle.rh_wimp.specs.Deaths.{queue_to, without_seat}
 use Rattle.rh_wimp.specs.declared.chain.Entry.{Entry}
 use Rattle.rh_wimp.proofs.DeathLaws.{queue_but, seats_but, seat-other}
@@ -21,11 +23,13 @@ use Rattle.rh_wimp.proofs.SendLaws.{named, seated}
 seats-removed : (h : ℕ) (seats : List Seat) (i : ℕ) → Named seats → i < length seats → (seat_at seats i).handle ≡ h → seats_but h seats ≡ remove seats i
 seats-removed h [] i n b e = absurd (omega arith)
 seats-removed h (s ∷ seats) zero n b e =
-    cond_false (not (eqb s.handle h)) _ _ (ap not (eqb_same s.handle h e)) ∙ none-gone seats (λ j c z. n 0 (suc j) (omega arith) (omega arith) (omega arith) (e ∙ sym z))
+    cond_false (not (eqb s.handle h)) _ _ (ap not (eqb_same s.handle h e))
+    ∙ none-gone seats (λ j c z. n 0 (suc j) (omega arith) (omega arith) (omega arith) (e ∙ sym z))
   where
     none-gone : (ss : List Seat) → ((j : ℕ) → j < length ss → (seat_at ss j).handle ≢ h) → seats_but h ss ≡ ss
     none-gone [] f = refl
-    none-gone (t ∷ ss) f = cond_true (not (eqb t.handle h)) _ _ (ap not (eqb_apart t.handle h (f 0 (omega arith)))) ∙ ap (λ l. t ∷ l) (none-gone ss (λ j c. f (suc j) (omega arith)))
+    none-gone (t ∷ ss) f = cond_true (not (eqb t.handle h)) _ _ (ap not (eqb_apart t.handle h (f 0 (omega arith))))
+        ∙ ap (λ l. t ∷ l) (none-gone ss (λ j c. f (suc j) (omega arith)))
 seats-removed h (s ∷ seats) (suc i) n b e =
     cond_true (not (eqb s.handle h)) _ _ (ap not (eqb_apart s.handle h (λ z. n 0 (suc i) (omega arith) (omega arith) (omega arith) (z ∙ sym e))))
     ∙ ap (λ l. s ∷ l) (seats-removed h seats i (λ j m bj bm ne. n (suc j) (suc m) (omega arith) (omega arith) (omega arith)) (omega arith) e)
@@ -41,7 +45,8 @@ queue-stays : (h : ℕ) (queue : List Parcel) → queue_to h queue ≡ [] → qu
 queue-stays h [] e = refl
 queue-stays h (p ∷ queue) e = elim (cases_eq p.to h) [
   | inl z ↦ let bad : p ∷ queue_to h queue ≡ [] = sym (cond_true (eqb p.to h) _ _ (eqb_same p.to h z)) ∙ e in absurd cc
-  | inr ne ↦ cond_true (not (eqb p.to h)) _ _ (ap not (eqb_apart p.to h ne)) ∙ ap (λ l. p ∷ l) (queue-stays h queue (sym (cond_false (eqb p.to h) _ _ (eqb_apart p.to h ne)) ∙ e))
+  | inr ne ↦ cond_true (not (eqb p.to h)) _ _ (ap not (eqb_apart p.to h ne))
+      ∙ ap (λ l. p ∷ l) (queue-stays h queue (sym (cond_false (eqb p.to h) _ _ (eqb_apart p.to h ne)) ∙ e))
 ]
 
 live-stays : (h : ℕ) (seats : List Seat) (queue : List Parcel) → queue_to h queue ≡ [] → AllLive seats queue → AllLive (seats_but h seats) queue
@@ -51,7 +56,8 @@ live-stays h seats (p ∷ queue) e a = elim (cases_eq p.to h) [
   | inr ne ↦ (seat-other h p.to seats ne ∙ a.0, live-stays h seats queue (sym (cond_false (eqb p.to h) _ _ (eqb_apart p.to h ne)) ∙ e) a.1)
 ]
 
-count-removed : (seats : List Seat) (i : ℕ) → i < length seats → total (λ (s : Seat). count_held s.holds) (remove seats i) + count_held (seat_at seats i).holds ≡ total (λ (s : Seat). count_held s.holds) seats
+count-removed : (seats : List Seat) (i : ℕ) → i < length seats
+    → total (λ (s : Seat). count_held s.holds) (remove seats i) + count_held (seat_at seats i).holds ≡ total (λ (s : Seat). count_held s.holds) seats
 count-removed [] i b = absurd (omega arith)
 count-removed (s ∷ seats) zero b = omega arith
 count-removed (s ∷ seats) (suc i) b = omega (arith, count-removed seats i (let z : i < length seats = omega arith in z))
@@ -69,15 +75,35 @@ record Was (es : List Entry) (rows : List Row) (i j : ℕ) : Type 0 where
 module _ (es : List Entry) (rows : List Row) (i : ℕ) (we : i < length es) (w : i < length rows) where
   was : (j : ℕ) → j < length (remove rows i) → Was es rows i j
   was j b = let n = length-remove rows i w in elim (cases_lt j i) [
-    | inl l ↦ record { place = j; within = omega arith; apart = omega arith; row = get_or-remove_below rows i no_row j l w; entry = get_or-remove_below es i no_entry j l we; moved = inl (l, refl) }
-    | inr g ↦ record { place = j + 1; within = omega arith; apart = omega arith; row = get_or-remove_above rows i no_row j g w; entry = get_or-remove_above es i no_entry j g we; moved = inr (g, refl) }
+    | inl l ↦ record {
+      place = j;
+      within = omega arith;
+      apart = omega arith;
+      row = get_or-remove_below rows i no_row j l w;
+      entry = get_or-remove_below es i no_entry j l we;
+      moved = inl (l, refl);
+    }
+    | inr g ↦ record {
+      place = j + 1;
+      within = omega arith;
+      apart = omega arith;
+      row = get_or-remove_above rows i no_row j g w;
+      entry = get_or-remove_above es i no_entry j g we;
+      moved = inr (g, refl);
+    }
   ]
 
   -- different places were different
   were-apart : (j m : ℕ) → j ≢ m → (x : Was es rows i j) (y : Was es rows i m) → x.place ≢ y.place
   were-apart j m ne x y = elim x.moved [
-    | inl a ↦ elim y.moved [ inl b ↦ let p = a.1 in let q = b.1 in λ z. ne (omega arith) | inr b ↦ let p = a.1 in let q = b.1 in let l = a.0 in let g = b.0 in λ z. absurd (omega arith) ]
-    | inr a ↦ elim y.moved [ inl b ↦ let p = a.1 in let q = b.1 in let l = b.0 in let g = a.0 in λ z. absurd (omega arith) | inr b ↦ let p = a.1 in let q = b.1 in λ z. ne (omega arith) ]
+    | inl a ↦ elim y.moved [
+      | inl b ↦ let p = a.1 in let q = b.1 in λ z. ne (omega arith)
+      | inr b ↦ let p = a.1 in let q = b.1 in let l = a.0 in let g = b.0 in λ z. absurd (omega arith)
+    ]
+    | inr a ↦ elim y.moved [
+      | inl b ↦ let p = a.1 in let q = b.1 in let l = b.0 in let g = a.0 in λ z. absurd (omega arith)
+      | inr b ↦ let p = a.1 in let q = b.1 in λ z. ne (omega arith)
+    ]
   ]
 
   rows-removed : (h : Heap) → RowsLie h es rows → RowsLie h (remove es i) (remove rows i)
@@ -89,17 +115,20 @@ module _ (es : List Entry) (rows : List Row) (i : ℕ) (we : i < length es) (w :
         len = omega arith;
         each = λ j b.
             let x = was j b in
-            subst (λ (r : Row). RowLies h (entry_at (remove es i) j) r) (sym x.row) (subst (λ (e : Entry). RowLies h e (row_at rows x.place)) (sym x.entry) (s.each x.place x.within));
+            subst (λ (r : Row). RowLies h (entry_at (remove es i) j) r) (sym x.row)
+            (subst (λ (e : Entry). RowLies h e (row_at rows x.place)) (sym x.entry) (s.each x.place x.within));
         own = λ j b. let x = was j b in subst (λ (r : Row). Apart (row_parcels r)) (sym x.row) (s.own x.place x.within);
         cross = λ j k bj bk ne.
             let x = was j bj in
             let y = was k bk in
             subst (λ (r : Row). Clear (row_parcels r) (row_parcels (row_at (remove rows i) k))) (sym x.row)
-            (subst (λ (r : Row). Clear (row_parcels (row_at rows x.place)) (row_parcels r)) (sym y.row) (s.cross x.place y.place x.within y.within (were-apart j k ne x y)));
+            (subst (λ (r : Row). Clear (row_parcels (row_at rows x.place)) (row_parcels r)) (sym y.row)
+            (s.cross x.place y.place x.within y.within (were-apart j k ne x y)));
         handles = λ j k bj bk ne.
             let x = was j bj in
             let y = was k bk in
-            λ z. s.handles x.place y.place x.within y.within (were-apart j k ne x y) (sym (ap (λ (r : Row). r.handle) x.row) ∙ z ∙ ap (λ (r : Row). r.handle) y.row);
+            λ z. s.handles x.place y.place x.within y.within (were-apart j k ne x y)
+            (sym (ap (λ (r : Row). r.handle) x.row) ∙ z ∙ ap (λ (r : Row). r.handle) y.row);
       }
 
   linked-removed : (h d : Heap) → row_parcels (row_at rows i) ≡ [] → IsLinked h d rows → IsLinked h d (remove rows i)
@@ -115,7 +144,8 @@ module _ (es : List Entry) (rows : List Row) (i : ℕ) (we : i < length es) (w :
             | inr g ↦
                 let e : (j - 1) + 1 ≡ j = omega arith in
                 let c : i ≤ j - 1 = omega arith in
-                subst (λ k. Off a (row_parcels (row_at rows k))) e (subst (λ (r : Row). Off a (row_parcels r)) (get_or-remove_above rows i no_row (j - 1) c w) (out (j - 1) (omega arith)))
+                subst (λ k. Off a (row_parcels (row_at rows k))) e (subst (λ (r : Row). Off a (row_parcels r))
+                (get_or-remove_above rows i no_row (j - 1) c w) (out (j - 1) (omega arith)))
           ]
         ]);
       }
@@ -125,8 +155,8 @@ abbrev pub left_chains : ℕ → Chains → Chains
 left_chains i q = record q { entries = remove q.entries i }
 
 -- the seat of a task with no messages goes
-pub seat-left : (h : Heap) (q : Chains) (post : Post) (x i : ℕ) → IsPost h q post → i < length q.entries → (entry_at q.entries i).handle ≡ x → held_by x post.seats ≡ None → queue_to x post.queued ≡ []
-    → IsPost h (left_chains i q) (without_seat x post)
+pub seat-left : (h : Heap) (q : Chains) (post : Post) (x i : ℕ) → IsPost h q post → i < length q.entries → (entry_at q.entries i).handle ≡ x
+    → held_by x post.seats ≡ None → queue_to x post.queued ≡ [] → IsPost h (left_chains i q) (without_seat x post)
 seat-left h q post x i s lt e none empty =
     let t = seated h q post i s lt in
     let names = named h q post s in

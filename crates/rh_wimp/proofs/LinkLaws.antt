@@ -30,13 +30,15 @@ none-low h k b l = below b 16 h.segments l ∙ sym (below b 16 k.segments l)
 
 pub zero-off : (c : Heap) (ps : List Parcel) → AllLie c ps → Off 0 ps
 zero-off c [] a = tt
-zero-off c (p ∷ ps) a = ((λ z. let bad : Some (padded 0 p) ≡ None = sym a.0 ∙ ap (λ m. block_bytes m c) z ∙ below 0 16 c.segments (omega arith) in cc), zero-off c ps a.1)
+zero-off c (p ∷ ps) a =
+    ((λ z. let bad : Some (padded 0 p) ≡ None = sym a.0 ∙ ap (λ m. block_bytes m c) z ∙ below 0 16 c.segments (omega arith) in cc), zero-off c ps a.1)
 
 module _ (h k d e : Heap) (rows : List Row) (i : ℕ) (q : Parcel) where
   -- a message that lies in both heaps, at the end of a chain
   pub linked-longer : i < length rows → IsLinked h d rows → SameShape k e → ((j : ℕ) → j < length rows → Off q.block (row_parcels (row_at rows j)))
       → ((b : ℕ) → b ≢ last_block (row_at rows i).chain → b ≢ q.block → block_bytes b k ≡ block_bytes b h)
-      → block_bytes q.block e ≡ Some (padded 0 q) → ((b : ℕ) → b ≢ q.block → block_bytes b e ≡ block_bytes b d) → IsLinked k e (set rows i (with_last q (row_at rows i)))
+      → block_bytes q.block e ≡ Some (padded 0 q) → ((b : ℕ) → b ≢ q.block → block_bytes b e ≡ block_bytes b d)
+      → IsLinked k e (set rows i (with_last q (row_at rows i)))
   linked-longer l s shape off keeps there others =
       let r = row_at rows i in
       let n = length-set rows i (with_last q r) in
@@ -46,13 +48,15 @@ module _ (h k d e : Heap) (rows : List Row) (i : ℕ) (q : Parcel) where
         shape = shape;
         lie = λ j b. elim (cases_eq j i) [
           | inl z ↦
-              let a = AllLie-parts d r.chain (held_list r.held) (AllLie-kept d d 0 (row_parcels r) (λ c ne. refl) (zero-off d (row_parcels r) (s.lie i l)) (s.lie i l)) in
+              let a = AllLie-parts d r.chain (held_list r.held) (AllLie-kept d d 0 (row_parcels r) (λ c ne. refl) (zero-off d (row_parcels r) (s.lie i l))
+              (s.lie i l)) in
               let o = Off-parts q.block r.chain (held_list r.held) (off i l) in
               subst (λ m. AllLie e (row_parcels (row_at (set rows i (with_last q r)) m))) (sym z) (subst (λ x. AllLie e (row_parcels x)) (sym same)
               (AllLie-append e (r.chain ++ q ∷ []) (held_list r.held)
               (AllLie-append e r.chain (q ∷ []) (AllLie-kept d e q.block r.chain others o.0 a.0) (there, tt))
               (AllLie-kept d e q.block (held_list r.held) others o.1 a.1)))
-          | inr ne ↦ subst (λ x. AllLie e (row_parcels x)) (sym (other j ne)) (AllLie-kept d e q.block (row_parcels (row_at rows j)) others (off j (omega arith)) (s.lie j (omega arith)))
+          | inr ne ↦ subst (λ x. AllLie e (row_parcels x)) (sym (other j ne))
+              (AllLie-kept d e q.block (row_parcels (row_at rows j)) others (off j (omega arith)) (s.lie j (omega arith)))
         ];
         others = λ b out.
             let here = subst (λ x. Off b (row_parcels x)) same (out i (omega arith)) in
@@ -95,7 +99,8 @@ module _ (h k d e : Heap) (rows : List Row) (i : ℕ) (q : Parcel) where
           | inl z ↦ ap (λ m. block_bytes m k) z ∙ gone ∙ sym (ap (λ m. block_bytes m e) z ∙ gone')
           | inr ne ↦ keeps b ne ∙ linked.others b (λ j c. elim (cases_eq j i) [
             | inl z ↦ subst (λ m. Off b (row_parcels (row_at rows m))) (sym z) (subst (λ o. Off b (r.chain ++ held_list o)) (sym held)
-                (Off-append b r.chain (q ∷ []) (Off-parts b r.chain [] (subst (λ x. Off b (row_parcels x)) same (out i (omega arith)))).0 ((λ y. ne (sym y)), tt)))
+                (Off-append b r.chain (q ∷ []) (Off-parts b r.chain [] (subst (λ x. Off b (row_parcels x)) same (out i (omega arith)))).0
+                ((λ y. ne (sym y)), tt)))
             | inr nj ↦ subst (λ x. Off b (row_parcels x)) (other j nj) (out j (omega arith))
           ]) ∙ sym (keeps' b ne)
         ];

@@ -1,5 +1,6 @@
 -- A post and the same post in order of seats.
-use Rattle.std.proofs.Common.{◌≡◌, ℕ, zero, suc, ◌<◌, ◌≢◌, inl, inr, Bool, true, false, cond, List, [], ◌∷◌, ◌++◌, length, map, refl, sym, ap, subst, ◌∙◌, arith}
+use Rattle.std.proofs.Common.{◌≡◌, ℕ, zero, suc, ◌<◌, ◌≢◌, inl, inr, Bool, true, false, cond, List, [], ◌∷◌, ◌++◌, length, map, refl, sym, ap, subst, ◌∙◌}
+use Rattle.std.proofs.Common.{arith}
 use Rattle.std.proofs.lemmas.Bool.Decides.{eqb_tells}
 use Rattle.std.proofs.lemmas.List.{length-map, length-append}
 use Rattle.std.proofs.lemmas.List.Elements.{filter-append}
@@ -11,7 +12,8 @@ use Rattle.rh_defs.specs.Messages.{Parcel, padded, parcel_bytes}
 use Rattle.rh_defs.specs.Pieces.{total}
 use Rattle.rh_defs.specs.Post.{Seat, Post, has_seat, count_held, live_count}
 use Rattle.rh_defs.proofs.HeapLists.{cond_true, cond_false, eqb_same, eqb_apart}
-use Rattle.rh_wimp.specs.Chains.{Chains, Row, Lies, Holds, RowLies, RowsLie, IsLinked, IsPost, AllLie, AllLive, Off, Apart, Clear, held_list, row_of, row_parcels, row_at, rows_of, entry_at, no_row}
+use Rattle.rh_wimp.specs.Chains.{Chains, Row, Lies, Holds, RowLies, RowsLie, IsLinked, IsPost, AllLie, AllLive, Off, Apart, Clear, held_list, row_of}
+use Rattle.rh_wimp.specs.Chains.{row_parcels, row_at, rows_of, entry_at, no_row}
 use Rattle.rh_wimp.specs.PostIn.{seat_of, chains_of, for_task, own_seat, by_seats, in_order}
 use Rattle.rh_wimp.specs.declared.chain.Entry.{Entry}
 use Rattle.rh_wimp.proofs.LinkLaws.{AllLie-append, AllLie-parts}
@@ -27,7 +29,8 @@ pub sent_to-same : (h : ℕ) (queue : List Parcel) → sent_to h (sent_to h queu
 sent_to-same h [] = refl
 sent_to-same h (p ∷ queue) = go (p.to == h) refl (sent_to-same h queue)
   where
-    go : (t : Bool) → (p.to == h) ≡ t → sent_to h (sent_to h queue) ≡ sent_to h queue → sent_to h (cond t (p ∷ sent_to h queue) (sent_to h queue)) ≡ cond t (p ∷ sent_to h queue) (sent_to h queue)
+    go : (t : Bool) → (p.to == h) ≡ t → sent_to h (sent_to h queue) ≡ sent_to h queue
+        → sent_to h (cond t (p ∷ sent_to h queue) (sent_to h queue)) ≡ cond t (p ∷ sent_to h queue) (sent_to h queue)
     go true e r = cond_true (p.to == h) _ _ e ∙ ap (λ l. p ∷ l) r
     go false e r = r
 
@@ -46,7 +49,8 @@ named-rest s seats n i j bi bj ne = n (suc i) (suc j) (omega arith) (omega arith
 named-first : (s : Seat) (seats : List Seat) → Named (s ∷ seats) → (j : ℕ) → j < length seats → (seat_at seats j).handle ≢ s.handle
 named-first s seats n j b = n (suc j) 0 (omega arith) (omega arith) (omega arith)
 
-none-sent : (h : ℕ) (seats : List Seat) (queue : List Parcel) → ((j : ℕ) → j < length seats → (seat_at seats j).handle ≢ h) → sent_to h (by_seats seats queue) ≡ []
+none-sent : (h : ℕ) (seats : List Seat) (queue : List Parcel) → ((j : ℕ) → j < length seats → (seat_at seats j).handle ≢ h)
+    → sent_to h (by_seats seats queue) ≡ []
 none-sent h [] queue n = refl
 none-sent h (s ∷ seats) queue n =
     filter-append (λ (p : Parcel). p.to == h) (sent_to s.handle queue) (by_seats seats queue)
@@ -54,7 +58,8 @@ none-sent h (s ∷ seats) queue n =
     ∙ none-sent h seats queue (λ j b. n (suc j) (omega arith))
 
 -- each live task has the same messages in the same order
-pub by_seats-sent : (seats : List Seat) (queue : List Parcel) (i : ℕ) → Named seats → i < length seats → sent_to (seat_at seats i).handle (by_seats seats queue) ≡ sent_to (seat_at seats i).handle queue
+pub by_seats-sent : (seats : List Seat) (queue : List Parcel) (i : ℕ) → Named seats → i < length seats
+    → sent_to (seat_at seats i).handle (by_seats seats queue) ≡ sent_to (seat_at seats i).handle queue
 by_seats-sent [] queue i n b = absurd (omega arith)
 by_seats-sent (s ∷ seats) queue zero n b =
     filter-append (λ (p : Parcel). p.to == s.handle) (sent_to s.handle queue) (by_seats seats queue)
@@ -72,13 +77,15 @@ by_seats-sent (s ∷ seats) queue (suc i) n b =
     ∙ by_seats-sent seats queue i (named-rest s seats n) (omega arith)
 
 -- ---- as many messages
-not-more : (p : Parcel) (seats : List Seat) (queue : List Parcel) → ((j : ℕ) → j < length seats → (seat_at seats j).handle ≢ p.to) → by_seats seats (p ∷ queue) ≡ by_seats seats queue
+not-more : (p : Parcel) (seats : List Seat) (queue : List Parcel) → ((j : ℕ) → j < length seats → (seat_at seats j).handle ≢ p.to)
+    → by_seats seats (p ∷ queue) ≡ by_seats seats queue
 not-more p [] queue n = refl
 not-more p (s ∷ seats) queue n =
     ap (λ l. l ++ by_seats seats (p ∷ queue)) (cond_false (p.to == s.handle) _ _ (eqb_apart p.to s.handle (λ z. n 0 (omega arith) (sym z))))
     ∙ ap (λ l. sent_to s.handle queue ++ l) (not-more p seats queue (λ j b. n (suc j) (omega arith)))
 
-one-more : (p : Parcel) (seats : List Seat) (queue : List Parcel) → Named seats → has_seat p.to seats ≡ true → length (by_seats seats (p ∷ queue)) ≡ suc (length (by_seats seats queue))
+one-more : (p : Parcel) (seats : List Seat) (queue : List Parcel) → Named seats → has_seat p.to seats ≡ true
+    → length (by_seats seats (p ∷ queue)) ≡ suc (length (by_seats seats queue))
 one-more p [] queue n t = absurd cc
 one-more p (s ∷ seats) queue n t = elim (eqb_tells s.handle p.to) [
   | inl u ↦
@@ -111,10 +118,12 @@ live-sent h seats (p ∷ queue) t = go (p.to == h) refl (live-sent h seats queue
     go true e r = (ap (λ x. has_seat x seats) (eq_of p.to h e) ∙ t, r)
     go false e r = r
 
-pub by_seats-live : (all seats : List Seat) (queue : List Parcel) → ((i : ℕ) → i < length seats → has_seat (seat_at seats i).handle all ≡ true) → AllLive all (by_seats seats queue)
+pub by_seats-live : (all seats : List Seat) (queue : List Parcel) → ((i : ℕ) → i < length seats → has_seat (seat_at seats i).handle all ≡ true)
+    → AllLive all (by_seats seats queue)
 by_seats-live all [] queue f = tt
 by_seats-live all (s ∷ seats) queue f =
-    live-both all (sent_to s.handle queue) (by_seats seats queue) (live-sent s.handle all queue (f 0 (omega arith))) (by_seats-live all seats queue (λ i b. f (suc i) (omega arith)))
+    live-both all (sent_to s.handle queue) (by_seats seats queue) (live-sent s.handle all queue (f 0 (omega arith)))
+    (by_seats-live all seats queue (λ i b. f (suc i) (omega arith)))
 
 -- ---- each handle has the same messages, live or not
 none-dead : (h : ℕ) (seats : List Seat) (queue : List Parcel) → AllLive seats queue → has_seat h seats ≡ false → sent_to h queue ≡ []
@@ -204,11 +213,15 @@ module _ (h d : Heap) (es : List Entry) (rows : List Row) where
       let n = length-map rows own_row in
       record {
         len = s.len ∙ sym n;
-        each = λ i b. at_row (RowLies h (entry_at es i)) i (let l = s.each i (omega arith) in let r = row_at rows i in record { handle = l.handle; first = l.first; last = l.last; chain = l.chain; held = own-holds r.handle h (entry_at es i).held r.held l.held });
+        each = λ i b. at_row (RowLies h (entry_at es i)) i (let l = s.each i (omega arith) in let r = row_at rows i in
+            record { handle = l.handle; first = l.first; last = l.last; chain = l.chain; held = own-holds r.handle h (entry_at es i).held r.held l.held });
         own = λ i b. at_row (λ r. Apart (row_parcels r)) i (let r = row_at rows i in own-apart r.handle r.chain r.held (s.own i (omega arith)));
-        cross = λ i j bi bj ne. at_row (λ r. Clear (row_parcels r) (row_parcels (row_at (map own_row rows) j))) i (at_row (λ r. Clear (row_parcels (own_row (row_at rows i))) (row_parcels r)) j
-            (let r = row_at rows i in let t = row_at rows j in own-clear r.handle r.chain r.held (row_parcels (own_row t)) (own-clear_behind t.handle (row_parcels r) t.chain t.held (s.cross i j (omega arith) (omega arith) ne))));
-        handles = λ i j bi bj ne z. s.handles i j (omega arith) (omega arith) ne (sym (ap (λ (r : Row). r.handle) (own_row-at rows i)) ∙ z ∙ ap (λ (r : Row). r.handle) (own_row-at rows j));
+        cross = λ i j bi bj ne. at_row (λ r. Clear (row_parcels r) (row_parcels (row_at (map own_row rows) j))) i
+            (at_row (λ r. Clear (row_parcels (own_row (row_at rows i))) (row_parcels r)) j
+            (let r = row_at rows i in let t = row_at rows j in own-clear r.handle r.chain r.held (row_parcels (own_row t))
+            (own-clear_behind t.handle (row_parcels r) t.chain t.held (s.cross i j (omega arith) (omega arith) ne))));
+        handles = λ i j bi bj ne z. s.handles i j (omega arith) (omega arith) ne
+            (sym (ap (λ (r : Row). r.handle) (own_row-at rows i)) ∙ z ∙ ap (λ (r : Row). r.handle) (own_row-at rows j));
       }
 
   pub own-linked : IsLinked h d rows → IsLinked h d (map own_row rows)
@@ -217,7 +230,8 @@ module _ (h d : Heap) (es : List Entry) (rows : List Row) where
       record {
         shape = s.shape;
         lie = λ i b. at_row (λ r. AllLie d (row_parcels r)) i (let r = row_at rows i in own-plain r.handle d r.chain r.held (s.lie i (omega arith)));
-        others = λ a out. s.others a (λ i b. let r = row_at rows i in off-own r.handle a r.chain r.held (subst (λ x. Off a (row_parcels x)) (own_row-at rows i) (out i (omega arith))));
+        others = λ a out. s.others a (λ i b. let r = row_at rows i in off-own r.handle a r.chain r.held
+            (subst (λ x. Off a (row_parcels x)) (own_row-at rows i) (out i (omega arith))));
       }
 
 -- ---- the rows of a post in order
@@ -229,10 +243,12 @@ pub chains-of-rows : (queue : List Parcel) (seats : List Seat) → chains_of (ma
 chains-of-rows queue [] = refl
 chains-of-rows queue (s ∷ seats) = ap (λ l. sent_to s.handle queue ++ l) (chains-of-rows queue seats)
 
-rows-alike : (q r : List Parcel) (seats : List Seat) → ((i : ℕ) → i < length seats → sent_to (seat_at seats i).handle q ≡ sent_to (seat_at seats i).handle r) → map (row_of q) (map own_seat seats) ≡ map own_row (map (row_of r) seats)
+rows-alike : (q r : List Parcel) (seats : List Seat) → ((i : ℕ) → i < length seats → sent_to (seat_at seats i).handle q ≡ sent_to (seat_at seats i).handle r)
+    → map (row_of q) (map own_seat seats) ≡ map own_row (map (row_of r) seats)
 rows-alike q r [] f = refl
 rows-alike q r (s ∷ seats) f =
-    ap (λ (l : List Parcel). let x : Row = record { handle = s.handle; chain = l; held = option_map (for_task s.handle) s.holds } in x ∷ map (row_of q) (map own_seat seats)) (f 0 (omega arith))
+    ap (λ (l : List Parcel). let x : Row = record { handle = s.handle; chain = l; held = option_map (for_task s.handle) s.holds } in
+    x ∷ map (row_of q) (map own_seat seats)) (f 0 (omega arith))
     ∙ ap (λ l. own_row (row_of r s) ∷ l) (rows-alike q r seats (λ i b. f (suc i) (omega arith)))
 
 pub rows-in_order : (post : Post) → Named post.seats → rows_of (in_order post) ≡ map own_row (rows_of post)
@@ -249,7 +265,8 @@ in_order-spells h q post s =
       rows = subst (RowsLie h q.entries) (sym e) (own-rows h post.heap q.entries (rows_of post) s.rows);
       linked = subst (IsLinked h post.heap) (sym e) (own-linked h post.heap q.entries (rows_of post) s.linked);
       live = s.live ∙ sym count;
-      recipients = by_seats-live (map own_seat post.seats) post.seats post.queued (λ i b. own-live (seat_at post.seats i).handle post.seats ∙ live-yes post.seats i (seat_at post.seats i).handle b refl);
+      recipients = by_seats-live (map own_seat post.seats) post.seats post.queued
+          (λ i b. own-live (seat_at post.seats i).handle post.seats ∙ live-yes post.seats i (seat_at post.seats i).handle b refl);
       few = omega arith;
       next_ref = s.next_ref;
     }

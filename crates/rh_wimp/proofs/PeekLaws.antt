@@ -5,7 +5,8 @@ use Rattle.std.specs.Prelude.{Option, Some, None, ◌==◌, if◌then◌else◌}
 use Rattle.rh_defs.specs.Blocks.{poked}
 use Rattle.rh_defs.specs.Heap.{Heap, release}
 use Rattle.rh_defs.specs.Messages.{Parcel, parcel_bytes}
-use Rattle.rh_defs.specs.Post.{Seat, Post, has_seat, held_by, with_held, holds_such, as_returned, bounce_held, behind_first, first_for, taken, taken_from, post_poll}
+use Rattle.rh_defs.specs.Post.{Seat, Post, has_seat, held_by, with_held, holds_such, as_returned, bounce_held, behind_first, first_for, taken, taken_from}
+use Rattle.rh_defs.specs.Post.{post_poll}
 use Rattle.rh_defs.proofs.HeapLists.{cond_true, cond_false, eqb_same, eqb_apart}
 use Rattle.rh_wimp.specs.Chains.{Chains, Holds, IsPost, Row, entry_at}
 use Rattle.rh_wimp.proofs.PostLaws.{held-at}
@@ -28,7 +29,8 @@ front-is h (p ∷ queue) = go (p.to == h) (front-is h queue)
     behind None = refl
     behind (Some t) = refl
 
-    go : (t : Bool) → first_of (first_for h queue) ≡ front h queue → first_of (cond t (Some (p, queue)) (behind_first p (first_for h queue))) ≡ cond t (Some p) (front h queue)
+    go : (t : Bool) → first_of (first_for h queue) ≡ front h queue
+        → first_of (cond t (Some (p, queue)) (behind_first p (first_for h queue))) ≡ cond t (Some p) (front h queue)
     go true e = refl
     go false e = behind (first_for h queue) ∙ e
 
@@ -44,7 +46,8 @@ front-before : (h : ℕ) (queue more : List Parcel) (p : Parcel) → front h que
 front-before h [] more p e = absurd cc
 front-before h (x ∷ queue) more p e = go (x.to == h) e (front-before h queue more p)
   where
-    go : (t : Bool) → cond t (Some x) (front h queue) ≡ Some p → (front h queue ≡ Some p → front h (queue ++ more) ≡ Some p) → cond t (Some x) (front h (queue ++ more)) ≡ Some p
+    go : (t : Bool) → cond t (Some x) (front h queue) ≡ Some p → (front h queue ≡ Some p → front h (queue ++ more) ≡ Some p)
+        → cond t (Some x) (front h (queue ++ more)) ≡ Some p
     go true e f = e
     go false e f = f e
 
@@ -52,7 +55,8 @@ front-behind : (h : ℕ) (queue more : List Parcel) → front h queue ≡ None �
 front-behind h [] more e = refl
 front-behind h (x ∷ queue) more e = go (x.to == h) e (front-behind h queue more)
   where
-    go : (t : Bool) → cond t (Some x) (front h queue) ≡ None → (front h queue ≡ None → front h (queue ++ more) ≡ front h more) → cond t (Some x) (front h (queue ++ more)) ≡ front h more
+    go : (t : Bool) → cond t (Some x) (front h queue) ≡ None → (front h queue ≡ None → front h (queue ++ more) ≡ front h more)
+        → cond t (Some x) (front h (queue ++ more)) ≡ front h more
     go true e f = absurd cc
     go false e f = f e
 
@@ -61,7 +65,8 @@ seat-stays : (x h : ℕ) (o : Option Parcel) (seats : List Seat) → has_seat x 
 seat-stays x h o [] = refl
 seat-stays x h o (s ∷ seats) = go (s.handle == h) (seat-stays x h o seats)
   where
-    go : (t : Bool) → has_seat x (with_held h o seats) ≡ has_seat x seats → has_seat x (cond t (record s { holds = o } ∷ seats) (s ∷ with_held h o seats)) ≡ has_seat x (s ∷ seats)
+    go : (t : Bool) → has_seat x (with_held h o seats) ≡ has_seat x seats
+        → has_seat x (cond t (record s { holds = o } ∷ seats) (s ∷ with_held h o seats)) ≡ has_seat x (s ∷ seats)
     go true e = refl
     go false e = ap (cond (s.handle == x) true) e
 
@@ -71,7 +76,11 @@ with_back t p queue = cond t (queue ++ as_returned p ∷ []) queue
 bounced-queue : (h : ℕ) (p : Parcel) (post : Post) → (bounce_held h (Some p) post).queued ≡ with_back (has_seat p.message.from post.seats) p post.queued
 bounced-queue h p post =
     (elim (has_seat p.message.from (with_held h None post.seats)) as (λ t. (cond t
-    (record post { seats = with_held h None post.seats; queued = post.queued ++ as_returned p ∷ []; heap = poked p.block 0 (parcel_bytes 0 (as_returned p)) post.heap })
+    (record post {
+      seats = with_held h None post.seats;
+      queued = post.queued ++ as_returned p ∷ [];
+      heap = poked p.block 0 (parcel_bytes 0 (as_returned p)) post.heap;
+    })
     (record post { seats = with_held h None post.seats; heap = release p.block post.heap })).queued ≡ with_back t p post.queued) [ true ↦ refl | false ↦ refl ])
     ∙ ap (λ t. with_back t p post.queued) (seat-stays p.message.from h None post.seats)
 
@@ -144,7 +153,8 @@ own-held h seats t e holds = go (held_by h seats) refl (sym e ∙ holds)
     ]
 
 -- where nothing waits and the task holds none of its own, a poll hands out nothing
-pub poll-none : (h : ℕ) (post : Post) (t : Bool) → front h post.queued ≡ None → t ≡ holds_such (is_own h) (held_by h post.seats) → t ≡ false → (post_poll h post).1 ≡ None
+pub poll-none : (h : ℕ) (post : Post) (t : Bool) → front h post.queued ≡ None → t ≡ holds_such (is_own h) (held_by h post.seats) → t ≡ false
+    → (post_poll h post).1 ≡ None
 poll-none h post t e own lacks = go (held_by h post.seats) refl (sym own ∙ lacks)
   where
     go : (o : Option Parcel) → held_by h post.seats ≡ o → holds_such (is_own h) o ≡ false → (post_poll h post).1 ≡ None

@@ -1,5 +1,6 @@
 -- A poll, by its calls.
-use Rattle.std.proofs.Common.{◌≡◌, ℕ, zero, suc, ◌+◌, ◌<◌, ◌≤◌, ◌≢◌, ◌^◌, ◌⊎◌, inl, inr, true, false, Bool, cond, eqb, List, [], ◌∷◌, ◌++◌, length, set, refl, sym, ap, subst, ◌∙◌, arith}
+use Rattle.std.proofs.Common.{◌≡◌, ℕ, zero, suc, ◌+◌, ◌<◌, ◌≤◌, ◌≢◌, ◌^◌, ◌⊎◌, inl, inr, true, false, Bool, cond, eqb, List, [], ◌∷◌, ◌++◌, length, set, refl}
+use Rattle.std.proofs.Common.{sym, ap, subst, ◌∙◌, arith}
 use Rattle.std.proofs.lemmas.Bool.{cases_eq}
 use Rattle.std.specs.Prelude.{Option, Some, None, ◌==◌}
 use Rattle.std.specs.List.{position}
@@ -14,8 +15,10 @@ use Rattle.rh_wimp.specs.Moves.{relinked}
 use Rattle.rh_defs.specs.Blocks.{block_bytes, poked, HasBlock}
 use Rattle.rh_defs.specs.Bytes.{word_bytes}
 use Rattle.rh_defs.specs.Messages.{Parcel, code_number, is_recorded, padded, parcel_bytes}
-use Rattle.rh_defs.specs.Post.{Seat, Post, has_seat, held_by, with_held, count_held, live_count, as_returned, bounced, bounce_held, first_for, taken, taken_from, without_block}
-use Rattle.rh_wimp.specs.Chains.{Chains, Row, IsPost, MayBounce, Lies, LiesAt, Lifted, Loose, Holds, entry_at, row_at, rows_of, lengthened, emptied_chains, shortened_chains, holding_chains, first_block}
+use Rattle.rh_defs.specs.Post.{Seat, Post, has_seat, held_by, with_held, count_held, live_count, as_returned, bounced, bounce_held, first_for, taken}
+use Rattle.rh_defs.specs.Post.{taken_from, without_block}
+use Rattle.rh_wimp.specs.Chains.{Chains, Row, IsPost, MayBounce, Lies, LiesAt, Lifted, Loose, Holds, entry_at, row_at, rows_of, lengthened, emptied_chains}
+use Rattle.rh_wimp.specs.Chains.{shortened_chains, holding_chains, first_block}
 use Rattle.rh_wimp.specs.declared.chain.Entry.{Entry}
 use Rattle.rh_module.proofs.BlockBytes.{block_within}
 use Rattle.rh_defs.proofs.BlockLaws.{has-poked, has-less, poked-other, poked-pokes}
@@ -40,34 +43,45 @@ module _ (m : Memory) (rma : Module) (q : Chains) (post : Post) (p : Parcel) (bl
   pub bounce-has : MayBounce m rma q post p block → HasBlock block 24 (heap_in m rma)
   bounce-has b = record { bytes = padded 0 p; found = ap (λ a. block_bytes a (heap_in m rma)) b.block_is ∙ b.loose.lies.block; room = padded-least 0 p }
 
-  pub bounce-from : MayBounce m rma q post p block → (from : ℕ) → ((bytes : List ℕ) → block_bytes block (heap_in m rma) ≡ Some bytes → from ≡ word bytes 12) → from ≡ p.message.from
-  bounce-from b from r = r (padded 0 p) (ap (λ a. block_bytes a (heap_in m rma)) b.block_is ∙ b.loose.lies.block) ∙ from_read 0 p (omega arith) b.loose.lies.fits
+  pub bounce-from : MayBounce m rma q post p block → (from : ℕ) → ((bytes : List ℕ) → block_bytes block (heap_in m rma) ≡ Some bytes → from ≡ word bytes 12)
+      → from ≡ p.message.from
+  bounce-from b from r =
+      r (padded 0 p) (ap (λ a. block_bytes a (heap_in m rma)) b.block_is ∙ b.loose.lies.block) ∙ from_read 0 p (omega arith) b.loose.lies.fits
 
-  pub bounce-last : MayBounce m rma q post p block → (n : Memory) (to o : ℕ) (xs : List ℕ) → to < length q.entries → heap_in n rma ≡ poked block o xs (heap_in m rma) → (entry_at q.entries to).last ≢ 0
-      → HasBlock (entry_at q.entries to).last 4 (heap_in n rma)
+  pub bounce-last : MayBounce m rma q post p block → (n : Memory) (to o : ℕ) (xs : List ℕ) → to < length q.entries
+      → heap_in n rma ≡ poked block o xs (heap_in m rma) → (entry_at q.entries to).last ≢ 0 → HasBlock (entry_at q.entries to).last 4 (heap_in n rma)
   bounce-last b n to o xs lt e ne =
       let s = seated (heap_in m rma) q post to b.spells lt in
       let last : ℕ = (entry_at q.entries to).last in
       subst (HasBlock last 4) (sym e) (has-any last 4 block o xs (heap_in m rma)
-      (has-less last 24 4 (heap_in m rma) (omega arith) (last-has (heap_in m rma) (entry_at q.entries to) (row_at (rows_of post) to) (b.spells.rows.each to s.row) ne)))
+      (has-less last 24 4 (heap_in m rma) (omega arith) (last-has (heap_in m rma) (entry_at q.entries to) (row_at (rows_of post) to)
+      (b.spells.rows.each to s.row) ne)))
 
-  pub bounce-gone : MayBounce m rma q post p block → position (λ (e : Entry). e.handle == p.message.from) q.entries ≡ None → (k : Heap) → k ≡ release block (heap_in m rma) → IsPost k q (bounced p post)
+  pub bounce-gone : MayBounce m rma q post p block → position (λ (e : Entry). e.handle == p.message.from) q.entries ≡ None → (k : Heap)
+      → k ≡ release block (heap_in m rma) → IsPost k q (bounced p post)
   bounce-gone b none k e =
       let h : Heap = heap_in m rma in
       let many = as_many h q post b.spells in
-      let dead = live-no post.seats p.message.from (λ j c. let s = seated h q post j b.spells (omega arith) in let n = not-found q.entries p.message.from none j (omega arith) in λ z. n (s.handle ∙ z)) in
+      let dead = live-no post.seats p.message.from (λ j c. let s = seated h q post j b.spells (omega arith) in
+      let n = not-found q.entries p.message.from none j (omega arith) in λ z. n (s.handle ∙ z)) in
       subst (IsPost k q) (sym (cond_false (has_seat p.message.from post.seats) _ _ dead))
-      (subst (λ (g : Heap). IsPost g q (record post { heap = release p.block post.heap })) (sym (e ∙ ap (λ a. release a h) b.block_is)) (vanished h q post p b.spells b.loose))
+      (subst (λ (g : Heap). IsPost g q (record post { heap = release p.block post.heap })) (sym (e ∙ ap (λ a. release a h) b.block_is))
+      (vanished h q post p b.spells b.loose))
 
-  pub bounce-done : MayBounce m rma q post p block → (to : ℕ) → position (λ (e : Entry). e.handle == p.message.from) q.entries ≡ Some to → (h1 k : Heap) → h1 ≡ poked block 4 (word_bytes 19) (heap_in m rma)
-      → k ≡ relinked (entry_at q.entries to).last block h1 → IsPost k (record { entries = set q.entries to (lengthened block (entry_at q.entries to)); live = q.live + 1; next_ref = q.next_ref }) (bounced p post)
+  pub bounce-done : MayBounce m rma q post p block → (to : ℕ) → position (λ (e : Entry). e.handle == p.message.from) q.entries ≡ Some to → (h1 k : Heap)
+      → h1 ≡ poked block 4 (word_bytes 19) (heap_in m rma)
+      → k ≡ relinked (entry_at q.entries to).last block h1
+      → IsPost k (record { entries = set q.entries to (lengthened block (entry_at q.entries to)); live = q.live + 1; next_ref = q.next_ref })
+      (bounced p post)
   bounce-done b to f h1 k e1 ek =
       let h : Heap = heap_in m rma in
       let w = found-at q.entries p.message.from to f in
       let s = seated h q post to b.spells w.0 in
       let alive = live-yes post.seats to p.message.from s.seat (sym s.handle ∙ w.1) in
-      subst (λ a. IsPost k (record { entries = set q.entries to (lengthened a (entry_at q.entries to)); live = q.live + 1; next_ref = q.next_ref }) (bounced p post)) (sym b.block_is)
-      (subst (IsPost k (record { entries = set q.entries to (lengthened p.block (entry_at q.entries to)); live = q.live + 1; next_ref = q.next_ref })) (sym (cond_true (has_seat p.message.from post.seats) _ _ alive))
+      subst (λ a. IsPost k (record { entries = set q.entries to (lengthened a (entry_at q.entries to)); live = q.live + 1; next_ref = q.next_ref })
+      (bounced p post)) (sym b.block_is)
+      (subst (IsPost k (record { entries = set q.entries to (lengthened p.block (entry_at q.entries to)); live = q.live + 1; next_ref = q.next_ref }))
+      (sym (cond_true (has_seat p.message.from post.seats) _ _ alive))
       (returned-queued h h1 k q post p to b.spells b.loose alive b.few w.0 w.1 (e1 ∙ ap (λ a. poked a 4 (word_bytes 19) h) b.block_is)
       (ek ∙ ap (λ a. relinked (entry_at q.entries to).last a h1) b.block_is)))
 
@@ -81,13 +95,16 @@ pub record HoldsOne (h : Heap) (q : Chains) (post : Post) (x i : ℕ) : Type 0 w
 counted : (seats : List Seat) (i : ℕ) → i < length seats → count_held (seat_at seats i).holds ≤ total (λ (t : Seat). count_held t.holds) seats
 counted seats i l = omega (arith, count-seat seats i (seat_with None (seat_at seats i)) l)
 
-pub holds-one : (h : Heap) (q : Chains) (post : Post) (x i : ℕ) → IsPost h q post → i < length q.entries → (entry_at q.entries i).handle ≡ x → (entry_at q.entries i).held ≢ 0 → HoldsOne h q post x i
+pub holds-one : (h : Heap) (q : Chains) (post : Post) (x i : ℕ) → IsPost h q post → i < length q.entries → (entry_at q.entries i).handle ≡ x
+    → (entry_at q.entries i).held ≢ 0 → HoldsOne h q post x i
 holds-one h q post x i s lt e ne =
     let t = seated h q post i s lt in
     let by = held-at post.seats i x (named h q post s) t.seat (sym t.handle ∙ e) in
-    go (seat_at post.seats i).holds refl by (subst (λ (r : Row). Holds h (entry_at q.entries i).held r.held) t.row_is (s.rows.each i t.row).held) (counted post.seats i t.seat) s.live
+    go (seat_at post.seats i).holds refl by (subst (λ (r : Row). Holds h (entry_at q.entries i).held r.held) t.row_is (s.rows.each i t.row).held)
+    (counted post.seats i t.seat) s.live
   where
-    go : (o : Option Parcel) → (seat_at post.seats i).holds ≡ o → held_by x post.seats ≡ (seat_at post.seats i).holds → Holds h (entry_at q.entries i).held (seat_at post.seats i).holds
+    go : (o : Option Parcel) → (seat_at post.seats i).holds ≡ o → held_by x post.seats ≡ (seat_at post.seats i).holds
+        → Holds h (entry_at q.entries i).held (seat_at post.seats i).holds
         → count_held (seat_at post.seats i).holds ≤ total (λ (y : Seat). count_held y.holds) post.seats → q.live ≡ live_count post → HoldsOne h q post x i
     go None eo by holds c l = let z : Holds h (entry_at q.entries i).held None = subst (Holds h (entry_at q.entries i).held) eo holds in absurd (ne z)
     go (Some p) eo by holds c l =
@@ -95,17 +112,21 @@ holds-one h q post x i s lt e ne =
         let one : count_held (seat_at post.seats i).holds ≡ 1 = ap count_held eo in
         record { parcel = p; held = by ∙ eo; block = z.0; live = omega arith }
 
-pub holds-none : (h : Heap) (q : Chains) (post : Post) (x i : ℕ) → IsPost h q post → i < length q.entries → (entry_at q.entries i).handle ≡ x → (entry_at q.entries i).held ≡ 0 → held_by x post.seats ≡ None
+pub holds-none : (h : Heap) (q : Chains) (post : Post) (x i : ℕ) → IsPost h q post → i < length q.entries → (entry_at q.entries i).handle ≡ x
+    → (entry_at q.entries i).held ≡ 0 → held_by x post.seats ≡ None
 holds-none h q post x i s lt e z =
     let t = seated h q post i s lt in
     let by = held-at post.seats i x (named h q post s) t.seat (sym t.handle ∙ e) in
     go (seat_at post.seats i).holds refl by (subst (λ (r : Row). Holds h (entry_at q.entries i).held r.held) t.row_is (s.rows.each i t.row).held)
   where
-    go : (o : Option Parcel) → (seat_at post.seats i).holds ≡ o → held_by x post.seats ≡ (seat_at post.seats i).holds → Holds h (entry_at q.entries i).held (seat_at post.seats i).holds → held_by x post.seats ≡ None
+    go : (o : Option Parcel) → (seat_at post.seats i).holds ≡ o → held_by x post.seats ≡ (seat_at post.seats i).holds
+        → Holds h (entry_at q.entries i).held (seat_at post.seats i).holds → held_by x post.seats ≡ None
     go None eo by holds = by ∙ eo
-    go (Some p) eo by holds = let w : Holds h (entry_at q.entries i).held (Some p) = subst (Holds h (entry_at q.entries i).held) eo holds in let a = lies-above h 0 p w.1 in let b = w.0 in absurd (omega arith)
+    go (Some p) eo by holds = let w : Holds h (entry_at q.entries i).held (Some p) =
+        subst (Holds h (entry_at q.entries i).held) eo holds in let a = lies-above h 0 p w.1 in let b = w.0 in absurd (omega arith)
 
-pub may-bounce : (m : Memory) (rma : Module) (q : Chains) (post : Post) (x i : ℕ) → IsPost (heap_in m rma) q post → i < length q.entries → (entry_at q.entries i).handle ≡ x → (w : HoldsOne (heap_in m rma) q post x i)
+pub may-bounce : (m : Memory) (rma : Module) (q : Chains) (post : Post) (x i : ℕ) → IsPost (heap_in m rma) q post → i < length q.entries
+    → (entry_at q.entries i).handle ≡ x → (w : HoldsOne (heap_in m rma) q post x i)
     → MayBounce m rma (emptied_chains i q) (lifted x post) w.parcel (entry_at q.entries i).held
 may-bounce m rma q post x i s lt e w =
     let l = lift (heap_in m rma) q post x i w.parcel s lt e w.held in
@@ -117,13 +138,16 @@ may-bounce m rma q post x i s lt e w =
 
 -- ---- seats after a bounce
 pub bounced-seats : (p : Parcel) (post : Post) → (bounced p post).seats ≡ post.seats
-bounced-seats p post = elim (has_seat p.message.from post.seats) as (λ t. (cond t (record post { queued = post.queued ++ as_returned p ∷ []; heap = poked p.block 0 (parcel_bytes 0 (as_returned p)) post.heap }) (record post { heap = release p.block post.heap })).seats ≡ post.seats) [ true ↦ refl | false ↦ refl ]
+bounced-seats p post = elim (has_seat p.message.from post.seats) as (λ t.
+    (cond t (record post { queued = post.queued ++ as_returned p ∷ []; heap = poked p.block 0 (parcel_bytes 0 (as_returned p)) post.heap })
+    (record post { heap = release p.block post.heap })).seats ≡ post.seats) [ true ↦ refl | false ↦ refl ]
 
 pub none-held : (x : ℕ) (seats : List Seat) → held_by x (with_held x None seats) ≡ None
 none-held x [] = refl
 none-held x (s ∷ seats) = go (eqb s.handle x) refl (none-held x seats)
   where
-    go : (t : Bool) → eqb s.handle x ≡ t → held_by x (with_held x None seats) ≡ None → held_by x (cond t (record s { holds = None } ∷ seats) (s ∷ with_held x None seats)) ≡ None
+    go : (t : Bool) → eqb s.handle x ≡ t → held_by x (with_held x None seats) ≡ None
+        → held_by x (cond t (record s { holds = None } ∷ seats) (s ∷ with_held x None seats)) ≡ None
     go true e f = cond_true (eqb s.handle x) _ _ e
     go false e f = cond_false (eqb s.handle x) _ _ e ∙ f
 
@@ -133,32 +157,36 @@ held-after x (Some p) post e = ap (held_by x) (bounced-seats p (record post { se
 
 pub same-handle : (x : ℕ) (seats : List Seat) (i : ℕ) → (seat_at (with_held x None seats) i).handle ≡ (seat_at seats i).handle
 same-handle x [] i = refl
-same-handle x (s ∷ seats) i = elim (eqb s.handle x) as (λ t. (seat_at (cond t (record s { holds = None } ∷ seats) (s ∷ with_held x None seats)) i).handle ≡ (seat_at (s ∷ seats) i).handle) [
-  | true ↦ first i
-  | false ↦ later i (λ j. same-handle x seats j)
-]
+same-handle x (s ∷ seats) i = elim (eqb s.handle x) as (λ t. (seat_at (cond t (record s { holds = None } ∷ seats) (s ∷ with_held x None seats)) i).handle ≡
+    (seat_at (s ∷ seats) i).handle) [
+      | true ↦ first i
+      | false ↦ later i (λ j. same-handle x seats j)
+    ]
   where
     first : (j : ℕ) → (seat_at (record s { holds = None } ∷ seats) j).handle ≡ (seat_at (s ∷ seats) j).handle
     first zero = refl
     first (suc j) = refl
 
-    later : (j : ℕ) → ((n : ℕ) → (seat_at (with_held x None seats) n).handle ≡ (seat_at seats n).handle) → (seat_at (s ∷ with_held x None seats) j).handle ≡ (seat_at (s ∷ seats) j).handle
+    later : (j : ℕ) → ((n : ℕ) → (seat_at (with_held x None seats) n).handle ≡ (seat_at seats n).handle)
+        → (seat_at (s ∷ with_held x None seats) j).handle ≡ (seat_at (s ∷ seats) j).handle
     later zero f = refl
     later (suc j) f = f j
 
 pub same-length : (x : ℕ) (seats : List Seat) → length (with_held x None seats) ≡ length seats
 same-length x [] = refl
-same-length x (s ∷ seats) = elim (eqb s.handle x) as (λ t. length (cond t (record s { holds = None } ∷ seats) (s ∷ with_held x None seats)) ≡ length (s ∷ seats)) [
-  | true ↦ refl
-  | false ↦ ap suc (same-length x seats)
-]
+same-length x (s ∷ seats) =
+    elim (eqb s.handle x) as (λ t. length (cond t (record s { holds = None } ∷ seats) (s ∷ with_held x None seats)) ≡ length (s ∷ seats)) [
+      | true ↦ refl
+      | false ↦ ap suc (same-length x seats)
+    ]
 
 -- the place of a task stays
 pub record Stays (q k : Chains) (i : ℕ) : Type 0 where
   pub within : i < length k.entries
   pub handle : (entry_at k.entries i).handle ≡ (entry_at q.entries i).handle
 
-pub stays : (h g : Heap) (q k : Chains) (post : Post) (x i : ℕ) (o : Option Parcel) → IsPost h q post → IsPost g k (bounce_held x o post) → i < length q.entries → Stays q k i
+pub stays : (h g : Heap) (q k : Chains) (post : Post) (x i : ℕ) (o : Option Parcel) → IsPost h q post → IsPost g k (bounce_held x o post)
+    → i < length q.entries → Stays q k i
 stays h g q k post x i None s t l =
     let a = as_many h q post s in
     let b = as_many g k post t in
@@ -171,7 +199,8 @@ stays h g q k post x i (Some p) s t l =
     let d = same-length x post.seats in
     record {
       within = omega arith;
-      handle = (seated g k (bounced p post') i t (omega arith)).handle ∙ ap (λ ss. (seat_at ss i).handle) (bounced-seats p post') ∙ same-handle x post.seats i ∙ sym (seated h q post i s l).handle;
+      handle = (seated g k (bounced p post') i t (omega arith)).handle ∙ ap (λ ss. (seat_at ss i).handle) (bounced-seats p post')
+          ∙ same-handle x post.seats i ∙ sym (seated h q post i s l).handle;
     }
 
 -- ---- the first message
@@ -185,8 +214,8 @@ pub record Heads (m : Memory) (rma : Module) (q : Chains) (post : Post) (x i : �
   pub next_there : (next ≡ 0) ⊎ HasBlock next 24 (heap_in m rma)
   pub live : 1 ≤ q.live
 
-pub heads : (m : Memory) (rma : Module) (q : Chains) (post : Post) (x i : ℕ) → IsPost (heap_in m rma) q post → i < length q.entries → (entry_at q.entries i).handle ≡ x → (entry_at q.entries i).first ≢ 0
-    → (t : Parcel × List Parcel) × Heads m rma q post x i t
+pub heads : (m : Memory) (rma : Module) (q : Chains) (post : Post) (x i : ℕ) → IsPost (heap_in m rma) q post → i < length q.entries
+    → (entry_at q.entries i).handle ≡ x → (entry_at q.entries i).first ≢ 0 → (t : Parcel × List Parcel) × Heads m rma q post x i t
 heads m rma q post x i s lt e ne = go (first_for x post.queued) refl
   where
     go : (o : Option (Parcel × List Parcel)) → first_for x post.queued ≡ o → (t : Parcel × List Parcel) × Heads m rma q post x i t
@@ -195,10 +224,22 @@ heads m rma q post x i s lt e ne = go (first_for x post.queued) refl
         let f = first-some x post.queued t eo in
         let a = ahead (heap_in m rma) q post x i t.0 t.1 s lt e f in
         let fewer = f.fewer in
-        let live = s.live in
-        (t, record { first = eo; for_ = f; next = first_block (chain_to x t.1) 0; next_is = refl; next_there = a.next; block_is = a.first; lies = a.lies; live = omega arith })
+        let live = s.live in (
+          t,
+          record {
+            first = eo;
+            for_ = f;
+            next = first_block (chain_to x t.1) 0;
+            next_is = refl;
+            next_there = a.next;
+            block_is = a.first;
+            lies = a.lies;
+            live = omega arith;
+          },
+        )
 
-pub no-head : (h : Heap) (q : Chains) (post : Post) (x i : ℕ) → IsPost h q post → i < length q.entries → (entry_at q.entries i).handle ≡ x → (entry_at q.entries i).first ≡ 0 → first_for x post.queued ≡ None
+pub no-head : (h : Heap) (q : Chains) (post : Post) (x i : ℕ) → IsPost h q post → i < length q.entries → (entry_at q.entries i).handle ≡ x
+    → (entry_at q.entries i).first ≡ 0 → first_for x post.queued ≡ None
 no-head h q post x i s lt e z = go (first_for x post.queued) refl
   where
     go : (o : Option (Parcel × List Parcel)) → first_for x post.queued ≡ o → first_for x post.queued ≡ None
@@ -220,7 +261,8 @@ module _ (m : Memory) (rma : Module) (block : ℕ) (p : Parcel) (w : LiesAt m rm
   lies-code code r = r (padded 0 p) lies-bytes ∙ code_read 0 p (omega arith) w.lies.fits
 
 -- the next one's place is small
-pub next-small : (m : Memory) (rma : Module) (next : ℕ) → IsModule m rma → length (bytes m rma.area.0) ≤ area_limit → (next ≡ 0) ⊎ HasBlock next 24 (heap_in m rma) → next < 2 ^ 32
+pub next-small : (m : Memory) (rma : Module) (next : ℕ) → IsModule m rma → length (bytes m rma.area.0) ≤ area_limit
+    → (next ≡ 0) ⊎ HasBlock next 24 (heap_in m rma) → next < 2 ^ 32
 next-small m rma next s l w = elim w [ inl z ↦ omega arith | inr b ↦ let f = block_within m rma next 24 s b in omega arith ]
 
 module _ (m : Memory) (rma : Module) (q : Chains) (post : Post) (x i : ℕ) (t : Parcel × List Parcel) (w : Heads m rma q post x i t) where
@@ -230,12 +272,14 @@ module _ (m : Memory) (rma : Module) (q : Chains) (post : Post) (x i : ℕ) (t :
   pub head-has : HasBlock (entry_at q.entries i).first 24 (heap_in m rma)
   head-has = record { bytes = padded w.next t.0; found = head-bytes; room = padded-least w.next t.0 }
 
-  pub next-of : (next : ℕ) → w.next < 2 ^ 32 → ((bs : List ℕ) → block_bytes (entry_at q.entries i).first (heap_in m rma) ≡ Some bs → next ≡ word bs 0) → next ≡ w.next
+  pub next-of : (next : ℕ) → w.next < 2 ^ 32 → ((bs : List ℕ) → block_bytes (entry_at q.entries i).first (heap_in m rma) ≡ Some bs → next ≡ word bs 0)
+      → next ≡ w.next
   next-of next small r = r (padded w.next t.0) head-bytes ∙ link_read w.next t.0 small w.lies.fits
 
   -- the first message is off its chain
   pub first-lifted : (n : Memory) (next : ℕ) → IsPost (heap_in m rma) q post → i < length q.entries → (entry_at q.entries i).handle ≡ x → next ≡ w.next
-      → heap_in n rma ≡ poked (entry_at q.entries i).first 0 (word_bytes 0) (heap_in m rma) → Lifted n rma (shortened_chains i next q) post x (entry_at q.entries i).first t
+      → heap_in n rma ≡ poked (entry_at q.entries i).first 0 (word_bytes 0) (heap_in m rma)
+      → Lifted n rma (shortened_chains i next q) post x (entry_at q.entries i).first t
   first-lifted n next s lt e en eh =
       let h : Heap = heap_in m rma in
       let p : Parcel = t.0 in
@@ -243,14 +287,16 @@ module _ (m : Memory) (rma : Module) (q : Chains) (post : Post) (x i : ℕ) (t :
       let k : Heap = poked p.block 0 (word_bytes 0) h in
       let ek : heap_in n rma ≡ k = eh ∙ ap (λ a. poked a 0 (word_bytes 0) h) w.block_is in
       let here = (poked-pokes p.block 0 (word_bytes 0) h (padded w.next p) w.lies.block).here ∙ ap Some (padded-relinked w.next 0 p) in
-      let off = taken-off h k q post x i p rest s lt e w.for_ (poked-shape p.block 0 (word_bytes 0) h) (record { each = λ b nb nb'. poked-other p.block b 0 (word_bytes 0) h nb }) here in
+      let off = taken-off h k q post x i p rest s lt e w.for_ (poked-shape p.block 0 (word_bytes 0) h)
+      (record { each = λ b nb nb'. poked-other p.block b 0 (word_bytes 0) h nb }) here in
       let live = s.live in
       let few = s.few in
       let fewer = w.for_.fewer in
       record {
         first = w.first;
         may = record {
-          spells = subst (λ (y : Heap). IsPost y (shortened_chains i next q) (rest_of rest post)) (sym ek) (subst (λ l. IsPost k (shortened_chains i l q) (rest_of rest post)) (sym (en ∙ w.next_is)) off.0);
+          spells = subst (λ (y : Heap). IsPost y (shortened_chains i next q) (rest_of rest post)) (sym ek)
+              (subst (λ l. IsPost k (shortened_chains i l q) (rest_of rest post)) (sym (en ∙ w.next_is)) off.0);
           loose = subst (λ (y : Heap). Loose y (rest_of rest post) p) (sym ek) off.1;
           block_is = w.block_is;
           few = omega arith;
@@ -258,7 +304,8 @@ module _ (m : Memory) (rma : Module) (q : Chains) (post : Post) (x i : ℕ) (t :
       }
 
 -- the place of a task stays where the seats do
-pub seats-stay : (h g : Heap) (q k : Chains) (post other : Post) (i : ℕ) → other.seats ≡ post.seats → IsPost h q post → IsPost g k other → i < length q.entries → Stays q k i
+pub seats-stay : (h g : Heap) (q k : Chains) (post other : Post) (i : ℕ) → other.seats ≡ post.seats → IsPost h q post → IsPost g k other
+    → i < length q.entries → Stays q k i
 seats-stay h g q k post other i es s t l =
     let a = as_many h q post s in
     let b = as_many g k other t in
@@ -269,7 +316,8 @@ seats-stay h g q k post other i es s t l =
     }
 
 -- a recorded message that was first is held
-pub take-held : (m : Memory) (rma : Module) (q : Chains) (post : Post) (x i block : ℕ) (t : Parcel × List Parcel) → Lifted m rma q post x block t → i < length q.entries → (entry_at q.entries i).handle ≡ x
+pub take-held : (m : Memory) (rma : Module) (q : Chains) (post : Post) (x i block : ℕ) (t : Parcel × List Parcel) → Lifted m rma q post x block t
+    → i < length q.entries → (entry_at q.entries i).handle ≡ x
     → held_by x post.seats ≡ None → is_recorded t.0.code ≡ true → IsPost (heap_in m rma) (holding_chains i block q) (taken x post).0
 take-held m rma q post x i block t w lt e none code =
     let h : Heap = heap_in m rma in
@@ -277,16 +325,18 @@ take-held m rma q post x i block t w lt e none code =
     let rest : Post = rest_of t.1 post in
     let held = held-post h q rest x i p w.may.spells lt e none w.may.loose w.may.few in
     subst (λ o. IsPost h (holding_chains i block q) (taken_from x o post).0) (sym w.first)
-    (subst (λ (y : Post). IsPost h (holding_chains i block q) y) (sym (cond_true (is_recorded p.code) (record rest { seats = with_held x (Some p) rest.seats }) (without_block p rest) code))
+    (subst (λ (y : Post). IsPost h (holding_chains i block q) y) (sym (cond_true (is_recorded p.code)
+    (record rest { seats = with_held x (Some p) rest.seats }) (without_block p rest) code))
     (subst (λ b. IsPost h (holding_chains i b q) (record rest { seats = with_held x (Some p) rest.seats })) (sym w.may.block_is) held))
 
 -- the block of any other that was first is freed
-pub take-freed : (m : Memory) (rma : Module) (q : Chains) (post : Post) (x block : ℕ) (t : Parcel × List Parcel) (k : Heap) → Lifted m rma q post x block t → is_recorded t.0.code ≡ false
-    → k ≡ release block (heap_in m rma) → IsPost k q (taken x post).0
+pub take-freed : (m : Memory) (rma : Module) (q : Chains) (post : Post) (x block : ℕ) (t : Parcel × List Parcel) (k : Heap) → Lifted m rma q post x block t
+    → is_recorded t.0.code ≡ false → k ≡ release block (heap_in m rma) → IsPost k q (taken x post).0
 take-freed m rma q post x block t k w code ek =
     let h : Heap = heap_in m rma in
     let p : Parcel = t.0 in
     let rest : Post = rest_of t.1 post in
     subst (λ o. IsPost k q (taken_from x o post).0) (sym w.first)
-    (subst (λ (y : Post). IsPost k q y) (sym (cond_false (is_recorded p.code) (record rest { seats = with_held x (Some p) rest.seats }) (without_block p rest) code))
+    (subst (λ (y : Post). IsPost k q y) (sym (cond_false (is_recorded p.code) (record rest { seats = with_held x (Some p) rest.seats })
+    (without_block p rest) code))
     (subst (λ (y : Heap). IsPost y q (without_block p rest)) (sym (ek ∙ ap (λ a. release a h) w.may.block_is)) (vanished h q rest p w.may.spells w.may.loose)))

@@ -27,7 +27,8 @@ pub post_in-spelled : (m : Memory) (rma : Module) (q : Chains) → IsSmall m rma
 post_in-spelled m rma q small s = post_of-spells (heap_in m rma) q s.post (module-low m rma s.area small) s.spells
 
 -- each post that is spelled, in order of seats, is the one that is read
-pub post_in-is : (m : Memory) (rma : Module) (q : Chains) (post : Post) → IsSmall m rma → IsModule m rma → SpellsPost m rma q post → post_in m rma q ≡ in_order post
+pub post_in-is : (m : Memory) (rma : Module) (q : Chains) (post : Post) → IsSmall m rma → IsModule m rma → SpellsPost m rma q post
+    → post_in m rma q ≡ in_order post
 post_in-is m rma q post small s w = post_of-is (heap_in m rma) q post (module-low m rma s small) w
 
 pub one-post : HaveOnePost
@@ -38,8 +39,8 @@ pub post_in-in_order : (m : Memory) (rma : Module) (q : Chains) → IsSmall m rm
 post_in-in_order m rma q small s = post_in-is m rma q (post_in m rma q) small s.area (post_in-spelled m rma q small s)
 
 -- two posts that are spelled differ in the order of messages to different tasks alone
-pub posts-alike : (m : Memory) (rma : Module) (q : Chains) (post other : Post) → IsSmall m rma → IsModule m rma → SpellsPost m rma q post → SpellsPost m rma q other
-    → in_order post ≡ in_order other
+pub posts-alike : (m : Memory) (rma : Module) (q : Chains) (post other : Post) → IsSmall m rma → IsModule m rma → SpellsPost m rma q post
+    → SpellsPost m rma q other → in_order post ≡ in_order other
 posts-alike m rma q post other small s v w = sym (post_in-is m rma q post small s v) ∙ post_in-is m rma q other small s w
 
 -- ---- what is held is for the handle that holds it
@@ -88,7 +89,8 @@ module _ (P : Parcel → Type 0) where
 
   all-by_seats : (seats : List Seat) (queue : List Parcel) → AllByRecursion P queue → AllByRecursion P (by_seats seats queue)
   all-by_seats [] queue a = tt
-  all-by_seats (s ∷ seats) queue a = all-both (filter (λ (p : Parcel). p.to == s.handle) queue) (by_seats seats queue) (all-some (λ (p : Parcel). p.to == s.handle) queue a) (all-by_seats seats queue a)
+  all-by_seats (s ∷ seats) queue a = all-both (filter (λ (p : Parcel). p.to == s.handle) queue) (by_seats seats queue)
+      (all-some (λ (p : Parcel). p.to == s.handle) queue a) (all-by_seats seats queue a)
 
 pub in_order-keeps : (h : Heap) (q : Chains) (post : Post) → IsPost h q post → laws.IsPost post → laws.IsPost (in_order post)
 in_order-keeps h q post s w =
@@ -117,18 +119,19 @@ post_in-stays m n rma q e = ap (λ h. post_of h q) (heap-stays m n rma e)
 pub post_in-beside : (m n : Memory) (id : ℕ) (rma : Module) (q : Chains) → OnlyArea m n id → rma.area.0 ≢ id → post_in n rma q ≡ post_in m rma q
 post_in-beside m n id rma q only ne = post_in-stays m n rma q (only.others rma.area.0 ne)
 
-pub spells-stays : (m n : Memory) (rma : Module) (q : Chains) (post : Post) → n.area rma.area.0 ≡ m.area rma.area.0 → SpellsPost m rma q post → SpellsPost n rma q post
+pub spells-stays : (m n : Memory) (rma : Module) (q : Chains) (post : Post) → n.area rma.area.0 ≡ m.area rma.area.0 → SpellsPost m rma q post
+    → SpellsPost n rma q post
 spells-stays m n rma q post e w = subst (λ h. IsPost h q post) (sym (heap-stays m n rma e)) w
 
 -- ---- calls of the queue
 -- what a call answers
-pub answered : {A : Type 0} (m : Memory) (rma : Module) (q : Chains) (answer : Post → A) (result : A) → IsSmall m rma → IsQueue m rma q → Answers m rma q answer result
-    → result ≡ answer (post_in m rma q)
+pub answered : {A : Type 0} (m : Memory) (rma : Module) (q : Chains) (answer : Post → A) (result : A) → IsSmall m rma → IsQueue m rma q
+    → Answers m rma q answer result → result ≡ answer (post_in m rma q)
 answered m rma q answer result small s a = a (post_in m rma q) (post_in-spelled m rma q small s)
 
 -- the post that a call leaves
-pub post_in-leaves : (m n : Memory) (rma : Module) (q k : Chains) (next : Post → Post) → IsSmall m rma → IsSmall n rma → IsQueue m rma q → Leaves m n rma q k next
-    → post_in n rma k ≡ in_order (next (post_in m rma q))
+pub post_in-leaves : (m n : Memory) (rma : Module) (q k : Chains) (next : Post → Post) → IsSmall m rma → IsSmall n rma → IsQueue m rma q
+    → Leaves m n rma q k next → post_in n rma k ≡ in_order (next (post_in m rma q))
 post_in-leaves m n rma q k next small smaller s l =
     post_in-is n rma k (next (post_in m rma q)) smaller l.still.area (l.spells (post_in m rma q) (post_in-spelled m rma q small s))
 
@@ -139,6 +142,8 @@ unfolding post_of
 post_in-starts m rma ref = refl
 
 -- a handle that joins
-pub post_in-joins : (m : Memory) (rma : Module) (q : Chains) (h : ℕ) → IsSmall m rma → IsQueue m rma q → (HasEntry h q → ⊥) → post_in m rma (joined h q) ≡ in_order (post_join h (post_in m rma q))
+pub post_in-joins : (m : Memory) (rma : Module) (q : Chains) (h : ℕ) → IsSmall m rma → IsQueue m rma q → (HasEntry h q → ⊥)
+    → post_in m rma (joined h q) ≡ in_order (post_join h (post_in m rma q))
 post_in-joins m rma q h small s new =
-    post_in-is m rma (joined h q) (post_join h (post_in m rma q)) small s.area (join-spells (heap_in m rma) q (post_in m rma q) h (post_in-spelled m rma q small s) new)
+    post_in-is m rma (joined h q) (post_join h (post_in m rma q)) small s.area
+    (join-spells (heap_in m rma) q (post_in m rma q) h (post_in-spelled m rma q small s) new)

@@ -1,5 +1,6 @@
 -- The walk along the chains finds the post that the queue spells.
-use Rattle.std.proofs.Common.{◌≡◌, ℕ, zero, suc, ◌+◌, ◌<◌, ◌≤◌, ◌≢◌, ◌^◌, inl, inr, Bool, true, false, cond, eqb, List, [], ◌∷◌, ◌++◌, length, map, refl, sym, ap, subst, ◌∙◌, arith}
+use Rattle.std.proofs.Common.{◌≡◌, ℕ, zero, suc, ◌+◌, ◌<◌, ◌≤◌, ◌≢◌, ◌^◌, inl, inr, Bool, true, false, cond, eqb, List, [], ◌∷◌, ◌++◌, length, map, refl, sym}
+use Rattle.std.proofs.Common.{ap, subst, ◌∙◌, arith}
 use Rattle.std.proofs.lemmas.Bool.{cases_eq}
 use Rattle.std.proofs.lemmas.List.{length-map}
 use Rattle.std.specs.Prelude.{Option, Some, None, ◌==◌}
@@ -22,8 +23,10 @@ use Rattle.rh_defs.proofs.ShapeLaws.{poked-shape, shape-both}
 use Rattle.rh_module.proofs.BlockBytes.{block_within}
 use Rattle.rh_module.specs.Area.{IsModule, heap_in}
 use Rattle.rh_module.specs.declared.module.Module.{Module}
-use Rattle.rh_wimp.specs.Chains.{Chain, Chains, Holds, Lies, Row, RowLies, RowsLie, IsLinked, IsPost, AllLie, Off, entry_at, first_block, held_list, row_at, row_of, row_parcels, rows_of}
-use Rattle.rh_wimp.specs.PostIn.{bytes_in, or_no_bytes, or_user, or_no_message, parcel_in, chain_in, held_in, row_in, rows_in, seat_of, chains_of, parcels_of, unlinked, post_of, for_task, in_order}
+use Rattle.rh_wimp.specs.Chains.{Chain, Chains, Holds, Lies, Row, RowLies, RowsLie, IsLinked, IsPost, AllLie, Off, entry_at, first_block, held_list, row_at}
+use Rattle.rh_wimp.specs.Chains.{row_of, row_parcels, rows_of}
+use Rattle.rh_wimp.specs.PostIn.{bytes_in, or_no_bytes, or_user, or_no_message, parcel_in, chain_in, held_in, row_in, rows_in, seat_of, chains_of, parcels_of}
+use Rattle.rh_wimp.specs.PostIn.{unlinked, post_of, for_task, in_order}
 use Rattle.rh_wimp.specs.declared.chain.Entry.{Entry}
 use Rattle.rh_wimp.proofs.OrderLaws.{own_row, own-rows, own-linked, in_order-spells, seats-of-rows, chains-of-rows, sent_to}
 use Rattle.rh_wimp.proofs.PostLaws.{eq_of, row-at, seat_at}
@@ -45,7 +48,8 @@ same-segments p (Hole n ∷ ss) (Hole m ∷ ts) e f =
     let rest : blank ss ≡ blank ts = cc in
     ap (λ k. Hole k ∷ ss) sizes ∙ ap (λ l. Hole m ∷ l) (same-segments (p + n) ss ts rest (λ a. f a ∙ ap (λ k. bytes_at a (p + k) ts) (sym sizes)))
 same-segments p (Used bs ∷ ss) (Used cs ∷ ts) e f =
-    let same : Some bs ≡ Some cs = sym (cond_true (eqb (p + 4) (p + 4)) _ _ (eqb_same (p + 4) (p + 4) refl)) ∙ f (p + 4) ∙ cond_true (eqb (p + 4) (p + 4)) _ _ (eqb_same (p + 4) (p + 4) refl) in
+    let same : Some bs ≡ Some cs = sym (cond_true (eqb (p + 4) (p + 4)) _ _ (eqb_same (p + 4) (p + 4) refl)) ∙ f (p + 4)
+    ∙ cond_true (eqb (p + 4) (p + 4)) _ _ (eqb_same (p + 4) (p + 4) refl) in
     let here : bs ≡ cs = cc in
     let rest : blank ss ≡ blank ts = cc in
     ap (λ l. Used l ∷ ss) here ∙ ap (λ l. Used cs ∷ l) (same-segments (p + (4 + length bs)) ss ts rest (λ a. elim (cases_eq a (p + 4)) [
@@ -72,7 +76,8 @@ pub record Beside (h d : Heap) (ps : List Parcel) : Type 0 where
   pub plain : AllLie d ps
   pub others : (a : ℕ) → Off a ps → block_bytes a h ≡ block_bytes a d
 
-relinked : (h k d : Heap) (p : Parcel) (ps : List Parcel) → block_bytes p.block k ≡ block_bytes p.block d → ((a : ℕ) → a ≢ p.block → block_bytes a k ≡ block_bytes a h) → AllLie d ps → AllLinked h ps → AllLinked k ps
+relinked : (h k d : Heap) (p : Parcel) (ps : List Parcel) → block_bytes p.block k ≡ block_bytes p.block d
+    → ((a : ℕ) → a ≢ p.block → block_bytes a k ≡ block_bytes a h) → AllLie d ps → AllLinked h ps → AllLinked k ps
 relinked h k d p [] here others a l = tt
 relinked h k d p (q ∷ ps) here others a l = (
   elim (cases_eq q.block p.block) [
@@ -156,12 +161,15 @@ code-known Acknowledge = refl
 pub parcel-found : (h : Heap) (to link : ℕ) (p : Parcel) → link < 2 ^ 32 → Lies h link p → parcel_in to p.block h ≡ for_task to p
 parcel-found h to link p small l =
     let e : bytes_in p.block h ≡ padded link p = ap or_no_bytes l.block in
-    let code : or_user (code_at (word (bytes_in p.block h) 4)) ≡ p.code = ap (λ b. or_user (code_at (word b 4))) e ∙ ap (λ n. or_user (code_at n)) (code_read link p small l.fits) ∙ code-known p.code in
+    let code : or_user (code_at (word (bytes_in p.block h) 4)) ≡ p.code =
+    ap (λ b. or_user (code_at (word b 4))) e ∙ ap (λ n. or_user (code_at n)) (code_read link p small l.fits) ∙ code-known p.code in
     let message : or_no_message (decoded (part (bytes_in p.block h) 8 (word (bytes_in p.block h) 8))) ≡ p.message =
     ap (λ b. or_no_message (decoded (part b 8 (word b 8)))) e
     ∙ ap (λ b. or_no_message (decoded b)) (message_read link p (word (padded link p) 8) (length_read link p small l.fits))
     ∙ ap or_no_message (decoded-encoded p.message l.fits) in
-    ap (λ (c : EventCode). let x : Parcel = record { code = c; to = to; block = p.block; message = or_no_message (decoded (part (bytes_in p.block h) 8 (word (bytes_in p.block h) 8))) } in x) code
+    ap (λ (c : EventCode). let x : Parcel =
+    record { code = c; to = to; block = p.block; message = or_no_message (decoded (part (bytes_in p.block h) 8 (word (bytes_in p.block h) 8))) } in
+    x) code
     ∙ ap (λ (m : Message). let x : Parcel = record { code = p.code; to = to; block = p.block; message = m } in x) message
 
 link-small : (h : Heap) (ps : List Parcel) → IsLow h → Chain h ps 0 → first_block ps 0 < 2 ^ 32
@@ -204,14 +212,17 @@ held-found h to block (Some p) c =
 row-found : (h : Heap) (e : Entry) (r : Row) → IsLow h → RowLies h e r → AllFor r.handle r.chain → length r.chain ≤ most_messages → row_in h e ≡ own_row r
 row-found h e r s l f few =
     ap (λ (x : ℕ). let y : Row = record { handle = x; chain = chain_in most_messages x e.first h; held = held_in x e.held h } in y) l.handle
-    ∙ ap (λ (c : List Parcel). let y : Row = record { handle = r.handle; chain = c; held = held_in r.handle e.held h } in y) (ap (λ b. chain_in most_messages r.handle b h) l.first ∙ chain-found h most_messages r.handle r.chain s l.chain f few)
+    ∙ ap (λ (c : List Parcel). let y : Row = record { handle = r.handle; chain = c; held = held_in r.handle e.held h } in y)
+    (ap (λ b. chain_in most_messages r.handle b h) l.first ∙ chain-found h most_messages r.handle r.chain s l.chain f few)
     ∙ ap (λ (o : Option Parcel). let y : Row = record { handle = r.handle; chain = r.chain; held = o } in y) (held-found h r.handle e.held r.held l.held)
 
-rows-found : (h : Heap) (es : List Entry) (rows : List Row) → length es ≡ length rows → ((i : ℕ) → i < length rows → row_in h (entry_at es i) ≡ own_row (row_at rows i)) → map (row_in h) es ≡ map own_row rows
+rows-found : (h : Heap) (es : List Entry) (rows : List Row) → length es ≡ length rows
+    → ((i : ℕ) → i < length rows → row_in h (entry_at es i) ≡ own_row (row_at rows i)) → map (row_in h) es ≡ map own_row rows
 rows-found h [] [] n f = refl
 rows-found h [] (r ∷ rows) n f = absurd (omega arith)
 rows-found h (e ∷ es) [] n f = absurd (omega arith)
-rows-found h (e ∷ es) (r ∷ rows) n f = ap (λ x. x ∷ map (row_in h) es) (f 0 (omega arith)) ∙ ap (λ l. own_row r ∷ l) (rows-found h es rows (omega arith) (λ i b. f (suc i) (omega arith)))
+rows-found h (e ∷ es) (r ∷ rows) n f =
+    ap (λ x. x ∷ map (row_in h) es) (f 0 (omega arith)) ∙ ap (λ l. own_row r ∷ l) (rows-found h es rows (omega arith) (λ i b. f (suc i) (omega arith)))
 
 -- ---- the whole post
 pub rows_in-are : (h : Heap) (q : Chains) (post : Post) → IsLow h → IsPost h q post → rows_in h q ≡ map own_row (rows_of post)
@@ -230,9 +241,12 @@ post_of-is h q post s w =
     let queued = ap chains_of e ∙ chains-of-rows post.queued post.seats in
     let heap : unlinked (parcels_of (rows_in h q)) h ≡ post.heap =
     ap (λ rows. unlinked (parcels_of rows) h) e
-    ∙ rows-unlinked h post.heap q.entries (map own_row (rows_of post)) (own-rows h post.heap q.entries (rows_of post) w.rows) (own-linked h post.heap q.entries (rows_of post) w.linked) in
-    ap (λ (x : List Seat). let y : Post = record { seats = x; queued = chains_of (rows_in h q); heap = unlinked (parcels_of (rows_in h q)) h; next_ref = q.next_ref } in y) seats
-    ∙ ap (λ (x : List Parcel). let y : Post = record { seats = (in_order post).seats; queued = x; heap = unlinked (parcels_of (rows_in h q)) h; next_ref = q.next_ref } in y) queued
+    ∙ rows-unlinked h post.heap q.entries (map own_row (rows_of post)) (own-rows h post.heap q.entries (rows_of post) w.rows)
+    (own-linked h post.heap q.entries (rows_of post) w.linked) in
+    ap (λ (x : List Seat). let y : Post =
+    record { seats = x; queued = chains_of (rows_in h q); heap = unlinked (parcels_of (rows_in h q)) h; next_ref = q.next_ref } in y) seats
+    ∙ ap (λ (x : List Parcel). let y : Post =
+    record { seats = (in_order post).seats; queued = x; heap = unlinked (parcels_of (rows_in h q)) h; next_ref = q.next_ref } in y) queued
     ∙ ap (λ (x : Heap). let y : Post = record { seats = (in_order post).seats; queued = (in_order post).queued; heap = x; next_ref = q.next_ref } in y) heap
     ∙ ap (λ (x : ℕ). let y : Post = record { seats = (in_order post).seats; queued = (in_order post).queued; heap = post.heap; next_ref = x } in y) w.next_ref
 

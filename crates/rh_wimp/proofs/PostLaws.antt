@@ -1,5 +1,6 @@
 -- A post's rows, after each edit of the post.
-use Rattle.std.proofs.Common.{◌≡◌, ℕ, zero, suc, ◌+◌, ◌<◌, ◌≤◌, ◌≢◌, inl, inr, true, false, cond, eqb, ltb, List, [], ◌∷◌, ◌++◌, length, map, get_or, set, refl, sym, ap, ◌∙◌, arith}
+use Rattle.std.proofs.Common.{◌≡◌, ℕ, zero, suc, ◌+◌, ◌<◌, ◌≤◌, ◌≢◌, inl, inr, true, false, cond, eqb, ltb, List, [], ◌∷◌, ◌++◌, length, map, get_or, set}
+use Rattle.std.proofs.Common.{refl, sym, ap, ◌∙◌, arith}
 use Rattle.std.specs.Prelude.{Option, Some, None, filter, ◌==◌}
 use Rattle.std.specs.List.{position, position_or_len}
 use Rattle.std.proofs.lemmas.Bool.Decides.{nat_tests, eqb_tells}
@@ -60,7 +61,8 @@ row-at queued (s ∷ seats) (suc i) b = row-at queued seats i (omega arith)
 pub live-yes : (seats : List Seat) (i x : ℕ) → i < length seats → (seat_at seats i).handle ≡ x → has_seat x seats ≡ true
 live-yes [] i x b e = absurd (omega arith)
 live-yes (s ∷ seats) zero x b e = cond_true (eqb s.handle x) _ _ (eqb_same s.handle x e)
-live-yes (s ∷ seats) (suc i) x b e = elim (eqb s.handle x) as (λ t. cond t true (has_seat x seats) ≡ true) [ true ↦ refl | false ↦ live-yes seats i x (omega arith) e ]
+live-yes (s ∷ seats) (suc i) x b e =
+    elim (eqb s.handle x) as (λ t. cond t true (has_seat x seats) ≡ true) [ true ↦ refl | false ↦ live-yes seats i x (omega arith) e ]
 
 pub live-no : (seats : List Seat) (x : ℕ) → ((j : ℕ) → j < length seats → (seat_at seats j).handle ≢ x) → has_seat x seats ≡ false
 live-no [] x n = refl
@@ -70,12 +72,14 @@ pub held-at : (seats : List Seat) (i x : ℕ) → Named seats → i < length sea
 held-at [] i x n b e = absurd (omega arith)
 held-at (s ∷ seats) zero x n b e = cond_true (eqb s.handle x) _ _ (eqb_same s.handle x e)
 held-at (s ∷ seats) (suc i) x n b e =
-    cond_false (eqb s.handle x) _ _ (eqb_apart s.handle x (λ z. named-head s seats n i (omega arith) (z ∙ sym e))) ∙ held-at seats i x (named-rest s seats n) (omega arith) e
+    cond_false (eqb s.handle x) _ _ (eqb_apart s.handle x (λ z. named-head s seats n i (omega arith) (z ∙ sym e)))
+    ∙ held-at seats i x (named-rest s seats n) (omega arith) e
 
 abbrev pub seat_with : Option Parcel → Seat → Seat
 seat_with o s = record s { holds = o }
 
-pub with_held-at : (o : Option Parcel) (seats : List Seat) (i x : ℕ) → Named seats → i < length seats → (seat_at seats i).handle ≡ x → with_held x o seats ≡ set seats i (seat_with o (seat_at seats i))
+pub with_held-at : (o : Option Parcel) (seats : List Seat) (i x : ℕ) → Named seats → i < length seats → (seat_at seats i).handle ≡ x
+    → with_held x o seats ≡ set seats i (seat_with o (seat_at seats i))
 with_held-at o [] i x n b e = absurd (omega arith)
 with_held-at o (s ∷ seats) zero x n b e = cond_true (eqb s.handle x) _ _ (eqb_same s.handle x e)
 with_held-at o (s ∷ seats) (suc i) x n b e =
@@ -86,20 +90,24 @@ with_held-at o (s ∷ seats) (suc i) x n b e =
 one-more : (queued : List Parcel) (q : Parcel) (s : Seat) → s.handle ≡ q.to → row_of (queued ++ q ∷ []) s ≡ with_last q (row_of queued s)
 one-more queued q s e =
     let f : filter (λ (p : Parcel). p.to == s.handle) (queued ++ q ∷ []) ≡ filter (λ (p : Parcel). p.to == s.handle) queued ++ q ∷ [] =
-    filter-append (λ (p : Parcel). p.to == s.handle) queued (q ∷ []) ∙ ap (λ l. filter (λ (p : Parcel). p.to == s.handle) queued ++ l) (cond_true (eqb q.to s.handle) _ _ (eqb_same q.to s.handle (sym e))) in
+    filter-append (λ (p : Parcel). p.to == s.handle) queued (q ∷ [])
+    ∙ ap (λ l. filter (λ (p : Parcel). p.to == s.handle) queued ++ l) (cond_true (eqb q.to s.handle) _ _ (eqb_same q.to s.handle (sym e))) in
     ap (λ (l : List Parcel). let r : Row = record { handle = s.handle; chain = l; held = s.holds } in r) f
 
 none-more : (queued : List Parcel) (q : Parcel) (s : Seat) → s.handle ≢ q.to → row_of (queued ++ q ∷ []) s ≡ row_of queued s
 none-more queued q s ne =
     let f : filter (λ (p : Parcel). p.to == s.handle) (queued ++ q ∷ []) ≡ filter (λ (p : Parcel). p.to == s.handle) queued =
     filter-append (λ (p : Parcel). p.to == s.handle) queued (q ∷ [])
-    ∙ ap (λ l. filter (λ (p : Parcel). p.to == s.handle) queued ++ l) (cond_false (eqb q.to s.handle) _ _ (eqb_apart q.to s.handle (λ z. ne (sym z)))) ∙ append-nil (filter (λ (p : Parcel). p.to == s.handle) queued) in
+    ∙ ap (λ l. filter (λ (p : Parcel). p.to == s.handle) queued ++ l) (cond_false (eqb q.to s.handle) _ _ (eqb_apart q.to s.handle (λ z. ne (sym z))))
+    ∙ append-nil (filter (λ (p : Parcel). p.to == s.handle) queued) in
     ap (λ (l : List Parcel). let r : Row = record { handle = s.handle; chain = l; held = s.holds } in r) f
 
-nowhere-more : (queued : List Parcel) (q : Parcel) (seats : List Seat) → ((j : ℕ) → j < length seats → (seat_at seats j).handle ≢ q.to) → map (row_of (queued ++ q ∷ [])) seats ≡ map (row_of queued) seats
+nowhere-more : (queued : List Parcel) (q : Parcel) (seats : List Seat) → ((j : ℕ) → j < length seats → (seat_at seats j).handle ≢ q.to)
+    → map (row_of (queued ++ q ∷ [])) seats ≡ map (row_of queued) seats
 nowhere-more queued q [] n = refl
 nowhere-more queued q (s ∷ seats) n =
-    ap (λ r. r ∷ map (row_of (queued ++ q ∷ [])) seats) (none-more queued q s (n 0 (omega arith))) ∙ ap (λ l. row_of queued s ∷ l) (nowhere-more queued q seats (λ j b. n (suc j) (omega arith)))
+    ap (λ r. r ∷ map (row_of (queued ++ q ∷ [])) seats) (none-more queued q s (n 0 (omega arith)))
+    ∙ ap (λ l. row_of queued s ∷ l) (nowhere-more queued q seats (λ j b. n (suc j) (omega arith)))
 
 pub rows-queued : (queued : List Parcel) (q : Parcel) (seats : List Seat) (i : ℕ) → Named seats → i < length seats → (seat_at seats i).handle ≡ q.to
     → map (row_of (queued ++ q ∷ [])) seats ≡ set (map (row_of queued) seats) i (with_last q (row_of queued (seat_at seats i)))
@@ -112,13 +120,15 @@ rows-queued queued q (s ∷ seats) (suc i) n b e =
     ∙ ap (λ l. row_of queued s ∷ l) (rows-queued queued q seats i (named-rest s seats n) (omega arith) e)
 
 -- ---- a seat that holds another message, or none
-pub rows-seat : (queued : List Parcel) (seats : List Seat) (i : ℕ) (s : Seat) → map (row_of queued) (set seats i s) ≡ set (map (row_of queued) seats) i (row_of queued s)
+pub rows-seat : (queued : List Parcel) (seats : List Seat) (i : ℕ) (s : Seat)
+    → map (row_of queued) (set seats i s) ≡ set (map (row_of queued) seats) i (row_of queued s)
 rows-seat queued [] i s = refl
 rows-seat queued (t ∷ seats) zero s = refl
 rows-seat queued (t ∷ seats) (suc i) s = ap (λ l. row_of queued t ∷ l) (rows-seat queued seats i s)
 
 pub count-seat : (seats : List Seat) (i : ℕ) (s : Seat) → i < length seats
-    → total (λ (t : Seat). count_held t.holds) (set seats i s) + count_held (seat_at seats i).holds ≡ total (λ (t : Seat). count_held t.holds) seats + count_held s.holds
+    → total (λ (t : Seat). count_held t.holds) (set seats i s) + count_held (seat_at seats i).holds ≡ total (λ (t : Seat). count_held t.holds) seats
+    + count_held s.holds
 count-seat [] i s b = absurd (omega arith)
 count-seat (t ∷ seats) zero s b = omega arith
 count-seat (t ∷ seats) (suc i) s b = omega (arith, count-seat seats i s (let z : i < length seats = omega arith in z))

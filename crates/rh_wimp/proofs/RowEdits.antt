@@ -6,10 +6,12 @@ use Rattle.std.specs.Prelude.{Option, Some, None}
 use Rattle.rh_defs.specs.Heap.{Heap}
 use Rattle.rh_defs.proofs.HeapLists.{cond_true, cond_false, eqb_same, eqb_apart}
 use Rattle.rh_defs.specs.Messages.{Parcel, padded}
-use Rattle.rh_wimp.specs.Chains.{no_row, Row, Lies, Chain, Holds, RowLies, RowsLie, Off, Apart, Clear, first_block, last_block, held_list, row_parcels, row_at, entry_at, lengthened, emptied}
+use Rattle.rh_wimp.specs.Chains.{no_row, Row, Lies, Chain, Holds, RowLies, RowsLie, Off, Apart, Clear, first_block, last_block, held_list, row_parcels}
+use Rattle.rh_wimp.specs.Chains.{row_at, entry_at, lengthened, emptied}
 use Rattle.rh_wimp.specs.declared.chain.Entry.{Entry}
 use Rattle.rh_defs.proofs.BlockLaws.{range_at}
-use Rattle.rh_wimp.proofs.RowLaws.{Off-append, Off-parts, Clear-append, Clear-parts, Clear-behind, Clear-behind-parts, Clear-one, Apart-append, Apart-parts, Clear-last, KeepsBut, agree-off, chain-kept, holds-kept, LinkedTo, chain-longer, last_block-append, rows-changed}
+use Rattle.rh_wimp.proofs.RowLaws.{Off-append, Off-parts, Clear-append, Clear-parts, Clear-behind, Clear-behind-parts, Clear-one, Apart-append, Apart-parts}
+use Rattle.rh_wimp.proofs.RowLaws.{Clear-last, KeepsBut, agree-off, chain-kept, holds-kept, LinkedTo, chain-longer, last_block-append, rows-changed}
 
 -- ---- no block is at 0
 pub lies-above : (h : Heap) (link : ℕ) (p : Parcel) → Lies h link p → 20 ≤ p.block
@@ -39,7 +41,8 @@ first_block-append : (ps : List Parcel) (q : Parcel) (next : ℕ) → first_bloc
 first_block-append [] q next = refl
 first_block-append (p ∷ ps) q next = refl
 
-longer-first : (h : Heap) (e : Entry) (ps : List Parcel) (q : Parcel) → Chain h ps 0 → e.first ≡ first_block ps 0 → e.last ≡ last_block ps → (lengthened q.block e).first ≡ first_block ps q.block
+longer-first : (h : Heap) (e : Entry) (ps : List Parcel) (q : Parcel) → Chain h ps 0 → e.first ≡ first_block ps 0 → e.last ≡ last_block ps
+    → (lengthened q.block e).first ≡ first_block ps q.block
 longer-first h e [] q c ef el = cond_true (eqb e.last 0) _ _ (eqb_same e.last 0 el)
 longer-first h e (p ∷ ps) q c ef el = cond_false (eqb e.last 0) _ _ (eqb_apart e.last 0 (λ z. last-nonzero h p ps 0 c (sym el ∙ z))) ∙ ef
 
@@ -76,10 +79,13 @@ module _ (h k : Heap) (es : List Entry) (rows : List Row) (i : ℕ) (q : Parcel)
             let there = row_at rows j in
             let ahead = Clear-parts r.chain (held_list r.held) (row_parcels there) (s.cross i j l b (λ z. ne (sym z))) in
             let back = Clear-behind-parts (row_parcels there) r.chain (held_list r.held) (s.cross j i b l ne) in (
-              agree-off h k (last_block r.chain) q.block (row_parcels there) keeps' (off-last r.chain (row_parcels there) ahead.0 (row-nonzero h (entry_at es j) there (s.each j b))) (off j b),
+              agree-off h k (last_block r.chain) q.block (row_parcels there) keeps'
+                  (off-last r.chain (row_parcels there) ahead.0 (row-nonzero h (entry_at es j) there (s.each j b))) (off j b),
               (
-                Clear-append (r.chain ++ q ∷ []) (held_list r.held) (row_parcels there) (Clear-append r.chain (q ∷ []) (row_parcels there) ahead.0 (off j b, tt)) ahead.1,
-                Clear-behind (row_parcels there) (r.chain ++ q ∷ []) (held_list r.held) (Clear-behind (row_parcels there) r.chain (q ∷ []) back.0 (Clear-one q (row_parcels there) (off j b))) back.1,
+                Clear-append (r.chain ++ q ∷ []) (held_list r.held) (row_parcels there)
+                    (Clear-append r.chain (q ∷ []) (row_parcels there) ahead.0 (off j b, tt)) ahead.1,
+                Clear-behind (row_parcels there) (r.chain ++ q ∷ []) (held_list r.held)
+                    (Clear-behind (row_parcels there) r.chain (q ∷ []) back.0 (Clear-one q (row_parcels there) (off j b))) back.1,
               ),
             );
       })
@@ -110,11 +116,15 @@ module _ (h k : Heap) (es : List Entry) (rows : List Row) (i : ℕ) (q : Parcel)
         handle = refl;
         others = λ j b ne.
             let there = row_at rows j in
-            let ahead : Clear (r.chain ++ q ∷ []) (row_parcels there) = subst (λ o. Clear (r.chain ++ held_list o) (row_parcels there)) held (s.cross i j l b (λ z. ne (sym z))) in
+            let ahead : Clear (r.chain ++ q ∷ []) (row_parcels there) =
+            subst (λ o. Clear (r.chain ++ held_list o) (row_parcels there)) held (s.cross i j l b (λ z. ne (sym z))) in
             let back = Clear-behind-parts (row_parcels there) r.chain (held_list r.held) (s.cross j i b l ne) in
             let ahead' = Clear-parts r.chain (q ∷ []) (row_parcels there) ahead in (
               agree-off h k q.block q.block (row_parcels there) keeps ahead'.1.0 ahead'.1.0,
-              (subst (λ l'. Clear l' (row_parcels there)) (sym (append-nil r.chain)) ahead'.0, subst (Clear (row_parcels there)) (sym (append-nil r.chain)) back.0),
+              (
+                subst (λ l'. Clear l' (row_parcels there)) (sym (append-nil r.chain)) ahead'.0,
+                subst (Clear (row_parcels there)) (sym (append-nil r.chain)) back.0,
+              ),
             );
       })
     where
@@ -123,18 +133,22 @@ module _ (h k : Heap) (es : List Entry) (rows : List Row) (i : ℕ) (q : Parcel)
       off-one (p ∷ ps) c = ((λ z. c.0.0 (sym z)), off-one ps c.1)
 
   -- and its block belongs to no row from then on
-  pub dropped-off : i < length rows → RowsLie h es rows → (row_at rows i).held ≡ Some q → (j : ℕ) → j < length rows → Off q.block (row_parcels (row_at (set rows i (without_held (row_at rows i))) j))
+  pub dropped-off : i < length rows → RowsLie h es rows → (row_at rows i).held ≡ Some q → (j : ℕ) → j < length rows
+      → Off q.block (row_parcels (row_at (set rows i (without_held (row_at rows i))) j))
   dropped-off l s held j b = elim (cases_eq j i) [
     | inl z ↦
         let r = row_at rows i in
         let own : Apart (r.chain ++ q ∷ []) = subst (λ o. Apart (r.chain ++ held_list o)) held (s.own i l) in
         let parts = Apart-parts r.chain (q ∷ []) own in
         subst (λ n. Off q.block (row_parcels (row_at (set rows i (without_held r)) n))) (sym z)
-        (subst (λ x. Off q.block (row_parcels x)) (sym (get_or-set_same rows i (without_held r) no_row l)) (subst (Off q.block) (sym (append-nil r.chain)) (off-one' r.chain parts.1.1)))
+        (subst (λ x. Off q.block (row_parcels x)) (sym (get_or-set_same rows i (without_held r) no_row l))
+        (subst (Off q.block) (sym (append-nil r.chain)) (off-one' r.chain parts.1.1)))
     | inr ne ↦
         let r = row_at rows i in
-        let ahead : Clear (r.chain ++ q ∷ []) (row_parcels (row_at rows j)) = subst (λ o. Clear (r.chain ++ held_list o) (row_parcels (row_at rows j))) held (s.cross i j l b (λ z. ne (sym z))) in
-        subst (λ x. Off q.block (row_parcels x)) (sym (get_or-set_other rows i j (without_held r) no_row ne)) (Clear-parts r.chain (q ∷ []) (row_parcels (row_at rows j)) ahead).1.0
+        let ahead : Clear (r.chain ++ q ∷ []) (row_parcels (row_at rows j)) =
+        subst (λ o. Clear (r.chain ++ held_list o) (row_parcels (row_at rows j))) held (s.cross i j l b (λ z. ne (sym z))) in
+        subst (λ x. Off q.block (row_parcels x)) (sym (get_or-set_other rows i j (without_held r) no_row ne))
+        (Clear-parts r.chain (q ∷ []) (row_parcels (row_at rows j)) ahead).1.0
   ]
     where
       off-one' : (ps : List Parcel) → Clear ps (q ∷ []) → Off q.block ps

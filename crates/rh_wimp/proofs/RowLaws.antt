@@ -8,7 +8,8 @@ use Rattle.rh_defs.specs.Heap.{Heap}
 use Rattle.rh_defs.specs.Blocks.{block_bytes, HasBlock}
 use Rattle.rh_defs.specs.Bytes.{word_bytes}
 use Rattle.rh_defs.specs.Messages.{Parcel, padded}
-use Rattle.rh_wimp.specs.Chains.{Row, Lies, Chain, Holds, RowLies, RowsLie, Off, Apart, Clear, first_block, last_block, held_list, row_parcels, row_at, entry_at, no_row, no_entry}
+use Rattle.rh_wimp.specs.Chains.{Row, Lies, Chain, Holds, RowLies, RowsLie, Off, Apart, Clear, first_block, last_block, held_list, row_parcels, row_at}
+use Rattle.rh_wimp.specs.Chains.{entry_at, no_row, no_entry}
 use Rattle.rh_wimp.specs.declared.chain.Entry.{Entry}
 use Rattle.rh_defs.proofs.ParcelLaws.{padded-relinked, padded-least}
 
@@ -142,10 +143,11 @@ pub record RowChanges (h k : Heap) (es : List Entry) (rows : List Row) (i : ℕ)
   pub lies : RowLies k e r
   pub own : Apart (row_parcels r)
   pub handle : r.handle ≡ (row_at rows i).handle
-  pub others : (j : ℕ) → j < length rows → j ≢ i → Agree h k (row_parcels (row_at rows j)) × (Clear (row_parcels r) (row_parcels (row_at rows j)) × Clear (row_parcels (row_at rows j)) (row_parcels r))
+  pub others : (j : ℕ) → j < length rows → j ≢ i
+      → Agree h k (row_parcels (row_at rows j)) × (Clear (row_parcels r) (row_parcels (row_at rows j)) × Clear (row_parcels (row_at rows j)) (row_parcels r))
 
-pub rows-changed : (h k : Heap) (es : List Entry) (rows : List Row) (i : ℕ) (e : Entry) (r : Row) → i < length rows → RowsLie h es rows → RowChanges h k es rows i e r
-    → RowsLie k (set es i e) (set rows i r)
+pub rows-changed : (h k : Heap) (es : List Entry) (rows : List Row) (i : ℕ) (e : Entry) (r : Row) → i < length rows → RowsLie h es rows
+    → RowChanges h k es rows i e r → RowsLie k (set es i e) (set rows i r)
 rows-changed h k es rows i e r l s c =
     let le = length-set es i e in
     let lr = length-set rows i r in

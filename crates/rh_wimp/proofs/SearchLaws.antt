@@ -1,5 +1,6 @@
 -- Laws of searches among the live messages.
-use Rattle.std.proofs.Common.{◌≡◌, ℕ, zero, suc, ◌+◌, ◌<◌, ◌≤◌, ◌≢◌, ◌^◌, inl, inr, Bool, true, false, cond, eqb, List, [], ◌∷◌, length, map, refl, sym, ap, ◌∙◌, arith}
+use Rattle.std.proofs.Common.{◌≡◌, ℕ, zero, suc, ◌+◌, ◌<◌, ◌≤◌, ◌≢◌, ◌^◌, inl, inr, Bool, true, false, cond, eqb, List, [], ◌∷◌, length, map, refl, sym, ap}
+use Rattle.std.proofs.Common.{◌∙◌, arith}
 use Rattle.std.proofs.lemmas.Bool.Decides.{eqb_tells}
 use Rattle.std.proofs.lemmas.List.{length-map}
 use Rattle.std.proofs.lemmas.List.Folds.{list_any-append}
@@ -56,10 +57,13 @@ list_any-map f test (x ∷ xs) = ap (λ t. test (f x) || t) (list_any-map f test
 abbrev chain_for : Seat → List Parcel → List Parcel
 chain_for s queue = filter (λ (p : Parcel). p.to == s.handle) queue
 
-one_message : (test : Parcel → Bool) (p : Parcel) (queue : List Parcel) (s : Seat) → list_any test (chain_for s (p ∷ queue)) ≡ (cond (eqb s.handle p.to) (test p) false || list_any test (chain_for s queue))
+one_message : (test : Parcel → Bool) (p : Parcel) (queue : List Parcel) (s : Seat)
+    → list_any test (chain_for s (p ∷ queue)) ≡ (cond (eqb s.handle p.to) (test p) false || list_any test (chain_for s queue))
 one_message test p queue s = elim (eqb_tells p.to s.handle) [
-  | inl u ↦ ap (λ t. list_any test (cond t (p ∷ chain_for s queue) (chain_for s queue))) u.0 ∙ sym (ap (λ t. cond t (test p) false || list_any test (chain_for s queue)) (same s.handle p.to (sym u.1)))
-  | inr v ↦ ap (λ t. list_any test (cond t (p ∷ chain_for s queue) (chain_for s queue))) v.0 ∙ sym (ap (λ t. cond t (test p) false || list_any test (chain_for s queue)) (apart s.handle p.to (λ z. v.1 (sym z))))
+  | inl u ↦ ap (λ t. list_any test (cond t (p ∷ chain_for s queue) (chain_for s queue))) u.0
+      ∙ sym (ap (λ t. cond t (test p) false || list_any test (chain_for s queue)) (same s.handle p.to (sym u.1)))
+  | inr v ↦ ap (λ t. list_any test (cond t (p ∷ chain_for s queue) (chain_for s queue))) v.0
+      ∙ sym (ap (λ t. cond t (test p) false || list_any test (chain_for s queue)) (apart s.handle p.to (λ z. v.1 (sym z))))
 ]
   where
     same : (x y : ℕ) → x ≡ y → eqb x y ≡ true
@@ -69,34 +73,39 @@ one_message test p queue s = elim (eqb_tells p.to s.handle) [
     apart x y ne = elim (eqb_tells x y) [ inl u ↦ absurd (ne u.1) | inr v ↦ v.0 ]
 
 -- a message is one of the chain of its recipient, if that one is live
-by_seat : (test : Parcel → Bool) (p : Parcel) (seats : List Seat) → has_seat p.to seats ≡ true → list_any (λ (s : Seat). cond (eqb s.handle p.to) (test p) false) seats ≡ test p
+by_seat : (test : Parcel → Bool) (p : Parcel) (seats : List Seat) → has_seat p.to seats ≡ true
+    → list_any (λ (s : Seat). cond (eqb s.handle p.to) (test p) false) seats ≡ test p
 by_seat test p [] e = absurd cc
 by_seat test p (s ∷ seats) e = go (eqb s.handle p.to) e (by_seat test p seats)
   where
     nowhere : (ss : List Seat) → test p ≡ false → list_any (λ (s : Seat). cond (eqb s.handle p.to) (test p) false) ss ≡ false
     nowhere [] f = refl
-    nowhere (y ∷ ss) f = elim (eqb y.handle p.to) as (λ t. (cond t (test p) false || list_any (λ (s : Seat). cond (eqb s.handle p.to) (test p) false) ss) ≡ false) [
-      | true ↦ ap (λ t. t || list_any (λ (s : Seat). cond (eqb s.handle p.to) (test p) false) ss) f ∙ nowhere ss f
-      | false ↦ nowhere ss f
-    ]
+    nowhere (y ∷ ss) f =
+        elim (eqb y.handle p.to) as (λ t. (cond t (test p) false || list_any (λ (s : Seat). cond (eqb s.handle p.to) (test p) false) ss) ≡ false) [
+          | true ↦ ap (λ t. t || list_any (λ (s : Seat). cond (eqb s.handle p.to) (test p) false) ss) f ∙ nowhere ss f
+          | false ↦ nowhere ss f
+        ]
 
     decided : (t : Bool) → test p ≡ t → (test p || list_any (λ (s : Seat). cond (eqb s.handle p.to) (test p) false) seats) ≡ test p
     decided true et = ap (λ t. t || list_any (λ (s : Seat). cond (eqb s.handle p.to) (test p) false) seats) et ∙ sym et
     decided false et = ap (λ t. t || list_any (λ (s : Seat). cond (eqb s.handle p.to) (test p) false) seats) et ∙ nowhere seats et ∙ sym et
 
-    go : (t : Bool) → cond t true (has_seat p.to seats) ≡ true → (has_seat p.to seats ≡ true → list_any (λ (s : Seat). cond (eqb s.handle p.to) (test p) false) seats ≡ test p)
+    go : (t : Bool) → cond t true (has_seat p.to seats) ≡ true
+        → (has_seat p.to seats ≡ true → list_any (λ (s : Seat). cond (eqb s.handle p.to) (test p) false) seats ≡ test p)
         → (cond t (test p) false || list_any (λ (s : Seat). cond (eqb s.handle p.to) (test p) false) seats) ≡ test p
     go true f h = decided (test p) refl
     go false f h = h f
 
-queue_by_seats : (test : Parcel → Bool) (queue : List Parcel) (seats : List Seat) → AllLive seats queue → list_any (λ (s : Seat). list_any test (chain_for s queue)) seats ≡ list_any test queue
+queue_by_seats : (test : Parcel → Bool) (queue : List Parcel) (seats : List Seat) → AllLive seats queue
+    → list_any (λ (s : Seat). list_any test (chain_for s queue)) seats ≡ list_any test queue
 queue_by_seats test [] seats a = none seats
   where
     none : (ss : List Seat) → list_any (λ (s : Seat). false) ss ≡ false
     none [] = refl
     none (s ∷ ss) = none ss
 queue_by_seats test (p ∷ queue) seats a =
-    list_any-same (λ (s : Seat). list_any test (chain_for s (p ∷ queue))) (λ (s : Seat). cond (eqb s.handle p.to) (test p) false || list_any test (chain_for s queue)) seats (one_message test p queue)
+    list_any-same (λ (s : Seat). list_any test (chain_for s (p ∷ queue)))
+    (λ (s : Seat). cond (eqb s.handle p.to) (test p) false || list_any test (chain_for s queue)) seats (one_message test p queue)
     ∙ list_any-or (λ (s : Seat). cond (eqb s.handle p.to) (test p) false) (λ (s : Seat). list_any test (chain_for s queue)) seats
     ∙ ap (λ t. t || list_any (λ (s : Seat). list_any test (chain_for s queue)) seats) (by_seat test p seats a.0)
     ∙ ap (λ t. test p || t) (queue_by_seats test queue seats a.1)
@@ -113,7 +122,8 @@ held_one test (Some p) = go (test p)
 pub rows-have : (test : Parcel → Bool) (post : Post) → AllLive post.seats post.queued → rows_have test (rows_of post) ≡ has_message test post
 rows-have test post a =
     list_any-map (row_of post.queued) (λ (r : Row). list_any test (row_parcels r)) post.seats
-    ∙ list_any-same (λ (s : Seat). list_any test (row_parcels (row_of post.queued s))) (λ (s : Seat). list_any test (chain_for s post.queued) || holds_such test s.holds) post.seats
+    ∙ list_any-same (λ (s : Seat). list_any test (row_parcels (row_of post.queued s)))
+    (λ (s : Seat). list_any test (chain_for s post.queued) || holds_such test s.holds) post.seats
     (λ s. list_any-append test (chain_for s post.queued) (held_list s.holds) ∙ ap (λ t. list_any test (chain_for s post.queued) || t) (held_one test s.holds))
     ∙ list_any-or (λ (s : Seat). list_any test (chain_for s post.queued)) (λ (s : Seat). holds_such test s.holds) post.seats
     ∙ ap (λ t. t || list_any (λ (s : Seat). holds_such test s.holds) post.seats) (queue_by_seats test post.queued post.seats a)
@@ -136,12 +146,14 @@ short-rows h q post s i l =
     omega arith
 
 -- no row has it, by their places
-pub none-have : (test : Parcel → Bool) (rows : List Row) → ((j : ℕ) → j < length rows → list_any test (row_parcels (row_at rows j)) ≡ false) → rows_have test rows ≡ false
+pub none-have : (test : Parcel → Bool) (rows : List Row) → ((j : ℕ) → j < length rows → list_any test (row_parcels (row_at rows j)) ≡ false)
+    → rows_have test rows ≡ false
 none-have test [] f = refl
 none-have test (r ∷ rows) f = ap (λ t. t || rows_have test rows) (f 0 (omega arith)) ∙ none-have test rows (λ j l. f (suc j) (omega arith))
 
 -- one row has it
-pub one-has : (test : Parcel → Bool) (rows : List Row) (j : ℕ) → j < length rows → list_any test (row_parcels (row_at rows j)) ≡ true → rows_have test rows ≡ true
+pub one-has : (test : Parcel → Bool) (rows : List Row) (j : ℕ) → j < length rows → list_any test (row_parcels (row_at rows j)) ≡ true
+    → rows_have test rows ≡ true
 one-has test [] j l e = absurd (omega arith)
 one-has test (r ∷ rows) zero l e = ap (λ t. t || rows_have test rows) e
 one-has test (r ∷ rows) (suc j) l e = go (list_any test (row_parcels r)) (one-has test rows j (omega arith) e)
@@ -165,7 +177,8 @@ row-has test r = list_any-append test r.chain (held_list r.held) ∙ ap (λ t. l
 pub held-has_it : (test : Parcel → Bool) (r : Row) (t : Bool) → t ≡ holds_such test r.held → t ≡ true → true ≡ list_any test (row_parcels r)
 held-has_it test r t e et = sym (row-has test r ∙ or_true (list_any test r.chain) (holds_such test r.held) (sym e ∙ et))
 
-pub chain-decides : (test : Parcel → Bool) (r : Row) (t u : Bool) → t ≡ holds_such test r.held → t ≡ false → u ≡ list_any test r.chain → u ≡ list_any test (row_parcels r)
+pub chain-decides : (test : Parcel → Bool) (r : Row) (t u : Bool) → t ≡ holds_such test r.held → t ≡ false → u ≡ list_any test r.chain
+    → u ≡ list_any test (row_parcels r)
 chain-decides test r t u e et eu = eu ∙ sym (row-has test r ∙ or_false (list_any test r.chain) (holds_such test r.held) (sym e ∙ et))
 
 -- ---- the message that is held
@@ -201,11 +214,12 @@ ahead-none h block turn test ps a z = go a.rest a.block_is a.chain (sym a.same)
     go [] e c f = f
     go (p ∷ rest) e c f = let l = lies-above h (first_block rest 0) p c.0 in absurd (omega arith)
 
-pub ahead-some : (m : Memory) (rma : Module) (block turn : ℕ) (test : Parcel → Bool) (ps : List Parcel) → IsModule m rma → length (bytes m rma.area.0) ≤ area_limit → Ahead (heap_in m rma) block turn test ps → block ≢ 0
-    → Here m rma block turn test ps
+pub ahead-some : (m : Memory) (rma : Module) (block turn : ℕ) (test : Parcel → Bool) (ps : List Parcel) → IsModule m rma
+    → length (bytes m rma.area.0) ≤ area_limit → Ahead (heap_in m rma) block turn test ps → block ≢ 0 → Here m rma block turn test ps
 ahead-some m rma block turn test ps s l a ne = go a.rest a.block_is a.chain a.few a.same
   where
-    go : (rest : List Parcel) → block ≡ first_block rest 0 → Chain (heap_in m rma) rest 0 → length rest + turn ≤ most_messages → list_any test ps ≡ list_any test rest → Here m rma block turn test ps
+    go : (rest : List Parcel) → block ≡ first_block rest 0 → Chain (heap_in m rma) rest 0 → length rest + turn ≤ most_messages
+        → list_any test ps ≡ list_any test rest → Here m rma block turn test ps
     go [] e c f same = absurd (ne e)
     go (p ∷ rest) e c f same = record {
       parcel = p;
@@ -218,7 +232,8 @@ ahead-some m rma block turn test ps s l a ne = go a.rest a.block_is a.chain a.fe
       same = same;
     }
 
-pub ahead-past : (h : Heap) (block turn : ℕ) (test : Parcel → Bool) (ps : List Parcel) → Ahead h block turn test ps → most_messages ≤ turn → false ≡ list_any test ps
+pub ahead-past : (h : Heap) (block turn : ℕ) (test : Parcel → Bool) (ps : List Parcel) → Ahead h block turn test ps → most_messages ≤ turn
+    → false ≡ list_any test ps
 ahead-past h block turn test ps a z = go a.rest a.few (sym a.same)
   where
     go : (rest : List Parcel) → length rest + turn ≤ most_messages → list_any test rest ≡ list_any test ps → false ≡ list_any test ps
@@ -235,7 +250,8 @@ module _ (m : Memory) (rma : Module) (block turn : ℕ) (test : Parcel → Bool)
   pub found-here : (t : Bool) → t ≡ test w.parcel → t ≡ true → true ≡ list_any test ps
   found-here t e et = sym (w.same ∙ ap (λ b. b || list_any test w.rest) (sym e ∙ et))
 
-  pub one-on : (t : Bool) (next : ℕ) → t ≡ test w.parcel → t ≡ false → ((bs : List ℕ) → block_bytes block (heap_in m rma) ≡ Some bs → next ≡ word bs 0) → Ahead (heap_in m rma) next (suc turn) test ps
+  pub one-on : (t : Bool) (next : ℕ) → t ≡ test w.parcel → t ≡ false → ((bs : List ℕ) → block_bytes block (heap_in m rma) ≡ Some bs → next ≡ word bs 0)
+      → Ahead (heap_in m rma) next (suc turn) test ps
   one-on t next e et r = record {
     rest = w.rest;
     block_is = r (padded (first_block w.rest 0) w.parcel) here-bytes ∙ link_read (first_block w.rest 0) w.parcel w.small w.lies.fits;

@@ -1,5 +1,6 @@
 -- A post after a letter is sent.
-use Rattle.std.proofs.Common.{◌≡◌, ℕ, zero, suc, ◌+◌, ◌-◌, ◌<◌, ◌≤◌, ◌≢◌, ◌^◌, inl, inr, true, false, Bool, cond, eqb, leb, List, [], ◌∷◌, ◌++◌, length, map, set, refl, sym, ap, subst, ◌∙◌, arith}
+use Rattle.std.proofs.Common.{◌≡◌, ℕ, zero, suc, ◌+◌, ◌-◌, ◌<◌, ◌≤◌, ◌≢◌, ◌^◌, inl, inr, true, false, Bool, cond, eqb, leb, List, [], ◌∷◌, ◌++◌, length, map}
+use Rattle.std.proofs.Common.{set, refl, sym, ap, subst, ◌∙◌, arith}
 use Rattle.std.proofs.lemmas.Bool.{cases_eq}
 use Rattle.std.proofs.lemmas.Bool.Decides.{nat_tests}
 use Rattle.std.proofs.lemmas.List.{length-append, length-map, length-set, get_or-set_same, get_or-set_other}
@@ -21,15 +22,18 @@ use Rattle.rh_defs.specs.Blocks.{block_bytes, poked, HasBlock, SameShape, Puts}
 use Rattle.rh_defs.specs.Bytes.{word_bytes}
 use Rattle.rh_defs.proofs.ParcelLaws.{parcel-row}
 use Rattle.rh_defs.specs.Messages.{Parcel, Fits, code_number, encoded, parcel_bytes, parcel_size, padded}
-use Rattle.rh_defs.specs.Post.{Seat, Post, has_seat, held_by, with_held, count_held, live_count, most_messages, answers_held, put_down, queued_in, posted, post_send, post_send_pages, sendable, parcel_of, message_of, release_held}
-use Rattle.rh_wimp.specs.Chains.{Chains, Chain, Holds, Row, RowLies, RowsLie, IsLinked, IsPost, AllLive, Lies, Off, no_entry, entry_at, row_at, row_of, rows_of, row_parcels, lengthened, longer_chains, emptied, emptied_chains, refusal_at, refusal_for, last_block}
+use Rattle.rh_defs.specs.Post.{Seat, Post, has_seat, held_by, with_held, count_held, live_count, most_messages, answers_held, put_down, queued_in, posted}
+use Rattle.rh_defs.specs.Post.{post_send, post_send_pages, sendable, parcel_of, message_of, release_held}
+use Rattle.rh_wimp.specs.Chains.{Chains, Chain, Holds, Row, RowLies, RowsLie, IsLinked, IsPost, AllLive, Lies, Off, no_entry, entry_at, row_at, row_of}
+use Rattle.rh_wimp.specs.Chains.{rows_of, row_parcels, lengthened, longer_chains, emptied, emptied_chains, refusal_at, refusal_for, last_block}
 use Rattle.rh_wimp.specs.declared.chain.Entry.{Entry}
 use Rattle.rh_defs.specs.declared.message.Letter.{Letter}
 use Rattle.rh_wimp.proofs.AnswerLaws.{answered-some}
 use Rattle.rh_defs.proofs.BlockLaws.{poked-pokes, poked-other, block-above, release-frees}
 use Rattle.rh_defs.proofs.BlockCalls.{module_claim-puts}
 use Rattle.rh_wimp.proofs.LinkLaws.{linked-longer, linked-dropped}
-use Rattle.rh_wimp.proofs.PostLaws.{found-at, not-found, seat_at, Named, row-at, live-yes, live-no, held-at, seat_with, with_held-at, rows-queued, rows-seat, count-seat}
+use Rattle.rh_wimp.proofs.PostLaws.{found-at, not-found, seat_at, Named, row-at, live-yes, live-no, held-at, seat_with, with_held-at, rows-queued, rows-seat}
+use Rattle.rh_wimp.proofs.PostLaws.{count-seat}
 use Rattle.rh_wimp.proofs.RowEdits.{with_last, without_held, appended, dropped}
 use Rattle.rh_wimp.proofs.RowLaws.{KeepsBut, LinkedTo, row-fresh, last-there}
 use Rattle.rh_defs.proofs.ShapeLaws.{Alike, module_claim-alike, module_need_pages-alike, poked-shape, shape-both, shape-sym, release-alike}
@@ -101,24 +105,29 @@ refusals true false true refusal x y = let z = y refl in ap Err cc
 refusals true false false refusal x y = let z = y refl in absurd cc
 
 -- a letter that is refused before its block is claimed
-pub sendable-refused : (h : Heap) (q : Chains) (post : Post) (l : Letter) (refusal : Refusal) → IsPost h q post → refusal_for l.to q ≡ Some refusal → sendable l post ≡ Err refusal
+pub sendable-refused : (h : Heap) (q : Chains) (post : Post) (l : Letter) (refusal : Refusal) → IsPost h q post → refusal_for l.to q ≡ Some refusal
+    → sendable l post ≡ Err refusal
 unfolding sendable
 sendable-refused h q post l refusal p e = go (position (λ (x : Entry). x.handle == l.to) q.entries) refl e
   where
     go : (o : Option ℕ) → position (λ (x : Entry). x.handle == l.to) q.entries ≡ o → refusal_at o q ≡ Some refusal → sendable l post ≡ Err refusal
     go None eo z =
         let m = as_many h q post p in
-        let no = live-no post.seats l.to (λ j b. let s = seated h q post j p (omega arith) in let n = not-found q.entries l.to eo j (omega arith) in λ y. n (s.handle ∙ y)) in
-        refusals (has_seat l.to post.seats) (leb (2 ^ 32) post.next_ref) (leb most_messages (live_count post)) refusal (λ u. cc) (λ u. absurd (let bad : true ≡ false = sym u ∙ no in cc))
+        let no = live-no post.seats l.to (λ j b. let s = seated h q post j p (omega arith) in let n = not-found q.entries l.to eo j (omega arith) in
+        λ y. n (s.handle ∙ y)) in
+        refusals (has_seat l.to post.seats) (leb (2 ^ 32) post.next_ref) (leb most_messages (live_count post)) refusal (λ u. cc)
+        (λ u. absurd (let bad : true ≡ false = sym u ∙ no in cc))
     go (Some i) eo z =
         let w = found-at q.entries l.to i eo in
         let s = seated h q post i p w.0 in
         let yes = live-yes post.seats i l.to s.seat (sym s.handle ∙ w.1) in
-        refusals (has_seat l.to post.seats) (leb (2 ^ 32) post.next_ref) (leb most_messages (live_count post)) refusal (λ u. absurd (let bad : true ≡ false = sym yes ∙ u in cc))
+        refusals (has_seat l.to post.seats) (leb (2 ^ 32) post.next_ref) (leb most_messages (live_count post)) refusal
+        (λ u. absurd (let bad : true ≡ false = sym yes ∙ u in cc))
         (λ u. ap (λ n. cond (leb (2 ^ 32) n) (Some NoRefs) (cond (leb most_messages (live_count post)) (Some QueueFull) None)) (sym p.next_ref)
         ∙ ap (λ n. cond (leb (2 ^ 32) q.next_ref) (Some NoRefs) (cond (leb most_messages n) (Some QueueFull) None)) (sym p.live) ∙ z)
 
-grants : (a b d : Bool) → a ≡ true → b ≡ false → d ≡ false → ◌≡◌ {A = Granted (Unit {0})} (refuse_if (not a) NoTask >> (refuse_if b NoRefs >> refuse_if d QueueFull)) (Ok tt)
+grants : (a b d : Bool) → a ≡ true → b ≡ false → d ≡ false
+    → ◌≡◌ {A = Granted (Unit {0})} (refuse_if (not a) NoTask >> (refuse_if b NoRefs >> refuse_if d QueueFull)) (Ok tt)
 unfolding ◌>>=◌ ◌>>◌ refuse_if
 grants false b d x y z = absurd cc
 grants true true d x y z = absurd cc
@@ -147,32 +156,36 @@ then_refused : {A B : Type 0} (o : Granted A) (r : Refusal) (next : Granted B) �
 unfolding ◌>>◌
 then_refused o r next e = next_refused o r (λ y. next) e
 
-pub send-refused : (h : Heap) (q : Chains) (post : Post) (free : ℕ) (l : Letter) (refusal : Refusal) → IsPost h q post → refusal_for l.to q ≡ Some refusal → post_send free l post ≡ Err refusal
+pub send-refused : (h : Heap) (q : Chains) (post : Post) (free : ℕ) (l : Letter) (refusal : Refusal) → IsPost h q post → refusal_for l.to q ≡ Some refusal
+    → post_send free l post ≡ Err refusal
 unfolding post_send
 send-refused h q post free l refusal p e = then_refused (sendable l post) refusal _ (sendable-refused h q post l refusal p e)
 
 -- where a letter is admitted, all hangs on the claim
-pub send-granted : (h : Heap) (q : Chains) (post : Post) (free : ℕ) (l : Letter) (there : Heap × ℕ) → Admits h q post l.to → module_claim free (parcel_size (message_of l 0)) post.heap ≡ Ok there
-    → post_send free l post ≡ Ok (posted l there post, post.next_ref)
+pub send-granted : (h : Heap) (q : Chains) (post : Post) (free : ℕ) (l : Letter) (there : Heap × ℕ) → Admits h q post l.to
+    → module_claim free (parcel_size (message_of l 0)) post.heap ≡ Ok there → post_send free l post ≡ Ok (posted l there post, post.next_ref)
 unfolding post_send
 send-granted h q post free l there a e =
     then_is (sendable l post) tt _ (sendable-granted h q post l a) ∙ next_is (module_claim free (parcel_size (message_of l 0)) post.heap) there _ e
 
-pub send-no_room : (h : Heap) (q : Chains) (post : Post) (free : ℕ) (l : Letter) (refusal : Refusal) → Admits h q post l.to → module_claim free (parcel_size (message_of l 0)) post.heap ≡ Err refusal
-    → post_send free l post ≡ Err refusal
+pub send-no_room : (h : Heap) (q : Chains) (post : Post) (free : ℕ) (l : Letter) (refusal : Refusal) → Admits h q post l.to
+    → module_claim free (parcel_size (message_of l 0)) post.heap ≡ Err refusal → post_send free l post ≡ Err refusal
 unfolding post_send
 send-no_room h q post free l refusal a e =
     then_is (sendable l post) tt _ (sendable-granted h q post l a) ∙ next_refused (module_claim free (parcel_size (message_of l 0)) post.heap) refusal _ e
 
 -- ---- a chain's last block links to another
 pub relinked-other : (last x b : ℕ) (h : Heap) → b ≢ last → block_bytes b (relinked last x h) ≡ block_bytes b h
-relinked-other last x b h ne = elim (eqb last 0) as (λ t. block_bytes b (cond t h (poked last 0 (word_bytes x) h)) ≡ block_bytes b h) [ true ↦ refl | false ↦ poked-other last b 0 (word_bytes x) h ne ]
+relinked-other last x b h ne = elim (eqb last 0) as (λ t. block_bytes b (cond t h (poked last 0 (word_bytes x) h)) ≡ block_bytes b h)
+    [ true ↦ refl | false ↦ poked-other last b 0 (word_bytes x) h ne ]
 
-pub relinked-last : (last x : ℕ) (h : Heap) (bs : List ℕ) → last ≢ 0 → block_bytes last h ≡ Some bs → block_bytes last (relinked last x h) ≡ Some (put bs 0 (word_bytes x))
+pub relinked-last : (last x : ℕ) (h : Heap) (bs : List ℕ) → last ≢ 0 → block_bytes last h ≡ Some bs
+    → block_bytes last (relinked last x h) ≡ Some (put bs 0 (word_bytes x))
 relinked-last last x h bs ne e = ap (block_bytes last) (cond_false (eqb last 0) _ _ (eqb_apart last 0 ne)) ∙ (poked-pokes last 0 (word_bytes x) h bs e).here
 
 pub relinked-shape : (last x : ℕ) (h : Heap) → SameShape (relinked last x h) h
-relinked-shape last x h = elim (eqb last 0) as (λ t. SameShape (cond t h (poked last 0 (word_bytes x) h)) h) [ true ↦ record { blank = refl; end = refl } | false ↦ poked-shape last 0 (word_bytes x) h ]
+relinked-shape last x h = elim (eqb last 0) as (λ t. SameShape (cond t h (poked last 0 (word_bytes x) h)) h)
+    [ true ↦ record { blank = refl; end = refl } | false ↦ poked-shape last 0 (word_bytes x) h ]
 
 -- what links a new block to a chain
 pub record Links (h k : Heap) (last block : ℕ) : Type 0 where
@@ -180,7 +193,8 @@ pub record Links (h k : Heap) (last block : ℕ) : Type 0 where
   pub linked : LinkedTo h k last block
 
 -- a new block that is written and then linked to
-pub links : (h h1 k : Heap) (last block : ℕ) → block_bytes block h ≡ None → ((b : ℕ) → b ≢ block → block_bytes b h1 ≡ block_bytes b h) → k ≡ relinked last block h1 → Links h k last block
+pub links : (h h1 k : Heap) (last block : ℕ) → block_bytes block h ≡ None → ((b : ℕ) → b ≢ block → block_bytes b h1 ≡ block_bytes b h)
+    → k ≡ relinked last block h1 → Links h k last block
 links h h1 k last block fresh keeps e = record {
   keeps = record { each = λ b nl nb. ap (block_bytes b) e ∙ relinked-other last block b h1 nl ∙ keeps b nb };
   linked = record {
@@ -204,20 +218,25 @@ with_parcel new d ref post = record { seats = post.seats; queued = post.queued +
 
 -- a message that lies in a block of no row's goes to the end of a chain
 module _ (h k : Heap) (q : Chains) (post : Post) (new : Parcel) (to : ℕ) (d : Heap) where
-  pub queue-longer : IsPost h q post → has_seat new.to post.seats ≡ true → live_count post < most_messages → to < length q.entries → (entry_at q.entries to).handle ≡ new.to
-      → ((j : ℕ) → j < length (rows_of post) → Off new.block (row_parcels (row_at (rows_of post) j))) → Links h k (entry_at q.entries to).last new.block → Lies k 0 new → SameShape k d
+  pub queue-longer : IsPost h q post → has_seat new.to post.seats ≡ true → live_count post < most_messages → to < length q.entries
+      → (entry_at q.entries to).handle ≡ new.to
+      → ((j : ℕ) → j < length (rows_of post) → Off new.block (row_parcels (row_at (rows_of post) j))) → Links h k (entry_at q.entries to).last new.block
+      → Lies k 0 new → SameShape k d
       → block_bytes new.block d ≡ Some (padded 0 new) → ((b : ℕ) → b ≢ new.block → block_bytes b d ≡ block_bytes b post.heap) → (ref ref' : ℕ) → ref ≡ ref'
-      → IsPost k (record { entries = set q.entries to (lengthened new.block (entry_at q.entries to)); live = q.live + 1; next_ref = ref }) (with_parcel new d ref' post)
+      → IsPost k (record { entries = set q.entries to (lengthened new.block (entry_at q.entries to)); live = q.live + 1; next_ref = ref })
+      (with_parcel new d ref' post)
   queue-longer p alive few lt named-to off w lies shape in-d others ref ref' er =
       let s = seated h q post to p lt in
       let row : Row = row_at (rows_of post) to in
       let last-is = (p.rows.each to s.row).last in
       let rows-are : rows_of (with_parcel new d ref' post) ≡ set (rows_of post) to (with_last new row) =
-      rows-queued post.queued new post.seats to (named h q post p) s.seat (sym s.handle ∙ named-to) ∙ ap (λ r. set (rows_of post) to (with_last new r)) (sym s.row_is) in
+      rows-queued post.queued new post.seats to (named h q post p) s.seat (sym s.handle ∙ named-to)
+      ∙ ap (λ r. set (rows_of post) to (with_last new r)) (sym s.row_is) in
       let counts = length-append post.queued (new ∷ []) in
       let live = p.live in
       record {
-        rows = subst (RowsLie k (set q.entries to (lengthened new.block (entry_at q.entries to)))) (sym rows-are) (appended h k q.entries (rows_of post) to new s.row p.rows off w.keeps w.linked lies);
+        rows = subst (RowsLie k (set q.entries to (lengthened new.block (entry_at q.entries to)))) (sym rows-are)
+            (appended h k q.entries (rows_of post) to new s.row p.rows off w.keeps w.linked lies);
         linked = subst (IsLinked k d) (sym rows-are)
             (linked-longer h k post.heap d (rows_of post) to new s.row p.linked shape off (λ b nl nb. w.keeps.each b (λ z. nl (z ∙ last-is)) nb) in-d others);
         live = omega arith;
@@ -231,8 +250,8 @@ module _ (h h1 k : Heap) (q : Chains) (post : Post) (l : Letter) (to : ℕ) (the
   new = parcel_of l post.next_ref there.1
 
   pub letter-queued : IsPost h q post → Admits h q post l.to → to < length q.entries → (entry_at q.entries to).handle ≡ l.to → Fits new.message
-      → Puts (zeros (block_room (parcel_size new.message))) h there.0 there.1 → Puts (zeros (block_room (parcel_size new.message))) post.heap d there.1 → SameShape there.0 d
-      → h1 ≡ poked there.1 0 (parcel_bytes 0 new) there.0 → k ≡ relinked (entry_at q.entries to).last there.1 h1
+      → Puts (zeros (block_room (parcel_size new.message))) h there.0 there.1 → Puts (zeros (block_room (parcel_size new.message))) post.heap d there.1
+      → SameShape there.0 d → h1 ≡ poked there.1 0 (parcel_bytes 0 new) there.0 → k ≡ relinked (entry_at q.entries to).last there.1 h1
       → IsPost k (longer_chains to there.1 q) (queued_in l (d, there.1) post)
   unfolding padded
   letter-queued p a lt named-to fits puts puts' shape e1 ek =
@@ -242,17 +261,22 @@ module _ (h h1 k : Heap) (q : Chains) (post : Post) (l : Letter) (to : ℕ) (the
       let s = seated h q post to p lt in
       let row : Row = row_at (rows_of post) to in
       let in-h1 : block_bytes there.1 h1 ≡ Some (padded 0 new) = ap (block_bytes there.1) e1 ∙ (poked-pokes there.1 0 e there.0 zs puts.here).here in
-      let keeps1 : (b : ℕ) → b ≢ there.1 → block_bytes b h1 ≡ block_bytes b h = λ b ne. ap (block_bytes b) e1 ∙ poked-other there.1 b 0 e there.0 ne ∙ puts.others b ne in
+      let keeps1 : (b : ℕ) → b ≢ there.1 → block_bytes b h1 ≡ block_bytes b h =
+      λ b ne. ap (block_bytes b) e1 ∙ poked-other there.1 b 0 e there.0 ne ∙ puts.others b ne in
       let w = links h h1 k last there.1 puts.fresh keeps1 ek in
       let lies-row = p.rows.each to s.row in
       let above = block-above there.1 there.0 zs puts.here in
       let apart : there.1 ≢ last = new-last h there.1 (entry_at q.entries to) row puts.fresh above lies-row in
       let in-k : block_bytes there.1 k ≡ Some (padded 0 new) = ap (block_bytes there.1) ek ∙ relinked-other last there.1 there.1 h1 apart ∙ in-h1 in
-      let off : (j : ℕ) → j < length (rows_of post) → Off there.1 (row_parcels (row_at (rows_of post) j)) = λ j b. row-fresh h (entry_at q.entries j) (row_at (rows_of post) j) there.1 puts.fresh (p.rows.each j b) in
+      let off : (j : ℕ) → j < length (rows_of post) → Off there.1 (row_parcels (row_at (rows_of post) j)) =
+      λ j b. row-fresh h (entry_at q.entries j) (row_at (rows_of post) j) there.1 puts.fresh (p.rows.each j b) in
       let in-d : block_bytes there.1 (poked there.1 0 e d) ≡ Some (padded 0 new) = (poked-pokes there.1 0 e d zs puts'.here).here in
       let shape' : SameShape k (poked there.1 0 e d) =
-      shape-both (subst (λ (x : Heap). SameShape x h1) (sym ek) (relinked-shape last there.1 h1)) (shape-both (subst (λ (x : Heap). SameShape x there.0) (sym e1) (poked-shape there.1 0 e there.0)) (shape-both shape (shape-sym (poked-shape there.1 0 e d)))) in
-      queue-longer h k q post new to (poked there.1 0 e d) p a.live (not_le most_messages (live_count post) a.room) lt named-to off w (record { block = in-k; fits = fits }) shape' in-d
+      shape-both (subst (λ (x : Heap). SameShape x h1) (sym ek) (relinked-shape last there.1 h1))
+      (shape-both (subst (λ (x : Heap). SameShape x there.0) (sym e1) (poked-shape there.1 0 e there.0))
+      (shape-both shape (shape-sym (poked-shape there.1 0 e d)))) in
+      queue-longer h k q post new to (poked there.1 0 e d) p a.live (not_le most_messages (live_count post) a.room) lt named-to off w
+      (record { block = in-k; fits = fits }) shape' in-d
       (λ b ne. poked-other there.1 b 0 e d ne ∙ puts'.others b ne) (q.next_ref + 1) (post.next_ref + 1) (ap (λ n. n + 1) p.next_ref)
     where
       new-last : (g : Heap) (x : ℕ) (en : Entry) (r : Row) → block_bytes x g ≡ None → 20 ≤ x → RowLies g en r → x ≢ en.last
@@ -260,7 +284,8 @@ module _ (h h1 k : Heap) (q : Chains) (post : Post) (l : Letter) (to : ℕ) (the
         where
           go : (ps : List Parcel) → en.last ≡ last_block ps → Chain g ps 0 → x ≢ en.last
           go [] el c = omega arith
-          go (y ∷ ps) el c = λ z. let t = last-there g y ps 0 c in let bad : Some t.bytes ≡ None = sym t.found ∙ ap (λ n. block_bytes n g) (sym (z ∙ el)) ∙ f in cc
+          go (y ∷ ps) el c =
+              λ z. let t = last-there g y ps 0 c in let bad : Some t.bytes ≡ None = sym t.found ∙ ap (λ n. block_bytes n g) (sym (z ∙ el)) ∙ f in cc
 
 -- ---- what a task holds is put down
 live-same : (y : ℕ) (o : Option Parcel) (seats : List Seat) (i : ℕ) → has_seat y (set seats i (seat_with o (seat_at seats i))) ≡ has_seat y seats
@@ -268,13 +293,14 @@ live-same y o [] i = refl
 live-same y o (s ∷ seats) zero = refl
 live-same y o (s ∷ seats) (suc i) = ap (cond (eqb s.handle y) true) (live-same y o seats i)
 
-pub all-live-same : (o : Option Parcel) (seats : List Seat) (i : ℕ) (ps : List Parcel) → AllLive seats ps → AllLive (set seats i (seat_with o (seat_at seats i))) ps
+pub all-live-same : (o : Option Parcel) (seats : List Seat) (i : ℕ) (ps : List Parcel) → AllLive seats ps
+    → AllLive (set seats i (seat_with o (seat_at seats i))) ps
 all-live-same o seats i [] a = tt
 all-live-same o seats i (p ∷ ps) a = (live-same p.to o seats i ∙ a.0, all-live-same o seats i ps a.1)
 
 module _ (h k : Heap) (q : Chains) (post : Post) (x i : ℕ) (p : Parcel) where
-  pub put-down : IsPost h q post → i < length q.entries → (entry_at q.entries i).handle ≡ x → held_by x post.seats ≡ Some p → k ≡ release (entry_at q.entries i).held h
-      → IsPost k (emptied_chains i q) (put_down x post)
+  pub put-down : IsPost h q post → i < length q.entries → (entry_at q.entries i).handle ≡ x → held_by x post.seats ≡ Some p
+      → k ≡ release (entry_at q.entries i).held h → IsPost k (emptied_chains i q) (put_down x post)
   put-down s lt handle held ek =
       let w = seated h q post i s lt in
       let row : Row = row_at (rows_of post) i in
@@ -286,9 +312,11 @@ module _ (h k : Heap) (q : Chains) (post : Post) (x i : ℕ) (p : Parcel) where
       let k-is : k ≡ release p.block h = ek ∙ ap (λ b. release b h) holds.0 in
       let frees = release-frees p.block h in
       let frees' = release-frees p.block post.heap in
-      let seats-are : with_held x None post.seats ≡ set post.seats i (seat_with None seat) = with_held-at None post.seats i x names w.seat (sym w.handle ∙ handle) in
+      let seats-are : with_held x None post.seats ≡ set post.seats i (seat_with None seat) =
+      with_held-at None post.seats i x names w.seat (sym w.handle ∙ handle) in
       let rows-are : map (row_of post.queued) (with_held x None post.seats) ≡ set (rows_of post) i (without_held row) =
-      ap (map (row_of post.queued)) seats-are ∙ rows-seat post.queued post.seats i (seat_with None seat) ∙ ap (λ r. set (rows_of post) i (without_held r)) (sym w.row_is) in
+      ap (map (row_of post.queued)) seats-are ∙ rows-seat post.queued post.seats i (seat_with None seat)
+      ∙ ap (λ r. set (rows_of post) i (without_held r)) (sym w.row_is) in
       let keeps : KeepsBut h k p.block p.block = record { each = λ b ne ne'. ap (block_bytes b) k-is ∙ frees.others b ne } in
       let heap-is : release_held (held_by x post.seats) post.heap ≡ release p.block post.heap = ap (λ o. release_held o post.heap) held in
       let counts = count-seat post.seats i (seat_with None seat) w.seat in
@@ -297,8 +325,10 @@ module _ (h k : Heap) (q : Chains) (post : Post) (x i : ℕ) (p : Parcel) where
       let live = s.live in
       let few = s.few in
       record {
-        rows = subst (RowsLie k (set q.entries i (emptied (entry_at q.entries i)))) (sym rows-are) (dropped h k q.entries (rows_of post) i p w.row s.rows row-holds keeps);
-        linked = subst (λ (d : Heap). IsLinked k d (map (row_of post.queued) (with_held x None post.seats))) (sym heap-is) (subst (IsLinked k (release p.block post.heap)) (sym rows-are)
+        rows = subst (RowsLie k (set q.entries i (emptied (entry_at q.entries i)))) (sym rows-are)
+            (dropped h k q.entries (rows_of post) i p w.row s.rows row-holds keeps);
+        linked = subst (λ (d : Heap). IsLinked k d (map (row_of post.queued) (with_held x None post.seats))) (sym heap-is)
+            (subst (IsLinked k (release p.block post.heap)) (sym rows-are)
             (linked-dropped h k post.heap (release p.block post.heap) (rows_of post) i p q.entries w.row s.rows row-holds s.linked
             (subst (λ (g : Heap). SameShape g (release p.block post.heap)) (sym k-is) (release-alike p.block h post.heap s.linked.shape))
             (ap (block_bytes p.block) k-is ∙ frees.gone) (λ b ne. ap (block_bytes b) k-is ∙ frees.others b ne) frees'.gone frees'.others));
@@ -331,7 +361,8 @@ pub send-short : (h : Heap) (q : Chains) (post : Post) (free : ℕ) (l : Letter)
     → Err refusal ≡ answer_of (module_claim free (parcel_size (message_of l 0)) h) → post_send free l post ≡ Err refusal
 send-short h q post free l refusal p ok e =
     let size = parcel_size (message_of l 0) in
-    send-no_room h q post free l refusal (admits h q post l.to p ok) (alike-err (module_claim free size h) (module_claim free size post.heap) refusal (module_claim-alike free size h post.heap p.linked.shape) e)
+    send-no_room h q post free l refusal (admits h q post l.to p ok) (alike-err (module_claim free size h) (module_claim free size post.heap) refusal
+    (module_claim-alike free size h post.heap p.linked.shape) e)
 
 -- the same, claimed, written and linked
 pub record Joined (m n k : Memory) (rma : Module) (q : Chains) (post : Post) (l : Letter) (to block : ℕ) : Type 0 where
@@ -340,8 +371,8 @@ pub record Joined (m n k : Memory) (rma : Module) (q : Chains) (post : Post) (l 
   pub granted : module_claim m.free (parcel_size (message_of l 0)) post.heap ≡ Ok (plain, block)
   pub spells : IsPost (heap_in k rma) (longer_chains to block q) (queued_in l (plain, block) post)
 
-pub letter-joined : (m n k : Memory) (rma : Module) (q : Chains) (post : Post) (l : Letter) (to block : ℕ) → IsPost (heap_in m rma) q post → refusal_for l.to q ≡ None
-    → to < length q.entries → (entry_at q.entries to).handle ≡ l.to → Fits (message_of l q.next_ref)
+pub letter-joined : (m n k : Memory) (rma : Module) (q : Chains) (post : Post) (l : Letter) (to block : ℕ) → IsPost (heap_in m rma) q post
+    → refusal_for l.to q ≡ None → to < length q.entries → (entry_at q.entries to).handle ≡ l.to → Fits (message_of l q.next_ref)
     → Ok block ≡ answer_of (module_claim m.free (parcel_size (message_of l 0)) (heap_in m rma))
     → ((there : Heap × ℕ) → module_claim m.free (parcel_size (message_of l 0)) (heap_in m rma) ≡ Ok there
     → Turns m n rma (poked there.1 0 (word_bytes 0 ++ (word_bytes (code_number l.code) ++ encoded (message_of l q.next_ref))) there.0))
@@ -353,11 +384,14 @@ letter-joined m n k rma q post l to block p ok lt named-to fits ea placed ek =
     let g = granted_of (module_claim m.free size h) block ea in
     let there : Heap × ℕ = g.0 in
     let w = placed there g.1.0 in
-    let plain = alike-ok (module_claim m.free size h) (module_claim m.free size post.heap) there (module_claim-alike m.free size h post.heap p.linked.shape) g.1.0 in
+    let plain = alike-ok (module_claim m.free size h) (module_claim m.free size post.heap) there (module_claim-alike m.free size h post.heap p.linked.shape)
+    g.1.0 in
     let puts = module_claim-puts m.free size h there g.1.0 in
     let puts' = module_claim-puts m.free size post.heap (plain.0, there.1) plain.1.0 in
-    let bytes-are : word_bytes 0 ++ (word_bytes (code_number l.code) ++ encoded (message_of l q.next_ref)) ≡ parcel_bytes 0 (parcel_of l post.next_ref there.1) =
-    ap (λ r. word_bytes 0 ++ (word_bytes (code_number l.code) ++ encoded (message_of l r))) p.next_ref ∙ sym (parcel-row 0 (parcel_of l post.next_ref there.1)) in
+    let bytes-are : word_bytes 0 ++ (word_bytes (code_number l.code) ++ encoded (message_of l q.next_ref)) ≡ parcel_bytes 0
+    (parcel_of l post.next_ref there.1) =
+    ap (λ r. word_bytes 0 ++ (word_bytes (code_number l.code) ++ encoded (message_of l r))) p.next_ref
+    ∙ sym (parcel-row 0 (parcel_of l post.next_ref there.1)) in
     let fits' : Fits (message_of l post.next_ref) = subst (λ r. Fits (message_of l r)) p.next_ref fits in
     let s : IsPost (heap_in k rma) (longer_chains to there.1 q) (queued_in l (plain.0, there.1) post) =
     letter-queued h (heap_in n rma) (heap_in k rma) q post l to there plain.0 p a lt named-to fits' puts puts' plain.1.1
@@ -377,9 +411,10 @@ last-has h e r l ne = go r.chain l.last l.chain
     go [] el c = absurd (ne el)
     go (p ∷ ps) el c = subst (λ b. HasBlock b 24 h) (sym el) (last-there h p ps 0 c)
 
-pub last-stays : (m n : Memory) (rma : Module) (q : Chains) (post : Post) (size block to : ℕ) (xs : List ℕ) → IsPost (heap_in m rma) q post → to < length q.entries
-    → Ok block ≡ answer_of (module_claim m.free size (heap_in m rma))
-    → ((there : Heap × ℕ) → module_claim m.free size (heap_in m rma) ≡ Ok there → Turns m n rma (poked there.1 0 xs there.0)) → (entry_at q.entries to).last ≢ 0 → HasBlock (entry_at q.entries to).last 4 (heap_in n rma)
+pub last-stays : (m n : Memory) (rma : Module) (q : Chains) (post : Post) (size block to : ℕ) (xs : List ℕ) → IsPost (heap_in m rma) q post
+    → to < length q.entries → Ok block ≡ answer_of (module_claim m.free size (heap_in m rma))
+    → ((there : Heap × ℕ) → module_claim m.free size (heap_in m rma) ≡ Ok there → Turns m n rma (poked there.1 0 xs there.0))
+    → (entry_at q.entries to).last ≢ 0 → HasBlock (entry_at q.entries to).last 4 (heap_in n rma)
 last-stays m n rma q post size block to xs p lt ea placed ne =
     let h : Heap = heap_in m rma in
     let last : ℕ = (entry_at q.entries to).last in
@@ -390,10 +425,15 @@ last-stays m n rma q post size block to xs p lt ea placed ne =
     let puts = module_claim-puts m.free size h there g.1.0 in
     let b = last-has h (entry_at q.entries to) (row_at (rows_of post) to) (p.rows.each to s.row) ne in
     let other : last ≢ there.1 = λ z. let bad : Some b.bytes ≡ None = sym b.found ∙ ap (λ x. block_bytes x h) z ∙ puts.fresh in cc in
-    record { bytes = b.bytes; found = ap (block_bytes last) w.heap ∙ poked-other there.1 last 0 xs there.0 other ∙ puts.others last other ∙ b.found; room = let r = b.room in omega arith }
+    record {
+      bytes = b.bytes;
+      found = ap (block_bytes last) w.heap ∙ poked-other there.1 last 0 xs there.0 other ∙ puts.others last other ∙ b.found;
+      room = let r = b.room in omega arith;
+    }
 
 pub new-there : (m n : Memory) (rma : Module) (size block : ℕ) (xs : List ℕ) → Ok block ≡ answer_of (module_claim m.free size (heap_in m rma))
-    → ((there : Heap × ℕ) → module_claim m.free size (heap_in m rma) ≡ Ok there → Turns m n rma (poked there.1 0 xs there.0)) → IsModule n rma × (OnlyArea m n rma.area.0 × HasBlock block 0 (heap_in n rma))
+    → ((there : Heap × ℕ) → module_claim m.free size (heap_in m rma) ≡ Ok there → Turns m n rma (poked there.1 0 xs there.0))
+    → IsModule n rma × (OnlyArea m n rma.area.0 × HasBlock block 0 (heap_in n rma))
 new-there m n rma size block xs ea placed =
     let h : Heap = heap_in m rma in
     let g = granted_of (module_claim m.free size h) block ea in
@@ -406,7 +446,8 @@ new-there m n rma size block xs ea placed =
         w.only,
         record {
           bytes = put zs 0 xs;
-          found = ap (block_bytes block) w.heap ∙ ap (λ b. block_bytes b (poked there.1 0 xs there.0)) g.1.1 ∙ (poked-pokes there.1 0 xs there.0 zs puts.here).here;
+          found = ap (block_bytes block) w.heap ∙ ap (λ b. block_bytes b (poked there.1 0 xs there.0)) g.1.1
+              ∙ (poked-pokes there.1 0 xs there.0 zs puts.here).here;
           room = omega arith;
         },
       ),
@@ -414,22 +455,34 @@ new-there m n rma size block xs ea placed =
 
 -- and the message that it answers is put down
 pub letter-settled : (n : Memory) (k : Memory) (rma : Module) (q : Chains) (post : Post) (l : Letter) (to block from freed : ℕ) (plain : Heap) (es : List Entry)
-    → IsPost (heap_in n rma) (longer_chains to block q) (queued_in l (plain, block) post) → from < length (longer_chains to block q).entries → (entry_at (longer_chains to block q).entries from).handle ≡ l.from
+    → IsPost (heap_in n rma) (longer_chains to block q) (queued_in l (plain, block) post) → from < length (longer_chains to block q).entries
+    → (entry_at (longer_chains to block q).entries from).handle ≡ l.from
     → Settled n k rma (longer_chains to block q).entries es from l.your_ref (held_by l.from post.seats) freed
     → IsPost (heap_in k rma) (record { entries = es; live = q.live + 1 - freed; next_ref = q.next_ref + 1 }) (posted l (plain, block) post)
 letter-settled n k rma q post l to block from freed plain es p lt named-from s = go (answers_held l.your_ref (held_by l.from post.seats)) refl s
   where
     go : (t : Bool) → answers_held l.your_ref (held_by l.from post.seats) ≡ t → PutsDown t n k rma (longer_chains to block q).entries es from freed
-        → IsPost (heap_in k rma) (record { entries = es; live = q.live + 1 - freed; next_ref = q.next_ref + 1 }) (cond t (put_down l.from (queued_in l (plain, block) post)) (queued_in l (plain, block) post))
+        → IsPost (heap_in k rma) (record { entries = es; live = q.live + 1 - freed; next_ref = q.next_ref + 1 })
+        (cond t (put_down l.from (queued_in l (plain, block) post)) (queued_in l (plain, block) post))
     go true et d =
         let o = answered-some l.your_ref (held_by l.from post.seats) et in
-        let r = put-down (heap_in n rma) (heap_in k rma) (longer_chains to block q) (queued_in l (plain, block) post) l.from from o.0 p lt named-from o.1 d.2.heap in
-        subst (λ xs. IsPost (heap_in k rma) (record { entries = xs; live = q.live + 1 - freed; next_ref = q.next_ref + 1 }) (put_down l.from (queued_in l (plain, block) post))) (sym d.1)
-        (subst (λ f. IsPost (heap_in k rma) (record { entries = set (longer_chains to block q).entries from (emptied (entry_at (longer_chains to block q).entries from)); live = q.live + 1 - f; next_ref = q.next_ref + 1 }) (put_down l.from (queued_in l (plain, block) post))) (sym d.0) r)
+        let r = put-down (heap_in n rma) (heap_in k rma) (longer_chains to block q) (queued_in l (plain, block) post) l.from from o.0 p lt named-from o.1
+        d.2.heap in
+        subst (λ xs. IsPost (heap_in k rma) (record { entries = xs; live = q.live + 1 - freed; next_ref = q.next_ref + 1 })
+        (put_down l.from (queued_in l (plain, block) post))) (sym d.1)
+        (subst (λ f. IsPost (heap_in k rma)
+        (record {
+          entries = set (longer_chains to block q).entries from (emptied (entry_at (longer_chains to block q).entries from));
+          live = q.live + 1 - f;
+          next_ref = q.next_ref + 1;
+        }) (put_down l.from (queued_in l (plain, block) post))) (sym d.0) r)
     go false et d =
-        subst (λ (m : Memory). IsPost (heap_in m rma) (record { entries = es; live = q.live + 1 - freed; next_ref = q.next_ref + 1 }) (queued_in l (plain, block) post)) (sym d.2)
-        (subst (λ xs. IsPost (heap_in n rma) (record { entries = xs; live = q.live + 1 - freed; next_ref = q.next_ref + 1 }) (queued_in l (plain, block) post)) (sym d.1)
-        (subst (λ f. IsPost (heap_in n rma) (record { entries = (longer_chains to block q).entries; live = f; next_ref = q.next_ref + 1 }) (queued_in l (plain, block) post)) (let z : q.live + 1 ≡ q.live + 1 - freed = omega (arith, d.0) in z) p))
+        subst (λ (m : Memory). IsPost (heap_in m rma) (record { entries = es; live = q.live + 1 - freed; next_ref = q.next_ref + 1 })
+        (queued_in l (plain, block) post)) (sym d.2)
+        (subst (λ xs. IsPost (heap_in n rma) (record { entries = xs; live = q.live + 1 - freed; next_ref = q.next_ref + 1 })
+        (queued_in l (plain, block) post)) (sym d.1)
+        (subst (λ f. IsPost (heap_in n rma) (record { entries = (longer_chains to block q).entries; live = f; next_ref = q.next_ref + 1 })
+        (queued_in l (plain, block) post)) (let z : q.live + 1 ≡ q.live + 1 - freed = omega (arith, d.0) in z) p))
 
 pub admitted-refs : (to : ℕ) (q : Chains) → refusal_for to q ≡ None → q.next_ref < 2 ^ 32
 admitted-refs to q e = go (position (λ (x : Entry). x.handle == to) q.entries) e
@@ -438,10 +491,11 @@ admitted-refs to q e = go (position (λ (x : Entry). x.handle == to) q.entries) 
     go None z = absurd (let bad : Some NoTask ≡ None = z in cc)
     go (Some i) z = not_le (2 ^ 32) q.next_ref (past_none i q z).0
 
-longer-handle : (es : List Entry) (to block i : ℕ) → to < length es → (entry_at (set es to (lengthened block (entry_at es to))) i).handle ≡ (entry_at es i).handle
+longer-handle : (es : List Entry) (to block i : ℕ) → to < length es
+    → (entry_at (set es to (lengthened block (entry_at es to))) i).handle ≡ (entry_at es i).handle
 longer-handle es to block i l = elim (cases_eq i to) [
-  | inl z ↦ ap (λ n. (entry_at (set es to (lengthened block (entry_at es to))) n).handle) z ∙ ap (λ (e : Entry). e.handle) (get_or-set_same es to (lengthened block (entry_at es to)) no_entry l)
-      ∙ ap (λ n. (entry_at es n).handle) (sym z)
+  | inl z ↦ ap (λ n. (entry_at (set es to (lengthened block (entry_at es to))) n).handle) z
+      ∙ ap (λ (e : Entry). e.handle) (get_or-set_same es to (lengthened block (entry_at es to)) no_entry l) ∙ ap (λ n. (entry_at es n).handle) (sym z)
   | inr ne ↦ ap (λ (e : Entry). e.handle) (get_or-set_other es to i (lengthened block (entry_at es to)) no_entry ne)
 ]
 
@@ -464,19 +518,23 @@ owns h q post x i p l e =
       held = ap (λ (r : Row). r.held) s.row_is ∙ sym (held-at post.seats i x (named h q post p) s.seat (sym s.handle ∙ e));
     }
 
-pub owns-longer : (h k : Heap) (q : Chains) (post : Post) (l : Letter) (to block i : ℕ) (plain : Heap) → IsPost k (longer_chains to block q) (queued_in l (plain, block) post) → to < length q.entries
+pub owns-longer : (h k : Heap) (q : Chains) (post : Post) (l : Letter) (to block i : ℕ) (plain : Heap)
+    → IsPost k (longer_chains to block q) (queued_in l (plain, block) post) → to < length q.entries
     → i < length q.entries → (entry_at q.entries i).handle ≡ l.from → Owns k (longer_chains to block q) (queued_in l (plain, block) post) l.from i
 owns-longer h k q post l to block i plain p lt li e =
     let n = length-set q.entries to (lengthened block (entry_at q.entries to)) in
     owns k (longer_chains to block q) (queued_in l (plain, block) post) l.from i p (omega arith) (longer-handle q.entries to block i lt ∙ e)
 
 -- ---- the pages of a send
-pub pages-refused : (h : Heap) (q : Chains) (post : Post) (l : Letter) (refusal : Refusal) → IsPost h q post → refusal_for l.to q ≡ Some refusal → post_send_pages l post ≡ Err refusal
+pub pages-refused : (h : Heap) (q : Chains) (post : Post) (l : Letter) (refusal : Refusal) → IsPost h q post → refusal_for l.to q ≡ Some refusal
+    → post_send_pages l post ≡ Err refusal
 unfolding post_send_pages
 pages-refused h q post l refusal p e = then_refused (sendable l post) refusal _ (sendable-refused h q post l refusal p e)
 
-pub pages-granted : (h : Heap) (q : Chains) (post : Post) (l : Letter) (n : ℕ) → IsPost h q post → refusal_for l.to q ≡ None → n ≡ parcel_size (message_of l 0) → module_need_pages n h ≡ post_send_pages l post
+pub pages-granted : (h : Heap) (q : Chains) (post : Post) (l : Letter) (n : ℕ) → IsPost h q post → refusal_for l.to q ≡ None
+    → n ≡ parcel_size (message_of l 0) → module_need_pages n h ≡ post_send_pages l post
 unfolding post_send_pages
 pages-granted h q post l n p e en =
     let a = admits h q post l.to p e in
-    module_need_pages-alike n h post.heap p.linked.shape ∙ ap (λ k. module_need_pages k post.heap) en ∙ sym (then_is (sendable l post) tt _ (sendable-granted h q post l a))
+    module_need_pages-alike n h post.heap p.linked.shape ∙ ap (λ k. module_need_pages k post.heap) en
+    ∙ sym (then_is (sendable l post) tt _ (sendable-granted h q post l a))

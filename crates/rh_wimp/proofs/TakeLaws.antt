@@ -1,5 +1,6 @@
 -- A post after the first message for a task is taken.
-use Rattle.std.proofs.Common.{◌≡◌, ℕ, zero, suc, ◌+◌, ◌<◌, ◌≢◌, ◌⊎◌, inl, inr, true, false, cond, eqb, List, [], ◌∷◌, ◌++◌, length, map, set, refl, sym, ap, subst, ◌∙◌, arith, append-nil}
+use Rattle.std.proofs.Common.{◌≡◌, ℕ, zero, suc, ◌+◌, ◌<◌, ◌≢◌, ◌⊎◌, inl, inr, true, false, cond, eqb, List, [], ◌∷◌, ◌++◌, length, map, set, refl, sym, ap}
+use Rattle.std.proofs.Common.{subst, ◌∙◌, arith, append-nil}
 use Rattle.std.proofs.lemmas.Bool.{cases_eq}
 use Rattle.std.proofs.lemmas.Bool.Decides.{eqb_tells}
 use Rattle.std.proofs.lemmas.List.{length-set, get_or-set_same, get_or-set_other}
@@ -10,13 +11,15 @@ use Rattle.rh_defs.proofs.HeapLists.{cond_true, cond_false, eqb_apart}
 use Rattle.rh_defs.specs.Blocks.{block_bytes, HasBlock, SameShape}
 use Rattle.rh_defs.specs.Messages.{Parcel, padded}
 use Rattle.rh_defs.specs.Post.{Seat, Post, held_by, with_held, count_held, live_count, most_messages, first_for, behind_first}
-use Rattle.rh_wimp.specs.Chains.{Loose, Chains, Chain, Row, RowsLie, IsLinked, IsPost, AllLie, AllLive, Lies, Off, Apart, Clear, no_row, entry_at, row_at, row_of, rows_of, row_parcels, held_list, first_block, last_block, shortened, shortened_chains, holding, holding_chains}
+use Rattle.rh_wimp.specs.Chains.{Loose, Chains, Chain, Row, RowsLie, IsLinked, IsPost, AllLie, AllLive, Lies, Off, Apart, Clear, no_row, entry_at, row_at}
+use Rattle.rh_wimp.specs.Chains.{row_of, rows_of, row_parcels, held_list, first_block, last_block, shortened, shortened_chains, holding, holding_chains}
 use Rattle.rh_wimp.specs.declared.chain.Entry.{Entry}
 use Rattle.rh_wimp.proofs.LinkLaws.{AllLie-parts, AllLie-append}
 use Rattle.rh_defs.proofs.ParcelLaws.{padded-least}
 use Rattle.rh_wimp.proofs.PostLaws.{seat_at, Named, held-at, seat_with, with_held-at, rows-seat, count-seat}
 use Rattle.rh_wimp.proofs.RowEdits.{lies-above}
-use Rattle.rh_wimp.proofs.RowLaws.{KeepsBut, agree-off, chain-kept, holds-kept, Off-parts, Clear-append, Clear-parts, Clear-behind, Clear-behind-parts, Clear-one, Apart-append, Apart-parts, rows-changed}
+use Rattle.rh_wimp.proofs.RowLaws.{KeepsBut, agree-off, chain-kept, holds-kept, Off-parts, Clear-append, Clear-parts, Clear-behind, Clear-behind-parts}
+use Rattle.rh_wimp.proofs.RowLaws.{Clear-one, Apart-append, Apart-parts, rows-changed}
 use Rattle.rh_wimp.proofs.SendLaws.{seated, named, all-live-same}
 use Rattle.rh_defs.proofs.ShapeLaws.{shape-both}
 
@@ -58,7 +61,8 @@ first-some x (q ∷ queue) t e = elim (eqb_tells q.to x) [
   | inr v ↦ go (first_for x queue) (λ r s. first-some x queue r s) (sym (cond_false (eqb q.to x) _ _ v.0) ∙ e) refl v.0
 ]
   where
-    go : (o : Option (Parcel × List Parcel)) → ((r : Parcel × List Parcel) → first_for x queue ≡ Some r → FirstFor x queue r.0 r.1) → behind_first q o ≡ Some t → first_for x queue ≡ o → eqb q.to x ≡ false → FirstFor x (q ∷ queue) t.0 t.1
+    go : (o : Option (Parcel × List Parcel)) → ((r : Parcel × List Parcel) → first_for x queue ≡ Some r → FirstFor x queue r.0 r.1)
+        → behind_first q o ≡ Some t → first_for x queue ≡ o → eqb q.to x ≡ false → FirstFor x (q ∷ queue) t.0 t.1
     go None f s eo ne = absurd cc
     go (Some r) f s eo ne =
         let is : ◌≡◌ {A = Parcel × List Parcel} (r.0, q ∷ r.1) t = cc in
@@ -71,7 +75,8 @@ first-none x (q ∷ queue) e = elim (eqb_tells q.to x) [
   | inr v ↦ cond_false (eqb q.to x) _ _ v.0 ∙ go (first_for x queue) (λ s. first-none x queue s) (sym (cond_false (eqb q.to x) _ _ v.0) ∙ e) refl
 ]
   where
-    go : (o : Option (Parcel × List Parcel)) → (first_for x queue ≡ None → filter (λ (r : Parcel). r.to == x) queue ≡ []) → behind_first q o ≡ None → first_for x queue ≡ o → filter (λ (r : Parcel). r.to == x) queue ≡ []
+    go : (o : Option (Parcel × List Parcel)) → (first_for x queue ≡ None → filter (λ (r : Parcel). r.to == x) queue ≡ []) → behind_first q o ≡ None
+        → first_for x queue ≡ o → filter (λ (r : Parcel). r.to == x) queue ≡ []
     go None f s eo = f eo
     go (Some r) f s eo = absurd cc
 
@@ -79,7 +84,8 @@ first-none x (q ∷ queue) e = elim (eqb_tells q.to x) [
 abbrev pub with_chain : List Parcel → Row → Row
 with_chain ps r = record r { chain = ps }
 
-last-shortened : (h : Heap) (e : Entry) (p : Parcel) (ps : List Parcel) → e.last ≡ last_block (p ∷ ps) → Chain h ps 0 → (shortened (first_block ps 0) e).last ≡ last_block ps
+last-shortened : (h : Heap) (e : Entry) (p : Parcel) (ps : List Parcel) → e.last ≡ last_block (p ∷ ps) → Chain h ps 0
+    → (shortened (first_block ps 0) e).last ≡ last_block ps
 last-shortened h e p [] el c = refl
 last-shortened h e p (q ∷ ps) el c =
     let a = lies-above h (first_block ps 0) q c.0 in
@@ -115,7 +121,8 @@ module _ (h k : Heap) (es : List Entry) (rows : List Row) (i : ℕ) (p : Parcel)
       })
 
   -- and it belongs to no row from then on
-  pub shortened-off : i < length rows → RowsLie h es rows → (row_at rows i).chain ≡ p ∷ ps → (j : ℕ) → j < length rows → Off p.block (row_parcels (row_at (set rows i (with_chain ps (row_at rows i))) j))
+  pub shortened-off : i < length rows → RowsLie h es rows → (row_at rows i).chain ≡ p ∷ ps → (j : ℕ) → j < length rows
+      → Off p.block (row_parcels (row_at (set rows i (with_chain ps (row_at rows i))) j))
   shortened-off l s is j b = elim (cases_eq j i) [
     | inl z ↦
         let r = row_at rows i in
@@ -133,7 +140,8 @@ abbrev pub with_hold : Parcel → Row → Row
 with_hold p r = record r { held = Some p }
 
 module _ (h : Heap) (es : List Entry) (rows : List Row) (i : ℕ) (p : Parcel) where
-  pub rows-held : i < length rows → RowsLie h es rows → (row_at rows i).held ≡ None → Lies h 0 p → ((j : ℕ) → j < length rows → Off p.block (row_parcels (row_at rows j)))
+  pub rows-held : i < length rows → RowsLie h es rows → (row_at rows i).held ≡ None → Lies h 0 p
+      → ((j : ℕ) → j < length rows → Off p.block (row_parcels (row_at rows j)))
       → RowsLie h (set es i (holding p.block (entry_at es i))) (set rows i (with_hold p (row_at rows i)))
   rows-held l s none lies off =
       let e = entry_at es i in
@@ -148,13 +156,16 @@ module _ (h : Heap) (es : List Entry) (rows : List Row) (i : ℕ) (p : Parcel) w
         others = λ j b ne.
             let there = row_parcels (row_at rows j) in
             let ahead = Clear-parts r.chain (held_list r.held) there (s.cross i j l b (λ z. ne (sym z))) in
-            let back = Clear-behind-parts there r.chain (held_list r.held) (s.cross j i b l ne) in
-            (agree-off h h p.block p.block there self (off j b) (off j b), (Clear-append r.chain (p ∷ []) there ahead.0 (off j b, tt), Clear-behind there r.chain (p ∷ []) back.0 (Clear-one p there (off j b))));
+            let back = Clear-behind-parts there r.chain (held_list r.held) (s.cross j i b l ne) in (
+              agree-off h h p.block p.block there self (off j b) (off j b),
+              (Clear-append r.chain (p ∷ []) there ahead.0 (off j b, tt), Clear-behind there r.chain (p ∷ []) back.0 (Clear-one p there (off j b))),
+            );
       })
 
 -- ---- the heaps beside
 module _ (h k d : Heap) (es : List Entry) (rows : List Row) (i : ℕ) (p : Parcel) (ps : List Parcel) where
-  pub linked-shortened : i < length rows → RowsLie h es rows → (row_at rows i).chain ≡ p ∷ ps → IsLinked h d rows → SameShape k h → KeepsBut h k p.block p.block → block_bytes p.block k ≡ Some (padded 0 p)
+  pub linked-shortened : i < length rows → RowsLie h es rows → (row_at rows i).chain ≡ p ∷ ps → IsLinked h d rows → SameShape k h
+      → KeepsBut h k p.block p.block → block_bytes p.block k ≡ Some (padded 0 p)
       → IsLinked k d (set rows i (with_chain ps (row_at rows i))) × (block_bytes p.block d ≡ Some (padded 0 p))
   linked-shortened l s is linked shape keeps there =
       let r = row_at rows i in
@@ -165,7 +176,8 @@ module _ (h k d : Heap) (es : List Entry) (rows : List Row) (i : ℕ) (p : Parce
         record {
           shape = shape-both shape linked.shape;
           lie = λ j b. elim (cases_eq j i) [
-            | inl z ↦ subst (λ m. AllLie d (row_parcels (row_at (set rows i (with_chain ps r)) m))) (sym z) (subst (λ x. AllLie d (row_parcels x)) (sym same) all.1)
+            | inl z ↦ subst (λ m. AllLie d (row_parcels (row_at (set rows i (with_chain ps r)) m))) (sym z)
+                (subst (λ x. AllLie d (row_parcels x)) (sym same) all.1)
             | inr ne ↦ subst (λ x. AllLie d (row_parcels x)) (sym (other j ne)) (linked.lie j (omega arith))
           ];
           others = λ b out. elim (cases_eq b p.block) [
@@ -181,7 +193,8 @@ module _ (h k d : Heap) (es : List Entry) (rows : List Row) (i : ℕ) (p : Parce
       )
 
 module _ (h d : Heap) (rows : List Row) (i : ℕ) (p : Parcel) where
-  pub linked-held : i < length rows → (row_at rows i).held ≡ None → IsLinked h d rows → block_bytes p.block d ≡ Some (padded 0 p) → IsLinked h d (set rows i (with_hold p (row_at rows i)))
+  pub linked-held : i < length rows → (row_at rows i).held ≡ None → IsLinked h d rows → block_bytes p.block d ≡ Some (padded 0 p)
+      → IsLinked h d (set rows i (with_hold p (row_at rows i)))
   linked-held l none linked there =
       let r = row_at rows i in
       let n = length-set rows i (with_hold p r) in
@@ -203,22 +216,28 @@ module _ (h d : Heap) (rows : List Row) (i : ℕ) (p : Parcel) where
 
 -- ---- the post
 kept-row : (queue rest : List Parcel) (x : ℕ) (p : Parcel) (s : Seat) → FirstFor x queue p rest → s.handle ≢ x → row_of rest s ≡ row_of queue s
-kept-row queue rest x p s w ne = ap (λ (l : List Parcel). let r : Row = record { handle = s.handle; chain = l; held = s.holds } in r) (sym (w.others s.handle ne))
+kept-row queue rest x p s w ne =
+    ap (λ (l : List Parcel). let r : Row = record { handle = s.handle; chain = l; held = s.holds } in r) (sym (w.others s.handle ne))
 
-kept-rows : (queue rest : List Parcel) (x : ℕ) (p : Parcel) (seats : List Seat) → FirstFor x queue p rest → ((j : ℕ) → j < length seats → (seat_at seats j).handle ≢ x) → map (row_of rest) seats ≡ map (row_of queue) seats
+kept-rows : (queue rest : List Parcel) (x : ℕ) (p : Parcel) (seats : List Seat) → FirstFor x queue p rest
+    → ((j : ℕ) → j < length seats → (seat_at seats j).handle ≢ x) → map (row_of rest) seats ≡ map (row_of queue) seats
 kept-rows queue rest x p [] w n = refl
 kept-rows queue rest x p (s ∷ seats) w n =
-    ap (λ r. r ∷ map (row_of rest) seats) (kept-row queue rest x p s w (n 0 (omega arith))) ∙ ap (λ l. row_of queue s ∷ l) (kept-rows queue rest x p seats w (λ j b. n (suc j) (omega arith)))
+    ap (λ r. r ∷ map (row_of rest) seats) (kept-row queue rest x p s w (n 0 (omega arith)))
+    ∙ ap (λ l. row_of queue s ∷ l) (kept-rows queue rest x p seats w (λ j b. n (suc j) (omega arith)))
 
-rows-taken : (queue rest : List Parcel) (x : ℕ) (p : Parcel) (seats : List Seat) (i : ℕ) → FirstFor x queue p rest → Named seats → i < length seats → (seat_at seats i).handle ≡ x
+rows-taken : (queue rest : List Parcel) (x : ℕ) (p : Parcel) (seats : List Seat) (i : ℕ) → FirstFor x queue p rest → Named seats → i < length seats
+    → (seat_at seats i).handle ≡ x
     → map (row_of rest) seats ≡ set (map (row_of queue) seats) i (with_chain (filter (λ (r : Parcel). r.to == x) rest) (row_of queue (seat_at seats i)))
 rows-taken queue rest x p [] i w n b e = absurd (omega arith)
 rows-taken queue rest x p (s ∷ seats) zero w n b e =
     ap (λ y. (let r : Row = record { handle = s.handle; chain = filter (λ (r : Parcel). r.to == y) rest; held = s.holds } in r) ∷ map (row_of rest) seats) e
-    ∙ ap (λ l. with_chain (filter (λ (r : Parcel). r.to == x) rest) (row_of queue s) ∷ l) (kept-rows queue rest x p seats w (λ j c z. n 0 (suc j) (omega arith) (omega arith) (omega arith) (e ∙ sym z)))
+    ∙ ap (λ l. with_chain (filter (λ (r : Parcel). r.to == x) rest) (row_of queue s) ∷ l)
+    (kept-rows queue rest x p seats w (λ j c z. n 0 (suc j) (omega arith) (omega arith) (omega arith) (e ∙ sym z)))
 rows-taken queue rest x p (s ∷ seats) (suc i) w n b e =
     ap (λ r. r ∷ map (row_of rest) seats) (kept-row queue rest x p s w (λ z. n 0 (suc i) (omega arith) (omega arith) (omega arith) (z ∙ sym e)))
-    ∙ ap (λ l. row_of queue s ∷ l) (rows-taken queue rest x p seats i w (λ j m bj bm ne. n (suc j) (suc m) (omega arith) (omega arith) (omega arith)) (omega arith) e)
+    ∙ ap (λ l. row_of queue s ∷ l) (rows-taken queue rest x p seats i w (λ j m bj bm ne. n (suc j) (suc m) (omega arith) (omega arith) (omega arith))
+    (omega arith) e)
 
 abbrev pub rest_of : List Parcel → Post → Post
 rest_of rest post = record post { queued = rest }
@@ -236,22 +255,27 @@ pub record Ahead (h : Heap) (q : Chains) (x i : ℕ) (p : Parcel) (rest : List P
   pub first : (entry_at q.entries i).first ≡ p.block
   pub lies : Lies h (first_block (chain_to x rest) 0) p
 
-pub ahead : (h : Heap) (q : Chains) (post : Post) (x i : ℕ) (p : Parcel) (rest : List Parcel) → IsPost h q post → i < length q.entries → (entry_at q.entries i).handle ≡ x → FirstFor x post.queued p rest → Ahead h q x i p rest
+pub ahead : (h : Heap) (q : Chains) (post : Post) (x i : ℕ) (p : Parcel) (rest : List Parcel) → IsPost h q post → i < length q.entries
+    → (entry_at q.entries i).handle ≡ x → FirstFor x post.queued p rest → Ahead h q x i p rest
 ahead h q post x i p rest s lt e w =
     let t = seated h q post i s lt in
     let here = s.rows.each i t.row in
-    let is : (row_at (rows_of post) i).chain ≡ p ∷ chain_to x rest = ap (λ (r : Row). r.chain) t.row_is ∙ ap (λ y. chain_to y post.queued) (sym t.handle ∙ e) ∙ w.same in
+    let is : (row_at (rows_of post) i).chain ≡ p ∷ chain_to x rest =
+    ap (λ (r : Row). r.chain) t.row_is ∙ ap (λ y. chain_to y post.queued) (sym t.handle ∙ e) ∙ w.same in
     let chain = subst (λ c. Chain h c 0) is here.chain in
     record { next = next-there h (chain_to x rest) chain.1; first = here.first ∙ ap (λ c. first_block c 0) is; lies = chain.0 }
 
-pub none-ahead : (h : Heap) (q : Chains) (post : Post) (x i : ℕ) → IsPost h q post → i < length q.entries → (entry_at q.entries i).handle ≡ x → first_for x post.queued ≡ None → (entry_at q.entries i).first ≡ 0
+pub none-ahead : (h : Heap) (q : Chains) (post : Post) (x i : ℕ) → IsPost h q post → i < length q.entries → (entry_at q.entries i).handle ≡ x
+    → first_for x post.queued ≡ None → (entry_at q.entries i).first ≡ 0
 none-ahead h q post x i s lt e n =
     let t = seated h q post i s lt in
     let here = s.rows.each i t.row in
-    here.first ∙ ap (λ c. first_block c 0) (ap (λ (r : Row). r.chain) t.row_is ∙ ap (λ y. chain_to y post.queued) (sym t.handle ∙ e) ∙ first-none x post.queued n)
+    here.first ∙ ap (λ c. first_block c 0) (ap (λ (r : Row). r.chain) t.row_is ∙ ap (λ y. chain_to y post.queued) (sym t.handle ∙ e)
+    ∙ first-none x post.queued n)
 
 module _ (h k : Heap) (q : Chains) (post : Post) (x i : ℕ) (p : Parcel) (rest : List Parcel) where
-  pub taken-off : IsPost h q post → i < length q.entries → (entry_at q.entries i).handle ≡ x → FirstFor x post.queued p rest → SameShape k h → KeepsBut h k p.block p.block → block_bytes p.block k ≡ Some (padded 0 p)
+  pub taken-off : IsPost h q post → i < length q.entries → (entry_at q.entries i).handle ≡ x → FirstFor x post.queued p rest → SameShape k h
+      → KeepsBut h k p.block p.block → block_bytes p.block k ≡ Some (padded 0 p)
       → IsPost k (shortened_chains i (first_block (chain_to x rest) 0) q) (rest_of rest post) × Loose k (rest_of rest post) p
   taken-off s lt e w shape keeps there =
       let t = seated h q post i s lt in
@@ -260,14 +284,16 @@ module _ (h k : Heap) (q : Chains) (post : Post) (x i : ℕ) (p : Parcel) (rest 
       let is : row.chain ≡ p ∷ ps = ap (λ (r : Row). r.chain) t.row_is ∙ ap (λ y. chain_to y post.queued) (sym t.handle ∙ e) ∙ w.same in
       let lies = (ahead h q post x i p rest s lt e w).lies in
       let rows-are : rows_of (rest_of rest post) ≡ set (rows_of post) i (with_chain ps row) =
-      rows-taken post.queued rest x p post.seats i w (named h q post s) t.seat (sym t.handle ∙ e) ∙ ap (λ r. set (rows_of post) i (with_chain ps r)) (sym t.row_is) in
+      rows-taken post.queued rest x p post.seats i w (named h q post s) t.seat (sym t.handle ∙ e)
+      ∙ ap (λ r. set (rows_of post) i (with_chain ps r)) (sym t.row_is) in
       let both = linked-shortened h k post.heap q.entries (rows_of post) i p ps t.row s.rows is s.linked shape keeps there in
       let live = s.live in
       let few = s.few in
       let fewer = w.fewer in
       let n = length-set (rows_of post) i (with_chain ps row) in (
         record {
-          rows = subst (RowsLie k (set q.entries i (shortened (first_block ps 0) (entry_at q.entries i)))) (sym rows-are) (rows-shortened h k q.entries (rows_of post) i p ps t.row s.rows is keeps);
+          rows = subst (RowsLie k (set q.entries i (shortened (first_block ps 0) (entry_at q.entries i)))) (sym rows-are)
+              (rows-shortened h k q.entries (rows_of post) i p ps t.row s.rows is keeps);
           linked = subst (IsLinked k post.heap) (sym rows-are) both.0;
           live = omega arith;
           recipients = w.live post.seats s.recipients;
@@ -277,13 +303,14 @@ module _ (h k : Heap) (q : Chains) (post : Post) (x i : ℕ) (p : Parcel) (rest 
         record {
           lies = record { block = there; fits = lies.fits };
           plain = both.1;
-          off = λ j b. subst (λ rs. Off p.block (row_parcels (row_at rs j))) (sym rows-are) (shortened-off h h q.entries (rows_of post) i p ps t.row s.rows is j (let z = ap length rows-are in omega arith));
+          off = λ j b. subst (λ rs. Off p.block (row_parcels (row_at rs j))) (sym rows-are)
+              (shortened-off h h q.entries (rows_of post) i p ps t.row s.rows is j (let z = ap length rows-are in omega arith));
         },
       )
 
 module _ (h : Heap) (q : Chains) (post : Post) (x i : ℕ) (p : Parcel) where
-  pub held-post : IsPost h q post → i < length q.entries → (entry_at q.entries i).handle ≡ x → held_by x post.seats ≡ None → Loose h post p → live_count post < most_messages
-      → IsPost h (holding_chains i p.block q) (record post { seats = with_held x (Some p) post.seats })
+  pub held-post : IsPost h q post → i < length q.entries → (entry_at q.entries i).handle ≡ x → held_by x post.seats ≡ None → Loose h post p
+      → live_count post < most_messages → IsPost h (holding_chains i p.block q) (record post { seats = with_held x (Some p) post.seats })
   held-post s lt e none loose less =
       let t = seated h q post i s lt in
       let row : Row = row_at (rows_of post) i in
@@ -291,15 +318,18 @@ module _ (h : Heap) (q : Chains) (post : Post) (x i : ℕ) (p : Parcel) where
       let names = named h q post s in
       let here : seat.holds ≡ None = sym (held-at post.seats i x names t.seat (sym t.handle ∙ e)) ∙ none in
       let row-none : row.held ≡ None = ap (λ (r : Row). r.held) t.row_is ∙ here in
-      let seats-are : with_held x (Some p) post.seats ≡ set post.seats i (seat_with (Some p) seat) = with_held-at (Some p) post.seats i x names t.seat (sym t.handle ∙ e) in
+      let seats-are : with_held x (Some p) post.seats ≡ set post.seats i (seat_with (Some p) seat) =
+      with_held-at (Some p) post.seats i x names t.seat (sym t.handle ∙ e) in
       let rows-are : map (row_of post.queued) (with_held x (Some p) post.seats) ≡ set (rows_of post) i (with_hold p row) =
-      ap (map (row_of post.queued)) seats-are ∙ rows-seat post.queued post.seats i (seat_with (Some p) seat) ∙ ap (λ r. set (rows_of post) i (with_hold p r)) (sym t.row_is) in
+      ap (map (row_of post.queued)) seats-are ∙ rows-seat post.queued post.seats i (seat_with (Some p) seat)
+      ∙ ap (λ r. set (rows_of post) i (with_hold p r)) (sym t.row_is) in
       let counts = count-seat post.seats i (seat_with (Some p) seat) t.seat in
       let zero_ : count_held seat.holds ≡ 0 = ap count_held here in
       let total-is = ap (total (λ (y : Seat). count_held y.holds)) seats-are in
       let live = s.live in
       record {
-        rows = subst (RowsLie h (set q.entries i (holding p.block (entry_at q.entries i)))) (sym rows-are) (rows-held h q.entries (rows_of post) i p t.row s.rows row-none loose.lies loose.off);
+        rows = subst (RowsLie h (set q.entries i (holding p.block (entry_at q.entries i)))) (sym rows-are)
+            (rows-held h q.entries (rows_of post) i p t.row s.rows row-none loose.lies loose.off);
         linked = subst (IsLinked h post.heap) (sym rows-are) (linked-held h post.heap (rows_of post) i p t.row row-none s.linked loose.plain);
         live = omega arith;
         recipients = subst (λ ss. AllLive ss post.queued) (sym seats-are) (all-live-same (Some p) post.seats i post.queued s.recipients);

@@ -4,7 +4,8 @@ use Rattle.std.proofs.Math.Path.{fun_ext}
 use Rattle.std.proofs.lemmas.Bool.{cases_eq}
 use Rattle.std.specs.Prelude.{Option, None, IsNone}
 use Rattle.rh_defs.specs.Memory.{Memory, Edited, OnlyArea, area_set, bytes, closed, grown, opened}
-use Rattle.rh_defs.proofs.MemoryLaws.{area_set-same, area_set-other, area-opened, bytes-none, bytes-opened, free-opened, loan-opened, pages-opened, IsOpen-opened, OnlyArea-both, OnlyArea-from_Edited, OnlyArea-grown}
+use Rattle.rh_defs.proofs.MemoryLaws.{area_set-same, area_set-other, area-opened, bytes-none, bytes-opened, free-opened, loan-opened, pages-opened}
+use Rattle.rh_defs.proofs.MemoryLaws.{IsOpen-opened, OnlyArea-both, OnlyArea-from_Edited, OnlyArea-grown}
 use Rattle.rh_store.proofs.AreasLaws.{none_is}
 
 -- ---- opened
@@ -12,7 +13,8 @@ only_opened : (m : Memory) (id : ℕ) → IsNone (m.area id) → OnlyArea m (ope
 only_opened m id none = record {
   opened = IsOpen-opened m id;
   others = λ j ne. area-opened m id j ne;
-  ledger = let was = ap length (bytes-none m id (none_is (m.area id) none)) in let is = ap length (bytes-opened m id) in let free = free-opened m id in omega arith;
+  ledger = let was =
+      ap length (bytes-none m id (none_is (m.area id) none)) in let is = ap length (bytes-opened m id) in let free = free-opened m id in omega arith;
   pages = pages-opened m id;
   loan = loan-opened m id;
 }

@@ -16,15 +16,19 @@ granted h x (Ok there) e = let is : x ≡ there.1 = cc in rw is refl
 granted h x (Err refusal) e = absurd cc
 
 -- the block that was claimed has room for the bytes that were asked for
-pub claimed-has : (free n m x : ℕ) (h k : Heap) → ◌≡◌ {A = Granted ℕ} (Ok x) (answer_of (module_claim free n h)) → k ≡ left_of h (module_claim free n h) → m ≤ n → HasBlock x m k
-claimed-has free n m x h k e is le = has-less x n m k le (subst (λ (y : Heap). HasBlock x n y) (sym is) (module_claim-has free n h _ (granted h x (module_claim free n h) e)))
+pub claimed-has : (free n m x : ℕ) (h k : Heap) → ◌≡◌ {A = Granted ℕ} (Ok x) (answer_of (module_claim free n h)) → k ≡ left_of h (module_claim free n h)
+    → m ≤ n → HasBlock x m k
+claimed-has free n m x h k e is le =
+    has-less x n m k le (subst (λ (y : Heap). HasBlock x n y) (sym is) (module_claim-has free n h _ (granted h x (module_claim free n h) e)))
 
 -- and with bytes written into it, it is a new block of these bytes and zeros
-pub claimed-puts : (free n x : ℕ) (bytes : List ℕ) (h k l : Heap) → ◌≡◌ {A = Granted ℕ} (Ok x) (answer_of (module_claim free n h)) → k ≡ left_of h (module_claim free n h) → l ≡ poked x 0 bytes k
-    → Puts (put (zeros (block_room n)) 0 bytes) h l x
+pub claimed-puts : (free n x : ℕ) (bytes : List ℕ) (h k l : Heap) → ◌≡◌ {A = Granted ℕ} (Ok x) (answer_of (module_claim free n h))
+    → k ≡ left_of h (module_claim free n h) → l ≡ poked x 0 bytes k → Puts (put (zeros (block_room n)) 0 bytes) h l x
 claimed-puts free n x bytes h k l e is wrote =
-    let p : Puts (zeros (block_room n)) h k x = subst (λ (y : Heap). Puts (zeros (block_room n)) h y x) (sym is) (module_claim-puts free n h _ (granted h x (module_claim free n h) e)) in
-    let w : Pokes x (put (zeros (block_room n)) 0 bytes) k l = subst (λ (y : Heap). Pokes x (put (zeros (block_room n)) 0 bytes) k y) (sym wrote) (poked-pokes x 0 bytes k _ p.here) in
+    let p : Puts (zeros (block_room n)) h k x =
+    subst (λ (y : Heap). Puts (zeros (block_room n)) h y x) (sym is) (module_claim-puts free n h _ (granted h x (module_claim free n h) e)) in
+    let w : Pokes x (put (zeros (block_room n)) 0 bytes) k l =
+    subst (λ (y : Heap). Pokes x (put (zeros (block_room n)) 0 bytes) k y) (sym wrote) (poked-pokes x 0 bytes k _ p.here) in
     record { fresh = p.fresh; here = w.here; others = λ a ne. w.others a ne ∙ p.others a ne }
 
 -- it is there, as long as it was claimed

@@ -26,7 +26,8 @@ use Rattle.uses.specs.Wimp.{fetch, fetch_size, two_idle}
 abbrev pub fetched : ℕ → ℕ → Option Event
 fetched buffer n = Some (record { code = User; message = record { from = 1; my_ref = 1; your_ref = 0; body = RamFetch buffer n } })
 
-claimed : (buffer n x : ℕ) (h : Heap) (q : Granted (Heap × ℕ)) → ◌≡◌ {A = Granted ℕ} (Ok x) (answer_of (q >>= λ there. Ok (posted (fetch buffer n) there (two_idle h), 1)))
+claimed : (buffer n x : ℕ) (h : Heap) (q : Granted (Heap × ℕ))
+    → ◌≡◌ {A = Granted ℕ} (Ok x) (answer_of (q >>= λ there. Ok (posted (fetch buffer n) there (two_idle h), 1)))
     → option_map event_of (post_poll 2 (left_of {B = ℕ} (two_idle h) (q >>= λ there. Ok (posted (fetch buffer n) there (two_idle h), 1)))).1 ≡ fetched buffer n
 unfolding ◌>>=◌ post_poll
 claimed buffer n x h (Ok there) e = refl
@@ -42,7 +43,8 @@ answered : {A B : Type 0} (q : Granted (A × B)) → outcome_of (answer_of q) �
 answered (Ok there) = refl
 answered (Err refusal) = refl
 
-posted_in : (buffer n : ℕ) (h : Heap) (q : Granted (Heap × ℕ)) → outcome_of {A = Post × ℕ} (q >>= λ there. Ok (posted (fetch buffer n) there (two_idle h), 1)) ≡ outcome_of q
+posted_in : (buffer n : ℕ) (h : Heap) (q : Granted (Heap × ℕ))
+    → outcome_of {A = Post × ℕ} (q >>= λ there. Ok (posted (fetch buffer n) there (two_idle h), 1)) ≡ outcome_of q
 unfolding ◌>>=◌
 posted_in buffer n h (Ok there) = refl
 posted_in buffer n h (Err refusal) = refl

@@ -36,7 +36,8 @@ pub in_ranges : (name : List ℕ) → name ≡ the_name → (in_range (the_task 
 unfolding in_range
 in_ranges name is = rw is (refl, refl, refl)
 
-claimed : (x y z : List ℕ) → x ≡ the_name → y ≡ the_name → z ≡ the_name → (step (after (start 64 []) (the_task x ∷ the_alloc y ∷ [])) (the_claim z)).1 ≡ Block 0x8114
+claimed : (x y z : List ℕ) → x ≡ the_name → y ≡ the_name → z ≡ the_name
+    → (step (after (start 64 []) (the_task x ∷ the_alloc y ∷ [])) (the_claim z)).1 ≡ Block 0x8114
 unfolding runs.computing
 claimed x y z i j k = rw (i, j, k) refl
 

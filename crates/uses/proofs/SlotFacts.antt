@@ -8,7 +8,8 @@ use Rattle.std.proofs.lemmas.List.{length-replicate, append-nil}
 use Rattle.rh_defs.specs.Chain.{Granted, ◌>>=◌, refuse_if, found_or, answer_of, left_of, no_answer, outcome_of, result_or}
 use Rattle.rh_defs.specs.Memory.{Memory, OnlyArea, bytes}
 use Rattle.rh_defs.specs.Pieces.{Split, pages_for, zeros}
-use Rattle.rh_defs.specs.Slot.{Slot, Flex, new_slot, with_block, without, block_of, lacks_room, slot_length, slot_pages, flex_weight, flex_address, slot_begin, slot_alloc, slot_block, slot_put, slot_read, slot_free}
+use Rattle.rh_defs.specs.Slot.{Slot, Flex, new_slot, with_block, without, block_of, lacks_room, slot_length, slot_pages, flex_weight, flex_address}
+use Rattle.rh_defs.specs.Slot.{slot_begin, slot_alloc, slot_block, slot_put, slot_read, slot_free}
 use Rattle.rh_defs.specs.declared.refusal.Refusal.{Refusal}
 use Rattle.rh_defs.specs.declared.refusal.Refusal.TheVariants.{NoBlock, NoRoom, BadRange}
 use Rattle.rh_defs.proofs.HeapLists.{ltb_yes, ltb_no}
@@ -47,12 +48,14 @@ one_less m n slot none only spells =
     omega (arith, one)
 
 -- ---- a new slot
-begun : (t : Bool) (refusal : Refusal) → ◌≡◌ {A = Granted (Unit {0})} (Err refusal) (outcome_of (refuse_if t NoRoom >>= λ _. Ok new_slot)) → (t ≡ true) × (refusal ≡ NoRoom)
+begun : (t : Bool) (refusal : Refusal) → ◌≡◌ {A = Granted (Unit {0})} (Err refusal) (outcome_of (refuse_if t NoRoom >>= λ _. Ok new_slot))
+    → (t ≡ true) × (refusal ≡ NoRoom)
 unfolding ◌>>=◌ refuse_if
 begun true refusal e = (refl, cc)
 begun false refusal e = absurd cc
 
-pub begin_refused : (free : ℕ) (bytes : List ℕ) (refusal : Refusal) → ◌≡◌ {A = Granted (Unit {0})} (Err refusal) (outcome_of (slot_begin free)) → held free bytes ≡ Err refusal
+pub begin_refused : (free : ℕ) (bytes : List ℕ) (refusal : Refusal) → ◌≡◌ {A = Granted (Unit {0})} (Err refusal) (outcome_of (slot_begin free))
+    → held free bytes ≡ Err refusal
 unfolding slot_begin
 begin_refused free bytes refusal e =
     let p = begun (ltb free (slot_pages new_slot)) refusal e in
@@ -60,23 +63,28 @@ begin_refused free bytes refusal e =
     held-refused free bytes (omega (arith, one, more bytes)) ∙ ap (λ (x : Refusal). let r : Granted (Unit {0}) = Err x in r) (sym p.1)
 
 -- ---- its first block
-given : (t : Bool) (s k : Slot) (a x : ℕ) → ◌≡◌ {A = Granted ℕ} (Ok x) (answer_of (refuse_if t NoRoom >>= λ _. Ok (s, a))) → (t ≡ false) × (left_of k (refuse_if t NoRoom >>= λ _. Ok (s, a)) ≡ s)
+given : (t : Bool) (s k : Slot) (a x : ℕ) → ◌≡◌ {A = Granted ℕ} (Ok x) (answer_of (refuse_if t NoRoom >>= λ _. Ok (s, a)))
+    → (t ≡ false) × (left_of k (refuse_if t NoRoom >>= λ _. Ok (s, a)) ≡ s)
 unfolding ◌>>=◌ refuse_if
 given true s k a x e = absurd cc
 given false s k a x e = (refl, refl)
 
-not_given : (t : Bool) (s : Slot) (a : ℕ) (refusal : Refusal) → ◌≡◌ {A = Granted ℕ} (Err refusal) (answer_of (refuse_if t NoRoom >>= λ _. Ok (s, a))) → (t ≡ true) × (refusal ≡ NoRoom)
+not_given : (t : Bool) (s : Slot) (a : ℕ) (refusal : Refusal) → ◌≡◌ {A = Granted ℕ} (Err refusal) (answer_of (refuse_if t NoRoom >>= λ _. Ok (s, a)))
+    → (t ≡ true) × (refusal ≡ NoRoom)
 unfolding ◌>>=◌ refuse_if
 not_given true s a refusal e = (refl, cc)
 not_given false s a refusal e = absurd cc
 
 -- a block that a new slot is given is of zeros
-pub alloc_new : (free n x : ℕ) → ◌≡◌ {A = Granted ℕ} (Ok x) (answer_of (slot_alloc free 0 n new_slot)) → left_of new_slot (slot_alloc free 0 n new_slot) ≡ with_block 0 (zeros n) new_slot
+pub alloc_new : (free n x : ℕ) → ◌≡◌ {A = Granted ℕ} (Ok x) (answer_of (slot_alloc free 0 n new_slot))
+    → left_of new_slot (slot_alloc free 0 n new_slot) ≡ with_block 0 (zeros n) new_slot
 unfolding slot_alloc ◌>>=◌ refuse_if
-alloc_new free n x e = (given (lacks_room free (slot_length new_slot + flex_weight n) new_slot) (with_block 0 (zeros n) new_slot) new_slot (flex_address new_slot []) x e).1
+alloc_new free n x e =
+    (given (lacks_room free (slot_length new_slot + flex_weight n) new_slot) (with_block 0 (zeros n) new_slot) new_slot (flex_address new_slot []) x e).1
 
 -- it is given where the other pages are free
-pub alloc_room : (free n x : ℕ) → ◌≡◌ {A = Granted ℕ} (Ok x) (answer_of (slot_alloc free 0 n new_slot)) → pages_for (slot_length new_slot + flex_weight n) - slot_pages new_slot ≤ free
+pub alloc_room : (free n x : ℕ) → ◌≡◌ {A = Granted ℕ} (Ok x) (answer_of (slot_alloc free 0 n new_slot))
+    → pages_for (slot_length new_slot + flex_weight n) - slot_pages new_slot ≤ free
 unfolding slot_alloc ◌>>=◌ refuse_if
 alloc_room free n x e =
     let p = given (lacks_room free (slot_length new_slot + flex_weight n) new_slot) (with_block 0 (zeros n) new_slot) new_slot (flex_address new_slot []) x e in
@@ -87,7 +95,8 @@ pub alloc_refused : (free n : ℕ) (refusal : Refusal) → ◌≡◌ {A = Grante
     → (free < pages_for (slot_length new_slot + flex_weight n) - slot_pages new_slot) × (refusal ≡ NoRoom)
 unfolding slot_alloc ◌>>=◌ refuse_if
 alloc_refused free n refusal e =
-    let p = not_given (lacks_room free (slot_length new_slot + flex_weight n) new_slot) (with_block 0 (zeros n) new_slot) (flex_address new_slot []) refusal e in
+    let p = not_given (lacks_room free (slot_length new_slot + flex_weight n) new_slot) (with_block 0 (zeros n) new_slot) (flex_address new_slot []) refusal
+    e in
     (ltb-true free (pages_for (slot_length new_slot + flex_weight n) - slot_pages new_slot) p.0, p.1)
 
 -- ---- bytes in it
@@ -116,7 +125,8 @@ unfolding slot_free slot_block found_or ◌>>=◌
 free_whole bytes = refl
 
 -- a block that was read is there, and goes
-there : (n : ℕ) (s : Slot) (q : Option (Split Flex)) → ◌≡◌ {A = Granted (Unit {0})} (Ok tt) (outcome_of (found_or q NoBlock >>= λ b. refuse_if (ltb (length b.here.bytes) (0 + n)) BadRange >>= λ _. Ok (take n (drop 0 b.here.bytes))))
+there : (n : ℕ) (s : Slot) (q : Option (Split Flex)) → ◌≡◌ {A = Granted (Unit {0})} (Ok tt)
+    (outcome_of (found_or q NoBlock >>= λ b. refuse_if (ltb (length b.here.bytes) (0 + n)) BadRange >>= λ _. Ok (take n (drop 0 b.here.bytes))))
     → IsOk (answer_of (no_answer (found_or q NoBlock >>= λ b. Ok (without b s))))
 unfolding found_or ◌>>=◌
 there n s None e = absurd cc
@@ -128,27 +138,30 @@ free_after_read n s e = there n s (block_of 0 s) e
 
 -- ---- one call after the other
 -- what the put after an allocation leaves
-pub put_after : (free n x : ℕ) (bytes : List ℕ) (s k : Slot) → s ≡ new_slot → ◌≡◌ {A = Granted ℕ} (Ok x) (answer_of (slot_alloc free 0 n s)) → k ≡ left_of s (slot_alloc free 0 n s) → n ≡ length bytes
-    → slot_put 0 0 bytes k ≡ Ok (with_block 0 bytes new_slot)
+pub put_after : (free n x : ℕ) (bytes : List ℕ) (s k : Slot) → s ≡ new_slot → ◌≡◌ {A = Granted ℕ} (Ok x) (answer_of (slot_alloc free 0 n s))
+    → k ≡ left_of s (slot_alloc free 0 n s) → n ≡ length bytes → slot_put 0 0 bytes k ≡ Ok (with_block 0 bytes new_slot)
 put_after free n x bytes s k new e is many =
     let first : k ≡ with_block 0 (zeros n) new_slot =
-    subst (λ (y : Slot). ◌≡◌ {A = Granted ℕ} (Ok x) (answer_of (slot_alloc free 0 n y)) → k ≡ left_of y (slot_alloc free 0 n y) → k ≡ with_block 0 (zeros n) new_slot) (sym new) (λ f i. i ∙ alloc_new free n x f) e is in
+    subst (λ (y : Slot). ◌≡◌ {A = Granted ℕ} (Ok x) (answer_of (slot_alloc free 0 n y)) → k ≡ left_of y (slot_alloc free 0 n y)
+    → k ≡ with_block 0 (zeros n) new_slot) (sym new) (λ f i. i ∙ alloc_new free n x f) e is in
     subst (λ (y : Slot). slot_put 0 0 bytes y ≡ Ok (with_block 0 bytes new_slot)) (sym first) (put_whole n bytes many)
 
 -- the slot is there just where its pages were free before it was started
-pub held_after : (all free n x : ℕ) (bytes : List ℕ) (s : Slot) → s ≡ new_slot → free + 1 ≡ all → n ≡ length bytes → ◌≡◌ {A = Granted ℕ} (Ok x) (answer_of (slot_alloc free 0 n s))
-    → held all bytes ≡ Ok tt
+pub held_after : (all free n x : ℕ) (bytes : List ℕ) (s : Slot) → s ≡ new_slot → free + 1 ≡ all → n ≡ length bytes
+    → ◌≡◌ {A = Granted ℕ} (Ok x) (answer_of (slot_alloc free 0 n s)) → held all bytes ≡ Ok tt
 held_after all free n x bytes s new less many e =
     let room = alloc_room free n x (subst (λ (y : Slot). ◌≡◌ {A = Granted ℕ} (Ok x) (answer_of (slot_alloc free 0 n y))) new e) in
-    let same : slot_pages (with_block 0 bytes new_slot) ≡ pages_for (slot_length new_slot + flex_weight n) = more bytes ∙ ap (λ (i : ℕ). pages_for (slot_length new_slot + flex_weight i)) (sym many) in
+    let same : slot_pages (with_block 0 bytes new_slot) ≡ pages_for (slot_length new_slot + flex_weight n) =
+    more bytes ∙ ap (λ (i : ℕ). pages_for (slot_length new_slot + flex_weight i)) (sym many) in
     held-granted all bytes (omega (arith, one))
 
-pub refused_after : (all free n : ℕ) (refusal : Refusal) (bytes : List ℕ) (s : Slot) → s ≡ new_slot → free + 1 ≡ all → n ≡ length bytes → ◌≡◌ {A = Granted ℕ} (Err refusal) (answer_of (slot_alloc free 0 n s))
-    → held all bytes ≡ Err refusal
+pub refused_after : (all free n : ℕ) (refusal : Refusal) (bytes : List ℕ) (s : Slot) → s ≡ new_slot → free + 1 ≡ all → n ≡ length bytes
+    → ◌≡◌ {A = Granted ℕ} (Err refusal) (answer_of (slot_alloc free 0 n s)) → held all bytes ≡ Err refusal
 refused_after all free n refusal bytes s new less many e =
     let p = alloc_refused free n refusal (subst (λ (y : Slot). ◌≡◌ {A = Granted ℕ} (Err refusal) (answer_of (slot_alloc free 0 n y))) new e) in
     let few = p.0 in
-    let same : slot_pages (with_block 0 bytes new_slot) ≡ pages_for (slot_length new_slot + flex_weight n) = more bytes ∙ ap (λ (i : ℕ). pages_for (slot_length new_slot + flex_weight i)) (sym many) in
+    let same : slot_pages (with_block 0 bytes new_slot) ≡ pages_for (slot_length new_slot + flex_weight n) =
+    more bytes ∙ ap (λ (i : ℕ). pages_for (slot_length new_slot + flex_weight i)) (sym many) in
     held-refused all bytes (omega (arith, one)) ∙ ap (λ (y : Refusal). let r : Granted (Unit {0}) = Err y in r) (sym p.1)
 
 -- what is read of the one block, and what is left where it goes

@@ -24,7 +24,8 @@ module _ (q : Question) (old after : VfDesk) {form : Option Command} {said : Cal
   kept = stays (subst IsAsked (sym same) (question-asked q))
 
   -- what is told of the reply
-  pub ask-told : {A : Type 0} (tell : Called → A) {now : A} → now ≡ tell said → (s : Option Desk) → IsSeen old s → now ≡ tell (called s (in_form (command.Ask q)))
+  pub ask-told : {A : Type 0} (tell : Called → A) {now : A} → now ≡ tell said → (s : Option Desk) → IsSeen old s
+      → now ≡ tell (called s (in_form (command.Ask q)))
   ask-told tell told s seen = told_by old same says tell told s seen
 
   -- how many there are is told

@@ -1,5 +1,6 @@
 -- Lists with items in place of their first ones, or of those from an index on.
-use Rattle.std.proofs.Common.{◌≡◌, ℕ, Bool, true, false, zero, suc, ◌+◌, ◌<◌, ◌≤◌, List, [], ◌∷◌, ◌++◌, length, take, drop, get_or, Some, None, refl, sym, ap, ◌∙◌, arith, set, append-nil, take-append-drop, take_all}
+use Rattle.std.proofs.Common.{◌≡◌, ℕ, Bool, true, false, zero, suc, ◌+◌, ◌<◌, ◌≤◌, List, [], ◌∷◌, ◌++◌, length, take, drop, get_or, Some, None, refl, sym, ap}
+use Rattle.std.proofs.Common.{◌∙◌, arith, set, append-nil, take-append-drop, take_all}
 use Rattle.std.specs.Prelude.{◌-◌, nat_le, map, min, slice_get}
 use borrow.Author.Tests.{tests}
 use Rattle.rh_console.specs.Console.{filled}
@@ -151,7 +152,8 @@ length-taken f (x ∷ items) (suc n) few = ap suc (length-taken f items n (omega
 pub fill-all : {A B : Type 0} (f : A → B) (items : List A) (at n : ℕ) (old to : List B) → n ≡ min (length items) (length old - at)
     → to ≡ filled_from at (map f (take n items)) old → to ≡ filled_from at (map f items) old
 fill-all {A} {B} f items at n old to is same =
-    same ∙ go (nat_le (length items) n) refl ∙ ap (λ l. filled_from at l old) (sym (map-append f (take n items) (drop n items)) ∙ ap (map f) (take-append-drop n items))
+    same ∙ go (nat_le (length items) n) refl
+    ∙ ap (λ l. filled_from at l old) (sym (map-append f (take n items) (drop n items)) ∙ ap (map f) (take-append-drop n items))
   where
     drop-past : (n : ℕ) (items : List A) → length items ≤ n → drop n items ≡ []
     drop-past zero [] all = refl
@@ -159,7 +161,8 @@ fill-all {A} {B} f items at n old to is same =
     drop-past (suc n) [] all = refl
     drop-past (suc n) (x ∷ items) all = drop-past n items (omega arith)
 
-    go : (b : Bool) → nat_le (length items) n ≡ b → filled_from at (map f (take n items)) old ≡ filled_from at (map f (take n items) ++ map f (drop n items)) old
+    go : (b : Bool) → nat_le (length items) n ≡ b
+        → filled_from at (map f (take n items)) old ≡ filled_from at (map f (take n items) ++ map f (drop n items)) old
     go true low =
         let all : length items ≤ n = grind (arith, tests) in
         ap (λ l. filled_from at l old) (sym (append-nil (map f (take n items))) ∙ ap (λ l. map f (take n items) ++ map f l) (sym (drop-past n items all)))

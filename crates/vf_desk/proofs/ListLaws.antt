@@ -63,7 +63,8 @@ listed_records (Ok t) h out taken e = record {
     same e = cc
 listed_records (Err r) h out taken e = absurd (cc)
 
-pub records-listed : (d : Desk) (name : List ℕ) (h : ℕ) (out : List Outgoing) (taken : List Incoming) → status_at d name ≡ Ok (h, out, taken) → Lists (status d name) out taken
+pub records-listed : (d : Desk) (name : List ℕ) (h : ℕ) (out : List Outgoing) (taken : List Incoming) → status_at d name ≡ Ok (h, out, taken)
+    → Lists (status d name) out taken
 unfolding status_at status
 records-listed d name h out taken e = listed_records (named name d) h out taken e
 

@@ -69,8 +69,8 @@ pub record Told (next : Granted (Option Parcel)) (status was code : ℕ) (before
   pub code_is : code ≡ code_or (next_on next) was
   pub block : after ≡ with_message (parcel_in (next_on next)) before
 
-pub told-some : (next : Granted (Option Parcel)) (was : ℕ) {answer : Result (Option EventCode) Refusal} {code : EventCode} {before after : List ℕ} → Answers next answer before after
-    → answer ≡ Ok (Some code) → Told next 0 was (code_number code) before after
+pub told-some : (next : Granted (Option Parcel)) (was : ℕ) {answer : Result (Option EventCode) Refusal} {code : EventCode} {before after : List ℕ}
+    → Answers next answer before after → answer ≡ Ok (Some code) → Told next 0 was (code_number code) before after
 told-some (Ok None) was a is = absurd (let first = a.0 in cc)
 told-some (Ok (Some p)) was {answer} {code} a is =
     let first = a.0 in
@@ -78,14 +78,14 @@ told-some (Ok (Some p)) was {answer} {code} a is =
     record { status_is = refl; code_is = ap code_number same; block = a.1 }
 told-some (Err e) was a is = absurd (let first = a.0 in cc)
 
-pub told-none : (next : Granted (Option Parcel)) (was : ℕ) {answer : Result (Option EventCode) Refusal} {before after : List ℕ} → Answers next answer before after
-    → answer ≡ Ok None → Told next 0 was 0 before after
+pub told-none : (next : Granted (Option Parcel)) (was : ℕ) {answer : Result (Option EventCode) Refusal} {before after : List ℕ}
+    → Answers next answer before after → answer ≡ Ok None → Told next 0 was 0 before after
 told-none (Ok None) was a is = record { status_is = refl; code_is = refl; block = a.1 }
 told-none (Ok (Some p)) was a is = absurd (let first = a.0 in cc)
 told-none (Err e) was a is = absurd (let first = a.0 in cc)
 
-pub told-refused : (next : Granted (Option Parcel)) (was : ℕ) {answer : Result (Option EventCode) Refusal} {refusal : Refusal} {before after : List ℕ} → Answers next answer before after
-    → answer ≡ Err refusal → Told next (refusal_number refusal) was was before after
+pub told-refused : (next : Granted (Option Parcel)) (was : ℕ) {answer : Result (Option EventCode) Refusal} {refusal : Refusal} {before after : List ℕ}
+    → Answers next answer before after → answer ≡ Err refusal → Told next (refusal_number refusal) was was before after
 told-refused (Ok o) was a is = absurd (let first = a.0 in cc)
 told-refused (Err e) was {answer} {refusal} a is =
     let first = a.0 in

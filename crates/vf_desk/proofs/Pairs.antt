@@ -57,7 +57,8 @@ module _ (R Z : RattleType) (L : Laws Z) (g : Ghosts Z.Denot) where
     apart_out t u vs next =
         fsplit t $ fpick t (λ words. fsplit t $ feq_l t (λ whole. fsplit t $ feq_l t (λ first. fsplit t $
         handle_tells al t u.alloc words.1.0 (λ h second fits. move t (1 ∷ []) $ drop t $ move t (1 ∷ []) $
-        in_a_block t u.at (λ p. box_owns (g.dealloc_token u.alloc) R p u.value) (fst∗ 𝓤 (never 𝓤) (sem 𝓛 (g.dealloc_token u.alloc (bare (lone R.mir)) null_ptr))) (λ b o there.
+        in_a_block t u.at (λ p. box_owns (g.dealloc_token u.alloc) R p u.value)
+        (fst∗ 𝓤 (never 𝓤) (sem 𝓛 (g.dealloc_token u.alloc (bare (lone R.mir)) null_ptr))) (λ b o there.
         next b o h there
         (subst (λ (p : Ptr). vs ≡ vstruct (of_list (ptr_val p ∷ h ∷ [])) ∷ []) there
         (subst (λ (ws : List Val). vs ≡ vstruct (of_list (ptr_val u.at ∷ (ws ++ []))) ∷ []) second
@@ -70,7 +71,8 @@ module _ (R Z : RattleType) (L : Laws Z) (g : Ghosts Z.Denot) where
     apart_in t b o h a x = step (λ s. let v : Val = pair (vptr b o) h in
         nothing t $ move t (2 ∷ 0 ∷ []) $ fjoin t $ feq_i t (List Val) (vptr b o ∷ []) (vptr b o ∷ []) refl $ fjoin t $
         feq_i t (List Val) (v ∷ []) (v ∷ []) refl $ fjoin t $
-        fpack t (Valss (RawPtr ∷ Z ∷ [])) (within (shape (Unboxed.the_type R Z g)) (block_ptr b o, (a, tt)) (v ∷ [])) (vptr b o ∷ [], (h ∷ [], tt)) $ fjoin t $ s)
+        fpack t (Valss (RawPtr ∷ Z ∷ [])) (within (shape (Unboxed.the_type R Z g)) (block_ptr b o, (a, tt)) (v ∷ [])) (vptr b o ∷ [], (h ∷ [], tt)) $
+        fjoin t $ s)
 
 -- ---- the handle, whose heap is `Global`
 
@@ -102,4 +104,5 @@ module _ {M : Type 1} {𝓤 : Ura M} {𝓛 : Logic 𝓤} {K : Type 0} {Γ : List
       let made : Handle.the_row.Denot = record { at = p; alloc = a; station = x } in
       nothing t $ move t (2 ∷ 0 ∷ []) $ fjoin t $ feq_i t (List Val) (ptr_val p ∷ []) (ptr_val p ∷ []) refl $ fjoin t $
       feq_i t (List Val) (v ∷ []) (v ∷ []) refl $ fjoin t $
-      fpack t (Valss ((shape Handle.the_type).fields)) (within (shape Handle.the_type) (to Handle.the_type made) (v ∷ [])) (ptr_val p ∷ [], (h ∷ [], tt)) $ fjoin t $ s)
+      fpack t (Valss ((shape Handle.the_type).fields)) (within (shape Handle.the_type) (to Handle.the_type made) (v ∷ [])) (ptr_val p ∷ [], (h ∷ [], tt)) $
+      fjoin t $ s)

@@ -1,5 +1,6 @@
 -- The segments of a C heap in a slice, some at a time.
-use Rattle.std.proofs.Common.{◌≡◌, ℕ, zero, suc, ◌+◌, ◌-◌, ◌≤◌, ◌<◌, Bool, true, false, cond, List, [], ◌∷◌, ◌++◌, length, take, drop, Option, Some, None, Ok, refl, sym, ap, subst, ◌∙◌, arith, append_assoc, append-nil, length-append}
+use Rattle.std.proofs.Common.{◌≡◌, ℕ, zero, suc, ◌+◌, ◌-◌, ◌≤◌, ◌<◌, Bool, true, false, cond, List, [], ◌∷◌, ◌++◌, length, take, drop, Option, Some, None, Ok}
+use Rattle.std.proofs.Common.{refl, sym, ap, subst, ◌∙◌, arith, append_assoc, append-nil, length-append}
 use Rattle.std.specs.Prelude.{◌==◌, slice_get, map, find}
 use Rattle.std.proofs.lemmas.List.{take-append-drop}
 use Rattle.std.specs.Option.{option_map}
@@ -44,13 +45,15 @@ at-place start place [] [] all e = refl
 at-place start place [] (g ∷ after) all e = go (place == start) refl
   where
     go : (b : Bool) → (place == start) ≡ b
-        → from_cut (cond b (Some (record { before = []; here = g; after = after })) (option_map (behind g) (first_at size_of (λ q x. place == q) (start + size_of g) after))) ≡ g ∷ after
+        → from_cut (cond b (Some (record { before = []; here = g; after = after }))
+        (option_map (behind g) (first_at size_of (λ q x. place == q) (start + size_of g) after))) ≡ g ∷ after
     go true k = refl
     go false k = absurd (grind (arith, tests))
 at-place start place (x ∷ xs) after all e = go (place == start) refl (at-place (start + size_of x) place xs after all.1 (omega arith))
   where
     go : (b : Bool) → (place == start) ≡ b → from_cut (first_at size_of (λ q g. place == q) (start + size_of x) (xs ++ after)) ≡ after
-        → from_cut (cond b (Some (record { before = []; here = x; after = xs ++ after })) (option_map (behind x) (first_at size_of (λ q g. place == q) (start + size_of x) (xs ++ after)))) ≡ after
+        → from_cut (cond b (Some (record { before = []; here = x; after = xs ++ after }))
+        (option_map (behind x) (first_at size_of (λ q g. place == q) (start + size_of x) (xs ++ after)))) ≡ after
     go true k h = let low : 0 < size_of x = all.0 in absurd (grind (arith, tests))
     go false k h = cut-behind x (first_at size_of (λ q g. place == q) (start + size_of x) (xs ++ after)) ∙ h
 
@@ -74,8 +77,8 @@ item-ends p (Used bytes) = omega arith
 item-ends p (Hole n) = refl
 
 -- the last of some segments ends where they all do
-last-at : (p : ℕ) (g : Segment) (gs : List Segment) (x : SegmentItem) → Some x ≡ slice_get (segment_items_from p (g ∷ gs)) (length (segment_items_from (p + size_of g) gs))
-    → item_end x ≡ p + total size_of (g ∷ gs)
+last-at : (p : ℕ) (g : Segment) (gs : List Segment) (x : SegmentItem)
+    → Some x ≡ slice_get (segment_items_from p (g ∷ gs)) (length (segment_items_from (p + size_of g) gs)) → item_end x ≡ p + total size_of (g ∷ gs)
 last-at p g [] x e =
     let is : x ≡ segment_item p g = cc in
     omega (arith, ap item_end is, item-ends p g)
@@ -127,7 +130,8 @@ module _ (h : Heap) (place count : ℕ) (old now : List VfSegment) (is : IsHeap 
   there : (items : List SegmentItem) → items ≡ segment_items_at place h → items ≡ segment_items_from (heap_start + place) (take SEGMENTS_AT_ONCE w.after)
   there items e =
       let after : from_cut (segment_at place h) ≡ w.after =
-      ap (λ gs. from_cut (first_at size_of (λ q g. place == q) first_place gs)) (sym w.whole) ∙ at-place first_place place w.before w.after all-sized.0 w.stands in
+      ap (λ gs. from_cut (first_at size_of (λ q g. place == q) first_place gs)) (sym w.whole)
+      ∙ at-place first_place place w.before w.after all-sized.0 w.stands in
       e ∙ (ap (λ gs. take SEGMENTS_AT_ONCE (segment_items_from (heap_start + place) gs)) after ∙ items-taken SEGMENTS_AT_ONCE (heap_start + place) w.after)
 
   -- there are no more than the heap has bytes
@@ -142,12 +146,14 @@ module _ (h : Heap) (place count : ℕ) (old now : List VfSegment) (is : IsHeap 
     pub within : item_end last ≤ h.end + heap_start
 
   module _ (items : List SegmentItem) (last : SegmentItem) (e : items ≡ segment_items_at place h) (l : Some last ≡ slice_get items (length items - 1)) where
-    last-here : Some last ≡ slice_get (segment_items_from (heap_start + place) (take SEGMENTS_AT_ONCE w.after)) (length (segment_items_from (heap_start + place) (take SEGMENTS_AT_ONCE w.after)) - 1)
+    last-here : Some last ≡ slice_get (segment_items_from (heap_start + place) (take SEGMENTS_AT_ONCE w.after))
+        (length (segment_items_from (heap_start + place) (take SEGMENTS_AT_ONCE w.after)) - 1)
     last-here = l ∙ ap (λ xs. slice_get xs (length xs - 1)) (there items e)
 
     parts-sized : AllSized (take SEGMENTS_AT_ONCE w.after) × AllSized (drop SEGMENTS_AT_ONCE w.after)
     parts-sized =
-        sized-parts (take SEGMENTS_AT_ONCE w.after) (drop SEGMENTS_AT_ONCE w.after) (let P : List Segment → Type 0 = AllSized in subst P (sym (take-append-drop SEGMENTS_AT_ONCE w.after)) all-sized.1)
+        sized-parts (take SEGMENTS_AT_ONCE w.after) (drop SEGMENTS_AT_ONCE w.after)
+        (let P : List Segment → Type 0 = AllSized in subst P (sym (take-append-drop SEGMENTS_AT_ONCE w.after)) all-sized.1)
 
     pub batch-ends : Ends last
     batch-ends =
@@ -170,7 +176,8 @@ module _ (h : Heap) (place count : ℕ) (old now : List VfSegment) (is : IsHeap 
         let ends = last-ends (heap_start + place) front last parts-sized.0 last-here in
         let place_is : heap_start + first_place + total size_of w.before ≡ heap_start + place = omega (arith, w.stands) in
         let more : shown (w.before ++ front) ≡ shown w.before ++ map segment_of items =
-        ap (map segment_of) (items-append (heap_start + first_place) w.before front ∙ ap (λ n. segment_items_from (heap_start + first_place) w.before ++ segment_items_from n front) place_is
+        ap (map segment_of) (items-append (heap_start + first_place) w.before front
+        ∙ ap (λ n. segment_items_from (heap_start + first_place) w.before ++ segment_items_from n front) place_is
         ∙ ap (λ l. segment_items_from (heap_start + first_place) w.before ++ l) (sym these))
         ∙ map-append segment_of (segment_items_from (heap_start + first_place) w.before) items in
         let long : length (shown w.before) ≡ count =
@@ -182,16 +189,19 @@ module _ (h : Heap) (place count : ℕ) (old now : List VfSegment) (is : IsHeap 
           whole = append_assoc w.before front back ∙ (ap (λ gs. w.before ++ gs) (take-append-drop SEGMENTS_AT_ONCE w.after) ∙ w.whole);
           stands = omega (arith, ends, q, w.stands, total-append size_of w.before front);
           counted = omega (arith, w.counted, many, length-append w.before front);
-          filled_is = puts ∙ ap (λ n. filled_from n (map segment_of items) now) (sym long) ∙ ap (filled_from (length (shown w.before)) (map segment_of items)) w.filled_is
+          filled_is = puts ∙ ap (λ n. filled_from n (map segment_of items) now) (sym long)
+              ∙ ap (filled_from (length (shown w.before)) (map segment_of items)) w.filled_is
               ∙ filled-behind (shown w.before) (map segment_of items) old ∙ ap (λ l. filled l old) (sym more);
         }
 
-  all-walked : (p : ℕ) (before after : List Segment) → before ++ after ≡ h.segments → [] ≡ segment_items_from p (take SEGMENTS_AT_ONCE after) → before ≡ h.segments
+  all-walked : (p : ℕ) (before after : List Segment) → before ++ after ≡ h.segments → [] ≡ segment_items_from p (take SEGMENTS_AT_ONCE after)
+      → before ≡ h.segments
   all-walked p before [] whole none = sym (append-nil before) ∙ whole
   all-walked p before (g ∷ rest) whole none = absurd (cc)
 
   -- all were put there where none stands at the place
-  pub batch-none : [] ≡ segment_items_at place h → (now ≡ filled (shown h.segments) old) × (count ≡ length (segment_items_from (heap_start + first_place) h.segments))
+  pub batch-none : [] ≡ segment_items_at place h
+      → (now ≡ filled (shown h.segments) old) × (count ≡ length (segment_items_from (heap_start + first_place) h.segments))
   batch-none none =
       let all : w.before ≡ h.segments = all-walked (heap_start + place) w.before w.after w.whole (there [] none) in (
         w.filled_is ∙ ap (λ gs. filled (shown gs) old) all,
@@ -200,7 +210,9 @@ module _ (h : Heap) (place count : ℕ) (old now : List VfSegment) (is : IsHeap 
 
 -- ---- what is listed of a task's C heap, or where there is no task
 
-listed_segments : (o : Option Task) → segments_in (listed_with (found_or o NoName >>= λ t. Ok (reply.HeapSums t.slot.heap.end (largest t.slot.heap) (free_bytes t.slot.heap), Segments (segment_items t.slot))))
+listed_segments : (o : Option Task)
+    → segments_in (listed_with (found_or o NoName
+    >>= λ t. Ok (reply.HeapSums t.slot.heap.end (largest t.slot.heap) (free_bytes t.slot.heap), Segments (segment_items t.slot))))
     ≡ segment_items_from (heap_start + first_place) (slot_in o).heap.segments
 unfolding ◌>>=◌ found_or
 listed_segments None = refl

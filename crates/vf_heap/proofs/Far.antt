@@ -5,7 +5,8 @@ use Rattle.std.specs.Int.{w32}
 use Rattle.std.specs.Int.Signed.{lt_z}
 use Rattle.std.specs.Option.{option_map}
 use Rattle.std.proofs.lemmas.Bool.Decides.{nat_tests}
-use Rattle.rh_defs.specs.Heap.{Segment, Used, Hole, Heap, IsHeap, Way, bytes_of, size_of, hole_for, first_place, base, end_for, way_to, segment_size, new_size, resize_need, resize_found, resize, block_at, block_size, is_block_at}
+use Rattle.rh_defs.specs.Heap.{Segment, Used, Hole, Heap, IsHeap, Way, bytes_of, size_of, hole_for, first_place, base, end_for, way_to, segment_size}
+use Rattle.rh_defs.specs.Heap.{new_size, resize_need, resize_found, resize, block_at, block_size, is_block_at}
 use Rattle.rh_defs.specs.HeapImage.{heap_of}
 use Rattle.rh_defs.specs.Pieces.{total, Split}
 use Rattle.rh_defs.specs.declared.heap.HeapRefusal.{HeapRefusal}

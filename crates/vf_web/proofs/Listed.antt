@@ -1,5 +1,6 @@
 -- Files that stand one behind the other, walked one by one.
-use Rattle.std.proofs.Common.{◌≡◌, ℕ, zero, suc, ◌+◌, ◌<◌, ◌≤◌, Bool, true, false, cond, not, ◌||◌, ◌&&◌, refl, sym, ap, subst, ◌∙◌, List, [], ◌∷◌, length, is_some, Option, Some, None, arith, drop, take, length-drop, nat_lt}
+use Rattle.std.proofs.Common.{◌≡◌, ℕ, zero, suc, ◌+◌, ◌<◌, ◌≤◌, Bool, true, false, cond, not, ◌||◌, ◌&&◌, refl, sym, ap, subst, ◌∙◌, List, [], ◌∷◌, length}
+use Rattle.std.proofs.Common.{is_some, Option, Some, None, arith, drop, take, length-drop, nat_lt}
 use Rattle.std.proofs.lemmas.Bool.Decides.{same_from_decides}
 use Rattle.std.proofs.lemmas.Slice.Eq.{bytes_eq-Decides}
 use Rattle.std.specs.Str.{bytes_eq}
@@ -28,7 +29,8 @@ pub front_file-fewer : (b : List ℕ) (found : Found) → front_file b ≡ Some 
 unfolding front_file
 front_file-fewer [] found e = absurd (cc)
 front_file-fewer (n ∷ rest) found e =
-    elim (nat_lt (length rest) (n + WORD)) as (λ v. cond v None (named_file (take n rest) (word rest n) (drop (n + WORD) rest)) ≡ Some found → length found.1 < length (n ∷ rest)) [
+    elim (nat_lt (length rest) (n + WORD)) as (λ v. cond v None (named_file (take n rest) (word rest n) (drop (n + WORD) rest)) ≡ Some found
+    → length found.1 < length (n ∷ rest)) [
       | true ↦ λ q. absurd (cc)
       | false ↦ λ q. omega (arith, named_file-fewer _ _ _ found q, length-drop (n + WORD) rest)
     ] e
@@ -37,7 +39,8 @@ front_file-fewer (n ∷ rest) found e =
 abbrev before : ℕ → Found → Option FileList
 before most found = option_map (λ files. found.0 ∷ files) (files_within most found.1)
 
-before-same : (j k : ℕ) (o : Option Found) → ((found : Found) → o ≡ Some found → files_within j found.1 ≡ files_within k found.1) → option_and_then (before j) o ≡ option_and_then (before k) o
+before-same : (j k : ℕ) (o : Option Found) → ((found : Found) → o ≡ Some found → files_within j found.1 ≡ files_within k found.1)
+    → option_and_then (before j) o ≡ option_and_then (before k) o
 before-same j k None h = refl
 before-same j k (Some found) h = ap (λ behind. option_map (λ files. found.0 ∷ files) behind) (h found refl)
 
@@ -53,7 +56,8 @@ files_within-enough j k [] p q = files_within-none j ∙ sym (files_within-none 
 files_within-enough zero k (x ∷ rest) p q = absurd (omega arith)
 files_within-enough (suc j) zero (x ∷ rest) p q = absurd (omega arith)
 files_within-enough (suc j) (suc k) (x ∷ rest) p q =
-    before-same j k (front_file (x ∷ rest)) (λ found e. files_within-enough j k found.1 (omega (arith, front_file-fewer (x ∷ rest) found e)) (omega (arith, front_file-fewer (x ∷ rest) found e)))
+    before-same j k (front_file (x ∷ rest)) (λ found e. files_within-enough j k found.1 (omega (arith, front_file-fewer (x ∷ rest) found e))
+    (omega (arith, front_file-fewer (x ∷ rest) found e)))
 
 pub listed-none : listed [] ≡ Some []
 unfolding listed files_within
@@ -65,7 +69,8 @@ unfolding listed files_within front_file
 listed-front [] found e = absurd (cc)
 listed-front (x ∷ rest) found e =
     ap (option_and_then (before (length rest))) e
-    ∙ ap (λ behind. option_map (λ files. found.0 ∷ files) behind) (files_within-enough (length rest) (length found.1) found.1 (omega (arith, front_file-fewer (x ∷ rest) found e)) (omega arith))
+    ∙ ap (λ behind. option_map (λ files. found.0 ∷ files) behind) (files_within-enough (length rest) (length found.1) found.1
+    (omega (arith, front_file-fewer (x ∷ rest) found e)) (omega arith))
 
 -- where no file stands at the front, there are no bytes, or they are no files
 pub listed-no_front : (b : List ℕ) → front_file b ≡ None → 0 < length b → listed b ≡ None
@@ -87,10 +92,12 @@ listed-end (x ∷ rest) files l e = absurd (none_is_none (sym l ∙ listed-no_fr
     none_is_none e = cc
 
 -- the files are the first one and some behind it
-pub listed-step : (b : List ℕ) (files : FileList) (found : Found) → listed b ≡ Some files → front_file b ≡ Some found → (behind : FileList) × (listed found.1 ≡ Some behind) × (files ≡ found.0 ∷ behind)
+pub listed-step : (b : List ℕ) (files : FileList) (found : Found) → listed b ≡ Some files → front_file b ≡ Some found
+    → (behind : FileList) × (listed found.1 ≡ Some behind) × (files ≡ found.0 ∷ behind)
 listed-step b files found l e = step (listed found.1) refl (sym l ∙ listed-front b found e)
   where
-    step : (o : Option FileList) → listed found.1 ≡ o → Some files ≡ option_map (λ files. found.0 ∷ files) o → (behind : FileList) × (listed found.1 ≡ Some behind) × (files ≡ found.0 ∷ behind)
+    step : (o : Option FileList) → listed found.1 ≡ o → Some files ≡ option_map (λ files. found.0 ∷ files) o
+        → (behind : FileList) × (listed found.1 ≡ Some behind) × (files ≡ found.0 ∷ behind)
     step None h q = absurd (cc)
     step (Some behind) h q = (behind, h, cc)
 
@@ -109,29 +116,34 @@ listed-empty (x ∷ rest) e = absurd (omega arith)
 -- ---- names
 
 bytes_eq-turned : (a b : List ℕ) → bytes_eq a b ≡ bytes_eq b a
-bytes_eq-turned a b = same_from_decides (bytes_eq a b) (bytes_eq b a) (bytes_eq-Decides a b) ((λ h. sym ((bytes_eq-Decides b a).0 h)), (λ h. (bytes_eq-Decides b a).1 (sym h)))
+bytes_eq-turned a b = same_from_decides (bytes_eq a b) (bytes_eq b a) (bytes_eq-Decides a b)
+    ((λ h. sym ((bytes_eq-Decides b a).0 h)), (λ h. (bytes_eq-Decides b a).1 (sym h)))
 
 -- a file has the name just where one is found by it
 pub has_file-found : (name : List ℕ) (files : FileList) → has_file name files ≡ is_some (file_bytes name files)
 has_file-found name [] = refl
 has_file-found name (file ∷ files) =
-    rw (bytes_eq-turned file.0 name) (elim (bytes_eq name file.0) as (λ v. (v || has_file name files) ≡ is_some (option_map (λ (f : List ℕ × List ℕ). f.1) (cond v (Some file) (find (λ (f : List ℕ × List ℕ). bytes_eq f.0 name) files))))
+    rw (bytes_eq-turned file.0 name) (elim (bytes_eq name file.0) as (λ v. (v || has_file name files) ≡ is_some
+    (option_map (λ (f : List ℕ × List ℕ). f.1) (cond v (Some file) (find (λ (f : List ℕ × List ℕ). bytes_eq f.0 name) files))))
     [ true ↦ refl | false ↦ has_file-found name files ])
 
 -- a file with another name is passed by
-pub find-next : (b name : List ℕ) (file : List ℕ × List ℕ) (behind : List ℕ) (rest : FileList) → listed b ≡ Some rest → front_file b ≡ Some (file, behind) → bytes_eq file.0 name ≡ false → (x : FileList) × (listed behind ≡ Some x) × (file_bytes name rest ≡ file_bytes name x)
+pub find-next : (b name : List ℕ) (file : List ℕ × List ℕ) (behind : List ℕ) (rest : FileList) → listed b ≡ Some rest → front_file b ≡ Some (file, behind)
+    → bytes_eq file.0 name ≡ false → (x : FileList) × (listed behind ≡ Some x) × (file_bytes name rest ≡ file_bytes name x)
 find-next b name file behind rest l e n =
     let s = listed-step b rest (file, behind) l e in (s.0, s.1, ap (file_bytes name) s.2 ∙ rw n refl)
 
 -- a file whose name none behind it has is passed by
-pub apart-next : (b : List ℕ) (file : List ℕ × List ℕ) (behind : List ℕ) (rest : FileList) → listed b ≡ Some rest → front_file b ≡ Some (file, behind) → ((x : FileList) → listed behind ≡ Some x → file_bytes file.0 x ≡ None) → (x : FileList) × (listed behind ≡ Some x) × (are_apart rest ≡ are_apart x)
+pub apart-next : (b : List ℕ) (file : List ℕ × List ℕ) (behind : List ℕ) (rest : FileList) → listed b ≡ Some rest → front_file b ≡ Some (file, behind)
+    → ((x : FileList) → listed behind ≡ Some x → file_bytes file.0 x ≡ None) → (x : FileList) × (listed behind ≡ Some x) × (are_apart rest ≡ are_apart x)
 apart-next b file behind rest l e n =
     let s = listed-step b rest (file, behind) l e in
     let h : has_file file.0 s.0 ≡ false = has_file-found file.0 s.0 ∙ ap is_some (n s.0 s.1) in
     (s.0, s.1, ap are_apart s.2 ∙ rw h refl)
 
 -- files of which two have one name aren't apart
-pub apart-none : (b : List ℕ) (file : List ℕ × List ℕ) (behind : List ℕ) (rest : FileList) → listed b ≡ Some rest → front_file b ≡ Some (file, behind) → ((x : FileList) → listed behind ≡ Some x → is_some (file_bytes file.0 x) ≡ true) → are_apart rest ≡ false
+pub apart-none : (b : List ℕ) (file : List ℕ × List ℕ) (behind : List ℕ) (rest : FileList) → listed b ≡ Some rest → front_file b ≡ Some (file, behind)
+    → ((x : FileList) → listed behind ≡ Some x → is_some (file_bytes file.0 x) ≡ true) → are_apart rest ≡ false
 apart-none b file behind rest l e n =
     let s = listed-step b rest (file, behind) l e in
     let h : has_file file.0 s.0 ≡ true = has_file-found file.0 s.0 ∙ n s.0 s.1 in

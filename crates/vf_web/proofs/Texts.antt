@@ -25,7 +25,8 @@ numbered : (bad : Bool) → number_of (status_of bad) ≡ bad_status bad
 numbered true = refl
 numbered false = refl
 
-pub ended : (old new : WholeText) {text : List ℕ} {status : Status} (bad : Bool) → text_of old ≡ [] → Takes (output_of old) (output_of new) text → status ≡ status_of bad → Ended old new text bad status
+pub ended : (old new : WholeText) {text : List ℕ} {status : Status} (bad : Bool) → text_of old ≡ [] → Takes (output_of old) (output_of new) text
+    → status ≡ status_of bad → Ended old new text bad status
 ended old new {text} bad none takes is =
     let w = wrote takes in
     record {
@@ -44,7 +45,8 @@ never (Err e) P h refuted = absurd (refuted e h)
 read_whole : (script bytes : List ℕ) → script ≡ bytes ++ [] → bytes ≡ script
 read_whole script bytes all = sym (all ∙ append-nil bytes)
 
-pub run_ended : (d : Desk) (script : List ℕ) (old new : WholeText) (status : Status) → text_of old ≡ [] → Finished d (unread script) (unread []) (output_of old) (output_of new) status → Ended old new (script_text d script) (has_bad_line script) status
+pub run_ended : (d : Desk) (script : List ℕ) (old new : WholeText) (status : Status) → text_of old ≡ []
+    → Finished d (unread script) (unread []) (output_of old) (output_of new) status → Ended old new (script_text d script) (has_bad_line script) status
 run_ended d script old new status none f =
     let e = read_whole script f.bytes f.read in
     let P : List ℕ → Type 0 = λ b. Ended old new (script_text d b) (has_bad_line b) status in
@@ -56,7 +58,8 @@ pub record MapEnded (marked : Bool) (p : Place) (script : List ℕ) (old new : W
   pub map : IsMap marked p (read_lines script) text
   pub ends : Ended old new text (has_bad_line script) status
 
-pub map_ended : (marked : Bool) (p : Place) (script : List ℕ) (old new : WholeText) (status : Status) → text_of old ≡ [] → Mapped marked p (unread script) (unread []) (output_of old) (output_of new) status → MapEnded marked p script old new status
+pub map_ended : (marked : Bool) (p : Place) (script : List ℕ) (old new : WholeText) (status : Status) → text_of old ≡ []
+    → Mapped marked p (unread script) (unread []) (output_of old) (output_of new) status → MapEnded marked p script old new status
 map_ended marked p script old new status none f =
     let e = read_whole script f.bytes f.read in
     let P : List ℕ → Type 0 = λ b. MapEnded marked p b old new status in
@@ -68,7 +71,8 @@ pub record SheetEnded (marked : Bool) (name : List ℕ) (d : Desk) (script : Lis
   pub sheet : IsSheet marked name d (read_lines script) text
   pub ends : Ended old new text (has_bad_line script) status
 
-pub sheet_ended : (marked : Bool) (name : List ℕ) (d : Desk) (script : List ℕ) (old new : WholeText) (status : Status) → text_of old ≡ [] → Painted marked name d (unread script) (unread []) (output_of old) (output_of new) status → SheetEnded marked name d script old new status
+pub sheet_ended : (marked : Bool) (name : List ℕ) (d : Desk) (script : List ℕ) (old new : WholeText) (status : Status) → text_of old ≡ []
+    → Painted marked name d (unread script) (unread []) (output_of old) (output_of new) status → SheetEnded marked name d script old new status
 sheet_ended marked name d script old new status none f =
     let e = read_whole script f.bytes f.read in
     let P : List ℕ → Type 0 = λ b. SheetEnded marked name d b old new status in

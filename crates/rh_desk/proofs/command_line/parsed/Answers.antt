@@ -23,9 +23,11 @@ words-are c =
 pub returns-clause-found : goal.returns-clause-found
 returns-clause-found c =
     let all = words-are c in
-    IfOk-weaker c.try_get_matches_from.result _ _ (λ m found. (found (ap is_simple all)).1 ∙ ap (λ (a : App). subcommand_of a (map string_bytes c.args.words.now)) all) c.try_get_matches_from.ensures.matches
+    IfOk-weaker c.try_get_matches_from.result _ _ (λ m found. (found (ap is_simple all)).1
+    ∙ ap (λ (a : App). subcommand_of a (map string_bytes c.args.words.now)) all) c.try_get_matches_from.ensures.matches
 
 pub returns-clause-fails : goal.returns-clause-fails
 returns-clause-fails c =
     let all = words-are c in
-    subst (λ (a : App). FailsBy (fault_of a (map string_bytes c.args.words.now)) c.try_get_matches_from.result) all (c.try_get_matches_from.ensures.kinds (ap is_simple_and_free all))
+    subst (λ (a : App). FailsBy (fault_of a (map string_bytes c.args.words.now)) c.try_get_matches_from.result) all
+    (c.try_get_matches_from.ensures.kinds (ap is_simple_and_free all))

@@ -9,7 +9,12 @@ loop-word-init g c = record { good = good-none; named = ap (map (λ file. file.0
 pub returns-in_default-clause-told : goal.returns-in_default-clause-told
 returns-in_default-clause-told g c =
     rw (← c.loop-word.invariant.quiet)
-    (inr (_, c.tell_bad_word.ensures.ending, bad-lost _ _ _ c.loop-word-test.true c.in_default.ensures c.loop-word.invariant.good, c.tell_bad_word.ensures.told))
+    (inr (
+      _,
+      c.tell_bad_word.ensures.ending,
+      bad-lost _ _ _ c.loop-word-test.true c.in_default.ensures c.loop-word.invariant.good,
+      c.tell_bad_word.ensures.told,
+    ))
 
 pub returns-then-contains-clause-told : goal.returns-then-contains-clause-told
 returns-then-contains-clause-told g c =

@@ -6,7 +6,8 @@ use Rattle.rh_desk.proofs.FileWordLemmas.{all-named, at-err, at-ok, bad-given, b
 use Rattle.rh_desk.proofs.files.read_files.Goals as goal
 
 pub loop-word-init : goal.loop-word-init
-loop-word-init g c = record { good = good-none; named = ap (map (λ file. file.0)) c.new-files.ensures; whole = rw c.new-files.ensures (All-nil _); quiet = refl }
+loop-word-init g c =
+    record { good = good-none; named = ap (map (λ file. file.0)) c.new-files.ensures; whole = rw c.new-files.ensures (All-nil _); quiet = refl }
 
 pub returns-in_default-clause-wrong : goal.returns-in_default-clause-wrong
 returns-in_default-clause-wrong g c = λ ending. (_, bad-lost _ _ _ c.loop-word-test.true c.in_default.ensures c.loop-word.invariant.good)
@@ -14,12 +15,18 @@ returns-in_default-clause-wrong g c = λ ending. (_, bad-lost _ _ _ c.loop-word-
 pub returns-in_default-clause-told : goal.returns-in_default-clause-told
 returns-in_default-clause-told g c =
     rw (← c.loop-word.invariant.quiet)
-    (inl (inr (_, c.tell_bad_word.ensures.ending, bad-lost _ _ _ c.loop-word-test.true c.in_default.ensures c.loop-word.invariant.good, c.tell_bad_word.ensures.told)))
+    (inl (inr (
+      _,
+      c.tell_bad_word.ensures.ending,
+      bad-lost _ _ _ c.loop-word-test.true c.in_default.ensures c.loop-word.invariant.good,
+      c.tell_bad_word.ensures.told,
+    )))
 
 pub returns-in_err-bytes-clause-told : goal.returns-in_err-bytes-clause-told
 returns-in_err-bytes-clause-told g c =
     rw (← c.loop-word.invariant.quiet)
-    (at-err _ _ _ c.from_residual.ensures.1 (lost-file _ _ _ _ _ _ _ _ c.loop-word-test.true c.in-Some.ensures c.in_err-bytes.ensures.err c.in_err-bytes.ensures.told))
+    (at-err _ _ _ c.from_residual.ensures.1 (lost-file _ _ _ _ _ _ _ _ c.loop-word-test.true c.in-Some.ensures c.in_err-bytes.ensures.err
+    c.in_err-bytes.ensures.told))
 
 pub returns-then-contains-clause-wrong : goal.returns-then-contains-clause-wrong
 returns-then-contains-clause-wrong g c = λ ending.

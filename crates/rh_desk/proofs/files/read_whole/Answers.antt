@@ -9,4 +9,5 @@ returns-in-Err-clause-told g c = inr (c.ended.ensures.told NoMemory refl)
 
 pub returns-in-Ok-clause-whole : goal.returns-in-Ok-clause-whole
 returns-in-Ok-clause-whole g c =
-    whole-is g.R.File.Read.remaining _ _ c.new-bytes.ensures.items (subst (λ n. n ≤ LONGEST_FILE) (c.len.ensures ∙ c.read_into.new.bytes.ok.0) c.if-len-le-LONGEST_FILE.true) c.in-Ok.ensures
+    whole-is g.R.File.Read.remaining _ _ c.new-bytes.ensures.items (subst (λ n. n ≤ LONGEST_FILE) (c.len.ensures ∙ c.read_into.new.bytes.ok.0)
+    c.if-len-le-LONGEST_FILE.true) c.in-Ok.ensures

@@ -7,7 +7,8 @@ returns-in_err-put g c = puts_stops _ (puts_before _ c.in_err-put.ensures refl) 
 
 pub returns-in_err-put-2 : goal.returns-in_err-put-2
 returns-in_err-put-2 g c =
-    rw (← c.as_bytes.ensures.value) (puts_more _ _ _ c.in_ok-put.ensures (puts_stops _ (puts_before _ c.in_err-put-2.ensures refl) c.from_residual-in_err-put-2.ensures.0))
+    rw (← c.as_bytes.ensures.value) (puts_more _ _ _ c.in_ok-put.ensures
+    (puts_stops _ (puts_before _ c.in_err-put-2.ensures refl) c.from_residual-in_err-put-2.ensures.0))
 
 pub returns : goal.returns
 returns g c =

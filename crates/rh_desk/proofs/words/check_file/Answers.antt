@@ -9,7 +9,8 @@ returns-in-Ok-clause-ends g c = λ before.
     (inl (
       vec_items c.in-Ok.bytes,
       c.in-Ok.ensures.whole,
-      check-over c.args.kind c.as_slice.result.now (vec_items c.in-Ok.bytes) (streams before before _ _ _ _) c.check_bytes.result c.as_slice.ensures.value c.check_bytes.ensures.ok c.check_bytes.ensures.status c.check_bytes.ensures.err
+      check-over c.args.kind c.as_slice.result.now (vec_items c.in-Ok.bytes) (streams before before _ _ _ _) c.check_bytes.result c.as_slice.ensures.value
+          c.check_bytes.ensures.ok c.check_bytes.ensures.status c.check_bytes.ensures.err
           c.ended.ensures.quiet c.ended.ensures.told,
     ))
 

@@ -22,7 +22,8 @@ returns-in-Ok-open-clause-ends g c =
     (script-over g.R.File.Read.remaining _ _ _ _ _ _ _ c.in_default.ensures.good c.in-Ok.ensures.named c.in-Ok.ensures.whole
     (λ is. absurd (other is))
     (λ named. file-over g.R.File.Read.remaining _ _ c.args.request.now.script.now _ _ c.in-Ok-open.file c.new-reader.result.inner
-    c.new-reader.result.failed c.new-reader.result.reads _ c.new-reader.ensures.inner c.new-reader.ensures.failed c.new-reader.ensures.reads refl c.show_told-in-Ok-open.ensures.over))
+    c.new-reader.result.failed c.new-reader.result.reads _ c.new-reader.ensures.inner c.new-reader.ensures.failed c.new-reader.ensures.reads refl
+    c.show_told-in-Ok-open.ensures.over))
 
 pub returns-in-Err-open-clause-ends : goal.returns-in-Err-open-clause-ends
 returns-in-Err-open-clause-ends g c =

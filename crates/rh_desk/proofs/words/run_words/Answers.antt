@@ -7,6 +7,7 @@ use Rattle.rh_desk.proofs.words.run_words.Goals as goal
 
 pub returns-in-Some-Check-clause-ends : goal.returns-in-Some-Check-clause-ends
 returns-in-Some-Check-clause-ends g c =
-    words-ask g.R.File.Read.remaining (map string_bytes c.args.words.now) (subcommand_rows_of c.in-Ok.matches) (Check c.in-Some-Check.kind c.in-Some-Check.file) _ _ c.in-Ok.ensures.found c.in-Ok.ensures.fails
+    words-ask g.R.File.Read.remaining (map string_bytes c.args.words.now) (subcommand_rows_of c.in-Ok.matches)
+    (Check c.in-Some-Check.kind c.in-Some-Check.file) _ _ c.in-Ok.ensures.found c.in-Ok.ensures.fails
     (subst (AsksFor (subcommand_rows_of c.in-Ok.matches)) c.in-Some-Check.field-0-is c.in-Some-Check.ensures.asked)
     (refl, c.check_file.ensures.ends (g.I.Source.input c.args.input.now))

@@ -45,11 +45,13 @@ returns-in_err-print_fixed g c =
     let d = g.S.Sight.desk c.args.sight.now in
     let x = scene_at d c.args.step.now in
     let low : c.loop-number.number < length d.areas = omega (arith, c.spelled.ensures.areas.six) in
-    left_breaks _ _ c.loop-number.invariant (panels-next (fixed_panel x) c.loop-number.number d.areas (map (made_panel x) d.made) low) c.in_err-print_fixed.ensures c.from_residual.ensures.0
+    left_breaks _ _ c.loop-number.invariant (panels-next (fixed_panel x) c.loop-number.number d.areas (map (made_panel x) d.made) low)
+    c.in_err-print_fixed.ensures c.from_residual.ensures.0
 
 pub returns : goal.returns
 returns g c =
     let d = g.S.Sight.desk c.args.sight.now in
     let x = scene_at d c.args.step.now in
     let past : length d.areas ≤ c.loop-number.number = omega (arith, c.spelled.ensures.areas.six) in
-    left_last _ c.loop-number.invariant (puts_same (sym (panels-end (fixed_panel x) c.loop-number.number d.areas (map (made_panel x) d.made) past)) c.print_made.ensures)
+    left_last _ c.loop-number.invariant (puts_same (sym (panels-end (fixed_panel x) c.loop-number.number d.areas (map (made_panel x) d.made) past))
+    c.print_made.ensures)

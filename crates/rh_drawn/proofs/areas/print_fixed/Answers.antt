@@ -17,12 +17,15 @@ use Rattle.rh_drawn.proofs.areas.print_fixed.Goals as goal
 
 -- the line of an area that has pages, and isn't the module area
 fixed-line : (x : Scene) (number n : ℕ) → (number == 1) ≡ false → (n == 0) ≡ false
-    → panel_part (fixed_panel x (number, n)) ≡ heading_line (area_name number) (fixed_note n (numbers_text x (AreaOf number, n)) (if number == 5 then scrap_text x.desk.scrap else [])) ∷ []
+    → panel_part (fixed_panel x (number, n)) ≡ heading_line (area_name number)
+    (fixed_note n (numbers_text x (AreaOf number, n)) (if number == 5 then scrap_text x.desk.scrap else [])) ∷ []
 fixed-line x number n other some =
-    ap₂ (λ p q. panel_part (if p || q then [] else area_panel number (fixed_note n (numbers_text x (AreaOf number, n)) (if number == 5 then scrap_text x.desk.scrap else [])) ∷ [])) other some
+    ap₂ (λ p q. panel_part (if p || q then [] else area_panel number (fixed_note n (numbers_text x (AreaOf number, n))
+    (if number == 5 then scrap_text x.desk.scrap else [])) ∷ [])) other some
 
 fixed-text : (number n m : ℕ) (found kept : List ℕ) (told scrap : Text) → length found ≡ n → m ≡ n → found ≡ kept → told ≡ scrap
-    → heading_line (area_name number) (fixed_note (length found) (listed_pages (length found) found) told) ≡ heading_line (area_name number) (fixed_note m (listed_pages m kept) scrap)
+    → heading_line (area_name number) (fixed_note (length found) (listed_pages (length found) found) told) ≡ heading_line (area_name number)
+    (fixed_note m (listed_pages m kept) scrap)
 fixed-text number n m found kept told scrap long same is e =
     ap (λ z. heading_line (area_name number) (fixed_note (length found) (listed_pages (length found) found) z)) e
     ∙ (ap (λ z. heading_line (area_name number) (fixed_note z (listed_pages z found) scrap)) (long ∙ sym same)
@@ -31,8 +34,10 @@ fixed-text number n m found kept told scrap long same is e =
 pub print_fixed_area-requires-clause-few : goal.print_fixed_area-requires-clause-few
 print_fixed_area-requires-clause-few g c =
     let seen = seen-fixed c.spelled.ensures c.args.number c.requires.number in
-    let is = owned c.spelled.ensures c.args.step.now.pages.now c.requires.step.shared (pages.Fixed c.args.number) (AreaOf c.args.number) c.pages_of-pages.result.now seen c.pages_of-pages.ensures in
-    let few = owned-few c.spelled.ensures c.args.step.now.pages.now c.requires.step.shared (pages.Fixed c.args.number) (AreaOf c.args.number) seen c.requires.step.all in
+    let is = owned c.spelled.ensures c.args.step.now.pages.now c.requires.step.shared (pages.Fixed c.args.number) (AreaOf c.args.number)
+    c.pages_of-pages.result.now seen c.pages_of-pages.ensures in
+    let few = owned-few c.spelled.ensures c.args.step.now.pages.now c.requires.step.shared (pages.Fixed c.args.number) (AreaOf c.args.number) seen
+    c.requires.step.all in
     omega (arith, ap length is)
 
 pub returns : goal.returns
@@ -40,11 +45,14 @@ returns g c =
     let d = g.S.Sight.desk c.args.sight.now in
     let x = scene_at d c.args.step.now in
     let seen = seen-fixed c.spelled.ensures c.args.number c.requires.number in
-    let is = owned c.spelled.ensures c.args.step.now.pages.now c.requires.step.shared (pages.Fixed c.args.number) (AreaOf c.args.number) c.pages_of-pages.result.now seen c.pages_of-pages.ensures in
-    let long = owned-fixed c.spelled.ensures c.args.step.now.pages.now c.requires.step.shared c.args.number c.fixed_pages.result c.requires.number c.fixed_pages.ensures in
+    let is = owned c.spelled.ensures c.args.step.now.pages.now c.requires.step.shared (pages.Fixed c.args.number) (AreaOf c.args.number)
+    c.pages_of-pages.result.now seen c.pages_of-pages.ensures in
+    let long = owned-fixed c.spelled.ensures c.args.step.now.pages.now c.requires.step.shared c.args.number c.fixed_pages.result c.requires.number
+    c.fixed_pages.ensures in
     let other : (c.args.number == 1) ≡ false = ne_eqb _ _ c.if-number-eq-MODULE_AREA.false in
     let count : c.fixed_pages.result ≡ slice_index d.areas c.args.number =
     c.fixed_pages.ensures ∙ ap (λ b. if b then module_pages d else slice_index d.areas c.args.number) other in
     let some : (slice_index d.areas c.args.number == 0) ≡ false = ap (λ n. n == 0) (sym count) ∙ ne_eqb _ _ c.if-fixed_pages-eq0.false in
     puts_same (ap shown_lines (sym (fixed-line x c.args.number (slice_index d.areas c.args.number) other some)))
-    (puts_line (fixed-text c.args.number c.fixed_pages.result (slice_index d.areas c.args.number) c.pages_of-pages.result.now _ _ _ (ap length is ∙ long) (sym count) is c.scrap_in.ensures) c.print_fixed_area.ensures)
+    (puts_line (fixed-text c.args.number c.fixed_pages.result (slice_index d.areas c.args.number) c.pages_of-pages.result.now _ _ _ (ap length is ∙ long)
+    (sym count) is c.scrap_in.ensures) c.print_fixed_area.ensures)

@@ -14,7 +14,8 @@ use Rattle.rh_drawn.proofs.Walks.{puts_line, walk-none, walk-some}
 use Rattle.rh_drawn.proofs.areas.print_made.Goals as goal
 
 made-text : (number most n : ℕ) (found kept : List ℕ) → length found ≡ n → found ≡ kept
-    → heading_line (area_name number) (made_note (length found) most (listed_pages (length found) found)) ≡ heading_line (area_name number) (made_note n most (listed_pages n kept))
+    → heading_line (area_name number) (made_note (length found) most (listed_pages (length found) found)) ≡ heading_line (area_name number)
+    (made_note n most (listed_pages n kept))
 made-text number most n found kept long is =
     ap (λ z. heading_line (area_name number) (made_note z most (listed_pages z found))) long
     ∙ ap (λ z. heading_line (area_name number) (made_note n most (listed_pages n z))) is
@@ -25,8 +26,10 @@ print_made_area-requires-clause-number g c = made-above c.spelled.ensures c.area
 pub print_made_area-requires-clause-few : goal.print_made_area-requires-clause-few
 print_made_area-requires-clause-few g c =
     let seen = seen-made c.spelled.ensures c.areas.i _ c.in-Some.ensures.some in
-    let is = owned c.spelled.ensures c.args.step.now.pages.now c.requires.shared (pages.Made c.areas.i) (AreaOf c.in-Some.area.number) c.pages_of-pages.result.now seen c.pages_of-pages.ensures in
-    let few = owned-few c.spelled.ensures c.args.step.now.pages.now c.requires.shared (pages.Made c.areas.i) (AreaOf c.in-Some.area.number) seen c.requires.all in
+    let is = owned c.spelled.ensures c.args.step.now.pages.now c.requires.shared (pages.Made c.areas.i) (AreaOf c.in-Some.area.number)
+    c.pages_of-pages.result.now seen c.pages_of-pages.ensures in
+    let few = owned-few c.spelled.ensures c.args.step.now.pages.now c.requires.shared (pages.Made c.areas.i) (AreaOf c.in-Some.area.number) seen
+    c.requires.all in
     omega (arith, ap length is)
 
 pub overflow_add-i : goal.overflow_add-i
@@ -35,7 +38,8 @@ overflow_add-i g c =
 
 pub areas-smaller : goal.areas-smaller
 areas-smaller g c =
-    let inside : c.areas.i < length (g.S.Sight.desk c.args.sight.now).made = slice_get_within (g.S.Sight.desk c.args.sight.now).made c.areas.i _ c.in-Some.ensures.some in
+    let inside : c.areas.i < length (g.S.Sight.desk c.args.sight.now).made =
+    slice_get_within (g.S.Sight.desk c.args.sight.now).made c.areas.i _ c.in-Some.ensures.some in
     omega arith
 
 pub areas-preserved : goal.areas-preserved
@@ -43,23 +47,33 @@ areas-preserved g c =
     let d = g.S.Sight.desk c.args.sight.now in
     let x = scene_at d c.args.step.now in
     let seen = seen-made c.spelled.ensures c.areas.i _ c.in-Some.ensures.some in
-    let is = owned c.spelled.ensures c.args.step.now.pages.now c.requires.shared (pages.Made c.areas.i) (AreaOf c.in-Some.area.number) c.pages_of-pages.result.now seen c.pages_of-pages.ensures in
+    let is = owned c.spelled.ensures c.args.step.now.pages.now c.requires.shared (pages.Made c.areas.i) (AreaOf c.in-Some.area.number)
+    c.pages_of-pages.result.now seen c.pages_of-pages.ensures in
     let long = owned-made c.spelled.ensures c.args.step.now.pages.now c.requires.shared c.areas.i _ c.in-Some.ensures.some in
-    left_less c.areas.invariant (walk-some (λ (ms : List Made). panel_part (map (made_panel x) ms)) (λ (m : Made). panel_part (made_panel x m ∷ [])) (λ m rest. refl) d.made c.areas.i _ c.in-Some.ensures.some)
-    (puts_line (made-text c.in-Some.area.number c.in-Some.area.most c.in-Some.area.pages c.pages_of-pages.result.now _ (ap length is ∙ long) is) c.in_ok-print_made_area.ensures).ok
+    left_less c.areas.invariant (walk-some (λ (ms : List Made). panel_part (map (made_panel x) ms)) (λ (m : Made). panel_part (made_panel x m ∷ []))
+    (λ m rest. refl) d.made c.areas.i _ c.in-Some.ensures.some)
+    (puts_line (made-text c.in-Some.area.number c.in-Some.area.most c.in-Some.area.pages c.pages_of-pages.result.now _ (ap length is ∙ long) is)
+    c.in_ok-print_made_area.ensures).ok
 
 pub returns-in_err-print_made_area : goal.returns-in_err-print_made_area
 returns-in_err-print_made_area g c =
     let d = g.S.Sight.desk c.args.sight.now in
     let x = scene_at d c.args.step.now in
     let seen = seen-made c.spelled.ensures c.areas.i _ c.in-Some.ensures.some in
-    let is = owned c.spelled.ensures c.args.step.now.pages.now c.requires.shared (pages.Made c.areas.i) (AreaOf c.in-Some.area.number) c.pages_of-pages.result.now seen c.pages_of-pages.ensures in
+    let is = owned c.spelled.ensures c.args.step.now.pages.now c.requires.shared (pages.Made c.areas.i) (AreaOf c.in-Some.area.number)
+    c.pages_of-pages.result.now seen c.pages_of-pages.ensures in
     let long = owned-made c.spelled.ensures c.args.step.now.pages.now c.requires.shared c.areas.i _ c.in-Some.ensures.some in
-    left_breaks _ _ c.areas.invariant (walk-some (λ (ms : List Made). panel_part (map (made_panel x) ms)) (λ (m : Made). panel_part (made_panel x m ∷ [])) (λ m rest. refl) d.made c.areas.i _ c.in-Some.ensures.some)
-    (puts_line (made-text c.in-Some.area.number c.in-Some.area.most c.in-Some.area.pages c.pages_of-pages.result.now _ (ap length is ∙ long) is) c.in_err-print_made_area.ensures) c.from_residual.ensures.0
+    left_breaks _ _ c.areas.invariant (walk-some (λ (ms : List Made). panel_part (map (made_panel x) ms)) (λ (m : Made). panel_part (made_panel x m ∷ []))
+    (λ m rest. refl) d.made c.areas.i _ c.in-Some.ensures.some)
+    (puts_line (made-text c.in-Some.area.number c.in-Some.area.most c.in-Some.area.pages c.pages_of-pages.result.now _ (ap length is ∙ long) is)
+    c.in_err-print_made_area.ensures) c.from_residual.ensures.0
 
 pub returns : goal.returns
 returns g c =
     let d = g.S.Sight.desk c.args.sight.now in
     let x = scene_at d c.args.step.now in
-    record { ok = left_none c.areas.invariant (walk-none (λ (ms : List Made). panel_part (map (made_panel x) ms)) refl d.made c.areas.i c.in_default.ensures.none); err = tt }
+    record {
+      ok = left_none c.areas.invariant (walk-none (λ (ms : List Made). panel_part (map (made_panel x) ms)) refl d.made c.areas.i
+          c.in_default.ensures.none);
+      err = tt;
+    }

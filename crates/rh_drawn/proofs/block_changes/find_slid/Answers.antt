@@ -1,4 +1,5 @@
-use Rattle.std.proofs.Common.{◌≡◌, ℕ, ◌<◌, ◌≤◌, ◌++◌, Bool, true, false, List, [], ◌∷◌, Option, Some, None, length, take, get_or, ap, sym, subst, refl, ◌∙◌, arith, append-nil}
+use Rattle.std.proofs.Common.{◌≡◌, ℕ, ◌<◌, ◌≤◌, ◌++◌, Bool, true, false, List, [], ◌∷◌, Option, Some, None, length, take, get_or, ap, sym, subst, refl, ◌∙◌}
+use Rattle.std.proofs.Common.{arith, append-nil}
 use Rattle.std.specs.Prelude.{IfSome, ◌==◌}
 use Rattle.std.specs.List.{flat_map}
 use Rattle.std.proofs.lemmas.Grind.{flat_map-append}
@@ -33,7 +34,8 @@ with_block-found-requires c =
     let before = c.args.kept.now.blocks in
     let i = c.loop-block.block-index in
     let bs = c.args.blocks.now in
-    let few : length (flat_map (of before) (take i bs)) < anchor_count = omega (arith, c.requires, c.loop-block-test.true, few-slides before (take i bs), length-take i bs) in
+    let few : length (flat_map (of before) (take i bs)) < anchor_count =
+    omega (arith, c.requires, c.loop-block-test.true, few-slides before (take i bs), length-take i bs) in
     subst (λ o. IfSome o (λ slid. slid.count < anchor_count)) (sym c.loop-block.invariant) (count-few anchor_count (flat_map (of before) (take i bs)) few)
 
 pub loop-block-preserved : goal.loop-block-preserved

@@ -24,12 +24,14 @@ slid before now = indented (slide_change (flat_map (λ (b : BlockItem). slide_of
 
 -- the parts of what has changed of a task's blocks
 block-parts : (x : Scene) (t : Task) → task_at x.before.handle x.desk ≡ Some t
-    → block_part x (task_at x.before.handle x.desk) ++ slide_part x ≡ gone x.before.blocks (block_items t.slot) ++ (changed x.before.blocks (block_items t.slot) ++ slid x.before.blocks (block_items t.slot))
+    → block_part x (task_at x.before.handle x.desk) ++ slide_part x ≡ gone x.before.blocks (block_items t.slot) ++
+    (changed x.before.blocks (block_items t.slot) ++ slid x.before.blocks (block_items t.slot))
 block-parts x t e =
     let now = block_items t.slot in
     let before = x.before.blocks in
     ap (λ o. indented (block_changes x o) ++ indented (slide_change (flat_map (λ (b : BlockItem). slide_of b (item_of b.anchor before)) (blocks_now o)))) e
-    ∙ (ap (λ z. z ++ slid before now) (indented-append (map (λ (b : BlockItem). gone_line b.anchor) (filter (λ (b : BlockItem). not (has_anchor b.anchor now)) before)) (flat_map (λ (b : BlockItem). block_change b (item_of b.anchor before)) now))
+    ∙ (ap (λ z. z ++ slid before now) (indented-append (map (λ (b : BlockItem). gone_line b.anchor)
+    (filter (λ (b : BlockItem). not (has_anchor b.anchor now)) before)) (flat_map (λ (b : BlockItem). block_change b (item_of b.anchor before)) now))
     ∙ append_assoc (gone before now) (changed before now) (slid before now))
 
 pub returns-in_err-print_gone : goal.returns-in_err-print_gone
@@ -40,7 +42,9 @@ returns-in_err-print_gone g c =
     let now = block_items r.0.slot in
     let before = x.before.blocks in
     puts_same (ap shown_lines (sym (block-parts x r.0 at)))
-    (lines_stop _ (gone before now) (changed before now ++ slid before now) (puts_same (ap₂ (λ b n. shown_lines (gone b n)) c.blocks-3.ensures (c.deref.ensures.0 ∙ c.blocks-2.ensures r.0 r.1)) c.in_err-print_gone.ensures) c.from_residual.ensures.0)
+    (lines_stop _ (gone before now) (changed before now ++ slid before now)
+    (puts_same (ap₂ (λ b n. shown_lines (gone b n)) c.blocks-3.ensures (c.deref.ensures.0 ∙ c.blocks-2.ensures r.0 r.1)) c.in_err-print_gone.ensures)
+    c.from_residual.ensures.0)
 
 pub returns-in_err-print_now : goal.returns-in_err-print_now
 returns-in_err-print_now g c =
@@ -50,7 +54,10 @@ returns-in_err-print_now g c =
     let now = block_items r.0.slot in
     let before = x.before.blocks in
     puts_same (ap shown_lines (sym (block-parts x r.0 at)))
-    (lines_then (gone before now) (changed before now ++ slid before now) (puts_same (ap₂ (λ b n. shown_lines (gone b n)) c.blocks-3.ensures (c.deref.ensures.0 ∙ c.blocks-2.ensures r.0 r.1)) c.in_ok-print_gone.ensures) (lines_stop _ (changed before now) (slid before now) (puts_same (ap (λ n. shown_lines (changed before n)) (c.deref-2.ensures.0 ∙ c.blocks-2.ensures r.0 r.1)) c.in_err-print_now.ensures) c.from_residual-in_err-print_now.ensures.0))
+    (lines_then (gone before now) (changed before now ++ slid before now)
+    (puts_same (ap₂ (λ b n. shown_lines (gone b n)) c.blocks-3.ensures (c.deref.ensures.0 ∙ c.blocks-2.ensures r.0 r.1)) c.in_ok-print_gone.ensures)
+    (lines_stop _ (changed before now) (slid before now) (puts_same (ap (λ n. shown_lines (changed before n))
+    (c.deref-2.ensures.0 ∙ c.blocks-2.ensures r.0 r.1)) c.in_err-print_now.ensures) c.from_residual-in_err-print_now.ensures.0))
 
 pub returns : goal.returns
 returns g c =
@@ -60,4 +67,8 @@ returns g c =
     let now = block_items r.0.slot in
     let before = x.before.blocks in
     puts_same (ap shown_lines (sym (block-parts x r.0 at)))
-    (lines_then (gone before now) (changed before now ++ slid before now) (puts_same (ap₂ (λ b n. shown_lines (gone b n)) c.blocks-3.ensures (c.deref.ensures.0 ∙ c.blocks-2.ensures r.0 r.1)) c.in_ok-print_gone.ensures) (lines_then (changed before now) (slid before now) (puts_same (ap (λ n. shown_lines (changed before n)) (c.deref-2.ensures.0 ∙ c.blocks-2.ensures r.0 r.1)) c.in_ok-print_now.ensures) (puts_same (ap (λ n. shown_lines (slid before n)) (c.deref-3.ensures.0 ∙ c.blocks-2.ensures r.0 r.1)) c.print_slides.ensures)))
+    (lines_then (gone before now) (changed before now ++ slid before now)
+    (puts_same (ap₂ (λ b n. shown_lines (gone b n)) c.blocks-3.ensures (c.deref.ensures.0 ∙ c.blocks-2.ensures r.0 r.1)) c.in_ok-print_gone.ensures)
+    (lines_then (changed before now) (slid before now) (puts_same (ap (λ n. shown_lines (changed before n))
+    (c.deref-2.ensures.0 ∙ c.blocks-2.ensures r.0 r.1)) c.in_ok-print_now.ensures) (puts_same (ap (λ n. shown_lines (slid before n))
+    (c.deref-3.ensures.0 ∙ c.blocks-2.ensures r.0 r.1)) c.print_slides.ensures)))

@@ -24,12 +24,19 @@ each now b rest = go (has_anchor b.anchor now) refl
 pub loop-block-preserved : goal.loop-block-preserved
 loop-block-preserved g c =
     let now = c.args.now.now in
-    left_less c.loop-block.invariant (walk-at (lines_of now) (line_of now) (each now) c.args.before.now c.loop-block.block-index c.block-item.result c.loop-block-test.true c.block-item.is) c.in_ok-print_if_gone.ensures.ok
+    left_less c.loop-block.invariant (walk-at (lines_of now) (line_of now) (each now) c.args.before.now c.loop-block.block-index c.block-item.result
+    c.loop-block-test.true c.block-item.is) c.in_ok-print_if_gone.ensures.ok
 
 pub returns-in_err-print_if_gone : goal.returns-in_err-print_if_gone
 returns-in_err-print_if_gone g c =
     let now = c.args.now.now in
-    left_breaks _ _ c.loop-block.invariant (walk-at (lines_of now) (line_of now) (each now) c.args.before.now c.loop-block.block-index c.block-item.result c.loop-block-test.true c.block-item.is) c.in_err-print_if_gone.ensures c.from_residual.ensures.0
+    left_breaks _ _ c.loop-block.invariant (walk-at (lines_of now) (line_of now) (each now) c.args.before.now c.loop-block.block-index c.block-item.result
+    c.loop-block-test.true c.block-item.is) c.in_err-print_if_gone.ensures c.from_residual.ensures.0
 
 pub returns : goal.returns
-returns g c = record { ok = left_none c.loop-block.invariant (walk-end (lines_of c.args.now.now) refl c.args.before.now c.loop-block.block-index c.loop-block-test.false); err = tt }
+returns g c =
+    record {
+      ok = left_none c.loop-block.invariant (walk-end (lines_of c.args.now.now) refl c.args.before.now c.loop-block.block-index
+          c.loop-block-test.false);
+      err = tt;
+    }

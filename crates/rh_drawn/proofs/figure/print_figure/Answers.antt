@@ -17,7 +17,8 @@ returns-in_err-put_line g c =
     let x = scene_at (g.S.Sight.desk c.args.sight.now) c.args.step.now in
     puts_same (ap shown_lines (sym (figure-parts x)))
     (lines_then (change_part x) (behind_changes x) c.in_ok-print_changes.ensures
-    (lines_stop _ ([] ∷ []) (pool_part x ++ (area_part x ++ behind_areas x)) (puts_line {x = []} refl c.in_err-put_line.ensures) c.from_residual-in_err-put_line.ensures.0))
+    (lines_stop _ ([] ∷ []) (pool_part x ++ (area_part x ++ behind_areas x)) (puts_line {x = []} refl c.in_err-put_line.ensures)
+    c.from_residual-in_err-put_line.ensures.0))
 
 pub returns-in_err-print_pool_part : goal.returns-in_err-print_pool_part
 returns-in_err-print_pool_part g c =
@@ -80,7 +81,8 @@ returns-in_err-print_transfer_part g c =
     (lines_then (slot_part x) (module_part x ++ behind_module x) c.in_ok-print_slot_part.ensures
     (lines_then (module_part x) (behind_module x) c.in_ok-print_module_part.ensures
     (lines_then (letter_part x) (transfer_part x ++ [] ∷ []) c.in_ok-print_letter_part.ensures
-    (lines_stop _ (transfer_part x) ([] ∷ []) (c.in_err-print_transfer_part.ensures x.share x.before x.marks) c.from_residual-in_err-print_transfer_part.ensures.0))))))))
+    (lines_stop _ (transfer_part x) ([] ∷ []) (c.in_err-print_transfer_part.ensures x.share x.before x.marks)
+    c.from_residual-in_err-print_transfer_part.ensures.0))))))))
 
 pub returns : goal.returns
 returns g c =

@@ -24,7 +24,8 @@ offset_bounds-blocks-k g c =
     let seen = seen-same (IsTaskSeen c.args.task.now) d.tasks c.args.i r.0 r.0 r.1 r.1 r.2 in
     let cs = flex_cards x r.0 in
     let long : length cs ≡ length c.args.blocks.now = flex-long x r.0 (flex_start r.0.slot) r.0.slot.blocks ∙ ap length (sym are) in
-    let found = ap₂ (λ h bs. place_behind (λ (b : BlockItem). is_fresh_flex x h b.anchor b.size) 22 bs) (sym seen.handle) (sym are) ∙ (sym (c.next_fresh.ensures d) ∙ c.in-Some.is) in
+    let found = ap₂ (λ h bs. place_behind (λ (b : BlockItem). is_fresh_flex x h b.anchor b.size) 22 bs) (sym seen.handle) (sym are)
+    ∙ (sym (c.next_fresh.ensures d) ∙ c.in-Some.is) in
     let k = c.in-Some.k in
     let p = flex-picked x r.0 k found in
     let low : k < length c.args.blocks.now = omega (arith, p.low, long) in
@@ -39,7 +40,8 @@ bounds-blocks-k g c =
     let seen = seen-same (IsTaskSeen c.args.task.now) d.tasks c.args.i r.0 r.0 r.1 r.1 r.2 in
     let cs = flex_cards x r.0 in
     let long : length cs ≡ length c.args.blocks.now = flex-long x r.0 (flex_start r.0.slot) r.0.slot.blocks ∙ ap length (sym are) in
-    let found = ap₂ (λ h bs. place_behind (λ (b : BlockItem). is_fresh_flex x h b.anchor b.size) 22 bs) (sym seen.handle) (sym are) ∙ (sym (c.next_fresh.ensures d) ∙ c.in-Some.is) in
+    let found = ap₂ (λ h bs. place_behind (λ (b : BlockItem). is_fresh_flex x h b.anchor b.size) 22 bs) (sym seen.handle) (sym are)
+    ∙ (sym (c.next_fresh.ensures d) ∙ c.in-Some.is) in
     let k = c.in-Some.k in
     let p = flex-picked x r.0 k found in
     let low : k < length c.args.blocks.now = omega (arith, p.low, long) in
@@ -54,11 +56,17 @@ print_flex-requires g c =
     let seen = seen-same (IsTaskSeen c.args.task.now) d.tasks c.args.i r.0 r.0 r.1 r.1 r.2 in
     let cs = flex_cards x r.0 in
     let long : length cs ≡ length c.args.blocks.now = flex-long x r.0 (flex_start r.0.slot) r.0.slot.blocks ∙ ap length (sym are) in
-    let found = ap₂ (λ h bs. place_behind (λ (b : BlockItem). is_fresh_flex x h b.anchor b.size) 22 bs) (sym seen.handle) (sym are) ∙ (sym (c.next_fresh.ensures d) ∙ c.in-Some.is) in
+    let found = ap₂ (λ h bs. place_behind (λ (b : BlockItem). is_fresh_flex x h b.anchor b.size) 22 bs) (sym seen.handle) (sym are)
+    ∙ (sym (c.next_fresh.ensures d) ∙ c.in-Some.is) in
     let k = c.in-Some.k in
     let p = flex-picked x r.0 k found in
-    let low : k < length c.args.blocks.now = omega (arith, p.low, long) in
-    (r.0, k, r.1, r.2, ap (λ bs. slice_get bs k) (sym are) ∙ (slice_get-get_or c.args.blocks.now k c.index-blocks-k.result low ∙ ap (λ z. Some z) (sym c.index-blocks-k.is)))
+    let low : k < length c.args.blocks.now = omega (arith, p.low, long) in (
+      r.0,
+      k,
+      r.1,
+      r.2,
+      ap (λ bs. slice_get bs k) (sym are) ∙ (slice_get-get_or c.args.blocks.now k c.index-blocks-k.result low ∙ ap (λ z. Some z) (sym c.index-blocks-k.is)),
+    )
 
 pub returns-in_err-print_flex-in-Some : goal.returns-in_err-print_flex-in-Some
 returns-in_err-print_flex-in-Some g c = λ t e.
@@ -69,11 +77,13 @@ returns-in_err-print_flex-in-Some g c = λ t e.
     let seen = seen-same (IsTaskSeen c.args.task.now) d.tasks c.args.i r.0 t r.1 e r.2 in
     let cs = flex_cards x t in
     let long : length cs ≡ length c.args.blocks.now = flex-long x t (flex_start t.slot) t.slot.blocks ∙ ap length (sym are) in
-    let found = ap₂ (λ h bs. place_behind (λ (b : BlockItem). is_fresh_flex x h b.anchor b.size) 22 bs) (sym seen.handle) (sym are) ∙ (sym (c.next_fresh.ensures d) ∙ c.in-Some.is) in
+    let found = ap₂ (λ h bs. place_behind (λ (b : BlockItem). is_fresh_flex x h b.anchor b.size) 22 bs) (sym seen.handle) (sym are)
+    ∙ (sym (c.next_fresh.ensures d) ∙ c.in-Some.is) in
     let k = c.in-Some.k in
     let p = flex-picked x t k found in
     let low : k < length c.args.blocks.now = omega (arith, p.low, long) in
-    let listed = ap (λ bs. slice_get bs k) (sym are) ∙ (slice_get-get_or c.args.blocks.now k c.index-blocks-k.result low ∙ ap (λ z. Some z) (sym c.index-blocks-k.is)) in
+    let listed = ap (λ bs. slice_get bs k) (sym are)
+    ∙ (slice_get-get_or c.args.blocks.now k c.index-blocks-k.result low ∙ ap (λ z. Some z) (sym c.index-blocks-k.is)) in
     let more = more_card (length cs - 22 - 1) ∷ [] in
     puts_same (ap (λ z. shown_lines (card_lines z)) (sym (behind-are cs (p.card ∷ []) p.first)))
     (lines_stop _ (card_lines (p.card ∷ [])) (card_lines more) (c.in_err-print_flex-in-Some.ensures t k p.card e listed p.at) c.from_residual.ensures.0)
@@ -87,11 +97,13 @@ returns-in_ok-print_flex-in-Some g c = λ t e.
     let seen = seen-same (IsTaskSeen c.args.task.now) d.tasks c.args.i r.0 t r.1 e r.2 in
     let cs = flex_cards x t in
     let long : length cs ≡ length c.args.blocks.now = flex-long x t (flex_start t.slot) t.slot.blocks ∙ ap length (sym are) in
-    let found = ap₂ (λ h bs. place_behind (λ (b : BlockItem). is_fresh_flex x h b.anchor b.size) 22 bs) (sym seen.handle) (sym are) ∙ (sym (c.next_fresh.ensures d) ∙ c.in-Some.is) in
+    let found = ap₂ (λ h bs. place_behind (λ (b : BlockItem). is_fresh_flex x h b.anchor b.size) 22 bs) (sym seen.handle) (sym are)
+    ∙ (sym (c.next_fresh.ensures d) ∙ c.in-Some.is) in
     let k = c.in-Some.k in
     let p = flex-picked x t k found in
     let low : k < length c.args.blocks.now = omega (arith, p.low, long) in
-    let listed = ap (λ bs. slice_get bs k) (sym are) ∙ (slice_get-get_or c.args.blocks.now k c.index-blocks-k.result low ∙ ap (λ z. Some z) (sym c.index-blocks-k.is)) in
+    let listed = ap (λ bs. slice_get bs k) (sym are)
+    ∙ (slice_get-get_or c.args.blocks.now k c.index-blocks-k.result low ∙ ap (λ z. Some z) (sym c.index-blocks-k.is)) in
     let more = more_card (length cs - 22 - 1) ∷ [] in
     puts_same (ap (λ z. shown_lines (card_lines z)) (sym (behind-are cs (p.card ∷ []) p.first)))
     (lines_then (card_lines (p.card ∷ [])) (card_lines more) (c.in_ok-print_flex-in-Some.ensures t k p.card e listed p.at)
@@ -106,7 +118,9 @@ returns-in-None g c = λ t e.
     let seen = seen-same (IsTaskSeen c.args.task.now) d.tasks c.args.i r.0 t r.1 e r.2 in
     let cs = flex_cards x t in
     let long : length cs ≡ length c.args.blocks.now = flex-long x t (flex_start t.slot) t.slot.blocks ∙ ap length (sym are) in
-    let found = ap₂ (λ h bs. place_behind (λ (b : BlockItem). is_fresh_flex x h b.anchor b.size) 22 bs) (sym seen.handle) (sym are) ∙ (sym (c.next_fresh.ensures d) ∙ c.in-None.is) in
+    let found = ap₂ (λ h bs. place_behind (λ (b : BlockItem). is_fresh_flex x h b.anchor b.size) 22 bs) (sym seen.handle) (sym are)
+    ∙ (sym (c.next_fresh.ensures d) ∙ c.in-None.is) in
     let none = flex-unpicked x t found in
     let all : length cs - 22 ≡ length cs - 22 - 0 = omega arith in
-    puts_same (ap (λ z. shown_lines (card_lines z)) (ap (λ m. more_card (m - 22) ∷ []) (sym long) ∙ (ap (λ m. more_card m ∷ []) all ∙ sym (behind-are cs [] none)))) c.print_others-in-None.ensures
+    puts_same (ap (λ z. shown_lines (card_lines z)) (ap (λ m. more_card (m - 22) ∷ []) (sym long)
+    ∙ (ap (λ m. more_card m ∷ []) all ∙ sym (behind-are cs [] none)))) c.print_others-in-None.ensures

@@ -27,7 +27,10 @@ loop-k-preserved g c = λ t e.
     let low : k < length cs = omega (arith, flex-long x t (flex_start t.slot) t.slot.blocks, ap length are, c.requires.few, c.loop-k-test.true) in
     let q = card-at k cs low in
     let at : slice_get (take c.args.shown cs) k ≡ Some q.card = get-front c.args.shown k cs c.loop-k-test.true ∙ q.is in
-    left_less (c.loop-k.invariant t e) (walk-some card_lines (λ (z : Card). card_lines (z ∷ [])) (λ z rest. refl) (take c.args.shown cs) k q.card at) (c.in_ok-print_flex.ensures t k q.card e (ap (λ bs. slice_get bs k) (sym are) ∙ (slice_get-get_or c.args.blocks.now k c.index-blocks-k.result (omega (arith, c.requires.few, c.loop-k-test.true)) ∙ ap (λ z. Some z) (sym c.index-blocks-k.is))) q.is).ok
+    left_less (c.loop-k.invariant t e) (walk-some card_lines (λ (z : Card). card_lines (z ∷ [])) (λ z rest. refl) (take c.args.shown cs) k q.card at)
+    (c.in_ok-print_flex.ensures t k q.card e (ap (λ bs. slice_get bs k) (sym are)
+    ∙ (slice_get-get_or c.args.blocks.now k c.index-blocks-k.result (omega (arith, c.requires.few, c.loop-k-test.true))
+    ∙ ap (λ z. Some z) (sym c.index-blocks-k.is))) q.is).ok
 
 pub returns-in_err-print_flex : goal.returns-in_err-print_flex
 returns-in_err-print_flex g c = λ t e.
@@ -40,9 +43,19 @@ returns-in_err-print_flex g c = λ t e.
     let low : k < length cs = omega (arith, flex-long x t (flex_start t.slot) t.slot.blocks, ap length are, c.requires.few, c.loop-k-test.true) in
     let q = card-at k cs low in
     let at : slice_get (take c.args.shown cs) k ≡ Some q.card = get-front c.args.shown k cs c.loop-k-test.true ∙ q.is in
-    left_breaks _ _ (c.loop-k.invariant t e) (walk-some card_lines (λ (z : Card). card_lines (z ∷ [])) (λ z rest. refl) (take c.args.shown cs) k q.card at) (c.in_err-print_flex.ensures t k q.card e (ap (λ bs. slice_get bs k) (sym are) ∙ (slice_get-get_or c.args.blocks.now k c.index-blocks-k.result (omega (arith, c.requires.few, c.loop-k-test.true)) ∙ ap (λ z. Some z) (sym c.index-blocks-k.is))) q.is) c.from_residual.ensures.0
+    left_breaks _ _ (c.loop-k.invariant t e) (walk-some card_lines (λ (z : Card). card_lines (z ∷ [])) (λ z rest. refl) (take c.args.shown cs) k q.card at)
+    (c.in_err-print_flex.ensures t k q.card e (ap (λ bs. slice_get bs k) (sym are)
+    ∙ (slice_get-get_or c.args.blocks.now k c.index-blocks-k.result (omega (arith, c.requires.few, c.loop-k-test.true))
+    ∙ ap (λ z. Some z) (sym c.index-blocks-k.is))) q.is) c.from_residual.ensures.0
 
 pub returns : goal.returns
 returns g c = λ t e.
     let cs = take c.args.shown (flex_cards (scene_at (g.S.Sight.desk c.args.sight.now) c.args.step.now) t) in
-    record { ok = left_none (c.loop-k.invariant t e) (walk-end card_lines refl cs c.loop-k.k (omega (arith, length-take c.args.shown (flex_cards (scene_at (g.S.Sight.desk c.args.sight.now) c.args.step.now) t), c.loop-k-test.false))); err = tt }
+    record {
+      ok = left_none (c.loop-k.invariant t e) (walk-end card_lines refl cs c.loop-k.k (omega (
+        arith,
+        length-take c.args.shown (flex_cards (scene_at (g.S.Sight.desk c.args.sight.now) c.args.step.now) t),
+        c.loop-k-test.false,
+      )));
+      err = tt;
+    }

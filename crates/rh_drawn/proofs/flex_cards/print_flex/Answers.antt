@@ -37,5 +37,7 @@ returns g c = λ t k card e listed shown.
     let first = front-is b.size (length (take n zeros)) bytes here.size (omega (arith, c.front_length.ensures, length-take n zeros))
     ∙ sym (c.read_block.ensures bytes (record { task = t; is = e; place = k; listed = listed; block = here.block; stands = here.stands; bytes_are = refl })) in
     let fresh = c.is_fresh_flex.ensures d ∙ ap (λ h. is_fresh_flex x h b.anchor b.size) seen.handle in
-    let used = c.use_of_block.ensures ∙ ap₂ (λ out in_. out_use_text (find (is_source b.anchor) out) (in_use_text (find (is_document b.anchor) in_))) seen.sending seen.taking in
-    puts_line (ap₂ (λ u f. card_line (flex_card b.address b.anchor bytes u f)) used fresh ∙ ap card_line (sym here.card_is)) (c.print_flex_card.ensures bytes (record { whole = here.size; first = first }))
+    let used = c.use_of_block.ensures
+    ∙ ap₂ (λ out in_. out_use_text (find (is_source b.anchor) out) (in_use_text (find (is_document b.anchor) in_))) seen.sending seen.taking in
+    puts_line (ap₂ (λ u f. card_line (flex_card b.address b.anchor bytes u f)) used fresh ∙ ap card_line (sym here.card_is))
+    (c.print_flex_card.ensures bytes (record { whole = here.size; first = first }))

@@ -26,7 +26,8 @@ returns-in_err-print_first g c = λ t e.
     let split = shown-split cs in
     let front = take (count_shown (length cs)) cs in
     puts_same (ap shown_lines (sym (ap card_lines split.is ∙ cards-append front split.behind)))
-    (lines_stop _ (card_lines front) (card_lines split.behind) (puts_same (ap (λ m. shown_lines (card_lines (take m cs))) n) (c.in_err-print_first.ensures t e)) c.from_residual.ensures.0)
+    (lines_stop _ (card_lines front) (card_lines split.behind) (puts_same (ap (λ m. shown_lines (card_lines (take m cs))) n)
+    (c.in_err-print_first.ensures t e)) c.from_residual.ensures.0)
 
 pub returns-then-shown-blocks : goal.returns-then-shown-blocks
 returns-then-shown-blocks g c = λ t e.
@@ -38,7 +39,8 @@ returns-then-shown-blocks g c = λ t e.
     let long : length cs ≡ length c.args.blocks.now = flex-long x t (flex_start t.slot) t.slot.blocks ∙ ap length (sym are) in
     let n : c.shown_count-shown.result ≡ count_shown (length cs) = c.shown_count-shown.ensures ∙ ap count_shown (sym long) in
     let few = count-few (length cs) (sym n ∙ (c.if-shown-blocks.true ∙ sym long)) in
-    puts_same (ap (λ z. shown_lines (card_lines z)) (take_all c.shown_count-shown.result cs (omega (arith, c.if-shown-blocks.true, long)) ∙ sym (shown-few cs few))) (c.in_ok-print_first.ensures t e)
+    puts_same (ap (λ z. shown_lines (card_lines z)) (take_all c.shown_count-shown.result cs (omega (arith, c.if-shown-blocks.true, long))
+    ∙ sym (shown-few cs few))) (c.in_ok-print_first.ensures t e)
 
 pub print_behind-requires-clause-many : goal.print_behind-requires-clause-many
 print_behind-requires-clause-many g c = count-many (length c.args.blocks.now) (λ q. c.if-shown-blocks.false (c.shown_count-shown.ensures ∙ q))
@@ -54,4 +56,6 @@ returns g c = λ t e.
     let n : c.shown_count-shown.result ≡ count_shown (length cs) = c.shown_count-shown.ensures ∙ ap count_shown (sym long) in
     let many = count-many (length cs) (λ q. c.if-shown-blocks.false (n ∙ (q ∙ long))) in
     puts_same (ap shown_lines (sym (ap card_lines (shown-parts cs many) ∙ cards-append (take 22 cs) (cards_behind cs))))
-    (lines_then (card_lines (take 22 cs)) (card_lines (cards_behind cs)) (puts_same (ap (λ m. shown_lines (card_lines (take m cs))) (n ∙ some-count (length cs) many)) (c.in_ok-print_first.ensures t e)) (c.print_behind.ensures t e))
+    (lines_then (card_lines (take 22 cs)) (card_lines (cards_behind cs))
+    (puts_same (ap (λ m. shown_lines (card_lines (take m cs))) (n ∙ some-count (length cs) many)) (c.in_ok-print_first.ensures t e))
+    (c.print_behind.ensures t e))

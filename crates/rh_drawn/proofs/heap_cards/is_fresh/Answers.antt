@@ -9,7 +9,8 @@ use Rattle.rh_drawn.specs.Bands.{is_fresh_at, is_fresh_card, is_fresh_or_posted}
 use Rattle.rh_drawn.proofs.PostLemmas.{Told, message-told}
 use Rattle.rh_drawn.proofs.heap_cards.is_fresh.Goals as goal
 
-told-fresh : (x : Scene) (b address : ℕ) (m : MessageItem) (o : Option Parcel) → Told b (Some m) o → (m.my_ref == x.before.next_ref) ≡ is_fresh_or_posted x address o
+told-fresh : (x : Scene) (b address : ℕ) (m : MessageItem) (o : Option Parcel) → Told b (Some m) o
+    → (m.my_ref == x.before.next_ref) ≡ is_fresh_or_posted x address o
 told-fresh x b address m None t = absurd t
 told-fresh x b address m (Some p) t = ap (λ n. n == x.before.next_ref) t.0.my_ref
 
@@ -28,7 +29,8 @@ returns-in-Some c = λ d step.
     let x = scene_at d c.args.step.now in
     let band = c.args.band.now in
     let b = c.in-Used.address - 25165824 in
-    let here : find (lies_in b) (message_items d) ≡ Some c.in-Some.message = ap (find (lies_in b)) (sym step.messages) ∙ (sym c.message_at.ensures ∙ c.in-Some.is) in
+    let here : find (lies_in b) (message_items d) ≡ Some c.in-Some.message =
+    ap (find (lies_in b)) (sym step.messages) ∙ (sym c.message_at.ensures ∙ c.in-Some.is) in
     let T : Option MessageItem → Type 0 = λ z. Told b z (message_in x b) in
     c.is_new_ref.ensures ∙ (told-fresh x b c.in-Used.address c.in-Some.message (message_in x b) (subst T here (message-told b d))
     ∙ sym (ap (is_fresh_card x band) c.in-Used.is ∙ ap (λ h. is_fresh_at x band.handle h c.in-Used.address) c.in-Module.is))

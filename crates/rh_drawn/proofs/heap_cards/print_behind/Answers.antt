@@ -35,7 +35,8 @@ returns-in_err-print_segment-in-Some g c =
     let card = band_card x d b (heap_start_of b.heap + p.place) p.segment in
     let more = more_card (length cs - 22 - 1) ∷ [] in
     puts_same (ap (λ z. shown_lines (card_lines z)) (sym (behind-are cs (card ∷ []) p.first)))
-    (lines_stop _ (card_lines (card ∷ [])) (card_lines more) (c.in_err-print_segment-in-Some.ensures p.place p.segment p.has p.item_is) c.from_residual.ensures.0))
+    (lines_stop _ (card_lines (card ∷ [])) (card_lines more) (c.in_err-print_segment-in-Some.ensures p.place p.segment p.has p.item_is)
+    c.from_residual.ensures.0))
 
 pub returns-in_ok-print_segment-in-Some : goal.returns-in_ok-print_segment-in-Some
 returns-in_ok-print_segment-in-Some g c =
@@ -66,4 +67,5 @@ returns-in-None g c =
     let none = band-none x d b h c.requires.band s is c.in-None.is in
     let long = band-long x d b h c.requires.band s is in
     let all : length cs - 22 ≡ length cs - 22 - 0 = omega arith in
-    puts_same (ap (λ z. shown_lines (card_lines z)) (ap (λ m. more_card (m - 22) ∷ []) long ∙ (ap (λ m. more_card m ∷ []) all ∙ sym (behind-are cs [] none)))) c.print_others-in-None.ensures)
+    puts_same (ap (λ z. shown_lines (card_lines z)) (ap (λ m. more_card (m - 22) ∷ []) long
+    ∙ (ap (λ m. more_card m ∷ []) all ∙ sym (behind-are cs [] none)))) c.print_others-in-None.ensures)

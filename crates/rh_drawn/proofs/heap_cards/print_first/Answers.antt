@@ -72,7 +72,8 @@ returns-in_err-print_segment g c =
     let here = told-here (heap_start_of b.heap) h _ k e c.segments-items.ensures (omega (arith, c.requires.few, c.loop-k-test.true)) in
     let at = get-front c.args.shown k cs c.loop-k-test.true ∙ q.card_at in
     left_breaks _ _ (c.loop-k.invariant h e) (walk-some card_lines (λ (z : Card). card_lines (z ∷ [])) (λ z rest. refl) (take c.args.shown cs) k _ at)
-    (c.in_err-print_segment.ensures q.place q.segment q.has (got-is _ k _ _ (ap (λ xs. slice_get xs k) c.as_slice-first.ensures.value ∙ (here ∙ q.item_at)))) c.from_residual.ensures.0)
+    (c.in_err-print_segment.ensures q.place q.segment q.has (got-is _ k _ _ (ap (λ xs. slice_get xs k) c.as_slice-first.ensures.value ∙ (here ∙ q.item_at))))
+    c.from_residual.ensures.0)
 
 pub returns : goal.returns
 returns g c =
@@ -81,4 +82,11 @@ returns g c =
     let b = c.args.band.now in
     if-heap (heap_seen b.heap d) _ (λ h e.
     let cs = take c.args.shown (band_cards x d b h) in
-    record { ok = left_none (c.loop-k.invariant h e) (walk-end card_lines refl cs c.loop-k.k (omega (arith, length-take c.args.shown (band_cards x d b h), c.loop-k-test.false))); err = tt })
+    record {
+      ok = left_none (c.loop-k.invariant h e) (walk-end card_lines refl cs c.loop-k.k (omega (
+        arith,
+        length-take c.args.shown (band_cards x d b h),
+        c.loop-k-test.false,
+      )));
+      err = tt;
+    })

@@ -53,7 +53,8 @@ returns-then-shown-survey g c =
     let n : c.shown_count-shown.result ≡ count_shown (length cs) = c.shown_count-shown.ensures ∙ ap count_shown long in
     let first = at-some (heap_seen b.heap d) _ h e c.in_ok-print_first.ensures in
     let few = count-few (length cs) (sym n ∙ (c.if-shown-survey.true ∙ long)) in
-    puts_same (ap (λ z. shown_lines (card_lines z)) (take_all c.shown_count-shown.result cs (omega (arith, c.if-shown-survey.true, long)) ∙ sym (shown-few cs few))) first)
+    puts_same (ap (λ z. shown_lines (card_lines z)) (take_all c.shown_count-shown.result cs (omega (arith, c.if-shown-survey.true, long))
+    ∙ sym (shown-few cs few))) first)
 
 pub print_behind-requires-clause-many : goal.print_behind-requires-clause-many
 print_behind-requires-clause-many g c = count-many c.take_survey-survey.result.count (λ q. c.if-shown-survey.false (c.shown_count-shown.ensures ∙ q))
@@ -73,4 +74,5 @@ returns g c =
     let behind = at-some (heap_seen b.heap d) _ h e c.print_behind.ensures in
     let many = count-many (length cs) (λ q. c.if-shown-survey.false (n ∙ (q ∙ sym long))) in
     puts_same (ap shown_lines (sym (ap card_lines (shown-parts cs many) ∙ cards-append (take 22 cs) (cards_behind cs))))
-    (lines_then (card_lines (take 22 cs)) (card_lines (cards_behind cs)) (puts_same (ap (λ m. shown_lines (card_lines (take m cs))) (n ∙ some-count (length cs) many)) first) behind))
+    (lines_then (card_lines (take 22 cs)) (card_lines (cards_behind cs))
+    (puts_same (ap (λ m. shown_lines (card_lines (take m cs))) (n ∙ some-count (length cs) many)) first) behind))

@@ -31,9 +31,11 @@ pub returns : goal.returns
 returns g c = λ p found is.
     let d = g.S.Sight.desk c.args.sight.now in
     let x = scene_at d c.args.step.now in
-    let place = c.chain_place-place.ensures ∙ (ap place_seen (c.place_of.ensures ∙ ap (λ ms. place_among ms c.args.message.now) c.requires.messages) ∙ chain-is c.spelled.ensures p.to p.message.my_ref c.args.message.now is.to is.my_ref) in
+    let place = c.chain_place-place.ensures ∙ (ap place_seen (c.place_of.ensures ∙ ap (λ ms. place_among ms c.args.message.now) c.requires.messages)
+    ∙ chain-is c.spelled.ensures p.to p.message.my_ref c.args.message.now is.to is.my_ref) in
     puts_line
-    (line-same _ p.message.my_ref _ (action_of p.message.body) _ p.code _ (task_name x.desk p.message.from) _ (task_name x.desk p.to) _ (chain_text x p) _ (is_new_message x (Some p))
+    (line-same _ p.message.my_ref _ (action_of p.message.body) _ p.code _ (task_name x.desk p.message.from) _ (task_name x.desk p.to) _ (chain_text x p) _
+    (is_new_message x (Some p))
     is.my_ref is.action is.code (c.who_of-sender.ensures ∙ ap (task_name d) is.from) (c.who_of-receiver.ensures ∙ ap (task_name d) is.to) place
     (c.is_new_ref-fresh.ensures ∙ ap (λ n. n == x.before.next_ref) is.my_ref))
     c.print_message_card.ensures

@@ -40,7 +40,8 @@ returns-in-Task g c = λ place segment has is.
     let q = used-here (start + place) a c.in-Used.size segment (sym is ∙ c.in-Used.is) in
     let at : place ≡ a - start - 4 = omega (arith, q.at) in
     let P : ℕ → Type 0 = λ z. HasBlock (heap_seen b.heap d) z q.bytes in
-    puts_same (ap (λ z. shown_lines (card_lines (z ∷ []))) (task-is x d b c.in-Task.field-0 (start + place) a c.in-Used.size segment c.in-Task.is c.requires.band q))
+    puts_same (ap (λ z. shown_lines (card_lines (z ∷ []))) (task-is x d b c.in-Task.field-0 (start + place) a c.in-Used.size segment c.in-Task.is
+    c.requires.band q))
     (c.print_used.ensures d q.bytes c.requires.step (subst P at (has-block q.bytes has q.is)) q.size)
 
 pub returns-in-Some : goal.returns-in-Some
@@ -52,7 +53,8 @@ returns-in-Some g c = λ place segment has is.
     let a = c.in-Used.address in
     let q = used-here (start + place) a c.in-Used.size segment (sym is ∙ c.in-Used.is) in
     let at = a - 25165824 in
-    let here : find (lies_in at) (message_items d) ≡ Some c.in-Some.message = ap (find (lies_in at)) (sym c.requires.step.messages) ∙ (sym c.message_at.ensures ∙ c.in-Some.is) in
+    let here : find (lies_in at) (message_items d) ≡ Some c.in-Some.message =
+    ap (find (lies_in at)) (sym c.requires.step.messages) ∙ (sym c.message_at.ensures ∙ c.in-Some.is) in
     let T : Option MessageItem → Type 0 = λ z. Told at z (message_in x at) in
     let w = told-some at c.in-Some.message (message_in x at) (subst T here (message-told at d)) in
     puts_same (ap (λ z. shown_lines (card_lines (z ∷ []))) (posted-is x d b (start + place) a c.in-Used.size segment w.parcel c.in-Module.is w.is q))

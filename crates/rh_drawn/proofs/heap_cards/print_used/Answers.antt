@@ -15,5 +15,7 @@ returns g c = λ d bytes step block size.
     let n = c.front_length.result in
     let here : a - heap_start_of heap - 4 ≡ a - 4 - c.heap_address.result = omega (arith, c.heap_address.ensures) in
     let P : ℕ → Type 0 = λ z. HasBlock (heap_seen heap (g.S.Sight.desk c.args.sight.now)) z bytes in
-    let first = front-is c.args.size (length (take n zeros)) bytes size (omega (arith, c.front_length.ensures, length-take n zeros)) ∙ sym (c.read_heap.ensures bytes (subst P here block)) in
-    puts_line (ap₂ (λ u f. card_line (used_card a bytes u f)) c.use_of_buffer.ensures (c.is_changed.ensures d)) (c.print_used_card.ensures bytes (record { whole = size; first = first }))
+    let first = front-is c.args.size (length (take n zeros)) bytes size (omega (arith, c.front_length.ensures, length-take n zeros))
+    ∙ sym (c.read_heap.ensures bytes (subst P here block)) in
+    puts_line (ap₂ (λ u f. card_line (used_card a bytes u f)) c.use_of_buffer.ensures (c.is_changed.ensures d))
+    (c.print_used_card.ensures bytes (record { whole = size; first = first }))

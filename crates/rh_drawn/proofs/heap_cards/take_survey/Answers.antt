@@ -83,8 +83,10 @@ places-preserved g c = λ h e.
     let d = g.S.Sight.desk c.args.sight.now in
     let v = c.places.invariant h e in
     let here = c.in-Some.ensures.value ∙ ap (λ xs. slice_get xs (length xs - 1)) c.deref.ensures.0 in
-    surveyed-more c.surveyed-survey.result v (c.surveyed-survey.ensures d c.requires.step ∙ ap (λ xs. with_items (is_fresh_card (scene_at d c.args.step.now) c.args.band.now) xs c.places.survey) c.deref-in-Some.ensures.0)
-    (counted-more (from-first h e) v.counted c.place_behind-place.result c.in-Some.last.now c.segments-items-in-Some.result.items here c.place_behind-place.ensures c.segments-items-in-Some.ensures)
+    surveyed-more c.surveyed-survey.result v (c.surveyed-survey.ensures d c.requires.step
+    ∙ ap (λ xs. with_items (is_fresh_card (scene_at d c.args.step.now) c.args.band.now) xs c.places.survey) c.deref-in-Some.ensures.0)
+    (counted-more (from-first h e) v.counted c.place_behind-place.result c.in-Some.last.now c.segments-items-in-Some.result.items here
+    c.place_behind-place.ensures c.segments-items-in-Some.ensures)
 
 pub returns : goal.returns
 returns g c =

@@ -39,4 +39,5 @@ tasks-preserved g c =
 pub returns : goal.returns
 returns g c =
     let ms = c.args.messages.now in
-    walk-off (list_any (λ (t : Task). has_letters_in t.handle ms)) (g.S.Sight.desk c.args.sight.now).tasks c.tasks.i c.tasks.invariant false c.in_default.ensures.none refl
+    walk-off (list_any (λ (t : Task). has_letters_in t.handle ms)) (g.S.Sight.desk c.args.sight.now).tasks c.tasks.i c.tasks.invariant false
+    c.in_default.ensures.none refl

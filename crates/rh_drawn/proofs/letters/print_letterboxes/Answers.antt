@@ -26,7 +26,8 @@ tasks-preserved g c =
     let ms = c.args.step.now.messages.now in
     let s = c.in-Some.ensures.some in
     let e = ap₂ (λ n h. shown_lines (map letterbox_line (letterboxes_in n h ms))) s.2.name s.2.handle in
-    left_less c.tasks.invariant (walk-some (flat_map (boxes ms)) (boxes ms) (λ t rest. refl) d.tasks c.tasks.i s.0 s.1) (puts_same e c.in_ok-print_letters.ensures).ok
+    left_less c.tasks.invariant (walk-some (flat_map (boxes ms)) (boxes ms) (λ t rest. refl) d.tasks c.tasks.i s.0 s.1)
+    (puts_same e c.in_ok-print_letters.ensures).ok
 
 pub returns-in_err-print_letters : goal.returns-in_err-print_letters
 returns-in_err-print_letters g c =
@@ -34,12 +35,16 @@ returns-in_err-print_letters g c =
     let ms = c.args.step.now.messages.now in
     let s = c.in-Some.ensures.some in
     let e = ap₂ (λ n h. shown_lines (map letterbox_line (letterboxes_in n h ms))) s.2.name s.2.handle in
-    left_breaks _ _ c.tasks.invariant (walk-some (flat_map (boxes ms)) (boxes ms) (λ t rest. refl) d.tasks c.tasks.i s.0 s.1) (puts_same e c.in_err-print_letters.ensures) c.from_residual.ensures.0
+    left_breaks _ _ c.tasks.invariant (walk-some (flat_map (boxes ms)) (boxes ms) (λ t rest. refl) d.tasks c.tasks.i s.0 s.1)
+    (puts_same e c.in_err-print_letters.ensures) c.from_residual.ensures.0
 
 pub returns : goal.returns
 returns g c =
     let d = g.S.Sight.desk c.args.sight.now in
-    record { ok = left_none c.tasks.invariant (walk-none (flat_map (boxes c.args.step.now.messages.now)) refl d.tasks c.tasks.i c.in_default.ensures.none); err = tt }
+    record {
+      ok = left_none c.tasks.invariant (walk-none (flat_map (boxes c.args.step.now.messages.now)) refl d.tasks c.tasks.i c.in_default.ensures.none);
+      err = tt;
+    }
 
 pub overflow_add-i : goal.overflow_add-i
 overflow_add-i g c =

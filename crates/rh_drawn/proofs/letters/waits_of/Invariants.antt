@@ -10,5 +10,6 @@ abbrev pub invariant-loop-message : goal.invariant-loop-message
 invariant-loop-message l = record {
   room : length l.waits.first ≡ MOST_LISTED;
   count : l.waits.count ≡ length (map entry_seen (filter (waits_for l.handle) (take l.message-index l.messages)));
-  first : take (min l.waits.count MOST_LISTED) l.waits.first ≡ take MOST_LISTED (map entry_seen (filter (waits_for l.handle) (take l.message-index l.messages)));
+  first : take (min l.waits.count MOST_LISTED) l.waits.first ≡ take MOST_LISTED
+      (map entry_seen (filter (waits_for l.handle) (take l.message-index l.messages)));
 }

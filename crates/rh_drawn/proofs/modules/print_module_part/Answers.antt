@@ -37,18 +37,22 @@ pub returns-in_err-print_area : goal.returns-in_err-print_area
 returns-in_err-print_area g c =
     let d = g.S.Sight.desk c.args.sight.now in
     let x = scene_at d c.args.step.now in
-    let is = owned c.spelled.ensures c.args.step.now.pages.now c.requires.shared (pages.Fixed 1) (AreaOf 1) c.pages_of.result.now (seen-fixed c.spelled.ensures 1 (omega arith)) c.pages_of.ensures in
+    let is = owned c.spelled.ensures c.args.step.now.pages.now c.requires.shared (pages.Fixed 1) (AreaOf 1) c.pages_of.result.now
+    (seen-fixed c.spelled.ensures 1 (omega arith)) c.pages_of.ensures in
     lines_then (heading (module_pages d) ∷ []) (area_rows (module_drawing x) ++ card_lines (shown_cards (module_cards x)))
     (puts_line (ap heading c.fixed_pages.ensures) c.in_ok-print_module_heading.ensures)
     (lines_stop _ (area_rows (module_drawing x)) (card_lines (shown_cards (module_cards x)))
-    (puts_same (ap shown_lines (rows-are (module_drawing x) _ _ _ refl is (c.deref.ensures.0 ∙ c.module_pieces.ensures))) c.in_err-print_area.ensures) c.from_residual-in_err-print_area.ensures.0)
+    (puts_same (ap shown_lines (rows-are (module_drawing x) _ _ _ refl is (c.deref.ensures.0 ∙ c.module_pieces.ensures))) c.in_err-print_area.ensures)
+    c.from_residual-in_err-print_area.ensures.0)
 
 pub returns : goal.returns
 returns g c =
     let d = g.S.Sight.desk c.args.sight.now in
     let x = scene_at d c.args.step.now in
-    let is = owned c.spelled.ensures c.args.step.now.pages.now c.requires.shared (pages.Fixed 1) (AreaOf 1) c.pages_of.result.now (seen-fixed c.spelled.ensures 1 (omega arith)) c.pages_of.ensures in
+    let is = owned c.spelled.ensures c.args.step.now.pages.now c.requires.shared (pages.Fixed 1) (AreaOf 1) c.pages_of.result.now
+    (seen-fixed c.spelled.ensures 1 (omega arith)) c.pages_of.ensures in
     lines_then (heading (module_pages d) ∷ []) (area_rows (module_drawing x) ++ card_lines (shown_cards (module_cards x)))
     (puts_line (ap heading c.fixed_pages.ensures) c.in_ok-print_module_heading.ensures)
     (lines_then (area_rows (module_drawing x)) (card_lines (shown_cards (module_cards x)))
-    (puts_same (ap shown_lines (rows-are (module_drawing x) _ _ _ refl is (c.deref.ensures.0 ∙ c.module_pieces.ensures))) c.in_ok-print_area.ensures) c.print_heap_cards.ensures)
+    (puts_same (ap shown_lines (rows-are (module_drawing x) _ _ _ refl is (c.deref.ensures.0 ∙ c.module_pieces.ensures))) c.in_ok-print_area.ensures)
+    c.print_heap_cards.ensures)

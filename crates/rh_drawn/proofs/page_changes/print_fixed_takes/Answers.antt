@@ -18,12 +18,15 @@ use Rattle.rh_drawn.proofs.page_changes.print_fixed_takes.Goals as goal
 
 takes-next : (x : Scene) (d : Desk) (i : ℕ) → i < length d.areas
     → shown_lines (flat_map (takes_part x) (map (fixed_holding d) (enumerate_from i (drop i d.areas))))
-    ≡ shown_lines (takes_part x (fixed_holding d (i, slice_index d.areas i))) ++ shown_lines (flat_map (takes_part x) (map (fixed_holding d) (enumerate_from (i + 1) (drop (i + 1) d.areas))))
+    ≡ shown_lines (takes_part x (fixed_holding d (i, slice_index d.areas i))) ++ shown_lines
+    (flat_map (takes_part x) (map (fixed_holding d) (enumerate_from (i + 1) (drop (i + 1) d.areas))))
 takes-next x d i low =
     ap (λ ys. shown_lines (flat_map (takes_part x) (map (fixed_holding d) ys))) (numbered-next i d.areas low)
-    ∙ shown-append (takes_part x (fixed_holding d (i, slice_index d.areas i))) (flat_map (takes_part x) (map (fixed_holding d) (enumerate_from (i + 1) (drop (i + 1) d.areas))))
+    ∙ shown-append (takes_part x (fixed_holding d (i, slice_index d.areas i)))
+    (flat_map (takes_part x) (map (fixed_holding d) (enumerate_from (i + 1) (drop (i + 1) d.areas))))
 
-takes-end : (x : Scene) (d : Desk) (i : ℕ) → length d.areas ≤ i → shown_lines (flat_map (takes_part x) (map (fixed_holding d) (enumerate_from i (drop i d.areas)))) ≡ []
+takes-end : (x : Scene) (d : Desk) (i : ℕ) → length d.areas ≤ i
+    → shown_lines (flat_map (takes_part x) (map (fixed_holding d) (enumerate_from i (drop i d.areas)))) ≡ []
 takes-end x d i past = ap (λ ys. shown_lines (flat_map (takes_part x) (map (fixed_holding d) (enumerate_from i ys)))) (drop_all i d.areas past)
 
 pub loop-number-init : goal.loop-number-init
@@ -43,7 +46,8 @@ loop-number-preserved g c =
     let x = scene_at d c.args.step.now in
     let i = c.loop-number.number in
     let low : i < length d.areas = omega (arith, c.spelled.ensures.areas.six, c.loop-number-test.true) in
-    left_less c.loop-number.invariant (takes-next x d i low) (puts_same (ap (λ k. shown_lines (takes_part x (AreaOf i, k))) c.fixed_pages-has.ensures) c.in_ok-print_area_part.ensures).ok
+    left_less c.loop-number.invariant (takes-next x d i low) (puts_same (ap (λ k. shown_lines (takes_part x (AreaOf i, k))) c.fixed_pages-has.ensures)
+    c.in_ok-print_area_part.ensures).ok
 
 pub returns-in_err-print_area_part : goal.returns-in_err-print_area_part
 returns-in_err-print_area_part g c =
@@ -51,7 +55,8 @@ returns-in_err-print_area_part g c =
     let x = scene_at d c.args.step.now in
     let i = c.loop-number.number in
     let low : i < length d.areas = omega (arith, c.spelled.ensures.areas.six, c.loop-number-test.true) in
-    left_breaks _ _ c.loop-number.invariant (takes-next x d i low) (puts_same (ap (λ k. shown_lines (takes_part x (AreaOf i, k))) c.fixed_pages-has.ensures) c.in_err-print_area_part.ensures) c.from_residual.ensures.0
+    left_breaks _ _ c.loop-number.invariant (takes-next x d i low) (puts_same (ap (λ k. shown_lines (takes_part x (AreaOf i, k))) c.fixed_pages-has.ensures)
+    c.in_err-print_area_part.ensures) c.from_residual.ensures.0
 
 pub returns : goal.returns
 returns g c =

@@ -12,5 +12,6 @@ abbrev pub invariant-loop-number : goal.invariant-loop-number
 invariant-loop-number g l =
     let d = g.S.Sight.desk l.sight in
     let x = scene_at d l.step in
-    Left (g.W.Sink.output l.initial.writer) (g.W.Sink.output l.writer) (shown_lines (flat_map (takes_part x) (map (fixed_holding d) (enumerate_from 0 d.areas))))
+    Left (g.W.Sink.output l.initial.writer) (g.W.Sink.output l.writer) (shown_lines
+    (flat_map (takes_part x) (map (fixed_holding d) (enumerate_from 0 d.areas))))
     (shown_lines (flat_map (takes_part x) (map (fixed_holding d) (enumerate_from l.number (drop l.number d.areas)))))

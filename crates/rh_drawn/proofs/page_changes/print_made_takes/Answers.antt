@@ -18,27 +18,34 @@ print_area_part-requires-clause-owner g c = ap (option_map (λ (m : Made). AreaO
 
 pub print_area_part-requires-clause-count : goal.print_area_part-requires-clause-count
 print_area_part-requires-clause-count g c =
-    count-made c.spelled.ensures (pages.Made c.areas.i) (AreaOf c.in-Some.area.number) c.areas.i _ refl (ap (option_map (λ (m : Made). AreaOf m.number)) c.in-Some.ensures.some) c.in-Some.ensures.some
+    count-made c.spelled.ensures (pages.Made c.areas.i) (AreaOf c.in-Some.area.number) c.areas.i _ refl
+    (ap (option_map (λ (m : Made). AreaOf m.number)) c.in-Some.ensures.some) c.in-Some.ensures.some
 
 pub areas-preserved : goal.areas-preserved
 areas-preserved g c =
     let d = g.S.Sight.desk c.args.sight.now in
     let x = scene_at d c.args.step.now in
-    left_less c.areas.invariant (walk-some (λ (ms : List Made). flat_map (takes_part x) (map made_holding ms)) (λ (m : Made). takes_part x (made_holding m)) (λ m rest. refl) d.made c.areas.i _ c.in-Some.ensures.some)
+    left_less c.areas.invariant (walk-some (λ (ms : List Made). flat_map (takes_part x) (map made_holding ms)) (λ (m : Made). takes_part x (made_holding m))
+    (λ m rest. refl) d.made c.areas.i _ c.in-Some.ensures.some)
     c.in_ok-print_area_part.ensures.ok
 
 pub returns-in_err-print_area_part : goal.returns-in_err-print_area_part
 returns-in_err-print_area_part g c =
     let d = g.S.Sight.desk c.args.sight.now in
     let x = scene_at d c.args.step.now in
-    left_breaks _ _ c.areas.invariant (walk-some (λ (ms : List Made). flat_map (takes_part x) (map made_holding ms)) (λ (m : Made). takes_part x (made_holding m)) (λ m rest. refl) d.made c.areas.i _ c.in-Some.ensures.some)
+    left_breaks _ _ c.areas.invariant (walk-some (λ (ms : List Made). flat_map (takes_part x) (map made_holding ms))
+    (λ (m : Made). takes_part x (made_holding m)) (λ m rest. refl) d.made c.areas.i _ c.in-Some.ensures.some)
     c.in_err-print_area_part.ensures c.from_residual.ensures.0
 
 pub returns : goal.returns
 returns g c =
     let d = g.S.Sight.desk c.args.sight.now in
     let x = scene_at d c.args.step.now in
-    record { ok = left_none c.areas.invariant (walk-none (λ (ms : List Made). flat_map (takes_part x) (map made_holding ms)) refl d.made c.areas.i c.in_default.ensures.none); err = tt }
+    record {
+      ok = left_none c.areas.invariant (walk-none (λ (ms : List Made). flat_map (takes_part x) (map made_holding ms)) refl d.made c.areas.i
+          c.in_default.ensures.none);
+      err = tt;
+    }
 
 pub overflow_add-i : goal.overflow_add-i
 overflow_add-i g c =
@@ -46,5 +53,6 @@ overflow_add-i g c =
 
 pub areas-smaller : goal.areas-smaller
 areas-smaller g c =
-    let inside : c.areas.i < length (g.S.Sight.desk c.args.sight.now).made = slice_get_within (g.S.Sight.desk c.args.sight.now).made c.areas.i _ c.in-Some.ensures.some in
+    let inside : c.areas.i < length (g.S.Sight.desk c.args.sight.now).made =
+    slice_get_within (g.S.Sight.desk c.args.sight.now).made c.areas.i _ c.in-Some.ensures.some in
     omega arith

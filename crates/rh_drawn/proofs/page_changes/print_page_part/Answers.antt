@@ -41,9 +41,11 @@ page-parts x =
     let a = map (fixed_holding x.desk) (enumerate_from 0 x.desk.areas) in
     let b = map made_holding x.desk.made in
     let e = map slot_holding x.desk.tasks in
-    let each : indented (flat_map (takes_text x) (holdings x.desk)) ≡ flat_map (takes_part x) (holdings x.desk) = map-flat (λ (line : Text). codes "  " ++ line) (takes_text x) (holdings x.desk) in
+    let each : indented (flat_map (takes_text x) (holdings x.desk)) ≡ flat_map (takes_part x) (holdings x.desk) =
+    map-flat (λ (line : Text). codes "  " ++ line) (takes_text x) (holdings x.desk) in
     let all : holdings x.desk ≡ a ++ (b ++ e) = ap₂ (λ u v. (a ++ u) ++ v) (made-same x.desk.made) (slots-same x.desk.tasks) ∙ append_assoc a b e in
-    let parts : flat_map (takes_part x) (a ++ (b ++ e)) ≡ fixed x x.desk ++ (made x x.desk ++ slots x x.desk) = flat_map-append (takes_part x) a (b ++ e) ∙ ap (λ z. fixed x x.desk ++ z) (flat_map-append (takes_part x) b e) in
+    let parts : flat_map (takes_part x) (a ++ (b ++ e)) ≡ fixed x x.desk ++ (made x x.desk ++ slots x x.desk) =
+    flat_map-append (takes_part x) a (b ++ e) ∙ ap (λ z. fixed x x.desk ++ z) (flat_map-append (takes_part x) b e) in
     indented-append (flat_map (takes_text x) (holdings x.desk)) (freed_text (freed_pages x))
     ∙ (ap (λ z. z ++ freed x) (each ∙ (ap (flat_map (takes_part x)) all ∙ parts))
     ∙ (append_assoc (fixed x x.desk) (made x x.desk ++ slots x x.desk) (freed x)

@@ -14,7 +14,8 @@ tasks-preserved g c =
     let d = g.S.Sight.desk c.args.sight.now in
     let x = scene_at d c.args.step.now in
     let r = c.in-Some.ensures.some in
-    left_less c.tasks.invariant (walk-some (λ (ts : List Task). flat_map (takes_part x) (map slot_holding ts)) (λ (t : Task). takes_part x (slot_holding t)) (λ t rest. refl) d.tasks c.tasks.i r.0 r.1)
+    left_less c.tasks.invariant (walk-some (λ (ts : List Task). flat_map (takes_part x) (map slot_holding ts)) (λ (t : Task). takes_part x (slot_holding t))
+    (λ t rest. refl) d.tasks c.tasks.i r.0 r.1)
     (c.in_ok-print_slot_part.ensures r.0 r.1).ok
 
 pub returns-in_err-print_slot_part : goal.returns-in_err-print_slot_part
@@ -22,14 +23,19 @@ returns-in_err-print_slot_part g c =
     let d = g.S.Sight.desk c.args.sight.now in
     let x = scene_at d c.args.step.now in
     let r = c.in-Some.ensures.some in
-    left_breaks _ _ c.tasks.invariant (walk-some (λ (ts : List Task). flat_map (takes_part x) (map slot_holding ts)) (λ (t : Task). takes_part x (slot_holding t)) (λ t rest. refl) d.tasks c.tasks.i r.0 r.1)
+    left_breaks _ _ c.tasks.invariant (walk-some (λ (ts : List Task). flat_map (takes_part x) (map slot_holding ts))
+    (λ (t : Task). takes_part x (slot_holding t)) (λ t rest. refl) d.tasks c.tasks.i r.0 r.1)
     (c.in_err-print_slot_part.ensures r.0 r.1) c.from_residual.ensures.0
 
 pub returns : goal.returns
 returns g c =
     let d = g.S.Sight.desk c.args.sight.now in
     let x = scene_at d c.args.step.now in
-    record { ok = left_none c.tasks.invariant (walk-none (λ (ts : List Task). flat_map (takes_part x) (map slot_holding ts)) refl d.tasks c.tasks.i c.in_default.ensures.none); err = tt }
+    record {
+      ok = left_none c.tasks.invariant (walk-none (λ (ts : List Task). flat_map (takes_part x) (map slot_holding ts)) refl d.tasks c.tasks.i
+          c.in_default.ensures.none);
+      err = tt;
+    }
 
 pub overflow_add-i : goal.overflow_add-i
 overflow_add-i g c =

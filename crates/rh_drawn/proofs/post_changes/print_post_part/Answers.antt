@@ -25,14 +25,16 @@ pub returns-in_err-print_returned : goal.returns-in_err-print_returned
 returns-in_err-print_returned g c =
     let x = scene_at (g.S.Sight.desk c.args.sight.now) c.args.step.now in
     puts_same (ap shown_lines (sym (post-parts x)))
-    (lines_stop _ (indented (returned x)) (indented (taken_text x x.marks.taken) ++ indented (sent_text x x.marks.sent)) c.in_err-print_returned.ensures c.from_residual.ensures.0)
+    (lines_stop _ (indented (returned x)) (indented (taken_text x x.marks.taken) ++ indented (sent_text x x.marks.sent)) c.in_err-print_returned.ensures
+    c.from_residual.ensures.0)
 
 pub returns-in_err-print_taken : goal.returns-in_err-print_taken
 returns-in_err-print_taken g c =
     let x = scene_at (g.S.Sight.desk c.args.sight.now) c.args.step.now in
     puts_same (ap shown_lines (sym (post-parts x)))
     (lines_then (indented (returned x)) (indented (taken_text x x.marks.taken) ++ indented (sent_text x x.marks.sent)) c.in_ok-print_returned.ensures
-    (lines_stop _ (indented (taken_text x x.marks.taken)) (indented (sent_text x x.marks.sent)) c.in_err-print_taken.ensures c.from_residual-in_err-print_taken.ensures.0))
+    (lines_stop _ (indented (taken_text x x.marks.taken)) (indented (sent_text x x.marks.sent)) c.in_err-print_taken.ensures
+    c.from_residual-in_err-print_taken.ensures.0))
 
 pub returns-in-Some : goal.returns-in-Some
 returns-in-Some g c =

@@ -35,12 +35,14 @@ waits d held (p ∷ ps) = go (goes_back held p) refl (waits d held ps)
     go false e rest = rw e rest
 
 -- the messages that go back, by the list of all messages
-returns-are : (d : Desk) (held : ℕ) (ms : List MessageItem) → ms ≡ message_items d → map (line_of d) (filter (goes_back held) (waiting_on d)) ≡ flat_map (return_lines d held) ms
+returns-are : (d : Desk) (held : ℕ) (ms : List MessageItem) → ms ≡ message_items d
+    → map (line_of d) (filter (goes_back held) (waiting_on d)) ≡ flat_map (return_lines d held) ms
 returns-are d held ms e =
     waits d held (waiting_on d)
     ∙ (sym (append-nil (flat_map (return_lines d held) (map (item_of false) (waiting_on d))))
     ∙ (ap (λ z. flat_map (return_lines d held) (map (item_of false) (waiting_on d)) ++ z) (sym (no-holds d held (held_on d)))
-    ∙ (sym (flat_map-append (return_lines d held) (map (item_of false) (waiting_on d)) (map (item_of true) (held_on d))) ∙ ap (flat_map (return_lines d held)) (sym e))))
+    ∙ (sym (flat_map-append (return_lines d held) (map (item_of false) (waiting_on d)) (map (item_of true) (held_on d)))
+    ∙ ap (flat_map (return_lines d held)) (sym e))))
 
 pub loop-message-init : goal.loop-message-init
 loop-message-init g c =
@@ -53,14 +55,21 @@ loop-message-init g c =
 pub loop-message-preserved : goal.loop-message-preserved
 loop-message-preserved g c =
     let of = return_lines (g.S.Sight.desk c.args.sight.now) c.args.step.now.kept.now.held in
-    left_less c.loop-message.invariant (walk-at (λ ms. indented (flat_map of ms)) (λ m. indented (of m)) (indented-each of) c.args.step.now.messages.now c.loop-message.message-index c.message-item.result c.loop-message-test.true c.message-item.is) c.in_ok-print_return.ensures.ok
+    left_less c.loop-message.invariant (walk-at (λ ms. indented (flat_map of ms)) (λ m. indented (of m)) (indented-each of) c.args.step.now.messages.now
+    c.loop-message.message-index c.message-item.result c.loop-message-test.true c.message-item.is) c.in_ok-print_return.ensures.ok
 
 pub returns-in_err-print_return : goal.returns-in_err-print_return
 returns-in_err-print_return g c =
     let of = return_lines (g.S.Sight.desk c.args.sight.now) c.args.step.now.kept.now.held in
-    left_breaks _ _ c.loop-message.invariant (walk-at (λ ms. indented (flat_map of ms)) (λ m. indented (of m)) (indented-each of) c.args.step.now.messages.now c.loop-message.message-index c.message-item.result c.loop-message-test.true c.message-item.is) c.in_err-print_return.ensures c.from_residual.ensures.0
+    left_breaks _ _ c.loop-message.invariant (walk-at (λ ms. indented (flat_map of ms)) (λ m. indented (of m)) (indented-each of)
+    c.args.step.now.messages.now c.loop-message.message-index c.message-item.result c.loop-message-test.true
+    c.message-item.is) c.in_err-print_return.ensures c.from_residual.ensures.0
 
 pub returns : goal.returns
 returns g c =
     let of = return_lines (g.S.Sight.desk c.args.sight.now) c.args.step.now.kept.now.held in
-    record { ok = left_none c.loop-message.invariant (walk-end (λ ms. indented (flat_map of ms)) refl c.args.step.now.messages.now c.loop-message.message-index c.loop-message-test.false); err = tt }
+    record {
+      ok = left_none c.loop-message.invariant (walk-end (λ ms. indented (flat_map of ms)) refl c.args.step.now.messages.now
+          c.loop-message.message-index c.loop-message-test.false);
+      err = tt;
+    }

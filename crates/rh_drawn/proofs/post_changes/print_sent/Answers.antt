@@ -16,7 +16,8 @@ returns-in_err-print_bytes g c = λ s b m.
     let l = c.args.letter.now in
     let bytes = bytes_sent_text (scene_of d s b m) l l.body in
     let line = sends_line (task_name d l.from) (action_of l.body) c.args.my_ref (task_name d l.to) in
-    puts_same (ap shown_lines (sym (indented-append bytes (line ∷ [])))) (lines_stop _ (indented bytes) (indented (line ∷ [])) (c.in_err-print_bytes.ensures s b m) c.from_residual.ensures.0)
+    puts_same (ap shown_lines (sym (indented-append bytes (line ∷ []))))
+    (lines_stop _ (indented bytes) (indented (line ∷ [])) (c.in_err-print_bytes.ensures s b m) c.from_residual.ensures.0)
 
 pub returns : goal.returns
 returns g c = λ s b m.

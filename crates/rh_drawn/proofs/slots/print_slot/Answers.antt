@@ -53,7 +53,9 @@ print_flex_cards-requires-clause-few g c =
 pub print_heap_cards-requires-clause-band : goal.print_heap_cards-requires-clause-band
 print_heap_cards-requires-clause-band g c = let r = c.requires.task in (r.0, r.1, r.2.handle, r.2.taking)
 
-slot-parts : (x : Scene) (t : Task) → drawing_lines (Some (slot_drawing x t)) ≡ area_rows (slot_drawing x t) ++ (card_lines (shown_cards (flex_cards x t)) ++ card_lines (shown_cards (heap_cards x t)))
+slot-parts : (x : Scene) (t : Task)
+    → drawing_lines (Some (slot_drawing x t)) ≡ area_rows (slot_drawing x t) ++
+    (card_lines (shown_cards (flex_cards x t)) ++ card_lines (shown_cards (heap_cards x t)))
 slot-parts x t = ap (λ z. area_rows (slot_drawing x t) ++ z) (map-append card_line (shown_cards (flex_cards x t)) (shown_cards (heap_cards x t)))
 
 pub returns-in_err-print_area : goal.returns-in_err-print_area
@@ -61,28 +63,33 @@ returns-in_err-print_area g c = λ t e.
     let d = g.S.Sight.desk c.args.sight.now in
     let x = scene_at d c.args.step.now in
     let seen = seen-slot c.spelled.ensures c.args.i t e in
-    let is = owned c.spelled.ensures c.args.step.now.pages.now c.requires.step.shared (pages.Slot c.args.i) (SlotOf t.handle) c.pages_of.result.now seen c.pages_of.ensures in
+    let is = owned c.spelled.ensures c.args.step.now.pages.now c.requires.step.shared (pages.Slot c.args.i) (SlotOf t.handle) c.pages_of.result.now seen
+    c.pages_of.ensures in
     puts_same (ap shown_lines (sym (slot-parts x t)))
     (lines_stop _ (area_rows (slot_drawing x t)) (card_lines (shown_cards (flex_cards x t)) ++ card_lines (shown_cards (heap_cards x t)))
-    (puts_same (ap shown_lines (rows-are (slot_drawing x t) _ _ _ refl is (c.deref-2.ensures.0 ∙ c.slot_pieces.ensures t e))) c.in_err-print_area.ensures) c.from_residual.ensures.0)
+    (puts_same (ap shown_lines (rows-are (slot_drawing x t) _ _ _ refl is (c.deref-2.ensures.0 ∙ c.slot_pieces.ensures t e))) c.in_err-print_area.ensures)
+    c.from_residual.ensures.0)
 
 pub returns-in_err-print_flex_cards : goal.returns-in_err-print_flex_cards
 returns-in_err-print_flex_cards g c = λ t e.
     let d = g.S.Sight.desk c.args.sight.now in
     let x = scene_at d c.args.step.now in
     let seen = seen-slot c.spelled.ensures c.args.i t e in
-    let is = owned c.spelled.ensures c.args.step.now.pages.now c.requires.step.shared (pages.Slot c.args.i) (SlotOf t.handle) c.pages_of.result.now seen c.pages_of.ensures in
+    let is = owned c.spelled.ensures c.args.step.now.pages.now c.requires.step.shared (pages.Slot c.args.i) (SlotOf t.handle) c.pages_of.result.now seen
+    c.pages_of.ensures in
     puts_same (ap shown_lines (sym (slot-parts x t)))
     (lines_then (area_rows (slot_drawing x t)) (card_lines (shown_cards (flex_cards x t)) ++ card_lines (shown_cards (heap_cards x t)))
     (puts_same (ap shown_lines (rows-are (slot_drawing x t) _ _ _ refl is (c.deref-2.ensures.0 ∙ c.slot_pieces.ensures t e))) c.in_ok-print_area.ensures)
-    (lines_stop _ (card_lines (shown_cards (flex_cards x t))) (card_lines (shown_cards (heap_cards x t))) (c.in_err-print_flex_cards.ensures t e) c.from_residual-in_err-print_flex_cards.ensures.0))
+    (lines_stop _ (card_lines (shown_cards (flex_cards x t))) (card_lines (shown_cards (heap_cards x t))) (c.in_err-print_flex_cards.ensures t e)
+    c.from_residual-in_err-print_flex_cards.ensures.0))
 
 pub returns : goal.returns
 returns g c = λ t e.
     let d = g.S.Sight.desk c.args.sight.now in
     let x = scene_at d c.args.step.now in
     let seen = seen-slot c.spelled.ensures c.args.i t e in
-    let is = owned c.spelled.ensures c.args.step.now.pages.now c.requires.step.shared (pages.Slot c.args.i) (SlotOf t.handle) c.pages_of.result.now seen c.pages_of.ensures in
+    let is = owned c.spelled.ensures c.args.step.now.pages.now c.requires.step.shared (pages.Slot c.args.i) (SlotOf t.handle) c.pages_of.result.now seen
+    c.pages_of.ensures in
     let heap = at-some (heap_seen (heap_of.Task c.args.i) d) _ t.slot.heap (ap (option_map (λ (u : Task). u.slot.heap)) e) c.print_heap_cards.ensures in
     puts_same (ap shown_lines (sym (slot-parts x t)))
     (lines_then (area_rows (slot_drawing x t)) (card_lines (shown_cards (flex_cards x t)) ++ card_lines (shown_cards (heap_cards x t)))

@@ -12,14 +12,16 @@ tasks-preserved g c =
     let d = g.S.Sight.desk c.args.sight.now in
     let x = scene_at d c.args.step.now in
     let r = c.in-Some.ensures.some in
-    left_less c.tasks.invariant (walk-some (flat_map (slot_lines x)) (slot_lines x) (λ t rest. refl) d.tasks c.tasks.i r.0 r.1) (c.in_ok-print_one.ensures r.0 r.1).ok
+    left_less c.tasks.invariant (walk-some (flat_map (slot_lines x)) (slot_lines x) (λ t rest. refl) d.tasks c.tasks.i r.0 r.1)
+    (c.in_ok-print_one.ensures r.0 r.1).ok
 
 pub returns-in_err-print_one : goal.returns-in_err-print_one
 returns-in_err-print_one g c =
     let d = g.S.Sight.desk c.args.sight.now in
     let x = scene_at d c.args.step.now in
     let r = c.in-Some.ensures.some in
-    left_breaks _ _ c.tasks.invariant (walk-some (flat_map (slot_lines x)) (slot_lines x) (λ t rest. refl) d.tasks c.tasks.i r.0 r.1) (c.in_err-print_one.ensures r.0 r.1) c.from_residual.ensures.0
+    left_breaks _ _ c.tasks.invariant (walk-some (flat_map (slot_lines x)) (slot_lines x) (λ t rest. refl) d.tasks c.tasks.i r.0 r.1)
+    (c.in_err-print_one.ensures r.0 r.1) c.from_residual.ensures.0
 
 pub returns : goal.returns
 returns g c =

@@ -16,7 +16,8 @@ pub returns-then-has_id : goal.returns-then-has_id
 returns-then-has_id g c =
     let s = c.in-Some.ensures.some in
     let xs = (g.S.Sight.desk c.args.sight.now).tasks in
-    let e : list_any (λ q. out_id q == c.args.id) s.0.sending ≡ true = ap (list_any (λ q. out_id q == c.args.id)) (sym s.2.sending) ∙ (sym c.has_id.ensures ∙ c.if-has_id.true) in
+    let e : list_any (λ q. out_id q == c.args.id) s.0.sending ≡ true =
+    ap (list_any (λ q. out_id q == c.args.id)) (sym s.2.sending) ∙ (sym c.has_id.ensures ∙ c.if-has_id.true) in
     walk-to (out_of c.args.id) xs c.tasks.i c.tasks.invariant s.0 true s.1 (out-step c.args.id s.0 (drop (c.tasks.i + 1) xs) true e)
 
 pub overflow_add-i : goal.overflow_add-i
@@ -34,7 +35,8 @@ pub tasks-preserved : goal.tasks-preserved
 tasks-preserved g c =
     let s = c.in-Some.ensures.some in
     let xs = (g.S.Sight.desk c.args.sight.now).tasks in
-    let e : list_any (λ q. out_id q == c.args.id) s.0.sending ≡ false = ap (list_any (λ q. out_id q == c.args.id)) (sym s.2.sending) ∙ (sym c.has_id.ensures ∙ c.if-has_id.false) in
+    let e : list_any (λ q. out_id q == c.args.id) s.0.sending ≡ false =
+    ap (list_any (λ q. out_id q == c.args.id)) (sym s.2.sending) ∙ (sym c.has_id.ensures ∙ c.if-has_id.false) in
     walk-on (out_of c.args.id) xs c.tasks.i c.tasks.invariant s.0 s.1 (out-step c.args.id s.0 (drop (c.tasks.i + 1) xs) false e)
 
 pub returns : goal.returns

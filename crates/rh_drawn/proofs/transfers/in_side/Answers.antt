@@ -30,7 +30,8 @@ returns-in-Some-in_record g c =
     let s = c.in-Some.ensures.some in
     let xs = (g.S.Sight.desk c.args.sight.now).tasks in
     let y = c.in-Some-in_record.record in
-    let told : Some y ≡ option_map in_item (find (λ q. in_id q == c.args.id) s.0.taking) = c.in-Some-in_record.ensures ∙ ap (λ rs. option_map in_item (find (λ q. in_id q == c.args.id) rs)) s.2.taking in
+    let told : Some y ≡ option_map in_item (find (λ q. in_id q == c.args.id) s.0.taking) =
+    c.in-Some-in_record.ensures ∙ ap (λ rs. option_map in_item (find (λ q. in_id q == c.args.id) rs)) s.2.taking in
     ap (λ n. let z : Side = (n, y) in Some z) s.2.name
     ∙ walk-to (in_of c.args.id) xs c.tasks.i c.tasks.invariant s.0 _ s.1 (side-told c.args.id s.0 (drop (c.tasks.i + 1) xs) y told)
 
@@ -38,7 +39,8 @@ pub tasks-preserved : goal.tasks-preserved
 tasks-preserved g c =
     let s = c.in-Some.ensures.some in
     let xs = (g.S.Sight.desk c.args.sight.now).tasks in
-    let told : None ≡ option_map in_item (find (λ q. in_id q == c.args.id) s.0.taking) = sym c.in_default-in_record.is ∙ c.in_record.ensures ∙ ap (λ rs. option_map in_item (find (λ q. in_id q == c.args.id) rs)) s.2.taking in
+    let told : None ≡ option_map in_item (find (λ q. in_id q == c.args.id) s.0.taking) =
+    sym c.in_default-in_record.is ∙ c.in_record.ensures ∙ ap (λ rs. option_map in_item (find (λ q. in_id q == c.args.id) rs)) s.2.taking in
     walk-on (in_of c.args.id) xs c.tasks.i c.tasks.invariant s.0 s.1 (side-untold c.args.id s.0 (drop (c.tasks.i + 1) xs) told)
 
 pub returns : goal.returns

@@ -47,7 +47,8 @@ tasks-preserved g c =
     let d = g.S.Sight.desk c.args.sight.now in
     let s = c.in-Some.ensures.some in
     let of = of_task (outs_of d) in
-    let e = ap₂ (λ n rs. shown_lines (map transfer_line (map comes_alone (filter (is_alone (outs_of d)) (map (λ r. (n, in_item r)) rs))))) s.2.name s.2.taking in
+    let e = ap₂ (λ n rs. shown_lines (map transfer_line (map comes_alone (filter (is_alone (outs_of d)) (map (λ r. (n, in_item r)) rs))))) s.2.name
+    s.2.taking in
     left_less c.tasks.invariant (walk-some (flat_map of) of (λ t rest. refl) d.tasks c.tasks.i s.0 s.1) (puts_same e c.in_ok-print_task_ins.ensures).ok
 
 pub returns-in_err-print_task_ins : goal.returns-in_err-print_task_ins
@@ -55,8 +56,10 @@ returns-in_err-print_task_ins g c =
     let d = g.S.Sight.desk c.args.sight.now in
     let s = c.in-Some.ensures.some in
     let of = of_task (outs_of d) in
-    let e = ap₂ (λ n rs. shown_lines (map transfer_line (map comes_alone (filter (is_alone (outs_of d)) (map (λ r. (n, in_item r)) rs))))) s.2.name s.2.taking in
-    left_breaks _ _ c.tasks.invariant (walk-some (flat_map of) of (λ t rest. refl) d.tasks c.tasks.i s.0 s.1) (puts_same e c.in_err-print_task_ins.ensures) c.from_residual.ensures.0
+    let e = ap₂ (λ n rs. shown_lines (map transfer_line (map comes_alone (filter (is_alone (outs_of d)) (map (λ r. (n, in_item r)) rs))))) s.2.name
+    s.2.taking in
+    left_breaks _ _ c.tasks.invariant (walk-some (flat_map of) of (λ t rest. refl) d.tasks c.tasks.i s.0 s.1) (puts_same e c.in_err-print_task_ins.ensures)
+    c.from_residual.ensures.0
 
 pub returns : goal.returns
 returns g c =

@@ -17,7 +17,8 @@ tasks-init g c =
     let d = g.S.Sight.desk c.args.sight.now in
     let s = g.W.Sink.output c.args.writer.now in
     let P : List Text → Type 0 = λ z. Left s s (shown_lines (map transfer_line (map (goes_out (ins_of d)) (outs_of d)))) (shown_lines z) in
-    subst P (ap (map transfer_line) (map-flat (goes_out (ins_of d)) outs d.tasks) ∙ map-flat transfer_line (λ (t : Task). map (goes_out (ins_of d)) (outs t)) d.tasks) (left_whole s _)
+    subst P (ap (map transfer_line) (map-flat (goes_out (ins_of d)) outs d.tasks)
+    ∙ map-flat transfer_line (λ (t : Task). map (goes_out (ins_of d)) (outs t)) d.tasks) (left_whole s _)
 
 pub overflow_add-i : goal.overflow_add-i
 overflow_add-i g c =
@@ -44,7 +45,8 @@ returns-in_err-print_task_outs g c =
     let s = c.in-Some.ensures.some in
     let of = λ (t : Task). map transfer_line (map (goes_out (ins_of d)) (outs t)) in
     let e = ap₂ (λ n rs. shown_lines (map transfer_line (map (goes_out (ins_of d)) (map (λ r. (n, out_item r)) rs)))) s.2.name s.2.sending in
-    left_breaks _ _ c.tasks.invariant (walk-some (flat_map of) of (λ t rest. refl) d.tasks c.tasks.i s.0 s.1) (puts_same e c.in_err-print_task_outs.ensures) c.from_residual.ensures.0
+    left_breaks _ _ c.tasks.invariant (walk-some (flat_map of) of (λ t rest. refl) d.tasks c.tasks.i s.0 s.1) (puts_same e c.in_err-print_task_outs.ensures)
+    c.from_residual.ensures.0
 
 pub returns : goal.returns
 returns g c =

@@ -23,15 +23,21 @@ pub loop-record-preserved : goal.loop-record-preserved
 loop-record-preserved g c =
     let out = outs_of (g.S.Sight.desk c.args.sight.now) in
     let name = c.args.task.now.name.now in
-    left_less c.loop-record.invariant (walk-at (lines_of name out) (line_of name out) (alone-each name out) c.args.task.now.taking.now c.loop-record.record-index c.record-item.result c.loop-record-test.true c.record-item.is) c.in_ok-print_if_alone.ensures.ok
+    left_less c.loop-record.invariant (walk-at (lines_of name out) (line_of name out) (alone-each name out) c.args.task.now.taking.now
+    c.loop-record.record-index c.record-item.result c.loop-record-test.true c.record-item.is) c.in_ok-print_if_alone.ensures.ok
 
 pub returns-in_err-print_if_alone : goal.returns-in_err-print_if_alone
 returns-in_err-print_if_alone g c =
     let out = outs_of (g.S.Sight.desk c.args.sight.now) in
     let name = c.args.task.now.name.now in
-    left_breaks _ _ c.loop-record.invariant (walk-at (lines_of name out) (line_of name out) (alone-each name out) c.args.task.now.taking.now c.loop-record.record-index c.record-item.result c.loop-record-test.true c.record-item.is) c.in_err-print_if_alone.ensures c.from_residual.ensures.0
+    left_breaks _ _ c.loop-record.invariant (walk-at (lines_of name out) (line_of name out) (alone-each name out) c.args.task.now.taking.now
+    c.loop-record.record-index c.record-item.result c.loop-record-test.true c.record-item.is) c.in_err-print_if_alone.ensures c.from_residual.ensures.0
 
 pub returns : goal.returns
 returns g c =
     let out = outs_of (g.S.Sight.desk c.args.sight.now) in
-    record { ok = left_none c.loop-record.invariant (walk-end (lines_of c.args.task.now.name.now out) refl c.args.task.now.taking.now c.loop-record.record-index c.loop-record-test.false); err = tt }
+    record {
+      ok = left_none c.loop-record.invariant (walk-end (lines_of c.args.task.now.name.now out) refl c.args.task.now.taking.now
+          c.loop-record.record-index c.loop-record-test.false);
+      err = tt;
+    }

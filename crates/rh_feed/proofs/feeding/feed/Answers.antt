@@ -12,7 +12,9 @@ loop-end-init g c = record {
 pub returns-in_err-take_line-clause-broken : goal.returns-in_err-take_line-clause-broken
 returns-in_err-take_line-clause-broken g c = λ front begun_open is.
     let at = c.in-Some.ensures in
-    on_err c.from_residual.result (went_wrong (g.W.Sink.output c.take_line.new.writer) c.whole.result.now c.in-Some.end (c.loop-end.invariant.went front begun_open is) at.0.high (λ k lt. at.0.before k (omega arith) lt) at.1 c.whole.ensures c.in_err-take_line.ensures.err)
+    on_err c.from_residual.result (went_wrong (g.W.Sink.output c.take_line.new.writer) c.whole.result.now c.in-Some.end
+    (c.loop-end.invariant.went front begun_open is) at.0.high (λ k lt. at.0.before k (omega arith) lt) at.1 c.whole.ensures
+    c.in_err-take_line.ensures.err)
 
 pub loop-end-preserved : goal.loop-end-preserved
 loop-end-preserved g c =
@@ -21,7 +23,9 @@ loop-end-preserved g c =
     record {
       room = omega (arith, less, c.in_ok-take_line.ensures.room, c.loop-end.invariant.room);
       used = omega (arith, less, c.in_ok-take_line.ensures.room, c.loop-end.invariant.used);
-      went = λ front begun_open is. went_on c.take_line.new.self (g.W.Sink.output c.take_line.new.writer) c.clear.new.self c.whole.result.now c.in-Some.end (c.loop-end.invariant.went front begun_open is) at.0.high (λ k lt. at.0.before k (omega arith) lt) at.1 c.whole.ensures c.in_ok-take_line.ensures.ok c.clear.ensures;
+      went = λ front begun_open is. went_on c.take_line.new.self (g.W.Sink.output c.take_line.new.writer) c.clear.new.self c.whole.result.now c.in-Some.end
+          (c.loop-end.invariant.went front begun_open is) at.0.high (λ k lt. at.0.before k (omega arith) lt) at.1 c.whole.ensures
+          c.in_ok-take_line.ensures.ok c.clear.ensures;
     }
 
 pub returns-clause-taken : goal.returns-clause-taken

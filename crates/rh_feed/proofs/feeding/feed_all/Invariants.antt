@@ -11,5 +11,6 @@ invariant-loop-turn g l = record {
   reads : (g.R.Source.input l.reader).reads ≡ l._turn;
   well : (g.R.Source.input l.reader).failed ≡ (g.R.Source.input l.fn.reader).failed;
   room : (MOST_READS - l._turn) * PIECE < g.T.LineTaker.room l.taker;
-  going : Going g.T.LineTaker.took (g.R.Source.input l.fn.reader) (g.R.Source.input l.reader) l.fn.taker l.taker l.line (g.W.Sink.output l.fn.writer) (g.W.Sink.output l.writer);
+  going : Going g.T.LineTaker.took (g.R.Source.input l.fn.reader) (g.R.Source.input l.reader) l.fn.taker l.taker l.line (g.W.Sink.output l.fn.writer)
+      (g.W.Sink.output l.writer);
 }

@@ -11,7 +11,9 @@ pub returns-then-not-has_descriptor-clause-fault : goal.returns-then-not-has_des
 returns-then-not-has_descriptor-clause-fault c = sym (fault_of-descriptor _ (sym c.if-not-has_descriptor.ensures))
 
 pub returns-then-not-is_link-clause-ok : goal.returns-then-not-is_link-clause-ok
-returns-then-not-is_link-clause-ok c = refused _ BadLink (link_refused _ _ (sym c.if-not-has_descriptor.ensures) c.word_in-base.ensures.value (sym c.if-not-is_link.ensures))
+returns-then-not-is_link-clause-ok c =
+    refused _ BadLink (link_refused _ _ (sym c.if-not-has_descriptor.ensures) c.word_in-base.ensures.value (sym c.if-not-is_link.ensures))
 
 pub returns-then-not-is_link-clause-fault : goal.returns-then-not-is_link-clause-fault
-returns-then-not-is_link-clause-fault c = sym (link_refused _ _ (sym c.if-not-has_descriptor.ensures) c.word_in-base.ensures.value (sym c.if-not-is_link.ensures))
+returns-then-not-is_link-clause-fault c =
+    sym (link_refused _ _ (sym c.if-not-has_descriptor.ensures) c.word_in-base.ensures.value (sym c.if-not-is_link.ensures))

@@ -7,5 +7,6 @@ use Rattle.rh_lines.proofs.digit_pairs.lower_hex_pair.Goals as goal
 
 pub returns : goal.returns
 returns c =
-    let pair = pairs_at LOWER_HEXADECIMALS (λ k. slice_index lower_digits (k / 16)) (λ k. slice_index lower_digits (k % 16)) 256 c.args.byte refl c.ranges.byte.fits in
+    let pair = pairs_at LOWER_HEXADECIMALS (λ k. slice_index lower_digits (k / 16)) (λ k. slice_index lower_digits (k % 16)) 256 c.args.byte refl
+    c.ranges.byte.fits in
     λ i. (pair.0 i, pair.1 i)

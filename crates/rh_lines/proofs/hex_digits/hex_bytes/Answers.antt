@@ -24,11 +24,13 @@ returns-in-None c =
 pub loop-rest-preserved : goal.loop-rest-preserved
 loop-rest-preserved c = record {
   room = simp (length-take, length-drop) (omega (arith, c.push.ensures.len));
-  so_far = pairs_next _ c.loop-rest.bytes.items c.push.new.self.items c.loop-rest.rest.now c.in-Some.byte c.loop-rest.invariant.so_far (omega arith) c.in-Some.ensures c.push.ensures.items;
+  so_far = pairs_next _ c.loop-rest.bytes.items c.push.new.self.items c.loop-rest.rest.now c.in-Some.byte c.loop-rest.invariant.so_far (omega arith)
+      c.in-Some.ensures c.push.ensures.items;
 }
 
 pub returns : goal.returns
 returns c =
     by_end c.is_empty.result
     (λ t. pairs_end _ c.loop-rest.bytes.items c.loop-rest.rest.now c.loop-rest.invariant.so_far (none_left _ c.is_empty.result c.is_empty.ensures t))
-    (λ f. pairs_odd _ c.loop-rest.bytes.items c.loop-rest.rest.now c.loop-rest.invariant.so_far (some_left _ c.is_empty.result c.is_empty.ensures f) c.in_default.len_below)
+    (λ f. pairs_odd _ c.loop-rest.bytes.items c.loop-rest.rest.now c.loop-rest.invariant.so_far (some_left _ c.is_empty.result c.is_empty.ensures f)
+    c.in_default.len_below)

@@ -15,4 +15,5 @@ returns-in-len1-up-clause-found c =
 
 pub returns-in-len1-up-clause-none : goal.returns-in-len1-up-clause-none
 returns-in-len1-up-clause-none c =
-    rw c.find_keyword.ensures (no_keyword_from {X = Entry} (λ e. e.0.now) (λ e. e.1) c.args.word.now (get_or c.args.word.now 0 0) c.keywords_from.result.now (firsts rows) refl c.keywords_from.ensures.all)
+    rw c.find_keyword.ensures (no_keyword_from {X = Entry} (λ e. e.0.now) (λ e. e.1) c.args.word.now (get_or c.args.word.now 0 0) c.keywords_from.result.now
+    (firsts rows) refl c.keywords_from.ensures.all)

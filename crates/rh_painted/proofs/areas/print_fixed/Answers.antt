@@ -47,7 +47,8 @@ returns g c =
     let seen = seen-fixed c.spelled.ensures c.args.number c.requires.number in
     let is = owned c.spelled.ensures c.args.step.now.pages.now c.requires.step.shared (pages.Fixed c.args.number)
     (AreaOf c.args.number) c.pages_of-pages.result.now seen c.pages_of-pages.ensures in
-    let long = owned-fixed c.spelled.ensures c.args.step.now.pages.now c.requires.step.shared c.args.number c.fixed_pages.result c.requires.number c.fixed_pages.ensures in
+    let long = owned-fixed c.spelled.ensures c.args.step.now.pages.now c.requires.step.shared c.args.number c.fixed_pages.result c.requires.number
+    c.fixed_pages.ensures in
     let other : (c.args.number == 1) ≡ false = ne_eqb _ _ c.if-number-eq-MODULE_AREA.false in
     let count : c.fixed_pages.result ≡ slice_index d.areas c.args.number =
     c.fixed_pages.ensures ∙ ap (λ b. if b then module_pages d else slice_index d.areas c.args.number) other in

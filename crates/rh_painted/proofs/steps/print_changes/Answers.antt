@@ -20,7 +20,8 @@ whole x =
     let blocks = block_changes x (task_at x.before.handle x.desk) in
     let slide = slide_change (slides x) in
     sym (parts-three change_item pages (blocks ++ slide) (post_changes x))
-    ∙ ap (flat_map change_item) (sym (append_assoc pages (blocks ++ slide) (post_changes x)) ∙ ap (λ z. z ++ post_changes x) (sym (append_assoc pages blocks slide)))
+    ∙ ap (flat_map change_item) (sym (append_assoc pages (blocks ++ slide) (post_changes x))
+    ∙ ap (λ z. z ++ post_changes x) (sym (append_assoc pages blocks slide)))
 
 pub returns-in_err-print_page_changes : goal.returns-in_err-print_page_changes
 returns-in_err-print_page_changes g c =

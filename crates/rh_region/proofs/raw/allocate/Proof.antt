@@ -16,7 +16,8 @@ use prog.Model.{Model}
 use prog.Wired.{Wired}
 use prog.Wp.{Env, Wp, at_return, after_seq}
 use types.Logic.{Logic, sem}
-use types.Kit.{Item, Sq, ⋆, mean, any_q, runs, ‵, raw, ◌⊛◌, some, given, later, await, pick, learn, at_ret, ◌$◌, ◌∵◌, !, qed, by, move, keep, drop, use0, use1, use2, split, split3, join, fsplit, fjoin, feq_l, flt_i, updating, suffices, frame, done}
+use types.Kit.{Item, Sq, ⋆, mean, any_q, runs, ‵, raw, ◌⊛◌, some, given, later, await, pick, learn, at_ret, ◌$◌, ◌∵◌, !, qed, by, move, keep, drop, use0}
+use types.Kit.{use1, use2, split, split3, join, fsplit, fjoin, feq_l, flt_i, updating, suffices, frame, done}
 use types.Kit.{Post as After, now as at_once}
 use types.Match.{live, vrt, in_variant}
 use types.Part.{whole, agg}
@@ -95,7 +96,8 @@ arms = head (after 1 (code.function).body)
 module _ {M : Type 1} {𝓤 : Ura M} (𝓛 : Logic 𝓤) where
   -- zeros, the right to free them and what the fields say are a block
   made : (b o n : ℕ) (h : Global) → n < 2 ^ 63 → n < 2 ^ 64
-      → ent 𝓤 (⋆ 𝓛 (‵ (zeros_at (block_ptr b o) n) ∷ ‵ (right h n (block_ptr b o)) ∷ [])) (sem 𝓛 (Out.own_val (Ok (block_at (block_ptr b o) n h)) (ok_val (block_ptr b o) n ∷ [])))
+      → ent 𝓤 (⋆ 𝓛 (‵ (zeros_at (block_ptr b o) n) ∷ ‵ (right h n (block_ptr b o)) ∷ []))
+      (sem 𝓛 (Out.own_val (Ok (block_at (block_ptr b o) n h)) (ok_val (block_ptr b o) n ∷ [])))
   made b o n h small fits =
       let p = block_ptr b o in
       qed 𝓛 (‵ (zeros_at p n) ∷ ‵ (right h n p) ∷ []) ∵ fjoin ! $ flt_i ! n (2 ^ 63) small $ fjoin ! $ fields_made ! p n fits $ fjoin ! $
@@ -125,7 +127,8 @@ module _ {M : Type 1} {𝓤 : Ura M} (𝓛 : Logic 𝓤) where
       zeroed : (u : Val) → ent 𝓤 (Zeroing.post to_zero u) (mean 𝓛 (later (‵ (unit.own_val tt (u ∷ [])) ⊛ ‵ (zeros_at p n))))
       zeroed u =
           qed 𝓛 (raw (Zeroing.post to_zero u) ∷ []) ∵ updating ! $
-          use1 𝓛 (later (some (λ (r : Unit {0}). (‵ ftrue ⊛ ‵ (unit.own_val r (u ∷ []))) ⊛ some (λ (ws : Unit {0} × (Unit {0} × Unit {0})). ‵ (lasts zeroing.ended tt to_zero.0.3 ws) ⊛ ‵ (zeros_at p n))))) (id⊢ 𝓤 _) $
+          use1 𝓛 (later (some (λ (r : Unit {0}). (‵ ftrue ⊛ ‵ (unit.own_val r (u ∷ []))) ⊛ some
+          (λ (ws : Unit {0} × (Unit {0} × Unit {0})). ‵ (lasts zeroing.ended tt to_zero.0.3 ws) ⊛ ‵ (zeros_at p n))))) (id⊢ 𝓤 _) $
           await ! tt $ at_once ! $ pick ! (λ r. split ! $ split ! $ drop ! $ move ! (1 ∷ []) $ pick ! (λ ws. split ! $ drop ! $ move ! (1 ∷ 0 ∷ []) $ done !))
 
     module _ (κ : Lft) (q : Share) (r : Bor Global) (n : ℕ) where
@@ -138,7 +141,8 @@ module _ {M : Type 1} {𝓤 : Ura M} (𝓛 : Logic 𝓤) where
       abbrev Alive : Item 𝓤
       Alive = Token 𝓛 𝓜 𝓡 κ q r n
 
-      ends : (a : Out.Denot) (v : Val) → IfOk a (λ b. (b.len ≡ n) × (b.bytes ≡ zeros n) × (length b.bytes ≡ n) × (b.alloc ≡ r.now)) → ent 𝓤 (⋆ 𝓛 (‵ (Out.own_val a (v ∷ [])) ∷ Alive ∷ [])) (End v)
+      ends : (a : Out.Denot) (v : Val) → IfOk a (λ b. (b.len ≡ n) × (b.bytes ≡ zeros n) × (length b.bytes ≡ n) × (b.alloc ≡ r.now))
+          → ent 𝓤 (⋆ 𝓛 (‵ (Out.own_val a (v ∷ [])) ∷ Alive ∷ [])) (End v)
       ends a v good = qed 𝓛 (‵ (Out.own_val a (v ∷ [])) ∷ Alive ∷ []) ∵ suffices ! _ (leaves 𝓛 f.ended kept clauses called v a (tt, (tt, tt)) (tt, (tt, tt))) $
           move ! (1 ∷ []) $ frame ! $ spent ! 2 $ frame ! $ says ! good $ done !
 
@@ -153,11 +157,13 @@ module _ {M : Type 1} {𝓤 : Ura M} (𝓛 : Logic 𝓤) where
         Then = any_q (after_seq 𝓤 𝓛.H (Wp 𝓤 𝓛.H 𝓣.C 𝓣.Λ En (after 2 (code.function).body) (at_return 𝓤 𝓛.H En End)) (at_return 𝓤 𝓛.H En End))
 
         -- either arm has left its answer in a local, and the function returns that
-        returned : (a : Out.Denot) (v : Val) → T (has_ty (layout Out) v) × WT v → IfOk a (λ b. (b.len ≡ n) × (b.bytes ≡ zeros n) × (length b.bytes ≡ n) × (b.alloc ≡ r.now))
+        returned : (a : Out.Denot) (v : Val) → T (has_ty (layout Out) v) × WT v
+            → IfOk a (λ b. (b.len ≡ n) × (b.bytes ≡ zeros n) × (length b.bytes ≡ n) × (b.alloc ≡ r.now))
             → Sq 𝓛 (‵ (Out.own_val a (v ∷ [])) ∷ Alive ∷ holding 𝓛 En ((6, v) ∷ [])) (runs 𝓣.C 𝓣.Λ En (after 2 (code.function).body) (at_ret En End))
         returned a v typed good = sets ! (of_opd ! (get ! refl)) refl typed $ returns ! (look_at ! 0 refl) $ free_all ! refl $ by ! (ends a v good)
 
-        answered : (h : Outcome) → Sq 𝓛 (‵ (handed r.now n h) ∷ Alive ∷ holding 𝓛 En ((1, vptr r.ref_ptr.0 r.ref_ptr.1) ∷ (2, vint w64 n) ∷ (5, spelled h) ∷ []))
+        answered : (h : Outcome)
+            → Sq 𝓛 (‵ (handed r.now n h) ∷ Alive ∷ holding 𝓛 En ((1, vptr r.ref_ptr.0 r.ref_ptr.1) ∷ (2, vint w64 n) ∷ (5, spelled h) ∷ []))
             (runs 𝓣.C 𝓣.Λ En (after 1 (code.function).body) (at_ret En End))
         answered (granted b o) =
             let p = block_ptr b o in let typed = spelled_by_fits b o n fits in let ok = first_Good (layout R) (spelled_by p n) typed in
@@ -165,7 +171,8 @@ module _ {M : Type 1} {𝓤 : Ura M} (𝓛 : Logic 𝓤) where
             sets ! (of_opd ! (get_in ! (vrt ! refl (fld ! refl (stop !))) (in_variant ! 0 0 refl refl (whole !)))) refl (tt, tt) $
             fsplit ! $ use1 𝓛 (raw ((Zeroing p n).pre (to_zero p n))) (zero p n fits) $ first ! $ blocks ! $
             -- [what `fill_zero` is handed; the right to free it; the token]
-            calls_at_last ! (framed 𝓤 𝓛.H 𝓜 𝓣) (Zeroing p n) (zeroed_bytes.met 𝓤 𝓛 𝓜 𝓡 (code.calls-rh_region::raw::fill_zero 𝓡.env wired)) (to_zero p n) (and_then ! (get ! refl) (and_then ! (get ! refl) (no_more !))) (λ u.
+            calls_at_last ! (framed 𝓤 𝓛.H 𝓜 𝓣) (Zeroing p n) (zeroed_bytes.met 𝓤 𝓛 𝓜 𝓡 (code.calls-rh_region::raw::fill_zero 𝓡.env wired)) (to_zero p n)
+            (and_then ! (get ! refl) (and_then ! (get ! refl) (no_more !))) (λ u.
             use1 𝓛 (later (‵ (unit.own_val tt (u ∷ [])) ⊛ ‵ (zeros_at p n))) (zeroed p n u) $ await ! tt $ split ! $ feq_l ! (λ is_unit.
             lands_last ! refl (unit_fits u is_unit) $ exec ! 𝓣.C 𝓣.Λ En (after 2 (arm_body 0 arms)) Then $
             -- [the zeros; the right to free them; the token]
@@ -185,7 +192,10 @@ module _ {M : Type 1} {𝓤 : Ura M} (𝓛 : Logic 𝓤) where
 pub allocate_spec : {M : Type 1} → statement M
 allocate_spec 𝓤 𝓛 𝓜 𝓡 wired =
     let 𝓣 = tables 𝓤 𝓛.H 𝓜 𝓡 𝓡.env in
-    proved 𝓛 f.ended kept (clauses 𝓛 𝓜 𝓡) 𝓜 𝓡 (Goes-dropped 𝓛 1 (RefOf (0 ∷ []) tt (plain (λ _. heap.the_row)) (λ _. tt)) yes (λ κs x w. refl), (Goes-dropped 𝓛 1 (plain (λ _. usize)) yes (λ κs x w. refl), tt))
+    proved 𝓛 f.ended kept (clauses 𝓛 𝓜 𝓡) 𝓜 𝓡 (
+      Goes-dropped 𝓛 1 (RefOf (0 ∷ []) tt (plain (λ _. heap.the_row)) (λ _. tt)) yes (λ κs x w. refl),
+      (Goes-dropped 𝓛 1 (plain (λ _. usize)) yes (λ κs x w. refl), tt),
+    )
     f.Key.name code.function (code.unfolded 𝓤 𝓛.H 𝓜 𝓡 wired)
     (λ κs. (shr_vals, (uint_vals w64, tt))) (λ κs. (shr_Tells (named 0) κs.0 heap.the_row, (uint_Tells w64, tt))) (λ κs qs bounds a _ are.
     let κ = κs.0 in let q = qs.0 in let r = a.0 in let n = a.1.0 in let fits = are.1.0.1 in
@@ -195,7 +205,9 @@ allocate_spec 𝓤 𝓛 𝓜 𝓡 wired =
     -- [the `&` to the heap; its token]
     use2 𝓛 (raw ((Asking 𝓛 𝓜 𝓡 κ q r n).pre (asked 𝓛 𝓜 𝓡 κ q r n))) (ask 𝓛 𝓜 𝓡 κ q r n small) $
     enter ! _ _ _ _ _ $ alloc_all ! (λ l. pass_all ! refl ((tt, tt), ((tt, record { fits = fits }), tt)) $
-    calls_at ! (framed 𝓤 𝓛.H 𝓜 𝓣) (Asking 𝓛 𝓜 𝓡 κ q r n) (asked_heap.met 𝓤 𝓛 𝓜 𝓡 (code.calls-std::impls::GlobalAllocator::allocate 𝓡.env wired)) (asked 𝓛 𝓜 𝓡 κ q r n)
+    calls_at ! (framed 𝓤 𝓛.H 𝓜 𝓣) (Asking 𝓛 𝓜 𝓡 κ q r n) (asked_heap.met 𝓤 𝓛 𝓜 𝓡 (code.calls-std::impls::GlobalAllocator::allocate 𝓡.env wired))
+    (asked 𝓛 𝓜 𝓡 κ q r n)
     (and_then ! (get ! refl) (and_then ! (get ! refl) (and_then ! (lit ! tt) (no_more !)))) (λ v.
-    use1 𝓛 (later (some (λ (h : Outcome). given (v ≡ spelled h) (‵ (handed r.now n h) ⊛ Alive)))) (answer 𝓛 𝓜 𝓡 κ q r n v) $ await ! tt $ pick ! (λ h. learn ! (λ is. split ! $
+    use1 𝓛 (later (some (λ (h : Outcome). given (v ≡ spelled h) (‵ (handed r.now n h) ⊛ Alive)))) (answer 𝓛 𝓜 𝓡 κ q r n v) $ await ! tt $
+    pick ! (λ h. learn ! (λ is. split ! $
     lands_as ! is refl (spelled_fits h) $ by ! (answered 𝓛 𝓜 𝓡 κ q r n small fits wired l h).prf))))))

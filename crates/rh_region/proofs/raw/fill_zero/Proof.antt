@@ -66,7 +66,8 @@ module _ {M : Type 1} {𝓤 : Ura M} (𝓛 : Logic 𝓤) (𝓜 : Model 𝓤 𝓛
 
     -- the zeros are all that is owned at the end
     ends : ent 𝓤 (sem 𝓛 (zeros_at p n)) (End p n vunit)
-    ends = qed 𝓛 (‵ (zeros_at p n) ∷ []) ∵ suffices ! _ (leaves 𝓛 f.ended kept clauses (called p n) vunit tt (tt, (tt, tt)) (tt, (tt, tt))) $ nothing_said ! $ spent ! 2 $ nothing ! $ done !
+    ends = qed 𝓛 (‵ (zeros_at p n) ∷ []) ∵ suffices ! _ (leaves 𝓛 f.ended kept clauses (called p n) vunit tt (tt, (tt, tt)) (tt, (tt, tt))) $
+        nothing_said ! $ spent ! 2 $ nothing ! $ done !
 
     module _ (fits : n < 2 ^ 64) (l : ℕ → ℕ) where
       abbrev En : Env 𝓤 𝓛.H
@@ -119,12 +120,14 @@ module _ {M : Type 1} {𝓤 : Ura M} (𝓛 : Logic 𝓤) (𝓜 : Model 𝓤 𝓛
       qed 𝓛 (‵ (room_of (block_ptr b o) n) ∷ []) ∵ use1 𝓛 (‵ (Filling n b o 0)) (none_filled 𝓛 n b o) $
       enter ! 𝓣.C 𝓣.Λ code.function (vptr b o ∷ vint w64 n ∷ []) _ $ alloc_all ! (λ l. pass_all ! refl ((tt, tt), ((tt, record { fits = fits }), tt)) $
       sets ! (of_opd ! (lit ! tt)) refl (tt, record { fits = lit< tt }) $ forget_but ! (En b o n fits l) (1 ∷ 2 ∷ 3 ∷ []) refl $
-      first ! $ blocks ! $ loops ! 𝓣 (Fewer n) (InvImage.wf (λ (t : Count n). n - t.0) lt-wf_rel.wf) (Before b o n fits l) (turns b o n fits l) (0, omega arith))
+      first ! $ blocks ! $ loops ! 𝓣 (Fewer n) (InvImage.wf (λ (t : Count n). n - t.0) lt-wf_rel.wf) (Before b o n fits l) (turns b o n fits l)
+      (0, omega arith))
 
 pub fill_zero_spec : {M : Type 1} → statement M
 unfolding tables_of
 fill_zero_spec 𝓤 𝓛 𝓜 𝓡 wired =
-    proved 𝓛 f.ended kept (clauses 𝓛 𝓜 𝓡) 𝓜 𝓡 (Goes-dropped 𝓛 0 (plain (λ _. RawPtr)) yes (λ κs x w. refl), (Goes-dropped 𝓛 0 (plain (λ _. usize)) yes (λ κs x w. refl), tt))
+    proved 𝓛 f.ended kept (clauses 𝓛 𝓜 𝓡) 𝓜 𝓡
+    (Goes-dropped 𝓛 0 (plain (λ _. RawPtr)) yes (λ κs x w. refl), (Goes-dropped 𝓛 0 (plain (λ _. usize)) yes (λ κs x w. refl), tt))
     f.Key.name code.function (code.unfolded 𝓤 𝓛.H 𝓜 𝓡 wired)
     (λ κs. (rawptr_vals, (uint_vals w64, tt))) (λ κs. (rawptr_Tells, (uint_Tells w64, tt))) (λ κs qs bounds a n are.
     qed 𝓛 (raw (on_entry 𝓛 f.signature κs qs a (rawptr_vals a.0, (uint_vals w64 a.1.0, tt))) ∷ ‵ (room_of a.0 a.1.0) ∷ []) ∵ drop ! $

@@ -13,7 +13,8 @@ use mir.Syntax.{named}
 use mir.Val.{Val, vunit}
 use prog.Model.{Model}
 use types.Logic.{Logic, sem}
-use types.Kit.{mean, ‵, raw, ◌⊛◌, given, later, await, learn, at_ret, ◌$◌, ◌∵◌, !, qed, by, move, keep, drop, use1, split, split3, group, rewrite, fsplit, feq_l, suffices, done}
+use types.Kit.{mean, ‵, raw, ◌⊛◌, given, later, await, learn, at_ret, ◌$◌, ◌∵◌, !, qed, by, move, keep, drop, use1, split, split3, group, rewrite, fsplit}
+use types.Kit.{feq_l, suffices, done}
 use types.Part.{whole, sub}
 use types.Run.{stop, fld, lit, unit_lit, of_opd, and_then, no_more, first, blocks, exec, returns, enter}
 use types.ByLocal.{alloc_all, pass_all, free_all, look_at, get, get_in, sets, lands_last, env}
@@ -59,7 +60,8 @@ module _ {M : Type 1} {𝓤 : Ura M} (𝓛 : Logic 𝓤) (𝓜 : Model 𝓤 𝓛
     End = (walk_of 𝓛 f.ended kept clauses).post called
 
     -- the memory that goes back, once the block's bytes are let go: it goes to the heap that it came from
-    opened : d.alloc ≡ r.now → ent 𝓤 (sem 𝓛 (R.own_val d (lowers.lowered d ∷ []))) (mean 𝓛 (given (d.len < 2 ^ 63) (‵ (room_of d.start d.len) ⊛ ‵ (right r.now d.len d.start))))
+    opened : d.alloc ≡ r.now
+        → ent 𝓤 (sem 𝓛 (R.own_val d (lowers.lowered d ∷ []))) (mean 𝓛 (given (d.len < 2 ^ 63) (‵ (room_of d.start d.len) ⊛ ‵ (right r.now d.len d.start))))
     opened same =
         qed 𝓛 (‵ (R.own_val d (lowers.lowered d ∷ [])) ∷ []) ∵ fsplit ! $ drop ! $
         rewrite ! 0 (λ (h : Global). ‵ (block_owns d.start d.len h d.bytes)) same refl $ by ! (emptied 𝓛 (record d { alloc = r.now }))
@@ -71,7 +73,10 @@ module _ {M : Type 1} {𝓤 : Ura M} (𝓛 : Logic 𝓤) (𝓜 : Model 𝓤 𝓛
 pub free_spec : {M : Type 1} → statement M
 free_spec 𝓤 𝓛 𝓜 𝓡 wired =
     let 𝓣 = tables 𝓤 𝓛.H 𝓜 𝓡 𝓡.env in
-    proved 𝓛 f.ended kept (clauses 𝓛 𝓜 𝓡) 𝓜 𝓡 (Goes-dropped 𝓛 1 (RefOf (0 ∷ []) tt (plain (λ _. heap.the_row)) (λ _. tt)) yes (λ κs x w. refl), (Goes-blank 𝓛 1 (plain (λ _. R)) yes (λ κs x w. tt), tt))
+    proved 𝓛 f.ended kept (clauses 𝓛 𝓜 𝓡) 𝓜 𝓡 (
+      Goes-dropped 𝓛 1 (RefOf (0 ∷ []) tt (plain (λ _. heap.the_row)) (λ _. tt)) yes (λ κs x w. refl),
+      (Goes-blank 𝓛 1 (plain (λ _. R)) yes (λ κs x w. tt), tt),
+    )
     f.Key.name code.function (code.unfolded 𝓤 𝓛.H 𝓜 𝓡 wired)
     (λ κs. (shr_vals, ((λ d. lowers.lowered d ∷ []), tt))) (λ κs. (shr_Tells (named 0) κs.0 heap.the_row, (lowers.val_is, tt))) (λ κs qs bounds a _ are.
     let κ = κs.0 in let q = qs.0 in let r = a.0 in let d = a.1.0 in let n = d.len in
@@ -80,11 +85,13 @@ free_spec 𝓤 𝓛 𝓜 𝓡 wired =
     split ! $ move ! (1 ∷ []) $ split3 ! $ keep ! (4 ∷ 1 ∷ 0 ∷ 3 ∷ []) $ heard ! _ (λ same.
     use1 𝓛 (given (n < 2 ^ 63) (‵ (room_of d.start n) ⊛ ‵ (right r.now n d.start))) (opened 𝓛 𝓜 𝓡 κ q r d same) $ learn ! (λ small. split ! $
     -- [the room; the right to free it; the `&` to the heap; its token]
-    enter ! _ _ _ _ _ $ alloc_all ! (λ l. let fits : n < 2 ^ 64 = omega arith in pass_all ! refl ((tt, tt), (((the_row_laws.lawful 𝓛).typed d _ are.1.0).0, tt)) $
+    enter ! _ _ _ _ _ $ alloc_all ! (λ l. let fits : n < 2 ^ 64 = omega arith in
+    pass_all ! refl ((tt, tt), (((the_row_laws.lawful 𝓛).typed d _ are.1.0).0, tt)) $
     sets ! (of_opd ! (get_in ! (fld ! refl (stop !)) (sub ! 0 refl (whole !)))) refl ((rawptr_Lawful 𝓛).typed d.start _ refl).0 $
     sets ! (of_opd ! (get_in ! (fld ! refl (stop !)) (sub ! 1 refl (whole !)))) refl (tt, record { fits = fits }) $
     group ! 4 $ use1 𝓛 (raw ((Giving 𝓛 𝓜 𝓡 κ q r n d.start).pre (given_back 𝓛 𝓜 𝓡 κ q r n d.start))) (give 𝓛 𝓜 𝓡 κ q r n d.start small) $ first ! $ blocks ! $
-    calls_at_last ! (framed 𝓤 𝓛.H 𝓜 𝓣) (Giving 𝓛 𝓜 𝓡 κ q r n d.start) (met 𝓤 𝓛 𝓜 𝓡 (code.calls-std::impls::GlobalAllocator::deallocate 𝓡.env wired)) (given_back 𝓛 𝓜 𝓡 κ q r n d.start)
+    calls_at_last ! (framed 𝓤 𝓛.H 𝓜 𝓣) (Giving 𝓛 𝓜 𝓡 κ q r n d.start) (met 𝓤 𝓛 𝓜 𝓡 (code.calls-std::impls::GlobalAllocator::deallocate 𝓡.env wired))
+    (given_back 𝓛 𝓜 𝓡 κ q r n d.start)
     (and_then ! (get ! refl) (and_then ! (get ! refl) (and_then ! (get ! refl) (and_then ! (lit ! tt) (no_more !))))) (λ v.
     use1 𝓛 (later (‵ (unit.own_val tt (v ∷ [])) ⊛ Token)) (taken 𝓛 𝓜 𝓡 κ q r n d.start v) $ await ! tt $ split ! $ feq_l ! (λ is_unit.
     lands_last ! refl (unit_fits v is_unit) $ exec ! 𝓣.C 𝓣.Λ (env code.Mir.locals l) (after 3 (code.function).body) (at_ret _ (End 𝓛 𝓜 𝓡 κ q r d)) $

@@ -23,8 +23,10 @@ items-smaller g c = omega (arith, slice_get_within (area_items c.args.world.now.
 
 pub items-preserved : goal.items-preserved
 items-preserved g c =
-    gathered_next area_line (ok (decimal c.args.free ∷ [])) _ c.items.i (item_of c.in-Some.item) c.in-Some.ensures.item c.items.invariant c.in_ok-make_room.ensures.ok c.add_area.ensures
+    gathered_next area_line (ok (decimal c.args.free ∷ [])) _ c.items.i (item_of c.in-Some.item) c.in-Some.ensures.item c.items.invariant
+    c.in_ok-make_room.ensures.ok c.add_area.ensures
 
 pub returns : goal.returns
 returns g c =
-    gathered_ends _ c.put.result (gathered_whole area_line (ok (decimal c.args.free ∷ [])) _ c.items.i c.in_default.ensures.item c.items.invariant) (rw (← c.as_slice.ensures) c.put.ensures)
+    gathered_ends _ c.put.result (gathered_whole area_line (ok (decimal c.args.free ∷ [])) _ c.items.i c.in_default.ensures.item c.items.invariant)
+    (rw (← c.as_slice.ensures) c.put.ensures)

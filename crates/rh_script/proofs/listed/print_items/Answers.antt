@@ -9,12 +9,15 @@ loop-item-init g c = rw (c.add_number.ensures, c.new-row.ensures) (gathered_none
 
 pub returns-in_err-make_room : goal.returns-in_err-make_room
 returns-in_err-make_room g c =
-    gathered_stops block_line (ok (decimal c.args.count ∷ [])) _ c.loop-item.item-index _ _ c.from_residual.ensures.0 c.loop-item.invariant c.in_err-make_room.ensures.err
+    gathered_stops block_line (ok (decimal c.args.count ∷ [])) _ c.loop-item.item-index _ _ c.from_residual.ensures.0 c.loop-item.invariant
+    c.in_err-make_room.ensures.err
 
 pub loop-item-preserved : goal.loop-item-preserved
 loop-item-preserved g c =
-    gathered_each block_line (ok (decimal c.args.count ∷ [])) _ c.loop-item.item-index c.item-item.result _ c.item-item.is c.loop-item-test.true c.loop-item.invariant c.in_ok-make_room.ensures.ok c.add_block.ensures
+    gathered_each block_line (ok (decimal c.args.count ∷ [])) _ c.loop-item.item-index c.item-item.result _ c.item-item.is c.loop-item-test.true
+    c.loop-item.invariant c.in_ok-make_room.ensures.ok c.add_block.ensures
 
 pub returns : goal.returns
 returns g c =
-    gathered_ends _ c.put.result (gathered_all block_line (ok (decimal c.args.count ∷ [])) _ c.loop-item.item-index (omega (arith, c.loop-item-test.false)) c.loop-item.invariant) (rw (← c.as_slice.ensures) c.put.ensures)
+    gathered_ends _ c.put.result (gathered_all block_line (ok (decimal c.args.count ∷ [])) _ c.loop-item.item-index (omega (arith, c.loop-item-test.false))
+    c.loop-item.invariant) (rw (← c.as_slice.ensures) c.put.ensures)

@@ -10,7 +10,8 @@ returns-in-Err-clause-refused g c =
 
 pub returns-in-Ok-clause-refused : goal.returns-in-Ok-clause-refused
 returns-in-Ok-clause-refused g c =
-    shows_none c.args.world.now.desk c.args.name.now c.args.anchor _ _ _ (named_is_slot c.args.name.now c.args.world.now.desk c.spelled.ensures.desk.slots) (grind (arith, tests)) c.in-Ok.ensures.ok
+    shows_none c.args.world.now.desk c.args.name.now c.args.anchor _ _ _ (named_is_slot c.args.name.now c.args.world.now.desk c.spelled.ensures.desk.slots)
+    (grind (arith, tests)) c.in-Ok.ensures.ok
 
 pub returns-clause-told : goal.returns-clause-told
 returns-clause-told g c = (size_read c.args.world.now.desk c.args.name.now c.args.anchor _ _ _ c.show.ensures).told

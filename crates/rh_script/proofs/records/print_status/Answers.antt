@@ -3,7 +3,8 @@ use Rattle.rh_script.proofs.records.print_status.Goals as goal
 
 pub returns-in-Ok : goal.returns-in-Ok
 returns-in-Ok g c =
-    rw (← status_text c.args.world.now.desk c.args.name.now c.in-Ok.records.0 c.in-Ok.records.1.now c.in-Ok.records.2.now c.in-Ok.ensures.ok) c.print_records.ensures
+    rw (← status_text c.args.world.now.desk c.args.name.now c.in-Ok.records.0 c.in-Ok.records.1.now c.in-Ok.records.2.now c.in-Ok.ensures.ok)
+    c.print_records.ensures
 
 pub returns-in-Err : goal.returns-in-Err
 returns-in-Err g c =

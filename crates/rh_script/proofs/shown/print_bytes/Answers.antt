@@ -7,7 +7,8 @@ use Rattle.rh_script.proofs.shown.print_bytes.Goals as goal
 pub returns-in_err-put : goal.returns-in_err-put
 returns-in_err-put g c =
     let some : length (bytes_of_named c.args.name.now c.args.anchor c.args.world.now.desk) ≢ 0 = omega arith in
-    rw (spaced (bytes_of_named c.args.name.now c.args.anchor c.args.world.now.desk) some) (puts_stops _ (puts_before _ c.in_err-put.ensures refl) c.from_residual.ensures.0)
+    rw (spaced (bytes_of_named c.args.name.now c.args.anchor c.args.world.now.desk) some)
+    (puts_stops _ (puts_before _ c.in_err-put.ensures refl) c.from_residual.ensures.0)
 
 pub returns : goal.returns
 returns g c =

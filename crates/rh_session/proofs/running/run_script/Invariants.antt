@@ -9,5 +9,7 @@ invariant-loop-turn g l = record {
   none_held : l.held.bytes ≡ [];
   reads : (g.R.Source.input l.reader).reads ≡ l._turn;
   well : (g.R.Source.input l.reader).failed ≡ (g.R.Source.input l.fn.reader).failed;
-  going : (d : Desk) → g.D.Desktop.spells l.fn.desktop d → Going g.D.Desktop.spells d (g.R.Source.input l.fn.reader) (g.R.Source.input l.reader) (g.W.Sink.output l.fn.writer) (g.W.Sink.output l.writer) l.session;
+  going : (d : Desk) → g.D.Desktop.spells l.fn.desktop d
+      → Going g.D.Desktop.spells d (g.R.Source.input l.fn.reader) (g.R.Source.input l.reader) (g.W.Sink.output l.fn.writer) (g.W.Sink.output l.writer)
+      l.session;
 }

@@ -8,8 +8,10 @@ pub areas-preserved : goal.areas-preserved
 areas-preserved g c =
     ap holdings_of c.push.ensures.items
     ∙ (map-append holding_of c.areas.list.items _
-    ∙ filled-more made_holding (g.S.Sight.desk c.args.sight.now).made c.areas.i (holdings_of c.args.list.now.items) (holdings_of c.areas.list.items) c.areas.invariant _ c.in-Some.ensures.some)
+    ∙ filled-more made_holding (g.S.Sight.desk c.args.sight.now).made c.areas.i (holdings_of c.args.list.now.items) (holdings_of c.areas.list.items)
+    c.areas.invariant _ c.in-Some.ensures.some)
 
 pub returns : goal.returns
 returns g c =
-    filled-all made_holding (g.S.Sight.desk c.args.sight.now).made c.areas.i (holdings_of c.args.list.now.items) (holdings_of c.areas.list.items) c.areas.invariant c.in_default.ensures.none
+    filled-all made_holding (g.S.Sight.desk c.args.sight.now).made c.areas.i (holdings_of c.args.list.now.items) (holdings_of c.areas.list.items)
+    c.areas.invariant c.in_default.ensures.none

@@ -11,15 +11,41 @@ use Rattle.rh_sight.proofs.pages.first_page.Goals as goal
 
 pub overflow_add-result-in-Made-2 : goal.overflow_add-result-in-Made-2
 overflow_add-result-in-Made-2 g c =
-    omega (arith, c.free_pages-free.ensures, c.fixed_before-in-Made.ensures, c.made_before.ensures, free-few c.spelled.ensures, fixed-room c.spelled.ensures FIXED_AREAS (omega arith), made-few c.spelled.ensures c.in-Made.i)
+    omega (
+      arith,
+      c.free_pages-free.ensures,
+      c.fixed_before-in-Made.ensures,
+      c.made_before.ensures,
+      free-few c.spelled.ensures,
+      fixed-room c.spelled.ensures FIXED_AREAS (omega arith),
+      made-few c.spelled.ensures c.in-Made.i,
+    )
 
 pub overflow_add-result-in-Slot-2 : goal.overflow_add-result-in-Slot-2
 overflow_add-result-in-Slot-2 g c =
-    omega (arith, c.free_pages-free.ensures, c.fixed_before-in-Slot.ensures, c.made_before-in-Slot.ensures, free-few c.spelled.ensures, fixed-room c.spelled.ensures FIXED_AREAS (omega arith), made-few c.spelled.ensures most_made)
+    omega (
+      arith,
+      c.free_pages-free.ensures,
+      c.fixed_before-in-Slot.ensures,
+      c.made_before-in-Slot.ensures,
+      free-few c.spelled.ensures,
+      fixed-room c.spelled.ensures FIXED_AREAS (omega arith),
+      made-few c.spelled.ensures most_made,
+    )
 
 pub overflow_add-result-in-Slot-3 : goal.overflow_add-result-in-Slot-3
 overflow_add-result-in-Slot-3 g c =
-    omega (arith, c.free_pages-free.ensures, c.fixed_before-in-Slot.ensures, c.made_before-in-Slot.ensures, c.slots_before.ensures, free-few c.spelled.ensures, fixed-room c.spelled.ensures FIXED_AREAS (omega arith), made-few c.spelled.ensures most_made, slots-few c.spelled.ensures c.in-Slot.i)
+    omega (
+      arith,
+      c.free_pages-free.ensures,
+      c.fixed_before-in-Slot.ensures,
+      c.made_before-in-Slot.ensures,
+      c.slots_before.ensures,
+      free-few c.spelled.ensures,
+      fixed-room c.spelled.ensures FIXED_AREAS (omega arith),
+      made-few c.spelled.ensures most_made,
+      slots-few c.spelled.ensures c.in-Slot.i,
+    )
 
 pub returns-in-Fixed : goal.returns-in-Fixed
 returns-in-Fixed g c =
@@ -37,4 +63,13 @@ pub returns-in-Slot : goal.returns-in-Slot
 returns-in-Slot g c =
     let before = before-slot c.spelled.ensures c.in-Slot.i in
     let same = ap (λ (o : PagesOf). pages_before o (g.S.Sight.desk c.args.sight.now)) c.in-Slot.is in
-    omega (arith, before, same, all-made c.spelled.ensures, c.free_pages-free.ensures, c.fixed_before-in-Slot.ensures, c.made_before-in-Slot.ensures, c.slots_before.ensures)
+    omega (
+      arith,
+      before,
+      same,
+      all-made c.spelled.ensures,
+      c.free_pages-free.ensures,
+      c.fixed_before-in-Slot.ensures,
+      c.made_before-in-Slot.ensures,
+      c.slots_before.ensures,
+    )

@@ -20,6 +20,7 @@ pub loop-i-preserved : goal.loop-i-preserved
 loop-i-preserved g c =
     let so_far = c.loop-i.invariant in
     elim c.match-task.branch [
-      | in-Some w ↦ (let s = w.in-Some.ensures.some in omega (arith, w.count-is, s.2.pages, total-more task_pages (g.S.Sight.desk c.args.sight.now).tasks c.loop-i.i s.0 s.1))
+      | in-Some w ↦ (let s = w.in-Some.ensures.some in
+          omega (arith, w.count-is, s.2.pages, total-more task_pages (g.S.Sight.desk c.args.sight.now).tasks c.loop-i.i s.0 s.1))
       | in_default w ↦ omega (arith, w.count-is, total-past task_pages (g.S.Sight.desk c.args.sight.now).tasks c.loop-i.i w.in_default.ensures.none)
     ]

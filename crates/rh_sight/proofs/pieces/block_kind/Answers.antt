@@ -18,4 +18,5 @@ in-slot x heap i h address size fresh e f =
 
 pub returns-in-Task : goal.returns-in-Task
 returns-in-Task c = λ d is.
-    in-slot (scene_at d c.args.step.now) c.args.drawn.now.heap _ c.args.drawn.now.handle c.args.address c.args.size c.is_fresh_block.result c.in-Task.is (c.is_fresh_block.ensures d)
+    in-slot (scene_at d c.args.step.now) c.args.drawn.now.heap _ c.args.drawn.now.handle c.args.address c.args.size c.is_fresh_block.result c.in-Task.is
+    (c.is_fresh_block.ensures d)

@@ -26,16 +26,19 @@ returns-then-changed c = λ d is.
     let b = c.args.address - 25165824 in
     let x = scene_at d c.args.step.now in
     let mine = ap (λ (m : MessageItem). m.my_ref) c.message.view_is in
-    let known = ap (option_map (λ (m : MessageItem). m.my_ref)) (sym c.in-Some.is ∙ c.message_in.ensures) ∙ (ap (λ ms. option_map (λ (m : MessageItem). m.my_ref) (find (lies_in b) ms)) is.messages ∙ ref-in-block b d) in
+    let known = ap (option_map (λ (m : MessageItem). m.my_ref)) (sym c.in-Some.is ∙ c.message_in.ensures)
+    ∙ (ap (λ ms. option_map (λ (m : MessageItem). m.my_ref) (find (lies_in b) ms)) is.messages ∙ ref-in-block b d) in
     let t = eq-eqb c.args.step.now.marks.module_block c.args.address c.if-changed.true in
-    both (ap Posted mine ∙ posted-kind c.args.size c.in-Some.message.my_ref (message_in x b) known) (t ∙ sym (ap (λ (z : Bool). z || is_new_message x (message_in x b)) t))
+    both (ap Posted mine ∙ posted-kind c.args.size c.in-Some.message.my_ref (message_in x b) known)
+    (t ∙ sym (ap (λ (z : Bool). z || is_new_message x (message_in x b)) t))
 
 pub returns-else-changed : goal.returns-else-changed
 returns-else-changed c = λ d is.
     let b = c.args.address - 25165824 in
     let x = scene_at d c.args.step.now in
     let mine = ap (λ (m : MessageItem). m.my_ref) c.message.view_is in
-    let known = ap (option_map (λ (m : MessageItem). m.my_ref)) (sym c.in-Some.is ∙ c.message_in.ensures) ∙ (ap (λ ms. option_map (λ (m : MessageItem). m.my_ref) (find (lies_in b) ms)) is.messages ∙ ref-in-block b d) in
+    let known = ap (option_map (λ (m : MessageItem). m.my_ref)) (sym c.in-Some.is ∙ c.message_in.ensures)
+    ∙ (ap (λ ms. option_map (λ (m : MessageItem). m.my_ref) (find (lies_in b) ms)) is.messages ∙ ref-in-block b d) in
     let f = ne_eqb c.args.step.now.marks.module_block c.args.address c.if-changed.false in
     both (ap Posted mine ∙ posted-kind c.args.size c.in-Some.message.my_ref (message_in x b) known)
     (c.is_new_ref.ensures ∙ (posted-new x c.in-Some.message.my_ref (message_in x b) known ∙ sym (ap (λ (z : Bool). z || is_new_message x (message_in x b)) f)))
@@ -44,6 +47,7 @@ pub returns-in-None : goal.returns-in-None
 returns-in-None c = λ d is.
     let b = c.args.address - 25165824 in
     let x = scene_at d c.args.step.now in
-    let known = ap (option_map (λ (m : MessageItem). m.my_ref)) (sym c.in-None.is ∙ c.message_in.ensures) ∙ (ap (λ ms. option_map (λ (m : MessageItem). m.my_ref) (find (lies_in b) ms)) is.messages ∙ ref-in-block b d) in
+    let known = ap (option_map (λ (m : MessageItem). m.my_ref)) (sym c.in-None.is ∙ c.message_in.ensures)
+    ∙ (ap (λ ms. option_map (λ (m : MessageItem). m.my_ref) (find (lies_in b) ms)) is.messages ∙ ref-in-block b d) in
     let changed : Bool = c.args.step.now.marks.module_block == c.args.address in
     both (claimed-kind c.args.size (message_in x b) known) (sym (or-none changed) ∙ ap (λ (z : Bool). changed || z) (claimed-new x (message_in x b) known))

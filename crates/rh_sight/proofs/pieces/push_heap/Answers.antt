@@ -92,8 +92,11 @@ returns g c =
       | then-others-gt0 w ↦ more-then off (total size_of (take 512 h.segments)) c.take_census-others.result.count c.take_census-others.result.end place
           (c.heap_address.result - c.area_address.result) (drop 512 h.segments) mid high w.plain-then-others-gt0.result begins at count end w.if-others-gt0.true
           w.plain-then-others-gt0.ensures (ap (λ v. v.items) w.pieces-is ∙ w.push-then-others-gt0.ensures.items)
-      | else-others-gt0 w ↦ more-else (off + first_place + total size_of (take 512 h.segments)) c.take_census-others.result.count (drop 512 h.segments) mid high count
+      | else-others-gt0 w ↦ more-else (off + first_place + total size_of (take 512 h.segments)) c.take_census-others.result.count (drop 512 h.segments) mid
+          high count
           w.if-others-gt0.false (ap (λ v. v.items) w.pieces-is)
     ] in
-    heap-whole legend off (c.heap_address.result - c.area_address.result) place c.take_census-others.result.end c.heap_end.result h c.args.pieces.now.items low mid high
-    c.push-2.new.self.items c.plain.result c.plain-2.result begins c.plain.ensures at end most c.plain-2.ensures c.push.ensures.items segs more c.push-2.ensures.items)
+    heap-whole legend off (c.heap_address.result - c.area_address.result) place c.take_census-others.result.end c.heap_end.result h c.args.pieces.now.items
+    low mid high
+    c.push-2.new.self.items c.plain.result c.plain-2.result begins c.plain.ensures at end most c.plain-2.ensures c.push.ensures.items segs more
+    c.push-2.ensures.items)

@@ -15,6 +15,7 @@ invariant-loop-item l = record {
       l.items ≡ segment_items_from (heap_start_of l.drawn.heap + place) segments →
       l.pieces.items
       ≡ l.initial.pieces.items
-      ++ segment_pieces (legend_of (scene_at d l.step) l.drawn.heap l.drawn.handle) (heap_start_of l.drawn.heap - area_start_of l.drawn.heap + place) (take l.item-index segments);
+      ++ segment_pieces (legend_of (scene_at d l.step) l.drawn.heap l.drawn.handle) (heap_start_of l.drawn.heap - area_start_of l.drawn.heap + place)
+      (take l.item-index segments);
   few : length l.pieces.items ≡ length l.initial.pieces.items + l.item-index;
 }

@@ -18,7 +18,8 @@ pub segments-items-requires : goal.segments-items-requires
 segments-items-requires g c =
     let r = some-of (heap_seen c.args.drawn.now.heap (g.S.Sight.desk c.args.sight.now)) c.requires.heap in
     let n = SEGMENTS_AT_ONCE * c.loop-turn._turn in
-    for-heap r.0 r.1 _ (take n r.0.segments, drop n r.0.segments, sym (take-append-drop n r.0.segments), turn-place r.0 r.1 n c.loop-turn.place c.loop-turn.invariant.place)
+    for-heap r.0 r.1 _
+    (take n r.0.segments, drop n r.0.segments, sym (take-append-drop n r.0.segments), turn-place r.0 r.1 n c.loop-turn.place c.loop-turn.invariant.place)
 
 pub push_items-requires-clause-items : goal.push_items-requires-clause-items
 push_items-requires-clause-items g c =
@@ -26,7 +27,8 @@ push_items-requires-clause-items g c =
     let n = SEGMENTS_AT_ONCE * c.loop-turn._turn in (
       c.loop-turn.place,
       take SEGMENTS_AT_ONCE (drop n r.0.segments),
-      c.deref.ensures.0 ∙ turn-items r.0 r.1 (heap_start_of c.args.drawn.now.heap) n c.loop-turn.place c.segments-items.result.items c.loop-turn.invariant.place c.segments-items.ensures,
+      c.deref.ensures.0 ∙ turn-items r.0 r.1 (heap_start_of c.args.drawn.now.heap) n c.loop-turn.place c.segments-items.result.items
+          c.loop-turn.invariant.place c.segments-items.ensures,
     )
 
 pub place_behind-place-requires-clause-low : goal.place_behind-place-requires-clause-low
@@ -36,7 +38,8 @@ place_behind-place-requires-clause-low g c =
     let start = heap_start_of c.args.drawn.now.heap in
     let items = turn-items r.0 r.1 start n c.loop-turn.place c.segments-items.result.items c.loop-turn.invariant.place c.segments-items.ensures in
     let here = c.in-Some.ensures.value ∙ ap (λ xs. slice_get xs (length xs - 1)) c.deref-in-loop-turn.ensures.0 in
-    (turn-ends start n c.loop-turn.place r.0 c.segments-items.result.items c.in-Some.last.now (turn-place r.0 r.1 n c.loop-turn.place c.loop-turn.invariant.place) items here (seen c.spelled.ensures c.args.drawn.now.heap r.0 r.1)).0
+    (turn-ends start n c.loop-turn.place r.0 c.segments-items.result.items c.in-Some.last.now
+    (turn-place r.0 r.1 n c.loop-turn.place c.loop-turn.invariant.place) items here (seen c.spelled.ensures c.args.drawn.now.heap r.0 r.1)).0
 
 pub place_behind-place-requires-clause-small : goal.place_behind-place-requires-clause-small
 place_behind-place-requires-clause-small g c =
@@ -45,7 +48,8 @@ place_behind-place-requires-clause-small g c =
     let start = heap_start_of c.args.drawn.now.heap in
     let items = turn-items r.0 r.1 start n c.loop-turn.place c.segments-items.result.items c.loop-turn.invariant.place c.segments-items.ensures in
     let here = c.in-Some.ensures.value ∙ ap (λ xs. slice_get xs (length xs - 1)) c.deref-in-loop-turn.ensures.0 in
-    let ends = turn-ends start n c.loop-turn.place r.0 c.segments-items.result.items c.in-Some.last.now (turn-place r.0 r.1 n c.loop-turn.place c.loop-turn.invariant.place) items here (seen c.spelled.ensures c.args.drawn.now.heap r.0 r.1) in
+    let ends = turn-ends start n c.loop-turn.place r.0 c.segments-items.result.items c.in-Some.last.now
+    (turn-place r.0 r.1 n c.loop-turn.place c.loop-turn.invariant.place) items here (seen c.spelled.ensures c.args.drawn.now.heap r.0 r.1) in
     omega (arith, ends.1, start-small c.args.drawn.now.heap)
 
 pub loop-turn-preserved : goal.loop-turn-preserved
@@ -68,7 +72,8 @@ loop-turn-preserved g c =
     let pieces = pieces-on legend off n c.loop-turn.place r.0.segments old now new at so_far more in
     let next : c.match-last.place ≡ place_after (take (n + SEGMENTS_AT_ONCE) r.0.segments) =
     elim c.match-last.branch [
-      | in-Some w ↦ w.place-is ∙ place-on start n c.loop-turn.place w.place_behind-place.result r.0.segments c.segments-items.result.items w.in-Some.last.now at items
+      | in-Some w ↦ w.place-is
+          ∙ place-on start n c.loop-turn.place w.place_behind-place.result r.0.segments c.segments-items.result.items w.in-Some.last.now at items
           (w.in-Some.ensures.value ∙ ap (λ xs. slice_get xs (length xs - 1)) c.deref-in-loop-turn.ensures.0) w.place_behind-place.ensures
       | in_default w ↦ w.place-is ∙ place-same start n c.loop-turn.place r.0.segments c.segments-items.result.items at items
           (w.in_default.ensures.value ∙ ap (λ xs. slice_get xs (length xs - 1)) c.deref-in-loop-turn.ensures.0)

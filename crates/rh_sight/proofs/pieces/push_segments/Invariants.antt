@@ -16,7 +16,8 @@ invariant-loop-turn g l =
       pieces : IfSome (heap_seen l.drawn.heap d) (λ h.
           l.pieces.items
           ≡ l.initial.pieces.items
-          ++ segment_pieces (legend_of (scene_at d l.step) l.drawn.heap l.drawn.handle) (heap_start_of l.drawn.heap - area_start_of l.drawn.heap + first_place) (take (SEGMENTS_AT_ONCE * l._turn) h.segments));
+          ++ segment_pieces (legend_of (scene_at d l.step) l.drawn.heap l.drawn.handle)
+          (heap_start_of l.drawn.heap - area_start_of l.drawn.heap + first_place) (take (SEGMENTS_AT_ONCE * l._turn) h.segments));
       place : IfSome (heap_seen l.drawn.heap d) (λ h. l.place ≡ place_after (take (SEGMENTS_AT_ONCE * l._turn) h.segments));
       few : length l.pieces.items ≤ length l.initial.pieces.items + SEGMENTS_AT_ONCE * l._turn;
     }

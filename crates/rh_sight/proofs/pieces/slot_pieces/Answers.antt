@@ -26,7 +26,8 @@ push_blocks-end-requires-clause-few g c =
     let t = r.0 in
     let legend = slot_legend (scene_at d c.args.step.now) c.args.task.now.handle in
     let heap = ap (option_map (λ (x : Task). x.slot.heap)) r.1 in
-    let joined = at-some (option_map (λ (x : Task). x.slot.heap) (slice_get d.tasks c.args.i)) (λ (h : Heap). c.push_heap.new.pieces.items ≡ c.push.new.self.items ++ heap_pieces legend heap_place h) t.slot.heap heap c.push_heap.ensures in
+    let joined = at-some (option_map (λ (x : Task). x.slot.heap) (slice_get d.tasks c.args.i))
+    (λ (h : Heap). c.push_heap.new.pieces.items ≡ c.push.new.self.items ++ heap_pieces legend heap_place h) t.slot.heap heap c.push_heap.ensures in
     omega (
       arith,
       ap length joined,
@@ -70,7 +71,8 @@ push-requires-2 g c =
     let x = scene_at d c.args.step.now in
     let legend = slot_legend x c.args.task.now.handle in
     let heap = ap (option_map (λ (x : Task). x.slot.heap)) r.1 in
-    let joined = at-some (option_map (λ (x : Task). x.slot.heap) (slice_get d.tasks c.args.i)) (λ (h : Heap). c.push_heap.new.pieces.items ≡ c.push.new.self.items ++ heap_pieces legend heap_place h) t.slot.heap heap c.push_heap.ensures in
+    let joined = at-some (option_map (λ (x : Task). x.slot.heap) (slice_get d.tasks c.args.i))
+    (λ (h : Heap). c.push_heap.new.pieces.items ≡ c.push.new.self.items ++ heap_pieces legend heap_place h) t.slot.heap heap c.push_heap.ensures in
     let few : length c.push_blocks-end.new.pieces.items < 581 =
     omega (
       arith,
@@ -101,8 +103,12 @@ returns g c = λ t e.
     let blocks = subst B same r.3 in
     let handle = c.args.task.now.handle in
     let heap = ap (option_map (λ (x : Task). x.slot.heap)) e in
-    let joined = at-some (option_map (λ (x : Task). x.slot.heap) (slice_get d.tasks c.args.i)) (λ (h : Heap). c.push_heap.new.pieces.items ≡ c.push.new.self.items ++ heap_pieces (slot_legend x handle) heap_place h) t.slot.heap heap c.push_heap.ensures in
-    slot-whole x handle c.push_blocks-end.result c.args.task.now.heap_end c.args.task.now.pages t.slot c.args.blocks.now c.clear.new.self.items c.push.new.self.items
-    c.push_heap.new.pieces.items c.push_blocks-end.new.pieces.items c.push-2.new.self.items c.plain.result c.plain-2.result c.clear.ensures c.plain.ensures c.push.ensures.items joined
+    let joined = at-some (option_map (λ (x : Task). x.slot.heap) (slice_get d.tasks c.args.i))
+    (λ (h : Heap). c.push_heap.new.pieces.items ≡ c.push.new.self.items ++ heap_pieces (slot_legend x handle) heap_place h) t.slot.heap heap
+    c.push_heap.ensures in
+    slot-whole x handle c.push_blocks-end.result c.args.task.now.heap_end c.args.task.now.pages t.slot c.args.blocks.now c.clear.new.self.items
+    c.push.new.self.items
+    c.push_heap.new.pieces.items c.push_blocks-end.new.pieces.items c.push-2.new.self.items c.plain.result c.plain-2.result c.clear.ensures c.plain.ensures
+    c.push.ensures.items joined
     blocks seen.heap_end (c.push_blocks-end.ensures.pieces d) c.push_blocks-end.ensures.end seen.pages c.plain-2.ensures c.push-2.ensures.items
     ∙ ap (λ k. slot_pieces_of x k t.slot) seen.handle

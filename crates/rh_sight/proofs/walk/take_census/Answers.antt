@@ -53,7 +53,8 @@ pub places-preserved : goal.places-preserved
 places-preserved g c = λ rest w.
     let k = c.places.invariant rest w in
     let here = c.in-Some.ensures.value ∙ ap (λ xs. slice_get xs (length xs - 1)) c.deref.ensures.0 in
-    counted-so c.places.count c.places.items.items (counted-more w k c.place_behind-end.result c.in-Some.last.now c.segments-items-in-Some.result.items here c.place_behind-end.ensures c.segments-items-in-Some.ensures) c.len.ensures.value
+    counted-so c.places.count c.places.items.items (counted-more w k c.place_behind-end.result c.in-Some.last.now c.segments-items-in-Some.result.items here
+    c.place_behind-end.ensures c.segments-items-in-Some.ensures) c.len.ensures.value
 
 pub returns : goal.returns
 returns g c = λ rest w.

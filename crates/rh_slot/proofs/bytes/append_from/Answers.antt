@@ -17,7 +17,8 @@ use Rattle.rh_slot.proofs.SpanLaws.{budging_same}
 use Rattle.rh_slot.proofs.bytes.append_from.Goals as goal
 
 pub returns-in_default : goal.returns-in_default
-returns-in_default g c = refuses _ _ _ _ _ (ap no_answer (append_none _ _ _ (slot_in (g.S.Words.memory c.args.store.now) c.args.slot) c.in_default.ensures)) refl c.requires.slot
+returns-in_default g c =
+    refuses _ _ _ _ _ (ap no_answer (append_none _ _ _ (slot_in (g.S.Words.memory c.args.store.now) c.args.slot) c.in_default.ensures)) refl c.requires.slot
 
 pub top_from-requires-clause-walked : goal.top_from-requires-clause-walked
 top_from-requires-clause-walked g c = walked_past _ _ _ _ _ _ c.in-Some.ensures.at c.flex_weight.ensures
@@ -27,8 +28,10 @@ returns-in_default-room_for g c =
     let s = slot_in (g.S.Words.memory c.args.store.now) c.args.slot in
     let t = c.in-Some.ensures in
     let l = length-part (bytes (g.S.Words.memory c.args.store.now) c.args.from.0) c.args.place c.args.n in
-    let q = appended_pages _ s _ _ _ _ _ _ _ t.cut t.at c.requires.slot.spells.pages c.flex_weight.ensures (c.flex_weight-2.ensures ∙ ap (λ i. flex_weight (c.in-Some.spot.size + i)) (sym l)) c.top_from.ensures in
-    refuses _ _ _ _ _ (ap no_answer (append_full _ _ _ s _ _ t.cut t.at (has_none _ _ _ c.in_default-room_for.ensures.refused refl q))) c.in_default-room_for.ensures.err c.requires.slot
+    let q = appended_pages _ s _ _ _ _ _ _ _ t.cut t.at c.requires.slot.spells.pages c.flex_weight.ensures
+    (c.flex_weight-2.ensures ∙ ap (λ i. flex_weight (c.in-Some.spot.size + i)) (sym l)) c.top_from.ensures in
+    refuses _ _ _ _ _ (ap no_answer (append_full _ _ _ s _ _ t.cut t.at (has_none _ _ _ c.in_default-room_for.ensures.refused refl q)))
+    c.in_default-room_for.ensures.err c.requires.slot
 
 pub shift-requires-clause-row : goal.shift-requires-clause-row
 shift-requires-clause-row g c =
@@ -69,12 +72,16 @@ returns g c =
     (in_both (part_of c.shift.ensures.below (omega arith) (omega arith)) (in_below c.write.ensures.only.outside (omega arith))) in
     let src = source_stays _ _ _ _ _ _ _ edits stays c.requires.above c.requires.below in
     let e : bytes (g.S.Words.memory c.copy.new.self) id ≡ put (bytes (g.S.Words.memory c.write.new.store) id) (place + 8 + size) xs =
-    ap (λ (r : Memory). bytes r id) c.copy.ensures ∙ bytes-with_bytes _ id _ ∙ ap (λ ys. put (bytes (g.S.Words.memory c.write.new.store) id) (place + 8 + size) ys) src in
-    let copied = Edited-put _ _ id (place + 8 + size) (place + 8 + size + c.args.n) _ c.copy.ensures (omega (arith, length-part (bytes (g.S.Words.memory c.write.new.store) c.args.from.0) c.args.place c.args.n)) in
+    ap (λ (r : Memory). bytes r id) c.copy.ensures ∙ bytes-with_bytes _ id _
+    ∙ ap (λ ys. put (bytes (g.S.Words.memory c.write.new.store) id) (place + 8 + size) ys) src in
+    let copied = Edited-put _ _ id (place + 8 + size) (place + 8 + size + c.args.n) _ c.copy.ensures
+    (omega (arith, length-part (bytes (g.S.Words.memory c.write.new.store) c.args.from.0) c.args.place c.args.n)) in
     let a = appended_words _ _ _ _ s _ place size from n to t.cut xs (words_grown _ _ _ c.requires.slot.spells r.same (omega (arith, r.len))) t.at
     (ap (λ w. place + w) c.flex_weight.ensures) (reach _ _ _ _ _ _ _ t.at c.flex_weight.ensures c.top_from.ensures) (ap (λ w. place + w) weighs)
     c.shift.ensures.shifted c.shift.ensures.below (omega (arith, copied.outside.len, c.write.ensures.only.outside.len, c.shift.ensures.only.outside.len, r.len))
     (c.write.ensures.word ∙ ap (λ i. size + i) (sym lx)) c.write.ensures.only.outside e in
-    leaves _ _ _ _ _ tt (ap no_answer (append_done _ _ _ s _ _ t.cut t.at (has_room _ _ _ c.in-Ok.ensures.refused (λ e. false-true e) q))) (budging_same m c.args.slot)
-    (paged _ _ _ a.0 a.1 (omega (arith, copied.outside.len, c.write.ensures.only.outside.len, c.shift.ensures.only.outside.len, r.len, c.requires.slot.spells.pages)))
+    leaves _ _ _ _ _ tt (ap no_answer (append_done _ _ _ s _ _ t.cut t.at (has_room _ _ _ c.in-Ok.ensures.refused (λ e. false-true e) q)))
+    (budging_same m c.args.slot)
+    (paged _ _ _ a.0 a.1 (omega
+    (arith, copied.outside.len, c.write.ensures.only.outside.len, c.shift.ensures.only.outside.len, r.len, c.requires.slot.spells.pages)))
     (then_edited edits copied)

@@ -9,7 +9,8 @@ use Rattle.rh_slot.proofs.WriteLaws.{put_copied}
 use Rattle.rh_slot.proofs.bytes.put_from.Goals as goal
 
 pub returns-in_default : goal.returns-in_default
-returns-in_default g c = refuses _ _ _ _ _ (ap no_answer (put_none _ _ _ (slot_in (g.S.Words.memory c.args.store.now) c.args.slot) c.in_default.ensures)) refl c.requires.slot
+returns-in_default g c =
+    refuses _ _ _ _ _ (ap no_answer (put_none _ _ _ (slot_in (g.S.Words.memory c.args.store.now) c.args.slot) c.in_default.ensures)) refl c.requires.slot
 
 pub returns-then-not-fits : goal.returns-then-not-fits
 returns-then-not-fits g c =

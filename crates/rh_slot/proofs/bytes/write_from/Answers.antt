@@ -12,7 +12,8 @@ use Rattle.rh_slot.proofs.bytes.write_from.Goals as goal
 
 pub overflow_sub-address : goal.overflow_sub-address
 overflow_sub-address g c =
-    let r = reached_part _ _ _ _ (bytes (g.S.Words.memory c.args.store.now) c.args.from.0) c.args.place _ c.requires.slot.spells c.requires.fits c.requires.reach in
+    let r = reached_part _ _ _ _ (bytes (g.S.Words.memory c.args.store.now) c.args.from.0) c.args.place _ c.requires.slot.spells c.requires.fits
+    c.requires.reach in
     let w = within _ _ _ _ _ c.requires.slot.spells r in
     omega (arith, w.low)
 
@@ -22,7 +23,8 @@ copy-requires-clause-source g c = rw c.take_map-map.ensures.same c.requires.sour
 pub copy-requires-clause-target : goal.copy-requires-clause-target
 copy-requires-clause-target g c =
     let n = length-part (bytes (g.S.Words.memory c.args.store.now) c.args.from.0) c.args.place c.args.n in
-    let r = reached_part _ _ _ _ (bytes (g.S.Words.memory c.args.store.now) c.args.from.0) c.args.place _ c.requires.slot.spells c.requires.fits c.requires.reach in
+    let r = reached_part _ _ _ _ (bytes (g.S.Words.memory c.args.store.now) c.args.from.0) c.args.place _ c.requires.slot.spells c.requires.fits
+    c.requires.reach in
     let w = within _ _ _ _ _ c.requires.slot.spells r in
     rw c.take_map-map.ensures.same (omega (arith, w.high))
 
@@ -37,7 +39,8 @@ keep_map-requires-clause-span g c =
     let xs = part (bytes m c.args.from.0) c.args.place c.args.n in
     let r = reached_part _ _ _ _ (bytes m c.args.from.0) c.args.place _ c.requires.slot.spells c.requires.fits c.requires.reach in
     let s = written_in c.args.address xs (buffer_at c.args.address c.args.room old) old in
-    let l = copied m n c.args.slot (Ok (s, tt)) s _ _ refl (reached_budging _ _ _ _ r) (rw c.take_map-map.ensures.same at c.copy.ensures) (reached_spells _ _ _ _ _ c.requires.slot.spells r) in
+    let l = copied m n c.args.slot (Ok (s, tt)) s _ _ refl (reached_budging _ _ _ _ r) (rw c.take_map-map.ensures.same at c.copy.ensures)
+    (reached_spells _ _ _ _ _ c.requires.slot.spells r) in
     is_span_at n c.args.slot _ c.span-2.ensures l.still
 
 pub keep_map-requires-clause-index : goal.keep_map-requires-clause-index
@@ -48,7 +51,8 @@ keep_map-requires-clause-index g c =
     let xs = part (bytes m c.args.from.0) c.args.place c.args.n in
     let r = reached_part _ _ _ _ (bytes m c.args.from.0) c.args.place _ c.requires.slot.spells c.requires.fits c.requires.reach in
     let s = written_in c.args.address xs (buffer_at c.args.address c.args.room old) old in
-    let l = copied m n c.args.slot (Ok (s, tt)) s _ _ refl (reached_budging _ _ _ _ r) (rw c.take_map-map.ensures.same at c.copy.ensures) (reached_spells _ _ _ _ _ c.requires.slot.spells r) in
+    let l = copied m n c.args.slot (Ok (s, tt)) s _ _ refl (reached_budging _ _ _ _ r) (rw c.take_map-map.ensures.same at c.copy.ensures)
+    (reached_spells _ _ _ _ _ c.requires.slot.spells r) in
     map_after _ m n c.args.slot s _ _ l.slot (reached_shape _ _ _ _ r) c.span.ensures c.span-2.ensures c.take_map-map.result c.take_map-map.ensures.index
 
 pub returns : goal.returns
@@ -59,5 +63,6 @@ returns g c =
     let xs = part (bytes m c.args.from.0) c.args.place c.args.n in
     let r = reached_part _ _ _ _ (bytes m c.args.from.0) c.args.place _ c.requires.slot.spells c.requires.fits c.requires.reach in
     let s = written_in c.args.address xs (buffer_at c.args.address c.args.room old) old in
-    let l = copied m n c.args.slot (Ok (s, tt)) s _ _ refl (reached_budging _ _ _ _ r) (rw c.take_map-map.ensures.same at c.copy.ensures) (reached_spells _ _ _ _ _ c.requires.slot.spells r) in
+    let l = copied m n c.args.slot (Ok (s, tt)) s _ _ refl (reached_budging _ _ _ _ r) (rw c.take_map-map.ensures.same at c.copy.ensures)
+    (reached_spells _ _ _ _ _ c.requires.slot.spells r) in
     rw c.keep_map.ensures l

@@ -8,8 +8,10 @@ walk-init c = words_start _
 
 pub walk-preserved : goal.walk-preserved
 walk-preserved c = elim c.if-word_in-ne0.branch [
-  | then-word_in-ne0 w ↦ subst (WordsTo _ _) (sym w.used-is) (words_on _ _ _ c.walk.invariant c.walk-test.true (λ e. w.if-word_in-ne0.true (c.word_in.ensures ∙ e)))
-  | else-word_in-ne0 w ↦ subst (WordsTo _ _) (sym w.used-is) (words_past _ _ _ c.walk.invariant c.walk-test.true (sym c.word_in.ensures ∙ w.if-word_in-ne0.false))
+  | then-word_in-ne0 w ↦ subst (WordsTo _ _) (sym w.used-is) (words_on _ _ _ c.walk.invariant c.walk-test.true
+      (λ e. w.if-word_in-ne0.true (c.word_in.ensures ∙ e)))
+  | else-word_in-ne0 w ↦ subst (WordsTo _ _) (sym w.used-is) (words_past _ _ _ c.walk.invariant c.walk-test.true
+      (sym c.word_in.ensures ∙ w.if-word_in-ne0.false))
 ]
 
 pub returns : goal.returns

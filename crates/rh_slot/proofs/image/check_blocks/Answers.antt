@@ -17,22 +17,27 @@ pub returns-in_default-clause-fault : goal.returns-in_default-clause-fault
 returns-in_default-clause-fault c = sym (bad_size _ _ (ready _ _ _ c.requires.length c.requires.heap c.word_in.ensures refl) c.in_default.ensures)
 
 pub returns-then-anchors_in_use-row-clause-ok : goal.returns-then-anchors_in_use-row-clause-ok
-returns-then-anchors_in_use-row-clause-ok c = refused _ BadAnchor (bad_anchor _ _ (ready _ _ _ c.requires.length c.requires.heap c.word_in.ensures refl) _ c.in-Some.ensures (λ e. c.if-anchors_in_use-row.true (c.anchors_in_use.ensures ∙ e)))
+returns-then-anchors_in_use-row-clause-ok c = refused _ BadAnchor (bad_anchor _ _ (ready _ _ _ c.requires.length c.requires.heap c.word_in.ensures refl) _
+    c.in-Some.ensures (λ e. c.if-anchors_in_use-row.true (c.anchors_in_use.ensures ∙ e)))
 
 pub returns-then-anchors_in_use-row-clause-fault : goal.returns-then-anchors_in_use-row-clause-fault
-returns-then-anchors_in_use-row-clause-fault c = sym (bad_anchor _ _ (ready _ _ _ c.requires.length c.requires.heap c.word_in.ensures refl) _ c.in-Some.ensures (λ e. c.if-anchors_in_use-row.true (c.anchors_in_use.ensures ∙ e)))
+returns-then-anchors_in_use-row-clause-fault c = sym (bad_anchor _ _ (ready _ _ _ c.requires.length c.requires.heap c.word_in.ensures refl) _
+    c.in-Some.ensures (λ e. c.if-anchors_in_use-row.true (c.anchors_in_use.ensures ∙ e)))
 
 pub returns-then-unused-ge-PAGE-clause-ok : goal.returns-then-unused-ge-PAGE-clause-ok
 returns-then-unused-ge-PAGE-clause-ok c =
-    refused _ SparePage (spare _ _ (ready _ _ _ c.requires.length c.requires.heap c.word_in.ensures refl) _ c.in-Some.ensures (sym c.anchors_in_use.ensures ∙ c.if-anchors_in_use-row.false) c.if-unused-ge-PAGE.true)
+    refused _ SparePage (spare _ _ (ready _ _ _ c.requires.length c.requires.heap c.word_in.ensures refl) _ c.in-Some.ensures
+    (sym c.anchors_in_use.ensures ∙ c.if-anchors_in_use-row.false) c.if-unused-ge-PAGE.true)
 
 pub returns-then-unused-ge-PAGE-clause-fault : goal.returns-then-unused-ge-PAGE-clause-fault
 returns-then-unused-ge-PAGE-clause-fault c =
-    sym (spare _ _ (ready _ _ _ c.requires.length c.requires.heap c.word_in.ensures refl) _ c.in-Some.ensures (sym c.anchors_in_use.ensures ∙ c.if-anchors_in_use-row.false) c.if-unused-ge-PAGE.true)
+    sym (spare _ _ (ready _ _ _ c.requires.length c.requires.heap c.word_in.ensures refl) _ c.in-Some.ensures
+    (sym c.anchors_in_use.ensures ∙ c.if-anchors_in_use-row.false) c.if-unused-ge-PAGE.true)
 
 pub returns-clause-ok : goal.returns-clause-ok
 returns-clause-ok c =
-    let i = all_right _ _ (ready _ _ _ c.requires.length c.requires.heap c.word_in.ensures refl) _ c.in-Some.ensures (sym c.anchors_in_use.ensures ∙ c.if-anchors_in_use-row.false) c.if-unused-ge-PAGE.false in
+    let i = all_right _ _ (ready _ _ _ c.requires.length c.requires.heap c.word_in.ensures refl) _ c.in-Some.ensures
+    (sym c.anchors_in_use.ensures ∙ c.if-anchors_in_use-row.false) c.if-unused-ge-PAGE.false in
     (λ _. i, λ _. refl)
 
 pub returns-clause-sums : goal.returns-clause-sums
@@ -40,4 +45,5 @@ returns-clause-sums c = sums_are _ _ (ready _ _ _ c.requires.length c.requires.h
 
 pub returns-clause-fault : goal.returns-clause-fault
 returns-clause-fault c =
-    sym (no_fault _ _ (ready _ _ _ c.requires.length c.requires.heap c.word_in.ensures refl) _ c.in-Some.ensures (sym c.anchors_in_use.ensures ∙ c.if-anchors_in_use-row.false) c.if-unused-ge-PAGE.false)
+    sym (no_fault _ _ (ready _ _ _ c.requires.length c.requires.heap c.word_in.ensures refl) _ c.in-Some.ensures
+    (sym c.anchors_in_use.ensures ∙ c.if-anchors_in_use-row.false) c.if-unused-ge-PAGE.false)

@@ -6,7 +6,8 @@ pub walk-init : goal.walk-init
 walk-init c = row_start _ _ c.requires.above c.requires.within c.requires.whole
 
 pub returns-then-left-lt-FLEX_HEADER : goal.returns-then-left-lt-FLEX_HEADER
-returns-then-left-lt-FLEX_HEADER c = let w = c.walk.invariant.within in let l = c.if-left-lt-FLEX_HEADER.true in row_over _ _ _ c.walk.invariant (sym c.walk-test.ensures) (omega arith)
+returns-then-left-lt-FLEX_HEADER c =
+    let w = c.walk.invariant.within in let l = c.if-left-lt-FLEX_HEADER.true in row_over _ _ _ c.walk.invariant (sym c.walk-test.ensures) (omega arith)
 
 pub returns-then-left-step : goal.returns-then-left-step
 returns-then-left-step c =

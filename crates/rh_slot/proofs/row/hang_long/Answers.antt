@@ -15,15 +15,18 @@ read-size-requires-clause-within g c = omega (arith, apart_room _ _ _ _ _ c.walk
 
 pub hang_one-behind-requires-clause-least : goal.hang_one-behind-requires-clause-least
 hang_one-behind-requires-clause-least g c =
-    (turn_apart _ _ _ _ _ _ _ c.walk.invariant c.walk-test.true c.requires.low c.requires.within (g.met.S.Words.small c.args.store.now c.args.area.0) c.read-anchor.ensures.value c.read-size.ensures.value).least
+    (turn_apart _ _ _ _ _ _ _ c.walk.invariant c.walk-test.true c.requires.low c.requires.within (g.met.S.Words.small c.args.store.now c.args.area.0)
+    c.read-anchor.ensures.value c.read-size.ensures.value).least
 
 pub hang_one-behind-requires-clause-within : goal.hang_one-behind-requires-clause-within
 hang_one-behind-requires-clause-within g c =
-    (turn_apart _ _ _ _ _ _ _ c.walk.invariant c.walk-test.true c.requires.low c.requires.within (g.met.S.Words.small c.args.store.now c.args.area.0) c.read-anchor.ensures.value c.read-size.ensures.value).within
+    (turn_apart _ _ _ _ _ _ _ c.walk.invariant c.walk-test.true c.requires.low c.requires.within (g.met.S.Words.small c.args.store.now c.args.area.0)
+    c.read-anchor.ensures.value c.read-size.ensures.value).within
 
 pub hang_in_page-place-requires-clause-walk : goal.hang_in_page-place-requires-clause-walk
 hang_in_page-place-requires-clause-walk g c =
-    (turn_apart _ _ _ _ _ _ _ c.walk.invariant c.walk-test.true c.requires.low c.requires.within (g.met.S.Words.small c.args.store.now c.args.area.0) c.read-anchor.ensures.value c.read-size.ensures.value).next _ _
+    (turn_apart _ _ _ _ _ _ _ c.walk.invariant c.walk-test.true c.requires.low c.requires.within (g.met.S.Words.small c.args.store.now c.args.area.0)
+    c.read-anchor.ensures.value c.read-size.ensures.value).next _ _
     c.hang_one-behind.ensures.anchors c.hang_one-behind.ensures.next
 
 pub returns-clause-hung : goal.returns-clause-hung

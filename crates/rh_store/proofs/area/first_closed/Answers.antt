@@ -8,4 +8,5 @@ returns-then-not-area-clause-closed c =
     (h, hidden_at c.args.areas.now c.loop-i.i c.index-areas-i.result h c.index-areas-i.is c.if-not-area.true)
 
 pub loop-i-preserved : goal.loop-i-preserved
-loop-i-preserved c = below_more _ _ c.loop-i.invariant (shown_at c.args.areas.now c.loop-i.i c.index-areas-i.result c.loop-i-test.true c.index-areas-i.is c.if-not-area.false)
+loop-i-preserved c = below_more _ _ c.loop-i.invariant (shown_at c.args.areas.now c.loop-i.i c.index-areas-i.result c.loop-i-test.true c.index-areas-i.is
+    c.if-not-area.false)

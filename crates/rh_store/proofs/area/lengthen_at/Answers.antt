@@ -14,7 +14,8 @@ pub unwrap-requires : goal.unwrap-requires
 unwrap-requires c =
     let list = c.args.areas.now.items in
     let a = c.index_mut-area.result.now in
-    let room = room_at-get list c.args.i a (open_index list c.args.i c.requires.opened) ∙ ap (λ (x : Area). vec_capacity x.bytes) (sym c.index_mut-area.ensures.value) in
+    let room = room_at-get list c.args.i a (open_index list c.args.i c.requires.opened)
+    ∙ ap (λ (x : Area). vec_capacity x.bytes) (sym c.index_mut-area.ensures.value) in
     c.resize.ensures.succeeds (omega (arith, room, c.requires.room))
 
 pub returns : goal.returns

@@ -14,4 +14,5 @@ returns c =
     let a = c.index_mut-area.result.now in
     let old = unwrap_or (contents list c.args.i) [] in
     let was : old ≡ a.bytes.items = (open_read list c.args.i a c.requires c.index_mut-area.ensures.value).1 in
-    rewritten list c.args.i a _ (take c.args.n old) c.requires c.index_mut-area.ensures.value refl (c.truncate.ensures.items ∙ ap (take c.args.n) (sym was)) (let e = c.truncate.ensures.capacity in omega (arith, e))
+    rewritten list c.args.i a _ (take c.args.n old) c.requires c.index_mut-area.ensures.value refl (c.truncate.ensures.items ∙ ap (take c.args.n) (sym was))
+    (let e = c.truncate.ensures.capacity in omega (arith, e))

@@ -11,4 +11,5 @@ put_in-requires c =
     omega (arith, c.requires.target, ap length c.part_of.ensures ∙ length-part c.split_at_mut-low.result.0.now c.args.from c.args.n)
 
 pub returns : goal.returns
-returns c = copied_up _ _ _ _ _ _ _ _ c.split_at_mut-low.ensures.value c.split_at_mut-low.ensures.front_len c.part_of.ensures c.put_in.ensures c.requires.target c.requires.apart
+returns c = copied_up _ _ _ _ _ _ _ _ c.split_at_mut-low.ensures.value c.split_at_mut-low.ensures.front_len c.part_of.ensures c.put_in.ensures
+    c.requires.target c.requires.apart

@@ -7,7 +7,8 @@ use Rattle.rh_tasks.proofs.documents.append.Goals as goal
 
 pub returns-then-from-ge-ANCHORS : goal.returns-then-from-ge-ANCHORS
 returns-then-from-ge-ANCHORS g c =
-    let none = append-above _ c.args.anchor _ (slot_in (g.S.Words.memory c.args.store.now) c.args.slot) (omega (arith, c.if-from-ge-ANCHORS.true, c.from.ensures)) c.requires.slot.spells.words.anchors in
+    let none = append-above _ c.args.anchor _ (slot_in (g.S.Words.memory c.args.store.now) c.args.slot)
+    (omega (arith, c.if-from-ge-ANCHORS.true, c.from.ensures)) c.requires.slot.spells.words.anchors in
     refuses _ _ _ _ _ (ap no_answer none) refl c.requires.slot
 
 pub append_from-requires-clause-above : goal.append_from-requires-clause-above

@@ -6,7 +6,8 @@ use Rattle.rh_tasks.proofs.documents.document_size.Goals as goal
 
 pub returns-then-from-ge-ANCHORS : goal.returns-then-from-ge-ANCHORS
 returns-then-from-ge-ANCHORS g c =
-    sym (size-above c.args.anchor (slot_in (g.S.Words.memory c.args.store.now) c.args.slot) (omega (arith, c.if-from-ge-ANCHORS.true, c.from.ensures)) c.requires.spells.words.anchors)
+    sym (size-above c.args.anchor (slot_in (g.S.Words.memory c.args.store.now) c.args.slot) (omega (arith, c.if-from-ge-ANCHORS.true, c.from.ensures))
+    c.requires.spells.words.anchors)
 
 pub overflow_cast-result : goal.overflow_cast-result
 overflow_cast-result g c =

@@ -11,7 +11,8 @@ use Rattle.rh_tasks.proofs.listing.entry_at.Goals as goal
 pub returns-then-behind-len : goal.returns-then-behind-len
 returns-then-behind-len g c =
     rw c.pages_in-then-behind-len.ensures
-    (sym (item-made (g.S.Words.memory c.args.store.now) c.args.seats.now.items c.args.made.now.items c.args.i c.index-area.result.now c.if-i-lt-FIXED_AREAS.false
+    (sym (item-made (g.S.Words.memory c.args.store.now) c.args.seats.now.items c.args.made.now.items c.args.i c.index-area.result.now
+    c.if-i-lt-FIXED_AREAS.false
     (omega (arith, c.if-behind-len.true, c.len.ensures.value)) (sym c.index-area.ensures)))
 
 pub slot_entry-requires : goal.slot_entry-requires
@@ -24,4 +25,5 @@ returns g c =
     let m = g.S.Words.memory c.args.store.now in
     c.slot_entry.ensures
     ∙ ap (slice_get (slot_items m c.args.seats.now.items)) (omega (arith, c.len-2.ensures.value))
-    ∙ sym (item-slot m c.args.seats.now.items c.args.made.now.items c.args.i c.if-i-lt-FIXED_AREAS.false (omega (arith, c.if-behind-len.false, c.len.ensures.value)))
+    ∙ sym (item-slot m c.args.seats.now.items c.args.made.now.items c.args.i c.if-i-lt-FIXED_AREAS.false
+    (omega (arith, c.if-behind-len.false, c.len.ensures.value)))

@@ -11,7 +11,8 @@ push-requires c = (omega arith, listed_few _ _ c.loop-segment.segment-index _ c.
 pub loop-segment-preserved : goal.loop-segment-preserved
 loop-segment-preserved c =
     c.push.ensures.items
-    ∙ (ap (λ x. c.loop-segment.items.items ++ x ∷ []) c.segment_item.ensures ∙ listed_more _ _ c.loop-segment.segment-index _ _ c.loop-segment.invariant c.loop-segment-test.true)
+    ∙ (ap (λ x. c.loop-segment.items.items ++ x ∷ []) c.segment_item.ensures
+    ∙ listed_more _ _ c.loop-segment.segment-index _ _ c.loop-segment.invariant c.loop-segment-test.true)
 
 pub returns : goal.returns
 returns c = listed_all _ _ c.loop-segment.segment-index _ c.loop-segment.invariant c.loop-segment-test.false

@@ -16,14 +16,20 @@ returns-in_err-i-clause-err g c =
 pub returns-then-not-is_busy_buffer-clause-ok : goal.returns-then-not-is_busy_buffer-clause-ok
 returns-then-not-is_busy_buffer-clause-ok g c =
     record {
-      owns = record { place = c.in_ok-i.i; seat = c.index-seat.result.now; found = record { at = c.in_ok-i.ensures.ok; is = sym c.index-seat.ensures }; slot_is = refl };
+      owns = record {
+        place = c.in_ok-i.i;
+        seat = c.index-seat.result.now;
+        found = record { at = c.in_ok-i.ensures.ok; is = sym c.index-seat.ensures };
+        slot_is = refl;
+      };
       idle = sym c.is_busy_buffer.ensures ∙ c.if-not-is_busy_buffer.true;
     }
 
 pub block_size-requires : goal.block_size-requires
 block_size-requires g c =
     let m = g.S.Words.memory c.args.store.now in
-    let f : Found c.args.name.now c.args.seats.now.items c.in_ok-i.i c.index-seat.result.now = record { at = c.in_ok-i.ensures.ok; is = sym c.index-seat.ensures } in
+    let f : Found c.args.name.now c.args.seats.now.items c.in_ok-i.i c.index-seat.result.now =
+    record { at = c.in_ok-i.ensures.ok; is = sym c.index-seat.ensures } in
     record { slot = all-at (HasSlot m) c.args.seats.now.items c.in_ok-i.i c.index-seat.result.now c.requires (sits f) }
 
 pub returns-in_err-block_size-clause-err : goal.returns-in_err-block_size-clause-err
@@ -39,4 +45,5 @@ returns-clause-err g c =
     let m = g.S.Words.memory c.args.store.now in
     let s = c.index-seat.result.now in
     let f : Found c.args.name.now c.args.seats.now.items c.in_ok-i.i s = record { at = c.in_ok-i.ensures.ok; is = sym c.index-seat.ensures } in
-    looked-at (idle_buffer c.args.address) m f (buffer-busy m s c.args.address c.in_ok-block_size.ensures (sym c.is_busy_buffer.ensures ∙ c.if-not-is_busy_buffer.false))
+    looked-at (idle_buffer c.args.address) m f (buffer-busy m s c.args.address c.in_ok-block_size.ensures
+    (sym c.is_busy_buffer.ensures ∙ c.if-not-is_busy_buffer.false))

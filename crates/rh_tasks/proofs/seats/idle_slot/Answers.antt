@@ -16,7 +16,8 @@ returns-in_err-i-clause-err g c =
 pub size-requires-clause-slot : goal.size-requires-clause-slot
 size-requires-clause-slot g c =
     let m = g.S.Words.memory c.args.store.now in
-    let f : Found c.args.name.now c.args.seats.now.items c.in_ok-i.i c.index-seat.result.now = record { at = c.in_ok-i.ensures.ok; is = sym c.index-seat.ensures } in
+    let f : Found c.args.name.now c.args.seats.now.items c.in_ok-i.i c.index-seat.result.now =
+    record { at = c.in_ok-i.ensures.ok; is = sym c.index-seat.ensures } in
     all-at (HasSlot m) c.args.seats.now.items c.in_ok-i.i c.index-seat.result.now c.requires.slots (sits f)
 
 pub returns-in_err-size-clause-err : goal.returns-in_err-size-clause-err

@@ -13,7 +13,8 @@ push-requires c = (omega arith, numbers-few c.loop-number.number _ c.loop-number
 
 pub loop-number-preserved : goal.loop-number-preserved
 loop-number-preserved c =
-    ap numbers c.push.ensures.items ∙ numbers-more c.loop-number.number _ (record { 0 = c.loop-number.number }) refl c.loop-number.invariant c.loop-number-test.true
+    ap numbers c.push.ensures.items
+    ∙ numbers-more c.loop-number.number _ (record { 0 = c.loop-number.number }) refl c.loop-number.invariant c.loop-number-test.true
 
 pub returns : goal.returns
 returns c = c.loop-number.invariant ∙ take_all c.loop-number.number fixed (omega arith)

@@ -17,7 +17,8 @@ pub loop-area-preserved : goal.loop-area-preserved
 loop-area-preserved g c =
     let ok = rw c.unwrap.ensures at c.open.ensures.ok in
     let least = rw c.unwrap.ensures at c.open.ensures.least in
-    next-opened (g.S.Words.memory c.loop-area.store) _ c.loop-area._area _ c.unwrap.result.0 c.loop-area.invariant (omega (arith, c.loop-area-test.true)) ok.0 ok.1 least
+    next-opened (g.S.Words.memory c.loop-area.store) _ c.loop-area._area _ c.unwrap.result.0 c.loop-area.invariant (omega (arith, c.loop-area-test.true))
+    ok.0 ok.1 least
 
 -- all six are open
 pub grow-requires : goal.grow-requires
@@ -28,11 +29,16 @@ unwrap-requires-2 g c = not-refused c.grow.result _ 1 c.grow.ensures.refused (om
 
 pub start-requires-clause-opened : goal.start-requires-clause-opened
 start-requires-clause-opened g c =
-    page-open (six-opened _ _ _ c.loop-area.invariant c.loop-area.auto._area-end c.loop-area-test.false) (omega (arith, c.requires.least)) (rw c.unwrap-2.ensures at c.grow.ensures.ok)
+    page-open (six-opened _ _ _ c.loop-area.invariant c.loop-area.auto._area-end c.loop-area-test.false) (omega (arith, c.requires.least))
+    (rw c.unwrap-2.ensures at c.grow.ensures.ok)
 
 pub start-requires-clause-page : goal.start-requires-clause-page
 start-requires-clause-page g c =
-    omega (arith, page-long (six-opened _ _ _ c.loop-area.invariant c.loop-area.auto._area-end c.loop-area-test.false) (omega (arith, c.requires.least)) (rw c.unwrap-2.ensures at c.grow.ensures.ok))
+    omega (
+      arith,
+      page-long (six-opened _ _ _ c.loop-area.invariant c.loop-area.auto._area-end c.loop-area-test.false) (omega (arith, c.requires.least))
+          (rw c.unwrap-2.ensures at c.grow.ensures.ok),
+    )
 
 pub returns : goal.returns
 returns g c =

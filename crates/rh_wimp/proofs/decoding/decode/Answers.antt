@@ -17,13 +17,15 @@ returns-then-not-has_length-clause-answer c = sym (decoded-short c.args.bytes.no
 pub returns-in_default-clause-answer : goal.returns-in_default-clause-answer
 returns-in_default-clause-answer c =
     let b = c.args.bytes.now in
-    sym (decoded-body b None (Err BadAction) (sym c.has_length.ensures ∙ c.if-not-has_length.false) (ap action_at (sym c.get_word.ensures) ∙ sym c.from_number.ensures ∙ c.in_default.is) refl)
+    sym (decoded-body b None (Err BadAction) (sym c.has_length.ensures ∙ c.if-not-has_length.false)
+    (ap action_at (sym c.get_word.ensures) ∙ sym c.from_number.ensures ∙ c.in_default.is) refl)
 
 failed : (c : After-from_residual) → c.from_residual.result ≡ decoded c.args.bytes.now
 failed c =
     let b = c.args.bytes.now in
     let e = err_from_is_err_and c.from_residual.result c.from_residual.ensures.1 in
-    rw (e.1, e.2) (sym (decoded-body b (Some c.in-Some.action) (Err c.in_err-body.field-0.0) (sym c.has_length.ensures ∙ c.if-not-has_length.false) (ap action_at (sym c.get_word.ensures) ∙ sym c.from_number.ensures ∙ c.in-Some.is)
+    rw (e.1, e.2) (sym (decoded-body b (Some c.in-Some.action) (Err c.in_err-body.field-0.0) (sym c.has_length.ensures ∙ c.if-not-has_length.false)
+    (ap action_at (sym c.get_word.ensures) ∙ sym c.from_number.ensures ∙ c.in-Some.is)
     (ap (λ end. body_for b end (Some c.in-Some.action)) (sym c.get_word-end.ensures) ∙ sym c.decode_body.ensures ∙ c.in_err-body.was)))
 
 pub returns-in_err-body-clause-answer : goal.returns-in_err-body-clause-answer
@@ -32,11 +34,14 @@ returns-in_err-body-clause-answer c = failed c
 pub returns-in_err-body-clause-read : goal.returns-in_err-body-clause-read
 returns-in_err-body-clause-read c = λ m s. failed c ∙ spelled-decodes c.args.bytes.now m s
 
-read : (c : After-get_word-4) → ◌≡◌ {A = Result Message MessageFault} (Ok (record { from = c.get_word-2.result; my_ref = c.get_word-3.result; your_ref = c.get_word-4.result; body = c.in_ok-body.body })) (decoded c.args.bytes.now)
+read : (c : After-get_word-4) → ◌≡◌ {A = Result Message MessageFault} (Ok
+    (record { from = c.get_word-2.result; my_ref = c.get_word-3.result; your_ref = c.get_word-4.result; body = c.in_ok-body.body })) (decoded
+    c.args.bytes.now)
 read c =
     let b = c.args.bytes.now in
     message-is b c.get_word-2.result c.get_word-3.result c.get_word-4.result c.in_ok-body.body c.get_word-2.ensures c.get_word-3.ensures c.get_word-4.ensures
-    ∙ sym (decoded-body b (Some c.in-Some.action) (Ok c.in_ok-body.body) (sym c.has_length.ensures ∙ c.if-not-has_length.false) (ap action_at (sym c.get_word.ensures) ∙ sym c.from_number.ensures ∙ c.in-Some.is)
+    ∙ sym (decoded-body b (Some c.in-Some.action) (Ok c.in_ok-body.body) (sym c.has_length.ensures ∙ c.if-not-has_length.false)
+    (ap action_at (sym c.get_word.ensures) ∙ sym c.from_number.ensures ∙ c.in-Some.is)
     (ap (λ end. body_for b end (Some c.in-Some.action)) (sym c.get_word-end.ensures) ∙ sym c.decode_body.ensures ∙ c.in_ok-body.was))
 
 pub returns-clause-answer : goal.returns-clause-answer

@@ -16,4 +16,5 @@ unwrap-requires c =
     c.new.ensures.found.1 (subst (λ xs. is_pathname xs ≡ true) (sym e) (name_is (part c.args.bytes.now 44 c.args.n) (omega arith) c.requires.plain))
 
 pub returns : goal.returns
-returns c = subst (λ o. IfSome o (λ name. name ≡ take (44 + c.args.n - 44) (drop 44 c.args.bytes.now))) c.unwrap.ensures c.new.ensures.value ∙ cut c.args.bytes.now c.args.n c.requires.within
+returns c = subst (λ o. IfSome o (λ name. name ≡ take (44 + c.args.n - 44) (drop 44 c.args.bytes.now))) c.unwrap.ensures c.new.ensures.value
+    ∙ cut c.args.bytes.now c.args.n c.requires.within

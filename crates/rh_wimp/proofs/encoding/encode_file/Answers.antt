@@ -8,4 +8,5 @@ pub returns-clause-bytes : goal.returns-clause-bytes
 returns-clause-bytes c =
     let f = c.args.file.now in
     c.encode_name.ensures.bytes ∙ ap (λ l. put c.put_words.new.out 44 (name_bytes l)) c.as_bytes.ensures.value
-    ∙ ap (λ b. put b 44 (name_bytes f.name)) c.put_words.ensures.bytes ∙ puts_in_row c.args.out.now 20 44 (words (file_words f)) (name_bytes f.name) (omega (arith, length-words (file_words f)))
+    ∙ ap (λ b. put b 44 (name_bytes f.name)) c.put_words.ensures.bytes
+    ∙ puts_in_row c.args.out.now 20 44 (words (file_words f)) (name_bytes f.name) (omega (arith, length-words (file_words f)))

@@ -8,7 +8,8 @@ use Rattle.rh_wimp.proofs.listing.push_block.Goals as goal
 
 pub returns-then-held-eq0 : goal.returns-then-held-eq0
 returns-then-held-eq0 g c = λ o s few.
-    sym (ap (λ x. c.args.items.now.items ++ map (item_of c.args.to true) (held_list x)) (nothing-held (heap_in (g.S.Words.memory c.args.store.now) c.args.rma) o c.args.held s c.if-held-eq0.true) ∙ append-nil c.args.items.now.items)
+    sym (ap (λ x. c.args.items.now.items ++ map (item_of c.args.to true) (held_list x))
+    (nothing-held (heap_in (g.S.Words.memory c.args.store.now) c.args.rma) o c.args.held s c.if-held-eq0.true) ∙ append-nil c.args.items.now.items)
 
 pub read_item-requires-clause-lies : goal.read_item-requires-clause-lies
 read_item-requires-clause-lies g c =

@@ -15,15 +15,21 @@ pub loop-entry-init : goal.loop-entry-init
 loop-entry-init g c = λ rows s few. refl
 
 -- the entry that is looked at
-at : (g : given.Over) (c : After-entry-item g) → (c.loop-entry.entry-index < length c.args.entries.now.items) × (c.entry-item.result ≡ entry_at c.args.entries.now.items c.loop-entry.entry-index)
+at : (g : given.Over) (c : After-entry-item g)
+    → (c.loop-entry.entry-index < length c.args.entries.now.items) × (c.entry-item.result ≡ entry_at c.args.entries.now.items c.loop-entry.entry-index)
 at g c =
     let e = c.as_slice-entry-items.ensures.value in
-    let l : c.loop-entry.entry-index < length c.args.entries.now.items = subst (λ es. c.loop-entry.entry-index < length es) e c.loop-entry-test.true in
-    (l, read_entry c.args.entries.now.items c.loop-entry.entry-index c.entry-item.result l (c.entry-item.is ∙ ap (λ es. get_or es c.loop-entry.entry-index c.entry-item.result) e))
+    let l : c.loop-entry.entry-index < length c.args.entries.now.items = subst (λ es. c.loop-entry.entry-index < length es) e c.loop-entry-test.true in (
+      l,
+      read_entry c.args.entries.now.items c.loop-entry.entry-index c.entry-item.result l (c.entry-item.is ∙ ap (λ es. get_or es c.loop-entry.entry-index
+          c.entry-item.result) e),
+    )
 
 -- its row
-row : (g : given.Over) (c : After-entry-item g) (rows : List Row) → RowsLie (heap_in (g.S.Words.memory c.args.store.now) c.args.rma) c.args.entries.now.items rows
-    → (c.loop-entry.entry-index < length rows) × RowLies (heap_in (g.S.Words.memory c.args.store.now) c.args.rma) c.entry-item.result (row_at rows c.loop-entry.entry-index)
+row : (g : given.Over) (c : After-entry-item g) (rows : List Row)
+    → RowsLie (heap_in (g.S.Words.memory c.args.store.now) c.args.rma) c.args.entries.now.items rows
+    → (c.loop-entry.entry-index < length rows) × RowLies (heap_in (g.S.Words.memory c.args.store.now) c.args.rma) c.entry-item.result
+    (row_at rows c.loop-entry.entry-index)
 row g c rows s =
     let w = at g c in
     let l = w.0 in
@@ -37,7 +43,8 @@ push_block-requires-clause-held g c =
     let r = c.requires.rows in
     let i : ℕ = c.loop-entry.entry-index in
     let w = row g o r.0 r.1.0 in
-    let room = goes-room held_items held_of i r.0 c.args.items.now.items c.loop-entry.items.items (λ x xs. refl) w.0 (c.loop-entry.invariant r.0 r.1.0 r.1.1) r.1.1 in
+    let room = goes-room held_items held_of i r.0 c.args.items.now.items c.loop-entry.items.items (λ x xs. refl) w.0 (c.loop-entry.invariant r.0 r.1.0 r.1.1)
+    r.1.1 in
     ((row_at r.0 i).held, (w.1.held, omega (arith, room, length-map (held_list (row_at r.0 i).held) (item_of (row_at r.0 i).handle true))))
 
 pub loop-entry-preserved : goal.loop-entry-preserved
@@ -47,7 +54,8 @@ loop-entry-preserved g c = λ rows s few.
     let w = row g o rows s in
     let g' = c.loop-entry.invariant rows s few in
     let room = goes-room held_items held_of i rows c.args.items.now.items c.loop-entry.items.items (λ x xs. refl) w.0 g' few in
-    let more = c.push_block.ensures (row_at rows i).held w.1.held (omega (arith, room, length-map (held_list (row_at rows i).held) (item_of (row_at rows i).handle true))) in
+    let more = c.push_block.ensures (row_at rows i).held w.1.held (omega
+    (arith, room, length-map (held_list (row_at rows i).held) (item_of (row_at rows i).handle true))) in
     goes-on held_items held_of i rows c.args.items.now.items c.loop-entry.items.items _ (λ x xs. refl) w.0 g'
     (more ∙ ap (λ h. c.loop-entry.items.items ++ map (item_of h true) (held_list (row_at rows i).held)) w.1.handle)
 

@@ -9,5 +9,6 @@ use Rattle.rh_defs.specs.Post.{most_messages}
 -- what is listed and what the rows left have are all that waits
 abbrev pub invariant-loop-entry : goal.invariant-loop-entry
 invariant-loop-entry g l =
-    (rows : List Row) → RowsLie (heap_in (g.S.Words.memory l.store) l.rma) l.entries.items rows → length l.initial.items.items + length (waiting_items rows) ≤ most_messages
+    (rows : List Row) → RowsLie (heap_in (g.S.Words.memory l.store) l.rma) l.entries.items rows
+    → length l.initial.items.items + length (waiting_items rows) ≤ most_messages
     → Goes waiting_items l.entry-index rows l.initial.items.items l.items.items

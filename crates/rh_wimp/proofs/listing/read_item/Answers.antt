@@ -31,9 +31,11 @@ read_word-requires-2-clause-block g c =
     has-less c.args.block 36 20 (heap_in (g.S.Words.memory c.args.store.now) c.args.rma) (omega arith) (links-has c.requires.lies.1.1)
 
 -- the action that is read
-found : (g : given.Over) (c : After-from_number g) (link : ℕ) (p : Parcel) → LinksAt (g.S.Words.memory c.args.store.now) c.args.rma c.args.block link p → c.from_number.result ≡ Some (action_of p.message.body)
+found : (g : given.Over) (c : After-from_number g) (link : ℕ) (p : Parcel) → LinksAt (g.S.Words.memory c.args.store.now) c.args.rma c.args.block link p
+    → c.from_number.result ≡ Some (action_of p.message.body)
 found g c link p w =
-    c.from_number.ensures ∙ ap action_at (c.read_word-action.ensures (padded link p) (links-bytes w) ∙ action_read link p w.small w.lies.fits) ∙ known (action_of p.message.body)
+    c.from_number.ensures ∙ ap action_at (c.read_word-action.ensures (padded link p) (links-bytes w) ∙ action_read link p w.small w.lies.fits)
+    ∙ known (action_of p.message.body)
 
 pub unwrap-requires : goal.unwrap-requires
 unwrap-requires g c =
@@ -42,7 +44,8 @@ unwrap-requires g c =
 
 pub returns : goal.returns
 returns g c = λ link p w.
-    let action : ◌≡◌ {A = Option Action} (Some c.unwrap.result) (Some (action_of p.message.body)) = sym c.unwrap.ensures ∙ found g (goal.at.returns g c).After-from_number link p w in
+    let action : ◌≡◌ {A = Option Action} (Some c.unwrap.result) (Some (action_of p.message.body)) =
+    sym c.unwrap.ensures ∙ found g (goal.at.returns g c).After-from_number link p w in
     same-item
     w.block_is
     (c.read_word.ensures (padded link p) (links-bytes w) ∙ from_read link p w.small w.lies.fits)

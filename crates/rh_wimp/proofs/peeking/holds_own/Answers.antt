@@ -13,7 +13,8 @@ use Rattle.rh_wimp.proofs.peeking.holds_own.Goals as goal
 
 pub returns-then-held-eq0 : goal.returns-then-held-eq0
 returns-then-held-eq0 g c = λ o s.
-    sym (ap (holds_such (λ (p : Parcel). p.message.from == c.args.handle)) (nothing-held (heap_in (g.S.Words.memory c.args.store.now) c.args.rma) o c.args.held s c.if-held-eq0.true))
+    sym (ap (holds_such (λ (p : Parcel). p.message.from == c.args.handle))
+    (nothing-held (heap_in (g.S.Words.memory c.args.store.now) c.args.rma) o c.args.held s c.if-held-eq0.true))
 
 pub read_word-requires-clause-block : goal.read_word-requires-clause-block
 read_word-requires-clause-block g c =
@@ -26,5 +27,5 @@ returns g c = λ o s.
     let h = heap_in (g.S.Words.memory c.args.store.now) c.args.rma in
     let w = held-some h c.args.held o s c.if-held-eq0.false in
     c.eq.ensures
-    ∙ ap (λ n. eqb n c.args.handle) (c.read_word.ensures (padded 0 w.parcel) (ap (λ a. block_bytes a h) w.block ∙ w.lies.block) ∙ from_read 0 w.parcel (omega arith) w.lies.fits)
-    ∙ sym (ap (holds_such (λ (p : Parcel). p.message.from == c.args.handle)) w.is)
+    ∙ ap (λ n. eqb n c.args.handle) (c.read_word.ensures (padded 0 w.parcel) (ap (λ a. block_bytes a h) w.block ∙ w.lies.block)
+    ∙ from_read 0 w.parcel (omega arith) w.lies.fits) ∙ sym (ap (holds_such (λ (p : Parcel). p.message.from == c.args.handle)) w.is)

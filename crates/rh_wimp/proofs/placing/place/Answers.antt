@@ -17,8 +17,10 @@ use Rattle.rh_wimp.proofs.placing.place.Goals.{In_ok-block}
 use Rattle.rh_wimp.proofs.placing.place.Given as given
 use borrow.Rule.Slice.PartMut.{put_mid}
 
-took : (g : given.Over) (c : In_ok-block g) → Claimed (g.S.Words.memory c.args.store.now) (g.S.Words.memory c.claim.new.store) c.args.rma (8 + c.encode_into-length.result) c.in_ok-block.block
-took g c = claimed (g.S.Words.memory c.args.store.now) (g.S.Words.memory c.claim.new.store) c.args.rma (8 + c.encode_into-length.result) c.in_ok-block.block c.in_ok-block.ensures
+took : (g : given.Over) (c : In_ok-block g)
+    → Claimed (g.S.Words.memory c.args.store.now) (g.S.Words.memory c.claim.new.store) c.args.rma (8 + c.encode_into-length.result) c.in_ok-block.block
+took g c = claimed (g.S.Words.memory c.args.store.now) (g.S.Words.memory c.claim.new.store) c.args.rma (8 + c.encode_into-length.result) c.in_ok-block.block
+    c.in_ok-block.ensures
 
 pub write_bytes-requires-clause-block : goal.write_bytes-requires-clause-block
 write_bytes-requires-clause-block g c =
@@ -26,7 +28,8 @@ write_bytes-requires-clause-block g c =
     let parcel : List ℕ = put_mid 8 LONGEST_MESSAGE c.put_word.new.out c.encode_into-length.new.out in
     let l = length-take n parcel in
     has-less c.in_ok-block.block n (0 + length (take n parcel)) (heap_in (g.S.Words.memory c.claim.new.store) c.args.rma) (omega arith)
-    (claimed-block (g.S.Words.memory c.args.store.now) (g.S.Words.memory c.claim.new.store) c.args.rma n c.in_ok-block.block (took g (goal.at.write_bytes-requires-clause-block g c).In_ok-block))
+    (claimed-block (g.S.Words.memory c.args.store.now) (g.S.Words.memory c.claim.new.store) c.args.rma n c.in_ok-block.block
+    (took g (goal.at.write_bytes-requires-clause-block g c).In_ok-block))
 
 pub returns-clause-placed : goal.returns-clause-placed
 returns-clause-placed g c =
@@ -34,17 +37,21 @@ returns-clause-placed g c =
     let code : ℕ = c.number.result in
     let size : 8 + n ≡ parcel_size c.args.message.now = ap (λ n. 8 + n) c.encode_into-length.ensures.length in
     let head = parcel_head code c.put_word.new.out c.put_word.ensures in
-    let eight : length (take 8 c.put_word.new.out) ≡ 8 = ap length head ∙ omega (arith, length-word_bytes 0, length-word_bytes code, length-append (word_bytes 0) (word_bytes code)) in
+    let eight : length (take 8 c.put_word.new.out) ≡ 8 =
+    ap length head ∙ omega (arith, length-word_bytes 0, length-word_bytes code, length-append (word_bytes 0) (word_bytes code)) in
     let p : List ℕ = c.put_word.new.out in
     let whole : length p ≡ 264 = ap length c.put_word.ensures ∙ length-put (replicate 264 0) 4 (word_bytes code) in
-    let room : n ≤ length (take LONGEST_MESSAGE (drop 8 p)) = omega (arith, c.encode_into-length.ensures.short, length-take LONGEST_MESSAGE (drop 8 p), length-drop 8 p) in
+    let room : n ≤ length (take LONGEST_MESSAGE (drop 8 p)) =
+    omega (arith, c.encode_into-length.ensures.short, length-take LONGEST_MESSAGE (drop 8 p), length-drop 8 p) in
     let parcel : List ℕ = take (8 + n) (put_mid 8 LONGEST_MESSAGE c.put_word.new.out c.encode_into-length.new.out) in
     let there : parcel ≡ word_bytes 0 ++ (word_bytes (code_number c.args.code) ++ encoded c.args.message.now) =
-    parcel_bytes (take LONGEST_MESSAGE (drop 8 p)) _ _ c.args.message.now n c.encode_into-length.new.out eight c.encode_into-length.ensures.length room c.encode_into-length.ensures.bytes
+    parcel_bytes (take LONGEST_MESSAGE (drop 8 p)) _ _ c.args.message.now n c.encode_into-length.new.out eight c.encode_into-length.ensures.length room
+    c.encode_into-length.ensures.bytes
     ∙ ap (λ h. h ++ encoded c.args.message.now) head
     ∙ append_assoc (word_bytes 0) (word_bytes code) (encoded c.args.message.now)
     ∙ ap (λ i. word_bytes 0 ++ (word_bytes i ++ encoded c.args.message.now)) c.number.ensures in
-    let done = placed-there (g.S.Words.memory c.args.store.now) (g.S.Words.memory c.claim.new.store) (g.S.Words.memory c.write_bytes.new.store) c.args.rma (8 + n) c.in_ok-block.block parcel
+    let done = placed-there (g.S.Words.memory c.args.store.now) (g.S.Words.memory c.claim.new.store) (g.S.Words.memory c.write_bytes.new.store) c.args.rma
+    (8 + n) c.in_ok-block.block parcel
     (took g (goal.at.returns-clause-placed g c).In_ok-block) c.write_bytes.ensures in
     λ h e.
     subst (λ l. Turns (g.S.Words.memory c.args.store.now) (g.S.Words.memory c.write_bytes.new.store) c.args.rma (poked h.1 0 l h.0)) there

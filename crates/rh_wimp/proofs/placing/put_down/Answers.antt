@@ -11,12 +11,14 @@ use Rattle.rh_wimp.proofs.placing.put_down.Goals as goal
 pub free-requires-clause-block : goal.free-requires-clause-block
 free-requires-clause-block g c =
     let es = c.args.entries.now.items in
-    let there : c.index-entry.result.now ≡ entry_at es c.args.at = c.index-entry.ensures ∙ get_or_default es c.args.at c.index-entry.result.now no_entry (omega arith) in
+    let there : c.index-entry.result.now ≡ entry_at es c.args.at =
+    c.index-entry.ensures ∙ get_or_default es c.args.at c.index-entry.result.now no_entry (omega arith) in
     subst (λ (e : Entry). HasBlock e.held 4 (heap_in (g.S.Words.memory c.args.store.now) c.args.rma)) (sym there) c.requires.held
 
 pub returns-clause-heap : goal.returns-clause-heap
 returns-clause-heap g c =
     let es = c.args.entries.now.items in
     let m = g.S.Words.memory c.args.store.now in
-    let there : c.index-entry.result.now ≡ entry_at es c.args.at = c.index-entry.ensures ∙ get_or_default es c.args.at c.index-entry.result.now no_entry (omega arith) in
+    let there : c.index-entry.result.now ≡ entry_at es c.args.at =
+    c.index-entry.ensures ∙ get_or_default es c.args.at c.index-entry.result.now no_entry (omega arith) in
     subst (λ (e : Entry). Turns m (g.S.Words.memory c.free.new.store) c.args.rma (release e.held (heap_in m c.args.rma))) there c.free.ensures

@@ -23,7 +23,8 @@ known Recorded = refl
 known Acknowledge = refl
 
 -- the code that is read
-found : (g : given.Over) (c : After-from_number g) (link : ℕ) (p : Parcel) → LinksAt (g.S.Words.memory c.args.store.now) c.args.rma c.args.block link p → c.from_number.result ≡ Some p.code
+found : (g : given.Over) (c : After-from_number g) (link : ℕ) (p : Parcel) → LinksAt (g.S.Words.memory c.args.store.now) c.args.rma c.args.block link p
+    → c.from_number.result ≡ Some p.code
 found g c link p w =
     c.from_number.ensures ∙ ap code_at (c.read_word.ensures (padded link p) (links-bytes w) ∙ code_read link p w.small w.lies.fits) ∙ known p.code
 

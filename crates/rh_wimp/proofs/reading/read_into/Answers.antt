@@ -33,7 +33,8 @@ measured : (g : given.Over) (c : After-read_word-length g) (p : Parcel) → Lies
 measured g c p w =
     let k = encoded-most p.message w.lies.fits.name in
     let most = k.1 in
-    let e = c.read_word-length.ensures (padded 0 p) (lies-bytes (g.S.Words.memory c.args.store.now) c.args.rma c.args.block p w) ∙ length_read 0 p (omega arith) w.lies.fits in
+    let e = c.read_word-length.ensures (padded 0 p) (lies-bytes (g.S.Words.memory c.args.store.now) c.args.rma c.args.block p w)
+    ∙ length_read 0 p (omega arith) w.lies.fits in
     (e, omega arith)
 
 pub slice_bounds-bytes-end : goal.slice_bounds-bytes-end
@@ -64,25 +65,29 @@ read_bytes-requires-clause-block g c =
     record { bytes = padded 0 l.0; found = b; room = omega (arith, length-padded 0 l.0, room_enough (8 + encoded_length l.0.message)) }
 
 -- what is decoded
-answered : (g : given.Over) (c : After-read_word-length g) (to : List ℕ) (result : Result Message MessageFault) (p : Parcel) → LiesAt (g.S.Words.memory c.args.store.now) c.args.rma c.args.block p
-    → ((bytes : List ℕ) → block_bytes c.args.block (heap_in (g.S.Words.memory c.args.store.now) c.args.rma) ≡ Some bytes → to ≡ part bytes 8 (length (take c.read_word-length.result c.args.buffer.now)))
-    → result ≡ decoded to → result ≡ Ok p.message
+answered : (g : given.Over) (c : After-read_word-length g) (to : List ℕ) (result : Result Message MessageFault) (p : Parcel)
+    → LiesAt (g.S.Words.memory c.args.store.now) c.args.rma c.args.block p
+    → ((bytes : List ℕ) → block_bytes c.args.block (heap_in (g.S.Words.memory c.args.store.now) c.args.rma) ≡ Some bytes
+    → to ≡ part bytes 8 (length (take c.read_word-length.result c.args.buffer.now))) → result ≡ decoded to → result ≡ Ok p.message
 answered g c to result p w r e =
     let m = measured g c p w in
     let is = m.0 in
     let few = m.1 in
     let n = c.requires.room in
     let t = length-take c.read_word-length.result c.args.buffer.now in
-    let b = r (padded 0 p) (lies-bytes (g.S.Words.memory c.args.store.now) c.args.rma c.args.block p w) ∙ message_read 0 p (length (take c.read_word-length.result c.args.buffer.now)) (omega arith) in
+    let b = r (padded 0 p) (lies-bytes (g.S.Words.memory c.args.store.now) c.args.rma c.args.block p w)
+    ∙ message_read 0 p (length (take c.read_word-length.result c.args.buffer.now)) (omega arith) in
     e ∙ ap decoded b ∙ decoded-encoded p.message w.lies.fits
 
 pub unwrap-requires : goal.unwrap-requires
 unwrap-requires g c =
     let l = c.requires.lies in
-    subst IsOk (sym (answered g (goal.at.unwrap-requires g c).After-read_word-length c.read_bytes.new.to c.decode.result l.0 l.1 c.read_bytes.ensures c.decode.ensures.answer)) refl
+    subst IsOk (sym (answered g (goal.at.unwrap-requires g c).After-read_word-length c.read_bytes.new.to c.decode.result l.0 l.1 c.read_bytes.ensures
+    c.decode.ensures.answer)) refl
 
 pub returns : goal.returns
 returns g c = λ p w.
     let e : ◌≡◌ {A = Result Message MessageFault} (Ok c.unwrap.result) (Ok p.message) =
-    sym c.unwrap.ensures ∙ answered g (goal.at.returns g c).After-read_word-length c.read_bytes.new.to c.decode.result p w c.read_bytes.ensures c.decode.ensures.answer in
+    sym c.unwrap.ensures ∙ answered g (goal.at.returns g c).After-read_word-length c.read_bytes.new.to c.decode.result p w c.read_bytes.ensures
+    c.decode.ensures.answer in
     cc

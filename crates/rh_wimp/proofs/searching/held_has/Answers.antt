@@ -6,7 +6,8 @@ use Rattle.rh_wimp.proofs.SearchLaws.{held-none, held-some}
 use Rattle.rh_wimp.proofs.searching.held_has.Goals as goal
 
 pub returns-then-held-eq0 : goal.returns-then-held-eq0
-returns-then-held-eq0 g c = λ o s. held-none (heap_in (g.S.Words.memory c.args.store.now) c.args.rma) c.args.held (wants c.args.wanted.now) o s c.if-held-eq0.true
+returns-then-held-eq0 g c =
+    λ o s. held-none (heap_in (g.S.Words.memory c.args.store.now) c.args.rma) c.args.held (wants c.args.wanted.now) o s c.if-held-eq0.true
 
 pub matches_wanted-requires-clause-lies : goal.matches_wanted-requires-clause-lies
 matches_wanted-requires-clause-lies g c =

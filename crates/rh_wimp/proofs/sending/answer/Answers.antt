@@ -16,43 +16,52 @@ use Rattle.rh_wimp.proofs.sending.answer.Given as given
 
 pub returns-in_default-clause-settles : goal.returns-in_default-clause-settles
 returns-in_default-clause-settles g c =
-    λ rows i s l e. absurd (some_entry (heap_in (g.S.Words.memory c.args.store.now) c.args.rma) c.args.entries.now.items rows c.args.from i s (sym c.in_default.ensures) l e)
+    λ rows i s l e. absurd (some_entry (heap_in (g.S.Words.memory c.args.store.now) c.args.rma) c.args.entries.now.items rows c.args.from i s
+    (sym c.in_default.ensures) l e)
 
 entry_is : (g : given.Over) (c : After-index g) → c.index.result.now ≡ entry_at c.args.entries.now.items c.in-Some.at
 entry_is g c =
     let w = found-at c.args.entries.now.items c.args.from c.in-Some.at (sym c.in-Some.ensures) in
     read_entry c.args.entries.now.items c.in-Some.at c.index.result.now w.0 c.index.ensures
 
-holds : (g : given.Over) (c : After-index g) (rows : List Row) (s : RowsLie (heap_in (g.S.Words.memory c.args.store.now) c.args.rma) c.args.entries.now.items rows)
+holds : (g : given.Over) (c : After-index g) (rows : List Row) (s : RowsLie (heap_in (g.S.Words.memory c.args.store.now) c.args.rma) c.args.entries.now.items
+    rows)
     → Holds (heap_in (g.S.Words.memory c.args.store.now) c.args.rma) c.index.result.now.held (row_at rows c.in-Some.at).held
 holds g c rows s =
     let es = c.args.entries.now.items in
     let w = found-at es c.args.from c.in-Some.at (sym c.in-Some.ensures) in
     let len = s.len in
-    subst (λ b. Holds (heap_in (g.S.Words.memory c.args.store.now) c.args.rma) b (row_at rows c.in-Some.at).held) (sym (ap (λ (x : Entry). x.held) (entry_is g c))) (s.each c.in-Some.at (omega arith)).held
+    subst (λ b. Holds (heap_in (g.S.Words.memory c.args.store.now) c.args.rma) b (row_at rows c.in-Some.at).held)
+    (sym (ap (λ (x : Entry). x.held) (entry_is g c))) (s.each c.in-Some.at (omega arith)).held
 
 pub holds_ref-requires-clause-held : goal.holds_ref-requires-clause-held
 holds_ref-requires-clause-held g c =
     let h = heap_in (g.S.Words.memory c.args.store.now) c.args.rma in
     λ ne. has-less c.index.result.now.held 24 20 h (omega arith)
-    (held-has h c.index.result.now.held (row_at c.requires.rows.0 c.in-Some.at).held (holds g (goal.at.holds_ref-requires-clause-held g c).After-index c.requires.rows.0 c.requires.rows.1) ne)
+    (held-has h c.index.result.now.held (row_at c.requires.rows.0 c.in-Some.at).held
+    (holds g (goal.at.holds_ref-requires-clause-held g c).After-index c.requires.rows.0 c.requires.rows.1) ne)
 
 -- what the test says of the place's row
 tested : (g : given.Over) (c : After-index g) (t : Bool) → (c.index.result.now.held ≡ 0 → t ≡ false)
-    → (c.index.result.now.held ≢ 0 → (bytes : List ℕ) → block_bytes c.index.result.now.held (heap_in (g.S.Words.memory c.args.store.now) c.args.rma) ≡ Some bytes → t ≡ (word bytes 16 == c.args.your_ref))
-    → (rows : List Row) (i : ℕ) → RowsLie (heap_in (g.S.Words.memory c.args.store.now) c.args.rma) c.args.entries.now.items rows → i < length rows → (row_at rows i).handle ≡ c.args.from
-    → (t ≡ answers_held c.args.your_ref (row_at rows i).held) × (c.in-Some.at ≡ i)
+    → (c.index.result.now.held ≢ 0 → (bytes : List ℕ) → block_bytes c.index.result.now.held (heap_in (g.S.Words.memory c.args.store.now) c.args.rma) ≡ Some
+    bytes → t ≡ (word bytes 16 == c.args.your_ref))
+    → (rows : List Row) (i : ℕ) → RowsLie (heap_in (g.S.Words.memory c.args.store.now) c.args.rma) c.args.entries.now.items rows → i < length rows
+    → (row_at rows i).handle ≡ c.args.from → (t ≡ answers_held c.args.your_ref (row_at rows i).held) × (c.in-Some.at ≡ i)
 tested g c t none some rows i s l e =
     let h = heap_in (g.S.Words.memory c.args.store.now) c.args.rma in
-    let same = one_entry h c.args.entries.now.items rows c.args.from c.in-Some.at i s (sym c.in-Some.ensures) l e in
-    (held-test h c.index.result.now.held c.args.your_ref (row_at rows c.in-Some.at).held t (holds g c rows s) none some ∙ ap (λ k. answers_held c.args.your_ref (row_at rows k).held) same, same)
+    let same = one_entry h c.args.entries.now.items rows c.args.from c.in-Some.at i s (sym c.in-Some.ensures) l e in (
+      held-test h c.index.result.now.held c.args.your_ref (row_at rows c.in-Some.at).held t (holds g c rows s) none some ∙ ap (λ k. answers_held
+          c.args.your_ref (row_at rows k).held) same,
+      same,
+    )
 
 pub returns-then-not-holds_ref-clause-settles : goal.returns-then-not-holds_ref-clause-settles
 returns-then-not-holds_ref-clause-settles g c =
     λ rows i s l e.
     let m = g.S.Words.memory c.args.store.now in
     let es = c.args.entries.now.items in
-    let w = tested g (goal.at.returns-then-not-holds_ref-clause-settles g c).After-index c.holds_ref.result c.holds_ref.ensures.none c.holds_ref.ensures.some rows i s l e in
+    let w = tested g (goal.at.returns-then-not-holds_ref-clause-settles g c).After-index c.holds_ref.result c.holds_ref.ensures.none c.holds_ref.ensures.some
+    rows i s l e in
     subst (λ t. PutsDown t m m c.args.rma es es i 0) (sym c.if-not-holds_ref.true ∙ w.0) (refl, refl, refl)
 
 pub put_down-requires-clause-held : goal.put_down-requires-clause-held

@@ -11,7 +11,8 @@ returns-in_err-slot-clause-answer g c =
     rw (p.1, p.2) (sym (begin_refused _ c.args.bytes.now _ c.in_err-slot.ensures.answer))
 
 pub unwrap-requires : goal.unwrap-requires
-unwrap-requires g c = rw (c.put.ensures.answer, put_after _ _ _ c.args.bytes.now _ _ c.in_ok-slot.ensures.slot c.in-Ok.ensures.answer c.in-Ok.ensures.slot refl) refl
+unwrap-requires g c =
+    rw (c.put.ensures.answer, put_after _ _ _ c.args.bytes.now _ _ c.in_ok-slot.ensures.slot c.in-Ok.ensures.answer c.in-Ok.ensures.slot refl) refl
 
 pub returns-in-Ok-clause-answer : goal.returns-in-Ok-clause-answer
 returns-in-Ok-clause-answer g c =

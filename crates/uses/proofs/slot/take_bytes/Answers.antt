@@ -15,8 +15,11 @@ pub unwrap-requires : goal.unwrap-requires
 unwrap-requires g c = rw c.free.ensures.answer (free_after_read _ _ c.in_ok-read.ensures.answer)
 
 pub returns-clause-back : goal.returns-clause-back
-returns-clause-back g c = λ bytes is many.
-    (refl, c.in_ok-read.ensures.bytes ∙ ap (λ (q : Granted (List ℕ)). result_or c.args.to.now q) (read_after _ bytes _ is many), left_by _ _ _ _ c.free.ensures.slot (free_after bytes _ is))
+returns-clause-back g c = λ bytes is many. (
+  refl,
+  c.in_ok-read.ensures.bytes ∙ ap (λ (q : Granted (List ℕ)). result_or c.args.to.now q) (read_after _ bytes _ is many),
+  left_by _ _ _ _ c.free.ensures.slot (free_after bytes _ is),
+)
 
 pub returns-in_err-read-clause-only : goal.returns-in_err-read-clause-only
 returns-in_err-read-clause-only g c = OnlyArea-self _ _ c.requires.opened

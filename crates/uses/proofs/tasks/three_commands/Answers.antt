@@ -17,7 +17,8 @@ pub returns-in-Block-clause-answer : goal.returns-in-Block-clause-answer
 returns-in-Block-clause-answer g c =
     let name = rw c.unwrap-name.ensures at c.new.ensures.value in
     let said : ◌≡◌ {A = Reply} (Block c.in-Block.address) (Block 0x8114) =
-    third_reply _ _ _ _ _ _ _ _ _ _ (c.copied.ensures ∙ name) (c.copied-2.ensures ∙ name) name c.requires c.apply.ensures.steps c.apply-2.ensures.steps c.in-Block.ensures.steps in
+    third_reply _ _ _ _ _ _ _ _ _ _ (c.copied.ensures ∙ name) (c.copied-2.ensures ∙ name) name c.requires c.apply.ensures.steps c.apply-2.ensures.steps
+    c.in-Block.ensures.steps in
     cc
 
 pub returns-in-Block-clause-desk : goal.returns-in-Block-clause-desk
@@ -29,7 +30,8 @@ pub returns-in_default-clause-answer : goal.returns-in_default-clause-answer
 returns-in_default-clause-answer g c =
     let name = rw c.unwrap-name.ensures at c.new.ensures.value in
     absurd (c.in_default.not-Block _
-    (third_reply _ _ _ _ _ _ _ _ _ _ (c.copied.ensures ∙ name) (c.copied-2.ensures ∙ name) name c.requires c.apply.ensures.steps c.apply-2.ensures.steps c.apply-3.ensures.steps))
+    (third_reply _ _ _ _ _ _ _ _ _ _ (c.copied.ensures ∙ name) (c.copied-2.ensures ∙ name) name c.requires c.apply.ensures.steps c.apply-2.ensures.steps
+    c.apply-3.ensures.steps))
 
 pub returns-in_default-clause-desk : goal.returns-in_default-clause-desk
 returns-in_default-clause-desk g c =

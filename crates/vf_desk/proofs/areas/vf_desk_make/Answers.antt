@@ -7,4 +7,5 @@ returns-clause-does c =
     does c.args.desk.now c.checked-command.ensures.form c.step.ensures.said c.step.ensures.desk c.step.ensures.rest c.step.ensures.refused c.told.ensures.status
 
 pub returns-clause-number : goal.returns-clause-number
-returns-clause-number c = told_by c.args.desk.now c.checked-command.ensures.form c.step.ensures.said (λ said. number_or said c.args.number.now) c.told.ensures.number
+returns-clause-number c =
+    told_by c.args.desk.now c.checked-command.ensures.form c.step.ensures.said (λ said. number_or said c.args.number.now) c.told.ensures.number

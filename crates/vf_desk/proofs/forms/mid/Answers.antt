@@ -11,4 +11,5 @@ pub returns-clause-form : goal.returns-clause-form
 returns-clause-form c =
     let name_is = a-name c.args.name.now c.in_ok-name.name c.in_ok-name.ensures in
     let anchor_is = an-anchor c.args.anchor c.in_ok-anchor.anchor c.in_ok-anchor.ensures in
-    (let form = rw (name_is.0, anchor_is.0) at c.checked.ensures.form in form) ∙ ap (λ (x : ℤ). in_form (command.Mid c.args.name.now c.args.anchor c.args.offset x)) (to_z-of_z w32 c.args.by c.ranges.by)
+    (let form = rw (name_is.0, anchor_is.0) at c.checked.ensures.form in form)
+    ∙ ap (λ (x : ℤ). in_form (command.Mid c.args.name.now c.args.anchor c.args.offset x)) (to_z-of_z w32 c.args.by c.ranges.by)

@@ -10,4 +10,5 @@ use Rattle.vf_desk.proofs.forms.resize.Goals as goal
 pub returns-clause-form : goal.returns-clause-form
 returns-clause-form c =
     let name_is = a-name c.args.name.now c.in_ok-name.name c.in_ok-name.ensures in
-    (let form = rw name_is.0 at c.checked.ensures.form in form) ∙ ap (λ (x : ℤ). in_form (command.Resize c.args.name.now c.args.address x)) (to_z-of_z w32 c.args.delta c.ranges.delta)
+    (let form = rw name_is.0 at c.checked.ensures.form in form)
+    ∙ ap (λ (x : ℤ). in_form (command.Resize c.args.name.now c.args.address x)) (to_z-of_z w32 c.args.delta c.ranges.delta)

@@ -9,4 +9,5 @@ pub returns-in_default : goal.returns-in_default
 returns-in_default c = none-by c.in_default.ensures.taken c.in_default.ensures.left (λ a b. Takes c.args.line.now a b closed) (takes-closed refl)
 
 pub returns : goal.returns
-returns c = held-by (ap Some c.deref_mut.ensures.value ∙ c.in-Some.ensures.taken) c.put.ensures (λ a b. Takes c.args.line.now a b c.take_line-status.result) c.take_line-status.ensures
+returns c = held-by (ap Some c.deref_mut.ensures.value ∙ c.in-Some.ensures.taken) c.put.ensures (λ a b. Takes c.args.line.now a b c.take_line-status.result)
+    c.take_line-status.ensures

@@ -26,8 +26,10 @@ items-preserved c = record {
 
 pub returns-clause-list : goal.returns-clause-list
 returns-clause-list c =
-    (items-all area_of (area_items c.args.world.now.desk) c.items.i c.args.to.now c.items.to c.items.invariant.few c.in_default.ensures.item c.items.invariant.filled_is).0
+    (items-all area_of (area_items c.args.world.now.desk) c.items.i c.args.to.now c.items.to c.items.invariant.few c.in_default.ensures.item
+    c.items.invariant.filled_is).0
 
 pub returns-clause-count : goal.returns-clause-count
 returns-clause-count c =
-    (items-all area_of (area_items c.args.world.now.desk) c.items.i c.args.to.now c.items.to c.items.invariant.few c.in_default.ensures.item c.items.invariant.filled_is).1
+    (items-all area_of (area_items c.args.world.now.desk) c.items.i c.args.to.now c.items.to c.items.invariant.few c.in_default.ensures.item
+    c.items.invariant.filled_is).1

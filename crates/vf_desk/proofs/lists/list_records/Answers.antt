@@ -9,7 +9,8 @@ pub returns-in-Ok-clause-out : goal.returns-in-Ok-clause-out
 returns-in-Ok-clause-out c = rw ((records-listed c.args.world.now.desk c.args.name.now _ _ _ c.in-Ok.ensures.ok).out, map-map record_of out_item) c.fill.ensures
 
 pub returns-in-Ok-clause-taken : goal.returns-in-Ok-clause-taken
-returns-in-Ok-clause-taken c = rw ((records-listed c.args.world.now.desk c.args.name.now _ _ _ c.in-Ok.ensures.ok).taken, map-map record_of in_item) c.fill-in-Ok.ensures
+returns-in-Ok-clause-taken c =
+    rw ((records-listed c.args.world.now.desk c.args.name.now _ _ _ c.in-Ok.ensures.ok).taken, map-map record_of in_item) c.fill-in-Ok.ensures
 
 pub returns-in-Ok-clause-outs : goal.returns-in-Ok-clause-outs
 returns-in-Ok-clause-outs c = rw ((records-listed c.args.world.now.desk c.args.name.now _ _ _ c.in-Ok.ensures.ok).out, map-length out_item) refl
@@ -21,7 +22,8 @@ pub returns-in-Err-clause-out : goal.returns-in-Err-clause-out
 returns-in-Err-clause-out c = rw (no-records-listed c.args.world.now.desk c.args.name.now _ c.in-Err.ensures.err).out (sym (filled-none c.args.outgoing.now))
 
 pub returns-in-Err-clause-taken : goal.returns-in-Err-clause-taken
-returns-in-Err-clause-taken c = rw (no-records-listed c.args.world.now.desk c.args.name.now _ c.in-Err.ensures.err).taken (sym (filled-none c.args.incoming.now))
+returns-in-Err-clause-taken c =
+    rw (no-records-listed c.args.world.now.desk c.args.name.now _ c.in-Err.ensures.err).taken (sym (filled-none c.args.incoming.now))
 
 pub returns-in-Err-clause-outs : goal.returns-in-Err-clause-outs
 returns-in-Err-clause-outs c = rw (no-records-listed c.args.world.now.desk c.args.name.now _ c.in-Err.ensures.err).out refl

@@ -9,27 +9,37 @@ use Rattle.vf_desk.proofs.FillLaws.{filled-none}
 use Rattle.vf_desk.proofs.questions.vf_desk_areas.Goals as goal
 
 pub returns-in_default-clause-asks : goal.returns-in_default-clause-asks
-returns-in_default-clause-asks c = shut-asks question.Areas c.args.desk.now c.step-called.new.self c.asked.ensures.form c.step-called.ensures.said c.step-called.ensures.asked c.in_default.ensures.taken c.in_default.ensures.left c.status.ensures
+returns-in_default-clause-asks c = shut-asks question.Areas c.args.desk.now c.step-called.new.self c.asked.ensures.form c.step-called.ensures.said
+    c.step-called.ensures.asked c.in_default.ensures.taken c.in_default.ensures.left c.status.ensures
 
 pub returns-in_default-clause-list : goal.returns-in_default-clause-list
 returns-in_default-clause-list c = λ s seen.
-    sym (filled-none c.args.areas.now) ∙ sym (ap (λ l. filled (map area_of (areas_in l)) c.args.areas.now) (shut-list question.Areas c.args.desk.now c.step-called.new.self c.asked.ensures.form c.step-called.ensures.said c.step-called.ensures.asked c.in_default.ensures.taken s seen))
+    sym (filled-none c.args.areas.now) ∙ sym (ap (λ l. filled (map area_of (areas_in l)) c.args.areas.now)
+    (shut-list question.Areas c.args.desk.now c.step-called.new.self c.asked.ensures.form c.step-called.ensures.said c.step-called.ensures.asked
+    c.in_default.ensures.taken s seen))
 
 pub returns-in_default-clause-count : goal.returns-in_default-clause-count
-returns-in_default-clause-count c = λ s seen. shut-counted question.Areas c.args.desk.now c.step-called.new.self c.asked.ensures.form c.step-called.ensures.said c.step-called.ensures.asked c.in_default.ensures.taken c.args.count.now (length (areas_in (listed s question.Areas))) s seen
+returns-in_default-clause-count c = λ s seen. shut-counted question.Areas c.args.desk.now c.step-called.new.self c.asked.ensures.form
+    c.step-called.ensures.said c.step-called.ensures.asked c.in_default.ensures.taken c.args.count.now (length (areas_in (listed s question.Areas))) s seen
 
 pub returns-in_default-clause-free : goal.returns-in_default-clause-free
-returns-in_default-clause-free c = shut-told question.Areas c.args.desk.now c.step-called.new.self c.asked.ensures.form c.step-called.ensures.said c.step-called.ensures.asked c.in_default.ensures.taken (λ said. number_or said c.args.free.now)
+returns-in_default-clause-free c = shut-told question.Areas c.args.desk.now c.step-called.new.self c.asked.ensures.form c.step-called.ensures.said
+    c.step-called.ensures.asked c.in_default.ensures.taken (λ said. number_or said c.args.free.now)
 
 pub returns-clause-asks : goal.returns-clause-asks
-returns-clause-asks c = open-asks question.Areas c.args.desk.now c.step-called.new.self c.asked.ensures.form c.step-called.ensures.said c.step-called.ensures.asked c.in-Some.ensures.taken c.put.ensures c.told.ensures.status
+returns-clause-asks c = open-asks question.Areas c.args.desk.now c.step-called.new.self c.asked.ensures.form c.step-called.ensures.said
+    c.step-called.ensures.asked c.in-Some.ensures.taken c.put.ensures c.told.ensures.status
 
 pub returns-clause-list : goal.returns-clause-list
-returns-clause-list c = open-list question.Areas c.args.desk.now c.step-called.new.self c.asked.ensures.form c.step-called.ensures.said c.step-called.ensures.asked (ap Some c.deref.ensures ∙ c.in-Some.ensures.taken) c.areas-n.ensures.list
+returns-clause-list c = open-list question.Areas c.args.desk.now c.step-called.new.self c.asked.ensures.form c.step-called.ensures.said
+    c.step-called.ensures.asked (ap Some c.deref.ensures ∙ c.in-Some.ensures.taken) c.areas-n.ensures.list
 
 pub returns-clause-count : goal.returns-clause-count
-returns-clause-count c = ask-counted question.Areas c.args.desk.now c.step-called.new.self c.asked.ensures.form c.step-called.ensures.said c.step-called.ensures.asked c.args.count.now (λ s. length (areas_in (listed s question.Areas))) c.told_count.ensures.count
-    (open-list question.Areas c.args.desk.now c.step-called.new.self c.asked.ensures.form c.step-called.ensures.said c.step-called.ensures.asked (ap Some c.deref.ensures ∙ c.in-Some.ensures.taken) c.areas-n.ensures.count)
+returns-clause-count c = ask-counted question.Areas c.args.desk.now c.step-called.new.self c.asked.ensures.form c.step-called.ensures.said
+    c.step-called.ensures.asked c.args.count.now (λ s. length (areas_in (listed s question.Areas))) c.told_count.ensures.count
+    (open-list question.Areas c.args.desk.now c.step-called.new.self c.asked.ensures.form c.step-called.ensures.said c.step-called.ensures.asked
+    (ap Some c.deref.ensures ∙ c.in-Some.ensures.taken) c.areas-n.ensures.count)
 
 pub returns-clause-free : goal.returns-clause-free
-returns-clause-free c = ask-told question.Areas c.args.desk.now c.step-called.new.self c.asked.ensures.form c.step-called.ensures.said c.step-called.ensures.asked (λ said. number_or said c.args.free.now) c.told.ensures.number
+returns-clause-free c = ask-told question.Areas c.args.desk.now c.step-called.new.self c.asked.ensures.form c.step-called.ensures.said
+    c.step-called.ensures.asked (λ said. number_or said c.args.free.now) c.told.ensures.number

@@ -10,7 +10,8 @@ unwrap-status-requires c =
 
 pub returns : goal.returns
 returns c =
-    let e = ended c.new-writer.result c.check_image.new.writer _ c.new-writer.ensures.text (rw c.unwrap-status.ensures at c.check_image.ensures.ok) (rw c.unwrap-status.ensures at c.check_image.ensures.status) in
+    let e = ended c.new-writer.result c.check_image.new.writer _ c.new-writer.ensures.text (rw c.unwrap-status.ensures at c.check_image.ensures.ok)
+    (rw c.unwrap-status.ensures at c.check_image.ensures.status) in
     let same = sym (e.same ∙ c.new-writer.ensures.same_reference) in
     let before = e.before ∙ c.new-writer.ensures.before in
     let text = e.text_is in

@@ -10,7 +10,8 @@ unwrap-status-requires g c =
 
 pub returns : goal.returns
 returns g c =
-    let e = run_ended _ c.args.script.now c.new-writer.result c.replies_of.new.writer c.unwrap-status.result c.new-writer.ensures.text (rw c.unwrap-status.ensures at c.replies_of.ensures.ok) in
+    let e = run_ended _ c.args.script.now c.new-writer.result c.replies_of.new.writer c.unwrap-status.result c.new-writer.ensures.text
+    (rw c.unwrap-status.ensures at c.replies_of.ensures.ok) in
     let same = sym (e.same ∙ c.new-writer.ensures.same_reference) in
     let before = e.before ∙ c.new-writer.ensures.before in
     let text = e.text_is in

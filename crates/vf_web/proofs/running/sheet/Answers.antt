@@ -10,10 +10,14 @@ unwrap-status-requires g c =
 
 pub returns : goal.returns
 returns g c =
-    let m = sheet_ended c.args.marked c.args.name.now _ c.args.script.now c.new-writer.result c.sheet_of.new.writer c.unwrap-status.result c.new-writer.ensures.text (rw c.unwrap-status.ensures at c.sheet_of.ensures.ok) in
+    let m = sheet_ended c.args.marked c.args.name.now _ c.args.script.now c.new-writer.result c.sheet_of.new.writer c.unwrap-status.result
+    c.new-writer.ensures.text (rw c.unwrap-status.ensures at c.sheet_of.ensures.ok) in
     let e = m.ends in
     let same = sym (e.same ∙ c.new-writer.ensures.same_reference) in
     let before = e.before ∙ c.new-writer.ensures.before in
     let text = e.text_is in
     let status = e.status_is in
-    record { told = record { text = m.text; sheet = m.sheet; told = record { status_is = grind (arith, tests); written = grind arith; length_is = grind arith } } }
+    record {
+      told =
+          record { text = m.text; sheet = m.sheet; told = record { status_is = grind (arith, tests); written = grind arith; length_is = grind arith } };
+    }

@@ -14,7 +14,8 @@ returns-then-tally-eq0 c = λ d seen.
 pub overflow_sub-result : goal.overflow_sub-result
 overflow_sub-result c =
     let d = c.args.self.now.world.desk in
-    let t = tallied (c.args.room + 1) c.print-done.new.writer c.print-done.result (said_text d c.args.self.now.said) (omega (arith, c.requires)) (c.print-done.ensures d (reordered-refl d)) in
+    let t = tallied (c.args.room + 1) c.print-done.new.writer c.print-done.result (said_text d c.args.self.now.said) (omega (arith, c.requires))
+    (c.print-done.ensures d (reordered-refl d)) in
     let none = c.if-tally-eq0.false in
     let all = t.1 (omega arith) in
     omega arith

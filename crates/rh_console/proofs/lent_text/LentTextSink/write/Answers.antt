@@ -12,7 +12,8 @@ returns-then-self-all-clause-taken c =
     let n = c.min-count.result in
     ap (λ l. s.bytes.ghost_name ∷ l)
     (ap (λ l. take (s.taken + n) (l ++ s.beyond ∷ [])) c.put_in.ensures
-    ∙ taken-inside s.bytes.now c.args.bytes.now s.beyond s.taken n (omega (arith, c.min-count.ensures, c.if-self-all.true)) (omega (arith, c.min-count.ensures)))
+    ∙ taken-inside s.bytes.now c.args.bytes.now s.beyond s.taken n (omega (arith, c.min-count.ensures, c.if-self-all.true))
+    (omega (arith, c.min-count.ensures)))
 
 pub returns-then-self-all-clause-counted : goal.returns-then-self-all-clause-counted
 unfolding output_of
@@ -43,7 +44,8 @@ returns-clause-taken c =
     ap (λ l. s.bytes.ghost_name ∷ l)
     (ap (λ t. take (t + 1) (s.bytes.now ++ y ∷ [])) all ∙ taken-beyond s.bytes.now s.beyond y
     ∙ ap (λ t. take t (s.bytes.now ++ s.beyond ∷ []) ++ y ∷ []) (sym all)
-    ∙ ap (λ l. take s.taken (s.bytes.now ++ s.beyond ∷ []) ++ l) (sym (first-of c.args.bytes.now (some-of c.args.bytes.now (grind (arith, common_steps, tests))))))
+    ∙ ap (λ l. take s.taken (s.bytes.now ++ s.beyond ∷ []) ++ l) (sym (first-of c.args.bytes.now
+    (some-of c.args.bytes.now (grind (arith, common_steps, tests))))))
 
 pub returns-clause-counted : goal.returns-clause-counted
 unfolding output_of

@@ -16,5 +16,7 @@ pub invariant_of-self-2 : goal.invariant_of-self-2
 invariant_of-self-2 c =
     let m = c.self.inside.contents in
     let absent : has_file c.args.name (contents_of m.entries) ≡ false = ap (has_file c.args.name) c.self.view_is ∙ c.requires.new_name in
-    let is = ap contents_of (c.in_ok-insert.ensures.entries ∙ insert_entry-new _ m c.args.name c.args.bytes (lookup-none c.args.name m.entries absent)) ∙ contents_of-append m.entries (c.args.name, c.args.bytes) in
-    subst AreShort (sym is) (AreShort-append (contents_of m.entries) (c.args.name, c.args.bytes.items) c.self.invariant (omega (arith, c.requires.small, c.args.bytes.ok)))
+    let is = ap contents_of (c.in_ok-insert.ensures.entries ∙ insert_entry-new _ m c.args.name c.args.bytes (lookup-none c.args.name m.entries absent))
+    ∙ contents_of-append m.entries (c.args.name, c.args.bytes) in
+    subst AreShort (sym is) (AreShort-append (contents_of m.entries) (c.args.name, c.args.bytes.items) c.self.invariant
+    (omega (arith, c.requires.small, c.args.bytes.ok)))

@@ -10,7 +10,8 @@ set-last zero (x ∷ xs) e low = refl
 set-last (suc n) (x ∷ xs) e low = ap (λ z. x ∷ z) (set-last n xs e (omega arith))
 
 -- one of the first
-kept : {A : Type 0} (n : ℕ) (first ws : List A) (e : A) → length first ≡ 12 → length ws ≡ n → n < 12 → take (min n 12) first ≡ take 12 ws → take (min (n + 1) 12) (set first n e) ≡ take 12 (ws ++ e ∷ [])
+kept : {A : Type 0} (n : ℕ) (first ws : List A) (e : A) → length first ≡ 12 → length ws ≡ n → n < 12 → take (min n 12) first ≡ take 12 ws
+    → take (min (n + 1) 12) (set first n e) ≡ take 12 (ws ++ e ∷ [])
 kept n first ws e long count low so_far =
     let here : take n first ≡ ws = ap (λ k. take k first) (sym (min-eq_left (omega arith))) ∙ (so_far ∙ take_all 12 ws (omega arith)) in
     ap (λ k. take k (set first n e)) (min-eq_left (omega arith))

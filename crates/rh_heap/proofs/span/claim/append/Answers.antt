@@ -8,6 +8,8 @@ pub returns-clause-took : goal.returns-clause-took
 returns-clause-took g c = record {
   room = no_top_shortage _ _ _ c.requires.none c.requires.top c.requires.room;
   address_is = placed_top c.args.span.at _ _ c.requires.none (zeros (c.args.size - 4)) (zeros_long _ c.requires.least) _ c.requires.top;
-  spells = append_spells _ _ _ c.requires.none (zeros (c.args.size - 4)) (zeros_long _ c.requires.least) _ _ _ _ c.requires.span.spells c.requires.top c.requires.room
-      c.put_zeros.ensures.only.outside c.put_zeros.ensures.size (zeros_part _ _ _ c.put_zeros.ensures.zeros) c.write.ensures.only.outside c.write.ensures.value c.requires.multiple;
+  spells = append_spells _ _ _ c.requires.none (zeros (c.args.size - 4)) (zeros_long _ c.requires.least) _ _ _ _ c.requires.span.spells c.requires.top
+      c.requires.room
+      c.put_zeros.ensures.only.outside c.put_zeros.ensures.size (zeros_part _ _ _ c.put_zeros.ensures.zeros) c.write.ensures.only.outside
+      c.write.ensures.value c.requires.multiple;
 }

@@ -24,5 +24,6 @@ returns-clause-took g c = record {
   room = no_shortage _ _ _ _ c.requires.gap;
   address_is = placed_there _ _ _ _ c.requires.gap (zeros (c.args.size - 4)) (zeros_long _ c.requires.least);
   spells = fill_spells _ _ _ _ c.requires.gap (zeros (c.args.size - 4)) (zeros_long _ c.requires.least) _ _ _ _ c.requires.span.spells c.follow-next.ensures
-      c.put_zeros.ensures.only.outside c.put_zeros.ensures.size (zeros_part _ _ _ c.put_zeros.ensures.zeros) c.requires.multiple c.settle_below_block.ensures.settles;
+      c.put_zeros.ensures.only.outside c.put_zeros.ensures.size (zeros_part _ _ _ c.put_zeros.ensures.zeros) c.requires.multiple
+      c.settle_below_block.ensures.settles;
 }

@@ -12,11 +12,14 @@ walk-init g c = sum_start _ _ _ _ _ _ c.requires.spells c.read.ensures.value c.r
 
 pub returns-then-place-eq0-clause-largest : goal.returns-then-place-eq0-clause-largest
 returns-then-place-eq0-clause-largest g c =
-    c.saturating_sub.ensures ∙ (sums_done _ _ _ _ _ c.walk.invariant ((walk_turn _ _ _ _ _ _ c.requires.spells c.walk.invariant.walk c.follow-place.ensures).no_more c.if-place-eq0.true)).0
+    c.saturating_sub.ensures
+    ∙ (sums_done _ _ _ _ _ c.walk.invariant ((walk_turn _ _ _ _ _ _ c.requires.spells c.walk.invariant.walk c.follow-place.ensures).no_more
+    c.if-place-eq0.true)).0
 
 pub returns-then-place-eq0-clause-total : goal.returns-then-place-eq0-clause-total
 returns-then-place-eq0-clause-total g c =
-    (sums_done _ _ _ _ _ c.walk.invariant ((walk_turn _ _ _ _ _ _ c.requires.spells c.walk.invariant.walk c.follow-place.ensures).no_more c.if-place-eq0.true)).1
+    (sums_done _ _ _ _ _ c.walk.invariant ((walk_turn _ _ _ _ _ _ c.requires.spells c.walk.invariant.walk c.follow-place.ensures).no_more
+    c.if-place-eq0.true)).1
 
 pub read-size-requires-clause-within : goal.read-size-requires-clause-within
 read-size-requires-clause-within g c =
@@ -33,7 +36,8 @@ overflow_add-place g c =
 pub walk-preserved : goal.walk-preserved
 walk-preserved g c =
     let t = (walk_turn _ _ _ _ _ _ c.requires.spells c.walk.invariant.walk c.follow-place.ensures).some c.if-place-eq0.false in
-    subst (λ i. Summed c.args.span.at (heap_in (g.S.Words.memory c.args.store.now) c.args.span) c.follow-place.result i (c.walk.total + c.read-size.result)) (sym c.max-largest.ensures)
+    subst (λ i. Summed c.args.span.at (heap_in (g.S.Words.memory c.args.store.now) c.args.span) c.follow-place.result i (c.walk.total + c.read-size.result))
+    (sym c.max-largest.ensures)
     (sum_more _ _ _ _ _ _ _ _ c.walk.invariant t c.read-size.ensures.value (size_below _ _ _ _ _ _ _ t c.read-size.ensures.value))
 
 pub walk-smaller : goal.walk-smaller

@@ -16,11 +16,13 @@ read-room-requires-clause-within g c =
 
 pub returns-then-size-room : goal.returns-then-size-room
 returns-then-size-room g c =
-    ((walk_turn _ _ _ _ _ _ c.requires.spells c.walk.invariant c.follow-place.ensures).some c.if-place-eq0.false).found _ c.read-room.ensures.value c.if-size-room.true
+    ((walk_turn _ _ _ _ _ _ c.requires.spells c.walk.invariant c.follow-place.ensures).some c.if-place-eq0.false).found _ c.read-room.ensures.value
+    c.if-size-room.true
 
 pub walk-preserved : goal.walk-preserved
 walk-preserved g c =
-    (((walk_turn _ _ _ _ _ _ c.requires.spells c.walk.invariant c.follow-place.ensures).some c.if-place-eq0.false).passed _ c.read-room.ensures.value c.if-size-room.false).walk
+    (((walk_turn _ _ _ _ _ _ c.requires.spells c.walk.invariant c.follow-place.ensures).some c.if-place-eq0.false).passed _ c.read-room.ensures.value
+    c.if-size-room.false).walk
 
 pub walk-smaller : goal.walk-smaller
 walk-smaller g c =

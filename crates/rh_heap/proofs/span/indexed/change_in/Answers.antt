@@ -16,17 +16,23 @@ pub note_hole-requires-clause-upper : goal.note_hole-requires-clause-upper
 note_hole-requires-clause-upper g c = let m = c.requires.found.multiple in omega (arith, place_even _ _ _ _ c.requires.span.spells.heap.tidy c.requires.found)
 
 pub note_hole-requires-in-IntoHole-clause-low : goal.note_hole-requires-in-IntoHole-clause-low
-note_hole-requires-in-IntoHole-clause-low g c = let m = c.requires.multiple in omega (arith, place_even _ _ _ _ c.requires.span.spells.heap.tidy c.requires.found)
+note_hole-requires-in-IntoHole-clause-low g c =
+    let m = c.requires.multiple in omega (arith, place_even _ _ _ _ c.requires.span.spells.heap.tidy c.requires.found)
 
 pub note_hole-requires-in-IntoHole-clause-upper : goal.note_hole-requires-in-IntoHole-clause-upper
 note_hole-requires-in-IntoHole-clause-upper g c =
     let m = c.requires.found.multiple in
     let w = into _ _ _ _ c.requires.span.spells c.requires.found _ _ c.in-IntoHole.ensures in
-    omega (arith, place_even _ _ _ _ c.requires.span.spells.heap.tidy c.requires.found, (widen_even _ _ _ _ c.requires.span.spells c.requires.found _ c.requires.multiple _ w))
+    omega (
+      arith,
+      place_even _ _ _ _ c.requires.span.spells.heap.tidy c.requires.found,
+      (widen_even _ _ _ _ c.requires.span.spells c.requires.found _ c.requires.multiple _ w),
+    )
 
 pub overflow_add-upper-in-IntoHole : goal.overflow_add-upper-in-IntoHole
 overflow_add-upper-in-IntoHole g c =
-    let b = widen_bounds _ _ _ _ c.requires.span.spells c.requires.found _ c.requires.multiple _ (into _ _ _ _ c.requires.span.spells c.requires.found _ _ c.in-IntoHole.ensures) in
+    let b = widen_bounds _ _ _ _ c.requires.span.spells c.requires.found _ c.requires.multiple _
+    (into _ _ _ _ c.requires.span.spells c.requires.found _ _ c.in-IntoHole.ensures) in
     let s = c.requires.span.spells in
     omega (arith, b.inside, s.heap.fits, s.within, g.met.S.Words.small c.args.store.now c.args.span.area.0)
 
@@ -35,7 +41,8 @@ returns-in-Stays-clause-changed g c = changed_stays _ _ _ _ c.requires.found c.r
 
 pub returns-in-Shrinks-clause-changed : goal.returns-in-Shrinks-clause-changed
 returns-in-Shrinks-clause-changed g c =
-    changed_shrinks (g.S.Words.memory c.args.store.now) (g.S.Words.memory c.shrink.new.store) _ _ _ c.requires.found c.in-Shrinks.ensures c.shrink.ensures.spells
+    changed_shrinks (g.S.Words.memory c.args.store.now) (g.S.Words.memory c.shrink.new.store) _ _ _ c.requires.found c.in-Shrinks.ensures
+    c.shrink.ensures.spells
 
 pub returns-in-Shrinks-clause-starts : goal.returns-in-Shrinks-clause-starts
 returns-in-Shrinks-clause-starts g c =
@@ -45,7 +52,8 @@ returns-in-Shrinks-clause-starts g c =
     let s = c.requires.span.spells in
     let k = from_cut c.args.span.at h c.args.spot f (λ q. SpellsIn n c.args.span (resized_in c.args.size q h).heap) c.shrink.ensures.spells in
     subst (IsIndex c.note_hole.new.starts) (sym (heap_now n c.args.span _ k))
-    (shrink_index _ _ h _ s f _ c.requires.least _ _ _ c.requires.multiple (shrinks_shorter _ _ h _ s f _ c.requires.least c.in-Shrinks.ensures) c.requires.starts
+    (shrink_index _ _ h _ s f _ c.requires.least _ _ _ c.requires.multiple (shrinks_shorter _ _ h _ s f _ c.requires.least c.in-Shrinks.ensures)
+    c.requires.starts
     (record { used = c.note_hole.ensures.used; holes = c.note_hole.ensures.holes }) c.note_hole.ensures.long (c.read-base.ensures.value ∙ k.base))
 
 pub returns-in-IntoHole-clause-changed : goal.returns-in-IntoHole-clause-changed
@@ -60,13 +68,16 @@ returns-in-IntoHole-clause-starts g c =
     let s = c.requires.span.spells in
     let k = from_cut c.args.span.at h c.args.spot f (λ q. SpellsIn n c.args.span (resized_in c.args.size q h).heap) c.widen.ensures.spells in
     subst (IsIndex c.note_hole-in-IntoHole.new.starts) (sym (heap_now n c.args.span _ k))
-    (widen_index _ _ h _ s f _ c.requires.least _ _ _ _ _ c.requires.multiple (into _ _ h _ s f _ _ c.in-IntoHole.ensures) c.requires.starts c.clear.ensures.bits
-    (record { used = c.note_hole-in-IntoHole.ensures.used; holes = c.note_hole-in-IntoHole.ensures.holes }) (c.note_hole-in-IntoHole.ensures.long ∙ c.clear.ensures.long)
+    (widen_index _ _ h _ s f _ c.requires.least _ _ _ _ _ c.requires.multiple (into _ _ h _ s f _ _ c.in-IntoHole.ensures) c.requires.starts
+    c.clear.ensures.bits
+    (record { used = c.note_hole-in-IntoHole.ensures.used; holes = c.note_hole-in-IntoHole.ensures.holes })
+    (c.note_hole-in-IntoHole.ensures.long ∙ c.clear.ensures.long)
     (c.read-base-in-IntoHole.ensures.value ∙ k.base))
 
 pub returns-else-read-spot-clause-changed : goal.returns-else-read-spot-clause-changed
 returns-else-read-spot-clause-changed g c =
-    changed_top (g.S.Words.memory c.args.store.now) (g.S.Words.memory c.raise.new.store) _ _ _ c.requires.found _ (c.read.ensures.value ∙ c.requires.span.spells.last) c.if-read-spot.false c.in-AtTop.ensures c.raise.ensures.spells
+    changed_top (g.S.Words.memory c.args.store.now) (g.S.Words.memory c.raise.new.store) _ _ _ c.requires.found _
+    (c.read.ensures.value ∙ c.requires.span.spells.last) c.if-read-spot.false c.in-AtTop.ensures c.raise.ensures.spells
 
 pub returns-else-read-spot-clause-starts : goal.returns-else-read-spot-clause-starts
 returns-else-read-spot-clause-starts g c =
@@ -75,7 +86,8 @@ returns-else-read-spot-clause-starts g c =
     let f = c.requires.found in
     let s = c.requires.span.spells in
     let k = from_cut c.args.span.at h c.args.spot f (λ q. SpellsIn n c.args.span (resized_in c.args.size q h).heap) c.raise.ensures.spells in
-    subst (IsIndex c.args.starts.now) (sym (heap_now n c.args.span _ k)) (raise_index _ _ h _ s f _ c.requires.least _ (top _ _ h _ s f _ c.in-AtTop.ensures) c.requires.starts)
+    subst (IsIndex c.args.starts.now) (sym (heap_now n c.args.span _ k))
+    (raise_index _ _ h _ s f _ c.requires.least _ (top _ _ h _ s f _ c.in-AtTop.ensures) c.requires.starts)
 
 pub returns-in-Some-clause-changed : goal.returns-in-Some-clause-changed
 returns-in-Some-clause-changed g c =

@@ -8,8 +8,10 @@ pub returns-then-address-lt-BLOCK : goal.returns-then-address-lt-BLOCK
 returns-then-address-lt-BLOCK g c = no_low_block _ (heap_in (g.S.Words.memory c.args.store.now) c.args.span) c.if-address-lt-BLOCK.true
 
 pub returns-then-place-ne0 : goal.returns-then-place-ne0
-returns-then-place-ne0 g c = not_there (heap_in (g.S.Words.memory c.args.store.now) c.args.span) c.args.address c.requires.span.spells.heap.tidy c.if-address-lt-BLOCK.false c.if-place-ne0.true
+returns-then-place-ne0 g c = not_there (heap_in (g.S.Words.memory c.args.store.now) c.args.span) c.args.address c.requires.span.spells.heap.tidy
+    c.if-address-lt-BLOCK.false c.if-place-ne0.true
 
 pub returns-else-is_set : goal.returns-else-is_set
 returns-else-is_set g c =
-    not_marked _ (heap_in (g.S.Words.memory c.args.store.now) c.args.span) c.args.address c.requires.starts c.if-address-lt-BLOCK.false c.if-place-ne0.false (not_set _ _ c.is_set.ensures c.if-is_set.false)
+    not_marked _ (heap_in (g.S.Words.memory c.args.store.now) c.args.span) c.args.address c.requires.starts c.if-address-lt-BLOCK.false c.if-place-ne0.false
+    (not_set _ _ c.is_set.ensures c.if-is_set.false)

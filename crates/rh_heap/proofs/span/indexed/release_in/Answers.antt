@@ -21,11 +21,14 @@ returns-clause-leaves g c =
     let h = heap_in (g.S.Words.memory c.args.store.now) c.args.span in
     let f = c.in-Some.ensures in
     leaves _ _ _ _ _ tt (ap no_answer (released_at-some c.args.address h _ f.found))
-    (subst (λ a. SpellsIn (g.S.Words.memory c.free_segment.new.store) c.args.span (release a h)) f.address_is c.free_segment.ensures.spells) c.free_segment.ensures.only
+    (subst (λ a. SpellsIn (g.S.Words.memory c.free_segment.new.store) c.args.span (release a h)) f.address_is c.free_segment.ensures.spells)
+    c.free_segment.ensures.only
 
 pub returns-clause-starts : goal.returns-clause-starts
 returns-clause-starts g c =
     let k = c.free_segment.ensures.spells in
     subst (IsIndex c.note_hole.new.starts) (sym (heap_now (g.S.Words.memory c.free_segment.new.store) c.args.span _ k))
-    (release_index _ (heap_in (g.S.Words.memory c.args.store.now) c.args.span) _ _ c.requires.span.spells.heap.tidy (at_place c.in-Some.ensures) _ _ _ _ c.requires.starts c.clear.ensures.bits
-    (record { used = c.note_hole.ensures.used; holes = c.note_hole.ensures.holes }) (c.note_hole.ensures.long ∙ c.clear.ensures.long) (c.read-base.ensures.value ∙ k.base))
+    (release_index _ (heap_in (g.S.Words.memory c.args.store.now) c.args.span) _ _ c.requires.span.spells.heap.tidy (at_place c.in-Some.ensures) _ _ _ _
+    c.requires.starts c.clear.ensures.bits
+    (record { used = c.note_hole.ensures.used; holes = c.note_hole.ensures.holes }) (c.note_hole.ensures.long ∙ c.clear.ensures.long)
+    (c.read-base.ensures.value ∙ k.base))

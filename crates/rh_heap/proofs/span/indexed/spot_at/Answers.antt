@@ -34,7 +34,8 @@ returns-then-ends_at g c =
     let s = c.requires.span.spells in
     let u = marked _ _ _ c.requires.starts c.requires.multiple c.requires.marked in
     let k = link_of _ _ c.requires.starts s.heap.tidy u.before _ u.is _ u.place _ c.link_before-from.ensures in
-    found_touching _ _ _ s _ u _ c.requires.starts _ _ _ k (sym c.read-size.ensures.value) (c.ends_at.ensures.touches c.if-ends_at.true) c.link_before-link.ensures
+    found_touching _ _ _ s _ u _ c.requires.starts _ _ _ k (sym c.read-size.ensures.value) (c.ends_at.ensures.touches c.if-ends_at.true)
+    c.link_before-link.ensures
 
 pub returns-else-ends_at : goal.returns-else-ends_at
 returns-else-ends_at g c =

@@ -19,13 +19,16 @@ pub returns-in-Some-clause-starts : goal.returns-in-Some-clause-starts
 returns-in-Some-clause-starts g c =
     let k = c.fill.ensures.took.spells in
     subst (IsIndex c.note_hole.new.starts) (sym (heap_now (g.S.Words.memory c.fill.new.store) c.args.span _ k))
-    (fill_index _ (heap_in (g.S.Words.memory c.args.store.now) c.args.span) _ _ c.in-Some.ensures (zeros (c.args.size - 4)) (zeros_long _ c.requires.least) c.requires.span.spells.heap.tidy _ _ _ _ _ c.requires.starts c.set.ensures.bits c.clear.ensures.bits
-    (record { used = c.note_hole.ensures.used; holes = c.note_hole.ensures.holes }) (c.note_hole.ensures.long ∙ c.clear.ensures.long ∙ c.set.ensures.long) (c.read-base.ensures.value ∙ k.base))
+    (fill_index _ (heap_in (g.S.Words.memory c.args.store.now) c.args.span) _ _ c.in-Some.ensures (zeros (c.args.size - 4)) (zeros_long _ c.requires.least)
+    c.requires.span.spells.heap.tidy _ _ _ _ _ c.requires.starts c.set.ensures.bits c.clear.ensures.bits
+    (record { used = c.note_hole.ensures.used; holes = c.note_hole.ensures.holes }) (c.note_hole.ensures.long ∙ c.clear.ensures.long ∙ c.set.ensures.long)
+    (c.read-base.ensures.value ∙ k.base))
 
 pub returns-else-read-top-clause-starts : goal.returns-else-read-top-clause-starts
 returns-else-read-top-clause-starts g c =
     let k = c.append.ensures.took.spells in
     let top = c.read-top.ensures.value ∙ c.requires.span.spells.base in
     subst (IsIndex c.set-in-None.new.starts) (sym (heap_now (g.S.Words.memory c.append.new.store) c.args.span _ k))
-    (append_index c.args.span.at (heap_in (g.S.Words.memory c.args.store.now) c.args.span) c.args.size c.in-None.ensures (zeros (c.args.size - 4)) (zeros_long _ c.requires.least) c.requires.span.spells.heap.tidy _ _ c.requires.starts
+    (append_index c.args.span.at (heap_in (g.S.Words.memory c.args.store.now) c.args.span) c.args.size c.in-None.ensures (zeros (c.args.size - 4))
+    (zeros_long _ c.requires.least) c.requires.span.spells.heap.tidy _ _ c.requires.starts
     (subst (λ p. Became USED (p / 8) 1 c.args.starts.now c.set-in-None.new.starts) top c.set-in-None.ensures.bits) c.set-in-None.ensures.long)

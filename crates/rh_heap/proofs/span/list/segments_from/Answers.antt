@@ -28,7 +28,8 @@ walk-smaller g c =
     let t = turn _ _ _ _ _ _ _ _ _ c.requires.spells c.walk.invariant.lists c.read-base.ensures.value c.walk-test.true c.follow.ensures in
     elim c.if-follow-place.branch [
       | then-follow-place w ↦ let n = t.hole w.if-follow-place.true _ w.read.ensures.value in rw w.segment-is (omega (arith, n.least, c.walk-test.true))
-      | else-follow-place w ↦ let n = t.used w.if-follow-place.false _ w.read-else-follow-place.ensures.value in rw w.segment-is (omega (arith, n.least, c.walk-test.true))
+      | else-follow-place w ↦ let n =
+          t.used w.if-follow-place.false _ w.read-else-follow-place.ensures.value in rw w.segment-is (omega (arith, n.least, c.walk-test.true))
     ]
 
 pub walk-preserved : goal.walk-preserved
@@ -38,7 +39,8 @@ walk-preserved g c =
       few = grind (arith, tests, c.push.ensures.len, c.is_full.ensures.value, c.walk.invariant.few);
       lists = elim c.if-follow-place.branch [
         | then-follow-place w ↦ rw (c.push.ensures.items, w.segment-is, w.from-is) (t.hole w.if-follow-place.true _ w.read.ensures.value).lists
-        | else-follow-place w ↦ rw (c.push.ensures.items, w.segment-is, w.from-is) (t.used w.if-follow-place.false _ w.read-else-follow-place.ensures.value).lists
+        | else-follow-place w ↦ rw (c.push.ensures.items, w.segment-is, w.from-is)
+            (t.used w.if-follow-place.false _ w.read-else-follow-place.ensures.value).lists
       ];
     }
 

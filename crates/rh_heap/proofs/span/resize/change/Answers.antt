@@ -7,7 +7,8 @@ returns-in-Stays-clause-changed g c = changed_stays _ _ _ _ c.requires.found c.r
 
 pub returns-in-Shrinks-clause-changed : goal.returns-in-Shrinks-clause-changed
 returns-in-Shrinks-clause-changed g c =
-    changed_shrinks (g.S.Words.memory c.args.store.now) (g.S.Words.memory c.shrink.new.store) _ _ _ c.requires.found c.in-Shrinks.ensures c.shrink.ensures.spells
+    changed_shrinks (g.S.Words.memory c.args.store.now) (g.S.Words.memory c.shrink.new.store) _ _ _ c.requires.found c.in-Shrinks.ensures
+    c.shrink.ensures.spells
 
 pub returns-in-IntoHole-clause-changed : goal.returns-in-IntoHole-clause-changed
 returns-in-IntoHole-clause-changed g c =
@@ -15,8 +16,10 @@ returns-in-IntoHole-clause-changed g c =
 
 pub returns-else-read-spot-clause-changed : goal.returns-else-read-spot-clause-changed
 returns-else-read-spot-clause-changed g c =
-    changed_top (g.S.Words.memory c.args.store.now) (g.S.Words.memory c.raise.new.store) _ _ _ c.requires.found _ (c.read.ensures.value ∙ c.requires.span.spells.last) c.if-read-spot.false c.in-AtTop.ensures c.raise.ensures.spells
+    changed_top (g.S.Words.memory c.args.store.now) (g.S.Words.memory c.raise.new.store) _ _ _ c.requires.found _
+    (c.read.ensures.value ∙ c.requires.span.spells.last) c.if-read-spot.false c.in-AtTop.ensures c.raise.ensures.spells
 
 pub returns-in-Some-clause-changed : goal.returns-in-Some-clause-changed
 returns-in-Some-clause-changed g c =
-    changed_moves (g.S.Words.memory c.args.store.now) (g.S.Words.memory c.move_block.new.store) _ _ _ c.requires.found _ c.in-Moves.ensures c.in-Some.ensures.moved
+    changed_moves (g.S.Words.memory c.args.store.now) (g.S.Words.memory c.move_block.new.store) _ _ _ c.requires.found _ c.in-Moves.ensures
+    c.in-Some.ensures.moved

@@ -19,10 +19,12 @@ move_bytes-requires-clause-target g c =
     let l = c.requires.longer in
     omega (arith, i, s.within, o.outside.len)
 
-copied : (g : given.Over) (c : After-move_bytes g) → SpellsIn (g.S.Words.memory c.move_bytes.new.store) c.args.span (placed (fitted (c.args.size - 4) c.requires.found.bytes) (heap_in (g.S.Words.memory c.args.store.now) c.args.span)).heap
+copied : (g : given.Over) (c : After-move_bytes g) → SpellsIn (g.S.Words.memory c.move_bytes.new.store) c.args.span
+    (placed (fitted (c.args.size - 4) c.requires.found.bytes) (heap_in (g.S.Words.memory c.args.store.now) c.args.span)).heap
 copied g c =
     let t = c.in-Some.ensures.took in
-    moved_spells _ _ _ _ c.requires.span.spells c.requires.found _ c.requires.longer _ _ _ t.spells t.address_is c.move_bytes.ensures.bytes c.move_bytes.ensures.only.outside
+    moved_spells _ _ _ _ c.requires.span.spells c.requires.found _ c.requires.longer _ _ _ t.spells t.address_is c.move_bytes.ensures.bytes
+    c.move_bytes.ensures.only.outside
 
 done : (g : given.Over) (c : After-move_bytes g)
     → let h = heap_in (g.S.Words.memory c.move_bytes.new.store) c.args.span in released_at (c.args.spot.place + 4) h ≡ Ok (release (c.args.spot.place + 4) h)
@@ -47,6 +49,8 @@ returns-in-Some-clause-only g c =
     let t = c.in-Some.ensures.took in
     let l = c.requires.longer in
     let i = new_inside _ _ _ _ c.requires.span.spells c.requires.found _ c.requires.longer _ _ t.spells t.address_is in
-    let e = moved_end (g.S.Words.memory c.args.store.now) (g.S.Words.memory c.move_bytes.new.store) c.args.span c.args.spot c.args.size c.requires.span.spells c.requires.found c.requires.longer (copied g (goal.at.returns-in-Some-clause-only g c).After-move_bytes) in
+    let e = moved_end (g.S.Words.memory c.args.store.now) (g.S.Words.memory c.move_bytes.new.store) c.args.span c.args.spot c.args.size
+    c.requires.span.spells c.requires.found c.requires.longer (copied g (goal.at.returns-in-Some-clause-only g c).After-move_bytes) in
     Edited-both _ _ _ _ _ _ c.in-Some.ensures.only
-    (Edited-both _ _ _ _ _ _ (Edited-wider _ _ _ _ _ _ _ c.move_bytes.ensures.only (omega arith) (omega arith)) (Edited-wider _ _ _ _ _ _ _ c.release.ensures.only (omega arith) (omega arith)))
+    (Edited-both _ _ _ _ _ _ (Edited-wider _ _ _ _ _ _ _ c.move_bytes.ensures.only (omega arith) (omega arith))
+    (Edited-wider _ _ _ _ _ _ _ c.release.ensures.only (omega arith) (omega arith)))

@@ -10,5 +10,6 @@ lengthen-requires-clause-longer g c =
 
 pub returns-clause-spells : goal.returns-clause-spells
 returns-clause-spells g c =
-    raise_spells _ _ _ _ c.requires.span.spells c.requires.found _ _ _ c.requires.multiple (top _ _ _ _ c.requires.span.spells c.requires.found _ c.requires.way) c.requires.room
+    raise_spells _ _ _ _ c.requires.span.spells c.requires.found _ _ _ c.requires.multiple
+    (top _ _ _ _ c.requires.span.spells c.requires.found _ c.requires.way) c.requires.room
     c.lengthen.ensures.only.outside c.lengthen.ensures.size c.lengthen.ensures.block c.write.ensures.only.outside c.write.ensures.value

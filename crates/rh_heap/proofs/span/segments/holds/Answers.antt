@@ -17,11 +17,13 @@ returns-then-spot g c =
     let spot = c.segment_around-spot.result in
     let least = c.if-address.false in
     c.is_inside.ensures
-    ∙ sym (held_here _ _ _ c.args.n spot c.requires.spells.heap.tidy (omega arith) c.segment_around-spot.ensures ∙ ap (λ u. u && is_inside c.args.address c.args.n (spot.place + 4) (spot.size - 4)) c.if-spot.true)
+    ∙ sym (held_here _ _ _ c.args.n spot c.requires.spells.heap.tidy (omega arith) c.segment_around-spot.ensures
+    ∙ ap (λ u. u && is_inside c.args.address c.args.n (spot.place + 4) (spot.size - 4)) c.if-spot.true)
 
 pub returns-else-spot : goal.returns-else-spot
 returns-else-spot g c =
     let spot = c.segment_around-spot.result in
     let least = c.if-address.false in
     c.if-spot.false
-    ∙ sym (held_here _ _ _ c.args.n spot c.requires.spells.heap.tidy (omega arith) c.segment_around-spot.ensures ∙ ap (λ u. u && is_inside c.args.address c.args.n (spot.place + 4) (spot.size - 4)) c.if-spot.false)
+    ∙ sym (held_here _ _ _ c.args.n spot c.requires.spells.heap.tidy (omega arith) c.segment_around-spot.ensures
+    ∙ ap (λ u. u && is_inside c.args.address c.args.n (spot.place + 4) (spot.size - 4)) c.if-spot.false)

@@ -16,4 +16,12 @@ walk-preserved g c =
     let above = q.above in
     let most = c.if-most-next.false in
     let w = t.passed (omega arith) in
-    record { up_to = omega (arith, w.up_to); reached = elim w.reached [ inl e ↦ inl (omega arith) | inr r ↦ inr (rw (let e : c.args.mark.place + (c.walk.passed + c.word_in.result) ≡ c.args.mark.place + c.walk.passed + c.word_in.result = omega arith in e) r) ] }
+    record {
+      up_to = omega (arith, w.up_to);
+      reached = elim w.reached [
+        | inl e ↦ inl (omega arith)
+        | inr r ↦ inr
+            (rw (let e : c.args.mark.place + (c.walk.passed + c.word_in.result) ≡ c.args.mark.place + c.walk.passed + c.word_in.result = omega arith in
+            e) r)
+      ];
+    }

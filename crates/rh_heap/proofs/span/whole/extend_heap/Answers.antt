@@ -31,6 +31,7 @@ returns g c =
     let b = c.read-2.ensures.value ∙ c.requires.span.spells.base in
     let fits = c.requires.span.spells.heap.fits in
     leaves _ _ _ _ _ tt (ap no_answer (extend-done c.args.delta h (omega arith)))
-    (extend_spells _ _ _ _ _ _ _ _ c.requires.span.spells c.read.ensures.value (c.moved-end.ensures.value ∙ ap (λ d. moved c.read.result d) (to_z-of_z w32 c.args.delta c.ranges.delta))
+    (extend_spells _ _ _ _ _ _ _ _ c.requires.span.spells c.read.ensures.value
+    (c.moved-end.ensures.value ∙ ap (λ d. moved c.read.result d) (to_z-of_z w32 c.args.delta c.ranges.delta))
     c.requires.multiple c.requires.within c.read-2.ensures.value c.if-end-read.false c.write.ensures.only.outside c.write.ensures.value)
     (Edited-wider _ _ _ _ _ _ _ c.write.ensures.only (omega arith) (omega arith))

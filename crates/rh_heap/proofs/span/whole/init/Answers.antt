@@ -8,7 +8,8 @@ use Rattle.rh_heap.proofs.span.whole.init.Given as given
 
 spelt : (g : given.Over) (c : After-write-4 g) → SpellsIn (g.S.Words.memory c.write-4.new.store) c.args.span (empty_heap c.args.end)
 spelt g c =
-    init_spells _ _ _ _ _ _ _ c.requires.least c.requires.multiple c.requires.within c.write.ensures.only.outside c.write.ensures.value c.write-2.ensures.only.outside c.write-2.ensures.value
+    init_spells _ _ _ _ _ _ _ c.requires.least c.requires.multiple c.requires.within c.write.ensures.only.outside c.write.ensures.value
+    c.write-2.ensures.only.outside c.write-2.ensures.value
     c.write-3.ensures.only.outside c.write-3.ensures.value c.write-4.ensures.only.outside c.write-4.ensures.value
 
 pub returns-clause-heap : goal.returns-clause-heap

@@ -2,4 +2,9 @@ use Rattle.rh_mapped.proofs.KeptLaws.{kept_grow}
 use Rattle.rh_mapped.proofs.mapped.MappedPages.grow.Goals as goal
 
 pub invariant_of-self : goal.invariant_of-self
-invariant_of-self g c = record { kept = kept_grow (g.S.Words.memory c.self.inside.store) (g.S.Words.memory c.grow.new.self) _ c.args.id.0 c.args.pages c.grow.result c.self.invariant.kept c.grow.ensures.ok c.grow.ensures.err; reached = c.self.invariant.reached }
+invariant_of-self g c =
+    record {
+      kept = kept_grow (g.S.Words.memory c.self.inside.store) (g.S.Words.memory c.grow.new.self) _ c.args.id.0 c.args.pages c.grow.result
+          c.self.invariant.kept c.grow.ensures.ok c.grow.ensures.err;
+      reached = c.self.invariant.reached;
+    }

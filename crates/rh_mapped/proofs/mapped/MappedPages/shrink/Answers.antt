@@ -7,4 +7,5 @@ use Rattle.rh_mapped.proofs.mapped.MappedPages.shrink.Goals as goal
 pub invariant_of-self : goal.invariant_of-self
 invariant_of-self g c =
     let within = subst (λ s. PAGE * c.args.pages ≤ length (bytes (g.S.Words.memory s) c.args.id.0)) (sym c.self.view_is) c.requires.within in
-    rw c.shrink.ensures (kept_shrunk (g.S.Words.memory c.self.inside.store) _ _ _ c.args.id.0 c.args.pages within c.self.invariant (rw c.len-end.ensures at c.forget.ensures))
+    rw c.shrink.ensures (kept_shrunk (g.S.Words.memory c.self.inside.store) _ _ _ c.args.id.0 c.args.pages within c.self.invariant
+    (rw c.len-end.ensures at c.forget.ensures))

@@ -9,4 +9,5 @@ use Rattle.rh_mapped.proofs.mapped.MappedWordsMut.zero.Goals as goal
 pub invariant_of-self : goal.invariant_of-self
 invariant_of-self g c =
     rw c.zero.ensures (kept_written (g.S.Words.memory c.self.inside.store) _ _ _ c.args.id.0 c.args.at _ _ c.self.invariant c.forget.ensures
-    (put_outside (bytes (g.S.Words.memory c.self.inside.store) c.args.id.0) c.args.at (replicate c.args.n 0) _ (omega (arith, length-replicate {A = ℕ} c.args.n 0))))
+    (put_outside (bytes (g.S.Words.memory c.self.inside.store) c.args.id.0) c.args.at (replicate c.args.n 0) _
+    (omega (arith, length-replicate {A = ℕ} c.args.n 0))))

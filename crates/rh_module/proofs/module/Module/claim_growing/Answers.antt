@@ -24,11 +24,15 @@ returns-in_err-lengthen g c =
     rw (p.1, p.2, c.in_err-lengthen.ensures.reason) (refuses _ _ _ _ _ refused c.in_err-lengthen.ensures.err c.requires)
 
 pub claim-requires : goal.claim-requires
-claim-requires g c = is_span (g.S.Words.memory c.lengthen.new.store) c.args.self c.span-span.result _ c.span-span.ensures c.in_ok-lengthen.ensures.only.opened c.in_ok-lengthen.ensures.spells.spells
+claim-requires g c = is_span (g.S.Words.memory c.lengthen.new.store) c.args.self c.span-span.result _ c.span-span.ensures
+    c.in_ok-lengthen.ensures.only.opened c.in_ok-lengthen.ensures.spells.spells
 
 grown : (g : given.Over) (c : In_ok-lengthen g)
-    → let m = g.S.Words.memory c.args.store.now in let h = heap_in m c.args.self in Grown (g.S.Words.memory c.lengthen.new.store) c.args.self c.span-span.result h c.in_ok-shortage.shortage (claim c.args.n) (module_claim m.free c.args.n h)
-grown g c = claim_grown c.span-span.ensures c.requires c.args.n (g.S.Words.memory c.lengthen.new.store) c.in_ok-shortage.ensures c.pages_for.ensures c.in_ok-lengthen.ensures.room c.in_ok-lengthen.ensures.spells
+    → let m = g.S.Words.memory c.args.store.now in let h = heap_in m c.args.self in
+    Grown (g.S.Words.memory c.lengthen.new.store) c.args.self c.span-span.result h c.in_ok-shortage.shortage (claim c.args.n)
+    (module_claim m.free c.args.n h)
+grown g c = claim_grown c.span-span.ensures c.requires c.args.n (g.S.Words.memory c.lengthen.new.store) c.in_ok-shortage.ensures c.pages_for.ensures
+    c.in_ok-lengthen.ensures.room c.in_ok-lengthen.ensures.spells
 
 pub unwrap-requires : goal.unwrap-requires
 unwrap-requires g c = is_done (grown g (goal.at.unwrap-requires g c).In_ok-lengthen) (g.S.Words.memory c.args.store.now) _ _ c.claim.ensures

@@ -15,22 +15,27 @@ use Rattle.rh_module.proofs.module.Module.resize_growing.Given as given
 pub returns-in_err-shortage : goal.returns-in_err-shortage
 returns-in_err-shortage g c =
     let p = err_from_is_err_and c.from_residual.result c.from_residual.ensures.1 in
-    rw (p.1, p.2) (refuses _ _ _ _ _ (resize_refused c.span-span.ensures c.requires c.args.address c.args.delta c.ranges.delta c.in_err-shortage.ensures) refl c.requires)
+    rw (p.1, p.2) (refuses _ _ _ _ _ (resize_refused c.span-span.ensures c.requires c.args.address c.args.delta c.ranges.delta c.in_err-shortage.ensures)
+    refl c.requires)
 
 pub returns-in_err-lengthen : goal.returns-in_err-lengthen
 returns-in_err-lengthen g c =
     let p = err_from_is_err_and c.from_residual-in_err-lengthen.result c.from_residual-in_err-lengthen.ensures.1 in
-    let refused = resize_no_room c.span-span.ensures c.requires c.args.address c.args.delta c.ranges.delta c.in_ok-shortage.ensures c.pages_for.ensures c.in_err-lengthen.ensures.refused in
+    let refused = resize_no_room c.span-span.ensures c.requires c.args.address c.args.delta c.ranges.delta c.in_ok-shortage.ensures c.pages_for.ensures
+    c.in_err-lengthen.ensures.refused in
     rw (p.1, p.2, c.in_err-lengthen.ensures.reason) (refuses _ _ _ _ _ refused c.in_err-lengthen.ensures.err c.requires)
 
 pub resize-requires : goal.resize-requires
-resize-requires g c = is_span (g.S.Words.memory c.lengthen.new.store) c.args.self c.span-span.result _ c.span-span.ensures c.in_ok-lengthen.ensures.only.opened c.in_ok-lengthen.ensures.spells.spells
+resize-requires g c = is_span (g.S.Words.memory c.lengthen.new.store) c.args.self c.span-span.result _ c.span-span.ensures
+    c.in_ok-lengthen.ensures.only.opened c.in_ok-lengthen.ensures.spells.spells
 
 grown : (g : given.Over) (c : In_ok-lengthen g)
     → let m = g.S.Words.memory c.args.store.now in let h = heap_in m c.args.self in
-    Grown (g.S.Words.memory c.lengthen.new.store) c.args.self c.span-span.result h c.in_ok-shortage.shortage (resize c.args.address (passed c.args.delta)) (module_resize m.free c.args.address c.args.delta h)
+    Grown (g.S.Words.memory c.lengthen.new.store) c.args.self c.span-span.result h c.in_ok-shortage.shortage (resize c.args.address (passed c.args.delta))
+    (module_resize m.free c.args.address c.args.delta h)
 grown g c =
-    resize_grown c.span-span.ensures c.requires c.args.address c.args.delta c.ranges.delta (g.S.Words.memory c.lengthen.new.store) c.in_ok-shortage.ensures c.pages_for.ensures c.in_ok-lengthen.ensures.room c.in_ok-lengthen.ensures.spells
+    resize_grown c.span-span.ensures c.requires c.args.address c.args.delta c.ranges.delta (g.S.Words.memory c.lengthen.new.store) c.in_ok-shortage.ensures
+    c.pages_for.ensures c.in_ok-lengthen.ensures.room c.in_ok-lengthen.ensures.spells
 
 pub unwrap-requires : goal.unwrap-requires
 unwrap-requires g c = is_done (grown g (goal.at.unwrap-requires g c).In_ok-lengthen) (g.S.Words.memory c.args.store.now) _ _ c.resize.ensures

@@ -3,27 +3,39 @@ use Rattle.rh_module.proofs.BlockBytes.{block_within, wrote, maps_on, same_shape
 use Rattle.rh_module.proofs.module.Module.write_bytes.Goals as goal
 
 pub overflow_add-address : goal.overflow_add-address
-overflow_add-address g c = omega (arith, block_within (g.S.Words.memory c.args.store.now) c.args.self c.args.address (c.args.offset + length c.args.from.now) c.requires.module c.requires.block, g.met.S.Words.small c.args.store.now c.args.self.area.0)
+overflow_add-address g c =
+    omega (
+      arith,
+      block_within (g.S.Words.memory c.args.store.now) c.args.self c.args.address (c.args.offset + length c.args.from.now) c.requires.module c.requires.block,
+      g.met.S.Words.small c.args.store.now c.args.self.area.0,
+    )
 
 pub copy_in-requires-clause-within : goal.copy_in-requires-clause-within
-copy_in-requires-clause-within g c = rw c.take_map-map.ensures.same (omega (arith, block_within (g.S.Words.memory c.args.store.now) c.args.self c.args.address (c.args.offset + length c.args.from.now) c.requires.module c.requires.block))
+copy_in-requires-clause-within g c = rw c.take_map-map.ensures.same (omega (
+  arith,
+  block_within (g.S.Words.memory c.args.store.now) c.args.self c.args.address (c.args.offset + length c.args.from.now) c.requires.module
+      c.requires.block,
+))
 
 pub keep_map-requires-clause-span : goal.keep_map-requires-clause-span
 keep_map-requires-clause-span g c =
     let m = g.S.Words.memory c.args.store.now in
     let n = g.S.Words.memory c.copy_in.new.self in
-    let w = wrote m n c.args.self c.args.address c.args.offset c.args.from.now c.requires.module c.requires.block (rw c.take_map-map.ensures.same at c.copy_in.ensures) in
+    let w = wrote m n c.args.self c.args.address c.args.offset c.args.from.now c.requires.module c.requires.block
+    (rw c.take_map-map.ensures.same at c.copy_in.ensures) in
     span_after m n c.args.self _ _ _ _ w c.span-2.ensures
 
 pub keep_map-requires-clause-index : goal.keep_map-requires-clause-index
 keep_map-requires-clause-index g c =
     let m = g.S.Words.memory c.args.store.now in
     let n = g.S.Words.memory c.copy_in.new.self in
-    let w = wrote m n c.args.self c.args.address c.args.offset c.args.from.now c.requires.module c.requires.block (rw c.take_map-map.ensures.same at c.copy_in.ensures) in
+    let w = wrote m n c.args.self c.args.address c.args.offset c.args.from.now c.requires.module c.requires.block
+    (rw c.take_map-map.ensures.same at c.copy_in.ensures) in
     maps_on _ _ _ (same_shape m n c.args.self _ _ _ _ _ w c.requires.module c.span.ensures c.span-2.ensures) c.take_map-map.result c.take_map-map.ensures.index
 
 pub returns : goal.returns
 returns g c =
     let m = g.S.Words.memory c.args.store.now in
     let n = g.S.Words.memory c.copy_in.new.self in
-    rw c.keep_map.ensures (wrote m n c.args.self c.args.address c.args.offset c.args.from.now c.requires.module c.requires.block (rw c.take_map-map.ensures.same at c.copy_in.ensures))
+    rw c.keep_map.ensures (wrote m n c.args.self c.args.address c.args.offset c.args.from.now c.requires.module c.requires.block
+    (rw c.take_map-map.ensures.same at c.copy_in.ensures))

@@ -18,7 +18,8 @@ loop-done-preserved g c =
     let d = c.loop-done.done in let n = c.min-run.result in let xs = part (bytes m id) c.args.at (d + n) in
     let x = c.min.ensures in let y = c.min-run.ensures in let t = c.loop-done-test.true in
     let less : d + n ≤ c.args.n = omega arith in let u = memory_of c.copy_part.new.self in
-    let e = across_more m (memory_of c.loop-done.self) u id id2 c.args.at c.args.at2 d n c.requires.apart c.loop-done.invariant.1.1.memory c.copy_part.ensures in
+    let e = across_more m (memory_of c.loop-done.self) u id id2 c.args.at c.args.at2 d n c.requires.apart c.loop-done.invariant.1.1.memory
+    c.copy_part.ensures in
     (less, (untouched m u id id2 (put (bytes m id2) c.args.at2 xs) c.requires.apart c.requires.opened e, put_to m u id2 c.args.at2 xs e))
 
 pub returns : goal.returns

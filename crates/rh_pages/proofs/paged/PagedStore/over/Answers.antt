@@ -39,7 +39,8 @@ invariant_of-result g c =
     record {
       few = omega (arith, so_far.room, c.requires.most);
       long = omega (arith, so_far.long, ap (λ n. LISTS * n) so_far.room, c.requires.numbers);
-      kept = fresh_kept (g.G.Ground.bytes c.loop-k.site) (areas_in lists) _ (free_in lists) t.room MAX_AREAS so_far.areas refl (so_far.free ∙ ap first out) (omega (arith, ap length so_far.bytes, so_far.room, c.requires.size));
+      kept = fresh_kept (g.G.Ground.bytes c.loop-k.site) (areas_in lists) _ (free_in lists) t.room MAX_AREAS so_far.areas refl (so_far.free ∙ ap first out)
+          (omega (arith, ap length so_far.bytes, so_far.room, c.requires.size));
     }
 
 pub returns : goal.returns
@@ -47,4 +48,5 @@ unfolding memory_of
 returns g c =
     let so_far = c.loop-k.invariant in let t = c.loop-k.table in let lists = lists_of (g.G.Ground.numbers c.loop-k.site) t in
     let out : c.loop-k.k ≡ t.room = omega (arith, so_far.count, so_far.room, c.loop-k-test.false) in
-    fresh_memory (g.G.Ground.bytes c.loop-k.site) (areas_in lists) _ (free_in lists) t.room MAX_AREAS so_far.areas refl (so_far.free ∙ ap first out) ∙ ap fresh so_far.room
+    fresh_memory (g.G.Ground.bytes c.loop-k.site) (areas_in lists) _ (free_in lists) t.room MAX_AREAS so_far.areas refl (so_far.free ∙ ap first out)
+    ∙ ap fresh so_far.room

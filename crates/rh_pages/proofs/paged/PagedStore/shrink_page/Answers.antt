@@ -20,8 +20,10 @@ pop-k-requires g c =
 pub push-requires : goal.push-requires
 unfolding memory_of
 push-requires g c =
-    let s = c.args.self.now in let id = c.args.id.0 in let numbers = g.G.Ground.numbers s.site in let k = c.pop-k.result in let mid = lists_of numbers c.pop-k.new.self in
-    let same = ap length (same_free (table_of s) mid (set mid MAX_AREAS (list_at mid MAX_AREAS ++ k ∷ [])) MAX_AREAS id k (numbered_law s id c.requires.opened) c.pop-k.ensures.lists refl) in
+    let s = c.args.self.now in let id = c.args.id.0 in let numbers = g.G.Ground.numbers s.site in let k = c.pop-k.result in
+    let mid = lists_of numbers c.pop-k.new.self in
+    let same = ap length (same_free (table_of s) mid (set mid MAX_AREAS (list_at mid MAX_AREAS ++ k ∷ [])) MAX_AREAS id k
+    (numbered_law s id c.requires.opened) c.pop-k.ensures.lists refl) in
     let room = room_left (region_of s) (pages_of s) s.opened (free_of s) s.table.room MAX_AREAS s.kept id c.requires.opened in
     let a = ap length (sym (list_read s id c.requires.opened) ∙ c.pop-k.ensures.last) in let b = length_push (list_at mid id) k in
     record {
@@ -32,17 +34,21 @@ push-requires g c =
 
 pub invariant_of-self : goal.invariant_of-self
 invariant_of-self g c =
-    let s = c.args.self.now in let id = c.args.id.0 in let numbers = g.G.Ground.numbers s.site in let k = c.pop-k.result in let mid = lists_of numbers c.pop-k.new.self in
+    let s = c.args.self.now in let id = c.args.id.0 in let numbers = g.G.Ground.numbers s.site in let k = c.pop-k.result in
+    let mid = lists_of numbers c.pop-k.new.self in
     let room = c.push.ensures.room ∙ c.pop-k.ensures.room in let last = sym (list_read s id c.requires.opened) ∙ c.pop-k.ensures.last in
     record {
       few = omega (arith, room, s.few);
       long = omega (arith, c.push.ensures.len, ap (λ n. LISTS * n) room, s.long);
-      kept = shrunk_is_kept s id k _ mid _ c.requires.opened room last c.pop-k.ensures.lists c.push.ensures.lists (omega (arith, length_lists numbers c.pop-k.new.self)) _ c.push.ensures.bytes;
+      kept = shrunk_is_kept s id k _ mid _ c.requires.opened room last c.pop-k.ensures.lists c.push.ensures.lists
+          (omega (arith, length_lists numbers c.pop-k.new.self)) _ c.push.ensures.bytes;
     }
 
 pub returns : goal.returns
 unfolding memory_of
 returns g c =
-    let s = c.args.self.now in let id = c.args.id.0 in let numbers = g.G.Ground.numbers s.site in let k = c.pop-k.result in let mid = lists_of numbers c.pop-k.new.self in
+    let s = c.args.self.now in let id = c.args.id.0 in let numbers = g.G.Ground.numbers s.site in let k = c.pop-k.result in
+    let mid = lists_of numbers c.pop-k.new.self in
     let room = c.push.ensures.room ∙ c.pop-k.ensures.room in let last = sym (list_read s id c.requires.opened) ∙ c.pop-k.ensures.last in
-    shrunk_is_memory s id k _ mid _ c.requires.opened room last c.pop-k.ensures.lists c.push.ensures.lists (omega (arith, length_lists numbers c.pop-k.new.self)) _ c.push.ensures.bytes
+    shrunk_is_memory s id k _ mid _ c.requires.opened room last c.pop-k.ensures.lists c.push.ensures.lists
+    (omega (arith, length_lists numbers c.pop-k.new.self)) _ c.push.ensures.bytes

@@ -8,8 +8,10 @@ use Rattle.rh_pages.proofs.paged.PagedStore.slide_down.Goals as goal
 
 pub loop-done-init : goal.loop-done-init
 loop-done-init g c =
-    let m = memory_of c.args.self.now in let id = c.args.id.0 in let b = bytes m id in
-    (omega arith, put_to m m id c.args.to (part b c.args.from 0) (none_written m id c.args.to (part b c.args.from 0) c.requires.opened (part_none b c.args.from)))
+    let m = memory_of c.args.self.now in let id = c.args.id.0 in let b = bytes m id in (
+      omega arith,
+      put_to m m id c.args.to (part b c.args.from 0) (none_written m id c.args.to (part b c.args.from 0) c.requires.opened (part_none b c.args.from)),
+    )
 
 pub loop-done-preserved : goal.loop-done-preserved
 loop-done-preserved g c =
@@ -19,7 +21,8 @@ loop-done-preserved g c =
     let less : d + n ≤ c.args.n = omega arith in let inside : c.args.from + (d + n) ≤ length b = omega arith in (
       less,
       put_to m (memory_of c.copy_part.new.self) id c.args.to (part b c.args.from (d + n))
-          (down_more m (memory_of c.loop-done.self) (memory_of c.copy_part.new.self) id c.args.from c.args.to d n c.requires.down inside c.loop-done.invariant.1.memory c.copy_part.ensures),
+          (down_more m (memory_of c.loop-done.self) (memory_of c.copy_part.new.self) id c.args.from c.args.to d n c.requires.down inside
+          c.loop-done.invariant.1.memory c.copy_part.ensures),
     )
 
 pub returns : goal.returns

@@ -10,8 +10,11 @@ pub loop-left-init : goal.loop-left-init
 loop-left-init g c =
     let m = memory_of c.args.self.now in let id = c.args.id.0 in let b = bytes m id in let n = c.args.n in
     let none : n - n ≡ 0 = omega arith in
-    let empty : part b (c.args.from + n) (n - n) ≡ [] = ap (part b (c.args.from + n)) none ∙ part_none b (c.args.from + n) in
-    (omega arith, put_to m m id (c.args.to + n) (part b (c.args.from + n) (n - n)) (none_written m id (c.args.to + n) (part b (c.args.from + n) (n - n)) c.requires.opened empty))
+    let empty : part b (c.args.from + n) (n - n) ≡ [] = ap (part b (c.args.from + n)) none ∙ part_none b (c.args.from + n) in (
+      omega arith,
+      put_to m m id (c.args.to + n) (part b (c.args.from + n) (n - n))
+          (none_written m id (c.args.to + n) (part b (c.args.from + n) (n - n)) c.requires.opened empty),
+    )
 
 pub loop-left-preserved : goal.loop-left-preserved
 loop-left-preserved g c =
@@ -24,7 +27,8 @@ loop-left-preserved g c =
     let was = c.loop-left.invariant.1.memory ∙ ap (λ i. with_bytes m id (put b (c.args.to + i) (part b (c.args.from + i) k))) all in (
       omega arith,
       put_to m (memory_of c.copy_part.new.self) id (c.args.to + left) (part b (c.args.from + left) (c.args.n - left))
-          (up_more m (memory_of c.loop-left.self) (memory_of c.copy_part.new.self) id c.args.from c.args.to left n k c.requires.up inside was c.copy_part.ensures
+          (up_more m (memory_of c.loop-left.self) (memory_of c.copy_part.new.self) id c.args.from c.args.to left n k c.requires.up inside was
+          c.copy_part.ensures
           ∙ ap (λ i. with_bytes m id (put b (c.args.to + left) (part b (c.args.from + left) i))) rest),
     )
 

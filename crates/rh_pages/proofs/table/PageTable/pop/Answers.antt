@@ -22,7 +22,8 @@ returns-clause-last g c =
     let n = length_there numbers t c.args.from q.list q.long in
     let less : get_or t.lengths c.args.from 0 ≡ (get_or t.lengths c.args.from 0 - 1) + 1 = omega (arith, q.some) in
     last_off numbers t c.args.from q.list q.long (get_or t.lengths c.args.from 0 - 1) less
-    ∙ ap (λ (x : ℕ). list_at (rows numbers t.room (set t.lengths c.args.from (get_or t.lengths c.args.from 0 - 1))) c.args.from ++ x ∷ []) (sym c.number.ensures)
+    ∙ ap (λ (x : ℕ). list_at (rows numbers t.room (set t.lengths c.args.from (get_or t.lengths c.args.from 0 - 1))) c.args.from ++ x ∷ [])
+    (sym c.number.ensures)
 
 pub returns-clause-lists : goal.returns-clause-lists
 unfolding lists_of

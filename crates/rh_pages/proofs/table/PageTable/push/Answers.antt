@@ -25,4 +25,5 @@ unfolding lists_of
 returns-clause-lists g c =
     let t = c.args.self.now in let numbers = g.G.Ground.numbers c.args.site.now in let q = c.requires in
     let n = length_there numbers t c.args.to q.list q.long in
-    ap (λ l. rows l t.room (set t.lengths c.args.to (get_or t.lengths c.args.to 0 + 1))) c.set_number.ensures.after ∙ pushed numbers t c.args.to q.list q.long c.args.number (omega (arith, q.room))
+    ap (λ l. rows l t.room (set t.lengths c.args.to (get_or t.lengths c.args.to 0 + 1))) c.set_number.ensures.after
+    ∙ pushed numbers t c.args.to q.list q.long c.args.number (omega (arith, q.room))

@@ -40,10 +40,12 @@ module _ (d : Block) where
 
   module _ {M : Type 1} {𝓤 : Ura M} (𝓛 : Logic 𝓤) where
     bytes_lent : Lends 𝓛 Bytes (lent_at (Array u8 d.len) d.start d.bytes) C.the_row.lives
-    bytes_lent = Lends-lies 𝓛 (Array u8 d.len) C.the_row.lives d.start d.bytes (Shares-Array 𝓛 u8 tt d.len C.the_row.lives ((copy_shared u8-field u8-copy).shares M 𝓤 𝓛) d.bytes)
+    bytes_lent = Lends-lies 𝓛 (Array u8 d.len) C.the_row.lives d.start d.bytes
+        (Shares-Array 𝓛 u8 tt d.len C.the_row.lives ((copy_shared u8-field u8-copy).shares M 𝓤 𝓛) d.bytes)
 
     block_is_lent : Lends 𝓛 (block_owns d.start d.len d.alloc d.bytes) (block_lent d.start d.len d.bytes) C.the_row.lives
-    block_is_lent = Lends-both 𝓛 Small (fsep Bytes (right d.alloc d.len d.start)) (said Small) (lent_at (Array u8 d.len) d.start d.bytes) C.the_row.lives (Lends-said 𝓛 Small tt C.the_row.lives)
+    block_is_lent = Lends-both 𝓛 Small (fsep Bytes (right d.alloc d.len d.start)) (said Small) (lent_at (Array u8 d.len) d.start d.bytes) C.the_row.lives
+        (Lends-said 𝓛 Small tt C.the_row.lives)
         (Lends-first 𝓛 Bytes (right d.alloc d.len d.start) (lent_at (Array u8 d.len) d.start d.bytes) C.the_row.lives bytes_lent)
 
 pub shares : statement

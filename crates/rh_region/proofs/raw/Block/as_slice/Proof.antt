@@ -15,7 +15,8 @@ use mir.Val.{Val, vptr}
 use prog.Model.{Model}
 use prog.Wp.{Env}
 use types.Logic.{Logic, sem}
-use types.Kit.{Sq, ⋆, mean, runs, ‵, raw, ◌⊛◌, given, at_ret, ◌$◌, ◌∵◌, !, qed, by, move, keep, drop, use1, split, join, fsplit, fsplit3, fjoin, feq_i, feq_l, flt_i, flt_l, learn, check, frame, suffices, done}
+use types.Kit.{Sq, ⋆, mean, runs, ‵, raw, ◌⊛◌, given, at_ret, ◌$◌, ◌∵◌, !, qed, by, move, keep, drop, use1, split, join, fsplit, fsplit3, fjoin, feq_i, feq_l}
+use types.Kit.{flt_i, flt_l, learn, check, frame, suffices, done}
 use types.Part.{agg}
 use types.Run.{stop, fld, load, look, of_opd, and_then, no_more, first, blocks, exec, returns, enter}
 use types.ByLocal.{alloc_all, pass_all, free_all, look_at, get, through, sets, sets_last, env, holding}
@@ -76,7 +77,8 @@ module _ {M : Type 1} {𝓤 : Ura M} (𝓛 : Logic 𝓤) (𝓜 : Model 𝓤 𝓛
     seen =
         qed 𝓛 (‵ ((ShrRef (named 0) κ R).own_val self (shr_vals self)) ∷ []) ∵ fsplit ! $ drop ! $
         use1 𝓛 (‵ (Shown 𝓛 κ d b o) ⊛ ‵ (fhide (C.the_lent d (block_ptr b o) κ))) (lent_out 𝓛 C.struct C.the_codes C.the_heap C.the_lent κ d b o) $ split ! $
-        move ! (1 ∷ []) $ unhide ! $ fsplit3 ! $ flt_l ! (λ small. use1 𝓛 (raw (fact 𝓤 (InBlock d.start))) (in_block_says 𝓛 d.start) $ heard ! (InBlock d.start) (λ inb.
+        move ! (1 ∷ []) $ unhide ! $ fsplit3 ! $
+        flt_l ! (λ small. use1 𝓛 (raw (fact 𝓤 (InBlock d.start))) (in_block_says 𝓛 d.start) $ heard ! (InBlock d.start) (λ inb.
         fsplit ! $ feq_l ! (λ long. hide ! $ check ! (inb, small, long) $ move ! (1 ∷ 0 ∷ []) $ done !)))
 
     module _ (ok : IsSeen d) where
@@ -87,8 +89,10 @@ module _ {M : Type 1} {𝓤 : Ura M} (𝓛 : Logic 𝓤) (𝓜 : Model 𝓤 𝓛
       sliced : ent 𝓤 (sem 𝓛 Bytes) (sem 𝓛 ((ShrSlice (named 0) κ u8).own_val slice (slice_val at d.len ∷ [])))
       sliced =
           let small = ok.1 in let long = ok.2 in
-          qed 𝓛 (‵ Bytes ∷ []) ∵ flt_i ! (length d.bytes * 1) (2 ^ 63) (omega (arith, small, long)) $ flt_i ! (length d.bytes) (2 ^ 64) (omega (arith, small, long)) $ fjoin ! $
-          feq_i ! (List Val) (slice_val at d.len ∷ []) (slice_val at (length d.bytes) ∷ []) (ap (λ (k : ℕ). slice_val at k ∷ []) (sym long)) $ fjoin ! $ move ! (0 ∷ 1 ∷ []) $ fjoin ! $ done !
+          qed 𝓛 (‵ Bytes ∷ []) ∵ flt_i ! (length d.bytes * 1) (2 ^ 63) (omega (arith, small, long)) $
+          flt_i ! (length d.bytes) (2 ^ 64) (omega (arith, small, long)) $ fjoin ! $
+          feq_i ! (List Val) (slice_val at d.len ∷ []) (slice_val at (length d.bytes) ∷ []) (ap (λ (k : ℕ). slice_val at k ∷ []) (sym long)) $ fjoin ! $
+          move ! (0 ∷ 1 ∷ []) $ fjoin ! $ done !
 
       ends : ent 𝓤 (⋆ 𝓛 (‵ (flft κ q) ∷ ‵ Bytes ∷ [])) (End (slice_val at d.len))
       ends =

@@ -18,7 +18,8 @@ use prog.Model.{Model}
 use prog.Wp.{Env}
 use types.Logic.{Logic, sem}
 use types.SemTy.{Body, cells}
-use types.Kit.{Sq, ⋆, mean, runs, ‵, raw, ◌⊛◌, some, given, later, await, learn, pick, at_ret, ◌$◌, ◌∵◌, !, qed, by, move, keep, drop, use1, use2, split, join, group, rewrite, fsplit, fsplit3, fjoin, fjoin3, fpack, flt_i, flt_l, suffices, frame, done}
+use types.Kit.{Sq, ⋆, mean, runs, ‵, raw, ◌⊛◌, some, given, later, await, learn, pick, at_ret, ◌$◌, ◌∵◌, !, qed, by, move, keep, drop, use1, use2, split}
+use types.Kit.{join, group, rewrite, fsplit, fsplit3, fjoin, fjoin3, fpack, flt_i, flt_l, suffices, frame, done}
 use types.Part.{whole, sub, agg, look_in}
 use types.Run.{stop, fld, load, bin, of_opd, and_then, no_more, first, blocks, exec, returns, enter}
 use types.ByLocal.{alloc_all, pass_all, free_all, look_at, get, through, sets, sets_last, env, holding}
@@ -106,14 +107,17 @@ module _ {M : Type 1} {𝓤 : Ura M} (𝓛 : Logic 𝓤) (𝓜 : Model 𝓤 𝓛
             move ! (1 ∷ 0 ∷ []) $ fjoin ! $ move ! (1 ∷ 0 ∷ []) $ fjoin ! $ fpack ! (List Val) (λ vs. fsep (Cell vs) (R.own_val new vs)) us $ done !
 
         few : Room u8 (length bytes)
-        few = let short = run_long 𝓛 at n hb ho d.bytes ok.within in let inside = ok.within in let all = ok.small in (omega (arith, short, inside, all, long), omega (arith, short, inside, all, long))
+        few = let short = run_long 𝓛 at n hb ho d.bytes ok.within in let inside =
+            ok.within in let all = ok.small in (omega (arith, short, inside, all, long), omega (arith, short, inside, all, long))
 
         -- the slice, the token, and that the block follows the slice
         abbrev Lent : GName → SProp 𝓤
         Lent = Elements 𝓛 R u8 (patched_block d at n) (named 0) κ q b o hb (at + ho) γ bytes few (sem 𝓛 Behind) put_back
 
-        lends : ent 𝓤 (⋆ 𝓛 (‵ (fobor κ q (Body (mem R) b o γ)) ∷ ‵ (fobs γ (R.coded.code d)) ∷ ‵ (fauth γ (R.coded.code d)) ∷ ‵ (Run bytes) ∷ ‵ Behind ∷ [])) (mean 𝓛 (later (some (λ (δ : GName). raw (Lent δ)))))
-        lends = lends_Elements 𝓛 R u8 (patched_block d at n) (named 0) κ q b o hb (at + ho) γ bytes few (sem 𝓛 Behind) put_back (R.coded.code d) (R.coded.code d)
+        lends : ent 𝓤 (⋆ 𝓛 (‵ (fobor κ q (Body (mem R) b o γ)) ∷ ‵ (fobs γ (R.coded.code d)) ∷ ‵ (fauth γ (R.coded.code d)) ∷ ‵ (Run bytes) ∷ ‵ Behind ∷ []))
+            (mean 𝓛 (later (some (λ (δ : GName). raw (Lent δ)))))
+        lends = lends_Elements 𝓛 R u8 (patched_block d at n) (named 0) κ q b o hb (at + ho) γ bytes few (sem 𝓛 Behind) put_back (R.coded.code d)
+            (R.coded.code d)
 
         ends_as_long : (δ : GName) → ent 𝓤 (Lent δ) (End (slice_val (hb, at + ho) (length bytes)))
         ends_as_long δ =
@@ -133,9 +137,11 @@ module _ {M : Type 1} {𝓤 : Ura M} (𝓛 : Logic 𝓤) (𝓜 : Model 𝓤 𝓛
           abbrev En : Env 𝓤 𝓛.H
           En = env code.Mir.locals l
 
-          -- the run lies apart already, and the last three entries close the borrow again; the pointer is read, moved on by `at`, and goes with n into the slice
+          -- the run lies apart already, and the last three entries close the borrow again; the pointer is read, moved on by
+          -- `at`, and goes with n into the slice
           computes : us ≡ lowers.lowered (record d { start = block_ptr hb ho }) ∷ []
-              → Sq 𝓛 (‵ (Run bytes) ∷ ‵ (Outside 𝓛 at n hb ho d.bytes ok.within) ∷ ‵ (right d.alloc d.len d.start) ∷ ‵ (Fields.own_val (fields d) us) ∷ ‵ (Cell us) ∷ ‵ (fobor κ q (Body (mem R) b o γ)) ∷ ‵ (fobs γ (R.coded.code d)) ∷ ‵ (fauth γ (R.coded.code d))
+              → Sq 𝓛 (‵ (Run bytes) ∷ ‵ (Outside 𝓛 at n hb ho d.bytes ok.within) ∷ ‵ (right d.alloc d.len d.start) ∷ ‵ (Fields.own_val (fields d) us) ∷ ‵
+              (Cell us) ∷ ‵ (fobor κ q (Body (mem R) b o γ)) ∷ ‵ (fobs γ (R.coded.code d)) ∷ ‵ (fauth γ (R.coded.code d))
               ∷ holding 𝓛 En ((1, vptr b o) ∷ (2, vint w64 at) ∷ (3, vint w64 n) ∷ []))
               (runs 𝓣.C 𝓣.Λ En (code.function).body (at_ret En End))
           computes word =
@@ -152,11 +158,17 @@ module _ {M : Type 1} {𝓤 : Ura M} (𝓛 : Logic 𝓤) (𝓜 : Model 𝓤 𝓛
 
 pub run_mut_spec : {M : Type 1} → statement M
 run_mut_spec 𝓤 𝓛 𝓜 𝓡 wired =
-    proved 𝓛 f.ended kept (clauses 𝓛 𝓜 𝓡) 𝓜 𝓡 (Goes-spent_ref 𝓛 1 (0 ∷ []) tt (plain (λ _. R)), (Goes-dropped 𝓛 1 (plain (λ _. usize)) yes (λ κs x w. refl), (Goes-dropped 𝓛 1 (plain (λ _. usize)) yes (λ κs x w. refl), tt)))
+    proved 𝓛 f.ended kept (clauses 𝓛 𝓜 𝓡) 𝓜 𝓡 (
+      Goes-spent_ref 𝓛 1 (0 ∷ []) tt (plain (λ _. R)),
+      (Goes-dropped 𝓛 1 (plain (λ _. usize)) yes (λ κs x w. refl), (Goes-dropped 𝓛 1 (plain (λ _. usize)) yes (λ κs x w. refl), tt)),
+    )
     f.Key.name code.function (code.unfolded 𝓤 𝓛.H 𝓜 𝓡 wired)
-    (λ κs. (mut_vals, (uint_vals w64, (uint_vals w64, tt)))) (λ κs. (mut_Tells (named 0) κs.0 R, (uint_Tells w64, (uint_Tells w64, tt)))) (λ κs qs bounds a _ are.
-    let κ = κs.0 in let q = qs.0 in let b = a.0.ref_ptr.0 in let o = a.0.ref_ptr.1 in let γ = a.0.ghost_name in let d = a.0.now in let at = a.1.0 in let n = a.1.1.0 in
-    qed 𝓛 (((‵ (flft κ q) ⊛ ‵ ftrue) ⊛ ‵ ((MutRef (named 0) κ R).own_val a.0 (mut_vals a.0)) ⊛ ‵ (usize.own_val at (uint_vals w64 at)) ⊛ ‵ (usize.own_val n (uint_vals w64 n)) ⊛ ‵ ftrue)
+    (λ κs. (mut_vals, (uint_vals w64, (uint_vals w64, tt)))) (λ κs. (mut_Tells (named 0) κs.0 R, (uint_Tells w64, (uint_Tells w64, tt))))
+    (λ κs qs bounds a _ are.
+    let κ = κs.0 in let q = qs.0 in let b = a.0.ref_ptr.0 in let o = a.0.ref_ptr.1 in let γ = a.0.ghost_name in let d = a.0.now in let at = a.1.0 in
+    let n = a.1.1.0 in
+    qed 𝓛 (((‵ (flft κ q) ⊛ ‵ ftrue) ⊛ ‵ ((MutRef (named 0) κ R).own_val a.0 (mut_vals a.0)) ⊛ ‵ (usize.own_val at (uint_vals w64 at)) ⊛ ‵
+    (usize.own_val n (uint_vals w64 n)) ⊛ ‵ ftrue)
     ∷ raw (fact 𝓤 (at + n ≤ length d.bytes)) ∷ []) ∵
     split ! $ split ! $ move ! (2 ∷ []) $ split ! $ keep ! (4 ∷ 0 ∷ 2 ∷ []) $ heard ! _ (λ within.
     -- [the `&mut`; the token]
@@ -165,6 +177,8 @@ run_mut_spec 𝓤 𝓛 𝓜 𝓡 wired =
     move ! (1 ∷ []) $ peeks ! R _ (shows 𝓛 R) d us (λ is. fsplit ! $ move ! (1 ∷ []) $ fsplit3 ! $ flt_l ! (λ small.
     in_a_block ! d.start (λ p. lies_at (Array u8 d.len) full_share p d.bytes) (id⊢ 𝓤 _) (λ hb ho there.
     let ok : IsOpen d at n hb ho = record { within = within; there = there; small = small; fits = are.1.1.0.1 } in
-    use1 𝓛 (given (length d.bytes ≡ d.len) (‵ (cells (mem u8) (run 𝓛 at n hb ho d.bytes within) hb (at + ho)) ⊛ ‵ (Outside 𝓛 at n hb ho d.bytes within))) (run_out 𝓛 at n hb ho d.bytes within d.len) $ learn ! (λ long. split ! $
+    use1 𝓛 (given (length d.bytes ≡ d.len) (‵ (cells (mem u8) (run 𝓛 at n hb ho d.bytes within) hb (at + ho)) ⊛ ‵ (Outside 𝓛 at n hb ho d.bytes within)))
+    (run_out 𝓛 at n hb ho d.bytes within d.len) $ learn ! (λ long. split ! $
     -- [the run; the bytes around it; the right to free all; the fields; their cell; the borrow]
-    by ! (computes 𝓛 𝓜 𝓡 κ q b o γ d at n us hb ho ok long l (lowers.val_is d us is ∙ ap (λ (p : Ptr). lowers.lowered (record d { start = p }) ∷ []) there)).prf))))))))
+    by ! (computes 𝓛 𝓜 𝓡 κ q b o γ d at n us hb ho ok long l (lowers.val_is d us is
+    ∙ ap (λ (p : Ptr). lowers.lowered (record d { start = p }) ∷ []) there)).prf))))))))

@@ -14,7 +14,8 @@ pub returns-in_default-grow_to : goal.returns-in_default-grow_to
 returns-in_default-grow_to g c =
     let s = slot_in (g.S.Words.memory c.args.store.now) c.args.self in
     let q = pages_more _ s _ _ _ c.requires.slot.spells.pages c.top-top.ensures c.flex_weight.ensures in
-    refuses _ _ _ _ _ (alloc_full _ _ _ s c.in_default.ensures (has_none _ _ _ c.in_default-grow_to.ensures.refused refl q)) c.in_default-grow_to.ensures.err c.requires.slot
+    refuses _ _ _ _ _ (alloc_full _ _ _ s c.in_default.ensures (has_none _ _ _ c.in_default-grow_to.ensures.refused refl q)) c.in_default-grow_to.ensures.err
+    c.requires.slot
 
 pub returns : goal.returns
 returns g c =
@@ -29,10 +30,12 @@ returns g c =
     let l3 = c.write-3.ensures.only.outside.len in
     let lr = r.len in
     let q = pages_more _ s _ _ _ lb et ew in
-    let a = alloced _ _ _ _ _ _ _ _ _ _ (words_grown _ _ _ c.requires.slot.spells r.same (omega arith)) c.in_default.ensures c.requires.anchor c.word_place-word.ensures et (omega arith)
+    let a = alloced _ _ _ _ _ _ _ _ _ _ (words_grown _ _ _ c.requires.slot.spells r.same (omega arith)) c.in_default.ensures c.requires.anchor
+    c.word_place-word.ensures et (omega arith)
     c.write.ensures.word c.write.ensures.only.outside c.write-2.ensures.word c.write-2.ensures.only.outside c.clear.ensures.block c.clear.ensures.only.outside
     c.write-3.ensures.word c.write-3.ensures.only.outside in
-    leaves _ _ _ _ _ _ (alloc_done _ _ _ s (32768 + c.top-top.result + 8) c.in_default.ensures (has_room _ _ _ c.in-Ok.ensures.refused (λ e. false-true e) q) (omega (arith, c.top-top.ensures)))
+    leaves _ _ _ _ _ _ (alloc_done _ _ _ s (32768 + c.top-top.result + 8) c.in_default.ensures (has_room _ _ _ c.in-Ok.ensures.refused (λ e. false-true e) q)
+    (omega (arith, c.top-top.ensures)))
     (budging_same (g.S.Words.memory c.args.store.now) c.args.self)
     (paged _ _ _ a.0 a.1 (l3 ∙ l2 ∙ l1 ∙ l0 ∙ lr ∙ ap (λ i. PAGE * pages_for (c.top-top.result + i)) ew))
     (then_edited (then_edited (then_edited (then_edited r.only c.write.ensures.only) c.write-2.ensures.only) c.clear.ensures.only) c.write-3.ensures.only)

@@ -13,8 +13,10 @@ use Rattle.rh_slot.proofs.slot.Slot.claim_growing.Goals.{In_ok-shortage}
 use Rattle.rh_slot.proofs.slot.Slot.claim_growing.Given as given
 
 -- what the heap is short of
-needs : (g : given.Over) (c : In_ok-shortage g) → let s = slot_in (g.S.Words.memory c.args.store.now) c.args.self in (c.args.n ≢ 0) × (c.in_ok-shortage.shortage ≡ need c.args.n s.heap)
-needs g c = claim_needs c.args.n c.in_ok-shortage.shortage (slot_in (g.S.Words.memory c.args.store.now) c.args.self) _ (heap_at (g.S.Words.memory c.args.store.now) c.args.self _ c.span.ensures) c.in_ok-shortage.ensures
+needs : (g : given.Over) (c : In_ok-shortage g) → let s =
+    slot_in (g.S.Words.memory c.args.store.now) c.args.self in (c.args.n ≢ 0) × (c.in_ok-shortage.shortage ≡ need c.args.n s.heap)
+needs g c = claim_needs c.args.n c.in_ok-shortage.shortage (slot_in (g.S.Words.memory c.args.store.now) c.args.self) _
+    (heap_at (g.S.Words.memory c.args.store.now) c.args.self _ c.span.ensures) c.in_ok-shortage.ensures
 
 pub need-requires : goal.need-requires
 need-requires g c = is_span_at _ c.args.self _ c.span.ensures c.requires.slot
@@ -23,7 +25,8 @@ pub returns-in_err-shortage : goal.returns-in_err-shortage
 returns-in_err-shortage g c =
     let m = g.S.Words.memory c.args.store.now in
     let p = err_from_is_err_and c.from_residual.result c.from_residual.ensures.1 in
-    rw (p.1, p.2) (refuses _ _ _ _ _ (claim_refused m.free c.args.n (slot_in m c.args.self) _ _ (heap_at _ c.args.self _ c.span.ensures) c.in_err-shortage.ensures) refl c.requires.slot)
+    rw (p.1, p.2) (refuses _ _ _ _ _ (claim_refused m.free c.args.n (slot_in m c.args.self) _ _ (heap_at _ c.args.self _ c.span.ensures)
+    c.in_err-shortage.ensures) refl c.requires.slot)
 
 pub make_room-requires-clause-small : goal.make_room-requires-clause-small
 make_room-requires-clause-small g c =
@@ -38,17 +41,20 @@ returns-in_err-make_room g c =
     let m = g.S.Words.memory c.args.store.now in
     let w = needs g (goal.at.returns-in_err-make_room g c).In_ok-shortage in
     let p = err_from_is_err_and c.from_residual-in_err-make_room.result c.from_residual-in_err-make_room.ensures.1 in
-    rw (p.1, p.2) (refuses _ _ _ _ _ (claim_stopped m.free c.args.n _ (slot_in m c.args.self) _ w c.in_err-make_room.ensures.answer) c.in_err-make_room.ensures.err c.requires.slot)
+    rw (p.1, p.2) (refuses _ _ _ _ _ (claim_stopped m.free c.args.n _ (slot_in m c.args.self) _ w c.in_err-make_room.ensures.answer)
+    c.in_err-make_room.ensures.err c.requires.slot)
 
 pub claim-requires : goal.claim-requires
 claim-requires g c =
     let s = slot_in (g.S.Words.memory c.args.store.now) c.args.self in
-    is_span_at _ c.args.self _ c.span-2.ensures (is_slot _ c.args.self (lengthened c.in_ok-shortage.shortage s) c.in_ok-make_room.ensures.only.opened c.in_ok-make_room.ensures.spells)
+    is_span_at _ c.args.self _ c.span-2.ensures (is_slot _ c.args.self (lengthened c.in_ok-shortage.shortage s) c.in_ok-make_room.ensures.only.opened
+    c.in_ok-make_room.ensures.spells)
 
 pub unwrap-address-requires : goal.unwrap-address-requires
 unwrap-address-requires g c =
     let w = needs g (goal.at.unwrap-address-requires g c).In_ok-shortage in
-    claim_is_done (g.S.Words.memory c.args.store.now) _ _ c.args.self _ c.args.n c.in_ok-make_room.ensures.spells w.0 w.1 (rw c.span-2.ensures at c.claim.ensures)
+    claim_is_done (g.S.Words.memory c.args.store.now) _ _ c.args.self _ c.args.n c.in_ok-make_room.ensures.spells w.0 w.1
+    (rw c.span-2.ensures at c.claim.ensures)
 
 pub overflow_add-result : goal.overflow_add-result
 overflow_add-result g c =
@@ -56,7 +62,9 @@ overflow_add-result g c =
     let w = needs g (goal.at.overflow_add-result g c).In_ok-shortage in
     let low = claim_low c.args.n s.heap in
     let answer = rw (c.span-2.ensures, c.unwrap-address.ensures) at c.claim.ensures.answer in
-    let at = address_low (claim_growing c.args.n s.heap) _ c.unwrap-address.result (claim_longer (g.S.Words.memory c.make_room.new.store) c.args.self s c.in_ok-shortage.shortage c.args.n c.in_ok-make_room.ensures.spells (budging_same (g.S.Words.memory c.args.store.now) c.args.self) w.0 w.1)
+    let at = address_low (claim_growing c.args.n s.heap) _ c.unwrap-address.result
+    (claim_longer (g.S.Words.memory c.make_room.new.store) c.args.self s c.in_ok-shortage.shortage c.args.n c.in_ok-make_room.ensures.spells
+    (budging_same (g.S.Words.memory c.args.store.now) c.args.self) w.0 w.1)
     answer in
     let f = c.requires.slot.spells.words.heap.heap.fits in
     let i = c.requires.slot.spells.words.within in
@@ -68,4 +76,5 @@ returns g c =
     let w = needs g (goal.at.returns g c).In_ok-shortage in
     let k = g.S.Words.memory c.make_room.new.store in
     let l = rw (c.span-2.ensures, c.unwrap-address.ensures) at c.claim.ensures in
-    claimed m k _ c.args.self c.in_ok-shortage.shortage c.args.n c.unwrap-address.result c.in_ok-make_room.ensures.spells w.0 w.1 c.in_ok-make_room.ensures.answer l c.in_ok-make_room.ensures.only
+    claimed m k _ c.args.self c.in_ok-shortage.shortage c.args.n c.unwrap-address.result c.in_ok-make_room.ensures.spells w.0 w.1
+    c.in_ok-make_room.ensures.answer l c.in_ok-make_room.ensures.only

@@ -23,13 +23,16 @@ overflow_add-walk-in-Some g c =
     omega (arith, t.inside, c.flex_weight.ensures, g.met.S.Words.small c.args.store.now c.args.self.area.0)
 
 pub pass_in_page-walk-requires-clause-walked : goal.pass_in_page-walk-requires-clause-walked
-pass_in_page-walk-requires-clause-walked g c = walk_at _ _ (walks_on _ _ _ c.requires.slot.spells.words c.walk.invariant c.in-Some.ensures.0 _ _ c.in-Some.ensures.1 c.flex_weight.ensures)
+pass_in_page-walk-requires-clause-walked g c =
+    walk_at _ _ (walks_on _ _ _ c.requires.slot.spells.words c.walk.invariant c.in-Some.ensures.0 _ _ c.in-Some.ensures.1 c.flex_weight.ensures)
 
 pub pass_in_page-walk-requires-clause-small : goal.pass_in_page-walk-requires-clause-small
-pass_in_page-walk-requires-clause-small g c = omega (arith, few_passed _ _ _ c.requires.slot.spells.words c.walk.invariant, g.met.S.Words.small c.args.store.now c.args.self.area.0)
+pass_in_page-walk-requires-clause-small g c =
+    omega (arith, few_passed _ _ _ c.requires.slot.spells.words c.walk.invariant, g.met.S.Words.small c.args.store.now c.args.self.area.0)
 
 pub walk-preserved : goal.walk-preserved
-walk-preserved g c = c.pass_in_page-walk.ensures.walk (walks_on _ _ _ c.requires.slot.spells.words c.walk.invariant c.in-Some.ensures.0 _ _ c.in-Some.ensures.1 c.flex_weight.ensures)
+walk-preserved g c = c.pass_in_page-walk.ensures.walk (walks_on _ _ _ c.requires.slot.spells.words c.walk.invariant c.in-Some.ensures.0 _ _
+    c.in-Some.ensures.1 c.flex_weight.ensures)
 
 pub walk-smaller : goal.walk-smaller
 walk-smaller g c =

@@ -6,7 +6,8 @@ use Rattle.rh_slot.proofs.EditLaws.{extend_none, extend_at}
 use Rattle.rh_slot.proofs.slot.Slot.extend.Goals as goal
 
 pub returns-in_default : goal.returns-in_default
-returns-in_default g c = refuses _ _ _ _ _ (ap no_answer (extend_none _ _ _ (slot_in (g.S.Words.memory c.args.store.now) c.args.self) c.in_default.ensures)) refl c.requires.slot
+returns-in_default g c =
+    refuses _ _ _ _ _ (ap no_answer (extend_none _ _ _ (slot_in (g.S.Words.memory c.args.store.now) c.args.self) c.in_default.ensures)) refl c.requires.slot
 
 pub returns : goal.returns
 returns g c =

@@ -11,7 +11,8 @@ end-requires g c = is_span_at _ c.args.self _ c.span.ensures c.requires
 
 pub overflow_add-result : goal.overflow_add-result
 overflow_add-result g c =
-    let e : c.end.result ≡ (slot_in (g.S.Words.memory c.args.store.now) c.args.self).heap.end = c.end.ensures ∙ ap (λ (h : Heap). h.end) (heap_at _ c.args.self _ c.span.ensures) in
+    let e : c.end.result ≡ (slot_in (g.S.Words.memory c.args.store.now) c.args.self).heap.end =
+    c.end.ensures ∙ ap (λ (h : Heap). h.end) (heap_at _ c.args.self _ c.span.ensures) in
     let w = c.requires.spells.words.within in
     omega (arith, g.met.S.Words.small c.args.store.now c.args.self.area.0)
 

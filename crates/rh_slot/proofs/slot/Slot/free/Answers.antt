@@ -17,14 +17,17 @@ shift-requires-clause-row g c =
     row_above _ _ _ _ _ _ _ c.requires.slot.spells.words t (ap (λ w. c.in-Some.spot.place + w) w) (reach _ _ _ _ _ _ _ t.at w c.top_from.ensures)
 
 pub returns-in_default : goal.returns-in_default
-returns-in_default g c = refuses _ _ _ _ _ (ap no_answer (free_none _ (slot_in (g.S.Words.memory c.args.store.now) c.args.self) c.in_default.ensures)) refl c.requires.slot
+returns-in_default g c =
+    refuses _ _ _ _ _ (ap no_answer (free_none _ (slot_in (g.S.Words.memory c.args.store.now) c.args.self) c.in_default.ensures)) refl c.requires.slot
 
 pub returns : goal.returns
 returns g c =
     let t = c.in-Some.ensures.at in
     let w = c.flex_weight.ensures in
     let from = c.in-Some.spot.place + c.flex_weight.result in
-    let f = freed _ _ _ _ _ _ _ _ from _ _ c.requires.slot.spells.words t c.requires.anchor c.word_place.ensures (ap (λ w. c.in-Some.spot.place + w) w) (reach _ _ _ _ _ _ _ t w c.top_from.ensures)
+    let f = freed _ _ _ _ _ _ _ _ from _ _ c.requires.slot.spells.words t c.requires.anchor c.word_place.ensures (ap (λ w. c.in-Some.spot.place + w) w)
+    (reach _ _ _ _ _ _ _ t w c.top_from.ensures)
     c.shift.ensures.shifted c.shift.ensures.below c.shift.ensures.only.outside.len c.write.ensures.only.outside c.write.ensures.word in
-    leaves _ _ _ _ _ tt (ap no_answer (free_at _ _ _ _ _ t)) (budging_same (g.S.Words.memory c.args.store.now) c.args.self) (settled _ _ _ _ f.0 f.1 c.trim.ensures.same c.trim.ensures.len)
+    leaves _ _ _ _ _ tt (ap no_answer (free_at _ _ _ _ _ t)) (budging_same (g.S.Words.memory c.args.store.now) c.args.self)
+    (settled _ _ _ _ f.0 f.1 c.trim.ensures.same c.trim.ensures.len)
     (then_resized (then_edited (OnlyArea-from_Edited _ _ _ _ _ c.shift.ensures.only) c.write.ensures.only) c.trim.ensures)

@@ -17,7 +17,8 @@ overflow_add-block-in-Some g c =
     omega (arith, t.inside, g.met.S.Words.small c.args.store.now c.args.self.area.0)
 
 pub returns-then-is_inside : goal.returns-then-is_inside
-returns-then-is_inside g c = sym (held _ _ _ _ _ c.requires.spells.words c.walk.invariant c.in-Some.ensures.0 _ c.in-Some.ensures.1 (sym c.if-is_inside.ensures))
+returns-then-is_inside g c =
+    sym (held _ _ _ _ _ c.requires.spells.words c.walk.invariant c.in-Some.ensures.0 _ c.in-Some.ensures.1 (sym c.if-is_inside.ensures))
 
 pub flex_weight-place-requires : goal.flex_weight-place-requires
 flex_weight-place-requires g c =
@@ -36,7 +37,8 @@ walk-smaller g c =
 
 pub walk-preserved : goal.walk-preserved
 walk-preserved g c =
-    unheld_on _ _ _ _ _ c.requires.spells.words c.walk.invariant c.in-Some.ensures.0 _ _ c.in-Some.ensures.1 c.flex_weight-place.ensures (sym c.if-is_inside.ensures)
+    unheld_on _ _ _ _ _ c.requires.spells.words c.walk.invariant c.in-Some.ensures.0 _ _ c.in-Some.ensures.1 c.flex_weight-place.ensures
+    (sym c.if-is_inside.ensures)
 
 pub returns : goal.returns
 returns g c = sym (not_held _ _ _ _ _ c.requires.spells.words c.walk.invariant c.in_default.ensures)

@@ -4,7 +4,8 @@ use Rattle.rh_slot.proofs.WalkLaws.{turn}
 use Rattle.rh_slot.proofs.slot.Slot.item_at.Goals as goal
 
 pub read-requires-clause-within : goal.read-requires-clause-within
-read-requires-clause-within g c = let t = turn _ _ _ c.requires.slot.spells.words c.requires.walked c.requires.stands _ c.requires.size in omega (arith, t.inside)
+read-requires-clause-within g c =
+    let t = turn _ _ _ c.requires.slot.spells.words c.requires.walked c.requires.stands _ c.requires.size in omega (arith, t.inside)
 
 pub overflow_add-address : goal.overflow_add-address
 overflow_add-address g c =

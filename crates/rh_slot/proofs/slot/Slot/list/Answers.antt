@@ -10,13 +10,17 @@ pub rest_of_page-anchors-requires-clause-within : goal.rest_of_page-anchors-requ
 rest_of_page-anchors-requires-clause-within g c = omega (arith, c.requires.slot.spells.words.within)
 
 pub push-requires : goal.push-requires
-push-requires g c =
-    (omega arith, room_left (slot_in (g.S.Words.memory c.args.store.now) c.args.self) c.walk.walk.passed _ _ c.requires.slot.spells.words.anchors c.walk.invariant.listed c.in-Some.ensures.block)
+push-requires g c = (
+  omega arith,
+  room_left (slot_in (g.S.Words.memory c.args.store.now) c.args.self) c.walk.walk.passed _ _ c.requires.slot.spells.words.anchors
+      c.walk.invariant.listed c.in-Some.ensures.block,
+)
 
 pub list_in_page-walk-requires-clause-listed : goal.list_in_page-walk-requires-clause-listed
 list_in_page-walk-requires-clause-listed g c =
     let s = slot_in (g.S.Words.memory c.args.store.now) c.args.self in
-    c.push.ensures.items ∙ (one_more (block_items s) c.walk.walk.passed _ _ c.walk.invariant.listed c.in-Some.ensures.block ∙ ap (λ n. take n (block_items s)) (sym c.in-Some.ensures.passed))
+    c.push.ensures.items ∙ (one_more (block_items s) c.walk.walk.passed _ _ c.walk.invariant.listed c.in-Some.ensures.block
+    ∙ ap (λ n. take n (block_items s)) (sym c.in-Some.ensures.passed))
 
 pub walk-smaller : goal.walk-smaller
 walk-smaller g c = omega (arith, c.in-Some.ensures.walk.most, c.in-Some.ensures.passed, c.list_in_page-walk.ensures.on, c.list_in_page-walk.ensures.walk.most)

@@ -3,7 +3,8 @@ use Rattle.rh_slot.proofs.FlexLaws.{leads}
 use Rattle.rh_slot.proofs.slot.Slot.locate.Goals as goal
 
 pub returns-then-address-eq0 : goal.returns-then-address-eq0
-returns-then-address-eq0 g c = (leads _ _ _ _ _ c.requires.slot.spells.words c.requires.anchor c.word_place.ensures c.read-address.ensures.value).0 c.if-address-eq0.true
+returns-then-address-eq0 g c =
+    (leads _ _ _ _ _ c.requires.slot.spells.words c.requires.anchor c.word_place.ensures c.read-address.ensures.value).0 c.if-address-eq0.true
 
 pub overflow_sub-place : goal.overflow_sub-place
 overflow_sub-place g c =
@@ -22,4 +23,5 @@ read-size-requires-clause-within g c =
 
 pub returns : goal.returns
 returns g c =
-    ((leads _ _ _ _ _ c.requires.slot.spells.words c.requires.anchor c.word_place.ensures c.read-address.ensures.value).1 c.if-address-eq0.false).found _ c.read-size.ensures.value
+    ((leads _ _ _ _ _ c.requires.slot.spells.words c.requires.anchor c.word_place.ensures c.read-address.ensures.value).1 c.if-address-eq0.false).found _
+    c.read-size.ensures.value

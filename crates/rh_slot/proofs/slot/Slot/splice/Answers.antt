@@ -47,7 +47,10 @@ returns g c = λ cut t.
     let a = spliced_words _ _ _ _ _ _ s _ _ _ from n to _ _ _ _ _ _ _ cut (words_grown _ _ _ c.requires.slot.spells r.same (omega arith)) t
     c.requires.offset c.requires.out refl ef (reach _ _ _ _ _ _ _ t c.flex_weight.ensures c.top_from.ensures) et refl refl refl
     c.slide.ensures.carried c.slide.ensures.only.outside c.shift.ensures.shifted c.shift.ensures.below (omega arith)
-    c.write.ensures.word c.write.ensures.only.outside c.slide-2.ensures.carried c.slide-2.ensures.only.outside c.clear.ensures.block c.clear.ensures.only.outside in
-    leaves _ _ _ _ _ tt (ap no_answer (splice_done _ _ _ _ cut s (has_room _ _ _ c.in-Ok.ensures.refused (λ e. false-true e) q))) (budging_same (g.S.Words.memory c.args.store.now) c.args.self)
+    c.write.ensures.word c.write.ensures.only.outside c.slide-2.ensures.carried c.slide-2.ensures.only.outside c.clear.ensures.block
+    c.clear.ensures.only.outside in
+    leaves _ _ _ _ _ tt (ap no_answer (splice_done _ _ _ _ cut s (has_room _ _ _ c.in-Ok.ensures.refused (λ e. false-true e) q)))
+    (budging_same (g.S.Words.memory c.args.store.now) c.args.self)
     (settled _ _ _ _ a.0 a.1 c.trim.ensures.same c.trim.ensures.len)
-    (then_resized (then_edited (then_edited (then_edited (then_edited (then_edited r.only c.slide.ensures.only) c.shift.ensures.only) c.write.ensures.only) c.slide-2.ensures.only) c.clear.ensures.only) c.trim.ensures)
+    (then_resized (then_edited (then_edited (then_edited (then_edited (then_edited r.only c.slide.ensures.only) c.shift.ensures.only) c.write.ensures.only)
+    c.slide-2.ensures.only) c.clear.ensures.only) c.trim.ensures)

@@ -22,17 +22,21 @@ grow-requires g c = let o = rw c.unwrap-area.ensures at c.open.ensures.ok in sub
 pub unwrap-requires : goal.unwrap-requires
 unwrap-requires g c =
     let o = rw c.unwrap-area.ensures at c.open.ensures.ok in
-    page_granted (g.S.Words.memory c.args.store.now) (g.S.Words.memory c.open.new.self) _ c.grow.result (λ z. c.if-free_pages-eq0.false (c.free_pages.ensures ∙ z)) o.1 c.grow.ensures.refused
+    page_granted (g.S.Words.memory c.args.store.now) (g.S.Words.memory c.open.new.self) _ c.grow.result
+    (λ z. c.if-free_pages-eq0.false (c.free_pages.ensures ∙ z)) o.1 c.grow.ensures.refused
 
 page : (g : given.Over) (c : After-grow g) → Opened (g.S.Words.memory c.args.store.now) (g.S.Words.memory c.grow.new.self) c.unwrap-area.result.0
 page g c =
-    opened_page (g.S.Words.memory c.args.store.now) (g.S.Words.memory c.open.new.self) _ _ c.grow.result (λ z. c.if-free_pages-eq0.false (c.free_pages.ensures ∙ z)) (rw c.unwrap-area.ensures at c.open.ensures.ok) c.grow.ensures.ok c.grow.ensures.refused
+    opened_page (g.S.Words.memory c.args.store.now) (g.S.Words.memory c.open.new.self) _ _ c.grow.result
+    (λ z. c.if-free_pages-eq0.false (c.free_pages.ensures ∙ z)) (rw c.unwrap-area.ensures at c.open.ensures.ok) c.grow.ensures.ok c.grow.ensures.refused
 
 spelt : (g : given.Over) (c : After-init g) → SpellsIn (g.S.Words.memory c.init.new.store) (record { area = c.unwrap-area.result; budge = true }) new_slot
-spelt g c = spells_new _ _ _ _ (page g (goal.at.returns-clause-spells g c).After-grow) (rw c.span.ensures at c.init.ensures.only) (rw c.span.ensures at c.init.ensures.spells)
+spelt g c = spells_new _ _ _ _ (page g (goal.at.returns-clause-spells g c).After-grow) (rw c.span.ensures at c.init.ensures.only)
+    (rw c.span.ensures at c.init.ensures.spells)
 
 only : (g : given.Over) (c : After-init g) → OnlyArea (g.S.Words.memory c.args.store.now) (g.S.Words.memory c.init.new.store) c.unwrap-area.result.0
-only g c = let o = page g (goal.at.returns-clause-spells g c).After-grow in OnlyArea-both _ _ _ _ o.only (OnlyArea-from_Edited _ _ _ _ _ (rw c.span.ensures at c.init.ensures.only))
+only g c = let o = page g (goal.at.returns-clause-spells g c).After-grow in
+    OnlyArea-both _ _ _ _ o.only (OnlyArea-from_Edited _ _ _ _ _ (rw c.span.ensures at c.init.ensures.only))
 
 pub init-requires-clause-opened : goal.init-requires-clause-opened
 init-requires-clause-opened g c =

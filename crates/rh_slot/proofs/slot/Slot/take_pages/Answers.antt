@@ -20,13 +20,16 @@ returns-in_err-shortage g c =
 pub returns-then-is_stuck : goal.returns-then-is_stuck
 returns-then-is_stuck g c =
     let s = slot_in (g.S.Words.memory c.args.store.now) c.args.self in
-    let w = claim_needs c.args.n c.in_ok-shortage.shortage s _ (heap_at (g.S.Words.memory c.args.store.now) c.args.self _ c.span.ensures) c.in_ok-shortage.ensures in
-    sym (take_stuck c.args.n c.in_ok-shortage.shortage s w (ap (λ b. nat_lt 0 c.in_ok-shortage.shortage && not b) (budging_same (g.S.Words.memory c.args.store.now) c.args.self) ∙ sym c.is_stuck.ensures ∙ c.if-is_stuck.true))
+    let w = claim_needs c.args.n c.in_ok-shortage.shortage s _ (heap_at (g.S.Words.memory c.args.store.now) c.args.self _ c.span.ensures)
+    c.in_ok-shortage.ensures in
+    sym (take_stuck c.args.n c.in_ok-shortage.shortage s w (ap (λ b. nat_lt 0 c.in_ok-shortage.shortage && not b)
+    (budging_same (g.S.Words.memory c.args.store.now) c.args.self) ∙ sym c.is_stuck.ensures ∙ c.if-is_stuck.true))
 
 pub pages_for-requires : goal.pages_for-requires
 pages_for-requires g c =
     let s = slot_in (g.S.Words.memory c.args.store.now) c.args.self in
-    let w = claim_needs c.args.n c.in_ok-shortage.shortage s _ (heap_at (g.S.Words.memory c.args.store.now) c.args.self _ c.span.ensures) c.in_ok-shortage.ensures in
+    let w = claim_needs c.args.n c.in_ok-shortage.shortage s _ (heap_at (g.S.Words.memory c.args.store.now) c.args.self _ c.span.ensures)
+    c.in_ok-shortage.ensures in
     let f = c.requires.slot.spells.words.heap.heap.fits in
     let r = c.ranges.n.fits in
     omega (arith, need_most c.args.n s.heap f, w.1)
@@ -34,6 +37,8 @@ pages_for-requires g c =
 pub returns : goal.returns
 returns g c =
     let s = slot_in (g.S.Words.memory c.args.store.now) c.args.self in
-    let w = claim_needs c.args.n c.in_ok-shortage.shortage s _ (heap_at (g.S.Words.memory c.args.store.now) c.args.self _ c.span.ensures) c.in_ok-shortage.ensures in
-    sym (take_done c.args.n c.in_ok-shortage.shortage s w (ap (λ b. nat_lt 0 c.in_ok-shortage.shortage && not b) (budging_same (g.S.Words.memory c.args.store.now) c.args.self) ∙ sym c.is_stuck.ensures ∙ c.if-is_stuck.false)
+    let w = claim_needs c.args.n c.in_ok-shortage.shortage s _ (heap_at (g.S.Words.memory c.args.store.now) c.args.self _ c.span.ensures)
+    c.in_ok-shortage.ensures in
+    sym (take_done c.args.n c.in_ok-shortage.shortage s w (ap (λ b. nat_lt 0 c.in_ok-shortage.shortage && not b)
+    (budging_same (g.S.Words.memory c.args.store.now) c.args.self) ∙ sym c.is_stuck.ensures ∙ c.if-is_stuck.false)
     ∙ ap (λ i. Ok i) (omega (arith, c.pages_for.ensures, c.pages_for-2.ensures, c.pages_for-3.ensures, c.flex_weight.ensures, c.top-top.ensures)))

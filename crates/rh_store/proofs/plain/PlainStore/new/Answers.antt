@@ -30,8 +30,10 @@ loop-k-preserved c =
     let a : Area = record { opened = false; bytes = c.in_ok-bytes.bytes } in
     record {
       len = ap length items ∙ length-append list (a ∷ []) ∙ ap (λ k. k + 1) so_far.len;
-      tidy = subst (λ (l : List Area). All IsTidy l) (sym items) (tidy-push list a so_far.tidy (record { whole = ap (λ (l : List ℕ). length l % PAGE) none; empty = λ f. none }));
-      reserved = subst (λ (l : List Area). All (HasRoom c.args.pages) l) (sym items) (reserved-push c.args.pages list a so_far.reserved (record { room = let exact = c.in_ok-bytes.ensures.exact in omega arith }));
+      tidy = subst (λ (l : List Area). All IsTidy l) (sym items) (tidy-push list a so_far.tidy
+          (record { whole = ap (λ (l : List ℕ). length l % PAGE) none; empty = λ f. none }));
+      reserved = subst (λ (l : List Area). All (HasRoom c.args.pages) l) (sym items)
+          (reserved-push c.args.pages list a so_far.reserved (record { room = let exact = c.in_ok-bytes.ensures.exact in omega arith }));
       closed = subst (λ (l : List Area). (k : ℕ) → contents l k ≡ None) (sym items) (contents-push list a so_far.closed refl);
     }
 

@@ -37,7 +37,11 @@ invariant_of-self c =
     let len : length (old ++ replicate n 0) ≡ length old + n = length-append old (replicate n 0) ∙ ap (λ k. length old + k) (length-replicate {A = ℕ} n 0) in
     let whole = whole_areas s.areas.items s.free s.pages MAX_AREAS c.args.id.0 s.kept in
     let h = numbered_areas s.areas.items s.free s.pages MAX_AREAS c.args.id.0 s.kept c.requires in
-    record { few = s.few; kept = changed s.areas.items _ c.args.id.0 (Some (old ++ replicate n 0)) s.free (s.free - c.args.pages) s.pages MAX_AREAS s.kept set h (omega (arith, len, whole)) (omega (arith, len, whole)) }
+    record {
+      few = s.few;
+      kept = changed s.areas.items _ c.args.id.0 (Some (old ++ replicate n 0)) s.free (s.free - c.args.pages) s.pages MAX_AREAS s.kept set h
+          (omega (arith, len, whole)) (omega (arith, len, whole));
+    }
 
 pub returns-clause-ok : goal.returns-clause-ok
 unfolding bytes memory_of

@@ -17,7 +17,8 @@ invariant_of-self c =
     let closed = subst (λ (l : List Area). IsNone (contents l i)) c.deref.ensures.value c.in-Some.ensures.closed.1 in
     let none = none_is (contents list i) closed in
     let h : i < MAX_AREAS = omega (arith, ap length c.deref.ensures.value, c.in-Some.ensures.closed.0, s.kept.table) in
-    let sum : s.free + 0 ≡ s.free + length (unwrap_or (contents list i) []) / PAGE = ap (λ (o : Option (List ℕ)). s.free + length (unwrap_or o []) / PAGE) (sym none) in
+    let sum : s.free + 0 ≡ s.free + length (unwrap_or (contents list i) []) / PAGE =
+    ap (λ (o : Option (List ℕ)). s.free + length (unwrap_or o []) / PAGE) (sym none) in
     record { few = s.few; kept = changed list _ i (Some []) s.free s.free s.pages MAX_AREAS s.kept c.open_at.ensures h refl sum }
 
 pub returns-in-None-clause-refused : goal.returns-in-None-clause-refused

@@ -11,7 +11,11 @@ unfolding bytes memory_of
 invariant_of-self c =
     let s = c.args.self.now in
     let old = bytes (memory_of s) c.args.id.0 in
-    record { few = s.few; kept = stays s.areas.items _ c.args.id.0 (put old c.args.at c.args.from.now) s.free s.pages MAX_AREAS s.kept c.put_at.ensures c.requires.opened (length-put old c.args.at c.args.from.now) }
+    record {
+      few = s.few;
+      kept = stays s.areas.items _ c.args.id.0 (put old c.args.at c.args.from.now) s.free s.pages MAX_AREAS s.kept c.put_at.ensures c.requires.opened
+          (length-put old c.args.at c.args.from.now);
+    }
 
 pub returns : goal.returns
 unfolding bytes memory_of

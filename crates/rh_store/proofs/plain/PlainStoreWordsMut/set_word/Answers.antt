@@ -11,7 +11,11 @@ unfolding bytes memory_of
 invariant_of-self c =
     let s = c.args.self.now in
     let old = bytes (memory_of s) c.args.id.0 in
-    record { few = s.few; kept = stays s.areas.items _ c.args.id.0 (put_word old c.args.at c.args.w) s.free s.pages MAX_AREAS s.kept c.set_word_at.ensures c.requires.opened (length-put_word old c.args.at c.args.w) }
+    record {
+      few = s.few;
+      kept = stays s.areas.items _ c.args.id.0 (put_word old c.args.at c.args.w) s.free s.pages MAX_AREAS s.kept c.set_word_at.ensures
+          c.requires.opened (length-put_word old c.args.at c.args.w);
+    }
 
 pub returns : goal.returns
 unfolding bytes memory_of

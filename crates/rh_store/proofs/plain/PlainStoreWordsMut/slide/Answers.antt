@@ -11,7 +11,11 @@ unfolding bytes memory_of
 invariant_of-self c =
     let s = c.args.self.now in
     let old = bytes (memory_of s) c.args.id.0 in
-    record { few = s.few; kept = stays s.areas.items _ c.args.id.0 (put old c.args.to (part old c.args.from c.args.n)) s.free s.pages MAX_AREAS s.kept c.slide_at.ensures c.requires.opened (length-put old c.args.to (part old c.args.from c.args.n)) }
+    record {
+      few = s.few;
+      kept = stays s.areas.items _ c.args.id.0 (put old c.args.to (part old c.args.from c.args.n)) s.free s.pages MAX_AREAS s.kept c.slide_at.ensures
+          c.requires.opened (length-put old c.args.to (part old c.args.from c.args.n));
+    }
 
 pub returns : goal.returns
 unfolding bytes memory_of

@@ -12,7 +12,11 @@ unfolding bytes memory_of
 invariant_of-self c =
     let s = c.args.self.now in
     let old = bytes (memory_of s) c.args.id.0 in
-    record { few = s.few; kept = stays s.areas.items _ c.args.id.0 (put old c.args.at (replicate c.args.n 0)) s.free s.pages MAX_AREAS s.kept c.zero_at.ensures c.requires.opened (length-put old c.args.at (replicate c.args.n 0)) }
+    record {
+      few = s.few;
+      kept = stays s.areas.items _ c.args.id.0 (put old c.args.at (replicate c.args.n 0)) s.free s.pages MAX_AREAS s.kept c.zero_at.ensures
+          c.requires.opened (length-put old c.args.at (replicate c.args.n 0));
+    }
 
 pub returns : goal.returns
 unfolding bytes memory_of

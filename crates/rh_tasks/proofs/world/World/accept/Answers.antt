@@ -1,7 +1,8 @@
 use Rattle.std.proofs.Common.{refl}
 use Rattle.rh_tasks.proofs.Rooms.{anchor-low}
 use Rattle.rh_tasks.proofs.Slides.{seat-sits}
-use Rattle.rh_tasks.proofs.AcceptSteps.{accept-no_anchor, accept-no_room, can-accept, can-accept-own, buffer-must, buffer-got, buffer-at, buffer-place, document-must, document-got, fetch-from, fetch-must, fetch-got, sent-place, sent-room, accept-done}
+use Rattle.rh_tasks.proofs.AcceptSteps.{accept-no_anchor, accept-no_room, can-accept, can-accept-own, buffer-must, buffer-got, buffer-at, buffer-place}
+use Rattle.rh_tasks.proofs.AcceptSteps.{document-must, document-got, fetch-from, fetch-must, fetch-got, sent-place, sent-room, accept-done}
 use Rattle.rh_tasks.proofs.world.World.accept.Goals as goal
 
 pub returns-in_err-anchor : goal.returns-in_err-anchor

@@ -14,7 +14,8 @@ returns-in_default g c = rw (c.in_default.is) (λ t m for. as-after (ack-none c.
 pub refused_out-requires : goal.refused_out-requires
 refused_out-requires g c =
     let there = member-at c.args.self.now.desk.tasks c.args.i c.requires in
-    let stays = (c.in-Err.ensures there.0 (record { code = User; to = 0; block = 0; message = c.args.message.now }) (record { at = there.1; message_is = refl })).1 in
+    let stays = (c.in-Err.ensures there.0 (record { code = User; to = 0; block = 0; message = c.args.message.now })
+    (record { at = there.1; message_is = refl })).1 in
     subst (λ (x : Shown). c.args.i < length x.desk.tasks) (sym stays) c.requires
 
 pub returns-in-Ok : goal.returns-in-Ok

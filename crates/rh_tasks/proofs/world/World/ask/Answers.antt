@@ -21,14 +21,16 @@ returns-in_err-ack g c t there =
     let at : Sits c.self.inside.seats.items c.args.i c.index-seat.result.now = sits-there c.self.invariant c.self.view_is c.requires c.index-seat.ensures in
     let handle = seat-handle c.self.invariant c.self.view_is at there in
     let p = err_from_is_err_and c.from_residual.result c.from_residual.ensures.1 in
-    rw (p.1, p.2) (ask-refused c.args.f.now c.args.self.now.desk c.args.i there handle c.ack_letter-letter.ensures c.in_err-ack.ensures.0, c.in_err-ack.ensures.1)
+    rw (p.1, p.2)
+    (ask-refused c.args.f.now c.args.self.now.desk c.args.i there handle c.ack_letter-letter.ensures c.in_err-ack.ensures.0, c.in_err-ack.ensures.1)
 
 pub drop_buffer-requires : goal.drop_buffer-requires
 drop_buffer-requires g c =
     let at : Sits c.self.inside.seats.items c.args.i c.index-seat.result.now = sits-there c.self.invariant c.self.view_is c.requires c.index-seat.ensures in
     let sent = c.in_ok-ack.ensures.1 in
     inside
-    (stands-sent c.ack_letter-letter.result c.args.self.now.desk sent.0 c.args.i (task_of (g.S.Words.memory c.self.inside.store) c.index-seat.result.now) sent.1.0 sent.1.1
+    (stands-sent c.ack_letter-letter.result c.args.self.now.desk sent.0 c.args.i (task_of (g.S.Words.memory c.self.inside.store) c.index-seat.result.now)
+    sent.1.0 sent.1.1
     (seat-there c.self.invariant c.self.view_is at))
 
 pub record_asking-requires : goal.record_asking-requires
@@ -36,14 +38,17 @@ record_asking-requires g c =
     let at : Sits c.self.inside.seats.items c.args.i c.index-seat.result.now = sits-there c.self.invariant c.self.view_is c.requires c.index-seat.ensures in
     let sent = c.in_ok-ack.ensures.1 in
     let s =
-    stands-sent c.ack_letter-letter.result c.args.self.now.desk sent.0 c.args.i (task_of (g.S.Words.memory c.self.inside.store) c.index-seat.result.now) sent.1.0 sent.1.1
+    stands-sent c.ack_letter-letter.result c.args.self.now.desk sent.0 c.args.i (task_of (g.S.Words.memory c.self.inside.store) c.index-seat.result.now)
+    sent.1.0 sent.1.1
     (seat-there c.self.invariant c.self.view_is at) in
-    inside (stands-dropped c.send_from.new.self.desk c.drop_buffer.new.self.desk c.args.i s.task.handle c.args.f.now.buffer s.task (c.drop_buffer.ensures s.task s.at) s.at)
+    inside (stands-dropped c.send_from.new.self.desk c.drop_buffer.new.self.desk c.args.i s.task.handle c.args.f.now.buffer s.task
+    (c.drop_buffer.ensures s.task s.at) s.at)
 
 pub returns : goal.returns
 returns g c t there =
     let at : Sits c.self.inside.seats.items c.args.i c.index-seat.result.now = sits-there c.self.invariant c.self.view_is c.requires c.index-seat.ensures in
     let handle = seat-handle c.self.invariant c.self.view_is at there in
     let sent = c.in_ok-ack.ensures.1 in
-    ask-done c.args.f.now c.args.self.now.desk c.args.i there handle c.ack_letter-letter.ensures c.in_ok-ack.ack sent.0 c.send_from.new.self.desk c.drop_buffer.new.self.desk c.record_asking.new.self.desk
+    ask-done c.args.f.now c.args.self.now.desk c.args.i there handle c.ack_letter-letter.ensures c.in_ok-ack.ack sent.0 c.send_from.new.self.desk
+    c.drop_buffer.new.self.desk c.record_asking.new.self.desk
     c.in_ok-ack.ensures.0 sent.1.0 sent.1.1 c.drop_buffer.ensures c.record_asking.ensures

@@ -19,10 +19,15 @@ returns-in_err-slot g c =
 
 pub overflow_cast-count : goal.overflow_cast-count
 overflow_cast-count g c =
-    omega (arith, c.count-count.ensures, few-blocks (owned c.self.invariant c.in_ok-slot.ensures.ok) (g.met.S.Words.small c.self.inside.store c.in_ok-slot.slot.area.0))
+    omega (
+      arith,
+      c.count-count.ensures,
+      few-blocks (owned c.self.invariant c.in_ok-slot.ensures.ok) (g.met.S.Words.small c.self.inside.store c.in_ok-slot.slot.area.0),
+    )
 
 pub returns : goal.returns
 unfolding blocks_at
 returns g c =
     rw (← c.self.view_is, c.count-count.ensures, c.block.ensures)
-    (sym (of-slot c.self.invariant c.in_ok-slot.ensures.ok (λ s. let r : Granted (ℕ × Option BlockItem) = Ok (length s.blocks, slice_get (block_items s) c.args.i) in r)))
+    (sym (of-slot c.self.invariant c.in_ok-slot.ensures.ok (λ s. let r : Granted (ℕ × Option BlockItem) =
+    Ok (length s.blocks, slice_get (block_items s) c.args.i) in r)))

@@ -17,11 +17,13 @@ invariant_of-self g c =
     let m = g.S.Words.memory c.self.inside.store in
     let flag : Flagged m c.index_mut-seat.result.now.slot c.set_budge-was.new.self c.args.on c.set_budge-was.result =
     record { area = ap (λ x. x.area.0) c.set_budge-was.ensures.slot; still = c.set_budge-was.ensures.still m; spelled = c.set_budge-was.ensures.spelled m } in
-    budge-world {s = c.index_mut-seat.result.now} c.self.invariant (record { at = c.in_ok-i.ensures.ok; is = sym c.index_mut-seat.ensures.value }) flag c.requires
+    budge-world {s = c.index_mut-seat.result.now} c.self.invariant (record { at = c.in_ok-i.ensures.ok; is = sym c.index_mut-seat.ensures.value }) flag
+    c.requires
 
 pub returns : goal.returns
 returns g c =
     let m = g.S.Words.memory c.self.inside.store in
     let flag : Flagged m c.index_mut-seat.result.now.slot c.set_budge-was.new.self c.args.on c.set_budge-was.result =
     record { area = ap (λ x. x.area.0) c.set_budge-was.ensures.slot; still = c.set_budge-was.ensures.still m; spelled = c.set_budge-was.ensures.spelled m } in
-    rw (← c.self.view_is) (budge-done {s = c.index_mut-seat.result.now} c.self.invariant (record { at = c.in_ok-i.ensures.ok; is = sym c.index_mut-seat.ensures.value }) flag)
+    rw (← c.self.view_is) (budge-done {s = c.index_mut-seat.result.now} c.self.invariant
+    (record { at = c.in_ok-i.ensures.ok; is = sym c.index_mut-seat.ensures.value }) flag)

@@ -30,13 +30,15 @@ returns-in-DataLoadAck g c = λ t m for.
 pub returns-then-answers_none : goal.returns-then-answers_none
 returns-then-answers_none g c = λ t m for.
     let own = rw (← c.self.view_is) at for in
-    rw (← c.self.view_is) (fetch-ignored c.self.invariant (sym c.index-seat.ensures) own c.in-RamFetch.is (sym c.if-answers_none.ensures) (refl, reordered-refl _))
+    rw (← c.self.view_is) (fetch-ignored c.self.invariant (sym c.index-seat.ensures) own c.in-RamFetch.is (sym c.if-answers_none.ensures)
+    (refl, reordered-refl _))
 
 pub returns-else-answers_none : goal.returns-else-answers_none
 returns-else-answers_none g c = λ t m for.
     let own = rw (← c.self.view_is) at for in
     let h = rw (← c.self.view_is) at c.answer_fetch.ensures in
-    rw (← c.self.view_is) (fetch-came c.self.invariant (sym c.index-seat.ensures) own c.in-RamFetch.is (sym c.if-answers_none.ensures) c.on_fetch-x.ensures (h t m own))
+    rw (← c.self.view_is) (fetch-came c.self.invariant (sym c.index-seat.ensures) own c.in-RamFetch.is (sym c.if-answers_none.ensures) c.on_fetch-x.ensures
+    (h t m own))
 
 pub returns-in-RamTransmit : goal.returns-in-RamTransmit
 returns-in-RamTransmit g c = λ t m for.

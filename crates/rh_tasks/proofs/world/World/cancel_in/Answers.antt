@@ -30,7 +30,8 @@ returns-in_err-cancel g c =
     let same = taking-stay {s = s} c.self.invariant f c.args.id given c.in_err-cancel.ensures.records in
     rw (p.1, p.2, ← c.self.view_is) (
       cancel_in-refused {s = s} c.self.invariant f c.args.id given,
-      ap (λ seats. shown_of (g.S.Words.memory c.self.inside.store) seats c.self.inside.made.items (g.F.NamedFiles.contents c.self.inside.files) (kept_of c.self.inside.next c.self.inside.queue c.self.inside.scrap)) same,
+      ap (λ seats. shown_of (g.S.Words.memory c.self.inside.store) seats c.self.inside.made.items (g.F.NamedFiles.contents c.self.inside.files)
+          (kept_of c.self.inside.next c.self.inside.queue c.self.inside.scrap)) same,
     )
 
 pub invariant_of-self-2 : goal.invariant_of-self-2

@@ -32,5 +32,6 @@ returns g c =
     let keeps : KeepsFirst (g.S.Words.memory c.self.inside.store) (g.S.Words.memory c.set_pages.new.store) c.args.number = record {
       first = λ k had has. c.set_pages.ensures.first k had (omega (arith, has, now, c.set_pages.ensures.pages));
     } in
-    rw (← c.self.view_is, moved) (fixed-done c.self.invariant c.args.number c.args.delta c.requires.low c.requires.other (sym e) c.set_pages.ensures.pages c.set_pages.ensures.only keeps
+    rw (← c.self.view_is, moved) (fixed-done c.self.invariant c.args.number c.args.delta c.requires.low c.requires.other (sym e) c.set_pages.ensures.pages
+    c.set_pages.ensures.only keeps
     (g.met.S.Paged.whole c.self.inside.store c.args.number) (g.met.S.Paged.whole c.set_pages.new.store c.args.number))

@@ -9,7 +9,8 @@ use Rattle.rh_tasks.proofs.world.World.change_made.Goals as goal
 pub returns-in_err-i : goal.returns-in_err-i
 returns-in_err-i g c =
     let p = err_from_is_err_and c.from_residual.result c.from_residual.ensures.1 in
-    rw (p.1, p.2, c.in_err-i.ensures.err.0, ← c.self.view_is) (no-area c.self.invariant c.args.number c.args.delta c.requires.high c.in_err-i.ensures.err.1, refl)
+    rw (p.1, p.2, c.in_err-i.ensures.err.0, ← c.self.view_is)
+    (no-area c.self.invariant c.args.number c.args.delta c.requires.high c.in_err-i.ensures.err.1, refl)
 
 pub returns-in_err-pages : goal.returns-in_err-pages
 returns-in_err-pages g c =
@@ -55,5 +56,6 @@ returns g c =
       sits = made-sits c.args.number c.self.inside.made.items c.in_ok-i.i a c.in_ok-i.ensures.ok (sym c.index-made.ensures);
       number = made-number c.args.number c.self.inside.made.items c.in_ok-i.i a c.in_ok-i.ensures.ok (sym c.index-made.ensures);
     } in
-    rw (← c.self.view_is, moved) (made-done c.self.invariant c.args.number c.args.delta a h c.requires.high (sym e) c.if-pages-made.false c.set_pages.ensures.pages c.set_pages.ensures.only
+    rw (← c.self.view_is, moved) (made-done c.self.invariant c.args.number c.args.delta a h c.requires.high (sym e) c.if-pages-made.false
+    c.set_pages.ensures.pages c.set_pages.ensures.only
     (g.met.S.Paged.whole c.self.inside.store a.area.0) (g.met.S.Paged.whole c.set_pages.new.store a.area.0))

@@ -22,19 +22,29 @@ pub returns-in_err-address : goal.returns-in_err-address
 unfolding claim
 returns-in_err-address g c =
     let p = err_from_is_err_and c.from_residual-in_err-address.result c.from_residual-in_err-address.ensures.1 in
-    let same = ap (λ m. shown_of m c.self.inside.seats.items c.self.inside.made.items (g.F.NamedFiles.contents c.self.inside.files) (kept_of c.self.inside.next c.self.inside.queue c.self.inside.scrap)) c.in_err-address.ensures.err in
-    rw (p.1, p.2, ← c.self.view_is) (placed-refused c.self.invariant c.in_ok-slot.ensures.ok (λ free. slot_claim free c.args.size) c.in_err-address.ensures, same)
+    let same = ap (λ m. shown_of m c.self.inside.seats.items c.self.inside.made.items (g.F.NamedFiles.contents c.self.inside.files)
+    (kept_of c.self.inside.next c.self.inside.queue c.self.inside.scrap)) c.in_err-address.ensures.err in
+    rw (p.1, p.2, ← c.self.view_is)
+    (placed-refused c.self.invariant c.in_ok-slot.ensures.ok (λ free. slot_claim free c.args.size) c.in_err-address.ensures, same)
 
 pub overflow_cast-result : goal.overflow_cast-result
 overflow_cast-result g c =
     let is = owned c.self.invariant c.in_ok-slot.ensures.ok in
     let low = grant-of (slot_claim-low _ _ _) (granted c.in_ok-address.ensures) in
-    omega (arith, low, is.spells.words.within, is.spells.words.heap.within, is.spells.words.heap.heap.fits, g.met.S.Words.small c.self.inside.store c.in_ok-slot.slot.area.0)
+    omega (
+      arith,
+      low,
+      is.spells.words.within,
+      is.spells.words.heap.within,
+      is.spells.words.heap.heap.fits,
+      g.met.S.Words.small c.self.inside.store c.in_ok-slot.slot.area.0,
+    )
 
 pub invariant_of-self-2 : goal.invariant_of-self-2
 unfolding claim
 invariant_of-self-2 g c =
-    placed-world c.self.invariant c.in_ok-slot.ensures.ok (λ free. slot_claim free c.args.size) c.in_ok-address.ensures (command.Claim c.args.name.now c.args.size) refl c.requires
+    placed-world c.self.invariant c.in_ok-slot.ensures.ok (λ free. slot_claim free c.args.size) c.in_ok-address.ensures
+    (command.Claim c.args.name.now c.args.size) refl c.requires
 
 pub returns : goal.returns
 unfolding claim

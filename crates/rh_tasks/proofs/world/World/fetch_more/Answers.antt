@@ -8,18 +8,21 @@ use Rattle.rh_tasks.proofs.world.World.fetch_more.Goals as goal
 pub send_from-requires : goal.send_from-requires
 unfolding task_of
 send_from-requires g c =
-    let at : Sits c.self.inside.seats.items c.args.i c.index-seat.result.now = sits-there c.self.invariant c.self.view_is c.requires.place c.index-seat.ensures in (
+    let at : Sits c.self.inside.seats.items c.args.i c.index-seat.result.now =
+    sits-there c.self.invariant c.self.view_is c.requires.place c.index-seat.ensures in (
       task_of (g.S.Words.memory c.self.inside.store) c.index-seat.result.now,
       (
         seat-there c.self.invariant c.self.view_is at,
-        fetch-from c.fetch_letter-letter.result c.index-seat.result.now.handle c.args.f.now.sender c.args.message.now.my_ref c.args.f.now.buffer c.index-seat.result.now.buffer
+        fetch-from c.fetch_letter-letter.result c.index-seat.result.now.handle c.args.f.now.sender c.args.message.now.my_ref c.args.f.now.buffer
+            c.index-seat.result.now.buffer
             c.fetch_letter-letter.ensures,
       ),
     )
 
 pub returns-in_err-fetch : goal.returns-in_err-fetch
 returns-in_err-fetch g c t m for =
-    let at : Sits c.self.inside.seats.items c.args.i c.index-seat.result.now = sits-there c.self.invariant c.self.view_is c.requires.place c.index-seat.ensures in
+    let at : Sits c.self.inside.seats.items c.args.i c.index-seat.result.now =
+    sits-there c.self.invariant c.self.view_is c.requires.place c.index-seat.ensures in
     let handle = seat-handle c.self.invariant c.self.view_is at for.at in
     let buffer = seat-buffer c.self.invariant c.self.view_is at for.at in
     let p = err_from_is_err_and c.from_residual.result c.from_residual.ensures.1 in
@@ -27,14 +30,18 @@ returns-in_err-fetch g c t m for =
 
 pub record_fetched-requires-clause-place : goal.record_fetched-requires-clause-place
 record_fetched-requires-clause-place g c =
-    let at : Sits c.self.inside.seats.items c.args.i c.index-seat.result.now = sits-there c.self.invariant c.self.view_is c.requires.place c.index-seat.ensures in
+    let at : Sits c.self.inside.seats.items c.args.i c.index-seat.result.now =
+    sits-there c.self.invariant c.self.view_is c.requires.place c.index-seat.ensures in
     let sent = c.in_ok-fetch.ensures.1 in
-    inside (stands-sent c.fetch_letter-letter.result c.args.self.now.desk sent.0 c.args.i (task_of (g.S.Words.memory c.self.inside.store) c.index-seat.result.now) sent.1.0 sent.1.1 (seat-there c.self.invariant c.self.view_is at))
+    inside (stands-sent c.fetch_letter-letter.result c.args.self.now.desk sent.0 c.args.i
+    (task_of (g.S.Words.memory c.self.inside.store) c.index-seat.result.now) sent.1.0 sent.1.1 (seat-there c.self.invariant c.self.view_is at))
 
 pub returns : goal.returns
 returns g c t m for =
-    let at : Sits c.self.inside.seats.items c.args.i c.index-seat.result.now = sits-there c.self.invariant c.self.view_is c.requires.place c.index-seat.ensures in
+    let at : Sits c.self.inside.seats.items c.args.i c.index-seat.result.now =
+    sits-there c.self.invariant c.self.view_is c.requires.place c.index-seat.ensures in
     let handle = seat-handle c.self.invariant c.self.view_is at for.at in
     let buffer = seat-buffer c.self.invariant c.self.view_is at for.at in
     let sent = c.in_ok-fetch.ensures.1 in
-    fetch-done c.args.f.now c.args.n for handle buffer c.fetch_letter-letter.ensures c.in_ok-fetch.fetch sent.0 c.send_from.new.self.desk c.record_fetched.new.self.desk c.in_ok-fetch.ensures.0 sent.1.0 sent.1.1 c.record_fetched.ensures
+    fetch-done c.args.f.now c.args.n for handle buffer c.fetch_letter-letter.ensures c.in_ok-fetch.fetch sent.0 c.send_from.new.self.desk
+    c.record_fetched.new.self.desk c.in_ok-fetch.ensures.0 sent.1.0 sent.1.1 c.record_fetched.ensures

@@ -77,5 +77,6 @@ returns g c =
     let fits = rw (← c.self.view_is) at c.requires.room in
     let room : c.args.size ≤ length (bytes m 5) = omega (arith, fits, fixed-at m 5 (omega arith) (λ q. absurd (omega (arith, q))), pages-of m 5 whole) in
     rw c.copy.ensures (λ t b same is.
-    filled-desk c.self.invariant at c.args.anchor c.args.size c.args.load given there room whole b (ap (slot_block c.args.anchor) (seen-slot c.self.invariant c.self.view_is at same) ∙ is)
+    filled-desk c.self.invariant at c.args.anchor c.args.size c.args.load given there room whole b
+    (ap (slot_block c.args.anchor) (seen-slot c.self.invariant c.self.view_is at same) ∙ is)
     ∙ ap (λ (x : Shown). let e : Desk = record x.desk { scrap = Some (record { load = c.args.load; bytes = b.here.bytes }) } in e) c.self.view_is)

@@ -10,14 +10,17 @@ returns-in_default g c =
 pub returns-in_default-send_pages : goal.returns-in_default-send_pages
 returns-in_default-send_pages g c =
     let at = seat-sits _ _ _ _ _ c.self.view_is c.requires c.index-seat.ensures in
-    rw (← c.self.view_is) (λ t m k here free. room-no_fetch c.self.invariant at c.args.message.now t m k here free c.fetch_letter-letter.ensures c.in_default-send_pages.ensures)
+    rw (← c.self.view_is) (λ t m k here free. room-no_fetch c.self.invariant at c.args.message.now t m k here free c.fetch_letter-letter.ensures
+    c.in_default-send_pages.ensures)
 
 pub returns-then-pages-free : goal.returns-then-pages-free
 returns-then-pages-free g c =
     let at = seat-sits _ _ _ _ _ c.self.view_is c.requires c.index-seat.ensures in
-    rw (← c.self.view_is) (λ t m k here free. room-rest c.self.invariant at c.args.message.now t m k here free c.in-Ok.ensures c.fetch_letter-letter.ensures c.in-Ok-send_pages.ensures c.free_pages-free.ensures c.if-pages-free.true)
+    rw (← c.self.view_is) (λ t m k here free. room-rest c.self.invariant at c.args.message.now t m k here free c.in-Ok.ensures c.fetch_letter-letter.ensures
+    c.in-Ok-send_pages.ensures c.free_pages-free.ensures c.if-pages-free.true)
 
 pub returns-else-pages-free : goal.returns-else-pages-free
 returns-else-pages-free g c =
     let at = seat-sits _ _ _ _ _ c.self.view_is c.requires c.index-seat.ensures in
-    rw (← c.self.view_is) (λ t m k here free. room-short c.self.invariant at c.args.message.now t m k here free c.in-Ok.ensures c.fetch_letter-letter.ensures c.in-Ok-send_pages.ensures c.free_pages-free.ensures c.if-pages-free.false)
+    rw (← c.self.view_is) (λ t m k here free. room-short c.self.invariant at c.args.message.now t m k here free c.in-Ok.ensures c.fetch_letter-letter.ensures
+    c.in-Ok-send_pages.ensures c.free_pages-free.ensures c.if-pages-free.false)

@@ -16,11 +16,19 @@ returns-in_err-slot g c =
 
 pub overflow_cast-sums-2 : goal.overflow_cast-sums-2
 overflow_cast-sums-2 g c =
-    omega (arith, c.describe-length.ensures.largest, small-largest (owned c.self.invariant c.in_ok-slot.ensures.ok) (g.met.S.Words.small c.self.inside.store c.in_ok-slot.slot.area.0))
+    omega (
+      arith,
+      c.describe-length.ensures.largest,
+      small-largest (owned c.self.invariant c.in_ok-slot.ensures.ok) (g.met.S.Words.small c.self.inside.store c.in_ok-slot.slot.area.0),
+    )
 
 pub overflow_cast-sums-3 : goal.overflow_cast-sums-3
 overflow_cast-sums-3 g c =
-    omega (arith, c.describe-length.ensures.total, small-free (owned c.self.invariant c.in_ok-slot.ensures.ok) (g.met.S.Words.small c.self.inside.store c.in_ok-slot.slot.area.0))
+    omega (
+      arith,
+      c.describe-length.ensures.total,
+      small-free (owned c.self.invariant c.in_ok-slot.ensures.ok) (g.met.S.Words.small c.self.inside.store c.in_ok-slot.slot.area.0),
+    )
 
 pub returns-in_default : goal.returns-in_default
 unfolding heap_at
@@ -30,11 +38,13 @@ returns-in_default g c =
 
 pub segment_item-requires-clause-low : goal.segment_item-requires-clause-low
 segment_item-requires-clause-low g c =
-    small-place (owned c.self.invariant c.in_ok-slot.ensures.ok) (g.met.S.Words.small c.self.inside.store c.in_ok-slot.slot.area.0) c.args.place c.in-Some.segment c.in-Some.ensures
+    small-place (owned c.self.invariant c.in_ok-slot.ensures.ok) (g.met.S.Words.small c.self.inside.store c.in_ok-slot.slot.area.0) c.args.place
+    c.in-Some.segment c.in-Some.ensures
 
 pub segment_item-requires-clause-small : goal.segment_item-requires-clause-small
 segment_item-requires-clause-small g c =
-    small-piece (owned c.self.invariant c.in_ok-slot.ensures.ok) (g.met.S.Words.small c.self.inside.store c.in_ok-slot.slot.area.0) c.args.place c.in-Some.segment c.in-Some.ensures
+    small-piece (owned c.self.invariant c.in_ok-slot.ensures.ok) (g.met.S.Words.small c.self.inside.store c.in_ok-slot.slot.area.0) c.args.place
+    c.in-Some.segment c.in-Some.ensures
 
 pub returns : goal.returns
 unfolding heap_at

@@ -20,8 +20,10 @@ pub returns-then-not-inside : goal.returns-then-not-inside
 returns-then-not-inside g c =
     let m = g.S.Words.memory c.self.inside.store in
     let seats = c.self.inside.seats.items in
-    let narrow : is_some (buffer_at c.args.target.address c.args.target.room (slot_in m c.index-seat.result.now.slot)) ≡ false = elim c.match-block_size.branch [
-      | in-Ok+else-size-room w ↦ buffer-narrow c.args.target.address c.args.target.room (slot_in m c.index-seat.result.now.slot) w.in-Ok.ensures (omega (arith, w.if-size-room.false))
+    let narrow : is_some (buffer_at c.args.target.address c.args.target.room (slot_in m c.index-seat.result.now.slot)) ≡ false =
+    elim c.match-block_size.branch [
+      | in-Ok+else-size-room w ↦ buffer-narrow c.args.target.address c.args.target.room (slot_in m c.index-seat.result.now.slot) w.in-Ok.ensures
+          (omega (arith, w.if-size-room.false))
       | in_default w ↦ buffer-none c.args.target.address c.args.target.room (slot_in m c.index-seat.result.now.slot) w.in_default.ensures
     ] in
     rw (← c.self.view_is) (λ t r ti rj.
@@ -32,8 +34,10 @@ pub returns-then-i-target : goal.returns-then-i-target
 returns-then-i-target g c =
     let m = g.S.Words.memory c.self.inside.store in
     let seats = c.self.inside.seats.items in
-    let narrow : is_some (buffer_at c.args.target.address c.args.target.room (slot_in m c.index-seat.result.now.slot)) ≡ false = elim c.match-block_size.branch [
-      | in-Ok+else-size-room w ↦ buffer-narrow c.args.target.address c.args.target.room (slot_in m c.index-seat.result.now.slot) w.in-Ok.ensures (omega (arith, w.if-size-room.false))
+    let narrow : is_some (buffer_at c.args.target.address c.args.target.room (slot_in m c.index-seat.result.now.slot)) ≡ false =
+    elim c.match-block_size.branch [
+      | in-Ok+else-size-room w ↦ buffer-narrow c.args.target.address c.args.target.room (slot_in m c.index-seat.result.now.slot) w.in-Ok.ensures
+          (omega (arith, w.if-size-room.false))
       | in_default w ↦ buffer-none c.args.target.address c.args.target.room (slot_in m c.index-seat.result.now.slot) w.in_default.ensures
     ] in
     rw (← c.self.view_is) (λ t r ti rj.
@@ -44,10 +48,13 @@ pub returns-else-i-target : goal.returns-else-i-target
 returns-else-i-target g c =
     let m = g.S.Words.memory c.self.inside.store in
     let seats = c.self.inside.seats.items in
-    let narrow : is_some (buffer_at c.args.target.address c.args.target.room (slot_in m c.index-seat.result.now.slot)) ≡ false = elim c.match-block_size.branch [
-      | in-Ok+else-size-room w ↦ buffer-narrow c.args.target.address c.args.target.room (slot_in m c.index-seat.result.now.slot) w.in-Ok.ensures (omega (arith, w.if-size-room.false))
+    let narrow : is_some (buffer_at c.args.target.address c.args.target.room (slot_in m c.index-seat.result.now.slot)) ≡ false =
+    elim c.match-block_size.branch [
+      | in-Ok+else-size-room w ↦ buffer-narrow c.args.target.address c.args.target.room (slot_in m c.index-seat.result.now.slot) w.in-Ok.ensures
+          (omega (arith, w.if-size-room.false))
       | in_default w ↦ buffer-none c.args.target.address c.args.target.room (slot_in m c.index-seat.result.now.slot) w.in_default.ensures
     ] in
     rw (← c.self.view_is) (λ t r ti rj.
     in-other (seated m seats c.args.i t ti) (seated m seats c.args.target.seat r rj) c.index-seat.result.now (sym c.index-seat.ensures)
-    c.args.target.address c.args.target.room c.args.portion.address c.args.portion.length narrow c.if-not-inside.ensures (handles c.self.invariant) c.if-i-target.false)
+    c.args.target.address c.args.target.room c.args.portion.address c.args.portion.length narrow c.if-not-inside.ensures (handles c.self.invariant)
+    c.if-i-target.false)

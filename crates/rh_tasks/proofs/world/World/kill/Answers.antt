@@ -21,13 +21,15 @@ bounce_for_death-requires-clause-queue g c = c.self.invariant.queue
 
 pub bounce_for_death-requires-clause-live : goal.bounce_for_death-requires-clause-live
 bounce_for_death-requires-clause-live g c =
-    let f : Found c.args.name.now c.self.inside.seats.items c.in_ok-i.i c.remove-seat.result = record { at = c.in_ok-i.ensures.ok; is = sym c.remove-seat.ensures.value } in
+    let f : Found c.args.name.now c.self.inside.seats.items c.in_ok-i.i c.remove-seat.result =
+    record { at = c.in_ok-i.ensures.ok; is = sym c.remove-seat.ensures.value } in
     has-entry c.self.invariant (sits f)
 
 pub end-requires : goal.end-requires
 end-requires g c =
     let m = g.S.Words.memory c.self.inside.store in
-    let f : Found c.args.name.now c.self.inside.seats.items c.in_ok-i.i c.remove-seat.result = record { at = c.in_ok-i.ensures.ok; is = sym c.remove-seat.ensures.value } in
+    let f : Found c.args.name.now c.self.inside.seats.items c.in_ok-i.i c.remove-seat.result =
+    record { at = c.in_ok-i.ensures.ok; is = sym c.remove-seat.ensures.value } in
     let has = all-at (HasSlot m) c.self.inside.seats.items c.in_ok-i.i c.remove-seat.result c.self.invariant.areas.slots (sits f) in
     let low = g.met.S.Store.numbered c.self.inside.store c.remove-seat.result.slot.area.0 has.opened in
     slot-open c.self.invariant f low c.bounce_for_death.ensures.leaves
@@ -35,7 +37,8 @@ end-requires g c =
 pub kept_scrap-self-inside-requires : goal.kept_scrap-self-inside-requires
 kept_scrap-self-inside-requires g c =
     let m = g.S.Words.memory c.self.inside.store in
-    let f : Found c.args.name.now c.self.inside.seats.items c.in_ok-i.i c.remove-seat.result = record { at = c.in_ok-i.ensures.ok; is = sym c.remove-seat.ensures.value } in
+    let f : Found c.args.name.now c.self.inside.seats.items c.in_ok-i.i c.remove-seat.result =
+    record { at = c.in_ok-i.ensures.ok; is = sym c.remove-seat.ensures.value } in
     let has = all-at (HasSlot m) c.self.inside.seats.items c.in_ok-i.i c.remove-seat.result c.self.invariant.areas.slots (sits f) in
     let low = g.met.S.Store.numbered c.self.inside.store c.remove-seat.result.slot.area.0 has.opened in
     rw (c.end.ensures) (queue-then c.self.invariant f low c.bounce_for_death.ensures.leaves)
@@ -43,7 +46,8 @@ kept_scrap-self-inside-requires g c =
 pub invariant_of-self : goal.invariant_of-self
 invariant_of-self g c =
     let m = g.S.Words.memory c.self.inside.store in
-    let f : Found c.args.name.now c.self.inside.seats.items c.in_ok-i.i c.remove-seat.result = record { at = c.in_ok-i.ensures.ok; is = sym c.remove-seat.ensures.value } in
+    let f : Found c.args.name.now c.self.inside.seats.items c.in_ok-i.i c.remove-seat.result =
+    record { at = c.in_ok-i.ensures.ok; is = sym c.remove-seat.ensures.value } in
     let has = all-at (HasSlot m) c.self.inside.seats.items c.in_ok-i.i c.remove-seat.result c.self.invariant.areas.slots (sits f) in
     let low = g.met.S.Store.numbered c.self.inside.store c.remove-seat.result.slot.area.0 has.opened in
     let l = c.bounce_for_death.ensures.leaves in
@@ -53,7 +57,8 @@ invariant_of-self g c =
 pub returns : goal.returns
 returns g c =
     let m = g.S.Words.memory c.self.inside.store in
-    let f : Found c.args.name.now c.self.inside.seats.items c.in_ok-i.i c.remove-seat.result = record { at = c.in_ok-i.ensures.ok; is = sym c.remove-seat.ensures.value } in
+    let f : Found c.args.name.now c.self.inside.seats.items c.in_ok-i.i c.remove-seat.result =
+    record { at = c.in_ok-i.ensures.ok; is = sym c.remove-seat.ensures.value } in
     let has = all-at (HasSlot m) c.self.inside.seats.items c.in_ok-i.i c.remove-seat.result c.self.invariant.areas.slots (sits f) in
     let low = g.met.S.Store.numbered c.self.inside.store c.remove-seat.result.slot.area.0 has.opened in
     let l = c.bounce_for_death.ensures.leaves in

@@ -33,7 +33,8 @@ returns-in-Ok g c =
     λ t m for.
     let own = seat-handle w c.self.view_is sits for.at in
     let letter = c.load_ack_letter-letter.ensures m for.message_is ∙ ap (λ h. load_ack_letter h m c.args.n) own in
-    loaded-sent c.args.self.now.desk c.args.i t (seen-desk w c.self.view_is) for.at m c.args.q.now c.args.n c.load_ack_letter-letter.result letter c.in-Ok.ensures.1 c.record_loaded_in.ensures
+    loaded-sent c.args.self.now.desk c.args.i t (seen-desk w c.self.view_is) for.at m c.args.q.now c.args.n c.load_ack_letter-letter.result letter
+    c.in-Ok.ensures.1 c.record_loaded_in.ensures
 
 pub returns-in-Err : goal.returns-in-Err
 returns-in-Err g c =
@@ -42,5 +43,6 @@ returns-in-Err g c =
     λ t m for.
     let own = seat-handle w c.self.view_is sits for.at in
     let letter = c.load_ack_letter-letter.ensures m for.message_is ∙ ap (λ h. load_ack_letter h m c.args.n) own in
-    loaded-failed c.args.self.now.desk c.args.i t (seen-desk w c.self.view_is) for.at m c.args.q.now c.args.n c.load_ack_letter-letter.result letter c.in-Err.ensures.0
+    loaded-failed c.args.self.now.desk c.args.i t (seen-desk w c.self.view_is) for.at m c.args.q.now c.args.n c.load_ack_letter-letter.result letter
+    c.in-Err.ensures.0
     (ap (λ (x : Shown). x.desk) c.in-Err.ensures.1) c.record_abandoned.ensures

@@ -22,7 +22,8 @@ at g c = record { inside = omega (arith, c.if-i-len.false, c.len.ensures.value);
 pub pages_in-requires : goal.pages_in-requires
 pages_in-requires g c =
     let m = g.S.Words.memory c.self.inside.store in
-    all-at (λ (a : MadeArea). IsOpen m a.area.0) c.self.inside.made.items c.args.i c.index-area.result.now c.self.invariant.areas.made_open (at g (goal.at.pages_in-requires g c).After-index-area)
+    all-at (λ (a : MadeArea). IsOpen m a.area.0) c.self.inside.made.items c.args.i c.index-area.result.now c.self.invariant.areas.made_open
+    (at g (goal.at.pages_in-requires g c).After-index-area)
 
 pub returns-clause-area : goal.returns-clause-area
 unfolding made_of

@@ -20,7 +20,8 @@ invariant_of-self g c =
     let ok = rw c.unwrap-area.ensures at c.open.ensures.ok in
     let low = rw c.unwrap-area.ensures at c.open.ensures.number in
     rw (ok.1, c.push.ensures.items) (
-    make-world c.self.invariant c.args.most (omega (arith, c.if-len-ge-MADE_AREAS.false)) c.if-number-gt-LAST_AREA.false c.unwrap-area.result.0 ok.0 low c.requires)
+    make-world c.self.invariant c.args.most (omega (arith, c.if-len-ge-MADE_AREAS.false)) c.if-number-gt-LAST_AREA.false c.unwrap-area.result.0 ok.0 low
+    c.requires)
 
 pub returns : goal.returns
 returns g c =

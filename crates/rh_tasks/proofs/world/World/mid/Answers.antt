@@ -15,7 +15,11 @@ pub returns-in_err-slot : goal.returns-in_err-slot
 unfolding mid
 returns-in_err-slot g c =
     let p = err_from_is_err_and c.from_residual.result c.from_residual.ensures.1 in
-    rw (p.1, p.2, ← c.self.view_is) (not-idle _ _ _ _ _ _ (idle_block c.args.anchor) (λ free. slot_mid free c.args.anchor c.args.offset c.args.by) same_slot done_reply c.in_err-slot.ensures.err, refl)
+    rw (p.1, p.2, ← c.self.view_is) (
+      not-idle _ _ _ _ _ _ (idle_block c.args.anchor) (λ free. slot_mid free c.args.anchor c.args.offset c.args.by) same_slot done_reply
+          c.in_err-slot.ensures.err,
+      refl,
+    )
 
 pub idle_slot-requires-clause-anchor : goal.idle_slot-requires-clause-anchor
 idle_slot-requires-clause-anchor g c = mid-anchor c.args.name.now c.args.anchor c.args.offset c.args.by c.requires
@@ -27,14 +31,22 @@ pub returns-in_err-mid : goal.returns-in_err-mid
 unfolding mid
 returns-in_err-mid g c =
     let p = err_from_is_err_and c.from_residual-in_err-mid.result c.from_residual-in_err-mid.ensures.1 in
-    let same = ap (λ m. shown_of m c.self.inside.seats.items c.self.inside.made.items (g.F.NamedFiles.contents c.self.inside.files) (kept_of c.self.inside.next c.self.inside.queue c.self.inside.scrap)) c.in_err-mid.ensures.err in
-    rw (p.1, p.2, ← c.self.view_is) (block-refused c.self.invariant c.in_ok-slot.ensures.ok.owns (λ free. slot_mid free c.args.anchor c.args.offset c.args.by) c.args.anchor c.in_ok-slot.ensures.ok.granted (rw (to_z-of_z w32 c.args.by c.ranges.by) at c.in_err-mid.ensures), same)
+    let same = ap (λ m. shown_of m c.self.inside.seats.items c.self.inside.made.items (g.F.NamedFiles.contents c.self.inside.files)
+    (kept_of c.self.inside.next c.self.inside.queue c.self.inside.scrap)) c.in_err-mid.ensures.err in
+    rw (p.1, p.2, ← c.self.view_is) (
+      block-refused c.self.invariant c.in_ok-slot.ensures.ok.owns (λ free. slot_mid free c.args.anchor c.args.offset c.args.by) c.args.anchor
+          c.in_ok-slot.ensures.ok.granted (rw (to_z-of_z w32 c.args.by c.ranges.by) at c.in_err-mid.ensures),
+      same,
+    )
 
 pub invariant_of-self-2 : goal.invariant_of-self-2
 unfolding mid
 invariant_of-self-2 g c =
-    block-world c.self.invariant c.in_ok-slot.ensures.ok.owns (λ free. slot_mid free c.args.anchor c.args.offset c.args.by) c.args.anchor c.in_ok-slot.ensures.ok.granted (rw (to_z-of_z w32 c.args.by c.ranges.by) at c.in_ok-mid.ensures) (command.Mid c.args.name.now c.args.anchor c.args.offset c.args.by) refl c.requires
+    block-world c.self.invariant c.in_ok-slot.ensures.ok.owns (λ free. slot_mid free c.args.anchor c.args.offset c.args.by) c.args.anchor
+    c.in_ok-slot.ensures.ok.granted (rw (to_z-of_z w32 c.args.by c.ranges.by) at c.in_ok-mid.ensures)
+    (command.Mid c.args.name.now c.args.anchor c.args.offset c.args.by) refl c.requires
 
 pub returns : goal.returns
 unfolding mid
-returns g c = rw (← c.self.view_is) (block-done c.self.invariant c.in_ok-slot.ensures.ok.owns (λ free. slot_mid free c.args.anchor c.args.offset c.args.by) c.args.anchor c.in_ok-slot.ensures.ok.granted (rw (to_z-of_z w32 c.args.by c.ranges.by) at c.in_ok-mid.ensures))
+returns g c = rw (← c.self.view_is) (block-done c.self.invariant c.in_ok-slot.ensures.ok.owns (λ free. slot_mid free c.args.anchor c.args.offset c.args.by)
+    c.args.anchor c.in_ok-slot.ensures.ok.granted (rw (to_z-of_z w32 c.args.by c.ranges.by) at c.in_ok-mid.ensures))

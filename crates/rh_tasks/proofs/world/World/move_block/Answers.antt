@@ -3,8 +3,10 @@ use Rattle.std.proofs.lemmas.Result.{err_from_is_err_and}
 use Rattle.std.specs.Prelude.{◌&&◌, ◌==◌}
 use Rattle.rh_defs.specs.Places.{overlap}
 use Rattle.rh_tasks.proofs.Slides.{seat-slot}
-use Rattle.rh_tasks.proofs.TransferBlocks.{place-is, place-none, seat-of, no-source, no-target, no-source-range, no-target-range, colliding, apart, held-part, moved, moved-keeps, first-false, second-false, both-true}
-use Rattle.rh_tasks.proofs.world.World.move_block.Goals.{then-not-inside-via-then-not-inside, then-not-inside-via-else-not-inside+then-not-inside-2, else-eq-via-then-eq+else-do_overlap, else-eq-via-else-eq}
+use Rattle.rh_tasks.proofs.TransferBlocks.{place-is, place-none, seat-of, no-source, no-target, no-source-range, no-target-range, colliding, apart, held-part}
+use Rattle.rh_tasks.proofs.TransferBlocks.{moved, moved-keeps, first-false, second-false, both-true}
+use Rattle.rh_tasks.proofs.world.World.move_block.Goals.{then-not-inside-via-then-not-inside, then-not-inside-via-else-not-inside+then-not-inside-2}
+use Rattle.rh_tasks.proofs.world.World.move_block.Goals.{else-eq-via-then-eq+else-do_overlap, else-eq-via-else-eq}
 use Rattle.rh_tasks.proofs.world.World.move_block.Goals as goal
 
 pub returns-in_err-i : goal.returns-in_err-i

@@ -20,12 +20,17 @@ returns-in_err-i g c =
 
 pub peek-code-requires-clause-live : goal.peek-code-requires-clause-live
 peek-code-requires-clause-live g c =
-    let f : Found c.args.name.now c.self.inside.seats.items c.in_ok-i.i c.index-seat.result.now = record { at = c.in_ok-i.ensures.ok; is = sym c.index-seat.ensures } in
+    let f : Found c.args.name.now c.self.inside.seats.items c.in_ok-i.i c.index-seat.result.now =
+    record { at = c.in_ok-i.ensures.ok; is = sym c.index-seat.ensures } in
     has-entry c.self.invariant (sits f)
 
 pub returns : goal.returns
 returns g c =
-    let f : Found c.args.name.now c.self.inside.seats.items c.in_ok-i.i c.index-seat.result.now = record { at = c.in_ok-i.ensures.ok; is = sym c.index-seat.ensures } in
+    let f : Found c.args.name.now c.self.inside.seats.items c.in_ok-i.i c.index-seat.result.now =
+    record { at = c.in_ok-i.ensures.ok; is = sym c.index-seat.ensures } in
     let post = is-post c.self.invariant in
     rw (← c.self.view_is)
-    (if-ok _ _ (next-is c.self.invariant f) (ap (λ (o : Option EventCode). let r : Granted (Option EventCode) = Ok o in r) (c.peek-code.ensures.code _ post), c.peek-code.ensures.message _ post))
+    (if-ok _ _ (next-is c.self.invariant f) (
+      ap (λ (o : Option EventCode). let r : Granted (Option EventCode) = Ok o in r) (c.peek-code.ensures.code _ post),
+      c.peek-code.ensures.message _ post,
+    ))

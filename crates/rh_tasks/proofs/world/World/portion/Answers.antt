@@ -17,7 +17,8 @@ returns-in_err-size-clause-err g c =
     let m = g.S.Words.memory c.self.inside.store in
     let seats = c.self.inside.seats.items in
     let s = c.index-seat.result.now in
-    rw (p.1, p.2, ← c.self.view_is) (λ t ti. rw (seat-is (seated m seats c.args.i t ti) s (sym c.index-seat.ensures)) (unsized c.args.x.now.anchor (slot_in m s.slot) c.in_err-size.ensures))
+    rw (p.1, p.2, ← c.self.view_is) (λ t ti. rw (seat-is (seated m seats c.args.i t ti) s (sym c.index-seat.ensures))
+    (unsized c.args.x.now.anchor (slot_in m s.slot) c.in_err-size.ensures))
 
 pub address-requires-clause-anchor : goal.address-requires-clause-anchor
 address-requires-clause-anchor g c =
@@ -44,7 +45,8 @@ next_address-address-requires g c =
     let has = all-at (HasSlot m) c.self.inside.seats.items c.args.i s c.self.invariant.areas.slots at in
     let z = sized c.in_ok-size.ensures in
     let there = stands has.spells.words.anchors z.block in
-    let same : c.unwrap-start.result ≡ flex_address (slot_in m s.slot) z.cut.before = (let e = sym c.unwrap-start.ensures ∙ c.address.ensures ∙ addressed z in cc) in
+    let same : c.unwrap-start.result ≡ flex_address (slot_in m s.slot) z.cut.before =
+    (let e = sym c.unwrap-start.ensures ∙ c.address.ensures ∙ addressed z in cc) in
     omega (arith, same, there.high, has.spells.words.within, g.met.S.Words.small c.self.inside.store s.slot.area.0)
 
 pub returns-clause-ok : goal.returns-clause-ok
@@ -54,7 +56,8 @@ returns-clause-ok g c =
     let seats = c.self.inside.seats.items in
     let s = c.index-seat.result.now in
     let z = sized c.in_ok-size.ensures in
-    let same : c.unwrap-start.result ≡ flex_address (slot_in m s.slot) z.cut.before = (let e = sym c.unwrap-start.ensures ∙ c.address.ensures ∙ addressed z in cc) in
+    let same : c.unwrap-start.result ≡ flex_address (slot_in m s.slot) z.cut.before =
+    (let e = sym c.unwrap-start.ensures ∙ c.address.ensures ∙ addressed z in cc) in
     rw (← c.self.view_is) (λ t ti. rw (seat-is (seated m seats c.args.i t ti) s (sym c.index-seat.ensures)) (record {
       source = z.cut;
       block = z.block;

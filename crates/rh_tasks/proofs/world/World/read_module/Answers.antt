@@ -38,7 +38,8 @@ returns-then-not-fits g c =
     let none = rw (← c.self.view_is) at c.in_ok-place.ensures.ok.1 in
     let short = beyond _ _ _ c.fits.ensures c.if-not-fits.true in
     rw (← c.self.view_is)
-    (if-err _ _ (module-short c.self.invariant c.args.address none c.args.offset (length c.args.to.now) some.0 here (omega (arith, short, some.1.1))) (refl, refl))
+    (if-err _ _ (module-short c.self.invariant c.args.address none c.args.offset (length c.args.to.now) some.0 here (omega (arith, short, some.1.1)))
+    (refl, refl))
 
 pub read_bytes-requires-clause-block : goal.read_bytes-requires-clause-block
 read_bytes-requires-clause-block g c =
@@ -50,7 +51,8 @@ overflow_cast-result g c =
     let m = g.S.Words.memory c.self.inside.store in
     let some = sized-bytes c.in_ok-place.place (heap_in m the_module) c.in_ok-size.size c.in_ok-size.ensures in
     let is = c.self.invariant.areas.module_area in
-    let room = block_within m the_module c.in_ok-place.place c.in_ok-size.size is (record { bytes = some.0; found = some.1.0; room = omega (arith, some.1.1) }) in
+    let room = block_within m the_module c.in_ok-place.place c.in_ok-size.size is
+    (record { bytes = some.0; found = some.1.0; room = omega (arith, some.1.1) }) in
     omega (arith, room, g.met.S.Words.small c.self.inside.store 1)
 
 pub returns : goal.returns
@@ -62,5 +64,7 @@ returns g c =
     let inside = c.fits.ensures.0 c.if-not-fits.false in
     let n = length c.args.to.now in
     rw (← c.self.view_is)
-    (if-ok _ _ (module-given c.self.invariant c.args.address none c.args.offset n some.0 here (omega (arith, inside, some.1.1)))
-    (ap (λ (k : ℕ). let r : Granted ℕ = Ok k in r) (sym some.1.1), c.read_bytes.ensures some.0 some.1.0 ∙ part-drop some.0 c.args.offset n (omega (arith, inside, some.1.1))))
+    (if-ok _ _ (module-given c.self.invariant c.args.address none c.args.offset n some.0 here (omega (arith, inside, some.1.1))) (
+      ap (λ (k : ℕ). let r : Granted ℕ = Ok k in r) (sym some.1.1),
+      c.read_bytes.ensures some.0 some.1.0 ∙ part-drop some.0 c.args.offset n (omega (arith, inside, some.1.1)),
+    ))

@@ -22,7 +22,8 @@ invariant_of-self g c =
     } in
     let o = all-at (λ (x : MadeArea). IsOpen m x.area.0) c.self.inside.made.items c.in_ok-i.i a c.self.invariant.areas.made_open h.sits in
     rw (c.close.ensures, c.remove-made.ensures.items)
-    (remove-world c.self.invariant c.args.number a h (g.met.S.Paged.whole c.self.inside.store a.area.0) (g.met.S.Store.numbered c.self.inside.store a.area.0 o) c.requires)
+    (remove-world c.self.invariant c.args.number a h (g.met.S.Paged.whole c.self.inside.store a.area.0)
+    (g.met.S.Store.numbered c.self.inside.store a.area.0 o) c.requires)
 
 pub returns : goal.returns
 returns g c =

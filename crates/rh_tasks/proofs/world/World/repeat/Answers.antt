@@ -21,7 +21,8 @@ returns-in_err-letter g c =
     let p = err_from_is_err_and c.from_residual-in_err-letter.result c.from_residual-in_err-letter.ensures.1 in
     rw (p.1, p.2, ← c.self.view_is) (
       repeat-nothing c.self.invariant f (sym c.in_err-letter.ensures),
-      same-shown c.self.inside.made.items (g.F.NamedFiles.contents c.self.inside.files) c.self.inside.next c.self.inside.scrap refl (seat-kept c.self.invariant f) refl,
+      same-shown c.self.inside.made.items (g.F.NamedFiles.contents c.self.inside.files) c.self.inside.next c.self.inside.scrap refl
+          (seat-kept c.self.invariant f) refl,
     )
 
 pub send-requires-clause-from : goal.send-requires-clause-from
@@ -38,7 +39,8 @@ returns-in_err-my_ref g c =
     let e = c.in_err-my_ref.ensures in
     rw (p.1, p.2, ← c.self.view_is) (
       repeat-refused c.self.invariant f c.in_ok-letter.letter (sym c.in_ok-letter.ensures) e.answer,
-      same-shown c.self.inside.made.items (g.F.NamedFiles.contents c.self.inside.files) c.self.inside.next c.self.inside.scrap e.err.0 (ap (set c.self.inside.seats.items c.in_ok-i.i) e.err.1.1 ∙ seat-kept c.self.invariant f) e.err.1.0,
+      same-shown c.self.inside.made.items (g.F.NamedFiles.contents c.self.inside.files) c.self.inside.next c.self.inside.scrap e.err.0
+          (ap (set c.self.inside.seats.items c.in_ok-i.i) e.err.1.1 ∙ seat-kept c.self.invariant f) e.err.1.0,
     )
 
 pub invariant_of-self-2 : goal.invariant_of-self-2
@@ -53,4 +55,5 @@ returns g c =
     let s = c.index_mut-seat.result.now in
     let f : Found c.args.name.now c.self.inside.seats.items c.in_ok-i.i s = record { at = c.in_ok-i.ensures.ok; is = sym c.index_mut-seat.ensures.value } in
     let e = c.in_ok-my_ref.ensures in
-    rw (← c.self.view_is, e.ok) (repeat-done c.self.invariant f c.in_ok-letter.letter (sym c.in_ok-letter.ensures) c.in_ok-my_ref.my_ref e.answer e.leaves c.requires)
+    rw (← c.self.view_is, e.ok) (repeat-done c.self.invariant f c.in_ok-letter.letter (sym c.in_ok-letter.ensures) c.in_ok-my_ref.my_ref e.answer e.leaves
+    c.requires)

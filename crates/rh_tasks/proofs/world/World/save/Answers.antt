@@ -14,7 +14,8 @@ idle_source-requires-clause-anchor g c = save-anchor c.args.name.now c.args.anch
 pub returns-in_err-source : goal.returns-in_err-source
 returns-in_err-source g c =
     let p = err_from_is_err_and c.from_residual.result c.from_residual.ensures.1 in
-    rw (p.1, p.2, ← c.self.view_is) (save-stopped c.self.invariant c.args.anchor c.args.to.now c.args.leaf.now c.args.name.now c.in_err-source.ensures.err, refl)
+    rw (p.1, p.2, ← c.self.view_is)
+    (save-stopped c.self.invariant c.args.anchor c.args.to.now c.args.leaf.now c.args.name.now c.in_err-source.ensures.err, refl)
 
 pub returns-in_err-recipient : goal.returns-in_err-recipient
 returns-in_err-recipient g c =
@@ -48,7 +49,8 @@ returns-in_err-my_ref g c =
     let x = rw (c.save_letter-letter.ensures) at c.in_err-my_ref.ensures in
     rw (p.1, p.2, ← c.self.view_is) (
       save-refused c.self.invariant c.args.anchor c.args.to.now c.args.leaf.now f c.in_ok-source.source.size given r.found r.is x.answer,
-      same-shown c.self.inside.made.items (g.F.NamedFiles.contents c.self.inside.files) c.self.inside.next c.self.inside.scrap x.err.0 (ap (set c.self.inside.seats.items c.in_ok-source.source.place) x.err.1.1 ∙ seat-kept c.self.invariant f) x.err.1.0,
+      same-shown c.self.inside.made.items (g.F.NamedFiles.contents c.self.inside.files) c.self.inside.next c.self.inside.scrap x.err.0
+          (ap (set c.self.inside.seats.items c.in_ok-source.source.place) x.err.1.1 ∙ seat-kept c.self.invariant f) x.err.1.0,
     )
 
 pub offered-requires : goal.offered-requires
@@ -68,7 +70,8 @@ invariant_of-self-2 g c =
     let given = again-given (source_block c.args.anchor) (g.S.Words.memory c.self.inside.store) e.found f e.given in
     let r = c.in_ok-recipient.ensures.ok in
     let x = rw (c.save_letter-letter.ensures) at c.in_ok-my_ref.ensures in
-    rw (c.offered.ensures, x.ok) (save-world c.self.invariant c.args.anchor c.args.to.now c.args.leaf.now f c.in_ok-source.source.size given r.found r.is c.in_ok-my_ref.my_ref x.answer x.leaves c.requires)
+    rw (c.offered.ensures, x.ok) (save-world c.self.invariant c.args.anchor c.args.to.now c.args.leaf.now f c.in_ok-source.source.size given r.found r.is
+    c.in_ok-my_ref.my_ref x.answer x.leaves c.requires)
 
 pub returns : goal.returns
 returns g c =
@@ -78,4 +81,5 @@ returns g c =
     let given = again-given (source_block c.args.anchor) (g.S.Words.memory c.self.inside.store) e.found f e.given in
     let r = c.in_ok-recipient.ensures.ok in
     let x = rw (c.save_letter-letter.ensures) at c.in_ok-my_ref.ensures in
-    rw (← c.self.view_is, c.offered.ensures, x.ok) (save-done c.self.invariant c.args.anchor c.args.to.now c.args.leaf.now f c.in_ok-source.source.size given r.found r.is c.in_ok-my_ref.my_ref x.answer x.leaves c.requires)
+    rw (← c.self.view_is, c.offered.ensures, x.ok) (save-done c.self.invariant c.args.anchor c.args.to.now c.args.leaf.now f c.in_ok-source.source.size given
+    r.found r.is c.in_ok-my_ref.my_ref x.answer x.leaves c.requires)

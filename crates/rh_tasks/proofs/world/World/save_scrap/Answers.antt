@@ -12,7 +12,8 @@ use Rattle.rh_tasks.specs.View.{task_of}
 use Rattle.rh_tasks.proofs.Lists.{Sits}
 use Rattle.rh_tasks.proofs.Buffers.{sits-there, seat-there, seat-handle}
 use Rattle.rh_tasks.proofs.Scraps.{seen-desk, seen-slot, seen-busy, seen-pages, seen-free, seen-shortage}
-use Rattle.rh_tasks.proofs.ScrapTransfers.{save-missing, save-busy, save-unsendable, save-full, save-short, sends-ok, first-at, first-sends, second-inside, second-room, second-block, third-inside, save-all}
+use Rattle.rh_tasks.proofs.ScrapTransfers.{save-missing, save-busy, save-unsendable, save-full, save-short, sends-ok, first-at, first-sends, second-inside}
+use Rattle.rh_tasks.proofs.ScrapTransfers.{second-room, second-block, third-inside, save-all}
 use Rattle.rh_tasks.proofs.world.World.save_scrap.Goals as goal
 
 pub returns-in_err-size : goal.returns-in_err-size
@@ -44,8 +45,12 @@ returns-in_err-more g c =
     let given = ap (slot_size c.args.x.now.anchor) (sym (seen-slot w c.self.view_is sits for.at)) ∙ sym c.in_ok-size.ensures in
     let idle = seen-busy w c.self.view_is ∙ sym c.if-is_some.ensures in
     let letter : Letter = c.load_letter-letter.result in
-    let same : letter ≡ load_letter t.handle m c.in_ok-size.size = c.load_letter-letter.ensures m for.message_is ∙ ap (λ h. load_letter h m c.in_ok-size.size) own in
-    (save-unsendable d t m c.args.x.now c.in_ok-size.size given idle (ap (λ l. post_send_pages l d.post) (sym same) ∙ seen-pages w c.self.view_is letter c.in_err-more.ensures), refl))
+    let same : letter ≡ load_letter t.handle m c.in_ok-size.size =
+    c.load_letter-letter.ensures m for.message_is ∙ ap (λ h. load_letter h m c.in_ok-size.size) own in (
+      save-unsendable d t m c.args.x.now c.in_ok-size.size given idle (ap (λ l. post_send_pages l d.post) (sym same) ∙ seen-pages w c.self.view_is letter
+          c.in_err-more.ensures),
+      refl,
+    ))
 
 pub returns-then-free-wider : goal.returns-then-free-wider
 returns-then-free-wider g c =
@@ -57,11 +62,20 @@ returns-then-free-wider g c =
     let given = ap (slot_size c.args.x.now.anchor) (sym (seen-slot w c.self.view_is sits for.at)) ∙ sym c.in_ok-size.ensures in
     let idle = seen-busy w c.self.view_is ∙ sym c.if-is_some.ensures in
     let letter : Letter = c.load_letter-letter.result in
-    let same : letter ≡ load_letter t.handle m c.in_ok-size.size = c.load_letter-letter.ensures m for.message_is ∙ ap (λ h. load_letter h m c.in_ok-size.size) own in
+    let same : letter ≡ load_letter t.handle m c.in_ok-size.size =
+    c.load_letter-letter.ensures m for.message_is ∙ ap (λ h. load_letter h m c.in_ok-size.size) own in
     let needs = seen-pages w c.self.view_is letter c.in_ok-more.ensures in
-    let short : c.saturating_sub-wider.result ≡ scrap_shortage c.in_ok-size.size d = omega (arith, c.saturating_sub-wider.ensures, c.pages_for.ensures, c.len.ensures, seen-shortage w c.self.view_is c.in_ok-size.size) in
-    let free : c.free_pages-free.result ≡ free_pages d = c.free_pages-free.ensures ∙ sym (seen-free w c.self.view_is) in
-    (save-full d t m c.args.x.now c.in_ok-size.size given idle c.in_ok-more.more (ap (λ l. post_send_pages l d.post) (sym same) ∙ needs) (omega (arith, short, free, c.if-free-wider.true)), refl)
+    let short : c.saturating_sub-wider.result ≡ scrap_shortage c.in_ok-size.size d =
+    omega (arith, c.saturating_sub-wider.ensures, c.pages_for.ensures, c.len.ensures, seen-shortage w c.self.view_is c.in_ok-size.size) in
+    let free : c.free_pages-free.result ≡ free_pages d = c.free_pages-free.ensures ∙ sym (seen-free w c.self.view_is) in (
+      save-full d t m c.args.x.now c.in_ok-size.size given idle c.in_ok-more.more (ap (λ l. post_send_pages l d.post) (sym same) ∙ needs) (omega (
+        arith,
+        short,
+        free,
+        c.if-free-wider.true,
+      )),
+      refl,
+    )
 
 pub returns-then-free-wider-2 : goal.returns-then-free-wider-2
 returns-then-free-wider-2 g c =
@@ -73,12 +87,17 @@ returns-then-free-wider-2 g c =
     let given = ap (slot_size c.args.x.now.anchor) (sym (seen-slot w c.self.view_is sits for.at)) ∙ sym c.in_ok-size.ensures in
     let idle = seen-busy w c.self.view_is ∙ sym c.if-is_some.ensures in
     let letter : Letter = c.load_letter-letter.result in
-    let same : letter ≡ load_letter t.handle m c.in_ok-size.size = c.load_letter-letter.ensures m for.message_is ∙ ap (λ h. load_letter h m c.in_ok-size.size) own in
+    let same : letter ≡ load_letter t.handle m c.in_ok-size.size =
+    c.load_letter-letter.ensures m for.message_is ∙ ap (λ h. load_letter h m c.in_ok-size.size) own in
     let needs = seen-pages w c.self.view_is letter c.in_ok-more.ensures in
-    let short : c.saturating_sub-wider.result ≡ scrap_shortage c.in_ok-size.size d = omega (arith, c.saturating_sub-wider.ensures, c.pages_for.ensures, c.len.ensures, seen-shortage w c.self.view_is c.in_ok-size.size) in
+    let short : c.saturating_sub-wider.result ≡ scrap_shortage c.in_ok-size.size d =
+    omega (arith, c.saturating_sub-wider.ensures, c.pages_for.ensures, c.len.ensures, seen-shortage w c.self.view_is c.in_ok-size.size) in
     let free : c.free_pages-free.result ≡ free_pages d = c.free_pages-free.ensures ∙ sym (seen-free w c.self.view_is) in
-    let room : scrap_shortage c.in_ok-size.size d ≤ free_pages d = omega (arith, short, free, c.if-free-wider.false) in
-    (save-short d t m c.args.x.now c.in_ok-size.size given idle c.in_ok-more.more (ap (λ l. post_send_pages l d.post) (sym same) ∙ needs) (seen-desk w c.self.view_is) room (omega (arith, short, free, c.if-free-wider-2.true)), refl)
+    let room : scrap_shortage c.in_ok-size.size d ≤ free_pages d = omega (arith, short, free, c.if-free-wider.false) in (
+      save-short d t m c.args.x.now c.in_ok-size.size given idle c.in_ok-more.more (ap (λ l. post_send_pages l d.post) (sym same) ∙ needs) (seen-desk w
+          c.self.view_is) room (omega (arith, short, free, c.if-free-wider-2.true)),
+      refl,
+    )
 
 pub send_from-requires : goal.send_from-requires
 send_from-requires g c =
@@ -92,11 +111,17 @@ send_from-requires g c =
     let given = ap (slot_size c.args.x.now.anchor) (sym (seen-slot w c.self.view_is sits at)) ∙ sym c.in_ok-size.ensures in
     let letter : Letter = c.load_letter-letter.result in
     let same : letter ≡ load_letter t.handle m c.in_ok-size.size = c.load_letter-letter.ensures m refl ∙ ap (λ h. load_letter h m c.in_ok-size.size) own in
-    let short : c.saturating_sub-wider.result ≡ scrap_shortage c.in_ok-size.size d = omega (arith, c.saturating_sub-wider.ensures, c.pages_for.ensures, c.len.ensures, seen-shortage w c.self.view_is c.in_ok-size.size) in
+    let short : c.saturating_sub-wider.result ≡ scrap_shortage c.in_ok-size.size d =
+    omega (arith, c.saturating_sub-wider.ensures, c.pages_for.ensures, c.len.ensures, seen-shortage w c.self.view_is c.in_ok-size.size) in
     let free : c.free_pages-free.result ≡ free_pages d = c.free_pages-free.ensures ∙ sym (seen-free w c.self.view_is) in
     let room : scrap_shortage c.in_ok-size.size d ≤ free_pages d = omega (arith, short, free, c.if-free-wider.false) in
-    let widened = c.widen_scrap.ensures ∙ ap (λ k. wider k d) short in
-    (t, (first-at d c.args.i t (seen-desk w c.self.view_is) at m c.args.x.now c.in_ok-size.size given letter same widened room, ap (λ (l : Letter). l.from) same))
+    let widened = c.widen_scrap.ensures ∙ ap (λ k. wider k d) short in (
+      t,
+      (
+        first-at d c.args.i t (seen-desk w c.self.view_is) at m c.args.x.now c.in_ok-size.size given letter same widened room,
+        ap (λ (l : Letter). l.from) same,
+      ),
+    )
 
 pub unwrap-load-requires : goal.unwrap-load-requires
 unwrap-load-requires g c =
@@ -112,12 +137,14 @@ unwrap-load-requires g c =
     let same : letter ≡ load_letter t.handle m c.in_ok-size.size = c.load_letter-letter.ensures m refl ∙ ap (λ h. load_letter h m c.in_ok-size.size) own in
     let idle = seen-busy w c.self.view_is ∙ sym c.if-is_some.ensures in
     let needs = seen-pages w c.self.view_is letter c.in_ok-more.ensures in
-    let short : c.saturating_sub-wider.result ≡ scrap_shortage c.in_ok-size.size d = omega (arith, c.saturating_sub-wider.ensures, c.pages_for.ensures, c.len.ensures, seen-shortage w c.self.view_is c.in_ok-size.size) in
+    let short : c.saturating_sub-wider.result ≡ scrap_shortage c.in_ok-size.size d =
+    omega (arith, c.saturating_sub-wider.ensures, c.pages_for.ensures, c.len.ensures, seen-shortage w c.self.view_is c.in_ok-size.size) in
     let free : c.free_pages-free.result ≡ free_pages d = c.free_pages-free.ensures ∙ sym (seen-free w c.self.view_is) in
     let room : scrap_shortage c.in_ok-size.size d ≤ free_pages d = omega (arith, short, free, c.if-free-wider.false) in
     let widened = c.widen_scrap.ensures ∙ ap (λ k. wider k d) short in
     sends-ok letter c.widen_scrap.new.self c.send_from.new.self c.send_from.result c.send_from.ensures
-    (first-sends d c.args.i t (seen-desk w c.self.view_is) at m c.args.x.now c.in_ok-size.size given letter same widened room idle c.in_ok-more.more needs (omega (arith, short, free, c.if-free-wider-2.false)))
+    (first-sends d c.args.i t (seen-desk w c.self.view_is) at m c.args.x.now c.in_ok-size.size given letter same widened room idle c.in_ok-more.more needs
+    (omega (arith, short, free, c.if-free-wider-2.false)))
 
 pub fill_scrap-requires-clause-place : goal.fill_scrap-requires-clause-place
 fill_scrap-requires-clause-place g c =
@@ -131,7 +158,8 @@ fill_scrap-requires-clause-place g c =
     let given = ap (slot_size c.args.x.now.anchor) (sym (seen-slot w c.self.view_is sits at)) ∙ sym c.in_ok-size.ensures in
     let letter : Letter = c.load_letter-letter.result in
     let same : letter ≡ load_letter t.handle m c.in_ok-size.size = c.load_letter-letter.ensures m refl ∙ ap (λ h. load_letter h m c.in_ok-size.size) own in
-    let short : c.saturating_sub-wider.result ≡ scrap_shortage c.in_ok-size.size d = omega (arith, c.saturating_sub-wider.ensures, c.pages_for.ensures, c.len.ensures, seen-shortage w c.self.view_is c.in_ok-size.size) in
+    let short : c.saturating_sub-wider.result ≡ scrap_shortage c.in_ok-size.size d =
+    omega (arith, c.saturating_sub-wider.ensures, c.pages_for.ensures, c.len.ensures, seen-shortage w c.self.view_is c.in_ok-size.size) in
     let free : c.free_pages-free.result ≡ free_pages d = c.free_pages-free.ensures ∙ sym (seen-free w c.self.view_is) in
     let room : scrap_shortage c.in_ok-size.size d ≤ free_pages d = omega (arith, short, free, c.if-free-wider.false) in
     let widened = c.widen_scrap.ensures ∙ ap (λ k. wider k d) short in
@@ -150,7 +178,8 @@ fill_scrap-requires-clause-room g c =
     let given = ap (slot_size c.args.x.now.anchor) (sym (seen-slot w c.self.view_is sits at)) ∙ sym c.in_ok-size.ensures in
     let letter : Letter = c.load_letter-letter.result in
     let same : letter ≡ load_letter t.handle m c.in_ok-size.size = c.load_letter-letter.ensures m refl ∙ ap (λ h. load_letter h m c.in_ok-size.size) own in
-    let short : c.saturating_sub-wider.result ≡ scrap_shortage c.in_ok-size.size d = omega (arith, c.saturating_sub-wider.ensures, c.pages_for.ensures, c.len.ensures, seen-shortage w c.self.view_is c.in_ok-size.size) in
+    let short : c.saturating_sub-wider.result ≡ scrap_shortage c.in_ok-size.size d =
+    omega (arith, c.saturating_sub-wider.ensures, c.pages_for.ensures, c.len.ensures, seen-shortage w c.self.view_is c.in_ok-size.size) in
     let free : c.free_pages-free.result ≡ free_pages d = c.free_pages-free.ensures ∙ sym (seen-free w c.self.view_is) in
     let room : scrap_shortage c.in_ok-size.size d ≤ free_pages d = omega (arith, short, free, c.if-free-wider.false) in
     let widened = c.widen_scrap.ensures ∙ ap (λ k. wider k d) short in
@@ -169,7 +198,8 @@ fill_scrap-requires-clause-block g c =
     let given = ap (slot_size c.args.x.now.anchor) (sym (seen-slot w c.self.view_is sits at)) ∙ sym c.in_ok-size.ensures in
     let letter : Letter = c.load_letter-letter.result in
     let same : letter ≡ load_letter t.handle m c.in_ok-size.size = c.load_letter-letter.ensures m refl ∙ ap (λ h. load_letter h m c.in_ok-size.size) own in
-    let short : c.saturating_sub-wider.result ≡ scrap_shortage c.in_ok-size.size d = omega (arith, c.saturating_sub-wider.ensures, c.pages_for.ensures, c.len.ensures, seen-shortage w c.self.view_is c.in_ok-size.size) in
+    let short : c.saturating_sub-wider.result ≡ scrap_shortage c.in_ok-size.size d =
+    omega (arith, c.saturating_sub-wider.ensures, c.pages_for.ensures, c.len.ensures, seen-shortage w c.self.view_is c.in_ok-size.size) in
     let free : c.free_pages-free.result ≡ free_pages d = c.free_pages-free.ensures ∙ sym (seen-free w c.self.view_is) in
     let room : scrap_shortage c.in_ok-size.size d ≤ free_pages d = omega (arith, short, free, c.if-free-wider.false) in
     let widened = c.widen_scrap.ensures ∙ ap (λ k. wider k d) short in
@@ -188,12 +218,14 @@ record_saved-requires g c =
     let given = ap (slot_size c.args.x.now.anchor) (sym (seen-slot w c.self.view_is sits at)) ∙ sym c.in_ok-size.ensures in
     let letter : Letter = c.load_letter-letter.result in
     let same : letter ≡ load_letter t.handle m c.in_ok-size.size = c.load_letter-letter.ensures m refl ∙ ap (λ h. load_letter h m c.in_ok-size.size) own in
-    let short : c.saturating_sub-wider.result ≡ scrap_shortage c.in_ok-size.size d = omega (arith, c.saturating_sub-wider.ensures, c.pages_for.ensures, c.len.ensures, seen-shortage w c.self.view_is c.in_ok-size.size) in
+    let short : c.saturating_sub-wider.result ≡ scrap_shortage c.in_ok-size.size d =
+    omega (arith, c.saturating_sub-wider.ensures, c.pages_for.ensures, c.len.ensures, seen-shortage w c.self.view_is c.in_ok-size.size) in
     let free : c.free_pages-free.result ≡ free_pages d = c.free_pages-free.ensures ∙ sym (seen-free w c.self.view_is) in
     let room : scrap_shortage c.in_ok-size.size d ≤ free_pages d = omega (arith, short, free, c.if-free-wider.false) in
     let widened = c.widen_scrap.ensures ∙ ap (λ k. wider k d) short in
     let sent = rw c.unwrap-load.ensures at c.send_from.ensures in
-    third-inside d c.args.i t (seen-desk w c.self.view_is) at m c.args.x.now c.in_ok-size.size given letter same widened room sent.1 c.unwrap-load.result c.fill_scrap.ensures
+    third-inside d c.args.i t (seen-desk w c.self.view_is) at m c.args.x.now c.in_ok-size.size given letter same widened room sent.1 c.unwrap-load.result
+    c.fill_scrap.ensures
 
 pub returns : goal.returns
 returns g c =
@@ -205,12 +237,15 @@ returns g c =
     let own = seat-handle w c.self.view_is sits at in
     let given = ap (slot_size c.args.x.now.anchor) (sym (seen-slot w c.self.view_is sits at)) ∙ sym c.in_ok-size.ensures in
     let letter : Letter = c.load_letter-letter.result in
-    let same : letter ≡ load_letter t.handle m c.in_ok-size.size = c.load_letter-letter.ensures m for.message_is ∙ ap (λ h. load_letter h m c.in_ok-size.size) own in
+    let same : letter ≡ load_letter t.handle m c.in_ok-size.size =
+    c.load_letter-letter.ensures m for.message_is ∙ ap (λ h. load_letter h m c.in_ok-size.size) own in
     let idle = seen-busy w c.self.view_is ∙ sym c.if-is_some.ensures in
     let needs = seen-pages w c.self.view_is letter c.in_ok-more.ensures in
-    let short : c.saturating_sub-wider.result ≡ scrap_shortage c.in_ok-size.size d = omega (arith, c.saturating_sub-wider.ensures, c.pages_for.ensures, c.len.ensures, seen-shortage w c.self.view_is c.in_ok-size.size) in
+    let short : c.saturating_sub-wider.result ≡ scrap_shortage c.in_ok-size.size d =
+    omega (arith, c.saturating_sub-wider.ensures, c.pages_for.ensures, c.len.ensures, seen-shortage w c.self.view_is c.in_ok-size.size) in
     let free : c.free_pages-free.result ≡ free_pages d = c.free_pages-free.ensures ∙ sym (seen-free w c.self.view_is) in
     let room : scrap_shortage c.in_ok-size.size d ≤ free_pages d = omega (arith, short, free, c.if-free-wider.false) in
     let widened = c.widen_scrap.ensures ∙ ap (λ k. wider k d) short in
     let sent = rw c.unwrap-load.ensures at c.send_from.ensures in
-    save-all d c.args.i t (seen-desk w c.self.view_is) at m c.args.x.now c.in_ok-size.size given letter same widened room sent.1 c.unwrap-load.result c.fill_scrap.ensures sent.0 idle c.in_ok-more.more needs c.record_saved.ensures
+    save-all d c.args.i t (seen-desk w c.self.view_is) at m c.args.x.now c.in_ok-size.size given letter same widened room sent.1 c.unwrap-load.result
+    c.fill_scrap.ensures sent.0 idle c.in_ok-more.more needs c.record_saved.ensures

@@ -24,7 +24,8 @@ pub segment_items-requires-clause-small : goal.segment_items-requires-clause-sma
 segment_items-requires-clause-small g c =
     let is = owned c.self.invariant c.in_ok-slot.ensures.ok in
     rw (c.deref.ensures.0, c.segments_from-segments.ensures)
-    (small_from c.args.place (slot_in (g.S.Words.memory c.self.inside.store) c.in_ok-slot.slot).heap (omega (arith, is.spells.words.heap.heap.fits, small-end is (g.met.S.Words.small c.self.inside.store c.in_ok-slot.slot.area.0))))
+    (small_from c.args.place (slot_in (g.S.Words.memory c.self.inside.store) c.in_ok-slot.slot).heap
+    (omega (arith, is.spells.words.heap.heap.fits, small-end is (g.met.S.Words.small c.self.inside.store c.in_ok-slot.slot.area.0))))
 
 pub returns-clause-ok : goal.returns-clause-ok
 unfolding segments_of

@@ -33,11 +33,16 @@ returns-in_err-read g c =
 
 pub overflow_cast-result : goal.overflow_cast-result
 overflow_cast-result g c =
-    omega (arith, small-size (owned c.self.invariant c.in_ok-slot.ensures.ok) (g.met.S.Words.small c.self.inside.store c.in_ok-slot.slot.area.0) c.args.anchor c.in_ok-size.size c.in_ok-size.ensures)
+    omega (
+      arith,
+      small-size (owned c.self.invariant c.in_ok-slot.ensures.ok) (g.met.S.Words.small c.self.inside.store c.in_ok-slot.slot.area.0) c.args.anchor
+          c.in_ok-size.size c.in_ok-size.ensures,
+    )
 
 pub returns : goal.returns
 unfolding shown_at
 returns g c =
     rw (← c.self.view_is)
     (if-ok _ _ (of-slot c.self.invariant c.in_ok-slot.ensures.ok (shown_of_slot c.args.anchor c.args.offset (length c.args.to.now))
-    ∙ read-done c.args.anchor c.args.offset _ c.in_ok-size.size _ c.args.to.now c.read.new.to c.in_ok-size.ensures c.in_ok-read.ensures.answer c.in_ok-read.ensures.bytes) (refl, refl))
+    ∙ read-done c.args.anchor c.args.offset _ c.in_ok-size.size _ c.args.to.now c.read.new.to c.in_ok-size.ensures c.in_ok-read.ensures.answer
+    c.in_ok-read.ensures.bytes) (refl, refl))

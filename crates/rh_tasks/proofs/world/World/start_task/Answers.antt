@@ -7,12 +7,14 @@ use Rattle.rh_tasks.proofs.world.World.start_task.Goals as goal
 
 pub returns-then-is_name_in_use : goal.returns-then-is_name_in_use
 returns-then-is_name_in_use g c =
-    rw (← c.self.view_is) (name-in-use c.args.name.now c.args.buffer c.args.manner c.self.invariant (sym c.is_name_in_use.ensures ∙ c.if-is_name_in_use.true), refl)
+    rw (← c.self.view_is)
+    (name-in-use c.args.name.now c.args.buffer c.args.manner c.self.invariant (sym c.is_name_in_use.ensures ∙ c.if-is_name_in_use.true), refl)
 
 pub returns-then-len-ge-MAX_TASKS : goal.returns-then-len-ge-MAX_TASKS
 returns-then-len-ge-MAX_TASKS g c =
     rw (← c.self.view_is) (
-      too-many c.args.name.now c.args.buffer c.args.manner c.self.invariant (sym c.is_name_in_use.ensures ∙ c.if-is_name_in_use.false) (omega (arith, c.if-len-ge-MAX_TASKS.true)),
+      too-many c.args.name.now c.args.buffer c.args.manner c.self.invariant (sym c.is_name_in_use.ensures ∙ c.if-is_name_in_use.false)
+          (omega (arith, c.if-len-ge-MAX_TASKS.true)),
       refl,
     )
 
@@ -26,12 +28,14 @@ returns-then-self-from g c =
 
 pub start-requires : goal.start-requires
 start-requires g c =
-    can-open c.args.name.now c.args.buffer c.args.manner c.self.invariant (sym c.is_name_in_use.ensures ∙ c.if-is_name_in_use.false) (omega (arith, c.if-len-ge-MAX_TASKS.false))
+    can-open c.args.name.now c.args.buffer c.args.manner c.self.invariant (sym c.is_name_in_use.ensures ∙ c.if-is_name_in_use.false)
+    (omega (arith, c.if-len-ge-MAX_TASKS.false))
 
 pub returns-in_err-slot : goal.returns-in_err-slot
 returns-in_err-slot g c =
     let p = err_from_is_err_and c.from_residual.result c.from_residual.ensures.1 in
-    let same = ap (λ m. shown_of m c.self.inside.seats.items c.self.inside.made.items (g.F.NamedFiles.contents c.self.inside.files) (kept_of c.self.inside.next c.self.inside.queue c.self.inside.scrap)) c.in_err-slot.ensures.err in
+    let same = ap (λ m. shown_of m c.self.inside.seats.items c.self.inside.made.items (g.F.NamedFiles.contents c.self.inside.files)
+    (kept_of c.self.inside.next c.self.inside.queue c.self.inside.scrap)) c.in_err-slot.ensures.err in
     rw (p.1, p.2, ← c.self.view_is) (
       no-room c.args.name.now c.args.buffer c.args.manner c.self.invariant (sym c.is_name_in_use.ensures ∙ c.if-is_name_in_use.false)
           (omega (arith, c.if-len-ge-MAX_TASKS.false)) (omega (arith, c.if-self-from.false, c.from.ensures)) c.in_err-slot.ensures.answer,

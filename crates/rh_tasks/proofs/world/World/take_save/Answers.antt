@@ -25,4 +25,5 @@ pub returns-in-None : goal.returns-in-None
 returns-in-None g c =
     let at = seat-sits _ _ _ _ _ c.self.view_is c.requires c.index-seat.ensures in
     λ t m here. subst (λ (x : Shown). Ends c.args.self.now.desk t m outcome.Ignored x.desk) (sym (c.in-None.ensures t m here).1)
-    (ends-none c.args.self.now.desk t m (takes-is c.self.invariant at c.self.view_is t here.at c.is_deaf.ensures c.if-not-on_save.ensures) (c.in-None.ensures t m here).0)
+    (ends-none c.args.self.now.desk t m (takes-is c.self.invariant at c.self.view_is t here.at c.is_deaf.ensures c.if-not-on_save.ensures)
+    (c.in-None.ensures t m here).0)

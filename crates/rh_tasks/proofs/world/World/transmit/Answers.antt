@@ -13,7 +13,8 @@ use Rattle.rh_tasks.proofs.SeatRecords.{sits-in}
 use Rattle.rh_tasks.proofs.Places.{member-at, mapped-at}
 use Rattle.rh_tasks.proofs.Fetches.{seated, seat-is}
 use Rattle.rh_tasks.proofs.Writes.{alike-length, alike-at, seen}
-use Rattle.rh_tasks.proofs.Transmits.{Meant, nobody-with, somebody-with, pair_of, handle_of, sent-pairs, portion-seen, reach-seen, wrote-is, wrote-handles, transmit-missing, transmit-nobody, transmit-far, transmit-refused, transmit-whole}
+use Rattle.rh_tasks.proofs.Transmits.{Meant, nobody-with, somebody-with, pair_of, handle_of, sent-pairs, portion-seen, reach-seen, wrote-is, wrote-handles}
+use Rattle.rh_tasks.proofs.Transmits.{transmit-missing, transmit-nobody, transmit-far, transmit-refused, transmit-whole}
 use Rattle.rh_tasks.proofs.world.World.transmit.Goals as goal
 
 pub returns-in_err-portion : goal.returns-in_err-portion
@@ -24,7 +25,8 @@ returns-in_err-portion g c =
 pub returns-in_default : goal.returns-in_default
 returns-in_default g c =
     let d = c.args.self.now.desk in
-    let none : task_at c.args.x.now.recipient d ≡ None = rw (← c.self.view_is) (nobody-with c.self.invariant c.args.x.now.recipient (sym c.in_default.ensures)) in
+    let none : task_at c.args.x.now.recipient d ≡ None =
+    rw (← c.self.view_is) (nobody-with c.self.invariant c.args.x.now.recipient (sym c.in_default.ensures)) in
     λ t m is. (transmit-nobody d t m c.args.buffer c.args.amount c.args.x.now (c.in_ok-portion.ensures.ok t is.at) none, refl)
 
 pub is_out_of_reach-requires-clause-low : goal.is_out_of_reach-requires-clause-low
@@ -33,9 +35,11 @@ is_out_of_reach-requires-clause-low g c = c.in_ok-portion.ensures.low
 pub returns-then-is_out_of_reach : goal.returns-then-is_out_of_reach
 returns-then-is_out_of_reach g c =
     let d = c.args.self.now.desk in
-    let r : Meant d c.in-Some.seat c.args.x.now.recipient = rw (← c.self.view_is) (somebody-with c.self.invariant c.args.x.now.recipient c.in-Some.seat (sym c.in-Some.ensures)) in
+    let r : Meant d c.in-Some.seat c.args.x.now.recipient =
+    rw (← c.self.view_is) (somebody-with c.self.invariant c.args.x.now.recipient c.in-Some.seat (sym c.in-Some.ensures)) in
     λ t m is. (
-      transmit-far d t m c.args.buffer c.args.amount c.args.x.now (c.in_ok-portion.ensures.ok t is.at) r.task r.found (c.if-is_out_of_reach.ensures t r.task is.at r.at),
+      transmit-far d t m c.args.buffer c.args.amount c.args.x.now (c.in_ok-portion.ensures.ok t is.at) r.task r.found
+          (c.if-is_out_of_reach.ensures t r.task is.at r.at),
       refl,
     )
 
@@ -58,13 +62,16 @@ returns-in_err-transmit g c =
     let m0 = g.S.Words.memory c.self.inside.store in
     let s = c.index-sender.result.now in
     let n = c.in_ok-portion.portion.length in
-    let r : Meant d c.in-Some.seat c.args.x.now.recipient = rw (← c.self.view_is) (somebody-with c.self.invariant c.args.x.now.recipient c.in-Some.seat (sym c.in-Some.ensures)) in
+    let r : Meant d c.in-Some.seat c.args.x.now.recipient =
+    rw (← c.self.view_is) (somebody-with c.self.invariant c.args.x.now.recipient c.in-Some.seat (sym c.in-Some.ensures)) in
     rw (p.1, p.2) (λ t m is.
     let there = rw (← c.self.view_is) at is.at in
-    let own : s.handle ≡ t.handle = sym (ap (λ (u : Task). u.handle) (seat-is (seated m0 c.self.inside.seats.items c.args.i t there) s (sym c.index-sender.ensures))) in
+    let own : s.handle ≡ t.handle =
+    sym (ap (λ (u : Task). u.handle) (seat-is (seated m0 c.self.inside.seats.items c.args.i t there) s (sym c.index-sender.ensures))) in
     let letter = c.transmit_letter-letter.ensures m is.message_is ∙ ap (λ h. transmit_letter h m (nat_lt n c.args.amount) c.args.buffer n) own in
     let near = c.if-is_out_of_reach.ensures t r.task is.at r.at in (
-      transmit-refused d t m c.args.buffer c.args.amount c.args.x.now (c.in_ok-portion.ensures.ok t is.at) r.task r.found near (ap (λ l. send_letter l d) (sym letter) ∙ c.in_err-transmit.ensures.0),
+      transmit-refused d t m c.args.buffer c.args.amount c.args.x.now (c.in_ok-portion.ensures.ok t is.at) r.task r.found near
+          (ap (λ l. send_letter l d) (sym letter) ∙ c.in_err-transmit.ensures.0),
       c.in_err-transmit.ensures.1,
     ))
 
@@ -79,7 +86,8 @@ write_portion-requires-clause-target g c =
     let d = c.args.self.now.desk in
     let e = c.in_ok-transmit.ensures in
     let k = sent-pairs c.transmit_letter-letter.result d e.1.0 c.send_from.new.self.desk e.1.1.0 e.1.1.1 in
-    let r : Meant d c.in-Some.seat c.args.x.now.recipient = rw (← c.self.view_is) (somebody-with c.self.invariant c.args.x.now.recipient c.in-Some.seat (sym c.in-Some.ensures)) in
+    let r : Meant d c.in-Some.seat c.args.x.now.recipient =
+    rw (← c.self.view_is) (somebody-with c.self.invariant c.args.x.now.recipient c.in-Some.seat (sym c.in-Some.ensures)) in
     omega (arith, alike-length pair_of k, slice_get_within d.tasks c.in-Some.seat r.task r.at)
 
 pub write_portion-requires-clause-portion : goal.write_portion-requires-clause-portion
@@ -96,7 +104,8 @@ write_portion-requires-clause-reach g c =
     let e = c.in_ok-transmit.ensures in
     let k = sent-pairs c.transmit_letter-letter.result d e.1.0 c.send_from.new.self.desk e.1.1.0 e.1.1.1 in
     let t = member-at d.tasks c.args.i c.requires in
-    let r : Meant d c.in-Some.seat c.args.x.now.recipient = rw (← c.self.view_is) (somebody-with c.self.invariant c.args.x.now.recipient c.in-Some.seat (sym c.in-Some.ensures)) in
+    let r : Meant d c.in-Some.seat c.args.x.now.recipient =
+    rw (← c.self.view_is) (somebody-with c.self.invariant c.args.x.now.recipient c.in-Some.seat (sym c.in-Some.ensures)) in
     λ u v at bt.
     reach-seen t.0 u r.task v c.args.buffer c.args.amount c.in_ok-portion.portion.address c.in_ok-portion.portion.length
     (alike-at pair_of k c.args.i t.0 u t.1 at) (alike-at pair_of k c.in-Some.seat r.task v r.at bt)
@@ -111,8 +120,14 @@ record_sent-requires-clause-place g c =
     let e = c.in_ok-transmit.ensures in
     let k = sent-pairs c.transmit_letter-letter.result d e.1.0 c.send_from.new.self.desk e.1.1.0 e.1.1.1 in
     let t = member-at d.tasks c.args.i c.requires in
-    let r : Meant d c.in-Some.seat c.args.x.now.recipient = rw (← c.self.view_is) (somebody-with c.self.invariant c.args.x.now.recipient c.in-Some.seat (sym c.in-Some.ensures)) in
-    omega (arith, alike-length handle_of (wrote-handles k c.args.i c.in-Some.seat t.1 r.at (c.in_ok-portion.ensures.ok t.0 t.1) c.args.buffer c.args.amount c.write_portion.ensures), c.requires)
+    let r : Meant d c.in-Some.seat c.args.x.now.recipient =
+    rw (← c.self.view_is) (somebody-with c.self.invariant c.args.x.now.recipient c.in-Some.seat (sym c.in-Some.ensures)) in
+    omega (
+      arith,
+      alike-length handle_of (wrote-handles k c.args.i c.in-Some.seat t.1 r.at (c.in_ok-portion.ensures.ok t.0 t.1) c.args.buffer c.args.amount
+          c.write_portion.ensures),
+      c.requires,
+    )
 
 pub record_sent-requires-clause-word : goal.record_sent-requires-clause-word
 record_sent-requires-clause-word g c = c.in_ok-portion.ensures.word
@@ -126,15 +141,18 @@ returns g c =
     let n = c.in_ok-portion.portion.length in
     let e = c.in_ok-transmit.ensures in
     let k = sent-pairs c.transmit_letter-letter.result d e.1.0 c.send_from.new.self.desk e.1.1.0 e.1.1.1 in
-    let r : Meant d c.in-Some.seat c.args.x.now.recipient = rw (← c.self.view_is) (somebody-with c.self.invariant c.args.x.now.recipient c.in-Some.seat (sym c.in-Some.ensures)) in
+    let r : Meant d c.in-Some.seat c.args.x.now.recipient =
+    rw (← c.self.view_is) (somebody-with c.self.invariant c.args.x.now.recipient c.in-Some.seat (sym c.in-Some.ensures)) in
     λ t m is.
     let there = rw (← c.self.view_is) at is.at in
-    let own : s.handle ≡ t.handle = sym (ap (λ (u : Task). u.handle) (seat-is (seated m0 c.self.inside.seats.items c.args.i t there) s (sym c.index-sender.ensures))) in
+    let own : s.handle ≡ t.handle =
+    sym (ap (λ (u : Task). u.handle) (seat-is (seated m0 c.self.inside.seats.items c.args.i t there) s (sym c.index-sender.ensures))) in
     let letter = c.transmit_letter-letter.ensures m is.message_is ∙ ap (λ h. transmit_letter h m (nat_lt n c.args.amount) c.args.buffer n) own in
     let near = c.if-is_out_of_reach.ensures t r.task is.at r.at in
     let p = c.in_ok-portion.ensures.ok t is.at in
     let after = seen handle_of (wrote-handles k c.args.i c.in-Some.seat is.at r.at p c.args.buffer c.args.amount c.write_portion.ensures) c.args.i t is.at in
     let last = c.in_ok-transmit.transmit in
-    let recorded = c.record_sent.ensures after.task after.at ∙ ap (λ h. with_sending h (sender.sent c.args.x.now n c.args.amount last) c.write_portion.new.self.desk) after.alike in
+    let recorded = c.record_sent.ensures after.task after.at
+    ∙ ap (λ h. with_sending h (sender.sent c.args.x.now n c.args.amount last) c.write_portion.new.self.desk) after.alike in
     transmit-whole d t m c.args.buffer c.args.amount c.args.x.now p r.task r.found near e.0 (ap (λ l. send_letter l d) (sym letter) ∙ e.1.1.0) e.1.1.1
     (wrote-is k c.args.i c.in-Some.seat is.at r.at p c.args.buffer c.args.amount c.write_portion.ensures) recorded

@@ -25,4 +25,5 @@ pub returns : goal.returns
 returns g c =
     let n = c.first.ensures in
     let is = first-next c.first.result c.args.handle (n.handle ∙ c.handle.view_is) n.area in
-    rw (is, c.with_next_ref.ensures.value, c.new.ensures, c.new-2.ensures) (first-desk c.furnish.ensures (g.F.NamedFiles.contents c.args.files) c.args.handle c.args.r)
+    rw (is, c.with_next_ref.ensures.value, c.new.ensures, c.new-2.ensures)
+    (first-desk c.furnish.ensures (g.F.NamedFiles.contents c.args.files) c.args.handle c.args.r)

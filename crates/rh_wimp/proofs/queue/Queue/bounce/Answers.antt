@@ -31,7 +31,8 @@ returns-in_default-clause-spells g c = λ post p b.
     let q : Chains = record { entries = c.self.inside.entries.items; live = c.self.inside.live; next_ref = c.self.inside.next_ref } in
     let b' : MayBounce m c.args.rma q post p c.args.block = subst (λ (x : Chains). MayBounce m c.args.rma x post p c.args.block) (sym c.self.view_is) b in
     let from = bounce-from m c.args.rma q post p c.args.block b' c.read_word.result c.read_word.ensures in
-    let none : position (λ (e : Entry). e.handle == p.message.from) q.entries ≡ None = ap (λ n. position (λ (e : Entry). e.handle == n) q.entries) (sym from) ∙ sym c.in_default.ensures in
+    let none : position (λ (e : Entry). e.handle == p.message.from) q.entries ≡ None =
+    ap (λ n. position (λ (e : Entry). e.handle == n) q.entries) (sym from) ∙ sym c.in_default.ensures in
     subst (λ (x : Chains). IsPost (heap_in (g.S.Words.memory c.free.new.store) c.args.rma) x (bounced p post)) c.self.view_is
     (bounce-gone m c.args.rma q post p c.args.block b' none (heap_in (g.S.Words.memory c.free.new.store) c.args.rma) c.free.ensures.heap)
 
@@ -47,7 +48,8 @@ append-requires-clause-last g c =
     let n = g.S.Words.memory c.write_word.new.store in
     let q : Chains = record { entries = c.self.inside.entries.items; live = c.self.inside.live; next_ref = c.self.inside.next_ref } in
     let l = c.requires.loose in
-    let b' : MayBounce m c.args.rma q l.0 l.1.0 c.args.block = subst (λ (x : Chains). MayBounce m c.args.rma x l.0 l.1.0 c.args.block) (sym c.self.view_is) l.1.1 in
+    let b' : MayBounce m c.args.rma q l.0 l.1.0 c.args.block =
+    subst (λ (x : Chains). MayBounce m c.args.rma x l.0 l.1.0 c.args.block) (sym c.self.view_is) l.1.1 in
     let w = found-at q.entries c.read_word.result c.in-Some.to (sym c.in-Some.ensures) in
     bounce-last m c.args.rma q l.0 l.1.0 c.args.block b' n c.in-Some.to 4 _ w.0 c.write_word.ensures.heap
 
@@ -55,7 +57,11 @@ pub append-requires-clause-small : goal.append-requires-clause-small
 append-requires-clause-small g c =
     let m = g.S.Words.memory c.args.store.now in
     let l = c.requires.loose in
-    omega (arith, block_within m c.args.rma c.args.block 24 c.requires.module (bounce-has m c.args.rma c.args.self.now l.0 l.1.0 c.args.block l.1.1), g.met.S.Words.small c.args.store.now c.args.rma.area.0)
+    omega (
+      arith,
+      block_within m c.args.rma c.args.block 24 c.requires.module (bounce-has m c.args.rma c.args.self.now l.0 l.1.0 c.args.block l.1.1),
+      g.met.S.Words.small c.args.store.now c.args.rma.area.0,
+    )
 
 pub returns-clause-spells : goal.returns-clause-spells
 returns-clause-spells g c = λ post p b.
@@ -64,6 +70,10 @@ returns-clause-spells g c = λ post p b.
     let q : Chains = record { entries = c.self.inside.entries.items; live = c.self.inside.live; next_ref = c.self.inside.next_ref } in
     let b' : MayBounce m c.args.rma q post p c.args.block = subst (λ (x : Chains). MayBounce m c.args.rma x post p c.args.block) (sym c.self.view_is) b in
     let from = bounce-from m c.args.rma q post p c.args.block b' c.read_word.result c.read_word.ensures in
-    let some : position (λ (e : Entry). e.handle == p.message.from) q.entries ≡ Some c.in-Some.to = ap (λ n. position (λ (e : Entry). e.handle == n) q.entries) (sym from) ∙ sym c.in-Some.ensures in
-    subst (λ es. IsPost (heap_in k c.args.rma) (record { entries = es; live = q.live + 1; next_ref = q.next_ref }) (bounced p post)) (sym c.append.ensures.entries)
-    (bounce-done m c.args.rma q post p c.args.block b' c.in-Some.to some (heap_in (g.S.Words.memory c.write_word.new.store) c.args.rma) (heap_in k c.args.rma) (c.write_word.ensures.heap ∙ ap (λ n. poked c.args.block 4 (word_bytes n) (heap_in m c.args.rma)) c.number.ensures) c.append.ensures.heap.heap)
+    let some : position (λ (e : Entry). e.handle == p.message.from) q.entries ≡ Some c.in-Some.to =
+    ap (λ n. position (λ (e : Entry). e.handle == n) q.entries) (sym from) ∙ sym c.in-Some.ensures in
+    subst (λ es. IsPost (heap_in k c.args.rma) (record { entries = es; live = q.live + 1; next_ref = q.next_ref }) (bounced p post))
+    (sym c.append.ensures.entries)
+    (bounce-done m c.args.rma q post p c.args.block b' c.in-Some.to some (heap_in (g.S.Words.memory c.write_word.new.store) c.args.rma)
+    (heap_in k c.args.rma) (c.write_word.ensures.heap ∙ ap (λ n. poked c.args.block 4 (word_bytes n) (heap_in m c.args.rma)) c.number.ensures)
+    c.append.ensures.heap.heap)

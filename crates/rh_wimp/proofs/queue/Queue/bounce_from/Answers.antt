@@ -27,7 +27,8 @@ returns-then-eq-clause-spells g c = λ post p b.
     let k = heap_in (g.S.Words.memory c.free.new.store) c.args.rma in
     let from = bounce-from m c.args.rma c.args.self.now post p c.args.block b c.read_word.result c.read_word.ensures in
     let same = eq_of c.read_word.result c.args.dying (sym c.eq.ensures ∙ c.if-eq.true) in
-    subst (λ (y : Post). IsPost k c.args.self.now y) (sym (from-dying c.args.dying p post (sym from ∙ same))) (may-vanish m c.args.rma c.args.self.now post p c.args.block k b c.free.ensures.heap)
+    subst (λ (y : Post). IsPost k c.args.self.now y) (sym (from-dying c.args.dying p post (sym from ∙ same)))
+    (may-vanish m c.args.rma c.args.self.now post p c.args.block k b c.free.ensures.heap)
 
 pub returns-else-eq-clause-spells : goal.returns-else-eq-clause-spells
 returns-else-eq-clause-spells g c = λ post p b.
@@ -35,5 +36,6 @@ returns-else-eq-clause-spells g c = λ post p b.
     let k = heap_in (g.S.Words.memory c.bounce.new.store) c.args.rma in
     let from = bounce-from m c.args.rma c.args.self.now post p c.args.block b c.read_word.result c.read_word.ensures in
     subst (λ (y : Post). IsPost k c.bounce.new.self y)
-    (sym (from-other c.args.dying p post (λ z. let bad : true ≡ false = sym (eqb_same c.read_word.result c.args.dying (from ∙ z)) ∙ sym c.eq.ensures ∙ c.if-eq.false in cc)))
+    (sym (from-other c.args.dying p post (λ z. let bad : true ≡ false = sym (eqb_same c.read_word.result c.args.dying (from ∙ z)) ∙ sym c.eq.ensures
+    ∙ c.if-eq.false in cc)))
     (c.bounce.ensures.spells post p b)

@@ -11,7 +11,8 @@ use Rattle.rh_wimp.proofs.queue.Queue.bounce_held.Given as given
 -- the message that was held may bounce
 may : (g : given.Over) (c : In-Some g) (post : Post) → SpellsPost (g.S.Words.memory c.args.store.now) c.args.rma c.args.self.now post
     → (w : HoldsOne (heap_in (g.S.Words.memory c.args.store.now) c.args.rma) c.args.self.now post (entry_at c.args.self.now.entries c.args.at).handle c.args.at)
-    × MayBounce (g.S.Words.memory c.args.store.now) c.args.rma c.lift_held.new.self (lifted (entry_at c.args.self.now.entries c.args.at).handle post) w.parcel c.in-Some.block
+    × MayBounce (g.S.Words.memory c.args.store.now) c.args.rma c.lift_held.new.self (lifted (entry_at c.args.self.now.entries c.args.at).handle post)
+    w.parcel c.in-Some.block
 may g c post s =
     let m = g.S.Words.memory c.args.store.now in
     let q = c.args.self.now in
@@ -20,7 +21,8 @@ may g c post s =
     let w = holds-one (heap_in m c.args.rma) q post x c.args.at s c.requires.within refl e.1 in (
       w,
       subst (λ (k : Chains). MayBounce m c.args.rma k (lifted x post) w.parcel c.in-Some.block) (sym e.2)
-          (subst (λ b. MayBounce m c.args.rma (emptied_chains c.args.at q) (lifted x post) w.parcel b) (sym e.0) (may-bounce m c.args.rma q post x c.args.at s c.requires.within refl w)),
+          (subst (λ b. MayBounce m c.args.rma (emptied_chains c.args.at q) (lifted x post) w.parcel b) (sym e.0)
+          (may-bounce m c.args.rma q post x c.args.at s c.requires.within refl w)),
     )
 
 pub bounce-requires-clause-loose : goal.bounce-requires-clause-loose
@@ -41,4 +43,5 @@ returns-in_default-clause-spells g c = λ post s.
     let x : ℕ = (entry_at c.args.self.now.entries c.args.at).handle in
     let e = c.in_default.ensures.none in
     let none = holds-none h c.args.self.now post x c.args.at s c.requires.within refl e.0 in
-    subst (λ (k : Chains). IsPost h k (bounce_held x (held_by x post.seats) post)) (sym e.1) (subst (λ b. IsPost h c.args.self.now (bounce_held x b post)) (sym none) s)
+    subst (λ (k : Chains). IsPost h k (bounce_held x (held_by x post.seats) post)) (sym e.1)
+    (subst (λ b. IsPost h c.args.self.now (bounce_held x b post)) (sym none) s)

@@ -20,7 +20,8 @@ may g c post s =
     let w = holds-one (heap_in m c.args.rma) q post x c.args.at s c.requires.within c.requires.handle e.1 in (
       w,
       subst (λ (k : Chains). MayBounce m c.args.rma k (lifted x post) w.parcel c.in-Some.block) (sym e.2)
-          (subst (λ b. MayBounce m c.args.rma (emptied_chains c.args.at q) (lifted x post) w.parcel b) (sym e.0) (may-bounce m c.args.rma q post x c.args.at s c.requires.within c.requires.handle w)),
+          (subst (λ b. MayBounce m c.args.rma (emptied_chains c.args.at q) (lifted x post) w.parcel b) (sym e.0)
+          (may-bounce m c.args.rma q post x c.args.at s c.requires.within c.requires.handle w)),
     )
 
 pub bounce_from-requires-clause-loose : goal.bounce_from-requires-clause-loose
@@ -33,7 +34,8 @@ returns-in-Some-clause-spells g c = λ post s.
     let k = g.S.Words.memory c.bounce_from.new.store in
     let x : ℕ = c.args.dying in
     let w = may g (goal.at.returns-in-Some-clause-spells g c).In-Some post s in
-    subst (λ o. IsPost (heap_in k c.args.rma) c.bounce_from.new.self (settled_from x o post)) (sym w.0.held) (c.bounce_from.ensures.spells (lifted x post) w.0.parcel w.1)
+    subst (λ o. IsPost (heap_in k c.args.rma) c.bounce_from.new.self (settled_from x o post)) (sym w.0.held)
+    (c.bounce_from.ensures.spells (lifted x post) w.0.parcel w.1)
 
 pub returns-in_default-clause-spells : goal.returns-in_default-clause-spells
 returns-in_default-clause-spells g c = λ post s.
@@ -41,4 +43,5 @@ returns-in_default-clause-spells g c = λ post s.
     let x : ℕ = c.args.dying in
     let e = c.in_default.ensures.none in
     let none = holds-none h c.args.self.now post x c.args.at s c.requires.within c.requires.handle e.0 in
-    subst (λ (k : Chains). IsPost h k (settled_from x (held_by x post.seats) post)) (sym e.1) (subst (λ b. IsPost h c.args.self.now (settled_from x b post)) (sym none) s)
+    subst (λ (k : Chains). IsPost h k (settled_from x (held_by x post.seats) post)) (sym e.1)
+    (subst (λ b. IsPost h c.args.self.now (settled_from x b post)) (sym none) s)

@@ -18,7 +18,8 @@ pub returns-then-is_recorded-clause-spells : goal.returns-then-is_recorded-claus
 returns-then-is_recorded-clause-spells g c = λ post p b.
     let k = heap_in (g.S.Words.memory c.bounce_from.new.store) c.args.rma in
     let code = c.read_code.ensures p (record { lies = b.loose.lies; block_is = b.block_is }) in
-    subst (λ (y : Post). IsPost k c.bounce_from.new.self y) (sym (ended-bounces c.args.dying p post (ap is_recorded (sym code) ∙ sym c.is_recorded.ensures ∙ c.if-is_recorded.true)))
+    subst (λ (y : Post). IsPost k c.bounce_from.new.self y) (sym (ended-bounces c.args.dying p post
+    (ap is_recorded (sym code) ∙ sym c.is_recorded.ensures ∙ c.if-is_recorded.true)))
     (c.bounce_from.ensures.spells post p b)
 
 pub returns-else-is_recorded-clause-spells : goal.returns-else-is_recorded-clause-spells
@@ -26,5 +27,6 @@ returns-else-is_recorded-clause-spells g c = λ post p b.
     let m = g.S.Words.memory c.args.store.now in
     let k = heap_in (g.S.Words.memory c.free.new.store) c.args.rma in
     let code = c.read_code.ensures p (record { lies = b.loose.lies; block_is = b.block_is }) in
-    subst (λ (y : Post). IsPost k c.args.self.now y) (sym (ended-vanishes c.args.dying p post (ap is_recorded (sym code) ∙ sym c.is_recorded.ensures ∙ c.if-is_recorded.false)))
+    subst (λ (y : Post). IsPost k c.args.self.now y) (sym (ended-vanishes c.args.dying p post
+    (ap is_recorded (sym code) ∙ sym c.is_recorded.ensures ∙ c.if-is_recorded.false)))
     (may-vanish m c.args.rma c.args.self.now post p c.args.block k b c.free.ensures.heap)

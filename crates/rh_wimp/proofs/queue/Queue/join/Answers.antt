@@ -14,4 +14,5 @@ returns-clause-spells c = λ h post s.
     (join-spells h q post c.args.handle s' (λ e. c.requires.new (subst (HasEntry c.args.handle) c.self.view_is e)))
 
 pub returns-clause-still : goal.returns-clause-still
-returns-clause-still c = λ m rma w. record { area = w.area; post = post_join c.args.handle w.post; spells = returns-clause-spells c (heap_in m rma) w.post w.spells }
+returns-clause-still c =
+    λ m rma w. record { area = w.area; post = post_join c.args.handle w.post; spells = returns-clause-spells c (heap_in m rma) w.post w.spells }

@@ -17,7 +17,8 @@ use Rattle.rh_wimp.proofs.queue.Queue.lift_first.Given as given
 seen : (g : given.Over) (c : After-index-entry g) → Chains
 seen g c = record { entries = c.self.inside.entries.items; live = c.self.inside.live; next_ref = c.self.inside.next_ref }
 
-entry_is : (g : given.Over) (c : After-index-entry g) → (c.args.at < length (seen g c).entries) × (c.index-entry.result.now ≡ entry_at (seen g c).entries c.args.at)
+entry_is : (g : given.Over) (c : After-index-entry g)
+    → (c.args.at < length (seen g c).entries) × (c.index-entry.result.now ≡ entry_at (seen g c).entries c.args.at)
 unfolding seen
 entry_is g c =
     let l : c.args.at < length (seen g c).entries = subst (λ (q : Chains). c.args.at < length q.entries) (sym c.self.view_is) c.requires.within in
@@ -35,7 +36,8 @@ returns-then-block-eq0-clause-lifts g c = λ post s.
     (no-head h c.args.self.now post x c.args.at s c.requires.within refl (sym (ap (λ (e : Entry). e.first) (entry_now g o)) ∙ c.if-block-eq0.true), s)
 
 -- the first message
-before : (g : given.Over) (c : After-index-entry g) (post : Post) → SpellsPost (g.S.Words.memory c.args.store.now) c.args.rma c.args.self.now post → SpellsPost (g.S.Words.memory c.args.store.now) c.args.rma (seen g c) post
+before : (g : given.Over) (c : After-index-entry g) (post : Post) → SpellsPost (g.S.Words.memory c.args.store.now) c.args.rma c.args.self.now post
+    → SpellsPost (g.S.Words.memory c.args.store.now) c.args.rma (seen g c) post
 unfolding seen
 before g c post s = subst (λ (k : Chains). SpellsPost (g.S.Words.memory c.args.store.now) c.args.rma k post) (sym c.self.view_is) s
 
@@ -43,10 +45,13 @@ named : (g : given.Over) (c : After-index-entry g) → (entry_at (seen g c).entr
 unfolding seen
 named g c = ap (λ (k : Chains). (entry_at k.entries c.args.at).handle) c.self.view_is
 
-head : (g : given.Over) (c : After-index-entry g) (post : Post) → SpellsPost (g.S.Words.memory c.args.store.now) c.args.rma c.args.self.now post → c.index-entry.result.now.first ≢ 0
-    → (t : Parcel × List Parcel) × Heads (g.S.Words.memory c.args.store.now) c.args.rma (seen g c) post (entry_at c.args.self.now.entries c.args.at).handle c.args.at t
+head : (g : given.Over) (c : After-index-entry g) (post : Post) → SpellsPost (g.S.Words.memory c.args.store.now) c.args.rma c.args.self.now post
+    → c.index-entry.result.now.first ≢ 0
+    → (t : Parcel × List Parcel) × Heads (g.S.Words.memory c.args.store.now) c.args.rma (seen g c) post (entry_at c.args.self.now.entries c.args.at).handle
+    c.args.at t
 head g c post s ne =
-    heads (g.S.Words.memory c.args.store.now) c.args.rma (seen g c) post (entry_at c.args.self.now.entries c.args.at).handle c.args.at (before g c post s) (entry_is g c).0 (named g c)
+    heads (g.S.Words.memory c.args.store.now) c.args.rma (seen g c) post (entry_at c.args.self.now.entries c.args.at).handle c.args.at (before g c post s)
+    (entry_is g c).0 (named g c)
     (λ z. ne (ap (λ (e : Entry). e.first) (entry_is g c).1 ∙ z))
 
 pub read_word-next-requires-clause-block : goal.read_word-next-requires-clause-block
@@ -55,7 +60,8 @@ read_word-next-requires-clause-block g c =
     let o = (goal.at.read_word-next-requires-clause-block g c).After-index-entry in
     let w = head g o c.requires.post.0 c.requires.post.1 c.if-block-eq0.false in
     has-less c.index-entry.result.now.first 24 4 (heap_in m c.args.rma) (omega arith)
-    (subst (λ (e : Entry). HasBlock e.first 24 (heap_in m c.args.rma)) (sym (entry_is g o).1) (head-has m c.args.rma (seen g o) c.requires.post.0 (entry_at c.args.self.now.entries c.args.at).handle c.args.at w.0 w.1))
+    (subst (λ (e : Entry). HasBlock e.first 24 (heap_in m c.args.rma)) (sym (entry_is g o).1)
+    (head-has m c.args.rma (seen g o) c.requires.post.0 (entry_at c.args.self.now.entries c.args.at).handle c.args.at w.0 w.1))
 
 pub write_word-requires-clause-block : goal.write_word-requires-clause-block
 write_word-requires-clause-block g c =
@@ -63,7 +69,8 @@ write_word-requires-clause-block g c =
     let o = (goal.at.write_word-requires-clause-block g c).After-index-entry in
     let w = head g o c.requires.post.0 c.requires.post.1 c.if-block-eq0.false in
     has-less c.index-entry.result.now.first 24 4 (heap_in m c.args.rma) (omega arith)
-    (subst (λ (e : Entry). HasBlock e.first 24 (heap_in m c.args.rma)) (sym (entry_is g o).1) (head-has m c.args.rma (seen g o) c.requires.post.0 (entry_at c.args.self.now.entries c.args.at).handle c.args.at w.0 w.1))
+    (subst (λ (e : Entry). HasBlock e.first 24 (heap_in m c.args.rma)) (sym (entry_is g o).1)
+    (head-has m c.args.rma (seen g o) c.requires.post.0 (entry_at c.args.self.now.entries c.args.at).handle c.args.at w.0 w.1))
 
 pub overflow_sub-self : goal.overflow_sub-self
 unfolding seen
@@ -81,10 +88,15 @@ returns-clause-lifts g c = λ post s.
     let w = head g o post s c.if-block-eq0.false in
     let first : c.index-entry.result.now.first ≡ (entry_at q.entries c.args.at).first = ap (λ (y : Entry). y.first) e.1 in
     let small = next-small m c.args.rma w.1.next c.requires.module (g.met.S.Words.small c.args.store.now c.args.rma.area.0) w.1.next_there in
-    let next = next-of m c.args.rma q post x c.args.at w.0 w.1 c.read_word-next.result small (subst (λ a. (bs : List ℕ) → block_bytes a (heap_in m c.args.rma) ≡ Some bs → c.read_word-next.result ≡ word bs 0) first c.read_word-next.ensures) in
-    let done = first-lifted m c.args.rma q post x c.args.at w.0 w.1 n c.read_word-next.result (before g o post s) e.0 (named g o) next (c.write_word.ensures.heap ∙ ap (λ a. poked a 0 (word_bytes 0) (heap_in m c.args.rma)) first) in
-    let entry : shortened c.read_word-next.result (entry_at q.entries c.args.at) ≡ c.shortened.result = sym (c.shortened.ensures ∙ ap (shortened c.read_word-next.result) e.1) in (
+    let next = next-of m c.args.rma q post x c.args.at w.0 w.1 c.read_word-next.result small
+    (subst (λ a. (bs : List ℕ) → block_bytes a (heap_in m c.args.rma) ≡ Some bs → c.read_word-next.result ≡ word bs 0) first c.read_word-next.ensures) in
+    let done = first-lifted m c.args.rma q post x c.args.at w.0 w.1 n c.read_word-next.result (before g o post s) e.0 (named g o) next
+    (c.write_word.ensures.heap ∙ ap (λ a. poked a 0 (word_bytes 0) (heap_in m c.args.rma)) first) in
+    let entry : shortened c.read_word-next.result (entry_at q.entries c.args.at) ≡ c.shortened.result =
+    sym (c.shortened.ensures ∙ ap (shortened c.read_word-next.result) e.1) in (
       w.0,
-      subst (λ b. Lifted n c.args.rma (record { entries = set q.entries c.args.at c.shortened.result; live = q.live - 1; next_ref = q.next_ref }) post x b w.0) (sym first)
-          (subst (λ (y : Entry). Lifted n c.args.rma (record { entries = set q.entries c.args.at y; live = q.live - 1; next_ref = q.next_ref }) post x (entry_at q.entries c.args.at).first w.0) entry done),
+      subst (λ b. Lifted n c.args.rma (record { entries = set q.entries c.args.at c.shortened.result; live = q.live - 1; next_ref = q.next_ref }) post x b
+          w.0) (sym first)
+          (subst (λ (y : Entry). Lifted n c.args.rma (record { entries = set q.entries c.args.at y; live = q.live - 1; next_ref = q.next_ref }) post x
+          (entry_at q.entries c.args.at).first w.0) entry done),
     )

@@ -33,50 +33,59 @@ seen : (g : given.Over) (c : After-index-entry g) → Chains
 seen g c = record { entries = c.self.inside.entries.items; live = c.self.inside.live; next_ref = c.self.inside.next_ref }
 
 -- the task's entry
-place : (g : given.Over) (c : After-index-entry g) → (c.in-Some.at < length (seen g c).entries) × ((entry_at (seen g c).entries c.in-Some.at).handle ≡ c.args.handle) × (c.index-entry.result.now ≡ entry_at (seen g c).entries c.in-Some.at)
+place : (g : given.Over) (c : After-index-entry g) → (c.in-Some.at < length (seen g c).entries) ×
+    ((entry_at (seen g c).entries c.in-Some.at).handle ≡ c.args.handle) × (c.index-entry.result.now ≡ entry_at (seen g c).entries c.in-Some.at)
 unfolding seen
 place g c =
     let w = found-at (seen g c).entries c.args.handle c.in-Some.at (sym c.in-Some.ensures) in
     (w.0, w.1, read_entry (seen g c).entries c.in-Some.at c.index-entry.result.now w.0 c.index-entry.ensures)
 
-spelled : (g : given.Over) (c : After-index-entry g) (post : Post) → SpellsPost (g.S.Words.memory c.args.store.now) c.args.rma c.args.self.now post → SpellsPost (g.S.Words.memory c.args.store.now) c.args.rma (seen g c) post
+spelled : (g : given.Over) (c : After-index-entry g) (post : Post) → SpellsPost (g.S.Words.memory c.args.store.now) c.args.rma c.args.self.now post
+    → SpellsPost (g.S.Words.memory c.args.store.now) c.args.rma (seen g c) post
 unfolding seen
 spelled g c post s = subst (λ (k : Chains). SpellsPost (g.S.Words.memory c.args.store.now) c.args.rma k post) (sym c.self.view_is) s
 
 -- ---- a message waits
-head : (g : given.Over) (c : After-index-entry g) (post : Post) → SpellsPost (g.S.Words.memory c.args.store.now) c.args.rma c.args.self.now post → c.index-entry.result.now.first ≢ 0
+head : (g : given.Over) (c : After-index-entry g) (post : Post) → SpellsPost (g.S.Words.memory c.args.store.now) c.args.rma c.args.self.now post
+    → c.index-entry.result.now.first ≢ 0
     → (t : Parcel × List Parcel) × Heads (g.S.Words.memory c.args.store.now) c.args.rma (seen g c) post c.args.handle c.in-Some.at t
 head g c post s ne =
     let w = place g c in
     heads (g.S.Words.memory c.args.store.now) c.args.rma (seen g c) post c.args.handle c.in-Some.at (spelled g c post s) w.0 w.1
     (λ z. ne (ap (λ (e : Entry). e.first) w.2 ∙ z))
 
-links : (g : given.Over) (c : After-index-entry g) (post : Post) (s : SpellsPost (g.S.Words.memory c.args.store.now) c.args.rma c.args.self.now post) (ne : c.index-entry.result.now.first ≢ 0)
+links : (g : given.Over) (c : After-index-entry g) (post : Post) (s : SpellsPost (g.S.Words.memory c.args.store.now) c.args.rma c.args.self.now post)
+    (ne : c.index-entry.result.now.first ≢ 0)
     → LinksAt (g.S.Words.memory c.args.store.now) c.args.rma c.index-entry.result.now.first (head g c post s ne).1.next (head g c post s ne).0.0
 links g c post s ne =
     let w = (head g c post s ne).1 in
     record {
       lies = w.lies;
       block_is = ap (λ (e : Entry). e.first) (place g c).2 ∙ w.block_is;
-      small = next-small (g.S.Words.memory c.args.store.now) c.args.rma w.next c.requires.queue.area (g.met.S.Words.small c.args.store.now c.args.rma.area.0) w.next_there;
+      small = next-small (g.S.Words.memory c.args.store.now) c.args.rma w.next c.requires.queue.area (g.met.S.Words.small c.args.store.now c.args.rma.area.0)
+          w.next_there;
     }
 
-waits : (g : given.Over) (c : After-index-entry g) (post : Post) (s : SpellsPost (g.S.Words.memory c.args.store.now) c.args.rma c.args.self.now post) (ne : c.index-entry.result.now.first ≢ 0)
+waits : (g : given.Over) (c : After-index-entry g) (post : Post) (s : SpellsPost (g.S.Words.memory c.args.store.now) c.args.rma c.args.self.now post)
+    (ne : c.index-entry.result.now.first ≢ 0)
     → (post_poll c.args.handle post).1 ≡ Some (head g c post s ne).0.0
 waits g c post s ne =
     let w = (head g c post s ne).1 in
     poll-waiting c.args.handle post (head g c post s ne).0.0 (sym (front-is c.args.handle post.queued) ∙ ap first_of w.first)
 
 -- ---- none waits
-empty : (g : given.Over) (c : After-index-entry g) (post : Post) → SpellsPost (g.S.Words.memory c.args.store.now) c.args.rma c.args.self.now post → c.index-entry.result.now.first ≡ 0 → front c.args.handle post.queued ≡ None
+empty : (g : given.Over) (c : After-index-entry g) (post : Post) → SpellsPost (g.S.Words.memory c.args.store.now) c.args.rma c.args.self.now post
+    → c.index-entry.result.now.first ≡ 0 → front c.args.handle post.queued ≡ None
 empty g c post s z =
     let w = place g c in
     sym (front-is c.args.handle post.queued)
-    ∙ ap first_of (no-head (heap_in (g.S.Words.memory c.args.store.now) c.args.rma) (seen g c) post c.args.handle c.in-Some.at (spelled g c post s) w.0 w.1 (sym (ap (λ (e : Entry). e.first) w.2) ∙ z))
+    ∙ ap first_of (no-head (heap_in (g.S.Words.memory c.args.store.now) c.args.rma) (seen g c) post c.args.handle c.in-Some.at (spelled g c post s) w.0 w.1
+    (sym (ap (λ (e : Entry). e.first) w.2) ∙ z))
 
 -- what the task holds
 held : (g : given.Over) (c : After-index-entry g) (post : Post) → SpellsPost (g.S.Words.memory c.args.store.now) c.args.rma c.args.self.now post
-    → Holds (heap_in (g.S.Words.memory c.args.store.now) c.args.rma) c.index-entry.result.now.held (held_by c.args.handle post.seats) × (has_seat c.args.handle post.seats ≡ true)
+    → Holds (heap_in (g.S.Words.memory c.args.store.now) c.args.rma) c.index-entry.result.now.held (held_by c.args.handle post.seats) ×
+    (has_seat c.args.handle post.seats ≡ true)
 held g c post s =
     let h = heap_in (g.S.Words.memory c.args.store.now) c.args.rma in
     let w = place g c in
@@ -110,7 +119,8 @@ pub returns-then-entry-ne0-clause-message : goal.returns-then-entry-ne0-clause-m
 returns-then-entry-ne0-clause-message g c = λ post s.
     let o = (goal.at.returns-then-entry-ne0-clause-message g c).After-index-entry in
     let w = head g o post s c.if-entry-ne0.true in
-    c.copy_block.ensures w.1.next w.0.0 (links g o post s c.if-entry-ne0.true) ∙ sym (ap (λ m. with_message m c.args.block.now) (waits g o post s c.if-entry-ne0.true))
+    c.copy_block.ensures w.1.next w.0.0 (links g o post s c.if-entry-ne0.true)
+    ∙ sym (ap (λ m. with_message m c.args.block.now) (waits g o post s c.if-entry-ne0.true))
 
 pub holds_own-requires-clause-held : goal.holds_own-requires-clause-held
 holds_own-requires-clause-held g c =
@@ -119,24 +129,27 @@ holds_own-requires-clause-held g c =
 
 -- whether the task holds a message of its own
 own : (g : given.Over) (c : After-index-entry g) (post : Post) (s : SpellsPost (g.S.Words.memory c.args.store.now) c.args.rma c.args.self.now post) (t : Bool)
-    → ((o : Option Parcel) → Holds (heap_in (g.S.Words.memory c.args.store.now) c.args.rma) c.index-entry.result.now.held o → t ≡ holds_such (is_own c.args.handle) o)
-    → t ≡ holds_such (is_own c.args.handle) (held_by c.args.handle post.seats)
+    → ((o : Option Parcel) → Holds (heap_in (g.S.Words.memory c.args.store.now) c.args.rma) c.index-entry.result.now.held o
+    → t ≡ holds_such (is_own c.args.handle) o) → t ≡ holds_such (is_own c.args.handle) (held_by c.args.handle post.seats)
 own g c post s t e = e (held_by c.args.handle post.seats) (held g c post s).0
 
 pub returns-then-not-holds_own-clause-code : goal.returns-then-not-holds_own-clause-code
 returns-then-not-holds_own-clause-code g c = λ post s.
     let o = (goal.at.returns-then-not-holds_own-clause-code g c).After-index-entry in
-    let none = poll-none c.args.handle post c.holds_own.result (empty g o post s c.if-entry-ne0.false) (own g o post s c.holds_own.result c.holds_own.ensures) c.if-not-holds_own.true in
+    let none = poll-none c.args.handle post c.holds_own.result (empty g o post s c.if-entry-ne0.false)
+    (own g o post s c.holds_own.result c.holds_own.ensures) c.if-not-holds_own.true in
     sym (ap (option_map (λ (p : Parcel). p.code)) none)
 
 pub returns-then-not-holds_own-clause-message : goal.returns-then-not-holds_own-clause-message
 returns-then-not-holds_own-clause-message g c = λ post s.
     let o = (goal.at.returns-then-not-holds_own-clause-message g c).After-index-entry in
-    let none = poll-none c.args.handle post c.holds_own.result (empty g o post s c.if-entry-ne0.false) (own g o post s c.holds_own.result c.holds_own.ensures) c.if-not-holds_own.true in
+    let none = poll-none c.args.handle post c.holds_own.result (empty g o post s c.if-entry-ne0.false)
+    (own g o post s c.holds_own.result c.holds_own.ensures) c.if-not-holds_own.true in
     sym (ap (λ m. with_message m c.args.block.now) none)
 
 -- the message that would come back
-back : (g : given.Over) (c : After-index-entry g) (post : Post) (s : SpellsPost (g.S.Words.memory c.args.store.now) c.args.rma c.args.self.now post) (w : HoldsOwn c.args.handle post.seats)
+back : (g : given.Over) (c : After-index-entry g) (post : Post) (s : SpellsPost (g.S.Words.memory c.args.store.now) c.args.rma c.args.self.now post)
+    (w : HoldsOwn c.args.handle post.seats)
     → LinksAt (g.S.Words.memory c.args.store.now) c.args.rma c.index-entry.result.now.held 0 w.parcel
 back g c post s w =
     let h = heap_in (g.S.Words.memory c.args.store.now) c.args.rma in
@@ -155,11 +168,13 @@ pub returns-clause-code : goal.returns-clause-code
 returns-clause-code g c = λ post s.
     let o = (goal.at.returns-clause-code g c).After-index-entry in
     let w = own-held c.args.handle post.seats c.holds_own.result (own g o post s c.holds_own.result c.holds_own.ensures) c.if-not-holds_own.false in
-    sym (ap (option_map (λ (p : Parcel). p.code)) (poll-own c.args.handle post w.parcel (empty g o post s c.if-entry-ne0.false) w.held w.own (held g o post s).1))
+    sym (ap (option_map (λ (p : Parcel). p.code)) (poll-own c.args.handle post w.parcel (empty g o post s c.if-entry-ne0.false) w.held w.own
+    (held g o post s).1))
 
 pub returns-clause-message : goal.returns-clause-message
 returns-clause-message g c = λ post s.
     let o = (goal.at.returns-clause-message g c).After-index-entry in
     let w = own-held c.args.handle post.seats c.holds_own.result (own g o post s c.holds_own.result c.holds_own.ensures) c.if-not-holds_own.false in
     c.copy_block-2.ensures 0 w.parcel (back g o post s w)
-    ∙ sym (ap (λ m. with_message m c.args.block.now) (poll-own c.args.handle post w.parcel (empty g o post s c.if-entry-ne0.false) w.held w.own (held g o post s).1))
+    ∙ sym (ap (λ m. with_message m c.args.block.now) (poll-own c.args.handle post w.parcel (empty g o post s c.if-entry-ne0.false) w.held w.own
+    (held g o post s).1))

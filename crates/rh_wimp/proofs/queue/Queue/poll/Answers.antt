@@ -32,7 +32,8 @@ returns-in_default-clause-handles g c =
     absurd (not-found q.entries c.args.handle (sym c.in_default.ensures) l.0 l.1.0 l.1.1)
 
 -- the place of the task
-place : (g : given.Over) (c : After-bounce_held g) → (c.in-Some.at < length c.args.self.now.entries) × ((entry_at c.args.self.now.entries c.in-Some.at).handle ≡ c.args.handle)
+place : (g : given.Over) (c : After-bounce_held g)
+    → (c.in-Some.at < length c.args.self.now.entries) × ((entry_at c.args.self.now.entries c.in-Some.at).handle ≡ c.args.handle)
 place g c =
     subst (λ (q : Chains). (c.in-Some.at < length q.entries) × ((entry_at q.entries c.in-Some.at).handle ≡ c.args.handle)) c.self.view_is
     (found-at c.self.inside.entries.items c.args.handle c.in-Some.at (sym c.in-Some.ensures))
@@ -44,12 +45,14 @@ between g c post = bounce_held c.args.handle (held_by c.args.handle post.seats) 
 spelled : (g : given.Over) (c : After-bounce_held g) (post : Post) → SpellsPost (g.S.Words.memory c.args.store.now) c.args.rma c.args.self.now post
     → SpellsPost (g.S.Words.memory c.bounce_held.new.store) c.args.rma c.bounce_held.new.self (between g c post)
 spelled g c post s =
-    subst (λ x. SpellsPost (g.S.Words.memory c.bounce_held.new.store) c.args.rma c.bounce_held.new.self (bounce_held x (held_by x post.seats) post)) (place g c).1 (c.bounce_held.ensures.spells post s)
+    subst (λ x. SpellsPost (g.S.Words.memory c.bounce_held.new.store) c.args.rma c.bounce_held.new.self (bounce_held x (held_by x post.seats) post))
+    (place g c).1 (c.bounce_held.ensures.spells post s)
 
 there : (g : given.Over) (c : After-bounce_held g) (post : Post) → SpellsPost (g.S.Words.memory c.args.store.now) c.args.rma c.args.self.now post
     → (c.in-Some.at < length c.bounce_held.new.self.entries) × ((entry_at c.bounce_held.new.self.entries c.in-Some.at).handle ≡ c.args.handle)
 there g c post s =
-    let w = stays (heap_in (g.S.Words.memory c.args.store.now) c.args.rma) (heap_in (g.S.Words.memory c.bounce_held.new.store) c.args.rma) c.args.self.now c.bounce_held.new.self post c.args.handle c.in-Some.at
+    let w = stays (heap_in (g.S.Words.memory c.args.store.now) c.args.rma) (heap_in (g.S.Words.memory c.bounce_held.new.store) c.args.rma) c.args.self.now
+    c.bounce_held.new.self post c.args.handle c.in-Some.at
     (held_by c.args.handle post.seats) s (spelled g c post s) (place g c).0 in
     (w.within, w.handle ∙ (place g c).1)
 
@@ -60,8 +63,11 @@ pub take-requires-clause-post : goal.take-requires-clause-post
 take-requires-clause-post g c =
     let o = (goal.at.take-requires-clause-post g c).After-bounce_held in
     let post = c.requires.queue.post in
-    let w = there g o post c.requires.queue.spells in
-    (between g o post, spelled g o post c.requires.queue.spells, subst (λ x. held_by x (between g o post).seats ≡ None) (sym w.1) (held-after c.args.handle (held_by c.args.handle post.seats) post refl))
+    let w = there g o post c.requires.queue.spells in (
+      between g o post,
+      spelled g o post c.requires.queue.spells,
+      subst (λ x. held_by x (between g o post).seats ≡ None) (sym w.1) (held-after c.args.handle (held_by c.args.handle post.seats) post refl),
+    )
 
 pub returns-clause-answer : goal.returns-clause-answer
 unfolding post_poll
@@ -82,10 +88,12 @@ returns-clause-leaves g c = left c.requires.queue (λ post s.
     let before = between g o post in
     subst (λ x. SpellsPost (g.S.Words.memory c.take.new.store) c.args.rma c.take.new.self (taken_from x (first_for x before.queued) before).0) w.1
     (c.take.ensures.spells before (spelled g o post s) (subst (λ x. held_by x before.seats ≡ None) (sym w.1) none)))
-    c.take.ensures.module (OnlyArea-both (g.S.Words.memory c.args.store.now) (g.S.Words.memory c.bounce_held.new.store) (g.S.Words.memory c.take.new.store) c.args.rma.area.0 c.bounce_held.ensures.only c.take.ensures.only)
+    c.take.ensures.module (OnlyArea-both (g.S.Words.memory c.args.store.now) (g.S.Words.memory c.bounce_held.new.store) (g.S.Words.memory c.take.new.store)
+    c.args.rma.area.0 c.bounce_held.ensures.only c.take.ensures.only)
 
 pub returns-clause-handles : goal.returns-clause-handles
 returns-clause-handles g c =
     let post = c.requires.queue.post in
     let l = (returns-clause-leaves g c).spells post c.requires.queue.spells in
-    handles-stay (heap_in (g.S.Words.memory c.args.store.now) c.args.rma) (heap_in (g.S.Words.memory c.take.new.store) c.args.rma) c.args.self.now c.take.new.self post (post_poll c.args.handle post).0 c.requires.queue.spells l (post_poll-handles c.args.handle post)
+    handles-stay (heap_in (g.S.Words.memory c.args.store.now) c.args.rma) (heap_in (g.S.Words.memory c.take.new.store) c.args.rma) c.args.self.now
+    c.take.new.self post (post_poll c.args.handle post).0 c.requires.queue.spells l (post_poll-handles c.args.handle post)

@@ -13,5 +13,6 @@ returns-clause-starts c = λ m rma w.
       area = w;
       post = p;
       spells = subst (λ es. IsPost h (record { entries = es; live = 0; next_ref = c.from.result }) p) (sym c.new.ensures)
-          (subst (λ r. IsPost h (record { entries = []; live = 0; next_ref = r }) p) (sym (c.from.ensures ∙ c.next_ref.view_is)) (start-spells h c.args.next_ref));
+          (subst (λ r. IsPost h (record { entries = []; live = 0; next_ref = r }) p) (sym (c.from.ensures ∙ c.next_ref.view_is))
+          (start-spells h c.args.next_ref));
     }

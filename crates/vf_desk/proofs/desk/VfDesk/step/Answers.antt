@@ -23,7 +23,8 @@ pub returns-clause-said : goal.returns-clause-said
 returns-clause-said c = in-handle (ap Some c.deref_mut.ensures.value ∙ c.in-Some.ensures.taken) c.step-called.ensures.said
 
 pub returns-clause-desk : goal.returns-clause-desk
-returns-clause-desk c = held-desk (ap Some c.deref_mut.ensures.value ∙ c.in-Some.ensures.taken) c.put.ensures (λ s. desk_by s c.args.command) c.step-called.ensures.desk
+returns-clause-desk c =
+    held-desk (ap Some c.deref_mut.ensures.value ∙ c.in-Some.ensures.taken) c.put.ensures (λ s. desk_by s c.args.command) c.step-called.ensures.desk
 
 pub returns-clause-rest : goal.returns-clause-rest
 returns-clause-rest c = held-by (ap Some c.deref_mut.ensures.value ∙ c.in-Some.ensures.taken) c.put.ensures KeepsRest c.step-called.ensures.rest

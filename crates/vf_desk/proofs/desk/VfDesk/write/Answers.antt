@@ -6,10 +6,12 @@ use Rattle.vf_desk.proofs.SeenLaws.{held-by, held-desk, held-same, in-handle, no
 use Rattle.vf_desk.proofs.desk.VfDesk.write.Goals as goal
 
 pub returns-in_default-clause-said : goal.returns-in_default-clause-said
-returns-in_default-clause-said c = none-said c.in_default.ensures.taken c.in_default.ensures.left (in_form (command.Put c.args.name.now c.args.anchor c.args.offset c.args.from.now))
+returns-in_default-clause-said c =
+    none-said c.in_default.ensures.taken c.in_default.ensures.left (in_form (command.Put c.args.name.now c.args.anchor c.args.offset c.args.from.now))
 
 pub returns-in_default-clause-desk : goal.returns-in_default-clause-desk
-returns-in_default-clause-desk c = none-desk c.in_default.ensures.taken c.in_default.ensures.left (in_form (command.Put c.args.name.now c.args.anchor c.args.offset c.args.from.now))
+returns-in_default-clause-desk c =
+    none-desk c.in_default.ensures.taken c.in_default.ensures.left (in_form (command.Put c.args.name.now c.args.anchor c.args.offset c.args.from.now))
 
 pub returns-in_default-clause-rest : goal.returns-in_default-clause-rest
 returns-in_default-clause-rest c = none-by c.in_default.ensures.taken c.in_default.ensures.left KeepsRest (stays-rest None)
@@ -21,7 +23,8 @@ pub returns-clause-said : goal.returns-clause-said
 returns-clause-said c = in-handle (ap Some c.deref_mut.ensures.value ∙ c.in-Some.ensures.taken) c.write-called.ensures.said
 
 pub returns-clause-desk : goal.returns-clause-desk
-returns-clause-desk c = held-desk (ap Some c.deref_mut.ensures.value ∙ c.in-Some.ensures.taken) c.put.ensures (λ s. desk_by s (in_form (command.Put c.args.name.now c.args.anchor c.args.offset c.args.from.now))) c.write-called.ensures.desk
+returns-clause-desk c = held-desk (ap Some c.deref_mut.ensures.value ∙ c.in-Some.ensures.taken) c.put.ensures
+    (λ s. desk_by s (in_form (command.Put c.args.name.now c.args.anchor c.args.offset c.args.from.now))) c.write-called.ensures.desk
 
 pub returns-clause-rest : goal.returns-clause-rest
 returns-clause-rest c = held-by (ap Some c.deref_mut.ensures.value ∙ c.in-Some.ensures.taken) c.put.ensures KeepsRest c.write-called.ensures.rest

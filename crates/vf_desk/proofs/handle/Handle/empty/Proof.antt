@@ -35,7 +35,8 @@ pub empty_spec : {M : Type 1} → statement M
 empty_spec 𝓤 𝓛 𝓜 𝓡 wired =
     let 𝓣 = tables 𝓤 𝓛.H 𝓜 𝓡 𝓡.env in
     let clauses = f.clauses 𝓛 𝓜.mem 𝓡.returns in
-    proved_at 𝓛 f.ended kept clauses 𝓜 𝓡 (Goes-dropped 𝓛 0 (plain (λ _. heap.the_row)) yes (λ κs x w. refl), tt) f.Key.name code.function (code.unfolded 𝓤 𝓛.H 𝓜 𝓡 wired) (λ y are.
+    proved_at 𝓛 f.ended kept clauses 𝓜 𝓡 (Goes-dropped 𝓛 0 (plain (λ _. heap.the_row)) yes (λ κs x w. refl), tt) f.Key.name code.function
+    (code.unfolded 𝓤 𝓛.H 𝓜 𝓡 wired) (λ y are.
     let a = y.0.3.0 in
     let End : Val → SProp 𝓤 = (walk_of 𝓛 f.ended kept clauses).post y in
     let Runs : List Val → SProp 𝓤 = λ ws. WpFn 𝓤 𝓛.H 𝓣.C 𝓣.Λ code.function ws End in

@@ -60,7 +60,8 @@ into_unboxed_spec 𝓤 𝓛 𝓜 𝓡 wired =
     let x = found.0 in
     split ! $ move ! (1 ∷ []) $ fsplit ! $ handle_out ! v y.0.4.0 (λ h words fits.
     rewrite ! 0 (λ (s : Option Station.the_row.Denot). ‵ (owned a v.at s)) found.1 refl $
-    in_a_block ! v.at (λ p. box_owns (ghosts.dealloc_token a) Station.the_row p x) (fst∗ 𝓤 (never 𝓤) (sem 𝓛 (ghosts.dealloc_token a (bare (lone Station.the_row.mir)) null_ptr))) (λ b o at.
+    in_a_block ! v.at (λ p. box_owns (ghosts.dealloc_token a) Station.the_row p x)
+    (fst∗ 𝓤 (never 𝓤) (sem 𝓛 (ghosts.dealloc_token a (bare (lone Station.the_row.mir)) null_ptr))) (λ b o at.
     let w : Val = pair (vptr b o) h in
     let typed = apart_good Station.the_row heap.the_row heap_laws.the_row_laws ghosts b o h fits in
     let made : (Apart Station.the_row heap.the_row heap_laws.the_row_laws ghosts).Denot = record { at = block_ptr b o; alloc = a; value = x } in

@@ -44,7 +44,8 @@ of_unboxed_spec 𝓤 𝓛 𝓜 𝓡 wired =
     let a = v.alloc in
     let End : Val → SProp 𝓤 = (walk_of 𝓛 f.ended kept clauses).post y in
     let Runs : List Val → SProp 𝓤 = λ ws. WpFn 𝓤 𝓛.H 𝓣.C 𝓣.Λ code.function ws End in
-    qed 𝓛 ((‵ ftrue ⊛ ‵ (fsep ((Apart Station.the_row heap.the_row heap_laws.the_row_laws ghosts).own_val v y.0.4.0) ftrue)) ∷ raw (emp 𝓤) ∷ []) ∵ split ! $ move ! (1 ∷ []) $ fsplit ! $
+    qed 𝓛 ((‵ ftrue ⊛ ‵ (fsep ((Apart Station.the_row heap.the_row heap_laws.the_row_laws ghosts).own_val v y.0.4.0) ftrue)) ∷ raw (emp 𝓤) ∷ []) ∵ split ! $
+    move ! (1 ∷ []) $ fsplit ! $
     apart_out Station.the_row heap.the_row heap_laws.the_row_laws ghosts ! v y.0.4.0 (λ b o h there words fits.
     let w : Val = pair (vptr b o) h in
     let typed = apart_good Station.the_row heap.the_row heap_laws.the_row_laws ghosts b o h fits in

@@ -12,10 +12,12 @@ pub returns-in_default-clause-count : goal.returns-in_default-clause-count
 returns-in_default-clause-count c = λ s seen. rw (listed-closed c.in_default.is s (question.Blocks c.args.name.now) seen) refl
 
 pub returns-in_default-name_of-clause-list : goal.returns-in_default-name_of-clause-list
-returns-in_default-name_of-clause-list c = λ s seen. rw (listed-bad s (question.Blocks c.args.name.now) (no-name c.args.name.now c.in_default-name_of.ensures)) (sym (filled-none c.args.to.now))
+returns-in_default-name_of-clause-list c =
+    λ s seen. rw (listed-bad s (question.Blocks c.args.name.now) (no-name c.args.name.now c.in_default-name_of.ensures)) (sym (filled-none c.args.to.now))
 
 pub returns-in_default-name_of-clause-count : goal.returns-in_default-name_of-clause-count
-returns-in_default-name_of-clause-count c = λ s seen. rw (listed-bad s (question.Blocks c.args.name.now) (no-name c.args.name.now c.in_default-name_of.ensures)) refl
+returns-in_default-name_of-clause-count c =
+    λ s seen. rw (listed-bad s (question.Blocks c.args.name.now) (no-name c.args.name.now c.in_default-name_of.ensures)) refl
 
 pub returns-clause-list : goal.returns-clause-list
 returns-clause-list c = λ s seen.

@@ -9,7 +9,8 @@ pub returns-in_default-clause-out : goal.returns-in_default-clause-out
 returns-in_default-clause-out c = λ s seen. rw (listed-closed c.in_default.is s (question.Status c.args.name.now) seen) (sym (filled-none c.args.outgoing.now))
 
 pub returns-in_default-clause-taken : goal.returns-in_default-clause-taken
-returns-in_default-clause-taken c = λ s seen. rw (listed-closed c.in_default.is s (question.Status c.args.name.now) seen) (sym (filled-none c.args.incoming.now))
+returns-in_default-clause-taken c =
+    λ s seen. rw (listed-closed c.in_default.is s (question.Status c.args.name.now) seen) (sym (filled-none c.args.incoming.now))
 
 pub returns-in_default-clause-outs : goal.returns-in_default-clause-outs
 returns-in_default-clause-outs c = λ s seen. rw (listed-closed c.in_default.is s (question.Status c.args.name.now) seen) refl
@@ -18,16 +19,20 @@ pub returns-in_default-clause-ins : goal.returns-in_default-clause-ins
 returns-in_default-clause-ins c = λ s seen. rw (listed-closed c.in_default.is s (question.Status c.args.name.now) seen) refl
 
 pub returns-in_default-name_of-clause-out : goal.returns-in_default-name_of-clause-out
-returns-in_default-name_of-clause-out c = λ s seen. rw (listed-bad s (question.Status c.args.name.now) (no-name c.args.name.now c.in_default-name_of.ensures)) (sym (filled-none c.args.outgoing.now))
+returns-in_default-name_of-clause-out c = λ s seen. rw (listed-bad s (question.Status c.args.name.now)
+    (no-name c.args.name.now c.in_default-name_of.ensures)) (sym (filled-none c.args.outgoing.now))
 
 pub returns-in_default-name_of-clause-taken : goal.returns-in_default-name_of-clause-taken
-returns-in_default-name_of-clause-taken c = λ s seen. rw (listed-bad s (question.Status c.args.name.now) (no-name c.args.name.now c.in_default-name_of.ensures)) (sym (filled-none c.args.incoming.now))
+returns-in_default-name_of-clause-taken c = λ s seen. rw (listed-bad s (question.Status c.args.name.now)
+    (no-name c.args.name.now c.in_default-name_of.ensures)) (sym (filled-none c.args.incoming.now))
 
 pub returns-in_default-name_of-clause-outs : goal.returns-in_default-name_of-clause-outs
-returns-in_default-name_of-clause-outs c = λ s seen. rw (listed-bad s (question.Status c.args.name.now) (no-name c.args.name.now c.in_default-name_of.ensures)) refl
+returns-in_default-name_of-clause-outs c =
+    λ s seen. rw (listed-bad s (question.Status c.args.name.now) (no-name c.args.name.now c.in_default-name_of.ensures)) refl
 
 pub returns-in_default-name_of-clause-ins : goal.returns-in_default-name_of-clause-ins
-returns-in_default-name_of-clause-ins c = λ s seen. rw (listed-bad s (question.Status c.args.name.now) (no-name c.args.name.now c.in_default-name_of.ensures)) refl
+returns-in_default-name_of-clause-ins c =
+    λ s seen. rw (listed-bad s (question.Status c.args.name.now) (no-name c.args.name.now c.in_default-name_of.ensures)) refl
 
 pub returns-clause-out : goal.returns-clause-out
 returns-clause-out c = λ s seen.

@@ -4,10 +4,12 @@ use Rattle.vf_desk.proofs.SeenLaws.{done-desk, done-refused, done-rest, done-sai
 use Rattle.vf_desk.proofs.station.Station.write.Goals as goal
 
 pub returns-in_default-clause-said : goal.returns-in_default-clause-said
-returns-in_default-clause-said c = shut-said c.args.self.now c.in_default.ensures.value c.in_default.ensures.after (in_form (command.Put c.args.name.now c.args.anchor c.args.offset c.args.from.now))
+returns-in_default-clause-said c = shut-said c.args.self.now c.in_default.ensures.value c.in_default.ensures.after
+    (in_form (command.Put c.args.name.now c.args.anchor c.args.offset c.args.from.now))
 
 pub returns-in_default-clause-desk : goal.returns-in_default-clause-desk
-returns-in_default-clause-desk c = shut-desk c.args.self.now c.in_default.ensures.value c.in_default.ensures.after (in_form (command.Put c.args.name.now c.args.anchor c.args.offset c.args.from.now))
+returns-in_default-clause-desk c = shut-desk c.args.self.now c.in_default.ensures.value c.in_default.ensures.after
+    (in_form (command.Put c.args.name.now c.args.anchor c.args.offset c.args.from.now))
 
 pub returns-in_default-clause-rest : goal.returns-in_default-clause-rest
 returns-in_default-clause-rest c = shut-rest c.args.self.now c.in_default.ensures.value c.in_default.ensures.after

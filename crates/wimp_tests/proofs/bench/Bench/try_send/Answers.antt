@@ -7,4 +7,5 @@ use Rattle.wimp_tests.proofs.bench.Bench.try_send.Goals as goal
 pub send-requires-clause-from : goal.send-requires-clause-from
 send-requires-clause-from g c =
     subst (λ h. HasEntry h c.args.self.now.queue) (sym c.letter-letter.ensures)
-    (HasEntry-from_handles c.args.sent.from c.args.self.now.queue (ap (list_any (λ h. h == c.args.sent.from)) c.requires.handles ∙ sym c.if-not-is_live.ensures))
+    (HasEntry-from_handles c.args.sent.from c.args.self.now.queue (ap (list_any (λ h. h == c.args.sent.from)) c.requires.handles
+    ∙ sym c.if-not-is_live.ensures))

@@ -10,7 +10,8 @@ bytes-requires g c =
     let s = c.args.self.now in
     let within = c.requires.within in
     let whole = whole_law s c.args.id.0 in
-    (seat s c.args.id.0 c.args.at (PAGE - c.args.at % PAGE) c.spot-start.result c.requires.opened (omega arith) (omega arith) (omega arith) c.spot-start.ensures).within
+    (seat s c.args.id.0 c.args.at (PAGE - c.args.at % PAGE) c.spot-start.result c.requires.opened (omega arith) (omega arith) (omega arith)
+    c.spot-start.ensures).within
 
 pub returns : goal.returns
 returns g c =

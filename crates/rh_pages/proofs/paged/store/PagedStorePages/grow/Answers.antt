@@ -14,7 +14,8 @@ room m w id d n e lt enough = let left = ap (λ (k : Memory). k.free) e ∙ free
 pub grow_page-requires-clause-some : goal.grow_page-requires-clause-some
 unfolding memory_of
 grow_page-requires-clause-some g c =
-    room (memory_of c.args.self.now) (memory_of c.loop-page.self) c.args.id.0 c.loop-page._page c.args.pages c.loop-page.invariant.1.1 c.loop-page-test.true (omega arith)
+    room (memory_of c.args.self.now) (memory_of c.loop-page.self) c.args.id.0 c.loop-page._page c.args.pages c.loop-page.invariant.1.1 c.loop-page-test.true
+    (omega arith)
 
 pub loop-page-preserved : goal.loop-page-preserved
 loop-page-preserved g c =

@@ -14,7 +14,8 @@ some_left m w id d n e lt enough = let left = ap (λ (k : Memory). length (bytes
 
 pub shrink_page-requires-clause-some : goal.shrink_page-requires-clause-some
 shrink_page-requires-clause-some g c =
-    some_left (memory_of c.args.self.now) (memory_of c.loop-page.self) c.args.id.0 c.loop-page._page c.args.pages c.loop-page.invariant.1.1 c.loop-page-test.true c.requires.within
+    some_left (memory_of c.args.self.now) (memory_of c.loop-page.self) c.args.id.0 c.loop-page._page c.args.pages c.loop-page.invariant.1.1
+    c.loop-page-test.true c.requires.within
 
 pub loop-page-preserved : goal.loop-page-preserved
 loop-page-preserved g c =

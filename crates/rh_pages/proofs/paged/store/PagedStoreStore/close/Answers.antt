@@ -20,9 +20,11 @@ none_in (x ∷ xs) e = absurd (omega arith)
 -- what is left to close after all pages were cut off
 record Emptied {G : _} {d : _} (s w : PagedStore G d) (id : ℕ) : Type 0 where
   pub kept : IsStore (region_of w) (pages_of w) (set w.opened id false) (free_of w) w.table.room MAX_AREAS
-  pub memory : memory_in (region_of w) (pages_of w) (set w.opened id false) (free_of w) w.table.room ≡ record { area = area_set (memory_of w).area id None; free = (memory_of w).free; pages = (memory_of w).pages; loan = (memory_of w).loan }
+  pub memory : memory_in (region_of w) (pages_of w) (set w.opened id false) (free_of w) w.table.room ≡ record
+      { area = area_set (memory_of w).area id None; free = (memory_of w).free; pages = (memory_of w).pages; loan = (memory_of w).loan }
 
-emptied : {G : _} {d : _} (s w : PagedStore G d) (id n : ℕ) → IsOpen (memory_of s) id → memory_of w ≡ shrunk (memory_of s) id n → n ≡ length (bytes (memory_of s) id) / PAGE → Emptied s w id
+emptied : {G : _} {d : _} (s w : PagedStore G d) (id n : ℕ) → IsOpen (memory_of s) id → memory_of w ≡ shrunk (memory_of s) id n
+    → n ≡ length (bytes (memory_of s) id) / PAGE → Emptied s w id
 unfolding memory_of bytes
 emptied s w id n o e all =
     let lt = numbered_law s id o in
@@ -42,7 +44,11 @@ bounds-self-id g c = numbered_law c.args.self.now c.args.id.0 c.requires
 pub invariant_of-self : goal.invariant_of-self
 invariant_of-self g c =
     let w = c.shrink.new.self in
-    record { few = w.few; long = w.long; kept = (emptied c.args.self.now w c.args.id.0 (c.len-pages.result / PAGE) c.requires c.shrink.ensures (ap (λ k. k / PAGE) c.len-pages.ensures)).kept }
+    record {
+      few = w.few;
+      long = w.long;
+      kept = (emptied c.args.self.now w c.args.id.0 (c.len-pages.result / PAGE) c.requires c.shrink.ensures (ap (λ k. k / PAGE) c.len-pages.ensures)).kept;
+    }
 
 pub returns : goal.returns
 unfolding memory_of

@@ -22,16 +22,21 @@ pub returns-in-None-clause-refused : goal.returns-in-None-clause-refused
 unfolding memory_of
 returns-in-None-clause-refused g c =
     let s = c.args.self.now in
-    let all = c.in-None.ensures.least in
-    (λ _. open_below-all (contents (region_of s) (pages_of s) s.opened) MAX_AREAS (λ k h. is_open (region_of s) (pages_of s) s.opened k (all k (let table = s.kept.flags in omega arith))), λ _. refl)
+    let all = c.in-None.ensures.least in (
+      λ _. open_below-all (contents (region_of s) (pages_of s) s.opened) MAX_AREAS (λ k h. is_open (region_of s) (pages_of s) s.opened k (all k (let table =
+          s.kept.flags in omega arith))),
+      λ _. refl,
+    )
 
 pub returns-in-Some-clause-ok : goal.returns-in-Some-clause-ok
 unfolding memory_of
 returns-in-Some-clause-ok g c =
     let s = c.args.self.now in let i = c.in-Some.i in
     let off = c.in-Some.ensures.closed.1 in
-    let h : i < MAX_AREAS = omega (arith, c.in-Some.ensures.closed.0, s.kept.flags) in
-    (rw (was_closed (region_of s) (pages_of s) s.opened (free_of s) s.table.room MAX_AREAS s.kept i h off) refl, opened_memory (region_of s) (pages_of s) s.opened (free_of s) s.table.room MAX_AREAS s.kept i h off)
+    let h : i < MAX_AREAS = omega (arith, c.in-Some.ensures.closed.0, s.kept.flags) in (
+      rw (was_closed (region_of s) (pages_of s) s.opened (free_of s) s.table.room MAX_AREAS s.kept i h off) refl,
+      opened_memory (region_of s) (pages_of s) s.opened (free_of s) s.table.room MAX_AREAS s.kept i h off,
+    )
 
 pub returns-in-Some-clause-least : goal.returns-in-Some-clause-least
 unfolding memory_of
@@ -45,5 +50,6 @@ returns-in-Some-clause-refused g c =
     let s = c.args.self.now in let i = c.in-Some.i in
     let off = c.in-Some.ensures.closed.1 in
     let h : i < MAX_AREAS = omega (arith, c.in-Some.ensures.closed.0, s.kept.flags) in
-    let fewer = open_below-none (memory_of s) i MAX_AREAS (was_closed (region_of s) (pages_of s) s.opened (free_of s) s.table.room MAX_AREAS s.kept i h off) h in
+    let fewer = open_below-none (memory_of s) i MAX_AREAS (was_closed (region_of s) (pages_of s) s.opened (free_of s) s.table.room MAX_AREAS s.kept i h off)
+    h in
     (λ e. absurd (cc), λ e. absurd (omega (arith, e, fewer)))

@@ -12,7 +12,8 @@ bytes-requires g c =
     let s = c.args.self.now in
     let within = c.requires.within in
     let whole = whole_law s c.args.id.0 in
-    (seat s c.args.id.0 c.args.at (PAGE - c.args.at % PAGE) c.spot-first.result c.requires.opened (omega arith) (omega arith) (omega arith) c.spot-first.ensures).within
+    (seat s c.args.id.0 c.args.at (PAGE - c.args.at % PAGE) c.spot-first.result c.requires.opened (omega arith) (omega arith) (omega arith)
+    c.spot-first.ensures).within
 
 pub returns-clause-bytes : goal.returns-clause-bytes
 returns-clause-bytes g c =

@@ -18,8 +18,11 @@ loop-done-preserved g c =
     let m = memory_of c.args.self.now in let id = c.args.id.0 in
     let d = c.loop-done.done in let n = c.min-run.result in
     let y = c.min-run.ensures in let t = c.loop-done-test.true in
-    let less : d + n ≤ c.args.n = omega arith in let u = memory_of c.zero_part.new.self in
-    (less, put_to m u id c.args.at (replicate (d + n) 0) (zeroed_more m (memory_of c.loop-done.self) u id c.args.at d n c.loop-done.invariant.1.memory c.zero_part.ensures))
+    let less : d + n ≤ c.args.n = omega arith in let u = memory_of c.zero_part.new.self in (
+      less,
+      put_to m u id c.args.at (replicate (d + n) 0) (zeroed_more m (memory_of c.loop-done.self) u id c.args.at d n c.loop-done.invariant.1.memory
+          c.zero_part.ensures),
+    )
 
 pub returns : goal.returns
 returns g c =

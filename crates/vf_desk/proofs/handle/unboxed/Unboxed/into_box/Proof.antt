@@ -10,7 +10,8 @@ use contract.BorrowLft.{◌⊑◌}
 use contract.Monad.{fact}
 use contract.Running.{tables}
 use prog.Wp.{WpFn}
-use types.Kit.{‵, raw, ◌⊛◌, some, later, at_ret, ◌$◌, ◌∵◌, !, qed, by, move, keep, drop, use1, split, split3, join, pick, fsplit, fjoin, feq_i, await, rewrite, suffices}
+use types.Kit.{‵, raw, ◌⊛◌, some, later, at_ret, ◌$◌, ◌∵◌, !, qed, by, move, keep, drop, use1, split, split3, join, pick, fsplit, fjoin, feq_i, await}
+use types.Kit.{rewrite, suffices}
 use types.Part.{sub, whole}
 use types.Run.{stop, fld, of_opd, no_more, and_then, first, blocks, exec, returns, enter}
 use types.ByLocal.{alloc_all, pass_all, free_all, look_at, get, get_in, sets, lands_last, env}
@@ -51,7 +52,8 @@ into_box_spec 𝓤 𝓛 𝓜 𝓡 wired T A L LA g d dx dd allocator glue glued 
     let given = bounded (a_type ∷ a_type ∷ []) (T, (A, tt)) (dcons d (dcons dx (dcons dd dnil))) in
     let fn = inst_fn given code.function in
     let kept : Stays ended.signature.params ended.kept = (stay_dropped (plain (λ _. Apart R Z LZ g)) no, tt) in
-    proved_at 𝓛 ended kept clauses 𝓜 𝓡 (Goes-blank 𝓛 2 (plain (λ _. Apart R Z LZ g)) no (λ κs x w. tt), tt) (f.Key.name given) fn (code.unfolded 𝓤 𝓛.H 𝓜 𝓡 wired (T, (A, tt)) d dx dd) (λ y are.
+    proved_at 𝓛 ended kept clauses 𝓜 𝓡 (Goes-blank 𝓛 2 (plain (λ _. Apart R Z LZ g)) no (λ κs x w. tt), tt) (f.Key.name given) fn
+    (code.unfolded 𝓤 𝓛.H 𝓜 𝓡 wired (T, (A, tt)) d dx dd) (λ y are.
     let κs = y.0.0 in
     let qs = y.0.1 in
     let v = y.0.3.0 in
@@ -69,7 +71,8 @@ into_box_spec 𝓤 𝓛 𝓜 𝓡 wired T A L LA g d dx dd allocator glue glued 
     -- [what the box owns; the handle; nothing; the tokens; what is required]
     move ! (4 ∷ []) $ use1 𝓛 (raw (fact 𝓤 (κs.0 ⊑ T.lives)) ⊛ raw (fact 𝓤 (κs.1.0 ⊑ A.lives)) ⊛ ‵ ftrue) (id⊢ 𝓤 _) $
     split3 ! $ move ! (2 ∷ []) $ drop ! $ move ! (1 ∷ 2 ∷ []) $ join ! $ move ! (1 ∷ 0 ∷ []) $ join ! $
-    move ! (2 ∷ []) $ feq_i ! (List Val) (vptr b o ∷ []) (vptr b o ∷ []) refl $ fjoin ! $ move ! (2 ∷ 0 ∷ []) $ fjoin ! $ move ! (2 ∷ 0 ∷ []) $ join ! $ join ! $
+    move ! (2 ∷ []) $ feq_i ! (List Val) (vptr b o ∷ []) (vptr b o ∷ []) refl $ fjoin ! $ move ! (2 ∷ 0 ∷ []) $ fjoin ! $ move ! (2 ∷ 0 ∷ []) $ join ! $
+    join ! $
     use1 𝓛 (raw (Making.pre z)) (id⊢ 𝓤 _) $
     suffices ! (Runs (apart ∷ [])) (subst (λ (us : List Val). ent 𝓤 (Runs (apart ∷ [])) (Runs us)) (sym (λ i. words i ++ [])) (id⊢ 𝓤 (Runs (apart ∷ [])))) $
     enter ! 𝓣.C 𝓣.Λ fn (apart ∷ []) End $ alloc_all ! (λ l. pass_all ! refl (typed, tt) $
@@ -77,9 +80,11 @@ into_box_spec 𝓤 𝓛 𝓜 𝓡 wired T A L LA g d dx dd allocator glue glued 
     sets ! (of_opd ! (get_in ! (fld ! refl (stop !)) (sub ! 0 refl (whole !)))) refl (tt, tt) $
     sets ! (of_opd ! (get_in ! (fld ! refl (stop !)) (sub ! 1 refl (whole !)))) refl fits $
     first ! $ blocks ! $ sets ! (of_opd ! (get ! refl)) refl fits $
-    calls_at_last ! (fm 𝓛 𝓜 𝓡) Making (met 𝓤 𝓛 𝓜 𝓡 (code.calls-std_alloc::boxed::Box::from_raw 𝓡.env wired) T A L LA g d dd allocator glued) z (and_then ! (get ! refl) (and_then ! (get ! refl) (no_more !))) (λ u.
+    calls_at_last ! (fm 𝓛 𝓜 𝓡) Making (met 𝓤 𝓛 𝓜 𝓡 (code.calls-std_alloc::boxed::Box::from_raw 𝓡.env wired) T A L LA g d dd allocator glued) z
+    (and_then ! (get ! refl) (and_then ! (get ! refl) (no_more !))) (λ u.
     use1 𝓛 (later (some (λ (r : Made.Denot). (Tokens ⊛ ‵ (Made.own_val r (u ∷ []))) ⊛
-    some (λ (ls : Lasts (making.ended T A g d dd) κs z.0.3). ‵ (lasts (making.ended T A g d dd) κs z.0.3 ls) ⊛ (raw (fact 𝓤 (r.value ≡ v.value)) ⊛ raw (fact 𝓤 (r.alloc ≡ a))))))) (id⊢ 𝓤 (Making.post z u)) $
+    some (λ (ls : Lasts (making.ended T A g d dd) κs z.0.3). ‵ (lasts (making.ended T A g d dd) κs z.0.3 ls) ⊛ (raw (fact 𝓤 (r.value ≡ v.value)) ⊛ raw
+    (fact 𝓤 (r.alloc ≡ a))))))) (id⊢ 𝓤 (Making.post z u)) $
     await ! tt $ pick ! (λ r. split ! $ move ! (1 ∷ []) $ pick ! (λ _. split3 ! $ drop ! $ move ! (2 ∷ []) $ split ! $ move ! (1 ∷ []) $
     -- the box is one machine value
     box_out E ! r (u ∷ []) (λ b' o' h' at us fits'. box_in E ! r b' o' r.value at refl $ rewrite ! 0 (λ (ws : List Val). ‵ (Made.own_val r ws)) (sym us) refl $
