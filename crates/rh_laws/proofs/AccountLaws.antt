@@ -495,13 +495,7 @@ module _ (c : Claims) (d : Desk) {o : Offers} {e : Edits} (g : Good o e (view d)
   step-each (command.CancelIn name id) = by-own (command.CancelIn name id) refl (own-else (λ r. refl) (cancel_in-own name id))
   step-each (command.CancelOut name id) = by-own (command.CancelOut name id) refl (own-else (λ r. refl) (cancel_out-own name id))
   step-each (command.Repeat name) = by-own (command.Repeat name) refl (own-else (λ r. refl) (repeat-own name))
-  step-each (command.Area k delta) = by-own (command.Area k delta) refl none-own
-  step-each (command.Make most) = by-own (command.Make most) refl none-own
-  step-each (command.Remove k) = by-own (command.Remove k) refl none-own
-  step-each (command.RmaClaim n) = by-own (command.RmaClaim n) refl none-own
-  step-each (command.RmaFree a) = by-own (command.RmaFree a) refl none-own
-  step-each (command.RmaResize a delta) = by-own (command.RmaResize a delta) refl none-own
-  step-each (command.Ask q) = by-own (command.Ask q) refl none-own
+  step-each b = by-own b refl none-own
 
   -- handles go up
   next-up : (b : Command) → d.next_handle ≤ (step d b).0.next_handle

@@ -38,9 +38,10 @@ use Rattle.rh_safety.proofs.Basics.{FoundActive, active_is, asking_is, drains, f
 use Rattle.rh_safety.proofs.SeenBlocks.{added_still, alloc_is, changed_still, extend_is, put_is}
 use Rattle.rh_safety.proofs.SeenHeaps.{claim_is, claimed_free, claimed_map}
 use Rattle.rh_safety.proofs.View.{buffers_of, task_of}
-use Rattle.rh_laws.proofs.Frames.{any-grant, edit-other, edit-own}
+use Rattle.rh_laws.proofs.Frames.{edit-other, edit-own}
 use Rattle.rh_laws.proofs.Accounts.{Accounts, begun-accounts, ended-accounts, one, renewed-accounts, same-accounts, size_in, sized-accounts}
 use Rattle.rh_laws.proofs.AccountSlots.{rid-map, written-sizes}
+use Rattle.rh_safety.proofs.OwnEdits.{any-grant}
 
 -- ---- the task of a handle
 

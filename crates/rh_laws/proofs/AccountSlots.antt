@@ -1,35 +1,34 @@
 -- The calls on a slot that transfers and commands on the C heap make, as its map of blocks and their sizes.
-use Rattle.std.proofs.Common.{suc, length-append, length-drop, length-take, ◌≡◌, ℕ, ◌+◌, ◌-◌, ◌<◌, ◌≤◌, Bool, true, false}
-use Rattle.std.proofs.Common.{List, [], ◌∷◌, length, Option, Some, None, refl, sym, ap, ◌∙◌, subst, inl, inr}
+use Rattle.std.proofs.Common.{length-append, length-drop, length-take, ◌≡◌, ℕ, ◌+◌, ◌-◌, ◌<◌, ◌≤◌, Bool, true, false}
+use Rattle.std.proofs.Common.{List, length, Option, Some, None, refl, sym, ap, ◌∙◌, subst, inl, inr}
 use Rattle.std.proofs.Common.{arith}
-use Rattle.std.specs.Prelude.{ℤ, nat_eq, nat_lt, nat_le, if◌then◌else◌, Ok, Err}
+use Rattle.std.specs.Prelude.{ℤ, nat_le, if◌then◌else◌, Ok, Err}
 use Rattle.std.specs.Option.{option_map}
-use Rattle.std.proofs.lemmas.List.{take_all, append-nil}
-use Rattle.std.proofs.lemmas.Grind.{common_steps}
 use Rattle.std.proofs.lemmas.Bool.Decides.{eqb_tells, leb_tells}
 use Rattle.rh_defs.specs.declared.refusal.Refusal.TheVariants.{NotABlock}
 use Rattle.rh_defs.specs.Chain.{Granted, ◌>>=◌, found_or, result_or}
 use Rattle.rh_defs.specs.Pieces.{Split, total, with_here, written, moved}
-use Rattle.rh_defs.specs.Heap.{Way, Stays, Shrinks, GrowsIntoHole, GrowsAtTop, MovesToHole, MovesToTop, Segment, Used}
-use Rattle.rh_defs.specs.Heap.{Hole, Heap, Placed, size_of, first_place, place_after, is_around, is_block_at, is_hole_for}
-use Rattle.rh_defs.specs.Heap.{hole_for, block_around, block_room, raised, released, bytes_of}
-use Rattle.rh_defs.specs.Heap.{fitted, segment_size, way_to, way_to_grow, way_beyond, new_size, resize_need}
+use Rattle.rh_defs.specs.Heap.{Segment, Used}
+use Rattle.rh_defs.specs.Heap.{Hole, Heap, Placed, size_of, first_place, place_after, is_around, is_block_at}
+use Rattle.rh_defs.specs.Heap.{block_around, block_room, raised, released, bytes_of}
+use Rattle.rh_defs.specs.Heap.{fitted, segment_size, way_to, new_size, resize_need}
 use Rattle.rh_defs.specs.Heap.{resize_growing, resized_by}
 use Rattle.rh_defs.specs.Slot.{Flex, Slot, heap_start, heap_block_at, with_heap, with_placed, slot_release, slot_resize}
 use Rattle.rh_defs.specs.Slot.{flex_around}
 use Rattle.rh_defs.specs.Places.{buffer_at, roomy_in, with_heap_bytes, written_around, written_heap, written_in}
 use Rattle.rh_defs.specs.IncomingEvents.{without_buffer}
 use Rattle.rh_safety.proofs.View.{buffers_of}
-use Rattle.rh_safety.proofs.HeapMap.{bytes_at, heap_map, CanGo, IsMoved, HoleFor}
+use Rattle.rh_safety.proofs.HeapMap.{bytes_at, heap_map, CanGo, IsMoved}
 use Rattle.rh_safety.proofs.SeenTasks.{Same, unput}
 use Rattle.rh_safety.proofs.SeenFrames.{is_found}
 use Rattle.rh_safety.proofs.SeenBlocks.{from_bind, ok_is}
-use Rattle.rh_safety.proofs.SeenHeaps.{cut_is, gone_map, hole_is, length_fitted, release_is, shifted, used_is}
+use Rattle.rh_safety.proofs.SeenHeaps.{cut_is, gone_map, length_fitted, release_is, shifted, used_is}
 use Rattle.rh_safety.proofs.SeenDocuments.{buffer_is}
 use Rattle.rh_safety.proofs.HeapMaps as heaps
 use Rattle.rh_safety.proofs.Ends as post
-use Rattle.rh_safety.proofs.Basics.{and_left, and_right, either, is_equal}
+use Rattle.rh_safety.proofs.Basics.{and_left, and_right}
 use Rattle.rh_laws.proofs.Accounts.{size_in}
+use Rattle.rh_safety.proofs.SeenHeaps.{can_go, fitted_same, placed_high, shifted_twice}
 
 -- ---- a buffer that goes
 
@@ -134,75 +133,8 @@ pub record IsResized (delta : ℤ) (old new : Slot) (from to : ℕ) : Type 0 whe
   pub free : post.put (buffers_of old) from None to ≡ None
   pub moves : Same (buffers_of new) (post.put (post.put (buffers_of old) from None) to (Some bytes))
 
--- as many bytes as there are
-fitted_same : (bytes : List ℕ) → fitted (length bytes) bytes ≡ bytes
-fitted_same bytes = grind (arith, common_steps, take_all (length bytes) bytes, append-nil bytes)
-
 room_fits : (n : ℕ) → 4 + block_room n ≡ segment_size n
 room_fits n = omega arith
-
--- the hole that was found for a block
-found_hole : (bytes : List ℕ) (h : Heap) (k : ℕ) (s : Split Segment) →
-    hole_for (4 + length bytes) h.segments ≡ Some s → HoleFor (length bytes) (raised k h) s
-found_hole bytes h k s q =
-    let c = cut_is size_of (is_hole_for (4 + length bytes)) first_place h.segments s q in
-    let hole = hole_is (4 + length bytes) (first_place + total size_of s.before) s.here c.passes in
-    record { size = hole.size; cut = record { whole = c.whole }; here = hole.here; room = hole.room }
-
-beyond_goes : (bytes old : List ℕ) (h : Heap) (k : ℕ) (s : Split Segment) (after : List Segment) → s.after ≡ after →
-    (o : Option (Split Segment)) → hole_for (4 + length bytes) h.segments ≡ o →
-    CanGo (way_beyond after o) old bytes (raised k h) s
-beyond_goes bytes old h k s [] e None q = e
-beyond_goes bytes old h k s [] e (Some hole) q = found_hole bytes h k hole q
-beyond_goes bytes old h k s (g ∷ after) e None q = tt
-beyond_goes bytes old h k s (g ∷ after) e (Some hole) q = found_hole bytes h k hole q
-
-grow_goes : (bytes old : List ℕ) (h : Heap) (k : ℕ) (s : Split Segment) (after : List Segment) → s.after ≡ after →
-    s.here ≡ Used old →
-    CanGo (way_to_grow (4 + length bytes) s after h) old bytes (raised k h) s
-grow_goes bytes old h k s [] e here =
-    either (λ w. CanGo w old bytes (raised k h) s) (nat_le (place_after s.before + (4 + length bytes)) h.end)
-    GrowsAtTop _
-    (λ b. e) (λ b. beyond_goes bytes old h k s [] e (hole_for (4 + length bytes) h.segments) refl)
-grow_goes bytes old h k s (Used b ∷ after) e here = beyond_goes bytes old h k s (Used b ∷ after) e
-    (hole_for (4 + length bytes) h.segments) refl
-grow_goes bytes old h k s (Hole size ∷ after) e here =
-    let same : size_of s.here ≡ 4 + length old = ap size_of here in
-    either (λ w. CanGo w old bytes (raised k h) s) (nat_le (4 + length bytes) (size_of s.here + size)) (GrowsIntoHole
-    size after) _
-    (λ b. (
-      e,
-      let z : 4 + length bytes ≤ size_of s.here + size = grind (
-        arith,
-        leb_tells (4 + length bytes)
-            (size_of s.here + size),
-      ) in omega arith,
-    ))
-    (λ b. beyond_goes bytes old h k s (Hole size ∷ after) e (hole_for (4 + length bytes) h.segments) refl)
-
--- the way that is taken can be gone
-can_go : (bytes old : List ℕ) (h : Heap) (k : ℕ) (s : Split Segment) → (length bytes ≡ length old → bytes ≡ old) →
-    s.here ≡ Used old →
-    CanGo (way_to (4 + length bytes) s h) old bytes (raised k h) s
-can_go bytes old h k s stay here =
-    let same : size_of s.here ≡ 4 + length old = ap size_of here in
-    either (λ w. CanGo w old bytes (raised k h) s) (nat_eq (4 + length bytes) (size_of s.here)) Stays _
-    (λ b. stay (let z : 4 + length bytes ≡ size_of s.here = is_equal _ _ b in omega arith))
-    (λ b. either (λ w. CanGo w old bytes (raised k h) s) (nat_lt (4 + length bytes) (size_of s.here)) Shrinks _
-    (λ c. let z : 4 + length bytes < size_of s.here = grind (
-      arith,
-      leb_tells (suc (4 + length bytes))
-          (size_of s.here),
-    ) in omega arith)
-    (λ c. grow_goes bytes old h k s s.after refl here))
-
--- two places of the maps of a slot
-shifted_twice : (m : ℕ → Option (List ℕ)) (x y : ℕ) (v w : Option (List ℕ)) (a : ℕ) → 0 < x → 0 < y →
-    post.put (post.put m x v) y w (a - heap_start) ≡ post.put (post.put (λ j. m (j - heap_start)) (heap_start + x) v)
-    (heap_start + y) w a
-shifted_twice m x y v w a px py =
-    shifted (post.put m x v) y w a py ∙
-    elim (eqb_tells a (heap_start + y)) [ inl b ↦ rw b.0 refl | inr b ↦ rw b.0 (shifted m x v a px) ]
 
 module _ (n k : ℕ) (s : Slot) (b : Split Segment) (old : List ℕ) (whole : with_here b b.here ≡ s.heap.segments)
     (here : b.here ≡ Used old) where
@@ -234,15 +166,6 @@ module _ (n k : ℕ) (s : Slot) (b : Split Segment) (old : List ℕ) (whole : wi
     };
     here = here;
   }) goes
-
--- a block never gets address 0
-placed_high : (w : Way) (bytes : List ℕ) (b : Split Segment) (h : Heap) → 0 < (resized_by w bytes b h).address
-placed_high Stays bytes b h = omega arith
-placed_high Shrinks bytes b h = omega arith
-placed_high (GrowsIntoHole size rest) bytes b h = omega arith
-placed_high GrowsAtTop bytes b h = omega arith
-placed_high (MovesToHole hole) bytes b h = omega arith
-placed_high MovesToTop bytes b h = omega arith
 
 -- past tests that were passed
 past : {A : Type 0} (g : Granted (Unit {0})) (next : Granted A) (y : A) → (g >>= (λ _. next)) ≡ Ok y → next ≡ Ok y

@@ -1,13 +1,12 @@
 -- Each command keeps what agrees with what was offered, and records agree after every list of commands.
-use Rattle.std.proofs.Common.{◌≡◌, ℕ, ◌+◌, ◌≤◌, Bool, not, List, [], ◌∷◌, length, Option, Some, None}
+use Rattle.std.proofs.Common.{◌≡◌, ℕ, ◌+◌, ◌≤◌, Bool, not, List, [], ◌∷◌, Option, Some, None}
 use Rattle.std.proofs.Common.{refl, sym, ap, ◌∙◌, subst, arith}
-use Rattle.std.specs.Prelude.{◌==◌, nat_lt, find, ℤ, Ok, IfSome}
+use Rattle.std.specs.Prelude.{◌==◌, find, Ok, IfSome}
 use Rattle.rh_defs.specs.declared.command.Command.{Command}
 use Rattle.rh_defs.specs.declared.command.Command.TheVariants as command
 use Rattle.rh_defs.specs.declared.command.Manner.{Manner}
 use Rattle.rh_defs.specs.declared.message.Body.{Body}
 use Rattle.rh_defs.specs.declared.message.Body.TheVariants as body
-use Rattle.rh_defs.specs.declared.question.Question.{Question}
 use Rattle.rh_defs.specs.declared.reply.Reply.TheVariants as reply
 use Rattle.rh_defs.specs.declared.transfer.Incoming.{Incoming}
 use Rattle.rh_defs.specs.declared.transfer.Incoming.TheVariants as incoming
@@ -21,12 +20,11 @@ use Rattle.rh_defs.specs.Records.{in_id, is_open, out_id}
 use Rattle.rh_defs.specs.Sender as sender
 use Rattle.rh_defs.specs.Receiver as receiver
 use Rattle.rh_defs.specs.Desk.{Desk, Task, has_name, named, next_ref, task_at, with_delivered, with_sending}
-use Rattle.rh_defs.specs.Commands.{Answer, start_task, kill, alloc, load, put, free, extend, mid, claim, release, resize}
-use Rattle.rh_defs.specs.Commands.{budge, module_area, change_module, change_pages, change_made, change_area, make, remove}
-use Rattle.rh_defs.specs.Commands.{rma_claim, rma_free, rma_resize}
+use Rattle.rh_defs.specs.Commands.{Answer, start_task, kill}
+use Rattle.rh_defs.specs.Commands.{make}
 use Rattle.rh_defs.specs.Runs.{after, start_with}
 use Rattle.rh_defs.specs.Step.{save, repeat, poll, poll_taken, cancel_in, cancel_out, change, step}
-use Rattle.rh_defs.proofs.Chains.{OnGrant, chosen, granted, granted-past, granted-then, granted-with, or_else-keeps}
+use Rattle.rh_defs.proofs.Chains.{OnGrant, granted, granted-past, granted-then, granted-with, or_else-keeps}
 use Rattle.rh_defs.proofs.Lists.{append-all, filter-all, find-all}
 use Rattle.rh_safety.specs.Held.{document_of, held, held_of, is_edited}
 use Rattle.rh_safety.specs.Offered.{at_place, last_of}
@@ -34,13 +32,16 @@ use Rattle.rh_safety.proofs.Ends.{Has}
 use Rattle.rh_safety.proofs.Basics.{first_is, has_of, is_equal, none_some, open_is}
 use Rattle.rh_safety.proofs.SeenBlocks.{found_name}
 use Rattle.rh_safety.proofs.SeenFrames.{is_found}
+use Rattle.rh_safety.proofs.MemoryCommands.{Changed, IsOnMemory, granted-on, in_areas, in_made, in_module, in_nothing, in_slot}
 use Rattle.rh_laws.specs.Addressed.{Addresses, AgreesIn, AlwaysAddressed, From, IsAddressed, Parties, addressed}
 use Rattle.rh_laws.specs.Addressed.{addressed_again, addressed_last, addresses_from, addresses_next, parties_of}
-use Rattle.rh_laws.proofs.Addresses.{Agrees, BodyAgrees, Extends, IsMine, InAgrees, InsAgree, LastAgrees, OutAgrees}
-use Rattle.rh_laws.proofs.Addresses.{OutsAgree, TaskAgrees, all-has, all-more, all-with, death-left, delivered-agrees, ins-agree}
-use Rattle.rh_laws.proofs.Addresses.{letter-agrees, new-born, new-extends, new-here, outs-agree, poll-taken}
+use Rattle.rh_laws.proofs.Addresses.{Agrees, BodyAgrees, Extends, InAgrees, InsAgree, LastAgrees, OutAgrees}
+use Rattle.rh_laws.proofs.Addresses.{OutsAgree, TaskAgrees, all-has, all-more, all-with, delivered-agrees, ins-agree}
+use Rattle.rh_laws.proofs.Addresses.{letter-agrees, new-born, new-extends, new-here, outs-agree}
 use Rattle.rh_laws.proofs.Addresses.{slot-agrees}
 use Rattle.rh_laws.proofs.AddressPolls.{mine-agrees}
+use Rattle.rh_laws.proofs.Queues.{IsMine, death-left, poll-taken}
+use Rattle.rh_laws.proofs.Addresses.{ParcelAgrees, back-agrees}
 
 -- ---- a task that was found
 
@@ -76,53 +77,22 @@ module _ (a : Addresses) (d : Desk) (g : Agrees a d) where
   unfolding kill with_delivered
   kill-keeps name =
       granted-then _ _ λ t e.
-      let left = death-left a t.handle d.post in
+      let left = death-left (ParcelAgrees a) (back-agrees a) t.handle d.post in
       same (record {
         born = λ i low. g.born i (subst (λ n. n ≤ i) left.next low);
         of_tasks = filter-all (TaskAgrees a) (λ (other : Task). not (other.handle == t.handle)) d.tasks g.of_tasks;
         mail = left.mail g.mail;
       })
 
-  alloc-keeps : (name : List ℕ) (k n : ℕ) → OnGrant Keeps (alloc d name k n)
-  unfolding alloc
-  alloc-keeps name k n = granted-then _ _ λ t e. granted-then _ _ λ p f. same (slot-agrees t.handle p.0 d g)
+  changed-agrees : {c : Command} (x : Answer) → Changed c d x → Keeps x
+  changed-agrees _ (in_slot name t s same_name e is) = record { desk = slot-agrees t.handle s d g }
+  changed-agrees _ (in_module h is) = record { desk = g }
+  changed-agrees _ (in_areas areas is) = record { desk = g }
+  changed-agrees _ (in_made areas is) = record { desk = g }
+  changed-agrees _ (in_nothing is) = record { desk = g }
 
-  load-keeps : (name : List ℕ) (k : ℕ) (file : List ℕ) → OnGrant Keeps (load d name k file)
-  unfolding load
-  load-keeps name k file = granted-then _ _ λ t e. granted-then _ _ λ entry f. granted-then _ _ λ p i. granted-then _ _ λ s j.
-      same (slot-agrees t.handle s d g)
-
-  put-keeps : (name : List ℕ) (k offset : ℕ) (bytes : List ℕ) → OnGrant Keeps (put d name k offset bytes)
-  unfolding put
-  put-keeps name k offset bytes = granted-then _ _ λ t e. granted-then _ _ λ b f. granted-then _ _ λ s i. same (slot-agrees t.handle s d g)
-
-  free-keeps : (name : List ℕ) (k : ℕ) → OnGrant Keeps (free d name k)
-  unfolding free
-  free-keeps name k = granted-then _ _ λ t e. granted-then _ _ λ b f. granted-then _ _ λ s i. same (slot-agrees t.handle s d g)
-
-  extend-keeps : (name : List ℕ) (k n : ℕ) → OnGrant Keeps (extend d name k n)
-  unfolding extend
-  extend-keeps name k n = granted-then _ _ λ t e. granted-then _ _ λ b f. granted-then _ _ λ s i. same (slot-agrees t.handle s d g)
-
-  mid-keeps : (name : List ℕ) (k offset : ℕ) (by : ℤ) → OnGrant Keeps (mid d name k offset by)
-  unfolding mid
-  mid-keeps name k offset by = granted-then _ _ λ t e. granted-then _ _ λ b f. granted-then _ _ λ s i. same (slot-agrees t.handle s d g)
-
-  claim-keeps : (name : List ℕ) (n : ℕ) → OnGrant Keeps (claim d name n)
-  unfolding claim
-  claim-keeps name n = granted-then _ _ λ t e. granted-then _ _ λ p f. same (slot-agrees t.handle p.0 d g)
-
-  release-keeps : (name : List ℕ) (address : ℕ) → OnGrant Keeps (release d name address)
-  unfolding release
-  release-keeps name address = granted-then _ _ λ t e. granted-then _ _ λ b f. granted-then _ _ λ s i. same (slot-agrees t.handle s d g)
-
-  resize-keeps : (name : List ℕ) (address : ℕ) (delta : ℤ) → OnGrant Keeps (resize d name address delta)
-  unfolding resize
-  resize-keeps name address delta = granted-then _ _ λ t e. granted-then _ _ λ b f. granted-then _ _ λ p i. same (slot-agrees t.handle p.0 d g)
-
-  budge-keeps : (name : List ℕ) (on : Bool) → OnGrant Keeps (budge d name on)
-  unfolding budge
-  budge-keeps name on = granted-then _ _ λ t e. same (slot-agrees t.handle _ d g)
+  memory-keeps : (c : Command) → IsOnMemory c → OnGrant Keeps (change d c)
+  memory-keeps c is = granted-on d c is changed-agrees
 
   -- the records of the task that was found, one of them written anew
   cancel_in-keeps : (name : List ℕ) (id : Option ℕ) → OnGrant Keeps (cancel_in d name id)
@@ -156,34 +126,8 @@ module _ (a : Addresses) (d : Desk) (g : Agrees a d) where
   unfolding make
   make-keeps most = granted-past _ _ _ λ x. granted-past _ _ _ λ y. same g
 
-  remove-keeps : (n : ℕ) → OnGrant Keeps (remove d n)
-  unfolding remove
-  remove-keeps n = granted-then _ _ λ m e. same g
-
-  change_area-keeps : (n : ℕ) (delta : ℤ) → OnGrant Keeps (change_area d n delta)
-  unfolding change_module change_pages change_made
-  change_area-keeps n delta =
-      chosen (OnGrant Keeps) (n == module_area) _ _ (granted-then _ _ λ c e. same g)
-      (chosen (OnGrant Keeps) (nat_lt n (length d.areas)) _ _ (granted-then _ _ λ c e. same g)
-      (granted-then _ _ λ m e. granted-then _ _ λ c f. granted-past _ _ _ λ big. same g))
-
-  rma_claim-keeps : (n : ℕ) → OnGrant Keeps (rma_claim d n)
-  unfolding rma_claim
-  rma_claim-keeps n = granted-then _ _ λ c e. same g
-
-  rma_free-keeps : (address : ℕ) → OnGrant Keeps (rma_free d address)
-  unfolding rma_free
-  rma_free-keeps address = granted-then _ _ λ b e. granted-then _ _ λ h f. same g
-
-  rma_resize-keeps : (address : ℕ) (delta : ℤ) → OnGrant Keeps (rma_resize d address delta)
-  unfolding rma_resize
-  rma_resize-keeps address delta = granted-then _ _ λ b e. granted-then _ _ λ c f. same g
-
-  ask-keeps : (q : Question) → OnGrant Keeps (change d (command.Ask q))
-  ask-keeps q = granted-then _ _ λ told e. same g
-
   -- the message that was taken, where there is one
-  taken-agrees : (t : Task) → TaskAgrees a t → (e : Desk) → Agrees a e → (o : Option Parcel) → IfSome o (IsMine a t.handle) →
+  taken-agrees : (t : Task) → TaskAgrees a t → (e : Desk) → Agrees a e → (o : Option Parcel) → IfSome o (IsMine (ParcelAgrees a) (back-agrees a) t.handle) →
       Agrees a (poll_taken e t o).0
   unfolding poll_taken
   taken-agrees t own e all None mine = all
@@ -193,7 +137,7 @@ module _ (a : Addresses) (d : Desk) (g : Agrees a d) where
   unfolding poll
   poll-keeps name =
       granted-then _ _ λ t e.
-      let w = poll-taken a t.handle d.post in
+      let w = poll-taken (ParcelAgrees a) (back-agrees a) t.handle d.post in
       let polled : Post × Option Parcel = post_poll t.handle d.post in
       same (taken-agrees t (named-agrees d g name t e) (with_delivered polled.0 d) (delivered-agrees polled.0 d w.left g) polled.1
       (w.mine g.mail))
@@ -262,16 +206,6 @@ module _ (a : Addresses) (d : Desk) (g : Agrees a d) where
   step-agrees : (c : Command) → Agrees (addresses_next a d c (step d c).1) (step d c).0
   step-agrees (command.Task name buffer manner) = kept (start_task-keeps a d g name buffer manner)
   step-agrees (command.Kill name) = kept (kill-keeps a d g name)
-  step-agrees (command.Alloc name k n) = kept (alloc-keeps a d g name k n)
-  step-agrees (command.Load name k file) = kept (load-keeps a d g name k file)
-  step-agrees (command.Put name k offset bytes) = kept (put-keeps a d g name k offset bytes)
-  step-agrees (command.Free name k) = kept (free-keeps a d g name k)
-  step-agrees (command.Extend name k n) = kept (extend-keeps a d g name k n)
-  step-agrees (command.Mid name k offset by) = kept (mid-keeps a d g name k offset by)
-  step-agrees (command.Claim name n) = kept (claim-keeps a d g name n)
-  step-agrees (command.Release name address) = kept (release-keeps a d g name address)
-  step-agrees (command.Resize name address delta) = kept (resize-keeps a d g name address delta)
-  step-agrees (command.Budge name on) = kept (budge-keeps a d g name on)
   step-agrees (command.Save name k to leaf) =
       (or_else-keeps (Follows a d g (command.Save name k to leaf)) _ (save-follows a d g name k to leaf) (λ refusal. record { desk = g })).desk
   step-agrees (command.Poll name) = kept (poll-keeps a d g name)
@@ -279,13 +213,8 @@ module _ (a : Addresses) (d : Desk) (g : Agrees a d) where
   step-agrees (command.CancelOut name id) = kept (cancel_out-keeps a d g name id)
   step-agrees (command.Repeat name) =
       (or_else-keeps (Follows a d g (command.Repeat name)) _ (repeat-follows a d g name) (λ refusal. record { desk = g })).desk
-  step-agrees (command.Area k delta) = kept (change_area-keeps a d g k delta)
   step-agrees (command.Make most) = kept (make-keeps a d g most)
-  step-agrees (command.Remove k) = kept (remove-keeps a d g k)
-  step-agrees (command.RmaClaim n) = kept (rma_claim-keeps a d g n)
-  step-agrees (command.RmaFree address) = kept (rma_free-keeps a d g address)
-  step-agrees (command.RmaResize address delta) = kept (rma_resize-keeps a d g address delta)
-  step-agrees (command.Ask q) = kept (ask-keeps a d g q)
+  step-agrees c = kept (memory-keeps a d g c tt)
 
 after-agrees : (a : Addresses) (d : Desk) (cs : List Command) → Agrees a d → Agrees (addresses_from a d cs) (after d cs)
 after-agrees a d [] g = g

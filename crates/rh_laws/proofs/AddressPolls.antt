@@ -30,10 +30,12 @@ use Rattle.rh_defs.proofs.Chains.{OnGrant, chosen, granted, granted-both, grante
 use Rattle.rh_defs.proofs.Chains.{or_else-keeps}
 use Rattle.rh_safety.proofs.Basics.{FoundActive, active_is, asking_is, drains, fetches, open_is}
 use Rattle.rh_laws.specs.Addressed.{Addresses, From}
-use Rattle.rh_laws.proofs.Frames.{any-grant}
-use Rattle.rh_laws.proofs.Addresses.{Agrees, BodyAgrees, CodeAgrees, InAgrees, InsAgree, IsMine, OutAgrees, OutsAgree, TaskAgrees}
+use Rattle.rh_laws.proofs.Addresses.{Agrees, BodyAgrees, CodeAgrees, InAgrees, InsAgree, OutAgrees, OutsAgree, TaskAgrees}
 use Rattle.rh_laws.proofs.Addresses.{all-has, all-more, all-with, ended-agrees, ins-agree, outs-agree, plain-agrees, slot-agrees}
 use Rattle.rh_laws.proofs.Addresses.{task-agrees}
+use Rattle.rh_safety.proofs.OwnEdits.{any-grant}
+use Rattle.rh_laws.proofs.Queues.{IsMine}
+use Rattle.rh_laws.proofs.Addresses.{ParcelAgrees, back-agrees}
 
 -- after a message was handled, all agree
 record Keeps (a : Addresses) (x : Handled) : Type 0 where
@@ -284,7 +286,7 @@ module _ (a : Addresses) (t : Task) (own : TaskAgrees a t) where
     handled-keeps m Acknowledge is = came_back-keeps m m.message.body
 
     -- a message that is the task's
-    pub mine-agrees : (m : Parcel) → IsMine a h m → Agrees a (handled d t m m.code).0
+    pub mine-agrees : (m : Parcel) → IsMine (ParcelAgrees a) (back-agrees a) h m → Agrees a (handled d t m m.code).0
     mine-agrees m mine =
         (handled-keeps m m.code (subst (λ j. CodeAgrees m.code (BodyAgrees a m.message.from j m.message.my_ref m.message.body))
         mine.own mine.agrees)).desk

@@ -1,7 +1,7 @@
 -- What holds of a run: each record, each DataSave that is queued and each that was sent last agree with what was offered.
-use Rattle.std.proofs.Common.{◌≡◌, ℕ, ◌+◌, ◌≤◌, Bool, not, List, [], ◌∷◌, ◌++◌, Option, Some, None}
-use Rattle.std.proofs.Common.{refl, sym, subst, ◌∙◌, inl, inr, arith}
-use Rattle.std.specs.Prelude.{◌==◌, filter, nat_le, IfSome}
+use Rattle.std.proofs.Common.{◌≡◌, ℕ, ◌+◌, ◌≤◌, Bool, List, [], ◌∷◌, Option, Some, None}
+use Rattle.std.proofs.Common.{refl, sym, subst, inl, inr, arith}
+use Rattle.std.specs.Prelude.{◌==◌, nat_le}
 use Rattle.std.specs.List.{AllByRecursion}
 use Rattle.std.proofs.lemmas.Bool.Decides.{eqb_tells}
 use Rattle.rh_defs.specs.declared.message.Body.{Body}
@@ -14,20 +14,19 @@ use Rattle.rh_defs.specs.declared.transfer.Outgoing.TheVariants as outgoing
 use Rattle.rh_defs.specs.declared.transfer.Incoming.{Incoming}
 use Rattle.rh_defs.specs.declared.transfer.Incoming.TheVariants as incoming
 use Rattle.rh_defs.specs.declared.transfer.Taking.{Taking}
-use Rattle.rh_defs.specs.Messages.{Parcel, is_recorded}
-use Rattle.rh_defs.specs.Post.{Post, Seat, answers_held, behind_first, bounce_all, bounce_held, bounced, first_for, has_seat, held_by}
-use Rattle.rh_defs.specs.Post.{parcel_of, post_death, post_poll, post_send, put_down, queued_in, taken_from, with_held, without_block}
+use Rattle.rh_defs.specs.Messages.{Parcel}
+use Rattle.rh_defs.specs.Post.{Post, as_returned}
 use Rattle.rh_defs.specs.Records.{dropped, in_id, one_more, out_id, with_id}
 use Rattle.rh_defs.specs.Slot.{Slot}
 use Rattle.rh_defs.specs.Desk.{Desk, Task, edit_task, free_pages, send_letter, with_delivered, with_post, with_sending, with_slot}
 use Rattle.rh_defs.specs.Desk.{with_taking, with_task}
 use Rattle.rh_defs.specs.IncomingEvents.{ended}
-use Rattle.rh_defs.proofs.Chains.{OnGrant, chosen, granted, granted-both, granted-then, granted-with}
-use Rattle.rh_defs.proofs.Lists.{all-mono, append-all, filter-all}
+use Rattle.rh_defs.proofs.Chains.{OnGrant, chosen, granted, granted-with}
+use Rattle.rh_defs.proofs.Lists.{all-mono, append-all}
 use Rattle.rh_safety.proofs.Ends.{Has}
 use Rattle.rh_safety.specs.Offered.{at_place}
 use Rattle.rh_laws.specs.Addressed.{Addresses, AgreesIn, AgreesOut, From, Parties}
-use Rattle.rh_laws.proofs.Frames.{any-grant}
+use Rattle.rh_laws.proofs.Queues.{Left, sent-is}
 
 -- ---- what agrees
 
@@ -186,91 +185,11 @@ pub all-more : {A : Type 0} (P : A → Type 0) (lasts : A → Bool) (new : A) (x
 all-more P lasts new xs p all =
     append-all P _ new (chosen (AllByRecursion P) (nat_le _ _) (dropped lasts xs) xs (all-dropped P lasts xs all) all) p
 
--- ---- posts
-
-module _ (a : Addresses) where
-  -- where the queue agreed it still does, and no ref was given
-  pub record Left (old new : Post) : Type 0 where
-    pub mail : AllByRecursion (ParcelAgrees a) old.queued → AllByRecursion (ParcelAgrees a) new.queued
-    pub next : new.next_ref ≡ old.next_ref
-
-  left-same : {old new : Post} → new.queued ≡ old.queued → new.next_ref ≡ old.next_ref → Left old new
-  left-same q n = record { mail = λ all. subst (AllByRecursion (ParcelAgrees a)) (sym q) all; next = n }
-
-  left-both : {old between new : Post} → Left old between → Left between new → Left old new
-  left-both x y = record { mail = λ all. y.mail (x.mail all); next = y.next ∙ x.next }
-
-  bounced-left : (p : Parcel) (post : Post) → Left post (bounced p post)
-  bounced-left p post =
-      chosen (Left post) (has_seat p.message.from post.seats) _ (without_block p post)
-      (record { mail = λ all. append-all (ParcelAgrees a) post.queued _ all tt; next = refl }) (left-same refl refl)
-
-  bounce_held-left : (h : ℕ) (o : Option Parcel) (post : Post) → Left post (bounce_held h o post)
-  bounce_held-left h None post = left-same refl refl
-  bounce_held-left h (Some p) post =
-      left-both (left-same {new = record post { seats = with_held h None post.seats }} refl refl) (bounced-left p _)
-
-  bounce_all-left : (ps : List Parcel) (post : Post) → Left post (bounce_all ps post)
-  bounce_all-left [] post = left-same refl refl
-  bounce_all-left (p ∷ ps) post =
-      left-both (chosen (Left post) (is_recorded p.code) (bounced p post) (without_block p post) (bounced-left p post)
-      (left-same refl refl)) (bounce_all-left ps _)
-
-  pub death-left : (h : ℕ) (post : Post) → Left post (post_death h post)
-  unfolding post_death
-  death-left h post =
-      let rest : Post = record post {
-        seats = filter (λ (s : Seat). not (s.handle == h)) post.seats;
-        queued = filter (λ (p : Parcel). not (p.to == h)) post.queued;
-      } in
-      left-both (record { mail = λ all. filter-all (ParcelAgrees a) (λ (p : Parcel). not (p.to == h)) post.queued all; next = refl })
-      (left-both (bounce_held-left h (held_by h post.seats) rest)
-      (bounce_all-left (filter (λ (p : Parcel). p.to == h) post.queued) (bounce_held h (held_by h post.seats) rest)))
-
-  -- a message that was taken is for the task, and agrees
-  pub record IsMine (h : ℕ) (p : Parcel) : Type 0 where
-    pub own : p.to ≡ h
-    pub agrees : ParcelAgrees a p
-
-  -- the first message for a handle, and the others
-  record IsCut (h : ℕ) (t : Parcel × List Parcel) : Type 0 where
-    first : IsMine h t.0
-    rest : AllByRecursion (ParcelAgrees a) t.1
-
-  first-cut : (h : ℕ) (ps : List Parcel) → AllByRecursion (ParcelAgrees a) ps → IfSome (first_for h ps) (IsCut h)
-  first-cut h [] all = tt
-  first-cut h (p ∷ ps) all = elim (eqb_tells p.to h) [
-    | inl w ↦ rw w.0 (record { first = record { own = w.1; agrees = all.0 }; rest = all.1 })
-    | inr w ↦ rw w.0 (behind (first_for h ps) (first-cut h ps all.1))
-  ]
-    where
-      behind : (o : Option (Parcel × List Parcel)) → IfSome o (IsCut h) → IfSome (behind_first p o) (IsCut h)
-      behind None is = tt
-      behind (Some t) is = record { first = is.first; rest = (all.0, is.rest) }
-
-  -- what a poll takes, and the post that it leaves
-  pub record IsTaken (h : ℕ) (old : Post) (x : Post × Option Parcel) : Type 0 where
-    pub left : Left old x.0
-    pub mine : AllByRecursion (ParcelAgrees a) old.queued → IfSome x.1 (IsMine h)
-
-  taken-is : (h : ℕ) (post : Post) (o : Option (Parcel × List Parcel)) → (AllByRecursion (ParcelAgrees a) post.queued → IfSome o (IsCut h)) →
-      IsTaken h post (taken_from h o post)
-  taken-is h post None cut = record { left = left-same refl refl; mine = λ all. tt }
-  taken-is h post (Some t) cut = record {
-    left = chosen (Left post) (is_recorded t.0.code) _ _ (record { mail = λ all. (cut all).rest; next = refl })
-        (record { mail = λ all. (cut all).rest; next = refl });
-    mine = λ all. (cut all).first;
-  }
-
-  pub poll-taken : (h : ℕ) (post : Post) → IsTaken h post (post_poll h post)
-  unfolding post_poll
-  poll-taken h post =
-      let between : Post = bounce_held h (held_by h post.seats) post in
-      let before = bounce_held-left h (held_by h post.seats) post in
-      let w = taken-is h between (first_for h between.queued) (first-cut h between.queued) in
-      record { left = left-both before w.left; mine = λ all. w.mine (before.mail all) }
-
 -- ---- desks
+
+-- a message that goes back says nothing of whom it is for
+pub back-agrees : (a : Addresses) (p : Parcel) → ParcelAgrees a (as_returned p)
+back-agrees a p = tt
 
 module _ {a : Addresses} where
   pub task-agrees : (h : ℕ) (f : Task → Task) → ((t : Task) → t.handle ≡ h → TaskAgrees a t → TaskAgrees a (f t)) → (d : Desk) →
@@ -304,7 +223,7 @@ module _ {a : Addresses} where
   unfolding ended
   ended-agrees h f edit keeps d g = ins-agree h edit keeps _ (task-agrees h _ (λ t same is. is) d g)
 
-  pub delivered-agrees : (p : Post) (d : Desk) → Left a d.post p → Agrees a d → Agrees a (with_delivered p d)
+  pub delivered-agrees : (p : Post) (d : Desk) → Left (ParcelAgrees a) (back-agrees a) d.post p → Agrees a d → Agrees a (with_delivered p d)
   unfolding with_delivered
   delivered-agrees p d left g = record {
     born = λ i low. g.born i (subst (λ n. n ≤ i) left.next low);
@@ -313,22 +232,6 @@ module _ {a : Addresses} where
   }
 
 -- ---- letters
-
--- a letter that is sent stands at the queue's end, with the next ref
-record IsSent (l : Letter) (post : Post) (x : Post × ℕ) : Type 0 where
-  block : ℕ
-  queued : x.0.queued ≡ post.queued ++ parcel_of l post.next_ref block ∷ []
-  next : x.0.next_ref ≡ post.next_ref + 1
-  ref : x.1 ≡ post.next_ref
-
-sent-is : (room : ℕ) (l : Letter) (post : Post) → OnGrant (IsSent l post) (post_send room l post)
-unfolding post_send
-sent-is room l post =
-    granted-both _ (any-grant _) λ x u. granted-then _ _ λ there e.
-    granted (chosen (λ (p : Post). IsSent l post (p, post.next_ref)) (answers_held l.your_ref (held_by l.from post.seats))
-    (put_down l.from (queued_in l there post)) (queued_in l there post)
-    (record { block = there.1; queued = refl; next = refl; ref = refl })
-    (record { block = there.1; queued = refl; next = refl; ref = refl }))
 
 module _ (a b : Addresses) (more : Extends a b) (l : Letter) (d : Desk) where
   code-agrees : (c : EventCode) {P : Type 0} → P → CodeAgrees c P

@@ -1,5 +1,5 @@
 -- What holds of a run: to which transfer the messages of its two ends belong, and which transfers were loaded by whom.
-use Rattle.std.proofs.Common.{◌≡◌, ℕ, ◌+◌, ◌≤◌, Bool, true, false, List, [], ◌∷◌, ◌++◌, Option, Some, None}
+use Rattle.std.proofs.Common.{◌≡◌, ℕ, ◌+◌, ◌≤◌, Bool, true, false, List, [], ◌∷◌, Option, Some, None}
 use Rattle.std.proofs.Common.{refl, sym, subst, ◌∙◌, inl, inr, arith}
 use Rattle.std.specs.Prelude.{◌==◌, if◌then◌else◌, find, IfSome}
 use Rattle.std.specs.List.{AllByRecursion}
@@ -15,19 +15,19 @@ use Rattle.rh_defs.specs.declared.transfer.Incoming.{Incoming}
 use Rattle.rh_defs.specs.declared.transfer.Incoming.TheVariants as incoming
 use Rattle.rh_defs.specs.declared.transfer.Taking.{Taking}
 use Rattle.rh_defs.specs.Messages.{Parcel}
-use Rattle.rh_defs.specs.Post.{Post, answers_held, as_returned, held_by, parcel_of, post_send, put_down, queued_in}
+use Rattle.rh_defs.specs.Post.{Post, as_returned}
 use Rattle.rh_defs.specs.Slot.{Slot}
 use Rattle.rh_defs.specs.Desk.{Desk, Task, edit_task, free_pages, send_letter, with_delivered, with_post, with_sending, with_slot}
 use Rattle.rh_defs.specs.Desk.{with_taking, with_task}
 use Rattle.rh_defs.specs.IncomingEvents.{ended}
-use Rattle.rh_defs.proofs.Chains.{OnGrant, chosen, granted, granted-both, granted-then, granted-with}
+use Rattle.rh_defs.proofs.Chains.{OnGrant, granted, granted-with}
 use Rattle.rh_defs.proofs.Lists.{all-mono, append-all}
 use Rattle.rh_safety.proofs.Basics.{none_some}
 use Rattle.rh_safety.proofs.Ends.{Has}
 use Rattle.rh_safety.specs.Offered.{at_place}
 use Rattle.rh_laws.proofs.Addresses.{CodeAgrees}
-use Rattle.rh_laws.proofs.Frames.{any-grant}
 use Rattle.rh_laws.proofs.Queues.{Left}
+use Rattle.rh_laws.proofs.Queues.{sent-is}
 
 -- ---- what agrees
 
@@ -306,22 +306,6 @@ ins-become {a} {I} {J} h edit keeps others d g = record {
 }
 
 -- ---- letters
-
--- a letter that is sent stands at the queue's end, with the next ref
-record IsSent (l : Letter) (post : Post) (x : Post × ℕ) : Type 0 where
-  block : ℕ
-  queued : x.0.queued ≡ post.queued ++ parcel_of l post.next_ref block ∷ []
-  next : x.0.next_ref ≡ post.next_ref + 1
-  ref : x.1 ≡ post.next_ref
-
-sent-is : (room : ℕ) (l : Letter) (post : Post) → OnGrant (IsSent l post) (post_send room l post)
-unfolding post_send
-sent-is room l post =
-    granted-both _ (any-grant _) λ x u. granted-then _ _ λ there e.
-    granted (chosen (λ (p : Post). IsSent l post (p, post.next_ref)) (answers_held l.your_ref (held_by l.from post.seats))
-    (put_down l.from (queued_in l there post)) (queued_in l there post)
-    (record { block = there.1; queued = refl; next = refl; ref = refl })
-    (record { block = there.1; queued = refl; next = refl; ref = refl }))
 
 -- all that agrees, but that the next ref may belong to a transfer already, and what the letter says
 pub record Ready (b : Marks) (J : Ins) (l : Letter) (d : Desk) : Type 0 where

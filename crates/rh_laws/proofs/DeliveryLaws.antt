@@ -1,7 +1,7 @@
 -- Each command keeps what holds of transfers and of the files that were loaded, and what a sender may rely on follows.
 use Rattle.std.proofs.Common.{◌≡◌, ℕ, ◌≤◌, ◌<◌, Bool, true, false, not, List, [], ◌∷◌, ◌++◌, length, map, Option, Some, None}
 use Rattle.std.proofs.Common.{refl, sym, ap, ◌∙◌, subst, inl, inr, arith}
-use Rattle.std.specs.Prelude.{◌==◌, if◌then◌else◌, nat_eq, nat_lt, filter, find, ℤ, Ok, IfSome}
+use Rattle.std.specs.Prelude.{◌==◌, if◌then◌else◌, nat_eq, filter, find, Ok, IfSome}
 use Rattle.std.specs.List.{AllByRecursion}
 use Rattle.std.specs.Option.{option_map}
 use Rattle.std.proofs.lemmas.Bool.Decides.{eqb_tells}
@@ -13,7 +13,6 @@ use Rattle.rh_defs.specs.declared.message.Body.{Body}
 use Rattle.rh_defs.specs.declared.message.Body.TheVariants as body
 use Rattle.rh_defs.specs.declared.message.EventCode.{EventCode}
 use Rattle.rh_defs.specs.declared.message.EventCode.TheVariants.{User, Recorded, Acknowledge}
-use Rattle.rh_defs.specs.declared.question.Question.{Question}
 use Rattle.rh_defs.specs.declared.reply.Outcome.TheVariants as outcome
 use Rattle.rh_defs.specs.declared.reply.Reply.{Reply}
 use Rattle.rh_defs.specs.declared.reply.Reply.TheVariants as reply
@@ -33,9 +32,8 @@ use Rattle.rh_defs.specs.Records.{in_id, is_open, most_records, out_id}
 use Rattle.rh_defs.specs.Sender as sender
 use Rattle.rh_defs.specs.Receiver as receiver
 use Rattle.rh_defs.specs.Desk.{Desk, Task, has_name, named, next_ref, task_at, with_delivered}
-use Rattle.rh_defs.specs.Commands.{Answer, start_task, kill, alloc, load, put, free, extend, mid, claim, release, resize}
-use Rattle.rh_defs.specs.Commands.{budge, module_area, change_module, change_pages, change_made, change_area, make, remove}
-use Rattle.rh_defs.specs.Commands.{rma_claim, rma_free, rma_resize}
+use Rattle.rh_defs.specs.Commands.{Answer, start_task, kill}
+use Rattle.rh_defs.specs.Commands.{make}
 use Rattle.rh_defs.specs.OutgoingEvents.{finish_load}
 use Rattle.rh_defs.specs.Transfer.{came, handled}
 use Rattle.rh_defs.specs.Runs.{after, start_with}
@@ -56,6 +54,7 @@ use Rattle.rh_safety.proofs.SeenFrames.{Fits, is_found, the_task}
 use Rattle.rh_safety.proofs.SeenLaws.{always_safe, keeps, kept_good}
 use Rattle.rh_safety.proofs.SeenTasks.{field_is}
 use Rattle.rh_safety.proofs.View.{seen_parcel, view}
+use Rattle.rh_safety.proofs.MemoryCommands.{Changed, IsOnMemory, granted-on, in_areas, in_made, in_module, in_nothing, in_slot}
 use Rattle.rh_laws.specs.Delivered.{AlwaysDelivers, HasAll, IsTold}
 use Rattle.rh_laws.proofs.Addresses.{CodeAgrees, all-has, all-more, all-with}
 use Rattle.rh_laws.proofs.Queues.{IsMine, death-left, poll-taken}
@@ -126,8 +125,11 @@ record Keeps (a : Marks) (x : Answer) : Type 0 where
   desk : Agrees marks x.0
 
 module _ (a : Marks) (d : Desk) (f : Fits d) (g : Agrees a d) where
+  agreed : {x : Answer} → Agrees a x.0 → Keeps a x
+  agreed is = record { marks = a; more = grows-same a; desk = is }
+
   same : {x : Answer} → Agrees a x.0 → OnGrant (Keeps a) (Ok x)
-  same is = granted (record { marks = a; more = grows-same a; desk = is })
+  same is = granted (agreed is)
 
   own : (name : List ℕ) (t : Task) → named name d ≡ Ok t → HandleAgrees a (InAgrees a) t.handle t
   own name t q = own-of d g t.handle t (the_task d name t f q)
@@ -154,47 +156,6 @@ module _ (a : Marks) (d : Desk) (f : Fits d) (g : Agrees a d) where
         of_tasks = λ j. left-at (HandleAgrees a (InAgrees a)) t.handle d.tasks j (g.of_tasks j);
         mail = left.mail g.mail;
       })
-
-  alloc-keeps : (name : List ℕ) (k n : ℕ) → OnGrant (Keeps a) (alloc d name k n)
-  unfolding alloc
-  alloc-keeps name k n = granted-then _ _ λ t e. granted-then _ _ λ p f2. same (slot-agrees t.handle p.0 d g)
-
-  load-keeps : (name : List ℕ) (k : ℕ) (file : List ℕ) → OnGrant (Keeps a) (load d name k file)
-  unfolding load
-  load-keeps name k file = granted-then _ _ λ t e. granted-then _ _ λ entry f2. granted-then _ _ λ p i. granted-then _ _ λ s j.
-      same (slot-agrees t.handle s d g)
-
-  put-keeps : (name : List ℕ) (k offset : ℕ) (bytes : List ℕ) → OnGrant (Keeps a) (put d name k offset bytes)
-  unfolding put
-  put-keeps name k offset bytes = granted-then _ _ λ t e. granted-then _ _ λ b f2. granted-then _ _ λ s i. same (slot-agrees t.handle s d g)
-
-  free-keeps : (name : List ℕ) (k : ℕ) → OnGrant (Keeps a) (free d name k)
-  unfolding free
-  free-keeps name k = granted-then _ _ λ t e. granted-then _ _ λ b f2. granted-then _ _ λ s i. same (slot-agrees t.handle s d g)
-
-  extend-keeps : (name : List ℕ) (k n : ℕ) → OnGrant (Keeps a) (extend d name k n)
-  unfolding extend
-  extend-keeps name k n = granted-then _ _ λ t e. granted-then _ _ λ b f2. granted-then _ _ λ s i. same (slot-agrees t.handle s d g)
-
-  mid-keeps : (name : List ℕ) (k offset : ℕ) (by : ℤ) → OnGrant (Keeps a) (mid d name k offset by)
-  unfolding mid
-  mid-keeps name k offset by = granted-then _ _ λ t e. granted-then _ _ λ b f2. granted-then _ _ λ s i. same (slot-agrees t.handle s d g)
-
-  claim-keeps : (name : List ℕ) (n : ℕ) → OnGrant (Keeps a) (claim d name n)
-  unfolding claim
-  claim-keeps name n = granted-then _ _ λ t e. granted-then _ _ λ p f2. same (slot-agrees t.handle p.0 d g)
-
-  release-keeps : (name : List ℕ) (address : ℕ) → OnGrant (Keeps a) (release d name address)
-  unfolding release
-  release-keeps name address = granted-then _ _ λ t e. granted-then _ _ λ b f2. granted-then _ _ λ s i. same (slot-agrees t.handle s d g)
-
-  resize-keeps : (name : List ℕ) (address : ℕ) (delta : ℤ) → OnGrant (Keeps a) (resize d name address delta)
-  unfolding resize
-  resize-keeps name address delta = granted-then _ _ λ t e. granted-then _ _ λ b f2. granted-then _ _ λ p i. same (slot-agrees t.handle p.0 d g)
-
-  budge-keeps : (name : List ℕ) (on : Bool) → OnGrant (Keeps a) (budge d name on)
-  unfolding budge
-  budge-keeps name on = granted-then _ _ λ t e. same (slot-agrees t.handle _ d g)
 
   -- the records of the task that was found, one of them written anew
   cancel_in-keeps : (name : List ℕ) (id : Option ℕ) → OnGrant (Keeps a) (cancel_in d name id)
@@ -225,31 +186,15 @@ module _ (a : Marks) (d : Desk) (f : Fits d) (g : Agrees a d) where
   unfolding make
   make-keeps most = granted-past _ _ _ λ x. granted-past _ _ _ λ y. same g
 
-  remove-keeps : (n : ℕ) → OnGrant (Keeps a) (remove d n)
-  unfolding remove
-  remove-keeps n = granted-then _ _ λ m e. same g
+  changed-agrees : {c : Command} (x : Answer) → Changed c d x → Keeps a x
+  changed-agrees _ (in_slot name t s is e quiet) = agreed (slot-agrees t.handle s d g)
+  changed-agrees _ (in_module h quiet) = agreed g
+  changed-agrees _ (in_areas areas quiet) = agreed g
+  changed-agrees _ (in_made areas quiet) = agreed g
+  changed-agrees _ (in_nothing quiet) = agreed g
 
-  change_area-keeps : (n : ℕ) (delta : ℤ) → OnGrant (Keeps a) (change_area d n delta)
-  unfolding change_module change_pages change_made
-  change_area-keeps n delta =
-      chosen (OnGrant (Keeps a)) (n == module_area) _ _ (granted-then _ _ λ c e. same g)
-      (chosen (OnGrant (Keeps a)) (nat_lt n (length d.areas)) _ _ (granted-then _ _ λ c e. same g)
-      (granted-then _ _ λ m e. granted-then _ _ λ c f2. granted-past _ _ _ λ big. same g))
-
-  rma_claim-keeps : (n : ℕ) → OnGrant (Keeps a) (rma_claim d n)
-  unfolding rma_claim
-  rma_claim-keeps n = granted-then _ _ λ c e. same g
-
-  rma_free-keeps : (address : ℕ) → OnGrant (Keeps a) (rma_free d address)
-  unfolding rma_free
-  rma_free-keeps address = granted-then _ _ λ b e. granted-then _ _ λ h f2. same g
-
-  rma_resize-keeps : (address : ℕ) (delta : ℤ) → OnGrant (Keeps a) (rma_resize d address delta)
-  unfolding rma_resize
-  rma_resize-keeps address delta = granted-then _ _ λ b e. granted-then _ _ λ c f2. same g
-
-  ask-keeps : (q : Question) → OnGrant (Keeps a) (change d (command.Ask q))
-  ask-keeps q = granted-then _ _ λ told e. same g
+  memory-keeps : (c : Command) → IsOnMemory c → OnGrant (Keeps a) (change d c)
+  memory-keeps c is = granted-on d c is changed-agrees
 
   -- ---- commands that send
 
@@ -361,28 +306,13 @@ module _ (a : Marks) (d : Desk) (f : Fits d) (g : Agrees a d) where
     step-agrees : (c : Command) → Keeps a (step d c)
     step-agrees (command.Task name buffer manner) = kept (start_task-keeps name buffer manner)
     step-agrees (command.Kill name) = kept (kill-keeps name)
-    step-agrees (command.Alloc name k n) = kept (alloc-keeps name k n)
-    step-agrees (command.Load name k file) = kept (load-keeps name k file)
-    step-agrees (command.Put name k offset bytes) = kept (put-keeps name k offset bytes)
-    step-agrees (command.Free name k) = kept (free-keeps name k)
-    step-agrees (command.Extend name k n) = kept (extend-keeps name k n)
-    step-agrees (command.Mid name k offset by) = kept (mid-keeps name k offset by)
-    step-agrees (command.Claim name n) = kept (claim-keeps name n)
-    step-agrees (command.Release name address) = kept (release-keeps name address)
-    step-agrees (command.Resize name address delta) = kept (resize-keeps name address delta)
-    step-agrees (command.Budge name on) = kept (budge-keeps name on)
     step-agrees (command.Save name k to leaf) = kept (save-keeps name k to leaf)
     step-agrees (command.Poll name) = kept (poll-keeps name)
     step-agrees (command.CancelIn name id) = kept (cancel_in-keeps name id)
     step-agrees (command.CancelOut name id) = kept (cancel_out-keeps name id)
     step-agrees (command.Repeat name) = kept (repeat-keeps name)
-    step-agrees (command.Area k delta) = kept (change_area-keeps k delta)
     step-agrees (command.Make most) = kept (make-keeps most)
-    step-agrees (command.Remove k) = kept (remove-keeps k)
-    step-agrees (command.RmaClaim n) = kept (rma_claim-keeps n)
-    step-agrees (command.RmaFree address) = kept (rma_free-keeps address)
-    step-agrees (command.RmaResize address delta) = kept (rma_resize-keeps address delta)
-    step-agrees (command.Ask q) = kept (ask-keeps q)
+    step-agrees c = kept (memory-keeps c tt)
 
     -- ---- a sender that is told
 

@@ -35,12 +35,12 @@ use Rattle.rh_defs.proofs.Chains.{or_else-keeps}
 use Rattle.rh_safety.proofs.Ends.{Has}
 use Rattle.rh_safety.proofs.Basics.{FoundActive, active_is, and_left, and_right, asking_is, drains, fetches, is_equal, open_is}
 use Rattle.rh_safety.proofs.Basics.{same_value}
-use Rattle.rh_laws.proofs.Frames.{any-grant}
 use Rattle.rh_laws.proofs.Addresses.{CodeAgrees, all-has, all-more, all-with}
 use Rattle.rh_laws.proofs.Deliveries.{Agrees, Comes, Grows, HandleAgrees, InAgrees, Ins, Marks, OutAgrees}
 use Rattle.rh_laws.proofs.Deliveries.{ParcelAgrees, Says, Unloaded, ended-agrees, grows-same, ins-agree, letter-agrees, marked}
 use Rattle.rh_laws.proofs.Deliveries.{ins-become, marked-agrees, marked-grows, marked-here, outs-agree, plain-agrees, says-grows, slot-agrees}
 use Rattle.rh_laws.proofs.Deliveries.{task-agrees, tasks-grow}
+use Rattle.rh_safety.proofs.OwnEdits.{any-grant}
 
 -- after a message was handled, all agree with what is then known
 pub record Keeps (a : Marks) (x : Handled) : Type 0 where

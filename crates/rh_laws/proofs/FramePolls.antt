@@ -13,7 +13,6 @@ use Rattle.rh_defs.specs.declared.message.Body.TheVariants as body
 use Rattle.rh_defs.specs.declared.message.EventCode.{EventCode}
 use Rattle.rh_defs.specs.declared.message.EventCode.TheVariants.{User, Recorded, Acknowledge}
 use Rattle.rh_defs.specs.declared.reply.Outcome.TheVariants as outcome
-use Rattle.rh_defs.specs.declared.transfer.Asked.{Asked}
 use Rattle.rh_defs.specs.declared.transfer.Sending.{Sending}
 use Rattle.rh_defs.specs.declared.transfer.Taking.{Taking}
 use Rattle.rh_defs.specs.declared.transfer.Incoming.{Incoming}
@@ -29,23 +28,22 @@ use Rattle.rh_defs.specs.Messages.{Parcel}
 use Rattle.rh_defs.specs.Letters.{transmit_letter}
 use Rattle.rh_defs.specs.Post.{post_poll}
 use Rattle.rh_defs.specs.Sender as sender
-use Rattle.rh_defs.specs.Desk.{Desk, Task, Scrap, named, next_ref, send_letter, task_at, with_delivered, with_sending}
-use Rattle.rh_defs.specs.Desk.{with_taking, with_task}
-use Rattle.rh_defs.specs.OutgoingEvents.{Handled, answer_ack, answer_fetch, fail_sending, finish_load, ignored, portion, refused}
-use Rattle.rh_defs.specs.OutgoingEvents.{save_scrap, transmit}
-use Rattle.rh_defs.specs.IncomingEvents.{accept, ack_back, appended, ask, ended, fetch_back, fetch_more, load_file, loaded}
-use Rattle.rh_defs.specs.IncomingEvents.{take_bytes, take_file, take_save, took}
-use Rattle.rh_defs.specs.Transfer.{answers_none, came, came_back, handled}
+use Rattle.rh_defs.specs.Desk.{Desk, Task, named, next_ref, send_letter, task_at, with_delivered, with_sending}
+use Rattle.rh_defs.specs.Desk.{with_task}
+use Rattle.rh_defs.specs.OutgoingEvents.{Handled, answer_fetch, ignored, portion}
+use Rattle.rh_defs.specs.OutgoingEvents.{transmit}
+use Rattle.rh_defs.specs.Transfer.{answers_none, came, handled}
 use Rattle.rh_defs.specs.Commands.{Answer}
 use Rattle.rh_defs.specs.Step.{event, poll, poll_taken, step}
-use Rattle.rh_defs.proofs.Chains.{OnGrant, granted, granted-both, granted-past, granted-then, granted-unless, granted-with}
-use Rattle.rh_defs.proofs.Chains.{chosen, grant-holds, or_else-keeps}
+use Rattle.rh_defs.proofs.Chains.{grant-holds}
 use Rattle.rh_safety.proofs.Ends.{Active, Has}
 use Rattle.rh_safety.proofs.View.{buffers_of, task_of, view}
 use Rattle.rh_safety.proofs.Basics.{contains_of, either, first_is, is_equal, open_is}
 use Rattle.rh_safety.proofs.Invariant.{Good, Offered}
 use Rattle.rh_safety.proofs.KeptFetch.{Reaches, fetch_in, reaches}
 use Rattle.rh_safety.proofs.KeptPolls.{Given, given}
+use Rattle.rh_safety.proofs.OwnEdits.{Did, OwnEdits, answer_ack-own, came_back-own, finish_load-own, ignored-own, refused-own}
+use Rattle.rh_safety.proofs.OwnEdits.{take_bytes-own, take_file-own, take_save-own}
 use Rattle.rh_safety.proofs.Polls.{Taken, Waiter}
 use Rattle.rh_safety.proofs.SeenBlocks.{found_name, from_test, ok_is, the_block}
 use Rattle.rh_safety.proofs.SeenDocuments.{letter_of}
@@ -56,152 +54,23 @@ use Rattle.rh_safety.proofs.SeenTasks.{field_is, live_of}
 use Rattle.rh_safety.proofs.SeenWrites.{buffer_found}
 use Rattle.rh_safety.specs.TaskRecords.{HoldsOne}
 use Rattle.rh_laws.specs.Frame.{FillsBuffer, KeepsBlocks, PollsFill, actor, flex_blocks, handle_of, poller}
-use Rattle.rh_laws.proofs.Frames.{Leaves, any-grant, both-leave, edit-own, ended-leaves, ins-leave, leaves-others}
-use Rattle.rh_laws.proofs.Frames.{letter-leaves, other-task, outs-leave, slot-leaves, task-leaves}
+use Rattle.rh_laws.proofs.Frames.{Leaves, both-leave, edit-own, ins-leave, leaves-others}
+use Rattle.rh_laws.proofs.Frames.{letter-leaves, other-task, outs-leave, task-leaves}
 
 -- ---- messages that leave another task
 
--- after a message was handled, the task of the handle is as it was
-record Calm (k : ℕ) (d : Desk) (x : Handled) : Type 0 where
-  desk : Leaves k d x.0
-
-calm-after : {k : ℕ} {d e : Desk} {x : Handled} → Leaves k d e → Calm k e x → Calm k d x
-calm-after a b = record { desk = both-leave a b.desk }
-
-module _ (k : ℕ) (t : Task) (ne : t.handle ≢ k) (d : Desk) where
-  ignored-calm : Calm k d (ignored d)
-  ignored-calm = record { desk = record { same = refl } }
-
-  refused-calm : (x : Sending) (refusal : Refusal) → Calm k d (refused d t x refusal)
-  refused-calm x refusal = record { desk = outs-leave t.handle k ne _ d }
-
-  ended-calm : (f : Taking) (edit : List Incoming → List Incoming) (o : _) → Calm k d (ended t.handle f edit d, o)
-  ended-calm f edit o = record { desk = ended-leaves t.handle k ne f edit d }
-
-  ins-calm : (edit : List Incoming → List Incoming) (o : _) → Calm k d (with_taking t.handle edit d, o)
-  ins-calm edit o = record { desk = ins-leave t.handle k ne edit d }
-
-  fail_sending-calm : (v : Option Sending) → Calm k d (fail_sending d t v)
-  unfolding fail_sending
-  fail_sending-calm None = ignored-calm
-  fail_sending-calm (Some x) = record { desk = outs-leave t.handle k ne _ d }
-
-  save_scrap-calm : (m : Parcel) (x : Sending) (source : Split Flex) → OnGrant (Calm k d) (save_scrap d t m x source)
-  unfolding save_scrap
-  save_scrap-calm m x source =
-      granted-past _ _ _ λ busy. granted-both _ (any-grant _) λ y u. granted-past _ _ _ λ room.
-      granted-with _ (letter-leaves k _ _ ne) λ sent one.
-      granted (record { desk = record { same = (outs-leave t.handle k ne _ _).same ∙ one.same } })
-
-  answer_ack-calm : (m : Parcel) (v : Option Sending) → Calm k d (answer_ack d t m v)
-  unfolding answer_ack
-  answer_ack-calm m None = ignored-calm
-  answer_ack-calm m (Some x) =
-      or_else-keeps (Calm k d) _ (granted-then _ _ λ source found. save_scrap-calm m x source) (refused-calm x)
-
-  finish_load-calm : (v : Option Sending) → Calm k d (finish_load d t v)
-  unfolding finish_load
-  finish_load-calm None = ignored-calm
-  finish_load-calm (Some x) =
-      or_else-keeps (Calm k d) _
-      (granted-then _ _ λ source found. granted (record { desk = outs-leave t.handle k ne _ d })) (refused-calm x)
-
-  accept-calm : (m : Parcel) → OnGrant (Calm k d) (accept d t m)
-  unfolding accept
-  accept-calm m =
-      granted-then _ _ λ a free. granted-then _ _ λ b claimed. granted-then _ _ λ p there.
-      granted-with _ (letter-leaves k _ _ ne) λ sent one.
-      granted (record { desk = both-leave (slot-leaves t.handle k ne p.0 d) (both-leave one (ins-leave t.handle k ne _ sent)) })
-
-  take_save-calm : (m : Parcel) → Calm k d (take_save d t m)
-  unfolding take_save
-  take_save-calm m =
-      chosen (Calm k d) _ _ _ (or_else-keeps (Calm k d) _ (accept-calm m) (λ refusal. ignored-calm)) ignored-calm
-
-  appended-leaves : (a : ℕ) (bytes : List ℕ) → OnGrant (Leaves k d) (appended d t a bytes)
-  unfolding appended
-  appended-leaves a bytes =
-      granted-then _ _ λ document found. granted-then _ _ λ longer e. granted-then _ _ λ s f.
-      granted (slot-leaves t.handle k ne s d)
-
-  fetch_more-calm : (m : Parcel) (f : Taking) (n : ℕ) → OnGrant (Calm k d) (fetch_more d t m f n)
-  unfolding fetch_more
-  fetch_more-calm m f n =
-      granted-with _ (letter-leaves k _ d ne) λ sent one.
-      granted (record { desk = both-leave one (ins-leave t.handle k ne _ sent) })
-
-  took-calm : (m : Parcel) (f : Taking) (n : ℕ) → Calm k d (took d t m f n)
-  unfolding took
-  took-calm m f n =
-      chosen (Calm k d) _ _ _ (ended-calm f _ _)
-      (or_else-keeps (Calm k d) _ (fetch_more-calm m f n) (λ refusal. ended-calm f _ _))
-
-  ask-calm : (f : Taking) → OnGrant (Calm k d) (ask d t f)
-  unfolding ask
-  ask-calm f =
-      granted-with _ (letter-leaves k _ d ne) λ sent one.
-      granted (record { desk = both-leave one (ended-leaves t.handle k ne f _ sent) })
-
-  fetch_back-calm : (v : Option Incoming) → Calm k d (fetch_back d t v)
-  unfolding fetch_back
-  fetch_back-calm None = ignored-calm
-  fetch_back-calm (Some (incoming.Fetching f)) =
-      chosen (Calm k d) _ _ _ (or_else-keeps (Calm k d) _ (ask-calm f) (λ refusal. ended-calm f _ _)) (ended-calm f _ _)
-  fetch_back-calm (Some (incoming.Draining f)) = ended-calm f _ _
-  fetch_back-calm (Some (incoming.Asking q)) = ignored-calm
-  fetch_back-calm (Some (incoming.Done id anchor count)) = ignored-calm
-  fetch_back-calm (Some (incoming.Failed id anchor count)) = ignored-calm
-
-  ack_back-calm : (v : Option Asked) → Calm k d (ack_back d t v)
-  unfolding ack_back
-  ack_back-calm None = ignored-calm
-  ack_back-calm (Some q) = ins-calm _ _
-
-  loaded-calm : (m : Parcel) (q : Asked) (n : ℕ) → Calm k d (loaded d t m q n)
-  unfolding loaded
-  loaded-calm m q n =
-      or_else-keeps (Calm k d) _
-      (granted-with _ (letter-leaves k _ d ne) λ sent one. granted (record { desk = both-leave one (ins-leave t.handle k ne _ sent) }))
-      (λ refusal. ins-calm _ _)
-
-module _ (k : ℕ) (t : Task) (ne : t.handle ≢ k) (d : Desk) where
-  take_bytes-calm : (m : Parcel) (n : ℕ) (v : Option Incoming) → Calm k d (take_bytes d t m n v)
-  unfolding take_bytes
-  take_bytes-calm m n None = ignored-calm k t ne d
-  take_bytes-calm m n (Some (incoming.Fetching f)) =
-      or_else-keeps (Calm k d) _
-      (granted-unless _ _ _ λ small. granted-with _ (appended-leaves k t ne d f.anchor _) λ longer one.
-      granted (calm-after one (took-calm k t ne longer m f n)))
-      (λ refusal. ended-calm k t ne d f _ _)
-  take_bytes-calm m n (Some (incoming.Draining f)) = ended-calm k t ne d f _ _
-  take_bytes-calm m n (Some (incoming.Asking q)) = ignored-calm k t ne d
-  take_bytes-calm m n (Some (incoming.Done id anchor count)) = ignored-calm k t ne d
-  take_bytes-calm m n (Some (incoming.Failed id anchor count)) = ignored-calm k t ne d
-
-  load_file-calm : (m : Parcel) (q : Asked) (v : Option Scrap) → Calm k d (load_file d t m q v)
-  unfolding load_file
-  load_file-calm m q None = ignored-calm k t ne d
-  load_file-calm m q (Some file) =
-      chosen (Calm k d) _ _ _
-      (or_else-keeps (Calm k d) _
-      (granted-with _ (appended-leaves k t ne d q.anchor file.bytes) λ longer one.
-      granted (calm-after (record { same = one.same }) (loaded-calm k t ne (record longer { scrap = None }) m q (length file.bytes))))
-      (λ refusal. ins-calm k t ne d _ _))
-      (ignored-calm k t ne d)
-
-  take_file-calm : (m : Parcel) (v : Option Asked) → Calm k d (take_file d t m v)
-  unfolding take_file
-  take_file-calm m None = ignored-calm k t ne d
-  take_file-calm m (Some q) = load_file-calm m q d.scrap
-
-  came_back-calm : (m : Parcel) (b : Body) → Calm k d (came_back d t m b)
-  unfolding came_back
-  came_back-calm m (body.DataSave file) = fail_sending-calm k t ne d _
-  came_back-calm m (body.DataSaveAck file) = ack_back-calm k t ne d _
-  came_back-calm m (body.DataLoad file) = fail_sending-calm k t ne d _
-  came_back-calm m (body.DataLoadAck file) = ignored-calm k t ne d
-  came_back-calm m (body.RamFetch buffer amount) = fetch_back-calm k t ne d _
-  came_back-calm m (body.RamTransmit buffer n) = fail_sending-calm k t ne d _
+-- the task of another handle is as it was
+own-leaves : (h k : ℕ) → h ≢ k → OwnEdits h (Leaves k)
+own-leaves h k ne = record {
+  same = λ d. record { same = refl };
+  after = both-leave;
+  slot = λ edit d. task-leaves h k ne (λ (t : Task). record t { slot = edit t.slot }) (λ y. refl) d;
+  outs = outs-leave h k ne;
+  ins = ins-leave h k ne;
+  letter = λ l d from. letter-leaves k l d (λ same. ne (sym from ∙ same));
+  scrap = λ file d. record { same = refl };
+  areas = λ areas d. record { same = refl };
+}
 
 -- ---- a fetch
 
@@ -222,7 +91,7 @@ module _ (k : ℕ) (t : Task) (ne : t.handle ≢ k) (d : Desk) (m : Parcel) wher
   abbrev Fills : Handled → Type 0
   Fills x = Leaves k d x.0 ⊎ FillsBuffer t k (task_at k d) (task_at k x.0) (event m x).1
 
-  calm : {x : Handled} → Calm k d x → Fills x
+  calm : {x : Handled} → Did (Leaves k) d x → Fills x
   calm c = inl c.desk
 
   module _ (is : task_of t.handle d.tasks ≡ Some t) (buffer amount : ℕ) where
@@ -290,7 +159,7 @@ module _ (k : ℕ) (t : Task) (ne : t.handle ≢ k) (d : Desk) (m : Parcel) wher
         ((x : Sending) → v ≡ Some x → (view d).live x.recipient ≡ true →
         Waiter (view d) t.handle x (fetch_in m buffer amount)) → Fills (answer_fetch d t m buffer amount v)
     unfolding answer_fetch transmit
-    fetch-fills None has reach wait = calm (ignored-calm k t ne d)
+    fetch-fills None has reach wait = calm (ignored-own (Leaves k) t (own-leaves t.handle k ne) d)
     fetch-fills (Some x) has reach wait =
         by_grant Fills _ _
         (λ y q. with_step (slot_block x.anchor t.slot) _ y q (λ source e1 q1.
@@ -303,7 +172,7 @@ module _ (k : ℕ) (t : Task) (ne : t.handle ≢ k) (d : Desk) (m : Parcel) wher
         source) amount) buffer (portion x amount source)) d ne) e3 in
         subst Fills (ok_is _ y q3) (poured x source r sent (has x refl) e1 to (reach x refl lives) (wait x refl lives)
         leaves)))))
-        (λ refusal q. calm (refused-calm k t ne d x refusal))
+        (λ refusal q. calm (refused-own (Leaves k) t (own-leaves t.handle k ne) d x refusal))
 
   -- ---- all messages
 
@@ -320,22 +189,22 @@ module _ (k : ℕ) (t : Task) (ne : t.handle ≢ k) (d : Desk) (m : Parcel) wher
 
     came-fills : (b : Body) → Taken o e (view d) t.handle (letter_of m b) → Fills (came d t m b)
     unfolding came
-    came-fills (body.DataSave file) tk = calm (take_save-calm k t ne d m)
-    came-fills (body.DataSaveAck file) tk = calm (answer_ack-calm k t ne d m _)
-    came-fills (body.DataLoad file) tk = calm (take_file-calm k t ne d m _)
-    came-fills (body.DataLoadAck file) tk = calm (finish_load-calm k t ne d _)
+    came-fills (body.DataSave file) tk = calm (take_save-own (Leaves k) t (own-leaves t.handle k ne) d m)
+    came-fills (body.DataSaveAck file) tk = calm (answer_ack-own (Leaves k) t (own-leaves t.handle k ne) d m _)
+    came-fills (body.DataLoad file) tk = calm (take_file-own (Leaves k) t (own-leaves t.handle k ne) d m _)
+    came-fills (body.DataLoadAck file) tk = calm (finish_load-own (Leaves k) t (own-leaves t.handle k ne) d _)
     came-fills (body.RamFetch buffer amount) tk =
-        either Fills (answers_none t.manner) (ignored d) _ (λ y. calm (ignored-calm k t ne d)) (λ y.
+        either Fills (answers_none t.manner) (ignored d) _ (λ y. calm (ignored-own (Leaves k) t (own-leaves t.handle k ne) d)) (λ y.
         fetch-fills is buffer amount _
         (λ x q. (open_is (sender.would_answer m.message.from m.message.your_ref amount) t.sending x q).0)
         (reaches d t m is buffer amount tk y) (waits buffer amount tk y))
-    came-fills (body.RamTransmit buffer n) tk = calm (take_bytes-calm k t ne d m n _)
+    came-fills (body.RamTransmit buffer n) tk = calm (take_bytes-own (Leaves k) t (own-leaves t.handle k ne) d m n _)
 
     handled-fills : Given o e d t m → (c : EventCode) → m.code ≡ c → Fills (handled d t m c)
     unfolding handled
     handled-fills w User q = came-fills m.message.body (w.came (λ z. let y : User ≡ Acknowledge = sym q ∙ z in cc))
     handled-fills w Recorded q = came-fills m.message.body (w.came (λ z. let y : Recorded ≡ Acknowledge = sym q ∙ z in cc))
-    handled-fills w Acknowledge q = calm (came_back-calm k t ne d m m.message.body)
+    handled-fills w Acknowledge q = calm (came_back-own (Leaves k) t (own-leaves t.handle k ne) d m m.message.body)
 
 -- ---- a poll
 
@@ -396,27 +265,5 @@ module _ {o : Offered} {e : ℕ → ℕ → Bool} (d : Desk) (f : Fits d) (g : G
   other-blocks c p h ne = ap (option_map flex_blocks) (leaves-others d c h p ne)
 
   pub keeps-blocks : KeepsBlocks d
-  keeps-blocks (command.Task name buffer manner) h ne = other-blocks (command.Task name buffer manner) refl h ne
-  keeps-blocks (command.Kill name) h ne = other-blocks (command.Kill name) refl h ne
-  keeps-blocks (command.Alloc name k n) h ne = other-blocks (command.Alloc name k n) refl h ne
-  keeps-blocks (command.Load name k file) h ne = other-blocks (command.Load name k file) refl h ne
-  keeps-blocks (command.Put name k offset bytes) h ne = other-blocks (command.Put name k offset bytes) refl h ne
-  keeps-blocks (command.Free name k) h ne = other-blocks (command.Free name k) refl h ne
-  keeps-blocks (command.Extend name k n) h ne = other-blocks (command.Extend name k n) refl h ne
-  keeps-blocks (command.Mid name k offset by) h ne = other-blocks (command.Mid name k offset by) refl h ne
-  keeps-blocks (command.Claim name n) h ne = other-blocks (command.Claim name n) refl h ne
-  keeps-blocks (command.Release name address) h ne = other-blocks (command.Release name address) refl h ne
-  keeps-blocks (command.Resize name address delta) h ne = other-blocks (command.Resize name address delta) refl h ne
-  keeps-blocks (command.Budge name on) h ne = other-blocks (command.Budge name on) refl h ne
-  keeps-blocks (command.Save name k to leaf) h ne = other-blocks (command.Save name k to leaf) refl h ne
   keeps-blocks (command.Poll name) h ne = poll-blocks name h ne
-  keeps-blocks (command.CancelIn name id) h ne = other-blocks (command.CancelIn name id) refl h ne
-  keeps-blocks (command.CancelOut name id) h ne = other-blocks (command.CancelOut name id) refl h ne
-  keeps-blocks (command.Repeat name) h ne = other-blocks (command.Repeat name) refl h ne
-  keeps-blocks (command.Area k delta) h ne = other-blocks (command.Area k delta) refl h ne
-  keeps-blocks (command.Make most) h ne = other-blocks (command.Make most) refl h ne
-  keeps-blocks (command.Remove k) h ne = other-blocks (command.Remove k) refl h ne
-  keeps-blocks (command.RmaClaim n) h ne = other-blocks (command.RmaClaim n) refl h ne
-  keeps-blocks (command.RmaFree address) h ne = other-blocks (command.RmaFree address) refl h ne
-  keeps-blocks (command.RmaResize address delta) h ne = other-blocks (command.RmaResize address delta) refl h ne
-  keeps-blocks (command.Ask q) h ne = other-blocks (command.Ask q) refl h ne
+  keeps-blocks c h ne = other-blocks c refl h ne

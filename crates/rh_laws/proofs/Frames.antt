@@ -1,30 +1,28 @@
 -- Edits of one task leave the others, and so does each command that isn't of them and no poll.
-use Rattle.std.proofs.Common.{◌≡◌, ◌≢◌, ℕ, Bool, true, false, not, List, [], ◌∷◌, ◌++◌, length, Option, Some, None}
+use Rattle.std.proofs.Common.{◌≡◌, ◌≢◌, ℕ, true, false, not, List, [], ◌∷◌, ◌++◌, Option, Some, None}
 use Rattle.std.proofs.Common.{refl, ap, ◌∙◌, inl, inr, arith}
-use Rattle.std.specs.Prelude.{nat_eq, nat_lt, ◌==◌, if◌then◌else◌, filter, find, ℤ, Ok, Err}
+use Rattle.std.specs.Prelude.{nat_eq, ◌==◌, if◌then◌else◌, filter, find, Ok}
 use Rattle.std.specs.Option.{option_map}
 use Rattle.std.proofs.lemmas.Bool.Decides.{eqb_tells}
 use Rattle.rh_defs.specs.declared.command.Command.{Command}
 use Rattle.rh_defs.specs.declared.command.Command.TheVariants as command
 use Rattle.rh_defs.specs.declared.command.Manner.{Manner}
 use Rattle.rh_defs.specs.declared.message.Letter.{Letter}
-use Rattle.rh_defs.specs.declared.question.Question.{Question}
 use Rattle.rh_defs.specs.declared.transfer.Taking.{Taking}
 use Rattle.rh_defs.specs.declared.transfer.Outgoing.{Outgoing}
 use Rattle.rh_defs.specs.declared.transfer.Incoming.{Incoming}
-use Rattle.rh_defs.specs.Chain.{Granted}
 use Rattle.rh_defs.specs.Slot.{Slot}
 use Rattle.rh_defs.specs.Desk.{Desk, Task, edit_task, has_name, named, send_letter, task_at, with_delivered}
 use Rattle.rh_defs.specs.Desk.{with_sending, with_slot, with_taking, with_task}
-use Rattle.rh_defs.specs.Commands.{Answer, start_task, kill, alloc, load, put, free, extend, mid, claim, release, resize}
-use Rattle.rh_defs.specs.Commands.{budge, module_area, change_module, change_pages, change_made, change_area, make, remove}
-use Rattle.rh_defs.specs.Commands.{rma_claim, rma_free, rma_resize}
+use Rattle.rh_defs.specs.Commands.{Answer, start_task, kill}
+use Rattle.rh_defs.specs.Commands.{make}
 use Rattle.rh_defs.specs.IncomingEvents.{ended}
 use Rattle.rh_defs.specs.Step.{save, repeat, poll, cancel_in, cancel_out, change, step}
-use Rattle.rh_defs.proofs.Chains.{OnGrant, chosen, granted, granted-past, granted-then, granted-with, or_else-keeps, refused}
+use Rattle.rh_defs.proofs.Chains.{OnGrant, granted, granted-past, granted-then, granted-with, or_else-keeps}
 use Rattle.rh_safety.proofs.Basics.{none_some}
 use Rattle.rh_safety.proofs.SeenBlocks.{found_name}
 use Rattle.rh_safety.proofs.View.{task_of}
+use Rattle.rh_safety.proofs.MemoryCommands.{Changed, IsOnMemory, granted-on, in_areas, in_made, in_module, in_nothing, in_slot, slot_name}
 use Rattle.rh_laws.specs.Frame.{actor, handle_of, poller, LeavesOthers}
 
 -- ---- lists of tasks
@@ -78,11 +76,6 @@ less-other h k (t ∷ ts) ne = elim (eqb_tells t.handle h) [
 ]
 
 -- ---- desks
-
--- a step of which nothing is known
-pub any-grant : {A : Type 0} (r : Granted A) → OnGrant (λ (x : A). Unit {0}) r
-any-grant (Ok x) = granted tt
-any-grant (Err refusal) = refused
 
 -- the task of the handle is as it was
 pub record Leaves (k : ℕ) (d e : Desk) : Type 0 where
@@ -143,31 +136,21 @@ module _ (k : ℕ) (d : Desk) where
   unfolding make
   make-kept most = granted-past _ _ _ λ a. granted-past _ _ _ λ b. still (record { same = refl })
 
-  remove-kept : (n : ℕ) → OnGrant Kept (remove d n)
-  unfolding remove
-  remove-kept n = granted-then _ _ λ m e. still (record { same = refl })
+  changed-kept : {c : Command} → ((name : List ℕ) → slot_name c ≡ Some name → handle_of name d ≢ Some k) → (a : Answer) →
+      Changed c d a → Kept a
+  changed-kept others _ (in_slot name t s is e quiet) = record { desk = slot-leaves t.handle k (other-task k name d t (others name is) e) s d }
+  changed-kept others _ (in_module h quiet) = record { desk = record { same = refl } }
+  changed-kept others _ (in_areas areas quiet) = record { desk = record { same = refl } }
+  changed-kept others _ (in_made areas quiet) = record { desk = record { same = refl } }
+  changed-kept others _ (in_nothing quiet) = record { desk = all-stand }
 
-  change_area-kept : (n : ℕ) (delta : ℤ) → OnGrant Kept (change_area d n delta)
-  unfolding change_module change_pages change_made
-  change_area-kept n delta =
-      chosen (OnGrant Kept) (n == module_area) _ _ (granted-then _ _ λ c e. still (record { same = refl }))
-      (chosen (OnGrant Kept) (nat_lt n (length d.areas)) _ _ (granted-then _ _ λ c e. still (record { same = refl }))
-      (granted-then _ _ λ m e. granted-then _ _ λ c f. granted-past _ _ _ λ big. still (record { same = refl })))
+  -- the task whose slot is changed is the command's own
+  actor-is : (c : Command) (name : List ℕ) → slot_name c ≡ Some name → actor c d ≡ handle_of name d
+  actor-is (command.Task name buffer manner) own e = absurd (none_some None refl e)
+  actor-is c own e = cc
 
-  rma_claim-kept : (n : ℕ) → OnGrant Kept (rma_claim d n)
-  unfolding rma_claim
-  rma_claim-kept n = granted-then _ _ λ c e. still (record { same = refl })
-
-  rma_free-kept : (address : ℕ) → OnGrant Kept (rma_free d address)
-  unfolding rma_free
-  rma_free-kept address = granted-then _ _ λ b e. granted-then _ _ λ h f. still (record { same = refl })
-
-  rma_resize-kept : (address : ℕ) (delta : ℤ) → OnGrant Kept (rma_resize d address delta)
-  unfolding rma_resize
-  rma_resize-kept address delta = granted-then _ _ λ b e. granted-then _ _ λ c f. still (record { same = refl })
-
-  ask-kept : (q : Question) → OnGrant Kept (change d (command.Ask q))
-  ask-kept q = granted-then _ _ λ told e. still all-stand
+  memory-kept : (c : Command) → IsOnMemory c → actor c d ≢ Some k → OnGrant Kept (change d c)
+  memory-kept c is ne = granted-on d c is (changed-kept λ name own same. ne (actor-is c name own ∙ same))
 
   -- no task polls
   poll-kept : (name : List ℕ) → find (has_name name) d.tasks ≡ None → OnGrant Kept (poll d name)
@@ -182,53 +165,6 @@ module _ (k : ℕ) (d : Desk) where
     kill-kept : OnGrant Kept (kill d name)
     unfolding kill with_delivered
     kill-kept = granted-then _ _ λ t e. still (record { same = less-other t.handle k d.tasks (other t e) })
-
-    alloc-kept : (a n : ℕ) → OnGrant Kept (alloc d name a n)
-    unfolding alloc
-    alloc-kept a n = granted-then _ _ λ t e. granted-then _ _ λ p f. still (slot-leaves t.handle k (other t e) p.0 d)
-
-    load-kept : (a : ℕ) (file : List ℕ) → OnGrant Kept (load d name a file)
-    unfolding load
-    load-kept a file = granted-then _ _ λ t e. granted-then _ _ λ entry f. granted-then _ _ λ p g. granted-then _ _ λ s i.
-        still (slot-leaves t.handle k (other t e) s d)
-
-    put-kept : (a offset : ℕ) (bytes : List ℕ) → OnGrant Kept (put d name a offset bytes)
-    unfolding put
-    put-kept a offset bytes = granted-then _ _ λ t e. granted-then _ _ λ b f. granted-then _ _ λ s g.
-        still (slot-leaves t.handle k (other t e) s d)
-
-    free-kept : (a : ℕ) → OnGrant Kept (free d name a)
-    unfolding free
-    free-kept a = granted-then _ _ λ t e. granted-then _ _ λ b f. granted-then _ _ λ s g.
-        still (slot-leaves t.handle k (other t e) s d)
-
-    extend-kept : (a n : ℕ) → OnGrant Kept (extend d name a n)
-    unfolding extend
-    extend-kept a n = granted-then _ _ λ t e. granted-then _ _ λ b f. granted-then _ _ λ s g.
-        still (slot-leaves t.handle k (other t e) s d)
-
-    mid-kept : (a offset : ℕ) (by : ℤ) → OnGrant Kept (mid d name a offset by)
-    unfolding mid
-    mid-kept a offset by = granted-then _ _ λ t e. granted-then _ _ λ b f. granted-then _ _ λ s g.
-        still (slot-leaves t.handle k (other t e) s d)
-
-    claim-kept : (n : ℕ) → OnGrant Kept (claim d name n)
-    unfolding claim
-    claim-kept n = granted-then _ _ λ t e. granted-then _ _ λ p f. still (slot-leaves t.handle k (other t e) p.0 d)
-
-    release-kept : (address : ℕ) → OnGrant Kept (release d name address)
-    unfolding release
-    release-kept address = granted-then _ _ λ t e. granted-then _ _ λ b f. granted-then _ _ λ s g.
-        still (slot-leaves t.handle k (other t e) s d)
-
-    resize-kept : (address : ℕ) (delta : ℤ) → OnGrant Kept (resize d name address delta)
-    unfolding resize
-    resize-kept address delta = granted-then _ _ λ t e. granted-then _ _ λ b f. granted-then _ _ λ p g.
-        still (slot-leaves t.handle k (other t e) p.0 d)
-
-    budge-kept : (on : Bool) → OnGrant Kept (budge d name on)
-    unfolding budge
-    budge-kept on = granted-then _ _ λ t e. still (slot-leaves t.handle k (other t e) _ d)
 
     save-kept : (a : ℕ) (to leaf : List ℕ) → OnGrant Kept (save d name a to leaf)
     unfolding save
@@ -258,28 +194,13 @@ module _ (k : ℕ) (d : Desk) where
   change-kept : (c : Command) → poller c d ≡ None → actor c d ≢ Some k → OnGrant Kept (change d c)
   change-kept (command.Task name buffer manner) p ne = start_task-kept name buffer manner (λ same. ne (ap Some same))
   change-kept (command.Kill name) p ne = kill-kept name ne
-  change-kept (command.Alloc name a n) p ne = alloc-kept name ne a n
-  change-kept (command.Load name a file) p ne = load-kept name ne a file
-  change-kept (command.Put name a offset bytes) p ne = put-kept name ne a offset bytes
-  change-kept (command.Free name a) p ne = free-kept name ne a
-  change-kept (command.Extend name a n) p ne = extend-kept name ne a n
-  change-kept (command.Mid name a offset by) p ne = mid-kept name ne a offset by
-  change-kept (command.Claim name n) p ne = claim-kept name ne n
-  change-kept (command.Release name address) p ne = release-kept name ne address
-  change-kept (command.Resize name address delta) p ne = resize-kept name ne address delta
-  change-kept (command.Budge name on) p ne = budge-kept name ne on
   change-kept (command.Save name a to leaf) p ne = save-kept name ne a to leaf
   change-kept (command.Poll name) p ne = poll-kept name p
   change-kept (command.CancelIn name id) p ne = cancel_in-kept name ne id
   change-kept (command.CancelOut name id) p ne = cancel_out-kept name ne id
   change-kept (command.Repeat name) p ne = repeat-kept name ne
-  change-kept (command.Area n delta) p ne = change_area-kept n delta
   change-kept (command.Make most) p ne = make-kept most
-  change-kept (command.Remove n) p ne = remove-kept n
-  change-kept (command.RmaClaim n) p ne = rma_claim-kept n
-  change-kept (command.RmaFree address) p ne = rma_free-kept address
-  change-kept (command.RmaResize address delta) p ne = rma_resize-kept address delta
-  change-kept (command.Ask q) p ne = ask-kept q
+  change-kept c p ne = memory-kept c tt ne
 
   step-kept : (c : Command) → poller c d ≡ None → actor c d ≢ Some k → Kept (step d c)
   step-kept c p ne = or_else-keeps Kept _ (change-kept c p ne) (λ refusal. record { desk = all-stand })

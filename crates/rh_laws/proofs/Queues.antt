@@ -1,5 +1,6 @@
--- What holds of each queued message, where it holds of those that go back, holds of what a poll or a task's end leaves.
-use Rattle.std.proofs.Common.{◌≡◌, ℕ, not, List, [], ◌∷◌, Option, Some, None}
+-- What holds of each queued message, where it holds of those that go back, holds of what a poll or a task's end leaves;
+-- and where a letter stands that is sent.
+use Rattle.std.proofs.Common.{◌≡◌, ℕ, ◌+◌, ◌++◌, not, List, [], ◌∷◌, Option, Some, None}
 use Rattle.std.proofs.Common.{refl, sym, subst, ◌∙◌, inl, inr}
 use Rattle.std.specs.Prelude.{◌==◌, filter, IfSome}
 use Rattle.std.specs.List.{AllByRecursion}
@@ -9,6 +10,10 @@ use Rattle.rh_defs.specs.Post.{Post, Seat, as_returned, behind_first, bounce_all
 use Rattle.rh_defs.specs.Post.{post_death, post_poll, taken_from, with_held, without_block}
 use Rattle.rh_defs.proofs.Chains.{chosen}
 use Rattle.rh_defs.proofs.Lists.{append-all, filter-all}
+use Rattle.rh_defs.specs.declared.message.Letter.{Letter}
+use Rattle.rh_defs.specs.Post.{answers_held, parcel_of, post_send, put_down, queued_in}
+use Rattle.rh_defs.proofs.Chains.{OnGrant, granted, granted-both, granted-then}
+use Rattle.rh_safety.proofs.OwnEdits.{any-grant}
 
 module _ (P : Parcel → Type 0) (back : (p : Parcel) → P (as_returned p)) where
   -- where it held of the queue it still does, and no ref was given
@@ -91,3 +96,21 @@ module _ (P : Parcel → Type 0) (back : (p : Parcel) → P (as_returned p)) whe
       let before = bounce_held-left h (held_by h post.seats) post in
       let w = taken-is h between (first_for h between.queued) (first-cut h between.queued) in
       record { left = left-both before w.left; mine = λ all. w.mine (before.mail all) }
+
+-- ---- letters
+
+-- a letter that is sent stands at the queue's end, with the next ref
+pub record IsSent (l : Letter) (post : Post) (x : Post × ℕ) : Type 0 where
+  pub block : ℕ
+  pub queued : x.0.queued ≡ post.queued ++ parcel_of l post.next_ref block ∷ []
+  pub next : x.0.next_ref ≡ post.next_ref + 1
+  pub ref : x.1 ≡ post.next_ref
+
+pub sent-is : (room : ℕ) (l : Letter) (post : Post) → OnGrant (IsSent l post) (post_send room l post)
+unfolding post_send
+sent-is room l post =
+    granted-both _ (any-grant _) λ x u. granted-then _ _ λ there e.
+    granted (chosen (λ (p : Post). IsSent l post (p, post.next_ref)) (answers_held l.your_ref (held_by l.from post.seats))
+    (put_down l.from (queued_in l there post)) (queued_in l there post)
+    (record { block = there.1; queued = refl; next = refl; ref = refl })
+    (record { block = there.1; queued = refl; next = refl; ref = refl }))

@@ -136,29 +136,7 @@ commands-stay test (c ∷ commands) all =
   where
     one : (c : Command) → ((b : ℕ) → puts_byte b c ≡ true → test b ≡ true) → renamed_command (λ b. cond (test b) b 0) c ≡ c
     one (command.Put name k offset bytes) all = ap (command.Put name k offset) (stay test bytes all)
-    one (command.Task name buffer manner) all = refl
-    one (command.Kill name) all = refl
-    one (command.Alloc name k n) all = refl
-    one (command.Load name k file) all = refl
-    one (command.Free name k) all = refl
-    one (command.Extend name k n) all = refl
-    one (command.Mid name k offset by) all = refl
-    one (command.Claim name n) all = refl
-    one (command.Release name address) all = refl
-    one (command.Resize name address delta) all = refl
-    one (command.Budge name on) all = refl
-    one (command.Save name k to leaf) all = refl
-    one (command.Poll name) all = refl
-    one (command.CancelIn name id) all = refl
-    one (command.CancelOut name id) all = refl
-    one (command.Repeat name) all = refl
-    one (command.Area k delta) all = refl
-    one (command.Make most) all = refl
-    one (command.Remove k) all = refl
-    one (command.RmaClaim n) all = refl
-    one (command.RmaFree address) all = refl
-    one (command.RmaResize address delta) all = refl
-    one (command.Ask q) all = refl
+    one c all = refl
 
 files-stay : (test : ℕ → Bool) (files : FileList) → ((b : ℕ) → list_any (λ file. has_byte b file.1) files ≡ true → test b ≡ true) →
     renamed_files (λ b. cond (test b) b 0) files ≡ files

@@ -1,9 +1,8 @@
 -- A poll of a task by its name, where the post has one message at most: what is seen of the desk then.
 use Rattle.std.proofs.Common.{◌≡◌, ℕ, Bool, true, false, List, [], ◌∷◌, Option, Some, None, refl, sym, ap, ◌∙◌, subst}
 use Rattle.std.proofs.Common.{length}
-use Rattle.std.specs.Prelude.{if◌then◌else◌, find, Ok}
+use Rattle.std.specs.Prelude.{if◌then◌else◌, find}
 use Rattle.std.specs.Option.{option_map}
-use Rattle.rh_defs.specs.declared.refusal.Refusal.TheVariants.{NoName}
 use Rattle.rh_defs.specs.declared.command.Command.TheVariants as command
 use Rattle.rh_defs.specs.declared.message.Action.{Action}
 use Rattle.rh_defs.specs.declared.message.Action.TheVariants as action
@@ -15,15 +14,13 @@ use Rattle.rh_defs.specs.declared.transfer.Taking.{Taking}
 use Rattle.rh_defs.specs.declared.transfer.Asked.{Asked}
 use Rattle.rh_defs.specs.declared.transfer.Outgoing.TheVariants as outgoing
 use Rattle.rh_defs.specs.declared.transfer.Incoming.TheVariants as incoming
-use Rattle.rh_defs.specs.Chain.{◌>>=◌, found_or, or_else}
 use Rattle.rh_defs.specs.Forms.{is_name}
-use Rattle.rh_defs.specs.Range.{in_range}
 use Rattle.rh_defs.specs.Laws.{IsDesk}
 use Rattle.rh_defs.specs.Messages.{Parcel, action_of}
 use Rattle.rh_defs.specs.Post.{Post, post_poll, post_is_live}
 use Rattle.rh_defs.specs.Sender as sender
 use Rattle.rh_defs.specs.Receiver as receiver
-use Rattle.rh_defs.specs.Desk.{Desk, Task, Scrap, has_name, named, kept_scrap, with_delivered}
+use Rattle.rh_defs.specs.Desk.{Desk, Task, Scrap, has_name, kept_scrap, with_delivered}
 use Rattle.rh_defs.specs.OutgoingEvents.{Handled, ignored, answer_ack, finish_load}
 use Rattle.rh_defs.specs.IncomingEvents.{fetch_back, take_file}
 use Rattle.rh_defs.specs.Transfer as transfer
@@ -40,12 +37,13 @@ use Rattle.rh_safety.proofs.Invariant.{rests}
 use Rattle.rh_safety.proofs.Turns.{first_one}
 use Rattle.rh_safety.proofs.PollTurns as other
 use Rattle.rh_safety.proofs.SeenTasks.{field_is, found_task, live_of}
-use Rattle.rh_safety.proofs.SeenKeys.{keys_of, named_in, handle_named, SameKeys}
-use Rattle.rh_safety.proofs.SeenNames.{handled_keys}
+use Rattle.rh_safety.proofs.SeenKeys.{handle_named, SameKeys}
 use Rattle.rh_safety.proofs.SeenTaking.{IsTaken, lost_queue, picked_by, poll_taken_is}
 use Rattle.rh_safety.proofs.SeenDesks.{fits}
 use Rattle.rh_safety.proofs.SeenFiles.{seen_live}
 use Rattle.rh_laws.proofs.ScrapViews.{came_as, came_is, back_is, asked_view, filed_view, done_view, told_view}
+use Rattle.rh_safety.proofs.Alternations.{IsNamed, found_of, poll_in_range, poll_step, taken_keys}
+use Rattle.rh_safety.proofs.PollTurns.{lost_picked, lost_twice, one_of}
 
 -- ---- the message that is taken
 
@@ -59,25 +57,6 @@ pub data Turn (d : Desk) : ℕ → Message → Answer → Type 0 where
   takes : (e : Desk) (t : Task) (p : Parcel) → task_of t.handle e.tasks ≡ Some t →
       sight.lost (view e) ≡ sight.picked (sight.lost (view d)) t.handle (seen_parcel p) p.code → KeepsFile d e p →
       Turn d t.handle (seen_parcel p) (event p (transfer.handled e t p p.code))
-
-one_of : (o : Option Parcel) (m : Message) → option_map seen_parcel o ≡ Some m →
-    (p : Parcel) × (o ≡ Some p) × (seen_parcel p ≡ m)
-one_of None m q = absurd (none_some None refl q)
-one_of (Some p) m q = (
-  p,
-  refl,
-  let z : Option.Some (seen_parcel p) ≡ Some m = q in (let y : seen_parcel p ≡ m = cc in y),
-)
-
-lost_twice : (b : Bool) (d : sight.Desk) → sight.lost (sight.lost_if b d) ≡ sight.lost d
-lost_twice true d = refl
-lost_twice false d = refl
-
-lost_picked : (d : sight.Desk) (h : ℕ) (m : Message) (c : EventCode) →
-    sight.lost (sight.picked d h m c) ≡ sight.picked (sight.lost d) h m c
-lost_picked d h m User = refl
-lost_picked d h m Recorded = refl
-lost_picked d h m Acknowledge = refl
 
 module _ (d : Desk) (t : Task) (p : Post × Option Parcel) (w : IsTaken d t.handle p)
     (is : task_of t.handle d.tasks ≡ Some t) where
@@ -276,10 +255,6 @@ done_turn d h m a (takes e t p is taken keeps) granted code kind x bytes found t
 
 -- ---- a poll, by name
 
--- a name's handle
-abbrev pub IsNamed : List ℕ → Desk → ℕ → Type 0
-IsNamed name d h = named_in name (keys_of d.tasks) ≡ Some h
-
 -- the desk after a poll of task h
 pub record IsPolled (d : Desk) (h : ℕ) (a : Answer) : Type 0 where
   pub first : (m : Message) → (view d).held h ≡ None → (view d).queue ≡ m ∷ [] → m.to ≡ h → other.Turn d h m a
@@ -289,32 +264,9 @@ pub record IsPolled (d : Desk) (h : ℕ) (a : Answer) : Type 0 where
   pub keys : SameKeys d a.0
   pub kept : IsDesk a.0
 
-taken_keys : (d : Desk) (t : Task) (v : Option Parcel) → SameKeys d (poll_taken d t v).0
-unfolding poll_taken
-taken_keys d t None = refl
-taken_keys d t (Some m) = handled_keys d t m m.code
-
 delivered_keys : (p : Post) (d : Desk) → SameKeys d (with_delivered p d)
 unfolding with_delivered
 delivered_keys p d = refl
-
-found_of : (h : ℕ) (o : Option Task) → option_map (λ (t : Task). t.handle) o ≡ Some h →
-    (t : Task) × (o ≡ Some t) × (t.handle ≡ h)
-found_of h None q = absurd (none_some None refl q)
-found_of h (Some t) q = (t, refl, let z : Some t.handle ≡ Some h = q in (let y : t.handle ≡ h = cc in y))
-
-poll_step : (d : Desk) (name : List ℕ) (t : Task) → find (has_name name) d.tasks ≡ Some t →
-    step d (command.Poll name) ≡ poll_taken (with_delivered (post_poll t.handle d.post).0 d) t (post_poll t.handle
-    d.post).1
-unfolding poll named found_or or_else ◌>>=◌
-poll_step d name t q =
-    ap (λ (o : Option Task). or_else (found_or o NoName >>= (λ (u : Task).
-    Ok (poll_taken (with_delivered (post_poll u.handle d.post).0 d) u (post_poll u.handle d.post).1))) (λ refusal.
-    (d, reply.Refused refusal))) q
-
-poll_in_range : (name : List ℕ) → is_name name ≡ true → in_range (command.Poll name) ≡ true
-unfolding in_range
-poll_in_range name q = q
 
 pub is_polled : (d : Desk) (name : List ℕ) (h : ℕ) → IsDesk d → is_name name ≡ true → IsNamed name d h →
     IsPolled d h (step d (command.Poll name))

@@ -12,7 +12,7 @@ use Rattle.rh_safety.proofs.Ends.{Asking, In_done, In_failed, Out_failed, Active
 use Rattle.rh_safety.proofs.Ends.{find_open, find_active, find_asking, without_first}
 use Rattle.rh_safety.proofs.Sight.{Desk, picked, returned, still_held, asked, filed, copied, told, with_out, bytes_of, lost}
 use Rattle.rh_safety.proofs.Basics.{put_all, put_same, put_other}
-use Rattle.rh_safety.proofs.Turns.{Pair, outgoing_at, incoming_at, fetch_of}
+use Rattle.rh_safety.proofs.Turns.{Pair, outgoing_at, incoming_at, fetch_of, let_go, without_one}
 
 -- ---- lists whose last record is the one that is meant
 
@@ -79,19 +79,6 @@ false_left false b e = refl
 -- nobody holds a message
 abbrev pub nobody : ℕ → Option Message
 nobody h = None
-
-pub without_one : (h : ℕ) (m : Message) → m.to ≡ h → without_first h (m ∷ []) ≡ []
-without_one h m to = let t : nat_eq m.to h ≡ true = eq-eqb _ _ to in rw t refl
-
--- a send that answers the message just taken leaves nobody with one
-pub let_go : (held : ℕ → Option Message) (h : ℕ) (m : Message) → ((k : ℕ) → held k ≡ None) → (k : ℕ) →
-    put (put held h (Some m)) h (still_held (put held h (Some m) h) m.letter.me) k ≡ None
-let_go held h m none k =
-    put_all (λ j (v : Option Message). v ≡ None) (put held h (Some m)) h (still_held (put held h (Some m) h)
-    m.letter.me)
-    (ap (λ (v : Option Message). still_held v m.letter.me) (put_same held h (Some m)) ∙
-    (let t = same_eq m.letter.me in rw t refl))
-    (λ j ne. put_other held h (Some m) j ne ∙ none j) k
 
 -- a send of a task that holds nothing
 still_none : (held : ℕ → Option Message) (h n : ℕ) → ((k : ℕ) → held k ≡ None) → (k : ℕ) →

@@ -1,19 +1,16 @@
 -- A save of a task that answers no fetch, and eight polls in turn, on the desk itself.
 use Rattle.std.proofs.Common.{◌≡◌, ◌≢◌, ℕ, ◌+◌, ◌<◌, Bool, true, false, not, List, [], ◌∷◌, ◌++◌, length, Option}
 use Rattle.std.proofs.Common.{Some, None, refl, sym, ap, ◌∙◌, subst, inl, inr, arith, nat_le}
-use Rattle.std.specs.Prelude.{◌&&◌, ◌==◌, if◌then◌else◌, map, nat_eq}
+use Rattle.std.specs.Prelude.{if◌then◌else◌, map, nat_eq}
 use Rattle.std.specs.Option.{option_map}
-use Rattle.std.specs.List.{AllByRecursion}
 use Rattle.std.proofs.lemmas.Bool.Decides.{eqb_tells}
 use Rattle.rh_defs.specs.declared.command.Command.{Command}
 use Rattle.rh_defs.specs.declared.command.Command.TheVariants as command
 use Rattle.rh_defs.specs.declared.message.EventCode.TheVariants.{User, Recorded, Acknowledge}
 use Rattle.rh_defs.specs.declared.reply.Reply.TheVariants as reply
-use Rattle.rh_defs.specs.Forms.{is_name, is_anchor, is_leaf}
+use Rattle.rh_defs.specs.Forms.{is_name}
 use Rattle.rh_defs.specs.Laws.{IsDesk}
 use Rattle.rh_defs.specs.Range.{in_range}
-use Rattle.rh_defs.specs.Messages.{Parcel}
-use Rattle.rh_defs.specs.Post.{Seat, held_by}
 use Rattle.rh_defs.specs.Transfer.{answers_none}
 use Rattle.rh_defs.specs.Desk.{Desk, Task, has_name, task_at}
 use Rattle.rh_defs.specs.Commands.{Answer}
@@ -25,11 +22,11 @@ use Rattle.rh_safety.proofs.Ends.{Message, Taking, Out, Open, Out_done, In, Fetc
 use Rattle.rh_safety.proofs.Ends.{In_done, Has, Active, put, first_for, without_first}
 use Rattle.rh_safety.proofs.Ends.{drop_first, is_open, is_going}
 use Rattle.rh_safety.proofs.Sight as sight
-use Rattle.rh_safety.proofs.Basics.{contains_of, either, and_left, and_right, not_true, put_all, put_same, put_other}
+use Rattle.rh_safety.proofs.Basics.{contains_of, either, and_left, not_true, put_all, put_same, put_other}
 use Rattle.rh_safety.proofs.Basics.{drop_old, Has-right}
 use Rattle.rh_safety.proofs.Invariant.{Good, Offered}
 use Rattle.rh_safety.proofs.Arrivals.{Began}
-use Rattle.rh_safety.proofs.Turns.{Pair, outgoing_at, incoming_at, fetch_of, offer}
+use Rattle.rh_safety.proofs.Turns.{Pair, outgoing_at, incoming_at, fetch_of, offer, let_go, without_one}
 use Rattle.rh_safety.proofs.PollTurns as other
 use Rattle.rh_safety.proofs.SeenTasks.{field_is, found_task, live_of}
 use Rattle.rh_safety.proofs.SeenFrames.{Fits}
@@ -39,30 +36,18 @@ use Rattle.rh_safety.proofs.SeenDesks.{fits}
 use Rattle.rh_safety.proofs.SeenLaws.{IsReached, block_is}
 use Rattle.rh_laws.specs.ScrapTurns.{CanSaveFile, EndsByFile, ScrapAlternates, eight_polls}
 use Rattle.rh_laws.proofs.ScrapStages.{Older, Stage, IsFree, back_of, ack_of, load_of, told_of, asked_at}
-use Rattle.rh_laws.proofs.ScrapStages.{without_one, let_go, ignored_fetch, holds_fetch, fetch_back}
+use Rattle.rh_laws.proofs.ScrapStages.{ignored_fetch, holds_fetch, fetch_back}
 use Rattle.rh_laws.proofs.ScrapStages.{fetch_back_free, finds_fetch, asked_stage, asked_free, finds_asked, filed_stage}
 use Rattle.rh_laws.proofs.ScrapStages.{filed_free, finds_load, told_stage, told_free, finds_told, done_stage, lost_stage}
-use Rattle.rh_laws.proofs.ScrapPolls.{IsNamed, IsPolled, is_polled, ignored_turn, asked_turn, FileMade, filed_turn}
+use Rattle.rh_laws.proofs.ScrapPolls.{IsPolled, is_polled, ignored_turn, asked_turn, FileMade, filed_turn}
 use Rattle.rh_laws.proofs.ScrapPolls.{told_turn, done_turn}
+use Rattle.rh_safety.proofs.Alternations.{IsNamed, none_seated, rest_granted, save_names, sender_done}
 
 granted : (d : Desk) (c : Command) (cs : List Command) → all_granted d (c ∷ cs) ≡ true →
     is_refused_poll (step d c).1 ≡ false
 granted d c cs q = not_true _ (and_left (not (is_refused_poll (step d c).1)) _ q)
 
-rest_granted : (d : Desk) (c : Command) (cs : List Command) → all_granted d (c ∷ cs) ≡ true →
-    all_granted (step d c).0 cs ≡ true
-rest_granted d c cs q = and_right (not (is_refused_poll (step d c).1)) _ q
-
 -- ---- what is told at the end
-
-has_sent : (d : Desk) (h : ℕ) (v : Out) → Has v ((view d).sending h) →
-    (t : Task) × (task_at h d ≡ Some t) × Has v t.sending
-has_sent d h v = go (task_of h d.tasks) refl
-  where
-    go : (o : Option Task) → task_of h d.tasks ≡ o → Has v (of (λ (t : Task). t.sending) [] o) →
-        (t : Task) × (task_at h d ≡ Some t) × Has v t.sending
-    go None e q = absurd q
-    go (Some t) e q = (t, e, q)
 
 has_taken : (d : Desk) (h : ℕ) (w : In) → Has w ((view d).taking h) →
     (t : Task) × (task_at h d ≡ Some t) × Has w t.taking
@@ -75,12 +60,6 @@ has_taken d h w = go (task_of h d.tasks) refl
 
 last_has : {A : Type 0} (x : A) (xs ys : List A) → ys ≡ xs ++ x ∷ [] → Has x ys
 last_has x xs ys q = subst (λ z. Has x z) (sym q) (Has-right x xs (x ∷ []) (inl refl))
-
-sender_done : (d : Desk) (h id : ℕ) (source : List ℕ) → Has (Out_done id (length source)) ((view d).sending h) →
-    SenderDone d h id source
-sender_done d h id source q =
-    let w = has_sent d h (Out_done id (length source)) q in
-    record { task = w.0; is = w.1; sends = contains_of w.0.sending (Out_done id (length source)) w.2 }
 
 receiver_done : (d : Desk) (h id anchor : ℕ) (source : List ℕ) →
     Has (In_done id anchor (length source)) ((view d).taking h) → (view d).block h anchor ≡ Some source →
@@ -355,24 +334,6 @@ module _ (s r : List ℕ) (valid_s : is_name s ≡ true) (valid_r : is_name r �
         stage8.sends)
 
 -- ---- the save and the first poll
-
--- nobody holds a message
-none_seated : (h : ℕ) (seats : List Seat) → AllByRecursion (λ (seat : Seat). seat.holds ≡ None) seats →
-    held_by h seats ≡ None
-none_seated h [] all = refl
-none_seated h (seat ∷ seats) all = either (λ (o : Option Parcel). o ≡ None) (seat.handle == h) seat.holds
-    (held_by h seats) (λ e. all.0) (λ e. none_seated h seats all.1)
-
-save_names : (s : List ℕ) (k : ℕ) (r leaf : List ℕ) → in_range (command.Save s k r leaf) ≡ true →
-    (is_name s ≡ true) × (is_name r ≡ true)
-unfolding in_range
-save_names s k r leaf q = both (is_name s) (is_anchor k) (is_name r) (is_leaf leaf) q
-  where
-    both : (a b c e : Bool) → (a && b && c && e) ≡ true → (a ≡ true) × (c ≡ true)
-    both true true true e q = (refl, refl)
-    both true true false e q = absurd cc
-    both true false c e q = absurd cc
-    both false b c e q = absurd cc
 
 -- the records that stay where one more is made
 abbrev stay : {A : Type 0} → ℕ → (A → Bool) → List A → List A

@@ -35,10 +35,10 @@ use Rattle.rh_safety.proofs.Ends.{Has, Offers}
 use Rattle.rh_safety.proofs.Basics.{Ascend, and_right, open_is}
 use Rattle.rh_safety.proofs.SeenFrames.{is_found}
 use Rattle.rh_laws.specs.Progress.{held_work, source_work, work_ahead, work_back, work_queued}
-use Rattle.rh_laws.proofs.Frames.{any-grant}
 use Rattle.rh_laws.proofs.WorkPosts.{Lets}
 use Rattle.rh_laws.proofs.WorkTasks.{Here, ended-here, ins-here, letter-here, offered_work, outs-here, outs_work, slot-here, slots-here}
 use Rattle.rh_laws.proofs.WorkTasks.{names_of, total-with, work_offered}
+use Rattle.rh_safety.proofs.OwnEdits.{any-grant}
 
 -- the task's outgoing records stand in order of id, and the source of each open one is what was offered
 pub record Owns (o : Offers) (t : Task) : Type 0 where

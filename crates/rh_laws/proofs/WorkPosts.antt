@@ -18,7 +18,7 @@ use Rattle.rh_defs.proofs.Chains.{OnGrant, chosen, granted, granted-both, grante
 use Rattle.rh_defs.proofs.Cuts.{total-append}
 use Rattle.rh_safety.proofs.Basics.{none_some}
 use Rattle.rh_laws.specs.Progress.{held_work, parcel_work, post_work, work_ahead, work_back, work_queued}
-use Rattle.rh_laws.proofs.Frames.{any-grant}
+use Rattle.rh_safety.proofs.OwnEdits.{any-grant}
 
 -- ---- numbers
 

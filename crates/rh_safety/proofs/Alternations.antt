@@ -41,8 +41,7 @@ use Rattle.rh_safety.proofs.Turns.{took_full, took_rest, outgoing_at, offer, off
 use Rattle.rh_safety.proofs.Turns.{took_first}
 use Rattle.rh_safety.proofs.SeenTasks.{found_task, field_is, live_of}
 use Rattle.rh_safety.proofs.SeenFrames.{Fits}
-use Rattle.rh_safety.proofs.SeenKeys.{keys_of, named_in, handle_named, SameKeys}
-use Rattle.rh_safety.proofs.SeenNames.{handled_keys}
+use Rattle.rh_safety.proofs.SeenKeys.{keys_of, named_in, handle_named, SameKeys, handled_keys}
 use Rattle.rh_safety.proofs.SeenTaking.{poll_taken_is}
 use Rattle.rh_safety.proofs.SeenSaves.{IsSaved, save_step, save_keeps}
 use Rattle.rh_safety.proofs.SeenDesks.{fits}
@@ -53,7 +52,7 @@ use Rattle.rh_safety.proofs.PollTurns.{Turn, turn_is, fetch_turn, taker, transmi
 -- ---- one poll, by name
 
 -- a name's handle
-abbrev IsNamed : List ℕ → Desk → ℕ → Type 0
+abbrev pub IsNamed : List ℕ → Desk → ℕ → Type 0
 IsNamed name d h = named_in name (keys_of d.tasks) ≡ Some h
 
 -- the desk after a poll of task h
@@ -72,12 +71,12 @@ pub delivered_keys : (p : _) (d : Desk) → SameKeys d (with_delivered p d)
 unfolding with_delivered
 delivered_keys p d = refl
 
-found_of : (h : ℕ) (o : Option Task) → option_map (λ (t : Task). t.handle) o ≡ Some h →
+pub found_of : (h : ℕ) (o : Option Task) → option_map (λ (t : Task). t.handle) o ≡ Some h →
     (t : Task) × (o ≡ Some t) × (t.handle ≡ h)
 found_of h None q = absurd (none_some None refl q)
 found_of h (Some t) q = (t, refl, let z : Some t.handle ≡ Some h = q in (let y : t.handle ≡ h = cc in y))
 
-poll_step : (d : Desk) (name : List ℕ) (t : Task) → find (has_name name) d.tasks ≡ Some t →
+pub poll_step : (d : Desk) (name : List ℕ) (t : Task) → find (has_name name) d.tasks ≡ Some t →
     step d (command.Poll name) ≡ poll_taken (with_delivered (post_poll t.handle d.post).0 d) t (post_poll t.handle
     d.post).1
 unfolding poll named found_or or_else ◌>>=◌
@@ -86,7 +85,7 @@ poll_step d name t q =
     Ok (poll_taken (with_delivered (post_poll u.handle d.post).0 d) u (post_poll u.handle d.post).1))) (λ refusal.
     (d, reply.Refused refusal))) q
 
-poll_in_range : (name : List ℕ) → is_name name ≡ true → in_range (command.Poll name) ≡ true
+pub poll_in_range : (name : List ℕ) → is_name name ≡ true → in_range (command.Poll name) ≡ true
 unfolding in_range
 poll_in_range name q = q
 
@@ -132,7 +131,7 @@ granted : (d : Desk) (c : Command) (cs : List Command) → all_granted d (c ∷ 
     is_refused_poll (step d c).1 ≡ false
 granted d c cs q = not_true _ (and_left (not (is_refused_poll (step d c).1)) _ q)
 
-rest_granted : (d : Desk) (c : Command) (cs : List Command) → all_granted d (c ∷ cs) ≡ true →
+pub rest_granted : (d : Desk) (c : Command) (cs : List Command) → all_granted d (c ∷ cs) ≡ true →
     all_granted (step d c).0 cs ≡ true
 rest_granted d c cs q = and_right (not (is_refused_poll (step d c).1)) _ q
 
@@ -245,7 +244,7 @@ module _ (o : Offered) (e : Edits) (s r : List ℕ) (p : Pair) where
 -- ---- what is told at the end
 
 -- a record of a task
-has_sent : (d : Desk) (h : ℕ) (v : Out) → Has v ((view d).sending h) →
+pub has_sent : (d : Desk) (h : ℕ) (v : Out) → Has v ((view d).sending h) →
     (t : Task) × (task_at h d ≡ Some t) × Has v t.sending
 has_sent d h v = go (task_of h d.tasks) refl
   where
@@ -263,7 +262,7 @@ has_taken d h w = go (task_of h d.tasks) refl
     go None e q = absurd q
     go (Some t) e q = (t, e, q)
 
-sender_done : (d : Desk) (h id : ℕ) (source : List ℕ) → Has (Out_done id (length source)) ((view d).sending h) →
+pub sender_done : (d : Desk) (h id : ℕ) (source : List ℕ) → Has (Out_done id (length source)) ((view d).sending h) →
     SenderDone d h id source
 sender_done d h id source q =
     let w = has_sent d h (Out_done id (length source)) q in
@@ -284,7 +283,7 @@ receiver_done d p a =
 -- ---- the save and the first poll
 
 -- nobody holds a message
-none_seated : (h : ℕ) (seats : List Seat) → AllByRecursion (λ (seat : Seat). seat.holds ≡ None) seats →
+pub none_seated : (h : ℕ) (seats : List Seat) → AllByRecursion (λ (seat : Seat). seat.holds ≡ None) seats →
     held_by h seats ≡ None
 none_seated h [] all = refl
 none_seated h (seat ∷ seats) all = either (λ (o : Option Parcel). o ≡ None) (seat.handle == h) seat.holds
@@ -317,7 +316,7 @@ record IsSavedFor (d : Desk) (s r : List ℕ) (k : ℕ) (leaf : List ℕ) (t u :
   pub accepted : (step d (command.Save s k r leaf)).1 ≡ reply.Sent id
   pub all : all_granted (step d (command.Save s k r leaf)).0 (turns r s (suc (length source / u.buffer))) ≡ true
 
-save_names : (s : List ℕ) (k : ℕ) (r leaf : List ℕ) → in_range (command.Save s k r leaf) ≡ true →
+pub save_names : (s : List ℕ) (k : ℕ) (r leaf : List ℕ) → in_range (command.Save s k r leaf) ≡ true →
     (is_name s ≡ true) × (is_name r ≡ true)
 unfolding in_range
 save_names s k r leaf q = both (is_name s) (is_anchor k) (is_name r) (is_leaf leaf) q

@@ -10,9 +10,7 @@ use Rattle.rh_defs.specs.Slot.{Flex, IsFree, HaveAnchors}
 use Rattle.rh_safety.proofs.View.{flex_map}
 use Rattle.rh_safety.proofs.Ends.{put}
 use Rattle.rh_safety.proofs.FlexMap.{block_of, FlexEdits}
-
-none_some : {A : Type 0} {x : A} (o : Option A) → o ≡ None → o ≡ Some x → ⊥
-none_some o p q = cc
+use Rattle.rh_safety.proofs.Basics.{none_some}
 
 -- what was found lies behind a first block
 record Behind (x : Flex) (o : Option (Split Flex)) (s : Split Flex) : Type 0 where

@@ -12,9 +12,7 @@ use Rattle.rh_defs.specs.Heap.{GrowsIntoHole, GrowsAtTop, MovesToHole, MovesToTo
 use Rattle.rh_safety.proofs.HeapMap.{bytes_at, heap_map}
 use Rattle.rh_safety.proofs.Ends.{put}
 use Rattle.rh_safety.proofs.HeapMap.{CutOf, HoleFor, BlockOf, IsClaimed, IsReleased, IsMoved, CanGo}
-
-none_some : {A : Type 0} {x : A} (o : Option A) → o ≡ None → o ≡ Some x → ⊥
-none_some o p q = cc
+use Rattle.rh_safety.proofs.Basics.{none_some}
 
 -- the first of two
 abbrev or_else : Option (List ℕ) → Option (List ℕ) → Option (List ℕ)

@@ -44,8 +44,9 @@ pub mod SeenFiles
 pub mod SeenDesks
 pub mod Lines
 pub mod SeenLaws
+pub mod OwnEdits
 pub mod SeenKeys
-pub mod SeenNames
+pub mod MemoryCommands
 pub mod Alternations
 pub mod SeenRanges
 pub mod SeenBuffers

@@ -1,7 +1,7 @@
 -- No two live tasks have one name.
 use Rattle.std.proofs.Common.{◌≡◌, ◌≢◌, ℕ, Bool, true, false, not, ◌||◌, List, [], ◌∷◌, ◌++◌, Option, Some, refl, sym, ap}
 use Rattle.std.proofs.Common.{◌∙◌, subst, inl, inr}
-use Rattle.std.specs.Prelude.{if◌then◌else◌, ◌==◌, ℤ, filter, nat_lt}
+use Rattle.std.specs.Prelude.{if◌then◌else◌, ◌==◌, filter}
 use Rattle.std.specs.List.{list_any}
 use Rattle.std.specs.Str.{bytes_eq}
 use Rattle.std.proofs.lemmas.Slice.Eq.{bytes_eq-Decides}
@@ -9,16 +9,14 @@ use Rattle.rh_defs.specs.declared.refusal.Refusal.{Refusal}
 use Rattle.rh_defs.specs.declared.refusal.Refusal.TheVariants.{NameInUse}
 use Rattle.rh_defs.specs.declared.command.Command.{Command}
 use Rattle.rh_defs.specs.declared.command.Command.TheVariants as command
-use Rattle.rh_defs.specs.declared.question.Question.{Question}
 use Rattle.rh_defs.specs.declared.command.Manner.{Manner}
 use Rattle.rh_defs.specs.Post.{post_poll}
 use Rattle.rh_defs.specs.Desk.{Desk, Task, has_name, named, task_at, with_delivered}
-use Rattle.rh_defs.specs.Commands.{Answer, start_task, kill, alloc, load, put, free, extend, mid, claim, release, resize}
-use Rattle.rh_defs.specs.Commands.{budge, module_area, change_module, change_pages, change_made, make, remove, rma_claim}
-use Rattle.rh_defs.specs.Commands.{rma_free, rma_resize}
-use Rattle.rh_defs.specs.Questions.{asked}
+use Rattle.rh_defs.specs.Commands.{Answer, start_task, kill}
+use Rattle.rh_defs.specs.Commands.{make}
 use Rattle.rh_defs.specs.Step.{save, repeat, poll, cancel_in, cancel_out, step}
 use Rattle.rh_defs.specs.Laws.{Always}
+use Rattle.rh_defs.proofs.Chains.{or_else-keeps}
 use Rattle.rh_defs.specs.Runs.{start_with, after}
 use Rattle.rh_safety.specs.Names.{HaveOwnNames}
 use Rattle.rh_safety.proofs.Ends.{Has}
@@ -27,7 +25,7 @@ use Rattle.rh_safety.proofs.SeenFrames.{bind, test, done, instead_of}
 use Rattle.rh_safety.proofs.SeenBlocks.{not_refused}
 use Rattle.rh_safety.proofs.SeenKeys.{keys_of, SameKeys, slot_keys, outs_keys, ins_keys, sent_keys}
 use Rattle.rh_safety.proofs.Alternations.{taken_keys, delivered_keys}
-use Rattle.rh_safety.proofs.KeptFrames.{area_case}
+use Rattle.rh_safety.proofs.MemoryCommands.{Changed, IsOnMemory, granted-on, in_areas, in_made, in_module, in_nothing, in_slot}
 
 -- ---- keys of different names
 
@@ -112,55 +110,15 @@ module _ (d : Desk) where
   no : (r : Refusal) → Stays (instead_of d r)
   no r = refl
 
-  alloc_stays : (name : List ℕ) (k n : ℕ) → Stays (step d (command.Alloc name k n))
-  unfolding alloc
-  alloc_stays name k n = bind Stays _ _ (instead_of d) no (λ t q. bind Stays _ _ (instead_of d) no (λ p w.
-      done Stays _ (instead_of d) (slot_keys t.handle (λ _. p.0) d)))
+  changed_stays : {c : Command} (a : Answer) → Changed c d a → Stays a
+  changed_stays _ (in_slot name t s same e is) = slot_keys t.handle (λ _. s) d
+  changed_stays _ (in_module h is) = refl
+  changed_stays _ (in_areas areas is) = refl
+  changed_stays _ (in_made areas is) = refl
+  changed_stays _ (in_nothing is) = refl
 
-  load_stays : (name : List ℕ) (k : ℕ) (file : List ℕ) → Stays (step d (command.Load name k file))
-  unfolding load
-  load_stays name k file = bind Stays _ _ (instead_of d) no (λ t q. bind Stays _ _ (instead_of d) no (λ entry e.
-      bind Stays _ _ (instead_of d) no (λ p w. bind Stays _ _ (instead_of d) no (λ s v. done Stays _ (instead_of d)
-      (slot_keys t.handle (λ _. s) d)))))
-
-  put_stays : (name : List ℕ) (k offset : ℕ) (bytes : List ℕ) → Stays (step d (command.Put name k offset bytes))
-  unfolding put
-  put_stays name k offset bytes = bind Stays _ _ (instead_of d) no (λ t q. bind Stays _ _ (instead_of d) no (λ b e.
-      bind Stays _ _ (instead_of d) no (λ s w. done Stays _ (instead_of d) (slot_keys t.handle (λ _. s) d))))
-
-  free_stays : (name : List ℕ) (k : ℕ) → Stays (step d (command.Free name k))
-  unfolding free
-  free_stays name k = bind Stays _ _ (instead_of d) no (λ t q. bind Stays _ _ (instead_of d) no (λ b e.
-      bind Stays _ _ (instead_of d) no (λ s w. done Stays _ (instead_of d) (slot_keys t.handle (λ _. s) d))))
-
-  extend_stays : (name : List ℕ) (k n : ℕ) → Stays (step d (command.Extend name k n))
-  unfolding extend
-  extend_stays name k n = bind Stays _ _ (instead_of d) no (λ t q. bind Stays _ _ (instead_of d) no (λ b e.
-      bind Stays _ _ (instead_of d) no (λ s w. done Stays _ (instead_of d) (slot_keys t.handle (λ _. s) d))))
-
-  mid_stays : (name : List ℕ) (k offset : ℕ) (by : ℤ) → Stays (step d (command.Mid name k offset by))
-  unfolding mid
-  mid_stays name k offset by = bind Stays _ _ (instead_of d) no (λ t q. bind Stays _ _ (instead_of d) no (λ b e.
-      bind Stays _ _ (instead_of d) no (λ s w. done Stays _ (instead_of d) (slot_keys t.handle (λ _. s) d))))
-
-  claim_stays : (name : List ℕ) (n : ℕ) → Stays (step d (command.Claim name n))
-  unfolding claim
-  claim_stays name n = bind Stays _ _ (instead_of d) no (λ t q. bind Stays _ _ (instead_of d) no (λ p w.
-      done Stays _ (instead_of d) (slot_keys t.handle (λ _. p.0) d)))
-
-  release_stays : (name : List ℕ) (address : ℕ) → Stays (step d (command.Release name address))
-  unfolding release
-  release_stays name address = bind Stays _ _ (instead_of d) no (λ t q. bind Stays _ _ (instead_of d) no (λ b e.
-      bind Stays _ _ (instead_of d) no (λ s w. done Stays _ (instead_of d) (slot_keys t.handle (λ _. s) d))))
-
-  resize_stays : (name : List ℕ) (address : ℕ) (delta : ℤ) → Stays (step d (command.Resize name address delta))
-  unfolding resize
-  resize_stays name address delta = bind Stays _ _ (instead_of d) no (λ t q. bind Stays _ _ (instead_of d) no (λ b e.
-      bind Stays _ _ (instead_of d) no (λ p w. done Stays _ (instead_of d) (slot_keys t.handle (λ _. p.0) d))))
-
-  budge_stays : (name : List ℕ) (on : Bool) → Stays (step d (command.Budge name on))
-  unfolding budge
-  budge_stays name on = bind Stays _ _ (instead_of d) no (λ t q. done Stays _ (instead_of d) (slot_keys t.handle _ d))
+  memory_stays : (c : Command) → IsOnMemory c → Stays (step d c)
+  memory_stays c is = or_else-keeps Stays _ (granted-on d c is changed_stays) no
 
   save_stays : (name : List ℕ) (k : ℕ) (to leaf : List ℕ) → Stays (step d (command.Save name k to leaf))
   unfolding save
@@ -188,41 +146,10 @@ module _ (d : Desk) where
   cancel_out_stays name id = bind Stays _ _ (instead_of d) no (λ t q. bind Stays _ _ (instead_of d) no (λ records w.
       done Stays _ (instead_of d) (outs_keys t.handle (λ _. records) d)))
 
-  area_stays : (k : ℕ) (delta : ℤ) → Stays (step d (command.Area k delta))
-  unfolding change_module change_pages change_made
-  area_stays k delta =
-      area_case (k == module_area) Stays (change_module d delta) _ (instead_of d)
-      (bind Stays _ _ (instead_of d) no (λ x q. done Stays _ (instead_of d) refl))
-      (area_case (nat_lt k _) Stays (change_pages d k delta) (change_made d k delta) (instead_of d)
-      (bind Stays _ _ (instead_of d) no (λ x q. done Stays _ (instead_of d) refl))
-      (bind Stays _ _ (instead_of d) no (λ m q. bind Stays _ _ (instead_of d) no (λ n w. test Stays _ _ (instead_of d)
-      no (λ u v. done Stays _ (instead_of d) refl)))))
-
   make_stays : (most : ℕ) → Stays (step d (command.Make most))
   unfolding make
   make_stays most = test Stays _ _ (instead_of d) no (λ u v. test Stays _ _ (instead_of d) no (λ x y. done Stays _
       (instead_of d) refl))
-
-  remove_stays : (k : ℕ) → Stays (step d (command.Remove k))
-  unfolding remove
-  remove_stays k = bind Stays _ _ (instead_of d) no (λ u v. done Stays _ (instead_of d) refl)
-
-  rma_claim_stays : (n : ℕ) → Stays (step d (command.RmaClaim n))
-  unfolding rma_claim
-  rma_claim_stays n = bind Stays _ _ (instead_of d) no (λ u v. done Stays _ (instead_of d) refl)
-
-  rma_free_stays : (address : ℕ) → Stays (step d (command.RmaFree address))
-  unfolding rma_free
-  rma_free_stays address = bind Stays _ _ (instead_of d) no (λ b w. bind Stays _ _ (instead_of d) no (λ u v.
-      done Stays _ (instead_of d) refl))
-
-  rma_resize_stays : (address : ℕ) (delta : ℤ) → Stays (step d (command.RmaResize address delta))
-  unfolding rma_resize
-  rma_resize_stays address delta = bind Stays _ _ (instead_of d) no (λ b w. bind Stays _ _ (instead_of d) no (λ u v.
-      done Stays _ (instead_of d) refl))
-
-  ask_stays : (q : Question) → Stays (step d (command.Ask q))
-  ask_stays q = bind Stays (asked d q) _ (instead_of d) no (λ told w. done Stays _ (instead_of d) refl)
 
   -- ---- tasks come and go
 
@@ -247,28 +174,13 @@ module _ (d : Desk) where
   step_apart : (c : Command) → AreApart d → Apart (step d c)
   step_apart (command.Task name buffer manner) all = task_apart name buffer manner all
   step_apart (command.Kill name) all = kill_apart name all
-  step_apart (command.Alloc name k n) all = same_apart (command.Alloc name k n) (alloc_stays name k n) all
-  step_apart (command.Load name k file) all = same_apart (command.Load name k file) (load_stays name k file) all
-  step_apart (command.Put name k offset bytes) all = same_apart (command.Put name k offset bytes) (put_stays name k offset bytes) all
-  step_apart (command.Free name k) all = same_apart (command.Free name k) (free_stays name k) all
-  step_apart (command.Extend name k n) all = same_apart (command.Extend name k n) (extend_stays name k n) all
-  step_apart (command.Mid name k offset by) all = same_apart (command.Mid name k offset by) (mid_stays name k offset by) all
-  step_apart (command.Claim name n) all = same_apart (command.Claim name n) (claim_stays name n) all
-  step_apart (command.Release name address) all = same_apart (command.Release name address) (release_stays name address) all
-  step_apart (command.Resize name address delta) all = same_apart (command.Resize name address delta) (resize_stays name address delta) all
-  step_apart (command.Budge name on) all = same_apart (command.Budge name on) (budge_stays name on) all
   step_apart (command.Save name k to leaf) all = same_apart (command.Save name k to leaf) (save_stays name k to leaf) all
   step_apart (command.Poll name) all = same_apart (command.Poll name) (poll_stays name) all
   step_apart (command.CancelIn name id) all = same_apart (command.CancelIn name id) (cancel_in_stays name id) all
   step_apart (command.CancelOut name id) all = same_apart (command.CancelOut name id) (cancel_out_stays name id) all
   step_apart (command.Repeat name) all = same_apart (command.Repeat name) (repeat_stays name) all
-  step_apart (command.Area k delta) all = same_apart (command.Area k delta) (area_stays k delta) all
   step_apart (command.Make most) all = same_apart (command.Make most) (make_stays most) all
-  step_apart (command.Remove k) all = same_apart (command.Remove k) (remove_stays k) all
-  step_apart (command.RmaClaim n) all = same_apart (command.RmaClaim n) (rma_claim_stays n) all
-  step_apart (command.RmaFree address) all = same_apart (command.RmaFree address) (rma_free_stays address) all
-  step_apart (command.RmaResize address delta) all = same_apart (command.RmaResize address delta) (rma_resize_stays address delta) all
-  step_apart (command.Ask q) all = same_apart (command.Ask q) (ask_stays q) all
+  step_apart c all = same_apart c (memory_stays c tt) all
 
 -- ---- every run
 

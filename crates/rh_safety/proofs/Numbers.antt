@@ -1,9 +1,8 @@
 -- The numbers that are answered go up, since each is the desk's next one, and the next one goes up by one.
-use Rattle.std.proofs.Common.{◌≡◌, ℕ, ◌+◌, ◌≤◌, Bool, refl, sym, subst, ◌∙◌, arith, List, [], ◌∷◌, ◌++◌, length}
-use Rattle.std.specs.Prelude.{Option, Some, None, ℤ, Ok, Err, ◌==◌, nat_lt, not, filter}
+use Rattle.std.proofs.Common.{◌≡◌, ℕ, ◌+◌, ◌≤◌, refl, sym, subst, ◌∙◌, arith, List, [], ◌∷◌, ◌++◌, length}
+use Rattle.std.specs.Prelude.{Option, Some, None, Ok, ◌==◌, not, filter}
 use Rattle.rh_defs.specs.declared.command.Command.{Command}
 use Rattle.rh_defs.specs.declared.command.Command.TheVariants as command
-use Rattle.rh_defs.specs.declared.question.Question.{Question}
 use Rattle.rh_defs.specs.declared.command.Manner.{Manner}
 use Rattle.rh_defs.specs.declared.message.Body.{Body}
 use Rattle.rh_defs.specs.declared.message.Body.TheVariants.{DataSave, DataSaveAck, DataLoad, DataLoadAck, RamFetch, RamTransmit}
@@ -20,28 +19,28 @@ use Rattle.rh_defs.specs.declared.transfer.Incoming.{Incoming}
 use Rattle.rh_defs.specs.declared.transfer.Incoming.TheVariants as incoming
 use Rattle.rh_defs.specs.declared.transfer.Sending.{Sending}
 use Rattle.rh_defs.specs.declared.transfer.Taking.{Taking}
-use Rattle.rh_defs.specs.Chain.{Granted}
 use Rattle.rh_defs.specs.Pieces.{Split}
 use Rattle.rh_defs.specs.Heap.{Heap}
-use Rattle.rh_defs.specs.Slot.{Flex}
+use Rattle.rh_defs.specs.Slot.{Flex, Slot}
 use Rattle.rh_defs.specs.Messages.{Parcel, is_recorded}
 use Rattle.rh_defs.specs.Post.{Post, Seat, answers_held, held_by, has_seat, bounced, bounce_held, bounce_all, without_block, first_for, taken_from, queued_in}
 use Rattle.rh_defs.specs.Post.{put_down, post_join, post_send, post_poll, post_death}
-use Rattle.rh_defs.specs.Desk.{Desk, Task, Scrap, next_ref, free_pages, with_task, with_module, with_delivered, send_letter}
+use Rattle.rh_defs.specs.Desk.{Desk, Task, Scrap, next_ref, free_pages, with_slot, with_task, with_module, with_delivered, send_letter}
 use Rattle.rh_defs.specs.OutgoingEvents.{Handled, transmit, answer_fetch, fail_sending, save_scrap, answer_ack, finish_load, refused as failed_by}
 use Rattle.rh_defs.specs.IncomingEvents.{ended, accept, take_save, appended, fetch_more, took, take_bytes, ask, fetch_back, ack_back, loaded, load_file}
 use Rattle.rh_defs.specs.IncomingEvents.{take_file}
 use Rattle.rh_defs.specs.Transfer.{came, came_back, handled}
-use Rattle.rh_defs.specs.Commands.{Answer, start_task, kill, alloc, load, put, free, extend, mid, claim, release, resize, budge, module_area, change_module}
-use Rattle.rh_defs.specs.Commands.{change_pages, change_made, change_area, make, remove, rma_claim, rma_free, rma_resize}
-use Rattle.rh_defs.proofs.QuestionLaws.{IsFirst, shown, block_count, heap_sums, status_of, free_page_count, first-is}
+use Rattle.rh_defs.specs.Commands.{Answer, start_task, kill, free}
+use Rattle.rh_defs.specs.Commands.{make}
 use Rattle.rh_defs.specs.Step.{save, repeat, poll, poll_taken, cancel_in, cancel_out, change, step}
 use Rattle.rh_defs.specs.Runs.{after, start_with}
 use Rattle.rh_defs.specs.Laws.{Always}
-use Rattle.rh_defs.proofs.Chains.{OnGrant, granted, refused, granted-then, granted-with, granted-both, granted-past, granted-unless, or_else-keeps, chosen}
+use Rattle.rh_defs.proofs.Chains.{OnGrant, granted, granted-then, granted-with, granted-both, granted-past, granted-unless, or_else-keeps, chosen}
 use Rattle.rh_safety.proofs.LiveRefs.{OneEach, live_with, own-refs, no_more-one, posted-one, join-one, poll-fewer, death-fewer}
+use Rattle.rh_safety.proofs.MemoryCommands.{Changed, IsOnMemory, granted-on, in_areas, in_made, in_module, in_nothing, in_slot}
 use Rattle.rh_safety.specs.Refs.{HaveOwnRefs}
 use Rattle.rh_safety.specs.Numbers.{GoUp, NumbersGoUp, handles_in, refs_in, refs_of_outcome, areas_in}
+use Rattle.rh_safety.proofs.OwnEdits.{any-grant}
 
 -- ---- numbers that go up
 
@@ -93,11 +92,6 @@ post_death-ref h post =
     } in
     bounce_all-ref (filter (λ (p : Parcel). p.to == h) post.queued) (bounce_held h (held_by h post.seats) rest)
     ∙ bounce_held-ref h (held_by h post.seats) rest
-
--- a step of which nothing is known
-any-grant : {A : Type 0} (r : Granted A) → OnGrant (λ (x : A). Unit {0}) r
-any-grant (Ok x) = granted tt
-any-grant (Err refusal) = refused
 
 -- a letter that is sent gets the next ref, and its message is the only live one of that ref
 record IsSent (post : Post) (sent : Post × ℕ) : Type 0 where
@@ -396,48 +390,9 @@ module _ (d : Desk) where
       let next = post_death-ref t.handle d.post in
       still (stands refl next refl (less-mail next λ ref. death-fewer ref t.handle d.post)) refl refl refl
 
-  alloc-counts : (name : List ℕ) (k n : ℕ) → OnGrant (Counts d) (alloc d name k n)
-  unfolding alloc with_task
-  alloc-counts name k n = granted-then _ _ λ t e. granted-then _ _ λ p f. still (stands refl refl refl same-mail) refl refl refl
-
-  load-counts : (name : List ℕ) (k : ℕ) (file : List ℕ) → OnGrant (Counts d) (load d name k file)
-  unfolding load with_task
-  load-counts name k file = granted-then _ _ λ t e. granted-then _ _ λ entry f. granted-then _ _ λ p g.
-      granted-then _ _ λ s h. still (stands refl refl refl same-mail) refl refl refl
-
-  put-counts : (name : List ℕ) (k offset : ℕ) (bytes : List ℕ) → OnGrant (Counts d) (put d name k offset bytes)
-  unfolding put with_task
-  put-counts name k offset bytes =
-      granted-then _ _ λ t e. granted-then _ _ λ b f. granted-then _ _ λ s g. still (stands refl refl refl same-mail) refl refl refl
-
-  free-counts : (name : List ℕ) (k : ℕ) → OnGrant (Counts d) (free d name k)
-  unfolding free with_task
-  free-counts name k = granted-then _ _ λ t e. granted-then _ _ λ b f. granted-then _ _ λ s g. still (stands refl refl refl same-mail) refl refl refl
-
-  extend-counts : (name : List ℕ) (k n : ℕ) → OnGrant (Counts d) (extend d name k n)
-  unfolding extend with_task
-  extend-counts name k n = granted-then _ _ λ t e. granted-then _ _ λ b f. granted-then _ _ λ s g. still (stands refl refl refl same-mail) refl refl refl
-
-  mid-counts : (name : List ℕ) (k offset : ℕ) (by : ℤ) → OnGrant (Counts d) (mid d name k offset by)
-  unfolding mid with_task
-  mid-counts name k offset by = granted-then _ _ λ t e. granted-then _ _ λ b f. granted-then _ _ λ s g. still (stands refl refl refl same-mail) refl refl refl
-
-  claim-counts : (name : List ℕ) (n : ℕ) → OnGrant (Counts d) (claim d name n)
-  unfolding claim with_task
-  claim-counts name n = granted-then _ _ λ t e. granted-then _ _ λ p f. still (stands refl refl refl same-mail) refl refl refl
-
-  release-counts : (name : List ℕ) (address : ℕ) → OnGrant (Counts d) (release d name address)
-  unfolding release with_task
-  release-counts name address = granted-then _ _ λ t e. granted-then _ _ λ b f. granted-then _ _ λ s g. still (stands refl refl refl same-mail) refl refl refl
-
-  resize-counts : (name : List ℕ) (address : ℕ) (delta : ℤ) → OnGrant (Counts d) (resize d name address delta)
-  unfolding resize with_task
-  resize-counts name address delta =
-      granted-then _ _ λ t e. granted-then _ _ λ b f. granted-then _ _ λ p g. still (stands refl refl refl same-mail) refl refl refl
-
-  budge-counts : (name : List ℕ) (on : Bool) → OnGrant (Counts d) (budge d name on)
-  unfolding budge with_task
-  budge-counts name on = granted-then _ _ λ t e. still (stands refl refl refl same-mail) refl refl refl
+  slot-stands : (h : ℕ) (s : Slot) → Stands d (with_slot h s d)
+  unfolding with_task
+  slot-stands h s = stands refl refl refl same-mail
 
   save-counts : (name : List ℕ) (k : ℕ) (to leaf : List ℕ) → OnGrant (Counts d) (save d name k to leaf)
   unfolding save with_task
@@ -459,23 +414,6 @@ module _ (d : Desk) where
   unfolding cancel_out with_task
   cancel_out-counts name id = granted-then _ _ λ t e. granted-then _ _ λ records f. still (stands refl refl refl same-mail) refl refl refl
 
-  change_module-counts : (delta : ℤ) → OnGrant (Counts d) (change_module d delta)
-  unfolding change_module
-  change_module-counts delta = granted-then _ _ λ c e. still (stands refl refl refl (module-mail c.0 d)) refl refl refl
-
-  change_pages-counts : (k : ℕ) (delta : ℤ) → OnGrant (Counts d) (change_pages d k delta)
-  unfolding change_pages
-  change_pages-counts k delta = granted-then _ _ λ n e. still (stands refl refl refl same-mail) refl refl refl
-
-  change_made-counts : (k : ℕ) (delta : ℤ) → OnGrant (Counts d) (change_made d k delta)
-  unfolding change_made
-  change_made-counts k delta = granted-then _ _ λ m e. granted-then _ _ λ n f. granted-past _ _ _ λ big. still (stands refl refl refl same-mail) refl refl refl
-
-  change_area-counts : (k : ℕ) (delta : ℤ) → OnGrant (Counts d) (change_area d k delta)
-  change_area-counts k delta =
-      chosen (OnGrant (Counts d)) (k == module_area) _ _ (change_module-counts delta)
-      (chosen (OnGrant (Counts d)) (nat_lt k (length d.areas)) _ _ (change_pages-counts k delta) (change_made-counts k delta))
-
   make-counts : (most : ℕ) → OnGrant (Counts d) (make d most)
   unfolding make
   make-counts most =
@@ -487,31 +425,15 @@ module _ (d : Desk) where
         mail = same-mail;
       })
 
-  remove-counts : (k : ℕ) → OnGrant (Counts d) (remove d k)
-  unfolding remove
-  remove-counts k = granted-then _ _ λ m e. still (stands refl refl refl same-mail) refl refl refl
+  changed-counts : {c : Command} (a : Answer) → Changed c d a → Counts d a
+  changed-counts _ (in_slot name t s is e q) = silent (slot-stands t.handle s) q.handles q.refs q.areas
+  changed-counts _ (in_module h q) = silent (stands refl refl refl (module-mail h d)) q.handles q.refs q.areas
+  changed-counts _ (in_areas areas q) = silent (stands refl refl refl same-mail) q.handles q.refs q.areas
+  changed-counts _ (in_made areas q) = silent (stands refl refl refl same-mail) q.handles q.refs q.areas
+  changed-counts _ (in_nothing q) = silent (stands refl refl refl same-mail) q.handles q.refs q.areas
 
-  rma_claim-counts : (n : ℕ) → OnGrant (Counts d) (rma_claim d n)
-  unfolding rma_claim
-  rma_claim-counts n = granted-then _ _ λ c e. still (stands refl refl refl (module-mail c.0 d)) refl refl refl
-
-  rma_free-counts : (address : ℕ) → OnGrant (Counts d) (rma_free d address)
-  unfolding rma_free
-  rma_free-counts address = granted-then _ _ λ b e. granted-then _ _ λ h f. still (stands refl refl refl (module-mail h d)) refl refl refl
-
-  rma_resize-counts : (address : ℕ) (delta : ℤ) → OnGrant (Counts d) (rma_resize d address delta)
-  unfolding rma_resize
-  rma_resize-counts address delta = granted-then _ _ λ b e. granted-then _ _ λ c f. still (stands refl refl refl (module-mail c.0 d)) refl refl refl
-
-  silent-first : {said : Reply} → IsFirst said → OnGrant (Counts d) (Ok (d, said))
-  silent-first shown = still (stands refl refl refl same-mail) refl refl refl
-  silent-first block_count = still (stands refl refl refl same-mail) refl refl refl
-  silent-first heap_sums = still (stands refl refl refl same-mail) refl refl refl
-  silent-first status_of = still (stands refl refl refl same-mail) refl refl refl
-  silent-first free_page_count = still (stands refl refl refl same-mail) refl refl refl
-
-  ask-counts : (q : Question) → OnGrant (Counts d) (change d (command.Ask q))
-  ask-counts q = granted-with _ (first-is d q) λ told first. silent-first first
+  memory-counts : (c : Command) → IsOnMemory c → OnGrant (Counts d) (change d c)
+  memory-counts c is = granted-on d c is changed-counts
 
 -- ---- polls
 
@@ -544,28 +466,13 @@ poll-counts d name =
 change-counts : (d : Desk) (c : Command) → OnGrant (Counts d) (change d c)
 change-counts d (command.Task name buffer manner) = start_task-counts d name buffer manner
 change-counts d (command.Kill name) = kill-counts d name
-change-counts d (command.Alloc name k n) = alloc-counts d name k n
-change-counts d (command.Load name k file) = load-counts d name k file
-change-counts d (command.Put name k offset bytes) = put-counts d name k offset bytes
-change-counts d (command.Free name k) = free-counts d name k
-change-counts d (command.Extend name k n) = extend-counts d name k n
-change-counts d (command.Mid name k offset by) = mid-counts d name k offset by
-change-counts d (command.Claim name n) = claim-counts d name n
-change-counts d (command.Release name address) = release-counts d name address
-change-counts d (command.Resize name address delta) = resize-counts d name address delta
-change-counts d (command.Budge name on) = budge-counts d name on
 change-counts d (command.Save name k to leaf) = save-counts d name k to leaf
 change-counts d (command.Poll name) = poll-counts d name
 change-counts d (command.CancelIn name id) = cancel_in-counts d name id
 change-counts d (command.CancelOut name id) = cancel_out-counts d name id
 change-counts d (command.Repeat name) = repeat-counts d name
-change-counts d (command.Area k delta) = change_area-counts d k delta
 change-counts d (command.Make most) = make-counts d most
-change-counts d (command.Remove k) = remove-counts d k
-change-counts d (command.RmaClaim n) = rma_claim-counts d n
-change-counts d (command.RmaFree address) = rma_free-counts d address
-change-counts d (command.RmaResize address delta) = rma_resize-counts d address delta
-change-counts d (command.Ask q) = ask-counts d q
+change-counts d c = memory-counts d c tt
 
 step-counts : (d : Desk) (c : Command) → Counts d (step d c)
 step-counts d c = or_else-keeps (Counts d) _ (change-counts d c) (λ refusal. silent (stands refl refl refl same-mail) refl refl refl)

@@ -48,7 +48,7 @@ pub data Turn (d : Desk) : ℕ → Message → Answer → Type 0 where
       sight.lost (view e) ≡ sight.picked (sight.lost (view d)) t.handle (seen_parcel p) p.code →
       Turn d t.handle (seen_parcel p) (event p (transfer.handled e t p p.code))
 
-one_of : (o : Option Parcel) (m : Message) → option_map seen_parcel o ≡ Some m →
+pub one_of : (o : Option Parcel) (m : Message) → option_map seen_parcel o ≡ Some m →
     (p : Parcel) × (o ≡ Some p) × (seen_parcel p ≡ m)
 one_of None m q = absurd (none_some None refl q)
 one_of (Some p) m q = (
@@ -58,11 +58,11 @@ one_of (Some p) m q = (
       y),
 )
 
-lost_twice : (b : Bool) (d : sight.Desk) → sight.lost (sight.lost_if b d) ≡ sight.lost d
+pub lost_twice : (b : Bool) (d : sight.Desk) → sight.lost (sight.lost_if b d) ≡ sight.lost d
 lost_twice true d = refl
 lost_twice false d = refl
 
-lost_picked : (d : sight.Desk) (h : ℕ) (m : Message) (c : EventCode) →
+pub lost_picked : (d : sight.Desk) (h : ℕ) (m : Message) (c : EventCode) →
     sight.lost (sight.picked d h m c) ≡ sight.picked (sight.lost d) h m c
 lost_picked d h m User = refl
 lost_picked d h m Recorded = refl

@@ -11,6 +11,11 @@ use Rattle.rh_defs.specs.Slot.{Slot}
 use Rattle.rh_defs.specs.Desk.{Desk, Task, edit_task, has_name, with_task, with_sending, with_taking, with_post}
 use Rattle.rh_defs.specs.Desk.{send_letter}
 use Rattle.rh_defs.specs.IncomingEvents.{ended}
+use Rattle.rh_defs.specs.Messages.{Parcel}
+use Rattle.rh_defs.specs.Transfer.{handled}
+use Rattle.rh_defs.specs.declared.message.EventCode.{EventCode}
+use Rattle.rh_defs.proofs.Chains.{OnGrant, granted, granted-then}
+use Rattle.rh_safety.proofs.OwnEdits.{OwnEdits, handled-own}
 use Rattle.rh_safety.proofs.Basics.{either}
 use Rattle.rh_safety.proofs.SeenSends.{letter_sent}
 
@@ -70,3 +75,23 @@ ins_keys h g d = task_keys h (λ t. record t { taking = g t.taking }) d (λ y. r
 pub ended_keys : (h : ℕ) (f : Taking) (g : List Incoming → List Incoming) (d : Desk) → SameKeys d (ended h f g d)
 unfolding ended
 ended_keys h f g d = ins_keys h g _ ∙ slot_keys h _ d
+
+letter_keys : (l : Letter) (d : Desk) → OnGrant (SameKeys d) (send_letter l d)
+unfolding send_letter
+letter_keys l d = granted-then _ _ λ sent e. granted (task_keys l.from _ (with_post sent.0 d) (λ y. refl) (λ y. refl))
+
+-- a message that is handled leaves them too
+pub handled_keys : (d : Desk) (t : Task) (m : Parcel) (c : EventCode) → SameKeys d (handled d t m c).0
+handled_keys d t m c = (handled-own SameKeys t own d slot_keys m c).desk
+  where
+    own : OwnEdits t.handle SameKeys
+    own = record {
+      same = λ e. refl;
+      after = λ p q. q ∙ p;
+      slot = slot_keys t.handle;
+      outs = outs_keys t.handle;
+      ins = ins_keys t.handle;
+      letter = λ l e from. letter_keys l e;
+      scrap = λ file e. refl;
+      areas = λ areas e. refl;
+    }

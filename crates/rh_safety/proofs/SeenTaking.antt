@@ -17,7 +17,7 @@ use Rattle.rh_safety.proofs.Sight as sight
 use Rattle.rh_safety.proofs.Basics.{none_some}
 use Rattle.rh_safety.proofs.SeenFrames.{Fits}
 use Rattle.rh_safety.proofs.SeenSends.{held_put, held_got, seats_held, held_seen}
-use Rattle.rh_safety.proofs.SeenPosts.{bounced_leads, live_bounced, kept_is}
+use Rattle.rh_safety.proofs.SeenPosts.{bounced_leads, live_bounced, kept_is, with_scrap}
 
 -- ---- the bounce
 
@@ -103,9 +103,6 @@ picked_code d h t Recorded e live = λ i. record (view d) {
 }
 
 -- ---- a poll's post
-
-abbrev pub with_scrap : Option sight.Scrap → sight.Desk → sight.Desk
-with_scrap v d = record d { scrap = v }
 
 -- the desk that was polled, and what was taken
 pub record IsTaken (d : Desk) (h : ℕ) (p : Post × Option Parcel) : Type 0 where

@@ -81,11 +81,11 @@ not_lt a b h = elim (leb_tells (suc a) b) [ inl w ↦ absurd (let z = w.1 in ome
 pub first_one : (h : ℕ) (m : Message) → m.to ≡ h → first_for h (m ∷ []) ≡ Some m
 first_one h m to = let t : nat_eq m.to h ≡ true = eq-eqb _ _ to in rw t refl
 
-without_one : (h : ℕ) (m : Message) → m.to ≡ h → without_first h (m ∷ []) ≡ []
+pub without_one : (h : ℕ) (m : Message) → m.to ≡ h → without_first h (m ∷ []) ≡ []
 without_one h m to = let t : nat_eq m.to h ≡ true = eq-eqb _ _ to in rw t refl
 
 -- what is held after a send that answers the message just taken
-let_go : (held : ℕ → Option Message) (h : ℕ) (m : Message) → ((k : ℕ) → held k ≡ None) → (k : ℕ) →
+pub let_go : (held : ℕ → Option Message) (h : ℕ) (m : Message) → ((k : ℕ) → held k ≡ None) → (k : ℕ) →
     put (put held h (Some m)) h (still_held (put held h (Some m) h) m.letter.me) k ≡ None
 let_go held h m none k =
     put_all (λ j (v : Option Message). v ≡ None) (put held h (Some m)) h (still_held (put held h (Some m) h)
