@@ -1,4 +1,3 @@
 mod FreshLaws
-mod TextLaws
 mod PrintLaws
 mod SaidLaws

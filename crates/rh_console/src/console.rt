@@ -1,5 +1,5 @@
 //! A desk that takes lines.
-ghost use Rattle.std.specs.Prelude.{◌≡◌, ◌≤◌, ◌<◌, [], true, Some, Ok, IfOk, OnErr};
+ghost use Rattle.std.specs.Prelude.{◌≡◌, ◌≤◌, ◌-◌, ◌^◌, [], length, min, true, Some, Ok, IfOk, OnErr};
 ghost use Rattle.rh_defs.specs.Desk.{Desk};
 ghost use Rattle.rh_defs.specs.Order.{IsReordered};
 ghost use Rattle.rh_defs.specs.Runs.{start_with};
@@ -8,14 +8,11 @@ ghost use Rattle.rh_defs.specs.Script.{line_desk, line_text, meaning_desk, meani
 ghost use Rattle.rh_defs.specs.declared.sizes.TheConstants.{MAX_PAGES, MIN_PAGES};
 ghost use Rattle.rh_console.specs.declared.said.Said.TheVariants as Said;
 ghost use Rattle.rh_console.specs.Said.{said_text};
-ghost use Rattle.rh_console.specs.declared.tally.TheConstants.{LIMIT};
-ghost use Rattle.rh_console.specs.Console.{Prints, fitting};
+ghost use Rattle.rh_console.specs.Console.{Prints};
 
-use crate::lent_text::LentText;
 use crate::said::Said;
-use crate::tally::Tally;
 use rh_defs::{Command, Files, Handle, Ref};
-use rh_lines::parse_line;
+use rh_lines::{WholeText, parse_line};
 use rh_mapped::Mapped;
 use rh_pages::PagedStore;
 use rh_tasks::World;
@@ -88,21 +85,16 @@ impl Console {
         }
     }
 
-    /// How many bytes the text has of what the last line was answered, over the desk as it is now. None where there are
-    /// more than so many.
-    fn length(&self, room: usize) -> Option<usize>
-        requires { room < LIMIT }
-        ensures { (d : Desk) → IsReordered d self.now.world.desk → result ≡ fitting (said_text d self.now.said) room }
+    /// How many bytes the text has of what the last line was answered, over the desk as it is now; 2^64 - 1 where it has
+    /// more.
+    fn length(&self) -> usize
+        ensures { (d : Desk) → IsReordered d self.now.world.desk →
+            result ≡ min (length (said_text d self.now.said)) (2 ^ 64 - 1) }
     {
-        let mut tally = Tally {
-            left: room + 1,
-            failed: false,
-        };
-        let _done = self.said.print(&self.world, &mut tally);
-        if tally.left == 0 {
-            return None;
-        }
-        Some(room + 1 - tally.left)
+        let mut nowhere = [];
+        let mut text = WholeText::new(&mut nowhere);
+        let _done = self.said.print(&self.world, &mut text);
+        text.length()
     }
 
     /// Puts the text of what the last line was answered into lent bytes, over the desk as it is now, with zeros behind
@@ -111,15 +103,13 @@ impl Console {
         ensures { (d : Desk) → IsReordered d self.now.world.desk →
             Prints (said_text d self.now.said) to.old to.new result }
     {
-        let length = self.length(to.len())?;
+        let length = self.length();
+        if length > to.len() {
+            return None;
+        }
         to.fill(0);
-        let mut text = LentText {
-            bytes: to,
-            taken: 0,
-            beyond: 0,
-            failed: false,
-        };
+        let mut text = WholeText::new(to);
         let _done = self.said.print(&self.world, &mut text);
-        Some(length)
+        Some(text.length())
     }
 }

@@ -2,9 +2,7 @@
 #![tactic(auto)]
 
 mod console;
-mod lent_text;
 mod said;
-mod tally;
 
 pub use console::{Console, PagedWorld};
 pub use said::Said;

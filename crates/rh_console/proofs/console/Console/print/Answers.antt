@@ -1,10 +1,21 @@
-use Rattle.std.proofs.Common.{refl, rules}
+use Rattle.std.proofs.Common.{◌≡◌, arith, sym, ◌∙◌, ap, rules, length, ◌≤◌, ◌-◌, ◌++◌, replicate}
 use Rattle.rh_console.specs.Said.{said_text}
-use Rattle.rh_console.proofs.PrintLaws.{prints-some, printed}
+use Rattle.rh_lines.specs.WholeText.{before_of, bytes_of, filled}
+use Rattle.rh_console.proofs.PrintLaws.{filled-zeros, printed, prints-some}
 use Rattle.rh_console.proofs.console.Console.print.Goals as goal
 
 pub returns : goal.returns
 returns c = λ d seen.
-    let p = printed _ c.print-done.new.writer c.print-done.result (said_text d c.args.self.now.said) refl (c.print-done.ensures d seen) in
-    let name = p.name in
-    prints-some p (search rules) (search rules) (search rules)
+    let text = said_text d c.args.self.now.said in
+    let p = printed c.new-text.result c.print-done.new.writer c.print-done.result text c.new-text.ensures.text
+    (c.print-done.ensures d seen) in
+    let same = sym (p.name ∙ c.new-text.ensures.same_reference) in
+    let long = c.length-length.ensures d seen in
+    let fit : length text ≤ length c.args.to.now = omega (arith, long, c.if-length-to.false) in
+    let clear : before_of c.print-done.new.writer ≡ replicate (length c.args.to.now) 0 =
+    p.before ∙ c.new-text.ensures.before ∙ c.fill.ensures.after (λ y e. e) in
+    let all : (bytes_of c.print-done.new.writer).now ≡ text ++ replicate (length c.args.to.now - length text) 0 =
+    c.length.ensures.bytes ∙ ap (λ l. filled l (before_of c.print-done.new.writer)) p.text_is ∙ ap (filled text) clear
+    ∙ filled-zeros text (length c.args.to.now) fit in
+    let size = ap length p.text_is in
+    prints-some fit all (search rules) (omega (arith, fit, size, c.length.ensures.value))
