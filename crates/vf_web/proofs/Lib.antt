@@ -1,2 +1,4 @@
 pub mod Listed
 pub mod Texts
+mod PackedRows
+mod StatusRows

@@ -1,5 +1,5 @@
 -- What is known of the bytes lent for a text when what writes them has ended.
-use Rattle.std.proofs.Common.{◌≡◌, ℕ, Bool, true, false, List, [], ◌++◌, Some, Result, Ok, Err, IfErr, IsOk, refl, sym, ap, subst, ◌∙◌, append-nil, rules}
+use Rattle.std.proofs.Common.{◌≡◌, ℕ, Bool, true, false, List, [], ◌++◌, Result, Ok, Err, IfErr, IsOk, refl, sym, ap, subst, ◌∙◌, append-nil, rules}
 use Rattle.rh_defs.specs.Desk.{Desk}
 use Rattle.rh_defs.specs.Script.{has_bad_line, script_text}
 use Rattle.rh_drawn.specs.Mapped.{Mapped}

@@ -1,6 +1,5 @@
 -- What a call does with the bytes that it was lent for its text, and which text it is.
-use Rattle.std.specs.Prelude.{◌≡◌, ℕ, ◌-◌, ◌^◌, min, Bool, List, length, is_some}
-use Rattle.rh_defs.specs.HeapImage.{fault_of}
+use Rattle.std.specs.Prelude.{◌≡◌, ℕ, ◌-◌, ◌^◌, min, Bool, List, length}
 use Rattle.rh_defs.specs.Desk.{Desk}
 use Rattle.rh_defs.specs.Script.{has_bad_line}
 use Rattle.rh_figure.specs.Map.{Place, read_lines}

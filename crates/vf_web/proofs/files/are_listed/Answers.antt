@@ -1,5 +1,4 @@
-use Rattle.std.proofs.Common.{◌≡◌, ℕ, arith, refl, List, Option, Some, None, is_some, sym, ap, ◌∙◌}
-use Rattle.vf_web.specs.Packed.{front_file, listed}
+use Rattle.std.proofs.Common.{arith}
 use Rattle.vf_web.proofs.Listed.{is_some-front, listed-empty, listed-no_front}
 use Rattle.vf_web.proofs.files.are_listed.Goals as goal
 

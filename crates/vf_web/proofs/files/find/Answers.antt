@@ -1,6 +1,4 @@
-use Rattle.std.proofs.Common.{◌≡◌, ℕ, arith, refl, List, [], ◌∷◌, Option, Some, None, is_some, sym, ap, ◌∙◌}
-use Rattle.rh_defs.specs.Files.{FileList, file_bytes}
-use Rattle.vf_web.specs.Packed.{front_file, listed}
+use Rattle.std.proofs.Common.{arith, sym, ◌∙◌}
 use Rattle.vf_web.proofs.Listed.{find-next, listed-end, listed-step}
 use Rattle.vf_web.proofs.files.find.Goals as goal
 

@@ -1,4 +1,4 @@
-use Rattle.std.proofs.Common.{◌≡◌, length, is_some, IsTrue, List, ℕ, Some}
+use Rattle.std.proofs.Common.{◌≡◌, length, Some}
 use Rattle.rh_defs.specs.Files.{FileList, file_bytes}
 use Rattle.vf_web.specs.Packed.{listed}
 use Rattle.vf_web.proofs.files.find.Given as goal

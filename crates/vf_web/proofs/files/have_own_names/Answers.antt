@@ -1,7 +1,7 @@
-use Rattle.std.proofs.Common.{IfSome, false, true, ◌≡◌, ℕ, arith, refl, List, [], ◌∷◌, Option, Some, None, is_some, sym, ap, ◌∙◌}
-use Rattle.rh_defs.specs.Files.{FileList, file_bytes}
-use Rattle.vf_web.specs.Packed.{are_apart, front_file, listed}
-use Rattle.vf_web.proofs.Listed.{apart-next, apart-none, is_some-front, listed-end, listed-step}
+use Rattle.std.proofs.Common.{IfSome, false, ◌≡◌, arith, refl, Option, Some, None, sym, ◌∙◌}
+use Rattle.rh_defs.specs.Files.{FileList}
+use Rattle.vf_web.specs.Packed.{are_apart, listed}
+use Rattle.vf_web.proofs.Listed.{apart-next, apart-none, is_some-front, listed-end}
 use Rattle.vf_web.proofs.files.have_own_names.Goals as goal
 
 pub find-requires : goal.find-requires

@@ -1,4 +1,4 @@
-use Rattle.std.proofs.Common.{◌≡◌, length, is_some, IsTrue, List, ℕ, Some}
+use Rattle.std.proofs.Common.{◌≡◌, length, Some}
 use Rattle.rh_defs.specs.Files.{FileList}
 use Rattle.vf_web.specs.Packed.{are_apart, listed}
 use Rattle.vf_web.proofs.files.have_own_names.Given as goal

@@ -1,6 +1,5 @@
-use Rattle.std.proofs.Common.{◌≡◌, ℕ, arith, refl, List, [], ◌∷◌, Option, Some, None, is_some, sym, ap, ◌∙◌}
-use Rattle.rh_defs.specs.Files.{FileList, file_bytes}
-use Rattle.vf_web.specs.Packed.{are_apart, files_in, listed}
+use Rattle.std.proofs.Common.{arith}
+use Rattle.vf_web.specs.Packed.{files_in}
 use Rattle.vf_web.proofs.files.LentFiles.get.Goals as goal
 
 pub find-requires : goal.find-requires
