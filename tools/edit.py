@@ -1,5 +1,6 @@
 """Edits: wrong bodies as files of lines 'file:', 'old:' and 'new:', and which places and functions each changes."""
 
+import collections
 import dataclasses
 import difflib
 import os
@@ -61,16 +62,20 @@ class Function:
     A method goes by the module of its type, wherever its `impl` stands.
     """
 
-    def __init__(self, read, types):
+    def __init__(self, read, types, is_the_only):
         self.name, self.file, self.block, self.in_trait = read.name, read.file, read.block, read.in_trait
+        self.is_the_only = is_the_only
         self.first, self.opens, self.end = read.first, read.opens, read.end
         self.owner = read.owner if read.block else ""
+        self.trait = "".join(filter(str.isidentifier, read.block.trait)) if read.in_trait else ""
         self.modules = {read.module} | {module for module, *_ in types.get(self.owner, [])}
 
     def ending(self):
-        """What a check's name for it ends in. Other functions' names may end so too."""
+        """What a check's name for it ends in, and no other's where the kit names its block by type and trait."""
+        if self.in_trait and self.is_the_only:
+            return self.name
         if self.block:
-            return self.name if self.in_trait else f"{self.owner}::{self.name}"
+            return f"{self.owner}{self.trait}::{self.name}"
         return "::".join([*next(iter(self.modules)), self.name])
 
     def is_called(self, words):
@@ -89,7 +94,8 @@ def functions_of(folder):
     """The functions of a crate's src/ that have a body."""
     source = bodies.Source(folder)
     source.read("src/main.rt" if os.path.isfile(f"{folder}/src/main.rt") else "src/lib.rt")
-    return [Function(it, source.declared) for it in source.functions if it.has_body]
+    of_a_name = collections.Counter(it.name for it in source.functions)
+    return [Function(it, source.declared, of_a_name[it.name] == 1) for it in source.functions if it.has_body]
 
 
 def names_of(crate, kind=WRONG):
@@ -193,9 +199,7 @@ def functions_in(edits):
 
 
 def apart_from(group, edits):
-    """Those of the edits that change no function of the group's; none where the group is one that other functions see."""
-    if not all(it.is_inside for it in group):
-        return []
+    """Those of the edits that change nothing but bodies, and no function of the group's."""
     return [it for it in edits if it.is_inside and not _share_a_function(group, it)]
 
 

@@ -26,6 +26,8 @@ class Trial:
     def __init__(self, crate, kept, jobs):
         self.crate, self.kept, self.jobs = crate, kept, jobs
         self.checks_all = True
+        # The goals that were refused so far.
+        self.seen = set()
 
     def check(self, edits, functions=()):
         """Checks the crate with these edits, or only these functions of it."""
@@ -68,7 +70,9 @@ class Trial:
         fault = said.fault()
         is_alone = len(group) == 1 and not beside
         if not fault:
-            return [self.verdict(said, it, is_alone) for it in group]
+            others = self.seen.union(goals_of(said, beside)) if beside else set()
+            self.seen = self.seen.union(said.all_goals())
+            return [self.verdict(said, it, is_alone, others) for it in group]
         if is_alone:
             return [Verdict(group[0], f"BAD EDIT: {fault}")]
         if len(group) == 1:
@@ -76,9 +80,9 @@ class Trial:
         half = len(group) // 2
         return self.judge(group[:half], beside) + self.judge(group[half:], beside)
 
-    def verdict(self, said, edit, is_alone):
-        """What the check says of one edit of its group."""
-        own = refused_at(said, edit)
+    def verdict(self, said, edit, is_alone, others=frozenset()):
+        """What the check says of one edit of its group: the goals of others refuse no edit outside of functions."""
+        own = refused_at(said, edit, others)
         if own:
             return Verdict(edit, f"refused at {own[0]}", True)
         if not is_alone:
@@ -89,11 +93,21 @@ class Trial:
         return Verdict(edit, "PROVED" if said.is_all_proved() else "refused elsewhere only, at no goal")
 
 
-def refused_at(said, edit):
-    """The refused goals of the functions that the edit changes: of any one, where it lies outside of functions."""
+def refused_at(said, edit, others=frozenset()):
+    """The refused goals of the functions that the edit changes: of any one, where it lies outside of functions.
+
+    Those count then that were not refused before, and are not of a function that an edit beside it changes: bodies
+    that stay wrong can't be refused at other goals.
+    """
     if not edit.functions:
-        return said.all_goals()
-    return [goal for it in edit.functions for symbol in said.symbols(it) for goal in said.goals(symbol)]
+        return [it for it in said.all_goals() if it not in others]
+    return goals_of(said, [edit])
+
+
+def goals_of(said, edits):
+    """The refused goals of the functions that these edits change."""
+    functions = edits_of.functions_in(edits)
+    return [goal for it in functions for symbol in said.symbols(it) for goal in said.goals(symbol)]
 
 
 def tried(crate, jobs):
