@@ -169,8 +169,10 @@ export class List {
     button.textContent = `${count.toLocaleString("en")} ${side} ${count === 1 ? "line" : "lines"}: show some`;
   }
 
+  // Lets the tab key reach one row, the nearest where the line that it would be has none.
   #markTabStop() {
-    for (const row of this.#rows) row.field.tabIndex = row.index === this.#focused ? 0 : -1;
+    const stop = Math.max(this.#first, Math.min(this.#focused, this.#first + this.#rows.length - 1));
+    for (const row of this.#rows) row.field.tabIndex = row.index === stop ? 0 : -1;
   }
 
   #rowAt(index) {

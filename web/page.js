@@ -10,8 +10,8 @@ import { Prompt } from "./prompt.js";
 import { LEAST_PAGES, MOST_PAGES, Session, arePages, deskName } from "./session.js";
 import { Shelf, bytesOfFile } from "./shelf.js";
 
-// The bytes of a script that can be opened at most.
-const MOST_OPENED = 1 << 24;
+// The bytes of a script that can be opened at most: three times as many as it may have characters.
+const MOST_OPENED = 3 << 23;
 // The characters of a reply that are read out at most.
 const MOST_SAID = 300;
 
@@ -230,8 +230,9 @@ class Page {
       notifyFault(`${file.name} is too long for this page. bin/vervainfile runs scripts of any length.`);
       return;
     }
+    const text = textOf(await bytesOfFile(file));
     const { pages, files } = this.#session.state;
-    this.#session.load({ name: file.name, text: textOf(await bytesOfFile(file)), pages, files });
+    this.#session.load({ name: file.name, text, pages, files });
   }
 
   #setPages() {
@@ -314,9 +315,18 @@ class Page {
       const id = { F8: event.shiftKey ? "back" : "step", F9: "run" }[event.key];
       if (!id) return;
       event.preventDefault();
-      this.#list.commitTyped();
+      this.#commitTyped();
       actions[id]();
     });
+  }
+
+  // Takes what is being typed into a line, or as the script's name or its pages.
+  #commitTyped() {
+    this.#list.commitTyped();
+    const field = document.activeElement;
+    if (field !== parts.name && field !== parts.pages) return;
+    field.blur();
+    field.focus();
   }
 
   // ---- files that are dropped

@@ -137,7 +137,7 @@ export class Session {
   // Loads a script, none of whose lines has run.
   load({ name, text, pages = USUAL_PAGES, files = [], position = 0 }) {
     const script = linesOf(text);
-    const at = Math.max(0, Math.min(position, script.lines.length)) || 0;
+    const at = Math.max(0, Math.min(Math.trunc(position), script.lines.length)) || 0;
     this.change({ ...EMPTY, ...script, name: deskName(name), pages, files, position: at });
     for (const listener of this.#loadListeners) listener();
   }

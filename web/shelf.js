@@ -8,19 +8,54 @@ export async function bytesOfFile(file) {
   return new Uint8Array(await file.arrayBuffer());
 }
 
-// A button with a short text, and the words that are read out for it.
-function buttonOf(text, label, action) {
+function buttonOf(text, action) {
   const button = document.createElement("button");
-  Object.assign(button, { type: "button", textContent: text, ariaLabel: label });
+  Object.assign(button, { type: "button", textContent: text });
   button.addEventListener("click", action);
   return button;
+}
+
+// A file's name, size, a button that says whether it is an image of memory, and one that takes it away. The file is
+// another one as others come and go, and as it gets another name; what has the focus stays.
+class Item {
+  root = document.createElement("li");
+  field = document.createElement("input");
+  file;
+  #size = document.createElement("span");
+  #told = document.createElement("output");
+  #check;
+  #remove;
+
+  constructor(shelf, canCheck) {
+    Object.assign(this.field, { ariaLabel: "Name of a file", spellcheck: false, autocomplete: "off" });
+    this.field.addEventListener("change", () => shelf.rename(this));
+    this.#check = buttonOf("Check", () => this.#told.textContent = shelf.told(this.file));
+    this.#remove = buttonOf("\u00d7", () => shelf.remove(this.file));
+    this.root.append(this.field, this.#size, ...canCheck ? [this.#check] : [], this.#remove, this.#told);
+  }
+
+  show(file) {
+    if (file === this.file) return;
+    this.file = file;
+    this.restore();
+    const { length } = file.bytes;
+    this.#size.textContent = `${length.toLocaleString("en")} ${length === 1 ? "byte" : "bytes"}`;
+    this.#check.ariaLabel = `Check whether the file ${file.name} is a heap or a slot`;
+    this.#remove.ariaLabel = `Take the file ${file.name} away`;
+    this.#told.textContent = "";
+  }
+
+  // Gives the field the name that the file has.
+  restore() {
+    this.field.value = this.file.name;
+  }
 }
 
 export class Shelf {
   #session;
   #root;
   #tell;
-  #shown;
+  #items = [];
 
   // Of the list in which it stands, and a function that tells the user of faults.
   constructor(session, root, tell) {
@@ -29,50 +64,36 @@ export class Shelf {
     this.#tell = tell;
   }
 
-  // Adds files of the disc.
+  // Adds files of the disc. Others may have come while these were being read.
   async add(chosen) {
+    const contents = await Promise.all(chosen.map((file) =>
+      faultOfFile(file.name, file.size, []) ? undefined : bytesOfFile(file)));
     const files = [...this.#session.state.files];
     const faults = [];
-    for (const file of chosen) {
+    chosen.forEach((file, at) => {
       const fault = faultOfFile(file.name, file.size, files);
       if (fault) faults.push(fault);
-      else files.push({ name: nameFor(file.name, files), bytes: await bytesOfFile(file) });
-    }
+      else files.push({ name: nameFor(file.name, files), bytes: contents[at] });
+    });
     if (files.length > this.#session.state.files.length) this.#session.change({ files });
     if (faults.length) this.#tell(faults.join(" "));
   }
 
   // Shows the files of the session.
   show() {
-    if (this.#shown === this.#session.state.files) return;
-    this.#shown = this.#session.state.files;
-    this.#root.replaceChildren(...this.#session.state.files.map((file) => this.#item(file)));
+    const { files } = this.#session.state;
+    while (this.#items.length > files.length) this.#items.pop().root.remove();
+    while (this.#items.length < files.length) this.#items.push(new Item(this, this.#session.has("vf_check")));
+    this.#items.forEach((item, at) => item.show(files[at]));
+    this.#root.append(...this.#items.slice(this.#root.children.length).map((item) => item.root));
   }
 
   #others(file) {
     return this.#session.state.files.filter((other) => other !== file);
   }
 
-  // A file's name, size, a button that says whether it is an image of memory, and one that takes it away.
-  #item(file) {
-    const item = document.createElement("li");
-    const name = document.createElement("input");
-    Object.assign(name, { value: file.name, ariaLabel: "Name of a file", spellcheck: false, autocomplete: "off" });
-    name.addEventListener("change", () => this.#rename(file, name));
-    const told = document.createElement("output");
-    const remove = buttonOf("\u00d7", `Take the file ${file.name} away`, () => this.#remove(file));
-    item.append(name, `${file.bytes.length.toLocaleString("en")} bytes`);
-    if (this.#session.has("vf_check")) {
-      item.append(buttonOf("Check", `Check whether the file ${file.name} is a heap or a slot`, () => {
-        told.textContent = this.#told(file);
-      }));
-    }
-    item.append(remove, told);
-    return item;
-  }
-
   // What the module says of a file as a heap and as a slot.
-  #told(file) {
+  told(file) {
     try {
       return this.#session.checked(file.bytes).map(({ name, line }) => `as a ${name}: ${line}`).join("; ");
     } catch (fault) {
@@ -82,26 +103,22 @@ export class Shelf {
   }
 
   // Takes a file away; the focus goes to the name of the one in its place, if there is one.
-  #remove(file) {
+  remove(file) {
     const at = this.#session.state.files.indexOf(file);
     this.#session.change({ files: this.#others(file) });
-    this.#focus(Math.min(at, this.#session.state.files.length - 1));
+    this.#items.at(Math.min(at, this.#items.length - 1))?.field.focus();
   }
 
-  #focus(at) {
-    this.#root.children[at]?.querySelector("input").focus();
-  }
-
-  #rename(file, field) {
+  // Gives a file the name that was typed, if it can have that.
+  rename(item) {
+    const { file, field } = item;
     const fault = faultOfName(field.value, this.#others(file));
     if (fault) {
-      field.value = file.name;
+      item.restore();
       this.#tell(fault);
       return;
     }
     const { files } = this.#session.state;
-    const hasFocus = document.activeElement === field;
     this.#session.change({ files: files.with(files.indexOf(file), { ...file, name: field.value }) });
-    if (hasFocus) this.#focus(files.indexOf(file));
   }
 }

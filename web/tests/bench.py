@@ -46,6 +46,7 @@ class Bench:
         self.server = native.Server()
         self.address = self.server.address("/page.html", self.text.encode())
         self.browser = chromium.Browser(chromium.installed())
+        self.kept = None
 
     def close(self):
         self.browser.close()
@@ -60,6 +61,20 @@ class Bench:
             same(page.tab.faults, [], "what the browser tells of the page")
         finally:
             page.close()
+
+    @contextlib.contextmanager
+    def kept_page(self):
+        """The page in a tab that tests have one after the other; a test that goes wrong leaves it to none."""
+        page = self.kept or desk_page.DeskPage(self.browser, self.address)
+        self.kept = None
+        try:
+            page.begin_again()
+            yield page
+            same(page.tab.faults, [], "what the browser tells of the page")
+            self.kept, page = page, None
+        finally:
+            if page:
+                page.close()
 
     def picture(self, page, name):
         """Takes a picture of a page, where a folder for these is given."""

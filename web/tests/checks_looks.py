@@ -18,12 +18,27 @@ WINDOWS = ((1440, 1), (420, 1), (320, 1), (1440, 2), (1280, 4))
 # What can be used, as it is told to those who listen, and what has to be named there.
 USED = ("button", "textbox", "combobox", "spinbutton", "radio", "region", "image", "DisclosureTriangle")
 
+# The colours and lines by which rows are told apart: those of the row, of its line, and of its reply.
+LOOKS = """[...document.querySelectorAll('#lines > li')].map((row) => {
+  const [line, reply] = ['textarea', '.reply'].map((it) => getComputedStyle(row.querySelector(it)));
+  return [getComputedStyle(row).backgroundColor, line.color, line.fontStyle, reply.color, reply.textDecorationLine];
+})"""
+# How the focus is shown: how wide the line around it is.
+OUTLINE = "((style) => style.outlineStyle === 'none' ? 0 : parseFloat(style.outlineWidth))"
+# Which buttons of steps are seen whole in the window.
+AT_HAND = """['back', 'step', 'run'].filter((id) => ((it) => it.top >= 0 && it.bottom <= innerHeight && it.height > 0)(
+  document.getElementById(id).getBoundingClientRect()))"""
+
 # The elements that the tab key reaches, in order.
 TAB_STOPS = ["examples", "open", "fresh", "undo", "save", "copy", "help-button", "name", "pages", "add", "Line 4",
              "command", "Enter", "back", "step", "run", "Picture", "save-sheet", "Pool of pages",
              "Slots and module area", "summary"]
 # Elements without an end, and attributes that name ids.
 VOID = {"meta", "link", "input", "br"}
+# What a browser has to know before anything is shown: language, characters, widths, colours.
+FACTS = ('<!DOCTYPE html>\n<html lang="en">', '<meta charset="utf-8">', "<title>Vervainfile</title>",
+         '<meta name="color-scheme" content="light dark">',
+         '<meta name="viewport" content="width=device-width, initial-scale=1">')
 NAMING = ("for", "aria-labelledby", "aria-describedby")
 
 
@@ -40,7 +55,9 @@ def show_story(page):
 
 
 def check_pictures_of_page(bench):
-    """Pictures of the page, wide and narrow, light and dark."""
+    """Pictures of the page, wide and narrow, light and dark, where a folder for these is given."""
+    if not bench.pictures:
+        return
     with bench.page() as page:
         for width in (1440, 420):
             for is_dark in (False, True):
@@ -55,7 +72,7 @@ def check_pictures_of_page(bench):
 
 def check_contrast(bench):
     """Each text has enough contrast, light and dark, on the page and in its picture."""
-    with bench.page() as page:
+    with bench.kept_page() as page:
         for is_dark in (False, True):
             light = "dark" if is_dark else "light"
             page.tab.resize(1440, 900, is_dark)
@@ -76,7 +93,7 @@ def check_contrast(bench):
 
 def check_widths(bench):
     """Nothing goes over the page's edge, in narrow windows and at 200 percent."""
-    with bench.page() as page:
+    with bench.kept_page() as page:
         show_story(page)
         for width, scale in WINDOWS:
             page.tab.resize(width, 900, False, scale)
@@ -102,7 +119,7 @@ def check_focus(bench):
 
 def check_names(bench):
     """Everything that can be used has a name for those who listen, and each line is told with its reply."""
-    with bench.page() as page:
+    with bench.kept_page() as page:
         show_story(page)
         nodes = page.tab.call("Accessibility.getFullAXTree")["nodes"]
         used = [Told(node) for node in nodes if not node["ignored"] and node["role"]["value"] in USED]
@@ -111,6 +128,61 @@ def check_names(bench):
         holds(figures and all(it.description for it in figures), "a figure has no description")
         line = next(it for it in used if it.name == "Line 2")
         holds(line.description.startswith("ok"), "a line is told without its reply")
+        command = next(it for it in used if it.role == "textbox" and it.name == "Command")
+        same(command.description, page.text("hint"), "what is told of the prompt")
+
+
+def check_rows_look(bench):
+    """Lines are told apart by colour and more: how they went, which ran last, what has changed, what hasn't run."""
+    with bench.kept_page() as page:
+        page.drop_bytes("rows.desk", b"# a\nareas\nareas\nshow a 0\nshw\nareas\nareas\n")
+        page.click("run")
+        page.set_pages(8)
+        page.value("document.querySelector('#lines > li:nth-child(5) .number').click()")
+        page.edit(2, "areas ")
+        remark, _, ok, refused, bad, ahead, _ = page.value(LOOKS)
+        same([len({ok[3], refused[3], bad[3]}), remark[2]], [3, "italic"], "colours of replies, and a remark's style")
+        holds(bad[0] != refused[0] and ok[0] == refused[0] == ahead[0], "the line that ran last isn't told apart")
+        holds(ahead[1] != ok[1] and ok[1] == bad[1], "a line that hasn't run isn't told apart")
+        page.set_pages(9)
+        same([look[4] for look in page.value(LOOKS)], ["none", "underline", "underline"] + ["none"] * 4,
+             "what is underlined")
+        wide, narrow = page.value("[...document.querySelectorAll('textarea')].slice(0, 2).map((it) => it.clientWidth)")
+        holds(wide > 2 * narrow, "a remark isn't as wide as a line and its reply")
+        replies = page.value("getComputedStyle(document.querySelector('.reply')).whiteSpaceCollapse")
+        same(replies, "preserve", "whether the spaces of a reply are kept")
+
+
+def check_seen_by_few(bench):
+    """What is for those who listen isn't seen; what shows the focus, and takes a line away, is seen by the others."""
+    with bench.kept_page() as page:
+        show_story(page)
+        sizes = page.value("[...document.querySelectorAll('.unseen')].map((it) => it.getBoundingClientRect().width)")
+        holds(len(sizes) == 3 and max(sizes) < 5, f"what isn't to be seen is {sizes} wide")
+        holds(page.value("document.querySelector('#said').classList.contains('unseen')"), "what is said is seen")
+        for stop in ("open", "command", "step"):
+            page.focus(f"#{stop}")
+            page.tab.key("Tab")
+            page.tab.key("Tab", "Shift")
+            width = page.value(f"{OUTLINE}(getComputedStyle(document.activeElement))")
+            holds(width >= 2, f"the focus on {stop} isn't seen")
+        page.focus("#lines > li:nth-child(2) textarea")
+        holds(page.value(f"{OUTLINE}(getComputedStyle(document.activeElement))") >= 2, "the focus on a line isn't seen")
+        removes = "[...document.querySelectorAll('.remove')].map((it) => it.checkVisibility())"
+        same(page.value(removes)[:3], [False, True, False], "which lines can be taken away")
+
+
+def check_at_hand(bench):
+    """In a narrow window the steps are at hand wherever the page is scrolled to; on paper there is no prompt."""
+    with bench.kept_page() as page:
+        page.tab.resize(420, 700)
+        show_story(page)
+        for place in ("0", "document.body.scrollHeight"):
+            page.value(f"scrollTo(0, {place})")
+            same(page.value(AT_HAND), ["back", "step", "run"], f"which steps are at hand at {place}")
+        page.tab.call("Emulation.setEmulatedMedia", media="print")
+        same(page.seen("prompt", "step", "open", "hint", "lines"), ["lines"], "what is on paper")
+        page.tab.call("Emulation.setEmulatedMedia", media="")
 
 
 class Told:
@@ -148,4 +220,6 @@ def check_html(bench):
     same([it for it in set(reading.ids) if reading.ids.count(it) > 1], [], "ids that stand twice")
     same([it for it in reading.targets if it not in reading.ids], [], "ids that are named and aren't there")
     same(re.findall(r"https?://[^\s'\"]*", bench.text), [], "addresses in the page")
+    missing = [it for it in FACTS if it not in bench.text]
+    same(missing, [], "what browsers and those who listen have to know")
     holds(len(bench.text.encode()) < make.MOST_BYTES, "the page is too long")

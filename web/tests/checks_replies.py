@@ -42,7 +42,7 @@ def open_script(page, path, pages, files):
 def check_replies(bench):
     """Every example and worked row has the native program's replies, each beside its line."""
     count = 0
-    with bench.page() as page:
+    with bench.kept_page() as page:
         for path, pages, files in scripts():
             wanted = run_text(path.read_bytes(), pages, files)
             open_script(page, path, pages, files)
@@ -72,7 +72,7 @@ def check_replays(bench):
     if not bench.replays:
         return
     count = 0
-    with bench.page() as page:
+    with bench.kept_page() as page:
         for path in sorted(bench.replays.glob("**/*.words")):
             wanted = path.with_suffix(".out").read_text(encoding="latin-1")
             status = int(path.with_suffix(".status").read_text())
@@ -84,7 +84,7 @@ def check_replays(bench):
 
 def check_images(bench):
     """Of each image of memory the page tells what the native program does, as a heap and as a slot."""
-    with bench.page() as page:
+    with bench.kept_page() as page:
         for name, content in images.images().items():
             page.click("fresh")
             page.drop_bytes("image.bin", content)
@@ -96,7 +96,7 @@ def check_images(bench):
 
 def check_examples(bench):
     """An example that is chosen brings its pages and files, and runs as what is printed beside it."""
-    with bench.page() as page:
+    with bench.kept_page() as page:
         for name in make.examples_by_name():
             page.load(name)
             same(page.text("shown"), "", f"the step shown of {name} before it runs")
@@ -106,7 +106,7 @@ def check_examples(bench):
 
 def check_pictures(bench):
     """The picture of each step is the figure of the sheet of the whole script, with its titles and descriptions."""
-    with bench.page() as page:
+    with bench.kept_page() as page:
         for name in DRAWN:
             example = make.examples_by_name()[name]
             script = re.sub(r"^#picture", "#", example["text"], flags=re.MULTILINE)
@@ -125,7 +125,7 @@ def check_map(bench):
     example = make.examples_by_name()["transfer"]["text"].splitlines()
     marked = "\n".join([*example[:8], "#picture", example[8]]) + "\n"
     wanted = native.done("map", native.Job(marked.encode(), is_marked=True))[1].decode()
-    with bench.page() as page:
+    with bench.kept_page() as page:
         page.load("transfer")
         page.value("document.querySelector('[value=map]').click()")
         for _ in range(8):
@@ -136,10 +136,11 @@ def check_map(bench):
 
 def check_parts(bench):
     """The parts of the page's script that need no page pass their own tests."""
-    names = ("bytes.js", "script.js", "desk.js", "files.js", "link.js", "picture.js", "prompt.js")
-    script = make.bundle({name: WEB / name for name in names} | {"parts.js": WEB / "tests/parts.js"})
+    names = ("bytes.js", "script.js", "desk.js", "files.js", "link.js", "session.js", "picture.js", "prompt.js")
+    tests = ("parts.js", "parts_session.js")
+    script = make.bundle({name: WEB / name for name in names} | {name: WEB / "tests" / name for name in tests})
     tab = bench.browser.open("about:blank")
     tab.value(f"(() => {{ {script} }})()")
     same(tab.value("partFaults"), [], "what is wrong with parts")
-    holds(tab.value("partCount") > 10, "tests of parts are missing")
+    holds(tab.value("partCount") > 30, "tests of parts are missing")
     tab.close()

@@ -41,7 +41,7 @@ def check_typing(bench):
 
 def check_hint(bench):
     """The forms of the command that is being typed stand below the prompt."""
-    with bench.page() as page:
+    with bench.kept_page() as page:
         page.tab.type("budge ")
         same(page.value("[...document.querySelectorAll('#hint code')].map((it) => it.textContent)"),
              ["budge NAME off", "budge NAME on"], "the forms")
@@ -49,7 +49,7 @@ def check_hint(bench):
 
 def check_steps(bench):
     """Steps go on and back by buttons and by keys, over remarks too; a typed line goes in where the script stands."""
-    with bench.page() as page:
+    with bench.kept_page() as page:
         page.load("hello")
         page.focus("#examples")
         shown = []
@@ -101,7 +101,7 @@ def check_editing(bench):
 
 def check_keys_in_lines(bench):
     """The arrow keys go from line to line, and Escape gives back what a line had."""
-    with bench.page() as page:
+    with bench.kept_page() as page:
         page.load("hello")
         page.focus("#lines > li:nth-child(2) textarea")
         page.tab.key("ArrowDown")
@@ -122,7 +122,7 @@ def check_keys_in_lines(bench):
 
 def check_files(bench):
     """Files come by dropping and by choosing, with names that scripts can spell, and go again."""
-    with tempfile.TemporaryDirectory() as folder, bench.page() as page:
+    with tempfile.TemporaryDirectory() as folder, bench.kept_page() as page:
         paths = [pathlib.Path(folder, name) for name in ("My text.txt", "big.bin", "story.desk")]
         for path, content in zip(paths, (b"hello", bytes(1048577), b"task a 9\nload a 0 Mytext\nshow a 0\n")):
             path.write_bytes(content)
@@ -145,7 +145,7 @@ def check_files(bench):
 
 def check_opening(bench):
     """A script is opened by choosing it, and is saved as it was, with the page of its pictures."""
-    with tempfile.TemporaryDirectory() as folder, bench.page() as page:
+    with tempfile.TemporaryDirectory() as folder, bench.kept_page() as page:
         path = pathlib.Path(folder, "strange.desk")
         path.write_bytes(STRANGE)
         page.tab.choose_files("#open-file", [path])
@@ -160,7 +160,7 @@ def check_opening(bench):
 
 def check_strange_bytes(bench):
     """Bytes that are no UTF-8, tags in remarks and a last line without its end are kept, and run as they are."""
-    with bench.page() as page:
+    with bench.kept_page() as page:
         page.drop_bytes("strange.desk", STRANGE)
         page.click("run")
         same(page.replies(), run_text(STRANGE), "the replies")
@@ -176,7 +176,7 @@ def check_strange_bytes(bench):
 
 def check_tags(bench):
     """Tags in remarks and commands stay text, on the page and in the picture."""
-    with bench.page() as page:
+    with bench.kept_page() as page:
         page.enter("# </script><script>document.title = 'run'</script><img src=x onerror=alert(1)>")
         page.enter("task a 100 </textarea><b>")
         page.enter("task a 100")
@@ -236,7 +236,7 @@ def check_long_link(bench):
 
 def check_pages(bench):
     """The pages of the pool are chosen; numbers that no pool has are told."""
-    with bench.page() as page:
+    with bench.kept_page() as page:
         page.enter("areas")
         page.set_pages(8)
         same(page.rows()[0]["reply"].split("\n")[0], "ok 7", "the reply over 8 pages")
@@ -247,7 +247,7 @@ def check_pages(bench):
 
 def check_paste(bench):
     """Lines that are pasted at the prompt are entered at once."""
-    with bench.page() as page:
+    with bench.kept_page() as page:
         page.script("paste.js", "#command", "task a 9\r\n# b\nareas\n")
         same(lines(page), ["task a 9", "# b", "areas"], "the lines")
 
@@ -271,7 +271,7 @@ def check_long_scripts(bench):
 
 def check_list_of_many(bench):
     """Of a long script some lines have rows, and the others are reached by buttons and by keys."""
-    with bench.page() as page:
+    with bench.kept_page() as page:
         page.drop_bytes("long.desk", b"# a\n" * 1000)
         same(page.text("later"), "600 later lines: show some", "what is told of the rest")
         page.click("later")
@@ -289,7 +289,7 @@ def check_list_of_many(bench):
 
 def check_name(bench):
     """A script's name is the page's title, and the file's name."""
-    with bench.page() as page:
+    with bench.kept_page() as page:
         page.enter("areas")
         page.set_value("#name", "mine")
         page.click("save")

@@ -101,9 +101,8 @@ class Tab:
         browser.tabs[session] = self
         for domain in ("Runtime", "Page", "Log", "DOM"):
             self.call(f"{domain}.enable")
-        browser.call("Browser.setDownloadBehavior", behavior="allow", downloadPath=str(self.downloads))
         browser.call("Browser.grantPermissions", permissions=["clipboardReadWrite", "clipboardSanitizedWrite"])
-        self.resize(1440, 900)
+        self.come_forward()
         self.call("Page.addScriptToEvaluateOnNewDocument", source=before)
         self.go(address)
 
@@ -118,6 +117,12 @@ class Tab:
         if event == "Log.entryAdded" and words["entry"]["level"] == "error":
             self.faults.append(words["entry"]["text"])
         self.is_loaded |= event == "Page.loadEventFired"
+
+    def come_forward(self):
+        """Is the tab that is seen, in a window of the usual size, and the one whose files are saved."""
+        self.browser.call("Browser.setDownloadBehavior", behavior="allow", downloadPath=str(self.downloads))
+        self.call("Page.bringToFront")
+        self.resize(1440, 900)
 
     def go(self, address):
         """Opens an address, and waits until it is loaded."""

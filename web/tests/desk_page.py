@@ -12,6 +12,17 @@ ROWS = """[...document.querySelectorAll('#lines > li')].map((row) => ({
 # What is another one after a script or a file was taken.
 SHOWN = "document.querySelector('#name').value + document.querySelector('#files').textContent"
 
+# Puts all back that a user may have changed.
+AT_FIRST = """(() => {
+  document.querySelector('#fresh').click();
+  document.querySelector('[value=picture]').click();
+  if (!document.querySelector('#help').hidden) document.querySelector('#help-button').click();
+  const prompt = document.querySelector('#command');
+  prompt.focus();
+  prompt.value = '';
+  prompt.dispatchEvent(new Event('input'));
+})()"""
+
 
 class DeskPage:
     """A tab with the page."""
@@ -28,6 +39,11 @@ class DeskPage:
     def close(self):
         self.tab.close()
 
+    def begin_again(self):
+        """Is as at first, besides what Undo and the arrow keys bring back."""
+        self.tab.come_forward()
+        self.value(AT_FIRST)
+
     def rows(self):
         return self.value(ROWS)
 
@@ -41,6 +57,22 @@ class DeskPage:
 
     def click(self, name):
         self.value(f"document.getElementById('{name}').click()")
+
+    def seen(self, *names):
+        """Which of some elements are seen, by their ids."""
+        return [name for name in names if self.value(f"document.getElementById('{name}')?.checkVisibility() ?? false")]
+
+    def disabled(self):
+        """The buttons that do nothing now, by their ids."""
+        return self.value("[...document.querySelectorAll('[aria-disabled=true]')].map((it) => it.id)")
+
+    def focused(self):
+        """The id or the name of what has the focus."""
+        return self.value("document.activeElement.id || document.activeElement.ariaLabel")
+
+    def field(self, name):
+        """What stands in a field, by its id."""
+        return self.value(f"document.getElementById('{name}').value")
 
     def focus(self, selector):
         self.value(f"document.querySelector({json.dumps(selector)}).focus()")
@@ -78,6 +110,11 @@ class DeskPage:
 
     def set_pages(self, pages):
         self.set_value("#pages", str(pages))
+
+    def saved(self, name):
+        """The bytes of the script, as it is saved."""
+        self.click("save")
+        return self.tab.downloaded(name)
 
     def load(self, name):
         """Chooses an example."""

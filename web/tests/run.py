@@ -6,15 +6,23 @@ import time
 import chromium
 from bench import Bench, Wrong
 
+import checks_files
+import checks_lines
 import checks_looks
+import checks_maker
 import checks_modules
+import checks_picture
 import checks_replies
+import checks_told
 import checks_use
+
+CHECKS = (checks_replies, checks_use, checks_lines, checks_files, checks_told, checks_picture, checks_modules,
+          checks_maker, checks_looks)
 
 
 def checks():
     """Each test by its name."""
-    for module in (checks_replies, checks_use, checks_modules, checks_looks):
+    for module in CHECKS:
         for name, check in inspect.getmembers(module, inspect.isfunction):
             if name.startswith("check_"):
                 yield name[len("check_"):], check

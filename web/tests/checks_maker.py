@@ -1,0 +1,202 @@
+"""The makers of the page and of its module, as far as nothing is built."""
+
+import base64
+import contextlib
+import gzip
+import hashlib
+import json
+import os
+import pathlib
+import re
+import tempfile
+import unittest.mock
+
+from bench import TOP, WEB, holds, same
+
+import make
+import module
+
+DATA = re.compile(r'<script type="application/json" id="data">(.*?)</script>', re.DOTALL)
+POLICY = re.compile(r'<meta http-equiv="Content-Security-Policy" content="(.*?)">')
+CRATES = ("# crates: what each stands on\nbase:\nmiddle: base arrayvec  # not other\nother: base\n"
+          "vf_web staticlib: middle thiserror\n")
+
+
+def fault_of(kind, action):
+    """What an action says when it goes wrong in this way."""
+    try:
+        action()
+    except kind as fault:
+        return str(fault)
+    return "nothing went wrong"
+
+
+def sha(text):
+    return f"'sha256-{base64.b64encode(hashlib.sha256(text.encode()).digest()).decode()}'"
+
+
+@contextlib.contextmanager
+def written(**texts):
+    """A folder with files; two underscores stand for a slash, and one for a dot."""
+    with tempfile.TemporaryDirectory() as folder:
+        for name, text in texts.items():
+            path = pathlib.Path(folder, name.replace("__", "/").replace("_", "."))
+            path.parent.mkdir(parents=True, exist_ok=True)
+            path.write_text(text)
+        yield pathlib.Path(folder)
+
+
+def check_policy(bench):
+    """The page lets a browser run its own script and the module, with its own style, and load nothing."""
+    text = make.page_of(bench.content)
+    script, style = (re.search(f"<{tag}>(.*?)</{tag.split()[0]}>", text, re.DOTALL)[1]
+                     for tag in ('script type="module"', "style"))
+    same(dict(part.strip().split(" ", 1) for part in POLICY.search(text)[1].split(";")),
+         {"default-src": "'none'", "script-src": f"{sha(script)} 'wasm-unsafe-eval'", "style-src": sha(style),
+          "img-src": "data:", "connect-src": "'none'", "base-uri": "'none'", "form-action": "'none'"}, "the policy")
+    holds(text.index("Content-Security-Policy") < text.index("<style"), "the policy stands behind what it is for")
+
+
+def check_data(bench):
+    """The page has its module, the examples and the style of pictures as they are, in data that ends nothing early."""
+    found = DATA.search(make.page_of(bench.content))[1]
+    holds("<" not in found, "the data could end early")
+    data = json.loads(found)
+    packed = base64.b64decode(data["module"])
+    same(gzip.decompress(packed), bench.content, "the module")
+    same(packed[4:8], bytes(4), "the time in the packed module")
+    same(data["pictureStyle"], (WEB / "picture.css").read_text(), "the style of pictures")
+    examples = {it["name"]: it for group in data["examples"] for it in group["examples"]}
+    for name, example in examples.items():
+        same(example["text"], (TOP / f"examples/{name}.desk").read_text(), f"the text of {name}")
+    same({it["pages"] for it in examples.values()}, {64, 8}, "the pages of examples")
+    with unittest.mock.patch.object(make, "examples", lambda: ["</script><!--"]), written(page_html="") as folder:
+        (folder / "page.html").write_text(make.page_of(b"a module"))
+        found = DATA.search((folder / "page.html").read_text())[1]
+        same(["<" in found, json.loads(found)["examples"]], [False, ["</script><!--"]], "data with tags")
+        with unittest.mock.patch.object(make, "RELEASED", folder / "page.html"):
+            same(make.module_of_dist(), b"a module", "the module of a page")
+
+
+def check_making(bench):
+    """A page is written as it is, unless it is too long; what would end its script early is told."""
+    with tempfile.TemporaryDirectory() as folder:
+        path = pathlib.Path(folder, "out/page.html")
+        with unittest.mock.patch.object(make, "TARGET", path):
+            same([make.make(b""), path.read_text()], [path.stat().st_size, make.page_of(b"")], "the page")
+            path.unlink()
+            told = fault_of(make.PageFault, lambda: make.make(os.urandom(make.MOST_BYTES * 3 // 4)))
+            holds(re.fullmatch(r"the page has \d+ bytes, more than \d+", told), f"of a page that is too long: {told}")
+            holds(not path.exists(), "a page that is too long is written")
+    for text in ("</script>", "</SCRIPT ", "<!-- "):
+        with written(part_js=f"// {text}\n") as folder:
+            told = fault_of(make.PageFault, lambda: make.page_of(b"", {"instance.js": folder / "part.js"}))
+            same(told, "the page's script would end early", f"what is told of {text}")
+
+
+def check_bundle(_bench):
+    """The parts of a script are one script without imports and exports, each behind those that it uses."""
+    one = 'export const A = 1;\nconst text = "export ";\n'
+    two = 'import { A } from "./one.js";\n\nexport function b() {\n  return A;\n}\n'
+    with written(one_js=one, two_js=two) as folder:
+        paths = {name: folder / name for name in ("one.js", "two.js")}
+        same(make.bundle(paths), 'const A = 1;\nconst text = "export ";\n\nfunction b() {\n  return A;\n}\n',
+             "the script")
+        told = fault_of(make.PageFault, lambda: make.bundle(dict(reversed(paths.items()))))
+        same(told, "two.js stands before one.js", "what is told of parts in another order")
+
+
+def check_tables(_bench):
+    """The maker tells where the documents don't have what it takes from them."""
+    with written(docs__FORMATS_md="# Formats\n") as folder, unittest.mock.patch.object(make, "TOP", folder):
+        same(fault_of(make.PageFault, make.forms), "docs/FORMATS.md has no forms of commands", "what is told")
+    with written(page_html="<p>nothing</p>") as folder, \
+            unittest.mock.patch.multiple(make, TOP=folder, RELEASED=folder / "page.html"):
+        same(fault_of(make.PageFault, make.module_of_dist), "page.html holds no module", "what is told of no module")
+
+
+def section(number, content):
+    """A section of a module, whose length has groups of seven bits."""
+    low, high = len(content) & 127, len(content) >> 7
+    return bytes([number, low | 128, high]) + content if high else bytes([number, low]) + content
+
+
+def check_imports(_bench):
+    """A module that imports anything is found by its section of imports, wherever that stands."""
+    types, none, one = section(1, bytes(300)), section(2, b"\0"), section(2, b"\x01\x01a\x01b\0\0")
+    ends = section(7, b"\x02")
+    found = [module.has_imports(module.MAGIC + content)
+             for content in (b"", types, none + ends, types + none, types + ends, one, types + one, types + ends + one)]
+    same(found, [False] * 5 + [True] * 3, "which modules import anything")
+    same(fault_of(module.ModuleFault, lambda: module.has_imports(b"\0asm\2\0\0\0")), "what was built is no module",
+         "what is told of other bytes")
+    same([module.number_at(bytes.fromhex(it), 0) for it in ("00", "7f", "8001", "e58e26")],
+         [(0, 1), (127, 1), (128, 2), (624485, 3)], "numbers in groups of seven bits")
+    holds(not module.has_imports(make.module_of_dist()), "the module that was released imports something")
+
+
+def check_layout(_bench):
+    """The module's crate is laid out for WebAssembly, with what it stands on as that was built and nothing else."""
+    files = {f"crates__{crate}__{part}": crate for crate in ("base", "middle", "other", "vf@web")
+             for part in ("src__lib_rt", "specs__a_rt", "proofs__b_antt", "tests__c_rt", "out__rlib__d", "out__e")}
+    with written(crates_txt=CRATES, HANDLES="handles", **files) as top, tempfile.TemporaryDirectory() as folder:
+        (top / "crates/vf@web").rename(top / "crates/vf_web")
+        module.lay_out(top, pathlib.Path(folder))
+        same((pathlib.Path(folder, "crates.txt").read_text(), pathlib.Path(folder, "HANDLES").read_text()),
+             ("base:\nmiddle: base arrayvec  # not other\nvf_web wasm64 stack=1048576: middle thiserror\n", "handles"),
+             "the crates")
+        found = sorted(str(it.relative_to(f"{folder}/crates")) for it in pathlib.Path(folder).rglob("*.*")
+                       if it.is_file() and it.parent != pathlib.Path(folder))
+        own = ("proofs/b.antt", "specs/a.rt", "src/lib.rt")
+        same(found, sorted(f"{crate}/{it}" for crate in ("base", "middle", "vf_web") for it in own), "the sources")
+        built = [pathlib.Path(folder, f"crates/{it}/out/rlib/d").is_file() for it in ("base", "middle", "vf_web")]
+        same(built, [True, True, False], "which crates have what was built of them")
+        (top / "crates.txt").write_text("vf_web wasm64: base\n")
+        told = fault_of(module.ModuleFault, lambda: module.lay_out(top, pathlib.Path(folder)))
+        same(told, "crates.txt has no row that begins with 'vf_web staticlib:'", "what is told of other crates")
+
+
+def check_newness(_bench):
+    """A module is made anew where a source of it, or of what it stands on, is as new as it."""
+    files = {f"crates__{crate}__{part}": crate for crate in ("base", "middle", "other", "vf@web")
+             for part in ("src__lib_rt", "specs__a_rt", "proofs__b_antt", "tests__c_rt")}
+    with written(crates_txt=CRATES, made_wasm="", **files) as top:
+        (top / "crates/vf@web").rename(top / "crates/vf_web")
+        made, paths = top / "made.wasm", [it for it in top.rglob("*") if it.is_file()]
+        holds(not module.is_new(top / "none.wasm", top), "a module that isn't there is new")
+        found = set()
+        for path in paths:
+            for it in paths:
+                os.utime(it, (1000, 1000 + (it == made)))
+            os.utime(path, (1001, 1001))
+            if not module.is_new(made, top):
+                found.add(str(path.relative_to(top)).removeprefix("crates/"))
+        wanted = {f"{crate}/{part}" for crate in ("base", "middle", "vf_web")
+                  for part in ("src/lib.rt", "specs/a.rt", "proofs/b.antt")}
+        same(found, wanted | {"crates.txt"}, "the sources of the module")
+
+
+def check_building(_bench):
+    """What is built is the module, if that went well and it imports nothing; it is kept, and not built twice."""
+    ran = []
+
+    def built(content, status, said=""):
+        def run(words, cwd, **_others):
+            ran.append(words)
+            path = cwd / "out/vf_web.wasm"
+            path.parent.mkdir(parents=True, exist_ok=True)
+            path.write_bytes(content)
+            return unittest.mock.Mock(returncode=status, stdout=said, stderr="last\n")
+        return unittest.mock.patch.object(module.subprocess, "run", run)
+
+    with written(crates_txt=CRATES, HANDLES="handles", **{"crates__base__src__lib_rt": ""}) as top:
+        (top / "crates/vf_web/src").mkdir(parents=True)
+        with built(module.MAGIC, 1, "".join(f"{it}\n" for it in range(30))):
+            told = fault_of(module.ModuleFault, lambda: module.built(top))
+            same(told, "\n".join([*map(str, range(11, 30)), "last"]), "what is told of a crate that isn't proved")
+        with built(module.MAGIC + section(2, b"\x01\x01a\x01b\0\0"), 0):
+            same(fault_of(module.ModuleFault, lambda: module.built(top)), "the module of vf_web has imports",
+                 "what is told of a module with imports")
+        with built(module.MAGIC, 0):
+            same([module.built(top).read_bytes() for _ in range(2)], [module.MAGIC] * 2, "the module")
+        same(ran, [["rt", "lib"]] * 3, "what was run")

@@ -1,0 +1,200 @@
+"""What the page tells: titles, counts, hints, notices, examples, help, and what those who listen hear."""
+
+import re
+
+from bench import TOP, holds, run_text, same
+
+BUTTONS = ("undo", "save", "copy", "back", "step", "run", "save-sheet")
+# The examples that are offered: of each group its label, and names and titles.
+OFFERED = """[...document.querySelectorAll('#examples optgroup')].map((group) =>
+  [group.label, [...group.children].map((it) => [it.value, it.textContent])])"""
+# What a browser tells a page of its faults.
+FAULT = "dispatchEvent(new ErrorEvent('error', { message: 'no more' }))"
+REJECTION = """dispatchEvent(new PromiseRejectionEvent('unhandledrejection',
+  { promise: Promise.resolve(), reason: new Error('no less') }))"""
+WITHOUT_CLIPBOARD = "navigator.clipboard.writeText = () => Promise.reject(new Error('not allowed'))"
+
+
+def check_at_first(bench):
+    """A page without a script says how to begin, and its buttons do nothing yet."""
+    with bench.page() as page:
+        same(page.value("document.title"), "Vervainfile", "the title")
+        same(page.seen("tools", "desk", "empty", "prompt"), ["tools", "desk", "empty", "prompt"], "what is seen")
+        same(page.seen("unsupported", "help", "notice", "earlier", "later", "picture", "map", "changes"), [],
+             "what is seen and shouldn't be")
+        same([page.text(it) for it in ("progress", "hint", "said", "shown")], [""] * 4, "what is told")
+        same(page.text("nothing"), "Nothing has run yet. Type a command at the prompt, or load an example.",
+             "what stands in place of a picture")
+        same(page.disabled(), list(BUTTONS), "the buttons that do nothing")
+        fields = "[...document.querySelectorAll('#pages, [type=file]')]"
+        same(page.value(f"{fields}.map((it) => [it.min, it.max, it.accept])"),
+             [["", "", ".desk,.txt,text/plain"], ["8", "1024", ""], ["", "", ""]], "what fields take")
+        for name in BUTTONS:
+            page.click(name)
+        same([page.text("notice"), page.value("location.hash"), page.rows()], ["", "", []], "what the buttons did")
+
+
+def check_buttons(bench):
+    """Buttons do nothing where they have nothing to do: at the first line, at the last, and without a change."""
+    with bench.page() as page:
+        page.load("hello")
+        same(page.disabled(), ["back"], "the buttons that do nothing at the first line")
+        same([page.text("said"), page.text("shown")], ["No line has run.", ""], "what is told then")
+        same(page.text("nothing"), "Nothing has run yet. Step runs the next command, Run all runs every line.",
+             "what stands in place of a picture")
+        same(page.seen("empty", "nothing"), ["nothing"], "what is seen")
+        page.click("step")
+        same([page.disabled(), page.seen("nothing", "picture")], [[], ["picture"]], "what is left then")
+        page.click("run")
+        same(page.disabled(), ["step", "run"], "the buttons that do nothing at the last line")
+        page.click("undo")
+        same(page.disabled(), list(BUTTONS), "the buttons that do nothing when all is taken back")
+
+
+def check_counts(bench):
+    """One line, one reply and one character are told as one; replies that aren't shown aren't counted."""
+    with bench.kept_page() as page:
+        page.enter("areas")
+        same([page.text("progress"), page.disabled()], ["1 of 1 line has run", ["step", "run"]],
+             "what is told of one line")
+        page.set_pages(8)
+        same(page.text("progress"), "1 of 1 line has run; 1 reply has changed", "what is told of one reply")
+        page.drop_bytes("three.desk", b"areas\n" * 3)
+        page.click("step")
+        page.set_pages(9)
+        same(page.text("progress"), "1 of 3 lines have run; 1 reply has changed", "what is told of three lines")
+        same([row["kind"] for row in page.rows()], ["row ok current changed", "row ahead", "row ahead"], "the lines")
+        page.click("run")
+        same(page.text("progress"), "3 of 3 lines have run", "what is told after a step")
+
+
+def check_place(bench):
+    """The prompt says where a command goes in, unless that is the end."""
+    with bench.kept_page() as page:
+        page.load("hello")
+        found = [page.text("hint")]
+        for name in ("step", "run"):
+            page.click(name)
+            found.append(page.text("hint"))
+        wanted = ["A command goes in before line 1.", "A command goes in behind line 2.", ""]
+        same(found, wanted, "where a command goes in")
+        page.click("back")
+        page.focus("#command")
+        page.tab.type("s")
+        same(page.value("document.querySelectorAll('#hint code').length"), 3, "how many forms there are")
+        page.tab.key("Escape")
+        same(page.text("hint"), "A command goes in behind line 6.", "the hint after Escape")
+
+
+def check_long_reply(bench):
+    """Of a long reply the front is shown, and how long it is; less of it is read out."""
+    script = b"task a 9\nalloc a 0 2500\nshow a 0\nareas\n"
+    reply = run_text(script).split("\n")[2]
+    with bench.kept_page() as page:
+        page.drop_bytes("long.desk", script)
+        page.click("run")
+        areas = run_text(script).partition(reply)[2].split()
+        same(page.text("said").split(": ")[1].replace(",", "").split(), areas, "what is said of a reply of many lines")
+        page.click("back")
+        same(page.rows()[2]["reply"], f"{reply[:4000]}.. ({len(reply)} characters)", "what is shown of a long reply")
+        same(page.text("said"), f"Line 3, show a 0: {reply[:300]}", "what is said of it")
+        same(page.text("shown"), f"3show a 0 → {reply}", "the step shown")
+
+
+def check_notices(bench):
+    """Notices are told to those who listen; faults are marked as such, and go with the next change."""
+    is_fault = "document.querySelector('#notice').classList.contains('fault')"
+    with bench.page() as page:
+        same(page.value("document.querySelector('#notice').role"), "status", "how notices are told")
+        page.enter("areas")
+        entries = page.value("history.length")
+        page.click("copy")
+        page.tab.wait(lambda: page.text("notice"), "nothing is told of a copied link")
+        same([page.text("notice"), page.value(is_fault), page.value("history.length")],
+             ["The link is copied. It holds the script, its files and its pages.", False, entries], "what is told")
+        page.set_pages(1025)
+        same([page.text("notice"), page.value(is_fault), page.field("pages")],
+             ["A pool has 8 to 1024 pages.", True, "64"], "what is told of a fault")
+        page.set_pages(1024)
+        same([page.text("notice"), page.rows()[0]["reply"].split("\n")[0]], ["", "ok 1023"], "what is left of it")
+        for event, told in ((FAULT, "no more"), (REJECTION, "no less")):
+            page.value(event)
+            same(page.text("notice"), f"This page has gone wrong: {told}", "what is told of the page's own faults")
+
+
+def check_typed_settings(bench):
+    """A step takes what is being typed as the script's name or its pages, and leaves the focus there."""
+    with bench.kept_page() as page:
+        page.drop_bytes("a.desk", b"areas\n")
+        for name, text, key in (("pages", "8", "F9"), ("name", "typed", "F8")):
+            page.focus(f"#{name}")
+            page.value("document.activeElement.select()")
+            page.tab.type(text)
+            page.tab.key(key)
+            same(page.focused(), name, "what has the focus")
+        same([page.field("pages"), page.rows()[0]["reply"].split("\n")[0], page.field("name"), page.text("progress")],
+             ["8", "ok 7", "typed.desk", "1 of 1 line has run"], "what is taken")
+
+
+def check_link_by_hand(bench):
+    """A link that the browser doesn't let the page copy is shown, and can be copied by hand."""
+    with bench.page(before=WITHOUT_CLIPBOARD) as page:
+        page.enter("areas")
+        page.click("copy")
+        page.tab.wait(lambda: page.text("notice"), "nothing is told of a link that isn't copied")
+        field = "document.querySelector('#notice input')"
+        same(page.value(f"{field}.value"), page.value("location.href"), "the link that is shown")
+        same(page.value("getSelection().toString() || document.activeElement.value.slice("
+                        "document.activeElement.selectionStart, document.activeElement.selectionEnd)"),
+             page.value("location.href"), "what is selected")
+        holds(page.value(f"{field}.readOnly && {field}.ariaLabel"), "the link can be changed, or has no name")
+
+
+def check_offered(bench):
+    """Each example is offered once: lessons with their numbers, others by what README.md says they are about."""
+    names = {str(it.relative_to(TOP / "examples").with_suffix(""))
+             for part in ("*.desk", "lessons/*.desk") for it in (TOP / "examples").glob(part)}
+    table = (TOP / "README.md").read_text().partition("| About | Scripts |")[2].partition("\n\n")[0]
+    topics = {row.split("|")[1].strip().capitalize(): re.findall("`(.*?)`", row) for row in table.splitlines()[2:]}
+    lessons = re.findall(r"^## (\d)\. ", (TOP / "docs/LESSONS.md").read_text(), re.MULTILINE)
+    with bench.kept_page() as page:
+        offered = dict(page.value(OFFERED))
+        found = [name for group in offered.values() for name, _ in group]
+        same((sorted(found), list(offered)[:2]), (sorted(names), ["First", "Lessons"]), "the examples")
+        for topic, about in topics.items():
+            same(offered[topic], [[it, it] for it in about], f"the examples about {topic}")
+        same([title[:3] for _, title in offered["Lessons"]], [f"{it}. " for it in lessons], "the lessons' numbers")
+        same(offered["Lessons"][0], ["lessons/holes", "1. A heap, and the holes in it"], "the first lesson")
+
+
+def check_beginnings(bench):
+    """A page without a script offers three to begin with, and then the first step; an example has a name."""
+    with bench.kept_page() as page:
+        for name in ("hello", "transfer", "lessons/holes"):
+            page.click("fresh")
+            page.value(f"document.querySelector('#empty button[value=\"{name}\"]').click()")
+            same([page.saved(f"{name.split('/')[-1]}.desk"), page.focused(), page.field("examples")],
+                 [(TOP / f"examples/{name}.desk").read_bytes(), "step", name], f"what {name} brings")
+        same(page.value("document.title"), "holes.desk – Vervainfile", "the title")
+        page.drop_bytes("other.desk", b"areas\n")
+        same(page.field("examples"), "", "the example when another script is there")
+
+
+def check_help(bench):
+    """Help comes and goes; it has the form of each command, and the keys."""
+    block = (TOP / "docs/FORMATS.md").read_text().partition("```\ntask NAME")[2].partition("```")[0]
+    forms = sorted(re.split(" {2,}|\n", f"task NAME{block}".strip()))
+    button = "document.querySelector('#help-button')"
+    with bench.kept_page() as page:
+        found = [[page.value(f"{button}.ariaExpanded"), page.seen("help")]]
+        for _ in range(2):
+            page.click("help-button")
+            found.append([page.value(f"{button}.ariaExpanded"), page.seen("help")])
+        same(found, [["false", []], ["true", ["help"]], ["false", []]], "how help comes and goes")
+        same(page.value("[...document.querySelectorAll('#forms li')].map((it) => it.textContent)"), forms, "the forms")
+        same(page.value(f"{button}.getAttribute('aria-controls')"), "help", "what the button is for")
+        keys = page.value("[...document.querySelectorAll('.keys dt')].map((it) => it.textContent)")
+        same(keys, ["Enter", "↑ ↓", "F8", "Shift F8", "F9", "Ctrl Enter", "Shift Enter", "Backspace", "Esc"],
+             "the keys")
+        keys = page.value("['back', 'step', 'run'].map((it) => document.getElementById(it).ariaKeyShortcuts)")
+        same(keys, ["Shift+F8", "F8", "F9"], "the keys of buttons")
