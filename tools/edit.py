@@ -3,6 +3,7 @@
 import collections
 import dataclasses
 import difflib
+import glob
 import os
 import re
 
@@ -15,6 +16,7 @@ TELLS = "# "
 DECLARED = re.compile(
     r"^(?:pub(?:\(crate\))? )?(const|static|struct|enum|abbrev|unfoldable|record) (?:pub )?([\w-]+)", re.MULTILINE
 )
+WORD = re.compile(r"[\w-]+")
 KINDS = {"const": "constant", "static": "constant", "struct": "type", "enum": "type"}
 
 
@@ -45,7 +47,8 @@ class Edit:
     """A wrong body: its name, what its first line says, what it changes, and the functions in which all of that lies.
 
     There are none where it changes something outside of functions, as a constant, a type or a definition; `places`
-    names that too. Only where it changes nothing but bodies (`is_inside`) can no other function see it.
+    names that too, and `namers` are the functions that name it. Only where it changes nothing but bodies (`is_inside`)
+    can no other function see it.
     """
 
     name: str
@@ -53,6 +56,7 @@ class Edit:
     changes: list
     functions: list
     places: list
+    namers: list
     is_inside: bool
 
 
@@ -127,12 +131,14 @@ def _read(folder, functions, file):
     if not changes:
         raise BadEdit("it changes nothing")
     held = [_holding(functions, it) for it in changes]
+    places = list(dict.fromkeys(_place(folder, f, it) for f, it in zip(held, changes)))
     return Edit(
         name=os.path.basename(file).removesuffix(ENDING),
         told=_told(f"{folder}/{file}"),
         changes=changes,
         functions=[] if None in held else list(dict.fromkeys(held)),
-        places=list(dict.fromkeys(_place(folder, f, it) for f, it in zip(held, changes))),
+        places=places,
+        namers=_namers(folder, functions, {it.name for it in places}) if None in held else [],
         is_inside=all(f and f.opens < it.start for f, it in zip(held, changes)),
     )
 
@@ -154,6 +160,38 @@ def _place(folder, function, change):
         return Place("file", change.file)
     word, name = found[-1]
     return Place(KINDS.get(word, "definition"), name)
+
+
+def _namers(folder, functions, names):
+    """The functions whose text has one of the names; or else those that name what is defined by them, and so on."""
+    passed = set()
+    while names:
+        found = [it for it in functions if names & _words(_text_of(folder, it))]
+        if found:
+            return found
+        passed |= names
+        names = {name for name, words in _definitions(folder) if names & words} - passed
+    return []
+
+
+def _definitions(folder):
+    """The definitions in the crate's specs/, each with the words of its text."""
+    found = []
+    for path in sorted(glob.glob(f"{folder}/specs/**/*.antt", recursive=True)):
+        text = _bytes_of(path).decode()
+        heads = list(DECLARED.finditer(text))
+        ends = [it.start() for it in heads[1:]] + [len(text)]
+        found += [(it[2], _words(text[it.end() : end])) for it, end in zip(heads, ends)]
+    return found
+
+
+def _text_of(folder, function):
+    """A function's text, its clauses and its body."""
+    return _bytes_of(f"{folder}/{function.file}")[function.first : function.end].decode()
+
+
+def _words(text):
+    return set(WORD.findall(text))
 
 
 def _holding(functions, change):
@@ -199,8 +237,12 @@ def functions_in(edits):
 
 
 def apart_from(group, edits):
-    """Those of the edits that change nothing but bodies, and no function of the group's."""
-    return [it for it in edits if it.is_inside and not _share_a_function(group, it)]
+    """The last of these edits that change nothing but bodies, none in a function of the group's or of another's."""
+    apart = []
+    for edit in reversed(edits):
+        if edit.is_inside and not _share_a_function([*group, *apart], edit):
+            apart.append(edit)
+    return apart
 
 
 def _share_a_function(group, edit):

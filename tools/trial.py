@@ -25,7 +25,6 @@ class Trial:
 
     def __init__(self, crate, kept, jobs):
         self.crate, self.kept, self.jobs = crate, kept, jobs
-        self.checks_all = True
         # The goals that were refused so far.
         self.seen = set()
 
@@ -42,10 +41,10 @@ class Trial:
     def check_group(self, group, beside):
         """Checks the crate with a group's edits and those beside it: what the group changes alone, if that will do.
 
-        Each edit inside of functions is judged by what is said of these. Where one is to be tried by itself, the whole
-        crate is checked, and what a group's check has proved of it is kept for that.
+        Edits inside of functions are judged by what is said of these. Where one is to be tried by itself, the whole
+        crate is checked.
         """
-        if not self.checks_all and (len(group) > 1 or beside):
+        if all(it.is_inside for it in group) and (len(group) > 1 or beside):
             said = self.check([*group, *beside], edits_of.functions_in(group))
             if not said.fault():
                 return said
@@ -53,12 +52,23 @@ class Trial:
 
     def judge_all(self, groups):
         """A verdict for each edit of all groups. What was refused stays beside the groups that follow."""
-        self.checks_all = not all(it.is_inside for group in groups for it in group)
         verdicts = []
         for group in groups:
             refused = [it.edit for it in verdicts if it.is_well]
-            verdicts += self.judge(group, edits_of.apart_from(group, refused))
+            verdicts += self.by_namers(group) or self.judge(group, edits_of.apart_from(group, refused))
         return verdicts
+
+    def by_namers(self, group):
+        """The verdict for an edit outside of functions that a function which names what it changes refuses, if one does.
+
+        It is applied alone, and only these functions are checked: each goal that is refused then is refused for it.
+        """
+        namers = group[0].namers
+        if not namers:
+            return []
+        said = self.check(group, namers)
+        goals = [] if said.fault() else said.all_goals()
+        return [Verdict(group[0], f"refused at {goals[0]}", True)] if goals else []
 
     def judge(self, group, beside=()):
         """A verdict for each edit of the group, which is tried in halves where nothing can be told of the whole.
