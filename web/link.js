@@ -35,16 +35,16 @@ export function hashOf({ name, pages, position, text, files }) {
   return hash.length <= MOST_CHARACTERS ? hash : undefined;
 }
 
-// A file of a link.
+// A file of a link; one without a colon has no name.
 function fileOf(value) {
   const colon = value.indexOf(":");
-  return { name: value.slice(0, colon), bytes: bytesOf(value.slice(colon + 1)) };
+  return { name: value.slice(0, Math.max(0, colon)), bytes: bytesOf(value.slice(colon + 1)) };
 }
 
 // What a link holds, or nothing where it holds no script that can be read.
 export function readHash(hash) {
   try {
-    const words = hash.split("&").map((word) => word.split("="));
+    const words = hash.split("&").map((word) => word.split(/=(.*)/s));
     const values = new Map(words.map(([key, value]) => [key, decoded(value ?? "")]));
     if (!values.has("script")) return undefined;
     return {

@@ -39,7 +39,7 @@ class Row {
     this.#number.addEventListener("click", () => list.session.moveTo(this.index + 1));
     this.#remove.addEventListener("click", () => list.remove(this.index));
     this.field.addEventListener("change", () => this.commit(list));
-    this.field.addEventListener("input", () => this.#fit());
+    this.field.addEventListener("input", () => this.fit());
     this.field.addEventListener("keydown", (event) => list.onKey(event, this));
     this.field.addEventListener("focus", () => list.onFocus(this));
   }
@@ -49,7 +49,7 @@ class Row {
     const { lines, position } = session.state;
     const hasRun = index < position;
     const reply = hasRun ? session.replies[index] : null;
-    if (this.index !== index || this.#line !== lines[index]) this.#write(lines[index]);
+    const isOther = this.index !== index || this.#line !== lines[index];
     this.index = index;
     this.#name(index + 1);
     this.#reply.textContent = reply === null ? "" : shownReply(reply);
@@ -58,6 +58,7 @@ class Row {
     this.root.classList.toggle("current", index === session.command);
     this.root.classList.toggle("remark", /^ *#/.test(lines[index]));
     this.root.classList.toggle("changed", hasRun && session.changed.has(index));
+    if (isOther) this.#write(lines[index]);
   }
 
   // Names what stands in the row by the line's number.
@@ -75,11 +76,11 @@ class Row {
   #write(line) {
     this.#line = line;
     this.field.value = line;
-    this.#fit();
+    this.fit();
   }
 
   // Makes the field as high as its text, where the browser doesn't.
-  #fit() {
+  fit() {
     if (FITS_BY_ITSELF) return;
     this.field.style.height = "auto";
     this.field.style.height = `${this.field.scrollHeight}px`;
@@ -125,6 +126,7 @@ export class List {
     this.#later = later;
     earlier.addEventListener("click", () => this.#showMore(-MOVE));
     later.addEventListener("click", () => this.#showMore(MOVE));
+    addEventListener("resize", () => this.#rows.forEach((row) => row.fit()));
   }
 
   // Shows the session. The line that ran last comes into view, unless the list is being worked in.

@@ -2,6 +2,7 @@
 
 import { bytesOf, bytesOfBase64, textOf, unpacked } from "./bytes.js";
 import { Desk, Refusal, isSupported } from "./desk.js";
+import { areFiles } from "./files.js";
 import { instantiator } from "./instance.js";
 import { hashOf, readHash } from "./link.js";
 import { List } from "./list.js";
@@ -211,8 +212,8 @@ class Page {
     onClick("help-button", () => this.#toggleHelp());
     onClick("fresh", () => session.load({ name: "script.desk", text: "" }));
     const onFiles = (id, action) => parts[id].addEventListener("change", () => this.#takeFiles(parts[id], action));
-    onFiles("open-file", ([file]) => this.#open(file));
-    onFiles("add-files", (files) => this.#shelf.add(files));
+    onFiles("open-file", ([file]) => this.#take(file, []));
+    onFiles("add-files", (files) => this.#take(undefined, files));
     parts.name.addEventListener("change", () => session.change({ name: deskName(parts.name.value) }));
     parts.pages.addEventListener("change", () => this.#setPages());
   }
@@ -224,15 +225,22 @@ class Page {
     if (files.length) action(files);
   }
 
-  // Opens a script of the disc.
+  // Opens a script of the disc, if there is one, and adds files; all that can't be taken is told at once.
+  async #take(script, files) {
+    const faults = script ? await this.#open(script) : [];
+    faults.push(...await this.#shelf.add(files));
+    if (faults.length) notifyFault(faults.join(" "));
+  }
+
+  // Opens a script of the disc, and gives why it can't be, or nothing.
   async #open(file) {
     if (file.size > MOST_OPENED) {
-      notifyFault(`${file.name} is too long for this page. bin/vervainfile runs scripts of any length.`);
-      return;
+      return [`${file.name} is too long for this page. bin/vervainfile runs scripts of any length.`];
     }
     const text = textOf(await bytesOfFile(file));
     const { pages, files } = this.#session.state;
     this.#session.load({ name: file.name, text, pages, files });
+    return [];
   }
 
   #setPages() {
@@ -289,7 +297,7 @@ class Page {
   // Loads what a link holds, and gives whether there was a script that can be read.
   #load(hash) {
     const linked = readHash(hash);
-    if (!linked || !arePages(linked.pages)) return false;
+    if (!linked || !arePages(linked.pages) || !areFiles(linked.files)) return false;
     this.#session.load(linked);
     return true;
   }
@@ -349,11 +357,9 @@ class Page {
   }
 
   // Opens the script among dropped files, and adds the others.
-  async #takeDropped(files) {
+  #takeDropped(files) {
     const script = files.find((file) => file.name.endsWith(".desk"));
-    if (script) await this.#open(script);
-    const others = files.filter((file) => file !== script);
-    if (others.length) await this.#shelf.add(others);
+    return this.#take(script, files.filter((file) => file !== script));
   }
 }
 

@@ -48,7 +48,9 @@ export class Prompt {
   }
 
   #submit(lines) {
-    this.#entered.push(...lines.filter((line) => line !== "" && line !== this.#entered.at(-1)));
+    for (const line of lines) {
+      if (line !== "" && line !== this.#entered.at(-1)) this.#entered.push(line);
+    }
     this.#at = this.#entered.length;
     this.#write("");
     this.#enter(lines);

@@ -64,7 +64,7 @@ export class Shelf {
     this.#tell = tell;
   }
 
-  // Adds files of the disc. Others may have come while these were being read.
+  // Adds files of the disc, and gives why some can't be. Others may have come while these were being read.
   async add(chosen) {
     const contents = await Promise.all(chosen.map((file) =>
       faultOfFile(file.name, file.size, []) ? undefined : bytesOfFile(file)));
@@ -76,7 +76,7 @@ export class Shelf {
       else files.push({ name: nameFor(file.name, files), bytes: contents[at] });
     });
     if (files.length > this.#session.state.files.length) this.#session.change({ files });
-    if (faults.length) this.#tell(faults.join(" "));
+    return faults;
   }
 
   // Shows the files of the session.

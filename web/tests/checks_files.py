@@ -9,13 +9,16 @@ from bench import holds, same
 # The names and the sizes of files on the page.
 FILES = """[...document.querySelectorAll('#files li')].map((it) =>
   [it.querySelector('input').value, it.childNodes[1].textContent])"""
+TOO_LONG_SCRIPT = "big.desk is too long for this page. bin/vervainfile runs scripts of any length."
 TOO_LONG = "The file {} is too long: a file has at most 1048576 bytes."
-# Drops a script of remarks of so many bytes.
+UNREADABLE = "The link of this page holds no script that can be read."
+# Drops a script of remarks of so many bytes, and files of one byte with it.
 DROP_LONG = """(() => {
   const bytes = new Uint8Array(%d).fill(35);
   for (let at = 999; at < bytes.length; at += 1000) bytes[at] = 10;
   const data = new DataTransfer();
   data.items.add(new File([bytes], 'big.desk'));
+  for (const name of %r) data.items.add(new File(['1'], name));
   dispatchEvent(new DragEvent('drop', { dataTransfer: data, cancelable: true }));
 })()"""
 # A script has at most 8,388,608 characters, each of which has at most three bytes.
@@ -52,8 +55,9 @@ def wait_for_files(page, count):
 
 
 def press(page, number, label):
-    """Presses the button of a file."""
-    page.value(f"document.querySelector('#files li:nth-child({number}) button[aria-label^={label}]').click()")
+    """Presses the button of a file, which has the focus then."""
+    button = f"document.querySelector('#files li:nth-child({number}) button[aria-label^={label}]')"
+    page.value(f"{button}.focus(); {button}.click()")
 
 
 def name_of(number):
@@ -89,6 +93,12 @@ def check_faults_of_files(bench):
     """Of several files those that fit are taken, and each of the others is told; there are 32 at most."""
     big = bytes(1048577)
     with on_disc(one__bin=big, fits__bin=big[:-1], two__bin=big, last__bin=b"") as paths, bench.kept_page() as page:
+        page.tab.choose_files("#add-files", paths[1:2])
+        wait_for_files(page, 1)
+        page.tab.choose_files("#add-files", paths[:1])
+        page.tab.wait(lambda: page.text("notice"), "nothing is told of a long file")
+        page.click("undo")
+        same(page.value(FILES), [], "the files when the last change is taken back, which was none of the long file")
         page.tab.choose_files("#add-files", paths[:3])
         wait_for_files(page, 1)
         same([page.value(FILES), page.text("notice")],
@@ -104,6 +114,8 @@ def check_names_of_files(bench):
     with bench.kept_page() as page:
         for name in ("a.bin", "b.bin"):
             page.drop_bytes(name, b"1")
+        page.set_value(name_of(2), "b")
+        same(page.text("notice"), "", "what is told of a name that is typed again")
         page.set_value(name_of(2), "a")
         same([page.text("notice"), page.value(FILES)[1][0], page.focused()],
              ["Another file is named a.", "b", "command"], "what is told of a name that another file has")
@@ -161,17 +173,30 @@ def check_script_with_files(bench):
 def check_long_files(bench):
     """A script that is too long is told, whether it can be opened or not; then what was there stays."""
     with bench.kept_page() as page:
-        page.value(DROP_LONG % MOST_BYTES)
+        page.value(DROP_LONG % (MOST_BYTES, []))
         page.tab.wait(lambda: page.text("notice"), "nothing is told of a script that can be opened")
         same([page.text("notice"), page.field("name")], ["The script is too long for this page.", "big.desk"],
              "what is told of a script that can be opened")
         same(page.text("nothing"), "The script is too long for this page.", "what stands in place of a picture")
         page.click("fresh")
         page.enter("areas")
-        page.value(DROP_LONG % (MOST_BYTES + 1))
+        page.value(DROP_LONG % (MOST_BYTES + 1, []))
         page.tab.wait(lambda: page.text("notice"), "nothing is told of a long script")
-        same([page.text("notice"), len(page.rows())],
-             ["big.desk is too long for this page. bin/vervainfile runs scripts of any length.", 1], "what is told")
+        same([page.text("notice"), len(page.rows())], [TOO_LONG_SCRIPT, 1], "what is told")
+
+
+def check_long_script_with_files(bench):
+    """A script that is too long is told also where files come with it, which are taken, or are told too."""
+    with bench.kept_page() as page:
+        page.value(DROP_LONG % (MOST_BYTES + 1, ["a.bin"]))
+        wait_for_files(page, 1)
+        page.tab.wait(lambda: page.text("notice"), "nothing is told of a long script")
+        same([page.text("notice"), page.value(FILES), page.rows()], [TOO_LONG_SCRIPT, [["a", "1 byte"]], []],
+             "what is told of a long script with a file")
+        page.value(DROP_LONG % (MOST_BYTES + 1, [f"f{number}.bin" for number in range(32)]))
+        wait_for_files(page, 32)
+        page.tab.wait(lambda: page.text("notice"), "nothing is told of a long script and a file too many")
+        same(page.text("notice"), f"{TOO_LONG_SCRIPT} There are 32 files already.", "what is told of both")
 
 
 def check_dragging(bench):
@@ -210,8 +235,26 @@ def check_left_page(bench):
             page.value(f"location.hash = '#pages={pages}&script=task+a+9%0A'")
             page.tab.wait(lambda: page.text("notice"), "nothing is told of a link with other pages")
             same([page.text("notice"), page.field("pages")],
-                 ["The link of this page holds no script that can be read.", "64"], "what is told of such a link")
+                 [UNREADABLE, "64"], "what is told of such a link")
             page.click("step")
             page.click("back")
             page.set_value("#name", f"n{pages}")
         holds(len(page.rows()) == 1, "the lines aren't those of the link before")
+
+
+def check_files_of_links(bench):
+    """A link brings files whose names scripts can spell, each another one, and 32 at most; others can't be read."""
+    many = [f"file=f{number}:" for number in range(33)]
+    with bench.page() as page:
+        for files, wanted in (["file=f:1", "file=g:"], [["f", "1 byte"], ["g", "0 bytes"]]), (many[:32], 32):
+            page.value(f"location.hash = '#script=areas%0A&{'&'.join(files)}'")
+            page.tab.wait(lambda: page.field("name") == "linked.desk", "a link isn't followed")
+            found = page.value(FILES)
+            same([page.text("notice"), found if wanted != 32 else len(found)], ["", wanted], "what a link brings")
+            page.click("fresh")
+        for files in many, ["file=f:1", "file=f:2"], ["file=1x:1"], ["file=:1"], ["file=abc"], ["file"]:
+            page.value(f"location.hash = '#script=areas%0A&{'&'.join(files)}'")
+            page.tab.wait(lambda: page.text("notice"), f"nothing is told of a link with {files[-1]}")
+            same([page.text("notice"), page.rows(), page.value(FILES)], [UNREADABLE, [], []],
+                 f"what is told of a link with {files[-1]}")
+            page.click("fresh")

@@ -171,6 +171,10 @@ const TESTS = {
   "a link may have a script alone"() {
     same(readHash("script=areas%0A"), { name: "linked.desk", pages: 64, position: 0, text: "areas\n", files: [] });
   },
+  "a value of a link goes on behind an equals sign"() {
+    same(readHash("script=%23+a=b==%0A&name=x=y").text, "# a=b==\n");
+    same(readHash("script=%23+a=b==%0A&name=x=y").name, "x=y");
+  },
   "no link is read that holds none"() {
     const hashes = ["", "script", "pages=8", "script=%", "script=%zz", "script=a b", "script=\u20ac"];
     same(hashes.map((hash) => readHash(hash)?.text), [undefined, "", ...Array(5).fill(undefined)]);
