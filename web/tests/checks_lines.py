@@ -9,6 +9,15 @@ IN_VIEW = """(([row], frame) => row && row.top >= frame.top - 1 && row.bottom <=
   [...document.querySelectorAll('#lines > li')].filter((row) => row.querySelector('[aria-label="Line %d"]'))
     .map((row) => row.getBoundingClientRect()), document.querySelector('#scroller').getBoundingClientRect())"""
 
+# The lines whose fields are higher or lower than their texts.
+OTHER_HEIGHTS = """[...document.querySelectorAll('#lines textarea')].filter((field) => {
+  const was = field.style.height;
+  field.style.height = '0';
+  const needed = Math.max(field.scrollHeight, parseFloat(getComputedStyle(field).minHeight));
+  field.style.height = was;
+  return Math.abs(field.offsetHeight - needed) > 1;
+}).map((it) => `${it.ariaLabel}: ${it.offsetHeight}`)"""
+
 # The lines that the tab key reaches.
 TAB_STOPS = """[...document.querySelectorAll('#lines textarea')].filter((it) => it.tabIndex === 0)
   .map((it) => it.ariaLabel)"""
@@ -25,6 +34,22 @@ def lines(page):
 def click_in_row(page, number, name):
     """Clicks a button beside a line."""
     page.value(f"document.querySelector('#lines > li:nth-child({number}) .{name}').click()")
+
+
+def check_as_high_as_text(bench):
+    """In a browser that doesn't fit fields to their texts, each line is as high as its text, also when it changes."""
+    with bench.page(before="CSS.supports = () => false") as page:
+        page.value("document.styleSheets[0].insertRule('textarea { field-sizing: fixed !important; }')")
+        page.drop_bytes("long.desk", f"areas\n{LONG_LINE}\ntask a 9\n".encode())
+        same(page.value(OTHER_HEIGHTS), [], "lines that aren't as high as their texts")
+        page.focus(line_of(3))
+        page.tab.type("9" * 300)
+        same(page.value(OTHER_HEIGHTS), [], "lines that aren't as high as what is typed")
+        page.value("document.activeElement.select()")
+        page.tab.type("9")
+        same(page.value(OTHER_HEIGHTS), [], "lines that aren't as high as what is left")
+        page.tab.resize(420, 900)
+        page.tab.wait(lambda: not page.value(OTHER_HEIGHTS), "lines aren't as high as their texts in a narrow window")
 
 
 def check_history(bench):
@@ -54,6 +79,30 @@ def check_pasted_parts(bench):
         same(lines(page), ["task a 9", "areas"], "the lines")
         page.script("paste.js", "#command", "a\n\nb\n\n")
         same(lines(page)[2:], ["a", "", "b", ""], "the lines with empty ones")
+
+
+def check_history_of_pasted(bench):
+    """The arrow keys bring pasted lines too, each as often as it was entered, but none twice in a row."""
+    with bench.page() as page:
+        page.enter("areas")
+        page.script("paste.js", "#command", "task a 9\n\nareas\nareas\nx\n")
+        found = []
+        for _ in range(5):
+            page.tab.key("ArrowUp")
+            found.append(page.field("command"))
+        same(found, ["x", "areas", "task a 9", "areas", "areas"], "what the arrow keys bring")
+
+
+def check_as_typed(bench):
+    """A line is entered as it is typed, with the spaces around it, also by the button beside it; an empty one isn't."""
+    with bench.kept_page() as page:
+        page.enter("  areas  ")
+        page.enter("   ")
+        page.enter("")
+        page.tab.type("areas")
+        page.value("document.querySelector('#prompt button').click()")
+        same(lines(page), ["  areas  ", "   ", "areas"], "the lines")
+        same(page.saved("script.desk"), b"  areas  \n   \nareas\n", "the saved script")
 
 
 def check_row_buttons(bench):
@@ -104,12 +153,14 @@ def check_keys_in_long_lines(bench):
     with bench.kept_page() as page:
         page.load("hello")
         page.edit(2, LONG_LINE)
-        for key, at, wanted in (("ArrowUp", 400, "Line 2"), ("ArrowDown", 400, "Line 2"), ("ArrowUp", 0, "Line 1"),
-                                ("ArrowDown", len(LONG_LINE), "Line 3")):
+        end = len(LONG_LINE)
+        for key, at, to, wanted in (("ArrowUp", 400, 400, "Line 2"), ("ArrowDown", 400, 400, "Line 2"),
+                                    ("ArrowUp", 0, 0, "Line 1"), ("ArrowDown", end, end, "Line 3"),
+                                    ("ArrowUp", 0, 400, "Line 2"), ("ArrowDown", 400, end, "Line 2")):
             page.focus(line_of(2))
-            page.value(f"document.activeElement.setSelectionRange({at}, {at})")
+            page.value(f"document.activeElement.setSelectionRange({at}, {to})")
             page.tab.key(key)
-            same(page.focused(), wanted, f"what {key} goes to from character {at}")
+            same(page.focused(), wanted, f"what {key} goes to from characters {at} to {to}")
 
 
 def check_more_keys_in_lines(bench):
@@ -122,12 +173,36 @@ def check_more_keys_in_lines(bench):
         page.tab.type("areas")
         same([len(page.rows()), page.focused()], [7, "Line 2"], "how many lines there are as long as it is typed")
         page.tab.key("Enter")
-        same([len(page.rows()), lines(page)[2], page.focused()], [8, "areas", "Line 3"], "the lines then")
+        same([len(page.rows()), lines(page)[1:3], page.focused()], [8, ["task a 100", "areas"], "Line 3"],
+             "the lines then")
         page.tab.key("Enter", "Meta")
         same(page.text("progress"), "3 of 8 lines have run", "where the script stands")
         page.value("document.activeElement.dispatchEvent("
                    "new KeyboardEvent('keydown', { key: 'ArrowUp', isComposing: true }))")
         same(page.focused(), "Line 3", "what has the focus while characters are being made of others")
+
+
+def check_deleting_in_lines(bench):
+    """Backspace takes a line away only where that is empty; a line that is made empty stays, as those between lines."""
+    with bench.kept_page() as page:
+        page.load("hello")
+        was = lines(page)
+        page.focus(line_of(2))
+        page.value("document.activeElement.setSelectionRange(0, 0)")
+        page.tab.key("Backspace")
+        same([lines(page), page.focused()], [was, "Line 2"], "the lines after Backspace before the first character")
+        page.value("document.activeElement.setSelectionRange(0, 1)")
+        page.tab.key("Backspace")
+        same(lines(page)[1], "ask a 100", "the line after Backspace at a character")
+        page.edit(2, "a\n\nb")
+        same(lines(page), [was[0], "a", "", "b", *was[2:]], "the lines when one became three")
+        page.focus(line_of(2))
+        page.value("document.activeElement.select()")
+        page.tab.key("Backspace")
+        page.tab.key("Enter")
+        same([lines(page), page.focused()], [[was[0], "", "", "b", *was[2:]], "Line 3"], "the lines with an empty one")
+        page.tab.key("Delete")
+        same(len(lines(page)), 9, "how many lines there are after Delete")
 
 
 def check_in_view(bench):
@@ -139,6 +214,10 @@ def check_in_view(bench):
         same(page.value(TAB_STOPS), ["Line 299"], "the line that the tab key reaches")
         click_in_row(page, 1, "number")
         holds(page.value(IN_VIEW % 1), "the first line isn't seen when it ran")
+        click_in_row(page, 150, "number")
+        holds(page.value(IN_VIEW % 150), "a line in the middle isn't seen when it ran")
+        click_in_row(page, 100, "number")
+        holds(page.value(IN_VIEW % 100), "a line above it isn't seen when it ran")
         page.focus(line_of(2))
         page.tab.key("F9")
         holds(page.value(IN_VIEW % 2), "the line that is being worked in isn't seen")

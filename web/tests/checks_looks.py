@@ -18,6 +18,11 @@ WINDOWS = ((1440, 1), (420, 1), (320, 1), (1440, 2), (1280, 4))
 # What can be used, as it is told to those who listen, and what has to be named there.
 USED = ("button", "textbox", "combobox", "spinbutton", "radio", "region", "image", "DisclosureTriangle")
 
+# The names of what has several parts, as they are told.
+GROUPS = {"region": ["Script", "Memory"], "list": ["Files that the script may load",
+                                                   "Lines of the script, with their replies"],
+          "group": ["Scripts", "Steps", "Shown as", "Pool of pages", "Slots and module area"]}
+
 # The colours and lines by which rows are told apart: those of the row, of its line, and of its reply.
 LOOKS = """[...document.querySelectorAll('#lines > li')].map((row) => {
   const [line, reply] = ['textarea', '.reply'].map((it) => getComputedStyle(row.querySelector(it)));
@@ -128,6 +133,10 @@ def check_names(bench):
         holds(figures and all(it.description for it in figures), "a figure has no description")
         line = next(it for it in used if it.name == "Line 2")
         holds(line.description.startswith("ok"), "a line is told without its reply")
+        told = [Told(node) for node in nodes if not node["ignored"]]
+        named = {(it.role, it.name) for it in told}
+        same([(role, name) for role, names in GROUPS.items() for name in names if (role, name) not in named], [],
+             "which groups have lost their names")
         command = next(it for it in used if it.role == "textbox" and it.name == "Command")
         same(command.description, page.text("hint"), "what is told of the prompt")
 
@@ -141,7 +150,8 @@ def check_rows_look(bench):
         page.value("document.querySelector('#lines > li:nth-child(5) .number').click()")
         page.edit(2, "areas ")
         remark, _, ok, refused, bad, ahead, _ = page.value(LOOKS)
-        same([len({ok[3], refused[3], bad[3]}), remark[2]], [3, "italic"], "colours of replies, and a remark's style")
+        same([len({ok[1], ok[3], refused[3], bad[3]}), remark[2]], [4, "italic"],
+             "colours of lines and replies, and a remark's style")
         holds(bad[0] != refused[0] and ok[0] == refused[0] == ahead[0], "the line that ran last isn't told apart")
         holds(ahead[1] != ok[1] and ok[1] == bad[1], "a line that hasn't run isn't told apart")
         page.set_pages(9)

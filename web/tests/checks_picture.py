@@ -44,8 +44,12 @@ def check_legend(bench):
 
 
 def check_scrolled(bench):
-    """In a narrow window the pool's end is seen first, and the picture stays where it was scrolled to."""
+    """In a narrow window the pool's end is seen first, and the picture stays where it was scrolled to; in a wide one
+    figures are wide."""
     with bench.kept_page() as page:
+        show_step(page)
+        holds(page.value(f"{FRAMES}.every((it) => it.querySelector('svg').getBoundingClientRect().width > 600)"),
+              "a figure is narrow in a wide window")
         page.tab.resize(420, 900)
         show_step(page)
         holds(page.value(f"{FRAMES}.every((it) => it.scrollWidth > it.clientWidth + 100)"), "nothing can be scrolled")
@@ -63,6 +67,9 @@ def check_map_or_picture(bench):
         told = page.text("changes")
         holds(told and page.seen("changes", "picture", "map") == ["changes", "picture"], "nothing has changed")
         page.value("document.querySelector('[value=map]').click()")
+        page.focus("#map")
+        same([page.focused(), page.value("[document.activeElement.role, document.activeElement.ariaLabel]")],
+             ["map", ["group", "Map of memory"]], "what the map is to those who listen")
         same([page.seen("changes", "picture", "map"), page.text("changes")], [["map"], ""], "what is seen with a map")
         page.value("document.querySelector('[value=picture]').click()")
         same([page.seen("changes", "picture", "map"), page.text("changes")], [["changes", "picture"], told],

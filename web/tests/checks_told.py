@@ -12,6 +12,10 @@ OFFERED = """[...document.querySelectorAll('#examples optgroup')].map((group) =>
 FAULT = "dispatchEvent(new ErrorEvent('error', { message: 'no more' }))"
 REJECTION = """dispatchEvent(new PromiseRejectionEvent('unhandledrejection',
   { promise: Promise.resolve(), reason: new Error('no less') }))"""
+# A device whose pointer is fine, as that of a mouse, or coarse, as a finger is.
+WITH_POINTER = """{ const match = globalThis.matchMedia;
+  globalThis.matchMedia = (query) => query.includes('pointer')
+    ? { matches: query === '(pointer: %s)' } : match.call(globalThis, query); }"""
 WITHOUT_CLIPBOARD = "navigator.clipboard.writeText = () => Promise.reject(new Error('not allowed'))"
 
 
@@ -32,6 +36,13 @@ def check_at_first(bench):
         for name in BUTTONS:
             page.click(name)
         same([page.text("notice"), page.value("location.hash"), page.rows()], ["", "", []], "what the buttons did")
+
+
+def check_pointers(bench):
+    """The prompt has the focus at first, but not where it would bring a keyboard up for fingers."""
+    for pointer, wanted in (("fine", "command"), ("coarse", "")):
+        with bench.page(before=WITH_POINTER % pointer) as page:
+            same(page.focused() or "", wanted, f"what has the focus at first with a {pointer} pointer")
 
 
 def check_buttons(bench):
@@ -87,18 +98,22 @@ def check_place(bench):
 
 
 def check_long_reply(bench):
-    """Of a long reply the front is shown, and how long it is; less of it is read out."""
+    """Of a long reply the front is shown, and how long it is; less of it is read out, and so it is of a long line."""
     script = b"task a 9\nalloc a 0 2500\nshow a 0\nareas\n"
     reply = run_text(script).split("\n")[2]
+    line = f"put a 0 0 {'6a' * 400}"
     with bench.kept_page() as page:
         page.drop_bytes("long.desk", script)
         page.click("run")
-        areas = run_text(script).partition(reply)[2].split()
-        same(page.text("said").split(": ")[1].replace(",", "").split(), areas, "what is said of a reply of many lines")
+        areas = run_text(script).partition(f"{reply}\n")[2].split("\n")[:-1]
+        same(page.text("said"), f"Line 4, areas: {', '.join(it.strip() for it in areas)}",
+             "what is said of a reply of many lines")
         page.click("back")
         same(page.rows()[2]["reply"], f"{reply[:4000]}.. ({len(reply)} characters)", "what is shown of a long reply")
         same(page.text("said"), f"Line 3, show a 0: {reply[:300]}", "what is said of it")
         same(page.text("shown"), f"3show a 0 → {reply}", "the step shown")
+        page.enter(line)
+        same(page.text("said").split(". ")[0], f"Line 4, {line[:300]}: ok", "what is said of a long line")
 
 
 def check_notices(bench):

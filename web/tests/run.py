@@ -7,6 +7,7 @@ import chromium
 from bench import Bench, Wrong
 
 import checks_files
+import checks_kept
 import checks_lines
 import checks_looks
 import checks_maker
@@ -16,8 +17,8 @@ import checks_replies
 import checks_told
 import checks_use
 
-CHECKS = (checks_replies, checks_use, checks_lines, checks_files, checks_told, checks_picture, checks_modules,
-          checks_maker, checks_looks)
+CHECKS = (checks_replies, checks_use, checks_lines, checks_files, checks_kept, checks_told, checks_picture,
+          checks_modules, checks_maker, checks_looks)
 
 
 def checks():
