@@ -27,7 +27,8 @@ class Item {
   #remove;
 
   constructor(shelf, canCheck) {
-    Object.assign(this.field, { ariaLabel: "Name of a file", spellcheck: false, autocomplete: "off" });
+    Object.assign(this.field, { ariaLabel: "Name of a file" });
+    Object.assign(this.field, { spellcheck: false, autocomplete: "off", autocapitalize: "off" });
     this.field.addEventListener("change", () => shelf.rename(this));
     this.#check = buttonOf("Check", () => this.#told.textContent = shelf.told(this.file));
     this.#remove = buttonOf("\u00d7", () => shelf.remove(this.file));

@@ -36,6 +36,9 @@ DRAG = """((kind, isFile, isInside) => {
   const isLeft = dispatchEvent(new DragEvent(kind, { dataTransfer: data, cancelable: true, relatedTarget: related }));
   return [!isLeft, getComputedStyle(document.body, '::after').content !== 'none'];
 })"""
+# Notes what would be opened for files to be chosen in.
+NOTES_CHOOSING = """globalThis.chosen = [];
+for (const field of document.querySelectorAll('[type=file]')) field.click = () => globalThis.chosen.push(field.id);"""
 NOTES_TYPES = """globalThis.types = []; const make = URL.createObjectURL;
 URL.createObjectURL = (blob) => { globalThis.types.push(blob.type); return make.call(URL, blob); };"""
 
@@ -62,6 +65,23 @@ def press(page, number, label):
 
 def name_of(number):
     return f"#files li:nth-child({number}) input"
+
+
+def check_choosing(bench):
+    """Each button opens what its files are chosen in; where none is chosen, nothing happens."""
+    with bench.page() as page:
+        page.value(NOTES_CHOOSING)
+        found = []
+        for name in ("open", "add"):
+            page.click(name)
+            found.append(page.value("chosen.splice(0)"))
+        same(found, [["open-file"], ["add-files"]], "what is opened")
+        same(page.value("[...document.querySelectorAll('[type=file]')].map((it) => it.multiple)"), [False, True],
+             "where several files can be chosen")
+        for name in ("open-file", "add-files"):
+            page.set_value(f"#{name}", "")
+        same([page.text("notice"), page.rows(), page.value(FILES), page.disabled()[0]], ["", [], [], "undo"],
+             "what is left")
 
 
 def check_same_files(bench):
@@ -107,6 +127,11 @@ def check_faults_of_files(bench):
         page.tab.choose_files("#add-files", paths[3:] * 32)
         wait_for_files(page, 32)
         same(page.text("notice"), "There are 32 files already.", "what is told of one more")
+        names = [name for name, _ in page.value(FILES)]
+        same(names, ["fits", "last", *(f"last{number}" for number in range(2, 32))], "the names of 32 files")
+        page.enter("task a 9")
+        page.enter("load a 0 last31")
+        same(page.rows()[1]["reply"], "ok &9008", "the reply to a command that loads the last file, which is empty")
 
 
 def check_names_of_files(bench):

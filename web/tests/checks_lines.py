@@ -37,7 +37,10 @@ def click_in_row(page, number, name):
 
 
 def check_as_high_as_text(bench):
-    """In a browser that doesn't fit fields to their texts, each line is as high as its text, also when it changes."""
+    """Each line is as high as its text, also when it changes, and in a browser that doesn't fit fields to texts."""
+    with bench.kept_page() as page:
+        page.drop_bytes("long.desk", f"areas\n{LONG_LINE}\n".encode())
+        same(page.value(OTHER_HEIGHTS), [], "lines that aren't as high as their texts where the browser fits them")
     with bench.page(before="CSS.supports = () => false") as page:
         page.value("document.styleSheets[0].insertRule('textarea { field-sizing: fixed !important; }')")
         page.drop_bytes("long.desk", f"areas\n{LONG_LINE}\ntask a 9\n".encode())
@@ -118,6 +121,8 @@ def check_row_buttons(bench):
         same(page.text("progress").split(";")[0], "4 of 6 lines have run", "where the script stands then")
         click_in_row(page, 6, "remove")
         same(page.focused(), "command", "what has the focus when the last one is taken away")
+        same(page.value("[...document.querySelectorAll('.number')].map((it) => it.textContent)"), list("12345"),
+             "the numbers of lines")
         for name, told in (("number", "Run up to line 2"), ("remove", "Take line 2 away")):
             button = f"document.querySelector('#lines > li:nth-child(2) .{name}')"
             same(page.value(f"[{button}.ariaLabel, {button}.title]"), [told, told], "what a button is for")
@@ -175,8 +180,10 @@ def check_more_keys_in_lines(bench):
         page.tab.key("Enter")
         same([len(page.rows()), lines(page)[1:3], page.focused()], [8, ["task a 100", "areas"], "Line 3"],
              "the lines then")
+        page.tab.type(" ")
         page.tab.key("Enter", "Meta")
-        same(page.text("progress"), "3 of 8 lines have run", "where the script stands")
+        same([page.text("progress"), page.focused(), page.text("shown")],
+             ["3 of 8 lines have run", "Line 3", "3areas  → ok 62"], "where the script stands")
         page.value("document.activeElement.dispatchEvent("
                    "new KeyboardEvent('keydown', { key: 'ArrowUp', isComposing: true }))")
         same(page.focused(), "Line 3", "what has the focus while characters are being made of others")

@@ -15,6 +15,10 @@ COLOURED = ("transfer", "handed-over", "eight-transfers", "killed", "made-areas"
 TINTS = "".join(f"task {it} 9\nalloc {it} 0 2000\nalloc {it} 1 900\nclaim {it} 900\n" for it in "abcdef")
 # The width of windows, and how much larger all is shown in them.
 WINDOWS = ((1440, 1), (420, 1), (320, 1), (1440, 2), (1280, 4))
+# Fields for texts, and how browsers would help with what is typed into them.
+FIELDS = ("#name", "#command", "#lines textarea", "#files input")
+HELPED = f"""Object.fromEntries({list(FIELDS)!r}.map((it) => [it, document.querySelector(it)]).map(([name, it]) =>
+  [name, ['spellcheck', 'autocapitalize', 'autocomplete'].map((word) => it.getAttribute(word))]))"""
 # What can be used, as it is told to those who listen, and what has to be named there.
 USED = ("button", "textbox", "combobox", "spinbutton", "radio", "region", "image", "DisclosureTriangle")
 
@@ -139,6 +143,15 @@ def check_names(bench):
              "which groups have lost their names")
         command = next(it for it in used if it.role == "textbox" and it.name == "Command")
         same(command.description, page.text("hint"), "what is told of the prompt")
+
+
+def check_left_as_typed(bench):
+    """Browsers leave as it is typed what goes into a field: no letter becomes a capital, and nothing is underlined."""
+    with bench.kept_page() as page:
+        page.load("hello")
+        page.drop_bytes("a.bin", b"1")
+        found = page.value(HELPED)
+        same([found[name] for name in FIELDS], [["false", "off", "off"]] * len(FIELDS), "how fields help")
 
 
 def check_rows_look(bench):

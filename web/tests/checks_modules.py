@@ -17,6 +17,8 @@ STOPS_ONCE = bytes.fromhex("4200 280200 0440 41000f0b 4200 4101 360200 000b")
 # What calls take: pages, buffers with their lengths, a mark, a buffer, and the address of a length.
 RUN = [I32] + [I64] * 11
 MAP = [I32] + [I64] * 8 + [I32] + [I64] * 3
+DRAW = [I32] + [I64] * 10 + [I32] + [I64] * 3
+CHECK = [I32] + [I64] * 5
 # A call with these bytes writes `ok` and a line feed to the address that is a parameter, and the length to another.
 WRITES_OK = "20{:02x} 41efd629 360200 20{:02x} 4203 370300 41000b"
 
@@ -109,6 +111,18 @@ def check_some_calls(bench):
         page.enter("areas")
         same([page.replies(), page.text("nothing"), page.seen(*offered)],
              ["ok\n", "The module stopped (unreachable).", []], "what is shown where the map isn't drawn")
+
+
+def check_stopped_calls(bench):
+    """Where pictures can't be saved, or a file can't be checked, the page tells why."""
+    run = (RUN, writes_ok(9, 11))
+    with page_of(bench, module(vf_run=run, vf_draw=(DRAW, STOPS), vf_check=(CHECK, STOPS))) as page:
+        page.enter("areas")
+        page.click("save-sheet")
+        same([page.text("notice"), page.text("nothing")], ["The module stopped (unreachable)."] * 2, "what is told")
+        page.drop_bytes("a.bin", b"1")
+        page.value("document.querySelector('#files button[aria-label^=Check]').click()")
+        same(page.text("files"), "1 byteCheck×The module stopped (unreachable).", "what is told of a file")
 
 
 def check_other_module(bench):

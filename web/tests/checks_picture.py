@@ -40,6 +40,10 @@ def check_legend(bench):
         show_step(page)
         same(page.value(LEGEND_SHOWN), page.value(LEGEND_OF_SHEET % json.dumps(sheet)), "how figures are read")
         same(page.value(f"{TREE}.querySelector('summary').textContent"), "How figures are read", "what it is named")
+        page.value(f"{TREE}.querySelector('summary').focus(); {TREE}.querySelector('summary').click()")
+        page.tab.key("F8")
+        same(page.value(f"[{TREE}.activeElement?.localName, {TREE}.querySelector('details').open]"), ["summary", True],
+             "what has the focus, and whether it is open, after a step")
         same(page.value(MISSING), [True, []], "what the picture refers to and lacks")
 
 

@@ -137,7 +137,7 @@ def check_map(bench):
 def check_parts(bench):
     """The parts of the page's script that need no page pass their own tests."""
     names = ("bytes.js", "script.js", "desk.js", "files.js", "link.js", "session.js", "picture.js", "prompt.js")
-    tests = ("parts.js", "parts_session.js")
+    tests = ("parts.js", "parts_desk.js", "parts_session.js")
     script = make.bundle({name: WEB / name for name in names} | {name: WEB / "tests" / name for name in tests})
     tab = bench.browser.open("about:blank")
     tab.value(f"(() => {{ {script} }})()")

@@ -195,6 +195,15 @@ def check_beginnings(bench):
         same(page.field("examples"), "", "the example when another script is there")
 
 
+def check_first_commands(bench):
+    """The commands that the page without a script names can be typed, one after the other."""
+    with bench.kept_page() as page:
+        named = page.value("[...document.querySelectorAll('#empty code')].map((it) => it.textContent)")
+        for line in named:
+            page.enter(line)
+        same([row["reply"].split(" ")[0] for row in page.rows()], ["ok", "ok"], "the replies")
+
+
 def check_help(bench):
     """Help comes and goes; it has the form of each command, and the keys."""
     block = (TOP / "docs/FORMATS.md").read_text().partition("```\ntask NAME")[2].partition("```")[0]

@@ -15,6 +15,10 @@ STRANGE = (b"# caf\xe9 \xff\x80 </script><!-- <b>&amp;\ntask a 100\n\xff\xfe x\n
            b"save a 0 a \xe2\x82\xac\n\nareas")
 
 
+# Whether a line has a row.
+HAS_ROW = "document.querySelector('[aria-label=\"Line %d\"]') !== null"
+
+
 def lines(page):
     return [row["line"] for row in page.rows()]
 
@@ -70,6 +74,16 @@ def check_steps(bench):
         page.enter("task z 9")
         same([row["kind"] for row in page.rows()][:2], ["row ok current", "row ahead remark"], "the first lines")
         same(page.text("shown"), "1task z 9 → ok 1", "the step shown")
+
+
+def check_keys_of_steps(bench):
+    """The keys of steps are the page's alone, and it leaves others to the browser."""
+    pressed = "dispatchEvent(new KeyboardEvent('keydown', { key: '%s', cancelable: true }))"
+    with bench.kept_page() as page:
+        page.load("hello")
+        found = [page.value(pressed % key) for key in ("F7", "F8", "F9", "F10", "Tab")]
+        same(found, [True, False, False, True, True], "which keys are left to the browser")
+        same(page.text("progress"), "7 of 7 lines have run", "where the script stands")
 
 
 def check_editing(bench):
@@ -283,8 +297,17 @@ def check_list_of_many(bench):
         page.value("document.activeElement.setSelectionRange(0, 0)")
         page.tab.key("ArrowUp")
         same(page.value("document.activeElement.ariaLabel"), "Line 600", "the line above the first row")
+        holds(page.value(HAS_ROW % 590), "lines above that line have no rows")
         page.tab.key("ArrowDown")
         same(page.value("document.activeElement.value"), "# a typed", "what was typed into the first row")
+        page.focus("#command")
+        page.drop_bytes("longer.desk", b"# a\n" * 1000 + b"areas\n" + b"# a\n" * 1000)
+        page.click("step")
+        same([page.value(HAS_ROW % it) for it in (900, 1001, 1100)], [True] * 3, "which lines have rows")
+        page.focus("#lines > li:nth-child(10) textarea")
+        was = page.focused()
+        page.tab.key("F9")
+        same(page.focused(), was, "what has the focus when all has run")
 
 
 def check_name(bench):

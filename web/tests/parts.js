@@ -131,6 +131,7 @@ const TESTS = {
   "files get names that scripts can spell"() {
     same(["My file-1.bin", "12.txt", "12a3.txt", "a.b.c"].map((path) => nameFor(path, [])),
       ["Myfile1", "file", "a3", "ab"]);
+    same(["a", "b"].map((path) => nameFor(path, [{ name: "ab" }, { name: "b" }])), ["a", "b2"]);
     const files = [];
     for (let count = 1; count <= 10; count++) files.push({ name: nameFor("abcdefghijklm", files) });
     same([0, 1, 8, 9].map((at) => files[at].name), ["abcdefghijkl", "abcdefghijk2", "abcdefghijk9", "abcdefghij10"]);
@@ -170,6 +171,7 @@ const TESTS = {
   },
   "a link may have a script alone"() {
     same(readHash("script=areas%0A"), { name: "linked.desk", pages: 64, position: 0, text: "areas\n", files: [] });
+    same(readHash("script=%e2%82%ac%0a").text, "\u20ac\n");
   },
   "a value of a link goes on behind an equals sign"() {
     same(readHash("script=%23+a=b==%0A&name=x=y").text, "# a=b==\n");

@@ -8,6 +8,7 @@ from bench import Bench, Wrong
 
 import checks_files
 import checks_kept
+import checks_layout
 import checks_lines
 import checks_looks
 import checks_maker
@@ -18,7 +19,7 @@ import checks_told
 import checks_use
 
 CHECKS = (checks_replies, checks_use, checks_lines, checks_files, checks_kept, checks_told, checks_picture,
-          checks_modules, checks_maker, checks_looks)
+          checks_modules, checks_maker, checks_looks, checks_layout)
 
 
 def checks():

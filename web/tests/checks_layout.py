@@ -1,0 +1,163 @@
+"""Where things stand, in wide and narrow windows and on paper, and how they look in the dark."""
+
+import json
+import re
+
+from bench import holds, same
+from checks_looks import COLOURED, TINTS
+
+# The edges of an element in the window.
+EDGES = "(({ left, top, right, bottom }) => ({ left, top, right, bottom }))(%s.getBoundingClientRect())"
+FOCUSED = "document.activeElement"
+# How much of what stands in an element is cut off below.
+CUT_OFF = "((it) => it.scrollHeight - it.clientHeight)(document.querySelector('%s'))"
+# The least contrast of a control's edge, and of the line around what has the focus, to what is behind it.
+LEAST_CONTRAST_OF_EDGES = 3
+# Of what has the focus the colours of its edge and of the line around it, and the colour of the page around both.
+EDGE_COLOURS = """((it) => {
+  const around = [];
+  for (let at = it.parentElement; at; at = at.parentElement) around.push(getComputedStyle(at).backgroundColor);
+  const { borderTopColor, outlineColor } = getComputedStyle(it);
+  return [borderTopColor, outlineColor, around.find((colour) => colour.startsWith('rgb('))];
+})(document.activeElement)"""
+# The colours of the picture's shapes: what each is, and its two colours. A line that isn't closed has nothing to fill.
+SHAPES = """[...document.querySelector('#picture').shadowRoot.querySelectorAll('svg *')]
+  .filter((it) => !['title', 'desc', 'g', 'defs', 'pattern', 'marker', 'use'].includes(it.localName)).map((it) => {
+    const { fill, stroke } = getComputedStyle(it);
+    const isLine = it.localName === 'path' && stroke !== 'none' && fill === 'rgb(0, 0, 0)';
+    return [`${it.localName}.${it.getAttribute('class')}`, isLine ? 'none' : fill, stroke];
+  })"""
+
+
+def edges(page, selector):
+    return page.value(EDGES % f"document.querySelector({json.dumps(selector)})")
+
+
+def luminance(colour):
+    """How light a colour is, as the Web Content Accessibility Guidelines define it."""
+    parts = [int(part) / 255 for part in re.findall(r"\d+", colour)[:3]]
+    linear = [part / 12.92 if part <= 0.04045 else ((part + 0.055) / 1.055) ** 2.4 for part in parts]
+    return 0.2126 * linear[0] + 0.7152 * linear[1] + 0.0722 * linear[2]
+
+
+def contrast(one, other):
+    low, high = sorted([luminance(one), luminance(other)])
+    return (high + 0.05) / (low + 0.05)
+
+
+def check_side_by_side(bench):
+    """In a wide window memory stands beside the script, which stays in sight as far down as memory goes."""
+    with bench.kept_page() as page:
+        page.tab.resize(1440, 640)
+        page.load("transfer")
+        page.click("run")
+        script, memory = edges(page, "section.script"), edges(page, "section.memory")
+        holds(memory["left"] >= script["right"] and abs(memory["top"] - script["top"]) < 2, "memory isn't beside it")
+        page.value(f"scrollTo(0, {memory['bottom'] - 640})")
+        holds(page.value("scrollY") > 100, "there is nothing to scroll")
+        for name in ("#command", "#step", "#lines .current"):
+            found = edges(page, name)
+            holds(found["top"] >= 0 and found["bottom"] <= 640, f"{name} isn't in sight")
+
+
+def check_one_below_another(bench):
+    """In a narrow window a reply stands below its line, a long script has its own scrolling, and the end is seen."""
+    with bench.kept_page() as page:
+        page.tab.resize(420, 700)
+        page.load("hello")
+        page.click("run")
+        line, reply = (edges(page, f"#lines > li:nth-child(2) {it}") for it in ("textarea", ".reply"))
+        holds(reply["top"] >= line["bottom"] - 1 and abs(reply["left"] - line["left"]) < 8, "a reply isn't below")
+        page.drop_bytes("long.desk", b"areas\n" * 100)
+        scroller = edges(page, "#scroller")
+        holds(scroller["bottom"] - scroller["top"] < 0.6 * 700, "a long script is shown whole")
+        holds(edges(page, "section.memory")["top"] >= edges(page, "section.script")["bottom"], "memory isn't below")
+        page.value("scrollTo(0, document.body.scrollHeight)")
+        holds(edges(page, "footer p")["bottom"] <= edges(page, ".steps")["top"], "the steps hide the page's end")
+
+
+def check_focus_in_sight(bench):
+    """In a narrow window the steps at its end hide nothing that gets the focus."""
+    with bench.page() as page:
+        page.tab.resize(420, 700)
+        page.load("transfer")
+        page.click("run")
+        page.focus("#examples")
+        while page.value(f"{FOCUSED}.id") != "save-sheet":
+            page.tab.key("Tab")
+            is_step = page.value(f"{FOCUSED}.closest('.steps') !== null")
+            found = page.value(EDGES % FOCUSED)
+            holds(is_step or found["bottom"] <= edges(page, ".steps")["top"] + 1,
+                  f"the steps hide {page.focused()}, which has the focus")
+
+
+def check_on_paper(bench):
+    """On paper all lines are seen, and memory behind them."""
+    with bench.kept_page() as page:
+        page.drop_bytes("long.desk", b"areas\n" * 100)
+        page.click("run")
+        page.tab.call("Emulation.setEmulatedMedia", media="print")
+        try:
+            same([page.value(CUT_OFF % it) > 1 for it in ("#scroller", "section.script")], [False, False],
+                 "whether lines are cut off")
+            same(page.value("getComputedStyle(document.querySelector('section.script')).position"), "static",
+                 "how the script stands on paper")
+        finally:
+            page.tab.call("Emulation.setEmulatedMedia", media="")
+
+
+def check_edges(bench):
+    """Controls, and the line around what has the focus, stand out from what is behind them, light and dark."""
+    with bench.kept_page() as page:
+        page.load("hello")
+        page.click("step")
+        for is_dark in (False, True):
+            page.tab.resize(1440, 900, is_dark)
+            for name in ("open", "name", "pages", "add", "command", "back", "step", "examples"):
+                page.focus(f"#{name}")
+                page.tab.key("Tab")
+                page.tab.key("Tab", "Shift")
+                same(page.focused(), name, "what has the focus")
+                *lines, around = page.value(EDGE_COLOURS)
+                for line in lines:
+                    holds(contrast(line, around) >= LEAST_CONTRAST_OF_EDGES,
+                          f"{name} has {line} on {around}, {'dark' if is_dark else 'light'}")
+
+
+def check_told_apart(bench):
+    """What does nothing now, what is a fault and which line ran last are told apart from others, light and dark."""
+    style = "getComputedStyle(document.querySelector('%s')).%s"
+    with bench.kept_page() as page:
+        page.load("hello")
+        page.click("run")
+        for is_dark in (False, True):
+            page.tab.resize(1440, 900, is_dark)
+            open_colour, back, step = (page.value(style % (it, "color")) for it in ("#open", "#back", "#step"))
+            holds(open_colour == back != step, "a step that does nothing looks like one that does something")
+            current, other = (page.value(style % (f"#lines > li:nth-child({it})", "backgroundColor")) for it in (7, 6))
+            holds(current != other, "the line that ran last isn't told apart")
+            page.set_pages(7)
+            fault = [page.value(style % ("#notice", it)) for it in ("color", "borderTopWidth")]
+            holds(fault[0] != open_colour and fault[1] != "0px", "a fault looks like any text")
+            page.value("document.querySelector('#notice').classList.remove('fault')")
+            page.set_pages(64)
+        page.click("back")
+        holds(page.value(style % ("#step", "color")) != step, "a step looks as if it did nothing")
+
+
+def check_dark_picture(bench):
+    """In the dark each shape of a picture has colours that it hasn't in the light."""
+    with bench.kept_page() as page:
+        for name in (*COLOURED, "tints"):
+            if name == "tints":
+                page.drop_bytes("tints.desk", TINTS.encode())
+            else:
+                page.load(name)
+            page.click("run")
+            found = []
+            for is_dark in (False, True):
+                page.tab.resize(1440, 900, is_dark)
+                found.append(page.value(SHAPES))
+            alike = {(light[0], colour) for light, dark in zip(*found) for colour, other in zip(light[1:], dark[1:])
+                     if colour == other and colour.startswith("rgb")}
+            same(sorted(alike), [], f"what has the same colours in the light and in the dark in {name}")
