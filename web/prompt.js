@@ -56,11 +56,13 @@ export class Prompt {
     this.#enter(lines);
   }
 
-  // Enters pasted lines at once; a part of a line is pasted as ever.
+  // Enters pasted lines at once, with what is typed around them; a part of a line is pasted as ever.
   #onPaste(event) {
-    const lines = event.clipboardData.getData("text/plain").split(/\r\n|\r|\n/);
-    if (lines.length === 1) return;
+    const pasted = event.clipboardData.getData("text/plain");
+    if (!/[\r\n]/.test(pasted)) return;
     event.preventDefault();
+    const { value, selectionStart, selectionEnd } = this.#field;
+    const lines = (value.slice(0, selectionStart) + pasted + value.slice(selectionEnd)).split(/\r\n|\r|\n/);
     if (lines.at(-1) === "") lines.pop();
     this.#submit(lines);
   }
@@ -72,7 +74,14 @@ export class Prompt {
       event.preventDefault();
       this.#goThrough(moves[event.key]);
     }
-    if (event.key === "Escape") this.#write("");
+    if (event.key === "Escape") this.#escape();
+  }
+
+  // Gives back what was typed before the arrow keys were used, or takes away what is typed.
+  #escape() {
+    const wasTyped = this.#at === this.#entered.length;
+    this.#at = this.#entered.length;
+    this.#write(wasTyped ? "" : this.#typed);
   }
 
   // Goes one line back or on in what was entered.

@@ -96,6 +96,32 @@ def check_history_of_pasted(bench):
         same(found, ["x", "areas", "task a 9", "areas", "areas"], "what the arrow keys bring")
 
 
+def check_pasted_into_typed(bench):
+    """Lines that are pasted into what is being typed go in where the caret is, and nothing typed is lost."""
+    with bench.kept_page() as page:
+        for typed, start, end, wanted in (("task ", 5, 5, ["task a 9", "areas"]), (" x", 0, 0, ["a 9", "areas x"]),
+                                          ("task b 8", 5, 7, ["task a 9", "areas8"])):
+            page.click("fresh")
+            page.focus("#command")
+            page.tab.type(typed)
+            page.value(f"document.activeElement.setSelectionRange({start}, {end})")
+            page.script("paste.js", "#command", "a 9\nareas")
+            same([lines(page), page.field("command")], [wanted, ""], f"the lines when {typed!r} was typed before")
+
+
+def check_escape_at_prompt(bench):
+    """Escape gives back what was typed before the arrow keys; then it takes that away, and they begin anew."""
+    with bench.page() as page:
+        for line in ("areas", "task a 9", "poll a"):
+            page.enter(line)
+        page.tab.type("half")
+        found = []
+        for key in ("ArrowUp", "ArrowUp", "Escape", "ArrowUp", "Escape", "Escape", "ArrowUp", "ArrowDown"):
+            page.tab.key(key)
+            found.append(page.field("command"))
+        same(found, ["poll a", "task a 9", "half", "poll a", "half", "", "poll a", ""], "what stands at the prompt")
+
+
 def check_as_typed(bench):
     """A line is entered as it is typed, with the spaces around it, also by the button beside it; an empty one isn't."""
     with bench.kept_page() as page:

@@ -5,6 +5,15 @@ import re
 from bench import TOP, holds, run_text, same
 
 BUTTONS = ("undo", "save", "copy", "back", "step", "run", "save-sheet")
+# What help says of keys, and what stands on buttons.
+KEYS = {"Enter": "enters the command; in a line, runs all of it anew and goes to the next",
+        "↑ ↓": "at the prompt, what was entered before; in a line, the lines around it", "F8": "runs the next command",
+        "Shift F8": "goes back by one command", "F9": "runs all lines", "Ctrl Enter": "in a line, runs up to it",
+        "Shift Enter": "in a line, begins one more", "Backspace": "in an empty line, takes it away",
+        "Esc": "gives back what was there before"}
+NAMES = {"open": "Open…", "fresh": "New", "undo": "Undo", "save": "Save script", "copy": "Copy link",
+         "help-button": "Help", "add": "Add files…", "back": "Back", "step": "Step", "run": "Run all",
+         "save-sheet": "Save all pictures"}
 # The examples that are offered: of each group its label, and names and titles.
 OFFERED = """[...document.querySelectorAll('#examples optgroup')].map((group) =>
   [group.label, [...group.children].map((it) => [it.value, it.textContent])])"""
@@ -217,8 +226,10 @@ def check_help(bench):
         same(found, [["false", []], ["true", ["help"]], ["false", []]], "how help comes and goes")
         same(page.value("[...document.querySelectorAll('#forms li')].map((it) => it.textContent)"), forms, "the forms")
         same(page.value(f"{button}.getAttribute('aria-controls')"), "help", "what the button is for")
-        keys = page.value("[...document.querySelectorAll('.keys dt')].map((it) => it.textContent)")
-        same(keys, ["Enter", "↑ ↓", "F8", "Shift F8", "F9", "Ctrl Enter", "Shift Enter", "Backspace", "Esc"],
-             "the keys")
+        keys = page.value("[...document.querySelectorAll('.keys dt')].map((it) => [it.textContent, "
+                          "it.nextElementSibling.textContent])")
+        same(dict(keys), KEYS, "what keys do")
+        buttons = page.value("[...document.querySelectorAll('button[id]')].map((it) => [it.id, it.textContent])")
+        same({name: text for name, text in buttons if name not in ("earlier", "later")}, NAMES, "the names of buttons")
         keys = page.value("['back', 'step', 'run'].map((it) => document.getElementById(it).ariaKeyShortcuts)")
         same(keys, ["Shift+F8", "F8", "F9"], "the keys of buttons")

@@ -32,8 +32,8 @@ function named(form, words) {
 }
 
 // A desk whose module has all calls; each notes its words and the memory as it is then, and gives a status.
-function noting(status, maximum = 99n) {
-  const memory = new WebAssembly.Memory({ address: "i64", initial: 1n, maximum });
+function noting(status, initial = 16n, maximum = 99n) {
+  const memory = new WebAssembly.Memory({ address: "i64", initial, maximum });
   new Uint8Array(memory.buffer).fill(0xff);
   const notes = {};
   const exports = { memory, __heap_base: { value: BigInt(OWN_END) } };
@@ -73,7 +73,7 @@ const DESK_TESTS = {
   },
   "what a call gets lies behind what the module has, within its memory, and apart"() {
     for (const call in FORMS) {
-      const { desk, notes } = noting(0);
+      const { desk, notes } = noting(0, 1n);
       desk.text(call, GIVEN);
       let end = OWN_END;
       for (const [from, to] of rangesOf(notes.words)) {
@@ -90,7 +90,7 @@ const DESK_TESTS = {
     }
   },
   "a memory that can't grow so far is told, and the module begins anew"() {
-    const { exports } = noting(0, 2n);
+    const { exports } = noting(0, 1n, 2n);
     let made = 0;
     const desk = new Desk(() => {
       made++;
