@@ -1,6 +1,9 @@
 """What a tab keeps when it is loaded again, and where nothing may be kept."""
 
 from bench import same
+from checks_modules import on_disk
+
+import make
 
 # A browser that lets no page keep anything.
 KEEPS_NOTHING = """Object.defineProperty(globalThis, 'sessionStorage', {
@@ -30,6 +33,22 @@ def check_loaded_with_link(bench):
             load_again(page)
             same([lines(page), page.text("progress"), page.text("files")],
                  [["task a 9", "areas"], "1 of 2 lines have run", "1 byteCheck×"], "what is left")
+
+
+def check_kept_from_disk(bench):
+    """A page from disk has its script still when it is loaded again, and a link that brings it."""
+    with on_disk(make.page_of(bench.content)) as address, bench.page(address=address) as page:
+        page.enter("areas")
+        page.click("copy")
+        page.tab.wait(lambda: page.text("notice"), "nothing is told of a copied link")
+        link = page.value("location.hash")
+        page.enter("task a 9")
+        load_again(page)
+        same(lines(page), ["areas", "task a 9"], "what is left")
+        page.tab.go("about:blank")
+        page.tab.go(address + link)
+        page.ready()
+        same([lines(page), page.text("notice")], [["areas"], ""], "what the link brings")
 
 
 def check_loaded_too_long(bench):

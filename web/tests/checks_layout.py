@@ -55,7 +55,7 @@ def check_side_by_side(bench):
         holds(memory["left"] >= script["right"] and abs(memory["top"] - script["top"]) < 2, "memory isn't beside it")
         page.value(f"scrollTo(0, {memory['bottom'] - 640})")
         holds(page.value("scrollY") > 100, "there is nothing to scroll")
-        for name in ("#command", "#step", "#lines .current"):
+        for name in ("#script-heading", "#command", "#step", "#lines .current"):
             found = edges(page, name)
             holds(found["top"] >= 0 and found["bottom"] <= 640, f"{name} isn't in sight")
 
@@ -96,13 +96,13 @@ def check_on_paper(bench):
     with bench.kept_page() as page:
         page.drop_bytes("long.desk", b"areas\n" * 100)
         page.click("run")
-        page.tab.call("Emulation.setEmulatedMedia", media="print")
-        try:
+        for width, height in ((1440, 900), (760, 1080)):
+            page.tab.resize(width, height)
+            page.tab.call("Emulation.setEmulatedMedia", media="print")
             same([page.value(CUT_OFF % it) > 1 for it in ("#scroller", "section.script")], [False, False],
-                 "whether lines are cut off")
+                 f"whether lines are cut off on paper, at {width}")
             same(page.value("getComputedStyle(document.querySelector('section.script')).position"), "static",
                  "how the script stands on paper")
-        finally:
             page.tab.call("Emulation.setEmulatedMedia", media="")
 
 
@@ -132,13 +132,13 @@ def check_told_apart(bench):
         page.click("run")
         for is_dark in (False, True):
             page.tab.resize(1440, 900, is_dark)
-            open_colour, back, step = (page.value(style % (it, "color")) for it in ("#open", "#back", "#step"))
-            holds(open_colour == back != step, "a step that does nothing looks like one that does something")
-            current, other = (page.value(style % (f"#lines > li:nth-child({it})", "backgroundColor")) for it in (7, 6))
-            holds(current != other, "the line that ran last isn't told apart")
+            usual, back, step, run = (page.value(style % (it, "color")) for it in ("#open", "#back", "#step", "#run"))
+            holds(usual == back and usual not in (step, run), "a step that does nothing looks as if it did something")
+            found = [page.value(style % (it, "backgroundColor")) for it in ("#lines .current", "section.script")]
+            holds(found[0] != found[1] and found[0].startswith("rgb("), "the line that ran last isn't told apart")
             page.set_pages(7)
             fault = [page.value(style % ("#notice", it)) for it in ("color", "borderTopWidth")]
-            holds(fault[0] != open_colour and fault[1] != "0px", "a fault looks like any text")
+            holds(fault[0] != usual and fault[1] != "0px", "a fault looks like any text")
             page.value("document.querySelector('#notice').classList.remove('fault')")
             page.set_pages(64)
         page.click("back")

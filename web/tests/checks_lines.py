@@ -259,6 +259,17 @@ def check_in_view(bench):
         same(page.text("shown"), "299areas → ok 63", "the step shown when a remark has run behind it")
 
 
+def check_reply_in_view(bench):
+    """A line that the arrow keys go to is seen with all of its reply, as far as the list is high enough."""
+    with bench.kept_page() as page:
+        page.drop_bytes("long.desk", b"task a 9\n" + b"claim a 8\n" * 12 + b"heap a\n" + b"# a\n" * 30)
+        page.click("run")
+        page.focus(line_of(13))
+        page.value("document.querySelector('#scroller').scrollTop = 0")
+        page.tab.key("ArrowDown")
+        same([page.focused(), page.value(IN_VIEW % 14)], ["Line 14", True], "the line, and whether it is seen whole")
+
+
 def check_tab_stop(bench):
     """The tab key reaches a line always: also when the last one is taken away, and when other lines have rows."""
     with bench.kept_page() as page:

@@ -52,8 +52,9 @@ def check_scrolled(bench):
     figures are wide."""
     with bench.kept_page() as page:
         show_step(page)
-        holds(page.value(f"{FRAMES}.every((it) => it.querySelector('svg').getBoundingClientRect().width > 600)"),
-              "a figure is narrow in a wide window")
+        widths = page.value(f"{FRAMES}.map((it) => it.querySelector('svg').getBoundingClientRect().width "
+                            "/ it.getBoundingClientRect().width)")
+        holds(min(widths) > 0.95, f"in a wide window figures take {widths} of their frames")
         page.tab.resize(420, 900)
         show_step(page)
         holds(page.value(f"{FRAMES}.every((it) => it.scrollWidth > it.clientWidth + 100)"), "nothing can be scrolled")
