@@ -7,7 +7,14 @@ import { outcomeOf } from "./script.js";
 
 const NO_LINES = "Nothing has run yet. Type a command at the prompt, or load an example.";
 const NOTHING = "Nothing has run yet. Step runs the next command, Run all runs every line.";
+const NO_COMMAND = "No command has run yet: the lines that have run are remarks, or empty.";
 const NO_DRAWING = "The module of this page draws no pictures.";
+
+// Why a session has no step to be shown.
+function whyNoStep({ lines, position }) {
+  if (position > 0) return NO_COMMAND;
+  return lines.length ? NOTHING : NO_LINES;
+}
 
 // A line of the step that is shown: its number, its command and its reply.
 function shownLine(session) {
@@ -63,7 +70,7 @@ export class Memory {
 
   // Draws what is to be shown, and gives why that can't be done, or an empty text.
   #draw() {
-    if (this.#session.command < 0) return this.#session.state.lines.length ? NOTHING : NO_LINES;
+    if (this.#session.command < 0) return whyNoStep(this.#session.state);
     try {
       return this.#drawView(this.#view);
     } catch (fault) {

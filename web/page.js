@@ -151,7 +151,8 @@ class Page {
   #say() {
     const { command, replies, state } = this.#session;
     if (command < 0) {
-      parts.said.textContent = state.lines.length ? "No line has run." : "";
+      const what = state.position ? "No command has run." : "No line has run.";
+      parts.said.textContent = state.lines.length ? what : "";
       return;
     }
     const reply = replies[command].replaceAll(/\n */g, ", ").slice(0, MOST_SAID);

@@ -36,6 +36,9 @@ DRAG = """((kind, isFile, isInside) => {
   const isLeft = dispatchEvent(new DragEvent(kind, { dataTransfer: data, cancelable: true, relatedTarget: related }));
   return [!isLeft, getComputedStyle(document.body, '::after').content !== 'none'];
 })"""
+# Notes the names of files that are read.
+NOTES_READING = """globalThis.read = []; const bytes = Blob.prototype.arrayBuffer;
+Blob.prototype.arrayBuffer = function () { globalThis.read.push(this.name); return bytes.call(this); };"""
 # Notes what would be opened for files to be chosen in.
 NOTES_CHOOSING = """globalThis.chosen = [];
 for (const field of document.querySelectorAll('[type=file]')) field.click = () => globalThis.chosen.push(field.id);"""
@@ -165,6 +168,8 @@ def check_files_that_go(bench):
         press(page, 1, "Check")
         told = "[...document.querySelectorAll('#files output')].map((it) => it.textContent)"
         holds(page.value(told)[0].startswith("as a heap: bad"), "nothing is told of a file that is checked")
+        page.enter("areas")
+        holds(page.value(told)[0].startswith("as a heap: bad"), "what is told of a file goes with the next command")
         found = []
         for number in (1, 2, 1):
             press(page, number, "Take")
@@ -205,6 +210,7 @@ def check_long_files(bench):
         same(page.text("nothing"), "The script is too long for this page.", "what stands in place of a picture")
         page.click("fresh")
         page.enter("areas")
+        same([page.text("notice"), page.seen("nothing")], ["", []], "what is left of that when another script runs")
         page.value(DROP_LONG % (MOST_BYTES + 1, []))
         page.tab.wait(lambda: page.text("notice"), "nothing is told of a long script")
         same([page.text("notice"), len(page.rows())], [TOO_LONG_SCRIPT, 1], "what is told")
@@ -222,6 +228,16 @@ def check_long_script_with_files(bench):
         wait_for_files(page, 32)
         page.tab.wait(lambda: page.text("notice"), "nothing is told of a long script and a file too many")
         same(page.text("notice"), f"{TOO_LONG_SCRIPT} There are 32 files already.", "what is told of both")
+
+
+def check_unread(bench):
+    """What is too long isn't read: it may have more bytes than a browser can hold."""
+    with on_disc(big__bin=bytes(1048577), a__bin=b"1") as paths, bench.page(before=NOTES_READING) as page:
+        page.tab.choose_files("#add-files", paths)
+        wait_for_files(page, 1)
+        page.value(DROP_LONG % (MOST_BYTES + 1, ["b.bin"]))
+        wait_for_files(page, 2)
+        same(page.value("read"), ["a.bin", "b.bin"], "what is read")
 
 
 def check_dragging(bench):

@@ -71,6 +71,21 @@ def check_buttons(bench):
         same(page.disabled(), list(BUTTONS), "the buttons that do nothing when all is taken back")
 
 
+def check_remarks_alone(bench):
+    """Where remarks and empty lines alone have run, the page says that no command has."""
+    no_command = "No command has run yet: the lines that have run are remarks, or empty."
+    with bench.kept_page() as page:
+        page.enter("# a")
+        same([page.text("progress"), page.text("nothing"), page.text("said")],
+             ["1 of 1 line has run", no_command, "No command has run."], "what is told of a remark")
+        page.drop_bytes("empty.desk", b"\n")
+        same([page.text("progress"), page.text("said")], ["0 of 1 line has run", "No line has run."],
+             "what is told of an empty line before it runs")
+        page.click("step")
+        same([page.text("progress"), page.text("nothing"), page.text("said"), page.saved("empty.desk")],
+             ["1 of 1 line has run", no_command, "No command has run.", b"\n"], "what is told of an empty line")
+
+
 def check_counts(bench):
     """One line, one reply and one character are told as one; replies that aren't shown aren't counted."""
     with bench.kept_page() as page:

@@ -188,6 +188,19 @@ def check_strange_bytes(bench):
              "what is saved after one more line")
 
 
+def check_strange_bytes_in_line(bench):
+    """Bytes that are no UTF-8 stay in a line into which something is typed, and so does a zero."""
+    script = b"# caf\xe9 \xff\x80\n# a\0b \xe2\x82\xac\xe2\x82\n"
+    with bench.kept_page() as page:
+        page.drop_bytes("strange.desk", script)
+        for number in (1, 2):
+            page.focus(f"#lines > li:nth-child({number}) textarea")
+            page.value("document.activeElement.setSelectionRange(2, 2)")
+            page.tab.type("x")
+            page.tab.key("Enter")
+        same(page.saved("strange.desk"), script.replace(b"# ", b"# x"), "what is saved")
+
+
 def check_tags(bench):
     """Tags in remarks and commands stay text, on the page and in the picture."""
     with bench.kept_page() as page:

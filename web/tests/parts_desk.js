@@ -18,7 +18,7 @@ const OWN_END = 5003;
 const BYTES_OF_ONE = { numbers: 2 };
 // What a call is given. None of these have the same length.
 const GIVEN = {
-  pages: 9, marked: 1, kind: 1, script: Uint8Array.of(1, 2, 3), name: Uint8Array.of(4, 5), files: Uint8Array.of(6),
+  pages: 9, marked: 1, kind: 1, script: Uint8Array.of(1, 2, 3), name: Uint8Array.of(4, 5), files: Uint8Array.of(),
   image: Uint8Array.of(7, 8, 9, 10),
 };
 
