@@ -200,6 +200,15 @@ def check_script_with_files(bench):
              "what a new script has")
 
 
+def check_two_scripts(bench):
+    """Of two scripts that are dropped at once the first is opened; the other one isn't lost, but a file."""
+    with on_disc(a__desk=b"areas\n", b__desk=b"task a 9\n") as paths, bench.kept_page() as page:
+        page.tab.drop(paths)
+        wait_for_files(page, 1)
+        same([page.field("name"), [row["line"] for row in page.rows()], page.value(FILES)],
+             ["a.desk", ["areas"], [["b", "9 bytes"]]], "what two scripts are")
+
+
 def check_long_files(bench):
     """A script that is too long is told, whether it can be opened or not; then what was there stays."""
     with bench.kept_page() as page:
