@@ -138,6 +138,10 @@ def check_long_reply(bench):
         same(page.text("shown"), f"3show a 0 → {reply}", "the step shown")
         page.enter(line)
         same(page.text("said").split(". ")[0], f"Line 4, {line[:300]}: ok", "what is said of a long line")
+        script = script.replace(b"2500", b"1996")
+        page.drop_bytes("edge.desk", script)
+        page.click("run")
+        same(page.rows()[2]["reply"], run_text(script).split("\n")[2], "what is shown of a reply of 4,000 characters")
 
 
 def check_notices(bench):
