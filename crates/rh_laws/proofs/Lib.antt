@@ -1,13 +1,14 @@
 pub mod Words
 pub mod Numbers
 pub mod Readers
-pub mod Printed
+pub mod Texts
+pub mod LineRows
 pub mod Lengths
 pub mod Spelled
 pub mod PrinterRows
 pub mod RefusalSteps
 pub mod RefusalRoomLaws
-pub mod RefusalTable
+pub mod RefusalCalls
 pub mod RefusalSends
 pub mod RefusalAreas
 pub mod RefusalLaw

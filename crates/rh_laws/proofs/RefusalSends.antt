@@ -37,7 +37,7 @@ use Rattle.rh_laws.proofs.RefusalSteps.{GoesBy, done, drop_row, found_as, found_
 use Rattle.rh_laws.proofs.RefusalSteps.{granted_then, in_steps, in_steps_both, one_row, passes, refused_if}
 use Rattle.rh_laws.proofs.RefusalSteps.{refused_then}
 use Rattle.rh_laws.proofs.RefusalRoomLaws.{le_same, need-short, size-same}
-use Rattle.rh_laws.proofs.RefusalTable.{idle-then}
+use Rattle.rh_laws.proofs.RefusalCalls.{idle-then}
 
 -- ---- who is live
 

@@ -13,7 +13,7 @@ use Rattle.rh_defs.specs.Desk.{Desk}
 use Rattle.rh_defs.specs.Commands.{Answer}
 use Rattle.rh_defs.specs.Listing.{Listed, Bytes, shown_at}
 use Rattle.rh_defs.specs.Questions.{Told, asked}
-use Rattle.rh_defs.specs.Step.{change, step}
+use Rattle.rh_defs.specs.Step.{step}
 use Rattle.rh_defs.specs.Runs.{start_with, after, replies}
 use Rattle.rh_defs.proofs.Follows.{Follows, follows-as, or_else-follows}
 use Rattle.rh_laws.specs.Renaming.{renamed, renamed_files, renamed_command, renamed_listed, renamed_told, renamed_piece, StepsRenamed, ShowsRenamed}
@@ -21,36 +21,9 @@ use Rattle.rh_laws.specs.Renaming.{PiecesRenamed, AlwaysRenamed, has_byte, puts_
 use Rattle.rh_laws.proofs.RenamedParts.{By, follows-by}
 use Rattle.rh_laws.proofs.RenamedSlots.{slot_block-renamed}
 use Rattle.rh_laws.proofs.RenamedDesks.{renamed_with, named-renamed, asked-renamed}
-use Rattle.rh_laws.proofs.RenamedSteps as steps
-use Rattle.rh_laws.proofs.RenamedPolls.{poll-renamed}
+use Rattle.rh_laws.proofs.RenamedSteps.{change-renamed}
 
 -- ---- one command
-
-change-renamed : (f : ℕ → ℕ) → f 0 ≡ 0 → (d : Desk) (c : Command) → Follows (By (renamed_with f)) (change d c) (change (renamed f d) (renamed_command f c))
-change-renamed f e d (command.Task name buffer manner) = steps.start_task-renamed f e d name buffer manner
-change-renamed f e d (command.Kill name) = steps.kill-renamed f e d name
-change-renamed f e d (command.Alloc name k n) = steps.alloc-renamed f e d name k n
-change-renamed f e d (command.Load name k file) = steps.load-renamed f e d name k file
-change-renamed f e d (command.Put name k offset bytes) = steps.put-renamed f e d name k offset bytes
-change-renamed f e d (command.Free name k) = steps.free-block-renamed f e d name k
-change-renamed f e d (command.Extend name k n) = steps.extend-renamed f e d name k n
-change-renamed f e d (command.Mid name k offset by) = steps.mid-renamed f e d name k offset by
-change-renamed f e d (command.Claim name n) = steps.claim-renamed f e d name n
-change-renamed f e d (command.Release name address) = steps.release-renamed f e d name address
-change-renamed f e d (command.Resize name address delta) = steps.resize-renamed f e d name address delta
-change-renamed f e d (command.Budge name on) = steps.budge-renamed f e d name on
-change-renamed f e d (command.Save name k to leaf) = steps.save-renamed f e d name k to leaf
-change-renamed f e d (command.Poll name) = poll-renamed f e d name
-change-renamed f e d (command.CancelIn name id) = steps.cancel_in-renamed f e d name id
-change-renamed f e d (command.CancelOut name id) = steps.cancel_out-renamed f e d name id
-change-renamed f e d (command.Repeat name) = steps.repeat-renamed f e d name
-change-renamed f e d (command.Area k delta) = steps.change_area-renamed f e d k delta
-change-renamed f e d (command.Make most) = steps.make-renamed f e d most
-change-renamed f e d (command.Remove k) = steps.remove-renamed f e d k
-change-renamed f e d (command.RmaClaim n) = steps.rma_claim-renamed f e d n
-change-renamed f e d (command.RmaFree address) = steps.rma_free-renamed f e d address
-change-renamed f e d (command.RmaResize address delta) = steps.rma_resize-renamed f e d address delta
-change-renamed f e d (command.Ask q) = follows-by _ _ (asked-renamed f d q) λ told. Follows.both refl
 
 pub steps-renamed : StepsRenamed
 steps-renamed f e d c = or_else-follows (By (renamed_with f)) _ _ (change-renamed f e d c) (λ refusal. refl)

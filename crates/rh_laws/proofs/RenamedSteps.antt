@@ -1,34 +1,46 @@
--- Each command but a poll does to a desk with its bytes renamed the same.
+-- Each command does to a desk with its bytes renamed the same.
 use Rattle.std.proofs.Common.{◌≡◌, ℕ, ◌+◌, ◌-◌, Bool, cond, List, [], ◌∷◌, length, map, refl, sym, ap, subst, ◌∙◌}
-use Rattle.std.proofs.lemmas.List.{length-map, map-append}
 use Rattle.std.specs.Prelude.{Option, Some, None, ℤ, ◌==◌, nat_le, nat_lt, not, filter, find, slice_index}
 use Rattle.std.specs.Option.{option_map}
 use Rattle.std.specs.Str.{bytes_eq}
+use Rattle.std.proofs.lemmas.List.{length-map, map-append}
 use Rattle.rh_defs.specs.declared.refusal.Refusal.TheVariants.{NoTask, NoFile, NameInUse, TooManyTasks}
+use Rattle.rh_defs.specs.declared.command.Command.{Command}
+use Rattle.rh_defs.specs.declared.command.Command.TheVariants as command
 use Rattle.rh_defs.specs.declared.command.Manner.{Manner}
 use Rattle.rh_defs.specs.declared.reply.Reply.{Reply}
 use Rattle.rh_defs.specs.declared.reply.Reply.TheVariants as reply
 use Rattle.rh_defs.specs.Chain.{Granted, refuse_if}
-use Rattle.rh_defs.specs.Slot.{Slot, slot_pages, slot_begin, slot_alloc, slot_extend, slot_mid, slot_claim, slot_resize, new_slot}
+use Rattle.rh_defs.specs.Slot.{Slot, slot_pages, slot_begin, slot_alloc, slot_extend, slot_mid, slot_claim}
+use Rattle.rh_defs.specs.Slot.{slot_resize, new_slot}
 use Rattle.rh_defs.specs.Module.{module_claim, module_resize, module_change}
 use Rattle.rh_defs.specs.Letters.{save_letter}
 use Rattle.rh_defs.specs.Post.{post_join, post_death}
-use Rattle.rh_defs.specs.Desk.{Desk, Task, Scrap, most_tasks, free_pages, next_ref, has_name, with_slot, with_delivered, send_letter}
-use Rattle.rh_defs.specs.Commands.{Answer, start_task, kill, alloc, load, put, free, extend, mid, claim, release, resize, budge, scrap_area}
-use Rattle.rh_defs.specs.Commands.{module_area, module_start, file_length, least_length, pages_after, change_module, change_pages, change_made}
-use Rattle.rh_defs.specs.Commands.{change_area, make, remove, own_block, rma_claim, rma_free, rma_resize}
-use Rattle.rh_defs.specs.Step.{save, repeat, cancel_in, cancel_out}
+use Rattle.rh_defs.specs.Desk.{Desk, Task, Scrap, most_tasks, free_pages, next_ref, has_name, with_slot}
+use Rattle.rh_defs.specs.Desk.{with_delivered, send_letter}
+use Rattle.rh_defs.specs.Commands.{Answer, start_task, kill, alloc, load, put, free, extend, mid, claim, release}
+use Rattle.rh_defs.specs.Commands.{resize, budge, scrap_area, module_area, module_start, file_length, least_length}
+use Rattle.rh_defs.specs.Commands.{pages_after, change_module, change_pages, change_made, change_area, make, remove}
+use Rattle.rh_defs.specs.Commands.{own_block, rma_claim, rma_free, rma_resize}
+use Rattle.rh_defs.specs.Step.{save, repeat, cancel_in, cancel_out, change}
 use Rattle.rh_defs.proofs.Follows.{Follows, follows-same, follows-then, follows-equal, follows-as, chosen-both}
-use Rattle.rh_laws.specs.Renaming.{renamed_slot, renamed_task, renamed_scrap, renamed}
+use Rattle.rh_laws.specs.Renaming.{renamed_slot, renamed_task, renamed_scrap, renamed, renamed_command}
 use Rattle.rh_laws.proofs.RenamedParts.{By, follows-by, follows-test, found-by, find-map, filter-map}
-use Rattle.rh_laws.proofs.RenamedSlots.{renamed_given, slot_put-renamed, slot_free-renamed, slot_release-renamed, slot_alloc-renamed}
-use Rattle.rh_laws.proofs.RenamedSlots.{slot_extend-renamed, slot_mid-renamed, slot_claim-renamed, slot_resize-renamed}
-use Rattle.rh_laws.proofs.RenamedDesks.{renamed_with, any-map, free-renamed, where-free, named-renamed, idle_block-renamed, idle_buffer-renamed}
-use Rattle.rh_laws.proofs.RenamedDesks.{with_task-renamed, with_slot-renamed, delivered-renamed, send_letter-renamed}
+use Rattle.rh_laws.proofs.RenamedSlots.{renamed_given, slot_put-renamed, slot_free-renamed, slot_release-renamed}
+use Rattle.rh_laws.proofs.RenamedSlots.{slot_alloc-renamed, slot_extend-renamed, slot_mid-renamed, slot_claim-renamed}
+use Rattle.rh_laws.proofs.RenamedSlots.{slot_resize-renamed}
+use Rattle.rh_laws.proofs.RenamedDesks.{renamed_with, any-map, free-renamed, where-free, named-renamed, asked-renamed}
+use Rattle.rh_laws.proofs.RenamedDesks.{idle_block-renamed, idle_buffer-renamed, with_task-renamed, with_slot-renamed}
+use Rattle.rh_laws.proofs.RenamedDesks.{delivered-renamed, send_letter-renamed}
+use Rattle.rh_laws.proofs.RenamedPolls.{poll-renamed}
 
 -- a file with its bytes renamed
 abbrev renamed_file : (ℕ → ℕ) → List ℕ × List ℕ → List ℕ × List ℕ
 renamed_file f file = (file.0, map f file.1)
+
+-- whether a file has the name
+abbrev is_file : List ℕ → List ℕ × List ℕ → Bool
+is_file name file = bytes_eq file.0 name
 
 module _ (f : ℕ → ℕ) (zero-is : f 0 ≡ 0) where
   abbrev After : Granted Answer → Granted Answer → Type 0
@@ -40,7 +52,7 @@ module _ (f : ℕ → ℕ) (zero-is : f 0 ≡ 0) where
 
   -- ---- tasks
 
-  pub start_task-renamed : (d : Desk) (name : List ℕ) (buffer : ℕ) (manner : Manner) → After (start_task d name buffer manner) (start_task
+  start_task-renamed : (d : Desk) (name : List ℕ) (buffer : ℕ) (manner : Manner) → After (start_task d name buffer manner) (start_task
       (renamed f d) name buffer manner)
   unfolding start_task slot_begin
   start_task-renamed d name buffer manner =
@@ -58,7 +70,7 @@ module _ (f : ℕ → ℕ) (zero-is : f 0 ≡ 0) where
       with_tasks : List Task → Desk
       with_tasks ts = record (renamed f d) { tasks = ts; post = post_join d.next_handle d.post; next_handle = d.next_handle + 1 }
 
-  pub kill-renamed : (d : Desk) (name : List ℕ) → After (kill d name) (kill (renamed f d) name)
+  kill-renamed : (d : Desk) (name : List ℕ) → After (kill d name) (kill (renamed f d) name)
   unfolding kill
   kill-renamed d name =
       follows-by _ _ (named-renamed f name d) λ t.
@@ -72,119 +84,9 @@ module _ (f : ℕ → ℕ) (zero-is : f 0 ≡ 0) where
       others : Task → Task → Bool
       others t other = not (other.handle == t.handle)
 
-  -- ---- flex blocks
-
-  pub alloc-renamed : (d : Desk) (name : List ℕ) (k n : ℕ) → After (alloc d name k n) (alloc (renamed f d) name k n)
-  unfolding alloc
-  alloc-renamed d name k n =
-      follows-by _ _ (named-renamed f name d) λ t.
-      follows-by _ _ (where-free f d (λ m. slot_alloc m k n (renamed_slot f t.slot)) (slot_alloc-renamed f zero-is (free_pages d) k n t.slot)) λ p.
-      Follows.both (slot-back t.handle p.0 d (reply.Block p.1))
-
-  pub load-renamed : (d : Desk) (name : List ℕ) (k : ℕ) (file : List ℕ) → After (load d name k file) (load (renamed f d) name k file)
-  unfolding load
-  load-renamed d name k file =
-      follows-by _ _ (named-renamed f name d) λ t.
-      follows-by _ _ (found-by (renamed_file f) (find is_it d.files) _ NoFile (find-map is_it (renamed_file f) (λ entry. refl) d.files)) λ entry.
-      follows-by _ _ (subst (λ n. Follows (By (renamed_given f)) (slot_alloc (free_pages d) k (length entry.1) t.slot) (slot_alloc (free_pages
-      (renamed f d)) k n (renamed_slot f t.slot))) (sym (length-map entry.1 f))
-      (where-free f d (λ m. slot_alloc m k (length entry.1) (renamed_slot f t.slot)) (slot_alloc-renamed f zero-is (free_pages d) k
-      (length entry.1) t.slot))) λ p.
-      follows-by _ _ (slot_put-renamed f k 0 entry.1 p.0) λ s.
-      Follows.both (slot-back t.handle s d (reply.Block p.1))
-    where
-      is_it : List ℕ × List ℕ → Bool
-      is_it entry = bytes_eq entry.0 file
-
-  pub put-renamed : (d : Desk) (name : List ℕ) (k offset : ℕ) (bytes : List ℕ) → After (put d name k offset bytes) (put (renamed f d) name k offset
-      (map f bytes))
-  unfolding put
-  put-renamed d name k offset bytes =
-      follows-by _ _ (named-renamed f name d) λ t. follows-by _ _ (idle_block-renamed f k t) λ b.
-      follows-by _ _ (slot_put-renamed f k offset bytes t.slot) λ s. Follows.both (slot-back t.handle s d reply.Done)
-
-  pub free-block-renamed : (d : Desk) (name : List ℕ) (k : ℕ) → After (free d name k) (free (renamed f d) name k)
-  unfolding free
-  free-block-renamed d name k =
-      follows-by _ _ (named-renamed f name d) λ t. follows-by _ _ (idle_block-renamed f k t) λ b.
-      follows-by _ _ (slot_free-renamed f k t.slot) λ s. Follows.both (slot-back t.handle s d reply.Done)
-
-  pub extend-renamed : (d : Desk) (name : List ℕ) (k n : ℕ) → After (extend d name k n) (extend (renamed f d) name k n)
-  unfolding extend
-  extend-renamed d name k n =
-      follows-by _ _ (named-renamed f name d) λ t. follows-by _ _ (idle_block-renamed f k t) λ b.
-      follows-by _ _ (where-free f d (λ m. slot_extend m k n (renamed_slot f t.slot)) (slot_extend-renamed f zero-is (free_pages d) k n t.slot)) λ s.
-      Follows.both (slot-back t.handle s d reply.Done)
-
-  pub mid-renamed : (d : Desk) (name : List ℕ) (k offset : ℕ) (by : ℤ) → After (mid d name k offset by) (mid (renamed f d) name k offset by)
-  unfolding mid
-  mid-renamed d name k offset by =
-      follows-by _ _ (named-renamed f name d) λ t. follows-by _ _ (idle_block-renamed f k t) λ b.
-      follows-by _ _ (where-free f d (λ m. slot_mid m k offset by (renamed_slot f t.slot)) (slot_mid-renamed f zero-is (free_pages d) k offset by t.slot)) λ s.
-      Follows.both (slot-back t.handle s d reply.Done)
-
-  -- ---- the C heap
-
-  pub claim-renamed : (d : Desk) (name : List ℕ) (n : ℕ) → After (claim d name n) (claim (renamed f d) name n)
-  unfolding claim
-  claim-renamed d name n =
-      follows-by _ _ (named-renamed f name d) λ t.
-      follows-by _ _ (where-free f d (λ m. slot_claim m n (renamed_slot f t.slot)) (slot_claim-renamed f zero-is (free_pages d) n t.slot)) λ p.
-      Follows.both (slot-back t.handle p.0 d (reply.Block p.1))
-
-  pub release-renamed : (d : Desk) (name : List ℕ) (address : ℕ) → After (release d name address) (release (renamed f d) name address)
-  unfolding release
-  release-renamed d name address =
-      follows-by _ _ (named-renamed f name d) λ t. follows-by _ _ (idle_buffer-renamed f address t) λ b.
-      follows-by _ _ (slot_release-renamed f address t.slot) λ s. Follows.both (slot-back t.handle s d reply.Done)
-
-  pub resize-renamed : (d : Desk) (name : List ℕ) (address : ℕ) (delta : ℤ) → After (resize d name address delta) (resize (renamed f d) name address delta)
-  unfolding resize
-  resize-renamed d name address delta =
-      follows-by _ _ (named-renamed f name d) λ t. follows-by _ _ (idle_buffer-renamed f address t) λ b.
-      follows-by _ _ (where-free f d (λ m. slot_resize m address delta (renamed_slot f t.slot)) (slot_resize-renamed f zero-is
-      (free_pages d) address delta t.slot)) λ p.
-      Follows.both (slot-back t.handle p.0 d (reply.Block p.1))
-
-  pub budge-renamed : (d : Desk) (name : List ℕ) (on : Bool) → After (budge d name on) (budge (renamed f d) name on)
-  unfolding budge
-  budge-renamed d name on =
-      follows-by _ _ (named-renamed f name d) λ t.
-      Follows.both (slot-back t.handle (record t.slot { budging = on }) d (reply.WasBudging t.slot.budging))
-
-  -- ---- messages and records
-
-  pub save-renamed : (d : Desk) (name : List ℕ) (k : ℕ) (to leaf : List ℕ) → After (save d name k to leaf) (save (renamed f d) name k to leaf)
-  unfolding save
-  save-renamed d name k to leaf =
-      follows-by _ _ (named-renamed f name d) λ t. follows-by _ _ (idle_block-renamed f k t) λ b. follows-then _ _ _ (
-      follows-by _ _ (found-by (renamed_task f) (find (has_name to) d.tasks) _ NoTask (find-map (has_name to) (renamed_task f) (λ u. refl) d.tasks)) λ r.
-      follows-by _ _ (subst (λ n. Follows (By (renamed f)) (send_letter (save_letter t.handle r.handle (length b.here.bytes) leaf) d) (send_letter
-      (save_letter t.handle r.handle n leaf) (renamed f d))) (sym (length-map b.here.bytes f))
-      (send_letter-renamed f (save_letter t.handle r.handle (length b.here.bytes) leaf) d)) λ sent.
-      Follows.both (ap (λ (e : Desk). (e, reply.Sent (next_ref d))) (with_task-renamed f t.handle _ _ sent (λ u. refl))))
-
-  pub repeat-renamed : (d : Desk) (name : List ℕ) → After (repeat d name) (repeat (renamed f d) name)
-  unfolding repeat
-  repeat-renamed d name =
-      follows-by _ _ (named-renamed f name d) λ t. follows-same _ _ _ λ last.
-      follows-by _ _ (send_letter-renamed f (record last.0 { from = t.handle }) d) λ sent. Follows.both refl
-
-  pub cancel_in-renamed : (d : Desk) (name : List ℕ) (id : Option ℕ) → After (cancel_in d name id) (cancel_in (renamed f d) name id)
-  unfolding cancel_in
-  cancel_in-renamed d name id =
-      follows-by _ _ (named-renamed f name d) λ t. follows-same _ _ _ λ records.
-      Follows.both (ap (λ (e : Desk). (e, reply.Done)) (with_task-renamed f t.handle _ _ d (λ u. refl)))
-
-  pub cancel_out-renamed : (d : Desk) (name : List ℕ) (id : Option ℕ) → After (cancel_out d name id) (cancel_out (renamed f d) name id)
-  unfolding cancel_out
-  cancel_out-renamed d name id =
-      follows-by _ _ (named-renamed f name d) λ t. follows-same _ _ _ λ records.
-      Follows.both (ap (λ (e : Desk). (e, reply.Done)) (with_task-renamed f t.handle _ _ d (λ u. refl)))
-
   -- ---- areas
 
-  pub file_length-renamed : (o : Option Scrap) → file_length (option_map (renamed_scrap f) o) ≡ file_length o
+  file_length-renamed : (o : Option Scrap) → file_length (option_map (renamed_scrap f) o) ≡ file_length o
   file_length-renamed None = refl
   file_length-renamed (Some file) = length-map file.bytes f
 
@@ -206,31 +108,83 @@ module _ (f : ℕ → ℕ) (zero-is : f 0 ≡ 0) where
   change_made-renamed d k delta =
       follows-same _ _ _ λ m. follows-equal _ _ _ _ (ap (λ n. pages_after n 0 m.pages delta) (free-renamed f d)) λ n. follows-then _ _ _ (Follows.both refl)
 
-  pub change_area-renamed : (d : Desk) (k : ℕ) (delta : ℤ) → After (change_area d k delta) (change_area (renamed f d) k delta)
+  change_area-renamed : (d : Desk) (k : ℕ) (delta : ℤ) → After (change_area d k delta) (change_area (renamed f d) k delta)
   change_area-renamed d k delta =
       chosen-both (Follows (By (renamed_with f))) (k == module_area) _ _ _ _ (change_module-renamed d delta)
       (chosen-both (Follows (By (renamed_with f))) (nat_lt k (length d.areas)) _ _ _ _ (change_pages-renamed d k delta) (change_made-renamed d k delta))
 
-  pub make-renamed : (d : Desk) (most : ℕ) → After (make d most) (make (renamed f d) most)
-  unfolding make
-  make-renamed d most = follows-then _ _ _ (follows-then _ _ _ (Follows.both refl))
+  -- ---- one command
 
-  pub remove-renamed : (d : Desk) (k : ℕ) → After (remove d k) (remove (renamed f d) k)
-  unfolding remove
-  remove-renamed d k = follows-same _ _ _ λ m. Follows.both refl
-
-  -- ---- the module area's blocks
-
-  pub rma_claim-renamed : (d : Desk) (n : ℕ) → After (rma_claim d n) (rma_claim (renamed f d) n)
-  unfolding rma_claim
-  rma_claim-renamed d n = follows-equal _ _ _ _ (ap (λ m. module_claim m n d.post.heap) (free-renamed f d)) λ c. Follows.both refl
-
-  pub rma_free-renamed : (d : Desk) (address : ℕ) → After (rma_free d address) (rma_free (renamed f d) address)
-  unfolding rma_free own_block
-  rma_free-renamed d address = follows-same _ _ _ λ b. follows-same _ _ _ λ h. Follows.both refl
-
-  pub rma_resize-renamed : (d : Desk) (address : ℕ) (delta : ℤ) → After (rma_resize d address delta) (rma_resize (renamed f d) address delta)
-  unfolding rma_resize own_block
-  rma_resize-renamed d address delta =
+  pub change-renamed : (d : Desk) (c : Command) → After (change d c) (change (renamed f d) (renamed_command f c))
+  unfolding alloc load put free extend mid claim release resize budge save repeat cancel_in cancel_out make remove rma_claim rma_free own_block rma_resize
+  change-renamed d (command.Task name buffer manner) = start_task-renamed d name buffer manner
+  change-renamed d (command.Kill name) = kill-renamed d name
+  change-renamed d (command.Alloc name k n) =
+      follows-by _ _ (named-renamed f name d) λ t.
+      follows-by _ _ (where-free f d (λ m. slot_alloc m k n (renamed_slot f t.slot)) (slot_alloc-renamed f zero-is (free_pages d) k n t.slot)) λ p.
+      Follows.both (slot-back t.handle p.0 d (reply.Block p.1))
+  change-renamed d (command.Load name k file) =
+      follows-by _ _ (named-renamed f name d) λ t.
+      follows-by _ _ (found-by (renamed_file f) (find (is_file file) d.files) _ NoFile
+      (find-map (is_file file) (renamed_file f) (λ entry. refl) d.files)) λ entry.
+      follows-by _ _ (subst (λ n. Follows (By (renamed_given f)) (slot_alloc (free_pages d) k (length entry.1) t.slot) (slot_alloc (free_pages
+      (renamed f d)) k n (renamed_slot f t.slot))) (sym (length-map entry.1 f))
+      (where-free f d (λ m. slot_alloc m k (length entry.1) (renamed_slot f t.slot)) (slot_alloc-renamed f zero-is (free_pages d) k
+      (length entry.1) t.slot))) λ p.
+      follows-by _ _ (slot_put-renamed f k 0 entry.1 p.0) λ s.
+      Follows.both (slot-back t.handle s d (reply.Block p.1))
+  change-renamed d (command.Put name k offset bytes) =
+      follows-by _ _ (named-renamed f name d) λ t. follows-by _ _ (idle_block-renamed f k t) λ b.
+      follows-by _ _ (slot_put-renamed f k offset bytes t.slot) λ s. Follows.both (slot-back t.handle s d reply.Done)
+  change-renamed d (command.Free name k) =
+      follows-by _ _ (named-renamed f name d) λ t. follows-by _ _ (idle_block-renamed f k t) λ b.
+      follows-by _ _ (slot_free-renamed f k t.slot) λ s. Follows.both (slot-back t.handle s d reply.Done)
+  change-renamed d (command.Extend name k n) =
+      follows-by _ _ (named-renamed f name d) λ t. follows-by _ _ (idle_block-renamed f k t) λ b.
+      follows-by _ _ (where-free f d (λ m. slot_extend m k n (renamed_slot f t.slot)) (slot_extend-renamed f zero-is (free_pages d) k n t.slot)) λ s.
+      Follows.both (slot-back t.handle s d reply.Done)
+  change-renamed d (command.Mid name k offset by) =
+      follows-by _ _ (named-renamed f name d) λ t. follows-by _ _ (idle_block-renamed f k t) λ b.
+      follows-by _ _ (where-free f d (λ m. slot_mid m k offset by (renamed_slot f t.slot)) (slot_mid-renamed f zero-is (free_pages d) k offset by t.slot)) λ s.
+      Follows.both (slot-back t.handle s d reply.Done)
+  change-renamed d (command.Claim name n) =
+      follows-by _ _ (named-renamed f name d) λ t.
+      follows-by _ _ (where-free f d (λ m. slot_claim m n (renamed_slot f t.slot)) (slot_claim-renamed f zero-is (free_pages d) n t.slot)) λ p.
+      Follows.both (slot-back t.handle p.0 d (reply.Block p.1))
+  change-renamed d (command.Release name address) =
+      follows-by _ _ (named-renamed f name d) λ t. follows-by _ _ (idle_buffer-renamed f address t) λ b.
+      follows-by _ _ (slot_release-renamed f address t.slot) λ s. Follows.both (slot-back t.handle s d reply.Done)
+  change-renamed d (command.Resize name address delta) =
+      follows-by _ _ (named-renamed f name d) λ t. follows-by _ _ (idle_buffer-renamed f address t) λ b.
+      follows-by _ _ (where-free f d (λ m. slot_resize m address delta (renamed_slot f t.slot)) (slot_resize-renamed f zero-is
+      (free_pages d) address delta t.slot)) λ p.
+      Follows.both (slot-back t.handle p.0 d (reply.Block p.1))
+  change-renamed d (command.Budge name on) =
+      follows-by _ _ (named-renamed f name d) λ t.
+      Follows.both (slot-back t.handle (record t.slot { budging = on }) d (reply.WasBudging t.slot.budging))
+  change-renamed d (command.Save name k to leaf) =
+      follows-by _ _ (named-renamed f name d) λ t. follows-by _ _ (idle_block-renamed f k t) λ b. follows-then _ _ _ (
+      follows-by _ _ (found-by (renamed_task f) (find (has_name to) d.tasks) _ NoTask (find-map (has_name to) (renamed_task f) (λ u. refl) d.tasks)) λ r.
+      follows-by _ _ (subst (λ n. Follows (By (renamed f)) (send_letter (save_letter t.handle r.handle (length b.here.bytes) leaf) d) (send_letter
+      (save_letter t.handle r.handle n leaf) (renamed f d))) (sym (length-map b.here.bytes f))
+      (send_letter-renamed f (save_letter t.handle r.handle (length b.here.bytes) leaf) d)) λ sent.
+      Follows.both (ap (λ (e : Desk). (e, reply.Sent (next_ref d))) (with_task-renamed f t.handle _ _ sent (λ u. refl))))
+  change-renamed d (command.Poll name) = poll-renamed f zero-is d name
+  change-renamed d (command.CancelIn name id) =
+      follows-by _ _ (named-renamed f name d) λ t. follows-same _ _ _ λ records.
+      Follows.both (ap (λ (e : Desk). (e, reply.Done)) (with_task-renamed f t.handle _ _ d (λ u. refl)))
+  change-renamed d (command.CancelOut name id) =
+      follows-by _ _ (named-renamed f name d) λ t. follows-same _ _ _ λ records.
+      Follows.both (ap (λ (e : Desk). (e, reply.Done)) (with_task-renamed f t.handle _ _ d (λ u. refl)))
+  change-renamed d (command.Repeat name) =
+      follows-by _ _ (named-renamed f name d) λ t. follows-same _ _ _ λ last.
+      follows-by _ _ (send_letter-renamed f (record last.0 { from = t.handle }) d) λ sent. Follows.both refl
+  change-renamed d (command.Area k delta) = change_area-renamed d k delta
+  change-renamed d (command.Make most) = follows-then _ _ _ (follows-then _ _ _ (Follows.both refl))
+  change-renamed d (command.Remove k) = follows-same _ _ _ λ m. Follows.both refl
+  change-renamed d (command.RmaClaim n) = follows-equal _ _ _ _ (ap (λ m. module_claim m n d.post.heap) (free-renamed f d)) λ c. Follows.both refl
+  change-renamed d (command.RmaFree address) = follows-same _ _ _ λ b. follows-same _ _ _ λ h. Follows.both refl
+  change-renamed d (command.RmaResize address delta) =
       follows-same _ _ _ λ b. follows-equal _ _ _ _ (ap (λ m. module_resize m (address - module_start) delta d.post.heap)
       (free-renamed f d)) λ c. Follows.both refl
+  change-renamed d (command.Ask q) = follows-by _ _ (asked-renamed f d q) λ told. Follows.both refl

@@ -1,38 +1,38 @@
 -- What a line means can be spelled, and its printed line is not the longer one.
 use Rattle.std.proofs.Common.{◌≡◌, ℕ, zero, suc, ◌+◌, ◌-◌, ◌<◌, ◌≤◌, Bool, true, false, ◌&&◌, not, cond, List, []}
 use Rattle.std.proofs.Common.{◌∷◌, length, take, refl, sym, subst, ◌∙◌, ap, arith, length-append, inl, inr, ◌⊎◌}
-use Rattle.std.specs.Prelude.{nat_le, nat_lt, ◌==◌, ℤ, pos, Option, Some, None, Result, Ok, Err, if◌then◌else◌, codes}
-use Rattle.std.specs.Prelude.{unwrap_or, slice_get, slice_index, drop}
+use Rattle.std.specs.Prelude.{nat_le, nat_lt, ◌==◌, ℤ, pos, Some, None, Result, Ok, Err, if◌then◌else◌, unwrap_or}
+use Rattle.std.specs.Prelude.{slice_get, slice_index, drop}
 use Rattle.std.specs.List.{list_all, slice_split, onto_first, filter, join_with_byte}
 use Rattle.std.specs.Fmt.{decimal, signed_decimal}
 use Rattle.std.specs.Str.{bytes_eq}
 use Rattle.std.specs.Char.{is_ascii_digit, is_ascii_alphabetic, is_ascii_alphanumeric}
 use Rattle.std.proofs.lemmas.Bool.Decides.{nat_tests}
 use Rattle.std.proofs.lemmas.Slice.Eq.{bytes_eq-Decides}
-use Rattle.hex.specs.Hex.{encode_lower, lower_digits, decode_of, is_hex_digit}
 use Rattle.hex.specs.declared.error.FromHexError.{FromHexError}
+use Rattle.hex.specs.Hex.{encode_lower, lower_digits, decode_of, is_hex_digit}
 use Rattle.hex.proofs.HexLemmas.{decode_of-ok, length-encode_with}
-use Rattle.rh_defs.specs.Bytes.{space}
 use Rattle.rh_defs.specs.declared.fault.LineFault.{LineFault}
 use Rattle.rh_defs.specs.declared.fault.LineFault.TheVariants.{TooLong, Unknown, Count, Word}
 use Rattle.rh_defs.specs.declared.command.Command.{Command}
-use Rattle.rh_defs.specs.declared.command.Command.TheVariants as command
+use Rattle.rh_defs.specs.Bytes.{space}
 use Rattle.rh_defs.specs.Grammar.{Form, Name, Leaf, Number, Delta, Address, Bytes, Choice, Maybe, Value, Maker, Row}
-use Rattle.rh_defs.specs.Grammar.{cancel_of, manner_of, rows}
-use Rattle.rh_defs.specs.Forms.{is_name, is_leaf, is_graphic, is_decimal, number_of, greatest, last_ref}
+use Rattle.rh_defs.specs.Grammar.{rows}
+use Rattle.rh_defs.specs.Forms.{is_name, is_leaf, is_graphic, is_decimal, number_of, greatest}
 use Rattle.rh_defs.specs.Line.{Meaning, ◌>>=◌, words_of, longest_line, word, name_at, number_at, delta_at, signed}
 use Rattle.rh_defs.specs.Line.{is_negative, unsigned, is_address, hex_number, address_at, leaf_at, choice_at}
 use Rattle.rh_defs.specs.Line.{bytes_at, value_at, command_from, is_count, follow, row_of, row_means, command_by}
 use Rattle.rh_defs.specs.Line.{command_of, is_skipped, line_means}
 use Rattle.rh_defs.specs.Text.{Words, address}
-use Rattle.rh_safety.proofs.Basics.{and_left, and_right}
 use Rattle.rh_defs.specs.Range.{in_range, all_in_range}
 use Rattle.rh_defs.specs.Script.{commands_in}
+use Rattle.rh_safety.proofs.Basics.{and_left, and_right}
 use Rattle.rh_safety.proofs.Lines.{commands_in_range}
 use Rattle.rh_laws.specs.Printer.{is_word, command_words, has_sizes, line_of, fits_a_line, AreSpelled}
+use Rattle.rh_laws.proofs.Texts.{text}
 use Rattle.rh_laws.proofs.Lengths.{decimal_short, hex_short, hex_word}
 
-abbrev has_byte : List ℕ → Bool
+abbrev pub has_byte : List ℕ → Bool
 has_byte w = nat_le 1 (length w)
 
 -- ---- the bytes that words take in a line, each with what parts it from the next
@@ -97,20 +97,8 @@ cost_next ws n some =
 
 -- ---- what a form prints costs no more than the word that it read
 
--- what is printed for a word of a form
-abbrev text : (form : Form) → Value form → Words
-text Name name = name ∷ []
-text Leaf leaf = leaf ∷ []
-text (Number low high) n = decimal n ∷ []
-text Delta by = signed_decimal by ∷ []
-text Address place = address place ∷ []
-text Bytes bytes = encode_lower bytes ∷ []
-text (Choice first second) is_first = (if is_first then first else second) ∷ []
-text (Maybe form) None = []
-text (Maybe form) (Some value) = text form value
-
 -- whether a number is within its form's, an address a word, and bytes bytes
-abbrev is_sized : (form : Form) → Value form → Bool
+abbrev pub is_sized : (form : Form) → Value form → Bool
 is_sized (Number low high) n = nat_le n high
 is_sized Address place = is_word place
 is_sized Bytes bytes = list_all (λ b. nat_lt b 256) bytes
@@ -118,7 +106,7 @@ is_sized (Maybe form) (Some value) = is_sized form value
 is_sized form value = true
 
 -- whether the words of a choice have bytes
-abbrev is_proper : Form → Bool
+abbrev pub is_proper : Form → Bool
 is_proper (Choice first second) = nat_le 1 (length first) && nat_le 1 (length second)
 is_proper (Maybe form) = is_proper form
 is_proper form = true
@@ -361,7 +349,7 @@ value_printed (Maybe form) words n (Some value) proper e =
 -- ---- a row's command
 
 -- what a command's words cost, made of values behind words of that cost
-abbrev Writes : (forms : List Form) → Maker forms → ℕ → Type 0
+abbrev pub Writes : (forms : List Form) → Maker forms → ℕ → Type 0
 Writes [] command front = (has_sizes command ≡ true) × (cost (command_words command) ≤ front)
 Writes (form ∷ forms) make front =
     (value : Value form) → is_sized form value ≡ true → Writes forms (make value) (front + cost (text form value))
@@ -392,12 +380,12 @@ from_writes (form ∷ forms) make words n front c proper writes so_far e =
     (and_right (is_proper form) (list_all is_proper forms) proper) (writes told.0 printed.sized) paid told.2
 
 -- the same of a row, whose own words have bytes
-record RowWrites (row : Row) : Type 0 where
-  proper : list_all is_proper row.forms ≡ true
-  named : list_all has_byte (row.first ∷ row.further) ≡ true
-  writes : Writes row.forms row.make (cost (row.first ∷ row.further))
+pub record RowWrites (row : Row) : Type 0 where
+  pub proper : list_all is_proper row.forms ≡ true
+  pub named : list_all has_byte (row.first ∷ row.further) ≡ true
+  pub writes : Writes row.forms row.make (cost (row.first ∷ row.further))
 
-abbrev AllWrite : List Row → Type 0
+abbrev pub AllWrite : List Row → Type 0
 AllWrite [] = Unit {0}
 AllWrite (row ∷ rows) = RowWrites row × AllWrite rows
 
@@ -458,95 +446,14 @@ row_cost words row begun =
       ap length first,
     ))
 
--- ---- the table
-
-task_writes : (name : List ℕ) (buffer : ℕ) (deaf : Option Bool) →
-    Writes [] (command.Task name buffer (manner_of deaf))
-    (cost (codes "task" ∷ name ∷ decimal buffer ∷ []) + cost (text (Maybe (Choice (codes "deaf")
-    (codes "file"))) deaf))
-unfolding has_sizes command_words
-task_writes name buffer None = (refl, omega arith)
-task_writes name buffer (Some true) = (refl, omega arith)
-task_writes name buffer (Some false) = (refl, omega arith)
-
-cancel_writes : (name : List ℕ) (comes_in : Bool) (id : Option ℕ) → is_sized (Maybe (Number 1 last_ref)) id ≡ true →
-    Writes [] (cancel_of name comes_in id)
-    (cost (codes "cancel" ∷ name ∷ []) + cost (text (Choice (codes "in") (codes "out")) comes_in) + cost (text (Maybe
-    (Number 1 last_ref)) id))
-unfolding has_sizes command_words
-cancel_writes name true None h = (refl, omega arith)
-cancel_writes name true (Some id) h = (h, omega arith)
-cancel_writes name false None h = (refl, omega arith)
-cancel_writes name false (Some id) h = (h, omega arith)
-
-budge_writes : (name : List ℕ) (on : Bool) →
-    Writes [] (command.Budge name on) (cost (codes "budge" ∷ name ∷ []) + cost (text (Choice (codes "on")
-    (codes "off")) on))
-unfolding has_sizes command_words
-budge_writes name true = (refl, omega arith)
-budge_writes name false = (refl, omega arith)
-
-infixr 4 ◌⊗◌
--- one row, and the others
-abbrev ◌⊗◌ : {A B : Type 0} → A → B → A × B
-a ⊗ b = (a, b)
-
-abbrev this : {row : Row} → list_all is_proper row.forms ≡ true → list_all has_byte (row.first ∷ row.further) ≡ true →
-    Writes row.forms row.make (cost (row.first ∷ row.further)) → RowWrites row
-this p n w = record { proper = p; named = n; writes = w }
-
-rows_write : AllWrite rows
-unfolding rows has_sizes command_words
-rows_write =
-    this refl refl (λ name p buffer q deaf r. let told = task_writes name buffer deaf in (
-      told.0,
-      omega (
-        arith,
-        told.1,
-      ),
-    ))
-    ⊗ this refl refl (λ name p. (refl, omega arith))
-    ⊗ this refl refl (λ name p k q n r. (refl, omega arith))
-    ⊗ this refl refl (λ name p k q file r. (refl, omega arith))
-    ⊗ this refl refl (λ name p k q offset r bytes s. (s, omega arith))
-    ⊗ this refl refl (λ name p k q. (refl, omega arith))
-    ⊗ this refl refl (λ name p k q n r. (refl, omega arith))
-    ⊗ this refl refl (λ name p k q offset r by s. (refl, omega arith))
-    ⊗ this refl refl (λ name p n q. (refl, omega arith))
-    ⊗ this refl refl (λ name p place q. (q, omega arith))
-    ⊗ this refl refl (λ name p place q by r. (q, omega arith))
-    ⊗ this refl refl (λ name p on q. let told = budge_writes name on in (told.0, omega (arith, told.1)))
-    ⊗ this refl refl (λ name p k q to r leaf s. (refl, omega arith))
-    ⊗ this refl refl (λ name p. (refl, omega arith))
-    ⊗ this refl refl (λ name p comes_in q id r. let told = cancel_writes name comes_in id r in (
-      told.0,
-      omega (
-        arith,
-        told.1,
-      ),
-    ))
-    ⊗ this refl refl (λ name p. (refl, omega arith))
-    ⊗ this refl refl (λ k p by q. (refl, omega arith))
-    ⊗ this refl refl (λ most p. (refl, omega arith))
-    ⊗ this refl refl (λ k p. (refl, omega arith))
-    ⊗ this refl refl (λ n p. (refl, omega arith))
-    ⊗ this refl refl (λ place p. (p, omega arith))
-    ⊗ this refl refl (λ place p by q. (p, omega arith))
-    ⊗ this refl refl (λ name p k q. (refl, omega arith))
-    ⊗ this refl refl (λ name p. (refl, omega arith))
-    ⊗ this refl refl (λ name p. (refl, omega arith))
-    ⊗ this refl refl (λ name p. (refl, omega arith))
-    ⊗ this refl refl (refl, omega arith)
-    ⊗ tt
-
 -- ---- a line
 
-command_short : (words : Words) (c : Command) → command_of words ≡ Ok c → IsShort words c
+command_short : AllWrite rows → (words : Words) (c : Command) → command_of words ≡ Ok c → IsShort words c
 unfolding command_by
-command_short words c e =
+command_short all words c e =
     let found = then_ok (row_of rows (word words 1) words Unknown) (λ row. row_means row words) c e in
     let row = found.0 in
-    let begun = row_found rows words Unknown row rows_write found.1 in
+    let begun = row_found rows words Unknown row all found.1 in
     elim (either (is_count row.forms (1 + length row.further) (length words)) (command_from row.forms row.make words
     (1 + length row.further)) (Err Count) c found.2) [
       | inl counted ↦
@@ -560,9 +467,9 @@ record MeansOne (line : List ℕ) (c : Command) : Type 0 where
   fits : nat_lt longest_line (length line) ≡ false
   is_short : IsShort (words_of line) c
 
-means_one : (line : List ℕ) (c : Command) → line_means line ≡ Ok (Some c) → MeansOne line c
+means_one : AllWrite rows → (line : List ℕ) (c : Command) → line_means line ≡ Ok (Some c) → MeansOne line c
 unfolding line_means
-means_one line c e = by (nat_lt longest_line (length line)) refl (is_skipped (words_of line)) refl
+means_one all line c e = by (nat_lt longest_line (length line)) refl (is_skipped (words_of line)) refl
   where
     by : (long : Bool) → nat_lt longest_line (length line) ≡ long → (skipped : Bool) →
         is_skipped (words_of line) ≡ skipped → MeansOne line c
@@ -574,7 +481,7 @@ means_one line c e = by (nat_lt longest_line (length line)) refl (is_skipped (wo
         (l, s) refl) e in
         let told = then_ok (command_of (words_of line)) (λ c. Ok (Some c)) (Some c) read in
         let same : told.0 ≡ c = cc told.2 in
-        record { fits = l; is_short = command_short (words_of line) c (told.1 ∙ ap Ok same) }
+        record { fits = l; is_short = command_short all (words_of line) c (told.1 ∙ ap Ok same) }
 
 line_in_range : (line : List ℕ) (c : Command) → line_means line ≡ Ok (Some c) → in_range c ≡ true
 line_in_range line c e =
@@ -585,9 +492,9 @@ joined_cost : (ws : Words) → length (join_with_byte space ws) ≤ cost ws - 1
 joined_cost [] = omega arith
 joined_cost (w ∷ ws) = omega (arith, cost_joined w ws)
 
-pub are-spelled : AreSpelled
-are-spelled line c e =
-    let told = means_one line c e in
+pub all-spelled : AllWrite rows → AreSpelled
+all-spelled all line c e =
+    let told = means_one all line c e in
     let short : length (line_of c) ≤ length line =
     omega (arith, joined_cost (command_words c), told.is_short.short, cost_words line) in
     let fits : fits_a_line c ≡ true = let line_fits = told.fits in grind (arith, nat_tests, short, line_fits) in

@@ -1,0 +1,339 @@
+-- What is printed behind the words of a row, and that the row reads it again.
+use Rattle.std.proofs.Common.{◌≡◌, ℕ, zero, suc, ◌+◌, ◌-◌, ◌^◌, ◌<◌, Bool, true, false, ◌&&◌, ◌||◌, not, cond, List}
+use Rattle.std.proofs.Common.{[], ◌∷◌, ◌++◌, length, drop, length-append, refl, sym, subst, ap, ◌∙◌, arith}
+use Rattle.std.specs.Prelude.{nat_le, nat_lt, ◌==◌, Some, None, Ok, slice_get, unwrap_or, if◌then◌else◌}
+use Rattle.std.specs.List.{list_all}
+use Rattle.std.specs.Fmt.{decimal, signed_decimal}
+use Rattle.std.specs.Str.{bytes_eq}
+use Rattle.std.proofs.lemmas.Bool.Decides.{nat_tests}
+use Rattle.std.proofs.lemmas.Slice.Eq.{bytes_eq-Decides}
+use Rattle.hex.specs.Hex.{encode_lower}
+use Rattle.rh_defs.specs.declared.command.Command.{Command}
+use Rattle.rh_defs.specs.declared.fault.LineFault.TheVariants.{Unknown}
+use Rattle.rh_defs.specs.Forms.{is_name, is_leaf, is_delta}
+use Rattle.rh_defs.specs.Grammar.{Form, Name, Leaf, Number, Delta, Address, Bytes, Choice, Maybe, Value, Maker, Row}
+use Rattle.rh_defs.specs.Grammar.{rows}
+use Rattle.rh_defs.specs.Line.{word, choice_at, value_at, command_from, is_count, row_of, command_by, command_of}
+use Rattle.rh_defs.specs.Text.{Words, address}
+use Rattle.rh_safety.proofs.Basics.{and_left, and_right}
+use Rattle.rh_laws.specs.Printer.{is_word}
+use Rattle.rh_laws.proofs.Words.{is_whole}
+use Rattle.rh_laws.proofs.Numbers.{decimal_is_whole}
+use Rattle.rh_laws.proofs.Readers.{name_is_whole, leaf_is_whole, number_read, delta_read, delta_is_whole}
+use Rattle.rh_laws.proofs.Readers.{address_read, address_is_whole, bytes_read, bytes_are_whole, name_read, leaf_read}
+
+-- ---- the values of a row's words, and their texts
+
+-- what is printed for a word of a form
+abbrev pub text : (form : Form) → Value form → Words
+text Name name = name ∷ []
+text Leaf leaf = leaf ∷ []
+text (Number low high) n = decimal n ∷ []
+text Delta by = signed_decimal by ∷ []
+text Address place = address place ∷ []
+text Bytes bytes = encode_lower bytes ∷ []
+text (Choice first second) is_first = (if is_first then first else second) ∷ []
+text (Maybe form) None = []
+text (Maybe form) (Some value) = text form value
+
+-- a value for each form, and what is printed for all of them
+abbrev pub Values : List Form → Type 0
+Values [] = Unit {0}
+Values (form ∷ forms) = Value form × Values forms
+
+abbrev pub texts : (forms : List Form) → Values forms → Words
+texts [] values = []
+texts (form ∷ forms) values = text form values.0 ++ texts forms values.1
+
+-- the command made of the values
+abbrev pub made : (forms : List Form) → Maker forms → Values forms → Command
+made [] command values = command
+made (form ∷ forms) make values = made forms (make values.0) values.1
+
+-- ---- what is read again
+
+-- whether a form reads what is printed for a value
+abbrev pub is_readable : (form : Form) → Value form → Bool
+is_readable Name name = is_name name
+is_readable Leaf leaf = is_leaf leaf
+is_readable (Number low high) n = nat_le low n && nat_le n high && nat_lt n (2 ^ 32)
+is_readable Delta by = is_delta by
+is_readable Address place = is_word place
+is_readable Bytes bytes = nat_le 1 (length bytes) && list_all (λ b. nat_lt b 256) bytes
+is_readable (Choice first second) is_first = true
+is_readable (Maybe form) None = true
+is_readable (Maybe form) (Some value) = is_readable form value
+
+abbrev pub are_readable : (forms : List Form) → Values forms → Bool
+are_readable [] values = true
+are_readable (form ∷ forms) values = is_readable form values.0 && are_readable forms values.1
+
+-- a form whose word can't be left out
+abbrev is_wanted : Form → Bool
+is_wanted (Maybe form) = false
+is_wanted form = true
+
+-- a form whose texts are told apart
+abbrev is_clear : Form → Bool
+is_clear (Choice first second) = is_whole first && is_whole second && not (bytes_eq second first)
+is_clear (Maybe form) = is_wanted form && is_clear form
+is_clear form = true
+
+-- the same of all, of which the last alone may be left out
+abbrev pub are_clear : List Form → Bool
+are_clear [] = true
+are_clear (form ∷ []) = is_clear form
+are_clear (form ∷ next ∷ forms) = is_wanted form && is_clear form && are_clear (next ∷ forms)
+
+-- ---- words behind the first n
+
+record Stand (words : Words) (n : ℕ) (rest : Words) : Type 0 where
+  behind : drop n words ≡ rest
+  long : length words ≡ n + length rest
+
+word_there : (words : Words) (n : ℕ) (w : List ℕ) (rest : Words) → drop n words ≡ w ∷ rest →
+    unwrap_or (slice_get words n) [] ≡ w
+word_there [] zero w rest e = absurd cc
+word_there [] (suc n) w rest e = absurd cc
+word_there (x ∷ words) zero w rest e = cc
+word_there (x ∷ words) (suc n) w rest e = word_there words n w rest e
+
+next_there : (words : Words) (n : ℕ) (w : List ℕ) (rest : Words) → drop n words ≡ w ∷ rest → drop (suc n) words ≡ rest
+next_there [] zero w rest e = absurd cc
+next_there [] (suc n) w rest e = absurd cc
+next_there (x ∷ words) zero w rest e = cc
+next_there (x ∷ words) (suc n) w rest e = next_there words n w rest e
+
+word_first : (words : Words) (n : ℕ) (w : List ℕ) (rest : Words) → Stand words n (w ∷ rest) → word words (n + 1) ≡ w
+word_first words n w rest stand =
+    let same : n ≡ n + 1 - 1 = omega arith in
+    subst (λ m. unwrap_or (slice_get words m) [] ≡ w) same (word_there words n w rest stand.behind)
+
+word_next : (words : Words) (n : ℕ) (w : List ℕ) (rest : Words) → Stand words n (w ∷ rest) → Stand words (n + 1) rest
+word_next words n w rest stand =
+    let same : suc n ≡ n + 1 = omega arith in
+    record {
+      behind = subst (λ m. drop m words ≡ rest) same (next_there words n w rest stand.behind);
+      long = omega (arith, stand.long);
+    }
+
+drop_front : (front rest : Words) → drop (length front) (front ++ rest) ≡ rest
+drop_front [] rest = refl
+drop_front (w ∷ front) rest = drop_front front rest
+
+-- ---- one word
+
+choice_whole : (first second : List ℕ) (is_first : Bool) → is_clear (Choice first second) ≡ true →
+    is_whole (cond is_first first second) ≡ true
+choice_whole first second true clear =
+    and_left (is_whole first) (is_whole second) (and_left _ (not (bytes_eq second first)) clear)
+choice_whole first second false clear =
+    and_right (is_whole first) (is_whole second) (and_left _ (not (bytes_eq second first)) clear)
+
+not_first : (b : Bool) → not b ≡ true → b ≡ false
+not_first true h = absurd cc
+not_first false h = refl
+
+choice_read : (words : Words) (n : ℕ) (first second : List ℕ) (is_first : Bool) →
+    is_clear (Choice first second) ≡ true → word words n ≡ cond is_first first second →
+    choice_at words n first second ≡ Ok is_first
+unfolding choice_at
+choice_read words n first second true clear is = rw (is, (bytes_eq-Decides first first).1 refl) refl
+choice_read words n first second false clear is =
+    let apart = not_first (bytes_eq second first) (and_right _ (not (bytes_eq second first)) clear) in
+    rw (is, apart, (bytes_eq-Decides second second).1 refl) refl
+
+-- what can't be left out is one word
+one_text : (form : Form) (value : Value form) → is_wanted form ≡ true → (w : List ℕ) × (text form value ≡ w ∷ [])
+one_text Name name wanted = (name, refl)
+one_text Leaf leaf wanted = (leaf, refl)
+one_text (Number low high) n wanted = (decimal n, refl)
+one_text Delta by wanted = (signed_decimal by, refl)
+one_text Address place wanted = (address place, refl)
+one_text Bytes bytes wanted = (encode_lower bytes, refl)
+one_text (Choice first second) is_first wanted = (cond is_first first second, refl)
+one_text (Maybe form) value wanted = absurd cc
+
+text_next : (form : Form) (words : Words) (n : ℕ) (value : Value form) (rest : Words) → is_wanted form ≡ true →
+    Stand words n (text form value ++ rest) → Stand words (n + 1) rest
+text_next form words n value rest wanted stand =
+    let one = one_text form value wanted in
+    word_next words n one.0 rest (subst (λ ws. Stand words n (ws ++ rest)) one.1 stand)
+
+-- a word that is printed is whole, and read
+record IsRead (form : Form) (words : Words) (n : ℕ) (value : Value form) (rest : Words) : Type 0 where
+  whole : list_all is_whole (text form value) ≡ true
+  read : Stand words n (text form value ++ rest) → value_at form words (n + 1) ≡ Ok value
+
+word_read : (form : Form) (words : Words) (n : ℕ) (value : Value form) (rest : Words) → is_wanted form ≡ true →
+    is_clear form ≡ true → is_readable form value ≡ true → IsRead form words n value rest
+word_read Name words n name rest wanted clear h = record {
+  whole = rw (name_is_whole name h) refl;
+  read = λ stand.
+      let is = word_first words n name rest stand in
+      name_read words (n + 1) (subst (λ w. is_name w ≡ true) (sym is) h) ∙ ap Ok is;
+}
+word_read Leaf words n leaf rest wanted clear h = record {
+  whole = rw (leaf_is_whole leaf h) refl;
+  read = λ stand.
+      let is = word_first words n leaf rest stand in
+      leaf_read words (n + 1) (subst (λ w. is_leaf w ≡ true) (sym is) h) ∙ ap Ok is;
+}
+word_read (Number low high) words n k rest wanted clear h =
+    let range = and_left (nat_le low k && nat_le k high) (nat_lt k (2 ^ 32)) h in
+    let below = and_right (nat_le low k && nat_le k high) (nat_lt k (2 ^ 32)) h in
+    let small : k < 2 ^ 32 = grind (arith, nat_tests, below) in
+    record {
+      whole = rw (decimal_is_whole k small) refl;
+      read = λ stand. number_read words (n + 1) low high k (word_first words n (decimal k) rest stand) small range;
+    }
+word_read Delta words n by rest wanted clear h = record {
+  whole = rw (delta_is_whole by h) refl;
+  read = λ stand. delta_read words (n + 1) by (word_first words n (signed_decimal by) rest stand) h;
+}
+word_read Address words n place rest wanted clear h = record {
+  whole = rw (address_is_whole place h) refl;
+  read = λ stand. address_read words (n + 1) place (word_first words n (address place) rest stand) h;
+}
+word_read Bytes words n bytes rest wanted clear h =
+    let some = and_left (nat_le 1 (length bytes)) (list_all (λ b. nat_lt b 256) bytes) h in
+    let small = and_right (nat_le 1 (length bytes)) (list_all (λ b. nat_lt b 256) bytes) h in
+    record {
+      whole = rw (bytes_are_whole bytes some small) refl;
+      read = λ stand.
+          bytes_read words (n + 1) bytes (word_first words n (encode_lower bytes) rest stand) some small;
+    }
+word_read (Choice first second) words n is_first rest wanted clear h = record {
+  whole = rw (choice_whole first second is_first clear) refl;
+  read = λ stand.
+      choice_read words (n + 1) first second is_first clear
+      (word_first words n (cond is_first first second) rest stand);
+}
+word_read (Maybe form) words n value rest wanted clear h = absurd cc
+
+-- the last word, which may be left out
+last_read : (form : Form) (words : Words) (n : ℕ) (value : Value form) → is_clear form ≡ true →
+    is_readable form value ≡ true → IsRead form words n value []
+last_read (Maybe form) words n None clear h = record {
+  whole = refl;
+  read = λ stand.
+      let ended : (length words == n + 1 - 1) ≡ true = let long = stand.long in grind (arith, nat_tests, long) in
+      rw ended refl;
+}
+last_read (Maybe form) words n (Some value) clear h =
+    let wanted = and_left (is_wanted form) (is_clear form) clear in
+    let given = word_read form words n value [] wanted (and_right (is_wanted form) (is_clear form) clear) h in
+    record {
+      whole = given.whole;
+      read = λ stand.
+          let more : (length words == n + 1 - 1) ≡ false =
+          let long = stand.long in
+          let one : length (text form value ++ []) ≡ 1 = ap (λ ws. length (ws ++ [])) (one_text form value wanted).1 in
+          grind (arith, nat_tests, long, one) in
+          rw (more, given.read stand) refl;
+    }
+last_read form words n value clear h = word_read form words n value [] refl clear h
+
+ended : (words : Words) (n : ℕ) → Stand words n [] → (length words == n) ≡ true
+ended words n stand = let long = stand.long in grind (arith, nat_tests, long)
+
+-- ---- all words behind a row's own
+
+-- they are whole, as many as the row asks for, and make its command
+record AreRead (forms : List Form) (make : Maker forms) (words : Words) (n : ℕ) (values : Values forms) : Type 0 where
+  whole : list_all is_whole (texts forms values) ≡ true
+  count : Stand words n (texts forms values) → is_count forms n (length words) ≡ true
+  read : Stand words n (texts forms values) → command_from forms make words n ≡ Ok (made forms make values)
+
+all_whole : (front rest : Words) → list_all is_whole front ≡ true → list_all is_whole rest ≡ true →
+    list_all is_whole (front ++ rest) ≡ true
+all_whole [] rest h r = r
+all_whole (w ∷ front) rest h r =
+    rw (and_left (is_whole w) (list_all is_whole front) h)
+    (all_whole front rest (and_right (is_whole w) (list_all is_whole front) h) r)
+
+counted : (form : Form) (forms : List Form) (n count : ℕ) → is_count forms (n + 1) count ≡ true →
+    is_count (form ∷ forms) n count ≡ true
+counted (Maybe form) forms n count h = by (count == n) h
+  where
+    by : (b : Bool) → is_count forms (n + 1) count ≡ true → (b || is_count forms (n + 1) count) ≡ true
+    by true h = refl
+    by false h = h
+counted form forms n count h = h
+
+-- with the last word left out or not
+last_count : (form : Form) (words : Words) (n : ℕ) (value : Value form) → is_clear form ≡ true →
+    Stand words n (text form value ++ []) → is_count (form ∷ []) n (length words) ≡ true
+last_count (Maybe form) words n None clear stand =
+    let ended : (length words == n) ≡ true = let long = stand.long in grind (arith, nat_tests, long) in rw ended refl
+last_count (Maybe form) words n (Some value) clear stand =
+    counted (Maybe form) [] n (length words)
+    (ended words (n + 1) (text_next form words n value [] (and_left (is_wanted form) (is_clear form) clear) stand))
+last_count form words n value clear stand = ended words (n + 1) (text_next form words n value [] refl stand)
+
+all_read : (forms : List Form) (make : Maker forms) (words : Words) (n : ℕ) (values : Values forms) →
+    are_clear forms ≡ true → are_readable forms values ≡ true → AreRead forms make words n values
+all_read [] make words n values clear h = record { whole = refl; count = ended words n; read = λ stand. refl }
+all_read (form ∷ []) make words n values clear h =
+    let one = last_read form words n values.0 clear (and_left (is_readable form values.0) true h) in
+    record {
+      whole = all_whole (text form values.0) [] one.whole refl;
+      count = last_count form words n values.0 clear;
+      read = λ stand. rw (one.read stand) refl;
+    }
+all_read (form ∷ next ∷ forms) make words n values clear h =
+    let front = and_left (is_wanted form && is_clear form) (are_clear (next ∷ forms)) clear in
+    let wanted = and_left (is_wanted form) (is_clear form) front in
+    let one = word_read form words n values.0 (texts (next ∷ forms) values.1) wanted
+    (and_right (is_wanted form) (is_clear form) front)
+    (and_left (is_readable form values.0) (are_readable (next ∷ forms) values.1) h) in
+    let rest = all_read (next ∷ forms) (make values.0) words (n + 1) values.1
+    (and_right (is_wanted form && is_clear form) (are_clear (next ∷ forms)) clear)
+    (and_right (is_readable form values.0) (are_readable (next ∷ forms) values.1) h) in
+    record {
+      whole = all_whole (text form values.0) (texts (next ∷ forms) values.1) one.whole rest.whole;
+      count = λ stand.
+          counted form (next ∷ forms) n (length words)
+          (rest.count (text_next form words n values.0 (texts (next ∷ forms) values.1) wanted stand));
+      read = λ stand.
+          rw (one.read stand)
+          (rest.read (text_next form words n values.0 (texts (next ∷ forms) values.1) wanted stand));
+    }
+
+-- ---- a row
+
+-- the words that are printed for a row
+abbrev pub printed : (row : Row) → Values row.forms → Words
+printed row values = row.first ∷ row.further ++ texts row.forms values
+
+-- whether the words of a row, and the texts of its forms, can be told apart in a line
+abbrev pub is_clear_row : Row → Bool
+is_clear_row row = are_clear row.forms && list_all is_whole (row.first ∷ row.further)
+
+-- words that spell a command
+pub record Spells (words : Words) (c : Command) : Type 0 where
+  pub whole : list_all is_whole words ≡ true
+  pub means : command_of words ≡ Ok c
+
+pub row_spells : (row : Row) (values : Values row.forms) → is_clear_row row ≡ true →
+    row_of rows row.first (printed row values) Unknown ≡ Ok row → are_readable row.forms values ≡ true →
+    Spells (printed row values) (made row.forms row.make values)
+unfolding command_by
+row_spells row values proper found h =
+    let words = printed row values in
+    let n : ℕ = 1 + length row.further in
+    let all = all_read row.forms row.make words n values
+    (and_left (are_clear row.forms) (list_all is_whole (row.first ∷ row.further)) proper) h in
+    let named : suc (length row.further) ≡ n = omega arith in
+    let stand : Stand words n (texts row.forms values) = record {
+      behind =
+          subst (λ m. drop m words ≡ texts row.forms values) named
+          (drop_front (row.first ∷ row.further) (texts row.forms values));
+      long = omega (arith, length-append row.further (texts row.forms values));
+    } in
+    record {
+      whole =
+          all_whole (row.first ∷ row.further) (texts row.forms values)
+          (and_right (are_clear row.forms) (list_all is_whole (row.first ∷ row.further)) proper) all.whole;
+      means = rw (found, all.count stand) (all.read stand);
+    }
