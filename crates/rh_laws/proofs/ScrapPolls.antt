@@ -8,7 +8,6 @@ use Rattle.rh_defs.specs.declared.message.Action.{Action}
 use Rattle.rh_defs.specs.declared.message.Action.TheVariants as action
 use Rattle.rh_defs.specs.declared.message.EventCode.{EventCode}
 use Rattle.rh_defs.specs.declared.message.EventCode.TheVariants.{User, Recorded, Acknowledge}
-use Rattle.rh_defs.specs.declared.reply.Reply.TheVariants as reply
 use Rattle.rh_defs.specs.declared.transfer.Sending.{Sending}
 use Rattle.rh_defs.specs.declared.transfer.Taking.{Taking}
 use Rattle.rh_defs.specs.declared.transfer.Asked.{Asked}
@@ -26,7 +25,7 @@ use Rattle.rh_defs.specs.IncomingEvents.{fetch_back, take_file}
 use Rattle.rh_defs.specs.Transfer as transfer
 use Rattle.rh_defs.specs.Transfer.{answers_none}
 use Rattle.rh_defs.specs.Commands.{Answer}
-use Rattle.rh_defs.specs.Step.{event, poll, poll_taken, step}
+use Rattle.rh_defs.specs.Step.{event, poll_taken, step}
 use Rattle.rh_defs.proofs.Steps.{step-keeps}
 use Rattle.rh_safety.specs.Alternation.{is_refusal, is_refused_poll}
 use Rattle.rh_safety.proofs.View.{view, seen_parcel, seen_scrap, task_of}
