@@ -103,6 +103,30 @@ fn leafnames_are_graphic(rt: HostRuntime) {
 }
 
 #[test]
+fn a_command_is_about_the_task_that_it_names(rt: HostRuntime) {
+    let ada = some_name(&rt, b"ada");
+    for command in [
+        Command::Poll { name: ada.copied() },
+        Command::Save {
+            name: ada.copied(),
+            anchor: Anchor(0),
+            to: some_name(&rt, b"bea"),
+            leaf: some_leaf(&rt, b"doc"),
+        },
+        Command::Ask(Question::Status { name: ada.copied() }),
+    ] {
+        same(&rt, (&command, command.task_name()), (&command, Some(&ada)));
+    }
+    for command in [
+        Command::Make { most: 1 },
+        Command::RmaClaim { size: 1 },
+        Command::Ask(Question::Areas),
+    ] {
+        same(&rt, (&command, command.task_name()), (&command, None));
+    }
+}
+
+#[test]
 fn made_areas_are_in_range(rt: HostRuntime) {
     for (most, in_range) in [(0, false), (1, true), (1024, true), (1025, false)] {
         expect_range(&rt, &Command::Make { most }, in_range);

@@ -3,6 +3,7 @@ use Rattle.std.proofs.Common.{◌≡◌, Bool, true, false, cond, sym, subst}
 use Rattle.std.specs.Prelude.{Ok, Err}
 use Rattle.rh_defs.specs.declared.refusal.Refusal.{Refusal}
 use Rattle.rh_defs.specs.Chain.{Granted, ◌>>=◌, ◌>>◌, or_else}
+use Rattle.rh_defs.proofs.Chains.{OnGrant, granted, refused}
 
 -- both are refused by the same refusal, or what they give is related. A data type, so that the relation is found from a goal
 pub data Follows {A : Type 0} (R : A → A → Type 0) : Granted A → Granted A → Type 0 where
@@ -37,6 +38,12 @@ unfolding or_else
 or_else-follows R instead other (Follows.both r) h = r
 or_else-follows R instead other (Follows.neither {refusal = e}) h = h e
 
+-- what is related in one way is related in another
+pub follows-less : {A : Type 0} {Q R : A → A → Type 0} {first second : Granted A} → ((x y : A) → Q x y → R x y) → Follows Q first second
+    → Follows R first second
+follows-less h (Follows.both {x = x} {y = y} q) = Follows.both (h x y q)
+follows-less h Follows.neither = Follows.neither
+
 -- a test chooses between two on either side
 pub chosen-both : {A : Type 0} (R : A → A → Type 0) (b : Bool) (x y z w : A) → R x z → R y w → R (cond b x y) (cond b z w)
 chosen-both R true x y z w p q = p
@@ -50,3 +57,16 @@ follows-equal {R = R} first second next other e h = subst (λ third. Follows R (
 pub follows-as : {A B : Type 0} {R : B → B → Type 0} (first second : Granted A) (next other : Granted B) → second ≡ first → Follows R next other
     → Follows R (first >> next) (second >> other)
 follows-as {R = R} first second next other e h = subst (λ third. Follows R (first >> next) (third >> other)) (sym e) (follows-then first next other h)
+
+-- the same first step, of whose grant something is known
+follows-granted : {A B : Type 0} {Q : A → Type 0} {R : B → B → Type 0} {first : Granted A} (next other : A → Granted B) → OnGrant Q first
+    → ((x : A) → Q x → Follows R (next x) (other x)) → Follows R (first >>= next) (first >>= other)
+unfolding ◌>>=◌
+follows-granted next other (granted {x = x} q) h = h x q
+follows-granted next other refused h = Follows.neither
+
+-- equal first steps, of whose grant something is known
+pub follows-known : {A B : Type 0} {Q : A → Type 0} {R : B → B → Type 0} {first second : Granted A} (next other : A → Granted B) → second ≡ first
+    → OnGrant Q first → ((x : A) → Q x → Follows R (next x) (other x)) → Follows R (first >>= next) (second >>= other)
+follows-known {R = R} {first = first} next other e known h =
+    subst (λ third. Follows R (first >>= next) (third >>= other)) (sym e) (follows-granted next other known h)

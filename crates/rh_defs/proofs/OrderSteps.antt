@@ -1,17 +1,16 @@
 -- Each command on two desks that differ in the order of messages to different tasks alone.
-use Rattle.std.proofs.Common.{◌≡◌, ℕ, ◌-◌, Bool, cond, refl, ap, sym, subst, List, length}
+use Rattle.std.proofs.Common.{◌≡◌, ℕ, ◌-◌, Bool, false, cond, refl, ap, sym, subst, List, length}
 use Rattle.std.specs.Prelude.{Option, Some, None, ℤ, Ok, ◌==◌, nat_lt}
 use Rattle.rh_defs.specs.declared.refusal.Refusal.{Refusal}
 use Rattle.rh_defs.specs.declared.refusal.Refusal.TheVariants.{NotABlock, NotYours, NoRoom}
 use Rattle.rh_defs.specs.declared.command.Command.{Command}
 use Rattle.rh_defs.specs.declared.command.Command.TheVariants as command
-use Rattle.rh_defs.specs.declared.command.Manner.{Manner}
-use Rattle.rh_defs.specs.declared.question.Question.{Question}
 use Rattle.rh_defs.specs.declared.message.EventCode.{EventCode}
 use Rattle.rh_defs.specs.declared.message.EventCode.TheVariants.{User, Recorded, Acknowledge}
 use Rattle.rh_defs.specs.declared.message.Letter.{Letter}
 use Rattle.rh_defs.specs.declared.message.Body.{Body}
 use Rattle.rh_defs.specs.declared.message.Body.TheVariants.{DataSave, DataSaveAck, DataLoad, DataLoadAck, RamFetch, RamTransmit}
+use Rattle.rh_defs.specs.declared.reply.Reply.{Reply}
 use Rattle.rh_defs.specs.declared.transfer.Sending.{Sending}
 use Rattle.rh_defs.specs.declared.transfer.Taking.{Taking}
 use Rattle.rh_defs.specs.declared.transfer.Asked.{Asked}
@@ -31,10 +30,12 @@ use Rattle.rh_defs.specs.OutgoingEvents.{Handled, transmit, refused, answer_fetc
 use Rattle.rh_defs.specs.IncomingEvents.{ended, accept, take_save, appended, fetch_more, took, is_uncountable, take_bytes, ask, fetch_back, ack_back, loaded}
 use Rattle.rh_defs.specs.IncomingEvents.{load_file, take_file}
 use Rattle.rh_defs.specs.Transfer.{came, came_back, handled}
-use Rattle.rh_defs.specs.Step.{save, repeat, event, poll_taken, poll, cancel_in, cancel_out, change, step}
+use Rattle.rh_defs.specs.Step.{save, repeat, event, poll_taken, poll, cancel_in, cancel_out, change, is_refused, step}
 use Rattle.rh_defs.specs.Order.{SameForEach, requeued, with_queue, IsReordered, StepsAlike, IgnoresOrder}
-use Rattle.rh_defs.proofs.QuestionLaws.{asked-requeued}
-use Rattle.rh_defs.proofs.Follows.{Follows, follows-same, follows-with, follows-then, follows-equal, follows-as, or_else-follows, chosen-both}
+use Rattle.rh_defs.proofs.Chains.{OnGrant, granted, refused as ungranted}
+use Rattle.rh_defs.proofs.QuestionLaws.{asked-requeued, first-is, first-says}
+use Rattle.rh_defs.proofs.Follows.{Follows, follows-same, follows-with, follows-then, follows-equal, follows-as, follows-less, follows-known, or_else-follows}
+use Rattle.rh_defs.proofs.Follows.{chosen-both}
 use Rattle.rh_defs.proofs.Orders.{PostAlike, AnswerAlike, is_live-same, is_message-same, sendable-same, post_poll-alike, post_death-alike, post_send-alike}
 
 -- the second desk is the first with another such queue
@@ -242,20 +243,25 @@ delivered-alike d queue (PostAlike.alike post q s) =
     kept None = refl
     kept (Some file) = ap (λ b. cond b (Some file) None) (is_live-same file.load post q s)
 
-event-alike : (m : Parcel) {x y : Handled} → Alike x y → Alike (event m x) (event m y)
-event-alike m (Alike.alike d queue x same) = Alike.alike d queue _ same
+-- two desks, each with the same reply, which is no refusal
+data SaidAlike : Answer → Answer → Type 0 where
+  said : (d : Desk) (queue : List Parcel) (r : Reply) → SameForEach d.post.queued queue → is_refused r ≡ false → SaidAlike (d, r) (with_queue queue d, r)
 
-poll_taken-alike : (t : Task) (o : Option Parcel) {a b : Desk} → DeskAlike a b → Alike (poll_taken a t o) (poll_taken b t o)
+event-alike : (m : Parcel) {x y : Handled} → Alike x y → SaidAlike (event m x) (event m y)
+event-alike m (Alike.alike d queue x same) = SaidAlike.said d queue _ same refl
+
+poll_taken-alike : (t : Task) (o : Option Parcel) {a b : Desk} → DeskAlike a b → SaidAlike (poll_taken a t o) (poll_taken b t o)
 unfolding poll_taken
-poll_taken-alike t None (DeskAlike.alike d queue same) = Alike.alike d queue _ same
+poll_taken-alike t None (DeskAlike.alike d queue same) = SaidAlike.said d queue _ same refl
 poll_taken-alike t (Some m) (DeskAlike.alike d queue same) = event-alike m (handled-alike d queue t m m.code same)
 
 polled-alike : (d : Desk) (queue : List Parcel) (t : Task) {x y : Post × Option Parcel} → AnswerAlike x y
-    → Alike (poll_taken (with_delivered x.0 d) t x.1) (poll_taken (with_delivered y.0 (with_queue queue d)) t y.1)
+    → SaidAlike (poll_taken (with_delivered x.0 d) t x.1) (poll_taken (with_delivered y.0 (with_queue queue d)) t y.1)
 polled-alike d queue t (AnswerAlike.alike post q o s) = poll_taken-alike t o (delivered-alike d queue (PostAlike.alike post q s))
 
-killed-alike : {B : Type 0} (tasks : List Task) (x : B) {a b : Desk} → DeskAlike a b → Alike (record a { tasks = tasks }, x) (record b { tasks = tasks }, x)
-killed-alike tasks x (DeskAlike.alike d queue same) = Alike.alike (record d { tasks = tasks }) queue x same
+killed-alike : (tasks : List Task) (r : Reply) → is_refused r ≡ false → {a b : Desk} → DeskAlike a b
+    → SaidAlike (record a { tasks = tasks }, r) (record b { tasks = tasks }, r)
+killed-alike tasks r other (DeskAlike.alike d queue same) = SaidAlike.said (record d { tasks = tasks }) queue r same other
 
 -- ---- one command
 
@@ -266,162 +272,66 @@ own_block-same address d queue same =
     (is_message-same (address - module_start) d.post queue same)
 
 module _ (d : Desk) (queue : List Parcel) (same : SameForEach d.post.queued queue) where
-  kill-alike : (name : List ℕ) → Follows Alike (kill d name) (kill (with_queue queue d) name)
-  unfolding kill named with_delivered
-  kill-alike name =
-      follows-same _ _ _ λ t. Follows.both (killed-alike _ _ (delivered-alike d queue (post_death-alike t.handle d.post queue same)))
-
-  poll-alike : (name : List ℕ) → Follows Alike (poll d name) (poll (with_queue queue d) name)
-  unfolding poll named
-  poll-alike name = follows-same _ _ _ λ t. Follows.both (polled-alike d queue t (post_poll-alike t.handle d.post queue same))
-
-  save-alike : (name : List ℕ) (k : ℕ) (to leaf : List ℕ) → Follows Alike (save d name k to leaf) (save (with_queue queue d) name k to leaf)
-  unfolding save named with_task
-  save-alike name k to leaf =
+  -- what a command changes and answers, on both desks
+  change-alike : (c : Command) → Follows SaidAlike (change d c) (change (with_queue queue d) c)
+  unfolding start_task post_join kill named with_delivered alloc with_task load put free extend mid claim release resize budge save poll cancel_in
+      cancel_out repeat change_module change_pages change_made make remove rma_claim rma_free rma_resize
+  change-alike (command.Task name buffer manner) =
+      follows-then _ _ _ (follows-then _ _ _ (follows-then _ _ _ (follows-same _ _ _ λ s. Follows.both (SaidAlike.said _ queue _ same refl))))
+  change-alike (command.Kill name) =
+      follows-same _ _ _ λ t. Follows.both (killed-alike _ _ refl (delivered-alike d queue (post_death-alike t.handle d.post queue same)))
+  change-alike (command.Alloc name k n) = follows-same _ _ _ λ t. follows-same _ _ _ λ p. Follows.both (SaidAlike.said _ queue _ same refl)
+  change-alike (command.Load name k file) =
+      follows-same _ _ _ λ t. follows-same _ _ _ λ entry. follows-same _ _ _ λ p. follows-same _ _ _ λ s. Follows.both (SaidAlike.said _ queue _ same refl)
+  change-alike (command.Put name k offset bytes) =
+      follows-same _ _ _ λ t. follows-same _ _ _ λ b. follows-same _ _ _ λ s. Follows.both (SaidAlike.said _ queue _ same refl)
+  change-alike (command.Free name k) = follows-same _ _ _ λ t. follows-same _ _ _ λ b. follows-same _ _ _ λ s. Follows.both (SaidAlike.said _ queue _ same refl)
+  change-alike (command.Extend name k n) =
+      follows-same _ _ _ λ t. follows-same _ _ _ λ b. follows-same _ _ _ λ s. Follows.both (SaidAlike.said _ queue _ same refl)
+  change-alike (command.Mid name k offset by) =
+      follows-same _ _ _ λ t. follows-same _ _ _ λ b. follows-same _ _ _ λ s. Follows.both (SaidAlike.said _ queue _ same refl)
+  change-alike (command.Claim name n) = follows-same _ _ _ λ t. follows-same _ _ _ λ p. Follows.both (SaidAlike.said _ queue _ same refl)
+  change-alike (command.Release name address) =
+      follows-same _ _ _ λ t. follows-same _ _ _ λ b. follows-same _ _ _ λ s. Follows.both (SaidAlike.said _ queue _ same refl)
+  change-alike (command.Resize name address delta) =
+      follows-same _ _ _ λ t. follows-same _ _ _ λ b. follows-same _ _ _ λ p. Follows.both (SaidAlike.said _ queue _ same refl)
+  change-alike (command.Budge name on) = follows-same _ _ _ λ t. Follows.both (SaidAlike.said _ queue _ same refl)
+  change-alike (command.Save name k to leaf) =
       follows-same _ _ _ λ t. follows-same _ _ _ λ b. follows-then _ _ _ (follows-same _ _ _ λ r.
-      follows-desk _ _ (send_letter-alike _ d queue same) λ sent q s. Follows.both (Alike.alike _ q _ s))
-
-  repeat-alike : (name : List ℕ) → Follows Alike (repeat d name) (repeat (with_queue queue d) name)
-  unfolding repeat named
-  repeat-alike name =
+      follows-desk _ _ (send_letter-alike _ d queue same) λ sent q s. Follows.both (SaidAlike.said _ q _ s refl))
+  change-alike (command.Poll name) = follows-same _ _ _ λ t. Follows.both (polled-alike d queue t (post_poll-alike t.handle d.post queue same))
+  change-alike (command.CancelIn name id) = follows-same _ _ _ λ t. follows-same _ _ _ λ records. Follows.both (SaidAlike.said _ queue _ same refl)
+  change-alike (command.CancelOut name id) = follows-same _ _ _ λ t. follows-same _ _ _ λ records. Follows.both (SaidAlike.said _ queue _ same refl)
+  change-alike (command.Repeat name) =
       follows-same _ _ _ λ t. follows-same _ _ _ λ last.
-      follows-desk _ _ (send_letter-alike _ d queue same) λ sent q s. Follows.both (Alike.alike _ q _ s)
-
-  -- ---- slots and records
-
-  start_task-alike : (name : List ℕ) (buffer : ℕ) (manner : Manner)
-      → Follows Alike (start_task d name buffer manner) (start_task (with_queue queue d) name buffer manner)
-  unfolding start_task post_join
-  start_task-alike name buffer manner =
-      follows-then _ _ _ (follows-then _ _ _ (follows-then _ _ _ (follows-same _ _ _ λ s. Follows.both (Alike.alike _ queue _ same))))
-
-  alloc-alike : (name : List ℕ) (k n : ℕ) → Follows Alike (alloc d name k n) (alloc (with_queue queue d) name k n)
-  unfolding alloc named with_task
-  alloc-alike name k n = follows-same _ _ _ λ t. follows-same _ _ _ λ p. Follows.both (Alike.alike _ queue _ same)
-
-  load-alike : (name : List ℕ) (k : ℕ) (file : List ℕ) → Follows Alike (load d name k file) (load (with_queue queue d) name k file)
-  unfolding load named with_task
-  load-alike name k file =
-      follows-same _ _ _ λ t. follows-same _ _ _ λ entry. follows-same _ _ _ λ p. follows-same _ _ _ λ s. Follows.both (Alike.alike _ queue _ same)
-
-  put-alike : (name : List ℕ) (k offset : ℕ) (bytes : List ℕ) → Follows Alike (put d name k offset bytes) (put (with_queue queue d) name k offset bytes)
-  unfolding put named with_task
-  put-alike name k offset bytes = follows-same _ _ _ λ t. follows-same _ _ _ λ b. follows-same _ _ _ λ s. Follows.both (Alike.alike _ queue _ same)
-
-  free-alike : (name : List ℕ) (k : ℕ) → Follows Alike (free d name k) (free (with_queue queue d) name k)
-  unfolding free named with_task
-  free-alike name k = follows-same _ _ _ λ t. follows-same _ _ _ λ b. follows-same _ _ _ λ s. Follows.both (Alike.alike _ queue _ same)
-
-  extend-alike : (name : List ℕ) (k n : ℕ) → Follows Alike (extend d name k n) (extend (with_queue queue d) name k n)
-  unfolding extend named with_task
-  extend-alike name k n = follows-same _ _ _ λ t. follows-same _ _ _ λ b. follows-same _ _ _ λ s. Follows.both (Alike.alike _ queue _ same)
-
-  mid-alike : (name : List ℕ) (k offset : ℕ) (by : ℤ) → Follows Alike (mid d name k offset by) (mid (with_queue queue d) name k offset by)
-  unfolding mid named with_task
-  mid-alike name k offset by = follows-same _ _ _ λ t. follows-same _ _ _ λ b. follows-same _ _ _ λ s. Follows.both (Alike.alike _ queue _ same)
-
-  claim-alike : (name : List ℕ) (n : ℕ) → Follows Alike (claim d name n) (claim (with_queue queue d) name n)
-  unfolding claim named with_task
-  claim-alike name n = follows-same _ _ _ λ t. follows-same _ _ _ λ p. Follows.both (Alike.alike _ queue _ same)
-
-  release-alike : (name : List ℕ) (address : ℕ) → Follows Alike (release d name address) (release (with_queue queue d) name address)
-  unfolding release named with_task
-  release-alike name address = follows-same _ _ _ λ t. follows-same _ _ _ λ b. follows-same _ _ _ λ s. Follows.both (Alike.alike _ queue _ same)
-
-  resize-alike : (name : List ℕ) (address : ℕ) (delta : ℤ) → Follows Alike (resize d name address delta) (resize (with_queue queue d) name address delta)
-  unfolding resize named with_task
-  resize-alike name address delta = follows-same _ _ _ λ t. follows-same _ _ _ λ b. follows-same _ _ _ λ p. Follows.both (Alike.alike _ queue _ same)
-
-  budge-alike : (name : List ℕ) (on : Bool) → Follows Alike (budge d name on) (budge (with_queue queue d) name on)
-  unfolding budge named with_task
-  budge-alike name on = follows-same _ _ _ λ t. Follows.both (Alike.alike _ queue _ same)
-
-  cancel_in-alike : (name : List ℕ) (id : Option ℕ) → Follows Alike (cancel_in d name id) (cancel_in (with_queue queue d) name id)
-  unfolding cancel_in named with_task
-  cancel_in-alike name id = follows-same _ _ _ λ t. follows-same _ _ _ λ records. Follows.both (Alike.alike _ queue _ same)
-
-  cancel_out-alike : (name : List ℕ) (id : Option ℕ) → Follows Alike (cancel_out d name id) (cancel_out (with_queue queue d) name id)
-  unfolding cancel_out named with_task
-  cancel_out-alike name id = follows-same _ _ _ λ t. follows-same _ _ _ λ records. Follows.both (Alike.alike _ queue _ same)
-
-  -- ---- areas
-
-  change_module-alike : (delta : ℤ) → Follows Alike (change_module d delta) (change_module (with_queue queue d) delta)
-  unfolding change_module
-  change_module-alike delta = follows-same _ _ _ λ c. Follows.both (Alike.alike _ queue _ same)
-
-  change_pages-alike : (k : ℕ) (delta : ℤ) → Follows Alike (change_pages d k delta) (change_pages (with_queue queue d) k delta)
-  unfolding change_pages
-  change_pages-alike k delta = follows-same _ _ _ λ n. Follows.both (Alike.alike _ queue _ same)
-
-  change_made-alike : (k : ℕ) (delta : ℤ) → Follows Alike (change_made d k delta) (change_made (with_queue queue d) k delta)
-  unfolding change_made
-  change_made-alike k delta = follows-same _ _ _ λ m. follows-same _ _ _ λ n. follows-then _ _ _ (Follows.both (Alike.alike _ queue _ same))
-
-  change_area-alike : (k : ℕ) (delta : ℤ) → Follows Alike (change_area d k delta) (change_area (with_queue queue d) k delta)
-  change_area-alike k delta =
-      chosen-both (Follows Alike) (k == module_area) _ _ _ _ (change_module-alike delta)
-      (chosen-both (Follows Alike) (nat_lt k (length d.areas)) _ _ _ _ (change_pages-alike k delta) (change_made-alike k delta))
-
-  make-alike : (most : ℕ) → Follows Alike (make d most) (make (with_queue queue d) most)
-  unfolding make
-  make-alike most = follows-then _ _ _ (follows-then _ _ _ (Follows.both (Alike.alike _ queue _ same)))
-
-  remove-alike : (k : ℕ) → Follows Alike (remove d k) (remove (with_queue queue d) k)
-  unfolding remove
-  remove-alike k = follows-same _ _ _ λ m. Follows.both (Alike.alike _ queue _ same)
-
-  -- ---- the module area's blocks
-
-  rma_claim-alike : (n : ℕ) → Follows Alike (rma_claim d n) (rma_claim (with_queue queue d) n)
-  unfolding rma_claim
-  rma_claim-alike n = follows-same _ _ _ λ c. Follows.both (Alike.alike _ queue _ same)
-
-  rma_free-alike : (address : ℕ) → Follows Alike (rma_free d address) (rma_free (with_queue queue d) address)
-  unfolding rma_free
-  rma_free-alike address =
-      follows-equal _ _ _ _ (own_block-same address d queue same) λ b. follows-same _ _ _ λ h. Follows.both (Alike.alike _ queue _ same)
-
-  rma_resize-alike : (address : ℕ) (delta : ℤ) → Follows Alike (rma_resize d address delta) (rma_resize (with_queue queue d) address delta)
-  unfolding rma_resize
-  rma_resize-alike address delta =
-      follows-equal _ _ _ _ (own_block-same address d queue same) λ b. follows-same _ _ _ λ c. Follows.both (Alike.alike _ queue _ same)
-
-  -- ---- questions
-
-  question-alike : (q : Question) → Follows Alike (change d (command.Ask q)) (change (with_queue queue d) (command.Ask q))
-  question-alike q = follows-equal (asked d q) _ _ _ (asked-requeued queue d q) λ told. Follows.both (Alike.alike _ queue _ same)
-
-  -- ---- one command
-
-  change-alike : (c : Command) → Follows Alike (change d c) (change (with_queue queue d) c)
-  change-alike (command.Task name buffer manner) = start_task-alike name buffer manner
-  change-alike (command.Kill name) = kill-alike name
-  change-alike (command.Alloc name k n) = alloc-alike name k n
-  change-alike (command.Load name k file) = load-alike name k file
-  change-alike (command.Put name k offset bytes) = put-alike name k offset bytes
-  change-alike (command.Free name k) = free-alike name k
-  change-alike (command.Extend name k n) = extend-alike name k n
-  change-alike (command.Mid name k offset by) = mid-alike name k offset by
-  change-alike (command.Claim name n) = claim-alike name n
-  change-alike (command.Release name address) = release-alike name address
-  change-alike (command.Resize name address delta) = resize-alike name address delta
-  change-alike (command.Budge name on) = budge-alike name on
-  change-alike (command.Save name k to leaf) = save-alike name k to leaf
-  change-alike (command.Poll name) = poll-alike name
-  change-alike (command.CancelIn name id) = cancel_in-alike name id
-  change-alike (command.CancelOut name id) = cancel_out-alike name id
-  change-alike (command.Repeat name) = repeat-alike name
-  change-alike (command.Area k delta) = change_area-alike k delta
-  change-alike (command.Make most) = make-alike most
-  change-alike (command.Remove k) = remove-alike k
-  change-alike (command.RmaClaim n) = rma_claim-alike n
-  change-alike (command.RmaFree address) = rma_free-alike address
-  change-alike (command.RmaResize address delta) = rma_resize-alike address delta
-  change-alike (command.Ask q) = question-alike q
+      follows-desk _ _ (send_letter-alike _ d queue same) λ sent q s. Follows.both (SaidAlike.said _ q _ s refl)
+  change-alike (command.Area k delta) =
+      chosen-both (Follows SaidAlike) (k == module_area) _ _ _ _ (follows-same _ _ _ λ c. Follows.both (SaidAlike.said _ queue _ same refl))
+      (chosen-both (Follows SaidAlike) (nat_lt k (length d.areas)) _ _ _ _ (follows-same _ _ _ λ n. Follows.both (SaidAlike.said _ queue _ same refl))
+      (follows-same _ _ _ λ m. follows-same _ _ _ λ n. follows-then _ _ _ (Follows.both (SaidAlike.said _ queue _ same refl))))
+  change-alike (command.Make most) = follows-then _ _ _ (follows-then _ _ _ (Follows.both (SaidAlike.said _ queue _ same refl)))
+  change-alike (command.Remove k) = follows-same _ _ _ λ m. Follows.both (SaidAlike.said _ queue _ same refl)
+  change-alike (command.RmaClaim n) = follows-same _ _ _ λ c. Follows.both (SaidAlike.said _ queue _ same refl)
+  change-alike (command.RmaFree address) =
+      follows-equal _ _ _ _ (own_block-same address d queue same) λ b. follows-same _ _ _ λ h. Follows.both (SaidAlike.said _ queue _ same refl)
+  change-alike (command.RmaResize address delta) =
+      follows-equal _ _ _ _ (own_block-same address d queue same) λ b. follows-same _ _ _ λ c. Follows.both (SaidAlike.said _ queue _ same refl)
+  change-alike (command.Ask q) =
+      follows-known _ _ (asked-requeued queue d q) (first-is d q) λ told first. Follows.both (SaidAlike.said _ queue _ same (first-says first))
 
   step-alike : (c : Command) → Alike (step d c) (step (with_queue queue d) c)
-  step-alike c = or_else-follows Alike _ _ (change-alike c) (λ refusal. Alike.alike d queue _ same)
+  step-alike c = or_else-follows Alike _ _ (follows-less less (change-alike c)) (λ refusal. Alike.alike d queue _ same)
+    where
+      less : (x y : Answer) → SaidAlike x y → Alike x y
+      less _ _ (SaidAlike.said d queue r same other) = Alike.alike d queue r same
+
+-- no command that is granted answers that it was refused
+pub never-refused : (d : Desk) (c : Command) → OnGrant (λ (a : Answer). is_refused a.1 ≡ false) (change d c)
+never-refused d c = go (change-alike d d.post.queued (record { each = λ h. refl }) c)
+  where
+    go : {g h : Granted Answer} → Follows SaidAlike g h → OnGrant (λ (a : Answer). is_refused a.1 ≡ false) g
+    go (Follows.both (SaidAlike.said d queue r same other)) = granted other
+    go Follows.neither = ungranted
 
 -- what is alike has the same reply, and desks that differ in that order alone
 answers-alike : {x y : Answer} → Alike x y → (y.1 ≡ x.1) × IsReordered x.0 y.0

@@ -1,5 +1,5 @@
 -- What holds of each question: it leaves the desk, doesn't see the order of messages, and alone lists more than a line.
-use Rattle.std.proofs.Common.{◌≡◌, ℕ, true, eqb, List, refl, ap, ◌∙◌, rules}
+use Rattle.std.proofs.Common.{◌≡◌, ℕ, true, false, eqb, List, refl, ap, ◌∙◌, rules}
 use borrow.Author.Tests.{tests}
 use Rattle.std.specs.Prelude.{Ok, Err, if◌then◌else◌}
 use Rattle.rh_defs.specs.declared.command.Command.{Command}
@@ -15,7 +15,7 @@ use Rattle.rh_defs.specs.Commands.{Answer}
 use Rattle.rh_defs.specs.Listing.{Nothing}
 use Rattle.rh_defs.specs.Range.{can_be_asked}
 use Rattle.rh_defs.specs.Questions.{Told, asked, begins, is_same, show, blocks, heap, status}
-use Rattle.rh_defs.specs.Step.{step}
+use Rattle.rh_defs.specs.Step.{is_refused, step}
 use Rattle.rh_defs.specs.Order.{with_queue, IsReordered}
 use Rattle.rh_defs.proofs.Chains.{OnGrant, granted, granted-then, grant-holds}
 use Rattle.rh_defs.specs.Text.{answer_text, first_line, reply_text}
@@ -68,6 +68,14 @@ first-is d (question.Blocks name) = granted-then _ _ λ t e. granted block_count
 first-is d (question.Heap name) = granted-then _ _ λ t e. granted heap_sums
 first-is d (question.Status name) = granted-then _ _ λ t e. granted status_of
 first-is d question.Areas = granted free_page_count
+
+-- no answer begins with a refusal
+pub first-says : {r : Reply} → IsFirst r → is_refused r ≡ false
+first-says shown = refl
+first-says block_count = refl
+first-says heap_sums = refl
+first-says status_of = refl
+first-says free_page_count = refl
 
 eqb-refl : (n : ℕ) → eqb n n ≡ true
 eqb-refl n = search (rules, tests)

@@ -163,13 +163,6 @@ module _ (k n : ℕ) where
 module _ (d : Desk) where
   -- ---- tasks
 
-  start_task-keeps : (name : List ℕ) (buffer : ℕ) (manner : Manner) → Keeps d (start_task d name buffer manner)
-  unfolding start_task
-  start_task-keeps name buffer manner is =
-      granted-past _ _ _ λ new. granted-past _ _ _ λ few. granted-past _ _ _ λ more.
-      granted-with _ (slot_begin-grants (free_pages d)) λ s fits.
-      granted (answer-is (with_new_task-keeps d _ refl (leb-false _ _ few) (leb-false _ _ more) fits.0 fits.1 is))
-
   -- the dead task's seat, messages and pages go
   kill-keeps : (name : List ℕ) → Keeps d (kill d name)
   unfolding kill with_delivered
@@ -193,133 +186,13 @@ module _ (d : Desk) where
         scrap = omega (arith, is.scrap, kept_scrap-less (post_death t.handle d.post) d.scrap);
       }))
 
-  -- ---- flex blocks
-
-  alloc-keeps : (name : List ℕ) (k n : ℕ) → k < anchor_count → Keeps d (alloc d name k n)
-  unfolding alloc
-  alloc-keeps name k n small is =
-      granted-with _ (named-task name d is) λ t task.
-      granted-with _ (slot_alloc-grants (free_pages d) k n t.slot small task.slot) λ p fits.
-      granted (answer-is (with_slot-keeps d t p.0 task fits is))
-
-  load-keeps : (name : List ℕ) (k : ℕ) (file : List ℕ) → k < anchor_count → Keeps d (load d name k file)
-  unfolding load
-  load-keeps name k file small is =
-      granted-with _ (named-task name d is) λ t task. granted-then _ _ λ entry found.
-      granted-with _ (slot_alloc-grants (free_pages d) k (length entry.1) t.slot small task.slot) λ p first.
-      granted-with _ (slot_put-grants 0 k 0 entry.1 p.0 first.slot) λ s second.
-      granted (answer-is (with_slot-keeps d t s task (roomed-after first second) is))
-
-  put-keeps : (name : List ℕ) (k offset : ℕ) (bytes : List ℕ) → Keeps d (put d name k offset bytes)
-  unfolding put
-  put-keeps name k offset bytes is =
-      granted-with _ (named-task name d is) λ t task. granted-then _ _ λ b idle.
-      granted-with _ (slot_put-grants (free_pages d) k offset bytes t.slot task.slot) λ s fits.
-      granted (answer-is (with_slot-keeps d t s task fits is))
-
-  free-keeps : (name : List ℕ) (k : ℕ) → Keeps d (free d name k)
-  unfolding free
-  free-keeps name k is =
-      granted-with _ (named-task name d is) λ t task. granted-then _ _ λ b idle.
-      granted-with _ (slot_free-grants (free_pages d) k t.slot task.slot) λ s fits.
-      granted (answer-is (with_slot-keeps d t s task fits is))
-
-  extend-keeps : (name : List ℕ) (k n : ℕ) → Keeps d (extend d name k n)
-  unfolding extend
-  extend-keeps name k n is =
-      granted-with _ (named-task name d is) λ t task. granted-then _ _ λ b idle.
-      granted-with _ (slot_extend-grants (free_pages d) k n t.slot task.slot) λ s fits.
-      granted (answer-is (with_slot-keeps d t s task fits is))
-
-  mid-keeps : (name : List ℕ) (k offset : ℕ) (by : ℤ) → Keeps d (mid d name k offset by)
-  unfolding mid
-  mid-keeps name k offset by is =
-      granted-with _ (named-task name d is) λ t task. granted-then _ _ λ b idle.
-      granted-with _ (slot_mid-grants (free_pages d) k offset by t.slot task.slot) λ s fits.
-      granted (answer-is (with_slot-keeps d t s task fits is))
-
-  -- ---- the C heap
-
-  claim-keeps : (name : List ℕ) (n : ℕ) → Keeps d (claim d name n)
-  unfolding claim
-  claim-keeps name n is =
-      granted-with _ (named-task name d is) λ t task.
-      granted-with _ (slot_claim-grants (free_pages d) n t.slot task.slot) λ p fits.
-      granted (answer-is (with_slot-keeps d t p.0 task fits is))
-
-  release-keeps : (name : List ℕ) (address : ℕ) → Keeps d (release d name address)
-  unfolding release
-  release-keeps name address is =
-      granted-with _ (named-task name d is) λ t task. granted-then _ _ λ b idle.
-      granted-with _ (slot_release-grants (free_pages d) address t.slot task.slot) λ s fits.
-      granted (answer-is (with_slot-keeps d t s task fits is))
-
-  resize-keeps : (name : List ℕ) (address : ℕ) (delta : ℤ) → Keeps d (resize d name address delta)
-  unfolding resize
-  resize-keeps name address delta is =
-      granted-with _ (named-task name d is) λ t task. granted-then _ _ λ b idle.
-      granted-with _ (slot_resize-grants (free_pages d) address delta t.slot task.slot) λ p fits.
-      granted (answer-is (with_slot-keeps d t p.0 task fits is))
-
-  budge-keeps : (name : List ℕ) (on : Bool) → Keeps d (budge d name on)
-  unfolding budge
-  budge-keeps name on is =
-      granted-with _ (named-task name d is) λ t task.
-      granted (answer-is (with_slot-keeps d t (record t.slot { budging = on }) task
-      (record { room = omega arith; slot = record { heap = task.slot.heap; anchors = task.slot.anchors } }) is))
-
   -- ---- messages
-
-  save-keeps : (name : List ℕ) (k : ℕ) (to leaf : List ℕ) → Keeps d (save d name k to leaf)
-  unfolding save
-  save-keeps name k to leaf is =
-      granted-then _ _ λ t found. granted-then _ _ λ b idle. granted-past _ _ _ λ room. granted-then _ _ λ r live.
-      granted-with _ (send_letter-keeps _ d is) λ sent ok.
-      granted (answer-is (with_sending-keeps t.handle _ sent ok.desk))
-
-  repeat-keeps : (name : List ℕ) → Keeps d (repeat d name)
-  unfolding repeat
-  repeat-keeps name is =
-      granted-then _ _ λ t found. granted-then _ _ λ last there.
-      granted-with _ (send_letter-keeps _ d is) λ sent ok. granted (answer-is ok.desk)
 
   poll_taken-keeps : (t : Task) (o : Option Parcel) → IsTask d t → IsDesk d → IsAnswer (poll_taken d t o)
   unfolding poll_taken
   poll_taken-keeps t None task is = answer-is is
   poll_taken-keeps t (Some m) task is =
       let after : IsAfter (handled d t m m.code) = handled-keeps d t m m.code task is in answer-is after.desk
-
-  cancel_in-keeps : (name : List ℕ) (id : Option ℕ) → Keeps d (cancel_in d name id)
-  unfolding cancel_in
-  cancel_in-keeps name id is =
-      granted-then _ _ λ t found. granted-then _ _ λ records meant. granted (answer-is (with_taking-keeps t.handle _ d is))
-
-  cancel_out-keeps : (name : List ℕ) (id : Option ℕ) → Keeps d (cancel_out d name id)
-  unfolding cancel_out
-  cancel_out-keeps name id is =
-      granted-then _ _ λ t found. granted-then _ _ λ records meant. granted (answer-is (with_sending-keeps t.handle _ d is))
-
-  -- ---- the module area's blocks
-
-  rma_claim-keeps : (n : ℕ) → Keeps d (rma_claim d n)
-  unfolding rma_claim
-  rma_claim-keeps n is =
-      granted-with _ (module_claim-grants (free_pages d) n d.post.heap is.post.heap) λ c fills.
-      granted (answer-is (with_module-keeps c.0 d fills is))
-
-  rma_free-keeps : (address : ℕ) → Keeps d (rma_free d address)
-  unfolding rma_free
-  rma_free-keeps address is =
-      granted-then _ _ λ b own.
-      granted-with _ (module_free-grants (free_pages d) _ d.post.heap is.post.heap) λ h fills.
-      granted (answer-is (with_module-keeps h d fills is))
-
-  rma_resize-keeps : (address : ℕ) (delta : ℤ) → Keeps d (rma_resize d address delta)
-  unfolding rma_resize
-  rma_resize-keeps address delta is =
-      granted-then _ _ λ b own.
-      granted-with _ (module_resize-grants (free_pages d) _ delta d.post.heap is.post.heap) λ c fills.
-      granted (answer-is (with_module-keeps c.0 d fills is))
 
   -- ---- areas
 
@@ -392,15 +265,6 @@ module _ (d : Desk) where
         sizes = filter-all (λ (m : Made). m.pages ≤ m.most) other d.made is.made.sizes;
       }) is))
 
-poll-keeps : (d : Desk) (name : List ℕ) → Keeps d (poll d name)
-unfolding poll
-poll-keeps d name is =
-    granted-with _ (named-task name d is) λ t task.
-    let kept = post_poll-kept t.handle d.post is.post in
-    let after : Desk = with_delivered (post_poll t.handle d.post).0 d in
-    granted (poll_taken-keeps after t (post_poll t.handle d.post).1 (delivered-task (post_poll t.handle d.post).0 d t task)
-    (with_delivered-keeps (post_poll t.handle d.post).0 d kept is))
-
 -- ---- one command
 
 -- a command in range names one of the anchors
@@ -423,29 +287,84 @@ load-anchor name k file h = second (is_name name) (is_name file) (nat_lt k ancho
     second false c b e h = absurd cc
 
 pub change-keeps : (d : Desk) (c : Command) → in_range c ≡ true → Keeps d (change d c)
-change-keeps d (command.Task name buffer manner) h is = start_task-keeps d name buffer manner is
+unfolding start_task alloc load put free extend mid claim release resize budge save repeat cancel_in cancel_out rma_claim rma_free rma_resize poll
+change-keeps d (command.Task name buffer manner) h is =
+    granted-past _ _ _ λ new. granted-past _ _ _ λ few. granted-past _ _ _ λ more.
+    granted-with _ (slot_begin-grants (free_pages d)) λ s fits.
+    granted (answer-is (with_new_task-keeps d _ refl (leb-false _ _ few) (leb-false _ _ more) fits.0 fits.1 is))
 change-keeps d (command.Kill name) h is = kill-keeps d name is
-change-keeps d (command.Alloc name k n) h is = alloc-keeps d name k n (alloc-anchor name k n h) is
-change-keeps d (command.Load name k file) h is = load-keeps d name k file (load-anchor name k file h) is
-change-keeps d (command.Put name k offset bytes) h is = put-keeps d name k offset bytes is
-change-keeps d (command.Free name k) h is = free-keeps d name k is
-change-keeps d (command.Extend name k n) h is = extend-keeps d name k n is
-change-keeps d (command.Mid name k offset by) h is = mid-keeps d name k offset by is
-change-keeps d (command.Claim name n) h is = claim-keeps d name n is
-change-keeps d (command.Release name address) h is = release-keeps d name address is
-change-keeps d (command.Resize name address delta) h is = resize-keeps d name address delta is
-change-keeps d (command.Budge name on) h is = budge-keeps d name on is
-change-keeps d (command.Save name k to leaf) h is = save-keeps d name k to leaf is
-change-keeps d (command.Poll name) h is = poll-keeps d name is
-change-keeps d (command.CancelIn name id) h is = cancel_in-keeps d name id is
-change-keeps d (command.CancelOut name id) h is = cancel_out-keeps d name id is
-change-keeps d (command.Repeat name) h is = repeat-keeps d name is
+change-keeps d (command.Alloc name k n) h is =
+    granted-with _ (named-task name d is) λ t task.
+    granted-with _ (slot_alloc-grants (free_pages d) k n t.slot (alloc-anchor name k n h) task.slot) λ p fits.
+    granted (answer-is (with_slot-keeps d t p.0 task fits is))
+change-keeps d (command.Load name k file) h is =
+    granted-with _ (named-task name d is) λ t task. granted-then _ _ λ entry found.
+    granted-with _ (slot_alloc-grants (free_pages d) k (length entry.1) t.slot (load-anchor name k file h) task.slot) λ p first.
+    granted-with _ (slot_put-grants 0 k 0 entry.1 p.0 first.slot) λ s second.
+    granted (answer-is (with_slot-keeps d t s task (roomed-after first second) is))
+change-keeps d (command.Put name k offset bytes) h is =
+    granted-with _ (named-task name d is) λ t task. granted-then _ _ λ b idle.
+    granted-with _ (slot_put-grants (free_pages d) k offset bytes t.slot task.slot) λ s fits.
+    granted (answer-is (with_slot-keeps d t s task fits is))
+change-keeps d (command.Free name k) h is =
+    granted-with _ (named-task name d is) λ t task. granted-then _ _ λ b idle.
+    granted-with _ (slot_free-grants (free_pages d) k t.slot task.slot) λ s fits.
+    granted (answer-is (with_slot-keeps d t s task fits is))
+change-keeps d (command.Extend name k n) h is =
+    granted-with _ (named-task name d is) λ t task. granted-then _ _ λ b idle.
+    granted-with _ (slot_extend-grants (free_pages d) k n t.slot task.slot) λ s fits.
+    granted (answer-is (with_slot-keeps d t s task fits is))
+change-keeps d (command.Mid name k offset by) h is =
+    granted-with _ (named-task name d is) λ t task. granted-then _ _ λ b idle.
+    granted-with _ (slot_mid-grants (free_pages d) k offset by t.slot task.slot) λ s fits.
+    granted (answer-is (with_slot-keeps d t s task fits is))
+change-keeps d (command.Claim name n) h is =
+    granted-with _ (named-task name d is) λ t task.
+    granted-with _ (slot_claim-grants (free_pages d) n t.slot task.slot) λ p fits.
+    granted (answer-is (with_slot-keeps d t p.0 task fits is))
+change-keeps d (command.Release name address) h is =
+    granted-with _ (named-task name d is) λ t task. granted-then _ _ λ b idle.
+    granted-with _ (slot_release-grants (free_pages d) address t.slot task.slot) λ s fits.
+    granted (answer-is (with_slot-keeps d t s task fits is))
+change-keeps d (command.Resize name address delta) h is =
+    granted-with _ (named-task name d is) λ t task. granted-then _ _ λ b idle.
+    granted-with _ (slot_resize-grants (free_pages d) address delta t.slot task.slot) λ p fits.
+    granted (answer-is (with_slot-keeps d t p.0 task fits is))
+change-keeps d (command.Budge name on) h is =
+    granted-with _ (named-task name d is) λ t task.
+    granted (answer-is (with_slot-keeps d t (record t.slot { budging = on }) task
+    (record { room = omega arith; slot = record { heap = task.slot.heap; anchors = task.slot.anchors } }) is))
+change-keeps d (command.Save name k to leaf) h is =
+    granted-then _ _ λ t found. granted-then _ _ λ b idle. granted-past _ _ _ λ room. granted-then _ _ λ r live.
+    granted-with _ (send_letter-keeps _ d is) λ sent ok.
+    granted (answer-is (with_sending-keeps t.handle _ sent ok.desk))
+change-keeps d (command.Poll name) h is =
+    granted-with _ (named-task name d is) λ t task.
+    let kept = post_poll-kept t.handle d.post is.post in
+    let after : Desk = with_delivered (post_poll t.handle d.post).0 d in
+    granted (poll_taken-keeps after t (post_poll t.handle d.post).1 (delivered-task (post_poll t.handle d.post).0 d t task)
+    (with_delivered-keeps (post_poll t.handle d.post).0 d kept is))
+change-keeps d (command.CancelIn name id) h is =
+    granted-then _ _ λ t found. granted-then _ _ λ records meant. granted (answer-is (with_taking-keeps t.handle _ d is))
+change-keeps d (command.CancelOut name id) h is =
+    granted-then _ _ λ t found. granted-then _ _ λ records meant. granted (answer-is (with_sending-keeps t.handle _ d is))
+change-keeps d (command.Repeat name) h is =
+    granted-then _ _ λ t found. granted-then _ _ λ last there.
+    granted-with _ (send_letter-keeps _ d is) λ sent ok. granted (answer-is ok.desk)
 change-keeps d (command.Area k delta) h is = change_area-keeps d k delta is
 change-keeps d (command.Make most) h is = make-keeps d most is
 change-keeps d (command.Remove k) h is = remove-keeps d k is
-change-keeps d (command.RmaClaim n) h is = rma_claim-keeps d n is
-change-keeps d (command.RmaFree address) h is = rma_free-keeps d address is
-change-keeps d (command.RmaResize address delta) h is = rma_resize-keeps d address delta is
+change-keeps d (command.RmaClaim n) h is =
+    granted-with _ (module_claim-grants (free_pages d) n d.post.heap is.post.heap) λ c fills.
+    granted (answer-is (with_module-keeps c.0 d fills is))
+change-keeps d (command.RmaFree address) h is =
+    granted-then _ _ λ b own.
+    granted-with _ (module_free-grants (free_pages d) _ d.post.heap is.post.heap) λ h fills.
+    granted (answer-is (with_module-keeps h d fills is))
+change-keeps d (command.RmaResize address delta) h is =
+    granted-then _ _ λ b own.
+    granted-with _ (module_resize-grants (free_pages d) _ delta d.post.heap is.post.heap) λ c fills.
+    granted (answer-is (with_module-keeps c.0 d fills is))
 change-keeps d (command.Ask q) h is = granted-then (asked d q) _ λ told e. granted (answer-is is)
 
 pub step-keeps : (d : Desk) (c : Command) → in_range c ≡ true → IsDesk d → IsDesk (step d c).0

@@ -3,6 +3,7 @@ pub mod Pieces
 pub mod Bytes
 pub mod Forms
 pub mod Range
+pub mod Named
 pub mod Files
 pub mod Memory
 pub mod Heap

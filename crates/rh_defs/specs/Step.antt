@@ -1,8 +1,9 @@
 -- What each command does.
-use Rattle.std.specs.Prelude.{ℕ, List, length, find, Option, Some, None, Ok}
+use Rattle.std.specs.Prelude.{ℕ, Bool, true, false, List, length, find, Option, Some, None, Ok}
 use Rattle.rh_defs.specs.declared.refusal.Refusal.TheVariants.{NoTask, NothingSent, Busy}
 use Rattle.rh_defs.specs.declared.command.Command.{Command}
 use Rattle.rh_defs.specs.declared.command.Command.TheVariants as command
+use Rattle.rh_defs.specs.declared.reply.Reply.{Reply}
 use Rattle.rh_defs.specs.declared.reply.Reply.TheVariants as reply
 use Rattle.rh_defs.specs.Chain.{Granted, ◌>>=◌, ◌>>◌, refuse_if, found_or, or_else}
 use Rattle.rh_defs.specs.Messages.{Parcel, action_of}
@@ -99,6 +100,11 @@ change d (command.Ask q) = asked d q >>= λ told. Ok (d, told.0)
 -- one command: a refusal leaves the desk as it was
 abbrev pub step : Desk → Command → Answer
 step d c = or_else (change d c) (λ refusal. (d, reply.Refused refusal))
+
+-- whether a reply says that the command was refused
+abbrev pub is_refused : Reply → Bool
+is_refused (reply.Refused refusal) = true
+is_refused said = false
 
 -- opens this file's words, for a proof that computes
 unfoldable pub computing : Unit {0}

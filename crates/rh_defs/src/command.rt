@@ -1,7 +1,9 @@
 //! The commands of a script.
 
 ghost use Rattle.std.specs.Prelude.{◌≡◌};
+ghost use Rattle.std.specs.Option.{option_map};
 ghost use Rattle.rh_defs.specs.Forms.{is_delta as is_delta_of, is_id as is_id_of};
+ghost use Rattle.rh_defs.specs.Named.{name_in};
 ghost use Rattle.rh_defs.specs.Range.{in_range as in_range_of};
 
 use crate::bytes::Bytes;
@@ -230,6 +232,38 @@ impl Command {
             | Command::Poll { name }
             | Command::Repeat { name } => name.is_valid(),
             Command::Ask(question) => question.in_range(),
+        }
+    }
+
+    /// The name of the task that it is about; commands on areas and on the module area are about none.
+    pub fn task_name(&self) -> Option<&Name>
+        ensures { option_map (λ n. n.now) result ≡ name_in self.now }
+    {
+        match self {
+            Command::Task { name, .. }
+            | Command::Kill { name }
+            | Command::Alloc { name, .. }
+            | Command::Load { name, .. }
+            | Command::Put { name, .. }
+            | Command::Free { name, .. }
+            | Command::Extend { name, .. }
+            | Command::Mid { name, .. }
+            | Command::Claim { name, .. }
+            | Command::Release { name, .. }
+            | Command::Resize { name, .. }
+            | Command::Budge { name, .. }
+            | Command::Save { name, .. }
+            | Command::Poll { name }
+            | Command::CancelIn { name, .. }
+            | Command::CancelOut { name, .. }
+            | Command::Repeat { name } => Some(name),
+            Command::Ask(question) => question.task_name(),
+            Command::Area { .. }
+            | Command::Make { .. }
+            | Command::Remove { .. }
+            | Command::RmaClaim { .. }
+            | Command::RmaFree { .. }
+            | Command::RmaResize { .. } => None,
         }
     }
 }

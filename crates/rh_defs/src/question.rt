@@ -1,6 +1,8 @@
 //! What is asked of a desk.
 
 ghost use Rattle.std.specs.Prelude.{◌≡◌};
+ghost use Rattle.std.specs.Option.{option_map};
+ghost use Rattle.rh_defs.specs.Named.{name_asked};
 ghost use Rattle.rh_defs.specs.Range.{can_be_asked};
 
 use crate::ids::Anchor;
@@ -32,6 +34,19 @@ impl Question {
                 name.is_valid()
             }
             Question::Areas => true,
+        }
+    }
+
+    /// The name of the task that it is about.
+    pub(crate) fn task_name(&self) -> Option<&Name>
+        ensures { option_map (λ n. n.now) result ≡ name_asked self.now }
+    {
+        match self {
+            Question::Show { name, .. }
+            | Question::Blocks { name }
+            | Question::Heap { name }
+            | Question::Status { name } => Some(name),
+            Question::Areas => None,
         }
     }
 }

@@ -3,8 +3,6 @@ use Rattle.std.specs.Prelude.{ℕ, ◌==◌, nat_lt, ◌||◌, Bool, true, false
 use Rattle.std.specs.List.{flat_map}
 use Rattle.rh_defs.specs.declared.command.Command.{Command}
 use Rattle.rh_defs.specs.declared.command.Command.TheVariants as command
-use Rattle.rh_defs.specs.declared.question.Question.{Question}
-use Rattle.rh_defs.specs.declared.question.Question.TheVariants as question
 use Rattle.rh_defs.specs.declared.reply.Reply.{Reply}
 use Rattle.rh_defs.specs.declared.reply.Reply.TheVariants as reply
 use Rattle.rh_defs.specs.declared.listing.BlockItem.{BlockItem}
@@ -17,6 +15,8 @@ use Rattle.rh_defs.specs.Post.{Seat, held_by}
 use Rattle.rh_defs.specs.Desk.{Desk, Task, has_name, task_at, free_pages, next_ref}
 use Rattle.rh_defs.specs.Listing.{block_items}
 use Rattle.rh_defs.specs.Order.{is_to, with_queue}
+use Rattle.rh_defs.specs.Named.{name_in}
+use Rattle.rh_defs.specs.Step.{is_refused}
 use Rattle.rh_figure.specs.Share.{Holding, Share, holdings}
 
 -- ---- before the command
@@ -31,36 +31,7 @@ pub record Before : Type 0 where
   pub free : ℕ
   pub next_ref : ℕ
 
--- the name of the task that a question is about
-abbrev pub name_asked : Question → Option (List ℕ)
-name_asked (question.Show name k) = Some name
-name_asked (question.Blocks name) = Some name
-name_asked (question.Heap name) = Some name
-name_asked (question.Status name) = Some name
-name_asked question.Areas = None
-
--- the name of the task that a command is about
-abbrev pub name_in : Command → Option (List ℕ)
-name_in (command.Task name buffer manner) = Some name
-name_in (command.Kill name) = Some name
-name_in (command.Alloc name k n) = Some name
-name_in (command.Load name k file) = Some name
-name_in (command.Put name k offset bytes) = Some name
-name_in (command.Free name k) = Some name
-name_in (command.Extend name k n) = Some name
-name_in (command.Mid name k offset by) = Some name
-name_in (command.Claim name n) = Some name
-name_in (command.Release name address) = Some name
-name_in (command.Resize name address delta) = Some name
-name_in (command.Budge name on) = Some name
-name_in (command.Save name k to leaf) = Some name
-name_in (command.Poll name) = Some name
-name_in (command.CancelIn name id) = Some name
-name_in (command.CancelOut name id) = Some name
-name_in (command.Repeat name) = Some name
-name_in (command.Ask q) = name_asked q
-name_in _ = None
-
+-- the live task that a command names
 abbrev pub task_in : Option Command → Desk → Option Task
 task_in None d = None
 task_in (Some c) d = named_in (name_in c)
@@ -117,14 +88,10 @@ abbrev pub is_question : Command → Bool
 is_question (command.Ask q) = true
 is_question _ = false
 
-abbrev pub is_refusal : Reply → Bool
-is_refusal (reply.Refused refusal) = true
-is_refusal _ = false
-
 -- whether the step can't have changed the desk: a bad line, a question, a refusal
 abbrev pub is_still : Option Command → Reply → Bool
 is_still None r = true
-is_still (Some c) r = is_question c || is_refusal r
+is_still (Some c) r = is_question c || is_refused r
 
 -- the last letter of the task, if the command sent it
 abbrev pub sent_by : Before → Option Task → Option (Letter × ℕ)

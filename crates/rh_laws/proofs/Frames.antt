@@ -145,12 +145,12 @@ module _ (k : ℕ) (d : Desk) where
   changed-kept others _ (in_nothing quiet) = record { desk = all-stand }
 
   -- the task whose slot is changed is the command's own
-  actor-is : (c : Command) (name : List ℕ) → slot_name c ≡ Some name → actor c d ≡ handle_of name d
-  actor-is (command.Task name buffer manner) own e = absurd (none_some None refl e)
-  actor-is c own e = cc
+  actor-is : (c : Command) → IsOnMemory c → (name : List ℕ) → slot_name c ≡ Some name → actor c d ≡ handle_of name d
+  actor-is (command.Task name buffer manner) is own e = absurd is
+  actor-is c is own e = cc
 
   memory-kept : (c : Command) → IsOnMemory c → actor c d ≢ Some k → OnGrant Kept (change d c)
-  memory-kept c is ne = granted-on d c is (changed-kept λ name own same. ne (actor-is c name own ∙ same))
+  memory-kept c is ne = granted-on d c is (changed-kept λ name own same. ne (actor-is c is name own ∙ same))
 
   -- no task polls
   poll-kept : (name : List ℕ) → find (has_name name) d.tasks ≡ None → OnGrant Kept (poll d name)

@@ -18,6 +18,7 @@ use Rattle.rh_defs.specs.Slot.{Flex, heap_block_at}
 use Rattle.rh_defs.specs.Places.{with_heap_bytes}
 use Rattle.rh_defs.specs.Desk.{Desk, Task, has_name, task_at}
 use Rattle.rh_defs.specs.Commands.{Answer}
+use Rattle.rh_defs.specs.Named.{name_in}
 use Rattle.rh_defs.specs.Step.{step}
 use Rattle.rh_safety.specs.Offered.{bytes_of_block}
 use Rattle.rh_safety.specs.TaskRecords.{HoldsOne}
@@ -28,26 +29,16 @@ use Rattle.rh_safety.specs.TaskRecords.{HoldsOne}
 abbrev pub handle_of : List ℕ → Desk → Option ℕ
 handle_of name d = option_map (λ (t : Task). t.handle) (find (has_name name) d.tasks)
 
+-- the handle of the live task with the name, where there is a name
+abbrev pub handle_named : Option (List ℕ) → Desk → Option ℕ
+handle_named None d = None
+handle_named (Some name) d = handle_of name d
+
 -- the handle of the task that a command is of: a new task has the next one; one on areas and a question are of none
 abbrev pub actor : Command → Desk → Option ℕ
 actor (command.Task name buffer manner) d = Some d.next_handle
-actor (command.Kill name) d = handle_of name d
-actor (command.Alloc name k n) d = handle_of name d
-actor (command.Load name k file) d = handle_of name d
-actor (command.Put name k offset bytes) d = handle_of name d
-actor (command.Free name k) d = handle_of name d
-actor (command.Extend name k n) d = handle_of name d
-actor (command.Mid name k offset by) d = handle_of name d
-actor (command.Claim name n) d = handle_of name d
-actor (command.Release name address) d = handle_of name d
-actor (command.Resize name address delta) d = handle_of name d
-actor (command.Budge name on) d = handle_of name d
-actor (command.Save name k to leaf) d = handle_of name d
-actor (command.Poll name) d = handle_of name d
-actor (command.CancelIn name id) d = handle_of name d
-actor (command.CancelOut name id) d = handle_of name d
-actor (command.Repeat name) d = handle_of name d
-actor _ d = None
+actor (command.Ask q) d = None
+actor c d = handle_named (name_in c) d
 
 -- the live task that polls by the command, where one does
 abbrev pub poller : Command → Desk → Option Task

@@ -10,6 +10,7 @@ use Rattle.rh_defs.specs.Slot.{Slot}
 use Rattle.rh_defs.specs.Desk.{Desk, Made, Task, named, with_module, with_slot}
 use Rattle.rh_defs.specs.Commands.{Answer, alloc, load, put, free, extend, mid, claim, release, resize, budge, module_area}
 use Rattle.rh_defs.specs.Commands.{change_module, change_pages, change_made, remove, rma_claim, rma_free, rma_resize}
+use Rattle.rh_defs.specs.Named.{name_in}
 use Rattle.rh_defs.specs.Step.{change}
 use Rattle.rh_defs.proofs.Chains.{OnGrant, chosen, granted, granted-past, granted-then, granted-with, refused}
 use Rattle.rh_defs.proofs.QuestionLaws.{IsFirst, shown, block_count, heap_sums, status_of, free_page_count, first-is}
@@ -27,19 +28,10 @@ IsOnMemory (command.Repeat name) = ⊥
 IsOnMemory (command.Make most) = ⊥
 IsOnMemory c = Unit {0}
 
--- the task whose slot a command changes
+-- the task whose slot a command may change
 abbrev pub slot_name : Command → Option (List ℕ)
-slot_name (command.Alloc name k n) = Some name
-slot_name (command.Load name k file) = Some name
-slot_name (command.Put name k offset bytes) = Some name
-slot_name (command.Free name k) = Some name
-slot_name (command.Extend name k n) = Some name
-slot_name (command.Mid name k offset by) = Some name
-slot_name (command.Claim name n) = Some name
-slot_name (command.Release name address) = Some name
-slot_name (command.Resize name address delta) = Some name
-slot_name (command.Budge name on) = Some name
-slot_name c = None
+slot_name (command.Ask q) = None
+slot_name c = name_in c
 
 -- a reply that tells of no new task, message or area
 pub record IsQuiet (said : Reply) : Type 0 where

@@ -25,5 +25,5 @@ pub use sight::{
     AreaSight, HeapOf, Messages, PageList, PagesOf, ScrapSight, Segments, Sight, TaskSight,
 };
 pub use step::Step;
-pub use tasks::{name_in, task_named, task_with};
+pub use tasks::{task_named, task_with};
 pub use walk::{Census, heap_address, place_behind, take_census};

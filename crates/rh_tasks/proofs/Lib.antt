@@ -38,7 +38,6 @@ pub mod QuestionLaws
 pub mod Openings
 pub mod NewWorlds
 pub mod PageLaws
-pub mod Replies
 pub mod Told
 pub mod Steps
 pub mod AreaCommands
@@ -59,6 +58,7 @@ pub mod Buffers
 pub mod Takings
 pub mod Scraps
 pub mod ScrapTransfers
+pub mod SaveScenes
 pub mod TransferBlocks
 pub mod SightLaws
 pub mod FirstBytes

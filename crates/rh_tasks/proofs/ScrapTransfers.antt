@@ -312,26 +312,48 @@ pub sends-ok : (l : Letter) (old new : Shown) (r : Result ℕ Refusal) → Sends
 sends-ok l old new (Ok ref) s is = refl
 sends-ok l old new (Err e) s is = absurd (let h : IsOk (let x : Granted Desk = Err e in x) = subst (λ (x : Granted Desk). IsOk x) s.0 is in cc)
 
-module _ (d : Desk) (i : ℕ) (t : Task) (is : IsDesk d) (at : IsAt i t d) (m : Parcel) (x : Sending) (n : ℕ) (given : slot_size x.anchor t.slot ≡ Ok n)
-    (l : Letter) (same : l ≡ load_letter t.handle m n) where
+-- what is known once the letter has its size: n is the source's, p the pages that the letter l takes
+pub record Saves (d : Desk) (i : ℕ) (t : Task) (m : Parcel) (x : Sending) (n : ℕ) (l : Letter) (p : ℕ) : Type 0 where
+  pub is : IsDesk d
+  pub at : IsAt i t d
+  pub given : slot_size x.anchor t.slot ≡ Ok n
+  pub same : l ≡ load_letter t.handle m n
+  pub idle : is_some d.scrap ≡ false
+  pub needs : post_send_pages l d.post ≡ Ok p
+
+-- and once area 5 has room
+pub record Widens (d first : Desk) (n : ℕ) : Type 0 where
+  pub room : scrap_shortage n d ≤ free_pages d
+  pub widened : first ≡ wider (scrap_shortage n d) d
+
+module _ {d : Desk} {i : ℕ} {t : Task} {m : Parcel} {x : Sending} {n : ℕ} {l : Letter} {p : ℕ} (a : Saves d i t m x n l p) where
   abbrev there : Sized x.anchor n t.slot
-  there = source d t m x n given
+  there = source d t m x n a.given
 
-  own : l.from ≡ t.handle
-  own = ap (λ (l : Letter). l.from) same
+  pub own : l.from ≡ t.handle
+  own = ap (λ (l : Letter). l.from) a.same
 
-  module _ {first : Desk} (widened : first ≡ wider (scrap_shortage n d) d) (room : scrap_shortage n d ≤ free_pages d) where
+  letter-needs : post_send_pages (load_letter t.handle m n) d.post ≡ Ok p
+  letter-needs = ap (λ l. post_send_pages l d.post) (sym a.same) ∙ a.needs
+
+  pub full-is : free_pages d < scrap_shortage n d → scrapped d t m x ≡ Err NoRoom
+  full-is = save-full d t m x n a.given a.idle p letter-needs
+
+  pub short-is : scrap_shortage n d ≤ free_pages d → free_pages d - scrap_shortage n d < p → scrapped d t m x ≡ Err NoRoom
+  short-is = save-short d t m x n a.given a.idle p letter-needs a.is
+
+  module _ {first : Desk} (b : Widens d first n) where
     pub first-at : IsAt i t first
-    first-at = same-at d first i t (ap (λ (x : Desk). x.tasks) widened) at
+    first-at = same-at d first i t (ap (λ (x : Desk). x.tasks) b.widened) a.at
 
     first-desk : IsDesk first
-    first-desk = subst IsDesk (sym widened) (wider-keeps (scrap_shortage n d) d room is)
+    first-desk = subst IsDesk (sym b.widened) (wider-keeps (scrap_shortage n d) d b.room a.is)
 
-    pub first-sends : is_some d.scrap ≡ false → (p : ℕ) → post_send_pages l d.post ≡ Ok p → p ≤ free_pages d - scrap_shortage n d → IsOk (send_letter l first)
-    first-sends idle p needs fits =
-        let e = ap (λ l. post_send_pages l d.post) (sym same) ∙ needs in
-        subst (λ (z : Desk). IsOk (send_letter l z)) (sym widened)
-        (subst (λ (y : Letter). IsOk (send_letter y (wider (scrap_shortage n d) d))) (sym same) (save-sends d t m x n given idle p e is room fits))
+    pub first-sends : p ≤ free_pages d - scrap_shortage n d → IsOk (send_letter l first)
+    first-sends fits =
+        subst (λ (z : Desk). IsOk (send_letter l z)) (sym b.widened)
+        (subst (λ (y : Letter). IsOk (send_letter y (wider (scrap_shortage n d) d))) (sym a.same)
+        (save-sends d t m x n a.given a.idle p letter-needs a.is b.room fits))
 
     module _ {second : Desk} (sent : (e : Desk) × ((send_letter l first ≡ Ok e) × IsReordered e second)) where
       has : HasSent i t sent.0
@@ -352,11 +374,11 @@ module _ (d : Desk) (i : ℕ) (t : Task) (is : IsDesk d) (at : IsAt i t d) (m : 
       pub second-room : n ≤ page * slice_index second.areas scrap_area
       second-room =
           let areas : second.areas ≡ (wider (scrap_shortage n d) d).areas =
-          ap (λ (x : Desk). x.areas) sent.1.1.rest ∙ sent-areas ∙ ap (λ (x : Desk). x.areas) widened in
-          subst (λ (a : List ℕ). n ≤ page * slice_index a scrap_area) (sym areas) (wider-room n d is)
+          ap (λ (x : Desk). x.areas) sent.1.1.rest ∙ sent-areas ∙ ap (λ (x : Desk). x.areas) b.widened in
+          subst (λ (a : List ℕ). n ≤ page * slice_index a scrap_area) (sym areas) (wider-room n d a.is)
 
       pub second-block : (v : Task) → IsAt i v second → slot_size x.anchor v.slot ≡ Ok n
-      second-block v h = ap (λ (y : Task). slot_size x.anchor y.slot) (one-at second i v u h second-at) ∙ given
+      second-block v h = ap (λ (y : Task). slot_size x.anchor y.slot) (one-at second i v u h second-at) ∙ a.given
 
       module _ {third : Desk} (load : ℕ) (filled : (v : Task) (b : Split Flex) → IsAt i v second → slot_block x.anchor v.slot ≡ Ok b
           → third ≡ (let y : Desk = record second { scrap = Some (record { load = load; bytes = b.here.bytes }) } in y)) where
@@ -369,22 +391,20 @@ module _ (d : Desk) (i : ℕ) (t : Task) (is : IsDesk d) (at : IsAt i t d) (m : 
         pub third-inside : i < length third.tasks
         third-inside = at-inside third i u third-at
 
-        pub save-all : {new : Desk} → load ≡ next_ref first → is_some d.scrap ≡ false → (p : ℕ) → post_send_pages l d.post ≡ Ok p
-            → ((v : Task) → IsAt i v third → new ≡ with_sending v.handle (sender.saved x load) third)
+        pub save-all : {new : Desk} → load ≡ next_ref first → ((v : Task) → IsAt i v third → new ≡ with_sending v.handle (sender.saved x load) third)
             → (e : Desk) × ((scrapped d t m x ≡ Ok (e, outcome.Saved n load)) × IsReordered e new)
-        save-all {new} ref idle p needs edited =
-            let r : load ≡ next_ref d = ref ∙ ap next_ref widened in
-            let e = ap (λ l. post_send_pages l d.post) (sym same) ∙ needs in
+        save-all {new} ref edited =
+            let r : load ≡ next_ref d = ref ∙ ap next_ref b.widened in
             let g : send_letter (load_letter t.handle m n) (wider (scrap_shortage n d) d) ≡ Ok sent.0 =
-            ap (λ l. send_letter l (wider (scrap_shortage n d) d)) (sym same) ∙ ap (send_letter l) (sym widened) ∙ sent.1.0 in
-            let done = save-done d t m x n given idle p e is room g in
+            ap (λ l. send_letter l (wider (scrap_shortage n d) d)) (sym a.same) ∙ ap (send_letter l) (sym b.widened) ∙ sent.1.0 in
+            let done = save-done d t m x n a.given a.idle p letter-needs a.is b.room g in
             let last : ℕ → Desk =
             λ k. with_sending t.handle (sender.saved x k) (record second { scrap = Some (record { load = k; bytes = there.cut.here.bytes }) }) in
             let now : new ≡ last (next_ref d) = edited u third-at ∙ ap (with_sending t.handle (sender.saved x load)) third-is ∙ ap last r in (
-              saved_desk d t m x n given sent.0,
+              saved_desk d t m x n a.given sent.0,
               (
-                done ∙ ap (λ k. let y : Granted Handled = Ok (saved_desk d t m x n given sent.0, outcome.Saved n k) in y) (sym r),
-                subst (IsReordered (saved_desk d t m x n given sent.0)) (sym now) (edit-alike t.handle _ (scrap-alike _ sent.1.1)),
+                done ∙ ap (λ k. let y : Granted Handled = Ok (saved_desk d t m x n a.given sent.0, outcome.Saved n k) in y) (sym r),
+                subst (IsReordered (saved_desk d t m x n a.given sent.0)) (sym now) (edit-alike t.handle _ (scrap-alike _ sent.1.1)),
               ),
             )
 

@@ -12,12 +12,12 @@ use Rattle.rh_defs.specs.Commands.{Answer}
 use Rattle.rh_defs.specs.Desk.{Desk}
 use Rattle.rh_defs.specs.Order.{IsReordered}
 use Rattle.rh_defs.specs.Runs.{after}
-use Rattle.rh_defs.specs.Step.{change, step}
-use Rattle.rh_defs.proofs.OrderSteps.{order-ignored}
+use Rattle.rh_defs.specs.Step.{change, is_refused, step}
+use Rattle.rh_defs.proofs.Chains.{grant-holds}
+use Rattle.rh_defs.proofs.OrderSteps.{order-ignored, never-refused}
 use Rattle.rh_tasks.specs.Shown.{Shown}
 use Rattle.rh_tasks.specs.Answer.{Does, Gives, GivesAlike, RunsOn, StaysIfRefused, StaysIfAsked, StepsTo, reply_of}
 use Rattle.rh_tasks.proofs.Reorders.{reordered-refl, reordered-trans}
-use Rattle.rh_tasks.proofs.Replies.{is_refused, never-refuses}
 
 -- where the old desk itself goes, each like it goes
 pub steps-from : (c : Command) (old new : Desk) (said : Reply) → (step old c).1 ≡ said → IsReordered (step old c).0 new → StepsTo c old new said
@@ -55,7 +55,7 @@ steps-alike c granted old new (Err refusal) said given h s =
 -- what is granted is no refusal
 granted-stays : (c : Command) (d e : Desk) (old new : Shown) (said answer : Reply) → change d c ≡ Ok (e, answer) → said ≡ answer → StaysIfRefused old new said
 granted-stays c d e old new said answer given same refusal is =
-    absurd (differ answer refusal (never-refuses d e c answer given) (sym same ∙ is))
+    absurd (differ answer refusal (grant-holds (never-refused d c) given) (sym same ∙ is))
   where
     differ : (answer : Reply) (refusal : Refusal) → is_refused answer ≡ false → answer ≡ reply.Refused refusal → ⊥
     differ answer refusal other e = let both : ◌≡◌ {A = Bool} true false = sym (ap is_refused e) ∙ other in (cc)

@@ -31,6 +31,11 @@ returns-then-not-inside g c =
           rw (← c.self.view_is) (no-target-range c.self.invariant _ _ _ a b (sym w.if-not-inside-2.ensures), refl)
     ]
 
+pub inside-requires : goal.inside-requires
+inside-requires g c =
+    let a = seat-of _ _ _ _ (place-is _ c.with_handle.result c.in_ok-i.ensures.value c.with_handle.ensures) c.index.ensures in
+    record { slot = seat-slot c.self.invariant a.at }
+
 pub returns-then-do_overlap : goal.returns-then-do_overlap
 returns-then-do_overlap g c =
     let a = seat-of _ _ _ _ (place-is _ c.with_handle.result c.in_ok-i.ensures.value c.with_handle.ensures) c.index.ensures in
