@@ -1,11 +1,6 @@
 -- The anchors of a slot's blocks, and what its calls keep of them.
-use Rattle.std.proofs.Common.{◌≡◌, ◌≢◌, ℕ, ◌+◌, ◌<◌, Bool, true, false, cond, refl, sym, List, [], ◌∷◌, ◌++◌}
-use Rattle.std.specs.Prelude.{Option, Some, None, is_some, ◌==◌}
-use Rattle.std.specs.Option.{option_map}
-use borrow.Author.Tests.{eqb-false}
-use Rattle.rh_defs.specs.Pieces.{Split, first_at, behind}
-use Rattle.rh_defs.specs.Slot.{Flex, anchor_count}
-use Rattle.rh_defs.specs.Slot.{IsFree, HaveAnchors}
+use Rattle.rh_defs.proofs.Common.{◌≡◌, ◌≢◌, ℕ, ◌+◌, ◌<◌, Bool, true, false, cond, refl, sym, List, [], ◌∷◌, ◌++◌, Option, Some, None, is_some, ◌==◌}
+use Rattle.rh_defs.proofs.Common.{option_map, eqb-false, Split, first_at, behind, Flex, anchor_count, IsFree, HaveAnchors}
 
 -- no block has the anchor
 pub is_free : (size : Flex → ℕ) (k place : ℕ) (blocks : List Flex) → is_some (first_at size (λ _ b. b.anchor == k) place blocks) ≡ false → IsFree k blocks

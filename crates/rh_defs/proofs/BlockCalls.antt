@@ -1,13 +1,8 @@
 -- What the module area's calls leave of the blocks of its heap.
-use Rattle.std.proofs.Common.{◌≡◌, ℕ, ◌≤◌, Bool, true, false, eqb, ltb, List, refl, sym, subst, ◌∙◌, arith}
-use Rattle.std.proofs.lemmas.List.{length-replicate}
-use Rattle.std.specs.Prelude.{Option, Some, None, Ok, Err}
-use Rattle.rh_defs.specs.Chain.{Granted, ◌>>=◌, ◌>>◌, refuse_if}
-use Rattle.rh_defs.specs.Pieces.{zeros, pages_for, Split}
-use Rattle.rh_defs.specs.Heap.{Heap, Segment, Placed, need, claim_growing, block_room, raised, block_at, release}
-use Rattle.rh_defs.specs.Module.{module_claim, module_free}
-use Rattle.rh_defs.specs.Blocks.{block_bytes, HasBlock, Puts, Frees}
-use Rattle.rh_defs.specs.declared.refusal.Refusal.TheVariants.{NotABlock, BadSize, NoRoom}
+use Rattle.rh_defs.proofs.Common.{◌≡◌, ℕ, ◌≤◌, Bool, true, false, eqb, ltb, List, refl, sym, subst, ◌∙◌, arith, length-replicate, Option, Some, None, Ok, Err}
+use Rattle.rh_defs.proofs.Common.{Granted, ◌>>=◌, ◌>>◌, refuse_if, zeros, pages_for, Split, Heap, Segment, Placed, need, claim_growing, block_room, raised}
+use Rattle.rh_defs.proofs.Common.{block_at, release, module_claim, module_free, block_bytes, Puts, NotABlock, BadSize, NoRoom}
+use Rattle.rh_defs.specs.Blocks.{HasBlock, Frees}
 use Rattle.rh_defs.proofs.BlockLaws.{placed-puts, block_at-bytes, bytes_here, release-frees}
 use Rattle.rh_defs.proofs.ModuleLaws.{module_free-some, module_free-none}
 

@@ -1,24 +1,15 @@
 -- Blocks by their addresses, after each edit of a heap.
-use Rattle.std.proofs.Common.{◌≡◌, ℕ, zero, suc, ◌+◌, ◌-◌, ◌%◌, ◌<◌, ◌≤◌, ◌≢◌, inl, inr, Bool, true, false, cond, eqb, List, [], ◌∷◌, ◌++◌, length, refl, sym}
-use Rattle.std.proofs.Common.{ap, subst, ◌∙◌, arith, append-nil}
-use Rattle.std.proofs.lemmas.Bool.{cases_eq, cases_lt}
-use Rattle.std.proofs.lemmas.Bool.Decides.{nat_tests}
-use Rattle.std.specs.Prelude.{Option, Some, None, IfSome}
-use Rattle.std.specs.Option.{option_map}
-use Rattle.rh_defs.specs.Pieces.{total, Split, first_at}
+use Rattle.rh_defs.proofs.Common.{◌≡◌, ℕ, zero, suc, ◌+◌, ◌-◌, ◌%◌, ◌<◌, ◌≤◌, ◌≢◌, inl, inr, Bool, true, false, cond, eqb, List, [], ◌∷◌, ◌++◌, length, refl}
+use Rattle.rh_defs.proofs.Common.{sym, ap, subst, ◌∙◌, arith, append-nil, cases_eq, cases_lt, nat_tests, Option, Some, None, IfSome, option_map, total, Split}
+use Rattle.rh_defs.proofs.Common.{first_at, Segment, Used, Hole, Heap, size_of, bytes_of, with_hole, joined, hole_for, is_hole_for, block_at, is_block_at}
+use Rattle.rh_defs.proofs.Common.{placed, placed_in, release, release_found, part, put, IsTidy, Stand, Spells, HasRoom, length-put, block_bytes, poked, Puts}
 use Rattle.rh_defs.specs.Pieces as pieces
-use Rattle.rh_defs.specs.Heap.{Segment, Used, Hole, Heap, size_of, bytes_of, with_hole, joined, hole_for, is_hole_for, block_at, is_block_at, placed}
-use Rattle.rh_defs.specs.Heap.{placed_in, release, release_found}
-use Rattle.rh_defs.proofs.HeapLists.{cond_true, cond_false, eqb_same, eqb_apart, IsCut, first_at-cuts}
+use Rattle.rh_defs.proofs.HeapLists.{cond_true, cond_false, eqb_same, eqb_apart, IsCut, first_at-cuts, HasRoom-from_tidy}
 use Rattle.std.proofs.lemmas.Grind.{same_number_lists}
-use Rattle.rh_defs.specs.Bytes.{part, put}
-use Rattle.rh_defs.specs.Heap.{IsTidy}
-use Rattle.rh_defs.specs.HeapImage.{Stand, Spells, IsImage}
-use Rattle.rh_defs.specs.HeapParts.{HasRoom}
-use Rattle.rh_defs.proofs.BytesLaws.{put_more, length-put, length-part, get-part, put_below, put_above, put_inside, word-put_below, part-put_below}
-use Rattle.rh_defs.proofs.HeapLists.{HasRoom-from_tidy}
+use Rattle.rh_defs.specs.HeapImage.{IsImage}
+use Rattle.rh_defs.proofs.BytesLaws.{put_more, length-part, get-part, put_below, put_above, put_inside, word-put_below, part-put_below}
 use Rattle.rh_defs.proofs.HeapStretch.{Stand-kept}
-use Rattle.rh_defs.specs.Blocks.{bytes_at, block_bytes, written_at, poked, HasBlock, Puts, Frees, Pokes}
+use Rattle.rh_defs.specs.Blocks.{bytes_at, written_at, HasBlock, Frees, Pokes}
 
 -- ---- where blocks lie
 pub below : (a p : ℕ) (ss : List Segment) → a < p + 4 → bytes_at a p ss ≡ None

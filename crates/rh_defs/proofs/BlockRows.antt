@@ -1,12 +1,7 @@
 -- Worked blocks of a heap by their addresses: the definitions compute these answers.
-use Rattle.std.specs.Prelude.{◌≡◌, refl, [], ◌∷◌, Some, None, Ok}
+use Rattle.rh_defs.proofs.Common.{◌≡◌, refl, [], ◌∷◌, Some, None, Ok, put, zeros, Used, Hole, Heap, block_room, block_bytes, poked, module_claim, module_free}
 use Rattle.rh_defs.specs.Chain as chain
-use Rattle.rh_defs.specs.Bytes.{put}
-use Rattle.rh_defs.specs.Pieces.{zeros}
-use Rattle.rh_defs.specs.Heap.{Used, Hole, Heap, block_room}
-use Rattle.rh_defs.specs.Blocks.{block_bytes, poked}
 use Rattle.rh_defs.specs.Module as module_area
-use Rattle.rh_defs.specs.Module.{module_claim, module_free}
 
 -- a block at address 20, a hole at place 24, a block at address 36, and a top of 8 bytes
 abbrev pub two_blocks : Heap

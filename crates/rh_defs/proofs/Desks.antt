@@ -1,21 +1,16 @@
 -- What each edit of a desk keeps.
-use Rattle.std.proofs.Common.{◌≡◌, ◌≢◌, ℕ, ◌+◌, ◌*◌, ◌/◌, ◌≤◌, ◌<◌, Bool, true, false, cond, refl, ap, sym, subst, ◌∙◌, arith, List, [], ◌∷◌, length, map}
-use Rattle.std.specs.Prelude.{Option, Some, None, IfSome, ◌==◌, find, slice_index, slice_set}
-use Rattle.std.specs.List.{AllByRecursion}
+use Rattle.rh_defs.proofs.Common.{◌≡◌, ◌≢◌, ℕ, ◌+◌, ◌*◌, ◌/◌, ◌≤◌, ◌<◌, Bool, true, false, cond, refl, ap, sym, subst, ◌∙◌, arith, List, [], ◌∷◌, length, map}
+use Rattle.rh_defs.proofs.Common.{Option, Some, None, IfSome, ◌==◌, find, slice_index, slice_set, AllByRecursion, eqb-true, eqb-false, Letter, Incoming}
+use Rattle.rh_defs.proofs.Common.{total, page, Heap, Slot, IsSlot, slot_pages, Post, Desk, Task, Scrap, free_pages, named, with_delivered, file_length}
+use Rattle.rh_defs.proofs.Common.{scrap_area, IsDesk}
 use Rattle.std.proofs.lemmas.List.{length-map, length-set, get_or-set_same, get_or-set_other}
-use borrow.Author.Tests.{eqb-true, eqb-false}
 use Rattle.rh_defs.specs.declared.refusal.Refusal.TheVariants.{NoName}
-use Rattle.rh_defs.specs.declared.message.Letter.{Letter}
 use Rattle.rh_defs.specs.declared.transfer.Outgoing.{Outgoing}
-use Rattle.rh_defs.specs.declared.transfer.Incoming.{Incoming}
-use Rattle.rh_defs.specs.Pieces.{total, page}
-use Rattle.rh_defs.specs.Heap.{Heap}
-use Rattle.rh_defs.specs.Slot.{Slot, IsSlot, slot_pages}
-use Rattle.rh_defs.specs.Post.{Post, post_is_live}
-use Rattle.rh_defs.specs.Desk.{Desk, Task, Scrap, task_pages, used_pages, free_pages, has_name, named, edit_task, with_task, with_slot, with_sending}
-use Rattle.rh_defs.specs.Desk.{with_taking, with_module, with_post, kept_scrap, with_delivered, send_letter}
-use Rattle.rh_defs.specs.Commands.{file_length, scrap_area, least_length}
-use Rattle.rh_defs.specs.Laws.{IsPost, IsDesk, task_handles}
+use Rattle.rh_defs.specs.Post.{post_is_live}
+use Rattle.rh_defs.specs.Desk.{task_pages, used_pages, has_name, edit_task, with_task, with_slot, with_sending, with_taking, with_module, with_post}
+use Rattle.rh_defs.specs.Desk.{kept_scrap, send_letter}
+use Rattle.rh_defs.specs.Commands.{least_length}
+use Rattle.rh_defs.specs.Laws.{IsPost, task_handles}
 use Rattle.rh_defs.proofs.Chains.{OnGrant, granted, granted-with, found_or-grants}
 use Rattle.rh_defs.proofs.Lists.{find-all, number-finds, rise-same, total-set}
 use Rattle.rh_defs.proofs.ModuleKeeps.{Fills}

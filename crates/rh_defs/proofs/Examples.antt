@@ -1,6 +1,5 @@
 -- Worked scripts, by computation: what each writes, in full.
-use Rattle.std.specs.Prelude.{◌≡◌, ◌++◌, refl, [], codes, true, false}
-use Rattle.hex.proofs.OnLiterals.{hex_on_literals}
+use Rattle.rh_defs.proofs.Common.{◌≡◌, ◌++◌, refl, [], codes, true, false, hex_on_literals}
 use Rattle.rh_defs.specs.Script.{text, has_bad_line}
 use Rattle.rh_defs.specs.Script
 

@@ -1,13 +1,12 @@
 -- The named files against the map that holds them.
-use Rattle.std.proofs.Common.{◌≡◌, ℕ, ◌≤◌, true, false, cond, ◌||◌, refl, sym, ap, subst, ◌∙◌, List, [], ◌∷◌, ◌++◌, length, is_some, Option, Some, None}
-use Rattle.std.specs.Prelude.{Vec, find}
-use Rattle.std.specs.Option.{option_map}
+use Rattle.rh_defs.proofs.Common.{◌≡◌, ℕ, ◌≤◌, true, false, cond, ◌||◌, refl, sym, ap, subst, ◌∙◌, List, [], ◌∷◌, ◌++◌, length, is_some, Option, Some, None}
+use Rattle.rh_defs.proofs.Common.{Vec, find, option_map, contents_of, has_file}
 use Rattle.std.proofs.lemmas.Bool.Decides.{same_from_decides}
 use Rattle.std.proofs.lemmas.Slice.Eq.{bytes_eq-Decides}
 use Rattle.std.specs.Str.{bytes_eq}
 use Rattle.std.specs.Map.{lookup}
 use Rattle.std.specs.declared.alloc.Global.{Global}
-use Rattle.rh_defs.specs.Files.{FileList, contents_of, has_file, file_bytes, AreShort}
+use Rattle.rh_defs.specs.Files.{FileList, file_bytes, AreShort}
 use Rattle.rh_defs.specs.declared.sizes.TheConstants.{LONGEST_FILE}
 
 -- a file has the name exactly where a look-up finds one

@@ -1,8 +1,5 @@
 -- Two chains of steps, one of which follows the other: both are refused alike, or both are granted and related.
-use Rattle.std.proofs.Common.{◌≡◌, Bool, true, false, cond, sym, subst}
-use Rattle.std.specs.Prelude.{Ok, Err}
-use Rattle.rh_defs.specs.declared.refusal.Refusal.{Refusal}
-use Rattle.rh_defs.specs.Chain.{Granted, ◌>>=◌, ◌>>◌, or_else}
+use Rattle.rh_defs.proofs.Common.{◌≡◌, Bool, true, false, cond, sym, subst, Ok, Err, Refusal, Granted, ◌>>=◌, ◌>>◌, or_else}
 use Rattle.rh_defs.proofs.Chains.{OnGrant, granted, refused}
 
 -- both are refused by the same refusal, or what they give is related. A data type, so that the relation is found from a goal

@@ -1,12 +1,8 @@
 -- What releases and changes of the end are granted.
-use Rattle.std.proofs.Common.{inl, inr, ◌≡◌, ℕ, ◌<◌, ◌≤◌, ltb, refl, sym, ap, ◌∙◌}
-use Rattle.std.specs.Option.{option_map}
-use Rattle.std.proofs.lemmas.Bool.{cases_lt}
-use Rattle.std.specs.Prelude.{Option, Some, None, Result, Ok, Err, ℤ, ok_or}
-use Rattle.rh_defs.specs.Chain.{answer_of, no_answer}
-use Rattle.rh_defs.specs.Pieces.{Split, moved}
-use Rattle.rh_defs.specs.Heap.{Segment, Heap, base, block_at, released, release, release_found, released_at, extend, extended}
-use Rattle.rh_defs.specs.declared.heap.HeapRefusal.{HeapRefusal}
+use Rattle.rh_defs.proofs.Common.{inl, inr, ◌≡◌, ℕ, ◌<◌, ◌≤◌, ltb, refl, sym, ap, ◌∙◌, option_map, cases_lt, Option, Some, None, Result, Ok, Err, ℤ, ok_or}
+use Rattle.rh_defs.proofs.Common.{answer_of, Split, moved, Segment, Heap, base, block_at, released, release, release_found, HeapRefusal}
+use Rattle.rh_defs.specs.Chain.{no_answer}
+use Rattle.rh_defs.specs.Heap.{released_at, extend, extended}
 use Rattle.rh_defs.specs.declared.heap.HeapRefusal.TheVariants.{NotABlock, ExcessiveShrink}
 use Rattle.rh_defs.proofs.HeapLists.{cond_true, cond_false, ltb_yes, ltb_no}
 

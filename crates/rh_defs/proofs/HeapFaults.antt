@@ -1,12 +1,8 @@
 -- Laws of faults: the tests on sizes and links, and that an image has no fault.
-use Rattle.std.proofs.Common.{◌≡◌, ℕ, zero, suc, ◌+◌, ◌%◌, ◌<◌, ◌≤◌, ◌≢◌, ◌⊎◌, inl, inr, Bool, true, false, List, [], ◌∷◌, length, leb, ltb, eqb, refl, sym}
-use Rattle.std.proofs.Common.{ap, ◌∙◌, arith}
-use Rattle.std.proofs.lemmas.Bool.Decides.{nat_tests, eqb_tells}
-use Rattle.std.specs.Prelude.{Some, None, ◌&&◌, ◌||◌}
-use Rattle.rh_defs.specs.Bytes.{word}
-use Rattle.rh_defs.specs.Pieces.{total}
-use Rattle.rh_defs.specs.Heap.{Segment, Used, Hole, Heap, IsTidy, size_of}
-use Rattle.rh_defs.specs.HeapImage.{Stand, IsImage, is_size, is_link, next_place, fault_from, fault_of, has_descriptor, special_word}
+use Rattle.rh_defs.proofs.Common.{◌≡◌, ℕ, zero, suc, ◌+◌, ◌%◌, ◌<◌, ◌≤◌, ◌≢◌, ◌⊎◌, inl, inr, Bool, true, false, List, [], ◌∷◌, length, leb, ltb, eqb, refl}
+use Rattle.rh_defs.proofs.Common.{sym, ap, ◌∙◌, arith, nat_tests, eqb_tells, Some, None, ◌&&◌, ◌||◌, word, total, Segment, Used, Hole, Heap, IsTidy, size_of}
+use Rattle.rh_defs.proofs.Common.{Stand}
+use Rattle.rh_defs.specs.HeapImage.{IsImage, is_size, is_link, next_place, fault_from, fault_of, has_descriptor, special_word}
 use Rattle.rh_defs.specs.declared.heap.HeapFault.TheVariants.{BadSize, BadDescriptor, BadLink}
 use Rattle.rh_defs.proofs.HeapLists.{cond_true, cond_false, eqb_same, eqb_apart, leb_yes, leb_no}
 

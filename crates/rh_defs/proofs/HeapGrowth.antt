@@ -1,14 +1,10 @@
 -- A call with growth is the call on the longer heap.
-use Rattle.std.proofs.Common.{◌≡◌, ℕ, ◌+◌, ◌-◌, ◌*◌, ◌<◌, ◌≤◌, ◌≢◌, inl, inr, Bool, true, false, cond, eqb, leb, ltb, List, [], ◌∷◌, refl, sym, ap, ◌∙◌, arith}
-use Rattle.std.proofs.lemmas.Bool.{cases_eq}
-use Rattle.std.proofs.lemmas.Bool.Decides.{nat_tests}
-use Rattle.std.specs.Prelude.{Option, Some, None, Ok, ℤ}
-use Rattle.rh_defs.specs.Chain.{answer_of}
-use Rattle.rh_defs.specs.Pieces.{Split, page, pages_for}
-use Rattle.rh_defs.specs.Heap.{Segment, Used, Hole, Heap, Way, Stays, Shrinks, GrowsIntoHole, GrowsAtTop, MovesToHole, MovesToTop, size_of, place_after}
-use Rattle.rh_defs.specs.Heap.{hole_for, shortage_in, segment_size, need, claim, claim_need, new_size, resize_found, need_found, as_granted, raised}
-use Rattle.rh_defs.specs.Heap.{claim_growing, way_beyond, way_to_grow, way_to, end_for, resize_need, resized, resized_by, fitted, block_room, bytes_of}
-use Rattle.rh_defs.specs.Heap.{resize_growing}
+use Rattle.rh_defs.proofs.Common.{◌≡◌, ℕ, ◌+◌, ◌-◌, ◌*◌, ◌<◌, ◌≤◌, ◌≢◌, inl, inr, Bool, true, false, cond, eqb, leb, ltb, List, [], ◌∷◌, refl, sym, ap, ◌∙◌}
+use Rattle.rh_defs.proofs.Common.{arith, cases_eq, nat_tests, Option, Some, None, Ok, ℤ, answer_of, Split, page, pages_for, Segment, Used, Hole, Heap, Way}
+use Rattle.rh_defs.proofs.Common.{Stays, Shrinks, GrowsIntoHole, GrowsAtTop, MovesToHole, MovesToTop, size_of, place_after, hole_for, shortage_in}
+use Rattle.rh_defs.proofs.Common.{segment_size, need, claim, new_size, raised, claim_growing, way_beyond, way_to_grow, way_to, end_for, resize_need}
+use Rattle.rh_defs.proofs.Common.{resized_by, fitted, block_room, bytes_of, resize_growing}
+use Rattle.rh_defs.specs.Heap.{claim_need, resize_found, need_found, as_granted, resized}
 use Rattle.rh_defs.proofs.HeapLists.{cond_true, cond_false, eqb_same, eqb_apart, leb_yes, leb_no}
 
 none_short : (t : ℕ) (h : Heap) (o : Option (Split Segment)) → shortage_in t (raised (shortage_in t h o) h) o ≡ 0

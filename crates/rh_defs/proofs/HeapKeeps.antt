@@ -1,14 +1,11 @@
 -- A heap stays one after each call on it.
-use Rattle.std.proofs.Common.{◌≡◌, ℕ, ◌+◌, ◌-◌, ◌≤◌, ◌<◌, ◌%◌, Bool, true, false, cond, refl, sym, ap, subst, ◌∙◌, arith, List, [], ◌∷◌, ◌++◌, length}
-use Rattle.std.proofs.Common.{append_assoc}
-use Rattle.std.proofs.lemmas.List.{length-replicate}
-use Rattle.std.specs.Prelude.{Option, Some, None, IfSome, nat_le, nat_lt, ◌==◌}
+use Rattle.rh_defs.proofs.Common.{◌≡◌, ℕ, ◌+◌, ◌-◌, ◌≤◌, ◌<◌, ◌%◌, Bool, true, false, cond, refl, sym, ap, subst, ◌∙◌, arith, List, [], ◌∷◌, ◌++◌, length}
+use Rattle.rh_defs.proofs.Common.{append_assoc, length-replicate, Option, Some, None, IfSome, nat_le, nat_lt, ◌==◌, total, zeros, Split, Heap, Segment, Used}
+use Rattle.rh_defs.proofs.Common.{Hole, Way, Stays, Shrinks, GrowsIntoHole, GrowsAtTop, MovesToHole, MovesToTop, IsTidy, IsHeap, size_of, bytes_of, base}
+use Rattle.rh_defs.proofs.Common.{place_after, first_place, with_hole, joined, placed_in, hole_for, is_hole_for, is_block_at, block_at, shortage_in, need}
+use Rattle.rh_defs.proofs.Common.{raised, segment_size, block_room, claim_growing, released, release, release_found, fitted, way_to, way_to_grow, way_beyond}
+use Rattle.rh_defs.proofs.Common.{resized_by, end_for, resize_growing}
 use borrow.Author.Tests.{ltb-true, leb-true}
-use Rattle.rh_defs.specs.Pieces.{total, zeros, Split}
-use Rattle.rh_defs.specs.Heap.{Heap, Segment, Used, Hole, Way, Stays, Shrinks, GrowsIntoHole, GrowsAtTop, MovesToHole, MovesToTop, IsTidy, IsHeap, size_of}
-use Rattle.rh_defs.specs.Heap.{bytes_of, base, place_after, first_place, with_hole, joined, placed_in, hole_for, is_hole_for, is_block_at, block_at}
-use Rattle.rh_defs.specs.Heap.{shortage_in, need, raised, segment_size, block_room, claim_growing, released, release, release_found, fitted, way_to}
-use Rattle.rh_defs.specs.Heap.{way_to_grow, way_beyond, resized_by, end_for, resize_growing}
 use Rattle.rh_defs.proofs.HeapLists.{total-append, tidy_after, tidy_before, tidy_front, tidy_other, tidy_behind_used, tidy_behind_hole, tidy_join}
 use Rattle.rh_defs.proofs.HeapLists.{tidy_with_hole, total-with_hole, IsCut, first_at-cuts}
 use Rattle.rh_defs.proofs.SlotRooms.{length-fitted}

@@ -1,13 +1,9 @@
 -- Laws of segments that stand in bytes.
-use Rattle.std.proofs.Common.{◌≡◌, ℕ, zero, suc, ◌+◌, ◌-◌, ◌<◌, ◌≤◌, ◌≢◌, ◌⊎◌, inl, inr, false, List, [], ◌∷◌, ◌++◌, length, get_or, eqb, refl, sym, ap, ◌∙◌}
-use Rattle.std.proofs.Common.{arith}
-use Rattle.rh_defs.specs.Bytes.{word, part, SameIn}
-use Rattle.rh_defs.specs.Pieces.{total}
-use Rattle.rh_defs.specs.Heap.{Segment, Used, Hole, Heap, size_of}
-use Rattle.rh_defs.specs.HeapImage.{Stand, Spells, segments_in, heap_of}
-use Rattle.rh_defs.proofs.BytesLaws.{word_same, part_same}
+use Rattle.rh_defs.proofs.Common.{◌≡◌, ℕ, zero, suc, ◌+◌, ◌-◌, ◌<◌, ◌≤◌, ◌≢◌, ◌⊎◌, inl, inr, false, List, [], ◌∷◌, ◌++◌, length, get_or, eqb, refl, sym, ap}
+use Rattle.rh_defs.proofs.Common.{◌∙◌, arith, word, part, SameIn, total, Segment, Used, Hole, Heap, size_of, Stand, Spells, word_same, part_same, HasRoom}
+use Rattle.rh_defs.specs.HeapImage.{segments_in, heap_of}
 use Rattle.rh_defs.proofs.HeapLists.{HasRoom-from_tidy, cond_true, cond_false, eqb_same, eqb_apart}
-use Rattle.rh_defs.specs.HeapParts.{HasRoom, last_link, Open}
+use Rattle.rh_defs.specs.HeapParts.{last_link, Open}
 
 pub narrower : (b c : List ℕ) (lo hi lo' hi' : ℕ) → SameIn b c lo hi → lo ≤ lo' → hi' ≤ hi → SameIn b c lo' hi'
 narrower b c lo hi lo' hi' s l h = record { each = λ k x y. s.each k (omega arith) (omega arith) }

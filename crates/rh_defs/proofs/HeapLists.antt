@@ -1,12 +1,8 @@
 -- Laws of lists of segments.
-use Rattle.std.proofs.Common.{◌≡◌, ℕ, zero, suc, ◌+◌, ◌%◌, ◌<◌, ◌≤◌, ◌≢◌, inl, inr, Bool, true, false, List, [], ◌∷◌, ◌++◌, length, leb, eqb, cond, refl, sym}
-use Rattle.std.proofs.Common.{ap, ◌∙◌, arith, ltb}
-use Rattle.std.proofs.lemmas.Bool.Decides.{nat_tests, eqb_tells}
-use Rattle.std.specs.Prelude.{Option, Some, None, IfSome}
-use Rattle.std.specs.Option.{option_map}
-use Rattle.rh_defs.specs.Pieces.{total, Split, behind, first_at, NonePass}
-use Rattle.rh_defs.specs.Heap.{Segment, Used, Hole, size_of, IsTidy, with_hole, joined}
-use Rattle.rh_defs.specs.HeapParts.{HasRoom}
+use Rattle.rh_defs.proofs.Common.{◌≡◌, ℕ, zero, suc, ◌+◌, ◌%◌, ◌<◌, ◌≤◌, ◌≢◌, inl, inr, Bool, true, false, List, [], ◌∷◌, ◌++◌, length, leb, eqb, cond, refl}
+use Rattle.rh_defs.proofs.Common.{sym, ap, ◌∙◌, arith, ltb, nat_tests, eqb_tells, Option, Some, None, IfSome, option_map, total, Split, behind, first_at}
+use Rattle.rh_defs.proofs.Common.{Segment, Used, Hole, size_of, IsTidy, with_hole, joined, HasRoom}
+use Rattle.rh_defs.specs.Pieces.{NonePass}
 
 -- ---- tests
 pub cond_true : {A : Type 0} (t : Bool) (x y : A) → t ≡ true → cond t x y ≡ x

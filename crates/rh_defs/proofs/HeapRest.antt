@@ -1,9 +1,7 @@
 -- What is left of a heap behind a place has at most one proof.
-use Rattle.std.specs.Prelude.{ℕ, ◌+◌, List, [], ◌∷◌, length}
+use Rattle.rh_defs.proofs.Common.{ℕ, ◌+◌, List, [], ◌∷◌, length, Segment, Used, Hole, Stand, HasRoom}
 use Rattle.std.proofs.Props.{props}
-use Rattle.rh_defs.specs.Heap.{Segment, Used, Hole}
-use Rattle.rh_defs.specs.HeapImage.{Stand}
-use Rattle.rh_defs.specs.HeapParts.{HasRoom, IsRest, rest_in}
+use Rattle.rh_defs.specs.HeapParts.{IsRest, rest_in}
 
 Stand-prop : (b : List ℕ) (f p : ℕ) (ss : List Segment) → IsProp (Stand b f p ss)
 Stand-prop b f p [] = hlevel props

@@ -1,9 +1,7 @@
 -- Worked heaps: the definitions compute these answers.
-use Rattle.std.specs.Prelude.{◌≡◌, refl, ℕ, ℤ, pos, negsuc, List, [], ◌∷◌, Some, None, Result, Ok, Err}
-use Rattle.rh_defs.specs.Chain.{answer_of, left_of}
-use Rattle.rh_defs.specs.Heap.{Used, Hole, Heap, empty_heap, claim, released_at, resize, extend, block_size, largest, free_bytes}
-use Rattle.rh_defs.specs.Pieces.{zeros}
-use Rattle.rh_defs.specs.declared.heap.HeapRefusal.{HeapRefusal}
+use Rattle.rh_defs.proofs.Common.{◌≡◌, refl, ℕ, ℤ, pos, negsuc, List, [], ◌∷◌, Some, None, Result, Ok, Err, answer_of, left_of, Used, Hole, Heap, claim}
+use Rattle.rh_defs.proofs.Common.{zeros, HeapRefusal}
+use Rattle.rh_defs.specs.Heap.{empty_heap, released_at, resize, extend, block_size, largest, free_bytes}
 use Rattle.rh_defs.specs.declared.heap.HeapRefusal.TheVariants.{NotABlock, BadSize, NoRoom, ExcessiveShrink}
 
 pub data Call : Type 0 where

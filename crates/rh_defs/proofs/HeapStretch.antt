@@ -1,14 +1,9 @@
 -- A heap with a stretch of bytes open in its midst: how it is opened, filled from below, and closed.
-use Rattle.std.proofs.Common.{◌≡◌, ℕ, zero, suc, ◌+◌, ◌<◌, ◌≤◌, ◌≢◌, ◌⊎◌, inl, inr, false, List, [], ◌∷◌, ◌++◌, length, get_or, refl, sym, ap, subst, ◌∙◌}
-use Rattle.std.proofs.Common.{arith}
-use Rattle.rh_defs.specs.Bytes.{word, part, SameIn}
-use Rattle.rh_defs.specs.Pieces.{total}
-use Rattle.rh_defs.specs.Heap.{Segment, Used, Hole, Heap, size_of, IsTidy}
-use Rattle.rh_defs.specs.HeapImage.{Stand, Spells}
-use Rattle.rh_defs.proofs.BytesLaws.{word_same, part_same}
+use Rattle.rh_defs.proofs.Common.{◌≡◌, ℕ, zero, suc, ◌+◌, ◌<◌, ◌≤◌, ◌≢◌, ◌⊎◌, inl, inr, false, List, [], ◌∷◌, ◌++◌, length, get_or, refl, sym, ap, subst, ◌∙◌}
+use Rattle.rh_defs.proofs.Common.{arith, word, part, SameIn, total, Segment, Used, Hole, Heap, size_of, IsTidy, Stand, Spells, word_same, part_same, HasRoom}
 use Rattle.rh_defs.proofs.HeapLists.{HasRoom-from_tidy, HasRoom-append, HasRoom-join, total-append}
 use Rattle.rh_defs.proofs.HeapLaws.{narrower, last_link_range, last_link-append, Open-kept, Open-join, Stand-split, Stand-join}
-use Rattle.rh_defs.specs.HeapParts.{HasRoom, last_link, Open, LinksTo, Await, HasStretch}
+use Rattle.rh_defs.specs.HeapParts.{last_link, Open, LinksTo, Await, HasStretch}
 
 zero_or : (n : ℕ) → (n ≡ 0) ⊎ (n ≢ 0)
 zero_or zero = inl refl

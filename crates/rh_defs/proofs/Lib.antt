@@ -44,3 +44,4 @@ pub mod MessageLaws
 pub mod MessageImageLaws
 pub mod ParcelLaws
 pub mod PostLaws
+pub mod Common

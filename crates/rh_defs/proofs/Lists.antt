@@ -1,9 +1,6 @@
 -- Lists whose members are found, edited, added and left out: what holds of each member, and their sizes.
-use Rattle.std.proofs.Common.{◌≡◌, ℕ, zero, suc, ◌+◌, ◌≤◌, ◌<◌, Bool, true, false, cond, refl, ap, sym, subst, arith, List, [], ◌∷◌, ◌++◌, length, map, set}
-use Rattle.std.proofs.Common.{get_or}
-use Rattle.std.specs.Prelude.{Option, Some, None, IfSome, ◌==◌, find, filter, not}
-use Rattle.std.specs.List.{AllByRecursion}
-use Rattle.rh_defs.specs.Pieces.{total}
+use Rattle.rh_defs.proofs.Common.{◌≡◌, ℕ, zero, suc, ◌+◌, ◌≤◌, ◌<◌, Bool, true, false, cond, refl, ap, sym, subst, arith, List, [], ◌∷◌, ◌++◌, length, map}
+use Rattle.rh_defs.proofs.Common.{set, get_or, Option, Some, None, IfSome, ◌==◌, find, filter, not, AllByRecursion, total}
 use Rattle.rh_defs.specs.Laws.{Rise}
 
 -- ---- what holds of each member

@@ -1,15 +1,10 @@
 -- Laws of memories: what each call leaves of the areas, and frames.
-use Rattle.std.proofs.Common.{inl, inr, ◌≡◌, ℕ, zero, suc, ◌+◌, ◌-◌, ◌*◌, ◌/◌, ◌<◌, ◌≤◌, ◌≢◌, ◌==◌, cond, Bool, true, false, List, [], ◌++◌, length, take}
-use Rattle.std.proofs.Common.{replicate, refl, sym, ap, subst, ◌∙◌, arith}
-use Rattle.std.proofs.lemmas.Bool.Decides.{nat_tests}
-use Rattle.std.proofs.lemmas.Bool.{cases_eq}
-use Rattle.rh_defs.specs.Pieces.{page}
+use Rattle.rh_defs.proofs.Common.{inl, inr, ◌≡◌, ℕ, zero, suc, ◌+◌, ◌-◌, ◌*◌, ◌/◌, ◌<◌, ◌≤◌, ◌≢◌, ◌==◌, cond, Bool, true, false, List, [], ◌++◌, length, take}
+use Rattle.rh_defs.proofs.Common.{replicate, refl, sym, ap, subst, ◌∙◌, arith, nat_tests, cases_eq, page, length-replicate, length-take, unwrap_or, Some}
+use Rattle.rh_defs.proofs.Common.{None, Option, IsSome, IsNone, is_some, SameIn, SameOutside}
 use Rattle.rh_defs.proofs.BytesLaws.{SameOutside-self, SameOutside-wider, SameOutside-both, SameIn-append, SameIn-take}
-use Rattle.std.proofs.lemmas.List.{length-replicate, length-take}
 use Rattle.std.proofs.Math.ListN.{length-append}
-use Rattle.std.specs.Prelude.{unwrap_or, Some, None, Option, IsSome, IsNone, is_some}
 use Rattle.std.proofs.Math.Path.{fun_ext}
-use Rattle.rh_defs.specs.Bytes.{SameIn, SameOutside}
 use Rattle.rh_defs.specs.Memory.{Memory, IsOpen, bytes, area_set, fresh, with_bytes, opened, closed, grown, shrunk, one_if_open, open_below, pages_below}
 use Rattle.rh_defs.specs.Memory.{Edited, OnlyArea}
 

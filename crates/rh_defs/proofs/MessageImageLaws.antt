@@ -1,26 +1,20 @@
 -- The decoder answers a message exactly where the bytes spell it, and what was encoded is spelled.
-use Rattle.std.proofs.Common.{◌≡◌, ℕ, zero, suc, ◌+◌, ◌-◌, ◌*◌, ◌/◌, ◌%◌, ◌<◌, ◌≤◌, ◌≢◌, inl, inr, Bool, true, false, cond, eqb, ltb, leb, List, [], ◌∷◌}
-use Rattle.std.proofs.Common.{length, get_or, refl, sym, ap, subst, ◌∙◌, arith}
-use Rattle.std.proofs.lemmas.Bool.{cases_eq}
-use Rattle.std.proofs.lemmas.Bool.Decides.{nat_tests}
-use Rattle.std.proofs.lemmas.List.{length-append, length-replicate, get_or-append-add, get_or-replicate}
+use Rattle.rh_defs.proofs.Common.{◌≡◌, ℕ, zero, suc, ◌+◌, ◌-◌, ◌*◌, ◌/◌, ◌%◌, ◌<◌, ◌≤◌, ◌≢◌, inl, inr, Bool, true, false, cond, eqb, ltb, leb, List, [], ◌∷◌}
+use Rattle.rh_defs.proofs.Common.{length, get_or, refl, sym, ap, subst, ◌∙◌, arith, cases_eq, nat_tests, length-append, length-replicate, Option, Some, None}
+use Rattle.rh_defs.proofs.Common.{Result, Ok, Err, ◌==◌, ◌&&◌, word, part, zeros, encoded, encoded_length, Fits, SpellWords, Body, DataSave, DataSaveAck}
+use Rattle.rh_defs.proofs.Common.{DataLoad, DataLoadAck, RamFetch, RamTransmit, Message}
+use Rattle.std.proofs.lemmas.List.{get_or-append-add, get_or-replicate}
 use Rattle.std.proofs.lemmas.List.Quantifiers.{position-Some}
 use Rattle.std.proofs.lemmas.List.Sums.{position_or_len_is}
-use Rattle.std.specs.Prelude.{Option, Some, None, Result, Ok, Err, ◌==◌, ◌&&◌}
 use Rattle.std.specs.List.{position_or_len}
 use Rattle.rh_defs.specs.declared.sizes.TheConstants.{LONGEST_MESSAGE}
-use Rattle.rh_defs.specs.Bytes.{word, part}
-use Rattle.rh_defs.specs.Pieces.{zeros}
 use Rattle.rh_defs.specs.Pathnames.{is_plain}
-use Rattle.rh_defs.specs.Messages.{action_at, action_number, action_of, file_words, data_words, name_bytes, tail_bytes, encoded, encoded_length, HasName, Fits}
-use Rattle.rh_defs.specs.MessageImage.{SpellWords, SpellsName, SpellsTail, SpellsMessage, name_length, file_named, file_in, about_file, body_for, body_in}
-use Rattle.rh_defs.specs.MessageImage.{message_in, has_length, decoded}
+use Rattle.rh_defs.specs.Messages.{action_at, action_number, action_of, file_words, data_words, name_bytes, tail_bytes, HasName}
+use Rattle.rh_defs.specs.MessageImage.{SpellsName, SpellsTail, SpellsMessage, name_length, file_named, file_in, about_file, body_for, body_in, message_in}
+use Rattle.rh_defs.specs.MessageImage.{has_length, decoded}
 use Rattle.rh_defs.specs.declared.message.Action.{Action}
 use Rattle.rh_defs.specs.declared.message.Action.TheVariants as action
 use Rattle.rh_defs.specs.declared.message.FileData.{FileData}
-use Rattle.rh_defs.specs.declared.message.Body.{Body}
-use Rattle.rh_defs.specs.declared.message.Body.TheVariants.{DataSave, DataSaveAck, DataLoad, DataLoadAck, RamFetch, RamTransmit}
-use Rattle.rh_defs.specs.declared.message.Message.{Message}
 use Rattle.rh_defs.specs.declared.message.MessageFault.{MessageFault}
 use Rattle.rh_defs.specs.declared.message.MessageFault.TheVariants.{BadLength}
 use Rattle.rh_defs.proofs.BytesLaws.{length-part, get-part, part_all, part-append_left}

@@ -1,20 +1,12 @@
 -- Laws of the bytes of messages.
-use Rattle.std.proofs.Common.{◌≡◌, ℕ, ◌+◌, ◌-◌, ◌*◌, ◌/◌, ◌%◌, ◌<◌, ◌≤◌, ◌^◌, Bool, true, false, leb, lit<, List, [], ◌∷◌, ◌++◌, length, refl, sym, ap, subst}
-use Rattle.std.proofs.Common.{◌∙◌, arith}
-use Rattle.std.proofs.lemmas.Bool.Decides.{nat_tests}
-use Rattle.std.proofs.lemmas.List.{length-append, length-replicate, append_assoc}
+use Rattle.rh_defs.proofs.Common.{◌≡◌, ℕ, ◌+◌, ◌-◌, ◌*◌, ◌/◌, ◌%◌, ◌<◌, ◌≤◌, ◌^◌, Bool, true, false, leb, lit<, List, [], ◌∷◌, ◌++◌, length, refl, sym, ap}
+use Rattle.rh_defs.proofs.Common.{subst, ◌∙◌, arith, nat_tests, length-append, length-replicate, append_assoc, ◌&&◌, word, part, put, zeros, encoded}
+use Rattle.rh_defs.proofs.Common.{encoded_length, Fits, SpellWords, Body, DataSave, DataSaveAck, DataLoad, DataLoadAck, RamFetch, RamTransmit, Message}
 use Rattle.std.proofs.lemmas.Nat.{from_le_bytes-to_le_bytes_4}
-use Rattle.std.specs.Prelude.{◌&&◌}
 use Rattle.rh_defs.specs.declared.sizes.TheConstants.{LONGEST_MESSAGE}
-use Rattle.rh_defs.specs.Bytes.{word, part, put, word_bytes}
-use Rattle.rh_defs.specs.Pieces.{zeros}
+use Rattle.rh_defs.specs.Bytes.{word_bytes}
 use Rattle.rh_defs.specs.Pathnames.{is_plain, is_pathname}
-use Rattle.rh_defs.specs.Messages.{words, name_bytes, data_words, tail_bytes, body_bytes, encoded, encoded_length, action_of, action_number, AreWords}
-use Rattle.rh_defs.specs.Messages.{HasName, Fits}
-use Rattle.rh_defs.specs.MessageImage.{SpellWords}
-use Rattle.rh_defs.specs.declared.message.Body.{Body}
-use Rattle.rh_defs.specs.declared.message.Body.TheVariants.{DataSave, DataSaveAck, DataLoad, DataLoadAck, RamFetch, RamTransmit}
-use Rattle.rh_defs.specs.declared.message.Message.{Message}
+use Rattle.rh_defs.specs.Messages.{words, name_bytes, data_words, tail_bytes, body_bytes, action_of, action_number, AreWords, HasName}
 use Rattle.rh_defs.proofs.BytesLaws.{put_more, word-append_left, word-append_right, part-append_right}
 
 -- ---- words

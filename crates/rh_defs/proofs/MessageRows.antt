@@ -1,13 +1,9 @@
 -- Worked messages: their bytes, what the bytes spell, and the segment of the module area that each one takes.
-use Rattle.std.specs.Prelude.{◌≡◌, refl, ℕ, List, [], ◌∷◌, codes, Ok, Err, slice_set, take}
-use Rattle.rh_defs.specs.Heap.{segment_size}
-use Rattle.rh_defs.specs.Bytes.{word, part}
-use Rattle.rh_defs.specs.Messages.{encoded, parcel_size}
+use Rattle.rh_defs.proofs.Common.{◌≡◌, refl, ℕ, List, [], ◌∷◌, codes, Ok, Err, slice_set, take, segment_size, word, part, encoded, parcel_size, DataSave}
+use Rattle.rh_defs.proofs.Common.{DataSaveAck, RamFetch, RamTransmit, Message}
 use Rattle.rh_defs.specs.Messages as messages
 use Rattle.rh_defs.specs.MessageImage.{decoded}
 use Rattle.rh_defs.specs.declared.message.FileData.{FileData}
-use Rattle.rh_defs.specs.declared.message.Body.TheVariants.{DataSave, DataSaveAck, RamFetch, RamTransmit}
-use Rattle.rh_defs.specs.declared.message.Message.{Message}
 use Rattle.rh_defs.specs.declared.message.MessageFault.TheVariants.{BadLength, BadAction}
 
 -- a file of this desk: no place, and type &FFD

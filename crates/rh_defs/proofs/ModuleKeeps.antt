@@ -1,12 +1,8 @@
 -- The module area's heap stays one that fills whole pages, and takes no more pages than are free.
-use Rattle.std.proofs.Common.{◌≡◌, ℕ, ◌+◌, ◌/◌, ◌≤◌, ◌%◌, false, refl, arith, List, length}
-use Rattle.std.specs.Prelude.{IfSome, ℤ, pos, negsuc}
-use borrow.Author.Tests.{ltb-false}
-use Rattle.rh_defs.specs.Pieces.{page, lacks_pages, zeros, Split}
-use Rattle.rh_defs.specs.Heap.{Heap, Segment, IsHeap, size_of, first_place, block_at, is_block_at, need, raised, claim_growing, hole_for, block_room, release}
-use Rattle.rh_defs.specs.Heap.{new_size, resize_need, resize_growing, way_to, segment_size, fitted, bytes_of}
-use Rattle.rh_defs.specs.Module.{FillsPages, module_claim, module_free, module_resize, module_change, changed_length}
-use Rattle.rh_defs.specs.Blocks.{poked}
+use Rattle.rh_defs.proofs.Common.{◌≡◌, ℕ, ◌+◌, ◌/◌, ◌≤◌, ◌%◌, false, refl, arith, List, length, IfSome, ℤ, pos, negsuc, ltb-false, page, lacks_pages, zeros}
+use Rattle.rh_defs.proofs.Common.{Split, Heap, Segment, IsHeap, size_of, first_place, block_at, is_block_at, need, raised, claim_growing, hole_for}
+use Rattle.rh_defs.proofs.Common.{block_room, release, new_size, resize_need, resize_growing, way_to, segment_size, fitted, bytes_of, FillsPages}
+use Rattle.rh_defs.proofs.Common.{module_claim, module_free, module_resize, module_change, changed_length, poked}
 use Rattle.rh_defs.proofs.BlockLaws.{tidy-written, total-written}
 use Rattle.rh_defs.proofs.Chains.{OnGrant, granted, granted-with, granted-unless, found_or-grants}
 use Rattle.rh_defs.proofs.HeapLists.{IsCut, first_at-cuts}

@@ -1,21 +1,14 @@
 -- Laws of the module area's calls, in the words of the heap's, and of a heap whose bytes are kept.
-use Rattle.std.proofs.Common.{◌≡◌, ℕ, ◌+◌, ◌-◌, ◌<◌, ◌≤◌, ◌≢◌, true, false, eqb, ltb, List, length, refl, sym, ap, ◌∙◌, inl, inr, arith}
-use Rattle.std.proofs.lemmas.Bool.Decides.{eqb_tells}
-use Rattle.std.specs.Prelude.{Option, Some, None, Result, Ok, Err, ℤ}
-use Rattle.rh_defs.specs.Bytes.{SameIn}
-use Rattle.rh_defs.specs.Chain.{Granted, ◌>>=◌, found_or}
-use Rattle.rh_defs.specs.Pieces.{pages_for, lacks_pages, zeros, Split}
-use Rattle.rh_defs.specs.Heap.{Segment, Heap, Placed, as_granted, Way, Stays, Shrinks, GrowsIntoHole, GrowsAtTop, MovesToHole, MovesToTop, segment_size}
-use Rattle.rh_defs.specs.Heap.{block_room, bytes_of, place_after, hole_for, placed_in, fitted, way_to, resized_by, base, block_at, need, claim, claim_need}
-use Rattle.rh_defs.specs.Heap.{claim_growing, raised, release, release_found, new_size, resize, resize_found, resize_need, resize_growing, need_at}
-use Rattle.rh_defs.specs.Heap.{need_found, refusal_of}
-use Rattle.rh_defs.specs.HeapImage.{Spells}
-use Rattle.rh_defs.specs.Module.{module_claim, module_free, module_resize, module_change, module_need_pages, changed_length, whole_pages}
-use Rattle.rh_defs.specs.declared.refusal.Refusal.{Refusal}
-use Rattle.rh_defs.specs.declared.refusal.Refusal.TheVariants.{NotABlock, BadSize, ExcessiveShrink, NoRoom}
-use Rattle.rh_defs.specs.declared.heap.HeapRefusal.{HeapRefusal}
+use Rattle.rh_defs.proofs.Common.{◌≡◌, ℕ, ◌+◌, ◌-◌, ◌<◌, ◌≤◌, ◌≢◌, true, false, eqb, ltb, List, length, refl, sym, ap, ◌∙◌, inl, inr, arith, eqb_tells}
+use Rattle.rh_defs.proofs.Common.{Option, Some, None, Result, Ok, Err, ℤ, SameIn, Granted, ◌>>=◌, found_or, pages_for, lacks_pages, zeros, Split, Segment}
+use Rattle.rh_defs.proofs.Common.{Heap, Placed, Way, Stays, Shrinks, GrowsIntoHole, GrowsAtTop, MovesToHole, MovesToTop, segment_size, block_room, bytes_of}
+use Rattle.rh_defs.proofs.Common.{place_after, hole_for, placed_in, fitted, way_to, resized_by, base, block_at, need, claim, claim_growing, raised, release}
+use Rattle.rh_defs.proofs.Common.{release_found, new_size, resize_need, resize_growing, Spells, module_claim, module_free, module_resize, module_change}
+use Rattle.rh_defs.proofs.Common.{module_need_pages, changed_length, Refusal, NotABlock, BadSize, NoRoom, HeapRefusal, word_same}
+use Rattle.rh_defs.specs.Heap.{as_granted, claim_need, resize, resize_found, need_at, need_found, refusal_of}
+use Rattle.rh_defs.specs.Module.{whole_pages}
+use Rattle.rh_defs.specs.declared.refusal.Refusal.TheVariants.{ExcessiveShrink}
 use Rattle.rh_defs.specs.declared.heap.HeapRefusal.TheVariants as heap_refusal
-use Rattle.rh_defs.proofs.BytesLaws.{word_same}
 use Rattle.rh_defs.proofs.HeapLists.{HasRoom-from_tidy, cond_true, cond_false, eqb_same, ltb_yes, ltb_no}
 use Rattle.rh_defs.proofs.HeapLaws.{narrower}
 use Rattle.rh_defs.proofs.HeapStretch.{Stand-kept}

@@ -1,36 +1,23 @@
 -- Each command on two desks that differ in the order of messages to different tasks alone.
-use Rattle.std.proofs.Common.{◌≡◌, ℕ, ◌-◌, Bool, false, cond, refl, ap, sym, subst, List, length}
-use Rattle.std.specs.Prelude.{Option, Some, None, ℤ, Ok, ◌==◌, nat_lt}
-use Rattle.rh_defs.specs.declared.refusal.Refusal.{Refusal}
-use Rattle.rh_defs.specs.declared.refusal.Refusal.TheVariants.{NotABlock, NotYours, NoRoom}
-use Rattle.rh_defs.specs.declared.command.Command.{Command}
+use Rattle.rh_defs.proofs.Common.{◌≡◌, ℕ, ◌-◌, Bool, false, cond, refl, ap, sym, subst, List, length, Option, Some, None, ℤ, Ok, ◌==◌, nat_lt, Refusal}
+use Rattle.rh_defs.proofs.Common.{NotABlock, NoRoom, Command, EventCode, User, Recorded, Acknowledge, Letter, Body, DataSave, DataSaveAck, DataLoad}
+use Rattle.rh_defs.proofs.Common.{DataLoadAck, RamFetch, RamTransmit, Incoming, Granted, ◌>>=◌, ◌>>◌, refuse_if, found_or, Split, block_at, Flex, Parcel}
+use Rattle.rh_defs.proofs.Common.{Post, post_join, Desk, Task, Scrap, free_pages, named, with_delivered, Answer, asked, handled, step}
+use Rattle.rh_defs.specs.declared.refusal.Refusal.TheVariants.{NotYours}
 use Rattle.rh_defs.specs.declared.command.Command.TheVariants as command
-use Rattle.rh_defs.specs.declared.message.EventCode.{EventCode}
-use Rattle.rh_defs.specs.declared.message.EventCode.TheVariants.{User, Recorded, Acknowledge}
-use Rattle.rh_defs.specs.declared.message.Letter.{Letter}
-use Rattle.rh_defs.specs.declared.message.Body.{Body}
-use Rattle.rh_defs.specs.declared.message.Body.TheVariants.{DataSave, DataSaveAck, DataLoad, DataLoadAck, RamFetch, RamTransmit}
 use Rattle.rh_defs.specs.declared.reply.Reply.{Reply}
 use Rattle.rh_defs.specs.declared.transfer.Sending.{Sending}
 use Rattle.rh_defs.specs.declared.transfer.Taking.{Taking}
 use Rattle.rh_defs.specs.declared.transfer.Asked.{Asked}
-use Rattle.rh_defs.specs.declared.transfer.Incoming.{Incoming}
 use Rattle.rh_defs.specs.declared.transfer.Incoming.TheVariants as incoming
-use Rattle.rh_defs.specs.Chain.{Granted, ◌>>=◌, ◌>>◌, refuse_if, found_or}
-use Rattle.rh_defs.specs.Pieces.{Split}
-use Rattle.rh_defs.specs.Heap.{block_at}
-use Rattle.rh_defs.specs.Slot.{Flex}
-use Rattle.rh_defs.specs.Messages.{Parcel}
-use Rattle.rh_defs.specs.Post.{Post, post_join}
-use Rattle.rh_defs.specs.Desk.{Desk, Task, Scrap, free_pages, named, with_task, with_post, kept_scrap, with_delivered, send_letter}
-use Rattle.rh_defs.specs.Commands.{Answer, start_task, kill, alloc, load, put, free, extend, mid, claim, release, resize, budge, module_area, module_start}
+use Rattle.rh_defs.specs.Desk.{with_task, with_post, kept_scrap, send_letter}
+use Rattle.rh_defs.specs.Commands.{start_task, kill, alloc, load, put, free, extend, mid, claim, release, resize, budge, module_area, module_start}
 use Rattle.rh_defs.specs.Commands.{change_module, change_pages, change_made, change_area, make, remove, own_block, rma_claim, rma_free, rma_resize}
-use Rattle.rh_defs.specs.Questions.{asked}
 use Rattle.rh_defs.specs.OutgoingEvents.{Handled, transmit, refused, answer_fetch, fail_sending, save_scrap, answer_ack, finish_load}
 use Rattle.rh_defs.specs.IncomingEvents.{ended, accept, take_save, appended, fetch_more, took, is_uncountable, take_bytes, ask, fetch_back, ack_back, loaded}
 use Rattle.rh_defs.specs.IncomingEvents.{load_file, take_file}
-use Rattle.rh_defs.specs.Transfer.{came, came_back, handled}
-use Rattle.rh_defs.specs.Step.{save, repeat, event, poll_taken, poll, cancel_in, cancel_out, change, is_refused, step}
+use Rattle.rh_defs.specs.Transfer.{came, came_back}
+use Rattle.rh_defs.specs.Step.{save, repeat, event, poll_taken, poll, cancel_in, cancel_out, change, is_refused}
 use Rattle.rh_defs.specs.Order.{SameForEach, requeued, with_queue, IsReordered, StepsAlike, IgnoresOrder}
 use Rattle.rh_defs.proofs.Chains.{OnGrant, granted, refused as ungranted}
 use Rattle.rh_defs.proofs.QuestionLaws.{asked-requeued, first-is, first-says}

@@ -1,20 +1,14 @@
 -- Posts that differ in the order of messages to different handles alone, and the calls on them.
-use Rattle.std.proofs.Common.{◌≡◌, ◌≢◌, ℕ, suc, ◌+◌, Bool, true, false, cond, refl, ap, sym, subst, ◌∙◌, arith, List, [], ◌∷◌, ◌++◌, length}
-use Rattle.std.specs.Prelude.{Option, Some, None, filter, not, ◌==◌, ◌||◌, nat_le, ◌^◌}
+use Rattle.rh_defs.proofs.Common.{◌≡◌, ◌≢◌, ℕ, suc, ◌+◌, Bool, true, false, cond, refl, ap, sym, subst, ◌∙◌, arith, List, [], ◌∷◌, ◌++◌, length, Option, Some}
+use Rattle.rh_defs.proofs.Common.{None, filter, not, ◌==◌, ◌||◌, nat_le, ◌^◌, eqb-true, eqb-false, Letter, ◌>>◌, refuse_if, total, Heap, module_claim, poked}
+use Rattle.rh_defs.proofs.Common.{Parcel, is_recorded, parcel_bytes, parcel_size, Seat, Post, has_seat, held_by, with_held, answers_held, put_down, queued_in}
+use Rattle.rh_defs.proofs.Common.{posted, message_of, sendable, post_send, as_returned, without_block, bounced, bounce_held, first_for, taken_from, post_poll}
+use Rattle.rh_defs.proofs.Common.{bounce_all, post_death}
 use Rattle.std.specs.List.{list_any}
 use Rattle.std.proofs.lemmas.List.Elements.{filter-append}
-use borrow.Author.Tests.{eqb-true, eqb-false}
 use Rattle.rh_defs.specs.declared.refusal.Refusal.TheVariants.{NoTask, NoRefs, QueueFull}
-use Rattle.rh_defs.specs.declared.message.Letter.{Letter}
-use Rattle.rh_defs.specs.Chain.{◌>>◌, refuse_if}
-use Rattle.rh_defs.specs.Pieces.{total}
-use Rattle.rh_defs.specs.Heap.{Heap}
-use Rattle.rh_defs.specs.Module.{module_claim}
-use Rattle.rh_defs.specs.Blocks.{poked}
-use Rattle.rh_defs.specs.Messages.{Parcel, is_recorded, parcel_bytes, parcel_size}
-use Rattle.rh_defs.specs.Post.{Seat, Post, most_messages, has_seat, held_by, with_held, count_held, holds_such, has_message, post_is_message, post_is_live}
-use Rattle.rh_defs.specs.Post.{answers_held, put_down, queued_in, posted, message_of, parcel_of, sendable, post_send, as_returned, without_block, bounced}
-use Rattle.rh_defs.specs.Post.{bounce_held, behind_first, first_for, held_or_released, taken_from, taken, post_poll, bounce_all, post_death}
+use Rattle.rh_defs.specs.Post.{most_messages, count_held, holds_such, has_message, post_is_message, post_is_live, parcel_of, behind_first, held_or_released}
+use Rattle.rh_defs.specs.Post.{taken}
 use Rattle.rh_defs.specs.Order.{is_to, SameForEach, requeued}
 use Rattle.rh_defs.proofs.Follows.{Follows, follows-same, follows-as}
 

@@ -1,15 +1,10 @@
 -- Laws of the bytes of live messages in their blocks.
-use Rattle.std.proofs.Common.{◌≡◌, ℕ, ◌+◌, ◌<◌, ◌≤◌, ◌^◌, lit<, List, [], ◌∷◌, ◌++◌, length, refl, sym, ap, ◌∙◌, arith}
-use Rattle.std.proofs.lemmas.List.{length-append, length-replicate, append_assoc, append-nil}
-use Rattle.rh_defs.specs.Bytes.{word, part, put, word_bytes}
-use Rattle.rh_defs.specs.Pieces.{zeros}
-use Rattle.rh_defs.specs.Heap.{block_room}
-use Rattle.rh_defs.specs.Messages.{Parcel, code_number, words, encoded, encoded_length, parcel_bytes, parcel_size, padded, Fits}
-use Rattle.rh_defs.specs.MessageImage.{SpellWords}
-use Rattle.rh_defs.specs.declared.message.EventCode.{EventCode}
-use Rattle.rh_defs.specs.declared.message.EventCode.TheVariants.{User, Recorded, Acknowledge}
-use Rattle.rh_defs.specs.declared.message.Message.{Message}
-use Rattle.rh_defs.proofs.BytesLaws.{length-put, put_apart, put-put, word-put_inside, part-put_inside, part-append_right, part_all}
+use Rattle.rh_defs.proofs.Common.{◌≡◌, ℕ, ◌+◌, ◌<◌, ◌≤◌, ◌^◌, lit<, List, [], ◌∷◌, ◌++◌, length, refl, sym, ap, ◌∙◌, arith, length-append, length-replicate}
+use Rattle.rh_defs.proofs.Common.{append_assoc, append-nil, word, part, put, zeros, block_room, Parcel, encoded, encoded_length, parcel_bytes, parcel_size}
+use Rattle.rh_defs.proofs.Common.{Fits, SpellWords, EventCode, User, Recorded, Acknowledge, Message, length-put}
+use Rattle.rh_defs.specs.Bytes.{word_bytes}
+use Rattle.rh_defs.specs.Messages.{code_number, words, padded}
+use Rattle.rh_defs.proofs.BytesLaws.{put_apart, put-put, word-put_inside, part-put_inside, part-append_right, part_all}
 use Rattle.rh_defs.proofs.BlockCalls.{room_enough}
 use Rattle.rh_defs.proofs.MessageLaws.{length-word_bytes, length-words, puts_in_row, SpellWords-words, SpellWords-behind, SpellWords-are, encoded-words}
 use Rattle.rh_defs.proofs.MessageLaws.{length-encoded, message_words, length-body}

@@ -1,18 +1,12 @@
 -- What sends, polls and deaths keep of a post.
-use Rattle.std.proofs.Common.{◌≡◌, ℕ, ◌+◌, ◌/◌, ◌≤◌, ◌<◌, Bool, true, false, cond, refl, ap, sym, subst, ◌∙◌, arith, List, [], ◌∷◌, ◌++◌, length, length-append}
-use Rattle.std.specs.Prelude.{Option, Some, None, IfSome, ◌==◌, filter, not, ◌^◌}
-use Rattle.std.specs.List.{AllByRecursion}
+use Rattle.rh_defs.proofs.Common.{◌≡◌, ℕ, ◌+◌, ◌/◌, ◌≤◌, ◌<◌, Bool, true, false, cond, refl, ap, sym, subst, ◌∙◌, arith, List, [], ◌∷◌, ◌++◌, length}
+use Rattle.rh_defs.proofs.Common.{length-append, Option, Some, None, IfSome, ◌==◌, filter, not, ◌^◌, AllByRecursion, eqb-true, eqb-false, Letter, total, page}
+use Rattle.rh_defs.proofs.Common.{Heap, FillsPages, poked, Parcel, is_recorded, parcel_bytes, parcel_size, Seat, Post, has_seat, held_by, with_held}
+use Rattle.rh_defs.proofs.Common.{post_join, answers_held, put_down, queued_in, posted, message_of, sendable, post_send, as_returned, without_block, bounced}
+use Rattle.rh_defs.proofs.Common.{bounce_held, first_for, taken_from, post_poll, bounce_all, post_death}
 use Rattle.std.proofs.lemmas.List.{map-append}
-use borrow.Author.Tests.{eqb-true, eqb-false, leb-false}
-use Rattle.rh_defs.specs.declared.message.Letter.{Letter}
-use Rattle.rh_defs.specs.Pieces.{total, page}
-use Rattle.rh_defs.specs.Heap.{Heap}
-use Rattle.rh_defs.specs.Module.{FillsPages}
-use Rattle.rh_defs.specs.Blocks.{poked}
-use Rattle.rh_defs.specs.Messages.{Parcel, is_recorded, parcel_bytes, parcel_size}
-use Rattle.rh_defs.specs.Post.{Seat, Post, most_messages, has_seat, held_by, with_held, count_held, live_count, post_join, answers_held, release_held}
-use Rattle.rh_defs.specs.Post.{put_down, queued_in, posted, message_of, parcel_of, sendable, post_send, as_returned, without_block, bounced, bounce_held}
-use Rattle.rh_defs.specs.Post.{behind_first, first_for, taken_from, post_poll, bounce_all, post_death}
+use borrow.Author.Tests.{leb-false}
+use Rattle.rh_defs.specs.Post.{most_messages, count_held, live_count, release_held, parcel_of, behind_first}
 use Rattle.rh_defs.specs.Laws.{IsQueued, IsHeld, HoldsOwn, IsPost, seat_handles}
 use Rattle.rh_defs.proofs.Chains.{OnGrant, granted, granted-with, granted-both, granted-past, granted-last}
 use Rattle.rh_defs.proofs.Cuts.{total-append}

@@ -1,14 +1,9 @@
 -- The live handles of a post after each call on it.
-use Rattle.std.proofs.Common.{◌≡◌, ℕ, Bool, true, false, cond, eqb, List, [], ◌∷◌, ◌++◌, map, refl, ap, ◌∙◌}
-use Rattle.std.specs.Prelude.{Option, Some, None, Ok, Err, filter, not, ◌==◌}
-use Rattle.rh_defs.specs.Chain.{Granted, ◌>>=◌, ◌>>◌, left_of}
-use Rattle.rh_defs.specs.Blocks.{poked}
-use Rattle.rh_defs.specs.Heap.{Heap}
-use Rattle.rh_defs.specs.Module.{module_claim}
-use Rattle.rh_defs.specs.Messages.{Parcel, is_recorded, parcel_bytes, parcel_size}
-use Rattle.rh_defs.specs.Post.{Seat, Post, post_handles, has_seat, with_held, held_by, answers_held, put_down, queued_in, posted, sendable, message_of}
-use Rattle.rh_defs.specs.Post.{post_send, as_returned, bounced, bounce_held, without_block, first_for, taken_from, post_poll, bounce_all, post_death}
-use Rattle.rh_defs.specs.declared.message.Letter.{Letter}
+use Rattle.rh_defs.proofs.Common.{◌≡◌, ℕ, Bool, true, false, cond, eqb, List, [], ◌∷◌, ◌++◌, map, refl, ap, ◌∙◌, Option, Some, None, Ok, Err, filter, not}
+use Rattle.rh_defs.proofs.Common.{◌==◌, Granted, ◌>>=◌, ◌>>◌, left_of, poked, Heap, module_claim, Parcel, is_recorded, parcel_bytes, parcel_size, Seat, Post}
+use Rattle.rh_defs.proofs.Common.{has_seat, with_held, held_by, answers_held, put_down, queued_in, posted, sendable, message_of, post_send, as_returned}
+use Rattle.rh_defs.proofs.Common.{bounced, bounce_held, without_block, first_for, taken_from, post_poll, bounce_all, post_death, Letter}
+use Rattle.rh_defs.specs.Post.{post_handles}
 
 abbrev seat_handles : List Seat → List ℕ
 seat_handles seats = map (λ (s : Seat). s.handle) seats

@@ -1,21 +1,16 @@
 -- What holds of each question: it leaves the desk, doesn't see the order of messages, and alone lists more than a line.
-use Rattle.std.proofs.Common.{◌≡◌, ℕ, true, false, eqb, List, refl, ap, ◌∙◌, rules}
+use Rattle.rh_defs.proofs.Common.{◌≡◌, ℕ, true, false, eqb, List, refl, ap, ◌∙◌, rules, Ok, Err, if◌then◌else◌, Command, Granted, ◌>>=◌, or_else, Parcel}
+use Rattle.rh_defs.proofs.Common.{Desk, named, Answer, asked, step}
 use borrow.Author.Tests.{tests}
-use Rattle.std.specs.Prelude.{Ok, Err, if◌then◌else◌}
-use Rattle.rh_defs.specs.declared.command.Command.{Command}
 use Rattle.rh_defs.specs.declared.command.Command.TheVariants as command
 use Rattle.rh_defs.specs.declared.question.Question.{Question}
 use Rattle.rh_defs.specs.declared.question.Question.TheVariants as question
 use Rattle.rh_defs.specs.declared.reply.Reply.{Reply}
 use Rattle.rh_defs.specs.declared.reply.Reply.TheVariants as reply
-use Rattle.rh_defs.specs.Chain.{Granted, ◌>>=◌, or_else}
-use Rattle.rh_defs.specs.Messages.{Parcel}
-use Rattle.rh_defs.specs.Desk.{Desk, named}
-use Rattle.rh_defs.specs.Commands.{Answer}
 use Rattle.rh_defs.specs.Listing.{Nothing}
 use Rattle.rh_defs.specs.Range.{can_be_asked}
-use Rattle.rh_defs.specs.Questions.{Told, asked, begins, is_same, show, blocks, heap, status}
-use Rattle.rh_defs.specs.Step.{is_refused, step}
+use Rattle.rh_defs.specs.Questions.{Told, begins, is_same, show, blocks, heap, status}
+use Rattle.rh_defs.specs.Step.{is_refused}
 use Rattle.rh_defs.specs.Order.{with_queue, IsReordered}
 use Rattle.rh_defs.proofs.Chains.{OnGrant, granted, granted-then, grant-holds}
 use Rattle.rh_defs.specs.Text.{answer_text, first_line, reply_text}

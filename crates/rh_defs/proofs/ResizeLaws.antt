@@ -1,16 +1,12 @@
 -- What a resize does to a heap's shape and to its blocks.
-use Rattle.std.proofs.Common.{◌≡◌, ◌≢◌, ℕ, ◌+◌, ◌-◌, ◌<◌, ◌≤◌, inl, inr, Bool, true, false, cond, eqb, leb, ltb, List, [], ◌∷◌, ◌++◌, length, append-nil}
-use Rattle.std.proofs.Common.{refl, sym, ap, subst, ◌∙◌, arith}
-use Rattle.std.proofs.lemmas.Bool.{cases_lt}
-use Rattle.std.proofs.lemmas.Bool.Decides.{nat_tests, eqb_tells}
+use Rattle.rh_defs.proofs.Common.{◌≡◌, ◌≢◌, ℕ, ◌+◌, ◌-◌, ◌<◌, ◌≤◌, inl, inr, Bool, true, false, cond, eqb, leb, ltb, List, [], ◌∷◌, ◌++◌, length, append-nil}
+use Rattle.rh_defs.proofs.Common.{refl, sym, ap, subst, ◌∙◌, arith, cases_lt, nat_tests, eqb_tells, Option, Some, None, IfSome, option_map, block_bytes, Puts}
+use Rattle.rh_defs.proofs.Common.{Split, total, zeros, Segment, Used, Hole, Heap, Placed, Way, Stays, Shrinks, GrowsIntoHole, GrowsAtTop, MovesToHole}
+use Rattle.rh_defs.proofs.Common.{MovesToTop, size_of, bytes_of, place_after, with_hole, joined, placed, placed_in, hole_for, is_block_at, block_at}
+use Rattle.rh_defs.proofs.Common.{segment_size, block_room, raised, release, release_found, fitted, way_to, way_to_grow, way_beyond, end_for, resize_need}
+use Rattle.rh_defs.proofs.Common.{resized_by, resize_growing}
 use Rattle.std.proofs.lemmas.List.{take_all}
-use Rattle.std.specs.Prelude.{Option, Some, None, IfSome}
-use Rattle.std.specs.Option.{option_map}
-use Rattle.rh_defs.specs.Blocks.{blank, blanked, block_bytes, bytes_at, SameShape, Puts}
-use Rattle.rh_defs.specs.Pieces.{Split, total, zeros}
-use Rattle.rh_defs.specs.Heap.{Segment, Used, Hole, Heap, Placed, Way, Stays, Shrinks, GrowsIntoHole, GrowsAtTop, MovesToHole, MovesToTop, size_of, bytes_of}
-use Rattle.rh_defs.specs.Heap.{place_after, with_hole, joined, placed, placed_in, hole_for, is_block_at, block_at, segment_size, block_room, raised, release}
-use Rattle.rh_defs.specs.Heap.{release_found, fitted, way_to, way_to_grow, way_beyond, end_for, resize_need, resized_by, resize_growing}
+use Rattle.rh_defs.specs.Blocks.{blank, blanked, bytes_at, SameShape}
 use Rattle.rh_defs.proofs.BlockLaws.{in_front, behind, with_hole-blocks, joined-blocks, placed-puts, release-frees, block_cut}
 use Rattle.rh_defs.proofs.HeapLists.{IsCut, first_at-cuts, cond_true, cond_false, eqb_same, eqb_apart}
 use Rattle.rh_defs.proofs.ShapeLaws.{PutAlike, blank_cut, blank_one, blank-append, blank-joined, blank-with_hole, block-blank, heap_with, hole-blank, len0}

@@ -1,9 +1,8 @@
 -- What a script answers line by line, compared with what it is to answer.
-use Rattle.std.specs.Prelude.{Bool, true, ◌&&◌, List, [], ◌∷◌, ◌++◌, ℕ, length, take, codes}
+use Rattle.rh_defs.proofs.Common.{Bool, true, ◌&&◌, List, [], ◌∷◌, ◌++◌, ℕ, length, take, codes, Desk}
 use Rattle.std.specs.List.{list_any}
 use Rattle.std.specs.Str.{bytes_eq}
 use Prim.Native.String.{String}
-use Rattle.rh_defs.specs.Desk.{Desk}
 use Rattle.rh_defs.specs.Script.{ended, line_text, line_desk}
 
 -- what is said of a reply: nothing, its whole text, what it begins with, or one of its later lines

@@ -1,18 +1,11 @@
 -- What a heap's calls do to its shape, and that they look at no block's bytes.
-use Rattle.std.proofs.Common.{◌≡◌, ℕ, zero, suc, ◌+◌, ◌-◌, Bool, true, false, cond, eqb, leb, ltb, List, [], ◌∷◌, ◌++◌, length, refl, sym, ap, subst, ◌∙◌}
-use Rattle.std.proofs.Common.{arith}
-use Rattle.std.proofs.lemmas.List.{length-replicate}
-use Rattle.std.specs.Prelude.{Option, Some, None, Ok, Err}
-use Rattle.std.specs.Option.{option_map}
-use Rattle.rh_defs.specs.Bytes.{put}
-use Rattle.rh_defs.specs.Chain.{Granted, ◌>>=◌, ◌>>◌, refuse_if}
-use Rattle.rh_defs.specs.Pieces.{total, Split, behind, first_at, zeros, pages_for}
-use Rattle.rh_defs.specs.Heap.{Segment, Used, Hole, Heap, Placed, size_of, bytes_of, block_size, with_hole, joined, hole_for, is_hole_for, block_at}
-use Rattle.rh_defs.specs.Heap.{is_block_at, placed, placed_in, segment_size, block_room, shortage_in, need, raised, claim_growing, release, release_found}
-use Rattle.rh_defs.specs.Module.{module_claim, module_need_pages}
-use Rattle.rh_defs.specs.declared.refusal.Refusal.TheVariants.{BadSize, NoRoom}
-use Rattle.rh_defs.proofs.BytesLaws.{length-put}
-use Rattle.rh_defs.specs.Blocks.{blank, blanked, poked, written_at, SameShape}
+use Rattle.rh_defs.proofs.Common.{◌≡◌, ℕ, zero, suc, ◌+◌, ◌-◌, Bool, true, false, cond, eqb, leb, ltb, List, [], ◌∷◌, ◌++◌, length, refl, sym, ap, subst, ◌∙◌}
+use Rattle.rh_defs.proofs.Common.{arith, length-replicate, Option, Some, None, Ok, Err, option_map, put, Granted, ◌>>=◌, ◌>>◌, refuse_if, total, Split}
+use Rattle.rh_defs.proofs.Common.{behind, first_at, zeros, pages_for, Segment, Used, Hole, Heap, Placed, size_of, bytes_of, with_hole, joined, hole_for}
+use Rattle.rh_defs.proofs.Common.{is_hole_for, block_at, is_block_at, placed, placed_in, segment_size, block_room, shortage_in, need, raised, claim_growing}
+use Rattle.rh_defs.proofs.Common.{release, release_found, module_claim, module_need_pages, BadSize, NoRoom, length-put, poked}
+use Rattle.rh_defs.specs.Heap.{block_size}
+use Rattle.rh_defs.specs.Blocks.{blank, blanked, written_at, SameShape}
 
 pub len0 : (n : ℕ) → length (zeros n) ≡ n
 len0 n = length-replicate {A = ℕ} n 0

@@ -1,16 +1,10 @@
 -- Laws of bytes that spell a slot: they spell at most one, and what keeps them so.
-use Rattle.std.proofs.Common.{◌≡◌, ℕ, zero, suc, ◌+◌, ◌-◌, ◌*◌, ◌/◌, ◌%◌, ◌<◌, ◌≤◌, ◌≢◌, inl, inr, Bool, true, false, List, [], ◌∷◌, length, leb, ltb, eqb}
-use Rattle.std.proofs.Common.{refl, sym, ap, subst, ◌∙◌, arith}
-use Rattle.std.proofs.lemmas.Bool.{cases_eq}
-use Rattle.std.proofs.lemmas.Bool.Decides.{nat_tests}
-use Rattle.std.specs.Prelude.{◌&&◌}
-use Rattle.rh_defs.specs.Bytes.{word, part, SameIn, SameOutside}
-use Rattle.rh_defs.specs.Pieces.{total}
-use Rattle.rh_defs.specs.Heap.{Heap}
-use Rattle.rh_defs.specs.HeapImage.{Spells, heap_of}
-use Rattle.rh_defs.specs.Slot.{Flex, Slot, flex_weight, weight, slot_start, slot_length, IsFree, HaveAnchors, with_heap, heap_start, anchor_count}
+use Rattle.rh_defs.proofs.Common.{◌≡◌, ℕ, zero, suc, ◌+◌, ◌-◌, ◌*◌, ◌/◌, ◌%◌, ◌<◌, ◌≤◌, ◌≢◌, inl, inr, Bool, true, false, List, [], ◌∷◌, length, leb, ltb}
+use Rattle.rh_defs.proofs.Common.{eqb, refl, sym, ap, subst, ◌∙◌, arith, cases_eq, nat_tests, ◌&&◌, word, part, SameIn, SameOutside, total, Heap, Spells}
+use Rattle.rh_defs.proofs.Common.{Flex, Slot, flex_weight, weight, slot_length, IsFree, HaveAnchors, with_heap, heap_start, anchor_count, word_same}
+use Rattle.rh_defs.specs.HeapImage.{heap_of}
+use Rattle.rh_defs.specs.Slot.{slot_start}
 use Rattle.rh_defs.specs.SlotImage.{Lie, Hang, SlotWords, SpellsSlot, flex_place, is_block, flex_in, slot_of, heap_place}
-use Rattle.rh_defs.proofs.BytesLaws.{word_same}
 use Rattle.rh_defs.proofs.HeapLists.{cond_true, cond_false, ltb_yes}
 use Rattle.rh_defs.proofs.HeapLaws.{heap_of-Spells}
 use Rattle.rh_defs.proofs.SlotLaws.{part_of, in_below, in_above, flex_same, Lie-same, Hang-same, Spells-same}

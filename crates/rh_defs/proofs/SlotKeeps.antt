@@ -1,16 +1,15 @@
 -- A slot stays one after each call on it, and takes no more pages than are free.
-use Rattle.std.proofs.Common.{◌≡◌, ℕ, ◌+◌, ◌-◌, ◌≤◌, ◌<◌, Bool, true, false, cond, refl, sym, ap, subst, ◌∙◌, arith, List, ◌∷◌, ◌++◌, length, length-append}
-use Rattle.std.proofs.Common.{length-take, length-drop}
-use Rattle.std.specs.Prelude.{Option, Some, None, IfSome, ℤ, ◌==◌, ◌||◌, nat_lt, nat_le}
-use Rattle.std.proofs.lemmas.Bool.Decides.{nat_tests}
-use borrow.Author.Tests.{ltb-false, leb-true}
-use Rattle.rh_defs.specs.Chain.{Granted, result_or}
-use Rattle.rh_defs.specs.Pieces.{Split, written, total, moved, pages_for, lacks_pages, is_inside}
-use Rattle.rh_defs.specs.Heap.{Heap, Segment, Used, Hole, IsHeap, IsTidy, size_of, bytes_of, first_place, place_after, is_block_at, block_around, is_around}
-use Rattle.rh_defs.specs.Heap.{need, raised, new_size, resize_need, released, fitted}
-use Rattle.rh_defs.specs.Slot.{Slot, Flex, IsSlot, HaveAnchors, weight, flex_weight, slot_length, slot_pages, flex_start, heap_start, flex_address, block_of}
-use Rattle.rh_defs.specs.Slot.{flex_around, heap_block_at, with_bytes, with_heap, length_with, lacks_room, opened_at, taken_out, slot_begin, slot_alloc}
-use Rattle.rh_defs.specs.Slot.{slot_block, slot_free, slot_extend, slot_mid, slot_put, slot_claim, slot_release, slot_resize, anchor_count}
+use Rattle.rh_defs.proofs.Common.{◌≡◌, ℕ, ◌+◌, ◌-◌, ◌≤◌, ◌<◌, Bool, true, false, cond, refl, sym, ap, subst, ◌∙◌, arith, List, ◌∷◌, ◌++◌, length}
+use Rattle.rh_defs.proofs.Common.{length-append, length-take, length-drop, Option, Some, None, IfSome, ℤ, ◌==◌, ◌||◌, nat_lt, nat_le, nat_tests, ltb-false}
+use Rattle.rh_defs.proofs.Common.{Granted, Split, total, moved, pages_for, lacks_pages, Heap, Segment, Used, Hole, IsHeap, IsTidy, size_of, bytes_of}
+use Rattle.rh_defs.proofs.Common.{first_place, place_after, is_block_at, need, raised, new_size, resize_need, released, fitted, Slot, Flex, IsSlot}
+use Rattle.rh_defs.proofs.Common.{HaveAnchors, weight, flex_weight, slot_length, slot_pages, flex_start, heap_start, with_heap, anchor_count}
+use borrow.Author.Tests.{leb-true}
+use Rattle.rh_defs.specs.Chain.{result_or}
+use Rattle.rh_defs.specs.Pieces.{written, is_inside}
+use Rattle.rh_defs.specs.Heap.{block_around, is_around}
+use Rattle.rh_defs.specs.Slot.{flex_address, block_of, flex_around, heap_block_at, with_bytes, length_with, lacks_room, opened_at, taken_out, slot_begin}
+use Rattle.rh_defs.specs.Slot.{slot_alloc, slot_block, slot_free, slot_extend, slot_mid, slot_put, slot_claim, slot_release, slot_resize}
 use Rattle.rh_defs.specs.Places.{with_heap_bytes, roomy_in, buffer_at, written_heap, written_around, written_in}
 use Rattle.rh_defs.specs.IncomingEvents.{without_buffer}
 use Rattle.rh_defs.proofs.Chains.{OnGrant, granted, refused, granted-with, granted-unless, found_or-grants}

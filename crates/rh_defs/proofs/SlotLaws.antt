@@ -1,14 +1,11 @@
 -- Laws of flex blocks that lie in bytes.
-use Rattle.std.proofs.Common.{◌≡◌, ℕ, ◌+◌, ◌*◌, ◌<◌, ◌≤◌, ◌≢◌, ◌⊎◌, inl, inr, List, [], ◌∷◌, ◌++◌, length, get_or, refl, sym, ap, subst, ◌∙◌, arith}
-use Rattle.std.proofs.lemmas.Bool.{cases_eq}
-use Rattle.std.specs.Prelude.{◌==◌, Some, None}
-use Rattle.rh_defs.specs.Bytes.{part, SameIn, SameOutside}
-use Rattle.rh_defs.specs.Pieces.{total, Split, first_at, NonePass}
-use Rattle.rh_defs.specs.Heap.{Heap}
-use Rattle.rh_defs.specs.HeapImage.{Spells}
-use Rattle.rh_defs.specs.Slot.{Flex, Slot, weight, flex_weight, flex_start, block_of, IsFree, HaveAnchors, anchor_count}
+use Rattle.rh_defs.proofs.Common.{◌≡◌, ℕ, ◌+◌, ◌*◌, ◌<◌, ◌≤◌, ◌≢◌, ◌⊎◌, inl, inr, List, [], ◌∷◌, ◌++◌, length, get_or, refl, sym, ap, subst, ◌∙◌, arith}
+use Rattle.rh_defs.proofs.Common.{cases_eq, ◌==◌, Some, None, part, SameIn, SameOutside, total, Split, first_at, Heap, Spells, Flex, Slot, weight}
+use Rattle.rh_defs.proofs.Common.{flex_weight, flex_start, IsFree, HaveAnchors, anchor_count, word_same, part_same}
+use Rattle.rh_defs.specs.Pieces.{NonePass}
+use Rattle.rh_defs.specs.Slot.{block_of}
 use Rattle.rh_defs.specs.SlotImage.{Lie, Hang, heap_place}
-use Rattle.rh_defs.proofs.BytesLaws.{word_same, words_same, part_same, parts_same, SameOutside-wider, SameOutside-both}
+use Rattle.rh_defs.proofs.BytesLaws.{words_same, parts_same, SameOutside-wider, SameOutside-both}
 use Rattle.rh_defs.proofs.HeapLists.{first_at-none, first_at-found, eqb_same, eqb_apart, HasRoom-from_tidy}
 use Rattle.rh_defs.proofs.HeapStretch.{Stand-kept}
 

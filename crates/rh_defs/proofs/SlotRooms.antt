@@ -1,10 +1,8 @@
 -- How many bytes and pages a slot takes after an edit, by numbers.
-use Rattle.std.proofs.Common.{◌≡◌, ℕ, ◌+◌, ◌-◌, ◌≤◌, List, [], ◌∷◌, ◌++◌, length, ap, arith, length-append, length-take, length-drop}
-use Rattle.std.proofs.lemmas.List.{length-replicate}
-use Rattle.std.specs.Prelude.{ℤ, pos, negsuc}
-use Rattle.rh_defs.specs.Pieces.{pages_for, moved, zeros, total, Split}
-use Rattle.rh_defs.specs.Heap.{Heap, fitted, raised}
-use Rattle.rh_defs.specs.Slot.{Slot, Flex, weight, flex_weight, slot_length, slot_pages, with_block, with_bytes, with_heap, length_with, opened_at, taken_out}
+use Rattle.rh_defs.proofs.Common.{◌≡◌, ℕ, ◌+◌, ◌-◌, ◌≤◌, List, [], ◌∷◌, ◌++◌, length, ap, arith, length-append, length-take, length-drop, length-replicate, ℤ}
+use Rattle.rh_defs.proofs.Common.{pos, negsuc, pages_for, moved, zeros, total, Split, Heap, fitted, raised, Slot, Flex, weight, flex_weight, slot_length}
+use Rattle.rh_defs.proofs.Common.{slot_pages, with_heap}
+use Rattle.rh_defs.specs.Slot.{with_block, with_bytes, length_with, opened_at, taken_out}
 use Rattle.rh_defs.proofs.Cuts.{total-append}
 
 -- one more block

@@ -1,16 +1,16 @@
 -- Worked slots and module areas: the definitions compute these answers.
-use Rattle.std.specs.Prelude.{◌≡◌, refl, ℕ, ◌-◌, ◌/◌, ℤ, pos, negsuc, Bool, true, false, List, [], ◌∷◌, map, Ok, Err}
-use Rattle.rh_defs.specs.declared.refusal.Refusal.TheVariants.{AnchorInUse, NotABlock, BadRange, BadSize, NoBudge, NoRoom, ExcessiveShrink}
+use Rattle.rh_defs.proofs.Common.{◌≡◌, refl, ℕ, ◌-◌, ◌/◌, ℤ, pos, negsuc, Bool, true, false, List, [], ◌∷◌, map, Ok, Err, NotABlock, BadSize, NoRoom, Granted}
+use Rattle.rh_defs.proofs.Common.{answer_of, left_of, page, Heap, Slot, slot_pages, module_claim, module_free, module_resize, module_change}
+use Rattle.rh_defs.proofs.Common.{module_need_pages}
+use Rattle.rh_defs.specs.declared.refusal.Refusal.TheVariants.{AnchorInUse, BadRange, NoBudge, ExcessiveShrink}
 use Rattle.rh_defs.specs.declared.listing.BlockItem.{BlockItem}
 use Rattle.rh_defs.specs.Chain as chain
-use Rattle.rh_defs.specs.Chain.{Granted, answer_of, left_of, result_or}
-use Rattle.rh_defs.specs.Pieces.{page}
-use Rattle.rh_defs.specs.Heap.{Heap, empty_heap}
+use Rattle.rh_defs.specs.Chain.{result_or}
+use Rattle.rh_defs.specs.Heap.{empty_heap}
 use Rattle.rh_defs.specs.Slot as slot
-use Rattle.rh_defs.specs.Slot.{Slot, new_slot, slot_pages, slot_alloc, slot_free, slot_extend, slot_mid, slot_put, slot_read, slot_claim, slot_release}
-use Rattle.rh_defs.specs.Slot.{slot_resize, slot_take_pages, holds}
+use Rattle.rh_defs.specs.Slot.{new_slot, slot_alloc, slot_free, slot_extend, slot_mid, slot_put, slot_read, slot_claim, slot_release, slot_resize}
+use Rattle.rh_defs.specs.Slot.{slot_take_pages, holds}
 use Rattle.rh_defs.specs.Module as module_area
-use Rattle.rh_defs.specs.Module.{module_claim, module_free, module_resize, module_change, module_need_pages}
 use Rattle.rh_defs.specs.Listing.{block_items}
 
 pub data Call : Type 0 where

@@ -1,14 +1,10 @@
 -- Blocks that lie one after the other are apart.
-use Rattle.std.proofs.Common.{ℕ, ◌+◌, ◌*◌, ◌/◌, ◌≤◌, arith, List, [], ◌∷◌, ◌++◌, length, inl}
-use Rattle.std.specs.List.{AllByRecursion}
-use Rattle.rh_defs.specs.Pieces.{total, page}
-use Rattle.rh_defs.specs.Heap.{Heap, Segment, Used, Hole, size_of, first_place}
-use Rattle.rh_defs.specs.Slot.{Slot, Flex, IsSlot, weight, heap_start, flex_start, slot_start, slot_pages}
-use Rattle.rh_defs.specs.Module.{FillsPages}
+use Rattle.rh_defs.proofs.Common.{ℕ, ◌+◌, ◌*◌, ◌/◌, ◌≤◌, arith, List, [], ◌∷◌, ◌++◌, length, inl, AllByRecursion, total, page, Heap, Segment, Used, Hole}
+use Rattle.rh_defs.proofs.Common.{size_of, first_place, Slot, Flex, IsSlot, weight, heap_start, flex_start, slot_pages, FillsPages, Desk, IsDesk}
+use Rattle.rh_defs.specs.Slot.{slot_start}
 use Rattle.rh_defs.specs.Commands.{module_start}
-use Rattle.rh_defs.specs.Desk.{Desk}
 use Rattle.rh_defs.specs.Spans.{Span, heap_spans, flex_spans, slot_spans, module_spans, IsApart, AreApart, IsWithin, AreLaidOut}
-use Rattle.rh_defs.specs.Laws.{IsDesk, IsBalanced, HasApartBlocks, Always}
+use Rattle.rh_defs.specs.Laws.{IsBalanced, HasApartBlocks, Always}
 use Rattle.rh_defs.proofs.Lists.{all-mono, all-join}
 use Rattle.rh_defs.proofs.Steps.{after-is, start-is}
 

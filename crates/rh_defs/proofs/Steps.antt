@@ -1,31 +1,24 @@
 -- Each command keeps what holds of a desk.
-use Rattle.std.proofs.Common.{◌≡◌, ◌≢◌, ℕ, ◌+◌, ◌*◌, ◌/◌, ◌≤◌, ◌<◌, ◌^◌, Bool, true, false, cond, refl, ap, sym, subst, ◌∙◌, arith, List, [], ◌∷◌, ◌++◌}
-use Rattle.std.proofs.Common.{length, length-append, map}
+use Rattle.rh_defs.proofs.Common.{◌≡◌, ◌≢◌, ℕ, ◌+◌, ◌*◌, ◌/◌, ◌≤◌, ◌<◌, ◌^◌, Bool, true, false, cond, refl, ap, sym, subst, ◌∙◌, arith, List, [], ◌∷◌, ◌++◌}
+use Rattle.rh_defs.proofs.Common.{length, length-append, map, Option, Some, None, ℤ, pos, negsuc, ◌&&◌, ◌==◌, nat_lt, not, find, filter, slice_index}
+use Rattle.rh_defs.proofs.Common.{AllByRecursion, ltb-false, eqb-true, eqb-false, anchor_count, Command, Granted, page, total, changed_length, Parcel, Post}
+use Rattle.rh_defs.proofs.Common.{post_poll, post_death, post_join, Desk, Task, free_pages, with_delivered, Answer, scrap_area, file_length, asked, step}
+use Rattle.rh_defs.proofs.Common.{handled, start_with, IsDesk}
 use Rattle.std.proofs.lemmas.List.{map-append, length-map}
-use Rattle.std.specs.Prelude.{Option, Some, None, ℤ, pos, negsuc, ◌&&◌, ◌==◌, nat_lt, not, find, filter, slice_index}
-use Rattle.std.specs.List.{AllByRecursion, list_all}
-use borrow.Author.Tests.{ltb-true, ltb-false, leb-false, eqb-true, eqb-false}
-use Rattle.rh_defs.specs.Slot.{anchor_count}
-use Rattle.rh_defs.specs.declared.command.Command.{Command}
+use Rattle.std.specs.List.{list_all}
+use borrow.Author.Tests.{ltb-true, leb-false}
 use Rattle.rh_defs.specs.declared.command.Command.TheVariants as command
 use Rattle.rh_defs.specs.declared.command.Manner.{Manner}
-use Rattle.rh_defs.specs.Chain.{Granted}
 use Rattle.rh_defs.specs.Forms.{is_name, is_number, first_made}
 use Rattle.rh_defs.specs.Range.{in_range, all_in_range}
 use Rattle.rh_defs.specs.Files.{FileList}
-use Rattle.rh_defs.specs.Pieces.{page, total}
-use Rattle.rh_defs.specs.Module.{changed_length}
-use Rattle.rh_defs.specs.Messages.{Parcel}
-use Rattle.rh_defs.specs.Post.{Post, post_poll, post_death, post_join}
-use Rattle.rh_defs.specs.Desk.{Desk, Task, Made, most_tasks, task_pages, used_pages, free_pages, with_delivered}
-use Rattle.rh_defs.specs.Commands.{Answer, start_task, kill, alloc, load, put, free, extend, mid, claim, release, resize, budge, module_area, scrap_area}
-use Rattle.rh_defs.specs.Commands.{file_length, least_length, shrinks_below, pages_after, change_module, change_pages, is_numbered, with_pages, change_made}
-use Rattle.rh_defs.specs.Commands.{change_area, make, remove, rma_claim, rma_free, rma_resize}
-use Rattle.rh_defs.specs.Questions.{asked}
-use Rattle.rh_defs.specs.Step.{save, repeat, poll, poll_taken, cancel_in, cancel_out, change, step}
-use Rattle.rh_defs.specs.Transfer.{handled}
-use Rattle.rh_defs.specs.Runs.{start_with, after}
-use Rattle.rh_defs.specs.Laws.{Rise, IsStart, IsDesk, AreMade, task_handles, seat_handles}
+use Rattle.rh_defs.specs.Desk.{Made, most_tasks, task_pages, used_pages}
+use Rattle.rh_defs.specs.Commands.{start_task, kill, alloc, load, put, free, extend, mid, claim, release, resize, budge, module_area, least_length}
+use Rattle.rh_defs.specs.Commands.{shrinks_below, pages_after, change_module, change_pages, is_numbered, with_pages, change_made, change_area, make, remove}
+use Rattle.rh_defs.specs.Commands.{rma_claim, rma_free, rma_resize}
+use Rattle.rh_defs.specs.Step.{save, repeat, poll, poll_taken, cancel_in, cancel_out, change}
+use Rattle.rh_defs.specs.Runs.{after}
+use Rattle.rh_defs.specs.Laws.{Rise, IsStart, AreMade, task_handles, seat_handles}
 use Rattle.rh_defs.proofs.Chains.{OnGrant, granted, granted-then, granted-with, granted-past, found_or-grants, or_else-keeps}
 use Rattle.rh_defs.proofs.Cuts.{total-append}
 use Rattle.rh_defs.proofs.Lists.{append-all, filter-all, filter-total, filter-length, map-filter, rise-append, rise-filter, rise-same, some-is}

@@ -1,7 +1,6 @@
 -- Worked scripts of transfers, by computation: what each line answers.
-use Rattle.std.specs.Prelude.{◌≡◌, refl, true, [], ◌∷◌, ◌++◌, replicate}
-use Rattle.hex.proofs.OnLiterals.{hex_on_literals}
-use Rattle.rh_defs.specs.Runs.{start, start_with}
+use Rattle.rh_defs.proofs.Common.{◌≡◌, refl, true, [], ◌∷◌, ◌++◌, replicate, hex_on_literals, start_with}
+use Rattle.rh_defs.specs.Runs.{start}
 use Rattle.rh_defs.specs.Script
 use Rattle.rh_defs.proofs.Rows.{Any, Is, Begins, Has, meets}
 

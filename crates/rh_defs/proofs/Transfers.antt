@@ -1,30 +1,21 @@
 -- What the parts of a transfer keep of a desk.
-use Rattle.std.proofs.Common.{ℕ, suc, zero, ◌+◌, ◌*◌, ◌≤◌, ◌<◌, true, false, cond, refl, ap, arith, List, length, take, drop, length-take}
-use Rattle.std.specs.Prelude.{Option, Some, None, IfSome, slice_index}
+use Rattle.rh_defs.proofs.Common.{ℕ, suc, zero, ◌+◌, ◌*◌, ◌≤◌, ◌<◌, true, false, cond, refl, ap, arith, List, length, take, drop, length-take, Option, Some}
+use Rattle.rh_defs.proofs.Common.{None, IfSome, slice_index, ltb-false, Refusal, EventCode, User, Recorded, Acknowledge, Body, DataSave, DataSaveAck}
+use Rattle.rh_defs.proofs.Common.{DataLoad, DataLoadAck, RamFetch, RamTransmit, Incoming, page, Split, Slot, Flex, anchor_count, Parcel, Desk, Task, Scrap}
+use Rattle.rh_defs.proofs.Common.{free_pages, scrap_area, file_length, handled, IsDesk}
 use Rattle.std.proofs.lemmas.List.{get_or-set_same}
-use borrow.Author.Tests.{ltb-false}
-use Rattle.rh_defs.specs.declared.refusal.Refusal.{Refusal}
-use Rattle.rh_defs.specs.declared.message.EventCode.{EventCode}
-use Rattle.rh_defs.specs.declared.message.EventCode.TheVariants.{User, Recorded, Acknowledge}
-use Rattle.rh_defs.specs.declared.message.Body.{Body}
-use Rattle.rh_defs.specs.declared.message.Body.TheVariants.{DataSave, DataSaveAck, DataLoad, DataLoadAck, RamFetch, RamTransmit}
 use Rattle.rh_defs.specs.declared.transfer.Sending.{Sending}
 use Rattle.rh_defs.specs.declared.transfer.Taking.{Taking}
 use Rattle.rh_defs.specs.declared.transfer.Asked.{Asked}
-use Rattle.rh_defs.specs.declared.transfer.Incoming.{Incoming}
 use Rattle.rh_defs.specs.declared.transfer.Incoming.TheVariants as incoming
-use Rattle.rh_defs.specs.Pieces.{page, Split}
-use Rattle.rh_defs.specs.Slot.{Slot, Flex, is_used, anchor_count}
-use Rattle.rh_defs.specs.Messages.{Parcel}
+use Rattle.rh_defs.specs.Slot.{is_used}
 use Rattle.rh_defs.specs.Places.{free_from, free_anchor}
-use Rattle.rh_defs.specs.Desk.{Desk, Task, Scrap, next_ref, free_pages, with_slot}
-use Rattle.rh_defs.specs.Commands.{scrap_area, file_length}
+use Rattle.rh_defs.specs.Desk.{next_ref, with_slot}
 use Rattle.rh_defs.specs.OutgoingEvents.{Handled, refused as failed_by, portion, transmit, answer_fetch, fail_sending, scrap_shortage, wider, save_scrap}
 use Rattle.rh_defs.specs.OutgoingEvents.{answer_ack, finish_load}
 use Rattle.rh_defs.specs.IncomingEvents.{without_buffer, ended, accept, take_save, appended, fetch_more, took, take_bytes, ask, fetch_back, ack_back, loaded}
 use Rattle.rh_defs.specs.IncomingEvents.{load_file, take_file}
-use Rattle.rh_defs.specs.Transfer.{came, came_back, handled}
-use Rattle.rh_defs.specs.Laws.{IsDesk}
+use Rattle.rh_defs.specs.Transfer.{came, came_back}
 use Rattle.rh_defs.proofs.Chains.{OnGrant, granted, granted-then, granted-with, granted-both, granted-past, granted-unless, found_or-grants, or_else-keeps}
 use Rattle.rh_defs.proofs.Chains.{chosen}
 use Rattle.rh_defs.proofs.PostKeeps.{sendable-grants}

@@ -1,9 +1,9 @@
 -- Arrows between places that have a row.
-use Rattle.std.proofs.Common.{◌≡◌, ℕ, ◌/◌, Some, refl}
+use Rattle.rh_draw.proofs.Common.{◌≡◌, ℕ, ◌/◌, Some, refl, row_y}
 use Rattle.rh_defs.specs.Pieces.{page}
 use Rattle.rh_figure.specs.Phrases.{Text}
 use Rattle.rh_sheet.specs.declared.frame.Frame.{Frame}
-use Rattle.rh_sheet.specs.Frames.{row_of, row_y}
+use Rattle.rh_sheet.specs.Frames.{row_of}
 use Rattle.rh_sheet.specs.Arrows.{place_x, ghost_way, arrow_way, arrow_text, arrow_between}
 
 -- the frame and the way of an arrow whose places have these rows

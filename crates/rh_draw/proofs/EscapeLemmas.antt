@@ -1,8 +1,6 @@
 -- Text that is escaped part by part.
-use Rattle.std.proofs.Common.{◌≡◌, ℕ, ◌-◌, List, ◌++◌, length, take, drop, ap, sym, ◌∙◌}
+use Rattle.rh_draw.proofs.Common.{◌≡◌, ℕ, ◌-◌, List, ◌++◌, length, take, drop, ap, sym, ◌∙◌, flat_map-append, escape, escaped_byte}
 use Rattle.std.proofs.lemmas.List.{take-append-drop, take_rest}
-use Rattle.std.proofs.lemmas.Grind.{flat_map-append}
-use Rattle.rh_sheet.specs.Markup.{escape, escaped_byte}
 
 -- the first bytes, and those behind them
 pub escape-parts : (n : ℕ) (t : List ℕ) → escape t ≡ escape (take n t) ++ escape (take (length t - n) (drop n t))

@@ -1,8 +1,5 @@
 -- Texts of several things that are escaped one after the other.
-use Rattle.std.proofs.Common.{◌≡◌, ℕ, List, [], ◌∷◌, ◌++◌, map, ap, sym, ◌∙◌, append-nil}
-use Rattle.std.specs.List.{flat_map, join_by}
-use Rattle.std.proofs.lemmas.Grind.{flat_map-append}
-use Rattle.rh_sheet.specs.Markup.{escape, escaped_byte}
+use Rattle.rh_draw.proofs.Common.{◌≡◌, ℕ, List, [], ◌∷◌, ◌++◌, map, ap, sym, ◌∙◌, append-nil, flat_map, join_by, flat_map-append, escape, escaped_byte}
 
 -- one text behind another
 pub escape-both : (t u : List ℕ) → escape t ++ escape u ≡ escape (t ++ u)

@@ -1,8 +1,7 @@
 -- The beginning of a figure in parts.
-use Rattle.std.proofs.Common.{◌≡◌, ℕ, ◌++◌, codes, ap, ◌∙◌, append_assoc}
-use Rattle.std.specs.Fmt.{decimal}
+use Rattle.rh_draw.proofs.Common.{◌≡◌, ℕ, ◌++◌, codes, ap, ◌∙◌, append_assoc, decimal, escape}
 use Rattle.rh_figure.specs.Phrases.{Text}
-use Rattle.rh_sheet.specs.Markup.{escape, figure_open}
+use Rattle.rh_sheet.specs.Markup.{figure_open}
 use Rattle.rh_draw.proofs.RowLemmas.{behind}
 
 -- its size

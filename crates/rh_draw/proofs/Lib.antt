@@ -1,4 +1,5 @@
 pub mod ArrowLemmas
+pub mod Common
 pub mod EscapeLemmas
 pub mod EscapedItems
 pub mod FigureLemmas

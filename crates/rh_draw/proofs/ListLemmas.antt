@@ -1,12 +1,10 @@
 -- Texts and lists by the cases of their definitions.
-use Rattle.std.proofs.Common.{◌≡◌, ◌≢◌, ℕ, ◌-◌, ◌<◌, Bool, true, false, List, [], ◌∷◌, ◌++◌, length, map, take, refl, sym, ap, ◌∙◌, append_assoc, append-nil}
-use Rattle.std.proofs.Common.{arith}
-use Rattle.std.specs.Prelude.{codes, nat_le}
+use Rattle.rh_draw.proofs.Common.{◌≡◌, ◌≢◌, ℕ, ◌-◌, ◌<◌, Bool, true, false, List, [], ◌∷◌, ◌++◌, length, map, take, refl, sym, ap, ◌∙◌, append_assoc}
+use Rattle.rh_draw.proofs.Common.{append-nil, arith, codes, nat_le, cut}
 use Rattle.std.specs.List.{concat}
 use Rattle.std.proofs.lemmas.List.{length-map, map-append, take-map}
 use Rattle.rh_defs.specs.Bytes.{space}
 use Rattle.rh_defs.proofs.HeapLists.{cond_true, cond_false}
-use Rattle.rh_figure.specs.Phrases.{cut}
 use Rattle.rh_figure.specs.Rows.{trimmed}
 use Rattle.rh_map.proofs.TextLemmas.{trimmed-space, trimmed-whole}
 use Rattle.rh_sheet.specs.Pool.{some_squares, squares_text}

@@ -1,6 +1,5 @@
 -- What a loop writes of numbers and of lists, one after the other.
-use Rattle.std.proofs.Common.{◌≡◌, ℕ, suc, ◌+◌, List, ◌∷◌, ◌++◌, ap}
-use Rattle.std.specs.List.{flat_map, range_with_len}
+use Rattle.rh_draw.proofs.Common.{◌≡◌, ℕ, suc, ◌+◌, List, ◌∷◌, ◌++◌, ap, flat_map, range_with_len}
 
 -- the next number, and those behind it
 pub numbers-behind : (f : ℕ → List ℕ) (i m n : ℕ) → n ≡ suc m

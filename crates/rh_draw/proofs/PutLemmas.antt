@@ -1,8 +1,7 @@
 -- The last of several writes, and writes of several parts.
-use Rattle.std.proofs.Common.{◌≡◌, ℕ, List, [], ◌++◌, Result, Ok, append-nil, append_assoc, ap, ◌∙◌, subst}
+use Rattle.rh_draw.proofs.Common.{◌≡◌, ℕ, List, [], ◌++◌, Result, Ok, append-nil, append_assoc, ap, ◌∙◌, subst, puts_before, puts_more}
 use Rattle.std.specs.Result.{IsErr}
 use Rattle.rh_lines.specs.Flow.{Output, Puts}
-use Rattle.rh_lines.proofs.FlowLemmas.{puts_before, puts_more}
 
 -- nothing stands behind it
 pub puts-last : {E : Type 0} {s t : Output} {r : Result Unit E} {x : List ℕ} → Puts s t r x → Puts s t r (x ++ [])

@@ -1,14 +1,9 @@
 -- The lines of a reply, one by one.
-use Rattle.std.proofs.Common.{◌≡◌, ℕ, suc, ◌-◌, Bool, true, false, List, [], ◌∷◌, ◌++◌, refl, sym, ap, ◌∙◌}
-use Rattle.std.specs.Prelude.{codes, nat_lt, if◌then◌else◌}
-use Rattle.std.specs.List.{flat_map, join_by}
-use Rattle.std.proofs.lemmas.Grind.{flat_map-append}
+use Rattle.rh_draw.proofs.Common.{◌≡◌, ℕ, suc, ◌-◌, Bool, true, false, List, [], ◌∷◌, ◌++◌, refl, sym, ap, ◌∙◌, codes, nat_lt, if◌then◌else◌, flat_map}
+use Rattle.rh_draw.proofs.Common.{join_by, flat_map-append, cut, lines_in, escape, escaped_byte, behind_feeds}
 use Rattle.rh_figure.specs.Map.{more_lines}
-use Rattle.rh_figure.specs.Phrases.{cut}
 use Rattle.rh_figure.specs.declared.limits.TheConstants.{REPLY_COLUMNS, MOST_REPLY_LINES}
-use Rattle.rh_map.specs.Replies.{excerpt_lines, first_lines, lines_in, more_behind}
-use Rattle.rh_sheet.specs.Markup.{escape, escaped_byte}
-use Rattle.rh_draw.specs.Replies.{behind_feeds}
+use Rattle.rh_map.specs.Replies.{excerpt_lines, first_lines, more_behind}
 
 -- lines with line feeds between them
 abbrev pub joined : List (List ℕ) → List ℕ

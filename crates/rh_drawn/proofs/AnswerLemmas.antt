@@ -1,18 +1,15 @@
 -- Answers as they are kept: how many lines each has, and what the first 4,096 bytes show of them.
-use Rattle.std.proofs.Common.{◌≡◌, ℕ, zero, suc, ◌+◌, ◌*◌, ◌/◌, ◌%◌, ◌<◌, ◌≤◌, ◌⊎◌, inl, inr, Bool, true, false, eqb, refl, ap, ap₂, sym, subst, ◌∙◌, arith}
-use Rattle.std.proofs.Common.{rules, List, [], ◌∷◌, ◌++◌, append-nil, append_assoc, length, take, map, Option, Some, None, Result, Ok, Err}
-use Rattle.std.specs.Prelude.{codes, find, if◌then◌else◌, max, nat_le, slice_get, slice_index, ◌==◌}
-use Rattle.std.specs.Fmt.{decimal, digit_glyph, digits, digits_onto}
-use Rattle.std.specs.List.{AllByRecursion, enumerate_from, flat_map}
-use Rattle.std.proofs.lemmas.Grind.{flat_map-append}
-use Rattle.std.proofs.lemmas.List.{length-append}
-use Rattle.std.proofs.lemmas.Option.{slice_get_within}
+use Rattle.rh_drawn.proofs.Common.{◌≡◌, ℕ, zero, suc, ◌+◌, ◌*◌, ◌/◌, ◌%◌, ◌<◌, ◌≤◌, ◌⊎◌, inl, inr, Bool, true, false, eqb, refl, ap, ap₂, sym, subst, ◌∙◌}
+use Rattle.rh_drawn.proofs.Common.{arith, rules, List, [], ◌∷◌, ◌++◌, append-nil, append_assoc, length, take, map, Option, Some, None, Result, Ok, Err, codes}
+use Rattle.rh_drawn.proofs.Common.{find, if◌then◌else◌, max, nat_le, slice_get, slice_index, ◌==◌, decimal, AllByRecursion, enumerate_from, flat_map}
+use Rattle.rh_drawn.proofs.Common.{flat_map-append, length-append, slice_get_within, BlockItem, Reply, Desk, Made, Task, task_pages, block_items, in_item}
+use Rattle.rh_drawn.proofs.Common.{out_item, asked, ended, unended, answer_text, first_line, cut, Puts, Excerpts}
+use Rattle.std.specs.Fmt.{digit_glyph, digits, digits_onto}
 use Rattle.std.proofs.lemmas.List.FromFn.{length-enumerate_from}
 use borrow.Author.Tests.{tests}
 use Rattle.hex.specs.Hex.{encode_with, lower_digits}
 use Rattle.rh_defs.specs.declared.listing.AreaItem.{AreaItem}
 use Rattle.rh_defs.specs.declared.listing.AreaItem.TheVariants as item
-use Rattle.rh_defs.specs.declared.listing.BlockItem.{BlockItem}
 use Rattle.rh_defs.specs.declared.listing.RecordItem.{RecordItem}
 use Rattle.rh_defs.specs.declared.listing.SegmentItem.{SegmentItem}
 use Rattle.rh_defs.specs.declared.listing.SegmentItem.TheVariants as segment
@@ -22,25 +19,23 @@ use Rattle.rh_defs.specs.declared.question.Question.{Question}
 use Rattle.rh_defs.specs.declared.question.Question.TheVariants as question
 use Rattle.rh_defs.specs.declared.refusal.Refusal.{Refusal}
 use Rattle.rh_defs.specs.declared.refusal.Refusal.TheVariants.{NoName}
-use Rattle.rh_defs.specs.declared.reply.Reply.{Reply}
 use Rattle.rh_defs.specs.declared.reply.Reply.TheVariants as reply
 use Rattle.rh_defs.specs.Chain.{Granted, found_or, ◌>>=◌}
-use Rattle.rh_defs.specs.Desk.{Desk, Made, Task, has_name, named, task_pages}
-use Rattle.rh_defs.specs.Listing.{Areas, Blocks, Bytes, Listed, Records, Segments, area_item, area_items, block_items, in_item, out_item, segment_items}
-use Rattle.rh_defs.specs.Questions.{Told, areas, asked, blocks, heap, show, status}
-use Rattle.rh_defs.specs.Script.{ended, onto_line, unended, unended_after}
+use Rattle.rh_defs.specs.Desk.{has_name, named}
+use Rattle.rh_defs.specs.Listing.{Areas, Blocks, Bytes, Listed, Records, Segments, area_item, area_items, segment_items}
+use Rattle.rh_defs.specs.Questions.{Told, areas, blocks, heap, show, status}
+use Rattle.rh_defs.specs.Script.{onto_line, unended_after}
 use Rattle.rh_defs.specs.Slot.{slot_block}
-use Rattle.rh_defs.specs.Text.{Words, address, answer_text, area_line, block_line, first_line, hex_words, later, later_lines, line, record_line, record_lines}
-use Rattle.rh_defs.specs.Text.{rest_of_line, segment_line, state_name}
+use Rattle.rh_defs.specs.Text.{Words, address, area_line, block_line, hex_words, later, later_lines, line, record_line, record_lines, rest_of_line}
+use Rattle.rh_defs.specs.Text.{segment_line, state_name}
 use Rattle.rh_feed.proofs.LineLemmas.{NoFeed, bool_cases, ended-unended, ended_first, no_feed_open, unended-append, unended_first}
 use Rattle.rh_figure.specs.Map.{reply_lines}
-use Rattle.rh_figure.specs.Phrases.{cut}
-use Rattle.rh_lines.specs.Flow.{Holding, Puts}
+use Rattle.rh_lines.specs.Flow.{Holding}
 use Rattle.rh_map.specs.Replies.{excerpt_lines, lines_in, more_behind, rest_line}
 use Rattle.rh_map.proofs.SeamLemmas.{whole-reply}
 use Rattle.rh_sight.proofs.Places.{front-none, front-some, total-more}
 use Rattle.rh_sight.proofs.SegmentWalks.{length-items}
-use Rattle.rh_drawn.specs.Replies.{Excerpts, HaveShortNames, block_count, count_in, record_count, segment_count, slot_lines}
+use Rattle.rh_drawn.specs.Replies.{HaveShortNames, block_count, count_in, record_count, segment_count, slot_lines}
 use Rattle.rh_drawn.proofs.ExcerptLemmas.{AreOpen, OneLine, address-open, decimal-open, first-one, line-one, onto-long, one-kept, out_of, rest-one}
 
 -- ---- short lines

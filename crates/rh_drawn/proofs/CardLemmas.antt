@@ -1,19 +1,13 @@
 -- Bands of cards: which cards of a list are shown.
-use Rattle.std.proofs.Common.{◌≡◌, ◌⊎◌, inl, inr, add-one, append-nil, append_assoc, ℕ, zero, suc, ◌+◌, ◌-◌, ◌<◌, ◌≤◌, Bool, true, false, refl, ap, sym}
-use Rattle.std.proofs.Common.{subst, ◌∙◌, arith, List, [], ◌∷◌, ◌++◌, length, take, drop, get_or, Some, None}
-use Rattle.std.specs.Prelude.{min, filter, if◌then◌else◌, nat_le, slice_get}
-use Rattle.std.proofs.lemmas.Bool.Decides.{nat_tests}
-use Rattle.std.proofs.lemmas.List.{drop_all, drop_more, map-append, take_all}
-use Rattle.std.proofs.lemmas.Option.{slice_get-get_or, slice_get_within}
-use Rattle.rh_defs.specs.declared.listing.BlockItem.{BlockItem}
-use Rattle.rh_defs.specs.Desk.{Task}
-use Rattle.rh_defs.specs.Listing.{block_items, block_items_from}
-use Rattle.rh_defs.specs.Slot.{Flex, flex_start, weight}
-use Rattle.rh_figure.specs.Cards.{Card, flex_card, flex_cards, flex_cards_from, more_card, shown_cards, use_of_block}
-use Rattle.rh_figure.specs.Map.{card_line}
-use Rattle.rh_figure.specs.Layout.{is_fresh_flex}
-use Rattle.rh_figure.specs.Scene.{Scene}
-use Rattle.rh_drawn.specs.Cards.{card_lines, cards_behind, count_shown, place_behind, place_from}
+use Rattle.rh_drawn.proofs.Common.{◌≡◌, ◌⊎◌, inl, inr, add-one, append-nil, append_assoc, ℕ, zero, suc, ◌+◌, ◌-◌, ◌<◌, ◌≤◌, Bool, true, false, refl, ap, sym}
+use Rattle.rh_drawn.proofs.Common.{subst, ◌∙◌, arith, List, [], ◌∷◌, ◌++◌, length, take, drop, get_or, Some, None, min, filter, if◌then◌else◌, nat_le}
+use Rattle.rh_drawn.proofs.Common.{slice_get, nat_tests, drop_all, drop_more, map-append, take_all, slice_get-get_or, slice_get_within, BlockItem, Task}
+use Rattle.rh_drawn.proofs.Common.{block_items, flex_start, Card, flex_cards, more_card, shown_cards, card_line, is_fresh_flex, Scene, card_lines}
+use Rattle.rh_drawn.proofs.Common.{cards_behind, count_shown, place_behind}
+use Rattle.rh_defs.specs.Listing.{block_items_from}
+use Rattle.rh_defs.specs.Slot.{Flex, weight}
+use Rattle.rh_figure.specs.Cards.{flex_card, flex_cards_from, use_of_block}
+use Rattle.rh_drawn.specs.Cards.{place_from}
 
 -- ---- how many are shown
 

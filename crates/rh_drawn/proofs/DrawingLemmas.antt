@@ -1,19 +1,13 @@
 -- The rows of an area, and the letter of a slot.
-use Rattle.std.proofs.Common.{◌≡◌, ℕ, zero, suc, ◌+◌, ◌<◌, ◌≤◌, Bool, true, false, refl, ap, subst, ◌∙◌, arith, eq-eqb, List, [], ◌∷◌, length, map, Some, None}
-use Rattle.std.specs.Prelude.{◌==◌, find, if◌then◌else◌, nat_lt, slice_get}
-use Rattle.std.specs.List.{position, position_or_len}
-use Rattle.std.proofs.lemmas.Bool.{ne_eqb}
-use Rattle.std.proofs.lemmas.Bool.Decides.{nat_tests}
+use Rattle.rh_drawn.proofs.Common.{◌≡◌, ℕ, zero, suc, ◌+◌, ◌<◌, ◌≤◌, Bool, true, false, refl, ap, subst, ◌∙◌, arith, eq-eqb, List, [], ◌∷◌, length, map, Some}
+use Rattle.rh_drawn.proofs.Common.{None, ◌==◌, find, if◌then◌else◌, nat_lt, slice_get, position, ne_eqb, nat_tests, slice_get_within, Desk, Task, task_at}
+use Rattle.rh_drawn.proofs.Common.{IsDesk, Rise, Card, Panel, slot_panel, area_rows, Scene, SlotOf}
+use Rattle.std.specs.List.{position_or_len}
 use Rattle.std.proofs.lemmas.List.{length-map}
-use Rattle.std.proofs.lemmas.Option.{slice_get_within}
-use Rattle.rh_defs.specs.Desk.{Desk, Task, task_at}
-use Rattle.rh_defs.specs.Laws.{IsDesk, Rise}
 use Rattle.rh_figure.specs.declared.piece.Piece.{Piece}
-use Rattle.rh_figure.specs.Cards.{Card}
-use Rattle.rh_figure.specs.Figure.{Drawing, Panel, slot_panel}
-use Rattle.rh_figure.specs.Rows.{area_row, area_rows, rows_down}
-use Rattle.rh_figure.specs.Scene.{Scene}
-use Rattle.rh_figure.specs.Share.{SlotOf, is_owner}
+use Rattle.rh_figure.specs.Figure.{Drawing}
+use Rattle.rh_figure.specs.Rows.{area_row, rows_down}
+use Rattle.rh_figure.specs.Share.{is_owner}
 use Rattle.rh_map.specs.Written.{area_of}
 
 -- the rows are the same whatever cards stand below them

@@ -1,15 +1,11 @@
 -- Replies as they are kept: how many lines they have, and what their front shows.
-use Rattle.std.proofs.Common.{◌≡◌, ℕ, zero, suc, ◌+◌, ◌/◌, ◌%◌, ◌<◌, ◌≤◌, Bool, true, false, eqb, refl, ap, ap₂, sym, subst, ◌∙◌, arith, List, [], ◌∷◌, ◌++◌}
-use Rattle.std.proofs.Common.{append-nil, append_assoc, length, take, drop, Some, None, Result, Ok, Err}
-use Rattle.std.specs.Prelude.{codes, if◌then◌else◌, max, nat_le, nat_lt, slice_index, ◌==◌}
-use Rattle.std.specs.Fmt.{decimal, digit_glyph, digits, digits_onto}
-use Rattle.std.specs.List.{AllByRecursion}
-use Rattle.std.proofs.lemmas.Bool.{ne_eqb}
-use Rattle.std.proofs.lemmas.Bool.Decides.{nat_tests}
-use Rattle.std.proofs.lemmas.List.{drop_more, length-append, length-drop}
+use Rattle.rh_drawn.proofs.Common.{◌≡◌, ℕ, zero, suc, ◌+◌, ◌/◌, ◌%◌, ◌<◌, ◌≤◌, Bool, true, false, eqb, refl, ap, ap₂, sym, subst, ◌∙◌, arith, List, [], ◌∷◌}
+use Rattle.rh_drawn.proofs.Common.{◌++◌, append-nil, append_assoc, length, take, drop, Some, None, Result, Ok, Err, codes, if◌then◌else◌, max, nat_le, nat_lt}
+use Rattle.rh_drawn.proofs.Common.{slice_index, ◌==◌, decimal, AllByRecursion, ne_eqb, nat_tests, drop_more, length-append, length-drop, LineFault, TooLong}
+use Rattle.rh_drawn.proofs.Common.{Reply, Nothing, ended, unended, fault_text, first_line, cut, Output, Puts, Excerpts}
+use Rattle.std.specs.Fmt.{digit_glyph, digits, digits_onto}
 use Rattle.memchr.specs.Find.{is_byte, places_from}
-use Rattle.rh_defs.specs.declared.fault.LineFault.{LineFault}
-use Rattle.rh_defs.specs.declared.fault.LineFault.TheVariants.{TooLong, Unended, Unknown, Count, Word}
+use Rattle.rh_defs.specs.declared.fault.LineFault.TheVariants.{Unended, Unknown, Count, Word}
 use Rattle.rh_defs.specs.declared.message.Action.{Action}
 use Rattle.rh_defs.specs.declared.message.Action.TheVariants as action
 use Rattle.rh_defs.specs.declared.refusal.Refusal.{Refusal}
@@ -18,18 +14,14 @@ use Rattle.rh_defs.specs.declared.refusal.Refusal.TheVariants.{Busy, NotOpen, No
 use Rattle.rh_defs.specs.declared.refusal.Refusal.TheVariants.{NoBudge, NoRoom, NoArea, TooManyAreas, NoNumbers, TooBig}
 use Rattle.rh_defs.specs.declared.reply.Outcome.{Outcome}
 use Rattle.rh_defs.specs.declared.reply.Outcome.TheVariants as outcome
-use Rattle.rh_defs.specs.declared.reply.Reply.{Reply}
 use Rattle.rh_defs.specs.declared.reply.Reply.TheVariants as reply
-use Rattle.rh_defs.specs.Listing.{Nothing}
 use Rattle.rh_defs.specs.Messages.{code_number}
-use Rattle.rh_defs.specs.Script.{ended, onto_line, unended}
-use Rattle.rh_defs.specs.Text.{Words, action_name, address, fault_text, first_line, line, on_or_off, outcome_words, refusal_name, rest_of_line}
+use Rattle.rh_defs.specs.Script.{onto_line}
+use Rattle.rh_defs.specs.Text.{Words, action_name, address, line, on_or_off, outcome_words, refusal_name, rest_of_line}
 use Rattle.rh_feed.proofs.LineLemmas.{NoFeed, ended_first, ended_none, no_feed_join, no_feed_open, unended_first}
-use Rattle.rh_figure.specs.Phrases.{cut}
-use Rattle.rh_lines.specs.Flow.{Holding, Output, Puts}
+use Rattle.rh_lines.specs.Flow.{Holding}
 use Rattle.rh_map.specs.Replies.{excerpt_lines, lines_in}
 use Rattle.rh_map.proofs.SeamLemmas.{whole-reply}
-use Rattle.rh_drawn.specs.Replies.{Excerpts}
 
 -- ---- how many lines end
 

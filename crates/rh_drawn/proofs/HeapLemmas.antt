@@ -1,39 +1,30 @@
 -- Bands of a heap's cards: the survey of its segments, and the card of each.
-use Rattle.std.proofs.Common.{◌≡◌, ℕ, zero, suc, ◌+◌, ◌-◌, ◌<◌, ◌≤◌, Bool, true, false, refl, ap, ap₂, sym, subst, ◌∙◌, arith, eq-eqb, List, [], ◌∷◌, ◌++◌}
-use Rattle.std.proofs.Common.{length, take, drop, get_or, Option, Some, None}
-use Rattle.std.specs.Prelude.{IfSome, ◌&&◌, ◌||◌, ◌==◌, filter, find, if◌then◌else◌, nat_le, slice_get}
-use Rattle.std.specs.List.{AllByRecursion, flat_map, list_any}
-use Rattle.std.specs.Option.{option_map}
-use Rattle.std.proofs.lemmas.Bool.{eqb-true}
-use Rattle.std.proofs.lemmas.Bool.Decides.{nat_tests}
-use Rattle.std.proofs.lemmas.List.{drop_all, take_all}
-use Rattle.std.proofs.lemmas.Option.{slice_get-get_or, slice_get_within}
+use Rattle.rh_drawn.proofs.Common.{◌≡◌, ℕ, zero, suc, ◌+◌, ◌-◌, ◌<◌, ◌≤◌, Bool, true, false, refl, ap, ap₂, sym, subst, ◌∙◌, arith, eq-eqb, List, [], ◌∷◌}
+use Rattle.rh_drawn.proofs.Common.{◌++◌, length, take, drop, get_or, Option, Some, None, IfSome, ◌&&◌, ◌||◌, ◌==◌, filter, find, if◌then◌else◌, nat_le}
+use Rattle.rh_drawn.proofs.Common.{slice_get, AllByRecursion, flat_map, list_any, option_map, eqb-true, nat_tests, drop_all, take_all, slice_get-get_or}
+use Rattle.rh_drawn.proofs.Common.{slice_get_within, Desk, Task, Heap, IsDesk, Parcel, Card, Scene, message_in, MessageItem, held_on, waiting_on, HasBlock}
+use Rattle.rh_drawn.proofs.Common.{heap_seen, heap_start_of, band_cards, is_fresh_card, with_items}
 use Rattle.rh_defs.specs.declared.sizes.TheConstants.{SEGMENTS_AT_ONCE}
 use Rattle.rh_defs.specs.declared.listing.SegmentItem.{SegmentItem}
 use Rattle.rh_defs.specs.declared.listing.SegmentItem.TheVariants as segment
-use Rattle.rh_defs.specs.Desk.{Desk, Task}
-use Rattle.rh_defs.specs.Heap.{Heap, Hole, Segment, Used, place_after, size_of}
+use Rattle.rh_defs.specs.Heap.{Hole, Segment, Used, place_after, size_of}
 use Rattle.rh_defs.specs.Listing.{segment_item, segment_items_from}
-use Rattle.rh_defs.specs.Laws.{IsDesk, IsQueued}
-use Rattle.rh_defs.specs.Messages.{Parcel}
+use Rattle.rh_defs.specs.Laws.{IsQueued}
 use Rattle.rh_defs.specs.Order.{is_to}
 use Rattle.rh_defs.specs.Pieces.{total}
 use Rattle.rh_defs.specs.Post.{Seat, has_seat, holds_such, post_is_message}
 use Rattle.rh_defs.specs.Records.{is_buffer_of}
-use Rattle.rh_figure.specs.Cards.{Card, cards_from, hole_card, in_use_text, post_card, post_or_used_card, used_card}
+use Rattle.rh_figure.specs.Cards.{cards_from, hole_card, in_use_text, post_card, post_or_used_card, used_card}
 use Rattle.rh_figure.specs.Layout.{is_fresh_block}
-use Rattle.rh_figure.specs.Scene.{Scene, held_list, message_in}
+use Rattle.rh_figure.specs.Scene.{held_list}
 use Rattle.rh_sight.specs.declared.sight.HeapOf.{HeapOf}
 use Rattle.rh_sight.specs.declared.sight.HeapOf.TheVariants as heap_of
-use Rattle.rh_defs.specs.declared.listing.MessageItem.{MessageItem}
-use Rattle.rh_sight.specs.Messages.{held_on, waiting_on}
-use Rattle.rh_sight.specs.Seen.{HasBlock, heap_seen, heap_start_of}
 use Rattle.rh_sight.specs.Walks.{ComesTo, IsInArea}
 use Rattle.rh_sight.proofs.Heaps.{Counted, told}
 use Rattle.rh_sight.proofs.PieceWalks.{item-in-area}
 use Rattle.rh_sight.proofs.SegmentWalks.{length-items, take-items}
-use Rattle.rh_drawn.specs.Bands.{HasSegment, IsBandFor, IsBandOf, IsItemOf, band_card, band_cards, card_for, card_of_task, is_fresh_at, is_fresh_block_of}
-use Rattle.rh_drawn.specs.Bands.{is_fresh_card, is_fresh_or_posted, is_fresh_used, with_items}
+use Rattle.rh_drawn.specs.Bands.{HasSegment, IsBandFor, IsBandOf, IsItemOf, band_card, card_for, card_of_task, is_fresh_at, is_fresh_block_of}
+use Rattle.rh_drawn.specs.Bands.{is_fresh_or_posted, is_fresh_used}
 use Rattle.rh_drawn.specs.declared.heap_cards.Band.{Band}
 use Rattle.rh_drawn.specs.declared.heap_cards.Survey.{Survey}
 use Rattle.rh_drawn.proofs.CardLemmas.{Alike, get-front}

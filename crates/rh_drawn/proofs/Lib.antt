@@ -14,3 +14,4 @@ pub mod HeapLemmas
 pub mod ExcerptLemmas
 pub mod AnswerLemmas
 pub mod StepLemmas
+pub mod Common

@@ -1,26 +1,16 @@
 -- A map from the lines that were taken, one after the other.
-use Rattle.std.proofs.Common.{◌≡◌, ℕ, ◌+◌, Bool, true, false, ◌||◌, List, [], ◌∷◌, ◌++◌, map, refl, sym, ap, ap₂, ◌∙◌, subst, append-nil}
-use Rattle.std.specs.Prelude.{Option, Some, None, Ok, Err, is_err}
-use Rattle.std.specs.List.{list_any}
-use Rattle.std.proofs.lemmas.Grind.{flat_map-append}
-use Rattle.rh_defs.specs.declared.command.Command.{Command}
-use Rattle.rh_defs.specs.Line.{Meaning, line_means}
-use Rattle.rh_defs.specs.Desk.{Desk}
+use Rattle.rh_drawn.proofs.Common.{◌≡◌, ℕ, ◌+◌, Bool, true, false, ◌||◌, List, [], ◌∷◌, ◌++◌, map, refl, sym, ap, ap₂, ◌∙◌, subst, append-nil, Option, Some}
+use Rattle.rh_drawn.proofs.Common.{None, Ok, Err, is_err, list_any, flat_map-append, Command, Meaning, line_means, Desk, IsReordered, Output, Takes}
+use Rattle.rh_drawn.proofs.Common.{takes_none, takes_more, kept, kept_means, Share, IsShared, Text, Place, after_read, is_mark, lines_of_read, read_line}
+use Rattle.rh_drawn.proofs.Common.{written_lines, Mapper, Drew, TookLine, place_in}
 use Rattle.rh_defs.specs.Script.{is_bad}
-use Rattle.rh_defs.specs.Order.{IsReordered, with_queue}
+use Rattle.rh_defs.specs.Order.{with_queue}
 use Rattle.rh_defs.proofs.OrderSteps.{order-ignored}
-use Rattle.rh_lines.specs.Flow.{Output, Takes}
-use Rattle.rh_lines.proofs.FlowLemmas.{takes_none, takes_more}
-use Rattle.rh_feed.specs.Lines.{kept}
 use Rattle.rh_feed.specs.Taken.{TookAll}
-use Rattle.rh_feed.proofs.LineLemmas.{kept_means}
-use Rattle.rh_figure.specs.Share.{Share, IsShared}
-use Rattle.rh_figure.specs.Phrases.{Text}
-use Rattle.rh_figure.specs.Map.{Place, Read, Stage, after_read, is_mark, lines_of_read, map_lines, place, read_line, written_lines}
+use Rattle.rh_figure.specs.Map.{Read, Stage, map_lines, place}
 use Rattle.rh_figure.specs.Whole.{AreShared, IsMap, read_of}
 use Rattle.rh_figure.proofs.Alike.{no-order}
-use Rattle.rh_drawn.specs.declared.mapper.Mapper.{Mapper}
-use Rattle.rh_drawn.specs.Places.{Drew, Follows, TookLine, place_in}
+use Rattle.rh_drawn.specs.Places.{Follows}
 use Rattle.rh_drawn.proofs.ReadLemmas.{same_read}
 
 -- ---- where a map stands, but for the order of messages to different tasks

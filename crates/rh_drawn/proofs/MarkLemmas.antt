@@ -1,18 +1,10 @@
 -- Characters of pages, owner by owner.
-use Rattle.std.proofs.Common.{◌≡◌, ℕ, zero, suc, ◌+◌, ◌<◌, ◌≤◌, Bool, true, false, eq-eqb, refl, ap, ap₂, sym, ◌∙◌, append_assoc, arith, List, [], ◌∷◌, ◌++◌}
-use Rattle.std.proofs.Common.{length, map, set, get_or, Option, Some, None}
-use Rattle.std.specs.Prelude.{◌==◌, ◌&&◌, ◌||◌, find, replicate, if◌then◌else◌, nat_lt, slice_get, slice_index}
-use Rattle.std.specs.List.{enumerate_from, list_any, position, range_with_len}
-use Rattle.std.proofs.lemmas.Bool.{ne_eqb}
-use Rattle.std.proofs.lemmas.List.{map-append}
-use Rattle.rh_defs.specs.Desk.{Desk, Made, Task, task_pages}
-use Rattle.rh_defs.specs.Laws.{IsDesk}
-use Rattle.rh_figure.specs.Figure.{Panel, owner_of, slot_panel}
-use Rattle.rh_figure.specs.Rows.{letter_at, letters, owner_mark, page_mark}
-use Rattle.rh_figure.specs.Scene.{Scene}
-use Rattle.rh_figure.specs.Share.{AreaOf, Holding, Owner, Share, SlotOf, fixed_holding, holdings}
-use Rattle.rh_drawn.specs.Marked.{made_pages, marked, marked_all, slot_pages_from}
-use Rattle.rh_drawn.specs.Parts.{slot_panels}
+use Rattle.rh_drawn.proofs.Common.{◌≡◌, ℕ, zero, suc, ◌+◌, ◌<◌, ◌≤◌, Bool, true, false, eq-eqb, refl, ap, ap₂, sym, ◌∙◌, append_assoc, arith, List, [], ◌∷◌}
+use Rattle.rh_drawn.proofs.Common.{◌++◌, length, map, set, get_or, Option, Some, None, ◌==◌, ◌&&◌, ◌||◌, find, replicate, if◌then◌else◌, nat_lt, slice_get}
+use Rattle.rh_drawn.proofs.Common.{slice_index, enumerate_from, list_any, position, range_with_len, ne_eqb, map-append, Desk, Made, Task, task_pages, IsDesk}
+use Rattle.rh_drawn.proofs.Common.{Panel, owner_of, slot_panel, page_mark, Scene, AreaOf, Holding, Owner, Share, SlotOf, fixed_holding, holdings, made_pages}
+use Rattle.rh_drawn.proofs.Common.{marked, marked_all, slot_pages_from, slot_panels}
+use Rattle.rh_figure.specs.Rows.{letter_at, letters, owner_mark}
 use Rattle.rh_drawn.proofs.DrawingLemmas.{is_slot_of, slot-stands}
 
 -- the character of a page behind these of an owner

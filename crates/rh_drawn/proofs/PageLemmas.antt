@@ -1,24 +1,16 @@
 -- Owners of pages, and the pages that they have.
-use Rattle.std.proofs.Common.{◌≡◌, ℕ, zero, suc, ◌+◌, ◌<◌, ◌≤◌, ◌++◌, true, false, arith, refl, ap, sym, subst, ◌∙◌, List, [], ◌∷◌, length, drop, Option, Some}
-use Rattle.std.specs.Prelude.{IfSome, IsSome, slice_get, slice_index, if◌then◌else◌, ◌==◌, codes, nat_lt}
-use Rattle.std.specs.List.{enumerate_from}
-use Rattle.std.specs.Option.{option_map}
-use Rattle.std.proofs.lemmas.Bool.Decides.{nat_tests}
-use Rattle.std.proofs.lemmas.List.{drop_all, drop_more, length-drop}
+use Rattle.rh_drawn.proofs.Common.{◌≡◌, ℕ, zero, suc, ◌+◌, ◌<◌, ◌≤◌, ◌++◌, true, false, arith, refl, ap, sym, subst, ◌∙◌, List, [], ◌∷◌, length, drop, Option}
+use Rattle.rh_drawn.proofs.Common.{Some, IfSome, IsSome, slice_get, slice_index, if◌then◌else◌, ◌==◌, codes, nat_lt, enumerate_from, option_map, nat_tests}
+use Rattle.rh_drawn.proofs.Common.{drop_all, drop_more, length-drop, Desk, Made, Task, module_pages, task_pages, IsDesk, Rise, taken_line, Scene, AreaOf}
+use Rattle.rh_drawn.proofs.Common.{IsShared, Owner, SlotOf, count_of, share_in, indented, takes_part, at-some}
 use Rattle.rh_defs.specs.Forms.{first_made, most_pages}
 use Rattle.rh_defs.specs.Commands.{module_area}
-use Rattle.rh_defs.specs.Desk.{Desk, Made, Task, module_pages, task_pages}
-use Rattle.rh_defs.specs.Laws.{IsDesk, Rise}
-use Rattle.rh_figure.specs.Changes.{freed_line, freed_pages, freed_text, taken_line, taken_pages}
+use Rattle.rh_figure.specs.Changes.{freed_line, freed_pages, freed_text, taken_pages}
 use Rattle.rh_figure.specs.Phrases.{owner_name}
-use Rattle.rh_figure.specs.Scene.{Scene}
-use Rattle.rh_figure.specs.Share.{AreaOf, IsShared, Owner, SlotOf, count_of}
 use Rattle.rh_sight.specs.declared.sight.PagesOf.{PagesOf}
 use Rattle.rh_sight.specs.declared.sight.PagesOf.TheVariants as pages
-use Rattle.rh_sight.specs.Pages.{share_in}
 use Rattle.rh_sight.specs.Seen.{owner_seen}
-use Rattle.rh_drawn.specs.Parts.{indented, takes_part}
-use Rattle.rh_sight.proofs.Holders.{area-at, at-some, count-fixed, count-made, count-slot, room-of}
+use Rattle.rh_sight.proofs.Holders.{area-at, count-fixed, count-made, count-slot, room-of}
 
 pub is-some : {A : Type 0} {o : Option A} {x : A} → o ≡ Some x → IsSome o
 is-some {A} {o} {x} e = let P : Option A → Type 0 = λ z. IsSome z in subst P (sym e) refl

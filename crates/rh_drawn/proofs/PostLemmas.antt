@@ -1,35 +1,29 @@
 -- The list of all messages, and the post that it lists, task by task.
-use Rattle.std.proofs.Common.{◌≡◌, ℕ, ◌+◌, ◌<◌, ◌≤◌, Bool, true, false, refl, ap, ap₂, sym, subst, ◌∙◌, arith, List, [], ◌∷◌, ◌++◌, length, map, take, Option}
-use Rattle.std.proofs.Common.{Some, None, append-nil}
-use Rattle.std.specs.Prelude.{◌==◌, ◌&&◌, not, IfSome, codes, filter, find, if◌then◌else◌}
-use Rattle.std.specs.List.{AllByRecursion, flat_map, join_by, list_any}
-use Rattle.std.specs.Option.{option_map}
-use Rattle.std.proofs.lemmas.Bool.{ne_eqb, eqb-true}
-use Rattle.std.proofs.lemmas.List.{length-map, map-append, take-map}
+use Rattle.rh_drawn.proofs.Common.{◌≡◌, ℕ, ◌+◌, ◌<◌, ◌≤◌, Bool, true, false, refl, ap, ap₂, sym, subst, ◌∙◌, arith, List, [], ◌∷◌, ◌++◌, length, map, take}
+use Rattle.rh_drawn.proofs.Common.{Option, Some, None, append-nil, ◌==◌, ◌&&◌, not, IfSome, codes, filter, find, if◌then◌else◌, AllByRecursion, flat_map}
+use Rattle.rh_drawn.proofs.Common.{list_any, option_map, ne_eqb, eqb-true, map-append, IsDesk, Rise, Parcel, Desk, Task, letterbox_line, under, Text}
+use Rattle.rh_drawn.proofs.Common.{MessageItem, held_on, lies_in, message_items, waiting_on, has_letters_in, letterboxes_in}
+use Rattle.std.specs.List.{join_by}
+use Rattle.std.proofs.lemmas.List.{length-map, take-map}
 use Rattle.std.proofs.lemmas.List.Elements.{filter-append}
 use Rattle.std.proofs.lemmas.List.Folds.{flat_map-map}
-use Rattle.rh_defs.specs.Laws.{HoldsOwn, IsDesk, IsHeld, IsQueued, Rise, seat_handles, task_handles}
-use Rattle.rh_defs.specs.Messages.{Parcel}
+use Rattle.rh_defs.specs.Laws.{HoldsOwn, IsHeld, IsQueued, seat_handles, task_handles}
 use Rattle.rh_defs.specs.Order.{is_to}
 use Rattle.rh_defs.specs.Post.{Seat, has_seat, held_by}
-use Rattle.rh_defs.specs.Desk.{Desk, Task}
 use Rattle.rh_figure.specs.declared.limits.TheConstants.{MOST_LISTED}
 use Rattle.rh_figure.specs.Figure as figure
 use Rattle.rh_figure.specs.Figure.{Letterbox, messages_text}
-use Rattle.rh_figure.specs.Map.{letterbox_line, under}
-use Rattle.rh_figure.specs.Phrases.{Text, and_more, message_text}
+use Rattle.rh_figure.specs.Phrases.{and_more, message_text}
 use Rattle.rh_figure.specs.Cards.{after_ref, next_text}
 use Rattle.rh_figure.specs.Scene.{held_list, ref_of}
 use Rattle.rh_map.specs.Messages.{held_text, text_of, waits_text}
 use Rattle.rh_map.specs.Messages as lines
-use Rattle.rh_defs.specs.declared.listing.MessageItem.{MessageItem}
 use Rattle.rh_sight.specs.declared.message_list.Place.{Place}
 use Rattle.rh_sight.specs.declared.message_list.Place.TheVariants.{Held}
-use Rattle.rh_sight.specs.Messages.{before_next, behind, first_ref, held_on, held_ref, is_held_by, item_of, lies_in, message_items, place_among, waiting_on}
-use Rattle.rh_sight.specs.Messages.{waits_for}
+use Rattle.rh_sight.specs.Messages.{before_next, behind, first_ref, held_ref, is_held_by, item_of, place_among, waits_for}
 use Rattle.rh_sight.proofs.Posts.{held-is}
 use Rattle.rh_drawn.specs.Bands.{IsItemOf, place_seen}
-use Rattle.rh_drawn.specs.Letters.{entry_seen, has_letters_in, letterbox_in, letterboxes_in}
+use Rattle.rh_drawn.specs.Letters.{entry_seen, letterbox_in}
 
 -- ---- what waits for a task
 

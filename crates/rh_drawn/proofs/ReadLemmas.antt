@@ -1,18 +1,11 @@
 -- A line as far as it is kept: its meaning, its lines in a map, and where the map stands behind it.
-use Rattle.std.proofs.Common.{◌≡◌, ℕ, ◌+◌, ◌<◌, ◌≤◌, ◌⊎◌, inl, inr, Bool, List, [], ◌∷◌, ◌++◌, length, take, drop, zero, suc, refl, sym, ap, ◌∙◌, arith}
-use Rattle.std.specs.Prelude.{codes, nat_le, if◌then◌else◌, Err, not, ◌||◌}
-use Rattle.std.proofs.lemmas.List.{length-take}
-use Rattle.std.specs.Fmt.{decimal}
-use Rattle.rh_defs.specs.declared.fault.LineFault.{LineFault}
-use Rattle.rh_defs.specs.declared.fault.LineFault.TheVariants.{TooLong}
-use Rattle.rh_defs.specs.Line.{line_means, longest_line}
-use Rattle.rh_defs.specs.Desk.{Desk}
+use Rattle.rh_drawn.proofs.Common.{◌≡◌, ℕ, ◌+◌, ◌<◌, ◌≤◌, ◌⊎◌, inl, inr, Bool, List, [], ◌∷◌, ◌++◌, length, take, drop, zero, suc, refl, sym, ap, ◌∙◌, arith}
+use Rattle.rh_drawn.proofs.Common.{codes, nat_le, if◌then◌else◌, Err, not, ◌||◌, length-take, decimal, LineFault, TooLong, line_means, Desk, kept, kept_means}
+use Rattle.rh_drawn.proofs.Common.{Share, Text, cut, Place, after_read, lines_of_read, read_line}
+use Rattle.rh_defs.specs.Line.{longest_line}
 use Rattle.rh_defs.proofs.HeapLists.{cond_false, leb_no}
-use Rattle.rh_feed.specs.Lines.{kept}
-use Rattle.rh_feed.proofs.LineLemmas.{is_above, kept_means, kept_short, split_at}
-use Rattle.rh_figure.specs.Share.{Share}
-use Rattle.rh_figure.specs.Phrases.{Text, cut}
-use Rattle.rh_figure.specs.Map.{Place, after_read, fault_lines, lines_of_read, read_line}
+use Rattle.rh_feed.proofs.LineLemmas.{is_above, kept_short, split_at}
+use Rattle.rh_figure.specs.Map.{fault_lines}
 use Rattle.rh_figure.specs.declared.limits.TheConstants.{LINE_COLUMNS}
 
 -- what is done with a line is the same by what is kept of it

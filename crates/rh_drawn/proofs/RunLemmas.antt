@@ -1,36 +1,29 @@
 -- A whole map, from the lines that were taken.
-use Rattle.std.proofs.Common.{◌≡◌, ◌⊎◌, inl, inr, ℕ, ◌<◌, ◌≤◌, Bool, true, false, ◌||◌, List, [], ◌∷◌, ◌++◌, length, map, take, refl, sym, ap, ap₂, ◌∙◌}
-use Rattle.std.proofs.Common.{subst, append-nil, append_assoc, arith}
-use Rattle.std.specs.Prelude.{◌+◌, Option, Err, IsErrOf, is_err, if◌then◌else◌, nat_lt, not, ◌==◌}
+use Rattle.rh_drawn.proofs.Common.{◌≡◌, ◌⊎◌, inl, inr, ℕ, ◌<◌, ◌≤◌, Bool, true, false, ◌||◌, List, [], ◌∷◌, ◌++◌, length, map, take, refl, sym, ap, ap₂, ◌∙◌}
+use Rattle.rh_drawn.proofs.Common.{subst, append-nil, append_assoc, arith, ◌+◌, Option, Err, IsErrOf, is_err, if◌then◌else◌, nat_lt, not, ◌==◌, list_any}
+use Rattle.rh_drawn.proofs.Common.{ne_eqb, length-take, map-append, Command, TooLong, Meaning, line_means, Desk, IsReordered, ended, unended, kept, Share}
+use Rattle.rh_drawn.proofs.Common.{IsShared, Text, Place, after_read, lines_of_read, read_line, written_lines, Output, Takes, Breaks, takes_more, Mapper}
+use Rattle.rh_drawn.proofs.Common.{Drew, TookLine, place_in}
 use Rattle.std.specs.Io.KnownBytes.{Consumes, IsAtEnd}
-use Rattle.std.specs.List.{list_any}
-use Rattle.std.proofs.lemmas.Bool.{ne_eqb}
-use Rattle.std.proofs.lemmas.List.{length-take, map-append}
-use Rattle.rh_defs.specs.declared.command.Command.{Command}
-use Rattle.rh_defs.specs.declared.fault.LineFault.TheVariants.{TooLong, Unended}
-use Rattle.rh_defs.specs.Line.{Meaning, line_means, longest_line}
-use Rattle.rh_defs.specs.Desk.{Desk}
-use Rattle.rh_defs.specs.Order.{IsReordered}
-use Rattle.rh_defs.specs.Script.{ended, has_bad_line, is_bad, unended}
+use Rattle.rh_defs.specs.declared.fault.LineFault.TheVariants.{Unended}
+use Rattle.rh_defs.specs.Line.{longest_line}
+use Rattle.rh_defs.specs.Script.{has_bad_line, is_bad}
 use Rattle.rh_feed.specs.declared.fault.FeedFault.{FeedFault}
 use Rattle.rh_feed.specs.declared.fault.FeedFault.TheVariants as feed
-use Rattle.rh_feed.specs.Lines.{kept, kept_lines, kept_rest}
+use Rattle.rh_feed.specs.Lines.{kept_lines, kept_rest}
 use Rattle.rh_feed.specs.Taken.{BrokeAmong, BrokeAtRest, Fed, FedAll, FedUntil, TookAll}
 use Rattle.rh_feed.proofs.LineLemmas.{is_above, kept_nil, kept_short, split_at}
-use Rattle.rh_figure.specs.Share.{Share, IsShared}
-use Rattle.rh_figure.specs.Phrases.{Text}
-use Rattle.rh_figure.specs.Map.{Place, place, Read, Stage, after_read, lines_of_read, map_lines, read_ended, read_line, read_lines, read_rest, written_lines}
+use Rattle.rh_figure.specs.Map.{place, Read, Stage, map_lines, read_ended, read_lines, read_rest}
 use Rattle.rh_figure.specs.Whole.{AreShared, IsMap, read_of}
-use Rattle.rh_lines.specs.Flow.{Input, Output, Takes, Breaks}
-use Rattle.rh_lines.proofs.FlowLemmas.{takes_breaks, takes_more}
+use Rattle.rh_lines.specs.Flow.{Input}
+use Rattle.rh_lines.proofs.FlowLemmas.{takes_breaks}
 use Rattle.rh_session.specs.Outcome.{status_of}
 use Rattle.rh_session.specs.declared.status.RunFault.{RunFault}
 use Rattle.rh_session.specs.declared.status.RunFault.TheVariants as run
 use Rattle.rh_session.specs.declared.status.Status.{Status}
-use Rattle.rh_drawn.specs.declared.mapper.Mapper.{Mapper}
 use Rattle.rh_drawn.specs.Mapped.{Mapped, MappedSoFar, MappedUntil, fault_of}
 use Rattle.rh_drawn.specs.Deeds.{rest_means}
-use Rattle.rh_drawn.specs.Places.{Broke, BrokeLine, BrokeRest, Drew, IsFirst, TookLine, TookRest, place_in}
+use Rattle.rh_drawn.specs.Places.{Broke, BrokeLine, BrokeRest, IsFirst, TookRest}
 use Rattle.rh_drawn.proofs.ReadLemmas.{long_lines, same_read}
 use Rattle.rh_drawn.proofs.MapLemmas.{Drawn, Shows, Stands, after_alike, after_reads, is_bad_read, lines_alike, map_is, shared_alike, shows, stands_place}
 use Rattle.rh_drawn.proofs.MapLemmas.{took_lines, written_more}

@@ -1,16 +1,14 @@
 -- Each desk's pool can be shared out: its pages in order, the free ones first, and then those of each owner in turn.
-use Rattle.std.proofs.Common.{◌≡◌, ℕ, zero, suc, ◌+◌, ◌<◌, ◌≤◌, Bool, true, false, refl, ap, sym, ◌∙◌, arith, eq-eqb, List, [], ◌∷◌, length, take, drop}
-use Rattle.std.specs.Prelude.{Some, if◌then◌else◌, ◌==◌, slice_get}
-use Rattle.std.specs.List.{range_with_len}
-use Rattle.std.proofs.lemmas.Bool.{eqb-true, ne_eqb}
-use Rattle.std.proofs.lemmas.List.{drop-drop, drop_all, length-drop, length-take, take-append-drop}
+use Rattle.rh_drawn.proofs.Common.{◌≡◌, ℕ, zero, suc, ◌+◌, ◌<◌, ◌≤◌, Bool, true, false, refl, ap, sym, ◌∙◌, arith, eq-eqb, List, [], ◌∷◌, length, take, drop}
+use Rattle.rh_drawn.proofs.Common.{Some, if◌then◌else◌, ◌==◌, slice_get, range_with_len, eqb-true, ne_eqb, drop_all, length-drop, length-take, IsDesk, Desk}
+use Rattle.rh_drawn.proofs.Common.{Holding, IsShared, Owner, count_of, holdings, share_in}
+use Rattle.std.proofs.lemmas.List.{drop-drop, take-append-drop}
 use Rattle.std.proofs.lemmas.List.FromFn.{length-range_with_len}
 use Rattle.rh_defs.specs.Pieces.{total}
-use Rattle.rh_defs.specs.Laws.{IsDesk}
-use Rattle.rh_defs.specs.Desk.{Desk, free_pages}
+use Rattle.rh_defs.specs.Desk.{free_pages}
 use Rattle.rh_defs.proofs.Cuts.{total-append}
-use Rattle.rh_figure.specs.Share.{Holding, IsShared, Owner, count_of, holdings, is_owner, times}
-use Rattle.rh_sight.specs.Pages.{pages_among, share_in}
+use Rattle.rh_figure.specs.Share.{is_owner, times}
+use Rattle.rh_sight.specs.Pages.{pages_among}
 use Rattle.rh_sight.proofs.Holders.{among-at, counted, desk-apart, holdings-used}
 
 -- ---- how often a number stands in a list

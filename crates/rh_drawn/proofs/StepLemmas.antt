@@ -1,28 +1,15 @@
 -- A map behind one line: what was written, and where it stands.
-use Rattle.std.proofs.Common.{◌≡◌, ℕ, ◌+◌, ◌<◌, Bool, true, false, ◌||◌, List, [], ◌∷◌, refl, sym, ap, ap₂, ◌∙◌, subst, length, arith, eq-eqb}
-use Rattle.std.specs.Prelude.{Option, Some, None, Ok, Err, ◌&&◌, if◌then◌else◌, is_err, not, ◌==◌, OnErr, OnOk, Result}
-use Rattle.std.proofs.lemmas.Bool.{eqb-true}
-use Rattle.rh_defs.specs.declared.command.Command.{Command}
-use Rattle.rh_defs.specs.declared.fault.LineFault.{LineFault}
-use Rattle.rh_defs.specs.declared.reply.Reply.{Reply}
+use Rattle.rh_drawn.proofs.Common.{◌≡◌, ℕ, ◌+◌, ◌<◌, Bool, true, false, ◌||◌, List, [], ◌∷◌, refl, sym, ap, ap₂, ◌∙◌, subst, length, arith, eq-eqb, Option}
+use Rattle.rh_drawn.proofs.Common.{Some, None, Ok, Err, ◌&&◌, if◌then◌else◌, is_err, not, ◌==◌, OnErr, OnOk, Result, eqb-true, Command, LineFault, Reply}
+use Rattle.rh_drawn.proofs.Common.{Desk, Meaning, line_means, IsReordered, step, fault_text, kept, kept_means, Share, IsShared, Text, scene_of, Place}
+use Rattle.rh_drawn.proofs.Common.{is_mark, lines_of_read, written_lines, Breaks, Output, Puts, Takes, takes_none, Mapper, reply_to, Drew, TookLine, place_in}
 use Rattle.rh_defs.specs.declared.reply.Reply.TheVariants.{Done}
-use Rattle.rh_defs.specs.Desk.{Desk}
-use Rattle.rh_defs.specs.Line.{Meaning, line_means}
-use Rattle.rh_defs.specs.Order.{IsReordered}
-use Rattle.rh_defs.specs.Step.{step}
-use Rattle.rh_defs.specs.Text.{fault_text}
-use Rattle.rh_feed.specs.Lines.{kept}
-use Rattle.rh_feed.proofs.LineLemmas.{kept_means, kept_nil}
-use Rattle.rh_figure.specs.Share.{Share, IsShared}
-use Rattle.rh_figure.specs.Phrases.{Text}
-use Rattle.rh_figure.specs.Scene.{Before, before_of, marks_of, scene_of}
-use Rattle.rh_figure.specs.Map.{Place, command_lines, is_mark, lines_of_read, step_lines, written_lines}
+use Rattle.rh_feed.proofs.LineLemmas.{kept_nil}
+use Rattle.rh_figure.specs.Scene.{Before, before_of, marks_of}
+use Rattle.rh_figure.specs.Map.{command_lines, step_lines}
 use Rattle.rh_figure.proofs.Alike.{marks-alike, scene-alike}
-use Rattle.rh_lines.specs.Flow.{Breaks, Output, Puts, Takes}
-use Rattle.rh_lines.proofs.FlowLemmas.{takes_none}
-use Rattle.rh_drawn.specs.declared.mapper.Mapper.{Mapper}
-use Rattle.rh_drawn.specs.Deeds.{IsLikeReply, reply_to, rest_means}
-use Rattle.rh_drawn.specs.Places.{Broke, BrokeLine, BrokeRest, Drew, IsSamePlace, TookLine, TookRest, place_in, shown_step}
+use Rattle.rh_drawn.specs.Deeds.{IsLikeReply, rest_means}
+use Rattle.rh_drawn.specs.Places.{Broke, BrokeLine, BrokeRest, IsSamePlace, TookRest, shown_step}
 use Rattle.rh_drawn.proofs.MapLemmas.{shared_alike}
 use Rattle.rh_drawn.proofs.ReadLemmas.{same_read}
 use Rattle.rh_drawn.proofs.RunLemmas.{kept_some, rest_bad, same_rest}

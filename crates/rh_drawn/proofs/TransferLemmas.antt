@@ -1,24 +1,14 @@
 -- The sides of transfers, task by task.
-use Rattle.std.proofs.Common.{◌≡◌, ℕ, Bool, true, false, arith, refl, ap, ap₂, sym, ◌∙◌, List, [], ◌∷◌, ◌++◌, length, map, Option, Some, None}
-use Rattle.std.specs.Prelude.{◌==◌, ◌||◌, not, filter, find, if◌then◌else◌}
-use Rattle.std.specs.List.{flat_map, list_any}
-use Rattle.std.specs.Option.{option_map}
-use Rattle.std.proofs.lemmas.Bool.{ne_eqb}
-use Rattle.std.proofs.lemmas.List.{map-append}
+use Rattle.rh_drawn.proofs.Common.{◌≡◌, ℕ, Bool, true, false, arith, refl, ap, ap₂, sym, ◌∙◌, List, [], ◌∷◌, ◌++◌, length, map, Option, Some, None, ◌==◌}
+use Rattle.rh_drawn.proofs.Common.{◌||◌, not, filter, find, if◌then◌else◌, flat_map, list_any, option_map, ne_eqb, map-append, Incoming, Outgoing, Task}
+use Rattle.rh_drawn.proofs.Common.{in_item, out_item, in_id, Side, has_id, transfer_line, under, Text, comes_alone, goes_out}
 use Rattle.std.proofs.lemmas.List.Elements.{filter-append}
 use Rattle.std.proofs.lemmas.List.Folds.{find-append, list_any-append}
 use Rattle.rh_defs.specs.declared.listing.RecordItem.{RecordItem}
-use Rattle.rh_defs.specs.declared.transfer.Incoming.{Incoming}
 use Rattle.rh_defs.specs.declared.transfer.Incoming.TheVariants as incoming
-use Rattle.rh_defs.specs.declared.transfer.Outgoing.{Outgoing}
 use Rattle.rh_defs.specs.declared.transfer.Outgoing.TheVariants as outgoing
-use Rattle.rh_defs.specs.Desk.{Task}
-use Rattle.rh_defs.specs.Listing.{in_item, out_item}
-use Rattle.rh_defs.specs.Records.{in_id, out_id}
-use Rattle.rh_figure.specs.Figure.{Side, has_id, transfers_of}
-use Rattle.rh_figure.specs.Map.{transfer_line, under}
-use Rattle.rh_figure.specs.Phrases.{Text}
-use Rattle.rh_drawn.specs.Sides.{comes_alone, goes_out}
+use Rattle.rh_defs.specs.Records.{out_id}
+use Rattle.rh_figure.specs.Figure.{transfers_of}
 
 -- ---- lists of lists
 

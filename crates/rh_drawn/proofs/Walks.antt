@@ -1,18 +1,11 @@
 -- Lists that are written through, place by place.
-use Rattle.std.proofs.Common.{◌≡◌, ℕ, ◌+◌, ◌<◌, ◌≤◌, refl, ap, sym, subst, ◌∙◌, List, [], ◌∷◌, ◌++◌, length, drop, get_or, Some, None, Result, Ok, Err}
+use Rattle.rh_drawn.proofs.Common.{◌≡◌, ℕ, ◌+◌, ◌<◌, ◌≤◌, refl, ap, sym, subst, ◌∙◌, List, [], ◌∷◌, ◌++◌, length, drop, get_or, Some, None, Result, Ok, Err}
+use Rattle.rh_drawn.proofs.Common.{codes, slice_get, flat_map, drop_all, drop_more, map-append, Text, Output, Takes, Breaks, Puts, takes_more, takes_none}
+use Rattle.rh_drawn.proofs.Common.{shown_lines, Left, shown-append, rest-none, rest-some, indented}
 use Rattle.std.specs.Result.{IsErr}
-use Rattle.std.specs.Prelude.{codes, slice_get}
-use Rattle.std.specs.List.{flat_map}
-use Rattle.std.proofs.lemmas.List.{drop_all, drop_more, map-append}
-use Rattle.rh_figure.specs.Phrases.{Text}
 use Rattle.rh_figure.specs.Map.{shown_line}
-use Rattle.rh_lines.specs.Flow.{Output, Takes, Breaks, Puts}
-use Rattle.rh_lines.proofs.FlowLemmas.{puts_before, puts_more, puts_stops, takes_breaks, takes_more, takes_none}
-use Rattle.rh_map.specs.Written.{shown_lines}
-use Rattle.rh_map.proofs.Left.{Left}
-use Rattle.rh_map.proofs.SeamLemmas.{shown-append, shown-one}
-use Rattle.rh_sight.proofs.Places.{rest-none, rest-some}
-use Rattle.rh_drawn.specs.Parts.{indented}
+use Rattle.rh_lines.proofs.FlowLemmas.{puts_before, puts_more, puts_stops, takes_breaks}
+use Rattle.rh_map.proofs.SeamLemmas.{shown-one}
 
 -- lines that are made member by member
 module _ {A : Type 0} (lines : List A → List Text) (of_one : A → List Text) (each : (x : A) (rest : List A) → lines (x ∷ rest) ≡ of_one x ++ lines rest)

@@ -1,17 +1,13 @@
 -- Worked bytes, and worked writes at addresses: the definitions compute them.
-use Rattle.std.specs.Prelude.{◌≡◌, refl, ℕ, true, List, [], ◌∷◌, ◌++◌, length, take, Ok, Err}
-use Rattle.std.proofs.Common.{sym, ap, ◌∙◌}
+use Rattle.rh_flex.proofs.Common.{◌≡◌, refl, ℕ, true, List, [], ◌∷◌, ◌++◌, length, take, Ok, Err, sym, ap, ◌∙◌, new_slot, BadRange, first_pages, memory_in}
+use Rattle.rh_flex.proofs.Common.{memory_over, free_in, slot_write}
 use Rattle.std.proofs.Math.Seq.{take-append_seam}
 use Rattle.rh_defs.specs.Chain as chain
 use Rattle.rh_defs.specs.Chain.{result_or}
 use Rattle.rh_defs.specs.Heap.{Used}
 use Rattle.rh_defs.specs.Slot as slot
-use Rattle.rh_defs.specs.Slot.{Slot, new_slot, slot_read}
-use Rattle.rh_defs.specs.declared.refusal.Refusal.TheVariants.{BadRange}
+use Rattle.rh_defs.specs.Slot.{Slot, slot_read}
 use Rattle.rh_defs.proofs.SlotRows.{Alloc, Put, Claim, slot_after, hello}
-use Rattle.rh_flex.specs.Pages.{first_pages, memory_in, memory_over}
-use Rattle.rh_flex.specs.Slots.{free_in}
-use Rattle.rh_flex.specs.Write.{slot_write}
 
 -- three pages and 100 bytes, of which a slot has one page
 pub two_free : (b : List ℕ) → length b ≡ 12388 → free_in b (record { pages = 1; budge = true }) ≡ 2

@@ -1,13 +1,8 @@
 -- What a check of a slot's pages says of the bytes that they lie in.
-use Rattle.std.proofs.Common.{◌≡◌, ℕ, ◌*◌, ◌/◌, ◌^◌, ◌≤◌, ◌<◌, true, List, length, take, refl, sym, subst, arith}
-use Rattle.std.specs.Prelude.{Some}
-use Rattle.std.proofs.lemmas.Bool.Decides.{nat_tests}
-use Rattle.std.proofs.lemmas.List.{length-take-le}
-use Rattle.rh_defs.specs.declared.sizes.TheConstants.{PAGE}
+use Rattle.rh_flex.proofs.Common.{◌≡◌, ℕ, ◌*◌, ◌/◌, ◌^◌, ◌≤◌, ◌<◌, true, List, length, take, refl, sym, subst, arith, Some, nat_tests, length-take-le, PAGE}
+use Rattle.rh_flex.proofs.Common.{slot_of, IsSlotBytes, bytes_of, slot_in}
 use Rattle.rh_defs.specs.Slot.{Slot}
-use Rattle.rh_defs.specs.SlotImage.{slot_of}
 use Rattle.rh_flex.specs.Image.{IsShortSlot, pages_fault_of}
-use Rattle.rh_flex.specs.Slots.{IsSlotBytes, bytes_of, slot_in}
 use Rattle.rh_flex.specs.declared.slot.LentSlot.{LentSlot}
 use Rattle.rh_flex.proofs.SlotBytes.{budged}
 use Rattle.rh_slot.specs.Image.{IsSlotImage, slot_fault_of, slot_summary}

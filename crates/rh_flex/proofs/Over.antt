@@ -1,17 +1,15 @@
 -- The one area of lent pages: what its bytes are, and what an edit of the lent bytes makes of the memory.
-use Rattle.std.proofs.Common.{◌≡◌, ℕ, ◌+◌, ◌-◌, ◌*◌, ◌/◌, ◌≤◌, ◌==◌, cond, Bool, true, false, List, ◌++◌, length, take, drop, replicate, refl, sym, ap, ◌∙◌}
-use Rattle.std.proofs.Common.{append_assoc, arith}
-use Rattle.std.specs.Prelude.{Option, Some, None, IsSome}
-use Rattle.std.specs.Int.{w32, to_le_bytes}
+use Rattle.rh_flex.proofs.Common.{◌≡◌, ℕ, ◌+◌, ◌-◌, ◌*◌, ◌/◌, ◌≤◌, ◌==◌, cond, Bool, true, false, List, ◌++◌, length, take, drop, replicate, refl, sym, ap}
+use Rattle.rh_flex.proofs.Common.{◌∙◌, append_assoc, arith, Option, Some, None, IsSome, w32, nat_tests, length-replicate, length-take-le, PAGE, put, part}
+use Rattle.rh_flex.proofs.Common.{Memory, area_set, bytes, length-part, first_pages, memory_over, memory_in, memory_of, memory_shown}
+use Rattle.std.specs.Int.{to_le_bytes}
 use Rattle.std.proofs.Math.Seq.{take-append_seam}
-use Rattle.std.proofs.lemmas.Bool.Decides.{nat_tests}
-use Rattle.std.proofs.lemmas.List.{length-append, length-replicate, length-take-le, take-append-drop, take-take}
-use Rattle.rh_defs.specs.declared.sizes.TheConstants.{PAGE}
-use Rattle.rh_defs.specs.Bytes.{word, put, put_word, part}
-use Rattle.rh_defs.specs.Memory.{Memory, IsOpen, area_set, bytes, with_bytes, grown, shrunk}
-use Rattle.rh_defs.proofs.BytesLaws.{length-put, length-part, part-take, word-take, put-append_left, put-parts}
+use Rattle.std.proofs.lemmas.List.{length-append, take-append-drop, take-take}
+use Rattle.rh_defs.specs.Bytes.{word, put_word}
+use Rattle.rh_defs.specs.Memory.{IsOpen, with_bytes, grown, shrunk}
+use Rattle.rh_defs.proofs.BytesLaws.{length-put, part-take, word-take, put-append_left, put-parts}
 use Rattle.rh_defs.proofs.MemoryLaws.{area_set-area_set}
-use Rattle.rh_flex.specs.Pages.{first_pages, pages_behind, memory_over, memory_in, memory_of, memory_shown}
+use Rattle.rh_flex.specs.Pages.{pages_behind}
 use Rattle.rh_flex.specs.declared.pages.LentPages.{LentPages}
 use Rattle.rh_flex.specs.declared.pages_mut.LentPagesMut.{LentPagesMut}
 

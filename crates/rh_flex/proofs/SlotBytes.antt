@@ -1,21 +1,18 @@
 -- What a call on a slot in lent bytes leaves, from what it leaves of their memory.
-use Rattle.std.proofs.Common.{◌≡◌, ℕ, ◌*◌, ◌/◌, ◌≤◌, Bool, true, List, length, take, replicate, refl, sym, ap, subst, ◌∙◌, arith}
-use Rattle.std.proofs.lemmas.List.{length-replicate, length-take-le}
-use Rattle.std.specs.Prelude.{ℤ, Ok, Err, OnErr}
-use Rattle.rh_defs.specs.declared.sizes.TheConstants.{C_HEAP_LENGTH, PAGE}
-use Rattle.rh_defs.specs.Bytes.{put}
+use Rattle.rh_flex.proofs.Common.{◌≡◌, ℕ, ◌*◌, ◌/◌, ◌≤◌, Bool, true, List, length, take, replicate, refl, sym, ap, subst, ◌∙◌, arith, length-replicate}
+use Rattle.rh_flex.proofs.Common.{length-take-le, ℤ, Ok, Err, OnErr, PAGE, put, Memory, area_set, bytes, new_slot, first_pages, memory_over, memory_in}
+use Rattle.rh_flex.proofs.Common.{memory_of, IsSlotBytes, LeavesSlot, bytes_of, slot_in}
+use Rattle.rh_defs.specs.declared.sizes.TheConstants.{C_HEAP_LENGTH}
 use Rattle.rh_defs.specs.Chain.{Granted, answer_of, left_of}
 use Rattle.rh_defs.specs.Heap.{empty_heap}
 use Rattle.rh_defs.specs.HeapImage.{Spells}
-use Rattle.rh_defs.specs.Memory.{Memory, IsOpen, Edited, area_set, bytes}
+use Rattle.rh_defs.specs.Memory.{IsOpen, Edited}
 use Rattle.rh_defs.specs.Slot as plain
-use Rattle.rh_defs.specs.Slot.{new_slot}
 use Rattle.rh_defs.specs.SlotImage.{SpellsSlot, heap_place}
 use Rattle.rh_defs.specs.declared.refusal.Refusal.{Refusal}
 use Rattle.rh_defs.proofs.MemoryLaws.{OnlyArea-self}
 use Rattle.rh_defs.proofs.SlotImageLaws.{slot_of-SlotWords, SpellsSlot-budging}
-use Rattle.rh_flex.specs.Pages.{first_pages, pages_behind, memory_over, memory_in, memory_of}
-use Rattle.rh_flex.specs.Slots.{IsSlotBytes, LeavesSlot, bytes_of, slot_in}
+use Rattle.rh_flex.specs.Pages.{pages_behind}
 use Rattle.rh_flex.specs.declared.pages_mut.LentPagesMut.{LentPagesMut}
 use Rattle.rh_flex.specs.declared.slot.LentSlot.{LentSlot}
 use Rattle.rh_flex.proofs.Over.{over-open, take-zeros}

@@ -1,15 +1,12 @@
 -- Bytes written at an address of a slot: what is granted, and what they leave of the memory.
-use Rattle.std.proofs.Common.{◌≡◌, ℕ, ◌-◌, Bool, true, false, List, length, refl, arith}
-use Rattle.std.specs.Prelude.{Ok, Err, ◌||◌, is_some}
-use Rattle.rh_defs.specs.Bytes.{put}
-use Rattle.rh_defs.specs.Chain.{◌>>=◌, refuse_if, no_answer}
-use Rattle.rh_defs.specs.Memory.{Memory, bytes, with_bytes}
+use Rattle.rh_flex.proofs.Common.{◌≡◌, ℕ, ◌-◌, Bool, true, false, List, length, refl, arith, Ok, Err, ◌||◌, is_some, put, no_answer, Memory, bytes, BadRange}
+use Rattle.rh_flex.proofs.Common.{slot_write}
+use Rattle.rh_defs.specs.Chain.{◌>>=◌, refuse_if}
+use Rattle.rh_defs.specs.Memory.{with_bytes}
 use Rattle.rh_defs.specs.Places.{buffer_at, written_in}
 use Rattle.rh_defs.specs.Slot as plain
 use Rattle.rh_defs.specs.Slot.{holds}
 use Rattle.rh_defs.specs.SlotImage.{SpellsSlot}
-use Rattle.rh_defs.specs.declared.refusal.Refusal.TheVariants.{BadRange}
-use Rattle.rh_flex.specs.Write.{slot_write}
 use Rattle.rh_slot.specs.Area.{IsSlot, slot_in}
 use Rattle.rh_slot.specs.Calls.{Leaves}
 use Rattle.rh_slot.specs.declared.slot.Slot.{Slot}

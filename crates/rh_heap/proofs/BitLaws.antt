@@ -1,18 +1,12 @@
 -- The bits of a map: one that is set or cleared, and the search for the last one that is set.
-use Rattle.std.proofs.Common.{◌≡◌, ◌≢◌, ℕ, ◌+◌, ◌-◌, ◌*◌, ◌/◌, ◌%◌, ◌^◌, ◌<◌, ◌≤◌, inl, inr, Bool, true, false, eqb, List, length, get_or, set, suc, refl}
-use Rattle.std.proofs.Common.{sym, ap, subst, ◌∙◌, arith}
+use Rattle.rh_heap.proofs.Common.{◌≡◌, ◌≢◌, ℕ, ◌+◌, ◌-◌, ◌*◌, ◌/◌, ◌%◌, ◌^◌, ◌<◌, ◌≤◌, inl, inr, Bool, true, false, eqb, List, length, get_or, set, suc, refl}
+use Rattle.rh_heap.proofs.Common.{sym, ap, subst, ◌∙◌, arith, bit_and, cases_eq, cases_lt, eqb_same, BITS, bit, Became, LastBit}
 use Rattle.std.specs.Int.{bit_at}
 use Rattle.std.specs.Int.Count.{count_leading_zeros}
-use Rattle.std.specs.Prelude.{bit_and}
-use Rattle.std.proofs.lemmas.Bool.{cases_eq, cases_lt}
 use Rattle.std.proofs.lemmas.List.{get_or-set_same, get_or-set_other, get_or_past}
 use Rattle.std.proofs.Math.Nat.{pow-suc}
 use Rattle.std.proofs.lemmas.Nat.{and_le_l, leading_top, le-div, div_below, pow_pos, one_shl}
 use Rattle.std.proofs.lemmas.Nat.Bits.{bit_at-zero, bit_at-lt, bit_at_above, bit_at_and, bit_at_ones, bit_at_ones_above}
-use Rattle.rh_defs.proofs.HeapLists.{eqb_same}
-use Rattle.rh_store.specs.declared.starts.TheConstants.{BITS}
-use Rattle.rh_store.specs.Starts.{bit}
-use Rattle.rh_heap.specs.Starts.{Became, LastBit}
 
 -- ---- one word of a map is changed
 module _ (lane k v b : ℕ) (old new : List ℕ) (lt : lane < 2) (e : new ≡ set old (2 * (k / BITS) + lane) v) (inside : 2 * (k / BITS) + lane < length old) where

@@ -1,12 +1,11 @@
 -- Blocks of zeros and of old bytes.
-use Rattle.std.proofs.Common.{◌≡◌, ℕ, ◌+◌, ◌-◌, ◌≤◌, List, ◌++◌, length, replicate, sym, ap, subst, ◌∙◌, arith}
-use Rattle.std.proofs.lemmas.List.{length-replicate}
-use Rattle.rh_defs.specs.Bytes.{part, put, SameOutside}
-use Rattle.rh_defs.specs.Memory.{Memory, Edited, bytes, with_bytes}
-use Rattle.rh_defs.proofs.BytesLaws.{part_more, part-put, length-part, put_outside}
+use Rattle.rh_heap.proofs.Common.{◌≡◌, ℕ, ◌+◌, ◌-◌, ◌≤◌, List, ◌++◌, length, replicate, sym, ap, subst, ◌∙◌, arith, length-replicate, part, SameOutside}
+use Rattle.rh_heap.proofs.Common.{Memory, part_more, length-part, zeros}
+use Rattle.rh_defs.specs.Bytes.{put}
+use Rattle.rh_defs.specs.Memory.{Edited, bytes, with_bytes}
+use Rattle.rh_defs.proofs.BytesLaws.{part-put, put_outside}
 use Rattle.rh_defs.proofs.MemoryLaws.{bytes-with_bytes, Edited-with_bytes}
 use Rattle.rh_heap.proofs.FillLaws.{part_below, part_above}
-use Rattle.rh_defs.specs.Pieces.{zeros}
 
 pub zeros_long : (t : ℕ) → 8 ≤ t → t ≡ 4 + length (zeros (t - 4))
 zeros_long t l = let n = length-replicate {A = ℕ} (t - 4) 0 in omega arith

@@ -1,13 +1,8 @@
 -- What a call leaves, by what it is granted.
-use Rattle.std.proofs.Common.{◌≡◌, sym, ap, subst, ◌∙◌}
-use Rattle.std.specs.Prelude.{Result, Ok, Err}
-use Rattle.rh_defs.specs.Memory.{Memory}
-use Rattle.rh_defs.specs.Chain.{answer_of, left_of}
-use Rattle.rh_defs.specs.Heap.{Heap}
-use Rattle.rh_defs.specs.declared.heap.HeapRefusal.{HeapRefusal}
+use Rattle.rh_heap.proofs.Common.{◌≡◌, sym, ap, subst, ◌∙◌, Result, Ok, Err, Memory, left_of, Heap, HeapRefusal, Span, IsSpan, SpellsIn, heap_in}
+use Rattle.rh_defs.specs.Chain.{answer_of}
 use Rattle.rh_defs.proofs.MemoryLaws.{Edited-self}
-use Rattle.rh_heap.specs.declared.span.Span.{Span}
-use Rattle.rh_heap.specs.Spans.{IsSpan, SpellsIn, OnlySpan, heap_in}
+use Rattle.rh_heap.specs.Spans.{OnlySpan}
 use Rattle.rh_heap.specs.Calls.{Leaves}
 use Rattle.rh_heap.proofs.SpanLaws.{heap_now, is_span}
 

@@ -1,20 +1,13 @@
 -- What a resize answers.
-use Rattle.std.proofs.Common.{◌≡◌, ℕ, ◌+◌, ◌-◌, ◌<◌, ◌≤◌, ◌≢◌, eqb, refl, sym, ap, subst, ◌∙◌, arith}
-use Rattle.std.specs.Prelude.{Some, None, Result, Ok, Err, ℤ, MatchResult}
-use Rattle.rh_defs.specs.Memory.{Memory}
-use Rattle.rh_defs.specs.Pieces.{Split, moved}
-use Rattle.rh_defs.specs.Heap.{Segment, Heap, Placed, way_to, resized_by, fitted, segment_size, new_size, resize_need, resized, resize, resize_found, need_at}
-use Rattle.rh_defs.specs.Heap.{need_found, as_granted, shortage_in, hole_for, block_at}
+use Rattle.rh_heap.proofs.Common.{◌≡◌, ℕ, ◌+◌, ◌-◌, ◌<◌, ◌≤◌, ◌≢◌, eqb, refl, sym, ap, subst, ◌∙◌, arith, Some, None, Result, Ok, Err, ℤ, MatchResult, Memory}
+use Rattle.rh_heap.proofs.Common.{Split, moved, Segment, Heap, Placed, way_to, resized_by, fitted, segment_size, shortage_in, hole_for, block_at, HeapRefusal}
+use Rattle.rh_heap.proofs.Common.{cond_true, cond_false, eqb_same, eqb_apart, IsSpan, SpellsIn, heap_in, FoundBlock, WayIs, WithBlock, resized_in, Span, Spot}
+use Rattle.rh_defs.specs.Heap.{new_size, resize_need, resized, resize, resize_found, need_at, need_found, as_granted}
 use Rattle.rh_defs.specs.Heap as heap
-use Rattle.rh_defs.specs.declared.heap.HeapRefusal.{HeapRefusal}
 use Rattle.rh_defs.specs.declared.heap.HeapRefusal.TheVariants.{NotABlock, BadSize, NoRoom}
-use Rattle.rh_defs.proofs.HeapLists.{cond_true, cond_false, eqb_same, eqb_apart}
 use Rattle.rh_heap.specs.Calls.{Leaves}
-use Rattle.rh_heap.specs.Spans.{IsSpan, SpellsIn, OnlySpan, heap_in}
-use Rattle.rh_heap.specs.Segments.{FoundBlock}
-use Rattle.rh_heap.specs.Ways.{WayIs, WithBlock, WayOf, SpellsResized, resized_in, short_by, ShortBy, Changed, NotChanged, Moved}
-use Rattle.rh_heap.specs.declared.span.Span.{Span}
-use Rattle.rh_heap.specs.declared.span.segments.Spot.{Spot}
+use Rattle.rh_heap.specs.Spans.{OnlySpan}
+use Rattle.rh_heap.specs.Ways.{WayOf, SpellsResized, short_by, ShortBy, Changed, NotChanged, Moved}
 use Rattle.rh_heap.specs.declared.span.resize.Way.TheVariants as way
 use Rattle.rh_heap.proofs.CallLaws.{leaves, refuses}
 use Rattle.rh_heap.proofs.WayLaws.{cut_of, at_cut, from_cut, at_place}

@@ -1,22 +1,18 @@
 -- How far a check has come.
-use Rattle.std.proofs.Common.{◌≡◌, ℕ, zero, suc, ◌+◌, ◌-◌, ◌%◌, ◌<◌, ◌≤◌, ◌⊎◌, inl, inr, Bool, true, false, List, [], ◌∷◌, ◌++◌, length, refl, sym, ap, subst}
-use Rattle.std.proofs.Common.{◌∙◌, append_assoc, arith}
-use Rattle.std.proofs.lemmas.List.{append-nil}
-use Rattle.std.specs.Prelude.{Some, None}
-use Rattle.rh_defs.specs.Bytes.{word, part}
-use Rattle.rh_defs.specs.Pieces.{total}
-use Rattle.rh_defs.specs.Heap.{Segment, Used, Hole, Heap, IsTidy, size_of, hole_size}
-use Rattle.rh_defs.specs.HeapImage.{Stand, Spells, IsImage, heap_of, is_size, is_link, next_place, fault_from, fault_of, has_descriptor}
+use Rattle.rh_heap.proofs.Common.{◌≡◌, ℕ, zero, suc, ◌+◌, ◌-◌, ◌%◌, ◌<◌, ◌≤◌, ◌⊎◌, inl, inr, Bool, true, false, List, [], ◌∷◌, ◌++◌, length, refl, sym, ap}
+use Rattle.rh_heap.proofs.Common.{subst, ◌∙◌, append_assoc, arith, append-nil, Some, None, word, part, total, Segment, Used, Hole, Heap, IsTidy, size_of}
+use Rattle.rh_heap.proofs.Common.{Stand, Spells, BadLink, length-part, total-append, last_link-append, heap_of-Spells, last_link}
+use Rattle.rh_defs.specs.Heap.{hole_size}
+use Rattle.rh_defs.specs.HeapImage.{IsImage, heap_of, is_size, is_link, next_place, fault_from, fault_of, has_descriptor}
 use Rattle.rh_defs.specs.declared.heap.HeapFault.{HeapFault}
-use Rattle.rh_defs.specs.declared.heap.HeapFault.TheVariants.{BadSize, BadLink}
-use Rattle.rh_defs.proofs.BytesLaws.{length-part}
-use Rattle.rh_defs.proofs.HeapLists.{sum-append, total-append}
-use Rattle.rh_defs.proofs.HeapLaws.{last_link-append, Open-join, Stand-join, heap_of-Spells}
+use Rattle.rh_defs.specs.declared.heap.HeapFault.TheVariants.{BadSize}
+use Rattle.rh_defs.proofs.HeapLists.{sum-append}
+use Rattle.rh_defs.proofs.HeapLaws.{Open-join, Stand-join}
 use Rattle.rh_defs.proofs.HeapFaults.{LinkIs, ends, leads, link_from, size_from, at_base, at_hole, next_is, fault-end, fault-used, fault-used_size}
 use Rattle.rh_defs.proofs.HeapFaults.{fault-hole, fault-hole_size, fault-hole_link, fault_of-segments, fault_of-link, descriptor_from, image_clean}
 use Rattle.rh_heap.specs.Image.{used_count, used_size, hole_count, summary_of}
 use Rattle.rh_heap.specs.declared.image.Summary.{Summary}
-use Rattle.rh_defs.specs.HeapParts.{last_link, Open}
+use Rattle.rh_defs.specs.HeapParts.{Open}
 
 -- the sums of the segments that were passed
 pub record SumsOf (ss : List Segment) (sums : Summary) : Type 0 where

@@ -1,25 +1,16 @@
 -- The walk over holes, and what a claim makes of a heap.
-use Rattle.std.proofs.Common.{◌≡◌, ℕ, ◌+◌, ◌-◌, ◌%◌, ◌<◌, ◌≤◌, ◌≢◌, inl, inr, false, eqb, List, [], ◌∷◌, ◌++◌, length, refl, sym, ap, subst, ◌∙◌}
-use Rattle.std.proofs.Common.{append_assoc, arith}
-use Rattle.std.proofs.lemmas.List.{append-nil}
-use Rattle.std.specs.Prelude.{None, Ok, Err}
-use Rattle.rh_defs.specs.Bytes.{word, part, SameOutside}
-use Rattle.rh_defs.specs.Pieces.{total, NonePass}
-use Rattle.rh_defs.specs.Heap.{Segment, Used, Hole, Heap, Placed, IsTidy, size_of, base, is_hole_for, hole_for, placed, placed_in, with_hole, shortage_in}
-use Rattle.rh_defs.specs.Heap.{segment_size, block_room, need, claim, claim_need, as_granted}
-use Rattle.rh_defs.specs.Pieces.{zeros}
-use Rattle.rh_defs.specs.HeapImage.{Stand, Spells}
+use Rattle.rh_heap.proofs.Common.{◌≡◌, ℕ, ◌+◌, ◌-◌, ◌%◌, ◌<◌, ◌≤◌, ◌≢◌, inl, inr, false, eqb, List, [], ◌∷◌, ◌++◌, length, refl, sym, ap, subst, ◌∙◌}
+use Rattle.rh_heap.proofs.Common.{append_assoc, arith, append-nil, None, Ok, Err, word, part, SameOutside, total, NonePass, Segment, Used, Hole, Heap, Placed}
+use Rattle.rh_heap.proofs.Common.{IsTidy, size_of, base, hole_for, placed, with_hole, shortage_in, segment_size, zeros, Stand, Spells, HasRoom-from_tidy}
+use Rattle.rh_heap.proofs.Common.{HasRoom-append, total-append, tidy_before, tidy_behind_hole, tidy_after, NonePass-append, first_at-none, first_at-found}
+use Rattle.rh_heap.proofs.Common.{cond_true, cond_false, eqb_same, eqb_apart, leb_no, last_link-append, last_link-none, Stand-split, HasNone, opened}
+use Rattle.rh_heap.proofs.Common.{StretchBetween, IsStretch, Settles, FoundHole, Gap, HasRoom, last_link, LinksTo}
+use Rattle.rh_defs.specs.Heap.{is_hole_for, placed_in, block_room, need, claim, claim_need, as_granted}
 use Rattle.rh_defs.specs.declared.heap.HeapRefusal.TheVariants.{BadSize, NoRoom}
-use Rattle.rh_defs.proofs.HeapLists.{HasRoom-from_tidy, HasRoom-append, total-append, tidy_before, tidy_behind_hole, tidy_join, tidy_after, NonePass-append}
-use Rattle.rh_defs.proofs.HeapLists.{first_at-none, first_at-found, cond_true, cond_false, eqb_same, eqb_apart, leb_yes, leb_no}
-use Rattle.rh_defs.proofs.HeapLaws.{last_link-append, last_link-none, last_link_range, Stand-split, HasNone, NextHole, next_hole}
-use Rattle.rh_defs.proofs.HeapStretch.{opened}
-use Rattle.rh_heap.specs.Stretches.{StretchBetween, IsStretch, Settles}
-use Rattle.rh_heap.specs.Holes.{FoundHole}
-use Rattle.rh_heap.specs.declared.span.holes.Gap.{Gap}
+use Rattle.rh_defs.proofs.HeapLists.{tidy_join, leb_yes}
+use Rattle.rh_defs.proofs.HeapLaws.{last_link_range, NextHole, next_hole}
 use Rattle.rh_heap.proofs.StretchLaws.{below_block, is_stretch}
 use Rattle.rh_heap.proofs.FillLaws.{filled_between, topped}
-use Rattle.rh_defs.specs.HeapParts.{HasRoom, last_link, LinksTo}
 
 -- ---- the walk over the holes
 

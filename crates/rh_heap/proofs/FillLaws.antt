@@ -1,15 +1,10 @@
 -- A used segment at the low end of a stretch, and at the top.
-use Rattle.std.proofs.Common.{◌≡◌, ℕ, ◌+◌, ◌-◌, ◌%◌, ◌≤◌, inl, inr, false, List, [], ◌∷◌, ◌++◌, length, sym, subst, ◌∙◌, arith}
-use Rattle.std.proofs.lemmas.List.{append-nil}
-use Rattle.rh_defs.specs.Bytes.{word, part, SameOutside}
-use Rattle.rh_defs.specs.Pieces.{total}
-use Rattle.rh_defs.specs.Heap.{Segment, Used, IsTidy, size_of}
-use Rattle.rh_defs.specs.HeapImage.{Spells}
+use Rattle.rh_heap.proofs.Common.{◌≡◌, ℕ, ◌+◌, ◌-◌, ◌%◌, ◌≤◌, inl, inr, false, List, [], ◌∷◌, ◌++◌, length, sym, subst, ◌∙◌, arith, append-nil, word, part}
+use Rattle.rh_heap.proofs.Common.{SameOutside, total, Segment, Used, IsTidy, size_of, Spells, HasStretch-kept, link_place, closed, StretchBetween, LinksTo}
+use Rattle.rh_heap.proofs.Common.{HasStretch}
 use Rattle.rh_defs.proofs.BytesLaws.{part_same}
-use Rattle.rh_defs.proofs.HeapStretch.{HasStretch-kept, link_place, filled, reaching, closed}
-use Rattle.rh_heap.specs.Stretches.{StretchBetween}
+use Rattle.rh_defs.proofs.HeapStretch.{filled, reaching}
 use Rattle.rh_heap.proofs.StretchLaws.{but_body, but_base, but_both, word_below, word_above, LinksTo-kept}
-use Rattle.rh_defs.specs.HeapParts.{LinksTo, HasStretch}
 
 pub part_below : {b c : List ℕ} {lo hi : ℕ} → SameOutside b c lo hi → (p n : ℕ) → p + n ≤ lo → part c p n ≡ part b p n
 part_below {b} {c} s p n h = part_same b c p n (record { each = λ k u v. s.below k (omega arith) })

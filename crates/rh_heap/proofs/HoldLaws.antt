@@ -1,20 +1,11 @@
 -- Whether bytes lie in a block, by the segment round the place before them or by the marks of a map.
-use Rattle.std.proofs.Common.{◌≡◌, ℕ, ◌+◌, ◌-◌, ◌*◌, ◌/◌, ◌%◌, ◌<◌, ◌≤◌, inl, inr, Bool, true, false, List, [], ◌∷◌, ◌++◌, length, refl, sym, ap, subst, ◌∙◌}
-use Rattle.std.proofs.Common.{arith}
-use Rattle.std.proofs.lemmas.Bool.{cases_lt}
-use Rattle.std.specs.Prelude.{is_some, ◌&&◌, nat_le}
-use Rattle.rh_defs.specs.Bytes.{word}
-use Rattle.rh_defs.specs.Pieces.{total, first_at, is_inside, NonePass}
-use Rattle.rh_defs.specs.Heap.{Segment, Used, Hole, Heap, IsTidy, size_of, is_around, block_around}
-use Rattle.rh_defs.specs.HeapImage.{Spells}
-use Rattle.rh_defs.proofs.HeapLists.{HasRoom-from_tidy, HasRoom-append, NonePass-append, first_at-none, first_at-found, leb_no}
-use Rattle.rh_heap.specs.Segments.{Around, HereIs, used_here, hole_here}
-use Rattle.rh_heap.specs.declared.span.segments.Spot.{Spot}
+use Rattle.rh_heap.proofs.Common.{◌≡◌, ℕ, ◌+◌, ◌-◌, ◌*◌, ◌/◌, ◌%◌, ◌<◌, ◌≤◌, inl, inr, Bool, true, false, List, [], ◌∷◌, ◌++◌, length, refl, sym, ap, subst}
+use Rattle.rh_heap.proofs.Common.{◌∙◌, arith, cases_lt, is_some, ◌&&◌, nat_le, word, total, first_at, is_inside, NonePass, Segment, Used, Hole, Heap, IsTidy}
+use Rattle.rh_heap.proofs.Common.{size_of, Spells, HasRoom-from_tidy, HasRoom-append, NonePass-append, first_at-none, first_at-found, leb_no, HereIs}
+use Rattle.rh_heap.proofs.Common.{used_here, hole_here, Spot, HasRoom, bit, used_at, IsIndex, USED, LastBit}
+use Rattle.rh_defs.specs.Heap.{is_around, block_around}
+use Rattle.rh_heap.specs.Segments.{Around}
 use Rattle.rh_heap.proofs.WalkLaws.{parts_of}
-use Rattle.rh_defs.specs.HeapParts.{HasRoom}
-use Rattle.rh_store.specs.Starts.{bit, used_at, IsIndex}
-use Rattle.rh_store.specs.declared.starts.TheConstants.{USED}
-use Rattle.rh_heap.specs.Starts.{LastBit}
 use Rattle.rh_heap.proofs.StartLaws.{once_same, used_at-append, used_at-low, HasUnits, units_of, units-append, units-total, UsedHere}
 
 and_no : (s t : Bool) → t ≡ false → (s && t) ≡ false

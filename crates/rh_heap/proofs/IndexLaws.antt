@@ -1,23 +1,13 @@
 -- What a map tells of a heap, and what keeps it the heap's map.
-use Rattle.std.proofs.Common.{◌≡◌, ◌≢◌, ℕ, ◌+◌, ◌-◌, ◌*◌, ◌/◌, ◌%◌, ◌<◌, ◌≤◌, inl, inr, Bool, true, false, List, [], ◌∷◌, ◌++◌, length, get_or, refl, sym, ap}
-use Rattle.std.proofs.Common.{subst, ◌∙◌, append_assoc, arith}
-use Rattle.std.specs.Prelude.{None}
-use Rattle.std.proofs.lemmas.Bool.{cases_lt}
-use Rattle.std.proofs.lemmas.List.{append-nil}
+use Rattle.rh_heap.proofs.Common.{◌≡◌, ◌≢◌, ℕ, ◌+◌, ◌-◌, ◌*◌, ◌/◌, ◌%◌, ◌<◌, ◌≤◌, inl, inr, Bool, true, false, List, [], ◌∷◌, ◌++◌, length, get_or, refl, sym}
+use Rattle.rh_heap.proofs.Common.{ap, subst, ◌∙◌, append_assoc, arith, None, cases_lt, append-nil, word, total, first_at, NonePass, Segment, Used, Hole, Heap}
+use Rattle.rh_heap.proofs.Common.{IsTidy, size_of, base, is_block_at, block_at, Stand, Spells, HasRoom, LinksTo, last_link, HasRoom-from_tidy, HasRoom-append}
+use Rattle.rh_heap.proofs.Common.{total-append, tidy_before, tidy_behind_used, first_at-none, first_at-found, eqb_same, no_segments, HasNone}
+use Rattle.rh_heap.proofs.Common.{last_link-append, last_link-none, Stand-split, GapIs, no_gap, a_gap, FoundBlock, bit, used_at, hole_at, IsIndex, LastBit}
+use Rattle.rh_heap.proofs.Common.{USED, HOLES, BITS}
 use Rattle.std.proofs.lemmas.Nat.Bits.{bit_at-lt}
-use Rattle.rh_defs.specs.Bytes.{word}
-use Rattle.rh_defs.specs.Pieces.{total, first_at, NonePass}
-use Rattle.rh_defs.specs.Heap.{Segment, Used, Hole, Heap, IsTidy, size_of, base, is_block_at, block_at}
-use Rattle.rh_defs.specs.HeapImage.{Stand, Spells}
-use Rattle.rh_defs.specs.HeapParts.{HasRoom, LinksTo, last_link}
-use Rattle.rh_defs.proofs.HeapLists.{HasRoom-from_tidy, HasRoom-append, total-append, tidy_before, tidy_behind_used, first_at-none, first_at-found, eqb_same}
-use Rattle.rh_defs.proofs.HeapLists.{no_segments}
-use Rattle.rh_defs.proofs.HeapLaws.{HasNone, last_link-append, last_link-none, Stand-split}
 use Rattle.rh_defs.proofs.HeapStretch.{Await-from_link}
-use Rattle.rh_heap.specs.Segments.{GapIs, no_gap, a_gap, FoundBlock}
-use Rattle.rh_store.specs.Starts.{bit, used_at, hole_at, IsIndex}
-use Rattle.rh_heap.specs.Starts.{LastBit, LinkBelow, no_hole, a_hole}
-use Rattle.rh_store.specs.declared.starts.TheConstants.{USED, HOLES, BITS}
+use Rattle.rh_heap.specs.Starts.{LinkBelow, no_hole, a_hole}
 use Rattle.rh_heap.proofs.StartLaws.{hole_at-append, hole_at-low, hole_at-before_first, used_at-high, hole_at-high, HasUnits, units_of, units-append}
 use Rattle.rh_heap.proofs.StartLaws.{units-total, unmarked, off_units, UsedHere, used_here, no_holes, LastOf, last_of}
 

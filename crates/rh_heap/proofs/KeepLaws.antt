@@ -1,23 +1,13 @@
 -- What keeps a map the map of its heap.
-use Rattle.std.proofs.Common.{◌≡◌, ◌≢◌, ℕ, ◌+◌, ◌-◌, ◌*◌, ◌/◌, ◌%◌, ◌<◌, ◌≤◌, inl, inr, true, false, List, [], ◌∷◌, ◌++◌, length, refl, sym, ap, subst, ◌∙◌}
-use Rattle.std.proofs.Common.{append_assoc, arith}
-use Rattle.std.specs.Prelude.{None}
-use Rattle.std.proofs.lemmas.Bool.{cases_eq, cases_lt}
-use Rattle.rh_defs.specs.Pieces.{total}
-use Rattle.rh_defs.specs.Heap.{Segment, Used, Hole, Heap, Placed, IsTidy, size_of, base, with_hole, release, placed, hole_for, fitted, way_to, resized_by}
+use Rattle.rh_heap.proofs.Common.{◌≡◌, ◌≢◌, ℕ, ◌+◌, ◌-◌, ◌*◌, ◌/◌, ◌%◌, ◌<◌, ◌≤◌, inl, inr, true, false, List, [], ◌∷◌, ◌++◌, length, refl, sym, ap, subst}
+use Rattle.rh_heap.proofs.Common.{◌∙◌, append_assoc, arith, None, cases_eq, cases_lt, total, Segment, Used, Hole, Heap, Placed, IsTidy, size_of, base}
+use Rattle.rh_heap.proofs.Common.{with_hole, release, placed, hole_for, fitted, way_to, resized_by, Spells, HasRoom, HasRoom-from_tidy, HasRoom-append}
+use Rattle.rh_heap.proofs.Common.{total-append, tidy_behind_used, tidy_behind_hole, GapIs, no_gap, a_gap, FoundBlock, FoundHole, WayIs, WithBlock, resized_in}
+use Rattle.rh_heap.proofs.Common.{bit, once, used_at, hole_at, IsIndex, Became, Spot, Gap, USED, HOLES}
 use Rattle.rh_defs.specs.Heap as heap
-use Rattle.rh_defs.specs.HeapImage.{Spells}
-use Rattle.rh_defs.specs.HeapParts.{HasRoom}
-use Rattle.rh_defs.proofs.HeapLists.{HasRoom-from_tidy, HasRoom-append, HasRoom-join, total-append, tidy_behind_used, tidy_behind_hole}
-use Rattle.rh_heap.specs.Segments.{GapIs, no_gap, a_gap, FoundBlock}
-use Rattle.rh_heap.specs.Holes.{FoundHole}
-use Rattle.rh_heap.specs.Ways.{WayIs, WithBlock, resized_in}
+use Rattle.rh_defs.proofs.HeapLists.{HasRoom-join}
 use Rattle.rh_heap.specs.declared.span.resize.Way.TheVariants as way
-use Rattle.rh_store.specs.Starts.{bit, once, used_at, hole_at, IsIndex}
-use Rattle.rh_heap.specs.Starts.{Became, Noted}
-use Rattle.rh_heap.specs.declared.span.segments.Spot.{Spot}
-use Rattle.rh_heap.specs.declared.span.holes.Gap.{Gap}
-use Rattle.rh_store.specs.declared.starts.TheConstants.{USED, HOLES}
+use Rattle.rh_heap.specs.Starts.{Noted}
 use Rattle.rh_heap.proofs.ReleaseLaws.{released_is}
 use Rattle.rh_heap.proofs.ClaimLaws.{placed_found, placed_none}
 use Rattle.rh_heap.proofs.ResizeLaws.{length-fitted, IntoOf, TopOf, shrunk_is, widened_is}

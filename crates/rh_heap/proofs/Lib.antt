@@ -22,3 +22,4 @@ pub mod IndexLaws
 pub mod KeepLaws
 pub mod MapLaws
 pub mod MapShapes
+pub mod Common

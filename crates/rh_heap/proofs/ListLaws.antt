@@ -1,21 +1,14 @@
 -- One step of the walk that lists a heap's segments, and how it ends.
-use Rattle.std.proofs.Common.{◌≡◌, ℕ, ◌+◌, ◌<◌, ◌≤◌, ◌≢◌, inl, inr, Bool, true, false, List, [], ◌∷◌, ◌++◌, length, take, refl, sym, ap, subst, ◌∙◌}
-use Rattle.std.proofs.Common.{append_assoc, append-nil, arith}
+use Rattle.rh_heap.proofs.Common.{◌≡◌, ℕ, ◌+◌, ◌<◌, ◌≤◌, ◌≢◌, inl, inr, Bool, true, false, List, [], ◌∷◌, ◌++◌, length, take, refl, sym, ap, subst, ◌∙◌}
+use Rattle.rh_heap.proofs.Common.{append_assoc, append-nil, arith, word, total, Used, Hole, Heap, IsTidy, size_of, base, segment_at, Spells, HasRoom, LinksTo}
+use Rattle.rh_heap.proofs.Common.{last_link, last_link-append, HasRoom-from_tidy, HasRoom-append, no_segments, tidy_before, tidy_behind_used, tidy_front}
+use Rattle.rh_heap.proofs.Common.{total-append, listed, Reached, Found, a_gap, no_gap, Spot}
 use Rattle.std.proofs.lemmas.List.{take-append-le, take_all, append_cancel_left}
-use Rattle.rh_defs.specs.Bytes.{word}
-use Rattle.rh_defs.specs.Pieces.{total}
 use Rattle.rh_defs.specs.Heap as heap
-use Rattle.rh_defs.specs.Heap.{Used, Hole, Heap, IsTidy, size_of, base, segment_at}
-use Rattle.rh_defs.specs.HeapImage.{Spells}
-use Rattle.rh_defs.specs.HeapParts.{HasRoom, LinksTo, last_link}
-use Rattle.rh_defs.proofs.HeapLaws.{last_link-append, link_ahead}
-use Rattle.rh_defs.proofs.HeapLists.{HasRoom-from_tidy, HasRoom-append, no_segments, tidy_before, tidy_behind_used, tidy_front, total-append}
-use Rattle.rh_heap.specs.Image.{listed}
+use Rattle.rh_defs.proofs.HeapLaws.{link_ahead}
 use Rattle.rh_heap.specs.Listed.{from_cut, HasListed}
-use Rattle.rh_heap.specs.Segments.{Reached, Found, a_gap, no_gap}
 use Rattle.rh_heap.proofs.WalkLaws.{leads_here, stands}
 use Rattle.rh_heap.specs.declared.layout.Segment.{Segment}
-use Rattle.rh_heap.specs.declared.span.segments.Spot.{Spot}
 
 pub lists_start : (at : ℕ) (h : Heap) (target : ℕ) (spot : Spot) (items : List Segment) → Found at h target spot → items ≡ []
     → HasListed at h spot.from spot.place items (listed target (from_cut (segment_at target h)))

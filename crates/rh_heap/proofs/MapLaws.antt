@@ -1,20 +1,11 @@
 -- The walk that makes a map: the marks are those of the segments that it has passed.
-use Rattle.std.proofs.Common.{◌≡◌, ◌≢◌, ℕ, ◌+◌, ◌*◌, ◌/◌, ◌%◌, ◌<◌, ◌≤◌, inl, inr, false, List, [], ◌∷◌, ◌++◌, length, replicate, get_or, refl, sym, ap}
-use Rattle.std.proofs.Common.{subst, ◌∙◌, append-nil, arith}
+use Rattle.rh_heap.proofs.Common.{◌≡◌, ◌≢◌, ℕ, ◌+◌, ◌*◌, ◌/◌, ◌%◌, ◌<◌, ◌≤◌, inl, inr, false, List, [], ◌∷◌, ◌++◌, length, replicate, get_or, refl, sym, ap}
+use Rattle.rh_heap.proofs.Common.{subst, ◌∙◌, append-nil, arith, cases_eq, cases_lt, length-replicate, word, total, Segment, Used, Hole, Heap, IsTidy}
+use Rattle.rh_heap.proofs.Common.{size_of, base, Spells, HasRoom, LinksTo, HasRoom-from_tidy, HasRoom-append, total-append, no_segments, Reached, bit, once}
+use Rattle.rh_heap.proofs.Common.{used_at, hole_at, IsIndex, Became, USED, HOLES, BITS}
 use Rattle.std.specs.Int.{bit_at}
-use Rattle.std.proofs.lemmas.Bool.{cases_eq, cases_lt}
-use Rattle.std.proofs.lemmas.List.{get_or-replicate, get_or_past, length-replicate}
+use Rattle.std.proofs.lemmas.List.{get_or-replicate, get_or_past}
 use Rattle.std.proofs.lemmas.Nat.Bits.{bit_at-zero}
-use Rattle.rh_defs.specs.Bytes.{word}
-use Rattle.rh_defs.specs.Pieces.{total}
-use Rattle.rh_defs.specs.Heap.{Segment, Used, Hole, Heap, IsTidy, size_of, base}
-use Rattle.rh_defs.specs.HeapImage.{Spells}
-use Rattle.rh_defs.specs.HeapParts.{HasRoom, LinksTo}
-use Rattle.rh_defs.proofs.HeapLists.{HasRoom-from_tidy, HasRoom-append, total-append, no_segments}
-use Rattle.rh_heap.specs.Segments.{Reached}
-use Rattle.rh_store.specs.Starts.{bit, once, used_at, hole_at, IsIndex}
-use Rattle.rh_heap.specs.Starts.{Became}
-use Rattle.rh_store.specs.declared.starts.TheConstants.{USED, HOLES, BITS}
 use Rattle.rh_heap.proofs.ListLaws.{NextSegment, next_used, next_hole, next_segment_at}
 use Rattle.rh_heap.proofs.WalkLaws.{reached_start}
 use Rattle.rh_heap.proofs.StartLaws.{once_same, once_apart, used_at-append, hole_at-append, used_at-high, hole_at-high, units_of, units-append, units-total}

@@ -1,13 +1,10 @@
 -- A map tells of a heap's shape alone.
-use Rattle.std.proofs.Common.{◌≡◌, ℕ, ℤ, ◌+◌, ◌*◌, ◌/◌, ◌≤◌, inl, inr, List, [], ◌∷◌, ◌++◌, length, refl, sym, ap, subst, ◌∙◌}
-use Rattle.std.proofs.lemmas.Bool.{cases_lt}
-use Rattle.rh_defs.specs.Chain.{left_of, no_answer}
-use Rattle.rh_defs.specs.Pieces.{moved, zeros}
-use Rattle.rh_defs.specs.Heap.{Segment, Used, Hole, Heap, base, extend}
+use Rattle.rh_heap.proofs.Common.{◌≡◌, ℕ, ℤ, ◌+◌, ◌*◌, ◌/◌, ◌≤◌, inl, inr, List, [], ◌∷◌, ◌++◌, length, refl, sym, ap, subst, ◌∙◌, cases_lt, left_of}
+use Rattle.rh_heap.proofs.Common.{no_answer, moved, zeros, Segment, Used, Hole, Heap, base, once, used_at, hole_at, IsIndex}
+use Rattle.rh_defs.specs.Heap.{extend}
 use Rattle.rh_defs.proofs.HeapCalls.{extend-low, extend-done}
 use Rattle.rh_defs.specs.Blocks.{blank, SameShape}
 use Rattle.rh_defs.proofs.ShapeLaws.{len0, blank-append}
-use Rattle.rh_store.specs.Starts.{once, used_at, hole_at, IsIndex}
 use Rattle.rh_store.specs.declared.starts.TheConstants.{LINE_BYTES}
 
 used_at-blank : (p q : ℕ) (ss : List Segment) → used_at p q (blank ss) ≡ used_at p q ss

@@ -1,37 +1,26 @@
 -- A block that moves.
-use Rattle.std.proofs.Common.{◌≡◌, ℕ, zero, suc, ◌+◌, ◌-◌, ◌%◌, ◌<◌, ◌≤◌, ◌⊎◌, inl, inr, Bool, false, true, cond, eqb, List, [], ◌∷◌, ◌++◌, length, replicate}
-use Rattle.std.proofs.Common.{refl, sym, ap, subst, ◌∙◌, append_assoc, arith}
-use Rattle.std.specs.Prelude.{Option, Some, None, IfSome, Ok}
-use Rattle.std.specs.Option.{option_map}
-use Rattle.rh_defs.specs.Bytes.{word, part, SameOutside}
-use Rattle.rh_defs.specs.Pieces.{total, Split, first_at}
+use Rattle.rh_heap.proofs.Common.{◌≡◌, ℕ, zero, suc, ◌+◌, ◌-◌, ◌%◌, ◌<◌, ◌≤◌, ◌⊎◌, inl, inr, Bool, false, true, cond, eqb, List, [], ◌∷◌, ◌++◌, length}
+use Rattle.rh_heap.proofs.Common.{replicate, refl, sym, ap, subst, ◌∙◌, append_assoc, arith, Option, Some, None, IfSome, Ok, option_map, word, part}
+use Rattle.rh_heap.proofs.Common.{SameOutside, total, Split, first_at, Segment, Used, Hole, Heap, Placed, IsTidy, size_of, bytes_of, base, with_hole, fitted}
+use Rattle.rh_heap.proofs.Common.{hole_for, placed, release, shortage_in, block_at, is_block_at, released_at, way_to, resized_by, segment_size, zeros, Stand}
+use Rattle.rh_heap.proofs.Common.{Spells, part_more, HasRoom-from_tidy, HasRoom-append, total-append, tidy_behind_used, cond_true, eqb_same, Stand-split}
+use Rattle.rh_heap.proofs.Common.{released_at-some, link_place, HasStretch-kept, opened, closed, FoundBlock, Memory, heap_of-Spells, SpellsIn, bytes_in}
+use Rattle.rh_heap.proofs.Common.{heap_in, Span, WayIs, WithBlock, resized_in, into_hole, Spot, HasRoom, last_link, LinksTo}
 use Rattle.rh_defs.specs.Pieces as pieces
-use Rattle.rh_defs.specs.Heap.{Segment, Used, Hole, Heap, Placed, IsTidy, size_of, bytes_of, base, place_after, with_hole, fitted, is_hole_for, hole_for}
-use Rattle.rh_defs.specs.Heap.{placed, placed_in, release, shortage_in, block_at, is_block_at, released_at, way_to, end_for, resized_by, segment_size}
-use Rattle.rh_defs.specs.Heap.{block_room, new_size, resize_need, resized, resize, resize_found, need_at, need_found}
-use Rattle.rh_defs.specs.Pieces.{zeros}
+use Rattle.rh_defs.specs.Heap.{place_after, is_hole_for, placed_in, end_for, block_room, new_size, resize_need, resized, resize, resize_found, need_at}
+use Rattle.rh_defs.specs.Heap.{need_found}
 use Rattle.rh_defs.specs.Heap as heap
-use Rattle.rh_defs.specs.HeapImage.{Stand, Spells}
-use Rattle.rh_defs.proofs.BytesLaws.{part_more, part-part, part-zeros}
-use Rattle.rh_defs.proofs.HeapLists.{HasRoom-from_tidy, HasRoom-append, total-append, tidy_other, tidy_behind_used, IsCut, first_at-cuts, cond_true, eqb_same}
-use Rattle.rh_defs.proofs.HeapLaws.{Stand-split}
-use Rattle.rh_defs.proofs.HeapCalls.{released_at-some}
+use Rattle.rh_defs.proofs.BytesLaws.{part-part, part-zeros}
+use Rattle.rh_defs.proofs.HeapLists.{tidy_other, IsCut, first_at-cuts}
 use Rattle.rh_defs.proofs.HeapFaults.{le_from}
-use Rattle.rh_defs.proofs.HeapStretch.{link_place, HasStretch-kept, opened, filled, closed}
-use Rattle.rh_heap.specs.Segments.{FoundBlock}
-use Rattle.rh_defs.specs.Memory.{Memory}
-use Rattle.rh_defs.proofs.HeapLaws.{heap_of-Spells}
-use Rattle.rh_heap.specs.Spans.{SpellsIn, bytes_in, heap_in}
-use Rattle.rh_heap.specs.declared.span.Span.{Span}
-use Rattle.rh_heap.specs.Ways.{Moved, WayIs, WithBlock, resized_in, short_by, into_hole}
-use Rattle.rh_heap.specs.declared.span.segments.Spot.{Spot}
+use Rattle.rh_defs.proofs.HeapStretch.{filled}
+use Rattle.rh_heap.specs.Ways.{Moved, short_by}
 use Rattle.rh_heap.specs.declared.span.resize.Way.TheVariants as way
 use Rattle.rh_heap.proofs.StretchLaws.{but_body, word_below, LinksTo-kept}
 use Rattle.rh_heap.proofs.FillLaws.{part_above}
 use Rattle.rh_heap.proofs.BlockLaws.{zeros_long}
 use Rattle.rh_heap.proofs.WayLaws.{cut_of, at_cut, from_cut, found_is, WayFacts, if_stays, if_shrinks, if_into, if_top, if_to_hole, if_to_top, way_facts}
 use Rattle.rh_heap.proofs.ResizeLaws.{length-fitted, fitted_long}
-use Rattle.rh_defs.specs.HeapParts.{HasRoom, last_link, LinksTo}
 
 -- ---- a block in a list, by its address and bytes
 abbrev pub BlockIn : ℕ → ℕ → List ℕ → List Segment → Type 0

@@ -1,17 +1,11 @@
 -- The stretch that a release leaves.
-use Rattle.std.proofs.Common.{◌≡◌, ℕ, ◌+◌, ◌-◌, ◌<◌, false, List, [], ◌∷◌, ◌++◌, length, sym, ap, subst, ◌∙◌, append_assoc, arith}
-use Rattle.rh_defs.specs.Pieces.{total}
-use Rattle.rh_defs.specs.Heap.{Segment, Used, Hole, Heap, IsTidy, size_of, with_hole, joined, release, release_found}
-use Rattle.rh_defs.specs.HeapImage.{Spells}
-use Rattle.rh_defs.proofs.HeapLists.{total-append, tidy_behind_used, with_hole-with_hole, joined-tidy, joined-front}
+use Rattle.rh_heap.proofs.Common.{◌≡◌, ℕ, ◌+◌, ◌-◌, ◌<◌, false, List, [], ◌∷◌, ◌++◌, length, sym, ap, subst, ◌∙◌, append_assoc, arith, total, Segment, Used}
+use Rattle.rh_heap.proofs.Common.{Hole, Heap, IsTidy, size_of, with_hole, release, Spells, total-append, tidy_behind_used, opened, StretchBetween, IsStretch}
+use Rattle.rh_heap.proofs.Common.{Settles, GapIs, no_gap, a_gap, FoundBlock, Stretch, Spot, last_link, LinksTo}
+use Rattle.rh_defs.specs.Heap.{joined, release_found}
+use Rattle.rh_defs.proofs.HeapLists.{with_hole-with_hole, joined-tidy, joined-front}
 use Rattle.rh_defs.proofs.HeapFaults.{multiple_of_sizes}
-use Rattle.rh_defs.proofs.HeapStretch.{opened}
-use Rattle.rh_heap.specs.Stretches.{StretchBetween, IsStretch, Settles}
-use Rattle.rh_heap.specs.Segments.{GapIs, no_gap, a_gap, FoundBlock}
-use Rattle.rh_heap.specs.declared.span.stretch.Stretch.{Stretch}
-use Rattle.rh_heap.specs.declared.span.segments.Spot.{Spot}
 use Rattle.rh_heap.proofs.StretchLaws.{is_stretch}
-use Rattle.rh_defs.specs.HeapParts.{last_link, LinksTo}
 
 abbrev pub release_stretch : Spot → ℕ → Stretch
 release_stretch spot next = record { link = spot.link; low = spot.low; next = next; upper = spot.place + spot.size }

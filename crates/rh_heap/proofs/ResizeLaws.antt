@@ -1,28 +1,19 @@
 -- A block that gets another size in its place.
-use Rattle.std.proofs.Common.{◌≡◌, ℕ, ◌+◌, ◌-◌, ◌%◌, ◌<◌, ◌≤◌, false, true, List, [], ◌∷◌, ◌++◌, length, take, replicate, refl, sym, ap, subst, ◌∙◌}
-use Rattle.std.proofs.Common.{append_assoc, arith, length-append, length-take}
-use Rattle.std.proofs.lemmas.List.{append-nil, length-replicate, take_all, take-append-le}
-use Rattle.rh_defs.specs.Bytes.{word, part, SameOutside}
-use Rattle.rh_defs.specs.Pieces.{total}
-use Rattle.rh_defs.specs.Heap.{Segment, Used, Hole, Heap, Placed, IsTidy, size_of, bytes_of, base, with_hole, joined, fitted, way_to, resized_by}
+use Rattle.rh_heap.proofs.Common.{◌≡◌, ℕ, ◌+◌, ◌-◌, ◌%◌, ◌<◌, ◌≤◌, false, true, List, [], ◌∷◌, ◌++◌, length, take, replicate, refl, sym, ap, subst, ◌∙◌}
+use Rattle.rh_heap.proofs.Common.{append_assoc, arith, length-append, length-take, append-nil, length-replicate, word, part, SameOutside, total, Segment}
+use Rattle.rh_heap.proofs.Common.{Used, Hole, Heap, Placed, IsTidy, size_of, bytes_of, base, with_hole, fitted, way_to, resized_by, Stand, Spells, part_more}
+use Rattle.rh_heap.proofs.Common.{length-part, HasRoom-from_tidy, HasRoom-append, total-append, tidy_behind_used, tidy_behind_hole, tidy_front, tidy_after}
+use Rattle.rh_heap.proofs.Common.{Stand-split, opened, StretchBetween, IsStretch, Settles, FoundBlock, WayIs, into_hole, WithBlock, resized_in, Stretch, Spot}
+use Rattle.rh_heap.proofs.Common.{HasRoom, LinksTo}
+use Rattle.std.proofs.lemmas.List.{take_all, take-append-le}
+use Rattle.rh_defs.specs.Heap.{joined}
 use Rattle.rh_defs.specs.Heap as heap
-use Rattle.rh_defs.specs.HeapImage.{Stand, Spells}
-use Rattle.rh_defs.proofs.BytesLaws.{part_more, length-part}
-use Rattle.rh_defs.proofs.HeapLists.{HasRoom-from_tidy, HasRoom-append, total-append, tidy_behind_used, tidy_behind_hole, tidy_front, tidy_other, tidy_after}
-use Rattle.rh_defs.proofs.HeapLists.{joined-tidy, joined-front}
-use Rattle.rh_defs.proofs.HeapLaws.{Stand-split}
-use Rattle.rh_defs.proofs.HeapStretch.{opened}
-use Rattle.rh_heap.specs.Stretches.{StretchBetween, IsStretch, Settles}
-use Rattle.rh_heap.specs.Segments.{FoundBlock}
-use Rattle.rh_heap.specs.Ways.{WayIs, into_hole, WithBlock, resized_in}
-use Rattle.rh_heap.specs.declared.span.stretch.Stretch.{Stretch}
-use Rattle.rh_heap.specs.declared.span.segments.Spot.{Spot}
+use Rattle.rh_defs.proofs.HeapLists.{tidy_other, joined-tidy, joined-front}
 use Rattle.rh_heap.specs.declared.span.resize.Way.TheVariants as way
 use Rattle.rh_heap.proofs.StretchLaws.{is_stretch}
 use Rattle.rh_heap.proofs.FillLaws.{filled_between, topped, part_above}
 use Rattle.rh_heap.proofs.WayLaws.{cut_of, at_cut, from_cut, found_is, WayFacts, if_stays, if_shrinks, if_into, if_top, if_to_hole, if_to_top, way_facts}
 use Rattle.rh_heap.proofs.WayLaws.{way_shrinks, block_stretch, block_part, block_base}
-use Rattle.rh_defs.specs.HeapParts.{HasRoom, LinksTo}
 
 -- ---- bytes
 pub length-fitted : (n : ℕ) (bs : List ℕ) → length (fitted n bs) ≡ n

@@ -1,13 +1,9 @@
 -- The segments that an iterator has left.
-use Rattle.std.proofs.Common.{◌≡◌, ℕ, ◌+◌, ◌-◌, ◌≤◌, ◌≢◌, inl, inr, Bool, true, false, List, [], ◌∷◌, length, refl, sym, ap, subst, ◌∙◌, arith}
-use Rattle.rh_defs.specs.Bytes.{word}
-use Rattle.rh_defs.specs.Pieces.{total}
-use Rattle.rh_defs.specs.Heap.{Segment, Used, Hole, size_of}
-use Rattle.rh_defs.specs.HeapImage.{Stand, IsImage, heap_of}
-use Rattle.rh_defs.proofs.HeapLists.{HasRoom-from_tidy}
+use Rattle.rh_heap.proofs.Common.{◌≡◌, ℕ, ◌+◌, ◌-◌, ◌≤◌, ◌≢◌, inl, inr, Bool, true, false, List, [], ◌∷◌, length, refl, sym, ap, subst, ◌∙◌, arith, word}
+use Rattle.rh_heap.proofs.Common.{total, Segment, Used, Hole, size_of, Stand, HasRoom-from_tidy, listed, HasRoom}
+use Rattle.rh_defs.specs.HeapImage.{IsImage, heap_of}
 use Rattle.rh_defs.proofs.HeapLaws.{segments_in-Stand, link_ahead}
-use Rattle.rh_heap.specs.Image.{listed}
-use Rattle.rh_defs.specs.HeapParts.{HasRoom, IsRest, rest_in}
+use Rattle.rh_defs.specs.HeapParts.{IsRest, rest_in}
 
 -- segments that stand there are those that are left
 pub is_rest : (b : List ℕ) (base from place : ℕ) (ss : List Segment) → Stand b from place ss → HasRoom ss → place + total size_of ss ≡ base → base ≤ length b

@@ -1,21 +1,11 @@
 -- What stands at a place, how much room there is, and where a heap ends.
-use Rattle.std.proofs.Common.{◌≡◌, ℕ, ◌+◌, ◌-◌, ◌%◌, ◌<◌, ◌≤◌, Bool, true, false, max, List, [], ◌∷◌, ◌++◌, length, refl, sym, ap, ◌∙◌, arith}
-use Rattle.std.specs.Prelude.{Some, Ok, ok_or, ℤ}
-use Rattle.std.specs.Option.{option_map}
-use Rattle.rh_defs.specs.Bytes.{word, SameOutside}
-use Rattle.rh_defs.specs.Pieces.{moved, total}
-use Rattle.rh_defs.specs.Heap.{Segment, Used, Hole, Heap, size_of, bytes_of, base, block_size, segment_at, hole_size, largest_hole, largest, free_bytes}
-use Rattle.rh_defs.specs.Heap.{empty_heap, extended}
-use Rattle.rh_defs.specs.HeapImage.{Spells}
-use Rattle.rh_defs.specs.declared.heap.HeapRefusal.{HeapRefusal}
-use Rattle.rh_defs.proofs.HeapLists.{sum-append, HasRoom-from_tidy}
-use Rattle.std.proofs.lemmas.Bool.{cases_lt}
-use Rattle.std.proofs.Common.{inl, inr}
-use Rattle.rh_defs.proofs.HeapLaws.{HasNone}
+use Rattle.rh_heap.proofs.Common.{◌≡◌, ℕ, ◌+◌, ◌-◌, ◌%◌, ◌<◌, ◌≤◌, Bool, true, false, max, List, [], ◌∷◌, ◌++◌, length, refl, sym, ap, ◌∙◌, arith, Some, Ok}
+use Rattle.rh_heap.proofs.Common.{ok_or, ℤ, option_map, word, SameOutside, moved, total, Segment, Used, Hole, Heap, size_of, bytes_of, base, segment_at}
+use Rattle.rh_heap.proofs.Common.{Spells, HeapRefusal, HasRoom-from_tidy, cases_lt, inl, inr, HasNone, Found, FoundBlock, HereIs, used_here, hole_here, Spot}
+use Rattle.rh_defs.specs.Heap.{block_size, hole_size, largest_hole, largest, free_bytes, empty_heap, extended}
+use Rattle.rh_defs.proofs.HeapLists.{sum-append}
 use Rattle.rh_defs.proofs.HeapStretch.{Stand-kept}
-use Rattle.rh_heap.specs.Segments.{Found, FoundBlock, HereIs, used_here, hole_here}
 use Rattle.rh_heap.specs.Segments.{piece}
-use Rattle.rh_heap.specs.declared.span.segments.Spot.{Spot}
 use Rattle.rh_heap.proofs.StretchLaws.{word_below}
 use Rattle.rh_heap.proofs.ClaimLaws.{Passed, HoleTurn}
 

@@ -1,11 +1,6 @@
 -- Spans whose bytes spell a heap, for callers.
-use Rattle.std.proofs.Common.{◌≡◌, sym, subst}
-use Rattle.rh_defs.specs.Memory.{Memory, IsOpen}
-use Rattle.rh_defs.specs.Heap.{Heap}
-use Rattle.rh_defs.specs.HeapImage.{Spells}
-use Rattle.rh_defs.proofs.HeapLaws.{heap_of-Spells}
-use Rattle.rh_heap.specs.Spans.{IsSpan, SpellsIn, bytes_in, heap_in}
-use Rattle.rh_heap.specs.declared.span.Span.{Span}
+use Rattle.rh_heap.proofs.Common.{◌≡◌, sym, subst, Memory, Heap, Spells, heap_of-Spells, IsSpan, SpellsIn, bytes_in, heap_in, Span}
+use Rattle.rh_defs.specs.Memory.{IsOpen}
 
 -- the heap in a span is the one that its bytes spell
 pub heap_now : (m : Memory) (span : Span) (h : Heap) → SpellsIn m span h → heap_in m span ≡ h

@@ -1,13 +1,7 @@
 -- Where segments begin: in a list that is cut, and what a place tells of the segments before it.
-use Rattle.std.proofs.Common.{◌≡◌, ◌≢◌, ℕ, zero, suc, ◌+◌, ◌-◌, ◌*◌, ◌/◌, ◌%◌, ◌<◌, ◌≤◌, inl, inr, Bool, true, false, List, [], ◌∷◌, ◌++◌, length, refl, ap}
-use Rattle.std.proofs.Common.{subst, eqb, arith}
-use Rattle.std.proofs.lemmas.Bool.{cases_eq, cases_lt}
-use Rattle.rh_defs.specs.Pieces.{total, NonePass}
-use Rattle.rh_defs.specs.Heap.{Segment, Used, Hole, IsTidy, size_of, is_block_at, with_hole}
-use Rattle.rh_defs.specs.HeapParts.{HasRoom, Await}
-use Rattle.rh_defs.proofs.HeapLists.{cond_true, cond_false, eqb_same, eqb_apart}
-use Rattle.rh_defs.proofs.HeapLaws.{HasNone}
-use Rattle.rh_store.specs.Starts.{once, used_at, hole_at}
+use Rattle.rh_heap.proofs.Common.{◌≡◌, ◌≢◌, ℕ, zero, suc, ◌+◌, ◌-◌, ◌*◌, ◌/◌, ◌%◌, ◌<◌, ◌≤◌, inl, inr, Bool, true, false, List, [], ◌∷◌, ◌++◌, length, refl}
+use Rattle.rh_heap.proofs.Common.{ap, subst, eqb, arith, cases_eq, cases_lt, total, NonePass, Segment, Used, Hole, IsTidy, size_of, is_block_at, with_hole}
+use Rattle.rh_heap.proofs.Common.{HasRoom, Await, cond_true, cond_false, eqb_same, eqb_apart, HasNone, once, used_at, hole_at}
 use Rattle.rh_heap.specs.Starts.{Noted}
 
 pub once_same : (p q : ℕ) → p ≡ q → once p q ≡ 1

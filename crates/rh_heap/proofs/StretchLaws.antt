@@ -1,15 +1,11 @@
 -- How a stretch is closed.
-use Rattle.std.proofs.Common.{◌≡◌, ℕ, ◌+◌, ◌-◌, ◌≤◌, ◌≢◌, inl, inr, false, true, List, [], ◌∷◌, ◌++◌, length, refl, sym, ap, subst, ◌∙◌, append_assoc, arith}
-use Rattle.rh_defs.specs.Bytes.{word, SameOutside}
-use Rattle.rh_defs.specs.Pieces.{total}
-use Rattle.rh_defs.specs.Heap.{Segment, Used, Hole, size_of, IsTidy, with_hole}
-use Rattle.rh_defs.specs.HeapImage.{Spells}
+use Rattle.rh_heap.proofs.Common.{◌≡◌, ℕ, ◌+◌, ◌-◌, ◌≤◌, ◌≢◌, inl, inr, false, true, List, [], ◌∷◌, ◌++◌, length, refl, sym, ap, subst, ◌∙◌, append_assoc}
+use Rattle.rh_heap.proofs.Common.{arith, word, SameOutside, total, Segment, Used, Hole, size_of, IsTidy, with_hole, Spells, tidy_after, HasStretch-kept}
+use Rattle.rh_heap.proofs.Common.{link_place, closed, StretchBetween, IsStretch, Settles, Stretch, HasRoom, Await, LinksTo, HasStretch}
 use Rattle.rh_defs.proofs.BytesLaws.{word_same}
-use Rattle.rh_defs.proofs.HeapLists.{with_hole-nil, with_hole-used, with_hole-hole, tidy_join, tidy_after}
-use Rattle.rh_defs.proofs.HeapStretch.{HasStretch-kept, SameBut, LinkPlace, link_place, absorbed, reaching, holed, closed}
-use Rattle.rh_heap.specs.Stretches.{StretchBetween, IsStretch, Settles, PutsHole}
-use Rattle.rh_heap.specs.declared.span.stretch.Stretch.{Stretch}
-use Rattle.rh_defs.specs.HeapParts.{HasRoom, Await, LinksTo, HasStretch}
+use Rattle.rh_defs.proofs.HeapLists.{with_hole-nil, with_hole-used, with_hole-hole, tidy_join}
+use Rattle.rh_defs.proofs.HeapStretch.{SameBut, LinkPlace, absorbed, reaching, holed}
+use Rattle.rh_heap.specs.Stretches.{PutsHole}
 
 -- ---- writes that keep to the stretch
 pub but_link : {b c : List ℕ} {q : ℕ} → SameOutside b c q (q + 4) → (low edge w : ℕ) → SameBut b c q low edge w

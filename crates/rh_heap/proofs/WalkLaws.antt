@@ -1,23 +1,15 @@
 -- One step of the walk over a heap's segments, and what it finds.
-use Rattle.std.proofs.Common.{◌≡◌, ℕ, zero, suc, ◌+◌, ◌-◌, ◌<◌, ◌≤◌, ◌≢◌, ◌⊎◌, inl, inr, Bool, true, false, eqb, List, [], ◌∷◌, ◌++◌, length, refl, sym, ap}
-use Rattle.std.proofs.Common.{subst, ◌∙◌, append_assoc, arith}
-use Rattle.std.proofs.lemmas.List.{append-nil}
-use Rattle.std.specs.Prelude.{Option, Some, None, ◌==◌}
-use Rattle.std.proofs.Common.{cond}
-use Rattle.std.specs.Option.{option_map}
-use Rattle.rh_defs.specs.Bytes.{word, part}
-use Rattle.rh_defs.specs.Pieces.{total, Split, first_at, behind, NonePass}
-use Rattle.rh_defs.specs.Heap.{Segment, Used, Hole, Heap, IsTidy, size_of, base, is_block_at, block_at, segment_at}
-use Rattle.rh_defs.specs.HeapImage.{Stand, Spells}
-use Rattle.rh_defs.proofs.HeapLists.{HasRoom-from_tidy, HasRoom-append, total-append, tidy_before, tidy_front, tidy_behind_used, NonePass-append}
-use Rattle.rh_defs.proofs.HeapLists.{first_at-none, first_at-found, eqb_same, eqb_apart}
-use Rattle.rh_defs.proofs.HeapLaws.{last_link-append, last_link-none, Stand-split, NextHole, next_hole}
-use Rattle.rh_defs.proofs.BytesLaws.{length-part, word-part}
-use Rattle.rh_heap.specs.Segments.{GapIs, no_gap, a_gap, Reached, HereIs, used_here, hole_here, Met, Around, Found, NoHole, hole_spot, FoundBlock}
-use Rattle.rh_heap.specs.declared.span.segments.Spot.{Spot}
+use Rattle.rh_heap.proofs.Common.{◌≡◌, ℕ, zero, suc, ◌+◌, ◌-◌, ◌<◌, ◌≤◌, ◌≢◌, ◌⊎◌, inl, inr, Bool, true, false, eqb, List, [], ◌∷◌, ◌++◌, length, refl, sym}
+use Rattle.rh_heap.proofs.Common.{ap, subst, ◌∙◌, append_assoc, arith, append-nil, Option, Some, None, ◌==◌, cond, option_map, word, part, total, Split}
+use Rattle.rh_heap.proofs.Common.{first_at, NonePass, Segment, Used, Hole, Heap, IsTidy, size_of, base, is_block_at, block_at, segment_at, Stand, Spells}
+use Rattle.rh_heap.proofs.Common.{HasRoom-from_tidy, HasRoom-append, total-append, tidy_before, tidy_front, tidy_behind_used, NonePass-append, first_at-none}
+use Rattle.rh_heap.proofs.Common.{first_at-found, eqb_same, eqb_apart, last_link-append, last_link-none, Stand-split, length-part, GapIs, no_gap, a_gap}
+use Rattle.rh_heap.proofs.Common.{Reached, HereIs, used_here, hole_here, Found, FoundBlock, Spot, Gap, HasRoom, last_link, LinksTo}
+use Rattle.rh_defs.specs.Pieces.{behind}
+use Rattle.rh_defs.proofs.HeapLaws.{NextHole, next_hole}
+use Rattle.rh_defs.proofs.BytesLaws.{word-part}
+use Rattle.rh_heap.specs.Segments.{Met, Around, NoHole, hole_spot}
 use Rattle.rh_heap.specs.declared.span.segments.Mark.{Mark}
-use Rattle.rh_heap.specs.declared.span.holes.Gap.{Gap}
-use Rattle.rh_defs.specs.HeapParts.{HasRoom, last_link, LinksTo}
 
 abbrev pub reached_start : (at : ℕ) (h : Heap) → Reached at h 4 16 4 16
 reached_start at h = record {

@@ -1,24 +1,16 @@
 -- The ways in which a block gets another size.
-use Rattle.std.proofs.Common.{◌≡◌, ℕ, ◌+◌, ◌<◌, ◌≤◌, ◌≢◌, Bool, true, false, cond, eqb, leb, ltb, List, [], ◌∷◌, ◌++◌, length, refl, sym, ap, subst, ◌∙◌, arith}
+use Rattle.rh_heap.proofs.Common.{◌≡◌, ℕ, ◌+◌, ◌<◌, ◌≤◌, ◌≢◌, Bool, true, false, cond, eqb, leb, ltb, List, [], ◌∷◌, ◌++◌, length, refl, sym, ap, subst, ◌∙◌}
+use Rattle.rh_heap.proofs.Common.{arith, Option, Some, None, IfSome, word, part, total, Split, Segment, Used, Hole, Heap, IsTidy, size_of, base, block_at}
+use Rattle.rh_heap.proofs.Common.{hole_for, way_to, Stand, Spells, total-append, cond_true, cond_false, eqb_same, eqb_apart, leb_no, Stand-split, opened}
+use Rattle.rh_heap.proofs.Common.{FoundBlock, FoundHole, WayIs, into_hole, WithBlock, Spot, Gap, HasRoom, Await, LinksTo, HasStretch}
 use Rattle.std.proofs.lemmas.Bool.Decides.{nat_tests}
-use Rattle.std.specs.Prelude.{Option, Some, None, IfSome}
-use Rattle.rh_defs.specs.Bytes.{word, part}
-use Rattle.rh_defs.specs.Pieces.{total, Split}
-use Rattle.rh_defs.specs.Heap.{Segment, Used, Hole, Heap, IsTidy, size_of, base, place_after, block_at, hole_for, way_to, way_to_grow, way_beyond}
+use Rattle.rh_defs.specs.Heap.{place_after, way_to_grow, way_beyond}
 use Rattle.rh_defs.specs.Heap as heap
-use Rattle.rh_defs.specs.HeapImage.{Stand, Spells}
-use Rattle.rh_defs.proofs.HeapLists.{total-append, cond_true, cond_false, eqb_same, eqb_apart, leb_yes, leb_no}
-use Rattle.rh_defs.proofs.HeapLaws.{Stand-split}
-use Rattle.rh_defs.proofs.HeapStretch.{opened}
-use Rattle.rh_heap.specs.Segments.{FoundBlock}
-use Rattle.rh_heap.specs.Holes.{FoundHole}
-use Rattle.rh_heap.specs.Ways.{WayIs, stays, shrinks, into_hole, at_top, to_hole, to_top, WithBlock}
-use Rattle.rh_heap.specs.declared.span.segments.Spot.{Spot}
-use Rattle.rh_heap.specs.declared.span.holes.Gap.{Gap}
+use Rattle.rh_defs.proofs.HeapLists.{leb_yes}
+use Rattle.rh_heap.specs.Ways.{stays, shrinks, at_top, to_hole, to_top}
 use Rattle.rh_heap.specs.declared.span.resize.Way.{Way}
 use Rattle.rh_heap.specs.declared.span.resize.Way.TheVariants as way
 use Rattle.rh_heap.proofs.StretchLaws.{next_range}
-use Rattle.rh_defs.specs.HeapParts.{HasRoom, Await, LinksTo, HasStretch}
 
 pub at_place : {at : ℕ} {h : Heap} {address : ℕ} {spot : Spot} → FoundBlock at h address spot → FoundBlock at h (spot.place + 4) spot
 at_place {at} {h} {address} {spot} f = subst (λ a. FoundBlock at h a spot) (sym f.address_is) f

@@ -1,60 +1,35 @@
 -- Each command leaves the blocks of every task accounted for, and so they are after every list of commands.
-use Rattle.std.proofs.Common.{◌≡◌, ◌≢◌, ℕ, ◌+◌, ◌<◌, ◌≤◌, Bool, true, false, not, List, [], ◌∷◌, ◌++◌, length, Option, Some, None}
-use Rattle.std.proofs.Common.{◌-◌, refl, sym, ap, ◌∙◌, subst, ◌⊎◌, inl, inr, arith, take, drop, length-take}
-use Rattle.std.specs.Prelude.{◌==◌, find, filter, ℤ, Ok}
-use Rattle.std.specs.Option.{option_map}
-use Rattle.std.proofs.lemmas.Bool.Decides.{eqb_tells}
-use Rattle.std.proofs.lemmas.List.{length-replicate}
-use Rattle.rh_defs.specs.declared.command.Command.{Command}
+use Rattle.rh_laws.proofs.Common.{◌≡◌, ◌≢◌, ℕ, ◌+◌, ◌<◌, ◌≤◌, Bool, true, false, not, List, [], ◌∷◌, ◌++◌, length, Option, Some, None, ◌-◌, refl, sym, ap}
+use Rattle.rh_laws.proofs.Common.{◌∙◌, subst, ◌⊎◌, inl, inr, arith, take, drop, length-take, ◌==◌, find, filter, ℤ, Ok, option_map, eqb_tells}
+use Rattle.rh_laws.proofs.Common.{length-replicate, Command, Manner, Reply, Incoming, Refusal, NotOpen, Granted, or_else, with_heap_bytes, IsDesk, Rise}
+use Rattle.rh_laws.proofs.Common.{zeros, all_in_range, in_range, Segment, Used, Hole, block_room, first_place, Parcel, post_poll, in_id, is_buffer_of, Slot}
+use Rattle.rh_laws.proofs.Common.{heap_start, slot_begin, Desk, Task, has_name, named, next_ref, task_at, with_delivered, with_slot, Answer, start_task, kill}
+use Rattle.rh_laws.proofs.Common.{alloc, load, put, free, extend, mid, claim, release, resize, budge, after, start_with, save, repeat, poll, poll_taken}
+use Rattle.rh_laws.proofs.Common.{cancel_in, cancel_out, event, step, handled, OnGrant, granted, granted-past, granted-then, granted-unless, granted-with}
+use Rattle.rh_laws.proofs.Common.{or_else-keeps, after-is, start-is, step-keeps, at_place, Edits, Has, Offers, and_left, and_right, first_is, is_equal}
+use Rattle.rh_laws.proofs.Common.{none_some, put_other, put_same, Good, found_name, fits, Fits, is_found, the_task, keeps, Same, buffers_of, task_of, view}
 use Rattle.rh_defs.specs.declared.command.Command.TheVariants as command
-use Rattle.rh_defs.specs.declared.command.Manner.{Manner}
-use Rattle.rh_defs.specs.declared.reply.Reply.{Reply}
 use Rattle.rh_defs.specs.declared.reply.Reply.TheVariants as reply
-use Rattle.rh_defs.specs.declared.transfer.Incoming.{Incoming}
 use Rattle.rh_defs.specs.declared.transfer.Incoming.TheVariants as incoming
-use Rattle.rh_defs.specs.declared.refusal.Refusal.{Refusal}
-use Rattle.rh_defs.specs.declared.refusal.Refusal.TheVariants.{NotOpen}
-use Rattle.rh_defs.specs.Chain.{Granted, or_else}
 use Rattle.rh_defs.specs.Blocks.{bytes_at}
-use Rattle.rh_defs.specs.Places.{with_heap_bytes}
-use Rattle.rh_defs.specs.Laws.{Ascend, IsDesk, Rise}
-use Rattle.rh_defs.specs.Pieces.{zeros}
-use Rattle.rh_defs.specs.Range.{all_in_range, in_range}
-use Rattle.rh_defs.specs.Heap.{IsTidy, Segment, Used, Hole, block_room, first_place}
-use Rattle.rh_defs.specs.Messages.{Parcel}
-use Rattle.rh_defs.specs.Post.{post_poll}
-use Rattle.rh_defs.specs.Records.{in_id, is_buffer_of, most_records}
+use Rattle.rh_defs.specs.Laws.{Ascend}
+use Rattle.rh_defs.specs.Heap.{IsTidy}
+use Rattle.rh_defs.specs.Records.{most_records}
 use Rattle.rh_defs.specs.Receiver as receiver
-use Rattle.rh_defs.specs.Slot.{IsSlot, Slot, heap_start, new_slot, slot_begin}
-use Rattle.rh_defs.specs.Desk.{Desk, Task, has_name, named, next_ref, task_at, with_delivered, with_slot}
-use Rattle.rh_defs.specs.Commands.{Answer, start_task, kill, alloc, load, put, free, extend, mid, claim, release, resize, budge}
-use Rattle.rh_defs.specs.Runs.{after, start_with}
-use Rattle.rh_defs.specs.Step.{save, repeat, poll, poll_taken, cancel_in, cancel_out, event, step}
-use Rattle.rh_defs.specs.Transfer.{handled}
-use Rattle.rh_defs.proofs.Chains.{OnGrant, granted, granted-past, granted-then, granted-unless, granted-with, or_else-keeps}
+use Rattle.rh_defs.specs.Slot.{IsSlot, new_slot}
 use Rattle.rh_defs.proofs.Lists.{rise-below}
-use Rattle.rh_defs.proofs.Steps.{after-is, start-is, step-keeps}
-use Rattle.rh_safety.specs.Offered.{at_place}
-use Rattle.rh_safety.proofs.Ends.{Edits, Has, Offers}
-use Rattle.rh_safety.proofs.Basics.{and_left, and_right, first_is, is_equal, none_some, put_other, put_same}
-use Rattle.rh_safety.proofs.Invariant.{Good}
 use Rattle.rh_safety.proofs.Numbers.{numbers-go-up}
 use Rattle.rh_safety.proofs.RecordLaws.{are_recorded}
 use Rattle.rh_safety.proofs.Runs.{start_good}
-use Rattle.rh_safety.proofs.SeenBlocks.{added_still, alloc_is, changed_still, extend_is, found_name, free_is, mid_is, put_is}
-use Rattle.rh_safety.proofs.SeenDesks.{fits}
-use Rattle.rh_safety.proofs.SeenFrames.{Fits, is_found, the_task}
+use Rattle.rh_safety.proofs.SeenBlocks.{added_still, alloc_is, changed_still, extend_is, free_is, mid_is, put_is}
 use Rattle.rh_safety.proofs.SeenHeaps.{claim_is, claimed_free, claimed_map, gone_map, idle_is, release_is}
-use Rattle.rh_safety.proofs.SeenLaws.{keeps}
-use Rattle.rh_safety.proofs.SeenTasks.{Same}
-use Rattle.rh_safety.proofs.View.{buffers_of, task_of, view}
-use Rattle.rh_laws.specs.Claimed.{AlwaysLeaksNone, Claims, HoldsNone, LeaksNone, claimed, claimed_at, claims_from, claims_next}
-use Rattle.rh_laws.specs.Claimed.{IsAccounted, holders, noted, released_at, resized_at, size_after, size_at}
+use Rattle.rh_laws.specs.Claimed.{AlwaysLeaksNone, Claims, HoldsNone, LeaksNone, claimed, claimed_at, claims_from, claims_next, IsAccounted, holders, noted}
+use Rattle.rh_laws.specs.Claimed.{released_at, resized_at, size_after, size_at}
 use Rattle.rh_laws.specs.Frame.{FillsBuffer, actor, handle_of, poller}
 use Rattle.rh_laws.proofs.Frames.{leaves-others}
 use Rattle.rh_laws.proofs.FramePolls.{polls-fill}
-use Rattle.rh_laws.proofs.Accounts.{Accounts, claimed-accounts, is-vacant, none-hold, released-accounts, renewed-accounts, resized-accounts}
-use Rattle.rh_laws.proofs.Accounts.{same-accounts, size-is, size_in, sized-accounts}
+use Rattle.rh_laws.proofs.Accounts.{Accounts, claimed-accounts, is-vacant, none-hold, released-accounts, renewed-accounts, resized-accounts, same-accounts}
+use Rattle.rh_laws.proofs.Accounts.{size-is, size_in, sized-accounts}
 use Rattle.rh_laws.proofs.AccountSlots.{at-address, resize-is}
 use Rattle.rh_laws.proofs.AccountPolls.{Kept, Stands, handled-keeps, stands-delivered, stands-letter, stands-sends, stands-slot, stands-takes}
 

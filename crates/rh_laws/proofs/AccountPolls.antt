@@ -1,47 +1,22 @@
 -- Each message that a poll handles leaves the blocks of the task that polls accounted for.
-use Rattle.std.proofs.Common.{◌≡◌, ◌≢◌, ℕ, ◌+◌, ◌-◌, ◌≤◌, Bool, List, length, take, drop, Option, Some, None}
-use Rattle.std.proofs.Common.{refl, sym, ap, ◌∙◌, subst, ◌⊎◌, inl, inr, arith, length-take}
-use Rattle.std.specs.Prelude.{min, IfSome}
-use Rattle.std.proofs.lemmas.Bool.Decides.{eqb_tells}
-use Rattle.rh_defs.specs.declared.message.Body.{Body}
+use Rattle.rh_laws.proofs.Common.{◌≡◌, ◌≢◌, ℕ, ◌+◌, ◌-◌, ◌≤◌, Bool, List, length, take, drop, Option, Some, None, refl, sym, ap, ◌∙◌, subst, ◌⊎◌, inl, inr}
+use Rattle.rh_laws.proofs.Common.{arith, length-take, min, IfSome, eqb_tells, Body, EventCode, User, Recorded, Acknowledge, Letter, Outcome, Asked, Sending}
+use Rattle.rh_laws.proofs.Common.{Taking, Incoming, Outgoing, Granted, Rise, Split, Flex, Slot, Parcel, buffer_at, written_in, Post, active_of, asking_of}
+use Rattle.rh_laws.proofs.Common.{in_id, is_buffer_of, with_id, Desk, Task, Scrap, next_ref, send_letter, task_at, with_delivered, with_post, with_sending}
+use Rattle.rh_laws.proofs.Common.{with_slot, with_taking, with_task, Handled, answer_ack, answer_fetch, fail_sending, finish_load, ignored, portion}
+use Rattle.rh_laws.proofs.Common.{save_scrap, transmit, accept, ack_back, appended, ask, ended, fetch_back, fetch_more, load_file, loaded, take_bytes}
+use Rattle.rh_laws.proofs.Common.{take_file, take_save, took, without_buffer, came, came_back, handled, OnGrant, chosen, granted, granted-both, granted-past}
+use Rattle.rh_laws.proofs.Common.{granted-then, granted-unless, granted-with, or_else-keeps, Has, FoundActive, active_is, asking_is, drains, fetches}
+use Rattle.rh_laws.proofs.Common.{buffers_of, task_of, any-grant}
 use Rattle.rh_defs.specs.declared.message.Body.TheVariants as body
-use Rattle.rh_defs.specs.declared.message.EventCode.{EventCode}
-use Rattle.rh_defs.specs.declared.message.EventCode.TheVariants.{User, Recorded, Acknowledge}
-use Rattle.rh_defs.specs.declared.message.Letter.{Letter}
-use Rattle.rh_defs.specs.declared.reply.Outcome.{Outcome}
-use Rattle.rh_defs.specs.declared.transfer.Asked.{Asked}
-use Rattle.rh_defs.specs.declared.transfer.Sending.{Sending}
-use Rattle.rh_defs.specs.declared.transfer.Taking.{Taking}
-use Rattle.rh_defs.specs.declared.transfer.Incoming.{Incoming}
 use Rattle.rh_defs.specs.declared.transfer.Incoming.TheVariants as incoming
-use Rattle.rh_defs.specs.declared.transfer.Outgoing.{Outgoing}
-use Rattle.rh_defs.specs.Chain.{Granted}
-use Rattle.rh_defs.specs.Laws.{Rise}
-use Rattle.rh_defs.specs.Pieces.{Split}
-use Rattle.rh_defs.specs.Slot.{Flex, Slot}
-use Rattle.rh_defs.specs.Messages.{Parcel}
-use Rattle.rh_defs.specs.Places.{buffer_at, written_in}
-use Rattle.rh_defs.specs.Post.{Post}
-use Rattle.rh_defs.specs.Records.{active_of, asking_of, in_id, is_buffer_of, with_id}
 use Rattle.rh_defs.specs.Receiver as receiver
-use Rattle.rh_defs.specs.Desk.{Desk, Task, Scrap, next_ref, send_letter, task_at, with_delivered, with_post, with_sending}
-use Rattle.rh_defs.specs.Desk.{with_slot, with_taking, with_task}
-use Rattle.rh_defs.specs.OutgoingEvents.{Handled, answer_ack, answer_fetch, fail_sending, finish_load, ignored, portion}
-use Rattle.rh_defs.specs.OutgoingEvents.{save_scrap, transmit}
-use Rattle.rh_defs.specs.IncomingEvents.{accept, ack_back, appended, ask, ended, fetch_back, fetch_more, load_file, loaded}
-use Rattle.rh_defs.specs.IncomingEvents.{take_bytes, take_file, take_save, took, without_buffer}
-use Rattle.rh_defs.specs.Transfer.{came, came_back, handled}
-use Rattle.rh_defs.proofs.Chains.{OnGrant, chosen, granted, granted-both, granted-past, granted-then, granted-unless, granted-with}
-use Rattle.rh_defs.proofs.Chains.{or_else-keeps, refused}
-use Rattle.rh_safety.proofs.Ends.{Has}
-use Rattle.rh_safety.proofs.Basics.{FoundActive, active_is, asking_is, drains, fetches}
+use Rattle.rh_defs.proofs.Chains.{refused}
 use Rattle.rh_safety.proofs.SeenBlocks.{added_still, alloc_is, changed_still, extend_is, put_is}
 use Rattle.rh_safety.proofs.SeenHeaps.{claim_is, claimed_free, claimed_map}
-use Rattle.rh_safety.proofs.View.{buffers_of, task_of}
 use Rattle.rh_laws.proofs.Frames.{edit-other, edit-own}
 use Rattle.rh_laws.proofs.Accounts.{Accounts, begun-accounts, ended-accounts, one, renewed-accounts, same-accounts, size_in, sized-accounts}
 use Rattle.rh_laws.proofs.AccountSlots.{rid-map, written-sizes}
-use Rattle.rh_safety.proofs.OwnEdits.{any-grant}
 
 -- ---- the task of a handle
 

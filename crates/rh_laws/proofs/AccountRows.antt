@@ -1,20 +1,11 @@
 -- Worked runs of what blocks of a C heap are, and a run with one definition changed, on which claimed_law fails.
-use Rattle.std.proofs.Common.{◌≡◌, ℕ, List, [], ◌∷◌, ◌++◌, Option, Some, None, map, refl, arith}
-use Rattle.std.specs.Prelude.{codes, find, Ok}
-use Rattle.hex.proofs.OnLiterals.{hex_on_literals}
-use Prim.Native.String.{String}
-use Rattle.rh_defs.specs.declared.refusal.Refusal.TheVariants.{NotOpen}
+use Rattle.rh_laws.proofs.Common.{◌≡◌, ℕ, List, [], ◌∷◌, ◌++◌, Option, Some, None, map, refl, arith, codes, find, Ok, hex_on_literals, String, NotOpen}
+use Rattle.rh_laws.proofs.Common.{Incoming, Granted, ◌>>=◌, found_or, or_else, in_id, with_id, Desk, Task, named, task_at, with_taking, Answer, after, fresh}
+use Rattle.rh_laws.proofs.Common.{script}
 use Rattle.rh_defs.specs.declared.reply.Reply.TheVariants as reply
-use Rattle.rh_defs.specs.declared.transfer.Incoming.{Incoming}
 use Rattle.rh_defs.specs.declared.transfer.Incoming.TheVariants as incoming
-use Rattle.rh_defs.specs.Chain.{Granted, ◌>>=◌, found_or, or_else}
 use Rattle.rh_defs.specs.Receiver as receiver
-use Rattle.rh_defs.specs.Records.{in_id, with_id}
-use Rattle.rh_defs.specs.Desk.{Desk, Task, named, task_at, with_taking}
-use Rattle.rh_defs.specs.Commands.{Answer}
-use Rattle.rh_defs.specs.Runs.{after}
 use Rattle.rh_defs.specs.Script
-use Rattle.rh_safety.proofs.SafetyRows.{fresh, script}
 use Rattle.rh_laws.specs.Claimed.{IsAccounted, claimed, holders, size_at}
 
 -- ---- a block that is claimed beside a buffer

@@ -1,34 +1,23 @@
 -- The calls on a slot that transfers and commands on the C heap make, as its map of blocks and their sizes.
-use Rattle.std.proofs.Common.{length-append, length-drop, length-take, ◌≡◌, ℕ, ◌+◌, ◌-◌, ◌<◌, ◌≤◌, Bool, true, false}
-use Rattle.std.proofs.Common.{List, length, Option, Some, None, refl, sym, ap, ◌∙◌, subst, inl, inr}
-use Rattle.std.proofs.Common.{arith}
-use Rattle.std.specs.Prelude.{ℤ, nat_le, if◌then◌else◌, Ok, Err}
-use Rattle.std.specs.Option.{option_map}
-use Rattle.std.proofs.lemmas.Bool.Decides.{eqb_tells, leb_tells}
-use Rattle.rh_defs.specs.declared.refusal.Refusal.TheVariants.{NotABlock}
-use Rattle.rh_defs.specs.Chain.{Granted, ◌>>=◌, found_or, result_or}
-use Rattle.rh_defs.specs.Pieces.{Split, total, with_here, written, moved}
-use Rattle.rh_defs.specs.Heap.{Segment, Used}
-use Rattle.rh_defs.specs.Heap.{Hole, Heap, Placed, size_of, first_place, place_after, is_around, is_block_at}
-use Rattle.rh_defs.specs.Heap.{block_around, block_room, raised, released, bytes_of}
-use Rattle.rh_defs.specs.Heap.{fitted, segment_size, way_to, new_size, resize_need}
-use Rattle.rh_defs.specs.Heap.{resize_growing, resized_by}
-use Rattle.rh_defs.specs.Slot.{Flex, Slot, heap_start, heap_block_at, with_heap, with_placed, slot_release, slot_resize}
-use Rattle.rh_defs.specs.Slot.{flex_around}
-use Rattle.rh_defs.specs.Places.{buffer_at, roomy_in, with_heap_bytes, written_around, written_heap, written_in}
-use Rattle.rh_defs.specs.IncomingEvents.{without_buffer}
-use Rattle.rh_safety.proofs.View.{buffers_of}
+use Rattle.rh_laws.proofs.Common.{length-append, length-drop, length-take, ◌≡◌, ℕ, ◌+◌, ◌-◌, ◌<◌, ◌≤◌, Bool, true, false, List, length, Option, Some, None}
+use Rattle.rh_laws.proofs.Common.{refl, sym, ap, ◌∙◌, subst, inl, inr, arith, ℤ, nat_le, if◌then◌else◌, Ok, Err, option_map, eqb_tells, leb_tells, NotABlock}
+use Rattle.rh_laws.proofs.Common.{Granted, ◌>>=◌, found_or, Split, total, written, moved, Segment, Used, Hole, Heap, Placed, size_of, first_place}
+use Rattle.rh_laws.proofs.Common.{place_after, block_around, block_room, raised, bytes_of, fitted, segment_size, way_to, new_size, resize_need}
+use Rattle.rh_laws.proofs.Common.{resize_growing, Flex, Slot, heap_start, heap_block_at, with_placed, slot_release, slot_resize, buffer_at, with_heap_bytes}
+use Rattle.rh_laws.proofs.Common.{written_in, without_buffer, buffers_of, Same, is_found, ok_is, and_left, and_right}
+use Rattle.rh_defs.specs.Chain.{result_or}
+use Rattle.rh_defs.specs.Pieces.{with_here}
+use Rattle.rh_defs.specs.Heap.{is_around, is_block_at, released, resized_by}
+use Rattle.rh_defs.specs.Slot.{with_heap, flex_around}
+use Rattle.rh_defs.specs.Places.{roomy_in, written_around, written_heap}
 use Rattle.rh_safety.proofs.HeapMap.{bytes_at, heap_map, CanGo, IsMoved}
-use Rattle.rh_safety.proofs.SeenTasks.{Same, unput}
-use Rattle.rh_safety.proofs.SeenFrames.{is_found}
-use Rattle.rh_safety.proofs.SeenBlocks.{from_bind, ok_is}
-use Rattle.rh_safety.proofs.SeenHeaps.{cut_is, gone_map, length_fitted, release_is, shifted, used_is}
+use Rattle.rh_safety.proofs.SeenTasks.{unput}
+use Rattle.rh_safety.proofs.SeenBlocks.{from_bind}
+use Rattle.rh_safety.proofs.SeenHeaps.{cut_is, gone_map, length_fitted, release_is, shifted, used_is, can_go, fitted_same, placed_high, shifted_twice}
 use Rattle.rh_safety.proofs.SeenDocuments.{buffer_is}
 use Rattle.rh_safety.proofs.HeapMaps as heaps
 use Rattle.rh_safety.proofs.Ends as post
-use Rattle.rh_safety.proofs.Basics.{and_left, and_right}
 use Rattle.rh_laws.proofs.Accounts.{size_in}
-use Rattle.rh_safety.proofs.SeenHeaps.{can_go, fitted_same, placed_high, shifted_twice}
 
 -- ---- a buffer that goes
 

@@ -1,24 +1,11 @@
 -- Blocks of a C heap as a map, the claims and the records with buffers: what each edit makes of their account.
-use Rattle.std.proofs.Common.{◌≡◌, ◌≢◌, ℕ, ◌+◌, ◌<◌, ◌≤◌, Bool, true, false, List, [], ◌∷◌, ◌++◌, length, Option, Some, None}
-use Rattle.std.proofs.Common.{refl, sym, ap, ◌∙◌, subst, inl, inr, arith}
-use Rattle.std.specs.Prelude.{ℤ, nat_eq, nat_le, if◌then◌else◌, filter}
-use Rattle.std.specs.List.{list_any}
-use Rattle.std.specs.Option.{option_map}
-use Rattle.std.proofs.lemmas.Bool.Decides.{eqb_tells}
-use Rattle.rh_defs.specs.declared.transfer.Incoming.{Incoming}
+use Rattle.rh_laws.proofs.Common.{◌≡◌, ◌≢◌, ℕ, ◌+◌, ◌<◌, ◌≤◌, Bool, true, false, List, [], ◌∷◌, ◌++◌, length, Option, Some, None, refl, sym, ap, ◌∙◌, subst}
+use Rattle.rh_laws.proofs.Common.{inl, inr, arith, ℤ, nat_eq, nat_le, if◌then◌else◌, filter, list_any, option_map, eqb_tells, Incoming, Taking, Split, moved}
+use Rattle.rh_laws.proofs.Common.{Segment, block_room, bytes_of, Slot, heap_block_at, Rise, in_id, is_buffer_of, with_id, at_place, Has, none_some, put_other}
+use Rattle.rh_laws.proofs.Common.{put_same, buffers_of, Same}
 use Rattle.rh_defs.specs.declared.transfer.Incoming.TheVariants as incoming
-use Rattle.rh_defs.specs.declared.transfer.Taking.{Taking}
-use Rattle.rh_defs.specs.Pieces.{Split, moved}
-use Rattle.rh_defs.specs.Heap.{Segment, block_room, bytes_of}
-use Rattle.rh_defs.specs.Slot.{Slot, heap_block_at}
-use Rattle.rh_defs.specs.Laws.{Rise}
-use Rattle.rh_defs.specs.Records.{dropped, in_id, is_buffer_of, is_going, one_more, with_id}
-use Rattle.rh_safety.specs.Offered.{at_place}
-use Rattle.rh_safety.proofs.Ends.{Has}
-use Rattle.rh_safety.proofs.Basics.{none_some, put_other, put_same}
-use Rattle.rh_safety.proofs.View.{buffers_of}
+use Rattle.rh_defs.specs.Records.{dropped, is_going, one_more}
 use Rattle.rh_safety.proofs.SeenDocuments.{buffer_is}
-use Rattle.rh_safety.proofs.SeenTasks.{Same}
 use Rattle.rh_laws.specs.Claimed.{IsAccounted, holders, size_after, size_at}
 
 -- ---- records with buffers

@@ -1,47 +1,28 @@
 -- Each command keeps what agrees with what was offered, and records agree after every list of commands.
-use Rattle.std.proofs.Common.{◌≡◌, ℕ, ◌+◌, ◌≤◌, Bool, not, List, [], ◌∷◌, Option, Some, None}
-use Rattle.std.proofs.Common.{refl, sym, ap, ◌∙◌, subst, arith}
-use Rattle.std.specs.Prelude.{◌==◌, find, Ok, IfSome}
-use Rattle.rh_defs.specs.declared.command.Command.{Command}
+use Rattle.rh_laws.proofs.Common.{◌≡◌, ℕ, ◌+◌, ◌≤◌, Bool, not, List, [], ◌∷◌, Option, Some, None, refl, sym, ap, ◌∙◌, subst, arith, ◌==◌, find, Ok, IfSome}
+use Rattle.rh_laws.proofs.Common.{Command, Manner, Body, Incoming, Outgoing, NoTask, NothingSent, NotOpen, Granted, or_else, Parcel, Post, post_join}
+use Rattle.rh_laws.proofs.Common.{post_poll, in_id, is_open, out_id, Desk, Task, has_name, named, next_ref, task_at, with_delivered, with_sending, Answer}
+use Rattle.rh_laws.proofs.Common.{start_task, kill, make, after, start_with, save, repeat, poll, poll_taken, cancel_in, cancel_out, change, step, OnGrant}
+use Rattle.rh_laws.proofs.Common.{granted, granted-past, granted-then, granted-with, or_else-keeps, append-all, held, at_place, Has, first_is, has_of}
+use Rattle.rh_laws.proofs.Common.{is_equal, none_some, open_is, found_name, is_found, Changed, IsOnMemory, granted-on, in_areas, in_made, in_module}
+use Rattle.rh_laws.proofs.Common.{in_nothing, in_slot}
 use Rattle.rh_defs.specs.declared.command.Command.TheVariants as command
-use Rattle.rh_defs.specs.declared.command.Manner.{Manner}
-use Rattle.rh_defs.specs.declared.message.Body.{Body}
 use Rattle.rh_defs.specs.declared.message.Body.TheVariants as body
 use Rattle.rh_defs.specs.declared.reply.Reply.TheVariants as reply
-use Rattle.rh_defs.specs.declared.transfer.Incoming.{Incoming}
 use Rattle.rh_defs.specs.declared.transfer.Incoming.TheVariants as incoming
-use Rattle.rh_defs.specs.declared.transfer.Outgoing.{Outgoing}
 use Rattle.rh_defs.specs.declared.transfer.Outgoing.TheVariants as outgoing
-use Rattle.rh_defs.specs.declared.refusal.Refusal.TheVariants.{NoTask, NothingSent, NotOpen}
-use Rattle.rh_defs.specs.Chain.{Granted, or_else}
-use Rattle.rh_defs.specs.Messages.{Parcel}
-use Rattle.rh_defs.specs.Post.{Post, post_join, post_poll}
-use Rattle.rh_defs.specs.Records.{in_id, is_open, out_id}
 use Rattle.rh_defs.specs.Sender as sender
 use Rattle.rh_defs.specs.Receiver as receiver
-use Rattle.rh_defs.specs.Desk.{Desk, Task, has_name, named, next_ref, task_at, with_delivered, with_sending}
-use Rattle.rh_defs.specs.Commands.{Answer, start_task, kill}
-use Rattle.rh_defs.specs.Commands.{make}
-use Rattle.rh_defs.specs.Runs.{after, start_with}
-use Rattle.rh_defs.specs.Step.{save, repeat, poll, poll_taken, cancel_in, cancel_out, change, step}
-use Rattle.rh_defs.proofs.Chains.{OnGrant, granted, granted-past, granted-then, granted-with, or_else-keeps}
-use Rattle.rh_defs.proofs.Lists.{append-all, filter-all, find-all}
-use Rattle.rh_safety.specs.Held.{document_of, held, held_of, is_edited}
-use Rattle.rh_safety.specs.Offered.{at_place, last_of}
-use Rattle.rh_safety.proofs.Ends.{Has}
-use Rattle.rh_safety.proofs.Basics.{first_is, has_of, is_equal, none_some, open_is}
-use Rattle.rh_safety.proofs.SeenBlocks.{found_name}
-use Rattle.rh_safety.proofs.SeenFrames.{is_found}
-use Rattle.rh_safety.proofs.MemoryCommands.{Changed, IsOnMemory, granted-on, in_areas, in_made, in_module, in_nothing, in_slot}
-use Rattle.rh_laws.specs.Addressed.{Addresses, AgreesIn, AlwaysAddressed, From, IsAddressed, Parties, addressed}
-use Rattle.rh_laws.specs.Addressed.{addressed_again, addressed_last, addresses_from, addresses_next, parties_of}
-use Rattle.rh_laws.proofs.Addresses.{Agrees, BodyAgrees, Extends, InAgrees, InsAgree, LastAgrees, OutAgrees}
-use Rattle.rh_laws.proofs.Addresses.{OutsAgree, TaskAgrees, all-has, all-more, all-with, delivered-agrees, ins-agree}
-use Rattle.rh_laws.proofs.Addresses.{letter-agrees, new-born, new-extends, new-here, outs-agree}
-use Rattle.rh_laws.proofs.Addresses.{slot-agrees}
+use Rattle.rh_defs.proofs.Lists.{filter-all, find-all}
+use Rattle.rh_safety.specs.Held.{document_of, held_of, is_edited}
+use Rattle.rh_safety.specs.Offered.{last_of}
+use Rattle.rh_laws.specs.Addressed.{Addresses, AgreesIn, AlwaysAddressed, From, IsAddressed, Parties, addressed, addressed_again, addressed_last}
+use Rattle.rh_laws.specs.Addressed.{addresses_from, addresses_next, parties_of}
+use Rattle.rh_laws.proofs.Addresses.{Agrees, BodyAgrees, Extends, InAgrees, InsAgree, LastAgrees, OutAgrees, OutsAgree, TaskAgrees, all-has, all-more}
+use Rattle.rh_laws.proofs.Addresses.{all-with, delivered-agrees, ins-agree, letter-agrees, new-born, new-extends, new-here, outs-agree, slot-agrees}
+use Rattle.rh_laws.proofs.Addresses.{ParcelAgrees, back-agrees}
 use Rattle.rh_laws.proofs.AddressPolls.{mine-agrees}
 use Rattle.rh_laws.proofs.Queues.{IsMine, death-left, poll-taken}
-use Rattle.rh_laws.proofs.Addresses.{ParcelAgrees, back-agrees}
 
 -- ---- a task that was found
 

@@ -1,41 +1,19 @@
 -- Each message that a poll handles keeps what agrees with what was offered.
-use Rattle.std.proofs.Common.{◌≡◌, ℕ, Bool, List, length, Option, Some, None}
-use Rattle.std.proofs.Common.{refl, subst}
-use Rattle.std.specs.Prelude.{◌+◌, nat_lt, IfSome}
-use Rattle.rh_defs.specs.declared.refusal.Refusal.{Refusal}
-use Rattle.rh_defs.specs.declared.message.Body.{Body}
+use Rattle.rh_laws.proofs.Common.{◌≡◌, ℕ, Bool, List, length, Option, Some, None, refl, subst, ◌+◌, nat_lt, IfSome, Refusal, Body, EventCode, User, Recorded}
+use Rattle.rh_laws.proofs.Common.{Acknowledge, Asked, Sending, Taking, Incoming, Outgoing, Split, Flex, Parcel, active_of, asking_of, open_of, Desk, Task}
+use Rattle.rh_laws.proofs.Common.{Scrap, next_ref, Handled, answer_ack, answer_fetch, fail_sending, finish_load, ignored, refused, save_scrap, transmit}
+use Rattle.rh_laws.proofs.Common.{accept, ack_back, appended, ask, ended, fetch_back, fetch_more, load_file, loaded, take_bytes, take_file, take_save, took}
+use Rattle.rh_laws.proofs.Common.{came, came_back, handled, OnGrant, chosen, granted, granted-both, granted-past, granted-then, granted-unless, granted-with}
+use Rattle.rh_laws.proofs.Common.{or_else-keeps, FoundActive, active_is, asking_is, drains, fetches, open_is, any-grant}
 use Rattle.rh_defs.specs.declared.message.Body.TheVariants as body
-use Rattle.rh_defs.specs.declared.message.EventCode.{EventCode}
-use Rattle.rh_defs.specs.declared.message.EventCode.TheVariants.{User, Recorded, Acknowledge}
-use Rattle.rh_defs.specs.declared.transfer.Asked.{Asked}
-use Rattle.rh_defs.specs.declared.transfer.Sending.{Sending}
-use Rattle.rh_defs.specs.declared.transfer.Taking.{Taking}
-use Rattle.rh_defs.specs.declared.transfer.Incoming.{Incoming}
 use Rattle.rh_defs.specs.declared.transfer.Incoming.TheVariants as incoming
-use Rattle.rh_defs.specs.declared.transfer.Outgoing.{Outgoing}
 use Rattle.rh_defs.specs.declared.transfer.Outgoing.TheVariants as outgoing
-use Rattle.rh_defs.specs.Pieces.{Split}
-use Rattle.rh_defs.specs.Slot.{Flex}
-use Rattle.rh_defs.specs.Messages.{Parcel}
-use Rattle.rh_defs.specs.Records.{active_of, asking_of, open_of}
 use Rattle.rh_defs.specs.Sender as sender
 use Rattle.rh_defs.specs.Receiver as receiver
-use Rattle.rh_defs.specs.Desk.{Desk, Task, Scrap, next_ref}
-use Rattle.rh_defs.specs.OutgoingEvents.{Handled, answer_ack, answer_fetch, fail_sending, finish_load, ignored, refused}
-use Rattle.rh_defs.specs.OutgoingEvents.{save_scrap, transmit}
-use Rattle.rh_defs.specs.IncomingEvents.{accept, ack_back, appended, ask, ended, fetch_back, fetch_more, load_file, loaded}
-use Rattle.rh_defs.specs.IncomingEvents.{take_bytes, take_file, take_save, took}
-use Rattle.rh_defs.specs.Transfer.{came, came_back, handled}
-use Rattle.rh_defs.proofs.Chains.{OnGrant, chosen, granted, granted-both, granted-past, granted-then, granted-unless, granted-with}
-use Rattle.rh_defs.proofs.Chains.{or_else-keeps}
-use Rattle.rh_safety.proofs.Basics.{FoundActive, active_is, asking_is, drains, fetches, open_is}
 use Rattle.rh_laws.specs.Addressed.{Addresses, From}
-use Rattle.rh_laws.proofs.Addresses.{Agrees, BodyAgrees, CodeAgrees, InAgrees, InsAgree, OutAgrees, OutsAgree, TaskAgrees}
-use Rattle.rh_laws.proofs.Addresses.{all-has, all-more, all-with, ended-agrees, ins-agree, outs-agree, plain-agrees, slot-agrees}
-use Rattle.rh_laws.proofs.Addresses.{task-agrees}
-use Rattle.rh_safety.proofs.OwnEdits.{any-grant}
+use Rattle.rh_laws.proofs.Addresses.{Agrees, BodyAgrees, CodeAgrees, InAgrees, InsAgree, OutAgrees, OutsAgree, TaskAgrees, all-has, all-more, all-with}
+use Rattle.rh_laws.proofs.Addresses.{ended-agrees, ins-agree, outs-agree, plain-agrees, slot-agrees, task-agrees, ParcelAgrees, back-agrees}
 use Rattle.rh_laws.proofs.Queues.{IsMine}
-use Rattle.rh_laws.proofs.Addresses.{ParcelAgrees, back-agrees}
 
 -- after a message was handled, all agree
 record Keeps (a : Addresses) (x : Handled) : Type 0 where

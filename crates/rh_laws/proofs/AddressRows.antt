@@ -1,16 +1,9 @@
 -- Worked runs of whom transfers are offered to, and a run with one definition changed, on which addressed_law fails.
-use Rattle.std.proofs.Common.{◌≡◌, ℕ, List, [], ◌∷◌, ◌++◌, Option, Some, None, map, refl, ap, arith}
-use Rattle.hex.proofs.OnLiterals.{hex_on_literals}
-use Prim.Native.String.{String}
-use Rattle.rh_defs.specs.declared.transfer.Incoming.{Incoming}
+use Rattle.rh_laws.proofs.Common.{◌≡◌, ℕ, List, [], ◌∷◌, ◌++◌, Option, Some, None, map, refl, ap, arith, hex_on_literals, String, Incoming, Parcel, Desk}
+use Rattle.rh_laws.proofs.Common.{Task, task_at, after, poll_taken, held, fresh, script}
 use Rattle.rh_defs.specs.declared.transfer.Incoming.TheVariants as incoming
-use Rattle.rh_defs.specs.Messages.{Parcel}
-use Rattle.rh_defs.specs.Desk.{Desk, Task, task_at}
-use Rattle.rh_defs.specs.Runs.{after}
 use Rattle.rh_defs.specs.Script
-use Rattle.rh_defs.specs.Step.{poll_taken}
-use Rattle.rh_safety.specs.Held.{held}
-use Rattle.rh_safety.proofs.SafetyRows.{fresh, prefixes, script}
+use Rattle.rh_safety.proofs.SafetyRows.{prefixes}
 use Rattle.rh_laws.specs.Addressed.{AgreesIn, Parties, addressed}
 
 abbrev from_to : ℕ → ℕ → Option Parties

@@ -1,30 +1,12 @@
 -- What holds of a run: each record, each DataSave that is queued and each that was sent last agree with what was offered.
-use Rattle.std.proofs.Common.{◌≡◌, ℕ, ◌+◌, ◌≤◌, Bool, List, [], ◌∷◌, Option, Some, None}
-use Rattle.std.proofs.Common.{refl, sym, subst, inl, inr, arith}
-use Rattle.std.specs.Prelude.{◌==◌, nat_le}
-use Rattle.std.specs.List.{AllByRecursion}
-use Rattle.std.proofs.lemmas.Bool.Decides.{eqb_tells}
-use Rattle.rh_defs.specs.declared.message.Body.{Body}
+use Rattle.rh_laws.proofs.Common.{◌≡◌, ℕ, ◌+◌, ◌≤◌, Bool, List, [], ◌∷◌, Option, Some, None, refl, sym, subst, inl, inr, arith, ◌==◌, nat_le, AllByRecursion}
+use Rattle.rh_laws.proofs.Common.{eqb_tells, Body, EventCode, User, Recorded, Acknowledge, Letter, Outgoing, Incoming, Taking, Parcel, Post, as_returned}
+use Rattle.rh_laws.proofs.Common.{in_id, out_id, with_id, Slot, Desk, Task, edit_task, free_pages, send_letter, with_delivered, with_post, with_sending}
+use Rattle.rh_laws.proofs.Common.{with_slot, with_taking, with_task, ended, OnGrant, chosen, granted, granted-with, all-mono, append-all, Has, at_place}
 use Rattle.rh_defs.specs.declared.message.Body.TheVariants as body
-use Rattle.rh_defs.specs.declared.message.EventCode.{EventCode}
-use Rattle.rh_defs.specs.declared.message.EventCode.TheVariants.{User, Recorded, Acknowledge}
-use Rattle.rh_defs.specs.declared.message.Letter.{Letter}
-use Rattle.rh_defs.specs.declared.transfer.Outgoing.{Outgoing}
 use Rattle.rh_defs.specs.declared.transfer.Outgoing.TheVariants as outgoing
-use Rattle.rh_defs.specs.declared.transfer.Incoming.{Incoming}
 use Rattle.rh_defs.specs.declared.transfer.Incoming.TheVariants as incoming
-use Rattle.rh_defs.specs.declared.transfer.Taking.{Taking}
-use Rattle.rh_defs.specs.Messages.{Parcel}
-use Rattle.rh_defs.specs.Post.{Post, as_returned}
-use Rattle.rh_defs.specs.Records.{dropped, in_id, one_more, out_id, with_id}
-use Rattle.rh_defs.specs.Slot.{Slot}
-use Rattle.rh_defs.specs.Desk.{Desk, Task, edit_task, free_pages, send_letter, with_delivered, with_post, with_sending, with_slot}
-use Rattle.rh_defs.specs.Desk.{with_taking, with_task}
-use Rattle.rh_defs.specs.IncomingEvents.{ended}
-use Rattle.rh_defs.proofs.Chains.{OnGrant, chosen, granted, granted-with}
-use Rattle.rh_defs.proofs.Lists.{all-mono, append-all}
-use Rattle.rh_safety.proofs.Ends.{Has}
-use Rattle.rh_safety.specs.Offered.{at_place}
+use Rattle.rh_defs.specs.Records.{dropped, one_more}
 use Rattle.rh_laws.specs.Addressed.{Addresses, AgreesIn, AgreesOut, From, Parties}
 use Rattle.rh_laws.proofs.Queues.{Left, sent-is}
 

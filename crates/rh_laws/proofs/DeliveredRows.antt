@@ -1,33 +1,19 @@
 -- A worked run of a sender that is told that its file was loaded, and one with a definition changed, on which delivered_law
 -- fails.
-use Rattle.std.proofs.Common.{◌≡◌, false, List, [], ◌∷◌, ◌++◌, Option, Some, None, map, refl}
-use Rattle.std.specs.Prelude.{codes, Ok}
-use Rattle.hex.proofs.OnLiterals.{hex_on_literals}
-use Prim.Native.String.{String}
+use Rattle.rh_laws.proofs.Common.{◌≡◌, false, List, [], ◌∷◌, ◌++◌, Option, Some, None, map, refl, codes, Ok, hex_on_literals, String, User, Asked, Incoming}
+use Rattle.rh_laws.proofs.Common.{Outgoing, ◌>>=◌, or_else, load_ack_letter, Parcel, Desk, Task, send_letter, task_at, with_taking, Handled, ignored, after}
+use Rattle.rh_laws.proofs.Common.{step, held, fresh, script, Rules, landed, run_of}
 use Rattle.rh_defs.specs.declared.message.Action.TheVariants as action
-use Rattle.rh_defs.specs.declared.message.EventCode.TheVariants.{User}
 use Rattle.rh_defs.specs.declared.command.Command.TheVariants as command
 use Rattle.rh_defs.specs.declared.reply.Outcome.TheVariants as outcome
 use Rattle.rh_defs.specs.declared.reply.Reply.TheVariants as reply
-use Rattle.rh_defs.specs.declared.transfer.Asked.{Asked}
-use Rattle.rh_defs.specs.declared.transfer.Incoming.{Incoming}
 use Rattle.rh_defs.specs.declared.transfer.Incoming.TheVariants as incoming
-use Rattle.rh_defs.specs.declared.transfer.Outgoing.{Outgoing}
 use Rattle.rh_defs.specs.declared.transfer.Outgoing.TheVariants as outgoing
-use Rattle.rh_defs.specs.Chain.{◌>>=◌, or_else}
-use Rattle.rh_defs.specs.Letters.{load_ack_letter}
-use Rattle.rh_defs.specs.Messages.{Parcel}
 use Rattle.rh_defs.specs.Receiver as receiver
-use Rattle.rh_defs.specs.Desk.{Desk, Task, send_letter, task_at, with_taking}
-use Rattle.rh_defs.specs.OutgoingEvents.{Handled, ignored}
-use Rattle.rh_defs.specs.Runs.{after}
 use Rattle.rh_defs.specs.Script
-use Rattle.rh_defs.specs.Step.{step}
 use Rattle.rh_safety.specs.Counts.{is_done}
-use Rattle.rh_safety.specs.Held.{held}
 use Rattle.rh_safety.specs.Offered.{offered}
-use Rattle.rh_safety.proofs.SafetyRows.{fresh, script}
-use Rattle.rh_safety.proofs.WrongBodies.{Rules, landed, run_of, step_by}
+use Rattle.rh_safety.proofs.WrongBodies.{step_by}
 
 -- three bytes go by way of the scrap file; the next poll of a tells it that they were loaded
 abbrev loaded_once : List String

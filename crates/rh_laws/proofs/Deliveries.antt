@@ -1,33 +1,14 @@
 -- What holds of a run: to which transfer the messages of its two ends belong, and which transfers were loaded by whom.
-use Rattle.std.proofs.Common.{◌≡◌, ℕ, ◌+◌, ◌≤◌, Bool, true, false, List, [], ◌∷◌, Option, Some, None}
-use Rattle.std.proofs.Common.{refl, sym, subst, ◌∙◌, inl, inr, arith}
-use Rattle.std.specs.Prelude.{◌==◌, if◌then◌else◌, find, IfSome}
-use Rattle.std.specs.List.{AllByRecursion}
-use Rattle.std.proofs.lemmas.Bool.Decides.{eqb_tells}
-use Rattle.rh_defs.specs.declared.message.Body.{Body}
+use Rattle.rh_laws.proofs.Common.{◌≡◌, ℕ, ◌+◌, ◌≤◌, Bool, true, false, List, [], ◌∷◌, Option, Some, None, refl, sym, subst, ◌∙◌, inl, inr, arith, ◌==◌}
+use Rattle.rh_laws.proofs.Common.{if◌then◌else◌, find, IfSome, AllByRecursion, eqb_tells, Body, EventCode, User, Recorded, Acknowledge, Letter, Outgoing}
+use Rattle.rh_laws.proofs.Common.{Incoming, Taking, Parcel, Post, as_returned, Slot, Desk, Task, edit_task, free_pages, send_letter, with_delivered}
+use Rattle.rh_laws.proofs.Common.{with_post, with_sending, with_slot, with_taking, with_task, ended, OnGrant, granted, granted-with, all-mono, append-all}
+use Rattle.rh_laws.proofs.Common.{none_some, Has, at_place}
 use Rattle.rh_defs.specs.declared.message.Body.TheVariants as body
-use Rattle.rh_defs.specs.declared.message.EventCode.{EventCode}
-use Rattle.rh_defs.specs.declared.message.EventCode.TheVariants.{User, Recorded, Acknowledge}
-use Rattle.rh_defs.specs.declared.message.Letter.{Letter}
-use Rattle.rh_defs.specs.declared.transfer.Outgoing.{Outgoing}
 use Rattle.rh_defs.specs.declared.transfer.Outgoing.TheVariants as outgoing
-use Rattle.rh_defs.specs.declared.transfer.Incoming.{Incoming}
 use Rattle.rh_defs.specs.declared.transfer.Incoming.TheVariants as incoming
-use Rattle.rh_defs.specs.declared.transfer.Taking.{Taking}
-use Rattle.rh_defs.specs.Messages.{Parcel}
-use Rattle.rh_defs.specs.Post.{Post, as_returned}
-use Rattle.rh_defs.specs.Slot.{Slot}
-use Rattle.rh_defs.specs.Desk.{Desk, Task, edit_task, free_pages, send_letter, with_delivered, with_post, with_sending, with_slot}
-use Rattle.rh_defs.specs.Desk.{with_taking, with_task}
-use Rattle.rh_defs.specs.IncomingEvents.{ended}
-use Rattle.rh_defs.proofs.Chains.{OnGrant, granted, granted-with}
-use Rattle.rh_defs.proofs.Lists.{all-mono, append-all}
-use Rattle.rh_safety.proofs.Basics.{none_some}
-use Rattle.rh_safety.proofs.Ends.{Has}
-use Rattle.rh_safety.specs.Offered.{at_place}
 use Rattle.rh_laws.proofs.Addresses.{CodeAgrees}
-use Rattle.rh_laws.proofs.Queues.{Left}
-use Rattle.rh_laws.proofs.Queues.{sent-is}
+use Rattle.rh_laws.proofs.Queues.{Left, sent-is}
 
 -- ---- what agrees
 

@@ -1,66 +1,38 @@
 -- Each command keeps what holds of transfers and of the files that were loaded, and what a sender may rely on follows.
-use Rattle.std.proofs.Common.{◌≡◌, ℕ, ◌≤◌, ◌<◌, Bool, true, false, not, List, [], ◌∷◌, ◌++◌, length, map, Option, Some, None}
-use Rattle.std.proofs.Common.{refl, sym, ap, ◌∙◌, subst, inl, inr, arith}
-use Rattle.std.specs.Prelude.{◌==◌, if◌then◌else◌, nat_eq, filter, find, Ok, IfSome}
-use Rattle.std.specs.List.{AllByRecursion}
-use Rattle.std.specs.Option.{option_map}
-use Rattle.std.proofs.lemmas.Bool.Decides.{eqb_tells}
-use Rattle.rh_defs.specs.declared.command.Command.{Command}
+use Rattle.rh_laws.proofs.Common.{◌≡◌, ℕ, ◌≤◌, ◌<◌, Bool, true, false, not, List, [], ◌∷◌, ◌++◌, length, map, Option, Some, None, refl, sym, ap, ◌∙◌, subst}
+use Rattle.rh_laws.proofs.Common.{inl, inr, arith, ◌==◌, if◌then◌else◌, nat_eq, filter, find, Ok, IfSome, AllByRecursion, option_map, eqb_tells, Command}
+use Rattle.rh_laws.proofs.Common.{Manner, Body, EventCode, User, Recorded, Acknowledge, Reply, Incoming, Outgoing, Sending, NothingSent, NotOpen, Granted}
+use Rattle.rh_laws.proofs.Common.{or_else, FileList, IsDesk, Parcel, action_of, Post, post_join, post_poll, all_in_range, in_range, in_id, is_open, out_id}
+use Rattle.rh_laws.proofs.Common.{Desk, Task, has_name, named, next_ref, task_at, with_delivered, Answer, start_task, kill, make, finish_load, came, handled}
+use Rattle.rh_laws.proofs.Common.{after, start_with, save, repeat, poll, poll_taken, cancel_in, cancel_out, change, step, OnGrant, chosen, granted}
+use Rattle.rh_laws.proofs.Common.{granted-past, granted-then, granted-with, or_else-keeps, after-is, start-is, step-keeps, Edits, held, Offers, Has, Ascend}
+use Rattle.rh_laws.proofs.Common.{and_left, and_right, contains_of, first_is, has_of, is_equal, none_some, open_is, same_value, Good, found_name, fits, Fits}
+use Rattle.rh_laws.proofs.Common.{is_found, the_task, keeps, field_is, seen_parcel, view, Changed, IsOnMemory, granted-on, in_areas, in_made, in_module}
+use Rattle.rh_laws.proofs.Common.{in_nothing, in_slot}
 use Rattle.rh_defs.specs.declared.command.Command.TheVariants as command
-use Rattle.rh_defs.specs.declared.command.Manner.{Manner}
 use Rattle.rh_defs.specs.declared.message.Action.TheVariants as action
-use Rattle.rh_defs.specs.declared.message.Body.{Body}
 use Rattle.rh_defs.specs.declared.message.Body.TheVariants as body
-use Rattle.rh_defs.specs.declared.message.EventCode.{EventCode}
-use Rattle.rh_defs.specs.declared.message.EventCode.TheVariants.{User, Recorded, Acknowledge}
 use Rattle.rh_defs.specs.declared.reply.Outcome.TheVariants as outcome
-use Rattle.rh_defs.specs.declared.reply.Reply.{Reply}
 use Rattle.rh_defs.specs.declared.reply.Reply.TheVariants as reply
-use Rattle.rh_defs.specs.declared.transfer.Incoming.{Incoming}
 use Rattle.rh_defs.specs.declared.transfer.Incoming.TheVariants as incoming
-use Rattle.rh_defs.specs.declared.transfer.Outgoing.{Outgoing}
 use Rattle.rh_defs.specs.declared.transfer.Outgoing.TheVariants as outgoing
-use Rattle.rh_defs.specs.declared.transfer.Sending.{Sending}
-use Rattle.rh_defs.specs.declared.refusal.Refusal.TheVariants.{NothingSent, NotOpen}
-use Rattle.rh_defs.specs.Chain.{Granted, or_else}
-use Rattle.rh_defs.specs.Files.{FileList}
-use Rattle.rh_defs.specs.Laws.{IsDesk, IsStart}
-use Rattle.rh_defs.specs.Messages.{Parcel, action_of}
-use Rattle.rh_defs.specs.Post.{Post, post_join, post_poll}
-use Rattle.rh_defs.specs.Range.{all_in_range, in_range}
-use Rattle.rh_defs.specs.Records.{in_id, is_open, most_records, out_id}
+use Rattle.rh_defs.specs.Laws.{IsStart}
+use Rattle.rh_defs.specs.Records.{most_records}
 use Rattle.rh_defs.specs.Sender as sender
 use Rattle.rh_defs.specs.Receiver as receiver
-use Rattle.rh_defs.specs.Desk.{Desk, Task, has_name, named, next_ref, task_at, with_delivered}
-use Rattle.rh_defs.specs.Commands.{Answer, start_task, kill}
-use Rattle.rh_defs.specs.Commands.{make}
-use Rattle.rh_defs.specs.OutgoingEvents.{finish_load}
-use Rattle.rh_defs.specs.Transfer.{came, handled}
-use Rattle.rh_defs.specs.Runs.{after, start_with}
-use Rattle.rh_defs.specs.Step.{save, repeat, poll, poll_taken, cancel_in, cancel_out, change, step}
-use Rattle.rh_defs.proofs.Chains.{OnGrant, chosen, granted, granted-past, granted-then, granted-with, or_else-keeps}
-use Rattle.rh_defs.proofs.Steps.{after-is, start-is, step-keeps}
 use Rattle.rh_safety.specs.Counts.{is_done}
-use Rattle.rh_safety.specs.Held.{Edits, document_of, held, held_of, is_edited}
-use Rattle.rh_safety.specs.Offered.{Offers, offered}
-use Rattle.rh_safety.proofs.Ends.{Has}
-use Rattle.rh_safety.proofs.Basics.{Ascend, and_left, and_right, contains_of, first_is, has_of, is_equal, none_some, one_of_id, open_is, same_value}
+use Rattle.rh_safety.specs.Held.{document_of, held_of, is_edited}
+use Rattle.rh_safety.specs.Offered.{offered}
+use Rattle.rh_safety.proofs.Basics.{one_of_id}
 use Rattle.rh_safety.proofs.HeldCounts.{always_counts_offered}
-use Rattle.rh_safety.proofs.Invariant.{Good}
 use Rattle.rh_safety.proofs.Runs.{start_good}
-use Rattle.rh_safety.proofs.SeenBlocks.{found_name}
-use Rattle.rh_safety.proofs.SeenDesks.{fits}
-use Rattle.rh_safety.proofs.SeenFrames.{Fits, is_found, the_task}
-use Rattle.rh_safety.proofs.SeenLaws.{always_safe, keeps, kept_good}
-use Rattle.rh_safety.proofs.SeenTasks.{field_is}
-use Rattle.rh_safety.proofs.View.{seen_parcel, view}
-use Rattle.rh_safety.proofs.MemoryCommands.{Changed, IsOnMemory, granted-on, in_areas, in_made, in_module, in_nothing, in_slot}
+use Rattle.rh_safety.proofs.SeenLaws.{always_safe, kept_good}
 use Rattle.rh_laws.specs.Delivered.{AlwaysDelivers, HasAll, IsTold}
 use Rattle.rh_laws.proofs.Addresses.{CodeAgrees, all-has, all-more, all-with}
 use Rattle.rh_laws.proofs.Queues.{IsMine, death-left, poll-taken}
-use Rattle.rh_laws.proofs.Deliveries.{Agrees, Comes, Grows, HandleAgrees, InAgrees, LastAgrees, Loaded, Marks, OutAgrees}
-use Rattle.rh_laws.proofs.Deliveries.{ParcelAgrees, Says, back-agrees, delivered-agrees, grows-both, grows-same, ins-agree, marked}
-use Rattle.rh_laws.proofs.Deliveries.{marked-agrees, marked-grows, marked-here, outs-agree, slot-agrees}
+use Rattle.rh_laws.proofs.Deliveries.{Agrees, Comes, Grows, HandleAgrees, InAgrees, LastAgrees, Loaded, Marks, OutAgrees, ParcelAgrees, Says, back-agrees}
+use Rattle.rh_laws.proofs.Deliveries.{delivered-agrees, grows-both, grows-same, ins-agree, marked, marked-agrees, marked-grows, marked-here, outs-agree}
+use Rattle.rh_laws.proofs.Deliveries.{slot-agrees}
 use Rattle.rh_laws.proofs.DeliveryPolls.{IsPast, ParcelAbove, back-above, mine-keeps}
 
 -- ---- tasks by handle

@@ -1,46 +1,21 @@
 -- Each message that a poll handles keeps what holds of transfers and of the files that were loaded.
-use Rattle.std.proofs.Common.{◌≡◌, ℕ, ◌+◌, ◌<◌, Bool, List, [], ◌∷◌, length, Option, Some, None}
-use Rattle.std.proofs.Common.{refl, sym, ap, subst, ◌∙◌, inl, inr, arith}
-use Rattle.std.specs.Prelude.{nat_lt, nat_eq, IfSome}
-use Rattle.std.specs.List.{AllByRecursion}
-use Rattle.std.proofs.lemmas.Bool.Decides.{eqb_tells}
-use Rattle.rh_defs.specs.declared.refusal.Refusal.{Refusal}
-use Rattle.rh_defs.specs.declared.message.Body.{Body}
+use Rattle.rh_laws.proofs.Common.{◌≡◌, ℕ, ◌+◌, ◌<◌, Bool, List, [], ◌∷◌, length, Option, Some, None, refl, sym, ap, subst, ◌∙◌, inl, inr, arith, nat_lt}
+use Rattle.rh_laws.proofs.Common.{nat_eq, IfSome, AllByRecursion, eqb_tells, Refusal, Body, EventCode, User, Recorded, Acknowledge, Asked, Sending, Taking}
+use Rattle.rh_laws.proofs.Common.{Incoming, Outgoing, Split, Flex, Parcel, load_ack_letter, as_returned, active_of, asking_of, in_id, open_of, with_id, Desk}
+use Rattle.rh_laws.proofs.Common.{Task, Scrap, next_ref, with_slot, with_task, Handled, answer_ack, answer_fetch, fail_sending, finish_load, ignored, refused}
+use Rattle.rh_laws.proofs.Common.{save_scrap, transmit, accept, ack_back, appended, ask, ended, fetch_back, fetch_more, load_file, loaded, take_bytes}
+use Rattle.rh_laws.proofs.Common.{take_file, take_save, took, came, came_back, handled, OnGrant, chosen, granted, granted-both, granted-past, granted-then}
+use Rattle.rh_laws.proofs.Common.{granted-unless, granted-with, or_else-keeps, Has, FoundActive, active_is, and_left, and_right, asking_is, drains, fetches}
+use Rattle.rh_laws.proofs.Common.{is_equal, open_is, same_value, any-grant}
 use Rattle.rh_defs.specs.declared.message.Body.TheVariants as body
-use Rattle.rh_defs.specs.declared.message.EventCode.{EventCode}
-use Rattle.rh_defs.specs.declared.message.EventCode.TheVariants.{User, Recorded, Acknowledge}
-use Rattle.rh_defs.specs.declared.transfer.Asked.{Asked}
-use Rattle.rh_defs.specs.declared.transfer.Sending.{Sending}
-use Rattle.rh_defs.specs.declared.transfer.Taking.{Taking}
-use Rattle.rh_defs.specs.declared.transfer.Incoming.{Incoming}
 use Rattle.rh_defs.specs.declared.transfer.Incoming.TheVariants as incoming
-use Rattle.rh_defs.specs.declared.transfer.Outgoing.{Outgoing}
 use Rattle.rh_defs.specs.declared.transfer.Outgoing.TheVariants as outgoing
-use Rattle.rh_defs.specs.Pieces.{Split}
-use Rattle.rh_defs.specs.Slot.{Flex}
-use Rattle.rh_defs.specs.Messages.{Parcel}
-use Rattle.rh_defs.specs.Letters.{load_ack_letter}
-use Rattle.rh_defs.specs.Post.{as_returned}
-use Rattle.rh_defs.specs.Records.{active_of, asking_of, in_id, open_of, with_id}
 use Rattle.rh_defs.specs.Sender as sender
 use Rattle.rh_defs.specs.Receiver as receiver
-use Rattle.rh_defs.specs.Desk.{Desk, Task, Scrap, next_ref, with_slot, with_task}
-use Rattle.rh_defs.specs.OutgoingEvents.{Handled, answer_ack, answer_fetch, fail_sending, finish_load, ignored, refused}
-use Rattle.rh_defs.specs.OutgoingEvents.{save_scrap, transmit}
-use Rattle.rh_defs.specs.IncomingEvents.{accept, ack_back, appended, ask, ended, fetch_back, fetch_more, load_file, loaded}
-use Rattle.rh_defs.specs.IncomingEvents.{take_bytes, take_file, take_save, took}
-use Rattle.rh_defs.specs.Transfer.{came, came_back, handled}
-use Rattle.rh_defs.proofs.Chains.{OnGrant, chosen, granted, granted-both, granted-past, granted-then, granted-unless, granted-with}
-use Rattle.rh_defs.proofs.Chains.{or_else-keeps}
-use Rattle.rh_safety.proofs.Ends.{Has}
-use Rattle.rh_safety.proofs.Basics.{FoundActive, active_is, and_left, and_right, asking_is, drains, fetches, is_equal, open_is}
-use Rattle.rh_safety.proofs.Basics.{same_value}
 use Rattle.rh_laws.proofs.Addresses.{CodeAgrees, all-has, all-more, all-with}
-use Rattle.rh_laws.proofs.Deliveries.{Agrees, Comes, Grows, HandleAgrees, InAgrees, Ins, Marks, OutAgrees}
-use Rattle.rh_laws.proofs.Deliveries.{ParcelAgrees, Says, Unloaded, ended-agrees, grows-same, ins-agree, letter-agrees, marked}
-use Rattle.rh_laws.proofs.Deliveries.{ins-become, marked-agrees, marked-grows, marked-here, outs-agree, plain-agrees, says-grows, slot-agrees}
-use Rattle.rh_laws.proofs.Deliveries.{task-agrees, tasks-grow}
-use Rattle.rh_safety.proofs.OwnEdits.{any-grant}
+use Rattle.rh_laws.proofs.Deliveries.{Agrees, Comes, Grows, HandleAgrees, InAgrees, Ins, Marks, OutAgrees, ParcelAgrees, Says, Unloaded, ended-agrees}
+use Rattle.rh_laws.proofs.Deliveries.{grows-same, ins-agree, letter-agrees, marked, ins-become, marked-agrees, marked-grows, marked-here, outs-agree}
+use Rattle.rh_laws.proofs.Deliveries.{plain-agrees, says-grows, slot-agrees, task-agrees, tasks-grow}
 
 -- after a message was handled, all agree with what is then known
 pub record Keeps (a : Marks) (x : Handled) : Type 0 where

@@ -1,61 +1,34 @@
 -- A poll leaves other tasks as they were, but for the first bytes of one buffer.
-use Rattle.std.proofs.Common.{◌≡◌, ◌≢◌, ℕ, Bool, true, false, List, [], length, take, drop, Option, Some, None}
-use Rattle.std.proofs.Common.{refl, sym, ap, ◌∙◌, subst, ◌⊎◌, inl, inr, arith}
-use Rattle.std.specs.Prelude.{◌-◌, ◌==◌, min, nat_lt, Ok}
-use Rattle.std.specs.Option.{option_map}
-use Rattle.std.proofs.lemmas.Bool.Decides.{eqb_tells}
-use Rattle.rh_defs.specs.declared.refusal.Refusal.{Refusal}
-use Rattle.rh_defs.specs.declared.refusal.Refusal.TheVariants.{NoTask}
-use Rattle.rh_defs.specs.declared.command.Command.{Command}
+use Rattle.rh_laws.proofs.Common.{◌≡◌, ◌≢◌, ℕ, Bool, true, false, List, [], length, take, drop, Option, Some, None, refl, sym, ap, ◌∙◌, subst, ◌⊎◌, inl, inr}
+use Rattle.rh_laws.proofs.Common.{arith, ◌-◌, ◌==◌, min, nat_lt, Ok, option_map, eqb_tells, Refusal, NoTask, Command, Body, EventCode, User, Recorded}
+use Rattle.rh_laws.proofs.Common.{Acknowledge, Sending, Taking, Incoming, Outgoing, found_or, Split, bytes_of, Flex, heap_block_at, slot_block, buffer_at}
+use Rattle.rh_laws.proofs.Common.{with_heap_bytes, written_in, Parcel, post_poll, Desk, Task, named, next_ref, send_letter, task_at, with_delivered}
+use Rattle.rh_laws.proofs.Common.{with_sending, with_task, Handled, answer_fetch, ignored, portion, transmit, answers_none, came, handled, Answer, event}
+use Rattle.rh_laws.proofs.Common.{poll, poll_taken, step, Active, Has, buffers_of, task_of, view, contains_of, either, first_is, is_equal, open_is, Good}
+use Rattle.rh_laws.proofs.Common.{found_name, ok_is, Fits, is_found, the_task, field_is, live_of}
 use Rattle.rh_defs.specs.declared.command.Command.TheVariants as command
-use Rattle.rh_defs.specs.declared.message.Body.{Body}
 use Rattle.rh_defs.specs.declared.message.Body.TheVariants as body
-use Rattle.rh_defs.specs.declared.message.EventCode.{EventCode}
-use Rattle.rh_defs.specs.declared.message.EventCode.TheVariants.{User, Recorded, Acknowledge}
 use Rattle.rh_defs.specs.declared.reply.Outcome.TheVariants as outcome
-use Rattle.rh_defs.specs.declared.transfer.Sending.{Sending}
-use Rattle.rh_defs.specs.declared.transfer.Taking.{Taking}
-use Rattle.rh_defs.specs.declared.transfer.Incoming.{Incoming}
 use Rattle.rh_defs.specs.declared.transfer.Incoming.TheVariants as incoming
-use Rattle.rh_defs.specs.declared.transfer.Outgoing.{Outgoing}
 use Rattle.rh_defs.specs.declared.transfer.Outgoing.TheVariants as outgoing
-use Rattle.rh_defs.specs.Chain.{found_or}
-use Rattle.rh_defs.specs.Pieces.{Split}
-use Rattle.rh_defs.specs.Heap.{bytes_of}
-use Rattle.rh_defs.specs.Slot.{Flex, heap_block_at, slot_block}
-use Rattle.rh_defs.specs.Places.{buffer_at, with_heap_bytes, written_in}
-use Rattle.rh_defs.specs.Messages.{Parcel}
 use Rattle.rh_defs.specs.Letters.{transmit_letter}
-use Rattle.rh_defs.specs.Post.{post_poll}
 use Rattle.rh_defs.specs.Sender as sender
-use Rattle.rh_defs.specs.Desk.{Desk, Task, named, next_ref, send_letter, task_at, with_delivered, with_sending}
-use Rattle.rh_defs.specs.Desk.{with_task}
-use Rattle.rh_defs.specs.OutgoingEvents.{Handled, answer_fetch, ignored, portion}
-use Rattle.rh_defs.specs.OutgoingEvents.{transmit}
-use Rattle.rh_defs.specs.Transfer.{answers_none, came, handled}
-use Rattle.rh_defs.specs.Commands.{Answer}
-use Rattle.rh_defs.specs.Step.{event, poll, poll_taken, step}
 use Rattle.rh_defs.proofs.Chains.{grant-holds}
-use Rattle.rh_safety.proofs.Ends.{Active, Has}
-use Rattle.rh_safety.proofs.View.{buffers_of, task_of, view}
-use Rattle.rh_safety.proofs.Basics.{contains_of, either, first_is, is_equal, open_is}
-use Rattle.rh_safety.proofs.Invariant.{Good, Offered}
+use Rattle.rh_safety.proofs.Invariant.{Offered}
 use Rattle.rh_safety.proofs.KeptFetch.{Reaches, fetch_in, reaches}
 use Rattle.rh_safety.proofs.KeptPolls.{Given, given}
-use Rattle.rh_safety.proofs.OwnEdits.{Did, OwnEdits, answer_ack-own, came_back-own, finish_load-own, ignored-own, refused-own}
-use Rattle.rh_safety.proofs.OwnEdits.{take_bytes-own, take_file-own, take_save-own}
+use Rattle.rh_safety.proofs.OwnEdits.{Did, OwnEdits, answer_ack-own, came_back-own, finish_load-own, ignored-own, refused-own, take_bytes-own, take_file-own}
+use Rattle.rh_safety.proofs.OwnEdits.{take_save-own}
 use Rattle.rh_safety.proofs.Polls.{Taken, Waiter}
-use Rattle.rh_safety.proofs.SeenBlocks.{found_name, from_test, ok_is, the_block}
+use Rattle.rh_safety.proofs.SeenBlocks.{from_test, the_block}
 use Rattle.rh_safety.proofs.SeenDocuments.{letter_of}
-use Rattle.rh_safety.proofs.SeenFrames.{Fits, bind, done, instead_of, is_found, the_task}
+use Rattle.rh_safety.proofs.SeenFrames.{bind, done, instead_of}
 use Rattle.rh_safety.proofs.SeenSends.{by_grant, with_step}
 use Rattle.rh_safety.proofs.SeenTaking.{poll_taken_is}
-use Rattle.rh_safety.proofs.SeenTasks.{field_is, live_of}
 use Rattle.rh_safety.proofs.SeenWrites.{buffer_found}
 use Rattle.rh_safety.specs.TaskRecords.{HoldsOne}
 use Rattle.rh_laws.specs.Frame.{FillsBuffer, KeepsBlocks, PollsFill, actor, flex_blocks, handle_of, poller}
-use Rattle.rh_laws.proofs.Frames.{Leaves, both-leave, edit-own, ins-leave, leaves-others}
-use Rattle.rh_laws.proofs.Frames.{letter-leaves, other-task, outs-leave, task-leaves}
+use Rattle.rh_laws.proofs.Frames.{Leaves, both-leave, edit-own, ins-leave, leaves-others, letter-leaves, other-task, outs-leave, task-leaves}
 
 -- ---- messages that leave another task
 

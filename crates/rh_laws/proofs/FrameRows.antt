@@ -1,31 +1,15 @@
 -- Worked runs of what commands leave of other tasks, and runs with one definition changed, on which frame_law fails.
-use Rattle.std.proofs.Common.{◌≡◌, ℕ, List, [], ◌∷◌, ◌++◌, Option, Some, None, map, refl, sym, ap, ◌∙◌, subst, inl, inr}
-use Rattle.std.specs.Prelude.{nat_lt, codes, filter, find, Ok}
-use Rattle.std.specs.Option.{option_map}
-use Rattle.hex.proofs.OnLiterals.{hex_on_literals}
-use Prim.Native.String.{String}
-use Rattle.rh_defs.specs.declared.refusal.Refusal.TheVariants.{NotOpen}
-use Rattle.rh_defs.specs.declared.reply.Reply.{Reply}
+use Rattle.rh_laws.proofs.Common.{◌≡◌, ℕ, List, [], ◌∷◌, ◌++◌, Option, Some, None, map, refl, sym, ap, ◌∙◌, subst, inl, inr, nat_lt, codes, filter, find, Ok}
+use Rattle.rh_laws.proofs.Common.{option_map, hex_on_literals, String, NotOpen, Reply, Taking, Incoming, Granted, ◌>>=◌, found_or, or_else, Segment, Used}
+use Rattle.rh_laws.proofs.Common.{in_id, with_id, Desk, Task, named, task_at, with_taking, Answer, kill, after, step, Has, has_of, fresh, script, Rules}
+use Rattle.rh_laws.proofs.Common.{landed, run_of}
 use Rattle.rh_defs.specs.declared.reply.Reply.TheVariants as reply
 use Rattle.rh_defs.specs.declared.command.Command.TheVariants as command
-use Rattle.rh_defs.specs.declared.transfer.Taking.{Taking}
-use Rattle.rh_defs.specs.declared.transfer.Incoming.{Incoming}
 use Rattle.rh_defs.specs.declared.transfer.Incoming.TheVariants as incoming
-use Rattle.rh_defs.specs.Chain.{Granted, ◌>>=◌, found_or, or_else}
-use Rattle.rh_defs.specs.Heap.{Segment, Used}
 use Rattle.rh_defs.specs.Receiver as receiver
-use Rattle.rh_defs.specs.Records.{in_id, with_id}
-use Rattle.rh_defs.specs.Desk.{Desk, Task, named, task_at, with_taking}
-use Rattle.rh_defs.specs.Commands.{Answer, kill}
 use Rattle.rh_defs.specs.IncomingEvents.{end_failed}
-use Rattle.rh_defs.specs.Runs.{after}
 use Rattle.rh_defs.specs.Script
-use Rattle.rh_defs.specs.Step.{step}
 use Rattle.rh_safety.specs.TaskRecords.{HoldsOne}
-use Rattle.rh_safety.proofs.Ends.{Has}
-use Rattle.rh_safety.proofs.Basics.{has_of}
-use Rattle.rh_safety.proofs.SafetyRows.{fresh, script}
-use Rattle.rh_safety.proofs.WrongBodies.{Rules, landed, run_of}
 use Rattle.rh_laws.specs.Frame.{FillsBuffer, actor, sent_in}
 
 -- ---- a fetch that is answered

@@ -1,28 +1,12 @@
 -- Edits of one task leave the others, and so does each command that isn't of them and no poll.
-use Rattle.std.proofs.Common.{◌≡◌, ◌≢◌, ℕ, true, false, not, List, [], ◌∷◌, ◌++◌, Option, Some, None}
-use Rattle.std.proofs.Common.{refl, ap, ◌∙◌, inl, inr, arith}
-use Rattle.std.specs.Prelude.{nat_eq, ◌==◌, if◌then◌else◌, filter, find, Ok}
-use Rattle.std.specs.Option.{option_map}
-use Rattle.std.proofs.lemmas.Bool.Decides.{eqb_tells}
-use Rattle.rh_defs.specs.declared.command.Command.{Command}
+use Rattle.rh_laws.proofs.Common.{◌≡◌, ◌≢◌, ℕ, true, false, not, List, [], ◌∷◌, ◌++◌, Option, Some, None, refl, ap, ◌∙◌, inl, inr, arith, nat_eq, ◌==◌}
+use Rattle.rh_laws.proofs.Common.{if◌then◌else◌, filter, find, Ok, option_map, eqb_tells, Command, Manner, Letter, Taking, Outgoing, Incoming, Slot, Desk}
+use Rattle.rh_laws.proofs.Common.{Task, edit_task, has_name, named, send_letter, task_at, with_delivered, with_sending, with_slot, with_taking, with_task}
+use Rattle.rh_laws.proofs.Common.{Answer, start_task, kill, make, ended, save, repeat, poll, cancel_in, cancel_out, change, step, OnGrant, granted}
+use Rattle.rh_laws.proofs.Common.{granted-past, granted-then, granted-with, or_else-keeps, none_some, found_name, task_of, Changed, IsOnMemory, granted-on}
+use Rattle.rh_laws.proofs.Common.{in_areas, in_made, in_module, in_nothing, in_slot}
 use Rattle.rh_defs.specs.declared.command.Command.TheVariants as command
-use Rattle.rh_defs.specs.declared.command.Manner.{Manner}
-use Rattle.rh_defs.specs.declared.message.Letter.{Letter}
-use Rattle.rh_defs.specs.declared.transfer.Taking.{Taking}
-use Rattle.rh_defs.specs.declared.transfer.Outgoing.{Outgoing}
-use Rattle.rh_defs.specs.declared.transfer.Incoming.{Incoming}
-use Rattle.rh_defs.specs.Slot.{Slot}
-use Rattle.rh_defs.specs.Desk.{Desk, Task, edit_task, has_name, named, send_letter, task_at, with_delivered}
-use Rattle.rh_defs.specs.Desk.{with_sending, with_slot, with_taking, with_task}
-use Rattle.rh_defs.specs.Commands.{Answer, start_task, kill}
-use Rattle.rh_defs.specs.Commands.{make}
-use Rattle.rh_defs.specs.IncomingEvents.{ended}
-use Rattle.rh_defs.specs.Step.{save, repeat, poll, cancel_in, cancel_out, change, step}
-use Rattle.rh_defs.proofs.Chains.{OnGrant, granted, granted-past, granted-then, granted-with, or_else-keeps}
-use Rattle.rh_safety.proofs.Basics.{none_some}
-use Rattle.rh_safety.proofs.SeenBlocks.{found_name}
-use Rattle.rh_safety.proofs.View.{task_of}
-use Rattle.rh_safety.proofs.MemoryCommands.{Changed, IsOnMemory, granted-on, in_areas, in_made, in_module, in_nothing, in_slot, slot_name}
+use Rattle.rh_safety.proofs.MemoryCommands.{slot_name}
 use Rattle.rh_laws.specs.Frame.{actor, handle_of, poller, LeavesOthers}
 
 -- ---- lists of tasks

@@ -1,32 +1,25 @@
 -- Claims on a desk, by the description of the task's heap.
-use Rattle.std.proofs.Common.{◌≡◌, ℕ, zero, suc, ◌+◌, ◌-◌, ◌≤◌, ◌<◌, Bool, true, false, cond, List, [], ◌∷◌}
-use Rattle.std.proofs.Common.{length, inl, inr, refl, sym, ap, subst, ◌∙◌, arith}
-use Rattle.std.specs.Prelude.{find, is_none, nat_le, nat_lt, not, ◌==◌, ◌&&◌, Ok, Err, Option, Some}
-use Rattle.std.specs.Prelude.{None, IfSome}
-use Rattle.std.proofs.lemmas.Bool.Decides.{leb_tells, eqb_tells}
-use Rattle.std.proofs.lemmas.List.{length-replicate}
+use Rattle.rh_laws.proofs.Common.{◌≡◌, ℕ, zero, suc, ◌+◌, ◌-◌, ◌≤◌, ◌<◌, Bool, true, false, cond, List, [], ◌∷◌, length, inl, inr, refl, sym, ap, subst, ◌∙◌}
+use Rattle.rh_laws.proofs.Common.{arith, find, is_none, nat_le, nat_lt, not, ◌==◌, ◌&&◌, Ok, Err, Option, Some, None, IfSome, leb_tells, eqb_tells}
+use Rattle.rh_laws.proofs.Common.{length-replicate, NoName, BadSize, NoBudge, NoRoom, Granted, ◌>>=◌, found_or, or_else, Split, lacks_pages, total, zeros}
+use Rattle.rh_laws.proofs.Common.{Segment, Used, Hole, Heap, block_room, claim_growing, first_place, free_bytes, hole_for, is_hole_for, largest, need}
+use Rattle.rh_laws.proofs.Common.{placed_in, raised, segment_size, size_of, Slot, slot_claim, with_placed, Desk, Task, edit_task, free_pages, has_name, named}
+use Rattle.rh_laws.proofs.Common.{with_slot, with_task, Answer, claim, heap, IsDesk, OnGrant, granted, granted-unless, eqb_apart, eqb_same, leb_no, leb_yes}
+use Rattle.rh_laws.proofs.Common.{all-mono}
 use Rattle.rh_defs.specs.declared.sizes.TheConstants.{PAGE}
-use Rattle.rh_defs.specs.declared.refusal.Refusal.TheVariants.{NoName, BadSize, NoBudge, NoRoom}
 use Rattle.rh_defs.specs.declared.reply.Reply.TheVariants as reply
-use Rattle.rh_defs.specs.Chain.{Granted, ◌>>=◌, found_or, or_else}
-use Rattle.rh_defs.specs.Pieces.{Split, lacks_pages, round_up, total, zeros}
-use Rattle.rh_defs.specs.Heap.{Segment, Used, Hole, Heap, IsHeap, block_room, claim_growing, first_place, free_bytes}
-use Rattle.rh_defs.specs.Heap.{hole_for, is_hole_for, largest, need, placed_in, raised, segment_size, size_of}
-use Rattle.rh_defs.specs.Heap.{with_hole}
-use Rattle.rh_defs.specs.Slot.{Slot, IsSlot, is_stuck, slot_claim, with_placed}
-use Rattle.rh_defs.specs.Desk.{Desk, Task, edit_task, free_pages, has_name, named, with_slot, with_task}
-use Rattle.rh_defs.specs.Commands.{Answer, claim}
-use Rattle.rh_defs.specs.Questions.{heap}
-use Rattle.rh_defs.specs.Laws.{Always, IsDesk}
-use Rattle.rh_defs.proofs.Chains.{OnGrant, granted, refused, granted-unless, refuse_if-true, refuse_if-false}
+use Rattle.rh_defs.specs.Pieces.{round_up}
+use Rattle.rh_defs.specs.Heap.{IsHeap, with_hole}
+use Rattle.rh_defs.specs.Slot.{IsSlot, is_stuck}
+use Rattle.rh_defs.specs.Laws.{Always}
+use Rattle.rh_defs.proofs.Chains.{refused, refuse_if-true, refuse_if-false}
 use Rattle.rh_defs.proofs.HeapKeeps.{claim_growing-heap}
-use Rattle.rh_defs.proofs.HeapLists.{IsCut, eqb_apart, eqb_same, first_at-cuts, leb_no, leb_yes, ltb_no, sum-append}
-use Rattle.rh_defs.proofs.Lists.{all-mono, find-all, number-finds}
+use Rattle.rh_defs.proofs.HeapLists.{IsCut, first_at-cuts, ltb_no, sum-append}
+use Rattle.rh_defs.proofs.Lists.{find-all, number-finds}
 use Rattle.rh_defs.proofs.ModuleKeeps.{claim_growing-end}
 use Rattle.rh_defs.proofs.Spaced.{always-is}
 use Rattle.rh_laws.specs.RefusalOrder.{refusal_in}
-use Rattle.rh_laws.specs.HonestHeaps.{ClaimsAsDescribed, HasHonestHeaps, claimed, described, free_in, has_size}
-use Rattle.rh_laws.specs.HonestHeaps.{used_bytes, used_size}
+use Rattle.rh_laws.specs.HonestHeaps.{ClaimsAsDescribed, HasHonestHeaps, claimed, described, free_in, has_size, used_bytes, used_size}
 use Rattle.rh_laws.proofs.HonestHeapLaws.{honest, need-none, need-some}
 
 -- ---- a block takes its bytes

@@ -1,15 +1,10 @@
 -- The description of a heap, by its segments.
-use Rattle.std.proofs.Common.{◌≡◌, ℕ, ◌+◌, ◌-◌, ◌%◌, ◌≤◌, ◌<◌, Bool, true, false, cond, List}
-use Rattle.std.proofs.Common.{[], ◌∷◌, inl, inr, refl, sym, ap, ◌∙◌, arith}
-use Rattle.std.specs.Prelude.{is_ok, nat_le, ◌==◌, ◌&&◌, Result, Ok, Err, if◌then◌else◌}
-use Rattle.std.proofs.lemmas.Bool.Decides.{leb_tells, eqb_tells}
+use Rattle.rh_laws.proofs.Common.{◌≡◌, ℕ, ◌+◌, ◌-◌, ◌%◌, ◌≤◌, ◌<◌, Bool, true, false, cond, List, [], ◌∷◌, inl, inr, refl, sym, ap, ◌∙◌, arith, is_ok, nat_le}
+use Rattle.rh_laws.proofs.Common.{◌==◌, ◌&&◌, Result, Ok, Err, if◌then◌else◌, leb_tells, eqb_tells, total, zeros, Segment, Used, Hole, Heap, base, block_room}
+use Rattle.rh_laws.proofs.Common.{hole_size, largest, largest_hole, need, segment_size, size_of, leb_yes, leb_no, eqb_same, eqb_apart}
 use Rattle.rh_defs.specs.declared.heap.HeapRefusal.{HeapRefusal}
 use Rattle.rh_defs.specs.declared.heap.HeapRefusal.TheVariants.{BadSize, NoRoom}
-use Rattle.rh_defs.specs.Pieces.{total, zeros}
-use Rattle.rh_defs.specs.Heap.{Segment, Used, Hole, Heap, IsHeap, IsTidy, as_granted, base, block_room, claim}
-use Rattle.rh_defs.specs.Heap.{hole_size, largest, largest_hole, need, placed, segment_size}
-use Rattle.rh_defs.specs.Heap.{size_of}
-use Rattle.rh_defs.proofs.HeapLists.{leb_yes, leb_no, eqb_same, eqb_apart}
+use Rattle.rh_defs.specs.Heap.{IsHeap, IsTidy, as_granted, claim, placed}
 use Rattle.rh_laws.specs.HonestHeaps.{AreHonest, used_size}
 use Rattle.rh_laws.proofs.RefusalRoomLaws.{need-short}
 

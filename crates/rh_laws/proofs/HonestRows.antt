@@ -1,16 +1,12 @@
 -- Worked descriptions of heaps, and changed definitions of which the law doesn't hold.
-use Rattle.std.specs.Prelude.{◌≡◌, refl, ℕ, ◌+◌, ◌-◌, true, false, nat_le, ◌==◌, max, if◌then◌else◌}
-use Rattle.std.specs.Prelude.{[], ◌∷◌, codes, None, Result, Ok, Err, is_ok}
+use Rattle.rh_laws.proofs.Common.{◌≡◌, refl, ℕ, ◌+◌, ◌-◌, true, false, nat_le, ◌==◌, max, if◌then◌else◌, [], ◌∷◌, codes, None, Result, Ok, Err, is_ok, total}
+use Rattle.rh_laws.proofs.Common.{zeros, Heap, Used, Hole, base, block_room, first_place, free_bytes, hole_size, largest, largest_hole, placed_in}
+use Rattle.rh_laws.proofs.Common.{segment_size, Desk, after, fresh, script}
 use Rattle.rh_defs.specs.declared.heap.HeapRefusal.{HeapRefusal}
 use Rattle.rh_defs.specs.declared.heap.HeapRefusal.TheVariants.{BadSize, NoRoom}
 use Rattle.rh_defs.specs.declared.reply.Reply.TheVariants as reply
-use Rattle.rh_defs.specs.Pieces.{total, zeros}
-use Rattle.rh_defs.specs.Heap.{Heap, Used, Hole, as_granted, base, block_room, claim, first_place, free_bytes}
-use Rattle.rh_defs.specs.Heap.{hole_size, largest, largest_hole, placed_in, segment_size}
-use Rattle.rh_defs.specs.Desk.{Desk}
-use Rattle.rh_defs.specs.Runs.{after}
+use Rattle.rh_defs.specs.Heap.{as_granted, claim}
 use Rattle.rh_defs.specs.Script
-use Rattle.rh_safety.proofs.SafetyRows.{fresh, script}
 use Rattle.rh_laws.specs.HonestHeaps.{claimed, described, is_granted_within, used_bytes}
 
 -- ---- a heap of 56 bytes: blocks of 12 and 4 bytes with a hole of 8 between them, and a top of 8

@@ -1,20 +1,14 @@
 -- A printed number is not longer than the digits that it was read from.
-use Rattle.std.proofs.Common.{◌≡◌, ℕ, suc, ◌+◌, ◌*◌, ◌^◌, ◌<◌, ◌≤◌, Bool, true, false, ◌&&◌, List, [], ◌∷◌, length}
-use Rattle.std.proofs.Common.{refl, ap, arith, lit≤}
-use Rattle.std.specs.Prelude.{nat_le, nat_lt, fold, unwrap_or}
-use Rattle.std.specs.List.{list_all}
-use Rattle.std.specs.Char.{is_ascii_digit, digit_value}
-use Rattle.std.specs.Fmt.{decimal, digits}
+use Rattle.rh_laws.proofs.Common.{◌≡◌, ℕ, suc, ◌+◌, ◌*◌, ◌^◌, ◌<◌, ◌≤◌, Bool, true, false, ◌&&◌, List, [], ◌∷◌, length, refl, ap, arith, lit≤, nat_le, nat_lt}
+use Rattle.rh_laws.proofs.Common.{fold, unwrap_or, list_all, is_ascii_digit, decimal, digits, nat_tests, is_decimal, number_of, hex_number, and_left}
+use Rattle.rh_laws.proofs.Common.{and_right}
+use Rattle.std.specs.Char.{digit_value}
 use Rattle.std.specs.Str.Parse.{AllDigits, digits_value}
 use Rattle.std.proofs.Math.Nat.{pow-zero, pow-succ', pow-le-pow_right, mul-le-mul_right}
-use Rattle.std.proofs.lemmas.Bool.Decides.{nat_tests}
 use Rattle.std.proofs.lemmas.Fmt.{length-decimal-le}
 use Rattle.std.proofs.lemmas.Str.{digit_value_digit}
 use Rattle.std.proofs.lemmas.Int.Digits.{digits_value-lt}
 use Rattle.hex.specs.Hex.{hex_digit_value}
-use Rattle.rh_defs.specs.Forms.{is_decimal, number_of}
-use Rattle.rh_defs.specs.Line.{hex_number}
-use Rattle.rh_safety.proofs.Basics.{and_left, and_right}
 use Rattle.rh_laws.proofs.Numbers.{value_tells, onto_most}
 
 -- ---- decimal digits

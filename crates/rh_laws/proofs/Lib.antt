@@ -52,3 +52,4 @@ pub mod AccountSlots
 pub mod AccountPolls
 pub mod AccountLaws
 pub mod AccountRows
+pub mod Common

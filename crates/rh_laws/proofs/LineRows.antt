@@ -1,24 +1,14 @@
 -- Each command at its row of the table: its printed line means it, and is no longer than any other that does.
-use Rattle.std.proofs.Common.{◌≡◌, ℕ, ◌+◌, Bool, true, false, ◌&&◌, List, [], ◌∷◌, ◌++◌, length, refl, arith}
-use Rattle.std.specs.Prelude.{nat_le, Option, Some, None, Ok, slice_index_or, codes}
-use Rattle.std.specs.List.{list_all, join_with_byte}
-use Rattle.std.specs.Fmt.{decimal}
-use Rattle.std.proofs.lemmas.Bool.Decides.{nat_tests}
-use Rattle.rh_defs.specs.declared.command.Command.{Command}
+use Rattle.rh_laws.proofs.Common.{◌≡◌, ℕ, ◌+◌, Bool, true, false, ◌&&◌, List, [], ◌∷◌, ◌++◌, length, refl, arith, nat_le, Option, Some, None, Ok}
+use Rattle.rh_laws.proofs.Common.{slice_index_or, codes, list_all, join_with_byte, decimal, nat_tests, Command, Unknown, space, is_name, is_delta, is_leaf}
+use Rattle.rh_laws.proofs.Common.{Number, Choice, Maybe, Row, rows, row_of, is_skipped, longest_line, line_means, in_range, and_left, and_right}
 use Rattle.rh_defs.specs.declared.command.Command.TheVariants as command
 use Rattle.rh_defs.specs.declared.command.Manner.TheVariants as manner
-use Rattle.rh_defs.specs.declared.fault.LineFault.TheVariants.{Unknown}
 use Rattle.rh_defs.specs.declared.question.Question.TheVariants as question
-use Rattle.rh_defs.specs.Bytes.{space}
-use Rattle.rh_defs.specs.Forms.{is_name, is_anchor, is_number, is_delta, is_buffer, is_leaf, is_area, is_made}
-use Rattle.rh_defs.specs.Forms.{is_most, longest_buffer, last_ref, first_made, last_made, most_pages}
-use Rattle.rh_defs.specs.Grammar.{Number, Choice, Maybe, Row, Anchor, Size, cancel_of, manner_of, rows}
-use Rattle.rh_defs.specs.Line.{row_of, is_skipped, longest_line, line_means}
-use Rattle.rh_defs.specs.Range.{in_range}
-use Rattle.rh_safety.proofs.Basics.{and_left, and_right}
+use Rattle.rh_defs.specs.Forms.{is_anchor, is_number, is_buffer, is_area, is_made, is_most, longest_buffer, last_ref, first_made, last_made, most_pages}
+use Rattle.rh_defs.specs.Grammar.{Anchor, Size, cancel_of, manner_of}
 use Rattle.rh_laws.specs.Printer.{command_words, has_sizes, line_of, fits_a_line, AreRead, AreSpelled}
-use Rattle.rh_laws.proofs.Texts.{Values, texts, made, is_readable, are_readable, printed, is_clear_row, row_spells}
-use Rattle.rh_laws.proofs.Texts.{text}
+use Rattle.rh_laws.proofs.Texts.{Values, texts, made, is_readable, are_readable, printed, is_clear_row, row_spells, text}
 use Rattle.rh_laws.proofs.Spelled.{cost, is_sized, is_proper, has_byte, Writes, RowWrites, AllWrite, all-spelled}
 use Rattle.rh_laws.proofs.Words.{line_joined}
 

@@ -1,20 +1,15 @@
 -- What a printed number reads as.
-use Rattle.std.proofs.Common.{◌≡◌, ℕ, zero, suc, ◌+◌, ◌-◌, ◌*◌, ◌/◌, ◌%◌, ◌^◌, ◌<◌, ◌≤◌, Bool, true, false, ◌&&◌}
-use Rattle.std.proofs.Common.{eqb-true, List, [], ◌∷◌, length, refl, subst, ◌∙◌, ap, arith, inl, inr}
-use Rattle.std.specs.Prelude.{fold, ◌==◌, unwrap_or}
-use Rattle.std.specs.List.{list_all}
-use Rattle.std.specs.Char.{is_ascii_digit, digit_value}
-use Rattle.std.specs.Fmt.{decimal, digits, digits_onto, digit_glyph}
+use Rattle.rh_laws.proofs.Common.{◌≡◌, ℕ, zero, suc, ◌+◌, ◌-◌, ◌*◌, ◌/◌, ◌%◌, ◌^◌, ◌<◌, ◌≤◌, Bool, true, false, ◌&&◌, eqb-true, List, [], ◌∷◌, length, refl}
+use Rattle.rh_laws.proofs.Common.{subst, ◌∙◌, ap, arith, inl, inr, fold, ◌==◌, unwrap_or, list_all, is_ascii_digit, decimal, digits, nat_tests, is_decimal}
+use Rattle.rh_laws.proofs.Common.{number_of, hex_number, and_left, and_right}
+use Rattle.std.specs.Char.{digit_value}
+use Rattle.std.specs.Fmt.{digits_onto, digit_glyph}
 use Rattle.std.specs.Str.Parse.{AllDigits, digits_value_after}
-use Rattle.std.proofs.lemmas.Bool.Decides.{nat_tests}
 use Rattle.std.proofs.lemmas.Bool.{cases_lt}
 use Rattle.std.proofs.lemmas.Fmt.{decimal_is_IsNumeral, length-decimal-le}
 use Rattle.std.proofs.lemmas.Str.{digit_value_digit}
 use Rattle.std.proofs.lemmas.Str.Parse.{digit_from_value}
 use Rattle.hex.specs.Hex.{hex_digit_value, is_hex_digit}
-use Rattle.rh_defs.specs.Forms.{is_decimal, number_of}
-use Rattle.rh_defs.specs.Line.{hex_number}
-use Rattle.rh_safety.proofs.Basics.{and_left, and_right}
 use Rattle.rh_laws.proofs.Words.{is_whole, is_inner, all_pass}
 
 -- ---- decimal digits

@@ -1,15 +1,11 @@
 -- Printed lines, worked; and what a printer must not do.
-use Rattle.std.proofs.Common.{◌≡◌, true, false, [], ◌∷◌, refl}
-use Rattle.std.specs.Prelude.{pos, negsuc, Some, Ok, Err, codes}
+use Rattle.rh_laws.proofs.Common.{◌≡◌, true, false, [], ◌∷◌, refl, pos, negsuc, Some, Ok, Err, codes, digits, line_means, in_range, address}
 use Rattle.std.specs.List.{repeat}
-use Rattle.std.specs.Fmt.{digits}
 use Rattle.hex.specs.Hex.{encode_with}
 use Rattle.rh_defs.specs.declared.command.Command.TheVariants as command
 use Rattle.rh_defs.specs.declared.command.Manner.TheVariants as manner
 use Rattle.rh_defs.specs.declared.fault.LineFault.TheVariants.{Word}
-use Rattle.rh_defs.specs.Line.{line_means, computing}
-use Rattle.rh_defs.specs.Range.{in_range}
-use Rattle.rh_defs.specs.Text.{address}
+use Rattle.rh_defs.specs.Line.{computing}
 use Rattle.rh_laws.specs.Printer.{command_words, line_of, fits_a_line, has_sizes, can_be_spelled}
 
 -- ---- lines

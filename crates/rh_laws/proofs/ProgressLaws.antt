@@ -1,37 +1,21 @@
 -- Polls alone: the messages that are taken, and rounds of all tasks, after which the post is at rest.
-use Rattle.std.proofs.Common.{◌≡◌, ℕ, ◌+◌, ◌≤◌, Bool, true, false, List, [], ◌∷◌, ◌++◌, length, Option, Some, None}
-use Rattle.std.proofs.Common.{refl, sym, ap, subst, ◌∙◌, ◌⊎◌, inl, inr, arith}
-use Rattle.std.specs.Prelude.{◌==◌, ◌&&◌, find, if◌then◌else◌, filter, nat_eq, Ok, Err}
-use Rattle.std.specs.List.{AllByRecursion, Contains}
-use Rattle.std.proofs.lemmas.Bool.{eq-eqb}
-use Rattle.std.proofs.lemmas.Slice.Eq.{bytes_eq-Decides}
-use Rattle.rh_defs.specs.declared.command.Command.{Command}
+use Rattle.rh_laws.proofs.Common.{◌≡◌, ℕ, ◌+◌, ◌≤◌, Bool, true, false, List, [], ◌∷◌, ◌++◌, length, Option, Some, None, refl, sym, ap, subst, ◌∙◌, ◌⊎◌, inl}
+use Rattle.rh_laws.proofs.Common.{inr, arith, ◌==◌, ◌&&◌, find, if◌then◌else◌, filter, nat_eq, Ok, Err, AllByRecursion, eq-eqb, bytes_eq-Decides, Command}
+use Rattle.rh_laws.proofs.Common.{NoName, Reply, Granted, ◌>>=◌, found_or, or_else, total, IsDesk, Parcel, Post, Seat, bounce_held, first_for, has_seat}
+use Rattle.rh_laws.proofs.Common.{held_by, post_poll, taken_from, all_in_range, in_range, Desk, Task, has_name, named, with_delivered, after, replies}
+use Rattle.rh_laws.proofs.Common.{start_with, poll, poll_taken, step, after-is, start-is, step-keeps, Edits, Has, Offers, and_left, and_right, first_is}
+use Rattle.rh_laws.proofs.Common.{has_of, none_some, Good, fits, keeps, found_task, task_of, view}
+use Rattle.std.specs.List.{Contains}
 use Rattle.rh_defs.specs.declared.command.Command.TheVariants as command
-use Rattle.rh_defs.specs.declared.refusal.Refusal.TheVariants.{NoName}
-use Rattle.rh_defs.specs.declared.reply.Reply.{Reply}
 use Rattle.rh_defs.specs.declared.reply.Reply.TheVariants as reply
-use Rattle.rh_defs.specs.Chain.{Granted, ◌>>=◌, found_or, or_else}
-use Rattle.rh_defs.specs.Pieces.{total}
-use Rattle.rh_defs.specs.Laws.{IsDesk, IsQueued}
-use Rattle.rh_defs.specs.Messages.{Parcel}
-use Rattle.rh_defs.specs.Post.{Post, Seat, bounce_held, first_for, has_seat, held_by, post_poll, taken, taken_from}
-use Rattle.rh_defs.specs.Range.{all_in_range, in_range}
-use Rattle.rh_defs.specs.Desk.{Desk, Task, has_name, named, with_delivered}
-use Rattle.rh_defs.specs.Runs.{after, replies, start_with}
-use Rattle.rh_defs.specs.Step.{poll, poll_taken, step}
-use Rattle.rh_defs.proofs.Steps.{after-is, start-is, step-keeps}
+use Rattle.rh_defs.specs.Laws.{IsQueued}
+use Rattle.rh_defs.specs.Post.{taken}
 use Rattle.rh_safety.specs.Names.{HaveOwnNames}
-use Rattle.rh_safety.proofs.Ends.{Edits, Has, Offers}
-use Rattle.rh_safety.proofs.Basics.{and_left, and_right, first_is, has_of, none_some}
-use Rattle.rh_safety.proofs.Invariant.{Good}
 use Rattle.rh_safety.proofs.NameLaws.{always_own_names}
-use Rattle.rh_safety.proofs.SeenDesks.{fits}
 use Rattle.rh_safety.proofs.SeenFrames.{HaveOwnSeats}
-use Rattle.rh_safety.proofs.SeenLaws.{good_after, keeps}
-use Rattle.rh_safety.proofs.SeenTasks.{found_task}
-use Rattle.rh_safety.proofs.View.{of, task_of, view}
-use Rattle.rh_laws.specs.Progress.{AlwaysProgresses, IsAtRest, NamesAll, events, held_work, is_event}
-use Rattle.rh_laws.specs.Progress.{parcel_work, polls, post_work, rounds_of}
+use Rattle.rh_safety.proofs.SeenLaws.{good_after}
+use Rattle.rh_safety.proofs.View.{of}
+use Rattle.rh_laws.specs.Progress.{AlwaysProgresses, IsAtRest, NamesAll, events, held_work, is_event, parcel_work, polls, post_work, rounds_of}
 use Rattle.rh_laws.proofs.Addresses.{all-has}
 use Rattle.rh_laws.proofs.WorkPosts.{IsIdle, held-some, queued-some}
 use Rattle.rh_laws.proofs.WorkTasks.{names_of, tasks_work, work_offered}

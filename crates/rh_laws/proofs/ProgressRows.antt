@@ -1,15 +1,9 @@
 -- Worked runs of what is left to do, and a poll that leaves its message in the queue, on which progress_law fails.
-use Rattle.std.proofs.Common.{◌≡◌, ℕ, ◌+◌, ◌≤◌, List, [], ◌∷◌, Option, Some, None, map, refl, subst, arith}
-use Rattle.hex.proofs.OnLiterals.{hex_on_literals}
-use Prim.Native.String.{String}
+use Rattle.rh_laws.proofs.Common.{◌≡◌, ℕ, ◌+◌, ◌≤◌, List, [], ◌∷◌, Option, Some, None, map, refl, subst, arith, hex_on_literals, String, post_poll, Desk}
+use Rattle.rh_laws.proofs.Common.{Task, task_at, Answer, after, poll_taken, fresh, script}
 use Rattle.rh_defs.specs.declared.reply.Reply.TheVariants as reply
-use Rattle.rh_defs.specs.Post.{post_poll}
-use Rattle.rh_defs.specs.Desk.{Desk, Task, task_at}
-use Rattle.rh_defs.specs.Commands.{Answer}
-use Rattle.rh_defs.specs.Runs.{after}
 use Rattle.rh_defs.specs.Script
-use Rattle.rh_defs.specs.Step.{poll_taken}
-use Rattle.rh_safety.proofs.SafetyRows.{fresh, prefixes, script}
+use Rattle.rh_safety.proofs.SafetyRows.{prefixes}
 use Rattle.rh_laws.specs.Progress.{events, post_work, work}
 
 -- the work after each command

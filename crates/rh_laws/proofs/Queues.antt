@@ -1,19 +1,11 @@
 -- What holds of each queued message, where it holds of those that go back, holds of what a poll or a task's end leaves;
 -- and where a letter stands that is sent.
-use Rattle.std.proofs.Common.{◌≡◌, ℕ, ◌+◌, ◌++◌, not, List, [], ◌∷◌, Option, Some, None}
-use Rattle.std.proofs.Common.{refl, sym, subst, ◌∙◌, inl, inr}
-use Rattle.std.specs.Prelude.{◌==◌, filter, IfSome}
-use Rattle.std.specs.List.{AllByRecursion}
-use Rattle.std.proofs.lemmas.Bool.Decides.{eqb_tells}
-use Rattle.rh_defs.specs.Messages.{Parcel, is_recorded}
-use Rattle.rh_defs.specs.Post.{Post, Seat, as_returned, behind_first, bounce_all, bounce_held, bounced, first_for, has_seat, held_by}
-use Rattle.rh_defs.specs.Post.{post_death, post_poll, taken_from, with_held, without_block}
-use Rattle.rh_defs.proofs.Chains.{chosen}
-use Rattle.rh_defs.proofs.Lists.{append-all, filter-all}
-use Rattle.rh_defs.specs.declared.message.Letter.{Letter}
-use Rattle.rh_defs.specs.Post.{answers_held, parcel_of, post_send, put_down, queued_in}
-use Rattle.rh_defs.proofs.Chains.{OnGrant, granted, granted-both, granted-then}
-use Rattle.rh_safety.proofs.OwnEdits.{any-grant}
+use Rattle.rh_laws.proofs.Common.{◌≡◌, ℕ, ◌+◌, ◌++◌, not, List, [], ◌∷◌, Option, Some, None, refl, sym, subst, ◌∙◌, inl, inr, ◌==◌, filter, IfSome}
+use Rattle.rh_laws.proofs.Common.{AllByRecursion, eqb_tells, Parcel, Post, Seat, as_returned, bounce_held, first_for, has_seat, held_by, post_poll}
+use Rattle.rh_laws.proofs.Common.{taken_from, chosen, append-all, Letter, post_send, OnGrant, granted, granted-both, granted-then, any-grant}
+use Rattle.rh_defs.specs.Messages.{is_recorded}
+use Rattle.rh_defs.specs.Post.{behind_first, bounce_all, bounced, post_death, with_held, without_block, answers_held, parcel_of, put_down, queued_in}
+use Rattle.rh_defs.proofs.Lists.{filter-all}
 
 module _ (P : Parcel → Type 0) (back : (p : Parcel) → P (as_returned p)) where
   -- where it held of the queue it still does, and no ref was given

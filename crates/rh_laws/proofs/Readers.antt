@@ -1,18 +1,12 @@
 -- Each form of a word reads what is printed for it.
-use Rattle.std.proofs.Common.{◌≡◌, ℕ, zero, suc, ◌/◌, ◌%◌, ◌^◌, ◌<◌, Bool, true, false, ◌&&◌, List, [], ◌∷◌, length}
-use Rattle.std.proofs.Common.{refl, arith, lit≤}
-use Rattle.std.specs.Prelude.{nat_le, nat_lt, slice_index, ◌==◌, ℤ, pos, negsuc, Ok}
-use Rattle.std.specs.List.{list_all}
-use Rattle.std.specs.Char.{is_ascii_digit, is_ascii_alphanumeric, is_ascii_alphabetic}
-use Rattle.std.specs.Fmt.{decimal, signed_decimal, digits}
-use Rattle.std.proofs.lemmas.Bool.Decides.{nat_tests}
-use Rattle.hex.specs.Hex.{encode_lower, encode_with, lower_digits}
+use Rattle.rh_laws.proofs.Common.{◌≡◌, ℕ, zero, suc, ◌/◌, ◌%◌, ◌^◌, ◌<◌, Bool, true, false, ◌&&◌, List, [], ◌∷◌, length, refl, arith, lit≤, nat_le, nat_lt}
+use Rattle.rh_laws.proofs.Common.{slice_index, ◌==◌, ℤ, pos, negsuc, Ok, list_all, is_ascii_digit, decimal, signed_decimal, digits, nat_tests, encode_lower}
+use Rattle.rh_laws.proofs.Common.{is_name, is_leaf, is_decimal, is_delta, word, Words, address, and_left, and_right}
+use Rattle.std.specs.Char.{is_ascii_alphanumeric, is_ascii_alphabetic}
+use Rattle.hex.specs.Hex.{encode_with, lower_digits}
 use Rattle.hex.proofs.HexLemmas.{decode_of-encode_lower, length-encode_with}
-use Rattle.rh_defs.specs.Forms.{is_name, is_leaf, is_graphic, is_decimal, is_delta, greatest}
-use Rattle.rh_defs.specs.Line.{word, name_at, number_at, delta_at, is_negative, is_address, address_at, leaf_at}
-use Rattle.rh_defs.specs.Line.{bytes_at}
-use Rattle.rh_defs.specs.Text.{Words, address}
-use Rattle.rh_safety.proofs.Basics.{and_left, and_right}
+use Rattle.rh_defs.specs.Forms.{is_graphic, greatest}
+use Rattle.rh_defs.specs.Line.{name_at, number_at, delta_at, is_negative, is_address, address_at, leaf_at, bytes_at}
 use Rattle.rh_laws.proofs.Words.{is_whole, is_inner, all_pass}
 use Rattle.rh_laws.proofs.Numbers.{number_of_decimal, decimal_is_decimal, hex_digits, decimal_is_whole, test_at}
 

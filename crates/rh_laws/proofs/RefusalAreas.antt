@@ -1,30 +1,23 @@
 -- The commands on areas, against their rows of the table.
-use Rattle.std.proofs.Common.{◌≡◌, ℕ, ◌+◌, ◌*◌, ◌/◌, ◌≤◌, ◌<◌, Bool, true, false, cond, List, [], ◌∷◌, length, map}
-use Rattle.std.proofs.Common.{Option, Some, None, refl, sym, ap, subst, arith}
-use Rattle.std.proofs.Common.{◌∙◌}
-use Rattle.std.specs.Prelude.{find, is_none, is_some, ◌&&◌, ◌==◌, nat_lt, nat_le, slice_index, ℤ, pos, negsuc, Ok}
-use Rattle.std.specs.List.{AllByRecursion}
-use Rattle.std.specs.Option.{option_map}
-use borrow.Author.Tests.{eqb-true, leb-true, leb-false}
-use Rattle.rh_defs.specs.declared.refusal.Refusal.TheVariants.{ExcessiveShrink, NoRoom, NoArea, TooBig}
+use Rattle.rh_laws.proofs.Common.{◌≡◌, ℕ, ◌+◌, ◌*◌, ◌/◌, ◌≤◌, ◌<◌, Bool, true, false, cond, List, [], ◌∷◌, length, map, Option, Some, None, refl, sym, ap}
+use Rattle.rh_laws.proofs.Common.{subst, arith, ◌∙◌, find, is_none, is_some, ◌&&◌, ◌==◌, nat_lt, nat_le, slice_index, ℤ, pos, negsuc, Ok, AllByRecursion}
+use Rattle.rh_laws.proofs.Common.{option_map, eqb-true, NoRoom, Granted, ◌>>=◌, ◌>>◌, found_or, refuse_if, base, Desk, free_pages, Answer, IsDesk, Rise}
+use Rattle.rh_laws.proofs.Common.{eqb_apart}
+use borrow.Author.Tests.{leb-true, leb-false}
+use Rattle.rh_defs.specs.declared.refusal.Refusal.TheVariants.{ExcessiveShrink, NoArea, TooBig}
 use Rattle.rh_defs.specs.declared.command.Command.TheVariants as command
 use Rattle.rh_defs.specs.declared.reply.Reply.TheVariants as reply
-use Rattle.rh_defs.specs.Chain.{Granted, ◌>>=◌, ◌>>◌, found_or, refuse_if}
 use Rattle.rh_defs.specs.Forms.{first_made}
 use Rattle.rh_defs.specs.Pieces.{page}
-use Rattle.rh_defs.specs.Heap.{base}
 use Rattle.rh_defs.specs.Module.{changed_length, module_change, whole_pages}
-use Rattle.rh_defs.specs.Desk.{Desk, Made, free_pages}
-use Rattle.rh_defs.specs.Commands.{Answer, change_area, change_made, change_module, change_pages, file_length}
-use Rattle.rh_defs.specs.Commands.{is_numbered, least_length, module_area}
-use Rattle.rh_defs.specs.Commands.{pages_after, scrap_area, with_pages}
-use Rattle.rh_defs.specs.Laws.{IsDesk, Rise}
-use Rattle.rh_defs.proofs.HeapLists.{eqb_apart, ltb_yes, ltb_no}
+use Rattle.rh_defs.specs.Desk.{Made}
+use Rattle.rh_defs.specs.Commands.{change_area, change_made, change_module, change_pages, file_length, is_numbered, least_length, module_area, pages_after}
+use Rattle.rh_defs.specs.Commands.{scrap_area, with_pages}
+use Rattle.rh_defs.proofs.HeapLists.{ltb_yes, ltb_no}
 use Rattle.rh_laws.specs.RefusalOrder.{Row}
 use Rattle.rh_laws.specs.RefusalRooms.{gained_pages, lost_bytes, made_area}
 use Rattle.rh_laws.specs.Conditions.{conditions, there_is}
-use Rattle.rh_laws.proofs.RefusalSteps.{GoesBy, add_row, done, granted_then, in_steps, in_steps_both, refused_if}
-use Rattle.rh_laws.proofs.RefusalSteps.{refused_then, same_rows}
+use Rattle.rh_laws.proofs.RefusalSteps.{GoesBy, add_row, done, granted_then, in_steps, in_steps_both, refused_if, refused_then, same_rows}
 use Rattle.rh_laws.proofs.RefusalRoomLaws.{gains-same, lt_same, module_shrinks-same, shrinks-same}
 
 -- no made area has a number below the least one

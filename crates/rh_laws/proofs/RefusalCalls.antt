@@ -1,28 +1,18 @@
 -- Calls on a slot and on the module area, against their rows of the table.
-use Rattle.std.proofs.Common.{◌≡◌, ℕ, ◌+◌, Bool, true, false, List, [], ◌∷◌, length, Option, Some, None, inl, inr}
-use Rattle.std.proofs.Common.{refl, ap, arith}
-use Rattle.std.specs.Prelude.{find, is_none, is_some, ◌||◌, ◌==◌, nat_lt, if◌then◌else◌, Ok}
-use Rattle.std.specs.List.{list_any}
-use Rattle.std.specs.Option.{option_map}
-use Rattle.std.specs.Str.{bytes_eq}
-use Rattle.std.proofs.lemmas.List.{length-replicate}
-use Rattle.rh_defs.specs.declared.refusal.Refusal.TheVariants.{NoBlock, AnchorInUse, NotABlock, NotYours, Busy}
-use Rattle.rh_defs.specs.declared.refusal.Refusal.TheVariants.{BadSize, NoBudge, NoRoom}
-use Rattle.rh_defs.specs.Chain.{Granted, ◌>>=◌, found_or, refuse_if}
-use Rattle.rh_defs.specs.Files.{FileList, file_bytes}
-use Rattle.rh_defs.specs.Pieces.{Split, written, zeros}
-use Rattle.rh_defs.specs.Heap.{Heap, Segment}
-use Rattle.rh_defs.specs.Module.{module_claim}
-use Rattle.rh_defs.specs.Slot.{Flex, Slot, IsFree, block_of, flex_address, flex_weight, heap_block_at, is_used}
-use Rattle.rh_defs.specs.Slot.{slot_length, with_block, with_bytes, slot_alloc, slot_block, slot_claim, slot_put}
-use Rattle.rh_defs.specs.Desk.{Desk, Task, free_pages, idle_block, idle_buffer, is_busy_block, is_busy_buffer}
-use Rattle.rh_defs.specs.Commands.{Answer, free, own_block}
-use Rattle.rh_defs.proofs.HeapLists.{leb_no}
+use Rattle.rh_laws.proofs.Common.{◌≡◌, ℕ, ◌+◌, Bool, true, false, List, [], ◌∷◌, length, Option, Some, None, inl, inr, refl, ap, arith, find, is_none}
+use Rattle.rh_laws.proofs.Common.{is_some, ◌||◌, ◌==◌, nat_lt, if◌then◌else◌, Ok, list_any, option_map, bytes_eq, length-replicate, NoBlock, AnchorInUse}
+use Rattle.rh_laws.proofs.Common.{NotABlock, Busy, BadSize, NoBudge, NoRoom, Granted, ◌>>=◌, found_or, refuse_if, FileList, Split, written, zeros, Heap}
+use Rattle.rh_laws.proofs.Common.{Segment, module_claim, Flex, Slot, block_of, flex_address, flex_weight, heap_block_at, slot_alloc, slot_block, slot_claim}
+use Rattle.rh_laws.proofs.Common.{slot_put, Desk, Task, free_pages, idle_block, Answer, free, leb_no}
+use Rattle.rh_defs.specs.declared.refusal.Refusal.TheVariants.{NotYours}
+use Rattle.rh_defs.specs.Files.{file_bytes}
+use Rattle.rh_defs.specs.Slot.{IsFree, is_used, slot_length, with_block, with_bytes}
+use Rattle.rh_defs.specs.Desk.{idle_buffer, is_busy_block, is_busy_buffer}
+use Rattle.rh_defs.specs.Commands.{own_block}
 use Rattle.rh_defs.proofs.SlotLaws.{block_of-at, find as at_anchor}
 use Rattle.rh_laws.specs.RefusalOrder.{Row}
 use Rattle.rh_laws.specs.RefusalRooms.{lacks, short_of}
-use Rattle.rh_laws.specs.Conditions.{lacks_module_room, lacks_room_with, module_block, must_not_grow}
-use Rattle.rh_laws.specs.Conditions.{not_a_module_block, not_yours}
+use Rattle.rh_laws.specs.Conditions.{lacks_module_room, lacks_room_with, module_block, must_not_grow, not_a_module_block, not_yours}
 use Rattle.rh_laws.proofs.RefusalSteps.{GoesBy, found_then, granted_then, in_steps, in_steps_both, refused_if}
 use Rattle.rh_laws.proofs.RefusalRoomLaws.{need-short, room-same}
 

@@ -1,30 +1,22 @@
 -- Each command goes by its table, whose rows stand in the one order.
-use Rattle.std.proofs.Common.{◌≡◌, true, refl, ◌∙◌, ℕ, ◌^◌, length, ap}
-use Rattle.rh_defs.specs.declared.command.Command.{Command}
+use Rattle.rh_laws.proofs.Common.{◌≡◌, true, refl, ◌∙◌, ℕ, ◌^◌, length, ap, Command, Question, NoBlock, NotABlock, BadRange, BadSize, NoBudge, NoRoom, Desk}
+use Rattle.rh_laws.proofs.Common.{free_pages, has_name, named, change, IsDesk, moved, length_with, slot_begin, slot_block, slot_extend, slot_free, slot_mid}
+use Rattle.rh_laws.proofs.Common.{slot_put, slot_release, slot_resize, alloc, budge, claim, extend, free, kill, load, make, mid, put, release, resize}
+use Rattle.rh_laws.proofs.Common.{start_task}
 use Rattle.rh_defs.specs.declared.command.Command.TheVariants as command
-use Rattle.rh_defs.specs.declared.question.Question.{Question}
 use Rattle.rh_defs.specs.declared.question.Question.TheVariants as question
-use Rattle.rh_defs.specs.declared.refusal.Refusal.TheVariants.{NoBlock, NotABlock, BadRange, BadSize, NoBudge, NoRoom}
-use Rattle.rh_defs.specs.Desk.{Desk, free_pages, has_name, named}
-use Rattle.rh_defs.specs.Step.{change}
-use Rattle.rh_defs.specs.Laws.{Always, IsDesk}
-use Rattle.rh_defs.specs.Pieces.{moved}
+use Rattle.rh_defs.specs.Laws.{Always}
 use Rattle.rh_defs.specs.Module.{module_free, module_resize}
-use Rattle.rh_defs.specs.Slot.{length_with, slot_begin, slot_block, slot_extend, slot_free, slot_mid, slot_put}
-use Rattle.rh_defs.specs.Slot.{slot_release, slot_resize}
-use Rattle.rh_defs.specs.Commands.{alloc, budge, claim, extend, free, kill, load, make, mid, put, release, remove}
-use Rattle.rh_defs.specs.Commands.{resize, rma_claim, rma_free, rma_resize, start_task}
+use Rattle.rh_defs.specs.Commands.{remove, rma_claim, rma_free, rma_resize}
 use Rattle.rh_defs.proofs.Spaced.{always-is}
 use Rattle.rh_laws.specs.RefusalOrder.{are_in_order}
 use Rattle.rh_laws.specs.Conditions.{AnswersByTable, StandInOrder, asked_rows, conditions, bytes_with, must_not_grow}
 use Rattle.rh_laws.specs.RefusalRooms.{lacks}
-use Rattle.rh_laws.proofs.RefusalSteps.{GoesBy, replied, done, found_again, found_as, found_is, found_then}
-use Rattle.rh_laws.proofs.RefusalSteps.{granted_then, in_steps, refused_if, refused_then}
+use Rattle.rh_laws.proofs.RefusalSteps.{GoesBy, replied, done, found_again, found_as, found_is, found_then, granted_then, in_steps, refused_if, refused_then}
 use Rattle.rh_laws.proofs.RefusalSends.{ask-goes, cancel_in-goes, cancel_out-goes, poll-goes, repeat-goes, save-goes}
 use Rattle.rh_laws.proofs.RefusalAreas.{area-goes}
 use Rattle.rh_laws.proofs.RefusalRoomLaws.{le_same, resize-short, room-same}
-use Rattle.rh_laws.proofs.RefusalCalls.{idle-then, idle_buffer-then, any-found, file_named, loaded, alloc-then}
-use Rattle.rh_laws.proofs.RefusalCalls.{claim-then, module_claim-then, own_block-then}
+use Rattle.rh_laws.proofs.RefusalCalls.{idle-then, idle_buffer-then, any-found, file_named, loaded, alloc-then, claim-then, module_claim-then, own_block-then}
 
 -- ---- the order
 

@@ -1,28 +1,18 @@
 -- The table's words on rooms, beside those that the desk goes by.
-use Rattle.std.proofs.Common.{◌≡◌, ℕ, suc, ◌+◌, ◌-◌, ◌<◌, ◌≤◌, Bool, true, false, cond, leb, ltb, eqb, List}
-use Rattle.std.proofs.Common.{[], ◌∷◌, length, Option, Some, None, inl, inr, refl, sym, ap, ◌∙◌, arith}
-use Rattle.std.specs.Prelude.{max, is_some, nat_lt, nat_le, ◌||◌, ℤ, pos, negsuc}
-use Rattle.std.specs.Option.{option_map}
-use Rattle.std.proofs.lemmas.Bool.Decides.{leb_tells}
-use borrow.Author.Tests.{leb-true, leb-false, ltb-true, ltb-false, eqb-true, eqb-false}
-use Rattle.rh_defs.specs.declared.message.Body.{Body}
-use Rattle.rh_defs.specs.declared.message.Body.TheVariants.{DataSave, DataSaveAck, DataLoad, DataLoadAck, RamFetch}
-use Rattle.rh_defs.specs.declared.message.Body.TheVariants.{RamTransmit}
-use Rattle.rh_defs.specs.declared.message.Letter.{Letter}
-use Rattle.rh_defs.specs.Pieces.{pages_for, lacks_pages, Split, behind, first_at}
-use Rattle.rh_defs.specs.Heap.{Segment, Used, Hole, Heap, Stays, Shrinks, GrowsIntoHole, GrowsAtTop}
-use Rattle.rh_defs.specs.Heap.{base, end_for, first_place, hole_for, is_hole_for, largest_hole, need}
-use Rattle.rh_defs.specs.Heap.{place_after, resize_need, segment_size, shortage_in, size_of, way_beyond, way_to}
-use Rattle.rh_defs.specs.Heap.{way_to_grow}
+use Rattle.rh_laws.proofs.Common.{◌≡◌, ℕ, suc, ◌+◌, ◌-◌, ◌<◌, ◌≤◌, Bool, true, false, cond, leb, ltb, eqb, List, [], ◌∷◌, length, Option, Some, None, inl}
+use Rattle.rh_laws.proofs.Common.{inr, refl, sym, ap, ◌∙◌, arith, max, is_some, nat_lt, nat_le, ◌||◌, ℤ, pos, negsuc, option_map, leb_tells, eqb-true, Body}
+use Rattle.rh_laws.proofs.Common.{Letter, lacks_pages, Split, Segment, Used, Hole, Heap, base, first_place, hole_for, is_hole_for, largest_hole, need}
+use Rattle.rh_laws.proofs.Common.{place_after, resize_need, segment_size, size_of, way_to, Slot, lacks_room, slot_pages, leb_yes, leb_no}
+use borrow.Author.Tests.{leb-true, leb-false, ltb-true, ltb-false, eqb-false}
+use Rattle.rh_defs.specs.declared.message.Body.TheVariants.{DataSave, DataSaveAck, DataLoad, DataLoadAck, RamFetch, RamTransmit}
+use Rattle.rh_defs.specs.Pieces.{pages_for, behind, first_at}
+use Rattle.rh_defs.specs.Heap.{Stays, Shrinks, GrowsIntoHole, GrowsAtTop, end_for, shortage_in, way_beyond, way_to_grow}
 use Rattle.rh_defs.specs.Module.{changed_length, whole_pages}
 use Rattle.rh_defs.specs.Messages.{body_bytes, parcel_size}
 use Rattle.rh_defs.specs.Post.{message_of}
-use Rattle.rh_defs.specs.Slot.{Slot, lacks_room, slot_pages}
 use Rattle.rh_defs.specs.Commands.{shrinks_below}
-use Rattle.rh_defs.proofs.HeapLists.{leb_yes, leb_no}
 use Rattle.rh_defs.proofs.MessageLaws.{length-body, length-name_bytes}
-use Rattle.rh_laws.specs.RefusalRooms.{gained_pages, has_hole, hole_behind, lost_bytes, message_size, new_place}
-use Rattle.rh_laws.specs.RefusalRooms.{short_for, short_of}
+use Rattle.rh_laws.specs.RefusalRooms.{gained_pages, has_hole, hole_behind, lost_bytes, message_size, new_place, short_for, short_of}
 
 -- ---- tests of numbers that say the same
 

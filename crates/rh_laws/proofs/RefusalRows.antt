@@ -1,29 +1,17 @@
 -- Worked rows of the table of refusals, and commands that ask in another order or ask too little, of which the law doesn't hold.
-use Rattle.std.specs.Prelude.{◌≡◌, refl, ℕ, ◌+◌, ℤ, pos, Bool, true, false, ◌&&◌, ◌==◌, List, [], ◌∷◌}
-use Rattle.std.specs.Prelude.{◌++◌, length, map, filter, find, replicate, codes, Option, Some, None, Ok}
-use Prim.Native.String.{String}
-use Rattle.rh_defs.specs.declared.refusal.Refusal.{Refusal}
-use Rattle.rh_defs.specs.declared.refusal.Refusal.TheVariants.{NameInUse, NoName, TooManyTasks, NoHandles, NoFile}
-use Rattle.rh_defs.specs.declared.refusal.Refusal.TheVariants.{NoBlock, AnchorInUse, NotABlock, NotYours, Busy}
-use Rattle.rh_defs.specs.declared.refusal.Refusal.TheVariants.{NotOpen, NothingSent, BadRange, BadSize}
-use Rattle.rh_defs.specs.declared.refusal.Refusal.TheVariants.{ExcessiveShrink, NoTask, NoRefs, QueueFull, NoBudge}
-use Rattle.rh_defs.specs.declared.refusal.Refusal.TheVariants.{NoRoom, NoArea, TooManyAreas, NoNumbers, TooBig}
+use Rattle.rh_laws.proofs.Common.{◌≡◌, refl, ℕ, ◌+◌, ℤ, pos, Bool, true, false, ◌&&◌, ◌==◌, List, [], ◌∷◌, ◌++◌, length, map, filter, find, replicate, codes}
+use Rattle.rh_laws.proofs.Common.{Option, Some, None, Ok, String, Refusal, NoName, NoBlock, AnchorInUse, NotABlock, Busy, NotOpen, NothingSent, BadRange}
+use Rattle.rh_laws.proofs.Common.{BadSize, NoTask, NoBudge, NoRoom, Command, Granted, ◌>>=◌, ◌>>◌, refuse_if, found_or, or_else, moved, length_with}
+use Rattle.rh_laws.proofs.Common.{lacks_room, slot_free, slot_mid, Desk, free_pages, has_name, idle_block, named, next_ref, send_letter, with_sending}
+use Rattle.rh_laws.proofs.Common.{with_slot, Answer, save_letter, step, start_with, after, script}
+use Rattle.rh_defs.specs.declared.refusal.Refusal.TheVariants.{NameInUse, TooManyTasks, NoHandles, NoFile, NotYours, ExcessiveShrink, NoRefs, QueueFull}
+use Rattle.rh_defs.specs.declared.refusal.Refusal.TheVariants.{NoArea, TooManyAreas, NoNumbers, TooBig}
 use Rattle.rh_defs.specs.declared.reply.Reply.TheVariants as reply
-use Rattle.rh_defs.specs.declared.command.Command.{Command}
 use Rattle.rh_defs.specs.declared.command.Command.TheVariants as command
 use Rattle.rh_defs.specs.declared.command.Manner.TheVariants as manner
-use Rattle.rh_defs.specs.Chain.{Granted, ◌>>=◌, ◌>>◌, refuse_if, found_or, or_else}
-use Rattle.rh_defs.specs.Pieces.{moved}
-use Rattle.rh_defs.specs.Slot.{length_with, lacks_room, slot_free, slot_mid}
-use Rattle.rh_defs.specs.Desk.{Desk, free_pages, has_name, idle_block, named, next_ref, send_letter, with_sending}
-use Rattle.rh_defs.specs.Desk.{with_slot}
-use Rattle.rh_defs.specs.Commands.{Answer}
-use Rattle.rh_defs.specs.Letters.{save_letter}
 use Rattle.rh_defs.specs.Sender as sender
-use Rattle.rh_defs.specs.Step.{step}
-use Rattle.rh_defs.specs.Runs.{start, start_with, after}
+use Rattle.rh_defs.specs.Runs.{start}
 use Rattle.rh_defs.specs.Script
-use Rattle.rh_safety.proofs.SafetyRows.{script}
 use Rattle.rh_laws.specs.RefusalOrder.{Row, first_refusal, number_of, refusal_in}
 use Rattle.rh_laws.specs.Conditions.{conditions}
 

@@ -1,40 +1,25 @@
 -- Each command on messages, areas and questions, against its rows of the table.
-use Rattle.std.proofs.Common.{◌≡◌, ℕ, ◌^◌, Bool, true, false, cond, List, [], ◌∷◌, length, Option}
-use Rattle.std.proofs.Common.{Some, None, refl, sym, ap, ◌∙◌, arith}
-use Rattle.std.specs.Prelude.{find, is_none, is_some, not, ◌||◌, ◌==◌}
-use Rattle.std.specs.Prelude.{if◌then◌else◌, Ok}
-use Rattle.std.specs.List.{list_any}
-use Rattle.rh_defs.specs.declared.refusal.Refusal.TheVariants.{NoTask, NoRefs, QueueFull, NoRoom}
-use Rattle.rh_defs.specs.declared.refusal.Refusal.TheVariants.{Busy, BadSize}
+use Rattle.rh_laws.proofs.Common.{◌≡◌, ℕ, ◌^◌, Bool, true, false, cond, List, [], ◌∷◌, length, Option, Some, None, refl, sym, ap, ◌∙◌, arith, find, is_none}
+use Rattle.rh_laws.proofs.Common.{is_some, not, ◌||◌, ◌==◌, if◌then◌else◌, Ok, list_any, NoTask, NoRoom, Busy, BadSize, Question, Letter, Outgoing, Incoming}
+use Rattle.rh_laws.proofs.Common.{Granted, ◌>>=◌, save_letter, Parcel, module_claim, open_of, slot_block, Seat, has_seat, post_poll, post_send, Desk, Task}
+use Rattle.rh_laws.proofs.Common.{has_name, named, next_ref, send_letter, task_at, with_delivered, Answer, asked, heap, cancel_in, cancel_out, poll}
+use Rattle.rh_laws.proofs.Common.{poll_taken, repeat, save, IsDesk, eqb_apart, eqb_same}
+use Rattle.rh_defs.specs.declared.refusal.Refusal.TheVariants.{NoRefs, QueueFull}
 use Rattle.rh_defs.specs.declared.command.Command.TheVariants as command
-use Rattle.rh_defs.specs.declared.question.Question.{Question}
 use Rattle.rh_defs.specs.declared.question.Question.TheVariants as question
-use Rattle.rh_defs.specs.declared.message.Letter.{Letter}
-use Rattle.rh_defs.specs.declared.transfer.Outgoing.{Outgoing}
 use Rattle.rh_defs.specs.declared.transfer.Outgoing.TheVariants as outgoing
-use Rattle.rh_defs.specs.declared.transfer.Incoming.{Incoming}
 use Rattle.rh_defs.specs.declared.transfer.Incoming.TheVariants as incoming
-use Rattle.rh_defs.specs.Chain.{Granted, ◌>>=◌}
-use Rattle.rh_defs.specs.Letters.{save_letter}
-use Rattle.rh_defs.specs.Messages.{Parcel, parcel_size}
-use Rattle.rh_defs.specs.Module.{module_claim}
-use Rattle.rh_defs.specs.Records.{is_meant, open_of}
+use Rattle.rh_defs.specs.Messages.{parcel_size}
+use Rattle.rh_defs.specs.Records.{is_meant}
 use Rattle.rh_defs.specs.Sender as sender
 use Rattle.rh_defs.specs.Receiver as receiver
-use Rattle.rh_defs.specs.Slot.{slot_block}
-use Rattle.rh_defs.specs.Post.{Seat, has_seat, message_of, post_poll, post_send, sendable}
-use Rattle.rh_defs.specs.Desk.{Desk, Task, has_name, named, next_ref}
-use Rattle.rh_defs.specs.Desk.{send_letter, task_at, with_delivered}
-use Rattle.rh_defs.specs.Commands.{Answer}
-use Rattle.rh_defs.specs.Questions.{asked, blocks, heap, show, status}
-use Rattle.rh_defs.specs.Step.{cancel_in, cancel_out, poll, poll_taken, repeat, save}
-use Rattle.rh_defs.specs.Laws.{IsDesk, seat_handles, task_handles}
-use Rattle.rh_defs.proofs.HeapLists.{eqb_apart, eqb_same}
+use Rattle.rh_defs.specs.Post.{message_of, sendable}
+use Rattle.rh_defs.specs.Questions.{blocks, show, status}
+use Rattle.rh_defs.specs.Laws.{seat_handles, task_handles}
 use Rattle.rh_laws.specs.RefusalOrder.{refusal_in}
 use Rattle.rh_laws.specs.RefusalRooms.{lacks, message_size}
 use Rattle.rh_laws.specs.Conditions.{asked_rows, conditions, is_coming_one, is_open_one, lacks_module_room, send_rows}
-use Rattle.rh_laws.proofs.RefusalSteps.{GoesBy, done, drop_row, found_as, found_then}
-use Rattle.rh_laws.proofs.RefusalSteps.{granted_then, in_steps, in_steps_both, one_row, passes, refused_if}
+use Rattle.rh_laws.proofs.RefusalSteps.{GoesBy, done, drop_row, found_as, found_then, granted_then, in_steps, in_steps_both, one_row, passes, refused_if}
 use Rattle.rh_laws.proofs.RefusalSteps.{refused_then}
 use Rattle.rh_laws.proofs.RefusalRoomLaws.{le_same, need-short, size-same}
 use Rattle.rh_laws.proofs.RefusalCalls.{idle-then}

@@ -1,11 +1,7 @@
 -- The steps of a command against the rows of its table, one after another.
-use Rattle.std.proofs.Common.{◌≡◌, Bool, true, false, List, [], ◌∷◌, Option, Some, None, refl, sym, ap, ◌∙◌}
-use Rattle.std.specs.Prelude.{is_none, ◌||◌, Ok, Err, if◌then◌else◌}
-use Rattle.rh_defs.specs.declared.refusal.Refusal.{Refusal}
+use Rattle.rh_laws.proofs.Common.{◌≡◌, Bool, true, false, List, [], ◌∷◌, Option, Some, None, refl, sym, ap, ◌∙◌, is_none, ◌||◌, Ok, Err, if◌then◌else◌}
+use Rattle.rh_laws.proofs.Common.{Refusal, Granted, ◌>>=◌, ◌>>◌, refuse_if, found_or, or_else, Desk, Answer}
 use Rattle.rh_defs.specs.declared.reply.Reply.TheVariants as reply
-use Rattle.rh_defs.specs.Chain.{Granted, ◌>>=◌, ◌>>◌, refuse_if, found_or, or_else}
-use Rattle.rh_defs.specs.Desk.{Desk}
-use Rattle.rh_defs.specs.Commands.{Answer}
 use Rattle.rh_laws.specs.RefusalOrder.{Row, first_refusal, refusal_in}
 
 -- why a command is refused; none where it is granted

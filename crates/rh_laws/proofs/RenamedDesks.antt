@@ -1,28 +1,23 @@
 -- Desks with their bytes renamed: what is found in them, what is edited, and what is asked of them.
-use Rattle.std.proofs.Common.{◌≡◌, ℕ, ◌+◌, ◌-◌, Bool, true, false, cond, List, [], ◌∷◌, ◌++◌, length, map, refl, sym, ap, subst, ◌∙◌}
-use Rattle.std.proofs.lemmas.List.{length-map}
-use Rattle.std.specs.Prelude.{Option, Some, None, ◌/◌, ◌==◌, ◌||◌, find}
-use Rattle.std.specs.List.{list_any, enumerate_from}
-use Rattle.std.specs.Option.{option_map}
-use Rattle.rh_defs.specs.declared.refusal.Refusal.TheVariants.{NoName, NotABlock}
-use Rattle.rh_defs.specs.declared.question.Question.{Question}
+use Rattle.rh_laws.proofs.Common.{◌≡◌, ℕ, ◌+◌, ◌-◌, Bool, true, false, cond, List, [], ◌∷◌, ◌++◌, length, map, refl, sym, ap, subst, ◌∙◌, length-map, Option}
+use Rattle.rh_laws.proofs.Common.{Some, None, ◌/◌, ◌==◌, ◌||◌, find, list_any, option_map, NoName, NotABlock, Question, Letter, Granted, total, Segment, Used}
+use Rattle.rh_laws.proofs.Common.{Hole, first_place, size_of, largest, free_bytes, Slot, Flex, flex_weight, heap_start, Post, post_send, Desk, Task, Scrap}
+use Rattle.rh_laws.proofs.Common.{free_pages, has_name, named, task_at, idle_block, edit_task, with_task, with_slot, with_post, with_delivered, send_letter}
+use Rattle.rh_laws.proofs.Common.{Bytes, Told, heap, asked, Follows, follows-then, follows-equal}
+use Rattle.std.specs.List.{enumerate_from}
 use Rattle.rh_defs.specs.declared.question.Question.TheVariants as question
 use Rattle.rh_defs.specs.declared.reply.Reply.TheVariants as reply
-use Rattle.rh_defs.specs.declared.message.Letter.{Letter}
 use Rattle.rh_defs.specs.declared.listing.BlockItem.{BlockItem}
 use Rattle.rh_defs.specs.declared.listing.SegmentItem.TheVariants as segment
 use Rattle.rh_defs.specs.declared.listing.AreaItem.{AreaItem}
 use Rattle.rh_defs.specs.declared.listing.AreaItem.TheVariants as item
-use Rattle.rh_defs.specs.Chain.{Granted, result_or}
-use Rattle.rh_defs.specs.Pieces.{page, total}
-use Rattle.rh_defs.specs.Heap.{Segment, Used, Hole, first_place, size_of, largest, free_bytes}
-use Rattle.rh_defs.specs.Slot.{Slot, Flex, weight, flex_weight, heap_start, flex_start}
-use Rattle.rh_defs.specs.Post.{Post, post_send, post_is_live}
-use Rattle.rh_defs.specs.Desk.{Desk, Task, Made, Scrap, task_pages, free_pages, has_name, named, task_at, idle_block, idle_buffer, edit_task}
-use Rattle.rh_defs.specs.Desk.{with_task, with_slot, with_post, kept_scrap, with_delivered, send_letter}
-use Rattle.rh_defs.specs.Listing.{Bytes, Blocks, Segments, Areas, block_items_from, segment_item, segment_items_from, area_item}
-use Rattle.rh_defs.specs.Questions.{Told, show, blocks, heap, status, asked}
-use Rattle.rh_defs.proofs.Follows.{Follows, follows-then, follows-equal}
+use Rattle.rh_defs.specs.Chain.{result_or}
+use Rattle.rh_defs.specs.Pieces.{page}
+use Rattle.rh_defs.specs.Slot.{weight, flex_start}
+use Rattle.rh_defs.specs.Post.{post_is_live}
+use Rattle.rh_defs.specs.Desk.{Made, task_pages, idle_buffer, kept_scrap}
+use Rattle.rh_defs.specs.Listing.{Blocks, Segments, Areas, block_items_from, segment_item, segment_items_from, area_item}
+use Rattle.rh_defs.specs.Questions.{show, blocks, status}
 use Rattle.rh_laws.specs.Renaming.{renamed_block, renamed_segment, renamed_slot, renamed_task, renamed_scrap, renamed, renamed_listed}
 use Rattle.rh_laws.proofs.RenamedParts.{By, follows-by, found-by, total-map, find-map}
 use Rattle.rh_laws.proofs.RenamedHeaps.{renamed_cut, size-renamed, largest-renamed, free_bytes-renamed}

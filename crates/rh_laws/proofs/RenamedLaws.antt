@@ -1,21 +1,11 @@
 -- Commands, runs and answers on desks with their bytes renamed, and where shown bytes come from.
-use Rattle.std.proofs.Common.{◌≡◌, ℕ, ◌+◌, Bool, true, false, cond, List, [], ◌∷◌, length, map, refl, sym, ap, ◌∙◌, arith}
-use Rattle.std.proofs.lemmas.List.{length-map, take-map, drop-map}
-use Rattle.std.specs.Prelude.{Ok, Err, ◌==◌, ◌||◌, nat_lt, take, drop}
-use Rattle.std.specs.List.{list_any, AllByRecursion}
-use Rattle.rh_defs.specs.declared.refusal.Refusal.TheVariants.{BadRange}
-use Rattle.rh_defs.specs.declared.command.Command.{Command}
+use Rattle.rh_laws.proofs.Common.{◌≡◌, ℕ, ◌+◌, Bool, true, false, cond, List, [], ◌∷◌, length, map, refl, sym, ap, ◌∙◌, arith, length-map, take-map, drop-map}
+use Rattle.rh_laws.proofs.Common.{Ok, Err, ◌==◌, ◌||◌, nat_lt, take, drop, list_any, AllByRecursion, BadRange, Command, Granted, refuse_if, FileList, Desk}
+use Rattle.rh_laws.proofs.Common.{Answer, Bytes, Told, asked, step, start_with, after, replies, Follows, follows-as}
 use Rattle.rh_defs.specs.declared.command.Command.TheVariants as command
 use Rattle.rh_defs.specs.declared.question.Question.TheVariants as question
-use Rattle.rh_defs.specs.Chain.{Granted, refuse_if}
-use Rattle.rh_defs.specs.Files.{FileList}
-use Rattle.rh_defs.specs.Desk.{Desk}
-use Rattle.rh_defs.specs.Commands.{Answer}
-use Rattle.rh_defs.specs.Listing.{Listed, Bytes, shown_at}
-use Rattle.rh_defs.specs.Questions.{Told, asked}
-use Rattle.rh_defs.specs.Step.{step}
-use Rattle.rh_defs.specs.Runs.{start_with, after, replies}
-use Rattle.rh_defs.proofs.Follows.{Follows, follows-as, or_else-follows}
+use Rattle.rh_defs.specs.Listing.{Listed, shown_at}
+use Rattle.rh_defs.proofs.Follows.{or_else-follows}
 use Rattle.rh_laws.specs.Renaming.{renamed, renamed_files, renamed_command, renamed_listed, renamed_told, renamed_piece, StepsRenamed, ShowsRenamed}
 use Rattle.rh_laws.specs.Renaming.{PiecesRenamed, AlwaysRenamed, has_byte, puts_byte, is_given, ShowsGiven}
 use Rattle.rh_laws.proofs.RenamedParts.{By, follows-by}

@@ -1,13 +1,8 @@
 -- Lists, heaps and slots with their bytes renamed: each look-up finds the renamed thing, and each size stays.
-use Rattle.std.proofs.Common.{◌≡◌, ℕ, zero, suc, ◌+◌, ◌-◌, Bool, true, false, cond, List, [], ◌∷◌, ◌++◌, length, map, refl, sym, ap, subst, ◌∙◌}
-use Rattle.std.proofs.lemmas.List.{length-map, map-append, take-map, drop-map}
-use Rattle.std.specs.Prelude.{Option, Some, None, take, drop, filter, find}
-use Rattle.std.specs.Option.{option_map}
-use Rattle.rh_defs.specs.declared.refusal.Refusal.{Refusal}
-use Rattle.rh_defs.specs.Chain.{Granted, ◌>>=◌, refuse_if, found_or}
-use Rattle.rh_defs.specs.Pieces.{total, Split, behind, first_at, zeros, written}
-use Rattle.rh_defs.specs.Heap.{fitted}
-use Rattle.rh_defs.proofs.Follows.{Follows}
+use Rattle.rh_laws.proofs.Common.{◌≡◌, ℕ, zero, suc, ◌+◌, ◌-◌, Bool, true, false, cond, List, [], ◌∷◌, ◌++◌, length, map, refl, sym, ap, subst, ◌∙◌}
+use Rattle.rh_laws.proofs.Common.{length-map, map-append, take-map, drop-map, Option, Some, None, take, drop, filter, find, option_map, Refusal, Granted}
+use Rattle.rh_laws.proofs.Common.{◌>>=◌, refuse_if, found_or, total, Split, zeros, written, fitted, Follows}
+use Rattle.rh_defs.specs.Pieces.{behind, first_at}
 
 -- ---- chains
 

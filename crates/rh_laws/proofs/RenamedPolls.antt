@@ -1,45 +1,31 @@
 -- A poll does to a desk with its bytes renamed the same.
-use Rattle.std.proofs.Common.{◌≡◌, ℕ, ◌+◌, ◌-◌, List, length, map, refl, sym, ap, subst, ◌∙◌}
-use Rattle.std.proofs.lemmas.List.{length-map, take-map, drop-map}
-use Rattle.std.specs.Prelude.{Option, Some, None, is_some, Ok, ◌==◌, ◌&&◌, ◌||◌, not, min, nat_lt, take, drop}
-use Rattle.std.specs.Option.{option_map}
-use Rattle.rh_defs.specs.declared.refusal.Refusal.{Refusal}
-use Rattle.rh_defs.specs.declared.refusal.Refusal.TheVariants.{NoTask, BadRange, AnchorInUse, Busy, NoRoom}
-use Rattle.rh_defs.specs.declared.message.EventCode.{EventCode}
-use Rattle.rh_defs.specs.declared.message.EventCode.TheVariants.{User, Recorded, Acknowledge}
-use Rattle.rh_defs.specs.declared.message.Body.{Body}
+use Rattle.rh_laws.proofs.Common.{◌≡◌, ℕ, ◌+◌, ◌-◌, List, length, map, refl, sym, ap, subst, ◌∙◌, length-map, take-map, drop-map, Option, Some, None, is_some}
+use Rattle.rh_laws.proofs.Common.{Ok, ◌==◌, ◌&&◌, ◌||◌, not, min, nat_lt, take, drop, option_map, Refusal, NoTask, BadRange, AnchorInUse, Busy, NoRoom}
+use Rattle.rh_laws.proofs.Common.{EventCode, User, Recorded, Acknowledge, Body, Letter, Outcome, Sending, Taking, Asked, Incoming, Granted, ◌>>=◌, ◌>>◌}
+use Rattle.rh_laws.proofs.Common.{refuse_if, found_or, Split, Slot, Flex, flex_address, heap_block_at, slot_alloc, slot_extend, slot_put, slot_claim, Parcel}
+use Rattle.rh_laws.proofs.Common.{post_poll, Desk, Task, Scrap, next_ref, free_pages, task_at, with_task, with_slot, with_sending, with_taking}
+use Rattle.rh_laws.proofs.Common.{with_delivered, send_letter, buffer_at, written_in, Handled, portion, transmit, refused, answer_fetch, fail_sending}
+use Rattle.rh_laws.proofs.Common.{save_scrap, answer_ack, finish_load, without_buffer, ended, accept, take_save, appended, fetch_more, took, take_bytes, ask}
+use Rattle.rh_laws.proofs.Common.{fetch_back, ack_back, loaded, load_file, take_file, answers_none, came, came_back, handled, event, poll_taken, poll}
+use Rattle.rh_laws.proofs.Common.{Follows, follows-then, follows-equal, follows-as}
 use Rattle.rh_defs.specs.declared.message.Body.TheVariants.{DataSave, DataSaveAck, DataLoad, DataLoadAck, RamFetch, RamTransmit}
-use Rattle.rh_defs.specs.declared.message.Letter.{Letter}
-use Rattle.rh_defs.specs.declared.reply.Outcome.{Outcome}
 use Rattle.rh_defs.specs.declared.reply.Outcome.TheVariants as outcome
-use Rattle.rh_defs.specs.declared.transfer.Sending.{Sending}
-use Rattle.rh_defs.specs.declared.transfer.Taking.{Taking}
-use Rattle.rh_defs.specs.declared.transfer.Asked.{Asked}
-use Rattle.rh_defs.specs.declared.transfer.Incoming.{Incoming}
 use Rattle.rh_defs.specs.declared.transfer.Incoming.TheVariants as incoming
-use Rattle.rh_defs.specs.Chain.{Granted, ◌>>=◌, ◌>>◌, refuse_if, found_or}
-use Rattle.rh_defs.specs.Pieces.{Split}
-use Rattle.rh_defs.specs.Slot.{Slot, Flex, flex_address, holds, heap_block_at, slot_alloc, slot_extend, slot_put, slot_claim, anchor_count}
-use Rattle.rh_defs.specs.Messages.{Parcel}
+use Rattle.rh_defs.specs.Slot.{holds, anchor_count}
 use Rattle.rh_defs.specs.Letters.{fetch_letter, transmit_letter, load_letter}
-use Rattle.rh_defs.specs.Post.{post_poll, sendable}
+use Rattle.rh_defs.specs.Post.{sendable}
 use Rattle.rh_defs.specs.Sender as sender
 use Rattle.rh_defs.specs.Receiver as receiver
-use Rattle.rh_defs.specs.Desk.{Desk, Task, Scrap, next_ref, free_pages, task_at, with_task, with_slot, with_sending, with_taking, with_delivered, send_letter}
-use Rattle.rh_defs.specs.Places.{buffer_at, written_in, overlap, first_bytes}
-use Rattle.rh_defs.specs.OutgoingEvents.{Handled, portion, is_out_of_reach, transmit, refused, answer_fetch, fail_sending, scrap_shortage, wider}
-use Rattle.rh_defs.specs.OutgoingEvents.{save_scrap, answer_ack, finish_load}
-use Rattle.rh_defs.specs.IncomingEvents.{without_buffer, ended, accept, is_deaf, take_save, appended, fetch_more, took, take_bytes, ask, fetch_back}
-use Rattle.rh_defs.specs.IncomingEvents.{ack_back, loaded, load_file, take_file}
-use Rattle.rh_defs.specs.Transfer.{answers_none, came, came_back, handled}
-use Rattle.rh_defs.specs.Step.{event, poll_taken, poll}
-use Rattle.rh_defs.proofs.Follows.{Follows, follows-same, follows-then, follows-equal, follows-as, or_else-follows, chosen-both}
+use Rattle.rh_defs.specs.Places.{overlap, first_bytes}
+use Rattle.rh_defs.specs.OutgoingEvents.{is_out_of_reach, scrap_shortage, wider}
+use Rattle.rh_defs.specs.IncomingEvents.{is_deaf}
+use Rattle.rh_defs.proofs.Follows.{follows-same, or_else-follows, chosen-both}
 use Rattle.rh_laws.specs.Renaming.{renamed_slot, renamed_task, renamed_scrap, renamed}
 use Rattle.rh_laws.proofs.RenamedParts.{By, follows-by, found-by}
 use Rattle.rh_laws.proofs.RenamedHeaps.{renamed_cut}
-use Rattle.rh_laws.proofs.RenamedSlots.{renamed_here, renamed_given, some-map, address-renamed, holds-renamed, free_from-renamed}
-use Rattle.rh_laws.proofs.RenamedSlots.{heap_block_at-renamed, buffer_at-renamed, written_in-renamed, first_bytes-renamed, slot_block-renamed}
-use Rattle.rh_laws.proofs.RenamedSlots.{slot_put-renamed, slot_release-renamed, slot_alloc-renamed, slot_extend-renamed, slot_claim-renamed}
+use Rattle.rh_laws.proofs.RenamedSlots.{renamed_here, renamed_given, some-map, address-renamed, holds-renamed, free_from-renamed, heap_block_at-renamed}
+use Rattle.rh_laws.proofs.RenamedSlots.{buffer_at-renamed, written_in-renamed, first_bytes-renamed, slot_block-renamed, slot_put-renamed}
+use Rattle.rh_laws.proofs.RenamedSlots.{slot_release-renamed, slot_alloc-renamed, slot_extend-renamed, slot_claim-renamed}
 use Rattle.rh_laws.proofs.RenamedDesks.{renamed_with, result-by, free-renamed, where-free, named-renamed, task_at-renamed, with_task-renamed}
 use Rattle.rh_laws.proofs.RenamedDesks.{with_slot-renamed, delivered-renamed, send_letter-renamed}
 

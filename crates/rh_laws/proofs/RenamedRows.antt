@@ -1,21 +1,11 @@
 -- Worked runs with their bytes renamed, and a run with one definition changed, on which renaming_law fails.
-use Rattle.std.proofs.Common.{◌≡◌, ℕ, ◌*◌, List, [], ◌∷◌, map, refl, ap, arith}
-use Rattle.std.specs.Prelude.{Ok, Err, ◌==◌, if◌then◌else◌, slice_index}
-use Rattle.hex.proofs.OnLiterals.{hex_on_literals}
-use Prim.Native.String.{String}
-use Rattle.rh_defs.specs.declared.command.Command.{Command}
+use Rattle.rh_laws.proofs.Common.{◌≡◌, ℕ, ◌*◌, List, [], ◌∷◌, map, refl, ap, arith, Ok, Err, ◌==◌, if◌then◌else◌, slice_index, hex_on_literals, String}
+use Rattle.rh_laws.proofs.Common.{Command, Granted, or_else, Desk, Answer, put, Bytes, Told, asked, after, replies, step, fresh, script}
 use Rattle.rh_defs.specs.declared.command.Command.TheVariants as command
 use Rattle.rh_defs.specs.declared.question.Question.TheVariants as question
 use Rattle.rh_defs.specs.declared.reply.Reply.TheVariants as reply
-use Rattle.rh_defs.specs.Chain.{Granted, or_else}
-use Rattle.rh_defs.specs.Desk.{Desk}
-use Rattle.rh_defs.specs.Commands.{Answer, put}
-use Rattle.rh_defs.specs.Listing.{Listed, Bytes}
-use Rattle.rh_defs.specs.Questions.{Told, asked}
-use Rattle.rh_defs.specs.Runs.{after, replies}
-use Rattle.rh_defs.specs.Step.{step}
+use Rattle.rh_defs.specs.Listing.{Listed}
 use Rattle.rh_defs.specs.Script
-use Rattle.rh_safety.proofs.SafetyRows.{fresh, script}
 use Rattle.rh_laws.specs.Renaming.{renamed, renamed_command}
 
 -- what is listed of an answer, where it is bytes

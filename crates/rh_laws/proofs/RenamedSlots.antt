@@ -1,23 +1,19 @@
 -- Slots with their bytes renamed: each call does to the renamed slot the same.
-use Rattle.std.proofs.Common.{◌≡◌, ℕ, zero, suc, ◌+◌, ◌-◌, Bool, true, false, cond, List, [], ◌∷◌, ◌++◌, length, map, refl, sym, ap, ◌∙◌}
-use Rattle.std.proofs.lemmas.List.{length-map, map-append, take-map, drop-map}
-use Rattle.std.specs.Prelude.{Option, Some, None, is_some, ◌==◌, ◌&&◌, ◌||◌, nat_le, nat_lt, ℤ, pos, negsuc, take, drop}
-use Rattle.std.specs.Option.{option_map}
+use Rattle.rh_laws.proofs.Common.{◌≡◌, ℕ, zero, suc, ◌+◌, ◌-◌, Bool, true, false, cond, List, [], ◌∷◌, ◌++◌, length, map, refl, sym, ap, ◌∙◌, length-map}
+use Rattle.rh_laws.proofs.Common.{map-append, take-map, drop-map, Option, Some, None, is_some, ◌==◌, ◌&&◌, ◌||◌, nat_le, nat_lt, ℤ, pos, negsuc, take, drop}
+use Rattle.rh_laws.proofs.Common.{option_map, NoBlock, NotABlock, lacks_pages, moved, total, Split, written, zeros, Segment, Used, Heap, Placed, bytes_of}
+use Rattle.rh_laws.proofs.Common.{place_after, block_around, claim_growing, new_size, resize_need, resize_growing, fitted, Slot, Flex, flex_weight}
+use Rattle.rh_laws.proofs.Common.{heap_start, slot_pages, flex_address, block_of, heap_block_at, lacks_room, length_with, with_placed, slot_alloc, slot_block}
+use Rattle.rh_laws.proofs.Common.{slot_free, slot_extend, slot_mid, slot_put, slot_claim, slot_release, slot_resize, with_heap_bytes, buffer_at, written_in}
+use Rattle.rh_laws.proofs.Common.{Follows}
 use Rattle.rh_defs.specs.SlotImage.{heap_place}
-use Rattle.rh_defs.specs.declared.refusal.Refusal.TheVariants.{NoBlock, NotABlock}
-use Rattle.rh_defs.specs.Pieces.{pages_for, lacks_pages, moved, total, Split, written, zeros, is_inside}
-use Rattle.rh_defs.specs.Heap.{Segment, Used, Heap, Placed, bytes_of, place_after, block_around, claim_growing, new_size, resize_need, resize_growing, fitted}
-use Rattle.rh_defs.specs.Slot.{Slot, Flex, weight, flex_weight, heap_start, slot_length, slot_pages, flex_start, flex_address, block_of, is_used}
-use Rattle.rh_defs.specs.Slot.{heap_block_at, flex_around, holds, with_bytes, without, with_heap, opened_at, taken_out, lacks_room, length_with}
-use Rattle.rh_defs.specs.Slot.{is_stuck, with_placed}
-use Rattle.rh_defs.specs.Slot.{slot_alloc, slot_block, slot_free, slot_extend, slot_mid, slot_put, slot_claim, slot_release, slot_resize}
-use Rattle.rh_defs.specs.Places.{with_heap_bytes, roomy_in, buffer_at, written_heap, written_around, written_in, first_bytes, free_from}
-use Rattle.rh_defs.proofs.Follows.{Follows}
+use Rattle.rh_defs.specs.Pieces.{pages_for, is_inside}
+use Rattle.rh_defs.specs.Slot.{weight, slot_length, flex_start, is_used, flex_around, holds, with_bytes, without, with_heap, opened_at, taken_out, is_stuck}
+use Rattle.rh_defs.specs.Places.{roomy_in, written_heap, written_around, first_bytes, free_from}
 use Rattle.rh_laws.specs.Renaming.{renamed_block, renamed_segment, renamed_heap, renamed_slot}
 use Rattle.rh_laws.proofs.RenamedParts.{By, follows-by, follows-test, found-by, total-map, cut_by, first_at-map, zeros-map, fitted-map, written-map}
-use Rattle.rh_laws.proofs.RenamedHeaps.{renamed_cut, renamed_placed, room-renamed, bytes-renamed, place-renamed, block_at-renamed}
-use Rattle.rh_laws.proofs.RenamedHeaps.{block_around-renamed, need-renamed, released-renamed, resize_need-renamed, new_size-renamed, claim-renamed}
-use Rattle.rh_laws.proofs.RenamedHeaps.{resize-renamed}
+use Rattle.rh_laws.proofs.RenamedHeaps.{renamed_cut, renamed_placed, room-renamed, bytes-renamed, place-renamed, block_at-renamed, block_around-renamed}
+use Rattle.rh_laws.proofs.RenamedHeaps.{need-renamed, released-renamed, resize_need-renamed, new_size-renamed, claim-renamed, resize-renamed}
 
 -- a cut of a slot's blocks with their bytes renamed
 abbrev pub renamed_here : (ℕ → ℕ) → Split Flex → Split Flex

@@ -1,37 +1,26 @@
 -- Each command does to a desk with its bytes renamed the same.
-use Rattle.std.proofs.Common.{◌≡◌, ℕ, ◌+◌, ◌-◌, Bool, cond, List, [], ◌∷◌, length, map, refl, sym, ap, subst, ◌∙◌}
-use Rattle.std.specs.Prelude.{Option, Some, None, ℤ, ◌==◌, nat_le, nat_lt, not, filter, find, slice_index}
-use Rattle.std.specs.Option.{option_map}
-use Rattle.std.specs.Str.{bytes_eq}
-use Rattle.std.proofs.lemmas.List.{length-map, map-append}
-use Rattle.rh_defs.specs.declared.refusal.Refusal.TheVariants.{NoTask, NoFile, NameInUse, TooManyTasks}
-use Rattle.rh_defs.specs.declared.command.Command.{Command}
+use Rattle.rh_laws.proofs.Common.{◌≡◌, ℕ, ◌+◌, ◌-◌, Bool, cond, List, [], ◌∷◌, length, map, refl, sym, ap, subst, ◌∙◌, Option, Some, None, ℤ, ◌==◌, nat_le}
+use Rattle.rh_laws.proofs.Common.{nat_lt, not, filter, find, slice_index, option_map, bytes_eq, length-map, map-append, NoTask, Command, Manner, Reply}
+use Rattle.rh_laws.proofs.Common.{Granted, refuse_if, Slot, slot_pages, slot_begin, slot_alloc, slot_extend, slot_mid, slot_claim, slot_resize, module_claim}
+use Rattle.rh_laws.proofs.Common.{save_letter, post_join, Desk, Task, Scrap, free_pages, next_ref, has_name, with_slot, with_delivered, send_letter, Answer}
+use Rattle.rh_laws.proofs.Common.{start_task, kill, alloc, load, put, free, extend, mid, claim, release, resize, budge, make, save, repeat, cancel_in}
+use Rattle.rh_laws.proofs.Common.{cancel_out, change, Follows, follows-then, follows-equal, follows-as}
+use Rattle.rh_defs.specs.declared.refusal.Refusal.TheVariants.{NoFile, NameInUse, TooManyTasks}
 use Rattle.rh_defs.specs.declared.command.Command.TheVariants as command
-use Rattle.rh_defs.specs.declared.command.Manner.{Manner}
-use Rattle.rh_defs.specs.declared.reply.Reply.{Reply}
 use Rattle.rh_defs.specs.declared.reply.Reply.TheVariants as reply
-use Rattle.rh_defs.specs.Chain.{Granted, refuse_if}
-use Rattle.rh_defs.specs.Slot.{Slot, slot_pages, slot_begin, slot_alloc, slot_extend, slot_mid, slot_claim}
-use Rattle.rh_defs.specs.Slot.{slot_resize, new_slot}
-use Rattle.rh_defs.specs.Module.{module_claim, module_resize, module_change}
-use Rattle.rh_defs.specs.Letters.{save_letter}
-use Rattle.rh_defs.specs.Post.{post_join, post_death}
-use Rattle.rh_defs.specs.Desk.{Desk, Task, Scrap, most_tasks, free_pages, next_ref, has_name, with_slot}
-use Rattle.rh_defs.specs.Desk.{with_delivered, send_letter}
-use Rattle.rh_defs.specs.Commands.{Answer, start_task, kill, alloc, load, put, free, extend, mid, claim, release}
-use Rattle.rh_defs.specs.Commands.{resize, budge, scrap_area, module_area, module_start, file_length, least_length}
-use Rattle.rh_defs.specs.Commands.{pages_after, change_module, change_pages, change_made, change_area, make, remove}
-use Rattle.rh_defs.specs.Commands.{own_block, rma_claim, rma_free, rma_resize}
-use Rattle.rh_defs.specs.Step.{save, repeat, cancel_in, cancel_out, change}
-use Rattle.rh_defs.proofs.Follows.{Follows, follows-same, follows-then, follows-equal, follows-as, chosen-both}
+use Rattle.rh_defs.specs.Slot.{new_slot}
+use Rattle.rh_defs.specs.Module.{module_resize, module_change}
+use Rattle.rh_defs.specs.Post.{post_death}
+use Rattle.rh_defs.specs.Desk.{most_tasks}
+use Rattle.rh_defs.specs.Commands.{scrap_area, module_area, module_start, file_length, least_length, pages_after, change_module, change_pages, change_made}
+use Rattle.rh_defs.specs.Commands.{change_area, remove, own_block, rma_claim, rma_free, rma_resize}
+use Rattle.rh_defs.proofs.Follows.{follows-same, chosen-both}
 use Rattle.rh_laws.specs.Renaming.{renamed_slot, renamed_task, renamed_scrap, renamed, renamed_command}
 use Rattle.rh_laws.proofs.RenamedParts.{By, follows-by, follows-test, found-by, find-map, filter-map}
-use Rattle.rh_laws.proofs.RenamedSlots.{renamed_given, slot_put-renamed, slot_free-renamed, slot_release-renamed}
-use Rattle.rh_laws.proofs.RenamedSlots.{slot_alloc-renamed, slot_extend-renamed, slot_mid-renamed, slot_claim-renamed}
-use Rattle.rh_laws.proofs.RenamedSlots.{slot_resize-renamed}
-use Rattle.rh_laws.proofs.RenamedDesks.{renamed_with, any-map, free-renamed, where-free, named-renamed, asked-renamed}
-use Rattle.rh_laws.proofs.RenamedDesks.{idle_block-renamed, idle_buffer-renamed, with_task-renamed, with_slot-renamed}
-use Rattle.rh_laws.proofs.RenamedDesks.{delivered-renamed, send_letter-renamed}
+use Rattle.rh_laws.proofs.RenamedSlots.{renamed_given, slot_put-renamed, slot_free-renamed, slot_release-renamed, slot_alloc-renamed, slot_extend-renamed}
+use Rattle.rh_laws.proofs.RenamedSlots.{slot_mid-renamed, slot_claim-renamed, slot_resize-renamed}
+use Rattle.rh_laws.proofs.RenamedDesks.{renamed_with, any-map, free-renamed, where-free, named-renamed, asked-renamed, idle_block-renamed}
+use Rattle.rh_laws.proofs.RenamedDesks.{idle_buffer-renamed, with_task-renamed, with_slot-renamed, delivered-renamed, send_letter-renamed}
 use Rattle.rh_laws.proofs.RenamedPolls.{poll-renamed}
 
 -- a file with its bytes renamed

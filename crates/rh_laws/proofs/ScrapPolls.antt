@@ -1,44 +1,28 @@
 -- A poll of a task by its name, where the post has one message at most: what is seen of the desk then.
-use Rattle.std.proofs.Common.{◌≡◌, ℕ, Bool, true, false, List, [], ◌∷◌, Option, Some, None, refl, sym, ap, ◌∙◌, subst}
-use Rattle.std.proofs.Common.{length}
-use Rattle.std.specs.Prelude.{if◌then◌else◌, find}
-use Rattle.std.specs.Option.{option_map}
+use Rattle.rh_laws.proofs.Common.{◌≡◌, ℕ, Bool, true, false, List, [], ◌∷◌, Option, Some, None, refl, sym, ap, ◌∙◌, subst, length, if◌then◌else◌, find}
+use Rattle.rh_laws.proofs.Common.{option_map, EventCode, User, Recorded, Acknowledge, Sending, Taking, Asked, is_name, IsDesk, Parcel, action_of, Post}
+use Rattle.rh_laws.proofs.Common.{post_poll, Desk, Task, Scrap, has_name, with_delivered, Handled, ignored, answer_ack, finish_load, fetch_back, take_file}
+use Rattle.rh_laws.proofs.Common.{answers_none, Answer, event, poll_taken, step, step-keeps, view, seen_parcel, task_of, Message, none_some, put_same}
+use Rattle.rh_laws.proofs.Common.{field_is, found_task, live_of, fits}
 use Rattle.rh_defs.specs.declared.command.Command.TheVariants as command
 use Rattle.rh_defs.specs.declared.message.Action.{Action}
 use Rattle.rh_defs.specs.declared.message.Action.TheVariants as action
-use Rattle.rh_defs.specs.declared.message.EventCode.{EventCode}
-use Rattle.rh_defs.specs.declared.message.EventCode.TheVariants.{User, Recorded, Acknowledge}
-use Rattle.rh_defs.specs.declared.transfer.Sending.{Sending}
-use Rattle.rh_defs.specs.declared.transfer.Taking.{Taking}
-use Rattle.rh_defs.specs.declared.transfer.Asked.{Asked}
 use Rattle.rh_defs.specs.declared.transfer.Outgoing.TheVariants as outgoing
 use Rattle.rh_defs.specs.declared.transfer.Incoming.TheVariants as incoming
-use Rattle.rh_defs.specs.Forms.{is_name}
-use Rattle.rh_defs.specs.Laws.{IsDesk}
-use Rattle.rh_defs.specs.Messages.{Parcel, action_of}
-use Rattle.rh_defs.specs.Post.{Post, post_poll, post_is_live}
+use Rattle.rh_defs.specs.Post.{post_is_live}
 use Rattle.rh_defs.specs.Sender as sender
 use Rattle.rh_defs.specs.Receiver as receiver
-use Rattle.rh_defs.specs.Desk.{Desk, Task, Scrap, has_name, kept_scrap, with_delivered}
-use Rattle.rh_defs.specs.OutgoingEvents.{Handled, ignored, answer_ack, finish_load}
-use Rattle.rh_defs.specs.IncomingEvents.{fetch_back, take_file}
+use Rattle.rh_defs.specs.Desk.{kept_scrap}
 use Rattle.rh_defs.specs.Transfer as transfer
-use Rattle.rh_defs.specs.Transfer.{answers_none}
-use Rattle.rh_defs.specs.Commands.{Answer}
-use Rattle.rh_defs.specs.Step.{event, poll_taken, step}
-use Rattle.rh_defs.proofs.Steps.{step-keeps}
 use Rattle.rh_safety.specs.Alternation.{is_refusal, is_refused_poll}
-use Rattle.rh_safety.proofs.View.{view, seen_parcel, seen_scrap, task_of}
-use Rattle.rh_safety.proofs.Ends.{Letter, Message, first_for}
+use Rattle.rh_safety.proofs.View.{seen_scrap}
+use Rattle.rh_safety.proofs.Ends.{Letter, first_for}
 use Rattle.rh_safety.proofs.Sight as sight
-use Rattle.rh_safety.proofs.Basics.{none_some, put_same}
 use Rattle.rh_safety.proofs.Invariant.{rests}
 use Rattle.rh_safety.proofs.Turns.{first_one}
 use Rattle.rh_safety.proofs.PollTurns as other
-use Rattle.rh_safety.proofs.SeenTasks.{field_is, found_task, live_of}
 use Rattle.rh_safety.proofs.SeenKeys.{handle_named, SameKeys}
 use Rattle.rh_safety.proofs.SeenTaking.{IsTaken, lost_queue, picked_by, poll_taken_is}
-use Rattle.rh_safety.proofs.SeenDesks.{fits}
 use Rattle.rh_safety.proofs.SeenFiles.{seen_live}
 use Rattle.rh_laws.proofs.ScrapViews.{came_as, came_is, back_is, asked_view, filed_view, done_view, told_view}
 use Rattle.rh_safety.proofs.Alternations.{IsNamed, found_of, poll_in_range, poll_step, taken_keys}

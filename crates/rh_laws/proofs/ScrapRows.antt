@@ -1,29 +1,19 @@
 -- Worked runs by way of the scrap file, and one with a definition changed, on which the alternation fails.
-use Rattle.std.specs.Prelude.{◌≡◌, refl, ℕ, List, [], ◌∷◌, length, map, codes, true, Option, Some, None, Ok}
-use Prim.Native.String.{String}
-use Rattle.rh_defs.specs.declared.reply.Outcome.{Outcome}
+use Rattle.rh_laws.proofs.Common.{◌≡◌, refl, ℕ, List, [], ◌∷◌, length, map, codes, true, Option, Some, None, Ok, String, Outcome, Reply, Command, Outgoing}
+use Rattle.rh_laws.proofs.Common.{Incoming, Asked, ◌>>=◌, or_else, Desk, Task, Scrap, task_at, with_taking, Handled, ignored, appended, after, replies, Rules}
+use Rattle.rh_laws.proofs.Common.{landed, run_of}
 use Rattle.rh_defs.specs.declared.reply.Outcome.TheVariants as outcome
-use Rattle.rh_defs.specs.declared.reply.Reply.{Reply}
 use Rattle.rh_defs.specs.declared.reply.Reply.TheVariants as reply
-use Rattle.rh_defs.specs.declared.command.Command.{Command}
 use Rattle.rh_defs.specs.declared.command.Command.TheVariants as command
 use Rattle.rh_defs.specs.declared.command.Manner.TheVariants as manner
-use Rattle.rh_defs.specs.declared.transfer.Outgoing.{Outgoing}
 use Rattle.rh_defs.specs.declared.transfer.Outgoing.TheVariants as outgoing
-use Rattle.rh_defs.specs.declared.transfer.Incoming.{Incoming}
 use Rattle.rh_defs.specs.declared.transfer.Incoming.TheVariants as incoming
-use Rattle.rh_defs.specs.declared.transfer.Asked.{Asked}
-use Rattle.rh_defs.specs.Chain.{◌>>=◌, or_else}
 use Rattle.rh_defs.specs.Receiver as receiver
-use Rattle.rh_defs.specs.Desk.{Desk, Task, Scrap, task_at, with_taking}
-use Rattle.rh_defs.specs.OutgoingEvents.{Handled, ignored}
-use Rattle.rh_defs.specs.IncomingEvents.{appended}
 use Rattle.rh_defs.specs.Script
 use Rattle.rh_defs.specs.Runs as runs
-use Rattle.rh_defs.specs.Runs.{start, after, replies}
+use Rattle.rh_defs.specs.Runs.{start}
 use Rattle.rh_safety.specs.Alternation.{all_granted}
 use Rattle.rh_safety.specs.Offered.{bytes_of_block}
-use Rattle.rh_safety.proofs.WrongBodies.{Rules, landed, run_of}
 use Rattle.rh_laws.specs.ScrapTurns.{eight_polls}
 
 abbrev fresh : Desk

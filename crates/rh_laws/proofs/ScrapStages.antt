@@ -1,17 +1,13 @@
 -- A transfer by way of the scrap file, message by message, as it is seen of the desk.
-use Rattle.std.proofs.Common.{◌≡◌, ◌≢◌, ℕ, ◌<◌, Bool, true, false, List, [], ◌∷◌, ◌++◌, length, ◌&&◌}
-use Rattle.std.proofs.Common.{Option, Some, None, refl, ap, ◌∙◌, inl, inr, arith}
-use Rattle.std.specs.Prelude.{if◌then◌else◌, nat_eq}
-use Rattle.std.proofs.lemmas.Bool.{eq-eqb}
-use Rattle.std.proofs.lemmas.Bool.Decides.{eqb_tells}
+use Rattle.rh_laws.proofs.Common.{◌≡◌, ◌≢◌, ℕ, ◌<◌, Bool, true, false, List, [], ◌∷◌, ◌++◌, length, ◌&&◌, Option, Some, None, refl, ap, ◌∙◌, inl, inr, arith}
+use Rattle.rh_laws.proofs.Common.{if◌then◌else◌, nat_eq, eq-eqb, eqb_tells, Recorded, Message, Sending, Taking, Asked, Active, out_id, in_id, Has, with_id}
+use Rattle.rh_laws.proofs.Common.{put_same, put_other}
 use Rattle.rh_defs.specs.Sender as sender
 use Rattle.rh_defs.specs.Receiver as receiver
-use Rattle.rh_safety.proofs.Ends.{Plain, Recorded, Returned, DataSaveAck, DataLoad, DataLoadAck}
-use Rattle.rh_safety.proofs.Ends.{Message, Sending, Taking, Asked, Out, Open, Out_done, In, Fetching, Draining}
-use Rattle.rh_safety.proofs.Ends.{Asking, In_done, In_failed, Out_failed, Active, out_id, in_id, Has, put, with_id}
-use Rattle.rh_safety.proofs.Ends.{find_open, find_active, find_asking, without_first}
+use Rattle.rh_safety.proofs.Ends.{Plain, Returned, DataSaveAck, DataLoad, DataLoadAck, Out, Open, Out_done, In, Fetching, Draining, Asking, In_done}
+use Rattle.rh_safety.proofs.Ends.{In_failed, Out_failed, put, find_open, find_active, find_asking, without_first}
 use Rattle.rh_safety.proofs.Sight.{Desk, picked, returned, still_held, asked, filed, copied, told, with_out, bytes_of, lost}
-use Rattle.rh_safety.proofs.Basics.{put_all, put_same, put_other}
+use Rattle.rh_safety.proofs.Basics.{put_all}
 use Rattle.rh_safety.proofs.Turns.{Pair, outgoing_at, incoming_at, fetch_of, let_go, without_one}
 
 -- ---- lists whose last record is the one that is meant

@@ -1,46 +1,28 @@
 -- A save of a task that answers no fetch, and eight polls in turn, on the desk itself.
-use Rattle.std.proofs.Common.{◌≡◌, ◌≢◌, ℕ, ◌+◌, ◌<◌, Bool, true, false, not, List, [], ◌∷◌, ◌++◌, length, Option}
-use Rattle.std.proofs.Common.{Some, None, refl, sym, ap, ◌∙◌, subst, inl, inr, arith, nat_le}
-use Rattle.std.specs.Prelude.{if◌then◌else◌, map, nat_eq}
-use Rattle.std.specs.Option.{option_map}
-use Rattle.std.proofs.lemmas.Bool.Decides.{eqb_tells}
-use Rattle.rh_defs.specs.declared.command.Command.{Command}
+use Rattle.rh_laws.proofs.Common.{◌≡◌, ◌≢◌, ℕ, ◌+◌, ◌<◌, Bool, true, false, not, List, [], ◌∷◌, ◌++◌, length, Option, Some, None, refl, sym, ap, ◌∙◌, subst}
+use Rattle.rh_laws.proofs.Common.{inl, inr, arith, nat_le, if◌then◌else◌, map, nat_eq, option_map, eqb_tells, Command, User, Recorded, Acknowledge, is_name}
+use Rattle.rh_laws.proofs.Common.{IsDesk, in_range, answers_none, Desk, Task, has_name, task_at, Answer, step, step-keeps, view, seen_parcel, blocks_of}
+use Rattle.rh_laws.proofs.Common.{task_of, Message, Taking, Has, Active, is_open, contains_of, either, and_left, put_same, put_other, Good, field_is}
+use Rattle.rh_laws.proofs.Common.{found_task, live_of, Fits, fits}
 use Rattle.rh_defs.specs.declared.command.Command.TheVariants as command
-use Rattle.rh_defs.specs.declared.message.EventCode.TheVariants.{User, Recorded, Acknowledge}
 use Rattle.rh_defs.specs.declared.reply.Reply.TheVariants as reply
-use Rattle.rh_defs.specs.Forms.{is_name}
-use Rattle.rh_defs.specs.Laws.{IsDesk}
-use Rattle.rh_defs.specs.Range.{in_range}
-use Rattle.rh_defs.specs.Transfer.{answers_none}
-use Rattle.rh_defs.specs.Desk.{Desk, Task, has_name, task_at}
-use Rattle.rh_defs.specs.Commands.{Answer}
-use Rattle.rh_defs.specs.Step.{step}
-use Rattle.rh_defs.proofs.Steps.{step-keeps}
 use Rattle.rh_safety.specs.Alternation.{all_granted, is_refused_poll, SenderDone, ReceiverDone}
-use Rattle.rh_safety.proofs.View.{view, seen_parcel, blocks_of, of, task_of}
-use Rattle.rh_safety.proofs.Ends.{Message, Taking, Out, Open, Out_done, In, Fetching, Draining, Asking}
-use Rattle.rh_safety.proofs.Ends.{In_done, Has, Active, put, first_for, without_first}
-use Rattle.rh_safety.proofs.Ends.{drop_first, is_open, is_going}
+use Rattle.rh_safety.proofs.View.{of}
+use Rattle.rh_safety.proofs.Ends.{Out, Open, Out_done, In, Fetching, Draining, Asking, In_done, put, first_for, without_first, drop_first, is_going}
 use Rattle.rh_safety.proofs.Sight as sight
-use Rattle.rh_safety.proofs.Basics.{contains_of, either, and_left, not_true, put_all, put_same, put_other}
-use Rattle.rh_safety.proofs.Basics.{drop_old, Has-right}
-use Rattle.rh_safety.proofs.Invariant.{Good, Offered}
+use Rattle.rh_safety.proofs.Basics.{not_true, put_all, drop_old, Has-right}
+use Rattle.rh_safety.proofs.Invariant.{Offered}
 use Rattle.rh_safety.proofs.Arrivals.{Began}
 use Rattle.rh_safety.proofs.Turns.{Pair, outgoing_at, incoming_at, fetch_of, offer, let_go, without_one}
 use Rattle.rh_safety.proofs.PollTurns as other
-use Rattle.rh_safety.proofs.SeenTasks.{field_is, found_task, live_of}
-use Rattle.rh_safety.proofs.SeenFrames.{Fits}
 use Rattle.rh_safety.proofs.SeenKeys.{named_in, handle_named}
 use Rattle.rh_safety.proofs.SeenSaves.{IsSaved, save_step}
-use Rattle.rh_safety.proofs.SeenDesks.{fits}
 use Rattle.rh_safety.proofs.SeenLaws.{IsReached, block_is}
 use Rattle.rh_laws.specs.ScrapTurns.{CanSaveFile, EndsByFile, ScrapAlternates, eight_polls}
-use Rattle.rh_laws.proofs.ScrapStages.{Older, Stage, IsFree, back_of, ack_of, load_of, told_of, asked_at}
-use Rattle.rh_laws.proofs.ScrapStages.{ignored_fetch, holds_fetch, fetch_back}
-use Rattle.rh_laws.proofs.ScrapStages.{fetch_back_free, finds_fetch, asked_stage, asked_free, finds_asked, filed_stage}
-use Rattle.rh_laws.proofs.ScrapStages.{filed_free, finds_load, told_stage, told_free, finds_told, done_stage, lost_stage}
-use Rattle.rh_laws.proofs.ScrapPolls.{IsPolled, is_polled, ignored_turn, asked_turn, FileMade, filed_turn}
-use Rattle.rh_laws.proofs.ScrapPolls.{told_turn, done_turn}
+use Rattle.rh_laws.proofs.ScrapStages.{Older, Stage, IsFree, back_of, ack_of, load_of, told_of, asked_at, ignored_fetch, holds_fetch, fetch_back}
+use Rattle.rh_laws.proofs.ScrapStages.{fetch_back_free, finds_fetch, asked_stage, asked_free, finds_asked, filed_stage, filed_free, finds_load, told_stage}
+use Rattle.rh_laws.proofs.ScrapStages.{told_free, finds_told, done_stage, lost_stage}
+use Rattle.rh_laws.proofs.ScrapPolls.{IsPolled, is_polled, ignored_turn, asked_turn, FileMade, filed_turn, told_turn, done_turn}
 use Rattle.rh_safety.proofs.Alternations.{IsNamed, none_seated, rest_granted, save_names, sender_done}
 
 granted : (d : Desk) (c : Command) (cs : List Command) → all_granted d (c ∷ cs) ≡ true →

@@ -1,35 +1,25 @@
 -- What the messages of a transfer by way of the scrap file make of what is seen of the desk, where nothing is refused.
-use Rattle.std.proofs.Common.{◌≡◌, ℕ, Bool, true, false, List, ◌++◌, length, Option, Some, None, refl, sym, ap}
-use Rattle.std.proofs.Common.{◌∙◌, subst}
-use Rattle.std.specs.Prelude.{nat_eq, if◌then◌else◌}
-use Rattle.std.proofs.lemmas.Bool.{eq-eqb}
+use Rattle.rh_laws.proofs.Common.{◌≡◌, ℕ, Bool, true, false, List, ◌++◌, length, Option, Some, None, refl, sym, ap, ◌∙◌, subst, nat_eq, if◌then◌else◌, eq-eqb}
+use Rattle.rh_laws.proofs.Common.{Body, Sending, Taking, Asked, slot_block, Parcel, action_of, load_ack_letter, Desk, Task, Scrap, next_ref, send_letter}
+use Rattle.rh_laws.proofs.Common.{Handled, ignored, save_scrap, answer_ack, finish_load, ask, fetch_back, appended, loaded, load_file, take_file}
+use Rattle.rh_laws.proofs.Common.{answers_none, view, blocks_of, task_of, either, none_some, same_value, field_is, live_of, ok_is}
 use Rattle.rh_defs.specs.declared.message.Action.{Action}
 use Rattle.rh_defs.specs.declared.message.Action.TheVariants as action
-use Rattle.rh_defs.specs.declared.message.Body.{Body}
 use Rattle.rh_defs.specs.declared.message.Body.TheVariants as body
 use Rattle.rh_defs.specs.declared.reply.Outcome.TheVariants as outcome
-use Rattle.rh_defs.specs.declared.transfer.Sending.{Sending}
-use Rattle.rh_defs.specs.declared.transfer.Taking.{Taking}
-use Rattle.rh_defs.specs.declared.transfer.Asked.{Asked}
 use Rattle.rh_defs.specs.declared.transfer.Outgoing.TheVariants as outgoing
 use Rattle.rh_defs.specs.declared.transfer.Incoming.TheVariants as incoming
-use Rattle.rh_defs.specs.Slot.{slot_block}
-use Rattle.rh_defs.specs.Messages.{Parcel, action_of}
-use Rattle.rh_defs.specs.Letters.{ack_letter, load_letter, load_ack_letter}
+use Rattle.rh_defs.specs.Letters.{ack_letter, load_letter}
 use Rattle.rh_defs.specs.Sender as sender
 use Rattle.rh_defs.specs.Receiver as receiver
-use Rattle.rh_defs.specs.Desk.{Desk, Task, Scrap, next_ref, send_letter}
-use Rattle.rh_defs.specs.OutgoingEvents.{Handled, ignored, scrap_shortage, wider, save_scrap, answer_ack, finish_load}
-use Rattle.rh_defs.specs.IncomingEvents.{ask, fetch_back, appended, loaded, load_file, take_file}
+use Rattle.rh_defs.specs.OutgoingEvents.{scrap_shortage, wider}
 use Rattle.rh_defs.specs.Transfer as transfer
-use Rattle.rh_defs.specs.Transfer.{answers_none}
 use Rattle.rh_safety.specs.Alternation.{is_refusal}
-use Rattle.rh_safety.proofs.View.{view, seen_letter, blocks_of, task_of}
+use Rattle.rh_safety.proofs.View.{seen_letter}
 use Rattle.rh_safety.proofs.Ends.{Letter, put}
 use Rattle.rh_safety.proofs.Sight as sight
-use Rattle.rh_safety.proofs.Basics.{either, none_some, same_value}
-use Rattle.rh_safety.proofs.SeenTasks.{field_is, live_of, outs_view, ins_view}
-use Rattle.rh_safety.proofs.SeenBlocks.{from_test, ok_is}
+use Rattle.rh_safety.proofs.SeenTasks.{outs_view, ins_view}
+use Rattle.rh_safety.proofs.SeenBlocks.{from_test}
 use Rattle.rh_safety.proofs.SeenSends.{by_grant, with_step, sent_view}
 use Rattle.rh_safety.proofs.SeenDocuments.{letter_of, ended_view, IsLonger, longer_is, block_there}
 

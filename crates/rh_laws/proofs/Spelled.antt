@@ -1,32 +1,22 @@
 -- What a line means can be spelled, and its printed line is not the longer one.
-use Rattle.std.proofs.Common.{◌≡◌, ℕ, zero, suc, ◌+◌, ◌-◌, ◌<◌, ◌≤◌, Bool, true, false, ◌&&◌, not, cond, List, []}
-use Rattle.std.proofs.Common.{◌∷◌, length, take, refl, sym, subst, ◌∙◌, ap, arith, length-append, inl, inr, ◌⊎◌}
-use Rattle.std.specs.Prelude.{nat_le, nat_lt, ◌==◌, ℤ, pos, Some, None, Result, Ok, Err, if◌then◌else◌, unwrap_or}
-use Rattle.std.specs.Prelude.{slice_get, slice_index, drop}
-use Rattle.std.specs.List.{list_all, slice_split, onto_first, filter, join_with_byte}
-use Rattle.std.specs.Fmt.{decimal, signed_decimal}
-use Rattle.std.specs.Str.{bytes_eq}
-use Rattle.std.specs.Char.{is_ascii_digit, is_ascii_alphabetic, is_ascii_alphanumeric}
-use Rattle.std.proofs.lemmas.Bool.Decides.{nat_tests}
-use Rattle.std.proofs.lemmas.Slice.Eq.{bytes_eq-Decides}
+use Rattle.rh_laws.proofs.Common.{◌≡◌, ℕ, zero, suc, ◌+◌, ◌-◌, ◌<◌, ◌≤◌, Bool, true, false, ◌&&◌, not, cond, List, [], ◌∷◌, length, take, refl, sym, subst}
+use Rattle.rh_laws.proofs.Common.{◌∙◌, ap, arith, length-append, inl, inr, ◌⊎◌, nat_le, nat_lt, ◌==◌, ℤ, pos, Some, None, Result, Ok, Err, if◌then◌else◌}
+use Rattle.rh_laws.proofs.Common.{unwrap_or, slice_get, slice_index, drop, list_all, join_with_byte, decimal, signed_decimal, bytes_eq, is_ascii_digit}
+use Rattle.rh_laws.proofs.Common.{nat_tests, bytes_eq-Decides, encode_lower, Unknown, Command, space, Number, Choice, Maybe, Row, rows, is_name, is_leaf}
+use Rattle.rh_laws.proofs.Common.{is_decimal, number_of, longest_line, word, hex_number, row_of, command_of, is_skipped, line_means, Words, address, in_range}
+use Rattle.rh_laws.proofs.Common.{all_in_range, and_left, and_right}
+use Rattle.std.specs.List.{slice_split, onto_first, filter}
+use Rattle.std.specs.Char.{is_ascii_alphabetic, is_ascii_alphanumeric}
 use Rattle.hex.specs.declared.error.FromHexError.{FromHexError}
-use Rattle.hex.specs.Hex.{encode_lower, lower_digits, decode_of, is_hex_digit}
+use Rattle.hex.specs.Hex.{lower_digits, decode_of, is_hex_digit}
 use Rattle.hex.proofs.HexLemmas.{decode_of-ok, length-encode_with}
 use Rattle.rh_defs.specs.declared.fault.LineFault.{LineFault}
-use Rattle.rh_defs.specs.declared.fault.LineFault.TheVariants.{TooLong, Unknown, Count, Word}
-use Rattle.rh_defs.specs.declared.command.Command.{Command}
-use Rattle.rh_defs.specs.Bytes.{space}
-use Rattle.rh_defs.specs.Grammar.{Form, Name, Leaf, Number, Delta, Address, Bytes, Choice, Maybe, Value, Maker, Row}
-use Rattle.rh_defs.specs.Grammar.{rows}
-use Rattle.rh_defs.specs.Forms.{is_name, is_leaf, is_graphic, is_decimal, number_of, greatest}
-use Rattle.rh_defs.specs.Line.{Meaning, ◌>>=◌, words_of, longest_line, word, name_at, number_at, delta_at, signed}
-use Rattle.rh_defs.specs.Line.{is_negative, unsigned, is_address, hex_number, address_at, leaf_at, choice_at}
-use Rattle.rh_defs.specs.Line.{bytes_at, value_at, command_from, is_count, follow, row_of, row_means, command_by}
-use Rattle.rh_defs.specs.Line.{command_of, is_skipped, line_means}
-use Rattle.rh_defs.specs.Text.{Words, address}
-use Rattle.rh_defs.specs.Range.{in_range, all_in_range}
+use Rattle.rh_defs.specs.declared.fault.LineFault.TheVariants.{TooLong, Count, Word}
+use Rattle.rh_defs.specs.Grammar.{Form, Name, Leaf, Delta, Address, Bytes, Value, Maker}
+use Rattle.rh_defs.specs.Forms.{is_graphic, greatest}
+use Rattle.rh_defs.specs.Line.{Meaning, ◌>>=◌, words_of, name_at, number_at, delta_at, signed, is_negative, unsigned, is_address, address_at, leaf_at}
+use Rattle.rh_defs.specs.Line.{choice_at, bytes_at, value_at, command_from, is_count, follow, row_means, command_by}
 use Rattle.rh_defs.specs.Script.{commands_in}
-use Rattle.rh_safety.proofs.Basics.{and_left, and_right}
 use Rattle.rh_safety.proofs.Lines.{commands_in_range}
 use Rattle.rh_laws.specs.Printer.{is_word, command_words, has_sizes, line_of, fits_a_line, AreSpelled}
 use Rattle.rh_laws.proofs.Texts.{text}

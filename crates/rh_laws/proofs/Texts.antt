@@ -1,26 +1,15 @@
 -- What is printed behind the words of a row, and that the row reads it again.
-use Rattle.std.proofs.Common.{◌≡◌, ℕ, zero, suc, ◌+◌, ◌-◌, ◌^◌, ◌<◌, Bool, true, false, ◌&&◌, ◌||◌, not, cond, List}
-use Rattle.std.proofs.Common.{[], ◌∷◌, ◌++◌, length, drop, length-append, refl, sym, subst, ap, ◌∙◌, arith}
-use Rattle.std.specs.Prelude.{nat_le, nat_lt, ◌==◌, Some, None, Ok, slice_get, unwrap_or, if◌then◌else◌}
-use Rattle.std.specs.List.{list_all}
-use Rattle.std.specs.Fmt.{decimal, signed_decimal}
-use Rattle.std.specs.Str.{bytes_eq}
-use Rattle.std.proofs.lemmas.Bool.Decides.{nat_tests}
-use Rattle.std.proofs.lemmas.Slice.Eq.{bytes_eq-Decides}
-use Rattle.hex.specs.Hex.{encode_lower}
-use Rattle.rh_defs.specs.declared.command.Command.{Command}
-use Rattle.rh_defs.specs.declared.fault.LineFault.TheVariants.{Unknown}
-use Rattle.rh_defs.specs.Forms.{is_name, is_leaf, is_delta}
-use Rattle.rh_defs.specs.Grammar.{Form, Name, Leaf, Number, Delta, Address, Bytes, Choice, Maybe, Value, Maker, Row}
-use Rattle.rh_defs.specs.Grammar.{rows}
-use Rattle.rh_defs.specs.Line.{word, choice_at, value_at, command_from, is_count, row_of, command_by, command_of}
-use Rattle.rh_defs.specs.Text.{Words, address}
-use Rattle.rh_safety.proofs.Basics.{and_left, and_right}
+use Rattle.rh_laws.proofs.Common.{◌≡◌, ℕ, zero, suc, ◌+◌, ◌-◌, ◌^◌, ◌<◌, Bool, true, false, ◌&&◌, ◌||◌, not, cond, List, [], ◌∷◌, ◌++◌, length, drop}
+use Rattle.rh_laws.proofs.Common.{length-append, refl, sym, subst, ap, ◌∙◌, arith, nat_le, nat_lt, ◌==◌, Some, None, Ok, slice_get, unwrap_or, if◌then◌else◌}
+use Rattle.rh_laws.proofs.Common.{list_all, decimal, signed_decimal, bytes_eq, nat_tests, bytes_eq-Decides, encode_lower, Command, Unknown, is_name, is_leaf}
+use Rattle.rh_laws.proofs.Common.{is_delta, Number, Choice, Maybe, Row, rows, word, row_of, command_of, Words, address, and_left, and_right}
+use Rattle.rh_defs.specs.Grammar.{Form, Name, Leaf, Delta, Address, Bytes, Value, Maker}
+use Rattle.rh_defs.specs.Line.{choice_at, value_at, command_from, is_count, command_by}
 use Rattle.rh_laws.specs.Printer.{is_word}
 use Rattle.rh_laws.proofs.Words.{is_whole}
 use Rattle.rh_laws.proofs.Numbers.{decimal_is_whole}
-use Rattle.rh_laws.proofs.Readers.{name_is_whole, leaf_is_whole, number_read, delta_read, delta_is_whole}
-use Rattle.rh_laws.proofs.Readers.{address_read, address_is_whole, bytes_read, bytes_are_whole, name_read, leaf_read}
+use Rattle.rh_laws.proofs.Readers.{name_is_whole, leaf_is_whole, number_read, delta_read, delta_is_whole, address_read, address_is_whole, bytes_read}
+use Rattle.rh_laws.proofs.Readers.{bytes_are_whole, name_read, leaf_read}
 
 -- ---- the values of a row's words, and their texts
 

@@ -1,14 +1,10 @@
 -- Words that are joined by spaces are found again.
-use Rattle.std.proofs.Common.{◌≡◌, ℕ, Bool, true, false, ◌&&◌, not, List, [], ◌∷◌, length, refl, ◌∙◌, ap, arith}
-use Rattle.std.specs.Prelude.{nat_le, nat_lt, ◌==◌, Some, Ok}
-use Rattle.std.specs.List.{list_all, slice_split, filter, join_with_byte}
+use Rattle.rh_laws.proofs.Common.{◌≡◌, ℕ, Bool, true, false, ◌&&◌, not, List, [], ◌∷◌, length, refl, ◌∙◌, ap, arith, nat_le, nat_lt, ◌==◌, Some, Ok, list_all}
+use Rattle.rh_laws.proofs.Common.{join_with_byte, nat_tests, space, Command, longest_line, is_skipped, command_of, line_means, and_left, and_right}
+use Rattle.std.specs.List.{slice_split, filter}
 use Rattle.std.proofs.lemmas.List.Splits.{slice_split_none, slice_split_at}
-use Rattle.std.proofs.lemmas.Bool.Decides.{nat_tests}
 use Rattle.std.proofs.lemmas.List.Sums.{AllPass-from_list_all}
-use Rattle.rh_defs.specs.Bytes.{space}
-use Rattle.rh_defs.specs.declared.command.Command.{Command}
-use Rattle.rh_defs.specs.Line.{words_of, longest_line, is_skipped, command_of, line_means}
-use Rattle.rh_safety.proofs.Basics.{and_left, and_right}
+use Rattle.rh_defs.specs.Line.{words_of}
 
 -- what passes one test passes another
 pub all_pass : (p q : ℕ → Bool) (xs : List ℕ) → ((b : ℕ) → p b ≡ true → q b ≡ true) → list_all p xs ≡ true →

@@ -1,44 +1,20 @@
 -- Each message that a poll handles leaves less to do than before it was taken.
-use Rattle.std.proofs.Common.{◌≡◌, ℕ, suc, ◌+◌, ◌-◌, ◌*◌, ◌≤◌, Bool, true, false, List, length, take, drop, Option, Some, None}
-use Rattle.std.proofs.Common.{refl, sym, ap, subst, inl, inr, arith}
-use Rattle.std.specs.Prelude.{nat_lt, nat_le, Ok, if◌then◌else◌, min}
-use Rattle.std.proofs.lemmas.Bool.Decides.{leb_tells}
-use Rattle.rh_defs.specs.declared.refusal.Refusal.{Refusal}
-use Rattle.rh_defs.specs.declared.reply.Outcome.{Outcome}
-use Rattle.rh_defs.specs.declared.message.Body.{Body}
+use Rattle.rh_laws.proofs.Common.{◌≡◌, ℕ, suc, ◌+◌, ◌-◌, ◌*◌, ◌≤◌, Bool, true, false, List, length, take, drop, Option, Some, None, refl, sym, ap, subst, inl}
+use Rattle.rh_laws.proofs.Common.{inr, arith, nat_lt, nat_le, Ok, if◌then◌else◌, min, leb_tells, Refusal, Outcome, Body, EventCode, User, Recorded}
+use Rattle.rh_laws.proofs.Common.{Acknowledge, Asked, Sending, Taking, Incoming, Outgoing, NoBlock, Split, Flex, block_of, slot_block, Parcel, open_of}
+use Rattle.rh_laws.proofs.Common.{out_id, Desk, Scrap, Task, next_ref, with_sending, with_taking, buffer_at, written_in, Handled, answer_ack, answer_fetch}
+use Rattle.rh_laws.proofs.Common.{fail_sending, finish_load, portion, refused, save_scrap, transmit, accept, ack_back, appended, ask, ended, fetch_back}
+use Rattle.rh_laws.proofs.Common.{fetch_more, load_file, loaded, take_bytes, take_file, take_save, took, came, came_back, handled, OnGrant, chosen, granted}
+use Rattle.rh_laws.proofs.Common.{granted-both, granted-past, granted-then, granted-unless, granted-with, or_else-keeps, Has, Offers, Ascend, and_right}
+use Rattle.rh_laws.proofs.Common.{open_is, is_found, any-grant}
 use Rattle.rh_defs.specs.declared.message.Body.TheVariants as body
-use Rattle.rh_defs.specs.declared.message.EventCode.{EventCode}
-use Rattle.rh_defs.specs.declared.message.EventCode.TheVariants.{User, Recorded, Acknowledge}
-use Rattle.rh_defs.specs.declared.transfer.Asked.{Asked}
-use Rattle.rh_defs.specs.declared.transfer.Sending.{Sending}
-use Rattle.rh_defs.specs.declared.transfer.Taking.{Taking}
-use Rattle.rh_defs.specs.declared.transfer.Incoming.{Incoming}
 use Rattle.rh_defs.specs.declared.transfer.Incoming.TheVariants as incoming
-use Rattle.rh_defs.specs.declared.transfer.Outgoing.{Outgoing}
 use Rattle.rh_defs.specs.declared.transfer.Outgoing.TheVariants as outgoing
-use Rattle.rh_defs.specs.declared.refusal.Refusal.TheVariants.{NoBlock}
-use Rattle.rh_defs.specs.Pieces.{Split}
-use Rattle.rh_defs.specs.Slot.{Flex, block_of, slot_block}
-use Rattle.rh_defs.specs.Messages.{Parcel}
-use Rattle.rh_defs.specs.Records.{open_of, out_id}
 use Rattle.rh_defs.specs.Sender as sender
-use Rattle.rh_defs.specs.Desk.{Desk, Scrap, Task, next_ref, with_sending, with_taking}
-use Rattle.rh_defs.specs.Places.{buffer_at, written_in}
-use Rattle.rh_defs.specs.OutgoingEvents.{Handled, answer_ack, answer_fetch, fail_sending, finish_load, portion, refused}
-use Rattle.rh_defs.specs.OutgoingEvents.{save_scrap, transmit}
-use Rattle.rh_defs.specs.IncomingEvents.{accept, ack_back, appended, ask, ended, fetch_back, fetch_more, load_file, loaded}
-use Rattle.rh_defs.specs.IncomingEvents.{take_bytes, take_file, take_save, took}
-use Rattle.rh_defs.specs.Transfer.{came, came_back, handled}
-use Rattle.rh_defs.proofs.Chains.{OnGrant, chosen, granted, granted-both, granted-past, granted-then, granted-unless, granted-with}
-use Rattle.rh_defs.proofs.Chains.{or_else-keeps}
-use Rattle.rh_safety.proofs.Ends.{Has, Offers}
-use Rattle.rh_safety.proofs.Basics.{Ascend, and_right, open_is}
-use Rattle.rh_safety.proofs.SeenFrames.{is_found}
 use Rattle.rh_laws.specs.Progress.{held_work, source_work, work_ahead, work_back, work_queued}
 use Rattle.rh_laws.proofs.WorkPosts.{Lets}
-use Rattle.rh_laws.proofs.WorkTasks.{Here, ended-here, ins-here, letter-here, offered_work, outs-here, outs_work, slot-here, slots-here}
-use Rattle.rh_laws.proofs.WorkTasks.{names_of, total-with, work_offered}
-use Rattle.rh_safety.proofs.OwnEdits.{any-grant}
+use Rattle.rh_laws.proofs.WorkTasks.{Here, ended-here, ins-here, letter-here, offered_work, outs-here, outs_work, slot-here, slots-here, names_of, total-with}
+use Rattle.rh_laws.proofs.WorkTasks.{work_offered}
 
 -- the task's outgoing records stand in order of id, and the source of each open one is what was offered
 pub record Owns (o : Offers) (t : Task) : Type 0 where

@@ -1,24 +1,13 @@
 -- What the post leaves to do: with each letter sent, each bounce and each message taken.
-use Rattle.std.proofs.Common.{◌≡◌, ℕ, ◌+◌, ◌≤◌, true, List, [], ◌∷◌, ◌++◌, Option, Some, None}
-use Rattle.std.proofs.Common.{refl, sym, ap, subst, ◌∙◌, ◌⊎◌, inl, inr, arith}
-use Rattle.std.specs.Prelude.{if◌then◌else◌, nat_eq, IfSome}
-use Rattle.std.proofs.lemmas.Bool.{eq-eqb}
-use Rattle.std.proofs.lemmas.Bool.Decides.{eqb_tells}
-use Rattle.rh_defs.specs.declared.message.Body.{Body}
+use Rattle.rh_laws.proofs.Common.{◌≡◌, ℕ, ◌+◌, ◌≤◌, true, List, [], ◌∷◌, ◌++◌, Option, Some, None, refl, sym, ap, subst, ◌∙◌, ◌⊎◌, inl, inr, arith}
+use Rattle.rh_laws.proofs.Common.{if◌then◌else◌, nat_eq, IfSome, eq-eqb, eqb_tells, Body, EventCode, User, Recorded, Acknowledge, Letter, Heap, total, Parcel}
+use Rattle.rh_laws.proofs.Common.{Post, Seat, as_returned, bounce_held, first_for, has_seat, held_by, post_poll, post_send, taken_from, OnGrant, chosen}
+use Rattle.rh_laws.proofs.Common.{granted, granted-both, granted-then, none_some, any-grant}
 use Rattle.rh_defs.specs.declared.message.Body.TheVariants as body
-use Rattle.rh_defs.specs.declared.message.EventCode.{EventCode}
-use Rattle.rh_defs.specs.declared.message.EventCode.TheVariants.{User, Recorded, Acknowledge}
-use Rattle.rh_defs.specs.declared.message.Letter.{Letter}
-use Rattle.rh_defs.specs.Heap.{Heap}
-use Rattle.rh_defs.specs.Pieces.{total}
-use Rattle.rh_defs.specs.Messages.{Parcel, is_recorded}
-use Rattle.rh_defs.specs.Post.{Post, Seat, answers_held, as_returned, behind_first, bounce_held, first_for, has_seat, held_by}
-use Rattle.rh_defs.specs.Post.{held_or_released, parcel_of, post_poll, post_send, put_down, queued_in, taken_from, with_held, without_block}
-use Rattle.rh_defs.proofs.Chains.{OnGrant, chosen, granted, granted-both, granted-then}
+use Rattle.rh_defs.specs.Messages.{is_recorded}
+use Rattle.rh_defs.specs.Post.{answers_held, behind_first, held_or_released, parcel_of, put_down, queued_in, with_held, without_block}
 use Rattle.rh_defs.proofs.Cuts.{total-append}
-use Rattle.rh_safety.proofs.Basics.{none_some}
 use Rattle.rh_laws.specs.Progress.{held_work, parcel_work, post_work, work_ahead, work_back, work_queued}
-use Rattle.rh_safety.proofs.OwnEdits.{any-grant}
 
 -- ---- numbers
 

@@ -1,25 +1,9 @@
 -- What a desk leaves to do, by what was offered: what edits of tasks, and letters sent, make of it.
-use Rattle.std.proofs.Common.{◌≡◌, ◌≢◌, ℕ, ◌+◌, ◌≤◌, true, List, [], ◌∷◌, Option, Some}
-use Rattle.std.proofs.Common.{refl, ap, ◌∙◌, inl, inr, arith}
-use Rattle.std.specs.Prelude.{map, nat_eq}
-use Rattle.std.proofs.lemmas.Bool.{eq-eqb}
-use Rattle.std.proofs.lemmas.Bool.Decides.{eqb_tells}
-use Rattle.rh_defs.specs.declared.message.Letter.{Letter}
-use Rattle.rh_defs.specs.declared.transfer.Incoming.{Incoming}
-use Rattle.rh_defs.specs.declared.transfer.Outgoing.{Outgoing}
+use Rattle.rh_laws.proofs.Common.{◌≡◌, ◌≢◌, ℕ, ◌+◌, ◌≤◌, true, List, [], ◌∷◌, Option, Some, refl, ap, ◌∙◌, inl, inr, arith, map, nat_eq, eq-eqb, eqb_tells}
+use Rattle.rh_laws.proofs.Common.{Letter, Incoming, Outgoing, Taking, total, Parcel, Post, held_by, with_id, Slot, Desk, Task, edit_task, free_pages}
+use Rattle.rh_laws.proofs.Common.{send_letter, with_post, with_sending, with_slot, with_taking, with_task, ended, OnGrant, granted, granted-with, Has, Offers}
+use Rattle.rh_laws.proofs.Common.{Ascend}
 use Rattle.rh_defs.specs.declared.transfer.Outgoing.TheVariants as outgoing
-use Rattle.rh_defs.specs.declared.transfer.Taking.{Taking}
-use Rattle.rh_defs.specs.Pieces.{total}
-use Rattle.rh_defs.specs.Messages.{Parcel}
-use Rattle.rh_defs.specs.Post.{Post, held_by}
-use Rattle.rh_defs.specs.Records.{with_id}
-use Rattle.rh_defs.specs.Slot.{Slot}
-use Rattle.rh_defs.specs.Desk.{Desk, Task, edit_task, free_pages, send_letter, with_post, with_sending, with_slot}
-use Rattle.rh_defs.specs.Desk.{with_taking, with_task}
-use Rattle.rh_defs.specs.IncomingEvents.{ended}
-use Rattle.rh_defs.proofs.Chains.{OnGrant, granted, granted-with}
-use Rattle.rh_safety.proofs.Ends.{Has, Offers}
-use Rattle.rh_safety.proofs.Basics.{Ascend}
 use Rattle.rh_safety.proofs.SeenTasks.{change_other}
 use Rattle.rh_safety.proofs.View.{field}
 use Rattle.rh_laws.specs.Progress.{held_work, post_work, source_work, work_ahead}

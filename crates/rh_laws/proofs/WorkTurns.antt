@@ -1,32 +1,13 @@
 -- A poll of a desk that a run reaches leaves less to do, or the post as it was.
-use Rattle.std.proofs.Common.{◌≡◌, ℕ, ◌+◌, ◌≤◌, Bool, true, false, List, [], ◌∷◌, Option, Some, None}
-use Rattle.std.proofs.Common.{refl, sym, ap, subst, ◌∙◌, ◌⊎◌, inl, inr, arith}
-use Rattle.std.specs.Prelude.{◌==◌, if◌then◌else◌, nat_eq, Ok, Err}
-use Rattle.std.specs.Option.{option_map}
-use Rattle.std.proofs.lemmas.Bool.{eq-eqb}
+use Rattle.rh_laws.proofs.Common.{◌≡◌, ℕ, ◌+◌, ◌≤◌, Bool, true, false, List, [], ◌∷◌, Option, Some, None, refl, sym, ap, subst, ◌∙◌, ◌⊎◌, inl, inr, arith}
+use Rattle.rh_laws.proofs.Common.{◌==◌, if◌then◌else◌, nat_eq, Ok, Err, option_map, eq-eqb, Outgoing, Granted, ◌>>=◌, or_else, Split, total, Flex, Parcel}
+use Rattle.rh_laws.proofs.Common.{Post, held_by, post_poll, out_id, Desk, Task, named, with_delivered, Answer, IsDesk, handled, poll, poll_taken, step, Edits}
+use Rattle.rh_laws.proofs.Common.{Has, Offers, Ascend, is_equal, Good, fits, the_task, field_is, blocks_of, task_of, view}
 use Rattle.rh_defs.specs.declared.command.Command.TheVariants as command
 use Rattle.rh_defs.specs.declared.reply.Reply.TheVariants as reply
-use Rattle.rh_defs.specs.declared.transfer.Outgoing.{Outgoing}
 use Rattle.rh_defs.specs.declared.transfer.Outgoing.TheVariants as outgoing
-use Rattle.rh_defs.specs.Chain.{Granted, ◌>>=◌, or_else}
-use Rattle.rh_defs.specs.Pieces.{Split, total}
-use Rattle.rh_defs.specs.Slot.{Flex}
-use Rattle.rh_defs.specs.Messages.{Parcel}
-use Rattle.rh_defs.specs.Post.{Post, held_by, post_poll}
-use Rattle.rh_defs.specs.Records.{out_id}
-use Rattle.rh_defs.specs.Desk.{Desk, Task, named, with_delivered}
-use Rattle.rh_defs.specs.Commands.{Answer}
-use Rattle.rh_defs.specs.Laws.{IsDesk}
-use Rattle.rh_defs.specs.Transfer.{handled}
-use Rattle.rh_defs.specs.Step.{poll, poll_taken, step}
-use Rattle.rh_safety.proofs.Ends.{Edits, Has, Offers}
-use Rattle.rh_safety.proofs.Basics.{Ascend, is_equal}
-use Rattle.rh_safety.proofs.Invariant.{Good}
-use Rattle.rh_safety.proofs.SeenDesks.{fits}
-use Rattle.rh_safety.proofs.SeenFrames.{the_task}
 use Rattle.rh_safety.proofs.SeenLaws.{block_is}
-use Rattle.rh_safety.proofs.SeenTasks.{Distinct, NotIn, field_is}
-use Rattle.rh_safety.proofs.View.{blocks_of, task_of, view}
+use Rattle.rh_safety.proofs.SeenTasks.{Distinct, NotIn}
 use Rattle.rh_laws.specs.Progress.{events, out_work, source_work, task_work, work, work_queued}
 use Rattle.rh_laws.proofs.WorkPosts.{IsIdle, OfTaken, polled-is}
 use Rattle.rh_laws.proofs.WorkTasks.{Here, names_of, offered_work, outs_work, tasks_work, work_offered}

@@ -1,16 +1,14 @@
 -- What a call on lent bytes leaves, from what it leaves of their memory.
-use Rattle.std.proofs.Common.{◌≡◌, ℕ, ◌+◌, ◌≤◌, List, length, sym, ap, subst, arith}
-use Rattle.std.specs.Prelude.{Result, Ok, Err, OnErr}
+use Rattle.rh_lent.proofs.Common.{◌≡◌, ℕ, ◌+◌, ◌≤◌, List, length, sym, ap, subst, arith, Result, Ok, Err, OnErr, area_set, bytes, heap_of, Leaves}
+use Rattle.rh_lent.proofs.Common.{memory_over, LeavesBytes}
 use Rattle.rh_defs.specs.Bytes.{SameOutside}
-use Rattle.rh_defs.specs.Memory.{Memory, area_set, bytes}
+use Rattle.rh_defs.specs.Memory.{Memory}
 use Rattle.rh_defs.specs.Heap.{Heap}
-use Rattle.rh_defs.specs.HeapImage.{Spells, heap_of}
+use Rattle.rh_defs.specs.HeapImage.{Spells}
 use Rattle.rh_defs.specs.declared.heap.HeapRefusal.{HeapRefusal}
-use Rattle.rh_heap.specs.Calls.{Leaves}
 use Rattle.rh_heap.specs.Spans.{IsSpan}
 use Rattle.rh_heap.specs.declared.span.Span.{Span}
-use Rattle.rh_lent.specs.Lent.{memory_over}
-use Rattle.rh_lent.specs.Heaps.{IsHeapBytes, LeavesBytes}
+use Rattle.rh_lent.specs.Heaps.{IsHeapBytes}
 use Rattle.rh_lent.proofs.Over.{over-open}
 use Rattle.rh_store.specs.Limits.{area_limit}
 

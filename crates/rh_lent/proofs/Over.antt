@@ -1,12 +1,11 @@
 -- The one area of lent bytes: what its bytes are, and what an edit of them makes of the memory.
-use Rattle.std.proofs.Common.{◌≡◌, ℕ, ◌==◌, cond, Bool, true, false, List, refl, sym, ap, ◌∙◌, arith}
-use Rattle.std.specs.Prelude.{Option, Some, None, IsSome}
+use Rattle.rh_lent.proofs.Common.{◌≡◌, ℕ, ◌==◌, cond, Bool, true, false, List, refl, sym, ap, ◌∙◌, arith, Option, Some, None, IsSome, area_set, bytes}
+use Rattle.rh_lent.proofs.Common.{memory_of, memory_over, memory_shown}
 use Rattle.std.proofs.lemmas.Bool.Decides.{nat_tests}
-use Rattle.rh_defs.specs.Memory.{Memory, IsOpen, area_set, bytes, with_bytes}
+use Rattle.rh_defs.specs.Memory.{Memory, IsOpen, with_bytes}
 use Rattle.rh_defs.proofs.MemoryLaws.{area_set-area_set}
 use Rattle.rh_lent.specs.declared.lent.Lent.{Lent}
 use Rattle.rh_lent.specs.declared.lent_mut.LentMut.{LentMut}
-use Rattle.rh_lent.specs.Lent.{memory_of, memory_over, memory_shown}
 
 only_true : (b : Bool) (bs : List ℕ) → IsSome (cond b (Some bs) None) → b ≡ true
 only_true true bs h = refl

@@ -1,14 +1,11 @@
 -- The texts of cards.
-use Rattle.std.proofs.Common.{◌≡◌, ℕ, ◌<◌, ◌+◌, ◌*◌, Bool, List, [], ◌∷◌, ◌++◌, length, length-append, ap, ◌∙◌, arith}
-use Rattle.std.specs.Prelude.{codes}
+use Rattle.rh_map.proofs.Common.{◌≡◌, ℕ, ◌<◌, ◌+◌, ◌*◌, Bool, List, [], ◌∷◌, ◌++◌, length, length-append, ap, ◌∙◌, arith, codes, decimal, size_text}
 use Rattle.std.proofs.lemmas.Grind.{common_steps}
 use Rattle.std.specs.List.{concat}
-use Rattle.std.specs.Fmt.{decimal}
 use Rattle.rh_defs.specs.declared.message.Action.{Action}
 use Rattle.rh_defs.specs.declared.message.EventCode.{EventCode}
 use Rattle.rh_defs.specs.Messages.{code_number}
 use Rattle.rh_defs.specs.Text.{address, action_name}
-use Rattle.rh_figure.specs.Phrases.{size_text}
 use Rattle.rh_figure.specs.Cards.{Card, CardKind, FlexCard, PostCard, between_text, flex_card, message_card}
 use Rattle.rh_figure.specs.Map.{card_line}
 use Rattle.rh_map.specs.Cards.{IsFrontOf, front_text, texts_line}

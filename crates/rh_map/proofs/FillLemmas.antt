@@ -1,13 +1,7 @@
 -- A text that is written as far as a line shows it.
-use Rattle.std.proofs.Common.{◌≡◌, ℕ, ◌<◌, ◌≤◌, Bool, true, false, List, [], ◌++◌, length, map, take, refl, sym, ap, ◌∙◌, subst, append_assoc, append-nil}
-use Rattle.std.proofs.Common.{length-append, arith}
-use Rattle.std.specs.Prelude.{codes, nat_le, not, ◌==◌}
-use Rattle.std.proofs.lemmas.Bool.Decides.{nat_tests}
+use Rattle.rh_map.proofs.Common.{◌≡◌, ℕ, ◌<◌, ◌≤◌, Bool, true, false, List, [], ◌++◌, length, map, take, refl, sym, ap, ◌∙◌, subst, append_assoc, append-nil}
+use Rattle.rh_map.proofs.Common.{length-append, arith, codes, nat_le, not, ◌==◌, nat_tests, eqb_apart, where_so, shown_byte, shown_line, Fills}
 use Rattle.std.proofs.lemmas.List.{take-append-le}
-use Rattle.rh_defs.proofs.HeapLists.{eqb_apart}
-use Rattle.rh_figure.specs.Phrases.{where_so}
-use Rattle.rh_figure.specs.Map.{shown_byte, shown_line}
-use Rattle.rh_map.specs.Written.{Fills}
 use Rattle.rh_map.proofs.LineLemmas.{cut-long}
 
 -- all of a text is written

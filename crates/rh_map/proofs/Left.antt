@@ -1,8 +1,8 @@
 -- A text of which a part was written, and the rest is left.
-use Rattle.std.proofs.Common.{◌≡◌, ℕ, List, [], ◌++◌, Result, Err, refl, sym, ap, ◌∙◌, subst, append_assoc, append-nil}
+use Rattle.rh_map.proofs.Common.{◌≡◌, ℕ, List, [], ◌++◌, Result, Err, refl, sym, ap, ◌∙◌, subst, append_assoc, append-nil, puts_stops}
 use Rattle.std.specs.Result.{IsErr}
 use Rattle.rh_lines.specs.Flow.{Output, Takes, Puts}
-use Rattle.rh_lines.proofs.FlowLemmas.{takes_none, takes_more, takes_breaks, puts_stops}
+use Rattle.rh_lines.proofs.FlowLemmas.{takes_none, takes_more, takes_breaks}
 
 -- what was written, and what is left
 pub record Left (old new : Output) (whole rest : List ℕ) : Type 0 where

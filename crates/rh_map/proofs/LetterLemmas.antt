@@ -1,12 +1,10 @@
 -- Letterboxes, part by part.
-use Rattle.std.proofs.Common.{◌≡◌, ℕ, ◌+◌, ◌<◌, List, [], ◌∷◌, ◌++◌, length, sym, ap, ◌∙◌, length-append, append_assoc, arith}
-use Rattle.std.specs.Prelude.{codes, not, ◌==◌}
-use Rattle.std.specs.List.{flat_map}
-use Rattle.std.specs.Fmt.{decimal}
+use Rattle.rh_map.proofs.Common.{◌≡◌, ℕ, ◌+◌, ◌<◌, List, [], ◌∷◌, ◌++◌, length, sym, ap, ◌∙◌, length-append, append_assoc, arith, codes, not, ◌==◌, flat_map}
+use Rattle.rh_map.proofs.Common.{decimal, where_so, text_of}
 use Rattle.rh_defs.specs.Text.{action_name}
-use Rattle.rh_figure.specs.Phrases.{and_more, is_returned, where_so}
+use Rattle.rh_figure.specs.Phrases.{and_more, is_returned}
 use Rattle.rh_map.specs.declared.letterboxes.MessageEntry.{MessageEntry}
-use Rattle.rh_map.specs.Messages.{text_of, waits_text}
+use Rattle.rh_map.specs.Messages.{waits_text}
 use Rattle.rh_map.proofs.FillLemmas.{some-text}
 
 -- messages behind commas

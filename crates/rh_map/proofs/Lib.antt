@@ -7,3 +7,4 @@ mod FillLemmas
 mod WordLemmas
 mod LetterLemmas
 pub mod SeamLemmas
+pub mod Common

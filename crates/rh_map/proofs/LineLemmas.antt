@@ -1,9 +1,7 @@
 -- A line of a map that is cut.
-use Rattle.std.proofs.Common.{◌≡◌, ◌<◌, List, ℕ, ◌++◌, length, map, take, ap, ◌∙◌, arith}
-use Rattle.std.specs.Prelude.{codes, nat_le}
+use Rattle.rh_map.proofs.Common.{◌≡◌, ◌<◌, List, ℕ, ◌++◌, length, map, take, ap, ◌∙◌, arith, codes, nat_le, cond_false, shown_byte, shown_line}
 use Rattle.std.proofs.lemmas.List.{length-map, take-map}
-use Rattle.rh_defs.proofs.HeapLists.{cond_false, leb_no}
-use Rattle.rh_figure.specs.Map.{shown_byte, shown_line}
+use Rattle.rh_defs.proofs.HeapLists.{leb_no}
 use Rattle.rh_figure.specs.declared.limits.TheConstants.{MAP_COLUMNS}
 
 -- of a long text the first bytes are shown, and two dots

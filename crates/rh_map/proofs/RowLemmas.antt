@@ -1,11 +1,7 @@
 -- Rows of an area, one after the other.
-use Rattle.std.proofs.Common.{◌≡◌, ℕ, suc, ◌+◌, List, ◌++◌, map, ap}
-use Rattle.std.specs.Prelude.{codes}
+use Rattle.rh_map.proofs.Common.{◌≡◌, ℕ, suc, ◌+◌, List, ◌++◌, map, ap, codes, range_with_len, shown_line, shown_lines}
 use Rattle.rh_figure.specs.Figure.{Drawing}
-use Rattle.std.specs.List.{range_with_len}
 use Rattle.rh_figure.specs.Rows.{area_row, rows_down, marks_row}
-use Rattle.rh_figure.specs.Map.{shown_line}
-use Rattle.rh_map.specs.Written.{shown_lines}
 
 -- the highest row, and those below it
 pub rows-below : (g : Drawing) (n j i : ℕ) → i ≡ suc j

@@ -1,17 +1,15 @@
 -- The lines of a text, one after the other.
-use Rattle.std.proofs.Common.{◌≡◌, ℕ, zero, suc, ◌+◌, ◌-◌, ◌<◌, ◌≤◌, Bool, true, false, eqb, List, [], ◌∷◌, ◌++◌, length, take, drop, refl, sym, ap, ◌∙◌}
-use Rattle.std.proofs.Common.{arith, add-one, append-nil}
+use Rattle.rh_map.proofs.Common.{◌≡◌, ℕ, zero, suc, ◌+◌, ◌-◌, ◌<◌, ◌≤◌, Bool, true, false, eqb, List, [], ◌∷◌, ◌++◌, length, take, drop, refl, sym, ap, ◌∙◌}
+use Rattle.rh_map.proofs.Common.{arith, add-one, append-nil, slice_index, codes, nat_tests, cond_false, shown_line, MOST_REPLY_LINES, lines_in, first_lines}
+use Rattle.rh_map.proofs.Common.{shown_lines}
 use Rattle.std.proofs.lemmas.List.{take_rest}
-use Rattle.std.specs.Prelude.{slice_index, codes}
 use Rattle.std.proofs.lemmas.Grind.{flat_map-append}
-use Rattle.std.proofs.lemmas.Bool.Decides.{nat_tests}
 use Rattle.rh_defs.specs.Script.{ended, unended, onto_line, unended_after}
-use Rattle.rh_defs.proofs.HeapLists.{cond_true, cond_false}
+use Rattle.rh_defs.proofs.HeapLists.{cond_true}
 use Rattle.rh_figure.specs.Phrases.{cut}
-use Rattle.rh_figure.specs.Map.{shown_line, reply_lines}
-use Rattle.rh_figure.specs.declared.limits.TheConstants.{MOST_REPLY_LINES, REPLY_COLUMNS}
-use Rattle.rh_map.specs.Replies.{lines_in, rest_line, first_lines, more_behind, excerpt_lines}
-use Rattle.rh_map.specs.Written.{shown_lines}
+use Rattle.rh_figure.specs.Map.{reply_lines}
+use Rattle.rh_figure.specs.declared.limits.TheConstants.{REPLY_COLUMNS}
+use Rattle.rh_map.specs.Replies.{rest_line, more_behind, excerpt_lines}
 
 -- no byte below n is a line feed
 abbrev NoFeed : List ℕ → ℕ → Type 0

@@ -1,9 +1,7 @@
 -- Texts with spaces at an end.
-use Rattle.std.proofs.Common.{◌≡◌, ◌≢◌, ℕ, List, [], ◌∷◌, ◌++◌, ap, ◌∙◌, refl}
-use Rattle.std.specs.Prelude.{◌==◌}
+use Rattle.rh_map.proofs.Common.{◌≡◌, ◌≢◌, ℕ, List, [], ◌∷◌, ◌++◌, ap, ◌∙◌, refl, ◌==◌, cond_false, eqb_apart, trimmed}
 use Rattle.rh_defs.specs.Bytes.{space}
-use Rattle.rh_defs.proofs.HeapLists.{cond_false, eqb_apart}
-use Rattle.rh_figure.specs.Rows.{before_spaces, trimmed}
+use Rattle.rh_figure.specs.Rows.{before_spaces}
 
 -- a space at the end is left out
 pub trimmed-space : (t : List ℕ) → trimmed (t ++ space ∷ []) ≡ trimmed t

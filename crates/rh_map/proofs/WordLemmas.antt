@@ -1,17 +1,15 @@
 -- The first word of a line.
-use Rattle.std.proofs.Common.{◌≡◌, ℕ, zero, suc, ◌<◌, ◌≤◌, true, false, eqb, List, [], ◌∷◌, ◌++◌, length, take, drop, refl, sym, ap, ◌∙◌, append-nil, arith}
-use Rattle.std.specs.Prelude.{slice_index, codes, ◌==◌}
+use Rattle.rh_map.proofs.Common.{◌≡◌, ℕ, zero, suc, ◌<◌, ◌≤◌, true, false, eqb, List, [], ◌∷◌, ◌++◌, length, take, drop, refl, sym, ap, ◌∙◌, append-nil}
+use Rattle.rh_map.proofs.Common.{arith, slice_index, codes, ◌==◌, nat_tests, cond_false, eqb_apart, shown_line, shown_lines}
 use Rattle.rh_defs.specs.Bytes.{space}
 use Rattle.rh_defs.specs.Line.{words_of, word}
-use Rattle.std.proofs.lemmas.Bool.Decides.{nat_tests}
-use Rattle.rh_defs.proofs.HeapLists.{cond_true, cond_false, eqb_apart}
+use Rattle.rh_defs.proofs.HeapLists.{cond_true}
 use Rattle.rh_figure.specs.Phrases.{cut}
-use Rattle.rh_figure.specs.Map.{shown_line, remark_lines}
+use Rattle.rh_figure.specs.Map.{remark_lines}
 use Rattle.rh_figure.specs.declared.limits.TheConstants.{LINE_COLUMNS}
 use Rattle.rh_lines.specs.Words.{piece_words}
 use Rattle.rh_lines.proofs.SplitLemmas.{words_last, words_next}
 use Rattle.rh_map.specs.Script.{BeginsWord}
-use Rattle.rh_map.specs.Written.{shown_lines}
 
 -- a space before a line is no part of a word
 pub space-skipped : (bs : List ℕ) → words_of (space ∷ bs) ≡ words_of bs

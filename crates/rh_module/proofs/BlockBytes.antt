@@ -1,21 +1,17 @@
 -- Blocks of the module area, by the bytes of the area.
-use Rattle.std.proofs.Common.{◌≡◌, ℕ, ◌+◌, ◌≤◌, inl, inr, eqb, List, [], ◌∷◌, length, sym, ap, subst, ◌∙◌, arith}
+use Rattle.rh_module.proofs.Common.{◌≡◌, ℕ, ◌+◌, ◌≤◌, inl, inr, eqb, List, [], ◌∷◌, length, sym, ap, subst, ◌∙◌, arith, Option, Some, None, IfSome, Memory}
+use Rattle.rh_module.proofs.Common.{IsOpen, bytes, Heap, IsImage, heap_of-Spells, IsModule, SpellsIn, heap_in, Module, Span}
 use Rattle.std.proofs.lemmas.Bool.{cases_eq}
-use Rattle.std.specs.Prelude.{Option, Some, None, IfSome}
 use Rattle.rh_defs.specs.Bytes.{word, part, put, put_word, word_bytes}
-use Rattle.rh_defs.specs.Memory.{Memory, IsOpen, bytes, with_bytes}
-use Rattle.rh_defs.specs.Heap.{Segment, Used, Hole, Heap}
-use Rattle.rh_defs.specs.HeapImage.{Stand, IsImage}
+use Rattle.rh_defs.specs.Memory.{with_bytes}
+use Rattle.rh_defs.specs.Heap.{Segment, Used, Hole}
+use Rattle.rh_defs.specs.HeapImage.{Stand}
 use Rattle.rh_defs.proofs.BytesLaws.{length-put, word-part, part-part}
 use Rattle.rh_defs.proofs.MemoryLaws.{bytes-with_bytes, IsOpen-with_bytes, OnlyArea-with_bytes, free-with_bytes}
 use Rattle.rh_defs.proofs.HeapLists.{cond_true, cond_false, eqb_same, eqb_apart}
-use Rattle.rh_defs.proofs.HeapLaws.{heap_of-Spells}
-use Rattle.rh_module.specs.Area.{IsModule, SpellsIn, heap_in}
-use Rattle.rh_module.specs.declared.module.Module.{Module}
 use Rattle.rh_defs.specs.Blocks.{bytes_at, block_bytes, poked, HasBlock, SameShape}
 use Rattle.rh_module.specs.Writes.{Wrote}
 use Rattle.rh_heap.specs.Spans as spans
-use Rattle.rh_heap.specs.declared.span.Span.{Span}
 use Rattle.rh_heap.proofs.MapShapes.{index_shape}
 use Rattle.rh_store.specs.Starts.{IsIndex}
 use Rattle.rh_defs.proofs.ShapeLaws.{poked-shape}

@@ -1,15 +1,9 @@
 -- What a call leaves, by what it is granted.
-use Rattle.std.proofs.Common.{◌≡◌, sym, ap, subst, ◌∙◌}
-use Rattle.std.specs.Prelude.{Ok, Err}
-use Rattle.rh_defs.specs.Memory.{Memory, OnlyArea, bytes}
-use Rattle.rh_defs.specs.Heap.{Heap}
-use Rattle.rh_defs.specs.Chain.{Granted, answer_of, left_of}
+use Rattle.rh_module.proofs.Common.{◌≡◌, sym, ap, subst, ◌∙◌, Ok, Err, Memory, OnlyArea, bytes, Heap, answer_of, left_of, heap_of-Spells, Module, IsModule}
+use Rattle.rh_module.proofs.Common.{SpellsIn, heap_in, Leaves}
+use Rattle.rh_defs.specs.Chain.{Granted}
 use Rattle.rh_defs.specs.declared.refusal.Refusal.{Refusal}
-use Rattle.rh_defs.proofs.HeapLaws.{heap_of-Spells}
 use Rattle.rh_defs.proofs.MemoryLaws.{OnlyArea-self}
-use Rattle.rh_module.specs.declared.module.Module.{Module}
-use Rattle.rh_module.specs.Area.{IsModule, SpellsIn, heap_in}
-use Rattle.rh_module.specs.Calls.{Leaves}
 use Rattle.rh_module.proofs.SpanLaws.{is_module}
 
 module _ {A : Type 0} (m n : Memory) (rma : Module) (granted : Granted (Heap × A)) where

@@ -1,18 +1,15 @@
 -- Changes of the area's length by a signed amount.
-use Rattle.std.proofs.Common.{◌≡◌, ℕ, ◌+◌, ◌-◌, ◌*◌, ◌<◌, ◌≤◌, Bool, true, false, pos, negsuc, to_z, of_z, refl, sym, ap, ◌∙◌, arith}
-use Rattle.std.specs.Prelude.{ℤ, Ok, Err, FitsSigned}
-use Rattle.std.specs.Int.{w32}
+use Rattle.rh_module.proofs.Common.{◌≡◌, ℕ, ◌+◌, ◌-◌, ◌*◌, ◌<◌, ◌≤◌, Bool, true, false, pos, negsuc, to_z, of_z, refl, sym, ap, ◌∙◌, arith, ℤ, Ok, Err}
+use Rattle.rh_module.proofs.Common.{FitsSigned, w32, PAGE, pages_for, Heap, longer}
 use Rattle.std.specs.Int.Signed.{lt_z}
 use Rattle.std.proofs.Math.IntN.{nat_abs}
 use Rattle.std.proofs.lemmas.Int.{to_z-of_z}
 use Rattle.std.proofs.lemmas.Bool.Decides.{nat_tests}
-use Rattle.rh_defs.specs.declared.sizes.TheConstants.{PAGE}
-use Rattle.rh_defs.specs.Pieces.{pages_for}
-use Rattle.rh_defs.specs.Heap.{Heap, base}
+use Rattle.rh_defs.specs.Heap.{base}
 use Rattle.rh_defs.specs.Module.{magnitude, changed_length, whole_pages, module_change}
 use Rattle.rh_defs.specs.declared.refusal.Refusal.TheVariants.{ExcessiveShrink, NoRoom}
 use Rattle.rh_defs.proofs.ModuleLaws.{module_change-low, module_change-short, module_change-done}
-use Rattle.rh_module.specs.Lengths.{longer, shorter}
+use Rattle.rh_module.specs.Lengths.{shorter}
 
 magnitude_is : (z : ℤ) → nat_abs z ≡ magnitude z
 magnitude_is (pos n) = refl

@@ -1,20 +1,12 @@
 -- A free, by what the heap's release answers.
-use Rattle.std.proofs.Common.{◌≡◌, ℕ, length, sym, ap, subst, ◌∙◌}
-use Rattle.std.specs.Prelude.{Ok, Err}
-use Rattle.rh_defs.specs.Memory.{Memory, OnlyArea, bytes}
-use Rattle.rh_defs.specs.Chain.{answer_of, left_of, no_answer}
-use Rattle.rh_defs.specs.Heap.{block_at, release, released_at, refusal_of}
+use Rattle.rh_module.proofs.Common.{◌≡◌, ℕ, length, sym, ap, subst, ◌∙◌, Ok, Err, Memory, OnlyArea, bytes, answer_of, left_of, no_answer, refusal_of}
+use Rattle.rh_module.proofs.Common.{HeapRefusal, OnlyArea-from_Edited, Span, Module, IsModule, heap_in, Leaves}
+use Rattle.rh_defs.specs.Heap.{block_at, release, released_at}
 use Rattle.rh_defs.specs.Module.{module_free}
-use Rattle.rh_defs.specs.declared.heap.HeapRefusal.{HeapRefusal}
 use Rattle.rh_defs.proofs.HeapCalls.{released_at-some, released-found, released-refused}
-use Rattle.rh_defs.proofs.MemoryLaws.{OnlyArea-from_Edited}
 use Rattle.rh_defs.proofs.ModuleLaws.{release_found-end, module_free-none, module_free-some}
 use Rattle.rh_heap.specs.Calls as heap_calls
 use Rattle.rh_heap.specs.Spans as spans
-use Rattle.rh_heap.specs.declared.span.Span.{Span}
-use Rattle.rh_module.specs.declared.module.Module.{Module}
-use Rattle.rh_module.specs.Area.{IsModule, heap_in}
-use Rattle.rh_module.specs.Calls.{Leaves}
 use Rattle.rh_module.proofs.SpanLaws.{span_of, old_heap, begins_there}
 use Rattle.rh_module.proofs.CallLaws.{leaves, refuses}
 

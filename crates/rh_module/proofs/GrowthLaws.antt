@@ -1,21 +1,13 @@
 -- Calls on the heap that has grown by what it was short of.
-use Rattle.std.proofs.Common.{◌≡◌, ℕ, length, refl, sym, ap, subst, ◌∙◌}
-use Rattle.std.specs.Prelude.{Result, Ok, IsOk}
-use Rattle.rh_defs.specs.Memory.{Memory, OnlyArea, bytes}
-use Rattle.rh_defs.specs.Pieces.{pages_for}
-use Rattle.rh_defs.specs.Heap.{Heap, as_granted, raised}
-use Rattle.rh_defs.specs.Chain.{Granted, answer_of, left_of}
-use Rattle.rh_defs.specs.declared.heap.HeapRefusal.{HeapRefusal}
-use Rattle.rh_defs.proofs.MemoryLaws.{OnlyArea-both, OnlyArea-from_Edited}
+use Rattle.rh_module.proofs.Common.{◌≡◌, ℕ, length, refl, sym, ap, subst, ◌∙◌, Result, Ok, IsOk, Memory, OnlyArea, bytes, pages_for, Heap, answer_of, left_of}
+use Rattle.rh_module.proofs.Common.{HeapRefusal, OnlyArea-from_Edited, Span, Module, SpellsIn, longer, Leaves}
+use Rattle.rh_defs.specs.Heap.{as_granted, raised}
+use Rattle.rh_defs.specs.Chain.{Granted}
+use Rattle.rh_defs.proofs.MemoryLaws.{OnlyArea-both}
 use Rattle.rh_defs.proofs.ModuleLaws.{Grows}
 use Rattle.rh_heap.specs.Calls as heap_calls
 use Rattle.rh_heap.specs.Spans as spans
-use Rattle.rh_heap.specs.declared.span.Span.{Span}
-use Rattle.rh_module.specs.declared.module.Module.{Module}
-use Rattle.rh_module.specs.Area.{SpellsIn}
-use Rattle.rh_module.specs.Lengths.{longer}
 use Rattle.rh_module.proofs.SpanLaws.{span_of, heap_there, begins_there}
-use Rattle.rh_module.specs.Calls.{Leaves}
 use Rattle.rh_module.proofs.CallLaws.{leaves}
 
 -- the area and its heap h have grown for the shortage of a call

@@ -1,25 +1,18 @@
 -- The heap while its area gets another length.
-use Rattle.std.proofs.Common.{◌≡◌, ℕ, ◌+◌, ◌-◌, ◌*◌, ◌%◌, ◌^◌, ◌<◌, ◌≤◌, length, to_z, of_z, zero, suc, pos, neg_ℤ, ◌-ℤ◌, sym, ap, subst, ◌∙◌, arith}
-use Rattle.std.specs.Prelude.{ℤ, Ok, Err}
-use Rattle.std.specs.Int.{w32, w64}
+use Rattle.rh_module.proofs.Common.{◌≡◌, ℕ, ◌+◌, ◌-◌, ◌*◌, ◌%◌, ◌^◌, ◌<◌, ◌≤◌, length, to_z, of_z, zero, suc, pos, neg_ℤ, ◌-ℤ◌, sym, ap, subst, ◌∙◌, arith, ℤ}
+use Rattle.rh_module.proofs.Common.{Ok, Err, w32, PAGE, Memory, IsOpen, OnlyArea, bytes, answer_of, no_answer, Heap, extended, HeapRefusal, IsImage}
+use Rattle.rh_module.proofs.Common.{OnlyArea-from_Edited, Span, Module, IsModule, SpellsIn, heap_in, longer}
+use Rattle.std.specs.Int.{w64}
 use Rattle.std.proofs.lemmas.Int.{to_z_pos, ints}
-use Rattle.rh_defs.specs.declared.sizes.TheConstants.{PAGE}
-use Rattle.rh_defs.specs.Memory.{Memory, IsOpen, OnlyArea, bytes, grown, shrunk}
+use Rattle.rh_defs.specs.Memory.{grown, shrunk}
 use Rattle.rh_defs.specs.Pieces.{moved}
-use Rattle.rh_defs.specs.Chain.{answer_of, no_answer}
-use Rattle.rh_defs.specs.Heap.{Heap, extend, extended, base}
-use Rattle.rh_defs.specs.declared.heap.HeapRefusal.{HeapRefusal}
+use Rattle.rh_defs.specs.Heap.{extend, base}
 use Rattle.rh_defs.specs.declared.heap.HeapRefusal.TheVariants.{ExcessiveShrink}
-use Rattle.rh_defs.specs.HeapImage.{IsImage}
-use Rattle.rh_defs.proofs.MemoryLaws.{IsOpen-grown, length-grown, length-shrunk, SameIn-grown, SameIn-shrunk, OnlyArea-grown, OnlyArea-shrunk}
-use Rattle.rh_defs.proofs.MemoryLaws.{OnlyArea-from_Edited, OnlyArea-both}
+use Rattle.rh_defs.proofs.MemoryLaws.{IsOpen-grown, length-grown, length-shrunk, SameIn-grown, SameIn-shrunk, OnlyArea-grown, OnlyArea-shrunk, OnlyArea-both}
 use Rattle.rh_defs.proofs.HeapCalls.{extend-done, extend-fits, extend-refused}
 use Rattle.rh_defs.proofs.ModuleLaws.{Spells-kept}
 use Rattle.rh_heap.specs.Spans as spans
-use Rattle.rh_heap.specs.declared.span.Span.{Span}
-use Rattle.rh_module.specs.declared.module.Module.{Module}
-use Rattle.rh_module.specs.Area.{IsModule, SpellsIn, heap_in}
-use Rattle.rh_module.specs.Lengths.{longer, shorter}
+use Rattle.rh_module.specs.Lengths.{shorter}
 use Rattle.rh_module.proofs.SpanLaws.{span_of, Begins, is_span, heap_there, old_heap, begins_there}
 use Rattle.rh_store.specs.Limits.{pool_limit}
 

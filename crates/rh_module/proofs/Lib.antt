@@ -6,3 +6,4 @@ pub mod GrowthLaws
 pub mod FreeLaws
 pub mod NeedLaws
 pub mod BlockBytes
+pub mod Common

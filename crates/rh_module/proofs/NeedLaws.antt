@@ -1,14 +1,9 @@
 -- What a call is granted, by the need that the heap answered.
-use Rattle.std.proofs.Common.{◌≡◌, ℕ, ◌+◌, ◌*◌, ◌<◌, ◌≤◌, to_z, of_z, refl, sym, ap, subst, ◌∙◌, arith}
-use Rattle.std.specs.Prelude.{Result, Ok, Err, ℤ, FitsSigned}
-use Rattle.std.specs.Int.{w32}
+use Rattle.rh_module.proofs.Common.{◌≡◌, ℕ, ◌+◌, ◌*◌, ◌<◌, ◌≤◌, to_z, of_z, refl, sym, ap, subst, ◌∙◌, arith, Result, Ok, Err, ℤ, FitsSigned, w32, PAGE}
+use Rattle.rh_module.proofs.Common.{Memory, pages_for, Heap, refusal_of, HeapRefusal, Span, Module, IsModule, SpellsIn, heap_in, longer, Leaves}
 use Rattle.std.proofs.lemmas.Int.{to_z-of_z}
-use Rattle.rh_defs.specs.declared.sizes.TheConstants.{PAGE}
-use Rattle.rh_defs.specs.Memory.{Memory}
-use Rattle.rh_defs.specs.Pieces.{pages_for}
-use Rattle.rh_defs.specs.Heap.{Heap, refusal_of, raised, block_at, claim, claim_need, resize, need_at}
+use Rattle.rh_defs.specs.Heap.{raised, block_at, claim, claim_need, resize, need_at}
 use Rattle.rh_defs.specs.Module.{module_claim, module_resize, module_need_pages}
-use Rattle.rh_defs.specs.declared.heap.HeapRefusal.{HeapRefusal}
 use Rattle.rh_defs.specs.declared.refusal.Refusal.TheVariants.{NoRoom}
 use Rattle.rh_defs.proofs.ModuleLaws.{Grows, module_claim-zero, module_claim-short, module_claim-grows, module_need_pages-zero, module_need_pages-is}
 use Rattle.rh_defs.proofs.ModuleLaws.{module_resize-refused, module_resize-short, module_resize-grows}
@@ -16,12 +11,7 @@ use Rattle.rh_defs.proofs.HeapGrowth.{claim-granted, resize-granted}
 use Rattle.rh_defs.proofs.MemoryLaws.{OnlyArea-self}
 use Rattle.rh_heap.specs.Calls as heap_calls
 use Rattle.rh_heap.specs.Spans as spans
-use Rattle.rh_heap.specs.declared.span.Span.{Span}
-use Rattle.rh_module.specs.declared.module.Module.{Module}
-use Rattle.rh_module.specs.Area.{IsModule, SpellsIn, heap_in}
-use Rattle.rh_module.specs.Lengths.{longer}
 use Rattle.rh_module.proofs.SpanLaws.{span_of, old_heap}
-use Rattle.rh_module.specs.Calls.{Leaves}
 use Rattle.rh_module.proofs.GrowthLaws.{Grown, done}
 
 -- an amount, as the code passes it on

@@ -1,14 +1,8 @@
 -- The module area as a span that a heap stands in.
-use Rattle.std.proofs.Common.{◌≡◌, sym, subst}
-use Rattle.rh_defs.specs.Memory.{Memory, IsOpen, bytes}
-use Rattle.rh_defs.specs.Heap.{Heap}
-use Rattle.rh_defs.specs.HeapImage.{Spells, IsImage}
-use Rattle.rh_defs.proofs.HeapLaws.{heap_of-Spells}
+use Rattle.rh_module.proofs.Common.{◌≡◌, sym, subst, Memory, IsOpen, bytes, Heap, IsImage, heap_of-Spells, Span, Module, IsModule, SpellsIn, heap_in}
+use Rattle.rh_defs.specs.HeapImage.{Spells}
 use Rattle.rh_heap.specs.Spans as spans
-use Rattle.rh_heap.specs.declared.span.Span.{Span}
 use Rattle.rh_heap.proofs.SpanLaws as span_laws
-use Rattle.rh_module.specs.declared.module.Module.{Module}
-use Rattle.rh_module.specs.Area.{IsModule, SpellsIn, heap_in}
 
 -- where the module area's heap stands
 abbrev pub span_of : Module → Span

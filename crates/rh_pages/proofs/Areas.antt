@@ -1,13 +1,10 @@
 -- What the areas contain after one of them changed.
-use Rattle.std.proofs.Common.{◌≡◌, ◌≢◌, ℕ, ◌+◌, ◌/◌, ◌<◌, cond, Bool, true, false, inl, inr, List, [], length, get_or, set, sym, ap, ◌∙◌, arith}
-use Rattle.std.specs.Prelude.{Option, Some, None, IsSome, unwrap_or}
+use Rattle.rh_pages.proofs.Common.{◌≡◌, ◌≢◌, ℕ, ◌+◌, ◌/◌, ◌<◌, cond, Bool, true, false, inl, inr, List, [], length, get_or, set, sym, ap, ◌∙◌, arith, Option}
+use Rattle.rh_pages.proofs.Common.{Some, None, IsSome, unwrap_or, cases_eq, get_or-set_same, get_or-set_other, PAGE, Memory, area_set, bytes_of, list_at}
+use Rattle.rh_pages.proofs.Common.{contents}
 use Rattle.std.proofs.Math.Path.{fun_ext}
-use Rattle.std.proofs.lemmas.Bool.{cases_eq}
-use Rattle.std.proofs.lemmas.List.{get_or-set_same, get_or-set_other}
-use Rattle.rh_defs.specs.declared.sizes.TheConstants.{PAGE}
-use Rattle.rh_defs.specs.Memory.{Memory, Ledger, area_set}
+use Rattle.rh_defs.specs.Memory.{Ledger}
 use Rattle.rh_defs.proofs.MemoryLaws.{area_set-same, area_set-other, pages_below-set}
-use Rattle.rh_pages.specs.Pages.{bytes_of, list_at, contents}
 use Rattle.rh_pages.specs.Kept.{open_flag}
 
 -- an area by its mark

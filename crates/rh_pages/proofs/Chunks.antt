@@ -1,16 +1,11 @@
 -- What a write inside one page does to the bytes of page lists.
-use Rattle.std.proofs.Common.{◌≡◌, ◌≢◌, ℕ, zero, suc, ◌+◌, ◌-◌, ◌*◌, ◌<◌, ◌≤◌, ◌⊎◌, inl, inr, ◌==◌, cond, List, [], ◌∷◌, ◌++◌, length, get_or, refl, sym, ap}
-use Rattle.std.proofs.Common.{◌∙◌, arith}
-use Rattle.std.proofs.lemmas.Bool.{cases_eq, cases_lt}
+use Rattle.rh_pages.proofs.Common.{◌≡◌, ◌≢◌, ℕ, zero, suc, ◌+◌, ◌-◌, ◌*◌, ◌<◌, ◌≤◌, ◌⊎◌, inl, inr, ◌==◌, cond, List, [], ◌∷◌, ◌++◌, length, get_or, refl, sym}
+use Rattle.rh_pages.proofs.Common.{ap, ◌∙◌, arith, cases_eq, cases_lt, PAGE, part, put, length-part, length-put, bytes_of, times, length-bytes}
 use Rattle.std.proofs.lemmas.Bool.Decides.{nat_tests}
 use Rattle.std.proofs.lemmas.Grind.{same_number_lists}
-use Rattle.rh_defs.specs.declared.sizes.TheConstants.{PAGE}
-use Rattle.rh_defs.specs.Bytes.{part, put}
-use Rattle.rh_defs.proofs.BytesLaws.{length-part, length-put, get-part, put_below, put_above, put_inside, part-part, part-put_below, part-put_above}
-use Rattle.rh_defs.proofs.BytesLaws.{part-append_left, part-append_right, put-append_left, put-append_right}
-use Rattle.rh_pages.specs.Pages.{page, bytes_of}
-use Rattle.rh_store.specs.Shares.{times}
-use Rattle.rh_pages.specs.Kept.{length-bytes}
+use Rattle.rh_defs.proofs.BytesLaws.{get-part, put_below, put_above, put_inside, part-part, part-put_below, part-put_above, part-append_left}
+use Rattle.rh_defs.proofs.BytesLaws.{part-append_right, put-append_left, put-append_right}
+use Rattle.rh_pages.specs.Pages.{page}
 
 -- how often a page stands in a list of one
 abbrev pub one_if : ℕ → ℕ → ℕ

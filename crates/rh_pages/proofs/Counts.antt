@@ -1,7 +1,6 @@
 -- How often a page stands in page lists.
-use Rattle.std.proofs.Common.{◌≡◌, ◌≢◌, ℕ, zero, suc, ◌+◌, ◌<◌, ◌≤◌, inl, inr, List, [], ◌∷◌, ◌++◌, length, get_or, set, refl, ap, arith}
-use Rattle.rh_pages.specs.Pages.{list_at}
-use Rattle.rh_store.specs.Shares.{times, times_all}
+use Rattle.rh_pages.proofs.Common.{◌≡◌, ◌≢◌, ℕ, zero, suc, ◌+◌, ◌<◌, ◌≤◌, inl, inr, List, [], ◌∷◌, ◌++◌, length, get_or, set, refl, ap, arith, list_at, times}
+use Rattle.rh_pages.proofs.Common.{times_all}
 use Rattle.rh_pages.proofs.Chunks.{one_if, head_tells, stands}
 
 pub times-push : (j k : ℕ) (xs : List ℕ) → times j (xs ++ k ∷ []) ≡ times j xs + one_if k j

@@ -1,5 +1,6 @@
 pub mod Areas
 pub mod Chunks
+pub mod Common
 pub mod Counts
 pub mod Passing
 pub mod Regions

@@ -1,8 +1,7 @@
 -- A page number goes from one list of a table to another: from the last one, that of the free pages, to an area's, or back.
-use Rattle.std.proofs.Common.{◌≡◌, ◌≢◌, ℕ, ◌<◌, List, [], ◌∷◌, ◌++◌, length, set, take, sym, ap, ap₂, ◌∙◌, arith}
-use Rattle.std.proofs.lemmas.List.{get_or-set_same, get_or-set_other, get_or-take, take-set-le}
+use Rattle.rh_pages.proofs.Common.{◌≡◌, ◌≢◌, ℕ, ◌<◌, List, [], ◌∷◌, ◌++◌, length, set, take, sym, ap, ap₂, ◌∙◌, arith, get_or-set_same, get_or-set_other}
+use Rattle.rh_pages.proofs.Common.{get_or-take, take-set-le, list_at}
 use Rattle.std.proofs.Math.Seq.{take-set-lt}
-use Rattle.rh_pages.specs.Pages.{list_at}
 
 apart : (i n : ℕ) → i < n → i ≢ n
 apart i n lt e = absurd (omega arith)

@@ -1,13 +1,13 @@
 -- What a region's own calls do, in the words of byte lists.
-use Rattle.std.proofs.Common.{◌≡◌, ℕ, ◌+◌, ◌≤◌, List, length, replicate, slice_range, refl, sym, ap, ◌∙◌, arith}
-use Rattle.std.proofs.lemmas.List.{length-replicate}
+use Rattle.rh_pages.proofs.Common.{◌≡◌, ℕ, ◌+◌, ◌≤◌, List, length, replicate, slice_range, refl, sym, ap, ◌∙◌, arith, length-replicate, part, put}
+use Rattle.rh_pages.proofs.Common.{length-part, part-range}
 use Rattle.std.specs.Int.{from_le_bytes, w32}
 use Rattle.rh_region.specs.Patched.{with_run, patched}
 use Rattle.rh_region.specs.Word.{word_at}
 use Rattle.rh_region.specs.Zeros.{zeros}
 use Rattle.rh_region.proofs.PatchedLemmas.{patched_same}
-use Rattle.rh_defs.specs.Bytes.{word, part, put}
-use Rattle.rh_defs.proofs.BytesLaws.{length-part, part-drop, part-range, put-parts}
+use Rattle.rh_defs.specs.Bytes.{word}
+use Rattle.rh_defs.proofs.BytesLaws.{part-drop, put-parts}
 
 pub run_put : (r : List ℕ) (p n : ℕ) (ws : List ℕ) → length ws ≡ n → p + n ≤ length r → with_run r p n ws ≡ put r p ws
 run_put r p n ws l h = ap (λ k. with_run r p k ws) (sym l) ∙ sym (put-parts r p ws (omega arith))

@@ -1,11 +1,9 @@
 -- Lists that stand in sections of one row: how one is read, and what a longer or a shorter one makes of all.
-use Rattle.std.proofs.Common.{◌≡◌, ℕ, zero, suc, ◌+◌, ◌*◌, ◌<◌, ◌≤◌, List, [], ◌∷◌, ◌++◌, length, get_or, set, take, drop, replicate, refl, sym, ap, ap₂, ◌∙◌}
-use Rattle.std.proofs.Common.{arith, length-drop, length-take}
-use Rattle.std.proofs.lemmas.List.{take-set-le, drop-drop, drop-set-lt, drop-set-add, get_or-drop, get_or-set_same, take_more, take_more_set}
+use Rattle.rh_pages.proofs.Common.{◌≡◌, ℕ, zero, suc, ◌+◌, ◌*◌, ◌<◌, ◌≤◌, List, [], ◌∷◌, ◌++◌, length, get_or, set, take, drop, replicate, refl, sym, ap, ap₂}
+use Rattle.rh_pages.proofs.Common.{◌∙◌, arith, length-drop, length-take, take-set-le, get_or-set_same, list_at, rows}
+use Rattle.std.proofs.lemmas.List.{drop-drop, drop-set-lt, drop-set-add, get_or-drop, take_more, take_more_set}
 use Rattle.std.proofs.lemmas.Nat.{mul-le}
 use Rattle.std.proofs.Math.Nat.{suc-mul}
-use Rattle.rh_pages.specs.Pages.{list_at}
-use Rattle.rh_pages.specs.Table.{rows}
 
 next : (k room : ℕ) → suc k * room ≡ room + k * room
 next k room = let e = suc-mul k room in omega arith

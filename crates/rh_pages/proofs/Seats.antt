@@ -1,14 +1,10 @@
 -- Where the code finds a part of one page of a store, and what a write there does to the store.
-use Rattle.std.proofs.Common.{◌≡◌, ℕ, ◌+◌, ◌-◌, ◌*◌, ◌/◌, ◌%◌, ◌<◌, ◌≤◌, List, [], length, get_or, sym, ap, subst, ◌∙◌, arith, lit≤}
-use Rattle.std.proofs.lemmas.List.{get_or-take}
-use Rattle.rh_defs.specs.declared.sizes.TheConstants.{MAX_AREAS, MAX_PAGES, PAGE}
-use Rattle.rh_defs.specs.Bytes.{part, put}
-use Rattle.rh_defs.specs.Memory.{IsOpen, bytes, with_bytes}
-use Rattle.rh_pages.specs.declared.paged.PagedStore.{PagedStore}
-use Rattle.rh_pages.specs.Pages.{areas_in, bytes_of, free_in, list_at, memory_in, spot_in, IsStore}
-use Rattle.rh_pages.specs.Paged.{memory_of, place_of, region_of, pages_of, free_of, numbered_law}
-use Rattle.rh_pages.specs.declared.table.TheConstants.{LISTS}
-use Rattle.rh_pages.specs.Table.{lists_of}
+use Rattle.rh_pages.proofs.Common.{◌≡◌, ℕ, ◌+◌, ◌-◌, ◌*◌, ◌/◌, ◌%◌, ◌<◌, ◌≤◌, List, [], length, get_or, sym, ap, subst, ◌∙◌, arith, lit≤, get_or-take}
+use Rattle.rh_pages.proofs.Common.{MAX_AREAS, PAGE, part, put, IsOpen, bytes, with_bytes, PagedStore, areas_in, bytes_of, free_in, list_at, memory_in}
+use Rattle.rh_pages.proofs.Common.{IsStore, memory_of, region_of, pages_of, free_of, numbered_law, LISTS, lists_of}
+use Rattle.rh_defs.specs.declared.sizes.TheConstants.{MAX_PAGES}
+use Rattle.rh_pages.specs.Pages.{spot_in}
+use Rattle.rh_pages.specs.Paged.{place_of}
 use Rattle.rh_pages.proofs.Spots.{Spot, spot, length_are, page_below, bytes_are}
 use Rattle.rh_pages.proofs.Chunks.{bytes_read}
 use Rattle.rh_pages.proofs.Counts.{apart}

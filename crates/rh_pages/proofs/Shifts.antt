@@ -1,11 +1,7 @@
 -- A store after a page went from its free list to an area, or back.
-use Rattle.std.proofs.Common.{◌≡◌, ℕ, ◌+◌, ◌*◌, ◌<◌, ◌≤◌, Bool, List, [], ◌∷◌, ◌++◌, length, set, replicate, refl, sym, ap, ap₂, subst, ◌∙◌}
-use Rattle.rh_defs.specs.declared.sizes.TheConstants.{MAX_AREAS, PAGE}
-use Rattle.rh_defs.specs.Bytes.{put}
-use Rattle.rh_defs.specs.Memory.{IsOpen, grown, shrunk}
-use Rattle.rh_pages.specs.declared.paged.PagedStore.{PagedStore}
-use Rattle.rh_pages.specs.Pages.{areas_in, free_in, list_at, memory_in, IsStore}
-use Rattle.rh_pages.specs.Paged.{memory_of, region_of, pages_of, free_of, numbered_law}
+use Rattle.rh_pages.proofs.Common.{◌≡◌, ℕ, ◌+◌, ◌*◌, ◌<◌, ◌≤◌, Bool, List, [], ◌∷◌, ◌++◌, length, set, replicate, refl, sym, ap, ap₂, subst, ◌∙◌, MAX_AREAS}
+use Rattle.rh_pages.proofs.Common.{PAGE, put, IsOpen, grown, shrunk, PagedStore, areas_in, free_in, list_at, memory_in, IsStore, memory_of, region_of}
+use Rattle.rh_pages.proofs.Common.{pages_of, free_of, numbered_law}
 use Rattle.rh_pages.proofs.Passing.{given_areas, given_free, taken_areas, taken_free}
 use Rattle.rh_pages.proofs.Seats.{table_of}
 use Rattle.rh_pages.proofs.Turns.{page_within, grown_kept, grown_memory, shrunk_kept, shrunk_memory}

@@ -1,14 +1,9 @@
 -- A part of one page of an area: where it stands, how it is read, and what a write there does.
-use Rattle.std.proofs.Common.{◌≡◌, ◌≢◌, ℕ, ◌+◌, ◌*◌, ◌/◌, ◌%◌, ◌<◌, ◌≤◌, Bool, inl, inr, List, [], length, get_or, refl, sym, ap, ◌∙◌, arith}
-use Rattle.std.specs.Prelude.{Some, IsSome, unwrap_or}
-use Rattle.std.proofs.lemmas.Bool.{cases_lt}
-use Rattle.rh_defs.specs.declared.sizes.TheConstants.{PAGE}
-use Rattle.rh_defs.specs.Bytes.{part, put}
-use Rattle.rh_defs.specs.Memory.{area_set, bytes, with_bytes}
-use Rattle.rh_defs.proofs.BytesLaws.{length-put}
-use Rattle.rh_pages.specs.Pages.{bytes_of, list_at, contents, memory_in, spot_in, IsStore}
-use Rattle.rh_store.specs.Shares.{times}
-use Rattle.rh_pages.specs.Kept.{length-bytes, numbered_areas}
+use Rattle.rh_pages.proofs.Common.{◌≡◌, ◌≢◌, ℕ, ◌+◌, ◌*◌, ◌/◌, ◌%◌, ◌<◌, ◌≤◌, Bool, inl, inr, List, [], length, get_or, refl, sym, ap, ◌∙◌, arith, Some}
+use Rattle.rh_pages.proofs.Common.{IsSome, unwrap_or, cases_lt, PAGE, part, put, area_set, bytes, with_bytes, length-put, bytes_of, list_at, contents}
+use Rattle.rh_pages.proofs.Common.{memory_in, IsStore, times, length-bytes}
+use Rattle.rh_pages.specs.Pages.{spot_in}
+use Rattle.rh_pages.specs.Kept.{numbered_areas}
 use Rattle.rh_pages.proofs.Areas.{bytes_open, rewritten, ledger_set, memory_set}
 use Rattle.rh_pages.proofs.Chunks.{bytes_read, bytes_other, bytes_same, stands}
 use Rattle.rh_pages.proofs.Counts.{times_at, times_two}

@@ -1,15 +1,10 @@
 -- A store whose pages are all free, and areas that are opened and closed.
-use Rattle.std.proofs.Common.{◌≡◌, ℕ, zero, suc, ◌+◌, ◌*◌, ◌/◌, ◌<◌, ◌≤◌, Bool, true, false, inl, inr, List, [], ◌∷◌, ◌++◌, length, get_or, set, replicate}
-use Rattle.std.proofs.Common.{refl, sym, ap, ◌∙◌, arith}
-use Rattle.std.specs.Prelude.{Option, Some, None, unwrap_or}
+use Rattle.rh_pages.proofs.Common.{◌≡◌, ℕ, zero, suc, ◌+◌, ◌*◌, ◌/◌, ◌<◌, ◌≤◌, Bool, true, false, inl, inr, List, [], ◌∷◌, ◌++◌, length, get_or, set}
+use Rattle.rh_pages.proofs.Common.{replicate, refl, sym, ap, ◌∙◌, arith, Option, Some, None, unwrap_or, cases_eq, length-replicate, length_push, length-set}
+use Rattle.rh_pages.proofs.Common.{get_or-set_other, PAGE, area_set, bytes_of, list_at, contents, memory_in, IsStore, times, times_all}
 use Rattle.std.proofs.Math.Path.{fun_ext}
-use Rattle.std.proofs.lemmas.Bool.{cases_eq}
-use Rattle.std.proofs.lemmas.List.{length-replicate, length_push, length-set, get_or-set_other}
-use Rattle.rh_defs.specs.declared.sizes.TheConstants.{PAGE}
-use Rattle.rh_defs.specs.Memory.{area_set, opened, fresh}
+use Rattle.rh_defs.specs.Memory.{opened, fresh}
 use Rattle.rh_defs.proofs.MemoryLaws.{pages_below-none}
-use Rattle.rh_pages.specs.Pages.{bytes_of, list_at, contents, memory_in, IsStore}
-use Rattle.rh_store.specs.Shares.{times, times_all}
 use Rattle.rh_pages.proofs.Areas.{contents_marked, flagged, ledger_set, memory_set}
 use Rattle.rh_pages.proofs.Chunks.{head_tells}
 use Rattle.rh_pages.proofs.Counts.{times-push}

@@ -1,14 +1,13 @@
 -- Loops that edit one area: one step more.
-use Rattle.std.proofs.Common.{◌≡◌, ◌≢◌, ℕ, ◌+◌, ◌-◌, ◌*◌, ◌/◌, ◌≤◌, List, [], ◌++◌, length, take, replicate, refl, sym, ap, subst, ◌∙◌, arith, append_assoc}
-use Rattle.std.specs.Prelude.{Option, Some, None, IsSome, unwrap_or}
-use Rattle.std.proofs.lemmas.List.{append-nil, replicate-append-replicate, length-replicate, take-take}
+use Rattle.rh_pages.proofs.Common.{◌≡◌, ◌≢◌, ℕ, ◌+◌, ◌-◌, ◌*◌, ◌/◌, ◌≤◌, List, [], ◌++◌, length, take, replicate, refl, sym, ap, subst, ◌∙◌, arith}
+use Rattle.rh_pages.proofs.Common.{append_assoc, Option, Some, None, IsSome, unwrap_or, length-replicate, PAGE, part, put, Memory, IsOpen, area_set, bytes}
+use Rattle.rh_pages.proofs.Common.{with_bytes, grown, shrunk, length-part, length-put, length-shrunk}
+use Rattle.std.proofs.lemmas.List.{append-nil, replicate-append-replicate, take-take}
 use Rattle.std.proofs.Math.Seq.{take-length}
-use Rattle.rh_defs.specs.declared.sizes.TheConstants.{PAGE}
-use Rattle.rh_defs.specs.Bytes.{part, put}
-use Rattle.rh_defs.specs.Memory.{Memory, IsOpen, area_set, bytes, with_bytes, grown, shrunk, closed}
-use Rattle.rh_defs.proofs.BytesLaws.{put_none, put_more, part_more, length-part, length-put, slide_down, slide_up}
+use Rattle.rh_defs.specs.Memory.{closed}
+use Rattle.rh_defs.proofs.BytesLaws.{put_none, put_more, part_more, slide_down, slide_up}
 use Rattle.rh_defs.proofs.MemoryLaws.{area_set-area_set, area_set-self, bytes-with_bytes, bytes-with_other, area-with_bytes, IsOpen-with_bytes}
-use Rattle.rh_defs.proofs.MemoryLaws.{with_bytes-with_bytes, with_bytes-self, bytes-grown, bytes-shrunk, length-shrunk}
+use Rattle.rh_defs.proofs.MemoryLaws.{with_bytes-with_bytes, with_bytes-self, bytes-grown, bytes-shrunk}
 
 -- an edit of an area that was edited
 pub edited : (m w u : Memory) (id : ℕ) (x : List ℕ) (f : List ℕ → List ℕ) → w ≡ with_bytes m id x → u ≡ with_bytes w id (f (bytes w id))

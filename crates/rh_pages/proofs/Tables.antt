@@ -1,13 +1,10 @@
 -- A page table's lists: where the code finds a number of one, and what its calls make of all.
-use Rattle.std.proofs.Common.{◌≡◌, ℕ, zero, suc, ◌+◌, ◌*◌, ◌<◌, ◌≤◌, List, [], ◌∷◌, ◌++◌, length, get_or, set, take, drop, sym, ap, ◌∙◌, arith, length-drop}
-use Rattle.std.proofs.Common.{length-take}
-use Rattle.std.proofs.lemmas.List.{get_or-drop, get_or-take}
+use Rattle.rh_pages.proofs.Common.{◌≡◌, ℕ, zero, suc, ◌+◌, ◌*◌, ◌<◌, ◌≤◌, List, [], ◌∷◌, ◌++◌, length, get_or, set, take, drop, sym, ap, ◌∙◌, arith}
+use Rattle.rh_pages.proofs.Common.{length-drop, length-take, get_or-take, LISTS, list_at, rows, lists_of}
+use Rattle.std.proofs.lemmas.List.{get_or-drop}
 use Rattle.std.proofs.lemmas.Nat.{mul-le}
 use Rattle.rh_defs.specs.declared.sizes.TheConstants.{MAX_PAGES}
 use Rattle.rh_pages.specs.declared.table.PageTable.{PageTable}
-use Rattle.rh_pages.specs.declared.table.TheConstants.{LISTS}
-use Rattle.rh_pages.specs.Pages.{list_at}
-use Rattle.rh_pages.specs.Table.{rows, lists_of}
 use Rattle.rh_pages.proofs.Rows.{list_rows, length_rows, section_room, length_list, push_rows, pop_rows, last_of_list}
 
 -- an index of a row that stands in a section of a table

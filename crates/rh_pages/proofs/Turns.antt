@@ -1,17 +1,13 @@
 -- A page goes from the free list to the end of an area, and back.
-use Rattle.std.proofs.Common.{◌≡◌, ◌≢◌, ℕ, ◌+◌, ◌-◌, ◌*◌, ◌/◌, ◌<◌, ◌≤◌, Bool, true, false, inl, inr, List, [], ◌∷◌, ◌++◌, length, take, replicate, get_or}
-use Rattle.std.proofs.Common.{set, sym, ap, ◌∙◌, arith, length-append, append_assoc}
-use Rattle.std.specs.Prelude.{Some, IsSome, unwrap_or}
-use Rattle.std.proofs.lemmas.Bool.{cases_eq, cases_lt}
-use Rattle.std.proofs.lemmas.List.{append-nil, length_push, length-set, get_or-set_same, get_or-set_other, take_at}
-use Rattle.rh_defs.specs.declared.sizes.TheConstants.{PAGE}
-use Rattle.rh_defs.specs.Bytes.{put}
-use Rattle.rh_defs.specs.Memory.{area_set, bytes, grown, shrunk}
-use Rattle.rh_defs.proofs.BytesLaws.{length-put, length-part, part-put}
+use Rattle.rh_pages.proofs.Common.{◌≡◌, ◌≢◌, ℕ, ◌+◌, ◌-◌, ◌*◌, ◌/◌, ◌<◌, ◌≤◌, Bool, true, false, inl, inr, List, [], ◌∷◌, ◌++◌, length, take, replicate}
+use Rattle.rh_pages.proofs.Common.{get_or, set, sym, ap, ◌∙◌, arith, length-append, append_assoc, Some, IsSome, unwrap_or, cases_eq, cases_lt, length_push}
+use Rattle.rh_pages.proofs.Common.{length-set, get_or-set_same, get_or-set_other, PAGE, put, area_set, bytes, grown, shrunk, length-put, length-part}
+use Rattle.rh_pages.proofs.Common.{bytes_of, list_at, contents, memory_in, IsStore, times, times_all, length-bytes}
+use Rattle.std.proofs.lemmas.List.{append-nil, take_at}
+use Rattle.rh_defs.proofs.BytesLaws.{part-put}
 use Rattle.rh_defs.proofs.MemoryLaws.{pages_below-one}
-use Rattle.rh_pages.specs.Pages.{page, bytes_of, list_at, contents, memory_in, IsStore}
-use Rattle.rh_store.specs.Shares.{times, times_all}
-use Rattle.rh_pages.specs.Kept.{length-bytes, open_flag, numbered_areas}
+use Rattle.rh_pages.specs.Pages.{page}
+use Rattle.rh_pages.specs.Kept.{open_flag, numbered_areas}
 use Rattle.rh_pages.proofs.Areas.{rewritten, ledger_set, memory_set}
 use Rattle.rh_pages.proofs.Chunks.{bytes_other}
 use Rattle.rh_pages.proofs.Counts.{times-push, one_self, times_all-set, times_at}

@@ -1,16 +1,8 @@
 -- What stands beside the memory, part by part.
-use Rattle.std.proofs.Common.{◌≡◌, ℕ, true, List, [], ◌∷◌, ◌++◌, ap, sym, ◌∙◌}
-use Rattle.std.specs.Prelude.{codes}
-use Rattle.std.specs.List.{concat}
-use Rattle.rh_defs.specs.Desk.{Desk}
-use Rattle.rh_defs.specs.Order.{with_queue}
-use Rattle.rh_figure.specs.Figure.{letterboxes, transfers}
-use Rattle.rh_figure.specs.Phrases.{Text, where_so}
-use Rattle.rh_figure.specs.Scene.{Scene}
-use Rattle.rh_sheet.specs.declared.note.Note.{Note}
-use Rattle.rh_sheet.specs.Chart.{arrows, chart_figure, chart_of}
+use Rattle.rh_painted.proofs.Common.{◌≡◌, ℕ, true, List, [], ◌∷◌, ◌++◌, ap, sym, ◌∙◌, codes, concat, Desk, with_queue, letterboxes, transfers, Text, where_so}
+use Rattle.rh_painted.proofs.Common.{Scene, Note, arrows, messages_table, transfers_table}
+use Rattle.rh_sheet.specs.Chart.{chart_figure, chart_of}
 use Rattle.rh_sheet.specs.Steps.{aside_text, has_aside}
-use Rattle.rh_sheet.specs.Tables.{messages_table, transfers_table}
 use Rattle.rh_painted.proofs.ChartLemmas.{chart-seen}
 
 abbrev pub first : Text

@@ -1,20 +1,14 @@
 -- What is written of cards, one after the other.
-use Rattle.std.proofs.Common.{◌≡◌, ℕ, ◌+◌, ◌<◌, ◌≤◌, Bool, refl, ap, ap₂, sym, ◌∙◌, append_assoc, arith, List, [], ◌∷◌, ◌++◌, length, take, drop, Some}
-use Rattle.std.specs.Prelude.{codes, nat_lt, slice_get}
-use Rattle.std.specs.List.{flat_map}
-use Rattle.std.proofs.lemmas.Grind.{flat_map-append}
-use Rattle.std.proofs.lemmas.List.{drop_all, length-take}
+use Rattle.rh_painted.proofs.Common.{◌≡◌, ℕ, ◌+◌, ◌<◌, ◌≤◌, Bool, refl, ap, ap₂, sym, ◌∙◌, append_assoc, arith, List, [], ◌∷◌, ◌++◌, length, take, drop, Some}
+use Rattle.rh_painted.proofs.Common.{codes, nat_lt, slice_get, flat_map, flat_map-append, drop_all, length-take, cards_behind, Text, where_so, escape}
+use Rattle.rh_painted.proofs.Common.{escaped_byte, rest-some, band_text_from, form_text}
 use Rattle.hex.specs.Hex.{encode_lower}
-use Rattle.rh_drawn.specs.Cards.{cards_behind}
 use Rattle.rh_figure.specs.Cards.{Card, CardKind}
-use Rattle.rh_figure.specs.Phrases.{Text, bytes_text, where_so}
+use Rattle.rh_figure.specs.Phrases.{bytes_text}
 use Rattle.rh_map.specs.Cards.{IsFrontOf, front_text}
 use Rattle.rh_sheet.specs.Cards.{card_sentence}
-use Rattle.rh_sheet.specs.Markup.{escape, escaped_byte}
-use Rattle.rh_sight.proofs.Places.{rest-some}
 use Rattle.rh_painted.specs.declared.bands.Form.{Form}
 use Rattle.rh_painted.specs.declared.bands.Form.TheVariants.{Told}
-use Rattle.rh_painted.specs.Bands.{band_text_from, form_text}
 
 -- the card at a place, and those behind it
 pub band-some : (form : Form) (cards : List Card) (k : ℕ) (c : Card) → slice_get cards k ≡ Some c

@@ -1,16 +1,9 @@
 -- The text of a chart, part by part.
-use Rattle.std.proofs.Common.{◌≡◌, ℕ, ◌+◌, ◌<◌, true, false, refl, ap₂, ◌∙◌, arith, append_assoc, append-nil, List, [], ◌∷◌, ◌++◌, length}
-use Rattle.std.specs.Prelude.{◌==◌, codes}
-use Rattle.std.specs.List.{concat, flat_map}
-use Rattle.rh_defs.specs.Desk.{Desk}
-use Rattle.rh_defs.specs.Order.{with_queue}
-use Rattle.rh_figure.specs.Phrases.{Text}
-use Rattle.rh_sheet.specs.declared.note.Note.{Note}
+use Rattle.rh_painted.proofs.Common.{◌≡◌, ℕ, ◌+◌, ◌<◌, true, false, refl, ap₂, ◌∙◌, arith, append_assoc, append-nil, List, [], ◌∷◌, ◌++◌, length, ◌==◌, codes}
+use Rattle.rh_painted.proofs.Common.{concat, flat_map, Desk, with_queue, Text, Note, arrow_sentence, arrows, steps_in, tasks_in, escape, figure_open, Way}
+use Rattle.rh_painted.proofs.Common.{arrow_of, arrows_seen}
 use Rattle.rh_sheet.specs.declared.sizes.TheConstants.{CHART_EDGE, CHART_WIDTH}
-use Rattle.rh_sheet.specs.Chart.{Arrow, arrow_sentence, arrows, chart_body, chart_foot, chart_of, steps_in, tasks_in}
-use Rattle.rh_sheet.specs.Markup.{escape, figure_open}
-use Rattle.rh_painted.specs.declared.ways.Way.{Way}
-use Rattle.rh_painted.specs.Ways.{arrow_of, arrows_seen}
+use Rattle.rh_sheet.specs.Chart.{Arrow, chart_body, chart_foot, chart_of}
 use Rattle.rh_painted.proofs.TableLemmas.{is_some, some-more}
 
 -- nine parts, one behind the other

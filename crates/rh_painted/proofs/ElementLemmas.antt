@@ -1,11 +1,8 @@
 -- Elements that are written one after the other: for the parts of a list those that each part has.
-use Rattle.std.proofs.Common.{◌≡◌, ℕ, ◌+◌, ◌<◌, ap, ◌∙◌, List, [], ◌∷◌, ◌++◌, length, drop, append_assoc, append-nil, arith, refl, ◌≤◌, get_or}
-use Rattle.std.specs.Prelude.{slice_get, Some, None}
-use Rattle.std.specs.List.{flat_map}
-use Rattle.std.proofs.lemmas.Grind.{flat_map-append}
-use Rattle.rh_figure.specs.Changes.{freed_line, freed_text}
-use Rattle.rh_sheet.specs.Markup.{change_item}
-use Rattle.rh_sight.proofs.Places.{rest-none, rest-some}
+use Rattle.rh_painted.proofs.Common.{◌≡◌, ℕ, ◌+◌, ◌<◌, ap, ◌∙◌, List, [], ◌∷◌, ◌++◌, length, drop, append_assoc, append-nil, arith, refl, ◌≤◌, get_or}
+use Rattle.rh_painted.proofs.Common.{slice_get, Some, None, flat_map, flat_map-append, freed_text, change_item, rest-some}
+use Rattle.rh_figure.specs.Changes.{freed_line}
+use Rattle.rh_sight.proofs.Places.{rest-none}
 use Rattle.rh_painted.proofs.TextWalks.{text-at, text-end}
 
 -- ---- the elements of parts

@@ -1,17 +1,10 @@
 -- What leads to cards, by its places; the arrow of a slide, by the task that slid.
-use Rattle.std.proofs.Common.{◌≡◌, ℕ, Bool, true, false, refl, ap, sym, ◌∙◌, Some}
-use Rattle.std.specs.Prelude.{◌==◌}
-use Rattle.std.specs.List.{flat_map}
+use Rattle.rh_painted.proofs.Common.{◌≡◌, ℕ, Bool, true, false, refl, ap, sym, ◌∙◌, Some, ◌==◌, flat_map, Task, task_at, BlockItem, block_items, item_of}
+use Rattle.rh_painted.proofs.Common.{slide_of, slides, where_so, Scene, lens_below, Frame}
 use Rattle.std.proofs.lemmas.Bool.{eqb-true}
-use Rattle.rh_defs.specs.Desk.{Task, task_at}
-use Rattle.rh_defs.specs.declared.listing.BlockItem.{BlockItem}
-use Rattle.rh_defs.specs.Listing.{block_items}
-use Rattle.rh_figure.specs.Changes.{blocks_now, item_of, slide_of, slides}
-use Rattle.rh_figure.specs.Phrases.{where_so}
-use Rattle.rh_figure.specs.Scene.{Scene}
-use Rattle.rh_sheet.specs.Areas.{lens_above, lens_below}
+use Rattle.rh_figure.specs.Changes.{blocks_now}
+use Rattle.rh_sheet.specs.Areas.{lens_above}
 use Rattle.rh_sheet.specs.Arrows.{slide_arrow}
-use Rattle.rh_sheet.specs.declared.frame.Frame.{Frame}
 
 pub above-same : (f : Frame) {a b p q m n : ℕ} → a ≡ p → b ≡ q → m ≡ n → lens_above f a b m ≡ lens_above f p q n
 above-same f {a} {b} {p} {q} {m} {n} i j k =

@@ -19,3 +19,4 @@ mod AsideLemmas
 mod StepLemmas
 mod TakeLemmas
 mod PrintLemmas
+pub mod Common

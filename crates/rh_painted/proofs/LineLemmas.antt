@@ -1,28 +1,16 @@
 -- A line as far as it is kept: what a sheet has of it, and where it leads.
-use Rattle.std.proofs.Common.{◌≡◌, ℕ, ◌+◌, ◌<◌, ◌≤◌, ◌⊎◌, inl, inr, Bool, true, false, List, [], ◌∷◌, ◌++◌, length, take, map, zero, suc, refl, sym, ap, ◌∙◌}
-use Rattle.std.proofs.Common.{arith}
-use Rattle.std.specs.Prelude.{Option, codes, nat_le, if◌then◌else◌, Err, ◌&&◌, not}
-use Rattle.std.specs.List.{concat}
-use Rattle.std.specs.Fmt.{decimal}
-use Rattle.std.proofs.lemmas.List.{length-take}
-use Rattle.rh_defs.specs.declared.command.Command.{Command}
+use Rattle.rh_painted.proofs.Common.{◌≡◌, ℕ, ◌+◌, ◌<◌, ◌≤◌, ◌⊎◌, inl, inr, Bool, true, false, List, [], ◌∷◌, ◌++◌, length, take, map, zero, suc, refl, sym}
+use Rattle.rh_painted.proofs.Common.{ap, ◌∙◌, arith, Option, codes, nat_le, if◌then◌else◌, Err, ◌&&◌, not, concat, decimal, length-take, Command, Meaning}
+use Rattle.rh_painted.proofs.Common.{line_means, rest_means, kept, kept_means, Share, Text, where_so, changes, Scene, noted, Note, escape, changes_text}
+use Rattle.rh_painted.proofs.Common.{figure_text, said_end, step_end, step_text, Happened, Walk, behind_read, fault_happened, happened_text, read_text}
 use Rattle.rh_defs.specs.declared.fault.LineFault.TheVariants.{TooLong, Unended}
-use Rattle.rh_defs.specs.Line.{Meaning, line_means}
 use Rattle.rh_defs.proofs.HeapLists.{cond_false, leb_no}
-use Rattle.rh_drawn.specs.Deeds.{rest_means}
-use Rattle.rh_feed.specs.Lines.{kept}
-use Rattle.rh_feed.proofs.LineLemmas.{is_above, kept_means, kept_short, split_at}
-use Rattle.rh_figure.specs.Share.{Share}
-use Rattle.rh_figure.specs.Phrases.{Text, cut, where_so}
-use Rattle.rh_figure.specs.Changes.{changes}
-use Rattle.rh_figure.specs.Scene.{Scene}
+use Rattle.rh_feed.proofs.LineLemmas.{is_above, kept_short, split_at}
+use Rattle.rh_figure.specs.Phrases.{cut}
 use Rattle.rh_figure.specs.Map.{shown_byte}
 use Rattle.rh_figure.specs.declared.limits.TheConstants.{LINE_COLUMNS}
-use Rattle.rh_sheet.specs.Chart.{noted}
-use Rattle.rh_sheet.specs.declared.note.Note.{Note}
-use Rattle.rh_sheet.specs.Markup.{escape}
-use Rattle.rh_sheet.specs.Steps.{changes_text, command_text, figure_text, reply_shown, said_end, said_text, step_end, step_text, still_text}
-use Rattle.rh_sheet.specs.Sheet.{Happened, Walk, behind_read, fault_happened, happened_text, is_shown, opening, read_text}
+use Rattle.rh_sheet.specs.Steps.{command_text, reply_shown, said_text, still_text}
+use Rattle.rh_sheet.specs.Sheet.{is_shown, opening}
 
 -- what is done with a line of some meaning is the same by what is kept of it
 pub record SameRead (means : Text → Meaning (Option Command)) (line : Text) : Type 0 where

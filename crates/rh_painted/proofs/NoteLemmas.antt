@@ -1,21 +1,15 @@
 -- What is kept of the last messages.
-use Rattle.std.proofs.Common.{◌≡◌, ℕ, ◌+◌, ◌-◌, ◌<◌, ◌≤◌, Bool, true, false, refl, ap, ap₂, sym, ◌∙◌, arith, List, [], ◌∷◌, ◌++◌, length, map, take, drop}
-use Rattle.std.proofs.Common.{set, get_or, Option, append-nil}
-use Rattle.std.specs.Prelude.{◌==◌, find}
+use Rattle.rh_painted.proofs.Common.{◌≡◌, ℕ, ◌+◌, ◌-◌, ◌<◌, ◌≤◌, Bool, true, false, refl, ap, ap₂, sym, ◌∙◌, arith, List, [], ◌∷◌, ◌++◌, length, map, take}
+use Rattle.rh_painted.proofs.Common.{drop, set, get_or, Option, append-nil, ◌==◌, find, drop_all, take_all, Parcel, Desk, task_at, Before, scene_of, Share}
+use Rattle.rh_painted.proofs.Common.{Note, followed, noted, MessageItem, message_items, held_on, waiting_on, code_among}
 use Rattle.std.specs.List.{refill}
-use Rattle.std.proofs.lemmas.List.{drop_all, get_or_default, take_all}
+use Rattle.std.proofs.lemmas.List.{get_or_default}
 use Rattle.std.proofs.lemmas.List.Edits.{map_over_more}
 use Rattle.rh_defs.specs.declared.message.Letter.{Letter}
-use Rattle.rh_defs.specs.Messages.{Parcel}
-use Rattle.rh_defs.specs.Desk.{Desk, task_at}
-use Rattle.rh_figure.specs.Scene.{Before, Marks, scene_of, sent_by}
-use Rattle.rh_figure.specs.Share.{Share}
-use Rattle.rh_sheet.specs.declared.note.Note.{Note}
-use Rattle.rh_sheet.specs.Chart.{code_or_none, followed, last_of, new_notes, noted, waiting_code}
+use Rattle.rh_figure.specs.Scene.{Marks, sent_by}
+use Rattle.rh_sheet.specs.Chart.{code_or_none, last_of, new_notes, waiting_code}
 use Rattle.rh_sheet.specs.declared.sizes.TheConstants.{MOST_NOTES}
-use Rattle.rh_defs.specs.declared.listing.MessageItem.{MessageItem}
-use Rattle.rh_sight.specs.Messages.{item_of, message_items, held_on, waiting_on}
-use Rattle.rh_painted.specs.Notes.{code_among}
+use Rattle.rh_sight.specs.Messages.{item_of}
 
 -- ---- the code under which a message waits
 

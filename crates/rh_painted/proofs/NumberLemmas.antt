@@ -1,13 +1,9 @@
 -- Numbers in order, put in one by one.
-use Rattle.std.proofs.Common.{◌≡◌, ◌≢◌, ℕ, suc, ◌<◌, ◌≤◌, Bool, true, false, refl, ap, ap₂, sym, ◌∙◌, arith, eq-eqb, List, [], ◌∷◌, ◌++◌, length, get_or}
-use Rattle.std.proofs.Common.{nat_lt, Option, Some, None}
-use Rattle.std.specs.Prelude.{◌==◌, nat_le, not, if◌then◌else◌, insert}
+use Rattle.rh_painted.proofs.Common.{◌≡◌, ◌≢◌, ℕ, suc, ◌<◌, ◌≤◌, Bool, true, false, refl, ap, ap₂, sym, ◌∙◌, arith, eq-eqb, List, [], ◌∷◌, ◌++◌, length}
+use Rattle.rh_painted.proofs.Common.{get_or, nat_lt, Option, Some, None, ◌==◌, nat_le, not, if◌then◌else◌, insert, ne_eqb, nat_tests, drop_all, take_all}
+use Rattle.rh_painted.proofs.Common.{inserted}
 use Rattle.std.specs.List.{position, position_or_len}
-use Rattle.std.proofs.lemmas.Bool.{ne_eqb}
-use Rattle.std.proofs.lemmas.Bool.Decides.{nat_tests}
-use Rattle.std.proofs.lemmas.List.{drop_all, take_all}
 use Rattle.std.proofs.lemmas.List.Sums.{prefix_len-le-length}
-use Rattle.rh_sheet.specs.Chart.{inserted}
 
 -- ---- a place that is found, or none
 

@@ -1,31 +1,28 @@
 -- The owners of pages as they are seen, one after the other.
-use Rattle.std.proofs.Common.{◌≡◌, ℕ, ◌+◌, ◌<◌, ◌≤◌, ap, sym, ◌∙◌, arith, refl, true, List, [], ◌∷◌, ◌++◌, length, map, append-nil}
-use Rattle.std.specs.Prelude.{nat_lt, IfNone, IfSome, codes, slice_get, slice_index, if◌then◌else◌, ◌==◌, Option, Some, None}
-use Rattle.std.specs.List.{enumerate_from, flat_map}
-use Rattle.std.proofs.lemmas.Bool.Decides.{nat_tests}
-use Rattle.std.proofs.lemmas.List.{length-append, length-map}
+use Rattle.rh_painted.proofs.Common.{◌≡◌, ℕ, ◌+◌, ◌<◌, ◌≤◌, ap, sym, ◌∙◌, arith, refl, true, List, [], ◌∷◌, ◌++◌, length, map, append-nil, nat_lt, IfNone}
+use Rattle.rh_painted.proofs.Common.{IfSome, codes, slice_get, slice_index, if◌then◌else◌, ◌==◌, Option, Some, None, enumerate_from, flat_map, nat_tests}
+use Rattle.rh_painted.proofs.Common.{length-append, length-map, Desk, Task, module_pages, task_at, taken_line, takes_text, owner_name, Scene, AreaOf, Holding}
+use Rattle.rh_painted.proofs.Common.{IsShared, SlotOf, count_of, holdings, change_item, IsTaskSeen, at-some, owned-few, seen-fixed, seen-slot, who_seen}
 use Rattle.std.proofs.lemmas.List.FromFn.{length-enumerate_from}
 use Rattle.std.proofs.lemmas.Option.{slice_get_past}
 use Rattle.rh_defs.specs.Commands.{module_area}
-use Rattle.rh_defs.specs.Desk.{Desk, Made, Task, module_pages, task_at, task_pages}
+use Rattle.rh_defs.specs.Desk.{Made, task_pages}
 use Rattle.rh_defs.specs.Laws.{IsDesk}
-use Rattle.rh_figure.specs.Changes.{taken_line, taken_pages, takes_text}
-use Rattle.rh_figure.specs.Phrases.{name_or, owner_name}
-use Rattle.rh_figure.specs.Scene.{Scene}
-use Rattle.rh_figure.specs.Share.{AreaOf, Holding, IsShared, SlotOf, count_of, fixed_holding, holdings}
-use Rattle.rh_sheet.specs.Markup.{change_item}
+use Rattle.rh_figure.specs.Changes.{taken_pages}
+use Rattle.rh_figure.specs.Phrases.{name_or}
+use Rattle.rh_figure.specs.Share.{fixed_holding}
 use Rattle.rh_sheet.specs.Owners.{slot_tag}
 use Rattle.rh_sight.specs.declared.sight.PagesOf.TheVariants as pages
 use Rattle.rh_sight.specs.declared.sight.TaskSight.{TaskSight}
 use Rattle.rh_sight.specs.Pages.{share_in}
-use Rattle.rh_sight.specs.Seen.{IsTaskSeen, owner_seen}
-use Rattle.rh_sight.proofs.Holders.{area-at, at-some, stands-count, stands-fixed, stands-made, stands-slot}
+use Rattle.rh_sight.specs.Seen.{owner_seen}
+use Rattle.rh_sight.proofs.Holders.{area-at, stands-count, stands-fixed, stands-made, stands-slot}
 use Rattle.rh_sight.proofs.Places.{past-end}
 use Rattle.rh_drawn.proofs.DrawingLemmas.{task-stands}
-use Rattle.rh_drawn.proofs.PageLemmas.{owned-few, seen-fixed, seen-made, seen-slot}
+use Rattle.rh_drawn.proofs.PageLemmas.{seen-made}
 use Rattle.rh_painted.specs.declared.owners.Named.TheVariants.{Area, Slot}
 use Rattle.rh_painted.specs.declared.owners.OwnerSight.{OwnerSight}
-use Rattle.rh_painted.specs.Owners.{IsOwnerOf, IsOwnerSeen, who_seen}
+use Rattle.rh_painted.specs.Owners.{IsOwnerOf, IsOwnerSeen}
 
 -- ---- how many they are
 

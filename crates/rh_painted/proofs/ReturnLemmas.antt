@@ -1,15 +1,10 @@
 -- The messages that go back, by the list of all messages.
-use Rattle.std.proofs.Common.{◌≡◌, ℕ, ◌++◌, Bool, true, false, List, [], ◌∷◌, map, ap, sym, refl, ◌∙◌, append-nil}
-use Rattle.std.specs.Prelude.{◌==◌, ◌&&◌, filter}
-use Rattle.std.specs.List.{flat_map}
-use Rattle.std.proofs.lemmas.Grind.{flat_map-append}
-use Rattle.rh_defs.specs.Desk.{Desk}
-use Rattle.rh_defs.specs.Messages.{Parcel, action_of}
+use Rattle.rh_painted.proofs.Common.{◌≡◌, ℕ, ◌++◌, Bool, true, false, List, [], ◌∷◌, map, ap, sym, refl, ◌∙◌, append-nil, ◌==◌, ◌&&◌, filter, flat_map}
+use Rattle.rh_painted.proofs.Common.{flat_map-append, Desk, Parcel, Text, task_name, MessageItem, held_on, message_items, waiting_on, return_lines}
+use Rattle.rh_defs.specs.Messages.{action_of}
 use Rattle.rh_figure.specs.Changes.{returns_line}
-use Rattle.rh_figure.specs.Phrases.{Text, is_returned, task_name}
-use Rattle.rh_defs.specs.declared.listing.MessageItem.{MessageItem}
-use Rattle.rh_sight.specs.Messages.{held_on, item_of, message_items, waiting_on}
-use Rattle.rh_drawn.specs.Returns.{return_lines}
+use Rattle.rh_figure.specs.Phrases.{is_returned}
+use Rattle.rh_sight.specs.Messages.{item_of}
 
 abbrev pub goes_back : ℕ → Parcel → Bool
 goes_back held p = p.message.my_ref == held && is_returned p.code

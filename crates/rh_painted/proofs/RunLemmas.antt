@@ -1,32 +1,25 @@
 -- A whole sheet, from the lines that were taken.
-use Rattle.std.proofs.Common.{◌≡◌, ◌⊎◌, inl, inr, ℕ, Bool, true, false, ◌||◌, List, [], ◌∷◌, ◌++◌, length, map, take, refl, sym, ap, ap₂, ◌∙◌, subst}
-use Rattle.std.proofs.Common.{append-nil, append_assoc, arith}
-use Rattle.std.specs.Prelude.{Err, Ok, Result, is_err, not, ◌==◌}
+use Rattle.rh_painted.proofs.Common.{◌≡◌, ◌⊎◌, inl, inr, ℕ, Bool, true, false, ◌||◌, List, [], ◌∷◌, ◌++◌, length, map, take, refl, sym, ap, ap₂, ◌∙◌, subst}
+use Rattle.rh_painted.proofs.Common.{append-nil, append_assoc, arith, Err, Ok, Result, is_err, not, ◌==◌, list_any, ne_eqb, Desk, IsReordered, rest_means}
+use Rattle.rh_painted.proofs.Common.{kept, IsShared, Text, Place, Read, Stage, after_read, AreShared, Output, Takes, Breaks, Puts, takes_more, Walk}
+use Rattle.rh_painted.proofs.Common.{behind_read, read_text, sheet_lines, Painter, TookLine}
 use Rattle.std.specs.Io.KnownBytes.{Consumes, IsAtEnd}
-use Rattle.std.specs.List.{list_any}
-use Rattle.std.proofs.lemmas.Bool.{ne_eqb}
 use Rattle.std.proofs.lemmas.List.{map-append}
-use Rattle.rh_defs.specs.Desk.{Desk}
-use Rattle.rh_defs.specs.Order.{IsReordered}
 use Rattle.rh_defs.specs.Script.{ended, is_bad, unended}
-use Rattle.rh_drawn.specs.Deeds.{rest_means}
 use Rattle.rh_drawn.proofs.RunLemmas.{kept_some}
-use Rattle.rh_feed.specs.Lines.{kept, kept_lines, kept_rest}
+use Rattle.rh_feed.specs.Lines.{kept_lines, kept_rest}
 use Rattle.rh_feed.specs.Taken.{BrokeAmong, BrokeAtRest, Fed, FedAll, FedUntil, TookAll}
 use Rattle.rh_feed.proofs.LineLemmas.{kept_nil}
-use Rattle.rh_figure.specs.Share.{IsShared}
-use Rattle.rh_figure.specs.Phrases.{Text}
-use Rattle.rh_figure.specs.Map.{Place, Read, Stage, after_read, read_ended, read_line, read_rest}
-use Rattle.rh_figure.specs.Whole.{AreShared, read_of}
-use Rattle.rh_lines.specs.Flow.{Input, Output, Takes, Breaks, Puts}
-use Rattle.rh_lines.proofs.FlowLemmas.{takes_breaks, takes_more}
+use Rattle.rh_figure.specs.Map.{read_ended, read_line, read_rest}
+use Rattle.rh_figure.specs.Whole.{read_of}
+use Rattle.rh_lines.specs.Flow.{Input}
+use Rattle.rh_lines.proofs.FlowLemmas.{takes_breaks}
 use Rattle.rh_session.specs.Outcome.{status_of}
 use Rattle.rh_session.specs.declared.status.Status.{Status}
-use Rattle.rh_sheet.specs.Sheet.{Walk, behind_read, read_text, sheet_end, sheet_head, sheet_lines}
-use Rattle.rh_painted.specs.declared.painter.Painter.{Painter}
+use Rattle.rh_sheet.specs.Sheet.{sheet_end, sheet_head}
 use Rattle.rh_painted.specs.Painted as run
 use Rattle.rh_painted.specs.Painted.{IsSheet, IsSheetFront, PaintedSoFar, PaintedUntil, front_lines}
-use Rattle.rh_painted.specs.Walks.{BrokeLine, BrokeRest, IsFirst, TookLine, TookRest, walk_at, walk_from}
+use Rattle.rh_painted.specs.Walks.{BrokeLine, BrokeRest, IsFirst, TookRest, walk_at, walk_from}
 use Rattle.rh_painted.proofs.LineLemmas.{same-line, same-rest}
 use Rattle.rh_painted.proofs.SheetLemmas.{PaintedAll, bad-lines, lines-last, lines-split, place-after, shared-more, stage-is, took-lines, walk_behind}
 use Rattle.rh_painted.proofs.WalkLemmas.{Stands, all-there, breaks-there, place-behind, rest-there, shared-there}

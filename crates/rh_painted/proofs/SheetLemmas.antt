@@ -1,25 +1,14 @@
 -- A sheet from the lines that were taken, one after the other.
-use Rattle.std.proofs.Common.{◌≡◌, Bool, true, false, ◌||◌, List, [], ◌∷◌, ◌++◌, map, refl, sym, ap, ap₂, ◌∙◌, subst, append-nil, append_assoc}
-use Rattle.std.specs.Prelude.{Option, is_err}
-use Rattle.std.specs.List.{list_any}
-use Rattle.rh_defs.specs.declared.command.Command.{Command}
-use Rattle.rh_defs.specs.Line.{Meaning, line_means}
-use Rattle.rh_defs.specs.Desk.{Desk}
+use Rattle.rh_painted.proofs.Common.{◌≡◌, Bool, true, false, ◌||◌, List, [], ◌∷◌, ◌++◌, map, refl, sym, ap, ap₂, ◌∙◌, subst, append-nil, append_assoc, Option}
+use Rattle.rh_painted.proofs.Common.{is_err, list_any, Command, Meaning, line_means, Desk, Output, Takes, takes_none, takes_more, kept, kept_means, Share}
+use Rattle.rh_painted.proofs.Common.{IsShared, Text, Place, Read, Stage, after_read, AreShared, Walk, behind_read, read_text, sheet_lines, Painter, Painted}
+use Rattle.rh_painted.proofs.Common.{TookLine}
 use Rattle.rh_defs.specs.Script.{is_bad}
-use Rattle.rh_lines.specs.Flow.{Output, Takes}
-use Rattle.rh_lines.proofs.FlowLemmas.{takes_none, takes_more}
-use Rattle.rh_feed.specs.Lines.{kept}
 use Rattle.rh_feed.specs.Taken.{TookAll}
-use Rattle.rh_feed.proofs.LineLemmas.{kept_means}
-use Rattle.rh_figure.specs.Share.{Share, IsShared}
-use Rattle.rh_figure.specs.Phrases.{Text}
-use Rattle.rh_figure.specs.Map.{Place, Read, Stage, after_read, read_line}
-use Rattle.rh_figure.specs.Whole.{AreShared, read_of}
+use Rattle.rh_figure.specs.Map.{read_line}
+use Rattle.rh_figure.specs.Whole.{read_of}
 use Rattle.rh_drawn.proofs.MapLemmas.{after_reads, is_bad_read}
-use Rattle.rh_sheet.specs.Sheet.{Walk, behind_read, read_text, sheet_lines}
-use Rattle.rh_painted.specs.declared.painter.Painter.{Painter}
 use Rattle.rh_painted.specs.Painted.{front_lines}
-use Rattle.rh_painted.specs.Walks.{Painted, TookLine}
 use Rattle.rh_painted.proofs.LineLemmas.{same-line}
 use Rattle.rh_painted.proofs.WalkLemmas.{Stands, place-behind, shared-there, stands-on, takes-there}
 

@@ -1,19 +1,15 @@
 -- The pieces of an area end within it; the last piece of a slot; the anchors of its blocks.
-use Rattle.std.proofs.Common.{◌≡◌, ℕ, suc, ◌+◌, ◌-◌, ◌*◌, ◌<◌, ◌≤◌, refl, ap, sym, ◌∙◌, arith, false, List, [], ◌∷◌, ◌++◌, length, take, drop, Some}
-use Rattle.std.specs.Prelude.{slice_get}
-use Rattle.std.specs.List.{AllByRecursion}
+use Rattle.rh_painted.proofs.Common.{◌≡◌, ℕ, suc, ◌+◌, ◌-◌, ◌*◌, ◌<◌, ◌≤◌, refl, ap, sym, ◌∙◌, arith, false, List, [], ◌∷◌, ◌++◌, length, take, drop, Some}
+use Rattle.rh_painted.proofs.Common.{slice_get, AllByRecursion, BlockItem, base, Piece, Scene}
 use Rattle.std.proofs.lemmas.List.{take-append-drop}
-use Rattle.rh_defs.specs.declared.listing.BlockItem.{BlockItem}
-use Rattle.rh_defs.specs.Heap.{Heap, Segment, Used, Hole, size_of, base}
+use Rattle.rh_defs.specs.Heap.{Heap, Segment, Used, Hole, size_of}
 use Rattle.rh_defs.specs.Listing.{block_items_from}
 use Rattle.rh_defs.specs.Pieces.{page, total}
 use Rattle.rh_defs.specs.Slot.{Flex, HaveAnchors, Slot, slot_length, slot_pages, weight}
 use Rattle.rh_defs.proofs.HeapLists.{total-append}
 use Rattle.rh_defs.proofs.Lists.{all-join}
 use Rattle.rh_figure.specs.Layout.{Legend, flex_pieces, heap_pieces, more_pieces, segment_pieces, slot_legend, slot_pieces}
-use Rattle.rh_figure.specs.declared.piece.Piece.{Piece}
 use Rattle.rh_figure.specs.declared.piece.Kind.TheVariants.{AnchorWords, Unused}
-use Rattle.rh_figure.specs.Scene.{Scene}
 
 -- ---- pieces end within an area
 

@@ -1,36 +1,22 @@
 -- A sheet behind one line: what was written, and where it stands.
-use Rattle.std.proofs.Common.{◌≡◌, ℕ, ◌+◌, Bool, true, false, ◌||◌, List, ◌++◌, refl, sym, ap, ap₂, ◌∙◌, subst}
-use Rattle.std.specs.Prelude.{Option, Some, None, Ok, Err, ◌&&◌, if◌then◌else◌, is_err, not, nat_lt, OnErr, OnOk, Result}
-use Rattle.std.specs.Result.{IsErr}
-use Rattle.rh_defs.specs.declared.command.Command.{Command}
-use Rattle.rh_defs.specs.declared.fault.LineFault.{LineFault}
+use Rattle.rh_painted.proofs.Common.{◌≡◌, ℕ, ◌+◌, Bool, true, false, ◌||◌, List, ◌++◌, refl, sym, ap, ap₂, ◌∙◌, subst, Option, Some, None, Ok, Err, ◌&&◌}
+use Rattle.rh_painted.proofs.Common.{if◌then◌else◌, is_err, not, nat_lt, OnErr, OnOk, Result, IsErr, Command, LineFault, Desk, Meaning, IsReordered, step}
+use Rattle.rh_painted.proofs.Common.{fault_text, reply_to, Share, IsShared, Text, where_so, Before, marks_of, scene_of, Read, after_read, Breaks, Output}
+use Rattle.rh_painted.proofs.Common.{Puts, Takes, takes_none, noted, Note, at_desk, Happened, behind_read, fault_happened, happened_text, read_text}
+use Rattle.rh_painted.proofs.Common.{step_text, Painter, Stand, Painted, happened_at, walk_in}
 use Rattle.rh_defs.specs.declared.reply.Reply.{Reply}
 use Rattle.rh_defs.specs.declared.reply.Reply.TheVariants.{Done}
-use Rattle.rh_defs.specs.Desk.{Desk}
-use Rattle.rh_defs.specs.Line.{Meaning}
-use Rattle.rh_defs.specs.Order.{IsReordered}
-use Rattle.rh_defs.specs.Step.{step}
-use Rattle.rh_defs.specs.Text.{fault_text}
-use Rattle.rh_drawn.specs.Deeds.{IsLikeReply, reply_to}
+use Rattle.rh_drawn.specs.Deeds.{IsLikeReply}
 use Rattle.rh_drawn.proofs.MapLemmas.{shared_alike}
 use Rattle.rh_drawn.proofs.StepLemmas.{on-err, on-ok, reordered-same}
-use Rattle.rh_figure.specs.Share.{Share, IsShared}
-use Rattle.rh_figure.specs.Phrases.{Text, where_so}
-use Rattle.rh_figure.specs.Scene.{Before, before_of, marks_of, scene_of}
-use Rattle.rh_figure.specs.Map.{Read, after_read, is_mark, place}
+use Rattle.rh_figure.specs.Scene.{before_of}
+use Rattle.rh_figure.specs.Map.{is_mark, place}
 use Rattle.rh_figure.proofs.Alike.{marks-alike, scene-alike}
-use Rattle.rh_lines.specs.Flow.{Breaks, Output, Puts, Takes}
-use Rattle.rh_lines.proofs.FlowLemmas.{takes_none}
-use Rattle.rh_sheet.specs.Chart.{noted}
-use Rattle.rh_sheet.specs.declared.note.Note.{Note}
-use Rattle.rh_sheet.specs.Laws.{at_desk}
-use Rattle.rh_sheet.specs.Sheet.{Happened, behind_happened, behind_read, behind_step, command_happened, fault_happened, happened_text, is_shown}
-use Rattle.rh_sheet.specs.Sheet.{is_shown_remark, opening, read_text, shown_step}
-use Rattle.rh_sheet.specs.Steps.{remark_text, step_text}
+use Rattle.rh_sheet.specs.Sheet.{behind_happened, behind_step, command_happened, is_shown, is_shown_remark, opening, shown_step}
+use Rattle.rh_sheet.specs.Steps.{remark_text}
 use Rattle.rh_sheet.specs.declared.sizes.TheConstants.{MOST_STEPS}
-use Rattle.rh_painted.specs.declared.painter.Painter.{Painter}
-use Rattle.rh_painted.specs.Progress.{Stand, stand_behind, stand_shown}
-use Rattle.rh_painted.specs.Walks.{Broke, ComesTo, Follows, Painted, TookStep, WroteStep, happened_at, scene_behind, step_written, walk_at, walk_in}
+use Rattle.rh_painted.specs.Progress.{stand_behind, stand_shown}
+use Rattle.rh_painted.specs.Walks.{Broke, ComesTo, Follows, TookStep, WroteStep, scene_behind, step_written, walk_at}
 
 -- ---- tests
 

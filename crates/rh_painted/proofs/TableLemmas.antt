@@ -1,14 +1,11 @@
 -- The tables beside a figure: whether they have rows, and their rows task by task.
-use Rattle.std.proofs.Common.{◌≡◌, Bool, true, false, refl, ap, ap₂, sym, ◌∙◌, append-nil, arith, List, [], ◌∷◌, ◌++◌, length, map}
-use Rattle.std.specs.Prelude.{◌==◌, ◌||◌, not, codes, filter, find}
-use Rattle.std.specs.List.{flat_map, list_any}
-use Rattle.std.proofs.lemmas.Bool.{ne_eqb}
-use Rattle.std.proofs.lemmas.Grind.{flat_map-append}
+use Rattle.rh_painted.proofs.Common.{◌≡◌, Bool, true, false, refl, ap, ap₂, sym, ◌∙◌, append-nil, arith, List, [], ◌∷◌, ◌++◌, length, map, ◌==◌, ◌||◌, not}
+use Rattle.rh_painted.proofs.Common.{codes, filter, find, flat_map, list_any, ne_eqb, flat_map-append, Desk, Task, Text, transfer_row, MessageItem}
+use Rattle.rh_painted.proofs.Common.{message_items, letterboxes_in, in_rows, ins_named, out_rows, outs_named}
 use Rattle.std.proofs.lemmas.List.{map-append}
 use Rattle.std.proofs.lemmas.List.Elements.{filter-append}
 use Rattle.std.proofs.lemmas.List.Folds.{flat_map-map}
 use Rattle.rh_defs.specs.declared.transfer.Incoming.{Incoming}
-use Rattle.rh_defs.specs.Desk.{Desk, Task}
 use Rattle.rh_defs.specs.Laws.{IsDesk}
 use Rattle.rh_defs.specs.Listing.{in_item}
 use Rattle.rh_defs.specs.Order.{is_to}
@@ -16,16 +13,14 @@ use Rattle.rh_defs.specs.Post.{held_by}
 use Rattle.rh_defs.specs.Records.{in_id}
 use Rattle.rh_figure.specs.Figure as figure
 use Rattle.rh_figure.specs.Figure.{Letterbox, Side, has_id, transfers_of}
-use Rattle.rh_figure.specs.Phrases.{Text}
 use Rattle.rh_figure.specs.Scene.{held_list}
-use Rattle.rh_sheet.specs.Tables.{rows_under, transfer_row}
-use Rattle.rh_defs.specs.declared.listing.MessageItem.{MessageItem}
-use Rattle.rh_sight.specs.Messages.{is_held_by, message_items, waits_for}
-use Rattle.rh_drawn.specs.Letters.{has_letters_in, letterbox_in, letterboxes_in}
+use Rattle.rh_sheet.specs.Tables.{rows_under}
+use Rattle.rh_sight.specs.Messages.{is_held_by, waits_for}
+use Rattle.rh_drawn.specs.Letters.{has_letters_in, letterbox_in}
 use Rattle.rh_drawn.specs.Sides.{comes_alone, goes_out}
 use Rattle.rh_drawn.proofs.PostLemmas.{held-are, letters-are, waits-are}
 use Rattle.rh_drawn.proofs.TransferLemmas.{are_some, filter-flat, in-id, ins, map-flat, outs}
-use Rattle.rh_painted.specs.Transfers.{alone_among, in_rows, ins_named, out_rows, outs_named}
+use Rattle.rh_painted.specs.Transfers.{alone_among}
 use Rattle.rh_painted.proofs.TextWalks.{text-flat}
 
 -- ---- tables

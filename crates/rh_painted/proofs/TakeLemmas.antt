@@ -1,26 +1,16 @@
 -- What a painter has done with a line as far as it is kept, and with what stands behind the last line feed.
-use Rattle.std.proofs.Common.{◌≡◌, Bool, true, false, ◌||◌, [], ◌∷◌, ◌++◌, length, refl, sym, ap, ap₂, ◌∙◌, subst, arith}
-use Rattle.std.specs.Prelude.{Option, Ok, Err, is_err, not, ◌==◌, OnErr, OnOk, Result}
+use Rattle.rh_painted.proofs.Common.{◌≡◌, Bool, true, false, ◌||◌, [], ◌∷◌, ◌++◌, length, refl, sym, ap, ap₂, ◌∙◌, subst, arith, Option, Ok, Err, is_err, not}
+use Rattle.rh_painted.proofs.Common.{◌==◌, OnErr, OnOk, Result, Command, LineFault, Desk, Meaning, line_means, IsReordered, rest_means, kept, kept_means}
+use Rattle.rh_painted.proofs.Common.{Share, IsShared, Text, Place, Read, after_read, Breaks, Output, Puts, Takes, takes_more, at_desk, Walk, behind_read}
+use Rattle.rh_painted.proofs.Common.{read_text, Painter, Painted, TookLine, walk_in}
 use Rattle.std.proofs.lemmas.Bool.{eqb-true}
-use Rattle.rh_defs.specs.declared.command.Command.{Command}
-use Rattle.rh_defs.specs.declared.fault.LineFault.{LineFault}
-use Rattle.rh_defs.specs.Desk.{Desk}
-use Rattle.rh_defs.specs.Line.{Meaning, line_means}
-use Rattle.rh_defs.specs.Order.{IsReordered}
-use Rattle.rh_drawn.specs.Deeds.{rest_means}
 use Rattle.rh_drawn.proofs.RunLemmas.{kept_some}
 use Rattle.rh_drawn.proofs.StepLemmas.{on-err, on-ok}
-use Rattle.rh_feed.specs.Lines.{kept}
-use Rattle.rh_feed.proofs.LineLemmas.{kept_means, kept_nil}
-use Rattle.rh_figure.specs.Share.{Share, IsShared}
-use Rattle.rh_figure.specs.Phrases.{Text}
-use Rattle.rh_figure.specs.Map.{Place, Read, after_read, read_rest}
-use Rattle.rh_lines.specs.Flow.{Breaks, Output, Puts, Takes}
-use Rattle.rh_lines.proofs.FlowLemmas.{breaks_before, takes_breaks, takes_more}
-use Rattle.rh_sheet.specs.Laws.{at_desk}
-use Rattle.rh_sheet.specs.Sheet.{Walk, behind_read, read_text, sheet_end}
-use Rattle.rh_painted.specs.declared.painter.Painter.{Painter}
-use Rattle.rh_painted.specs.Walks.{Broke, BrokeLine, BrokeRest, Painted, TookLine, TookRest, walk_in}
+use Rattle.rh_feed.proofs.LineLemmas.{kept_nil}
+use Rattle.rh_figure.specs.Map.{read_rest}
+use Rattle.rh_lines.proofs.FlowLemmas.{breaks_before, takes_breaks}
+use Rattle.rh_sheet.specs.Sheet.{sheet_end}
+use Rattle.rh_painted.specs.Walks.{Broke, BrokeLine, BrokeRest, TookRest}
 use Rattle.rh_painted.proofs.LineLemmas.{SameRead, same-line, same-rest}
 use Rattle.rh_painted.proofs.RunLemmas.{kept-some}
 use Rattle.rh_painted.proofs.WalkLemmas.{place-behind}

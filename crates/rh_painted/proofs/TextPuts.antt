@@ -1,9 +1,6 @@
 -- Texts that are written one behind the other.
-use Rattle.std.proofs.Common.{ℕ, refl, List, [], ◌++◌, Result, Ok, Err, append-nil, sym}
-use Rattle.std.specs.Result.{IsErr}
-use Rattle.rh_lines.specs.Flow.{Output, Puts}
-use Rattle.rh_lines.proofs.FlowLemmas.{puts_before, puts_more, puts_stops}
-use Rattle.rh_drawn.proofs.Walks.{puts_same}
+use Rattle.rh_painted.proofs.Common.{ℕ, refl, List, [], ◌++◌, Result, Ok, Err, append-nil, sym, IsErr, Output, Puts, puts_before, puts_more, puts_stops}
+use Rattle.rh_painted.proofs.Common.{puts_same}
 
 -- a text behind a text
 pub text_then : {E : Type 0} {s t u : Output} {v : Unit {0}} {r : Result Unit E} (xs ys : List ℕ) → Puts {E = E} s t (Ok v) xs → Puts t u r ys

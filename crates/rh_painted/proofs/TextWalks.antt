@@ -1,10 +1,8 @@
 -- Texts of several things, one after the other, from a place on.
-use Rattle.std.proofs.Common.{◌≡◌, ℕ, ◌+◌, ◌<◌, ◌≤◌, refl, ap, sym, ◌∙◌, List, [], ◌∷◌, ◌++◌, length, drop, get_or, Some, None}
-use Rattle.std.specs.Prelude.{slice_get}
-use Rattle.std.specs.List.{flat_map}
-use Rattle.std.proofs.lemmas.Grind.{flat_map-append}
-use Rattle.std.proofs.lemmas.List.{drop_all, drop_more}
-use Rattle.rh_sight.proofs.Places.{rest-none, rest-some}
+use Rattle.rh_painted.proofs.Common.{◌≡◌, ℕ, ◌+◌, ◌<◌, ◌≤◌, refl, ap, sym, ◌∙◌, List, [], ◌∷◌, ◌++◌, length, drop, get_or, Some, None, slice_get, flat_map}
+use Rattle.rh_painted.proofs.Common.{flat_map-append, drop_all, rest-some}
+use Rattle.std.proofs.lemmas.List.{drop_more}
+use Rattle.rh_sight.proofs.Places.{rest-none}
 
 -- a text that is made thing by thing
 abbrev pub Each : {A B : Type 0} → (List A → List B) → (A → List B) → Type 0

@@ -1,26 +1,15 @@
 -- Where a sheet stands, but for the order of messages to different tasks.
-use Rattle.std.proofs.Common.{◌≡◌, Bool, true, List, refl, sym, ap, ap₂, ◌∙◌, subst, [], ◌∷◌, ◌++◌}
-use Rattle.std.specs.Prelude.{Some, None, Ok, Err}
-use Rattle.rh_defs.specs.declared.command.Command.{Command}
-use Rattle.rh_defs.specs.declared.fault.LineFault.{LineFault}
+use Rattle.rh_painted.proofs.Common.{◌≡◌, Bool, true, List, refl, sym, ap, ap₂, ◌∙◌, subst, [], ◌∷◌, ◌++◌, Some, None, Ok, Err, Command, LineFault, Desk}
+use Rattle.rh_painted.proofs.Common.{IsReordered, with_queue, step, fault_text, Breaks, Output, Takes, Share, IsShared, Text, Before, marks_of, scene_of}
+use Rattle.rh_painted.proofs.Common.{Place, Read, Stage, after_read, AreShared, at_desk, Walk, behind_read, fault_happened, happened_text, read_text}
+use Rattle.rh_painted.proofs.Common.{sheet_lines, Painter, walk_in}
 use Rattle.rh_defs.specs.declared.reply.Reply.{Reply}
-use Rattle.rh_defs.specs.Desk.{Desk}
-use Rattle.rh_defs.specs.Order.{IsReordered, with_queue}
-use Rattle.rh_defs.specs.Step.{step}
-use Rattle.rh_defs.specs.Text.{fault_text}
 use Rattle.rh_defs.proofs.OrderSteps.{order-ignored}
-use Rattle.rh_lines.specs.Flow.{Breaks, Output, Takes}
-use Rattle.rh_figure.specs.Share.{Share, IsShared}
-use Rattle.rh_figure.specs.Phrases.{Text}
-use Rattle.rh_figure.specs.Scene.{Before, before_of, is_still, marks_of, no_marks, scene_of}
-use Rattle.rh_figure.specs.Map.{Place, Read, Stage, after_read}
-use Rattle.rh_figure.specs.Whole.{AreShared}
+use Rattle.rh_figure.specs.Scene.{before_of, is_still, no_marks}
 use Rattle.rh_figure.proofs.Alike.{before-alike, marks-alike, scene-alike, text-alike}
 use Rattle.rh_drawn.proofs.MapLemmas.{SamePlaces, after_alike, shared_alike}
-use Rattle.rh_sheet.specs.Laws.{at_desk}
-use Rattle.rh_sheet.specs.Sheet.{Walk, behind_happened, behind_read, command_happened, fault_happened, happened_text, read_text, sheet_lines}
-use Rattle.rh_painted.specs.declared.painter.Painter.{Painter}
-use Rattle.rh_painted.specs.Walks.{Follows, walk_in}
+use Rattle.rh_sheet.specs.Sheet.{behind_happened, command_happened}
+use Rattle.rh_painted.specs.Walks.{Follows}
 
 -- ---- what a line does on two desks
 

@@ -1,10 +1,8 @@
 -- The arrows of a chart, one by one.
-use Rattle.std.proofs.Common.{◌≡◌, ℕ, Bool, true, false, refl, ap, sym, ◌∙◌, List, [], ◌∷◌, ◌++◌}
-use Rattle.std.specs.Prelude.{◌==◌, not, filter}
-use Rattle.std.specs.List.{flat_map}
-use Rattle.rh_sheet.specs.Chart.{Arrow, inserted, ordered, steps_in, tasks_in}
-use Rattle.rh_painted.specs.declared.ways.Way.{Way}
-use Rattle.rh_painted.specs.Ways.{arrows_seen, with_step}
+use Rattle.rh_painted.proofs.Common.{◌≡◌, ℕ, Bool, true, false, refl, ap, sym, ◌∙◌, List, [], ◌∷◌, ◌++◌, ◌==◌, not, filter, flat_map, inserted, steps_in}
+use Rattle.rh_painted.proofs.Common.{tasks_in, Way, arrows_seen}
+use Rattle.rh_sheet.specs.Chart.{Arrow, ordered}
+use Rattle.rh_painted.specs.Ways.{with_step}
 
 -- ---- steps, from the last arrow on
 

@@ -1,31 +1,21 @@
 -- A block in memory: its two fields, the pointer and the length, and behind the pointer its bytes.
-use mathlib.Core.Path.{refl, sym}
-use mathlib.Core.List.{List, [], ◌∷◌}
-use Prim.Native.Nat.{ℕ, ◌+◌, ◌<◌, ◌^◌}
-use seplogic.Ra.Ura.{Ura}
-use lib.ListN.{length}
-use base.Fraction.{full_share}
-use base.Fml.{Lft, Fml, fsep, feq, froom}
-use base.Logic.{ent, sep, guard, id⊢}
-use mir.Syntax.{w8, w64, ty_int, ty_array}
-use mir.Val.{Val, vint, vstruct, vcons, vnil}
-use types.Logic.{Logic, sem}
-use types.Kit.{Item, Goal, Step, step, ‵, ◌$◌, ◌∵◌, !, qed, keep, drop, use1, check, rewrite, fsplit, fsplit3, fjoin, fpack, feq_i, feq_l, flt_l, done}
-use denote.Array.{Array}
-use denote.Builtin.{u8, usize}
+use Rattle.rh_region.proofs.Common.{refl, sym, List, [], ◌∷◌, ℕ, ◌+◌, ◌<◌, ◌^◌, Ura, length, full_share, Lft, Fml, fsep, ent, sep, guard, id⊢, w8, w64, Val}
+use Rattle.rh_region.proofs.Common.{vint, vcons, vnil, Logic, sem, Item, ‵, ◌$◌, ◌∵◌, !, qed, keep, drop, use1, check, rewrite, fsplit, fsplit3, fjoin, feq_i}
+use Rattle.rh_region.proofs.Common.{feq_l, flt_l, done, Array, u8, usize, Ptr, RawPtr, lies_at, in_a_block, bytes, nothing, Block, room_of, block_owns}
+use base.Fml.{feq, froom}
+use mir.Syntax.{ty_int, ty_array}
+use mir.Val.{vstruct}
+use types.Kit.{Goal, Step, step, fpack}
 use denote.Memory.{hidden_shr}
 use denote.Opens.{shr_dup, unhide, hide}
 use denote.Plain.{uint_row_laws}
 use denote.RattleType.{RattleType, RowLaws, Valss}
-use denote.RawPtr.{Ptr, RawPtr, ptr_val, lies_at, room_for, in_a_block, ptr_row_laws}
-use denote.RawPtr.Bytes.{bytes, bytes_apart, bytes-room}
-use denote.Steps.{nothing}
+use denote.RawPtr.{ptr_val, room_for, ptr_row_laws}
+use denote.RawPtr.Bytes.{bytes_apart, bytes-room}
 use denote.Struct.Owning.{shape}
 use denote.Struct.Struct.{Struct, Struct-row_laws, within}
 use Rattle.core.specs.Allocator.{array_of}
-use Rattle.rh_region.specs.declared.raw.Block.{Block}
 use Rattle.rh_region.specs.contracts.raw.Block as C
-use Rattle.rh_region.specs.Ownership.{room_of, block_owns}
 use Rattle.rh_region.proofs.HeapCalls.{right}
 use Rattle.rh_region.proofs.Words.{number, address}
 

@@ -1,27 +1,13 @@
 -- Memory that is being zeroed from its first byte on: what stands before a place i is zeros, and what stands behind it is
 -- room, which may hold anything. A turn of the loop takes the room of one byte off the one and adds a zero to the other.
-use mathlib.Core.Path.{◌≡◌, refl, sym}
-use mathlib.Core.List.{List, [], ◌∷◌, ◌++◌}
-use Prim.Native.Nat.{ℕ, suc, ◌+◌, ◌-◌, ◌<◌}
-use native.Mathlib.Omega.{arith}
-use seplogic.Ra.Ura.{Ura}
-use lib.ListN.{length}
-use base.Fraction.{full_share}
-use base.Fml.{Fml, fsep, froom, fat}
-use base.Logic.{ent, sep}
-use mir.Syntax.{w8, ty_int, ty_array}
-use mir.Val.{vint}
-use types.Logic.{Logic, sem}
-use types.Kit.{‵, ◌⊛◌, ◌$◌, ◌∵◌, !, qed, move, drop, use1, use2, split, rewrite, fsplit, fjoin, feq_i, done}
-use denote.Array.{Array}
-use denote.Builtin.{u8}
-use denote.Memory.{part_at}
+use Rattle.rh_region.proofs.Common.{◌≡◌, refl, sym, List, [], ◌∷◌, ◌++◌, ℕ, suc, ◌+◌, ◌<◌, arith, Ura, length, full_share, Fml, fsep, ent, sep, w8, vint}
+use Rattle.rh_region.proofs.Common.{Logic, sem, ‵, ◌⊛◌, ◌$◌, ◌∵◌, !, qed, move, drop, use1, use2, split, rewrite, fsplit, fjoin, feq_i, done, Array, u8}
+use Rattle.rh_region.proofs.Common.{part_at, block_ptr, bytes, nothing, zeros_at, zeros}
+use Prim.Native.Nat.{◌-◌}
+use base.Fml.{froom, fat}
+use mir.Syntax.{ty_int, ty_array}
 use denote.Plain.{uint_in}
-use denote.RawPtr.{block_ptr}
-use denote.RawPtr.Bytes.{bytes, bytes_glue, bytes_whole}
-use denote.Steps.{nothing}
-use Rattle.rh_region.specs.Ownership.{zeros_at}
-use Rattle.rh_region.specs.Zeros.{zeros}
+use denote.RawPtr.Bytes.{bytes_glue, bytes_whole}
 use Rattle.rh_region.proofs.Zeros.{length-zeros, zeros_none, zeros_more}
 
 -- room for m bytes

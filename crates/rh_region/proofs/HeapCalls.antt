@@ -1,32 +1,22 @@
 -- The two calls of the heap, `allocate` and `deallocate`, for n bytes. A caller lends the heap's handle by a `&` that its
 -- token keeps alive, and has the token back; memory and the right to free it go to and fro together.
+use Rattle.rh_region.proofs.Common.{◌≡◌, ap, ◌∙◌, List, [], ◌∷◌, ◌++◌, ℕ, ◌<◌, ◌^◌, arith, Ura, T, lit<, Lft, Share, Fml, ftrue, fsep, flft, SProp, ent, sep}
+use Rattle.rh_region.proofs.Common.{guard, emp, id⊢, fact, Running, w64, named, Val, vcons, vnil, has_ty, WT, Model, Logic, sem, Item, ⋆, mean, ‵, raw, ◌⊛◌}
+use Rattle.rh_region.proofs.Common.{some, given, later, ◌$◌, ◌∵◌, !, qed, by, move, keep, use0, use1, split, join, pick, fjoin, await, check, done, u8, unit}
+use Rattle.rh_region.proofs.Common.{uint_vals, Ptr, block_ptr, rawptr_vals, in_a_block, Bor, shr_vals, nothing, Global, room_of}
 use mathlib.Core.Bool.{true, false}
-use mathlib.Core.Path.{◌≡◌, ap, ◌∙◌}
-use mathlib.Core.List.{List, [], ◌∷◌, ◌++◌}
-use Prim.Native.Nat.{ℕ, ◌*◌, ◌<◌, ◌^◌}
-use native.Mathlib.Omega.{arith}
-use seplogic.Ra.Ura.{Ura}
-use lib.Dec.{T, lit<}
-use base.Fml.{Lft, Share, Fml, ftrue, fsep, flft}
-use base.Logic.{SProp, ent, sep, ex, guard, emp, never, fst∗, id⊢}
-use contract.Monad.{fact, fact_i}
-use contract.Running.{Running}
-use mir.Syntax.{w64, named}
-use mir.Val.{Val, vcons, vnil, of_list, has_ty, WT}
+use Prim.Native.Nat.{◌*◌}
+use base.Logic.{ex, never, fst∗}
+use contract.Monad.{fact_i}
+use mir.Val.{of_list}
 use prog.Capped.{capped_is}
-use prog.Model.{Model}
-use types.Logic.{Logic, sem}
 use types.Match.{live}
-use types.Kit.{Item, ⋆, mean, ‵, raw, ◌⊛◌, some, given, later, ◌$◌, ◌∵◌, !, qed, by, move, keep, use0, use1, split, join, pick, fjoin, updating, await, show}
-use types.Kit.{check, done}
-use types.Kit.{now as at_once}
-use denote.Builtin.{u8, unit}
+use types.Kit.{updating, show, now as at_once}
 use denote.Laws.{Is, shows}
 use denote.Param.{layout}
-use denote.Plain.{uint_vals}
-use denote.RawPtr.{Ptr, block_ptr, null_ptr, ptr_val, rawptr_vals, in_a_block}
-use denote.Ref.{Bor, ShrRef, shr_vals}
-use denote.Steps.{nothing, only, facts}
+use denote.RawPtr.{null_ptr, ptr_val}
+use denote.Ref.{ShrRef}
+use denote.Steps.{only, facts}
 use denote.Triple.Clauses.{lasts}
 use denote.Triple.Spec.{triple_of}
 use denote.Triple.Statement.{Contract}
@@ -34,12 +24,10 @@ use Rattle.core.specs.Allocator.{HasLayout, array_of, block_if_ok}
 use Rattle.core.specs.declared.alloc.AllocError.{AllocError}
 use Rattle.core.specs.declared.result.Result.TheVariants.{Ok, Err}
 use Rattle.core.proofs.alloc.Calls.{Answer, Answer-typed, answer_val}
-use Rattle.std.specs.declared.alloc.Global.{Global}
 use Rattle.std.specs.contracts.alloc.Global as heap
 use Rattle.std.specs.contracts.impls.GlobalAllocator.TheImpl.{ghosts}
 use Rattle.std.specs.contracts.impls.GlobalAllocator.allocate as asking
 use Rattle.std.specs.contracts.impls.GlobalAllocator.deallocate as giving
-use Rattle.rh_region.specs.Ownership.{room_of}
 use Rattle.rh_region.proofs.Words.{number, address}
 
 -- n bytes, aligned to 1, are what the heap is asked for

@@ -1,4 +1,5 @@
 pub mod BlockFields
+pub mod Common
 pub mod Filling
 pub mod HeapCalls
 pub mod PatchedLemmas

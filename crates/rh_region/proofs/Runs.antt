@@ -1,23 +1,16 @@
 -- A run of n bytes from the index `at` on, among bytes that lie at one place: it is taken out, the bytes before and past it
 -- stay, and any run as long is put in where it was.
-use mathlib.Core.Path.{◌≡◌, refl, sym, ap, ◌∙◌}
-use mathlib.Core.List.{List, [], ◌∷◌, ◌++◌}
-use Prim.Native.Nat.{ℕ, ◌+◌, ◌≤◌}
-use native.Mathlib.Omega.{arith}
-use seplogic.Ra.Ura.{Ura}
-use lib.ListN.{length, take, drop, take-append-drop, length-take, length-drop, length-append}
+use Rattle.rh_region.proofs.Common.{◌≡◌, refl, sym, ap, ◌∙◌, List, [], ◌∷◌, ◌++◌, ℕ, ◌+◌, ◌≤◌, arith, Ura, length, full_share, Fml, fsep, ent, sep, guard}
+use Rattle.rh_region.proofs.Common.{Logic, sem, ⋆, ‵, ◌⊛◌, ◌$◌, ◌∵◌, !, qed, by, move, use1, use2, split, frame, check, rewrite, fsplit, fsplit3, fjoin}
+use Rattle.rh_region.proofs.Common.{feq_i, feq_l, done, Array, u8, part_at, bytes}
+use lib.ListN.{take, drop, take-append-drop, length-take, length-drop, length-append}
 use lib.Seq.{drop-drop}
-use base.Fraction.{full_share}
-use base.Fml.{Fml, fsep, feq}
-use base.Logic.{ent, sep, guard}
-use types.Logic.{Logic, sem}
+use base.Fml.{feq}
 use types.SemTy.{cells}
-use types.Kit.{⋆, ‵, ◌⊛◌, ◌$◌, ◌∵◌, !, qed, by, move, use1, use2, split, frame, check, rewrite, fsplit, fsplit3, fjoin, fjoin3, feq_i, feq_l, done}
-use denote.Array.{Array}
-use denote.Builtin.{u8}
+use types.Kit.{fjoin3}
 use denote.Index.{whole_in, whole_out}
-use denote.Memory.{mem, part_at}
-use denote.RawPtr.Bytes.{bytes, bytes_cut, bytes_glue, bytes_apart, bytes_whole}
+use denote.Memory.{mem}
+use denote.RawPtr.Bytes.{bytes_cut, bytes_glue, bytes_apart, bytes_whole}
 use Rattle.rh_region.specs.Patched.{with_run}
 
 module _ {M : Type 1} {𝓤 : Ura M} (𝓛 : Logic 𝓤) (at n b o : ℕ) (xs : List ℕ) (within : at + n ≤ length xs) where

@@ -1,19 +1,13 @@
 -- Machine words own no memory: what says of one that it is a number, a pointer or `()` is made of nothing.
-use mathlib.Core.Path.{◌≡◌, refl, sym, ap, subst}
-use mathlib.Core.List.{List, [], ◌∷◌}
-use Prim.Native.Nat.{ℕ, zero, suc, ◌<◌, ◌^◌}
-use seplogic.Ra.Ura.{Ura}
-use lib.Dec.{T}
-use base.Fml.{Fml, ftrue, fsep}
-use base.Logic.{ent, emp}
-use mir.Syntax.{w64, ty_unit}
-use mir.Val.{Val, vunit, has_ty, WT}
-use types.Logic.{Logic, sem}
-use types.Kit.{Item, Goal, Step, ‵, ◌$◌, ◌∵◌, !, qed, use0, fjoin, feq_i, done}
-use denote.Builtin.{usize, unit}
-use denote.Plain.{uint_Makes, uint_vals}
-use denote.RawPtr.{Ptr, RawPtr, rawptr_vals}
-use denote.Steps.{nothing, owned, only}
+use Rattle.rh_region.proofs.Common.{◌≡◌, refl, sym, ap, List, [], ◌∷◌, ℕ, suc, ◌<◌, ◌^◌, Ura, T, Fml, ftrue, fsep, ent, emp, w64, Val, vunit, has_ty, WT}
+use Rattle.rh_region.proofs.Common.{Logic, sem, Item, ‵, ◌$◌, ◌∵◌, !, qed, use0, fjoin, feq_i, done, usize, unit, uint_vals, Ptr, RawPtr, rawptr_vals}
+use Rattle.rh_region.proofs.Common.{nothing}
+use mathlib.Core.Path.{subst}
+use Prim.Native.Nat.{zero}
+use mir.Syntax.{ty_unit}
+use types.Kit.{Goal, Step}
+use denote.Plain.{uint_Makes}
+use denote.Steps.{owned, only}
 
 -- nothing, n times: what a function that used up n parameters still owns of them
 abbrev pub nothings : ℕ → Fml

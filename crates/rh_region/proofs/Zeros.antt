@@ -1,7 +1,7 @@
 -- Lemmas on `zeros`.
-use Rattle.std.proofs.Common.{◌≡◌, ℕ, List, zero, suc, ◌+◌, [], ◌∷◌, ◌++◌, length, refl, ap, ◌∙◌, arith}
+use Rattle.rh_region.proofs.Common.{◌≡◌, ℕ, List, suc, ◌+◌, [], ◌∷◌, ◌++◌, length, refl, ap, ◌∙◌, arith, zeros}
+use Rattle.std.proofs.Common.{zero}
 use Rattle.std.proofs.lemmas.List.{length-replicate}
-use Rattle.rh_region.specs.Zeros.{zeros}
 
 pub length-zeros : (n : ℕ) → length (zeros n) ≡ n
 unfolding zeros

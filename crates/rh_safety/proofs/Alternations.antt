@@ -1,46 +1,25 @@
 -- Two tasks polled in turn bring a transfer to its end, on the desk itself.
-use Rattle.std.proofs.Common.{◌≡◌, ℕ, zero, suc, ◌+◌, ◌-◌, ◌*◌, ◌/◌, ◌<◌, ◌≤◌, Bool, true, false, not, List, [], ◌∷◌}
-use Rattle.std.proofs.Common.{length, Option, Some, None, refl, sym, ap, ◌∙◌, subst, arith}
-use Rattle.std.specs.Prelude.{◌&&◌, ◌==◌, find, map, Ok}
-use Rattle.std.specs.Option.{option_map}
-use Rattle.std.specs.List.{list_any, AllByRecursion}
+use Rattle.rh_safety.proofs.Common.{◌≡◌, ℕ, zero, suc, ◌+◌, ◌-◌, ◌*◌, ◌/◌, ◌<◌, ◌≤◌, Bool, true, false, not, List, [], ◌∷◌, length, Option, Some, None, refl}
+use Rattle.rh_safety.proofs.Common.{sym, ap, ◌∙◌, subst, arith, ◌&&◌, ◌==◌, find, map, Ok, option_map, list_any, Command, Recorded, Incoming, is_name, IsDesk}
+use Rattle.rh_safety.proofs.Common.{in_range, Parcel, Seat, held_by, post_poll, ◌>>=◌, found_or, or_else, Desk, Task, has_name, task_at, named}
+use Rattle.rh_safety.proofs.Common.{with_delivered, Answer, poll, poll_taken, step, after, is_open, is_going, answers_none, EventCode, User, Acknowledge}
+use Rattle.rh_safety.proofs.Common.{Taking, view, seen_parcel, blocks_of, of, task_of, Has, Out, Open, Out_done, In_done, Fetching, Message, Plain, Edits}
+use Rattle.rh_safety.proofs.Common.{either, and_left, and_right, none_some, Offered, Good, field_is, live_of, Fits}
+use Rattle.std.specs.List.{AllByRecursion}
 use Rattle.rh_defs.specs.declared.refusal.Refusal.TheVariants.{NoName}
-use Rattle.rh_defs.specs.declared.command.Command.{Command}
 use Rattle.rh_defs.specs.declared.command.Command.TheVariants as command
-use Rattle.rh_defs.specs.declared.message.EventCode.TheVariants.{Recorded}
 use Rattle.rh_defs.specs.declared.reply.Reply.TheVariants as reply
-use Rattle.rh_defs.specs.declared.transfer.Incoming.{Incoming}
-use Rattle.rh_defs.specs.Forms.{is_name, is_anchor, is_leaf}
-use Rattle.rh_defs.specs.Laws.{IsDesk}
+use Rattle.rh_defs.specs.Forms.{is_anchor, is_leaf}
 use Rattle.rh_defs.proofs.Steps.{step-keeps}
-use Rattle.rh_defs.specs.Range.{in_range}
-use Rattle.rh_defs.specs.Messages.{Parcel}
-use Rattle.rh_defs.specs.Post.{Seat, held_by, post_poll}
-use Rattle.rh_defs.specs.Chain.{◌>>=◌, found_or, or_else}
-use Rattle.rh_defs.specs.Desk.{Desk, Task, has_name, task_at, named, with_delivered}
-use Rattle.rh_defs.specs.Commands.{Answer}
-use Rattle.rh_defs.specs.Step.{poll, poll_taken, step}
-use Rattle.rh_defs.specs.Runs.{after}
-use Rattle.rh_defs.specs.Records.{is_open, is_going}
-use Rattle.rh_defs.specs.Transfer.{answers_none}
-use Rattle.rh_defs.specs.declared.message.EventCode.{EventCode}
-use Rattle.rh_defs.specs.declared.message.EventCode.TheVariants.{User, Acknowledge}
-use Rattle.rh_defs.specs.declared.transfer.Taking.{Taking}
 use Rattle.rh_safety.specs.Offered.{offers_next}
-use Rattle.rh_safety.specs.Alternation.{is_refused_poll, all_granted, turns, turns_before, CanAlternate, SenderDone}
-use Rattle.rh_safety.specs.Alternation.{ReceiverDone, EndsDone, Alternates}
-use Rattle.rh_safety.proofs.View.{view, seen_parcel, blocks_of, of, task_of}
-use Rattle.rh_safety.proofs.Ends.{Has, Out, Open, Out_done, In_done, Fetching, Message, Plain, Edits}
+use Rattle.rh_safety.specs.Alternation.{is_refused_poll, all_granted, turns, turns_before, CanAlternate, SenderDone, ReceiverDone, EndsDone, Alternates}
 use Rattle.rh_safety.proofs.Sight as sight
-use Rattle.rh_safety.proofs.Basics.{contains_of, either, and_left, and_right, none_some, not_true}
-use Rattle.rh_safety.proofs.Invariant.{Offered, Good}
+use Rattle.rh_safety.proofs.Basics.{contains_of, not_true}
 use Rattle.rh_safety.proofs.Arrivals.{Began}
-use Rattle.rh_safety.proofs.Turns.{Pair, Waiting, Answered, AllCame, Ready, asked, open_record, answers_it, gone_desk}
-use Rattle.rh_safety.proofs.Turns.{sent_last, sent_full, sender_record, sent_back, taking_record, takes_it, taken_it}
-use Rattle.rh_safety.proofs.Turns.{took_full, took_rest, outgoing_at, offer, offer_queued, none_held, pair_of}
+use Rattle.rh_safety.proofs.Turns.{Pair, Waiting, Answered, AllCame, Ready, asked, open_record, answers_it, gone_desk, sent_last, sent_full, sender_record}
+use Rattle.rh_safety.proofs.Turns.{sent_back, taking_record, takes_it, taken_it, took_full, took_rest, outgoing_at, offer, offer_queued, none_held, pair_of}
 use Rattle.rh_safety.proofs.Turns.{took_first}
-use Rattle.rh_safety.proofs.SeenTasks.{found_task, field_is, live_of}
-use Rattle.rh_safety.proofs.SeenFrames.{Fits}
+use Rattle.rh_safety.proofs.SeenTasks.{found_task}
 use Rattle.rh_safety.proofs.SeenKeys.{keys_of, named_in, handle_named, SameKeys, handled_keys}
 use Rattle.rh_safety.proofs.SeenTaking.{poll_taken_is}
 use Rattle.rh_safety.proofs.SeenSaves.{IsSaved, save_step, save_keeps}

@@ -1,30 +1,21 @@
 -- What a DataSave, a transmit, a failure and the scrap file make of the records keeps the invariant.
-use Rattle.std.proofs.Common.{nat_le, ◌≡◌, ◌≢◌, ℕ, ◌+◌, ◌≤◌, ◌<◌, Bool, true, false, List, [], ◌++◌}
-use Rattle.std.proofs.Common.{length, take, drop, Option, Some, None, refl, sym, ap, ◌∙◌, subst, inl, inr}
-use Rattle.std.proofs.Common.{arith}
+use Rattle.rh_safety.proofs.Common.{nat_le, ◌≡◌, ◌≢◌, ℕ, ◌+◌, ◌≤◌, ◌<◌, Bool, true, false, List, [], ◌++◌, length, take, drop, Option, Some, None, refl, sym}
+use Rattle.rh_safety.proofs.Common.{ap, ◌∙◌, subst, inl, inr, arith, nat_eq, eqb_tells, leb_tells, Plain, Recorded, DataSave, RamFetch, RamTransmit, DataLoad}
+use Rattle.rh_safety.proofs.Common.{Letter, Message, Sending, Taking, Asked, Out, Open, Out_done, Out_failed, In, Fetching, Draining, Asking, In_done}
+use Rattle.rh_safety.proofs.Common.{In_failed, out_id, in_id, in_anchor, is_going, is_growing, Has, Active, put, how_many, one_more, with_id, put_same}
+use Rattle.rh_safety.proofs.Common.{put_other, same_value, none_some, and_left, and_right, is_equal, Ascend, with_ascends, Offered, Knows, LetterIn}
+use Rattle.rh_safety.proofs.Common.{LetterCarries, Counted, Begins, Untouched, IsGood, Unread, Inv, IsWaiting, PendingAt, Good}
 use Rattle.std.proofs.lemmas.Grind.{common_steps}
-use Rattle.std.specs.Prelude.{nat_eq}
-use Rattle.std.proofs.lemmas.Bool.Decides.{eqb_tells, leb_tells}
-use Rattle.rh_safety.proofs.Ends.{Plain, Recorded, DataSave, RamFetch, RamTransmit, DataSaveAck, DataLoad}
-use Rattle.rh_safety.proofs.Ends.{DataLoadAck, Letter, Message, Sending, Taking, Asked, Out, Open, Out_done}
-use Rattle.rh_safety.proofs.Ends.{Out_failed, In, Fetching, Draining, Asking, In_done, In_failed, out_id, in_id}
-use Rattle.rh_safety.proofs.Ends.{in_anchor, is_going, is_growing, Has, Active, put, how_many, one_more, with_id}
+use Rattle.rh_safety.proofs.Ends.{DataSaveAck, DataLoadAck}
 use Rattle.rh_defs.specs.Receiver.{is_answer}
-use Rattle.rh_safety.proofs.Sight.{Desk, Scrap, begun, ended, bytes_of, longer, fetched, given_up, with_in, copied}
-use Rattle.rh_safety.proofs.Sight.{told, with_out, failed, filed}
-use Rattle.rh_safety.proofs.Basics.{length_more, put_same, put_other, same_value, none_some}
-use Rattle.rh_safety.proofs.Basics.{and_left, and_right, is_equal, take_more, Ascend, with_puts, with_ascends}
-use Rattle.rh_safety.proofs.Basics.{more_keeps, more_puts, more_ascends}
-use Rattle.rh_safety.proofs.Invariant.{LetterAck, LetterFile, Offered, Knows, Below, Offers, LetterOut, LetterIn}
-use Rattle.rh_safety.proofs.Invariant.{LetterCarries, LetterOlder, LetterAhead, Carries, Counted, AtMost, Begins, Whole, Untouched}
-use Rattle.rh_safety.proofs.Invariant.{at_most, IsGood, Unread, Inv, IsWaiting, PendingAt, Good}
+use Rattle.rh_safety.proofs.Sight.{Desk, Scrap, begun, ended, bytes_of, longer, fetched, given_up, with_in, copied, told, with_out, failed, filed}
+use Rattle.rh_safety.proofs.Basics.{length_more, take_more, with_puts, more_keeps, more_puts, more_ascends}
+use Rattle.rh_safety.proofs.Invariant.{LetterAck, LetterFile, Below, Offers, LetterOut, LetterOlder, LetterAhead, Carries, AtMost, Whole, at_most}
 use Rattle.rh_safety.proofs.Moves.{Move, OutOk, BothOutOk, move_with, move_more, outs_move, boths_out}
 use Rattle.rh_safety.proofs.Filings.{NotTheLoad, filed_new, none_apart, record_apart}
-use Rattle.rh_safety.proofs.Sends.{few_put, few_here, few_with, sent_knows, put_ascends, order_out, one_active}
-use Rattle.rh_safety.proofs.Sends.{KeepsActive, Quiet, NewOut, out_inv, out_pending, NewFetch, fetch_inv}
-use Rattle.rh_safety.proofs.Sends.{fetch_pending}
-use Rattle.rh_safety.proofs.Endings.{asked_over, tell_good, lost_good, put2_other, put2_same, keeps_with}
-use Rattle.rh_safety.proofs.Endings.{Ends, ended_good, active_id, heap_inv}
+use Rattle.rh_safety.proofs.Sends.{few_put, few_here, few_with, sent_knows, put_ascends, order_out, one_active, KeepsActive, Quiet, NewOut, out_inv}
+use Rattle.rh_safety.proofs.Sends.{out_pending, NewFetch, fetch_inv, fetch_pending}
+use Rattle.rh_safety.proofs.Endings.{asked_over, tell_good, lost_good, put2_other, put2_same, keeps_with, Ends, ended_good, active_id, heap_inv}
 
 -- a letter that was known when it was taken
 pub record LetterOk (o : Offered) (d : Desk) (l : Letter) : Type 0 where

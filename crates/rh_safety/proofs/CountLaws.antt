@@ -1,19 +1,13 @@
 -- No document outgrows a count: it lies in one slot with its transfer's buffer.
-use Rattle.std.proofs.Common.{◌≡◌, ℕ, ◌+◌, ◌-◌, ◌≤◌, Bool, true, false, List, [], ◌∷◌, length, Some, sym, ap, ◌∙◌}
-use Rattle.std.proofs.Common.{inl, inr, arith}
-use Rattle.std.specs.Prelude.{if◌then◌else◌, find, ◌==◌, ◌^◌}
-use Rattle.std.proofs.lemmas.Bool.Decides.{leb_tells}
-use Rattle.rh_defs.specs.Pieces.{total}
-use Rattle.rh_defs.specs.Heap.{Heap, IsHeap, first_place}
+use Rattle.rh_safety.proofs.Common.{◌≡◌, ℕ, ◌+◌, ◌-◌, ◌≤◌, Bool, true, false, List, [], ◌∷◌, length, Some, sym, ap, ◌∙◌, inl, inr, arith, if◌then◌else◌, find}
+use Rattle.rh_safety.proofs.Common.{◌==◌, ◌^◌, leb_tells, total, Heap, first_place, Flex, weight, heap_start, Desk, Task, task_at, is_uncountable, IsDesk}
+use Rattle.rh_safety.proofs.Common.{view, flex_map, Offered, Good}
+use Rattle.rh_defs.specs.Heap.{IsHeap}
 use Rattle.rh_defs.specs.Blocks.{block_bytes}
-use Rattle.rh_defs.specs.Slot.{Flex, weight, heap_start, slot_length}
-use Rattle.rh_defs.specs.Desk.{Desk, Task, task_at, task_pages}
-use Rattle.rh_defs.specs.IncomingEvents.{is_uncountable}
-use Rattle.rh_defs.specs.Laws.{IsDesk}
+use Rattle.rh_defs.specs.Slot.{slot_length}
+use Rattle.rh_defs.specs.Desk.{task_pages}
 use Rattle.rh_defs.proofs.BlockLaws.{range_at}
 use Rattle.rh_safety.specs.Polls.{CountsFit}
-use Rattle.rh_safety.proofs.View.{view, flex_map}
-use Rattle.rh_safety.proofs.Invariant.{Offered, Good}
 use Rattle.rh_safety.proofs.RecordLaws.{recorded}
 use Rattle.rh_safety.proofs.SeenDesks.{fits}
 use Rattle.rh_safety.proofs.SeenDocuments.{buffer_is}

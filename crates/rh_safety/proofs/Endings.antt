@@ -1,24 +1,18 @@
 -- Ends of records, writes and edits keep the invariant.
-use Rattle.std.proofs.Common.{◌≡◌, ◌≢◌, ℕ, ◌<◌, Bool, true, false, List, length, take}
-use Rattle.std.proofs.Common.{Option, Some, None, refl, sym, ap, ◌∙◌, subst, inl, inr, arith}
-use Rattle.std.proofs.lemmas.Bool.Decides.{eqb_tells}
-use Rattle.rh_safety.proofs.Ends.{Recorded, DataSave, RamFetch, RamTransmit, DataSaveAck, DataLoad, Letter, Message}
-use Rattle.rh_safety.proofs.Ends.{Sending, Taking, Asked, Open, In, Fetching, Draining}
-use Rattle.rh_safety.proofs.Ends.{Asking, In_done, In_failed, is_going, is_growing, in_id, in_anchor, Has}
-use Rattle.rh_safety.proofs.Ends.{Active, put, with_id}
-use Rattle.rh_safety.proofs.Sight.{Desk, sent, ended, asked}
-use Rattle.rh_safety.proofs.Basics.{put_same, put_other, same_value}
-use Rattle.rh_safety.proofs.Basics.{one_of_id, with_keeps, with_puts, with_ascends}
-use Rattle.rh_safety.proofs.Invariant.{Offered, Knows, known_by}
-use Rattle.rh_safety.proofs.Invariant.{Begins, Counts, Untouched, IsGood, Unread, Inv}
-use Rattle.rh_safety.proofs.Invariant.{Asks, Good}
-use Rattle.rh_safety.proofs.Moves.{letters_more, outs_more, ins_more, boths_more, letters_bump, outs_bump, ins_bump}
-use Rattle.rh_safety.proofs.Moves.{Move, outs_less, HoldOk, ins_move, move_active, move_with}
-use Rattle.rh_safety.proofs.Moves.{ins_less, BothInOk, boths_in, loads_more, loads_other}
+use Rattle.rh_safety.proofs.Common.{◌≡◌, ◌≢◌, ℕ, ◌<◌, Bool, true, false, List, length, take, Option, Some, None, refl, sym, ap, ◌∙◌, subst, inl, inr, arith}
+use Rattle.rh_safety.proofs.Common.{eqb_tells, Recorded, DataSave, RamFetch, RamTransmit, DataLoad, Letter, Message, Sending, Taking, Asked, Open, In}
+use Rattle.rh_safety.proofs.Common.{Fetching, Draining, Asking, In_done, In_failed, is_going, is_growing, in_id, in_anchor, Has, Active, put, with_id, sent}
+use Rattle.rh_safety.proofs.Common.{put_same, put_other, same_value, one_of_id, with_ascends, Offered, Knows, known_by, Begins, Counts, Untouched, IsGood}
+use Rattle.rh_safety.proofs.Common.{Unread, Inv, Good}
+use Rattle.rh_safety.proofs.Ends.{DataSaveAck}
+use Rattle.rh_safety.proofs.Sight.{Desk, ended, asked}
+use Rattle.rh_safety.proofs.Basics.{with_keeps, with_puts}
+use Rattle.rh_safety.proofs.Invariant.{Asks}
+use Rattle.rh_safety.proofs.Moves.{letters_more, outs_more, ins_more, boths_more, letters_bump, outs_bump, ins_bump, Move, outs_less, HoldOk, ins_move}
+use Rattle.rh_safety.proofs.Moves.{move_active, move_with, ins_less, BothInOk, boths_in, loads_more, loads_other, loads_lost, loads_in, loads_end}
 use Rattle.rh_safety.proofs.Filings.{NotTheLoad, filed_in, filed_none, filed_sent, record_apart}
-use Rattle.rh_safety.proofs.Moves.{loads_lost, loads_in, loads_end}
-use Rattle.rh_safety.proofs.Sends.{KeepsActive, Quiet, few_put, few_with, one_active, order_in, order_send}
-use Rattle.rh_safety.proofs.Sends.{put_ascends, queue_below, sent_knows, waits_kept, waits_sent}
+use Rattle.rh_safety.proofs.Sends.{KeepsActive, Quiet, few_put, few_with, one_active, order_in, order_send, put_ascends, queue_below, sent_knows, waits_kept}
+use Rattle.rh_safety.proofs.Sends.{waits_sent}
 
 -- ---- a record ends
 

@@ -1,11 +1,9 @@
 -- The scrap file's DataLoad while messages are sent, and while records come and go.
-use Rattle.std.proofs.Common.{◌≡◌, ◌≢◌, ℕ, ◌<◌, List, [], ◌∷◌, ◌++◌, Option, Some, None, refl, sym, ap, ◌∙◌, subst}
-use Rattle.std.proofs.Common.{◌⊎◌, inl, inr, arith}
-use Rattle.std.proofs.lemmas.Bool.Decides.{eqb_tells}
-use Rattle.rh_safety.proofs.Ends.{Letter, Message, In, DataLoad, in_id, Has, put}
-use Rattle.rh_safety.proofs.Sight.{Scrap, still_held}
-use Rattle.rh_safety.proofs.Basics.{Has-left, Has-right, none_some, put_same, put_other}
-use Rattle.rh_safety.proofs.Invariant.{IsLive, waits, rests, Filed, Files}
+use Rattle.rh_safety.proofs.Common.{◌≡◌, ◌≢◌, ℕ, ◌<◌, List, [], ◌∷◌, ◌++◌, Option, Some, None, refl, sym, ap, ◌∙◌, subst, ◌⊎◌, inl, inr, arith, eqb_tells}
+use Rattle.rh_safety.proofs.Common.{Letter, Message, In, DataLoad, in_id, Has, put, still_held, none_some, put_same, put_other, IsLive, waits, rests}
+use Rattle.rh_safety.proofs.Sight.{Scrap}
+use Rattle.rh_safety.proofs.Basics.{Has-left, Has-right}
+use Rattle.rh_safety.proofs.Invariant.{Filed, Files}
 use Rattle.rh_safety.proofs.Moves.{Lets, Move, Fewer}
 
 -- the ref isn't that of the scrap file's DataLoad

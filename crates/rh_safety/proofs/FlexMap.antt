@@ -1,9 +1,6 @@
 -- The flex blocks of a slot as the map from anchors to bytes that a transfer rests on.
-use Rattle.std.specs.Prelude.{◌≡◌, ℕ, ◌==◌, List, [], ◌∷◌, ◌++◌, Option, Some, None}
-use Rattle.rh_defs.specs.Pieces.{Split, first_at, with_here}
-use Rattle.rh_defs.specs.Slot.{Flex, HaveAnchors}
-use Rattle.rh_safety.proofs.View.{flex_map}
-use Rattle.rh_safety.proofs.Ends.{put}
+use Rattle.rh_safety.proofs.Common.{◌≡◌, ℕ, ◌==◌, List, [], ◌∷◌, ◌++◌, Option, Some, None, Split, first_at, with_here, Flex, flex_map, put}
+use Rattle.rh_defs.specs.Slot.{HaveAnchors}
 
 -- the cut that a find by anchor gives, for any sizes
 abbrev pub block_of : (Flex → ℕ) → ℕ → ℕ → List Flex → Option (Split Flex)

@@ -1,16 +1,8 @@
 -- Edits of a list of flex blocks write one place of its map.
-use Rattle.std.proofs.Common.{◌≡◌, ℕ, ◌+◌, true, false, List, [], ◌∷◌, ◌++◌, Option, Some, None, refl, sym, ap, ◌∙◌}
-use Rattle.std.proofs.Common.{subst, inl, inr, arith}
-use Rattle.std.specs.Prelude.{nat_eq}
-use Rattle.std.specs.Option.{option_map}
-use Rattle.std.proofs.lemmas.Bool.Decides.{eqb_tells}
-use Rattle.std.proofs.lemmas.Bool.{eq-eqb}
-use Rattle.rh_defs.specs.Pieces.{Split, behind, with_here}
-use Rattle.rh_defs.specs.Slot.{Flex, IsFree, HaveAnchors}
-use Rattle.rh_safety.proofs.View.{flex_map}
-use Rattle.rh_safety.proofs.Ends.{put}
+use Rattle.rh_safety.proofs.Common.{◌≡◌, ℕ, ◌+◌, true, false, List, [], ◌∷◌, ◌++◌, Option, Some, None, refl, sym, ap, ◌∙◌, subst, inl, inr, arith, nat_eq}
+use Rattle.rh_safety.proofs.Common.{option_map, eqb_tells, eq-eqb, Split, behind, with_here, Flex, flex_map, put, none_some}
+use Rattle.rh_defs.specs.Slot.{IsFree, HaveAnchors}
 use Rattle.rh_safety.proofs.FlexMap.{block_of, FlexEdits}
-use Rattle.rh_safety.proofs.Basics.{none_some}
 
 -- what was found lies behind a first block
 record Behind (x : Flex) (o : Option (Split Flex)) (s : Split Flex) : Type 0 where

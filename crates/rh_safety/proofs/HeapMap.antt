@@ -1,10 +1,7 @@
 -- A heap as the map from addresses to bytes that a transfer rests on.
-use Rattle.std.specs.Prelude.{◌≡◌, ℕ, ◌+◌, ◌≤◌, List, [], ◌∷◌, length, Option, Some, None}
-use Rattle.rh_defs.specs.Pieces.{Split, with_here}
+use Rattle.rh_safety.proofs.Common.{◌≡◌, ℕ, ◌+◌, ◌≤◌, List, [], ◌∷◌, length, Option, Some, None, Split, with_here, put, Segment, Used, Hole, Heap, Placed}
+use Rattle.rh_safety.proofs.Common.{Way, Stays, Shrinks, GrowsIntoHole, GrowsAtTop, MovesToHole, MovesToTop}
 use Rattle.rh_defs.specs.Blocks as blocks
-use Rattle.rh_safety.proofs.Ends.{put}
-use Rattle.rh_defs.specs.Heap.{Segment, Used, Hole, Heap, Placed, Way, Stays, Shrinks, GrowsIntoHole, GrowsAtTop}
-use Rattle.rh_defs.specs.Heap.{MovesToHole, MovesToTop}
 
 -- the bytes of the block at an address, of segments that begin at a place
 abbrev pub bytes_at : ℕ → List Segment → ℕ → Option (List ℕ)

@@ -1,18 +1,10 @@
 -- Claims and releases write one place of a heap's map.
-use Rattle.std.proofs.Common.{◌≡◌, ◌≢◌, ℕ, zero, suc, ◌+◌, ◌-◌, ◌≤◌, ◌<◌, true, false, List, [], ◌∷◌, ◌++◌, length}
-use Rattle.std.proofs.Common.{Option, Some, None, refl, sym, ap, ◌∙◌, inl, inr, arith}
-use Rattle.std.specs.Prelude.{nat_eq}
-use Rattle.std.specs.Option.{option_map}
-use Rattle.std.proofs.lemmas.Bool.Decides.{eqb_tells}
-use Rattle.std.proofs.lemmas.Bool.{eq-eqb}
-use Rattle.rh_defs.specs.Pieces.{total, Split, behind, first_at, with_here}
-use Rattle.rh_defs.specs.Heap.{Segment, Used, Hole, Heap, size_of, first_place, place_after, base, with_hole, joined}
-use Rattle.rh_defs.specs.Heap.{is_block_at, Placed, placed_in, released, release, release_found, Way, Stays, Shrinks}
-use Rattle.rh_defs.specs.Heap.{GrowsIntoHole, GrowsAtTop, MovesToHole, MovesToTop, resized_by}
-use Rattle.rh_safety.proofs.HeapMap.{bytes_at, heap_map}
-use Rattle.rh_safety.proofs.Ends.{put}
-use Rattle.rh_safety.proofs.HeapMap.{CutOf, HoleFor, BlockOf, IsClaimed, IsReleased, IsMoved, CanGo}
-use Rattle.rh_safety.proofs.Basics.{none_some}
+use Rattle.rh_safety.proofs.Common.{◌≡◌, ◌≢◌, ℕ, zero, suc, ◌+◌, ◌-◌, ◌≤◌, ◌<◌, true, false, List, [], ◌∷◌, ◌++◌, length, Option, Some, None, refl, sym, ap}
+use Rattle.rh_safety.proofs.Common.{◌∙◌, inl, inr, arith, nat_eq, option_map, eqb_tells, eq-eqb, total, Split, behind, first_at, with_here, Segment, Used}
+use Rattle.rh_safety.proofs.Common.{Hole, Heap, size_of, first_place, place_after, is_block_at, Placed, released, Way, Stays, Shrinks, GrowsIntoHole}
+use Rattle.rh_safety.proofs.Common.{GrowsAtTop, MovesToHole, MovesToTop, put, none_some}
+use Rattle.rh_defs.specs.Heap.{base, with_hole, joined, placed_in, release, release_found, resized_by}
+use Rattle.rh_safety.proofs.HeapMap.{bytes_at, heap_map, CutOf, HoleFor, BlockOf, IsClaimed, IsReleased, IsMoved, CanGo}
 
 -- the first of two
 abbrev or_else : Option (List ℕ) → Option (List ℕ) → Option (List ℕ)

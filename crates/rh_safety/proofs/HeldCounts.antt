@@ -1,23 +1,13 @@
 -- What is held has as many bytes as its record counts, and a record counts no more than was offered.
-use Rattle.std.proofs.Common.{◌≡◌, ℕ, ◌≤◌, Bool, true, false, List, [], length, take, Option, Some, None, refl, sym, ap}
-use Rattle.std.proofs.Common.{◌∙◌, subst, arith}
-use Rattle.std.specs.Prelude.{◌==◌, find}
+use Rattle.rh_safety.proofs.Common.{◌≡◌, ℕ, ◌≤◌, Bool, true, false, List, [], length, take, Option, Some, None, refl, sym, ap, ◌∙◌, subst, arith, ◌==◌, find}
+use Rattle.rh_safety.proofs.Common.{Command, Incoming, in_id, Desk, Task, task_at, start_with, after, in_anchor, view, blocks_of, Has, first_is, has_of}
+use Rattle.rh_safety.proofs.Common.{is_equal, length_take, same_value, Offered, Counts, Untouched, IsGood, Good, field_is}
 use Rattle.std.specs.List.{Contains}
-use Rattle.rh_defs.specs.declared.command.Command.{Command}
-use Rattle.rh_defs.specs.declared.transfer.Incoming.{Incoming}
 use Rattle.rh_defs.specs.declared.transfer.Incoming.TheVariants as incoming
-use Rattle.rh_defs.specs.Records.{in_id}
-use Rattle.rh_defs.specs.Desk.{Desk, Task, task_at}
-use Rattle.rh_defs.specs.Runs.{start_with, after}
 use Rattle.rh_safety.specs.Offered.{bytes_of_block, offered}
-use Rattle.rh_safety.specs.Held.{in_anchor, document_of, held_of}
+use Rattle.rh_safety.specs.Held.{document_of, held_of}
 use Rattle.rh_safety.specs.Counts.{counted_in, AlwaysCounts, CountsHeld, CountsFile, CountsOffered}
-use Rattle.rh_safety.proofs.View.{view, blocks_of}
-use Rattle.rh_safety.proofs.Ends.{Has}
-use Rattle.rh_safety.proofs.Basics.{first_is, has_of, is_equal, length_take, same_value}
-use Rattle.rh_safety.proofs.Invariant.{Offered, Counts, Untouched, IsGood, Good}
 use Rattle.rh_safety.proofs.SeenLaws.{block_is, good_after}
-use Rattle.rh_safety.proofs.SeenTasks.{field_is}
 
 -- a front of n bytes, of a file that has so many
 front_counts : (n : ℕ) (all got : List ℕ) → n ≤ length all → Option.Some (take n all) ≡ Some got → length got ≡ n

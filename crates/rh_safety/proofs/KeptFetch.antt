@@ -1,43 +1,23 @@
 -- A fetch that is answered keeps the invariant.
-use Rattle.std.proofs.Common.{◌≡◌, ℕ, ◌≤◌, true, false, List, [], length, take, drop, Option, Some, None, refl, sym}
-use Rattle.std.proofs.Common.{ap, ◌∙◌, subst}
-use Rattle.std.proofs.Common.{arith, length-drop, length-take}
-use Rattle.std.specs.Prelude.{◌-◌, ◌++◌, min, if◌then◌else◌, nat_eq, nat_lt, Ok}
-use Rattle.rh_defs.specs.declared.refusal.Refusal.{Refusal}
-use Rattle.rh_defs.specs.declared.refusal.Refusal.TheVariants.{NoTask}
-use Rattle.rh_defs.specs.declared.reply.Outcome.{Outcome}
+use Rattle.rh_safety.proofs.Common.{◌≡◌, ℕ, ◌≤◌, true, false, List, [], length, take, drop, Option, Some, None, refl, sym, ap, ◌∙◌, subst, arith, length-drop}
+use Rattle.rh_safety.proofs.Common.{length-take, ◌-◌, ◌++◌, min, if◌then◌else◌, nat_eq, nat_lt, Ok, Refusal, NoTask, Outcome, User, Recorded, Sending}
+use Rattle.rh_safety.proofs.Common.{Outgoing, found_or, written, bytes_of, Slot, heap_block_at, slot_block, buffer_at, Parcel, transmit_letter, Desk, Task}
+use Rattle.rh_safety.proofs.Common.{next_ref, task_at, with_task, send_letter, Handled, portion, transmit, answer_fetch, answers_none, view, seen_letter}
+use Rattle.rh_safety.proofs.Common.{blocks_of, buffers_of, task_of, Letter, Offers, Edits, put, same_value, open_is, first_is, is_equal, Good, field_is}
+use Rattle.rh_safety.proofs.Common.{live_of, slot_is, slot_at, outs_view, buffer_view, is_found, seen_good}
 use Rattle.rh_defs.specs.declared.reply.Outcome.TheVariants as outcome
-use Rattle.rh_defs.specs.declared.message.EventCode.TheVariants.{User, Recorded}
 use Rattle.rh_defs.specs.declared.message.Action.TheVariants as action
 use Rattle.rh_safety.specs.Alternation.{is_refusal}
 use Rattle.rh_defs.specs.declared.message.Body.TheVariants as body
-use Rattle.rh_defs.specs.declared.transfer.Sending.{Sending}
-use Rattle.rh_defs.specs.declared.transfer.Outgoing.{Outgoing}
-use Rattle.rh_defs.specs.Chain.{found_or}
-use Rattle.rh_defs.specs.Pieces.{written}
-use Rattle.rh_defs.specs.Heap.{bytes_of}
-use Rattle.rh_defs.specs.Slot.{Slot, heap_block_at, slot_block}
-use Rattle.rh_defs.specs.Places.{buffer_at, with_heap_bytes, written_in}
-use Rattle.rh_defs.specs.Messages.{Parcel}
-use Rattle.rh_defs.specs.Letters.{transmit_letter}
+use Rattle.rh_defs.specs.Places.{with_heap_bytes, written_in}
 use Rattle.rh_defs.specs.Sender as sender
-use Rattle.rh_defs.specs.Desk.{Desk, Task, next_ref, task_at, with_task, send_letter}
-use Rattle.rh_defs.specs.OutgoingEvents.{Handled, portion, transmit, answer_fetch}
-use Rattle.rh_defs.specs.Transfer.{answers_none}
-use Rattle.rh_safety.proofs.View.{view, seen_letter, blocks_of, buffers_of, task_of}
-use Rattle.rh_safety.proofs.Ends.{Letter, Offers, Edits, put}
 use Rattle.rh_safety.proofs.Sight as sight
-use Rattle.rh_safety.proofs.Basics.{same_value, open_none, open_is, first_is, is_equal}
-use Rattle.rh_safety.proofs.Invariant.{Good}
-use Rattle.rh_safety.proofs.Polls.{Called, Waiter, Taken, failed_good, answered_good, portion_ok, unanswered_good}
-use Rattle.rh_safety.proofs.Polls.{called}
-use Rattle.rh_safety.proofs.SeenTasks.{field_is, live_of, slot_is, slot_at, outs_view, buffer_view}
-use Rattle.rh_safety.proofs.SeenFrames.{is_found}
+use Rattle.rh_safety.proofs.Basics.{open_none}
+use Rattle.rh_safety.proofs.Polls.{Called, Waiter, Taken, failed_good, answered_good, portion_ok, unanswered_good, called}
 use Rattle.rh_safety.proofs.SeenBlocks.{from_test, ok_is}
 use Rattle.rh_safety.proofs.SeenSends.{by_grant, with_step, sent_view, sent_slot}
 use Rattle.rh_safety.proofs.SeenDocuments.{letter_of, block_there}
 use Rattle.rh_safety.proofs.SeenWrites.{front, written_map, buffer_found}
-use Rattle.rh_safety.proofs.Keeps.{seen_good}
 
 -- what is seen once n bytes of the source went into the buffer
 abbrev pub gone : sight.Desk → ℕ → Letter → Sending → ℕ → List ℕ → List ℕ → ℕ → sight.Desk

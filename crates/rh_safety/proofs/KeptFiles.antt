@@ -1,35 +1,20 @@
 -- The messages of a transfer by way of the scrap file keep the invariant.
-use Rattle.std.proofs.Common.{◌≡◌, ℕ, true, List, [], ◌++◌, length, Option, Some, None, refl, sym, ap, ◌∙◌}
-use Rattle.std.proofs.Common.{subst}
-use Rattle.std.specs.Prelude.{nat_eq}
-use Rattle.std.specs.Option.{option_map}
+use Rattle.rh_safety.proofs.Common.{◌≡◌, ℕ, true, List, [], ◌++◌, length, Option, Some, None, refl, sym, ap, ◌∙◌, subst, nat_eq, option_map, Body, Sending}
+use Rattle.rh_safety.proofs.Common.{Asked, Outgoing, Incoming, slot_block, Parcel, action_of, load_letter, Desk, Task, Scrap, next_ref, send_letter, Handled}
+use Rattle.rh_safety.proofs.Common.{scrap_shortage, wider, save_scrap, answer_ack, finish_load, ignored, appended, loaded, load_file, take_file, view}
+use Rattle.rh_safety.proofs.Common.{seen_letter, seen_scrap, blocks_of, task_of, Letter, Has, Offers, Edits, put, either, and_left, and_right, is_equal}
+use Rattle.rh_safety.proofs.Common.{open_is, asking_is, Good, field_is, live_of, outs_view, ins_view, seen_good}
 use Rattle.rh_defs.specs.declared.message.Action.TheVariants as action
-use Rattle.rh_defs.specs.declared.message.Body.{Body}
-use Rattle.rh_defs.specs.declared.transfer.Sending.{Sending}
-use Rattle.rh_defs.specs.declared.transfer.Asked.{Asked}
-use Rattle.rh_defs.specs.declared.transfer.Outgoing.{Outgoing}
 use Rattle.rh_defs.specs.declared.transfer.Outgoing.TheVariants as outgoing
-use Rattle.rh_defs.specs.declared.transfer.Incoming.{Incoming}
 use Rattle.rh_defs.specs.declared.transfer.Incoming.TheVariants as incoming
-use Rattle.rh_defs.specs.Slot.{slot_block}
-use Rattle.rh_defs.specs.Messages.{Parcel, action_of}
-use Rattle.rh_defs.specs.Letters.{load_letter, load_ack_letter}
+use Rattle.rh_defs.specs.Letters.{load_ack_letter}
 use Rattle.rh_defs.specs.Sender as sender
 use Rattle.rh_defs.specs.Receiver as receiver
-use Rattle.rh_defs.specs.Desk.{Desk, Task, Scrap, next_ref, send_letter}
-use Rattle.rh_defs.specs.OutgoingEvents.{Handled, scrap_shortage, wider, save_scrap, answer_ack, finish_load, ignored}
-use Rattle.rh_defs.specs.IncomingEvents.{appended, loaded, load_file, take_file}
-use Rattle.rh_safety.proofs.View.{view, seen_letter, seen_scrap, blocks_of, task_of}
-use Rattle.rh_safety.proofs.Ends.{Letter, Has, Offers, Edits, put}
 use Rattle.rh_safety.proofs.Sight as sight
-use Rattle.rh_safety.proofs.Basics.{either, and_left, and_right, is_equal, open_is, asking_is}
-use Rattle.rh_safety.proofs.Invariant.{Good}
 use Rattle.rh_safety.proofs.Arrivals.{Read, shut_good, filed_good, loaded_good, unasked_good, told_good, untold_good}
-use Rattle.rh_safety.proofs.SeenTasks.{field_is, live_of, outs_view, ins_view}
 use Rattle.rh_safety.proofs.SeenBlocks.{from_test, ok_is}
 use Rattle.rh_safety.proofs.SeenSends.{by_grant, with_step, sent_view}
 use Rattle.rh_safety.proofs.SeenDocuments.{letter_of, IsLonger, longer_is, block_there}
-use Rattle.rh_safety.proofs.Keeps.{seen_good}
 
 module _ {o : Offers} {e : Edits} (d : Desk) (t : Task) (m : Parcel) (b : Body) (is : task_of t.handle d.tasks ≡ Some t)
     (g : Good o e (view d)) (rd : Read o (view d) t.handle (letter_of m b)) where

@@ -1,34 +1,20 @@
 -- A DataSave that came keeps the invariant.
-use Rattle.std.proofs.Common.{◌≡◌, ℕ, zero, suc, ◌+◌, ◌<◌, true, false, List, [], length, Option, Some, None}
-use Rattle.std.proofs.Common.{refl, sym, ap, ◌∙◌, subst, ◌⊎◌, inl, inr, arith}
-use Rattle.std.specs.Prelude.{not, Ok}
-use Rattle.std.proofs.lemmas.Bool.Decides.{eqb_tells, leb_tells}
-use Rattle.std.proofs.lemmas.List.{length-replicate}
-use Rattle.rh_defs.specs.declared.refusal.Refusal.TheVariants.{AnchorInUse}
+use Rattle.rh_safety.proofs.Common.{◌≡◌, ℕ, zero, suc, ◌+◌, ◌<◌, true, false, List, [], length, Option, Some, None, refl, sym, ap, ◌∙◌, subst, ◌⊎◌, inl, inr}
+use Rattle.rh_safety.proofs.Common.{arith, not, Ok, eqb_tells, leb_tells, length-replicate, AnchorInUse, Body, Incoming, found_or, zeros, Slot, slot_claim}
+use Rattle.rh_safety.proofs.Common.{slot_alloc, block_of, weight, flex_start, Parcel, action_of, fetch_letter, is_going, is_full, free_anchor, Desk, Task}
+use Rattle.rh_safety.proofs.Common.{next_ref, free_pages, with_task, with_slot, with_taking, send_letter, Handled, ignored, is_deaf, accept, take_save, view}
+use Rattle.rh_safety.proofs.Common.{seen_letter, blocks_of, buffers_of, task_of, Offers, Edits, put, how_many, none_some, either, and_right, Good, Same}
+use Rattle.rh_safety.proofs.Common.{field_is, live_of, slot_is, ins_view, is_found}
 use Rattle.rh_defs.specs.declared.message.Action.TheVariants as action
-use Rattle.rh_defs.specs.declared.message.Body.{Body}
-use Rattle.rh_defs.specs.declared.transfer.Incoming.{Incoming}
-use Rattle.rh_defs.specs.Chain.{found_or}
-use Rattle.rh_defs.specs.Pieces.{zeros}
 use Rattle.rh_defs.specs.Heap.{block_room}
-use Rattle.rh_defs.specs.Slot.{Slot, slot_claim, slot_alloc, is_used, block_of, weight, flex_start, anchor_count}
-use Rattle.rh_defs.specs.Messages.{Parcel, action_of}
-use Rattle.rh_defs.specs.Letters.{fetch_letter}
-use Rattle.rh_defs.specs.Records.{is_going, is_full}
+use Rattle.rh_defs.specs.Slot.{is_used, anchor_count}
 use Rattle.rh_defs.specs.Receiver as receiver
-use Rattle.rh_defs.specs.Places.{free_from, free_anchor}
-use Rattle.rh_defs.specs.Desk.{Desk, Task, next_ref, free_pages, with_task, with_slot, with_taking, send_letter}
-use Rattle.rh_defs.specs.OutgoingEvents.{Handled, ignored}
-use Rattle.rh_defs.specs.IncomingEvents.{is_deaf, accept, take_save}
-use Rattle.rh_safety.proofs.View.{view, seen_letter, blocks_of, buffers_of, task_of}
-use Rattle.rh_safety.proofs.Ends.{Offers, Edits, put, how_many}
+use Rattle.rh_defs.specs.Places.{free_from}
 use Rattle.rh_safety.proofs.Sight as sight
-use Rattle.rh_safety.proofs.Basics.{none_some, either, and_right, not_true}
-use Rattle.rh_safety.proofs.Invariant.{Good}
+use Rattle.rh_safety.proofs.Basics.{not_true}
 use Rattle.rh_safety.proofs.Arrivals.{Began, Read, began_good}
 use Rattle.rh_safety.proofs.FlexMaps as flex
-use Rattle.rh_safety.proofs.SeenTasks.{Same, field_is, live_of, slot_is, ins_view, both_view}
-use Rattle.rh_safety.proofs.SeenFrames.{is_found}
+use Rattle.rh_safety.proofs.SeenTasks.{both_view}
 use Rattle.rh_safety.proofs.SeenBlocks.{ok_is, not_some, alloc_is, added_map, added_still}
 use Rattle.rh_safety.proofs.SeenHeaps.{claim_is, claimed_free, claimed_map, claimed_still}
 use Rattle.rh_safety.proofs.SeenSends.{by_grant, with_step, sent_view}

@@ -1,35 +1,17 @@
 -- A poll keeps the invariant.
-use Rattle.std.proofs.Common.{◌≡◌, ℕ, ◌<◌, true, false, List, Option, Some, None, refl, sym, ap, ◌∙◌, subst}
-use Rattle.std.specs.Option.{option_map}
+use Rattle.rh_safety.proofs.Common.{◌≡◌, ℕ, ◌<◌, true, false, List, Option, Some, None, refl, sym, ap, ◌∙◌, subst, option_map, Body, EventCode, User}
+use Rattle.rh_safety.proofs.Common.{Recorded, Acknowledge, Parcel, action_of, Post, post_poll, Desk, Task, named, with_delivered, Handled, ignored}
+use Rattle.rh_safety.proofs.Common.{answers_none, poll, poll_taken, step, view, seen_parcel, task_of, Offers, Edits, first_for, either, Good, LiveFile}
+use Rattle.rh_safety.proofs.Common.{field_is, live_of, Fits, HaveOwnSeats, bind, done, instead_of, the_task, Keeps, seen_good, Taking, Active}
 use Rattle.rh_defs.specs.declared.message.Action.TheVariants as action
-use Rattle.rh_defs.specs.declared.message.Body.{Body}
 use Rattle.rh_defs.specs.declared.message.Body.TheVariants as body
-use Rattle.rh_defs.specs.declared.message.EventCode.{EventCode}
-use Rattle.rh_defs.specs.declared.message.EventCode.TheVariants.{User, Recorded, Acknowledge}
 use Rattle.rh_defs.specs.declared.command.Command.TheVariants as command
-use Rattle.rh_defs.specs.Messages.{Parcel, action_of}
-use Rattle.rh_defs.specs.Post.{Post, post_poll}
-use Rattle.rh_defs.specs.Desk.{Desk, Task, named, with_delivered}
-use Rattle.rh_defs.specs.OutgoingEvents.{Handled, ignored}
 use Rattle.rh_defs.specs.Transfer as transfer
-use Rattle.rh_defs.specs.Transfer.{answers_none}
-use Rattle.rh_defs.specs.Step.{poll, poll_taken, step}
-use Rattle.rh_safety.proofs.View.{view, seen_parcel, task_of}
-use Rattle.rh_safety.proofs.Ends.{Offers, Edits, first_for}
 use Rattle.rh_safety.proofs.Sight as sight
-use Rattle.rh_safety.proofs.Basics.{either}
-use Rattle.rh_safety.proofs.Invariant.{Good, LiveFile}
-use Rattle.rh_safety.proofs.Polls.{Taken, not_fetch_good, unanswered_good, came_taken, back_ready, left_good, unpicked_live}
-use Rattle.rh_safety.proofs.Polls.{lost_if_handle}
-use Rattle.rh_safety.proofs.Polls.{returned_handle}
-use Rattle.rh_safety.proofs.SeenTasks.{field_is, live_of}
-use Rattle.rh_safety.proofs.SeenFrames.{Fits, HaveOwnSeats, bind, done, instead_of, the_task}
+use Rattle.rh_safety.proofs.Polls.{Taken, not_fetch_good, unanswered_good, came_taken, back_ready, left_good, unpicked_live, lost_if_handle, returned_handle}
 use Rattle.rh_safety.proofs.SeenTaking.{IsTaken, picked_by, poll_taken_is}
 use Rattle.rh_safety.proofs.SeenDocuments.{letter_of}
 use Rattle.rh_safety.proofs.SeenFiles.{delivered_live}
-use Rattle.rh_safety.proofs.Keeps.{Keeps, seen_good}
-use Rattle.rh_defs.specs.declared.transfer.Taking.{Taking}
-use Rattle.rh_safety.proofs.Ends.{Active}
 use Rattle.rh_safety.proofs.Sends.{Quiet}
 use Rattle.rh_safety.proofs.KeptBacks.{back_keeps}
 use Rattle.rh_safety.proofs.KeptFetch.{fetch_keeps}

@@ -1,43 +1,21 @@
 -- A transmit that came keeps the invariant.
-use Rattle.std.proofs.Common.{◌≡◌, ℕ, ◌+◌, Bool, true, false, List, [], ◌++◌, take, Option, Some, None}
-use Rattle.std.proofs.Common.{refl, sym, ap, ◌∙◌, subst, inl, inr, arith, suc}
-use Rattle.std.specs.Prelude.{if◌then◌else◌, nat_lt}
-use Rattle.std.specs.Option.{option_map}
-use Rattle.std.proofs.lemmas.List.{take_all}
-use Rattle.std.proofs.lemmas.Bool.Decides.{leb_tells}
-use Rattle.rh_defs.specs.declared.refusal.Refusal.{Refusal}
-use Rattle.rh_defs.specs.declared.refusal.Refusal.TheVariants.{NoRoom}
+use Rattle.rh_safety.proofs.Common.{◌≡◌, ℕ, ◌+◌, Bool, true, false, List, [], ◌++◌, take, Option, Some, None, refl, sym, ap, ◌∙◌, subst, inl, inr, arith, suc}
+use Rattle.rh_safety.proofs.Common.{if◌then◌else◌, nat_lt, option_map, take_all, leb_tells, Refusal, NoRoom, Outcome, Taking, Incoming, refuse_if, Split}
+use Rattle.rh_safety.proofs.Common.{Segment, bytes_of, heap_block_at, Parcel, fetch_letter, Desk, Task, next_ref, send_letter, Handled, appended, fetch_more}
+use Rattle.rh_safety.proofs.Common.{took, is_uncountable, take_bytes, view, seen_letter, blocks_of, buffers_of, task_of, Letter, Has, Offers, Edits, put}
+use Rattle.rh_safety.proofs.Common.{In_done, In_failed, either, FoundActive, fetches, drains, active_is, Good, field_is, live_of, ins_view, seen_good}
 use Rattle.rh_defs.specs.declared.message.Action.TheVariants as action
 use Rattle.rh_defs.specs.declared.message.Body.TheVariants as body
-use Rattle.rh_defs.specs.declared.reply.Outcome.{Outcome}
 use Rattle.rh_defs.specs.declared.reply.Outcome.TheVariants as outcome
-use Rattle.rh_defs.specs.declared.transfer.Taking.{Taking}
-use Rattle.rh_defs.specs.declared.transfer.Incoming.{Incoming}
 use Rattle.rh_defs.specs.declared.transfer.Incoming.TheVariants as incoming
-use Rattle.rh_defs.specs.Chain.{refuse_if}
-use Rattle.rh_defs.specs.Pieces.{Split}
-use Rattle.rh_defs.specs.Heap.{Segment, bytes_of}
-use Rattle.rh_defs.specs.Slot.{heap_block_at}
-use Rattle.rh_defs.specs.Messages.{Parcel}
-use Rattle.rh_defs.specs.Letters.{fetch_letter}
 use Rattle.rh_defs.specs.Receiver as receiver
 use Rattle.rh_defs.specs.Places.{first_bytes}
-use Rattle.rh_defs.specs.Desk.{Desk, Task, next_ref, send_letter}
-use Rattle.rh_defs.specs.OutgoingEvents.{Handled}
-use Rattle.rh_defs.specs.IncomingEvents.{appended, fetch_more, took, is_uncountable, take_bytes}
 use Rattle.rh_safety.specs.Alternation.{is_refusal}
-use Rattle.rh_safety.proofs.View.{view, seen_letter, blocks_of, buffers_of, task_of}
-use Rattle.rh_safety.proofs.Ends.{Letter, Has, Offers, Edits, put, In_done, In_failed}
 use Rattle.rh_safety.proofs.Sight as sight
-use Rattle.rh_safety.proofs.Basics.{either, FoundActive, fetches, drains, active_is}
-use Rattle.rh_safety.proofs.Invariant.{Good}
-use Rattle.rh_safety.proofs.Arrivals.{Matched, Read, matched, read_quiet, given_up_good, here_quiet, stopped_good}
-use Rattle.rh_safety.proofs.Arrivals.{fetched_good, finished_good}
-use Rattle.rh_safety.proofs.SeenTasks.{field_is, live_of, ins_view}
+use Rattle.rh_safety.proofs.Arrivals.{Matched, Read, matched, read_quiet, given_up_good, here_quiet, stopped_good, fetched_good, finished_good}
 use Rattle.rh_safety.proofs.SeenBlocks.{ok_is}
 use Rattle.rh_safety.proofs.SeenSends.{by_grant, with_step, sent_view}
 use Rattle.rh_safety.proofs.SeenDocuments.{letter_of, buffer_is, ended_view, IsLonger, longer_is}
-use Rattle.rh_safety.proofs.Keeps.{seen_good}
 
 -- the desk once the bytes of a transmit are in the document: fewer than the buffer has were the last
 abbrev pub taken_desk : sight.Desk → ℕ → Taking → Letter → sight.Desk

@@ -61,3 +61,4 @@ pub mod RecordRows
 pub mod LiveRefs
 pub mod Numbers
 pub mod NumberRows
+pub mod Common

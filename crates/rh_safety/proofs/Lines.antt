@@ -1,30 +1,21 @@
 -- Lines spell commands in range, and the desk after lines is that after their commands.
-use Rattle.std.proofs.Common.{◌≡◌, ℕ, zero, suc, ◌+◌, ◌-◌, ◌*◌, Bool, true, false, ◌&&◌, List}
-use Rattle.std.proofs.Common.{[], ◌∷◌, length, Option, Some, None, refl, subst, arith}
-use Rattle.std.specs.Prelude.{Result, Ok, Err, IfSome, nat_le, nat_lt, ◌==◌, if◌then◌else◌}
-use Rattle.std.specs.List.{list_all, filter_map, cons_option}
-use Rattle.std.specs.Str.{bytes_eq}
+use Rattle.rh_safety.proofs.Common.{◌≡◌, ℕ, zero, suc, ◌+◌, ◌-◌, ◌*◌, Bool, true, false, ◌&&◌, List, [], ◌∷◌, length, Option, Some, None, refl, subst, arith}
+use Rattle.rh_safety.proofs.Common.{Result, Ok, Err, IfSome, nat_le, nat_lt, ◌==◌, if◌then◌else◌, filter_map, bytes_eq, leb_tells, Command, is_name, in_range}
+use Rattle.rh_safety.proofs.Common.{Desk, step, after, and_left, and_right}
+use Rattle.std.specs.List.{list_all, cons_option}
 use Rattle.std.specs.Result.{result_ok}
-use Rattle.std.proofs.lemmas.Bool.Decides.{leb_tells, nat_tests}
+use Rattle.std.proofs.lemmas.Bool.Decides.{nat_tests}
 use Rattle.hex.specs.Hex.{decode_of}
 use Rattle.hex.specs.declared.error.FromHexError.{FromHexError}
 use Rattle.hex.proofs.HexLemmas.{decode_of-ok}
-use Rattle.rh_defs.specs.declared.command.Command.{Command}
 use Rattle.rh_defs.specs.declared.fault.LineFault.{LineFault}
 use Rattle.rh_defs.specs.declared.fault.LineFault.TheVariants.{TooLong, Unknown, Count, Word}
-use Rattle.rh_defs.specs.Forms.{is_name, is_anchor, is_number, is_buffer, is_delta, is_decimal, is_leaf, is_id, is_area}
-use Rattle.rh_defs.specs.Forms.{number_of, greatest, last_ref}
-use Rattle.rh_defs.specs.Grammar.{Form, Name, Leaf, Number, Delta, Address, Bytes, Choice, Maybe, Anchor, Size}
-use Rattle.rh_defs.specs.Grammar.{Value, Maker, Row, cancel_of, rows}
-use Rattle.rh_defs.specs.Range.{in_range, all_in_range}
+use Rattle.rh_defs.specs.Forms.{is_anchor, is_number, is_buffer, is_delta, is_decimal, is_leaf, is_id, is_area, number_of, greatest, last_ref}
+use Rattle.rh_defs.specs.Grammar.{Form, Name, Leaf, Number, Delta, Address, Bytes, Choice, Maybe, Anchor, Size, Value, Maker, Row, cancel_of, rows}
+use Rattle.rh_defs.specs.Range.{all_in_range}
 use Rattle.rh_defs.specs.Script.{commands_in, lines_desk, meaning_desk}
-use Rattle.rh_defs.specs.Desk.{Desk}
-use Rattle.rh_defs.specs.Step.{step}
-use Rattle.rh_defs.specs.Runs.{after}
-use Rattle.rh_defs.specs.Line.{Meaning, ◌>>=◌, longest_line, words_of, word, name_at, number_at, delta_at, signed}
-use Rattle.rh_defs.specs.Line.{is_negative, unsigned, address_at, leaf_at, choice_at, bytes_at, value_at, command_from}
-use Rattle.rh_defs.specs.Line.{is_count, follow, row_of, command_by, command_of, is_skipped, line_means}
-use Rattle.rh_safety.proofs.Basics.{and_left, and_right}
+use Rattle.rh_defs.specs.Line.{Meaning, ◌>>=◌, longest_line, words_of, word, name_at, number_at, delta_at, signed, is_negative, unsigned, address_at, leaf_at}
+use Rattle.rh_defs.specs.Line.{choice_at, bytes_at, value_at, command_from, is_count, follow, row_of, command_by, command_of, is_skipped, line_means}
 
 -- ---- what holds of a meaning, where there is one
 

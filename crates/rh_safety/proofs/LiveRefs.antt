@@ -1,17 +1,13 @@
 -- How many live messages have a ref: none has one that was not given, and no two have the same, whatever a post goes through.
-use Rattle.std.proofs.Common.{◌≡◌, ◌≢◌, ℕ, ◌+◌, ◌≤◌, ◌<◌, true, false, cond, refl, ap, ◌∙◌, arith, List, [], ◌∷◌, ◌++◌, inl, inr}
-use Rattle.std.specs.Prelude.{Option, Some, None, IfSome, ◌==◌, if◌then◌else◌, filter, map, not}
+use Rattle.rh_safety.proofs.Common.{◌≡◌, ◌≢◌, ℕ, ◌+◌, ◌≤◌, ◌<◌, true, false, cond, refl, ap, ◌∙◌, arith, List, [], ◌∷◌, ◌++◌, inl, inr, Option, Some, None}
+use Rattle.rh_safety.proofs.Common.{IfSome, ◌==◌, if◌then◌else◌, filter, map, not, eqb_tells, leb_tells, total, Heap, Parcel, is_recorded, Seat, Post}
+use Rattle.rh_safety.proofs.Common.{has_seat, held_by, with_held, post_join, answers_held, put_down, queued_in, without_block, bounced, bounce_held}
+use Rattle.rh_safety.proofs.Common.{taken_from, post_poll, bounce_all, post_death, Desk, next_ref}
 use Rattle.std.specs.List.{AllByRecursion, flat_map}
-use Rattle.std.proofs.lemmas.Bool.Decides.{eqb_tells, leb_tells}
 use Rattle.rh_defs.specs.declared.message.Letter.{Letter}
-use Rattle.rh_defs.specs.Pieces.{total}
-use Rattle.rh_defs.specs.Heap.{Heap}
 use Rattle.rh_defs.specs.Blocks.{poked}
-use Rattle.rh_defs.specs.Messages.{Parcel, is_recorded, parcel_bytes}
-use Rattle.rh_defs.specs.Post.{Seat, Post, has_seat, held_by, with_held, post_join, answers_held, put_down, queued_in, posted, parcel_of}
-use Rattle.rh_defs.specs.Post.{as_returned, without_block, bounced, bounce_held, behind_first, first_for, taken_from}
-use Rattle.rh_defs.specs.Post.{post_poll, bounce_all, post_death}
-use Rattle.rh_defs.specs.Desk.{Desk, next_ref}
+use Rattle.rh_defs.specs.Messages.{parcel_bytes}
+use Rattle.rh_defs.specs.Post.{posted, parcel_of, as_returned, behind_first, first_for}
 use Rattle.rh_defs.proofs.Cuts.{total-append}
 use Rattle.rh_safety.specs.Refs.{AllDiffer, HaveOwnRefs, held_refs, live_refs, ref_of}
 

@@ -1,18 +1,13 @@
 -- Commands on memory alone, which send, start and end nothing: what each of them changes, told once for all laws.
-use Rattle.std.proofs.Common.{◌≡◌, ℕ, List, [], Option, Some, None, refl}
-use Rattle.std.specs.Prelude.{Ok, ◌==◌, nat_lt, length}
-use Rattle.rh_defs.specs.declared.command.Command.{Command}
+use Rattle.rh_safety.proofs.Common.{◌≡◌, ℕ, List, [], Option, Some, None, refl, Ok, ◌==◌, nat_lt, length, Command, Reply, Granted, Heap, Slot, Desk, Task}
+use Rattle.rh_safety.proofs.Common.{named, with_slot, Answer, free, mid, OnGrant, chosen, granted, granted-past, granted-then, granted-with}
 use Rattle.rh_defs.specs.declared.command.Command.TheVariants as command
-use Rattle.rh_defs.specs.declared.reply.Reply.{Reply}
-use Rattle.rh_defs.specs.Chain.{Granted}
-use Rattle.rh_defs.specs.Heap.{Heap}
-use Rattle.rh_defs.specs.Slot.{Slot}
-use Rattle.rh_defs.specs.Desk.{Desk, Made, Task, named, with_module, with_slot}
-use Rattle.rh_defs.specs.Commands.{Answer, alloc, load, put, free, extend, mid, claim, release, resize, budge, module_area}
-use Rattle.rh_defs.specs.Commands.{change_module, change_pages, change_made, remove, rma_claim, rma_free, rma_resize}
+use Rattle.rh_defs.specs.Desk.{Made, with_module}
+use Rattle.rh_defs.specs.Commands.{alloc, load, put, extend, claim, release, resize, budge, module_area, change_module, change_pages, change_made, remove}
+use Rattle.rh_defs.specs.Commands.{rma_claim, rma_free, rma_resize}
 use Rattle.rh_defs.specs.Named.{name_in}
 use Rattle.rh_defs.specs.Step.{change}
-use Rattle.rh_defs.proofs.Chains.{OnGrant, chosen, granted, granted-past, granted-then, granted-with, refused}
+use Rattle.rh_defs.proofs.Chains.{refused}
 use Rattle.rh_defs.proofs.QuestionLaws.{IsFirst, shown, block_count, heap_sums, status_of, free_page_count, first-is}
 use Rattle.rh_safety.specs.Numbers.{areas_in, handles_in, refs_in}
 

@@ -1,15 +1,12 @@
 -- The small moves, part by part: what is known, the next ref, what is offered, and one record written anew.
-use Rattle.std.proofs.Common.{◌≡◌, ◌≢◌, ℕ, ◌+◌, ◌≤◌, ◌<◌, Bool, true, List, [], Option, Some, None, refl, sym, ap}
-use Rattle.std.proofs.Common.{◌∙◌, subst, ◌⊎◌, inl, inr, arith}
-use Rattle.std.proofs.lemmas.Bool.Decides.{eqb_tells}
-use Rattle.rh_safety.proofs.Ends.{Letter, Sending, Taking, Asked, Out, Open, Out_done, Out_failed, In, Fetching}
-use Rattle.rh_safety.proofs.Ends.{Draining, Asking, In_done, In_failed, is_growing, out_id, in_id, in_anchor, Has}
-use Rattle.rh_safety.proofs.Ends.{Active, put, with_id, one_more}
+use Rattle.rh_safety.proofs.Common.{◌≡◌, ◌≢◌, ℕ, ◌+◌, ◌≤◌, ◌<◌, Bool, true, List, [], Option, Some, None, refl, sym, ap, ◌∙◌, subst, ◌⊎◌, inl, inr, arith}
+use Rattle.rh_safety.proofs.Common.{eqb_tells, Letter, Sending, Taking, Asked, Out, Open, Out_done, Out_failed, In, Fetching, Draining, Asking, In_done}
+use Rattle.rh_safety.proofs.Common.{In_failed, is_growing, out_id, in_id, in_anchor, Has, Active, put, with_id, one_more, none_some, Offered, LetterIn}
+use Rattle.rh_safety.proofs.Common.{LetterCarries, Counted, Counts, Begins, Untouched, IsGood, HasBuffer}
 use Rattle.rh_safety.proofs.Sight.{Scrap}
-use Rattle.rh_safety.proofs.Basics.{none_some, with_old, more_old}
-use Rattle.rh_safety.proofs.Invariant.{LetterAck, LetterFile, Loads, Offered, Below, Offers, LetterOut, LetterIn}
-use Rattle.rh_safety.proofs.Invariant.{LetterCarries, LetterOlder, LetterAhead, Source, Counted, AtMost, Counts, Begins, Untouched}
-use Rattle.rh_safety.proofs.Invariant.{IsGood, HasBuffer, Letters, Outs, Ins, Boths}
+use Rattle.rh_safety.proofs.Basics.{with_old, more_old}
+use Rattle.rh_safety.proofs.Invariant.{LetterAck, LetterFile, Loads, Below, Offers, LetterOut, LetterOlder, LetterAhead, Source, AtMost, Letters, Outs, Ins}
+use Rattle.rh_safety.proofs.Invariant.{Boths}
 
 -- ---- which letters are known
 

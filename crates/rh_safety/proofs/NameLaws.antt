@@ -1,27 +1,12 @@
 -- No two live tasks have one name.
-use Rattle.std.proofs.Common.{◌≡◌, ◌≢◌, ℕ, Bool, true, false, not, ◌||◌, List, [], ◌∷◌, ◌++◌, Option, Some, refl, sym, ap}
-use Rattle.std.proofs.Common.{◌∙◌, subst, inl, inr}
-use Rattle.std.specs.Prelude.{if◌then◌else◌, ◌==◌, filter}
-use Rattle.std.specs.List.{list_any}
-use Rattle.std.specs.Str.{bytes_eq}
+use Rattle.rh_safety.proofs.Common.{◌≡◌, ◌≢◌, ℕ, Bool, true, false, not, ◌||◌, List, [], ◌∷◌, ◌++◌, Option, Some, refl, sym, ap, ◌∙◌, subst, inl, inr}
+use Rattle.rh_safety.proofs.Common.{if◌then◌else◌, ◌==◌, filter, list_any, bytes_eq, Refusal, Command, Manner, post_poll, Desk, Task, has_name, named}
+use Rattle.rh_safety.proofs.Common.{task_at, with_delivered, Answer, start_task, kill, make, save, repeat, poll, cancel_in, cancel_out, step, Always}
+use Rattle.rh_safety.proofs.Common.{or_else-keeps, start_with, after, Has, first_is, is_equal, bind, test, done, instead_of}
 use Rattle.std.proofs.lemmas.Slice.Eq.{bytes_eq-Decides}
-use Rattle.rh_defs.specs.declared.refusal.Refusal.{Refusal}
 use Rattle.rh_defs.specs.declared.refusal.Refusal.TheVariants.{NameInUse}
-use Rattle.rh_defs.specs.declared.command.Command.{Command}
 use Rattle.rh_defs.specs.declared.command.Command.TheVariants as command
-use Rattle.rh_defs.specs.declared.command.Manner.{Manner}
-use Rattle.rh_defs.specs.Post.{post_poll}
-use Rattle.rh_defs.specs.Desk.{Desk, Task, has_name, named, task_at, with_delivered}
-use Rattle.rh_defs.specs.Commands.{Answer, start_task, kill}
-use Rattle.rh_defs.specs.Commands.{make}
-use Rattle.rh_defs.specs.Step.{save, repeat, poll, cancel_in, cancel_out, step}
-use Rattle.rh_defs.specs.Laws.{Always}
-use Rattle.rh_defs.proofs.Chains.{or_else-keeps}
-use Rattle.rh_defs.specs.Runs.{start_with, after}
 use Rattle.rh_safety.specs.Names.{HaveOwnNames}
-use Rattle.rh_safety.proofs.Ends.{Has}
-use Rattle.rh_safety.proofs.Basics.{first_is, is_equal}
-use Rattle.rh_safety.proofs.SeenFrames.{bind, test, done, instead_of}
 use Rattle.rh_safety.proofs.SeenBlocks.{not_refused}
 use Rattle.rh_safety.proofs.SeenKeys.{keys_of, SameKeys, slot_keys, outs_keys, ins_keys, sent_keys}
 use Rattle.rh_safety.proofs.Alternations.{taken_keys, delivered_keys}

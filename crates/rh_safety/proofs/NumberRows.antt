@@ -1,24 +1,16 @@
 -- Worked runs: the numbers that replies answer, and the refs of live messages; and runs with one definition changed, on
 -- which they don't go up, or are the same.
-use Rattle.std.proofs.Common.{arith}
-use Rattle.std.specs.Prelude.{◌≡◌, refl, ℕ, ◌+◌, List, [], ◌∷◌, ◌++◌, length, nat_le, Option, Some, None, Ok}
+use Rattle.rh_safety.proofs.Common.{arith, ◌≡◌, refl, ℕ, ◌+◌, List, [], ◌∷◌, ◌++◌, length, nat_le, Option, Some, None, Ok, hex_on_literals, String, Command}
+use Rattle.rh_safety.proofs.Common.{Reply, Granted, ◌>>◌, refuse_if, or_else, Desk, Answer, Parcel, Post, bounced, held_by, after, step}
 use Rattle.std.specs.List.{flat_map}
-use Rattle.hex.proofs.OnLiterals.{hex_on_literals}
-use Prim.Native.String.{String}
-use Rattle.rh_defs.specs.declared.command.Command.{Command}
 use Rattle.rh_defs.specs.declared.command.Command.TheVariants as command
 use Rattle.rh_defs.specs.declared.refusal.Refusal.TheVariants.{TooManyAreas}
-use Rattle.rh_defs.specs.declared.reply.Reply.{Reply}
 use Rattle.rh_defs.specs.declared.reply.Reply.TheVariants as reply
-use Rattle.rh_defs.specs.Chain.{Granted, ◌>>◌, refuse_if, or_else}
 use Rattle.rh_defs.specs.Forms.{first_made}
 use Rattle.rh_defs.specs.Script
-use Rattle.rh_defs.specs.Desk.{Desk}
-use Rattle.rh_defs.specs.Commands.{Answer, most_made}
-use Rattle.rh_defs.specs.Messages.{Parcel}
-use Rattle.rh_defs.specs.Post.{Post, bounced, held_by, taken}
-use Rattle.rh_defs.specs.Runs.{after, replies}
-use Rattle.rh_defs.specs.Step.{step}
+use Rattle.rh_defs.specs.Commands.{most_made}
+use Rattle.rh_defs.specs.Post.{taken}
+use Rattle.rh_defs.specs.Runs.{replies}
 use Rattle.rh_safety.specs.Numbers.{GoUp, handles_in, refs_in, areas_in}
 use Rattle.rh_safety.specs.Refs.{AllDiffer, live_refs}
 use Rattle.rh_safety.proofs.SafetyRows.{fresh, script}

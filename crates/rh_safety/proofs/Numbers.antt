@@ -1,41 +1,24 @@
 -- The numbers that are answered go up, since each is the desk's next one, and the next one goes up by one.
-use Rattle.std.proofs.Common.{◌≡◌, ℕ, ◌+◌, ◌≤◌, refl, sym, subst, ◌∙◌, arith, List, [], ◌∷◌, ◌++◌, length}
-use Rattle.std.specs.Prelude.{Option, Some, None, Ok, ◌==◌, not, filter}
-use Rattle.rh_defs.specs.declared.command.Command.{Command}
+use Rattle.rh_safety.proofs.Common.{◌≡◌, ℕ, ◌+◌, ◌≤◌, refl, sym, subst, ◌∙◌, arith, List, [], ◌∷◌, ◌++◌, length, Option, Some, None, Ok, ◌==◌, not, filter}
+use Rattle.rh_safety.proofs.Common.{Command, Manner, Body, EventCode, User, Recorded, Acknowledge, Refusal, Outcome, Reply, Asked, Incoming, Sending, Taking}
+use Rattle.rh_safety.proofs.Common.{Split, Heap, Flex, Slot, Parcel, is_recorded, Post, Seat, answers_held, held_by, has_seat, bounced, bounce_held}
+use Rattle.rh_safety.proofs.Common.{bounce_all, without_block, taken_from, queued_in, put_down, post_join, post_send, post_poll, post_death, Desk, Task}
+use Rattle.rh_safety.proofs.Common.{Scrap, next_ref, free_pages, with_slot, with_task, with_delivered, send_letter, Handled, transmit, answer_fetch}
+use Rattle.rh_safety.proofs.Common.{fail_sending, save_scrap, answer_ack, finish_load, ended, accept, take_save, appended, fetch_more, took, take_bytes, ask}
+use Rattle.rh_safety.proofs.Common.{fetch_back, ack_back, loaded, load_file, take_file, came, came_back, handled, Answer, start_task, kill, free, make, save}
+use Rattle.rh_safety.proofs.Common.{repeat, poll, poll_taken, cancel_in, cancel_out, step, after, start_with, Always, OnGrant, granted, granted-then}
+use Rattle.rh_safety.proofs.Common.{granted-with, granted-past, or_else-keeps, chosen}
 use Rattle.rh_defs.specs.declared.command.Command.TheVariants as command
-use Rattle.rh_defs.specs.declared.command.Manner.{Manner}
-use Rattle.rh_defs.specs.declared.message.Body.{Body}
 use Rattle.rh_defs.specs.declared.message.Body.TheVariants.{DataSave, DataSaveAck, DataLoad, DataLoadAck, RamFetch, RamTransmit}
-use Rattle.rh_defs.specs.declared.message.EventCode.{EventCode}
-use Rattle.rh_defs.specs.declared.message.EventCode.TheVariants.{User, Recorded, Acknowledge}
 use Rattle.rh_defs.specs.declared.message.Letter.{Letter}
-use Rattle.rh_defs.specs.declared.refusal.Refusal.{Refusal}
-use Rattle.rh_defs.specs.declared.reply.Outcome.{Outcome}
 use Rattle.rh_defs.specs.declared.reply.Outcome.TheVariants as outcome
-use Rattle.rh_defs.specs.declared.reply.Reply.{Reply}
 use Rattle.rh_defs.specs.declared.reply.Reply.TheVariants as reply
-use Rattle.rh_defs.specs.declared.transfer.Asked.{Asked}
-use Rattle.rh_defs.specs.declared.transfer.Incoming.{Incoming}
 use Rattle.rh_defs.specs.declared.transfer.Incoming.TheVariants as incoming
-use Rattle.rh_defs.specs.declared.transfer.Sending.{Sending}
-use Rattle.rh_defs.specs.declared.transfer.Taking.{Taking}
-use Rattle.rh_defs.specs.Pieces.{Split}
-use Rattle.rh_defs.specs.Heap.{Heap}
-use Rattle.rh_defs.specs.Slot.{Flex, Slot}
-use Rattle.rh_defs.specs.Messages.{Parcel, is_recorded}
-use Rattle.rh_defs.specs.Post.{Post, Seat, answers_held, held_by, has_seat, bounced, bounce_held, bounce_all, without_block, first_for, taken_from, queued_in}
-use Rattle.rh_defs.specs.Post.{put_down, post_join, post_send, post_poll, post_death}
-use Rattle.rh_defs.specs.Desk.{Desk, Task, Scrap, next_ref, free_pages, with_slot, with_task, with_module, with_delivered, send_letter}
-use Rattle.rh_defs.specs.OutgoingEvents.{Handled, transmit, answer_fetch, fail_sending, save_scrap, answer_ack, finish_load, refused as failed_by}
-use Rattle.rh_defs.specs.IncomingEvents.{ended, accept, take_save, appended, fetch_more, took, take_bytes, ask, fetch_back, ack_back, loaded, load_file}
-use Rattle.rh_defs.specs.IncomingEvents.{take_file}
-use Rattle.rh_defs.specs.Transfer.{came, came_back, handled}
-use Rattle.rh_defs.specs.Commands.{Answer, start_task, kill, free}
-use Rattle.rh_defs.specs.Commands.{make}
-use Rattle.rh_defs.specs.Step.{save, repeat, poll, poll_taken, cancel_in, cancel_out, change, step}
-use Rattle.rh_defs.specs.Runs.{after, start_with}
-use Rattle.rh_defs.specs.Laws.{Always}
-use Rattle.rh_defs.proofs.Chains.{OnGrant, granted, granted-then, granted-with, granted-both, granted-past, granted-unless, or_else-keeps, chosen}
+use Rattle.rh_defs.specs.Post.{first_for}
+use Rattle.rh_defs.specs.Desk.{with_module}
+use Rattle.rh_defs.specs.OutgoingEvents.{refused as failed_by}
+use Rattle.rh_defs.specs.Step.{change}
+use Rattle.rh_defs.proofs.Chains.{granted-both, granted-unless}
 use Rattle.rh_safety.proofs.LiveRefs.{OneEach, live_with, own-refs, no_more-one, posted-one, join-one, poll-fewer, death-fewer}
 use Rattle.rh_safety.proofs.MemoryCommands.{Changed, IsOnMemory, granted-on, in_areas, in_made, in_module, in_nothing, in_slot}
 use Rattle.rh_safety.specs.Refs.{HaveOwnRefs}

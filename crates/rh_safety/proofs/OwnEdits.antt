@@ -1,31 +1,14 @@
 -- What a message that was handled makes of a desk, told once: edits of the task's own slot and records, letters of its own,
 -- the scrap file and area 5, and bytes that a transmit writes into the recipient's slot.
-use Rattle.std.proofs.Common.{◌≡◌, ℕ, List, Option, Some, None, refl}
-use Rattle.std.specs.Prelude.{Ok, Err}
-use Rattle.rh_defs.specs.declared.refusal.Refusal.{Refusal}
-use Rattle.rh_defs.specs.declared.message.Body.{Body}
+use Rattle.rh_safety.proofs.Common.{◌≡◌, ℕ, List, Option, Some, None, refl, Ok, Err, Refusal, Body, EventCode, User, Recorded, Acknowledge, Asked, Sending}
+use Rattle.rh_safety.proofs.Common.{Taking, Incoming, Outgoing, Granted, Split, Flex, Slot, Parcel, Desk, Scrap, Task, send_letter, with_sending, with_taking}
+use Rattle.rh_safety.proofs.Common.{with_task, Handled, answer_ack, answer_fetch, fail_sending, finish_load, ignored, refused, save_scrap, transmit, accept}
+use Rattle.rh_safety.proofs.Common.{ack_back, appended, ask, ended, fetch_back, fetch_more, load_file, loaded, take_bytes, take_file, take_save, took}
+use Rattle.rh_safety.proofs.Common.{answers_none, came, came_back, handled, OnGrant, granted, granted-past, granted-then, granted-with, chosen, or_else-keeps}
 use Rattle.rh_defs.specs.declared.message.Body.TheVariants as body
-use Rattle.rh_defs.specs.declared.message.EventCode.{EventCode}
-use Rattle.rh_defs.specs.declared.message.EventCode.TheVariants.{User, Recorded, Acknowledge}
 use Rattle.rh_defs.specs.declared.message.Letter.{Letter}
-use Rattle.rh_defs.specs.declared.transfer.Asked.{Asked}
-use Rattle.rh_defs.specs.declared.transfer.Sending.{Sending}
-use Rattle.rh_defs.specs.declared.transfer.Taking.{Taking}
-use Rattle.rh_defs.specs.declared.transfer.Incoming.{Incoming}
 use Rattle.rh_defs.specs.declared.transfer.Incoming.TheVariants as incoming
-use Rattle.rh_defs.specs.declared.transfer.Outgoing.{Outgoing}
-use Rattle.rh_defs.specs.Chain.{Granted}
-use Rattle.rh_defs.specs.Pieces.{Split}
-use Rattle.rh_defs.specs.Slot.{Flex, Slot}
-use Rattle.rh_defs.specs.Messages.{Parcel}
-use Rattle.rh_defs.specs.Desk.{Desk, Scrap, Task, send_letter, with_sending, with_taking, with_task}
-use Rattle.rh_defs.specs.OutgoingEvents.{Handled, answer_ack, answer_fetch, fail_sending, finish_load, ignored, refused, save_scrap}
-use Rattle.rh_defs.specs.OutgoingEvents.{transmit}
-use Rattle.rh_defs.specs.IncomingEvents.{accept, ack_back, appended, ask, ended, fetch_back, fetch_more, load_file, loaded}
-use Rattle.rh_defs.specs.IncomingEvents.{take_bytes, take_file, take_save, took}
-use Rattle.rh_defs.specs.Transfer.{answers_none, came, came_back, handled}
-use Rattle.rh_defs.proofs.Chains.{OnGrant, granted, granted-both, granted-past, granted-then, granted-unless, granted-with}
-use Rattle.rh_defs.proofs.Chains.{chosen, or_else-keeps}
+use Rattle.rh_defs.proofs.Chains.{granted-both, granted-unless}
 use Rattle.rh_defs.proofs.Chains as chains
 
 -- a relation of two desks that holds of each edit of what is a task's own, and of one after another

@@ -1,38 +1,21 @@
 -- A poll that takes the one message of the post, and what is seen of the desk once it was dealt with.
-use Rattle.std.proofs.Common.{◌≡◌, ℕ, ◌-◌, ◌≤◌, Bool, true, false, List, [], ◌∷◌, length, Option, Some, None, refl}
-use Rattle.std.proofs.Common.{sym, ap}
-use Rattle.std.proofs.Common.{◌∙◌, subst, inl, inr}
-use Rattle.std.specs.Prelude.{◌+◌, if◌then◌else◌, min, nat_lt}
-use Rattle.std.specs.Option.{option_map}
+use Rattle.rh_safety.proofs.Common.{◌≡◌, ℕ, ◌-◌, ◌≤◌, Bool, true, false, List, [], ◌∷◌, length, Option, Some, None, refl, sym, ap, ◌∙◌, subst, inl, inr, ◌+◌}
+use Rattle.rh_safety.proofs.Common.{if◌then◌else◌, min, nat_lt, option_map, Body, EventCode, User, Recorded, Acknowledge, Sending, Taking, Incoming, Parcel}
+use Rattle.rh_safety.proofs.Common.{action_of, Post, Desk, Task, with_delivered, Handled, answer_fetch, take_bytes, take_save, answers_none, Answer}
+use Rattle.rh_safety.proofs.Common.{poll_taken, view, seen_parcel, address_in, amount_in, task_of, Letter, Message, first_for, none_some, open_is, is_equal}
+use Rattle.rh_safety.proofs.Common.{and_left, field_is}
 use Rattle.rh_defs.specs.declared.message.Action.TheVariants as action
-use Rattle.rh_defs.specs.declared.message.Body.{Body}
 use Rattle.rh_defs.specs.declared.message.Body.TheVariants as body
-use Rattle.rh_defs.specs.declared.message.EventCode.{EventCode}
-use Rattle.rh_defs.specs.declared.message.EventCode.TheVariants.{User, Recorded, Acknowledge}
 use Rattle.rh_defs.specs.declared.reply.Outcome.TheVariants as outcome
-use Rattle.rh_defs.specs.declared.transfer.Sending.{Sending}
-use Rattle.rh_defs.specs.declared.transfer.Taking.{Taking}
-use Rattle.rh_defs.specs.declared.transfer.Incoming.{Incoming}
 use Rattle.rh_defs.specs.declared.transfer.Incoming.TheVariants as incoming
-use Rattle.rh_defs.specs.Messages.{Parcel, action_of}
-use Rattle.rh_defs.specs.Post.{Post}
 use Rattle.rh_defs.specs.Sender as sender
 use Rattle.rh_defs.specs.Receiver as receiver
-use Rattle.rh_defs.specs.Desk.{Desk, Task, with_delivered}
-use Rattle.rh_defs.specs.OutgoingEvents.{Handled, answer_fetch}
-use Rattle.rh_defs.specs.IncomingEvents.{take_bytes, take_save}
 use Rattle.rh_defs.specs.Transfer as transfer
-use Rattle.rh_defs.specs.Transfer.{answers_none}
-use Rattle.rh_defs.specs.Commands.{Answer}
-use Rattle.rh_defs.specs.Step.{event, poll_taken}
+use Rattle.rh_defs.specs.Step.{event}
 use Rattle.rh_safety.specs.Alternation.{is_refusal, is_refused_poll}
-use Rattle.rh_safety.proofs.View.{view, seen_parcel, address_in, amount_in, task_of}
-use Rattle.rh_safety.proofs.Ends.{Letter, Message, first_for}
 use Rattle.rh_safety.proofs.Sight as sight
-use Rattle.rh_safety.proofs.Basics.{none_some, open_is, is_equal, and_left}
 use Rattle.rh_safety.proofs.Arrivals.{Began}
 use Rattle.rh_safety.proofs.Turns.{first_one}
-use Rattle.rh_safety.proofs.SeenTasks.{field_is}
 use Rattle.rh_safety.proofs.SeenTaking.{IsTaken, lost_queue, picked_by}
 use Rattle.rh_safety.proofs.SeenDocuments.{letter_of}
 use Rattle.rh_safety.proofs.KeptFetch.{gone, fetch_does, fetch_goes}

@@ -1,18 +1,14 @@
 -- What is known of a message that a poll takes, and of the fetch among them.
-use Rattle.std.proofs.Common.{nat_le, ◌≡◌, ◌≢◌, ℕ, suc, ◌+◌, ◌≤◌, ◌<◌, Bool, true, false, List, ◌++◌, length, take}
-use Rattle.std.proofs.Common.{drop, Option, Some, None, refl, sym, ap, ◌∙◌, subst, ◌⊎◌, inl, inr, arith, length-drop}
-use Rattle.std.specs.Prelude.{if◌then◌else◌, nat_eq, nat_lt}
-use Rattle.std.proofs.lemmas.Bool.Decides.{leb_tells, nat_tests}
-use Rattle.std.proofs.lemmas.Bool.{eq-eqb}
-use Rattle.rh_safety.proofs.Ends.{Code, Plain, Recorded, Returned, DataSave, DataLoad, RamFetch, RamTransmit}
-use Rattle.rh_safety.proofs.Ends.{Letter, Message, Sending, Taking, Out, Open, Out_done}
-use Rattle.rh_safety.proofs.Ends.{out_id, Has, Active, put, with_id, find_open, first_for}
-use Rattle.rh_safety.proofs.Ends.{without_first}
-use Rattle.rh_safety.proofs.Sight.{sent, Desk, returned, picked, failed}
-use Rattle.rh_safety.proofs.Sight.{portion, would_answer, lost_if}
-use Rattle.rh_safety.proofs.Basics.{put_all, put_same, put_other, and_left, and_right, is_equal, first_has, without_has}
-use Rattle.rh_safety.proofs.Basics.{length_take, front_written, length_written, Ascend, with_ascends, open_is}
-use Rattle.rh_safety.proofs.Invariant.{Offered, queued, Knows, Unread, Inv, PendingAt, Good, IsLive, waits, rests, LiveFile, known_by}
+use Rattle.rh_safety.proofs.Common.{nat_le, ◌≡◌, ◌≢◌, ℕ, suc, ◌+◌, ◌≤◌, ◌<◌, Bool, true, false, List, ◌++◌, length, take, drop, Option, Some, None, refl, sym}
+use Rattle.rh_safety.proofs.Common.{ap, ◌∙◌, subst, ◌⊎◌, inl, inr, arith, length-drop, if◌then◌else◌, nat_eq, nat_lt, leb_tells, eq-eqb, Code, Plain}
+use Rattle.rh_safety.proofs.Common.{Recorded, DataSave, DataLoad, RamFetch, RamTransmit, Letter, Message, Sending, Taking, Out, Open, Out_done, out_id, Has}
+use Rattle.rh_safety.proofs.Common.{Active, put, with_id, first_for, without_first, sent, would_answer, put_all, put_same, put_other, and_left, and_right}
+use Rattle.rh_safety.proofs.Common.{is_equal, length_take, Ascend, with_ascends, open_is, Offered, queued, Knows, Unread, Inv, PendingAt, Good, IsLive, waits}
+use Rattle.rh_safety.proofs.Common.{rests, LiveFile, known_by}
+use Rattle.std.proofs.lemmas.Bool.Decides.{nat_tests}
+use Rattle.rh_safety.proofs.Ends.{Returned, find_open}
+use Rattle.rh_safety.proofs.Sight.{Desk, returned, picked, failed, portion, lost_if}
+use Rattle.rh_safety.proofs.Basics.{first_has, without_has, front_written, length_written}
 use Rattle.rh_safety.proofs.Moves.{Move, move_with}
 use Rattle.rh_safety.proofs.Filings.{none_live}
 use Rattle.rh_safety.proofs.Sends.{few_here, few_with, one_active, Quiet, OutPart, NewOut, out_inv, out_pending}

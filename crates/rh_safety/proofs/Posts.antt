@@ -1,23 +1,17 @@
 -- Repeats, bounces, deaths and new tasks keep the invariant.
-use Rattle.std.proofs.Common.{◌≡◌, ◌≢◌, ℕ, ◌+◌, ◌<◌, Bool, true, false, List, [], ◌∷◌, ◌++◌, Option, Some, None, refl}
-use Rattle.std.proofs.Common.{sym, ap, ◌∙◌, subst, ◌⊎◌, inl, inr, arith}
-use Rattle.std.specs.Prelude.{if◌then◌else◌}
-use Rattle.std.proofs.lemmas.Bool.Decides.{eqb_tells}
-use Rattle.rh_safety.proofs.Ends.{Code, Plain, Recorded, Returned, Letter, Message, Sending, Taking, Out, Open, In}
-use Rattle.rh_safety.proofs.Ends.{Fetching, Draining, out_id, in_id, in_anchor, Has, Active, put, without_first}
-use Rattle.rh_safety.proofs.Ends.{first_for}
-use Rattle.rh_safety.proofs.Sight.{Desk, sent, again, back, returned, for_others, back_if_recorded, bounced_for}
-use Rattle.rh_safety.proofs.Sight.{back_held, killed, started}
-use Rattle.rh_safety.proofs.Basics.{put_all, put_same, put_other, Has-append, none_some, without_has, pair_append}
-use Rattle.rh_safety.proofs.Invariant.{Offered, Known, queued, kept, latest, Knows, Offers, Unread, Rises, Order, Inv}
-use Rattle.rh_safety.proofs.Invariant.{LiveFile, known_by}
-use Rattle.rh_safety.proofs.Invariant.{IsWaiting, Waits, PendingAt, Good, LetterCarries, HasBuffer}
+use Rattle.rh_safety.proofs.Common.{◌≡◌, ◌≢◌, ℕ, ◌+◌, ◌<◌, Bool, true, false, List, [], ◌∷◌, ◌++◌, Option, Some, None, refl, sym, ap, ◌∙◌, subst, ◌⊎◌, inl}
+use Rattle.rh_safety.proofs.Common.{inr, arith, if◌then◌else◌, eqb_tells, Code, Plain, Recorded, Letter, Message, Sending, Taking, Out, Open, In, Fetching}
+use Rattle.rh_safety.proofs.Common.{Draining, out_id, in_id, in_anchor, Has, Active, put, without_first, first_for, sent, put_all, put_same, put_other}
+use Rattle.rh_safety.proofs.Common.{none_some, Offered, queued, kept, latest, Knows, Unread, Order, Inv, LiveFile, known_by, IsWaiting, PendingAt, Good}
+use Rattle.rh_safety.proofs.Common.{LetterCarries, HasBuffer}
+use Rattle.rh_safety.proofs.Ends.{Returned}
+use Rattle.rh_safety.proofs.Sight.{Desk, again, back, returned, for_others, back_if_recorded, bounced_for, back_held, killed, started}
+use Rattle.rh_safety.proofs.Basics.{Has-append, without_has, pair_append}
+use Rattle.rh_safety.proofs.Invariant.{Known, Offers, Rises, Waits}
 use Rattle.rh_safety.proofs.Filings.{filed_fewer, filed_less, filed_sent}
-use Rattle.rh_safety.proofs.Moves.{loads_other, loads_fewer, loads_less, letters_more, outs_more, ins_more}
-use Rattle.rh_safety.proofs.Moves.{boths_more, letters_fewer, outs_fewer, ins_fewer, boths_fewer, letters_bump}
-use Rattle.rh_safety.proofs.Moves.{outs_bump, ins_bump, at_put, none_left, outs_less, ins_less, boths_less}
-use Rattle.rh_safety.proofs.Sends.{few_put, sent_knows, order_send, queue_below, put_ascends, waits_sent, waits_kept}
-use Rattle.rh_safety.proofs.Sends.{Pending}
+use Rattle.rh_safety.proofs.Moves.{loads_other, loads_fewer, loads_less, letters_more, outs_more, ins_more, boths_more, letters_fewer, outs_fewer, ins_fewer}
+use Rattle.rh_safety.proofs.Moves.{boths_fewer, letters_bump, outs_bump, ins_bump, at_put, none_left, outs_less, ins_less, boths_less}
+use Rattle.rh_safety.proofs.Sends.{few_put, sent_knows, order_send, queue_below, put_ascends, waits_sent, waits_kept, Pending}
 
 -- ---- repeats
 

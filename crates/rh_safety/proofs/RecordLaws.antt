@@ -1,28 +1,18 @@
 -- Records of live tasks stand in order, and what they name is there.
-use Rattle.std.proofs.Common.{◌≡◌, ℕ, ◌+◌, ◌≤◌, ◌<◌, Bool, true, List, [], ◌∷◌, length, take, Option, Some, None, refl, sym}
-use Rattle.std.proofs.Common.{ap, ◌∙◌, subst, inl, inr, arith}
-use Rattle.std.specs.List.{list_any}
-use Rattle.rh_defs.specs.declared.transfer.Sending.{Sending}
-use Rattle.rh_defs.specs.declared.transfer.Taking.{Taking}
-use Rattle.rh_defs.specs.declared.transfer.Asked.{Asked}
-use Rattle.rh_defs.specs.declared.transfer.Outgoing.{Outgoing}
+use Rattle.rh_safety.proofs.Common.{◌≡◌, ℕ, ◌+◌, ◌≤◌, ◌<◌, Bool, true, List, [], ◌∷◌, length, take, Option, Some, None, refl, sym, ap, ◌∙◌, subst, inl, inr}
+use Rattle.rh_safety.proofs.Common.{arith, list_any, Sending, Taking, Asked, Outgoing, Incoming, in_id, out_id, Desk, Task, task_at, Active, Has, Ascend}
+use Rattle.rh_safety.proofs.Common.{has_of, is_equal, length_take, Good, Offered, field_is, view, blocks_of, buffers_of}
 use Rattle.rh_defs.specs.declared.transfer.Outgoing.TheVariants as outgoing
-use Rattle.rh_defs.specs.declared.transfer.Incoming.{Incoming}
 use Rattle.rh_defs.specs.declared.transfer.Incoming.TheVariants as incoming
-use Rattle.rh_defs.specs.Records.{in_id, is_buffer_of, is_document, is_source, out_id}
-use Rattle.rh_defs.specs.Desk.{Desk, Task, is_busy_block, is_busy_buffer, task_at}
+use Rattle.rh_defs.specs.Records.{is_buffer_of, is_document, is_source}
+use Rattle.rh_defs.specs.Desk.{is_busy_block, is_busy_buffer}
 use Rattle.rh_defs.specs.Laws.{Rise}
 use Rattle.rh_safety.specs.Offered.{bytes_of_block}
 use Rattle.rh_safety.specs.Buffers.{bytes_of_buffer}
 use Rattle.rh_safety.specs.TaskRecords.{HoldsOne, HasBlock, HasBuffer, Measures, IsRecorded, AreRecorded}
-use Rattle.rh_safety.proofs.Ends.{Active, Has}
-use Rattle.rh_safety.proofs.Basics.{Ascend, has_of, is_equal, length_take}
-use Rattle.rh_safety.proofs.Invariant.{Good, Offered}
 use Rattle.rh_safety.proofs.SeenDocuments.{buffer_is}
 use Rattle.rh_safety.proofs.SeenLaws.{block_is}
 use Rattle.rh_safety.proofs.SeenFiles.{one_of, passes}
-use Rattle.rh_safety.proofs.SeenTasks.{field_is}
-use Rattle.rh_safety.proofs.View.{view, blocks_of, buffers_of}
 
 -- ---- ids
 

@@ -1,36 +1,17 @@
 -- Worked runs of what records name, and runs with one definition changed, on which record_law or scrap_law fails.
-use Rattle.std.specs.Prelude.{◌≡◌, refl, ℕ, Bool, true, false, ◌==◌, if◌then◌else◌, List, [], ◌∷◌, ◌++◌, length, map, codes, Option, Some, None, Ok}
-use Rattle.std.specs.List.{filter_map}
-use Rattle.std.specs.Option.{option_map}
-use Rattle.hex.proofs.OnLiterals.{hex_on_literals}
-use Prim.Native.String.{String}
-use Rattle.rh_defs.specs.declared.refusal.Refusal.{Refusal}
-use Rattle.rh_defs.specs.declared.refusal.Refusal.TheVariants.{AnchorInUse, NoBlock}
+use Rattle.rh_safety.proofs.Common.{◌≡◌, refl, ℕ, Bool, true, false, ◌==◌, if◌then◌else◌, List, [], ◌∷◌, ◌++◌, length, map, codes, Option, Some, None, Ok}
+use Rattle.rh_safety.proofs.Common.{filter_map, option_map, hex_on_literals, String, Refusal, AnchorInUse, NoBlock, Sending, Asked, Outgoing, Incoming}
+use Rattle.rh_safety.proofs.Common.{Granted, ◌>>=◌, found_or, or_else, Split, Flex, new_slot, slot_block, slot_claim, Parcel, post_is_live, post_poll}
+use Rattle.rh_safety.proofs.Common.{fetch_letter, load_letter, in_id, free_anchor, Desk, Task, Scrap, next_ref, free_pages, task_at, with_slot, with_sending}
+use Rattle.rh_safety.proofs.Common.{with_taking, send_letter, with_post, Handled, ignored, refused, scrap_shortage, wider, appended, loaded, after}
 use Rattle.rh_defs.specs.declared.command.Manner.TheVariants as manner
 use Rattle.rh_defs.specs.declared.command.Command.TheVariants as command
 use Rattle.rh_defs.specs.declared.reply.Outcome.TheVariants as outcome
-use Rattle.rh_defs.specs.declared.transfer.Sending.{Sending}
-use Rattle.rh_defs.specs.declared.transfer.Asked.{Asked}
-use Rattle.rh_defs.specs.declared.transfer.Outgoing.{Outgoing}
 use Rattle.rh_defs.specs.declared.transfer.Outgoing.TheVariants as outgoing
-use Rattle.rh_defs.specs.declared.transfer.Incoming.{Incoming}
 use Rattle.rh_defs.specs.declared.transfer.Incoming.TheVariants as incoming
-use Rattle.rh_defs.specs.Chain.{Granted, ◌>>=◌, found_or, or_else}
-use Rattle.rh_defs.specs.Pieces.{Split}
-use Rattle.rh_defs.specs.Slot.{Flex, new_slot, slot_block, slot_claim}
-use Rattle.rh_defs.specs.Messages.{Parcel}
-use Rattle.rh_defs.specs.Post.{post_is_live, post_poll}
-use Rattle.rh_defs.specs.Letters.{fetch_letter, load_letter}
 use Rattle.rh_defs.specs.Sender as sender
 use Rattle.rh_defs.specs.Receiver as receiver
-use Rattle.rh_defs.specs.Records.{in_id}
-use Rattle.rh_defs.specs.Places.{free_anchor}
-use Rattle.rh_defs.specs.Desk.{Desk, Task, Scrap, next_ref, free_pages, task_at, with_slot, with_sending, with_taking}
-use Rattle.rh_defs.specs.Desk.{send_letter, with_post}
 use Rattle.rh_defs.specs.Commands.{with_new_task}
-use Rattle.rh_defs.specs.OutgoingEvents.{Handled, ignored, refused, scrap_shortage, wider}
-use Rattle.rh_defs.specs.IncomingEvents.{appended, loaded}
-use Rattle.rh_defs.specs.Runs.{after}
 use Rattle.rh_defs.specs.Script
 use Rattle.rh_safety.specs.Offered.{bytes_of_block}
 use Rattle.rh_safety.specs.Buffers.{bytes_of_buffer, failed_by}

@@ -1,13 +1,9 @@
 -- Worked runs: what is offered and what is held after each command.
-use Rattle.std.specs.Prelude.{◌≡◌, refl, ℕ, List, [], ◌∷◌, length, map, codes, true, Option, Some, None, Ok, Err}
-use Rattle.std.specs.List.{filter_map}
-use Rattle.hex.proofs.OnLiterals.{hex_on_literals}
-use Prim.Native.String.{String}
-use Rattle.rh_defs.specs.declared.command.Command.{Command}
+use Rattle.rh_safety.proofs.Common.{◌≡◌, refl, ℕ, List, [], ◌∷◌, length, map, codes, true, Option, Some, None, Ok, Err, filter_map, hex_on_literals, String}
+use Rattle.rh_safety.proofs.Common.{Command, Desk, after}
 use Rattle.rh_defs.specs.Script
 use Rattle.rh_defs.specs.Line.{Meaning, line_means}
-use Rattle.rh_defs.specs.Desk.{Desk}
-use Rattle.rh_defs.specs.Runs.{start, after}
+use Rattle.rh_defs.specs.Runs.{start}
 use Rattle.rh_safety.specs.Offered.{offered}
 use Rattle.rh_safety.specs.Held.{held}
 use Rattle.rh_safety.specs.Alternation.{turns, all_granted}

@@ -1,18 +1,9 @@
 -- The scrap file's DataLoad is live, and was sent last by one transfer at most.
-use Rattle.std.proofs.Common.{◌≡◌, ℕ, Bool, List, [], refl, sym, ap, ◌∙◌, subst, inl, inr}
-use Rattle.std.specs.Option.{option_map}
-use Rattle.rh_defs.specs.declared.transfer.Sending.{Sending}
-use Rattle.rh_defs.specs.declared.transfer.Outgoing.{Outgoing}
+use Rattle.rh_safety.proofs.Common.{◌≡◌, ℕ, Bool, List, [], refl, sym, ap, ◌∙◌, subst, inl, inr, option_map, Sending, Outgoing, Parcel, Desk, view}
+use Rattle.rh_safety.proofs.Common.{seen_parcel, seen_scrap, Letter, Has, has_of, Offered, Knows, queued, kept, IsLive, waits, rests, Good, field_is}
 use Rattle.rh_defs.specs.declared.transfer.Outgoing.TheVariants as outgoing
-use Rattle.rh_defs.specs.Messages.{Parcel}
-use Rattle.rh_defs.specs.Desk.{Desk}
 use Rattle.rh_safety.specs.ScrapFile.{IsLast, IsLiveMessage, OwnsScrapFile}
-use Rattle.rh_safety.proofs.View.{view, seen_parcel, seen_scrap}
-use Rattle.rh_safety.proofs.Ends.{Letter, Has}
-use Rattle.rh_safety.proofs.Basics.{has_of}
-use Rattle.rh_safety.proofs.Invariant.{Offered, Knows, queued, kept, IsLive, waits, rests, Good}
 use Rattle.rh_safety.proofs.SeenFiles.{has_map, seen_live}
-use Rattle.rh_safety.proofs.SeenTasks.{field_is}
 
 -- a message that is queued or held
 record IsKnown (d : Desk) (ref : ℕ) : Type 0 where

@@ -1,22 +1,13 @@
 -- Queued fetches name buffers that are held.
-use Rattle.std.proofs.Common.{◌≡◌, ℕ, ◌≤◌, Bool, true, false, List, [], length, Option, None, sym, ap, ◌∙◌}
-use Rattle.std.proofs.Common.{subst, inl, inr}
-use Rattle.rh_defs.specs.declared.transfer.Incoming.{Incoming}
+use Rattle.rh_safety.proofs.Common.{◌≡◌, ℕ, ◌≤◌, Bool, true, false, List, [], length, Option, None, sym, ap, ◌∙◌, subst, inl, inr, Incoming, Outgoing}
+use Rattle.rh_safety.proofs.Common.{action_of, answers_none, Desk, view, seen_parcel, address_in, amount_in, buffers_of, Has, has_of, Offered, Good, field_is}
 use Rattle.rh_defs.specs.declared.transfer.Incoming.TheVariants as incoming
-use Rattle.rh_defs.specs.declared.transfer.Outgoing.{Outgoing}
 use Rattle.rh_defs.specs.declared.transfer.Outgoing.TheVariants as outgoing
-use Rattle.rh_defs.specs.Messages.{action_of}
 use Rattle.rh_defs.specs.Sender as sender
-use Rattle.rh_defs.specs.Transfer.{answers_none}
-use Rattle.rh_defs.specs.Desk.{Desk}
-use Rattle.rh_safety.proofs.View.{view, seen_parcel, address_in, amount_in, buffers_of}
 use Rattle.rh_safety.specs.Buffers.{HasBuffers}
-use Rattle.rh_safety.proofs.Ends.{Has}
-use Rattle.rh_safety.proofs.Basics.{has_of, contains_of}
-use Rattle.rh_safety.proofs.Invariant.{Offered, Good}
+use Rattle.rh_safety.proofs.Basics.{contains_of}
 use Rattle.rh_safety.proofs.Runs.{holds_buffer}
 use Rattle.rh_safety.proofs.SeenFiles.{has_map}
-use Rattle.rh_safety.proofs.SeenTasks.{field_is}
 use Rattle.rh_safety.proofs.SeenDocuments.{buffer_is}
 
 pub has_buffers : {o : Offered} {e : ℕ → ℕ → Bool} (d : Desk) → Good o e (view d) → HasBuffers d

@@ -1,18 +1,12 @@
 -- What is asked of a desk holds of each desk of a run.
-use Rattle.std.proofs.Common.{◌≡◌, ℕ, ◌+◌, ◌<◌, Bool, true, false, List, [], ◌∷◌, Option, Some, refl, sym, ap, ◌∙◌}
-use Rattle.std.proofs.Common.{◌≤◌, subst, inl, inr, arith}
-use Rattle.std.proofs.lemmas.Bool.Decides.{eqb_tells}
-use Rattle.std.specs.Prelude.{if◌then◌else◌, ◌==◌, IfSome, filter, map, not}
+use Rattle.rh_safety.proofs.Common.{◌≡◌, ℕ, ◌+◌, ◌<◌, Bool, true, false, List, [], ◌∷◌, Option, Some, refl, sym, ap, ◌∙◌, ◌≤◌, subst, inl, inr, arith}
+use Rattle.rh_safety.proofs.Common.{eqb_tells, if◌then◌else◌, ◌==◌, IfSome, filter, map, not, Post, Seat, has_seat, held_by, post_death, post_poll, Desk}
+use Rattle.rh_safety.proofs.Common.{Task, IsDesk, Has, of, task_of, field, Fits, HaveOwnSeats}
 use Rattle.rh_defs.specs.Slot.{IsSlot}
-use Rattle.rh_defs.specs.Post.{Post, Seat, has_seat, held_by, post_death, post_poll}
-use Rattle.rh_defs.specs.Desk.{Desk, Task}
-use Rattle.rh_defs.specs.Laws.{Ascend, Rise, IsDesk, seat_handles, task_handles}
+use Rattle.rh_defs.specs.Laws.{Ascend, Rise, seat_handles, task_handles}
 use Rattle.rh_defs.proofs.Lists.{find-all, map-filter, rise-filter, rise-same}
 use Rattle.rh_defs.proofs.PostKeeps.{post_death-kept, post_poll-kept}
-use Rattle.rh_safety.proofs.Ends.{Has}
-use Rattle.rh_safety.proofs.View.{of, task_of, field}
 use Rattle.rh_safety.proofs.SeenTasks.{NotIn, Distinct}
-use Rattle.rh_safety.proofs.SeenFrames.{Fits, HaveOwnSeats}
 
 -- ---- handles that go up are distinct
 

@@ -1,31 +1,20 @@
 -- A record that ends with its buffer, and a document with more bytes at its end, as they are seen.
-use Rattle.std.proofs.Common.{length-append, drop, ◌≡◌, ℕ, ◌+◌, ◌-◌, true, List, [], ◌∷◌, ◌++◌, length}
-use Rattle.std.proofs.Common.{take, Option, Some, None, refl, sym, ap, ◌∙◌, subst, inl, inr, arith}
-use Rattle.std.specs.Prelude.{Ok, Err}
-use Rattle.std.specs.Option.{option_map}
-use Rattle.std.proofs.lemmas.Bool.Decides.{eqb_tells}
-use Rattle.std.proofs.lemmas.List.{take_all, drop_all, length-replicate, append-nil}
+use Rattle.rh_safety.proofs.Common.{length-append, drop, ◌≡◌, ℕ, ◌+◌, ◌-◌, true, List, [], ◌∷◌, ◌++◌, length, take, Option, Some, None, refl, sym, ap, ◌∙◌}
+use Rattle.rh_safety.proofs.Common.{subst, inl, inr, arith, Ok, Err, option_map, eqb_tells, take_all, length-replicate, append-nil, Body, Taking, Incoming}
+use Rattle.rh_safety.proofs.Common.{Granted, ◌>>=◌, found_or, Split, zeros, written, behind, first_at, Segment, Used, Hole, bytes_of, size_of, first_place}
+use Rattle.rh_safety.proofs.Common.{is_block_at, released, fitted, Slot, Flex, weight, flex_start, heap_start, heap_block_at, slot_block, slot_extend}
+use Rattle.rh_safety.proofs.Common.{slot_put, Parcel, action_of, Desk, Task, free_pages, with_task, with_slot, ended, appended, view, address_in, amount_in}
+use Rattle.rh_safety.proofs.Common.{blocks_of, buffers_of, task_of, Letter, put, put_same, Same, live_of, slot_is, slot_at, block_view, buffer_view, ins_view}
+use Rattle.std.proofs.lemmas.List.{drop_all}
 use Rattle.std.proofs.Math.Seq.{take-append_seam}
-use Rattle.rh_defs.specs.declared.message.Body.{Body}
-use Rattle.rh_defs.specs.declared.transfer.Taking.{Taking}
-use Rattle.rh_defs.specs.declared.transfer.Incoming.{Incoming}
-use Rattle.rh_defs.specs.Chain.{Granted, ◌>>=◌, found_or, result_or}
-use Rattle.rh_defs.specs.Pieces.{Split, zeros, written, behind, first_at}
-use Rattle.rh_defs.specs.Heap.{Segment, Used, Hole, bytes_of, size_of, first_place, is_block_at, released, fitted}
+use Rattle.rh_defs.specs.Chain.{result_or}
 use Rattle.rh_defs.specs.Blocks.{bytes_at}
-use Rattle.rh_defs.specs.Slot.{Slot, Flex, weight, flex_start, heap_start, heap_block_at, with_heap, slot_block}
-use Rattle.rh_defs.specs.Slot.{slot_release, slot_extend, slot_put}
-use Rattle.rh_defs.specs.Messages.{Parcel, action_of}
-use Rattle.rh_defs.specs.Desk.{Desk, Task, free_pages, with_task, with_slot}
-use Rattle.rh_defs.specs.IncomingEvents.{without_buffer, ended, appended}
-use Rattle.rh_safety.proofs.View.{view, address_in, amount_in, blocks_of, buffers_of, task_of}
-use Rattle.rh_safety.proofs.Ends.{Letter, put}
+use Rattle.rh_defs.specs.Slot.{with_heap, slot_release}
+use Rattle.rh_defs.specs.IncomingEvents.{without_buffer}
 use Rattle.rh_safety.proofs.Sight as sight
 use Rattle.rh_safety.proofs.FlexMaps as flex
-use Rattle.rh_safety.proofs.Basics.{put_same}
-use Rattle.rh_safety.proofs.SeenTasks.{Same, unput, live_of, slot_is, slot_at, block_view, buffer_view, ins_view}
-use Rattle.rh_safety.proofs.SeenBlocks.{ok_is, the_block, extend_is, put_is, changed_from, changed_map, changed_still}
-use Rattle.rh_safety.proofs.SeenBlocks.{put_over}
+use Rattle.rh_safety.proofs.SeenTasks.{unput}
+use Rattle.rh_safety.proofs.SeenBlocks.{ok_is, the_block, extend_is, put_is, changed_from, changed_map, changed_still, put_over}
 use Rattle.rh_safety.proofs.SeenSends.{with_step}
 use Rattle.rh_safety.proofs.SeenHeaps.{release_is, gone_map, gone_still}
 

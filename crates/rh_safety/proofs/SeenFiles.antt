@@ -1,20 +1,11 @@
 -- The scrap file's DataLoad as it is seen of a post, by the desk's word for what is queued or held.
-use Rattle.std.proofs.Common.{◌≡◌, ℕ, Bool, true, false, ◌||◌, List, [], ◌∷◌, Option, Some, None, refl, ap, ◌∙◌, subst}
-use Rattle.std.proofs.Common.{◌⊎◌, inl, inr}
-use Rattle.std.specs.Prelude.{◌==◌, if◌then◌else◌, map}
-use Rattle.std.specs.List.{list_any}
-use Rattle.std.specs.Option.{option_map}
-use Rattle.std.proofs.lemmas.Bool.{eq-eqb}
-use Rattle.std.proofs.lemmas.Bool.Decides.{eqb_tells}
-use Rattle.rh_defs.specs.Messages.{Parcel}
-use Rattle.rh_defs.specs.Post.{Post, Seat, held_by, holds_such, post_is_live}
-use Rattle.rh_defs.specs.Desk.{Desk, Scrap, kept_scrap, with_delivered}
-use Rattle.rh_safety.proofs.View.{view, seen_parcel, seen_scrap}
-use Rattle.rh_safety.proofs.Ends.{Message, Has}
+use Rattle.rh_safety.proofs.Common.{◌≡◌, ℕ, Bool, true, false, ◌||◌, List, [], ◌∷◌, Option, Some, None, refl, ap, ◌∙◌, subst, ◌⊎◌, inl, inr, ◌==◌}
+use Rattle.rh_safety.proofs.Common.{if◌then◌else◌, map, list_any, option_map, eq-eqb, eqb_tells, Parcel, Post, Seat, held_by, post_is_live, Desk, Scrap}
+use Rattle.rh_safety.proofs.Common.{with_delivered, view, seen_parcel, seen_scrap, Message, Has, is_equal, none_some, IsLive, waits, rests, LiveFile}
+use Rattle.rh_safety.proofs.Common.{HaveOwnSeats}
+use Rattle.rh_defs.specs.Post.{holds_such}
+use Rattle.rh_defs.specs.Desk.{kept_scrap}
 use Rattle.rh_safety.proofs.Sight as sight
-use Rattle.rh_safety.proofs.Basics.{is_equal, none_some}
-use Rattle.rh_safety.proofs.Invariant.{IsLive, waits, rests, LiveFile}
-use Rattle.rh_safety.proofs.SeenFrames.{HaveOwnSeats}
 use Rattle.rh_safety.proofs.SeenSends.{held_seen}
 
 -- ---- members that pass a test

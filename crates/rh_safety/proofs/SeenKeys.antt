@@ -1,22 +1,10 @@
 -- The handles and names of tasks, which commands on a task leave.
-use Rattle.std.proofs.Common.{◌≡◌, ℕ, Bool, true, false, List, [], ◌∷◌, Option, Some, None, refl, ap, ◌∙◌, subst}
-use Rattle.std.specs.Prelude.{if◌then◌else◌, ◌==◌, find, map, Ok}
-use Rattle.std.specs.Option.{option_map}
-use Rattle.std.specs.Str.{bytes_eq}
+use Rattle.rh_safety.proofs.Common.{◌≡◌, ℕ, Bool, true, false, List, [], ◌∷◌, Option, Some, None, refl, ap, ◌∙◌, subst, if◌then◌else◌, ◌==◌, find, map, Ok}
+use Rattle.rh_safety.proofs.Common.{option_map, bytes_eq, Taking, Outgoing, Incoming, Slot, Desk, Task, has_name, with_task, with_sending, with_taking}
+use Rattle.rh_safety.proofs.Common.{with_post, send_letter, ended, Parcel, handled, EventCode, OnGrant, granted, granted-then, either}
 use Rattle.rh_defs.specs.declared.message.Letter.{Letter}
-use Rattle.rh_defs.specs.declared.transfer.Taking.{Taking}
-use Rattle.rh_defs.specs.declared.transfer.Outgoing.{Outgoing}
-use Rattle.rh_defs.specs.declared.transfer.Incoming.{Incoming}
-use Rattle.rh_defs.specs.Slot.{Slot}
-use Rattle.rh_defs.specs.Desk.{Desk, Task, edit_task, has_name, with_task, with_sending, with_taking, with_post}
-use Rattle.rh_defs.specs.Desk.{send_letter}
-use Rattle.rh_defs.specs.IncomingEvents.{ended}
-use Rattle.rh_defs.specs.Messages.{Parcel}
-use Rattle.rh_defs.specs.Transfer.{handled}
-use Rattle.rh_defs.specs.declared.message.EventCode.{EventCode}
-use Rattle.rh_defs.proofs.Chains.{OnGrant, granted, granted-then}
+use Rattle.rh_defs.specs.Desk.{edit_task}
 use Rattle.rh_safety.proofs.OwnEdits.{OwnEdits, handled-own}
-use Rattle.rh_safety.proofs.Basics.{either}
 use Rattle.rh_safety.proofs.SeenSends.{letter_sent}
 
 -- the handles and names of tasks

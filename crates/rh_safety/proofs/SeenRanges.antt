@@ -1,60 +1,36 @@
 -- No poll answers that a range was bad, or that a block was missing.
-use Rattle.std.proofs.Common.{◌≡◌, ◌≢◌, ℕ, ◌+◌, ◌≤◌, Bool, true, false, not, ◌&&◌, ◌||◌, List, [], length, take, Option, Some}
-use Rattle.std.proofs.Common.{None, refl, sym, ap, ◌∙◌, subst, arith}
-use Rattle.std.specs.Prelude.{nat_lt, nat_le, ◌==◌, ◌^◌, Ok, Err, is_some}
-use Rattle.std.specs.Option.{option_map}
-use Rattle.std.proofs.lemmas.Bool.Decides.{leb_tells}
-use Rattle.rh_defs.specs.declared.refusal.Refusal.{Refusal}
-use Rattle.rh_defs.specs.declared.refusal.Refusal.TheVariants.{NoBlock, AnchorInUse, BadSize, BadRange, NoTask}
-use Rattle.rh_defs.specs.declared.refusal.Refusal.TheVariants.{NoRefs, QueueFull, NoRoom, Busy}
-use Rattle.rh_defs.specs.declared.message.Body.{Body}
+use Rattle.rh_safety.proofs.Common.{◌≡◌, ◌≢◌, ℕ, ◌+◌, ◌≤◌, Bool, true, false, not, ◌&&◌, ◌||◌, List, [], length, take, Option, Some, None, refl, sym, ap, ◌∙◌}
+use Rattle.rh_safety.proofs.Common.{subst, arith, nat_lt, nat_le, ◌==◌, ◌^◌, Ok, Err, is_some, option_map, leb_tells, Refusal, NoBlock, AnchorInUse, BadRange}
+use Rattle.rh_safety.proofs.Common.{NoTask, NoRoom, Busy, Body, EventCode, User, Recorded, Acknowledge, Outcome, Reply, Sending, Taking, Asked, Outgoing}
+use Rattle.rh_safety.proofs.Common.{Incoming, Granted, ◌>>=◌, ◌>>◌, refuse_if, found_or, Split, Heap, Segment, fitted, Parcel, Post, has_seat, post_send}
+use Rattle.rh_safety.proofs.Common.{post_poll, Slot, Flex, block_of, flex_address, heap_block_at, slot_block, slot_extend, slot_put, slot_claim, slot_alloc}
+use Rattle.rh_safety.proofs.Common.{fetch_letter, transmit_letter, load_letter, open_of, free_anchor, Desk, Task, Scrap, free_pages, named, task_at}
+use Rattle.rh_safety.proofs.Common.{with_slot, with_delivered, send_letter, Handled, ignored, portion, transmit, answer_fetch, fail_sending, scrap_shortage}
+use Rattle.rh_safety.proofs.Common.{wider, save_scrap, answer_ack, finish_load, is_deaf, accept, take_save, appended, fetch_more, took, is_uncountable}
+use Rattle.rh_safety.proofs.Common.{take_bytes, ask, fetch_back, ack_back, loaded, load_file, take_file, answers_none, Answer, poll, poll_taken, step}
+use Rattle.rh_safety.proofs.Common.{in_anchor, view, blocks_of, buffers_of, task_of, Has, either, put_same, open_is, FoundActive, fetches, drains, active_is}
+use Rattle.rh_safety.proofs.Common.{asking_is, Offered, Untouched, IsGood, Inv, Good, field_is, live_of, Fits, bind, done, is_found, instead_of, the_task}
+use Rattle.rh_defs.specs.declared.refusal.Refusal.TheVariants.{BadSize, NoRefs, QueueFull}
 use Rattle.rh_defs.specs.declared.message.Body.TheVariants as body
-use Rattle.rh_defs.specs.declared.message.EventCode.{EventCode}
-use Rattle.rh_defs.specs.declared.message.EventCode.TheVariants.{User, Recorded, Acknowledge}
 use Rattle.rh_defs.specs.declared.message.Letter.{Letter}
 use Rattle.rh_defs.specs.declared.command.Command.TheVariants as command
-use Rattle.rh_defs.specs.declared.reply.Outcome.{Outcome}
-use Rattle.rh_defs.specs.declared.reply.Reply.{Reply}
-use Rattle.rh_defs.specs.declared.transfer.Sending.{Sending}
-use Rattle.rh_defs.specs.declared.transfer.Taking.{Taking}
-use Rattle.rh_defs.specs.declared.transfer.Asked.{Asked}
-use Rattle.rh_defs.specs.declared.transfer.Outgoing.{Outgoing}
 use Rattle.rh_defs.specs.declared.transfer.Outgoing.TheVariants as outgoing
-use Rattle.rh_defs.specs.declared.transfer.Incoming.{Incoming}
 use Rattle.rh_defs.specs.declared.transfer.Incoming.TheVariants as incoming
-use Rattle.rh_defs.specs.Chain.{Granted, ◌>>=◌, ◌>>◌, refuse_if, found_or}
-use Rattle.rh_defs.specs.Pieces.{Split, lacks_pages}
-use Rattle.rh_defs.specs.Heap.{Heap, Segment, need, fitted}
+use Rattle.rh_defs.specs.Pieces.{lacks_pages}
+use Rattle.rh_defs.specs.Heap.{need}
 use Rattle.rh_defs.specs.Module.{module_claim}
-use Rattle.rh_defs.specs.Messages.{Parcel}
-use Rattle.rh_defs.specs.Post.{Post, has_seat, most_messages, live_count, sendable, post_send, post_poll}
-use Rattle.rh_defs.specs.Slot.{Slot, Flex, block_of, flex_address, heap_block_at, slot_block, slot_extend, slot_put, lacks_room}
-use Rattle.rh_defs.specs.Slot.{length_with, holds, slot_claim, slot_alloc}
-use Rattle.rh_defs.specs.Letters.{fetch_letter, ack_letter, load_ack_letter, transmit_letter, load_letter}
-use Rattle.rh_defs.specs.Records.{open_of, active_of, asking_of}
+use Rattle.rh_defs.specs.Post.{most_messages, live_count, sendable}
+use Rattle.rh_defs.specs.Slot.{lacks_room, length_with, holds}
+use Rattle.rh_defs.specs.Letters.{ack_letter, load_ack_letter}
+use Rattle.rh_defs.specs.Records.{active_of, asking_of}
 use Rattle.rh_defs.specs.Sender as sender
 use Rattle.rh_defs.specs.Receiver as receiver
-use Rattle.rh_defs.specs.Places.{first_bytes, free_anchor, overlap}
-use Rattle.rh_defs.specs.Desk.{Desk, Task, Scrap, free_pages, named, task_at, with_slot, with_delivered, send_letter}
-use Rattle.rh_defs.specs.OutgoingEvents.{Handled, ignored, portion, is_out_of_reach, transmit, answer_fetch}
-use Rattle.rh_defs.specs.OutgoingEvents.{fail_sending, scrap_shortage, wider, save_scrap, answer_ack, finish_load}
-use Rattle.rh_defs.specs.IncomingEvents.{is_deaf, accept, take_save, appended, fetch_more, took, is_uncountable}
-use Rattle.rh_defs.specs.IncomingEvents.{take_bytes, ask}
-use Rattle.rh_defs.specs.IncomingEvents.{fetch_back, ack_back, loaded, load_file, take_file}
+use Rattle.rh_defs.specs.Places.{first_bytes, overlap}
+use Rattle.rh_defs.specs.OutgoingEvents.{is_out_of_reach}
 use Rattle.rh_defs.specs.Transfer as transfer
-use Rattle.rh_defs.specs.Transfer.{answers_none}
-use Rattle.rh_defs.specs.Commands.{Answer}
-use Rattle.rh_defs.specs.Step.{poll, poll_taken, step}
 use Rattle.rh_safety.specs.Buffers.{refusal_of, failed_by, HasGoodRanges}
 use Rattle.rh_safety.specs.Polls.{LosesNoBlock}
-use Rattle.rh_safety.specs.Held.{in_anchor}
-use Rattle.rh_safety.proofs.View.{view, blocks_of, buffers_of, task_of}
-use Rattle.rh_safety.proofs.Ends.{Has}
-use Rattle.rh_safety.proofs.Basics.{either, put_same, open_is, FoundActive, fetches, drains, active_is, asking_is}
-use Rattle.rh_safety.proofs.Invariant.{Offered, Untouched, IsGood, Inv, Good}
 use Rattle.rh_safety.proofs.Polls.{Taken}
-use Rattle.rh_safety.proofs.SeenTasks.{field_is, live_of}
-use Rattle.rh_safety.proofs.SeenFrames.{Fits, bind, done, is_found, instead_of, the_task}
 use Rattle.rh_safety.proofs.SeenBlocks.{from_test, ok_is, extend_is, changed_map}
 use Rattle.rh_safety.proofs.SeenHeaps.{length_fitted}
 use Rattle.rh_safety.proofs.SeenSends.{by_grant, with_step}

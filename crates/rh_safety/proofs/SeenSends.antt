@@ -1,24 +1,15 @@
 -- A letter sent, as what is seen of the desk.
-use Rattle.std.proofs.Common.{◌≡◌, ℕ, ◌+◌, Bool, true, false, List, [], ◌∷◌, ◌++◌, Option, Some, None, refl, sym}
-use Rattle.std.proofs.Common.{ap, ◌∙◌, subst, inl, inr, arith}
-use Rattle.std.specs.Prelude.{if◌then◌else◌, nat_eq, map, Ok, Err}
-use Rattle.std.specs.Option.{option_map}
-use Rattle.std.proofs.lemmas.Bool.Decides.{eqb_tells}
-use Rattle.rh_defs.specs.declared.refusal.Refusal.{Refusal}
+use Rattle.rh_safety.proofs.Common.{◌≡◌, ℕ, ◌+◌, Bool, true, false, List, [], ◌∷◌, ◌++◌, Option, Some, None, refl, sym, ap, ◌∙◌, subst, inl, inr, arith}
+use Rattle.rh_safety.proofs.Common.{if◌then◌else◌, nat_eq, map, Ok, Err, option_map, eqb_tells, Refusal, Granted, ◌>>=◌, or_else, Parcel, Seat, Post}
+use Rattle.rh_safety.proofs.Common.{has_seat, held_by, with_held, answers_held, put_down, queued_in, post_send, new_slot, Desk, Task, with_task, with_post}
+use Rattle.rh_safety.proofs.Common.{free_pages, send_letter, is_deaf, answers_none, view, seen_parcel, seen_letter, seen_last, blocks_of, buffers_of, Message}
+use Rattle.rh_safety.proofs.Common.{put, Same, same_desk, slot_at}
 use Rattle.rh_defs.specs.declared.message.Letter.{Letter}
-use Rattle.rh_defs.specs.Chain.{Granted, ◌>>=◌, or_else}
 use Rattle.rh_defs.specs.Module.{module_claim}
-use Rattle.rh_defs.specs.Messages.{Parcel, parcel_size}
-use Rattle.rh_defs.specs.Post.{Seat, Post, has_seat, held_by, with_held, answers_held, message_of, parcel_of}
-use Rattle.rh_defs.specs.Post.{put_down, queued_in, posted, sendable, post_send}
-use Rattle.rh_defs.specs.Slot.{new_slot}
-use Rattle.rh_defs.specs.Desk.{Desk, Task, with_task, with_post, free_pages, send_letter}
-use Rattle.rh_defs.specs.IncomingEvents.{is_deaf}
-use Rattle.rh_defs.specs.Transfer.{answers_none}
-use Rattle.rh_safety.proofs.View.{view, seen_parcel, seen_letter, seen_last, blocks_of, buffers_of}
-use Rattle.rh_safety.proofs.Ends.{Message, put}
+use Rattle.rh_defs.specs.Messages.{parcel_size}
+use Rattle.rh_defs.specs.Post.{message_of, parcel_of, posted, sendable}
 use Rattle.rh_safety.proofs.Sight as sight
-use Rattle.rh_safety.proofs.SeenTasks.{Same, same_desk, change_other, change_here, unput, task_or, task_is, slot_at}
+use Rattle.rh_safety.proofs.SeenTasks.{change_other, change_here, unput, task_or, task_is}
 use Rattle.rh_safety.proofs.SeenBlocks.{from_bind, from_test, ok_is}
 
 pub map_append : {A B : Type 0} (f : A → B) (xs ys : List A) → map f (xs ++ ys) ≡ map f xs ++ map f ys

@@ -1,21 +1,11 @@
 -- What a poll does to the post, as what is seen of it.
-use Rattle.std.proofs.Common.{◌≡◌, ℕ, Bool, true, false, List, [], ◌∷◌, ◌++◌, Option, Some, None, refl, sym, ap, ◌∙◌}
-use Rattle.std.proofs.Common.{subst, inl, inr}
-use Rattle.std.specs.Prelude.{if◌then◌else◌, map}
-use Rattle.std.specs.Option.{option_map}
-use Rattle.std.proofs.lemmas.Bool.Decides.{eqb_tells}
-use Rattle.rh_defs.specs.declared.message.EventCode.{EventCode}
-use Rattle.rh_defs.specs.declared.message.EventCode.TheVariants.{User, Recorded, Acknowledge}
-use Rattle.rh_defs.specs.Messages.{Parcel, is_recorded}
-use Rattle.rh_defs.specs.Post.{Seat, Post, has_seat, held_by, with_held, without_block, bounce_held, behind_first}
-use Rattle.rh_defs.specs.Post.{first_for, taken_from, taken, post_poll}
-use Rattle.rh_defs.specs.Desk.{Desk, with_post, with_delivered}
-use Rattle.rh_safety.proofs.View.{view, seen_parcel, seen_scrap}
-use Rattle.rh_safety.proofs.Ends.{Message, put}
+use Rattle.rh_safety.proofs.Common.{◌≡◌, ℕ, Bool, true, false, List, [], ◌∷◌, ◌++◌, Option, Some, None, refl, sym, ap, ◌∙◌, subst, inl, inr, if◌then◌else◌}
+use Rattle.rh_safety.proofs.Common.{map, option_map, eqb_tells, EventCode, User, Recorded, Acknowledge, Parcel, is_recorded, Seat, Post, has_seat, held_by}
+use Rattle.rh_safety.proofs.Common.{with_held, without_block, bounce_held, taken_from, post_poll, Desk, with_post, with_delivered, view, seen_parcel}
+use Rattle.rh_safety.proofs.Common.{seen_scrap, Message, put, none_some, Fits}
+use Rattle.rh_defs.specs.Post.{behind_first, first_for, taken}
 use Rattle.rh_safety.proofs.Ends as post
 use Rattle.rh_safety.proofs.Sight as sight
-use Rattle.rh_safety.proofs.Basics.{none_some}
-use Rattle.rh_safety.proofs.SeenFrames.{Fits}
 use Rattle.rh_safety.proofs.SeenSends.{held_put, held_got, seats_held, held_seen}
 use Rattle.rh_safety.proofs.SeenPosts.{bounced_leads, live_bounced, kept_is, with_scrap}
 

@@ -1,20 +1,11 @@
 -- Bytes written into a buffer, as one place of the map.
-use Rattle.std.proofs.Common.{◌≡◌, ℕ, ◌+◌, ◌-◌, ◌≤◌, true, List, ◌++◌, length}
-use Rattle.std.proofs.Common.{drop, Option, Some, None, refl, sym, ap, ◌∙◌, inl, inr, arith, length-append}
-use Rattle.std.proofs.Common.{length-drop}
-use Rattle.std.specs.Prelude.{nat_le}
-use Rattle.std.specs.Option.{option_map}
-use Rattle.std.proofs.lemmas.Bool.Decides.{leb_tells}
-use Rattle.rh_defs.specs.Pieces.{Split, total, written, with_here}
-use Rattle.rh_defs.specs.Heap.{Segment, Used, bytes_of, size_of, first_place, place_after, is_block_at}
-use Rattle.rh_defs.specs.Slot.{Slot, heap_start, heap_block_at}
-use Rattle.rh_defs.specs.Places.{buffer_at, with_heap_bytes}
-use Rattle.rh_safety.proofs.View.{buffers_of}
+use Rattle.rh_safety.proofs.Common.{◌≡◌, ℕ, ◌+◌, ◌-◌, ◌≤◌, true, List, ◌++◌, length, drop, Option, Some, None, refl, sym, ap, ◌∙◌, inl, inr, arith}
+use Rattle.rh_safety.proofs.Common.{length-append, length-drop, nat_le, option_map, leb_tells, Split, total, written, with_here, Segment, Used, bytes_of}
+use Rattle.rh_safety.proofs.Common.{size_of, first_place, place_after, is_block_at, Slot, heap_start, heap_block_at, buffer_at, buffers_of, put, none_some}
+use Rattle.rh_safety.proofs.Common.{Same}
+use Rattle.rh_defs.specs.Places.{with_heap_bytes}
 use Rattle.rh_safety.proofs.HeapMap.{bytes_at, heap_map, IsMoved}
-use Rattle.rh_safety.proofs.Ends.{put}
-use Rattle.rh_safety.proofs.Basics.{none_some}
 use Rattle.rh_safety.proofs.HeapMaps as heaps
-use Rattle.rh_safety.proofs.SeenTasks.{Same}
 use Rattle.rh_safety.proofs.SeenHeaps.{cut_is, used_is, shifted}
 use Rattle.rh_safety.proofs.SeenDocuments.{buffer_is}
 

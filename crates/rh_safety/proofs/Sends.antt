@@ -1,22 +1,14 @@
 -- Sends keep the invariant.
-use Rattle.std.proofs.Common.{◌≡◌, ◌≢◌, ℕ, ◌+◌, ◌≤◌, ◌<◌, Bool, true, List, [], ◌∷◌, ◌++◌, length}
-use Rattle.std.proofs.Common.{Option, Some, None, refl, sym, ap, ◌∙◌, subst, ◌⊎◌, inl, inr, arith}
-use Rattle.std.proofs.lemmas.Bool.Decides.{eqb_tells}
-use Rattle.rh_safety.proofs.Ends.{Recorded, DataSave, RamFetch, RamTransmit, Letter, Message}
-use Rattle.rh_safety.proofs.Ends.{Sending, Taking, Out, Open, Out_done, Out_failed, In, Fetching, Draining}
-use Rattle.rh_safety.proofs.Ends.{Asking, In_done, In_failed, is_growing, out_id, in_id, in_anchor, Has}
-use Rattle.rh_safety.proofs.Ends.{Active, put, with_id}
-use Rattle.rh_safety.proofs.Sight.{owned, Desk, sent, still_held}
-use Rattle.rh_safety.proofs.Basics.{length_with, put_all, put_same, put_other, Has-append, none_some}
-use Rattle.rh_safety.proofs.Basics.{pair_append, Ascend, one_of_id}
-use Rattle.rh_safety.proofs.Invariant.{Offered, queued, kept, latest, Knows, Offers, LetterIn, Carries, Source}
-use Rattle.rh_safety.proofs.Invariant.{known_by}
-use Rattle.rh_safety.proofs.Invariant.{Counted, at_most, Begins, Untouched, HasBuffer, Order, Unread, Inv, IsWaiting}
-use Rattle.rh_safety.proofs.Invariant.{Waits, Asks, PendingAt}
-use Rattle.rh_safety.proofs.Moves.{letters_more, outs_more, ins_more, boths_more, letters_bump, outs_bump, ins_bump}
-use Rattle.rh_safety.proofs.Moves.{Move, OutOk, outs_move, outs_less, ins_move, move_active}
-use Rattle.rh_safety.proofs.Moves.{BothOutOk, boths_out, boths_in, loads_other}
-use Rattle.rh_safety.proofs.Moves.{loads_end}
+use Rattle.rh_safety.proofs.Common.{◌≡◌, ◌≢◌, ℕ, ◌+◌, ◌≤◌, ◌<◌, Bool, true, List, [], ◌∷◌, ◌++◌, length, Option, Some, None, refl, sym, ap, ◌∙◌, subst, ◌⊎◌}
+use Rattle.rh_safety.proofs.Common.{inl, inr, arith, eqb_tells, Recorded, DataSave, RamFetch, RamTransmit, Letter, Message, Sending, Taking, Out, Open}
+use Rattle.rh_safety.proofs.Common.{Out_done, Out_failed, In, Fetching, Draining, Asking, In_done, In_failed, is_growing, out_id, in_id, in_anchor, Has}
+use Rattle.rh_safety.proofs.Common.{Active, put, with_id, sent, still_held, put_all, put_same, put_other, none_some, Ascend, one_of_id, Offered, queued, kept}
+use Rattle.rh_safety.proofs.Common.{latest, Knows, LetterIn, known_by, Counted, Begins, Untouched, HasBuffer, Order, Unread, Inv, IsWaiting, PendingAt}
+use Rattle.rh_safety.proofs.Sight.{owned, Desk}
+use Rattle.rh_safety.proofs.Basics.{length_with, Has-append, pair_append}
+use Rattle.rh_safety.proofs.Invariant.{Offers, Carries, Source, at_most, Waits, Asks}
+use Rattle.rh_safety.proofs.Moves.{letters_more, outs_more, ins_more, boths_more, letters_bump, outs_bump, ins_bump, Move, OutOk, outs_move, outs_less}
+use Rattle.rh_safety.proofs.Moves.{ins_move, move_active, BothOutOk, boths_out, boths_in, loads_other, loads_end}
 use Rattle.rh_safety.proofs.Filings.{NotTheLoad, filed_in, filed_sent}
 
 -- ---- what is known after a send

@@ -1,19 +1,14 @@
 -- Two tasks polled in turn: what each message makes of what is seen of the desk.
-use Rattle.std.proofs.Common.{◌≡◌, ◌≢◌, ℕ, suc, ◌+◌, ◌-◌, ◌≤◌, ◌<◌, Bool, true, false, List, [], ◌∷◌, ◌++◌, length}
-use Rattle.std.proofs.Common.{take, drop, Option, Some, None, refl, sym, ap, ◌∙◌, subst, inl, inr, arith, length-drop}
-use Rattle.std.specs.Prelude.{if◌then◌else◌, nat_eq, nat_lt, nat_le, min}
-use Rattle.std.proofs.lemmas.Bool.{eq-eqb}
-use Rattle.std.proofs.lemmas.Bool.Decides.{eqb_tells, leb_tells}
+use Rattle.rh_safety.proofs.Common.{◌≡◌, ◌≢◌, ℕ, suc, ◌+◌, ◌-◌, ◌≤◌, ◌<◌, Bool, true, false, List, [], ◌∷◌, ◌++◌, length, take, drop, Option, Some, None}
+use Rattle.rh_safety.proofs.Common.{refl, sym, ap, ◌∙◌, subst, inl, inr, arith, length-drop, if◌then◌else◌, nat_eq, nat_lt, nat_le, min, eq-eqb, eqb_tells}
+use Rattle.rh_safety.proofs.Common.{leb_tells, Asking, Code, Plain, Recorded, DataSave, RamFetch, RamTransmit, Message, Sending, Taking, Out, Open, Out_done}
+use Rattle.rh_safety.proofs.Common.{Out_failed, In, Fetching, Draining, In_done, In_failed, out_id, in_id, is_open, is_going, Has, put, any, with_id}
+use Rattle.rh_safety.proofs.Common.{first_for, without_first, still_held, would_answer, put_all, put_same, put_other, length_take, none_some, either, Order}
 use Rattle.rh_defs.specs.Sender as sender
 use Rattle.rh_defs.specs.Receiver as receiver
-use Rattle.rh_safety.proofs.Ends.{Asking, Code, Plain, Recorded, DataSave, RamFetch, RamTransmit, Message}
-use Rattle.rh_safety.proofs.Ends.{Sending, Taking, Out, Open, Out_done, Out_failed, In, Fetching, Draining, In_done}
-use Rattle.rh_safety.proofs.Ends.{In_failed, out_id, in_id, is_open, is_going, Has, put, any, drop_first, with_id}
-use Rattle.rh_safety.proofs.Ends.{find_open, find_active, first_for, without_first}
-use Rattle.rh_safety.proofs.Sight.{Desk, saved, still_held, picked, ended, bytes_of, longer, fetched, would_answer}
-use Rattle.rh_safety.proofs.Basics.{put_all, put_same, put_other, take_more, length_take, front_written}
-use Rattle.rh_safety.proofs.Basics.{length_written, none_some, or_left, or_right, either, drop_old, Has-right}
-use Rattle.rh_safety.proofs.Invariant.{Order}
+use Rattle.rh_safety.proofs.Ends.{drop_first, find_open, find_active}
+use Rattle.rh_safety.proofs.Sight.{Desk, saved, picked, ended, bytes_of, longer, fetched}
+use Rattle.rh_safety.proofs.Basics.{take_more, front_written, length_written, or_left, or_right, drop_old, Has-right}
 use Rattle.rh_safety.proofs.Arrivals.{Began, take_whole}
 use Rattle.rh_safety.proofs.Polls.{would_true}
 use Rattle.rh_safety.proofs.KeptFetch.{gone}

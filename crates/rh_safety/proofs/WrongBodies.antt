@@ -1,45 +1,31 @@
 -- Runs with one definition changed, on which a law fails: so the laws say something of each of these definitions.
-use Rattle.std.specs.Prelude.{◌≡◌, refl, ℕ, ◌+◌, Bool, true, false, not, ◌&&◌, nat_le, nat_lt, ◌==◌, if◌then◌else◌}
-use Rattle.std.specs.Prelude.{List, [], ◌∷◌, length, take, drop, find, Option, Some, None, Ok}
-use Rattle.std.specs.List.{list_any, list_all, filter_map}
-use Rattle.hex.proofs.OnLiterals.{hex_on_literals}
-use Prim.Native.String.{String}
-use Rattle.rh_defs.specs.declared.refusal.Refusal.TheVariants.{NoTask, BadRange, Busy, NoRoom, AnchorInUse, NotOpen}
-use Rattle.rh_defs.specs.declared.command.Command.{Command}
+use Rattle.rh_safety.proofs.Common.{◌≡◌, refl, ℕ, ◌+◌, Bool, true, false, not, ◌&&◌, nat_le, nat_lt, ◌==◌, if◌then◌else◌, List, [], ◌∷◌, length, take, drop}
+use Rattle.rh_safety.proofs.Common.{find, Option, Some, None, Ok, list_any, filter_map, hex_on_literals, String, NoTask, BadRange, Busy, NoRoom, AnchorInUse}
+use Rattle.rh_safety.proofs.Common.{Command, EventCode, User, Recorded, Acknowledge, Body, Sending, Asked, Outgoing, Incoming, Granted, ◌>>=◌, ◌>>◌}
+use Rattle.rh_safety.proofs.Common.{refuse_if, found_or, or_else, Split, Flex, flex_address, slot_alloc, slot_block, slot_claim, Parcel, post_poll}
+use Rattle.rh_safety.proofs.Common.{fetch_letter, transmit_letter, load_letter, out_id, in_id, is_open, is_full, with_id, open_of, buffer_at, free_anchor}
+use Rattle.rh_safety.proofs.Common.{Desk, Task, Scrap, next_ref, free_pages, has_name, named, task_at, with_task, with_slot, with_sending, with_taking}
+use Rattle.rh_safety.proofs.Common.{with_delivered, send_letter, Answer, Handled, ignored, portion, refused, answer_fetch, scrap_shortage, wider, answer_ack}
+use Rattle.rh_safety.proofs.Common.{is_deaf, take_save, appended, loaded, take_file, answers_none, came, came_back, save, cancel_in, step, Offers, Edits}
+use Rattle.std.specs.List.{list_all}
+use Rattle.rh_defs.specs.declared.refusal.Refusal.TheVariants.{NotOpen}
 use Rattle.rh_defs.specs.declared.command.Command.TheVariants as command
-use Rattle.rh_defs.specs.declared.message.EventCode.{EventCode}
-use Rattle.rh_defs.specs.declared.message.EventCode.TheVariants.{User, Recorded, Acknowledge}
-use Rattle.rh_defs.specs.declared.message.Body.{Body}
 use Rattle.rh_defs.specs.declared.message.Body.TheVariants as body
 use Rattle.rh_defs.specs.declared.reply.Reply.TheVariants as reply
 use Rattle.rh_defs.specs.declared.reply.Outcome.TheVariants as outcome
-use Rattle.rh_defs.specs.declared.transfer.Sending.{Sending}
-use Rattle.rh_defs.specs.declared.transfer.Asked.{Asked}
-use Rattle.rh_defs.specs.declared.transfer.Outgoing.{Outgoing}
 use Rattle.rh_defs.specs.declared.transfer.Outgoing.TheVariants as outgoing
-use Rattle.rh_defs.specs.declared.transfer.Incoming.{Incoming}
 use Rattle.rh_defs.specs.declared.transfer.Incoming.TheVariants as incoming
-use Rattle.rh_defs.specs.Chain.{Granted, ◌>>=◌, ◌>>◌, refuse_if, found_or, or_else}
-use Rattle.rh_defs.specs.Pieces.{Split}
-use Rattle.rh_defs.specs.Slot.{Flex, flex_address, slot_alloc, slot_block, slot_claim}
-use Rattle.rh_defs.specs.Messages.{Parcel}
-use Rattle.rh_defs.specs.Post.{post_poll}
-use Rattle.rh_defs.specs.Letters.{save_letter, fetch_letter, transmit_letter, load_letter}
-use Rattle.rh_defs.specs.Records.{out_id, in_id, is_open, is_source, is_full, one_more, with_id, open_of}
+use Rattle.rh_defs.specs.Letters.{save_letter}
+use Rattle.rh_defs.specs.Records.{is_source, one_more}
 use Rattle.rh_defs.specs.Sender as sender
 use Rattle.rh_defs.specs.Receiver as receiver
-use Rattle.rh_defs.specs.Places.{buffer_at, free_anchor, written_in}
-use Rattle.rh_defs.specs.Desk.{Desk, Task, Scrap, next_ref, free_pages, has_name, named, task_at, with_task}
-use Rattle.rh_defs.specs.Desk.{with_slot, with_sending, with_taking, with_delivered, send_letter}
-use Rattle.rh_defs.specs.Commands.{Answer}
-use Rattle.rh_defs.specs.OutgoingEvents.{Handled, ignored, portion, is_out_of_reach, refused, answer_fetch}
-use Rattle.rh_defs.specs.OutgoingEvents.{scrap_shortage, wider, answer_ack}
-use Rattle.rh_defs.specs.IncomingEvents.{is_deaf, end_failed, take_save, appended, loaded, take_file}
-use Rattle.rh_defs.specs.Transfer.{answers_none, came, came_back}
-use Rattle.rh_defs.specs.Step.{event, save, cancel_in, step}
+use Rattle.rh_defs.specs.Places.{written_in}
+use Rattle.rh_defs.specs.OutgoingEvents.{is_out_of_reach}
+use Rattle.rh_defs.specs.IncomingEvents.{end_failed}
+use Rattle.rh_defs.specs.Step.{event}
 use Rattle.rh_defs.specs.Script
-use Rattle.rh_safety.specs.Offered.{Offers, offers_next}
-use Rattle.rh_safety.specs.Held.{Edits, edits_next, held_of}
+use Rattle.rh_safety.specs.Offered.{offers_next}
+use Rattle.rh_safety.specs.Held.{edits_next, held_of}
 use Rattle.rh_safety.specs.Buffers.{bytes_of_buffer}
 use Rattle.rh_safety.proofs.SafetyRows.{fresh, script}
 

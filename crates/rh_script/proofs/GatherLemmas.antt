@@ -1,15 +1,10 @@
 -- Lists whose lines are gathered in a row.
-use Rattle.std.proofs.Common.{◌≡◌, ℕ, zero, suc, ◌+◌, List, [], ◌∷◌, ◌++◌, take, drop, Some, None, Result, get_or, length, ◌<◌, ◌≤◌, sym, ◌∙◌, ap, subst}
-use Rattle.std.proofs.Common.{refl, append_assoc, append-nil}
-use Rattle.std.specs.Prelude.{slice_get}
-use Rattle.std.specs.List.{flat_map}
-use Rattle.std.specs.Result.{IsErr}
+use Rattle.rh_script.proofs.Common.{◌≡◌, ℕ, zero, suc, ◌+◌, List, [], ◌∷◌, ◌++◌, take, drop, Some, None, Result, get_or, length, ◌<◌, ◌≤◌, sym, ◌∙◌, ap}
+use Rattle.rh_script.proofs.Common.{subst, refl, append_assoc, append-nil, slice_get, flat_map, IsErr, take-append-drop, take_all, Output, Breaks, Puts}
+use Rattle.rh_script.proofs.Common.{takes_none, takes_more, takes_breaks, breaks_before, puts_more, puts_stops, Gathered}
 use Rattle.std.proofs.lemmas.Grind.{flat_map-append}
-use Rattle.std.proofs.lemmas.List.{take-append-drop, take_all, take_more}
+use Rattle.std.proofs.lemmas.List.{take_more}
 use Rattle.std.proofs.lemmas.Option.{get_or_from_slice_get, slice_get_within}
-use Rattle.rh_lines.specs.Flow.{Output, Breaks, Puts}
-use Rattle.rh_lines.proofs.FlowLemmas.{takes_none, takes_more, takes_breaks, breaks_before, puts_more, puts_stops}
-use Rattle.rh_script.specs.Gathered.{Gathered}
 
 -- nothing was written yet, and no item waits behind what comes first
 pub gathered_none : (s : Output) (first : List ℕ) → Gathered s s first (first ++ [])

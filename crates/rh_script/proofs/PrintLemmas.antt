@@ -1,10 +1,9 @@
 -- Bytes that are written part by part, records, and whole answers.
-use Rattle.std.proofs.Common.{◌≡◌, ◌≢◌, ℕ, suc, Bool, true, false, ◌+◌, List, [], ◌∷◌, ◌++◌, length, take, drop, Some, None, Result, Ok, Err, get_or, ◌<◌}
-use Rattle.std.proofs.Common.{◌≤◌, refl, sym, ◌∙◌, ap, append-nil, subst, arith, Option, find}
-use Rattle.std.specs.Prelude.{map, codes, if◌then◌else◌}
-use Rattle.std.specs.Option.{option_map}
+use Rattle.rh_script.proofs.Common.{◌≡◌, ◌≢◌, ℕ, suc, Bool, true, false, ◌+◌, List, [], ◌∷◌, ◌++◌, length, take, drop, Some, None, Result, Ok, Err, get_or}
+use Rattle.rh_script.proofs.Common.{◌<◌, ◌≤◌, refl, sym, ◌∙◌, ap, append-nil, subst, arith, Option, find, map, codes, if◌then◌else◌, option_map, SegmentItem}
+use Rattle.rh_script.proofs.Common.{decimal, area_items, out_item, in_item, flat_map, IsErr, take-append-drop, take_all, ok, area_line, block_line}
+use Rattle.rh_script.proofs.Common.{record_line, segment_line, Output, Takes, Breaks, Puts, takes_none, takes_more, takes_breaks, breaks_before, puts_stops}
 use Rattle.rh_defs.specs.declared.listing.BlockItem.{BlockItem}
-use Rattle.rh_defs.specs.declared.listing.SegmentItem.{SegmentItem}
 use Rattle.rh_defs.specs.declared.listing.RecordItem.{RecordItem}
 use Rattle.rh_defs.specs.declared.transfer.Outgoing.{Outgoing}
 use Rattle.rh_defs.specs.declared.transfer.Incoming.{Incoming}
@@ -14,11 +13,10 @@ use Rattle.rh_defs.specs.declared.reply.Reply.TheVariants as reply
 use Rattle.rh_defs.specs.Heap.{largest, free_bytes, first_place, segment_at}
 use Rattle.rh_defs.specs.Slot.{Flex, weight, flex_start, heap_start}
 use Rattle.rh_script.specs.Named.{slot_in, segments_of_named}
-use Rattle.std.specs.Fmt.{decimal}
 use Rattle.rh_defs.specs.Chain.{Granted, ◌>>=◌, found_or}
 use Rattle.rh_defs.specs.Desk.{Desk, Task, has_name, named, free_pages}
 use Rattle.rh_defs.specs.Listing.{Nothing, Bytes, Blocks, Segments, Records, block_items, block_items_from, segment_item, segment_items, segment_items_from}
-use Rattle.rh_defs.specs.Listing.{area_items, out_item, in_item, heap_at, status_at}
+use Rattle.rh_defs.specs.Listing.{heap_at, status_at}
 use Rattle.rh_defs.specs.declared.command.Command.{Command}
 use Rattle.rh_defs.specs.declared.command.Command.TheVariants as command
 use Rattle.rh_defs.specs.declared.question.Question.{Question}
@@ -26,15 +24,10 @@ use Rattle.rh_defs.specs.declared.reply.Reply.{Reply}
 use Rattle.rh_defs.specs.Range.{can_be_asked, in_range}
 use Rattle.rh_defs.specs.Questions.{Told, asked, begins, show, blocks, heap, status, areas}
 use Rattle.rh_tasks.specs.Lists.{blocks_of}
-use Rattle.std.specs.List.{flat_map}
-use Rattle.std.specs.Result.{IsErr}
 use Rattle.std.proofs.Math.Seq.{take-add}
-use Rattle.std.proofs.lemmas.List.{take-append-drop, take_all}
 use Rattle.hex.specs.Hex.{encode_with, encode_lower, lower_digits}
-use Rattle.rh_defs.specs.Text.{ok, answer_text, reply_text, area_line, block_line, first_line, hex_words, rest_of_line, later_lines, record_line}
-use Rattle.rh_defs.specs.Text.{record_lines, segment_line}
-use Rattle.rh_lines.specs.Flow.{Output, Takes, Breaks, Puts}
-use Rattle.rh_lines.proofs.FlowLemmas.{takes_none, takes_each, puts_each, takes_more, takes_breaks, breaks_before, puts_stops}
+use Rattle.rh_defs.specs.Text.{answer_text, reply_text, first_line, hex_words, rest_of_line, later_lines, record_lines}
+use Rattle.rh_lines.proofs.FlowLemmas.{takes_each, puts_each}
 
 -- ---- bytes as digits, part by part
 

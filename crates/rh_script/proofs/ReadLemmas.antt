@@ -1,13 +1,10 @@
 -- What a desk's readers give, in terms of what is printed of a named task's slot.
-use Rattle.std.proofs.Common.{◌≡◌, ℕ, ◌+◌, ◌≤◌, ◌<◌, ◌^◌, Bool, true, false, cond, List, [], ◌∷◌, length, take, drop, Option, Some, None, Result, Ok, Err}
-use Rattle.std.proofs.Common.{refl, sym, ap, ◌∙◌, arith}
-use Rattle.std.specs.Prelude.{MatchResult, IfOk, IfErr, nat_lt, ◌==◌, find}
+use Rattle.rh_script.proofs.Common.{◌≡◌, ℕ, ◌+◌, ◌≤◌, ◌<◌, ◌^◌, Bool, true, false, cond, List, [], ◌∷◌, length, take, drop, Option, Some, None, Result, Ok}
+use Rattle.rh_script.proofs.Common.{Err, refl, sym, ap, ◌∙◌, arith, MatchResult, IfOk, IfErr, nat_lt, ◌==◌, find, option_map, tests, SegmentItem}
+use Rattle.rh_script.proofs.Common.{segment_items_at, heap_of_named, bytes_of_named}
 use Rattle.std.specs.List.{AllByRecursion}
-use Rattle.std.specs.Option.{option_map}
-use borrow.Author.Tests.{tests}
 use Rattle.rh_defs.specs.declared.refusal.Refusal.{Refusal}
 use Rattle.rh_defs.specs.declared.refusal.Refusal.TheVariants.{NoName, NoBlock, BadRange}
-use Rattle.rh_defs.specs.declared.listing.SegmentItem.{SegmentItem}
 use Rattle.rh_defs.specs.declared.reply.Reply.TheVariants as reply
 use Rattle.rh_defs.specs.declared.transfer.Outgoing.{Outgoing}
 use Rattle.rh_defs.specs.declared.transfer.Incoming.{Incoming}
@@ -18,8 +15,8 @@ use Rattle.rh_defs.specs.Slot.{Slot, Flex, slot_pages, slot_length, IsSlot, Have
 use Rattle.rh_defs.specs.Desk.{Desk, Task, task_pages, has_name, named}
 use Rattle.rh_defs.specs.Listing.{Bytes, shown_at, status_at}
 use Rattle.rh_defs.specs.Questions.{Told, show}
-use Rattle.rh_tasks.specs.Lists.{segment_items_at, segments_of}
-use Rattle.rh_script.specs.Named.{slot_in, slot_named, heap_of_named, bytes_of_cut, bytes_of_named}
+use Rattle.rh_tasks.specs.Lists.{segments_of}
+use Rattle.rh_script.specs.Named.{slot_in, slot_named, bytes_of_cut}
 
 -- ---- the C heap
 

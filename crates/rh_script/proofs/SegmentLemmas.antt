@@ -1,25 +1,17 @@
 -- The segments of a heap, place by place.
-use Rattle.std.proofs.Common.{◌≡◌, ℕ, zero, suc, ◌+◌, ◌-◌, ◌≤◌, ◌<◌, Bool, true, false, cond, List, [], ◌∷◌, ◌++◌, length, take, drop, Option, Some, None}
-use Rattle.std.proofs.Common.{refl, sym, ap, subst, ◌∙◌, arith, append_assoc, append-nil}
-use Rattle.std.specs.Prelude.{◌==◌, Result, Err, slice_get}
-use Rattle.std.specs.Result.{IsErr}
-use Rattle.std.proofs.lemmas.List.{take-append-drop}
+use Rattle.rh_script.proofs.Common.{◌≡◌, ℕ, zero, suc, ◌+◌, ◌-◌, ◌≤◌, ◌<◌, Bool, true, false, cond, List, [], ◌∷◌, ◌++◌, length, take, drop, Option, Some}
+use Rattle.rh_script.proofs.Common.{None, refl, sym, ap, subst, ◌∙◌, arith, append_assoc, append-nil, ◌==◌, Result, Err, slice_get, IsErr, take-append-drop}
+use Rattle.rh_script.proofs.Common.{flat_map, option_map, tests, SegmentItem, segment_line, Output, Takes, Breaks, Puts, takes_none, takes_more, takes_breaks}
+use Rattle.rh_script.proofs.Common.{breaks_before, puts_stops, segment_items_at}
 use Rattle.std.proofs.lemmas.Grind.{flat_map-append}
-use Rattle.std.specs.List.{AllByRecursion, flat_map}
-use Rattle.std.specs.Option.{option_map}
-use borrow.Author.Tests.{tests}
+use Rattle.std.specs.List.{AllByRecursion}
 use Rattle.rh_defs.specs.declared.sizes.TheConstants.{SEGMENTS_AT_ONCE}
-use Rattle.rh_defs.specs.declared.listing.SegmentItem.{SegmentItem}
 use Rattle.rh_defs.specs.Pieces.{Split, behind, first_at, total}
 use Rattle.rh_defs.specs.Heap.{Segment, Used, Hole, Heap, IsTidy, IsHeap, size_of, first_place, place_after, segment_at}
 use Rattle.rh_defs.specs.Slot.{heap_start}
 use Rattle.rh_defs.specs.Listing.{segment_item, segment_items_from}
-use Rattle.rh_defs.specs.Text.{segment_line}
 use Rattle.rh_defs.proofs.Cuts.{total-append}
-use Rattle.rh_lines.specs.Flow.{Output, Takes, Breaks, Puts}
-use Rattle.rh_lines.proofs.FlowLemmas.{takes_none, takes_more, takes_breaks, breaks_before, puts_stops}
 use Rattle.rh_heap.specs.Listed.{from_cut}
-use Rattle.rh_tasks.specs.Lists.{segment_items_at}
 use Rattle.rh_script.specs.Named.{item_end}
 
 -- ---- the segment at a place

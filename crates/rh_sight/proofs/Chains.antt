@@ -1,6 +1,5 @@
 -- The message behind another one in the list of all messages.
-use Rattle.std.proofs.Common.{ℕ, Bool, true, false, List}
-use Rattle.rh_defs.specs.declared.listing.MessageItem.{MessageItem}
+use Rattle.rh_sight.proofs.Common.{ℕ, Bool, true, false, List, MessageItem}
 use Rattle.rh_sight.specs.Messages.{behind}
 
 -- the messages behind one that was seen, or that is still to be seen

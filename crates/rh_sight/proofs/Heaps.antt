@@ -1,24 +1,14 @@
 -- Heaps that are seen, and walks over their segments.
-use Rattle.std.proofs.Common.{◌≡◌, ℕ, zero, suc, ◌+◌, ◌-◌, ◌*◌, ◌<◌, ◌≤◌, Bool, true, false, refl, ap, sym, subst, ◌∙◌, arith, List, [], ◌∷◌, ◌++◌, length}
-use Rattle.std.proofs.Common.{take, drop, Option, Some, None}
-use Rattle.std.specs.Prelude.{slice_get, IfSome}
-use Rattle.std.specs.List.{AllByRecursion}
-use Rattle.std.specs.Option.{option_map}
-use Rattle.std.proofs.lemmas.List.{append_assoc, length-append, take-append-drop}
-use Rattle.rh_defs.specs.declared.sizes.TheConstants.{SEGMENTS_AT_ONCE}
-use Rattle.rh_defs.specs.declared.listing.SegmentItem.{SegmentItem}
-use Rattle.rh_defs.specs.Pieces.{page, total}
-use Rattle.rh_defs.specs.Heap.{Heap, IsHeap, IsTidy, Segment, Used, Hole, size_of, place_after}
-use Rattle.rh_defs.specs.Laws.{IsDesk}
-use Rattle.rh_defs.specs.Desk.{Desk, Task, Made, task_pages}
-use Rattle.rh_defs.specs.Listing.{segment_item, segment_items_from}
+use Rattle.rh_sight.proofs.Common.{◌≡◌, ℕ, zero, suc, ◌+◌, ◌-◌, ◌*◌, ◌<◌, ◌≤◌, Bool, true, false, refl, ap, sym, subst, ◌∙◌, arith, List, [], ◌∷◌, ◌++◌}
+use Rattle.rh_sight.proofs.Common.{length, take, drop, Option, Some, None, slice_get, IfSome, AllByRecursion, option_map, append_assoc, length-append}
+use Rattle.rh_sight.proofs.Common.{take-append-drop, SEGMENTS_AT_ONCE, SegmentItem, total, Heap, Segment, Used, Hole, size_of, place_after, IsDesk, Desk}
+use Rattle.rh_sight.proofs.Common.{Task, Made, task_pages, segment_item, segment_items_from, total-append, Census, HeapOf, heap_seen, heap_start_of, ComesTo}
+use Rattle.rh_sight.proofs.Common.{item_end}
+use Rattle.rh_defs.specs.Pieces.{page}
+use Rattle.rh_defs.specs.Heap.{IsHeap, IsTidy}
 use Rattle.rh_defs.specs.Slot.{IsSlot, slot_length}
-use Rattle.rh_defs.proofs.Cuts.{total-append}
-use Rattle.rh_sight.specs.declared.walk.Census.{Census}
-use Rattle.rh_sight.specs.declared.sight.HeapOf.{HeapOf}
 use Rattle.rh_sight.specs.declared.sight.HeapOf.TheVariants as heap_of
-use Rattle.rh_sight.specs.Seen.{heap_seen, heap_start_of}
-use Rattle.rh_sight.specs.Walks.{ComesTo, census_of, item_end}
+use Rattle.rh_sight.specs.Walks.{census_of}
 use Rattle.rh_sight.proofs.SegmentWalks.{last-ends, length-items, no-items, none-last, some-last, take-items}
 
 -- ---- what a heap that is seen is

@@ -1,28 +1,23 @@
 -- Whose pages stand where in the list of all pages: no two owners are one, so each owner's pages stand behind those of
 -- the owners before it.
-use Rattle.std.proofs.Common.{◌≡◌, ℕ, zero, suc, ◌+◌, ◌-◌, ◌<◌, ◌≤◌, Bool, true, false, refl, ap, sym, subst, ◌∙◌, arith, eq-eqb, List, [], ◌∷◌, ◌++◌, length}
-use Rattle.std.proofs.Common.{take, drop}
-use Rattle.std.specs.Prelude.{Option, Some, None, if◌then◌else◌, ◌==◌, slice_get, slice_index, map, IfSome, IsSome}
-use Rattle.std.specs.List.{AllByRecursion, enumerate_from}
-use Rattle.std.specs.Option.{option_map}
+use Rattle.rh_sight.proofs.Common.{◌≡◌, ℕ, zero, suc, ◌+◌, ◌-◌, ◌<◌, ◌≤◌, Bool, true, false, refl, ap, sym, subst, ◌∙◌, arith, eq-eqb, List, [], ◌∷◌, ◌++◌}
+use Rattle.rh_sight.proofs.Common.{length, take, drop, Option, Some, None, if◌then◌else◌, ◌==◌, slice_get, slice_index, map, IfSome, IsSome, AllByRecursion}
+use Rattle.rh_sight.proofs.Common.{enumerate_from, option_map, ne_eqb, eqb-true, length-append, length-take, take_all, slice_get_within, total, IsDesk, Desk}
+use Rattle.rh_sight.proofs.Common.{Task, Made, free_pages, task_pages, total-append, Holding, count_of, fixed_holding, holdings, made_holding, slot_holding}
+use Rattle.rh_sight.proofs.Common.{owner_seen}
 use Rattle.std.proofs.Math.Seq.{take-append-add}
-use Rattle.std.proofs.lemmas.Bool.{ne_eqb, eqb-true}
-use Rattle.std.proofs.lemmas.List.{drop-drop, length-append, length-drop, length-map, length-take, take-append-le, take-map, take_all, take_rest}
+use Rattle.std.proofs.lemmas.List.{drop-drop, length-drop, length-map, take-append-le, take-map, take_rest}
 use Rattle.std.proofs.lemmas.List.FromFn.{length-enumerate_from}
-use Rattle.std.proofs.lemmas.Option.{get_or_from_slice_get, slice_get-get_or, slice_get-map, slice_get_within}
+use Rattle.std.proofs.lemmas.Option.{get_or_from_slice_get, slice_get-get_or, slice_get-map}
 use Rattle.rh_defs.specs.declared.sizes.TheConstants.{FIXED_AREAS}
 use Rattle.rh_defs.specs.Forms.{first_made, most_pages}
-use Rattle.rh_defs.specs.Pieces.{total}
 use Rattle.rh_defs.specs.Commands.{module_area, most_made}
-use Rattle.rh_defs.specs.Laws.{IsDesk, Rise}
-use Rattle.rh_defs.specs.Desk.{Desk, Task, Made, free_pages, module_pages, task_pages, used_pages}
-use Rattle.rh_defs.proofs.Cuts.{total-append}
-use Rattle.rh_figure.specs.Share.{Owner, AreaOf, SlotOf, Holding, IsShared, count_of, fixed_holding, holdings, is_owner}
+use Rattle.rh_defs.specs.Laws.{Rise}
+use Rattle.rh_defs.specs.Desk.{module_pages, used_pages}
+use Rattle.rh_figure.specs.Share.{Owner, AreaOf, SlotOf, IsShared, is_owner}
 use Rattle.rh_sight.specs.declared.sight.PagesOf.{PagesOf}
 use Rattle.rh_sight.specs.declared.sight.PagesOf.TheVariants as pages
-use Rattle.rh_sight.specs.Owners.{made_holding, slot_holding}
 use Rattle.rh_sight.specs.Pages.{pages_among, pages_before, place_among, share_in}
-use Rattle.rh_sight.specs.Seen.{owner_seen}
 use Rattle.rh_sight.proofs.Places.{total-more}
 
 abbrev pub counted : Holding → ℕ

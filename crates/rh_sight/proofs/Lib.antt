@@ -6,3 +6,4 @@ pub mod Heaps
 pub mod PieceWalks
 pub mod Posts
 pub mod SlotPieces
+pub mod Common

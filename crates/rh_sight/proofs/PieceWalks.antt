@@ -1,24 +1,16 @@
 -- The pieces of segments and of flex blocks, some at a time.
-use Rattle.std.proofs.Common.{◌≡◌, ℕ, zero, suc, ◌+◌, ◌-◌, ◌*◌, ◌<◌, ◌≤◌, Bool, false, refl, ap, sym, subst, ◌∙◌, arith, List, [], ◌∷◌, ◌++◌, length, take}
-use Rattle.std.proofs.Common.{drop, get_or, Option, Some, None}
-use Rattle.std.specs.Prelude.{slice_get, IfSome}
-use Rattle.std.proofs.lemmas.List.{append_assoc, append-nil, drop-take, drop_all, drop_more, length-append, length-take, take-append-drop, take-take, take_more}
-use Rattle.rh_defs.specs.declared.sizes.TheConstants.{SEGMENTS_AT_ONCE}
-use Rattle.rh_defs.specs.declared.listing.BlockItem.{BlockItem}
-use Rattle.rh_defs.specs.declared.listing.SegmentItem.{SegmentItem}
-use Rattle.rh_defs.specs.Pieces.{total}
-use Rattle.rh_defs.specs.Heap.{Heap, Segment, Used, Hole, first_place, place_after, size_of}
+use Rattle.rh_sight.proofs.Common.{◌≡◌, ℕ, zero, suc, ◌+◌, ◌-◌, ◌*◌, ◌<◌, ◌≤◌, Bool, false, refl, ap, sym, subst, ◌∙◌, arith, List, [], ◌∷◌, ◌++◌, length}
+use Rattle.rh_sight.proofs.Common.{take, drop, get_or, Option, Some, None, slice_get, IfSome, append_assoc, length-append, length-take, take-append-drop}
+use Rattle.rh_sight.proofs.Common.{SEGMENTS_AT_ONCE, BlockItem, SegmentItem, total, Heap, Segment, Used, Hole, first_place, place_after, size_of}
+use Rattle.rh_sight.proofs.Common.{segment_item, segment_items_from, total-append, Piece, Legend, more_pieces, segment_pieces, Scene, HeapOf, heap_start_of}
+use Rattle.rh_sight.proofs.Common.{ComesTo, item_end, item_pieces, item_weight}
+use Rattle.std.proofs.lemmas.List.{append-nil, drop-take, drop_all, drop_more, take-take, take_more}
 use Rattle.rh_defs.specs.Slot.{Flex, flex_weight, weight}
-use Rattle.rh_defs.specs.Listing.{block_items_from, segment_item, segment_items_from}
-use Rattle.rh_defs.proofs.Cuts.{total-append}
+use Rattle.rh_defs.specs.Listing.{block_items_from}
 use Rattle.rh_figure.specs.declared.piece.Kind.TheVariants.{FlexBlock, MoreSegments}
-use Rattle.rh_figure.specs.declared.piece.Piece.{Piece}
-use Rattle.rh_figure.specs.Layout.{Legend, flex_piece, flex_pieces, is_fresh_flex, more_pieces, segment_piece, segment_pieces}
-use Rattle.rh_figure.specs.Scene.{Scene}
-use Rattle.rh_sight.specs.declared.sight.HeapOf.{HeapOf}
+use Rattle.rh_figure.specs.Layout.{flex_piece, flex_pieces, is_fresh_flex, segment_piece}
 use Rattle.rh_sight.specs.declared.sight.HeapOf.TheVariants as heap_of
-use Rattle.rh_sight.specs.Seen.{heap_start_of}
-use Rattle.rh_sight.specs.Walks.{ComesTo, IsInArea, item_end, item_pieces, item_weight}
+use Rattle.rh_sight.specs.Walks.{IsInArea}
 use Rattle.rh_sight.proofs.Heaps.{IsSeen}
 use Rattle.rh_sight.proofs.Holders.{total-take}
 use Rattle.rh_sight.proofs.SegmentWalks.{last-ends, length-items, none-last, pieces-append, take-items}

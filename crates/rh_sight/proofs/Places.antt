@@ -1,10 +1,9 @@
 -- Lists that are walked through by place.
-use Rattle.std.proofs.Common.{◌≡◌, ℕ, zero, suc, ◌+◌, ◌<◌, ◌≤◌, Bool, true, false, refl, ap, sym, ◌∙◌, arith, List, [], ◌∷◌, ◌++◌, length, take, drop, get_or}
-use Rattle.std.specs.Prelude.{Option, Some, None, slice_get, find, map}
-use Rattle.rh_defs.specs.Pieces.{total}
-use Rattle.rh_defs.proofs.Cuts.{total-append}
-use Rattle.std.proofs.lemmas.List.{append_assoc, drop_more, drop_all, map-append, take_more, take_all}
-use Rattle.std.proofs.lemmas.Option.{slice_get_within, get_or_from_slice_get}
+use Rattle.rh_sight.proofs.Common.{◌≡◌, ℕ, zero, suc, ◌+◌, ◌<◌, ◌≤◌, Bool, true, false, refl, ap, sym, ◌∙◌, arith, List, [], ◌∷◌, ◌++◌, length, take, drop}
+use Rattle.rh_sight.proofs.Common.{get_or, Option, Some, None, slice_get, find, map, total, total-append, append_assoc, map-append, take_all}
+use Rattle.rh_sight.proofs.Common.{slice_get_within}
+use Rattle.std.proofs.lemmas.List.{drop_more, drop_all, take_more}
+use Rattle.std.proofs.lemmas.Option.{get_or_from_slice_get}
 
 pub past-end : {A : Type 0} (xs : List A) (i : ℕ) → slice_get xs i ≡ None → length xs ≤ i
 past-end [] i e = omega arith

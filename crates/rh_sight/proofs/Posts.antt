@@ -1,18 +1,15 @@
 -- The list of messages, and the post that it lists.
-use Rattle.std.proofs.Common.{◌≡◌, ℕ, ◌+◌, ◌<◌, ◌≤◌, Bool, true, false, refl, ap, sym, subst, ◌∙◌, arith, eq-eqb, List, [], ◌∷◌, ◌++◌, map, Option, Some, None}
-use Rattle.std.specs.Prelude.{◌==◌, ◌&&◌, IfSome, filter, find, if◌then◌else◌}
-use Rattle.std.specs.List.{AllByRecursion, flat_map}
-use Rattle.std.specs.Option.{option_map}
-use Rattle.std.proofs.lemmas.Bool.{ne_eqb, eqb-true}
-use Rattle.rh_defs.specs.Laws.{HoldsOwn, IsDesk, IsHeld, Rise, seat_handles, task_handles}
+use Rattle.rh_sight.proofs.Common.{◌≡◌, ℕ, ◌+◌, ◌<◌, ◌≤◌, Bool, true, false, refl, ap, sym, subst, ◌∙◌, arith, eq-eqb, List, [], ◌∷◌, ◌++◌, map, Option, Some}
+use Rattle.rh_sight.proofs.Common.{None, ◌==◌, ◌&&◌, IfSome, filter, find, if◌then◌else◌, AllByRecursion, option_map, ne_eqb, eqb-true, IsDesk, Desk, Task}
+use Rattle.rh_sight.proofs.Common.{Scene, MessageItem, lies_in}
+use Rattle.std.specs.List.{flat_map}
+use Rattle.rh_defs.specs.Laws.{HoldsOwn, IsHeld, Rise, seat_handles, task_handles}
 use Rattle.rh_defs.specs.Messages.{Parcel}
 use Rattle.rh_defs.specs.Post.{Seat, held_by}
-use Rattle.rh_defs.specs.Desk.{Desk, Task}
 use Rattle.rh_figure.specs.declared.piece.Kind.TheVariants.{Claimed, Posted}
 use Rattle.rh_figure.specs.Layout.{is_new_message, posted_or}
-use Rattle.rh_figure.specs.Scene.{Scene, held_list, ref_of}
-use Rattle.rh_defs.specs.declared.listing.MessageItem.{MessageItem}
-use Rattle.rh_sight.specs.Messages.{held_on, held_ref, is_held_by, item_of, lies_in, message_items, ref_or_none, waiting_on}
+use Rattle.rh_figure.specs.Scene.{held_list, ref_of}
+use Rattle.rh_sight.specs.Messages.{held_on, held_ref, is_held_by, item_of, message_items, ref_or_none, waiting_on}
 
 -- ---- the message in a block
 

@@ -1,13 +1,8 @@
 -- Walks over the segments of a heap, some at a time.
-use Rattle.std.proofs.Common.{◌≡◌, ℕ, zero, suc, ◌+◌, ◌-◌, ◌*◌, ◌<◌, ◌≤◌, refl, ap, sym, ◌∙◌, arith, List, [], ◌∷◌, ◌++◌, length, take, Option, Some, None}
-use Rattle.std.specs.Prelude.{slice_get}
-use Rattle.rh_defs.specs.declared.sizes.TheConstants.{SEGMENTS_AT_ONCE}
-use Rattle.rh_defs.specs.declared.listing.SegmentItem.{SegmentItem}
-use Rattle.rh_defs.specs.Pieces.{total}
-use Rattle.rh_defs.specs.Heap.{Segment, Used, Hole, size_of}
-use Rattle.rh_defs.specs.Listing.{segment_item, segment_items_from}
-use Rattle.rh_figure.specs.Layout.{Legend, segment_piece, segment_pieces}
-use Rattle.rh_sight.specs.Walks.{item_end}
+use Rattle.rh_sight.proofs.Common.{◌≡◌, ℕ, zero, suc, ◌+◌, ◌-◌, ◌*◌, ◌<◌, ◌≤◌, refl, ap, sym, ◌∙◌, arith, List, [], ◌∷◌, ◌++◌, length, take, Option, Some}
+use Rattle.rh_sight.proofs.Common.{None, slice_get, SEGMENTS_AT_ONCE, SegmentItem, total, Segment, Used, Hole, size_of, segment_item, segment_items_from}
+use Rattle.rh_sight.proofs.Common.{Legend, segment_pieces, item_end}
+use Rattle.rh_figure.specs.Layout.{segment_piece}
 
 pub take-items : (n p : ℕ) (segments : List Segment) → take n (segment_items_from p segments) ≡ segment_items_from p (take n segments)
 take-items zero p segments = refl

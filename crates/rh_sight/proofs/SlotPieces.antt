@@ -1,23 +1,18 @@
 -- The pieces of a heap and of a slot, joined, and how many they are.
-use Rattle.std.proofs.Common.{◌≡◌, ℕ, ◌+◌, ◌-◌, ◌*◌, ◌<◌, ◌≤◌, Bool, true, false, eqb, refl, ap, sym, ◌∙◌, arith, List, [], ◌∷◌, ◌++◌, length, take, drop}
-use Rattle.std.specs.Prelude.{map, ◌||◌}
-use Rattle.std.specs.List.{AllByRecursion, IsDistinct, list_any}
-use Rattle.std.proofs.lemmas.Bool.{eqb-true}
-use Rattle.std.proofs.lemmas.List.{append-nil, length-append, length-map, length-take, take-append-drop}
+use Rattle.rh_sight.proofs.Common.{◌≡◌, ℕ, ◌+◌, ◌-◌, ◌*◌, ◌<◌, ◌≤◌, Bool, true, false, eqb, refl, ap, sym, ◌∙◌, arith, List, [], ◌∷◌, ◌++◌, length, take}
+use Rattle.rh_sight.proofs.Common.{drop, map, ◌||◌, AllByRecursion, eqb-true, length-append, length-take, take-append-drop, BlockItem, total, Heap, Segment}
+use Rattle.rh_sight.proofs.Common.{first_place, place_after, size_of, block_items, total-append, Piece, Legend, heap_pieces, more_pieces, segment_pieces}
+use Rattle.rh_sight.proofs.Common.{Scene, item_pieces, item_weight}
+use Rattle.std.specs.List.{IsDistinct, list_any}
+use Rattle.std.proofs.lemmas.List.{append-nil, length-map}
 use Rattle.std.proofs.lemmas.Map.Steps.{length-le_from_distinct_below}
 use Rattle.rh_defs.specs.SlotImage.{heap_place}
-use Rattle.rh_defs.specs.declared.listing.BlockItem.{BlockItem}
-use Rattle.rh_defs.specs.Pieces.{page, total}
-use Rattle.rh_defs.specs.Heap.{Heap, Segment, base, first_place, place_after, size_of}
+use Rattle.rh_defs.specs.Pieces.{page}
+use Rattle.rh_defs.specs.Heap.{base}
 use Rattle.rh_defs.specs.Slot.{Flex, HaveAnchors, IsFree, Slot, anchor_count, flex_start, slot_length, slot_pages, weight}
-use Rattle.rh_defs.specs.Listing.{block_items}
-use Rattle.rh_defs.proofs.Cuts.{total-append}
 use Rattle.rh_defs.proofs.HeapLists.{eqb_apart}
 use Rattle.rh_figure.specs.declared.piece.Kind.TheVariants.{AnchorWords, Descriptor, FreeTop, MoreSegments, Unused}
-use Rattle.rh_figure.specs.declared.piece.Piece.{Piece}
-use Rattle.rh_figure.specs.Layout.{Legend, flex_pieces, heap_pieces, more_pieces, segment_pieces, slot_legend, slot_pieces}
-use Rattle.rh_figure.specs.Scene.{Scene}
-use Rattle.rh_sight.specs.Walks.{item_pieces, item_weight}
+use Rattle.rh_figure.specs.Layout.{flex_pieces, slot_legend, slot_pieces}
 use Rattle.rh_sight.proofs.Heaps.{IsSeen}
 use Rattle.rh_sight.proofs.PieceWalks.{heap-join, items-pieces, items-weight, more-none, more-some, pieces-long}
 

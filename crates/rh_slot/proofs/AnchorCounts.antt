@@ -1,13 +1,9 @@
 -- The anchor words that aren't 0 are as many as the blocks just where each of them leads to a block.
-use Rattle.std.proofs.Common.{◌≡◌, ℕ, zero, suc, ◌+◌, ◌*◌, ◌<◌, ◌≤◌, inl, inr, Bool, true, false, eqb, List, [], ◌∷◌, length, refl, sym, ap, ◌∙◌, arith}
-use Rattle.std.specs.Prelude.{◌||◌, if◌then◌else◌}
-use Rattle.std.proofs.lemmas.Bool.{cases_eq}
-use Rattle.rh_defs.specs.Bytes.{word}
-use Rattle.rh_defs.specs.Slot.{Flex, weight, slot_start, IsFree, HaveAnchors, anchor_count}
-use Rattle.rh_defs.specs.SlotImage.{Hang, flex_in}
-use Rattle.rh_defs.proofs.HeapLists.{eqb_same, eqb_apart}
+use Rattle.rh_slot.proofs.Common.{◌≡◌, ℕ, zero, suc, ◌+◌, ◌*◌, ◌<◌, ◌≤◌, inl, inr, Bool, true, false, eqb, List, [], ◌∷◌, length, refl, sym, ap, ◌∙◌, arith}
+use Rattle.rh_slot.proofs.Common.{◌||◌, if◌then◌else◌, cases_eq, word, Flex, weight, slot_start, IsFree, HaveAnchors, anchor_count, Hang, flex_in, eqb_same}
+use Rattle.rh_slot.proofs.Common.{eqb_apart, are_hung}
 use Rattle.rh_defs.proofs.HeapFaults.{eq_from}
-use Rattle.rh_slot.specs.Image.{has_anchor, is_hung, are_hung, words_in_use}
+use Rattle.rh_slot.specs.Image.{has_anchor, is_hung, words_in_use}
 use Rattle.rh_slot.proofs.ImageLaws.{and_left, and_right, and_both, no_anchor, rows}
 
 one_if : Bool → ℕ

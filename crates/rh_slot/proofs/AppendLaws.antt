@@ -1,27 +1,19 @@
 -- A block gets bytes at its end.
-use Rattle.std.proofs.Common.{◌≡◌, ℕ, ◌+◌, ◌-◌, ◌/◌, ◌*◌, ◌<◌, ◌≤◌, ◌≢◌, ◌⊎◌, inl, inr, Bool, true, false, List, [], ◌∷◌, ◌++◌, length, replicate, take, drop}
-use Rattle.std.proofs.Common.{ltb, refl, sym, ap, subst, ◌∙◌, arith}
-use Rattle.std.proofs.lemmas.List.{length-replicate, take_at, take_all, drop_all, append-nil}
+use Rattle.rh_slot.proofs.Common.{◌≡◌, ℕ, ◌+◌, ◌-◌, ◌/◌, ◌*◌, ◌<◌, ◌≤◌, ◌≢◌, ◌⊎◌, inl, inr, Bool, true, false, List, [], ◌∷◌, ◌++◌, length, replicate, take}
+use Rattle.rh_slot.proofs.Common.{drop, ltb, refl, sym, ap, subst, ◌∙◌, arith, length-replicate, take_all, append-nil, cases_eq, cases_lt, Ok, Err, unwrap_or}
+use Rattle.rh_slot.proofs.Common.{PAGE, NoBlock, NoRoom, word, part, put, SameIn, SameOutside, Granted, ◌>>=◌, refuse_if, found_or, fitted, Memory, OnlyArea}
+use Rattle.rh_slot.proofs.Common.{bytes, total, pages_for, zeros, written, Split, Flex, Slot, weight, flex_weight, slot_length, slot_pages, IsFree}
+use Rattle.rh_slot.proofs.Common.{with_bytes, lacks_room, slot_block, slot_put, Lie, SlotWords, flex_place, heap_place, word_same, part_same, put_outside}
+use Rattle.rh_slot.proofs.Common.{SameOutside-self, refuse_if-true, refuse_if-false, ltb_yes, ltb_no, block_of-at, part_of, wider, same_both, in_below}
+use Rattle.rh_slot.proofs.Common.{in_above, Shifted, FoundAt, Found}
+use Rattle.std.proofs.lemmas.List.{take_at, drop_all}
 use Rattle.std.proofs.Math.ListN.{length-append}
-use Rattle.std.proofs.lemmas.Bool.{cases_eq, cases_lt}
-use Rattle.std.specs.Prelude.{Ok, Err, unwrap_or}
-use Rattle.rh_defs.specs.declared.sizes.TheConstants.{PAGE}
-use Rattle.rh_defs.specs.declared.refusal.Refusal.TheVariants.{NoBlock, BadRange, NoRoom}
-use Rattle.rh_defs.specs.Bytes.{word, part, put, SameIn, SameOutside}
-use Rattle.rh_defs.specs.Chain.{Granted, ◌>>=◌, refuse_if, found_or}
-use Rattle.rh_defs.specs.Heap.{fitted}
-use Rattle.rh_defs.specs.Memory.{Memory, OnlyArea, bytes}
-use Rattle.rh_defs.specs.Pieces.{total, pages_for, zeros, written, Split}
+use Rattle.rh_defs.specs.declared.refusal.Refusal.TheVariants.{BadRange}
 use Rattle.rh_defs.specs.Slot as slot
-use Rattle.rh_defs.specs.Slot.{Flex, Slot, weight, flex_weight, slot_length, slot_pages, IsFree, with_bytes, lacks_room, slot_block, slot_extend, slot_put}
-use Rattle.rh_defs.specs.SlotImage.{Lie, SlotWords, flex_place, heap_place}
-use Rattle.rh_defs.proofs.BytesLaws.{word_same, part_same, part_more, part-put, put_outside, SameOutside-self}
-use Rattle.rh_defs.proofs.Chains.{refuse_if-true, refuse_if-false}
-use Rattle.rh_defs.proofs.HeapLists.{ltb_yes, ltb_no}
+use Rattle.rh_defs.specs.Slot.{slot_extend}
+use Rattle.rh_defs.proofs.BytesLaws.{part_more, part-put}
 use Rattle.rh_defs.proofs.SlotRooms.{length-fitted}
-use Rattle.rh_defs.proofs.SlotLaws.{block_of-at, part_of, wider, same_both, in_below, in_above}
-use Rattle.rh_slot.specs.Row.{Shifted}
-use Rattle.rh_slot.specs.Flex.{FoundAt, Found, slot_append}
+use Rattle.rh_slot.specs.Flex.{slot_append}
 use Rattle.rh_slot.proofs.EditLaws.{block_bytes, changed}
 use Rattle.rh_slot.proofs.FlexLaws.{then_none, then_at}
 

@@ -1,13 +1,9 @@
 -- Areas that are edited, and their pages.
-use Rattle.std.proofs.Common.{◌≡◌, ℕ, ◌+◌, ◌*◌, ◌≤◌, List, length, refl, sym, ap, subst, ◌∙◌, arith}
-use Rattle.std.specs.Prelude.{Result, Ok, Err, OnOk}
-use Rattle.rh_defs.specs.declared.sizes.TheConstants.{PAGE}
-use Rattle.rh_defs.specs.Bytes.{part, put}
-use Rattle.rh_defs.specs.Memory.{Memory, Edited, Resized, bytes, with_bytes, grown, shrunk}
-use Rattle.rh_defs.proofs.BytesLaws.{put_inside, put_outside, get-part, length-part}
-use Rattle.rh_defs.proofs.MemoryLaws.{bytes-with_bytes, Edited-with_bytes, SameIn-grown, SameIn-shrunk, length-grown, length-shrunk, OnlyArea-grown}
-use Rattle.rh_defs.proofs.MemoryLaws.{OnlyArea-shrunk}
-use Rattle.rh_defs.proofs.SlotLaws.{Carried}
+use Rattle.rh_slot.proofs.Common.{◌≡◌, ℕ, ◌+◌, ◌*◌, ◌≤◌, List, length, refl, sym, ap, subst, ◌∙◌, arith, Result, Ok, Err, OnOk, PAGE, part, put, Memory}
+use Rattle.rh_slot.proofs.Common.{Edited, Resized, bytes, put_outside, length-part, bytes-with_bytes, Carried}
+use Rattle.rh_defs.specs.Memory.{with_bytes, grown, shrunk}
+use Rattle.rh_defs.proofs.BytesLaws.{put_inside, get-part}
+use Rattle.rh_defs.proofs.MemoryLaws.{Edited-with_bytes, SameIn-grown, SameIn-shrunk, length-grown, length-shrunk, OnlyArea-grown, OnlyArea-shrunk}
 
 -- bytes put into an area
 pub Edited-put : (m n : Memory) (id lo hi : ℕ) (xs : List ℕ) → n ≡ with_bytes m id (put (bytes m id) lo xs) → lo + length xs ≤ hi → Edited m n id lo hi

@@ -1,42 +1,34 @@
 -- The calls on the C heap of a slot: what each answers and leaves.
-use Rattle.std.proofs.Common.{◌≡◌, ◌≢◌, ℕ, ◌+◌, ◌-◌, ◌≤◌, inl, inr, Bool, true, false, ltb, eqb, List, [], ◌∷◌, ◌++◌, length, refl, sym, ap, subst, ◌∙◌, arith}
-use Rattle.std.proofs.lemmas.Bool.{cases_eq}
-use Rattle.std.specs.Prelude.{IfSome, cond, Option, Some, None, Result, Ok, Err, IsOk, ok_or, ℤ, pos, negsuc}
-use Rattle.std.proofs.Common.{SFits, w32}
-use Rattle.rh_defs.specs.SlotImage.{heap_place}
-use Rattle.rh_defs.specs.Bytes.{SameOutside}
-use Rattle.rh_defs.specs.Memory.{Memory, OnlyArea, bytes}
-use Rattle.rh_defs.specs.Pieces.{total, round_up, page, pages_for, zeros, moved, Split}
-use Rattle.rh_defs.specs.Chain.{Granted, answer_of, left_of, no_answer, ◌>>=◌, refuse_if, found_or}
-use Rattle.rh_defs.specs.Heap.{Segment, Used, Hole, Heap, Placed, Way, Stays, Shrinks, GrowsIntoHole, GrowsAtTop, MovesToHole, MovesToTop, need, claim}
-use Rattle.rh_defs.specs.Heap.{claim_need, claim_growing, placed_in, hole_for, is_hole_for, way_beyond, way_to_grow, raised, block_room, size_of, bytes_of}
-use Rattle.rh_defs.specs.Heap.{resized, resized_by, resize, resize_found, resize_need, resize_growing, need_found, new_size, fitted, way_to, segment_size}
-use Rattle.rh_defs.specs.Heap.{released, release, release_found, block_at, is_block_at, released_at, as_granted, refusal_of, base, place_after, end_for}
-use Rattle.rh_defs.specs.HeapImage.{Spells}
-use Rattle.rh_defs.specs.Slot.{weight, flex_weight, slot_length, slot_pages, is_stuck, with_heap, with_block, slot_claim, slot_resize, slot_release}
-use Rattle.rh_defs.specs.Slot.{slot_take_pages, heap_block_at, heap_start}
+use Rattle.rh_slot.proofs.Common.{◌≡◌, ◌≢◌, ℕ, ◌+◌, ◌-◌, ◌≤◌, inl, inr, Bool, true, false, ltb, eqb, List, [], ◌∷◌, ◌++◌, length, refl, sym, ap, subst, ◌∙◌}
+use Rattle.rh_slot.proofs.Common.{arith, cases_eq, IfSome, cond, Option, Some, None, Result, Ok, Err, IsOk, ok_or, ℤ, pos, negsuc, SFits, heap_place}
+use Rattle.rh_slot.proofs.Common.{SameOutside, Memory, OnlyArea, bytes, total, pages_for, zeros, moved, Split, Granted, left_of, no_answer, ◌>>=◌, refuse_if}
+use Rattle.rh_slot.proofs.Common.{found_or, Segment, Used, Hole, Heap, need, claim_growing, raised, size_of, bytes_of, fitted, block_at, base, Spells, weight}
+use Rattle.rh_slot.proofs.Common.{flex_weight, slot_length, slot_pages, with_block, heap_block_at, heap_start, Refusal, cond_true, cond_false, eqb_same}
+use Rattle.rh_slot.proofs.Common.{eqb_apart, IsCut, first_at-cuts, OnlyArea-from_Edited, heap_in, Span, IsSlot, SpellsIn, slot_in, Leaves, lengthened}
+use Rattle.rh_slot.proofs.Common.{SpellsSlot-with_heap}
+use Rattle.std.proofs.Common.{w32}
+use Rattle.rh_defs.specs.Pieces.{round_up, page}
+use Rattle.rh_defs.specs.Chain.{answer_of}
+use Rattle.rh_defs.specs.Heap.{Placed, Way, Stays, Shrinks, GrowsIntoHole, GrowsAtTop, MovesToHole, MovesToTop, claim, claim_need, placed_in, hole_for}
+use Rattle.rh_defs.specs.Heap.{is_hole_for, way_beyond, way_to_grow, block_room, resized, resized_by, resize, resize_found, resize_need, resize_growing}
+use Rattle.rh_defs.specs.Heap.{need_found, new_size, way_to, segment_size, released, release, release_found, is_block_at, released_at, as_granted, refusal_of}
+use Rattle.rh_defs.specs.Heap.{place_after, end_for}
+use Rattle.rh_defs.specs.Slot.{is_stuck, with_heap, slot_claim, slot_resize, slot_release, slot_take_pages}
 use Rattle.rh_defs.specs.Slot as plain
 use Rattle.rh_defs.specs.declared.heap.HeapRefusal.{HeapRefusal}
 use Rattle.rh_defs.specs.declared.heap.HeapRefusal.TheVariants as heap_refusal
-use Rattle.rh_defs.specs.declared.refusal.Refusal.{Refusal}
 use Rattle.rh_defs.specs.declared.refusal.Refusal.TheVariants.{NotABlock, NoBudge}
 use Rattle.rh_defs.proofs.Cuts.{total-append}
-use Rattle.rh_defs.proofs.HeapLists.{cond_true, cond_false, eqb_same, eqb_apart, IsCut, first_at-cuts}
 use Rattle.rh_defs.proofs.HeapCalls.{released_at-some, released-found, released-refused}
-use Rattle.rh_defs.proofs.MemoryLaws.{OnlyArea-self, OnlyArea-from_Edited}
+use Rattle.rh_defs.proofs.MemoryLaws.{OnlyArea-self}
 use Rattle.rh_defs.proofs.HeapGrowth.{claim-raised, resize-raised, resize_need-raised, raised-none, claim-granted, resize-granted}
 use Rattle.rh_heap.specs.Calls as heap_calls
-use Rattle.rh_heap.specs.Spans.{heap_in}
-use Rattle.rh_heap.specs.declared.span.Span.{Span}
 use Rattle.rh_slot.specs.declared.slot.Slot.{Slot}
-use Rattle.rh_slot.specs.Area.{IsSlot, SpellsIn, slot_in}
-use Rattle.rh_slot.specs.Calls.{Leaves}
-use Rattle.rh_slot.specs.CHeap.{after_growth, lengthened}
+use Rattle.rh_slot.specs.CHeap.{after_growth}
 use Rattle.rh_slot.proofs.SpanLaws.{span_of, heap_same, slot_now, budging_same}
 use Rattle.rh_slot.proofs.LeaveLaws.{leaves, refuses, then_edited}
 use Rattle.rh_slot.proofs.GrowLaws.{Gives, growth_none, growth_ok, growth_err, placed_there, slot_claim-growth, slot_claim-zero, end-claim_growing, need_ok}
 use Rattle.rh_slot.proofs.GrowLaws.{need_err}
-use Rattle.rh_defs.proofs.SlotImageLaws.{SpellsSlot-with_heap}
 
 -- the heap in the span once it is longer
 longer : (m : Memory) (slot : Slot) (s : plain.Slot) (k : ℕ) → SpellsIn m slot (lengthened k s) → s.budging ≡ slot.budge

@@ -1,30 +1,22 @@
 -- A block gets other bytes.
-use Rattle.std.proofs.Common.{◌≡◌, ℕ, ◌+◌, ◌-◌, ◌*◌, ◌/◌, ◌<◌, ◌≤◌, inl, inr, ℤ, pos, negsuc, Bool, true, false, List, [], ◌∷◌, ◌++◌, length, replicate, take}
-use Rattle.std.proofs.Common.{drop, ltb, refl, sym, ap, subst, ◌∙◌, arith}
-use Rattle.std.proofs.lemmas.List.{length-replicate, length-take-le, length-drop, take_all, drop_all, append-nil}
+use Rattle.rh_slot.proofs.Common.{◌≡◌, ℕ, ◌+◌, ◌-◌, ◌*◌, ◌/◌, ◌<◌, ◌≤◌, inl, inr, ℤ, pos, negsuc, Bool, true, false, List, [], ◌∷◌, ◌++◌, length, replicate}
+use Rattle.rh_slot.proofs.Common.{take, drop, ltb, refl, sym, ap, subst, ◌∙◌, arith, length-replicate, length-take-le, take_all, append-nil, cases_lt, Ok}
+use Rattle.rh_slot.proofs.Common.{Err, IsTrue, ◌↔◌, ◌||◌, PAGE, NoBlock, NoRoom, word, part, put, SameIn, SameOutside, total, pages_for, zeros, moved}
+use Rattle.rh_slot.proofs.Common.{written, Split, fitted, Flex, Slot, weight, flex_weight, slot_length, slot_pages, IsFree, HaveAnchors, with_bytes}
+use Rattle.rh_slot.proofs.Common.{lacks_room, slot_put, Lie, Hang, SlotWords, flex_place, heap_place, word_same, part_same, length-part, put_outside}
+use Rattle.rh_slot.proofs.Common.{SameOutside-self, sum-append, ltb_yes, ltb_no, part_of, wider, same_both, in_below, in_above, in_both, Carried, Lie-split}
+use Rattle.rh_slot.proofs.Common.{Lie-same, Hang-split, Hang-same, HaveAnchors-cut, Row, Shifted, FoundAt, Found, ◌>>=◌, refuse_if, refuse_if-true}
+use Rattle.rh_slot.proofs.Common.{refuse_if-false}
+use Rattle.std.proofs.lemmas.List.{length-drop, drop_all}
 use Rattle.std.proofs.Math.ListN.{length-append}
-use Rattle.std.proofs.lemmas.Bool.{cases_lt}
-use Rattle.std.specs.Prelude.{Ok, Err, IsTrue, ◌↔◌, ◌||◌}
-use Rattle.rh_defs.specs.declared.sizes.TheConstants.{PAGE}
-use Rattle.rh_defs.specs.declared.refusal.Refusal.TheVariants.{NoBlock, BadRange, NoRoom}
-use Rattle.rh_defs.specs.Bytes.{word, part, put, SameIn, SameOutside}
-use Rattle.rh_defs.specs.Pieces.{total, pages_for, zeros, moved, written, Split}
-use Rattle.rh_defs.specs.Heap.{fitted}
+use Rattle.rh_defs.specs.declared.refusal.Refusal.TheVariants.{BadRange}
 use Rattle.rh_defs.specs.Slot as slot
-use Rattle.rh_defs.specs.Slot.{Flex, Slot, weight, flex_weight, slot_length, slot_pages, IsFree, HaveAnchors, with_bytes, opened_at, taken_out, lacks_room}
-use Rattle.rh_defs.specs.Slot.{slot_extend, slot_mid, slot_put, slot_read}
-use Rattle.rh_defs.specs.SlotImage.{Lie, Hang, SlotWords, flex_place, heap_place}
+use Rattle.rh_defs.specs.Slot.{opened_at, taken_out, slot_extend, slot_mid, slot_read}
 use Rattle.rh_defs.proofs.Anchors.{anchors-here}
-use Rattle.rh_defs.proofs.BytesLaws.{word_same, part_same, parts_same, part_more, part-part, part-drop, part-put, part-put_below, part-put_above, length-part}
-use Rattle.rh_defs.proofs.BytesLaws.{put_outside, SameOutside-self}
-use Rattle.rh_defs.proofs.HeapLists.{sum-append, ltb_yes, ltb_no}
-use Rattle.rh_defs.proofs.SlotLaws.{part_of, wider, same_both, in_below, in_above, in_both, Carried, Lie-split, Lie-same, Lie-unique, Hang-split, Hang-same}
-use Rattle.rh_defs.proofs.SlotLaws.{HaveAnchors-cut}
-use Rattle.rh_slot.specs.Row.{Row, Shifted}
-use Rattle.rh_slot.specs.Flex.{FoundAt, Found, spliced, splice}
-use Rattle.rh_defs.specs.Chain.{◌>>=◌, refuse_if}
+use Rattle.rh_defs.proofs.BytesLaws.{parts_same, part_more, part-part, part-drop, part-put, part-put_below, part-put_above}
+use Rattle.rh_defs.proofs.SlotLaws.{Lie-unique}
+use Rattle.rh_slot.specs.Flex.{spliced, splice}
 use Rattle.rh_slot.proofs.FlexLaws.{rebuilt, above, then_none, then_at, false-true}
-use Rattle.rh_defs.proofs.Chains.{refuse_if-true, refuse_if-false}
 
 -- the slot's length with other bytes in a block
 pub length_with : (s : Slot) (k place size : ℕ) (cut : Split Flex) (bytes : List ℕ) → FoundAt k s place size cut

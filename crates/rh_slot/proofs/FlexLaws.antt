@@ -1,26 +1,16 @@
 -- What the calls that find, add and take away blocks do to the words of a slot.
-use Rattle.std.proofs.Common.{◌≡◌, ℕ, ◌+◌, ◌-◌, ◌*◌, ◌/◌, ◌<◌, ◌≤◌, ◌≢◌, ◌⊎◌, inl, inr, true, false, List, [], ◌∷◌, ◌++◌, length, replicate, refl, sym, ap}
-use Rattle.std.proofs.Common.{subst, ◌∙◌, append_assoc, arith, rules}
-use Rattle.std.proofs.lemmas.List.{append-nil, length-replicate}
-use Rattle.std.proofs.lemmas.Bool.{cases_eq, cases_lt}
-use Rattle.std.specs.Prelude.{is_some, Ok, Err, ◌↔◌}
-use Rattle.rh_defs.specs.declared.sizes.TheConstants.{PAGE}
-use Rattle.rh_defs.specs.declared.refusal.Refusal.TheVariants.{NoBlock, AnchorInUse, NoRoom}
-use Rattle.rh_defs.specs.Bytes.{word, part, SameIn, SameOutside}
-use Rattle.rh_defs.specs.Chain.{Granted, ◌>>=◌, found_or}
-use Rattle.rh_defs.specs.Pieces.{total, pages_for, zeros, Split}
-use Rattle.rh_defs.specs.Slot.{Flex, Slot, weight, flex_weight, slot_length, slot_pages, flex_address, IsFree, HaveAnchors, without, with_block, is_used}
-use Rattle.rh_defs.specs.Slot.{lacks_room, slot_block, slot_size, slot_address, slot_free, slot_alloc, anchor_count}
-use Rattle.rh_defs.specs.SlotImage.{Lie, Hang, SlotWords, SpellsSlot, flex_place, heap_place}
+use Rattle.rh_slot.proofs.Common.{◌≡◌, ℕ, ◌+◌, ◌-◌, ◌*◌, ◌/◌, ◌<◌, ◌≤◌, ◌≢◌, ◌⊎◌, inl, inr, true, false, List, [], ◌∷◌, ◌++◌, length, replicate, refl, sym}
+use Rattle.rh_slot.proofs.Common.{ap, subst, ◌∙◌, append_assoc, arith, rules, append-nil, length-replicate, cases_eq, cases_lt, is_some, Ok, Err, ◌↔◌, PAGE}
+use Rattle.rh_slot.proofs.Common.{NoBlock, NoRoom, word, part, SameIn, SameOutside, Granted, ◌>>=◌, found_or, total, pages_for, zeros, Split, Flex, Slot}
+use Rattle.rh_slot.proofs.Common.{weight, flex_weight, slot_length, slot_pages, flex_address, IsFree, HaveAnchors, with_block, lacks_room, slot_block}
+use Rattle.rh_slot.proofs.Common.{anchor_count, Lie, Hang, SlotWords, SpellsSlot, flex_place, heap_place, word_same, part_same, sum-append, ltb_yes, ltb_no}
+use Rattle.rh_slot.proofs.Common.{part_of, wider, same_both, in_below, in_above, in_both, Lie-split, Lie-same, Hang-split, Hang-same, HaveAnchors-cut}
+use Rattle.rh_slot.proofs.Common.{block_of-at, Spells-same, Row, Shifted, Walked, FoundAt, Found, refuse_if-true, refuse_if-false}
+use Rattle.rh_defs.specs.declared.refusal.Refusal.TheVariants.{AnchorInUse}
+use Rattle.rh_defs.specs.Slot.{without, is_used, slot_size, slot_address, slot_free, slot_alloc}
 use Rattle.rh_defs.proofs.Anchors.{anchors-append}
-use Rattle.rh_defs.proofs.BytesLaws.{word_same, part_same}
-use Rattle.rh_defs.proofs.HeapLists.{sum-append, ltb_yes, ltb_no}
-use Rattle.rh_defs.proofs.SlotLaws.{part_of, wider, same_both, in_below, in_above, in_both, Lie-split, Lie-join, Lie-same, Hang-split, Hang-join, Hang-same}
-use Rattle.rh_defs.proofs.SlotLaws.{IsFree-split, IsFree-join, HaveAnchors-cut, find, block_of-none, block_of-at, Spells-same}
-use Rattle.rh_slot.specs.Row.{Row, Shifted, Walked}
-use Rattle.rh_slot.specs.Flex.{FoundAt, Found}
+use Rattle.rh_defs.proofs.SlotLaws.{Lie-join, Hang-join, IsFree-split, IsFree-join, find, block_of-none}
 use Rattle.rh_slot.proofs.ShiftLaws.{apart, Hang-apart}
-use Rattle.rh_defs.proofs.Chains.{refuse_if-true, refuse_if-false}
 
 -- the slot with other blocks
 abbrev pub with_blocks : List Flex → Slot → Slot

@@ -1,11 +1,9 @@
 -- The walk that looks for an anchor without a block.
-use Rattle.std.proofs.Common.{◌≡◌, ℕ, suc, ◌+◌, ◌-◌, ◌<◌, ◌≤◌, true, refl, sym, ap, ◌∙◌, arith}
-use Rattle.std.specs.Prelude.{Some, None, is_some}
+use Rattle.rh_slot.proofs.Common.{◌≡◌, ℕ, suc, ◌+◌, ◌-◌, ◌<◌, ◌≤◌, true, refl, sym, ap, ◌∙◌, arith, Some, None, is_some, Slot, IsFree, anchor_count}
+use Rattle.rh_slot.proofs.Common.{cond_true, cond_false, block_of-at, Found}
 use Rattle.rh_defs.specs.Places.{free_anchor, free_from}
-use Rattle.rh_defs.specs.Slot.{Slot, is_used, IsFree, anchor_count}
-use Rattle.rh_defs.proofs.HeapLists.{cond_true, cond_false}
-use Rattle.rh_defs.proofs.SlotLaws.{block_of-none, block_of-at}
-use Rattle.rh_slot.specs.Flex.{Found}
+use Rattle.rh_defs.specs.Slot.{is_used}
+use Rattle.rh_defs.proofs.SlotLaws.{block_of-none}
 
 -- the anchors below k have blocks
 pub record AllUsed (s : Slot) (k : ℕ) : Type 0 where

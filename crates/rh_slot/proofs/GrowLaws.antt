@@ -1,35 +1,22 @@
 -- The C heap of a slot gets longer, and a call on it is done.
-use Rattle.std.proofs.Common.{◌≡◌, ◌≢◌, ℕ, ◌+◌, ◌*◌, ◌/◌, ◌<◌, ◌≤◌, inl, inr, Bool, true, false, ltb, eqb, List, length, refl, sym, ap, subst, ◌∙◌, arith}
-use Rattle.std.proofs.lemmas.Bool.{cases_eq, cases_lt}
-use Rattle.std.specs.Prelude.{◌-◌, Option, Some, None, Ok, Err, IsErr, IsErrOf, ◌↔◌, ℤ}
-use Rattle.std.specs.Prelude.{pos}
-use Rattle.rh_defs.specs.declared.sizes.TheConstants.{PAGE}
-use Rattle.rh_defs.specs.Bytes.{SameIn, SameOutside}
-use Rattle.rh_defs.specs.Memory.{Memory, IsOpen, Resized, bytes}
-use Rattle.rh_defs.specs.Pieces.{total, pages_for, zeros, moved, Split}
-use Rattle.rh_defs.specs.Chain.{Granted, ◌>>=◌, refuse_if}
-use Rattle.rh_defs.specs.Heap.{Segment, Heap, Placed, need, claim_need, claim_growing, raised, placed, placed_in, hole_for, shortage_in, block_room}
-use Rattle.rh_defs.specs.Heap.{segment_size, base, extended}
-use Rattle.rh_defs.specs.HeapImage.{Spells}
-use Rattle.rh_defs.specs.Slot.{Flex, weight, slot_length, slot_pages, is_stuck, with_heap, with_block, with_placed, slot_claim, slot_resize, slot_release}
-use Rattle.rh_defs.specs.Slot.{slot_take_pages, heap_block_at, HaveAnchors, heap_start}
+use Rattle.rh_slot.proofs.Common.{◌≡◌, ◌≢◌, ℕ, ◌+◌, ◌*◌, ◌/◌, ◌<◌, ◌≤◌, inl, inr, Bool, true, false, ltb, eqb, List, length, refl, sym, ap, subst, ◌∙◌, arith}
+use Rattle.rh_slot.proofs.Common.{cases_eq, cases_lt, ◌-◌, Option, Some, None, Ok, Err, IsErr, IsErrOf, ◌↔◌, ℤ, pos, PAGE, SameIn, SameOutside, Memory}
+use Rattle.rh_slot.proofs.Common.{IsOpen, Resized, bytes, total, pages_for, zeros, moved, Split, Granted, ◌>>=◌, refuse_if, Segment, Heap, need}
+use Rattle.rh_slot.proofs.Common.{claim_growing, raised, base, Spells, Flex, weight, slot_length, slot_pages, with_block, heap_block_at, HaveAnchors}
+use Rattle.rh_slot.proofs.Common.{heap_start, Lie, Hang, SlotWords, SpellsSlot, flex_place, heap_place, Refusal, NoRoom, word_same, cond_true, cond_false}
+use Rattle.rh_slot.proofs.Common.{eqb_same, eqb_apart, ltb_yes, ltb_no, part_of, in_below, in_above, Lie-same, Hang-same, Spells-same, SpellsSlot-with_heap}
+use Rattle.rh_slot.proofs.Common.{Span, heap_in, SpellsIn, slot_in, Row, Shifted, lengthened}
+use Rattle.rh_defs.specs.Heap.{Placed, claim_need, placed, placed_in, hole_for, shortage_in, block_room, segment_size, extended}
+use Rattle.rh_defs.specs.Slot.{is_stuck, with_heap, with_placed, slot_claim, slot_resize, slot_release, slot_take_pages}
 use Rattle.rh_defs.specs.Slot as plain
-use Rattle.rh_defs.specs.SlotImage.{Lie, Hang, SlotWords, SpellsSlot, flex_place, heap_place}
 use Rattle.rh_defs.specs.declared.heap.HeapRefusal.{HeapRefusal}
 use Rattle.rh_defs.specs.declared.heap.HeapRefusal.TheVariants as heap_refusal
-use Rattle.rh_defs.specs.declared.refusal.Refusal.{Refusal}
-use Rattle.rh_defs.specs.declared.refusal.Refusal.TheVariants.{BadSize, NoBudge, NoRoom}
-use Rattle.rh_defs.proofs.BytesLaws.{word_same}
-use Rattle.rh_defs.proofs.HeapLists.{cond_true, cond_false, eqb_same, eqb_apart, ltb_yes, ltb_no}
-use Rattle.rh_defs.proofs.SlotLaws.{part_of, in_below, in_above, Lie-same, Hang-same, Spells-same}
-use Rattle.rh_defs.proofs.SlotImageLaws.{SlotWords-kept, SpellsSlot-with_heap}
-use Rattle.rh_heap.specs.declared.span.Span.{Span}
-use Rattle.rh_heap.specs.Spans.{IsSpan, OnlySpan, heap_in}
+use Rattle.rh_defs.specs.declared.refusal.Refusal.TheVariants.{BadSize, NoBudge}
+use Rattle.rh_defs.proofs.SlotImageLaws.{SlotWords-kept}
+use Rattle.rh_heap.specs.Spans.{IsSpan, OnlySpan}
 use Rattle.rh_heap.proofs.SpanLaws.{is_span, heap_now}
 use Rattle.rh_slot.specs.declared.slot.Slot.{Slot}
-use Rattle.rh_slot.specs.Area.{SpellsIn, slot_in}
-use Rattle.rh_slot.specs.Row.{Row, Shifted}
-use Rattle.rh_slot.specs.CHeap.{after_growth, lengthened}
+use Rattle.rh_slot.specs.CHeap.{after_growth}
 use Rattle.rh_slot.proofs.SpanLaws.{span_of, heap_same, slot_now}
 
 -- ---- the flex blocks slide up

@@ -1,27 +1,19 @@
 -- When bytes are a slot's, and what their first fault is.
-use Rattle.std.proofs.Common.{◌≡◌, ℕ, zero, suc, ◌+◌, ◌-◌, ◌*◌, ◌/◌, ◌%◌, ◌<◌, ◌≤◌, ◌⊎◌, inl, inr, Bool, true, false, leb, eqb, List, [], ◌∷◌, length, take}
-use Rattle.std.proofs.Common.{drop, get_or, refl, sym, ap, subst, ◌∙◌, arith}
-use Rattle.std.specs.Prelude.{Some, None, ◌&&◌, ◌||◌, ◌==◌, nat_le}
-use Rattle.std.proofs.lemmas.Bool.{cases_eq}
-use Rattle.std.proofs.lemmas.Bool.Decides.{nat_tests}
-use Rattle.std.proofs.lemmas.List.{get_or-drop, get_or-take, length-drop, length-take-le, take_all}
-use Rattle.rh_defs.specs.declared.sizes.TheConstants.{PAGE}
-use Rattle.rh_defs.specs.Bytes.{word, part}
-use Rattle.rh_defs.specs.Pieces.{total}
-use Rattle.rh_defs.specs.Heap.{Segment, Used, Hole, Heap}
-use Rattle.rh_defs.specs.HeapImage.{Stand, Spells, IsImage, heap_of, fault_of}
-use Rattle.rh_defs.specs.Slot.{Flex, Slot, weight, flex_weight, slot_start, slot_length, slot_pages, IsFree, HaveAnchors, anchor_count}
-use Rattle.rh_defs.specs.SlotImage.{Lie, Hang, is_block, flex_in, slot_of, heap_place}
+use Rattle.rh_slot.proofs.Common.{◌≡◌, ℕ, zero, suc, ◌+◌, ◌-◌, ◌*◌, ◌/◌, ◌%◌, ◌<◌, ◌≤◌, ◌⊎◌, inl, inr, Bool, true, false, leb, eqb, List, [], ◌∷◌, length}
+use Rattle.rh_slot.proofs.Common.{take, drop, get_or, refl, sym, ap, subst, ◌∙◌, arith, Some, None, ◌&&◌, ◌||◌, ◌==◌, nat_le, cases_eq, nat_tests}
+use Rattle.rh_slot.proofs.Common.{length-take-le, take_all, PAGE, word, part, total, Segment, Used, Hole, Heap, Stand, Spells, fault_of, Flex, Slot, weight}
+use Rattle.rh_slot.proofs.Common.{flex_weight, slot_start, slot_length, slot_pages, IsFree, HaveAnchors, anchor_count, Lie, Hang, is_block, flex_in, slot_of}
+use Rattle.rh_slot.proofs.Common.{heap_place, length-part, cond_true, cond_false, eqb_same, eqb_apart, Spells-same, are_hung, BadSize, BadAnchor, SparePage}
+use Rattle.std.proofs.lemmas.List.{get_or-drop, get_or-take, length-drop}
+use Rattle.rh_defs.specs.HeapImage.{IsImage, heap_of}
 use Rattle.rh_defs.specs.declared.heap.HeapFault.{HeapFault}
-use Rattle.rh_defs.proofs.BytesLaws.{words_same, parts_same, length-part}
-use Rattle.rh_defs.proofs.HeapLists.{cond_true, cond_false, eqb_same, eqb_apart}
+use Rattle.rh_defs.proofs.BytesLaws.{words_same, parts_same}
 use Rattle.rh_defs.proofs.HeapLaws.{heap_of-Spells}
 use Rattle.rh_defs.proofs.HeapFaults.{le_from, eq_from, image_clean}
-use Rattle.rh_defs.proofs.SlotLaws.{Spells-same}
 use Rattle.rh_defs.proofs.SlotImageLaws.{IsBlock, is_block-is}
-use Rattle.rh_slot.specs.Image.{IsSlotImage, has_length, heap_bytes, has_anchor, is_hung, are_hung, slot_fault_of}
+use Rattle.rh_slot.specs.Image.{IsSlotImage, has_length, heap_bytes, has_anchor, is_hung, slot_fault_of}
 use Rattle.rh_slot.specs.declared.image.SlotFault.{SlotFault}
-use Rattle.rh_slot.specs.declared.image.SlotFault.TheVariants.{BadLength, BadHeap, BadSize, BadAnchor, SparePage}
+use Rattle.rh_slot.specs.declared.image.SlotFault.TheVariants.{BadLength, BadHeap}
 
 -- ---- a heap at another place
 

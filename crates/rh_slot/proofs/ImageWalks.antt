@@ -1,23 +1,14 @@
 -- How far a check of a slot's bytes has come.
-use Rattle.std.proofs.Common.{◌≡◌, ℕ, zero, suc, ◌+◌, ◌-◌, ◌*◌, ◌%◌, ◌<◌, ◌≤◌, true, false, leb, List, [], ◌∷◌, ◌++◌, length, refl, sym, ap, ◌∙◌}
-use Rattle.std.proofs.Common.{append_assoc, length-append, arith}
-use Rattle.std.specs.Prelude.{Some, None, nat_le}
-use Rattle.std.proofs.lemmas.Bool.Decides.{nat_tests}
-use Rattle.std.proofs.lemmas.List.{append-nil}
-use Rattle.rh_defs.specs.declared.sizes.TheConstants.{PAGE}
-use Rattle.rh_defs.specs.Bytes.{word}
-use Rattle.rh_defs.specs.Pieces.{total}
-use Rattle.rh_defs.specs.HeapImage.{IsImage, heap_of, fault_of}
-use Rattle.rh_defs.specs.Slot.{Flex, weight, flex_weight, slot_length, slot_pages, anchor_count}
-use Rattle.rh_defs.specs.SlotImage.{is_block, flex_in, heap_place}
-use Rattle.rh_defs.proofs.BytesLaws.{length-part}
-use Rattle.rh_defs.proofs.HeapLists.{eqb_apart}
+use Rattle.rh_slot.proofs.Common.{◌≡◌, ℕ, zero, suc, ◌+◌, ◌-◌, ◌*◌, ◌%◌, ◌<◌, ◌≤◌, true, false, leb, List, [], ◌∷◌, ◌++◌, length, refl, sym, ap, ◌∙◌}
+use Rattle.rh_slot.proofs.Common.{append_assoc, length-append, arith, Some, None, nat_le, nat_tests, append-nil, PAGE, word, total, fault_of, Flex, weight}
+use Rattle.rh_slot.proofs.Common.{flex_weight, slot_length, slot_pages, anchor_count, is_block, flex_in, heap_place, length-part, eqb_apart, are_hung}
+use Rattle.rh_slot.proofs.Common.{BadSize, BadAnchor, SparePage}
+use Rattle.rh_defs.specs.HeapImage.{IsImage, heap_of}
 use Rattle.rh_defs.proofs.HeapFaults.{image_clean}
 use Rattle.rh_heap.specs.Image.{summary_of}
 use Rattle.rh_heap.specs.declared.image.Summary.{Summary}
-use Rattle.rh_slot.specs.Image.{IsSlotImage, IsRow, flex_size, has_length, heap_bytes, are_hung, words_in_use, slot_fault_of, slot_summary}
+use Rattle.rh_slot.specs.Image.{IsSlotImage, IsRow, flex_size, has_length, heap_bytes, words_in_use, slot_fault_of, slot_summary}
 use Rattle.rh_slot.specs.declared.image.BlockSums.{BlockSums}
-use Rattle.rh_slot.specs.declared.image.SlotFault.TheVariants.{BadSize, BadAnchor, SparePage}
 use Rattle.rh_slot.specs.declared.image.SlotSummary.{SlotSummary}
 use Rattle.rh_slot.proofs.ImageLaws.{block_at, after, flex_in-yes, flex_in-no, weight-block_at, Length, length_from, read, blocks_from, long, heap_is}
 use Rattle.rh_slot.proofs.ImageLaws.{heap_from, is_slot, fault-size, fault-anchor, fault-page, not_true, slot_clean}

@@ -1,15 +1,13 @@
 -- A slot's blocks as they are listed, all at once.
-use Rattle.std.proofs.Common.{◌≡◌, ℕ, ◌+◌, ◌<◌, ◌≤◌, Bool, true, false, eqb, List, [], ◌∷◌, ◌++◌, length, take, refl, sym, ap, ◌∙◌, arith}
-use Rattle.std.specs.Prelude.{Some, map, slice_get, ◌||◌}
+use Rattle.rh_slot.proofs.Common.{◌≡◌, ℕ, ◌+◌, ◌<◌, ◌≤◌, Bool, true, false, eqb, List, [], ◌∷◌, ◌++◌, length, take, refl, sym, ap, ◌∙◌, arith, Some, map}
+use Rattle.rh_slot.proofs.Common.{slice_get, ◌||◌, take_all, length-take-le, Flex, Slot, weight, flex_start, IsFree, HaveAnchors, anchor_count, block_items}
+use Rattle.rh_slot.proofs.Common.{BlockItem, eqb_apart}
 use Rattle.std.specs.List.{AllByRecursion, IsDistinct, list_any}
 use Rattle.std.proofs.lemmas.Bool.{eqb-true}
-use Rattle.std.proofs.lemmas.List.{take_all, take_more, length-map, length-take-le}
+use Rattle.std.proofs.lemmas.List.{take_more, length-map}
 use Rattle.std.proofs.lemmas.Map.Steps.{length-le_from_distinct_below}
 use Rattle.std.proofs.lemmas.Option.{get_or_from_slice_get, slice_get_within}
-use Rattle.rh_defs.specs.Slot.{Flex, Slot, weight, flex_start, IsFree, HaveAnchors, anchor_count}
-use Rattle.rh_defs.specs.Listing.{block_items_from, block_items}
-use Rattle.rh_defs.specs.declared.listing.BlockItem.{BlockItem}
-use Rattle.rh_defs.proofs.HeapLists.{eqb_apart}
+use Rattle.rh_defs.specs.Listing.{block_items_from}
 
 -- ---- there are at most 64 blocks
 

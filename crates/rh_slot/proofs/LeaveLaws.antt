@@ -1,14 +1,10 @@
 -- What a call leaves, by what it is granted.
-use Rattle.std.proofs.Common.{◌≡◌, ℕ, sym, ap, subst, ◌∙◌}
-use Rattle.std.specs.Prelude.{Ok, Err}
-use Rattle.rh_defs.specs.Memory.{Memory, Edited, OnlyArea, Resized}
-use Rattle.rh_defs.specs.Chain.{Granted, answer_of, left_of}
+use Rattle.rh_slot.proofs.Common.{◌≡◌, ℕ, sym, ap, subst, ◌∙◌, Ok, Err, Memory, Edited, OnlyArea, Resized, Granted, left_of, Refusal, OnlyArea-both}
+use Rattle.rh_slot.proofs.Common.{OnlyArea-from_Edited, IsSlot, SpellsIn, slot_in, Leaves}
+use Rattle.rh_defs.specs.Chain.{answer_of}
 use Rattle.rh_defs.specs.Slot as plain
-use Rattle.rh_defs.specs.declared.refusal.Refusal.{Refusal}
-use Rattle.rh_defs.proofs.MemoryLaws.{OnlyArea-self, OnlyArea-both, OnlyArea-from_Edited}
+use Rattle.rh_defs.proofs.MemoryLaws.{OnlyArea-self}
 use Rattle.rh_slot.specs.declared.slot.Slot.{Slot}
-use Rattle.rh_slot.specs.Area.{IsSlot, SpellsIn, slot_in}
-use Rattle.rh_slot.specs.Calls.{Leaves}
 use Rattle.rh_slot.proofs.SpanLaws.{slot_now, is_slot}
 
 module _ {A : Type 0} (m n : Memory) (slot : Slot) (granted : Granted (plain.Slot × A)) where

@@ -19,3 +19,4 @@ pub mod ImageLaws
 pub mod ImageWalks
 pub mod AnchorCounts
 pub mod Examples
+pub mod Common

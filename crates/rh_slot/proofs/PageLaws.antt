@@ -1,14 +1,9 @@
 -- A flex block whose header is read in the bytes of a page.
-use Rattle.std.proofs.Common.{◌≡◌, ℕ, ◌+◌, ◌-◌, ◌/◌, ◌<◌, ◌≤◌, inl, inr, true, List, length, refl, sym, ap, ◌∙◌, arith}
-use Rattle.std.proofs.lemmas.Bool.{cases_lt}
-use Rattle.rh_defs.specs.declared.sizes.TheConstants.{PAGE}
-use Rattle.rh_defs.specs.Bytes.{word, part}
-use Rattle.rh_defs.specs.Slot.{Slot, slot_start}
-use Rattle.rh_defs.specs.SlotImage.{SlotWords, heap_place, is_block}
-use Rattle.rh_defs.specs.declared.listing.BlockItem.{BlockItem}
-use Rattle.rh_defs.proofs.BytesLaws.{length-part, word-part}
+use Rattle.rh_slot.proofs.Common.{◌≡◌, ℕ, ◌+◌, ◌-◌, ◌/◌, ◌<◌, ◌≤◌, inl, inr, true, List, length, refl, sym, ap, ◌∙◌, arith, cases_lt, PAGE, word, part, Slot}
+use Rattle.rh_slot.proofs.Common.{slot_start, SlotWords, heap_place, is_block, BlockItem, length-part, Walked, item_of}
+use Rattle.rh_defs.proofs.BytesLaws.{word-part}
 use Rattle.rh_defs.proofs.SlotImageLaws.{is_block-yes, is_block-is}
-use Rattle.rh_slot.specs.Row.{Walked, Headed, item_of}
+use Rattle.rh_slot.specs.Row.{Headed}
 use Rattle.rh_slot.proofs.WalkLaws.{Turn, turn}
 
 -- the first page has all anchor words

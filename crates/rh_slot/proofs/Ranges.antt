@@ -1,22 +1,16 @@
 -- Where the bytes of a slot's blocks lie in its area.
-use Rattle.std.proofs.Common.{◌≡◌, ℕ, ◌+◌, ◌-◌, ◌≤◌, inl, inr, List, ◌∷◌, ◌++◌, length, take, drop, refl, sym, ap, subst, ◌∙◌, arith}
-use Rattle.std.specs.Prelude.{Ok, Some, IfSome}
-use Rattle.rh_defs.specs.Bytes.{part}
-use Rattle.rh_defs.specs.Memory.{Memory, bytes}
-use Rattle.rh_defs.specs.Pieces.{Split, total}
-use Rattle.rh_defs.specs.Heap.{Segment, Used, Heap, size_of, bytes_of, base, is_block_at, block_at}
-use Rattle.rh_defs.specs.HeapImage.{Stand, Spells}
+use Rattle.rh_slot.proofs.Common.{◌≡◌, ℕ, ◌+◌, ◌-◌, ◌≤◌, inl, inr, List, ◌∷◌, ◌++◌, length, take, drop, refl, sym, ap, subst, ◌∙◌, arith, Ok, Some, IfSome}
+use Rattle.rh_slot.proofs.Common.{part, Memory, bytes, Split, total, Segment, Used, Heap, size_of, bytes_of, base, block_at, Stand, Spells, Flex, weight}
+use Rattle.rh_slot.proofs.Common.{flex_address, heap_block_at, slot_block, heap_start, slot_start, IsFree, flex_place, heap_place, sum-append, IsCut}
+use Rattle.rh_slot.proofs.Common.{first_at-cuts, IsSlot, slot_in, FoundAt}
+use Rattle.rh_defs.specs.Heap.{is_block_at}
 use Rattle.rh_defs.specs.Slot as plain
-use Rattle.rh_defs.specs.Slot.{Flex, weight, flex_address, heap_block_at, slot_block, heap_start, slot_start, IsFree}
-use Rattle.rh_defs.specs.SlotImage.{flex_place, heap_place}
 use Rattle.rh_defs.proofs.BytesLaws.{part-part, part-drop}
 use Rattle.rh_defs.proofs.BlockLaws.{block_cut}
 use Rattle.rh_defs.proofs.HeapLaws.{Stand-split}
-use Rattle.rh_defs.proofs.HeapLists.{sum-append, total-append, IsCut, first_at-cuts}
+use Rattle.rh_defs.proofs.HeapLists.{total-append}
 use Rattle.rh_defs.proofs.SlotLaws.{find}
 use Rattle.rh_slot.specs.declared.slot.Slot.{Slot}
-use Rattle.rh_slot.specs.Area.{IsSlot, slot_in}
-use Rattle.rh_slot.specs.Flex.{FoundAt}
 use Rattle.rh_slot.proofs.FlexLaws.{block_none, block_at as anchor_block}
 use Rattle.rh_slot.proofs.EditLaws.{read_bytes}
 

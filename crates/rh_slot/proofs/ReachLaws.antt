@@ -1,25 +1,22 @@
 -- Bytes at an address of a slot: the block that holds them, and a write into it.
-use Rattle.std.proofs.Common.{◌≡◌, ℕ, ◌+◌, ◌-◌, ◌%◌, ◌<◌, ◌≤◌, Bool, true, false, cond, List, [], ◌∷◌, ◌++◌, length, refl, sym, ap, subst, ◌∙◌, arith}
-use Rattle.std.proofs.lemmas.Bool.Decides.{nat_tests}
-use Rattle.std.specs.Prelude.{◌&&◌, ◌||◌, Option, Some, None, IfSome, is_some, nat_le}
-use Rattle.rh_defs.specs.Bytes.{part, put, SameOutside}
-use Rattle.rh_defs.specs.Pieces.{Split, zeros, total, first_at, with_here, written, is_inside, NonePass}
-use Rattle.rh_defs.specs.Heap.{Segment, Used, Hole, Heap, IsTidy, size_of, bytes_of, base, is_around, block_around}
-use Rattle.rh_defs.specs.HeapImage.{Stand, Spells}
+use Rattle.rh_slot.proofs.Common.{◌≡◌, ℕ, ◌+◌, ◌-◌, ◌%◌, ◌<◌, ◌≤◌, Bool, true, false, cond, List, [], ◌∷◌, ◌++◌, length, refl, sym, ap, subst, ◌∙◌, arith}
+use Rattle.rh_slot.proofs.Common.{nat_tests, ◌&&◌, ◌||◌, Option, Some, None, IfSome, is_some, nat_le, part, put, SameOutside, Split, zeros, total, written}
+use Rattle.rh_slot.proofs.Common.{Segment, Used, Hole, Heap, size_of, bytes_of, base, Stand, Spells, Slot, Flex, weight, flex_start, flex_address}
+use Rattle.rh_slot.proofs.Common.{heap_block_at, with_bytes, HaveAnchors, heap_start, SpellsSlot, flex_place, heap_place, word_same, put_outside, length-put}
+use Rattle.rh_slot.proofs.Common.{length-part, IsCut, first_at-cuts, SpellsSlot-with_heap, in_below, in_above, wider, HaveAnchors-cut}
+use Rattle.rh_defs.specs.Pieces.{first_at, with_here, is_inside, NonePass}
+use Rattle.rh_defs.specs.Heap.{IsTidy, is_around, block_around}
 use Rattle.rh_defs.specs.HeapParts.{HasRoom, last_link}
 use Rattle.rh_defs.specs.Places.{with_heap_bytes, roomy_in, buffer_at, written_in, written_around, written_heap}
-use Rattle.rh_defs.specs.Slot.{Slot, Flex, weight, flex_start, flex_address, flex_around, heap_block_at, holds, with_bytes, HaveAnchors, heap_start}
-use Rattle.rh_defs.specs.SlotImage.{SpellsSlot, flex_place, heap_place}
+use Rattle.rh_defs.specs.Slot.{flex_around, holds}
 use Rattle.rh_defs.specs.Blocks.{blank, SameShape}
 use Rattle.rh_defs.proofs.BlockLaws.{part-written}
-use Rattle.rh_defs.proofs.BytesLaws.{word_same, put-parts, put_outside, length-put, length-part}
+use Rattle.rh_defs.proofs.BytesLaws.{put-parts}
 use Rattle.rh_defs.proofs.HeapLaws.{Open-kept, Stand-split, Stand-join}
-use Rattle.rh_defs.proofs.HeapLists.{leb_no, total-append, HasRoom-append, HasRoom-from_tidy, IsCut, first_at-cuts, first_at-none, first_at-found}
+use Rattle.rh_defs.proofs.HeapLists.{leb_no, total-append, HasRoom-append, HasRoom-from_tidy, first_at-none, first_at-found}
 use Rattle.rh_defs.proofs.HeapStretch.{Stand-kept, link_place}
 use Rattle.rh_defs.proofs.ShapeLaws.{blank-append}
-use Rattle.rh_defs.proofs.SlotImageLaws.{SpellsSlot-with_heap}
 use Rattle.rh_defs.proofs.SlotKeeps.{length-written}
-use Rattle.rh_defs.proofs.SlotLaws.{in_below, in_above, wider, HaveAnchors-cut}
 use Rattle.rh_slot.proofs.EditLaws.{put_words}
 use Rattle.rh_slot.proofs.FlexLaws.{paged}
 use Rattle.rh_slot.proofs.Ranges.{HeapCut, heap_cut, cut_bytes, cut_found}

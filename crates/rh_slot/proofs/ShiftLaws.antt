@@ -1,18 +1,13 @@
 -- Blocks that slid, and the walk that writes their anchor words.
-use Rattle.std.proofs.Common.{◌≡◌, ℕ, ◌+◌, ◌-◌, ◌*◌, ◌^◌, ◌<◌, ◌≤◌, ◌≢◌, ◌⊎◌, inl, inr, List, [], ◌∷◌, ◌++◌, length, get_or, refl, sym, ap, subst, ◌∙◌}
-use Rattle.std.proofs.Common.{append_assoc, arith}
-use Rattle.std.proofs.lemmas.Bool.{cases_lt}
-use Rattle.std.proofs.lemmas.List.{append-nil}
-use Rattle.rh_defs.specs.Bytes.{word, put, put_word, part, SameOutside}
-use Rattle.rh_defs.specs.Pieces.{total}
-use Rattle.rh_defs.specs.Slot.{Flex, weight, flex_weight, IsFree, HaveAnchors, heap_start}
-use Rattle.rh_defs.specs.SlotImage.{Lie, Hang, heap_place}
-use Rattle.rh_defs.proofs.BytesLaws.{word_same, length-put, length-put_word, length-part, put_above, put_inside, put-part, put_word_outside, word-part}
-use Rattle.rh_defs.proofs.BytesLaws.{word-put_above, word-put_inside, word-put_word, SameOutside-self}
-use Rattle.rh_defs.proofs.HeapLists.{sum-append}
-use Rattle.rh_defs.proofs.SlotLaws.{wider, same_both, in_below, in_above, Lie-same, Lie-carried, Lie-unique, Hang-join, IsFree-split, HaveAnchors-cut}
-use Rattle.rh_defs.proofs.SlotLaws.{Carried, none_weigh}
-use Rattle.rh_slot.specs.Row.{Row, Hung, Shifted, Hanging, HangsApart}
+use Rattle.rh_slot.proofs.Common.{◌≡◌, ℕ, ◌+◌, ◌-◌, ◌*◌, ◌^◌, ◌<◌, ◌≤◌, ◌≢◌, ◌⊎◌, inl, inr, List, [], ◌∷◌, ◌++◌, length, get_or, refl, sym, ap, subst, ◌∙◌}
+use Rattle.rh_slot.proofs.Common.{append_assoc, arith, cases_lt, append-nil, word, put, part, SameOutside, total, Flex, weight, flex_weight, IsFree}
+use Rattle.rh_slot.proofs.Common.{HaveAnchors, heap_start, Lie, Hang, heap_place, word_same, length-put, length-part, SameOutside-self, sum-append, wider}
+use Rattle.rh_slot.proofs.Common.{same_both, in_below, in_above, Lie-same, HaveAnchors-cut, Carried, Row, Shifted, HangsApart}
+use Rattle.rh_defs.specs.Bytes.{put_word}
+use Rattle.rh_defs.proofs.BytesLaws.{length-put_word, put_above, put_inside, put-part, put_word_outside, word-part, word-put_above, word-put_inside}
+use Rattle.rh_defs.proofs.BytesLaws.{word-put_word}
+use Rattle.rh_defs.proofs.SlotLaws.{Lie-carried, Lie-unique, Hang-join, IsFree-split, none_weigh}
+use Rattle.rh_slot.specs.Row.{Hung, Hanging}
 
 pub hanging_start : (b : List ℕ) (from n : ℕ) → Row b from n → Hanging b b from n from
 hanging_start b from n r = record {

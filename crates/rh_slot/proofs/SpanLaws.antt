@@ -1,17 +1,12 @@
 -- The C heap of a slot as a span of its area.
-use Rattle.std.proofs.Common.{◌≡◌, ℕ, ◌-◌, ◌≤◌, Bool, true, false, leb, refl, sym, ap, subst, ◌∙◌}
-use Rattle.std.specs.Prelude.{◌&&◌, ◌||◌, is_some}
-use Rattle.rh_defs.specs.Slot.{heap_start}
-use Rattle.rh_defs.specs.Heap.{Heap, block_around}
+use Rattle.rh_slot.proofs.Common.{◌≡◌, ℕ, ◌-◌, ◌≤◌, Bool, true, false, leb, refl, sym, ap, subst, ◌∙◌, ◌&&◌, ◌||◌, is_some, heap_start, Heap, Memory, IsOpen}
+use Rattle.rh_slot.proofs.Common.{bytes, SpellsSlot, heap_place, slot_of, Span, heap_in, IsSlot, SpellsIn, slot_in}
+use Rattle.rh_defs.specs.Heap.{block_around}
 use Rattle.rh_defs.proofs.HeapLists.{leb_yes}
-use Rattle.rh_defs.specs.Memory.{Memory, IsOpen, bytes}
 use Rattle.rh_defs.specs.Slot as plain
-use Rattle.rh_defs.specs.SlotImage.{SpellsSlot, heap_place, slot_of}
 use Rattle.rh_defs.proofs.SlotImageLaws.{slot_of-SlotWords, slot_of-SpellsSlot, SpellsSlot-budging}
-use Rattle.rh_heap.specs.declared.span.Span.{Span}
-use Rattle.rh_heap.specs.Spans.{IsSpan, heap_in}
+use Rattle.rh_heap.specs.Spans.{IsSpan}
 use Rattle.rh_slot.specs.declared.slot.Slot.{Slot}
-use Rattle.rh_slot.specs.Area.{IsSlot, SpellsIn, slot_in}
 
 abbrev pub span_of : Slot → Span
 span_of slot = record { area = slot.area; at = heap_place }

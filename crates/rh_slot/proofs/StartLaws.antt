@@ -1,21 +1,14 @@
 -- A slot with no block in a new page of zeros.
-use Rattle.std.proofs.Common.{◌≡◌, ◌≢◌, ℕ, ◌*◌, ◌<◌, List, ◌++◌, length, replicate, refl, sym, ap, subst, ◌∙◌, arith}
-use Rattle.std.proofs.lemmas.List.{length-replicate}
-use Rattle.std.specs.Prelude.{Option, Some, None, IsNone, Result, Ok, Err, OnOk, IsOk, IsErr, ◌↔◌}
-use Rattle.rh_defs.specs.declared.sizes.TheConstants.{PAGE}
-use Rattle.rh_defs.specs.Bytes.{word}
-use Rattle.rh_defs.specs.Memory.{Memory, IsOpen, OnlyArea, Edited, bytes, opened, grown}
-use Rattle.rh_defs.specs.Chain.{outcome_of, ◌>>=◌, refuse_if}
+use Rattle.rh_slot.proofs.Common.{◌≡◌, ◌≢◌, ℕ, ◌*◌, ◌<◌, List, ◌++◌, length, replicate, refl, sym, ap, subst, ◌∙◌, arith, length-replicate, Option, Some}
+use Rattle.rh_slot.proofs.Common.{None, IsNone, Result, Ok, Err, OnOk, IsOk, IsErr, ◌↔◌, PAGE, word, Memory, IsOpen, OnlyArea, Edited, bytes, ◌>>=◌}
+use Rattle.rh_slot.proofs.Common.{refuse_if, Spells, SpellsSlot, heap_place, NoRoom, word_same, OnlyArea-both, in_below, ltb_no}
+use Rattle.rh_defs.specs.Memory.{opened, grown}
+use Rattle.rh_defs.specs.Chain.{outcome_of}
 use Rattle.rh_defs.specs.Heap.{empty_heap}
-use Rattle.rh_defs.specs.HeapImage.{Spells}
 use Rattle.rh_defs.specs.Slot.{new_slot, slot_begin}
-use Rattle.rh_defs.specs.SlotImage.{SpellsSlot, heap_place}
-use Rattle.rh_defs.specs.declared.refusal.Refusal.TheVariants.{NoRoom}
-use Rattle.rh_defs.proofs.BytesLaws.{word_same, word-zeros}
+use Rattle.rh_defs.proofs.BytesLaws.{word-zeros}
 use Rattle.rh_defs.proofs.MemoryLaws.{bytes-none, bytes-opened, bytes-grown, area-opened, free-opened, pages-opened, loan-opened, IsOpen-opened, IsOpen-grown}
-use Rattle.rh_defs.proofs.MemoryLaws.{OnlyArea-both, OnlyArea-grown}
-use Rattle.rh_defs.proofs.SlotLaws.{in_below}
-use Rattle.rh_defs.proofs.HeapLists.{ltb_no}
+use Rattle.rh_defs.proofs.MemoryLaws.{OnlyArea-grown}
 
 -- what a slot's begin answers
 pub begin_refused : (free : ℕ) → free ≡ 0 → Err NoRoom ≡ outcome_of (slot_begin free)

@@ -1,20 +1,15 @@
 -- One turn of the walk over a slot's flex blocks, and how it ends.
-use Rattle.std.proofs.Common.{◌≡◌, ℕ, zero, suc, ◌+◌, ◌-◌, ◌*◌, ◌/◌, ◌<◌, ◌≤◌, Bool, true, false, List, [], ◌∷◌, ◌++◌, length, refl, sym, ap, subst, ◌∙◌}
-use Rattle.std.proofs.Common.{append_assoc, arith, length-append, take, drop}
-use Rattle.std.specs.Prelude.{Some, None, is_some, slice_get}
-use Rattle.rh_defs.specs.declared.sizes.TheConstants.{PAGE}
-use Rattle.rh_defs.specs.Bytes.{word}
-use Rattle.rh_defs.specs.Pieces.{total, first_at, is_inside, NonePass}
-use Rattle.rh_defs.specs.Slot.{Flex, Slot, weight, flex_weight, slot_start, slot_length, flex_start, flex_around, HaveAnchors, anchor_count}
-use Rattle.rh_defs.specs.SlotImage.{Lie, Hang, SlotWords, SpellsSlot, flex_place, is_block}
-use Rattle.rh_defs.specs.Listing.{block_items_from, block_items}
-use Rattle.rh_defs.specs.declared.listing.BlockItem.{BlockItem}
+use Rattle.rh_slot.proofs.Common.{◌≡◌, ℕ, zero, suc, ◌+◌, ◌-◌, ◌*◌, ◌/◌, ◌<◌, ◌≤◌, Bool, true, false, List, [], ◌∷◌, ◌++◌, length, refl, sym, ap, subst, ◌∙◌}
+use Rattle.rh_slot.proofs.Common.{append_assoc, arith, length-append, take, drop, Some, None, is_some, slice_get, PAGE, word, total, Flex, Slot, weight}
+use Rattle.rh_slot.proofs.Common.{flex_weight, slot_start, slot_length, flex_start, HaveAnchors, anchor_count, Lie, Hang, SlotWords, SpellsSlot, flex_place}
+use Rattle.rh_slot.proofs.Common.{is_block, block_items, BlockItem, Lie-split, Hang-split, HaveAnchors-cut, Walked, item_of, WalksIn, length-take-le}
+use Rattle.rh_defs.specs.Pieces.{first_at, is_inside, NonePass}
+use Rattle.rh_defs.specs.Slot.{flex_around}
+use Rattle.rh_defs.specs.Listing.{block_items_from}
 use Rattle.rh_defs.proofs.Cuts.{total-append}
 use Rattle.rh_defs.proofs.HeapLists.{NonePass-append, first_at-none, first_at-found}
-use Rattle.rh_defs.proofs.SlotLaws.{Lie-split, Hang-split, HaveAnchors-cut}
 use Rattle.rh_defs.proofs.SlotImageLaws.{is_block-here, is_block-top}
-use Rattle.rh_slot.specs.Row.{Walked, item_of, WalksIn}
-use Rattle.std.proofs.lemmas.List.{take-append-drop, length-take-le}
+use Rattle.std.proofs.lemmas.List.{take-append-drop}
 use Rattle.std.proofs.Math.Seq.{take-append_seam}
 use Rattle.rh_slot.specs.declared.row.FlexWalk.{FlexWalk}
 

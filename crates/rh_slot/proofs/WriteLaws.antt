@@ -1,25 +1,13 @@
 -- Bytes of the store are copied into a slot's block.
-use Rattle.std.proofs.Common.{◌≡◌, ℕ, ◌+◌, ◌≤◌, List, length, refl, sym, ap, subst, ◌∙◌, arith}
-use Rattle.std.specs.Prelude.{Ok, Option, Some, None, IfSome}
+use Rattle.rh_slot.proofs.Common.{◌≡◌, ℕ, ◌+◌, ◌≤◌, List, length, refl, sym, ap, subst, ◌∙◌, arith, Ok, Option, Some, None, IfSome, put, Granted, no_answer}
+use Rattle.rh_slot.proofs.Common.{Heap, Memory, bytes, Split, Flex, slot_put, SpellsSlot, length-put, bytes-with_bytes, OnlyArea-from_Edited, heap_in, Span}
+use Rattle.rh_slot.proofs.Common.{IsSlot, slot_in, Leaves, FoundAt}
 use Rattle.rh_defs.specs.Blocks.{SameShape}
-use Rattle.rh_defs.specs.Bytes.{put}
-use Rattle.rh_defs.specs.Chain.{Granted, no_answer}
-use Rattle.rh_defs.specs.Heap.{Heap}
-use Rattle.rh_defs.specs.Memory.{Memory, bytes, with_bytes}
-use Rattle.rh_defs.specs.Pieces.{Split}
+use Rattle.rh_defs.specs.Memory.{with_bytes}
 use Rattle.rh_defs.specs.Slot as plain
-use Rattle.rh_defs.specs.Slot.{Flex, slot_put}
-use Rattle.rh_defs.specs.SlotImage.{SpellsSlot}
-use Rattle.rh_defs.proofs.BytesLaws.{length-put}
-use Rattle.rh_defs.proofs.MemoryLaws.{bytes-with_bytes, OnlyArea-from_Edited}
-use Rattle.rh_heap.specs.Spans.{heap_in}
-use Rattle.rh_heap.specs.declared.span.Span.{Span}
 use Rattle.rh_heap.proofs.MapShapes.{index_shape}
 use Rattle.rh_store.specs.Starts.{IsIndex}
 use Rattle.rh_slot.specs.declared.slot.Slot.{Slot}
-use Rattle.rh_slot.specs.Area.{IsSlot, slot_in}
-use Rattle.rh_slot.specs.Calls.{Leaves}
-use Rattle.rh_slot.specs.Flex.{FoundAt}
 use Rattle.rh_slot.proofs.AreaLaws.{Edited-put}
 use Rattle.rh_slot.proofs.EditLaws.{put_words, put_at}
 use Rattle.rh_slot.proofs.FlexLaws.{paged}

@@ -1,28 +1,8 @@
 -- Whether a DataSave is taken, by what the task's slot and the queue answer.
-use Rattle.std.proofs.Common.{◌≡◌, ℕ, ◌-◌, ◌≤◌, ◌<◌, false, ap, sym, ◌∙◌, arith, List, inl, inr}
-use Rattle.std.specs.Prelude.{Ok, Err, is_ok, nat_le}
-use Rattle.std.proofs.lemmas.Bool.{cases_lt}
-use Rattle.rh_defs.specs.Memory.{Memory}
-use Rattle.rh_defs.specs.Files.{FileList}
-use Rattle.rh_defs.specs.declared.message.Letter.{Letter}
-use Rattle.rh_defs.specs.declared.message.Message.{Message}
-use Rattle.rh_defs.specs.declared.refusal.Refusal.{Refusal}
-use Rattle.rh_defs.specs.Chain.{Granted}
-use Rattle.rh_defs.specs.Slot.{slot_take_pages}
-use Rattle.rh_defs.specs.Messages.{Parcel}
-use Rattle.rh_defs.specs.Letters.{fetch_letter}
-use Rattle.rh_defs.specs.Post.{post_send_pages}
-use Rattle.rh_defs.specs.Desk.{Desk, Task}
-use Rattle.rh_defs.specs.IncomingEvents.{accept}
-use Rattle.rh_slot.specs.Area.{slot_in}
-use Rattle.rh_wimp.specs.Calls.{Answers}
-use Rattle.rh_tasks.specs.declared.seat.Seat.{Seat}
-use Rattle.rh_tasks.specs.declared.made.MadeArea.{MadeArea}
-use Rattle.rh_tasks.specs.View.{Kept, the_module, task_of, desk_of, IsWorld}
-use Rattle.rh_tasks.specs.Polls.{IsFor, IsFreeAnchor}
-use Rattle.rh_tasks.proofs.Lists.{Sits}
-use Rattle.rh_tasks.proofs.Chains.{le-true, le-false}
-use Rattle.rh_tasks.proofs.Worlds.{free-is}
+use Rattle.rh_tasks.proofs.Common.{◌≡◌, ℕ, ◌-◌, ◌≤◌, ◌<◌, false, ap, sym, ◌∙◌, arith, List, inl, inr, Ok, Err, is_ok, nat_le, cases_lt, Memory, FileList}
+use Rattle.rh_tasks.proofs.Common.{Letter, Message, Refusal, Granted, slot_take_pages, Parcel, fetch_letter, post_send_pages, Desk, Task, accept, slot_in}
+use Rattle.rh_tasks.proofs.Common.{Answers, Seat, MadeArea, Kept, the_module, task_of, desk_of, IsWorld, IsFor, IsFreeAnchor, Sits, le-true, le-false}
+use Rattle.rh_tasks.proofs.Common.{free-is}
 use Rattle.rh_tasks.proofs.Posts.{is-post}
 use Rattle.rh_tasks.proofs.Slides.{seat-is}
 use Rattle.rh_tasks.proofs.Accepts.{the_fetch, accept-no_buffer, accept-no_fetch, accept-fits, accept-lacks}

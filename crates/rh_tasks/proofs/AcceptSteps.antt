@@ -1,39 +1,16 @@
 -- The steps by which a DataSave is taken, once all of them are known to be granted.
-use Rattle.std.proofs.Common.{◌≡◌, ℕ, ◌<◌, Bool, true, false, refl, ap, sym, subst, ◌∙◌, inl, inr, List, [], ◌∷◌, length}
-use Rattle.std.specs.Prelude.{Option, Some, None, Result, Ok, Err, IsOk, IsErr, is_ok, is_err, slice_get}
-use Rattle.std.proofs.lemmas.Bool.{cases_eq}
-use Rattle.std.proofs.lemmas.Option.{slice_get_within}
-use Rattle.rh_defs.specs.Memory.{Memory}
-use Rattle.rh_defs.specs.Files.{FileList}
-use Rattle.rh_defs.specs.declared.message.EventCode.TheVariants.{User}
-use Rattle.rh_defs.specs.declared.message.Letter.{Letter}
-use Rattle.rh_defs.specs.declared.message.Message.{Message}
-use Rattle.rh_defs.specs.declared.refusal.Refusal.{Refusal}
+use Rattle.rh_tasks.proofs.Common.{◌≡◌, ℕ, ◌<◌, Bool, true, false, refl, ap, sym, subst, ◌∙◌, inl, inr, List, [], ◌∷◌, length, Option, Some, None, Result, Ok}
+use Rattle.rh_tasks.proofs.Common.{Err, IsOk, IsErr, is_ok, is_err, slice_get, cases_eq, slice_get_within, Memory, FileList, User, Letter, Message, Refusal}
+use Rattle.rh_tasks.proofs.Common.{Granted, ◌>>=◌, found_or, Slot, slot_alloc, slot_claim, Parcel, fetch_letter, is_going, is_full, Desk, Task, next_ref}
+use Rattle.rh_tasks.proofs.Common.{free_pages, edit_task, with_task, with_slot, with_taking, send_letter, Handled, accept, IsDesk, IsReordered, slot_in, Seat}
+use Rattle.rh_tasks.proofs.Common.{MadeArea, Shown, Kept, task_of, shown_of, IsWorld, IsAt, IsFor, IsFreeAnchor, Becomes, Sends, Sits, begins, ends, if_same}
+use Rattle.rh_tasks.proofs.Common.{if_apart, reordered-at, edit-alike}
 use Rattle.rh_defs.specs.declared.refusal.Refusal.TheVariants.{AnchorInUse}
 use Rattle.rh_defs.specs.declared.reply.Outcome.TheVariants as outcome
-use Rattle.rh_defs.specs.Chain.{Granted, ◌>>=◌, found_or}
-use Rattle.rh_defs.specs.Slot.{Slot, slot_alloc, slot_claim}
-use Rattle.rh_defs.specs.Messages.{Parcel}
-use Rattle.rh_defs.specs.Letters.{fetch_letter}
 use Rattle.rh_defs.specs.Places.{free_anchor}
-use Rattle.rh_defs.specs.Records.{is_going, is_full}
-use Rattle.rh_defs.specs.Desk.{Desk, Task, next_ref, free_pages, edit_task, with_task, with_slot, with_taking, send_letter}
-use Rattle.rh_defs.specs.OutgoingEvents.{Handled}
-use Rattle.rh_defs.specs.IncomingEvents.{accept}
 use Rattle.rh_defs.specs.Receiver as receiver
-use Rattle.rh_defs.specs.Laws.{IsDesk}
-use Rattle.rh_defs.specs.Order.{IsReordered}
-use Rattle.rh_slot.specs.Area.{slot_in}
-use Rattle.rh_tasks.specs.declared.seat.Seat.{Seat}
-use Rattle.rh_tasks.specs.declared.made.MadeArea.{MadeArea}
-use Rattle.rh_tasks.specs.Shown.{Shown}
-use Rattle.rh_tasks.specs.View.{Kept, task_of, shown_of, IsWorld}
-use Rattle.rh_tasks.specs.Polls.{IsAt, IsFor, IsFreeAnchor, Claims, Becomes, Sends, with_document}
-use Rattle.rh_tasks.proofs.Lists.{Sits}
-use Rattle.rh_tasks.proofs.Chains.{begins, ends}
-use Rattle.rh_tasks.proofs.Frames.{if_same, if_apart}
-use Rattle.rh_tasks.proofs.Places.{edited-at, edited-is, reordered-at, one-at}
-use Rattle.rh_tasks.proofs.Reorders.{edit-alike}
+use Rattle.rh_tasks.specs.Polls.{Claims, with_document}
+use Rattle.rh_tasks.proofs.Places.{edited-at, edited-is, one-at}
 use Rattle.rh_tasks.proofs.Buffers.{seat-task, seat-handle, seat-buffer, seat-there}
 use Rattle.rh_tasks.proofs.Accepts.{ok-begins, ok-ends, the_fetch, after_fetch, after_document, after_buffer, accept-is, sent_desk}
 

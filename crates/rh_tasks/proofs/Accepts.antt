@@ -1,28 +1,15 @@
 -- A DataSave that is taken: a buffer, an empty document and a fetch, all granted or none.
-use Rattle.std.proofs.Common.{◌≡◌, ℕ, ◌+◌, ◌-◌, ◌≤◌, ◌<◌, Bool, true, false, refl, ap, ◌∙◌, arith, inl, inr}
-use Rattle.std.specs.Prelude.{Some, Ok, Err, is_ok}
-use Rattle.std.proofs.lemmas.Bool.{cases_lt}
-use Rattle.rh_defs.specs.declared.message.Letter.{Letter}
-use Rattle.rh_defs.specs.declared.refusal.Refusal.{Refusal}
-use Rattle.rh_defs.specs.declared.refusal.Refusal.TheVariants.{AnchorInUse, NoRoom}
+use Rattle.rh_tasks.proofs.Common.{◌≡◌, ℕ, ◌+◌, ◌-◌, ◌≤◌, ◌<◌, Bool, true, false, refl, ap, ◌∙◌, arith, inl, inr, Some, Ok, Err, is_ok, cases_lt, Letter}
+use Rattle.rh_tasks.proofs.Common.{Refusal, NoRoom, Granted, ◌>>=◌, found_or, pages_for, need, claim_growing, Slot, slot_length, slot_alloc, slot_claim}
+use Rattle.rh_tasks.proofs.Common.{slot_take_pages, Parcel, fetch_letter, Post, post_send, post_send_pages, Desk, Task, next_ref, free_pages, with_task}
+use Rattle.rh_tasks.proofs.Common.{with_slot, with_taking, with_post, send_letter, Handled, accept, IsDesk, IsAt, IsFreeAnchor, begins, ends}
+use Rattle.rh_defs.specs.declared.refusal.Refusal.TheVariants.{AnchorInUse}
 use Rattle.rh_defs.specs.declared.reply.Outcome.TheVariants as outcome
-use Rattle.rh_defs.specs.Chain.{Granted, ◌>>=◌, found_or}
-use Rattle.rh_defs.specs.Pieces.{pages_for}
-use Rattle.rh_defs.specs.Heap.{need, claim_growing}
-use Rattle.rh_defs.specs.Slot.{Slot, flex_weight, slot_length, slot_pages, slot_alloc, slot_claim, slot_take_pages}
-use Rattle.rh_defs.specs.Messages.{Parcel}
-use Rattle.rh_defs.specs.Letters.{fetch_letter}
-use Rattle.rh_defs.specs.Post.{Post, post_send, post_send_pages}
-use Rattle.rh_defs.specs.Desk.{Desk, Task, next_ref, free_pages, with_task, with_slot, with_taking, with_post, send_letter}
-use Rattle.rh_defs.specs.OutgoingEvents.{Handled}
-use Rattle.rh_defs.specs.IncomingEvents.{accept}
+use Rattle.rh_defs.specs.Slot.{flex_weight, slot_pages}
 use Rattle.rh_defs.specs.Receiver as receiver
-use Rattle.rh_defs.specs.Laws.{IsDesk}
 use Rattle.rh_defs.proofs.Desks.{with_slot-pages}
 use Rattle.rh_defs.proofs.ModuleKeeps.{claim_growing-end}
 use Rattle.rh_defs.proofs.SlotRooms.{length-with_zeros, pages-with_heap}
-use Rattle.rh_tasks.specs.Polls.{IsAt, IsFreeAnchor}
-use Rattle.rh_tasks.proofs.Chains.{begins, ends}
 use Rattle.rh_tasks.proofs.SendRooms.{where_free, sent_post, send-refused, send-fits, send-lacks, fetch-pages}
 use Rattle.rh_tasks.proofs.Rooms.{free-given, free-lacking, claimed, both_pages, claim-by_pages, take-is, documented, alloc-by_pages, unused-above}
 use Rattle.rh_tasks.proofs.Rooms.{anchor-unused}

@@ -1,17 +1,14 @@
 -- Addresses that calls answer are small.
-use Rattle.std.proofs.Common.{◌≡◌, ℕ, ◌+◌, ◌-◌, ◌<◌, ◌≤◌, ◌^◌, Bool, refl, subst, arith, List, [], ◌∷◌, length}
-use Rattle.std.proofs.Common.{SFits, w32}
-use Rattle.std.proofs.lemmas.Int.{ints}
-use Rattle.std.specs.Prelude.{ℤ, pos, negsuc, Option, Some, None, IfSome, Ok, nat_le, nat_lt, ◌==◌}
-use Rattle.rh_defs.specs.Chain.{Granted}
-use Rattle.rh_defs.specs.Pieces.{Split, zeros}
-use Rattle.rh_defs.specs.Heap.{Segment, Heap, Way, Stays, Shrinks, GrowsIntoHole, GrowsAtTop, MovesToHole, MovesToTop, Used, Hole, size_of, base, first_place}
-use Rattle.rh_defs.specs.Heap.{place_after, block_at, hole_for, is_block_at, is_hole_for, placed_in, raised, need, claim_growing, block_room, way_to}
-use Rattle.rh_defs.specs.Heap.{way_to_grow, way_beyond, resized_by, resize_growing, resize_need, segment_size, fitted, bytes_of, new_size}
-use Rattle.rh_defs.specs.Module.{whole_pages, module_claim, module_resize, module_change}
-use Rattle.rh_defs.specs.Slot.{Slot, slot_alloc, slot_claim, slot_resize, slot_length, heap_block_at, heap_start}
-use Rattle.rh_defs.proofs.Cuts.{IsCut, first_at-cuts, cut-total}
-use Rattle.rh_defs.proofs.Chains.{OnGrant, granted, refused, granted-with, granted-unless, found_or-grants, chosen}
+use Rattle.rh_tasks.proofs.Common.{◌≡◌, ℕ, ◌+◌, ◌-◌, ◌<◌, ◌≤◌, ◌^◌, Bool, refl, subst, arith, List, [], ◌∷◌, length, SFits, w32, ints, ℤ, pos, negsuc, Option}
+use Rattle.rh_tasks.proofs.Common.{Some, None, IfSome, Ok, nat_le, nat_lt, ◌==◌, Granted, Split, zeros, Segment, Heap, Used, Hole, size_of, base, first_place}
+use Rattle.rh_tasks.proofs.Common.{block_at, need, claim_growing, bytes_of, module_claim, module_resize, module_change, Slot, slot_alloc, slot_claim}
+use Rattle.rh_tasks.proofs.Common.{slot_length, heap_block_at, heap_start, IsCut, first_at-cuts, cut-total, OnGrant}
+use Rattle.rh_defs.specs.Heap.{Way, Stays, Shrinks, GrowsIntoHole, GrowsAtTop, MovesToHole, MovesToTop, place_after, hole_for, is_block_at, is_hole_for}
+use Rattle.rh_defs.specs.Heap.{placed_in, raised, block_room, way_to, way_to_grow, way_beyond, resized_by, resize_growing, resize_need, segment_size, fitted}
+use Rattle.rh_defs.specs.Heap.{new_size}
+use Rattle.rh_defs.specs.Module.{whole_pages}
+use Rattle.rh_defs.specs.Slot.{slot_resize}
+use Rattle.rh_defs.proofs.Chains.{granted, refused, granted-with, granted-unless, found_or-grants, chosen}
 
 -- a cut lies below the base
 cut-low : (h : Heap) {test : ℕ → Segment → Bool} {s : Split Segment} → IsCut size_of test first_place h.segments s → place_after s.before + 4 ≤ base h + 4

@@ -1,22 +1,12 @@
 -- A block of a slot that gets bytes from elsewhere in the store at its end.
-use Rattle.std.proofs.Common.{◌≡◌, ℕ, ◌-◌, ◌<◌, ◌≤◌, refl, ap, sym, ◌∙◌, arith, inl, inr, List, [], ◌∷◌, length, take}
-use Rattle.std.specs.Prelude.{◌⊎◌, Option, Some, None, Ok, Err, min}
-use Rattle.std.specs.Option.{option_map, ok_or}
-use Rattle.std.proofs.lemmas.Bool.{cases_lt}
-use Rattle.std.proofs.lemmas.List.{length-take, take_all}
+use Rattle.rh_tasks.proofs.Common.{◌≡◌, ℕ, ◌-◌, ◌<◌, ◌≤◌, refl, ap, sym, ◌∙◌, arith, inl, inr, List, [], ◌∷◌, length, take, ◌⊎◌, Option, Some, None, Ok, Err}
+use Rattle.rh_tasks.proofs.Common.{min, option_map, cases_lt, length-take, take_all, part, Memory, bytes, Refusal, NoBlock, NotABlock, Granted, Split}
+use Rattle.rh_tasks.proofs.Common.{Segment, bytes_of, block_size, Slot, Flex, HaveAnchors, slot_start, heap_start, heap_block_at, slot_size, anchor_count}
+use Rattle.rh_tasks.proofs.Common.{first_bytes, IsSlot, slot_in, slot_append}
+use Rattle.std.specs.Option.{ok_or}
 use Rattle.rh_defs.specs.SlotImage.{heap_place}
-use Rattle.rh_defs.specs.Bytes.{part}
-use Rattle.rh_defs.specs.Memory.{Memory, bytes}
-use Rattle.rh_defs.specs.declared.refusal.Refusal.{Refusal}
-use Rattle.rh_defs.specs.declared.refusal.Refusal.TheVariants.{NoBlock, NotABlock}
-use Rattle.rh_defs.specs.Chain.{Granted}
-use Rattle.rh_defs.specs.Pieces.{Split}
-use Rattle.rh_defs.specs.Heap.{Segment, bytes_of, block_size}
-use Rattle.rh_defs.specs.Slot.{Slot, Flex, IsFree, HaveAnchors, slot_start, heap_start, heap_block_at, slot_size, anchor_count}
-use Rattle.rh_defs.specs.Places.{first_bytes}
+use Rattle.rh_defs.specs.Slot.{IsFree}
 use Rattle.rh_slot.specs.declared.slot.Slot as code
-use Rattle.rh_slot.specs.Area.{IsSlot, slot_in}
-use Rattle.rh_slot.specs.Flex.{slot_append}
 use Rattle.rh_slot.proofs.AppendLaws.{append_none}
 use Rattle.rh_slot.proofs.FlexLaws.{size_none}
 use Rattle.rh_slot.proofs.Ranges.{heap-part, heap-low}

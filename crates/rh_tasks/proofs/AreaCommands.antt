@@ -1,33 +1,19 @@
 -- Areas that get longer or shorter by whole pages.
-use Rattle.std.proofs.Common.{◌≡◌, ◌≢◌, ℕ, ◌+◌, ◌-◌, ◌*◌, ◌/◌, ◌%◌, ◌<◌, ◌≤◌, Bool, true, false, inl, inr, refl, ap, subst, sym, ◌∙◌, arith, List, length}
-use Rattle.std.specs.Prelude.{ℤ, pos, negsuc, map, Ok, Err, Option, Some, None, nat_lt, ◌==◌, slice_set, slice_index}
-use Rattle.std.proofs.lemmas.Bool.{cases_eq}
-use Rattle.std.proofs.lemmas.List.{length-take}
-use Rattle.std.proofs.lemmas.Bool.Decides.{nat_tests}
+use Rattle.rh_tasks.proofs.Common.{◌≡◌, ◌≢◌, ℕ, ◌+◌, ◌-◌, ◌*◌, ◌/◌, ◌%◌, ◌<◌, ◌≤◌, Bool, true, false, inl, inr, refl, ap, subst, sym, ◌∙◌, arith, List}
+use Rattle.rh_tasks.proofs.Common.{length, ℤ, pos, negsuc, map, Ok, Err, Option, Some, None, nat_lt, ◌==◌, slice_set, slice_index, cases_eq, length-take}
+use Rattle.rh_tasks.proofs.Common.{nat_tests, ints, position, PAGE, Memory, OnlyArea, bytes, FileList, Refusal, NoRoom, ◌>>=◌, ◌>>◌, refuse_if, page}
+use Rattle.rh_tasks.proofs.Common.{pages_for, in_range, Desk, free_pages, Seat, MadeArea, ScrapFile, Kept, pages_at, made_of, fixed_pages, scrap_size}
+use Rattle.rh_tasks.proofs.Common.{scrap_of, desk_of, IsWorld, begins, ends, past, stops, granted-same, lt-true, lt-false, free-is, granted-keeps, if_apart}
+use Rattle.rh_tasks.proofs.Common.{if_same, scrap-fits}
 use Rattle.std.specs.Int.Signed.{lt_z}
-use Rattle.std.proofs.lemmas.Int.{ints}
-use Rattle.std.specs.List.{position}
 use borrow.Author.Tests.{ltb-false}
-use Rattle.rh_defs.specs.declared.sizes.TheConstants.{PAGE}
-use Rattle.rh_defs.specs.Memory.{Memory, OnlyArea, bytes}
-use Rattle.rh_defs.specs.Files.{FileList}
 use Rattle.rh_defs.specs.declared.command.Command.TheVariants as command
-use Rattle.rh_defs.specs.declared.refusal.Refusal.{Refusal}
-use Rattle.rh_defs.specs.declared.refusal.Refusal.TheVariants.{ExcessiveShrink, NoRoom, NoArea, TooBig}
+use Rattle.rh_defs.specs.declared.refusal.Refusal.TheVariants.{ExcessiveShrink, NoArea, TooBig}
 use Rattle.rh_defs.specs.declared.reply.Reply.TheVariants as reply
-use Rattle.rh_defs.specs.Chain.{◌>>=◌, ◌>>◌, refuse_if}
-use Rattle.rh_defs.specs.Pieces.{page, pages_for, lacks_pages}
+use Rattle.rh_defs.specs.Pieces.{lacks_pages}
 use Rattle.rh_defs.specs.Module.{whole_pages, changed_length}
-use Rattle.rh_defs.specs.Range.{in_range}
-use Rattle.rh_defs.specs.Desk.{Desk, free_pages}
 use Rattle.rh_defs.specs.Commands.{pages_after, least_length, file_length, shrinks_below, change_pages, change_made, change_area, with_pages}
-use Rattle.rh_tasks.specs.declared.seat.Seat.{Seat}
-use Rattle.rh_tasks.specs.declared.made.MadeArea.{MadeArea}
-use Rattle.rh_tasks.specs.declared.scrap.ScrapFile.{ScrapFile}
-use Rattle.rh_tasks.specs.View.{Kept, pages_at, made_of, fixed_pages, scrap_size, scrap_of, desk_of, has_number, IsWorld}
-use Rattle.rh_tasks.proofs.Chains.{begins, ends, past, stops, granted-same, lt-true, lt-false}
-use Rattle.rh_tasks.proofs.Worlds.{free-is, granted-keeps}
-use Rattle.rh_tasks.proofs.Frames.{if_apart, if_same, scrap-fits}
+use Rattle.rh_tasks.specs.View.{has_number}
 use Rattle.rh_tasks.proofs.Fixed.{KeepsFirst, fixed-at, fixed-desk, fixed-world, length-fixed, pages-of}
 use Rattle.rh_tasks.proofs.Mades.{made-desk, made-world}
 use Rattle.rh_tasks.proofs.MadeCommands.{HasMade, made-found}

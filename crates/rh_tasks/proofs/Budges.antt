@@ -1,27 +1,12 @@
 -- The flag for budging of a task's slot.
-use Rattle.std.proofs.Common.{◌≡◌, ℕ, Bool, refl, ap, sym, ◌∙◌, List}
-use Rattle.std.specs.Prelude.{Ok, true}
-use Rattle.std.proofs.Math.ListN.{set}
-use Rattle.rh_defs.specs.Memory.{Memory}
-use Rattle.rh_defs.proofs.MemoryLaws.{OnlyArea-self}
-use Rattle.rh_defs.specs.Files.{FileList}
+use Rattle.rh_tasks.proofs.Common.{◌≡◌, ℕ, Bool, refl, ap, sym, ◌∙◌, List, Ok, true, set, Memory, OnlyArea-self, FileList, in_range, with_slot, IsSlot}
+use Rattle.rh_tasks.proofs.Common.{slot_in, Seat, MadeArea, Kept, desk_of, task_of, IsWorld, HasSlot, Found, all-at, begins, granted-same, sits, named-is}
+use Rattle.rh_tasks.proofs.Common.{granted-keeps, Moves, moved-desk, moved-world}
 use Rattle.rh_defs.specs.declared.reply.Reply.TheVariants as reply
 use Rattle.rh_defs.specs.declared.command.Command.TheVariants as command
-use Rattle.rh_defs.specs.Range.{in_range}
 use Rattle.rh_defs.specs.Slot as plain
-use Rattle.rh_defs.specs.Desk.{with_slot}
 use Rattle.rh_defs.specs.Commands.{budge}
 use Rattle.rh_slot.specs.declared.slot.Slot.{Slot}
-use Rattle.rh_slot.specs.Area.{IsSlot, slot_in}
-use Rattle.rh_tasks.specs.declared.seat.Seat.{Seat}
-use Rattle.rh_tasks.specs.declared.made.MadeArea.{MadeArea}
-use Rattle.rh_tasks.specs.View.{Kept, desk_of, task_of, IsWorld, HasSlot}
-use Rattle.rh_tasks.specs.Finding.{Found}
-use Rattle.rh_tasks.proofs.Lists.{all-at}
-use Rattle.rh_tasks.proofs.Chains.{begins, granted-same}
-use Rattle.rh_tasks.proofs.Finding.{sits, named-is}
-use Rattle.rh_tasks.proofs.Worlds.{granted-keeps}
-use Rattle.rh_tasks.proofs.Moves.{Moves, moved-desk, moved-world}
 
 -- a slot with another flag
 pub record Flagged (m : Memory) (old new : Slot) (on was : Bool) : Type 0 where

@@ -1,35 +1,17 @@
 -- A world in which the slot of the task at a place has changed.
-use Rattle.std.proofs.Common.{◌≡◌, ℕ, ◌<◌, refl, ap, sym, subst, ◌∙◌, arith, List, length}
-use Rattle.std.specs.Prelude.{Ok, Err, slice_get}
-use Rattle.std.proofs.Math.ListN.{get_or, set}
-use Rattle.std.proofs.lemmas.List.{length-map}
-use Rattle.rh_defs.specs.Memory.{Memory, OnlyArea}
-use Rattle.rh_defs.specs.Files.{FileList}
-use Rattle.rh_defs.specs.declared.refusal.Refusal.{Refusal}
-use Rattle.rh_defs.specs.Chain.{Granted, ◌>>=◌, no_answer, left_of, result_or}
+use Rattle.rh_tasks.proofs.Common.{◌≡◌, ℕ, ◌<◌, refl, ap, sym, subst, ◌∙◌, arith, List, length, Ok, Err, slice_get, get_or, set, length-map, Memory, OnlyArea}
+use Rattle.rh_tasks.proofs.Common.{FileList, Refusal, Granted, ◌>>=◌, no_answer, left_of, result_or, slot_put, heap_block_at, first_bytes, Desk, Task}
+use Rattle.rh_tasks.proofs.Common.{free_pages, with_task, with_slot, IsDesk, appended, OnGrant, IsRoomed, IsSlot, slot_in, Leaves, Seat, MadeArea, Shown}
+use Rattle.rh_tasks.proofs.Common.{Kept, HasSlot, task_of, desk_of, shown_of, IsWorld, slot_append, IsAt, Becomes, Sits, set_same, all-at, mapped-at}
+use Rattle.rh_tasks.proofs.Common.{mapped-is, task-found, changed, free-is, Moves, moved-desk, moved-world}
 use Rattle.rh_defs.specs.Slot as plain
-use Rattle.rh_defs.specs.Slot.{slot_release, slot_extend, slot_put, heap_block_at}
-use Rattle.rh_defs.specs.Places.{first_bytes}
-use Rattle.rh_defs.specs.Desk.{Desk, Task, free_pages, with_task, with_slot}
-use Rattle.rh_defs.specs.Laws.{IsDesk}
-use Rattle.rh_defs.specs.IncomingEvents.{without_buffer, appended}
-use Rattle.rh_defs.proofs.Chains.{OnGrant, granted-then, granted-with}
-use Rattle.rh_defs.proofs.SlotKeeps.{IsRoomed, slot_extend-grants, slot_put-grants, without_buffer-kept}
+use Rattle.rh_defs.specs.Slot.{slot_release, slot_extend}
+use Rattle.rh_defs.specs.IncomingEvents.{without_buffer}
+use Rattle.rh_defs.proofs.Chains.{granted-then, granted-with}
+use Rattle.rh_defs.proofs.SlotKeeps.{slot_extend-grants, slot_put-grants, without_buffer-kept}
 use Rattle.rh_defs.proofs.Desks.{IsTask, with_task-keeps, with_slot-keeps, roomed-after}
-use Rattle.rh_slot.specs.Area.{IsSlot, slot_in}
-use Rattle.rh_slot.specs.Calls.{Leaves}
-use Rattle.rh_tasks.specs.declared.seat.Seat.{Seat}
-use Rattle.rh_tasks.specs.declared.made.MadeArea.{MadeArea}
-use Rattle.rh_tasks.specs.Shown.{Shown}
-use Rattle.rh_tasks.specs.View.{Kept, HasSlot, task_of, desk_of, shown_of, IsWorld}
-use Rattle.rh_slot.specs.Flex.{slot_append}
-use Rattle.rh_tasks.specs.Polls.{IsAt, Becomes}
-use Rattle.rh_tasks.proofs.Lists.{Sits, set_same, all-at}
 use Rattle.rh_tasks.proofs.Addresses.{grant-of}
-use Rattle.rh_tasks.proofs.Places.{mapped-at, mapped-is, task-found}
-use Rattle.rh_tasks.proofs.Leaves.{changed, unchanged}
-use Rattle.rh_tasks.proofs.Worlds.{free-is}
-use Rattle.rh_tasks.proofs.Moves.{Moves, moved-desk, moved-world}
+use Rattle.rh_tasks.proofs.Leaves.{unchanged}
 
 -- ---- the task at a place
 

@@ -1,27 +1,12 @@
 -- Commands that are a call on the slot of a named task.
-use Rattle.std.proofs.Common.{◌≡◌, ℕ, ◌∙◌, sym, ap, refl, List}
-use Rattle.std.specs.Prelude.{Ok, Err, IsOk, find, true}
-use Rattle.rh_defs.specs.Memory.{Memory}
-use Rattle.rh_defs.specs.Files.{FileList}
-use Rattle.rh_defs.specs.declared.command.Command.{Command}
-use Rattle.rh_defs.specs.declared.refusal.Refusal.{Refusal}
-use Rattle.rh_defs.specs.declared.refusal.Refusal.TheVariants.{NoName}
-use Rattle.rh_defs.specs.declared.reply.Reply.{Reply}
-use Rattle.rh_defs.specs.Chain.{Granted, ◌>>=◌, found_or}
-use Rattle.rh_defs.specs.Range.{in_range}
+use Rattle.rh_tasks.proofs.Common.{◌≡◌, ℕ, ◌∙◌, sym, ap, refl, List, Ok, Err, IsOk, find, true, Memory, FileList, Command, Refusal, NoName, Reply, Granted}
+use Rattle.rh_tasks.proofs.Common.{◌>>=◌, found_or, in_range, Desk, Task, named, free_pages, with_slot, Answer, change, slot_in, Seat, MadeArea, Kept}
+use Rattle.rh_tasks.proofs.Common.{desk_of, task_of, IsWorld, Owns, looked, begins, ends, granted-same, free-is, granted-keeps, Slid, found-named}
 use Rattle.rh_defs.specs.Slot as plain
-use Rattle.rh_defs.specs.Desk.{Desk, Task, has_name, named, free_pages, with_slot}
-use Rattle.rh_defs.specs.Commands.{Answer}
-use Rattle.rh_defs.specs.Step.{change}
+use Rattle.rh_defs.specs.Desk.{has_name}
 use Rattle.rh_slot.specs.declared.slot.Slot.{Slot}
-use Rattle.rh_slot.specs.Area.{slot_in}
-use Rattle.rh_tasks.specs.declared.seat.Seat.{Seat}
-use Rattle.rh_tasks.specs.declared.made.MadeArea.{MadeArea}
-use Rattle.rh_tasks.specs.View.{Kept, desk_of, task_of, IsWorld}
-use Rattle.rh_tasks.specs.Finding.{Owns, looked}
-use Rattle.rh_tasks.proofs.Chains.{begins, ends, skipped, stopped, granted-same}
-use Rattle.rh_tasks.proofs.Worlds.{free-is, granted-keeps}
-use Rattle.rh_tasks.proofs.Moves.{Slid, found-named, slid-desk, slid-world}
+use Rattle.rh_tasks.proofs.Chains.{skipped, stopped}
+use Rattle.rh_tasks.proofs.Moves.{slid-desk, slid-world}
 
 -- what a call on a slot gives becomes the task's slot and the reply
 abbrev pub give_back : {A : Type 0} → (A → plain.Slot) → (A → Reply) → ℕ → Desk → Granted A → Granted Answer

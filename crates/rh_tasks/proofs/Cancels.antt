@@ -1,31 +1,12 @@
 -- Transfers that are given up.
-use Rattle.std.proofs.Common.{◌≡◌, ℕ, refl, ap, sym, subst, ◌∙◌, List}
-use Rattle.std.specs.Prelude.{Option, Ok, Err, true}
-use Rattle.std.proofs.Math.ListN.{set}
-use Rattle.rh_defs.specs.Memory.{Memory}
-use Rattle.rh_defs.proofs.MemoryLaws.{OnlyArea-self}
-use Rattle.rh_defs.specs.Files.{FileList}
+use Rattle.rh_tasks.proofs.Common.{◌≡◌, ℕ, refl, ap, sym, subst, ◌∙◌, List, Option, Ok, Err, true, set, Memory, OnlyArea-self, FileList, Refusal, Outgoing}
+use Rattle.rh_tasks.proofs.Common.{Incoming, result_or, in_range, Desk, IsSlot, Seat, MadeArea, Kept, HasSlot, task_of, desk_of, IsWorld, Found, all-at}
+use Rattle.rh_tasks.proofs.Common.{set_same, begins, ends, granted-same, sits, named-is, granted-keeps, Moves, moved-desk, moved-world}
 use Rattle.rh_defs.specs.declared.command.Command.TheVariants as command
-use Rattle.rh_defs.specs.declared.refusal.Refusal.{Refusal}
 use Rattle.rh_defs.specs.declared.reply.Reply.TheVariants as reply
-use Rattle.rh_defs.specs.declared.transfer.Outgoing.{Outgoing}
-use Rattle.rh_defs.specs.declared.transfer.Incoming.{Incoming}
-use Rattle.rh_defs.specs.Chain.{result_or}
-use Rattle.rh_defs.specs.Range.{in_range}
 use Rattle.rh_defs.specs.Sender as sender
 use Rattle.rh_defs.specs.Receiver as receiver
-use Rattle.rh_defs.specs.Desk.{Desk}
 use Rattle.rh_defs.specs.Step.{cancel_in, cancel_out}
-use Rattle.rh_slot.specs.Area.{IsSlot}
-use Rattle.rh_tasks.specs.declared.seat.Seat.{Seat}
-use Rattle.rh_tasks.specs.declared.made.MadeArea.{MadeArea}
-use Rattle.rh_tasks.specs.View.{Kept, HasSlot, task_of, desk_of, IsWorld}
-use Rattle.rh_tasks.specs.Finding.{Found}
-use Rattle.rh_tasks.proofs.Lists.{all-at, set_same}
-use Rattle.rh_tasks.proofs.Chains.{begins, ends, granted-same}
-use Rattle.rh_tasks.proofs.Finding.{sits, named-is}
-use Rattle.rh_tasks.proofs.Worlds.{granted-keeps}
-use Rattle.rh_tasks.proofs.Moves.{Moves, moved-desk, moved-world}
 
 module _ {m : Memory} {seats : List Seat} {made : List MadeArea} {files : FileList} {kept : Kept} {name : List ℕ} {i : ℕ} {s : Seat}
     (w : IsWorld m seats made files kept) (f : Found name seats i s) where

@@ -1,37 +1,22 @@
 -- A task's end.
-use Rattle.std.proofs.Common.{◌≡◌, ◌≢◌, ℕ, ◌+◌, ◌<◌, ◌≤◌, true, false, cond, refl, ap, sym, subst, ◌∙◌, arith, List, length}
-use Rattle.std.specs.Prelude.{map, filter, not, ◌==◌, Option, Some, None, Ok}
-use Rattle.std.specs.List.{remove}
-use Rattle.std.specs.Option.{option_map}
-use Rattle.rh_defs.specs.Memory.{Memory, IsOpen, OnlyArea, bytes, closed}
+use Rattle.rh_tasks.proofs.Common.{◌≡◌, ◌≢◌, ℕ, ◌+◌, ◌<◌, ◌≤◌, true, false, cond, refl, ap, sym, subst, ◌∙◌, arith, List, length, map, filter, not, ◌==◌}
+use Rattle.rh_tasks.proofs.Common.{Option, Some, None, Ok, remove, option_map, Memory, IsOpen, OnlyArea, bytes, closed, total, FileList, in_range, Heap, Post}
+use Rattle.rh_tasks.proofs.Common.{Desk, Task, Made, Scrap, task_pages, used_pages, with_delivered, IsDesk, IsReordered, with_queue, MAX_AREAS, IsQueue}
+use Rattle.rh_tasks.proofs.Common.{Chains, SpellsPost, post_in, Seat, MadeArea, ScrapFile, Kept, the_module, scrap_from, scrap_size, scrap_of, slot_area}
+use Rattle.rh_tasks.proofs.Common.{made_area, Avoids, HasSlot, HasAreas, desk_of, task_of, made_of, fixed_pages, IsWorld, Found, begins, Sits, all-at}
+use Rattle.rh_tasks.proofs.Common.{avoids-below, sits, named-is, Stay, tasks-stay, mades-stay, fixed-stay, post-stays, queue-stays, scrap-stays, scrap-fits}
+use Rattle.rh_tasks.proofs.Common.{granted-keeps, same-desk}
 use Rattle.rh_defs.proofs.MemoryLaws.{free-closed, pages-closed}
-use Rattle.rh_defs.specs.Pieces.{total}
-use Rattle.rh_defs.specs.Files.{FileList}
 use Rattle.rh_defs.specs.declared.reply.Reply.TheVariants as reply
 use Rattle.rh_defs.specs.declared.command.Command.TheVariants as command
-use Rattle.rh_defs.specs.Range.{in_range}
-use Rattle.rh_defs.specs.Heap.{Heap}
-use Rattle.rh_defs.specs.Post.{Post, post_is_live, post_death}
-use Rattle.rh_defs.specs.Desk.{Desk, Task, Made, Scrap, kept_scrap, task_pages, used_pages, with_delivered}
+use Rattle.rh_defs.specs.Post.{post_is_live, post_death}
+use Rattle.rh_defs.specs.Desk.{kept_scrap}
 use Rattle.rh_defs.specs.Commands.{kill}
-use Rattle.rh_defs.specs.Laws.{IsDesk}
-use Rattle.rh_defs.specs.Order.{IsReordered, with_queue}
-use Rattle.rh_defs.specs.declared.sizes.TheConstants.{MAX_AREAS}
-use Rattle.rh_wimp.specs.Calls.{IsQueue, Leaves}
-use Rattle.rh_wimp.specs.Chains.{Chains, SpellsPost}
-use Rattle.rh_wimp.specs.PostIn.{post_in}
+use Rattle.rh_wimp.specs.Calls.{Leaves}
 use Rattle.rh_wimp.proofs.PostCalls.{IsRequeued, post_in-requeued, spells-stays}
-use Rattle.rh_tasks.specs.declared.seat.Seat.{Seat}
-use Rattle.rh_tasks.specs.declared.made.MadeArea.{MadeArea}
-use Rattle.rh_tasks.specs.declared.scrap.ScrapFile.{ScrapFile}
-use Rattle.rh_tasks.specs.View.{Kept, the_module, kept_file, scrap_from, scrap_size, scrap_of, slot_area, made_area, Avoids, HasSlot, HasAreas, desk_of}
-use Rattle.rh_tasks.specs.View.{task_of, made_of, fixed_pages, IsWorld}
-use Rattle.rh_tasks.specs.Finding.{Found}
-use Rattle.rh_tasks.proofs.Chains.{begins}
-use Rattle.rh_tasks.proofs.Lists.{Sits, all-at, avoids-below}
-use Rattle.rh_tasks.proofs.Finding.{sits, named-is}
-use Rattle.rh_tasks.proofs.Frames.{Stay, bytes-stay, heap-stays, tasks-stay, mades-stay, fixed-stay, post-stays, queue-stays, scrap-stays, scrap-fits}
-use Rattle.rh_tasks.proofs.Worlds.{handles, granted-keeps, same-desk}
+use Rattle.rh_tasks.specs.View.{kept_file}
+use Rattle.rh_tasks.proofs.Frames.{bytes-stay, heap-stays}
+use Rattle.rh_tasks.proofs.Worlds.{handles}
 use Rattle.rh_tasks.proofs.Posts.{smaller, is-post, module-length, end-is}
 use Rattle.rh_tasks.proofs.Fixed.{changed-areas, fixed-rest}
 use Rattle.rh_tasks.proofs.Joins.{closed-stay, high, off-mades, left-tasks, left-areas, left-pages}

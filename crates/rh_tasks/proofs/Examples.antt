@@ -1,15 +1,12 @@
 -- Worked lists of a task's blocks and segments: the definitions compute these answers.
-use Rattle.std.specs.Prelude.{◌≡◌, refl, [], ◌∷◌, codes, true, None, Ok, Err}
+use Rattle.rh_tasks.proofs.Common.{◌≡◌, refl, [], ◌∷◌, codes, true, None, Ok, Err, NoName, Slot, Desk, Task, segment_items_at}
 use Rattle.rh_defs.specs.declared.command.Manner.TheVariants.{Plain}
 use Rattle.rh_defs.specs.declared.listing.SegmentItem.TheVariants.{Used, Hole}
-use Rattle.rh_defs.specs.declared.refusal.Refusal.TheVariants.{NoName}
 use Rattle.rh_defs.specs.Chain as chain
-use Rattle.rh_defs.specs.Slot.{Slot}
 use Rattle.rh_defs.specs.Desk as desk
-use Rattle.rh_defs.specs.Desk.{Desk, Task}
 use Rattle.rh_defs.specs.Runs.{start}
 use Rattle.rh_defs.proofs.BlockRows.{two_blocks}
-use Rattle.rh_tasks.specs.Lists.{segment_items_at, blocks_of, segments_of}
+use Rattle.rh_tasks.specs.Lists.{blocks_of, segments_of}
 
 -- a block of 5 bytes at anchor 7 and an empty one at anchor 1, above a heap of 48 bytes
 abbrev pub two_by_two : Slot

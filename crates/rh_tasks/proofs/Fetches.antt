@@ -1,21 +1,9 @@
 -- Tasks at their places, and the steps of a transfer that goes out.
-use Rattle.std.proofs.Common.{◌≡◌, ◌≢◌, ℕ, zero, suc, ◌≤◌, true, false, refl, ap, sym, subst, ◌∙◌, arith, List, [], ◌∷◌}
-use Rattle.std.specs.Prelude.{Option, Some, None, Ok, is_some, ok_or, ◌&&◌, ◌==◌, ◌-◌, slice_get, map}
-use Rattle.std.specs.Option.{option_map}
-use Rattle.std.proofs.Math.ListN.{get_or}
-use Rattle.std.proofs.lemmas.Bool.Decides.{nat_tests}
-use Rattle.std.proofs.lemmas.Option.{slice_get-map, slice_get_within, slice_get-get_or, get_or_from_slice_get}
-use Rattle.rh_defs.specs.declared.refusal.Refusal.TheVariants.{NotABlock}
-use Rattle.rh_defs.specs.Memory.{Memory}
-use Rattle.rh_defs.specs.Heap.{block_size}
-use Rattle.rh_defs.specs.Slot.{heap_start, holds}
-use Rattle.rh_defs.specs.Places.{buffer_at, overlap}
-use Rattle.rh_defs.specs.Desk.{Task}
-use Rattle.rh_defs.specs.OutgoingEvents.{is_out_of_reach}
-use Rattle.rh_slot.specs.Area.{slot_in}
-use Rattle.rh_tasks.specs.declared.seat.Seat.{Seat}
-use Rattle.rh_tasks.specs.View.{task_of, AreDistinct}
-use Rattle.rh_tasks.proofs.Lists.{Sits, avoids-at}
+use Rattle.rh_tasks.proofs.Common.{◌≡◌, ◌≢◌, ℕ, zero, suc, ◌≤◌, true, false, refl, ap, sym, subst, ◌∙◌, arith, List, [], ◌∷◌, Option, Some, None, Ok, is_some}
+use Rattle.rh_tasks.proofs.Common.{ok_or, ◌&&◌, ◌==◌, ◌-◌, slice_get, map, option_map, get_or, nat_tests, slice_get-map, slice_get_within, slice_get-get_or}
+use Rattle.rh_tasks.proofs.Common.{NotABlock, Memory, block_size, heap_start, holds, buffer_at, overlap, Task, is_out_of_reach, slot_in, Seat, task_of}
+use Rattle.rh_tasks.proofs.Common.{AreDistinct, Sits, avoids-at}
+use Rattle.std.proofs.lemmas.Option.{get_or_from_slice_get}
 use Rattle.rh_tasks.proofs.Portions.{buffer-wide, reach-buffer, reach-nothing, reach-block}
 
 -- ---- tasks at their places

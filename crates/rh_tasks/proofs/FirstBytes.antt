@@ -1,17 +1,13 @@
 -- The first bytes of a block of a slot, as they are read at the block's address.
-use Rattle.std.proofs.Common.{◌≡◌, ℕ, ◌+◌, ◌-◌, ◌<◌, ◌≤◌, Bool, true, false, List, [], ◌∷◌, ◌++◌, length, refl, ap, ◌∙◌, arith}
-use Rattle.std.proofs.lemmas.Bool.Decides.{nat_tests}
-use Rattle.std.specs.Prelude.{◌&&◌, ◌||◌, Some, None, Ok, not, nat_le, is_some, take, drop}
-use Rattle.rh_defs.specs.declared.refusal.Refusal.TheVariants.{NoTask, BadRange}
-use Rattle.rh_defs.specs.Chain.{found_or}
-use Rattle.rh_defs.specs.Pieces.{NonePass, first_at, is_inside, total}
-use Rattle.rh_defs.specs.Heap.{Hole, Segment, Used, base, block_around, is_around, size_of}
-use Rattle.rh_defs.specs.Slot.{Flex, Slot, flex_address, flex_around, flex_start, heap_start, holds, weight}
-use Rattle.rh_defs.specs.Desk.{Desk, Task, task_at}
+use Rattle.rh_tasks.proofs.Common.{◌≡◌, ℕ, ◌+◌, ◌-◌, ◌<◌, ◌≤◌, Bool, true, false, List, [], ◌∷◌, ◌++◌, length, refl, ap, ◌∙◌, arith, nat_tests, ◌&&◌, ◌||◌}
+use Rattle.rh_tasks.proofs.Common.{Some, None, Ok, not, nat_le, is_some, take, drop, NoTask, BadRange, found_or, first_at, total, Hole, Segment, Used, base}
+use Rattle.rh_tasks.proofs.Common.{size_of, Flex, Slot, flex_address, flex_start, heap_start, holds, weight, Desk, Task, task_at, bytes_held, begins, past}
+use Rattle.rh_defs.specs.Pieces.{NonePass, is_inside}
+use Rattle.rh_defs.specs.Heap.{block_around, is_around}
+use Rattle.rh_defs.specs.Slot.{flex_around}
 use Rattle.rh_defs.proofs.HeapLists.{first_at-found, first_at-none}
 use Rattle.rh_tasks.specs.Sights.{slot_bytes}
-use Rattle.rh_tasks.specs.TransferBlock.{bytes_around, bytes_held, bytes_in_heap}
-use Rattle.rh_tasks.proofs.Chains.{begins, past}
+use Rattle.rh_tasks.specs.TransferBlock.{bytes_around, bytes_in_heap}
 
 -- ---- which block holds them
 abbrev flex_at : ℕ → ℕ → ℕ → Flex → Bool

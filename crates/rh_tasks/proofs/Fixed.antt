@@ -1,26 +1,12 @@
 -- A world in which one of areas 0 to 5 has changed.
-use Rattle.std.proofs.Common.{◌≡◌, ℕ, zero, suc, ◌+◌, ◌*◌, ◌%◌, ◌<◌, ◌≤◌, ◌≢◌, inl, inr, refl, ap, subst, arith, List, [], ◌∷◌, length, ◌∙◌, sym}
-use Rattle.std.specs.Prelude.{take, slice_index, slice_set}
-use Rattle.std.proofs.lemmas.Bool.{cases_eq}
-use Rattle.rh_defs.specs.declared.sizes.TheConstants.{PAGE}
-use Rattle.rh_defs.specs.Memory.{Memory, IsOpen, OnlyArea, bytes}
-use Rattle.rh_defs.specs.Pieces.{total}
-use Rattle.rh_defs.specs.Files.{FileList}
-use Rattle.rh_defs.specs.Heap.{Heap}
-use Rattle.rh_defs.specs.Post.{Post}
-use Rattle.rh_defs.specs.Desk.{Desk, used_pages, with_module}
-use Rattle.rh_defs.specs.Laws.{IsDesk}
-use Rattle.rh_module.specs.Area.{IsModule}
-use Rattle.rh_wimp.specs.Calls.{IsQueue}
+use Rattle.rh_tasks.proofs.Common.{◌≡◌, ℕ, zero, suc, ◌+◌, ◌*◌, ◌%◌, ◌<◌, ◌≤◌, ◌≢◌, inl, inr, refl, ap, subst, arith, List, [], ◌∷◌, length, ◌∙◌, sym, take}
+use Rattle.rh_tasks.proofs.Common.{slice_index, slice_set, cases_eq, PAGE, Memory, IsOpen, OnlyArea, bytes, total, FileList, Heap, Post, Desk, used_pages}
+use Rattle.rh_tasks.proofs.Common.{IsDesk, IsModule, IsQueue, post_in, Seat, MadeArea, Kept, the_module, pages_at, fixed_pages, scrap_size, scrap_of, desk_of}
+use Rattle.rh_tasks.proofs.Common.{slot_area, made_area, HasAreas, IsWorld, avoids-below, Stay, pages-stay, tasks-stay, slots-stay, mades-stay, mades-opened}
+use Rattle.rh_tasks.proofs.Common.{fixed-opened, post-stays, queue-stays, scrap-stays, scrap-fits, module-stays, count-stays, same-desk}
+use Rattle.rh_defs.specs.Desk.{with_module}
 use Rattle.rh_wimp.specs.Laws.{with_heap}
-use Rattle.rh_wimp.specs.PostIn.{post_in}
-use Rattle.rh_tasks.specs.declared.seat.Seat.{Seat}
-use Rattle.rh_tasks.specs.declared.made.MadeArea.{MadeArea}
-use Rattle.rh_tasks.specs.View.{Kept, the_module, pages_at, fixed_pages, scrap_size, scrap_of, desk_of, slot_area, made_area, HasAreas, IsWorld}
-use Rattle.rh_tasks.proofs.Lists.{avoids-below}
-use Rattle.rh_tasks.proofs.Frames.{Stay, pages-stay, tasks-stay, slots-stay, mades-stay, mades-opened, fixed-opened, post-stays, queue-stays, scrap-same}
-use Rattle.rh_tasks.proofs.Frames.{scrap-stays, scrap-fits, module-stays, count-stays}
-use Rattle.rh_tasks.proofs.Worlds.{same-desk}
+use Rattle.rh_tasks.proofs.Frames.{scrap-same}
 use Rattle.rh_tasks.proofs.Posts.{end-is, module-length}
 
 -- a number of the list set

@@ -1,29 +1,19 @@
 -- What is listed, from what the world keeps.
-use Rattle.std.proofs.Common.{◌≡◌, ℕ, zero, suc, ◌+◌, ◌-◌, ◌*◌, ◌<◌, ◌≤◌, refl, ap, sym, ◌∙◌, arith, List, [], ◌∷◌, ◌++◌, length}
-use Rattle.std.specs.Prelude.{map, Option, Some, None, slice_get}
-use Rattle.std.specs.List.{AllByRecursion, enumerate_from}
-use Rattle.std.specs.Option.{option_map}
-use Rattle.std.proofs.Math.ListN.{get_or, length-append}
-use Rattle.std.proofs.lemmas.List.{length-map}
-use Rattle.std.proofs.lemmas.Option.{slice_get-map, slice_get-get_or, slice_get_past}
-use Rattle.rh_defs.specs.declared.sizes.TheConstants.{MAX_AREAS}
-use Rattle.rh_defs.specs.Memory.{Memory, bytes}
-use Rattle.rh_defs.specs.Pieces.{total}
-use Rattle.rh_defs.specs.Files.{FileList}
-use Rattle.rh_defs.specs.Heap.{Heap, Segment, Used, Hole, size_of, hole_size, largest_hole, largest, free_bytes, base}
+use Rattle.rh_tasks.proofs.Common.{◌≡◌, ℕ, zero, suc, ◌+◌, ◌-◌, ◌*◌, ◌<◌, ◌≤◌, refl, ap, sym, ◌∙◌, arith, List, [], ◌∷◌, ◌++◌, length, map, Option, Some}
+use Rattle.rh_tasks.proofs.Common.{None, slice_get, AllByRecursion, option_map, get_or, length-append, length-map, slice_get-map, slice_get-get_or, MAX_AREAS}
+use Rattle.rh_tasks.proofs.Common.{Memory, bytes, total, FileList, Heap, Segment, Used, Hole, size_of, base, Desk, Task, Made, task_pages, free_pages}
+use Rattle.rh_tasks.proofs.Common.{slot_in, Seat, MadeArea, Kept, pages_at, task_of, made_of, fixed_pages, desk_of, HasSlot, IsWorld, cons, few-made}
+use Rattle.rh_tasks.proofs.Common.{few-seats}
+use Rattle.std.specs.List.{enumerate_from}
+use Rattle.std.proofs.lemmas.Option.{slice_get_past}
+use Rattle.rh_defs.specs.Heap.{hole_size, largest_hole, largest, free_bytes}
 use Rattle.rh_defs.specs.Slot as plain
-use Rattle.rh_defs.specs.Desk.{Desk, Task, Made, task_pages, module_pages, free_pages}
+use Rattle.rh_defs.specs.Desk.{module_pages}
 use Rattle.rh_defs.specs.Listing.{area_items, area_item, areas_at}
 use Rattle.rh_defs.specs.declared.listing.AreaItem.{AreaItem}
 use Rattle.rh_defs.specs.declared.listing.AreaItem.TheVariants as item
-use Rattle.rh_slot.specs.Area.{slot_in}
-use Rattle.rh_tasks.specs.declared.seat.Seat.{Seat}
-use Rattle.rh_tasks.specs.declared.made.MadeArea.{MadeArea}
-use Rattle.rh_tasks.specs.View.{Kept, pages_at, task_of, made_of, fixed_pages, desk_of, HasSlot, IsWorld}
 use Rattle.rh_tasks.specs.Items.{fixed_items, made_items, slot_items, items_in}
-use Rattle.rh_tasks.proofs.Lists.{cons}
 use Rattle.rh_tasks.proofs.Posts.{module-length}
-use Rattle.rh_tasks.proofs.Worlds.{few-made, few-seats}
 
 -- ---- members of joined lists
 

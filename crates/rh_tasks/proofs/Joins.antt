@@ -1,33 +1,18 @@
 -- A world with one seat or made area more, or one less.
-use Rattle.std.proofs.Common.{◌≡◌, ℕ, zero, suc, ◌+◌, ◌/◌, ◌<◌, ◌≢◌, true, false, refl, ap, subst, arith, List, [], ◌∷◌, ◌++◌, length, ◌∙◌, sym, inl, inr}
-use Rattle.std.specs.Prelude.{map, filter, not, ◌==◌, Option, Some, None, IsNone, IsSome, is_some}
-use Rattle.std.specs.List.{AllByRecursion, remove}
-use Rattle.std.proofs.Math.ListN.{length-append}
-use Rattle.std.proofs.lemmas.List.{map-append}
+use Rattle.rh_tasks.proofs.Common.{◌≡◌, ℕ, zero, suc, ◌+◌, ◌/◌, ◌<◌, ◌≢◌, true, false, refl, ap, subst, arith, List, [], ◌∷◌, ◌++◌, length, ◌∙◌, sym, inl}
+use Rattle.rh_tasks.proofs.Common.{inr, map, filter, not, ◌==◌, Option, Some, None, IsNone, IsSome, is_some, AllByRecursion, remove, length-append}
+use Rattle.rh_tasks.proofs.Common.{map-append, cases_eq, nat_tests, Memory, IsOpen, OnlyArea, bytes, opened, closed, open_below, open_below-opened}
+use Rattle.rh_tasks.proofs.Common.{area-opened, total, FileList, Desk, Task, task_pages, used_pages, IsDesk, IsSlot, MAX_AREAS, PAGE, IsQueue, joined}
+use Rattle.rh_tasks.proofs.Common.{post_in, Seat, MadeArea, Kept, the_module, task_of, desk_of, slot_area, made_area, Avoids, AreDistinct, HasSlot, IsAbove}
+use Rattle.rh_tasks.proofs.Common.{HasAreas, IsWorld, Sits, all-at, all-map, avoids-at, Stay, tasks-stay, slots-stay, mades-stay, mades-opened, fixed-stay}
+use Rattle.rh_tasks.proofs.Common.{fixed-opened, post-stays, queue-stays, scrap-stays, scrap-fits, module-stays, same-desk}
 use Rattle.std.proofs.lemmas.List.Edits.{length-remove}
-use Rattle.std.proofs.lemmas.Bool.{cases_eq}
-use Rattle.std.proofs.lemmas.Bool.Decides.{nat_tests}
-use Rattle.rh_defs.specs.Memory.{Memory, IsOpen, OnlyArea, bytes, opened, closed, open_below}
-use Rattle.rh_defs.proofs.MemoryLaws.{open_below-same, open_below-opened, open_below-closed, open_apart, area-opened, area-closed, bytes-none, IsOpen-opened}
-use Rattle.rh_defs.specs.Pieces.{total}
+use Rattle.rh_defs.proofs.MemoryLaws.{open_below-same, open_below-closed, open_apart, area-closed, bytes-none, IsOpen-opened}
 use Rattle.rh_defs.proofs.Cuts.{total-append}
-use Rattle.rh_defs.specs.Files.{FileList}
 use Rattle.rh_defs.specs.Post.{post_join}
-use Rattle.rh_defs.specs.Desk.{Desk, Task, task_pages, used_pages}
-use Rattle.rh_defs.specs.Laws.{IsDesk}
-use Rattle.rh_slot.specs.Area.{IsSlot}
-use Rattle.rh_defs.specs.declared.sizes.TheConstants.{MAX_AREAS, PAGE}
-use Rattle.rh_wimp.specs.Calls.{IsQueue}
-use Rattle.rh_wimp.specs.Chains.{joined}
-use Rattle.rh_wimp.specs.PostIn.{post_in}
-use Rattle.rh_tasks.specs.declared.seat.Seat.{Seat}
-use Rattle.rh_tasks.specs.declared.made.MadeArea.{MadeArea}
-use Rattle.rh_tasks.specs.View.{Kept, the_module, task_of, desk_of, slot_area, made_area, Avoids, AreDistinct, HasSlot, IsAbove, HasAreas, IsWorld}
-use Rattle.rh_tasks.proofs.Lists.{Sits, all-at, all-map, all-push, all-removed, avoids-at, avoids-removed, distinct-push, distinct-removed}
-use Rattle.rh_tasks.proofs.Frames.{Stay, tasks-stay, slots-stay, mades-stay, mades-opened, fixed-stay, fixed-opened, post-stays, queue-stays, scrap-stays}
-use Rattle.rh_tasks.proofs.Frames.{scrap-fits, module-stays, opened-stays}
+use Rattle.rh_tasks.proofs.Lists.{all-push, all-removed, avoids-removed, distinct-push, distinct-removed}
+use Rattle.rh_tasks.proofs.Frames.{opened-stays}
 use Rattle.rh_tasks.proofs.Moves.{slot-pages}
-use Rattle.rh_tasks.proofs.Worlds.{same-desk}
 use Rattle.rh_tasks.proofs.Posts.{post-joins}
 
 -- ---- areas that were closed, and are none of the open ones

@@ -67,3 +67,4 @@ pub mod ShareLaws
 pub mod AcceptSteps
 pub mod TakeSaves
 pub mod Examples
+pub mod Common

@@ -1,37 +1,25 @@
 -- A file loaded into a new block.
-use Rattle.std.proofs.Common.{◌≡◌, ℕ, ◌+◌, ◌≤◌, true, false, refl, ap, sym, subst, ◌∙◌, arith, List, [], length}
-use Rattle.std.specs.Prelude.{Option, Some, None, find, Ok, Err, IsOk}
-use Rattle.std.specs.Option.{option_map}
+use Rattle.rh_tasks.proofs.Common.{◌≡◌, ℕ, ◌+◌, ◌≤◌, true, false, refl, ap, sym, subst, ◌∙◌, arith, List, [], length, Option, Some, None, find, Ok, Err, IsOk}
+use Rattle.rh_tasks.proofs.Common.{option_map, Memory, FileList, Refusal, BadRange, Granted, ◌>>=◌, found_or, no_answer, answer_of, in_range, zeros, Slot}
+use Rattle.rh_tasks.proofs.Common.{weight, flex_start, slot_alloc, slot_put, slot_block, OnGrant, Desk, free_pages, slot_in, Leaves, Seat, MadeArea, Kept}
+use Rattle.rh_tasks.proofs.Common.{desk_of, task_of, IsWorld, Owns, begins, ends, granted-same, lt-false, free-is, granted-keeps, Slid, found-named}
 use Rattle.std.specs.Str.{bytes_eq}
 use Rattle.std.proofs.lemmas.List.{length-replicate}
-use Rattle.rh_defs.specs.Memory.{Memory}
 use Rattle.rh_defs.proofs.MemoryLaws.{OnlyArea-both}
-use Rattle.rh_defs.specs.Files.{FileList, file_bytes}
-use Rattle.rh_defs.specs.declared.refusal.Refusal.{Refusal}
-use Rattle.rh_defs.specs.declared.refusal.Refusal.TheVariants.{NoFile, BadRange}
+use Rattle.rh_defs.specs.Files.{file_bytes}
+use Rattle.rh_defs.specs.declared.refusal.Refusal.TheVariants.{NoFile}
 use Rattle.rh_defs.specs.declared.reply.Reply.TheVariants as reply
 use Rattle.rh_defs.specs.declared.command.Command.TheVariants as command
-use Rattle.rh_defs.specs.Chain.{Granted, ◌>>=◌, found_or, no_answer, answer_of}
-use Rattle.rh_defs.specs.Range.{in_range}
-use Rattle.rh_defs.specs.Pieces.{zeros}
-use Rattle.rh_defs.specs.Slot.{Slot, weight, flex_start, is_used, with_block, slot_alloc, slot_put, slot_block}
-use Rattle.rh_defs.proofs.Chains.{OnGrant, granted, granted-unless}
+use Rattle.rh_defs.specs.Slot.{is_used, with_block}
+use Rattle.rh_defs.proofs.Chains.{granted, granted-unless}
 use Rattle.rh_defs.proofs.Anchors.{is_free}
 use Rattle.rh_defs.proofs.SlotLaws.{block_of-at}
-use Rattle.rh_defs.specs.Desk.{Desk, free_pages}
 use Rattle.rh_defs.specs.Commands.{load}
 use Rattle.rh_slot.specs.declared.slot.Slot as code
-use Rattle.rh_slot.specs.Area.{slot_in}
-use Rattle.rh_slot.specs.Calls.{Leaves}
-use Rattle.rh_tasks.specs.declared.seat.Seat.{Seat}
-use Rattle.rh_tasks.specs.declared.made.MadeArea.{MadeArea}
-use Rattle.rh_tasks.specs.View.{Kept, desk_of, task_of, IsWorld}
-use Rattle.rh_tasks.specs.Finding.{Owns}
-use Rattle.rh_tasks.proofs.Chains.{begins, ends, granted-same, not-refused, lt-false}
+use Rattle.rh_tasks.proofs.Chains.{not-refused}
 use Rattle.rh_tasks.proofs.Addresses.{grant-of}
 use Rattle.rh_tasks.proofs.Leaves as leaves
-use Rattle.rh_tasks.proofs.Worlds.{free-is, granted-keeps}
-use Rattle.rh_tasks.proofs.Moves.{Slid, found-named, slid-desk, slid-world}
+use Rattle.rh_tasks.proofs.Moves.{slid-desk, slid-world}
 
 -- ---- the file
 

@@ -1,23 +1,9 @@
 -- Looks at the named task for a block that isn't busy.
-use Rattle.std.proofs.Common.{◌≡◌, ℕ, ◌-◌, Bool, true, false, refl, sym, ◌∙◌, List}
-use Rattle.std.specs.Prelude.{Option, Some, None, Ok, Err, IsOk, ok_or, ◌||◌}
-use Rattle.std.specs.List.{list_any}
-use Rattle.std.specs.Option.{option_map}
-use Rattle.std.specs.List.{position}
-use Rattle.rh_defs.specs.Memory.{Memory}
-use Rattle.rh_defs.specs.declared.refusal.Refusal.{Refusal}
-use Rattle.rh_defs.specs.declared.refusal.Refusal.TheVariants.{NoName, NotABlock, Busy}
-use Rattle.rh_defs.specs.Chain.{Granted, ◌>>=◌, ◌>>◌, refuse_if, found_or}
-use Rattle.rh_defs.specs.Pieces.{Split}
-use Rattle.rh_defs.specs.Heap.{Segment, block_at, block_size}
+use Rattle.rh_tasks.proofs.Common.{◌≡◌, ℕ, ◌-◌, Bool, true, false, refl, sym, ◌∙◌, List, Option, Some, None, Ok, Err, IsOk, ok_or, ◌||◌, list_any, option_map}
+use Rattle.rh_tasks.proofs.Common.{position, Memory, Refusal, NoName, NotABlock, Busy, Granted, ◌>>=◌, ◌>>◌, refuse_if, found_or, Split, Segment, block_at}
+use Rattle.rh_tasks.proofs.Common.{block_size, Task, idle_block, idle_buffer, slot_in, Seat, is_named, task_of, Found, looked, begins, ends}
 use Rattle.rh_defs.specs.Slot as plain
 use Rattle.rh_defs.specs.Records.{is_source, is_document, is_buffer_of}
-use Rattle.rh_defs.specs.Desk.{Task, idle_block, idle_buffer}
-use Rattle.rh_slot.specs.Area.{slot_in}
-use Rattle.rh_tasks.specs.declared.seat.Seat.{Seat}
-use Rattle.rh_tasks.specs.View.{is_named, task_of}
-use Rattle.rh_tasks.specs.Finding.{Found, looked}
-use Rattle.rh_tasks.proofs.Chains.{begins, ends}
 use Rattle.rh_tasks.proofs.Finding.{nobody-named, somebody-named}
 
 -- no task has the name

@@ -1,27 +1,16 @@
 -- The commands that make an area and take it away.
-use Rattle.std.proofs.Common.{◌≡◌, ℕ, ◌+◌, ◌%◌, ◌<◌, ◌≤◌, refl, ap, sym, subst, ◌∙◌, arith, List, [], ◌∷◌, ◌++◌, length}
-use Rattle.std.specs.Prelude.{map, Ok, Err, None, IsNone, find, filter, not, true}
-use Rattle.std.specs.List.{position, remove}
-use Rattle.std.proofs.lemmas.List.{length-map}
+use Rattle.rh_tasks.proofs.Common.{◌≡◌, ℕ, ◌+◌, ◌%◌, ◌<◌, ◌≤◌, refl, ap, sym, subst, ◌∙◌, arith, List, [], ◌∷◌, ◌++◌, length, map, Ok, Err, None, IsNone}
+use Rattle.rh_tasks.proofs.Common.{find, filter, not, true, position, remove, length-map, Memory, bytes, opened, closed, open_below, FileList, MAX_AREAS}
+use Rattle.rh_tasks.proofs.Common.{PAGE, found_or, in_range, Desk, Made, Seat, MadeArea, Kept, made_of, desk_of, IsWorld, Sits, begins, ends, past, stops}
+use Rattle.rh_tasks.proofs.Common.{granted-same, le-true, le-false, lt-true, lt-false, numbers, few-seats, granted-keeps}
 use Rattle.rh_defs.specs.Forms.{last_made}
 use Rattle.rh_defs.specs.Commands.{most_made}
-use Rattle.rh_defs.specs.Memory.{Memory, bytes, opened, closed, open_below}
-use Rattle.rh_defs.specs.Files.{FileList}
-use Rattle.rh_defs.specs.declared.sizes.TheConstants.{MAX_AREAS, PAGE}
 use Rattle.rh_defs.specs.declared.command.Command.TheVariants as command
 use Rattle.rh_defs.specs.declared.refusal.Refusal.TheVariants.{NoArea, TooManyAreas, NoNumbers}
 use Rattle.rh_defs.specs.declared.reply.Reply.TheVariants as reply
-use Rattle.rh_defs.specs.Chain.{found_or}
-use Rattle.rh_defs.specs.Range.{in_range}
-use Rattle.rh_defs.specs.Desk.{Desk, Made}
 use Rattle.rh_defs.specs.Commands as commands
-use Rattle.rh_tasks.specs.declared.seat.Seat.{Seat}
-use Rattle.rh_tasks.specs.declared.made.MadeArea.{MadeArea}
-use Rattle.rh_tasks.specs.View.{Kept, made_of, desk_of, has_number, IsWorld}
-use Rattle.rh_tasks.proofs.Lists.{Sits}
-use Rattle.rh_tasks.proofs.Chains.{begins, ends, past, stops, granted-same, le-true, le-false, lt-true, lt-false}
+use Rattle.rh_tasks.specs.View.{has_number}
 use Rattle.rh_tasks.proofs.Finding.{no-made}
-use Rattle.rh_tasks.proofs.Worlds.{numbers, few-seats, granted-keeps}
 use Rattle.rh_tasks.proofs.Mades.{made-first}
 use Rattle.rh_tasks.proofs.Makes.{made-more, more-world, made-less, less-world}
 

@@ -1,20 +1,12 @@
 -- A world in which a made area has changed.
-use Rattle.std.proofs.Common.{◌≡◌, ◌≢◌, ℕ, zero, suc, ◌+◌, ◌%◌, refl, ap, subst, arith, List, [], ◌∷◌, length, ◌∙◌, sym}
-use Rattle.std.specs.Prelude.{map, find, Some}
-use Rattle.rh_defs.specs.declared.sizes.TheConstants.{PAGE}
-use Rattle.rh_defs.specs.Memory.{Memory, IsOpen, OnlyArea, bytes}
-use Rattle.rh_defs.specs.Pieces.{total}
-use Rattle.rh_defs.specs.Files.{FileList}
-use Rattle.rh_defs.specs.Desk.{Desk, Made, used_pages}
+use Rattle.rh_tasks.proofs.Common.{◌≡◌, ◌≢◌, ℕ, zero, suc, ◌+◌, ◌%◌, refl, ap, subst, arith, List, [], ◌∷◌, length, ◌∙◌, sym, map, find, Some, PAGE, Memory}
+use Rattle.rh_tasks.proofs.Common.{IsOpen, OnlyArea, bytes, total, FileList, Desk, Made, used_pages, IsDesk, Seat, MadeArea, Kept, pages_at, made_of, desk_of}
+use Rattle.rh_tasks.proofs.Common.{slot_area, made_area, Avoids, AreDistinct, IsAbove, HasAreas, IsWorld, Sits, all-at, avoids-at, avoids-back, Stay, if_same}
+use Rattle.rh_tasks.proofs.Common.{if_apart, tasks-stay, slots-stay, fixed-stay, fixed-opened, post-stays, queue-stays, scrap-stays, scrap-fits, module-stays}
+use Rattle.rh_tasks.proofs.Common.{count-stays, numbers, same-desk}
 use Rattle.rh_defs.specs.Commands.{with_pages, is_numbered}
-use Rattle.rh_defs.specs.Laws.{IsDesk}
-use Rattle.rh_tasks.specs.declared.seat.Seat.{Seat}
-use Rattle.rh_tasks.specs.declared.made.MadeArea.{MadeArea}
-use Rattle.rh_tasks.specs.View.{Kept, pages_at, made_of, desk_of, slot_area, made_area, made_number, Avoids, AreDistinct, IsAbove, HasAreas, IsWorld}
-use Rattle.rh_tasks.proofs.Lists.{Sits, all-at, avoids-at, avoids-back}
-use Rattle.rh_tasks.proofs.Frames.{Stay, if_same, if_apart, tasks-stay, slots-stay, mades-edited, mades-opened-at, fixed-stay, fixed-opened, post-stays}
-use Rattle.rh_tasks.proofs.Frames.{queue-stays, scrap-stays, scrap-fits, module-stays, count-stays}
-use Rattle.rh_tasks.proofs.Worlds.{numbers, same-desk}
+use Rattle.rh_tasks.specs.View.{made_number}
+use Rattle.rh_tasks.proofs.Frames.{mades-edited, mades-opened-at}
 use Rattle.rh_tasks.proofs.Fixed.{pages-of}
 
 abbrev pages_of_made : Made → ℕ

@@ -1,29 +1,16 @@
 -- A world with one made area more, or one less.
-use Rattle.std.proofs.Common.{◌≡◌, ◌≢◌, ℕ, ◌+◌, ◌/◌, ◌%◌, ◌<◌, refl, ap, arith, List, [], ◌∷◌, ◌++◌, length, ◌∙◌, sym}
-use Rattle.std.specs.Prelude.{map, filter, not, IsNone}
-use Rattle.std.specs.List.{AllByRecursion, remove}
-use Rattle.std.proofs.Math.ListN.{length-append}
-use Rattle.std.proofs.lemmas.List.{map-append}
+use Rattle.rh_tasks.proofs.Common.{◌≡◌, ◌≢◌, ℕ, ◌+◌, ◌/◌, ◌%◌, ◌<◌, refl, ap, arith, List, [], ◌∷◌, ◌++◌, length, ◌∙◌, sym, map, filter, not, IsNone}
+use Rattle.rh_tasks.proofs.Common.{AllByRecursion, remove, length-append, map-append, Memory, IsOpen, bytes, opened, closed, open_below-opened, area-opened}
+use Rattle.rh_tasks.proofs.Common.{total, FileList, Post, Desk, Made, task_pages, used_pages, IsDesk, MAX_AREAS, PAGE, Seat, MadeArea, Kept, pages_at}
+use Rattle.rh_tasks.proofs.Common.{made_of, desk_of, slot_area, made_area, Avoids, HasSlot, IsAbove, HasAreas, IsWorld, Sits, all-at, all-map, avoids-back}
+use Rattle.rh_tasks.proofs.Common.{Stay, tasks-stay, slots-stay, mades-stay, mades-opened, fixed-stay, fixed-opened, post-stays, queue-stays, scrap-stays}
+use Rattle.rh_tasks.proofs.Common.{scrap-fits, module-stays, numbers, same-desk}
 use Rattle.std.proofs.lemmas.List.Edits.{length-remove}
-use Rattle.rh_defs.specs.Memory.{Memory, IsOpen, bytes, opened, closed}
-use Rattle.rh_defs.proofs.MemoryLaws.{open_below-opened, open_below-closed, area-opened, bytes-opened, free-opened, pages-opened, IsOpen-opened, free-closed}
-use Rattle.rh_defs.proofs.MemoryLaws.{pages-closed}
-use Rattle.rh_defs.specs.Pieces.{total}
+use Rattle.rh_defs.proofs.MemoryLaws.{open_below-closed, bytes-opened, free-opened, pages-opened, IsOpen-opened, free-closed, pages-closed}
 use Rattle.rh_defs.proofs.Cuts.{total-append}
-use Rattle.rh_defs.specs.Files.{FileList}
-use Rattle.rh_defs.specs.Post.{Post}
-use Rattle.rh_defs.specs.Desk.{Desk, Made, task_pages, used_pages}
 use Rattle.rh_defs.specs.Commands.{is_numbered}
-use Rattle.rh_defs.specs.Laws.{IsDesk}
-use Rattle.rh_defs.specs.declared.sizes.TheConstants.{MAX_AREAS, PAGE}
-use Rattle.rh_tasks.specs.declared.seat.Seat.{Seat}
-use Rattle.rh_tasks.specs.declared.made.MadeArea.{MadeArea}
-use Rattle.rh_tasks.specs.View.{Kept, pages_at, made_of, desk_of, slot_area, made_area, made_number, Avoids, HasSlot, IsAbove, HasAreas, IsWorld}
-use Rattle.rh_tasks.proofs.Lists.{Sits, all-at, all-map, all-push, all-removed, avoids-back, avoids-push, avoids-fewer, avoids-removed, distinct-push}
-use Rattle.rh_tasks.proofs.Lists.{distinct-removed}
-use Rattle.rh_tasks.proofs.Frames.{Stay, tasks-stay, slots-stay, mades-stay, mades-opened, fixed-stay, fixed-opened, post-stays, queue-stays, scrap-stays}
-use Rattle.rh_tasks.proofs.Frames.{scrap-fits, module-stays}
-use Rattle.rh_tasks.proofs.Worlds.{numbers, same-desk}
+use Rattle.rh_tasks.specs.View.{made_number}
+use Rattle.rh_tasks.proofs.Lists.{all-push, all-removed, avoids-push, avoids-fewer, avoids-removed, distinct-push, distinct-removed}
 use Rattle.rh_tasks.proofs.Mades.{area-sits}
 use Rattle.rh_tasks.proofs.Joins.{none-is, off-open, closed-above, closed-stay, fixed-opened-else, filter-others, total-removed, total-map}
 

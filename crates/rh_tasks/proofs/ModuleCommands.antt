@@ -1,39 +1,24 @@
 -- The commands on the module area, from what its call leaves.
-use Rattle.std.proofs.Common.{◌≡◌, ℕ, ◌-◌, ◌%◌, Bool, true, false, refl, ap, sym, subst, ◌∙◌, List, length}
-use Rattle.std.specs.Prelude.{ℤ, Option, Some, None, Ok, Err, IsOk, is_some, ok_or}
-use Rattle.std.specs.Option.{option_map}
-use Rattle.rh_defs.specs.declared.sizes.TheConstants.{PAGE}
-use Rattle.rh_defs.specs.Memory.{Memory, bytes}
-use Rattle.rh_defs.specs.Files.{FileList}
-use Rattle.rh_defs.specs.declared.command.Command.{Command}
-use Rattle.rh_defs.specs.declared.refusal.Refusal.{Refusal}
-use Rattle.rh_defs.specs.declared.refusal.Refusal.TheVariants.{NotABlock, NotYours}
-use Rattle.rh_defs.specs.declared.reply.Reply.{Reply}
+use Rattle.rh_tasks.proofs.Common.{◌≡◌, ℕ, ◌-◌, ◌%◌, Bool, true, false, refl, ap, sym, subst, ◌∙◌, List, length, ℤ, Option, Some, None, Ok, Err, IsOk}
+use Rattle.rh_tasks.proofs.Common.{is_some, ok_or, option_map, PAGE, Memory, bytes, FileList, Command, Refusal, NotABlock, Reply, Granted, ◌>>=◌, ◌>>◌}
+use Rattle.rh_tasks.proofs.Common.{refuse_if, found_or, left_of, no_answer, Split, first_at, Heap, Segment, block_at, block_size, size_of, module_claim}
+use Rattle.rh_tasks.proofs.Common.{module_resize, module_change, in_range, Post, Desk, free_pages, Answer, module_start, change, heap_in, IsQueue, post_in}
+use Rattle.rh_tasks.proofs.Common.{Seat, MadeArea, Kept, the_module, desk_of, IsWorld, begins, ends, granted-same, free-is, granted-keeps}
+use Rattle.rh_defs.specs.declared.refusal.Refusal.TheVariants.{NotYours}
 use Rattle.rh_defs.specs.Blocks.{SameShape}
-use Rattle.rh_defs.specs.Chain.{Granted, ◌>>=◌, ◌>>◌, refuse_if, found_or, left_of, no_answer}
-use Rattle.rh_defs.specs.Pieces.{Split, first_at}
-use Rattle.rh_defs.specs.Heap.{Heap, Segment, block_at, block_size, is_block_at, need_found, size_of}
+use Rattle.rh_defs.specs.Heap.{is_block_at, need_found}
 use Rattle.rh_defs.specs.declared.heap.HeapRefusal.TheVariants as heap_refusal
 use Rattle.rh_defs.proofs.ModuleLaws.{module_free-none, module_resize-refused}
 use Rattle.rh_defs.proofs.ShapeLaws.{blank_cut, block-blank}
-use Rattle.rh_defs.specs.Module.{module_claim, module_free, module_resize, module_change}
-use Rattle.rh_defs.specs.Range.{in_range}
-use Rattle.rh_defs.specs.Post.{Post, post_is_message}
-use Rattle.rh_defs.specs.Desk.{Desk, free_pages, with_module}
-use Rattle.rh_defs.specs.Commands.{Answer, module_start, own_block}
-use Rattle.rh_defs.specs.Step.{change}
-use Rattle.rh_module.specs.Area.{heap_in}
+use Rattle.rh_defs.specs.Module.{module_free}
+use Rattle.rh_defs.specs.Post.{post_is_message}
+use Rattle.rh_defs.specs.Desk.{with_module}
+use Rattle.rh_defs.specs.Commands.{own_block}
 use Rattle.rh_module.specs.Calls as module_calls
-use Rattle.rh_wimp.specs.Calls.{IsQueue}
 use Rattle.rh_wimp.specs.Laws.{with_heap}
-use Rattle.rh_wimp.specs.PostIn.{post_in}
 use Rattle.rh_wimp.proofs.FrameLaws.{IsOff}
 use Rattle.rh_wimp.proofs.BesideLaws.{Beside, off-message, claim-beside, free-beside, resize-beside, change-beside, answers-beside, queue-beside, post_in-calls}
-use Rattle.rh_tasks.specs.declared.seat.Seat.{Seat}
-use Rattle.rh_tasks.specs.declared.made.MadeArea.{MadeArea}
-use Rattle.rh_tasks.specs.View.{Kept, the_module, desk_of, IsWorld}
-use Rattle.rh_tasks.proofs.Chains.{begins, ends, skipped, granted-same, answered, answer-refused}
-use Rattle.rh_tasks.proofs.Worlds.{free-is, granted-keeps}
+use Rattle.rh_tasks.proofs.Chains.{skipped, answered, answer-refused}
 use Rattle.rh_tasks.proofs.Posts.{small, smaller, is-post}
 use Rattle.rh_tasks.proofs.Fixed.{module-desk, module-world}
 

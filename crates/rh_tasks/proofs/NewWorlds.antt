@@ -1,22 +1,13 @@
 -- The first world over a store whose areas were furnished.
-use Rattle.std.proofs.Common.{◌≡◌, ℕ, ◌+◌, refl, ap, sym, subst, ◌∙◌, arith, [], ◌∷◌}
-use Rattle.std.specs.Prelude.{None}
+use Rattle.rh_tasks.proofs.Common.{◌≡◌, ℕ, ◌+◌, refl, ap, sym, subst, ◌∙◌, arith, [], ◌∷◌, None, Memory, FileList, Heap, empty_heap, page, used_pages, IsDesk}
+use Rattle.rh_tasks.proofs.Common.{IsQueue, Chains, post_in, Kept, the_module, fixed_pages, scrap_of, desk_of, IsWorld}
 use Rattle.rh_defs.specs.Forms.{first_made}
-use Rattle.rh_defs.specs.Memory.{Memory}
-use Rattle.rh_defs.specs.Files.{FileList}
-use Rattle.rh_defs.specs.Heap.{Heap, empty_heap}
-use Rattle.rh_defs.specs.Pieces.{page}
 use Rattle.rh_defs.specs.Post as post
-use Rattle.rh_defs.specs.Desk.{used_pages}
 use Rattle.rh_defs.specs.Runs.{start_with}
-use Rattle.rh_defs.specs.Laws.{IsDesk, IsStart}
+use Rattle.rh_defs.specs.Laws.{IsStart}
 use Rattle.rh_defs.proofs.Steps.{start-is}
 use Rattle.rh_tasks.specs.declared.next.Next.{Next}
-use Rattle.rh_wimp.specs.Calls.{IsQueue}
-use Rattle.rh_wimp.specs.Chains.{Chains}
-use Rattle.rh_wimp.specs.PostIn.{post_in}
 use Rattle.rh_wimp.proofs.PostCalls.{post_in-starts}
-use Rattle.rh_tasks.specs.View.{Kept, the_module, fixed_pages, scrap_of, desk_of, IsWorld}
 use Rattle.rh_tasks.specs.Start.{IsFurnished}
 
 same-next : {a a' b b' : ℕ} → a ≡ a' → b ≡ b' → (let x : Next = record { handle = a; area = b } in x) ≡ (let y : Next = record { handle = a'; area = b' } in y)

@@ -1,17 +1,12 @@
 -- A fresh store whose first areas are opened one after the other.
-use Rattle.std.proofs.Common.{◌≡◌, ◌≢◌, ℕ, ◌+◌, ◌/◌, ◌<◌, ◌≤◌, refl, ap, sym, subst, ◌∙◌, arith, List, [], length, inl, inr}
-use Rattle.std.specs.Prelude.{Option, Some, None, IsNone, IsSome, IsOk, IsErr, Ok, Err, Result, ◌↔◌, unwrap_or}
-use Rattle.std.proofs.lemmas.Bool.{cases_eq}
-use Rattle.rh_defs.specs.Memory.{Memory, IsOpen, OnlyArea, bytes, fresh, opened, grown, open_below}
-use Rattle.rh_defs.specs.Heap.{Heap, empty_heap}
-use Rattle.rh_defs.specs.Pieces.{page}
-use Rattle.rh_defs.proofs.MemoryLaws.{area-fresh, free-fresh, pages-fresh, open_below-fresh, open_below-opened, area-opened, area-opened_same, free-opened}
-use Rattle.rh_defs.proofs.MemoryLaws.{pages-opened, OnlyArea-grown, length-grown, OnlyArea-both}
-use Rattle.rh_defs.specs.declared.sizes.TheConstants.{MAX_AREAS, PAGE}
-use Rattle.rh_module.specs.Area.{IsModule, heap_in}
-use Rattle.rh_tasks.specs.View.{the_module, pages_at}
+use Rattle.rh_tasks.proofs.Common.{◌≡◌, ◌≢◌, ℕ, ◌+◌, ◌/◌, ◌<◌, ◌≤◌, refl, ap, sym, subst, ◌∙◌, arith, List, [], length, inl, inr, Option, Some, None, IsNone}
+use Rattle.rh_tasks.proofs.Common.{IsSome, IsOk, IsErr, Ok, Err, Result, ◌↔◌, unwrap_or, cases_eq, Memory, IsOpen, OnlyArea, bytes, opened, grown, open_below}
+use Rattle.rh_tasks.proofs.Common.{Heap, empty_heap, page, open_below-opened, area-opened, OnlyArea-grown, length-grown, MAX_AREAS, PAGE, IsModule, heap_in}
+use Rattle.rh_tasks.proofs.Common.{the_module, pages_at, Stay, pages-stay, count-stays}
+use Rattle.rh_defs.specs.Memory.{fresh}
+use Rattle.rh_defs.proofs.MemoryLaws.{area-fresh, free-fresh, pages-fresh, open_below-fresh, area-opened_same, free-opened, pages-opened, OnlyArea-both}
 use Rattle.rh_tasks.specs.Start.{IsFurnished}
-use Rattle.rh_tasks.proofs.Frames.{Stay, pages-stay, count-stays, opened-stays}
+use Rattle.rh_tasks.proofs.Frames.{opened-stays}
 
 -- the areas below a number are open, with no page, and no other
 pub record AreOpened (m : Memory) (k pages : ℕ) : Type 0 where

@@ -1,11 +1,10 @@
 -- An area's pages after it grew or shrank.
-use Rattle.std.proofs.Common.{◌≡◌, ℕ, ◌+◌, ◌-◌, ◌*◌, ◌/◌, ◌%◌, ◌<◌, ◌≤◌, refl, ap, sym, subst, ◌∙◌, arith, List, length}
-use Rattle.std.proofs.lemmas.List.{length-take, take-append-drop, take-append-le}
-use Rattle.std.specs.Prelude.{take, drop, replicate, Bool, true, false, Result, Ok, Err, IsOk, IsErr, IsTrue, ◌↔◌}
-use Rattle.rh_defs.specs.declared.sizes.TheConstants.{PAGE}
-use Rattle.rh_defs.specs.Memory.{Memory, OnlyArea, bytes, grown, shrunk}
-use Rattle.rh_defs.proofs.MemoryLaws.{bytes-shrunk, bytes-grown, length-shrunk, OnlyArea-shrunk, length-grown, OnlyArea-grown}
-use Rattle.rh_tasks.specs.View.{pages_at}
+use Rattle.rh_tasks.proofs.Common.{◌≡◌, ℕ, ◌+◌, ◌-◌, ◌*◌, ◌/◌, ◌%◌, ◌<◌, ◌≤◌, refl, ap, sym, subst, ◌∙◌, arith, List, length, length-take, take, drop}
+use Rattle.rh_tasks.proofs.Common.{replicate, Bool, true, false, Result, Ok, Err, IsOk, IsErr, IsTrue, ◌↔◌, PAGE, Memory, OnlyArea, bytes, grown}
+use Rattle.rh_tasks.proofs.Common.{length-grown, OnlyArea-grown, pages_at}
+use Rattle.std.proofs.lemmas.List.{take-append-drop, take-append-le}
+use Rattle.rh_defs.specs.Memory.{shrunk}
+use Rattle.rh_defs.proofs.MemoryLaws.{bytes-shrunk, bytes-grown, length-shrunk, OnlyArea-shrunk}
 
 -- the first bytes of a list's first bytes
 take-take : (k j : ℕ) (b : List ℕ) → k ≤ j → k ≤ length b → take k (take j b) ≡ take k b

@@ -1,35 +1,15 @@
 -- A poll: a message is taken, and then handled.
-use Rattle.std.proofs.Common.{◌≡◌, ℕ, ◌<◌, refl, ap, sym, subst, ◌∙◌, arith, List, length}
-use Rattle.std.specs.Prelude.{Option, None, Some, Ok, map}
-use Rattle.std.specs.Option.{option_map}
-use Rattle.std.proofs.lemmas.List.{length-map}
-use Rattle.rh_defs.specs.Memory.{Memory}
-use Rattle.rh_defs.specs.Files.{FileList}
+use Rattle.rh_tasks.proofs.Common.{◌≡◌, ℕ, ◌<◌, refl, ap, sym, subst, ◌∙◌, arith, List, length, Option, None, Some, Ok, map, option_map, length-map, Memory}
+use Rattle.rh_tasks.proofs.Common.{FileList, EventCode, Message, Outcome, Reply, Parcel, post_poll, Desk, Task, with_delivered, IsReordered, with_queue}
+use Rattle.rh_tasks.proofs.Common.{Handled, Granted, Answer, Seat, MadeArea, Kept, task_of, desk_of, IsWorld, Found, IsAt, IsFor, begins, sits, named-is}
+use Rattle.rh_tasks.proofs.Common.{mapped-at, reordered-at}
 use Rattle.rh_defs.specs.declared.message.Event.{Event}
-use Rattle.rh_defs.specs.declared.message.EventCode.{EventCode}
-use Rattle.rh_defs.specs.declared.message.Message.{Message}
-use Rattle.rh_defs.specs.declared.reply.Outcome.{Outcome}
-use Rattle.rh_defs.specs.declared.reply.Reply.{Reply}
 use Rattle.rh_defs.specs.declared.reply.Reply.TheVariants as reply
-use Rattle.rh_defs.specs.Messages.{Parcel, action_of}
-use Rattle.rh_defs.specs.Post.{post_poll}
-use Rattle.rh_defs.specs.Desk.{Desk, Task, with_delivered}
-use Rattle.rh_defs.specs.Order.{IsReordered, with_queue}
-use Rattle.rh_defs.specs.OutgoingEvents.{Handled}
-use Rattle.rh_defs.specs.Chain.{Granted}
-use Rattle.rh_defs.specs.Commands.{Answer}
+use Rattle.rh_defs.specs.Messages.{action_of}
 use Rattle.rh_defs.specs.Step.{poll, poll_taken}
 use Rattle.rh_defs.specs.Transfer.{handled}
 use Rattle.rh_defs.proofs.OrderSteps.{Alike, handled-alike}
 use Rattle.rh_wimp.specs.Chains.{event_of}
-use Rattle.rh_tasks.specs.declared.seat.Seat.{Seat}
-use Rattle.rh_tasks.specs.declared.made.MadeArea.{MadeArea}
-use Rattle.rh_tasks.specs.View.{Kept, task_of, desk_of, IsWorld}
-use Rattle.rh_tasks.specs.Finding.{Found}
-use Rattle.rh_tasks.specs.Polls.{IsAt, IsFor}
-use Rattle.rh_tasks.proofs.Chains.{begins}
-use Rattle.rh_tasks.proofs.Finding.{sits, named-is}
-use Rattle.rh_tasks.proofs.Places.{mapped-at, reordered-at}
 use Rattle.rh_tasks.proofs.Reorders.{reordered-trans}
 
 -- ---- an event is a parcel without its recipient and block

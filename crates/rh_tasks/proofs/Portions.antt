@@ -1,22 +1,13 @@
 -- The bytes of a block that go out, and the range that they go into.
-use Rattle.std.proofs.Common.{◌≡◌, ℕ, ◌+◌, ◌-◌, ◌<◌, ◌≤◌, Bool, true, false, refl, sym, subst, ◌∙◌, arith, length}
-use Rattle.std.specs.Prelude.{Option, Some, None, Ok, Err, IfSome, is_some, ok_or, ◌&&◌, ◌==◌, nat_le, if◌then◌else◌}
-use Rattle.std.specs.Option.{option_map}
-use Rattle.std.proofs.lemmas.Bool.{eqb-true}
-use Rattle.rh_defs.specs.declared.refusal.Refusal.{Refusal}
-use Rattle.rh_defs.specs.declared.refusal.Refusal.TheVariants.{NoBlock, NotABlock}
-use Rattle.rh_defs.specs.Chain.{Granted, ◌>>=◌, found_or}
-use Rattle.rh_defs.specs.Pieces.{Split}
-use Rattle.rh_defs.specs.Heap.{Segment, bytes_of, block_size}
+use Rattle.rh_tasks.proofs.Common.{◌≡◌, ℕ, ◌+◌, ◌-◌, ◌<◌, ◌≤◌, Bool, true, false, refl, sym, subst, ◌∙◌, arith, length, Option, Some, None, Ok, Err, IfSome}
+use Rattle.rh_tasks.proofs.Common.{is_some, ok_or, ◌&&◌, ◌==◌, nat_le, if◌then◌else◌, option_map, eqb-true, Refusal, NoBlock, NotABlock, Granted, ◌>>=◌}
+use Rattle.rh_tasks.proofs.Common.{found_or, Split, Segment, bytes_of, block_size, Flex, weight, slot_block, slot_size, slot_start, slot_length, heap_start}
+use Rattle.rh_tasks.proofs.Common.{heap_block_at, flex_address, flex_start, holds, HaveAnchors, anchor_count, buffer_at, overlap, Task, is_out_of_reach}
+use Rattle.rh_tasks.proofs.Common.{IsCut, first_at-cuts, cut-total, begins, le-true, le-false}
 use Rattle.rh_defs.specs.Slot as plain
-use Rattle.rh_defs.specs.Slot.{Flex, weight, block_of, slot_block, slot_size, slot_address, slot_start, slot_length, heap_start, heap_block_at, flex_address}
-use Rattle.rh_defs.specs.Slot.{flex_start, holds, HaveAnchors, anchor_count}
-use Rattle.rh_defs.specs.Places.{buffer_at, roomy_in, overlap}
-use Rattle.rh_defs.specs.Desk.{Task}
-use Rattle.rh_defs.specs.OutgoingEvents.{is_out_of_reach}
-use Rattle.rh_defs.proofs.Cuts.{IsCut, first_at-cuts, cut-total}
+use Rattle.rh_defs.specs.Slot.{block_of, slot_address}
+use Rattle.rh_defs.specs.Places.{roomy_in}
 use Rattle.rh_defs.proofs.SlotLaws.{HaveAnchors-cut}
-use Rattle.rh_tasks.proofs.Chains.{begins, le-true, le-false}
 
 -- ---- the anchor's block
 

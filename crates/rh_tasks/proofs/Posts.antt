@@ -1,28 +1,18 @@
 -- The post of a world, which its queue and its module area spell.
-use Rattle.std.proofs.Common.{◌≡◌, ◌≢◌, ℕ, zero, suc, ◌*◌, ◌<◌, refl, ap, sym, subst, ◌∙◌, arith, List, [], ◌∷◌, ◌++◌, length}
-use Rattle.std.specs.Prelude.{map, None}
-use Rattle.std.proofs.lemmas.List.{map-append, length-map}
-use Rattle.rh_defs.specs.declared.sizes.TheConstants.{PAGE}
-use Rattle.rh_defs.specs.Memory.{Memory, OnlyArea, bytes}
-use Rattle.rh_defs.specs.Files.{FileList}
+use Rattle.rh_tasks.proofs.Common.{◌≡◌, ◌≢◌, ℕ, zero, suc, ◌*◌, ◌<◌, refl, ap, sym, subst, ◌∙◌, arith, List, [], ◌∷◌, ◌++◌, length, map, None, map-append}
+use Rattle.rh_tasks.proofs.Common.{length-map, PAGE, Memory, OnlyArea, bytes, FileList, Heap, Parcel, Post, Desk, Task, heap_in, Chains, HasEntry, SpellsPost}
+use Rattle.rh_tasks.proofs.Common.{joined, post_in, Seat, MadeArea, Kept, the_module, task_of, desk_of, Avoids, IsWorld, Sits}
 use Rattle.rh_defs.specs.Blocks.{poked}
 use Rattle.rh_defs.specs.Bytes.{word_bytes}
-use Rattle.rh_defs.specs.Heap.{Heap}
-use Rattle.rh_defs.specs.Messages.{Parcel}
-use Rattle.rh_defs.specs.Post.{Post, Seat as PostSeat, post_join}
-use Rattle.rh_defs.specs.Desk.{Desk, Task, module_pages}
+use Rattle.rh_defs.specs.Post.{Seat as PostSeat, post_join}
+use Rattle.rh_defs.specs.Desk.{module_pages}
 use Rattle.rh_defs.specs.Laws.{seat_handles, task_handles}
-use Rattle.rh_module.specs.Area.{heap_in}
 use Rattle.rh_wimp.specs.declared.chain.Entry.{Entry}
 use Rattle.rh_wimp.specs.Calls.{handles_of}
-use Rattle.rh_wimp.specs.Chains.{Chains, Row, HasEntry, SpellsPost, entry_at, joined, row_parcels}
+use Rattle.rh_wimp.specs.Chains.{Row, entry_at, row_parcels}
 use Rattle.rh_wimp.specs.Laws.{IsSmall}
-use Rattle.rh_wimp.specs.PostIn.{row_in, rows_in, seat_of, chains_of, parcels_of, unlinked, post_of, post_in}
+use Rattle.rh_wimp.specs.PostIn.{row_in, rows_in, seat_of, chains_of, parcels_of, unlinked, post_of}
 use Rattle.rh_wimp.proofs.PostCalls.{post_in-spelled}
-use Rattle.rh_tasks.specs.declared.seat.Seat.{Seat}
-use Rattle.rh_tasks.specs.declared.made.MadeArea.{MadeArea}
-use Rattle.rh_tasks.specs.View.{Kept, the_module, task_of, desk_of, Avoids, IsWorld}
-use Rattle.rh_tasks.proofs.Lists.{Sits}
 use Rattle.rh_tasks.proofs.Worlds.{rise-below}
 
 -- ---- where the heap ends

@@ -1,31 +1,14 @@
 -- What is asked of a named task's slot.
-use Rattle.std.proofs.Common.{◌≡◌, ℕ, ◌+◌, ◌≤◌, Bool, true, false, refl, ap, arith, List, length}
-use Rattle.std.specs.Prelude.{Option, Some, None, Ok, Err, IfSome, nat_lt, take, drop, ◌==◌}
-use Rattle.std.specs.Option.{option_map}
-use Rattle.rh_defs.specs.Memory.{Memory, bytes}
-use Rattle.rh_defs.specs.Files.{FileList}
-use Rattle.rh_defs.specs.declared.refusal.Refusal.{Refusal}
-use Rattle.rh_defs.specs.declared.refusal.Refusal.TheVariants.{BadRange}
+use Rattle.rh_tasks.proofs.Common.{◌≡◌, ℕ, ◌+◌, ◌≤◌, Bool, true, false, refl, ap, arith, List, length, Option, Some, None, Ok, Err, IfSome, nat_lt, take}
+use Rattle.rh_tasks.proofs.Common.{drop, ◌==◌, option_map, Memory, bytes, FileList, Refusal, BadRange, eqb-true, Granted, ◌>>=◌, ◌>>◌, refuse_if, outcome_of}
+use Rattle.rh_tasks.proofs.Common.{result_or, Split, total, Heap, Segment, Used, Hole, size_of, segment_at, first_place, base, IsCut, first_at-cuts}
+use Rattle.rh_tasks.proofs.Common.{cut-total, Desk, named, segment_item, slot_in, Seat, MadeArea, Kept, desk_of, task_of, IsWorld, Owns, begins, found-named}
 use Rattle.rh_defs.specs.declared.listing.SegmentItem.TheVariants as segment
-use Rattle.std.proofs.lemmas.Bool.{eqb-true}
-use Rattle.rh_defs.specs.Chain.{Granted, ◌>>=◌, ◌>>◌, refuse_if, outcome_of, result_or}
-use Rattle.rh_defs.specs.Pieces.{Split, total}
-use Rattle.rh_defs.specs.Heap.{Heap, Segment, Used, Hole, size_of, segment_at, first_place, base}
 use Rattle.rh_defs.specs.Slot as plain
-use Rattle.rh_defs.proofs.Cuts.{IsCut, first_at-cuts, cut-total}
-use Rattle.rh_defs.specs.Desk.{Desk, named}
-use Rattle.rh_defs.specs.Listing.{segment_item}
 use Rattle.rh_heap.specs.declared.layout.Segment.{Segment as Piece}
 use Rattle.rh_heap.specs.Segments.{piece}
 use Rattle.rh_slot.specs.declared.slot.Slot.{Slot}
-use Rattle.rh_slot.specs.Area.{slot_in}
-use Rattle.rh_tasks.specs.declared.seat.Seat.{Seat}
-use Rattle.rh_tasks.specs.declared.made.MadeArea.{MadeArea}
-use Rattle.rh_tasks.specs.View.{Kept, desk_of, task_of, IsWorld}
-use Rattle.rh_tasks.specs.Finding.{Owns}
 use Rattle.rh_tasks.specs.Items.{segment_item_of}
-use Rattle.rh_tasks.proofs.Chains.{begins}
-use Rattle.rh_tasks.proofs.Moves.{found-named}
 
 -- ---- a slot that was found
 

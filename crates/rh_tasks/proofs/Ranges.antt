@@ -1,15 +1,10 @@
 -- What the form of a command says of its numbers.
-use Rattle.std.proofs.Common.{◌≡◌, ℕ, ◌<◌, true, arith, List}
-use Rattle.std.specs.Prelude.{ℤ, pos, negsuc}
-use Rattle.std.proofs.Common.{SFits, w32}
-use Rattle.std.proofs.lemmas.Int.{ints}
-use Rattle.rh_defs.specs.Slot.{anchor_count}
+use Rattle.rh_tasks.proofs.Common.{◌≡◌, ℕ, ◌<◌, true, arith, List, ℤ, pos, negsuc, SFits, w32, ints, anchor_count, nat_tests, in_range}
 use Rattle.rh_defs.specs.Forms.{is_delta, is_leaf}
-use Rattle.std.proofs.lemmas.Bool.Decides.{nat_tests}
 use Rattle.rh_defs.specs.declared.command.Command.TheVariants as command
 use Rattle.rh_defs.specs.declared.question.Question.{Question}
 use Rattle.rh_defs.specs.declared.question.Question.TheVariants as question
-use Rattle.rh_defs.specs.Range.{in_range, can_be_asked}
+use Rattle.rh_defs.specs.Range.{can_be_asked}
 
 pub alloc-anchor : (name : List ℕ) (k n : ℕ) → in_range (command.Alloc name k n) ≡ true → k < anchor_count
 unfolding in_range

@@ -1,21 +1,13 @@
 -- What the readers give of a slot, and that it is small.
-use Rattle.std.proofs.Common.{◌≡◌, ℕ, ◌+◌, ◌≤◌, ap, sym, ◌∙◌, arith, List, length}
-use Rattle.std.specs.Prelude.{Option, Some, None, Ok, Err, IfSome, Result, Bool, ◌==◌}
-use Rattle.std.specs.Option.{option_map}
+use Rattle.rh_tasks.proofs.Common.{◌≡◌, ℕ, ◌+◌, ◌≤◌, ap, sym, ◌∙◌, arith, List, length, Option, Some, None, Ok, Err, IfSome, Result, Bool, ◌==◌, option_map}
+use Rattle.rh_tasks.proofs.Common.{Memory, bytes, NoBlock, SegmentItem, Granted, ◌>>=◌, found_or, outcome_of, result_or, Split, total, Heap, segment_at}
+use Rattle.rh_tasks.proofs.Common.{segment_item, IsCut, first_at-cuts, cut-total, IsSlot, slot_in}
 use Rattle.std.specs.Result.{MatchResult}
-use Rattle.rh_defs.specs.Memory.{Memory, bytes}
-use Rattle.rh_defs.specs.declared.refusal.Refusal.TheVariants.{NoBlock}
-use Rattle.rh_defs.specs.declared.listing.SegmentItem.{SegmentItem}
-use Rattle.rh_defs.specs.Chain.{Granted, ◌>>=◌, found_or, outcome_of, result_or}
-use Rattle.rh_defs.specs.Pieces.{Split, total}
-use Rattle.rh_defs.specs.Heap.{Heap, segment_at, largest, free_bytes}
+use Rattle.rh_defs.specs.Heap.{largest, free_bytes}
 use Rattle.rh_defs.specs.Slot as plain
-use Rattle.rh_defs.specs.Listing.{segment_item}
-use Rattle.rh_defs.proofs.Cuts.{IsCut, first_at-cuts, cut-total}
 use Rattle.rh_heap.specs.declared.layout.Segment.{Segment}
 use Rattle.rh_heap.specs.Segments.{piece}
 use Rattle.rh_slot.specs.declared.slot.Slot.{Slot}
-use Rattle.rh_slot.specs.Area.{IsSlot, slot_in}
 use Rattle.rh_tasks.specs.Items.{segment_item_of}
 use Rattle.rh_tasks.proofs.ItemLaws.{blocks-weigh, largest-small, free-small}
 use Rattle.rh_tasks.proofs.QuestionLaws.{IsPiece, piece-at, piece-none, segment-listed}

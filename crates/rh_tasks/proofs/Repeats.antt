@@ -1,42 +1,20 @@
 -- Letters that a task sends.
-use Rattle.std.proofs.Common.{◌≡◌, ℕ, refl, ap, sym, subst, ◌∙◌, List}
-use Rattle.std.specs.Prelude.{Option, Some, None, Ok, Err, true}
-use Rattle.std.specs.Option.{option_map}
-use Rattle.std.proofs.Math.ListN.{set}
-use Rattle.rh_defs.specs.Memory.{Memory}
-use Rattle.rh_defs.proofs.MemoryLaws.{OnlyArea-self}
-use Rattle.rh_defs.specs.Files.{FileList}
+use Rattle.rh_tasks.proofs.Common.{◌≡◌, ℕ, refl, ap, sym, subst, ◌∙◌, List, Option, Some, None, Ok, Err, true, option_map, set, Memory, OnlyArea-self}
+use Rattle.rh_tasks.proofs.Common.{FileList, Letter, Refusal, Granted, ◌>>=◌, ◌>>◌, found_or, answer_of, left_of, in_range, Post, post_send, Desk, Task}
+use Rattle.rh_tasks.proofs.Common.{next_ref, with_task, with_post, send_letter, Answer, IsDesk, IsReordered, IsSlot, Answers, Chains, HasEntry, post_in, Seat}
+use Rattle.rh_tasks.proofs.Common.{MadeArea, Kept, kept_of, the_module, HasSlot, task_of, desk_of, shown_of, IsWorld, ScrapFile, Found, with_last, Sits}
+use Rattle.rh_tasks.proofs.Common.{all-at, set_same, begins, ends, sits, named-is, free-is, granted-keeps, Moves}
 use Rattle.rh_defs.specs.declared.command.Command.TheVariants as command
-use Rattle.rh_defs.specs.declared.message.Letter.{Letter}
-use Rattle.rh_defs.specs.declared.refusal.Refusal.{Refusal}
 use Rattle.rh_defs.specs.declared.refusal.Refusal.TheVariants.{NothingSent}
 use Rattle.rh_defs.specs.declared.reply.Reply.TheVariants as reply
-use Rattle.rh_defs.specs.Chain.{Granted, ◌>>=◌, ◌>>◌, found_or, answer_of, left_of}
-use Rattle.rh_defs.specs.Range.{in_range}
-use Rattle.rh_defs.specs.Post.{Post, post_send}
-use Rattle.rh_defs.specs.Desk.{Desk, Task, next_ref, with_task, with_post, send_letter}
-use Rattle.rh_defs.specs.Commands.{Answer}
-use Rattle.rh_defs.specs.Laws.{IsDesk}
-use Rattle.rh_defs.specs.Order.{IsReordered}
 use Rattle.rh_defs.specs.Step.{repeat}
-use Rattle.rh_slot.specs.Area.{IsSlot}
-use Rattle.rh_wimp.specs.Calls.{Answers, Leaves}
-use Rattle.rh_wimp.specs.Chains.{Chains, HasEntry}
-use Rattle.rh_wimp.specs.PostIn.{post_in}
-use Rattle.rh_tasks.specs.declared.seat.Seat.{Seat}
+use Rattle.rh_wimp.specs.Calls.{Leaves}
 use Rattle.rh_tasks.specs.declared.seat.SentLetter.{SentLetter}
-use Rattle.rh_tasks.specs.declared.made.MadeArea.{MadeArea}
-use Rattle.rh_tasks.specs.View.{Kept, kept_of, the_module, HasSlot, last_of, task_of, desk_of, shown_of, IsWorld}
+use Rattle.rh_tasks.specs.View.{last_of}
 use Rattle.rh_tasks.specs.declared.next.Next.{Next}
-use Rattle.rh_tasks.specs.declared.scrap.ScrapFile.{ScrapFile}
-use Rattle.rh_tasks.specs.Finding.{Found}
-use Rattle.rh_tasks.specs.Letters.{from_last, again, with_last}
-use Rattle.rh_tasks.proofs.Lists.{Sits, all-at, set_same}
-use Rattle.rh_tasks.proofs.Chains.{begins, ends, answered, answer-refused}
-use Rattle.rh_tasks.proofs.Finding.{sits, named-is}
-use Rattle.rh_tasks.proofs.Worlds.{free-is, granted-keeps}
+use Rattle.rh_tasks.specs.Letters.{from_last, again}
+use Rattle.rh_tasks.proofs.Chains.{answered, answer-refused}
 use Rattle.rh_tasks.proofs.Posts.{is-post, has-entry}
-use Rattle.rh_tasks.proofs.Moves.{Moves}
 use Rattle.rh_tasks.proofs.Sends.{desk_then, sent-alike, sent-world}
 
 -- a letter that is sent gets the next ref

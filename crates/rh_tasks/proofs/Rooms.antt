@@ -1,16 +1,12 @@
 -- A buffer and then an empty document are granted just where the pages that both take are free.
-use Rattle.std.proofs.Common.{◌≡◌, ℕ, zero, suc, ◌+◌, ◌-◌, ◌≤◌, ◌<◌, Bool, true, false, ◌⊎◌, inl, inr, cond, refl, ap, sym, ◌∙◌, arith, List, [], ◌∷◌}
-use Rattle.std.specs.Prelude.{Option, Some, None, Ok, Err, is_some, ◌==◌}
-use Rattle.std.specs.Option.{option_map}
-use Rattle.rh_defs.specs.declared.refusal.Refusal.TheVariants.{BadSize, NoBudge, NoRoom}
-use Rattle.rh_defs.specs.Chain.{Granted, ◌>>=◌, refuse_if}
-use Rattle.rh_defs.specs.Pieces.{round_up, page, pages_for, zeros, Split, first_at, behind}
-use Rattle.rh_defs.specs.Heap.{Heap, need, claim_growing}
-use Rattle.rh_defs.specs.Slot.{Slot, Flex, weight, flex_weight, flex_address, slot_length, slot_pages, is_used, is_stuck, with_heap, with_block, with_placed}
-use Rattle.rh_defs.specs.Slot.{slot_alloc, slot_claim, slot_take_pages, flex_start, anchor_count}
+use Rattle.rh_tasks.proofs.Common.{◌≡◌, ℕ, zero, suc, ◌+◌, ◌-◌, ◌≤◌, ◌<◌, Bool, true, false, ◌⊎◌, inl, inr, cond, refl, ap, sym, ◌∙◌, arith, List, [], ◌∷◌}
+use Rattle.rh_tasks.proofs.Common.{Option, Some, None, Ok, Err, is_some, ◌==◌, option_map, BadSize, NoRoom, Granted, ◌>>=◌, refuse_if, page, pages_for, zeros}
+use Rattle.rh_tasks.proofs.Common.{Split, first_at, Heap, need, claim_growing, Slot, Flex, weight, flex_address, slot_length, slot_alloc, slot_claim}
+use Rattle.rh_tasks.proofs.Common.{slot_take_pages, flex_start, anchor_count, IsFreeAnchor, lt-true, lt-false}
+use Rattle.rh_defs.specs.declared.refusal.Refusal.TheVariants.{NoBudge}
+use Rattle.rh_defs.specs.Pieces.{round_up, behind}
+use Rattle.rh_defs.specs.Slot.{flex_weight, slot_pages, is_used, is_stuck, with_heap, with_block, with_placed}
 use Rattle.rh_defs.specs.Places.{free_from}
-use Rattle.rh_tasks.specs.Polls.{IsFreeAnchor}
-use Rattle.rh_tasks.proofs.Chains.{lt-true, lt-false}
 use Rattle.rh_tasks.proofs.SendRooms.{where_free}
 
 -- ---- what is given where so many pages are free

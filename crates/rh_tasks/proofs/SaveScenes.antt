@@ -1,28 +1,8 @@
 -- What a save to the scrap file knows of a world at each of its steps.
-use Rattle.std.proofs.Common.{◌≡◌, ℕ, ◌<◌, ◌≤◌, false, refl, sym, ap, ◌∙◌, arith, List, length}
-use Rattle.std.specs.Prelude.{Ok, is_some}
-use Rattle.std.proofs.Math.ListN.{get_or}
-use Rattle.rh_defs.specs.Memory.{Memory}
-use Rattle.rh_defs.specs.Files.{FileList}
-use Rattle.rh_defs.specs.Chain.{Granted}
-use Rattle.rh_defs.specs.declared.message.EventCode.TheVariants.{User}
-use Rattle.rh_defs.specs.declared.message.Letter.{Letter}
-use Rattle.rh_defs.specs.declared.message.Message.{Message}
-use Rattle.rh_defs.specs.declared.transfer.Sending.{Sending}
-use Rattle.rh_defs.specs.Slot.{slot_size}
-use Rattle.rh_defs.specs.Messages.{Parcel}
+use Rattle.rh_tasks.proofs.Common.{◌≡◌, ℕ, ◌<◌, ◌≤◌, false, refl, sym, ap, ◌∙◌, arith, List, length, Ok, is_some, get_or, Memory, FileList, Granted, User}
+use Rattle.rh_tasks.proofs.Common.{Letter, Message, Sending, slot_size, Parcel, post_send_pages, Desk, Task, free_pages, wider, scrap_shortage, slot_in}
+use Rattle.rh_tasks.proofs.Common.{Answers, Seat, MadeArea, Shown, Kept, the_module, task_of, shown_of, IsWorld, IsFor, Sits}
 use Rattle.rh_defs.specs.Letters.{load_letter}
-use Rattle.rh_defs.specs.Post.{post_send_pages}
-use Rattle.rh_defs.specs.Desk.{Desk, Task, free_pages}
-use Rattle.rh_defs.specs.OutgoingEvents.{wider, scrap_shortage}
-use Rattle.rh_slot.specs.Area.{slot_in}
-use Rattle.rh_wimp.specs.Calls.{Answers}
-use Rattle.rh_tasks.specs.declared.seat.Seat.{Seat}
-use Rattle.rh_tasks.specs.declared.made.MadeArea.{MadeArea}
-use Rattle.rh_tasks.specs.Shown.{Shown}
-use Rattle.rh_tasks.specs.View.{Kept, the_module, task_of, shown_of, IsWorld}
-use Rattle.rh_tasks.specs.Polls.{IsFor}
-use Rattle.rh_tasks.proofs.Lists.{Sits}
 use Rattle.rh_tasks.proofs.Buffers.{sits-there, seat-there, seat-handle}
 use Rattle.rh_tasks.proofs.Scraps.{seen-desk, seen-slot, seen-busy, seen-pages, seen-free}
 use Rattle.rh_tasks.proofs.ScrapTransfers.{Saves, Widens}

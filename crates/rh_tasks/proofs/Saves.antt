@@ -1,46 +1,25 @@
 -- Blocks that are offered to other tasks.
-use Rattle.std.proofs.Common.{◌≡◌, ℕ, zero, suc, ◌<◌, Bool, true, false, cond, refl, ap, sym, ◌∙◌, arith, List, [], ◌∷◌, length}
-use Rattle.std.specs.Prelude.{Some, None, Ok, Err, find, map, nat_lt, nat_le, ◌==◌, ◌||◌, ◌&&◌, Option}
-use Rattle.std.specs.List.{list_all, list_any, position}
-use Rattle.std.proofs.Math.ListN.{get_or, set}
-use Rattle.std.proofs.lemmas.Bool.Decides.{nat_tests}
-use Rattle.rh_defs.specs.Memory.{Memory}
-use Rattle.rh_defs.proofs.MemoryLaws.{OnlyArea-self}
+use Rattle.rh_tasks.proofs.Common.{◌≡◌, ℕ, zero, suc, ◌<◌, Bool, true, false, cond, refl, ap, sym, ◌∙◌, arith, List, [], ◌∷◌, length, Some, None, Ok, Err}
+use Rattle.rh_tasks.proofs.Common.{find, map, nat_lt, nat_le, ◌==◌, ◌||◌, ◌&&◌, Option, list_any, position, get_or, set, nat_tests, Memory, OnlyArea-self}
+use Rattle.rh_tasks.proofs.Common.{FileList, Letter, Refusal, NoName, NoTask, Busy, Granted, ◌>>=◌, ◌>>◌, refuse_if, found_or, answer_of, left_of, in_range}
+use Rattle.rh_tasks.proofs.Common.{post_send, is_full, Desk, Task, next_ref, edit_task, idle_block, named, with_task, with_sending, send_letter, Answer}
+use Rattle.rh_tasks.proofs.Common.{IsDesk, IsReordered, IsSlot, slot_in, Answers, Chains, HasEntry, Seat, MadeArea, Kept, the_module, HasSlot, is_named}
+use Rattle.rh_tasks.proofs.Common.{task_of, desk_of, IsWorld, Found, looked, with_last, source_block, all-at, begins, ends, sits, named-is, granted-keeps}
+use Rattle.rh_tasks.proofs.Common.{Moves}
+use Rattle.std.specs.List.{list_all}
 use Rattle.rh_defs.proofs.MessageLaws.{name_is}
-use Rattle.rh_defs.specs.Files.{FileList}
 use Rattle.rh_defs.specs.Forms.{is_graphic, is_leaf}
 use Rattle.rh_defs.specs.Pathnames.{is_plain, is_pathname}
 use Rattle.rh_defs.specs.declared.command.Command.TheVariants as command
-use Rattle.rh_defs.specs.declared.message.Letter.{Letter}
-use Rattle.rh_defs.specs.declared.refusal.Refusal.{Refusal}
-use Rattle.rh_defs.specs.declared.refusal.Refusal.TheVariants.{NoName, NoTask, Busy}
 use Rattle.rh_defs.specs.declared.reply.Reply.TheVariants as reply
-use Rattle.rh_defs.specs.Chain.{Granted, ◌>>=◌, ◌>>◌, refuse_if, found_or, answer_of, left_of}
-use Rattle.rh_defs.specs.Range.{in_range}
 use Rattle.rh_defs.specs.Letters.{save_letter}
-use Rattle.rh_defs.specs.Post.{post_send}
-use Rattle.rh_defs.specs.Records.{is_open, is_full, is_source, is_document}
+use Rattle.rh_defs.specs.Records.{is_open, is_source, is_document}
 use Rattle.rh_defs.specs.Sender as sender
 use Rattle.rh_defs.specs.Slot as plain
-use Rattle.rh_defs.specs.Desk.{Desk, Task, has_name, next_ref, edit_task, idle_block, named, with_task, with_sending, send_letter}
-use Rattle.rh_defs.specs.Commands.{Answer}
-use Rattle.rh_defs.specs.Laws.{IsDesk}
-use Rattle.rh_defs.specs.Order.{IsReordered}
+use Rattle.rh_defs.specs.Desk.{has_name}
 use Rattle.rh_defs.specs.Step.{save}
-use Rattle.rh_slot.specs.Area.{IsSlot, slot_in}
-use Rattle.rh_wimp.specs.Calls.{Answers, Leaves}
-use Rattle.rh_wimp.specs.Chains.{Chains, HasEntry}
-use Rattle.rh_tasks.specs.declared.seat.Seat.{Seat}
-use Rattle.rh_tasks.specs.declared.made.MadeArea.{MadeArea}
-use Rattle.rh_tasks.specs.View.{Kept, the_module, HasSlot, is_named, task_of, desk_of, IsWorld}
-use Rattle.rh_tasks.specs.Finding.{Found, looked}
-use Rattle.rh_tasks.specs.Letters.{with_last}
-use Rattle.rh_tasks.specs.Saves.{source_block}
-use Rattle.rh_tasks.proofs.Lists.{all-at}
-use Rattle.rh_tasks.proofs.Chains.{begins, ends}
-use Rattle.rh_tasks.proofs.Finding.{sits, named-is, find-named, nobody-named}
-use Rattle.rh_tasks.proofs.Worlds.{granted-keeps}
-use Rattle.rh_tasks.proofs.Moves.{Moves}
+use Rattle.rh_wimp.specs.Calls.{Leaves}
+use Rattle.rh_tasks.proofs.Finding.{find-named, nobody-named}
 use Rattle.rh_tasks.proofs.Sends.{desk_then, sent-alike, sent-world}
 use Rattle.rh_tasks.proofs.Repeats.{from-live, letter-refused, letter_then, letter-sent, ref-is}
 

@@ -1,39 +1,27 @@
 -- Transfers by way of the scrap file, on desks.
-use Rattle.std.proofs.Common.{◌≡◌, ℕ, ◌+◌, ◌-◌, ◌*◌, ◌<◌, ◌≤◌, Bool, true, false, refl, ap, sym, subst, ◌∙◌, arith, List, length}
-use Rattle.std.specs.Prelude.{Option, Some, None, Result, Ok, Err, IsOk, is_some, not, nat_lt, ◌==◌, slice_get, slice_index}
-use Rattle.std.proofs.lemmas.Bool.Decides.{nat_tests}
-use Rattle.std.proofs.lemmas.Option.{slice_get_within}
-use Rattle.rh_defs.specs.declared.message.Letter.{Letter}
-use Rattle.rh_defs.specs.declared.refusal.Refusal.{Refusal}
-use Rattle.rh_defs.specs.declared.refusal.Refusal.TheVariants.{Busy, NoRoom, BadSize}
-use Rattle.rh_defs.specs.declared.reply.Outcome.{Outcome}
+use Rattle.rh_tasks.proofs.Common.{◌≡◌, ℕ, ◌+◌, ◌-◌, ◌*◌, ◌<◌, ◌≤◌, Bool, true, false, refl, ap, sym, subst, ◌∙◌, arith, List, length, Option, Some, None}
+use Rattle.rh_tasks.proofs.Common.{Result, Ok, Err, IsOk, is_some, not, nat_lt, ◌==◌, slice_get, slice_index, nat_tests, slice_get_within, Letter, Refusal}
+use Rattle.rh_tasks.proofs.Common.{Busy, NoRoom, BadSize, Outcome, Sending, Granted, ◌>>=◌, ◌>>◌, refuse_if, or_else, Split, page, Slot, Flex, slot_block}
+use Rattle.rh_tasks.proofs.Common.{slot_size, slot_put, Parcel, Post, post_send, post_send_pages, Desk, Task, Scrap, next_ref, free_pages, with_task}
+use Rattle.rh_tasks.proofs.Common.{with_slot, with_sending, with_taking, with_post, send_letter, IsDesk, IsReordered, Handled, ignored, refused}
+use Rattle.rh_tasks.proofs.Common.{scrap_shortage, wider, appended, grant-holds, Shown, IsAt, Sends, begins, ends, past, stops, lt-true, lt-false}
+use Rattle.rh_tasks.proofs.Common.{reordered-at, reordered-refl, edit-alike}
 use Rattle.rh_defs.specs.declared.reply.Outcome.TheVariants as outcome
-use Rattle.rh_defs.specs.declared.transfer.Sending.{Sending}
 use Rattle.rh_defs.specs.declared.transfer.Asked.{Asked}
-use Rattle.rh_defs.specs.Chain.{Granted, ◌>>=◌, ◌>>◌, refuse_if, or_else}
-use Rattle.rh_defs.specs.Pieces.{Split, page}
-use Rattle.rh_defs.specs.Slot.{Slot, Flex, slot_block, slot_size, slot_put}
 use Rattle.rh_defs.specs.Module.{module_need_pages}
-use Rattle.rh_defs.specs.Messages.{Parcel, parcel_size}
+use Rattle.rh_defs.specs.Messages.{parcel_size}
 use Rattle.rh_defs.specs.Letters.{load_letter, load_ack_letter}
-use Rattle.rh_defs.specs.Post.{Post, message_of, sendable, post_send, post_send_pages}
+use Rattle.rh_defs.specs.Post.{message_of, sendable}
 use Rattle.rh_defs.specs.Sender as sender
 use Rattle.rh_defs.specs.Receiver as receiver
-use Rattle.rh_defs.specs.Desk.{Desk, Task, Scrap, next_ref, free_pages, with_task, with_slot, with_sending, with_taking, with_post, send_letter}
 use Rattle.rh_defs.specs.Commands.{scrap_area}
-use Rattle.rh_defs.specs.Laws.{IsDesk}
-use Rattle.rh_defs.specs.Order.{IsReordered}
-use Rattle.rh_defs.specs.OutgoingEvents.{Handled, ignored, refused, scrap_shortage, wider, save_scrap, answer_ack}
-use Rattle.rh_defs.specs.IncomingEvents.{appended, loaded, load_file, take_file}
-use Rattle.rh_defs.proofs.Chains.{grant-holds}
+use Rattle.rh_defs.specs.OutgoingEvents.{save_scrap, answer_ack}
+use Rattle.rh_defs.specs.IncomingEvents.{loaded, load_file, take_file}
 use Rattle.rh_defs.proofs.Desks.{send_letter-keeps}
 use Rattle.rh_defs.proofs.Transfers.{wider-keeps, wider-room}
-use Rattle.rh_tasks.specs.Shown.{Shown}
-use Rattle.rh_tasks.specs.Polls.{IsAt, Sends, scrapped}
-use Rattle.rh_tasks.proofs.Chains.{begins, ends, past, stops, lt-true, lt-false}
+use Rattle.rh_tasks.specs.Polls.{scrapped}
 use Rattle.rh_tasks.proofs.Fixed.{total-set}
-use Rattle.rh_tasks.proofs.Places.{edited-at, edited-is, reordered-at, same-at, one-at}
-use Rattle.rh_tasks.proofs.Reorders.{reordered-refl, edit-alike}
+use Rattle.rh_tasks.proofs.Places.{edited-at, edited-is, same-at, one-at}
 use Rattle.rh_tasks.proofs.SendRooms.{send-fits, send-lacks}
 use Rattle.rh_tasks.proofs.Portions.{Sized, sized, unsized}
 

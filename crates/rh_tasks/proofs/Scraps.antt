@@ -1,40 +1,21 @@
 -- Worlds in which area 5 or the scrap file changes.
-use Rattle.std.proofs.Common.{◌≡◌, ℕ, ◌+◌, ◌-◌, ◌*◌, ◌/◌, ◌%◌, ◌<◌, ◌≤◌, refl, ap, sym, subst, ◌∙◌, arith, List, length, take, drop}
-use Rattle.std.specs.Prelude.{Option, Some, None, Ok, IsOk, is_some, replicate, slice_set}
-use Rattle.std.proofs.lemmas.List.{length-take, take-append-le, take_all}
-use Rattle.rh_defs.specs.declared.sizes.TheConstants.{PAGE}
-use Rattle.rh_defs.specs.Bytes.{part, put}
-use Rattle.rh_defs.proofs.BytesLaws.{length-put, length-part, part-put, part-drop}
-use Rattle.rh_defs.specs.Memory.{Memory, OnlyArea, bytes, with_bytes, grown}
-use Rattle.rh_defs.proofs.MemoryLaws.{bytes-with_bytes, bytes-grown, length-grown, OnlyArea-self, OnlyArea-with_bytes, OnlyArea-grown}
-use Rattle.rh_defs.specs.Files.{FileList}
-use Rattle.rh_defs.specs.Chain.{Granted, no_answer}
-use Rattle.rh_defs.specs.Pieces.{Split, pages_for}
-use Rattle.rh_defs.specs.declared.message.Letter.{Letter}
-use Rattle.rh_defs.specs.Post.{post_send_pages}
+use Rattle.rh_tasks.proofs.Common.{◌≡◌, ℕ, ◌+◌, ◌-◌, ◌*◌, ◌/◌, ◌%◌, ◌<◌, ◌≤◌, refl, ap, sym, subst, ◌∙◌, arith, List, length, take, drop, Option, Some, None}
+use Rattle.rh_tasks.proofs.Common.{Ok, IsOk, is_some, replicate, slice_set, length-take, take_all, PAGE, part, length-part, part-drop, Memory, OnlyArea}
+use Rattle.rh_tasks.proofs.Common.{bytes, grown, length-grown, OnlyArea-self, OnlyArea-grown, FileList, Granted, no_answer, Split, pages_for, Letter}
+use Rattle.rh_tasks.proofs.Common.{post_send_pages, Flex, HaveAnchors, weight, flex_start, flex_address, slot_start, slot_block, slot_size, anchor_count}
+use Rattle.rh_tasks.proofs.Common.{flex_place, Desk, Task, Scrap, used_pages, free_pages, IsDesk, wider, scrap_shortage, appended, IsSlot, slot_in, Leaves}
+use Rattle.rh_tasks.proofs.Common.{Answers, Standing, Seat, MadeArea, ScrapFile, Kept, the_module, HasSlot, pages_at, fixed_pages, scrap_from, scrap_size}
+use Rattle.rh_tasks.proofs.Common.{scrap_of, slot_area, made_area, task_of, desk_of, shown_of, IsWorld, Shown, slot_append, IsAt, Becomes, Sits, cons, all-at}
+use Rattle.rh_tasks.proofs.Common.{avoids-below, Stay, pages-stay, tasks-stay, mades-stay, module-stays, post-stays, queue-stays, free-is, same-desk}
+use Rattle.std.proofs.lemmas.List.{take-append-le}
+use Rattle.rh_defs.specs.Bytes.{put}
+use Rattle.rh_defs.proofs.BytesLaws.{length-put, part-put}
+use Rattle.rh_defs.specs.Memory.{with_bytes}
+use Rattle.rh_defs.proofs.MemoryLaws.{bytes-with_bytes, bytes-grown, OnlyArea-with_bytes}
 use Rattle.rh_defs.specs.Slot as plain
-use Rattle.rh_defs.specs.Slot.{Flex, HaveAnchors, weight, flex_start, flex_address, slot_start, block_of, slot_block, slot_size, slot_address, anchor_count}
-use Rattle.rh_defs.specs.SlotImage.{flex_place}
-use Rattle.rh_defs.specs.Desk.{Desk, Task, Scrap, used_pages, free_pages}
-use Rattle.rh_defs.specs.Laws.{IsDesk}
-use Rattle.rh_defs.specs.OutgoingEvents.{wider, scrap_shortage}
-use Rattle.rh_defs.specs.IncomingEvents.{appended}
+use Rattle.rh_defs.specs.Slot.{block_of, slot_address}
 use Rattle.rh_defs.proofs.Transfers.{wider-keeps, scrap-keeps}
-use Rattle.rh_slot.specs.Area.{IsSlot, slot_in}
-use Rattle.rh_slot.specs.Calls.{Leaves}
-use Rattle.rh_wimp.specs.Calls.{Answers}
-use Rattle.rh_slot.proofs.Ranges.{Standing, flex-part}
-use Rattle.rh_tasks.specs.declared.seat.Seat.{Seat}
-use Rattle.rh_tasks.specs.declared.made.MadeArea.{MadeArea}
-use Rattle.rh_tasks.specs.declared.scrap.ScrapFile.{ScrapFile}
-use Rattle.rh_tasks.specs.View.{Kept, the_module, HasSlot, pages_at, fixed_pages, scrap_from, scrap_size, scrap_of, slot_area, made_area, task_of, desk_of}
-use Rattle.rh_tasks.specs.View.{shown_of, IsWorld}
-use Rattle.rh_tasks.specs.Shown.{Shown}
-use Rattle.rh_slot.specs.Flex.{slot_append}
-use Rattle.rh_tasks.specs.Polls.{IsAt, Becomes}
-use Rattle.rh_tasks.proofs.Lists.{Sits, cons, all-at, avoids-below}
-use Rattle.rh_tasks.proofs.Frames.{Stay, pages-stay, tasks-stay, mades-stay, module-stays, post-stays, queue-stays}
-use Rattle.rh_tasks.proofs.Worlds.{free-is, same-desk}
+use Rattle.rh_slot.proofs.Ranges.{flex-part}
 use Rattle.rh_tasks.proofs.Posts.{is-post}
 use Rattle.rh_tasks.proofs.Fixed.{KeepsFirst, fixed-at, fixed-desk, fixed-world, changed-areas, pages-of}
 use Rattle.rh_tasks.proofs.AreaCommands.{file-length}

@@ -1,25 +1,8 @@
 -- The records of the task at a place, edited.
-use Rattle.std.proofs.Common.{◌≡◌, ℕ, ◌<◌, refl, ap, sym, subst, arith, false, ◌∙◌, List, length}
-use Rattle.std.specs.Prelude.{map}
-use Rattle.std.proofs.Math.ListN.{get_or, set}
-use Rattle.std.proofs.lemmas.List.{length-map}
-use Rattle.rh_defs.specs.Memory.{Memory}
-use Rattle.rh_defs.proofs.MemoryLaws.{OnlyArea-self}
-use Rattle.rh_defs.specs.Files.{FileList}
-use Rattle.rh_defs.specs.declared.transfer.Outgoing.{Outgoing}
-use Rattle.rh_defs.specs.declared.transfer.Incoming.{Incoming}
-use Rattle.rh_defs.specs.Records.{is_going, is_full}
-use Rattle.rh_defs.specs.Desk.{Desk, Task, with_sending, with_taking}
-use Rattle.rh_defs.specs.Laws.{IsDesk}
+use Rattle.rh_tasks.proofs.Common.{◌≡◌, ℕ, ◌<◌, refl, ap, sym, subst, arith, false, ◌∙◌, List, length, map, get_or, set, length-map, Memory, OnlyArea-self}
+use Rattle.rh_tasks.proofs.Common.{FileList, Outgoing, Incoming, is_going, is_full, Desk, Task, with_sending, with_taking, IsDesk, IsSlot, Seat, MadeArea}
+use Rattle.rh_tasks.proofs.Common.{Kept, HasSlot, task_of, desk_of, IsWorld, IsAt, Sits, all-at, mapped-at, mapped-is, Moves, moved-desk, moved-world}
 use Rattle.rh_defs.proofs.Desks.{with_sending-keeps, with_taking-keeps}
-use Rattle.rh_slot.specs.Area.{IsSlot}
-use Rattle.rh_tasks.specs.declared.seat.Seat.{Seat}
-use Rattle.rh_tasks.specs.declared.made.MadeArea.{MadeArea}
-use Rattle.rh_tasks.specs.View.{Kept, HasSlot, task_of, desk_of, IsWorld}
-use Rattle.rh_tasks.specs.Polls.{IsAt}
-use Rattle.rh_tasks.proofs.Lists.{Sits, all-at}
-use Rattle.rh_tasks.proofs.Places.{mapped-at, mapped-is}
-use Rattle.rh_tasks.proofs.Moves.{Moves, moved-desk, moved-world}
 
 module _ {m : Memory} {seats : List Seat} {made : List MadeArea} {files : FileList} {kept : Kept}
     (w : IsWorld m seats made files kept) where

@@ -1,17 +1,13 @@
 -- Segments of a heap as they are listed, many at once.
-use Rattle.std.proofs.Common.{◌≡◌, ℕ, zero, suc, ◌+◌, ◌-◌, ◌<◌, ◌≤◌, List, [], ◌∷◌, ◌++◌, length, take, refl, sym, ap, ◌∙◌, arith, get_or}
-use Rattle.std.specs.Prelude.{Option, Some, None, IfSome, map, ◌==◌}
-use Rattle.std.specs.List.{AllByRecursion}
-use Rattle.std.proofs.lemmas.Bool.{eqb-true}
-use Rattle.std.proofs.lemmas.List.{take-map, take_more, length-map, map-append, length-take, take_all}
+use Rattle.rh_tasks.proofs.Common.{◌≡◌, ℕ, zero, suc, ◌+◌, ◌-◌, ◌<◌, ◌≤◌, List, [], ◌∷◌, ◌++◌, length, take, refl, sym, ap, ◌∙◌, arith, Option, Some, None}
+use Rattle.rh_tasks.proofs.Common.{IfSome, map, ◌==◌, AllByRecursion, eqb-true, length-map, map-append, length-take, take_all, SegmentItem, Split, total}
+use Rattle.rh_tasks.proofs.Common.{Heap, Used, Hole, size_of, segment_at, first_place, base, segment_item, IsCut, first_at-cuts, cut-total}
+use Rattle.std.proofs.Common.{get_or}
+use Rattle.std.proofs.lemmas.List.{take-map, take_more}
 use Rattle.rh_defs.specs.declared.sizes.TheConstants.{SEGMENTS_AT_ONCE}
-use Rattle.rh_defs.specs.declared.listing.SegmentItem.{SegmentItem}
 use Rattle.rh_defs.specs.declared.listing.SegmentItem.TheVariants as segment
-use Rattle.rh_defs.specs.Pieces.{Split, total}
 use Rattle.rh_defs.specs.Heap as heap
-use Rattle.rh_defs.specs.Heap.{Heap, Used, Hole, size_of, segment_at, first_place, base}
-use Rattle.rh_defs.specs.Listing.{segment_item, segment_items_from}
-use Rattle.rh_defs.proofs.Cuts.{IsCut, first_at-cuts, cut-total}
+use Rattle.rh_defs.specs.Listing.{segment_items_from}
 use Rattle.rh_heap.specs.declared.layout.Segment.{Segment}
 use Rattle.rh_heap.specs.Image.{listed}
 use Rattle.rh_heap.specs.Listed.{from_cut, segments_from}

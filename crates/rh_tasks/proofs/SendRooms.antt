@@ -1,19 +1,13 @@
 -- A letter is sent just where the pages that the send takes are free.
-use Rattle.std.proofs.Common.{◌≡◌, ℕ, ◌+◌, ◌≤◌, ◌<◌, Bool, true, false, refl, ap, sym, ◌∙◌}
-use Rattle.std.specs.Prelude.{Ok, Err, ◌==◌, nat_lt}
-use Rattle.rh_defs.specs.declared.message.Letter.{Letter}
+use Rattle.rh_tasks.proofs.Common.{◌≡◌, ℕ, ◌+◌, ◌≤◌, ◌<◌, Bool, true, false, refl, ap, sym, ◌∙◌, Ok, Err, ◌==◌, nat_lt, Letter, Refusal, NoRoom, BadSize}
+use Rattle.rh_tasks.proofs.Common.{Granted, ◌>>=◌, ◌>>◌, refuse_if, pages_for, Heap, need, claim_growing, module_claim, fetch_letter, Post, post_send}
+use Rattle.rh_tasks.proofs.Common.{post_send_pages, begins, ends, lt-true, lt-false}
 use Rattle.rh_defs.specs.declared.message.Body.TheVariants.{RamFetch}
-use Rattle.rh_defs.specs.declared.refusal.Refusal.{Refusal}
-use Rattle.rh_defs.specs.declared.refusal.Refusal.TheVariants.{NoRoom, BadSize}
-use Rattle.rh_defs.specs.Chain.{Granted, ◌>>=◌, ◌>>◌, refuse_if}
-use Rattle.rh_defs.specs.Pieces.{pages_for}
-use Rattle.rh_defs.specs.Heap.{Heap, as_granted, need, claim_growing}
-use Rattle.rh_defs.specs.Module.{module_claim, module_need_pages}
+use Rattle.rh_defs.specs.Heap.{as_granted}
+use Rattle.rh_defs.specs.Module.{module_need_pages}
 use Rattle.rh_defs.specs.Messages.{parcel_size}
-use Rattle.rh_defs.specs.Letters.{fetch_letter}
-use Rattle.rh_defs.specs.Post.{Post, message_of, sendable, posted, post_send, post_send_pages}
+use Rattle.rh_defs.specs.Post.{message_of, sendable, posted}
 use Rattle.rh_defs.proofs.MessageLaws.{length-body}
-use Rattle.rh_tasks.proofs.Chains.{begins, ends, lt-true, lt-false}
 
 -- the post after a send that has room, and the letter's ref
 abbrev pub sent_post : Letter → Post → Post × ℕ

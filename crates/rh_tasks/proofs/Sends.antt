@@ -1,28 +1,13 @@
 -- A world whose queue has changed, and beside it what is kept of one task.
-use Rattle.std.proofs.Common.{◌≡◌, ℕ, ◌+◌, ◌≤◌, ap, ◌∙◌, arith, List, length}
-use Rattle.std.specs.Prelude.{map, Option}
-use Rattle.std.proofs.Math.ListN.{set}
-use Rattle.rh_defs.specs.Memory.{Memory, OnlyArea, bytes}
-use Rattle.rh_defs.specs.Pieces.{total}
-use Rattle.rh_defs.specs.Files.{FileList}
-use Rattle.rh_defs.specs.Post.{Post}
-use Rattle.rh_defs.specs.Desk.{Desk, Task, Made, task_pages, used_pages, with_task}
-use Rattle.rh_defs.specs.Laws.{IsDesk}
-use Rattle.rh_defs.specs.Order.{IsReordered, with_queue}
+use Rattle.rh_tasks.proofs.Common.{◌≡◌, ℕ, ◌+◌, ◌≤◌, ap, ◌∙◌, arith, List, length, map, Option, set, Memory, OnlyArea, bytes, total, FileList, Post, Desk}
+use Rattle.rh_tasks.proofs.Common.{Task, Made, task_pages, used_pages, with_task, IsDesk, IsReordered, with_queue, Chains, post_in, Seat, MadeArea, ScrapFile}
+use Rattle.rh_tasks.proofs.Common.{Kept, the_module, scrap_size, scrap_of, slot_area, made_area, HasAreas, desk_of, task_of, made_of, IsWorld, Sits}
+use Rattle.rh_tasks.proofs.Common.{avoids-below, Stay, tasks-stay, mades-stay, scrap-stays, scrap-fits, same-desk, Moves, moved-desk}
 use Rattle.rh_wimp.specs.Calls.{Leaves}
-use Rattle.rh_wimp.specs.Chains.{Chains}
-use Rattle.rh_wimp.specs.PostIn.{post_in}
 use Rattle.rh_wimp.proofs.PostCalls.{IsRequeued, post_in-requeued}
-use Rattle.rh_tasks.specs.declared.seat.Seat.{Seat}
-use Rattle.rh_tasks.specs.declared.made.MadeArea.{MadeArea}
-use Rattle.rh_tasks.specs.declared.scrap.ScrapFile.{ScrapFile}
-use Rattle.rh_tasks.specs.View.{Kept, the_module, scrap_size, scrap_of, slot_area, made_area, HasAreas, desk_of, task_of, made_of, IsWorld}
-use Rattle.rh_tasks.proofs.Lists.{Sits, avoids-below}
-use Rattle.rh_tasks.proofs.Frames.{Stay, tasks-stay, mades-stay, scrap-stays, scrap-fits}
-use Rattle.rh_tasks.proofs.Worlds.{same-desk}
 use Rattle.rh_tasks.proofs.Posts.{smaller, is-post, module-length, end-is}
 use Rattle.rh_tasks.proofs.Fixed.{changed-areas, fixed-rest}
-use Rattle.rh_tasks.proofs.Moves.{Moves, moved-desk, moved-areas, moved-ledger}
+use Rattle.rh_tasks.proofs.Moves.{moved-areas, moved-ledger}
 use Rattle.rh_tasks.proofs.Reorders.{desk-reordered}
 
 module _ {m n : Memory} {seats : List Seat} {made : List MadeArea} {files : FileList} {kept : Kept} {i : ℕ} {s t : Seat} {edit : Task → Task} {k : Chains}

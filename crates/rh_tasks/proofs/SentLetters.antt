@@ -1,26 +1,10 @@
 -- A letter of the task at a place, sent or refused.
-use Rattle.std.proofs.Common.{◌≡◌, ℕ, refl, ap, sym, ◌∙◌, List}
-use Rattle.std.specs.Prelude.{Result, Ok, Err, IfOk, OnErr, Some, map, slice_get}
-use Rattle.std.proofs.Math.ListN.{get_or, set}
-use Rattle.rh_defs.specs.Memory.{Memory}
-use Rattle.rh_defs.specs.Files.{FileList}
-use Rattle.rh_defs.specs.declared.message.Letter.{Letter}
-use Rattle.rh_defs.specs.declared.refusal.Refusal.{Refusal}
-use Rattle.rh_defs.specs.Chain.{answer_of, left_of}
-use Rattle.rh_defs.specs.Post.{post_send}
-use Rattle.rh_defs.specs.Desk.{Desk, Task}
-use Rattle.rh_defs.specs.Laws.{IsDesk}
-use Rattle.rh_defs.proofs.Chains.{grant-holds}
+use Rattle.rh_tasks.proofs.Common.{◌≡◌, ℕ, refl, ap, sym, ◌∙◌, List, Result, Ok, Err, IfOk, OnErr, Some, map, slice_get, get_or, set, Memory, FileList}
+use Rattle.rh_tasks.proofs.Common.{Letter, Refusal, answer_of, left_of, post_send, Desk, Task, IsDesk, grant-holds, Answers, Chains, Seat, MadeArea, Kept}
+use Rattle.rh_tasks.proofs.Common.{the_module, task_of, desk_of, shown_of, IsWorld, with_last, Sends, Sits, set_same, mapped-is}
 use Rattle.rh_defs.proofs.Desks.{send_letter-keeps}
-use Rattle.rh_wimp.specs.Calls.{Answers, Leaves}
-use Rattle.rh_wimp.specs.Chains.{Chains}
-use Rattle.rh_tasks.specs.declared.seat.Seat.{Seat}
-use Rattle.rh_tasks.specs.declared.made.MadeArea.{MadeArea}
-use Rattle.rh_tasks.specs.View.{Kept, the_module, task_of, desk_of, shown_of, IsWorld}
-use Rattle.rh_tasks.specs.Letters.{with_last}
-use Rattle.rh_tasks.specs.Polls.{Sends}
-use Rattle.rh_tasks.proofs.Lists.{Sits, set_same}
-use Rattle.rh_tasks.proofs.Places.{mapped-inside, mapped-is}
+use Rattle.rh_wimp.specs.Calls.{Leaves}
+use Rattle.rh_tasks.proofs.Places.{mapped-inside}
 use Rattle.rh_tasks.proofs.Sends.{sent-alike, sent-world}
 use Rattle.rh_tasks.proofs.Repeats.{last-moves, letter_then, letter-refused, letter-sent, ref-is}
 

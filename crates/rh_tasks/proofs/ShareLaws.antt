@@ -1,16 +1,13 @@
 -- Each page of the pool is one of the listed areas', or free, just once.
-use Rattle.std.proofs.Common.{◌≡◌, ◌≢◌, ℕ, zero, suc, ◌+◌, ◌*◌, ◌<◌, ◌≤◌, inl, inr, refl, ap, sym, subst, ◌∙◌, arith, List, [], ◌∷◌, length, get_or}
-use Rattle.std.specs.Prelude.{Option, Some, None, IsSome, set, unwrap_or}
-use Rattle.std.specs.List.{AllByRecursion}
-use Rattle.std.proofs.lemmas.Bool.{cases_eq}
-use Rattle.rh_defs.specs.Memory.{Memory, IsOpen, area_set, bytes, one_if_open, open_below}
-use Rattle.rh_defs.specs.Pieces.{total}
+use Rattle.rh_tasks.proofs.Common.{◌≡◌, ◌≢◌, ℕ, zero, suc, ◌+◌, ◌*◌, ◌<◌, ◌≤◌, inl, inr, refl, ap, sym, subst, ◌∙◌, arith, List, [], ◌∷◌, length, Option}
+use Rattle.rh_tasks.proofs.Common.{Some, None, IsSome, unwrap_or, AllByRecursion, cases_eq, Memory, IsOpen, bytes, open_below, total, MAX_AREAS, PAGE, Shown}
+use Rattle.rh_tasks.proofs.Common.{AreDistinct, Avoids}
+use Rattle.std.proofs.Common.{get_or}
+use Rattle.std.specs.Prelude.{set}
+use Rattle.rh_defs.specs.Memory.{area_set, one_if_open}
 use Rattle.rh_defs.proofs.MemoryLaws.{area_set-other, open_below-set}
-use Rattle.rh_defs.specs.declared.sizes.TheConstants.{MAX_AREAS, PAGE}
 use Rattle.rh_store.specs.Shares.{SharesOut, times, times_all}
-use Rattle.rh_tasks.specs.Shown.{Shown}
 use Rattle.rh_tasks.specs.Standing.{StandsIn}
-use Rattle.rh_tasks.specs.View.{AreDistinct, Avoids}
 
 -- ---- the pages of some lists
 abbrev pub list_at : List (List ℕ) → ℕ → List ℕ

@@ -1,45 +1,26 @@
 -- What is read of a world beside the answers to questions.
-use Rattle.std.proofs.Common.{◌≡◌, ℕ, ◌+◌, ◌-◌, ◌<◌, ◌≤◌, Bool, true, false, cond, refl, ap, sym, ◌∙◌, arith, List, [], ◌∷◌, length}
-use Rattle.std.specs.Prelude.{Option, Some, None, Ok, Err, not, nat_lt, map, take, drop, slice_get, ok_or, ◌==◌}
-use Rattle.std.specs.List.{position}
-use Rattle.std.specs.Option.{option_map}
-use Rattle.std.proofs.lemmas.List.{length-map, length-take}
+use Rattle.rh_tasks.proofs.Common.{◌≡◌, ℕ, ◌+◌, ◌-◌, ◌<◌, ◌≤◌, Bool, true, false, cond, refl, ap, sym, ◌∙◌, arith, List, [], ◌∷◌, length, Option, Some, None}
+use Rattle.rh_tasks.proofs.Common.{Ok, Err, not, nat_lt, map, take, drop, slice_get, ok_or, ◌==◌, position, option_map, length-map, length-take, Memory}
+use Rattle.rh_tasks.proofs.Common.{bytes, FileList, Refusal, NoTask, BadRange, NotABlock, Granted, ◌>>=◌, ◌>>◌, refuse_if, found_or, Split, first_at, zeros}
+use Rattle.rh_tasks.proofs.Common.{Heap, Segment, Used, Hole, bytes_of, block_at, block_size, size_of, holds, Post, post_poll, Desk, next_ref, task_at}
+use Rattle.rh_tasks.proofs.Common.{module_start, block_items, heap_in, slot_in, post_in, Seat, MadeArea, ScrapFile, Kept, the_module, task_of, made_of}
+use Rattle.rh_tasks.proofs.Common.{desk_of, scrap_of, scrap_from, scrap_size, IsWorld, Found, segment_items_at, bytes_held, begins, ends, past, stops}
+use Rattle.rh_tasks.proofs.Common.{lt-true, lt-false, named-is, Sits, mapped-at}
 use Rattle.std.proofs.lemmas.Option.{slice_get_past}
 use Rattle.rh_defs.specs.declared.sizes.TheConstants.{SEGMENTS_AT_ONCE}
-use Rattle.rh_defs.specs.Memory.{Memory, bytes}
-use Rattle.rh_defs.specs.Files.{FileList}
 use Rattle.rh_defs.specs.declared.listing.SegmentItem.TheVariants as segment
-use Rattle.rh_defs.specs.declared.refusal.Refusal.{Refusal}
-use Rattle.rh_defs.specs.declared.refusal.Refusal.TheVariants.{NoTask, BadRange, NotABlock}
 use Rattle.rh_defs.specs.Blocks.{blank, block_bytes, SameShape}
-use Rattle.rh_defs.specs.Chain.{Granted, ◌>>=◌, ◌>>◌, refuse_if, found_or}
-use Rattle.rh_defs.specs.Pieces.{Split, behind, first_at, zeros}
-use Rattle.rh_defs.specs.Heap.{Heap, Segment, Used, Hole, bytes_of, block_at, block_size, size_of}
-use Rattle.rh_defs.specs.Slot.{holds}
-use Rattle.rh_defs.specs.Post.{Post, post_is_message, post_poll}
-use Rattle.rh_defs.specs.Desk.{Desk, next_ref, task_at}
-use Rattle.rh_defs.specs.Commands.{module_start}
-use Rattle.rh_defs.specs.Listing.{block_items, segment_items_from}
+use Rattle.rh_defs.specs.Pieces.{behind}
+use Rattle.rh_defs.specs.Post.{post_is_message}
+use Rattle.rh_defs.specs.Listing.{segment_items_from}
 use Rattle.rh_defs.proofs.BlockLaws.{block_at-bytes, bytes_here}
 use Rattle.rh_defs.proofs.ShapeLaws.{len0}
 use Rattle.rh_heap.specs.Listed.{from_cut}
-use Rattle.rh_module.specs.Area.{heap_in}
-use Rattle.rh_slot.specs.Area.{slot_in}
-use Rattle.rh_wimp.specs.PostIn.{post_in, post_of}
+use Rattle.rh_wimp.specs.PostIn.{post_of}
 use Rattle.rh_wimp.proofs.BesideLaws.{off-message}
-use Rattle.rh_tasks.specs.declared.seat.Seat.{Seat}
-use Rattle.rh_tasks.specs.declared.made.MadeArea.{MadeArea}
-use Rattle.rh_tasks.specs.declared.scrap.ScrapFile.{ScrapFile}
-use Rattle.rh_tasks.specs.View.{Kept, the_module, task_of, made_of, desk_of, scrap_of, scrap_from, scrap_size, IsWorld}
-use Rattle.rh_tasks.specs.Finding.{Found}
-use Rattle.rh_tasks.specs.Lists.{items_at, segment_items_at}
-use Rattle.rh_tasks.specs.TransferBlock.{bytes_held}
+use Rattle.rh_tasks.specs.Lists.{items_at}
 use Rattle.rh_tasks.specs.Sights.{blocks_in, file_of, module_shown, next_message, segments_in, slot_bytes}
-use Rattle.rh_tasks.proofs.Chains.{begins, ends, past, stops, lt-true, lt-false}
-use Rattle.rh_tasks.proofs.Finding.{named-is}
-use Rattle.rh_tasks.proofs.Lists.{Sits}
 use Rattle.rh_tasks.proofs.ModuleCommands.{unmarked-is}
-use Rattle.rh_tasks.proofs.Places.{mapped-at}
 use Rattle.rh_tasks.proofs.Posts.{is-post}
 use Rattle.rh_tasks.proofs.TransferBlocks.{SeatOf, a-task, no-task}
 

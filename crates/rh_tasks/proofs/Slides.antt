@@ -1,32 +1,13 @@
 -- A call on the slot of the seat at a place.
-use Rattle.std.proofs.Common.{◌≡◌, ℕ, ◌<◌, refl, ap, sym, subst, ◌∙◌, arith, List, length}
-use Rattle.std.specs.Prelude.{Ok, Err, IfSome}
-use Rattle.std.proofs.Math.ListN.{get_or, set}
-use Rattle.std.proofs.lemmas.List.{length-map}
-use Rattle.rh_defs.specs.Memory.{Memory}
-use Rattle.rh_defs.specs.Files.{FileList}
-use Rattle.rh_defs.specs.declared.refusal.Refusal.{Refusal}
-use Rattle.rh_defs.specs.Chain.{Granted}
+use Rattle.rh_tasks.proofs.Common.{◌≡◌, ℕ, ◌<◌, refl, ap, sym, subst, ◌∙◌, arith, List, length, Ok, Err, IfSome, get_or, set, length-map, Memory, FileList}
+use Rattle.rh_tasks.proofs.Common.{Refusal, Granted, Desk, Task, free_pages, with_slot, IsDesk, OnGrant, grant-holds, IsRoomed, IsSlot, slot_in, Leaves, Seat}
+use Rattle.rh_tasks.proofs.Common.{MadeArea, Shown, Kept, task_of, desk_of, IsWorld, IsAt, Sits, all-at, set_same, mapped-is, mapped-at, task-found, free-is}
+use Rattle.rh_tasks.proofs.Common.{Moves, Slid, moved-desk, moved-world, slid, granted}
 use Rattle.rh_defs.specs.Slot as plain
-use Rattle.rh_defs.specs.Desk.{Desk, Task, free_pages, with_slot}
-use Rattle.rh_defs.specs.Laws.{IsDesk}
-use Rattle.rh_defs.proofs.Chains.{OnGrant, grant-holds}
 use Rattle.rh_defs.proofs.Lists.{find-all}
-use Rattle.rh_defs.proofs.SlotKeeps.{IsRoomed}
 use Rattle.rh_defs.proofs.Desks.{IsTask, HasSlot, with_slot-keeps}
-use Rattle.rh_slot.specs.Area.{IsSlot, slot_in}
-use Rattle.rh_slot.specs.Calls.{Leaves}
-use Rattle.rh_tasks.specs.declared.seat.Seat.{Seat}
-use Rattle.rh_tasks.specs.declared.made.MadeArea.{MadeArea}
-use Rattle.rh_tasks.specs.Shown.{Shown}
 use Rattle.rh_tasks.specs.View as view
-use Rattle.rh_tasks.specs.View.{Kept, task_of, desk_of, IsWorld}
-use Rattle.rh_tasks.specs.Polls.{IsAt}
-use Rattle.rh_tasks.proofs.Lists.{Sits, all-at, set_same}
-use Rattle.rh_tasks.proofs.Places.{mapped-is, mapped-at, task-found}
-use Rattle.rh_tasks.proofs.Worlds.{free-is}
-use Rattle.rh_tasks.proofs.Moves.{Moves, Slid, moved-desk, moved-world}
-use Rattle.rh_tasks.proofs.Leaves.{slid, granted, refused}
+use Rattle.rh_tasks.proofs.Leaves.{refused}
 
 -- a desk's task at a place is the one of its handle
 pub at-task : (d : Desk) (i : ℕ) (t : Task) → IsDesk d → IsAt i t d → IsTask d t

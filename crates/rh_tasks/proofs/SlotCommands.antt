@@ -1,29 +1,12 @@
 -- The commands on a task's slot, from what the slot's call leaves.
-use Rattle.std.proofs.Common.{◌≡◌, ℕ, ◌∙◌, refl, sym, ap, List}
-use Rattle.std.specs.Prelude.{None, Ok, Err, IsOk, true, false}
-use Rattle.std.specs.List.{list_any}
-use Rattle.rh_defs.specs.Memory.{Memory}
-use Rattle.rh_defs.specs.Files.{FileList}
-use Rattle.rh_defs.specs.declared.command.Command.{Command}
-use Rattle.rh_defs.specs.declared.refusal.Refusal.{Refusal}
-use Rattle.rh_defs.specs.declared.refusal.Refusal.TheVariants.{NotABlock}
-use Rattle.rh_defs.specs.declared.reply.Reply.{Reply}
+use Rattle.rh_tasks.proofs.Common.{◌≡◌, ℕ, ◌∙◌, refl, sym, ap, List, None, Ok, Err, IsOk, true, false, list_any, Memory, FileList, Command, Refusal}
+use Rattle.rh_tasks.proofs.Common.{NotABlock, Reply, Granted, no_answer, in_range, Desk, idle_block, idle_buffer, Answer, change, slot_in, Leaves, Seat}
+use Rattle.rh_tasks.proofs.Common.{MadeArea, Kept, task_of, desk_of, IsWorld, Owns, slid, granted, changed}
 use Rattle.rh_defs.specs.declared.reply.Reply.TheVariants as reply
-use Rattle.rh_defs.specs.Chain.{Granted, no_answer}
-use Rattle.rh_defs.specs.Range.{in_range}
 use Rattle.rh_defs.specs.Slot as plain
 use Rattle.rh_defs.specs.Records.{is_buffer_of}
-use Rattle.rh_defs.specs.Desk.{Desk, idle_block, idle_buffer}
-use Rattle.rh_defs.specs.Commands.{Answer}
-use Rattle.rh_defs.specs.Step.{change}
 use Rattle.rh_slot.specs.declared.slot.Slot.{Slot}
-use Rattle.rh_slot.specs.Area.{slot_in}
-use Rattle.rh_slot.specs.Calls.{Leaves}
-use Rattle.rh_tasks.specs.declared.seat.Seat.{Seat}
-use Rattle.rh_tasks.specs.declared.made.MadeArea.{MadeArea}
-use Rattle.rh_tasks.specs.View.{Kept, task_of, desk_of, IsWorld}
-use Rattle.rh_tasks.specs.Finding.{Owns}
-use Rattle.rh_tasks.proofs.Leaves.{slid, granted, refused, changed, unchanged}
+use Rattle.rh_tasks.proofs.Leaves.{refused, unchanged}
 use Rattle.rh_tasks.proofs.Calls.{on_slot, on_idle, slot-refused, slot-done, slot-world, idle-is, first-is}
 use Rattle.rh_tasks.proofs.Looks.{buffer-none}
 

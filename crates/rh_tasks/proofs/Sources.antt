@@ -1,24 +1,17 @@
 -- Where the bytes of a portion stand, and the range of a buffer that they are written into.
-use Rattle.std.proofs.Common.{◌≡◌, ◌⊎◌, inl, inr, ℕ, zero, suc, ◌+◌, ◌-◌, ◌<◌, ◌≤◌, Bool, true, false, refl, ap, sym, subst, ◌∙◌, arith, length}
-use Rattle.std.specs.Prelude.{Option, Some, None, Ok, IfSome, is_some, not, ◌&&◌, ◌||◌, nat_le, nat_lt, if◌then◌else◌, take, drop}
+use Rattle.rh_tasks.proofs.Common.{◌≡◌, ◌⊎◌, inl, inr, ℕ, zero, suc, ◌+◌, ◌-◌, ◌<◌, ◌≤◌, Bool, true, false, refl, ap, sym, subst, ◌∙◌, arith, length, Option}
+use Rattle.rh_tasks.proofs.Common.{Some, None, Ok, IfSome, is_some, not, ◌&&◌, ◌||◌, nat_le, nat_lt, if◌then◌else◌, take, drop, part, Memory, bytes, total}
+use Rattle.rh_tasks.proofs.Common.{Split, Segment, bytes_of, Flex, weight, flex_start, flex_address, heap_start, heap_block_at, slot_block, holds, flex_place}
+use Rattle.rh_tasks.proofs.Common.{buffer_at, overlap, IsCut, first_at-cuts, IsSlot, slot_in, Standing, Sending, Task, IsPortion, lt-true}
 use Rattle.std.proofs.lemmas.Bool.{leb-true}
 use borrow.Author.Tests.{ltb-false}
-use Rattle.rh_defs.specs.Bytes.{part}
-use Rattle.rh_defs.specs.Memory.{Memory, bytes}
-use Rattle.rh_defs.specs.Pieces.{total, Split, is_inside}
-use Rattle.rh_defs.specs.Heap.{Segment, bytes_of, block_around}
+use Rattle.rh_defs.specs.Pieces.{is_inside}
+use Rattle.rh_defs.specs.Heap.{block_around}
 use Rattle.rh_defs.specs.Slot as plain
-use Rattle.rh_defs.specs.Slot.{Flex, weight, flex_start, flex_around, flex_address, heap_start, heap_block_at, slot_block, holds}
-use Rattle.rh_defs.specs.SlotImage.{flex_place}
-use Rattle.rh_defs.specs.Places.{roomy_in, buffer_at, overlap}
-use Rattle.rh_defs.proofs.Cuts.{IsCut, first_at-cuts}
+use Rattle.rh_defs.specs.Slot.{flex_around}
+use Rattle.rh_defs.specs.Places.{roomy_in}
 use Rattle.rh_slot.specs.declared.slot.Slot.{Slot}
-use Rattle.rh_slot.specs.Area.{IsSlot, slot_in}
-use Rattle.rh_slot.proofs.Ranges.{Standing, flex-part, heap-part}
-use Rattle.rh_defs.specs.declared.transfer.Sending.{Sending}
-use Rattle.rh_defs.specs.Desk.{Task}
-use Rattle.rh_tasks.specs.Polls.{IsPortion}
-use Rattle.rh_tasks.proofs.Chains.{lt-true}
+use Rattle.rh_slot.proofs.Ranges.{flex-part, heap-part}
 
 zero-or : (n : ℕ) → (n ≡ 0) ⊎ (0 < n)
 zero-or zero = inl refl

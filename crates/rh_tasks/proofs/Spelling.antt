@@ -1,31 +1,19 @@
 -- The store's bytes and lengths spell the desk.
-use Rattle.std.proofs.Common.{◌≡◌, ◌≢◌, ℕ, suc, ◌*◌, ◌%◌, ◌<◌, refl, ap, sym, subst, arith, List, [], ◌∷◌, length}
-use Rattle.std.specs.Prelude.{map, take, Option, Some, None}
-use Rattle.std.specs.List.{AllByRecursion, enumerate_from}
-use Rattle.rh_defs.specs.declared.sizes.TheConstants.{PAGE}
-use Rattle.rh_defs.specs.Memory.{Memory, bytes}
-use Rattle.rh_defs.specs.Pieces.{page, total}
-use Rattle.rh_defs.specs.Files.{FileList}
+use Rattle.rh_tasks.proofs.Common.{◌≡◌, ◌≢◌, ℕ, suc, ◌*◌, ◌%◌, ◌<◌, refl, ap, sym, subst, arith, List, [], ◌∷◌, length, map, take, Option, Some, None}
+use Rattle.rh_tasks.proofs.Common.{AllByRecursion, PAGE, Memory, bytes, page, total, FileList, Task, Made, task_pages, module_start, Heap, heap_in, Parcel}
+use Rattle.rh_tasks.proofs.Common.{ScrapFile, Seat, MadeArea, Shown, Kept, the_module, scrap_size, scrap_of, pages_at, task_of, made_of, fixed_pages}
+use Rattle.rh_tasks.proofs.Common.{shown_of, HasSlot, IsWorld, free-is}
+use Rattle.std.specs.List.{enumerate_from}
 use Rattle.rh_defs.specs.Slot as plain
 use Rattle.rh_defs.specs.Spans.{AreLaidOut, slot_spans, module_spans}
-use Rattle.rh_defs.specs.Desk.{Task, Made, task_pages}
-use Rattle.rh_defs.specs.Commands.{module_start}
 use Rattle.rh_defs.specs.Laws as laws
 use Rattle.rh_defs.proofs.Spaced.{apart-of}
-use Rattle.rh_defs.specs.Heap.{Heap}
-use Rattle.rh_module.specs.Area.{heap_in}
-use Rattle.rh_defs.specs.Messages.{Parcel}
 use Rattle.rh_wimp.specs.Chains.{Row, AllLie, Apart, Clear, row_at, row_parcels, rows_of}
 use Rattle.rh_wimp.specs.PostIn.{parcels_of}
 use Rattle.rh_wimp.proofs.LinkLaws.{AllLie-append}
 use Rattle.rh_wimp.proofs.PostInLaws.{rows-unlinked}
 use Rattle.rh_wimp.proofs.RowLaws.{Apart-append, Clear-behind}
-use Rattle.rh_tasks.specs.declared.scrap.ScrapFile.{ScrapFile}
-use Rattle.rh_tasks.specs.declared.seat.Seat.{Seat}
-use Rattle.rh_tasks.specs.declared.made.MadeArea.{MadeArea}
-use Rattle.rh_tasks.specs.Shown.{Shown, scrap_bytes, SpellsPost, SpellSlots, IsSpelled, length_of_area, IsBalanced, LieApart, HasApartBlocks}
-use Rattle.rh_tasks.specs.View.{Kept, the_module, scrap_size, scrap_of, pages_at, task_of, made_of, fixed_pages, shown_of, HasSlot, IsWorld}
-use Rattle.rh_tasks.proofs.Worlds.{free-is}
+use Rattle.rh_tasks.specs.Shown.{scrap_bytes, SpellsPost, SpellSlots, IsSpelled, length_of_area, IsBalanced, LieApart, HasApartBlocks}
 use Rattle.rh_tasks.proofs.Posts.{is-post, module-length}
 use Rattle.rh_tasks.proofs.Fixed.{pages-of}
 

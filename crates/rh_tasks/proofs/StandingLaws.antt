@@ -1,18 +1,13 @@
 -- The open areas of a world's store, in the order in which they are listed.
-use Rattle.std.proofs.Common.{◌≡◌, ◌≢◌, ℕ, zero, suc, ◌+◌, ◌<◌, ◌≤◌, refl, ap, sym, subst, ◌∙◌, arith, List, [], ◌∷◌, ◌++◌, length, take, get_or}
-use Rattle.std.specs.Prelude.{map, drop}
-use Rattle.std.specs.List.{AllByRecursion}
-use Rattle.std.proofs.lemmas.List.{length-map, length-append, length-take, map-append, take_all, take_more, append_assoc}
-use Rattle.rh_defs.specs.declared.sizes.TheConstants.{FIXED_AREAS, MAX_AREAS}
-use Rattle.rh_defs.specs.Memory.{Memory, IsOpen, bytes}
-use Rattle.rh_defs.specs.Files.{FileList}
+use Rattle.rh_tasks.proofs.Common.{◌≡◌, ◌≢◌, ℕ, zero, suc, ◌+◌, ◌<◌, ◌≤◌, refl, ap, sym, subst, ◌∙◌, arith, List, [], ◌∷◌, ◌++◌, length, take, map, drop}
+use Rattle.rh_tasks.proofs.Common.{AllByRecursion, length-map, length-take, map-append, take_all, MAX_AREAS, Memory, IsOpen, bytes, FileList, Seat, MadeArea}
+use Rattle.rh_tasks.proofs.Common.{Kept, Avoids, AreDistinct, HasSlot, fixed, made_area, slot_area, shown_of, IsWorld, Sits, all-map, avoids-back}
+use Rattle.rh_tasks.proofs.Common.{avoids-below, few-made, few-seats}
+use Rattle.std.proofs.Common.{get_or}
+use Rattle.std.proofs.lemmas.List.{length-append, take_more, append_assoc}
+use Rattle.rh_defs.specs.declared.sizes.TheConstants.{FIXED_AREAS}
 use Rattle.rh_store.specs.declared.store.AreaId.{AreaId}
-use Rattle.rh_tasks.specs.declared.seat.Seat.{Seat}
-use Rattle.rh_tasks.specs.declared.made.MadeArea.{MadeArea}
 use Rattle.rh_tasks.specs.Standing.{StandsIn, numbers}
-use Rattle.rh_tasks.specs.View.{Kept, Avoids, AreDistinct, HasSlot, fixed, made_area, slot_area, shown_of, IsWorld}
-use Rattle.rh_tasks.proofs.Lists.{Sits, all-map, avoids-back, avoids-below}
-use Rattle.rh_tasks.proofs.Worlds.{few-made, few-seats}
 
 -- ---- a list that is filled
 module _ {A : Type 0} (f : A → AreaId) (xs : List A) (i : ℕ) (old items : List AreaId) (so_far : items ≡ old ++ map f (take i xs)) where

@@ -1,32 +1,18 @@
 -- A task's beginning.
-use Rattle.std.proofs.Common.{◌≡◌, ℕ, ◌+◌, ◌<◌, ◌≤◌, ◌^◌, Bool, true, false, refl, ap, sym, ◌∙◌, arith, List, [], ◌∷◌, ◌++◌, length}
-use Rattle.std.specs.Prelude.{map, None, Ok, Err, IsNone, nat_lt}
-use Rattle.std.specs.List.{list_any}
-use Rattle.std.proofs.lemmas.List.{length-map}
-use Rattle.rh_defs.specs.Memory.{Memory, OnlyArea, open_below}
-use Rattle.rh_defs.specs.Files.{FileList}
-use Rattle.rh_defs.specs.declared.sizes.TheConstants.{MAX_AREAS}
+use Rattle.rh_tasks.proofs.Common.{◌≡◌, ℕ, ◌+◌, ◌<◌, ◌≤◌, ◌^◌, Bool, true, false, refl, ap, sym, ◌∙◌, arith, List, [], ◌∷◌, ◌++◌, length, map, None, Ok, Err}
+use Rattle.rh_tasks.proofs.Common.{IsNone, nat_lt, list_any, length-map, Memory, OnlyArea, open_below, FileList, MAX_AREAS, Refusal, NoRoom, ◌>>=◌, refuse_if}
+use Rattle.rh_tasks.proofs.Common.{outcome_of, in_range, Desk, IsSlot, slot_in, IsQueue, joined, Seat, MadeArea, Kept, the_module, task_of, desk_of, is_named}
+use Rattle.rh_tasks.proofs.Common.{IsWorld, begins, ends, past, stops, granted-same, le-true, le-false, done-refused, free-is, few-made, granted-keeps}
 use Rattle.rh_defs.specs.declared.command.Manner.{Manner}
 use Rattle.rh_defs.specs.declared.command.Command.TheVariants as command
-use Rattle.rh_defs.specs.declared.refusal.Refusal.{Refusal}
-use Rattle.rh_defs.specs.declared.refusal.Refusal.TheVariants.{NameInUse, TooManyTasks, NoHandles, NoRoom}
+use Rattle.rh_defs.specs.declared.refusal.Refusal.TheVariants.{NameInUse, TooManyTasks, NoHandles}
 use Rattle.rh_defs.specs.declared.reply.Reply.TheVariants as reply
-use Rattle.rh_defs.specs.Chain.{◌>>=◌, refuse_if, outcome_of}
-use Rattle.rh_defs.specs.Range.{in_range}
 use Rattle.rh_defs.specs.Slot as plain
 use Rattle.rh_defs.specs.Post as post
-use Rattle.rh_defs.specs.Desk.{Desk, most_tasks}
+use Rattle.rh_defs.specs.Desk.{most_tasks}
 use Rattle.rh_defs.specs.Commands.{start_task}
 use Rattle.rh_slot.specs.declared.slot.Slot.{Slot}
-use Rattle.rh_slot.specs.Area.{IsSlot, slot_in}
-use Rattle.rh_wimp.specs.Calls.{IsQueue}
-use Rattle.rh_wimp.specs.Chains.{joined}
-use Rattle.rh_tasks.specs.declared.seat.Seat.{Seat}
-use Rattle.rh_tasks.specs.declared.made.MadeArea.{MadeArea}
-use Rattle.rh_tasks.specs.View.{Kept, the_module, task_of, desk_of, is_named, IsWorld}
-use Rattle.rh_tasks.proofs.Chains.{begins, ends, past, stops, granted-same, le-true, le-false, done-refused}
 use Rattle.rh_tasks.proofs.Finding.{named-any}
-use Rattle.rh_tasks.proofs.Worlds.{free-is, few-made, granted-keeps}
 use Rattle.rh_tasks.proofs.Joins.{joined-desk, joined-world}
 
 begun-if : (b : Bool) → Ok tt ≡ outcome_of (refuse_if b NoRoom >>= λ _. Ok plain.new_slot) → (refuse_if b NoRoom >>= λ _. Ok plain.new_slot) ≡ Ok plain.new_slot

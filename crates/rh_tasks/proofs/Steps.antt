@@ -1,23 +1,14 @@
 -- A command's call as a step.
-use Rattle.std.proofs.Common.{◌≡◌, Bool, true, false, refl, ap, sym, ◌∙◌, subst}
-use Rattle.std.specs.Prelude.{List, [], ◌∷◌, ◌++◌, Result, Ok, Err}
-use Rattle.rh_defs.specs.declared.command.Command.{Command}
+use Rattle.rh_tasks.proofs.Common.{◌≡◌, Bool, true, false, refl, ap, sym, ◌∙◌, subst, List, [], ◌∷◌, ◌++◌, Result, Ok, Err, Command, Refusal, Reply, Granted}
+use Rattle.rh_tasks.proofs.Common.{or_else, Answer, Desk, IsReordered, change, grant-holds, Shown, reordered-refl}
 use Rattle.rh_defs.specs.declared.command.Command.TheVariants as command
 use Rattle.rh_defs.specs.declared.question.Question.{Question}
-use Rattle.rh_defs.specs.declared.refusal.Refusal.{Refusal}
-use Rattle.rh_defs.specs.declared.reply.Reply.{Reply}
 use Rattle.rh_defs.specs.declared.reply.Reply.TheVariants as reply
-use Rattle.rh_defs.specs.Chain.{Granted, or_else}
-use Rattle.rh_defs.specs.Commands.{Answer}
-use Rattle.rh_defs.specs.Desk.{Desk}
-use Rattle.rh_defs.specs.Order.{IsReordered}
 use Rattle.rh_defs.specs.Runs.{after}
-use Rattle.rh_defs.specs.Step.{change, is_refused, step}
-use Rattle.rh_defs.proofs.Chains.{grant-holds}
+use Rattle.rh_defs.specs.Step.{is_refused, step}
 use Rattle.rh_defs.proofs.OrderSteps.{order-ignored, never-refused}
-use Rattle.rh_tasks.specs.Shown.{Shown}
 use Rattle.rh_tasks.specs.Answer.{Does, Gives, GivesAlike, RunsOn, StaysIfRefused, StaysIfAsked, StepsTo, reply_of}
-use Rattle.rh_tasks.proofs.Reorders.{reordered-refl, reordered-trans}
+use Rattle.rh_tasks.proofs.Reorders.{reordered-trans}
 
 -- where the old desk itself goes, each like it goes
 pub steps-from : (c : Command) (old new : Desk) (said : Reply) → (step old c).1 ≡ said → IsReordered (step old c).0 new → StepsTo c old new said

@@ -1,33 +1,18 @@
 -- What a poll does with its message, by its action.
-use Rattle.std.proofs.Common.{◌≡◌, ◌⊎◌, inl, inr, ℕ, true, false, refl, ap, sym, subst, ◌∙◌, List}
-use Rattle.std.specs.Prelude.{Option, if◌then◌else◌}
-use Rattle.std.proofs.Math.ListN.{get_or}
-use Rattle.rh_defs.specs.Memory.{Memory}
-use Rattle.rh_defs.specs.Files.{FileList}
+use Rattle.rh_tasks.proofs.Common.{◌≡◌, ◌⊎◌, inl, inr, ℕ, true, false, refl, ap, sym, subst, ◌∙◌, List, Option, if◌then◌else◌, get_or, Memory, FileList}
+use Rattle.rh_tasks.proofs.Common.{EventCode, User, Message, Outcome, Sending, Incoming, Parcel, Desk, Task, IsReordered, Handled, ignored, answer_fetch}
+use Rattle.rh_tasks.proofs.Common.{finish_load, take_bytes, fetch_back, Seat, MadeArea, Kept, task_of, desk_of, IsWorld, IsFor, Sits, mapped-is}
 use Rattle.rh_defs.specs.declared.message.Body.{Body}
 use Rattle.rh_defs.specs.declared.message.Body.TheVariants.{DataSave, DataSaveAck, DataLoad, DataLoadAck, RamFetch, RamTransmit}
-use Rattle.rh_defs.specs.declared.message.EventCode.{EventCode}
-use Rattle.rh_defs.specs.declared.message.EventCode.TheVariants.{User, Recorded, Acknowledge}
+use Rattle.rh_defs.specs.declared.message.EventCode.TheVariants.{Recorded, Acknowledge}
 use Rattle.rh_defs.specs.declared.message.FileData.{FileData}
-use Rattle.rh_defs.specs.declared.message.Message.{Message}
-use Rattle.rh_defs.specs.declared.reply.Outcome.{Outcome}
-use Rattle.rh_defs.specs.declared.transfer.Sending.{Sending}
 use Rattle.rh_defs.specs.declared.transfer.Asked.{Asked}
-use Rattle.rh_defs.specs.declared.transfer.Incoming.{Incoming}
-use Rattle.rh_defs.specs.Messages.{Parcel}
 use Rattle.rh_defs.specs.Sender as sender
 use Rattle.rh_defs.specs.Receiver as receiver
-use Rattle.rh_defs.specs.Desk.{Desk, Task}
-use Rattle.rh_defs.specs.Order.{IsReordered}
-use Rattle.rh_defs.specs.OutgoingEvents.{Handled, ignored, answer_fetch, fail_sending, answer_ack, finish_load}
-use Rattle.rh_defs.specs.IncomingEvents.{take_save, take_bytes, fetch_back, ack_back, take_file}
+use Rattle.rh_defs.specs.OutgoingEvents.{fail_sending, answer_ack}
+use Rattle.rh_defs.specs.IncomingEvents.{take_save, ack_back, take_file}
 use Rattle.rh_defs.specs.Transfer.{answers_none, came, came_back, handled}
-use Rattle.rh_tasks.specs.declared.seat.Seat.{Seat}
-use Rattle.rh_tasks.specs.declared.made.MadeArea.{MadeArea}
-use Rattle.rh_tasks.specs.View.{Kept, task_of, desk_of, IsWorld}
-use Rattle.rh_tasks.specs.Polls.{IsFor}
-use Rattle.rh_tasks.proofs.Lists.{Sits}
-use Rattle.rh_tasks.proofs.Places.{mapped-inside, mapped-is}
+use Rattle.rh_tasks.proofs.Places.{mapped-inside}
 
 -- what was done gives the desk, but for the order of messages to different tasks, and the outcome
 abbrev As : Handled → Desk → Outcome → Type 0

@@ -1,24 +1,10 @@
 -- What a DataSave does, by whether it is taken.
-use Rattle.std.proofs.Common.{◌≡◌, ℕ, Bool, true, false, refl, ap, sym, ◌∙◌, List}
-use Rattle.std.specs.Prelude.{Ok, Err, IsErr, not, ◌&&◌}
-use Rattle.rh_defs.specs.Memory.{Memory}
-use Rattle.rh_defs.specs.Files.{FileList}
+use Rattle.rh_tasks.proofs.Common.{◌≡◌, ℕ, Bool, true, false, refl, ap, sym, ◌∙◌, List, Ok, Err, IsErr, not, ◌&&◌, Memory, FileList, Granted, or_else, Parcel}
+use Rattle.rh_tasks.proofs.Common.{is_going, is_full, Desk, Task, Handled, ignored, accept, IsReordered, Seat, MadeArea, Shown, Kept, task_of, shown_of}
+use Rattle.rh_tasks.proofs.Common.{IsWorld, IsAt, Sits, reordered-refl}
 use Rattle.rh_defs.specs.declared.reply.Outcome.TheVariants as outcome
-use Rattle.rh_defs.specs.Chain.{Granted, or_else}
-use Rattle.rh_defs.specs.Messages.{Parcel}
-use Rattle.rh_defs.specs.Records.{is_going, is_full}
-use Rattle.rh_defs.specs.Desk.{Desk, Task}
-use Rattle.rh_defs.specs.OutgoingEvents.{Handled, ignored}
-use Rattle.rh_defs.specs.IncomingEvents.{is_deaf, accept, take_save}
+use Rattle.rh_defs.specs.IncomingEvents.{is_deaf, take_save}
 use Rattle.rh_defs.specs.Receiver as receiver
-use Rattle.rh_defs.specs.Order.{IsReordered}
-use Rattle.rh_tasks.specs.declared.seat.Seat.{Seat}
-use Rattle.rh_tasks.specs.declared.made.MadeArea.{MadeArea}
-use Rattle.rh_tasks.specs.Shown.{Shown}
-use Rattle.rh_tasks.specs.View.{Kept, task_of, shown_of, IsWorld}
-use Rattle.rh_tasks.specs.Polls.{IsAt}
-use Rattle.rh_tasks.proofs.Lists.{Sits}
-use Rattle.rh_tasks.proofs.Reorders.{reordered-refl}
 use Rattle.rh_tasks.proofs.Buffers.{seat-task}
 
 -- whether the task takes it

@@ -1,32 +1,16 @@
 -- The next message for a task, taken from the queue.
-use Rattle.std.proofs.Common.{◌≡◌, ℕ, ◌≤◌, ◌<◌, true, false, cond, refl, ap, sym, subst, ◌∙◌, arith, List, [], ◌∷◌, length}
-use Rattle.std.specs.Prelude.{Option, map, ◌==◌}
-use Rattle.std.specs.Option.{option_map}
-use Rattle.std.proofs.Math.ListN.{get_or, set}
-use Rattle.std.proofs.lemmas.List.{length-map}
-use Rattle.rh_defs.specs.Memory.{Memory, bytes}
-use Rattle.rh_defs.proofs.MemoryLaws.{OnlyArea-self}
-use Rattle.rh_defs.specs.Files.{FileList}
+use Rattle.rh_tasks.proofs.Common.{◌≡◌, ℕ, ◌≤◌, ◌<◌, true, false, cond, refl, ap, sym, subst, ◌∙◌, arith, List, [], ◌∷◌, length, Option, map, ◌==◌}
+use Rattle.rh_tasks.proofs.Common.{option_map, get_or, set, length-map, Memory, bytes, OnlyArea-self, FileList, Post, post_poll, Desk, Task, edit_task}
+use Rattle.rh_tasks.proofs.Common.{with_task, with_delivered, IsDesk, IsReordered, IsSlot, Answers, Chains, HasEntry, SpellsPost, Seat, MadeArea, ScrapFile}
+use Rattle.rh_tasks.proofs.Common.{Kept, the_module, scrap_size, HasSlot, task_of, desk_of, IsWorld, IsAt, Sits, set_same, all-at, cons, mapped-is, Moves}
 use Rattle.rh_defs.specs.declared.message.Event.{Event}
-use Rattle.rh_defs.specs.Post.{Post, post_poll}
-use Rattle.rh_defs.specs.Desk.{Desk, Task, edit_task, with_task, with_delivered}
-use Rattle.rh_defs.specs.Laws.{IsDesk}
-use Rattle.rh_defs.specs.Order.{IsReordered}
 use Rattle.rh_defs.proofs.Desks.{with_delivered-keeps}
 use Rattle.rh_defs.proofs.PostKeeps.{post_poll-kept}
-use Rattle.rh_slot.specs.Area.{IsSlot}
-use Rattle.rh_wimp.specs.Calls.{Answers, Leaves}
-use Rattle.rh_wimp.specs.Chains.{Chains, HasEntry, SpellsPost, event_of}
-use Rattle.rh_tasks.specs.declared.seat.Seat.{Seat}
-use Rattle.rh_tasks.specs.declared.made.MadeArea.{MadeArea}
-use Rattle.rh_tasks.specs.declared.scrap.ScrapFile.{ScrapFile}
-use Rattle.rh_tasks.specs.View.{Kept, the_module, kept_file, scrap_size, HasSlot, task_of, desk_of, IsWorld}
-use Rattle.rh_tasks.specs.Polls.{IsAt}
-use Rattle.rh_tasks.proofs.Lists.{Sits, set_same, all-at, cons}
-use Rattle.rh_tasks.proofs.Places.{mapped-is}
+use Rattle.rh_wimp.specs.Calls.{Leaves}
+use Rattle.rh_wimp.specs.Chains.{event_of}
+use Rattle.rh_tasks.specs.View.{kept_file}
 use Rattle.rh_tasks.proofs.Posts.{is-post, has-entry}
 use Rattle.rh_tasks.proofs.Deaths.{scrap-kept, kept-fits}
-use Rattle.rh_tasks.proofs.Moves.{Moves}
 use Rattle.rh_tasks.proofs.Sends.{desk_then, sent-alike, sent-world}
 
 -- an edit that changes nothing

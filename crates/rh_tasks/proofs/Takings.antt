@@ -1,36 +1,20 @@
 -- What comes in: the desk after each step of a transfer.
-use Rattle.std.proofs.Common.{◌≡◌, ◌≢◌, ℕ, zero, suc, ◌+◌, ◌^◌, ◌<◌, ◌≤◌, true, false, cond, refl, ap, sym, subst, ◌∙◌, arith, List, [], ◌∷◌, length}
-use Rattle.std.specs.Prelude.{Option, Some, None, Ok, Err, SomeIff, nat_lt, ◌==◌, slice_get}
-use Rattle.std.proofs.lemmas.Option.{slice_get_within}
-use Rattle.std.proofs.lemmas.Bool.Decides.{nat_tests}
-use Rattle.rh_defs.specs.declared.message.EventCode.TheVariants.{User}
-use Rattle.rh_defs.specs.declared.message.Letter.{Letter}
-use Rattle.rh_defs.specs.declared.message.Message.{Message}
-use Rattle.rh_defs.specs.declared.refusal.Refusal.{Refusal}
-use Rattle.rh_defs.specs.declared.refusal.Refusal.TheVariants.{NoRoom}
-use Rattle.rh_defs.specs.declared.reply.Outcome.{Outcome}
+use Rattle.rh_tasks.proofs.Common.{◌≡◌, ◌≢◌, ℕ, zero, suc, ◌+◌, ◌^◌, ◌<◌, ◌≤◌, true, false, cond, refl, ap, sym, subst, ◌∙◌, arith, List, [], ◌∷◌, length}
+use Rattle.rh_tasks.proofs.Common.{Option, Some, None, Ok, Err, SomeIff, nat_lt, ◌==◌, slice_get, slice_get_within, nat_tests, User, Letter, Message, Refusal}
+use Rattle.rh_tasks.proofs.Common.{NoRoom, Outcome, Incoming, Granted, ◌>>=◌, refuse_if, or_else, fetch_letter, Parcel, first_bytes, Post, post_send, Slot}
+use Rattle.rh_tasks.proofs.Common.{heap_block_at, Desk, Task, next_ref, free_pages, edit_task, with_task, with_slot, with_taking, with_post, send_letter}
+use Rattle.rh_tasks.proofs.Common.{Handled, appended, take_bytes, fetch_back, IsReordered, OnGrant, Shown, IsAt, IsFor, Becomes, begins, ends, le-false}
+use Rattle.rh_tasks.proofs.Common.{edit-alike, same-alike}
 use Rattle.rh_defs.specs.declared.reply.Outcome.TheVariants as outcome
 use Rattle.rh_defs.specs.declared.transfer.Taking.{Taking}
-use Rattle.rh_defs.specs.declared.transfer.Incoming.{Incoming}
 use Rattle.rh_defs.specs.declared.transfer.Incoming.TheVariants as incoming
-use Rattle.rh_defs.specs.Chain.{Granted, ◌>>=◌, refuse_if, or_else}
-use Rattle.rh_defs.specs.Letters.{fetch_letter, ack_letter}
-use Rattle.rh_defs.specs.Messages.{Parcel}
-use Rattle.rh_defs.specs.Places.{first_bytes}
-use Rattle.rh_defs.specs.Post.{Post, post_send}
+use Rattle.rh_defs.specs.Letters.{ack_letter}
 use Rattle.rh_defs.specs.Receiver as receiver
-use Rattle.rh_defs.specs.Slot.{Slot, heap_block_at}
-use Rattle.rh_defs.specs.Desk.{Desk, Task, next_ref, free_pages, edit_task, with_task, with_slot, with_taking, with_post, send_letter}
-use Rattle.rh_defs.specs.OutgoingEvents.{Handled}
-use Rattle.rh_defs.specs.IncomingEvents.{without_buffer, ended, end_failed, appended, fetch_more, took, is_uncountable, take_bytes, ask, fetch_back}
-use Rattle.rh_defs.specs.Order.{IsReordered}
-use Rattle.rh_defs.proofs.Chains.{OnGrant, granted, granted-then}
-use Rattle.rh_tasks.specs.Shown.{Shown}
-use Rattle.rh_tasks.specs.Polls.{IsAt, IsFor, Becomes, Handles}
+use Rattle.rh_defs.specs.IncomingEvents.{without_buffer, ended, end_failed, fetch_more, took, is_uncountable, ask}
+use Rattle.rh_defs.proofs.Chains.{granted, granted-then}
+use Rattle.rh_tasks.specs.Polls.{Handles}
 use Rattle.rh_tasks.proofs.Addresses.{grant-of}
 use Rattle.rh_tasks.proofs.Places.{some-same}
-use Rattle.rh_tasks.proofs.Chains.{begins, ends, le-false}
-use Rattle.rh_tasks.proofs.Reorders.{edit-alike, same-alike}
 
 -- ---- places
 

@@ -1,24 +1,12 @@
 -- The words and numbers of an answer, as they are read off a desk item by item.
-use Rattle.std.proofs.Common.{◌≡◌, ℕ, ◌+◌, List, length, refl, ap, sym, ◌∙◌, arith}
-use Rattle.std.specs.Prelude.{Option, Ok, Err, Result, nat_lt, take, drop}
+use Rattle.rh_tasks.proofs.Common.{◌≡◌, ℕ, ◌+◌, List, length, refl, ap, sym, ◌∙◌, arith, Option, Ok, Err, Result, nat_lt, take, drop, Refusal, BadRange}
+use Rattle.rh_tasks.proofs.Common.{BlockItem, SegmentItem, Outgoing, Incoming, Reply, Granted, ◌>>=◌, ◌>>◌, refuse_if, Split, Flex, slot_block, Desk, Task}
+use Rattle.rh_tasks.proofs.Common.{named, Shown, lt-false}
 use Rattle.std.specs.Result.{MatchResult}
-use Rattle.rh_defs.specs.declared.refusal.Refusal.{Refusal}
-use Rattle.rh_defs.specs.declared.refusal.Refusal.TheVariants.{BadRange}
-use Rattle.rh_defs.specs.declared.listing.BlockItem.{BlockItem}
-use Rattle.rh_defs.specs.declared.listing.SegmentItem.{SegmentItem}
-use Rattle.rh_defs.specs.declared.transfer.Outgoing.{Outgoing}
-use Rattle.rh_defs.specs.declared.transfer.Incoming.{Incoming}
-use Rattle.rh_defs.specs.declared.reply.Reply.{Reply}
 use Rattle.rh_defs.specs.declared.reply.Reply.TheVariants as reply
-use Rattle.rh_defs.specs.Chain.{Granted, ◌>>=◌, ◌>>◌, refuse_if}
-use Rattle.rh_defs.specs.Pieces.{Split}
-use Rattle.rh_defs.specs.Slot.{Flex, slot_block}
-use Rattle.rh_defs.specs.Desk.{Desk, Task, named}
 use Rattle.rh_defs.specs.Listing.{Bytes, shown_at, blocks_at, heap_at, status_at}
 use Rattle.rh_defs.specs.Questions.{Told, show, blocks, heap, status}
-use Rattle.rh_tasks.specs.Shown.{Shown}
 use Rattle.rh_tasks.specs.Answer.{Gives, first_told}
-use Rattle.rh_tasks.proofs.Chains.{lt-false}
 
 -- a question that was told gives its answer, and changes nothing
 pub told-gives : (g : Granted Told) (w : Shown) (r : Result Reply Refusal) → r ≡ first_told g → Gives (g >>= λ told. Ok (w.desk, told.0)) w w r

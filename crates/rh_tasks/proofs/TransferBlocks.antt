@@ -1,43 +1,25 @@
 -- Bytes that are moved from one task's block to another's: where they stand, and the world after it.
-use Rattle.std.proofs.Common.{◌≡◌, ◌⊎◌, inl, inr, ℕ, zero, suc, ◌+◌, ◌-◌, ◌≤◌, Bool, true, false, refl, ap, sym, subst, ◌∙◌, arith, List, [], ◌∷◌, length}
-use Rattle.std.specs.Prelude.{Option, Some, None, Ok, Err, is_some, ok_or, not, ◌&&◌, ◌||◌, ◌==◌, map, take, drop}
-use Rattle.std.specs.List.{position}
-use Rattle.std.proofs.Math.ListN.{get_or}
-use Rattle.std.proofs.lemmas.Bool.{cases_lt, eqb-true}
+use Rattle.rh_tasks.proofs.Common.{◌≡◌, ◌⊎◌, inl, inr, ℕ, zero, suc, ◌+◌, ◌-◌, ◌≤◌, Bool, true, false, refl, ap, sym, subst, ◌∙◌, arith, List, [], ◌∷◌}
+use Rattle.rh_tasks.proofs.Common.{length, Option, Some, None, Ok, Err, is_some, ok_or, not, ◌&&◌, ◌||◌, ◌==◌, map, take, drop, position, get_or, cases_lt}
+use Rattle.rh_tasks.proofs.Common.{eqb-true, part, Memory, bytes, FileList, Refusal, NoTask, BadRange, Granted, found_or, no_answer, total, bytes_of, size_of}
+use Rattle.rh_tasks.proofs.Common.{heap_start, holds, slot_start, weight, flex_place, buffer_at, overlap, Desk, Task, task_at, free_pages, with_slot}
+use Rattle.rh_tasks.proofs.Common.{part-drop, length-part, IsRoomed, IsSlot, slot_in, Leaves, Standing, Seat, MadeArea, Kept, task_of, desk_of, slot_area}
+use Rattle.rh_tasks.proofs.Common.{AreDistinct, IsWorld, bytes_held, begins, ends, past, stops, lt-true, slid, changed, Sits, avoids-at, task-found}
 use Rattle.std.proofs.lemmas.List.Quantifiers.{position-Some}
-use Rattle.rh_defs.specs.Bytes.{part}
-use Rattle.rh_defs.specs.Memory.{Memory, bytes}
-use Rattle.rh_defs.specs.Files.{FileList}
-use Rattle.rh_defs.specs.declared.refusal.Refusal.{Refusal}
-use Rattle.rh_defs.specs.declared.refusal.Refusal.TheVariants.{NoTask, BadRange}
-use Rattle.rh_defs.specs.Chain.{Granted, found_or, no_answer}
-use Rattle.rh_defs.specs.Pieces.{total}
-use Rattle.rh_defs.specs.Heap.{bytes_of, size_of}
 use Rattle.rh_defs.specs.Slot as plain
-use Rattle.rh_defs.specs.Slot.{heap_start, holds, slot_start, weight}
-use Rattle.rh_defs.specs.SlotImage.{SpellsSlot, flex_place, heap_place}
-use Rattle.rh_defs.specs.Places.{buffer_at, written_in, overlap}
-use Rattle.rh_defs.specs.Desk.{Desk, Task, task_at, free_pages, with_slot}
-use Rattle.rh_defs.proofs.BytesLaws.{part-part, part-drop, length-part}
+use Rattle.rh_defs.specs.SlotImage.{SpellsSlot, heap_place}
+use Rattle.rh_defs.specs.Places.{written_in}
+use Rattle.rh_defs.proofs.BytesLaws.{part-part}
 use Rattle.rh_defs.proofs.HeapLists.{eqb_same}
 use Rattle.rh_defs.proofs.SlotLaws.{HaveAnchors-cut}
-use Rattle.rh_defs.proofs.SlotKeeps.{IsRoomed, written_in-kept}
+use Rattle.rh_defs.proofs.SlotKeeps.{written_in-kept}
 use Rattle.rh_slot.specs.declared.slot.Slot.{Slot}
-use Rattle.rh_slot.specs.Area.{IsSlot, slot_in}
-use Rattle.rh_slot.specs.Calls.{Leaves}
 use Rattle.rh_slot.proofs.EditLaws.{read_bytes}
 use Rattle.rh_slot.proofs.FlexLaws.{false-true}
-use Rattle.rh_slot.proofs.Ranges.{Standing, cut_found, cut_bytes}
+use Rattle.rh_slot.proofs.Ranges.{cut_found, cut_bytes}
 use Rattle.rh_slot.proofs.ReachLaws.{Holder, flex_holder, heap_holder, holder}
-use Rattle.rh_tasks.specs.declared.seat.Seat.{Seat}
-use Rattle.rh_tasks.specs.declared.made.MadeArea.{MadeArea}
-use Rattle.rh_tasks.specs.View.{Kept, task_of, desk_of, slot_area, AreDistinct, IsWorld}
-use Rattle.rh_tasks.specs.TransferBlock.{bytes_held, bytes_around, bytes_in_heap, transferred}
-use Rattle.rh_tasks.proofs.Chains.{begins, ends, past, stops, lt-true}
+use Rattle.rh_tasks.specs.TransferBlock.{bytes_around, bytes_in_heap, transferred}
 use Rattle.rh_tasks.proofs.Finding.{find-none, find-map}
-use Rattle.rh_tasks.proofs.Leaves.{slid, changed}
-use Rattle.rh_tasks.proofs.Lists.{Sits, avoids-at}
-use Rattle.rh_tasks.proofs.Places.{task-found}
 use Rattle.rh_tasks.proofs.Slides.{at-task, seat-slot, seat-at, slides-desk, slides-world}
 
 -- ---- where the bytes stand

@@ -1,39 +1,19 @@
 -- The handlers of a transfer that goes out, on desks alone.
-use Rattle.std.proofs.Common.{◌≡◌, ℕ, ◌+◌, Bool, true, false, refl, ap, sym, subst, ◌∙◌, List, [], ◌∷◌, length}
-use Rattle.std.specs.Prelude.{Some, None, Ok, Err, is_some, not, map, nat_lt, take, drop, ◌==◌, ◌&&◌, ◌||◌}
-use Rattle.std.specs.List.{position}
-use Rattle.std.proofs.Math.ListN.{get_or}
-use Rattle.std.proofs.lemmas.Bool.{eqb-true}
+use Rattle.rh_tasks.proofs.Common.{◌≡◌, ℕ, ◌+◌, Bool, true, false, refl, ap, sym, subst, ◌∙◌, List, [], ◌∷◌, length, Some, None, Ok, Err, is_some, not, map}
+use Rattle.rh_tasks.proofs.Common.{nat_lt, take, drop, ◌==◌, ◌&&◌, ◌||◌, position, get_or, eqb-true, slice_get-get_or, Refusal, NoTask, BadRange, Letter}
+use Rattle.rh_tasks.proofs.Common.{Outcome, Sending, Granted, ◌>>=◌, found_or, or_else, FileList, Memory, Split, Flex, flex_address, slot_block, holds}
+use Rattle.rh_tasks.proofs.Common.{buffer_at, overlap, Parcel, Desk, Task, next_ref, task_at, with_task, with_sending, send_letter, IsReordered, Handled}
+use Rattle.rh_tasks.proofs.Common.{is_out_of_reach, refused, answer_fetch, finish_load, Seat, MadeArea, Kept, task_of, desk_of, IsWorld, IsAt, IsPortion}
+use Rattle.rh_tasks.proofs.Common.{begins, ends, past, stops, Sits, mapped-at, task-found, edit-alike}
 use Rattle.std.proofs.lemmas.List.Quantifiers.{position-Some}
-use Rattle.std.proofs.lemmas.Option.{slice_get-get_or, get_or_from_slice_get}
-use Rattle.rh_defs.specs.declared.refusal.Refusal.{Refusal}
-use Rattle.rh_defs.specs.declared.refusal.Refusal.TheVariants.{NoTask, BadRange}
-use Rattle.rh_defs.specs.declared.message.Letter.{Letter}
-use Rattle.rh_defs.specs.declared.reply.Outcome.{Outcome}
+use Rattle.std.proofs.lemmas.Option.{get_or_from_slice_get}
 use Rattle.rh_defs.specs.declared.reply.Outcome.TheVariants as outcome
-use Rattle.rh_defs.specs.declared.transfer.Sending.{Sending}
-use Rattle.rh_defs.specs.Chain.{Granted, ◌>>=◌, found_or, or_else}
-use Rattle.rh_defs.specs.Files.{FileList}
-use Rattle.rh_defs.specs.Memory.{Memory}
-use Rattle.rh_defs.specs.Pieces.{Split}
 use Rattle.rh_defs.specs.Slot as plain
-use Rattle.rh_defs.specs.Slot.{Flex, flex_address, slot_block, holds}
-use Rattle.rh_defs.specs.Places.{buffer_at, overlap}
-use Rattle.rh_defs.specs.Messages.{Parcel}
 use Rattle.rh_defs.specs.Letters.{transmit_letter}
-use Rattle.rh_defs.specs.Desk.{Desk, Task, next_ref, task_at, with_task, with_sending, send_letter}
-use Rattle.rh_defs.specs.Order.{IsReordered}
-use Rattle.rh_defs.specs.OutgoingEvents.{Handled, portion, is_out_of_reach, transmit, refused, answer_fetch, finish_load}
+use Rattle.rh_defs.specs.OutgoingEvents.{portion, transmit}
 use Rattle.rh_defs.specs.Sender as sender
-use Rattle.rh_tasks.specs.declared.seat.Seat.{Seat}
-use Rattle.rh_tasks.specs.declared.made.MadeArea.{MadeArea}
-use Rattle.rh_tasks.specs.View.{Kept, task_of, desk_of, IsWorld}
-use Rattle.rh_tasks.specs.Polls.{IsAt, IsPortion, transmitted}
-use Rattle.rh_tasks.proofs.Chains.{begins, ends, past, stops}
+use Rattle.rh_tasks.specs.Polls.{transmitted}
 use Rattle.rh_tasks.proofs.Finding.{find-none, find-map}
-use Rattle.rh_tasks.proofs.Lists.{Sits}
-use Rattle.rh_tasks.proofs.Places.{mapped-at, task-found}
-use Rattle.rh_tasks.proofs.Reorders.{edit-alike}
 use Rattle.rh_tasks.proofs.Writes.{with_written, KeyAlike, alike-edited, alike-reordered, alike-both, alike-sent, seen}
 
 -- ---- the task with a handle

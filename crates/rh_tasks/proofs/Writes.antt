@@ -1,38 +1,15 @@
 -- Bytes that are written into the slot of the task at a place, and tasks that are edited.
-use Rattle.std.proofs.Common.{◌≡◌, ◌⊎◌, inl, inr, ℕ, ◌+◌, ◌-◌, ◌<◌, ◌≤◌, true, false, cond, refl, ap, sym, subst, ◌∙◌, arith, List, [], ◌∷◌, length}
-use Rattle.std.specs.Prelude.{Some, Ok, Err, is_some, slice_get, map, take, drop, ◌==◌, ◌&&◌, ◌||◌}
-use Rattle.std.specs.Option.{option_map}
-use Rattle.std.proofs.Math.ListN.{get_or, set}
-use Rattle.std.proofs.lemmas.Bool.{cases_eq}
-use Rattle.std.proofs.lemmas.List.{length-map}
-use Rattle.std.proofs.lemmas.Option.{slice_get-map, slice_get-get_or, slice_get_within}
-use Rattle.rh_defs.specs.declared.message.Letter.{Letter}
-use Rattle.rh_defs.specs.declared.transfer.Sending.{Sending}
-use Rattle.rh_defs.specs.Bytes.{part}
-use Rattle.rh_defs.specs.Chain.{Granted, ◌>>=◌, no_answer}
-use Rattle.rh_defs.specs.Files.{FileList}
-use Rattle.rh_defs.specs.Memory.{Memory, bytes}
-use Rattle.rh_defs.specs.Pieces.{Split}
+use Rattle.rh_tasks.proofs.Common.{◌≡◌, ◌⊎◌, inl, inr, ℕ, ◌+◌, ◌-◌, ◌<◌, ◌≤◌, true, false, cond, refl, ap, sym, subst, ◌∙◌, arith, List, [], ◌∷◌, length}
+use Rattle.rh_tasks.proofs.Common.{Some, Ok, Err, is_some, slice_get, map, take, drop, ◌==◌, ◌&&◌, ◌||◌, option_map, get_or, set, cases_eq, length-map}
+use Rattle.rh_tasks.proofs.Common.{slice_get-map, slice_get-get_or, slice_get_within, Letter, Sending, part, Granted, ◌>>=◌, no_answer, FileList, Memory}
+use Rattle.rh_tasks.proofs.Common.{bytes, Split, Flex, flex_address, slot_block, holds, buffer_at, overlap, Post, post_send, Desk, Task, free_pages}
+use Rattle.rh_tasks.proofs.Common.{edit_task, with_task, with_post, send_letter, IsDesk, IsReordered, is_out_of_reach, length-part, IsSlot, slot_in, Leaves}
+use Rattle.rh_tasks.proofs.Common.{Seat, MadeArea, Kept, HasSlot, slot_area, task_of, desk_of, IsWorld, IsAt, IsPortion, Sits, all-at, set_same, Moves}
+use Rattle.rh_tasks.proofs.Common.{moved-desk, moved-world, mapped-at, mapped-is}
 use Rattle.rh_defs.specs.Slot as plain
-use Rattle.rh_defs.specs.Slot.{Flex, flex_address, slot_block, holds}
-use Rattle.rh_defs.specs.Places.{buffer_at, overlap, written_in}
-use Rattle.rh_defs.specs.Post.{Post, post_send}
-use Rattle.rh_defs.specs.Desk.{Desk, Task, free_pages, edit_task, with_task, with_post, send_letter}
-use Rattle.rh_defs.specs.Laws.{IsDesk}
-use Rattle.rh_defs.specs.Order.{IsReordered}
-use Rattle.rh_defs.specs.OutgoingEvents.{is_out_of_reach}
-use Rattle.rh_defs.proofs.BytesLaws.{length-part}
+use Rattle.rh_defs.specs.Places.{written_in}
 use Rattle.rh_defs.proofs.Desks.{with_task-keeps}
 use Rattle.rh_defs.proofs.SlotKeeps.{written_in-kept}
-use Rattle.rh_slot.specs.Area.{IsSlot, slot_in}
-use Rattle.rh_slot.specs.Calls.{Leaves}
-use Rattle.rh_tasks.specs.declared.seat.Seat.{Seat}
-use Rattle.rh_tasks.specs.declared.made.MadeArea.{MadeArea}
-use Rattle.rh_tasks.specs.View.{Kept, HasSlot, slot_area, task_of, desk_of, IsWorld}
-use Rattle.rh_tasks.specs.Polls.{IsAt, IsPortion}
-use Rattle.rh_tasks.proofs.Lists.{Sits, all-at, set_same}
-use Rattle.rh_tasks.proofs.Moves.{Moves, moved-desk, moved-world}
-use Rattle.rh_tasks.proofs.Places.{mapped-at, mapped-is}
 use Rattle.rh_tasks.proofs.Fetches.{one-member, apart-at, test-same}
 use Rattle.rh_tasks.proofs.Sources.{Portioned, portioned, portion-inside, portion-bytes, in-reach, ranges-apart}
 

@@ -1,17 +1,8 @@
 -- Which entry is a task's, and what it holds.
-use Rattle.std.proofs.Common.{◌≡◌, ℕ, ◌<◌, ◌≢◌, inl, inr, true, false, Bool, List, length, get_or, refl, sym, ap, ◌∙◌, arith}
-use Rattle.std.proofs.lemmas.Bool.{cases_eq}
+use Rattle.rh_wimp.proofs.Common.{◌≡◌, ℕ, ◌<◌, ◌≢◌, inl, inr, true, false, Bool, List, length, get_or, refl, sym, ap, ◌∙◌, arith, cases_eq, Option, Some}
+use Rattle.rh_wimp.proofs.Common.{None, ◌==◌, position, word, Heap, block_bytes, HasBlock, Parcel, padded, answers_held, Row, RowsLie, Holds, entry_at}
+use Rattle.rh_wimp.proofs.Common.{row_at, no_entry, Entry, ref_read, padded-least}
 use Rattle.std.proofs.lemmas.List.{get_or_default}
-use Rattle.std.specs.Prelude.{Option, Some, None, ◌==◌}
-use Rattle.std.specs.List.{position}
-use Rattle.rh_defs.specs.Bytes.{word}
-use Rattle.rh_defs.specs.Heap.{Heap}
-use Rattle.rh_defs.specs.Blocks.{block_bytes, HasBlock}
-use Rattle.rh_defs.specs.Messages.{Parcel, padded}
-use Rattle.rh_defs.specs.Post.{answers_held}
-use Rattle.rh_wimp.specs.Chains.{Row, RowsLie, Holds, entry_at, row_at, no_entry}
-use Rattle.rh_wimp.specs.declared.chain.Entry.{Entry}
-use Rattle.rh_defs.proofs.ParcelLaws.{ref_read, padded-least}
 use Rattle.rh_wimp.proofs.PostLaws.{found-at, not-found}
 use Rattle.rh_wimp.proofs.RowEdits.{lies-above}
 

@@ -1,31 +1,21 @@
 -- The post stays where the module area's calls claim, free and resize blocks of others, or move the area's end.
-use Rattle.std.proofs.Common.{◌≡◌, ℕ, ◌-◌, ◌<◌, ◌≤◌, inl, inr, Bool, true, false, List, [], ◌∷◌, length, refl, sym, ap, subst, ◌∙◌, arith}
-use Rattle.std.proofs.lemmas.Bool.{cases_eq, cases_lt}
-use Rattle.std.proofs.lemmas.Bool.Decides.{eqb_tells}
-use Rattle.std.specs.Prelude.{Option, Some, None, Ok, Err, ◌==◌, ◌||◌, ℤ}
-use Rattle.std.specs.List.{list_any}
-use Rattle.std.specs.Option.{option_map}
-use Rattle.rh_defs.specs.Blocks.{block_bytes, SameShape}
-use Rattle.rh_defs.specs.Chain.{Granted, ◌>>=◌, refuse_if, found_or, answer_of, left_of, no_answer}
-use Rattle.rh_defs.specs.Heap.{Heap, Segment, Placed, as_granted, base, block_at, block_room, block_size, bytes_of, fitted, new_size, release, resize_growing}
-use Rattle.rh_defs.specs.Heap.{resize_need, size_of}
-use Rattle.rh_defs.specs.Pieces.{Split, lacks_pages, moved, pages_for, total}
+use Rattle.rh_wimp.proofs.Common.{◌≡◌, ℕ, ◌-◌, ◌<◌, ◌≤◌, inl, inr, Bool, true, false, List, [], ◌∷◌, length, refl, sym, ap, subst, ◌∙◌, arith, cases_eq}
+use Rattle.rh_wimp.proofs.Common.{cases_lt, eqb_tells, Option, Some, None, Ok, Err, ◌==◌, ◌||◌, ℤ, list_any, option_map, block_bytes, SameShape, Granted}
+use Rattle.rh_wimp.proofs.Common.{answer_of, left_of, Heap, block_room, release, total, Memory, Parcel, module_claim, Post, module_claim-alike, heap_in}
+use Rattle.rh_wimp.proofs.Common.{Module, IsQueue, Chains, IsPost, SpellsPost, Off, entry_at, row_at, rows_of, row_parcels}
+use Rattle.rh_defs.specs.Chain.{◌>>=◌, refuse_if, found_or, no_answer}
+use Rattle.rh_defs.specs.Heap.{Segment, Placed, as_granted, base, block_at, block_size, bytes_of, fitted, new_size, resize_growing, resize_need, size_of}
+use Rattle.rh_defs.specs.Pieces.{Split, lacks_pages, moved, pages_for}
 use Rattle.rh_defs.specs.declared.refusal.Refusal.{Refusal}
 use Rattle.rh_defs.specs.declared.refusal.Refusal.TheVariants.{BadSize, NotABlock, ExcessiveShrink, NoRoom}
-use Rattle.rh_defs.specs.Memory.{Memory}
-use Rattle.rh_defs.specs.Messages.{Parcel}
-use Rattle.rh_defs.specs.Module.{changed_length, module_change, module_claim, module_free, module_resize}
-use Rattle.rh_defs.specs.Post.{Post, post_is_message}
+use Rattle.rh_defs.specs.Module.{changed_length, module_change, module_free, module_resize}
+use Rattle.rh_defs.specs.Post.{post_is_message}
 use Rattle.rh_defs.proofs.BlockCalls.{module_free-there}
 use Rattle.rh_defs.proofs.BlockLaws.{bytes_here, block_at-bytes}
 use Rattle.rh_defs.proofs.ModuleLaws.{module_change-low, module_change-short, module_change-done, module_free-none}
 use Rattle.rh_defs.proofs.ResizeLaws.{CutAlike, Moves, resize_growing-alike, resize_growing-moves, resize_need-alike}
-use Rattle.rh_defs.proofs.ShapeLaws.{Alike, blank_cut, block-blank, block_size-alike, module_claim-alike, same_heap, total-blank}
-use Rattle.rh_module.specs.Area.{heap_in}
+use Rattle.rh_defs.proofs.ShapeLaws.{Alike, blank_cut, block-blank, block_size-alike, same_heap, total-blank}
 use Rattle.rh_module.specs.Calls as module_calls
-use Rattle.rh_module.specs.declared.module.Module.{Module}
-use Rattle.rh_wimp.specs.Calls.{IsQueue}
-use Rattle.rh_wimp.specs.Chains.{Chains, IsPost, SpellsPost, Off, entry_at, row_at, rows_of, row_parcels}
 use Rattle.rh_wimp.specs.Laws.{GoesBeside, IsSmall, with_heap}
 use Rattle.rh_wimp.specs.PostIn.{post_in}
 use Rattle.rh_wimp.proofs.FrameLaws.{IsOff, block-changed, blocks-changed, claimed-beside, freed-beside}

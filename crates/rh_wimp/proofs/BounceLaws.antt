@@ -1,27 +1,18 @@
 -- A post after a message bounces.
-use Rattle.std.proofs.Common.{◌≡◌, ℕ, ◌+◌, ◌<◌, ◌≤◌, ◌≢◌, inl, inr, true, List, [], ◌∷◌, ◌++◌, length, map, set, refl, sym, ap, subst, ◌∙◌, arith, append-nil}
-use Rattle.std.proofs.lemmas.Bool.{cases_eq}
-use Rattle.std.proofs.lemmas.List.{length-set, get_or-set_same, get_or-set_other}
-use Rattle.std.specs.Prelude.{Some, None}
-use Rattle.rh_defs.specs.Pieces.{total}
-use Rattle.rh_defs.specs.Heap.{Heap, release}
-use Rattle.rh_wimp.specs.Moves.{relinked}
-use Rattle.rh_defs.specs.Blocks.{block_bytes, poked, SameShape}
-use Rattle.rh_defs.specs.Bytes.{word_bytes}
-use Rattle.rh_defs.specs.Messages.{Parcel, parcel_bytes, padded}
-use Rattle.rh_defs.specs.Post.{Seat, Post, has_seat, held_by, with_held, count_held, live_count, most_messages, as_returned}
-use Rattle.rh_wimp.specs.Chains.{Loose, Chains, Holds, Row, RowLies, RowsLie, IsLinked, IsPost, AllLie, AllLive, Off, no_row, entry_at, row_at, row_of}
-use Rattle.rh_wimp.specs.Chains.{rows_of, row_parcels, held_list, lengthened, emptied, emptied_chains, last_block}
-use Rattle.rh_wimp.specs.Deaths.{lifted}
-use Rattle.rh_wimp.specs.declared.chain.Entry.{Entry}
-use Rattle.rh_defs.proofs.BlockLaws.{poked-pokes, poked-other, block-above, release-frees}
+use Rattle.rh_wimp.proofs.Common.{◌≡◌, ℕ, ◌+◌, ◌<◌, ◌≤◌, ◌≢◌, inl, inr, true, List, [], ◌∷◌, ◌++◌, length, map, set, refl, sym, ap, subst, ◌∙◌, arith}
+use Rattle.rh_wimp.proofs.Common.{append-nil, cases_eq, length-set, get_or-set_same, get_or-set_other, Some, None, total, Heap, release, relinked}
+use Rattle.rh_wimp.proofs.Common.{block_bytes, poked, SameShape, word_bytes, Parcel, parcel_bytes, padded, Seat, Post, has_seat, held_by, with_held}
+use Rattle.rh_wimp.proofs.Common.{count_held, live_count, most_messages, as_returned, Loose, Chains, Holds, Row, RowLies, RowsLie, IsLinked, IsPost, AllLie}
+use Rattle.rh_wimp.proofs.Common.{AllLive, Off, no_row, entry_at, row_at, row_of, rows_of, row_parcels, held_list, lengthened, emptied, emptied_chains}
+use Rattle.rh_wimp.proofs.Common.{last_block, lifted, Entry, poked-pokes, poked-other, release-frees, poked-shape, shape-both, release-alike}
+use Rattle.rh_defs.proofs.BlockLaws.{block-above}
 use Rattle.rh_wimp.proofs.LinkLaws.{AllLie-kept, AllLie-parts}
 use Rattle.rh_defs.proofs.ParcelLaws.{padded-recoded, padded-rewritten}
 use Rattle.rh_wimp.proofs.PostLaws.{seat_at, held-at, seat_with, with_held-at, rows-seat, count-seat}
 use Rattle.rh_wimp.proofs.RowEdits.{without_held, dropped, dropped-off}
 use Rattle.rh_wimp.proofs.RowLaws.{KeepsBut, agree-off, row-kept, Off-append, Off-parts, Off-last}
 use Rattle.rh_wimp.proofs.SendLaws.{Links, relinked-other, relinked-last, relinked-shape, queue-longer, seated, named, all-live-same}
-use Rattle.rh_defs.proofs.ShapeLaws.{poked-shape, shape-both, shape-sym, release-alike}
+use Rattle.rh_defs.proofs.ShapeLaws.{shape-sym}
 
 -- ---- what a task holds is lifted
 linked-lifted : (h d : Heap) (es : List Entry) (rows : List Row) (i : ℕ) (q : Parcel) → i < length rows → RowsLie h es rows → (row_at rows i).held ≡ Some q

@@ -1,27 +1,17 @@
 -- What calls on the module area leave of its blocks.
-use Rattle.std.proofs.Common.{◌≡◌, ℕ, ◌+◌, ◌≤◌, List, ◌++◌, length, length-append, take, drop, replicate, refl, sym, ap, subst, ◌∙◌, arith}
-use Rattle.std.proofs.lemmas.List.{append_assoc, take_at}
-use Rattle.std.specs.Prelude.{Ok, Err}
-use Rattle.rh_defs.specs.Bytes.{put}
-use Rattle.rh_defs.specs.Chain.{Granted, answer_of, left_of, no_answer}
-use Rattle.rh_defs.specs.Memory.{Memory}
-use Rattle.rh_defs.specs.Pieces.{zeros}
-use Rattle.rh_defs.specs.Heap.{Heap, block_room, release}
-use Rattle.rh_defs.specs.Module.{module_claim, module_free}
+use Rattle.rh_wimp.proofs.Common.{◌≡◌, ℕ, ◌+◌, ◌≤◌, List, ◌++◌, length, length-append, take, drop, replicate, refl, sym, ap, subst, ◌∙◌, arith, append_assoc}
+use Rattle.rh_wimp.proofs.Common.{Ok, Err, put, Granted, answer_of, left_of, Memory, zeros, Heap, block_room, release, module_claim, OnlyArea-both, heap_in}
+use Rattle.rh_wimp.proofs.Common.{Module, Turns, poked, HasBlock, word_bytes, encoded, encoded_length, Message, module_claim-puts, length-word_bytes}
+use Rattle.rh_wimp.proofs.Common.{length-encoded}
+use Rattle.std.proofs.lemmas.List.{take_at}
+use Rattle.rh_defs.specs.Chain.{no_answer}
+use Rattle.rh_defs.specs.Module.{module_free}
 use Rattle.rh_defs.proofs.BytesLaws.{put-parts}
-use Rattle.rh_defs.proofs.MemoryLaws.{OnlyArea-both}
-use Rattle.rh_module.specs.Area.{heap_in}
 use Rattle.rh_module.specs.Calls.{Leaves}
-use Rattle.rh_module.specs.declared.module.Module.{Module}
 use Rattle.rh_module.specs.Writes.{Wrote}
-use Rattle.rh_wimp.specs.Moves.{Turns}
-use Rattle.rh_defs.specs.Blocks.{poked, HasBlock, Puts}
-use Rattle.rh_defs.specs.Bytes.{word_bytes}
-use Rattle.rh_defs.specs.Messages.{encoded, encoded_length}
-use Rattle.rh_defs.specs.declared.message.Message.{Message}
-use Rattle.rh_defs.proofs.BlockCalls.{module_claim-puts, module_claim-has, module_free-there}
+use Rattle.rh_defs.specs.Blocks.{Puts}
+use Rattle.rh_defs.proofs.BlockCalls.{module_claim-has, module_free-there}
 use Rattle.rh_defs.proofs.BlockLaws.{has-poked}
-use Rattle.rh_defs.proofs.MessageLaws.{length-word_bytes, length-encoded}
 
 -- ---- claims
 pub record Claimed (m n : Memory) (rma : Module) (size block : ℕ) : Type 0 where

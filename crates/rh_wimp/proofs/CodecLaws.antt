@@ -1,15 +1,11 @@
 -- What was encoded in a block is decoded from it, whatever stands behind it.
-use Rattle.std.proofs.Common.{◌≡◌, ℕ, ◌+◌, ◌*◌, ◌%◌, ◌≤◌, List, [], ◌∷◌, length, take, ap, sym, subst, ◌∙◌, arith}
+use Rattle.rh_wimp.proofs.Common.{◌≡◌, ℕ, ◌+◌, ◌*◌, ◌%◌, ◌≤◌, List, [], ◌∷◌, length, take, ap, sym, subst, ◌∙◌, arith, word, put, action_number, action_of}
+use Rattle.rh_wimp.proofs.Common.{data_words, encoded, Body, DataSave, DataSaveAck, DataLoad, DataLoadAck, RamFetch, RamTransmit, Message, length-encoded}
 use Rattle.std.proofs.lemmas.List.{length-take-le}
-use Rattle.rh_defs.specs.Bytes.{word, put, SameIn}
-use Rattle.rh_defs.specs.Messages.{action_number, action_of, data_words, encoded}
+use Rattle.rh_defs.specs.Bytes.{SameIn}
 use Rattle.rh_defs.specs.MessageImage.{SpellWords, SpellsName, SpellsTail, SpellsMessage}
-use Rattle.rh_defs.specs.declared.message.Body.{Body}
-use Rattle.rh_defs.specs.declared.message.Body.TheVariants.{DataSave, DataSaveAck, DataLoad, DataLoadAck, RamFetch, RamTransmit}
-use Rattle.rh_defs.specs.declared.message.Message.{Message}
 use Rattle.rh_defs.proofs.BytesLaws.{SameIn-narrower, SameIn-take, length-put, part_same, put_inside, word_same}
 use Rattle.rh_defs.proofs.MessageImageLaws.{encoded-spells, spelled-decodes}
-use Rattle.rh_defs.proofs.MessageLaws.{length-encoded}
 use Rattle.rh_wimp.specs.Laws.{ComesBack}
 
 -- the words of a message end below its length

@@ -1,13 +1,10 @@
 -- A post whose dying task loses its messages one by one, and then its seat.
-use Rattle.std.proofs.Common.{◌≡◌, ℕ, ◌≢◌, inl, inr, Bool, true, false, cond, eqb, List, [], ◌∷◌, ◌++◌, refl, sym, ap, ◌∙◌, append-nil}
-use Rattle.std.proofs.lemmas.Bool.{cases_eq}
-use Rattle.std.proofs.lemmas.List.Elements.{filter-append}
-use Rattle.std.specs.Prelude.{Option, Some, None, filter, not, ◌==◌}
-use Rattle.rh_defs.specs.Blocks.{poked}
-use Rattle.rh_defs.specs.Messages.{Parcel, is_recorded, parcel_bytes}
-use Rattle.rh_defs.specs.Post.{Seat, Post, has_seat, held_by, with_held, as_returned, bounced, bounce_all, bounce_held, without_block, post_death}
-use Rattle.rh_defs.proofs.HeapLists.{cond_true, cond_false, eqb_same, eqb_apart}
-use Rattle.rh_wimp.specs.Deaths.{bounced_from, ended_from, lifted, queue_to, rest_of_death, settled_from, without_seat}
+use Rattle.rh_wimp.proofs.Common.{◌≡◌, ℕ, ◌≢◌, inl, inr, Bool, true, false, cond, eqb, List, [], ◌∷◌, ◌++◌, refl, sym, ap, ◌∙◌, append-nil, cases_eq}
+use Rattle.rh_wimp.proofs.Common.{filter-append, Option, Some, None, filter, not, ◌==◌, poked, Parcel, is_recorded, parcel_bytes, Seat, Post, has_seat}
+use Rattle.rh_wimp.proofs.Common.{held_by, with_held, as_returned, bounced, bounce_held, without_block, post_death, cond_true, cond_false, eqb_same}
+use Rattle.rh_wimp.proofs.Common.{eqb_apart, ended_from, lifted, queue_to, settled_from, without_seat}
+use Rattle.rh_defs.specs.Post.{bounce_all}
+use Rattle.rh_wimp.specs.Deaths.{bounced_from, rest_of_death}
 use Rattle.rh_wimp.proofs.PollLaws.{bounced-seats}
 use Rattle.rh_wimp.proofs.TakeLaws.{FirstFor, rest_of}
 

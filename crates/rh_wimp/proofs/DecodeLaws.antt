@@ -1,16 +1,9 @@
 -- Laws of decoding.
-use Rattle.std.proofs.Common.{◌≡◌, ℕ, ◌+◌, ◌<◌, ◌≤◌, true, false, ap, ◌∙◌, List, arith}
-use Rattle.std.specs.Prelude.{Option, Some, Result, Ok, Err}
-use Rattle.rh_defs.specs.Bytes.{word}
-use Rattle.rh_defs.specs.Messages.{action_at}
-use Rattle.rh_defs.specs.MessageImage.{name_length, body_for, message_in, has_length, decoded}
-use Rattle.rh_defs.specs.declared.message.Action.{Action}
-use Rattle.rh_defs.specs.declared.message.Body.{Body}
-use Rattle.rh_defs.specs.declared.message.Message.{Message}
-use Rattle.rh_defs.specs.declared.message.MessageFault.{MessageFault}
+use Rattle.rh_wimp.proofs.Common.{◌≡◌, ℕ, ◌+◌, ◌<◌, ◌≤◌, true, false, ap, ◌∙◌, List, arith, Option, Some, Result, Ok, Err, word, action_at, decoded, Action}
+use Rattle.rh_wimp.proofs.Common.{Body, Message, MessageFault, cond_true, cond_false}
+use Rattle.rh_defs.specs.MessageImage.{name_length, body_for, message_in, has_length}
 use Rattle.rh_defs.specs.declared.message.MessageFault.TheVariants.{BadLength}
 use Rattle.rh_defs.proofs.BytesLaws.{length-part}
-use Rattle.rh_defs.proofs.HeapLists.{cond_true, cond_false}
 use Rattle.rh_defs.proofs.MessageImageLaws.{found_spelled}
 
 -- a name that was found ends below the message's end

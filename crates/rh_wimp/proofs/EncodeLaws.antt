@@ -1,14 +1,11 @@
 -- Laws of encoding: pieces written one after the other.
-use Rattle.std.proofs.Common.{◌≡◌, ℕ, suc, ◌+◌, ◌-◌, ◌*◌, ◌/◌, ◌<◌, ◌≤◌, ◌^◌, List, [], ◌∷◌, ◌++◌, length, get_or, refl, sym, ap, ◌∙◌, arith}
-use Rattle.std.proofs.lemmas.List.{length-append, length-replicate, append_assoc, append-nil}
-use Rattle.rh_defs.specs.declared.sizes.TheConstants.{LONGEST_MESSAGE}
-use Rattle.rh_defs.specs.Bytes.{put, word_bytes}
-use Rattle.rh_defs.specs.Pieces.{zeros}
-use Rattle.rh_defs.specs.Messages.{AreWords, words, name_bytes, data_words, tail_bytes, body_bytes, action_number, action_of, encoded, encoded_length}
-use Rattle.rh_defs.specs.declared.message.Body.{Body}
-use Rattle.rh_defs.specs.declared.message.Message.{Message}
+use Rattle.rh_wimp.proofs.Common.{◌≡◌, ℕ, suc, ◌+◌, ◌-◌, ◌*◌, ◌/◌, ◌<◌, ◌≤◌, ◌^◌, List, [], ◌∷◌, ◌++◌, length, get_or, refl, sym, ap, ◌∙◌, arith}
+use Rattle.rh_wimp.proofs.Common.{length-append, append_assoc, append-nil, LONGEST_MESSAGE, put, word_bytes, zeros, words, data_words, body_bytes}
+use Rattle.rh_wimp.proofs.Common.{action_number, action_of, encoded, encoded_length, Body, Message, length-word_bytes}
+use Rattle.std.proofs.lemmas.List.{length-replicate}
+use Rattle.rh_defs.specs.Messages.{AreWords, name_bytes, tail_bytes}
 use Rattle.rh_defs.proofs.BytesLaws.{put_before}
-use Rattle.rh_defs.proofs.MessageLaws.{length-word_bytes, length-words, words-append, puts_in_row}
+use Rattle.rh_defs.proofs.MessageLaws.{length-words, words-append, puts_in_row}
 
 pub are-words : (ns : List ℕ) → ((i : ℕ) → i < length ns → get_or ns i 0 < 2 ^ 32) → AreWords ns
 are-words [] f = tt

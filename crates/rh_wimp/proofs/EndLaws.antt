@@ -1,15 +1,11 @@
 -- The turns of a death.
-use Rattle.std.proofs.Common.{◌≡◌, ℕ, ◌+◌, ◌<◌, ◌≤◌, List, [], ◌∷◌, length, refl, sym, ap, subst, ◌∙◌, arith}
-use Rattle.std.specs.Prelude.{Option, Some, None, true, false, ◌==◌}
-use Rattle.rh_defs.specs.Heap.{Heap, release}
-use Rattle.rh_defs.specs.Memory.{Memory, OnlyArea}
-use Rattle.rh_defs.specs.Messages.{Parcel, is_recorded}
-use Rattle.rh_defs.specs.Post.{Post, held_by, bounced, bounce_all, without_block, post_death, most_messages}
-use Rattle.rh_defs.proofs.HeapLists.{cond_true, cond_false, eqb_same, eqb_apart}
-use Rattle.rh_module.specs.Area.{IsModule, heap_in}
-use Rattle.rh_module.specs.declared.module.Module.{Module}
-use Rattle.rh_wimp.specs.Chains.{Chains, IsPost, Lifted, LiftsFirst, MayBounce, SpellsPost, entry_at}
-use Rattle.rh_wimp.specs.Deaths.{Drained, Drains, bounced_from, ended_from, lifted, queue_to, settled_from, without_seat}
+use Rattle.rh_wimp.proofs.Common.{◌≡◌, ℕ, ◌+◌, ◌<◌, ◌≤◌, List, [], ◌∷◌, length, refl, sym, ap, subst, ◌∙◌, arith, Option, Some, None, true, false, ◌==◌, Heap}
+use Rattle.rh_wimp.proofs.Common.{release, Memory, OnlyArea, Parcel, is_recorded, Post, held_by, bounced, without_block, post_death, most_messages, cond_true}
+use Rattle.rh_wimp.proofs.Common.{cond_false, eqb_same, eqb_apart, IsModule, heap_in, Module, Chains, IsPost, Lifted, MayBounce, SpellsPost, entry_at}
+use Rattle.rh_wimp.proofs.Common.{ended_from, lifted, queue_to, settled_from, without_seat}
+use Rattle.rh_defs.specs.Post.{bounce_all}
+use Rattle.rh_wimp.specs.Chains.{LiftsFirst}
+use Rattle.rh_wimp.specs.Deaths.{Drained, Drains, bounced_from}
 use Rattle.rh_wimp.proofs.BounceLaws.{vanished}
 use Rattle.rh_wimp.proofs.DeathLaws.{death-settled, death-step, queue-ended, seats-ended, seats-from}
 use Rattle.rh_wimp.proofs.LeaveLaws.{left_chains, seat-left}

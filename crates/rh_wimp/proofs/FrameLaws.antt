@@ -1,18 +1,9 @@
 -- The post stays where blocks of others come and go.
-use Rattle.std.proofs.Common.{◌≡◌, ℕ, ◌<◌, ◌≢◌, inl, inr, length, sym, subst, ◌∙◌}
-use Rattle.std.proofs.lemmas.Bool.{cases_eq}
-use Rattle.std.specs.Prelude.{List, [], ◌∷◌, Ok}
-use Rattle.rh_defs.specs.Messages.{Parcel}
-use Rattle.rh_defs.specs.Heap.{Heap, release}
-use Rattle.rh_defs.specs.Module.{module_claim}
-use Rattle.rh_defs.specs.Blocks.{block_bytes, SameShape}
-use Rattle.rh_defs.specs.Post.{Post}
-use Rattle.rh_wimp.specs.Chains.{AllLie, Chains, IsPost, Off, entry_at, row_at, rows_of, row_parcels}
-use Rattle.rh_defs.proofs.BlockLaws.{release-frees}
-use Rattle.rh_defs.proofs.BlockCalls.{module_claim-puts}
+use Rattle.rh_wimp.proofs.Common.{◌≡◌, ℕ, ◌<◌, ◌≢◌, inl, inr, length, sym, subst, ◌∙◌, cases_eq, List, [], ◌∷◌, Ok, Parcel, Heap, release, module_claim}
+use Rattle.rh_wimp.proofs.Common.{block_bytes, SameShape, Post, AllLie, Chains, IsPost, Off, entry_at, row_at, rows_of, row_parcels, release-frees}
+use Rattle.rh_wimp.proofs.Common.{module_claim-puts, module_claim-alike, release-alike}
 use Rattle.rh_wimp.proofs.RowLaws.{agree-off, row-kept, row-fresh}
 use Rattle.rh_wimp.proofs.SendLaws.{alike-ok}
-use Rattle.rh_defs.proofs.ShapeLaws.{module_claim-alike, release-alike}
 
 -- the messages' blocks stay where but two others change
 AllLie-but : (d k : Heap) (x y : ℕ) (ps : List Parcel) → ((b : ℕ) → b ≢ x → b ≢ y → block_bytes b k ≡ block_bytes b d) → Off x ps → Off y ps → AllLie d ps

@@ -1,34 +1,20 @@
 -- The live messages as they are listed.
-use Rattle.std.proofs.Common.{◌≡◌, ℕ, zero, suc, ◌+◌, ◌<◌, ◌≤◌, ◌≢◌, ◌^◌, Bool, true, false, List, [], ◌∷◌, ◌++◌, length, map, drop, get_or, refl, sym, ap}
-use Rattle.std.proofs.Common.{◌∙◌, arith, append-nil}
+use Rattle.rh_wimp.proofs.Common.{◌≡◌, ℕ, zero, suc, ◌+◌, ◌<◌, ◌≤◌, ◌≢◌, ◌^◌, Bool, true, false, List, [], ◌∷◌, ◌++◌, length, map, drop, get_or, refl, sym}
+use Rattle.rh_wimp.proofs.Common.{ap, ◌∙◌, arith, append-nil, length-map, length-append, append_assoc, Option, Some, None, word, HasBlock, block_bytes, Heap}
+use Rattle.rh_wimp.proofs.Common.{Memory, bytes, Parcel, action_at, action_number, action_of, padded, parcel_size, Action, EventCode, total, Seat, Post}
+use Rattle.rh_wimp.proofs.Common.{count_held, most_messages, room_enough, encoded-most, length-padded, link_read, IsModule, heap_in, Module, Chain, Chains}
+use Rattle.rh_wimp.proofs.Common.{Holds, IsPost, Row, first_block, held_list, no_row, row_of, row_at, rows_of, LinksAt, held_items, item_of, waiting_items}
+use Rattle.rh_wimp.proofs.Common.{by_seats, area_limit}
 use Rattle.std.proofs.Math.ListN.{drop_of_length-le}
-use Rattle.std.proofs.lemmas.List.{length-map, length-append, append_assoc}
-use Rattle.std.specs.Prelude.{Option, Some, None}
-use Rattle.rh_defs.specs.Bytes.{word}
-use Rattle.rh_defs.specs.Blocks.{HasBlock, block_bytes}
-use Rattle.rh_defs.specs.Heap.{Heap}
-use Rattle.rh_defs.specs.Memory.{Memory, bytes}
-use Rattle.rh_defs.specs.Messages.{Parcel, Fits, action_at, action_number, action_of, padded, parcel_size}
-use Rattle.rh_defs.specs.declared.message.Action.{Action}
+use Rattle.rh_defs.specs.Messages.{Fits}
 use Rattle.rh_defs.specs.declared.message.Action.TheVariants as action
-use Rattle.rh_defs.specs.declared.message.EventCode.{EventCode}
-use Rattle.rh_defs.specs.Pieces.{total}
-use Rattle.rh_defs.specs.Post.{Seat, Post, count_held, most_messages}
-use Rattle.rh_defs.proofs.BlockCalls.{room_enough}
-use Rattle.rh_defs.proofs.MessageLaws.{encoded-most}
-use Rattle.rh_defs.proofs.ParcelLaws.{length-padded, link_read, padded-words}
-use Rattle.rh_module.specs.Area.{IsModule, heap_in}
-use Rattle.rh_module.specs.declared.module.Module.{Module}
-use Rattle.rh_wimp.specs.Chains.{Chain, Chains, Holds, IsPost, Row, first_block, held_list, no_row, row_of, row_at, rows_of}
-use Rattle.rh_wimp.specs.Items.{LinksAt, held_items, item_of, waiting_items}
-use Rattle.rh_wimp.specs.PostIn.{by_seats}
+use Rattle.rh_defs.proofs.ParcelLaws.{padded-words}
 use Rattle.rh_defs.specs.declared.listing.MessageItem.{MessageItem}
 use Rattle.rh_wimp.proofs.OrderLaws.{by_seats-length, sent_to}
 use Rattle.rh_wimp.proofs.PollLaws.{next-small}
 use Rattle.rh_wimp.proofs.RowEdits.{lies-above}
 use Rattle.rh_wimp.proofs.SendLaws.{named}
 use Rattle.rh_wimp.proofs.TakeLaws.{next-there}
-use Rattle.rh_store.specs.Limits.{area_limit}
 
 -- ---- one block
 -- a message's block has room for all words that every message has

@@ -1,16 +1,11 @@
 -- A post with a handle more.
-use Rattle.std.proofs.Common.{◌≡◌, ℕ, ◌<◌, ◌≢◌, inl, inr, true, false, Bool, cond, eqb, List, [], ◌∷◌, ◌++◌, length, map, refl, sym, ap, subst, ◌∙◌, arith}
-use Rattle.std.proofs.lemmas.Bool.{cases_lt}
-use Rattle.std.proofs.lemmas.Bool.Decides.{eqb_tells}
-use Rattle.std.proofs.lemmas.List.{length-append, map-append, get_or_append_left, get_or_at}
-use Rattle.std.specs.Prelude.{None, filter, ◌==◌}
-use Rattle.rh_defs.specs.Heap.{Heap}
-use Rattle.rh_defs.proofs.HeapLists.{cond_true, cond_false, sum-append}
-use Rattle.rh_defs.specs.Messages.{Parcel}
-use Rattle.rh_defs.specs.Post.{Seat, Post, has_seat, count_held, post_join}
-use Rattle.rh_wimp.specs.Chains.{Chains, Row, RowLies, RowsLie, IsLinked, IsPost, AllLie, AllLive, Apart, Clear, Off, HasEntry, no_row, no_entry, entry_at}
-use Rattle.rh_wimp.specs.Chains.{row_at, row_of, rows_of, row_parcels, joined}
-use Rattle.rh_wimp.specs.declared.chain.Entry.{Entry}
+use Rattle.rh_wimp.proofs.Common.{◌≡◌, ℕ, ◌<◌, ◌≢◌, inl, inr, true, false, Bool, cond, eqb, List, [], ◌∷◌, ◌++◌, length, map, refl, sym, ap, subst, ◌∙◌}
+use Rattle.rh_wimp.proofs.Common.{arith, cases_lt, eqb_tells, length-append, None, filter, ◌==◌, Heap, cond_true, cond_false, Parcel, Seat, Post, has_seat}
+use Rattle.rh_wimp.proofs.Common.{count_held, post_join, Chains, Row, RowLies, RowsLie, IsLinked, IsPost, AllLie, AllLive, Apart, Clear, Off, HasEntry}
+use Rattle.rh_wimp.proofs.Common.{no_row, no_entry, entry_at, row_at, row_of, rows_of, row_parcels, Entry}
+use Rattle.std.proofs.lemmas.List.{map-append, get_or_append_left, get_or_at}
+use Rattle.rh_defs.proofs.HeapLists.{sum-append}
+use Rattle.rh_wimp.specs.Chains.{joined}
 use Rattle.rh_wimp.proofs.PostLaws.{live-no}
 use Rattle.rh_wimp.proofs.RowLaws.{Clear-none}
 use Rattle.rh_wimp.proofs.SendLaws.{seated, as_many}

@@ -1,19 +1,10 @@
 -- A post that loses the seat of a task with no messages.
-use Rattle.std.proofs.Common.{◌≡◌, ℕ, zero, suc, ◌+◌, ◌-◌, ◌<◌, ◌≤◌, ◌≢◌, ◌⊎◌, inl, inr, eqb, List, [], ◌∷◌, ◌++◌, length, map, refl, sym, ap, subst, ◌∙◌}
-use Rattle.std.proofs.Common.{arith}
-use Rattle.std.proofs.lemmas.Bool.{cases_eq, cases_lt}
+use Rattle.rh_wimp.proofs.Common.{◌≡◌, ℕ, zero, suc, ◌+◌, ◌-◌, ◌<◌, ◌≤◌, ◌≢◌, ◌⊎◌, inl, inr, eqb, List, [], ◌∷◌, ◌++◌, length, map, refl, sym, ap, subst, ◌∙◌}
+use Rattle.rh_wimp.proofs.Common.{arith, cases_eq, cases_lt, None, not, Heap, Parcel, total, Seat, Post, held_by, count_held, cond_true, cond_false, eqb_same}
+use Rattle.rh_wimp.proofs.Common.{eqb_apart, Chains, Row, IsPost, IsLinked, RowLies, RowsLie, AllLie, AllLive, Apart, Clear, Off, entry_at, held_list}
+use Rattle.rh_wimp.proofs.Common.{no_entry, no_row, row_at, row_of, rows_of, row_parcels, queue_to, without_seat, Entry}
 use Rattle.std.proofs.lemmas.List.Edits.{length-remove, get_or-remove_below, get_or-remove_above}
-use Rattle.std.specs.Prelude.{None, not}
 use Rattle.std.specs.List.{remove}
-use Rattle.rh_defs.specs.Heap.{Heap}
-use Rattle.rh_defs.specs.Messages.{Parcel}
-use Rattle.rh_defs.specs.Pieces.{total}
-use Rattle.rh_defs.specs.Post.{Seat, Post, held_by, count_held}
-use Rattle.rh_defs.proofs.HeapLists.{cond_true, cond_false, eqb_same, eqb_apart}
-use Rattle.rh_wimp.specs.Chains.{Chains, Row, IsPost, IsLinked, RowLies, RowsLie, AllLie, AllLive, Apart, Clear, Off, entry_at, held_list, no_entry, no_row}
-use Rattle.rh_wimp.specs.Chains.{row_at, row_of, rows_of, row_parcels}
-use Rattle.rh_wimp.specs.Deaths.{queue_to, without_seat}
-use Rattle.rh_wimp.specs.declared.chain.Entry.{Entry}
 use Rattle.rh_wimp.proofs.DeathLaws.{queue_but, seats_but, seat-other}
 use Rattle.rh_wimp.proofs.PostLaws.{Named, held-at, seat_at}
 use Rattle.rh_wimp.proofs.SendLaws.{named, seated}

@@ -1,16 +1,9 @@
 -- What a call leaves, by the post that it spells then.
-use Rattle.std.proofs.Common.{◌≡◌, ℕ, zero, suc, cond, ◌<◌, true, false, Bool, List, [], ◌∷◌, length, map, refl, sym, ap, ◌∙◌, arith}
-use Rattle.std.specs.Prelude.{◌==◌, ◌||◌}
-use Rattle.std.specs.List.{list_any}
-use Rattle.rh_defs.specs.Heap.{Heap}
-use Rattle.rh_defs.specs.Memory.{Memory, OnlyArea}
-use Rattle.rh_defs.specs.Post.{Seat, Post, has_seat, post_handles}
-use Rattle.rh_defs.proofs.HeapLists.{eqb_same}
-use Rattle.rh_module.specs.Area.{IsModule}
-use Rattle.rh_module.specs.declared.module.Module.{Module}
-use Rattle.rh_wimp.specs.Calls.{IsQueue, Leaves, handles_of}
-use Rattle.rh_wimp.specs.Chains.{Chains, HasEntry, IsPost, SpellsPost, entry_at}
-use Rattle.rh_wimp.specs.declared.chain.Entry.{Entry}
+use Rattle.rh_wimp.proofs.Common.{◌≡◌, ℕ, zero, suc, cond, ◌<◌, true, false, Bool, List, [], ◌∷◌, length, map, refl, sym, ap, ◌∙◌, arith, ◌==◌, ◌||◌}
+use Rattle.rh_wimp.proofs.Common.{list_any, Heap, Memory, OnlyArea, Seat, Post, has_seat, eqb_same, IsModule, Module, IsQueue, Chains, HasEntry, IsPost}
+use Rattle.rh_wimp.proofs.Common.{SpellsPost, entry_at, Entry}
+use Rattle.rh_defs.specs.Post.{post_handles}
+use Rattle.rh_wimp.specs.Calls.{Leaves, handles_of}
 use Rattle.rh_wimp.proofs.PostLaws.{eq_of, seat_at}
 use Rattle.rh_wimp.proofs.SendLaws.{as_many, seated}
 

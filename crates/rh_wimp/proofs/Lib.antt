@@ -24,3 +24,4 @@ pub mod PostCalls
 pub mod BesideLaws
 pub mod ItemLaws
 pub mod PeekLaws
+pub mod Common

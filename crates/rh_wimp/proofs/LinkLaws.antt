@@ -1,16 +1,10 @@
 -- The heap with its links beside the plain one, after each edit of both.
-use Rattle.std.proofs.Common.{◌≡◌, ℕ, ◌<◌, ◌≢◌, inl, inr, List, [], ◌∷◌, ◌++◌, length, set, refl, sym, ap, subst, ◌∙◌, arith, append-nil}
-use Rattle.std.proofs.lemmas.Bool.{cases_eq}
-use Rattle.std.proofs.lemmas.List.{length-set, get_or-set_same, get_or-set_other}
-use Rattle.std.specs.Prelude.{Some, None}
-use Rattle.rh_defs.specs.Heap.{Heap}
-use Rattle.rh_defs.specs.Blocks.{block_bytes, SameShape}
-use Rattle.rh_defs.specs.Messages.{Parcel, padded}
-use Rattle.rh_wimp.specs.Chains.{Row, RowsLie, IsLinked, AllLie, Off, last_block, held_list, row_parcels, row_at, no_row}
+use Rattle.rh_wimp.proofs.Common.{◌≡◌, ℕ, ◌<◌, ◌≢◌, inl, inr, List, [], ◌∷◌, ◌++◌, length, set, refl, sym, ap, subst, ◌∙◌, arith, append-nil, cases_eq}
+use Rattle.rh_wimp.proofs.Common.{length-set, get_or-set_same, get_or-set_other, Some, None, Heap, block_bytes, SameShape, Parcel, padded, Row, RowsLie}
+use Rattle.rh_wimp.proofs.Common.{IsLinked, AllLie, Off, last_block, held_list, row_parcels, row_at, no_row, Entry}
 use Rattle.rh_defs.proofs.BlockLaws.{below}
 use Rattle.rh_wimp.proofs.RowLaws.{Off-append, Off-parts, Off-last}
 use Rattle.rh_wimp.proofs.RowEdits.{with_last, without_held, dropped-off}
-use Rattle.rh_wimp.specs.declared.chain.Entry.{Entry}
 
 pub AllLie-append : (d : Heap) (ps qs : List Parcel) → AllLie d ps → AllLie d qs → AllLie d (ps ++ qs)
 AllLie-append d [] qs a b = b

@@ -1,21 +1,11 @@
 -- A post and the same post in order of seats.
-use Rattle.std.proofs.Common.{◌≡◌, ℕ, zero, suc, ◌<◌, ◌≢◌, inl, inr, Bool, true, false, cond, List, [], ◌∷◌, ◌++◌, length, map, refl, sym, ap, subst, ◌∙◌}
-use Rattle.std.proofs.Common.{arith}
-use Rattle.std.proofs.lemmas.Bool.Decides.{eqb_tells}
-use Rattle.std.proofs.lemmas.List.{length-map, length-append}
-use Rattle.std.proofs.lemmas.List.Elements.{filter-append}
+use Rattle.rh_wimp.proofs.Common.{◌≡◌, ℕ, zero, suc, ◌<◌, ◌≢◌, inl, inr, Bool, true, false, cond, List, [], ◌∷◌, ◌++◌, length, map, refl, sym, ap, subst, ◌∙◌}
+use Rattle.rh_wimp.proofs.Common.{arith, eqb_tells, length-map, length-append, filter-append, Option, Some, None, filter, ◌==◌, option_map, Heap, Parcel}
+use Rattle.rh_wimp.proofs.Common.{padded, parcel_bytes, total, Seat, Post, has_seat, count_held, live_count, cond_true, cond_false, eqb_same, eqb_apart}
+use Rattle.rh_wimp.proofs.Common.{Chains, Row, Lies, Holds, RowLies, RowsLie, IsLinked, IsPost, AllLie, AllLive, Off, Apart, Clear, held_list, row_of}
+use Rattle.rh_wimp.proofs.Common.{row_parcels, row_at, rows_of, entry_at, no_row, by_seats, in_order, Entry}
 use Rattle.std.proofs.Math.ListN.{get_or-map}
-use Rattle.std.specs.Prelude.{Option, Some, None, filter, ◌==◌}
-use Rattle.std.specs.Option.{option_map}
-use Rattle.rh_defs.specs.Heap.{Heap}
-use Rattle.rh_defs.specs.Messages.{Parcel, padded, parcel_bytes}
-use Rattle.rh_defs.specs.Pieces.{total}
-use Rattle.rh_defs.specs.Post.{Seat, Post, has_seat, count_held, live_count}
-use Rattle.rh_defs.proofs.HeapLists.{cond_true, cond_false, eqb_same, eqb_apart}
-use Rattle.rh_wimp.specs.Chains.{Chains, Row, Lies, Holds, RowLies, RowsLie, IsLinked, IsPost, AllLie, AllLive, Off, Apart, Clear, held_list, row_of}
-use Rattle.rh_wimp.specs.Chains.{row_parcels, row_at, rows_of, entry_at, no_row}
-use Rattle.rh_wimp.specs.PostIn.{seat_of, chains_of, for_task, own_seat, by_seats, in_order}
-use Rattle.rh_wimp.specs.declared.chain.Entry.{Entry}
+use Rattle.rh_wimp.specs.PostIn.{seat_of, chains_of, for_task, own_seat}
 use Rattle.rh_wimp.proofs.LinkLaws.{AllLie-append, AllLie-parts}
 use Rattle.rh_wimp.proofs.PostLaws.{Named, eq_of, live-yes, seat_at}
 use Rattle.rh_wimp.proofs.RowLaws.{Off-append, Off-parts, Clear-append, Clear-parts, Apart-append, Apart-parts}

@@ -1,14 +1,9 @@
 -- What a poll would hand out.
-use Rattle.std.proofs.Common.{◌≡◌, ◌≢◌, ℕ, ◌<◌, inl, inr, Bool, true, false, cond, eqb, List, [], ◌∷◌, ◌++◌, length, refl, sym, ap, subst, ◌∙◌}
-use Rattle.std.proofs.lemmas.Bool.Decides.{eqb_tells}
-use Rattle.std.specs.Prelude.{Option, Some, None, ◌==◌, if◌then◌else◌}
-use Rattle.rh_defs.specs.Blocks.{poked}
-use Rattle.rh_defs.specs.Heap.{Heap, release}
-use Rattle.rh_defs.specs.Messages.{Parcel, parcel_bytes}
-use Rattle.rh_defs.specs.Post.{Seat, Post, has_seat, held_by, with_held, holds_such, as_returned, bounce_held, behind_first, first_for, taken, taken_from}
-use Rattle.rh_defs.specs.Post.{post_poll}
-use Rattle.rh_defs.proofs.HeapLists.{cond_true, cond_false, eqb_same, eqb_apart}
-use Rattle.rh_wimp.specs.Chains.{Chains, Holds, IsPost, Row, entry_at}
+use Rattle.rh_wimp.proofs.Common.{◌≡◌, ◌≢◌, ℕ, ◌<◌, inl, inr, Bool, true, false, cond, eqb, List, [], ◌∷◌, ◌++◌, length, refl, sym, ap, subst, ◌∙◌, eqb_tells}
+use Rattle.rh_wimp.proofs.Common.{Option, Some, None, ◌==◌, if◌then◌else◌, poked, Heap, release, Parcel, parcel_bytes, Seat, Post, has_seat, held_by}
+use Rattle.rh_wimp.proofs.Common.{with_held, holds_such, as_returned, bounce_held, first_for, taken, taken_from, post_poll, cond_true, cond_false, eqb_same}
+use Rattle.rh_wimp.proofs.Common.{eqb_apart, Chains, Holds, IsPost, Row, entry_at}
+use Rattle.rh_defs.specs.Post.{behind_first}
 use Rattle.rh_wimp.proofs.PostLaws.{held-at}
 use Rattle.rh_wimp.proofs.SendLaws.{named, seated}
 

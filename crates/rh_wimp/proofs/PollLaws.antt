@@ -1,36 +1,18 @@
 -- A poll, by its calls.
-use Rattle.std.proofs.Common.{◌≡◌, ℕ, zero, suc, ◌+◌, ◌<◌, ◌≤◌, ◌≢◌, ◌^◌, ◌⊎◌, inl, inr, true, false, Bool, cond, eqb, List, [], ◌∷◌, ◌++◌, length, set, refl}
-use Rattle.std.proofs.Common.{sym, ap, subst, ◌∙◌, arith}
-use Rattle.std.proofs.lemmas.Bool.{cases_eq}
-use Rattle.std.specs.Prelude.{Option, Some, None, ◌==◌}
-use Rattle.std.specs.List.{position}
-use Rattle.rh_defs.specs.Bytes.{word}
-use Rattle.rh_defs.specs.Heap.{Heap, release}
-use Rattle.rh_defs.specs.Memory.{Memory, bytes}
-use Rattle.rh_defs.specs.Pieces.{total}
-use Rattle.rh_defs.proofs.HeapLists.{cond_true, cond_false}
-use Rattle.rh_module.specs.Area.{IsModule, heap_in}
-use Rattle.rh_module.specs.declared.module.Module.{Module}
-use Rattle.rh_wimp.specs.Moves.{relinked}
-use Rattle.rh_defs.specs.Blocks.{block_bytes, poked, HasBlock}
-use Rattle.rh_defs.specs.Bytes.{word_bytes}
-use Rattle.rh_defs.specs.Messages.{Parcel, code_number, is_recorded, padded, parcel_bytes}
-use Rattle.rh_defs.specs.Post.{Seat, Post, has_seat, held_by, with_held, count_held, live_count, as_returned, bounced, bounce_held, first_for, taken}
-use Rattle.rh_defs.specs.Post.{taken_from, without_block}
-use Rattle.rh_wimp.specs.Chains.{Chains, Row, IsPost, MayBounce, Lies, LiesAt, Lifted, Loose, Holds, entry_at, row_at, rows_of, lengthened, emptied_chains}
-use Rattle.rh_wimp.specs.Chains.{shortened_chains, holding_chains, first_block}
-use Rattle.rh_wimp.specs.declared.chain.Entry.{Entry}
-use Rattle.rh_module.proofs.BlockBytes.{block_within}
-use Rattle.rh_defs.proofs.BlockLaws.{has-poked, has-less, poked-other, poked-pokes}
+use Rattle.rh_wimp.proofs.Common.{◌≡◌, ℕ, zero, suc, ◌+◌, ◌<◌, ◌≤◌, ◌≢◌, ◌^◌, ◌⊎◌, inl, inr, true, false, Bool, cond, eqb, List, [], ◌∷◌, ◌++◌, length, set}
+use Rattle.rh_wimp.proofs.Common.{refl, sym, ap, subst, ◌∙◌, arith, cases_eq, Option, Some, None, ◌==◌, position, word, Heap, release, Memory, bytes, total}
+use Rattle.rh_wimp.proofs.Common.{cond_true, cond_false, IsModule, heap_in, Module, relinked, block_bytes, poked, HasBlock, word_bytes, Parcel, code_number}
+use Rattle.rh_wimp.proofs.Common.{is_recorded, padded, parcel_bytes, Seat, Post, has_seat, held_by, with_held, count_held, live_count, as_returned, bounced}
+use Rattle.rh_wimp.proofs.Common.{bounce_held, first_for, taken, taken_from, without_block, Chains, Row, IsPost, MayBounce, Lies, LiesAt, Lifted, Loose}
+use Rattle.rh_wimp.proofs.Common.{Holds, entry_at, row_at, rows_of, lengthened, emptied_chains, first_block, Entry, block_within, has-less, poked-other}
+use Rattle.rh_wimp.proofs.Common.{poked-pokes, lifted, from_read, link_read, code_read, padded-least, padded-relinked, poked-shape, area_limit}
+use Rattle.rh_wimp.specs.Chains.{shortened_chains, holding_chains}
+use Rattle.rh_defs.proofs.BlockLaws.{has-poked}
 use Rattle.rh_wimp.proofs.BounceLaws.{lift, returned-queued, vanished}
-use Rattle.rh_wimp.specs.Deaths.{lifted}
-use Rattle.rh_defs.proofs.ParcelLaws.{from_read, link_read, code_read, padded-least, padded-relinked}
 use Rattle.rh_wimp.proofs.PostLaws.{found-at, not-found, seat_at, live-yes, live-no, held-at, count-seat, seat_with}
 use Rattle.rh_wimp.proofs.RowEdits.{lies-above}
 use Rattle.rh_wimp.proofs.SendLaws.{seated, named, as_many, last-has}
-use Rattle.rh_defs.proofs.ShapeLaws.{poked-shape}
 use Rattle.rh_wimp.proofs.TakeLaws.{FirstFor, first-some, ahead, none-ahead, taken-off, held-post, chain_to, rest_of}
-use Rattle.rh_store.specs.Limits.{area_limit}
 
 has-any : (a n b o : ℕ) (xs : List ℕ) (h : Heap) → HasBlock a n h → HasBlock a n (poked b o xs h)
 has-any a n b o xs h w = elim (cases_eq a b) [

@@ -1,20 +1,15 @@
 -- The post as a value: what the queue's calls, and edits of other areas, do to it.
-use Rattle.std.proofs.Common.{◌≡◌, ◌≢◌, ℕ, zero, suc, ◌<◌, Bool, true, false, cond, List, [], ◌∷◌, ◌++◌, length, filter, refl, sym, ap, subst, ◌∙◌, arith}
-use Rattle.std.specs.Prelude.{Option, Some, None, unwrap_or, ◌==◌}
-use Rattle.rh_defs.specs.Heap.{Heap}
+use Rattle.rh_wimp.proofs.Common.{◌≡◌, ◌≢◌, ℕ, zero, suc, ◌<◌, Bool, true, false, cond, List, [], ◌∷◌, ◌++◌, length, filter, refl, sym, ap, subst, ◌∙◌, arith}
+use Rattle.rh_wimp.proofs.Common.{Option, Some, None, unwrap_or, ◌==◌, Heap, Memory, OnlyArea, bytes, Parcel, Seat, Post, post_join, IsModule, heap_in}
+use Rattle.rh_wimp.proofs.Common.{Module, IsQueue, Chains, HasEntry, IsPost, SpellsPost, by_seats, in_order}
 use Rattle.std.specs.List.{AllByRecursion}
 use Rattle.rh_defs.specs.HeapImage.{heap_of}
 use Rattle.rh_defs.specs.Laws as laws
-use Rattle.rh_defs.specs.Memory.{Memory, OnlyArea, bytes}
-use Rattle.rh_defs.specs.Messages.{Parcel}
 use Rattle.rh_defs.specs.Order.{SameForEach, requeued}
-use Rattle.rh_defs.specs.Post.{Seat, Post, post_join}
-use Rattle.rh_module.specs.Area.{IsModule, heap_in}
-use Rattle.rh_module.specs.declared.module.Module.{Module}
-use Rattle.rh_wimp.specs.Calls.{Answers, IsQueue, Leaves}
-use Rattle.rh_wimp.specs.Chains.{Chains, HasEntry, IsPost, SpellsPost, joined}
+use Rattle.rh_wimp.specs.Calls.{Answers, Leaves}
+use Rattle.rh_wimp.specs.Chains.{joined}
 use Rattle.rh_wimp.specs.Laws.{HaveOnePost, IsSmall}
-use Rattle.rh_wimp.specs.PostIn.{by_seats, in_order, post_in, post_of}
+use Rattle.rh_wimp.specs.PostIn.{post_in, post_of}
 use Rattle.rh_wimp.proofs.JoinLaws.{join-spells}
 use Rattle.rh_wimp.proofs.OrderLaws.{HoldsOwn, by_seats-each, by_seats-length, own-seats}
 use Rattle.rh_wimp.proofs.PostInLaws.{module-low, post_of-is, post_of-spells}

@@ -1,38 +1,23 @@
 -- The walk along the chains finds the post that the queue spells.
-use Rattle.std.proofs.Common.{◌≡◌, ℕ, zero, suc, ◌+◌, ◌<◌, ◌≤◌, ◌≢◌, ◌^◌, inl, inr, Bool, true, false, cond, eqb, List, [], ◌∷◌, ◌++◌, length, map, refl, sym}
-use Rattle.std.proofs.Common.{ap, subst, ◌∙◌, arith}
-use Rattle.std.proofs.lemmas.Bool.{cases_eq}
-use Rattle.std.proofs.lemmas.List.{length-map}
-use Rattle.std.specs.Prelude.{Option, Some, None, ◌==◌}
-use Rattle.std.specs.Option.{option_map}
-use Rattle.rh_defs.specs.Blocks.{block_bytes, blank, bytes_at, poked, SameShape}
-use Rattle.rh_defs.specs.Bytes.{part, word, word_bytes}
-use Rattle.rh_defs.specs.Heap.{Heap, Segment, Used, Hole}
-use Rattle.rh_defs.specs.MessageImage.{decoded}
-use Rattle.rh_defs.specs.Memory.{Memory, bytes}
-use Rattle.rh_defs.specs.Messages.{Parcel, code_at, code_number, padded}
-use Rattle.rh_defs.specs.Post.{Seat, Post, most_messages}
-use Rattle.rh_defs.specs.declared.message.EventCode.{EventCode}
-use Rattle.rh_defs.specs.declared.message.Message.{Message}
+use Rattle.rh_wimp.proofs.Common.{◌≡◌, ℕ, zero, suc, ◌+◌, ◌<◌, ◌≤◌, ◌≢◌, ◌^◌, inl, inr, Bool, true, false, cond, eqb, List, [], ◌∷◌, ◌++◌, length, map, refl}
+use Rattle.rh_wimp.proofs.Common.{sym, ap, subst, ◌∙◌, arith, cases_eq, length-map, Option, Some, None, ◌==◌, option_map, block_bytes, poked, SameShape, part}
+use Rattle.rh_wimp.proofs.Common.{word, word_bytes, Heap, decoded, Memory, bytes, Parcel, code_number, padded, Seat, Post, most_messages, EventCode, Message}
+use Rattle.rh_wimp.proofs.Common.{poked-pokes, cond_true, cond_false, eqb_same, eqb_apart, code_read, length_read, link_read, message_read, padded-relinked}
+use Rattle.rh_wimp.proofs.Common.{poked-shape, shape-both, block_within, IsModule, heap_in, Module, Chain, Chains, Holds, Lies, Row, RowLies, RowsLie}
+use Rattle.rh_wimp.proofs.Common.{IsLinked, IsPost, AllLie, Off, entry_at, first_block, held_list, row_at, row_of, row_parcels, rows_of, in_order, Entry}
+use Rattle.rh_wimp.proofs.Common.{area_limit}
+use Rattle.rh_defs.specs.Blocks.{blank, bytes_at}
+use Rattle.rh_defs.specs.Heap.{Segment, Used, Hole}
+use Rattle.rh_defs.specs.Messages.{code_at}
 use Rattle.rh_defs.specs.declared.message.EventCode.TheVariants.{User, Recorded, Acknowledge}
-use Rattle.rh_defs.proofs.BlockLaws.{below, poked-pokes}
-use Rattle.rh_defs.proofs.HeapLists.{cond_true, cond_false, eqb_same, eqb_apart}
+use Rattle.rh_defs.proofs.BlockLaws.{below}
 use Rattle.rh_defs.proofs.MessageImageLaws.{decoded-encoded}
-use Rattle.rh_defs.proofs.ParcelLaws.{code_read, length_read, link_read, message_read, padded-relinked}
-use Rattle.rh_defs.proofs.ShapeLaws.{poked-shape, shape-both}
-use Rattle.rh_module.proofs.BlockBytes.{block_within}
-use Rattle.rh_module.specs.Area.{IsModule, heap_in}
-use Rattle.rh_module.specs.declared.module.Module.{Module}
-use Rattle.rh_wimp.specs.Chains.{Chain, Chains, Holds, Lies, Row, RowLies, RowsLie, IsLinked, IsPost, AllLie, Off, entry_at, first_block, held_list, row_at}
-use Rattle.rh_wimp.specs.Chains.{row_of, row_parcels, rows_of}
 use Rattle.rh_wimp.specs.PostIn.{bytes_in, or_no_bytes, or_user, or_no_message, parcel_in, chain_in, held_in, row_in, rows_in, seat_of, chains_of, parcels_of}
-use Rattle.rh_wimp.specs.PostIn.{unlinked, post_of, for_task, in_order}
-use Rattle.rh_wimp.specs.declared.chain.Entry.{Entry}
+use Rattle.rh_wimp.specs.PostIn.{unlinked, post_of, for_task}
 use Rattle.rh_wimp.proofs.OrderLaws.{own_row, own-rows, own-linked, in_order-spells, seats-of-rows, chains-of-rows, sent_to}
 use Rattle.rh_wimp.proofs.PostLaws.{eq_of, row-at, seat_at}
 use Rattle.rh_wimp.proofs.RowEdits.{lies-above}
 use Rattle.rh_wimp.proofs.SearchLaws.{short-rows}
-use Rattle.rh_store.specs.Limits.{area_limit}
 
 -- ---- two heaps with the same blocks
 same-segments : (p : ℕ) (ss ts : List Segment) → blank ss ≡ blank ts → ((a : ℕ) → bytes_at a p ss ≡ bytes_at a p ts) → ss ≡ ts

@@ -1,20 +1,12 @@
 -- A post's rows, after each edit of the post.
-use Rattle.std.proofs.Common.{◌≡◌, ℕ, zero, suc, ◌+◌, ◌<◌, ◌≤◌, ◌≢◌, inl, inr, true, false, cond, eqb, ltb, List, [], ◌∷◌, ◌++◌, length, map, get_or, set}
-use Rattle.std.proofs.Common.{refl, sym, ap, ◌∙◌, arith}
-use Rattle.std.specs.Prelude.{Option, Some, None, filter, ◌==◌}
-use Rattle.std.specs.List.{position, position_or_len}
-use Rattle.std.proofs.lemmas.Bool.Decides.{nat_tests, eqb_tells}
-use Rattle.std.proofs.lemmas.List.{append-nil}
-use Rattle.std.proofs.lemmas.List.Elements.{filter-append}
-use Rattle.std.proofs.lemmas.Bool.{cases_lt}
+use Rattle.rh_wimp.proofs.Common.{◌≡◌, ℕ, zero, suc, ◌+◌, ◌<◌, ◌≤◌, ◌≢◌, inl, inr, true, false, cond, eqb, ltb, List, [], ◌∷◌, ◌++◌, length, map, get_or, set}
+use Rattle.rh_wimp.proofs.Common.{refl, sym, ap, ◌∙◌, arith, Option, Some, None, filter, ◌==◌, position, eqb_tells, append-nil, filter-append, cases_lt}
+use Rattle.rh_wimp.proofs.Common.{total, cond_true, cond_false, eqb_same, eqb_apart, Parcel, Seat, has_seat, held_by, with_held, count_held, Row, row_of}
+use Rattle.rh_wimp.proofs.Common.{row_at, entry_at, no_entry, Entry}
+use Rattle.std.specs.List.{position_or_len}
+use Rattle.std.proofs.lemmas.Bool.Decides.{nat_tests}
 use Rattle.std.proofs.lemmas.List.Sums.{fails_before_first}
 use Rattle.std.proofs.lemmas.List.Quantifiers.{position-Some}
-use Rattle.rh_defs.specs.Pieces.{total}
-use Rattle.rh_defs.proofs.HeapLists.{cond_true, cond_false, eqb_same, eqb_apart}
-use Rattle.rh_defs.specs.Messages.{Parcel}
-use Rattle.rh_defs.specs.Post.{Seat, has_seat, held_by, with_held, count_held}
-use Rattle.rh_wimp.specs.Chains.{Row, row_of, row_at, entry_at, no_entry}
-use Rattle.rh_wimp.specs.declared.chain.Entry.{Entry}
 use Rattle.rh_wimp.proofs.RowEdits.{with_last}
 
 -- ---- places of entries

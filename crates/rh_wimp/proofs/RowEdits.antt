@@ -1,14 +1,8 @@
 -- Rows after a message joins a chain, leaves one, is held or put down.
-use Rattle.std.proofs.Common.{◌≡◌, ℕ, ◌<◌, ◌≤◌, ◌≢◌, inl, inr, eqb, List, [], ◌∷◌, ◌++◌, length, set, refl, sym, subst, ◌∙◌, arith, append-nil}
-use Rattle.std.proofs.lemmas.Bool.{cases_eq}
-use Rattle.std.proofs.lemmas.List.{get_or-set_same, get_or-set_other}
-use Rattle.std.specs.Prelude.{Option, Some, None}
-use Rattle.rh_defs.specs.Heap.{Heap}
-use Rattle.rh_defs.proofs.HeapLists.{cond_true, cond_false, eqb_same, eqb_apart}
-use Rattle.rh_defs.specs.Messages.{Parcel, padded}
-use Rattle.rh_wimp.specs.Chains.{no_row, Row, Lies, Chain, Holds, RowLies, RowsLie, Off, Apart, Clear, first_block, last_block, held_list, row_parcels}
-use Rattle.rh_wimp.specs.Chains.{row_at, entry_at, lengthened, emptied}
-use Rattle.rh_wimp.specs.declared.chain.Entry.{Entry}
+use Rattle.rh_wimp.proofs.Common.{◌≡◌, ℕ, ◌<◌, ◌≤◌, ◌≢◌, inl, inr, eqb, List, [], ◌∷◌, ◌++◌, length, set, refl, sym, subst, ◌∙◌, arith, append-nil, cases_eq}
+use Rattle.rh_wimp.proofs.Common.{get_or-set_same, get_or-set_other, Option, Some, None, Heap, cond_true, cond_false, eqb_same, eqb_apart, Parcel, padded}
+use Rattle.rh_wimp.proofs.Common.{no_row, Row, Lies, Chain, Holds, RowLies, RowsLie, Off, Apart, Clear, first_block, last_block, held_list, row_parcels}
+use Rattle.rh_wimp.proofs.Common.{row_at, entry_at, lengthened, emptied, Entry}
 use Rattle.rh_defs.proofs.BlockLaws.{range_at}
 use Rattle.rh_wimp.proofs.RowLaws.{Off-append, Off-parts, Clear-append, Clear-parts, Clear-behind, Clear-behind-parts, Clear-one, Apart-append, Apart-parts}
 use Rattle.rh_wimp.proofs.RowLaws.{Clear-last, KeepsBut, agree-off, chain-kept, holds-kept, LinkedTo, chain-longer, last_block-append, rows-changed}

@@ -1,17 +1,8 @@
 -- Rows of messages in a heap whose blocks change.
-use Rattle.std.proofs.Common.{◌≡◌, ℕ, ◌<◌, ◌≢◌, inl, inr, List, [], ◌∷◌, ◌++◌, length, set, refl, sym, ap, subst, ◌∙◌, arith}
-use Rattle.std.proofs.lemmas.Bool.{cases_eq}
-use Rattle.std.proofs.lemmas.List.{length-set, get_or-set_same, get_or-set_other}
-use Rattle.std.specs.Prelude.{Option, Some, None}
-use Rattle.rh_defs.specs.Bytes.{put}
-use Rattle.rh_defs.specs.Heap.{Heap}
-use Rattle.rh_defs.specs.Blocks.{block_bytes, HasBlock}
-use Rattle.rh_defs.specs.Bytes.{word_bytes}
-use Rattle.rh_defs.specs.Messages.{Parcel, padded}
-use Rattle.rh_wimp.specs.Chains.{Row, Lies, Chain, Holds, RowLies, RowsLie, Off, Apart, Clear, first_block, last_block, held_list, row_parcels, row_at}
-use Rattle.rh_wimp.specs.Chains.{entry_at, no_row, no_entry}
-use Rattle.rh_wimp.specs.declared.chain.Entry.{Entry}
-use Rattle.rh_defs.proofs.ParcelLaws.{padded-relinked, padded-least}
+use Rattle.rh_wimp.proofs.Common.{◌≡◌, ℕ, ◌<◌, ◌≢◌, inl, inr, List, [], ◌∷◌, ◌++◌, length, set, refl, sym, ap, subst, ◌∙◌, arith, cases_eq, length-set}
+use Rattle.rh_wimp.proofs.Common.{get_or-set_same, get_or-set_other, Option, Some, None, put, Heap, block_bytes, HasBlock, word_bytes, Parcel, padded, Row}
+use Rattle.rh_wimp.proofs.Common.{Lies, Chain, Holds, RowLies, RowsLie, Off, Apart, Clear, first_block, last_block, held_list, row_parcels, row_at, entry_at}
+use Rattle.rh_wimp.proofs.Common.{no_row, no_entry, Entry, padded-relinked, padded-least}
 
 -- ---- lists of messages in blocks of their own
 pub Off-append : (x : ℕ) (ps qs : List Parcel) → Off x ps → Off x qs → Off x (ps ++ qs)

@@ -1,27 +1,16 @@
 -- Laws of searches among the live messages.
-use Rattle.std.proofs.Common.{◌≡◌, ℕ, zero, suc, ◌+◌, ◌<◌, ◌≤◌, ◌≢◌, ◌^◌, inl, inr, Bool, true, false, cond, eqb, List, [], ◌∷◌, length, map, refl, sym, ap}
-use Rattle.std.proofs.Common.{◌∙◌, arith}
-use Rattle.std.proofs.lemmas.Bool.Decides.{eqb_tells}
-use Rattle.std.proofs.lemmas.List.{length-map}
+use Rattle.rh_wimp.proofs.Common.{◌≡◌, ℕ, zero, suc, ◌+◌, ◌<◌, ◌≤◌, ◌≢◌, ◌^◌, inl, inr, Bool, true, false, cond, eqb, List, [], ◌∷◌, length, map, refl, sym}
+use Rattle.rh_wimp.proofs.Common.{ap, ◌∙◌, arith, eqb_tells, length-map, Option, Some, None, filter, ◌==◌, ◌||◌, list_any, Heap, Parcel, padded, Seat, Post}
+use Rattle.rh_wimp.proofs.Common.{has_seat, holds_such, most_messages, HasBlock, block_bytes, word, Memory, bytes, link_read, padded-least, IsModule, heap_in}
+use Rattle.rh_wimp.proofs.Common.{Module, Chain, Chains, Holds, Lies, Row, IsPost, AllLive, first_block, held_list, row_at, row_of, row_parcels, rows_of}
+use Rattle.rh_wimp.proofs.Common.{area_limit}
 use Rattle.std.proofs.lemmas.List.Folds.{list_any-append}
-use Rattle.std.specs.Prelude.{Option, Some, None, filter, ◌==◌, ◌||◌}
-use Rattle.std.specs.List.{list_any}
-use Rattle.rh_defs.specs.Heap.{Heap}
-use Rattle.rh_defs.specs.Messages.{Parcel, padded}
-use Rattle.rh_defs.specs.Post.{Seat, Post, has_seat, holds_such, has_message, most_messages}
-use Rattle.rh_defs.specs.Blocks.{HasBlock, block_bytes}
-use Rattle.rh_defs.specs.Bytes.{word}
-use Rattle.rh_defs.specs.Memory.{Memory, bytes}
-use Rattle.rh_defs.proofs.ParcelLaws.{link_read, padded-least}
-use Rattle.rh_module.specs.Area.{IsModule, heap_in}
-use Rattle.rh_module.specs.declared.module.Module.{Module}
+use Rattle.rh_defs.specs.Post.{has_message}
 use Rattle.rh_wimp.proofs.PollLaws.{next-small}
 use Rattle.rh_wimp.proofs.RowEdits.{lies-above}
 use Rattle.rh_wimp.proofs.TakeLaws.{next-there}
-use Rattle.rh_wimp.specs.Chains.{Chain, Chains, Holds, Lies, Row, IsPost, AllLive, first_block, held_list, row_at, row_of, row_parcels, rows_of}
 use Rattle.rh_wimp.specs.Searches.{AreShort, rows_have}
 use Rattle.rh_wimp.proofs.PostLaws.{row-at, seat_at}
-use Rattle.rh_store.specs.Limits.{area_limit}
 
 -- what is left of a chain, from a block on
 pub record Ahead (h : Heap) (block turn : ℕ) (test : Parcel → Bool) (ps : List Parcel) : Type 0 where

@@ -1,42 +1,33 @@
 -- A post after a letter is sent.
-use Rattle.std.proofs.Common.{◌≡◌, ℕ, zero, suc, ◌+◌, ◌-◌, ◌<◌, ◌≤◌, ◌≢◌, ◌^◌, inl, inr, true, false, Bool, cond, eqb, leb, List, [], ◌∷◌, ◌++◌, length, map}
-use Rattle.std.proofs.Common.{set, refl, sym, ap, subst, ◌∙◌, arith}
-use Rattle.std.proofs.lemmas.Bool.{cases_eq}
+use Rattle.rh_wimp.proofs.Common.{◌≡◌, ℕ, zero, suc, ◌+◌, ◌-◌, ◌<◌, ◌≤◌, ◌≢◌, ◌^◌, inl, inr, true, false, Bool, cond, eqb, leb, List, [], ◌∷◌, ◌++◌, length}
+use Rattle.rh_wimp.proofs.Common.{map, set, refl, sym, ap, subst, ◌∙◌, arith, cases_eq, length-append, length-map, length-set, get_or-set_same}
+use Rattle.rh_wimp.proofs.Common.{get_or-set_other, Option, Some, None, Ok, Err, not, ◌==◌, position, put, Granted, answer_of, total, zeros, Heap, block_room}
+use Rattle.rh_wimp.proofs.Common.{release, module_claim, cond_false, eqb_apart, Memory, OnlyArea, IsModule, heap_in, Module, Turns, relinked, block_bytes}
+use Rattle.rh_wimp.proofs.Common.{poked, HasBlock, SameShape, word_bytes, Parcel, code_number, encoded, parcel_bytes, parcel_size, padded, Seat, Post}
+use Rattle.rh_wimp.proofs.Common.{has_seat, held_by, with_held, count_held, live_count, most_messages, answers_held, Chains, Chain, Holds, Row, RowLies}
+use Rattle.rh_wimp.proofs.Common.{RowsLie, IsLinked, IsPost, AllLive, Lies, Off, no_entry, entry_at, row_at, row_of, rows_of, row_parcels, lengthened}
+use Rattle.rh_wimp.proofs.Common.{emptied, emptied_chains, last_block, Entry, poked-pokes, poked-other, release-frees, module_claim-puts, module_claim-alike}
+use Rattle.rh_wimp.proofs.Common.{poked-shape, shape-both, release-alike}
 use Rattle.std.proofs.lemmas.Bool.Decides.{nat_tests}
-use Rattle.std.proofs.lemmas.List.{length-append, length-map, length-set, get_or-set_same, get_or-set_other}
-use Rattle.std.specs.Prelude.{Option, Some, None, Ok, Err, not, ◌==◌}
-use Rattle.std.specs.List.{position}
-use Rattle.rh_defs.specs.Bytes.{put}
-use Rattle.rh_defs.specs.Chain.{Granted, ◌>>=◌, ◌>>◌, refuse_if, answer_of}
-use Rattle.rh_defs.specs.Pieces.{total, zeros}
-use Rattle.rh_defs.specs.Heap.{Heap, block_room, release}
-use Rattle.rh_defs.specs.Module.{module_claim, module_need_pages}
+use Rattle.rh_defs.specs.Chain.{◌>>=◌, ◌>>◌, refuse_if}
+use Rattle.rh_defs.specs.Module.{module_need_pages}
 use Rattle.rh_defs.specs.declared.refusal.Refusal.{Refusal}
 use Rattle.rh_defs.specs.declared.refusal.Refusal.TheVariants.{NoTask, NoRefs, QueueFull}
-use Rattle.rh_defs.proofs.HeapLists.{cond_false, eqb_apart}
-use Rattle.rh_defs.specs.Memory.{Memory, OnlyArea}
-use Rattle.rh_module.specs.Area.{IsModule, heap_in}
-use Rattle.rh_module.specs.declared.module.Module.{Module}
-use Rattle.rh_wimp.specs.Moves.{Turns, relinked, PutsDown, Settled}
-use Rattle.rh_defs.specs.Blocks.{block_bytes, poked, HasBlock, SameShape, Puts}
-use Rattle.rh_defs.specs.Bytes.{word_bytes}
+use Rattle.rh_wimp.specs.Moves.{PutsDown, Settled}
+use Rattle.rh_defs.specs.Blocks.{Puts}
 use Rattle.rh_defs.proofs.ParcelLaws.{parcel-row}
-use Rattle.rh_defs.specs.Messages.{Parcel, Fits, code_number, encoded, parcel_bytes, parcel_size, padded}
-use Rattle.rh_defs.specs.Post.{Seat, Post, has_seat, held_by, with_held, count_held, live_count, most_messages, answers_held, put_down, queued_in, posted}
-use Rattle.rh_defs.specs.Post.{post_send, post_send_pages, sendable, parcel_of, message_of, release_held}
-use Rattle.rh_wimp.specs.Chains.{Chains, Chain, Holds, Row, RowLies, RowsLie, IsLinked, IsPost, AllLive, Lies, Off, no_entry, entry_at, row_at, row_of}
-use Rattle.rh_wimp.specs.Chains.{rows_of, row_parcels, lengthened, longer_chains, emptied, emptied_chains, refusal_at, refusal_for, last_block}
-use Rattle.rh_wimp.specs.declared.chain.Entry.{Entry}
+use Rattle.rh_defs.specs.Messages.{Fits}
+use Rattle.rh_defs.specs.Post.{put_down, queued_in, posted, post_send, post_send_pages, sendable, parcel_of, message_of, release_held}
+use Rattle.rh_wimp.specs.Chains.{longer_chains, refusal_at, refusal_for}
 use Rattle.rh_defs.specs.declared.message.Letter.{Letter}
 use Rattle.rh_wimp.proofs.AnswerLaws.{answered-some}
-use Rattle.rh_defs.proofs.BlockLaws.{poked-pokes, poked-other, block-above, release-frees}
-use Rattle.rh_defs.proofs.BlockCalls.{module_claim-puts}
+use Rattle.rh_defs.proofs.BlockLaws.{block-above}
 use Rattle.rh_wimp.proofs.LinkLaws.{linked-longer, linked-dropped}
 use Rattle.rh_wimp.proofs.PostLaws.{found-at, not-found, seat_at, Named, row-at, live-yes, live-no, held-at, seat_with, with_held-at, rows-queued, rows-seat}
 use Rattle.rh_wimp.proofs.PostLaws.{count-seat}
 use Rattle.rh_wimp.proofs.RowEdits.{with_last, without_held, appended, dropped}
 use Rattle.rh_wimp.proofs.RowLaws.{KeepsBut, LinkedTo, row-fresh, last-there}
-use Rattle.rh_defs.proofs.ShapeLaws.{Alike, module_claim-alike, module_need_pages-alike, poked-shape, shape-both, shape-sym, release-alike}
+use Rattle.rh_defs.proofs.ShapeLaws.{Alike, module_need_pages-alike, shape-sym}
 
 -- ---- the post's seats are the queue's entries
 pub record Seated (h : Heap) (q : Chains) (post : Post) (i : ℕ) : Type 0 where

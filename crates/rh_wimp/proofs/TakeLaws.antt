@@ -1,27 +1,18 @@
 -- A post after the first message for a task is taken.
-use Rattle.std.proofs.Common.{◌≡◌, ℕ, zero, suc, ◌+◌, ◌<◌, ◌≢◌, ◌⊎◌, inl, inr, true, false, cond, eqb, List, [], ◌∷◌, ◌++◌, length, map, set, refl, sym, ap}
-use Rattle.std.proofs.Common.{subst, ◌∙◌, arith, append-nil}
-use Rattle.std.proofs.lemmas.Bool.{cases_eq}
-use Rattle.std.proofs.lemmas.Bool.Decides.{eqb_tells}
-use Rattle.std.proofs.lemmas.List.{length-set, get_or-set_same, get_or-set_other}
-use Rattle.std.specs.Prelude.{Option, Some, None, filter, not, ◌==◌}
-use Rattle.rh_defs.specs.Pieces.{total}
-use Rattle.rh_defs.specs.Heap.{Heap}
-use Rattle.rh_defs.proofs.HeapLists.{cond_true, cond_false, eqb_apart}
-use Rattle.rh_defs.specs.Blocks.{block_bytes, HasBlock, SameShape}
-use Rattle.rh_defs.specs.Messages.{Parcel, padded}
-use Rattle.rh_defs.specs.Post.{Seat, Post, held_by, with_held, count_held, live_count, most_messages, first_for, behind_first}
-use Rattle.rh_wimp.specs.Chains.{Loose, Chains, Chain, Row, RowsLie, IsLinked, IsPost, AllLie, AllLive, Lies, Off, Apart, Clear, no_row, entry_at, row_at}
-use Rattle.rh_wimp.specs.Chains.{row_of, rows_of, row_parcels, held_list, first_block, last_block, shortened, shortened_chains, holding, holding_chains}
-use Rattle.rh_wimp.specs.declared.chain.Entry.{Entry}
+use Rattle.rh_wimp.proofs.Common.{◌≡◌, ℕ, zero, suc, ◌+◌, ◌<◌, ◌≢◌, ◌⊎◌, inl, inr, true, false, cond, eqb, List, [], ◌∷◌, ◌++◌, length, map, set, refl, sym}
+use Rattle.rh_wimp.proofs.Common.{ap, subst, ◌∙◌, arith, append-nil, cases_eq, eqb_tells, length-set, get_or-set_same, get_or-set_other, Option, Some, None}
+use Rattle.rh_wimp.proofs.Common.{filter, not, ◌==◌, total, Heap, cond_true, cond_false, eqb_apart, block_bytes, HasBlock, SameShape, Parcel, padded, Seat}
+use Rattle.rh_wimp.proofs.Common.{Post, held_by, with_held, count_held, live_count, most_messages, first_for, Loose, Chains, Chain, Row, RowsLie, IsLinked}
+use Rattle.rh_wimp.proofs.Common.{IsPost, AllLie, AllLive, Lies, Off, Apart, Clear, no_row, entry_at, row_at, row_of, rows_of, row_parcels, held_list}
+use Rattle.rh_wimp.proofs.Common.{first_block, last_block, Entry, padded-least, shape-both}
+use Rattle.rh_defs.specs.Post.{behind_first}
+use Rattle.rh_wimp.specs.Chains.{shortened, shortened_chains, holding, holding_chains}
 use Rattle.rh_wimp.proofs.LinkLaws.{AllLie-parts, AllLie-append}
-use Rattle.rh_defs.proofs.ParcelLaws.{padded-least}
 use Rattle.rh_wimp.proofs.PostLaws.{seat_at, Named, held-at, seat_with, with_held-at, rows-seat, count-seat}
 use Rattle.rh_wimp.proofs.RowEdits.{lies-above}
 use Rattle.rh_wimp.proofs.RowLaws.{KeepsBut, agree-off, chain-kept, holds-kept, Off-parts, Clear-append, Clear-parts, Clear-behind, Clear-behind-parts}
 use Rattle.rh_wimp.proofs.RowLaws.{Clear-one, Apart-append, Apart-parts, rows-changed}
 use Rattle.rh_wimp.proofs.SendLaws.{seated, named, all-live-same}
-use Rattle.rh_defs.proofs.ShapeLaws.{shape-both}
 
 -- ---- the first message for a handle
 pub record FirstFor (x : ℕ) (queue : List Parcel) (p : Parcel) (rest : List Parcel) : Type 0 where

@@ -1,18 +1,12 @@
 -- A call that asks a question, from what its step says and what is listed of the station.
-use Rattle.std.proofs.Common.{◌≡◌, ℕ, refl, sym, ap, subst, ◌∙◌}
-use Rattle.std.specs.Prelude.{Option, Some, None}
+use Rattle.vf_desk.proofs.Common.{◌≡◌, ℕ, refl, sym, ap, subst, ◌∙◌, Option, Some, None, Command, Question, Desk, Called, Station, IsAsked, called, in_form}
+use Rattle.vf_desk.proofs.Common.{status_of, listed, SeenBy}
 use Rattle.rh_defs.specs.declared.command.Command.TheVariants as command
-use Rattle.rh_defs.specs.declared.command.Command.{Command}
-use Rattle.rh_defs.specs.declared.question.Question.{Question}
-use Rattle.rh_defs.specs.Desk.{Desk}
 use Rattle.rh_defs.specs.Listing.{Nothing}
-use Rattle.vf_desk.specs.declared.called.Called.{Called}
 use Rattle.vf_desk.specs.declared.called.Called.TheVariants.{Closed}
 use Rattle.vf_desk.specs.declared.desk.VfDesk.{VfDesk}
-use Rattle.vf_desk.specs.declared.station.Station.{Station}
-use Rattle.vf_desk.specs.Called.{Asks, IsAsked, called, done_or, in_form, status_of}
-use Rattle.vf_desk.specs.Items.{listed}
-use Rattle.vf_desk.specs.Seen.{IsSeen, SeenBy}
+use Rattle.vf_desk.specs.Called.{Asks, done_or}
+use Rattle.vf_desk.specs.Seen.{IsSeen}
 use Rattle.vf_desk.proofs.CallLaws.{asks, question-asked, told_by}
 use Rattle.vf_desk.proofs.ListLaws.{listed-closed}
 use Rattle.vf_desk.proofs.SeenLaws.{closed-said, empty-seen, in-handle}

@@ -1,15 +1,10 @@
 -- A call with a command, from what the step under it says.
-use Rattle.std.proofs.Common.{◌≡◌, ℕ, Bool, true, false, sym, ap, subst, ◌∙◌}
-use Rattle.std.specs.Prelude.{◌≢◌, if◌then◌else◌, Option, Some, None}
-use Rattle.rh_defs.specs.declared.command.Command.{Command}
+use Rattle.vf_desk.proofs.Common.{◌≡◌, ℕ, Bool, true, false, sym, ap, subst, ◌∙◌, ◌≢◌, if◌then◌else◌, Option, Some, None, Command, Question, Desk, in_range}
+use Rattle.vf_desk.proofs.Common.{Called, IsAsked, called, desk_by, in_form, status_of, KeepsRest}
 use Rattle.rh_defs.specs.declared.command.Command.TheVariants as command
-use Rattle.rh_defs.specs.declared.question.Question.{Question}
-use Rattle.rh_defs.specs.Desk.{Desk}
-use Rattle.rh_defs.specs.Range.{in_range}
-use Rattle.vf_desk.specs.declared.called.Called.{Called}
 use Rattle.vf_desk.specs.declared.desk.VfDesk.{VfDesk}
-use Rattle.vf_desk.specs.Called.{Asks, Does, IsAsked, called, desk_by, in_form, status_of}
-use Rattle.vf_desk.specs.Seen.{IsSeen, KeepsRest}
+use Rattle.vf_desk.specs.Called.{Asks, Does}
+use Rattle.vf_desk.specs.Seen.{IsSeen}
 
 module _ {command form : Option Command} (old : VfDesk) {said : Called} (same : form ≡ command)
     (says : (s : Option Desk) → IsSeen old s → said ≡ called s form) where

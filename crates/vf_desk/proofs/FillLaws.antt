@@ -1,10 +1,7 @@
 -- Lists with items in place of their first ones, or of those from an index on.
-use Rattle.std.proofs.Common.{◌≡◌, ℕ, Bool, true, false, zero, suc, ◌+◌, ◌<◌, ◌≤◌, List, [], ◌∷◌, ◌++◌, length, take, drop, get_or, Some, None, refl, sym, ap}
-use Rattle.std.proofs.Common.{◌∙◌, arith, set, append-nil, take-append-drop, take_all}
-use Rattle.std.specs.Prelude.{◌-◌, nat_le, map, min, slice_get}
-use borrow.Author.Tests.{tests}
-use Rattle.rh_console.specs.Console.{filled}
-use Rattle.vf_desk.specs.Lists.{filled_from}
+use Rattle.vf_desk.proofs.Common.{◌≡◌, ℕ, Bool, true, false, zero, suc, ◌+◌, ◌<◌, ◌≤◌, List, [], ◌∷◌, ◌++◌, length, take, drop, get_or, Some, None, refl, sym}
+use Rattle.vf_desk.proofs.Common.{ap, ◌∙◌, arith, set, append-nil, take_all, ◌-◌, nat_le, map, min, slice_get, tests, filled, filled_from}
+use Rattle.std.proofs.Common.{take-append-drop}
 
 -- the same, item by item
 abbrev overlaid : {A : Type 0} → List A → List A → List A

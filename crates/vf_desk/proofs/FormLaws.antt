@@ -1,12 +1,10 @@
 -- Commands of arguments that may not be of their forms.
-use Rattle.std.proofs.Common.{◌≡◌, ℕ, Bool, true, false, List, refl, sym, ap, ◌∙◌}
-use Rattle.std.specs.Prelude.{◌&&◌, nat_le, if◌then◌else◌, length, OnOk, Some, None, Result, Ok, Err}
+use Rattle.vf_desk.proofs.Common.{◌≡◌, ℕ, Bool, true, false, List, refl, sym, ap, ◌∙◌, nat_le, if◌then◌else◌, length, OnOk, Some, None, Result, Ok, Err}
+use Rattle.vf_desk.proofs.Common.{Command, is_name, in_range, in_form}
+use Rattle.std.specs.Prelude.{◌&&◌}
 use Rattle.std.specs.Result.{is_err}
-use Rattle.rh_defs.specs.declared.command.Command.{Command}
 use Rattle.rh_defs.specs.declared.command.Command.TheVariants as command
-use Rattle.rh_defs.specs.Forms.{is_anchor, is_name, is_number}
-use Rattle.rh_defs.specs.Range.{in_range}
-use Rattle.vf_desk.specs.Called.{in_form}
+use Rattle.rh_defs.specs.Forms.{is_anchor, is_number}
 use Rattle.vf_desk.specs.Forms.{anchor_in, name_in}
 
 -- what isn't in range is no command

@@ -9,3 +9,4 @@ pub mod OpeningLaws
 pub mod LineLaws
 pub mod AskLaws
 pub mod NextLaws
+pub mod Common

@@ -1,16 +1,13 @@
 -- Lines on a desk that is open, and on one that isn't.
-use Rattle.std.proofs.Common.{◌≡◌, ℕ, Bool, true, false, List, length, Option, Some, None, refl, sym, ap, subst, ◌∙◌}
-use Rattle.std.specs.Prelude.{nat_le, if◌then◌else◌}
+use Rattle.vf_desk.proofs.Common.{◌≡◌, ℕ, Bool, true, false, List, length, Option, Some, None, refl, sym, ap, subst, ◌∙◌, nat_le, if◌then◌else◌, Console}
+use Rattle.vf_desk.proofs.Common.{Desk, Station, Takes, SeenBy, console_in, closed}
 use Rattle.rh_console.specs.Console.{Prints}
 use Rattle.rh_console.specs.Said.{said_text}
-use Rattle.rh_console.specs.declared.console.Console.{Console}
-use Rattle.rh_defs.specs.Desk.{Desk}
 use Rattle.rh_defs.specs.Order.{IsReordered}
 use Rattle.rh_defs.specs.Script.{line_desk, line_text}
-use Rattle.vf_desk.specs.declared.station.Station.{Station}
-use Rattle.vf_desk.specs.Lines.{Fills, Replies, Takes, desk_after, kept_text, line_status}
-use Rattle.vf_desk.specs.Seen.{SeenBy, console_in, files_in}
-use Rattle.vf_desk.specs.Status.{closed, short}
+use Rattle.vf_desk.specs.Lines.{Fills, Replies, desk_after, kept_text, line_status}
+use Rattle.vf_desk.specs.Seen.{files_in}
+use Rattle.vf_desk.specs.Status.{short}
 
 -- a line on a desk that isn't open
 takes_none : (line : List ℕ) (console : Option Console) → console ≡ None → (held : Option Station) → console_in held ≡ console → Takes line held held closed

@@ -1,24 +1,19 @@
 -- What is listed of a desk, from what its readers give.
-use Rattle.std.proofs.Common.{◌≡◌, ℕ, zero, suc, List, [], ◌∷◌, ◌++◌, length, take, drop, min, refl, sym, ap, ◌∙◌, arith, subst, Ok, Err, Some, None, Option}
-use Rattle.std.specs.Prelude.{false, true, if◌then◌else◌, map}
-use Rattle.rh_console.specs.Console.{filled}
-use Rattle.rh_console.specs.declared.console.Console.{Console}
+use Rattle.vf_desk.proofs.Common.{◌≡◌, ℕ, zero, suc, List, [], ◌∷◌, ◌++◌, length, take, drop, min, refl, sym, ap, ◌∙◌, arith, subst, Ok, Err, Some, None}
+use Rattle.vf_desk.proofs.Common.{Option, false, true, if◌then◌else◌, map, filled, Console, Question, ◌>>=◌, Desk, Task, named, listed, SeenBy}
 use Rattle.rh_defs.specs.declared.listing.BlockItem.{BlockItem}
-use Rattle.rh_defs.specs.declared.question.Question.{Question}
 use Rattle.rh_defs.specs.declared.refusal.Refusal.{Refusal}
 use Rattle.rh_defs.specs.declared.transfer.Incoming.{Incoming}
 use Rattle.rh_defs.specs.declared.transfer.Outgoing.{Outgoing}
 use Rattle.rh_defs.specs.declared.reply.Reply.TheVariants as reply
-use Rattle.rh_defs.specs.Chain.{Granted, ◌>>=◌}
-use Rattle.rh_defs.specs.Desk.{Desk, Task, named}
+use Rattle.rh_defs.specs.Chain.{Granted}
 use Rattle.rh_defs.specs.Listing.{Blocks, Bytes, Nothing, Records, block_items, in_item, out_item, status_at}
 use Rattle.rh_defs.specs.Questions.{Told, asked, blocks, status}
 use Rattle.rh_defs.specs.Range.{can_be_asked}
 use Rattle.rh_defs.proofs.QuestionLaws.{asked-alike}
 use Rattle.rh_tasks.specs.Lists.{blocks_of}
 use Rattle.rh_script.proofs.PrintLemmas.{blocks_refused, status_refused}
-use Rattle.vf_desk.specs.Items.{blocks_in, bytes_in, incoming_in, listed, listed_with, outgoing_in}
-use Rattle.vf_desk.specs.Seen.{SeenBy}
+use Rattle.vf_desk.specs.Items.{blocks_in, bytes_in, incoming_in, listed_with, outgoing_in}
 
 pub map-map : {A B C : Type 0} (f : B → C) (g : A → B) (xs : List A) → map f (map g xs) ≡ map (λ x. f (g x)) xs
 map-map f g [] = refl

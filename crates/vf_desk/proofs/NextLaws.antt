@@ -1,22 +1,18 @@
 -- The message that a task's next poll would take, on each desk that a handle may be seen as.
-use Rattle.std.proofs.Common.{◌≡◌, ℕ, List, true, false, Option, Some, None, Result, Ok, Err, refl, sym, ap, subst, ◌∙◌}
-use Rattle.std.specs.Prelude.{MatchResult, if◌then◌else◌}
+use Rattle.vf_desk.proofs.Common.{◌≡◌, ℕ, List, true, false, Option, Some, None, Result, Ok, Err, refl, sym, ap, subst, ◌∙◌, MatchResult, if◌then◌else◌}
+use Rattle.vf_desk.proofs.Common.{◌>>=◌, Desk, Task, named, is_name, Console, SeenBy, closed}
 use Rattle.std.specs.Option.{option_map}
 use Rattle.rh_defs.specs.declared.message.EventCode.{EventCode}
 use Rattle.rh_defs.specs.declared.refusal.Refusal.{Refusal}
-use Rattle.rh_defs.specs.Chain.{Granted, ◌>>=◌}
-use Rattle.rh_defs.specs.Desk.{Desk, Task, named}
-use Rattle.rh_defs.specs.Forms.{is_name}
+use Rattle.rh_defs.specs.Chain.{Granted}
 use Rattle.rh_defs.specs.Messages.{Parcel, code_number}
 use Rattle.rh_defs.specs.Order.{IsReordered, requeued}
 use Rattle.rh_defs.specs.Post.{Post, post_poll}
 use Rattle.rh_defs.proofs.Orders.{AnswerAlike, post_poll-alike}
-use Rattle.rh_console.specs.declared.console.Console.{Console}
 use Rattle.rh_tasks.specs.Sights.{next_message}
 use Rattle.rh_wimp.specs.Items.{with_message}
 use Rattle.vf_desk.specs.Next.{code_or, next_in, next_on, parcel_in, status_of_next}
-use Rattle.vf_desk.specs.Seen.{SeenBy}
-use Rattle.vf_desk.specs.Status.{bad_argument, closed, refusal_number}
+use Rattle.vf_desk.specs.Status.{bad_argument, refusal_number}
 
 same-answer : {B : Type 0} {x y : Post × B} → AnswerAlike x y → y.1 ≡ x.1
 same-answer (AnswerAlike.alike post queue x same) = refl

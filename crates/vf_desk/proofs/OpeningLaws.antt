@@ -1,15 +1,11 @@
 -- How a desk begins: calls that are refused, want of memory, and calls that are done.
-use Rattle.std.proofs.Common.{◌≡◌, ℕ, List, [], ◌∷◌, ◌++◌, length, Option, Some, None, inl, inr, refl, sym, ap, subst, ◌∙◌}
-use Rattle.std.specs.Prelude.{◌≢◌, ◌⊎◌, ◌==◌, ◌||◌, nat_lt, not, is_some, if◌then◌else◌}
-use Rattle.rh_console.specs.declared.console.Console.{Console}
-use Rattle.vf_desk.specs.declared.station.Station.{Station}
+use Rattle.vf_desk.proofs.Common.{◌≡◌, ℕ, List, [], ◌∷◌, ◌++◌, length, Option, Some, None, inl, inr, refl, sym, ap, subst, ◌∙◌, ◌≢◌, ◌⊎◌, ◌==◌, ◌||◌, nat_lt}
+use Rattle.vf_desk.proofs.Common.{not, is_some, if◌then◌else◌, Console, Station, console_in, is_name}
 use Rattle.vf_desk.specs.Opening.{Adds, IsFresh, Opens, Tries, file_status, opening_status}
-use Rattle.vf_desk.specs.Seen.{console_in, files_in}
+use Rattle.vf_desk.specs.Seen.{files_in}
 use Rattle.vf_desk.specs.Status.{already_open, bad_argument, bad_length, file_exists, no_memory}
-use Rattle.rh_defs.specs.declared.sizes.TheConstants.{LONGEST_FILE}
-use Rattle.rh_defs.specs.declared.sizes.TheConstants.{MAX_PAGES, MIN_PAGES}
+use Rattle.rh_defs.specs.declared.sizes.TheConstants.{LONGEST_FILE, MAX_PAGES, MIN_PAGES}
 use Rattle.rh_defs.specs.Files.{FileList, has_file}
-use Rattle.rh_defs.specs.Forms.{is_name}
 
 -- ---- a station that is new
 

@@ -1,33 +1,24 @@
 -- A pointer beside a heap's handle in memory. So lie an `Unboxed` and a `Handle`, and what either owns is what a box has
 -- at the same types, or nothing.
-use mathlib.Core.Bool.{true, ◌&&◌}
-use mathlib.Core.Path.{◌≡◌, refl, subst}
-use mathlib.Core.List.{List, [], ◌∷◌, ◌++◌}
-use Prim.Native.Nat.{ℕ}
+use Rattle.vf_desk.proofs.Common.{true, ◌≡◌, refl, subst, List, [], ◌∷◌, ◌++◌, ℕ, bare, dnil, Val, vptr, never, fst∗, sem, ‵, ◌$◌, move, fsplit, fjoin}
+use Rattle.vf_desk.proofs.Common.{layout, RattleType, Ptr, block_ptr, null_ptr, ptr_val, in_a_block, nothing, handle_tells, box_owns, Option, ghosts}
+use mathlib.Core.Bool.{◌&&◌}
 use lib.Dec.{T}
 use seplogic.Ra.Ura.{Ura}
-use mir.Raw.{raw as bare}
-use mir.Syntax.{impl, tnil, dnil}
-use mir.Val.{Val, vptr, vstruct, vcons, vnil, of_list, has_ty, WT}
-use base.Logic.{never, fst∗}
-use types.Logic.{Logic, sem}
-use types.Kit.{Item, Goal, Seq, Step, step, ‵, ◌$◌, move, drop, fsplit, fjoin, fpick, fpack, feq_i, feq_l}
+use mir.Syntax.{impl, tnil}
+use mir.Val.{vstruct, vcons, vnil, of_list, has_ty, WT}
+use types.Logic.{Logic}
+use types.Kit.{Item, Goal, Seq, Step, step, drop, fpick, fpack, feq_i, feq_l}
 use denote.Builtin.{RawPtr}
 use denote.Memory.{lone}
-use denote.Param.{layout}
 use denote.Param.Laws.{Laws}
-use denote.RattleType.{RattleType, Valss}
-use denote.RawPtr.{Ptr, block_ptr, null_ptr, ptr_val, in_a_block}
-use denote.Steps.{nothing}
+use denote.RattleType.{Valss}
 use denote.Struct.Owning.{shape, to}
 use denote.Struct.Struct.{within}
 use Rattle.core.specs.declared.alloc.Allocator.{Ghosts}
-use Rattle.core.proofs.alloc.Calls.{Al, handle_tells}
+use Rattle.core.proofs.alloc.Calls.{Al}
 use Rattle.core.proofs.cell.Inside.{Good}
-use Rattle.std.specs.Box.Ownership.{box_owns}
-use Rattle.std.specs.Prelude.{Option}
 use Rattle.std.specs.contracts.alloc.Global as heap
-use Rattle.std.specs.contracts.impls.GlobalAllocator.TheImpl.{ghosts}
 use Rattle.std.proofs.alloc.Global.TheLaws as heap_laws
 use Rattle.std_alloc.proofs.ResultValues.{and_tt}
 use Rattle.vf_desk.specs.contracts.handle.Handle as Handle

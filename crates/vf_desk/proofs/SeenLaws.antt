@@ -1,21 +1,15 @@
 -- What follows for each desk that a handle may be seen as.
-use Rattle.std.proofs.Common.{◌≡◌, refl, sym, ap, subst, ◌∙◌}
-use Rattle.std.specs.Prelude.{◌≢◌, true, false, Option, Some, None}
-use Rattle.rh_defs.specs.declared.command.Command.{Command}
+use Rattle.vf_desk.proofs.Common.{◌≡◌, refl, sym, ap, subst, ◌∙◌, ◌≢◌, true, false, Option, Some, None, Command, Desk, Console, in_range, Called, Station}
+use Rattle.vf_desk.proofs.Common.{IsAsked, called, desk_by, in_form, status_of, KeepsRest, SeenBy, console_in}
 use Rattle.rh_defs.specs.declared.command.Command.TheVariants as command
 use Rattle.rh_defs.specs.declared.reply.Reply.{Reply}
 use Rattle.rh_defs.specs.declared.reply.Reply.TheVariants as reply
-use Rattle.rh_defs.specs.Desk.{Desk}
-use Rattle.rh_console.specs.declared.console.Console.{Console}
-use Rattle.rh_defs.specs.Range.{in_range}
 use Rattle.rh_tasks.specs.Answer.{Does, StaysIfAsked, StaysIfRefused, StepsTo}
 use Rattle.rh_tasks.specs.Shown.{Shown}
-use Rattle.vf_desk.specs.declared.called.Called.{Called}
 use Rattle.vf_desk.specs.declared.called.Called.TheVariants.{Closed, BadArgument, Said}
-use Rattle.vf_desk.specs.declared.station.Station.{Station}
-use Rattle.vf_desk.specs.Called.{IsAsked, Steps, called, desk_by, in_form, status_of}
+use Rattle.vf_desk.specs.Called.{Steps}
 use Rattle.vf_desk.proofs.FormLaws.{in-its-form, out-of-form}
-use Rattle.vf_desk.specs.Seen.{KeepsRest, SeenBy, console_in, said_in}
+use Rattle.vf_desk.specs.Seen.{said_in}
 
 -- ---- a closed desk
 

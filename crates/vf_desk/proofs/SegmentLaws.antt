@@ -1,17 +1,15 @@
 -- The segments of a C heap in a slice, some at a time.
-use Rattle.std.proofs.Common.{◌≡◌, ℕ, zero, suc, ◌+◌, ◌-◌, ◌≤◌, ◌<◌, Bool, true, false, cond, List, [], ◌∷◌, ◌++◌, length, take, drop, Option, Some, None, Ok}
-use Rattle.std.proofs.Common.{refl, sym, ap, subst, ◌∙◌, arith, append_assoc, append-nil, length-append}
-use Rattle.std.specs.Prelude.{◌==◌, slice_get, map, find}
+use Rattle.vf_desk.proofs.Common.{◌≡◌, ℕ, zero, suc, ◌+◌, ◌-◌, ◌≤◌, ◌<◌, Bool, true, false, cond, List, [], ◌∷◌, ◌++◌, length, take, drop, Option, Some, None}
+use Rattle.vf_desk.proofs.Common.{Ok, refl, sym, ap, subst, ◌∙◌, arith, append_assoc, append-nil, length-append, ◌==◌, slice_get, map, find, tests, filled}
+use Rattle.vf_desk.proofs.Common.{◌>>=◌, Desk, Task, named, filled_from}
 use Rattle.std.proofs.lemmas.List.{take-append-drop}
 use Rattle.std.specs.Option.{option_map}
-use borrow.Author.Tests.{tests}
-use Rattle.rh_console.specs.Console.{filled}
 use Rattle.rh_defs.specs.declared.sizes.TheConstants.{SEGMENTS_AT_ONCE}
 use Rattle.rh_defs.specs.declared.listing.SegmentItem.{SegmentItem}
 use Rattle.rh_defs.specs.declared.refusal.Refusal.TheVariants.{NoName}
 use Rattle.rh_defs.specs.declared.reply.Reply.TheVariants as reply
-use Rattle.rh_defs.specs.Chain.{◌>>=◌, found_or}
-use Rattle.rh_defs.specs.Desk.{Desk, Task, has_name, named}
+use Rattle.rh_defs.specs.Chain.{found_or}
+use Rattle.rh_defs.specs.Desk.{has_name}
 use Rattle.rh_defs.specs.Pieces.{Split, behind, first_at, total}
 use Rattle.rh_defs.specs.Heap.{Segment, Used, Hole, Heap, IsHeap, size_of, first_place, place_after, segment_at, largest, free_bytes}
 use Rattle.rh_defs.specs.Slot.{heap_start}
@@ -23,7 +21,6 @@ use Rattle.rh_tasks.specs.Lists.{segment_items_at}
 use Rattle.rh_script.specs.Named.{item_end, segments_of_named, slot_in}
 use Rattle.rh_script.proofs.SegmentLemmas.{AllSized, sized}
 use Rattle.vf_desk.specs.Items.{listed_with, segment_of, segments_in}
-use Rattle.vf_desk.specs.Lists.{filled_from}
 use Rattle.vf_desk.specs.declared.items.VfSegment.{VfSegment}
 use Rattle.vf_desk.proofs.FillLaws.{filled-behind, filled-none, map-append}
 use Rattle.vf_desk.proofs.ListLaws.{map-length}

@@ -1,6 +1,6 @@
-use Rattle.std.proofs.Common.{◌≡◌, ◌/◌, Some}
+use Rattle.rh_draw.proofs.Common.{◌≡◌, ◌/◌, Some, row_y}
 use Rattle.rh_defs.specs.Pieces.{page}
-use Rattle.rh_sheet.specs.Frames.{row_of, row_y}
+use Rattle.rh_sheet.specs.Frames.{row_of}
 use Rattle.rh_sheet.specs.Arrows.{block_place, ghost_way, arrow_way, place_x}
 use Rattle.rh_draw.proofs.ArrowLemmas.{arrow-drawn}
 use Rattle.rh_draw.proofs.arrows.print_slide_arrow.Goals as goal

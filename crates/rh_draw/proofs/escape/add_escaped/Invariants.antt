@@ -1,5 +1,4 @@
-use Rattle.std.proofs.Common.{◌≡◌, ◌≤◌, ◌+◌, ◌*◌, ◌++◌, take, length}
-use Rattle.rh_sheet.specs.Markup.{escape}
+use Rattle.rh_draw.proofs.Common.{◌≡◌, ◌≤◌, ◌+◌, ◌*◌, ◌++◌, take, length, escape}
 use Rattle.rh_draw.proofs.escape.add_escaped.Given as goal
 
 -- the bytes so far were added

@@ -1,6 +1,4 @@
-use Rattle.std.proofs.Common.{length}
-use Rattle.rh_sheet.specs.Markup.{escape}
-use Rattle.rh_map.proofs.Left.{Left}
+use Rattle.rh_draw.proofs.Common.{length, escape, Left}
 use Rattle.rh_draw.proofs.escape.put_escaped.Given as goal
 
 -- the bytes of the rest are left

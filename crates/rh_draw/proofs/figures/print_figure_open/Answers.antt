@@ -1,5 +1,4 @@
-use Rattle.std.proofs.Common.{◌∙◌, ap, ◌++◌, codes}
-use Rattle.std.specs.Fmt.{decimal}
+use Rattle.rh_draw.proofs.Common.{◌∙◌, ap, ◌++◌, codes, decimal}
 use Rattle.rh_draw.proofs.FigureLemmas.{figure-sized, size_part}
 use Rattle.rh_draw.proofs.RowLemmas.{added}
 use Rattle.rh_draw.proofs.figures.print_figure_open.Goals as goal

@@ -1,5 +1,4 @@
-use Rattle.std.proofs.Common.{◌++◌, codes}
-use Rattle.std.specs.Fmt.{decimal}
+use Rattle.rh_draw.proofs.Common.{◌++◌, codes, decimal}
 use Rattle.rh_draw.proofs.RowLemmas.{added}
 use Rattle.rh_draw.proofs.links.add_step_link.Goals as goal
 

@@ -1,6 +1,4 @@
-use Rattle.std.proofs.Common.{codes, ◌++◌, refl}
-use Rattle.rh_lines.proofs.FlowLemmas.{puts_stops}
-use Rattle.rh_sheet.specs.Markup.{escape}
+use Rattle.rh_draw.proofs.Common.{codes, ◌++◌, refl, puts_stops, escape}
 use Rattle.rh_draw.proofs.PutLemmas.{parts-more, parts-before}
 use Rattle.rh_draw.proofs.markup.print_heading.Goals as goal
 

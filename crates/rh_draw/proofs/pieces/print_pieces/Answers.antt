@@ -1,6 +1,5 @@
-use Rattle.std.proofs.Common.{subst}
+use Rattle.rh_draw.proofs.Common.{subst, left_less, left_breaks}
 use Rattle.rh_sheet.specs.Pieces.{piece_text}
-use Rattle.rh_map.proofs.Left.{left_less, left_breaks}
 use Rattle.rh_draw.specs.Pieces.{AreDrawable}
 use Rattle.rh_draw.specs.Tints.{tint_class}
 use Rattle.rh_draw.proofs.LoopLemmas.{items-behind}

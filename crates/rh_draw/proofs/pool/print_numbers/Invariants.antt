@@ -1,7 +1,5 @@
-use Rattle.std.proofs.Common.{◌-◌}
-use Rattle.std.specs.List.{flat_map, range_with_len}
+use Rattle.rh_draw.proofs.Common.{◌-◌, flat_map, range_with_len, Left}
 use Rattle.rh_sheet.specs.Pool.{number_text}
-use Rattle.rh_map.proofs.Left.{Left}
 use Rattle.rh_draw.proofs.pool.print_numbers.Given as goal
 
 -- those from the index on are left

@@ -1,7 +1,5 @@
-use Rattle.std.proofs.Common.{length}
-use Rattle.std.specs.List.{flat_map}
+use Rattle.rh_draw.proofs.Common.{length, flat_map, Left}
 use Rattle.rh_sheet.specs.Pool.{tag_text}
-use Rattle.rh_map.proofs.Left.{Left}
 use Rattle.rh_draw.proofs.pool.print_tags.Given as goal
 
 -- the rest is left

@@ -1,5 +1,4 @@
-use Rattle.rh_sheet.specs.Steps.{remark_byte}
-use Rattle.rh_map.proofs.Left.{left_less, left_breaks}
+use Rattle.rh_draw.proofs.Common.{remark_byte, left_less, left_breaks}
 use Rattle.rh_draw.proofs.EscapedItems.{escape-byte}
 use Rattle.rh_draw.proofs.remarks.put_remark.Goals as goal
 

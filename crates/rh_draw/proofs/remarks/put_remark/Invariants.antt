@@ -1,7 +1,4 @@
-use Rattle.std.proofs.Common.{length, map}
-use Rattle.rh_sheet.specs.Markup.{escape}
-use Rattle.rh_sheet.specs.Steps.{remark_byte}
-use Rattle.rh_map.proofs.Left.{Left}
+use Rattle.rh_draw.proofs.Common.{length, map, escape, remark_byte, Left}
 use Rattle.rh_draw.proofs.remarks.put_remark.Given as goal
 
 -- the bytes of the rest are left

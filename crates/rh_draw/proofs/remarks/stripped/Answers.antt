@@ -1,5 +1,4 @@
-use Rattle.std.proofs.Common.{sym, ◌∙◌}
-use Rattle.rh_sheet.specs.Steps.{remark_byte}
+use Rattle.rh_draw.proofs.Common.{sym, ◌∙◌, remark_byte}
 use Rattle.rh_draw.proofs.ListLemmas.{trimmed-kept, trimmed-less}
 use Rattle.rh_draw.proofs.remarks.stripped.Goals as goal
 

@@ -1,6 +1,5 @@
-use Rattle.std.proofs.Common.{◌-◌, arith}
-use Rattle.rh_map.specs.Replies.{lines_in}
-use Rattle.rh_map.proofs.Left.{left_less, left_breaks, left_none}
+use Rattle.rh_draw.proofs.Common.{◌-◌, arith, lines_in, left_less, left_breaks}
+use Rattle.rh_map.proofs.Left.{left_none}
 use Rattle.rh_draw.proofs.ReplyLemmas.{feeds-next, feeds-none}
 use Rattle.rh_draw.proofs.reply.put_lines.Goals as goal
 

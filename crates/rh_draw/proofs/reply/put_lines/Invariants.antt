@@ -1,9 +1,6 @@
-use Rattle.std.proofs.Common.{◌-◌}
+use Rattle.rh_draw.proofs.Common.{◌-◌, lines_in, Left, escape, behind_feeds}
 use Rattle.rh_figure.specs.declared.limits.TheConstants.{MOST_REPLY_LINES}
-use Rattle.rh_map.specs.Replies.{first_lines, lines_in}
-use Rattle.rh_map.proofs.Left.{Left}
-use Rattle.rh_sheet.specs.Markup.{escape}
-use Rattle.rh_draw.specs.Replies.{behind_feeds}
+use Rattle.rh_map.specs.Replies.{first_lines}
 use Rattle.rh_draw.proofs.reply.put_lines.Given as goal
 
 -- the first lines of the rest are left

@@ -1,8 +1,5 @@
-use Rattle.std.proofs.Common.{refl}
-use Rattle.rh_lines.proofs.FlowLemmas.{puts_before, puts_stops, puts_more}
+use Rattle.rh_draw.proofs.Common.{refl, puts_before, puts_stops, puts_more, escape, behind_feeds}
 use Rattle.rh_map.specs.Replies.{more_behind}
-use Rattle.rh_sheet.specs.Markup.{escape}
-use Rattle.rh_draw.specs.Replies.{behind_feeds}
 use Rattle.rh_draw.proofs.WriteLemmas.{puts-as}
 use Rattle.rh_draw.proofs.ReplyLemmas.{joined-some}
 use Rattle.rh_draw.proofs.reply.put_reply.Goals as goal

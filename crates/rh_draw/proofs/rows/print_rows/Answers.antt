@@ -1,8 +1,5 @@
-use Rattle.std.proofs.Common.{◌+◌, ◌-◌, arith}
+use Rattle.rh_draw.proofs.Common.{◌+◌, ◌-◌, arith, row_text, left_less, left_breaks, plot_of}
 use Rattle.rh_sheet.specs.Frames.{shown_rows}
-use Rattle.rh_sheet.specs.Rows.{row_text}
-use Rattle.rh_map.proofs.Left.{left_less, left_breaks}
-use Rattle.rh_draw.specs.Rows.{plot_of}
 use Rattle.rh_draw.proofs.LoopLemmas.{numbers-behind}
 use Rattle.rh_draw.proofs.rows.print_rows.Goals as goal
 

@@ -1,6 +1,5 @@
-use Rattle.std.proofs.Common.{◌+◌, ◌-◌, arith}
+use Rattle.rh_draw.proofs.Common.{◌+◌, ◌-◌, arith, left_less, left_breaks}
 use Rattle.rh_sheet.specs.Sheet.{numbered_link}
-use Rattle.rh_map.proofs.Left.{left_less, left_breaks}
 use Rattle.rh_draw.proofs.LoopLemmas.{numbers-behind}
 use Rattle.rh_draw.proofs.sheet.print_links.Goals as goal
 

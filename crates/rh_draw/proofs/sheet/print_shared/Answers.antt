@@ -1,5 +1,4 @@
-use Rattle.std.proofs.Common.{refl}
-use Rattle.rh_lines.proofs.FlowLemmas.{puts_before, puts_stops, puts_more}
+use Rattle.rh_draw.proofs.Common.{refl, puts_before, puts_stops, puts_more}
 use Rattle.rh_draw.proofs.sheet.print_shared.Goals as goal
 
 pub returns-in_err-put : goal.returns-in_err-put

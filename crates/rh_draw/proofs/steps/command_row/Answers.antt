@@ -1,6 +1,5 @@
-use Rattle.std.proofs.Common.{◌++◌, map, refl, ap, ◌∙◌}
+use Rattle.rh_draw.proofs.Common.{◌++◌, map, refl, ap, ◌∙◌, cut}
 use Rattle.rh_figure.specs.Map.{shown_byte}
-use Rattle.rh_figure.specs.Phrases.{cut}
 use Rattle.rh_figure.specs.declared.limits.TheConstants.{LINE_COLUMNS}
 use Rattle.rh_draw.proofs.ListLemmas.{shown-cut}
 use Rattle.rh_draw.proofs.steps.command_row.Goals as goal

@@ -1,8 +1,4 @@
-use Rattle.std.proofs.Common.{List, ℕ, refl, ap}
-use Rattle.std.specs.Prelude.{codes}
-use Rattle.std.specs.List.{join_by}
-use Rattle.rh_lines.proofs.FlowLemmas.{puts_before, puts_stops, puts_more}
-use Rattle.rh_sheet.specs.Markup.{escape}
+use Rattle.rh_draw.proofs.Common.{List, ℕ, refl, ap, codes, join_by, puts_before, puts_stops, puts_more, escape}
 use Rattle.rh_draw.proofs.WriteLemmas.{puts-as}
 use Rattle.rh_draw.proofs.steps.print_said.Goals as goal
 

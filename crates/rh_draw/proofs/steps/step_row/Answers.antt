@@ -1,6 +1,4 @@
-use Rattle.std.proofs.Common.{◌+◌, [], ◌∷◌, ◌++◌, ap, ◌∙◌}
-use Rattle.std.specs.Prelude.{codes}
-use Rattle.std.specs.Fmt.{decimal}
+use Rattle.rh_draw.proofs.Common.{◌+◌, [], ◌∷◌, ◌++◌, ap, ◌∙◌, codes, decimal}
 use Rattle.rh_sheet.specs.Markup.{step_link}
 use Rattle.rh_sheet.specs.Steps.{back_link}
 use Rattle.rh_draw.proofs.ListLemmas.{seven-parts}

@@ -1,12 +1,8 @@
-use Rattle.std.specs.Prelude.{codes}
-use Rattle.rh_lines.proofs.FlowLemmas.{puts_before, puts_stops, puts_more}
-use Rattle.rh_map.specs.Messages.{text_of}
-use Rattle.rh_sheet.specs.Markup.{escape}
+use Rattle.rh_draw.proofs.Common.{codes, puts_before, puts_stops, puts_more, text_of, escape, refl}
 use Rattle.rh_draw.specs.Letters.{behind_commas}
 use Rattle.rh_draw.proofs.EscapedItems.{escape-first}
 use Rattle.rh_draw.proofs.WriteLemmas.{puts-as}
 use Rattle.rh_draw.proofs.tables.put_entries.Goals as goal
-use Rattle.std.proofs.Common.{refl}
 
 pub returns-in_err-put_entry : goal.returns-in_err-put_entry
 returns-in_err-put_entry g c =

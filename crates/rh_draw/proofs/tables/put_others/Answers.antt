@@ -1,8 +1,5 @@
-use Rattle.std.proofs.Common.{List, ℕ, ◌++◌}
-use Rattle.std.specs.Prelude.{codes}
+use Rattle.rh_draw.proofs.Common.{List, ℕ, ◌++◌, codes, text_of, left_less, left_breaks}
 use Rattle.rh_map.specs.declared.letterboxes.MessageEntry.{MessageEntry}
-use Rattle.rh_map.specs.Messages.{text_of}
-use Rattle.rh_map.proofs.Left.{left_less, left_breaks}
 use Rattle.rh_draw.proofs.EscapedItems.{escape-item}
 use Rattle.rh_draw.proofs.tables.put_others.Goals as goal
 

@@ -1,10 +1,5 @@
-use Rattle.std.proofs.Common.{refl}
-use Rattle.std.specs.Prelude.{codes}
-use Rattle.std.specs.List.{join_by}
+use Rattle.rh_draw.proofs.Common.{refl, codes, join_by, puts_before, puts_stops, puts_more, text_of, escape}
 use Rattle.rh_figure.specs.Phrases.{and_more}
-use Rattle.rh_lines.proofs.FlowLemmas.{puts_before, puts_stops, puts_more}
-use Rattle.rh_map.specs.Messages.{text_of}
-use Rattle.rh_sheet.specs.Markup.{escape}
 use Rattle.rh_draw.proofs.EscapedItems.{escape-both}
 use Rattle.rh_draw.proofs.WriteLemmas.{puts-as}
 use Rattle.rh_draw.proofs.tables.put_waits.Goals as goal

@@ -1,15 +1,7 @@
-use Rattle.std.proofs.Common.{◌≡◌, ℕ, ◌+◌, ◌<◌, ◌≤◌, List, ◌++◌, length, drop, map, ap, sym, ◌∙◌, append_assoc, arith}
-use Rattle.std.specs.Prelude.{slice_index}
-use Rattle.std.specs.List.{enumerate_from, flat_map}
-use Rattle.std.proofs.lemmas.Grind.{flat_map-append}
-use Rattle.std.proofs.lemmas.List.{drop_all}
-use Rattle.rh_figure.specs.Figure.{Panel, fixed_panel, made_panel}
+use Rattle.rh_drawn.proofs.Common.{◌≡◌, ℕ, ◌+◌, ◌<◌, ◌≤◌, List, ◌++◌, length, drop, map, ap, sym, ◌∙◌, append_assoc, arith, slice_index, enumerate_from}
+use Rattle.rh_drawn.proofs.Common.{flat_map, flat_map-append, drop_all, Panel, fixed_panel, made_panel, shown_lines, left_breaks, left_less, left_whole}
+use Rattle.rh_drawn.proofs.Common.{shown-append, scene_at, panel_part}
 use Rattle.rh_figure.specs.Map.{panel_lines}
-use Rattle.rh_map.specs.Written.{shown_lines}
-use Rattle.rh_map.proofs.Left.{left_breaks, left_less, left_whole}
-use Rattle.rh_map.proofs.SeamLemmas.{shown-append}
-use Rattle.rh_sight.specs.Steps.{scene_at}
-use Rattle.rh_drawn.specs.Parts.{panel_part}
 use Rattle.rh_drawn.proofs.PageLemmas.{numbered-next}
 use Rattle.rh_drawn.proofs.Walks.{left_last, puts_same}
 use Rattle.rh_drawn.proofs.areas.print_area_part.Goals as goal

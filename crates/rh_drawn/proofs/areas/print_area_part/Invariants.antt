@@ -1,11 +1,4 @@
-use Rattle.std.proofs.Common.{◌++◌, drop}
-use Rattle.std.specs.Prelude.{map}
-use Rattle.std.specs.List.{enumerate_from, flat_map}
-use Rattle.rh_drawn.specs.Parts.{area_part, panel_part}
-use Rattle.rh_figure.specs.Figure.{fixed_panel, made_panel}
-use Rattle.rh_map.specs.Written.{shown_lines}
-use Rattle.rh_map.proofs.Left.{Left}
-use Rattle.rh_sight.specs.Steps.{scene_at}
+use Rattle.rh_drawn.proofs.Common.{◌++◌, drop, map, enumerate_from, flat_map, area_part, panel_part, fixed_panel, made_panel, shown_lines, Left, scene_at}
 use Rattle.rh_drawn.proofs.areas.print_area_part.Given as goal
 
 -- the areas from the number on are left, and the made ones

@@ -1,16 +1,7 @@
-use Rattle.std.proofs.Common.{◌≡◌, ℕ, false, List, [], ◌∷◌, length, ap, ap₂, sym, ◌∙◌, arith}
-use Rattle.std.specs.Prelude.{if◌then◌else◌, ◌==◌, ◌||◌, slice_index}
-use Rattle.std.proofs.lemmas.Bool.{ne_eqb}
-use Rattle.rh_defs.specs.Desk.{module_pages}
-use Rattle.rh_figure.specs.Figure.{area_panel, fixed_note, fixed_panel, listed_pages, numbers_text, scrap_text}
-use Rattle.rh_figure.specs.Map.{heading_line}
-use Rattle.rh_figure.specs.Phrases.{Text, area_name}
-use Rattle.rh_figure.specs.Scene.{Scene}
-use Rattle.rh_figure.specs.Share.{AreaOf}
-use Rattle.rh_map.specs.Written.{shown_lines}
+use Rattle.rh_drawn.proofs.Common.{◌≡◌, ℕ, false, List, [], ◌∷◌, length, ap, ap₂, sym, ◌∙◌, arith, if◌then◌else◌, ◌==◌, ◌||◌, slice_index, ne_eqb}
+use Rattle.rh_drawn.proofs.Common.{module_pages, fixed_panel, heading_line, Text, area_name, Scene, AreaOf, shown_lines, scene_at, panel_part}
+use Rattle.rh_figure.specs.Figure.{area_panel, fixed_note, listed_pages, numbers_text, scrap_text}
 use Rattle.rh_sight.specs.declared.sight.PagesOf.TheVariants as pages
-use Rattle.rh_sight.specs.Steps.{scene_at}
-use Rattle.rh_drawn.specs.Parts.{panel_part}
 use Rattle.rh_drawn.proofs.PageLemmas.{owned, owned-few, owned-fixed, seen-fixed}
 use Rattle.rh_drawn.proofs.Walks.{puts_line, puts_same}
 use Rattle.rh_drawn.proofs.areas.print_fixed.Goals as goal

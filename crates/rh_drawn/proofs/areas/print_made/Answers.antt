@@ -1,14 +1,7 @@
-use Rattle.std.proofs.Common.{◌≡◌, ℕ, ◌<◌, List, [], ◌∷◌, length, map, ap, refl, ◌∙◌, arith}
-use Rattle.std.proofs.lemmas.Option.{slice_get_within}
-use Rattle.rh_defs.specs.Desk.{Made}
-use Rattle.rh_figure.specs.Figure.{listed_pages, made_note, made_panel}
-use Rattle.rh_figure.specs.Map.{heading_line}
-use Rattle.rh_figure.specs.Phrases.{area_name}
-use Rattle.rh_figure.specs.Share.{AreaOf}
-use Rattle.rh_map.proofs.Left.{left_breaks, left_less, left_none}
+use Rattle.rh_drawn.proofs.Common.{◌≡◌, ℕ, ◌<◌, List, [], ◌∷◌, length, map, ap, refl, ◌∙◌, arith, slice_get_within, Made, made_panel, heading_line, area_name}
+use Rattle.rh_drawn.proofs.Common.{AreaOf, left_breaks, left_less, left_none, scene_at, panel_part}
+use Rattle.rh_figure.specs.Figure.{listed_pages, made_note}
 use Rattle.rh_sight.specs.declared.sight.PagesOf.TheVariants as pages
-use Rattle.rh_sight.specs.Steps.{scene_at}
-use Rattle.rh_drawn.specs.Parts.{panel_part}
 use Rattle.rh_drawn.proofs.PageLemmas.{made-above, owned, owned-few, owned-made, seen-made}
 use Rattle.rh_drawn.proofs.Walks.{puts_line, walk-none, walk-some}
 use Rattle.rh_drawn.proofs.areas.print_made.Goals as goal

@@ -1,10 +1,4 @@
-use Rattle.std.proofs.Common.{◌-◌, length, drop}
-use Rattle.std.specs.Prelude.{map}
-use Rattle.rh_drawn.specs.Parts.{panel_part}
-use Rattle.rh_figure.specs.Figure.{made_panel}
-use Rattle.rh_sight.specs.Steps.{scene_at}
-use Rattle.rh_map.specs.Written.{shown_lines}
-use Rattle.rh_map.proofs.Left.{Left}
+use Rattle.rh_drawn.proofs.Common.{◌-◌, length, drop, map, panel_part, made_panel, scene_at, shown_lines, Left}
 use Rattle.rh_drawn.proofs.areas.print_made.Given as goal
 
 -- the areas from the place on are left

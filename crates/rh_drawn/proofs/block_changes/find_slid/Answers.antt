@@ -1,13 +1,9 @@
-use Rattle.std.proofs.Common.{◌≡◌, ℕ, ◌<◌, ◌≤◌, ◌++◌, Bool, true, false, List, [], ◌∷◌, Option, Some, None, length, take, get_or, ap, sym, subst, refl, ◌∙◌}
-use Rattle.std.proofs.Common.{arith, append-nil}
-use Rattle.std.specs.Prelude.{IfSome, ◌==◌}
-use Rattle.std.specs.List.{flat_map}
-use Rattle.std.proofs.lemmas.Grind.{flat_map-append}
-use Rattle.std.proofs.lemmas.List.{length-append, length-take, take_more}
+use Rattle.rh_drawn.proofs.Common.{◌≡◌, ℕ, ◌<◌, ◌≤◌, ◌++◌, Bool, true, false, List, [], ◌∷◌, Option, Some, None, length, take, get_or, ap, sym, subst, refl}
+use Rattle.rh_drawn.proofs.Common.{◌∙◌, arith, append-nil, IfSome, ◌==◌, flat_map, flat_map-append, length-append, length-take, BlockItem, item_of, slide_of}
+use Rattle.rh_drawn.proofs.Common.{summary_of}
+use Rattle.std.proofs.lemmas.List.{take_more}
 use Rattle.rh_defs.specs.Slot.{anchor_count}
-use Rattle.rh_defs.specs.declared.listing.BlockItem.{BlockItem}
-use Rattle.rh_figure.specs.Changes.{Slide, item_of, slide_of}
-use Rattle.rh_drawn.specs.Slides.{summary_of}
+use Rattle.rh_figure.specs.Changes.{Slide}
 use Rattle.rh_drawn.proofs.block_changes.find_slid.Goals as goal
 
 abbrev of : List BlockItem → BlockItem → List Slide

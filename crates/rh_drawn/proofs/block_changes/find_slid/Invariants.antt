@@ -1,8 +1,4 @@
-use Rattle.std.proofs.Common.{◌≡◌, take}
-use Rattle.std.specs.List.{flat_map}
-use Rattle.rh_defs.specs.declared.listing.BlockItem.{BlockItem}
-use Rattle.rh_figure.specs.Changes.{item_of, slide_of}
-use Rattle.rh_drawn.specs.Slides.{summary_of}
+use Rattle.rh_drawn.proofs.Common.{◌≡◌, take, flat_map, BlockItem, item_of, slide_of, summary_of}
 use Rattle.rh_drawn.proofs.block_changes.find_slid.Given as goal
 
 -- those so far that slid are found

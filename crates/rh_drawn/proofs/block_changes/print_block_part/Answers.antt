@@ -1,15 +1,7 @@
-use Rattle.std.proofs.Common.{◌≡◌, ◌++◌, List, Some, map, ap, ap₂, sym, ◌∙◌, append_assoc}
-use Rattle.std.specs.Prelude.{filter, not}
-use Rattle.std.specs.List.{flat_map}
-use Rattle.rh_defs.specs.declared.listing.BlockItem.{BlockItem}
-use Rattle.rh_defs.specs.Desk.{Task, task_at}
-use Rattle.rh_defs.specs.Listing.{block_items}
-use Rattle.rh_figure.specs.Changes.{block_change, block_changes, blocks_now, gone_line, has_anchor, item_of, slide_change, slide_of}
-use Rattle.rh_figure.specs.Phrases.{Text}
-use Rattle.rh_figure.specs.Scene.{Scene}
-use Rattle.rh_map.specs.Written.{shown_lines}
-use Rattle.rh_sight.specs.Steps.{scene_at}
-use Rattle.rh_drawn.specs.Parts.{block_part, indented, slide_part}
+use Rattle.rh_drawn.proofs.Common.{◌≡◌, ◌++◌, List, Some, map, ap, ap₂, sym, ◌∙◌, append_assoc, filter, not, flat_map, BlockItem, Task, task_at, block_items}
+use Rattle.rh_drawn.proofs.Common.{block_change, gone_line, has_anchor, item_of, slide_of, Text, Scene, shown_lines, scene_at, block_part, indented}
+use Rattle.rh_drawn.proofs.Common.{slide_part}
+use Rattle.rh_figure.specs.Changes.{block_changes, blocks_now, slide_change}
 use Rattle.rh_drawn.proofs.Walks.{indented-append, lines_stop, lines_then, puts_same}
 use Rattle.rh_drawn.proofs.block_changes.print_block_part.Goals as goal
 

@@ -1,10 +1,5 @@
-use Rattle.std.proofs.Common.{◌≡◌, ◌++◌, Bool, true, false, List, [], ◌∷◌, map, refl}
-use Rattle.std.specs.Prelude.{filter, if◌then◌else◌, not}
-use Rattle.rh_defs.specs.declared.listing.BlockItem.{BlockItem}
-use Rattle.rh_figure.specs.Changes.{gone_line, has_anchor}
-use Rattle.rh_figure.specs.Phrases.{Text}
-use Rattle.rh_map.proofs.Left.{left_breaks, left_less, left_none}
-use Rattle.rh_drawn.specs.Parts.{indented}
+use Rattle.rh_drawn.proofs.Common.{◌≡◌, ◌++◌, Bool, true, false, List, [], ◌∷◌, map, refl, filter, if◌then◌else◌, not, BlockItem, gone_line, has_anchor, Text}
+use Rattle.rh_drawn.proofs.Common.{left_breaks, left_less, left_none, indented}
 use Rattle.rh_drawn.proofs.Walks.{walk-at, walk-end}
 use Rattle.rh_drawn.proofs.block_changes.print_gone.Goals as goal
 

@@ -1,10 +1,4 @@
-use Rattle.std.proofs.Common.{drop}
-use Rattle.std.specs.Prelude.{filter, map, not}
-use Rattle.rh_defs.specs.declared.listing.BlockItem.{BlockItem}
-use Rattle.rh_drawn.specs.Parts.{indented}
-use Rattle.rh_figure.specs.Changes.{gone_line, has_anchor}
-use Rattle.rh_map.specs.Written.{shown_lines}
-use Rattle.rh_map.proofs.Left.{Left}
+use Rattle.rh_drawn.proofs.Common.{drop, filter, map, not, BlockItem, indented, gone_line, has_anchor, shown_lines, Left}
 use Rattle.rh_drawn.proofs.block_changes.print_gone.Given as goal
 
 -- the blocks from the place on are left

@@ -1,10 +1,4 @@
-use Rattle.std.proofs.Common.{List, refl}
-use Rattle.std.specs.List.{flat_map}
-use Rattle.rh_defs.specs.declared.listing.BlockItem.{BlockItem}
-use Rattle.rh_figure.specs.Changes.{block_change, item_of}
-use Rattle.rh_figure.specs.Phrases.{Text}
-use Rattle.rh_map.proofs.Left.{left_breaks, left_less, left_none}
-use Rattle.rh_drawn.specs.Parts.{indented}
+use Rattle.rh_drawn.proofs.Common.{List, refl, flat_map, BlockItem, block_change, item_of, Text, left_breaks, left_less, left_none, indented}
 use Rattle.rh_drawn.proofs.Walks.{indented-each, walk-at, walk-end}
 use Rattle.rh_drawn.proofs.block_changes.print_now.Goals as goal
 

@@ -1,10 +1,4 @@
-use Rattle.std.proofs.Common.{drop}
-use Rattle.std.specs.List.{flat_map}
-use Rattle.rh_defs.specs.declared.listing.BlockItem.{BlockItem}
-use Rattle.rh_drawn.specs.Parts.{indented}
-use Rattle.rh_figure.specs.Changes.{block_change, item_of}
-use Rattle.rh_map.specs.Written.{shown_lines}
-use Rattle.rh_map.proofs.Left.{Left}
+use Rattle.rh_drawn.proofs.Common.{drop, flat_map, BlockItem, indented, block_change, item_of, shown_lines, Left}
 use Rattle.rh_drawn.proofs.block_changes.print_now.Given as goal
 
 -- the blocks from the place on are left

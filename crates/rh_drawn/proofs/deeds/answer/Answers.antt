@@ -1,17 +1,8 @@
-use Rattle.std.proofs.Common.{List, ℕ, refl, subst, sym}
-use Rattle.std.specs.Prelude.{IsTrue}
-use Rattle.rh_defs.specs.declared.command.Command.{Command}
-use Rattle.rh_defs.specs.declared.reply.Reply.{Reply}
+use Rattle.rh_drawn.proofs.Common.{List, ℕ, refl, subst, sym, IsTrue, Command, Reply, Desk, Nothing, IsReordered, step, first_line, reply_to, Excerpts}
 use Rattle.rh_defs.specs.declared.reply.Reply.TheVariants.{Done}
-use Rattle.rh_defs.specs.Desk.{Desk}
-use Rattle.rh_defs.specs.Listing.{Nothing}
-use Rattle.rh_defs.specs.Order.{IsReordered}
 use Rattle.rh_defs.specs.Range.{in_range}
-use Rattle.rh_defs.specs.Step.{step}
-use Rattle.rh_defs.specs.Text.{first_line}
 use Rattle.rh_defs.proofs.QuestionLaws.{asked-stays, one-line, question-text}
-use Rattle.rh_drawn.specs.Deeds.{IsLikeReply, reply_to}
-use Rattle.rh_drawn.specs.Replies.{Excerpts}
+use Rattle.rh_drawn.specs.Deeds.{IsLikeReply}
 use Rattle.rh_drawn.proofs.deeds.answer.Goals as goal
 
 pub returns-in-Ask-clause-desk : goal.returns-in-Ask-clause-desk

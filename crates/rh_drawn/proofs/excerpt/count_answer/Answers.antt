@@ -1,8 +1,5 @@
-use Rattle.std.proofs.Common.{◌≡◌, ◌+◌, ◌∙◌, ap, sym, subst, length}
+use Rattle.rh_drawn.proofs.Common.{◌≡◌, ◌+◌, ◌∙◌, ap, sym, subst, length, asked, ended, answer_text}
 use Rattle.rh_defs.specs.declared.question.Question.{Question}
-use Rattle.rh_defs.specs.Questions.{asked}
-use Rattle.rh_defs.specs.Script.{ended}
-use Rattle.rh_defs.specs.Text.{answer_text}
 use Rattle.rh_drawn.proofs.AnswerLemmas.{areas-counted, blocks-counted, counted-is, heap-counted, show-counted, status-counted}
 use Rattle.rh_drawn.proofs.excerpt.count_answer.Goals as goal
 

@@ -1,5 +1,4 @@
-use Rattle.std.proofs.Common.{arith}
-use Rattle.std.proofs.lemmas.Option.{slice_get_within}
+use Rattle.rh_drawn.proofs.Common.{arith, slice_get_within}
 use Rattle.rh_sight.proofs.Places.{past-end}
 use Rattle.rh_drawn.proofs.excerpt.count_made.Goals as goal
 

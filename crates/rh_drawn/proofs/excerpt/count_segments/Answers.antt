@@ -1,9 +1,6 @@
-use Rattle.std.proofs.Common.{[], ap, refl, arith}
-use Rattle.std.specs.Option.{option_map}
-use Rattle.rh_defs.specs.Desk.{Task}
+use Rattle.rh_drawn.proofs.Common.{[], ap, refl, arith, option_map, Task, heap_seen}
 use Rattle.rh_sight.specs.declared.sight.HeapOf.TheVariants as heap_of
 use Rattle.rh_sight.specs.declared.walk.Census.{Census}
-use Rattle.rh_sight.specs.Seen.{heap_seen}
 use Rattle.rh_sight.specs.Walks.{ComesTo}
 use Rattle.rh_sight.proofs.Heaps.{room, seen, sized-many}
 use Rattle.rh_drawn.proofs.excerpt.count_segments.Goals as goal

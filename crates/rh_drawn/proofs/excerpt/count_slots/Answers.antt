@@ -1,7 +1,4 @@
-use Rattle.std.proofs.Common.{◌≡◌, ◌+◌, ◌∙◌, ap, length, arith}
-use Rattle.std.specs.Prelude.{List, ℕ}
-use Rattle.std.proofs.lemmas.Option.{slice_get_within}
-use Rattle.rh_defs.specs.Script.{ended}
+use Rattle.rh_drawn.proofs.Common.{◌≡◌, ◌+◌, ◌∙◌, ap, length, arith, List, ℕ, slice_get_within, ended}
 use Rattle.rh_drawn.proofs.AnswerLemmas.{ended-few, slots-all, slots-more, slots-none}
 use Rattle.rh_drawn.proofs.excerpt.count_slots.Goals as goal
 

@@ -1,8 +1,4 @@
-use Rattle.std.proofs.Common.{ℕ, length, sym, subst}
-use Rattle.rh_defs.specs.Questions.{asked}
-use Rattle.rh_defs.specs.Script.{ended}
-use Rattle.rh_defs.specs.Text.{answer_text}
-use Rattle.rh_drawn.specs.Replies.{Excerpts}
+use Rattle.rh_drawn.proofs.Common.{ℕ, length, sym, subst, asked, ended, answer_text, Excerpts}
 use Rattle.rh_drawn.proofs.AnswerLemmas.{answer-counted, counted-kept}
 use Rattle.rh_drawn.proofs.excerpt.excerpt_answer.Goals as goal
 

@@ -1,8 +1,4 @@
-use Rattle.std.proofs.Common.{◌≡◌, ◌∙◌, ℕ, length, ap, subst, sym}
-use Rattle.std.specs.Prelude.{max}
-use Rattle.rh_defs.specs.Text.{fault_text}
-use Rattle.rh_defs.specs.Script.{ended}
-use Rattle.rh_drawn.specs.Replies.{Excerpts}
+use Rattle.rh_drawn.proofs.Common.{◌≡◌, ◌∙◌, ℕ, length, ap, subst, sym, max, fault_text, ended, Excerpts}
 use Rattle.rh_drawn.proofs.ExcerptLemmas.{fault-one, one-kept}
 use Rattle.rh_drawn.proofs.excerpt.excerpt_fault.Goals as goal
 

@@ -1,9 +1,4 @@
-use Rattle.std.proofs.Common.{◌≡◌, ◌∙◌, ℕ, length, ap, subst, sym}
-use Rattle.std.specs.Prelude.{max}
-use Rattle.rh_defs.specs.Listing.{Nothing}
-use Rattle.rh_defs.specs.Script.{ended}
-use Rattle.rh_defs.specs.Text.{first_line}
-use Rattle.rh_drawn.specs.Replies.{Excerpts}
+use Rattle.rh_drawn.proofs.Common.{◌≡◌, ◌∙◌, ℕ, length, ap, subst, sym, max, Nothing, ended, first_line, Excerpts}
 use Rattle.rh_drawn.proofs.ExcerptLemmas.{first-one, one-kept}
 use Rattle.rh_drawn.proofs.excerpt.excerpt_reply.Goals as goal
 

@@ -1,8 +1,4 @@
-use Rattle.std.proofs.Common.{◌++◌, ap, sym}
-use Rattle.rh_defs.specs.Desk.{task_at}
-use Rattle.rh_map.specs.Written.{shown_lines}
-use Rattle.rh_sight.specs.Steps.{scene_at}
-use Rattle.rh_drawn.specs.Parts.{block_part, page_part, post_part, slide_part}
+use Rattle.rh_drawn.proofs.Common.{◌++◌, ap, sym, task_at, shown_lines, scene_at, block_part, page_part, post_part, slide_part}
 use Rattle.rh_drawn.proofs.FigureLemmas.{change-parts}
 use Rattle.rh_drawn.proofs.Walks.{lines_stop, lines_then, puts_same}
 use Rattle.rh_drawn.proofs.figure.print_changes.Goals as goal

@@ -1,7 +1,5 @@
-use Rattle.std.proofs.Common.{[], ◌∷◌, ◌++◌, ap, sym, refl}
-use Rattle.rh_map.specs.Written.{shown_lines}
-use Rattle.rh_sight.specs.Steps.{scene_at}
-use Rattle.rh_drawn.specs.Parts.{area_part, change_part, letter_part, module_part, pool_part, slot_part, transfer_part}
+use Rattle.rh_drawn.proofs.Common.{[], ◌∷◌, ◌++◌, ap, sym, refl, shown_lines, scene_at, area_part, slot_part}
+use Rattle.rh_drawn.specs.Parts.{change_part, letter_part, module_part, pool_part, transfer_part}
 use Rattle.rh_drawn.proofs.FigureLemmas.{behind_areas, behind_changes, behind_module, figure-parts}
 use Rattle.rh_drawn.proofs.Walks.{lines_stop, lines_then, puts_line, puts_same}
 use Rattle.rh_drawn.proofs.figure.print_figure.Goals as goal

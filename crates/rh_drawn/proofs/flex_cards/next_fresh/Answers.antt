@@ -1,7 +1,4 @@
-use Rattle.std.proofs.Common.{sym, ◌∙◌}
-use Rattle.rh_defs.specs.declared.listing.BlockItem.{BlockItem}
-use Rattle.rh_figure.specs.Layout.{is_fresh_flex}
-use Rattle.rh_sight.specs.Steps.{scene_at}
+use Rattle.rh_drawn.proofs.Common.{sym, ◌∙◌, BlockItem, is_fresh_flex, scene_at}
 use Rattle.rh_drawn.proofs.CardLemmas.{behind-here, behind-none, behind-on}
 use Rattle.rh_drawn.proofs.flex_cards.next_fresh.Goals as goal
 

@@ -1,9 +1,4 @@
-use Rattle.std.proofs.Common.{◌≡◌}
-use Rattle.rh_defs.specs.Desk.{Desk}
-use Rattle.rh_defs.specs.declared.listing.BlockItem.{BlockItem}
-use Rattle.rh_drawn.specs.Cards.{place_behind}
-use Rattle.rh_figure.specs.Layout.{is_fresh_flex}
-use Rattle.rh_sight.specs.Steps.{scene_at}
+use Rattle.rh_drawn.proofs.Common.{◌≡◌, Desk, BlockItem, place_behind, is_fresh_flex, scene_at}
 use Rattle.rh_drawn.proofs.flex_cards.next_fresh.Given as goal
 
 -- none so far has changed

@@ -1,15 +1,5 @@
-use Rattle.std.proofs.Common.{◌≡◌, ◌<◌, ◌-◌, [], ◌∷◌, Some, length, ap, ap₂, sym, ◌∙◌, arith}
-use Rattle.std.specs.Prelude.{slice_get}
-use Rattle.std.proofs.lemmas.Option.{slice_get-get_or}
-use Rattle.rh_defs.specs.declared.listing.BlockItem.{BlockItem}
-use Rattle.rh_defs.specs.Listing.{block_items}
-use Rattle.rh_defs.specs.Slot.{flex_start}
-use Rattle.rh_figure.specs.Cards.{flex_cards, more_card}
-use Rattle.rh_figure.specs.Layout.{is_fresh_flex}
-use Rattle.rh_map.specs.Written.{shown_lines}
-use Rattle.rh_sight.specs.Seen.{IsTaskSeen}
-use Rattle.rh_sight.specs.Steps.{scene_at}
-use Rattle.rh_drawn.specs.Cards.{card_lines, place_behind}
+use Rattle.rh_drawn.proofs.Common.{◌≡◌, ◌<◌, ◌-◌, [], ◌∷◌, Some, length, ap, ap₂, sym, ◌∙◌, arith, slice_get, slice_get-get_or, BlockItem, block_items}
+use Rattle.rh_drawn.proofs.Common.{flex_start, flex_cards, more_card, is_fresh_flex, shown_lines, IsTaskSeen, scene_at, card_lines, place_behind}
 use Rattle.rh_drawn.proofs.CardLemmas.{behind-are, flex-long, flex-picked, flex-unpicked}
 use Rattle.rh_drawn.proofs.DrawingLemmas.{seen-same}
 use Rattle.rh_drawn.proofs.Walks.{lines_stop, lines_then, puts_same}

@@ -1,13 +1,5 @@
-use Rattle.std.proofs.Common.{◌≡◌, ◌<◌, [], ◌∷◌, Some, length, take, ap, sym, refl, ◌∙◌, arith}
-use Rattle.std.specs.Prelude.{slice_get}
-use Rattle.std.proofs.lemmas.List.{length-take}
-use Rattle.std.proofs.lemmas.Option.{slice_get-get_or}
-use Rattle.rh_defs.specs.Listing.{block_items}
-use Rattle.rh_defs.specs.Slot.{flex_start}
-use Rattle.rh_figure.specs.Cards.{Card, flex_cards}
-use Rattle.rh_map.proofs.Left.{left_breaks, left_less, left_none, left_whole}
-use Rattle.rh_sight.specs.Steps.{scene_at}
-use Rattle.rh_drawn.specs.Cards.{card_lines}
+use Rattle.rh_drawn.proofs.Common.{◌≡◌, ◌<◌, [], ◌∷◌, Some, length, take, ap, sym, refl, ◌∙◌, arith, slice_get, length-take, slice_get-get_or, block_items}
+use Rattle.rh_drawn.proofs.Common.{flex_start, Card, flex_cards, left_breaks, left_less, left_none, left_whole, scene_at, card_lines}
 use Rattle.rh_drawn.proofs.CardLemmas.{card-at, flex-long, get-front}
 use Rattle.rh_drawn.proofs.DrawingLemmas.{seen-same}
 use Rattle.rh_drawn.proofs.Walks.{walk-end, walk-some}

@@ -1,11 +1,4 @@
-use Rattle.std.proofs.Common.{◌≡◌, drop, take}
-use Rattle.std.specs.Prelude.{Some, slice_get}
-use Rattle.rh_defs.specs.Desk.{Task}
-use Rattle.rh_figure.specs.Cards.{flex_cards}
-use Rattle.rh_map.specs.Written.{shown_lines}
-use Rattle.rh_map.proofs.Left.{Left}
-use Rattle.rh_sight.specs.Steps.{scene_at}
-use Rattle.rh_drawn.specs.Cards.{card_lines}
+use Rattle.rh_drawn.proofs.Common.{◌≡◌, drop, take, Some, slice_get, Task, flex_cards, shown_lines, Left, scene_at, card_lines}
 use Rattle.rh_drawn.proofs.flex_cards.print_first.Given as goal
 
 -- the cards from the place on are left

@@ -1,13 +1,7 @@
-use Rattle.std.proofs.Common.{ℕ, List, [], ◌∷◌, length, take, ap, ap₂, refl, sym, ◌∙◌, arith}
-use Rattle.std.specs.Prelude.{find}
-use Rattle.std.proofs.lemmas.List.{length-take}
+use Rattle.rh_drawn.proofs.Common.{ℕ, List, [], ◌∷◌, length, take, ap, ap₂, refl, sym, ◌∙◌, arith, find, length-take, flex_start, is_fresh_flex, card_line}
+use Rattle.rh_drawn.proofs.Common.{IsTaskSeen, scene_at}
 use Rattle.rh_defs.specs.Records.{is_document, is_source}
-use Rattle.rh_defs.specs.Slot.{flex_start}
 use Rattle.rh_figure.specs.Cards.{flex_card, in_use_text, out_use_text}
-use Rattle.rh_figure.specs.Layout.{is_fresh_flex}
-use Rattle.rh_figure.specs.Map.{card_line}
-use Rattle.rh_sight.specs.Seen.{IsTaskSeen}
-use Rattle.rh_sight.specs.Steps.{scene_at}
 use Rattle.rh_drawn.proofs.CardLemmas.{flex-here, front-is, item-block}
 use Rattle.rh_drawn.proofs.DrawingLemmas.{seen-same}
 use Rattle.rh_drawn.proofs.Walks.{puts_line}

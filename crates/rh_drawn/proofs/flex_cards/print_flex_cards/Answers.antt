@@ -1,11 +1,5 @@
-use Rattle.std.proofs.Common.{◌≡◌, length, take, ap, sym, ◌∙◌, arith}
-use Rattle.std.proofs.lemmas.List.{take_all}
-use Rattle.rh_defs.specs.Listing.{block_items}
-use Rattle.rh_defs.specs.Slot.{flex_start}
-use Rattle.rh_figure.specs.Cards.{flex_cards}
-use Rattle.rh_map.specs.Written.{shown_lines}
-use Rattle.rh_sight.specs.Steps.{scene_at}
-use Rattle.rh_drawn.specs.Cards.{card_lines, cards_behind, count_shown}
+use Rattle.rh_drawn.proofs.Common.{◌≡◌, length, take, ap, sym, ◌∙◌, arith, take_all, block_items, flex_start, flex_cards, shown_lines, scene_at, card_lines}
+use Rattle.rh_drawn.proofs.Common.{cards_behind, count_shown}
 use Rattle.rh_drawn.proofs.CardLemmas.{cards-append, count-few, count-many, count-within, flex-long, shown-few, shown-parts, shown-split, some-count}
 use Rattle.rh_drawn.proofs.DrawingLemmas.{seen-same}
 use Rattle.rh_drawn.proofs.Walks.{lines_stop, lines_then, puts_same}

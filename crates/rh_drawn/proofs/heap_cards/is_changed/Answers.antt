@@ -1,5 +1,4 @@
-use Rattle.std.proofs.Common.{ap, sym, ◌∙◌}
-use Rattle.rh_sight.specs.Steps.{scene_at}
+use Rattle.rh_drawn.proofs.Common.{ap, sym, ◌∙◌, scene_at}
 use Rattle.rh_drawn.specs.Bands.{is_fresh_block_of}
 use Rattle.rh_drawn.proofs.heap_cards.is_changed.Goals as goal
 

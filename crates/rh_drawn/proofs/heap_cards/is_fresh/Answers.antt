@@ -1,11 +1,6 @@
-use Rattle.std.proofs.Common.{◌≡◌, ℕ, ◌-◌, Option, Some, None, ap, refl, subst, sym, ◌∙◌}
-use Rattle.std.specs.Prelude.{◌==◌, find}
-use Rattle.rh_defs.specs.Messages.{Parcel}
-use Rattle.rh_figure.specs.Scene.{Scene, message_in}
-use Rattle.rh_defs.specs.declared.listing.MessageItem.{MessageItem}
-use Rattle.rh_sight.specs.Messages.{lies_in, message_items}
-use Rattle.rh_sight.specs.Steps.{scene_at}
-use Rattle.rh_drawn.specs.Bands.{is_fresh_at, is_fresh_card, is_fresh_or_posted}
+use Rattle.rh_drawn.proofs.Common.{◌≡◌, ℕ, ◌-◌, Option, Some, None, ap, refl, subst, sym, ◌∙◌, ◌==◌, find, Parcel, Scene, message_in, MessageItem, lies_in}
+use Rattle.rh_drawn.proofs.Common.{message_items, scene_at, is_fresh_card}
+use Rattle.rh_drawn.specs.Bands.{is_fresh_at, is_fresh_or_posted}
 use Rattle.rh_drawn.proofs.PostLemmas.{Told, message-told}
 use Rattle.rh_drawn.proofs.heap_cards.is_fresh.Goals as goal
 

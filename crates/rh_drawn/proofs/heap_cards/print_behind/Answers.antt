@@ -1,11 +1,6 @@
-use Rattle.std.proofs.Common.{◌≡◌, ◌∙◌, ◌+◌, ◌-◌, [], ◌∷◌, length, ap, sym, arith}
-use Rattle.rh_figure.specs.Cards.{more_card}
-use Rattle.rh_map.specs.Written.{shown_lines}
-use Rattle.rh_sight.specs.Seen.{heap_seen, heap_start_of}
-use Rattle.rh_sight.specs.Steps.{scene_at}
-use Rattle.rh_sight.proofs.Holders.{at-some}
-use Rattle.rh_drawn.specs.Bands.{IsSurvey, band_card, band_cards}
-use Rattle.rh_drawn.specs.Cards.{card_lines}
+use Rattle.rh_drawn.proofs.Common.{◌≡◌, ◌∙◌, ◌+◌, ◌-◌, [], ◌∷◌, length, ap, sym, arith, more_card, shown_lines, heap_seen, heap_start_of, scene_at, at-some}
+use Rattle.rh_drawn.proofs.Common.{IsSurvey, band_cards, card_lines}
+use Rattle.rh_drawn.specs.Bands.{band_card}
 use Rattle.rh_drawn.proofs.CardLemmas.{behind-are}
 use Rattle.rh_drawn.proofs.HeapLemmas.{band-heap, band-long, band-none, band-some, if-heap}
 use Rattle.rh_drawn.proofs.Walks.{lines_stop, lines_then, puts_same}

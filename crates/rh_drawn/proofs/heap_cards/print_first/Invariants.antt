@@ -1,11 +1,4 @@
-use Rattle.std.proofs.Common.{◌≡◌, Some, drop, take}
-use Rattle.rh_defs.specs.Heap.{Heap}
-use Rattle.rh_map.specs.Written.{shown_lines}
-use Rattle.rh_map.proofs.Left.{Left}
-use Rattle.rh_sight.specs.Seen.{heap_seen}
-use Rattle.rh_sight.specs.Steps.{scene_at}
-use Rattle.rh_drawn.specs.Bands.{band_cards}
-use Rattle.rh_drawn.specs.Cards.{card_lines}
+use Rattle.rh_drawn.proofs.Common.{◌≡◌, Some, drop, take, Heap, shown_lines, Left, heap_seen, scene_at, band_cards, card_lines}
 use Rattle.rh_drawn.proofs.heap_cards.print_first.Given as goal
 
 -- the cards from the place on are left

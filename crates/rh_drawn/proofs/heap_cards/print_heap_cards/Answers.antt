@@ -1,11 +1,5 @@
-use Rattle.std.proofs.Common.{◌≡◌, ◌∙◌, length, take, ap, sym, arith}
-use Rattle.std.proofs.lemmas.List.{take_all}
-use Rattle.rh_map.specs.Written.{shown_lines}
-use Rattle.rh_sight.specs.Seen.{heap_seen}
-use Rattle.rh_sight.specs.Steps.{scene_at}
-use Rattle.rh_sight.proofs.Holders.{at-some}
-use Rattle.rh_drawn.specs.Bands.{IsSurvey, band_cards}
-use Rattle.rh_drawn.specs.Cards.{card_lines, cards_behind, count_shown}
+use Rattle.rh_drawn.proofs.Common.{◌≡◌, ◌∙◌, length, take, ap, sym, arith, take_all, shown_lines, heap_seen, scene_at, at-some, IsSurvey, band_cards}
+use Rattle.rh_drawn.proofs.Common.{card_lines, cards_behind, count_shown}
 use Rattle.rh_drawn.proofs.CardLemmas.{cards-append, count-few, count-many, count-most, count-within, shown-few, shown-parts, shown-split, some-count}
 use Rattle.rh_drawn.proofs.HeapLemmas.{band-long, band-many, if-heap}
 use Rattle.rh_drawn.proofs.Walks.{lines_stop, lines_then, puts_same}

@@ -1,14 +1,9 @@
-use Rattle.std.proofs.Common.{◌≡◌, ℕ, Bool, Some, ap, ◌∙◌}
-use Rattle.std.specs.Prelude.{◌==◌}
+use Rattle.rh_drawn.proofs.Common.{◌≡◌, ℕ, Bool, Some, ap, ◌∙◌, ◌==◌, action_of, card_line, Text, task_name, scene_at}
 use Rattle.rh_defs.specs.declared.message.Action.{Action}
 use Rattle.rh_defs.specs.declared.message.EventCode.{EventCode}
-use Rattle.rh_defs.specs.Messages.{action_of}
 use Rattle.rh_figure.specs.Cards.{chain_text, message_card}
 use Rattle.rh_figure.specs.Layout.{is_new_message}
-use Rattle.rh_figure.specs.Map.{card_line}
-use Rattle.rh_figure.specs.Phrases.{Text, task_name}
 use Rattle.rh_sight.specs.Messages.{place_among}
-use Rattle.rh_sight.specs.Steps.{scene_at}
 use Rattle.rh_drawn.specs.Bands.{place_seen}
 use Rattle.rh_drawn.proofs.PostLemmas.{chain-is}
 use Rattle.rh_drawn.proofs.Walks.{puts_line}

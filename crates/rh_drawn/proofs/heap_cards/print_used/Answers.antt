@@ -1,8 +1,6 @@
-use Rattle.std.proofs.Common.{◌≡◌, ℕ, ◌-◌, List, [], ◌∷◌, length, take, ap₂, sym, subst, ◌∙◌, arith}
-use Rattle.std.proofs.lemmas.List.{length-take}
+use Rattle.rh_drawn.proofs.Common.{◌≡◌, ℕ, ◌-◌, List, [], ◌∷◌, length, take, ap₂, sym, subst, ◌∙◌, arith, length-take, card_line, HasBlock, heap_seen}
+use Rattle.rh_drawn.proofs.Common.{heap_start_of}
 use Rattle.rh_figure.specs.Cards.{used_card}
-use Rattle.rh_figure.specs.Map.{card_line}
-use Rattle.rh_sight.specs.Seen.{HasBlock, heap_seen, heap_start_of}
 use Rattle.rh_drawn.proofs.CardLemmas.{front-is}
 use Rattle.rh_drawn.proofs.Walks.{puts_line}
 use Rattle.rh_drawn.proofs.heap_cards.print_used.Goals as goal

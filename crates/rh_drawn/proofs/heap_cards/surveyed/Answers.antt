@@ -1,7 +1,4 @@
-use Rattle.std.proofs.Common.{◌+◌, drop, ap, sym, ◌∙◌, arith}
-use Rattle.std.proofs.lemmas.List.{drop_more, length-drop}
-use Rattle.rh_sight.specs.Steps.{scene_at}
-use Rattle.rh_drawn.specs.Bands.{is_fresh_card, with_items}
+use Rattle.rh_drawn.proofs.Common.{◌+◌, drop, ap, sym, ◌∙◌, arith, drop_more, length-drop, scene_at, is_fresh_card, with_items}
 use Rattle.rh_drawn.proofs.heap_cards.surveyed.Goals as goal
 
 pub loop-item-preserved : goal.loop-item-preserved

@@ -1,7 +1,5 @@
-use Rattle.std.proofs.Common.{◌≡◌, ◌+◌, drop, length}
-use Rattle.rh_defs.specs.Desk.{Desk}
-use Rattle.rh_drawn.specs.Bands.{is_fresh_card, with_items}
-use Rattle.rh_sight.specs.Steps.{IsStepOf, scene_at}
+use Rattle.rh_drawn.proofs.Common.{◌≡◌, ◌+◌, drop, length, Desk, is_fresh_card, with_items, scene_at}
+use Rattle.rh_sight.specs.Steps.{IsStepOf}
 use Rattle.rh_drawn.proofs.heap_cards.surveyed.Given as goal
 
 -- the segments from the place on are left

@@ -1,9 +1,6 @@
-use Rattle.std.proofs.Common.{◌∙◌, ◌-◌, length, take, ap, refl, arith}
-use Rattle.std.specs.Prelude.{slice_get}
-use Rattle.rh_sight.specs.Seen.{heap_seen, heap_start_of}
-use Rattle.rh_sight.specs.Steps.{scene_at}
+use Rattle.rh_drawn.proofs.Common.{◌∙◌, ◌-◌, length, take, ap, refl, arith, slice_get, heap_seen, heap_start_of, scene_at, IsSurvey, is_fresh_card}
+use Rattle.rh_drawn.proofs.Common.{with_items}
 use Rattle.rh_sight.proofs.Heaps.{comes-next, comes-parts, counted-all, counted-more, counted-none, seen, start-small, stepped, told}
-use Rattle.rh_drawn.specs.Bands.{IsSurvey, is_fresh_card, with_items}
 use Rattle.rh_drawn.proofs.HeapLemmas.{all-in-area, band-heap, from-first, if-heap, surveyed-all, surveyed-more}
 use Rattle.rh_drawn.proofs.heap_cards.take_survey.Goals as goal
 use Rattle.rh_defs.specs.declared.sizes.TheConstants.{SEGMENTS_AT_ONCE}

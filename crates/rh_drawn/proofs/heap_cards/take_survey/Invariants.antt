@@ -1,9 +1,5 @@
-use Rattle.std.proofs.Common.{◌≡◌, ◌-◌, Some}
-use Rattle.rh_defs.specs.Heap.{Heap}
-use Rattle.rh_sight.specs.Seen.{heap_seen, heap_start_of}
-use Rattle.rh_sight.specs.Steps.{scene_at}
+use Rattle.rh_drawn.proofs.Common.{◌≡◌, ◌-◌, Some, Heap, heap_seen, heap_start_of, scene_at, is_fresh_card}
 use Rattle.rh_sight.proofs.Heaps.{end_of}
-use Rattle.rh_drawn.specs.Bands.{is_fresh_card}
 use Rattle.rh_drawn.proofs.HeapLemmas.{Surveyed}
 use Rattle.rh_drawn.proofs.heap_cards.take_survey.Given as goal
 

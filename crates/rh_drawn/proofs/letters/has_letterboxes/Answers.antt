@@ -1,9 +1,5 @@
-use Rattle.std.proofs.Common.{◌≡◌, ◌<◌, ◌+◌, true, false, length, drop, ap, sym, refl, ◌∙◌, arith}
-use Rattle.std.specs.Prelude.{◌||◌}
-use Rattle.std.specs.List.{list_any}
-use Rattle.std.proofs.lemmas.Option.{slice_get_within}
-use Rattle.rh_defs.specs.Desk.{Task}
-use Rattle.rh_drawn.specs.Letters.{has_letters_in}
+use Rattle.rh_drawn.proofs.Common.{◌≡◌, ◌<◌, ◌+◌, true, false, length, drop, ap, sym, refl, ◌∙◌, arith, ◌||◌, list_any, slice_get_within, Task}
+use Rattle.rh_drawn.proofs.Common.{has_letters_in}
 use Rattle.rh_drawn.proofs.Walks.{walk-off, walk-on, walk-to}
 use Rattle.rh_drawn.proofs.letters.has_letterboxes.Goals as goal
 

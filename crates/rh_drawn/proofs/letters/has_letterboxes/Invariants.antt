@@ -1,7 +1,4 @@
-use Rattle.std.proofs.Common.{◌≡◌, ◌-◌, length, drop}
-use Rattle.std.specs.List.{list_any}
-use Rattle.rh_defs.specs.Desk.{Task}
-use Rattle.rh_drawn.specs.Letters.{has_letters_in}
+use Rattle.rh_drawn.proofs.Common.{◌≡◌, ◌-◌, length, drop, list_any, Task, has_letters_in}
 use Rattle.rh_drawn.proofs.letters.has_letterboxes.Given as goal
 
 -- no task so far has a message

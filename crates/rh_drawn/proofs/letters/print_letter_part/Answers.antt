@@ -1,8 +1,4 @@
-use Rattle.std.proofs.Common.{[], ◌∷◌, ap, sym, ◌∙◌, refl}
-use Rattle.std.specs.List.{flat_map}
-use Rattle.std.specs.Prelude.{codes}
-use Rattle.rh_figure.specs.Map.{under}
-use Rattle.rh_map.specs.Written.{shown_lines}
+use Rattle.rh_drawn.proofs.Common.{[], ◌∷◌, ap, sym, ◌∙◌, refl, flat_map, codes, under, shown_lines}
 use Rattle.rh_drawn.proofs.PostLemmas.{boxes, boxes-are, boxes-none, boxes-some}
 use Rattle.rh_drawn.proofs.Walks.{lines_stop, lines_then, puts_line, puts_none, puts_same}
 use Rattle.rh_drawn.proofs.letters.print_letter_part.Goals as goal

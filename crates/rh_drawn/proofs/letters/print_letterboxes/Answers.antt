@@ -1,13 +1,6 @@
-use Rattle.std.proofs.Common.{◌<◌, List, length, map, ap₂, subst, refl, arith}
-use Rattle.std.specs.List.{flat_map}
-use Rattle.std.proofs.lemmas.Option.{slice_get_within}
+use Rattle.rh_drawn.proofs.Common.{◌<◌, List, length, map, ap₂, subst, refl, arith, flat_map, slice_get_within, letterbox_line, Text, shown_lines, Left}
+use Rattle.rh_drawn.proofs.Common.{left_breaks, left_less, left_none, left_whole, scene_at, letterboxes_in}
 use Rattle.rh_figure.specs.Figure.{letterboxes}
-use Rattle.rh_figure.specs.Map.{letterbox_line}
-use Rattle.rh_figure.specs.Phrases.{Text}
-use Rattle.rh_map.specs.Written.{shown_lines}
-use Rattle.rh_map.proofs.Left.{Left, left_breaks, left_less, left_none, left_whole}
-use Rattle.rh_sight.specs.Steps.{scene_at}
-use Rattle.rh_drawn.specs.Letters.{letterboxes_in}
 use Rattle.rh_drawn.proofs.PostLemmas.{boxes, boxes-are}
 use Rattle.rh_drawn.proofs.Walks.{puts_same, walk-none, walk-some}
 use Rattle.rh_drawn.proofs.letters.print_letterboxes.Goals as goal

@@ -1,13 +1,5 @@
-use Rattle.std.proofs.Common.{◌-◌, length, drop}
-use Rattle.std.specs.Prelude.{map}
-use Rattle.std.specs.List.{flat_map}
-use Rattle.rh_defs.specs.Desk.{Task}
-use Rattle.rh_drawn.specs.Letters.{letterboxes_in}
+use Rattle.rh_drawn.proofs.Common.{◌-◌, length, drop, map, flat_map, Task, letterboxes_in, letterbox_line, scene_at, shown_lines, Left}
 use Rattle.rh_figure.specs.Figure.{letterboxes}
-use Rattle.rh_figure.specs.Map.{letterbox_line}
-use Rattle.rh_sight.specs.Steps.{scene_at}
-use Rattle.rh_map.specs.Written.{shown_lines}
-use Rattle.rh_map.proofs.Left.{Left}
 use Rattle.rh_drawn.proofs.letters.print_letterboxes.Given as goal
 
 -- the tasks from the place on are left

@@ -1,5 +1,4 @@
-use Rattle.std.proofs.Common.{take, arith}
-use Rattle.std.proofs.lemmas.List.{length-take}
+use Rattle.rh_drawn.proofs.Common.{take, arith, length-take}
 use Rattle.rh_drawn.proofs.PostLemmas.{waits-few}
 use Rattle.rh_drawn.proofs.letters.waits_of.Goals as goal
 

@@ -1,5 +1,4 @@
-use Rattle.std.proofs.Common.{◌≡◌, length, take}
-use Rattle.std.specs.Prelude.{filter, map, min}
+use Rattle.rh_drawn.proofs.Common.{◌≡◌, length, take, filter, map, min}
 use Rattle.rh_drawn.specs.Letters.{entry_seen}
 use Rattle.rh_figure.specs.declared.limits.TheConstants.{MOST_LISTED}
 use Rattle.rh_sight.specs.Messages.{waits_for}

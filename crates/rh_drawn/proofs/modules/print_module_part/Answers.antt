@@ -1,16 +1,10 @@
-use Rattle.std.proofs.Common.{ℕ, ◌++◌, [], ◌∷◌, length, ap, refl, ◌∙◌, arith}
-use Rattle.std.specs.Prelude.{codes}
-use Rattle.rh_defs.specs.Desk.{module_pages}
-use Rattle.rh_figure.specs.Cards.{module_cards, shown_cards}
+use Rattle.rh_drawn.proofs.Common.{ℕ, ◌++◌, [], ◌∷◌, length, ap, refl, ◌∙◌, arith, codes, module_pages, shown_cards, heading_line, Text, area_rows, AreaOf}
+use Rattle.rh_drawn.proofs.Common.{shown_lines, scene_at, card_lines}
+use Rattle.rh_figure.specs.Cards.{module_cards}
 use Rattle.rh_figure.specs.Figure.{module_drawing}
-use Rattle.rh_figure.specs.Map.{heading_line, name_with_mark}
-use Rattle.rh_figure.specs.Phrases.{Text, pages_text}
-use Rattle.rh_figure.specs.Rows.{area_rows}
-use Rattle.rh_figure.specs.Share.{AreaOf}
-use Rattle.rh_map.specs.Written.{shown_lines}
+use Rattle.rh_figure.specs.Map.{name_with_mark}
+use Rattle.rh_figure.specs.Phrases.{pages_text}
 use Rattle.rh_sight.specs.declared.sight.PagesOf.TheVariants as pages
-use Rattle.rh_sight.specs.Steps.{scene_at}
-use Rattle.rh_drawn.specs.Cards.{card_lines}
 use Rattle.rh_drawn.proofs.DrawingLemmas.{rows-are}
 use Rattle.rh_drawn.proofs.PageLemmas.{owned, owned-few, seen-fixed}
 use Rattle.rh_drawn.proofs.Walks.{lines_stop, lines_then, puts_line, puts_same}

@@ -1,11 +1,6 @@
-use Rattle.std.proofs.Common.{◌<◌, ◌≤◌, ◌-◌, ◌++◌, length, drop, ap, ap₂, sym, ◌∙◌, arith, rules}
-use Rattle.std.specs.Prelude.{codes}
-use Rattle.std.proofs.lemmas.List.{length-drop, length-take, take_rest}
-use Rattle.rh_figure.specs.Changes.{taken_line}
-use Rattle.rh_figure.specs.Phrases.{area_name}
-use Rattle.rh_figure.specs.Share.{AreaOf, count_of}
-use Rattle.rh_map.specs.Written.{shown_lines}
-use Rattle.rh_sight.specs.Steps.{scene_at}
+use Rattle.rh_drawn.proofs.Common.{◌<◌, ◌≤◌, ◌-◌, ◌++◌, length, drop, ap, ap₂, sym, ◌∙◌, arith, rules, codes, length-drop, length-take, taken_line, area_name}
+use Rattle.rh_drawn.proofs.Common.{AreaOf, count_of, shown_lines, scene_at}
+use Rattle.std.proofs.lemmas.List.{take_rest}
 use Rattle.rh_drawn.proofs.PageLemmas.{owned, owned-few, takes-some}
 use Rattle.rh_drawn.proofs.Walks.{puts_line, puts_same}
 use Rattle.rh_drawn.proofs.page_changes.print_area_part.Goals as goal

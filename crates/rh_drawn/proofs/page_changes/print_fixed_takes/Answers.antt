@@ -1,17 +1,8 @@
-use Rattle.std.proofs.Common.{◌≡◌, ℕ, ◌<◌, ◌≤◌, ◌+◌, ◌++◌, [], length, drop, map, ap, refl, ◌∙◌, arith}
-use Rattle.std.specs.Prelude.{slice_index}
-use Rattle.std.specs.List.{enumerate_from, flat_map}
-use Rattle.std.proofs.lemmas.List.{drop_all}
-use Rattle.rh_defs.specs.Desk.{Desk}
-use Rattle.rh_figure.specs.Scene.{Scene}
-use Rattle.rh_figure.specs.Share.{AreaOf, fixed_holding}
-use Rattle.rh_map.specs.Written.{shown_lines}
-use Rattle.rh_map.proofs.Left.{left_breaks, left_less, left_none, left_whole}
-use Rattle.rh_map.proofs.SeamLemmas.{shown-append}
+use Rattle.rh_drawn.proofs.Common.{◌≡◌, ℕ, ◌<◌, ◌≤◌, ◌+◌, ◌++◌, [], length, drop, map, ap, refl, ◌∙◌, arith, slice_index, enumerate_from, flat_map, drop_all}
+use Rattle.rh_drawn.proofs.Common.{Desk, Scene, AreaOf, fixed_holding, shown_lines, left_breaks, left_less, left_none, left_whole, shown-append, scene_at}
+use Rattle.rh_drawn.proofs.Common.{takes_part}
 use Rattle.rh_sight.specs.declared.sight.PagesOf.TheVariants as pages
-use Rattle.rh_sight.specs.Steps.{scene_at}
 use Rattle.rh_sight.proofs.Holders.{count-fixed}
-use Rattle.rh_drawn.specs.Parts.{takes_part}
 use Rattle.rh_drawn.proofs.PageLemmas.{numbered-next, seen-fixed}
 use Rattle.rh_drawn.proofs.Walks.{puts_same}
 use Rattle.rh_drawn.proofs.page_changes.print_fixed_takes.Goals as goal

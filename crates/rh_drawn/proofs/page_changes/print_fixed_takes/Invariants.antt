@@ -1,10 +1,4 @@
-use Rattle.std.proofs.Common.{drop, map}
-use Rattle.std.specs.List.{enumerate_from, flat_map}
-use Rattle.rh_figure.specs.Share.{fixed_holding}
-use Rattle.rh_map.specs.Written.{shown_lines}
-use Rattle.rh_map.proofs.Left.{Left}
-use Rattle.rh_sight.specs.Steps.{scene_at}
-use Rattle.rh_drawn.specs.Parts.{takes_part}
+use Rattle.rh_drawn.proofs.Common.{drop, map, enumerate_from, flat_map, fixed_holding, shown_lines, Left, scene_at, takes_part}
 use Rattle.rh_drawn.proofs.page_changes.print_fixed_takes.Given as goal
 
 -- the areas from the number on are left

@@ -1,15 +1,7 @@
-use Rattle.std.proofs.Common.{◌<◌, List, length, ap, map, refl, arith}
-use Rattle.std.specs.List.{flat_map}
-use Rattle.std.specs.Option.{option_map}
-use Rattle.std.proofs.lemmas.Option.{slice_get_within}
-use Rattle.rh_defs.specs.Desk.{Made}
-use Rattle.rh_figure.specs.Share.{AreaOf}
-use Rattle.rh_map.proofs.Left.{left_breaks, left_less, left_none}
+use Rattle.rh_drawn.proofs.Common.{◌<◌, List, length, ap, map, refl, arith, flat_map, option_map, slice_get_within, Made, AreaOf, left_breaks, left_less}
+use Rattle.rh_drawn.proofs.Common.{left_none, made_holding, scene_at, takes_part}
 use Rattle.rh_sight.specs.declared.sight.PagesOf.TheVariants as pages
-use Rattle.rh_sight.specs.Owners.{made_holding}
-use Rattle.rh_sight.specs.Steps.{scene_at}
 use Rattle.rh_sight.proofs.Holders.{count-made}
-use Rattle.rh_drawn.specs.Parts.{takes_part}
 use Rattle.rh_drawn.proofs.Walks.{walk-none, walk-some}
 use Rattle.rh_drawn.proofs.page_changes.print_made_takes.Goals as goal
 

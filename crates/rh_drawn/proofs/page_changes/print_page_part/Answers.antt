@@ -1,16 +1,7 @@
-use Rattle.std.proofs.Common.{◌≡◌, ◌++◌, List, [], ◌∷◌, map, ap, ap₂, sym, refl, ◌∙◌, append_assoc}
-use Rattle.std.specs.Prelude.{codes}
-use Rattle.std.specs.List.{enumerate_from, flat_map}
-use Rattle.std.proofs.lemmas.Grind.{flat_map-append}
-use Rattle.rh_defs.specs.Desk.{Desk, Made, Task, task_pages}
+use Rattle.rh_drawn.proofs.Common.{◌≡◌, ◌++◌, List, [], ◌∷◌, map, ap, ap₂, sym, refl, ◌∙◌, append_assoc, codes, enumerate_from, flat_map, flat_map-append}
+use Rattle.rh_drawn.proofs.Common.{Desk, Made, Task, task_pages, Text, Scene, AreaOf, Holding, SlotOf, fixed_holding, holdings, shown_lines, made_holding}
+use Rattle.rh_drawn.proofs.Common.{slot_holding, scene_at, indented, page_part, takes_part}
 use Rattle.rh_figure.specs.Changes.{freed_pages, freed_text, takes_text}
-use Rattle.rh_figure.specs.Phrases.{Text}
-use Rattle.rh_figure.specs.Scene.{Scene}
-use Rattle.rh_figure.specs.Share.{AreaOf, Holding, SlotOf, fixed_holding, holdings}
-use Rattle.rh_map.specs.Written.{shown_lines}
-use Rattle.rh_sight.specs.Owners.{made_holding, slot_holding}
-use Rattle.rh_sight.specs.Steps.{scene_at}
-use Rattle.rh_drawn.specs.Parts.{indented, page_part, takes_part}
 use Rattle.rh_drawn.proofs.TransferLemmas.{map-flat}
 use Rattle.rh_drawn.proofs.Walks.{indented-append, lines_stop, lines_then, puts_same}
 use Rattle.rh_drawn.proofs.page_changes.print_page_part.Goals as goal

@@ -1,14 +1,8 @@
-use Rattle.std.proofs.Common.{◌≡◌, ◌<◌, ◌≤◌, ◌-◌, ◌++◌, length, drop, ap, ap₂, sym, ◌∙◌, arith, rules}
-use Rattle.std.specs.Prelude.{codes}
-use Rattle.std.proofs.lemmas.List.{length-drop, length-take, take_rest}
-use Rattle.rh_figure.specs.Changes.{taken_line}
+use Rattle.rh_drawn.proofs.Common.{◌≡◌, ◌<◌, ◌≤◌, ◌-◌, ◌++◌, length, drop, ap, ap₂, sym, ◌∙◌, arith, rules, codes, length-drop, length-take, taken_line}
+use Rattle.rh_drawn.proofs.Common.{SlotOf, count_of, shown_lines, task_at, task_pages, IsTaskSeen, scene_at}
+use Rattle.std.proofs.lemmas.List.{take_rest}
 use Rattle.rh_figure.specs.Phrases.{name_or}
-use Rattle.rh_figure.specs.Share.{SlotOf, count_of}
-use Rattle.rh_map.specs.Written.{shown_lines}
-use Rattle.rh_defs.specs.Desk.{task_at, task_pages}
 use Rattle.rh_sight.specs.declared.sight.PagesOf.TheVariants as pages
-use Rattle.rh_sight.specs.Seen.{IsTaskSeen}
-use Rattle.rh_sight.specs.Steps.{scene_at}
 use Rattle.rh_drawn.proofs.DrawingLemmas.{seen-same, task-stands}
 use Rattle.rh_drawn.proofs.PageLemmas.{owned, owned-few, owned-slot, seen-slot, takes-some}
 use Rattle.rh_drawn.proofs.Walks.{puts_line, puts_same}

@@ -1,11 +1,5 @@
-use Rattle.std.proofs.Common.{◌<◌, List, length, map, refl, arith}
-use Rattle.std.specs.List.{flat_map}
-use Rattle.std.proofs.lemmas.Option.{slice_get_within}
-use Rattle.rh_defs.specs.Desk.{Task}
-use Rattle.rh_map.proofs.Left.{left_breaks, left_less, left_none}
-use Rattle.rh_sight.specs.Owners.{slot_holding}
-use Rattle.rh_sight.specs.Steps.{scene_at}
-use Rattle.rh_drawn.specs.Parts.{takes_part}
+use Rattle.rh_drawn.proofs.Common.{◌<◌, List, length, map, refl, arith, flat_map, slice_get_within, Task, left_breaks, left_less, left_none, slot_holding}
+use Rattle.rh_drawn.proofs.Common.{scene_at, takes_part}
 use Rattle.rh_drawn.proofs.Walks.{walk-none, walk-some}
 use Rattle.rh_drawn.proofs.page_changes.print_slots_take.Goals as goal
 

@@ -1,11 +1,4 @@
-use Rattle.std.proofs.Common.{◌-◌, length, drop}
-use Rattle.std.specs.Prelude.{map}
-use Rattle.std.specs.List.{flat_map}
-use Rattle.rh_drawn.specs.Parts.{takes_part}
-use Rattle.rh_sight.specs.Owners.{slot_holding}
-use Rattle.rh_sight.specs.Steps.{scene_at}
-use Rattle.rh_map.specs.Written.{shown_lines}
-use Rattle.rh_map.proofs.Left.{Left}
+use Rattle.rh_drawn.proofs.Common.{◌-◌, length, drop, map, flat_map, takes_part, slot_holding, scene_at, shown_lines, Left}
 use Rattle.rh_drawn.proofs.page_changes.print_slots_take.Given as goal
 
 -- the slots from the place on are left

@@ -1,5 +1,4 @@
-use Rattle.std.proofs.Common.{◌≡◌, ◌++◌, drop}
-use Rattle.std.specs.Prelude.{replicate}
+use Rattle.rh_drawn.proofs.Common.{◌≡◌, ◌++◌, drop, replicate}
 use Rattle.rh_drawn.proofs.pool.clear.Given as goal
 
 -- those so far are free

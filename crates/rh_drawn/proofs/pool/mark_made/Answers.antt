@@ -1,10 +1,6 @@
-use Rattle.std.proofs.Common.{[], ◌<◌, ◌+◌, length, drop, map, ap, ap₂, sym, ◌∙◌, arith}
-use Rattle.std.proofs.lemmas.Option.{slice_get_within}
-use Rattle.rh_figure.specs.Share.{AreaOf}
+use Rattle.rh_drawn.proofs.Common.{[], ◌<◌, ◌+◌, length, drop, map, ap, ap₂, sym, ◌∙◌, arith, slice_get_within, AreaOf, share_in, rest-none, rest-some}
+use Rattle.rh_drawn.proofs.Common.{made_pages, marked, marked_all}
 use Rattle.rh_sight.specs.declared.sight.PagesOf.TheVariants as pages
-use Rattle.rh_sight.specs.Pages.{share_in}
-use Rattle.rh_sight.proofs.Places.{rest-none, rest-some}
-use Rattle.rh_drawn.specs.Marked.{made_pages, marked, marked_all}
 use Rattle.rh_drawn.proofs.PageLemmas.{owned, seen-made}
 use Rattle.rh_drawn.proofs.pool.mark_made.Goals as goal
 

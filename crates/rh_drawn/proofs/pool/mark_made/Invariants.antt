@@ -1,7 +1,4 @@
-use Rattle.std.proofs.Common.{◌≡◌, ◌-◌, length, drop}
-use Rattle.std.specs.Prelude.{map}
-use Rattle.rh_drawn.specs.Marked.{made_pages, marked_all}
-use Rattle.rh_sight.specs.Pages.{share_in}
+use Rattle.rh_drawn.proofs.Common.{◌≡◌, ◌-◌, length, drop, map, made_pages, marked_all, share_in}
 use Rattle.rh_drawn.proofs.pool.mark_made.Given as goal
 
 -- the areas from the place on are left

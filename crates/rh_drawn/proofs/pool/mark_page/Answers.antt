@@ -1,5 +1,4 @@
-use Rattle.std.proofs.Common.{eq-eqb, sym, arith}
-use Rattle.std.proofs.lemmas.Bool.{ne_eqb}
+use Rattle.rh_drawn.proofs.Common.{eq-eqb, sym, arith, ne_eqb}
 use Rattle.rh_drawn.proofs.MarkLemmas.{one-at, one-off, one-taken}
 use Rattle.rh_drawn.proofs.pool.mark_page.Goals as goal
 use Rattle.rh_drawn.proofs.pool.mark_page.Goals.{else-k-marks-via-then-k-marks+else-marks-k-eq-FREE, else-k-marks-via-else-k-marks}

@@ -1,6 +1,5 @@
-use Rattle.std.proofs.Common.{[], ◌∷◌, ap, sym, ◌∙◌, take, get_or}
-use Rattle.std.proofs.lemmas.List.{take_all, take_more}
-use Rattle.rh_drawn.specs.Marked.{marked}
+use Rattle.rh_drawn.proofs.Common.{[], ◌∷◌, ap, sym, ◌∙◌, take, get_or, take_all, marked}
+use Rattle.std.proofs.lemmas.List.{take_more}
 use Rattle.rh_drawn.proofs.MarkLemmas.{marked-both, marked-none}
 use Rattle.rh_drawn.proofs.pool.mark_pages.Goals as goal
 

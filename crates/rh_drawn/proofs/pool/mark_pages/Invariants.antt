@@ -1,5 +1,4 @@
-use Rattle.std.proofs.Common.{◌≡◌, take}
-use Rattle.rh_drawn.specs.Marked.{marked}
+use Rattle.rh_drawn.proofs.Common.{◌≡◌, take, marked}
 use Rattle.rh_drawn.proofs.pool.mark_pages.Given as goal
 
 -- the pages so far are marked

@@ -1,8 +1,4 @@
-use Rattle.std.proofs.Common.{◌≡◌, drop, map}
-use Rattle.std.specs.Prelude.{replicate}
-use Rattle.std.specs.List.{enumerate_from}
-use Rattle.rh_sight.specs.Pages.{share_in}
-use Rattle.rh_drawn.specs.Marked.{marked_all}
+use Rattle.rh_drawn.proofs.Common.{◌≡◌, drop, map, replicate, enumerate_from, share_in, marked_all}
 use Rattle.rh_drawn.proofs.MarkLemmas.{fixed_pages}
 use Rattle.rh_drawn.proofs.pool.mark_pool.Given as goal
 

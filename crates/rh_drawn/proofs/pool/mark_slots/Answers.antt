@@ -1,10 +1,6 @@
-use Rattle.std.proofs.Common.{suc, add-one, ◌<◌, ◌+◌, length, drop, ap, ap₂, sym, ◌∙◌, arith}
-use Rattle.std.proofs.lemmas.Option.{slice_get_within}
-use Rattle.rh_figure.specs.Share.{SlotOf}
+use Rattle.rh_drawn.proofs.Common.{suc, add-one, ◌<◌, ◌+◌, length, drop, ap, ap₂, sym, ◌∙◌, arith, slice_get_within, SlotOf, share_in, rest-none, rest-some}
+use Rattle.rh_drawn.proofs.Common.{marked, marked_all, slot_pages_from}
 use Rattle.rh_sight.specs.declared.sight.PagesOf.TheVariants as pages
-use Rattle.rh_sight.specs.Pages.{share_in}
-use Rattle.rh_sight.proofs.Places.{rest-none, rest-some}
-use Rattle.rh_drawn.specs.Marked.{marked, marked_all, slot_pages_from}
 use Rattle.rh_drawn.proofs.PageLemmas.{owned, seen-slot}
 use Rattle.rh_drawn.proofs.pool.mark_slots.Goals as goal
 

@@ -1,6 +1,4 @@
-use Rattle.std.proofs.Common.{◌≡◌, ◌-◌, length, drop}
-use Rattle.rh_drawn.specs.Marked.{marked_all, slot_pages_from}
-use Rattle.rh_sight.specs.Pages.{share_in}
+use Rattle.rh_drawn.proofs.Common.{◌≡◌, ◌-◌, length, drop, marked_all, slot_pages_from, share_in}
 use Rattle.rh_drawn.proofs.pool.mark_slots.Given as goal
 
 -- the slots from the place on are left

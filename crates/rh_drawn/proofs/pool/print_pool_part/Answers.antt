@@ -1,9 +1,6 @@
-use Rattle.std.proofs.Common.{[], ◌∷◌, ap, ap₂, sym, ◌∙◌}
-use Rattle.rh_figure.specs.Figure.{figure}
+use Rattle.rh_drawn.proofs.Common.{[], ◌∷◌, ap, ap₂, sym, ◌∙◌, figure, shown_lines, scene_at}
 use Rattle.rh_figure.specs.Map.{pool_heading, pool_line}
 use Rattle.rh_figure.specs.Rows.{marks_rows, pool_rows}
-use Rattle.rh_map.specs.Written.{shown_lines}
-use Rattle.rh_sight.specs.Steps.{scene_at}
 use Rattle.rh_drawn.proofs.FigureLemmas.{pool-heading, pool-rows}
 use Rattle.rh_drawn.proofs.Walks.{lines_stop, lines_then, puts_line, puts_same}
 use Rattle.rh_drawn.proofs.pool.print_pool_part.Goals as goal

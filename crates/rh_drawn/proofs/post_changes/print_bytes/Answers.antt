@@ -1,9 +1,5 @@
-use Rattle.std.proofs.Common.{◌++◌, ap, sym}
-use Rattle.std.specs.Prelude.{codes}
+use Rattle.rh_drawn.proofs.Common.{◌++◌, ap, sym, codes, scene_of, shown_lines, indented}
 use Rattle.rh_figure.specs.Changes.{bytes_line, bytes_sent_text}
-use Rattle.rh_figure.specs.Scene.{scene_of}
-use Rattle.rh_map.specs.Written.{shown_lines}
-use Rattle.rh_drawn.specs.Parts.{indented}
 use Rattle.rh_drawn.proofs.Walks.{puts_line, puts_same}
 use Rattle.rh_drawn.proofs.post_changes.print_bytes.Goals as goal
 

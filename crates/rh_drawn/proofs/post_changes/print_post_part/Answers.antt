@@ -1,14 +1,8 @@
-use Rattle.std.proofs.Common.{◌≡◌, ◌++◌, List, map, ap, sym, ◌∙◌, append_assoc}
-use Rattle.std.specs.Prelude.{◌==◌, ◌&&◌, filter}
-use Rattle.std.specs.Option.{option_map}
-use Rattle.rh_defs.specs.Messages.{Parcel}
+use Rattle.rh_drawn.proofs.Common.{◌≡◌, ◌++◌, List, map, ap, sym, ◌∙◌, append_assoc, ◌==◌, ◌&&◌, filter, option_map, Parcel, Text, is_returned, Scene}
+use Rattle.rh_drawn.proofs.Common.{shown_lines, scene_at, indented, post_part}
 use Rattle.rh_figure.specs.Changes.{returns_text, sent_text, taken_text}
-use Rattle.rh_figure.specs.Phrases.{Text, is_returned}
-use Rattle.rh_figure.specs.Scene.{Scene, waiting}
-use Rattle.rh_map.specs.Written.{shown_lines}
+use Rattle.rh_figure.specs.Scene.{waiting}
 use Rattle.rh_sight.specs.Seen.{letter_seen}
-use Rattle.rh_sight.specs.Steps.{scene_at}
-use Rattle.rh_drawn.specs.Parts.{indented, post_part}
 use Rattle.rh_drawn.proofs.Walks.{indented-append, lines_stop, lines_then, puts_none, puts_same}
 use Rattle.rh_drawn.proofs.post_changes.print_post_part.Goals as goal
 

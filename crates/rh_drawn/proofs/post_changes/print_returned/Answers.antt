@@ -1,16 +1,8 @@
-use Rattle.std.proofs.Common.{◌≡◌, ℕ, ◌++◌, Bool, true, false, List, [], ◌∷◌, map, ap, sym, subst, refl, ◌∙◌, append-nil}
-use Rattle.std.specs.Prelude.{◌==◌, ◌&&◌, filter}
-use Rattle.std.specs.List.{flat_map}
-use Rattle.std.proofs.lemmas.Grind.{flat_map-append}
-use Rattle.rh_defs.specs.Desk.{Desk}
-use Rattle.rh_defs.specs.Messages.{Parcel, action_of}
+use Rattle.rh_drawn.proofs.Common.{◌≡◌, ℕ, ◌++◌, Bool, true, false, List, [], ◌∷◌, map, ap, sym, subst, refl, ◌∙◌, append-nil, ◌==◌, ◌&&◌, filter, flat_map}
+use Rattle.rh_drawn.proofs.Common.{flat_map-append, Desk, Parcel, action_of, Text, is_returned, task_name, shown_lines, Left, left_breaks, left_less}
+use Rattle.rh_drawn.proofs.Common.{left_none, left_whole, MessageItem, held_on, message_items, waiting_on, indented}
 use Rattle.rh_figure.specs.Changes.{returns_line}
-use Rattle.rh_figure.specs.Phrases.{Text, is_returned, task_name}
-use Rattle.rh_map.specs.Written.{shown_lines}
-use Rattle.rh_map.proofs.Left.{Left, left_breaks, left_less, left_none, left_whole}
-use Rattle.rh_defs.specs.declared.listing.MessageItem.{MessageItem}
-use Rattle.rh_sight.specs.Messages.{held_on, item_of, message_items, waiting_on}
-use Rattle.rh_drawn.specs.Parts.{indented}
+use Rattle.rh_sight.specs.Messages.{item_of}
 use Rattle.rh_drawn.specs.Returns.{return_lines}
 use Rattle.rh_drawn.proofs.Walks.{indented-each, walk-at, walk-end}
 use Rattle.rh_drawn.proofs.post_changes.print_returned.Goals as goal

@@ -1,14 +1,6 @@
-use Rattle.std.proofs.Common.{drop}
-use Rattle.std.specs.Prelude.{◌==◌, ◌&&◌, filter, map}
-use Rattle.std.specs.List.{flat_map}
-use Rattle.rh_defs.specs.Messages.{Parcel}
+use Rattle.rh_drawn.proofs.Common.{drop, ◌==◌, ◌&&◌, filter, map, flat_map, Parcel, is_returned, shown_lines, Left, scene_at, indented}
 use Rattle.rh_figure.specs.Changes.{returns_text}
-use Rattle.rh_figure.specs.Phrases.{is_returned}
 use Rattle.rh_figure.specs.Scene.{waiting}
-use Rattle.rh_map.specs.Written.{shown_lines}
-use Rattle.rh_map.proofs.Left.{Left}
-use Rattle.rh_sight.specs.Steps.{scene_at}
-use Rattle.rh_drawn.specs.Parts.{indented}
 use Rattle.rh_drawn.specs.Returns.{return_lines}
 use Rattle.rh_drawn.proofs.post_changes.print_returned.Given as goal
 

@@ -1,9 +1,5 @@
-use Rattle.std.proofs.Common.{◌++◌, ap, sym}
-use Rattle.std.specs.Prelude.{codes}
+use Rattle.rh_drawn.proofs.Common.{◌++◌, ap, sym, codes, shown_lines, scene_at, indented}
 use Rattle.rh_figure.specs.Changes.{taken_text, takes_line}
-use Rattle.rh_map.specs.Written.{shown_lines}
-use Rattle.rh_sight.specs.Steps.{scene_at}
-use Rattle.rh_drawn.specs.Parts.{indented}
 use Rattle.rh_drawn.proofs.Walks.{puts_line, puts_none, puts_same}
 use Rattle.rh_drawn.proofs.post_changes.print_taken.Goals as goal
 

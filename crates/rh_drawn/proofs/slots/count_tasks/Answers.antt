@@ -1,6 +1,4 @@
-use Rattle.std.proofs.Common.{◌<◌, length, ap, arith}
-use Rattle.std.proofs.lemmas.Option.{slice_get_within}
-use Rattle.rh_sight.proofs.Places.{rest-none, rest-some}
+use Rattle.rh_drawn.proofs.Common.{◌<◌, length, ap, arith, slice_get_within, rest-none, rest-some}
 use Rattle.rh_drawn.proofs.slots.count_tasks.Goals as goal
 
 pub overflow_add-i : goal.overflow_add-i

@@ -1,13 +1,8 @@
-use Rattle.std.proofs.Common.{ℕ, Bool, ap, sym, ◌∙◌}
-use Rattle.std.specs.Prelude.{codes}
+use Rattle.rh_drawn.proofs.Common.{ℕ, Bool, ap, sym, ◌∙◌, codes, heading_line, Text, position, task_pages, slot_panels}
 use Rattle.rh_defs.specs.declared.command.Manner.{Manner}
 use Rattle.rh_figure.specs.Figure.{note_of_slot}
-use Rattle.rh_figure.specs.Map.{heading_line, name_with_mark}
-use Rattle.rh_figure.specs.Phrases.{Text}
+use Rattle.rh_figure.specs.Map.{name_with_mark}
 use Rattle.rh_figure.specs.Rows.{letter_at}
-use Rattle.std.specs.List.{position}
-use Rattle.rh_defs.specs.Desk.{task_pages}
-use Rattle.rh_drawn.specs.Parts.{slot_panels}
 use Rattle.rh_drawn.proofs.DrawingLemmas.{is_slot_of}
 use Rattle.rh_drawn.proofs.Walks.{puts_line}
 use Rattle.rh_drawn.proofs.slots.print_heading.Goals as goal

@@ -1,11 +1,7 @@
-use Rattle.std.proofs.Common.{◌≡◌, Bool, true, false, [], ◌∷◌, Some, None, ap, sym, ◌∙◌, arith}
-use Rattle.std.specs.Prelude.{if◌then◌else◌}
-use Rattle.std.proofs.lemmas.Option.{slice_get_within}
+use Rattle.rh_drawn.proofs.Common.{◌≡◌, Bool, true, false, [], ◌∷◌, Some, None, ap, sym, ◌∙◌, arith, if◌then◌else◌, slice_get_within, shown_lines, IsTaskSeen}
+use Rattle.rh_drawn.proofs.Common.{scene_at}
 use Rattle.rh_figure.specs.Figure.{is_drawn, slot_drawing}
 use Rattle.rh_figure.specs.Map.{drawing_lines}
-use Rattle.rh_map.specs.Written.{shown_lines}
-use Rattle.rh_sight.specs.Seen.{IsTaskSeen}
-use Rattle.rh_sight.specs.Steps.{scene_at}
 use Rattle.rh_drawn.specs.Parts.{slot_heading}
 use Rattle.rh_drawn.proofs.DrawingLemmas.{seen-same, slot-stands}
 use Rattle.rh_drawn.proofs.Walks.{lines_stop, lines_then, puts_same}

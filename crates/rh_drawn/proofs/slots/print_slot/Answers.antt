@@ -1,27 +1,16 @@
-use Rattle.std.proofs.Common.{◌≡◌, ◌+◌, ◌++◌, Some, length, ap, sym, ◌∙◌, refl, arith}
-use Rattle.std.specs.Option.{option_map}
-use Rattle.std.proofs.lemmas.List.{map-append}
-use Rattle.std.proofs.lemmas.Option.{slice_get_within}
-use Rattle.rh_defs.specs.Desk.{Task}
+use Rattle.rh_drawn.proofs.Common.{◌≡◌, ◌+◌, ◌++◌, Some, length, ap, sym, ◌∙◌, refl, arith, option_map, map-append, slice_get_within, Task, flex_start}
+use Rattle.rh_drawn.proofs.Common.{flex_cards, shown_cards, card_line, area_rows, Scene, SlotOf, shown_lines, heap_seen, scene_at, at-some, card_lines}
 use Rattle.rh_defs.specs.Heap.{first_place}
-use Rattle.rh_defs.specs.Slot.{flex_start, heap_start}
-use Rattle.rh_figure.specs.Cards.{cards_from, flex_cards, heap_cards, shown_cards}
+use Rattle.rh_defs.specs.Slot.{heap_start}
+use Rattle.rh_figure.specs.Cards.{cards_from, heap_cards}
 use Rattle.rh_figure.specs.Figure.{slot_drawing}
-use Rattle.rh_figure.specs.Map.{card_line, drawing_lines}
-use Rattle.rh_figure.specs.Rows.{area_rows}
-use Rattle.rh_figure.specs.Scene.{Scene}
-use Rattle.rh_figure.specs.Share.{SlotOf}
-use Rattle.rh_map.specs.Written.{shown_lines}
+use Rattle.rh_figure.specs.Map.{drawing_lines}
 use Rattle.rh_sight.specs.declared.sight.HeapOf.TheVariants as heap_of
 use Rattle.rh_sight.specs.declared.sight.PagesOf.TheVariants as pages
-use Rattle.rh_sight.specs.Seen.{heap_seen}
-use Rattle.rh_sight.specs.Steps.{scene_at}
 use Rattle.rh_sight.proofs.Heaps.{task-slot}
-use Rattle.rh_sight.proofs.Holders.{at-some}
 use Rattle.rh_sight.proofs.PieceWalks.{items-long}
 use Rattle.rh_sight.proofs.SlotPieces.{few-blocks}
 use Rattle.rh_drawn.specs.Bands.{card_of_task}
-use Rattle.rh_drawn.specs.Cards.{card_lines}
 use Rattle.rh_drawn.proofs.DrawingLemmas.{rows-are}
 use Rattle.rh_drawn.proofs.PageLemmas.{owned, owned-few, seen-slot}
 use Rattle.rh_drawn.proofs.Walks.{lines_stop, lines_then, puts_same}

@@ -1,8 +1,4 @@
-use Rattle.std.proofs.Common.{◌<◌, length, refl, arith}
-use Rattle.std.specs.List.{flat_map}
-use Rattle.std.proofs.lemmas.Option.{slice_get_within}
-use Rattle.rh_map.proofs.Left.{left_breaks, left_less, left_none}
-use Rattle.rh_sight.specs.Steps.{scene_at}
+use Rattle.rh_drawn.proofs.Common.{◌<◌, length, refl, arith, flat_map, slice_get_within, left_breaks, left_less, left_none, scene_at}
 use Rattle.rh_drawn.specs.Parts.{slot_lines}
 use Rattle.rh_drawn.proofs.Walks.{walk-none, walk-some}
 use Rattle.rh_drawn.proofs.slots.print_slot_part.Goals as goal

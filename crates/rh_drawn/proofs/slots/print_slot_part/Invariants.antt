@@ -1,9 +1,5 @@
-use Rattle.std.proofs.Common.{◌-◌, length, drop}
-use Rattle.std.specs.List.{flat_map}
-use Rattle.rh_drawn.specs.Parts.{slot_lines, slot_part}
-use Rattle.rh_sight.specs.Steps.{scene_at}
-use Rattle.rh_map.specs.Written.{shown_lines}
-use Rattle.rh_map.proofs.Left.{Left}
+use Rattle.rh_drawn.proofs.Common.{◌-◌, length, drop, flat_map, slot_part, scene_at, shown_lines, Left}
+use Rattle.rh_drawn.specs.Parts.{slot_lines}
 use Rattle.rh_drawn.proofs.slots.print_slot_part.Given as goal
 
 -- the slots from the place on are left

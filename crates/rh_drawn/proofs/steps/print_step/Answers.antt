@@ -1,12 +1,5 @@
-use Rattle.std.proofs.Common.{◌++◌, List, Bool, [], ◌∷◌, ap, sym, refl}
-use Rattle.std.specs.Prelude.{if◌then◌else◌, codes}
-use Rattle.rh_defs.specs.Script.{ended}
-use Rattle.rh_figure.specs.Figure.{figure}
+use Rattle.rh_drawn.proofs.Common.{◌++◌, List, Bool, [], ◌∷◌, ap, sym, refl, if◌then◌else◌, codes, ended, figure, Text, Scene, shown_lines, scene_at}
 use Rattle.rh_figure.specs.Map.{figure_lines, reply_lines, step_line}
-use Rattle.rh_figure.specs.Phrases.{Text}
-use Rattle.rh_figure.specs.Scene.{Scene}
-use Rattle.rh_map.specs.Written.{shown_lines}
-use Rattle.rh_sight.specs.Steps.{scene_at}
 use Rattle.rh_drawn.proofs.Walks.{lines_stop, lines_then, puts_line, puts_same}
 use Rattle.rh_drawn.proofs.steps.print_step.Goals as goal
 

@@ -1,10 +1,6 @@
-use Rattle.std.proofs.Common.{◌≡◌, ℕ, ◌<◌, ◌+◌, Bool, true, false, List, length, drop, ap, sym, refl, ◌∙◌, arith}
-use Rattle.std.proofs.lemmas.Option.{slice_get_within}
-use Rattle.std.specs.Prelude.{◌==◌}
-use Rattle.std.specs.List.{flat_map, list_any}
-use Rattle.rh_defs.specs.Desk.{Task}
+use Rattle.rh_drawn.proofs.Common.{◌≡◌, ℕ, ◌<◌, ◌+◌, Bool, true, false, List, length, drop, ap, sym, refl, ◌∙◌, arith, slice_get_within, ◌==◌, flat_map}
+use Rattle.rh_drawn.proofs.Common.{list_any, Task, has_id}
 use Rattle.rh_defs.specs.Records.{out_id}
-use Rattle.rh_figure.specs.Figure.{has_id}
 use Rattle.rh_drawn.proofs.TransferLemmas.{out-step, outs}
 use Rattle.rh_drawn.proofs.Walks.{walk-off, walk-on, walk-to}
 use Rattle.rh_drawn.proofs.transfers.has_out.Goals as goal

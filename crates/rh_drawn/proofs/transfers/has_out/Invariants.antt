@@ -1,10 +1,4 @@
-use Rattle.std.proofs.Common.{◌≡◌, ◌-◌, length, drop}
-use Rattle.std.specs.Prelude.{map}
-use Rattle.std.specs.List.{flat_map, list_any}
-use Rattle.rh_defs.specs.Desk.{Task}
-use Rattle.rh_defs.specs.Listing.{out_item}
-use Rattle.rh_drawn.specs.Sides.{outs_of}
-use Rattle.rh_figure.specs.Figure.{has_id}
+use Rattle.rh_drawn.proofs.Common.{◌≡◌, ◌-◌, length, drop, map, flat_map, list_any, Task, out_item, outs_of, has_id}
 use Rattle.rh_drawn.proofs.transfers.has_out.Given as goal
 
 -- no transfer with the id goes out of a task so far

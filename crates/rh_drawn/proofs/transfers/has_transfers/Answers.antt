@@ -1,10 +1,5 @@
-use Rattle.std.proofs.Common.{◌≡◌, ◌<◌, ◌+◌, Bool, true, false, List, length, drop, ap₂, sym, refl, ◌∙◌, arith}
-use Rattle.std.proofs.lemmas.Option.{slice_get_within}
-use Rattle.std.specs.Prelude.{◌==◌, ◌||◌, not}
-use Rattle.std.specs.List.{flat_map}
-use Rattle.rh_defs.specs.Desk.{Task}
-use Rattle.rh_defs.specs.declared.transfer.Incoming.{Incoming}
-use Rattle.rh_defs.specs.declared.transfer.Outgoing.{Outgoing}
+use Rattle.rh_drawn.proofs.Common.{◌≡◌, ◌<◌, ◌+◌, Bool, true, false, List, length, drop, ap₂, sym, refl, ◌∙◌, arith, slice_get_within, ◌==◌, ◌||◌, not}
+use Rattle.rh_drawn.proofs.Common.{flat_map, Task, Incoming, Outgoing}
 use Rattle.rh_drawn.proofs.TransferLemmas.{are_some, ins, outs, some-here, some-past}
 use Rattle.rh_drawn.proofs.Walks.{walk-off, walk-on, walk-to}
 use Rattle.rh_drawn.proofs.transfers.has_transfers.Goals as goal

@@ -1,5 +1,4 @@
-use Rattle.std.proofs.Common.{◌≡◌, ◌-◌, length, drop}
-use Rattle.std.specs.List.{flat_map}
+use Rattle.rh_drawn.proofs.Common.{◌≡◌, ◌-◌, length, drop, flat_map}
 use Rattle.rh_drawn.proofs.TransferLemmas.{are_some, ins, outs}
 use Rattle.rh_drawn.proofs.transfers.has_transfers.Given as goal
 

@@ -1,6 +1,4 @@
-use Rattle.std.proofs.Common.{◌≡◌, drop}
-use Rattle.std.specs.Prelude.{◌==◌, find}
-use Rattle.rh_defs.specs.Records.{in_id}
+use Rattle.rh_drawn.proofs.Common.{◌≡◌, drop, ◌==◌, find, in_id}
 use Rattle.rh_drawn.proofs.transfers.in_record.Given as goal
 
 -- no record so far has the id

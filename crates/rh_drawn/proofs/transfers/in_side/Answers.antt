@@ -1,12 +1,5 @@
-use Rattle.std.proofs.Common.{◌≡◌, ℕ, ◌<◌, ◌+◌, List, Option, Some, None, length, drop, ap, sym, refl, ◌∙◌, arith}
-use Rattle.std.proofs.lemmas.Option.{slice_get_within}
-use Rattle.std.specs.Prelude.{◌==◌, find}
-use Rattle.std.specs.List.{flat_map}
-use Rattle.std.specs.Option.{option_map}
-use Rattle.rh_defs.specs.Desk.{Task}
-use Rattle.rh_defs.specs.Listing.{in_item}
-use Rattle.rh_defs.specs.Records.{in_id}
-use Rattle.rh_figure.specs.Figure.{Side, has_id}
+use Rattle.rh_drawn.proofs.Common.{◌≡◌, ℕ, ◌<◌, ◌+◌, List, Option, Some, None, length, drop, ap, sym, refl, ◌∙◌, arith, slice_get_within, ◌==◌, find}
+use Rattle.rh_drawn.proofs.Common.{flat_map, option_map, Task, in_item, in_id, Side, has_id}
 use Rattle.rh_drawn.proofs.TransferLemmas.{ins, side-told, side-untold}
 use Rattle.rh_drawn.proofs.Walks.{walk-off, walk-on, walk-to}
 use Rattle.rh_drawn.proofs.transfers.in_side.Goals as goal

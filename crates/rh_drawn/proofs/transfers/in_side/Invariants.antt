@@ -1,10 +1,4 @@
-use Rattle.std.proofs.Common.{◌≡◌, ◌-◌, length, drop}
-use Rattle.std.specs.Prelude.{find, map}
-use Rattle.std.specs.List.{flat_map}
-use Rattle.rh_defs.specs.Desk.{Task}
-use Rattle.rh_defs.specs.Listing.{in_item}
-use Rattle.rh_drawn.specs.Sides.{ins_of}
-use Rattle.rh_figure.specs.Figure.{has_id}
+use Rattle.rh_drawn.proofs.Common.{◌≡◌, ◌-◌, length, drop, find, map, flat_map, Task, in_item, ins_of, has_id}
 use Rattle.rh_drawn.proofs.transfers.in_side.Given as goal
 
 -- no task so far has such a side

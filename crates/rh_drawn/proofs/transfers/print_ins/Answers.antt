@@ -1,15 +1,6 @@
-use Rattle.std.proofs.Common.{◌<◌, Bool, List, length, map, ap, ap₂, subst, refl, ◌∙◌, arith}
-use Rattle.std.proofs.lemmas.Option.{slice_get_within}
-use Rattle.std.specs.Prelude.{filter, not}
-use Rattle.std.specs.List.{flat_map, list_any}
-use Rattle.rh_defs.specs.Desk.{Task}
-use Rattle.rh_defs.specs.Listing.{in_item}
-use Rattle.rh_figure.specs.Figure.{Side, has_id}
-use Rattle.rh_figure.specs.Map.{transfer_line}
-use Rattle.rh_figure.specs.Phrases.{Text}
-use Rattle.rh_map.specs.Written.{shown_lines}
-use Rattle.rh_map.proofs.Left.{Left, left_breaks, left_less, left_none, left_whole}
-use Rattle.rh_drawn.specs.Sides.{comes_alone, ins_of, outs_of}
+use Rattle.rh_drawn.proofs.Common.{◌<◌, Bool, List, length, map, ap, ap₂, subst, refl, ◌∙◌, arith, slice_get_within, filter, not, flat_map, list_any, Task}
+use Rattle.rh_drawn.proofs.Common.{in_item, Side, has_id, transfer_line, Text, shown_lines, Left, left_breaks, left_less, left_none, left_whole, comes_alone}
+use Rattle.rh_drawn.proofs.Common.{ins_of, outs_of}
 use Rattle.rh_drawn.proofs.TransferLemmas.{filter-flat, ins, map-flat}
 use Rattle.rh_drawn.proofs.Walks.{puts_same, walk-none, walk-some}
 use Rattle.rh_drawn.proofs.transfers.print_ins.Goals as goal

@@ -1,13 +1,5 @@
-use Rattle.std.proofs.Common.{◌-◌, length, drop}
-use Rattle.std.specs.Prelude.{filter, map, not}
-use Rattle.std.specs.List.{flat_map, list_any}
-use Rattle.rh_defs.specs.Desk.{Task}
-use Rattle.rh_defs.specs.Listing.{in_item}
-use Rattle.rh_drawn.specs.Sides.{comes_alone, ins_of, outs_of}
-use Rattle.rh_figure.specs.Figure.{has_id}
-use Rattle.rh_figure.specs.Map.{transfer_line}
-use Rattle.rh_map.specs.Written.{shown_lines}
-use Rattle.rh_map.proofs.Left.{Left}
+use Rattle.rh_drawn.proofs.Common.{◌-◌, length, drop, filter, map, not, flat_map, list_any, Task, in_item, comes_alone, ins_of, outs_of, has_id}
+use Rattle.rh_drawn.proofs.Common.{transfer_line, shown_lines, Left}
 use Rattle.rh_drawn.proofs.transfers.print_ins.Given as goal
 
 -- the tasks from the place on are left

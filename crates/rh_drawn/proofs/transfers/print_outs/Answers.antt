@@ -1,13 +1,5 @@
-use Rattle.std.proofs.Common.{◌<◌, List, length, map, ap, ap₂, subst, refl, ◌∙◌, arith}
-use Rattle.std.proofs.lemmas.Option.{slice_get_within}
-use Rattle.std.specs.List.{flat_map}
-use Rattle.rh_defs.specs.Desk.{Task}
-use Rattle.rh_defs.specs.Listing.{out_item}
-use Rattle.rh_figure.specs.Map.{transfer_line}
-use Rattle.rh_figure.specs.Phrases.{Text}
-use Rattle.rh_map.specs.Written.{shown_lines}
-use Rattle.rh_map.proofs.Left.{Left, left_breaks, left_less, left_none, left_whole}
-use Rattle.rh_drawn.specs.Sides.{goes_out, ins_of, outs_of}
+use Rattle.rh_drawn.proofs.Common.{◌<◌, List, length, map, ap, ap₂, subst, refl, ◌∙◌, arith, slice_get_within, flat_map, Task, out_item, transfer_line, Text}
+use Rattle.rh_drawn.proofs.Common.{shown_lines, Left, left_breaks, left_less, left_none, left_whole, goes_out, ins_of, outs_of}
 use Rattle.rh_drawn.proofs.TransferLemmas.{map-flat, outs}
 use Rattle.rh_drawn.proofs.Walks.{puts_same, walk-none, walk-some}
 use Rattle.rh_drawn.proofs.transfers.print_outs.Goals as goal

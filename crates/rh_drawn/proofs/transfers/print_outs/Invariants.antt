@@ -1,12 +1,4 @@
-use Rattle.std.proofs.Common.{◌-◌, length, drop}
-use Rattle.std.specs.Prelude.{map}
-use Rattle.std.specs.List.{flat_map}
-use Rattle.rh_defs.specs.Desk.{Task}
-use Rattle.rh_defs.specs.Listing.{out_item}
-use Rattle.rh_drawn.specs.Sides.{goes_out, ins_of, outs_of}
-use Rattle.rh_figure.specs.Map.{transfer_line}
-use Rattle.rh_map.specs.Written.{shown_lines}
-use Rattle.rh_map.proofs.Left.{Left}
+use Rattle.rh_drawn.proofs.Common.{◌-◌, length, drop, map, flat_map, Task, out_item, goes_out, ins_of, outs_of, transfer_line, shown_lines, Left}
 use Rattle.rh_drawn.proofs.transfers.print_outs.Given as goal
 
 -- the tasks from the place on are left

@@ -1,14 +1,5 @@
-use Rattle.std.proofs.Common.{List, [], ◌∷◌, map, refl}
-use Rattle.std.specs.Prelude.{filter, if◌then◌else◌, not}
-use Rattle.std.specs.List.{list_any}
-use Rattle.rh_defs.specs.declared.transfer.Incoming.{Incoming}
-use Rattle.rh_defs.specs.Listing.{in_item}
-use Rattle.rh_defs.specs.Records.{in_id}
-use Rattle.rh_figure.specs.Map.{transfer_line}
-use Rattle.rh_figure.specs.Phrases.{Text}
-use Rattle.rh_map.proofs.Left.{left_breaks, left_less, left_none}
-use Rattle.rh_figure.specs.Figure.{Side, has_id}
-use Rattle.rh_drawn.specs.Sides.{comes_alone, outs_of}
+use Rattle.rh_drawn.proofs.Common.{List, [], ◌∷◌, map, refl, filter, if◌then◌else◌, not, list_any, Incoming, in_item, in_id, transfer_line, Text, left_breaks}
+use Rattle.rh_drawn.proofs.Common.{left_less, left_none, Side, has_id, comes_alone, outs_of}
 use Rattle.rh_drawn.proofs.TransferLemmas.{alone-each}
 use Rattle.rh_drawn.proofs.Walks.{walk-at, walk-end}
 use Rattle.rh_drawn.proofs.transfers.print_task_ins.Goals as goal

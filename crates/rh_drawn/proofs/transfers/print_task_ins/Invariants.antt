@@ -1,12 +1,4 @@
-use Rattle.std.proofs.Common.{drop}
-use Rattle.std.specs.Prelude.{filter, map, not}
-use Rattle.std.specs.List.{list_any}
-use Rattle.rh_defs.specs.Listing.{in_item}
-use Rattle.rh_drawn.specs.Sides.{comes_alone, outs_of}
-use Rattle.rh_figure.specs.Figure.{has_id}
-use Rattle.rh_figure.specs.Map.{transfer_line}
-use Rattle.rh_map.specs.Written.{shown_lines}
-use Rattle.rh_map.proofs.Left.{Left}
+use Rattle.rh_drawn.proofs.Common.{drop, filter, map, not, list_any, in_item, comes_alone, outs_of, has_id, transfer_line, shown_lines, Left}
 use Rattle.rh_drawn.proofs.transfers.print_task_ins.Given as goal
 
 -- the records from the place on are left

@@ -1,11 +1,5 @@
-use Rattle.std.proofs.Common.{List, [], ◌∷◌, map, refl}
-use Rattle.rh_defs.specs.declared.transfer.Outgoing.{Outgoing}
-use Rattle.rh_defs.specs.Listing.{out_item}
-use Rattle.rh_figure.specs.Map.{transfer_line}
-use Rattle.rh_figure.specs.Phrases.{Text}
-use Rattle.rh_map.proofs.Left.{left_breaks, left_less, left_none}
-use Rattle.rh_figure.specs.Figure.{Side}
-use Rattle.rh_drawn.specs.Sides.{goes_out, ins_of}
+use Rattle.rh_drawn.proofs.Common.{List, [], ◌∷◌, map, refl, Outgoing, out_item, transfer_line, Text, left_breaks, left_less, left_none, Side, goes_out}
+use Rattle.rh_drawn.proofs.Common.{ins_of}
 use Rattle.rh_drawn.proofs.Walks.{walk-at, walk-end}
 use Rattle.rh_drawn.proofs.transfers.print_task_outs.Goals as goal
 

@@ -1,10 +1,4 @@
-use Rattle.std.proofs.Common.{drop}
-use Rattle.std.specs.Prelude.{map}
-use Rattle.rh_defs.specs.Listing.{out_item}
-use Rattle.rh_drawn.specs.Sides.{goes_out, ins_of}
-use Rattle.rh_figure.specs.Map.{transfer_line}
-use Rattle.rh_map.specs.Written.{shown_lines}
-use Rattle.rh_map.proofs.Left.{Left}
+use Rattle.rh_drawn.proofs.Common.{drop, map, out_item, goes_out, ins_of, transfer_line, shown_lines, Left}
 use Rattle.rh_drawn.proofs.transfers.print_task_outs.Given as goal
 
 -- the records from the place on are left

@@ -1,10 +1,5 @@
-use Rattle.std.proofs.Common.{◌++◌, [], ◌∷◌, map, ap, sym, refl, ◌∙◌}
-use Rattle.std.specs.Prelude.{codes, filter, not}
-use Rattle.std.specs.List.{list_any}
-use Rattle.rh_figure.specs.Figure.{Side, has_id}
-use Rattle.rh_figure.specs.Map.{transfer_line}
-use Rattle.rh_map.specs.Written.{shown_lines}
-use Rattle.rh_drawn.specs.Sides.{comes_alone, goes_out, ins_of, outs_of}
+use Rattle.rh_drawn.proofs.Common.{◌++◌, [], ◌∷◌, map, ap, sym, refl, ◌∙◌, codes, filter, not, list_any, Side, has_id, transfer_line, shown_lines}
+use Rattle.rh_drawn.proofs.Common.{comes_alone, goes_out, ins_of, outs_of}
 use Rattle.rh_drawn.proofs.TransferLemmas.{transfers-none, transfers-some}
 use Rattle.rh_drawn.proofs.Walks.{lines_stop, lines_then, puts_line, puts_none, puts_same}
 use Rattle.rh_drawn.proofs.transfers.print_transfer_part.Goals as goal

@@ -1,5 +1,4 @@
-use Rattle.std.proofs.Common.{◌≡◌, drop}
-use Rattle.std.specs.Prelude.{find}
+use Rattle.rh_drawn.proofs.Common.{◌≡◌, drop, find}
 use Rattle.rh_defs.specs.Records.{is_document}
 use Rattle.rh_drawn.proofs.usage.document_of.Given as goal
 

@@ -1,5 +1,5 @@
-use Rattle.std.proofs.Common.{sym}
-use Rattle.rh_defs.specs.declared.heap.HeapFault.TheVariants.{BadDescriptor, BadLink}
+use Rattle.rh_heap.proofs.Common.{sym, BadLink}
+use Rattle.rh_defs.specs.declared.heap.HeapFault.TheVariants.{BadDescriptor}
 use Rattle.rh_defs.proofs.HeapFaults.{fault_of-descriptor}
 use Rattle.rh_heap.proofs.CheckLaws.{refused, link_refused}
 use Rattle.rh_heap.proofs.image.check.Goals as goal

@@ -1,7 +1,6 @@
-use Rattle.std.proofs.Common.{◌≡◌, inl, inr, refl, sym, arith}
-use Rattle.std.specs.Prelude.{Some}
+use Rattle.rh_heap.proofs.Common.{◌≡◌, inl, inr, refl, sym, arith, Some, BadLink}
 use Rattle.rh_defs.specs.HeapImage.{fault_of}
-use Rattle.rh_defs.specs.declared.heap.HeapFault.TheVariants.{BadSize, BadLink}
+use Rattle.rh_defs.specs.declared.heap.HeapFault.TheVariants.{BadSize}
 use Rattle.rh_heap.proofs.CheckLaws.{refused, check_start, used_room, pass_used, used_fault, hole_room, pass_hole, hole_fault, link_fault, accepted}
 use Rattle.rh_heap.proofs.image.check_segments.Goals as goal
 use Rattle.rh_heap.proofs.image.check_segments.Goals.{then-not-is_size-via-then-not-is_size, then-not-is_size-via-else-not-is_size+then-next-place}

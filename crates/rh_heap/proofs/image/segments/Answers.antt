@@ -1,5 +1,4 @@
-use Rattle.std.proofs.Common.{ap}
-use Rattle.rh_heap.specs.Image.{listed}
+use Rattle.rh_heap.proofs.Common.{ap, listed}
 use Rattle.rh_heap.proofs.RestLaws.{all_left}
 use Rattle.rh_heap.proofs.image.segments.Goals as goal
 

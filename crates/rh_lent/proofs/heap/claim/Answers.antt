@@ -1,9 +1,5 @@
-use Rattle.std.proofs.Common.{rules}
-use Rattle.rh_defs.specs.HeapImage.{heap_of}
-use Rattle.rh_defs.specs.Memory.{bytes, area_set}
-use Rattle.rh_lent.specs.Lent.{memory_of, memory_over}
+use Rattle.rh_lent.proofs.Common.{rules, heap_of, bytes, area_set, memory_of, memory_over, LeavesBytes}
 use Rattle.rh_defs.specs.Heap.{claim}
-use Rattle.rh_lent.specs.Heaps.{LeavesBytes}
 use Rattle.rh_lent.proofs.HeapBytes.{is_span, leaves_bytes}
 use Rattle.rh_lent.proofs.heap.claim.Goals as goal
 

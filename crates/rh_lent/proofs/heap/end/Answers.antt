@@ -1,6 +1,4 @@
-use Rattle.std.proofs.Common.{arith}
-use Rattle.rh_defs.specs.Memory.{bytes, area_set}
-use Rattle.rh_lent.specs.Lent.{memory_shown, memory_over}
+use Rattle.rh_lent.proofs.Common.{arith, bytes, area_set, memory_shown, memory_over}
 use Rattle.rh_lent.proofs.HeapBytes.{is_span}
 use Rattle.rh_lent.proofs.heap.end.Goals as goal
 

@@ -1,7 +1,4 @@
-use Rattle.std.proofs.Common.{rules, ◌≡◌, length, arith}
-use Rattle.rh_defs.specs.HeapImage.{heap_of}
-use Rattle.rh_defs.specs.Memory.{bytes, area_set}
-use Rattle.rh_lent.specs.Lent.{memory_of, memory_over}
+use Rattle.rh_lent.proofs.Common.{rules, ◌≡◌, length, arith, heap_of, bytes, area_set, memory_of, memory_over}
 use Rattle.rh_defs.specs.Heap.{empty_heap}
 use Rattle.rh_lent.specs.Heaps.{IsHeapBytes}
 use Rattle.rh_lent.proofs.HeapBytes.{heap_bytes}

@@ -1,5 +1,4 @@
-use Rattle.rh_defs.specs.Memory.{bytes, area_set}
-use Rattle.rh_lent.specs.Lent.{memory_shown, memory_over}
+use Rattle.rh_lent.proofs.Common.{bytes, area_set, memory_shown, memory_over}
 use Rattle.rh_lent.proofs.HeapBytes.{is_span}
 use Rattle.rh_lent.proofs.heap.segment.Goals as goal
 

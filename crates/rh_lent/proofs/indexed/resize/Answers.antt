@@ -1,14 +1,5 @@
-use Rattle.std.proofs.Common.{rules, subst}
-use Rattle.std.specs.Prelude.{ℤ}
-use Rattle.std.specs.Int.{w32}
-use Rattle.std.proofs.lemmas.Int.{to_z-of_z}
-use Rattle.rh_defs.specs.HeapImage.{heap_of}
-use Rattle.rh_defs.specs.Memory.{bytes, area_set}
+use Rattle.rh_lent.proofs.Common.{rules, subst, ℤ, w32, to_z-of_z, heap_of, bytes, area_set, Leaves, IsIndex, memory_of, memory_over, LeavesBytes}
 use Rattle.rh_defs.specs.Heap.{resize}
-use Rattle.rh_heap.specs.Calls.{Leaves}
-use Rattle.rh_store.specs.Starts.{IsIndex}
-use Rattle.rh_lent.specs.Lent.{memory_of, memory_over}
-use Rattle.rh_lent.specs.Heaps.{LeavesBytes}
 use Rattle.rh_lent.proofs.HeapBytes.{whole, is_span, leaves_bytes}
 use Rattle.rh_lent.proofs.indexed.resize.Goals as goal
 

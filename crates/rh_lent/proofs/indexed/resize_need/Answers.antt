@@ -1,11 +1,5 @@
-use Rattle.std.proofs.Common.{ap, ◌∙◌}
-use Rattle.std.specs.Prelude.{ℤ}
-use Rattle.std.specs.Int.{w32}
-use Rattle.std.proofs.lemmas.Int.{to_z-of_z}
+use Rattle.rh_lent.proofs.Common.{ap, ◌∙◌, ℤ, w32, to_z-of_z, heap_of, bytes, area_set, memory_shown, memory_over}
 use Rattle.rh_defs.specs.Heap.{need_at}
-use Rattle.rh_defs.specs.HeapImage.{heap_of}
-use Rattle.rh_defs.specs.Memory.{bytes, area_set}
-use Rattle.rh_lent.specs.Lent.{memory_shown, memory_over}
 use Rattle.rh_lent.proofs.HeapBytes.{is_span}
 use Rattle.rh_lent.proofs.indexed.resize_need.Goals as goal
 

@@ -1,7 +1,4 @@
-use Rattle.std.proofs.Common.{◌++◌, append_assoc, ap, ◌∙◌}
-use Rattle.std.specs.Prelude.{codes}
-use Rattle.std.specs.Fmt.{decimal}
-use Rattle.rh_figure.specs.Phrases.{size_text}
+use Rattle.rh_map.proofs.Common.{◌++◌, append_assoc, ap, ◌∙◌, codes, decimal, size_text}
 use Rattle.rh_map.proofs.areas.add_file.Goals as goal
 
 pub returns-clause-value : goal.returns-clause-value

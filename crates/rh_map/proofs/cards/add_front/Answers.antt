@@ -1,5 +1,4 @@
-use Rattle.std.proofs.Common.{arith, ap, length, length-append}
-use Rattle.std.specs.Prelude.{codes}
+use Rattle.rh_map.proofs.Common.{arith, ap, length, length-append, codes}
 use Rattle.rh_map.proofs.CardLemmas.{digits-length}
 use Rattle.rh_map.proofs.cards.add_front.Goals as goal
 

@@ -1,5 +1,4 @@
-use Rattle.std.proofs.Common.{◌≡◌, length}
-use Rattle.std.specs.Prelude.{find}
+use Rattle.rh_map.proofs.Common.{◌≡◌, length, find}
 use Rattle.rh_figure.specs.Rows.{has_byte}
 use Rattle.rh_map.proofs.cells.going_on.Given as goal
 

@@ -1,5 +1,4 @@
-use Rattle.std.proofs.Common.{◌≡◌, length}
-use Rattle.std.specs.Prelude.{filter}
+use Rattle.rh_map.proofs.Common.{◌≡◌, length, filter}
 use Rattle.rh_figure.specs.Rows.{begins_in}
 use Rattle.rh_map.proofs.cells.next_begun.Given as goal
 

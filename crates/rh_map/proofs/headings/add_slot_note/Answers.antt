@@ -1,7 +1,5 @@
-use Rattle.std.proofs.Common.{◌++◌, append_assoc, append-nil, ap, ◌∙◌}
-use Rattle.std.specs.Prelude.{codes, not}
-use Rattle.std.specs.Fmt.{decimal}
-use Rattle.rh_figure.specs.Phrases.{pages_text, where_so}
+use Rattle.rh_map.proofs.Common.{◌++◌, append_assoc, append-nil, ap, ◌∙◌, codes, not, decimal, where_so}
+use Rattle.rh_figure.specs.Phrases.{pages_text}
 use Rattle.rh_map.proofs.headings.add_slot_note.Goals as goal
 
 pub returns : goal.returns

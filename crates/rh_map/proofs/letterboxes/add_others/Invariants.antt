@@ -1,8 +1,4 @@
-use Rattle.std.proofs.Common.{ℕ, ◌≤◌, List, ◌++◌, length}
-use Rattle.std.specs.Prelude.{codes}
-use Rattle.std.specs.List.{flat_map}
-use Rattle.rh_map.specs.Messages.{text_of}
-use Rattle.rh_map.specs.Written.{Fills}
+use Rattle.rh_map.proofs.Common.{ℕ, ◌≤◌, List, ◌++◌, length, codes, flat_map, text_of, Fills}
 use Rattle.rh_map.proofs.FillLemmas.{FillsLeft}
 use Rattle.rh_map.proofs.letterboxes.add_others.Given as goal
 

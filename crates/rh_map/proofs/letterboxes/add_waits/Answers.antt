@@ -1,6 +1,4 @@
-use Rattle.std.proofs.Common.{subst, ap, ◌∙◌, ◌++◌}
-use Rattle.rh_map.specs.Messages.{text_of}
-use Rattle.rh_map.specs.Written.{Fills}
+use Rattle.rh_map.proofs.Common.{subst, ap, ◌∙◌, ◌++◌, text_of, Fills}
 use Rattle.rh_map.proofs.FillLemmas.{fills-all}
 use Rattle.rh_map.proofs.LetterLemmas.{waits-are}
 use Rattle.rh_map.proofs.letterboxes.add_waits.Goals as goal

@@ -1,6 +1,5 @@
-use Rattle.std.proofs.Common.{ℕ, List, ◌++◌, ◌≡◌, subst, ap, ◌∙◌}
-use Rattle.std.specs.Prelude.{codes}
-use Rattle.rh_figure.specs.Map.{letterbox_line, shown_line}
+use Rattle.rh_map.proofs.Common.{ℕ, List, ◌++◌, ◌≡◌, subst, ap, ◌∙◌, codes, shown_line}
+use Rattle.rh_figure.specs.Map.{letterbox_line}
 use Rattle.rh_lines.specs.Flow.{Puts}
 use Rattle.rh_map.specs.Messages.{letterbox_of}
 use Rattle.rh_map.proofs.FillLemmas.{fills-shown}

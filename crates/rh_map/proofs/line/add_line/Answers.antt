@@ -1,7 +1,5 @@
-use Rattle.std.proofs.Common.{◌++◌, ◌∙◌, ap, sym, map, take, length, length-take, length-append, arith, append_assoc}
-use Rattle.std.specs.Prelude.{codes}
+use Rattle.rh_map.proofs.Common.{◌++◌, ◌∙◌, ap, sym, map, take, length, length-take, length-append, arith, append_assoc, codes, shown_byte}
 use Rattle.std.proofs.lemmas.List.{length-map}
-use Rattle.rh_figure.specs.Map.{shown_byte}
 use Rattle.rh_map.proofs.LineLemmas.{cut-long}
 use Rattle.rh_map.proofs.line.add_line.Goals as goal
 

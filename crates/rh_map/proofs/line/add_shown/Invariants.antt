@@ -1,5 +1,4 @@
-use Rattle.std.proofs.Common.{◌≡◌, ◌++◌, map, take}
-use Rattle.rh_figure.specs.Map.{shown_byte}
+use Rattle.rh_map.proofs.Common.{◌≡◌, ◌++◌, map, take, shown_byte}
 use Rattle.rh_map.proofs.line.add_shown.Given as goal
 
 -- the bytes so far were added

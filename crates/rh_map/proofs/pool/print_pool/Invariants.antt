@@ -1,7 +1,5 @@
-use Rattle.std.proofs.Common.{◌+◌, ◌-◌, ◌/◌, length, map}
-use Rattle.std.specs.List.{range_with_len}
+use Rattle.rh_map.proofs.Common.{◌+◌, ◌-◌, ◌/◌, length, map, range_with_len, shown_lines}
 use Rattle.rh_figure.specs.Rows.{marks_row, marks_rows}
-use Rattle.rh_map.specs.Written.{shown_lines}
 use Rattle.rh_map.proofs.Left.{Left}
 use Rattle.rh_map.proofs.pool.print_pool.Given as goal
 

@@ -1,7 +1,5 @@
-use Rattle.std.proofs.Common.{◌++◌, append_assoc, append-nil, ap, ◌∙◌}
-use Rattle.std.specs.Prelude.{codes}
+use Rattle.rh_map.proofs.Common.{◌++◌, append_assoc, append-nil, ap, ◌∙◌, codes, size_text}
 use Rattle.rh_defs.specs.Text.{address}
-use Rattle.rh_figure.specs.Phrases.{size_text}
 use Rattle.rh_map.specs.Tasks.{who_text}
 use Rattle.rh_map.proofs.post_changes.bytes_sent.Goals as goal
 

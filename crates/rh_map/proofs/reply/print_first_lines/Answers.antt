@@ -1,5 +1,4 @@
-use Rattle.std.proofs.Common.{◌-◌, arith}
-use Rattle.rh_map.specs.Replies.{lines_in}
+use Rattle.rh_map.proofs.Common.{◌-◌, arith, lines_in}
 use Rattle.rh_map.proofs.Left.{left_less, left_breaks}
 use Rattle.rh_map.proofs.SeamLemmas.{first-next}
 use Rattle.rh_map.proofs.reply.print_first_lines.Goals as goal

@@ -1,6 +1,4 @@
-use Rattle.rh_figure.specs.declared.limits.TheConstants.{MOST_REPLY_LINES}
-use Rattle.rh_map.specs.Replies.{first_lines, lines_in}
-use Rattle.rh_map.specs.Written.{shown_lines}
+use Rattle.rh_map.proofs.Common.{MOST_REPLY_LINES, first_lines, lines_in, shown_lines}
 use Rattle.rh_map.proofs.Left.{Left}
 use Rattle.rh_map.proofs.reply.print_first_lines.Given as goal
 

@@ -1,7 +1,6 @@
-use Rattle.std.proofs.Common.{refl}
-use Rattle.rh_figure.specs.declared.limits.TheConstants.{MOST_REPLY_LINES}
-use Rattle.rh_lines.proofs.FlowLemmas.{puts_before, puts_stops, puts_more}
-use Rattle.rh_map.specs.Replies.{first_lines, lines_in, more_behind}
+use Rattle.rh_map.proofs.Common.{refl, MOST_REPLY_LINES, puts_stops, first_lines, lines_in}
+use Rattle.rh_lines.proofs.FlowLemmas.{puts_before, puts_more}
+use Rattle.rh_map.specs.Replies.{more_behind}
 use Rattle.rh_map.proofs.SeamLemmas.{shown-append}
 use Rattle.rh_map.proofs.reply.print_reply_lines.Goals as goal
 

@@ -1,5 +1,4 @@
-use Rattle.std.proofs.Common.{ℕ, ◌∷◌, [], ◌++◌, ◌*◌, ◌+◌, ap, ◌∙◌, sym, length, length-append, arith, append_assoc, map}
-use Rattle.std.specs.List.{range_with_len}
+use Rattle.rh_map.proofs.Common.{ℕ, ◌∷◌, [], ◌++◌, ◌*◌, ◌+◌, ap, ◌∙◌, sym, length, length-append, arith, append_assoc, map, range_with_len}
 use Rattle.std.proofs.lemmas.List.FromFn.{length-map-range_with_len, map-range_with_len_more}
 use Rattle.rh_figure.specs.Rows.{cell_mark}
 use Rattle.rh_figure.specs.declared.limits.TheConstants.{CELL_BYTES}

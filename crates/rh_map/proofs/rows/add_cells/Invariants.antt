@@ -1,5 +1,4 @@
-use Rattle.std.proofs.Common.{◌≡◌, ◌+◌, ◌*◌, ◌++◌, map}
-use Rattle.std.specs.List.{range_with_len}
+use Rattle.rh_map.proofs.Common.{◌≡◌, ◌+◌, ◌*◌, ◌++◌, map, range_with_len}
 use Rattle.rh_figure.specs.Rows.{cell_mark}
 use Rattle.rh_figure.specs.declared.limits.TheConstants.{CELL_BYTES}
 use Rattle.rh_map.proofs.rows.add_cells.Given as goal

@@ -1,8 +1,7 @@
-use Rattle.std.proofs.Common.{◌≤◌, length}
-use Rattle.std.specs.Prelude.{min}
+use Rattle.rh_map.proofs.Common.{◌≤◌, length, min, shown_lines}
 use Rattle.rh_figure.specs.Rows.{area_rows, rows_down}
 use Rattle.rh_figure.specs.declared.limits.TheConstants.{MOST_ROWS}
-use Rattle.rh_map.specs.Written.{area_of, shown_lines}
+use Rattle.rh_map.specs.Written.{area_of}
 use Rattle.rh_map.proofs.Left.{Left}
 use Rattle.rh_map.proofs.rows.print_area.Given as goal
 

@@ -1,6 +1,5 @@
-use Rattle.std.proofs.Common.{refl}
-use Rattle.std.specs.Prelude.{codes}
-use Rattle.rh_lines.proofs.FlowLemmas.{puts_before, puts_stops, puts_more}
+use Rattle.rh_map.proofs.Common.{refl, codes, puts_stops}
+use Rattle.rh_lines.proofs.FlowLemmas.{puts_before, puts_more}
 use Rattle.rh_map.proofs.steps.print_still.Goals as goal
 
 pub returns-in_err-put_line : goal.returns-in_err-put_line

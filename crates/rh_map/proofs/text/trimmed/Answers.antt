@@ -1,5 +1,4 @@
-use Rattle.std.proofs.Common.{◌∷◌, [], ◌++◌, ap, ◌∙◌, sym}
-use Rattle.rh_figure.specs.Rows.{trimmed}
+use Rattle.rh_map.proofs.Common.{◌∷◌, [], ◌++◌, ap, ◌∙◌, sym, trimmed}
 use Rattle.rh_map.proofs.TextLemmas.{trimmed-space, trimmed-whole}
 use Rattle.rh_map.proofs.text.trimmed.Goals as goal
 

@@ -1,5 +1,4 @@
-use Rattle.std.proofs.Common.{◌≡◌, length}
-use Rattle.rh_figure.specs.Rows.{trimmed}
+use Rattle.rh_map.proofs.Common.{◌≡◌, length, trimmed}
 use Rattle.rh_map.proofs.text.trimmed.Given as goal
 
 -- only spaces were left out

@@ -1,14 +1,8 @@
-use Rattle.std.proofs.Common.{◌≡◌, ℕ, ◌+◌, ◌<◌, ◌≤◌, List, ◌++◌, length, drop, map, ap, sym, ◌∙◌, append_assoc, arith}
-use Rattle.std.specs.Prelude.{slice_index}
-use Rattle.std.specs.List.{enumerate_from, flat_map}
-use Rattle.std.proofs.lemmas.Grind.{flat_map-append}
-use Rattle.std.proofs.lemmas.List.{drop_all}
-use Rattle.rh_figure.specs.Figure.{Panel, fixed_panel, made_panel}
-use Rattle.rh_map.proofs.Left.{left_breaks, left_less, left_whole}
-use Rattle.rh_sheet.specs.Steps.{area_heading}
-use Rattle.rh_sight.specs.Steps.{scene_at}
+use Rattle.rh_painted.proofs.Common.{◌≡◌, ℕ, ◌+◌, ◌<◌, ◌≤◌, List, ◌++◌, length, drop, map, ap, sym, ◌∙◌, append_assoc, arith, slice_index, enumerate_from}
+use Rattle.rh_painted.proofs.Common.{flat_map, flat_map-append, drop_all, fixed_panel, made_panel, left_breaks, left_less, left_whole, area_heading, scene_at}
+use Rattle.rh_painted.proofs.Common.{left_last, puts_same}
+use Rattle.rh_figure.specs.Figure.{Panel}
 use Rattle.rh_drawn.proofs.PageLemmas.{numbered-next}
-use Rattle.rh_drawn.proofs.Walks.{left_last, puts_same}
 use Rattle.rh_painted.proofs.areas.print_area_headings.Goals as goal
 
 -- the panels of one area more, and of those behind it

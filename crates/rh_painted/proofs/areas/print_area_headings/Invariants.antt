@@ -1,10 +1,5 @@
-use Rattle.std.proofs.Common.{◌++◌, drop}
-use Rattle.std.specs.Prelude.{map}
-use Rattle.std.specs.List.{enumerate_from, flat_map}
-use Rattle.rh_figure.specs.Figure.{area_panels, fixed_panel, made_panel}
-use Rattle.rh_map.proofs.Left.{Left}
-use Rattle.rh_sheet.specs.Steps.{area_heading}
-use Rattle.rh_sight.specs.Steps.{scene_at}
+use Rattle.rh_painted.proofs.Common.{◌++◌, drop, map, enumerate_from, flat_map, fixed_panel, made_panel, Left, area_heading, scene_at}
+use Rattle.rh_figure.specs.Figure.{area_panels}
 use Rattle.rh_painted.proofs.areas.print_area_headings.Given as goal
 
 -- the areas from the number on are left, and the made ones

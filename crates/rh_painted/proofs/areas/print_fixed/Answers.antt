@@ -1,18 +1,9 @@
-use Rattle.std.proofs.Common.{◌≡◌, ℕ, false, List, [], ◌∷◌, ◌++◌, length, ap, ap₂, sym, ◌∙◌, arith}
-use Rattle.std.specs.Prelude.{if◌then◌else◌, ◌==◌, ◌||◌, slice_index}
-use Rattle.std.specs.List.{flat_map}
-use Rattle.std.proofs.lemmas.Bool.{ne_eqb}
-use Rattle.rh_defs.specs.Desk.{module_pages}
-use Rattle.rh_figure.specs.Figure.{area_panel, fixed_note, fixed_panel, listed_pages, numbers_text, scrap_text}
-use Rattle.rh_figure.specs.Phrases.{Text, area_name}
-use Rattle.rh_figure.specs.Scene.{Scene}
-use Rattle.rh_figure.specs.Share.{AreaOf}
-use Rattle.rh_sheet.specs.Markup.{heading_text}
-use Rattle.rh_sheet.specs.Steps.{area_heading}
+use Rattle.rh_painted.proofs.Common.{◌≡◌, ℕ, false, List, [], ◌∷◌, ◌++◌, length, ap, ap₂, sym, ◌∙◌, arith, if◌then◌else◌, ◌==◌, ◌||◌, slice_index, flat_map}
+use Rattle.rh_painted.proofs.Common.{ne_eqb, module_pages, fixed_panel, Text, area_name, Scene, AreaOf, heading_text, area_heading, scene_at, owned}
+use Rattle.rh_painted.proofs.Common.{owned-few, seen-fixed, puts_same}
+use Rattle.rh_figure.specs.Figure.{area_panel, fixed_note, listed_pages, numbers_text, scrap_text}
 use Rattle.rh_sight.specs.declared.sight.PagesOf.TheVariants as pages
-use Rattle.rh_sight.specs.Steps.{scene_at}
-use Rattle.rh_drawn.proofs.PageLemmas.{owned, owned-few, owned-fixed, seen-fixed}
-use Rattle.rh_drawn.proofs.Walks.{puts_same}
+use Rattle.rh_drawn.proofs.PageLemmas.{owned-fixed}
 use Rattle.rh_painted.proofs.TextPuts.{text_last}
 use Rattle.rh_painted.proofs.areas.print_fixed.Goals as goal
 

@@ -1,17 +1,9 @@
-use Rattle.std.proofs.Common.{◌≡◌, ℕ, ◌<◌, List, length, map, ap, refl, ◌∙◌, arith}
-use Rattle.std.specs.List.{flat_map}
-use Rattle.std.proofs.lemmas.Option.{slice_get_within}
+use Rattle.rh_painted.proofs.Common.{◌≡◌, ℕ, ◌<◌, List, length, map, ap, refl, ◌∙◌, arith, flat_map, slice_get_within, made_panel, area_name, AreaOf}
+use Rattle.rh_painted.proofs.Common.{left_breaks, left_less, left_none, heading_text, area_heading, scene_at, owned, owned-few, puts_same}
 use Rattle.rh_defs.specs.Desk.{Made}
-use Rattle.rh_figure.specs.Figure.{listed_pages, made_note, made_panel}
-use Rattle.rh_figure.specs.Phrases.{area_name}
-use Rattle.rh_figure.specs.Share.{AreaOf}
-use Rattle.rh_map.proofs.Left.{left_breaks, left_less, left_none}
-use Rattle.rh_sheet.specs.Markup.{heading_text}
-use Rattle.rh_sheet.specs.Steps.{area_heading}
+use Rattle.rh_figure.specs.Figure.{listed_pages, made_note}
 use Rattle.rh_sight.specs.declared.sight.PagesOf.TheVariants as pages
-use Rattle.rh_sight.specs.Steps.{scene_at}
-use Rattle.rh_drawn.proofs.PageLemmas.{owned, owned-few, owned-made, seen-made}
-use Rattle.rh_drawn.proofs.Walks.{puts_same}
+use Rattle.rh_drawn.proofs.PageLemmas.{owned-made, seen-made}
 use Rattle.rh_painted.proofs.TextWalks.{text-none, text-some}
 use Rattle.rh_painted.proofs.areas.print_made.Goals as goal
 

@@ -1,10 +1,4 @@
-use Rattle.std.proofs.Common.{◌-◌, length, drop}
-use Rattle.std.specs.Prelude.{map}
-use Rattle.std.specs.List.{flat_map}
-use Rattle.rh_figure.specs.Figure.{made_panel}
-use Rattle.rh_map.proofs.Left.{Left}
-use Rattle.rh_sheet.specs.Steps.{area_heading}
-use Rattle.rh_sight.specs.Steps.{scene_at}
+use Rattle.rh_painted.proofs.Common.{◌-◌, length, drop, map, flat_map, made_panel, Left, area_heading, scene_at}
 use Rattle.rh_painted.proofs.areas.print_made.Given as goal
 
 -- the areas from the place on are left

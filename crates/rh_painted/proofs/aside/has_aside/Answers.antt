@@ -1,8 +1,4 @@
-use Rattle.std.proofs.Common.{◌≡◌, true, length, ap₂, sym, ◌∙◌}
-use Rattle.std.specs.Prelude.{◌==◌, ◌||◌, not}
-use Rattle.rh_figure.specs.Figure.{letterboxes, transfers}
-use Rattle.rh_sight.specs.Steps.{scene_at}
-use Rattle.rh_drawn.specs.Sides.{ins_of, outs_of}
+use Rattle.rh_painted.proofs.Common.{◌≡◌, true, length, ap₂, sym, ◌∙◌, ◌==◌, ◌||◌, not, letterboxes, transfers, scene_at, ins_of, outs_of}
 use Rattle.rh_painted.proofs.TableLemmas.{boxes-told, is_some, sides-some}
 use Rattle.rh_painted.proofs.aside.has_aside.Goals as goal
 

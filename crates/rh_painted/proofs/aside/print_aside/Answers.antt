@@ -1,12 +1,7 @@
-use Rattle.std.proofs.Common.{◌++◌, sym, ◌∙◌, refl}
-use Rattle.rh_figure.specs.Figure.{letterboxes, transfers}
-use Rattle.rh_figure.specs.Phrases.{Text}
+use Rattle.rh_painted.proofs.Common.{◌++◌, sym, ◌∙◌, refl, letterboxes, transfers, Text, messages_table, transfers_table, scene_at, puts_same, puts_before}
+use Rattle.rh_painted.proofs.Common.{puts_more, puts_stops}
 use Rattle.rh_sheet.specs.Chart.{chart_figure}
-use Rattle.rh_sheet.specs.Tables.{messages_table, transfers_table}
-use Rattle.rh_sight.specs.Steps.{scene_at}
-use Rattle.rh_drawn.proofs.Walks.{puts_same}
 use Rattle.rh_painted.proofs.AsideLemmas.{aside-parts, last}
-use Rattle.rh_lines.proofs.FlowLemmas.{puts_before, puts_more, puts_stops}
 use Rattle.rh_painted.proofs.aside.print_aside.Goals as goal
 
 pub returns-in_err-put : goal.returns-in_err-put

@@ -1,15 +1,7 @@
-use Rattle.std.proofs.Common.{◌≡◌, ◌++◌, List, Some, map, ap, ap₂, sym, ◌∙◌, append_assoc}
-use Rattle.std.specs.Prelude.{filter, not}
-use Rattle.std.specs.List.{flat_map}
-use Rattle.rh_defs.specs.declared.listing.BlockItem.{BlockItem}
-use Rattle.rh_defs.specs.Desk.{Task, task_at}
-use Rattle.rh_defs.specs.Listing.{block_items}
-use Rattle.rh_figure.specs.Changes.{block_change, block_changes, blocks_now, gone_line, has_anchor, item_of, slide_change, slide_of, slides}
-use Rattle.rh_figure.specs.Phrases.{Text}
-use Rattle.rh_figure.specs.Scene.{Scene}
-use Rattle.rh_sheet.specs.Markup.{change_item}
-use Rattle.rh_sight.specs.Steps.{scene_at}
-use Rattle.rh_drawn.proofs.Walks.{puts_same}
+use Rattle.rh_painted.proofs.Common.{◌≡◌, ◌++◌, List, Some, map, ap, ap₂, sym, ◌∙◌, append_assoc, filter, not, flat_map, BlockItem, Task, task_at}
+use Rattle.rh_painted.proofs.Common.{block_items, block_change, gone_line, has_anchor, item_of, slide_change, slide_of, slides, Text, Scene, change_item}
+use Rattle.rh_painted.proofs.Common.{scene_at, puts_same}
+use Rattle.rh_figure.specs.Changes.{block_changes, blocks_now}
 use Rattle.rh_painted.proofs.ElementLemmas.{parts-three}
 use Rattle.rh_painted.proofs.TextPuts.{text_stop, text_then}
 use Rattle.rh_painted.proofs.block_changes.print_block_changes.Goals as goal

@@ -1,11 +1,5 @@
-use Rattle.std.proofs.Common.{◌≡◌, ◌++◌, Bool, true, false, List, [], ◌∷◌, map, refl, ℕ, ◌<◌, ◌+◌, length, drop, get_or}
-use Rattle.std.specs.Prelude.{filter, if◌then◌else◌, not}
-use Rattle.std.specs.List.{flat_map}
-use Rattle.rh_defs.specs.declared.listing.BlockItem.{BlockItem}
-use Rattle.rh_figure.specs.Changes.{gone_line, has_anchor}
-use Rattle.rh_figure.specs.Phrases.{Text}
-use Rattle.rh_map.proofs.Left.{left_breaks, left_less, left_none}
-use Rattle.rh_sheet.specs.Markup.{change_item}
+use Rattle.rh_painted.proofs.Common.{◌≡◌, ◌++◌, Bool, true, false, List, [], ◌∷◌, map, refl, ℕ, ◌<◌, ◌+◌, length, drop, get_or, filter, if◌then◌else◌, not}
+use Rattle.rh_painted.proofs.Common.{flat_map, BlockItem, gone_line, has_anchor, Text, left_breaks, left_less, left_none, change_item}
 use Rattle.rh_painted.proofs.ElementLemmas.{parts-both}
 use Rattle.rh_painted.proofs.TextWalks.{text-at, text-end}
 use Rattle.rh_painted.proofs.block_changes.print_gone.Goals as goal

@@ -1,10 +1,4 @@
-use Rattle.std.proofs.Common.{ℕ, List, drop}
-use Rattle.std.specs.Prelude.{filter, map, not}
-use Rattle.std.specs.List.{flat_map}
-use Rattle.rh_defs.specs.declared.listing.BlockItem.{BlockItem}
-use Rattle.rh_figure.specs.Changes.{gone_line, has_anchor}
-use Rattle.rh_map.proofs.Left.{Left}
-use Rattle.rh_sheet.specs.Markup.{change_item}
+use Rattle.rh_painted.proofs.Common.{ℕ, List, drop, filter, map, not, flat_map, BlockItem, gone_line, has_anchor, Left, change_item}
 use Rattle.rh_painted.proofs.block_changes.print_gone.Given as goal
 
 -- those before that are gone now

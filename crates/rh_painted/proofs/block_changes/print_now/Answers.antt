@@ -1,9 +1,4 @@
-use Rattle.std.proofs.Common.{List}
-use Rattle.rh_defs.specs.declared.listing.BlockItem.{BlockItem}
-use Rattle.rh_figure.specs.Changes.{block_change, item_of}
-use Rattle.rh_figure.specs.Phrases.{Text}
-use Rattle.rh_map.proofs.Left.{left_breaks, left_less, left_none}
-use Rattle.rh_sheet.specs.Markup.{change_item}
+use Rattle.rh_painted.proofs.Common.{List, BlockItem, block_change, item_of, Text, left_breaks, left_less, left_none, change_item}
 use Rattle.rh_painted.proofs.ElementLemmas.{items-at, items-end}
 use Rattle.rh_painted.proofs.block_changes.print_now.Goals as goal
 

@@ -1,9 +1,4 @@
-use Rattle.std.proofs.Common.{ℕ, List, drop}
-use Rattle.std.specs.List.{flat_map}
-use Rattle.rh_defs.specs.declared.listing.BlockItem.{BlockItem}
-use Rattle.rh_figure.specs.Changes.{block_change, item_of}
-use Rattle.rh_map.proofs.Left.{Left}
-use Rattle.rh_sheet.specs.Markup.{change_item}
+use Rattle.rh_painted.proofs.Common.{ℕ, List, drop, flat_map, BlockItem, block_change, item_of, Left, change_item}
 use Rattle.rh_painted.proofs.block_changes.print_now.Given as goal
 
 -- what has changed of blocks

@@ -1,12 +1,8 @@
-use Rattle.std.proofs.Common.{◌≡◌, List, [], ◌∷◌, length, ap, sym, ◌∙◌}
-use Rattle.std.specs.Prelude.{Some}
-use Rattle.std.specs.List.{flat_map}
-use Rattle.rh_defs.specs.declared.listing.BlockItem.{BlockItem}
+use Rattle.rh_painted.proofs.Common.{◌≡◌, List, [], ◌∷◌, length, ap, sym, ◌∙◌, Some, flat_map, BlockItem, item_of, slide_change, slide_of, change_item}
+use Rattle.rh_painted.proofs.Common.{puts_same}
 use Rattle.rh_drawn.specs.declared.block_changes.Slid.{Slid}
 use Rattle.rh_drawn.specs.Slides.{summary_of}
-use Rattle.rh_figure.specs.Changes.{Slide, item_of, slide_change, slide_line, slide_of}
-use Rattle.rh_sheet.specs.Markup.{change_item}
-use Rattle.rh_drawn.proofs.Walks.{puts_same}
+use Rattle.rh_figure.specs.Changes.{Slide, slide_line}
 use Rattle.rh_painted.proofs.ElementLemmas.{parts-one}
 use Rattle.rh_painted.proofs.block_changes.print_slides.Goals as goal
 

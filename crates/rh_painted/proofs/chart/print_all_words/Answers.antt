@@ -1,9 +1,4 @@
-use Rattle.std.proofs.Common.{List, refl}
-use Rattle.std.specs.List.{flat_map}
-use Rattle.rh_painted.specs.declared.ways.Way.{Way}
-use Rattle.rh_painted.specs.Charts.{words_in}
-use Rattle.rh_painted.specs.Ways.{arrow_of, arrows_seen}
-use Rattle.rh_map.proofs.Left.{left_breaks, left_less, left_none}
+use Rattle.rh_painted.proofs.Common.{List, refl, flat_map, Way, words_in, arrow_of, arrows_seen, left_breaks, left_less, left_none}
 use Rattle.rh_painted.proofs.TextWalks.{text-nth, text-end}
 use Rattle.rh_painted.proofs.chart.print_all_words.Goals as goal
 

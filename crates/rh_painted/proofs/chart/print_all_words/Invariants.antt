@@ -1,8 +1,4 @@
-use Rattle.std.proofs.Common.{drop}
-use Rattle.std.specs.List.{flat_map}
-use Rattle.rh_painted.specs.Charts.{words_in}
-use Rattle.rh_painted.specs.Ways.{arrows_seen}
-use Rattle.rh_map.proofs.Left.{Left}
+use Rattle.rh_painted.proofs.Common.{drop, flat_map, words_in, arrows_seen, Left}
 use Rattle.rh_painted.proofs.chart.print_all_words.Given as goal
 
 -- those from the place on are left

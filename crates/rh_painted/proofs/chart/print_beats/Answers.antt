@@ -1,10 +1,5 @@
-use Rattle.std.proofs.Common.{refl}
-use Rattle.std.proofs.Common.{ap, get_or}
-use Rattle.std.specs.List.{flat_map}
-use Rattle.rh_drawn.proofs.Walks.{puts_same}
+use Rattle.rh_painted.proofs.Common.{refl, ap, get_or, flat_map, puts_same, beat_in, left_breaks, left_less, left_none}
 use Rattle.rh_sheet.specs.Chart.{beat_text}
-use Rattle.rh_painted.specs.Charts.{beat_in}
-use Rattle.rh_map.proofs.Left.{left_breaks, left_less, left_none}
 use Rattle.rh_painted.proofs.TextWalks.{text-nth, text-end}
 use Rattle.rh_painted.proofs.chart.print_beats.Goals as goal
 

@@ -1,7 +1,4 @@
-use Rattle.std.proofs.Common.{drop}
-use Rattle.std.specs.List.{flat_map}
-use Rattle.rh_painted.specs.Charts.{beat_in}
-use Rattle.rh_map.proofs.Left.{Left}
+use Rattle.rh_painted.proofs.Common.{drop, flat_map, beat_in, Left}
 use Rattle.rh_painted.proofs.chart.print_beats.Given as goal
 
 -- those from the place on are left

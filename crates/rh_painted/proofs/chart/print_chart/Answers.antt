@@ -1,6 +1,4 @@
-use Rattle.std.proofs.Common.{◌<◌, ap, sym, ◌∙◌, arith, length}
-use Rattle.rh_sheet.specs.Chart.{steps_in, tasks_in}
-use Rattle.rh_painted.specs.Ways.{arrows_seen}
+use Rattle.rh_painted.proofs.Common.{◌<◌, ap, sym, ◌∙◌, arith, length, steps_in, tasks_in, arrows_seen}
 use Rattle.rh_painted.proofs.ChartLemmas.{drawn-some}
 use Rattle.rh_painted.proofs.chart.print_chart.Goals as goal
 

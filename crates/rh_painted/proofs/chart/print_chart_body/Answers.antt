@@ -1,10 +1,5 @@
-use Rattle.std.proofs.Common.{[], ◌++◌, refl}
-use Rattle.std.specs.List.{flat_map}
-use Rattle.rh_figure.specs.Phrases.{Text}
+use Rattle.rh_painted.proofs.Common.{[], ◌++◌, refl, flat_map, Text, beat_in, path_in, words_in, arrows_seen, puts_before, puts_more, puts_stops}
 use Rattle.rh_draw.proofs.PutLemmas.{puts-last}
-use Rattle.rh_painted.specs.Charts.{beat_in, path_in, words_in}
-use Rattle.rh_painted.specs.Ways.{arrows_seen}
-use Rattle.rh_lines.proofs.FlowLemmas.{puts_before, puts_more, puts_stops}
 use Rattle.rh_painted.proofs.chart.print_chart_body.Goals as goal
 
 pub returns-in_err-print_lives : goal.returns-in_err-print_lives

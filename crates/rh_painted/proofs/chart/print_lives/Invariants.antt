@@ -1,7 +1,5 @@
-use Rattle.std.proofs.Common.{drop}
-use Rattle.std.specs.List.{flat_map}
+use Rattle.rh_painted.proofs.Common.{drop, flat_map, Left}
 use Rattle.rh_painted.specs.Charts.{life_in}
-use Rattle.rh_map.proofs.Left.{Left}
 use Rattle.rh_painted.proofs.chart.print_lives.Given as goal
 
 -- those from the place on are left

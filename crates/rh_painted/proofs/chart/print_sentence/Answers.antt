@@ -1,10 +1,5 @@
-use Rattle.std.proofs.Common.{◌≡◌, ◌++◌, ap, ap₂, ◌∙◌}
-use Rattle.std.specs.Prelude.{codes}
-use Rattle.std.specs.Fmt.{decimal}
-use Rattle.rh_figure.specs.Phrases.{Text, task_name}
+use Rattle.rh_painted.proofs.Common.{◌≡◌, ◌++◌, ap, ap₂, ◌∙◌, codes, decimal, Text, task_name, escape, puts_same}
 use Rattle.rh_sheet.specs.Chart.{stop_sentence}
-use Rattle.rh_sheet.specs.Markup.{escape}
-use Rattle.rh_drawn.proofs.Walks.{puts_same}
 use Rattle.rh_painted.specs.Ways.{words_of}
 use Rattle.rh_painted.proofs.ChartLemmas.{nine-parts}
 use Rattle.rh_painted.proofs.chart.print_sentence.Goals as goal

@@ -1,12 +1,5 @@
-use Rattle.std.proofs.Common.{List, refl}
-use Rattle.std.proofs.Common.{◌∷◌}
-use Rattle.std.specs.List.{flat_map}
+use Rattle.rh_painted.proofs.Common.{List, refl, ◌∷◌, flat_map, arrow_sentence, escape, Way, arrow_of, arrows_seen, left_breaks, left_less, left_none}
 use Rattle.rh_draw.proofs.EscapedItems.{escape-item}
-use Rattle.rh_sheet.specs.Chart.{arrow_sentence}
-use Rattle.rh_sheet.specs.Markup.{escape}
-use Rattle.rh_painted.specs.declared.ways.Way.{Way}
-use Rattle.rh_painted.specs.Ways.{arrow_of, arrows_seen}
-use Rattle.rh_map.proofs.Left.{left_breaks, left_less, left_none}
 use Rattle.rh_painted.proofs.TextWalks.{Each, text-nth, text-end}
 use Rattle.rh_painted.proofs.chart.print_sentences.Goals as goal
 

@@ -1,9 +1,4 @@
-use Rattle.std.proofs.Common.{drop}
-use Rattle.std.specs.List.{flat_map}
-use Rattle.rh_sheet.specs.Chart.{arrow_sentence}
-use Rattle.rh_sheet.specs.Markup.{escape}
-use Rattle.rh_painted.specs.Ways.{arrows_seen}
-use Rattle.rh_map.proofs.Left.{Left}
+use Rattle.rh_painted.proofs.Common.{drop, flat_map, arrow_sentence, escape, arrows_seen, Left}
 use Rattle.rh_painted.proofs.chart.print_sentences.Given as goal
 
 -- those from the place on are left

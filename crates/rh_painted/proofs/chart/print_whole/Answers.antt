@@ -1,15 +1,8 @@
-use Rattle.std.proofs.Common.{◌+◌, ◌++◌, ap, refl}
-use Rattle.std.specs.Prelude.{codes}
-use Rattle.std.specs.List.{flat_map}
-use Rattle.rh_figure.specs.Phrases.{Text}
-use Rattle.rh_sheet.specs.Chart.{arrow_sentence}
-use Rattle.rh_sheet.specs.Markup.{escape, figure_open}
+use Rattle.rh_painted.proofs.Common.{◌+◌, ◌++◌, ap, refl, codes, flat_map, Text, arrow_sentence, escape, figure_open, puts_same, arrows_seen, puts_before}
+use Rattle.rh_painted.proofs.Common.{puts_more, puts_stops}
 use Rattle.rh_sheet.specs.declared.sizes.TheConstants.{CHART_EDGE, CHART_WIDTH}
-use Rattle.rh_drawn.proofs.Walks.{puts_same}
 use Rattle.rh_painted.specs.Charts.{body_in}
-use Rattle.rh_painted.specs.Ways.{arrows_seen}
 use Rattle.rh_painted.proofs.ChartLemmas.{chart-parts, title, ways-some}
-use Rattle.rh_lines.proofs.FlowLemmas.{puts_before, puts_more, puts_stops}
 use Rattle.rh_painted.proofs.chart.print_whole.Goals as goal
 
 abbrev described : Text

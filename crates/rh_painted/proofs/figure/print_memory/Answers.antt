@@ -1,10 +1,7 @@
-use Rattle.std.proofs.Common.{◌++◌, []}
-use Rattle.std.specs.Prelude.{codes}
-use Rattle.std.specs.List.{flat_map}
+use Rattle.rh_painted.proofs.Common.{◌++◌, [], codes, flat_map, area_heading, slot_part, scene_at}
 use Rattle.rh_figure.specs.Figure.{area_panels}
 use Rattle.rh_sheet.specs.Pool.{pool_figure}
-use Rattle.rh_sheet.specs.Steps.{area_heading, module_part, slot_part}
-use Rattle.rh_sight.specs.Steps.{scene_at}
+use Rattle.rh_sheet.specs.Steps.{module_part}
 use Rattle.rh_painted.proofs.TextPuts.{text_last, text_stop, text_then}
 use Rattle.rh_painted.proofs.figure.print_memory.Goals as goal
 

@@ -1,18 +1,10 @@
-use Rattle.std.proofs.Common.{◌≡◌, ◌<◌, ◌-◌, ◌++◌, [], ◌∷◌, Some, length, ap, ap₂, sym, ◌∙◌, arith}
-use Rattle.std.specs.Prelude.{slice_get}
+use Rattle.rh_painted.proofs.Common.{◌≡◌, ◌<◌, ◌-◌, ◌++◌, [], ◌∷◌, Some, length, ap, ap₂, sym, ◌∙◌, arith, slice_get, BlockItem, block_items, flex_start}
+use Rattle.rh_painted.proofs.Common.{flex_cards, IsTaskSeen, scene_at, flex-long, seen-same, puts_same, band_text_from, form_text}
 use Rattle.std.proofs.lemmas.Option.{slice_get-get_or}
-use Rattle.rh_defs.specs.declared.listing.BlockItem.{BlockItem}
-use Rattle.rh_defs.specs.Listing.{block_items}
-use Rattle.rh_defs.specs.Slot.{flex_start}
-use Rattle.rh_figure.specs.Cards.{flex_cards, more_card}
+use Rattle.rh_figure.specs.Cards.{more_card}
 use Rattle.rh_figure.specs.Layout.{is_fresh_flex}
-use Rattle.rh_sight.specs.Seen.{IsTaskSeen}
-use Rattle.rh_sight.specs.Steps.{scene_at}
 use Rattle.rh_drawn.specs.Cards.{place_behind}
-use Rattle.rh_drawn.proofs.CardLemmas.{behind-are, flex-long, flex-picked, flex-unpicked}
-use Rattle.rh_drawn.proofs.DrawingLemmas.{seen-same}
-use Rattle.rh_drawn.proofs.Walks.{puts_same}
-use Rattle.rh_painted.specs.Bands.{band_text_from, form_text}
+use Rattle.rh_drawn.proofs.CardLemmas.{behind-are, flex-picked, flex-unpicked}
 use Rattle.rh_painted.proofs.TextPuts.{text_last, text_stop, text_then}
 use Rattle.rh_painted.proofs.flex_cards.put_behind.Goals as goal
 

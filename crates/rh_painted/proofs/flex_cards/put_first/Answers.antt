@@ -1,14 +1,7 @@
-use Rattle.std.proofs.Common.{◌≡◌, ◌<◌, Some, length, take, ap, sym, ◌∙◌, arith}
-use Rattle.std.specs.Prelude.{slice_get}
-use Rattle.std.proofs.lemmas.List.{length-take}
+use Rattle.rh_painted.proofs.Common.{◌≡◌, ◌<◌, Some, length, take, ap, sym, ◌∙◌, arith, slice_get, length-take, block_items, flex_start, flex_cards}
+use Rattle.rh_painted.proofs.Common.{left_breaks, left_less, left_none, left_whole, scene_at, flex-long, seen-same}
 use Rattle.std.proofs.lemmas.Option.{slice_get-get_or}
-use Rattle.rh_defs.specs.Listing.{block_items}
-use Rattle.rh_defs.specs.Slot.{flex_start}
-use Rattle.rh_figure.specs.Cards.{flex_cards}
-use Rattle.rh_map.proofs.Left.{left_breaks, left_less, left_none, left_whole}
-use Rattle.rh_sight.specs.Steps.{scene_at}
-use Rattle.rh_drawn.proofs.CardLemmas.{card-at, flex-long, get-front}
-use Rattle.rh_drawn.proofs.DrawingLemmas.{seen-same}
+use Rattle.rh_drawn.proofs.CardLemmas.{card-at, get-front}
 use Rattle.rh_painted.proofs.BandLemmas.{band-end, band-some}
 use Rattle.rh_painted.proofs.flex_cards.put_first.Goals as goal
 

@@ -1,10 +1,4 @@
-use Rattle.std.proofs.Common.{◌≡◌, drop, take}
-use Rattle.std.specs.Prelude.{Some, slice_get}
-use Rattle.rh_defs.specs.Desk.{Task}
-use Rattle.rh_figure.specs.Cards.{flex_cards}
-use Rattle.rh_map.proofs.Left.{Left}
-use Rattle.rh_sight.specs.Steps.{scene_at}
-use Rattle.rh_painted.specs.Bands.{band_text_from}
+use Rattle.rh_painted.proofs.Common.{◌≡◌, drop, take, Some, slice_get, Task, flex_cards, Left, scene_at, band_text_from}
 use Rattle.rh_painted.proofs.flex_cards.put_first.Given as goal
 
 -- the cards from the place on are left

@@ -1,17 +1,9 @@
-use Rattle.std.proofs.Common.{ℕ, ◌++◌, List, [], ◌∷◌, length, take, ap, ap₂, refl, sym, ◌∙◌, arith}
-use Rattle.std.specs.Prelude.{find}
-use Rattle.std.proofs.lemmas.List.{length-take}
+use Rattle.rh_painted.proofs.Common.{ℕ, ◌++◌, List, [], ◌∷◌, length, take, ap, ap₂, refl, sym, ◌∙◌, arith, find, length-take, flex_start, size_text}
+use Rattle.rh_painted.proofs.Common.{IsTaskSeen, scene_at, seen-same, puts_same, form_text}
 use Rattle.rh_defs.specs.Records.{is_document, is_source}
-use Rattle.rh_defs.specs.Slot.{flex_start}
 use Rattle.rh_figure.specs.Cards.{FlexCard, in_use_text, out_use_text}
 use Rattle.rh_figure.specs.Layout.{is_fresh_flex}
-use Rattle.rh_figure.specs.Phrases.{size_text}
-use Rattle.rh_sight.specs.Seen.{IsTaskSeen}
-use Rattle.rh_sight.specs.Steps.{scene_at}
 use Rattle.rh_drawn.proofs.CardLemmas.{flex-here, front-is, item-block}
-use Rattle.rh_drawn.proofs.DrawingLemmas.{seen-same}
-use Rattle.rh_drawn.proofs.Walks.{puts_same}
-use Rattle.rh_painted.specs.Bands.{form_text}
 use Rattle.rh_painted.proofs.BandLemmas.{card-same, front-bytes}
 use Rattle.rh_painted.proofs.flex_cards.put_flex.Goals as goal
 

@@ -1,14 +1,7 @@
-use Rattle.std.proofs.Common.{◌≡◌, ◌+◌, length, take, ap, sym, ◌∙◌, arith}
-use Rattle.std.proofs.lemmas.List.{take_all}
-use Rattle.rh_defs.specs.Listing.{block_items}
-use Rattle.rh_defs.specs.Slot.{flex_start}
-use Rattle.rh_figure.specs.Cards.{flex_cards}
-use Rattle.rh_sight.specs.Steps.{scene_at}
-use Rattle.rh_drawn.specs.Cards.{cards_behind, count_shown}
-use Rattle.rh_drawn.proofs.CardLemmas.{count-few, count-many, count-within, flex-long, shown-few, shown-parts, shown-split, some-count}
-use Rattle.rh_drawn.proofs.DrawingLemmas.{seen-same}
-use Rattle.rh_drawn.proofs.Walks.{puts_same}
-use Rattle.rh_painted.specs.Bands.{band_text_from}
+use Rattle.rh_painted.proofs.Common.{◌≡◌, ◌+◌, length, take, ap, sym, ◌∙◌, arith, take_all, block_items, flex_start, flex_cards, scene_at, cards_behind}
+use Rattle.rh_painted.proofs.Common.{flex-long, seen-same, puts_same, band_text_from}
+use Rattle.rh_drawn.specs.Cards.{count_shown}
+use Rattle.rh_drawn.proofs.CardLemmas.{count-few, count-many, count-within, shown-few, shown-parts, shown-split, some-count}
 use Rattle.rh_painted.proofs.TextPuts.{text_stop, text_then}
 use Rattle.rh_painted.proofs.BandLemmas.{band-append, shown-behind}
 use Rattle.rh_painted.proofs.flex_cards.put_flex_cards.Goals as goal

@@ -1,13 +1,9 @@
-use Rattle.std.proofs.Common.{◌++◌, ◌≡◌, ◌∙◌, ◌+◌, ◌-◌, [], ◌∷◌, length, ap, sym, arith}
+use Rattle.rh_painted.proofs.Common.{◌++◌, ◌≡◌, ◌∙◌, ◌+◌, ◌-◌, [], ◌∷◌, length, ap, sym, arith, heap_seen, heap_start_of, scene_at, at-some, band_cards}
+use Rattle.rh_painted.proofs.Common.{if-heap, puts_same, band_text_from, form_text}
 use Rattle.rh_figure.specs.Cards.{more_card}
-use Rattle.rh_sight.specs.Seen.{heap_seen, heap_start_of}
-use Rattle.rh_sight.specs.Steps.{scene_at}
-use Rattle.rh_sight.proofs.Holders.{at-some}
-use Rattle.rh_drawn.specs.Bands.{IsSurvey, band_card, band_cards}
+use Rattle.rh_drawn.specs.Bands.{IsSurvey, band_card}
 use Rattle.rh_drawn.proofs.CardLemmas.{behind-are}
-use Rattle.rh_drawn.proofs.HeapLemmas.{band-heap, band-long, band-none, band-some, if-heap}
-use Rattle.rh_drawn.proofs.Walks.{puts_same}
-use Rattle.rh_painted.specs.Bands.{band_text_from, form_text}
+use Rattle.rh_drawn.proofs.HeapLemmas.{band-heap, band-long, band-none, band-some}
 use Rattle.rh_painted.proofs.TextPuts.{text_last, text_stop, text_then}
 use Rattle.rh_painted.proofs.heap_cards.put_behind.Goals as goal
 

@@ -1,15 +1,8 @@
-use Rattle.std.proofs.Common.{◌∙◌, ◌≤◌, length, take, ap, arith}
-use Rattle.std.specs.Prelude.{slice_get}
-use Rattle.std.proofs.lemmas.List.{length-take}
-use Rattle.std.proofs.lemmas.Option.{slice_get_within}
-use Rattle.rh_map.proofs.Left.{left_breaks, left_less, left_none, left_whole}
-use Rattle.rh_sight.specs.Seen.{heap_seen, heap_start_of}
-use Rattle.rh_sight.specs.Steps.{scene_at}
+use Rattle.rh_painted.proofs.Common.{◌∙◌, ◌≤◌, length, take, ap, arith, slice_get, length-take, slice_get_within, left_breaks, left_less, left_none}
+use Rattle.rh_painted.proofs.Common.{left_whole, heap_seen, heap_start_of, scene_at, at-some, band_cards, from-first, if-heap}
 use Rattle.rh_sight.proofs.Heaps.{comes-parts}
-use Rattle.rh_sight.proofs.Holders.{at-some}
-use Rattle.rh_drawn.specs.Bands.{band_cards}
 use Rattle.rh_drawn.proofs.CardLemmas.{get-front}
-use Rattle.rh_drawn.proofs.HeapLemmas.{band-heap, from-first, got-is, if-heap, in-band, told-here}
+use Rattle.rh_drawn.proofs.HeapLemmas.{band-heap, got-is, in-band, told-here}
 use Rattle.rh_painted.proofs.BandLemmas.{band-end, band-some}
 use Rattle.rh_painted.proofs.heap_cards.put_first.Goals as goal
 

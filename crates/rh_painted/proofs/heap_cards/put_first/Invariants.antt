@@ -1,10 +1,5 @@
-use Rattle.std.proofs.Common.{◌≡◌, Some, drop, take}
+use Rattle.rh_painted.proofs.Common.{◌≡◌, Some, drop, take, Left, heap_seen, scene_at, band_cards, band_text_from}
 use Rattle.rh_defs.specs.Heap.{Heap}
-use Rattle.rh_map.proofs.Left.{Left}
-use Rattle.rh_sight.specs.Seen.{heap_seen}
-use Rattle.rh_sight.specs.Steps.{scene_at}
-use Rattle.rh_drawn.specs.Bands.{band_cards}
-use Rattle.rh_painted.specs.Bands.{band_text_from}
 use Rattle.rh_painted.proofs.heap_cards.put_first.Given as goal
 
 -- the cards from the place on are left

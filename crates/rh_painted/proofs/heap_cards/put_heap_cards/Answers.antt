@@ -1,14 +1,9 @@
-use Rattle.std.proofs.Common.{◌≡◌, ◌+◌, ◌∙◌, length, take, ap, sym, arith}
-use Rattle.std.proofs.lemmas.List.{take_all}
-use Rattle.rh_sight.specs.Seen.{heap_seen}
-use Rattle.rh_sight.specs.Steps.{scene_at}
-use Rattle.rh_sight.proofs.Holders.{at-some}
-use Rattle.rh_drawn.specs.Bands.{IsSurvey, band_cards}
-use Rattle.rh_drawn.specs.Cards.{cards_behind, count_shown}
+use Rattle.rh_painted.proofs.Common.{◌≡◌, ◌+◌, ◌∙◌, length, take, ap, sym, arith, take_all, heap_seen, scene_at, at-some, band_cards, cards_behind, if-heap}
+use Rattle.rh_painted.proofs.Common.{puts_same, band_text_from}
+use Rattle.rh_drawn.specs.Bands.{IsSurvey}
+use Rattle.rh_drawn.specs.Cards.{count_shown}
 use Rattle.rh_drawn.proofs.CardLemmas.{count-few, count-many, count-most, count-within, shown-few, shown-parts, shown-split, some-count}
-use Rattle.rh_drawn.proofs.HeapLemmas.{band-long, band-many, if-heap}
-use Rattle.rh_drawn.proofs.Walks.{puts_same}
-use Rattle.rh_painted.specs.Bands.{band_text_from}
+use Rattle.rh_drawn.proofs.HeapLemmas.{band-long, band-many}
 use Rattle.rh_painted.proofs.TextPuts.{text_stop, text_then}
 use Rattle.rh_painted.proofs.BandLemmas.{band-append, shown-behind}
 use Rattle.rh_painted.proofs.heap_cards.put_heap_cards.Goals as goal

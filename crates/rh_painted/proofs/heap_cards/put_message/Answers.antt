@@ -1,17 +1,10 @@
-use Rattle.std.proofs.Common.{[], ◌∷◌, ap, ap₂, ◌∙◌}
-use Rattle.std.specs.Prelude.{codes, ◌==◌}
-use Rattle.std.specs.Fmt.{decimal}
-use Rattle.std.specs.List.{concat}
+use Rattle.rh_painted.proofs.Common.{[], ◌∷◌, ap, ap₂, ◌∙◌, codes, ◌==◌, decimal, concat, task_name, scene_at, puts_same, form_text}
 use Rattle.rh_defs.specs.Messages.{code_number}
 use Rattle.rh_defs.specs.Text.{action_name}
 use Rattle.rh_figure.specs.Cards.{PostCard, between_text}
-use Rattle.rh_figure.specs.Phrases.{task_name}
 use Rattle.rh_sight.specs.Messages.{place_among}
-use Rattle.rh_sight.specs.Steps.{scene_at}
 use Rattle.rh_drawn.specs.Bands.{place_seen}
 use Rattle.rh_drawn.proofs.PostLemmas.{chain-is}
-use Rattle.rh_drawn.proofs.Walks.{puts_same}
-use Rattle.rh_painted.specs.Bands.{form_text}
 use Rattle.rh_painted.proofs.BandLemmas.{card-same}
 use Rattle.rh_painted.proofs.heap_cards.put_message.Goals as goal
 

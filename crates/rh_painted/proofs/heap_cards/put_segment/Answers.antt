@@ -1,17 +1,12 @@
-use Rattle.std.proofs.Common.{◌≡◌, ◌∙◌, ℕ, ◌+◌, ◌-◌, ◌++◌, Option, Some, None, ap, sym, subst, arith}
-use Rattle.std.specs.Prelude.{◌==◌, find}
-use Rattle.rh_defs.specs.Messages.{Parcel}
+use Rattle.rh_painted.proofs.Common.{◌≡◌, ◌∙◌, ℕ, ◌+◌, ◌-◌, ◌++◌, Option, Some, None, ap, sym, subst, arith, ◌==◌, find, Parcel, MessageItem, held_on}
+use Rattle.rh_painted.proofs.Common.{message_items, waiting_on, heap_seen, heap_start_of, scene_at, puts_same, form_text}
 use Rattle.rh_defs.specs.Post.{post_is_message}
 use Rattle.rh_figure.specs.Scene.{live, message_in}
 use Rattle.rh_sight.specs.declared.sight.HeapOf.{HeapOf}
-use Rattle.rh_defs.specs.declared.listing.MessageItem.{MessageItem}
-use Rattle.rh_sight.specs.Messages.{held_on, lies_in, message_items, waiting_on}
-use Rattle.rh_sight.specs.Seen.{HasBlock, IsFree, heap_seen, heap_start_of}
-use Rattle.rh_sight.specs.Steps.{scene_at}
+use Rattle.rh_sight.specs.Messages.{lies_in}
+use Rattle.rh_sight.specs.Seen.{HasBlock, IsFree}
 use Rattle.rh_drawn.proofs.HeapLemmas.{block-free, has-block, module-is, posted-is, task-is, told-none, told-some, used-here}
 use Rattle.rh_drawn.proofs.PostLemmas.{Told, message-told, stands_in}
-use Rattle.rh_drawn.proofs.Walks.{puts_same}
-use Rattle.rh_painted.specs.Bands.{form_text}
 use Rattle.rh_painted.proofs.heap_cards.put_segment.Goals as goal
 
 pub put_used-requires-in-None-clause-free : goal.put_used-requires-in-None-clause-free

@@ -1,13 +1,9 @@
-use Rattle.std.proofs.Common.{◌≡◌, ℕ, ◌-◌, ◌++◌, List, [], ◌∷◌, length, take, ap, ap₂, sym, subst, ◌∙◌, arith}
-use Rattle.std.specs.Prelude.{codes, if◌then◌else◌, ◌==◌}
-use Rattle.std.proofs.lemmas.List.{length-take}
+use Rattle.rh_painted.proofs.Common.{◌≡◌, ℕ, ◌-◌, ◌++◌, List, [], ◌∷◌, length, take, ap, ap₂, sym, subst, ◌∙◌, arith, codes, if◌then◌else◌, ◌==◌, length-take}
+use Rattle.rh_painted.proofs.Common.{Text, size_text, heap_seen, heap_start_of, puts_same, form_text}
 use Rattle.rh_defs.specs.Text.{address}
 use Rattle.rh_figure.specs.Cards.{UsedCard}
-use Rattle.rh_figure.specs.Phrases.{Text, size_text}
-use Rattle.rh_sight.specs.Seen.{HasBlock, heap_seen, heap_start_of}
+use Rattle.rh_sight.specs.Seen.{HasBlock}
 use Rattle.rh_drawn.proofs.CardLemmas.{front-is}
-use Rattle.rh_drawn.proofs.Walks.{puts_same}
-use Rattle.rh_painted.specs.Bands.{form_text}
 use Rattle.rh_painted.proofs.BandLemmas.{card-same, front-bytes}
 use Rattle.rh_painted.proofs.heap_cards.put_used.Goals as goal
 

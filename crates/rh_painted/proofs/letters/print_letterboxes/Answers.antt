@@ -1,14 +1,6 @@
-use Rattle.std.proofs.Common.{◌≡◌, ◌<◌, ◌∙◌, List, ℕ, length, ap, ap₂, subst, refl, arith}
-use Rattle.std.specs.List.{flat_map}
-use Rattle.std.proofs.lemmas.Option.{slice_get_within}
-use Rattle.rh_defs.specs.Desk.{Task}
-use Rattle.rh_drawn.specs.Letters.{letterboxes_in}
-use Rattle.rh_figure.specs.Figure.{letterboxes}
-use Rattle.rh_sheet.specs.Tables.{letterbox_row}
-use Rattle.rh_sight.specs.Steps.{scene_at}
+use Rattle.rh_painted.proofs.Common.{◌≡◌, ◌<◌, ◌∙◌, List, ℕ, length, ap, ap₂, subst, refl, arith, flat_map, slice_get_within, Task, letterboxes_in}
+use Rattle.rh_painted.proofs.Common.{letterboxes, letterbox_row, scene_at, Left, left_breaks, left_less, left_none, left_whole, puts_same}
 use Rattle.rh_painted.proofs.TableLemmas.{boxes, boxes-are}
-use Rattle.rh_map.proofs.Left.{Left, left_breaks, left_less, left_none, left_whole}
-use Rattle.rh_drawn.proofs.Walks.{puts_same}
 use Rattle.rh_painted.proofs.TextWalks.{text-flat, text-none, text-some}
 use Rattle.rh_painted.proofs.letters.print_letterboxes.Goals as goal
 

@@ -1,11 +1,4 @@
-use Rattle.std.proofs.Common.{◌-◌, length, drop}
-use Rattle.std.specs.List.{flat_map}
-use Rattle.rh_defs.specs.Desk.{Task}
-use Rattle.rh_drawn.specs.Letters.{letterboxes_in}
-use Rattle.rh_figure.specs.Figure.{letterboxes}
-use Rattle.rh_sheet.specs.Tables.{letterbox_row}
-use Rattle.rh_sight.specs.Steps.{scene_at}
-use Rattle.rh_map.proofs.Left.{Left}
+use Rattle.rh_painted.proofs.Common.{◌-◌, length, drop, flat_map, Task, letterboxes_in, letterboxes, letterbox_row, scene_at, Left}
 use Rattle.rh_painted.proofs.letters.print_letterboxes.Given as goal
 
 -- the tasks from the place on are left

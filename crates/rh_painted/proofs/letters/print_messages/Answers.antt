@@ -1,13 +1,7 @@
-use Rattle.std.proofs.Common.{◌≡◌, true, false, ◌++◌, refl, sym, ◌∙◌}
-use Rattle.std.specs.Prelude.{codes}
-use Rattle.std.specs.List.{flat_map}
-use Rattle.rh_figure.specs.Figure.{letterboxes}
-use Rattle.rh_figure.specs.Phrases.{Text}
-use Rattle.rh_sheet.specs.Tables.{letterbox_row, messages_heading, messages_table}
-use Rattle.rh_sight.specs.Steps.{scene_at}
-use Rattle.rh_drawn.proofs.Walks.{puts_none, puts_same}
+use Rattle.rh_painted.proofs.Common.{◌≡◌, true, false, ◌++◌, refl, sym, ◌∙◌, codes, flat_map, letterboxes, Text, letterbox_row, messages_table, scene_at}
+use Rattle.rh_painted.proofs.Common.{puts_none, puts_same, puts_before, puts_more, puts_stops}
+use Rattle.rh_sheet.specs.Tables.{messages_heading}
 use Rattle.rh_painted.proofs.TableLemmas.{boxes-told, is_some, rows-none, rows-some}
-use Rattle.rh_lines.proofs.FlowLemmas.{puts_before, puts_more, puts_stops}
 use Rattle.rh_painted.proofs.letters.print_messages.Goals as goal
 
 abbrev first : Text

@@ -1,22 +1,13 @@
-use Rattle.std.proofs.Common.{◌≡◌, ◌+◌, ◌++◌, [], length, ap, ap₂, refl, subst, sym, ◌∙◌, arith}
-use Rattle.std.specs.Prelude.{◌^◌}
-use Rattle.std.specs.List.{AllByRecursion}
-use Rattle.rh_defs.specs.Desk.{module_pages}
-use Rattle.rh_defs.specs.Heap.{base}
-use Rattle.rh_figure.specs.Cards.{module_card, module_cards}
+use Rattle.rh_painted.proofs.Common.{◌≡◌, ◌+◌, ◌++◌, [], length, ap, ap₂, refl, subst, sym, ◌∙◌, arith, ◌^◌, AllByRecursion, module_pages, base, module_cards}
+use Rattle.rh_painted.proofs.Common.{AreaOf, lens_below, Frame, Plot, Census, scene_at, cards-long, owned-few, seen-fixed, puts_same}
+use Rattle.rh_figure.specs.Cards.{module_card}
 use Rattle.rh_figure.specs.Layout.{module_legend}
-use Rattle.rh_figure.specs.Share.{AreaOf}
-use Rattle.rh_sheet.specs.Areas.{lens_below, module_frame, module_plot}
+use Rattle.rh_sheet.specs.Areas.{module_frame, module_plot}
 use Rattle.rh_sheet.specs.Cards.{cards_below}
 use Rattle.rh_sheet.specs.Frames.{rows_foot}
-use Rattle.rh_sheet.specs.declared.frame.Frame.{Frame}
-use Rattle.rh_sheet.specs.Rows.{Plot, rows_text}
+use Rattle.rh_sheet.specs.Rows.{rows_text}
 use Rattle.rh_sight.specs.declared.sight.PagesOf.TheVariants as pages
-use Rattle.rh_sight.specs.declared.walk.Census.{Census}
-use Rattle.rh_sight.specs.Steps.{scene_at}
-use Rattle.rh_drawn.proofs.HeapLemmas.{cards-long}
-use Rattle.rh_drawn.proofs.PageLemmas.{owned-few, owned-fixed, seen-fixed}
-use Rattle.rh_drawn.proofs.Walks.{puts_same}
+use Rattle.rh_drawn.proofs.PageLemmas.{owned-fixed}
 use Rattle.rh_painted.proofs.SlotLemmas.{EndsBy, heap-ends}
 use Rattle.rh_painted.proofs.TextPuts.{text_last, text_stop, text_then}
 use Rattle.rh_painted.proofs.modules.print_body.Goals as goal

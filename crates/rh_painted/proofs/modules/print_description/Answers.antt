@@ -1,12 +1,6 @@
-use Rattle.std.proofs.Common.{ap, sym}
-use Rattle.std.proofs.lemmas.Grind.{flat_map-append}
-use Rattle.rh_figure.specs.Cards.{module_cards, shown_cards}
-use Rattle.rh_figure.specs.Share.{AreaOf}
+use Rattle.rh_painted.proofs.Common.{ap, sym, flat_map-append, module_cards, shown_cards, AreaOf, escape, escaped_byte, scene_at, puts_same}
 use Rattle.rh_sheet.specs.Areas.{pages_sentence}
 use Rattle.rh_sheet.specs.Cards.{cards_sentences}
-use Rattle.rh_sheet.specs.Markup.{escape, escaped_byte}
-use Rattle.rh_sight.specs.Steps.{scene_at}
-use Rattle.rh_drawn.proofs.Walks.{puts_same}
 use Rattle.rh_painted.proofs.BandLemmas.{told-all}
 use Rattle.rh_painted.proofs.TextPuts.{text_stop, text_then}
 use Rattle.rh_painted.proofs.modules.print_description.Goals as goal

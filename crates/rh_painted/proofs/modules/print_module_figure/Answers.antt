@@ -1,19 +1,10 @@
-use Rattle.std.proofs.Common.{◌≡◌, ℕ, ◌+◌, ◌++◌, List, [], length, ap, ap₂, refl, sym, ◌∙◌, arith}
-use Rattle.std.specs.Prelude.{codes, max, min}
-use Rattle.rh_figure.specs.Cards.{module_card, module_cards}
-use Rattle.rh_figure.specs.declared.piece.Piece.{Piece}
-use Rattle.rh_figure.specs.Share.{AreaOf, count_of}
+use Rattle.rh_painted.proofs.Common.{◌≡◌, ℕ, ◌+◌, ◌++◌, List, [], length, ap, ap₂, refl, sym, ◌∙◌, arith, codes, max, min, module_cards, Piece, AreaOf}
+use Rattle.rh_painted.proofs.Common.{count_of, Frame, escape, figure_open, Plot, Census, scene_at, cards-long, from-first, owned, owned-few, seen-fixed}
+use Rattle.rh_painted.proofs.Common.{puts_same}
+use Rattle.rh_figure.specs.Cards.{module_card}
 use Rattle.rh_sheet.specs.Areas.{module_body, module_description, module_frame, rows_for}
 use Rattle.rh_sheet.specs.Frames.{frame_height}
-use Rattle.rh_sheet.specs.declared.frame.Frame.{Frame}
-use Rattle.rh_sheet.specs.Markup.{escape, figure_open}
-use Rattle.rh_sheet.specs.Rows.{Plot}
 use Rattle.rh_sight.specs.declared.sight.PagesOf.TheVariants as pages
-use Rattle.rh_sight.specs.declared.walk.Census.{Census}
-use Rattle.rh_sight.specs.Steps.{scene_at}
-use Rattle.rh_drawn.proofs.HeapLemmas.{cards-long, from-first}
-use Rattle.rh_drawn.proofs.PageLemmas.{owned, owned-few, seen-fixed}
-use Rattle.rh_drawn.proofs.Walks.{puts_same}
 use Rattle.rh_painted.proofs.TextPuts.{text_last, text_stop, text_then}
 use Rattle.rh_painted.proofs.modules.print_module_figure.Goals as goal
 

@@ -1,10 +1,6 @@
-use Rattle.std.proofs.Common.{◌++◌, ap, ◌∙◌}
-use Rattle.rh_defs.specs.Desk.{module_pages}
-use Rattle.rh_figure.specs.Phrases.{area_name, pages_text}
+use Rattle.rh_painted.proofs.Common.{◌++◌, ap, ◌∙◌, module_pages, area_name, heading_text, scene_at, puts_same}
+use Rattle.rh_figure.specs.Phrases.{pages_text}
 use Rattle.rh_sheet.specs.Areas.{module_figure}
-use Rattle.rh_sheet.specs.Markup.{heading_text}
-use Rattle.rh_sight.specs.Steps.{scene_at}
-use Rattle.rh_drawn.proofs.Walks.{puts_same}
 use Rattle.rh_painted.proofs.TextPuts.{text_stop, text_then}
 use Rattle.rh_painted.proofs.modules.print_module_part.Goals as goal
 

@@ -1,11 +1,4 @@
-use Rattle.std.proofs.Common.{◌≡◌, List, ap, ap₂, ◌∙◌, length}
-use Rattle.std.specs.Prelude.{map}
-use Rattle.std.proofs.lemmas.List.{length-map}
-use Rattle.rh_sheet.specs.declared.note.Note.{Note}
-use Rattle.rh_sheet.specs.Chart.{followed}
-use Rattle.rh_defs.specs.declared.listing.MessageItem.{MessageItem}
-use Rattle.rh_sight.specs.Messages.{message_items}
-use Rattle.rh_painted.specs.Notes.{code_among}
+use Rattle.rh_painted.proofs.Common.{◌≡◌, List, ap, ap₂, ◌∙◌, length, map, length-map, Note, followed, MessageItem, message_items, code_among}
 use Rattle.rh_painted.proofs.NoteLemmas.{refilled}
 use Rattle.rh_painted.proofs.notes.follow_messages.Goals as goal
 

@@ -1,8 +1,5 @@
-use Rattle.std.proofs.Common.{ap, ◌∙◌, get_or, set}
+use Rattle.rh_painted.proofs.Common.{ap, ◌∙◌, get_or, set, Note, followed, code_among}
 use Rattle.rh_defs.specs.declared.message.Action.TheVariants.{DataSave}
-use Rattle.rh_sheet.specs.declared.note.Note.{Note}
-use Rattle.rh_sheet.specs.Chart.{followed}
-use Rattle.rh_painted.specs.Notes.{code_among}
 use Rattle.rh_painted.proofs.NoteLemmas.{written-more}
 use Rattle.rh_painted.proofs.notes.follow_notes.Goals as goal
 

@@ -1,8 +1,4 @@
-use Rattle.std.proofs.Common.{◌≡◌, ◌++◌, take, drop}
-use Rattle.std.specs.Prelude.{map}
-use Rattle.rh_sheet.specs.declared.note.Note.{Note}
-use Rattle.rh_sheet.specs.Chart.{followed}
-use Rattle.rh_painted.specs.Notes.{code_among}
+use Rattle.rh_painted.proofs.Common.{◌≡◌, ◌++◌, take, drop, map, Note, followed, code_among}
 use Rattle.rh_painted.proofs.notes.follow_notes.Given as goal
 
 -- the notes so far follow the step

@@ -1,12 +1,8 @@
-use Rattle.std.proofs.Common.{◌≤◌, [], ◌∷◌, ◌++◌, None, Some, ap, ap₂, sym, ◌∙◌, arith, append-nil, length, refl}
-use Rattle.std.specs.Prelude.{map}
-use Rattle.std.proofs.lemmas.List.{length-map}
-use Rattle.rh_sheet.specs.declared.note.Note.{Note}
+use Rattle.rh_painted.proofs.Common.{◌≤◌, [], ◌∷◌, ◌++◌, None, Some, ap, ap₂, sym, ◌∙◌, arith, append-nil, length, refl, map, length-map, Note, followed}
+use Rattle.rh_painted.proofs.Common.{message_items, code_among}
 use Rattle.rh_sheet.specs.declared.sizes.TheConstants.{MOST_NOTES}
-use Rattle.rh_sheet.specs.Chart.{followed, last_of}
-use Rattle.rh_sight.specs.Messages.{message_items}
+use Rattle.rh_sheet.specs.Chart.{last_of}
 use Rattle.rh_sight.specs.Seen.{letter_seen}
-use Rattle.rh_painted.specs.Notes.{code_among}
 use Rattle.rh_painted.proofs.NoteLemmas.{last-few, noted-is}
 use Rattle.rh_painted.proofs.notes.note_step.Goals as goal
 

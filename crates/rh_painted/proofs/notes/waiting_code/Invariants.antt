@@ -1,5 +1,4 @@
-use Rattle.std.proofs.Common.{◌≡◌, drop}
-use Rattle.rh_painted.specs.Notes.{code_among}
+use Rattle.rh_painted.proofs.Common.{◌≡◌, drop, code_among}
 use Rattle.rh_painted.proofs.notes.waiting_code.Given as goal
 
 -- no message so far waits under the ref

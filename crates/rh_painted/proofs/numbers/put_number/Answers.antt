@@ -1,5 +1,4 @@
-use Rattle.std.proofs.Common.{◌≡◌, ◌≢◌, ap, sym, ◌∙◌, arith, rules, get_or, length}
-use Rattle.std.specs.Prelude.{insert, nat_le}
+use Rattle.rh_painted.proofs.Common.{◌≡◌, ◌≢◌, ap, sym, ◌∙◌, arith, rules, get_or, length, insert, nat_le}
 use Rattle.std.specs.List.{position}
 use Rattle.rh_painted.proofs.NumberLemmas.{insert-last, inserted-new, inserted-there, place-behind, place-found, place_of}
 use Rattle.rh_painted.proofs.numbers.put_number.Goals as goal

@@ -1,5 +1,5 @@
-use Rattle.std.proofs.Common.{◌-◌, ap, drop, length, arith}
-use Rattle.std.proofs.lemmas.List.{length-drop, length-take}
+use Rattle.rh_painted.proofs.Common.{◌-◌, ap, drop, length, arith, length-take}
+use Rattle.std.proofs.lemmas.List.{length-drop}
 use Rattle.rh_painted.proofs.page_changes.freed_of.Goals as goal
 
 pub returns-clause-few : goal.returns-clause-few

@@ -1,10 +1,4 @@
-use Rattle.std.proofs.Common.{◌<◌, length, ap, sym, ◌∙◌, arith}
-use Rattle.rh_figure.specs.Changes.{freed_text}
-use Rattle.rh_sheet.specs.Markup.{change_item}
-use Rattle.rh_sight.specs.Steps.{scene_at}
-use Rattle.std.proofs.lemmas.Bool.Decides.{nat_tests}
-use Rattle.std.specs.List.{flat_map}
-use Rattle.rh_drawn.proofs.Walks.{puts_same}
+use Rattle.rh_painted.proofs.Common.{◌<◌, length, ap, sym, ◌∙◌, arith, freed_text, change_item, scene_at, nat_tests, flat_map, puts_same}
 use Rattle.rh_painted.proofs.ElementLemmas.{freed-one}
 use Rattle.rh_painted.proofs.page_changes.print_freed.Goals as goal
 

@@ -1,11 +1,6 @@
-use Rattle.std.proofs.Common.{◌<◌, length, sym, arith}
-use Rattle.std.proofs.lemmas.Option.{slice_get_within}
-use Rattle.rh_figure.specs.Changes.{freed_pages, freed_text, takes_text}
-use Rattle.rh_figure.specs.Share.{holdings}
-use Rattle.rh_map.proofs.Left.{left_breaks, left_less}
-use Rattle.rh_sheet.specs.Markup.{change_item}
-use Rattle.rh_sight.specs.Steps.{scene_at}
-use Rattle.rh_drawn.proofs.Walks.{left_last, puts_same}
+use Rattle.rh_painted.proofs.Common.{◌<◌, length, sym, arith, slice_get_within, freed_text, takes_text, holdings, left_breaks, left_less, change_item}
+use Rattle.rh_painted.proofs.Common.{scene_at, left_last, puts_same}
+use Rattle.rh_figure.specs.Changes.{freed_pages}
 use Rattle.rh_painted.proofs.ElementLemmas.{elements-none, elements-some}
 use Rattle.rh_painted.proofs.page_changes.print_page_changes.Goals as goal
 

@@ -1,10 +1,5 @@
-use Rattle.std.proofs.Common.{◌-◌, length, drop}
-use Rattle.std.specs.List.{flat_map}
-use Rattle.rh_figure.specs.Changes.{freed_pages, freed_text, page_changes, takes_text}
-use Rattle.rh_figure.specs.Share.{holdings}
-use Rattle.rh_map.proofs.Left.{Left}
-use Rattle.rh_sheet.specs.Markup.{change_item}
-use Rattle.rh_sight.specs.Steps.{scene_at}
+use Rattle.rh_painted.proofs.Common.{◌-◌, length, drop, flat_map, freed_text, takes_text, holdings, Left, change_item, scene_at}
+use Rattle.rh_figure.specs.Changes.{freed_pages, page_changes}
 use Rattle.rh_painted.proofs.ElementLemmas.{elements}
 use Rattle.rh_painted.proofs.page_changes.print_page_changes.Given as goal
 

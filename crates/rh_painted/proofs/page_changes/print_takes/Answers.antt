@@ -1,12 +1,7 @@
-use Rattle.std.proofs.Common.{◌≡◌, ◌<◌, ◌-◌, length, drop, ap, ap₂, sym, ◌∙◌, arith}
-use Rattle.std.proofs.lemmas.List.{length-drop, length-take, take_rest}
-use Rattle.rh_figure.specs.Changes.{taken_line}
-use Rattle.rh_figure.specs.Phrases.{owner_name}
-use Rattle.rh_figure.specs.Share.{count_of}
-use Rattle.rh_sheet.specs.Markup.{change_item}
-use Rattle.rh_sight.specs.Steps.{scene_at}
-use Rattle.rh_drawn.proofs.Walks.{puts_same}
-use Rattle.rh_painted.specs.Owners.{holding_seen, name_seen, who_seen}
+use Rattle.rh_painted.proofs.Common.{◌≡◌, ◌<◌, ◌-◌, length, drop, ap, ap₂, sym, ◌∙◌, arith, length-take, taken_line, owner_name, count_of, change_item}
+use Rattle.rh_painted.proofs.Common.{scene_at, puts_same, who_seen}
+use Rattle.std.proofs.lemmas.List.{length-drop, take_rest}
+use Rattle.rh_painted.specs.Owners.{holding_seen, name_seen}
 use Rattle.rh_painted.proofs.OwnerLemmas.{owner-few, owner-pages, takes-one}
 use Rattle.rh_painted.proofs.page_changes.print_takes.Goals as goal
 

@@ -1,10 +1,5 @@
-use Rattle.std.proofs.Common.{◌<◌, length, refl, arith}
-use Rattle.std.specs.List.{flat_map}
-use Rattle.std.proofs.lemmas.Option.{slice_get_within}
-use Rattle.rh_figure.specs.Share.{holdings}
-use Rattle.rh_map.proofs.Left.{left_breaks, left_less, left_none}
+use Rattle.rh_painted.proofs.Common.{◌<◌, length, refl, arith, flat_map, slice_get_within, holdings, left_breaks, left_less, left_none, scene_at}
 use Rattle.rh_sheet.specs.Pool.{owner_squares}
-use Rattle.rh_sight.specs.Steps.{scene_at}
 use Rattle.rh_painted.proofs.TextWalks.{text-none, text-some}
 use Rattle.rh_painted.proofs.pool.print_all_squares.Goals as goal
 

@@ -1,13 +1,7 @@
-use Rattle.std.proofs.Common.{◌≡◌, ◌<◌, length, refl, ap₂, ◌∙◌, arith}
-use Rattle.std.specs.List.{flat_map}
-use Rattle.std.proofs.lemmas.Option.{slice_get_within}
-use Rattle.rh_figure.specs.Share.{holdings}
-use Rattle.rh_map.proofs.Left.{left_breaks, left_less, left_none}
+use Rattle.rh_painted.proofs.Common.{◌≡◌, ◌<◌, length, refl, ap₂, ◌∙◌, arith, flat_map, slice_get_within, holdings, left_breaks, left_less, left_none}
+use Rattle.rh_painted.proofs.Common.{scene_at, puts_same, who_seen}
 use Rattle.rh_sheet.specs.Owners.{owner_tag}
 use Rattle.rh_sheet.specs.Pool.{tag_text, tags_text}
-use Rattle.rh_sight.specs.Steps.{scene_at}
-use Rattle.rh_drawn.proofs.Walks.{puts_same}
-use Rattle.rh_painted.specs.Owners.{who_seen}
 use Rattle.rh_painted.proofs.OwnerLemmas.{owner-pages}
 use Rattle.rh_painted.proofs.TextWalks.{text-none, text-some}
 use Rattle.rh_painted.proofs.pool.print_all_tags.Goals as goal

@@ -1,9 +1,5 @@
-use Rattle.std.proofs.Common.{◌-◌, length, drop}
-use Rattle.std.specs.List.{flat_map}
-use Rattle.rh_figure.specs.Share.{holdings}
-use Rattle.rh_map.proofs.Left.{Left}
+use Rattle.rh_painted.proofs.Common.{◌-◌, length, drop, flat_map, holdings, Left, scene_at}
 use Rattle.rh_sheet.specs.Pool.{tags_text}
-use Rattle.rh_sight.specs.Steps.{scene_at}
 use Rattle.rh_painted.proofs.pool.print_all_tags.Given as goal
 
 -- the owners from the place on are left

@@ -1,7 +1,5 @@
-use Rattle.std.proofs.Common.{refl, ap₂}
-use Rattle.rh_lines.proofs.FlowLemmas.{puts_before, puts_more, puts_stops}
+use Rattle.rh_painted.proofs.Common.{refl, ap₂, puts_before, puts_more, puts_stops, puts_same}
 use Rattle.rh_sheet.specs.Pool.{pool_side}
-use Rattle.rh_drawn.proofs.Walks.{puts_same}
 use Rattle.rh_painted.proofs.TextPuts.{text_last}
 use Rattle.rh_painted.proofs.pool.print_body.Goals as goal
 

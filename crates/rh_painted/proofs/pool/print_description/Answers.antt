@@ -1,19 +1,8 @@
-use Rattle.std.proofs.Common.{◌≡◌, ◌<◌, ◌++◌, [], ◌∷◌, length, ap, ap₂, sym, ◌∙◌, arith, append_assoc}
-use Rattle.std.specs.Prelude.{codes}
-use Rattle.std.specs.Fmt.{decimal}
-use Rattle.std.specs.List.{concat, flat_map}
-use Rattle.std.proofs.lemmas.Option.{slice_get_within}
-use Rattle.rh_defs.specs.Desk.{Desk, free_pages}
-use Rattle.rh_figure.specs.Phrases.{Text, owner_name}
-use Rattle.rh_figure.specs.Scene.{Scene}
-use Rattle.rh_figure.specs.Share.{Holding, holdings}
-use Rattle.rh_lines.proofs.FlowLemmas.{takes_none}
-use Rattle.rh_map.proofs.Left.{left_breaks, left_less}
-use Rattle.rh_sheet.specs.Markup.{escape, escaped_byte}
+use Rattle.rh_painted.proofs.Common.{◌≡◌, ◌<◌, ◌++◌, [], ◌∷◌, length, ap, ap₂, sym, ◌∙◌, arith, append_assoc, codes, decimal, concat, flat_map}
+use Rattle.rh_painted.proofs.Common.{slice_get_within, Desk, Text, owner_name, Scene, Holding, holdings, takes_none, left_breaks, left_less, escape}
+use Rattle.rh_painted.proofs.Common.{escaped_byte, scene_at, left_last, puts_same, who_seen}
+use Rattle.rh_defs.specs.Desk.{free_pages}
 use Rattle.rh_sheet.specs.Pool.{free_text, owner_sentence}
-use Rattle.rh_sight.specs.Steps.{scene_at}
-use Rattle.rh_drawn.proofs.Walks.{left_last, puts_same}
-use Rattle.rh_painted.specs.Owners.{who_seen}
 use Rattle.rh_painted.proofs.ElementLemmas.{elements-none, elements-some}
 use Rattle.rh_painted.proofs.pool.print_description.Goals as goal
 

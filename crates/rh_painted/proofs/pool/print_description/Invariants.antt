@@ -1,12 +1,6 @@
-use Rattle.std.proofs.Common.{◌-◌, ◌++◌, length, drop}
-use Rattle.std.specs.Prelude.{codes}
+use Rattle.rh_painted.proofs.Common.{◌-◌, ◌++◌, length, drop, codes, owner_name, Holding, holdings, Left, escape, escaped_byte, scene_at}
 use Rattle.rh_defs.specs.Desk.{free_pages}
-use Rattle.rh_figure.specs.Phrases.{owner_name}
-use Rattle.rh_figure.specs.Share.{Holding, holdings}
-use Rattle.rh_map.proofs.Left.{Left}
-use Rattle.rh_sheet.specs.Markup.{escape, escaped_byte}
 use Rattle.rh_sheet.specs.Pool.{free_text, owner_sentence, pool_description}
-use Rattle.rh_sight.specs.Steps.{scene_at}
 use Rattle.rh_painted.proofs.ElementLemmas.{elements}
 use Rattle.rh_painted.proofs.pool.print_description.Given as goal
 

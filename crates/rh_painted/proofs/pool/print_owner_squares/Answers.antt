@@ -1,15 +1,9 @@
-use Rattle.std.proofs.Common.{◌≡◌, ℕ, List, [], ◌∷◌, length, take, drop, refl, ap, ap₂, ◌∙◌, arith}
-use Rattle.std.specs.Prelude.{codes, min}
-use Rattle.std.specs.List.{concat}
+use Rattle.rh_painted.proofs.Common.{◌≡◌, ℕ, List, [], ◌∷◌, length, take, drop, refl, ap, ap₂, ◌∙◌, arith, codes, min, concat, taken_line, Text, owner_name}
+use Rattle.rh_painted.proofs.Common.{count_of, puts_before, puts_more, puts_stops, scene_at, puts_same, who_seen}
 use Rattle.std.proofs.lemmas.List.{drop_min, take_min}
-use Rattle.rh_figure.specs.Changes.{taken_line}
-use Rattle.rh_figure.specs.Phrases.{Text, listed_numbers, owner_name}
-use Rattle.rh_figure.specs.Share.{count_of}
-use Rattle.rh_lines.proofs.FlowLemmas.{puts_before, puts_more, puts_stops}
+use Rattle.rh_figure.specs.Phrases.{listed_numbers}
 use Rattle.rh_sheet.specs.Pool.{squares_text}
-use Rattle.rh_sight.specs.Steps.{scene_at}
-use Rattle.rh_drawn.proofs.Walks.{puts_same}
-use Rattle.rh_painted.specs.Owners.{name_seen, who_seen}
+use Rattle.rh_painted.specs.Owners.{name_seen}
 use Rattle.rh_painted.proofs.OwnerLemmas.{owner-few, owner-pages}
 use Rattle.rh_painted.proofs.pool.print_owner_squares.Goals as goal
 

@@ -1,11 +1,6 @@
-use Rattle.std.proofs.Common.{ℕ, refl, ap, ◌+◌, ◌∙◌}
-use Rattle.std.specs.Prelude.{codes}
-use Rattle.rh_figure.specs.Phrases.{Text}
-use Rattle.rh_lines.proofs.FlowLemmas.{puts_before, puts_more, puts_stops}
-use Rattle.rh_sheet.specs.Markup.{figure_open}
+use Rattle.rh_painted.proofs.Common.{ℕ, refl, ap, ◌+◌, ◌∙◌, codes, Text, puts_before, puts_more, puts_stops, figure_open, puts_same}
 use Rattle.rh_sheet.specs.Pool.{pool_height}
 use Rattle.rh_sheet.specs.declared.sizes.TheConstants.{FIGURE_WIDTH, FRAME_EDGE}
-use Rattle.rh_drawn.proofs.Walks.{puts_same}
 use Rattle.rh_painted.proofs.TextPuts.{text_last}
 use Rattle.rh_painted.proofs.pool.print_pool_figure.Goals as goal
 

@@ -1,10 +1,5 @@
-use Rattle.std.proofs.Common.{ap, sym, ◌∙◌}
-use Rattle.std.specs.List.{flat_map}
+use Rattle.rh_painted.proofs.Common.{ap, sym, ◌∙◌, flat_map, task_name, scene_of, change_item, puts_same}
 use Rattle.rh_figure.specs.Changes.{bytes_line, bytes_sent_text}
-use Rattle.rh_figure.specs.Phrases.{task_name}
-use Rattle.rh_figure.specs.Scene.{scene_of}
-use Rattle.rh_sheet.specs.Markup.{change_item}
-use Rattle.rh_drawn.proofs.Walks.{puts_same}
 use Rattle.rh_painted.proofs.ElementLemmas.{parts-one}
 use Rattle.rh_painted.proofs.post_changes.print_bytes.Goals as goal
 

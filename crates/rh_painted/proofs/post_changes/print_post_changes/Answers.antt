@@ -1,14 +1,8 @@
-use Rattle.std.proofs.Common.{◌≡◌, ◌++◌, List, map, ap, sym, ◌∙◌, append_assoc}
-use Rattle.std.specs.Prelude.{filter}
-use Rattle.std.specs.List.{flat_map}
-use Rattle.std.specs.Option.{option_map}
+use Rattle.rh_painted.proofs.Common.{◌≡◌, ◌++◌, List, map, ap, sym, ◌∙◌, append_assoc, filter, flat_map, option_map, Text, Scene, change_item, scene_at}
+use Rattle.rh_painted.proofs.Common.{puts_none, puts_same}
 use Rattle.rh_figure.specs.Changes.{post_changes, returns_text, sent_text, taken_text}
-use Rattle.rh_figure.specs.Phrases.{Text}
-use Rattle.rh_figure.specs.Scene.{Scene, waiting}
-use Rattle.rh_sheet.specs.Markup.{change_item}
+use Rattle.rh_figure.specs.Scene.{waiting}
 use Rattle.rh_sight.specs.Seen.{letter_seen}
-use Rattle.rh_sight.specs.Steps.{scene_at}
-use Rattle.rh_drawn.proofs.Walks.{puts_none, puts_same}
 use Rattle.rh_painted.proofs.ElementLemmas.{parts-three}
 use Rattle.rh_painted.proofs.ReturnLemmas.{goes_back}
 use Rattle.rh_painted.proofs.TextPuts.{text_stop, text_then}

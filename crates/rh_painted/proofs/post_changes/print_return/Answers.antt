@@ -1,11 +1,6 @@
-use Rattle.std.proofs.Common.{◌≡◌, true, [], ◌∷◌, ap, sym, ◌∙◌}
-use Rattle.std.specs.Prelude.{if◌then◌else◌}
-use Rattle.std.specs.List.{flat_map}
+use Rattle.rh_painted.proofs.Common.{◌≡◌, true, [], ◌∷◌, ap, sym, ◌∙◌, if◌then◌else◌, flat_map, task_name, change_item, puts_same}
 use Rattle.rh_figure.specs.Changes.{returns_line}
-use Rattle.rh_figure.specs.Phrases.{task_name}
-use Rattle.rh_sheet.specs.Markup.{change_item}
 use Rattle.rh_drawn.specs.Returns as back
-use Rattle.rh_drawn.proofs.Walks.{puts_same}
 use Rattle.rh_painted.proofs.ElementLemmas.{parts-one}
 use Rattle.rh_painted.proofs.post_changes.print_return.Goals as goal
 

@@ -1,11 +1,5 @@
-use Rattle.std.proofs.Common.{List, map, subst}
-use Rattle.std.specs.Prelude.{filter}
-use Rattle.std.specs.List.{flat_map}
-use Rattle.rh_figure.specs.Phrases.{Text}
-use Rattle.rh_map.proofs.Left.{Left, left_breaks, left_less, left_none, left_whole}
-use Rattle.rh_sheet.specs.Markup.{change_item}
-use Rattle.rh_sight.specs.Messages.{waiting_on}
-use Rattle.rh_drawn.specs.Returns.{return_lines}
+use Rattle.rh_painted.proofs.Common.{List, map, subst, filter, flat_map, Text, Left, left_breaks, left_less, left_none, left_whole, change_item, waiting_on}
+use Rattle.rh_painted.proofs.Common.{return_lines}
 use Rattle.rh_painted.proofs.ElementLemmas.{items-at, items-end}
 use Rattle.rh_painted.proofs.ReturnLemmas.{goes_back, line_of, returns-are}
 use Rattle.rh_painted.proofs.post_changes.print_returned.Goals as goal

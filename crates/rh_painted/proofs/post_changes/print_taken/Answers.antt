@@ -1,10 +1,5 @@
-use Rattle.std.proofs.Common.{ap, sym, ◌∙◌}
-use Rattle.std.specs.List.{flat_map}
+use Rattle.rh_painted.proofs.Common.{ap, sym, ◌∙◌, flat_map, task_name, change_item, scene_at, puts_none, puts_same}
 use Rattle.rh_figure.specs.Changes.{taken_text, takes_line}
-use Rattle.rh_figure.specs.Phrases.{task_name}
-use Rattle.rh_sheet.specs.Markup.{change_item}
-use Rattle.rh_sight.specs.Steps.{scene_at}
-use Rattle.rh_drawn.proofs.Walks.{puts_none, puts_same}
 use Rattle.rh_painted.proofs.ElementLemmas.{parts-one}
 use Rattle.rh_painted.proofs.post_changes.print_taken.Goals as goal
 

@@ -1,8 +1,5 @@
-use Rattle.std.proofs.Common.{◌-◌, List, length, ap, sym, ◌∙◌}
-use Rattle.std.specs.Prelude.{slice_get}
+use Rattle.rh_painted.proofs.Common.{◌-◌, List, length, ap, sym, ◌∙◌, slice_get, Piece, Plot}
 use Rattle.std.specs.Option.{option_copied}
-use Rattle.rh_figure.specs.declared.piece.Piece.{Piece}
-use Rattle.rh_sheet.specs.Rows.{Plot}
 use Rattle.rh_painted.proofs.SlotLemmas.{last-piece}
 use Rattle.rh_painted.proofs.slots.flex_end.Goals as goal
 

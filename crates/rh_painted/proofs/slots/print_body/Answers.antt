@@ -1,37 +1,20 @@
-use Rattle.std.proofs.Common.{◌≡◌, ℕ, ◌+◌, ◌-◌, ◌++◌, List, [], length, ap, ap₂, subst, sym, ◌∙◌, arith}
-use Rattle.std.specs.Prelude.{◌==◌, ◌^◌, ◌<◌}
-use Rattle.std.specs.List.{AllByRecursion, flat_map}
-use Rattle.std.specs.Option.{option_map}
-use Rattle.rh_defs.specs.Desk.{Task, task_at}
+use Rattle.rh_painted.proofs.Common.{◌≡◌, ℕ, ◌+◌, ◌-◌, ◌++◌, List, [], length, ap, ap₂, subst, sym, ◌∙◌, arith, ◌==◌, ◌^◌, ◌<◌, AllByRecursion, flat_map}
+use Rattle.rh_painted.proofs.Common.{option_map, Task, task_at, block_items, BlockItem, flex_start, heap_start, flex_cards, heap_cards, shown_cards, item_of}
+use Rattle.rh_painted.proofs.Common.{slide_of, Text, where_so, Scene, SlotOf, ticks_text, Frame, Plot, IsTaskSeen, heap_seen, scene_at, task-slot, at-some}
+use Rattle.rh_painted.proofs.Common.{items-long, few-blocks, seen-same, owned-few, seen-slot, puts_same, IsSlotPlan}
 use Rattle.rh_defs.specs.Heap.{first_place}
-use Rattle.rh_defs.specs.Listing.{block_items}
-use Rattle.rh_defs.specs.declared.listing.BlockItem.{BlockItem}
-use Rattle.rh_defs.specs.Slot.{flex_start, heap_start}
-use Rattle.rh_figure.specs.Cards.{cards_from, flex_cards, heap_cards, shown_cards}
-use Rattle.rh_figure.specs.Changes.{item_of, slide_of}
-use Rattle.rh_figure.specs.Phrases.{Text, where_so}
-use Rattle.rh_figure.specs.Scene.{Scene}
-use Rattle.rh_figure.specs.Share.{SlotOf}
-use Rattle.rh_sheet.specs.Areas.{slot_arrow, slot_frame, slot_lenses, slot_plot, ticks_text}
+use Rattle.rh_figure.specs.Cards.{cards_from}
+use Rattle.rh_sheet.specs.Areas.{slot_arrow, slot_frame, slot_lenses, slot_plot}
 use Rattle.rh_sheet.specs.Arrows.{slide_arrow}
 use Rattle.rh_sheet.specs.Cards.{cards_above, cards_below}
 use Rattle.rh_sheet.specs.Frames.{row_y, rows_foot, rows_top}
-use Rattle.rh_sheet.specs.declared.frame.Frame.{Frame}
-use Rattle.rh_sheet.specs.Rows.{Plot, rows_text}
+use Rattle.rh_sheet.specs.Rows.{rows_text}
 use Rattle.rh_sight.specs.declared.sight.HeapOf.TheVariants as heap_of
 use Rattle.rh_sight.specs.declared.sight.PagesOf.TheVariants as pages
-use Rattle.rh_sight.specs.Seen.{IsTaskSeen, heap_seen}
-use Rattle.rh_sight.specs.Steps.{scene_at}
-use Rattle.rh_sight.proofs.Heaps.{task-length, task-slot}
-use Rattle.rh_sight.proofs.Holders.{at-some}
-use Rattle.rh_sight.proofs.PieceWalks.{items-long}
-use Rattle.rh_sight.proofs.SlotPieces.{few-blocks}
+use Rattle.rh_sight.proofs.Heaps.{task-length}
 use Rattle.rh_drawn.specs.Bands.{card_of_task}
-use Rattle.rh_drawn.proofs.DrawingLemmas.{seen-same, task-stands}
-use Rattle.rh_drawn.proofs.PageLemmas.{owned-few, seen-slot}
-use Rattle.rh_drawn.proofs.Walks.{puts_same}
+use Rattle.rh_drawn.proofs.DrawingLemmas.{task-stands}
 use Rattle.rh_painted.specs.Bands.{band_text}
-use Rattle.rh_painted.specs.Figures.{IsSlotPlan}
 use Rattle.rh_painted.specs.declared.bands.Form.TheVariants.{Below}
 use Rattle.rh_painted.proofs.LensLemmas.{arrow-same}
 use Rattle.rh_painted.proofs.SlotLemmas.{EndsBy, anchors-small, slot-ends}

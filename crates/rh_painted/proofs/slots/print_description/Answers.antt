@@ -1,32 +1,15 @@
-use Rattle.std.proofs.Common.{◌≡◌, ◌+◌, ◌++◌, [], ◌∷◌, length, ap, ap₂, append-nil, append_assoc, sym, ◌∙◌, arith}
-use Rattle.std.specs.Prelude.{codes}
-use Rattle.std.specs.List.{concat}
-use Rattle.std.specs.Option.{option_map}
-use Rattle.std.proofs.lemmas.Grind.{flat_map-append}
-use Rattle.rh_defs.specs.Desk.{Task}
+use Rattle.rh_painted.proofs.Common.{◌≡◌, ◌+◌, ◌++◌, [], ◌∷◌, length, ap, ap₂, append-nil, append_assoc, sym, ◌∙◌, arith, codes, concat, option_map}
+use Rattle.rh_painted.proofs.Common.{flat_map-append, Task, flex_start, heap_start, flex_cards, heap_cards, shown_cards, Text, size_text, SlotOf, escape}
+use Rattle.rh_painted.proofs.Common.{escaped_byte, Plot, IsTaskSeen, heap_seen, scene_at, task-slot, at-some, items-long, few-blocks, seen-same, owned-few}
+use Rattle.rh_painted.proofs.Common.{seen-slot, puts_same, IsSlotPlan}
 use Rattle.rh_defs.specs.Heap.{first_place}
-use Rattle.rh_defs.specs.Slot.{flex_start, heap_start}
-use Rattle.rh_figure.specs.Cards.{cards_from, flex_cards, heap_cards, shown_cards}
-use Rattle.rh_figure.specs.Phrases.{Text, size_text}
-use Rattle.rh_figure.specs.Share.{SlotOf}
+use Rattle.rh_figure.specs.Cards.{cards_from}
 use Rattle.rh_sheet.specs.Areas.{pages_sentence}
 use Rattle.rh_sheet.specs.Cards.{cards_sentences}
-use Rattle.rh_sheet.specs.Markup.{escape, escaped_byte}
-use Rattle.rh_sheet.specs.Rows.{Plot}
 use Rattle.rh_sight.specs.declared.sight.HeapOf.TheVariants as heap_of
 use Rattle.rh_sight.specs.declared.sight.PagesOf.TheVariants as pages
-use Rattle.rh_sight.specs.Seen.{IsTaskSeen, heap_seen}
-use Rattle.rh_sight.specs.Steps.{scene_at}
-use Rattle.rh_sight.proofs.Heaps.{task-slot}
-use Rattle.rh_sight.proofs.Holders.{at-some}
-use Rattle.rh_sight.proofs.PieceWalks.{items-long}
-use Rattle.rh_sight.proofs.SlotPieces.{few-blocks}
 use Rattle.rh_drawn.specs.Bands.{card_of_task}
-use Rattle.rh_drawn.proofs.DrawingLemmas.{seen-same}
-use Rattle.rh_drawn.proofs.PageLemmas.{owned-few, seen-slot}
-use Rattle.rh_drawn.proofs.Walks.{puts_same}
 use Rattle.rh_painted.specs.Bands.{band_text}
-use Rattle.rh_painted.specs.Figures.{IsSlotPlan}
 use Rattle.rh_painted.specs.declared.bands.Form.TheVariants.{Told}
 use Rattle.rh_painted.proofs.BandLemmas.{told-all}
 use Rattle.rh_painted.proofs.TextPuts.{text_stop, text_then}

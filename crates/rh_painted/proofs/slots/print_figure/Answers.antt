@@ -1,22 +1,10 @@
-use Rattle.std.proofs.Common.{◌≡◌, ℕ, ◌+◌, List, length, ap, ap₂, sym, ◌∙◌}
-use Rattle.std.specs.Prelude.{max, min}
-use Rattle.std.specs.Option.{option_map}
-use Rattle.rh_defs.specs.Desk.{Task}
-use Rattle.rh_defs.specs.Slot.{flex_start, heap_start}
-use Rattle.rh_figure.specs.Cards.{flex_cards, heap_card, heap_cards}
-use Rattle.rh_figure.specs.declared.piece.Piece.{Piece}
-use Rattle.rh_figure.specs.Share.{SlotOf, count_of}
+use Rattle.rh_painted.proofs.Common.{◌≡◌, ℕ, ◌+◌, List, length, ap, ap₂, sym, ◌∙◌, max, min, option_map, Task, flex_start, heap_start, flex_cards, heap_cards}
+use Rattle.rh_painted.proofs.Common.{Piece, SlotOf, count_of, Frame, Plot, Census, scene_at, flex-long, cards-long, from-first, owned, seen-slot}
+use Rattle.rh_figure.specs.Cards.{heap_card}
 use Rattle.rh_sheet.specs.Areas.{rows_for}
 use Rattle.rh_sheet.specs.Owners.{task_class}
-use Rattle.rh_sheet.specs.declared.frame.Frame.{Frame}
-use Rattle.rh_sheet.specs.Rows.{Plot}
 use Rattle.rh_sight.specs.declared.sight.PagesOf.TheVariants as pages
 use Rattle.rh_sight.specs.declared.sight.TaskSight.{TaskSight}
-use Rattle.rh_sight.specs.declared.walk.Census.{Census}
-use Rattle.rh_sight.specs.Steps.{scene_at}
-use Rattle.rh_drawn.proofs.CardLemmas.{flex-long}
-use Rattle.rh_drawn.proofs.HeapLemmas.{cards-long, from-first}
-use Rattle.rh_drawn.proofs.PageLemmas.{owned, seen-slot}
 use Rattle.rh_painted.proofs.slots.print_figure.Goals as goal
 
 abbrev frame_with : ℕ → ℕ → ℕ → Frame

@@ -1,23 +1,11 @@
-use Rattle.std.proofs.Common.{◌≡◌, ◌+◌, length, ap, refl, sym, ◌∙◌, arith}
-use Rattle.rh_defs.specs.Heap.{base}
-use Rattle.rh_defs.specs.Slot.{flex_start, heap_start, slot_length}
-use Rattle.rh_figure.specs.Cards.{flex_cards, heap_card, heap_cards}
-use Rattle.rh_figure.specs.Share.{SlotOf}
-use Rattle.rh_sheet.specs.Areas.{lens_above, lens_below}
-use Rattle.rh_sheet.specs.declared.frame.Frame.{Frame}
+use Rattle.rh_painted.proofs.Common.{◌≡◌, ◌+◌, length, ap, refl, sym, ◌∙◌, arith, base, flex_start, heap_start, flex_cards, heap_cards, SlotOf, lens_below}
+use Rattle.rh_painted.proofs.Common.{Frame, Census, IsTaskSeen, scene_at, task-slot, items-long, few-blocks, flex-long, seen-same, cards-long, owned-few}
+use Rattle.rh_painted.proofs.Common.{seen-slot, puts_same, IsSlotPlan}
+use Rattle.rh_defs.specs.Slot.{slot_length}
+use Rattle.rh_figure.specs.Cards.{heap_card}
+use Rattle.rh_sheet.specs.Areas.{lens_above}
 use Rattle.rh_sight.specs.declared.sight.PagesOf.TheVariants as pages
-use Rattle.rh_sight.specs.declared.walk.Census.{Census}
-use Rattle.rh_sight.specs.Seen.{IsTaskSeen}
-use Rattle.rh_sight.specs.Steps.{scene_at}
-use Rattle.rh_sight.proofs.Heaps.{task-slot}
-use Rattle.rh_sight.proofs.PieceWalks.{items-long}
-use Rattle.rh_sight.proofs.SlotPieces.{few-blocks}
-use Rattle.rh_drawn.proofs.CardLemmas.{flex-long}
-use Rattle.rh_drawn.proofs.DrawingLemmas.{seen-same}
-use Rattle.rh_drawn.proofs.HeapLemmas.{cards-long}
-use Rattle.rh_drawn.proofs.PageLemmas.{owned-few, owned-slot, seen-slot}
-use Rattle.rh_drawn.proofs.Walks.{puts_same}
-use Rattle.rh_painted.specs.Figures.{IsSlotPlan}
+use Rattle.rh_drawn.proofs.PageLemmas.{owned-slot}
 use Rattle.rh_painted.proofs.LensLemmas.{above-same, below-same}
 use Rattle.rh_painted.proofs.TextPuts.{text_stop, text_then}
 use Rattle.rh_painted.proofs.slots.print_lenses.Goals as goal

@@ -1,13 +1,6 @@
-use Rattle.std.proofs.Common.{◌++◌, [], ap, ap₂, ◌∙◌}
-use Rattle.std.specs.Prelude.{codes}
+use Rattle.rh_painted.proofs.Common.{◌++◌, [], ap, ap₂, ◌∙◌, codes, escape, figure_open, IsTaskSeen, scene_at, seen-same, puts_same, IsSlotPlan}
 use Rattle.rh_sheet.specs.Areas.{slot_body, slot_description, slot_frame}
 use Rattle.rh_sheet.specs.Frames.{frame_height}
-use Rattle.rh_sheet.specs.Markup.{escape, figure_open}
-use Rattle.rh_sight.specs.Seen.{IsTaskSeen}
-use Rattle.rh_sight.specs.Steps.{scene_at}
-use Rattle.rh_drawn.proofs.DrawingLemmas.{seen-same}
-use Rattle.rh_drawn.proofs.Walks.{puts_same}
-use Rattle.rh_painted.specs.Figures.{IsSlotPlan}
 use Rattle.rh_painted.proofs.TextPuts.{text_last, text_stop, text_then}
 use Rattle.rh_painted.proofs.slots.print_plan.Goals as goal
 

@@ -1,12 +1,6 @@
-use Rattle.std.proofs.Common.{◌≡◌, ◌++◌, Bool, true, false, ap, sym, ◌∙◌}
+use Rattle.rh_painted.proofs.Common.{◌≡◌, ◌++◌, Bool, true, false, ap, sym, ◌∙◌, where_so, heading_text, IsTaskSeen, scene_at, seen-same, puts_same}
 use Rattle.rh_figure.specs.Figure.{is_drawn, slot_note}
-use Rattle.rh_figure.specs.Phrases.{where_so}
 use Rattle.rh_sheet.specs.Areas.{slot_figure}
-use Rattle.rh_sheet.specs.Markup.{heading_text}
-use Rattle.rh_sight.specs.Seen.{IsTaskSeen}
-use Rattle.rh_sight.specs.Steps.{scene_at}
-use Rattle.rh_drawn.proofs.DrawingLemmas.{seen-same}
-use Rattle.rh_drawn.proofs.Walks.{puts_same}
 use Rattle.rh_painted.proofs.TextPuts.{text_last, text_stop, text_then}
 use Rattle.rh_painted.proofs.slots.print_slot.Goals as goal
 

@@ -1,8 +1,4 @@
-use Rattle.std.proofs.Common.{◌-◌, length, drop}
-use Rattle.std.specs.List.{flat_map}
-use Rattle.rh_map.proofs.Left.{Left}
-use Rattle.rh_sheet.specs.Steps.{slot_part}
-use Rattle.rh_sight.specs.Steps.{scene_at}
+use Rattle.rh_painted.proofs.Common.{◌-◌, length, drop, flat_map, Left, slot_part, scene_at}
 use Rattle.rh_painted.proofs.slots.print_slots.Given as goal
 
 -- the slots from the place on are left

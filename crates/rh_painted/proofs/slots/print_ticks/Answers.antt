@@ -1,8 +1,5 @@
-use Rattle.std.proofs.Common.{ap, refl, ◌∙◌}
-use Rattle.rh_defs.specs.declared.listing.BlockItem.{BlockItem}
-use Rattle.rh_map.proofs.Left.{left_breaks, left_less, left_none}
-use Rattle.rh_sheet.specs.Areas.{tick_text, ticks_text}
-use Rattle.rh_drawn.proofs.Walks.{puts_same}
+use Rattle.rh_painted.proofs.Common.{ap, refl, ◌∙◌, BlockItem, left_breaks, left_less, left_none, ticks_text, puts_same}
+use Rattle.rh_sheet.specs.Areas.{tick_text}
 use Rattle.rh_painted.proofs.TextWalks.{text-at, text-end}
 use Rattle.rh_painted.proofs.slots.print_ticks.Goals as goal
 

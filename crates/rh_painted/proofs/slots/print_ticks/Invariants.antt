@@ -1,6 +1,4 @@
-use Rattle.std.proofs.Common.{drop}
-use Rattle.rh_map.proofs.Left.{Left}
-use Rattle.rh_sheet.specs.Areas.{ticks_text}
+use Rattle.rh_painted.proofs.Common.{drop, Left, ticks_text}
 use Rattle.rh_painted.proofs.slots.print_ticks.Given as goal
 
 -- the blocks from the place on are left

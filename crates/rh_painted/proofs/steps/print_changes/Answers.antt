@@ -1,12 +1,6 @@
-use Rattle.std.proofs.Common.{◌≡◌, ◌++◌, ◌∙◌, ap, append_assoc, sym}
-use Rattle.std.specs.List.{flat_map}
-use Rattle.rh_defs.specs.Desk.{task_at}
-use Rattle.rh_drawn.proofs.Walks.{puts_same}
-use Rattle.rh_figure.specs.Changes.{block_changes, changes, page_changes, post_changes, slide_change, slides}
-use Rattle.rh_figure.specs.Scene.{Scene}
-use Rattle.rh_sheet.specs.Markup.{change_item}
-use Rattle.rh_sheet.specs.Steps.{changes_text}
-use Rattle.rh_sight.specs.Steps.{scene_at}
+use Rattle.rh_painted.proofs.Common.{◌≡◌, ◌++◌, ◌∙◌, ap, append_assoc, sym, flat_map, task_at, puts_same, changes, slide_change, slides, Scene, change_item}
+use Rattle.rh_painted.proofs.Common.{changes_text, scene_at}
+use Rattle.rh_figure.specs.Changes.{block_changes, page_changes, post_changes}
 use Rattle.rh_painted.proofs.ElementLemmas.{parts-three}
 use Rattle.rh_painted.proofs.PrintLemmas.{puts-stop, puts-then}
 use Rattle.rh_painted.proofs.steps.print_changes.Goals as goal

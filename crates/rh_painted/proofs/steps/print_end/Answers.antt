@@ -1,6 +1,4 @@
-use Rattle.std.proofs.Common.{[], ◌∷◌}
-use Rattle.std.specs.List.{concat}
-use Rattle.rh_sheet.specs.Steps.{step_end}
+use Rattle.rh_painted.proofs.Common.{[], ◌∷◌, concat, step_end}
 use Rattle.rh_painted.proofs.PrintLemmas.{puts-stop, puts-then}
 use Rattle.rh_painted.proofs.steps.print_end.Goals as goal
 

@@ -1,8 +1,4 @@
-use Rattle.std.proofs.Common.{[], ◌∷◌, refl}
-use Rattle.std.specs.List.{concat}
-use Rattle.rh_drawn.proofs.Walks.{puts_same}
-use Rattle.rh_sheet.specs.Steps.{figure_text, said_end, step_end}
-use Rattle.rh_sight.specs.Steps.{scene_at}
+use Rattle.rh_painted.proofs.Common.{[], ◌∷◌, refl, concat, puts_same, figure_text, said_end, step_end, scene_at}
 use Rattle.rh_painted.proofs.PrintLemmas.{behind_said, puts-stop, puts-then, step-as}
 use Rattle.rh_painted.proofs.steps.print_step.Goals as goal
 

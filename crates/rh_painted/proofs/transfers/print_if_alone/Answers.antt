@@ -1,11 +1,7 @@
-use Rattle.std.proofs.Common.{ℕ, None, Some, ap, ap₂, sym, ◌∙◌}
-use Rattle.std.specs.List.{list_any}
+use Rattle.rh_painted.proofs.Common.{ℕ, None, Some, ap, ap₂, sym, ◌∙◌, list_any, transfer_row, outs_of, puts_none, puts_same}
 use Rattle.rh_defs.specs.declared.listing.RecordItem.{RecordItem}
 use Rattle.rh_figure.specs.Figure.{Transfer, has_id}
-use Rattle.rh_sheet.specs.Tables.{transfer_row}
-use Rattle.rh_drawn.specs.Sides.{outs_of}
 use Rattle.rh_drawn.proofs.TransferLemmas.{in-id}
-use Rattle.rh_drawn.proofs.Walks.{puts_none, puts_same}
 use Rattle.rh_painted.proofs.TableLemmas.{in_rows-none, in_rows-one}
 use Rattle.rh_painted.proofs.transfers.print_if_alone.Goals as goal
 

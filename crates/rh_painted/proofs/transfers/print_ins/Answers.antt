@@ -1,12 +1,6 @@
-use Rattle.std.proofs.Common.{◌≡◌, ◌<◌, List, ℕ, length, ap₂, subst, refl, arith}
-use Rattle.std.specs.List.{flat_map}
-use Rattle.std.proofs.lemmas.Option.{slice_get_within}
-use Rattle.rh_defs.specs.Desk.{Task}
-use Rattle.rh_drawn.specs.Sides.{ins_of, outs_of}
-use Rattle.rh_painted.specs.Transfers.{in_rows, ins_named}
+use Rattle.rh_painted.proofs.Common.{◌≡◌, ◌<◌, List, ℕ, length, ap₂, subst, refl, arith, flat_map, slice_get_within, Task, ins_of, outs_of, in_rows}
+use Rattle.rh_painted.proofs.Common.{ins_named, Left, left_breaks, left_less, left_none, left_whole, puts_same}
 use Rattle.rh_painted.proofs.TableLemmas.{in_rows-flat}
-use Rattle.rh_map.proofs.Left.{Left, left_breaks, left_less, left_none, left_whole}
-use Rattle.rh_drawn.proofs.Walks.{puts_same}
 use Rattle.rh_painted.proofs.TextWalks.{text-none, text-some}
 use Rattle.rh_painted.proofs.transfers.print_ins.Goals as goal
 

@@ -1,9 +1,4 @@
-use Rattle.std.proofs.Common.{◌-◌, length, drop}
-use Rattle.std.specs.List.{flat_map}
-use Rattle.rh_defs.specs.Desk.{Task}
-use Rattle.rh_drawn.specs.Sides.{ins_of, outs_of}
-use Rattle.rh_painted.specs.Transfers.{in_rows, ins_named}
-use Rattle.rh_map.proofs.Left.{Left}
+use Rattle.rh_painted.proofs.Common.{◌-◌, length, drop, flat_map, Task, ins_of, outs_of, in_rows, ins_named, Left}
 use Rattle.rh_painted.proofs.transfers.print_ins.Given as goal
 
 -- the tasks from the place on are left

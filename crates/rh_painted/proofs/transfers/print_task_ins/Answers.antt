@@ -1,11 +1,7 @@
-use Rattle.std.proofs.Common.{List, refl}
-use Rattle.std.specs.Prelude.{[], ◌∷◌}
+use Rattle.rh_painted.proofs.Common.{List, refl, [], ◌∷◌, outs_of, in_rows, ins_named, left_breaks, left_less, left_none}
 use Rattle.rh_defs.specs.declared.transfer.Incoming.{Incoming}
 use Rattle.rh_defs.specs.Listing.{in_item}
-use Rattle.rh_drawn.specs.Sides.{outs_of}
-use Rattle.rh_painted.specs.Transfers.{in_rows, ins_named}
 use Rattle.rh_painted.proofs.TableLemmas.{in_rows-each}
-use Rattle.rh_map.proofs.Left.{left_breaks, left_less, left_none}
 use Rattle.rh_painted.proofs.TextWalks.{Each, text-at, text-end}
 use Rattle.rh_painted.proofs.transfers.print_task_ins.Goals as goal
 

@@ -1,7 +1,4 @@
-use Rattle.std.proofs.Common.{drop}
-use Rattle.rh_drawn.specs.Sides.{outs_of}
-use Rattle.rh_painted.specs.Transfers.{in_rows, ins_named}
-use Rattle.rh_map.proofs.Left.{Left}
+use Rattle.rh_painted.proofs.Common.{drop, outs_of, in_rows, ins_named, Left}
 use Rattle.rh_painted.proofs.transfers.print_task_ins.Given as goal
 
 -- those from the place on are left

@@ -1,7 +1,4 @@
-use Rattle.std.proofs.Common.{drop}
-use Rattle.rh_drawn.specs.Sides.{ins_of}
-use Rattle.rh_painted.specs.Transfers.{out_rows, outs_named}
-use Rattle.rh_map.proofs.Left.{Left}
+use Rattle.rh_painted.proofs.Common.{drop, ins_of, out_rows, outs_named, Left}
 use Rattle.rh_painted.proofs.transfers.print_task_outs.Given as goal
 
 -- those from the place on are left

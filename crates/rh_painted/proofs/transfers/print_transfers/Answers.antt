@@ -1,13 +1,8 @@
-use Rattle.std.proofs.Common.{◌≡◌, true, ◌++◌, refl, ap, sym, ◌∙◌, append_assoc}
-use Rattle.std.specs.Prelude.{codes}
+use Rattle.rh_painted.proofs.Common.{◌≡◌, true, ◌++◌, refl, ap, sym, ◌∙◌, append_assoc, codes, Text, transfer_row, transfers_table, ins_of, outs_of}
+use Rattle.rh_painted.proofs.Common.{puts_same, in_rows, out_rows, puts_before, puts_more, puts_stops}
 use Rattle.rh_figure.specs.Figure.{transfers_of}
-use Rattle.rh_figure.specs.Phrases.{Text}
-use Rattle.rh_sheet.specs.Tables.{transfer_row, transfers_heading, transfers_table}
-use Rattle.rh_drawn.specs.Sides.{ins_of, outs_of}
-use Rattle.rh_drawn.proofs.Walks.{puts_same}
-use Rattle.rh_painted.specs.Transfers.{in_rows, out_rows}
+use Rattle.rh_sheet.specs.Tables.{transfers_heading}
 use Rattle.rh_painted.proofs.TableLemmas.{is_some, rows-both, rows-some, sides-some}
-use Rattle.rh_lines.proofs.FlowLemmas.{puts_before, puts_more, puts_stops}
 use Rattle.rh_painted.proofs.transfers.print_transfers.Goals as goal
 
 abbrev first : Text

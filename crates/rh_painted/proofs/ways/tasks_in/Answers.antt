@@ -1,7 +1,5 @@
-use Rattle.std.proofs.Common.{◌≡◌, ◌+◌, ◌∷◌, [], ◌++◌, List, ap, sym, ◌∙◌, arith, length, length-append}
+use Rattle.rh_painted.proofs.Common.{◌≡◌, ◌+◌, ◌∷◌, [], ◌++◌, List, ap, sym, ◌∙◌, arith, length, length-append, inserted, Way}
 use Rattle.std.proofs.lemmas.List.{nil_from_length}
-use Rattle.rh_sheet.specs.Chart.{inserted}
-use Rattle.rh_painted.specs.declared.ways.Way.{Way}
 use Rattle.rh_painted.proofs.WayLemmas.{tasks-are, with_tasks, with_tasks-last}
 use Rattle.rh_painted.proofs.ways.tasks_in.Goals as goal
 

@@ -1,6 +1,4 @@
-use Rattle.std.proofs.Common.{◌≡◌, ◌≤◌, ◌*◌, length, take}
-use Rattle.rh_sheet.specs.Chart.{arrows}
-use Rattle.rh_painted.specs.Ways.{arrows_seen}
+use Rattle.rh_painted.proofs.Common.{◌≡◌, ◌≤◌, ◌*◌, length, take, arrows, arrows_seen}
 use Rattle.rh_painted.proofs.ways.ways_of.Given as goal
 
 -- the arrows of the messages so far

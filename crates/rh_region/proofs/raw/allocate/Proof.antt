@@ -1,59 +1,40 @@
 -- `allocate` asks the heap once. A granted place is room with the right to free it: the room is zeroed, and zeros and right
 -- make the block. Where the heap refuses, nothing is owned, and nothing is answered but the error.
-use mathlib.Core.Path.{◌≡◌, refl}
-use mathlib.Core.List.{[], ◌∷◌}
-use Prim.Native.Nat.{ℕ, ◌<◌, ◌^◌}
-use seplogic.Ra.Ura.{Ura}
-use lib.Dec.{T, lit<}
-use lib.ListN.{length}
-use base.Fml.{Lft, Share, ftrue}
-use base.Logic.{SProp, ent, emp, id⊢}
-use contract.Monad.{fact}
-use contract.Running.{Running, MachineTables, tables}
-use mir.Syntax.{Body, w64, named}
-use mir.Val.{Val, vint, vptr, vstruct, vcons, vnil, has_ty, WT}
-use prog.Model.{Model}
+use Rattle.rh_region.proofs.Common.{◌≡◌, refl, [], ◌∷◌, ℕ, ◌<◌, ◌^◌, Ura, T, lit<, length, Lft, Share, ftrue, SProp, ent, emp, id⊢, fact, Running}
+use Rattle.rh_region.proofs.Common.{MachineTables, tables, w64, named, Val, vint, vptr, vcons, vnil, has_ty, WT, Model, Env, Logic, sem, Item, Sq, ⋆, mean}
+use Rattle.rh_region.proofs.Common.{runs, ‵, raw, ◌⊛◌, some, given, later, await, pick, learn, at_ret, ◌$◌, ◌∵◌, !, qed, by, move, keep, drop, use0, use1}
+use Rattle.rh_region.proofs.Common.{use2, split, join, fsplit, fjoin, feq_l, flt_i, suffices, frame, done, whole, agg, stop, fld, lit, of_opd, and_then}
+use Rattle.rh_region.proofs.Common.{no_more, first, blocks, exec, returns, enter, alloc_all, pass_all, free_all, look_at, get, sets, sets_last, env, holding}
+use Rattle.rh_region.proofs.Common.{usize, unit, RefOf, yes, uint_vals, uint_Tells, Ptr, block_ptr, rawptr_vals, Bor, shr_vals, shr_Tells, plain, heard}
+use Rattle.rh_region.proofs.Common.{nothing, Clauses, Stays, stay_dropped, walk_of, Goes-dropped, proved, leaves, Global, room_of, zeros_at, zeros, Block}
+use mir.Syntax.{Body}
+use mir.Val.{vstruct}
 use prog.Wired.{Wired}
-use prog.Wp.{Env, Wp, at_return, after_seq}
-use types.Logic.{Logic, sem}
-use types.Kit.{Item, Sq, ⋆, mean, any_q, runs, ‵, raw, ◌⊛◌, some, given, later, await, pick, learn, at_ret, ◌$◌, ◌∵◌, !, qed, by, move, keep, drop, use0}
-use types.Kit.{use1, use2, split, split3, join, fsplit, fjoin, feq_l, flt_i, updating, suffices, frame, done}
-use types.Kit.{Post as After, now as at_once}
+use prog.Wp.{Wp, at_return, after_seq}
+use types.Kit.{any_q, split3, updating, Post as After, now as at_once}
 use types.Match.{live, vrt, in_variant}
-use types.Part.{whole, agg}
-use types.Run.{stop, fld, lit, of_opd, and_then, no_more, first, blocks, switches_on, exec, returns, enter}
-use types.ByLocal.{alloc_all, pass_all, free_all, look_at, get, get_in, get_tag, sets, sets_last, lands_as, lands_last, env, holding, forget_but}
-use denote.Builtin.{usize, unit, RefOf}
-use denote.Exit.{yes}
+use types.Run.{switches_on}
+use types.ByLocal.{get_in, get_tag, lands_as, lands_last, forget_but}
 use denote.Laws.{Is}
 use denote.Param.{layout}
-use denote.Plain.{uint_vals, uint_Tells}
 use denote.RattleType.{RattleType}
-use denote.RawPtr.{Ptr, block_ptr, rawptr_vals}
-use denote.Ref.{Bor, shr_vals, shr_Tells}
-use denote.Signature.{plain}
-use denote.Steps.{heard, nothing, owned}
+use denote.Steps.{owned}
 use denote.Struct.Declared as Declared
 use denote.Struct.Struct.{Struct, Struct-Makes}
 use denote.Triple.Call.{calls_at, calls_at_last}
-use denote.Triple.Clauses.{Clauses, lasts}
+use denote.Triple.Clauses.{lasts}
 use denote.Triple.Spec.{triple_of}
 use denote.Triple.Statement.{Contract}
 use denote.Triple.Table.{framed}
-use denote.Triple.Walked.{Stays, says, stay_dropped, walk_of, Goes-dropped}
+use denote.Triple.Walked.{says}
 use Rattle.core.specs.contracts.alloc.AllocError as AE
 use Rattle.core.specs.contracts.result.Result as RS
 use Rattle.core.proofs.alloc.Shapes.{after, head, arm_body}
-use Rattle.std.proofs.raw_atomic.Walks.{proved, leaves}
 use Rattle.std.proofs.impls.GlobalAllocator.allocate.Met as asked_heap
 use Rattle.std.specs.Prelude.{IfOk, Ok, Err}
-use Rattle.std.specs.declared.alloc.Global.{Global}
 use Rattle.std.specs.contracts.alloc.Global as heap
 use Rattle.std_alloc.proofs.RcSteps.{Good, first_Good}
 use Rattle.std_alloc.proofs.ResultValues.{ok_of, err_of}
-use Rattle.rh_region.specs.Ownership.{room_of, zeros_at}
-use Rattle.rh_region.specs.Zeros.{zeros}
-use Rattle.rh_region.specs.declared.raw.Block.{Block}
 use Rattle.rh_region.specs.contracts.raw.allocate as f
 use Rattle.rh_region.specs.contracts.raw.fill_zero as zeroing
 use Rattle.rh_region.proofs.BlockFields.{R, spelled_by, fields_made}

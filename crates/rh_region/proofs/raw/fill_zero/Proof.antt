@@ -1,34 +1,21 @@
 -- The loop of `fill_zero`: before each turn the first i bytes are zeros (*Filling*), and the turn makes the byte at i one.
-use mathlib.Core.Path.{refl}
-use mathlib.Core.List.{List, [], ◌∷◌, ◌++◌}
+use Rattle.rh_region.proofs.Common.{refl, List, [], ◌∷◌, ◌++◌, ℕ, ◌+◌, ◌≤◌, ◌<◌, ◌^◌, arith, Ura, lit<, SProp, ent, Running, tables, w64, Val, vunit, vint}
+use Rattle.rh_region.proofs.Common.{vptr, Model, Env, Logic, sem, Item, Sq, runs, ‵, raw, ◌⊛◌, at_ret, ◌$◌, ◌∵◌, !, qed, by, keep, drop, use1, use2, split}
+use Rattle.rh_region.proofs.Common.{suffices, done, stop, lit, of_opd, first, blocks, exec, returns, enter, alloc_all, pass_all, free_all, look_at, get}
+use Rattle.rh_region.proofs.Common.{through, sets, sets_last, env, holding, usize, yes, uint_vals, uint_Tells, Ptr, RawPtr, block_ptr, rawptr_vals, plain}
+use Rattle.rh_region.proofs.Common.{nothing, Clauses, Stays, stay_dropped, walk_of, Goes-dropped, proved, leaves, after, room_of, zeros_at}
 use mathlib.Core.WellFounded.InvImage
-use Prim.Native.Nat.{ℕ, ◌+◌, ◌-◌, ◌≤◌, ◌<◌, ◌^◌}
-use native.Mathlib.Omega.{arith}
-use seplogic.Ra.Ura.{Ura}
-use lib.Dec.{lit<, ltb→lt, nltb→le}
+use Prim.Native.Nat.{◌-◌}
+use lib.Dec.{ltb→lt, nltb→le}
 use lib.WfN.{lt-wf_rel}
-use base.Logic.{SProp, ent, never_e}
-use contract.Running.{Running, tables, tables_of}
-use mir.Syntax.{w64}
-use mir.Val.{Val, vunit, vint, vptr}
-use prog.Model.{Model}
-use prog.Wp.{Env, Out, Wp, WpFn, Tables, at_return, after_seq, after_block, after_turn}
-use types.Logic.{Logic, sem}
-use types.Kit.{Item, Sq, any_q, runs, ‵, raw, ◌⊛◌, at_ret, ◌$◌, ◌∵◌, !, qed, by, keep, drop, use1, use2, split, suffices, done}
-use types.Run.{stop, lit, bin, unit_lit, of_opd, init, assigns_last, first, blocks, skips, jumps, branches, exec, returns, enter, loops, again, Below}
-use types.ByLocal.{alloc_all, pass_all, free_all, look_at, get, through, sets, sets_last, env, holding, forget_but}
-use denote.Builtin.{usize}
-use denote.Exit.{yes}
-use denote.Plain.{uint_vals, uint_Tells}
-use denote.RawPtr.{Ptr, RawPtr, block_ptr, null_ptr, rawptr_vals, rawptr_Tells}
-use denote.Signature.{plain}
-use denote.Steps.{nothing}
-use denote.Triple.Clauses.{Clauses}
+use base.Logic.{never_e}
+use contract.Running.{tables_of}
+use prog.Wp.{Out, Wp, WpFn, Tables, at_return, after_seq, after_block, after_turn}
+use types.Kit.{any_q}
+use types.Run.{bin, unit_lit, init, assigns_last, skips, jumps, branches, loops, again, Below}
+use types.ByLocal.{forget_but}
+use denote.RawPtr.{null_ptr, rawptr_Tells}
 use denote.Triple.Entry.{on_entry}
-use denote.Triple.Walked.{Stays, stay_dropped, walk_of, Goes-dropped}
-use Rattle.std.proofs.raw_atomic.Walks.{proved, leaves}
-use Rattle.core.proofs.slots.Bodies.{after}
-use Rattle.rh_region.specs.Ownership.{room_of, zeros_at}
 use Rattle.rh_region.specs.contracts.raw.fill_zero as f
 use Rattle.rh_region.proofs.Filling.{Filling, Around, next_room, none_filled, next_out, next_in, all_filled}
 use Rattle.rh_region.proofs.Words.{nothing_said, spent}

@@ -1,41 +1,20 @@
 -- `free` owns the block whole. It lets the bytes go, which leaves room, and hands that room with the right to free it to
 -- the heap; what it ends with is the token of the `&` to the heap.
-use mathlib.Core.Path.{◌≡◌, refl}
-use mathlib.Core.List.{[], ◌∷◌}
-use Prim.Native.Nat.{◌<◌, ◌^◌}
-use native.Mathlib.Omega.{arith}
-use seplogic.Ra.Ura.{Ura}
-use base.Fml.{Lft, Share, ftrue}
-use base.Logic.{SProp, ent}
-use contract.Monad.{fact}
-use contract.Running.{Running, tables}
-use mir.Syntax.{named}
-use mir.Val.{Val, vunit}
-use prog.Model.{Model}
-use types.Logic.{Logic, sem}
-use types.Kit.{mean, ‵, raw, ◌⊛◌, given, later, await, learn, at_ret, ◌$◌, ◌∵◌, !, qed, by, move, keep, drop, use1, split, split3, group, rewrite, fsplit}
-use types.Kit.{feq_l, suffices, done}
-use types.Part.{whole, sub}
-use types.Run.{stop, fld, lit, unit_lit, of_opd, and_then, no_more, first, blocks, exec, returns, enter}
-use types.ByLocal.{alloc_all, pass_all, free_all, look_at, get, get_in, sets, lands_last, env}
-use denote.Builtin.{unit, RefOf}
-use denote.Exit.{yes}
+use Rattle.rh_region.proofs.Common.{◌≡◌, refl, [], ◌∷◌, ◌<◌, ◌^◌, arith, Ura, Lft, Share, ftrue, SProp, ent, fact, Running, tables, named, Val, vunit, Model}
+use Rattle.rh_region.proofs.Common.{Logic, sem, mean, ‵, raw, ◌⊛◌, given, later, await, learn, at_ret, ◌$◌, ◌∵◌, !, qed, by, move, keep, drop, use1, split}
+use Rattle.rh_region.proofs.Common.{rewrite, fsplit, feq_l, suffices, done, whole, stop, fld, lit, of_opd, and_then, no_more, first, blocks, exec, returns}
+use Rattle.rh_region.proofs.Common.{enter, alloc_all, pass_all, free_all, look_at, get, sets, env, unit, RefOf, yes, Bor, shr_vals, shr_Tells, plain, heard}
+use Rattle.rh_region.proofs.Common.{nothing, Clauses, Stays, stay_dropped, walk_of, Goes-dropped, after, proved, leaves, Global, room_of, block_owns, Block}
+use types.Kit.{split3, group}
+use types.Part.{sub}
+use types.Run.{unit_lit}
+use types.ByLocal.{get_in, lands_last}
 use denote.RawPtr.{rawptr_Lawful}
-use denote.Ref.{Bor, shr_vals, shr_Tells}
-use denote.Signature.{plain}
-use denote.Steps.{heard, nothing}
 use denote.Triple.Call.{calls_at_last}
-use denote.Triple.Clauses.{Clauses}
 use denote.Triple.Table.{framed}
-use denote.Triple.Walked.{Stays, stay_dropped, walk_of, Goes-dropped}
 use Rattle.core.proofs.alloc.Calls.{Goes-blank}
-use Rattle.core.proofs.slots.Bodies.{after}
-use Rattle.std.proofs.raw_atomic.Walks.{proved, leaves}
 use Rattle.std.proofs.impls.GlobalAllocator.deallocate.Met.{met}
-use Rattle.std.specs.declared.alloc.Global.{Global}
 use Rattle.std.specs.contracts.alloc.Global as heap
-use Rattle.rh_region.specs.Ownership.{room_of, block_owns}
-use Rattle.rh_region.specs.declared.raw.Block.{Block}
 use Rattle.rh_region.specs.contracts.raw.free as f
 use Rattle.rh_region.proofs.BlockFields.{R, emptied}
 use Rattle.rh_region.proofs.HeapCalls.{Token, Handle, right, Giving, given_back, give, taken}

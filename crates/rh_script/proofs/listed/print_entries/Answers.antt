@@ -1,8 +1,5 @@
-use Rattle.std.proofs.Common.{◌∷◌, [], sym, arith}
+use Rattle.rh_script.proofs.Common.{◌∷◌, [], sym, arith, area_items, decimal, area_line, ok}
 use Rattle.std.proofs.lemmas.Option.{slice_get_within}
-use Rattle.rh_defs.specs.Listing.{area_items}
-use Rattle.std.specs.Fmt.{decimal}
-use Rattle.rh_defs.specs.Text.{area_line, ok}
 use Rattle.rh_tasks.specs.Items.{item_of}
 use Rattle.rh_script.proofs.GatherLemmas.{gathered_none, gathered_next, gathered_stops, gathered_ends, gathered_whole}
 use Rattle.rh_script.proofs.listed.print_entries.Goals as goal

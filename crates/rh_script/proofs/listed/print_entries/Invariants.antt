@@ -1,9 +1,4 @@
-use Rattle.std.proofs.Common.{◌++◌, ◌∷◌, [], ◌-◌, length, take}
-use Rattle.std.specs.Fmt.{decimal}
-use Rattle.std.specs.List.{flat_map}
-use Rattle.rh_defs.specs.Listing.{area_items}
-use Rattle.rh_defs.specs.Text.{area_line, ok}
-use Rattle.rh_script.specs.Gathered.{Gathered}
+use Rattle.rh_script.proofs.Common.{◌++◌, ◌∷◌, [], ◌-◌, length, take, decimal, flat_map, area_items, area_line, ok, Gathered}
 use Rattle.rh_script.proofs.listed.print_entries.Given as goal
 
 -- the number and the areas and slots so far were written, or wait in the row

@@ -1,6 +1,4 @@
-use Rattle.std.proofs.Common.{◌∷◌, [], arith}
-use Rattle.std.specs.Fmt.{decimal}
-use Rattle.rh_defs.specs.Text.{block_line, ok}
+use Rattle.rh_script.proofs.Common.{◌∷◌, [], arith, decimal, block_line, ok}
 use Rattle.rh_script.proofs.GatherLemmas.{gathered_none, gathered_each, gathered_stops, gathered_ends, gathered_all}
 use Rattle.rh_script.proofs.listed.print_items.Goals as goal
 

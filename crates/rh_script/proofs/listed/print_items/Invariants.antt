@@ -1,8 +1,4 @@
-use Rattle.std.proofs.Common.{◌++◌, ◌∷◌, [], take}
-use Rattle.std.specs.Fmt.{decimal}
-use Rattle.std.specs.List.{flat_map}
-use Rattle.rh_defs.specs.Text.{block_line, ok}
-use Rattle.rh_script.specs.Gathered.{Gathered}
+use Rattle.rh_script.proofs.Common.{◌++◌, ◌∷◌, [], take, decimal, flat_map, block_line, ok, Gathered}
 use Rattle.rh_script.proofs.listed.print_items.Given as goal
 
 -- the number and the blocks so far were written, or wait in the row

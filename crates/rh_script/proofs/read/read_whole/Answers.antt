@@ -1,6 +1,4 @@
-use Rattle.std.proofs.Common.{arith, ◌∙◌}
-use Rattle.std.proofs.lemmas.List.{take_all}
-use Rattle.rh_script.specs.Named.{bytes_of_named}
+use Rattle.rh_script.proofs.Common.{arith, ◌∙◌, take_all, bytes_of_named}
 use Rattle.rh_script.proofs.read.read_whole.Goals as goal
 
 pub returns : goal.returns

@@ -1,5 +1,4 @@
-use Rattle.std.proofs.Common.{arith}
-use borrow.Author.Tests.{tests}
+use Rattle.rh_script.proofs.Common.{arith, tests}
 use Rattle.rh_script.proofs.PrintLemmas.{unnamed_shows}
 use Rattle.rh_script.proofs.ReadLemmas.{named_is_slot, shows_none, size_read}
 use Rattle.rh_script.proofs.read.size_of_block.Goals as goal

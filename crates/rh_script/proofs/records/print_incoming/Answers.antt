@@ -1,6 +1,4 @@
-use Rattle.std.proofs.Common.{arith, codes}
-use borrow.Author.Tests.{tests}
-use Rattle.rh_defs.specs.Listing.{in_item}
+use Rattle.rh_script.proofs.Common.{arith, codes, tests, in_item}
 use Rattle.rh_script.proofs.PrintLemmas.{takes_record, puts_record, takes_records}
 use Rattle.rh_script.proofs.records.print_incoming.Goals as goal
 

@@ -1,8 +1,4 @@
-use Rattle.std.proofs.Common.{take, codes}
-use Rattle.std.specs.List.{flat_map}
-use Rattle.rh_defs.specs.Listing.{out_item}
-use Rattle.rh_defs.specs.Text.{record_line}
-use Rattle.rh_lines.specs.Flow.{Takes}
+use Rattle.rh_script.proofs.Common.{take, codes, flat_map, out_item, record_line, Takes}
 use Rattle.rh_script.proofs.records.print_outgoing.Given as goal
 
 -- the records so far were written

@@ -1,5 +1,4 @@
-use Rattle.std.proofs.Common.{[], arith, refl}
-use Rattle.rh_defs.specs.Text.{segment_line}
+use Rattle.rh_script.proofs.Common.{[], arith, refl, segment_line}
 use Rattle.rh_script.proofs.GatherLemmas.{gathered_each, gathered_stops, gathered_ends, gathered_all}
 use Rattle.rh_script.proofs.segments.print_items.Goals as goal
 

@@ -1,7 +1,4 @@
-use Rattle.std.proofs.Common.{take}
-use Rattle.std.specs.List.{flat_map}
-use Rattle.rh_defs.specs.Text.{segment_line}
-use Rattle.rh_script.specs.Gathered.{Gathered}
+use Rattle.rh_script.proofs.Common.{take, flat_map, segment_line, Gathered}
 use Rattle.rh_script.proofs.segments.print_items.Given as goal
 
 -- the segments so far were written, or wait in the row

@@ -1,5 +1,4 @@
-use Rattle.std.proofs.Common.{◌∙◌, arith}
-use Rattle.rh_script.specs.Named.{heap_of_named}
+use Rattle.rh_script.proofs.Common.{◌∙◌, arith, heap_of_named}
 use Rattle.rh_script.proofs.SegmentLemmas.{walk_none, batch_ends, batch_more, batch_breaks, batch_none}
 use Rattle.rh_script.proofs.segments.print_segments.Goals as goal
 

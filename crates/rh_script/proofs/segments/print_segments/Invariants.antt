@@ -1,6 +1,4 @@
-use Rattle.std.proofs.Common.{◌≡◌, ◌-◌}
-use Rattle.rh_tasks.specs.Lists.{segment_items_at}
-use Rattle.rh_script.specs.Named.{heap_of_named}
+use Rattle.rh_script.proofs.Common.{◌≡◌, ◌-◌, segment_items_at, heap_of_named}
 use Rattle.rh_script.proofs.SegmentLemmas.{Walked}
 use Rattle.rh_script.proofs.segments.print_segments.Given as goal
 

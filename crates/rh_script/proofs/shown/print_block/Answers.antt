@@ -1,6 +1,4 @@
-use Rattle.std.proofs.Common.{◌≡◌, ◌++◌, codes, refl, ap, ◌∙◌}
-use Rattle.std.specs.Fmt.{decimal}
-use Rattle.rh_lines.proofs.FlowLemmas.{puts_before, puts_stops, puts_more}
+use Rattle.rh_script.proofs.Common.{◌≡◌, ◌++◌, codes, refl, ap, ◌∙◌, decimal, puts_before, puts_stops, puts_more}
 use Rattle.rh_script.proofs.shown.print_block.Goals as goal
 
 pub returns-then-size-le-SHORT : goal.returns-then-size-le-SHORT

@@ -1,6 +1,4 @@
-use Rattle.std.proofs.Common.{◌≢◌, length, arith, refl}
-use Rattle.rh_script.specs.Named.{bytes_of_named}
-use Rattle.rh_lines.proofs.FlowLemmas.{puts_before, puts_stops, puts_more}
+use Rattle.rh_script.proofs.Common.{◌≢◌, length, arith, refl, bytes_of_named, puts_before, puts_stops, puts_more}
 use Rattle.rh_script.proofs.PrintLemmas.{spaced}
 use Rattle.rh_script.proofs.shown.print_bytes.Goals as goal
 

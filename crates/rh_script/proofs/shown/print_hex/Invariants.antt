@@ -1,7 +1,5 @@
-use Rattle.std.proofs.Common.{◌-◌, ◌≤◌, take}
+use Rattle.rh_script.proofs.Common.{◌-◌, ◌≤◌, take, Takes, bytes_of_named}
 use Rattle.hex.specs.Hex.{encode_lower}
-use Rattle.rh_lines.specs.Flow.{Takes}
-use Rattle.rh_script.specs.Named.{bytes_of_named}
 use Rattle.rh_script.proofs.shown.print_hex.Given as goal
 
 -- the bytes below the offset were written

@@ -1,6 +1,5 @@
-use Rattle.std.proofs.Common.{◌≡◌, drop}
-use Rattle.rh_figure.specs.Share.{count_of}
-use Rattle.rh_sight.specs.Owners.{holdings_of, owner_of}
+use Rattle.rh_sight.proofs.Common.{◌≡◌, drop, count_of, holdings_of}
+use Rattle.rh_sight.specs.Owners.{owner_of}
 use Rattle.rh_sight.proofs.kept.count_among.Given as goal
 
 -- none so far is of the owner

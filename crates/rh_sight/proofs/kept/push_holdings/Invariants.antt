@@ -1,8 +1,4 @@
-use Rattle.std.proofs.Common.{◌≡◌, take}
-use Rattle.std.specs.Prelude.{map}
-use Rattle.std.specs.List.{enumerate_from}
-use Rattle.rh_figure.specs.Share.{fixed_holding}
-use Rattle.rh_sight.specs.Owners.{holdings_of}
+use Rattle.rh_sight.proofs.Common.{◌≡◌, take, map, enumerate_from, fixed_holding, holdings_of}
 use Rattle.rh_sight.proofs.kept.push_holdings.Given as goal
 
 -- the areas so far are listed

@@ -1,6 +1,4 @@
-use Rattle.std.proofs.Common.{◌≡◌, ◌-◌, ◌++◌, length, take}
-use Rattle.std.specs.Prelude.{map}
-use Rattle.rh_sight.specs.Owners.{holdings_of, made_holding}
+use Rattle.rh_sight.proofs.Common.{◌≡◌, ◌-◌, ◌++◌, length, take, map, holdings_of, made_holding}
 use Rattle.rh_sight.proofs.kept.push_made.Given as goal
 
 -- the areas so far are listed

@@ -1,8 +1,6 @@
-use Rattle.std.proofs.Common.{◌≡◌, ◌∙◌, ℕ, [], ◌∷◌, ◌++◌, ap, ap₂}
-use Rattle.std.proofs.lemmas.List.{map-append}
-use Rattle.rh_defs.specs.Desk.{Task, task_pages}
-use Rattle.rh_figure.specs.Share.{Holding, SlotOf}
-use Rattle.rh_sight.specs.Owners.{holding_of, holdings_of, slot_holding}
+use Rattle.rh_sight.proofs.Common.{◌≡◌, ◌∙◌, ℕ, [], ◌∷◌, ◌++◌, ap, ap₂, map-append, Task, task_pages, Holding, holdings_of, slot_holding}
+use Rattle.rh_figure.specs.Share.{SlotOf}
+use Rattle.rh_sight.specs.Owners.{holding_of}
 use Rattle.rh_sight.proofs.Places.{filled-all, filled-more}
 use Rattle.rh_sight.proofs.kept.push_slots.Goals as goal
 

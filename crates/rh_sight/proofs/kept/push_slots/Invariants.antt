@@ -1,6 +1,4 @@
-use Rattle.std.proofs.Common.{◌≡◌, ◌-◌, ◌++◌, length, take}
-use Rattle.std.specs.Prelude.{map}
-use Rattle.rh_sight.specs.Owners.{holdings_of, slot_holding}
+use Rattle.rh_sight.proofs.Common.{◌≡◌, ◌-◌, ◌++◌, length, take, map, holdings_of, slot_holding}
 use Rattle.rh_sight.proofs.kept.push_slots.Given as goal
 
 -- the slots so far are listed

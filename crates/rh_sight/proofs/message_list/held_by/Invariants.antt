@@ -1,5 +1,4 @@
-use Rattle.std.proofs.Common.{◌≡◌, drop}
-use Rattle.std.specs.Prelude.{find}
+use Rattle.rh_sight.proofs.Common.{◌≡◌, drop, find}
 use Rattle.rh_sight.specs.Messages.{is_held_by}
 use Rattle.rh_sight.proofs.message_list.held_by.Given as goal
 

@@ -1,6 +1,4 @@
-use Rattle.std.proofs.Common.{◌≡◌, drop}
-use Rattle.std.specs.Prelude.{find}
-use Rattle.rh_sight.specs.Messages.{lies_in}
+use Rattle.rh_sight.proofs.Common.{◌≡◌, drop, find, lies_in}
 use Rattle.rh_sight.proofs.message_list.message_in.Given as goal
 
 -- none so far lies in the block

@@ -1,5 +1,4 @@
-use Rattle.std.proofs.Common.{◌≡◌, drop}
-use Rattle.std.specs.Prelude.{filter}
+use Rattle.rh_sight.proofs.Common.{◌≡◌, drop, filter}
 use Rattle.rh_sight.specs.Messages.{behind, first_ref, waits_for}
 use Rattle.rh_sight.proofs.Chains.{rest_behind}
 use Rattle.rh_sight.proofs.message_list.next_behind.Given as goal

@@ -1,11 +1,9 @@
-use Rattle.std.proofs.Common.{◌≡◌, ◌∙◌, ◌+◌, ap, sym, arith, subst}
+use Rattle.rh_sight.proofs.Common.{◌≡◌, ◌∙◌, ◌+◌, ap, sym, arith, subst, free_pages, owner_seen}
 use Rattle.rh_defs.specs.declared.sizes.TheConstants.{FIXED_AREAS}
 use Rattle.rh_defs.specs.Commands.{most_made}
-use Rattle.rh_defs.specs.Desk.{free_pages}
 use Rattle.rh_sight.specs.declared.sight.PagesOf.{PagesOf}
 use Rattle.rh_sight.specs.declared.sight.PagesOf.TheVariants as pages
 use Rattle.rh_sight.specs.Pages.{pages_before}
-use Rattle.rh_sight.specs.Seen.{owner_seen}
 use Rattle.rh_sight.proofs.Holders.{all-made, before-fixed, before-made, before-slot, fixed-room, free-few, made-few, slots-few, within-fixed, within-made}
 use Rattle.rh_sight.proofs.pages.first_page.Goals as goal
 

@@ -1,8 +1,4 @@
-use Rattle.std.proofs.Common.{◌≡◌, take}
-use Rattle.std.specs.Prelude.{map}
-use Rattle.std.specs.List.{enumerate_from}
-use Rattle.rh_defs.specs.Pieces.{total}
-use Rattle.rh_figure.specs.Share.{Holding, fixed_holding}
+use Rattle.rh_sight.proofs.Common.{◌≡◌, take, map, enumerate_from, total, Holding, fixed_holding}
 use Rattle.rh_sight.proofs.pages.fixed_before.Given as goal
 
 -- the pages of the areas so far

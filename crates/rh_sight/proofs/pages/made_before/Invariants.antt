@@ -1,6 +1,4 @@
-use Rattle.std.proofs.Common.{◌≡◌, take}
-use Rattle.rh_defs.specs.Pieces.{total}
-use Rattle.rh_defs.specs.Desk.{Made}
+use Rattle.rh_sight.proofs.Common.{◌≡◌, take, total, Made}
 use Rattle.rh_sight.proofs.pages.made_before.Given as goal
 
 -- the pages of the areas so far

@@ -1,7 +1,5 @@
-use Rattle.std.proofs.Common.{◌≡◌, ◌≤◌, ◌-◌, ℕ, List, length, take, drop, rules, arith}
-use Rattle.std.proofs.lemmas.List.{length-drop, length-take}
-use Rattle.rh_figure.specs.Share.{count_of, holdings}
-use Rattle.rh_sight.specs.Seen.{owner_seen}
+use Rattle.rh_sight.proofs.Common.{◌≡◌, ◌≤◌, ◌-◌, ℕ, List, length, take, drop, rules, arith, length-take, count_of, holdings, owner_seen}
+use Rattle.std.proofs.lemmas.List.{length-drop}
 use Rattle.rh_sight.proofs.Holders.{at-some, before-few, free-few, if-some, pages-are, room-of, some-of}
 use Rattle.rh_sight.proofs.pages.pages_of.Goals as goal
 

@@ -1,5 +1,4 @@
-use Rattle.std.proofs.Common.{◌≤◌, ◌∙◌, ap, arith}
-use Rattle.rh_defs.specs.Desk.{task_pages}
+use Rattle.rh_sight.proofs.Common.{◌≤◌, ◌∙◌, ap, arith, task_pages}
 use Rattle.rh_sight.proofs.Heaps.{total-one}
 use Rattle.rh_sight.proofs.Holders.{slots-all-few, slots-few}
 use Rattle.rh_sight.proofs.Places.{total-more, total-past}

@@ -1,6 +1,4 @@
-use Rattle.std.proofs.Common.{◌≡◌, take}
-use Rattle.rh_defs.specs.Pieces.{total}
-use Rattle.rh_defs.specs.Desk.{task_pages}
+use Rattle.rh_sight.proofs.Common.{◌≡◌, take, total, task_pages}
 use Rattle.rh_sight.proofs.pages.slots_before.Given as goal
 
 -- the pages of the slots so far

@@ -1,12 +1,9 @@
-use Rattle.std.proofs.Common.{◌≡◌, ℕ, Bool, ap, sym, subst}
+use Rattle.rh_sight.proofs.Common.{◌≡◌, ℕ, Bool, ap, sym, subst, Scene, HeapOf, scene_at, legend_of}
 use Rattle.rh_figure.specs.declared.piece.Kind.{Kind}
 use Rattle.rh_figure.specs.declared.piece.Kind.TheVariants.{Claimed}
 use Rattle.rh_figure.specs.Layout.{is_fresh_block}
-use Rattle.rh_figure.specs.Scene.{Scene}
-use Rattle.rh_sight.specs.declared.sight.HeapOf.{HeapOf}
 use Rattle.rh_sight.specs.declared.sight.HeapOf.TheVariants as heap_of
-use Rattle.rh_sight.specs.Steps.{scene_at}
-use Rattle.rh_sight.specs.Walks.{kind_and_freshness, legend_of}
+use Rattle.rh_sight.specs.Walks.{kind_and_freshness}
 use Rattle.rh_sight.proofs.pieces.block_kind.Goals as goal
 
 -- a block of a C heap is claimed

@@ -1,15 +1,9 @@
-use Rattle.std.proofs.Common.{◌≡◌, ◌∙◌, ◌-◌, ℕ, Bool, true, false, Option, Some, None, ap, ap₂, sym, refl, eq-eqb}
-use Rattle.std.specs.Prelude.{◌||◌, ◌==◌, find}
-use Rattle.std.specs.Option.{option_map}
-use Rattle.std.proofs.lemmas.Bool.{ne_eqb}
-use Rattle.rh_defs.specs.Desk.{Desk}
+use Rattle.rh_sight.proofs.Common.{◌≡◌, ◌∙◌, ◌-◌, ℕ, Bool, true, false, Option, Some, None, ap, ap₂, sym, refl, eq-eqb, ◌||◌, ◌==◌, find, option_map, ne_eqb}
+use Rattle.rh_sight.proofs.Common.{Desk, Scene, MessageItem, lies_in, scene_at}
 use Rattle.rh_figure.specs.declared.piece.Kind.{Kind}
 use Rattle.rh_figure.specs.declared.piece.Kind.TheVariants.{Posted}
 use Rattle.rh_figure.specs.Layout.{is_new_message, posted_or}
-use Rattle.rh_figure.specs.Scene.{Scene, message_in}
-use Rattle.rh_defs.specs.declared.listing.MessageItem.{MessageItem}
-use Rattle.rh_sight.specs.Messages.{lies_in}
-use Rattle.rh_sight.specs.Steps.{scene_at}
+use Rattle.rh_figure.specs.Scene.{message_in}
 use Rattle.rh_sight.proofs.Posts.{claimed-kind, claimed-new, posted-kind, posted-new, ref-in-block}
 use Rattle.rh_sight.proofs.pieces.module_kind.Goals as goal
 

@@ -1,9 +1,6 @@
-use Rattle.std.proofs.Common.{◌≡◌, ◌∙◌, ◌+◌, ◌++◌, ap, arith}
+use Rattle.rh_sight.proofs.Common.{◌≡◌, ◌∙◌, ◌+◌, ◌++◌, ap, arith, BlockItem, item_pieces, scene_at}
 use Rattle.rh_defs.specs.Slot.{flex_weight}
-use Rattle.rh_defs.specs.declared.listing.BlockItem.{BlockItem}
 use Rattle.rh_figure.specs.Layout.{is_fresh_flex}
-use Rattle.rh_sight.specs.Walks.{item_pieces}
-use Rattle.rh_sight.specs.Steps.{scene_at}
 use Rattle.rh_sight.proofs.PieceWalks.{blocks-step, weights-more}
 use Rattle.rh_sight.proofs.pieces.push_blocks.Goals as goal
 

@@ -1,8 +1,4 @@
-use Rattle.std.proofs.Common.{◌≡◌, ◌+◌, ◌++◌, length, drop}
-use Rattle.rh_defs.specs.Pieces.{total}
-use Rattle.rh_defs.specs.Desk.{Desk}
-use Rattle.rh_sight.specs.Steps.{scene_at}
-use Rattle.rh_sight.specs.Walks.{item_pieces, item_weight}
+use Rattle.rh_sight.proofs.Common.{◌≡◌, ◌+◌, ◌++◌, length, drop, total, Desk, scene_at, item_pieces, item_weight}
 use Rattle.rh_sight.proofs.pieces.push_blocks.Given as goal
 
 -- the blocks from the index on are left

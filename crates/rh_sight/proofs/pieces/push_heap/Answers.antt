@@ -1,13 +1,6 @@
-use Rattle.std.proofs.Common.{◌≡◌, ◌≤◌, ◌<◌, ◌∙◌, ◌+◌, ◌-◌, ◌++◌, ◌∷◌, [], ℕ, List, length, take, drop, ap, sym, arith}
-use Rattle.std.proofs.lemmas.List.{length-append, length-take}
-use Rattle.rh_defs.specs.Pieces.{total}
-use Rattle.rh_defs.specs.Heap.{first_place, place_after, size_of}
-use Rattle.rh_figure.specs.Layout.{heap_pieces, more_pieces, segment_pieces}
-use Rattle.rh_figure.specs.declared.piece.Piece.{Piece}
-use Rattle.rh_sight.specs.declared.walk.Census.{Census}
-use Rattle.rh_sight.specs.Seen.{heap_seen, heap_start_of}
-use Rattle.rh_sight.specs.Steps.{scene_at}
-use Rattle.rh_sight.specs.Walks.{area_start_of, legend_of}
+use Rattle.rh_sight.proofs.Common.{◌≡◌, ◌≤◌, ◌<◌, ◌∙◌, ◌+◌, ◌-◌, ◌++◌, ◌∷◌, [], ℕ, List, length, take, drop, ap, sym, arith, length-append, length-take}
+use Rattle.rh_sight.proofs.Common.{total, first_place, place_after, size_of, heap_pieces, more_pieces, segment_pieces, Piece, Census, heap_seen}
+use Rattle.rh_sight.proofs.Common.{heap_start_of, scene_at, area_start_of, legend_of}
 use Rattle.rh_sight.proofs.Heaps.{seen}
 use Rattle.rh_sight.proofs.Holders.{if-some, some-of}
 use Rattle.rh_sight.proofs.PieceWalks.{at-heap, comes-at}

@@ -1,11 +1,5 @@
-use Rattle.std.proofs.Common.{◌≡◌, ◌≤◌, ◌∙◌, ◌+◌, ◌-◌, ◌++◌, ◌∷◌, [], ap, sym, arith, length, take, get_or}
-use Rattle.std.proofs.lemmas.List.{take_all}
-use Rattle.rh_defs.specs.Pieces.{total}
-use Rattle.rh_defs.specs.Heap.{Hole, size_of}
-use Rattle.rh_figure.specs.Layout.{segment_pieces}
-use Rattle.rh_sight.specs.Seen.{heap_start_of}
-use Rattle.rh_sight.specs.Steps.{scene_at}
-use Rattle.rh_sight.specs.Walks.{area_start_of, legend_of}
+use Rattle.rh_sight.proofs.Common.{◌≡◌, ◌≤◌, ◌∙◌, ◌+◌, ◌-◌, ◌++◌, ◌∷◌, [], ap, sym, arith, length, take, get_or, take_all, total, Hole, size_of}
+use Rattle.rh_sight.proofs.Common.{segment_pieces, heap_start_of, scene_at, area_start_of, legend_of}
 use Rattle.rh_sight.proofs.PieceWalks.{item-here, item-in-area, items-on}
 use Rattle.rh_sight.proofs.SegmentWalks.{length-items}
 use Rattle.rh_sight.proofs.pieces.push_items.Goals as goal

@@ -1,11 +1,6 @@
-use Rattle.std.proofs.Common.{◌≡◌, ◌+◌, ◌-◌, ◌++◌, ℕ, List, length, take}
-use Rattle.rh_defs.specs.Desk.{Desk}
-use Rattle.rh_defs.specs.Heap.{Segment}
-use Rattle.rh_defs.specs.Listing.{segment_items_from}
-use Rattle.rh_figure.specs.Layout.{segment_pieces}
-use Rattle.rh_sight.specs.Seen.{heap_start_of}
-use Rattle.rh_sight.specs.Steps.{IsStepOf, scene_at}
-use Rattle.rh_sight.specs.Walks.{area_start_of, legend_of}
+use Rattle.rh_sight.proofs.Common.{◌≡◌, ◌+◌, ◌-◌, ◌++◌, ℕ, List, length, take, Desk, Segment, segment_items_from, segment_pieces, heap_start_of, scene_at}
+use Rattle.rh_sight.proofs.Common.{area_start_of, legend_of}
+use Rattle.rh_sight.specs.Steps.{IsStepOf}
 use Rattle.rh_sight.proofs.pieces.push_items.Given as goal
 
 -- the pieces of the segments so far are listed

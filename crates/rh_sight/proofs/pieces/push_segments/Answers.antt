@@ -1,12 +1,6 @@
-use Rattle.std.proofs.Common.{◌≡◌, ◌∙◌, ◌+◌, ◌-◌, ◌*◌, ◌++◌, ℕ, List, Some, length, take, drop, ap, sym, subst, arith}
-use Rattle.std.specs.Prelude.{slice_get, IfSome}
-use Rattle.std.proofs.lemmas.List.{length-take, take-append-drop}
-use Rattle.rh_defs.specs.declared.sizes.TheConstants.{SEGMENTS_AT_ONCE}
-use Rattle.rh_defs.specs.Heap.{first_place, place_after}
-use Rattle.rh_figure.specs.Layout.{segment_pieces}
-use Rattle.rh_sight.specs.Seen.{heap_seen, heap_start_of}
-use Rattle.rh_sight.specs.Steps.{scene_at}
-use Rattle.rh_sight.specs.Walks.{area_start_of, legend_of}
+use Rattle.rh_sight.proofs.Common.{◌≡◌, ◌∙◌, ◌+◌, ◌-◌, ◌*◌, ◌++◌, ℕ, List, Some, length, take, drop, ap, sym, subst, arith, slice_get, IfSome, length-take}
+use Rattle.rh_sight.proofs.Common.{take-append-drop, SEGMENTS_AT_ONCE, first_place, place_after, segment_pieces, heap_seen, heap_start_of, scene_at}
+use Rattle.rh_sight.proofs.Common.{area_start_of, legend_of}
 use Rattle.rh_sight.proofs.Heaps.{seen, start-small}
 use Rattle.rh_sight.proofs.Holders.{some-of}
 use Rattle.rh_sight.proofs.PieceWalks.{at-heap, for-heap, pieces-on, place-on, place-same, pieces-turn, turn-ends, turn-items, turn-place}

@@ -1,11 +1,5 @@
-use Rattle.std.proofs.Common.{◌≡◌, ◌≤◌, ◌+◌, ◌-◌, ◌*◌, ◌++◌, length, take}
-use Rattle.std.specs.Prelude.{IfSome}
-use Rattle.rh_defs.specs.declared.sizes.TheConstants.{SEGMENTS_AT_ONCE}
-use Rattle.rh_defs.specs.Heap.{first_place, place_after}
-use Rattle.rh_figure.specs.Layout.{segment_pieces}
-use Rattle.rh_sight.specs.Seen.{heap_seen, heap_start_of}
-use Rattle.rh_sight.specs.Steps.{scene_at}
-use Rattle.rh_sight.specs.Walks.{area_start_of, legend_of}
+use Rattle.rh_sight.proofs.Common.{◌≡◌, ◌≤◌, ◌+◌, ◌-◌, ◌*◌, ◌++◌, length, take, IfSome, SEGMENTS_AT_ONCE, first_place, place_after, segment_pieces, heap_seen}
+use Rattle.rh_sight.proofs.Common.{heap_start_of, scene_at, area_start_of, legend_of}
 use Rattle.rh_sight.proofs.pieces.push_segments.Given as goal
 
 -- the pieces of so many segments are listed, and the place is where these end

@@ -1,18 +1,9 @@
-use Rattle.std.proofs.Common.{◌≡◌, ◌≤◌, ◌<◌, ◌∙◌, ◌+◌, ◌++◌, List, Some, length, ap, sym, subst, arith}
-use Rattle.std.specs.Prelude.{slice_get}
-use Rattle.std.specs.Option.{option_map}
-use Rattle.std.proofs.lemmas.List.{length-append}
+use Rattle.rh_sight.proofs.Common.{◌≡◌, ◌≤◌, ◌<◌, ◌∙◌, ◌+◌, ◌++◌, List, Some, length, ap, sym, subst, arith, slice_get, option_map, length-append, total}
+use Rattle.rh_sight.proofs.Common.{Task, Heap, block_items, heap_pieces, scene_at, item_pieces}
 use Rattle.rh_defs.specs.SlotImage.{heap_place}
-use Rattle.rh_defs.specs.Pieces.{total}
-use Rattle.rh_defs.specs.Desk.{Task}
-use Rattle.rh_defs.specs.Heap.{Heap}
-use Rattle.rh_defs.specs.Listing.{block_items}
 use Rattle.rh_defs.specs.Slot.{flex_start}
-use Rattle.rh_figure.specs.Layout.{heap_pieces, slot_legend}
-use Rattle.rh_figure.specs.Layout.{slot_pieces as slot_pieces_of}
+use Rattle.rh_figure.specs.Layout.{slot_legend, slot_pieces as slot_pieces_of}
 use Rattle.rh_sight.specs.Seen.{IsTaskSeen}
-use Rattle.rh_sight.specs.Steps.{scene_at}
-use Rattle.rh_sight.specs.Walks.{item_pieces}
 use Rattle.rh_sight.proofs.Heaps.{task-length, task-slot}
 use Rattle.rh_sight.proofs.Holders.{at-some}
 use Rattle.rh_sight.proofs.PieceWalks.{items-long}

@@ -1,6 +1,5 @@
-use Rattle.std.proofs.Common.{◌≡◌, ◌<◌, ◌≤◌, ◌∙◌, ℕ, true, false, List, length, ap, sym, arith}
+use Rattle.rh_sight.proofs.Common.{◌≡◌, ◌<◌, ◌≤◌, ◌∙◌, ℕ, true, false, List, length, ap, sym, arith, slice_get_within}
 use Rattle.std.specs.Str.{bytes_eq}
-use Rattle.std.proofs.lemmas.Option.{slice_get_within}
 use Rattle.rh_defs.specs.Desk.{has_name, most_tasks}
 use Rattle.rh_sight.proofs.Places.{find-here, find-none, find-on}
 use Rattle.rh_sight.proofs.tasks.task_named.Goals as goal

@@ -1,5 +1,4 @@
-use Rattle.std.proofs.Common.{◌≡◌, ◌-◌, length, drop}
-use Rattle.std.specs.Prelude.{find}
+use Rattle.rh_sight.proofs.Common.{◌≡◌, ◌-◌, length, drop, find}
 use Rattle.rh_defs.specs.Desk.{has_name}
 use Rattle.rh_sight.proofs.tasks.task_named.Given as goal
 

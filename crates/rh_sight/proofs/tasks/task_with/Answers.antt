@@ -1,7 +1,5 @@
-use Rattle.std.proofs.Common.{◌≡◌, ◌<◌, ◌≤◌, ◌∙◌, ℕ, Bool, true, false, length, ap, sym, arith}
-use Rattle.std.specs.Prelude.{◌==◌}
-use Rattle.std.proofs.lemmas.Option.{slice_get_within}
-use Rattle.rh_defs.specs.Desk.{Task, most_tasks}
+use Rattle.rh_sight.proofs.Common.{◌≡◌, ◌<◌, ◌≤◌, ◌∙◌, ℕ, Bool, true, false, length, ap, sym, arith, ◌==◌, slice_get_within, Task}
+use Rattle.rh_defs.specs.Desk.{most_tasks}
 use Rattle.rh_sight.proofs.Places.{find-here, find-none, find-on}
 use Rattle.rh_sight.proofs.tasks.task_with.Goals as goal
 

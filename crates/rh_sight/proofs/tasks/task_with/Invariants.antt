@@ -1,6 +1,4 @@
-use Rattle.std.proofs.Common.{◌≡◌, ◌-◌, length, drop}
-use Rattle.std.specs.Prelude.{◌==◌, find}
-use Rattle.rh_defs.specs.Desk.{Task}
+use Rattle.rh_sight.proofs.Common.{◌≡◌, ◌-◌, length, drop, ◌==◌, find, Task}
 use Rattle.rh_sight.proofs.tasks.task_with.Given as goal
 
 -- none so far has the handle

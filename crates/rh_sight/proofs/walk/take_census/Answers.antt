@@ -1,8 +1,4 @@
-use Rattle.std.proofs.Common.{◌≡◌, ◌∙◌, ◌-◌, Some, length, ap, sym, subst, arith}
-use Rattle.std.specs.Prelude.{slice_get}
-use Rattle.rh_defs.specs.declared.listing.SegmentItem.{SegmentItem}
-use Rattle.rh_sight.specs.declared.walk.Census.{Census}
-use Rattle.rh_sight.specs.Seen.{heap_seen, heap_start_of}
+use Rattle.rh_sight.proofs.Common.{◌≡◌, ◌∙◌, ◌-◌, Some, length, ap, sym, subst, arith, slice_get, SegmentItem, Census, heap_seen, heap_start_of}
 use Rattle.rh_sight.specs.Walks.{census_of}
 use Rattle.rh_sight.proofs.Heaps.{census-is, comes-next, comes-parts, counted-all, counted-more, counted-none, counted-so, seen, start-small, stepped, told}
 use Rattle.rh_sight.proofs.walk.take_census.Goals as goal

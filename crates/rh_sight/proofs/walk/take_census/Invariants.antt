@@ -1,7 +1,4 @@
-use Rattle.std.proofs.Common.{◌-◌, List}
-use Rattle.rh_defs.specs.Heap.{Segment}
-use Rattle.rh_sight.specs.Seen.{heap_seen, heap_start_of}
-use Rattle.rh_sight.specs.Walks.{ComesTo}
+use Rattle.rh_sight.proofs.Common.{◌-◌, List, Segment, heap_seen, heap_start_of, ComesTo}
 use Rattle.rh_sight.proofs.Heaps.{Counted, end_of}
 use Rattle.rh_sight.proofs.walk.take_census.Given as goal
 

@@ -1,7 +1,5 @@
 -- Bytes that stay where they are need no move.
-use Rattle.std.proofs.Common.{◌+◌, get_or, sym, ap, arith}
-use Rattle.rh_defs.specs.Memory.{bytes}
-use Rattle.rh_defs.proofs.BytesLaws.{length-part}
+use Rattle.rh_slot.proofs.Common.{◌+◌, get_or, sym, ap, arith, bytes, length-part}
 use Rattle.rh_defs.proofs.MemoryLaws.{Edited-self}
 use Rattle.rh_slot.proofs.AreaLaws.{Carried-slid, Edited-put}
 use Rattle.rh_slot.proofs.area.slide.Goals as goal

@@ -1,13 +1,5 @@
-use Rattle.std.proofs.Common.{◌≡◌, ◌+◌, ◌-◌, List, ℕ, length, refl, sym, ap, ◌∙◌, arith}
-use Rattle.rh_defs.specs.Bytes.{part, put, SameIn}
-use Rattle.rh_defs.specs.Chain.{no_answer}
-use Rattle.rh_defs.specs.Memory.{Memory, OnlyArea, Edited, bytes}
-use Rattle.rh_defs.specs.Slot.{flex_weight}
-use Rattle.rh_defs.specs.SlotImage.{flex_place, heap_place}
-use Rattle.rh_defs.proofs.BytesLaws.{length-part, SameOutside-self}
-use Rattle.rh_defs.proofs.MemoryLaws.{bytes-with_bytes}
-use Rattle.rh_defs.proofs.SlotLaws.{part_of, in_below, in_both}
-use Rattle.rh_slot.specs.Area.{slot_in}
+use Rattle.rh_slot.proofs.Common.{◌≡◌, ◌+◌, ◌-◌, List, ℕ, length, refl, sym, ap, ◌∙◌, arith, part, put, SameIn, no_answer, Memory, OnlyArea, Edited, bytes}
+use Rattle.rh_slot.proofs.Common.{flex_weight, flex_place, heap_place, length-part, SameOutside-self, bytes-with_bytes, part_of, in_below, in_both, slot_in}
 use Rattle.rh_slot.proofs.AppendLaws.{append_none, append_full, append_done, appended_words, appended_pages, source_inside, source_stays}
 use Rattle.rh_slot.proofs.AreaLaws.{Edited-put}
 use Rattle.rh_slot.proofs.EditLaws.{row_over}

@@ -1,9 +1,7 @@
 -- The walk has passed anchors that have blocks.
-use Rattle.std.proofs.Common.{◌-◌}
-use Rattle.rh_slot.specs.Area.{slot_in}
+use Rattle.rh_slot.proofs.Common.{◌-◌, slot_in, anchor_count}
 use Rattle.rh_slot.proofs.FreeLaws.{AllUsed}
 use Rattle.rh_slot.proofs.bytes.free_anchor.Given as goal
-use Rattle.rh_defs.specs.Slot.{anchor_count}
 
 abbrev pub invariant-walk : goal.invariant-walk
 invariant-walk g l = AllUsed (slot_in (g.S.Words.memory l.store) l.slot) l.k

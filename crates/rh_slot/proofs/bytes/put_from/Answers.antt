@@ -1,8 +1,4 @@
-use Rattle.std.proofs.Common.{refl, ap, arith}
-use Rattle.rh_defs.specs.Chain.{no_answer}
-use Rattle.rh_defs.specs.Memory.{bytes}
-use Rattle.rh_defs.proofs.BytesLaws.{length-part}
-use Rattle.rh_slot.specs.Area.{slot_in}
+use Rattle.rh_slot.proofs.Common.{refl, ap, arith, no_answer, bytes, length-part, slot_in}
 use Rattle.rh_slot.proofs.LeaveLaws.{refuses}
 use Rattle.rh_slot.proofs.EditLaws.{put_none, put_beyond, beyond}
 use Rattle.rh_slot.proofs.WriteLaws.{put_copied}

@@ -1,10 +1,5 @@
-use Rattle.std.proofs.Common.{refl, arith}
-use Rattle.std.specs.Prelude.{Ok}
-use Rattle.rh_defs.specs.Memory.{bytes}
-use Rattle.rh_defs.proofs.BytesLaws.{length-part}
-use Rattle.rh_defs.specs.Bytes.{part}
+use Rattle.rh_slot.proofs.Common.{refl, arith, Ok, bytes, length-part, part, slot_in}
 use Rattle.rh_defs.specs.Places.{buffer_at, written_in}
-use Rattle.rh_slot.specs.Area.{slot_in}
 use Rattle.rh_slot.proofs.ReachLaws.{reached_part, within, reached_spells, reached_budging, reached_shape}
 use Rattle.rh_slot.proofs.SpanLaws.{is_span_at}
 use Rattle.rh_slot.proofs.WriteLaws.{copied, map_after}

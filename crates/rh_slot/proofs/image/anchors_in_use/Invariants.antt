@@ -1,7 +1,6 @@
-use Rattle.std.proofs.Common.{◌-◌}
+use Rattle.rh_slot.proofs.Common.{◌-◌, anchor_count}
 use Rattle.rh_slot.proofs.AnchorCounts.{WordsTo}
 use Rattle.rh_slot.proofs.image.anchors_in_use.Given as goal
-use Rattle.rh_defs.specs.Slot.{anchor_count}
 
 abbrev pub invariant-walk : goal.invariant-walk
 invariant-walk l = WordsTo l.image l.anchor l.used

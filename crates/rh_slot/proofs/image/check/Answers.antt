@@ -1,5 +1,4 @@
-use Rattle.std.proofs.Common.{sym, ap, ◌∙◌}
-use Rattle.rh_defs.specs.HeapImage.{fault_of}
+use Rattle.rh_slot.proofs.Common.{sym, ap, ◌∙◌, fault_of}
 use Rattle.rh_slot.specs.declared.image.SlotFault.TheVariants.{BadHeap}
 use Rattle.rh_slot.proofs.ImageLaws.{fault-length, fault-heap, refused}
 use Rattle.rh_slot.proofs.image.check.Goals as goal

@@ -1,5 +1,4 @@
-use Rattle.std.proofs.Common.{refl, sym, ◌∙◌}
-use Rattle.rh_slot.specs.declared.image.SlotFault.TheVariants.{BadSize, BadAnchor, SparePage}
+use Rattle.rh_slot.proofs.Common.{refl, sym, ◌∙◌, BadSize, BadAnchor, SparePage}
 use Rattle.rh_slot.proofs.ImageLaws.{refused}
 use Rattle.rh_slot.proofs.ImageWalks.{ready, bad_size, bad_anchor, spare, all_right, no_fault, sums_are}
 use Rattle.rh_slot.proofs.image.check_blocks.Goals as goal

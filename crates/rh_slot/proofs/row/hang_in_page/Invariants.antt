@@ -1,7 +1,5 @@
 -- The blocks below the place hang, in the anchor words that were lent.
-use Rattle.std.proofs.Common.{◌≤◌, ◌+◌, ◌-◌}
-use Rattle.rh_defs.specs.Memory.{bytes}
-use Rattle.rh_slot.specs.Row.{HangsApart}
+use Rattle.rh_slot.proofs.Common.{◌≤◌, ◌+◌, ◌-◌, bytes, HangsApart}
 use Rattle.rh_slot.proofs.row.hang_in_page.Given as goal
 
 abbrev pub invariant-walk : goal.invariant-walk

@@ -1,5 +1,5 @@
-use Rattle.std.proofs.Common.{subst, sym}
-use Rattle.rh_defs.proofs.SlotLaws.{Carried, Lie-carried}
+use Rattle.rh_slot.proofs.Common.{subst, sym, Carried}
+use Rattle.rh_defs.proofs.SlotLaws.{Lie-carried}
 use Rattle.rh_slot.proofs.ShiftLaws.{shifted}
 use Rattle.rh_slot.proofs.row.shift.Goals as goal
 

@@ -1,5 +1,4 @@
-use Rattle.std.proofs.Common.{refl, arith}
-use Rattle.rh_store.specs.Kept.{open_index}
+use Rattle.rh_store.proofs.Common.{refl, arith, open_index}
 use Rattle.rh_store.proofs.AreasLaws.{hidden}
 use Rattle.rh_store.proofs.area.close_at.Goals as goal
 

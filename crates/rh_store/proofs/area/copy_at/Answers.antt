@@ -1,9 +1,4 @@
-use Rattle.std.proofs.Common.{◌<◌, ◌≤◌, [], length, take, drop, ap, ◌∙◌, arith}
-use Rattle.std.specs.Prelude.{unwrap_or}
-use Rattle.rh_defs.specs.Bytes.{put, part}
-use Rattle.rh_defs.proofs.BytesLaws.{length-put}
-use Rattle.rh_store.specs.Areas.{contents}
-use Rattle.rh_store.specs.Kept.{open_index}
+use Rattle.rh_store.proofs.Common.{◌<◌, ◌≤◌, [], length, take, drop, ap, ◌∙◌, arith, unwrap_or, put, part, length-put, contents, open_index}
 use Rattle.rh_store.proofs.AreasLaws.{read_slice, in_front, in_back, written_front, written_back}
 use Rattle.rh_store.proofs.area.copy_at.Goals as goal
 

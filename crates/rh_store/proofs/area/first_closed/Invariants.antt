@@ -1,5 +1,4 @@
-use Rattle.std.proofs.Common.{ℕ, ◌<◌, IsSome}
-use Rattle.rh_store.specs.Areas.{contents}
+use Rattle.rh_store.proofs.Common.{ℕ, ◌<◌, IsSome, contents}
 use Rattle.rh_store.proofs.area.first_closed.Given as goal
 
 abbrev pub invariant-loop-i : goal.invariant-loop-i

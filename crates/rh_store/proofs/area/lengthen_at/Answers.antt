@@ -1,10 +1,7 @@
-use Rattle.std.proofs.Common.{◌≡◌, ◌-◌, ◌++◌, [], length, replicate, take, refl, sym, ap, ◌∙◌, arith}
-use Rattle.std.specs.Prelude.{unwrap_or, vec_capacity}
+use Rattle.rh_store.proofs.Common.{◌≡◌, ◌-◌, ◌++◌, [], length, replicate, take, refl, sym, ap, ◌∙◌, arith, unwrap_or, vec_capacity, Area, contents}
+use Rattle.rh_store.proofs.Common.{open_index, open_read}
 use Rattle.std.proofs.lemmas.List.{take_all}
-use Rattle.rh_store.specs.declared.area.Area.{Area}
-use Rattle.rh_store.specs.Areas.{contents}
-use Rattle.rh_store.specs.Kept.{open_index}
-use Rattle.rh_store.proofs.AreasLaws.{open_read, rewritten, room_at-get}
+use Rattle.rh_store.proofs.AreasLaws.{rewritten, room_at-get}
 use Rattle.rh_store.proofs.area.lengthen_at.Goals as goal
 
 pub index_mut-area-requires : goal.index_mut-area-requires

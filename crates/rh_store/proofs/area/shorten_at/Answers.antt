@@ -1,8 +1,5 @@
-use Rattle.std.proofs.Common.{◌≡◌, [], take, refl, sym, ap, ◌∙◌, arith}
-use Rattle.std.specs.Prelude.{unwrap_or}
-use Rattle.rh_store.specs.Areas.{contents}
-use Rattle.rh_store.specs.Kept.{open_index}
-use Rattle.rh_store.proofs.AreasLaws.{open_read, rewritten}
+use Rattle.rh_store.proofs.Common.{◌≡◌, [], take, refl, sym, ap, ◌∙◌, arith, unwrap_or, contents, open_index, open_read}
+use Rattle.rh_store.proofs.AreasLaws.{rewritten}
 use Rattle.rh_store.proofs.area.shorten_at.Goals as goal
 
 pub index_mut-area-requires : goal.index_mut-area-requires

@@ -1,10 +1,4 @@
-use Rattle.std.proofs.Common.{◌≡◌, [], length, sym, ap, ◌∙◌, arith}
-use Rattle.std.specs.Prelude.{unwrap_or}
-use Rattle.rh_defs.specs.Bytes.{put, part}
-use Rattle.rh_defs.proofs.BytesLaws.{length-put}
-use Rattle.rh_store.specs.Areas.{contents}
-use Rattle.rh_store.specs.Kept.{open_index}
-use Rattle.rh_store.proofs.AreasLaws.{open_read, written_slice}
+use Rattle.rh_store.proofs.Common.{◌≡◌, [], length, sym, ap, ◌∙◌, arith, unwrap_or, put, part, length-put, contents, open_index, open_read, written_slice}
 use Rattle.rh_store.proofs.area.slide_at.Goals as goal
 
 pub index_mut-area-requires : goal.index_mut-area-requires

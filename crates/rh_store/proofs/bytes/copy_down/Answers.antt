@@ -1,5 +1,4 @@
-use Rattle.std.proofs.Common.{length, ap, ◌∙◌, arith}
-use Rattle.rh_defs.proofs.BytesLaws.{length-part}
+use Rattle.rh_store.proofs.Common.{length, ap, ◌∙◌, arith, length-part}
 use Rattle.rh_store.proofs.Slices.{copied_down}
 use Rattle.rh_store.proofs.bytes.copy_down.Goals as goal
 

@@ -1,7 +1,5 @@
-use Rattle.std.proofs.Common.{refl, arith}
-use Rattle.rh_defs.specs.Bytes.{part}
-use Rattle.rh_defs.proofs.BytesLaws.{length-part}
-use Rattle.rh_store.proofs.Slices.{written, read_out}
+use Rattle.rh_store.proofs.Common.{refl, arith, part, length-part, written}
+use Rattle.rh_store.proofs.Slices.{read_out}
 use Rattle.rh_store.proofs.bytes.copy_over.Goals as goal
 
 pub returns : goal.returns

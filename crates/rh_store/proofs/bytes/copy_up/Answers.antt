@@ -1,5 +1,4 @@
-use Rattle.std.proofs.Common.{length, length-append, ap, ◌∙◌, arith}
-use Rattle.rh_defs.proofs.BytesLaws.{length-part}
+use Rattle.rh_store.proofs.Common.{length, length-append, ap, ◌∙◌, arith, length-part}
 use Rattle.rh_store.proofs.Slices.{copied_up}
 use Rattle.rh_store.proofs.bytes.copy_up.Goals as goal
 

@@ -1,5 +1,4 @@
-use Rattle.std.proofs.Common.{arith}
-use Rattle.rh_store.proofs.Slices.{written}
+use Rattle.rh_store.proofs.Common.{arith, written}
 use Rattle.rh_store.proofs.bytes.put_in.Goals as goal
 
 pub returns : goal.returns

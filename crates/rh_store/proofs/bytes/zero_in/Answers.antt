@@ -1,6 +1,5 @@
-use Rattle.std.proofs.Common.{ℕ, replicate, ap, ◌∙◌, arith}
+use Rattle.rh_store.proofs.Common.{ℕ, replicate, ap, ◌∙◌, arith, written}
 use Rattle.std.proofs.lemmas.List.{length-replicate, length-take, length-drop}
-use Rattle.rh_store.proofs.Slices.{written}
 use Rattle.rh_store.proofs.bytes.zero_in.Goals as goal
 
 pub returns : goal.returns

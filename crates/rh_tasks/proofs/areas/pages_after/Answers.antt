@@ -1,6 +1,4 @@
-use Rattle.std.proofs.Common.{refl, sym, arith, w32}
-use Rattle.std.proofs.lemmas.Int.{to_z-of_z}
-use Rattle.rh_tasks.specs.View.{pages_at}
+use Rattle.rh_tasks.proofs.Common.{refl, sym, arith, w32, to_z-of_z, pages_at}
 use Rattle.rh_tasks.proofs.PageLaws.{lacking}
 use Rattle.rh_tasks.proofs.AreaCommands.{after-more, after-full, after-less, after-short}
 use Rattle.rh_tasks.proofs.areas.pages_after.Goals as goal

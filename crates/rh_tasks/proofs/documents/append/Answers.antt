@@ -1,6 +1,4 @@
-use Rattle.std.proofs.Common.{refl, ap, arith}
-use Rattle.rh_defs.specs.Chain.{no_answer}
-use Rattle.rh_slot.specs.Area.{slot_in}
+use Rattle.rh_tasks.proofs.Common.{refl, ap, arith, no_answer, slot_in}
 use Rattle.rh_slot.proofs.LeaveLaws.{refuses}
 use Rattle.rh_tasks.proofs.Appends.{append-above, first-above}
 use Rattle.rh_tasks.proofs.documents.append.Goals as goal

@@ -1,5 +1,4 @@
-use Rattle.std.proofs.Common.{sym, arith}
-use Rattle.rh_slot.specs.Area.{slot_in}
+use Rattle.rh_tasks.proofs.Common.{sym, arith, slot_in}
 use Rattle.rh_tasks.proofs.Readers.{small-size}
 use Rattle.rh_tasks.proofs.Appends.{size-above}
 use Rattle.rh_tasks.proofs.documents.document_size.Goals as goal

@@ -1,5 +1,4 @@
-use Rattle.rh_defs.specs.Memory.{bytes}
-use Rattle.rh_slot.specs.Area.{slot_in}
+use Rattle.rh_tasks.proofs.Common.{bytes, slot_in}
 use Rattle.rh_tasks.proofs.Appends.{none-first, none-held, held-first, held-bytes}
 use Rattle.rh_tasks.proofs.documents.held_in.Goals as goal
 

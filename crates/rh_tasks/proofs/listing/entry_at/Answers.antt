@@ -1,10 +1,5 @@
-use Rattle.std.proofs.Common.{ap, sym, ◌∙◌, arith}
-use Rattle.std.specs.Prelude.{slice_get}
-use Rattle.rh_defs.specs.Memory.{IsOpen}
-use Rattle.rh_tasks.specs.declared.seat.Seat.{Seat}
-use Rattle.rh_tasks.specs.View.{HasSlot}
+use Rattle.rh_tasks.proofs.Common.{ap, sym, ◌∙◌, arith, slice_get, IsOpen, Seat, HasSlot, all-map}
 use Rattle.rh_tasks.specs.Items.{slot_items}
-use Rattle.rh_tasks.proofs.Lists.{all-map}
 use Rattle.rh_tasks.proofs.ItemLaws.{item-made, item-slot}
 use Rattle.rh_tasks.proofs.listing.entry_at.Goals as goal
 

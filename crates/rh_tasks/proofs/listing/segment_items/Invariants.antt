@@ -1,5 +1,4 @@
-use Rattle.std.proofs.Common.{◌≡◌, take}
-use Rattle.std.specs.Prelude.{map}
+use Rattle.rh_tasks.proofs.Common.{◌≡◌, take, map}
 use Rattle.rh_tasks.specs.Items.{placed_item}
 use Rattle.rh_tasks.proofs.listing.segment_items.Given as goal
 

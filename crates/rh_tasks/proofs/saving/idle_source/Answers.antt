@@ -1,10 +1,4 @@
-use Rattle.std.proofs.Common.{refl, sym, ◌∙◌, arith}
-use Rattle.std.proofs.lemmas.Result.{err_from_is_err_and}
-use Rattle.rh_tasks.specs.View.{HasSlot}
-use Rattle.rh_tasks.specs.Finding.{Found}
-use Rattle.rh_tasks.specs.Saves.{source_block}
-use Rattle.rh_tasks.proofs.Lists.{all-at}
-use Rattle.rh_tasks.proofs.Finding.{sits}
+use Rattle.rh_tasks.proofs.Common.{refl, sym, ◌∙◌, arith, err_from_is_err_and, HasSlot, Found, source_block, all-at, sits}
 use Rattle.rh_tasks.proofs.Looks.{looked-none, looked-at, block-missing}
 use Rattle.rh_tasks.proofs.Readers.{small-size}
 use Rattle.rh_tasks.proofs.Saves.{source-is, source-missing}

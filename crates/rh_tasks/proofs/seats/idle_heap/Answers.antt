@@ -1,10 +1,4 @@
-use Rattle.std.proofs.Common.{refl, sym, ◌∙◌}
-use Rattle.std.proofs.lemmas.Result.{err_from_is_err_and}
-use Rattle.rh_defs.specs.Desk.{idle_buffer}
-use Rattle.rh_tasks.specs.View.{HasSlot}
-use Rattle.rh_tasks.specs.Finding.{Found}
-use Rattle.rh_tasks.proofs.Lists.{all-at}
-use Rattle.rh_tasks.proofs.Finding.{sits}
+use Rattle.rh_tasks.proofs.Common.{refl, sym, ◌∙◌, err_from_is_err_and, idle_buffer, HasSlot, Found, all-at, sits}
 use Rattle.rh_tasks.proofs.Looks.{looked-none, looked-at, buffer-missing, buffer-busy}
 use Rattle.rh_tasks.proofs.seats.idle_heap.Goals as goal
 

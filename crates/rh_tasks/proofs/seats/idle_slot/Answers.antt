@@ -1,10 +1,4 @@
-use Rattle.std.proofs.Common.{refl, sym, ◌∙◌}
-use Rattle.std.proofs.lemmas.Result.{err_from_is_err_and}
-use Rattle.rh_defs.specs.Desk.{idle_block}
-use Rattle.rh_tasks.specs.View.{HasSlot}
-use Rattle.rh_tasks.specs.Finding.{Found}
-use Rattle.rh_tasks.proofs.Lists.{all-at}
-use Rattle.rh_tasks.proofs.Finding.{sits}
+use Rattle.rh_tasks.proofs.Common.{refl, sym, ◌∙◌, err_from_is_err_and, idle_block, HasSlot, Found, all-at, sits}
 use Rattle.rh_tasks.proofs.Looks.{looked-none, looked-at, block-missing, block-busy, block-idle}
 use Rattle.rh_tasks.proofs.seats.idle_slot.Goals as goal
 

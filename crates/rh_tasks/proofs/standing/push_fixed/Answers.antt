@@ -1,7 +1,5 @@
-use Rattle.std.proofs.Common.{ap, refl, ◌∙◌, arith}
-use Rattle.std.proofs.lemmas.List.{take_all}
+use Rattle.rh_tasks.proofs.Common.{ap, refl, ◌∙◌, arith, take_all, fixed}
 use Rattle.rh_tasks.specs.Standing.{numbers}
-use Rattle.rh_tasks.specs.View.{fixed}
 use Rattle.rh_tasks.proofs.StandingLaws.{numbers-few, numbers-more}
 use Rattle.rh_tasks.proofs.standing.push_fixed.Goals as goal
 

@@ -1,6 +1,5 @@
-use Rattle.std.proofs.Common.{◌≡◌, take}
+use Rattle.rh_tasks.proofs.Common.{◌≡◌, take, fixed}
 use Rattle.rh_tasks.specs.Standing.{numbers}
-use Rattle.rh_tasks.specs.View.{fixed}
 use Rattle.rh_tasks.proofs.standing.push_fixed.Given as goal
 
 -- the areas so far are listed

@@ -1,5 +1,5 @@
-use Rattle.std.proofs.Common.{List, [], ◌∷◌, length, get_or, ap, ◌∙◌, ◌++◌, arith}
-use Rattle.rh_tasks.specs.declared.made.MadeArea.{MadeArea}
+use Rattle.rh_tasks.proofs.Common.{List, [], ◌∷◌, length, ap, ◌∙◌, ◌++◌, arith, MadeArea}
+use Rattle.std.proofs.Common.{get_or}
 use Rattle.rh_tasks.proofs.StandingLaws.{filled-all, filled-few, filled-more}
 use Rattle.rh_tasks.proofs.standing.push_made.Goals as goal
 

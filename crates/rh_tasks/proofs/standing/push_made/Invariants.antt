@@ -1,6 +1,4 @@
-use Rattle.std.proofs.Common.{◌≡◌, ◌++◌, take}
-use Rattle.std.specs.Prelude.{map}
-use Rattle.rh_tasks.specs.declared.made.MadeArea.{MadeArea}
+use Rattle.rh_tasks.proofs.Common.{◌≡◌, ◌++◌, take, map, MadeArea}
 use Rattle.rh_tasks.proofs.standing.push_made.Given as goal
 
 -- the areas so far are listed

@@ -1,5 +1,5 @@
-use Rattle.std.proofs.Common.{◌≡◌, [], ◌∷◌, length, get_or, ap, ◌∙◌, ◌++◌, arith}
-use Rattle.rh_tasks.specs.declared.seat.Seat.{Seat}
+use Rattle.rh_tasks.proofs.Common.{◌≡◌, [], ◌∷◌, length, ap, ◌∙◌, ◌++◌, arith, Seat}
+use Rattle.std.proofs.Common.{get_or}
 use Rattle.rh_tasks.proofs.StandingLaws.{filled-all, filled-few, filled-more}
 use Rattle.rh_tasks.proofs.standing.push_slots.Goals as goal
 

@@ -1,6 +1,4 @@
-use Rattle.std.proofs.Common.{◌≡◌, ◌++◌, take}
-use Rattle.std.specs.Prelude.{map}
-use Rattle.rh_tasks.specs.declared.seat.Seat.{Seat}
+use Rattle.rh_tasks.proofs.Common.{◌≡◌, ◌++◌, take, map, Seat}
 use Rattle.rh_tasks.proofs.standing.push_slots.Given as goal
 
 -- the slots so far are listed

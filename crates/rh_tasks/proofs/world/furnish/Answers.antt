@@ -1,8 +1,5 @@
-use Rattle.std.proofs.Common.{◌≡◌, ap, sym, subst, ◌∙◌, arith}
-use Rattle.rh_defs.specs.Heap.{empty_heap}
-use Rattle.rh_module.specs.Area.{IsModule, heap_in}
+use Rattle.rh_tasks.proofs.Common.{◌≡◌, ap, sym, subst, ◌∙◌, arith, empty_heap, IsModule, heap_in, the_module}
 use Rattle.rh_module.specs.declared.module.Module.{Module}
-use Rattle.rh_tasks.specs.View.{the_module}
 use Rattle.rh_tasks.proofs.Openings.{none-opened, next-opened, opens, six-opened, open-at, page-long, page-open, furnished}
 use Rattle.rh_tasks.proofs.PageLaws.{not-refused}
 use Rattle.rh_tasks.proofs.world.furnish.Goals as goal

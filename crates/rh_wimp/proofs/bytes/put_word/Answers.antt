@@ -1,8 +1,5 @@
-use Rattle.std.proofs.Common.{ℕ, ◌+◌, ◌-◌, ◌++◌, take, drop, length, ◌≤◌, ap, ◌∙◌, arith}
-use Rattle.std.proofs.lemmas.List.{length-take}
+use Rattle.rh_wimp.proofs.Common.{ℕ, ◌+◌, ◌-◌, ◌++◌, take, drop, length, ◌≤◌, ap, ◌∙◌, arith, length-take, written, word_bytes}
 use Rattle.std.proofs.Math.ListN.{drop_of_length-le}
-use Rattle.rh_store.proofs.Slices.{written}
-use Rattle.rh_defs.specs.Bytes.{word_bytes}
 use Rattle.rh_wimp.proofs.bytes.put_word.Goals as goal
 
 pub returns : goal.returns

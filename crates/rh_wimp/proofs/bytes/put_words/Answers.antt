@@ -1,7 +1,5 @@
-use Rattle.std.proofs.Common.{◌+◌, ◌*◌, get_or, take, sym, ap, ◌∙◌, arith}
-use Rattle.std.proofs.lemmas.List.{length-take, take_more}
-use Rattle.rh_defs.specs.Bytes.{put, word_bytes}
-use Rattle.rh_defs.specs.Messages.{words}
+use Rattle.rh_wimp.proofs.Common.{◌+◌, ◌*◌, get_or, take, sym, ap, ◌∙◌, arith, length-take, put, word_bytes, words}
+use Rattle.std.proofs.lemmas.List.{take_more}
 use Rattle.rh_defs.proofs.BytesLaws.{put_none}
 use Rattle.rh_wimp.proofs.EncodeLaws.{are-words, words-one}
 use Rattle.rh_wimp.proofs.bytes.put_words.Goals as goal

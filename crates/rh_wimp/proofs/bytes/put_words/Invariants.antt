@@ -1,6 +1,4 @@
-use Rattle.std.proofs.Common.{◌≡◌, take}
-use Rattle.rh_defs.specs.Bytes.{put}
-use Rattle.rh_defs.specs.Messages.{words}
+use Rattle.rh_wimp.proofs.Common.{◌≡◌, take, put, words}
 use Rattle.rh_wimp.proofs.bytes.put_words.Given as goal
 
 abbrev pub invariant-loop-i : goal.invariant-loop-i

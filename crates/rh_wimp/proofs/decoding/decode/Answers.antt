@@ -1,10 +1,5 @@
-use Rattle.std.proofs.Common.{◌≡◌, refl, sym, ap, ◌∙◌}
-use Rattle.std.specs.Prelude.{Some, None, Result, Ok, Err}
-use Rattle.std.proofs.lemmas.Result.{err_from_is_err_and}
-use Rattle.rh_defs.specs.Messages.{action_at}
-use Rattle.rh_defs.specs.MessageImage.{body_for, decoded}
-use Rattle.rh_defs.specs.declared.message.Message.{Message}
-use Rattle.rh_defs.specs.declared.message.MessageFault.{MessageFault}
+use Rattle.rh_wimp.proofs.Common.{◌≡◌, refl, sym, ap, ◌∙◌, Some, None, Result, Ok, Err, err_from_is_err_and, action_at, decoded, Message, MessageFault}
+use Rattle.rh_defs.specs.MessageImage.{body_for}
 use Rattle.rh_defs.specs.declared.message.MessageFault.TheVariants.{BadAction}
 use Rattle.rh_defs.proofs.MessageImageLaws.{decoded-spells, spelled-decodes}
 use Rattle.rh_wimp.proofs.DecodeLaws.{decoded-body, decoded-short, message-is}

@@ -1,6 +1,4 @@
-use Rattle.std.proofs.Common.{◌-◌, sym, ap, ◌∙◌, arith}
-use Rattle.std.specs.Prelude.{◌==◌}
-use Rattle.std.specs.List.{position}
+use Rattle.rh_wimp.proofs.Common.{◌-◌, sym, ap, ◌∙◌, arith, ◌==◌, position}
 use Rattle.rh_defs.proofs.BytesLaws.{part-drop}
 use Rattle.rh_wimp.proofs.decoding.name_length.Goals as goal
 

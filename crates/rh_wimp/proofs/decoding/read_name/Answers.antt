@@ -1,6 +1,4 @@
-use Rattle.std.proofs.Common.{◌≡◌, ℕ, ◌+◌, ◌-◌, ◌≤◌, List, length, take, drop, true, sym, ap, subst, ◌∙◌, arith}
-use Rattle.std.specs.Prelude.{IfSome}
-use Rattle.rh_defs.specs.Bytes.{part}
+use Rattle.rh_wimp.proofs.Common.{◌≡◌, ℕ, ◌+◌, ◌-◌, ◌≤◌, List, length, take, drop, true, sym, ap, subst, ◌∙◌, arith, IfSome, part}
 use Rattle.rh_defs.specs.Pathnames.{is_pathname}
 use Rattle.rh_defs.proofs.BytesLaws.{part-drop, length-part}
 use Rattle.rh_defs.proofs.MessageLaws.{name_is}

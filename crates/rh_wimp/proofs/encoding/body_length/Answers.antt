@@ -1,6 +1,4 @@
-use Rattle.std.proofs.Common.{length, ap, arith}
-use Rattle.rh_defs.specs.Messages.{body_bytes}
-use Rattle.rh_defs.specs.declared.message.Body.TheVariants.{DataSave, DataSaveAck, DataLoad, DataLoadAck, RamFetch, RamTransmit}
+use Rattle.rh_wimp.proofs.Common.{length, ap, arith, body_bytes, DataSave, DataSaveAck, DataLoad, DataLoadAck, RamFetch, RamTransmit}
 use Rattle.rh_defs.proofs.MessageLaws.{length-body}
 use Rattle.rh_wimp.proofs.encoding.body_length.Goals as goal
 use Rattle.rh_wimp.proofs.encoding.body_length.Goals.{in-DataSave, in-DataSaveAck, in-DataLoad, in-DataLoadAck, in-RamFetch, in-RamTransmit}

@@ -1,7 +1,5 @@
-use Rattle.std.proofs.Common.{length, sym, ap, ◌∙◌, arith, append-nil}
-use Rattle.rh_defs.specs.Bytes.{put}
-use Rattle.rh_defs.specs.Messages.{action_number, body_bytes, words, data_words}
-use Rattle.rh_defs.specs.declared.message.Body.TheVariants.{DataSave, DataSaveAck, DataLoad, DataLoadAck, RamFetch, RamTransmit}
+use Rattle.rh_wimp.proofs.Common.{length, sym, ap, ◌∙◌, arith, append-nil, put, action_number, body_bytes, words, data_words, DataSave, DataSaveAck, DataLoad}
+use Rattle.rh_wimp.proofs.Common.{DataLoadAck, RamFetch, RamTransmit}
 use Rattle.rh_defs.proofs.MessageLaws.{length-body}
 use Rattle.rh_wimp.proofs.EncodeLaws.{body-put}
 use Rattle.rh_wimp.proofs.encoding.encode_body.Goals as goal

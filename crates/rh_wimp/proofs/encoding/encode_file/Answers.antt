@@ -1,6 +1,5 @@
-use Rattle.std.proofs.Common.{ap, ◌∙◌, arith}
-use Rattle.rh_defs.specs.Bytes.{put}
-use Rattle.rh_defs.specs.Messages.{file_words, name_bytes, words}
+use Rattle.rh_wimp.proofs.Common.{ap, ◌∙◌, arith, put, words}
+use Rattle.rh_defs.specs.Messages.{file_words, name_bytes}
 use Rattle.rh_defs.proofs.MessageLaws.{length-words, puts_in_row}
 use Rattle.rh_wimp.proofs.encoding.encode_file.Goals as goal
 

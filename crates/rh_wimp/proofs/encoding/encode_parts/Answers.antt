@@ -1,5 +1,4 @@
-use Rattle.std.proofs.Common.{◌+◌, ap, arith}
-use Rattle.rh_defs.specs.declared.message.Message.{Message}
+use Rattle.rh_wimp.proofs.Common.{◌+◌, ap, arith, Message}
 use Rattle.rh_wimp.proofs.EncodeLaws.{encoded-put}
 use Rattle.rh_wimp.proofs.encoding.encode_parts.Goals as goal
 

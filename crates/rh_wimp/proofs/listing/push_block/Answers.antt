@@ -1,7 +1,4 @@
-use Rattle.std.proofs.Common.{sym, ap, ◌++◌, ◌∷◌, [], ◌∙◌, length, map, arith, true, append-nil}
-use Rattle.rh_module.specs.Area.{heap_in}
-use Rattle.rh_wimp.specs.Chains.{held_list}
-use Rattle.rh_wimp.specs.Items.{item_of}
+use Rattle.rh_wimp.proofs.Common.{sym, ap, ◌++◌, ◌∷◌, [], ◌∙◌, length, map, arith, true, append-nil, heap_in, held_list, item_of}
 use Rattle.rh_wimp.proofs.ItemLaws.{nothing-held}
 use Rattle.rh_wimp.proofs.SearchLaws.{held-some}
 use Rattle.rh_wimp.proofs.listing.push_block.Goals as goal

@@ -1,9 +1,4 @@
-use Rattle.std.proofs.Common.{◌≡◌, ◌+◌, ◌≤◌, List, length, arith}
-use Rattle.rh_defs.specs.Post.{most_messages}
-use Rattle.rh_defs.specs.Messages.{Parcel}
-use Rattle.rh_defs.proofs.BlockLaws.{has-less}
-use Rattle.rh_module.specs.Area.{heap_in}
-use Rattle.rh_wimp.specs.Chains.{Chain, first_block}
+use Rattle.rh_wimp.proofs.Common.{◌≡◌, ◌+◌, ◌≤◌, List, length, arith, most_messages, Parcel, has-less, heap_in, Chain, first_block}
 use Rattle.rh_wimp.proofs.ItemLaws.{Meets, links-has, walk-begins, walk-none, walk-on, walk-past, walk-some}
 use Rattle.rh_wimp.proofs.listing.push_chain.Goals as goal
 use Rattle.rh_wimp.proofs.listing.push_chain.Goals.{Else-block-eq0}

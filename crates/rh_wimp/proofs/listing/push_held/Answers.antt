@@ -1,10 +1,5 @@
-use Rattle.std.proofs.Common.{◌≡◌, ◌<◌, ℕ, List, length, get_or, map, refl, sym, ap, subst, ◌∙◌, arith, true}
-use Rattle.std.specs.Prelude.{◌++◌}
-use Rattle.std.proofs.lemmas.List.{length-map}
-use Rattle.rh_module.specs.Area.{heap_in}
-use Rattle.rh_wimp.specs.Chains.{Row, RowLies, RowsLie, entry_at, held_list, row_at}
-use Rattle.rh_wimp.specs.Items.{item_of, held_items}
-use Rattle.rh_wimp.specs.declared.chain.Entry.{Entry}
+use Rattle.rh_wimp.proofs.Common.{◌≡◌, ◌<◌, ℕ, List, length, get_or, map, refl, sym, ap, subst, ◌∙◌, arith, true, ◌++◌, length-map, heap_in, Row, RowLies}
+use Rattle.rh_wimp.proofs.Common.{RowsLie, entry_at, held_list, row_at, item_of, held_items, Entry}
 use Rattle.rh_wimp.proofs.AnswerLaws.{read_entry}
 use Rattle.rh_wimp.proofs.ItemLaws.{goes-on, goes-past, goes-room, held_of}
 use Rattle.rh_wimp.proofs.listing.push_held.Goals as goal

@@ -1,10 +1,6 @@
-use Rattle.std.proofs.Common.{◌+◌, ◌≤◌, List, length}
-use Rattle.rh_module.specs.Area.{heap_in}
-use Rattle.rh_wimp.specs.Chains.{Row, RowsLie}
-use Rattle.rh_wimp.specs.Items.{waiting_items}
+use Rattle.rh_wimp.proofs.Common.{◌+◌, ◌≤◌, List, length, heap_in, Row, RowsLie, waiting_items, most_messages}
 use Rattle.rh_wimp.proofs.ItemLaws.{Goes}
 use Rattle.rh_wimp.proofs.listing.push_waiting.Given as goal
-use Rattle.rh_defs.specs.Post.{most_messages}
 
 -- what is listed and what the rows left have are all that waits
 abbrev pub invariant-loop-entry : goal.invariant-loop-entry

@@ -1,12 +1,5 @@
-use Rattle.std.proofs.Common.{◌≡◌, ℕ, refl, sym, ap, subst, ◌∙◌, arith}
-use Rattle.std.specs.Prelude.{Option, Some, IsSome}
-use Rattle.rh_defs.specs.Messages.{Parcel, action_at, action_of, padded}
-use Rattle.rh_defs.specs.declared.message.Action.{Action}
-use Rattle.rh_defs.proofs.BlockLaws.{has-less}
-use Rattle.rh_defs.proofs.ParcelLaws.{from_read, ref_read}
-use Rattle.rh_module.specs.Area.{heap_in}
-use Rattle.rh_module.proofs.BlockBytes.{block_within}
-use Rattle.rh_wimp.specs.Items.{LinksAt}
+use Rattle.rh_wimp.proofs.Common.{◌≡◌, ℕ, refl, sym, ap, subst, ◌∙◌, arith, Option, Some, IsSome, Parcel, action_at, action_of, padded, Action, has-less}
+use Rattle.rh_wimp.proofs.Common.{from_read, ref_read, heap_in, block_within, LinksAt}
 use Rattle.rh_wimp.proofs.ItemLaws.{action_read, known, links-bytes, links-has, same-item}
 use Rattle.rh_wimp.proofs.listing.read_item.Goals as goal
 use Rattle.rh_wimp.proofs.listing.read_item.Goals.{After-from_number}

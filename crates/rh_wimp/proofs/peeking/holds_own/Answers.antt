@@ -1,11 +1,4 @@
-use Rattle.std.proofs.Common.{eqb, sym, ap, ◌∙◌, arith}
-use Rattle.std.specs.Prelude.{◌==◌}
-use Rattle.rh_defs.specs.Messages.{Parcel, padded}
-use Rattle.rh_defs.specs.Blocks.{block_bytes}
-use Rattle.rh_defs.specs.Post.{holds_such}
-use Rattle.rh_defs.proofs.BlockLaws.{has-less}
-use Rattle.rh_defs.proofs.ParcelLaws.{from_read}
-use Rattle.rh_module.specs.Area.{heap_in}
+use Rattle.rh_wimp.proofs.Common.{eqb, sym, ap, ◌∙◌, arith, ◌==◌, Parcel, padded, block_bytes, holds_such, has-less, from_read, heap_in}
 use Rattle.rh_wimp.proofs.AnswerLaws.{held-has}
 use Rattle.rh_wimp.proofs.ItemLaws.{nothing-held}
 use Rattle.rh_wimp.proofs.SearchLaws.{held-some}

@@ -1,16 +1,8 @@
-use Rattle.std.proofs.Common.{◌≡◌, ℕ, ◌+◌, length, length-append, length-drop, take, drop, replicate, ◌≤◌, ◌++◌, List, sym, ap, subst, ◌∙◌, arith}
-use Rattle.std.specs.Prelude.{Ok}
-use Rattle.std.proofs.lemmas.List.{append_assoc, length-take}
-use Rattle.rh_defs.specs.declared.sizes.TheConstants.{LONGEST_MESSAGE}
-use Rattle.rh_defs.specs.Module.{module_claim}
-use Rattle.rh_module.specs.Area.{heap_in}
-use Rattle.rh_defs.specs.Bytes.{word_bytes}
-use Rattle.rh_defs.specs.Messages.{code_number, encoded, parcel_size}
-use Rattle.rh_wimp.specs.Moves.{Turns}
-use Rattle.rh_defs.proofs.BlockLaws.{has-less}
+use Rattle.rh_wimp.proofs.Common.{◌≡◌, ℕ, ◌+◌, length, length-append, take, drop, replicate, ◌≤◌, ◌++◌, List, sym, ap, subst, ◌∙◌, arith, Ok, append_assoc}
+use Rattle.rh_wimp.proofs.Common.{length-take, LONGEST_MESSAGE, module_claim, heap_in, word_bytes, code_number, encoded, parcel_size, Turns, has-less}
+use Rattle.rh_wimp.proofs.Common.{length-word_bytes, poked}
+use Rattle.std.proofs.Common.{length-drop}
 use Rattle.rh_defs.proofs.BytesLaws.{length-put}
-use Rattle.rh_defs.proofs.MessageLaws.{length-word_bytes}
-use Rattle.rh_defs.specs.Blocks.{poked}
 use Rattle.rh_wimp.proofs.CallLaws.{Claimed, claimed, claimed-block, parcel_bytes, parcel_head, placed-there}
 use Rattle.rh_wimp.proofs.placing.place.Goals as goal
 use Rattle.rh_wimp.proofs.placing.place.Goals.{In_ok-block}

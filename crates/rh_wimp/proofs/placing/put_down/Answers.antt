@@ -1,11 +1,5 @@
-use Rattle.std.proofs.Common.{◌≡◌, sym, subst, ◌∙◌, arith}
+use Rattle.rh_wimp.proofs.Common.{◌≡◌, sym, subst, ◌∙◌, arith, release, heap_in, Turns, HasBlock, entry_at, no_entry, Entry}
 use Rattle.std.proofs.lemmas.List.{get_or_default}
-use Rattle.rh_defs.specs.Heap.{release}
-use Rattle.rh_module.specs.Area.{heap_in}
-use Rattle.rh_wimp.specs.Moves.{Turns}
-use Rattle.rh_defs.specs.Blocks.{HasBlock}
-use Rattle.rh_wimp.specs.Chains.{entry_at, no_entry}
-use Rattle.rh_wimp.specs.declared.chain.Entry.{Entry}
 use Rattle.rh_wimp.proofs.placing.put_down.Goals as goal
 
 pub free-requires-clause-block : goal.free-requires-clause-block

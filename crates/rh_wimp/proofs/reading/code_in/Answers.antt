@@ -1,12 +1,7 @@
-use Rattle.std.proofs.Common.{◌≡◌, ℕ, refl, sym, ap, subst, ◌∙◌, arith}
-use Rattle.std.specs.Prelude.{Option, Some, IsSome}
-use Rattle.rh_defs.specs.Messages.{Parcel, code_at, code_number, padded}
-use Rattle.rh_defs.specs.declared.message.EventCode.{EventCode}
+use Rattle.rh_wimp.proofs.Common.{◌≡◌, ℕ, refl, sym, ap, subst, ◌∙◌, arith, Option, Some, IsSome, Parcel, code_number, padded, EventCode, has-less, code_read}
+use Rattle.rh_wimp.proofs.Common.{heap_in, LinksAt}
+use Rattle.rh_defs.specs.Messages.{code_at}
 use Rattle.rh_defs.specs.declared.message.EventCode.TheVariants.{User, Recorded, Acknowledge}
-use Rattle.rh_defs.proofs.BlockLaws.{has-less}
-use Rattle.rh_defs.proofs.ParcelLaws.{code_read}
-use Rattle.rh_module.specs.Area.{heap_in}
-use Rattle.rh_wimp.specs.Items.{LinksAt}
 use Rattle.rh_wimp.proofs.ItemLaws.{links-bytes, links-has}
 use Rattle.rh_wimp.proofs.reading.code_in.Goals as goal
 use Rattle.rh_wimp.proofs.reading.code_in.Goals.{After-from_number}

@@ -1,14 +1,5 @@
-use Rattle.std.proofs.Common.{◌≡◌, ℕ, ◌+◌, ◌≤◌, length, take, sym, ◌∙◌, arith}
-use Rattle.std.proofs.lemmas.List.{length-take}
-use Rattle.rh_defs.specs.declared.sizes.TheConstants.{LONGEST_MESSAGE}
-use Rattle.rh_defs.specs.Messages.{Parcel, encoded, encoded_length, padded}
-use Rattle.rh_defs.proofs.BlockLaws.{has-less}
-use Rattle.rh_defs.proofs.BlockCalls.{room_enough}
-use Rattle.rh_defs.proofs.MessageLaws.{encoded-most, length-encoded}
-use Rattle.rh_defs.proofs.ParcelLaws.{length_read, length-padded, message_read}
-use Rattle.rh_module.specs.Area.{heap_in}
-use Rattle.rh_store.proofs.Slices.{written}
-use Rattle.rh_wimp.specs.Items.{LinksAt}
+use Rattle.rh_wimp.proofs.Common.{◌≡◌, ℕ, ◌+◌, ◌≤◌, length, take, sym, ◌∙◌, arith, length-take, LONGEST_MESSAGE, Parcel, encoded, encoded_length, padded}
+use Rattle.rh_wimp.proofs.Common.{has-less, room_enough, encoded-most, length-encoded, length_read, length-padded, message_read, heap_in, written, LinksAt}
 use Rattle.rh_wimp.proofs.ItemLaws.{links-bytes, links-has}
 use Rattle.rh_wimp.proofs.reading.copy_block.Goals as goal
 use Rattle.rh_wimp.proofs.reading.copy_block.Goals.{After-read_word-length}

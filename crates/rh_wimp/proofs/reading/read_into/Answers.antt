@@ -1,21 +1,8 @@
-use Rattle.std.proofs.Common.{◌≡◌, ℕ, ◌+◌, ◌≤◌, List, length, take, refl, sym, ap, subst, ◌∙◌, arith}
-use Rattle.std.proofs.lemmas.List.{length-take}
-use Rattle.std.specs.Prelude.{Some, Ok, Result}
+use Rattle.rh_wimp.proofs.Common.{◌≡◌, ℕ, ◌+◌, ◌≤◌, List, length, take, refl, sym, ap, subst, ◌∙◌, arith, length-take, Some, Ok, Result, LONGEST_MESSAGE}
+use Rattle.rh_wimp.proofs.Common.{part, heap_in, block_bytes, LiesAt, Parcel, encoded_length, padded, decoded, MessageFault, Message, has-less, encoded-most}
+use Rattle.rh_wimp.proofs.Common.{room_enough, length_read, length-padded, message_read}
 use Rattle.std.specs.Result.{IsOk}
-use Rattle.rh_defs.specs.declared.sizes.TheConstants.{LONGEST_MESSAGE}
-use Rattle.rh_defs.specs.Bytes.{part}
-use Rattle.rh_module.specs.Area.{heap_in}
-use Rattle.rh_defs.specs.Blocks.{block_bytes}
-use Rattle.rh_wimp.specs.Chains.{LiesAt}
-use Rattle.rh_defs.specs.Messages.{Parcel, encoded_length, padded}
-use Rattle.rh_defs.specs.MessageImage.{decoded}
-use Rattle.rh_defs.specs.declared.message.MessageFault.{MessageFault}
-use Rattle.rh_defs.specs.declared.message.Message.{Message}
-use Rattle.rh_defs.proofs.BlockLaws.{has-less}
-use Rattle.rh_defs.proofs.MessageLaws.{encoded-most}
 use Rattle.rh_defs.proofs.MessageImageLaws.{decoded-encoded}
-use Rattle.rh_defs.proofs.BlockCalls.{room_enough}
-use Rattle.rh_defs.proofs.ParcelLaws.{length_read, length-padded, message_read}
 use Rattle.rh_wimp.proofs.PollLaws.{lies-has, lies-bytes}
 use Rattle.rh_wimp.proofs.reading.read_into.Goals as goal
 use Rattle.rh_wimp.proofs.reading.read_into.Goals.{After-read_word-length}

@@ -1,10 +1,5 @@
-use Rattle.std.proofs.Common.{◌≡◌, ◌<◌, ℕ, inl, inr, length, get_or, sym, ap, subst, ◌∙◌, arith}
-use Rattle.std.proofs.lemmas.Bool.{cases_eq}
-use Rattle.std.specs.List.{list_any}
-use Rattle.rh_module.specs.Area.{heap_in}
-use Rattle.rh_wimp.specs.Chains.{RowLies, entry_at, row_at, row_parcels}
-use Rattle.rh_wimp.specs.Searches.{wants}
-use Rattle.rh_wimp.specs.declared.chain.Entry.{Entry}
+use Rattle.rh_wimp.proofs.Common.{◌≡◌, ◌<◌, ℕ, inl, inr, length, get_or, sym, ap, subst, ◌∙◌, arith, cases_eq, list_any, heap_in, RowLies, entry_at, row_at}
+use Rattle.rh_wimp.proofs.Common.{row_parcels, wants, Entry}
 use Rattle.rh_wimp.proofs.AnswerLaws.{read_entry}
 use Rattle.rh_wimp.proofs.SearchLaws.{none-have, one-has}
 use Rattle.rh_wimp.proofs.searching.any_entry.Goals as goal

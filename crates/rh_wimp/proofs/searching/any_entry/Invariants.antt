@@ -1,8 +1,5 @@
-use Rattle.std.proofs.Common.{◌≡◌, ℕ, ◌<◌, false, List}
-use Rattle.std.specs.List.{list_any}
-use Rattle.rh_module.specs.Area.{heap_in}
-use Rattle.rh_wimp.specs.Chains.{Row, RowsLie, row_at, row_parcels}
-use Rattle.rh_wimp.specs.Searches.{AreShort, wants}
+use Rattle.rh_wimp.proofs.Common.{◌≡◌, ℕ, ◌<◌, false, List, list_any, heap_in, Row, RowsLie, row_at, row_parcels, wants}
+use Rattle.rh_wimp.specs.Searches.{AreShort}
 use Rattle.rh_wimp.proofs.searching.any_entry.Given as goal
 
 -- no message of the rows before is the one

@@ -1,10 +1,4 @@
-use Rattle.std.proofs.Common.{◌≡◌, ◌+◌, ◌≤◌, suc, List, length, refl, subst, arith}
-use Rattle.rh_defs.specs.Post.{most_messages}
-use Rattle.rh_defs.specs.Messages.{Parcel}
-use Rattle.rh_defs.proofs.BlockLaws.{has-less}
-use Rattle.rh_module.specs.Area.{heap_in}
-use Rattle.rh_wimp.specs.Chains.{Chain, first_block}
-use Rattle.rh_wimp.specs.Searches.{wants}
+use Rattle.rh_wimp.proofs.Common.{◌≡◌, ◌+◌, ◌≤◌, suc, List, length, refl, subst, arith, most_messages, Parcel, has-less, heap_in, Chain, first_block, wants}
 use Rattle.rh_wimp.proofs.SearchLaws.{Ahead, Here, ahead-none, ahead-past, ahead-some, found-here, here-has, one-on}
 use Rattle.rh_wimp.proofs.searching.chain_has.Goals as goal
 use Rattle.rh_wimp.proofs.searching.chain_has.Goals.{Else-block-eq0}

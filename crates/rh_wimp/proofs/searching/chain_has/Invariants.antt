@@ -1,9 +1,4 @@
-use Rattle.std.proofs.Common.{◌≡◌, ◌≤◌, List, length}
-use Rattle.rh_defs.specs.Post.{most_messages}
-use Rattle.rh_defs.specs.Messages.{Parcel}
-use Rattle.rh_module.specs.Area.{heap_in}
-use Rattle.rh_wimp.specs.Chains.{Chain, first_block}
-use Rattle.rh_wimp.specs.Searches.{wants}
+use Rattle.rh_wimp.proofs.Common.{◌≡◌, ◌≤◌, List, length, most_messages, Parcel, heap_in, Chain, first_block, wants}
 use Rattle.rh_wimp.proofs.SearchLaws.{Ahead}
 use Rattle.rh_wimp.proofs.searching.chain_has.Given as goal
 

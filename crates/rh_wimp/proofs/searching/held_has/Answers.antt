@@ -1,7 +1,4 @@
-use Rattle.std.proofs.Common.{sym, ap, ◌∙◌, arith}
-use Rattle.rh_defs.specs.Post.{holds_such}
-use Rattle.rh_module.specs.Area.{heap_in}
-use Rattle.rh_wimp.specs.Searches.{wants}
+use Rattle.rh_wimp.proofs.Common.{sym, ap, ◌∙◌, arith, holds_such, heap_in, wants}
 use Rattle.rh_wimp.proofs.SearchLaws.{held-none, held-some}
 use Rattle.rh_wimp.proofs.searching.held_has.Goals as goal
 

@@ -1,10 +1,4 @@
-use Rattle.std.proofs.Common.{eqb, sym, ap, ◌∙◌, arith}
-use Rattle.rh_defs.specs.Blocks.{block_bytes}
-use Rattle.rh_defs.specs.Messages.{padded}
-use Rattle.rh_defs.proofs.BlockLaws.{has-less}
-use Rattle.rh_defs.proofs.ParcelLaws.{padded-least, ref_read}
-use Rattle.rh_module.specs.Area.{heap_in}
-use Rattle.rh_wimp.specs.Searches.{wants}
+use Rattle.rh_wimp.proofs.Common.{eqb, sym, ap, ◌∙◌, arith, block_bytes, padded, has-less, padded-least, ref_read, heap_in, wants}
 use Rattle.rh_wimp.proofs.searching.matches_wanted.Goals as goal
 
 pub read_word-requires-clause-block : goal.read_word-requires-clause-block

@@ -1,14 +1,7 @@
-use Rattle.std.proofs.Common.{◌≡◌, ℕ, ◌<◌, ◌≢◌, Bool, true, false, List, length, refl, sym, ap, subst, ◌∙◌, arith}
-use Rattle.std.specs.Prelude.{Some, ◌==◌}
-use Rattle.rh_defs.specs.Bytes.{word}
-use Rattle.rh_module.specs.Area.{heap_in}
+use Rattle.rh_wimp.proofs.Common.{◌≡◌, ℕ, ◌<◌, ◌≢◌, Bool, true, false, List, length, refl, sym, ap, subst, ◌∙◌, arith, Some, ◌==◌, word, heap_in, HasBlock}
+use Rattle.rh_wimp.proofs.Common.{block_bytes, Row, RowsLie, Holds, entry_at, row_at, answers_held, Entry, has-less}
 use Rattle.rh_wimp.specs.Moves.{PutsDown}
-use Rattle.rh_defs.specs.Blocks.{HasBlock, block_bytes}
-use Rattle.rh_wimp.specs.Chains.{Row, RowsLie, Holds, entry_at, row_at}
-use Rattle.rh_defs.specs.Post.{answers_held}
-use Rattle.rh_wimp.specs.declared.chain.Entry.{Entry}
 use Rattle.rh_wimp.proofs.AnswerLaws.{read_entry, one_entry, some_entry, held-has, held-test}
-use Rattle.rh_defs.proofs.BlockLaws.{has-less}
 use Rattle.rh_wimp.proofs.PostLaws.{found-at}
 use Rattle.rh_wimp.proofs.sending.answer.Goals as goal
 use Rattle.rh_wimp.proofs.sending.answer.Goals.{After-index}

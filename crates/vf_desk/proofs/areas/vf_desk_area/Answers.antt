@@ -1,9 +1,5 @@
-use Rattle.std.proofs.Common.{ap, ◌∙◌}
-use Rattle.std.specs.Prelude.{ℤ}
-use Rattle.std.specs.Int.{w32}
-use Rattle.std.proofs.lemmas.Int.{to_z-of_z}
+use Rattle.vf_desk.proofs.Common.{ap, ◌∙◌, ℤ, w32, to_z-of_z, in_form, number_or}
 use Rattle.rh_defs.specs.declared.command.Command.TheVariants as command
-use Rattle.vf_desk.specs.Called.{in_form, number_or}
 use Rattle.vf_desk.proofs.CallLaws.{does, told_by}
 use Rattle.vf_desk.proofs.areas.vf_desk_area.Goals as goal
 

@@ -1,9 +1,5 @@
-use Rattle.std.proofs.Common.{ap, ◌∙◌}
-use Rattle.std.specs.Prelude.{ℤ}
-use Rattle.std.specs.Int.{w32}
-use Rattle.std.proofs.lemmas.Int.{to_z-of_z}
+use Rattle.vf_desk.proofs.Common.{ap, ◌∙◌, ℤ, w32, to_z-of_z, in_form}
 use Rattle.rh_defs.specs.declared.command.Command.TheVariants as command
-use Rattle.vf_desk.specs.Called.{in_form}
 use Rattle.vf_desk.proofs.FormLaws.{a-name, an-anchor}
 use Rattle.vf_desk.proofs.forms.mid.Goals as goal
 

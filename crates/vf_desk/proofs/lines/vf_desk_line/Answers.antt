@@ -1,6 +1,4 @@
-use Rattle.std.proofs.Common.{Some, refl, ap, ◌∙◌}
-use Rattle.vf_desk.specs.Lines.{Takes}
-use Rattle.vf_desk.specs.Status.{closed}
+use Rattle.vf_desk.proofs.Common.{Some, refl, ap, ◌∙◌, Takes, closed}
 use Rattle.vf_desk.proofs.LineLaws.{takes-closed}
 use Rattle.vf_desk.proofs.SeenLaws.{held-by, none-by}
 use Rattle.vf_desk.proofs.lines.vf_desk_line.Goals as goal

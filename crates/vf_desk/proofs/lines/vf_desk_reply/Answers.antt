@@ -1,6 +1,5 @@
-use Rattle.std.proofs.Common.{Some, ap, refl, subst, ◌∙◌}
+use Rattle.vf_desk.proofs.Common.{Some, ap, refl, subst, ◌∙◌, closed}
 use Rattle.vf_desk.specs.Lines.{Replies}
-use Rattle.vf_desk.specs.Status.{closed}
 use Rattle.vf_desk.proofs.LineLaws.{replies-closed}
 use Rattle.vf_desk.proofs.lines.vf_desk_reply.Goals as goal
 

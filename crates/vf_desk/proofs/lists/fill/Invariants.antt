@@ -1,6 +1,4 @@
-use Rattle.std.proofs.Common.{◌≡◌, take}
-use Rattle.std.specs.Prelude.{map}
-use Rattle.vf_desk.specs.Lists.{filled_from}
+use Rattle.vf_desk.proofs.Common.{◌≡◌, take, map, filled_from}
 use Rattle.vf_desk.proofs.lists.fill.Given as goal
 
 -- the items so far were put into the slice

@@ -1,8 +1,7 @@
-use Rattle.std.proofs.Common.{sym, arith}
+use Rattle.vf_desk.proofs.Common.{sym, arith, area_of}
 use Rattle.std.proofs.lemmas.Option.{slice_get_within}
 use Rattle.rh_defs.specs.Listing.{area_items}
 use Rattle.rh_tasks.specs.Items.{item_of}
-use Rattle.vf_desk.specs.Items.{area_of}
 use Rattle.vf_desk.proofs.FillLaws.{filled-none, items-all, items-more}
 use Rattle.vf_desk.proofs.lists.list_areas.Goals as goal
 

@@ -1,8 +1,5 @@
-use Rattle.std.proofs.Common.{◌≡◌, ◌-◌, ◌≤◌, length, take}
-use Rattle.std.specs.Prelude.{map}
-use Rattle.rh_console.specs.Console.{filled}
+use Rattle.vf_desk.proofs.Common.{◌≡◌, ◌-◌, ◌≤◌, length, take, map, filled, area_of}
 use Rattle.rh_defs.specs.Listing.{area_items}
-use Rattle.vf_desk.specs.Items.{area_of}
 use Rattle.vf_desk.proofs.lists.list_areas.Given as goal
 
 -- the areas and slots so far were put into the slice

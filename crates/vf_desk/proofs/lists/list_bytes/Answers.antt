@@ -1,5 +1,4 @@
-use Rattle.std.proofs.Common.{◌≡◌, length, take, drop, min, sym, ap, ◌∙◌, arith, length-take-le}
-use Rattle.rh_console.specs.Console.{filled}
+use Rattle.vf_desk.proofs.Common.{◌≡◌, length, take, drop, min, sym, ap, ◌∙◌, arith, length-take-le, filled}
 use Rattle.rh_script.specs.Named.{bytes_of_named}
 use Rattle.rh_script.proofs.ReadLemmas.{answered_part, reads_part, size_read}
 use Rattle.vf_desk.proofs.FillLaws.{filled-none}

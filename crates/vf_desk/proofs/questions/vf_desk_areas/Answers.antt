@@ -1,9 +1,6 @@
-use Rattle.std.proofs.Common.{length, Some, sym, ap, ◌∙◌}
-use Rattle.std.specs.Prelude.{map}
-use Rattle.rh_console.specs.Console.{filled}
+use Rattle.vf_desk.proofs.Common.{length, Some, sym, ap, ◌∙◌, map, filled, number_or, area_of, listed}
 use Rattle.rh_defs.specs.declared.question.Question.TheVariants as question
-use Rattle.vf_desk.specs.Called.{number_or}
-use Rattle.vf_desk.specs.Items.{area_of, areas_in, listed}
+use Rattle.vf_desk.specs.Items.{areas_in}
 use Rattle.vf_desk.proofs.AskLaws.{ask-counted, ask-told, open-asks, open-list, shut-asks, shut-counted, shut-list, shut-told}
 use Rattle.vf_desk.proofs.FillLaws.{filled-none}
 use Rattle.vf_desk.proofs.questions.vf_desk_areas.Goals as goal

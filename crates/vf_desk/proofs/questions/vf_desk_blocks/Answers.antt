@@ -1,8 +1,6 @@
-use Rattle.std.proofs.Common.{length, Some, sym, ap, ◌∙◌}
-use Rattle.std.specs.Prelude.{map}
-use Rattle.rh_console.specs.Console.{filled}
+use Rattle.vf_desk.proofs.Common.{length, Some, sym, ap, ◌∙◌, map, filled, listed}
 use Rattle.rh_defs.specs.declared.question.Question.TheVariants as question
-use Rattle.vf_desk.specs.Items.{block_of, blocks_in, listed}
+use Rattle.vf_desk.specs.Items.{block_of, blocks_in}
 use Rattle.vf_desk.proofs.AskLaws.{ask-counted, open-asks, open-list, shut-asks, shut-counted, shut-list}
 use Rattle.vf_desk.proofs.FillLaws.{filled-none}
 use Rattle.vf_desk.proofs.questions.vf_desk_blocks.Goals as goal

@@ -1,7 +1,5 @@
-use Rattle.std.proofs.Common.{Some, sym, ap, ◌∙◌}
-use Rattle.rh_console.specs.Console.{filled}
+use Rattle.vf_desk.proofs.Common.{Some, sym, ap, ◌∙◌, filled, number_or}
 use Rattle.rh_defs.specs.declared.question.Question.TheVariants as question
-use Rattle.vf_desk.specs.Called.{number_or}
 use Rattle.vf_desk.specs.Items.{bytes_in}
 use Rattle.vf_desk.proofs.AskLaws.{ask-told, open-asks, open-list, shut-asks, shut-list, shut-told}
 use Rattle.vf_desk.proofs.FillLaws.{filled-none}

@@ -1,5 +1,4 @@
-use Rattle.std.proofs.Common.{refl, sym, ap, arith}
-use borrow.Author.Tests.{tests}
+use Rattle.vf_desk.proofs.Common.{refl, sym, ap, arith, tests}
 use Rattle.rh_defs.specs.declared.command.Command.TheVariants as command
 use Rattle.rh_defs.specs.declared.reply.Reply.TheVariants as reply
 use Rattle.rh_tasks.specs.Answer.{reply_of}

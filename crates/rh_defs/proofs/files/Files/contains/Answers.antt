@@ -1,5 +1,4 @@
-use Rattle.std.proofs.Common.{sym, ◌∙◌, ap}
-use Rattle.rh_defs.specs.Files.{has_file}
+use Rattle.rh_defs.proofs.Common.{sym, ◌∙◌, ap, has_file}
 use Rattle.rh_defs.proofs.FileLemmas.{has_file-lookup}
 use Rattle.rh_defs.proofs.files.Files.contains.Goals as goal
 

@@ -1,6 +1,5 @@
-use Rattle.std.proofs.Common.{sym, ap, ◌∙◌}
-use Rattle.std.specs.Option.{option_map, option_copied}
-use Rattle.rh_defs.specs.Files.{contents_of}
+use Rattle.rh_defs.proofs.Common.{sym, ap, ◌∙◌, option_map, contents_of}
+use Rattle.std.specs.Option.{option_copied}
 use Rattle.rh_defs.proofs.FileLemmas.{file_bytes-lookup, found-short}
 use Rattle.rh_defs.proofs.files.Files.get.Goals as goal
 

@@ -1,6 +1,6 @@
-use Rattle.std.proofs.Common.{arith, ◌≡◌, ◌∙◌, sym, subst, ap, ◌++◌, ◌∷◌, [], false}
+use Rattle.rh_defs.proofs.Common.{arith, ◌≡◌, ◌∙◌, sym, subst, ap, ◌++◌, ◌∷◌, [], false, has_file, contents_of}
 use Rattle.indexmap.proofs.CallerLemmas.{insert_entry-new}
-use Rattle.rh_defs.specs.Files.{has_file, contents_of, AreShort}
+use Rattle.rh_defs.specs.Files.{AreShort}
 use Rattle.rh_defs.proofs.FileLemmas.{lookup-none, contents_of-append, AreShort-append}
 use Rattle.rh_defs.proofs.files.Files.insert.Goals as goal
 

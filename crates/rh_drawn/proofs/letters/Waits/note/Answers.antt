@@ -1,7 +1,6 @@
-use Rattle.std.proofs.Common.{◌≡◌, ℕ, zero, suc, add-one, ◌+◌, ◌<◌, List, [], ◌∷◌, ◌++◌, length, take, ap, sym, refl, ◌∙◌, set, arith}
-use Rattle.std.specs.Prelude.{min}
+use Rattle.rh_drawn.proofs.Common.{◌≡◌, ℕ, zero, suc, add-one, ◌+◌, ◌<◌, List, [], ◌∷◌, ◌++◌, length, take, ap, sym, refl, ◌∙◌, set, arith, min}
+use Rattle.rh_drawn.proofs.Common.{length-append, take_all}
 use Rattle.std.proofs.Math.Nat.{min-eq_left}
-use Rattle.std.proofs.lemmas.List.{length-append, take_all}
 use Rattle.rh_drawn.proofs.letters.Waits.note.Goals as goal
 
 set-last : {A : Type 0} (n : ℕ) (xs : List A) (e : A) → n < length xs → take (suc n) (set xs n e) ≡ take n xs ++ e ∷ []

@@ -1,8 +1,4 @@
-use Rattle.std.proofs.Common.{◌∙◌, ap, refl, sym}
-use Rattle.rh_map.specs.Written.{shown_lines}
-use Rattle.rh_sight.specs.Pages.{share_in}
-use Rattle.rh_drawn.specs.declared.mapper.Mapper.{Mapper}
-use Rattle.rh_drawn.specs.Deeds.{reply_to}
+use Rattle.rh_drawn.proofs.Common.{◌∙◌, ap, refl, sym, shown_lines, share_in, Mapper, reply_to}
 use Rattle.rh_drawn.proofs.ShareLemmas.{is_shared}
 use Rattle.rh_drawn.proofs.StepLemmas.{command-text, hidden-command, rest-as, told-command}
 use Rattle.rh_drawn.proofs.Walks.{puts_same}

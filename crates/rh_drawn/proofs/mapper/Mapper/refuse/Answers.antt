@@ -1,8 +1,4 @@
-use Rattle.std.proofs.Common.{◌∙◌, true, ap, refl, sym}
-use Rattle.rh_defs.specs.Text.{fault_text}
-use Rattle.rh_map.specs.Written.{shown_lines}
-use Rattle.rh_sight.specs.Pages.{share_in}
-use Rattle.rh_drawn.specs.declared.mapper.Mapper.{Mapper}
+use Rattle.rh_drawn.proofs.Common.{◌∙◌, true, ap, refl, sym, fault_text, shown_lines, share_in, Mapper}
 use Rattle.rh_drawn.proofs.ShareLemmas.{is_shared}
 use Rattle.rh_drawn.proofs.StepLemmas.{fault-from, fault-stops, fault-text, hidden-fault, on-err, on-ok, told-fault}
 use Rattle.rh_drawn.proofs.Walks.{puts_same}

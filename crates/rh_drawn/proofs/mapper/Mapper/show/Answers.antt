@@ -1,11 +1,6 @@
-use Rattle.std.proofs.Common.{◌∙◌, List, ℕ, ap, ap₂, subst, sym}
-use Rattle.std.specs.Prelude.{◌&&◌, not}
+use Rattle.rh_drawn.proofs.Common.{◌∙◌, List, ℕ, ap, ap₂, subst, sym, ◌&&◌, not, scene_of, shown_lines, share_in, Excerpts}
 use Rattle.rh_figure.specs.Map.{step_lines}
-use Rattle.rh_figure.specs.Scene.{scene_of}
-use Rattle.rh_map.specs.Written.{shown_lines}
-use Rattle.rh_sight.specs.Pages.{share_in}
 use Rattle.rh_sight.specs.Steps.{marks_seen}
-use Rattle.rh_drawn.specs.Replies.{Excerpts}
 use Rattle.rh_drawn.proofs.Walks.{puts_same}
 use Rattle.rh_drawn.proofs.mapper.Mapper.show.Goals as goal
 

@@ -1,9 +1,6 @@
-use Rattle.std.proofs.Common.{◌≡◌, ◌∙◌, Bool, true, false, ◌||◌, List, [], ap, refl, subst, sym}
-use Rattle.std.specs.Prelude.{◌&&◌, if◌then◌else◌, not}
-use Rattle.rh_figure.specs.Map.{is_mark, remark_lines, written_lines}
-use Rattle.rh_figure.specs.Phrases.{Text}
-use Rattle.rh_lines.specs.Flow.{Breaks, Takes}
-use Rattle.rh_lines.proofs.FlowLemmas.{takes_none}
+use Rattle.rh_drawn.proofs.Common.{◌≡◌, ◌∙◌, Bool, true, false, ◌||◌, List, [], ap, refl, subst, sym, ◌&&◌, if◌then◌else◌, not, is_mark, written_lines, Text}
+use Rattle.rh_drawn.proofs.Common.{Breaks, Takes, takes_none}
+use Rattle.rh_figure.specs.Map.{remark_lines}
 use Rattle.rh_drawn.proofs.ShareLemmas.{is_shared}
 use Rattle.rh_drawn.proofs.StepLemmas.{broke-none, drew-none, mark-hidden, mark-shown, on-err, on-ok}
 use Rattle.rh_drawn.proofs.mapper.Mapper.skip.Goals as goal

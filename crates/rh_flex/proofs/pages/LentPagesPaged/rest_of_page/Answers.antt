@@ -1,7 +1,6 @@
-use Rattle.std.proofs.Common.{◌-◌, ◌%◌, ◌∙◌, arith}
+use Rattle.rh_flex.proofs.Common.{◌-◌, ◌%◌, ◌∙◌, arith, PAGE}
 use Rattle.rh_flex.proofs.Over.{shown_length, shown_part}
 use Rattle.rh_flex.proofs.pages.LentPagesPaged.rest_of_page.Goals as goal
-use Rattle.rh_defs.specs.declared.sizes.TheConstants.{PAGE}
 
 pub part_of-requires : goal.part_of-requires
 part_of-requires c =

@@ -1,5 +1,4 @@
-use Rattle.std.proofs.Common.{arith}
-use Rattle.rh_flex.specs.Pages.{memory_of, memory_over}
+use Rattle.rh_flex.proofs.Common.{arith, memory_of, memory_over}
 use Rattle.rh_flex.proofs.Over.{grew}
 use Rattle.rh_flex.proofs.pages_mut.LentPagesMutPages.grow.Goals as goal
 

@@ -1,5 +1,4 @@
-use Rattle.std.proofs.Common.{arith}
-use Rattle.rh_flex.specs.Pages.{memory_of}
+use Rattle.rh_flex.proofs.Common.{arith, memory_of}
 use Rattle.rh_flex.proofs.Over.{lent_length, shrank}
 use Rattle.rh_flex.proofs.pages_mut.LentPagesMutPages.shrink.Goals as goal
 

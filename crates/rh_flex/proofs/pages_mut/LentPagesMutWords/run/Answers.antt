@@ -1,9 +1,4 @@
-use Rattle.std.proofs.Common.{◌≡◌, ◌+◌, ◌-◌, ◌*◌, ◌≤◌, length, sym, ap, ◌∙◌, arith}
-use Rattle.rh_defs.specs.declared.sizes.TheConstants.{PAGE}
-use Rattle.rh_defs.specs.Bytes.{part}
-use Rattle.rh_defs.specs.Memory.{bytes}
-use Rattle.rh_defs.proofs.BytesLaws.{length-part}
-use Rattle.rh_flex.specs.Pages.{memory_of}
+use Rattle.rh_flex.proofs.Common.{◌≡◌, ◌+◌, ◌-◌, ◌*◌, ◌≤◌, length, sym, ap, ◌∙◌, arith, PAGE, part, bytes, length-part, memory_of}
 use Rattle.rh_flex.proofs.Over.{lent_length, part_in}
 use Rattle.rh_flex.proofs.pages_mut.LentPagesMutWords.run.Goals as goal
 

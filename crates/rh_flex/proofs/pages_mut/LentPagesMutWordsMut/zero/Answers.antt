@@ -1,6 +1,4 @@
-use Rattle.std.proofs.Common.{ℕ, replicate, arith}
-use Rattle.std.proofs.lemmas.List.{length-replicate}
-use Rattle.rh_flex.specs.Pages.{memory_of}
+use Rattle.rh_flex.proofs.Common.{ℕ, replicate, arith, length-replicate, memory_of}
 use Rattle.rh_flex.proofs.Over.{lent_length, written}
 use Rattle.rh_flex.proofs.pages_mut.LentPagesMutWordsMut.zero.Goals as goal
 

@@ -1,11 +1,6 @@
-use Rattle.std.proofs.Common.{◌≡◌, ◌≤◌, ◌*◌, true, length, sym, ap, subst, ◌∙◌, arith}
-use Rattle.std.proofs.lemmas.Bool.Decides.{nat_tests}
-use Rattle.std.proofs.lemmas.List.{length-take-le}
+use Rattle.rh_flex.proofs.Common.{◌≡◌, ◌≤◌, ◌*◌, true, length, sym, ap, subst, ◌∙◌, arith, nat_tests, length-take-le, PAGE, slot_of, bytes_of}
 use Rattle.std.proofs.lemmas.Result.{IfOk-weaker}
-use Rattle.rh_defs.specs.declared.sizes.TheConstants.{PAGE}
-use Rattle.rh_defs.specs.SlotImage.{slot_of}
 use Rattle.rh_flex.specs.Image.{pages_fault_of}
-use Rattle.rh_flex.specs.Slots.{bytes_of}
 use Rattle.rh_slot.specs.Image.{slot_summary}
 use Rattle.rh_flex.proofs.ImageLaws.{fault_inside, same_sums, short_back, short_few, short_from, short_lies}
 use Rattle.rh_flex.proofs.slot.LentSlot.check.Goals as goal

@@ -1,8 +1,5 @@
-use Rattle.std.proofs.Common.{rules}
-use Rattle.rh_defs.specs.Memory.{area_set, bytes}
+use Rattle.rh_flex.proofs.Common.{rules, area_set, bytes, memory_of, memory_over, LeavesSlot, free_in, slot_in}
 use Rattle.rh_defs.specs.Slot.{slot_claim}
-use Rattle.rh_flex.specs.Pages.{memory_of, memory_over}
-use Rattle.rh_flex.specs.Slots.{LeavesSlot, free_in, slot_in}
 use Rattle.rh_flex.proofs.SlotBytes.{is_slot, leaves_slot}
 use Rattle.rh_flex.proofs.slot.LentSlot.claim.Goals as goal
 

@@ -1,12 +1,6 @@
-use Rattle.std.proofs.Common.{rules}
-use Rattle.std.specs.Prelude.{ℤ}
-use Rattle.std.specs.Int.{w32}
+use Rattle.rh_flex.proofs.Common.{rules, ℤ, w32, no_answer, area_set, bytes, memory_of, memory_over, LeavesSlot, free_in, slot_in}
 use Rattle.std.proofs.lemmas.Int.{to_z-of_z}
-use Rattle.rh_defs.specs.Chain.{no_answer}
-use Rattle.rh_defs.specs.Memory.{area_set, bytes}
 use Rattle.rh_defs.specs.Slot.{slot_mid}
-use Rattle.rh_flex.specs.Pages.{memory_of, memory_over}
-use Rattle.rh_flex.specs.Slots.{LeavesSlot, free_in, slot_in}
 use Rattle.rh_flex.proofs.SlotBytes.{is_slot, leaves_signed}
 use Rattle.rh_flex.proofs.slot.LentSlot.mid.Goals as goal
 

@@ -1,5 +1,4 @@
-use Rattle.rh_defs.specs.Memory.{area_set, bytes}
-use Rattle.rh_flex.specs.Pages.{memory_shown, memory_over}
+use Rattle.rh_flex.proofs.Common.{area_set, bytes, memory_shown, memory_over}
 use Rattle.rh_flex.proofs.SlotBytes.{is_slot}
 use Rattle.rh_flex.proofs.slot.LentSlot.read.Goals as goal
 

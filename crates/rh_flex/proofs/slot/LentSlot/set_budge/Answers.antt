@@ -1,5 +1,4 @@
-use Rattle.std.proofs.Common.{refl}
-use Rattle.rh_defs.specs.SlotImage.{slot_of}
+use Rattle.rh_flex.proofs.Common.{refl, slot_of}
 use Rattle.rh_flex.proofs.SlotBytes.{budged}
 use Rattle.rh_flex.proofs.slot.LentSlot.set_budge.Goals as goal
 

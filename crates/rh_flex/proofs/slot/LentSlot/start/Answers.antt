@@ -1,11 +1,6 @@
 -- The first page is zeroed, and given an empty heap.
-use Rattle.std.proofs.Common.{rules, ◌≡◌, ℕ, true, length, ap, arith}
-use Rattle.std.proofs.lemmas.List.{length-replicate}
-use Rattle.rh_defs.specs.declared.sizes.TheConstants.{PAGE}
-use Rattle.rh_defs.specs.Memory.{area_set, bytes}
-use Rattle.rh_defs.specs.Slot.{new_slot}
-use Rattle.rh_flex.specs.Pages.{memory_of, memory_over}
-use Rattle.rh_flex.specs.Slots.{IsSlotBytes, slot_in}
+use Rattle.rh_flex.proofs.Common.{rules, ◌≡◌, ℕ, true, length, ap, arith, length-replicate, PAGE, area_set, bytes, new_slot, memory_of, memory_over}
+use Rattle.rh_flex.proofs.Common.{IsSlotBytes, slot_in}
 use Rattle.rh_flex.proofs.Over.{over-open}
 use Rattle.rh_flex.proofs.SlotBytes.{page_of_zeros, begun, begun_slot, begun_bytes}
 use Rattle.rh_slot.proofs.StartLaws.{begin_refused, begin_done}

@@ -1,12 +1,6 @@
-use Rattle.std.proofs.Common.{rules, ◌≡◌, true, false, sym, length, ◌∙◌, arith}
-use Rattle.std.specs.Prelude.{Ok, Err}
-use Rattle.rh_defs.specs.Chain.{no_answer}
-use Rattle.rh_defs.specs.Memory.{area_set, bytes}
+use Rattle.rh_flex.proofs.Common.{rules, ◌≡◌, true, false, sym, length, ◌∙◌, arith, Ok, Err, no_answer, area_set, bytes, BadRange, memory_of, memory_over}
+use Rattle.rh_flex.proofs.Common.{LeavesSlot, slot_in, slot_write}
 use Rattle.rh_defs.specs.Slot.{holds}
-use Rattle.rh_defs.specs.declared.refusal.Refusal.TheVariants.{BadRange}
-use Rattle.rh_flex.specs.Pages.{memory_of, memory_over}
-use Rattle.rh_flex.specs.Slots.{LeavesSlot, slot_in}
-use Rattle.rh_flex.specs.Write.{slot_write}
 use Rattle.rh_flex.proofs.Over.{over-open}
 use Rattle.rh_flex.proofs.SlotBytes.{is_slot, leaves_slot, refused_slot}
 use Rattle.rh_flex.proofs.WriteLaws.{write_refused, write_within, write_leaves}

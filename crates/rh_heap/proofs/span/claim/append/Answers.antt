@@ -1,5 +1,4 @@
-use Rattle.std.proofs.Common.{◌-◌}
-use Rattle.rh_defs.specs.Pieces.{zeros}
+use Rattle.rh_heap.proofs.Common.{◌-◌, zeros}
 use Rattle.rh_heap.proofs.ClaimLaws.{append_spells, placed_top, no_top_shortage}
 use Rattle.rh_heap.proofs.BlockLaws.{zeros_long, zeros_part}
 use Rattle.rh_heap.proofs.span.claim.append.Goals as goal

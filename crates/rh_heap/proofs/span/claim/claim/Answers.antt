@@ -1,5 +1,4 @@
-use Rattle.std.proofs.Common.{refl}
-use Rattle.rh_heap.specs.Spans.{heap_in}
+use Rattle.rh_heap.proofs.Common.{refl, heap_in}
 use Rattle.rh_heap.proofs.CallLaws.{leaves, refuses}
 use Rattle.rh_heap.proofs.ClaimLaws.{claim_zero, claim_answered, claim_refused}
 use Rattle.rh_heap.proofs.span.claim.claim.Goals as goal

@@ -1,5 +1,4 @@
-use Rattle.std.proofs.Common.{◌-◌}
-use Rattle.rh_defs.specs.Pieces.{zeros}
+use Rattle.rh_heap.proofs.Common.{◌-◌, zeros}
 use Rattle.rh_heap.proofs.ClaimLaws.{fill_edges, fill_is_stretch, fill_spells, placed_there, no_shortage}
 use Rattle.rh_heap.proofs.BlockLaws.{zeros_long, zeros_part}
 use Rattle.rh_heap.proofs.span.claim.fill.Goals as goal

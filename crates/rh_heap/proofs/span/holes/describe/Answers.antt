@@ -1,5 +1,4 @@
-use Rattle.std.proofs.Common.{◌+◌, refl, sym, subst, ◌∙◌, arith}
-use Rattle.rh_heap.specs.Spans.{heap_in}
+use Rattle.rh_heap.proofs.Common.{◌+◌, refl, sym, subst, ◌∙◌, arith, heap_in}
 use Rattle.rh_heap.proofs.ClaimLaws.{walk_turn}
 use Rattle.rh_heap.proofs.SizeLaws.{Summed, sum_start, sum_more, size_below, sums_done, sum_fits}
 use Rattle.rh_heap.proofs.span.holes.describe.Goals as goal

@@ -1,6 +1,4 @@
-use Rattle.std.proofs.Common.{◌-◌}
-use Rattle.rh_defs.specs.Heap.{base}
-use Rattle.rh_heap.specs.Spans.{heap_in}
+use Rattle.rh_heap.proofs.Common.{◌-◌, base, heap_in}
 use Rattle.rh_heap.proofs.ClaimLaws.{Passed}
 use Rattle.rh_heap.proofs.span.holes.find.Given as goal
 

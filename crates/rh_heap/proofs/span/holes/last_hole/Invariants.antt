@@ -1,7 +1,5 @@
 -- The holes up to the last one are passed, and the next link is read.
-use Rattle.std.proofs.Common.{◌+◌, ◌-◌, ◌≤◌}
-use Rattle.rh_defs.specs.HeapParts.{LinksTo}
-use Rattle.rh_heap.specs.Spans.{bytes_in, heap_in}
+use Rattle.rh_heap.proofs.Common.{◌+◌, ◌-◌, ◌≤◌, LinksTo, bytes_in, heap_in}
 use Rattle.rh_heap.proofs.WalkLaws.{HolesPassed}
 use Rattle.rh_heap.proofs.span.holes.last_hole.Given as goal
 

@@ -1,7 +1,4 @@
-use Rattle.std.proofs.Common.{◌∙◌, subst, sym, arith}
-use Rattle.rh_heap.specs.Spans.{SpellsIn, heap_in}
-use Rattle.rh_store.specs.Starts.{IsIndex}
-use Rattle.rh_heap.specs.Ways.{resized_in}
+use Rattle.rh_heap.proofs.Common.{◌∙◌, subst, sym, arith, SpellsIn, heap_in, IsIndex, resized_in}
 use Rattle.rh_heap.proofs.ChangeLaws.{changed_stays, changed_shrinks, changed_into, changed_top, changed_moves}
 use Rattle.rh_heap.proofs.KeepLaws.{place_even, shrinks_shorter, shrink_index, widen_index, raise_index}
 use Rattle.rh_heap.proofs.ResizeLaws.{into, top, widen_bounds, widen_even}

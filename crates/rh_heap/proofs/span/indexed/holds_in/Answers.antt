@@ -1,6 +1,4 @@
-use Rattle.std.proofs.Common.{◌+◌, ◌*◌, sym, ap, ◌∙◌, arith}
-use Rattle.rh_defs.specs.Pieces.{is_inside}
-use Rattle.rh_heap.specs.Spans.{heap_in}
+use Rattle.rh_heap.proofs.Common.{◌+◌, ◌*◌, sym, ap, ◌∙◌, arith, is_inside, heap_in}
 use Rattle.rh_heap.proofs.HoldLaws.{held_below, held_above, held_unmarked, held_marked}
 use Rattle.rh_heap.proofs.IndexLaws.{size_read, last_used}
 use Rattle.rh_heap.proofs.span.indexed.holds_in.Goals.{then-address-via-then-address, then-address-via-else-address+then-read-address}

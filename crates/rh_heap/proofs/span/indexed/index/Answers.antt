@@ -1,5 +1,4 @@
-use Rattle.std.proofs.Common.{◌∙◌, ◌*◌, ◌/◌, ℕ, length, ap, arith}
-use Rattle.std.proofs.lemmas.List.{length-replicate}
+use Rattle.rh_heap.proofs.Common.{◌∙◌, ◌*◌, ◌/◌, ℕ, length, ap, arith, length-replicate}
 use Rattle.rh_heap.proofs.MapLaws.{mapped_start, map_turn, mapped_all}
 use Rattle.rh_heap.proofs.span.indexed.index.Goals as goal
 

@@ -1,6 +1,5 @@
 -- The marks of the segments that are passed are set, and no others.
-use Rattle.std.proofs.Common.{◌≡◌, ◌-◌, length}
-use Rattle.rh_heap.specs.Spans.{heap_in}
+use Rattle.rh_heap.proofs.Common.{◌≡◌, ◌-◌, length, heap_in}
 use Rattle.rh_heap.proofs.MapLaws.{Mapped}
 use Rattle.rh_heap.proofs.span.indexed.index.Given as goal
 

@@ -1,14 +1,8 @@
-use Rattle.std.proofs.Common.{◌≡◌, ◌+◌, ◌-◌, refl, sym, subst, arith}
-use Rattle.rh_defs.specs.Pieces.{zeros}
-use Rattle.rh_store.specs.Starts.{IsIndex}
+use Rattle.rh_heap.proofs.Common.{◌≡◌, ◌+◌, ◌-◌, refl, sym, subst, arith, zeros, IsIndex, Ok, left_of, no_answer, placed, fitted, release, released_at}
+use Rattle.rh_heap.proofs.Common.{Edited-both, Edited-wider, SpellsIn, heap_in}
 use Rattle.rh_heap.proofs.BlockLaws.{zeros_long}
 use Rattle.rh_heap.proofs.KeepLaws.{other_bytes}
 use Rattle.rh_heap.proofs.ResizeLaws.{length-fitted}
-use Rattle.std.specs.Prelude.{Ok}
-use Rattle.rh_defs.specs.Chain.{left_of, no_answer}
-use Rattle.rh_defs.specs.Heap.{placed, fitted, release, released_at}
-use Rattle.rh_defs.proofs.MemoryLaws.{Edited-both, Edited-wider}
-use Rattle.rh_heap.specs.Spans.{SpellsIn, heap_in}
 use Rattle.rh_heap.proofs.SpanLaws.{heap_now, is_span}
 use Rattle.rh_heap.proofs.MoveLaws.{new_inside, moved_spells, moved_done, moved_released, moved_end}
 use Rattle.rh_heap.proofs.span.indexed.move_in.Goals as goal

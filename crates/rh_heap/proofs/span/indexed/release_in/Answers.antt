@@ -1,9 +1,4 @@
-use Rattle.std.proofs.Common.{◌∙◌, ap, subst, sym, arith}
-use Rattle.rh_defs.specs.Chain.{no_answer}
-use Rattle.rh_defs.specs.Heap.{release}
-use Rattle.rh_defs.proofs.HeapCalls.{released_at-some}
-use Rattle.rh_heap.specs.Spans.{SpellsIn, heap_in}
-use Rattle.rh_store.specs.Starts.{IsIndex}
+use Rattle.rh_heap.proofs.Common.{◌∙◌, ap, subst, sym, arith, no_answer, release, released_at-some, SpellsIn, heap_in, IsIndex}
 use Rattle.rh_heap.proofs.CallLaws.{leaves}
 use Rattle.rh_heap.proofs.KeepLaws.{place_even, low_even, release_index}
 use Rattle.rh_heap.proofs.SpanLaws.{heap_now}

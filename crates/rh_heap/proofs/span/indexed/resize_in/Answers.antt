@@ -1,7 +1,4 @@
-use Rattle.std.proofs.Common.{◌-◌, ap, ◌∙◌}
-use Rattle.std.specs.Int.{w32}
-use Rattle.std.proofs.lemmas.Int.{to_z-of_z}
-use Rattle.rh_defs.specs.Pieces.{moved}
+use Rattle.rh_heap.proofs.Common.{◌-◌, ap, ◌∙◌, w32, to_z-of_z, moved}
 use Rattle.rh_heap.proofs.ChangeLaws.{answered}
 use Rattle.rh_heap.proofs.span.indexed.resize_in.Goals as goal
 

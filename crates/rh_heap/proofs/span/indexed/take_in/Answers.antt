@@ -1,9 +1,4 @@
-use Rattle.std.proofs.Common.{◌-◌, ◌/◌, ◌∙◌, subst, sym, arith}
-use Rattle.rh_defs.specs.Pieces.{zeros}
-use Rattle.rh_heap.specs.Spans.{heap_in}
-use Rattle.rh_store.specs.Starts.{IsIndex}
-use Rattle.rh_heap.specs.Starts.{Became}
-use Rattle.rh_store.specs.declared.starts.TheConstants.{USED}
+use Rattle.rh_heap.proofs.Common.{◌-◌, ◌/◌, ◌∙◌, subst, sym, arith, zeros, heap_in, IsIndex, Became, USED}
 use Rattle.rh_heap.proofs.BlockLaws.{zeros_long}
 use Rattle.rh_heap.proofs.KeepLaws.{hole_even, fill_index, append_index}
 use Rattle.rh_heap.proofs.SpanLaws.{heap_now}

@@ -1,8 +1,5 @@
 -- What was listed, 64 segments at most, and the segments from the place on are all from the target on.
-use Rattle.std.proofs.Common.{◌-◌, ◌≤◌, length}
-use Rattle.rh_defs.specs.Heap.{segment_at}
-use Rattle.rh_heap.specs.Spans.{heap_in}
-use Rattle.rh_heap.specs.Image.{listed}
+use Rattle.rh_heap.proofs.Common.{◌-◌, ◌≤◌, length, segment_at, heap_in, listed}
 use Rattle.rh_heap.specs.Listed.{from_cut, HasListed}
 use Rattle.rh_defs.specs.declared.sizes.TheConstants.{SEGMENTS_AT_ONCE}
 use Rattle.rh_heap.proofs.span.list.segments_from.Given as goal

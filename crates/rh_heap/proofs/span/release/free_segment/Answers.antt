@@ -1,5 +1,4 @@
-use Rattle.std.proofs.Common.{arith}
-use Rattle.rh_defs.proofs.MemoryLaws.{Edited-wider}
+use Rattle.rh_heap.proofs.Common.{arith, Edited-wider}
 use Rattle.rh_heap.proofs.ReleaseLaws.{release_is_stretch, release_spells}
 use Rattle.rh_heap.proofs.span.release.free_segment.Goals as goal
 

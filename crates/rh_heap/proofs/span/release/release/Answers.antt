@@ -1,8 +1,5 @@
-use Rattle.std.proofs.Common.{refl, ap, subst}
-use Rattle.rh_defs.specs.Chain.{no_answer}
-use Rattle.rh_defs.specs.Heap.{release}
-use Rattle.rh_defs.proofs.HeapCalls.{released_at-none, released_at-some}
-use Rattle.rh_heap.specs.Spans.{SpellsIn, heap_in}
+use Rattle.rh_heap.proofs.Common.{refl, ap, subst, no_answer, release, released_at-some, SpellsIn, heap_in}
+use Rattle.rh_defs.proofs.HeapCalls.{released_at-none}
 use Rattle.rh_heap.proofs.CallLaws.{leaves, refuses}
 use Rattle.rh_heap.proofs.span.release.release.Goals as goal
 

@@ -1,9 +1,5 @@
-use Rattle.std.proofs.Common.{◌≡◌, ◌+◌, ◌-◌, refl, subst, arith}
-use Rattle.std.specs.Prelude.{Ok}
-use Rattle.rh_defs.specs.Chain.{left_of, no_answer}
-use Rattle.rh_defs.specs.Heap.{placed, fitted, release, released_at}
-use Rattle.rh_defs.proofs.MemoryLaws.{Edited-both, Edited-wider}
-use Rattle.rh_heap.specs.Spans.{SpellsIn, heap_in}
+use Rattle.rh_heap.proofs.Common.{◌≡◌, ◌+◌, ◌-◌, refl, subst, arith, Ok, left_of, no_answer, placed, fitted, release, released_at, Edited-both, Edited-wider}
+use Rattle.rh_heap.proofs.Common.{SpellsIn, heap_in}
 use Rattle.rh_heap.proofs.SpanLaws.{is_span}
 use Rattle.rh_heap.proofs.MoveLaws.{new_inside, moved_spells, moved_done, moved_released, moved_end}
 use Rattle.rh_heap.proofs.span.resize.move_block.Goals as goal

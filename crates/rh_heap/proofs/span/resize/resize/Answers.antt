@@ -1,8 +1,4 @@
-use Rattle.std.proofs.Common.{◌-◌, refl, ap, ◌∙◌}
-use Rattle.std.specs.Int.{w32}
-use Rattle.std.proofs.lemmas.Int.{to_z-of_z}
-use Rattle.rh_defs.specs.Pieces.{moved}
-use Rattle.rh_heap.specs.Spans.{heap_in}
+use Rattle.rh_heap.proofs.Common.{◌-◌, refl, ap, ◌∙◌, w32, to_z-of_z, moved, heap_in}
 use Rattle.rh_heap.proofs.CallLaws.{refuses}
 use Rattle.rh_heap.proofs.ChangeLaws.{answered, no_block_resize, resize_zero}
 use Rattle.rh_heap.proofs.span.resize.resize.Goals as goal

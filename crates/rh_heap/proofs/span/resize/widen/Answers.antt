@@ -1,5 +1,4 @@
-use Rattle.std.proofs.Common.{arith}
-use Rattle.rh_defs.proofs.MemoryLaws.{Edited-both, Edited-wider}
+use Rattle.rh_heap.proofs.Common.{arith, Edited-both, Edited-wider}
 use Rattle.rh_heap.proofs.ResizeLaws.{into, widen_bounds, widen_is_stretch, widen_spells}
 use Rattle.rh_heap.proofs.span.resize.widen.Goals as goal
 

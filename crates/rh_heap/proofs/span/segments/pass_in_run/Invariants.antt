@@ -1,5 +1,4 @@
-use Rattle.std.proofs.Common.{◌+◌, ◌-◌}
-use Rattle.rh_heap.specs.Spans.{heap_in}
+use Rattle.rh_heap.proofs.Common.{◌+◌, ◌-◌, heap_in}
 use Rattle.rh_heap.proofs.WalkLaws.{UsedWalk}
 use Rattle.rh_heap.proofs.span.segments.pass_in_run.Given as goal
 

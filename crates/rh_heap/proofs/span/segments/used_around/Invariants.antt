@@ -1,5 +1,4 @@
-use Rattle.std.proofs.Common.{◌-◌}
-use Rattle.rh_heap.specs.Spans.{heap_in}
+use Rattle.rh_heap.proofs.Common.{◌-◌, heap_in}
 use Rattle.rh_heap.proofs.WalkLaws.{MarkWalk}
 use Rattle.rh_heap.proofs.span.segments.used_around.Given as goal
 

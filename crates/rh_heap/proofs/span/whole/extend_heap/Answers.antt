@@ -1,11 +1,5 @@
-use Rattle.std.proofs.Common.{◌≡◌, refl, ap, ◌∙◌, arith}
-use Rattle.std.specs.Int.{w32}
-use Rattle.std.proofs.lemmas.Int.{to_z-of_z}
-use Rattle.rh_defs.specs.Chain.{no_answer}
-use Rattle.rh_defs.specs.Pieces.{moved}
+use Rattle.rh_heap.proofs.Common.{◌≡◌, refl, ap, ◌∙◌, arith, w32, to_z-of_z, no_answer, moved, Edited-wider, heap_in}
 use Rattle.rh_defs.proofs.HeapCalls.{extend-low, extend-done}
-use Rattle.rh_defs.proofs.MemoryLaws.{Edited-wider}
-use Rattle.rh_heap.specs.Spans.{heap_in}
 use Rattle.rh_heap.proofs.CallLaws.{leaves, refuses}
 use Rattle.rh_heap.proofs.SizeLaws.{extend_spells}
 use Rattle.rh_heap.proofs.span.whole.extend_heap.Goals as goal

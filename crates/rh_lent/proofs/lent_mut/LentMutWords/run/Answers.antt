@@ -1,5 +1,4 @@
-use Rattle.std.proofs.Common.{List, ℕ, ◌-◌, length, sym, ap, ◌∙◌, arith}
-use Rattle.rh_defs.specs.Bytes.{part}
+use Rattle.rh_lent.proofs.Common.{List, ℕ, ◌-◌, length, sym, ap, ◌∙◌, arith, part}
 use Rattle.rh_defs.proofs.BytesLaws.{length-part}
 use Rattle.rh_lent.proofs.Over.{lent_bytes}
 use Rattle.rh_lent.proofs.lent_mut.LentMutWords.run.Goals as goal

@@ -1,6 +1,5 @@
-use Rattle.std.proofs.Common.{List, ℕ, ap, length, arith}
+use Rattle.rh_lent.proofs.Common.{List, ℕ, ap, length, arith, memory_of}
 use Rattle.rh_defs.specs.Bytes.{put_word}
-use Rattle.rh_lent.specs.Lent.{memory_of}
 use Rattle.rh_lent.proofs.Over.{lent_bytes, edited}
 use Rattle.rh_lent.proofs.lent_mut.LentMutWordsMut.set_word.Goals as goal
 

@@ -1,6 +1,4 @@
-use Rattle.std.proofs.Common.{List, ℕ, ap, length, arith}
-use Rattle.rh_defs.specs.Bytes.{put, part}
-use Rattle.rh_lent.specs.Lent.{memory_of}
+use Rattle.rh_lent.proofs.Common.{List, ℕ, ap, length, arith, put, part, memory_of}
 use Rattle.rh_lent.proofs.Over.{lent_bytes, edited}
 use Rattle.rh_lent.proofs.lent_mut.LentMutWordsMut.slide.Goals as goal
 

@@ -1,6 +1,4 @@
-use Rattle.std.proofs.Common.{List, ℕ, ap, length, replicate, arith}
-use Rattle.rh_defs.specs.Bytes.{put}
-use Rattle.rh_lent.specs.Lent.{memory_of}
+use Rattle.rh_lent.proofs.Common.{List, ℕ, ap, length, replicate, arith, put, memory_of}
 use Rattle.rh_lent.proofs.Over.{lent_bytes, edited}
 use Rattle.rh_lent.proofs.lent_mut.LentMutWordsMut.zero.Goals as goal
 

@@ -1,8 +1,6 @@
 -- The amount is negative or not, and its whole pages go or come.
-use Rattle.std.proofs.Common.{◌≡◌, Bool, pos}
+use Rattle.rh_module.proofs.Common.{◌≡◌, Bool, pos, err_from_is_err_and, heap_in}
 use Rattle.std.specs.Int.Signed.{lt_z}
-use Rattle.std.proofs.lemmas.Result.{err_from_is_err_and}
-use Rattle.rh_module.specs.Area.{heap_in}
 use Rattle.rh_module.proofs.CallLaws.{leaves, refuses}
 use Rattle.rh_module.proofs.NeedLaws.{passed}
 use Rattle.rh_module.proofs.ChangeLaws.{Amount, change_too_low, change_shortened, change_no_room, change_lengthened}

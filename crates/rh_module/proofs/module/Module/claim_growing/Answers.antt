@@ -1,9 +1,7 @@
 -- The heap is short of what its need says, and has room once the area has grown by that.
-use Rattle.std.proofs.Common.{refl}
-use Rattle.std.proofs.lemmas.Result.{err_from_is_err_and}
+use Rattle.rh_module.proofs.Common.{refl, err_from_is_err_and, heap_in}
 use Rattle.rh_defs.specs.Heap.{claim}
 use Rattle.rh_defs.specs.Module.{module_claim}
-use Rattle.rh_module.specs.Area.{heap_in}
 use Rattle.rh_module.proofs.SpanLaws.{is_span}
 use Rattle.rh_module.proofs.CallLaws.{refuses}
 use Rattle.rh_module.proofs.GrowthLaws.{Grown, is_done, done}

@@ -1,13 +1,8 @@
 -- The area has grown by zeros, and the heap's end moves up to the area's.
-use Rattle.std.proofs.Common.{◌≡◌, ◌*◌, ◌≤◌, to_z, refl, subst, arith}
-use Rattle.std.specs.Int.{w32}
-use Rattle.std.specs.Prelude.{Ok}
-use Rattle.rh_defs.specs.declared.sizes.TheConstants.{PAGE}
-use Rattle.rh_defs.specs.Chain.{left_of, no_answer}
-use Rattle.rh_defs.specs.Heap.{extend, extended}
+use Rattle.rh_module.proofs.Common.{◌≡◌, ◌*◌, ◌≤◌, to_z, refl, subst, arith, w32, Ok, PAGE, left_of, no_answer, extended, heap_in}
+use Rattle.rh_defs.specs.Heap.{extend}
 use Rattle.rh_defs.proofs.HeapCalls.{extend-done}
 use Rattle.rh_heap.specs.Spans as spans
-use Rattle.rh_module.specs.Area.{heap_in}
 use Rattle.rh_module.proofs.LengthLaws.{MayMove, grown_may_move, lengthened, only_lengthened}
 use Rattle.rh_module.proofs.module.Module.lengthen.Goals as goal
 use Rattle.rh_module.proofs.module.Module.lengthen.Goals.{After-span}

@@ -1,7 +1,5 @@
 -- The pages that hold what the heap is short of.
-use Rattle.std.proofs.Common.{sym, ap, ◌∙◌}
-use Rattle.std.proofs.lemmas.Result.{err_from_is_err_and}
-use Rattle.std.specs.Prelude.{Ok}
+use Rattle.rh_module.proofs.Common.{sym, ap, ◌∙◌, err_from_is_err_and, Ok}
 use Rattle.rh_module.proofs.NeedLaws.{need_pages_refused, need_pages_is}
 use Rattle.rh_module.proofs.module.Module.need_pages.Goals as goal
 

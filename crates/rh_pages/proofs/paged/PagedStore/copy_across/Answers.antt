@@ -1,8 +1,4 @@
-use Rattle.std.proofs.Common.{◌≡◌, ◌+◌, ◌≤◌, ap, ◌∙◌, arith}
-use Rattle.rh_defs.specs.Bytes.{part, put}
-use Rattle.rh_defs.specs.Memory.{bytes, with_bytes}
-use Rattle.rh_defs.proofs.BytesLaws.{part_none}
-use Rattle.rh_pages.specs.Paged.{memory_of}
+use Rattle.rh_pages.proofs.Common.{◌≡◌, ◌+◌, ◌≤◌, ap, ◌∙◌, arith, part, put, bytes, with_bytes, part_none, memory_of}
 use Rattle.rh_pages.proofs.Steps.{put_to, untouched, none_written, across_more}
 use Rattle.rh_pages.proofs.paged.PagedStore.copy_across.Goals as goal
 

@@ -1,8 +1,4 @@
-use Rattle.std.proofs.Common.{ap, ◌∙◌}
-use Rattle.rh_defs.specs.Bytes.{part, put}
-use Rattle.rh_defs.specs.Memory.{bytes}
-use Rattle.rh_defs.proofs.BytesLaws.{length-part}
-use Rattle.rh_pages.specs.Paged.{memory_of, region_of}
+use Rattle.rh_pages.proofs.Common.{ap, ◌∙◌, part, put, bytes, length-part, memory_of, region_of}
 use Rattle.rh_pages.proofs.Regions.{slid}
 use Rattle.rh_pages.proofs.Seats.{seat, still_long}
 use Rattle.rh_pages.proofs.paged.PagedStore.copy_part.Goals as goal

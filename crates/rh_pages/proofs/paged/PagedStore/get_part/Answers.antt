@@ -1,6 +1,4 @@
-use Rattle.std.proofs.Common.{length, sym, ap, ◌∙◌}
-use Rattle.rh_defs.proofs.BytesLaws.{length-part, part-range}
-use Rattle.rh_pages.specs.Paged.{region_of}
+use Rattle.rh_pages.proofs.Common.{length, sym, ap, ◌∙◌, length-part, part-range, region_of}
 use Rattle.rh_pages.proofs.Seats.{seat}
 use Rattle.rh_pages.proofs.paged.PagedStore.get_part.Goals as goal
 

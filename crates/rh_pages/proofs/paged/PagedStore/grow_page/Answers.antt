@@ -1,10 +1,5 @@
-use Rattle.std.proofs.Common.{ℕ, ◌*◌, ◌∷◌, [], ◌++◌, List, length, set, replicate, refl, ap, ◌∙◌, arith}
-use Rattle.std.proofs.lemmas.List.{length-replicate, length_push}
-use Rattle.rh_defs.specs.declared.sizes.TheConstants.{MAX_AREAS, PAGE}
-use Rattle.rh_pages.specs.declared.table.TheConstants.{LISTS}
-use Rattle.rh_pages.specs.Pages.{free_in, list_at}
-use Rattle.rh_pages.specs.Paged.{memory_of, region_of, pages_of, free_of, numbered_law}
-use Rattle.rh_pages.specs.Table.{lists_of}
+use Rattle.rh_pages.proofs.Common.{ℕ, ◌*◌, ◌∷◌, [], ◌++◌, List, length, set, replicate, refl, ap, ◌∙◌, arith, length-replicate, length_push, MAX_AREAS, PAGE}
+use Rattle.rh_pages.proofs.Common.{LISTS, free_in, list_at, memory_of, region_of, pages_of, free_of, numbered_law, lists_of}
 use Rattle.rh_pages.proofs.Passing.{same_area}
 use Rattle.rh_pages.proofs.Regions.{zeroed}
 use Rattle.rh_pages.proofs.Seats.{area_below, table_of}

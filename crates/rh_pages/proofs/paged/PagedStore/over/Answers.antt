@@ -1,11 +1,6 @@
-use Rattle.std.proofs.Common.{◌≡◌, suc, ◌+◌, ◌*◌, ◌++◌, ◌∷◌, [], length, refl, ap, ◌∙◌, arith}
-use Rattle.std.proofs.lemmas.List.{get_or-set_same, take-set-le}
-use Rattle.rh_defs.specs.declared.sizes.TheConstants.{MAX_AREAS}
+use Rattle.rh_pages.proofs.Common.{◌≡◌, suc, ◌+◌, ◌*◌, ◌++◌, ◌∷◌, [], length, refl, ap, ◌∙◌, arith, get_or-set_same, take-set-le, MAX_AREAS, LISTS, areas_in}
+use Rattle.rh_pages.proofs.Common.{free_in, list_at, memory_of, lists_of}
 use Rattle.rh_defs.specs.Memory.{fresh}
-use Rattle.rh_pages.specs.declared.table.TheConstants.{LISTS}
-use Rattle.rh_pages.specs.Pages.{areas_in, free_in, list_at}
-use Rattle.rh_pages.specs.Paged.{memory_of}
-use Rattle.rh_pages.specs.Table.{lists_of}
 use Rattle.rh_pages.proofs.Start.{first, length_first, fresh_kept, fresh_memory}
 use Rattle.rh_pages.proofs.Tables.{length_lists}
 use Rattle.rh_pages.proofs.paged.PagedStore.over.Goals as goal

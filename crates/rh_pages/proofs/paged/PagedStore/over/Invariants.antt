@@ -1,7 +1,4 @@
-use Rattle.std.proofs.Common.{◌≡◌, ◌≤◌, [], length, replicate}
-use Rattle.rh_defs.specs.declared.sizes.TheConstants.{MAX_AREAS}
-use Rattle.rh_pages.specs.Pages.{areas_in, free_in}
-use Rattle.rh_pages.specs.Table.{lists_of}
+use Rattle.rh_pages.proofs.Common.{◌≡◌, ◌≤◌, [], length, replicate, MAX_AREAS, areas_in, free_in, lists_of}
 use Rattle.rh_pages.proofs.Start.{first}
 use Rattle.rh_pages.proofs.paged.PagedStore.over.Given as goal
 

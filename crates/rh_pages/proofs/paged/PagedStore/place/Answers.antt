@@ -1,5 +1,4 @@
-use Rattle.std.proofs.Common.{◌*◌, ap, arith}
-use Rattle.rh_defs.specs.declared.sizes.TheConstants.{PAGE}
+use Rattle.rh_pages.proofs.Common.{◌*◌, ap, arith, PAGE}
 use Rattle.rh_pages.specs.Paged.{place_of}
 use Rattle.rh_pages.proofs.Seats.{area_below, number_read, area_long, table_long, page_small, placed}
 use Rattle.rh_pages.proofs.paged.PagedStore.place.Goals as goal

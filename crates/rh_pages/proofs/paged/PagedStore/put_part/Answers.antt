@@ -1,5 +1,4 @@
-use Rattle.std.proofs.Common.{length, refl, ◌∙◌}
-use Rattle.rh_pages.specs.Paged.{memory_of, region_of}
+use Rattle.rh_pages.proofs.Common.{length, refl, ◌∙◌, memory_of, region_of}
 use Rattle.rh_pages.proofs.Regions.{run_put}
 use Rattle.rh_pages.proofs.Seats.{seat, still_long}
 use Rattle.rh_pages.proofs.paged.PagedStore.put_part.Goals as goal

@@ -1,7 +1,5 @@
-use Rattle.std.proofs.Common.{ap, ◌∙◌}
-use Rattle.rh_defs.specs.Bytes.{put, put_word}
-use Rattle.rh_defs.specs.Memory.{bytes, with_bytes}
-use Rattle.rh_pages.specs.Paged.{memory_of}
+use Rattle.rh_pages.proofs.Common.{ap, ◌∙◌, put, bytes, with_bytes, memory_of}
+use Rattle.rh_defs.specs.Bytes.{put_word}
 use Rattle.rh_pages.proofs.paged.PagedStore.set_word_across.Goals as goal
 
 pub returns : goal.returns

@@ -1,10 +1,5 @@
-use Rattle.std.proofs.Common.{◌*◌, ◌++◌, ◌∷◌, [], length, set, refl, sym, ap, ◌∙◌, arith}
-use Rattle.std.proofs.lemmas.List.{length_push}
-use Rattle.rh_defs.specs.declared.sizes.TheConstants.{MAX_AREAS}
-use Rattle.rh_pages.specs.declared.table.TheConstants.{LISTS}
-use Rattle.rh_pages.specs.Pages.{list_at}
-use Rattle.rh_pages.specs.Paged.{memory_of, region_of, pages_of, free_of, numbered_law}
-use Rattle.rh_pages.specs.Table.{lists_of}
+use Rattle.rh_pages.proofs.Common.{◌*◌, ◌++◌, ◌∷◌, [], length, set, refl, sym, ap, ◌∙◌, arith, length_push, MAX_AREAS, LISTS, list_at, memory_of, region_of}
+use Rattle.rh_pages.proofs.Common.{pages_of, free_of, numbered_law, lists_of}
 use Rattle.rh_pages.proofs.Passing.{same_free}
 use Rattle.rh_pages.proofs.Seats.{area_below, list_read, table_of, table_long}
 use Rattle.rh_pages.proofs.Shifts.{shrunk_is_kept, shrunk_is_memory}

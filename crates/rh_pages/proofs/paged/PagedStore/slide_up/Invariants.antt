@@ -1,7 +1,4 @@
-use Rattle.std.proofs.Common.{◌+◌, ◌-◌, ◌≤◌}
-use Rattle.rh_defs.specs.Bytes.{part, put}
-use Rattle.rh_defs.specs.Memory.{bytes}
-use Rattle.rh_pages.specs.Paged.{memory_of}
+use Rattle.rh_pages.proofs.Common.{◌+◌, ◌-◌, ◌≤◌, part, put, bytes, memory_of}
 use Rattle.rh_pages.proofs.Steps.{Rewritten}
 use Rattle.rh_pages.proofs.paged.PagedStore.slide_up.Given as goal
 

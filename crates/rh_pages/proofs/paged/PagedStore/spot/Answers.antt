@@ -1,5 +1,4 @@
-use Rattle.std.proofs.Common.{◌/◌, arith}
-use Rattle.rh_defs.specs.declared.sizes.TheConstants.{PAGE}
+use Rattle.rh_pages.proofs.Common.{◌/◌, arith, PAGE}
 use Rattle.rh_pages.proofs.Seats.{area_below, number_read, area_long, table_long, page_small}
 use Rattle.rh_pages.proofs.paged.PagedStore.spot.Goals as goal
 

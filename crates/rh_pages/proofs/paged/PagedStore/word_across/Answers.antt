@@ -1,7 +1,5 @@
-use Rattle.std.proofs.Common.{ap, ◌∙◌, w32}
+use Rattle.rh_pages.proofs.Common.{ap, ◌∙◌, w32, bytes, memory_of}
 use Rattle.std.specs.Int.{from_le_bytes}
-use Rattle.rh_defs.specs.Memory.{bytes}
-use Rattle.rh_pages.specs.Paged.{memory_of}
 use Rattle.rh_pages.proofs.Regions.{word-part_4}
 use Rattle.rh_pages.proofs.paged.PagedStore.word_across.Goals as goal
 

@@ -1,6 +1,4 @@
-use Rattle.std.proofs.Common.{ℕ, replicate, ◌∙◌}
-use Rattle.std.proofs.lemmas.List.{length-replicate}
-use Rattle.rh_pages.specs.Paged.{memory_of, region_of}
+use Rattle.rh_pages.proofs.Common.{ℕ, replicate, ◌∙◌, length-replicate, memory_of, region_of}
 use Rattle.rh_pages.proofs.Regions.{zeroed}
 use Rattle.rh_pages.proofs.Seats.{seat, still_long}
 use Rattle.rh_pages.proofs.paged.PagedStore.zero_part.Goals as goal

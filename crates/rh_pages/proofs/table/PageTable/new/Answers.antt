@@ -1,6 +1,4 @@
-use Rattle.std.proofs.Common.{refl}
-use Rattle.rh_pages.specs.declared.table.TheConstants.{LISTS}
-use Rattle.rh_pages.specs.Table.{lists_of}
+use Rattle.rh_pages.proofs.Common.{refl, LISTS, lists_of}
 use Rattle.rh_pages.proofs.Rows.{empty_rows, no_length}
 use Rattle.rh_pages.proofs.table.PageTable.new.Goals as goal
 

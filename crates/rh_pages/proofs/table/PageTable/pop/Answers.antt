@@ -1,6 +1,4 @@
-use Rattle.std.proofs.Common.{◌≡◌, ◌+◌, ◌-◌, ◌++◌, ◌∷◌, [], ℕ, get_or, set, sym, ap, ◌∙◌, arith}
-use Rattle.rh_pages.specs.Pages.{list_at}
-use Rattle.rh_pages.specs.Table.{rows, lists_of}
+use Rattle.rh_pages.proofs.Common.{◌≡◌, ◌+◌, ◌-◌, ◌++◌, ◌∷◌, [], ℕ, get_or, set, sym, ap, ◌∙◌, arith, list_at, rows, lists_of}
 use Rattle.rh_pages.proofs.Tables.{length_there, in_row, last_off, popped}
 use Rattle.rh_pages.proofs.table.PageTable.pop.Goals as goal
 

@@ -1,6 +1,4 @@
-use Rattle.std.proofs.Common.{◌+◌, get_or, set, ap, ◌∙◌, arith}
-use Rattle.std.proofs.lemmas.List.{length-set}
-use Rattle.rh_pages.specs.Table.{rows, lists_of}
+use Rattle.rh_pages.proofs.Common.{◌+◌, get_or, set, ap, ◌∙◌, arith, length-set, rows, lists_of}
 use Rattle.rh_pages.proofs.Tables.{set_fits, length_there, end_in_row, pushed}
 use Rattle.rh_pages.proofs.table.PageTable.push.Goals as goal
 

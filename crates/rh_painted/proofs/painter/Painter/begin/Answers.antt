@@ -1,5 +1,4 @@
-use Rattle.std.proofs.Common.{◌∙◌, ap}
-use Rattle.rh_drawn.proofs.Walks.{puts_same}
+use Rattle.rh_painted.proofs.Common.{◌∙◌, ap, puts_same}
 use Rattle.rh_sheet.specs.Sheet.{sheet_head}
 use Rattle.rh_painted.proofs.painter.Painter.begin.Goals as goal
 

@@ -1,7 +1,4 @@
-use Rattle.std.proofs.Common.{◌∙◌, ap}
-use Rattle.rh_figure.specs.Scene.{scene_of}
-use Rattle.rh_sheet.specs.Chart.{noted}
-use Rattle.rh_painted.specs.Progress.{Stand}
+use Rattle.rh_painted.proofs.Common.{◌∙◌, ap, scene_of, noted, Stand}
 use Rattle.rh_painted.proofs.painter.Painter.begin_step.Goals as goal
 
 pub returns-clause-notes : goal.returns-clause-notes

@@ -1,5 +1,4 @@
-use Rattle.std.proofs.Common.{refl}
-use Rattle.rh_drawn.specs.Deeds.{reply_to}
+use Rattle.rh_painted.proofs.Common.{refl, reply_to}
 use Rattle.rh_painted.proofs.StepLemmas.{broke-command, took-command}
 use Rattle.rh_painted.proofs.painter.Painter.carry_out.Goals as goal
 

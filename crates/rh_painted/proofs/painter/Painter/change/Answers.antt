@@ -1,8 +1,4 @@
-use Rattle.std.proofs.Common.{refl, subst, sym}
-use Rattle.rh_defs.specs.declared.command.Command.{Command}
-use Rattle.rh_defs.specs.Desk.{Desk}
-use Rattle.rh_defs.specs.Order.{IsReordered}
-use Rattle.rh_defs.specs.Step.{step}
+use Rattle.rh_painted.proofs.Common.{refl, subst, sym, Command, Desk, IsReordered, step}
 use Rattle.rh_defs.proofs.QuestionLaws.{asked-stays}
 use Rattle.rh_painted.proofs.painter.Painter.change.Goals as goal
 

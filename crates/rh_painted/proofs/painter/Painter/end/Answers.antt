@@ -1,10 +1,5 @@
-use Rattle.std.proofs.Common.{[], ◌∷◌, ap, ap₂}
-use Rattle.std.specs.List.{concat}
-use Rattle.rh_drawn.proofs.Walks.{puts_same}
-use Rattle.rh_figure.specs.Phrases.{where_so}
+use Rattle.rh_painted.proofs.Common.{[], ◌∷◌, ap, ap₂, concat, puts_same, where_so, said_end, step_end, walk_in}
 use Rattle.rh_sheet.specs.Sheet.{begun, sheet_foot}
-use Rattle.rh_sheet.specs.Steps.{said_end, step_end}
-use Rattle.rh_painted.specs.Walks.{walk_in}
 use Rattle.rh_painted.proofs.PrintLemmas.{puts-stop, puts-then}
 use Rattle.rh_painted.proofs.painter.Painter.end.Goals as goal
 

@@ -1,9 +1,5 @@
-use Rattle.std.proofs.Common.{ap}
+use Rattle.rh_painted.proofs.Common.{ap, marks_of, Share, Happened, happened_at}
 use Rattle.rh_drawn.proofs.ShareLemmas.{is_shared}
-use Rattle.rh_figure.specs.Scene.{marks_of}
-use Rattle.rh_figure.specs.Share.{Share}
-use Rattle.rh_sheet.specs.Sheet.{Happened}
-use Rattle.rh_painted.specs.Walks.{happened_at}
 use Rattle.rh_painted.proofs.StepLemmas.{IsNoted, took-left}
 use Rattle.rh_painted.proofs.painter.Painter.leave_out.Goals as goal
 

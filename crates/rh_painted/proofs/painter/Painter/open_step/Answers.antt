@@ -1,6 +1,4 @@
-use Rattle.std.proofs.Common.{[], ◌+◌, ◌∙◌, ap, sym}
-use Rattle.std.specs.Prelude.{if◌then◌else◌}
-use Rattle.rh_drawn.proofs.Walks.{puts_same}
+use Rattle.rh_painted.proofs.Common.{[], ◌+◌, ◌∙◌, ap, sym, if◌then◌else◌, puts_same}
 use Rattle.rh_sheet.specs.Steps.{step_open}
 use Rattle.rh_painted.proofs.painter.Painter.open_step.Goals as goal
 

@@ -1,7 +1,4 @@
-use Rattle.std.proofs.Common.{ap, refl}
-use Rattle.std.specs.Prelude.{Ok, Some}
-use Rattle.rh_defs.specs.Step.{step}
-use Rattle.rh_drawn.specs.Deeds.{reply_to}
+use Rattle.rh_painted.proofs.Common.{ap, refl, Ok, Some, step, reply_to}
 use Rattle.rh_painted.proofs.StepLemmas.{took-command}
 use Rattle.rh_painted.proofs.painter.Painter.pass.Goals as goal
 

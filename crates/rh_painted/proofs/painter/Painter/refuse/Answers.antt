@@ -1,7 +1,5 @@
-use Rattle.std.proofs.Common.{refl, true}
-use Rattle.std.specs.Prelude.{None, Ok}
+use Rattle.rh_painted.proofs.Common.{refl, true, None, Ok, fault_text}
 use Rattle.rh_defs.specs.declared.reply.Reply.TheVariants.{Done}
-use Rattle.rh_defs.specs.Text.{fault_text}
 use Rattle.rh_painted.proofs.StepLemmas.{broke-fault, took-fault}
 use Rattle.rh_painted.proofs.painter.Painter.refuse.Goals as goal
 

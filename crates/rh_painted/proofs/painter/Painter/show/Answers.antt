@@ -1,15 +1,9 @@
-use Rattle.std.proofs.Common.{◌∙◌, List, ℕ, ap, ap₂, refl, subst, sym}
-use Rattle.std.specs.Prelude.{◌&&◌, not}
-use Rattle.std.specs.Option.{option_map}
+use Rattle.rh_painted.proofs.Common.{◌∙◌, List, ℕ, ap, ap₂, refl, subst, sym, ◌&&◌, not, option_map, puts_same, scene_of, puts_stops, step_text, scene_at}
+use Rattle.rh_painted.proofs.Common.{happened_at}
 use Rattle.rh_drawn.specs.Replies.{Excerpts}
-use Rattle.rh_drawn.proofs.Walks.{puts_same}
-use Rattle.rh_figure.specs.Scene.{scene_of}
-use Rattle.rh_lines.proofs.FlowLemmas.{puts_stops}
-use Rattle.rh_sheet.specs.Steps.{step_text}
 use Rattle.rh_sight.specs.Pages.{share_in}
-use Rattle.rh_sight.specs.Steps.{marks_seen, scene_at}
+use Rattle.rh_sight.specs.Steps.{marks_seen}
 use Rattle.rh_painted.specs.Progress.{stand_shown}
-use Rattle.rh_painted.specs.Walks.{happened_at}
 use Rattle.rh_painted.proofs.PrintLemmas.{puts-stop, puts-then}
 use Rattle.rh_painted.proofs.StepLemmas.{err-comes}
 use Rattle.rh_painted.proofs.painter.Painter.show.Goals as goal

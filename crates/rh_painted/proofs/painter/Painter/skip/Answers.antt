@@ -1,14 +1,11 @@
-use Rattle.std.proofs.Common.{[], ◌≡◌, ◌+◌, ◌∙◌, ◌||◌, ap, ap₂, false, length, refl, sym, true}
-use Rattle.std.specs.Prelude.{◌&&◌, ◌==◌, if◌then◌else◌, nat_lt, not}
+use Rattle.rh_painted.proofs.Common.{[], ◌≡◌, ◌+◌, ◌∙◌, ◌||◌, ap, ap₂, false, length, refl, sym, true, ◌&&◌, ◌==◌, if◌then◌else◌, nat_lt, not, puts_same}
+use Rattle.rh_painted.proofs.Common.{Stand, walk_in}
 use Rattle.rh_defs.specs.Line.{words_of}
 use Rattle.rh_drawn.proofs.ShareLemmas.{is_shared}
-use Rattle.rh_drawn.proofs.Walks.{puts_same}
 use Rattle.rh_figure.specs.Map.{is_mark}
 use Rattle.rh_sheet.specs.Sheet.{is_shown_remark}
 use Rattle.rh_sheet.specs.Steps.{remark_text, step_open}
 use Rattle.rh_sheet.specs.declared.sizes.TheConstants.{MOST_STEPS}
-use Rattle.rh_painted.specs.Progress.{Stand}
-use Rattle.rh_painted.specs.Walks.{walk_in}
 use Rattle.rh_painted.proofs.PrintLemmas.{puts-stop, puts-then}
 use Rattle.rh_painted.proofs.StepLemmas.{skip-broken, skip-hidden, skip-shown}
 use Rattle.rh_painted.proofs.painter.Painter.skip.Goals as goal

@@ -1,10 +1,5 @@
-use Rattle.std.proofs.Common.{List, ℕ, ap, subst, sym}
-use Rattle.std.specs.Option.{option_map}
+use Rattle.rh_painted.proofs.Common.{List, ℕ, ap, subst, sym, option_map, marks_of, Share, Happened, happened_at}
 use Rattle.rh_drawn.specs.Replies.{Excerpts}
-use Rattle.rh_figure.specs.Scene.{marks_of}
-use Rattle.rh_figure.specs.Share.{Share}
-use Rattle.rh_sheet.specs.Sheet.{Happened}
-use Rattle.rh_painted.specs.Walks.{happened_at}
 use Rattle.rh_painted.proofs.StepLemmas.{IsNoted, took-shown, wrote-over}
 use Rattle.rh_painted.proofs.painter.Painter.take_step.Goals as goal
 

@@ -1,24 +1,17 @@
 -- What a `&` to a block is made of: its two fields, which are plain words, the bound on its length, and its bytes. The right
 -- to free the bytes stays behind until the `&` has ended.
-use Prim.Native.Nat.{◌^◌}
-use seplogic.Ra.Ura.{Ura}
-use base.Fraction.{full_share}
-use base.Fml.{Fml, fsep, flt}
-use mir.Syntax.{w8}
-use types.Logic.{Logic}
-use denote.Array.{Array, Array-row_laws}
-use denote.Builtin.{u8}
+use Rattle.rh_region.proofs.Common.{◌^◌, Ura, full_share, Fml, fsep, w8, Logic, Array, u8, lies_at, block_owns, Block}
+use base.Fml.{flt}
+use denote.Array.{Array-row_laws}
 use denote.Param.Shared.{Sharables, copy_shared}
 use denote.Plain.{uint_row_laws}
-use denote.RawPtr.{lies_at}
 use denote.Shares.{Shares-Array}
 use denote.Sharing.{ShrLaws, said}
 use denote.SharingLaws.{beside_shr_laws, said_shr_laws}
 use denote.Struct.Field.{RawPtr-field, usize-field, u8-field}
 use denote.Struct.Laws.{RawPtr-copy, usize-copy, u8-copy}
 use denote.Struct.Lending.{lent_at, lent_at_shr_laws, Lends, Lends-both, Lends-first, Lends-lies, Lends-said, of_Lends}
-use Rattle.rh_region.specs.Ownership.{block_owns, block_lent}
-use Rattle.rh_region.specs.declared.raw.Block.{Block}
+use Rattle.rh_region.specs.Ownership.{block_lent}
 use Rattle.rh_region.specs.contracts.raw.Block as C
 use Rattle.rh_region.proofs.HeapCalls.{right}
 use Rattle.rh_region.proofs.raw.Block.TheLaw.Statement.{statement}

@@ -1,41 +1,21 @@
 -- `as_slice` reads the two fields behind its `&` and makes a slice of them. The bytes behind the slice are those that the
 -- `&` to the block lends, so they pass to the slice as they are, for as long as the `&` lives.
-use mathlib.Core.Path.{◌≡◌, refl, sym, ap}
-use mathlib.Core.List.{List, [], ◌∷◌}
-use Prim.Native.Nat.{ℕ, ◌+◌, ◌*◌, ◌<◌, ◌^◌}
-use native.Mathlib.Omega.{arith}
-use seplogic.Ra.Ura.{Ura}
-use lib.ListN.{length}
-use base.Fml.{Lft, Share, Fml, ftrue, fhide, flft}
-use base.Logic.{SProp, ent}
-use contract.Monad.{fact}
-use contract.Running.{Running, MachineTables, tables}
-use mir.Syntax.{named}
-use mir.Val.{Val, vptr}
-use prog.Model.{Model}
-use prog.Wp.{Env}
-use types.Logic.{Logic, sem}
-use types.Kit.{Sq, ⋆, mean, runs, ‵, raw, ◌⊛◌, given, at_ret, ◌$◌, ◌∵◌, !, qed, by, move, keep, drop, use1, split, join, fsplit, fsplit3, fjoin, feq_i, feq_l}
-use types.Kit.{flt_i, flt_l, learn, check, frame, suffices, done}
-use types.Part.{agg}
-use types.Run.{stop, fld, load, look, of_opd, and_then, no_more, first, blocks, exec, returns, enter}
-use types.ByLocal.{alloc_all, pass_all, free_all, look_at, get, through, sets, sets_last, env, holding}
-use denote.Builtin.{u8, RefOf}
-use denote.Exit.{yes}
+use Rattle.rh_region.proofs.Common.{◌≡◌, refl, sym, ap, List, [], ◌∷◌, ℕ, ◌+◌, ◌<◌, ◌^◌, arith, Ura, length, Lft, Share, Fml, ftrue, flft, SProp, ent, fact}
+use Rattle.rh_region.proofs.Common.{Running, MachineTables, tables, named, Val, vptr, Model, Env, Logic, sem, Sq, ⋆, mean, runs, ‵, raw, ◌⊛◌, given, at_ret}
+use Rattle.rh_region.proofs.Common.{◌$◌, ◌∵◌, !, qed, by, move, keep, drop, use1, split, join, fsplit, fsplit3, fjoin, feq_i, feq_l, flt_i, flt_l, learn}
+use Rattle.rh_region.proofs.Common.{check, frame, suffices, done, agg, stop, fld, of_opd, and_then, no_more, first, blocks, exec, returns, enter, alloc_all}
+use Rattle.rh_region.proofs.Common.{pass_all, free_all, look_at, get, through, sets, sets_last, env, holding, u8, RefOf, yes, block_ptr, Bor, shr_vals}
+use Rattle.rh_region.proofs.Common.{shr_Tells, plain, heard, nothing, Clauses, Stays, stay_dropped, walk_of, Goes-dropped, after, proved, leaves, Block}
+use Prim.Native.Nat.{◌*◌}
+use base.Fml.{fhide}
+use types.Run.{load, look}
 use denote.Opens.{unhide, hide}
-use denote.RawPtr.{block_ptr, block_of, count_of, InBlock}
-use denote.Ref.{Bor, ShrRef, shr_vals, shr_Tells}
-use denote.Signature.{plain}
+use denote.RawPtr.{block_of, count_of, InBlock}
+use denote.Ref.{ShrRef}
 use denote.Slice.{ShrSlice, slice_val, elements_shared}
-use denote.Steps.{heard, nothing}
 use denote.Struct.Lending.{in_block_says, lent_out}
-use denote.Triple.Clauses.{Clauses}
-use denote.Triple.Walked.{Stays, stay_dropped, walk_of, Goes-dropped}
 use Rattle.core.proofs.mem.Facts.{says_two}
-use Rattle.core.proofs.slots.Bodies.{after}
-use Rattle.std.proofs.raw_atomic.Walks.{proved, leaves}
 use Rattle.std_alloc.proofs.Words.{word_in, word_out, pointer_in, pointer_out}
-use Rattle.rh_region.specs.declared.raw.Block.{Block}
 use Rattle.rh_region.specs.contracts.raw.Block as C
 use Rattle.rh_region.specs.contracts.raw.Block.as_slice as f
 use Rattle.rh_region.proofs.BlockFields.{R, Shown, start_shown, len_shown}

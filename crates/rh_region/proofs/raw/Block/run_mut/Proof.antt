@@ -1,48 +1,31 @@
 -- `run_mut` opens its `&mut`, reads the pointer and makes a slice of the n bytes behind `at`. While they are lent, the block
 -- keeps the bytes on either side, the right to free all of them, and its fields (*Behind*). Whatever the slice ends with, as
 -- many bytes, goes between them, and the block is whole again.
-use mathlib.Core.Path.{◌≡◌, refl, sym, ap, subst, ◌∙◌}
-use mathlib.Core.List.{List, [], ◌∷◌}
-use Prim.Native.Nat.{ℕ, ◌+◌, ◌≤◌, ◌<◌, ◌^◌}
-use native.Mathlib.Omega.{arith}
-use seplogic.Ra.Ura.{Ura}
-use lib.ListN.{length}
-use base.Fraction.{full_share}
-use base.Fml.{Lft, GName, Share, Fml, ftrue, fsep, flft, fobor, fobs, fauth}
-use base.Logic.{SProp, ent, id⊢}
-use contract.Monad.{fact}
-use contract.Running.{Running, MachineTables, tables}
-use mir.Syntax.{w64, named}
-use mir.Val.{Val, vint, vptr}
-use prog.Model.{Model}
-use prog.Wp.{Env}
-use types.Logic.{Logic, sem}
+use Rattle.rh_region.proofs.Common.{◌≡◌, refl, sym, ap, ◌∙◌, List, [], ◌∷◌, ℕ, ◌+◌, ◌≤◌, ◌<◌, ◌^◌, arith, Ura, length, full_share, Lft, Share, Fml, ftrue}
+use Rattle.rh_region.proofs.Common.{fsep, flft, SProp, ent, id⊢, fact, Running, MachineTables, tables, w64, named, Val, vint, vptr, Model, Env, Logic, sem}
+use Rattle.rh_region.proofs.Common.{Sq, ⋆, mean, runs, ‵, raw, ◌⊛◌, some, given, later, await, learn, pick, at_ret, ◌$◌, ◌∵◌, !, qed, by, move, keep, drop}
+use Rattle.rh_region.proofs.Common.{use1, use2, split, join, rewrite, fsplit, fsplit3, fjoin, flt_i, flt_l, suffices, frame, done, whole, agg, stop, fld}
+use Rattle.rh_region.proofs.Common.{of_opd, and_then, no_more, first, blocks, exec, returns, enter, alloc_all, pass_all, free_all, look_at, get, through}
+use Rattle.rh_region.proofs.Common.{sets, sets_last, env, holding, Array, u8, usize, yes, part_at, uint_vals, uint_Tells, Ptr, block_ptr, lies_at, in_a_block}
+use Rattle.rh_region.proofs.Common.{plain, heard, nothing, Clauses, Stays, stay_dropped, walk_of, Goes-dropped, after, proved, leaves, Block}
+use mathlib.Core.Path.{subst}
+use base.Fml.{GName, fobor, fobs, fauth}
 use types.SemTy.{Body, cells}
-use types.Kit.{Sq, ⋆, mean, runs, ‵, raw, ◌⊛◌, some, given, later, await, learn, pick, at_ret, ◌$◌, ◌∵◌, !, qed, by, move, keep, drop, use1, use2, split}
-use types.Kit.{join, group, rewrite, fsplit, fsplit3, fjoin, fjoin3, fpack, flt_i, flt_l, suffices, frame, done}
-use types.Part.{whole, sub, agg, look_in}
-use types.Run.{stop, fld, load, bin, of_opd, and_then, no_more, first, blocks, exec, returns, enter}
-use types.ByLocal.{alloc_all, pass_all, free_all, look_at, get, through, sets, sets_last, env, holding}
-use denote.Array.{Array}
-use denote.Builtin.{u8, usize}
-use denote.Exit.{yes, no}
+use types.Kit.{group, fjoin3, fpack}
+use types.Part.{sub, look_in}
+use types.Run.{load, bin}
+use denote.Exit.{no}
 use denote.FollowSlice.{Elements, lends_Elements}
 use denote.Follow.{follows}
 use denote.Laws.{shows}
-use denote.Memory.{mem, part_at, part_of, cell_at}
-use denote.Plain.{uint_vals, uint_Tells}
-use denote.RawPtr.{Ptr, block_ptr, lies_at, in_a_block}
+use denote.Memory.{mem, part_of, cell_at}
 use denote.Ref.{MutBor, MutRef, mut_vals, mut_Tells}
-use denote.Signature.{plain, mut_ref_to}
+use denote.Signature.{mut_ref_to}
 use denote.Slice.{MutSlice, Room, slice_val}
-use denote.Steps.{heard, nothing, opens, peeks}
-use denote.Triple.Clauses.{Clauses}
-use denote.Triple.Walked.{Stays, says, stay_dropped, walk_of, Goes-dropped, Goes-spent_ref}
-use Rattle.core.proofs.slots.Bodies.{after}
-use Rattle.std.proofs.raw_atomic.Walks.{proved, leaves}
+use denote.Steps.{opens, peeks}
+use denote.Triple.Walked.{says, Goes-spent_ref}
 use Rattle.rh_region.specs.BlockLends.{patched_block}
 use Rattle.rh_region.specs.Patched.{with_run}
-use Rattle.rh_region.specs.declared.raw.Block.{Block}
 use Rattle.rh_region.specs.contracts.raw.Block.run_mut as f
 use Rattle.rh_region.proofs.BlockFields.{R, Fields, fields}
 use Rattle.rh_region.proofs.HeapCalls.{right}

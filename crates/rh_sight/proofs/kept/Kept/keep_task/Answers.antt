@@ -1,9 +1,7 @@
-use Rattle.std.proofs.Common.{◌≡◌, ◌∙◌, ℕ, List, Some, ap, sym}
-use Rattle.rh_defs.specs.Desk.{Desk, Task, free_pages, next_ref}
-use Rattle.rh_defs.specs.Listing.{block_items}
+use Rattle.rh_sight.proofs.Common.{◌≡◌, ◌∙◌, ℕ, List, Some, ap, sym, Desk, Task, free_pages, block_items, holdings}
+use Rattle.rh_defs.specs.Desk.{next_ref}
 use Rattle.rh_defs.specs.Post.{held_by}
 use Rattle.rh_figure.specs.Scene.{Before, before_task, ref_of}
-use Rattle.rh_figure.specs.Share.{holdings}
 use Rattle.rh_sight.specs.Messages.{held_ref}
 use Rattle.rh_sight.proofs.Posts.{held-is}
 use Rattle.rh_sight.proofs.kept.Kept.keep_task.Goals as goal

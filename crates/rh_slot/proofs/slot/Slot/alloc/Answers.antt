@@ -1,7 +1,4 @@
-use Rattle.std.proofs.Common.{◌+◌, ◌*◌, refl, ap, ◌∙◌, arith}
-use Rattle.rh_defs.specs.declared.sizes.TheConstants.{PAGE}
-use Rattle.rh_defs.specs.Pieces.{pages_for}
-use Rattle.rh_slot.specs.Area.{slot_in}
+use Rattle.rh_slot.proofs.Common.{◌+◌, ◌*◌, refl, ap, ◌∙◌, arith, PAGE, pages_for, slot_in}
 use Rattle.rh_slot.proofs.SpanLaws.{budging_same}
 use Rattle.rh_slot.proofs.LeaveLaws.{leaves, refuses, then_edited}
 use Rattle.rh_slot.proofs.FlexLaws.{alloced, words_grown, paged, alloc_used, alloc_full, alloc_done, pages_more, has_room, has_none, false-true}

@@ -1,7 +1,5 @@
 -- The walk has passed at most the blocks below the one that is asked for.
-use Rattle.std.proofs.Common.{◌-◌, ◌≤◌}
-use Rattle.rh_slot.specs.Area.{slot_in}
-use Rattle.rh_slot.specs.Row.{WalksIn}
+use Rattle.rh_slot.proofs.Common.{◌-◌, ◌≤◌, slot_in, WalksIn}
 use Rattle.rh_slot.proofs.slot.Slot.block.Given as goal
 
 abbrev pub invariant-walk : goal.invariant-walk

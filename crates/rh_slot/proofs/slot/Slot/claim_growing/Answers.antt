@@ -1,9 +1,5 @@
 -- The shortage is made up, and then the heap's claim is done.
-use Rattle.std.proofs.Common.{◌≡◌, ◌≢◌, refl, arith}
-use Rattle.std.proofs.lemmas.Result.{err_from_is_err_and}
-use Rattle.rh_defs.specs.Heap.{claim_growing, need}
-use Rattle.rh_slot.specs.Area.{slot_in}
-use Rattle.rh_slot.specs.CHeap.{lengthened}
+use Rattle.rh_slot.proofs.Common.{◌≡◌, ◌≢◌, refl, arith, err_from_is_err_and, claim_growing, need, slot_in, lengthened}
 use Rattle.rh_slot.proofs.SpanLaws.{is_span_at, heap_at, is_slot, budging_same}
 use Rattle.rh_slot.proofs.LeaveLaws.{refuses}
 use Rattle.rh_slot.proofs.GrowLaws.{need_most}

@@ -1,7 +1,5 @@
 -- The walk stands where the blocks that it has passed end.
-use Rattle.std.proofs.Common.{◌-◌, length}
-use Rattle.rh_slot.specs.Area.{slot_in}
-use Rattle.rh_slot.specs.Row.{WalksIn}
+use Rattle.rh_slot.proofs.Common.{◌-◌, length, slot_in, WalksIn}
 use Rattle.rh_slot.proofs.slot.Slot.count.Given as goal
 
 abbrev pub invariant-walk : goal.invariant-walk

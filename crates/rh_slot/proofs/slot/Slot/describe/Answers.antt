@@ -1,6 +1,6 @@
 -- The sums of the C heap.
-use Rattle.std.proofs.Common.{ap, ◌∙◌}
-use Rattle.rh_defs.specs.Heap.{Heap, largest, free_bytes}
+use Rattle.rh_slot.proofs.Common.{ap, ◌∙◌, Heap}
+use Rattle.rh_defs.specs.Heap.{largest, free_bytes}
 use Rattle.rh_slot.proofs.SpanLaws.{is_span_at, heap_at}
 use Rattle.rh_slot.proofs.slot.Slot.describe.Goals as goal
 

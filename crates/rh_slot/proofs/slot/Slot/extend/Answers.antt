@@ -1,6 +1,4 @@
-use Rattle.std.proofs.Common.{refl, ap}
-use Rattle.rh_defs.specs.Chain.{no_answer}
-use Rattle.rh_slot.specs.Area.{slot_in}
+use Rattle.rh_slot.proofs.Common.{refl, ap, no_answer, slot_in}
 use Rattle.rh_slot.proofs.LeaveLaws.{refuses, in_other_words}
 use Rattle.rh_slot.proofs.EditLaws.{extend_none, extend_at}
 use Rattle.rh_slot.proofs.slot.Slot.extend.Goals as goal

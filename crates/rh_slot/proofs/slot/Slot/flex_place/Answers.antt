@@ -1,8 +1,5 @@
 -- The blocks begin at the heap's end.
-use Rattle.std.proofs.Common.{◌≡◌, ◌+◌, ◌∙◌, ap, arith}
-use Rattle.rh_defs.specs.SlotImage.{heap_place}
-use Rattle.rh_defs.specs.Heap.{Heap}
-use Rattle.rh_slot.specs.Area.{slot_in}
+use Rattle.rh_slot.proofs.Common.{◌≡◌, ◌+◌, ◌∙◌, ap, arith, heap_place, Heap, slot_in}
 use Rattle.rh_slot.proofs.SpanLaws.{is_span_at, heap_at}
 use Rattle.rh_slot.proofs.slot.Slot.flex_place.Goals as goal
 

@@ -1,7 +1,4 @@
-use Rattle.std.proofs.Common.{◌+◌, refl, ap}
-use Rattle.rh_defs.specs.Chain.{no_answer}
-use Rattle.rh_defs.proofs.MemoryLaws.{OnlyArea-from_Edited}
-use Rattle.rh_slot.specs.Area.{slot_in}
+use Rattle.rh_slot.proofs.Common.{◌+◌, refl, ap, no_answer, OnlyArea-from_Edited, slot_in}
 use Rattle.rh_slot.proofs.SpanLaws.{budging_same}
 use Rattle.rh_slot.proofs.LeaveLaws.{leaves, refuses, then_edited, then_resized}
 use Rattle.rh_slot.proofs.FlexLaws.{reach, walked_past, row_above, freed, settled, free_none, free_at}

@@ -1,7 +1,5 @@
 -- The walk has passed some blocks, and the bytes lie in none of them.
-use Rattle.std.proofs.Common.{◌-◌}
-use Rattle.rh_defs.specs.Slot.{slot_length}
-use Rattle.rh_slot.specs.Area.{slot_in}
+use Rattle.rh_slot.proofs.Common.{◌-◌, slot_length, slot_in}
 use Rattle.rh_slot.proofs.WalkLaws.{Unheld}
 use Rattle.rh_slot.proofs.slot.Slot.in_flex.Given as goal
 

@@ -1,7 +1,6 @@
 -- In a flex block, or in a block of the C heap.
+use Rattle.rh_slot.proofs.Common.{◌∙◌, sym, slot_in}
 use Rattle.rh_slot.proofs.SpanLaws.{is_span_at, heap_at, inside_heap}
-use Rattle.std.proofs.Common.{◌∙◌, sym}
-use Rattle.rh_slot.specs.Area.{slot_in}
 use Rattle.rh_slot.proofs.slot.Slot.inside.Goals as goal
 
 pub holds-requires : goal.holds-requires

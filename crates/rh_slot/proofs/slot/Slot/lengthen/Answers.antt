@@ -1,14 +1,8 @@
 -- The area grows, all blocks slide up, and the heap's end goes up by as much.
-use Rattle.std.proofs.Common.{◌≡◌, ◌+◌, ◌-◌, ◌*◌, refl, subst, ap, to_z, arith}
+use Rattle.rh_slot.proofs.Common.{◌≡◌, ◌+◌, ◌-◌, ◌*◌, refl, subst, ap, to_z, arith, w32, pos, PAGE, raised, left_of, no_answer, heap_in, slot_in}
 use Rattle.std.proofs.lemmas.Int.{to_z_pos}
-use Rattle.std.specs.Int.{w32}
-use Rattle.std.specs.Prelude.{pos}
-use Rattle.rh_defs.specs.declared.sizes.TheConstants.{PAGE}
-use Rattle.rh_defs.specs.Heap.{raised}
-use Rattle.rh_defs.specs.Chain.{left_of, no_answer}
 use Rattle.rh_defs.proofs.HeapCalls.{extend-done}
-use Rattle.rh_heap.specs.Spans.{SpellsIn, heap_in}
-use Rattle.rh_slot.specs.Area.{slot_in}
+use Rattle.rh_heap.specs.Spans.{SpellsIn}
 use Rattle.rh_slot.proofs.GrowLaws.{budged, all_blocks, words_grown, raised_by, slid}
 use Rattle.rh_slot.proofs.slot.Slot.lengthen.Goals as goal
 

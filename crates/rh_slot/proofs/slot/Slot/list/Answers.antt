@@ -1,7 +1,5 @@
 -- The walk ends where no block is left.
-use Rattle.std.proofs.Common.{◌∙◌, ap, sym, take, arith}
-use Rattle.rh_defs.specs.Listing.{block_items}
-use Rattle.rh_slot.specs.Area.{slot_in}
+use Rattle.rh_slot.proofs.Common.{◌∙◌, ap, sym, take, arith, block_items, slot_in}
 use Rattle.rh_slot.specs.declared.row.FlexWalk.{FlexWalk}
 use Rattle.rh_slot.proofs.ItemLaws.{room_left, one_more, all_listed}
 use Rattle.rh_slot.proofs.slot.Slot.list.Goals as goal

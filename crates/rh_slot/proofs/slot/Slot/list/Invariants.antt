@@ -1,8 +1,5 @@
 -- What was listed are the blocks that the walk has passed.
-use Rattle.std.proofs.Common.{◌≡◌, ◌-◌, length, take}
-use Rattle.rh_defs.specs.Listing.{block_items}
-use Rattle.rh_slot.specs.Area.{slot_in}
-use Rattle.rh_slot.specs.Row.{WalksIn}
+use Rattle.rh_slot.proofs.Common.{◌≡◌, ◌-◌, length, take, block_items, slot_in, WalksIn}
 use Rattle.rh_slot.proofs.slot.Slot.list.Given as goal
 
 abbrev pub invariant-walk : goal.invariant-walk

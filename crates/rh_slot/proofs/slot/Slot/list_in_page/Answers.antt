@@ -1,7 +1,5 @@
 -- Each turn lists one block, whose header is read in the page's bytes.
-use Rattle.std.proofs.Common.{◌∙◌, ap, arith}
-use Rattle.std.specs.Prelude.{Some}
-use Rattle.rh_slot.specs.Area.{slot_in}
+use Rattle.rh_slot.proofs.Common.{◌∙◌, ap, arith, Some, slot_in}
 use Rattle.rh_slot.proofs.ItemLaws.{room_left, one_more}
 use Rattle.rh_slot.proofs.WalkLaws.{walk_at, walked_most, no_room, few_passed, walks_on, step_item}
 use Rattle.rh_slot.proofs.PageLaws.{anchors_long, beyond, passes}

@@ -1,7 +1,5 @@
 -- Nothing to do, refused, or longer.
-use Rattle.std.proofs.Common.{sym, ap, ◌∙◌}
-use Rattle.std.specs.Prelude.{not, ◌&&◌, nat_lt}
-use Rattle.rh_slot.specs.Area.{slot_in}
+use Rattle.rh_slot.proofs.Common.{sym, ap, ◌∙◌, not, ◌&&◌, nat_lt, slot_in}
 use Rattle.rh_slot.proofs.SpanLaws.{budging_same}
 use Rattle.rh_slot.proofs.GrowLaws.{growth_none, growth_stuck, growth_by}
 use Rattle.rh_slot.proofs.slot.Slot.make_room.Goals as goal

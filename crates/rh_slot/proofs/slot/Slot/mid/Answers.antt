@@ -1,9 +1,6 @@
-use Rattle.std.proofs.Common.{refl, ap, ◌∙◌, w32}
-use Rattle.std.proofs.lemmas.Int.{to_z-of_z}
-use Rattle.rh_defs.specs.Pieces.{moved}
+use Rattle.rh_slot.proofs.Common.{refl, ap, ◌∙◌, to_z-of_z, moved, no_answer, slot_in}
+use Rattle.std.proofs.Common.{w32}
 use Rattle.rh_defs.specs.Slot.{taken_out}
-use Rattle.rh_defs.specs.Chain.{no_answer}
-use Rattle.rh_slot.specs.Area.{slot_in}
 use Rattle.rh_slot.proofs.LeaveLaws.{refuses, in_other_words}
 use Rattle.rh_slot.proofs.EditLaws.{mid_none, mid_above, mid_short, mid_at}
 use Rattle.rh_slot.proofs.slot.Slot.mid.Goals as goal

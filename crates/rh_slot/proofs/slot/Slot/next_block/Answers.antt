@@ -1,6 +1,5 @@
 -- The walk stands where the blocks that it has passed end.
-use Rattle.std.proofs.Common.{sym, ap, ◌∙◌, arith}
-use Rattle.std.specs.Prelude.{Some}
+use Rattle.rh_slot.proofs.Common.{sym, ap, ◌∙◌, arith, Some}
 use Rattle.rh_slot.proofs.WalkLaws.{walk_at, step_item, no_step, all_passed, walks_on, few_passed}
 use Rattle.rh_slot.proofs.slot.Slot.next_block.Goals as goal
 

@@ -1,8 +1,5 @@
 -- The walk stands where some blocks end, in the page or above it. If it began with those below passed, it has passed these.
-use Rattle.std.proofs.Common.{◌≤◌, ◌+◌, ◌-◌}
-use Rattle.rh_defs.specs.Slot.{slot_length}
-use Rattle.rh_slot.specs.Area.{slot_in}
-use Rattle.rh_slot.specs.Row.{Walked, WalksIn}
+use Rattle.rh_slot.proofs.Common.{◌≤◌, ◌+◌, ◌-◌, slot_length, slot_in, Walked, WalksIn}
 use Rattle.rh_slot.proofs.slot.Slot.pass_in_page.Given as goal
 
 abbrev pub invariant-walk : goal.invariant-walk

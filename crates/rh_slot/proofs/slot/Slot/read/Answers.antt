@@ -1,6 +1,5 @@
-use Rattle.std.proofs.Common.{length, sym, ap, ◌∙◌}
+use Rattle.rh_slot.proofs.Common.{length, sym, ap, ◌∙◌, slot_in}
 use Rattle.rh_defs.specs.Chain.{outcome_of, result_or}
-use Rattle.rh_slot.specs.Area.{slot_in}
 use Rattle.rh_slot.proofs.EditLaws.{read_bytes, read_none, read_beyond, read_at, beyond}
 use Rattle.rh_slot.proofs.slot.Slot.read.Goals as goal
 

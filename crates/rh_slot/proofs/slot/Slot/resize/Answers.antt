@@ -1,7 +1,5 @@
 -- The heap as it is grants the resize, or all is asked again.
-use Rattle.std.proofs.Common.{arith}
-use Rattle.std.proofs.lemmas.Int.{to_z-of_z}
-use Rattle.std.specs.Int.{w32}
+use Rattle.rh_slot.proofs.Common.{arith, to_z-of_z, w32}
 use Rattle.rh_slot.proofs.SpanLaws.{is_span_at}
 use Rattle.rh_slot.proofs.CHeapLaws.{resized_here, resized_low_here}
 use Rattle.rh_slot.proofs.slot.Slot.resize.Goals as goal

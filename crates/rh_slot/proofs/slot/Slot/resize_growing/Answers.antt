@@ -1,11 +1,6 @@
 -- The shortage is made up, and then the heap's resize is done.
-use Rattle.std.proofs.Common.{sym, ap, refl, arith}
-use Rattle.std.proofs.lemmas.Int.{to_z-of_z}
-use Rattle.std.proofs.lemmas.Result.{err_from_is_err_and}
-use Rattle.std.specs.Int.{w32}
-use Rattle.rh_defs.specs.Heap.{block_at, resize_growing, new_size}
-use Rattle.rh_slot.specs.Area.{slot_in}
-use Rattle.rh_slot.specs.CHeap.{lengthened}
+use Rattle.rh_slot.proofs.Common.{sym, ap, refl, arith, to_z-of_z, err_from_is_err_and, w32, block_at, slot_in, lengthened}
+use Rattle.rh_defs.specs.Heap.{resize_growing, new_size}
 use Rattle.rh_slot.proofs.SpanLaws.{is_span_at, heap_at, is_slot, budging_same}
 use Rattle.rh_slot.proofs.LeaveLaws.{refuses}
 use Rattle.rh_slot.proofs.CHeapLaws.{Resizes, need_found_ok, resize_refused, resize_stopped, resize_most, resized_there, resize_is_done, resize_longer}

@@ -1,7 +1,5 @@
 -- Whether budging is on does not stand in the bytes.
-use Rattle.std.proofs.Common.{refl}
-use Rattle.rh_defs.specs.SlotImage.{slot_of}
-use Rattle.rh_slot.specs.Area.{slot_in}
+use Rattle.rh_slot.proofs.Common.{refl, slot_of, slot_in}
 use Rattle.rh_slot.proofs.SpanLaws.{is_slot}
 use Rattle.rh_slot.proofs.slot.Slot.set_budge.Goals as goal
 

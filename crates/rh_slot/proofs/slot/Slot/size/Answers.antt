@@ -1,5 +1,4 @@
-use Rattle.std.proofs.Common.{sym}
-use Rattle.rh_slot.specs.Area.{slot_in}
+use Rattle.rh_slot.proofs.Common.{sym, slot_in}
 use Rattle.rh_slot.proofs.FlexLaws.{size_none, size_found}
 use Rattle.rh_slot.proofs.slot.Slot.size.Goals as goal
 

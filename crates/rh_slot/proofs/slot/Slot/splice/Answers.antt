@@ -1,7 +1,4 @@
-use Rattle.std.proofs.Common.{◌+◌, ◌-◌, refl, ap, arith}
-use Rattle.rh_defs.specs.Chain.{no_answer}
-use Rattle.rh_defs.proofs.SlotLaws.{wider}
-use Rattle.rh_slot.specs.Area.{slot_in}
+use Rattle.rh_slot.proofs.Common.{◌+◌, ◌-◌, refl, ap, arith, no_answer, wider, slot_in}
 use Rattle.rh_slot.proofs.SpanLaws.{budging_same}
 use Rattle.rh_slot.proofs.LeaveLaws.{leaves, refuses, then_edited, then_resized}
 use Rattle.rh_slot.proofs.FlexLaws.{reach, walked_past, words_grown, settled, has_room, has_none, false-true}

@@ -1,9 +1,7 @@
 -- The area is opened, given a page and an empty heap.
-use Rattle.std.proofs.Common.{true, ◌∙◌, refl, sym, subst, arith}
-use Rattle.rh_defs.specs.Memory.{IsOpen, OnlyArea}
+use Rattle.rh_slot.proofs.Common.{true, ◌∙◌, refl, sym, subst, arith, IsOpen, OnlyArea, OnlyArea-both, OnlyArea-from_Edited, SpellsIn}
 use Rattle.rh_defs.specs.Slot.{new_slot}
-use Rattle.rh_defs.proofs.MemoryLaws.{IsOpen-opened, OnlyArea-both, OnlyArea-from_Edited}
-use Rattle.rh_slot.specs.Area.{SpellsIn}
+use Rattle.rh_defs.proofs.MemoryLaws.{IsOpen-opened}
 use Rattle.rh_slot.proofs.StartLaws.{Opened, is_granted, page_granted, begin_refused, begin_done, opened_page, spells_new}
 use Rattle.rh_slot.proofs.SpanLaws.{is_slot, slot_now}
 use Rattle.rh_slot.proofs.slot.Slot.start.Goals as goal

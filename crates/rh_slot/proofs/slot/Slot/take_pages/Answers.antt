@@ -1,8 +1,5 @@
 -- Refused, or the pages of the shortage and of one header more.
-use Rattle.std.proofs.Common.{sym, ap, ◌∙◌, arith}
-use Rattle.std.proofs.lemmas.Result.{err_from_is_err_and}
-use Rattle.std.specs.Prelude.{Ok, not, ◌&&◌, nat_lt}
-use Rattle.rh_slot.specs.Area.{slot_in}
+use Rattle.rh_slot.proofs.Common.{sym, ap, ◌∙◌, arith, err_from_is_err_and, Ok, not, ◌&&◌, nat_lt, slot_in}
 use Rattle.rh_slot.proofs.SpanLaws.{is_span_at, heap_at, budging_same}
 use Rattle.rh_slot.proofs.GrowLaws.{need_most}
 use Rattle.rh_slot.proofs.CHeapLaws.{claim_needs, take_zero, take_stuck, take_done}

@@ -1,8 +1,5 @@
 -- The walk stands where some blocks end.
-use Rattle.std.proofs.Common.{◌-◌}
-use Rattle.rh_defs.specs.Slot.{slot_length}
-use Rattle.rh_slot.specs.Area.{slot_in}
-use Rattle.rh_slot.specs.Row.{Walked}
+use Rattle.rh_slot.proofs.Common.{◌-◌, slot_length, slot_in, Walked}
 use Rattle.rh_slot.proofs.slot.Slot.top_from.Given as goal
 
 abbrev pub invariant-walk : goal.invariant-walk

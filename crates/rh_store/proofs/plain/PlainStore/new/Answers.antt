@@ -1,12 +1,9 @@
-use Rattle.std.proofs.Common.{◌≡◌, ◌+◌, ◌%◌, ℕ, false, List, [], ◌∷◌, length, refl, sym, ap, subst, ◌∙◌, arith}
-use Rattle.std.specs.Prelude.{All, None}
+use Rattle.rh_store.proofs.Common.{◌≡◌, ◌+◌, ◌%◌, ℕ, false, List, [], ◌∷◌, length, refl, sym, ap, subst, ◌∙◌, arith, All, None, Area, MAX_AREAS, PAGE}
+use Rattle.rh_store.proofs.Common.{contents, memory_of}
 use Rattle.std.proofs.Math.ListN.{length-append}
-use Rattle.rh_store.specs.declared.area.Area.{Area}
-use Rattle.rh_defs.specs.declared.sizes.TheConstants.{MAX_AREAS, PAGE}
-use Rattle.rh_store.specs.Areas.{IsTidy, HasRoom, contents}
+use Rattle.rh_store.specs.Areas.{IsTidy, HasRoom}
 use Rattle.rh_defs.proofs.MemoryLaws.{pages_below-none}
 use Rattle.rh_store.proofs.AreasLaws.{contents-nil, contents-push, tidy-push, reserved-push, memory-fresh}
-use Rattle.rh_store.specs.Plain.{memory_of}
 use Rattle.rh_store.proofs.plain.PlainStore.new.Goals as goal
 
 pub loop-k-init : goal.loop-k-init

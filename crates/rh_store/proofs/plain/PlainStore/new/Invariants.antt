@@ -1,6 +1,5 @@
-use Rattle.std.proofs.Common.{◌≡◌, ℕ, length}
-use Rattle.std.specs.Prelude.{All, None}
-use Rattle.rh_store.specs.Areas.{IsTidy, HasRoom, contents}
+use Rattle.rh_store.proofs.Common.{◌≡◌, ℕ, length, All, None, contents}
+use Rattle.rh_store.specs.Areas.{IsTidy, HasRoom}
 use Rattle.rh_store.proofs.plain.PlainStore.new.Given as goal
 
 abbrev pub invariant-loop-k : goal.invariant-loop-k

@@ -1,10 +1,5 @@
-use Rattle.std.proofs.Common.{◌-◌, ◌%◌, length, sym, ap, ◌∙◌, arith}
-use Rattle.rh_defs.specs.declared.sizes.TheConstants.{PAGE}
-use Rattle.rh_defs.specs.Bytes.{part}
-use Rattle.rh_defs.specs.Memory.{bytes}
-use Rattle.rh_store.specs.Kept.{open_index}
-use Rattle.rh_store.proofs.AreasLaws.{open_read}
-use Rattle.rh_store.specs.Plain.{memory_of, whole_law}
+use Rattle.rh_store.proofs.Common.{◌-◌, ◌%◌, length, sym, ap, ◌∙◌, arith, PAGE, part, bytes, open_index, open_read, memory_of}
+use Rattle.rh_store.specs.Plain.{whole_law}
 use Rattle.rh_store.proofs.plain.PlainStorePaged.rest_of_page.Goals as goal
 
 pub index-requires : goal.index-requires

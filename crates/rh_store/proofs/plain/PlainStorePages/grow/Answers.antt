@@ -1,14 +1,9 @@
-use Rattle.std.proofs.Common.{◌≡◌, ◌+◌, ◌-◌, ◌*◌, ◌++◌, ℕ, length, replicate, subst, ap, ◌∙◌, arith}
-use Rattle.std.specs.Prelude.{Some}
+use Rattle.rh_store.proofs.Common.{◌≡◌, ◌+◌, ◌-◌, ◌*◌, ◌++◌, ℕ, length, replicate, subst, ap, ◌∙◌, arith, Some, bytes, MAX_AREAS, PAGE, ChangedAt}
+use Rattle.rh_store.proofs.Common.{numbered_areas, memory_of, changed, open_index}
 use Rattle.std.proofs.lemmas.List.{length-replicate}
 use Rattle.std.proofs.Math.ListN.{length-append}
-use Rattle.rh_defs.specs.Memory.{bytes}
-use Rattle.rh_defs.specs.declared.sizes.TheConstants.{MAX_AREAS, PAGE}
-use Rattle.rh_store.specs.Areas.{ChangedAt}
-use Rattle.rh_store.specs.Kept.{whole_areas, numbered_areas, within_pool}
-use Rattle.rh_store.specs.Plain.{memory_of}
-use Rattle.rh_store.proofs.AreasLaws.{changed, memory-grown, room_at-all}
-use Rattle.rh_store.specs.Kept.{open_index}
+use Rattle.rh_store.specs.Kept.{whole_areas, within_pool}
+use Rattle.rh_store.proofs.AreasLaws.{memory-grown, room_at-all}
 use Rattle.rh_store.proofs.plain.PlainStorePages.grow.Goals as goal
 
 pub overflow_add-n : goal.overflow_add-n

@@ -1,12 +1,7 @@
-use Rattle.std.proofs.Common.{◌+◌, ◌-◌, ◌*◌, length, take, subst, arith}
-use Rattle.std.specs.Prelude.{Some}
+use Rattle.rh_store.proofs.Common.{◌+◌, ◌-◌, ◌*◌, length, take, subst, arith, Some, bytes, MAX_AREAS, PAGE, ChangedAt, numbered_areas, memory_of, changed}
 use Rattle.std.proofs.lemmas.List.{length-take-le}
-use Rattle.rh_defs.specs.Memory.{bytes}
-use Rattle.rh_defs.specs.declared.sizes.TheConstants.{MAX_AREAS, PAGE}
-use Rattle.rh_store.specs.Areas.{ChangedAt}
-use Rattle.rh_store.specs.Kept.{whole_areas, numbered_areas}
-use Rattle.rh_store.specs.Plain.{memory_of}
-use Rattle.rh_store.proofs.AreasLaws.{changed, memory-shrunk}
+use Rattle.rh_store.specs.Kept.{whole_areas}
+use Rattle.rh_store.proofs.AreasLaws.{memory-shrunk}
 use Rattle.rh_store.proofs.plain.PlainStorePages.shrink.Goals as goal
 
 pub invariant_of-self : goal.invariant_of-self

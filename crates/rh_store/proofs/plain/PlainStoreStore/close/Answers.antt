@@ -1,11 +1,6 @@
-use Rattle.std.proofs.Common.{◌+◌, ◌/◌, refl, ap, ◌∙◌, arith}
-use Rattle.std.specs.Prelude.{None}
-use Rattle.rh_defs.specs.Memory.{bytes}
-use Rattle.rh_defs.specs.declared.sizes.TheConstants.{MAX_AREAS, PAGE}
+use Rattle.rh_store.proofs.Common.{◌+◌, ◌/◌, refl, ap, ◌∙◌, arith, None, bytes, MAX_AREAS, PAGE, numbered_areas, memory_of, changed}
 use Rattle.rh_store.specs.Areas.{memory_in}
-use Rattle.rh_store.specs.Kept.{numbered_areas}
-use Rattle.rh_store.specs.Plain.{memory_of}
-use Rattle.rh_store.proofs.AreasLaws.{changed, memory-closed}
+use Rattle.rh_store.proofs.AreasLaws.{memory-closed}
 use Rattle.rh_store.proofs.plain.PlainStoreStore.close.Goals as goal
 
 pub invariant_of-self : goal.invariant_of-self

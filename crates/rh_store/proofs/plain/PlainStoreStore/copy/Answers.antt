@@ -1,12 +1,4 @@
-use Rattle.std.proofs.Common.{subst}
-use Rattle.std.specs.Prelude.{Some}
-use Rattle.rh_defs.specs.Bytes.{put, part}
-use Rattle.rh_defs.specs.Memory.{bytes}
-use Rattle.rh_defs.proofs.BytesLaws.{length-put}
-use Rattle.rh_defs.specs.declared.sizes.TheConstants.{MAX_AREAS}
-use Rattle.rh_store.specs.Areas.{ChangedAt}
-use Rattle.rh_store.specs.Plain.{memory_of}
-use Rattle.rh_store.proofs.AreasLaws.{stays, memory-rewritten}
+use Rattle.rh_store.proofs.Common.{subst, Some, put, part, bytes, length-put, MAX_AREAS, ChangedAt, memory_of, stays, memory-rewritten}
 use Rattle.rh_store.proofs.plain.PlainStoreStore.copy.Goals as goal
 
 pub invariant_of-self : goal.invariant_of-self

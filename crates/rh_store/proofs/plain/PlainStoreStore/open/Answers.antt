@@ -1,11 +1,7 @@
-use Rattle.std.proofs.Common.{◌≡◌, ◌<◌, ◌+◌, ◌/◌, List, ℕ, length, refl, sym, ap, subst, arith}
-use Rattle.std.specs.Prelude.{Option, Some, [], IsSome, IsNone, unwrap_or}
-use Rattle.rh_store.specs.declared.area.Area.{Area}
-use Rattle.rh_defs.specs.declared.sizes.TheConstants.{MAX_AREAS, PAGE}
-use Rattle.rh_store.specs.Areas.{contents}
-use Rattle.rh_store.specs.Plain.{memory_of}
+use Rattle.rh_store.proofs.Common.{◌≡◌, ◌<◌, ◌+◌, ◌/◌, List, ℕ, length, refl, sym, ap, subst, arith, Option, Some, [], IsSome, IsNone, unwrap_or, Area}
+use Rattle.rh_store.proofs.Common.{MAX_AREAS, PAGE, contents, memory_of, changed}
 use Rattle.rh_defs.proofs.MemoryLaws.{open_below-all, open_below-none}
-use Rattle.rh_store.proofs.AreasLaws.{changed, memory-opened, none_is}
+use Rattle.rh_store.proofs.AreasLaws.{memory-opened, none_is}
 use Rattle.rh_store.proofs.plain.PlainStoreStore.open.Goals as goal
 
 pub invariant_of-self : goal.invariant_of-self

@@ -1,8 +1,4 @@
-use Rattle.std.proofs.Common.{length, ap, arith}
-use Rattle.rh_defs.specs.Memory.{bytes}
-use Rattle.rh_store.specs.Kept.{open_index}
-use Rattle.rh_store.proofs.AreasLaws.{open_read}
-use Rattle.rh_store.specs.Plain.{memory_of}
+use Rattle.rh_store.proofs.Common.{length, ap, arith, bytes, open_index, open_read, memory_of}
 use Rattle.rh_store.proofs.plain.PlainStoreWords.len.Goals as goal
 
 pub index-requires : goal.index-requires

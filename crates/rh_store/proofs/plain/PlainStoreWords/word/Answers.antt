@@ -1,9 +1,5 @@
-use Rattle.std.proofs.Common.{length, sym, ap, ◌∙◌, arith}
+use Rattle.rh_store.proofs.Common.{length, sym, ap, ◌∙◌, arith, bytes, open_index, open_read, memory_of}
 use Rattle.rh_defs.specs.Bytes.{word}
-use Rattle.rh_defs.specs.Memory.{bytes}
-use Rattle.rh_store.specs.Kept.{open_index}
-use Rattle.rh_store.proofs.AreasLaws.{open_read}
-use Rattle.rh_store.specs.Plain.{memory_of}
 use Rattle.rh_store.proofs.plain.PlainStoreWords.word.Goals as goal
 
 pub index-requires : goal.index-requires

@@ -1,9 +1,4 @@
-use Rattle.rh_defs.specs.Bytes.{put, part}
-use Rattle.rh_defs.specs.Memory.{bytes}
-use Rattle.rh_defs.proofs.BytesLaws.{length-put}
-use Rattle.rh_defs.specs.declared.sizes.TheConstants.{MAX_AREAS}
-use Rattle.rh_store.specs.Plain.{memory_of}
-use Rattle.rh_store.proofs.AreasLaws.{stays, memory-rewritten}
+use Rattle.rh_store.proofs.Common.{put, part, bytes, length-put, MAX_AREAS, memory_of, stays, memory-rewritten}
 use Rattle.rh_store.proofs.plain.PlainStoreWordsMut.slide.Goals as goal
 
 pub invariant_of-self : goal.invariant_of-self

@@ -1,10 +1,4 @@
-use Rattle.std.proofs.Common.{replicate}
-use Rattle.rh_defs.specs.Bytes.{put}
-use Rattle.rh_defs.specs.Memory.{bytes}
-use Rattle.rh_defs.proofs.BytesLaws.{length-put}
-use Rattle.rh_defs.specs.declared.sizes.TheConstants.{MAX_AREAS}
-use Rattle.rh_store.specs.Plain.{memory_of}
-use Rattle.rh_store.proofs.AreasLaws.{stays, memory-rewritten}
+use Rattle.rh_store.proofs.Common.{replicate, put, bytes, length-put, MAX_AREAS, memory_of, stays, memory-rewritten}
 use Rattle.rh_store.proofs.plain.PlainStoreWordsMut.zero.Goals as goal
 
 pub invariant_of-self : goal.invariant_of-self

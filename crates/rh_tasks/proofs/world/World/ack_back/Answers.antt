@@ -1,6 +1,5 @@
-use Rattle.std.proofs.Common.{refl, sym}
+use Rattle.rh_tasks.proofs.Common.{refl, sym, reordered-refl, same-alike}
 use Rattle.rh_defs.specs.IncomingEvents.{ack_back}
-use Rattle.rh_tasks.proofs.Reorders.{reordered-refl, same-alike}
 use Rattle.rh_tasks.proofs.world.World.ack_back.Goals as goal
 
 pub returns-in_default : goal.returns-in_default

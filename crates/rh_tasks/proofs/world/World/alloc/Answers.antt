@@ -1,15 +1,8 @@
-use Rattle.std.proofs.Common.{refl, ap, arith}
-use Rattle.std.proofs.lemmas.Result.{err_from_is_err_and}
+use Rattle.rh_tasks.proofs.Common.{refl, ap, arith, err_from_is_err_and, slot_alloc, kept_of, shown_of, ends, nobody, owned, granted}
 use Rattle.rh_defs.specs.declared.command.Command.TheVariants as command
-use Rattle.rh_defs.specs.Slot.{slot_alloc}
 use Rattle.rh_defs.specs.Commands.{alloc}
-use Rattle.rh_tasks.specs.View.{kept_of, shown_of}
-use Rattle.rh_tasks.proofs.Chains.{ends}
 use Rattle.rh_tasks.proofs.Ranges.{alloc-anchor}
-use Rattle.rh_tasks.proofs.Finding.{nobody}
-use Rattle.rh_tasks.proofs.Moves.{owned}
 use Rattle.rh_tasks.proofs.Addresses.{grant-of, slot_alloc-low}
-use Rattle.rh_tasks.proofs.Leaves.{granted}
 use Rattle.rh_tasks.proofs.SlotCommands.{placed-done, placed-world, placed-refused}
 use Rattle.rh_tasks.proofs.world.World.alloc.Goals as goal
 

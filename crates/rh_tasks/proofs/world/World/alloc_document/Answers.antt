@@ -1,12 +1,5 @@
-use Rattle.std.proofs.Common.{ℕ, ap, sym}
-use Rattle.std.specs.Prelude.{Ok}
-use Rattle.std.proofs.lemmas.Result.{err_from_is_err_and}
-use Rattle.rh_defs.specs.Chain.{Granted}
-use Rattle.rh_defs.specs.Slot.{Slot, slot_alloc}
-use Rattle.rh_defs.specs.Desk.{Desk}
+use Rattle.rh_tasks.proofs.Common.{ℕ, ap, sym, Ok, err_from_is_err_and, Granted, Slot, slot_alloc, Desk, kept_of, shown_of, begins, ends}
 use Rattle.rh_defs.proofs.SlotKeeps.{slot_alloc-grants}
-use Rattle.rh_tasks.specs.View.{kept_of, shown_of}
-use Rattle.rh_tasks.proofs.Chains.{begins, ends}
 use Rattle.rh_tasks.proofs.Slides.{seat-sits, slide-granted, slide-desk, slide-world, slide-refused}
 use Rattle.rh_tasks.proofs.world.World.alloc_document.Goals as goal
 

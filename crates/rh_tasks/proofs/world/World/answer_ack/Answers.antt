@@ -1,10 +1,4 @@
-use Rattle.std.proofs.Common.{refl, sym, subst}
-use Rattle.std.specs.Prelude.{◌<◌, length}
-use Rattle.rh_defs.specs.declared.message.EventCode.TheVariants.{User}
-use Rattle.rh_tasks.specs.Shown.{Shown}
-use Rattle.rh_tasks.specs.Polls.{IsAt}
-use Rattle.rh_tasks.proofs.Places.{member-at}
-use Rattle.rh_tasks.proofs.Reorders.{reordered-refl}
+use Rattle.rh_tasks.proofs.Common.{refl, sym, subst, ◌<◌, length, User, Shown, IsAt, member-at, reordered-refl}
 use Rattle.rh_tasks.proofs.ScrapTransfers.{as-after, ack-none, ack-done, ack-refused}
 use Rattle.rh_tasks.proofs.world.World.answer_ack.Goals as goal
 

@@ -1,13 +1,5 @@
-use Rattle.std.proofs.Common.{◌≡◌, refl, sym, ap, subst, arith, length}
-use Rattle.rh_defs.specs.declared.message.EventCode.TheVariants.{User}
-use Rattle.rh_defs.specs.Messages.{Parcel}
-use Rattle.rh_defs.specs.Desk.{Task}
-use Rattle.rh_defs.specs.Order.{IsReordered}
-use Rattle.rh_defs.specs.OutgoingEvents.{Handled, answer_fetch, refused}
-use Rattle.rh_tasks.specs.Shown.{Shown}
-use Rattle.rh_tasks.specs.Polls.{IsAt, IsFor}
-use Rattle.rh_tasks.proofs.Places.{member-at}
-use Rattle.rh_tasks.proofs.Reorders.{reordered-refl}
+use Rattle.rh_tasks.proofs.Common.{◌≡◌, refl, sym, ap, subst, arith, length, User, Parcel, Task, IsReordered, Handled, answer_fetch, refused, Shown, IsAt}
+use Rattle.rh_tasks.proofs.Common.{IsFor, member-at, reordered-refl}
 use Rattle.rh_tasks.proofs.Transmits.{handles-alike, fetch-done, fetch-refused}
 use Rattle.rh_tasks.proofs.world.World.answer_fetch.Goals as goal
 

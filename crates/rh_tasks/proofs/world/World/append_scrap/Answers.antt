@@ -1,6 +1,4 @@
-use Rattle.rh_defs.specs.Bytes.{part}
-use Rattle.rh_defs.specs.Memory.{bytes}
-use Rattle.rh_tasks.proofs.Lists.{Sits}
+use Rattle.rh_tasks.proofs.Common.{part, bytes, Sits}
 use Rattle.rh_tasks.proofs.Buffers.{sits-there, appended-world}
 use Rattle.rh_tasks.proofs.Scraps.{scrap-appended}
 use Rattle.rh_tasks.proofs.world.World.append_scrap.Goals as goal

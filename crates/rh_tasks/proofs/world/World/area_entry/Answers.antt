@@ -1,5 +1,4 @@
-use Rattle.std.specs.Prelude.{slice_get}
-use Rattle.std.proofs.Common.{ap, sym, ◌∙◌}
+use Rattle.rh_tasks.proofs.Common.{slice_get, ap, sym, ◌∙◌}
 use Rattle.rh_tasks.proofs.ItemLaws.{few-items, items-are}
 use Rattle.rh_tasks.proofs.world.World.area_entry.Goals as goal
 

@@ -1,6 +1,4 @@
-use Rattle.std.proofs.lemmas.Result.{err_from_is_err_and}
-use Rattle.rh_tasks.specs.View.{task_of}
-use Rattle.rh_tasks.proofs.Lists.{Sits}
+use Rattle.rh_tasks.proofs.Common.{err_from_is_err_and, task_of, Sits}
 use Rattle.rh_tasks.proofs.Buffers.{sits-there, seat-there, seat-handle}
 use Rattle.rh_tasks.proofs.Takings.{inside, stands-sent, ack-from, stands-dropped, ask-refused, ask-done}
 use Rattle.rh_tasks.proofs.world.World.ask.Goals as goal

@@ -1,12 +1,5 @@
-use Rattle.std.proofs.Common.{ℕ, sym, arith}
-use Rattle.std.specs.Prelude.{length, slice_get, Option, Ok}
-use Rattle.std.proofs.lemmas.Result.{err_from_is_err_and}
-use Rattle.rh_defs.specs.declared.listing.BlockItem.{BlockItem}
-use Rattle.rh_defs.specs.Chain.{Granted}
-use Rattle.rh_defs.specs.Listing.{block_items, blocks_at}
-use Rattle.rh_tasks.proofs.Chains.{ends}
-use Rattle.rh_tasks.proofs.Finding.{nobody}
-use Rattle.rh_tasks.proofs.Moves.{owned}
+use Rattle.rh_tasks.proofs.Common.{ℕ, sym, arith, length, slice_get, Option, Ok, err_from_is_err_and, BlockItem, Granted, block_items, ends, nobody, owned}
+use Rattle.rh_defs.specs.Listing.{blocks_at}
 use Rattle.rh_tasks.proofs.QuestionLaws.{of-slot}
 use Rattle.rh_tasks.proofs.Readers.{few-blocks}
 use Rattle.rh_tasks.proofs.world.World.blocks.Goals as goal

@@ -1,5 +1,4 @@
-use Rattle.std.proofs.Common.{refl}
-use Rattle.std.proofs.lemmas.Result.{err_from_is_err_and}
+use Rattle.rh_tasks.proofs.Common.{refl, err_from_is_err_and}
 use Rattle.rh_tasks.proofs.SightLaws.{blocks-are, no-blocks}
 use Rattle.rh_tasks.proofs.TransferBlocks.{place-is, place-none, seat-of}
 use Rattle.rh_tasks.proofs.world.World.blocks_in.Goals as goal

@@ -1,12 +1,5 @@
-use Rattle.std.proofs.Common.{List, refl}
-use Rattle.std.specs.Prelude.{Ok}
-use Rattle.std.proofs.lemmas.Result.{err_from_is_err_and}
-use Rattle.rh_defs.specs.declared.listing.BlockItem.{BlockItem}
-use Rattle.rh_defs.specs.Chain.{Granted}
-use Rattle.rh_defs.specs.Listing.{block_items}
+use Rattle.rh_tasks.proofs.Common.{List, refl, Ok, err_from_is_err_and, BlockItem, Granted, block_items, ends, nobody}
 use Rattle.rh_tasks.specs.Lists.{blocks_of}
-use Rattle.rh_tasks.proofs.Chains.{ends}
-use Rattle.rh_tasks.proofs.Finding.{nobody}
 use Rattle.rh_tasks.proofs.QuestionLaws.{of-slot}
 use Rattle.rh_tasks.proofs.world.World.blocks_of.Goals as goal
 

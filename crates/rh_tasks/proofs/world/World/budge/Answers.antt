@@ -1,8 +1,5 @@
-use Rattle.std.proofs.Common.{refl, ap, sym}
-use Rattle.std.proofs.lemmas.Result.{err_from_is_err_and}
+use Rattle.rh_tasks.proofs.Common.{refl, ap, sym, err_from_is_err_and, ends, nobody}
 use Rattle.rh_defs.specs.Commands.{budge}
-use Rattle.rh_tasks.proofs.Chains.{ends}
-use Rattle.rh_tasks.proofs.Finding.{nobody}
 use Rattle.rh_tasks.proofs.Budges.{Flagged, budge-done, budge-world}
 use Rattle.rh_tasks.proofs.world.World.budge.Goals as goal
 

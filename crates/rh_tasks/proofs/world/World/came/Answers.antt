@@ -1,5 +1,4 @@
-use Rattle.std.proofs.Common.{sym, refl}
-use Rattle.rh_tasks.proofs.Reorders.{reordered-refl}
+use Rattle.rh_tasks.proofs.Common.{sym, refl, reordered-refl}
 use Rattle.rh_tasks.proofs.Tables.{save-came, ack-came, load-came, load-ack-came, fetch-ignored, fetch-came, bytes-came}
 use Rattle.rh_tasks.proofs.world.World.came.Goals as goal
 

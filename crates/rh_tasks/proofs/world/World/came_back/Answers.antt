@@ -1,5 +1,4 @@
-use Rattle.std.proofs.Common.{sym, refl}
-use Rattle.rh_tasks.proofs.Reorders.{reordered-refl}
+use Rattle.rh_tasks.proofs.Common.{sym, refl, reordered-refl}
 use Rattle.rh_tasks.proofs.Tables.{sender-back, ack-back, load-ack-back, fetch-back}
 use Rattle.rh_tasks.proofs.world.World.came_back.Goals as goal
 

@@ -1,10 +1,6 @@
-use Rattle.std.proofs.Common.{refl, ap, sym}
-use Rattle.std.proofs.lemmas.Result.{err_from_is_err_and}
+use Rattle.rh_tasks.proofs.Common.{refl, ap, sym, err_from_is_err_and, kept_of, shown_of, Found, ends, done-refused, nobody}
 use Rattle.rh_defs.specs.Step.{cancel_out}
-use Rattle.rh_tasks.specs.View.{kept_of, shown_of}
-use Rattle.rh_tasks.specs.Finding.{Found}
-use Rattle.rh_tasks.proofs.Chains.{ends, done, done-refused}
-use Rattle.rh_tasks.proofs.Finding.{nobody}
+use Rattle.rh_tasks.proofs.Chains.{done}
 use Rattle.rh_tasks.proofs.Cancels.{sending-stay, sending-world, cancel_out-done, cancel_out-world, cancel_out-refused}
 use Rattle.rh_tasks.proofs.world.World.cancel_out.Goals as goal
 

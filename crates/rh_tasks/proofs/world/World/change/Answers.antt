@@ -1,5 +1,4 @@
-use Rattle.std.proofs.Common.{refl, w32}
-use Rattle.std.proofs.lemmas.Int.{to_z-of_z}
+use Rattle.rh_tasks.proofs.Common.{refl, w32, to_z-of_z}
 use Rattle.rh_defs.specs.declared.command.Command.TheVariants as command
 use Rattle.rh_tasks.proofs.Ranges.{ask-ranged, mid-fits, resize-fits, area-fits, rma_resize-fits}
 use Rattle.rh_tasks.proofs.Told.{told-gives}

@@ -1,5 +1,4 @@
-use Rattle.std.proofs.Common.{w32}
-use Rattle.std.proofs.lemmas.Int.{to_z-of_z}
+use Rattle.rh_tasks.proofs.Common.{w32, to_z-of_z}
 use Rattle.rh_tasks.proofs.world.World.change_area.Goals as goal
 
 pub returns-then-number : goal.returns-then-number

@@ -1,6 +1,4 @@
-use Rattle.std.proofs.Common.{refl, sym, arith, w32}
-use Rattle.std.proofs.lemmas.Int.{to_z-of_z}
-use Rattle.std.proofs.lemmas.Result.{err_from_is_err_and}
+use Rattle.rh_tasks.proofs.Common.{refl, sym, arith, w32, to_z-of_z, err_from_is_err_and}
 use Rattle.rh_tasks.proofs.Fixed.{KeepsFirst, pages-of}
 use Rattle.rh_tasks.proofs.AreaCommands.{room-if, fixed-refused, fixed-done, fixed-kept}
 use Rattle.rh_tasks.proofs.world.World.change_fixed.Goals as goal

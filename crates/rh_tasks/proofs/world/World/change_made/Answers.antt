@@ -1,6 +1,4 @@
-use Rattle.std.proofs.Common.{refl, sym, w32}
-use Rattle.std.proofs.lemmas.Int.{to_z-of_z}
-use Rattle.std.proofs.lemmas.Result.{err_from_is_err_and}
+use Rattle.rh_tasks.proofs.Common.{refl, sym, w32, to_z-of_z, err_from_is_err_and}
 use Rattle.rh_tasks.proofs.Finding.{made-sits, made-number}
 use Rattle.rh_tasks.proofs.MadeCommands.{HasMade}
 use Rattle.rh_tasks.proofs.AreaCommands.{room-if, no-area, made-refused, made-too-big, made-done, made-kept}

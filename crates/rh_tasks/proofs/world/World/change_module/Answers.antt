@@ -1,13 +1,8 @@
-use Rattle.std.proofs.Common.{refl, ap, arith, w32}
-use Rattle.std.proofs.lemmas.Int.{to_z-of_z}
-use Rattle.std.proofs.lemmas.Result.{err_from_is_err_and}
+use Rattle.rh_tasks.proofs.Common.{refl, ap, arith, w32, to_z-of_z, err_from_is_err_and, module_change, kept_of, shown_of, module-granted}
 use Rattle.rh_defs.specs.declared.command.Command.TheVariants as command
 use Rattle.rh_defs.specs.declared.reply.Reply.TheVariants as reply
-use Rattle.rh_defs.specs.Module.{module_change}
 use Rattle.rh_defs.specs.Commands.{change_module}
-use Rattle.rh_tasks.specs.View.{kept_of, shown_of}
 use Rattle.rh_tasks.proofs.Addresses.{grant-of, module_change-moves, whole_pages-small}
-use Rattle.rh_tasks.proofs.Leaves.{module-granted}
 use Rattle.rh_tasks.proofs.ModuleCommands.{changes, area-refused, area-done, area-world}
 use Rattle.rh_tasks.proofs.world.World.change_module.Goals as goal
 

@@ -1,12 +1,6 @@
-use Rattle.std.proofs.Common.{ℕ, ap, arith}
-use Rattle.std.proofs.lemmas.Result.{err_from_is_err_and}
-use Rattle.rh_defs.specs.Chain.{Granted}
-use Rattle.rh_defs.specs.Slot.{Slot, slot_claim}
+use Rattle.rh_tasks.proofs.Common.{ℕ, ap, arith, err_from_is_err_and, Granted, Slot, slot_claim, slot_in, kept_of, shown_of, granted}
 use Rattle.rh_defs.proofs.SlotKeeps.{slot_claim-grants}
-use Rattle.rh_slot.specs.Area.{slot_in}
-use Rattle.rh_tasks.specs.View.{kept_of, shown_of}
 use Rattle.rh_tasks.proofs.Addresses.{grant-of, slot_claim-low}
-use Rattle.rh_tasks.proofs.Leaves.{granted}
 use Rattle.rh_tasks.proofs.Slides.{seat-sits, seat-slot, slide-granted, slide-desk, slide-world, slide-refused}
 use Rattle.rh_tasks.proofs.world.World.claim_buffer.Goals as goal
 

@@ -1,7 +1,5 @@
-use Rattle.std.proofs.Common.{refl}
+use Rattle.rh_tasks.proofs.Common.{refl, reordered-refl, same-alike, sym}
 use Rattle.rh_defs.specs.OutgoingEvents.{fail_sending}
-use Rattle.rh_tasks.proofs.Reorders.{reordered-refl, same-alike}
-use Rattle.std.proofs.Common.{sym}
 use Rattle.rh_tasks.proofs.world.World.fail_sending.Goals as goal
 
 pub returns-in_default : goal.returns-in_default

@@ -1,6 +1,4 @@
-use Rattle.std.proofs.Common.{refl, sym}
-use Rattle.rh_defs.specs.IncomingEvents.{fetch_back}
-use Rattle.rh_tasks.proofs.Reorders.{reordered-refl, same-alike}
+use Rattle.rh_tasks.proofs.Common.{refl, sym, fetch_back, reordered-refl, same-alike}
 use Rattle.rh_tasks.proofs.world.World.fetch_back.Goals as goal
 
 pub returns-in-Some-Draining : goal.returns-in-Some-Draining

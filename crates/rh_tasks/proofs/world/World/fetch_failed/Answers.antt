@@ -1,7 +1,4 @@
-use Rattle.std.proofs.Common.{refl, ap, arith}
-use Rattle.std.specs.Prelude.{length}
-use Rattle.rh_tasks.specs.Shown.{Shown}
-use Rattle.rh_tasks.proofs.Places.{member-at}
+use Rattle.rh_tasks.proofs.Common.{refl, ap, arith, length, Shown, member-at}
 use Rattle.rh_tasks.proofs.Takings.{handles-as, failed-as, later-back, back-asked, back-refused, none-before, some-before}
 use Rattle.rh_tasks.proofs.world.World.fetch_failed.Goals as goal
 

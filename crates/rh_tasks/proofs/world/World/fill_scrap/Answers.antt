@@ -1,10 +1,4 @@
-use Rattle.std.proofs.Common.{ap, arith, length, ◌≤◌, ◌∙◌}
-use Rattle.std.specs.Prelude.{Some}
-use Rattle.rh_defs.specs.Memory.{bytes}
-use Rattle.rh_defs.specs.Slot.{slot_size, slot_block}
-use Rattle.rh_defs.specs.Desk.{Desk}
-use Rattle.rh_tasks.specs.Shown.{Shown}
-use Rattle.rh_tasks.proofs.Lists.{Sits}
+use Rattle.rh_tasks.proofs.Common.{ap, arith, length, ◌≤◌, ◌∙◌, Some, bytes, slot_size, slot_block, Desk, Shown, Sits}
 use Rattle.rh_tasks.proofs.Buffers.{sits-there, seat-there}
 use Rattle.rh_tasks.proofs.Fixed.{fixed-at, pages-of}
 use Rattle.rh_tasks.proofs.Scraps.{seen-slot, source-anchor, source-given, source-high, source-inside, filled-world, filled-desk}

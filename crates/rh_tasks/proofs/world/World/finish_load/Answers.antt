@@ -1,15 +1,8 @@
-use Rattle.std.proofs.Common.{◌≡◌, refl, sym, ap, subst, ◌∙◌}
-use Rattle.std.specs.Prelude.{Ok, Err}
+use Rattle.rh_tasks.proofs.Common.{◌≡◌, refl, sym, ap, subst, ◌∙◌, Ok, Err, slot_block, with_sending, IsReordered, Handled, finish_load, slot_in, task_of}
+use Rattle.rh_tasks.proofs.Common.{reordered-refl, same-alike}
 use Rattle.rh_defs.specs.Sender as sender
-use Rattle.rh_defs.specs.Slot.{slot_block}
-use Rattle.rh_defs.specs.Desk.{with_sending}
-use Rattle.rh_defs.specs.Order.{IsReordered}
-use Rattle.rh_defs.specs.OutgoingEvents.{Handled, finish_load}
-use Rattle.rh_slot.specs.Area.{slot_in}
-use Rattle.rh_tasks.specs.View.{task_of}
 use Rattle.rh_tasks.proofs.Portions.{unsized, sized}
 use Rattle.rh_tasks.proofs.Fetches.{seated, seat-is}
-use Rattle.rh_tasks.proofs.Reorders.{reordered-refl, same-alike}
 use Rattle.rh_tasks.proofs.Transmits.{handles-alike, load-done, load-refused}
 use Rattle.rh_tasks.proofs.world.World.finish_load.Goals as goal
 

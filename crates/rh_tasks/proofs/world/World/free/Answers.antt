@@ -1,10 +1,7 @@
-use Rattle.std.proofs.Common.{refl, ap}
-use Rattle.std.proofs.lemmas.Result.{err_from_is_err_and}
+use Rattle.rh_tasks.proofs.Common.{refl, ap, err_from_is_err_and, idle_block, kept_of, shown_of}
 use Rattle.rh_defs.specs.declared.command.Command.TheVariants as command
 use Rattle.rh_defs.specs.Slot.{slot_free}
-use Rattle.rh_defs.specs.Desk.{idle_block}
 use Rattle.rh_defs.specs.Commands.{free}
-use Rattle.rh_tasks.specs.View.{kept_of, shown_of}
 use Rattle.rh_tasks.proofs.Ranges.{free-anchor}
 use Rattle.rh_tasks.proofs.Calls.{not-idle}
 use Rattle.rh_tasks.proofs.SlotCommands.{same_slot, done_reply, block-done, block-world, block-refused}

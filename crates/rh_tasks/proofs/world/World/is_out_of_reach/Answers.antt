@@ -1,7 +1,4 @@
-use Rattle.std.proofs.Common.{◌≡◌, sym, ◌∙◌, arith, false}
-use Rattle.std.specs.Prelude.{is_some}
-use Rattle.rh_defs.specs.Places.{buffer_at}
-use Rattle.rh_slot.specs.Area.{slot_in}
+use Rattle.rh_tasks.proofs.Common.{◌≡◌, sym, ◌∙◌, arith, false, is_some, buffer_at, slot_in}
 use Rattle.rh_tasks.proofs.Worlds.{handles}
 use Rattle.rh_tasks.proofs.Portions.{buffer-narrow, buffer-none}
 use Rattle.rh_tasks.proofs.Fetches.{seated, in-buffer, in-none, in-own, in-other}

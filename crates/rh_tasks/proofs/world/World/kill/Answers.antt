@@ -1,11 +1,5 @@
-use Rattle.std.proofs.Common.{refl, sym}
-use Rattle.std.proofs.lemmas.Result.{err_from_is_err_and}
+use Rattle.rh_tasks.proofs.Common.{refl, sym, err_from_is_err_and, HasSlot, Found, ends, all-at, nobody, sits}
 use Rattle.rh_defs.specs.Commands.{kill}
-use Rattle.rh_tasks.specs.View.{HasSlot}
-use Rattle.rh_tasks.specs.Finding.{Found}
-use Rattle.rh_tasks.proofs.Chains.{ends}
-use Rattle.rh_tasks.proofs.Lists.{all-at}
-use Rattle.rh_tasks.proofs.Finding.{nobody, sits}
 use Rattle.rh_tasks.proofs.Posts.{has-entry}
 use Rattle.rh_tasks.proofs.Deaths.{kill-done, kill-world, slot-open, queue-then, spells-death}
 use Rattle.rh_tasks.proofs.world.World.kill.Goals as goal

@@ -1,6 +1,4 @@
-use Rattle.std.proofs.Common.{sym, ◌∙◌}
-use Rattle.rh_defs.specs.Desk.{Desk}
-use Rattle.rh_tasks.specs.View.{kept_of, desk_of}
+use Rattle.rh_tasks.proofs.Common.{sym, ◌∙◌, Desk, kept_of, desk_of}
 use Rattle.rh_tasks.proofs.AreaCommands.{file-length, least-other, least-here}
 use Rattle.rh_tasks.proofs.world.World.least_length.Goals as goal
 

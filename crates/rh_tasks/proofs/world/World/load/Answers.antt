@@ -1,15 +1,7 @@
-use Rattle.std.proofs.Common.{refl, ap, arith}
-use Rattle.std.proofs.lemmas.Result.{err_from_is_err_and}
-use Rattle.rh_defs.specs.Slot.{slot_put}
+use Rattle.rh_tasks.proofs.Common.{refl, ap, arith, err_from_is_err_and, slot_put, slot_in, kept_of, shown_of, ends, nobody, owned, granted}
 use Rattle.rh_defs.specs.Commands.{load}
-use Rattle.rh_slot.specs.Area.{slot_in}
-use Rattle.rh_tasks.specs.View.{kept_of, shown_of}
-use Rattle.rh_tasks.proofs.Chains.{ends}
 use Rattle.rh_tasks.proofs.Ranges.{load-anchor}
-use Rattle.rh_tasks.proofs.Finding.{nobody}
-use Rattle.rh_tasks.proofs.Moves.{owned}
 use Rattle.rh_tasks.proofs.Addresses.{grant-of, slot_alloc-low}
-use Rattle.rh_tasks.proofs.Leaves.{granted}
 use Rattle.rh_tasks.proofs.Loads.{put-answers, load-missing, load-refused, load-fits, load-done, load-world}
 use Rattle.rh_tasks.proofs.world.World.load.Goals as goal
 

@@ -1,9 +1,5 @@
-use Rattle.std.proofs.Common.{refl, ap, ◌∙◌}
-use Rattle.rh_defs.specs.declared.message.EventCode.TheVariants.{User}
-use Rattle.rh_defs.specs.declared.message.Letter.{Letter}
+use Rattle.rh_tasks.proofs.Common.{refl, ap, ◌∙◌, User, Letter, Shown, Sits}
 use Rattle.rh_defs.specs.Letters.{load_ack_letter}
-use Rattle.rh_tasks.specs.Shown.{Shown}
-use Rattle.rh_tasks.proofs.Lists.{Sits}
 use Rattle.rh_tasks.proofs.Buffers.{sits-there, seat-there, seat-handle}
 use Rattle.rh_tasks.proofs.Scraps.{seen-desk}
 use Rattle.rh_tasks.proofs.ScrapTransfers.{sent-inside, loaded-sent, loaded-failed}

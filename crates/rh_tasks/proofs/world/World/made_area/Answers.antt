@@ -1,8 +1,4 @@
-use Rattle.std.proofs.Common.{sym, arith}
-use Rattle.rh_defs.specs.Memory.{IsOpen}
-use Rattle.rh_tasks.specs.declared.made.MadeArea.{MadeArea}
-use Rattle.rh_tasks.specs.View.{made_of}
-use Rattle.rh_tasks.proofs.Lists.{Sits, all-at}
+use Rattle.rh_tasks.proofs.Common.{sym, arith, IsOpen, MadeArea, made_of, Sits, all-at}
 use Rattle.rh_tasks.proofs.SightLaws.{made-there, no-made-there}
 use Rattle.rh_tasks.proofs.world.World.made_area.Goals as goal
 use Rattle.rh_tasks.proofs.world.World.made_area.Goals.{After-index-area}

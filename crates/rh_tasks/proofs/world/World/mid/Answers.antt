@@ -1,11 +1,7 @@
-use Rattle.std.proofs.Common.{refl, ap, w32}
-use Rattle.std.proofs.lemmas.Int.{to_z-of_z}
-use Rattle.std.proofs.lemmas.Result.{err_from_is_err_and}
+use Rattle.rh_tasks.proofs.Common.{refl, ap, w32, to_z-of_z, err_from_is_err_and, idle_block, kept_of, shown_of}
 use Rattle.rh_defs.specs.declared.command.Command.TheVariants as command
 use Rattle.rh_defs.specs.Slot.{slot_mid}
-use Rattle.rh_defs.specs.Desk.{idle_block}
 use Rattle.rh_defs.specs.Commands.{mid}
-use Rattle.rh_tasks.specs.View.{kept_of, shown_of}
 use Rattle.rh_tasks.proofs.Ranges.{mid-anchor}
 use Rattle.rh_tasks.proofs.Calls.{not-idle}
 use Rattle.rh_tasks.proofs.SlotCommands.{same_slot, done_reply, block-done, block-world, block-refused}

@@ -1,7 +1,4 @@
-use Rattle.std.proofs.Common.{◌∙◌, arith}
-use Rattle.rh_defs.specs.Commands.{module_start}
-use Rattle.rh_module.specs.Area.{heap_in}
-use Rattle.rh_tasks.specs.View.{the_module}
+use Rattle.rh_tasks.proofs.Common.{◌∙◌, arith, module_start, heap_in, the_module}
 use Rattle.rh_tasks.proofs.SegmentItems.{items_from, small_from}
 use Rattle.rh_tasks.proofs.SightLaws.{module-items}
 use Rattle.rh_tasks.proofs.world.World.module_segments.Goals as goal

@@ -1,7 +1,4 @@
-use Rattle.std.proofs.Common.{◌≡◌, false, refl, sym}
-use Rattle.std.proofs.lemmas.Result.{err_from_is_err_and}
-use Rattle.std.specs.Prelude.{◌&&◌, ◌==◌}
-use Rattle.rh_defs.specs.Places.{overlap}
+use Rattle.rh_tasks.proofs.Common.{◌≡◌, false, refl, sym, err_from_is_err_and, ◌&&◌, ◌==◌, overlap}
 use Rattle.rh_tasks.proofs.Slides.{seat-slot}
 use Rattle.rh_tasks.proofs.TransferBlocks.{place-is, place-none, seat-of, no-source, no-target, no-source-range, no-target-range, colliding, apart, held-part}
 use Rattle.rh_tasks.proofs.TransferBlocks.{moved, moved-keeps, first-false, second-false, both-true}

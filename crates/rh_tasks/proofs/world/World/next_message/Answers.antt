@@ -1,12 +1,5 @@
-use Rattle.std.proofs.Common.{ap, refl, sym}
-use Rattle.std.specs.Prelude.{Option, Ok}
-use Rattle.std.proofs.lemmas.Result.{err_from_is_err_and}
-use Rattle.rh_defs.specs.Chain.{Granted}
-use Rattle.rh_defs.specs.declared.message.EventCode.{EventCode}
-use Rattle.rh_tasks.specs.Finding.{Found}
+use Rattle.rh_tasks.proofs.Common.{ap, refl, sym, Option, Ok, err_from_is_err_and, Granted, EventCode, Found, ends, nobody, sits}
 use Rattle.rh_tasks.specs.Sights.{next_message}
-use Rattle.rh_tasks.proofs.Chains.{ends}
-use Rattle.rh_tasks.proofs.Finding.{nobody, sits}
 use Rattle.rh_tasks.proofs.Posts.{has-entry, is-post}
 use Rattle.rh_tasks.proofs.Readers.{if-ok, if-err}
 use Rattle.rh_tasks.proofs.SightLaws.{next-is}

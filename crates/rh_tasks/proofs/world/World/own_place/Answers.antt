@@ -1,5 +1,4 @@
-use Rattle.std.proofs.Common.{sym, ◌∙◌}
-use Rattle.std.proofs.lemmas.Result.{err_from_is_err_and}
+use Rattle.rh_tasks.proofs.Common.{sym, ◌∙◌, err_from_is_err_and}
 use Rattle.rh_tasks.proofs.Posts.{is-post}
 use Rattle.rh_tasks.proofs.ModuleCommands.{own-missing, own-yours}
 use Rattle.rh_tasks.proofs.world.World.own_place.Goals as goal

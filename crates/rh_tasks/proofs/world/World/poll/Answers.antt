@@ -1,10 +1,7 @@
-use Rattle.std.proofs.Common.{refl}
-use Rattle.std.proofs.lemmas.Result.{err_from_is_err_and}
+use Rattle.rh_tasks.proofs.Common.{refl, err_from_is_err_and, ends, nobody, task_of}
 use Rattle.rh_defs.specs.Step.{poll}
-use Rattle.rh_tasks.proofs.Chains.{ends}
-use Rattle.rh_tasks.proofs.Finding.{nobody, found-in}
+use Rattle.rh_tasks.proofs.Finding.{found-in}
 use Rattle.rh_tasks.proofs.Polls.{none-taken, some-taken, place-then, task-there, poll-none, poll-some}
-use Rattle.rh_tasks.specs.View.{task_of}
 use Rattle.rh_tasks.proofs.world.World.poll.Goals as goal
 
 pub returns-in_err-i : goal.returns-in_err-i

@@ -1,10 +1,4 @@
-use Rattle.std.proofs.Common.{◌≡◌, ◌+◌, ◌-◌, refl, sym, ap, ◌∙◌, arith}
-use Rattle.std.specs.Prelude.{min}
-use Rattle.std.proofs.lemmas.Result.{err_from_is_err_and}
-use Rattle.rh_defs.specs.Slot.{flex_address}
-use Rattle.rh_slot.specs.Area.{slot_in}
-use Rattle.rh_tasks.specs.View.{HasSlot, task_of}
-use Rattle.rh_tasks.proofs.Lists.{all-at}
+use Rattle.rh_tasks.proofs.Common.{◌≡◌, ◌+◌, ◌-◌, refl, sym, ap, ◌∙◌, arith, min, err_from_is_err_and, flex_address, slot_in, HasSlot, task_of, all-at}
 use Rattle.rh_tasks.proofs.SeatRecords.{sits-in}
 use Rattle.rh_tasks.proofs.Portions.{unsized, sized, addressed, stands}
 use Rattle.rh_tasks.proofs.Fetches.{seated, seat-is}

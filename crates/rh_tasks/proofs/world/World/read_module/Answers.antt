@@ -1,15 +1,9 @@
-use Rattle.std.proofs.Common.{◌≡◌, ℕ, ◌∙◌, ap, length, refl, subst, sym, arith}
-use Rattle.std.proofs.lemmas.Result.{err_from_is_err_and}
-use Rattle.std.specs.Prelude.{Some, None, Ok}
+use Rattle.rh_tasks.proofs.Common.{◌≡◌, ℕ, ◌∙◌, ap, length, refl, subst, sym, arith, err_from_is_err_and, Some, None, Ok, Granted, part-drop, heap_in}
+use Rattle.rh_tasks.proofs.Common.{the_module, ends}
 use Rattle.rh_defs.specs.Blocks.{block_bytes}
-use Rattle.rh_defs.specs.Chain.{Granted}
-use Rattle.rh_defs.proofs.BytesLaws.{part-drop}
-use Rattle.rh_module.specs.Area.{heap_in}
 use Rattle.rh_module.proofs.BlockBytes.{block_within}
 use Rattle.rh_slot.proofs.EditLaws.{beyond}
 use Rattle.rh_tasks.specs.Sights.{module_shown}
-use Rattle.rh_tasks.specs.View.{the_module}
-use Rattle.rh_tasks.proofs.Chains.{ends}
 use Rattle.rh_tasks.proofs.Readers.{if-ok, if-err}
 use Rattle.rh_tasks.proofs.SightLaws.{module-given, module-short, module-unsized, sized-bytes, unsized-block}
 use Rattle.rh_tasks.proofs.world.World.read_module.Goals as goal

@@ -1,5 +1,4 @@
-use Rattle.std.proofs.Common.{◌∙◌, length, refl, sym}
-use Rattle.std.proofs.lemmas.Result.{err_from_is_err_and}
+use Rattle.rh_tasks.proofs.Common.{◌∙◌, length, refl, sym, err_from_is_err_and}
 use Rattle.rh_tasks.proofs.Readers.{if-ok, if-err}
 use Rattle.rh_tasks.proofs.SightLaws.{bytes-inside, bytes-outside, no-bytes}
 use Rattle.rh_tasks.proofs.Slides.{seat-slot}

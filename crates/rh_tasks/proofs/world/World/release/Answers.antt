@@ -1,11 +1,8 @@
-use Rattle.std.proofs.Common.{refl, ap}
-use Rattle.std.proofs.lemmas.Result.{err_from_is_err_and}
+use Rattle.rh_tasks.proofs.Common.{refl, ap, err_from_is_err_and, idle_buffer, kept_of, shown_of}
 use Rattle.rh_defs.specs.declared.command.Command.TheVariants as command
 use Rattle.rh_defs.specs.Slot.{slot_release}
-use Rattle.rh_defs.specs.Desk.{idle_buffer}
 use Rattle.rh_defs.specs.Commands.{release}
 use Rattle.rh_slot.proofs.CHeapLaws.{slot_release-none}
-use Rattle.rh_tasks.specs.View.{kept_of, shown_of}
 use Rattle.rh_tasks.proofs.Calls.{not-idle}
 use Rattle.rh_tasks.proofs.SlotCommands.{same_slot, done_reply, buffer-done, buffer-world, buffer-refused}
 use Rattle.rh_tasks.proofs.world.World.release.Goals as goal

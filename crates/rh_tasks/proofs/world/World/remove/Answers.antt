@@ -1,8 +1,4 @@
-use Rattle.std.proofs.Common.{refl, sym}
-use Rattle.std.proofs.lemmas.Result.{err_from_is_err_and}
-use Rattle.rh_defs.specs.Memory.{IsOpen}
-use Rattle.rh_tasks.specs.declared.made.MadeArea.{MadeArea}
-use Rattle.rh_tasks.proofs.Lists.{all-at}
+use Rattle.rh_tasks.proofs.Common.{refl, sym, err_from_is_err_and, IsOpen, MadeArea, all-at}
 use Rattle.rh_tasks.proofs.Finding.{made-sits, made-number}
 use Rattle.rh_tasks.proofs.MadeCommands.{HasMade, remove-none, remove-done, remove-world}
 use Rattle.rh_tasks.proofs.world.World.remove.Goals as goal

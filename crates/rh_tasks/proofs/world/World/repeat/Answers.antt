@@ -1,10 +1,5 @@
-use Rattle.std.proofs.Common.{refl, ap, sym, ◌∙◌}
-use Rattle.std.proofs.lemmas.Result.{err_from_is_err_and}
+use Rattle.rh_tasks.proofs.Common.{refl, ap, sym, ◌∙◌, err_from_is_err_and, set, Found, ends, sits, nobody}
 use Rattle.rh_defs.specs.Step.{repeat}
-use Rattle.std.proofs.Math.ListN.{set}
-use Rattle.rh_tasks.specs.Finding.{Found}
-use Rattle.rh_tasks.proofs.Chains.{ends}
-use Rattle.rh_tasks.proofs.Finding.{sits, nobody}
 use Rattle.rh_tasks.proofs.Repeats.{same-shown, seat-kept, from-live, again-own, repeat-nothing, repeat-refused, repeat-world, repeat-done}
 use Rattle.rh_tasks.proofs.world.World.repeat.Goals as goal
 

@@ -1,17 +1,10 @@
-use Rattle.std.proofs.Common.{refl, ap, arith, w32}
-use Rattle.std.proofs.lemmas.Int.{to_z-of_z}
-use Rattle.std.proofs.lemmas.Result.{err_from_is_err_and}
+use Rattle.rh_tasks.proofs.Common.{refl, ap, arith, w32, to_z-of_z, err_from_is_err_and, None, idle_buffer, kept_of, shown_of, owned, granted}
 use Rattle.rh_defs.specs.declared.command.Command.TheVariants as command
-use Rattle.std.specs.Prelude.{None}
 use Rattle.rh_defs.specs.declared.heap.HeapRefusal.TheVariants.{NotABlock}
 use Rattle.rh_defs.specs.Slot.{slot_resize}
-use Rattle.rh_defs.specs.Desk.{idle_buffer}
 use Rattle.rh_defs.specs.Commands.{resize}
 use Rattle.rh_slot.proofs.CHeapLaws.{resize_refused}
-use Rattle.rh_tasks.specs.View.{kept_of, shown_of}
-use Rattle.rh_tasks.proofs.Moves.{owned}
 use Rattle.rh_tasks.proofs.Addresses.{grant-of, slot_resize-low}
-use Rattle.rh_tasks.proofs.Leaves.{granted}
 use Rattle.rh_tasks.proofs.Calls.{not-idle}
 use Rattle.rh_tasks.proofs.SlotCommands.{placed_slot, placed_reply, moved-done, moved-world, moved-refused}
 use Rattle.rh_tasks.proofs.world.World.resize.Goals as goal

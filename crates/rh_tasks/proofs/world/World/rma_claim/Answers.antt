@@ -1,12 +1,8 @@
-use Rattle.std.proofs.Common.{◌+◌, refl, ap, arith}
-use Rattle.std.proofs.lemmas.Result.{err_from_is_err_and}
+use Rattle.rh_tasks.proofs.Common.{◌+◌, refl, ap, arith, err_from_is_err_and, module_claim, module_start, kept_of, shown_of, module-granted}
 use Rattle.rh_defs.specs.declared.command.Command.TheVariants as command
 use Rattle.rh_defs.specs.declared.reply.Reply.TheVariants as reply
-use Rattle.rh_defs.specs.Module.{module_claim}
-use Rattle.rh_defs.specs.Commands.{module_start, rma_claim}
-use Rattle.rh_tasks.specs.View.{kept_of, shown_of}
+use Rattle.rh_defs.specs.Commands.{rma_claim}
 use Rattle.rh_tasks.proofs.Addresses.{grant-of, module_claim-low}
-use Rattle.rh_tasks.proofs.Leaves.{module-granted}
 use Rattle.rh_tasks.proofs.ModuleCommands.{claims, area-refused, area-done, area-world}
 use Rattle.rh_tasks.proofs.world.World.rma_claim.Goals as goal
 

@@ -1,12 +1,8 @@
-use Rattle.std.proofs.Common.{◌-◌, refl, ap, ◌∙◌}
-use Rattle.std.proofs.lemmas.Result.{err_from_is_err_and}
+use Rattle.rh_tasks.proofs.Common.{◌-◌, refl, ap, ◌∙◌, err_from_is_err_and, no_answer, module_start, kept_of, shown_of, ends}
 use Rattle.rh_defs.specs.declared.command.Command.TheVariants as command
 use Rattle.rh_defs.specs.declared.reply.Reply.TheVariants as reply
-use Rattle.rh_defs.specs.Chain.{no_answer}
 use Rattle.rh_defs.specs.Module.{module_free}
-use Rattle.rh_defs.specs.Commands.{module_start, rma_free}
-use Rattle.rh_tasks.specs.View.{kept_of, shown_of}
-use Rattle.rh_tasks.proofs.Chains.{ends}
+use Rattle.rh_defs.specs.Commands.{rma_free}
 use Rattle.rh_tasks.proofs.ModuleCommands.{frees, free-none, own-unanswered, own-is, area-refused, area-done, area-world}
 use Rattle.rh_tasks.proofs.world.World.rma_free.Goals as goal
 

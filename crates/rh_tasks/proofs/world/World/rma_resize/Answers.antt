@@ -1,14 +1,9 @@
-use Rattle.std.proofs.Common.{◌+◌, ◌-◌, refl, ap, ◌∙◌, arith, w32}
-use Rattle.std.proofs.lemmas.Int.{to_z-of_z}
-use Rattle.std.proofs.lemmas.Result.{err_from_is_err_and}
+use Rattle.rh_tasks.proofs.Common.{◌+◌, ◌-◌, refl, ap, ◌∙◌, arith, w32, to_z-of_z, err_from_is_err_and, module_resize, module_start, kept_of, shown_of, ends}
+use Rattle.rh_tasks.proofs.Common.{module-granted}
 use Rattle.rh_defs.specs.declared.command.Command.TheVariants as command
 use Rattle.rh_defs.specs.declared.reply.Reply.TheVariants as reply
-use Rattle.rh_defs.specs.Module.{module_resize}
-use Rattle.rh_defs.specs.Commands.{module_start, rma_resize}
-use Rattle.rh_tasks.specs.View.{kept_of, shown_of}
+use Rattle.rh_defs.specs.Commands.{rma_resize}
 use Rattle.rh_tasks.proofs.Addresses.{grant-of, module_resize-low}
-use Rattle.rh_tasks.proofs.Chains.{ends}
-use Rattle.rh_tasks.proofs.Leaves.{module-granted}
 use Rattle.rh_tasks.proofs.ModuleCommands.{resizes, resize-none, own-is, area-refused, area-done, area-world}
 use Rattle.rh_tasks.proofs.world.World.rma_resize.Goals as goal
 

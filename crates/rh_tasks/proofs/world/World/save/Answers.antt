@@ -1,8 +1,4 @@
-use Rattle.std.proofs.Common.{refl, ap, sym, ◌∙◌}
-use Rattle.std.proofs.Math.ListN.{set}
-use Rattle.std.proofs.lemmas.Result.{err_from_is_err_and}
-use Rattle.rh_tasks.specs.Finding.{Found}
-use Rattle.rh_tasks.specs.Saves.{source_block}
+use Rattle.rh_tasks.proofs.Common.{refl, ap, sym, ◌∙◌, set, err_from_is_err_and, Found, source_block}
 use Rattle.rh_tasks.proofs.Ranges.{save-anchor, save-leaf}
 use Rattle.rh_tasks.proofs.Repeats.{same-shown, seat-kept}
 use Rattle.rh_tasks.proofs.Saves.{again-found, again-given, save-stopped, save-nobody, may-open, save-refused, save-world, save-done, save-live}

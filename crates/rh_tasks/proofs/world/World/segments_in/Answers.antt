@@ -1,8 +1,4 @@
-use Rattle.std.proofs.Common.{◌∙◌, ap, sym, arith}
-use Rattle.std.specs.Prelude.{Ok}
-use Rattle.std.proofs.lemmas.Result.{err_from_is_err_and}
-use Rattle.rh_defs.specs.Slot.{heap_start}
-use Rattle.rh_slot.specs.Area.{slot_in}
+use Rattle.rh_tasks.proofs.Common.{◌∙◌, ap, sym, arith, Ok, err_from_is_err_and, heap_start, slot_in}
 use Rattle.rh_tasks.proofs.Readers.{small-end}
 use Rattle.rh_tasks.proofs.SegmentItems.{items_from, small_from}
 use Rattle.rh_tasks.proofs.SightLaws.{no-segments, segments-are}

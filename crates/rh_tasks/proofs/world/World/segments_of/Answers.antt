@@ -1,14 +1,6 @@
-use Rattle.std.proofs.Common.{List, ◌∙◌, ap, sym, arith}
-use Rattle.std.specs.Prelude.{Ok}
-use Rattle.std.proofs.lemmas.Result.{err_from_is_err_and}
-use Rattle.rh_defs.specs.declared.listing.SegmentItem.{SegmentItem}
-use Rattle.rh_defs.specs.Chain.{Granted}
-use Rattle.rh_defs.specs.Slot.{heap_start}
-use Rattle.rh_slot.specs.Area.{slot_in}
-use Rattle.rh_tasks.specs.Lists.{segment_items_at, segments_of}
-use Rattle.rh_tasks.proofs.Chains.{ends}
-use Rattle.rh_tasks.proofs.Finding.{nobody}
-use Rattle.rh_tasks.proofs.Moves.{owned}
+use Rattle.rh_tasks.proofs.Common.{List, ◌∙◌, ap, sym, arith, Ok, err_from_is_err_and, SegmentItem, Granted, heap_start, slot_in, segment_items_at, ends}
+use Rattle.rh_tasks.proofs.Common.{nobody, owned}
+use Rattle.rh_tasks.specs.Lists.{segments_of}
 use Rattle.rh_tasks.proofs.QuestionLaws.{of-slot}
 use Rattle.rh_tasks.proofs.Readers.{small-end}
 use Rattle.rh_tasks.proofs.SegmentItems.{items_from, small_from}

@@ -1,6 +1,4 @@
-use Rattle.std.proofs.Common.{refl, ap, ◌∙◌, sym, arith}
-use Rattle.std.proofs.lemmas.Result.{err_from_is_err_and}
-use Rattle.rh_tasks.specs.View.{the_module, kept_of, shown_of}
+use Rattle.rh_tasks.proofs.Common.{refl, ap, ◌∙◌, sym, arith, err_from_is_err_and, the_module, kept_of, shown_of}
 use Rattle.rh_tasks.proofs.Posts.{few-entries, new-handle}
 use Rattle.rh_tasks.proofs.Starts.{name-in-use, too-many, no-handles, can-open, no-room, start-done, start-world}
 use Rattle.rh_tasks.proofs.world.World.start_task.Goals as goal

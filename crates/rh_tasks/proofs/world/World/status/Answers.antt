@@ -1,10 +1,5 @@
-use Rattle.std.proofs.Common.{refl, sym}
-use Rattle.std.proofs.lemmas.Result.{err_from_is_err_and}
+use Rattle.rh_tasks.proofs.Common.{refl, sym, err_from_is_err_and, task_of, Found, begins, ends, nobody, named-is}
 use Rattle.rh_defs.specs.Listing.{status_at}
-use Rattle.rh_tasks.specs.View.{task_of}
-use Rattle.rh_tasks.specs.Finding.{Found}
-use Rattle.rh_tasks.proofs.Chains.{begins, ends}
-use Rattle.rh_tasks.proofs.Finding.{nobody, named-is}
 use Rattle.rh_tasks.proofs.world.World.status.Goals as goal
 
 pub returns-in_err-i-clause-err : goal.returns-in_err-i-clause-err

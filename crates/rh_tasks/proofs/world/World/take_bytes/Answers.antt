@@ -1,6 +1,4 @@
-use Rattle.std.proofs.Common.{refl, sym}
-use Rattle.rh_defs.specs.IncomingEvents.{take_bytes}
-use Rattle.rh_tasks.proofs.Reorders.{reordered-refl, same-alike}
+use Rattle.rh_tasks.proofs.Common.{refl, sym, take_bytes, reordered-refl, same-alike}
 use Rattle.rh_tasks.proofs.world.World.take_bytes.Goals as goal
 
 pub returns-in-Some-Draining : goal.returns-in-Some-Draining

@@ -1,12 +1,5 @@
-use Rattle.std.proofs.Common.{refl, sym, ap, subst, ◌∙◌}
-use Rattle.std.specs.Prelude.{◌==◌, ◌<◌, length}
-use Rattle.rh_defs.specs.declared.message.Message.{Message}
-use Rattle.rh_defs.specs.Memory.{bytes}
-use Rattle.rh_defs.specs.Desk.{Desk, Scrap}
-use Rattle.rh_tasks.specs.Shown.{Shown}
-use Rattle.rh_tasks.specs.View.{scrap_from}
-use Rattle.rh_tasks.proofs.Places.{member-at, same-at}
-use Rattle.rh_tasks.proofs.Reorders.{reordered-refl}
+use Rattle.rh_tasks.proofs.Common.{refl, sym, ap, subst, ◌∙◌, ◌==◌, ◌<◌, length, Message, bytes, Desk, Scrap, Shown, scrap_from, member-at, reordered-refl}
+use Rattle.rh_tasks.proofs.Places.{same-at}
 use Rattle.rh_tasks.proofs.Scraps.{seen-desk, seen-nothing, seen-file, seen-size}
 use Rattle.rh_tasks.proofs.ScrapTransfers.{as-after, not-true, not-false, at-inside, appended-at, take-none, take-nothing, take-other, take-loaded, take-failed}
 use Rattle.rh_tasks.proofs.world.World.take_file.Goals as goal

@@ -1,16 +1,8 @@
-use Rattle.std.proofs.Common.{◌+◌, ◌^◌, sym, ap, subst, ◌∙◌, arith}
-use Rattle.std.specs.Prelude.{length, Some}
-use Rattle.rh_defs.specs.declared.refusal.Refusal.{Refusal}
-use Rattle.rh_defs.specs.declared.refusal.Refusal.TheVariants.{NoRoom}
+use Rattle.rh_tasks.proofs.Common.{◌+◌, ◌^◌, sym, ap, subst, ◌∙◌, arith, length, Some, Refusal, NoRoom, take_bytes, first_bytes, heap_block_at, Shown}
+use Rattle.rh_tasks.proofs.Common.{le-true, le-false, member-at}
 use Rattle.rh_defs.specs.declared.reply.Outcome.TheVariants as outcome
 use Rattle.rh_defs.specs.declared.transfer.Incoming.TheVariants as incoming
-use Rattle.rh_defs.specs.IncomingEvents.{take_bytes}
-use Rattle.rh_defs.specs.Places.{first_bytes}
-use Rattle.rh_defs.specs.Slot.{heap_block_at}
-use Rattle.rh_tasks.specs.Shown.{Shown}
 use Rattle.rh_tasks.specs.Polls.{Handles}
-use Rattle.rh_tasks.proofs.Chains.{le-true, le-false}
-use Rattle.rh_tasks.proofs.Places.{member-at}
 use Rattle.rh_tasks.proofs.Takings.{inside, stands-appended, becomes-ok, becomes-err, was-refused, not-both, failed-as, counted, uncounted, taken-uncounted}
 use Rattle.rh_tasks.proofs.Takings.{taken-refused, taken-on}
 use Rattle.rh_tasks.proofs.world.World.take_more.Goals.{in-Some, in-None}

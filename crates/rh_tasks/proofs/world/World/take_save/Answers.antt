@@ -1,5 +1,4 @@
-use Rattle.std.proofs.Common.{subst, sym}
-use Rattle.rh_tasks.specs.Shown.{Shown}
+use Rattle.rh_tasks.proofs.Common.{subst, sym, Shown}
 use Rattle.rh_defs.specs.declared.reply.Outcome.TheVariants as outcome
 use Rattle.rh_tasks.proofs.Slides.{seat-sits}
 use Rattle.rh_tasks.proofs.TakeSaves.{Ends, takes-is, takes-room, ends-not, ends-some, ends-none}

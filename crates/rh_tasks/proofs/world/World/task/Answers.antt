@@ -1,9 +1,7 @@
-use Rattle.std.proofs.Common.{refl, sym, ap, ◌∙◌, arith}
-use Rattle.std.specs.Option.{option_map}
+use Rattle.rh_tasks.proofs.Common.{refl, sym, ap, ◌∙◌, arith, option_map, task_of, Sits}
 use Rattle.rh_defs.specs.SlotImage.{slot_of}
-use Rattle.rh_tasks.specs.View.{last_of, task_of}
+use Rattle.rh_tasks.specs.View.{last_of}
 use Rattle.rh_tasks.proofs.ItemLaws.{pages-slot}
-use Rattle.rh_tasks.proofs.Lists.{Sits}
 use Rattle.rh_tasks.proofs.Readers.{small-end, small-free, small-largest}
 use Rattle.rh_tasks.proofs.SightLaws.{no-task-there, task-live, task-there}
 use Rattle.rh_tasks.proofs.Slides.{seat-slot}

@@ -1,5 +1,4 @@
-use Rattle.std.proofs.Common.{sym}
-use Rattle.std.proofs.lemmas.Result.{err_from_is_err_and}
+use Rattle.rh_tasks.proofs.Common.{sym, err_from_is_err_and}
 use Rattle.rh_tasks.proofs.Told.{show-said, blocks-said, heap-said, status-said}
 use Rattle.rh_tasks.proofs.world.World.told.Goals as goal
 

@@ -1,10 +1,5 @@
-use Rattle.std.proofs.Common.{◌+◌, refl, ap, arith}
-use Rattle.std.specs.Prelude.{length}
-use Rattle.rh_tasks.specs.Shown.{Shown}
-use Rattle.rh_tasks.proofs.Lists.{Sits}
-use Rattle.rh_tasks.proofs.Chains.{lt-true, lt-false}
+use Rattle.rh_tasks.proofs.Common.{◌+◌, refl, ap, arith, length, Shown, Sits, lt-true, lt-false, member-at}
 use Rattle.rh_tasks.proofs.Buffers.{sits-there, seat-buffer}
-use Rattle.rh_tasks.proofs.Places.{member-at}
 use Rattle.rh_tasks.proofs.Takings.{inside, stands-dropped, failed-as, handles-as, parcel_with, took-ended, took-more, took-failed}
 use Rattle.rh_tasks.proofs.world.World.took.Goals as goal
 

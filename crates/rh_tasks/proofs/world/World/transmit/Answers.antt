@@ -1,16 +1,8 @@
-use Rattle.std.proofs.Common.{◌≡◌, refl, sym, ap, ◌∙◌, arith}
-use Rattle.std.specs.Prelude.{None, nat_lt}
-use Rattle.std.proofs.lemmas.Result.{err_from_is_err_and}
-use Rattle.std.proofs.lemmas.Option.{slice_get_within}
-use Rattle.rh_defs.specs.declared.message.EventCode.TheVariants.{User}
-use Rattle.rh_defs.specs.declared.message.Letter.{Letter}
+use Rattle.rh_tasks.proofs.Common.{◌≡◌, refl, sym, ap, ◌∙◌, arith, None, nat_lt, err_from_is_err_and, slice_get_within, User, Letter, Parcel, Task, task_at}
+use Rattle.rh_tasks.proofs.Common.{with_sending, send_letter, task_of, member-at, mapped-at}
 use Rattle.rh_defs.specs.Letters.{transmit_letter}
-use Rattle.rh_defs.specs.Messages.{Parcel}
-use Rattle.rh_defs.specs.Desk.{Task, task_at, with_sending, send_letter}
 use Rattle.rh_defs.specs.Sender as sender
-use Rattle.rh_tasks.specs.View.{task_of}
 use Rattle.rh_tasks.proofs.SeatRecords.{sits-in}
-use Rattle.rh_tasks.proofs.Places.{member-at, mapped-at}
 use Rattle.rh_tasks.proofs.Fetches.{seated, seat-is}
 use Rattle.rh_tasks.proofs.Writes.{alike-length, alike-at, seen}
 use Rattle.rh_tasks.proofs.Transmits.{Meant, nobody-with, somebody-with, pair_of, handle_of, sent-pairs, portion-seen, reach-seen, wrote-is, wrote-handles}

@@ -1,5 +1,4 @@
-use Rattle.std.proofs.Common.{arith}
-use Rattle.rh_tasks.proofs.Worlds.{free-is}
+use Rattle.rh_tasks.proofs.Common.{arith, free-is}
 use Rattle.rh_tasks.proofs.Scraps.{wider-desk, wider-world}
 use Rattle.rh_tasks.proofs.world.World.widen_scrap.Goals as goal
 

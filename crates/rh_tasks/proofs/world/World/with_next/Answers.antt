@@ -1,6 +1,5 @@
-use Rattle.std.proofs.Common.{◌∙◌, arith}
+use Rattle.rh_tasks.proofs.Common.{◌∙◌, arith, the_module}
 use Rattle.rh_defs.specs.Laws.{IsStart}
-use Rattle.rh_tasks.specs.View.{the_module}
 use Rattle.rh_tasks.proofs.NewWorlds.{first-desk, first-world, first-next}
 use Rattle.rh_tasks.proofs.world.World.with_next.Goals as goal
 

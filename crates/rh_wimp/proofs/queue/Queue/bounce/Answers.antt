@@ -1,14 +1,5 @@
-use Rattle.std.proofs.Common.{◌≡◌, ◌+◌, sym, ap, subst, ◌∙◌, arith}
-use Rattle.std.specs.Prelude.{Some, None, ◌==◌}
-use Rattle.std.specs.List.{position}
-use Rattle.rh_defs.specs.Blocks.{poked}
-use Rattle.rh_defs.specs.Bytes.{word_bytes}
-use Rattle.rh_module.specs.Area.{heap_in}
-use Rattle.rh_wimp.specs.Chains.{Chains, IsPost, MayBounce}
-use Rattle.rh_defs.specs.Post.{bounced}
-use Rattle.rh_wimp.specs.declared.chain.Entry.{Entry}
-use Rattle.rh_module.proofs.BlockBytes.{block_within}
-use Rattle.rh_defs.proofs.BlockLaws.{has-less}
+use Rattle.rh_wimp.proofs.Common.{◌≡◌, ◌+◌, sym, ap, subst, ◌∙◌, arith, Some, None, ◌==◌, position, poked, word_bytes, heap_in, Chains, IsPost, MayBounce}
+use Rattle.rh_wimp.proofs.Common.{bounced, Entry, block_within, has-less}
 use Rattle.rh_wimp.proofs.PollLaws.{bounce-has, bounce-from, bounce-last, bounce-gone, bounce-done}
 use Rattle.rh_wimp.proofs.PostLaws.{found-at}
 use Rattle.rh_wimp.proofs.queue.Queue.bounce.Goals as goal

@@ -1,13 +1,8 @@
-use Rattle.std.proofs.Common.{◌≡◌, ℕ, ◌<◌, length, sym, ap, subst, ◌∙◌, arith}
+use Rattle.rh_wimp.proofs.Common.{◌≡◌, ℕ, ◌<◌, length, sym, ap, subst, ◌∙◌, arith, ◌==◌, filter, not, OnlyArea-both, heap_in, Chains, IsPost, SpellsPost}
+use Rattle.rh_wimp.proofs.Common.{HasEntry, entry_at, settled_from, Post, held_by, post_death}
 use Rattle.std.specs.List.{remove}
-use Rattle.std.specs.Prelude.{◌==◌, filter, not}
-use Rattle.rh_defs.proofs.MemoryLaws.{OnlyArea-both}
 use Rattle.rh_defs.proofs.PostLaws.{post_death-handles}
 use Rattle.rh_wimp.proofs.LeavesLaws.{handles-are, left}
-use Rattle.rh_module.specs.Area.{heap_in}
-use Rattle.rh_wimp.specs.Chains.{Chains, IsPost, SpellsPost, HasEntry, entry_at}
-use Rattle.rh_wimp.specs.Deaths.{settled_from}
-use Rattle.rh_defs.specs.Post.{Post, held_by, post_death}
 use Rattle.rh_wimp.proofs.EndLaws.{death-done, place-stays, settled-stays}
 use Rattle.rh_wimp.proofs.PostLaws.{found-at, not-found, seat_at}
 use Rattle.rh_wimp.proofs.queue.Queue.bounce_for_death.Goals as goal

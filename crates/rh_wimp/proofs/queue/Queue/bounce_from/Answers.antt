@@ -1,9 +1,4 @@
-use Rattle.std.proofs.Common.{◌≡◌, true, false, sym, subst, ◌∙◌, arith}
-use Rattle.rh_defs.proofs.BlockLaws.{has-less}
-use Rattle.rh_defs.proofs.HeapLists.{eqb_same}
-use Rattle.rh_defs.specs.Post.{Post}
-use Rattle.rh_module.specs.Area.{heap_in}
-use Rattle.rh_wimp.specs.Chains.{IsPost}
+use Rattle.rh_wimp.proofs.Common.{◌≡◌, true, false, sym, subst, ◌∙◌, arith, has-less, eqb_same, Post, heap_in, IsPost}
 use Rattle.rh_wimp.proofs.EndLaws.{from-dying, from-other, may-vanish}
 use Rattle.rh_wimp.proofs.PollLaws.{bounce-from, bounce-has}
 use Rattle.rh_wimp.proofs.PostLaws.{eq_of}

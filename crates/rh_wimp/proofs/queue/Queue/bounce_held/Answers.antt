@@ -1,8 +1,5 @@
-use Rattle.std.proofs.Common.{ℕ, refl, sym, subst}
-use Rattle.rh_module.specs.Area.{heap_in}
-use Rattle.rh_wimp.specs.Chains.{Chains, IsPost, SpellsPost, MayBounce, emptied_chains, entry_at}
-use Rattle.rh_defs.specs.Post.{Post, bounce_held, held_by}
-use Rattle.rh_wimp.specs.Deaths.{lifted}
+use Rattle.rh_wimp.proofs.Common.{ℕ, refl, sym, subst, heap_in, Chains, IsPost, SpellsPost, MayBounce, emptied_chains, entry_at, Post, bounce_held, held_by}
+use Rattle.rh_wimp.proofs.Common.{lifted}
 use Rattle.rh_wimp.proofs.PollLaws.{HoldsOne, holds-one, holds-none, may-bounce}
 use Rattle.rh_wimp.proofs.queue.Queue.bounce_held.Goals as goal
 use Rattle.rh_wimp.proofs.queue.Queue.bounce_held.Goals.{In-Some}

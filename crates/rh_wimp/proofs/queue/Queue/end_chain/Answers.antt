@@ -1,11 +1,7 @@
-use Rattle.std.proofs.Common.{ℕ, ◌+◌, ◌≤◌, length, List, ap, subst, ◌∙◌, arith}
-use Rattle.std.specs.Prelude.{Option, Some, None}
-use Rattle.rh_defs.specs.Messages.{Parcel}
-use Rattle.rh_defs.specs.Post.{Post, most_messages}
-use Rattle.rh_defs.proofs.MemoryLaws.{OnlyArea-both, OnlyArea-self}
-use Rattle.rh_module.specs.Area.{heap_in}
-use Rattle.rh_wimp.specs.Chains.{Lifted, LiftsFirst, SpellsPost, entry_at}
-use Rattle.rh_wimp.specs.Deaths.{ended_from, queue_to}
+use Rattle.rh_wimp.proofs.Common.{ℕ, ◌+◌, ◌≤◌, length, List, ap, subst, ◌∙◌, arith, Option, Some, None, Parcel, Post, most_messages, OnlyArea-both, heap_in}
+use Rattle.rh_wimp.proofs.Common.{Lifted, SpellsPost, entry_at, ended_from, queue_to}
+use Rattle.rh_defs.proofs.MemoryLaws.{OnlyArea-self}
+use Rattle.rh_wimp.specs.Chains.{LiftsFirst}
 use Rattle.rh_wimp.proofs.DeathLaws.{seats-ended}
 use Rattle.rh_wimp.proofs.EndLaws.{drained-end, drained-start, drained-step, place-stays}
 use Rattle.rh_wimp.proofs.PostLaws.{seat_at}

@@ -1,8 +1,4 @@
-use Rattle.std.proofs.Common.{ℕ, sym, subst}
-use Rattle.rh_module.specs.Area.{heap_in}
-use Rattle.rh_wimp.specs.Chains.{Chains, IsPost, SpellsPost, MayBounce, emptied_chains}
-use Rattle.rh_wimp.specs.Deaths.{lifted, settled_from}
-use Rattle.rh_defs.specs.Post.{Post, held_by}
+use Rattle.rh_wimp.proofs.Common.{ℕ, sym, subst, heap_in, Chains, IsPost, SpellsPost, MayBounce, emptied_chains, lifted, settled_from, Post, held_by}
 use Rattle.rh_wimp.proofs.PollLaws.{HoldsOne, holds-one, holds-none, may-bounce}
 use Rattle.rh_wimp.proofs.queue.Queue.end_held.Goals as goal
 use Rattle.rh_wimp.proofs.queue.Queue.end_held.Goals.{In-Some}

@@ -1,9 +1,4 @@
-use Rattle.std.proofs.Common.{sym, ap, subst, ◌∙◌, arith}
-use Rattle.rh_defs.proofs.BlockLaws.{has-less}
-use Rattle.rh_defs.specs.Messages.{is_recorded}
-use Rattle.rh_defs.specs.Post.{Post}
-use Rattle.rh_module.specs.Area.{heap_in}
-use Rattle.rh_wimp.specs.Chains.{IsPost}
+use Rattle.rh_wimp.proofs.Common.{sym, ap, subst, ◌∙◌, arith, has-less, is_recorded, Post, heap_in, IsPost}
 use Rattle.rh_wimp.proofs.EndLaws.{ended-bounces, ended-vanishes, may-vanish}
 use Rattle.rh_wimp.proofs.PollLaws.{bounce-has}
 use Rattle.rh_wimp.proofs.queue.Queue.end_message.Goals as goal

@@ -1,8 +1,5 @@
-use Rattle.std.proofs.Common.{sym, subst, ◌∙◌}
+use Rattle.rh_wimp.proofs.Common.{sym, subst, ◌∙◌, heap_in, Chains, SpellsPost, rows_of, wants}
 use Rattle.rh_defs.specs.Post.{post_is_message}
-use Rattle.rh_module.specs.Area.{heap_in}
-use Rattle.rh_wimp.specs.Chains.{Chains, SpellsPost, rows_of}
-use Rattle.rh_wimp.specs.Searches.{wants}
 use Rattle.rh_wimp.specs.declared.searching.Wanted.TheVariants.{At}
 use Rattle.rh_wimp.proofs.SearchLaws.{rows-have, short-rows}
 use Rattle.rh_wimp.proofs.queue.Queue.is_message.Goals as goal

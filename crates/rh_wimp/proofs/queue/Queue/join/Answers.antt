@@ -1,8 +1,5 @@
 -- The new entry is that of a task with no messages.
-use Rattle.std.proofs.Common.{sym, subst}
-use Rattle.rh_wimp.specs.Chains.{Chains, HasEntry, IsPost}
-use Rattle.rh_defs.specs.Post.{post_join}
-use Rattle.rh_module.specs.Area.{heap_in}
+use Rattle.rh_wimp.proofs.Common.{sym, subst, Chains, HasEntry, IsPost, post_join, heap_in}
 use Rattle.rh_wimp.proofs.JoinLaws.{join-spells}
 use Rattle.rh_wimp.proofs.queue.Queue.join.Goals as goal
 

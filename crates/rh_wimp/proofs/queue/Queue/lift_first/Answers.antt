@@ -1,13 +1,6 @@
-use Rattle.std.proofs.Common.{◌≡◌, ◌≢◌, ℕ, List, ◌-◌, ◌<◌, length, set, refl, sym, ap, subst, ◌∙◌, arith}
-use Rattle.std.specs.Prelude.{Some}
-use Rattle.rh_defs.specs.Blocks.{HasBlock, block_bytes, poked}
-use Rattle.rh_defs.specs.Bytes.{word, word_bytes}
-use Rattle.rh_defs.specs.Messages.{Parcel}
-use Rattle.rh_defs.specs.Post.{Post}
-use Rattle.rh_defs.proofs.BlockLaws.{has-less}
-use Rattle.rh_module.specs.Area.{heap_in}
-use Rattle.rh_wimp.specs.Chains.{Chains, Lifted, SpellsPost, entry_at, shortened}
-use Rattle.rh_wimp.specs.declared.chain.Entry.{Entry}
+use Rattle.rh_wimp.proofs.Common.{◌≡◌, ◌≢◌, ℕ, List, ◌-◌, ◌<◌, length, set, refl, sym, ap, subst, ◌∙◌, arith, Some, HasBlock, block_bytes, poked, word}
+use Rattle.rh_wimp.proofs.Common.{word_bytes, Parcel, Post, has-less, heap_in, Chains, Lifted, SpellsPost, entry_at, Entry}
+use Rattle.rh_wimp.specs.Chains.{shortened}
 use Rattle.rh_wimp.proofs.AnswerLaws.{read_entry}
 use Rattle.rh_wimp.proofs.PollLaws.{Heads, first-lifted, head-has, heads, next-of, next-small, no-head}
 use Rattle.rh_wimp.proofs.queue.Queue.lift_first.Goals as goal

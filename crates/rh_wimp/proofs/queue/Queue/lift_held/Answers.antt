@@ -1,6 +1,4 @@
-use Rattle.std.proofs.Common.{◌<◌, length, refl, sym, ap, subst, ◌∙◌}
-use Rattle.rh_wimp.specs.Chains.{Chains, IsPost, entry_at}
-use Rattle.rh_wimp.specs.declared.chain.Entry.{Entry}
+use Rattle.rh_wimp.proofs.Common.{◌<◌, length, refl, sym, ap, subst, ◌∙◌, Chains, IsPost, entry_at, Entry}
 use Rattle.rh_wimp.proofs.AnswerLaws.{read_entry}
 use Rattle.rh_wimp.proofs.PollLaws.{holds-one}
 use Rattle.rh_wimp.proofs.queue.Queue.lift_held.Goals as goal

@@ -1,8 +1,4 @@
-use Rattle.std.proofs.Common.{length, sym, ap, subst, ◌∙◌, arith}
-use Rattle.rh_module.specs.Area.{heap_in}
-use Rattle.rh_wimp.specs.Chains.{Chains, SpellsPost, rows_of}
-use Rattle.std.specs.Prelude.{◌++◌}
-use Rattle.rh_wimp.specs.Items.{held_items, waiting_items}
+use Rattle.rh_wimp.proofs.Common.{length, sym, ap, subst, ◌∙◌, arith, heap_in, Chains, SpellsPost, rows_of, ◌++◌, held_items, waiting_items}
 use Rattle.rh_wimp.proofs.ItemLaws.{items-few}
 use Rattle.rh_wimp.proofs.queue.Queue.list.Goals as goal
 

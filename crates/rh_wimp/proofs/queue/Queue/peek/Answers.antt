@@ -1,12 +1,6 @@
-use Rattle.std.proofs.Common.{◌≡◌, ◌≢◌, ◌<◌, Bool, List, true, length, sym, ap, subst, ◌∙◌, arith}
-use Rattle.std.specs.Prelude.{Option, Some, None}
-use Rattle.std.specs.Option.{option_map}
-use Rattle.rh_defs.specs.Messages.{Parcel}
-use Rattle.rh_defs.specs.Post.{Post, has_seat, held_by, holds_such, post_poll}
-use Rattle.rh_module.specs.Area.{heap_in}
-use Rattle.rh_wimp.specs.Chains.{Chains, HasEntry, Holds, SpellsPost, entry_at}
-use Rattle.rh_wimp.specs.Items.{LinksAt, with_message}
-use Rattle.rh_wimp.specs.declared.chain.Entry.{Entry}
+use Rattle.rh_wimp.proofs.Common.{◌≡◌, ◌≢◌, ◌<◌, Bool, List, true, length, sym, ap, subst, ◌∙◌, arith, Option, Some, None, option_map, Parcel, Post, has_seat}
+use Rattle.rh_wimp.proofs.Common.{held_by, holds_such, post_poll, heap_in, Chains, HasEntry, Holds, SpellsPost, entry_at, LinksAt, Entry}
+use Rattle.rh_wimp.specs.Items.{with_message}
 use Rattle.rh_wimp.proofs.AnswerLaws.{read_entry}
 use Rattle.rh_wimp.proofs.PeekLaws.{HoldsOwn, front, front-is, first_of, held-there, is_own, own-held, poll-none, poll-own, poll-waiting}
 use Rattle.rh_wimp.proofs.PollLaws.{Heads, heads, next-small, no-head}

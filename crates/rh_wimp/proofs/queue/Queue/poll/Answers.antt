@@ -1,12 +1,8 @@
-use Rattle.std.proofs.Common.{◌≡◌, ◌<◌, length, refl, sym, ap, subst, ◌∙◌}
-use Rattle.std.specs.Prelude.{None}
-use Rattle.std.specs.Option.{option_map}
-use Rattle.rh_defs.proofs.MemoryLaws.{OnlyArea-both}
+use Rattle.rh_wimp.proofs.Common.{◌≡◌, ◌<◌, length, refl, sym, ap, subst, ◌∙◌, None, option_map, OnlyArea-both, heap_in, Chains, SpellsPost, HasEntry}
+use Rattle.rh_wimp.proofs.Common.{entry_at, Post, held_by, first_for, taken_from, bounce_held, post_poll}
 use Rattle.rh_defs.proofs.PostLaws.{post_poll-handles}
 use Rattle.rh_wimp.proofs.LeavesLaws.{handles-stay, left}
-use Rattle.rh_module.specs.Area.{heap_in}
-use Rattle.rh_wimp.specs.Chains.{Chains, SpellsPost, HasEntry, event_of, entry_at}
-use Rattle.rh_defs.specs.Post.{Post, held_by, first_for, taken_from, bounce_held, post_poll}
+use Rattle.rh_wimp.specs.Chains.{event_of}
 use Rattle.rh_wimp.proofs.PollLaws.{held-after, stays}
 use Rattle.rh_wimp.proofs.PostLaws.{found-at, not-found}
 use Rattle.rh_wimp.proofs.queue.Queue.poll.Goals as goal

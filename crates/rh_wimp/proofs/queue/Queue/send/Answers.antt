@@ -1,17 +1,12 @@
-use Rattle.std.proofs.Common.{◌≡◌, ℕ, ◌+◌, ◌-◌, ◌<◌, length, sym, ap, subst, ◌∙◌, arith}
-use Rattle.std.proofs.lemmas.Result.{err_from_is_err_and}
-use Rattle.std.specs.Prelude.{Ok, None}
-use Rattle.rh_defs.specs.Chain.{answer_of, left_of}
-use Rattle.rh_defs.specs.Memory.{Memory, OnlyArea}
-use Rattle.rh_defs.proofs.MemoryLaws.{OnlyArea-both, OnlyArea-self}
+use Rattle.rh_wimp.proofs.Common.{◌≡◌, ℕ, ◌+◌, ◌-◌, ◌<◌, length, sym, ap, subst, ◌∙◌, arith, err_from_is_err_and, Ok, None, answer_of, left_of, Memory}
+use Rattle.rh_wimp.proofs.Common.{OnlyArea, OnlyArea-both, IsModule, heap_in, HasBlock, Chains, RowsLie, IsPost, SpellsPost, HasEntry, entry_at, rows_of}
+use Rattle.rh_wimp.proofs.Common.{Post, held_by, block_within}
+use Rattle.rh_defs.proofs.MemoryLaws.{OnlyArea-self}
 use Rattle.rh_defs.proofs.PostLaws.{post_send-handles}
 use Rattle.rh_wimp.proofs.LeavesLaws.{handles-stay, left}
-use Rattle.rh_module.specs.Area.{IsModule, heap_in}
 use Rattle.rh_wimp.specs.Moves.{Relinks, Settled}
-use Rattle.rh_defs.specs.Blocks.{HasBlock}
-use Rattle.rh_wimp.specs.Chains.{Chains, longer_chains, RowsLie, IsPost, SpellsPost, HasEntry, entry_at, rows_of, refusal_for}
-use Rattle.rh_defs.specs.Post.{Post, post_send, queued_in, held_by}
-use Rattle.rh_module.proofs.BlockBytes.{block_within}
+use Rattle.rh_wimp.specs.Chains.{longer_chains, refusal_for}
+use Rattle.rh_defs.specs.Post.{post_send, queued_in}
 use Rattle.rh_wimp.proofs.SendLaws.{admitted-refs, owns-longer, send-refused, send-short, send-granted, Joined, letter-joined, letter-settled, last-stays}
 use Rattle.rh_wimp.proofs.SendLaws.{new-there}
 use Rattle.rh_wimp.proofs.queue.Queue.send.Goals as goal

@@ -1,6 +1,4 @@
-use Rattle.std.proofs.Common.{sym, ◌∙◌, arith}
-use Rattle.std.proofs.lemmas.Result.{err_from_is_err_and}
-use Rattle.rh_module.specs.Area.{heap_in}
+use Rattle.rh_wimp.proofs.Common.{sym, ◌∙◌, arith, err_from_is_err_and, heap_in}
 use Rattle.rh_wimp.proofs.SendLaws.{pages-refused, pages-granted}
 use Rattle.rh_wimp.proofs.queue.Queue.send_pages.Goals as goal
 

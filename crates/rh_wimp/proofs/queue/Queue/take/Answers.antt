@@ -1,9 +1,5 @@
-use Rattle.std.proofs.Common.{ℕ, List, refl, sym, ap, subst, ◌∙◌, arith}
-use Rattle.rh_defs.proofs.BlockLaws.{has-less}
-use Rattle.rh_defs.specs.Messages.{Parcel, is_recorded}
-use Rattle.rh_defs.specs.Post.{Post, taken}
-use Rattle.rh_module.specs.Area.{heap_in}
-use Rattle.rh_wimp.specs.Chains.{Chains, IsPost, Lifted, LiesAt, SpellsPost, entry_at}
+use Rattle.rh_wimp.proofs.Common.{ℕ, List, refl, sym, ap, subst, ◌∙◌, arith, has-less, Parcel, is_recorded, Post, taken, heap_in, Chains, IsPost, Lifted}
+use Rattle.rh_wimp.proofs.Common.{LiesAt, SpellsPost, entry_at}
 use Rattle.rh_wimp.proofs.PollLaws.{Stays, lies-has, seats-stay, take-freed, take-held}
 use Rattle.rh_wimp.proofs.TakeLaws.{rest_of}
 use Rattle.rh_wimp.proofs.queue.Queue.take.Goals as goal

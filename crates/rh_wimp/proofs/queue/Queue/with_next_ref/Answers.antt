@@ -1,7 +1,4 @@
-use Rattle.std.proofs.Common.{[], sym, subst, ◌∙◌}
-use Rattle.rh_defs.specs.Post.{Post}
-use Rattle.rh_module.specs.Area.{heap_in}
-use Rattle.rh_wimp.specs.Chains.{IsPost}
+use Rattle.rh_wimp.proofs.Common.{[], sym, subst, ◌∙◌, Post, heap_in, IsPost}
 use Rattle.rh_wimp.proofs.JoinLaws.{start-spells}
 use Rattle.rh_wimp.proofs.queue.Queue.with_next_ref.Goals as goal
 

@@ -1,6 +1,4 @@
-use Rattle.std.proofs.Common.{Some, None, ap, ◌∙◌}
-use Rattle.vf_desk.specs.Called.{desk_by}
-use Rattle.vf_desk.specs.Seen.{KeepsRest}
+use Rattle.vf_desk.proofs.Common.{Some, None, ap, ◌∙◌, desk_by, KeepsRest}
 use Rattle.vf_desk.proofs.SeenLaws.{held-by, held-desk, held-same, in-handle, none-by, none-desk, none-said, stays-rest}
 use Rattle.vf_desk.proofs.desk.VfDesk.step.Goals as goal
 

@@ -1,7 +1,5 @@
-use Rattle.std.proofs.Common.{Some, None, ap, ◌∙◌}
+use Rattle.vf_desk.proofs.Common.{Some, None, ap, ◌∙◌, desk_by, in_form, KeepsRest}
 use Rattle.rh_defs.specs.declared.command.Command.TheVariants as command
-use Rattle.vf_desk.specs.Called.{desk_by, in_form}
-use Rattle.vf_desk.specs.Seen.{KeepsRest}
 use Rattle.vf_desk.proofs.SeenLaws.{held-by, held-desk, held-same, in-handle, none-by, none-desk, none-said, stays-rest}
 use Rattle.vf_desk.proofs.desk.VfDesk.write.Goals as goal
 

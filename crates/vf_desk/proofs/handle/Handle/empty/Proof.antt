@@ -1,25 +1,11 @@
 -- `empty` puts a null pointer beside the heap's handle. Both own nothing that a station would.
-use mathlib.Core.Path.{refl, sym, subst}
-use mathlib.Core.List.{List, [], ◌∷◌, ◌++◌}
+use Rattle.vf_desk.proofs.Common.{refl, sym, subst, List, [], ◌∷◌, ◌++◌, Val, ftrue, fsep, SProp, ent, emp, id⊢, fact, fact_i, tables, WpFn, ‵, raw, ◌⊛◌, ◌$◌}
+use Rattle.vf_desk.proofs.Common.{◌∵◌, !, qed, by, move, keep, use0, split, fsplit, fjoin, suffices, agg, no_more, and_then, returns, enter, alloc_all}
+use Rattle.vf_desk.proofs.Common.{pass_all, free_all, look_at, get, sets, yes, null_ptr, ptr_val, plain, nothing, Stays, stay_dropped, walk_of, handle_tells}
+use Rattle.vf_desk.proofs.Common.{proved_at, leaves, None, ◌≡◌}
 use lib.Dec.{lit<}
-use mir.Val.{Val}
-use base.Fml.{ftrue, fsep}
-use base.Logic.{SProp, ent, emp, id⊢}
-use contract.Monad.{fact, fact_i}
-use contract.Running.{tables}
-use prog.Wp.{WpFn}
-use types.Kit.{‵, raw, ◌⊛◌, ◌$◌, ◌∵◌, !, qed, by, move, keep, use0, split, fsplit, fjoin, suffices}
-use types.Part.{agg}
-use types.Run.{no_more, and_then, lit, returns, enter}
-use types.ByLocal.{alloc_all, pass_all, free_all, look_at, get, sets}
-use denote.Exit.{yes}
-use denote.RawPtr.{null_ptr, ptr_val}
-use denote.Signature.{plain}
-use denote.Steps.{nothing}
-use denote.Triple.Walked.{Stays, stay_dropped, walk_of, Goes-dropped}
-use Rattle.core.proofs.alloc.Calls.{handle_tells}
-use Rattle.std.proofs.raw_atomic.Walks.{proved_at, leaves}
-use Rattle.std.specs.Prelude.{None, ◌≡◌}
+use types.Run.{lit}
+use denote.Triple.Walked.{Goes-dropped}
 use Rattle.std.specs.contracts.alloc.Global as heap
 use Rattle.std_alloc.proofs.ResultValues.{and_tt}
 use Rattle.vf_desk.proofs.Pairs.{pair, heap_al, handle_in}

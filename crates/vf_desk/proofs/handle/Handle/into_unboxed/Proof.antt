@@ -1,32 +1,15 @@
 -- `into_unboxed` moves two fields, the address as one of the station again; what they own stays. With no station it is
 -- never called.
-use mathlib.Core.Path.{◌≡◌, refl, sym, subst, ap, ◌∙◌}
-use mathlib.Core.List.{List, [], ◌∷◌, ◌++◌}
-use mir.Raw.{raw as bare}
-use mir.Val.{Val, vptr}
-use base.Fml.{ftrue, fsep}
-use base.Logic.{SProp, ent, emp, id⊢, never, fst∗}
-use contract.Monad.{fact, fact_i}
-use contract.Running.{tables}
-use prog.Wp.{WpFn}
-use types.Logic.{sem}
-use types.Kit.{‵, raw, ◌⊛◌, ◌$◌, ◌∵◌, !, qed, by, move, keep, use0, split, fsplit, fjoin, suffices, rewrite}
-use types.Part.{agg, sub, whole}
-use types.Run.{stop, fld, of_opd, no_more, and_then, returns, enter}
-use types.ByLocal.{alloc_all, pass_all, free_all, look_at, get, get_in, sets}
-use denote.Exit.{yes}
+use Rattle.vf_desk.proofs.Common.{◌≡◌, refl, sym, subst, ap, ◌∙◌, List, [], ◌∷◌, ◌++◌, bare, Val, vptr, ftrue, fsep, SProp, ent, emp, id⊢, never, fst∗, fact}
+use Rattle.vf_desk.proofs.Common.{fact_i, tables, WpFn, sem, ‵, raw, ◌⊛◌, ◌$◌, ◌∵◌, !, qed, by, move, keep, use0, split, fsplit, fjoin, suffices, rewrite}
+use Rattle.vf_desk.proofs.Common.{agg, sub, whole, stop, fld, of_opd, no_more, and_then, returns, enter, alloc_all, pass_all, free_all, look_at, get, get_in}
+use Rattle.vf_desk.proofs.Common.{sets, yes, Ptr, block_ptr, null_ptr, ptr_val, in_a_block, plain, nothing, Stays, stay_dropped, walk_of, Goes-blank}
+use Rattle.vf_desk.proofs.Common.{proved_at, leaves, box_owns, Option, Some, None, IsSome, ghosts}
 use denote.Memory.{lone}
-use denote.RawPtr.{Ptr, block_ptr, null_ptr, ptr_val, in_a_block}
-use denote.Signature.{plain, Slot}
-use denote.Steps.{nothing, heard}
-use denote.Triple.Walked.{Stays, stay_dropped, walk_of}
-use Rattle.core.proofs.alloc.Calls.{Goes-blank}
-use Rattle.std.proofs.raw_atomic.Walks.{proved_at, leaves}
+use denote.Signature.{Slot}
+use denote.Steps.{heard}
 use Rattle.std.proofs.lemmas.Bool.{false≢true}
-use Rattle.std.specs.Box.Ownership.{box_owns}
-use Rattle.std.specs.Prelude.{Option, Some, None, IsSome}
 use Rattle.std.specs.contracts.alloc.Global as heap
-use Rattle.std.specs.contracts.impls.GlobalAllocator.TheImpl.{ghosts}
 use Rattle.std.proofs.alloc.Global.TheLaws as heap_laws
 use Rattle.vf_desk.proofs.Pairs.{pair, owned, Apart, apart_good, apart_in, handle_out}
 use Rattle.vf_desk.specs.contracts.station.Station as Station

@@ -1,26 +1,10 @@
 -- `of_unboxed` moves two fields, the address as one of another type; what they own stays.
-use mathlib.Core.Path.{refl, sym, subst}
-use mathlib.Core.List.{List, [], ◌∷◌, ◌++◌}
-use mir.Val.{Val, vptr}
-use base.Fml.{ftrue, fsep}
-use base.Logic.{SProp, ent, emp, id⊢}
-use contract.Monad.{fact, fact_i}
-use contract.Running.{tables}
-use prog.Wp.{WpFn}
-use types.Kit.{‵, raw, ◌⊛◌, ◌$◌, ◌∵◌, !, qed, by, move, keep, use0, split, fsplit, fjoin, suffices}
-use types.Part.{agg, sub, whole}
-use types.Run.{stop, fld, of_opd, no_more, and_then, returns, enter}
-use types.ByLocal.{alloc_all, pass_all, free_all, look_at, get, get_in, sets}
-use denote.Exit.{yes}
-use denote.RawPtr.{block_ptr}
-use denote.Signature.{plain, Slot}
-use denote.Steps.{nothing}
-use denote.Triple.Walked.{Stays, stay_dropped, walk_of}
-use Rattle.core.proofs.alloc.Calls.{Goes-blank}
-use Rattle.std.proofs.raw_atomic.Walks.{proved_at, leaves}
-use Rattle.std.specs.Prelude.{Some, ◌≡◌}
+use Rattle.vf_desk.proofs.Common.{refl, sym, subst, List, [], ◌∷◌, ◌++◌, Val, vptr, ftrue, fsep, SProp, ent, emp, id⊢, fact, fact_i, tables, WpFn, ‵, raw}
+use Rattle.vf_desk.proofs.Common.{◌⊛◌, ◌$◌, ◌∵◌, !, qed, by, move, keep, use0, split, fsplit, fjoin, suffices, agg, sub, whole, stop, fld, of_opd, no_more}
+use Rattle.vf_desk.proofs.Common.{and_then, returns, enter, alloc_all, pass_all, free_all, look_at, get, get_in, sets, yes, block_ptr, plain, nothing, Stays}
+use Rattle.vf_desk.proofs.Common.{stay_dropped, walk_of, Goes-blank, proved_at, leaves, Some, ◌≡◌, ghosts}
+use denote.Signature.{Slot}
 use Rattle.std.specs.contracts.alloc.Global as heap
-use Rattle.std.specs.contracts.impls.GlobalAllocator.TheImpl.{ghosts}
 use Rattle.std.proofs.alloc.Global.TheLaws as heap_laws
 use Rattle.vf_desk.proofs.Pairs.{pair, Apart, apart_good, apart_out, handle_in}
 use Rattle.vf_desk.specs.contracts.station.Station as Station

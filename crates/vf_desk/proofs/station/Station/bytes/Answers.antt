@@ -1,5 +1,4 @@
-use Rattle.std.proofs.Common.{sym, arith}
-use borrow.Author.Tests.{tests}
+use Rattle.vf_desk.proofs.Common.{sym, arith, tests}
 use Rattle.rh_defs.specs.declared.question.Question.TheVariants as question
 use Rattle.vf_desk.proofs.FillLaws.{filled-none}
 use Rattle.vf_desk.proofs.FormLaws.{a-name, an-anchor, both-are, first-fails, no-anchor, no-name}

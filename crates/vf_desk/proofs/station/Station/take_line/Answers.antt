@@ -1,6 +1,4 @@
-use Rattle.std.proofs.Common.{Some, refl, sym, subst}
-use Rattle.vf_desk.specs.Lines.{Takes}
-use Rattle.vf_desk.specs.Status.{closed}
+use Rattle.vf_desk.proofs.Common.{Some, refl, sym, subst, Takes, closed}
 use Rattle.vf_desk.proofs.LineLaws.{takes-closed, takes-open}
 use Rattle.vf_desk.proofs.SeenLaws.{shut-same}
 use Rattle.vf_desk.proofs.station.Station.take_line.Goals as goal

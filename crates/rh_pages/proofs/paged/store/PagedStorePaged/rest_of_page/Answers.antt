@@ -1,7 +1,4 @@
-use Rattle.std.proofs.Common.{◌-◌, ◌%◌, sym, ◌∙◌, arith}
-use Rattle.rh_defs.specs.declared.sizes.TheConstants.{PAGE}
-use Rattle.rh_defs.proofs.BytesLaws.{part-range}
-use Rattle.rh_pages.specs.Paged.{whole_law, region_of}
+use Rattle.rh_pages.proofs.Common.{◌-◌, ◌%◌, sym, ◌∙◌, arith, PAGE, part-range, whole_law, region_of}
 use Rattle.rh_pages.proofs.Seats.{seat}
 use Rattle.rh_pages.proofs.paged.store.PagedStorePaged.rest_of_page.Goals as goal
 

@@ -1,7 +1,5 @@
-use Rattle.std.proofs.Common.{◌≡◌, ℕ, ◌+◌, ◌<◌, ◌≤◌, subst, sym, ap, ◌∙◌, arith}
-use Rattle.rh_defs.specs.Memory.{Memory, IsOpen, grown}
+use Rattle.rh_pages.proofs.Common.{◌≡◌, ℕ, ◌+◌, ◌<◌, ◌≤◌, subst, sym, ap, ◌∙◌, arith, Memory, IsOpen, grown, memory_of}
 use Rattle.rh_defs.proofs.MemoryLaws.{IsOpen-grown, free-grown}
-use Rattle.rh_pages.specs.Paged.{memory_of}
 use Rattle.rh_pages.proofs.Steps.{grown_none, grown_more}
 use Rattle.rh_pages.proofs.paged.store.PagedStorePages.grow.Goals as goal
 

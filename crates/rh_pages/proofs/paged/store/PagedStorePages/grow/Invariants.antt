@@ -1,6 +1,4 @@
-use Rattle.std.proofs.Common.{◌≡◌, ◌≤◌}
-use Rattle.rh_defs.specs.Memory.{IsOpen, grown}
-use Rattle.rh_pages.specs.Paged.{memory_of}
+use Rattle.rh_pages.proofs.Common.{◌≡◌, ◌≤◌, IsOpen, grown, memory_of}
 use Rattle.rh_pages.proofs.paged.store.PagedStorePages.grow.Given as goal
 
 abbrev pub invariant-loop-page : goal.invariant-loop-page

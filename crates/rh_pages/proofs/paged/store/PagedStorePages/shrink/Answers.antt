@@ -1,8 +1,6 @@
-use Rattle.std.proofs.Common.{◌≡◌, ℕ, ◌+◌, ◌*◌, ◌<◌, ◌≤◌, length, subst, sym, ap, ◌∙◌, arith}
-use Rattle.rh_defs.specs.declared.sizes.TheConstants.{PAGE}
-use Rattle.rh_defs.specs.Memory.{Memory, IsOpen, bytes, shrunk}
-use Rattle.rh_defs.proofs.MemoryLaws.{IsOpen-shrunk, length-shrunk}
-use Rattle.rh_pages.specs.Paged.{memory_of}
+use Rattle.rh_pages.proofs.Common.{◌≡◌, ℕ, ◌+◌, ◌*◌, ◌<◌, ◌≤◌, length, subst, sym, ap, ◌∙◌, arith, PAGE, Memory, IsOpen, bytes, shrunk, length-shrunk}
+use Rattle.rh_pages.proofs.Common.{memory_of}
+use Rattle.rh_defs.proofs.MemoryLaws.{IsOpen-shrunk}
 use Rattle.rh_pages.proofs.Steps.{shrunk_none, shrunk_more}
 use Rattle.rh_pages.proofs.paged.store.PagedStorePages.shrink.Goals as goal
 

@@ -1,5 +1,4 @@
-use Rattle.std.proofs.Common.{arith}
-use Rattle.rh_pages.specs.Paged.{memory_of}
+use Rattle.rh_pages.proofs.Common.{arith, memory_of}
 use Rattle.rh_pages.proofs.paged.store.PagedStoreSited.free_page.Goals as goal
 
 pub at-requires : goal.at-requires

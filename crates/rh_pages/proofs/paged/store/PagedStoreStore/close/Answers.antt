@@ -1,13 +1,7 @@
-use Rattle.std.proofs.Common.{◌≡◌, ◌/◌, ℕ, List, [], ◌∷◌, length, refl, sym, subst, ap, ◌∙◌, arith}
-use Rattle.std.specs.Prelude.{None}
-use Rattle.rh_defs.specs.declared.sizes.TheConstants.{MAX_AREAS, PAGE}
-use Rattle.rh_defs.specs.Memory.{Memory, IsOpen, area_set, bytes, shrunk}
-use Rattle.rh_defs.proofs.MemoryLaws.{IsOpen-shrunk, length-shrunk}
-use Rattle.rh_pages.specs.declared.paged.PagedStore.{PagedStore}
-use Rattle.rh_pages.specs.Pages.{list_at, IsStore, memory_in}
-use Rattle.rh_pages.specs.Paged.{memory_of, whole_law, numbered_law, region_of, pages_of, free_of}
-use Rattle.std.specs.Prelude.{false}
-use Rattle.std.proofs.Common.{set}
+use Rattle.rh_pages.proofs.Common.{◌≡◌, ◌/◌, ℕ, List, [], ◌∷◌, length, refl, sym, subst, ap, ◌∙◌, arith, None, MAX_AREAS, PAGE, Memory, IsOpen, area_set}
+use Rattle.rh_pages.proofs.Common.{bytes, shrunk, length-shrunk, PagedStore, list_at, IsStore, memory_in, memory_of, whole_law, numbered_law, region_of}
+use Rattle.rh_pages.proofs.Common.{pages_of, free_of, false, set}
+use Rattle.rh_defs.proofs.MemoryLaws.{IsOpen-shrunk}
 use Rattle.rh_pages.proofs.Seats.{area_long}
 use Rattle.rh_pages.proofs.Start.{closed_kept, closed_memory}
 use Rattle.rh_pages.proofs.Steps.{closed_shrunk}

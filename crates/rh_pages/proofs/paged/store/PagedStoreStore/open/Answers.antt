@@ -1,9 +1,6 @@
-use Rattle.std.proofs.Common.{◌≡◌, ◌<◌, ℕ, Bool, true, false, List, get_or, refl, arith}
-use Rattle.std.specs.Prelude.{IsSome}
-use Rattle.rh_defs.specs.declared.sizes.TheConstants.{MAX_AREAS}
+use Rattle.rh_pages.proofs.Common.{◌≡◌, ◌<◌, ℕ, Bool, true, false, List, get_or, refl, arith, IsSome, MAX_AREAS, contents, memory_of, region_of, pages_of}
+use Rattle.rh_pages.proofs.Common.{free_of}
 use Rattle.rh_defs.proofs.MemoryLaws.{open_below-all, open_below-none}
-use Rattle.rh_pages.specs.Pages.{contents}
-use Rattle.rh_pages.specs.Paged.{memory_of, region_of, pages_of, free_of}
 use Rattle.rh_pages.proofs.Areas.{contents_marked}
 use Rattle.rh_pages.proofs.Start.{was_closed, opened_kept, opened_memory}
 use Rattle.rh_pages.proofs.paged.store.PagedStoreStore.open.Goals as goal

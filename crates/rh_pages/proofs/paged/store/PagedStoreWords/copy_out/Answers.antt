@@ -1,9 +1,7 @@
-use Rattle.std.proofs.Common.{◌≡◌, ◌+◌, ◌-◌, ◌≤◌, length, slice_range, refl, sym, ap, ◌∙◌, arith}
-use Rattle.rh_defs.specs.Bytes.{part, put}
-use Rattle.rh_defs.specs.Memory.{bytes}
-use Rattle.rh_defs.proofs.BytesLaws.{length-part, length-put, part_none, put_none, put_all, part-range}
+use Rattle.rh_pages.proofs.Common.{◌≡◌, ◌+◌, ◌-◌, ◌≤◌, length, slice_range, refl, sym, ap, ◌∙◌, arith, part, put, bytes, length-part, length-put, part_none}
+use Rattle.rh_pages.proofs.Common.{part-range, memory_of, small_law}
+use Rattle.rh_defs.proofs.BytesLaws.{put_none, put_all}
 use Rattle.rh_store.proofs.Slices.{written}
-use Rattle.rh_pages.specs.Paged.{memory_of, small_law}
 use Rattle.rh_pages.proofs.Steps.{filled_more}
 use Rattle.rh_pages.proofs.paged.store.PagedStoreWords.copy_out.Goals as goal
 

@@ -1,7 +1,4 @@
-use Rattle.std.proofs.Common.{◌≡◌, ◌-◌, ◌≤◌, length}
-use Rattle.rh_defs.specs.Bytes.{part, put}
-use Rattle.rh_defs.specs.Memory.{bytes}
-use Rattle.rh_pages.specs.Paged.{memory_of}
+use Rattle.rh_pages.proofs.Common.{◌≡◌, ◌-◌, ◌≤◌, length, part, put, bytes, memory_of}
 use Rattle.rh_pages.proofs.paged.store.PagedStoreWords.copy_out.Given as goal
 
 abbrev pub invariant-loop-done : goal.invariant-loop-done

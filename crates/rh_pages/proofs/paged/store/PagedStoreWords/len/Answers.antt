@@ -1,5 +1,4 @@
-use Rattle.std.proofs.Common.{arith}
-use Rattle.rh_pages.specs.Paged.{small_law}
+use Rattle.rh_pages.proofs.Common.{arith, small_law}
 use Rattle.rh_pages.proofs.Seats.{area_below, table_long}
 use Rattle.rh_pages.proofs.paged.store.PagedStoreWords.len.Goals as goal
 

@@ -1,9 +1,4 @@
-use Rattle.std.proofs.Common.{◌-◌, ◌%◌, length, sym, ap, ◌∙◌, arith}
-use Rattle.rh_defs.specs.declared.sizes.TheConstants.{PAGE}
-use Rattle.rh_defs.proofs.BytesLaws.{part-range, length-part}
-use Rattle.rh_pages.specs.Paged.{whole_law, memory_of, region_of}
-use Rattle.rh_defs.specs.Bytes.{part}
-use Rattle.rh_defs.specs.Memory.{bytes}
+use Rattle.rh_pages.proofs.Common.{◌-◌, ◌%◌, length, sym, ap, ◌∙◌, arith, PAGE, part-range, length-part, whole_law, memory_of, region_of, part, bytes}
 use Rattle.rh_pages.proofs.Seats.{seat}
 use Rattle.rh_pages.proofs.paged.store.PagedStoreWords.run.Goals as goal
 

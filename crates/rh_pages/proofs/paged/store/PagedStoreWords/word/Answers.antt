@@ -1,6 +1,4 @@
-use Rattle.std.proofs.Common.{◌∙◌, arith}
-use Rattle.rh_defs.specs.Memory.{bytes}
-use Rattle.rh_pages.specs.Paged.{memory_of, region_of}
+use Rattle.rh_pages.proofs.Common.{◌∙◌, arith, bytes, memory_of, region_of}
 use Rattle.rh_pages.proofs.Regions.{word_there}
 use Rattle.rh_pages.proofs.Seats.{seat, on_from_place}
 use Rattle.rh_pages.proofs.paged.store.PagedStoreWords.word.Goals as goal

@@ -1,8 +1,5 @@
-use Rattle.std.proofs.Common.{◌≡◌, ◌+◌, ◌≤◌, length, sym, ap, ◌∙◌, arith}
-use Rattle.rh_defs.specs.Bytes.{part, put}
-use Rattle.rh_defs.specs.Memory.{bytes, with_bytes}
-use Rattle.rh_defs.proofs.BytesLaws.{part_none, part_all, part-range}
-use Rattle.rh_pages.specs.Paged.{memory_of, small_law}
+use Rattle.rh_pages.proofs.Common.{◌≡◌, ◌+◌, ◌≤◌, length, sym, ap, ◌∙◌, arith, part, put, bytes, with_bytes, part_none, part-range, memory_of, small_law}
+use Rattle.rh_defs.proofs.BytesLaws.{part_all}
 use Rattle.rh_pages.proofs.Steps.{put_to, none_written, copied_more}
 use Rattle.rh_pages.proofs.paged.store.PagedStoreWordsMut.copy_in.Goals as goal
 

@@ -1,7 +1,6 @@
-use Rattle.std.proofs.Common.{refl, ◌∙◌, arith, w32}
+use Rattle.rh_pages.proofs.Common.{refl, ◌∙◌, arith, w32, memory_of, region_of}
 use Rattle.std.specs.Int.{to_le_bytes}
 use Rattle.rh_defs.specs.Bytes.{put_word}
-use Rattle.rh_pages.specs.Paged.{memory_of, region_of}
 use Rattle.rh_pages.proofs.Regions.{run_put}
 use Rattle.rh_pages.proofs.Seats.{seat, still_long, on_from_place}
 use Rattle.rh_pages.proofs.paged.store.PagedStoreWordsMut.set_word.Goals as goal

@@ -1,7 +1,4 @@
-use Rattle.std.proofs.Common.{◌≡◌, ◌+◌, ◌≤◌, replicate, refl, ap, ◌∙◌, arith}
-use Rattle.rh_defs.specs.Bytes.{put}
-use Rattle.rh_defs.specs.Memory.{bytes, with_bytes}
-use Rattle.rh_pages.specs.Paged.{memory_of, small_law}
+use Rattle.rh_pages.proofs.Common.{◌≡◌, ◌+◌, ◌≤◌, replicate, refl, ap, ◌∙◌, arith, put, bytes, with_bytes, memory_of, small_law}
 use Rattle.rh_pages.proofs.Steps.{put_to, none_written, zeroed_more}
 use Rattle.rh_pages.proofs.paged.store.PagedStoreWordsMut.zero.Goals as goal
 

@@ -1,7 +1,4 @@
-use Rattle.std.proofs.Common.{◌-◌, ◌≤◌, replicate}
-use Rattle.rh_defs.specs.Bytes.{put}
-use Rattle.rh_defs.specs.Memory.{bytes}
-use Rattle.rh_pages.specs.Paged.{memory_of}
+use Rattle.rh_pages.proofs.Common.{◌-◌, ◌≤◌, replicate, put, bytes, memory_of}
 use Rattle.rh_pages.proofs.Steps.{Rewritten}
 use Rattle.rh_pages.proofs.paged.store.PagedStoreWordsMut.zero.Given as goal
 

@@ -1,36 +1,27 @@
 -- `into_box` hands address and heap's handle to std, with what they own, and answers the box that it gives.
-use mathlib.Core.Path.{◌≡◌, refl, sym, ap, subst}
-use mathlib.Core.List.{List, [], ◌∷◌, ◌++◌}
+use Rattle.vf_desk.proofs.Common.{◌≡◌, refl, sym, ap, subst, List, [], ◌∷◌, ◌++◌, dnil, Val, vptr, ftrue, SProp, ent, id⊢, fact, tables, WpFn, ‵, raw, ◌⊛◌}
+use Rattle.vf_desk.proofs.Common.{◌$◌, ◌∵◌, !, qed, by, move, keep, split, fsplit, fjoin, rewrite, suffices, sub, whole, stop, fld, of_opd, no_more, and_then}
+use Rattle.vf_desk.proofs.Common.{returns, enter, alloc_all, pass_all, free_all, look_at, get, get_in, sets, layout, RattleType, block_ptr, plain, nothing}
+use Rattle.vf_desk.proofs.Common.{Stays, stay_dropped, walk_of, Goes-blank, proved_at, leaves}
 use mir.MapTy.{inst_fn}
-use mir.Syntax.{a_type, dcons, dnil}
-use mir.Val.{Val, vptr}
-use base.Fml.{ftrue, flft}
-use base.Logic.{SProp, ent, id⊢}
+use mir.Syntax.{a_type, dcons}
+use base.Fml.{flft}
 use contract.BorrowLft.{◌⊑◌}
-use contract.Monad.{fact}
-use contract.Running.{tables}
-use prog.Wp.{WpFn}
-use types.Kit.{‵, raw, ◌⊛◌, some, later, at_ret, ◌$◌, ◌∵◌, !, qed, by, move, keep, drop, use1, split, split3, join, pick, fsplit, fjoin, feq_i, await}
-use types.Kit.{rewrite, suffices}
-use types.Part.{sub, whole}
-use types.Run.{stop, fld, of_opd, no_more, and_then, first, blocks, exec, returns, enter}
-use types.ByLocal.{alloc_all, pass_all, free_all, look_at, get, get_in, sets, lands_last, env}
+use types.Kit.{some, later, at_ret, drop, use1, split3, join, pick, feq_i, await}
+use types.Run.{first, blocks, exec}
+use types.ByLocal.{lands_last, env}
 use denote.Exit.{no}
-use denote.Param.{param, layout, bounded}
+use denote.Param.{param, bounded}
 use denote.Param.Laws.{param_laws}
-use denote.RattleType.{RattleType, owns}
-use denote.RawPtr.{block_ptr}
-use denote.Signature.{types_at, plain}
-use denote.Steps.{nothing, only}
+use denote.RattleType.{owns}
+use denote.Signature.{types_at}
+use denote.Steps.{only}
 use denote.Triple.Call.{calls_at_last}
 use denote.Triple.Clauses.{Lasts, lasts}
 use denote.Triple.Spec.{triple_of}
-use denote.Triple.Walked.{Stays, stay_dropped, walk_of}
-use Rattle.core.proofs.alloc.Calls.{Goes-blank}
 use Rattle.core.proofs.alloc.Shapes.{after}
 use Rattle.core.proofs.atomic.Steps.{fm}
 use Rattle.core.proofs.cell.Inside.{Good}
-use Rattle.std.proofs.raw_atomic.Walks.{proved_at, leaves}
 use Rattle.std_alloc.proofs.BoxSteps.Form as box
 use Rattle.std_alloc.proofs.BoxSteps.Steps.{box_out, box_in}
 use Rattle.std_alloc.specs.contracts.boxed.Box.from_raw as making

@@ -1,37 +1,26 @@
 -- `of` has the box's address and its heap's handle from std, with what the box owned, and puts the two side by side.
-use mathlib.Core.Path.{◌≡◌, refl, sym, ap, ◌∙◌, subst}
-use mathlib.Core.List.{List, [], ◌∷◌, ◌++◌}
+use Rattle.vf_desk.proofs.Common.{◌≡◌, refl, sym, ap, ◌∙◌, subst, List, [], ◌∷◌, ◌++◌, bare, dnil, Val, vptr, ftrue, fsep, SProp, ent, emp, never, id⊢, fst∗}
+use Rattle.vf_desk.proofs.Common.{fact, fact_i, tables, WpFn, sem, ‵, raw, ◌⊛◌, ◌$◌, ◌∵◌, !, qed, by, move, keep, use0, split, fsplit, fjoin, rewrite}
+use Rattle.vf_desk.proofs.Common.{suffices, agg, sub, whole, stop, fld, of_opd, no_more, and_then, returns, enter, alloc_all, pass_all, free_all, look_at}
+use Rattle.vf_desk.proofs.Common.{get, get_in, sets, layout, RattleType, Ptr, block_ptr, null_ptr, ptr_val, in_a_block, plain, nothing, Stays, stay_dropped}
+use Rattle.vf_desk.proofs.Common.{walk_of, Goes-blank, handle_tells, box_owns, proved_at, leaves}
 use mir.MapTy.{inst_fn}
-use mir.Raw.{raw as bare}
-use mir.Syntax.{a_type, dcons, dnil}
-use mir.Val.{Val, vptr, vstruct, of_list}
-use base.Fml.{ftrue, fsep, flft}
-use base.Logic.{SProp, ent, emp, never, id⊢, fst∗}
-use contract.Monad.{fact, fact_i}
-use contract.Running.{tables}
-use prog.Wp.{WpFn}
-use types.Logic.{sem}
-use types.Kit.{‵, raw, ◌⊛◌, some, later, ◌$◌, ◌∵◌, !, qed, by, move, keep, drop, use0, use1, split, split3, join, pick, fsplit, fjoin, fpick, feq_l, await}
-use types.Kit.{rewrite, suffices}
-use types.Part.{agg, sub, whole}
-use types.Run.{stop, fld, of_opd, no_more, and_then, returns, enter}
-use types.ByLocal.{alloc_all, pass_all, free_all, look_at, get, get_in, sets, lands_as}
+use mir.Syntax.{a_type, dcons}
+use mir.Val.{vstruct, of_list}
+use base.Fml.{flft}
+use types.Kit.{some, later, drop, use1, split3, join, pick, fpick, feq_l, await}
+use types.ByLocal.{lands_as}
 use denote.Builtin.{RawPtr}
 use denote.Exit.{no}
-use denote.Param.{param, layout, bounded}
+use denote.Param.{param, bounded}
 use denote.Param.Laws.{param_laws}
-use denote.RattleType.{RattleType, owns}
-use denote.RawPtr.{Ptr, block_ptr, null_ptr, ptr_val, in_a_block}
-use denote.Signature.{types_at, plain}
-use denote.Steps.{nothing, only, heard}
+use denote.RattleType.{owns}
+use denote.Signature.{types_at}
+use denote.Steps.{only, heard}
 use denote.Struct.Tuple.{Tuple}
 use denote.Triple.Call.{calls_at}
 use denote.Triple.Spec.{triple_of}
-use denote.Triple.Walked.{Stays, stay_dropped, walk_of}
-use Rattle.core.proofs.alloc.Calls.{Goes-blank, handle_tells}
 use Rattle.core.proofs.atomic.Steps.{fm}
-use Rattle.std.specs.Box.Ownership.{box_owns}
-use Rattle.std.proofs.raw_atomic.Walks.{proved_at, leaves}
 use Rattle.std_alloc.proofs.BoxSteps.Form as box
 use Rattle.std_alloc.proofs.BoxSteps.Steps.{box_out, box_in}
 use Rattle.std_alloc.specs.contracts.boxed.Box.into_raw_with_allocator as taking

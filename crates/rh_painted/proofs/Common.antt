@@ -1,0 +1,86 @@
+-- Names that many of the proofs here cite, passed on in one place.
+pub use Rattle.std.proofs.Common.{Bool, List, None, Some, ap, append-nil, append_assoc, ap₂, arith, drop, eq-eqb, false, get_or, inl, inr, length}
+pub use Rattle.std.proofs.Common.{length-append, map, refl, rules, set, subst, suc, sym, take, true, zero, ℕ, [], ◌*◌, ◌++◌, ◌+◌, ◌-◌, ◌<◌, ◌||◌, ◌∙◌, ◌∷◌}
+pub use Rattle.std.proofs.Common.{◌≡◌, ◌≢◌, ◌≤◌, ◌⊎◌}
+pub use Rattle.std.proofs.lemmas.Bool.{ne_eqb}
+pub use Rattle.std.proofs.lemmas.Bool.Decides.{nat_tests}
+pub use Rattle.std.proofs.lemmas.Grind.{flat_map-append}
+pub use Rattle.std.proofs.lemmas.List.{drop_all, length-map, length-take, take_all}
+pub use Rattle.std.proofs.lemmas.Option.{slice_get_within}
+pub use Rattle.std.specs.Fmt.{decimal}
+pub use Rattle.std.specs.List.{AllByRecursion, concat, enumerate_from, flat_map, list_any}
+pub use Rattle.std.specs.Option.{option_map}
+pub use Rattle.std.specs.Prelude.{Err, IfNone, IfSome, Ok, OnErr, OnOk, Option, Result, codes, filter, find, if◌then◌else◌, insert, is_err, max, min, nat_le}
+pub use Rattle.std.specs.Prelude.{nat_lt, not, slice_get, slice_index, ◌&&◌, ◌==◌, ◌^◌}
+pub use Rattle.std.specs.Result.{IsErr}
+pub use Rattle.rh_defs.specs.Desk.{Desk, Task, module_pages, task_at}
+pub use Rattle.rh_defs.specs.Heap.{base}
+pub use Rattle.rh_defs.specs.Line.{Meaning}
+unfoldable pub use Rattle.rh_defs.specs.Line.{line_means}
+pub use Rattle.rh_defs.specs.Listing.{block_items}
+pub use Rattle.rh_defs.specs.Messages.{Parcel}
+pub use Rattle.rh_defs.specs.Order.{IsReordered, with_queue}
+pub use Rattle.rh_defs.specs.Slot.{flex_start, heap_start}
+pub use Rattle.rh_defs.specs.Step.{step}
+pub use Rattle.rh_defs.specs.Text.{fault_text}
+pub use Rattle.rh_defs.specs.declared.command.Command.{Command}
+pub use Rattle.rh_defs.specs.declared.fault.LineFault.{LineFault}
+pub use Rattle.rh_defs.specs.declared.listing.BlockItem.{BlockItem}
+pub use Rattle.rh_defs.specs.declared.listing.MessageItem.{MessageItem}
+pub use Rattle.rh_drawn.proofs.CardLemmas.{flex-long}
+pub use Rattle.rh_drawn.proofs.DrawingLemmas.{seen-same}
+pub use Rattle.rh_drawn.proofs.HeapLemmas.{cards-long, from-first, if-heap}
+pub use Rattle.rh_drawn.proofs.PageLemmas.{owned, owned-few, seen-fixed, seen-slot}
+pub use Rattle.rh_drawn.proofs.Walks.{left_last, puts_none, puts_same}
+pub use Rattle.rh_drawn.specs.Bands.{band_cards}
+pub use Rattle.rh_drawn.specs.Cards.{cards_behind}
+pub use Rattle.rh_drawn.specs.Deeds.{reply_to, rest_means}
+pub use Rattle.rh_drawn.specs.Letters.{letterboxes_in}
+pub use Rattle.rh_drawn.specs.Returns.{return_lines}
+pub use Rattle.rh_drawn.specs.Sides.{ins_of, outs_of}
+pub use Rattle.rh_feed.proofs.LineLemmas.{kept_means}
+unfoldable pub use Rattle.rh_feed.specs.Lines.{kept}
+pub use Rattle.rh_figure.specs.Cards.{flex_cards, heap_cards, module_cards, shown_cards}
+pub use Rattle.rh_figure.specs.Changes.{block_change, changes, freed_text, gone_line, has_anchor, item_of, slide_change, slide_of, slides, taken_line}
+pub use Rattle.rh_figure.specs.Changes.{takes_text}
+pub use Rattle.rh_figure.specs.Figure.{fixed_panel, letterboxes, made_panel, transfers}
+pub use Rattle.rh_figure.specs.Map.{Place, Read, Stage, after_read}
+pub use Rattle.rh_figure.specs.Phrases.{Text, area_name, owner_name, size_text, task_name, where_so}
+pub use Rattle.rh_figure.specs.Scene.{Before, Scene, marks_of, scene_of}
+pub use Rattle.rh_figure.specs.Share.{AreaOf, Holding, IsShared, Share, SlotOf, count_of, holdings}
+pub use Rattle.rh_figure.specs.Whole.{AreShared}
+pub use Rattle.rh_figure.specs.declared.piece.Piece.{Piece}
+pub use Rattle.rh_lines.proofs.FlowLemmas.{puts_before, puts_more, puts_stops, takes_more, takes_none}
+pub use Rattle.rh_lines.specs.Flow.{Breaks, Output, Puts, Takes}
+pub use Rattle.rh_map.proofs.Left.{Left, left_breaks, left_less, left_none, left_whole}
+pub use Rattle.rh_sheet.specs.Areas.{lens_below, ticks_text}
+pub use Rattle.rh_sheet.specs.Chart.{arrow_sentence, arrows, followed, inserted, noted, steps_in, tasks_in}
+pub use Rattle.rh_sheet.specs.Laws.{at_desk}
+pub use Rattle.rh_sheet.specs.Markup.{change_item, escape, escaped_byte, figure_open, heading_text}
+pub use Rattle.rh_sheet.specs.Rows.{Plot}
+pub use Rattle.rh_sheet.specs.Sheet.{Happened, Walk, behind_read, fault_happened, happened_text, read_text, sheet_lines}
+pub use Rattle.rh_sheet.specs.Steps.{area_heading, changes_text, said_end, slot_part, step_end, step_text}
+unfoldable pub use Rattle.rh_sheet.specs.Steps.{figure_text}
+pub use Rattle.rh_sheet.specs.Tables.{letterbox_row, messages_table, transfer_row, transfers_table}
+pub use Rattle.rh_sheet.specs.declared.frame.Frame.{Frame}
+pub use Rattle.rh_sheet.specs.declared.note.Note.{Note}
+pub use Rattle.rh_sight.proofs.Heaps.{task-slot}
+pub use Rattle.rh_sight.proofs.Holders.{at-some}
+pub use Rattle.rh_sight.proofs.PieceWalks.{items-long}
+pub use Rattle.rh_sight.proofs.Places.{rest-some}
+pub use Rattle.rh_sight.proofs.SlotPieces.{few-blocks}
+pub use Rattle.rh_sight.specs.Messages.{held_on, message_items, waiting_on}
+pub use Rattle.rh_sight.specs.Seen.{IsTaskSeen, heap_seen, heap_start_of}
+pub use Rattle.rh_sight.specs.Steps.{scene_at}
+pub use Rattle.rh_sight.specs.declared.walk.Census.{Census}
+pub use Rattle.rh_painted.specs.Bands.{band_text_from, form_text}
+pub use Rattle.rh_painted.specs.Charts.{beat_in, path_in, words_in}
+pub use Rattle.rh_painted.specs.Figures.{IsSlotPlan}
+pub use Rattle.rh_painted.specs.Notes.{code_among}
+pub use Rattle.rh_painted.specs.Owners.{who_seen}
+pub use Rattle.rh_painted.specs.Progress.{Stand}
+pub use Rattle.rh_painted.specs.Transfers.{in_rows, ins_named, out_rows, outs_named}
+pub use Rattle.rh_painted.specs.Walks.{Painted, TookLine, happened_at, walk_in}
+pub use Rattle.rh_painted.specs.Ways.{arrow_of, arrows_seen}
+pub use Rattle.rh_painted.specs.declared.painter.Painter.{Painter}
+pub use Rattle.rh_painted.specs.declared.ways.Way.{Way}

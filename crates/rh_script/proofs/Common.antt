@@ -1,0 +1,18 @@
+-- Names that many of the proofs here cite, passed on in one place.
+pub use borrow.Author.Tests.{tests}
+pub use Rattle.std.proofs.Common.{Bool, Err, List, None, Ok, Option, Result, Some, ap, append-nil, append_assoc, arith, codes, cond, drop, false, get_or}
+pub use Rattle.std.proofs.Common.{length, refl, subst, suc, sym, take, true, zero, ℕ, [], ◌++◌, ◌+◌, ◌-◌, ◌<◌, ◌^◌, ◌∙◌, ◌∷◌, ◌≡◌, ◌≢◌, ◌≤◌}
+pub use Rattle.std.proofs.lemmas.List.{take-append-drop, take_all}
+pub use Rattle.std.specs.Fmt.{decimal}
+pub use Rattle.std.specs.List.{flat_map}
+pub use Rattle.std.specs.Option.{option_map}
+pub use Rattle.std.specs.Prelude.{IfErr, IfOk, MatchResult, find, if◌then◌else◌, map, nat_lt, slice_get, ◌==◌}
+pub use Rattle.std.specs.Result.{IsErr}
+pub use Rattle.rh_defs.specs.Listing.{area_items, in_item, out_item}
+pub use Rattle.rh_defs.specs.Text.{area_line, block_line, ok, record_line, segment_line}
+pub use Rattle.rh_defs.specs.declared.listing.SegmentItem.{SegmentItem}
+pub use Rattle.rh_lines.proofs.FlowLemmas.{breaks_before, puts_before, puts_more, puts_stops, takes_breaks, takes_more, takes_none}
+pub use Rattle.rh_lines.specs.Flow.{Breaks, Output, Puts, Takes}
+pub use Rattle.rh_tasks.specs.Lists.{segment_items_at}
+pub use Rattle.rh_script.specs.Gathered.{Gathered}
+pub use Rattle.rh_script.specs.Named.{bytes_of_named, heap_of_named}
