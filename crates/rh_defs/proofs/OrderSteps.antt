@@ -1,8 +1,8 @@
 -- Each command on two desks that differ in the order of messages to different tasks alone.
-use Rattle.rh_defs.proofs.Common.{◌≡◌, ℕ, ◌-◌, Bool, false, cond, refl, ap, sym, subst, List, length, Option, Some, None, ℤ, Ok, ◌==◌, nat_lt, Refusal}
+use Rattle.rh_defs.proofs.Common.{◌≡◌, ℕ, ◌-◌, false, cond, refl, ap, sym, subst, List, length, Option, Some, None, Ok, ◌==◌, nat_lt, Refusal}
 use Rattle.rh_defs.proofs.Common.{NotABlock, NoRoom, Command, EventCode, User, Recorded, Acknowledge, Letter, Body, DataSave, DataSaveAck, DataLoad}
 use Rattle.rh_defs.proofs.Common.{DataLoadAck, RamFetch, RamTransmit, Incoming, Granted, ◌>>=◌, ◌>>◌, refuse_if, found_or, Split, block_at, Flex, Parcel}
-use Rattle.rh_defs.proofs.Common.{Post, post_join, Desk, Task, Scrap, free_pages, named, with_delivered, Answer, asked, handled, step}
+use Rattle.rh_defs.proofs.Common.{Post, post_join, Desk, Task, Scrap, free_pages, named, with_delivered, Answer, handled, step}
 use Rattle.rh_defs.specs.declared.refusal.Refusal.TheVariants.{NotYours}
 use Rattle.rh_defs.specs.declared.command.Command.TheVariants as command
 use Rattle.rh_defs.specs.declared.reply.Reply.{Reply}
@@ -12,7 +12,7 @@ use Rattle.rh_defs.specs.declared.transfer.Asked.{Asked}
 use Rattle.rh_defs.specs.declared.transfer.Incoming.TheVariants as incoming
 use Rattle.rh_defs.specs.Desk.{with_task, with_post, kept_scrap, send_letter}
 use Rattle.rh_defs.specs.Commands.{start_task, kill, alloc, load, put, free, extend, mid, claim, release, resize, budge, module_area, module_start}
-use Rattle.rh_defs.specs.Commands.{change_module, change_pages, change_made, change_area, make, remove, own_block, rma_claim, rma_free, rma_resize}
+use Rattle.rh_defs.specs.Commands.{change_module, change_pages, change_made, make, remove, own_block, rma_claim, rma_free, rma_resize}
 use Rattle.rh_defs.specs.OutgoingEvents.{Handled, transmit, refused, answer_fetch, fail_sending, save_scrap, answer_ack, finish_load}
 use Rattle.rh_defs.specs.IncomingEvents.{ended, accept, take_save, appended, fetch_more, took, is_uncountable, take_bytes, ask, fetch_back, ack_back, loaded}
 use Rattle.rh_defs.specs.IncomingEvents.{load_file, take_file}

@@ -1,6 +1,6 @@
 -- What a save to the scrap file knows of a world at each of its steps.
 use Rattle.rh_tasks.proofs.Common.{◌≡◌, ℕ, ◌<◌, ◌≤◌, false, refl, sym, ap, ◌∙◌, arith, List, length, Ok, is_some, get_or, Memory, FileList, Granted, User}
-use Rattle.rh_tasks.proofs.Common.{Letter, Message, Sending, slot_size, Parcel, post_send_pages, Desk, Task, free_pages, wider, scrap_shortage, slot_in}
+use Rattle.rh_tasks.proofs.Common.{Letter, Message, Sending, slot_size, Parcel, post_send_pages, Desk, Task, wider, scrap_shortage, slot_in}
 use Rattle.rh_tasks.proofs.Common.{Answers, Seat, MadeArea, Shown, Kept, the_module, task_of, shown_of, IsWorld, IsFor, Sits}
 use Rattle.rh_defs.specs.Letters.{load_letter}
 use Rattle.rh_tasks.proofs.Buffers.{sits-there, seat-there, seat-handle}

@@ -1,4 +1,4 @@
-use Rattle.rh_tasks.proofs.Common.{◌≡◌, ◌≤◌, refl, sym, ap, ◌∙◌, arith, err_from_is_err_and, free_pages, scrap_shortage}
+use Rattle.rh_tasks.proofs.Common.{◌≡◌, refl, sym, ◌∙◌, arith, err_from_is_err_and, free_pages, scrap_shortage}
 use Rattle.rh_tasks.proofs.Scraps.{seen-busy, seen-free, seen-shortage}
 use Rattle.rh_tasks.proofs.ScrapTransfers.{save-missing, save-busy, save-unsendable, full-is, short-is, sends-ok, own, first-at, first-sends, second-inside}
 use Rattle.rh_tasks.proofs.ScrapTransfers.{second-room, second-block, third-inside, save-all}
