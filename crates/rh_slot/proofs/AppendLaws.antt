@@ -14,7 +14,7 @@ use Rattle.rh_defs.specs.Slot.{slot_extend}
 use Rattle.rh_defs.proofs.BytesLaws.{part_more, part-put}
 use Rattle.rh_defs.proofs.SlotRooms.{length-fitted}
 use Rattle.rh_slot.specs.Flex.{slot_append}
-use Rattle.rh_slot.proofs.EditLaws.{block_bytes, changed}
+use Rattle.rh_slot.proofs.EditLaws.{Slid, block_bytes, changed}
 use Rattle.rh_slot.proofs.FlexLaws.{then_none, then_at}
 
 -- the steps: those above slide, the size word, and the bytes at the end
@@ -44,7 +44,16 @@ appended_words b b2 b3 d s k place size from n to cut xs w t ef en et sh same fi
     let e2 : part d (p + size) (length xs) ≡ xs = ap (λ c. part c (p + size) (length xs)) e ∙ part-put b3 (p + size) xs (length xs) refl (omega arith) in
     let now : part d p (length nb) ≡ nb =
     ap (part d p) ln ∙ part_more d p size (length xs) ∙ ap (λ l. l ++ part d (p + size) (length xs)) e1 ∙ ap (λ l. old ++ l) e2 in
-    changed b b b2 d s k place size from n to cut nb w t ef en (SameOutside-self b p from) sh same fits (omega arith) o hd now
+    let slid : Slid b b b2 s k place size from n to cut = record {
+      words = w;
+      found = t;
+      begins = ef;
+      ends = en;
+      own = SameOutside-self b p from;
+      shifted = sh;
+      below = same;
+    } in
+    changed nb slid fits (omega arith) o hd now
 
 -- the pages that it needs, where the block had the weight v and gets the weight w
 pub appended_pages : (b : List ℕ) (s : Slot) (k place size more v w t : ℕ) (cut : Split Flex) → FoundAt k s place size cut → length b ≡ PAGE * slot_pages s

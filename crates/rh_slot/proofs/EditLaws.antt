@@ -38,21 +38,36 @@ row_over b b1 s k place size from n w t ef en o =
     let sum = a.1 in
     record { blocks = t.cut.after; lie = Lie-same b b1 from (from + n) t.cut.after (in_above o (omega arith)) (omega arith) a.0; sum = a.1; anchors = a.2 }
 
+-- A slot's block at place, and the n bytes of blocks above it, which begin at `from` and slide to `to`: b has the slot,
+-- b1 other bytes in the block, and c those above it where they go
+pub record Slid (b b1 c : List ℕ) (s : Slot) (k place size from n to : ℕ) (cut : Split Flex) : Type 0 where
+  pub words : SlotWords b s
+  pub found : FoundAt k s place size cut
+  pub begins : from ≡ place + flex_weight size
+  pub ends : from + n ≡ slot_length s
+  pub own : SameOutside b b1 (place + 8) from
+  pub shifted : (fs : List Flex) → Lie b1 from fs → total weight fs ≡ n → Shifted b1 c to fs
+  pub below : SameIn b1 c heap_place to
+
 -- bytes in a block change, the blocks above slide, and the block gets its new size and bytes
-pub changed : (b b1 c d : List ℕ) (s : Slot) (k place size from n to : ℕ) (cut : Split Flex) (bytes : List ℕ) → SlotWords b s → FoundAt k s place size cut
-    → from ≡ place + flex_weight size → from + n ≡ slot_length s → SameOutside b b1 (place + 8) from
-    → ((fs : List Flex) → Lie b1 from fs → total weight fs ≡ n → Shifted b1 c to fs) → SameIn b1 c heap_place to → to + n ≤ length d
-    → to ≡ place + flex_weight (length bytes)
+pub changed : {b b1 c d : List ℕ} {s : Slot} {k place size from n to : ℕ} {cut : Split Flex} (bytes : List ℕ) → Slid b b1 c s k place size from n to cut
+    → to + n ≤ length d → to ≡ place + flex_weight (length bytes)
     → SameOutside c d (place + 4) to → word d (place + 4) ≡ length bytes → part d (place + 8) (length bytes) ≡ bytes
     → SlotWords d (with_bytes cut bytes s) × (slot_length (with_bytes cut bytes s) ≡ to + n)
-changed b b1 c d s k place size from n to cut bytes w t ef en ob sh same fits et o h p =
+changed {b} {b1} {c} {d} {s} {k} {place} {size} {from} {n} {to} {cut} bytes slid fits et o h p =
+    let w = slid.words in
+    let t = slid.found in
+    let ef = slid.begins in
+    let en = slid.ends in
+    let ob = slid.own in
+    let same = slid.below in
     let a = above b s k place size from n cut w t ef en in
     let xs = cut.before in
     let f = cut.here in
     let ys = cut.after in
     let new : Flex = record { anchor = f.anchor; bytes = bytes } in
     let sum : total weight ys ≡ n = a.1 in
-    let x = sh ys (Lie-same b b1 from (from + n) ys (in_above ob (omega arith)) (omega arith) a.0) sum in
+    let x = slid.shifted ys (Lie-same b b1 from (from + n) ys (in_above ob (omega arith)) (omega arith) a.0) sum in
     let st = t.stands in
     let low = t.low in
     let lf = (Lie-split b (flex_place s) xs (f ∷ ys) (subst (Lie b (flex_place s)) t.is w.lie)).1 in
@@ -80,9 +95,9 @@ changed b b1 c d s k place size from n to cut bytes w t ef en ob sh same fits et
     )
 
 -- no block has moved
-unmoved : (b : List ℕ) (s : Slot) (k place size from n : ℕ) (cut : Split Flex) → SlotWords b s → FoundAt k s place size cut → from ≡ place + flex_weight size
+unmoved : {b : List ℕ} {s : Slot} {k place size from n : ℕ} {cut : Split Flex} → SlotWords b s → FoundAt k s place size cut → from ≡ place + flex_weight size
     → from + n ≡ slot_length s → (fs : List Flex) → Lie b from fs → total weight fs ≡ n → Shifted b b from fs
-unmoved b s k place size from n cut w t ef en fs l e =
+unmoved {b} {s} {k} {place} {size} {from} {n} {cut} w t ef en fs l e =
     let a = above b s k place size from n cut w t ef en in
     let same : cut.after ≡ fs = Lie-unique b from cut.after fs a.0 l (a.1 ∙ sym e) in
     let h = (Hang-split b (flex_place s) cut.before (cut.here ∷ cut.after) (subst (Hang b (flex_place s)) t.is w.hang)).1.1 in
@@ -162,8 +177,16 @@ put_words b d s k place size offset cut xs w t h e =
     ap (part d p) ln ∙ ap (λ c. part c p size) e ∙ three_parts (put b (p + offset) xs) p size offset (length xs) r _ _ _ (omega arith) e1 e2 e3 in
     let ol = o.len in
     let wl : flex_weight (length new) ≡ flex_weight size = ap flex_weight ln in
-    let c = changed b b b d s k place size from n from cut new w t refl en (SameOutside-self b (place + 8) from)
-    (unmoved b s k place size from n cut w t refl en) (record { each = λ j u v. refl }) (omega arith) (omega arith)
+    let slid : Slid b b b s k place size from n from cut = record {
+      words = w;
+      found = t;
+      begins = refl;
+      ends = en;
+      own = SameOutside-self b (place + 8) from;
+      shifted = unmoved w t refl en;
+      below = record { each = λ j u v. refl };
+    } in
+    let c = changed new slid (omega arith) (omega arith)
     (wider o (omega arith) (omega arith)) (word_same b d (place + 4) (in_below o (omega arith)) ∙ block_size b s k place size cut w t ∙ sym ln) now in
     (c.0, c.1 ∙ en)
 
@@ -189,19 +212,51 @@ length_spliced bytes offset out put h l =
 part_carried : {b c : List ℕ} {from to n : ℕ} → Carried b c from to n → part c to n ≡ part b from n
 part_carried {b} {c} {from} {to} {n} s = parts_same b c from to n (λ k h. s.each k h)
 
--- the steps of a splice: a slide in the block, the slide of those above, the size word, a slide in the block, and zeros
-pub spliced_words : (b b1 b2 b3 b4 d : List ℕ) (s : Slot) (k place size from n to offset out put tail opened m new : ℕ) (cut : Split Flex) → SlotWords b s
-    → FoundAt k s place size cut
-    → offset ≤ size → out ≤ offset → new ≡ size - out + put → from ≡ place + flex_weight size → from + n ≡ slot_length s → to ≡ place + flex_weight new
-    → tail ≡ place + 8 + offset → opened ≡ tail - out → m ≡ size - offset
-    → Carried b b1 tail opened m → SameOutside b b1 opened (opened + m)
-    → ((fs : List Flex) → Lie b1 from fs → total weight fs ≡ n → Shifted b1 b2 to fs) → SameIn b1 b2 heap_place to → to + n ≤ length d
-    → word b3 (place + 4) ≡ new → SameOutside b2 b3 (place + 4) (place + 4 + 4)
-    → Carried b3 b4 opened (opened + put) m → SameOutside b3 b4 (opened + put) (opened + put + m)
-    → part d opened put ≡ replicate put 0 → SameOutside b4 d opened (opened + put)
+-- where a splice works: `out` bytes end at `offset` of the block, and `put` come there; the m bytes behind them stand from
+-- tail on, and the gap opens at `opened`
+pub record Splice (place size offset out put to tail opened m new : ℕ) : Type 0 where
+  pub inside : offset ≤ size
+  pub enough : out ≤ offset
+  pub new_is : new ≡ size - out + put
+  pub to_is : to ≡ place + flex_weight new
+  pub tail_is : tail ≡ place + 8 + offset
+  pub opened_is : opened ≡ tail - out
+  pub rest_is : m ≡ size - offset
+
+-- its steps, but for the slide of those above from b1 to b2: the block's own tail goes down, the size word is written, the
+-- tail goes up, and zeros come into the gap
+pub record SpliceSteps (b b1 b2 b3 b4 d : List ℕ) (place put tail opened m new : ℕ) : Type 0 where
+  pub down : Carried b b1 tail opened m
+  pub only_down : SameOutside b b1 opened (opened + m)
+  pub sized : word b3 (place + 4) ≡ new
+  pub only_sized : SameOutside b2 b3 (place + 4) (place + 4 + 4)
+  pub up : Carried b3 b4 opened (opened + put) m
+  pub only_up : SameOutside b3 b4 (opened + put) (opened + put + m)
+  pub cleared : part d opened put ≡ replicate put 0
+  pub only_cleared : SameOutside b4 d opened (opened + put)
+
+-- what a splice makes of the slot
+pub spliced_words : {b b1 b2 b3 b4 d : List ℕ} {s : Slot} {k place size from n to offset out put tail opened m new : ℕ} {cut : Split Flex}
+    → Slid b b1 b2 s k place size from n to cut → Splice place size offset out put to tail opened m new
+    → SpliceSteps b b1 b2 b3 b4 d place put tail opened m new → to + n ≤ length d
     → SlotWords d (with_bytes cut (spliced offset out put cut.here.bytes) s) × (slot_length (with_bytes cut (spliced offset out put cut.here.bytes) s) ≡ to + n)
-spliced_words b b1 b2 b3 b4 d s k place size from n to offset out put tail opened m new cut w t ho hl en_new ef en et e_tail e_opened em s1 o1 sh same fits
-    h3 o3 s4 o4 z o5 =
+spliced_words {b} {b1} {b2} {b3} {b4} {d} {s} {k} {place} {size} {from} {n} {to} {offset} {out} {put} {tail} {opened} {m} {new} {cut} slid at steps fits =
+    let w = slid.words in
+    let t = slid.found in
+    let ef = slid.begins in
+    let en = slid.ends in
+    let same = slid.below in
+    let ho = at.inside in
+    let hl = at.enough in
+    let en_new = at.new_is in
+    let et = at.to_is in
+    let e_tail = at.tail_is in
+    let e_opened = at.opened_is in
+    let em = at.rest_is in
+    let o1 = steps.only_down in
+    let o3 = steps.only_sized in
+    let o4 = steps.only_up in
+    let o5 = steps.only_cleared in
     let old = cut.here.bytes in
     let nb = spliced offset out put old in
     let long = t.long in
@@ -212,22 +267,22 @@ spliced_words b b1 b2 b3 b4 d s k place size from n to offset out put tail opene
     let a = offset - out in
     let po : opened ≡ p + a = omega arith in
     let whole = block_bytes b s k place size cut w t in
-    let ob : SameOutside b b1 (place + 8) from = wider o1 (omega arith) (omega arith) in
     let o : SameOutside b2 d (place + 4) to =
     same_both (wider o3 (omega arith) (omega arith)) (same_both (wider o4 (omega arith) (omega arith)) (wider o5 (omega arith) (omega arith))) in
     let hd : word d (place + 4) ≡ length nb =
-    word_same b4 d (place + 4) (in_below o5 (omega arith)) ∙ word_same b3 b4 (place + 4) (in_below o4 (omega arith)) ∙ h3 ∙ sym ln in
+    word_same b4 d (place + 4) (in_below o5 (omega arith)) ∙ word_same b3 b4 (place + 4) (in_below o4 (omega arith)) ∙ steps.sized ∙ sym ln in
     let e1 : part d p a ≡ take a old =
     part_same b4 d p a (in_below o5 (omega arith)) ∙ part_same b3 b4 p a (in_below o4 (omega arith)) ∙ part_same b2 b3 p a (in_above o3 (omega arith))
     ∙ part_same b1 b2 p a (part_of same (omega arith) (omega arith)) ∙ part_same b b1 p a (in_below o1 (omega arith))
     ∙ part_take b p size a old whole (omega arith) in
-    let e2 : part d (p + a) put ≡ zeros put = ap (λ q. part d q put) (sym po) ∙ z in
+    let e2 : part d (p + a) put ≡ zeros put = ap (λ q. part d q put) (sym po) ∙ steps.cleared in
     let e3 : part d (p + a + put) m ≡ drop offset old =
-    ap (λ q. part d q m) (let q : p + a + put ≡ opened + put = omega arith in q) ∙ part_same b4 d (opened + put) m (in_above o5 (omega arith)) ∙ part_carried s4
-    ∙ part_same b2 b3 opened m (in_above o3 (omega arith)) ∙ part_same b1 b2 opened m (part_of same (omega arith) (omega arith)) ∙ part_carried s1
+    ap (λ q. part d q m) (let q : p + a + put ≡ opened + put = omega arith in q) ∙ part_same b4 d (opened + put) m (in_above o5 (omega arith))
+    ∙ part_carried steps.up
+    ∙ part_same b2 b3 opened m (in_above o3 (omega arith)) ∙ part_same b1 b2 opened m (part_of same (omega arith) (omega arith)) ∙ part_carried steps.down
     ∙ ap (λ q. part b q m) e_tail ∙ part_rest b p size offset m old whole (omega arith) in
     let now : part d p (length nb) ≡ nb = ap (part d p) ln ∙ three_parts d p new a put m _ _ _ (omega arith) e1 e2 e3 in
-    changed b b1 b2 d s k place size from n to cut nb w t ef en ob sh same fits (omega arith) o hd now
+    changed nb slid fits (omega arith) o hd now
 
 -- the bytes that the slot takes after a splice
 abbrev after_splice : Split Flex → ℕ → ℕ → Slot → ℕ

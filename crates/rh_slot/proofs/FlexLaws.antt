@@ -178,14 +178,31 @@ freed b c d s k p place size from n cut w t l ep ef en sh same len op zp =
       (let both : total weight (xs ++ ys) ≡ total weight xs + total weight ys = sum-append weight xs ys in omega arith),
     )
 
--- the words of a new block are written one after another
-pub alloced : (b b1 b2 b3 d : List ℕ) (s : Slot) (k p n t : ℕ) → SlotWords b s → IsFree k s.blocks → k < anchor_count → p ≡ 4 * k → t ≡ slot_length s
-    → t + flex_weight n ≤ length b → word b1 t ≡ 32768 + p → SameOutside b b1 t (t + 4)
-    → word b2 (t + 4) ≡ n → SameOutside b1 b2 (t + 4) (t + 4 + 4)
-    → part b3 (t + 8) n ≡ replicate n 0 → SameOutside b2 b3 (t + 8) (t + 8 + n)
-    → word d p ≡ 32768 + t + 8 → SameOutside b3 d p (p + 4)
+-- the words of a new block of n bytes at t are written one after another: its header, its size, its zeros, and the anchor
+-- word at p
+pub record AllocSteps (b b1 b2 b3 d : List ℕ) (p n t : ℕ) : Type 0 where
+  pub header : word b1 t ≡ 32768 + p
+  pub only_header : SameOutside b b1 t (t + 4)
+  pub sized : word b2 (t + 4) ≡ n
+  pub only_sized : SameOutside b1 b2 (t + 4) (t + 4 + 4)
+  pub cleared : part b3 (t + 8) n ≡ replicate n 0
+  pub only_cleared : SameOutside b2 b3 (t + 8) (t + 8 + n)
+  pub hung : word d p ≡ 32768 + t + 8
+  pub only_hung : SameOutside b3 d p (p + 4)
+
+-- what they make of the slot
+pub alloced : {b b1 b2 b3 d : List ℕ} {s : Slot} {k p n t : ℕ} → SlotWords b s → IsFree k s.blocks → k < anchor_count → p ≡ 4 * k → t ≡ slot_length s
+    → t + flex_weight n ≤ length b → AllocSteps b b1 b2 b3 d p n t
     → SlotWords d (with_block k (zeros n) s) × (slot_length (with_block k (zeros n) s) ≡ t + flex_weight n)
-alloced b b1 b2 b3 d s k p n t w u l ep e fits h0 o0 h1 o1 h2 o2 hp op =
+alloced {b} {b1} {b2} {b3} {d} {s} {k} {p} {n} {t} w u l ep e fits steps =
+    let h0 = steps.header in
+    let o0 = steps.only_header in
+    let h1 = steps.sized in
+    let o1 = steps.only_sized in
+    let h2 = steps.cleared in
+    let o2 = steps.only_cleared in
+    let hp = steps.hung in
+    let op = steps.only_hung in
     let o3 : SameOutside b3 d (4 * k) (4 * k + 4) = subst (λ i. SameOutside b3 d i (i + 4)) ep op in
     let h3 : word d (4 * k) ≡ 32768 + t + 8 = ap (word d) (sym ep) ∙ hp in
     let f : Flex = record { anchor = k; bytes = zeros n } in

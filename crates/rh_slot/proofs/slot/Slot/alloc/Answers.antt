@@ -27,10 +27,18 @@ returns g c =
     let l3 = c.write-3.ensures.only.outside.len in
     let lr = r.len in
     let q = pages_more _ s _ _ _ lb et ew in
-    let a = alloced _ _ _ _ _ _ _ _ _ _ (words_grown _ _ _ c.requires.slot.spells r.same (omega arith)) c.in_default.ensures c.requires.anchor
-    c.word_place-word.ensures et (omega arith)
-    c.write.ensures.word c.write.ensures.only.outside c.write-2.ensures.word c.write-2.ensures.only.outside c.clear.ensures.block c.clear.ensures.only.outside
-    c.write-3.ensures.word c.write-3.ensures.only.outside in
+    let a = alloced (words_grown _ _ _ c.requires.slot.spells r.same (omega arith)) c.in_default.ensures c.requires.anchor c.word_place-word.ensures et
+    (omega arith)
+    (record {
+      header = c.write.ensures.word;
+      only_header = c.write.ensures.only.outside;
+      sized = c.write-2.ensures.word;
+      only_sized = c.write-2.ensures.only.outside;
+      cleared = c.clear.ensures.block;
+      only_cleared = c.clear.ensures.only.outside;
+      hung = c.write-3.ensures.word;
+      only_hung = c.write-3.ensures.only.outside;
+    }) in
     leaves _ _ _ _ _ _ (alloc_done _ _ _ s (32768 + c.top-top.result + 8) c.in_default.ensures (has_room _ _ _ c.in-Ok.ensures.refused (λ e. false-true e) q)
     (omega (arith, c.top-top.ensures)))
     (budging_same (g.S.Words.memory c.args.store.now) c.args.self)

@@ -2,7 +2,7 @@ use Rattle.rh_slot.proofs.Common.{◌+◌, ◌-◌, refl, ap, arith, no_answer, 
 use Rattle.rh_slot.proofs.SpanLaws.{budging_same}
 use Rattle.rh_slot.proofs.LeaveLaws.{leaves, refuses, then_edited, then_resized}
 use Rattle.rh_slot.proofs.FlexLaws.{reach, walked_past, words_grown, settled, has_room, has_none, false-true}
-use Rattle.rh_slot.proofs.EditLaws.{row_over, spliced_words, spliced_pages, splice_full, splice_done}
+use Rattle.rh_slot.proofs.EditLaws.{Slid, Splice, row_over, spliced_words, spliced_pages, splice_full, splice_done}
 use Rattle.rh_slot.proofs.slot.Slot.splice.Goals as goal
 
 pub top_from-requires-clause-walked : goal.top_from-requires-clause-walked
@@ -41,11 +41,35 @@ returns g c = λ cut t.
     let l3 = c.write.ensures.only.outside.len in
     let l4 = c.slide-2.ensures.only.outside.len in
     let l5 = c.clear.ensures.only.outside.len in
-    let a = spliced_words _ _ _ _ _ _ s _ _ _ from n to _ _ _ _ _ _ _ cut (words_grown _ _ _ c.requires.slot.spells r.same (omega arith)) t
-    c.requires.offset c.requires.out refl ef (reach _ _ _ _ _ _ _ t c.flex_weight.ensures c.top_from.ensures) et refl refl refl
-    c.slide.ensures.carried c.slide.ensures.only.outside c.shift.ensures.shifted c.shift.ensures.below (omega arith)
-    c.write.ensures.word c.write.ensures.only.outside c.slide-2.ensures.carried c.slide-2.ensures.only.outside c.clear.ensures.block
-    c.clear.ensures.only.outside in
+    let outside = c.slide.ensures.only.outside in
+    let slid : Slid _ _ _ s _ _ _ from n to cut = record {
+      words = words_grown _ _ _ c.requires.slot.spells r.same (omega arith);
+      found = t;
+      begins = ef;
+      ends = reach _ _ _ _ _ _ _ t c.flex_weight.ensures c.top_from.ensures;
+      own = wider outside (omega arith) (omega arith);
+      shifted = c.shift.ensures.shifted;
+      below = c.shift.ensures.below;
+    } in
+    let at : Splice _ _ _ _ _ to _ _ _ _ = record {
+      inside = c.requires.offset;
+      enough = c.requires.out;
+      new_is = refl;
+      to_is = et;
+      tail_is = refl;
+      opened_is = refl;
+      rest_is = refl;
+    } in
+    let a = spliced_words slid at (record {
+      down = c.slide.ensures.carried;
+      only_down = outside;
+      sized = c.write.ensures.word;
+      only_sized = c.write.ensures.only.outside;
+      up = c.slide-2.ensures.carried;
+      only_up = c.slide-2.ensures.only.outside;
+      cleared = c.clear.ensures.block;
+      only_cleared = c.clear.ensures.only.outside;
+    }) (omega arith) in
     leaves _ _ _ _ _ tt (ap no_answer (splice_done _ _ _ _ cut s (has_room _ _ _ c.in-Ok.ensures.refused (λ e. false-true e) q)))
     (budging_same (g.S.Words.memory c.args.store.now) c.args.self)
     (settled _ _ _ _ a.0 a.1 c.trim.ensures.same c.trim.ensures.len)
