@@ -47,8 +47,8 @@ class Edit:
     """A wrong body: its name, what its first line says, what it changes, and the functions in which all of that lies.
 
     There are none where it changes something outside of functions, as a constant, a type or a definition; `places`
-    names that too, and `namers` are the functions that name it. Only where it changes nothing but bodies (`is_inside`)
-    can no other function see it.
+    names that too, and `namers` are the functions that name it, then those that name what is defined by it, ring by
+    ring. Only where it changes nothing but bodies (`is_inside`) can no other function see it.
     """
 
     name: str
@@ -163,15 +163,15 @@ def _place(folder, function, change):
 
 
 def _namers(folder, functions, names):
-    """The functions whose text has one of the names; or else those that name what is defined by them, and so on."""
-    passed = set()
+    """The functions whose text has one of the names, then those that name what is defined by them, and so on."""
+    rings, passed, told = [], set(), set()
     while names:
-        found = [it for it in functions if names & _words(_text_of(folder, it))]
-        if found:
-            return found
+        ring = [it for it in functions if it not in told and names & _words(_text_of(folder, it))]
+        rings += [ring] if ring else []
+        told.update(ring)
         passed |= names
         names = {name for name, words in _definitions(folder) if names & words} - passed
-    return []
+    return rings
 
 
 def _definitions(folder):

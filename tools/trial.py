@@ -61,14 +61,15 @@ class Trial:
     def by_namers(self, group):
         """The verdict for an edit outside of functions that a function which names what it changes refuses, if one does.
 
-        It is applied alone, and only these functions are checked: each goal that is refused then is refused for it.
+        It is applied alone, and only the functions of one ring are checked, the nearest first: each goal that is
+        refused then is refused for it.
         """
-        namers = group[0].namers
-        if not namers:
-            return []
-        said = self.check(group, namers)
-        goals = [] if said.fault() else said.all_goals()
-        return [Verdict(group[0], f"refused at {goals[0]}", True)] if goals else []
+        for ring in group[0].namers:
+            said = self.check(group, ring)
+            goals = [] if said.fault() else said.all_goals()
+            if goals:
+                return [Verdict(group[0], f"refused at {goals[0]}", True)]
+        return []
 
     def judge(self, group, beside=()):
         """A verdict for each edit of the group, which is tried in halves where nothing can be told of the whole.
