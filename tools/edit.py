@@ -71,6 +71,7 @@ class Function:
         self.is_the_only = is_the_only
         self.first, self.opens, self.end = read.first, read.opens, read.end
         self.owner = read.owner if read.block else ""
+        self.typed = _spelled(read.block) if read.block else ""
         self.trait = "".join(filter(str.isidentifier, read.block.trait)) if read.in_trait else ""
         self.modules = {read.module} | {module for module, *_ in types.get(self.owner, [])}
 
@@ -79,7 +80,7 @@ class Function:
         if self.in_trait and self.is_the_only:
             return self.name
         if self.block:
-            return f"{self.owner}{self.trait}::{self.name}"
+            return f"{self.typed if self.in_trait else self.owner}{self.trait}::{self.name}"
         return "::".join([*next(iter(self.modules)), self.name])
 
     def is_called(self, words):
@@ -92,6 +93,12 @@ class Function:
         if self.in_trait:
             return word != self.owner and self.block.fits(word)
         return word == self.owner
+
+
+def _spelled(block):
+    """The type of a block as a check's name for it has it: of `Vec<u64>` VecU64, with no parameters of the block."""
+    words = [it for it in block.ty if it.isidentifier() and it.replace("_", "").lower() in block.words]
+    return "".join(it[:1].upper() + it[1:] for it in words)
 
 
 def functions_of(folder):

@@ -3,7 +3,7 @@ use Rattle.rh_tasks.proofs.Common.{◌≡◌, ℕ, zero, suc, ◌+◌, ◌*◌, 
 use Rattle.rh_tasks.proofs.Common.{slice_index, slice_set, cases_eq, PAGE, Memory, IsOpen, OnlyArea, bytes, total, FileList, Heap, Post, Desk, used_pages}
 use Rattle.rh_tasks.proofs.Common.{IsDesk, IsModule, IsQueue, post_in, Seat, MadeArea, Kept, the_module, pages_at, fixed_pages, scrap_size, scrap_of, desk_of}
 use Rattle.rh_tasks.proofs.Common.{slot_area, made_area, HasAreas, IsWorld, avoids-below, Stay, pages-stay, tasks-stay, slots-stay, mades-stay, mades-opened}
-use Rattle.rh_tasks.proofs.Common.{fixed-opened, post-stays, queue-stays, scrap-stays, scrap-fits, module-stays, count-stays, same-desk}
+use Rattle.rh_tasks.proofs.Common.{fixed-opened, post-stays, queue-stays, scrap-stays, scrap-fits, module-stays, count-stays, same-desk, AllByRecursion, fixed}
 use Rattle.rh_defs.specs.Desk.{with_module}
 use Rattle.rh_wimp.specs.Laws.{with_heap}
 use Rattle.rh_tasks.proofs.Frames.{scrap-same}
@@ -55,14 +55,17 @@ fixed-rest stay = listed (pages-stay 0 stay (λ q. absurd (omega arith))) (pages
     (pages-stay 3 stay (λ q. absurd (omega arith))) (pages-stay 4 stay (λ q. absurd (omega arith))) (pages-stay 5 stay (λ q. absurd (omega arith)))
 
 -- one of areas 0 to 5 is open
+open-of : (m : Memory) (k : ℕ) → k < 6 → AllByRecursion (IsOpen m) fixed → IsOpen m k
+open-of m zero low (zeroth, rest) = zeroth
+open-of m (suc zero) low (zeroth, (first, rest)) = first
+open-of m (suc (suc zero)) low (zeroth, (first, (second, rest))) = second
+open-of m (suc (suc (suc zero))) low (zeroth, (first, (second, (third, rest)))) = third
+open-of m (suc (suc (suc (suc zero)))) low (zeroth, (first, (second, (third, (fourth, rest))))) = fourth
+open-of m (suc (suc (suc (suc (suc zero))))) low (zeroth, (first, (second, (third, (fourth, (fifth, rest)))))) = fifth
+open-of m (suc (suc (suc (suc (suc (suc k)))))) low all = absurd (omega arith)
+
 pub fixed-open : {m : Memory} {seats : List Seat} {made : List MadeArea} (k : ℕ) → HasAreas m seats made → k < 6 → IsOpen m k
-fixed-open zero w low = w.fixed_open.0
-fixed-open (suc zero) w low = w.fixed_open.1.0
-fixed-open (suc (suc zero)) w low = w.fixed_open.1.1.0
-fixed-open (suc (suc (suc zero))) w low = w.fixed_open.1.1.1.0
-fixed-open (suc (suc (suc (suc zero)))) w low = w.fixed_open.1.1.1.1.0
-fixed-open (suc (suc (suc (suc (suc zero))))) w low = w.fixed_open.1.1.1.1.1.0
-fixed-open (suc (suc (suc (suc (suc (suc k)))))) w low = absurd (omega arith)
+fixed-open {m} k w low = open-of m k low w.fixed_open
 
 -- pages are told by lengths that are whole pages
 pub pages-of : (m : Memory) (id : ℕ) → length (bytes m id) % PAGE ≡ 0 → PAGE * pages_at m id ≡ length (bytes m id)

@@ -12,6 +12,7 @@ use Rattle.rh_defs.proofs.Cuts.{total-append}
 use Rattle.rh_defs.specs.Post.{post_join}
 use Rattle.rh_tasks.proofs.Lists.{all-push, all-removed, avoids-removed, distinct-push, distinct-removed}
 use Rattle.rh_tasks.proofs.Frames.{opened-stays}
+use Rattle.rh_tasks.proofs.Fixed.{fixed-open}
 use Rattle.rh_tasks.proofs.Moves.{slot-pages}
 use Rattle.rh_tasks.proofs.Posts.{post-joins}
 
@@ -29,13 +30,16 @@ off-open f m id (x ∷ xs) none all = ((λ q. open_apart m (f x) id all.0 none (
 -- areas 0 to 5 are open, so a closed one is above
 pub closed-above : {m : Memory} {seats : List Seat} {made : List MadeArea} (id : ℕ) → HasAreas m seats made → IsNone (m.area id) → IsAbove id
 closed-above {m} id w none =
-    let p0 = open_apart m 0 id w.fixed_open.0 none in
-    let p1 = open_apart m 1 id w.fixed_open.1.0 none in
-    let p2 = open_apart m 2 id w.fixed_open.1.1.0 none in
-    let p3 = open_apart m 3 id w.fixed_open.1.1.1.0 none in
-    let p4 = open_apart m 4 id w.fixed_open.1.1.1.1.0 none in
-    let p5 = open_apart m 5 id w.fixed_open.1.1.1.1.1.0 none in
+    let p0 = other 0 (omega arith) in
+    let p1 = other 1 (omega arith) in
+    let p2 = other 2 (omega arith) in
+    let p3 = other 3 (omega arith) in
+    let p4 = other 4 (omega arith) in
+    let p5 = other 5 (omega arith) in
     omega arith
+  where
+    other : (k : ℕ) → k < 6 → id ≢ k
+    other k low = open_apart m k id (fixed-open k w low) none
 
 still-open : (o p : Option (List ℕ)) → IsSome o → IsSome p → is_some p ≡ is_some o
 still-open (Some x) (Some y) h k = refl

@@ -17,7 +17,7 @@ use Rattle.rh_defs.specs.Slot.{block_of, slot_address}
 use Rattle.rh_defs.proofs.Transfers.{wider-keeps, scrap-keeps}
 use Rattle.rh_slot.proofs.Ranges.{flex-part}
 use Rattle.rh_tasks.proofs.Posts.{is-post}
-use Rattle.rh_tasks.proofs.Fixed.{KeepsFirst, fixed-at, fixed-desk, fixed-world, changed-areas, pages-of}
+use Rattle.rh_tasks.proofs.Fixed.{KeepsFirst, fixed-at, fixed-desk, fixed-open, fixed-world, changed-areas, pages-of}
 use Rattle.rh_tasks.proofs.AreaCommands.{file-length}
 use Rattle.rh_tasks.proofs.Portions.{Sized, sized, addressed}
 use Rattle.rh_tasks.proofs.Appends.{sized-anchor}
@@ -102,7 +102,7 @@ module _ {m n : Memory} {seats : List Seat} {made : List MadeArea} {files : File
 -- the scrap file is given up
 module _ {m : Memory} {seats : List Seat} {made : List MadeArea} {files : FileList} {kept : Kept} (w : IsWorld m seats made files kept) where
   same-area : OnlyArea m m 5
-  same-area = OnlyArea-self m 5 w.areas.fixed_open.1.1.1.1.1.0
+  same-area = OnlyArea-self m 5 (fixed-open 5 w.areas (omega arith))
 
   pub dropped-desk : desk_of m seats made files (record kept { scrap = None }) ≡ (let e : Desk = record (desk_of m seats made files kept) { scrap = None } in e)
   unfolding scrap_of
