@@ -113,18 +113,17 @@ file-spelled b end f e = go (ltb end 48) refl e
     go false et z = named (name_length b end) (grind (arith, nat_tests)) refl z
 
 spelled-file : (b : List ℕ) (end : ℕ) (f : FileData) → FileSpelled b end f → file_in b end ≡ Ok f
-spelled-file b end f s =
-    let w = s.0 in
-    let low = s.1.0 in
+spelled-file b end f ((window, (icon, (x, (y, (size, (kind, rest)))))), name) =
+    let low = name.0 in
     cond_false (ltb end 48) _ _ (ltb_no end 48 low)
-    ∙ ap (file_named b) (spelled_found b end f.name s.1)
-    ∙ ap (λ i. made (file_of i (word b 24) (word b 28) (word b 32) (word b 36) (word b 40) (part b 44 (length f.name)))) w.0
-    ∙ ap (λ i. made (file_of f.window i (word b 28) (word b 32) (word b 36) (word b 40) (part b 44 (length f.name)))) w.1.0
-    ∙ ap (λ i. made (file_of f.window f.icon i (word b 32) (word b 36) (word b 40) (part b 44 (length f.name)))) w.1.1.0
-    ∙ ap (λ i. made (file_of f.window f.icon f.x i (word b 36) (word b 40) (part b 44 (length f.name)))) w.1.1.1.0
-    ∙ ap (λ i. made (file_of f.window f.icon f.x f.y i (word b 40) (part b 44 (length f.name)))) w.1.1.1.1.0
-    ∙ ap (λ i. made (file_of f.window f.icon f.x f.y f.size i (part b 44 (length f.name)))) w.1.1.1.1.1.0
-    ∙ ap (λ l. made (file_of f.window f.icon f.x f.y f.size f.file_type l)) s.1.1
+    ∙ ap (file_named b) (spelled_found b end f.name name)
+    ∙ ap (λ i. made (file_of i (word b 24) (word b 28) (word b 32) (word b 36) (word b 40) (part b 44 (length f.name)))) window
+    ∙ ap (λ i. made (file_of f.window i (word b 28) (word b 32) (word b 36) (word b 40) (part b 44 (length f.name)))) icon
+    ∙ ap (λ i. made (file_of f.window f.icon i (word b 32) (word b 36) (word b 40) (part b 44 (length f.name)))) x
+    ∙ ap (λ i. made (file_of f.window f.icon f.x i (word b 36) (word b 40) (part b 44 (length f.name)))) y
+    ∙ ap (λ i. made (file_of f.window f.icon f.x f.y i (word b 40) (part b 44 (length f.name)))) size
+    ∙ ap (λ i. made (file_of f.window f.icon f.x f.y f.size i (part b 44 (length f.name)))) kind
+    ∙ ap (λ l. made (file_of f.window f.icon f.x f.y f.size f.file_type l)) name.1
   where
     made : FileData → Result FileData MessageFault
     made g = Ok g
@@ -242,23 +241,25 @@ decoded-spells b m e = go (has_length b) refl e
 
 pub spelled-decodes : (b : List ℕ) (m : Message) → SpellsMessage b m → decoded b ≡ Ok m
 unfolding decoded
-spelled-decodes b m s =
-    let w = s.words in
-    let least = s.least in
-    let within = s.within in
-    let t : has_length b ≡ true =
-    both_are (leb 20 (length b) && leb 20 (word b 0) && leb (word b 0) LONGEST_MESSAGE && eqb (word b 0 % 4) 0) (leb (word b 0) (length b))
-    (both_are (leb 20 (length b) && leb 20 (word b 0) && leb (word b 0) LONGEST_MESSAGE) (eqb (word b 0 % 4) 0)
-    (both_are (leb 20 (length b) && leb 20 (word b 0)) (leb (word b 0) LONGEST_MESSAGE)
-    (both_are (leb 20 (length b)) (leb 20 (word b 0)) (leb_yes 20 (length b) (omega arith)) (leb_yes 20 (word b 0) least))
-    (leb_yes (word b 0) LONGEST_MESSAGE s.most)) (eqb_same (word b 0 % 4) 0 s.multiple)) (leb_yes (word b 0) (length b) within) in
-    let body : BodySpelled b (word b 0) m.body = record { action = w.1.1.1.0; numbers = w.1.1.1.1; rest = s.tail } in
-    cond_true (has_length b) _ _ t
-    ∙ ap (message_in b) (spelled-body b (word b 0) m.body body)
-    ∙ ap (λ i. made i (word b 8) (word b 12)) w.0 ∙ ap (λ i. made m.from i (word b 12)) w.1.0 ∙ ap (made m.from m.my_ref) w.1.1.0
+spelled-decodes b m s = go s.words
   where
     made : ℕ → ℕ → ℕ → Result Message MessageFault
     made i j l = Ok (record { from = i; my_ref = j; your_ref = l; body = m.body })
+
+    go : SpellWords b 4 (m.from ∷ m.my_ref ∷ m.your_ref ∷ action_number (action_of m.body) ∷ data_words m.body) → decoded b ≡ Ok m
+    go (from, (mine, (yours, (kind, numbers)))) =
+        let least = s.least in
+        let within = s.within in
+        let t : has_length b ≡ true =
+        both_are (leb 20 (length b) && leb 20 (word b 0) && leb (word b 0) LONGEST_MESSAGE && eqb (word b 0 % 4) 0) (leb (word b 0) (length b))
+        (both_are (leb 20 (length b) && leb 20 (word b 0) && leb (word b 0) LONGEST_MESSAGE) (eqb (word b 0 % 4) 0)
+        (both_are (leb 20 (length b) && leb 20 (word b 0)) (leb (word b 0) LONGEST_MESSAGE)
+        (both_are (leb 20 (length b)) (leb 20 (word b 0)) (leb_yes 20 (length b) (omega arith)) (leb_yes 20 (word b 0) least))
+        (leb_yes (word b 0) LONGEST_MESSAGE s.most)) (eqb_same (word b 0 % 4) 0 s.multiple)) (leb_yes (word b 0) (length b) within) in
+        let body : BodySpelled b (word b 0) m.body = record { action = kind; numbers = numbers; rest = s.tail } in
+        cond_true (has_length b) _ _ t
+        ∙ ap (message_in b) (spelled-body b (word b 0) m.body body)
+        ∙ ap (λ i. made i (word b 8) (word b 12)) from ∙ ap (λ i. made m.from i (word b 12)) mine ∙ ap (made m.from m.my_ref) yours
 
 -- ---- what was encoded
 tail-named : (m : Message) (name : List ℕ) → encoded_length m ≡ 44 + length (name_bytes name) → is_plain name ≡ true
