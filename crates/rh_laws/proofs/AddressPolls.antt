@@ -146,7 +146,7 @@ module _ (a : Addresses) (t : Task) (own : TaskAgrees a t) where
     unfolding accept
     accept-keeps m is =
         granted-then _ _ λ k free. granted-then _ _ λ b claimed. granted-then _ _ λ p there.
-        granted-with _ (plain-agrees _ _ tt (slot-agrees h p.0 d g)) λ sent all.
+        granted-with _ (plain-agrees _ _ tt (slot-agrees h _ d g)) λ sent all.
         granted (record { desk = ins-agree h _ (λ ws old. all-more (InAgrees a h) _ _ ws is old) sent all })
 
     take_save-keeps : (m : Parcel) → From (a m.message.my_ref) m.message.from h → Keeps a (take_save d t m)

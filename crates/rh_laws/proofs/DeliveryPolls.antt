@@ -231,7 +231,7 @@ module _ (a : Marks) (t : Task) (own : HandleAgrees a (InAgrees a) t.handle t) w
     unfolding accept
     accept-keeps m is =
         granted-then _ _ λ k free. granted-then _ _ λ b claimed. granted-then _ _ λ p there.
-        granted-with _ (plain-agrees a _ _ tt (slot-agrees h p.0 d g)) λ sent all.
+        granted-with _ (plain-agrees a _ _ tt (slot-agrees h _ d g)) λ sent all.
         granted (still (ins-agree h _ (λ ws old. all-more (InAgrees a h) _ _ ws is old) sent all))
 
     take_save-keeps : (m : Parcel) → Unloaded a h m.message.my_ref → Keeps a (take_save d t m)

@@ -237,7 +237,7 @@ module _ (o : Offers) (t : Task) (own : Owns o t) (w n : ℕ) (held : Option Par
     unfolding accept
     accept-falls =
         granted-then _ _ λ k e. granted-then _ _ λ b f. granted-then _ _ λ p i.
-        granted-with _ (letter-here o _ refl lets _ (slot-here o h p.0 d is)) λ sent all.
+        granted-with _ (letter-here o _ refl lets _ (slot-here o h _ d is)) λ sent all.
         granted (sent-falls 8 (omega arith) _ _ (all.0, ins-here o h _ sent all.1))
 
     take_save-falls : held_work held + 1 ≤ 9 → Falls 9 (take_save d t m)
