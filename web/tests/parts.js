@@ -119,6 +119,7 @@ const TESTS = {
   "only the last command is marked"() {
     same(markedText(lines("#picture A", "task a 9", "# b", "areas", "x"), 3), "task a 9\n# b\n#picture\nareas\n");
     same(markedText(lines("a", "# b", " #picture C", "x"), 3), "a\n# b\n #picture C\nx\n");
+    same(markedText(lines("a", "#picture C", "# b", "", "x"), 4), "a\n#picture C\n# b\n\nx\n");
     same(markedText(lines("a", "#pictures of a", "x"), 2), "a\n#pictures of a\n#picture\nx\n");
     same(markedText({ lines: ["a", "# cut"], isCut: true }, 1), "a\n#picture\n# cut");
     same(markedText({ lines: ["a", "# cut"], isCut: true }, 0), "#picture\na\n");
@@ -156,6 +157,11 @@ const TESTS = {
     const files = [{ name: "f", bytes: Uint8Array.of(58, 255, 38) }, { name: "g", bytes: Uint8Array.of(0) }];
     const found = readHash(hashOf({ ...LINKED, files })).files.map(({ name, bytes }) => [name, ...bytes]);
     same(found, [["f", 58, 255, 38], ["g", 0]]);
+  },
+  "a link holds 32 files, in order"() {
+    const files = Array.from({ length: 32 }, (_, at) => ({ name: `f${at}`, bytes: Uint8Array.of(at) }));
+    const found = readHash(hashOf({ ...LINKED, files })).files.map(({ name, bytes }) => [name, ...bytes]);
+    same(found, files.map(({ name }, at) => [name, at]));
   },
   "a link is spelled as other pages spell theirs"() {
     const files = [{ name: "f", bytes: Uint8Array.of(1, 32, 43) }];

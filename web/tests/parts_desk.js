@@ -32,11 +32,11 @@ function named(form, words) {
 }
 
 // A desk whose module has all calls; each notes its words and the memory as it is then, and gives a status.
-function noting(status, initial = 16n, maximum = 99n) {
+function noting(status, initial = 16n, maximum = 99n, ownEnd = OWN_END) {
   const memory = new WebAssembly.Memory({ address: "i64", initial, maximum });
   new Uint8Array(memory.buffer).fill(0xff);
   const notes = {};
-  const exports = { memory, __heap_base: { value: BigInt(OWN_END) } };
+  const exports = { memory, __heap_base: { value: BigInt(ownEnd) } };
   for (const [call, form] of Object.entries(FORMS)) {
     const noted = (...words) => {
       Object.assign(notes, { words: named(form, words), bytes: new Uint8Array(memory.buffer.slice(0)) });
@@ -81,6 +81,17 @@ const DESK_TESTS = {
         end = to;
       }
       same(end <= notes.bytes.length, true);
+    }
+  },
+  "a memory grows as far as the last buffer goes, also where that begins at the memory's end"() {
+    const { desk, notes } = noting(0);
+    desk.text("vf_run", GIVEN);
+    const last = Math.max(...rangesOf(notes.words).map(([from]) => from));
+    for (const beyond of [-8, 0, 8]) {
+      const ownEnd = OWN_END + beyond + 65536 - last % 65536;
+      const { desk: other, notes: found } = noting(0, 1n, 99n, ownEnd);
+      other.text("vf_run", GIVEN);
+      same(rangesOf(found.words).every(([, to]) => to <= found.bytes.length), true);
     }
   },
   "a module that writes nothing is told with its status, whatever was in its memory"() {

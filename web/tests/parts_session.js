@@ -53,10 +53,10 @@ const SESSION_TESTS = {
     same([0, 2, 3, 4, -1, NaN, 1.5].map((at) => sessionOf("a\nb\nc\n", at).state.position), [0, 2, 3, 3, 0, 0, 1]);
   },
   "a script that is loaded brings 64 pages and no files of the one before"() {
-    const session = sessionOf("a\n");
+    const session = sessionOf("a\n", 1);
     session.change({ pages: 8, files: [{ name: "f", bytes: Uint8Array.of(1) }] });
-    session.load({ name: "b", text: "" });
-    same(session.state, { name: "b.desk", lines: [], isCut: false, position: 0, pages: 64, files: [] });
+    session.load({ name: "b", text: "b\n" });
+    same(session.state, { name: "b.desk", lines: ["b"], isCut: false, position: 0, pages: 64, files: [] });
   },
   "the last 50 changes are taken back, one by one"() {
     const session = new Session(echo());
@@ -69,6 +69,30 @@ const SESSION_TESTS = {
     same([found.length, found[0], found.at(-1)], [50, 151, 102]);
     session.undo();
     same(session.state.pages, 102);
+  },
+  "a change that is taken back leaves the script as it was, with the place where it stood"() {
+    const session = sessionOf("a\nb\nc\n", 2);
+    session.change({ files: [{ name: "f", bytes: Uint8Array.of(1) }], pages: 8 });
+    session.replace(0, 3, ["x"]);
+    session.undo();
+    same([session.text, session.state.position, session.command], ["a\nb\nc\n", 2, 1]);
+    same([session.state.name, session.state.pages, session.state.files.length], ["a.desk", 8, 1]);
+  },
+  "changes are taken back also behind a script that was loaded after them"() {
+    const session = sessionOf("a\n");
+    session.enter(["x"]);
+    session.load({ name: "b", text: "b\n" });
+    const found = [1, 2, 3].map(() => {
+      session.undo();
+      return session.text;
+    });
+    same(found, ["x\na\n", "a\n", ""]);
+  },
+  "a change leaves all else as it is"() {
+    const session = sessionOf("a\nb", 1);
+    const files = [{ name: "f", bytes: Uint8Array.of(1) }];
+    for (const change of [{ pages: 8 }, { files }, { name: "b.desk" }]) session.change(change);
+    same(session.state, { name: "b.desk", lines: ["a", "b"], isCut: true, position: 1, pages: 8, files });
   },
   "a step is no change"() {
     const session = sessionOf("a\nb\n");
