@@ -8,6 +8,7 @@ import json
 import os
 import pathlib
 import re
+import shutil
 import tempfile
 import unittest.mock
 
@@ -92,6 +93,12 @@ def check_making(bench):
         with written(part_js=f"// {text}\n") as folder:
             told = fault_of(make.PageFault, lambda: make.page_of(b"", {"instance.js": folder / "part.js"}))
             same(told, "the page's script would end early", f"what is told of {text}")
+    with tempfile.TemporaryDirectory() as folder:
+        web = pathlib.Path(shutil.copytree(WEB, f"{folder}/web", ignore=shutil.ignore_patterns("tests", "out")))
+        (web / "style.css").write_text("/* </style> */\n")
+        with unittest.mock.patch.object(make, "WEB", web):
+            same(fault_of(make.PageFault, lambda: make.page_of(b"")), "the page's style would end early",
+                 "what is told of a style with tags")
 
 
 def check_bundle(_bench):
@@ -104,6 +111,10 @@ def check_bundle(_bench):
              "the script")
         told = fault_of(make.PageFault, lambda: make.bundle(dict(reversed(paths.items()))))
         same(told, "two.js stands before one.js", "what is told of parts in another order")
+        (folder / "three.js").write_text("// nothing\n")
+        other = {name: folder / name for name in ("three.js", "two.js", "one.js")}
+        told = fault_of(make.PageFault, lambda: make.bundle(other))
+        same(told, "two.js stands before one.js", "what is told of parts behind another in another order")
 
 
 def check_tables(_bench):

@@ -147,6 +147,8 @@ def check_unsupported(bench):
     seen = "getComputedStyle(document.querySelector('#unsupported')).visibility === 'visible'"
     tab = bench.browser.open(bench.address, WITHOUT_64)
     tab.wait(lambda: tab.value(seen), "nothing is seen without 64-bit memory")
+    delays = tab.value("document.querySelector('#unsupported').getAnimations().map((it) => it.effect.getTiming())")
+    holds([it["delay"] > 300 for it in delays] == [True], "it is seen also where the page begins at once")
     for words in ("from version 133 on", "Firefox from version 134\non", "bin/vervainfile run SCRIPT"):
         holds(words.replace("\n", " ") in tab.value(told), f"nothing is told of {words}")
     holds(tab.value(told).endswith("true"), "the desk is shown without 64-bit memory")
