@@ -28,6 +28,12 @@ SHAPES = """[...document.querySelector('#picture').shadowRoot.querySelectorAll('
     return [`${it.localName}.${it.getAttribute('class')}`, isLine ? 'none' : fill, stroke];
   })"""
 
+# The colours of the lines around what the last command has changed.
+FRESH_COLOURS = """[...new Set([...document.querySelector('#picture').shadowRoot.querySelectorAll('svg .fresh')]
+  .map((it) => getComputedStyle(it).stroke))]"""
+# Examples of which a step on the way is looked at, by its number.
+STEPS = {"hello": 2, "made-areas": 5, "sliding": 5, "lessons/death": 9}
+
 
 def edges(page, selector):
     return page.value(EDGES % f"document.querySelector({json.dumps(selector)})")
@@ -58,6 +64,49 @@ def check_side_by_side(bench):
         for name in ("#script-heading", "#command", "#step", "#lines .current"):
             found = edges(page, name)
             holds(found["top"] >= 0 and found["bottom"] <= 640, f"{name} isn't in sight")
+
+
+def check_low_window(bench):
+    """In a wide window that is low the prompt and the steps are reached beside a long script with many files."""
+    files = "&".join(f"file=f{number}:" for number in range(32))
+    with bench.page(f"#script={'areas%0A' * 100}&{files}") as page:
+        for height in (900, 560):
+            page.tab.resize(1440, height)
+            page.click("run")
+            script = edges(page, "section.script")
+            holds(script["bottom"] - script["top"] <= height, f"the script is higher than a window of {height}")
+            for name in ("command", "step"):
+                page.focus(f"#{name}")
+                found = edges(page, f"#{name}")
+                holds(found["top"] >= 0 and found["bottom"] <= height, f"{name} isn't in sight at {height}")
+                holds(found["bottom"] <= edges(page, "section.script")["bottom"], f"{name} is over an edge at {height}")
+        page.tab.resize(1440, 500)
+        scroller = edges(page, "#scroller")
+        holds(scroller["bottom"] - scroller["top"] < 0.6 * 500, "a long script is shown whole in a window of 500")
+        page.tab.resize(640, 320)
+        same(page.value("getComputedStyle(document.querySelector('.steps')).position"), "static",
+             "how the steps stand where they would hide much of what is seen")
+
+
+def check_wheel(bench):
+    """The wheel of a mouse scrolls the lines of a long script."""
+    with bench.kept_page() as page:
+        page.drop_bytes("long.desk", b"areas\n" * 100)
+        found = edges(page, "#scroller")
+        page.tab.call("Input.dispatchMouseEvent", type="mouseWheel", x=found["left"] + 50, y=found["top"] + 50,
+                      deltaX=0, deltaY=300)
+        page.tab.wait(lambda: page.value("document.querySelector('#scroller').scrollTop") > 100,
+                      "the wheel doesn't scroll the lines")
+
+
+def check_hint_below(bench):
+    """Where forms come below the prompt, nothing moves for them."""
+    with bench.kept_page() as page:
+        page.enter("areas")
+        was = edges(page, "#step")
+        page.tab.type("budge ")
+        holds(page.text("hint"), "there are no forms")
+        same(edges(page, "#step"), was, "where the steps stand")
 
 
 def check_one_below_another(bench):
@@ -122,6 +171,12 @@ def check_edges(bench):
                 for line in lines:
                     holds(contrast(line, around) >= LEAST_CONTRAST_OF_EDGES,
                           f"{name} has {line} on {around}, {'dark' if is_dark else 'light'}")
+            page.load("hello")
+            page.click("step")
+            page.click("step")
+            marker = page.value("getComputedStyle(document.querySelector('#changes li'), '::marker').color")
+            around = page.value("getComputedStyle(document.querySelector('section.memory')).backgroundColor")
+            holds(contrast(marker, around) >= LEAST_CONTRAST_OF_EDGES, f"changes have {marker} on {around}")
 
 
 def check_told_apart(bench):
@@ -129,6 +184,7 @@ def check_told_apart(bench):
     style = "getComputedStyle(document.querySelector('%s')).%s"
     with bench.kept_page() as page:
         page.load("hello")
+        page.enter("shw")
         page.click("run")
         for is_dark in (False, True):
             page.tab.resize(1440, 900, is_dark)
@@ -139,10 +195,21 @@ def check_told_apart(bench):
             page.set_pages(7)
             fault = [page.value(style % ("#notice", it)) for it in ("color", "borderTopWidth")]
             holds(fault[0] != usual and fault[1] != "0px", "a fault looks like any text")
+            same(fault[0], page.value(style % ("#lines .bad .reply", "color")), "a fault's colour beside a bad reply's")
             page.value("document.querySelector('#notice').classList.remove('fault')")
             page.set_pages(64)
         page.click("back")
         holds(page.value(style % ("#step", "color")) != step, "a step looks as if it did nothing")
+
+
+def alike_in_the_dark(page):
+    """The shapes of the picture that have the same colours in the light and in the dark."""
+    found = []
+    for is_dark in (False, True):
+        page.tab.resize(1440, 900, is_dark)
+        found.append(page.value(SHAPES))
+    return sorted({(light[0], colour) for light, dark in zip(*found) for colour, other in zip(light[1:], dark[1:])
+                   if colour == other and colour.startswith("rgb")})
 
 
 def check_dark_picture(bench):
@@ -154,10 +221,17 @@ def check_dark_picture(bench):
             else:
                 page.load(name)
             page.click("run")
-            found = []
-            for is_dark in (False, True):
-                page.tab.resize(1440, 900, is_dark)
-                found.append(page.value(SHAPES))
-            alike = {(light[0], colour) for light, dark in zip(*found) for colour, other in zip(light[1:], dark[1:])
-                     if colour == other and colour.startswith("rgb")}
-            same(sorted(alike), [], f"what has the same colours in the light and in the dark in {name}")
+            same(alike_in_the_dark(page), [], f"what has the same colours in the light and in the dark in {name}")
+
+
+def check_dark_steps(bench):
+    """So it is as areas come, blocks slide and tasks die; what has changed is marked in the dark too."""
+    with bench.kept_page() as page:
+        for name, count in STEPS.items():
+            page.load(name)
+            for _ in range(count):
+                page.click("step")
+            same(alike_in_the_dark(page), [], f"what has the same colours at step {count} of {name}")
+            mark = page.value("getComputedStyle(document.querySelector('#changes li'), '::marker').color")
+            found = page.value(FRESH_COLOURS)
+            holds(found == [mark] or not found and name != "hello", f"{found} marks changes at step {count} of {name}")

@@ -59,6 +59,8 @@ def check_scrolled(bench):
         show_step(page)
         holds(page.value(f"{FRAMES}.every((it) => it.scrollWidth > it.clientWidth + 100)"), "nothing can be scrolled")
         holds(page.value(RIGHT) < 2, "the pool's end isn't seen first")
+        same(page.value(f"{FRAMES}.map((it) => getComputedStyle(it.querySelector('svg text')).direction)"), ["ltr"] * 2,
+             "where the texts of figures begin")
         page.value(f"{FRAMES}[0].scrollLeft = -50; {FRAMES}[1].scrollLeft = 40")
         for _ in range(2):
             page.click("step")

@@ -1,5 +1,6 @@
 """Replies and pictures of the page beside those of the native program."""
 
+import base64
 import json
 import re
 
@@ -132,6 +133,26 @@ def check_map(bench):
             page.click("step")
         same(page.value("document.querySelector('#map').textContent"), wanted, "the map")
         holds(page.value("document.querySelector('#picture').hidden"), "the picture is shown beside the map")
+
+
+def check_drawn_files(bench):
+    """The map, the picture and the saved pictures are those of the script with its files."""
+    example = make.examples_by_name()["files"]
+    files = {it["name"]: base64.b64decode(it["base64"]) for it in example["files"]}
+    front, line, _ = example["text"].partition("load a 0 greeting\n")
+    job = native.Job(example["text"].encode(), name="files.desk", pages=example["pages"], files=files)
+    last = native.Job(f"{front}#picture\n{line}".encode(), pages=example["pages"], files=files, is_marked=True)
+    with bench.kept_page() as page:
+        page.load("files")
+        page.click("step")
+        page.click("step")
+        same(page.text("shown").split(" → ")[0], f"3{line.strip()}", "the step that is looked at")
+        sheet = STYLE.sub("", native.done("draw", last)[1].decode())
+        same(page.value(FIGURE_SHOWN), page.value(FIGURES_OF_SHEET % json.dumps(sheet))[-1], "the picture")
+        page.value("document.querySelector('[value=map]').click()")
+        same(page.value("document.querySelector('#map').textContent"), native.done("map", last)[1].decode(), "the map")
+        page.click("save-sheet")
+        same(page.tab.downloaded("files.html"), native.done("draw", job)[1], "the saved pictures")
 
 
 def check_parts(bench):
