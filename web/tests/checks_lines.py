@@ -82,6 +82,8 @@ def check_pasted_parts(bench):
         same(lines(page), ["task a 9", "areas"], "the lines")
         page.script("paste.js", "#command", "a\n\nb\n\n")
         same(lines(page)[2:], ["a", "", "b", ""], "the lines with empty ones")
+        page.script("paste.js", "#command", "c\n ")
+        same(lines(page)[6:], ["c", " "], "the lines of which the last is a space")
 
 
 def check_history_of_pasted(bench):
@@ -149,6 +151,8 @@ def check_row_buttons(bench):
         same(page.focused(), "command", "what has the focus when the last one is taken away")
         same(page.value("[...document.querySelectorAll('.number')].map((it) => it.textContent)"), list("12345"),
              "the numbers of lines")
+        same(page.value("[...document.querySelectorAll('.remove')].map((it) => it.textContent)"), ["×"] * 5,
+             "what stands on the buttons that take lines away")
         for name, told in (("number", "Run up to line 2"), ("remove", "Take line 2 away")):
             button = f"document.querySelector('#lines > li:nth-child(2) .{name}')"
             same(page.value(f"[{button}.ariaLabel, {button}.title]"), [told, told], "what a button is for")
@@ -158,12 +162,14 @@ def check_left_line(bench):
     """What was typed into a line is taken when the line is left."""
     with bench.kept_page() as page:
         page.load("hello")
+        page.click("step")
         page.focus(line_of(2))
         page.tab.type("0")
         page.focus("#command")
         same(lines(page)[1], "task a 1000", "the line that was left")
         page.click("undo")
-        same(lines(page)[1], "task a 100", "the line when that is taken back")
+        same([lines(page)[1], page.text("progress")], ["task a 100", "2 of 7 lines have run"],
+             "the line when that is taken back, and where the script stands")
 
 
 def check_carriage_returns(bench):
@@ -192,6 +198,59 @@ def check_keys_in_long_lines(bench):
             page.value(f"document.activeElement.setSelectionRange({at}, {to})")
             page.tab.key(key)
             same(page.focused(), wanted, f"what {key} goes to from characters {at} to {to}")
+
+
+def check_keys_in_two_rows(bench):
+    """In a line of two rows, too, the arrow keys go from row to row."""
+    with bench.kept_page() as page:
+        page.load("hello")
+        was = len(page.rows())
+        page.focus(line_of(3))
+        page.value("document.activeElement.select()")
+        page.tab.type("areas\npages")
+        found = []
+        for key in ("ArrowUp", "ArrowDown"):
+            page.tab.key(key)
+            found.append([page.focused(), len(page.rows())])
+        same(found, [["Line 3", was]] * 2, "what has the focus, and how many lines there are")
+        page.tab.key("ArrowUp")
+        page.value("document.activeElement.setSelectionRange(0, 0)")
+        page.tab.key("ArrowUp")
+        same([page.focused(), lines(page)[2:4]], ["Line 2", ["areas", "pages"]], "the line above, and the lines")
+
+
+def check_empty_first_line(bench):
+    """A script that begins with an empty line has that as its first, with a number and a button."""
+    with bench.page() as page:
+        page.drop_bytes("empty.desk", b"\nareas\n")
+        found = page.value("""[...document.querySelectorAll('#lines > li')].map((row) =>
+          [row.querySelector('.number').textContent, row.querySelector('textarea').ariaLabel,
+           row.querySelector('.remove').ariaLabel])""")
+        same(found, [[f"{it}", f"Line {it}", f"Take line {it} away"] for it in (1, 2)], "what the lines are named")
+
+
+def check_typed_while_files_come(bench):
+    """What is being typed into a line stays there while files come, and while another one is taken away."""
+    with bench.kept_page() as page:
+        page.load("hello")
+        page.focus(line_of(2))
+        page.value("document.activeElement.setSelectionRange(6, 10)")
+        page.tab.type("9")
+        page.drop_bytes("a.bin", b"1")
+        same([page.value("document.activeElement.value"), page.focused(), page.text("progress")],
+             ["task a9", "Line 2", "0 of 7 lines have run"], "the line while it is typed")
+        page.tab.type("0")
+        page.tab.key("Enter")
+        same([lines(page)[1], page.text("files")], ["task a90", "1 byteCheck×"], "the line then")
+
+
+def check_steps_from_rest(bench):
+    """A step brings the line that ran into view also where the focus is on what stands beside the lines."""
+    with bench.kept_page() as page:
+        page.drop_bytes("long.desk", b"# a\n" * 300 + b"areas\n" + b"# a\n" * 300)
+        page.focus("#later")
+        page.tab.key("F8")
+        holds(page.value(IN_VIEW % 301), "the line that ran isn't seen")
 
 
 def check_more_keys_in_lines(bench):
@@ -257,6 +316,7 @@ def check_in_view(bench):
         same([page.value(TAB_STOPS), page.focused()], [["Line 2"], "Line 2"], "the line that the tab key reaches then")
         same([page.rows()[298]["kind"], page.rows()[299]["kind"]], ["row ok current", "row remark"], "the last lines")
         same(page.text("shown"), "299areas → ok 63", "the step shown when a remark has run behind it")
+        same(page.text("said").partition(",")[0], "Line 299", "the line that is told then")
 
 
 def check_reply_in_view(bench):
@@ -279,6 +339,10 @@ def check_tab_stop(bench):
         same([page.focused(), page.value(TAB_STOPS)], ["command", ["Line 2"]], "the line that is reached at the end")
         page.tab.key("Tab", "Shift")
         same(page.focused(), "Line 2", "what is before the prompt")
+        page.tab.key("ArrowUp")
+        page.focus("#command")
+        page.tab.key("Tab", "Shift")
+        same(page.focused(), "Line 1", "what is before the prompt when the arrow keys have left a line")
         page.focus("#command")
         page.drop_bytes("long.desk", b"# a\n" * 1000)
         found = []

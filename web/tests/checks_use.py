@@ -205,7 +205,9 @@ def check_tags(bench):
     """Tags in remarks and commands stay text, on the page and in the picture."""
     with bench.kept_page() as page:
         page.enter("# </script><script>document.title = 'run'</script><img src=x onerror=alert(1)>")
-        page.enter("task a 100 </textarea><b>")
+        page.enter("task a 100 </textarea><b>&amp;")
+        shown = run_text(b"task a 100 </textarea><b>&amp;\n").strip()
+        same(page.text("shown"), f"2task a 100 </textarea><b>&amp; → {shown}", "the step shown")
         page.enter("task a 100")
         same(page.value("document.title"), "script.desk – Vervainfile", "the title")
         found = page.value("document.querySelectorAll('#lines b, #lines img, main script').length")
@@ -270,6 +272,12 @@ def check_pages(bench):
         page.set_pages(7)
         same(page.text("notice"), "A pool has 8 to 1024 pages.", "what is told of 7 pages")
         same(page.value("document.querySelector('#pages').value"), "8", "the pages then")
+        for pages in ("8.5", "", "-8", "1e9"):
+            page.set_pages(9)
+            same([page.text("notice"), page.field("pages")], ["", "9"], "the pages that a pool can have")
+            page.set_pages(pages)
+            same([page.text("notice"), page.field("pages")], ["A pool has 8 to 1024 pages.", "9"],
+                 f"what is told of {pages!r} pages")
 
 
 def check_paste(bench):
@@ -324,9 +332,13 @@ def check_list_of_many(bench):
 
 
 def check_name(bench):
-    """A script's name is the page's title, and the file's name."""
+    """A script's name is the page's title, and the name of the files that are saved."""
     with bench.kept_page() as page:
         page.enter("areas")
         page.set_value("#name", "mine")
         page.click("save")
         same(page.tab.downloaded("mine.desk"), b"areas\n", "the saved script")
+        page.set_value("#name", "my desktop")
+        page.click("save-sheet")
+        wanted = native.done("draw", native.Job(b"areas\n", name="my desktop.desk"))[1]
+        same(page.tab.downloaded("my desktop.html"), wanted, "the saved pictures")
