@@ -87,7 +87,7 @@ class Page {
     const listParts = { root: parts.lines, scroller: parts.scroller, earlier: parts.earlier, later: parts.later };
     this.#list = new List(this.#session, listParts, () => this.#prompt.focus());
     this.#memory = new Memory(this.#session, parts, pictureStyle);
-    this.#shelf = new Shelf(this.#session, parts.files, notifyFault);
+    this.#shelf = new Shelf(this.#session, parts.files, notifyFault, () => parts.add.focus());
     const promptParts = { form: parts.prompt, field: parts.command, hint: parts.hint };
     this.#prompt = new Prompt(promptParts, forms, (lines) => this.#session.enter(lines));
     this.#session.onChange(() => this.#show());
@@ -318,7 +318,7 @@ class Page {
     }, { capture: true });
     const session = this.#session;
     const toEnd = () => session.moveTo(session.state.lines.length);
-    const actions = { back: () => session.back(), step: () => session.step(), run: toEnd, undo: () => session.undo() };
+    const actions = { back: () => session.back(), step: () => session.step(), run: toEnd, undo: () => this.#undo() };
     for (const id in actions) parts[id].addEventListener("click", actions[id]);
     addEventListener("keydown", (event) => {
       const id = { F8: event.shiftKey ? "back" : "step", F9: "run" }[event.key];
@@ -327,6 +327,12 @@ class Page {
       this.#commitTyped();
       actions[id]();
     });
+  }
+
+  // Takes the last change back. Where that was an example, it can be chosen again.
+  #undo() {
+    this.#session.undo();
+    parts.examples.value = "";
   }
 
   // Takes what is being typed into a line, or as the script's name or its pages.

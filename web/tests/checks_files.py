@@ -158,27 +158,31 @@ def check_names_of_files(bench):
              "what has the focus then")
         labels = page.value("[...document.querySelectorAll('#files li:nth-child(2) button')].map((it) => it.ariaLabel)")
         same(labels, ["Check whether the file c is a heap or a slot", "Take the file c away"], "the names of buttons")
+        for line in ("task a 9", "load a 0 A", "show a 0"):
+            page.enter(line)
+        same([page.value(FILES), page.rows()[2]["reply"]], [[["A", "1 byte"], ["c", "1 byte"]], "ok 1 31"],
+             "the files with other names, and the bytes of the first")
 
 
 def check_files_that_go(bench):
     """A file that is taken away leaves the focus to the one in its place, and comes back by Undo."""
     with bench.kept_page() as page:
-        for name in ("a.bin", "b.bin", "c.bin"):
+        for name in ("a.bin", "b.bin", "c.bin", "d.bin"):
             page.drop_bytes(name, b"1")
-        press(page, 1, "Check")
+        press(page, 2, "Check")
         told = "[...document.querySelectorAll('#files output')].map((it) => it.textContent)"
-        holds(page.value(told)[0].startswith("as a heap: bad"), "nothing is told of a file that is checked")
+        holds(page.value(told)[1].startswith("as a heap: bad"), "nothing is told of a file that is checked")
         page.enter("areas")
-        holds(page.value(told)[0].startswith("as a heap: bad"), "what is told of a file goes with the next command")
+        holds(page.value(told)[1].startswith("as a heap: bad"), "what is told of a file goes with the next command")
         found = []
-        for number in (1, 2, 1):
+        for number in (2, 3, 1, 1):
             press(page, number, "Take")
             holds(not any(page.value(told)), "what was told of a file stands beside another")
             found.append([[name for name, _ in page.value(FILES)], page.value("document.activeElement.value")])
-        same(found[:2], [[["b", "c"], "b"], [["b"], "b"]], "the files, and what has the focus")
-        same(found[2][0], [], "the files at the end")
+        same(found[:3], [[["a", "c", "d"], "c"], [["a", "c"], "c"], [["c"], "c"]], "the files, and what has the focus")
+        same([found[3][0], page.focused()], [[], "add"], "the files at the end, and what has the focus")
         page.click("undo")
-        same([name for name, _ in page.value(FILES)], ["b"], "the files when the last is back")
+        same([name for name, _ in page.value(FILES)], ["c"], "the files when the last is back")
 
 
 def check_script_with_files(bench):
@@ -257,6 +261,9 @@ def check_dragging(bench):
         same([drag("dragover", False, False), drag("drop", False, False)], [[False, False]] * 2, "what a text does")
         same([drag("dragover", True, False), drag("dragleave", True, True), drag("dragleave", True, False)],
              [[True, True], [False, True], [False, False]], "what a file does that goes again")
+        drag("dragover", True, False)
+        same(page.value("getComputedStyle(document.body, '::after').content"),
+             '"Drop a .desk file to open it, any other to add it"', "what the page says of a file over it")
         same([drag("dragover", True, False), drag("drop", True, False)], [[True, True], [True, False]],
              "what a file does that is dropped")
 

@@ -27,6 +27,14 @@ GROUPS = {"region": ["Script", "Memory"], "list": ["Files that the script may lo
                                                    "Lines of the script, with their replies"],
           "group": ["Scripts", "Steps", "Shown as", "Pool of pages", "Slots and module area"]}
 
+# The headings of the page with their levels, and its parts as those who listen go from one to the next.
+HEADINGS = {"Vervainfile": 1, "Keys": 2, "Commands": 2, "Script": 2, "Memory": 2, "What is proved": 2}
+LANDMARKS = [("banner", ""), ("contentinfo", ""), ("main", ""), ("region", "Keys"), ("region", "Memory"),
+             ("region", "Script")]
+# What the fields of the page are to those who listen.
+CONTROLS = [("combobox", "Load an example or a lesson"), ("radio", "Map"), ("radio", "Picture"),
+            ("spinbutton", "Pages"), ("textbox", "Command"), ("textbox", "Name")]
+
 # The colours and lines by which rows are told apart: those of the row, of its line, and of its reply.
 LOOKS = """[...document.querySelectorAll('#lines > li')].map((row) => {
   const [line, reply] = ['textarea', '.reply'].map((it) => getComputedStyle(row.querySelector(it)));
@@ -34,6 +42,11 @@ LOOKS = """[...document.querySelectorAll('#lines > li')].map((row) => {
 })"""
 # How the focus is shown: how wide the line around it is.
 OUTLINE = "((style) => style.outlineStyle === 'none' ? 0 : parseFloat(style.outlineWidth))"
+# What is seen while a script runs, with a file and a notice, as something is typed.
+SEEN = ("h1", "#intro", "#examples", "#open", "#fresh", "#undo", "#save", "#copy", "#help-button", "#progress", "#name",
+        "#pages", "#add", "#files li", "#files input", "#files button", ".number", ".line", ".ok .reply", "#command",
+        "#prompt button", "#hint code", "#back", "#step", "#run", "#notice", "#views label", "#save-sheet", "#shown",
+        "#changes li", "#picture", "footer p")
 # Which buttons of steps are seen whole in the window.
 AT_HAND = """['back', 'step', 'run'].filter((id) => ((it) => it.top >= 0 && it.bottom <= innerHeight && it.height > 0)(
   document.getElementById(id).getBoundingClientRect()))"""
@@ -112,6 +125,27 @@ def check_widths(bench):
             bench.picture(page, f"at-{width}-{scale * 100}-percent")
 
 
+def check_long_words(bench):
+    """Words of any length stay within the page's edges, in lines, replies, names and notices; so do maps and help."""
+    script = b"task a 9\nalloc a 0 400\nshow a 0\nput a 0 0 %s\n# %s\n" % (b"6a" * 200, b"w" * 300)
+    with bench.kept_page() as page:
+        page.drop_bytes(f"{'n' * 99}.desk", script)
+        for letter in "abcdef":
+            page.drop_bytes(f"{letter * 12}.bin", b"1")
+        page.click("run")
+        page.click("help-button")
+        page.drop_bytes(f"{'l' * 200}.bin", bytes(1048577))
+        holds(page.text("notice"), "nothing is told of a long file")
+        for view in ("picture", "map"):
+            page.value(f"document.querySelector('[value={view}]').click()")
+            for width, scale in WINDOWS:
+                page.tab.resize(width, 900, False, scale)
+                page.value("new Promise(requestAnimationFrame).then(() => 0)")
+                over = page.value("[document.documentElement, document.querySelector('#scroller')]"
+                                  ".map((it) => it.scrollWidth - it.clientWidth)")
+                same(over, [0, 0], f"what goes over edges at {width}, {scale * 100} percent, with a {view}")
+
+
 def check_focus(bench):
     """The tab key reaches all that can be used, in the order in which it is read."""
     with bench.page() as page:
@@ -137,12 +171,29 @@ def check_names(bench):
         holds(figures and all(it.description for it in figures), "a figure has no description")
         line = next(it for it in used if it.name == "Line 2")
         holds(line.description.startswith("ok"), "a line is told without its reply")
+        other = page.value("""[...document.querySelectorAll('#lines textarea')].filter((it) => it.nextElementSibling
+          !== document.getElementById(it.getAttribute('aria-describedby'))).map((it) => it.ariaLabel)""")
+        same(other, [], "which lines are told with other replies than their own")
         told = [Told(node) for node in nodes if not node["ignored"]]
         named = {(it.role, it.name) for it in told}
         same([(role, name) for role, names in GROUPS.items() for name in names if (role, name) not in named], [],
              "which groups have lost their names")
         command = next(it for it in used if it.role == "textbox" and it.name == "Command")
         same(command.description, page.text("hint"), "what is told of the prompt")
+
+
+def check_headings(bench):
+    """Those who listen find the parts of the page by headings and by what they are, and its fields by their kinds."""
+    with bench.kept_page() as page:
+        page.click("help-button")
+        nodes = [node for node in page.tab.call("Accessibility.getFullAXTree")["nodes"] if not node["ignored"]]
+        levels = {Told(node).name: it["value"]["value"] for node in nodes if Told(node).role == "heading"
+                  for it in node["properties"] if it["name"] == "level"}
+        same(levels, HEADINGS, "the headings with their levels")
+        told = {(it.role, it.name) for it in map(Told, nodes)}
+        landmarks, controls = ({role for role, _ in them} for them in (LANDMARKS, CONTROLS))
+        same(sorted(it for it in told if it[0] in landmarks), LANDMARKS, "the parts of the page")
+        same(sorted(it for it in told if it[0] in controls), CONTROLS, "the fields of the page")
 
 
 def check_left_as_typed(bench):
@@ -172,6 +223,9 @@ def check_rows_look(bench):
              "what is underlined")
         wide, narrow = page.value("[...document.querySelectorAll('textarea')].slice(0, 2).map((it) => it.clientWidth)")
         holds(wide > 2 * narrow, "a remark isn't as wide as a line and its reply")
+        below = page.value("(([row]) => row.getBoundingClientRect().bottom - row.querySelector('textarea')"
+                           ".getBoundingClientRect().bottom)(document.querySelectorAll('.remark'))")
+        holds(below < 2, "there is room below a remark, which has no reply")
         replies = page.value("getComputedStyle(document.querySelector('.reply')).whiteSpaceCollapse")
         same(replies, "preserve", "whether the spaces of a reply are kept")
 
@@ -189,10 +243,38 @@ def check_seen_by_few(bench):
             page.tab.key("Tab", "Shift")
             width = page.value(f"{OUTLINE}(getComputedStyle(document.activeElement))")
             holds(width >= 2, f"the focus on {stop} isn't seen")
+        page.focus("#save-sheet")
+        for frame in ("Pool of pages", "Slots and module area"):
+            page.tab.key("Tab")
+            same(page.script("focused.js"), frame, "what has the focus")
+            width = page.value(f"{OUTLINE}(getComputedStyle(document.activeElement.shadowRoot.activeElement))")
+            holds(width >= 2, f"the focus on {frame} isn't seen")
         page.focus("#lines > li:nth-child(2) textarea")
         holds(page.value(f"{OUTLINE}(getComputedStyle(document.activeElement))") >= 2, "the focus on a line isn't seen")
         removes = "[...document.querySelectorAll('.remove')].map((it) => it.checkVisibility())"
         same(page.value(removes)[:3], [False, True, False], "which lines can be taken away")
+        apart = page.value("""(([row, it]) => [it.top - row.top, row.right - it.right])(['', ' .remove'].map(
+          (it) => document.querySelector(`#lines > li:nth-child(2)${it}`).getBoundingClientRect()))""")
+        holds(max(map(abs, apart)) < 3, f"the button that takes a line away is {apart} from its place in the line")
+        behind = page.value("getComputedStyle(document.querySelector('.remove')).backgroundColor")
+        holds(behind.startswith("rgb("), "a reply is seen through the button that takes its line away")
+
+
+def check_all_seen(bench):
+    """What the page tells and what can be used is seen, wide and narrow."""
+    with bench.kept_page() as page:
+        page.load("transfer")
+        for _ in range(5):
+            page.click("step")
+        page.drop_bytes("a.bin", b"1")
+        page.set_pages(7)
+        page.tab.type("s")
+        for width in (1440, 420):
+            page.tab.resize(width, 900)
+            unseen = page.value(f"""{list(SEEN)!r}.filter((selector) => [...document.querySelectorAll(selector)].some(
+              (it) => !it.checkVisibility({{ opacityProperty: true, visibilityProperty: true }})
+                || it.offsetWidth < 4 || it.offsetHeight < 4) || !document.querySelector(selector))""")
+            same(unseen, [], f"what isn't seen at {width}")
 
 
 def check_at_hand(bench):
@@ -203,8 +285,11 @@ def check_at_hand(bench):
         for place in ("0", "document.body.scrollHeight"):
             page.value(f"scrollTo(0, {place})")
             same(page.value(AT_HAND), ["back", "step", "run"], f"which steps are at hand at {place}")
+        behind = page.value("getComputedStyle(document.querySelector('.steps')).backgroundColor")
+        holds(behind.startswith("rgb("), "the page is seen through the steps")
+        page.click("help-button")
         page.tab.call("Emulation.setEmulatedMedia", media="print")
-        same(page.seen("prompt", "step", "open", "hint", "lines"), ["lines"], "what is on paper")
+        same(page.seen("prompt", "step", "open", "hint", "help", "lines"), ["lines"], "what is on paper")
         page.tab.call("Emulation.setEmulatedMedia", media="")
 
 

@@ -2,6 +2,7 @@
 
 import re
 
+import native
 from bench import TOP, holds, run_text, same
 
 BUTTONS = ("undo", "save", "copy", "back", "step", "run", "save-sheet")
@@ -42,6 +43,8 @@ def check_at_first(bench):
         fields = "[...document.querySelectorAll('#pages, [type=file]')]"
         same(page.value(f"{fields}.map((it) => [it.min, it.max, it.accept])"),
              [["", "", ".desk,.txt,text/plain"], ["8", "1024", ""], ["", "", ""]], "what fields take")
+        same(page.value("[...document.querySelector('#examples').selectedOptions].map((it) => [it.value, it.text])"),
+             [["", "Load an example…"]], "what stands where examples are chosen")
         for name in BUTTONS:
             page.click(name)
         same([page.text("notice"), page.value("location.hash"), page.rows()], ["", "", []], "what the buttons did")
@@ -67,6 +70,11 @@ def check_buttons(bench):
         same([page.disabled(), page.seen("nothing", "picture")], [[], ["picture"]], "what is left then")
         page.click("run")
         same(page.disabled(), ["step", "run"], "the buttons that do nothing at the last line")
+        page.click("back")
+        same([page.text("progress"), page.disabled()], ["6 of 7 lines have run", []],
+             "the buttons that do nothing before the last line")
+        page.click("step")
+        same(page.text("progress"), "7 of 7 lines have run", "where the script stands after the last step")
         page.click("undo")
         same(page.disabled(), list(BUTTONS), "the buttons that do nothing when all is taken back")
 
@@ -117,6 +125,9 @@ def check_place(bench):
         page.focus("#command")
         page.tab.type("s")
         same(page.value("document.querySelectorAll('#hint code').length"), 3, "how many forms there are")
+        for modifiers in ((), ("Shift",)):
+            page.tab.key("F8", *modifiers)
+            same(page.value("document.querySelectorAll('#hint code').length"), 3, "how many there are after a step")
         page.tab.key("Escape")
         same(page.text("hint"), "A command goes in behind line 6.", "the hint after Escape")
 
@@ -191,6 +202,9 @@ def check_link_by_hand(bench):
                         "document.activeElement.selectionStart, document.activeElement.selectionEnd)"),
              page.value("location.href"), "what is selected")
         holds(page.value(f"{field}.readOnly && {field}.ariaLabel"), "the link can be changed, or has no name")
+        page.tab.resize(420, 900)
+        right = f"{field}.getBoundingClientRect().right - {field}.parentElement.getBoundingClientRect().right"
+        holds(page.value(right) < 1, "the link's field goes over the edge of what is told")
 
 
 def check_offered(bench):
@@ -223,6 +237,22 @@ def check_beginnings(bench):
         same(page.field("examples"), "", "the example when another script is there")
 
 
+def check_examples_again(bench):
+    """An example that is taken back can be chosen again, as a browser tells the page only of another choice."""
+    with bench.page() as page:
+        page.load("hello")
+        page.click("undo")
+        same([page.rows(), page.field("examples")], [[], ""], "the example that was taken back")
+        page.load("hello")
+        page.enter("areas")
+        same(page.field("examples"), "hello", "the example when it is changed")
+        page.load("lessons/holes")
+        page.click("undo")
+        same([page.field("name"), page.field("examples")], ["hello.desk", ""], "the example that was there before")
+        page.load("")
+        same(page.field("name"), "hello.desk", "the script when none of the examples is chosen")
+
+
 def check_first_commands(bench):
     """The commands that the page without a script names can be typed, one after the other."""
     with bench.kept_page() as page:
@@ -230,6 +260,17 @@ def check_first_commands(bench):
         for line in named:
             page.enter(line)
         same([row["reply"].split(" ")[0] for row in page.rows()], ["ok", "ok"], "the replies")
+
+
+def check_program(bench):
+    """The commands that the page names at its end are the native program's, and write what the page shows."""
+    with bench.kept_page() as page:
+        named = page.value("[...document.querySelectorAll('footer code')].map((it) => it.textContent)")
+        same(named[0].split()[0], native.PROGRAM.name, "the program that is named")
+        found = [native.done(name.split()[-1], native.Job(b"areas\n")) for name in named]
+        same([status for status, _ in found], [0, 0, 0], f"what the program gives for {named}")
+        page.enter("areas")
+        same(page.value("lastText"), found[0][1].decode(), "the replies of the first")
 
 
 def check_help(bench):
