@@ -129,14 +129,17 @@ export class List {
     addEventListener("resize", () => this.#rows.forEach((row) => row.fit()));
   }
 
-  // Shows the session. The line that ran last comes into view, unless the list is being worked in.
+  // Shows the session. The line that ran last comes into view, unless the list is being worked in; it has the focus
+  // where this was on a button that isn't needed now.
   show() {
     const at = Math.max(0, this.session.state.position - 1);
-    const isWorkedIn = this.#root.contains(document.activeElement);
+    const { activeElement } = document;
+    const isWorkedIn = this.#root.contains(activeElement);
     if (!isWorkedIn) this.#focused = at;
     if (!isWorkedIn && (at < this.#first || at >= this.#first + ROWS)) this.#first = at - MOVE;
     this.#moveRows(this.#first);
     if (!isWorkedIn) this.#reveal(at);
+    if (activeElement.hidden && [this.#earlier, this.#later].includes(activeElement)) this.focus(at);
   }
 
   // Gives rows to lines before or behind. A button that isn't needed then leaves the focus to a line.

@@ -251,6 +251,9 @@ def check_steps_from_rest(bench):
         page.focus("#later")
         page.tab.key("F8")
         holds(page.value(IN_VIEW % 301), "the line that ran isn't seen")
+        same(page.focused(), "later", "what has the focus")
+        page.tab.key("F9")
+        same([page.focused(), page.seen("later")], ["Line 601", []], "what has the focus when all lines have run")
 
 
 def check_more_keys_in_lines(bench):
@@ -360,9 +363,11 @@ def check_rows_at_ends(bench):
         page.click("step")
         holds(page.value(IN_VIEW % 401), "the line that ran isn't seen")
         for name, wanted in (("later", "Line 2000"), ("earlier", "Line 1")):
-            while page.seen(name):
+            clicks = 0
+            while page.seen(name) and clicks < 20:
                 page.click(name)
-            same(page.focused(), wanted, f"what has the focus when {name} isn't needed")
+                clicks += 1
+            same([page.focused(), page.seen(name)], [wanted, []], f"what has the focus when {name} isn't needed")
         page.drop_bytes("short.desk", b"# a\n" * 401)
         same(page.text("later"), "1 later line: show some", "what is told of one line")
         page.focus(line_of(400))
