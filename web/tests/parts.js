@@ -83,7 +83,7 @@ const TESTS = {
   },
   "long texts lose nothing"() {
     for (const byteAt of [(at) => 0x80 + at % 0x40, (at) => at % 0x7001 ? 0x61 : 0xff]) {
-      const bytes = Uint8Array.from({ length: 70001 }, (_, at) => byteAt(at));
+      const bytes = Uint8Array.from({ length: 1000001 }, (_, at) => byteAt(at));
       const found = bytesOf(textOf(bytes));
       same([found.length, found.findIndex((byte, at) => byte !== bytes[at])], [bytes.length, -1]);
     }
@@ -139,8 +139,8 @@ const TESTS = {
   },
   "a file's name is a letter and up to 11 letters or digits, and no other file's"() {
     const told = "A name is a letter, and up to 11 letters or digits.";
-    same(["a", "Z9", "a23456789012", "a234567890123", "1a", "a b", ""].map((name) => faultOfName(name, [])),
-      ["", "", "", told, told, told, told]);
+    same(["a", "Z9", "a23456789012", "a234567890123", "1a", "a b", "", "a\n", "a\n!"].map((it) => faultOfName(it, [])),
+      ["", "", "", told, told, told, told, told, told]);
     same([faultOfName("a", [{ name: "b" }, { name: "a" }]), faultOfName("A", [{ name: "a" }])],
       ["Another file is named a.", ""]);
   },
@@ -186,6 +186,7 @@ const TESTS = {
   "no link is read that holds none"() {
     const hashes = ["", "script", "pages=8", "script=%", "script=%zz", "script=a b", "script=\u20ac"];
     same(hashes.map((hash) => readHash(hash)?.text), [undefined, "", ...Array(5).fill(undefined)]);
+    same(hashes.map((hash) => readHash(hash) === undefined), [true, false, ...Array(5).fill(true)]);
   },
   "the forms of a command are found as it is typed"() {
     const forms = ["budge NAME off", "budge NAME on", "areas", "area K DELTA"];
