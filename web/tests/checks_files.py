@@ -309,6 +309,11 @@ def check_files_of_links(bench):
             found = page.value(FILES)
             same([page.text("notice"), found if wanted != 32 else len(found)], ["", wanted], "what a link brings")
             page.click("fresh")
+        for content in ("1", "22"):
+            page.value(f"location.hash = '#script=areas%0A&file=f:{content}'")
+            page.tab.wait(lambda: page.value(FILES), "a link isn't followed")
+        page.tab.wait(lambda: page.value(FILES) == [["f", "2 bytes"]], "another file of the same name isn't shown")
+        page.click("fresh")
         for files in many, ["file=f:1", "file=f:2"], ["file=1x:1"], ["file=:1"], ["file=abc"], ["file"]:
             page.value(f"location.hash = '#script=areas%0A&{'&'.join(files)}'")
             page.tab.wait(lambda: page.text("notice"), f"nothing is told of a link with {files[-1]}")

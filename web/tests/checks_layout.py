@@ -138,6 +138,12 @@ def check_focus_in_sight(bench):
             found = page.value(EDGES % FOCUSED)
             holds(is_step or found["bottom"] <= edges(page, ".steps")["top"] + 1,
                   f"the steps hide {page.focused()}, which has the focus")
+        page.focus("#lines > li:nth-child(2) textarea")
+        page.value("scrollTo(0, document.body.scrollHeight)")
+        page.tab.key("ArrowDown")
+        found = page.value(EDGES % FOCUSED)
+        same([page.focused(), found["top"] >= 0, found["bottom"] <= edges(page, ".steps")["top"] + 1],
+             ["Line 3", True, True], "the line that an arrow key goes to, and whether it is in sight")
 
 
 def check_on_paper(bench):

@@ -40,6 +40,12 @@ LOOKS = """[...document.querySelectorAll('#lines > li')].map((row) => {
   const [line, reply] = ['textarea', '.reply'].map((it) => getComputedStyle(row.querySelector(it)));
   return [getComputedStyle(row).backgroundColor, line.color, line.fontStyle, reply.color, reply.textDecorationLine];
 })"""
+# Where commands, replies or maps have characters some of which are wider than others.
+UNEVEN = """['.row:not(.remark) .line', '.reply', '#map', '#command'].filter((selector) => {
+  const context = document.createElement('canvas').getContext('2d');
+  context.font = getComputedStyle(document.querySelector(selector)).font;
+  return context.measureText('i').width !== context.measureText('W').width;
+})"""
 # How the focus is shown: how wide the line around it is.
 OUTLINE = "((style) => style.outlineStyle === 'none' ? 0 : parseFloat(style.outlineWidth))"
 # What is seen while a script runs, with a file and a notice, as something is typed.
@@ -194,6 +200,8 @@ def check_headings(bench):
         landmarks, controls = ({role for role, _ in them} for them in (LANDMARKS, CONTROLS))
         same(sorted(it for it in told if it[0] in landmarks), LANDMARKS, "the parts of the page")
         same(sorted(it for it in told if it[0] in controls), CONTROLS, "the fields of the page")
+        live = "[...document.querySelectorAll('[role=status], [role=alert], [role=log], [aria-live]')]"
+        same(page.value(f"{live}.map((it) => it.id)"), ["notice", "said"], "what is told as soon as it changes")
 
 
 def check_left_as_typed(bench):
@@ -228,6 +236,7 @@ def check_rows_look(bench):
         holds(below < 2, "there is room below a remark, which has no reply")
         replies = page.value("getComputedStyle(document.querySelector('.reply')).whiteSpaceCollapse")
         same(replies, "preserve", "whether the spaces of a reply are kept")
+        same(page.value(UNEVEN), [], "where characters aren't equally wide")
 
 
 def check_seen_by_few(bench):

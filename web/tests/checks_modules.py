@@ -81,6 +81,7 @@ def check_as_made(bench):
         page.enter("areas")
         same(page.text("notice"), "The replies don't fit the lines of the script.", "what is told of lost replies")
         same([row["reply"] for row in page.rows()], ["", ""], "the replies then")
+        same(page.value("document.querySelector('#notice').className"), "fault", "what that is marked as")
     with page_of(bench, module(vf_run=(RUN, STOPS))) as page:
         page.enter("areas")
         same(page.text("notice"), "The module stopped (unreachable).", "what is told of a module that stops")

@@ -132,6 +132,7 @@ def check_map(bench):
         for _ in range(8):
             page.click("step")
         same(page.value("document.querySelector('#map').textContent"), wanted, "the map")
+        same(page.value("document.querySelector('#map').innerText"), wanted, "the map as it is seen")
         holds(page.value("document.querySelector('#picture').hidden"), "the picture is shown beside the map")
 
 

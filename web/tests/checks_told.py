@@ -121,6 +121,9 @@ def check_place(bench):
             found.append(page.text("hint"))
         wanted = ["A command goes in before line 1.", "A command goes in behind line 2.", ""]
         same(found, wanted, "where a command goes in")
+        page.value("document.querySelector('#lines .number').click()")
+        same(page.text("hint"), "A command goes in behind line 1.", "where a command goes in behind a remark")
+        page.click("run")
         page.click("back")
         page.focus("#command")
         page.tab.type("s")
@@ -196,6 +199,8 @@ def check_link_by_hand(bench):
         page.enter("areas")
         page.click("copy")
         page.tab.wait(lambda: page.text("notice"), "nothing is told of a link that isn't copied")
+        same(page.text("notice"), "This is the link; it is in the address bar too:", "what is told of the link")
+        holds(not page.value("document.querySelector('#notice').className"), "the link is told as a fault")
         field = "document.querySelector('#notice input')"
         same(page.value(f"{field}.value"), page.value("location.href"), "the link that is shown")
         same(page.value("getSelection().toString() || document.activeElement.value.slice("
@@ -240,7 +245,9 @@ def check_beginnings(bench):
 def check_examples_again(bench):
     """An example that is taken back can be chosen again, as a browser tells the page only of another choice."""
     with bench.page() as page:
+        page.focus("#examples")
         page.load("hello")
+        same(page.focused(), "examples", "what has the focus")
         page.click("undo")
         same([page.rows(), page.field("examples")], [[], ""], "the example that was taken back")
         page.load("hello")

@@ -129,6 +129,10 @@ def check_keys_in_lines(bench):
         same(page.text("shown"), "3alloc a 0 55 → ok &9008", "the step of that line")
         page.tab.key("ArrowUp")
         same(page.value("document.activeElement.ariaLabel"), "Line 2", "what has the focus")
+        for _ in range(2):
+            page.tab.key("ArrowUp")
+            page.value("document.activeElement.setSelectionRange(0, 0)")
+            same(page.value("document.activeElement.ariaLabel"), "Line 1", "what has the focus at the first line")
         page.focus("#lines > li:last-child textarea")
         page.tab.key("ArrowDown")
         same(page.value("document.activeElement.id"), "command", "what has the focus behind the last line")
