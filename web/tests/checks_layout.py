@@ -231,7 +231,7 @@ def check_dark_picture(bench):
 
 
 def check_dark_steps(bench):
-    """So it is as areas come, blocks slide and tasks die; what has changed is marked in the dark too."""
+    """As areas come, blocks slide and tasks die, shapes have other colours in the dark, and changes are marked."""
     with bench.kept_page() as page:
         for name, count in STEPS.items():
             page.load(name)

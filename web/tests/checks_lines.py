@@ -230,7 +230,7 @@ def check_empty_first_line(bench):
 
 
 def check_typed_while_files_come(bench):
-    """What is being typed into a line stays there while files come, and while another one is taken away."""
+    """What is being typed into a line stays there while files come, and is taken when it is entered."""
     with bench.kept_page() as page:
         page.load("hello")
         page.focus(line_of(2))

@@ -83,7 +83,7 @@ const TESTS = {
   },
   "long texts lose nothing"() {
     for (const byteAt of [(at) => 0x80 + at % 0x40, (at) => at % 0x7001 ? 0x61 : 0xff]) {
-      const bytes = Uint8Array.from({ length: 1000001 }, (_, at) => byteAt(at));
+      const bytes = Uint8Array.from({ length: 300001 }, (_, at) => byteAt(at));
       const found = bytesOf(textOf(bytes));
       same([found.length, found.findIndex((byte, at) => byte !== bytes[at])], [bytes.length, -1]);
     }
