@@ -115,6 +115,7 @@ const TESTS = {
     const replies = [null, "ok", null, null, "ok", null];
     same([0, 1, 2, 5, 6].map((at) => positionAfterStep(replies, at)), [2, 2, 5, 6, 6]);
     same([6, 5, 2, 1, 0].map((at) => positionBeforeStep(replies, at)), [2, 2, 0, 0, 0]);
+    same([0, 1].map((at) => positionAfterStep(["ok", "ok", "ok"], at)), [1, 2]);
   },
   "only the last command is marked"() {
     same(markedText(lines("#picture A", "task a 9", "# b", "areas", "x"), 3), "task a 9\n# b\n#picture\nareas\n");
