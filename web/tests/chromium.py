@@ -5,6 +5,7 @@ import fcntl
 import json
 import os
 import pathlib
+import select
 import shutil
 import subprocess
 import tempfile
@@ -67,7 +68,8 @@ class Browser:
 
     def _take(self, method, end):
         """Takes what Chromium writes."""
-        if time.monotonic() > end:
+        left = end - time.monotonic()
+        if left <= 0 or not select.select([self.reader], [], [], left)[0]:
             raise BrowserFault(f"{method}: no answer")
         part = self.reader.read(1 << 16)
         if not part:
