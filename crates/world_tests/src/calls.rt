@@ -183,24 +183,23 @@ fn asks_of_scattered_pages(rt: HostRuntime) -> Result<(), Fail> {
     asks(&rt, &mut world)
 }
 
-#[test]
-fn handles_go_on(rt: HostRuntime) -> Result<(), Fail> {
-    let store = paged_store(rt.alloc())?;
-    let files = Files::new(rt.alloc());
-    let mut world = World::with_next(store, files, Handle(7), Ref(9));
-    let name = name(b"a")?;
-    assert_eq!(rt;
-        said(&rt, &mut world, &task(&name)),
-        Reply::Started(Handle(7))
-    );
+/// Starts a task, ends it, and starts it again.
+fn goes_on<R: Abort, S: Store>(rt: &R, world: &mut World<S>, name: &Name) {
+    same(rt, said(rt, world, &task(name)), Reply::Started(Handle(7)));
     let kill = Command::Kill {
         name: name.copied(),
     };
-    assert_eq!(rt; said(&rt, &mut world, &kill), Reply::Done);
-    assert_eq!(rt; world.blocks(&name, 0), Err(Refusal::NoName));
-    assert_eq!(rt;
-        said(&rt, &mut world, &task(&name)),
-        Reply::Started(Handle(8))
-    );
+    same(rt, said(rt, world, &kill), Reply::Done);
+    same(rt, world.blocks(name, 0), Err(Refusal::NoName));
+    same(rt, said(rt, world, &task(name)), Reply::Started(Handle(8)));
+}
+
+#[test]
+fn handles_go_on(rt: HostRuntime) -> Result<(), Fail> {
+    let name = name(b"a")?;
+    let store = paged_store(rt.alloc())?;
+    let files = Files::new(rt.alloc());
+    let mut world = World::with_next(store, files, Handle(7), Ref(9));
+    goes_on(&rt, &mut world, &name);
     Ok(())
 }

@@ -59,10 +59,10 @@ fn starts<R: Abort, S: Store>(rt: &R, world: &mut World<S>, first: &Name, second
 
 #[test]
 fn the_last_handle_and_ref_are_given_once(rt: HostRuntime) -> Result<(), Fail> {
+    let (first, second) = (name(b"a")?, name(b"b")?);
     let store = paged_store(rt.alloc())?;
     let files = Files::new(rt.alloc());
     let mut world = World::with_next(store, files, Handle(LAST), Ref(LAST));
-    let (first, second) = (name(b"a")?, name(b"b")?);
     starts(&rt, &mut world, &first, &second);
     saves(&rt, &mut world, &first);
     Ok(())
