@@ -1,7 +1,8 @@
 """Builds the module of the page: the crate `vf_web` for WebAssembly, in a folder of its own that is thrown away.
 
 The repository's crates.txt has the crate as a static library, since `rt ci` takes no crate for WebAssembly. What the
-crate stands on is copied with what was built of it, so that nothing below it is proved again.
+crate stands on is copied with what was built of it. Where `rt ci` has left all of that proved, the copy is marked as
+such, so that nothing below the crate is proved again.
 """
 
 import pathlib
@@ -86,9 +87,26 @@ def has_imports(content):
     return False
 
 
+def mark_as_proved(top, folder):
+    """Says of each library in the copy that it is built, where `rt ci` has left all of them proved at `top`."""
+    # The kit is asked for only where a module is built.
+    import kit
+    import libraries
+    if not libraries.are_left_by_gate(exporter(kit.crates_of(str(top))).below()):
+        return
+    for it in exporter(kit.crates_of(str(folder))).below():
+        pathlib.Path(it.rlib).with_name(libraries.STAMP).write_text(it.stamp())
+
+
+def exporter(crates):
+    """The crate of the module among others."""
+    return next(it for it in crates if it.name == NAME)
+
+
 def proved_and_linked(top, folder):
     """Proves the crate in a copy of the repository at `top`, and gives the bytes of its module."""
     lay_out(top, folder)
+    mark_as_proved(top, folder)
     crate = folder / "crates" / NAME
     done = subprocess.run(["rt", "lib"], cwd=crate, capture_output=True, text=True)
     if done.returncode:

@@ -9,7 +9,9 @@ import os
 import pathlib
 import re
 import shutil
+import sys
 import tempfile
+import types
 import unittest.mock
 
 from bench import TOP, WEB, holds, same
@@ -200,7 +202,8 @@ def check_building(_bench):
             return unittest.mock.Mock(returncode=status, stdout=said, stderr="last\n")
         return unittest.mock.patch.object(module.subprocess, "run", run)
 
-    with written(crates_txt=CRATES, HANDLES="handles", **{"crates__base__src__lib_rt": ""}) as top:
+    with written(crates_txt=CRATES, HANDLES="handles", **{"crates__base__src__lib_rt": ""}) as top, \
+            unittest.mock.patch.object(module, "mark_as_proved") as marked:
         (top / "crates/vf_web/src").mkdir(parents=True)
         with built(module.MAGIC, 1, "".join(f"{it}\n" for it in range(30))):
             told = fault_of(module.ModuleFault, lambda: module.built(top))
@@ -211,3 +214,26 @@ def check_building(_bench):
         with built(module.MAGIC, 0):
             same([module.built(top).read_bytes() for _ in range(2)], [module.MAGIC] * 2, "the module")
         same(ran, [["rt", "lib"]] * 3, "what was run")
+        same([it.args[0] for it in marked.call_args_list], [top] * 3, "of which repository libraries are marked")
+
+
+def check_marking(_bench):
+    """Libraries are marked as built in the copy just where the gate has left them proved in the repository."""
+    names = ("base", "middle")
+
+    def crates_of(folder):
+        libraries = [types.SimpleNamespace(name=it, rlib=f"{folder}/{it}/{it}.rlib", stamp=f"stamp of {it}".strip)
+                     for it in names]
+        return [*libraries, types.SimpleNamespace(name="vf_web", below=lambda: libraries)]
+
+    for left in (False, True):
+        asked = []
+        fakes = {"kit": types.SimpleNamespace(crates_of=crates_of),
+                 "libraries": types.SimpleNamespace(
+                     STAMP="mark", are_left_by_gate=lambda them: asked.extend(it.rlib for it in them) or left)}
+        with written(base__d="", middle__d="") as folder, unittest.mock.patch.dict(sys.modules, fakes):
+            module.mark_as_proved(pathlib.Path("/top"), folder)
+            marks = {it.name: (folder / it.name / "mark").read_text() for it in folder.iterdir()
+                     if (folder / it.name / "mark").is_file()}
+        same(asked, [f"/top/{it}/{it}.rlib" for it in names], "of which libraries the gate is asked")
+        same(marks, {it: f"stamp of {it}" for it in names} if left else {}, f"the marks, where they are left: {left}")
