@@ -48,7 +48,7 @@ class Edit:
 
     There are none where it changes something outside of functions, as a constant, a type or a definition; `places`
     names that too, and `namers` are the functions that name it, then those that name what is defined by it, ring by
-    ring. Only where it changes nothing but bodies (`is_inside`) can no other function see it.
+    ring, the shortest first. Only where it changes nothing but bodies (`is_inside`) can no other function see it.
     """
 
     name: str
@@ -170,11 +170,15 @@ def _place(folder, function, change):
 
 
 def _namers(folder, functions, names):
-    """The functions whose text has one of the names, then those that name what is defined by them, and so on."""
+    """The functions whose text has one of the names, then those that name what is defined by them, and so on.
+
+    The shortest of a ring is a ring by itself, before the others: what calls little is soon checked.
+    """
     rings, passed, told = [], set(), set()
     while names:
         ring = [it for it in functions if it not in told and names & _words(_text_of(folder, it))]
-        rings += [ring] if ring else []
+        ring.sort(key=lambda it: it.end - it.first)
+        rings += [it for it in (ring[:1], ring[1:]) if it]
         told.update(ring)
         passed |= names
         names = {name for name, words in _definitions(folder) if names & words} - passed
