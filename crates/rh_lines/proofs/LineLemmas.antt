@@ -14,7 +14,7 @@ use Rattle.rh_defs.specs.Grammar.{Form, Maybe, Row, rows}
 use Rattle.rh_defs.specs.Line.{words_of, word, is_skipped, line_means, is_count, follow, row_of, row_means, longest_line}
 use Rattle.rh_defs.specs.Line.{command_by, command_of, Meaning, ◌>>=◌}
 use Rattle.rh_defs.specs.declared.command.Command.{Command}
-use Rattle.rh_lines.specs.declared.keyword.Keyword.{Keyword}
+use Rattle.rh_lines.specs.declared.parse.Keyword.{Keyword}
 use Rattle.rh_lines.specs.Keywords.{spelled, firsts, SpellsNone}
 use Rattle.rh_lines.specs.Words.{first_words}
 

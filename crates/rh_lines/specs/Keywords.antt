@@ -3,8 +3,8 @@ use Rattle.std.specs.Prelude.{◌≡◌, ℕ, false, List, [], ◌∷◌, codes,
 use Rattle.std.specs.List.{list_any}
 use Rattle.std.specs.Str.{bytes_eq}
 use Rattle.rh_defs.specs.Grammar.{Row}
-use Rattle.rh_lines.specs.declared.keyword.Keyword.{Keyword}
-use Rattle.rh_lines.specs.declared.keyword.Keyword.TheVariants.{Task, Kill, Alloc, Load, Put, Free, Extend, Mid, Claim, Release, Resize, Budge, Save, Poll, Cancel, Repeat, Area, Make, Remove, Rma, Show, Blocks, Heap, Status, Areas}
+use Rattle.rh_lines.specs.declared.parse.Keyword.{Keyword}
+use Rattle.rh_lines.specs.declared.parse.Keyword.TheVariants.{Task, Kill, Alloc, Load, Put, Free, Extend, Mid, Claim, Release, Resize, Budge, Save, Poll, Cancel, Repeat, Area, Make, Remove, Rma, Show, Blocks, Heap, Status, Areas}
 
 -- a keyword as it is spelled
 abbrev pub spelled : Keyword → List ℕ

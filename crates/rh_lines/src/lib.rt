@@ -11,7 +11,6 @@ mod forms;
 mod heaps;
 mod held;
 mod hex_digits;
-mod keyword;
 mod parse;
 mod print;
 mod row;

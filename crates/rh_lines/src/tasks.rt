@@ -1,10 +1,9 @@
 //! Lines about tasks and their transfers.
 
 ghost use Rattle.std.specs.Prelude.{◌≡◌, codes, IfOk, OnOk, OnErr, IsTrue};
-ghost use Rattle.rh_defs.specs.Forms.{is_id, last_ref};
-ghost use Rattle.rh_defs.specs.Grammar.{Choice, Maybe, Number, manner_of};
+ghost use Rattle.rh_defs.specs.Grammar.{Choice, Maybe, Ref as RefForm, manner_of};
 ghost use Rattle.rh_defs.specs.Line.{command_by, value_at};
-ghost use Rattle.rh_defs.specs.Range.{in_range};
+ghost use Rattle.rh_defs.specs.Range.{in_range, is_of};
 ghost use Rattle.rh_lines.specs.Placed.{placed};
 
 use crate::counts::{counted, counted_from};
@@ -148,8 +147,8 @@ pub fn cancel_of(words: &Words<'_>, command: &mut Command) -> Result<(), LineFau
 
 /// The id of a cancel, which a fourth word may give.
 fn id_of(words: &Words<'_>) -> Result<Option<Ref>, LineFault>
-    ensures means { result ≡ value_at (Maybe (Number 1 last_ref)) words.now 4 }
-    ensures form { IfOk result (λ id. IsTrue (is_id id)) }
+    ensures means { result ≡ value_at (Maybe RefForm) words.now 4 }
+    ensures form { IfOk result (λ id. IsTrue (is_of (Maybe RefForm) id)) }
 {
     if words.count() == 3 {
         return Ok(None);

@@ -1,9 +1,9 @@
 use Rattle.std.proofs.Common.{ℕ, List, Bor, get_or, refl}
-use Rattle.rh_lines.specs.declared.keyword.Keyword.{Keyword}
+use Rattle.rh_lines.specs.declared.parse.Keyword.{Keyword}
 use Rattle.rh_defs.specs.Grammar.{rows}
 use Rattle.rh_lines.specs.Keywords.{firsts}
 use Rattle.rh_lines.proofs.LineLemmas.{found_keyword, no_keyword_from}
-use Rattle.rh_lines.proofs.keyword.keyword_of.Goals as goal
+use Rattle.rh_lines.proofs.parse.keyword_of.Goals as goal
 
 -- a word and its keyword
 abbrev Entry : Type 0
