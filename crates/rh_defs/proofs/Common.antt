@@ -16,7 +16,8 @@ pub use Rattle.rh_defs.specs.Bytes.{SameIn, SameOutside}
 unfoldable pub use Rattle.rh_defs.specs.Bytes.{part, put, word}
 pub use Rattle.rh_defs.specs.Chain.{Granted, answer_of, left_of}
 unfoldable pub use Rattle.rh_defs.specs.Chain.{found_or, or_else, refuse_if, ◌>>=◌, ◌>>◌}
-pub use Rattle.rh_defs.specs.Commands.{Answer, file_length, scrap_area}
+pub use Rattle.rh_defs.specs.Commands.{Answer}
+pub use Rattle.rh_defs.specs.Desk.{file_length, scrap_area}
 pub use Rattle.rh_defs.specs.Desk.{Desk, Scrap, Task, free_pages}
 unfoldable pub use Rattle.rh_defs.specs.Desk.{named, with_delivered}
 pub use Rattle.rh_defs.specs.Files.{contents_of, has_file}
@@ -40,7 +41,7 @@ pub use Rattle.rh_defs.specs.Questions.{asked}
 pub use Rattle.rh_defs.specs.Runs.{start_with}
 pub use Rattle.rh_defs.specs.Slot.{Flex, HaveAnchors, IsFree, IsSlot, Slot, anchor_count, flex_start, flex_weight, heap_start, slot_length, slot_pages}
 pub use Rattle.rh_defs.specs.Slot.{weight, with_heap}
-pub use Rattle.rh_defs.specs.Step.{step}
+pub use Rattle.rh_defs.specs.Commands.{step}
 unfoldable pub use Rattle.rh_defs.specs.Transfer.{handled}
 pub use Rattle.rh_defs.specs.declared.command.Command.{Command}
 pub use Rattle.rh_defs.specs.declared.heap.HeapRefusal.{HeapRefusal}

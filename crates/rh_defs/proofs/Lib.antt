@@ -24,12 +24,14 @@ pub mod ModuleKeeps
 pub mod PostKeeps
 pub mod Desks
 pub mod Transfers
-pub mod Steps
-pub mod Spaced
+pub mod GrammarLaws
 pub mod Follows
 pub mod Orders
 pub mod QuestionLaws
 pub mod OrderSteps
+pub mod Changes
+pub mod Steps
+pub mod Spaced
 pub mod SlotImageLaws
 pub mod MessageRows
 pub mod Rows

@@ -1,8 +1,8 @@
--- Each command on two desks that differ in the order of messages to different tasks alone.
+-- The steps of commands and polls on two desks that differ in the order of messages to different tasks alone.
 use Rattle.rh_defs.proofs.Common.{◌≡◌, ℕ, ◌-◌, false, cond, refl, ap, sym, subst, List, length, Option, Some, None, Ok, ◌==◌, nat_lt, Refusal}
-use Rattle.rh_defs.proofs.Common.{NotABlock, NoRoom, Command, EventCode, User, Recorded, Acknowledge, Letter, Body, DataSave, DataSaveAck, DataLoad}
+use Rattle.rh_defs.proofs.Common.{NotABlock, NoRoom, EventCode, User, Recorded, Acknowledge, Letter, Body, DataSave, DataSaveAck, DataLoad}
 use Rattle.rh_defs.proofs.Common.{DataLoadAck, RamFetch, RamTransmit, Incoming, Granted, ◌>>=◌, ◌>>◌, refuse_if, found_or, Split, block_at, Flex, Parcel}
-use Rattle.rh_defs.proofs.Common.{Post, post_join, Desk, Task, Scrap, free_pages, named, with_delivered, Answer, handled, step}
+use Rattle.rh_defs.proofs.Common.{Post, Desk, Task, Scrap, free_pages, with_delivered, Answer, handled}
 use Rattle.rh_defs.specs.declared.refusal.Refusal.TheVariants.{NotYours}
 use Rattle.rh_defs.specs.declared.command.Command.TheVariants as command
 use Rattle.rh_defs.specs.declared.reply.Reply.{Reply}
@@ -10,20 +10,15 @@ use Rattle.rh_defs.specs.declared.transfer.Sending.{Sending}
 use Rattle.rh_defs.specs.declared.transfer.Taking.{Taking}
 use Rattle.rh_defs.specs.declared.transfer.Asked.{Asked}
 use Rattle.rh_defs.specs.declared.transfer.Incoming.TheVariants as incoming
-use Rattle.rh_defs.specs.Desk.{with_task, with_post, kept_scrap, send_letter}
-use Rattle.rh_defs.specs.Commands.{start_task, kill, alloc, load, put, free, extend, mid, claim, release, resize, budge, module_area, module_start}
-use Rattle.rh_defs.specs.Commands.{change_module, change_pages, change_made, make, remove, own_block, rma_claim, rma_free, rma_resize}
+use Rattle.rh_defs.specs.Desk.{with_task, with_post, kept_scrap, send_letter, module_start}
+use Rattle.rh_defs.specs.Commands.{load, own_block, event, poll_taken, is_refused}
 use Rattle.rh_defs.specs.OutgoingEvents.{Handled, transmit, refused, answer_fetch, fail_sending, save_scrap, answer_ack, finish_load}
 use Rattle.rh_defs.specs.IncomingEvents.{ended, accept, take_save, appended, fetch_more, took, is_uncountable, take_bytes, ask, fetch_back, ack_back, loaded}
 use Rattle.rh_defs.specs.IncomingEvents.{load_file, take_file}
 use Rattle.rh_defs.specs.Transfer.{came, came_back}
-use Rattle.rh_defs.specs.Step.{save, repeat, event, poll_taken, poll, cancel_in, cancel_out, change, is_refused}
-use Rattle.rh_defs.specs.Order.{SameForEach, requeued, with_queue, IsReordered, StepsAlike, IgnoresOrder}
-use Rattle.rh_defs.proofs.Chains.{OnGrant, granted, refused as ungranted}
-use Rattle.rh_defs.proofs.QuestionLaws.{asked-requeued, first-is, first-says}
-use Rattle.rh_defs.proofs.Follows.{Follows, follows-same, follows-with, follows-then, follows-equal, follows-as, follows-less, follows-known, or_else-follows}
-use Rattle.rh_defs.proofs.Follows.{chosen-both}
-use Rattle.rh_defs.proofs.Orders.{PostAlike, AnswerAlike, is_live-same, is_message-same, sendable-same, post_poll-alike, post_death-alike, post_send-alike}
+use Rattle.rh_defs.specs.Order.{SameForEach, requeued, with_queue}
+use Rattle.rh_defs.proofs.Follows.{Follows, follows-same, follows-with, follows-then, follows-as, or_else-follows, chosen-both}
+use Rattle.rh_defs.proofs.Orders.{PostAlike, AnswerAlike, is_live-same, is_message-same, sendable-same, post_send-alike}
 
 -- the second desk is the first with another such queue
 pub data DeskAlike : Desk → Desk → Type 0 where
@@ -34,7 +29,7 @@ pub data Alike {B : Type 0} : Desk × B → Desk × B → Type 0 where
   alike : (d : Desk) (queue : List Parcel) (x : B) → SameForEach d.post.queued queue → Alike (d, x) (with_queue queue d, x)
 
 -- chains that go on from two such desks
-follows-desk : {B : Type 0} {R : B → B → Type 0} {first second : Granted Desk} (next other : Desk → Granted B) → Follows DeskAlike first second
+pub follows-desk : {B : Type 0} {R : B → B → Type 0} {first second : Granted Desk} (next other : Desk → Granted B) → Follows DeskAlike first second
     → ((d : Desk) (queue : List Parcel) → SameForEach d.post.queued queue → Follows R (next d) (other (with_queue queue d)))
     → Follows R (first >>= next) (second >>= other)
 follows-desk {R = R} next other pair h = follows-with next other pair λ x y a. go x y a
@@ -42,7 +37,7 @@ follows-desk {R = R} next other pair h = follows-with next other pair λ x y a. 
     go : (x y : Desk) → DeskAlike x y → Follows R (next x) (other y)
     go _ _ (DeskAlike.alike d queue same) = h d queue same
 
-send_letter-alike : (l : Letter) (d : Desk) (queue : List Parcel) → SameForEach d.post.queued queue
+pub send_letter-alike : (l : Letter) (d : Desk) (queue : List Parcel) → SameForEach d.post.queued queue
     → Follows DeskAlike (send_letter l d) (send_letter l (with_queue queue d))
 unfolding send_letter with_task
 send_letter-alike l d queue same = follows-with _ _ (post_send-alike (free_pages d) l d.post queue same) λ x y a. go x y a
@@ -219,7 +214,7 @@ handled-alike d queue t m Acknowledge same = came_back-alike d queue t m m.messa
 
 -- ---- polls and deaths
 
-delivered-alike : (d : Desk) (queue : List Parcel) {a b : Post} → PostAlike a b → DeskAlike (with_delivered a d) (with_delivered b (with_queue queue d))
+pub delivered-alike : (d : Desk) (queue : List Parcel) {a b : Post} → PostAlike a b → DeskAlike (with_delivered a d) (with_delivered b (with_queue queue d))
 unfolding with_delivered
 delivered-alike d queue (PostAlike.alike post q s) =
     subst (λ (scrap : Option Scrap). DeskAlike (record d { post = post; scrap = kept_scrap post d.scrap })
@@ -231,7 +226,7 @@ delivered-alike d queue (PostAlike.alike post q s) =
     kept (Some file) = ap (λ b. cond b (Some file) None) (is_live-same file.load post q s)
 
 -- two desks, each with the same reply, which is no refusal
-data SaidAlike : Answer → Answer → Type 0 where
+pub data SaidAlike : Answer → Answer → Type 0 where
   said : (d : Desk) (queue : List Parcel) (r : Reply) → SameForEach d.post.queued queue → is_refused r ≡ false → SaidAlike (d, r) (with_queue queue d, r)
 
 event-alike : (m : Parcel) {x y : Handled} → Alike x y → SaidAlike (event m x) (event m y)
@@ -242,90 +237,19 @@ unfolding poll_taken
 poll_taken-alike t None (DeskAlike.alike d queue same) = SaidAlike.said d queue _ same refl
 poll_taken-alike t (Some m) (DeskAlike.alike d queue same) = event-alike m (handled-alike d queue t m m.code same)
 
-polled-alike : (d : Desk) (queue : List Parcel) (t : Task) {x y : Post × Option Parcel} → AnswerAlike x y
+pub polled-alike : (d : Desk) (queue : List Parcel) (t : Task) {x y : Post × Option Parcel} → AnswerAlike x y
     → SaidAlike (poll_taken (with_delivered x.0 d) t x.1) (poll_taken (with_delivered y.0 (with_queue queue d)) t y.1)
 polled-alike d queue t (AnswerAlike.alike post q o s) = poll_taken-alike t o (delivered-alike d queue (PostAlike.alike post q s))
 
-killed-alike : (tasks : List Task) (r : Reply) → is_refused r ≡ false → {a b : Desk} → DeskAlike a b
+pub killed-alike : (tasks : List Task) (r : Reply) → is_refused r ≡ false → {a b : Desk} → DeskAlike a b
     → SaidAlike (record a { tasks = tasks }, r) (record b { tasks = tasks }, r)
 killed-alike tasks r other (DeskAlike.alike d queue same) = SaidAlike.said (record d { tasks = tasks }) queue r same other
 
--- ---- one command
+-- ---- a block of the module area
 
-own_block-same : (address : ℕ) (d : Desk) (queue : List Parcel) → SameForEach d.post.queued queue → own_block address (with_queue queue d) ≡ own_block address d
+pub own_block-same : (address : ℕ) (d : Desk) (queue : List Parcel) → SameForEach d.post.queued queue
+    → own_block address (with_queue queue d) ≡ own_block address d
 unfolding own_block
 own_block-same address d queue same =
     ap (λ t. found_or (block_at (address - module_start) d.post.heap) NotABlock >>= λ b. (refuse_if t NotYours >> Ok b))
     (is_message-same (address - module_start) d.post queue same)
-
-module _ (d : Desk) (queue : List Parcel) (same : SameForEach d.post.queued queue) where
-  -- what a command changes and answers, on both desks
-  change-alike : (c : Command) → Follows SaidAlike (change d c) (change (with_queue queue d) c)
-  unfolding start_task post_join kill named with_delivered alloc with_task load put free extend mid claim release resize budge save poll cancel_in
-      cancel_out repeat change_module change_pages change_made make remove rma_claim rma_free rma_resize
-  change-alike (command.Task name buffer manner) =
-      follows-then _ _ _ (follows-then _ _ _ (follows-then _ _ _ (follows-same _ _ _ λ s. Follows.both (SaidAlike.said _ queue _ same refl))))
-  change-alike (command.Kill name) =
-      follows-same _ _ _ λ t. Follows.both (killed-alike _ _ refl (delivered-alike d queue (post_death-alike t.handle d.post queue same)))
-  change-alike (command.Alloc name k n) = follows-same _ _ _ λ t. follows-same _ _ _ λ p. Follows.both (SaidAlike.said _ queue _ same refl)
-  change-alike (command.Load name k file) =
-      follows-same _ _ _ λ t. follows-same _ _ _ λ entry. follows-same _ _ _ λ p. follows-same _ _ _ λ s. Follows.both (SaidAlike.said _ queue _ same refl)
-  change-alike (command.Put name k offset bytes) =
-      follows-same _ _ _ λ t. follows-same _ _ _ λ b. follows-same _ _ _ λ s. Follows.both (SaidAlike.said _ queue _ same refl)
-  change-alike (command.Free name k) = follows-same _ _ _ λ t. follows-same _ _ _ λ b. follows-same _ _ _ λ s. Follows.both (SaidAlike.said _ queue _ same refl)
-  change-alike (command.Extend name k n) =
-      follows-same _ _ _ λ t. follows-same _ _ _ λ b. follows-same _ _ _ λ s. Follows.both (SaidAlike.said _ queue _ same refl)
-  change-alike (command.Mid name k offset by) =
-      follows-same _ _ _ λ t. follows-same _ _ _ λ b. follows-same _ _ _ λ s. Follows.both (SaidAlike.said _ queue _ same refl)
-  change-alike (command.Claim name n) = follows-same _ _ _ λ t. follows-same _ _ _ λ p. Follows.both (SaidAlike.said _ queue _ same refl)
-  change-alike (command.Release name address) =
-      follows-same _ _ _ λ t. follows-same _ _ _ λ b. follows-same _ _ _ λ s. Follows.both (SaidAlike.said _ queue _ same refl)
-  change-alike (command.Resize name address delta) =
-      follows-same _ _ _ λ t. follows-same _ _ _ λ b. follows-same _ _ _ λ p. Follows.both (SaidAlike.said _ queue _ same refl)
-  change-alike (command.Budge name on) = follows-same _ _ _ λ t. Follows.both (SaidAlike.said _ queue _ same refl)
-  change-alike (command.Save name k to leaf) =
-      follows-same _ _ _ λ t. follows-same _ _ _ λ b. follows-then _ _ _ (follows-same _ _ _ λ r.
-      follows-desk _ _ (send_letter-alike _ d queue same) λ sent q s. Follows.both (SaidAlike.said _ q _ s refl))
-  change-alike (command.Poll name) = follows-same _ _ _ λ t. Follows.both (polled-alike d queue t (post_poll-alike t.handle d.post queue same))
-  change-alike (command.CancelIn name id) = follows-same _ _ _ λ t. follows-same _ _ _ λ records. Follows.both (SaidAlike.said _ queue _ same refl)
-  change-alike (command.CancelOut name id) = follows-same _ _ _ λ t. follows-same _ _ _ λ records. Follows.both (SaidAlike.said _ queue _ same refl)
-  change-alike (command.Repeat name) =
-      follows-same _ _ _ λ t. follows-same _ _ _ λ last.
-      follows-desk _ _ (send_letter-alike _ d queue same) λ sent q s. Follows.both (SaidAlike.said _ q _ s refl)
-  change-alike (command.Area k delta) =
-      chosen-both (Follows SaidAlike) (k == module_area) _ _ _ _ (follows-same _ _ _ λ c. Follows.both (SaidAlike.said _ queue _ same refl))
-      (chosen-both (Follows SaidAlike) (nat_lt k (length d.areas)) _ _ _ _ (follows-same _ _ _ λ n. Follows.both (SaidAlike.said _ queue _ same refl))
-      (follows-same _ _ _ λ m. follows-same _ _ _ λ n. follows-then _ _ _ (Follows.both (SaidAlike.said _ queue _ same refl))))
-  change-alike (command.Make most) = follows-then _ _ _ (follows-then _ _ _ (Follows.both (SaidAlike.said _ queue _ same refl)))
-  change-alike (command.Remove k) = follows-same _ _ _ λ m. Follows.both (SaidAlike.said _ queue _ same refl)
-  change-alike (command.RmaClaim n) = follows-same _ _ _ λ c. Follows.both (SaidAlike.said _ queue _ same refl)
-  change-alike (command.RmaFree address) =
-      follows-equal _ _ _ _ (own_block-same address d queue same) λ b. follows-same _ _ _ λ h. Follows.both (SaidAlike.said _ queue _ same refl)
-  change-alike (command.RmaResize address delta) =
-      follows-equal _ _ _ _ (own_block-same address d queue same) λ b. follows-same _ _ _ λ c. Follows.both (SaidAlike.said _ queue _ same refl)
-  change-alike (command.Ask q) =
-      follows-known _ _ (asked-requeued queue d q) (first-is d q) λ told first. Follows.both (SaidAlike.said _ queue _ same (first-says first))
-
-  step-alike : (c : Command) → Alike (step d c) (step (with_queue queue d) c)
-  step-alike c = or_else-follows Alike _ _ (follows-less less (change-alike c)) (λ refusal. Alike.alike d queue _ same)
-    where
-      less : (x y : Answer) → SaidAlike x y → Alike x y
-      less _ _ (SaidAlike.said d queue r same other) = Alike.alike d queue r same
-
--- no command that is granted answers that it was refused
-pub never-refused : (d : Desk) (c : Command) → OnGrant (λ (a : Answer). is_refused a.1 ≡ false) (change d c)
-never-refused d c = go (change-alike d d.post.queued (record { each = λ h. refl }) c)
-  where
-    go : {g h : Granted Answer} → Follows SaidAlike g h → OnGrant (λ (a : Answer). is_refused a.1 ≡ false) g
-    go (Follows.both (SaidAlike.said d queue r same other)) = granted other
-    go Follows.neither = ungranted
-
--- what is alike has the same reply, and desks that differ in that order alone
-answers-alike : {x y : Answer} → Alike x y → (y.1 ≡ x.1) × IsReordered x.0 y.0
-answers-alike (Alike.alike d queue x same) = (refl, record { same = same; rest = refl })
-
-pub order-ignored : IgnoresOrder
-order-ignored a b c is =
-    let pair = answers-alike (step-alike a b.post.queued is.same c) in
-    let one : StepsAlike a (with_queue b.post.queued a) c = record { reply = pair.0; desks = pair.1 } in
-    subst (λ (e : Desk). StepsAlike a e c) (sym is.rest) one

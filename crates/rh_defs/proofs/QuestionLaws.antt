@@ -1,5 +1,5 @@
 -- What holds of each question: it leaves the desk, doesn't see the order of messages, and alone lists more than a line.
-use Rattle.rh_defs.proofs.Common.{◌≡◌, ℕ, true, false, eqb, List, refl, ap, ◌∙◌, rules, Ok, Err, if◌then◌else◌, Command, Granted, ◌>>=◌, or_else, Parcel}
+use Rattle.rh_defs.proofs.Common.{◌≡◌, ℕ, Bool, true, false, eqb, List, refl, ap, ◌∙◌, rules, Ok, Err, if◌then◌else◌, Command, Granted, ◌>>=◌, or_else, Parcel}
 use Rattle.rh_defs.proofs.Common.{Desk, named, Answer, asked, step}
 use borrow.Author.Tests.{tests}
 use Rattle.rh_defs.specs.declared.command.Command.TheVariants as command
@@ -10,7 +10,7 @@ use Rattle.rh_defs.specs.declared.reply.Reply.TheVariants as reply
 use Rattle.rh_defs.specs.Listing.{Nothing}
 use Rattle.rh_defs.specs.Range.{can_be_asked}
 use Rattle.rh_defs.specs.Questions.{Told, begins, is_same, show, blocks, heap, status}
-use Rattle.rh_defs.specs.Step.{is_refused}
+use Rattle.rh_defs.specs.Commands.{is_refused}
 use Rattle.rh_defs.specs.Order.{with_queue, IsReordered}
 use Rattle.rh_defs.proofs.Chains.{OnGrant, granted, granted-then, grant-holds}
 use Rattle.rh_defs.specs.Text.{answer_text, first_line, reply_text}
@@ -19,10 +19,7 @@ use Rattle.rh_defs.specs.Text.{answer_text, first_line, reply_text}
 pub asked-requeued : (queue : List Parcel) (d : Desk) (q : Question) → asked (with_queue queue d) q ≡ asked d q
 unfolding show blocks heap status named
 asked-requeued queue d (question.Show name k) = refl
-asked-requeued queue d (question.Blocks name) = refl
-asked-requeued queue d (question.Heap name) = refl
-asked-requeued queue d (question.Status name) = refl
-asked-requeued queue d question.Areas = refl
+asked-requeued queue d q = refl
 
 -- desks that differ in the order of messages to different tasks alone are answered alike
 pub asked-alike : {a b : Desk} → IsReordered a b → (q : Question) → asked b q ≡ asked a q
@@ -64,13 +61,26 @@ first-is d (question.Heap name) = granted-then _ _ λ t e. granted heap_sums
 first-is d (question.Status name) = granted-then _ _ λ t e. granted status_of
 first-is d question.Areas = granted free_page_count
 
--- no answer begins with a refusal
-pub first-says : {r : Reply} → IsFirst r → is_refused r ≡ false
-first-says shown = refl
-first-says block_count = refl
-first-says heap_sums = refl
-first-says status_of = refl
-first-says free_page_count = refl
+-- whether a reply is no refusal, and tells of no new task, message or area
+abbrev pub is_quiet : Reply → Bool
+is_quiet (reply.Refused refusal) = false
+is_quiet (reply.Started handle) = false
+is_quiet (reply.Sent ref) = false
+is_quiet (reply.Event code action my_ref your_ref done) = false
+is_quiet (reply.Made number) = false
+is_quiet said = true
+
+pub quiet-granted : (said : Reply) → is_quiet said ≡ true → is_refused said ≡ false
+quiet-granted (reply.Refused refusal) quiet = absurd cc
+quiet-granted said quiet = refl
+
+-- what answers begin with is quiet
+pub first-quiet : {said : Reply} → IsFirst said → is_quiet said ≡ true
+first-quiet shown = refl
+first-quiet block_count = refl
+first-quiet heap_sums = refl
+first-quiet status_of = refl
+first-quiet free_page_count = refl
 
 eqb-refl : (n : ℕ) → eqb n n ≡ true
 eqb-refl n = search (rules, tests)

@@ -1,11 +1,9 @@
 -- Worked slots and module areas: the definitions compute these answers.
 use Rattle.rh_defs.proofs.Common.{◌≡◌, refl, ℕ, ◌-◌, ◌/◌, ℤ, pos, negsuc, Bool, true, false, List, [], ◌∷◌, map, Ok, Err, NotABlock, BadSize, NoRoom, Granted}
 use Rattle.rh_defs.proofs.Common.{answer_of, left_of, page, Heap, Slot, slot_pages, module_claim, module_free, module_resize, module_change}
-use Rattle.rh_defs.proofs.Common.{module_need_pages}
 use Rattle.rh_defs.specs.declared.refusal.Refusal.TheVariants.{AnchorInUse, BadRange, NoBudge, ExcessiveShrink}
 use Rattle.rh_defs.specs.declared.listing.BlockItem.{BlockItem}
 use Rattle.rh_defs.specs.Chain as chain
-use Rattle.rh_defs.specs.Chain.{result_or}
 use Rattle.rh_defs.specs.Heap.{empty_heap}
 use Rattle.rh_defs.specs.Slot as slot
 use Rattle.rh_defs.specs.Slot.{new_slot, slot_alloc, slot_free, slot_extend, slot_mid, slot_put, slot_read, slot_claim, slot_release, slot_resize}

@@ -2,7 +2,7 @@
 use Rattle.rh_defs.proofs.Common.{ℕ, ◌+◌, ◌*◌, ◌/◌, ◌≤◌, arith, List, [], ◌∷◌, ◌++◌, length, inl, AllByRecursion, total, page, Heap, Segment, Used, Hole}
 use Rattle.rh_defs.proofs.Common.{size_of, first_place, Slot, Flex, IsSlot, weight, heap_start, flex_start, slot_pages, FillsPages, Desk, IsDesk}
 use Rattle.rh_defs.specs.Slot.{slot_start}
-use Rattle.rh_defs.specs.Commands.{module_start}
+use Rattle.rh_defs.specs.Desk.{module_start}
 use Rattle.rh_defs.specs.Spans.{Span, heap_spans, flex_spans, slot_spans, module_spans, IsApart, AreApart, IsWithin, AreLaidOut}
 use Rattle.rh_defs.specs.Laws.{IsBalanced, HasApartBlocks, Always}
 use Rattle.rh_defs.proofs.Lists.{all-mono, all-join}

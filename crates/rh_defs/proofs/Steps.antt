@@ -1,24 +1,24 @@
--- Each command keeps what holds of a desk.
+-- Each command, step by step; and what follows of every run.
 use Rattle.rh_defs.proofs.Common.{◌≡◌, ◌≢◌, ℕ, ◌+◌, ◌*◌, ◌/◌, ◌≤◌, ◌<◌, ◌^◌, Bool, true, false, cond, refl, ap, sym, subst, ◌∙◌, arith, List, [], ◌∷◌, ◌++◌}
 use Rattle.rh_defs.proofs.Common.{length, length-append, map, Option, Some, None, ℤ, pos, negsuc, ◌&&◌, ◌==◌, nat_lt, not, find, filter, slice_index}
 use Rattle.rh_defs.proofs.Common.{AllByRecursion, ltb-false, eqb-true, eqb-false, anchor_count, Command, Granted, page, total, changed_length, Parcel, Post}
-use Rattle.rh_defs.proofs.Common.{post_poll, post_death, post_join, Desk, Task, free_pages, with_delivered, Answer, scrap_area, file_length, asked, step}
+use Rattle.rh_defs.proofs.Common.{post_poll, post_death, post_join, Desk, Task, free_pages, named, with_delivered, nat_tests, Answer, scrap_area}
+use Rattle.rh_defs.proofs.Common.{file_length, asked, step}
 use Rattle.rh_defs.proofs.Common.{handled, start_with, IsDesk}
 use Rattle.std.proofs.lemmas.List.{map-append, length-map}
 use Rattle.std.specs.List.{list_all}
 use borrow.Author.Tests.{ltb-true, leb-false}
 use Rattle.rh_defs.specs.declared.command.Command.TheVariants as command
-use Rattle.rh_defs.specs.Forms.{is_name, is_number, first_made}
+use Rattle.rh_defs.specs.Forms.{first_made}
 use Rattle.rh_defs.specs.Range.{in_range, all_in_range}
 use Rattle.rh_defs.specs.Files.{FileList}
-use Rattle.rh_defs.specs.Desk.{Made, most_tasks, task_pages, used_pages}
-use Rattle.rh_defs.specs.Commands.{start_task, kill, alloc, load, put, free, extend, mid, claim, release, resize, budge, module_area, least_length}
+use Rattle.rh_defs.specs.Desk.{Made, most_tasks, task_pages, used_pages, with_task, module_area}
+use Rattle.rh_defs.specs.Commands.{start_task, kill, alloc, load, put, free, extend, mid, claim, release, resize, budge, least_length}
 use Rattle.rh_defs.specs.Commands.{shrinks_below, pages_after, change_module, change_pages, is_numbered, with_pages, change_made, change_area, make, remove}
-use Rattle.rh_defs.specs.Commands.{rma_claim, rma_free, rma_resize}
-use Rattle.rh_defs.specs.Step.{save, repeat, poll, poll_taken, cancel_in, cancel_out, change}
+use Rattle.rh_defs.specs.Commands.{own_block, rma_claim, rma_free, rma_resize, save, repeat, poll, poll_taken, cancel_in, cancel_out, change, is_refused}
 use Rattle.rh_defs.specs.Runs.{after}
 use Rattle.rh_defs.specs.Laws.{Rise, IsStart, AreMade, task_handles, seat_handles}
-use Rattle.rh_defs.proofs.Chains.{OnGrant, granted, granted-then, granted-with, granted-past, found_or-grants, or_else-keeps}
+use Rattle.rh_defs.proofs.Chains.{OnGrant, granted, refused, granted-then, granted-with, granted-past, grant-holds, chosen, found_or-grants, or_else-keeps}
 use Rattle.rh_defs.proofs.Cuts.{total-append}
 use Rattle.rh_defs.proofs.Lists.{append-all, filter-all, filter-total, filter-length, map-filter, rise-append, rise-filter, rise-same, some-is}
 use Rattle.rh_defs.proofs.ModuleKeeps.{module_claim-grants, module_free-grants, module_resize-grants, module_change-grants, changed-whole}
@@ -28,13 +28,13 @@ use Rattle.rh_defs.proofs.SlotKeeps.{slot_claim-grants, slot_release-grants, slo
 use Rattle.rh_defs.proofs.Desks.{IsTask, HasSlot, named-task, with_slot-keeps, with_sending-keeps, with_taking-keeps, roomed-after, kept_scrap-less}
 use Rattle.rh_defs.proofs.Desks.{with_delivered-keeps, send_letter-keeps, with_module-keeps, areas-keep}
 use Rattle.rh_defs.proofs.Transfers.{IsAfter, handled-keeps}
-
--- the desk of an answer is one of a run
-pub record IsAnswer (a : Answer) : Type 0 where
-  pub desk : IsDesk a.0
-
-pub answer-is : {a : Answer} → IsDesk a.0 → IsAnswer a
-answer-is is = record { desk = is }
+use Rattle.rh_defs.specs.Order.{SameForEach, with_queue, IsReordered, StepsAlike, IgnoresOrder}
+use Rattle.rh_defs.proofs.Follows.{Follows, follows-same, follows-then, follows-less, or_else-follows, chosen-both}
+use Rattle.rh_defs.proofs.Orders.{post_poll-alike, post_death-alike}
+use Rattle.rh_defs.proofs.QuestionLaws.{asked-requeued, first-is, first-quiet}
+use Rattle.rh_defs.proofs.OrderSteps.{Alike, SaidAlike, follows-desk, send_letter-alike, delivered-alike, polled-alike, killed-alike, own_block-same}
+use Rattle.rh_defs.proofs.Changes.{IsOnMemory, Changed, in_areas, in_made, in_module, in_nothing, IsAnswer, answer-is, Does, anything, known-step, step-then}
+use Rattle.rh_defs.proofs.Changes.{equal-step, past, otherwise, done, in-slot, in-module}
 
 -- what a command keeps
 abbrev pub Keeps : Desk → Granted Answer → Type 0
@@ -152,6 +152,12 @@ module _ (k n : ℕ) where
           )
       go false e q rest = (all.0, rest q)
 
+poll_taken-keeps : (d : Desk) (t : Task) (o : Option Parcel) → IsTask d t → IsDesk d → IsAnswer (poll_taken d t o)
+unfolding poll_taken
+poll_taken-keeps d t None task is = answer-is is
+poll_taken-keeps d t (Some m) task is =
+    let after : IsAfter (handled d t m m.code) = handled-keeps d t m m.code task is in answer-is after.desk
+
 module _ (d : Desk) where
   -- ---- tasks
 
@@ -180,11 +186,14 @@ module _ (d : Desk) where
 
   -- ---- messages
 
-  poll_taken-keeps : (t : Task) (o : Option Parcel) → IsTask d t → IsDesk d → IsAnswer (poll_taken d t o)
-  unfolding poll_taken
-  poll_taken-keeps t None task is = answer-is is
-  poll_taken-keeps t (Some m) task is =
-      let after : IsAfter (handled d t m m.code) = handled-keeps d t m m.code task is in answer-is after.desk
+  poll-keeps : (name : List ℕ) → Keeps d (poll d name)
+  unfolding poll
+  poll-keeps name is =
+      granted-with _ (named-task name d is) λ t task.
+      let kept = post_poll-kept t.handle d.post is.post in
+      granted (poll_taken-keeps (with_delivered (post_poll t.handle d.post).0 d) t (post_poll t.handle d.post).1
+      (delivered-task (post_poll t.handle d.post).0 d t task)
+      (with_delivered-keeps (post_poll t.handle d.post).0 d kept is))
 
   -- ---- areas
 
@@ -259,110 +268,185 @@ module _ (d : Desk) where
 
 -- ---- one command
 
--- a command in range names one of the anchors
-alloc-anchor : (name : List ℕ) (k n : ℕ) → in_range (command.Alloc name k n) ≡ true → k < anchor_count
+-- the anchor of a command in range is one
+anchor-below : (name : List ℕ) (k n : ℕ) → in_range (command.Alloc name k n) ≡ true → k < anchor_count
 unfolding in_range
-alloc-anchor name k n h = second (is_name name) (is_number n) (nat_lt k anchor_count) refl h
-  where
-    second : (a c b : Bool) → nat_lt k anchor_count ≡ b → (a && b && c) ≡ true → k < anchor_count
-    second true c true e h = ltb-true _ _ e
-    second true c false e h = absurd cc
-    second false c b e h = absurd cc
+anchor-below name k n h = grind (arith, nat_tests)
 
-load-anchor : (name : List ℕ) (k : ℕ) (file : List ℕ) → in_range (command.Load name k file) ≡ true → k < anchor_count
+load-below : (name : List ℕ) (k : ℕ) (file : List ℕ) → in_range (command.Load name k file) ≡ true → k < anchor_count
 unfolding in_range
-load-anchor name k file h = second (is_name name) (is_name file) (nat_lt k anchor_count) refl h
-  where
-    second : (a c b : Bool) → nat_lt k anchor_count ≡ b → (a && b && c) ≡ true → k < anchor_count
-    second true c true e h = ltb-true _ _ e
-    second true c false e h = absurd cc
-    second false c b e h = absurd cc
+load-below name k file h = grind (arith, nat_tests)
+
+module _ (d : Desk) (queue : List Parcel) (same : SameForEach d.post.queued queue) where
+  -- what is shown of each command
+  does : (c : Command) → Does c d (change d c) (change (with_queue queue d) c)
+  unfolding start_task post_join kill named with_delivered alloc with_task load put free extend mid claim release resize budge save poll cancel_in
+      cancel_out repeat change_module change_pages change_made make remove rma_claim rma_free rma_resize
+  does (command.Task name buffer manner) =
+      past _ _ _ _ λ new. past _ _ _ _ λ few. past _ _ _ _ λ more.
+      known-step _ _ _ (λ run. slot_begin-grants (free_pages d)) λ s e fits.
+      otherwise _ queue same refl
+      (λ run. with_new_task-keeps d _ refl (leb-false _ _ few) (leb-false _ _ more) (fits run).0 (fits run).1 run.desk) (λ on. on)
+  does (command.Kill name) = record {
+    alike = follows-same _ _ _ λ t. Follows.both (killed-alike _ _ refl (delivered-alike d queue (post_death-alike t.handle d.post queue same)));
+    keeps = λ run. kill-keeps d name run.desk;
+    changes = λ on. absurd on;
+  }
+  does (command.Alloc name k n) =
+      known-step _ _ _ (λ run. named-task name d run.desk) λ t e task.
+      known-step _ _ _ (λ run. slot_alloc-grants (free_pages d) k n t.slot (anchor-below name k n run.ranged) (task run).slot) λ p f fits.
+      in-slot d queue same t p.0 refl e refl (λ run. with_slot-keeps d t p.0 (task run) (fits run) run.desk)
+  does (command.Load name k file) =
+      known-step _ _ _ (λ run. named-task name d run.desk) λ t e task. step-then _ _ _ λ entry found.
+      known-step _ _ _ (λ run. slot_alloc-grants (free_pages d) k (length entry.1) t.slot (load-below name k file run.ranged) (task run).slot) λ p f first.
+      known-step _ _ _ (λ run. slot_put-grants 0 k 0 entry.1 p.0 (first run).slot) λ s g second.
+      in-slot d queue same t s refl e refl (λ run. with_slot-keeps d t s (task run) (roomed-after (first run) (second run)) run.desk)
+  does (command.Put name k offset bytes) =
+      known-step _ _ _ (λ run. named-task name d run.desk) λ t e task. step-then _ _ _ λ b idle.
+      known-step _ _ _ (λ run. slot_put-grants (free_pages d) k offset bytes t.slot (task run).slot) λ s f fits.
+      in-slot d queue same t s refl e refl (λ run. with_slot-keeps d t s (task run) (fits run) run.desk)
+  does (command.Free name k) =
+      known-step _ _ _ (λ run. named-task name d run.desk) λ t e task. step-then _ _ _ λ b idle.
+      known-step _ _ _ (λ run. slot_free-grants (free_pages d) k t.slot (task run).slot) λ s f fits.
+      in-slot d queue same t s refl e refl (λ run. with_slot-keeps d t s (task run) (fits run) run.desk)
+  does (command.Extend name k n) =
+      known-step _ _ _ (λ run. named-task name d run.desk) λ t e task. step-then _ _ _ λ b idle.
+      known-step _ _ _ (λ run. slot_extend-grants (free_pages d) k n t.slot (task run).slot) λ s f fits.
+      in-slot d queue same t s refl e refl (λ run. with_slot-keeps d t s (task run) (fits run) run.desk)
+  does (command.Mid name k offset by) =
+      known-step _ _ _ (λ run. named-task name d run.desk) λ t e task. step-then _ _ _ λ b idle.
+      known-step _ _ _ (λ run. slot_mid-grants (free_pages d) k offset by t.slot (task run).slot) λ s f fits.
+      in-slot d queue same t s refl e refl (λ run. with_slot-keeps d t s (task run) (fits run) run.desk)
+  does (command.Claim name n) =
+      known-step _ _ _ (λ run. named-task name d run.desk) λ t e task.
+      known-step _ _ _ (λ run. slot_claim-grants (free_pages d) n t.slot (task run).slot) λ p f fits.
+      in-slot d queue same t p.0 refl e refl (λ run. with_slot-keeps d t p.0 (task run) (fits run) run.desk)
+  does (command.Release name address) =
+      known-step _ _ _ (λ run. named-task name d run.desk) λ t e task. step-then _ _ _ λ b idle.
+      known-step _ _ _ (λ run. slot_release-grants (free_pages d) address t.slot (task run).slot) λ s f fits.
+      in-slot d queue same t s refl e refl (λ run. with_slot-keeps d t s (task run) (fits run) run.desk)
+  does (command.Resize name address delta) =
+      known-step _ _ _ (λ run. named-task name d run.desk) λ t e task. step-then _ _ _ λ b idle.
+      known-step _ _ _ (λ run. slot_resize-grants (free_pages d) address delta t.slot (task run).slot) λ p f fits.
+      in-slot d queue same t p.0 refl e refl (λ run. with_slot-keeps d t p.0 (task run) (fits run) run.desk)
+  does (command.Budge name on) =
+      known-step _ _ _ (λ run. named-task name d run.desk) λ t e task.
+      in-slot d queue same t (record t.slot { budging = on }) refl e refl
+      (λ run. with_slot-keeps d t (record t.slot { budging = on }) (task run)
+      (record { room = omega arith; slot = record { heap = (task run).slot.heap; anchors = (task run).slot.anchors } }) run.desk)
+  does (command.Save name k to leaf) =
+      step-then _ _ _ λ t e. step-then _ _ _ λ b idle. past _ _ _ _ λ few. step-then _ _ _ λ r live.
+      record {
+        alike = follows-desk _ _ (send_letter-alike _ d queue same) λ sent q s. Follows.both (SaidAlike.said _ q _ s refl);
+        keeps = λ run. granted-with _ (send_letter-keeps _ d run.desk) λ sent ok. granted (answer-is (with_sending-keeps t.handle _ sent ok.desk));
+        changes = λ on. absurd on;
+      }
+  does (command.Poll name) = record {
+    alike = follows-same _ _ _ λ t. Follows.both (polled-alike d queue t (post_poll-alike t.handle d.post queue same));
+    keeps = λ run. poll-keeps d name run.desk;
+    changes = λ on. absurd on;
+  }
+  does (command.CancelIn name id) =
+      step-then _ _ _ λ t e. step-then _ _ _ λ records meant.
+      otherwise _ queue same refl (λ run. with_taking-keeps t.handle _ d run.desk) (λ on. on)
+  does (command.CancelOut name id) =
+      step-then _ _ _ λ t e. step-then _ _ _ λ records meant.
+      otherwise _ queue same refl (λ run. with_sending-keeps t.handle _ d run.desk) (λ on. on)
+  does (command.Repeat name) =
+      step-then _ _ _ λ t e. step-then _ _ _ λ last there.
+      record {
+        alike = follows-desk _ _ (send_letter-alike _ d queue same) λ sent q s. Follows.both (SaidAlike.said _ q _ s refl);
+        keeps = λ run. granted-with _ (send_letter-keeps _ d run.desk) λ sent ok. granted (answer-is ok.desk);
+        changes = λ on. absurd on;
+      }
+  does (command.Area k delta) =
+      let P = OnGrant (Changed (command.Area k delta) d) in
+      record {
+        alike =
+            chosen-both (Follows SaidAlike) (k == module_area) _ _ _ _ (follows-same _ _ _ λ c. Follows.both (SaidAlike.said _ queue _ same refl))
+            (chosen-both (Follows SaidAlike) (nat_lt k (length d.areas)) _ _ _ _ (follows-same _ _ _ λ n. Follows.both (SaidAlike.said _ queue _ same refl))
+            (follows-same _ _ _ λ m. follows-same _ _ _ λ n. follows-then _ _ _ (Follows.both (SaidAlike.said _ queue _ same refl))));
+        keeps = λ run. change_area-keeps d k delta run.desk;
+        changes = λ on.
+            chosen P (k == module_area) _ _ (granted-then _ _ λ c e. granted (in_module c.0 refl))
+            (chosen P (nat_lt k (length d.areas)) _ _ (granted-then _ _ λ n e. granted (in_areas _ refl))
+            (granted-then _ _ λ m e. granted-then _ _ λ n f. granted-past _ _ _ λ big. granted (in_made _ refl)));
+      }
+  does (command.Make most) = record {
+    alike = follows-then _ _ _ (follows-then _ _ _ (Follows.both (SaidAlike.said _ queue _ same refl)));
+    keeps = λ run. make-keeps d most run.desk;
+    changes = λ on. absurd on;
+  }
+  does (command.Remove k) = record {
+    alike = follows-same _ _ _ λ m. Follows.both (SaidAlike.said _ queue _ same refl);
+    keeps = λ run. remove-keeps d k run.desk;
+    changes = λ on. granted-then _ _ λ m e. granted (in_made _ refl);
+  }
+  does (command.RmaClaim n) =
+      known-step _ _ _ (λ run. module_claim-grants (free_pages d) n d.post.heap run.desk.post.heap) λ c e fills.
+      in-module d queue same c.0 refl (λ run. with_module-keeps c.0 d (fills run) run.desk)
+  does (command.RmaFree address) =
+      equal-step _ _ _ _ (own_block-same address d queue same) (λ run. anything (own_block address d)) λ b own known.
+      known-step _ _ _ (λ run. module_free-grants (free_pages d) _ d.post.heap run.desk.post.heap) λ h e fills.
+      in-module d queue same h refl (λ run. with_module-keeps h d (fills run) run.desk)
+  does (command.RmaResize address delta) =
+      equal-step _ _ _ _ (own_block-same address d queue same) (λ run. anything (own_block address d)) λ b own known.
+      known-step _ _ _ (λ run. module_resize-grants (free_pages d) _ delta d.post.heap run.desk.post.heap) λ c e fills.
+      in-module d queue same c.0 refl (λ run. with_module-keeps c.0 d (fills run) run.desk)
+  does (command.Ask q) =
+      equal-step _ _ _ _ (asked-requeued queue d q) (λ run. anything (asked d q)) λ told e known.
+      let quiet = first-quiet (grant-holds (first-is d q) e) in
+      done d queue same d same quiet (λ run. run.desk) (in_nothing quiet)
+
+-- a queue is in its own order
+in-order : (queue : List Parcel) → SameForEach queue queue
+in-order queue = record { each = λ h. refl }
+
+-- what is shown of a command on one desk
+shown : (d : Desk) (c : Command) → Does c d (change d c) (change d c)
+shown d c = does d d.post.queued (in-order d.post.queued) c
 
 pub change-keeps : (d : Desk) (c : Command) → in_range c ≡ true → Keeps d (change d c)
-unfolding start_task alloc load put free extend mid claim release resize budge save repeat cancel_in cancel_out rma_claim rma_free rma_resize poll
-change-keeps d (command.Task name buffer manner) h is =
-    granted-past _ _ _ λ new. granted-past _ _ _ λ few. granted-past _ _ _ λ more.
-    granted-with _ (slot_begin-grants (free_pages d)) λ s fits.
-    granted (answer-is (with_new_task-keeps d _ refl (leb-false _ _ few) (leb-false _ _ more) fits.0 fits.1 is))
-change-keeps d (command.Kill name) h is = kill-keeps d name is
-change-keeps d (command.Alloc name k n) h is =
-    granted-with _ (named-task name d is) λ t task.
-    granted-with _ (slot_alloc-grants (free_pages d) k n t.slot (alloc-anchor name k n h) task.slot) λ p fits.
-    granted (answer-is (with_slot-keeps d t p.0 task fits is))
-change-keeps d (command.Load name k file) h is =
-    granted-with _ (named-task name d is) λ t task. granted-then _ _ λ entry found.
-    granted-with _ (slot_alloc-grants (free_pages d) k (length entry.1) t.slot (load-anchor name k file h) task.slot) λ p first.
-    granted-with _ (slot_put-grants 0 k 0 entry.1 p.0 first.slot) λ s second.
-    granted (answer-is (with_slot-keeps d t s task (roomed-after first second) is))
-change-keeps d (command.Put name k offset bytes) h is =
-    granted-with _ (named-task name d is) λ t task. granted-then _ _ λ b idle.
-    granted-with _ (slot_put-grants (free_pages d) k offset bytes t.slot task.slot) λ s fits.
-    granted (answer-is (with_slot-keeps d t s task fits is))
-change-keeps d (command.Free name k) h is =
-    granted-with _ (named-task name d is) λ t task. granted-then _ _ λ b idle.
-    granted-with _ (slot_free-grants (free_pages d) k t.slot task.slot) λ s fits.
-    granted (answer-is (with_slot-keeps d t s task fits is))
-change-keeps d (command.Extend name k n) h is =
-    granted-with _ (named-task name d is) λ t task. granted-then _ _ λ b idle.
-    granted-with _ (slot_extend-grants (free_pages d) k n t.slot task.slot) λ s fits.
-    granted (answer-is (with_slot-keeps d t s task fits is))
-change-keeps d (command.Mid name k offset by) h is =
-    granted-with _ (named-task name d is) λ t task. granted-then _ _ λ b idle.
-    granted-with _ (slot_mid-grants (free_pages d) k offset by t.slot task.slot) λ s fits.
-    granted (answer-is (with_slot-keeps d t s task fits is))
-change-keeps d (command.Claim name n) h is =
-    granted-with _ (named-task name d is) λ t task.
-    granted-with _ (slot_claim-grants (free_pages d) n t.slot task.slot) λ p fits.
-    granted (answer-is (with_slot-keeps d t p.0 task fits is))
-change-keeps d (command.Release name address) h is =
-    granted-with _ (named-task name d is) λ t task. granted-then _ _ λ b idle.
-    granted-with _ (slot_release-grants (free_pages d) address t.slot task.slot) λ s fits.
-    granted (answer-is (with_slot-keeps d t s task fits is))
-change-keeps d (command.Resize name address delta) h is =
-    granted-with _ (named-task name d is) λ t task. granted-then _ _ λ b idle.
-    granted-with _ (slot_resize-grants (free_pages d) address delta t.slot task.slot) λ p fits.
-    granted (answer-is (with_slot-keeps d t p.0 task fits is))
-change-keeps d (command.Budge name on) h is =
-    granted-with _ (named-task name d is) λ t task.
-    granted (answer-is (with_slot-keeps d t (record t.slot { budging = on }) task
-    (record { room = omega arith; slot = record { heap = task.slot.heap; anchors = task.slot.anchors } }) is))
-change-keeps d (command.Save name k to leaf) h is =
-    granted-then _ _ λ t found. granted-then _ _ λ b idle. granted-past _ _ _ λ room. granted-then _ _ λ r live.
-    granted-with _ (send_letter-keeps _ d is) λ sent ok.
-    granted (answer-is (with_sending-keeps t.handle _ sent ok.desk))
-change-keeps d (command.Poll name) h is =
-    granted-with _ (named-task name d is) λ t task.
-    let kept = post_poll-kept t.handle d.post is.post in
-    let after : Desk = with_delivered (post_poll t.handle d.post).0 d in
-    granted (poll_taken-keeps after t (post_poll t.handle d.post).1 (delivered-task (post_poll t.handle d.post).0 d t task)
-    (with_delivered-keeps (post_poll t.handle d.post).0 d kept is))
-change-keeps d (command.CancelIn name id) h is =
-    granted-then _ _ λ t found. granted-then _ _ λ records meant. granted (answer-is (with_taking-keeps t.handle _ d is))
-change-keeps d (command.CancelOut name id) h is =
-    granted-then _ _ λ t found. granted-then _ _ λ records meant. granted (answer-is (with_sending-keeps t.handle _ d is))
-change-keeps d (command.Repeat name) h is =
-    granted-then _ _ λ t found. granted-then _ _ λ last there.
-    granted-with _ (send_letter-keeps _ d is) λ sent ok. granted (answer-is ok.desk)
-change-keeps d (command.Area k delta) h is = change_area-keeps d k delta is
-change-keeps d (command.Make most) h is = make-keeps d most is
-change-keeps d (command.Remove k) h is = remove-keeps d k is
-change-keeps d (command.RmaClaim n) h is =
-    granted-with _ (module_claim-grants (free_pages d) n d.post.heap is.post.heap) λ c fills.
-    granted (answer-is (with_module-keeps c.0 d fills is))
-change-keeps d (command.RmaFree address) h is =
-    granted-then _ _ λ b own.
-    granted-with _ (module_free-grants (free_pages d) _ d.post.heap is.post.heap) λ h fills.
-    granted (answer-is (with_module-keeps h d fills is))
-change-keeps d (command.RmaResize address delta) h is =
-    granted-then _ _ λ b own.
-    granted-with _ (module_resize-grants (free_pages d) _ delta d.post.heap is.post.heap) λ c fills.
-    granted (answer-is (with_module-keeps c.0 d fills is))
-change-keeps d (command.Ask q) h is = granted-then (asked d q) _ λ told e. granted (answer-is is)
+change-keeps d c h is = (shown d c).keeps (record { ranged = h; desk = is })
 
 pub step-keeps : (d : Desk) (c : Command) → in_range c ≡ true → IsDesk d → IsDesk (step d c).0
 step-keeps d c h is =
     let answer : IsAnswer (step d c) = or_else-keeps IsAnswer _ (change-keeps d c h is) (λ refusal. answer-is is) in
     answer.desk
+
+-- what holds of each desk and reply that a change of memory leaves holds of all such commands
+pub granted-on : {P : Answer → Type 0} (d : Desk) (c : Command) → IsOnMemory c → ((a : Answer) → Changed c d a → P a) → OnGrant P (change d c)
+granted-on d c is holds = go ((shown d c).changes is) holds
+  where
+    go : {Q P : Answer → Type 0} {r : Granted Answer} → OnGrant Q r → ((a : Answer) → Q a → P a) → OnGrant P r
+    go (granted {x = x} q) holds = granted (holds x q)
+    go refused holds = refused
+
+-- no command that is granted answers that it was refused
+pub never-refused : (d : Desk) (c : Command) → OnGrant (λ (a : Answer). is_refused a.1 ≡ false) (change d c)
+never-refused d c = go (shown d c).alike
+  where
+    go : {g h : Granted Answer} → Follows SaidAlike g h → OnGrant (λ (a : Answer). is_refused a.1 ≡ false) g
+    go (Follows.both (SaidAlike.said d queue r same other)) = granted other
+    go Follows.neither = refused
+
+-- ---- two desks that differ in the order of messages to different tasks alone
+
+step-alike : (d : Desk) (queue : List Parcel) → SameForEach d.post.queued queue → (c : Command) → Alike (step d c) (step (with_queue queue d) c)
+step-alike d queue same c = or_else-follows Alike _ _ (follows-less less (does d queue same c).alike) (λ refusal. Alike.alike d queue _ same)
+  where
+    less : (x y : Answer) → SaidAlike x y → Alike x y
+    less _ _ (SaidAlike.said d queue r same other) = Alike.alike d queue r same
+
+-- what is alike has the same reply, and desks that differ in that order alone
+answers-alike : {x y : Answer} → Alike x y → (y.1 ≡ x.1) × IsReordered x.0 y.0
+answers-alike (Alike.alike d queue x same) = (refl, record { same = same; rest = refl })
+
+pub order-ignored : IgnoresOrder
+order-ignored a b c is =
+    let pair = answers-alike (step-alike a b.post.queued is.same c) in
+    let one : StepsAlike a (with_queue b.post.queued a) c = record { reply = pair.0; desks = pair.1 } in
+    subst (λ (e : Desk). StepsAlike a e c) (sym is.rest) one
 
 -- ---- every run
 

@@ -1,20 +1,29 @@
--- The commands on memory: tasks, slots, areas, and the module area's blocks.
-use Rattle.std.specs.Prelude.{ℕ, ◌+◌, ◌-◌, ◌*◌, ◌/◌, ◌^◌, ℤ, pos, negsuc, Bool, false, not, nat_lt, nat_le, ◌==◌, if◌then◌else◌, List, [], ◌∷◌, ◌++◌, length, filter, find, map, slice_index, slice_set, Option, Some, None, Ok}
+-- What each command does, as steps of which the first refusal is the answer; and the desk after one command.
+use Rattle.std.specs.Prelude.{ℕ, ◌+◌, ◌-◌, ◌*◌, ◌/◌, ◌^◌, ℤ, pos, negsuc, Bool, false, not, nat_lt, nat_le, ◌==◌, if◌then◌else◌, List, [], ◌∷◌, ◌++◌, length, filter, find, map, slice_index, slice_set, Option, Some, None, Ok, true}
 use Rattle.std.specs.List.{list_any}
 use Rattle.std.specs.Str.{bytes_eq}
-use Rattle.rh_defs.specs.declared.refusal.Refusal.TheVariants.{NameInUse, TooManyTasks, NoHandles, NoFile, NotABlock, NotYours, ExcessiveShrink, NoRoom, NoArea, TooManyAreas, NoNumbers, TooBig}
+use Rattle.rh_defs.specs.declared.refusal.Refusal.TheVariants.{NameInUse, TooManyTasks, NoHandles, NoFile, NotABlock, NotYours, ExcessiveShrink, NoRoom, NoArea, TooManyAreas, NoNumbers, TooBig, NoTask, NothingSent, Busy}
 use Rattle.rh_defs.specs.declared.command.Manner.{Manner}
 use Rattle.rh_defs.specs.declared.reply.Reply.{Reply}
 use Rattle.rh_defs.specs.declared.reply.Reply.TheVariants as reply
-use Rattle.rh_defs.specs.declared.sizes.TheConstants.{MADE_AREAS, MODULE_START}
-use Rattle.rh_defs.specs.Chain.{Granted, ◌>>=◌, ◌>>◌, refuse_if, found_or}
+use Rattle.rh_defs.specs.Chain.{Granted, ◌>>=◌, ◌>>◌, refuse_if, found_or, or_else}
 use Rattle.rh_defs.specs.Forms.{last_made}
 use Rattle.rh_defs.specs.Pieces.{page, lacks_pages, Split}
 use Rattle.rh_defs.specs.Heap.{Segment, block_at}
 use Rattle.rh_defs.specs.Module.{whole_pages, changed_length, module_claim, module_free, module_resize, module_change}
 use Rattle.rh_defs.specs.Slot.{Slot, slot_begin, slot_alloc, slot_free, slot_extend, slot_mid, slot_put, slot_claim, slot_release, slot_resize, slot_set_budge}
-use Rattle.rh_defs.specs.Post.{post_join, post_is_message, post_death}
-use Rattle.rh_defs.specs.Desk.{Desk, Made, Scrap, most_tasks, free_pages, has_name, named, idle_block, idle_buffer, with_slot, with_module, with_delivered}
+use Rattle.rh_defs.specs.Post.{post_join, post_is_message, post_death, post_poll}
+use Rattle.rh_defs.specs.Desk.{Desk, Made, most_tasks, free_pages, has_name, named, idle_block, idle_buffer, with_slot, with_module, with_delivered, Task, module_area, module_start, scrap_area, most_made, file_length, next_ref, with_sending, with_taking, send_letter}
+use Rattle.rh_defs.specs.declared.command.Command.{Command}
+use Rattle.rh_defs.specs.declared.command.Command.TheVariants as command
+use Rattle.rh_defs.specs.Messages.{Parcel, action_of}
+use Rattle.rh_defs.specs.Letters.{save_letter}
+use Rattle.rh_defs.specs.Records.{is_open, is_full}
+use Rattle.rh_defs.specs.Sender as sender
+use Rattle.rh_defs.specs.Receiver as receiver
+use Rattle.rh_defs.specs.Questions.{asked}
+use Rattle.rh_defs.specs.OutgoingEvents.{Handled}
+use Rattle.rh_defs.specs.Transfer.{handled}
 
 -- the desk after a command, and its reply
 abbrev pub Answer : Type 0
@@ -131,24 +140,7 @@ budge d name on = do
 
 -- ---- areas
 
--- the module area is area 1
-abbrev pub module_area : ℕ
-module_area = 1
-
--- the scrap file lies in area 5
-abbrev pub scrap_area : ℕ
-scrap_area = 5
-
--- so many made areas are live at most
-abbrev pub most_made : ℕ
-most_made = MADE_AREAS
-
--- the bytes that an area keeps at least
-abbrev pub file_length : Option Scrap → ℕ
-file_length None = 0
-file_length (Some file) = length file.bytes
-
--- the same of the area's number: area 5 keeps the scrap file
+-- the bytes that an area keeps at least: area 5 keeps the scrap file
 abbrev pub least_length : ℕ → Desk → ℕ
 least_length k d = if k == scrap_area then file_length d.scrap else 0
 
@@ -218,10 +210,6 @@ remove d k = do
 
 -- ---- the module area's blocks
 
--- the module area's first byte
-abbrev pub module_start : ℕ
-module_start = MODULE_START
-
 -- the block at the address, which holds no message; addresses below the module area are no block's
 unfoldable pub own_block : ℕ → Desk → Granted (Split Segment)
 own_block address d = do
@@ -249,7 +237,96 @@ rma_resize d address delta = do
   c ← module_resize (free_pages d) (address - module_start) delta d.post.heap
   Ok (with_module c.0 d, reply.Block (module_start + c.1))
 
+-- ---- messages
+
+-- a DataSave with the block's size; its record is open from then on
+unfoldable pub save : Desk → List ℕ → ℕ → List ℕ → List ℕ → Granted Answer
+save d name k to leaf = do
+  t ← named name d
+  b ← idle_block k t
+  refuse_if (is_full is_open t.sending) Busy
+  r ← found_or (find (has_name to) d.tasks) NoTask
+  sent ← send_letter (save_letter t.handle r.handle (length b.here.bytes) leaf) d
+  Ok (with_sending t.handle (sender.offered (next_ref d) r.handle k) sent, reply.Sent (next_ref d))
+
+-- the last message once more, with another ref
+unfoldable pub repeat : Desk → List ℕ → Granted Answer
+repeat d name = do
+  t ← named name d
+  last ← found_or t.last_sent NothingSent
+  sent ← send_letter (record last.0 { from = t.handle }) d
+  Ok (sent, reply.Sent (next_ref d))
+
+-- the message as it was taken, and what was done
+abbrev pub event : Parcel → Handled → Answer
+event m after = (after.0, reply.Event m.code (action_of m.message.body) m.message.my_ref m.message.your_ref after.1)
+
+-- the message that was taken is handled
+unfoldable pub poll_taken : Desk → Task → Option Parcel → Answer
+poll_taken d t None = (d, reply.NoEvent)
+poll_taken d t (Some m) = event m (handled d t m m.code)
+
+-- the message that the task holds bounces, and the next one is taken and handled
+unfoldable pub poll : Desk → List ℕ → Granted Answer
+poll d name = do
+  t ← named name d
+  let after = post_poll t.handle d.post in
+      Ok (poll_taken (with_delivered after.0 d) t after.1)
+
+-- a transfer that comes in is given up
+unfoldable pub cancel_in : Desk → List ℕ → Option ℕ → Granted Answer
+cancel_in d name id = do
+  t ← named name d
+  records ← receiver.cancel id t.taking
+  Ok (with_taking t.handle (λ _. records) d, reply.Done)
+
+-- a transfer that goes out is given up
+unfoldable pub cancel_out : Desk → List ℕ → Option ℕ → Granted Answer
+cancel_out d name id = do
+  t ← named name d
+  records ← sender.cancel id t.sending
+  Ok (with_sending t.handle (λ _. records) d, reply.Done)
+
+-- ---- one command
+
+-- what a command changes and answers, or why it is refused
+abbrev pub change : Desk → Command → Granted Answer
+change d (command.Task name buffer manner) = start_task d name buffer manner
+change d (command.Kill name) = kill d name
+change d (command.Alloc name k n) = alloc d name k n
+change d (command.Load name k file) = load d name k file
+change d (command.Put name k offset bytes) = put d name k offset bytes
+change d (command.Free name k) = free d name k
+change d (command.Extend name k n) = extend d name k n
+change d (command.Mid name k offset by) = mid d name k offset by
+change d (command.Claim name n) = claim d name n
+change d (command.Release name address) = release d name address
+change d (command.Resize name address delta) = resize d name address delta
+change d (command.Budge name on) = budge d name on
+change d (command.Save name k to leaf) = save d name k to leaf
+change d (command.Poll name) = poll d name
+change d (command.CancelIn name id) = cancel_in d name id
+change d (command.CancelOut name id) = cancel_out d name id
+change d (command.Repeat name) = repeat d name
+change d (command.Area k delta) = change_area d k delta
+change d (command.Make most) = make d most
+change d (command.Remove k) = remove d k
+change d (command.RmaClaim n) = rma_claim d n
+change d (command.RmaFree address) = rma_free d address
+change d (command.RmaResize address delta) = rma_resize d address delta
+change d (command.Ask q) = asked d q >>= λ told. Ok (d, told.0)
+
+-- one command: a refusal leaves the desk as it was
+abbrev pub step : Desk → Command → Answer
+step d c = or_else (change d c) (λ refusal. (d, reply.Refused refusal))
+
+-- whether a reply says that the command was refused
+abbrev pub is_refused : Reply → Bool
+is_refused (reply.Refused refusal) = true
+is_refused said = false
+
 -- opens this file's words, for a proof that computes
 unfoldable pub computing : Unit {0}
-unfolding start_task kill alloc load put free extend mid claim release resize budge pages_after change_module change_pages change_made make remove own_block rma_claim rma_free rma_resize
+unfolding start_task kill alloc load put free extend mid claim release resize budge pages_after change_module change_pages change_made make remove own_block
+    rma_claim rma_free rma_resize save repeat poll_taken poll cancel_in cancel_out
 computing = tt

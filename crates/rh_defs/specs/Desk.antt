@@ -1,5 +1,5 @@
 -- The desk: the live tasks, the post, the areas, the scrap file, the files, and what is given next.
-use Rattle.std.specs.Prelude.{ℕ, ◌+◌, ◌-◌, ◌/◌, Bool, ◌||◌, ◌==◌, if◌then◌else◌, List, [], ◌∷◌, Option, Some, None, find, Ok}
+use Rattle.std.specs.Prelude.{ℕ, ◌+◌, ◌-◌, ◌/◌, Bool, ◌||◌, ◌==◌, if◌then◌else◌, List, [], ◌∷◌, length, Option, Some, None, find, Ok}
 use Rattle.std.specs.List.{list_any}
 use Rattle.std.specs.Str.{bytes_eq}
 use Rattle.rh_defs.specs.declared.refusal.Refusal.TheVariants.{NoName, NotABlock, Busy}
@@ -7,7 +7,7 @@ use Rattle.rh_defs.specs.declared.command.Manner.{Manner}
 use Rattle.rh_defs.specs.declared.message.Letter.{Letter}
 use Rattle.rh_defs.specs.declared.transfer.Outgoing.{Outgoing}
 use Rattle.rh_defs.specs.declared.transfer.Incoming.{Incoming}
-use Rattle.rh_defs.specs.declared.sizes.TheConstants.{MAX_TASKS}
+use Rattle.rh_defs.specs.declared.sizes.TheConstants.{MADE_AREAS, MAX_TASKS, MODULE_START}
 use Rattle.rh_defs.specs.Chain.{Granted, ◌>>=◌, ◌>>◌, refuse_if, found_or}
 use Rattle.rh_defs.specs.Pieces.{page, total, Split}
 use Rattle.rh_defs.specs.Heap.{Segment, Heap}
@@ -54,6 +54,26 @@ pub record Desk : Type 0 where
 -- at most so many tasks are live
 abbrev pub most_tasks : ℕ
 most_tasks = MAX_TASKS
+
+-- so many made areas are live at most
+abbrev pub most_made : ℕ
+most_made = MADE_AREAS
+
+-- the module area is area 1, and its first byte has this address
+abbrev pub module_area : ℕ
+module_area = 1
+
+abbrev pub module_start : ℕ
+module_start = MODULE_START
+
+-- the scrap file lies in area 5
+abbrev pub scrap_area : ℕ
+scrap_area = 5
+
+-- the bytes of a file, if there is one
+abbrev pub file_length : Option Scrap → ℕ
+file_length None = 0
+file_length (Some file) = length file.bytes
 
 -- the ref of the next message
 abbrev pub next_ref : Desk → ℕ

@@ -1,5 +1,5 @@
 -- The forms of names and numbers.
-use Rattle.std.specs.Prelude.{ℕ, ◌+◌, ◌*◌, ◌-◌, ℤ, pos, negsuc, Bool, true, ◌&&◌, nat_le, nat_lt, slice_index, List, length, fold, Option, Some, None}
+use Rattle.std.specs.Prelude.{ℕ, ◌+◌, ◌*◌, ◌-◌, ℤ, pos, negsuc, Bool, ◌&&◌, nat_le, nat_lt, slice_index, List, length, fold}
 use Rattle.std.specs.List.{list_all}
 use Rattle.std.specs.Char.{is_ascii_alphabetic, is_ascii_alphanumeric, is_ascii_digit}
 use Rattle.rh_defs.specs.declared.sizes.TheConstants.{ANCHORS, FIRST_MADE, GREATEST_NUMBER, LAST_AREA, LONGEST_BUFFER, LONGEST_LEAF, LONGEST_NAME, MAX_PAGES}
@@ -47,10 +47,9 @@ is_leaf leaf = nat_le 1 (length leaf) && nat_le (length leaf) LONGEST_LEAF && li
 abbrev pub last_ref : ℕ
 last_ref = 4294967295
 
--- no id, or one from 1 on
-abbrev pub is_id : Option ℕ → Bool
-is_id None = true
-is_id (Some id) = nat_le 1 id
+-- refs, which are ids of transfers too, count from 1 on
+abbrev pub is_ref : ℕ → Bool
+is_ref ref = nat_le 1 ref
 
 -- the number of the first made area, and that of the last one
 abbrev pub first_made : ℕ
@@ -59,20 +58,9 @@ first_made = FIRST_MADE
 abbrev pub last_made : ℕ
 last_made = LAST_AREA
 
--- the number of an area, and that of a made one
-abbrev pub is_area : ℕ → Bool
-is_area k = nat_le k last_made
-
-abbrev pub is_made : ℕ → Bool
-is_made k = nat_le first_made k && nat_le k last_made
-
 -- the most pages of a pool, and of a made area
 abbrev pub most_pages : ℕ
 most_pages = MAX_PAGES
-
--- how many pages a made area may have
-abbrev pub is_most : ℕ → Bool
-is_most n = nat_le 1 n && nat_le n most_pages
 
 -- 1 to 10 decimal digits
 unfoldable pub is_decimal : List ℕ → Bool

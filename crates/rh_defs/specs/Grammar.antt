@@ -1,20 +1,23 @@
 -- What a line may be: one row for each command, of the words that name it, the forms of its further words, and the
--- command made of them.
-use Rattle.std.specs.Prelude.{ℕ, ◌-◌, Bool, true, false, List, [], ◌∷◌, Option, Some, None, ℤ, codes}
+-- command made of them; and how a command is spelled, by its row and the values of these words.
+use Rattle.std.specs.Prelude.{ℕ, ◌-◌, Bool, true, false, List, [], ◌∷◌, map, Option, Some, None, ℤ, pos, codes}
 use Rattle.rh_defs.specs.declared.command.Command.{Command}
-use Rattle.rh_defs.specs.declared.command.Command.TheVariants as command
-use Rattle.rh_defs.specs.declared.question.Question.TheVariants as question
+use Rattle.rh_defs.specs.declared.command.Command.TheVariants.{Task, Kill, Alloc, Load, Put, Free, Extend, Mid, Claim, Release, Resize, Budge, Save, Poll, CancelIn, CancelOut, Repeat, Area, Make, Remove, RmaClaim, RmaFree, RmaResize, Ask}
+use Rattle.rh_defs.specs.declared.question.Question.{Question}
+use Rattle.rh_defs.specs.declared.question.Question.TheVariants.{Show, Blocks, Heap, Status, Areas}
 use Rattle.rh_defs.specs.declared.command.Manner.{Manner}
-use Rattle.rh_defs.specs.declared.command.Manner.TheVariants as manner
-use Rattle.rh_defs.specs.Forms.{greatest, longest_buffer, last_ref, first_made, last_made, most_pages}
+use Rattle.rh_defs.specs.declared.command.Manner.TheVariants.{Plain, Deaf, File}
+use Rattle.rh_defs.specs.Forms.{greatest, longest_buffer, first_made, last_made, most_pages}
 use Rattle.rh_defs.specs.Slot.{anchor_count}
 
--- the form of a word: a name, a leafname, a decimal number from low to high, one that may have `-` before it, an
--- address, bytes in hexadecimal digits, one of two words; or a word of a form that may be left out at the end
+-- the form of a word: a name, a leafname, a decimal number from low to high, the ref of a message, a number that may
+-- have `-` before it, an address, bytes in hexadecimal digits, one of two words; or a word of a form that may be left
+-- out at the end
 pub data Form : Type 0 where
   Name : Form
   Leaf : Form
   Number : (low high : ℕ) → Form
+  Ref : Form
   Delta : Form
   Address : Form
   Bytes : Form
@@ -26,6 +29,7 @@ abbrev pub Value : Form → Type 0
 Value Name = List ℕ
 Value Leaf = List ℕ
 Value (Number low high) = ℕ
+Value Ref = ℕ
 Value Delta = ℤ
 Value Address = ℕ
 Value Bytes = List ℕ
@@ -44,13 +48,28 @@ pub record Row : Type 0 where
   pub forms : List Form
   pub make : Maker forms
 
--- a command that its first word names
-abbrev row : List ℕ → (forms : List Form) → Maker forms → Row
-row first forms make = record { first = first; further = []; forms = forms; make = make }
+-- ---- how a line spells a command
 
--- a command on the module area's blocks
-abbrev rma_row : List ℕ → (forms : List Form) → Maker forms → Row
-rma_row second forms make = record { first = codes "rma"; further = second ∷ []; forms = forms; make = make }
+-- a value for each form of a row
+abbrev pub Values : List Form → Type 0
+Values [] = Unit {0}
+Values (form ∷ forms) = Value form × Values forms
+
+-- a row, and what the words behind its own spell
+pub data Spelling : Type 0 where
+  spelled_by : (row : Row) → Values row.forms → Spelling
+
+-- that row
+abbrev pub row_of_spelling : Spelling → Row
+row_of_spelling (spelled_by row values) = row
+
+-- a command that its first word names, and one on the module area's blocks
+abbrev pub spelled : List ℕ → (forms : List Form) → Maker forms → Values forms → Spelling
+spelled first forms make = spelled_by (record { first = first; further = []; forms = forms; make = make })
+
+abbrev pub rma_spelled : List ℕ → (forms : List Form) → Maker forms → Values forms → Spelling
+rma_spelled second forms make =
+    spelled_by (record { first = codes "rma"; further = second ∷ []; forms = forms; make = make })
 
 -- a word as an anchor, and as a size or an offset
 abbrev pub Anchor : Form
@@ -59,46 +78,80 @@ Anchor = Number 0 (anchor_count - 1)
 abbrev pub Size : Form
 Size = Number 0 greatest
 
--- the manner of a task that the last word may give
+-- the manner of a task that the last word may give, and back
 abbrev pub manner_of : Option Bool → Manner
-manner_of None = manner.Plain
-manner_of (Some true) = manner.Deaf
-manner_of (Some false) = manner.File
+manner_of None = Plain
+manner_of (Some true) = Deaf
+manner_of (Some false) = File
+
+abbrev pub manner_word : Manner → Option Bool
+manner_word Plain = None
+manner_word Deaf = Some true
+manner_word File = Some false
 
 -- a cancel of what comes in, or goes out
 abbrev pub cancel_of : List ℕ → Bool → Option ℕ → Command
-cancel_of name true id = command.CancelIn name id
-cancel_of name false id = command.CancelOut name id
+cancel_of name true id = CancelIn name id
+cancel_of name false id = CancelOut name id
 
--- all commands
+-- a new task, and a cancel either way, of which the words spell more than the parts of one command
+abbrev pub task_spelled :
+    Values (Name ∷ Number 1 longest_buffer ∷ Maybe (Choice (codes "deaf") (codes "file")) ∷ []) → Spelling
+task_spelled =
+    spelled (codes "task") (Name ∷ Number 1 longest_buffer ∷ Maybe (Choice (codes "deaf") (codes "file")) ∷ [])
+    (λ name buffer deaf. Task name buffer (manner_of deaf))
+
+abbrev pub cancel_spelled : Values (Name ∷ Choice (codes "in") (codes "out") ∷ Maybe Ref ∷ []) → Spelling
+cancel_spelled = spelled (codes "cancel") (Name ∷ Choice (codes "in") (codes "out") ∷ Maybe Ref ∷ []) cancel_of
+
+-- how a question is spelled
+abbrev pub question_spelling : Question → Spelling
+question_spelling (Show name k) =
+    spelled (codes "show") (Name ∷ Anchor ∷ []) (λ name k. Ask (Show name k)) (name, (k, tt))
+question_spelling (Blocks name) = spelled (codes "blocks") (Name ∷ []) (λ name. Ask (Blocks name)) (name, tt)
+question_spelling (Heap name) = spelled (codes "heap") (Name ∷ []) (λ name. Ask (Heap name)) (name, tt)
+question_spelling (Status name) = spelled (codes "status") (Name ∷ []) (λ name. Ask (Status name)) (name, tt)
+question_spelling Areas = spelled (codes "areas") [] (Ask Areas) tt
+
+-- how a command is spelled: its row, and the values of the words behind the row's own
+abbrev pub spelling : Command → Spelling
+spelling (Task name buffer manner) = task_spelled (name, (buffer, (manner_word manner, tt)))
+spelling (Kill name) = spelled (codes "kill") (Name ∷ []) Kill (name, tt)
+spelling (Alloc name k n) = spelled (codes "alloc") (Name ∷ Anchor ∷ Size ∷ []) Alloc (name, (k, (n, tt)))
+spelling (Load name k file) = spelled (codes "load") (Name ∷ Anchor ∷ Name ∷ []) Load (name, (k, (file, tt)))
+spelling (Put name k offset bytes) =
+    spelled (codes "put") (Name ∷ Anchor ∷ Size ∷ Bytes ∷ []) Put (name, (k, (offset, (bytes, tt))))
+spelling (Free name k) = spelled (codes "free") (Name ∷ Anchor ∷ []) Free (name, (k, tt))
+spelling (Extend name k n) = spelled (codes "extend") (Name ∷ Anchor ∷ Size ∷ []) Extend (name, (k, (n, tt)))
+spelling (Mid name k offset by) =
+    spelled (codes "mid") (Name ∷ Anchor ∷ Size ∷ Delta ∷ []) Mid (name, (k, (offset, (by, tt))))
+spelling (Claim name n) = spelled (codes "claim") (Name ∷ Size ∷ []) Claim (name, (n, tt))
+spelling (Release name place) = spelled (codes "release") (Name ∷ Address ∷ []) Release (name, (place, tt))
+spelling (Resize name place by) = spelled (codes "resize") (Name ∷ Address ∷ Delta ∷ []) Resize (name, (place, (by, tt)))
+spelling (Budge name on) =
+    spelled (codes "budge") (Name ∷ Choice (codes "on") (codes "off") ∷ []) Budge (name, (on, tt))
+spelling (Save name k to leaf) =
+    spelled (codes "save") (Name ∷ Anchor ∷ Name ∷ Leaf ∷ []) Save (name, (k, (to, (leaf, tt))))
+spelling (Poll name) = spelled (codes "poll") (Name ∷ []) Poll (name, tt)
+spelling (CancelIn name id) = cancel_spelled (name, (true, (id, tt)))
+spelling (CancelOut name id) = cancel_spelled (name, (false, (id, tt)))
+spelling (Repeat name) = spelled (codes "repeat") (Name ∷ []) Repeat (name, tt)
+spelling (Area k by) = spelled (codes "area") (Number 0 last_made ∷ Delta ∷ []) Area (k, (by, tt))
+spelling (Make most) = spelled (codes "make") (Number 1 most_pages ∷ []) Make (most, tt)
+spelling (Remove k) = spelled (codes "remove") (Number first_made last_made ∷ []) Remove (k, tt)
+spelling (RmaClaim n) = rma_spelled (codes "claim") (Size ∷ []) RmaClaim (n, tt)
+spelling (RmaFree place) = rma_spelled (codes "free") (Address ∷ []) RmaFree (place, tt)
+spelling (RmaResize place by) = rma_spelled (codes "resize") (Address ∷ Delta ∷ []) RmaResize (place, (by, tt))
+spelling (Ask q) = question_spelling q
+
+-- one command of each row, which is that of all others of its kind, in the order in which a line is compared with them
+abbrev samples : List Command
+samples =
+    Task [] 0 Plain ∷ Kill [] ∷ Alloc [] 0 0 ∷ Load [] 0 [] ∷ Put [] 0 0 [] ∷ Free [] 0 ∷ Extend [] 0 0
+    ∷ Mid [] 0 0 (pos 0) ∷ Claim [] 0 ∷ Release [] 0 ∷ Resize [] 0 (pos 0) ∷ Budge [] true ∷ Save [] 0 [] [] ∷ Poll []
+    ∷ CancelIn [] None ∷ Repeat [] ∷ Area 0 (pos 0) ∷ Make 0 ∷ Remove 0 ∷ RmaClaim 0 ∷ RmaFree 0 ∷ RmaResize 0 (pos 0)
+    ∷ Ask (Show [] 0) ∷ Ask (Blocks []) ∷ Ask (Heap []) ∷ Ask (Status []) ∷ Ask Areas ∷ []
+
+-- the rows of all commands
 unfoldable pub rows : List Row
-rows =
-    row (codes "task") (Name ∷ Number 1 longest_buffer ∷ Maybe (Choice (codes "deaf") (codes "file")) ∷ [])
-    (λ name buffer deaf. command.Task name buffer (manner_of deaf))
-    ∷ row (codes "kill") (Name ∷ []) command.Kill
-    ∷ row (codes "alloc") (Name ∷ Anchor ∷ Size ∷ []) command.Alloc
-    ∷ row (codes "load") (Name ∷ Anchor ∷ Name ∷ []) command.Load
-    ∷ row (codes "put") (Name ∷ Anchor ∷ Size ∷ Bytes ∷ []) command.Put
-    ∷ row (codes "free") (Name ∷ Anchor ∷ []) command.Free
-    ∷ row (codes "extend") (Name ∷ Anchor ∷ Size ∷ []) command.Extend
-    ∷ row (codes "mid") (Name ∷ Anchor ∷ Size ∷ Delta ∷ []) command.Mid
-    ∷ row (codes "claim") (Name ∷ Size ∷ []) command.Claim
-    ∷ row (codes "release") (Name ∷ Address ∷ []) command.Release
-    ∷ row (codes "resize") (Name ∷ Address ∷ Delta ∷ []) command.Resize
-    ∷ row (codes "budge") (Name ∷ Choice (codes "on") (codes "off") ∷ []) command.Budge
-    ∷ row (codes "save") (Name ∷ Anchor ∷ Name ∷ Leaf ∷ []) command.Save
-    ∷ row (codes "poll") (Name ∷ []) command.Poll
-    ∷ row (codes "cancel") (Name ∷ Choice (codes "in") (codes "out") ∷ Maybe (Number 1 last_ref) ∷ []) cancel_of
-    ∷ row (codes "repeat") (Name ∷ []) command.Repeat
-    ∷ row (codes "area") (Number 0 last_made ∷ Delta ∷ []) command.Area
-    ∷ row (codes "make") (Number 1 most_pages ∷ []) command.Make
-    ∷ row (codes "remove") (Number first_made last_made ∷ []) command.Remove
-    ∷ rma_row (codes "claim") (Size ∷ []) command.RmaClaim
-    ∷ rma_row (codes "free") (Address ∷ []) command.RmaFree
-    ∷ rma_row (codes "resize") (Address ∷ Delta ∷ []) command.RmaResize
-    ∷ row (codes "show") (Name ∷ Anchor ∷ []) (λ name k. command.Ask (question.Show name k))
-    ∷ row (codes "blocks") (Name ∷ []) (λ name. command.Ask (question.Blocks name))
-    ∷ row (codes "heap") (Name ∷ []) (λ name. command.Ask (question.Heap name))
-    ∷ row (codes "status") (Name ∷ []) (λ name. command.Ask (question.Status name))
-    ∷ row (codes "areas") [] (command.Ask question.Areas)
-    ∷ []
+rows = map (λ c. row_of_spelling (spelling c)) samples

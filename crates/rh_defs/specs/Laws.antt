@@ -16,8 +16,7 @@ use Rattle.rh_defs.specs.Slot.{Slot, IsSlot, slot_start, slot_pages}
 use Rattle.rh_defs.specs.SlotImage.{SpellsSlot, slot_of}
 use Rattle.rh_defs.specs.Messages.{Parcel, is_recorded}
 use Rattle.rh_defs.specs.Post.{Seat, Post, most_messages, has_seat, live_count}
-use Rattle.rh_defs.specs.Desk.{Desk, Task, Made, most_tasks, module_pages, used_pages, free_pages}
-use Rattle.rh_defs.specs.Commands.{module_area, module_start, scrap_area, most_made, file_length}
+use Rattle.rh_defs.specs.Desk.{Desk, Task, Made, most_tasks, module_pages, used_pages, free_pages, module_area, module_start, scrap_area, most_made, file_length}
 use Rattle.rh_defs.specs.Runs.{start_with, after}
 use Rattle.rh_defs.specs.Spans.{AreLaidOut, slot_spans, module_spans}
 

@@ -9,8 +9,8 @@ use Rattle.rh_defs.specs.declared.command.Command.{Command}
 use Rattle.rh_defs.specs.declared.fault.LineFault.{LineFault}
 use Rattle.rh_defs.specs.declared.fault.LineFault.TheVariants.{TooLong, Unknown, Count, Word}
 use Rattle.rh_defs.specs.declared.sizes.TheConstants.{LONGEST_LINE}
-use Rattle.rh_defs.specs.Forms.{is_name, is_decimal, is_leaf, number_of, greatest}
-use Rattle.rh_defs.specs.Grammar.{Form, Name, Leaf, Number, Delta, Address, Bytes, Choice, Maybe, Value, Maker, Row, rows}
+use Rattle.rh_defs.specs.Forms.{is_name, is_decimal, is_leaf, number_of, greatest, last_ref}
+use Rattle.rh_defs.specs.Grammar.{Form, Name, Leaf, Number, Ref, Delta, Address, Bytes, Choice, Maybe, Value, Maker, Row, rows}
 
 -- what a part of a line means, or its fault
 abbrev pub Meaning : Type 0 → Type 0
@@ -104,6 +104,7 @@ abbrev pub value_at : (form : Form) → List (List ℕ) → ℕ → Meaning (Val
 value_at Name words n = name_at words n
 value_at Leaf words n = leaf_at words n
 value_at (Number low high) words n = number_at words n low high
+value_at Ref words n = number_at words n 1 last_ref
 value_at Delta words n = delta_at words n
 value_at Address words n = address_at words n
 value_at Bytes words n = bytes_at words n

@@ -18,8 +18,7 @@ use Rattle.rh_defs.specs.declared.transfer.Incoming.TheVariants as incoming
 use Rattle.rh_defs.specs.Chain.{Granted, ◌>>=◌, ◌>>◌, refuse_if}
 use Rattle.rh_defs.specs.Heap.{Segment, Used, Hole, size_of, first_place, segment_at, largest, free_bytes}
 use Rattle.rh_defs.specs.Slot.{Slot, Flex, weight, heap_start, flex_start, slot_block}
-use Rattle.rh_defs.specs.Desk.{Desk, Made, task_pages, module_pages, free_pages, named}
-use Rattle.rh_defs.specs.Commands.{module_area}
+use Rattle.rh_defs.specs.Desk.{Desk, Made, task_pages, module_pages, free_pages, named, module_area}
 
 -- flex blocks that lie one after the other from a place on
 abbrev pub block_items_from : ℕ → List Flex → List BlockItem

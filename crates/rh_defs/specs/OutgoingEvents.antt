@@ -12,8 +12,7 @@ use Rattle.rh_defs.specs.Messages.{Parcel}
 use Rattle.rh_defs.specs.Post.{sendable}
 use Rattle.rh_defs.specs.Letters.{transmit_letter, load_letter}
 use Rattle.rh_defs.specs.Sender as sender
-use Rattle.rh_defs.specs.Desk.{Desk, Task, Scrap, next_ref, free_pages, task_at, with_task, with_sending, send_letter}
-use Rattle.rh_defs.specs.Commands.{scrap_area}
+use Rattle.rh_defs.specs.Desk.{Desk, Task, Scrap, next_ref, free_pages, task_at, with_task, with_sending, send_letter, scrap_area}
 use Rattle.rh_defs.specs.Places.{buffer_at, written_in, overlap}
 
 -- the desk after a message, and what was done with it

@@ -1,46 +1,40 @@
 -- The commands whose numbers, names and bytes are of their forms.
-use Rattle.std.specs.Prelude.{Bool, true, ◌&&◌, nat_le, List, length}
+use Rattle.std.specs.Prelude.{Bool, true, ◌&&◌, nat_le, List, [], ◌∷◌, length, Some, None}
 use Rattle.std.specs.List.{list_all}
 use Rattle.rh_defs.specs.declared.command.Command.{Command}
-use Rattle.rh_defs.specs.declared.command.Command.TheVariants as command
 use Rattle.rh_defs.specs.declared.question.Question.{Question}
-use Rattle.rh_defs.specs.declared.question.Question.TheVariants as question
-use Rattle.rh_defs.specs.Forms.{is_name, is_anchor, is_number, is_delta, is_buffer, is_leaf, is_id, is_area, is_made, is_most}
+use Rattle.rh_defs.specs.Forms.{is_name, is_delta, is_leaf, is_ref}
+use Rattle.rh_defs.specs.Grammar.{Form, Name, Leaf, Number, Ref, Delta, Address, Bytes, Choice, Maybe, Value, Values, Spelling, spelled_by, spelling, question_spelling}
+
+-- whether a value is one of the form; how great an address and a ref may be, their types say
+abbrev pub is_of : (form : Form) → Value form → Bool
+is_of Name name = is_name name
+is_of Leaf leaf = is_leaf leaf
+is_of (Number low high) n = nat_le low n && nat_le n high
+is_of Ref ref = is_ref ref
+is_of Delta amount = is_delta amount
+is_of Address address = true
+is_of Bytes bytes = nat_le 1 (length bytes)
+is_of (Choice first second) is_first = true
+is_of (Maybe form) None = true
+is_of (Maybe form) (Some value) = is_of form value
+
+-- whether each value is one of its form, beside what was tested before
+abbrev pub all_of : Bool → (forms : List Form) → Values forms → Bool
+all_of tested [] values = tested
+all_of tested (form ∷ forms) values = all_of (tested && is_of form values.0) forms values.1
+
+-- whether each value of a spelling is one of its form
+abbrev pub can_be_read : Spelling → Bool
+can_be_read (spelled_by row values) = all_of true row.forms values
 
 -- whether a question is one that a line can spell
 abbrev pub can_be_asked : Question → Bool
-can_be_asked (question.Show name k) = is_name name && is_anchor k
-can_be_asked (question.Blocks name) = is_name name
-can_be_asked (question.Heap name) = is_name name
-can_be_asked (question.Status name) = is_name name
-can_be_asked question.Areas = true
+can_be_asked q = can_be_read (question_spelling q)
 
 -- whether a command is one that a line can spell
 unfoldable pub in_range : Command → Bool
-in_range (command.Task name buffer manner) = is_name name && is_buffer buffer
-in_range (command.Kill name) = is_name name
-in_range (command.Alloc name k n) = is_name name && is_anchor k && is_number n
-in_range (command.Load name k file) = is_name name && is_anchor k && is_name file
-in_range (command.Put name k offset bytes) = is_name name && is_anchor k && is_number offset && nat_le 1 (length bytes)
-in_range (command.Free name k) = is_name name && is_anchor k
-in_range (command.Extend name k n) = is_name name && is_anchor k && is_number n
-in_range (command.Mid name k offset by) = is_name name && is_anchor k && is_number offset && is_delta by
-in_range (command.Claim name n) = is_name name && is_number n
-in_range (command.Release name address) = is_name name
-in_range (command.Resize name address delta) = is_name name && is_delta delta
-in_range (command.Budge name on) = is_name name
-in_range (command.Save name k to leaf) = is_name name && is_anchor k && is_name to && is_leaf leaf
-in_range (command.Poll name) = is_name name
-in_range (command.CancelIn name id) = is_name name && is_id id
-in_range (command.CancelOut name id) = is_name name && is_id id
-in_range (command.Repeat name) = is_name name
-in_range (command.Area k delta) = is_area k && is_delta delta
-in_range (command.Make most) = is_most most
-in_range (command.Remove k) = is_made k
-in_range (command.RmaClaim n) = is_number n
-in_range (command.RmaFree address) = true
-in_range (command.RmaResize address delta) = is_delta delta
-in_range (command.Ask q) = can_be_asked q
+in_range c = can_be_read (spelling c)
 
 -- the same of each command of a list
 abbrev pub all_in_range : List Command → Bool

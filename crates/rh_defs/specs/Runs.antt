@@ -7,7 +7,7 @@ use Rattle.rh_defs.specs.Pieces.{page}
 use Rattle.rh_defs.specs.Heap.{empty_heap}
 use Rattle.rh_defs.specs.Files.{FileList}
 use Rattle.rh_defs.specs.Desk.{Desk}
-use Rattle.rh_defs.specs.Step.{step}
+use Rattle.rh_defs.specs.Commands.{step}
 use Rattle.rh_defs.specs.Chain as chain
 use Rattle.rh_defs.specs.Slot as slot
 use Rattle.rh_defs.specs.Module as module_area
@@ -22,7 +22,6 @@ use Rattle.rh_defs.specs.Questions as questions
 use Rattle.rh_defs.specs.OutgoingEvents as outgoing_events
 use Rattle.rh_defs.specs.IncomingEvents as incoming_events
 use Rattle.rh_defs.specs.Transfer as transfer
-use Rattle.rh_defs.specs.Step as steps
 
 -- the first desk: no task, one page in the module area, and the next handle and ref
 abbrev pub start_with : ℕ → FileList → ℕ → ℕ → Desk
@@ -54,5 +53,5 @@ replies d (c ∷ commands) = (step d c).1 ∷ replies (step d c).0 commands
 
 -- opens all that a run computes with
 unfoldable pub computing : Unit {0}
-unfolding chain.computing slot.computing module_area.computing bytes.put messages.computing post.computing sender.computing receiver.computing desk.computing commands.computing questions.computing outgoing_events.computing incoming_events.computing transfer.computing steps.computing
+unfolding chain.computing slot.computing module_area.computing bytes.put messages.computing post.computing sender.computing receiver.computing desk.computing commands.computing questions.computing outgoing_events.computing incoming_events.computing transfer.computing
 computing = tt

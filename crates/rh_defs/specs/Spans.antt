@@ -3,7 +3,7 @@ use Rattle.std.specs.Prelude.{ℕ, ◌+◌, ◌≤◌, ◌⊎◌, List, [], ◌�
 use Rattle.std.specs.List.{AllByRecursion}
 use Rattle.rh_defs.specs.Heap.{Heap, Segment, Used, Hole, first_place}
 use Rattle.rh_defs.specs.Slot.{Slot, Flex, weight, heap_start, flex_start}
-use Rattle.rh_defs.specs.Commands.{module_start}
+use Rattle.rh_defs.specs.Desk.{module_start}
 
 -- a block's address and its size
 pub record Span : Type 0 where

@@ -2,9 +2,10 @@
 
 ghost use Rattle.std.specs.Prelude.{◌≡◌};
 ghost use Rattle.std.specs.Option.{option_map};
-ghost use Rattle.rh_defs.specs.Forms.{is_delta as is_delta_of, is_id as is_id_of};
+ghost use Rattle.rh_defs.specs.Forms.{is_delta as is_delta_of};
+ghost use Rattle.rh_defs.specs.Grammar.{Maybe, Ref as RefForm};
 ghost use Rattle.rh_defs.specs.Named.{name_in};
-ghost use Rattle.rh_defs.specs.Range.{in_range as in_range_of};
+ghost use Rattle.rh_defs.specs.Range.{in_range as in_range_of, is_of};
 
 use crate::bytes::Bytes;
 use crate::ids::{Anchor, Ref};
@@ -159,7 +160,7 @@ fn is_delta(n: i32) -> bool
 }
 
 fn is_id(id: Option<Ref>) -> bool
-    ensures { result ≡ is_id_of id }
+    ensures { result ≡ is_of (Maybe RefForm) id }
 {
     match id {
         None => true,

@@ -1,7 +1,6 @@
 -- Worked runs of what blocks of a C heap are, and a run with one definition changed, on which claimed_law fails.
-use Rattle.rh_laws.proofs.Common.{◌≡◌, ℕ, List, [], ◌∷◌, ◌++◌, Option, Some, None, map, refl, arith, codes, find, Ok, hex_on_literals, String, NotOpen}
+use Rattle.rh_laws.proofs.Common.{◌≡◌, ℕ, List, [], ◌∷◌, ◌++◌, Option, Some, None, map, refl, arith, codes, find, Ok, hex_on_literals, String, NotOpen, script}
 use Rattle.rh_laws.proofs.Common.{Incoming, Granted, ◌>>=◌, found_or, or_else, in_id, with_id, Desk, Task, named, task_at, with_taking, Answer, after, fresh}
-use Rattle.rh_laws.proofs.Common.{script}
 use Rattle.rh_defs.specs.declared.reply.Reply.TheVariants as reply
 use Rattle.rh_defs.specs.declared.transfer.Incoming.TheVariants as incoming
 use Rattle.rh_defs.specs.Receiver as receiver

@@ -64,8 +64,8 @@ pub use Rattle.rh_defs.specs.Slot.{Flex, Slot, block_of, flex_address, flex_weig
 pub use Rattle.rh_defs.specs.Slot.{with_placed}
 unfoldable pub use Rattle.rh_defs.specs.Slot.{slot_alloc, slot_begin, slot_block, slot_claim, slot_extend, slot_free, slot_mid, slot_put, slot_release}
 unfoldable pub use Rattle.rh_defs.specs.Slot.{slot_resize}
-pub use Rattle.rh_defs.specs.Step.{change, event, step}
-unfoldable pub use Rattle.rh_defs.specs.Step.{cancel_in, cancel_out, poll, poll_taken, repeat, save}
+pub use Rattle.rh_defs.specs.Commands.{change, event, step}
+unfoldable pub use Rattle.rh_defs.specs.Commands.{cancel_in, cancel_out, poll, poll_taken, repeat, save}
 pub use Rattle.rh_defs.specs.Text.{Words}
 unfoldable pub use Rattle.rh_defs.specs.Text.{address}
 pub use Rattle.rh_defs.specs.Transfer.{answers_none}
@@ -92,7 +92,8 @@ pub use Rattle.rh_safety.proofs.Basics.{Ascend, FoundActive, active_is, and_left
 pub use Rattle.rh_safety.proofs.Basics.{has_of, is_equal, none_some, open_is, put_other, put_same, same_value}
 pub use Rattle.rh_safety.proofs.Ends.{Active, Edits, Has, Message, Offers}
 pub use Rattle.rh_safety.proofs.Invariant.{Good}
-pub use Rattle.rh_safety.proofs.MemoryCommands.{Changed, IsOnMemory, granted-on, in_areas, in_made, in_module, in_nothing, in_slot}
+pub use Rattle.rh_defs.proofs.Changes.{Changed, IsOnMemory, in_areas, in_made, in_module, in_nothing, in_slot}
+pub use Rattle.rh_defs.proofs.Steps.{granted-on}
 pub use Rattle.rh_safety.proofs.OwnEdits.{any-grant}
 pub use Rattle.rh_safety.proofs.SafetyRows.{fresh, script}
 pub use Rattle.rh_safety.proofs.SeenBlocks.{found_name, ok_is}

@@ -6,7 +6,7 @@ use Rattle.rh_laws.proofs.Common.{Answer, start_task, kill, make, ended, save, r
 use Rattle.rh_laws.proofs.Common.{granted-past, granted-then, granted-with, or_else-keeps, none_some, found_name, task_of, Changed, IsOnMemory, granted-on}
 use Rattle.rh_laws.proofs.Common.{in_areas, in_made, in_module, in_nothing, in_slot}
 use Rattle.rh_defs.specs.declared.command.Command.TheVariants as command
-use Rattle.rh_safety.proofs.MemoryCommands.{slot_name}
+use Rattle.rh_defs.proofs.Changes.{slot_name}
 use Rattle.rh_laws.specs.Frame.{actor, handle_of, poller, LeavesOthers}
 
 -- ---- lists of tasks

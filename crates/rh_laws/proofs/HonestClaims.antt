@@ -2,10 +2,9 @@
 use Rattle.rh_laws.proofs.Common.{◌≡◌, ℕ, zero, suc, ◌+◌, ◌-◌, ◌≤◌, ◌<◌, Bool, true, false, cond, List, [], ◌∷◌, length, inl, inr, refl, sym, ap, subst, ◌∙◌}
 use Rattle.rh_laws.proofs.Common.{arith, find, is_none, nat_le, nat_lt, not, ◌==◌, ◌&&◌, Ok, Err, Option, Some, None, IfSome, leb_tells, eqb_tells}
 use Rattle.rh_laws.proofs.Common.{length-replicate, NoName, BadSize, NoBudge, NoRoom, Granted, ◌>>=◌, found_or, or_else, Split, lacks_pages, total, zeros}
-use Rattle.rh_laws.proofs.Common.{Segment, Used, Hole, Heap, block_room, claim_growing, first_place, free_bytes, hole_for, is_hole_for, largest, need}
+use Rattle.rh_laws.proofs.Common.{Segment, Used, Hole, Heap, block_room, claim_growing, first_place, free_bytes, hole_for, is_hole_for, largest, need, all-mono}
 use Rattle.rh_laws.proofs.Common.{placed_in, raised, segment_size, size_of, Slot, slot_claim, with_placed, Desk, Task, edit_task, free_pages, has_name, named}
 use Rattle.rh_laws.proofs.Common.{with_slot, with_task, Answer, claim, heap, IsDesk, OnGrant, granted, granted-unless, eqb_apart, eqb_same, leb_no, leb_yes}
-use Rattle.rh_laws.proofs.Common.{all-mono}
 use Rattle.rh_defs.specs.declared.sizes.TheConstants.{PAGE}
 use Rattle.rh_defs.specs.declared.reply.Reply.TheVariants as reply
 use Rattle.rh_defs.specs.Pieces.{round_up}

@@ -1,7 +1,6 @@
 -- A printed number is not longer than the digits that it was read from.
 use Rattle.rh_laws.proofs.Common.{◌≡◌, ℕ, suc, ◌+◌, ◌*◌, ◌^◌, ◌<◌, ◌≤◌, Bool, true, false, ◌&&◌, List, [], ◌∷◌, length, refl, ap, arith, lit≤, nat_le, nat_lt}
-use Rattle.rh_laws.proofs.Common.{fold, unwrap_or, list_all, is_ascii_digit, decimal, digits, nat_tests, is_decimal, number_of, hex_number, and_left}
-use Rattle.rh_laws.proofs.Common.{and_right}
+use Rattle.rh_laws.proofs.Common.{fold, unwrap_or, list_all, is_ascii_digit, decimal, digits, nat_tests, is_decimal, number_of, hex_number, and_left, and_right}
 use Rattle.std.specs.Char.{digit_value}
 use Rattle.std.specs.Str.Parse.{AllDigits, digits_value}
 use Rattle.std.proofs.Math.Nat.{pow-zero, pow-succ', pow-le-pow_right, mul-le-mul_right}

@@ -10,9 +10,8 @@ use Rattle.rh_defs.specs.declared.reply.Reply.TheVariants as reply
 use Rattle.rh_defs.specs.Forms.{first_made}
 use Rattle.rh_defs.specs.Pieces.{page}
 use Rattle.rh_defs.specs.Module.{changed_length, module_change, whole_pages}
-use Rattle.rh_defs.specs.Desk.{Made}
-use Rattle.rh_defs.specs.Commands.{change_area, change_made, change_module, change_pages, file_length, is_numbered, least_length, module_area, pages_after}
-use Rattle.rh_defs.specs.Commands.{scrap_area, with_pages}
+use Rattle.rh_defs.specs.Desk.{Made, file_length, module_area, scrap_area}
+use Rattle.rh_defs.specs.Commands.{change_area, change_made, change_module, change_pages, is_numbered, least_length, pages_after, with_pages}
 use Rattle.rh_defs.proofs.HeapLists.{ltb_yes, ltb_no}
 use Rattle.rh_laws.specs.RefusalOrder.{Row}
 use Rattle.rh_laws.specs.RefusalRooms.{gained_pages, lost_bytes, made_area}

@@ -1,9 +1,8 @@
 -- Heaps with their bytes renamed: each call does to the renamed heap the same.
 use Rattle.rh_laws.proofs.Common.{◌≡◌, ℕ, zero, suc, ◌+◌, ◌-◌, Bool, true, false, cond, List, [], ◌∷◌, ◌++◌, length, map, refl, sym, ap, ◌∙◌, length-map}
 use Rattle.rh_laws.proofs.Common.{map-append, Option, Some, None, ◌==◌, nat_le, nat_lt, ℤ, max, option_map, total, Split, zeros, moved, Segment, Used, Hole}
-use Rattle.rh_laws.proofs.Common.{Heap, Placed, size_of, bytes_of, place_after, block_around, hole_for, is_hole_for, placed_in, need, segment_size}
+use Rattle.rh_laws.proofs.Common.{Heap, Placed, size_of, bytes_of, place_after, block_around, hole_for, is_hole_for, placed_in, need, segment_size, free_bytes}
 use Rattle.rh_laws.proofs.Common.{block_room, raised, claim_growing, fitted, way_to, resize_need, resize_growing, new_size, hole_size, largest_hole, largest}
-use Rattle.rh_laws.proofs.Common.{free_bytes}
 use Rattle.rh_defs.specs.Pieces.{is_inside}
 use Rattle.rh_defs.specs.Heap.{Way, Stays, Shrinks, GrowsIntoHole, GrowsAtTop, MovesToHole, MovesToTop, block_at, is_block_at, is_around, with_hole, joined}
 use Rattle.rh_defs.specs.Heap.{placed, shortage_in, released, release, release_found, way_beyond, way_to_grow, resized_by, end_for, resized}

@@ -2,10 +2,9 @@
 use Rattle.rh_laws.proofs.Common.{◌≡◌, ℕ, zero, suc, ◌+◌, ◌-◌, Bool, true, false, cond, List, [], ◌∷◌, ◌++◌, length, map, refl, sym, ap, ◌∙◌, length-map}
 use Rattle.rh_laws.proofs.Common.{map-append, take-map, drop-map, Option, Some, None, is_some, ◌==◌, ◌&&◌, ◌||◌, nat_le, nat_lt, ℤ, pos, negsuc, take, drop}
 use Rattle.rh_laws.proofs.Common.{option_map, NoBlock, NotABlock, lacks_pages, moved, total, Split, written, zeros, Segment, Used, Heap, Placed, bytes_of}
-use Rattle.rh_laws.proofs.Common.{place_after, block_around, claim_growing, new_size, resize_need, resize_growing, fitted, Slot, Flex, flex_weight}
+use Rattle.rh_laws.proofs.Common.{place_after, block_around, claim_growing, new_size, resize_need, resize_growing, fitted, Slot, Flex, flex_weight, Follows}
 use Rattle.rh_laws.proofs.Common.{heap_start, slot_pages, flex_address, block_of, heap_block_at, lacks_room, length_with, with_placed, slot_alloc, slot_block}
 use Rattle.rh_laws.proofs.Common.{slot_free, slot_extend, slot_mid, slot_put, slot_claim, slot_release, slot_resize, with_heap_bytes, buffer_at, written_in}
-use Rattle.rh_laws.proofs.Common.{Follows}
 use Rattle.rh_defs.specs.SlotImage.{heap_place}
 use Rattle.rh_defs.specs.Pieces.{pages_for, is_inside}
 use Rattle.rh_defs.specs.Slot.{weight, slot_length, flex_start, is_used, flex_around, holds, with_bytes, without, with_heap, opened_at, taken_out, is_stuck}

@@ -11,8 +11,8 @@ use Rattle.rh_defs.specs.declared.reply.Reply.TheVariants as reply
 use Rattle.rh_defs.specs.Slot.{new_slot}
 use Rattle.rh_defs.specs.Module.{module_resize, module_change}
 use Rattle.rh_defs.specs.Post.{post_death}
-use Rattle.rh_defs.specs.Desk.{most_tasks}
-use Rattle.rh_defs.specs.Commands.{scrap_area, module_area, module_start, file_length, least_length, pages_after, change_module, change_pages, change_made}
+use Rattle.rh_defs.specs.Desk.{most_tasks, scrap_area, module_area, module_start, file_length}
+use Rattle.rh_defs.specs.Commands.{least_length, pages_after, change_module, change_pages, change_made}
 use Rattle.rh_defs.specs.Commands.{change_area, remove, own_block, rma_claim, rma_free, rma_resize}
 use Rattle.rh_defs.proofs.Follows.{follows-same, chosen-both}
 use Rattle.rh_laws.specs.Renaming.{renamed_slot, renamed_task, renamed_scrap, renamed, renamed_command}

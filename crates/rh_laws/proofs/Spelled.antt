@@ -1,5 +1,6 @@
 -- What a line means can be spelled, and its printed line is not the longer one.
-use Rattle.rh_laws.proofs.Common.{◌≡◌, ℕ, zero, suc, ◌+◌, ◌-◌, ◌<◌, ◌≤◌, Bool, true, false, ◌&&◌, not, cond, List, [], ◌∷◌, length, take, refl, sym, subst}
+use Rattle.rh_laws.proofs.Common.{◌≡◌, ℕ, zero, suc, ◌+◌, ◌-◌, ◌<◌, ◌≤◌, Bool, true, false, ◌&&◌, not, cond, List, [], ◌∷◌, ◌++◌, length, take, refl}
+use Rattle.rh_laws.proofs.Common.{sym, subst}
 use Rattle.rh_laws.proofs.Common.{◌∙◌, ap, arith, length-append, inl, inr, ◌⊎◌, nat_le, nat_lt, ◌==◌, ℤ, pos, Some, None, Result, Ok, Err, if◌then◌else◌}
 use Rattle.rh_laws.proofs.Common.{unwrap_or, slice_get, slice_index, drop, list_all, join_with_byte, decimal, signed_decimal, bytes_eq, is_ascii_digit}
 use Rattle.rh_laws.proofs.Common.{nat_tests, bytes_eq-Decides, encode_lower, Unknown, Command, space, Number, Choice, Maybe, Row, rows, is_name, is_leaf}
@@ -12,14 +13,15 @@ use Rattle.hex.specs.Hex.{lower_digits, decode_of, is_hex_digit}
 use Rattle.hex.proofs.HexLemmas.{decode_of-ok, length-encode_with}
 use Rattle.rh_defs.specs.declared.fault.LineFault.{LineFault}
 use Rattle.rh_defs.specs.declared.fault.LineFault.TheVariants.{TooLong, Count, Word}
-use Rattle.rh_defs.specs.Grammar.{Form, Name, Leaf, Delta, Address, Bytes, Value, Maker}
-use Rattle.rh_defs.specs.Forms.{is_graphic, greatest}
+use Rattle.rh_defs.specs.Grammar.{Form, Name, Leaf, Ref, Delta, Address, Bytes, Value, Values, Maker, Spelling, spelled_by}
+use Rattle.rh_defs.proofs.GrammarLaws.{Spells, AllSpell, rows-spell}
+use Rattle.rh_defs.specs.Forms.{is_graphic, greatest, last_ref}
 use Rattle.rh_defs.specs.Line.{Meaning, ◌>>=◌, words_of, name_at, number_at, delta_at, signed, is_negative, unsigned, is_address, address_at, leaf_at}
 use Rattle.rh_defs.specs.Line.{choice_at, bytes_at, value_at, command_from, is_count, follow, row_means, command_by}
 use Rattle.rh_defs.specs.Script.{commands_in}
 use Rattle.rh_safety.proofs.Lines.{commands_in_range}
-use Rattle.rh_laws.specs.Printer.{is_word, command_words, has_sizes, line_of, fits_a_line, AreSpelled}
-use Rattle.rh_laws.proofs.Texts.{text}
+use Rattle.rh_laws.specs.Printer.{text, texts, words_spelled, command_words, is_word, is_sized, are_sized, is_typed, has_sizes, line_of, fits_a_line}
+use Rattle.rh_laws.specs.Printer.{AreSpelled}
 use Rattle.rh_laws.proofs.Lengths.{decimal_short, hex_short, hex_word}
 
 abbrev pub has_byte : List ℕ → Bool
@@ -87,14 +89,6 @@ cost_next ws n some =
 
 -- ---- what a form prints costs no more than the word that it read
 
--- whether a number is within its form's, an address a word, and bytes bytes
-abbrev pub is_sized : (form : Form) → Value form → Bool
-is_sized (Number low high) n = nat_le n high
-is_sized Address place = is_word place
-is_sized Bytes bytes = list_all (λ b. nat_lt b 256) bytes
-is_sized (Maybe form) (Some value) = is_sized form value
-is_sized form value = true
-
 -- whether the words of a choice have bytes
 abbrev pub is_proper : Form → Bool
 is_proper (Choice first second) = nat_le 1 (length first) && nat_le 1 (length second)
@@ -160,10 +154,14 @@ decimal_some w h =
       some,
     )
 
-number_printed : (words : Words) (n low high k : ℕ) → number_at words (n + 1) low high ≡ Ok k →
-    IsPrinted (Number low high) words n k
+-- what decimal digits spell, within the numbers asked for, and as it is printed
+record IsNumber (words : Words) (n high k : ℕ) : Type 0 where
+  most : nat_le k high ≡ true
+  short : cost (take n words) + cost (decimal k ∷ []) ≤ cost (take (suc n) words)
+
+number_shown : (words : Words) (n low high k : ℕ) → number_at words (n + 1) low high ≡ Ok k → IsNumber words n high k
 unfolding number_at
-number_printed words n low high k e =
+number_shown words n low high k e =
     let w = word words (n + 1) in
     let told = if_ok (is_decimal w && nat_le low (number_of w) && nat_le (number_of w) high) (number_of w) k (Word
     (n + 1)) e in
@@ -171,7 +169,7 @@ number_printed words n low high k e =
     let short : length (decimal k) ≤ length w = subst (λ m. length (decimal m) ≤ length w) told.1
     (decimal_short w digits_only) in
     record {
-      sized = subst (λ m. nat_le m high ≡ true) told.1 (and_right _ (nat_le (number_of w) high) told.0);
+      most = subst (λ m. nat_le m high ≡ true) told.1 (and_right _ (nat_le (number_of w) high) told.0);
       short = one_word words n (decimal k) (decimal_some w digits_only) short;
     }
 
@@ -325,7 +323,9 @@ value_printed : (form : Form) (words : Words) (n : ℕ) (value : Value form) →
     value_at form words (n + 1) ≡ Ok value → IsPrinted form words n value
 value_printed Name words n value proper e = name_printed words n value e
 value_printed Leaf words n value proper e = leaf_printed words n value e
-value_printed (Number low high) words n value proper e = number_printed words n low high value e
+value_printed (Number low high) words n value proper e = record { sized = refl; short = (number_shown words n low high value e).short }
+value_printed Ref words n value proper e =
+    let shown = number_shown words n 1 last_ref value e in record { sized = shown.most; short = shown.short }
 value_printed Delta words n value proper e = delta_printed words n value e
 value_printed Address words n value proper e = address_printed words n value e
 value_printed Bytes words n value proper e = bytes_printed words n value e
@@ -378,6 +378,42 @@ pub record RowWrites (row : Row) : Type 0 where
 abbrev pub AllWrite : List Row → Type 0
 AllWrite [] = Unit {0}
 AllWrite (row ∷ rows) = RowWrites row × AllWrite rows
+
+cost_both : (ws vs : Words) → cost (ws ++ vs) ≡ cost ws + cost vs
+cost_both [] vs = omega arith
+cost_both (w ∷ ws) vs = omega (arith, cost_both ws vs)
+
+-- a command whose spelling is known
+spelled_writes : (forms : List Form) (make : Maker forms) (give : Values forms → Spelling) (front : ℕ) → Spells forms make give →
+    ((values : Values forms) → is_typed (give values) ≡ are_sized forms values) →
+    ((values : Values forms) → cost (words_spelled (give values)) ≡ front + cost (texts forms values)) → Writes forms make front
+unfolding has_sizes command_words
+spelled_writes [] command give front spells sizes costs = (
+  ap is_typed spells ∙ sizes tt,
+  let all = ap (λ s. cost (words_spelled s)) spells in omega (arith, all, costs tt),
+)
+spelled_writes (form ∷ forms) make give front spells sizes costs = λ value sized.
+    spelled_writes forms (make value) (λ values. give (value, values)) (front + cost (text form value)) (spells value)
+    (λ values. sizes (value, values) ∙ ap (λ b. b && are_sized forms values) sized)
+    (λ values. omega (arith, costs (value, values), cost_both (text form value) (texts forms values)))
+
+-- a row whose own words, and those of its choices, have bytes
+abbrev pub is_sound : Row → Bool
+is_sound row = list_all is_proper row.forms && list_all has_byte (row.first ∷ row.further)
+
+all-write : (rs : List Row) → AllSpell rs → list_all is_sound rs ≡ true → AllWrite rs
+all-write [] all sound = tt
+all-write (row ∷ rs) all sound =
+    let here = and_left (is_sound row) (list_all is_sound rs) sound in (
+      record {
+        proper = and_left (list_all is_proper row.forms) (list_all has_byte (row.first ∷ row.further)) here;
+        named = and_right (list_all is_proper row.forms) (list_all has_byte (row.first ∷ row.further)) here;
+        writes =
+            spelled_writes row.forms row.make (spelled_by row) (cost (row.first ∷ row.further)) all.0 (λ values. refl)
+            (λ values. cost_both (row.first ∷ row.further) (texts row.forms values));
+      },
+      all-write rs all.1 (and_right (is_sound row) (list_all is_sound rs) sound),
+    )
 
 -- the one or the other of two meanings
 either : {A : Type 0} (b : Bool) (m n : Meaning A) (y : A) → (if b then m else n) ≡ Ok y →
@@ -478,13 +514,17 @@ line_in_range line c e =
     let one : commands_in (line ∷ []) ≡ c ∷ [] = rw e refl in
     and_left (in_range c) true (subst (λ commands. all_in_range commands ≡ true) one (commands_in_range (line ∷ [])))
 
+all_rows : AllWrite rows
+unfolding rows
+all_rows = all-write rows rows-spell refl
+
 joined_cost : (ws : Words) → length (join_with_byte space ws) ≤ cost ws - 1
 joined_cost [] = omega arith
 joined_cost (w ∷ ws) = omega (arith, cost_joined w ws)
 
-pub all-spelled : AllWrite rows → AreSpelled
-all-spelled all line c e =
-    let told = means_one all line c e in
+pub are-spelled : AreSpelled
+are-spelled line c e =
+    let told = means_one all_rows line c e in
     let short : length (line_of c) ≤ length line =
     omega (arith, joined_cost (command_words c), told.is_short.short, cost_words line) in
     let fits : fits_a_line c ≡ true = let line_fits = told.fits in grind (arith, nat_tests, short, line_fits) in

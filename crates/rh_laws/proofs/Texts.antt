@@ -3,55 +3,22 @@ use Rattle.rh_laws.proofs.Common.{◌≡◌, ℕ, zero, suc, ◌+◌, ◌-◌, �
 use Rattle.rh_laws.proofs.Common.{length-append, refl, sym, subst, ap, ◌∙◌, arith, nat_le, nat_lt, ◌==◌, Some, None, Ok, slice_get, unwrap_or, if◌then◌else◌}
 use Rattle.rh_laws.proofs.Common.{list_all, decimal, signed_decimal, bytes_eq, nat_tests, bytes_eq-Decides, encode_lower, Command, Unknown, is_name, is_leaf}
 use Rattle.rh_laws.proofs.Common.{is_delta, Number, Choice, Maybe, Row, rows, word, row_of, command_of, Words, address, and_left, and_right}
-use Rattle.rh_defs.specs.Grammar.{Form, Name, Leaf, Delta, Address, Bytes, Value, Maker}
+use Rattle.rh_defs.specs.Grammar.{Form, Name, Leaf, Ref, Delta, Address, Bytes, Value, Values, Maker, spelled_by}
+use Rattle.rh_defs.specs.Forms.{last_ref}
+use Rattle.rh_defs.specs.Range.{is_of}
+use Rattle.rh_defs.proofs.GrammarLaws.{made}
 use Rattle.rh_defs.specs.Line.{choice_at, value_at, command_from, is_count, command_by}
-use Rattle.rh_laws.specs.Printer.{is_word}
+use Rattle.rh_laws.specs.Printer.{text, texts, words_spelled, is_sized}
 use Rattle.rh_laws.proofs.Words.{is_whole}
 use Rattle.rh_laws.proofs.Numbers.{decimal_is_whole}
 use Rattle.rh_laws.proofs.Readers.{name_is_whole, leaf_is_whole, number_read, delta_read, delta_is_whole, address_read, address_is_whole, bytes_read}
 use Rattle.rh_laws.proofs.Readers.{bytes_are_whole, name_read, leaf_read}
 
--- ---- the values of a row's words, and their texts
-
--- what is printed for a word of a form
-abbrev pub text : (form : Form) → Value form → Words
-text Name name = name ∷ []
-text Leaf leaf = leaf ∷ []
-text (Number low high) n = decimal n ∷ []
-text Delta by = signed_decimal by ∷ []
-text Address place = address place ∷ []
-text Bytes bytes = encode_lower bytes ∷ []
-text (Choice first second) is_first = (if is_first then first else second) ∷ []
-text (Maybe form) None = []
-text (Maybe form) (Some value) = text form value
-
--- a value for each form, and what is printed for all of them
-abbrev pub Values : List Form → Type 0
-Values [] = Unit {0}
-Values (form ∷ forms) = Value form × Values forms
-
-abbrev pub texts : (forms : List Form) → Values forms → Words
-texts [] values = []
-texts (form ∷ forms) values = text form values.0 ++ texts forms values.1
-
--- the command made of the values
-abbrev pub made : (forms : List Form) → Maker forms → Values forms → Command
-made [] command values = command
-made (form ∷ forms) make values = made forms (make values.0) values.1
-
 -- ---- what is read again
 
 -- whether a form reads what is printed for a value
 abbrev pub is_readable : (form : Form) → Value form → Bool
-is_readable Name name = is_name name
-is_readable Leaf leaf = is_leaf leaf
-is_readable (Number low high) n = nat_le low n && nat_le n high && nat_lt n (2 ^ 32)
-is_readable Delta by = is_delta by
-is_readable Address place = is_word place
-is_readable Bytes bytes = nat_le 1 (length bytes) && list_all (λ b. nat_lt b 256) bytes
-is_readable (Choice first second) is_first = true
-is_readable (Maybe form) None = true
-is_readable (Maybe form) (Some value) = is_readable form value
+is_readable form value = is_of form value && is_sized form value
 
 abbrev pub are_readable : (forms : List Form) → Values forms → Bool
 are_readable [] values = true
@@ -62,8 +29,9 @@ abbrev is_wanted : Form → Bool
 is_wanted (Maybe form) = false
 is_wanted form = true
 
--- a form whose texts are told apart
+-- a form whose texts are told apart, and whose numbers are words
 abbrev is_clear : Form → Bool
+is_clear (Number low high) = nat_lt high (2 ^ 32)
 is_clear (Choice first second) = is_whole first && is_whole second && not (bytes_eq second first)
 is_clear (Maybe form) = is_wanted form && is_clear form
 is_clear form = true
@@ -137,6 +105,7 @@ one_text : (form : Form) (value : Value form) → is_wanted form ≡ true → (w
 one_text Name name wanted = (name, refl)
 one_text Leaf leaf wanted = (leaf, refl)
 one_text (Number low high) n wanted = (decimal n, refl)
+one_text Ref ref wanted = (decimal ref, refl)
 one_text Delta by wanted = (signed_decimal by, refl)
 one_text Address place wanted = (address place, refl)
 one_text Bytes bytes wanted = (encode_lower bytes, refl)
@@ -156,30 +125,43 @@ record IsRead (form : Form) (words : Words) (n : ℕ) (value : Value form) (rest
 
 word_read : (form : Form) (words : Words) (n : ℕ) (value : Value form) (rest : Words) → is_wanted form ≡ true →
     is_clear form ≡ true → is_readable form value ≡ true → IsRead form words n value rest
-word_read Name words n name rest wanted clear h = record {
-  whole = rw (name_is_whole name h) refl;
-  read = λ stand.
-      let is = word_first words n name rest stand in
-      name_read words (n + 1) (subst (λ w. is_name w ≡ true) (sym is) h) ∙ ap Ok is;
-}
-word_read Leaf words n leaf rest wanted clear h = record {
-  whole = rw (leaf_is_whole leaf h) refl;
-  read = λ stand.
-      let is = word_first words n leaf rest stand in
-      leaf_read words (n + 1) (subst (λ w. is_leaf w ≡ true) (sym is) h) ∙ ap Ok is;
-}
+word_read Name words n name rest wanted clear h =
+    let named = and_left (is_name name) true h in
+    record {
+      whole = rw (name_is_whole name named) refl;
+      read = λ stand.
+          let is = word_first words n name rest stand in
+          name_read words (n + 1) (subst (λ w. is_name w ≡ true) (sym is) named) ∙ ap Ok is;
+    }
+word_read Leaf words n leaf rest wanted clear h =
+    let graphic = and_left (is_leaf leaf) true h in
+    record {
+      whole = rw (leaf_is_whole leaf graphic) refl;
+      read = λ stand.
+          let is = word_first words n leaf rest stand in
+          leaf_read words (n + 1) (subst (λ w. is_leaf w ≡ true) (sym is) graphic) ∙ ap Ok is;
+    }
 word_read (Number low high) words n k rest wanted clear h =
-    let range = and_left (nat_le low k && nat_le k high) (nat_lt k (2 ^ 32)) h in
-    let below = and_right (nat_le low k && nat_le k high) (nat_lt k (2 ^ 32)) h in
-    let small : k < 2 ^ 32 = grind (arith, nat_tests, below) in
+    let range = and_left (nat_le low k && nat_le k high) true h in
+    let most = and_right (nat_le low k) (nat_le k high) range in
+    let small : k < 2 ^ 32 = grind (arith, nat_tests, most, clear) in
     record {
       whole = rw (decimal_is_whole k small) refl;
       read = λ stand. number_read words (n + 1) low high k (word_first words n (decimal k) rest stand) small range;
     }
-word_read Delta words n by rest wanted clear h = record {
-  whole = rw (delta_is_whole by h) refl;
-  read = λ stand. delta_read words (n + 1) by (word_first words n (signed_decimal by) rest stand) h;
-}
+word_read Ref words n k rest wanted clear h =
+    let most = and_right (nat_le 1 k) (nat_le k last_ref) h in
+    let small : k < 2 ^ 32 = grind (arith, nat_tests, most) in
+    record {
+      whole = rw (decimal_is_whole k small) refl;
+      read = λ stand. number_read words (n + 1) 1 last_ref k (word_first words n (decimal k) rest stand) small h;
+    }
+word_read Delta words n amount rest wanted clear h =
+    let small = and_left (is_delta amount) true h in
+    record {
+      whole = rw (delta_is_whole amount small) refl;
+      read = λ stand. delta_read words (n + 1) amount (word_first words n (signed_decimal amount) rest stand) small;
+    }
 word_read Address words n place rest wanted clear h = record {
   whole = rw (address_is_whole place h) refl;
   read = λ stand. address_read words (n + 1) place (word_first words n (address place) rest stand) h;
@@ -291,10 +273,6 @@ all_read (form ∷ next ∷ forms) make words n values clear h =
 
 -- ---- a row
 
--- the words that are printed for a row
-abbrev pub printed : (row : Row) → Values row.forms → Words
-printed row values = row.first ∷ row.further ++ texts row.forms values
-
 -- whether the words of a row, and the texts of its forms, can be told apart in a line
 abbrev pub is_clear_row : Row → Bool
 is_clear_row row = are_clear row.forms && list_all is_whole (row.first ∷ row.further)
@@ -305,11 +283,11 @@ pub record Spells (words : Words) (c : Command) : Type 0 where
   pub means : command_of words ≡ Ok c
 
 pub row_spells : (row : Row) (values : Values row.forms) → is_clear_row row ≡ true →
-    row_of rows row.first (printed row values) Unknown ≡ Ok row → are_readable row.forms values ≡ true →
-    Spells (printed row values) (made row.forms row.make values)
+    row_of rows row.first (words_spelled (spelled_by row values)) Unknown ≡ Ok row → are_readable row.forms values ≡ true →
+    Spells (words_spelled (spelled_by row values)) (made row.forms row.make values)
 unfolding command_by
 row_spells row values proper found h =
-    let words = printed row values in
+    let words = words_spelled (spelled_by row values) in
     let n : ℕ = 1 + length row.further in
     let all = all_read row.forms row.make words n values
     (and_left (are_clear row.forms) (list_all is_whole (row.first ∷ row.further)) proper) h in

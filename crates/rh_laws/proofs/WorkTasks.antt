@@ -1,8 +1,7 @@
 -- What a desk leaves to do, by what was offered: what edits of tasks, and letters sent, make of it.
 use Rattle.rh_laws.proofs.Common.{◌≡◌, ◌≢◌, ℕ, ◌+◌, ◌≤◌, true, List, [], ◌∷◌, Option, Some, refl, ap, ◌∙◌, inl, inr, arith, map, nat_eq, eq-eqb, eqb_tells}
-use Rattle.rh_laws.proofs.Common.{Letter, Incoming, Outgoing, Taking, total, Parcel, Post, held_by, with_id, Slot, Desk, Task, edit_task, free_pages}
+use Rattle.rh_laws.proofs.Common.{Letter, Incoming, Outgoing, Taking, total, Parcel, Post, held_by, with_id, Slot, Desk, Task, edit_task, free_pages, Ascend}
 use Rattle.rh_laws.proofs.Common.{send_letter, with_post, with_sending, with_slot, with_taking, with_task, ended, OnGrant, granted, granted-with, Has, Offers}
-use Rattle.rh_laws.proofs.Common.{Ascend}
 use Rattle.rh_defs.specs.declared.transfer.Outgoing.TheVariants as outgoing
 use Rattle.rh_safety.proofs.SeenTasks.{change_other}
 use Rattle.rh_safety.proofs.View.{field}

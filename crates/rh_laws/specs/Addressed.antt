@@ -15,7 +15,7 @@ use Rattle.rh_defs.specs.declared.transfer.Incoming.TheVariants as incoming
 use Rattle.rh_defs.specs.Files.{FileList}
 use Rattle.rh_defs.specs.Records.{in_id, out_id}
 use Rattle.rh_defs.specs.Desk.{Desk, Task, has_name, task_at}
-use Rattle.rh_defs.specs.Step.{step}
+use Rattle.rh_defs.specs.Commands.{step}
 use Rattle.rh_defs.specs.Runs.{after, start_with}
 use Rattle.rh_safety.specs.Held.{held}
 use Rattle.rh_safety.specs.Offered.{at_place, last_of}

@@ -1,6 +1,5 @@
 -- The blocks of a task's C heap: those that it claimed and hasn't released, and the buffers of its transfers.
-use Rattle.std.specs.Prelude.{◌≡◌, ℕ, ◌+◌, ℤ, true, false, List, [], ◌∷◌, length, filter, find}
-use Rattle.std.specs.Prelude.{Option, Some, None}
+use Rattle.std.specs.Prelude.{◌≡◌, ℕ, ◌+◌, ℤ, true, false, List, [], ◌∷◌, length, filter, find, Option, Some, None}
 use Rattle.std.specs.Option.{option_map}
 use Rattle.rh_defs.specs.declared.command.Command.{Command}
 use Rattle.rh_defs.specs.declared.command.Command.TheVariants as command
@@ -15,7 +14,7 @@ use Rattle.rh_defs.specs.Laws.{IsStart}
 use Rattle.rh_defs.specs.Range.{all_in_range}
 use Rattle.rh_defs.specs.Records.{is_buffer_of}
 use Rattle.rh_defs.specs.Desk.{Desk, Task, has_name, is_busy_buffer, task_at}
-use Rattle.rh_defs.specs.Step.{step}
+use Rattle.rh_defs.specs.Commands.{step}
 use Rattle.rh_defs.specs.Runs.{after, start_with}
 use Rattle.rh_safety.specs.Offered.{at_place}
 

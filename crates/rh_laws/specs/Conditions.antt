@@ -1,13 +1,8 @@
 -- For each command the conditions under which it is refused, in the one order: questions of the desk before it.
-use Rattle.std.specs.Prelude.{◌≡◌, ℕ, ℤ, ◌+◌, ◌-◌, Bool, true, false, not, ◌&&◌, ◌||◌, nat_lt, nat_le, ◌==◌, List, []}
-use Rattle.std.specs.Prelude.{◌∷◌, length, filter, find, Option, Some, None, is_some, is_none}
+use Rattle.std.specs.Prelude.{◌≡◌, ℕ, ℤ, ◌+◌, ◌-◌, Bool, true, false, not, ◌&&◌, ◌||◌, nat_lt, nat_le, ◌==◌, List, [], ◌∷◌, length, filter, find, Option, Some, None, is_some, is_none}
 use Rattle.std.specs.List.{list_any}
 use Rattle.rh_defs.specs.Forms.{last_made}
-use Rattle.rh_defs.specs.declared.refusal.Refusal.TheVariants.{NameInUse, NoName, TooManyTasks, NoHandles, NoFile}
-use Rattle.rh_defs.specs.declared.refusal.Refusal.TheVariants.{NoBlock, AnchorInUse, NotABlock, NotYours, Busy}
-use Rattle.rh_defs.specs.declared.refusal.Refusal.TheVariants.{NotOpen, NothingSent, BadRange, BadSize}
-use Rattle.rh_defs.specs.declared.refusal.Refusal.TheVariants.{ExcessiveShrink, NoTask, NoRefs, QueueFull, NoBudge}
-use Rattle.rh_defs.specs.declared.refusal.Refusal.TheVariants.{NoRoom, NoArea, TooManyAreas, NoNumbers, TooBig}
+use Rattle.rh_defs.specs.declared.refusal.Refusal.TheVariants.{NameInUse, NoName, TooManyTasks, NoHandles, NoFile, NoBlock, AnchorInUse, NotABlock, NotYours, Busy, NotOpen, NothingSent, BadRange, BadSize, ExcessiveShrink, NoTask, NoRefs, QueueFull, NoBudge, NoRoom, NoArea, TooManyAreas, NoNumbers, TooBig}
 use Rattle.rh_defs.specs.declared.command.Command.{Command}
 use Rattle.rh_defs.specs.declared.command.Command.TheVariants as command
 use Rattle.rh_defs.specs.declared.question.Question.{Question}
@@ -23,12 +18,10 @@ use Rattle.rh_defs.specs.Heap.{Segment, block_at, bytes_of}
 use Rattle.rh_defs.specs.Slot.{Flex, block_of, flex_weight, heap_block_at, is_used, slot_length, taken_out}
 use Rattle.rh_defs.specs.Records.{is_meant, is_open, most_records}
 use Rattle.rh_defs.specs.Post.{live_count, most_messages, post_is_message}
-use Rattle.rh_defs.specs.Desk.{Desk, Made, Task, free_pages, has_name, is_busy_block, is_busy_buffer, most_tasks, next_ref, task_at}
-use Rattle.rh_defs.specs.Commands.{module_start, most_made}
-use Rattle.rh_defs.specs.Step.{step}
+use Rattle.rh_defs.specs.Desk.{Desk, Made, Task, free_pages, has_name, is_busy_block, is_busy_buffer, most_tasks, next_ref, task_at, module_start, most_made}
+use Rattle.rh_defs.specs.Commands.{step}
 use Rattle.rh_laws.specs.RefusalOrder.{Row, are_in_order, first_refusal, refusal_in}
-use Rattle.rh_laws.specs.RefusalRooms.{file_message_size, gained_pages, kept_length, lacks, length_of, lost_bytes}
-use Rattle.rh_laws.specs.RefusalRooms.{made_area, message_size, outgrows, short_for, short_of}
+use Rattle.rh_laws.specs.RefusalRooms.{file_message_size, gained_pages, kept_length, lacks, length_of, lost_bytes, made_area, message_size, outgrows, short_for, short_of}
 
 -- whether there is one, and it passes the test
 abbrev pub there_is : {A : Type 0} → (A → Bool) → Option A → Bool

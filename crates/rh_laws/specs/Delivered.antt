@@ -16,7 +16,7 @@ use Rattle.rh_defs.specs.Laws.{IsStart}
 use Rattle.rh_defs.specs.Range.{all_in_range}
 use Rattle.rh_defs.specs.Records.{in_id}
 use Rattle.rh_defs.specs.Desk.{Desk, Task, has_name, task_at}
-use Rattle.rh_defs.specs.Step.{step}
+use Rattle.rh_defs.specs.Commands.{step}
 use Rattle.rh_defs.specs.Runs.{after, start_with}
 use Rattle.rh_safety.specs.Counts.{counted_in, is_done}
 use Rattle.rh_safety.specs.Held.{held}

@@ -1,6 +1,5 @@
 -- What a command leaves of the tasks that it isn't of.
-use Rattle.std.specs.Prelude.{◌≡◌, ◌≢◌, ◌⊎◌, ℕ, ◌-◌, ◌≤◌, min, List, length, take, drop, find}
-use Rattle.std.specs.Prelude.{Option, Some, None}
+use Rattle.std.specs.Prelude.{◌≡◌, ◌≢◌, ◌⊎◌, ℕ, ◌-◌, ◌≤◌, min, List, length, take, drop, find, Option, Some, None}
 use Rattle.std.specs.List.{Contains}
 use Rattle.std.specs.Option.{option_map}
 use Rattle.rh_defs.specs.declared.command.Command.{Command}
@@ -17,9 +16,8 @@ use Rattle.rh_defs.specs.Heap.{Segment, bytes_of}
 use Rattle.rh_defs.specs.Slot.{Flex, heap_block_at}
 use Rattle.rh_defs.specs.Places.{with_heap_bytes}
 use Rattle.rh_defs.specs.Desk.{Desk, Task, has_name, task_at}
-use Rattle.rh_defs.specs.Commands.{Answer}
+use Rattle.rh_defs.specs.Commands.{Answer, step}
 use Rattle.rh_defs.specs.Named.{name_in}
-use Rattle.rh_defs.specs.Step.{step}
 use Rattle.rh_safety.specs.Offered.{bytes_of_block}
 use Rattle.rh_safety.specs.TaskRecords.{HoldsOne}
 

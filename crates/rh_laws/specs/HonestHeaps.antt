@@ -8,8 +8,7 @@ use Rattle.rh_defs.specs.declared.reply.Reply.TheVariants as reply
 use Rattle.rh_defs.specs.Pieces.{round_up, total}
 use Rattle.rh_defs.specs.Heap.{Heap, IsHeap, Segment, Used, Hole, claim, first_place, free_bytes, largest}
 use Rattle.rh_defs.specs.Desk.{Desk, Task}
-use Rattle.rh_defs.specs.Commands.{Answer}
-use Rattle.rh_defs.specs.Step.{step}
+use Rattle.rh_defs.specs.Commands.{Answer, step}
 use Rattle.rh_laws.specs.RefusalOrder.{refusal_in}
 
 -- ---- a heap

@@ -1,6 +1,5 @@
 -- Polls alone come to rest: what is left to do at a desk, as a number, and that each message taken makes it less.
-use Rattle.std.specs.Prelude.{◌≡◌, ℕ, ◌+◌, ◌-◌, ◌*◌, ◌≤◌, Bool, true, false}
-use Rattle.std.specs.Prelude.{List, [], length, map, filter, Option, Some, None}
+use Rattle.std.specs.Prelude.{◌≡◌, ℕ, ◌+◌, ◌-◌, ◌*◌, ◌≤◌, Bool, true, false, List, [], length, map, filter, Option, Some, None}
 use Rattle.std.specs.List.{AllByRecursion, Contains, flat_map}
 use Rattle.rh_defs.specs.declared.command.Command.{Command}
 use Rattle.rh_defs.specs.declared.command.Command.TheVariants as command

@@ -1,15 +1,13 @@
 -- Where there is no room: what a heap, an area or a message is short of.
-use Rattle.std.specs.Prelude.{ℕ, ◌+◌, ◌-◌, ◌*◌, ℤ, pos, negsuc, Bool, ◌||◌, nat_lt, nat_le, ◌==◌, if◌then◌else◌, List}
-use Rattle.std.specs.Prelude.{[], ◌∷◌, length, slice_index, find, Option, Some}
+use Rattle.std.specs.Prelude.{ℕ, ◌+◌, ◌-◌, ◌*◌, ℤ, pos, negsuc, Bool, ◌||◌, nat_lt, nat_le, ◌==◌, if◌then◌else◌, List, [], ◌∷◌, length, slice_index, find, Option, Some}
 use Rattle.std.specs.Option.{option_map}
 use Rattle.rh_defs.specs.declared.message.Body.{Body}
-use Rattle.rh_defs.specs.declared.message.Body.TheVariants.{DataSave, DataSaveAck, DataLoad, DataLoadAck, RamFetch}
-use Rattle.rh_defs.specs.declared.message.Body.TheVariants.{RamTransmit}
+use Rattle.rh_defs.specs.declared.message.Body.TheVariants.{DataSave, DataSaveAck, DataLoad, DataLoadAck, RamFetch, RamTransmit}
 use Rattle.rh_defs.specs.Pieces.{page, pages_for, round_up, Split}
 use Rattle.rh_defs.specs.Heap.{Segment, Heap, base, hole_size, largest_hole, place_after, segment_size, size_of}
 use Rattle.rh_defs.specs.Slot.{Slot, slot_pages}
-use Rattle.rh_defs.specs.Desk.{Desk, Made, free_pages}
-use Rattle.rh_defs.specs.Commands.{module_area, scrap_area, is_numbered, file_length}
+use Rattle.rh_defs.specs.Desk.{Desk, Made, free_pages, module_area, scrap_area, file_length}
+use Rattle.rh_defs.specs.Commands.{is_numbered}
 
 -- whether the free pages are too few for so many bytes more
 abbrev pub lacks : ℕ → Desk → Bool

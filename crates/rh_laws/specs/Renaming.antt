@@ -14,7 +14,7 @@ use Rattle.rh_defs.specs.Files.{FileList}
 use Rattle.rh_defs.specs.Desk.{Desk, Task, Scrap}
 use Rattle.rh_defs.specs.Listing.{Listed, Bytes, shown_at}
 use Rattle.rh_defs.specs.Questions.{Told, asked}
-use Rattle.rh_defs.specs.Step.{step}
+use Rattle.rh_defs.specs.Commands.{step}
 use Rattle.rh_defs.specs.Runs.{start_with, after, replies}
 
 -- ---- renamed

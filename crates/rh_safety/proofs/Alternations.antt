@@ -9,7 +9,7 @@ use Rattle.std.specs.List.{AllByRecursion}
 use Rattle.rh_defs.specs.declared.refusal.Refusal.TheVariants.{NoName}
 use Rattle.rh_defs.specs.declared.command.Command.TheVariants as command
 use Rattle.rh_defs.specs.declared.reply.Reply.TheVariants as reply
-use Rattle.rh_defs.specs.Forms.{is_anchor, is_leaf}
+use Rattle.rh_defs.specs.Forms.{is_leaf}
 use Rattle.rh_defs.proofs.Steps.{step-keeps}
 use Rattle.rh_safety.specs.Offered.{offers_next}
 use Rattle.rh_safety.specs.Alternation.{is_refused_poll, all_granted, turns, turns_before, CanAlternate, SenderDone, ReceiverDone, EndsDone, Alternates}
@@ -298,7 +298,7 @@ record IsSavedFor (d : Desk) (s r : List ℕ) (k : ℕ) (leaf : List ℕ) (t u :
 pub save_names : (s : List ℕ) (k : ℕ) (r leaf : List ℕ) → in_range (command.Save s k r leaf) ≡ true →
     (is_name s ≡ true) × (is_name r ≡ true)
 unfolding in_range
-save_names s k r leaf q = both (is_name s) (is_anchor k) (is_name r) (is_leaf leaf) q
+save_names s k r leaf q = both (is_name s) _ (is_name r) (is_leaf leaf) q
   where
     both : (a b c e : Bool) → (a && b && c && e) ≡ true → (a ≡ true) × (c ≡ true)
     both true true true e q = (refl, refl)

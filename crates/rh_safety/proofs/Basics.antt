@@ -10,8 +10,7 @@ use Rattle.std.specs.List.{Contains}
 use Rattle.std.specs.Io.{StartsWith}
 use Rattle.rh_safety.proofs.Ends.{IsPrefixOf, how_many, Message, Sending, Taking, Asked, Out, Open, Out_done}
 use Rattle.rh_safety.proofs.Ends.{Out_failed, In, Fetching, Draining, Asking, In_done, In_failed, Has, Pairwise, put}
-use Rattle.rh_safety.proofs.Ends.{any, first, drop_first, one_more, with_id, find_open, find_active, find_asking}
-use Rattle.rh_safety.proofs.Ends.{first_for, without_first}
+use Rattle.rh_safety.proofs.Ends.{any, first, drop_first, one_more, with_id, find_open, find_active, find_asking, first_for, without_first}
 
 -- what holds of the new value and of the old ones elsewhere holds everywhere
 pub put_all : {A : Type 0} (P : ℕ → A → Type 0) (f : ℕ → A) (h : ℕ) (x : A) → P h x → ((k : ℕ) → k ≢ h → P k (f k)) →

@@ -39,8 +39,8 @@ pub use Rattle.rh_defs.specs.Records.{is_full, is_open, open_of}
 pub use Rattle.rh_defs.specs.Runs.{after, start_with}
 pub use Rattle.rh_defs.specs.Slot.{Flex, Slot, block_of, flex_address, flex_start, heap_block_at, heap_start, new_slot, weight}
 unfoldable pub use Rattle.rh_defs.specs.Slot.{slot_alloc, slot_block, slot_claim, slot_extend, slot_put}
-pub use Rattle.rh_defs.specs.Step.{step}
-unfoldable pub use Rattle.rh_defs.specs.Step.{cancel_in, cancel_out, poll, poll_taken, repeat, save}
+pub use Rattle.rh_defs.specs.Commands.{step}
+unfoldable pub use Rattle.rh_defs.specs.Commands.{cancel_in, cancel_out, poll, poll_taken, repeat, save}
 pub use Rattle.rh_defs.specs.Transfer.{answers_none}
 unfoldable pub use Rattle.rh_defs.specs.Transfer.{came, came_back, handled}
 pub use Rattle.rh_defs.specs.declared.command.Command.{Command}

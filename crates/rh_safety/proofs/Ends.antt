@@ -1,6 +1,5 @@
 -- Letters, and the records of the two ends of a transfer.
-use Rattle.std.specs.Prelude.{◌≡◌, ℕ, ◌+◌, Bool, true, false, ◌++◌, nat_le, List, [], ◌∷◌, length, Option, Some, None}
-use Rattle.std.specs.Prelude.{if◌then◌else◌, ◌==◌, ◌⊎◌}
+use Rattle.std.specs.Prelude.{◌≡◌, ℕ, ◌+◌, Bool, true, false, ◌++◌, nat_le, List, [], ◌∷◌, length, Option, Some, None, if◌then◌else◌, ◌==◌, ◌⊎◌}
 -- the records of the desk
 pub use Rattle.rh_defs.specs.declared.transfer.Sending.{Sending}
 pub use Rattle.rh_defs.specs.declared.transfer.Taking.{Taking}

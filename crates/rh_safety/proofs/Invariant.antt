@@ -1,10 +1,8 @@
 -- The invariant of every schedule.
-use Rattle.std.proofs.Common.{◌≡◌, ◌≢◌, ℕ, ◌+◌, ◌≤◌, ◌<◌, Bool, true, false, List, length, take, drop, Option, Some}
-use Rattle.std.proofs.Common.{None}
+use Rattle.std.proofs.Common.{◌≡◌, ◌≢◌, ℕ, ◌+◌, ◌≤◌, ◌<◌, Bool, true, false, List, length, take, drop, Option, Some, None}
 use Rattle.rh_safety.proofs.Ends.{Recorded, Returned, DataSave, RamFetch, RamTransmit, DataSaveAck, DataLoad, Asked}
 use Rattle.rh_safety.proofs.Ends.{Letter, Message, Sending, Taking, Out, Open, Out_done, In, Fetching, Draining}
-use Rattle.rh_safety.proofs.Ends.{Asking, In_done, In_failed, is_growing, out_id, in_id, in_anchor, Has, Active}
-use Rattle.rh_safety.proofs.Ends.{Pairwise}
+use Rattle.rh_safety.proofs.Ends.{Asking, In_done, In_failed, is_growing, out_id, in_id, in_anchor, Has, Active, Pairwise}
 use Rattle.rh_safety.proofs.Sight.{Desk, Scrap, owned}
 use Rattle.rh_safety.proofs.Basics.{Ascend}
 

@@ -46,7 +46,6 @@ pub mod Lines
 pub mod SeenLaws
 pub mod OwnEdits
 pub mod SeenKeys
-pub mod MemoryCommands
 pub mod Alternations
 pub mod SeenRanges
 pub mod SeenBuffers

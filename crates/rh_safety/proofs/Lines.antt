@@ -1,18 +1,19 @@
 -- Lines spell commands in range, and the desk after lines is that after their commands.
-use Rattle.rh_safety.proofs.Common.{◌≡◌, ℕ, zero, suc, ◌+◌, ◌-◌, ◌*◌, Bool, true, false, ◌&&◌, List, [], ◌∷◌, length, Option, Some, None, refl, subst, arith}
+use Rattle.rh_safety.proofs.Common.{◌≡◌, ℕ, zero, suc, ◌+◌, ◌-◌, ◌*◌, Bool, true, false, ◌&&◌, List, [], ◌∷◌, length, Option, Some, None, refl, ap, ◌∙◌}
+use Rattle.rh_safety.proofs.Common.{subst, arith}
 use Rattle.rh_safety.proofs.Common.{Result, Ok, Err, IfSome, nat_le, nat_lt, ◌==◌, if◌then◌else◌, filter_map, bytes_eq, leb_tells, Command, is_name, in_range}
 use Rattle.rh_safety.proofs.Common.{Desk, step, after, and_left, and_right}
 use Rattle.std.specs.List.{list_all, cons_option}
 use Rattle.std.specs.Result.{result_ok}
-use Rattle.std.proofs.lemmas.Bool.Decides.{nat_tests}
 use Rattle.hex.specs.Hex.{decode_of}
 use Rattle.hex.specs.declared.error.FromHexError.{FromHexError}
 use Rattle.hex.proofs.HexLemmas.{decode_of-ok}
 use Rattle.rh_defs.specs.declared.fault.LineFault.{LineFault}
 use Rattle.rh_defs.specs.declared.fault.LineFault.TheVariants.{TooLong, Unknown, Count, Word}
-use Rattle.rh_defs.specs.Forms.{is_anchor, is_number, is_buffer, is_delta, is_decimal, is_leaf, is_id, is_area, number_of, greatest, last_ref}
-use Rattle.rh_defs.specs.Grammar.{Form, Name, Leaf, Number, Delta, Address, Bytes, Choice, Maybe, Anchor, Size, Value, Maker, Row, cancel_of, rows}
-use Rattle.rh_defs.specs.Range.{all_in_range}
+use Rattle.rh_defs.specs.Forms.{is_delta, is_decimal, is_leaf, is_ref, number_of, greatest, last_ref}
+use Rattle.rh_defs.specs.Grammar.{Form, Name, Leaf, Number, Ref, Delta, Address, Bytes, Choice, Maybe, Values, Maker, Row, Spelling, spelled_by, rows}
+use Rattle.rh_defs.specs.Range.{is_of, all_of, can_be_read, all_in_range}
+use Rattle.rh_defs.proofs.GrammarLaws.{Spells, RowSpells, AllSpell, rows-spell}
 use Rattle.rh_defs.specs.Script.{commands_in, lines_desk, meaning_desk}
 use Rattle.rh_defs.specs.Line.{Meaning, ◌>>=◌, longest_line, words_of, word, name_at, number_at, delta_at, signed, is_negative, unsigned, address_at, leaf_at}
 use Rattle.rh_defs.specs.Line.{choice_at, bytes_at, value_at, command_from, is_count, follow, row_of, command_by, command_of, is_skipped, line_means}
@@ -80,9 +81,6 @@ number_means words n low high =
     where_true (Passes (λ k. nat_le low k && nat_le k high)) _ (number_of w) (Word n) (λ q. last_two (is_decimal w) _
     _ q)
 
-below_64 : (k : ℕ) → nat_le k 63 ≡ true → is_anchor k ≡ true
-below_64 k q = grind (arith, nat_tests, q)
-
 signed_delta : (negative : Bool) (n : ℕ) → nat_le n greatest ≡ true → is_delta (signed negative n) ≡ true
 signed_delta false n q = q
 signed_delta true zero q = refl
@@ -119,22 +117,12 @@ bytes_means words n = bytes_by words n (has_byte (word words n)) (result_ok (dec
 
 -- ---- forms
 
--- whether a word's value is one that a form spells
-abbrev is_of : (form : Form) → Value form → Bool
-is_of Name name = is_name name
-is_of Leaf leaf = is_leaf leaf
-is_of (Number low high) n = nat_le low n && nat_le n high
-is_of Delta by = is_delta by
-is_of Address address = true
-is_of Bytes bytes = has_byte bytes
-is_of (Choice first second) is_first = true
-is_of (Maybe form) None = true
-is_of (Maybe form) (Some value) = is_of form value
-
 value_means : (form : Form) (words : List (List ℕ)) (n : ℕ) → Means (Passes (is_of form)) (value_at form words n)
 value_means Name words n = name_means words n
 value_means Leaf words n = leaf_means words n
 value_means (Number low high) words n = number_means words n low high
+value_means Ref words n = means_also _ (Passes is_ref) (number_at words n 1 last_ref) (λ k q. and_left (nat_le 1 k) (nat_le k last_ref) q)
+    (number_means words n 1 last_ref)
 value_means Delta words n = delta_means words n
 value_means Address words n = means_also Any _ (address_at words n) (λ x u. refl) (any_means (address_at words n))
 value_means Bytes words n = bytes_means words n
@@ -147,103 +135,36 @@ value_means (Maybe form) words n =
 
 -- ---- commands
 
--- of words of their forms a command in range is made
-abbrev Makes : (forms : List Form) → Maker forms → Type 0
-Makes [] command = in_range command ≡ true
-Makes (form ∷ forms) make = (value : Value form) → is_of form value ≡ true → Makes forms (make value)
-
 abbrev IsCommand : Meaning Command → Type 0
 IsCommand m = Means (Passes in_range) m
 
-from_in : (forms : List Form) (make : Maker forms) (words : List (List ℕ)) (n : ℕ) → Makes forms make →
+-- a command whose spelling is known, of values of their forms
+from_in : (forms : List Form) (make : Maker forms) (give : Values forms → Spelling) (tested : Bool) (words : List (List ℕ)) (n : ℕ) →
+    Spells forms make give → ((values : Values forms) → can_be_read (give values) ≡ all_of tested forms values) → tested ≡ true →
     IsCommand (command_from forms make words n)
-from_in [] command words n h = h
-from_in (form ∷ forms) make words n h =
+unfolding in_range
+from_in [] command give tested words n spells reads h = ap can_be_read spells ∙ reads tt ∙ h
+from_in (form ∷ forms) make give tested words n spells reads h =
     then_means (Passes (is_of form)) (Passes in_range) (value_at form words (n + 1)) _ (value_means form words (n + 1))
-    (λ value q. from_in forms (make value) words (n + 1) (h value q))
+    (λ value q. from_in forms (make value) (λ values. give (value, values)) (tested && is_of form value) words (n + 1)
+    (spells value) (λ values. reads (value, values)) (both tested (is_of form value) h q))
 
--- so does each row
-abbrev AllMake : List Row → Type 0
-AllMake [] = Unit {0}
-AllMake (row ∷ rows) = Makes row.forms row.make × AllMake rows
+row_in : (row : Row) (words : List (List ℕ)) (n : ℕ) → RowSpells row → IsCommand (command_from row.forms row.make words n)
+row_in row words n spells = from_in row.forms row.make (spelled_by row) true words n spells (λ values. refl) refl
 
-row_found : (rs : List Row) (first : List ℕ) (words : List (List ℕ)) (fault : LineFault) → AllMake rs →
-    Means (λ row. Makes row.forms row.make) (row_of rs first words fault)
+row_found : (rs : List Row) (first : List ℕ) (words : List (List ℕ)) (fault : LineFault) → AllSpell rs →
+    Means RowSpells (row_of rs first words fault)
 row_found [] first words fault h = tt
 row_found (row ∷ rs) first words fault h =
-    one_of (λ r. Makes r.forms r.make) (bytes_eq first row.first && follow row.further words 1) (Ok row) _ h.0
-    (row_found rs first words _ h.1)
-
-anchor_in : (k : ℕ) → is_of Anchor k ≡ true → is_anchor k ≡ true
-anchor_in k q = below_64 k (and_right (nat_le 0 k) (nat_le k 63) q)
-
-size_in : (n : ℕ) → is_of Size n ≡ true → is_number n ≡ true
-size_in n q = and_right (nat_le 0 n) (nat_le n greatest) q
-
-id_in : (id : Option ℕ) → is_of (Maybe (Number 1 last_ref)) id ≡ true → is_id id ≡ true
-id_in None q = refl
-id_in (Some id) q = and_left (nat_le 1 id) (nat_le id last_ref) q
-
-named_at : (name : List ℕ) (k : ℕ) → is_name name ≡ true → is_of Anchor k ≡ true → (is_name name && is_anchor k) ≡ true
-named_at name k p q = both (is_name name) (is_anchor k) p (anchor_in k q)
-
-sized : (name : List ℕ) (k n : ℕ) → is_name name ≡ true → is_of Anchor k ≡ true → is_of Size n ≡ true →
-    (is_name name && is_anchor k && is_number n) ≡ true
-sized name k n p q r = both (is_name name && is_anchor k) (is_number n) (named_at name k p q) (size_in n r)
-
-canceled : (name : List ℕ) (comes_in : Bool) (id : Option ℕ) → (is_name name && is_id id) ≡ true →
-    in_range (cancel_of name comes_in id) ≡ true
-unfolding in_range
-canceled name true id q = q
-canceled name false id q = q
-
-infixr 4 ◌⊗◌
--- one row, and the others
-abbrev ◌⊗◌ : {A B : Type 0} → A → B → A × B
-a ⊗ b = (a, b)
-
-rows_make : AllMake rows
-unfolding rows in_range
-rows_make =
-    (λ name p buffer q deaf u. both (is_name name) (is_buffer buffer) p q)
-    ⊗ (λ name p. p)
-    ⊗ (λ name p k q n r. sized name k n p q r)
-    ⊗ (λ name p k q file r. both (is_name name && is_anchor k) (is_name file) (named_at name k p q) r)
-    ⊗ (λ name p k q offset r bytes s.
-    both (is_name name && is_anchor k && is_number offset) (has_byte bytes) (sized name k offset p q r) s)
-    ⊗ (λ name p k q. named_at name k p q)
-    ⊗ (λ name p k q n r. sized name k n p q r)
-    ⊗ (λ name p k q offset r by s.
-    both (is_name name && is_anchor k && is_number offset) (is_delta by) (sized name k offset p q r) s)
-    ⊗ (λ name p n q. both (is_name name) (is_number n) p (size_in n q))
-    ⊗ (λ name p address u. p)
-    ⊗ (λ name p address u by q. both (is_name name) (is_delta by) p q)
-    ⊗ (λ name p on u. p)
-    ⊗ (λ name p k q to r leaf s. both (is_name name && is_anchor k && is_name to) (is_leaf leaf)
-    (both (is_name name && is_anchor k) (is_name to) (named_at name k p q) r) s)
-    ⊗ (λ name p. p)
-    ⊗ (λ name p comes_in u id q. canceled name comes_in id (both (is_name name) (is_id id) p (id_in id q)))
-    ⊗ (λ name p. p)
-    ⊗ (λ k q by r. both (is_area k) (is_delta by) (and_right (nat_le 0 k) (is_area k) q) r)
-    ⊗ (λ most q. q)
-    ⊗ (λ k q. q)
-    ⊗ (λ n q. size_in n q)
-    ⊗ (λ address u. refl)
-    ⊗ (λ address u by q. q)
-    ⊗ (λ name p k q. named_at name k p q)
-    ⊗ (λ name p. p)
-    ⊗ (λ name p. p)
-    ⊗ (λ name p. p)
-    ⊗ refl
-    ⊗ tt
+    one_of RowSpells (bytes_eq first row.first && follow row.further words 1) (Ok row) _ h.0 (row_found rs first words _ h.1)
 
 command_in : (words : List (List ℕ)) → IsCommand (command_of words)
 unfolding command_by
 command_in words =
-    then_means (λ row. Makes row.forms row.make) (Passes in_range) (row_of rows (word words 1) words Unknown) _
-    (row_found rows (word words 1) words Unknown rows_make) (λ row h.
+    then_means RowSpells (Passes in_range) (row_of rows (word words 1) words Unknown) _
+    (row_found rows (word words 1) words Unknown rows-spell) (λ row spells.
     one_of (Passes in_range) (is_count row.forms (1 + length row.further) (length words)) _ (Err Count)
-    (from_in row.forms row.make words (1 + length row.further) h) tt)
+    (row_in row words (1 + length row.further) spells) tt)
 
 -- ---- lines
 

@@ -8,7 +8,7 @@ use Rattle.rh_defs.specs.declared.refusal.Refusal.TheVariants.{TooManyAreas}
 use Rattle.rh_defs.specs.declared.reply.Reply.TheVariants as reply
 use Rattle.rh_defs.specs.Forms.{first_made}
 use Rattle.rh_defs.specs.Script
-use Rattle.rh_defs.specs.Commands.{most_made}
+use Rattle.rh_defs.specs.Desk.{most_made}
 use Rattle.rh_defs.specs.Post.{taken}
 use Rattle.rh_defs.specs.Runs.{replies}
 use Rattle.rh_safety.specs.Numbers.{GoUp, handles_in, refs_in, areas_in}

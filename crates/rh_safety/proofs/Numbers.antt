@@ -1,5 +1,6 @@
 -- The numbers that are answered go up, since each is the desk's next one, and the next one goes up by one.
-use Rattle.rh_safety.proofs.Common.{◌≡◌, ℕ, ◌+◌, ◌≤◌, refl, sym, subst, ◌∙◌, arith, List, [], ◌∷◌, ◌++◌, length, Option, Some, None, Ok, ◌==◌, not, filter}
+use Rattle.rh_safety.proofs.Common.{◌≡◌, ℕ, ◌+◌, ◌≤◌, true, refl, sym, subst, ◌∙◌, arith, List, [], ◌∷◌, ◌++◌, length, Option, Some, None, Ok, ◌==◌}
+use Rattle.rh_safety.proofs.Common.{not, filter}
 use Rattle.rh_safety.proofs.Common.{Command, Manner, Body, EventCode, User, Recorded, Acknowledge, Refusal, Outcome, Reply, Asked, Incoming, Sending, Taking}
 use Rattle.rh_safety.proofs.Common.{Split, Heap, Flex, Slot, Parcel, is_recorded, Post, Seat, answers_held, held_by, has_seat, bounced, bounce_held}
 use Rattle.rh_safety.proofs.Common.{bounce_all, without_block, taken_from, queued_in, put_down, post_join, post_send, post_poll, post_death, Desk, Task}
@@ -17,10 +18,12 @@ use Rattle.rh_defs.specs.declared.transfer.Incoming.TheVariants as incoming
 use Rattle.rh_defs.specs.Post.{first_for}
 use Rattle.rh_defs.specs.Desk.{with_module}
 use Rattle.rh_defs.specs.OutgoingEvents.{refused as failed_by}
-use Rattle.rh_defs.specs.Step.{change}
+use Rattle.rh_defs.specs.Commands.{change}
 use Rattle.rh_defs.proofs.Chains.{granted-both, granted-unless}
 use Rattle.rh_safety.proofs.LiveRefs.{OneEach, live_with, own-refs, no_more-one, posted-one, join-one, poll-fewer, death-fewer}
-use Rattle.rh_safety.proofs.MemoryCommands.{Changed, IsOnMemory, granted-on, in_areas, in_made, in_module, in_nothing, in_slot}
+use Rattle.rh_defs.proofs.Changes.{Changed, IsOnMemory, in_areas, in_made, in_module, in_nothing, in_slot}
+use Rattle.rh_defs.proofs.QuestionLaws.{is_quiet}
+use Rattle.rh_defs.proofs.Steps.{granted-on}
 use Rattle.rh_safety.specs.Refs.{HaveOwnRefs}
 use Rattle.rh_safety.specs.Numbers.{GoUp, NumbersGoUp, handles_in, refs_in, refs_of_outcome, areas_in}
 use Rattle.rh_safety.proofs.OwnEdits.{any-grant}
@@ -342,6 +345,17 @@ silent {d} {e} {said} s h r a = record {
   mail = s.mail;
 }
 
+-- a quiet reply gives no number
+quiet-gives : (said : Reply) → is_quiet said ≡ true → (handles_in said ≡ []) × (refs_in said ≡ []) × (areas_in said ≡ [])
+quiet-gives (reply.Started handle) quiet = absurd cc
+quiet-gives (reply.Sent ref) quiet = absurd cc
+quiet-gives (reply.Event code action mine yours outcome) quiet = absurd cc
+quiet-gives (reply.Made number) quiet = absurd cc
+quiet-gives said quiet = (refl, refl, refl)
+
+silent-as : {d e : Desk} {said : Reply} → Stands d e → is_quiet said ≡ true → Counts d (e, said)
+silent-as {said = said} s quiet = let gives = quiet-gives said quiet in silent s gives.0 gives.1 gives.2
+
 -- a message that was sent
 sent-counts : {d sent e : Desk} → SentOne d sent → Stands sent e → Counts d (e, reply.Sent (next_ref d))
 sent-counts {d} {sent} {e} one s = record {
@@ -409,11 +423,11 @@ module _ (d : Desk) where
       })
 
   changed-counts : {c : Command} (a : Answer) → Changed c d a → Counts d a
-  changed-counts _ (in_slot name t s is e q) = silent (slot-stands t.handle s) q.handles q.refs q.areas
-  changed-counts _ (in_module h q) = silent (stands refl refl refl (module-mail h d)) q.handles q.refs q.areas
-  changed-counts _ (in_areas areas q) = silent (stands refl refl refl same-mail) q.handles q.refs q.areas
-  changed-counts _ (in_made areas q) = silent (stands refl refl refl same-mail) q.handles q.refs q.areas
-  changed-counts _ (in_nothing q) = silent (stands refl refl refl same-mail) q.handles q.refs q.areas
+  changed-counts _ (in_slot name t s is e quiet) = silent-as (slot-stands t.handle s) quiet
+  changed-counts _ (in_module h quiet) = silent-as (stands refl refl refl (module-mail h d)) quiet
+  changed-counts _ (in_areas areas quiet) = silent-as (stands refl refl refl same-mail) quiet
+  changed-counts _ (in_made areas quiet) = silent-as (stands refl refl refl same-mail) quiet
+  changed-counts _ (in_nothing quiet) = silent-as (stands refl refl refl same-mail) quiet
 
   memory-counts : (c : Command) → IsOnMemory c → OnGrant (Counts d) (change d c)
   memory-counts c is = granted-on d c is changed-counts

@@ -11,7 +11,7 @@ use Rattle.rh_defs.specs.declared.transfer.Incoming.TheVariants as incoming
 use Rattle.rh_defs.specs.Sender as sender
 use Rattle.rh_defs.specs.Receiver as receiver
 use Rattle.rh_defs.specs.Transfer as transfer
-use Rattle.rh_defs.specs.Step.{event}
+use Rattle.rh_defs.specs.Commands.{event}
 use Rattle.rh_safety.specs.Alternation.{is_refusal, is_refused_poll}
 use Rattle.rh_safety.proofs.Sight as sight
 use Rattle.rh_safety.proofs.Arrivals.{Began}

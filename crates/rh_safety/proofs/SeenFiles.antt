@@ -1,8 +1,7 @@
 -- The scrap file's DataLoad as it is seen of a post, by the desk's word for what is queued or held.
-use Rattle.rh_safety.proofs.Common.{◌≡◌, ℕ, Bool, true, false, ◌||◌, List, [], ◌∷◌, Option, Some, None, refl, ap, ◌∙◌, subst, ◌⊎◌, inl, inr, ◌==◌}
+use Rattle.rh_safety.proofs.Common.{◌≡◌, ℕ, Bool, true, false, ◌||◌, List, [], ◌∷◌, Option, Some, None, refl, ap, ◌∙◌, subst, ◌⊎◌, inl, inr, ◌==◌, HaveOwnSeats}
 use Rattle.rh_safety.proofs.Common.{if◌then◌else◌, map, list_any, option_map, eq-eqb, eqb_tells, Parcel, Post, Seat, held_by, post_is_live, Desk, Scrap}
 use Rattle.rh_safety.proofs.Common.{with_delivered, view, seen_parcel, seen_scrap, Message, Has, is_equal, none_some, IsLive, waits, rests, LiveFile}
-use Rattle.rh_safety.proofs.Common.{HaveOwnSeats}
 use Rattle.rh_defs.specs.Post.{holds_such}
 use Rattle.rh_defs.specs.Desk.{kept_scrap}
 use Rattle.rh_safety.proofs.Sight as sight

@@ -1,8 +1,7 @@
 -- Bytes written into a buffer, as one place of the map.
 use Rattle.rh_safety.proofs.Common.{◌≡◌, ℕ, ◌+◌, ◌-◌, ◌≤◌, true, List, ◌++◌, length, drop, Option, Some, None, refl, sym, ap, ◌∙◌, inl, inr, arith}
-use Rattle.rh_safety.proofs.Common.{length-append, length-drop, nat_le, option_map, leb_tells, Split, total, written, with_here, Segment, Used, bytes_of}
+use Rattle.rh_safety.proofs.Common.{length-append, length-drop, nat_le, option_map, leb_tells, Split, total, written, with_here, Segment, Used, bytes_of, Same}
 use Rattle.rh_safety.proofs.Common.{size_of, first_place, place_after, is_block_at, Slot, heap_start, heap_block_at, buffer_at, buffers_of, put, none_some}
-use Rattle.rh_safety.proofs.Common.{Same}
 use Rattle.rh_defs.specs.Places.{with_heap_bytes}
 use Rattle.rh_safety.proofs.HeapMap.{bytes_at, heap_map, IsMoved}
 use Rattle.rh_safety.proofs.HeapMaps as heaps

@@ -1,12 +1,9 @@
 -- What a transfer rests on, as it is seen of the desk, and the small edits that commands make to it.
-use Rattle.std.specs.Prelude.{ℕ, ◌+◌, ◌-◌, min, Bool, true, false, ◌||◌, ◌==◌}
-use Rattle.std.specs.Prelude.{if◌then◌else◌, List, [], ◌∷◌, ◌++◌, length, take, Option, Some, None}
+use Rattle.std.specs.Prelude.{ℕ, ◌+◌, ◌-◌, min, Bool, true, false, ◌||◌, ◌==◌, if◌then◌else◌, List, [], ◌∷◌, ◌++◌, length, take, Option, Some, None}
 use Rattle.rh_defs.specs.Sender as sender
 use Rattle.rh_safety.proofs.Ends.{Code, Plain, Recorded, Returned, DataSave, RamFetch, DataSaveAck}
-use Rattle.rh_safety.proofs.Ends.{DataLoad, DataLoadAck, Asked, Letter, Message, Sending, Taking, Out, Open}
-use Rattle.rh_safety.proofs.Ends.{Out_failed, In, Fetching, Asking, In_done, In_failed, out_id, in_id}
-use Rattle.rh_safety.proofs.Ends.{is_open, is_going, put, any, one_more, with_id}
-use Rattle.rh_safety.proofs.Ends.{first, without_first, source_at, document_at}
+use Rattle.rh_safety.proofs.Ends.{DataLoad, DataLoadAck, Asked, Letter, Message, Sending, Taking, Out, Open, first, without_first, source_at, document_at}
+use Rattle.rh_safety.proofs.Ends.{Out_failed, In, Fetching, Asking, In_done, In_failed, out_id, in_id, is_open, is_going, put, any, one_more, with_id}
 
 -- the scrap file: the ref of its DataLoad, and its bytes
 pub record Scrap : Type 0 where

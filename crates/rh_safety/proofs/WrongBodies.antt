@@ -22,7 +22,7 @@ use Rattle.rh_defs.specs.Receiver as receiver
 use Rattle.rh_defs.specs.Places.{written_in}
 use Rattle.rh_defs.specs.OutgoingEvents.{is_out_of_reach}
 use Rattle.rh_defs.specs.IncomingEvents.{end_failed}
-use Rattle.rh_defs.specs.Step.{event}
+use Rattle.rh_defs.specs.Commands.{event}
 use Rattle.rh_defs.specs.Script
 use Rattle.rh_safety.specs.Offered.{offers_next}
 use Rattle.rh_safety.specs.Held.{edits_next, held_of}

@@ -1,6 +1,5 @@
 -- Two tasks that are polled in turn bring a transfer to its end.
-use Rattle.std.specs.Prelude.{◌≡◌, ℕ, zero, suc, ◌+◌, ◌/◌, Bool, true, false, not}
-use Rattle.std.specs.Prelude.{List, [], ◌∷◌, length, find, Some, None, is_some}
+use Rattle.std.specs.Prelude.{◌≡◌, ℕ, zero, suc, ◌+◌, ◌/◌, Bool, true, false, not, List, [], ◌∷◌, length, find, Some, None, is_some}
 use Rattle.std.specs.List.{Contains, AllByRecursion, list_any, list_all}
 use Rattle.rh_defs.specs.Post.{Seat}
 use Rattle.rh_defs.specs.declared.message.Action.{Action}
@@ -19,7 +18,7 @@ use Rattle.rh_defs.specs.Places.{free_anchor}
 use Rattle.rh_defs.specs.IncomingEvents.{is_deaf}
 use Rattle.rh_defs.specs.Transfer.{answers_none}
 use Rattle.rh_defs.specs.Desk.{Desk, Task, has_name, task_at}
-use Rattle.rh_defs.specs.Step.{step}
+use Rattle.rh_defs.specs.Commands.{step}
 use Rattle.rh_defs.specs.Runs.{after, replies}
 use Rattle.rh_safety.specs.Offered.{bytes_of_block}
 use Rattle.rh_safety.specs.Buffers.{refusal_of}

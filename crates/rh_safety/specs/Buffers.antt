@@ -22,7 +22,7 @@ use Rattle.rh_defs.specs.declared.transfer.Incoming.TheVariants as incoming
 use Rattle.rh_defs.specs.Sender.{would_answer}
 use Rattle.rh_defs.specs.Transfer.{answers_none}
 use Rattle.rh_defs.specs.Desk.{Desk, Task, task_at}
-use Rattle.rh_defs.specs.Step.{step}
+use Rattle.rh_defs.specs.Commands.{step}
 
 -- the bytes of the block of the C heap at an address
 abbrev pub bytes_of_buffer : Slot → ℕ → Option (List ℕ)

@@ -9,7 +9,7 @@ use Rattle.rh_defs.specs.declared.transfer.Incoming.{Incoming}
 use Rattle.rh_defs.specs.declared.transfer.Incoming.TheVariants as incoming
 use Rattle.rh_defs.specs.Records.{in_id}
 use Rattle.rh_defs.specs.Desk.{Desk, Task, has_name, task_at}
-use Rattle.rh_defs.specs.Step.{step}
+use Rattle.rh_defs.specs.Commands.{step}
 use Rattle.rh_defs.specs.Runs.{after}
 use Rattle.rh_safety.specs.Offered.{at_place, bytes_of_block}
 

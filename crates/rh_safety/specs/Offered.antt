@@ -11,7 +11,7 @@ use Rattle.rh_defs.specs.declared.command.Command.TheVariants as command
 use Rattle.rh_defs.specs.declared.reply.Reply.{Reply}
 use Rattle.rh_defs.specs.declared.reply.Reply.TheVariants as reply
 use Rattle.rh_defs.specs.Desk.{Desk, Task, has_name}
-use Rattle.rh_defs.specs.Step.{step}
+use Rattle.rh_defs.specs.Commands.{step}
 
 -- the bytes that each id offers
 abbrev pub Offers : Type 0

@@ -1,4 +1,4 @@
-use Rattle.rh_defs.proofs.OrderSteps.{order-ignored}
+use Rattle.rh_defs.proofs.Steps.{order-ignored}
 use Rattle.rh_defs.proofs.laws.order_law.Goals as goal
 
 pub returns : goal.returns

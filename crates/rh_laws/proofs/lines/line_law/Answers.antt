@@ -1,4 +1,5 @@
-use Rattle.rh_laws.proofs.LineRows.{are-read, are-spelled}
+use Rattle.rh_laws.proofs.LineRows.{are-read}
+use Rattle.rh_laws.proofs.Spelled.{are-spelled}
 use Rattle.rh_laws.proofs.lines.line_law.Goals as goal
 
 pub returns-clause-read : goal.returns-clause-read

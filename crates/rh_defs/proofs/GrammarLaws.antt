@@ -1,0 +1,91 @@
+-- What a row makes is spelled by this row and the same values, and the spelling of a command makes it again.
+use Rattle.rh_defs.proofs.Common.{◌≡◌, ℕ, Bool, true, false, refl, ap, Option, Some, None, List, [], ◌∷◌, Command}
+use Rattle.rh_defs.specs.declared.command.Command.TheVariants as command
+use Rattle.rh_defs.specs.declared.command.Manner.TheVariants as manner
+use Rattle.rh_defs.specs.declared.question.Question.{Question}
+use Rattle.rh_defs.specs.declared.question.Question.TheVariants as question
+use Rattle.rh_defs.specs.Grammar.{Form, Value, Values, Maker, Row, Spelling, manner_of, manner_word, cancel_of, task_spelled, cancel_spelled}
+use Rattle.rh_defs.specs.Grammar.{spelled_by, question_spelling, rows, spelling}
+
+-- the command made of values
+abbrev pub made : (forms : List Form) → Maker forms → Values forms → Command
+made [] command values = command
+made (form ∷ forms) make values = made forms (make values.0) values.1
+
+-- that of a spelling
+abbrev pub made_of : Spelling → Command
+made_of (spelled_by row values) = made row.forms row.make values
+
+-- what is made of any values for the forms has the spelling given for these values
+abbrev pub Spells : (forms : List Form) → Maker forms → (Values forms → Spelling) → Type 0
+Spells [] command give = spelling command ≡ give tt
+Spells (form ∷ forms) make give = (value : Value form) → Spells forms (make value) (λ values. give (value, values))
+
+-- a row's command is spelled by the row and the values that it was made of
+abbrev pub RowSpells : Row → Type 0
+RowSpells row = Spells row.forms row.make (spelled_by row)
+
+-- that of each row is
+abbrev pub AllSpell : List Row → Type 0
+AllSpell [] = Unit {0}
+AllSpell (row ∷ rows) = RowSpells row × AllSpell rows
+
+-- a task's manner, as a word and back
+manner-back : (deaf : Option Bool) → manner_word (manner_of deaf) ≡ deaf
+manner-back None = refl
+manner-back (Some true) = refl
+manner-back (Some false) = refl
+
+cancel-spells : (name : List ℕ) (comes_in : Bool) (id : Option ℕ) → spelling (cancel_of name comes_in id) ≡ cancel_spelled (name, (comes_in, (id, tt)))
+cancel-spells name true id = refl
+cancel-spells name false id = refl
+
+infixr 4 ◌⊗◌
+-- one row, and the others
+abbrev ◌⊗◌ : {A B : Type 0} → A → B → A × B
+a ⊗ b = (a, b)
+
+pub rows-spell : AllSpell rows
+unfolding rows
+rows-spell =
+    (λ name buffer deaf. ap (λ word. task_spelled (name, (buffer, (word, tt)))) (manner-back deaf))
+    ⊗ (λ name. refl)
+    ⊗ (λ name k n. refl)
+    ⊗ (λ name k file. refl)
+    ⊗ (λ name k offset bytes. refl)
+    ⊗ (λ name k. refl)
+    ⊗ (λ name k n. refl)
+    ⊗ (λ name k offset amount. refl)
+    ⊗ (λ name n. refl)
+    ⊗ (λ name address. refl)
+    ⊗ (λ name address delta. refl)
+    ⊗ (λ name on. refl)
+    ⊗ (λ name k to leaf. refl)
+    ⊗ (λ name. refl)
+    ⊗ (λ name comes_in id. cancel-spells name comes_in id)
+    ⊗ (λ name. refl)
+    ⊗ (λ k delta. refl)
+    ⊗ (λ most. refl)
+    ⊗ (λ k. refl)
+    ⊗ (λ n. refl)
+    ⊗ (λ address. refl)
+    ⊗ (λ address delta. refl)
+    ⊗ (λ name k. refl)
+    ⊗ (λ name. refl)
+    ⊗ (λ name. refl)
+    ⊗ (λ name. refl)
+    ⊗ refl
+    ⊗ tt
+
+-- ---- and back
+
+asked-made : (q : Question) → made_of (question_spelling q) ≡ command.Ask q
+asked-made (question.Show name k) = refl
+asked-made q = refl
+
+pub spelling-made : (c : Command) → made_of (spelling c) ≡ c
+spelling-made (command.Task name buffer manner.Plain) = refl
+spelling-made (command.Task name buffer manner.Deaf) = refl
+spelling-made (command.Task name buffer manner.File) = refl
+spelling-made (command.Ask q) = asked-made q
+spelling-made c = refl
