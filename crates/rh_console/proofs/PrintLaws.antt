@@ -1,6 +1,5 @@
 -- What lent bytes have of a text that was printed into them.
-use Rattle.std.proofs.Common.{◌≡◌, ℕ, ◌-◌, ◌<◌, ◌≤◌, List, [], ◌++◌, length, replicate, Some, None, Result, Ok, Err}
-use Rattle.std.proofs.Common.{sym, ap, ◌∙◌, arith, take_all}
+use Rattle.std.proofs.Common.{◌≡◌, ℕ, ◌-◌, ◌<◌, ◌≤◌, List, [], ◌++◌, length, replicate, Some, None, Result, Ok, Err, sym, ap, ◌∙◌, arith, take_all}
 use Rattle.std.proofs.lemmas.List.{drop-replicate, length-replicate}
 use Rattle.std.specs.Prelude.{nat_le, drop, take, true, false, if◌then◌else◌}
 use borrow.Author.Tests.{tests}

@@ -9,9 +9,9 @@ use Rattle.rh_defs.specs.declared.reply.Reply.{Reply}
 use Rattle.rh_defs.specs.Desk.{Desk}
 use Rattle.rh_defs.specs.Line.{Meaning, line_means}
 use Rattle.rh_defs.specs.Order.{IsReordered}
-use Rattle.rh_defs.specs.Range.{can_be_asked, in_range}
+use Rattle.rh_defs.specs.Range.{can_be_asked}
 use Rattle.rh_defs.specs.Script.{line_desk, line_text, meaning_desk, meaning_text}
-use Rattle.rh_defs.specs.Step.{step}
+use Rattle.rh_defs.specs.Commands.{step}
 use Rattle.rh_defs.proofs.QuestionLaws.{asked-stays, one-line, question-text}
 use Rattle.rh_tasks.specs.Answer.{StepsTo}
 use Rattle.rh_console.specs.Said.{said_text}

@@ -24,7 +24,7 @@ pub use Rattle.rh_defs.specs.Questions.{asked}
 pub use Rattle.rh_defs.specs.Records.{in_id}
 pub use Rattle.rh_defs.specs.Script.{ended, unended}
 pub use Rattle.rh_defs.specs.Slot.{flex_start}
-pub use Rattle.rh_defs.specs.Step.{step}
+pub use Rattle.rh_defs.specs.Commands.{step}
 unfoldable pub use Rattle.rh_defs.specs.Text.{answer_text, fault_text, first_line}
 pub use Rattle.rh_defs.specs.declared.command.Command.{Command}
 pub use Rattle.rh_defs.specs.declared.fault.LineFault.{LineFault}

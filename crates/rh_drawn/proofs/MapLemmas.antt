@@ -5,7 +5,7 @@ use Rattle.rh_drawn.proofs.Common.{takes_none, takes_more, kept, kept_means, Sha
 use Rattle.rh_drawn.proofs.Common.{written_lines, Mapper, Drew, TookLine, place_in}
 use Rattle.rh_defs.specs.Script.{is_bad}
 use Rattle.rh_defs.specs.Order.{with_queue}
-use Rattle.rh_defs.proofs.OrderSteps.{order-ignored}
+use Rattle.rh_defs.proofs.Steps.{order-ignored}
 use Rattle.rh_feed.specs.Taken.{TookAll}
 use Rattle.rh_figure.specs.Map.{Read, Stage, map_lines, place}
 use Rattle.rh_figure.specs.Whole.{AreShared, IsMap, read_of}

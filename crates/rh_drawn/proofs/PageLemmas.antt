@@ -4,7 +4,7 @@ use Rattle.rh_drawn.proofs.Common.{Some, IfSome, IsSome, slice_get, slice_index,
 use Rattle.rh_drawn.proofs.Common.{drop_all, drop_more, length-drop, Desk, Made, Task, module_pages, task_pages, IsDesk, Rise, taken_line, Scene, AreaOf}
 use Rattle.rh_drawn.proofs.Common.{IsShared, Owner, SlotOf, count_of, share_in, indented, takes_part, at-some}
 use Rattle.rh_defs.specs.Forms.{first_made, most_pages}
-use Rattle.rh_defs.specs.Commands.{module_area}
+use Rattle.rh_defs.specs.Desk.{module_area}
 use Rattle.rh_figure.specs.Changes.{freed_line, freed_pages, freed_text, taken_pages}
 use Rattle.rh_figure.specs.Phrases.{owner_name}
 use Rattle.rh_sight.specs.declared.sight.PagesOf.{PagesOf}

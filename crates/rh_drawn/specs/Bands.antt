@@ -5,9 +5,8 @@ use Rattle.rh_defs.specs.declared.listing.SegmentItem.{SegmentItem}
 use Rattle.rh_defs.specs.declared.listing.SegmentItem.TheVariants as segment
 use Rattle.rh_defs.specs.Messages.{Parcel, action_of}
 use Rattle.rh_defs.specs.Heap.{Segment, Heap, first_place, place_after}
-use Rattle.rh_defs.specs.Desk.{Desk, Task}
+use Rattle.rh_defs.specs.Desk.{Desk, Task, module_start}
 use Rattle.rh_defs.specs.Listing.{segment_items_from}
-use Rattle.rh_defs.specs.Commands.{module_start}
 use Rattle.rh_figure.specs.Phrases.{Text}
 use Rattle.rh_figure.specs.Scene.{Scene, message_in}
 use Rattle.rh_figure.specs.Cards.{Card, hole_card, heap_card, module_card, cards_from}

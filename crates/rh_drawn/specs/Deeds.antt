@@ -5,7 +5,7 @@ use Rattle.rh_defs.specs.declared.fault.LineFault.TheVariants.{TooLong, Unended}
 use Rattle.rh_defs.specs.declared.reply.Reply.{Reply}
 use Rattle.rh_defs.specs.Line.{Meaning, longest_line}
 use Rattle.rh_defs.specs.Desk.{Desk}
-use Rattle.rh_defs.specs.Step.{step}
+use Rattle.rh_defs.specs.Commands.{step}
 use Rattle.rh_defs.specs.Text.{reply_text}
 use Rattle.rh_figure.specs.Phrases.{Text}
 use Rattle.rh_figure.specs.Scene.{Before, is_still, marks_of}

@@ -1,7 +1,6 @@
 -- Characters of pages, owner by owner.
-use Rattle.std.specs.Prelude.{ℕ, suc, ◌==◌, ◌&&◌, if◌then◌else◌, List, [], ◌∷◌, Some}
+use Rattle.std.specs.Prelude.{ℕ, suc, ◌==◌, ◌&&◌, if◌then◌else◌, List, [], ◌∷◌, Some, map}
 use Rattle.std.specs.List.{list_any, enumerate_from}
-use Rattle.std.specs.Prelude.{map}
 use Rattle.rh_defs.specs.Desk.{Made, Task}
 use Rattle.rh_figure.specs.Share.{Share, AreaOf, SlotOf}
 use Rattle.rh_figure.specs.Rows.{owner_mark, letter_at}

@@ -1,10 +1,9 @@
 //! The first lines of a reply, and how many lines it has.
 
 ghost use Rattle.std.specs.Prelude.{◌≡◌, ◌+◌, ◌<◌, ◌≤◌, ◌^◌, IsTrue, find, length};
-ghost use Rattle.rh_defs.specs.Commands.{most_made};
+ghost use Rattle.rh_defs.specs.Desk.{most_made, has_name};
 ghost use Rattle.rh_defs.specs.Slot.{anchor_count};
 ghost use Rattle.rh_defs.specs.declared.question.Question.TheVariants.{Areas};
-ghost use Rattle.rh_defs.specs.Desk.{has_name};
 ghost use Rattle.rh_defs.specs.Listing.{Nothing};
 ghost use Rattle.rh_defs.specs.Questions.{asked};
 ghost use Rattle.rh_defs.specs.Range.{can_be_asked};

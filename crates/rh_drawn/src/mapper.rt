@@ -4,7 +4,7 @@ ghost use Rattle.std.specs.Prelude.{◌≡◌, ◌<◌, ◌≤◌, ◌+◌, ◌^
 ghost use Rattle.std.specs.Option.{option_map};
 ghost use Rattle.rh_defs.specs.Order.{IsReordered};
 ghost use Rattle.rh_defs.specs.Range.{in_range};
-ghost use Rattle.rh_defs.specs.Step.{step};
+ghost use Rattle.rh_defs.specs.Commands.{step};
 ghost use Rattle.rh_drawn.specs.Places.{Broke, Drew, IsFirst, IsSamePlace, shown_step};
 ghost use Rattle.rh_drawn.specs.Replies.{Excerpts};
 ghost use Rattle.rh_lines.specs.Flow.{Puts};

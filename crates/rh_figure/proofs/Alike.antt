@@ -11,10 +11,10 @@ use Rattle.rh_defs.specs.Listing.{Nothing}
 use Rattle.rh_defs.specs.Range.{can_be_asked}
 use Rattle.rh_defs.specs.Questions.{begins}
 use Rattle.rh_defs.specs.Order.{with_queue, IsReordered}
-use Rattle.rh_defs.specs.Step.{step}
+use Rattle.rh_defs.specs.Commands.{step}
 use Rattle.rh_defs.specs.Text.{answer_text, first_line, reply_text, fault_text}
 use Rattle.rh_defs.proofs.QuestionLaws.{asked-requeued}
-use Rattle.rh_defs.proofs.OrderSteps.{order-ignored}
+use Rattle.rh_defs.proofs.Steps.{order-ignored}
 use Rattle.rh_figure.specs.Share.{Share}
 use Rattle.rh_figure.specs.Scene.{Before, Marks, no_marks, is_still, before_of, before_task, task_in, marks_of, scene_of}
 use Rattle.rh_figure.specs.Map.{step_lines, command_lines, fault_lines, is_mark, remark_lines}

@@ -2,8 +2,7 @@
 use Rattle.std.specs.Prelude.{ℕ, ◌-◌, not, if◌then◌else◌, List, [], ◌∷◌, ◌++◌, length, take, drop, filter}
 use Rattle.std.specs.List.{range_with_len}
 use Rattle.rh_defs.specs.Files.{FileList}
-use Rattle.rh_defs.specs.Desk.{Desk}
-use Rattle.rh_defs.specs.Commands.{module_area}
+use Rattle.rh_defs.specs.Desk.{Desk, module_area}
 use Rattle.rh_defs.specs.Script.{meaning_desk}
 use Rattle.rh_defs.specs.Runs.{start}
 use Rattle.rh_figure.specs.Share.{Owner, AreaOf, is_owner, Holding, holdings, count_of, Share}

@@ -6,10 +6,9 @@ use Rattle.rh_defs.specs.declared.command.Command.TheVariants as command
 use Rattle.rh_defs.specs.declared.reply.Reply.TheVariants as reply
 use Rattle.rh_defs.specs.Chain.{Granted, or_else}
 use Rattle.rh_defs.specs.Desk.{Desk}
-use Rattle.rh_defs.specs.Commands.{Answer}
-use Rattle.rh_defs.specs.Step.{change, is_refused, step}
+use Rattle.rh_defs.specs.Commands.{Answer, change, is_refused, step}
 use Rattle.rh_defs.proofs.Chains.{OnGrant, granted, refused}
-use Rattle.rh_defs.proofs.OrderSteps.{never-refused}
+use Rattle.rh_defs.proofs.Steps.{never-refused}
 use Rattle.rh_defs.proofs.QuestionLaws.{asked-stays}
 use Rattle.rh_figure.specs.Scene.{is_question}
 use Rattle.rh_figure.specs.Laws.{KeepsStill}

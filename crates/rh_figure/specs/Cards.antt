@@ -11,8 +11,7 @@ use Rattle.rh_defs.specs.Heap.{Segment, Used, Hole, size_of, first_place}
 use Rattle.rh_defs.specs.Slot.{Flex, weight, heap_start, flex_start}
 use Rattle.rh_defs.specs.Messages.{Parcel, code_number, action_of}
 use Rattle.rh_defs.specs.Post.{held_by}
-use Rattle.rh_defs.specs.Desk.{Task}
-use Rattle.rh_defs.specs.Commands.{module_start}
+use Rattle.rh_defs.specs.Desk.{Task, module_start}
 use Rattle.rh_defs.specs.Text.{address, action_name}
 use Rattle.rh_figure.specs.Scene.{Scene, ref_of, message_in}
 use Rattle.rh_figure.specs.Phrases.{Text, size_text, bytes_text, task_name, is_returned}

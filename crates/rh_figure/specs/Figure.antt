@@ -9,8 +9,7 @@ use Rattle.rh_defs.specs.declared.message.Letter.{Letter}
 use Rattle.rh_defs.specs.Slot.{slot_start}
 use Rattle.rh_defs.specs.Messages.{Parcel}
 use Rattle.rh_defs.specs.Post.{held_by}
-use Rattle.rh_defs.specs.Desk.{Task, Made, Scrap, task_pages, module_pages, free_pages}
-use Rattle.rh_defs.specs.Commands.{module_area, module_start, scrap_area}
+use Rattle.rh_defs.specs.Desk.{Task, Made, Scrap, task_pages, module_pages, free_pages, module_area, module_start, scrap_area}
 use Rattle.rh_defs.specs.Listing.{out_item, in_item}
 use Rattle.rh_figure.specs.Share.{Owner, AreaOf, SlotOf, Holding, holdings}
 use Rattle.rh_figure.specs.Scene.{Scene, held_list}

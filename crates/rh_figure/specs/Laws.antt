@@ -7,7 +7,7 @@ use Rattle.rh_defs.specs.Files.{FileList}
 use Rattle.rh_defs.specs.Pieces.{page}
 use Rattle.rh_defs.specs.Slot.{slot_pages}
 use Rattle.rh_defs.specs.Desk.{Desk, Task, module_pages}
-use Rattle.rh_defs.specs.Step.{step}
+use Rattle.rh_defs.specs.Commands.{step}
 use Rattle.rh_defs.specs.Order.{IsReordered}
 use Rattle.rh_defs.specs.Script.{ended, unended}
 use Rattle.rh_figure.specs.Share.{Share}

@@ -7,7 +7,7 @@ use Rattle.rh_defs.specs.Pieces.{page, total}
 use Rattle.rh_defs.specs.Heap.{Segment, Used, Hole, Heap, size_of, first_place, base}
 use Rattle.rh_defs.specs.Slot.{Slot, Flex, flex_weight, weight, slot_start, slot_length, slot_pages}
 use Rattle.rh_defs.specs.Messages.{Parcel}
-use Rattle.rh_defs.specs.Commands.{module_start}
+use Rattle.rh_defs.specs.Desk.{module_start}
 use Rattle.rh_figure.specs.Scene.{Scene, message_in}
 use Rattle.rh_figure.specs.declared.limits.TheConstants.{MOST_SEGMENTS}
 pub use Rattle.rh_figure.specs.declared.piece.Kind.{Kind}

@@ -12,7 +12,7 @@ use Rattle.rh_defs.specs.declared.fault.LineFault.TheVariants.{TooLong, Unended}
 use Rattle.rh_defs.specs.Files.{FileList}
 use Rattle.rh_defs.specs.Line.{Meaning, line_means, longest_line, words_of, word}
 use Rattle.rh_defs.specs.Desk.{Desk}
-use Rattle.rh_defs.specs.Step.{step}
+use Rattle.rh_defs.specs.Commands.{step}
 use Rattle.rh_defs.specs.Runs.{start}
 use Rattle.rh_defs.specs.Text.{reply_text, fault_text, state_name}
 use Rattle.rh_defs.specs.Script.{ended, unended}

@@ -16,7 +16,7 @@ use Rattle.rh_defs.specs.Desk.{Desk, Task, has_name, task_at, free_pages, next_r
 use Rattle.rh_defs.specs.Listing.{block_items}
 use Rattle.rh_defs.specs.Order.{is_to, with_queue}
 use Rattle.rh_defs.specs.Named.{name_in}
-use Rattle.rh_defs.specs.Step.{is_refused}
+use Rattle.rh_defs.specs.Commands.{is_refused}
 use Rattle.rh_figure.specs.Share.{Holding, Share, holdings}
 
 -- ---- before the command

@@ -2,8 +2,7 @@
 use Rattle.std.specs.Prelude.{◌≡◌, ℕ, ◌+◌, ◌<◌, ◌==◌, Bool, false, if◌then◌else◌, List, [], ◌∷◌, ◌++◌, length, map}
 use Rattle.std.specs.List.{enumerate_from}
 use Rattle.rh_defs.specs.Pieces.{total}
-use Rattle.rh_defs.specs.Desk.{Desk, Task, Made, task_pages, module_pages, free_pages}
-use Rattle.rh_defs.specs.Commands.{module_area}
+use Rattle.rh_defs.specs.Desk.{Desk, Task, Made, task_pages, module_pages, free_pages, module_area}
 
 -- who may have pages: an area by its number, or a task's slot by its handle
 pub data Owner : Type 0 where

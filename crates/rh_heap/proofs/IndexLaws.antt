@@ -2,9 +2,8 @@
 use Rattle.rh_heap.proofs.Common.{◌≡◌, ◌≢◌, ℕ, ◌+◌, ◌-◌, ◌*◌, ◌/◌, ◌%◌, ◌<◌, ◌≤◌, inl, inr, Bool, true, false, List, [], ◌∷◌, ◌++◌, length, get_or, refl, sym}
 use Rattle.rh_heap.proofs.Common.{ap, subst, ◌∙◌, append_assoc, arith, None, cases_lt, append-nil, word, total, first_at, NonePass, Segment, Used, Hole, Heap}
 use Rattle.rh_heap.proofs.Common.{IsTidy, size_of, base, is_block_at, block_at, Stand, Spells, HasRoom, LinksTo, last_link, HasRoom-from_tidy, HasRoom-append}
-use Rattle.rh_heap.proofs.Common.{total-append, tidy_before, tidy_behind_used, first_at-none, first_at-found, eqb_same, no_segments, HasNone}
+use Rattle.rh_heap.proofs.Common.{total-append, tidy_before, tidy_behind_used, first_at-none, first_at-found, eqb_same, no_segments, HasNone, USED, HOLES, BITS}
 use Rattle.rh_heap.proofs.Common.{last_link-append, last_link-none, Stand-split, GapIs, no_gap, a_gap, FoundBlock, bit, used_at, hole_at, IsIndex, LastBit}
-use Rattle.rh_heap.proofs.Common.{USED, HOLES, BITS}
 use Rattle.std.proofs.lemmas.Nat.Bits.{bit_at-lt}
 use Rattle.rh_defs.proofs.HeapStretch.{Await-from_link}
 use Rattle.rh_heap.specs.Starts.{LinkBelow, no_hole, a_hole}

@@ -1,14 +1,13 @@
 -- A block that moves.
 use Rattle.rh_heap.proofs.Common.{◌≡◌, ℕ, zero, suc, ◌+◌, ◌-◌, ◌%◌, ◌<◌, ◌≤◌, ◌⊎◌, inl, inr, Bool, false, true, cond, eqb, List, [], ◌∷◌, ◌++◌, length}
 use Rattle.rh_heap.proofs.Common.{replicate, refl, sym, ap, subst, ◌∙◌, append_assoc, arith, Option, Some, None, IfSome, Ok, option_map, word, part}
-use Rattle.rh_heap.proofs.Common.{SameOutside, total, Split, first_at, Segment, Used, Hole, Heap, Placed, IsTidy, size_of, bytes_of, base, with_hole, fitted}
-use Rattle.rh_heap.proofs.Common.{hole_for, placed, release, shortage_in, block_at, is_block_at, released_at, way_to, resized_by, segment_size, zeros, Stand}
+use Rattle.rh_heap.proofs.Common.{SameOutside, total, Split, first_at, Segment, Used, Hole, Heap, Placed, IsTidy, size_of, base, with_hole, fitted}
+use Rattle.rh_heap.proofs.Common.{hole_for, placed, release, shortage_in, block_at, is_block_at, released_at, way_to, resized_by, zeros, Stand}
 use Rattle.rh_heap.proofs.Common.{Spells, part_more, HasRoom-from_tidy, HasRoom-append, total-append, tidy_behind_used, cond_true, eqb_same, Stand-split}
 use Rattle.rh_heap.proofs.Common.{released_at-some, link_place, HasStretch-kept, opened, closed, FoundBlock, Memory, heap_of-Spells, SpellsIn, bytes_in}
 use Rattle.rh_heap.proofs.Common.{heap_in, Span, WayIs, WithBlock, resized_in, into_hole, Spot, HasRoom, last_link, LinksTo}
 use Rattle.rh_defs.specs.Pieces as pieces
-use Rattle.rh_defs.specs.Heap.{place_after, is_hole_for, placed_in, end_for, block_room, new_size, resize_need, resized, resize, resize_found, need_at}
-use Rattle.rh_defs.specs.Heap.{need_found}
+use Rattle.rh_defs.specs.Heap.{place_after, is_hole_for, placed_in, end_for}
 use Rattle.rh_defs.specs.Heap as heap
 use Rattle.rh_defs.proofs.BytesLaws.{part-part, part-zeros}
 use Rattle.rh_defs.proofs.HeapLists.{tidy_other, IsCut, first_at-cuts}

@@ -1,10 +1,9 @@
 -- A block that gets another size in its place.
 use Rattle.rh_heap.proofs.Common.{◌≡◌, ℕ, ◌+◌, ◌-◌, ◌%◌, ◌<◌, ◌≤◌, false, true, List, [], ◌∷◌, ◌++◌, length, take, replicate, refl, sym, ap, subst, ◌∙◌}
 use Rattle.rh_heap.proofs.Common.{append_assoc, arith, length-append, length-take, append-nil, length-replicate, word, part, SameOutside, total, Segment}
-use Rattle.rh_heap.proofs.Common.{Used, Hole, Heap, Placed, IsTidy, size_of, bytes_of, base, with_hole, fitted, way_to, resized_by, Stand, Spells, part_more}
+use Rattle.rh_heap.proofs.Common.{Used, Hole, Heap, IsTidy, size_of, base, with_hole, fitted, way_to, resized_by, Stand, Spells, part_more, HasRoom, LinksTo}
 use Rattle.rh_heap.proofs.Common.{length-part, HasRoom-from_tidy, HasRoom-append, total-append, tidy_behind_used, tidy_behind_hole, tidy_front, tidy_after}
 use Rattle.rh_heap.proofs.Common.{Stand-split, opened, StretchBetween, IsStretch, Settles, FoundBlock, WayIs, into_hole, WithBlock, resized_in, Stretch, Spot}
-use Rattle.rh_heap.proofs.Common.{HasRoom, LinksTo}
 use Rattle.std.proofs.lemmas.List.{take_all, take-append-le}
 use Rattle.rh_defs.specs.Heap.{joined}
 use Rattle.rh_defs.specs.Heap as heap

@@ -1,6 +1,6 @@
 -- The ways in which a block gets another size.
 use Rattle.rh_heap.proofs.Common.{◌≡◌, ℕ, ◌+◌, ◌<◌, ◌≤◌, ◌≢◌, Bool, true, false, cond, eqb, leb, ltb, List, [], ◌∷◌, ◌++◌, length, refl, sym, ap, subst, ◌∙◌}
-use Rattle.rh_heap.proofs.Common.{arith, Option, Some, None, IfSome, word, part, total, Split, Segment, Used, Hole, Heap, IsTidy, size_of, base, block_at}
+use Rattle.rh_heap.proofs.Common.{arith, Option, Some, None, IfSome, word, part, total, Split, Segment, Used, Hole, Heap, size_of, base}
 use Rattle.rh_heap.proofs.Common.{hole_for, way_to, Stand, Spells, total-append, cond_true, cond_false, eqb_same, eqb_apart, leb_no, Stand-split, opened}
 use Rattle.rh_heap.proofs.Common.{FoundBlock, FoundHole, WayIs, into_hole, WithBlock, Spot, Gap, HasRoom, Await, LinksTo, HasStretch}
 use Rattle.std.proofs.lemmas.Bool.Decides.{nat_tests}

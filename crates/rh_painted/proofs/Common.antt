@@ -21,7 +21,7 @@ pub use Rattle.rh_defs.specs.Listing.{block_items}
 pub use Rattle.rh_defs.specs.Messages.{Parcel}
 pub use Rattle.rh_defs.specs.Order.{IsReordered, with_queue}
 pub use Rattle.rh_defs.specs.Slot.{flex_start, heap_start}
-pub use Rattle.rh_defs.specs.Step.{step}
+pub use Rattle.rh_defs.specs.Commands.{step}
 pub use Rattle.rh_defs.specs.Text.{fault_text}
 pub use Rattle.rh_defs.specs.declared.command.Command.{Command}
 pub use Rattle.rh_defs.specs.declared.fault.LineFault.{LineFault}

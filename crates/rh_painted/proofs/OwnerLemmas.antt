@@ -5,8 +5,7 @@ use Rattle.rh_painted.proofs.Common.{length-append, length-map, Desk, Task, modu
 use Rattle.rh_painted.proofs.Common.{IsShared, SlotOf, count_of, holdings, change_item, IsTaskSeen, at-some, owned-few, seen-fixed, seen-slot, who_seen}
 use Rattle.std.proofs.lemmas.List.FromFn.{length-enumerate_from}
 use Rattle.std.proofs.lemmas.Option.{slice_get_past}
-use Rattle.rh_defs.specs.Commands.{module_area}
-use Rattle.rh_defs.specs.Desk.{Made, task_pages}
+use Rattle.rh_defs.specs.Desk.{module_area, Made, task_pages}
 use Rattle.rh_defs.specs.Laws.{IsDesk}
 use Rattle.rh_figure.specs.Changes.{taken_pages}
 use Rattle.rh_figure.specs.Phrases.{name_or}

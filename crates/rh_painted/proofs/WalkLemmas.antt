@@ -4,7 +4,7 @@ use Rattle.rh_painted.proofs.Common.{IsReordered, with_queue, step, fault_text, 
 use Rattle.rh_painted.proofs.Common.{Place, Read, Stage, after_read, AreShared, at_desk, Walk, behind_read, fault_happened, happened_text, read_text}
 use Rattle.rh_painted.proofs.Common.{sheet_lines, Painter, walk_in}
 use Rattle.rh_defs.specs.declared.reply.Reply.{Reply}
-use Rattle.rh_defs.proofs.OrderSteps.{order-ignored}
+use Rattle.rh_defs.proofs.Steps.{order-ignored}
 use Rattle.rh_figure.specs.Scene.{before_of, is_still, no_marks}
 use Rattle.rh_figure.proofs.Alike.{before-alike, marks-alike, scene-alike, text-alike}
 use Rattle.rh_drawn.proofs.MapLemmas.{SamePlaces, after_alike, shared_alike}

@@ -1,7 +1,6 @@
 -- Owners of pages as they are seen.
 use Rattle.std.specs.Prelude.{◌≡◌, ℕ, ◌==◌, ◌++◌, if◌then◌else◌, codes, slice_get, Some}
-use Rattle.rh_defs.specs.Desk.{Desk}
-use Rattle.rh_defs.specs.Commands.{module_area}
+use Rattle.rh_defs.specs.Desk.{Desk, module_area}
 use Rattle.rh_draw.specs.declared.tints.Tint.{Tint}
 use Rattle.rh_draw.specs.declared.tints.Tint.TheVariants as tint
 use Rattle.rh_figure.specs.Phrases.{Text, area_name, owner_name}

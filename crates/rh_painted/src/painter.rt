@@ -6,7 +6,7 @@ ghost use Rattle.std.specs.Option.{option_map};
 ghost use Rattle.rh_defs.specs.Line.{words_of};
 ghost use Rattle.rh_defs.specs.Order.{IsReordered};
 ghost use Rattle.rh_defs.specs.Range.{in_range};
-ghost use Rattle.rh_defs.specs.Step.{step};
+ghost use Rattle.rh_defs.specs.Commands.{step};
 ghost use Rattle.rh_drawn.specs.Replies.{Excerpts};
 ghost use Rattle.rh_figure.specs.Scene.{Before, Marks, is_still as is_still_of, scene_of};
 ghost use Rattle.rh_figure.specs.Share.{Share};

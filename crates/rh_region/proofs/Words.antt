@@ -1,7 +1,6 @@
 -- Machine words own no memory: what says of one that it is a number, a pointer or `()` is made of nothing.
 use Rattle.rh_region.proofs.Common.{◌≡◌, refl, sym, ap, List, [], ◌∷◌, ℕ, suc, ◌<◌, ◌^◌, Ura, T, Fml, ftrue, fsep, ent, emp, w64, Val, vunit, has_ty, WT}
-use Rattle.rh_region.proofs.Common.{Logic, sem, Item, ‵, ◌$◌, ◌∵◌, !, qed, use0, fjoin, feq_i, done, usize, unit, uint_vals, Ptr, RawPtr, rawptr_vals}
-use Rattle.rh_region.proofs.Common.{nothing}
+use Rattle.rh_region.proofs.Common.{Logic, sem, Item, ‵, ◌$◌, ◌∵◌, !, qed, use0, fjoin, feq_i, done, usize, unit, uint_vals, Ptr, RawPtr, rawptr_vals, nothing}
 use mathlib.Core.Path.{subst}
 use Prim.Native.Nat.{zero}
 use mir.Syntax.{ty_unit}

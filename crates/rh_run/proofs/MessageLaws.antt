@@ -1,5 +1,5 @@
 -- The messages of a world's post as they are listed, and those of its desk in a list.
-use Rattle.std.proofs.Common.{◌≡◌, ℕ, Bool, true, false, refl, ap, ap₂, sym, ◌∙◌, List, [], ◌∷◌, ◌++◌, Option, Some, None}
+use Rattle.std.proofs.Common.{◌≡◌, ℕ, Bool, true, false, refl, ap₂, sym, ◌∙◌, List, [], ◌∷◌, ◌++◌, Option, Some, None}
 use Rattle.std.specs.Prelude.{◌==◌, IfSome, filter, map}
 use Rattle.std.specs.List.{AllByRecursion, flat_map}
 use Rattle.std.proofs.lemmas.Bool.{eqb-true}
@@ -11,7 +11,7 @@ use Rattle.rh_defs.specs.Post.{Seat}
 use Rattle.rh_defs.specs.Desk.{Desk}
 use Rattle.rh_figure.specs.Scene as scene
 use Rattle.rh_sight.specs.Messages.{item_of, message_items}
-use Rattle.rh_wimp.specs.Chains.{held_list, row_of, rows_of}
+use Rattle.rh_wimp.specs.Chains.{held_list, row_of}
 use Rattle.rh_wimp.specs.Items as listed
 
 -- those that wait for a task are for it

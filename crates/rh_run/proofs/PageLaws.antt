@@ -1,7 +1,6 @@
 -- The numbers of a store's pages are those of its pool.
-use Rattle.std.proofs.Common.{◌≡◌, ℕ, zero, suc, ◌+◌, ◌*◌, ◌<◌, ◌≤◌, ap, arith, inl, inr, List, [], ◌∷◌, length, get_or, refl, sym, take, ◌∙◌, ◌++◌}
+use Rattle.std.proofs.Common.{◌≡◌, ℕ, zero, suc, ◌+◌, ◌*◌, ◌<◌, ◌≤◌, ap, arith, inl, inr, List, [], ◌∷◌, length, get_or, refl, sym, take, ◌∙◌, ◌++◌, eq-eqb}
 use Rattle.std.specs.Prelude.{cond}
-use Rattle.std.proofs.Common.{eq-eqb}
 use Rattle.std.proofs.lemmas.Bool.{cases_lt}
 use Rattle.std.proofs.lemmas.List.{append_assoc, take_all, take_more}
 use Rattle.rh_defs.specs.declared.sizes.TheConstants.{MAX_PAGES, PAGE}

@@ -12,8 +12,8 @@ use Rattle.rh_defs.specs.declared.listing.SegmentItem.{SegmentItem}
 use Rattle.rh_defs.specs.declared.refusal.Refusal.{Refusal}
 use Rattle.rh_defs.specs.declared.refusal.Refusal.TheVariants.{BadRange, NotABlock, NoTask}
 use Rattle.rh_defs.specs.Chain.{Granted, found_or}
-use Rattle.rh_defs.specs.Commands.{module_start, own_block}
-use Rattle.rh_defs.specs.Desk.{Desk, Task, task_at}
+use Rattle.rh_defs.specs.Commands.{own_block}
+use Rattle.rh_defs.specs.Desk.{module_start, Desk, Task, task_at}
 use Rattle.rh_defs.specs.Heap.{Heap, Hole, IsTidy, Segment, Used, block_at, bytes_of, is_block_at, place_after, size_of}
 use Rattle.rh_defs.specs.Laws.{IsDesk}
 use Rattle.rh_defs.specs.Listing.{block_items, block_items_from, segment_items_from}

@@ -1,5 +1,5 @@
 -- Bytes that are written part by part, records, and whole answers.
-use Rattle.rh_script.proofs.Common.{◌≡◌, ◌≢◌, ℕ, suc, Bool, true, false, ◌+◌, List, [], ◌∷◌, ◌++◌, length, take, drop, Some, None, Result, Ok, Err, get_or}
+use Rattle.rh_script.proofs.Common.{◌≡◌, ◌≢◌, ℕ, suc, true, false, ◌+◌, List, [], ◌∷◌, ◌++◌, length, take, drop, Some, None, Result, Ok, Err, get_or}
 use Rattle.rh_script.proofs.Common.{◌<◌, ◌≤◌, refl, sym, ◌∙◌, ap, append-nil, subst, arith, Option, find, map, codes, if◌then◌else◌, option_map, SegmentItem}
 use Rattle.rh_script.proofs.Common.{decimal, area_items, out_item, in_item, flat_map, IsErr, take-append-drop, take_all, ok, area_line, block_line}
 use Rattle.rh_script.proofs.Common.{record_line, segment_line, Output, Takes, Breaks, Puts, takes_none, takes_more, takes_breaks, breaks_before, puts_stops}

@@ -1,6 +1,6 @@
 -- What a desk's readers give, in terms of what is printed of a named task's slot.
 use Rattle.rh_script.proofs.Common.{◌≡◌, ℕ, ◌+◌, ◌≤◌, ◌<◌, ◌^◌, Bool, true, false, cond, List, [], ◌∷◌, length, take, drop, Option, Some, None, Result, Ok}
-use Rattle.rh_script.proofs.Common.{Err, refl, sym, ap, ◌∙◌, arith, MatchResult, IfOk, IfErr, nat_lt, ◌==◌, find, option_map, tests, SegmentItem}
+use Rattle.rh_script.proofs.Common.{Err, refl, ap, ◌∙◌, arith, MatchResult, IfOk, IfErr, nat_lt, ◌==◌, find, option_map, tests, SegmentItem}
 use Rattle.rh_script.proofs.Common.{segment_items_at, heap_of_named, bytes_of_named}
 use Rattle.std.specs.List.{AllByRecursion}
 use Rattle.rh_defs.specs.declared.refusal.Refusal.{Refusal}

@@ -1,9 +1,8 @@
 -- Writes behind what is held, one after another.
-use Rattle.std.proofs.Common.{◌≡◌, List, ℕ, [], ◌++◌, length, take, Result, Ok, Err, Some, append_assoc, append-nil, sym, ◌∙◌, ap, subst, Option}
+use Rattle.std.proofs.Common.{◌≡◌, List, ℕ, [], ◌++◌, length, take, Result, Ok, Err, Some, append_assoc, append-nil, sym, ◌∙◌, ap, subst, Option, arith}
 use Rattle.std.specs.Result.{IsErr}
 use Rattle.std.specs.Prelude.{OnOk, OnErr}
 use Rattle.std.proofs.lemmas.List.{take-append-le, take_all}
-use Rattle.std.proofs.Common.{arith}
 use Rattle.std.specs.Io.KnownBytes.{Appends}
 use Rattle.rh_lines.specs.Flow.{Output, Takes, Breaks, Puts}
 use Rattle.rh_lines.proofs.FlowLemmas.{takes_none, takes_more, takes_breaks, breaks_before}

@@ -7,7 +7,7 @@ use Rattle.rh_defs.specs.Line.{longest_line}
 use Rattle.rh_defs.specs.Desk.{Desk}
 use Rattle.rh_lines.specs.Flow.{Input, Output, Takes, Breaks}
 use Rattle.rh_lines.proofs.FlowLemmas.{takes_none, takes_more, takes_breaks, breaks_before}
-use Rattle.rh_defs.specs.Script.{ended, unended, script_text, rest_text}
+use Rattle.rh_defs.specs.Script.{ended, unended, script_text, rest_text, is_bad}
 use Rattle.rh_session.specs.declared.session.Session.{Session}
 use Rattle.rh_session.specs.Kept.{IsState}
 use Rattle.rh_feed.specs.Lines.{kept}
@@ -18,7 +18,6 @@ use borrow.Author.Tests.{tests}
 use Rattle.std.proofs.lemmas.List.{take_all}
 use Rattle.rh_defs.specs.Text.{fault_text}
 use Rattle.rh_defs.specs.declared.fault.LineFault.TheVariants.{TooLong}
-use Rattle.rh_defs.specs.Script.{is_bad}
 use Rattle.rh_session.specs.declared.status.Status.{Status}
 use Rattle.rh_session.specs.Outcome.{Answered, Finished, BrokeOff, status_of}
 use Rattle.rh_feed.proofs.LineLemmas.{is_above, split_at, still_long}

@@ -4,7 +4,7 @@ ghost use Rattle.std.specs.Prelude.{◌≡◌, IsTrue};
 ghost use Rattle.rh_defs.specs.Desk.{Desk};
 ghost use Rattle.rh_defs.specs.Questions.{asked};
 ghost use Rattle.rh_defs.specs.Range.{in_range};
-ghost use Rattle.rh_defs.specs.Step.{step};
+ghost use Rattle.rh_defs.specs.Commands.{step};
 ghost use Rattle.rh_defs.specs.Text.{answer_text};
 ghost use Rattle.rh_lines.specs.Flow.{Puts};
 

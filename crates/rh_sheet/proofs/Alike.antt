@@ -6,9 +6,9 @@ use Rattle.rh_defs.specs.declared.reply.Reply.{Reply}
 use Rattle.rh_defs.specs.declared.fault.LineFault.{LineFault}
 use Rattle.rh_defs.specs.Desk.{Desk}
 use Rattle.rh_defs.specs.Order.{IsReordered}
-use Rattle.rh_defs.specs.Step.{step}
+use Rattle.rh_defs.specs.Commands.{step}
 use Rattle.rh_defs.specs.Text.{fault_text}
-use Rattle.rh_defs.proofs.OrderSteps.{order-ignored}
+use Rattle.rh_defs.proofs.Steps.{order-ignored}
 use Rattle.rh_figure.specs.Share.{Share}
 use Rattle.rh_figure.specs.Scene.{Before, no_marks, is_still, before_of, marks_of, scene_of}
 use Rattle.rh_figure.proofs.Alike.{scene-alike, before-alike, marks-alike, text-alike}

@@ -6,8 +6,7 @@ use Rattle.rh_defs.specs.declared.sizes.TheConstants.{C_HEAP_PLACE, MAX_PAGES}
 use Rattle.rh_defs.specs.Pieces.{page}
 use Rattle.rh_defs.specs.Heap.{first_place, base}
 use Rattle.rh_defs.specs.Slot.{Slot, slot_start, slot_length}
-use Rattle.rh_defs.specs.Desk.{Task}
-use Rattle.rh_defs.specs.Commands.{module_area, module_start}
+use Rattle.rh_defs.specs.Desk.{Task, module_area, module_start}
 use Rattle.rh_defs.specs.Listing.{block_items}
 use Rattle.rh_figure.specs.Share.{Owner, AreaOf, SlotOf, count_of}
 use Rattle.rh_figure.specs.Scene.{Scene}

@@ -1,8 +1,7 @@
 -- How the owners of pages are told apart: by a tag of three letters, and by a tint.
 use Rattle.std.specs.Prelude.{ℕ, ◌-◌, ◌%◌, ◌==◌, if◌then◌else◌, ◌++◌, length, take, drop, codes}
 use Rattle.std.specs.Fmt.{decimal}
-use Rattle.rh_defs.specs.Desk.{Desk}
-use Rattle.rh_defs.specs.Commands.{module_area}
+use Rattle.rh_defs.specs.Desk.{Desk, module_area}
 use Rattle.rh_figure.specs.Share.{Owner, AreaOf, SlotOf}
 use Rattle.rh_figure.specs.Phrases.{Text, task_name}
 use Rattle.rh_sheet.specs.declared.sizes.TheConstants.{TAG_LETTERS, TINTS}

@@ -3,8 +3,7 @@ use Rattle.std.specs.Prelude.{ℕ, ◌+◌, ◌-◌, ◌==◌, nat_lt, ◌||◌,
 use Rattle.std.specs.List.{concat, flat_map, join_by}
 use Rattle.std.specs.Fmt.{decimal}
 use Rattle.rh_defs.specs.Bytes.{space}
-use Rattle.rh_defs.specs.Desk.{Task, module_pages}
-use Rattle.rh_defs.specs.Commands.{module_area}
+use Rattle.rh_defs.specs.Desk.{Task, module_pages, module_area}
 use Rattle.rh_defs.specs.Script.{ended}
 use Rattle.rh_figure.specs.Scene.{Scene}
 use Rattle.rh_figure.specs.Phrases.{Text, cut, where_so, pages_text, area_name}

@@ -2,8 +2,7 @@
 use Rattle.rh_sight.proofs.Common.{◌≡◌, ℕ, zero, suc, ◌+◌, ◌-◌, ◌*◌, ◌<◌, ◌≤◌, Bool, true, false, refl, ap, sym, subst, ◌∙◌, arith, List, [], ◌∷◌, ◌++◌}
 use Rattle.rh_sight.proofs.Common.{length, take, drop, Option, Some, None, slice_get, IfSome, AllByRecursion, option_map, append_assoc, length-append}
 use Rattle.rh_sight.proofs.Common.{take-append-drop, SEGMENTS_AT_ONCE, SegmentItem, total, Heap, Segment, Used, Hole, size_of, place_after, IsDesk, Desk}
-use Rattle.rh_sight.proofs.Common.{Task, Made, task_pages, segment_item, segment_items_from, total-append, Census, HeapOf, heap_seen, heap_start_of, ComesTo}
-use Rattle.rh_sight.proofs.Common.{item_end}
+use Rattle.rh_sight.proofs.Common.{Task, task_pages, segment_items_from, total-append, Census, HeapOf, heap_seen, heap_start_of, ComesTo, item_end}
 use Rattle.rh_defs.specs.Pieces.{page}
 use Rattle.rh_defs.specs.Heap.{IsHeap, IsTidy}
 use Rattle.rh_defs.specs.Slot.{IsSlot, slot_length}

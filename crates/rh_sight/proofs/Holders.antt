@@ -11,9 +11,8 @@ use Rattle.std.proofs.lemmas.List.FromFn.{length-enumerate_from}
 use Rattle.std.proofs.lemmas.Option.{get_or_from_slice_get, slice_get-get_or, slice_get-map}
 use Rattle.rh_defs.specs.declared.sizes.TheConstants.{FIXED_AREAS}
 use Rattle.rh_defs.specs.Forms.{first_made, most_pages}
-use Rattle.rh_defs.specs.Commands.{module_area, most_made}
+use Rattle.rh_defs.specs.Desk.{module_area, most_made, module_pages, used_pages}
 use Rattle.rh_defs.specs.Laws.{Rise}
-use Rattle.rh_defs.specs.Desk.{module_pages, used_pages}
 use Rattle.rh_figure.specs.Share.{Owner, AreaOf, SlotOf, IsShared, is_owner}
 use Rattle.rh_sight.specs.declared.sight.PagesOf.{PagesOf}
 use Rattle.rh_sight.specs.declared.sight.PagesOf.TheVariants as pages

@@ -4,7 +4,7 @@ use Rattle.rh_sight.proofs.Common.{take, drop, get_or, Option, Some, None, slice
 use Rattle.rh_sight.proofs.Common.{SEGMENTS_AT_ONCE, BlockItem, SegmentItem, total, Heap, Segment, Used, Hole, first_place, place_after, size_of}
 use Rattle.rh_sight.proofs.Common.{segment_item, segment_items_from, total-append, Piece, Legend, more_pieces, segment_pieces, Scene, HeapOf, heap_start_of}
 use Rattle.rh_sight.proofs.Common.{ComesTo, item_end, item_pieces, item_weight}
-use Rattle.std.proofs.lemmas.List.{append-nil, drop-take, drop_all, drop_more, take-take, take_more}
+use Rattle.std.proofs.lemmas.List.{drop-take, drop_more, take-take, take_more}
 use Rattle.rh_defs.specs.Slot.{Flex, flex_weight, weight}
 use Rattle.rh_defs.specs.Listing.{block_items_from}
 use Rattle.rh_figure.specs.declared.piece.Kind.TheVariants.{FlexBlock, MoreSegments}

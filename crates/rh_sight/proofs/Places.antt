@@ -1,7 +1,6 @@
 -- Lists that are walked through by place.
 use Rattle.rh_sight.proofs.Common.{◌≡◌, ℕ, zero, suc, ◌+◌, ◌<◌, ◌≤◌, Bool, true, false, refl, ap, sym, ◌∙◌, arith, List, [], ◌∷◌, ◌++◌, length, take, drop}
-use Rattle.rh_sight.proofs.Common.{get_or, Option, Some, None, slice_get, find, map, total, total-append, append_assoc, map-append, take_all}
-use Rattle.rh_sight.proofs.Common.{slice_get_within}
+use Rattle.rh_sight.proofs.Common.{get_or, Some, None, slice_get, find, map, total, total-append, append_assoc, map-append, take_all, slice_get_within}
 use Rattle.std.proofs.lemmas.List.{drop_more, drop_all, take_more}
 use Rattle.std.proofs.lemmas.Option.{get_or_from_slice_get}
 

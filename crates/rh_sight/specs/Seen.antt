@@ -8,8 +8,7 @@ use Rattle.rh_defs.specs.Heap.{Segment, Used, Heap, place_after}
 use Rattle.rh_defs.specs.Listing.{block_items}
 use Rattle.rh_defs.specs.Slot.{Flex, heap_start}
 use Rattle.rh_defs.specs.Post.{post_is_message}
-use Rattle.rh_defs.specs.Desk.{Desk, Task, Made, Scrap, task_pages, module_pages}
-use Rattle.rh_defs.specs.Commands.{module_area, module_start}
+use Rattle.rh_defs.specs.Desk.{Desk, Task, Made, Scrap, task_pages, module_pages, module_area, module_start}
 use Rattle.rh_figure.specs.Share.{Owner, AreaOf, SlotOf}
 use Rattle.rh_sight.specs.declared.sight.TaskSight.{TaskSight}
 use Rattle.rh_sight.specs.declared.sight.HeapOf.{HeapOf}

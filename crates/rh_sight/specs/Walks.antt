@@ -6,7 +6,7 @@ use Rattle.rh_defs.specs.declared.listing.SegmentItem.TheVariants as segment
 use Rattle.rh_defs.specs.Pieces.{total}
 use Rattle.rh_defs.specs.Heap.{Segment, Heap, size_of, place_after}
 use Rattle.rh_defs.specs.Slot.{slot_start, flex_weight}
-use Rattle.rh_defs.specs.Commands.{module_start}
+use Rattle.rh_defs.specs.Desk.{module_start}
 use Rattle.rh_figure.specs.Scene.{Scene}
 use Rattle.rh_figure.specs.declared.piece.Kind.{Kind}
 use Rattle.rh_figure.specs.declared.piece.Piece.{Piece}

@@ -3,7 +3,7 @@
 ghost use Rattle.std.specs.Prelude.{◌≡◌, ℕ, Some};
 ghost use Rattle.std.specs.Option.{option_map};
 ghost use Rattle.rh_defs.specs.Desk.{task_at};
-ghost use Rattle.rh_defs.specs.Step.{is_refused};
+ghost use Rattle.rh_defs.specs.Commands.{is_refused};
 ghost use Rattle.rh_figure.specs.Scene.{Before, buffer_of as buffer_of_sent, heap_mark as heap_mark_of, is_question as is_question_of, is_still as is_still_of, marks_for, marks_of as marks_of_desk, module_mark as module_mark_of, no_marks, put_mark as put_mark_of, sent_by as sent_by_task, taken_mark as taken_mark_of};
 ghost use Rattle.rh_sight.specs.Seen.{letter_seen};
 ghost use Rattle.rh_sight.specs.Steps.{IsSender, block_seen, marks_seen};

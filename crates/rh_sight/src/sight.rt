@@ -2,12 +2,11 @@
 
 ghost use Rattle.std.specs.Prelude.{◌≡◌, ◌≤◌, ◌<◌, ◌+◌, ◌++◌, ℕ, List, IfNone, IfSome, IsSome, None, Some, length, slice_get, take};
 ghost use Rattle.std.specs.Option.{option_map};
-ghost use Rattle.rh_defs.specs.Commands.{most_made};
+ghost use Rattle.rh_defs.specs.Desk.{most_made, Desk, Task, free_pages as free_pages_on, most_tasks, next_ref as next_ref_on};
 ghost use Rattle.rh_defs.specs.declared.sizes.TheConstants.{FIXED_AREAS, SEGMENTS_AT_ONCE};
 ghost use Rattle.rh_defs.specs.Heap.{Segment, place_after};
 ghost use Rattle.rh_defs.specs.Laws.{IsDesk};
 ghost use Rattle.rh_defs.specs.Listing.{block_items, segment_items_from};
-ghost use Rattle.rh_defs.specs.Desk.{Desk, Task, free_pages as free_pages_on, most_tasks, next_ref as next_ref_on};
 ghost use Rattle.rh_defs.specs.Records.{most_records};
 ghost use Rattle.rh_figure.specs.Share.{IsShared};
 

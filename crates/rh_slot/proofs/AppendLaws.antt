@@ -1,11 +1,10 @@
 -- A block gets bytes at its end.
-use Rattle.rh_slot.proofs.Common.{◌≡◌, ℕ, ◌+◌, ◌-◌, ◌/◌, ◌*◌, ◌<◌, ◌≤◌, ◌≢◌, ◌⊎◌, inl, inr, Bool, true, false, List, [], ◌∷◌, ◌++◌, length, replicate, take}
+use Rattle.rh_slot.proofs.Common.{◌≡◌, ℕ, ◌+◌, ◌-◌, ◌/◌, ◌*◌, ◌<◌, ◌≤◌, ◌≢◌, ◌⊎◌, inl, inr, List, [], ◌∷◌, ◌++◌, length, take, in_above, Shifted, FoundAt}
 use Rattle.rh_slot.proofs.Common.{drop, ltb, refl, sym, ap, subst, ◌∙◌, arith, length-replicate, take_all, append-nil, cases_eq, cases_lt, Ok, Err, unwrap_or}
 use Rattle.rh_slot.proofs.Common.{PAGE, NoBlock, NoRoom, word, part, put, SameIn, SameOutside, Granted, ◌>>=◌, refuse_if, found_or, fitted, Memory, OnlyArea}
 use Rattle.rh_slot.proofs.Common.{bytes, total, pages_for, zeros, written, Split, Flex, Slot, weight, flex_weight, slot_length, slot_pages, IsFree}
-use Rattle.rh_slot.proofs.Common.{with_bytes, lacks_room, slot_block, slot_put, Lie, SlotWords, flex_place, heap_place, word_same, part_same, put_outside}
+use Rattle.rh_slot.proofs.Common.{with_bytes, lacks_room, slot_block, slot_put, Lie, SlotWords, heap_place, word_same, part_same, put_outside}
 use Rattle.rh_slot.proofs.Common.{SameOutside-self, refuse_if-true, refuse_if-false, ltb_yes, ltb_no, block_of-at, part_of, wider, same_both, in_below}
-use Rattle.rh_slot.proofs.Common.{in_above, Shifted, FoundAt, Found}
 use Rattle.std.proofs.lemmas.List.{take_at, drop_all}
 use Rattle.std.proofs.Math.ListN.{length-append}
 use Rattle.rh_defs.specs.declared.refusal.Refusal.TheVariants.{BadRange}

@@ -2,8 +2,8 @@
 use Rattle.rh_slot.proofs.Common.{◌≡◌, ◌≢◌, ℕ, ◌+◌, ◌-◌, ◌≤◌, inl, inr, Bool, true, false, ltb, eqb, List, [], ◌∷◌, ◌++◌, length, refl, sym, ap, subst, ◌∙◌}
 use Rattle.rh_slot.proofs.Common.{arith, cases_eq, IfSome, cond, Option, Some, None, Result, Ok, Err, IsOk, ok_or, ℤ, pos, negsuc, SFits, heap_place}
 use Rattle.rh_slot.proofs.Common.{SameOutside, Memory, OnlyArea, bytes, total, pages_for, zeros, moved, Split, Granted, left_of, no_answer, ◌>>=◌, refuse_if}
-use Rattle.rh_slot.proofs.Common.{found_or, Segment, Used, Hole, Heap, need, claim_growing, raised, size_of, bytes_of, fitted, block_at, base, Spells, weight}
-use Rattle.rh_slot.proofs.Common.{flex_weight, slot_length, slot_pages, with_block, heap_block_at, heap_start, Refusal, cond_true, cond_false, eqb_same}
+use Rattle.rh_slot.proofs.Common.{found_or, Segment, Used, Hole, Heap, need, claim_growing, raised, size_of, bytes_of, fitted, block_at, base, Spells}
+use Rattle.rh_slot.proofs.Common.{flex_weight, slot_length, slot_pages, heap_block_at, heap_start, Refusal, cond_true, cond_false, eqb_same}
 use Rattle.rh_slot.proofs.Common.{eqb_apart, IsCut, first_at-cuts, OnlyArea-from_Edited, heap_in, Span, IsSlot, SpellsIn, slot_in, Leaves, lengthened}
 use Rattle.rh_slot.proofs.Common.{SpellsSlot-with_heap}
 use Rattle.std.proofs.Common.{w32}

@@ -2,12 +2,11 @@
 use Rattle.rh_slot.proofs.Common.{◌≡◌, ◌≢◌, ℕ, ◌+◌, ◌*◌, ◌/◌, ◌<◌, ◌≤◌, inl, inr, Bool, true, false, ltb, eqb, List, length, refl, sym, ap, subst, ◌∙◌, arith}
 use Rattle.rh_slot.proofs.Common.{cases_eq, cases_lt, ◌-◌, Option, Some, None, Ok, Err, IsErr, IsErrOf, ◌↔◌, ℤ, pos, PAGE, SameIn, SameOutside, Memory}
 use Rattle.rh_slot.proofs.Common.{IsOpen, Resized, bytes, total, pages_for, zeros, moved, Split, Granted, ◌>>=◌, refuse_if, Segment, Heap, need}
-use Rattle.rh_slot.proofs.Common.{claim_growing, raised, base, Spells, Flex, weight, slot_length, slot_pages, with_block, heap_block_at, HaveAnchors}
+use Rattle.rh_slot.proofs.Common.{claim_growing, raised, base, Spells, Flex, weight, slot_length, Span, heap_in, SpellsIn, slot_in, Row, Shifted, lengthened}
 use Rattle.rh_slot.proofs.Common.{heap_start, Lie, Hang, SlotWords, SpellsSlot, flex_place, heap_place, Refusal, NoRoom, word_same, cond_true, cond_false}
 use Rattle.rh_slot.proofs.Common.{eqb_same, eqb_apart, ltb_yes, ltb_no, part_of, in_below, in_above, Lie-same, Hang-same, Spells-same, SpellsSlot-with_heap}
-use Rattle.rh_slot.proofs.Common.{Span, heap_in, SpellsIn, slot_in, Row, Shifted, lengthened}
 use Rattle.rh_defs.specs.Heap.{Placed, claim_need, placed, placed_in, hole_for, shortage_in, block_room, segment_size, extended}
-use Rattle.rh_defs.specs.Slot.{is_stuck, with_heap, with_placed, slot_claim, slot_resize, slot_release, slot_take_pages}
+use Rattle.rh_defs.specs.Slot.{is_stuck, with_heap, slot_claim}
 use Rattle.rh_defs.specs.Slot as plain
 use Rattle.rh_defs.specs.declared.heap.HeapRefusal.{HeapRefusal}
 use Rattle.rh_defs.specs.declared.heap.HeapRefusal.TheVariants as heap_refusal

@@ -1,8 +1,7 @@
 -- Whether a DataSave is taken, by what the task's slot and the queue answer.
 use Rattle.rh_tasks.proofs.Common.{◌≡◌, ℕ, ◌-◌, ◌≤◌, ◌<◌, false, ap, sym, ◌∙◌, arith, List, inl, inr, Ok, Err, is_ok, nat_le, cases_lt, Memory, FileList}
 use Rattle.rh_tasks.proofs.Common.{Letter, Message, Refusal, Granted, slot_take_pages, Parcel, fetch_letter, post_send_pages, Desk, Task, accept, slot_in}
-use Rattle.rh_tasks.proofs.Common.{Answers, Seat, MadeArea, Kept, the_module, task_of, desk_of, IsWorld, IsFor, IsFreeAnchor, Sits, le-true, le-false}
-use Rattle.rh_tasks.proofs.Common.{free-is}
+use Rattle.rh_tasks.proofs.Common.{Answers, Seat, MadeArea, Kept, the_module, task_of, desk_of, IsWorld, IsFor, IsFreeAnchor, Sits, le-true, le-false, free-is}
 use Rattle.rh_tasks.proofs.Posts.{is-post}
 use Rattle.rh_tasks.proofs.Slides.{seat-is}
 use Rattle.rh_tasks.proofs.Accepts.{the_fetch, accept-no_buffer, accept-no_fetch, accept-fits, accept-lacks}

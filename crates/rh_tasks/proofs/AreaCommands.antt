@@ -12,7 +12,8 @@ use Rattle.rh_defs.specs.declared.refusal.Refusal.TheVariants.{ExcessiveShrink, 
 use Rattle.rh_defs.specs.declared.reply.Reply.TheVariants as reply
 use Rattle.rh_defs.specs.Pieces.{lacks_pages}
 use Rattle.rh_defs.specs.Module.{whole_pages, changed_length}
-use Rattle.rh_defs.specs.Commands.{pages_after, least_length, file_length, shrinks_below, change_pages, change_made, change_area, with_pages}
+use Rattle.rh_defs.specs.Commands.{pages_after, least_length, shrinks_below, change_pages, change_made, change_area, with_pages}
+use Rattle.rh_defs.specs.Desk.{file_length}
 use Rattle.rh_tasks.specs.View.{has_number}
 use Rattle.rh_tasks.proofs.Fixed.{KeepsFirst, fixed-at, fixed-desk, fixed-world, length-fixed, pages-of}
 use Rattle.rh_tasks.proofs.Mades.{made-desk, made-world}

@@ -1,11 +1,11 @@
 -- A world in which the slot of the task at a place has changed.
 use Rattle.rh_tasks.proofs.Common.{◌≡◌, ℕ, ◌<◌, refl, ap, sym, subst, ◌∙◌, arith, List, length, Ok, Err, slice_get, get_or, set, length-map, Memory, OnlyArea}
-use Rattle.rh_tasks.proofs.Common.{FileList, Refusal, Granted, ◌>>=◌, no_answer, left_of, result_or, slot_put, heap_block_at, first_bytes, Desk, Task}
+use Rattle.rh_tasks.proofs.Common.{FileList, Refusal, Granted, ◌>>=◌, no_answer, left_of, result_or, heap_block_at, first_bytes, Desk, Task}
 use Rattle.rh_tasks.proofs.Common.{free_pages, with_task, with_slot, IsDesk, appended, OnGrant, IsRoomed, IsSlot, slot_in, Leaves, Seat, MadeArea, Shown}
 use Rattle.rh_tasks.proofs.Common.{Kept, HasSlot, task_of, desk_of, shown_of, IsWorld, slot_append, IsAt, Becomes, Sits, set_same, all-at, mapped-at}
 use Rattle.rh_tasks.proofs.Common.{mapped-is, task-found, changed, free-is, Moves, moved-desk, moved-world}
 use Rattle.rh_defs.specs.Slot as plain
-use Rattle.rh_defs.specs.Slot.{slot_release, slot_extend}
+use Rattle.rh_defs.specs.Slot.{slot_release}
 use Rattle.rh_defs.specs.IncomingEvents.{without_buffer}
 use Rattle.rh_defs.proofs.Chains.{granted-then, granted-with}
 use Rattle.rh_defs.proofs.SlotKeeps.{slot_extend-grants, slot_put-grants, without_buffer-kept}

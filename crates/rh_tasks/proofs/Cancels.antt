@@ -6,7 +6,7 @@ use Rattle.rh_defs.specs.declared.command.Command.TheVariants as command
 use Rattle.rh_defs.specs.declared.reply.Reply.TheVariants as reply
 use Rattle.rh_defs.specs.Sender as sender
 use Rattle.rh_defs.specs.Receiver as receiver
-use Rattle.rh_defs.specs.Step.{cancel_in, cancel_out}
+use Rattle.rh_defs.specs.Commands.{cancel_in, cancel_out}
 
 module _ {m : Memory} {seats : List Seat} {made : List MadeArea} {files : FileList} {kept : Kept} {name : List ℕ} {i : ℕ} {s : Seat}
     (w : IsWorld m seats made files kept) (f : Found name seats i s) where

@@ -21,7 +21,8 @@ pub use Rattle.rh_defs.proofs.SlotKeeps.{IsRoomed}
 unfoldable pub use Rattle.rh_defs.specs.Bytes.{part}
 pub use Rattle.rh_defs.specs.Chain.{Granted, answer_of, left_of, no_answer, outcome_of, result_or}
 unfoldable pub use Rattle.rh_defs.specs.Chain.{found_or, or_else, refuse_if, ◌>>=◌, ◌>>◌}
-pub use Rattle.rh_defs.specs.Commands.{Answer, module_start}
+pub use Rattle.rh_defs.specs.Commands.{Answer}
+pub use Rattle.rh_defs.specs.Desk.{module_start}
 pub use Rattle.rh_defs.specs.Desk.{Desk, Made, Scrap, Task, edit_task, free_pages, next_ref, task_at, task_pages, used_pages, with_post, with_sending}
 pub use Rattle.rh_defs.specs.Desk.{with_slot, with_taking}
 unfoldable pub use Rattle.rh_defs.specs.Desk.{idle_block, idle_buffer, named, send_letter, with_delivered, with_task}
@@ -49,7 +50,7 @@ pub use Rattle.rh_defs.specs.Slot.{Flex, HaveAnchors, Slot, anchor_count, flex_a
 pub use Rattle.rh_defs.specs.Slot.{weight}
 unfoldable pub use Rattle.rh_defs.specs.Slot.{slot_alloc, slot_block, slot_claim, slot_put, slot_size, slot_take_pages}
 pub use Rattle.rh_defs.specs.SlotImage.{flex_place}
-pub use Rattle.rh_defs.specs.Step.{change}
+pub use Rattle.rh_defs.specs.Commands.{change}
 pub use Rattle.rh_defs.specs.declared.command.Command.{Command}
 pub use Rattle.rh_defs.specs.declared.listing.BlockItem.{BlockItem}
 pub use Rattle.rh_defs.specs.declared.listing.SegmentItem.{SegmentItem}

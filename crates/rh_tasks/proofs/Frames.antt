@@ -1,7 +1,6 @@
 -- What stays of a desk where one area of the store has changed.
-use Rattle.std.proofs.Common.{◌≡◌, ℕ, zero, suc, ◌/◌, ◌≤◌, ◌≢◌, refl, ap, subst, arith, List, [], ◌∷◌, length, ◌∙◌, sym}
+use Rattle.std.proofs.Common.{◌≡◌, ℕ, zero, suc, ◌/◌, ◌≤◌, ◌≢◌, refl, ap, subst, arith, List, [], ◌∷◌, length, ◌∙◌, sym, inl, inr}
 use Rattle.std.specs.Prelude.{Option, Some, None, IsSome, is_some, unwrap_or, map, take, ◌==◌, if◌then◌else◌}
-use Rattle.std.proofs.Common.{inl, inr}
 use Rattle.std.proofs.lemmas.Bool.{cases_eq}
 use Rattle.std.proofs.lemmas.Bool.Decides.{nat_tests}
 use Rattle.std.proofs.Math.ListN.{set}

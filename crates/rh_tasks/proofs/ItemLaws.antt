@@ -2,8 +2,7 @@
 use Rattle.rh_tasks.proofs.Common.{◌≡◌, ℕ, zero, suc, ◌+◌, ◌-◌, ◌*◌, ◌<◌, ◌≤◌, refl, ap, sym, ◌∙◌, arith, List, [], ◌∷◌, ◌++◌, length, map, Option, Some}
 use Rattle.rh_tasks.proofs.Common.{None, slice_get, AllByRecursion, option_map, get_or, length-append, length-map, slice_get-map, slice_get-get_or, MAX_AREAS}
 use Rattle.rh_tasks.proofs.Common.{Memory, bytes, total, FileList, Heap, Segment, Used, Hole, size_of, base, Desk, Task, Made, task_pages, free_pages}
-use Rattle.rh_tasks.proofs.Common.{slot_in, Seat, MadeArea, Kept, pages_at, task_of, made_of, fixed_pages, desk_of, HasSlot, IsWorld, cons, few-made}
-use Rattle.rh_tasks.proofs.Common.{few-seats}
+use Rattle.rh_tasks.proofs.Common.{slot_in, Seat, MadeArea, Kept, pages_at, task_of, made_of, fixed_pages, desk_of, HasSlot, IsWorld, cons, few-made, few-seats}
 use Rattle.std.specs.List.{enumerate_from}
 use Rattle.std.proofs.lemmas.Option.{slice_get_past}
 use Rattle.rh_defs.specs.Heap.{hole_size, largest_hole, largest, free_bytes}

@@ -4,7 +4,7 @@ use Rattle.rh_tasks.proofs.Common.{find, filter, not, true, position, remove, le
 use Rattle.rh_tasks.proofs.Common.{PAGE, found_or, in_range, Desk, Made, Seat, MadeArea, Kept, made_of, desk_of, IsWorld, Sits, begins, ends, past, stops}
 use Rattle.rh_tasks.proofs.Common.{granted-same, le-true, le-false, lt-true, lt-false, numbers, few-seats, granted-keeps}
 use Rattle.rh_defs.specs.Forms.{last_made}
-use Rattle.rh_defs.specs.Commands.{most_made}
+use Rattle.rh_defs.specs.Desk.{most_made}
 use Rattle.rh_defs.specs.declared.command.Command.TheVariants as command
 use Rattle.rh_defs.specs.declared.refusal.Refusal.TheVariants.{NoArea, TooManyAreas, NoNumbers}
 use Rattle.rh_defs.specs.declared.reply.Reply.TheVariants as reply

@@ -6,7 +6,7 @@ use Rattle.rh_tasks.proofs.Common.{mapped-at, reordered-at}
 use Rattle.rh_defs.specs.declared.message.Event.{Event}
 use Rattle.rh_defs.specs.declared.reply.Reply.TheVariants as reply
 use Rattle.rh_defs.specs.Messages.{action_of}
-use Rattle.rh_defs.specs.Step.{poll, poll_taken}
+use Rattle.rh_defs.specs.Commands.{poll, poll_taken}
 use Rattle.rh_defs.specs.Transfer.{handled}
 use Rattle.rh_defs.proofs.OrderSteps.{Alike, handled-alike}
 use Rattle.rh_wimp.specs.Chains.{event_of}

@@ -1,7 +1,7 @@
 -- The bytes of a block that go out, and the range that they go into.
 use Rattle.rh_tasks.proofs.Common.{◌≡◌, ℕ, ◌+◌, ◌-◌, ◌<◌, ◌≤◌, Bool, true, false, refl, sym, subst, ◌∙◌, arith, length, Option, Some, None, Ok, Err, IfSome}
 use Rattle.rh_tasks.proofs.Common.{is_some, ok_or, ◌&&◌, ◌==◌, nat_le, if◌then◌else◌, option_map, eqb-true, Refusal, NoBlock, NotABlock, Granted, ◌>>=◌}
-use Rattle.rh_tasks.proofs.Common.{found_or, Split, Segment, bytes_of, block_size, Flex, weight, slot_block, slot_size, slot_start, slot_length, heap_start}
+use Rattle.rh_tasks.proofs.Common.{found_or, Split, Segment, bytes_of, block_size, Flex, weight, slot_block, slot_size, slot_length, heap_start}
 use Rattle.rh_tasks.proofs.Common.{heap_block_at, flex_address, flex_start, holds, HaveAnchors, anchor_count, buffer_at, overlap, Task, is_out_of_reach}
 use Rattle.rh_tasks.proofs.Common.{IsCut, first_at-cuts, cut-total, begins, le-true, le-false}
 use Rattle.rh_defs.specs.Slot as plain

@@ -7,7 +7,7 @@ use Rattle.rh_tasks.proofs.Common.{all-at, set_same, begins, ends, sits, named-i
 use Rattle.rh_defs.specs.declared.command.Command.TheVariants as command
 use Rattle.rh_defs.specs.declared.refusal.Refusal.TheVariants.{NothingSent}
 use Rattle.rh_defs.specs.declared.reply.Reply.TheVariants as reply
-use Rattle.rh_defs.specs.Step.{repeat}
+use Rattle.rh_defs.specs.Commands.{repeat}
 use Rattle.rh_wimp.specs.Calls.{Leaves}
 use Rattle.rh_tasks.specs.declared.seat.SentLetter.{SentLetter}
 use Rattle.rh_tasks.specs.View.{last_of}

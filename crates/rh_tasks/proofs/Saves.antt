@@ -3,9 +3,8 @@ use Rattle.rh_tasks.proofs.Common.{◌≡◌, ℕ, zero, suc, ◌<◌, Bool, tru
 use Rattle.rh_tasks.proofs.Common.{find, map, nat_lt, nat_le, ◌==◌, ◌||◌, ◌&&◌, Option, list_any, position, get_or, set, nat_tests, Memory, OnlyArea-self}
 use Rattle.rh_tasks.proofs.Common.{FileList, Letter, Refusal, NoName, NoTask, Busy, Granted, ◌>>=◌, ◌>>◌, refuse_if, found_or, answer_of, left_of, in_range}
 use Rattle.rh_tasks.proofs.Common.{post_send, is_full, Desk, Task, next_ref, edit_task, idle_block, named, with_task, with_sending, send_letter, Answer}
-use Rattle.rh_tasks.proofs.Common.{IsDesk, IsReordered, IsSlot, slot_in, Answers, Chains, HasEntry, Seat, MadeArea, Kept, the_module, HasSlot, is_named}
+use Rattle.rh_tasks.proofs.Common.{IsDesk, IsReordered, IsSlot, slot_in, Answers, Chains, HasEntry, Seat, MadeArea, Kept, the_module, HasSlot, is_named, Moves}
 use Rattle.rh_tasks.proofs.Common.{task_of, desk_of, IsWorld, Found, looked, with_last, source_block, all-at, begins, ends, sits, named-is, granted-keeps}
-use Rattle.rh_tasks.proofs.Common.{Moves}
 use Rattle.std.specs.List.{list_all}
 use Rattle.rh_defs.proofs.MessageLaws.{name_is}
 use Rattle.rh_defs.specs.Forms.{is_graphic, is_leaf}
@@ -17,7 +16,7 @@ use Rattle.rh_defs.specs.Records.{is_open, is_source, is_document}
 use Rattle.rh_defs.specs.Sender as sender
 use Rattle.rh_defs.specs.Slot as plain
 use Rattle.rh_defs.specs.Desk.{has_name}
-use Rattle.rh_defs.specs.Step.{save}
+use Rattle.rh_defs.specs.Commands.{save}
 use Rattle.rh_wimp.specs.Calls.{Leaves}
 use Rattle.rh_tasks.proofs.Finding.{find-named, nobody-named}
 use Rattle.rh_tasks.proofs.Sends.{desk_then, sent-alike, sent-world}

@@ -14,7 +14,7 @@ use Rattle.rh_defs.specs.Letters.{load_letter, load_ack_letter}
 use Rattle.rh_defs.specs.Post.{message_of, sendable}
 use Rattle.rh_defs.specs.Sender as sender
 use Rattle.rh_defs.specs.Receiver as receiver
-use Rattle.rh_defs.specs.Commands.{scrap_area}
+use Rattle.rh_defs.specs.Desk.{scrap_area}
 use Rattle.rh_defs.specs.OutgoingEvents.{save_scrap, answer_ack}
 use Rattle.rh_defs.specs.IncomingEvents.{loaded, load_file, take_file}
 use Rattle.rh_defs.proofs.Desks.{send_letter-keeps}

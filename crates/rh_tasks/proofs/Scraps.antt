@@ -2,7 +2,7 @@
 use Rattle.rh_tasks.proofs.Common.{◌≡◌, ℕ, ◌+◌, ◌-◌, ◌*◌, ◌/◌, ◌%◌, ◌<◌, ◌≤◌, refl, ap, sym, subst, ◌∙◌, arith, List, length, take, drop, Option, Some, None}
 use Rattle.rh_tasks.proofs.Common.{Ok, IsOk, is_some, replicate, slice_set, length-take, take_all, PAGE, part, length-part, part-drop, Memory, OnlyArea}
 use Rattle.rh_tasks.proofs.Common.{bytes, grown, length-grown, OnlyArea-self, OnlyArea-grown, FileList, Granted, no_answer, Split, pages_for, Letter}
-use Rattle.rh_tasks.proofs.Common.{post_send_pages, Flex, HaveAnchors, weight, flex_start, flex_address, slot_start, slot_block, slot_size, anchor_count}
+use Rattle.rh_tasks.proofs.Common.{post_send_pages, Flex, flex_address, slot_start, slot_block, slot_size, anchor_count}
 use Rattle.rh_tasks.proofs.Common.{flex_place, Desk, Task, Scrap, used_pages, free_pages, IsDesk, wider, scrap_shortage, appended, IsSlot, slot_in, Leaves}
 use Rattle.rh_tasks.proofs.Common.{Answers, Standing, Seat, MadeArea, ScrapFile, Kept, the_module, HasSlot, pages_at, fixed_pages, scrap_from, scrap_size}
 use Rattle.rh_tasks.proofs.Common.{scrap_of, slot_area, made_area, task_of, desk_of, shown_of, IsWorld, Shown, slot_append, IsAt, Becomes, Sits, cons, all-at}
@@ -13,7 +13,7 @@ use Rattle.rh_defs.proofs.BytesLaws.{length-put, part-put}
 use Rattle.rh_defs.specs.Memory.{with_bytes}
 use Rattle.rh_defs.proofs.MemoryLaws.{bytes-with_bytes, bytes-grown, OnlyArea-with_bytes}
 use Rattle.rh_defs.specs.Slot as plain
-use Rattle.rh_defs.specs.Slot.{block_of, slot_address}
+use Rattle.rh_defs.specs.Slot.{slot_address}
 use Rattle.rh_defs.proofs.Transfers.{wider-keeps, scrap-keeps}
 use Rattle.rh_slot.proofs.Ranges.{flex-part}
 use Rattle.rh_tasks.proofs.Posts.{is-post}

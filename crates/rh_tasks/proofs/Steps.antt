@@ -5,8 +5,8 @@ use Rattle.rh_defs.specs.declared.command.Command.TheVariants as command
 use Rattle.rh_defs.specs.declared.question.Question.{Question}
 use Rattle.rh_defs.specs.declared.reply.Reply.TheVariants as reply
 use Rattle.rh_defs.specs.Runs.{after}
-use Rattle.rh_defs.specs.Step.{is_refused, step}
-use Rattle.rh_defs.proofs.OrderSteps.{order-ignored, never-refused}
+use Rattle.rh_defs.specs.Commands.{is_refused, step}
+use Rattle.rh_defs.proofs.Steps.{order-ignored, never-refused}
 use Rattle.rh_tasks.specs.Answer.{Does, Gives, GivesAlike, RunsOn, StaysIfRefused, StaysIfAsked, StepsTo, reply_of}
 use Rattle.rh_tasks.proofs.Reorders.{reordered-trans}
 

@@ -10,9 +10,8 @@ use Rattle.std.proofs.lemmas.List.{length-map}
 use Rattle.rh_defs.specs.Chain.{Granted, or_else}
 use Rattle.rh_defs.specs.Range.{in_range}
 use Rattle.rh_defs.specs.Post as post
-use Rattle.rh_defs.specs.Desk.{Desk, Task, Made, Scrap, most_tasks, free_pages}
-use Rattle.rh_defs.specs.Commands.{Answer, most_made}
-use Rattle.rh_defs.specs.Step.{change}
+use Rattle.rh_defs.specs.Desk.{Desk, Task, Made, Scrap, most_tasks, free_pages, most_made}
+use Rattle.rh_defs.specs.Commands.{Answer, change}
 use Rattle.rh_defs.specs.Laws.{IsDesk, Rise}
 use Rattle.rh_defs.proofs.Steps.{step-keeps}
 use Rattle.rh_defs.specs.Forms.{first_made}

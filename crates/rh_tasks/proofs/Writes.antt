@@ -2,7 +2,7 @@
 use Rattle.rh_tasks.proofs.Common.{◌≡◌, ◌⊎◌, inl, inr, ℕ, ◌+◌, ◌-◌, ◌<◌, ◌≤◌, true, false, cond, refl, ap, sym, subst, ◌∙◌, arith, List, [], ◌∷◌, length}
 use Rattle.rh_tasks.proofs.Common.{Some, Ok, Err, is_some, slice_get, map, take, drop, ◌==◌, ◌&&◌, ◌||◌, option_map, get_or, set, cases_eq, length-map}
 use Rattle.rh_tasks.proofs.Common.{slice_get-map, slice_get-get_or, slice_get_within, Letter, Sending, part, Granted, ◌>>=◌, no_answer, FileList, Memory}
-use Rattle.rh_tasks.proofs.Common.{bytes, Split, Flex, flex_address, slot_block, holds, buffer_at, overlap, Post, post_send, Desk, Task, free_pages}
+use Rattle.rh_tasks.proofs.Common.{bytes, Split, Flex, slot_block, holds, buffer_at, overlap, Post, post_send, Desk, Task, free_pages}
 use Rattle.rh_tasks.proofs.Common.{edit_task, with_task, with_post, send_letter, IsDesk, IsReordered, is_out_of_reach, length-part, IsSlot, slot_in, Leaves}
 use Rattle.rh_tasks.proofs.Common.{Seat, MadeArea, Kept, HasSlot, slot_area, task_of, desk_of, IsWorld, IsAt, IsPortion, Sits, all-at, set_same, Moves}
 use Rattle.rh_tasks.proofs.Common.{moved-desk, moved-world, mapped-at, mapped-is}

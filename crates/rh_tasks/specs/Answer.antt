@@ -9,10 +9,9 @@ use Rattle.rh_defs.specs.declared.command.Command.{Command}
 use Rattle.rh_defs.specs.declared.command.Command.TheVariants as command
 use Rattle.rh_defs.specs.declared.question.Question.{Question}
 use Rattle.rh_defs.specs.Desk.{Desk}
-use Rattle.rh_defs.specs.Commands.{Answer}
+use Rattle.rh_defs.specs.Commands.{Answer, step}
 use Rattle.rh_defs.specs.Order.{IsReordered}
 use Rattle.rh_defs.specs.Questions.{Told}
-use Rattle.rh_defs.specs.Step.{step}
 use Rattle.rh_defs.specs.Runs.{after}
 use Rattle.rh_tasks.specs.Shown.{Shown}
 

@@ -1,5 +1,5 @@
 -- What the steps of a poll do to the desk.
-use Rattle.std.specs.Prelude.{◌≡◌, ℕ, ◌+◌, ◌-◌, ◌≤◌, List, length, slice_get, Some, Result, Ok, Err}
+use Rattle.std.specs.Prelude.{◌≡◌, ℕ, ◌+◌, ◌-◌, ◌≤◌, length, slice_get, Some, Result, Ok, Err}
 use Rattle.std.specs.Result.{MatchResult}
 use Rattle.rh_defs.specs.declared.message.Letter.{Letter}
 use Rattle.rh_defs.specs.declared.message.Message.{Message}
@@ -7,12 +7,11 @@ use Rattle.rh_defs.specs.declared.refusal.Refusal.{Refusal}
 use Rattle.rh_defs.specs.declared.reply.Outcome.{Outcome}
 use Rattle.rh_defs.specs.Chain.{Granted, ◌>>=◌}
 use Rattle.rh_defs.specs.Slot.{Slot, Flex, slot_start, flex_address, heap_block_at, slot_block, slot_alloc}
-use Rattle.rh_defs.specs.Places.{free_anchor}
+use Rattle.rh_defs.specs.Places.{free_anchor, first_bytes}
 use Rattle.rh_defs.specs.Messages.{Parcel}
 use Rattle.rh_defs.specs.Desk.{Desk, Task, next_ref, free_pages, send_letter, with_slot}
 use Rattle.rh_defs.specs.Pieces.{Split}
 use Rattle.rh_defs.specs.SlotImage.{flex_place}
-use Rattle.rh_defs.specs.Places.{first_bytes}
 use Rattle.rh_defs.specs.declared.transfer.Sending.{Sending}
 use Rattle.rh_defs.specs.Order.{IsReordered}
 use Rattle.rh_defs.specs.OutgoingEvents.{Handled, portion, transmit, save_scrap}

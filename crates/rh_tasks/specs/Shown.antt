@@ -9,8 +9,7 @@ use Rattle.rh_defs.specs.Spans.{AreLaidOut, slot_spans, module_spans}
 use Rattle.rh_defs.specs.Heap.{Heap}
 use Rattle.rh_defs.specs.Messages.{Parcel}
 use Rattle.rh_defs.specs.Post.{Post}
-use Rattle.rh_defs.specs.Desk.{Desk, Task, Made, Scrap, module_pages, free_pages}
-use Rattle.rh_defs.specs.Commands.{module_area, module_start}
+use Rattle.rh_defs.specs.Desk.{Desk, Task, Made, Scrap, module_pages, free_pages, module_area, module_start}
 use Rattle.rh_wimp.specs.Chains.{AllLie, Apart, rows_of}
 use Rattle.rh_wimp.specs.PostIn.{parcels_of, unlinked}
 

@@ -2,7 +2,7 @@
 use Rattle.std.specs.Prelude.{◌≡◌, ℕ, ◌+◌, ◌<◌, List, [], ◌++◌, length, map, drop, get_or}
 use Rattle.std.specs.List.{AllByRecursion}
 use Rattle.rh_defs.specs.Memory.{Memory, IsOpen, bytes, open_below}
-use Rattle.rh_defs.specs.Commands.{module_area}
+use Rattle.rh_defs.specs.Desk.{module_area}
 use Rattle.rh_defs.specs.Pieces.{total}
 use Rattle.rh_defs.specs.declared.sizes.TheConstants.{FIXED_AREAS, MAX_AREAS}
 use Rattle.rh_store.specs.declared.store.AreaId.{AreaId}

@@ -1,14 +1,13 @@
 -- The desk that the seats, the made areas and the store's memory spell, and what holds of every world.
-use Rattle.std.specs.Prelude.{◌≡◌, ◌≢◌, ◌==◌, ℕ, ◌+◌, ◌/◌, ◌≤◌, List, [], ◌∷◌, length, map, take, if◌then◌else◌, Option, Some, None}
+use Rattle.std.specs.Prelude.{◌≡◌, ◌≢◌, ◌==◌, ℕ, ◌+◌, ◌/◌, ◌≤◌, List, [], ◌∷◌, length, map, take, if◌then◌else◌, Option, Some, None, Bool}
 use Rattle.std.specs.List.{AllByRecursion}
 use Rattle.std.specs.Option.{option_map}
 use Rattle.std.specs.Str.{bytes_eq}
-use Rattle.std.specs.Prelude.{Bool}
 use Rattle.rh_defs.specs.Memory.{Memory, IsOpen, bytes, open_below}
 use Rattle.rh_defs.specs.Pieces.{page}
 use Rattle.rh_defs.specs.Files.{FileList}
 use Rattle.rh_defs.specs.Post.{Post, post_is_live}
-use Rattle.rh_defs.specs.Desk.{Desk, Task, Made, Scrap, used_pages}
+use Rattle.rh_defs.specs.Desk.{Desk, Task, Made, Scrap, scrap_area, used_pages}
 use Rattle.rh_defs.specs.Laws.{IsDesk}
 use Rattle.rh_defs.specs.declared.message.Letter.{Letter}
 use Rattle.rh_defs.specs.declared.sizes.TheConstants.{FIXED_AREAS, MAX_AREAS}
@@ -71,10 +70,6 @@ pub record Kept : Type 0 where
 
 abbrev pub kept_of : Next → Chains → Option ScrapFile → Kept
 kept_of next queue scrap = record { next = next; queue = queue; scrap = scrap }
-
--- the scrap file lies in area 5
-abbrev pub scrap_area : ℕ
-scrap_area = 5
 
 -- the bytes of the scrap file, none where there is none
 abbrev pub scrap_size : Option ScrapFile → ℕ

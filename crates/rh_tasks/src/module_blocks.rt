@@ -3,7 +3,8 @@
 ghost use Rattle.std.specs.Prelude.{◌≡◌, ◌-◌, true, false, Ok, Err, IfOk, IfErr};
 ghost use Rattle.rh_defs.specs.declared.command.Command.TheVariants as Command;
 ghost use Rattle.rh_defs.specs.Range.{in_range};
-ghost use Rattle.rh_defs.specs.Commands.{module_start, own_block, rma_claim as rma_claim_on, rma_free as rma_free_on, rma_resize as rma_resize_on};
+ghost use Rattle.rh_defs.specs.Commands.{own_block, rma_claim as rma_claim_on, rma_free as rma_free_on, rma_resize as rma_resize_on};
+ghost use Rattle.rh_defs.specs.Desk.{module_start};
 ghost use Rattle.rh_defs.specs.Post.{post_is_message};
 ghost use Rattle.rh_tasks.specs.Answer.{Gives};
 

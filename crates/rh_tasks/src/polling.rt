@@ -8,7 +8,7 @@ ghost use Rattle.rh_defs.specs.Messages.{Parcel};
 ghost use Rattle.rh_defs.specs.Order.{IsReordered};
 ghost use Rattle.rh_defs.specs.Post.{post_poll};
 ghost use Rattle.rh_defs.specs.Range.{in_range};
-ghost use Rattle.rh_defs.specs.Step.{poll as poll_on};
+ghost use Rattle.rh_defs.specs.Commands.{poll as poll_on};
 ghost use Rattle.rh_defs.specs.Transfer.{came as came_on, came_back as came_back_on, handled};
 ghost use Rattle.rh_wimp.specs.Chains.{event_of};
 ghost use Rattle.rh_tasks.specs.Answer.{GivesAlike};

@@ -8,7 +8,7 @@ ghost use Rattle.rh_defs.specs.Forms.{is_leaf};
 ghost use Rattle.rh_defs.specs.Letters.{save_letter as save_letter_of};
 ghost use Rattle.rh_defs.specs.Memory.{Memory};
 ghost use Rattle.rh_defs.specs.Range.{in_range};
-ghost use Rattle.rh_defs.specs.Step.{save as save_on};
+ghost use Rattle.rh_defs.specs.Commands.{save as save_on};
 ghost use Rattle.rh_tasks.specs.Answer.{GivesAlike};
 ghost use Rattle.rh_tasks.specs.Finding.{looked};
 ghost use Rattle.rh_tasks.specs.Saves.{CanOffer, HasHandle, source_block};

@@ -1,8 +1,7 @@
 //! Transfers by way of the scrap file.
 
 ghost use Rattle.std.specs.Prelude.{◌≡◌, ◌<◌, ◌≤◌, ◌*◌, length, slice_index, Ok, Some, None};
-ghost use Rattle.rh_defs.specs.Desk.{Task, Scrap, free_pages};
-ghost use Rattle.rh_defs.specs.Commands.{scrap_area};
+ghost use Rattle.rh_defs.specs.Desk.{Task, Scrap, free_pages, scrap_area};
 ghost use Rattle.rh_defs.specs.Pieces.{Split, page};
 ghost use Rattle.rh_defs.specs.IncomingEvents.{appended, loaded as loaded_on, take_file as take_file_on};
 ghost use Rattle.rh_defs.specs.Messages.{Parcel};

@@ -4,8 +4,7 @@
 ghost use Rattle.std.specs.Prelude.{◌≡◌, ◌+◌, ◌≤◌, ◌↔◌, Ok, Err, IfErr, IfOk, IfSome, IsTrue, OnOk, length, slice_get};
 ghost use Rattle.std.specs.Option.{option_map};
 ghost use Rattle.std.specs.Result.{MatchResult};
-ghost use Rattle.rh_defs.specs.Commands.{module_start, most_made};
-ghost use Rattle.rh_defs.specs.Desk.{most_tasks, next_ref as next_ref_on, task_at};
+ghost use Rattle.rh_defs.specs.Desk.{module_start, most_made, most_tasks, next_ref as next_ref_on, task_at};
 ghost use Rattle.rh_defs.specs.Messages.{Parcel};
 ghost use Rattle.rh_defs.specs.Records.{most_records};
 ghost use Rattle.rh_wimp.specs.Items.{message_items, with_message};

@@ -5,7 +5,7 @@ use Rattle.rh_defs.specs.Order.{IsReordered}
 use Rattle.rh_defs.specs.Range.{in_range}
 use Rattle.rh_defs.specs.Runs as runs
 use Rattle.rh_defs.specs.Runs.{start, after}
-use Rattle.rh_defs.specs.Step.{step}
+use Rattle.rh_defs.specs.Commands.{step}
 use Rattle.rh_defs.specs.declared.command.Command.{Command}
 use Rattle.rh_defs.specs.declared.command.Command.TheVariants.{Task, Alloc, Claim}
 use Rattle.rh_defs.specs.declared.command.Manner.TheVariants.{Plain}

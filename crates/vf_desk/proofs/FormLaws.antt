@@ -4,7 +4,11 @@ use Rattle.vf_desk.proofs.Common.{Command, is_name, in_range, in_form}
 use Rattle.std.specs.Prelude.{◌&&◌}
 use Rattle.std.specs.Result.{is_err}
 use Rattle.rh_defs.specs.declared.command.Command.TheVariants as command
+use Rattle.std.proofs.lemmas.Bool.Decides.{nat_tests}
+use Rattle.std.proofs.Common.{arith}
 use Rattle.rh_defs.specs.Forms.{is_anchor, is_number}
+use Rattle.rh_defs.specs.Grammar.{Anchor, Size}
+use Rattle.rh_defs.specs.Range.{is_of}
 use Rattle.vf_desk.specs.Forms.{anchor_in, name_in}
 
 -- what isn't in range is no command
@@ -31,21 +35,30 @@ a-name bytes name some = go (is_name bytes) refl some
     go false test some = absurd (let bad : Some name ≡ None = some in cc)
     go true test some = (cc, test)
 
+-- a number by its form, and as a slot has it
+anchor-of : (k : ℕ) (b : Bool) → is_anchor k ≡ b → is_of Anchor k ≡ b
+anchor-of k true h = grind (arith, nat_tests)
+anchor-of k false h = grind (arith, nat_tests)
+
+size-of : (n : ℕ) (b : Bool) → is_number n ≡ b → is_of Size n ≡ b
+size-of n true h = grind (arith, nat_tests)
+size-of n false h = grind (arith, nat_tests)
+
 -- a number that is no anchor
-pub no-anchor : (k : ℕ) → None ≡ anchor_in k → is_anchor k ≡ false
-no-anchor k none = go (is_anchor k) none
+pub no-anchor : (k : ℕ) → None ≡ anchor_in k → is_of Anchor k ≡ false
+no-anchor k none = anchor-of k false (go (is_anchor k) none)
   where
     go : (b : Bool) → None ≡ (if b then Some k else None) → b ≡ false
     go false none = refl
     go true none = absurd (let bad : None ≡ Some k = none in cc)
 
 -- a number that is one
-pub an-anchor : (k anchor : ℕ) → Some anchor ≡ anchor_in k → (anchor ≡ k) × (is_anchor k ≡ true)
+pub an-anchor : (k anchor : ℕ) → Some anchor ≡ anchor_in k → (anchor ≡ k) × (is_of Anchor k ≡ true)
 an-anchor k anchor some = go (is_anchor k) refl some
   where
-    go : (b : Bool) → is_anchor k ≡ b → Some anchor ≡ (if b then Some k else None) → (anchor ≡ k) × (is_anchor k ≡ true)
+    go : (b : Bool) → is_anchor k ≡ b → Some anchor ≡ (if b then Some k else None) → (anchor ≡ k) × (is_of Anchor k ≡ true)
     go false test some = absurd (let bad : Some anchor ≡ None = some in cc)
-    go true test some = (cc, test)
+    go true test some = (cc, anchor-of k true test)
 
 -- what holds where a call was done, of one that was
 pub was-ok : {A E P : Type 0} (r : Result A E) → is_err r ≡ false → OnOk r P → P
@@ -66,20 +79,20 @@ module _ (name bytes : List ℕ) (anchor offset : ℕ) where
   unfolding in_range
   put-name a = rw a refl
 
-  pub put-anchor : is_name name ≡ true → is_anchor anchor ≡ false → in_range (command.Put name anchor offset bytes) ≡ false
+  pub put-anchor : is_name name ≡ true → is_of Anchor anchor ≡ false → in_range (command.Put name anchor offset bytes) ≡ false
   unfolding in_range
   put-anchor a b = rw (a, b) refl
 
-  pub put-number : is_name name ≡ true → is_anchor anchor ≡ true → is_number offset ≡ false → in_range (command.Put name anchor offset bytes) ≡ false
+  pub put-number : is_name name ≡ true → is_of Anchor anchor ≡ true → is_number offset ≡ false → in_range (command.Put name anchor offset bytes) ≡ false
   unfolding in_range
-  put-number a b c = rw (a, b, c) refl
+  put-number a b c = rw (a, b, size-of offset false c) refl
 
-  pub put-bytes : is_name name ≡ true → is_anchor anchor ≡ true → is_number offset ≡ true → nat_le 1 (length bytes) ≡ false
+  pub put-bytes : is_name name ≡ true → is_of Anchor anchor ≡ true → is_number offset ≡ true → nat_le 1 (length bytes) ≡ false
       → in_range (command.Put name anchor offset bytes) ≡ false
   unfolding in_range
-  put-bytes a b c d = rw (a, b, c, d) refl
+  put-bytes a b c d = rw (a, b, size-of offset true c, d) refl
 
-  pub put-good : is_name name ≡ true → is_anchor anchor ≡ true → is_number offset ≡ true → nat_le 1 (length bytes) ≡ true
+  pub put-good : is_name name ≡ true → is_of Anchor anchor ≡ true → is_number offset ≡ true → nat_le 1 (length bytes) ≡ true
       → in_range (command.Put name anchor offset bytes) ≡ true
   unfolding in_range
-  put-good a b c d = rw (a, b, c, d) refl
+  put-good a b c d = rw (a, b, size-of offset true c, d) refl

@@ -7,7 +7,7 @@ use Rattle.rh_defs.specs.declared.reply.Reply.TheVariants as reply
 use Rattle.rh_defs.specs.Range.{in_range}
 use Rattle.rh_defs.specs.Desk.{Desk}
 use Rattle.rh_defs.specs.Order.{IsReordered}
-use Rattle.rh_defs.specs.Step.{step}
+use Rattle.rh_defs.specs.Commands.{step}
 use Rattle.rh_tasks.specs.Shown.{Shown}
 use Rattle.vf_desk.specs.declared.called.Called.{Called}
 use Rattle.vf_desk.specs.declared.called.Called.TheVariants.{Closed, BadArgument, Said}

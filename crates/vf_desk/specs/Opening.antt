@@ -3,10 +3,9 @@ use Rattle.std.specs.Prelude.{◌≡◌, ◌≢◌, ℕ, ◌==◌, nat_lt, ◌||
 use Rattle.rh_defs.specs.Files.{FileList, has_file}
 use Rattle.rh_defs.specs.Forms.{is_name}
 use Rattle.rh_defs.specs.Runs.{start_with}
-use Rattle.rh_defs.specs.declared.sizes.TheConstants.{MAX_PAGES, MIN_PAGES}
+use Rattle.rh_defs.specs.declared.sizes.TheConstants.{MAX_PAGES, MIN_PAGES, LONGEST_FILE}
 use Rattle.rh_console.specs.declared.console.Console.{Console}
 use Rattle.rh_console.specs.declared.said.Said.TheVariants as said
-use Rattle.rh_defs.specs.declared.sizes.TheConstants.{LONGEST_FILE}
 use Rattle.vf_desk.specs.declared.station.Station.{Station}
 use Rattle.vf_desk.specs.Seen.{console_in, files_in}
 use Rattle.vf_desk.specs.Status.{already_open, bad_argument, bad_length, file_exists, no_memory}

@@ -2,8 +2,7 @@
 use Rattle.std.specs.Prelude.{◌≡◌, ◌≢◌, ℕ, ◌+◌, ◌-◌, ◌^◌, nat_lt, if◌then◌else◌, ℤ, pos, negsuc, List, length, ok_or}
 use Rattle.rh_defs.specs.Chain.{Granted, no_answer, answer_of}
 use Rattle.rh_defs.specs.Heap.{block_size}
-use Rattle.rh_defs.specs.Slot.{Slot, heap_start, slot_start, slot_alloc, slot_free, slot_extend, slot_mid, slot_put}
-use Rattle.rh_defs.specs.Slot.{slot_claim, slot_release, slot_resize}
+use Rattle.rh_defs.specs.Slot.{Slot, heap_start, slot_start, slot_alloc, slot_free, slot_extend, slot_mid, slot_put, slot_claim, slot_release, slot_resize}
 use Rattle.rh_defs.specs.declared.refusal.Refusal.TheVariants.{NotABlock}
 use Rattle.rh_flex.specs.Slots.{IsSlotBytes, LeavesSlot, free_in, slot_in}
 use Rattle.rh_flex.specs.declared.slot.LentSlot.{LentSlot}

@@ -1,5 +1,4 @@
 use Rattle.rh_defs.specs.Runs.{start}
-use Rattle.rh_desk.specs.Done.{sheet_name}
 use Rattle.rh_desk.proofs.DoneLemmas.{sheet-over}
 use Rattle.rh_desk.proofs.words.sheet_told.Goals as goal
 

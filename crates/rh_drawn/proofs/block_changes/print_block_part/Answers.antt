@@ -1,6 +1,5 @@
 use Rattle.rh_drawn.proofs.Common.{◌≡◌, ◌++◌, List, Some, map, ap, ap₂, sym, ◌∙◌, append_assoc, filter, not, flat_map, BlockItem, Task, task_at, block_items}
-use Rattle.rh_drawn.proofs.Common.{block_change, gone_line, has_anchor, item_of, slide_of, Text, Scene, shown_lines, scene_at, block_part, indented}
-use Rattle.rh_drawn.proofs.Common.{slide_part}
+use Rattle.rh_drawn.proofs.Common.{block_change, gone_line, has_anchor, item_of, slide_of, Text, Scene, shown_lines, scene_at, block_part, indented, slide_part}
 use Rattle.rh_figure.specs.Changes.{block_changes, blocks_now, slide_change}
 use Rattle.rh_drawn.proofs.Walks.{indented-append, lines_stop, lines_then, puts_same}
 use Rattle.rh_drawn.proofs.block_changes.print_block_part.Goals as goal

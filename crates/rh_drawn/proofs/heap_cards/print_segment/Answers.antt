@@ -1,6 +1,5 @@
-use Rattle.rh_drawn.proofs.Common.{◌≡◌, ◌∙◌, ℕ, ◌+◌, ◌-◌, [], ◌∷◌, ◌++◌, Option, Some, None, ap, sym, subst, arith, ◌==◌, find, Parcel, message_in}
+use Rattle.rh_drawn.proofs.Common.{◌≡◌, ◌∙◌, ℕ, ◌+◌, ◌-◌, [], ◌∷◌, ◌++◌, Option, Some, None, ap, sym, subst, arith, ◌==◌, find, Parcel, message_in, card_lines}
 use Rattle.rh_drawn.proofs.Common.{shown_lines, MessageItem, held_on, lies_in, message_items, waiting_on, HasBlock, heap_seen, heap_start_of, scene_at}
-use Rattle.rh_drawn.proofs.Common.{card_lines}
 use Rattle.rh_defs.specs.Post.{post_is_message}
 use Rattle.rh_figure.specs.Scene.{live}
 use Rattle.rh_sight.specs.declared.sight.HeapOf.{HeapOf}

@@ -1,5 +1,4 @@
-use Rattle.rh_drawn.proofs.Common.{◌∙◌, ◌-◌, length, take, ap, refl, arith, slice_get, heap_seen, heap_start_of, scene_at, IsSurvey, is_fresh_card}
-use Rattle.rh_drawn.proofs.Common.{with_items}
+use Rattle.rh_drawn.proofs.Common.{◌∙◌, ◌-◌, length, take, ap, refl, arith, slice_get, heap_seen, heap_start_of, scene_at, IsSurvey, is_fresh_card, with_items}
 use Rattle.rh_sight.proofs.Heaps.{comes-next, comes-parts, counted-all, counted-more, counted-none, seen, start-small, stepped, told}
 use Rattle.rh_drawn.proofs.HeapLemmas.{all-in-area, band-heap, from-first, if-heap, surveyed-all, surveyed-more}
 use Rattle.rh_drawn.proofs.heap_cards.take_survey.Goals as goal

@@ -1,5 +1,4 @@
-use Rattle.rh_drawn.proofs.Common.{List, [], ◌∷◌, map, refl, Outgoing, out_item, transfer_line, Text, left_breaks, left_less, left_none, Side, goes_out}
-use Rattle.rh_drawn.proofs.Common.{ins_of}
+use Rattle.rh_drawn.proofs.Common.{List, [], ◌∷◌, map, refl, Outgoing, out_item, transfer_line, Text, left_breaks, left_less, left_none, Side, goes_out, ins_of}
 use Rattle.rh_drawn.proofs.Walks.{walk-at, walk-end}
 use Rattle.rh_drawn.proofs.transfers.print_task_outs.Goals as goal
 

@@ -1,6 +1,6 @@
-use Rattle.rh_sight.proofs.Common.{◌≡◌, ◌∙◌, ◌+◌, ap, sym, arith, subst, free_pages, owner_seen}
+use Rattle.rh_sight.proofs.Common.{◌≡◌, ◌∙◌, ◌+◌, ap, arith}
 use Rattle.rh_defs.specs.declared.sizes.TheConstants.{FIXED_AREAS}
-use Rattle.rh_defs.specs.Commands.{most_made}
+use Rattle.rh_defs.specs.Desk.{most_made}
 use Rattle.rh_sight.specs.declared.sight.PagesOf.{PagesOf}
 use Rattle.rh_sight.specs.declared.sight.PagesOf.TheVariants as pages
 use Rattle.rh_sight.specs.Pages.{pages_before}

@@ -1,4 +1,4 @@
-use Rattle.rh_sight.proofs.Common.{◌≤◌, ◌∙◌, ap, arith, Made}
+use Rattle.rh_sight.proofs.Common.{◌≤◌, ◌∙◌, arith, Made}
 use Rattle.rh_sight.proofs.Heaps.{total-one}
 use Rattle.rh_sight.proofs.Holders.{made-all-few, made-few}
 use Rattle.rh_sight.proofs.Places.{total-more, total-past}

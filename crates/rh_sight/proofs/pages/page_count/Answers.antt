@@ -1,4 +1,4 @@
-use Rattle.rh_sight.proofs.Common.{◌∙◌, sym, owner_seen}
+use Rattle.rh_sight.proofs.Common.{◌∙◌, owner_seen}
 use Rattle.rh_sight.proofs.Holders.{count-fixed, count-made, count-slot, if-some, none-made, none-slot}
 use Rattle.rh_sight.proofs.pages.page_count.Goals as goal
 use Rattle.rh_sight.proofs.pages.page_count.Goals.{in-Fixed, in-Made+in-Some, in-Made+in-None, in-Slot+in-Some-task, in-Slot+in-None-task}

@@ -1,4 +1,4 @@
-use Rattle.rh_sight.proofs.Common.{◌≤◌, ◌∙◌, ap, arith, task_pages}
+use Rattle.rh_sight.proofs.Common.{◌≤◌, ◌∙◌, arith, task_pages}
 use Rattle.rh_sight.proofs.Heaps.{total-one}
 use Rattle.rh_sight.proofs.Holders.{slots-all-few, slots-few}
 use Rattle.rh_sight.proofs.Places.{total-more, total-past}

@@ -1,8 +1,8 @@
-use Rattle.rh_sight.proofs.Common.{◌≡◌, ◌∙◌, ◌-◌, ℕ, Bool, true, false, Option, Some, None, ap, ap₂, sym, refl, eq-eqb, ◌||◌, ◌==◌, find, option_map, ne_eqb}
-use Rattle.rh_sight.proofs.Common.{Desk, Scene, MessageItem, lies_in, scene_at}
+use Rattle.rh_sight.proofs.Common.{◌≡◌, ◌∙◌, ◌-◌, Bool, true, false, ap, ap₂, sym, refl, eq-eqb, ◌||◌, ◌==◌, find, option_map, ne_eqb}
+use Rattle.rh_sight.proofs.Common.{MessageItem, lies_in, scene_at}
 use Rattle.rh_figure.specs.declared.piece.Kind.{Kind}
 use Rattle.rh_figure.specs.declared.piece.Kind.TheVariants.{Posted}
-use Rattle.rh_figure.specs.Layout.{is_new_message, posted_or}
+use Rattle.rh_figure.specs.Layout.{is_new_message}
 use Rattle.rh_figure.specs.Scene.{message_in}
 use Rattle.rh_sight.proofs.Posts.{claimed-kind, claimed-new, posted-kind, posted-new, ref-in-block}
 use Rattle.rh_sight.proofs.pieces.module_kind.Goals as goal

@@ -1,6 +1,5 @@
-use Rattle.rh_sight.proofs.Common.{◌≡◌, ◌≤◌, ◌<◌, ◌∙◌, ◌+◌, ◌-◌, ◌++◌, ◌∷◌, [], ℕ, List, length, take, drop, ap, sym, arith, length-append, length-take}
-use Rattle.rh_sight.proofs.Common.{total, first_place, place_after, size_of, heap_pieces, more_pieces, segment_pieces, Piece, Census, heap_seen}
-use Rattle.rh_sight.proofs.Common.{heap_start_of, scene_at, area_start_of, legend_of}
+use Rattle.rh_sight.proofs.Common.{◌≡◌, ◌≤◌, ◌<◌, ◌∙◌, ◌+◌, ◌-◌, ◌++◌, ◌∷◌, length, take, drop, ap, arith, heap_start_of, scene_at, area_start_of, legend_of}
+use Rattle.rh_sight.proofs.Common.{total, first_place, place_after, size_of, more_pieces, segment_pieces, Census, heap_seen}
 use Rattle.rh_sight.proofs.Heaps.{seen}
 use Rattle.rh_sight.proofs.Holders.{if-some, some-of}
 use Rattle.rh_sight.proofs.PieceWalks.{at-heap, comes-at}

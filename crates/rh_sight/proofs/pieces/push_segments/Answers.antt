@@ -1,10 +1,8 @@
-use Rattle.rh_sight.proofs.Common.{◌≡◌, ◌∙◌, ◌+◌, ◌-◌, ◌*◌, ◌++◌, ℕ, List, Some, length, take, drop, ap, sym, subst, arith, slice_get, IfSome, length-take}
+use Rattle.rh_sight.proofs.Common.{◌≡◌, ◌∙◌, ◌+◌, ◌-◌, ◌*◌, ◌++◌, ℕ, length, take, drop, ap, sym, subst, arith, slice_get, area_start_of, legend_of}
 use Rattle.rh_sight.proofs.Common.{take-append-drop, SEGMENTS_AT_ONCE, first_place, place_after, segment_pieces, heap_seen, heap_start_of, scene_at}
-use Rattle.rh_sight.proofs.Common.{area_start_of, legend_of}
 use Rattle.rh_sight.proofs.Heaps.{seen, start-small}
 use Rattle.rh_sight.proofs.Holders.{some-of}
 use Rattle.rh_sight.proofs.PieceWalks.{at-heap, for-heap, pieces-on, place-on, place-same, pieces-turn, turn-ends, turn-items, turn-place}
-use Rattle.rh_sight.proofs.SegmentWalks.{length-items}
 use Rattle.rh_sight.proofs.pieces.push_segments.Goals as goal
 use Rattle.rh_sight.proofs.pieces.push_segments.Goals.{in-Some, in_default}
 

@@ -1,5 +1,4 @@
-use Rattle.rh_sight.proofs.Common.{◌≡◌, ◌∙◌, ◌-◌, Some, length, ap, sym, subst, arith, slice_get, SegmentItem, Census, heap_seen, heap_start_of}
-use Rattle.rh_sight.specs.Walks.{census_of}
+use Rattle.rh_sight.proofs.Common.{◌≡◌, ◌∙◌, ◌-◌, length, ap, arith, slice_get, heap_start_of}
 use Rattle.rh_sight.proofs.Heaps.{census-is, comes-next, comes-parts, counted-all, counted-more, counted-none, counted-so, seen, start-small, stepped, told}
 use Rattle.rh_sight.proofs.walk.take_census.Goals as goal
 

@@ -1,4 +1,4 @@
-use Rattle.rh_slot.proofs.Common.{◌≡◌, ◌+◌, ◌-◌, List, ℕ, length, refl, sym, ap, ◌∙◌, arith, part, put, SameIn, no_answer, Memory, OnlyArea, Edited, bytes}
+use Rattle.rh_slot.proofs.Common.{◌≡◌, ◌+◌, ◌-◌, length, refl, sym, ap, ◌∙◌, arith, part, put, SameIn, no_answer, Memory, bytes}
 use Rattle.rh_slot.proofs.Common.{flex_weight, flex_place, heap_place, length-part, SameOutside-self, bytes-with_bytes, part_of, in_below, in_both, slot_in}
 use Rattle.rh_slot.proofs.AppendLaws.{append_none, append_full, append_done, appended_words, appended_pages, source_inside, source_stays}
 use Rattle.rh_slot.proofs.AreaLaws.{Edited-put}

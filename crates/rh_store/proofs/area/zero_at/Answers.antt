@@ -1,5 +1,4 @@
-use Rattle.rh_store.proofs.Common.{◌≡◌, [], length, replicate, sym, ap, ◌∙◌, arith, unwrap_or, put, length-put, contents, open_index, open_read}
-use Rattle.rh_store.proofs.Common.{written_slice}
+use Rattle.rh_store.proofs.Common.{◌≡◌, [], length, replicate, sym, ap, ◌∙◌, arith, unwrap_or, put, length-put, contents, open_index, open_read, written_slice}
 use Rattle.rh_store.proofs.area.zero_at.Goals as goal
 
 pub index_mut-area-requires : goal.index_mut-area-requires

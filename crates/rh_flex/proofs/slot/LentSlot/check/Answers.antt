@@ -1,4 +1,4 @@
-use Rattle.rh_flex.proofs.Common.{◌≡◌, ◌≤◌, ◌*◌, true, length, sym, ap, subst, ◌∙◌, arith, nat_tests, length-take-le, PAGE, slot_of, bytes_of}
+use Rattle.rh_flex.proofs.Common.{◌≡◌, ◌≤◌, ◌*◌, true, length, ap, ◌∙◌, arith, nat_tests, length-take-le, PAGE, slot_of, bytes_of}
 use Rattle.std.proofs.lemmas.Result.{IfOk-weaker}
 use Rattle.rh_flex.specs.Image.{pages_fault_of}
 use Rattle.rh_slot.specs.Image.{slot_summary}

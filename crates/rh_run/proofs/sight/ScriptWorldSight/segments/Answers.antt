@@ -1,8 +1,7 @@
 use Rattle.std.proofs.Common.{ap, refl, ◌∙◌, ◌≡◌, Some}
 use Rattle.std.specs.Option.{option_map}
-use Rattle.rh_defs.specs.Desk.{Task}
+use Rattle.rh_defs.specs.Desk.{Task, module_start}
 use Rattle.rh_defs.specs.Slot.{heap_start}
-use Rattle.rh_defs.specs.Commands.{module_start}
 use Rattle.rh_sight.specs.Seen.{heap_seen}
 use Rattle.rh_sight.specs.declared.sight.HeapOf.TheVariants as heap_of
 use Rattle.rh_sight.proofs.Heaps.{seen}

@@ -1,5 +1,5 @@
 use Rattle.rh_defs.specs.Range.{in_range}
-use Rattle.rh_defs.specs.Step.{step}
+use Rattle.rh_defs.specs.Commands.{step}
 use Rattle.rh_defs.proofs.QuestionLaws.{asked-stays, one-line, question-text}
 use Rattle.rh_session.proofs.SessionLemmas.{or_false}
 use Rattle.rh_session.proofs.session.Session.carry_out.Goals as goal

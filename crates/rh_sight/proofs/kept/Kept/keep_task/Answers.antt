@@ -1,4 +1,4 @@
-use Rattle.rh_sight.proofs.Common.{◌≡◌, ◌∙◌, ℕ, List, Some, ap, sym, Desk, Task, free_pages, block_items, holdings}
+use Rattle.rh_sight.proofs.Common.{◌≡◌, ◌∙◌, Some, ap, sym, Desk, Task, free_pages, block_items, holdings}
 use Rattle.rh_defs.specs.Desk.{next_ref}
 use Rattle.rh_defs.specs.Post.{held_by}
 use Rattle.rh_figure.specs.Scene.{Before, before_task, ref_of}

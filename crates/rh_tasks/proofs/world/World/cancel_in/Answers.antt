@@ -1,5 +1,5 @@
 use Rattle.rh_tasks.proofs.Common.{refl, ap, sym, err_from_is_err_and, kept_of, shown_of, Found, ends, done-refused, nobody}
-use Rattle.rh_defs.specs.Step.{cancel_in}
+use Rattle.rh_defs.specs.Commands.{cancel_in}
 use Rattle.rh_tasks.proofs.Chains.{done}
 use Rattle.rh_tasks.proofs.Cancels.{taking-stay, taking-world, cancel_in-done, cancel_in-world, cancel_in-refused}
 use Rattle.rh_tasks.proofs.world.World.cancel_in.Goals as goal

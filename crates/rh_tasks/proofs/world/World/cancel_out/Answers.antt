@@ -1,5 +1,5 @@
 use Rattle.rh_tasks.proofs.Common.{refl, ap, sym, err_from_is_err_and, kept_of, shown_of, Found, ends, done-refused, nobody}
-use Rattle.rh_defs.specs.Step.{cancel_out}
+use Rattle.rh_defs.specs.Commands.{cancel_out}
 use Rattle.rh_tasks.proofs.Chains.{done}
 use Rattle.rh_tasks.proofs.Cancels.{sending-stay, sending-world, cancel_out-done, cancel_out-world, cancel_out-refused}
 use Rattle.rh_tasks.proofs.world.World.cancel_out.Goals as goal

@@ -1,5 +1,5 @@
 use Rattle.rh_tasks.proofs.Common.{refl, err_from_is_err_and, ends, nobody, task_of}
-use Rattle.rh_defs.specs.Step.{poll}
+use Rattle.rh_defs.specs.Commands.{poll}
 use Rattle.rh_tasks.proofs.Finding.{found-in}
 use Rattle.rh_tasks.proofs.Polls.{none-taken, some-taken, place-then, task-there, poll-none, poll-some}
 use Rattle.rh_tasks.proofs.world.World.poll.Goals as goal

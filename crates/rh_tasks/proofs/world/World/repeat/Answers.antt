@@ -1,5 +1,5 @@
 use Rattle.rh_tasks.proofs.Common.{refl, ap, sym, ◌∙◌, err_from_is_err_and, set, Found, ends, sits, nobody}
-use Rattle.rh_defs.specs.Step.{repeat}
+use Rattle.rh_defs.specs.Commands.{repeat}
 use Rattle.rh_tasks.proofs.Repeats.{same-shown, seat-kept, from-live, again-own, repeat-nothing, repeat-refused, repeat-world, repeat-done}
 use Rattle.rh_tasks.proofs.world.World.repeat.Goals as goal
 

@@ -6,7 +6,7 @@ use Rattle.rh_wimp.specs.Chains.{event_of}
 use Rattle.rh_wimp.proofs.PollLaws.{held-after, stays}
 use Rattle.rh_wimp.proofs.PostLaws.{found-at, not-found}
 use Rattle.rh_wimp.proofs.queue.Queue.poll.Goals as goal
-use Rattle.rh_wimp.proofs.queue.Queue.poll.Goals.{In_default, After-bounce_held}
+use Rattle.rh_wimp.proofs.queue.Queue.poll.Goals.{After-bounce_held}
 use Rattle.rh_wimp.proofs.queue.Queue.poll.Given as given
 
 pub returns-in_default-clause-answer : goal.returns-in_default-clause-answer
