@@ -1,7 +1,7 @@
 //! Bad lines, and first lines of replies, as text.
 
 use crate::same::same;
-use rh_defs::{Action, EventCode, Handle, LineFault, Outcome, Ref, Refusal, Reply};
+use rh_defs::{Action, EventCode, Handle, LineFault, Numbers, Outcome, Ref, Refusal, Reply};
 use rh_lines::{Flagged, Row, add_number, print_fault, print_first_line, write_hex_digits};
 use std::process::Abort;
 
@@ -50,15 +50,15 @@ fn prints_first_lines(rt: HostRuntime) {
             Reply::Sent(Ref(1)),
             Reply::Moved { bytes: 0 },
             Reply::Made { number: 256 },
-            Reply::Shown { size: 10 },
-            Reply::BlockCount(64),
-            Reply::HeapSums {
+            Reply::Answered(Numbers::Shown { size: 10 }),
+            Reply::Answered(Numbers::BlockCount(64)),
+            Reply::Answered(Numbers::HeapSums {
                 length: 3840,
                 largest: 3820,
                 free: 3824,
-            },
-            Reply::StatusOf(Handle(2)),
-            Reply::FreePages(1022),
+            }),
+            Reply::Answered(Numbers::StatusOf(Handle(2))),
+            Reply::Answered(Numbers::FreePages(1022)),
             Reply::NoEvent,
         ],
         b"refused TooManyAreas\nok\nok 4294967295\nok &1800014\nok &FFFFFFFF\nok on\nok off\nok 1\nok 0\nok 256\nok 10\nok 64\nok 3840 3820 3824\nok 2\nok 1022\nok 0\n",

@@ -1,7 +1,7 @@
 -- The text of what a line was answered.
 use Rattle.std.specs.Prelude.{ℕ, List, []}
 use Rattle.rh_defs.specs.Desk.{Desk}
-use Rattle.rh_defs.specs.Listing as listing
+use Rattle.rh_defs.specs.Questions as listing
 use Rattle.rh_defs.specs.Questions.{asked}
 use Rattle.rh_defs.specs.Text.{answer_text, fault_text, first_line}
 use Rattle.rh_console.specs.declared.said.Said.{Said}

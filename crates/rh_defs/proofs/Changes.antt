@@ -3,7 +3,6 @@ use Rattle.rh_defs.proofs.Common.{◌≡◌, ℕ, Bool, true, false, refl, sym, 
 use Rattle.rh_defs.proofs.Common.{refuse_if, Heap, Parcel, Desk, Task, named, Answer, IsDesk}
 use Rattle.rh_defs.specs.declared.command.Command.TheVariants as command
 use Rattle.rh_defs.specs.declared.reply.Reply.{Reply}
-use Rattle.rh_defs.specs.declared.reply.Reply.TheVariants as reply
 use Rattle.rh_defs.specs.Slot.{Slot}
 use Rattle.rh_defs.specs.Desk.{Made, with_task, with_slot, with_module}
 use Rattle.rh_defs.specs.Named.{name_in}

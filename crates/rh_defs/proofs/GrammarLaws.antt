@@ -1,11 +1,11 @@
 -- What a row makes is spelled by this row and the same values, and the spelling of a command makes it again.
-use Rattle.rh_defs.proofs.Common.{◌≡◌, ℕ, Bool, true, false, refl, ap, Option, Some, None, List, [], ◌∷◌, Command}
+use Rattle.rh_defs.proofs.Common.{◌≡◌, ℕ, Bool, true, false, refl, rules, Option, Some, None, List, [], ◌∷◌, Command}
 use Rattle.rh_defs.specs.declared.command.Command.TheVariants as command
 use Rattle.rh_defs.specs.declared.command.Manner.TheVariants as manner
 use Rattle.rh_defs.specs.declared.question.Question.{Question}
 use Rattle.rh_defs.specs.declared.question.Question.TheVariants as question
-use Rattle.rh_defs.specs.Grammar.{Form, Value, Values, Maker, Row, Spelling, manner_of, manner_word, cancel_of, task_spelled, cancel_spelled}
-use Rattle.rh_defs.specs.Grammar.{spelled_by, question_spelling, rows, spelling}
+use Rattle.rh_defs.specs.Grammar.{Form, Value, Values, Maker, Row, Spelling, manner_of, manner_word, cancel_of, cancel_spelled, spelled_by}
+use Rattle.rh_defs.specs.Grammar.{question_spelling, rows, spelling}
 
 -- the command made of values
 abbrev pub made : (forms : List Form) → Maker forms → Values forms → Command
@@ -40,42 +40,9 @@ cancel-spells : (name : List ℕ) (comes_in : Bool) (id : Option ℕ) → spelli
 cancel-spells name true id = refl
 cancel-spells name false id = refl
 
-infixr 4 ◌⊗◌
--- one row, and the others
-abbrev ◌⊗◌ : {A B : Type 0} → A → B → A × B
-a ⊗ b = (a, b)
-
 pub rows-spell : AllSpell rows
 unfolding rows
-rows-spell =
-    (λ name buffer deaf. ap (λ word. task_spelled (name, (buffer, (word, tt)))) (manner-back deaf))
-    ⊗ (λ name. refl)
-    ⊗ (λ name k n. refl)
-    ⊗ (λ name k file. refl)
-    ⊗ (λ name k offset bytes. refl)
-    ⊗ (λ name k. refl)
-    ⊗ (λ name k n. refl)
-    ⊗ (λ name k offset amount. refl)
-    ⊗ (λ name n. refl)
-    ⊗ (λ name address. refl)
-    ⊗ (λ name address delta. refl)
-    ⊗ (λ name on. refl)
-    ⊗ (λ name k to leaf. refl)
-    ⊗ (λ name. refl)
-    ⊗ (λ name comes_in id. cancel-spells name comes_in id)
-    ⊗ (λ name. refl)
-    ⊗ (λ k delta. refl)
-    ⊗ (λ most. refl)
-    ⊗ (λ k. refl)
-    ⊗ (λ n. refl)
-    ⊗ (λ address. refl)
-    ⊗ (λ address delta. refl)
-    ⊗ (λ name k. refl)
-    ⊗ (λ name. refl)
-    ⊗ (λ name. refl)
-    ⊗ (λ name. refl)
-    ⊗ refl
-    ⊗ tt
+rows-spell = search (rules, manner-back, cancel-spells)
 
 -- ---- and back
 

@@ -4,14 +4,13 @@ use Rattle.rh_defs.proofs.Common.{NotABlock, NoRoom, EventCode, User, Recorded, 
 use Rattle.rh_defs.proofs.Common.{DataLoadAck, RamFetch, RamTransmit, Incoming, Granted, ◌>>=◌, ◌>>◌, refuse_if, found_or, Split, block_at, Flex, Parcel}
 use Rattle.rh_defs.proofs.Common.{Post, Desk, Task, Scrap, free_pages, with_delivered, Answer, handled}
 use Rattle.rh_defs.specs.declared.refusal.Refusal.TheVariants.{NotYours}
-use Rattle.rh_defs.specs.declared.command.Command.TheVariants as command
 use Rattle.rh_defs.specs.declared.reply.Reply.{Reply}
 use Rattle.rh_defs.specs.declared.transfer.Sending.{Sending}
 use Rattle.rh_defs.specs.declared.transfer.Taking.{Taking}
 use Rattle.rh_defs.specs.declared.transfer.Asked.{Asked}
 use Rattle.rh_defs.specs.declared.transfer.Incoming.TheVariants as incoming
 use Rattle.rh_defs.specs.Desk.{with_task, with_post, kept_scrap, send_letter, module_start}
-use Rattle.rh_defs.specs.Commands.{load, own_block, event, poll_taken, is_refused}
+use Rattle.rh_defs.specs.Commands.{own_block, event, poll_taken, is_refused}
 use Rattle.rh_defs.specs.OutgoingEvents.{Handled, transmit, refused, answer_fetch, fail_sending, save_scrap, answer_ack, finish_load}
 use Rattle.rh_defs.specs.IncomingEvents.{ended, accept, take_save, appended, fetch_more, took, is_uncountable, take_bytes, ask, fetch_back, ack_back, loaded}
 use Rattle.rh_defs.specs.IncomingEvents.{load_file, take_file}

@@ -2,14 +2,14 @@
 use Rattle.rh_defs.proofs.Common.{◌≡◌, refl, ℕ, ◌-◌, ◌/◌, ℤ, pos, negsuc, Bool, true, false, List, [], ◌∷◌, map, Ok, Err, NotABlock, BadSize, NoRoom, Granted}
 use Rattle.rh_defs.proofs.Common.{answer_of, left_of, page, Heap, Slot, slot_pages, module_claim, module_free, module_resize, module_change}
 use Rattle.rh_defs.specs.declared.refusal.Refusal.TheVariants.{AnchorInUse, BadRange, NoBudge, ExcessiveShrink}
-use Rattle.rh_defs.specs.declared.listing.BlockItem.{BlockItem}
+use Rattle.rh_defs.specs.declared.question.BlockItem.{BlockItem}
 use Rattle.rh_defs.specs.Chain as chain
 use Rattle.rh_defs.specs.Heap.{empty_heap}
 use Rattle.rh_defs.specs.Slot as slot
 use Rattle.rh_defs.specs.Slot.{new_slot, slot_alloc, slot_free, slot_extend, slot_mid, slot_put, slot_read, slot_claim, slot_release, slot_resize}
 use Rattle.rh_defs.specs.Slot.{slot_take_pages, holds}
 use Rattle.rh_defs.specs.Module as module_area
-use Rattle.rh_defs.specs.Listing.{block_items}
+use Rattle.rh_defs.specs.Questions.{block_items}
 
 pub data Call : Type 0 where
   Alloc : (k n : ℕ) → Call

@@ -18,7 +18,7 @@ use Rattle.rh_defs.specs.Commands.{shrinks_below, pages_after, change_module, ch
 use Rattle.rh_defs.specs.Commands.{own_block, rma_claim, rma_free, rma_resize, save, repeat, poll, poll_taken, cancel_in, cancel_out, change, is_refused}
 use Rattle.rh_defs.specs.Runs.{after}
 use Rattle.rh_defs.specs.Laws.{Rise, IsStart, AreMade, task_handles, seat_handles}
-use Rattle.rh_defs.proofs.Chains.{OnGrant, granted, refused, granted-then, granted-with, granted-past, grant-holds, chosen, found_or-grants, or_else-keeps}
+use Rattle.rh_defs.proofs.Chains.{OnGrant, granted, refused, granted-then, granted-with, granted-past, chosen, found_or-grants, or_else-keeps}
 use Rattle.rh_defs.proofs.Cuts.{total-append}
 use Rattle.rh_defs.proofs.Lists.{append-all, filter-all, filter-total, filter-length, map-filter, rise-append, rise-filter, rise-same, some-is}
 use Rattle.rh_defs.proofs.ModuleKeeps.{module_claim-grants, module_free-grants, module_resize-grants, module_change-grants, changed-whole}
@@ -31,7 +31,7 @@ use Rattle.rh_defs.proofs.Transfers.{IsAfter, handled-keeps}
 use Rattle.rh_defs.specs.Order.{SameForEach, with_queue, IsReordered, StepsAlike, IgnoresOrder}
 use Rattle.rh_defs.proofs.Follows.{Follows, follows-same, follows-then, follows-less, or_else-follows, chosen-both}
 use Rattle.rh_defs.proofs.Orders.{post_poll-alike, post_death-alike}
-use Rattle.rh_defs.proofs.QuestionLaws.{asked-requeued, first-is, first-quiet}
+use Rattle.rh_defs.proofs.QuestionLaws.{asked-requeued}
 use Rattle.rh_defs.proofs.OrderSteps.{Alike, SaidAlike, follows-desk, send_letter-alike, delivered-alike, polled-alike, killed-alike, own_block-same}
 use Rattle.rh_defs.proofs.Changes.{IsOnMemory, Changed, in_areas, in_made, in_module, in_nothing, IsAnswer, answer-is, Does, anything, known-step, step-then}
 use Rattle.rh_defs.proofs.Changes.{equal-step, past, otherwise, done, in-slot, in-module}
@@ -395,8 +395,7 @@ module _ (d : Desk) (queue : List Parcel) (same : SameForEach d.post.queued queu
       in-module d queue same c.0 refl (λ run. with_module-keeps c.0 d (fills run) run.desk)
   does (command.Ask q) =
       equal-step _ _ _ _ (asked-requeued queue d q) (λ run. anything (asked d q)) λ told e known.
-      let quiet = first-quiet (grant-holds (first-is d q) e) in
-      done d queue same d same quiet (λ run. run.desk) (in_nothing quiet)
+      done d queue same d same refl (λ run. run.desk) (in_nothing refl)
 
 -- a queue is in its own order
 in-order : (queue : List Parcel) → SameForEach queue queue

@@ -314,7 +314,7 @@ change d (command.Remove k) = remove d k
 change d (command.RmaClaim n) = rma_claim d n
 change d (command.RmaFree address) = rma_free d address
 change d (command.RmaResize address delta) = rma_resize d address delta
-change d (command.Ask q) = asked d q >>= λ told. Ok (d, told.0)
+change d (command.Ask q) = asked d q >>= λ told. Ok (d, reply.Answered told.0)
 
 -- one command: a refusal leaves the desk as it was
 abbrev pub step : Desk → Command → Answer

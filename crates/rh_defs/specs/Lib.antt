@@ -24,7 +24,6 @@ pub mod Places
 pub mod OutgoingEvents
 pub mod IncomingEvents
 pub mod Transfer
-pub mod Listing
 pub mod Questions
 pub mod Commands
 pub mod Order

@@ -1,5 +1,5 @@
 -- The text of a reply: its words, one space between them, and its later lines behind two spaces.
-use Rattle.std.specs.Prelude.{true, false, Bool, ◌&&◌, if◌then◌else◌, ℕ, List, [], ◌∷◌, ◌++◌, codes, Ok, Err}
+use Rattle.std.specs.Prelude.{true, false, Bool, ◌&&◌, if◌then◌else◌, ℕ, List, [], ◌∷◌, ◌++◌, map, codes, Ok, Err}
 use Rattle.std.specs.List.{flat_map}
 use Rattle.std.specs.Fmt.{decimal, digits}
 use Rattle.hex.specs.Hex.{encode_lower}
@@ -15,20 +15,19 @@ use Rattle.rh_defs.specs.declared.reply.Reply.{Reply}
 use Rattle.rh_defs.specs.declared.reply.Reply.TheVariants as reply
 use Rattle.rh_defs.specs.declared.reply.Outcome.{Outcome}
 use Rattle.rh_defs.specs.declared.reply.Outcome.TheVariants as outcome
-use Rattle.rh_defs.specs.declared.listing.BlockItem.{BlockItem}
-use Rattle.rh_defs.specs.declared.listing.SegmentItem.{SegmentItem}
-use Rattle.rh_defs.specs.declared.listing.SegmentItem.TheVariants as segment
-use Rattle.rh_defs.specs.declared.listing.AreaItem.{AreaItem}
-use Rattle.rh_defs.specs.declared.listing.AreaItem.TheVariants as item
-use Rattle.rh_defs.specs.declared.listing.State.{State}
-use Rattle.rh_defs.specs.declared.listing.State.TheVariants as state
-use Rattle.rh_defs.specs.declared.listing.RecordItem.{RecordItem}
+use Rattle.rh_defs.specs.declared.question.BlockItem.{BlockItem}
+use Rattle.rh_defs.specs.declared.question.SegmentItem.{SegmentItem}
+use Rattle.rh_defs.specs.declared.question.SegmentItem.TheVariants as segment
+use Rattle.rh_defs.specs.declared.question.AreaItem.{AreaItem}
+use Rattle.rh_defs.specs.declared.question.AreaItem.TheVariants as item
+use Rattle.rh_defs.specs.declared.question.State.{State}
+use Rattle.rh_defs.specs.declared.question.State.TheVariants as state
+use Rattle.rh_defs.specs.declared.question.RecordItem.{RecordItem}
 use Rattle.rh_defs.specs.Messages.{code_number}
 use Rattle.rh_defs.specs.Desk.{Desk}
 use Rattle.rh_defs.specs.Chain.{Granted}
-use Rattle.rh_defs.specs.Listing.{Listed, Nothing, Bytes, Blocks, Segments, Records, Areas}
 use Rattle.rh_defs.specs.Range.{can_be_asked}
-use Rattle.rh_defs.specs.Questions.{Told, asked, begins}
+use Rattle.rh_defs.specs.Questions.{Listed, Nothing, Bytes, Blocks, Segments, Records, Areas, Told, each_of, asked, begins}
 
 -- ---- words and lines
 
@@ -143,11 +142,7 @@ first_line (reply.WasBudging on) listed = ok (on_or_off on ∷ [])
 first_line (reply.Sent ref) listed = ok (decimal ref ∷ [])
 first_line (reply.Moved bytes) listed = ok (decimal bytes ∷ [])
 first_line (reply.Made number) listed = ok (decimal number ∷ [])
-first_line (reply.Shown size) listed = ok (decimal size ∷ hex_words (shown_bytes listed))
-first_line (reply.BlockCount count) listed = ok (decimal count ∷ [])
-first_line (reply.HeapSums length largest free) listed = ok (decimal length ∷ decimal largest ∷ decimal free ∷ [])
-first_line (reply.StatusOf handle) listed = ok (decimal handle ∷ [])
-first_line (reply.FreePages pages) listed = ok (decimal pages ∷ [])
+first_line (reply.Answered numbers) listed = ok (map decimal (each_of numbers) ++ hex_words (shown_bytes listed))
 first_line reply.NoEvent listed = ok (codes "0" ∷ [])
 first_line (reply.Event code action mine yours outcome) listed =
     ok (decimal (code_number code) ∷ action_name action ∷ decimal mine ∷ decimal yours ∷ outcome_words outcome)
@@ -203,7 +198,7 @@ later_lines (Areas areas) = flat_map area_line areas
 
 -- the answer to a question, or its refusal
 unfoldable pub answer_text : Granted Told → List ℕ
-answer_text (Ok told) = first_line told.0 told.1 ++ later_lines told.1
+answer_text (Ok told) = first_line (reply.Answered told.0) told.1 ++ later_lines told.1
 answer_text (Err refusal) = first_line (reply.Refused refusal) Nothing
 
 -- what prints the reply to a command, on the desk after it: one that begins the desk's answer to a question that a line

@@ -9,7 +9,6 @@ mod heap;
 mod ids;
 mod laws;
 mod leaf;
-mod listing;
 mod message;
 mod name;
 mod pathname;
@@ -27,11 +26,12 @@ pub use heap::{HeapFault, HeapRefusal};
 pub use ids::{Anchor, Handle, Ref};
 pub use laws::{block_law, image_law, order_law, span_law};
 pub use leaf::Leaf;
-pub use listing::{AreaItem, BlockItem, MessageItem, RecordItem, SegmentItem, State};
-pub use message::{Action, Body, Event, EventCode, FileData, Letter, Message, MessageFault};
+pub use message::{
+    Action, Body, Event, EventCode, FileData, Letter, Message, MessageFault, MessageItem,
+};
 pub use name::Name;
 pub use pathname::Pathname;
-pub use question::Question;
+pub use question::{AreaItem, BlockItem, Numbers, Question, RecordItem, SegmentItem, State};
 pub use refusal::Refusal;
 pub use reply::{Outcome, Reply};
 pub use transfer::{Asked, Incoming, Outgoing, Sending, Taking};

@@ -244,3 +244,37 @@ pub enum MessageFault {
     #[error("the action is not one of a file or a RAM transfer")]
     BadAction,
 }
+
+/// A live message as it is listed.
+#[derive(Clone, Copy, Debug, PartialEq, Eq)]
+pub struct MessageItem {
+    /// Where its block begins, in bytes from the module area's first one.
+    pub block: u32,
+    /// The task that it is for.
+    pub to: Handle,
+    /// The task that sent it.
+    pub from: Handle,
+    /// Its own ref.
+    pub my_ref: Ref,
+    /// What it asks for.
+    pub action: Action,
+    /// The event as which it is handed out.
+    pub code: EventCode,
+    /// Whether its task holds it; else it waits for a poll.
+    pub held: bool,
+}
+
+impl Default for MessageItem {
+    /// No message, as refs count up from 1.
+    fn default() -> MessageItem {
+        MessageItem {
+            block: 0,
+            to: Handle(0),
+            from: Handle(0),
+            my_ref: Ref(0),
+            action: Action::DataSave,
+            code: EventCode::User,
+            held: false,
+        }
+    }
+}

@@ -1,12 +1,14 @@
-//! What is asked of a desk.
+//! What is asked of a desk, and what an answer has: the numbers of its first line, and the items that it lists.
 
 ghost use Rattle.std.specs.Prelude.{◌≡◌};
 ghost use Rattle.std.specs.Option.{option_map};
 ghost use Rattle.rh_defs.specs.Named.{name_asked};
+ghost use Rattle.rh_defs.specs.Questions.{each_of};
 ghost use Rattle.rh_defs.specs.Range.{can_be_asked};
 
-use crate::ids::Anchor;
+use crate::ids::{Anchor, Handle, Ref};
 use crate::name::Name;
+use arrayvec::ArrayVec;
 
 /// One question: a command that looks at a desk, and can't change it.
 #[derive(Debug, Drop, PartialEq, Eq)]
@@ -49,4 +51,131 @@ impl Question {
             Question::Areas => None,
         }
     }
+}
+
+/// So many numbers stand in an answer's first line at most.
+const MOST_NUMBERS: usize = 3;
+
+/// What the first line of an answer tells.
+#[derive(Clone, Copy, Debug, PartialEq, Eq)]
+pub enum Numbers {
+    /// The size in bytes of the block that is shown.
+    Shown {
+        size: u32,
+    },
+    /// How many flex blocks a slot has.
+    BlockCount(u32),
+    /// A C heap's length, the size of the largest block that fits, and its free bytes (OS_Heap 1).
+    HeapSums {
+        length: u32,
+        largest: u32,
+        free: u32,
+    },
+    /// The handle of the task whose records are listed.
+    StatusOf(Handle),
+    /// How many pages are free.
+    FreePages(u32),
+}
+
+impl Numbers {
+    /// Each number, in the order in which the line has them.
+    pub fn each(&self) -> ArrayVec<u32, MOST_NUMBERS>
+        ensures { result.items ≡ each_of self.now }
+    {
+        let mut numbers = ArrayVec::new();
+        match self {
+            Numbers::Shown { size: number }
+            | Numbers::BlockCount(number)
+            | Numbers::StatusOf(Handle(number))
+            | Numbers::FreePages(number) => numbers.push(*number),
+            Numbers::HeapSums {
+                length,
+                largest,
+                free,
+            } => {
+                numbers.push(*length);
+                numbers.push(*largest);
+                numbers.push(*free);
+            }
+        }
+        numbers
+    }
+}
+
+/// A flex block as `blocks` lists it.
+#[derive(Clone, Copy, Debug, PartialEq, Eq)]
+pub struct BlockItem {
+    /// The anchor that holds the block's address.
+    pub anchor: Anchor,
+    /// The address of its first byte, from &8000 on.
+    pub address: u32,
+    /// Its size in bytes.
+    pub size: u32,
+}
+
+impl Default for BlockItem {
+    /// No block, as none is at address 0.
+    fn default() -> BlockItem {
+        BlockItem {
+            anchor: Anchor(0),
+            address: 0,
+            size: 0,
+        }
+    }
+}
+
+/// A segment of a C heap as `heap` lists it.
+#[derive(Clone, Copy, Debug, PartialEq, Eq)]
+pub enum SegmentItem {
+    /// A block: its address, and its size in bytes.
+    Used { address: u32, size: u32 },
+    /// A hole: the address of its first byte, and its whole size in bytes.
+    Hole { address: u32, size: u32 },
+}
+
+impl Default for SegmentItem {
+    /// A hole of no bytes, as no heap has one.
+    fn default() -> SegmentItem {
+        SegmentItem::Hole {
+            address: 0,
+            size: 0,
+        }
+    }
+}
+
+/// An area or a slot as `areas` lists it.
+#[derive(Debug, Drop, PartialEq, Eq)]
+pub enum AreaItem {
+    /// An area by its number: 0 to 5 as OS_ChangeDynamicArea has them, or that of a made one.
+    Area { number: u32, pages: u32 },
+    /// The slot of the task with the name.
+    Slot { name: Name, pages: u32 },
+}
+
+/// The state of a transfer's record.
+#[derive(Clone, Copy, Debug, PartialEq, Eq)]
+pub enum State {
+    /// It goes out, and hasn't ended.
+    Open,
+    /// It comes in through its buffer.
+    Fetching,
+    /// It was given up, and its buffer isn't back yet.
+    Draining,
+    /// It waits for a file.
+    Asking,
+    /// It ended, and all bytes were handed over.
+    Done,
+    /// It ended early.
+    Failed,
+}
+
+/// A record of a transfer as `status` lists it.
+#[derive(Clone, Copy, Debug, PartialEq, Eq)]
+pub struct RecordItem {
+    /// Where the transfer stands.
+    pub state: State,
+    /// The ref of its DataSave.
+    pub id: Ref,
+    /// The bytes that were handed over so far.
+    pub count: u32,
 }

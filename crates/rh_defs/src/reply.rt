@@ -2,6 +2,7 @@
 
 use crate::ids::{Handle, Ref};
 use crate::message::{Action, EventCode};
+use crate::question::Numbers;
 use crate::refusal::Refusal;
 
 /// The answer of a command: a refusal, or the words and numbers of its reply's first line.
@@ -29,22 +30,8 @@ pub enum Reply {
     Made {
         number: u32,
     },
-    /// The size in bytes of the block that is shown.
-    Shown {
-        size: u32,
-    },
-    /// How many flex blocks a slot has.
-    BlockCount(u32),
-    /// A C heap's length, the size of the largest block that fits, and its free bytes (OS_Heap 1).
-    HeapSums {
-        length: u32,
-        largest: u32,
-        free: u32,
-    },
-    /// The handle of the task whose records are listed.
-    StatusOf(Handle),
-    /// How many pages are free.
-    FreePages(u32),
+    /// A question was answered, and the first line tells this.
+    Answered(Numbers),
     /// A poll found no message (Null_Reason_Code).
     NoEvent,
     /// A poll took a message, and did this with it.

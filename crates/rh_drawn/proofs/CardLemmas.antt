@@ -4,7 +4,7 @@ use Rattle.rh_drawn.proofs.Common.{subst, ◌∙◌, arith, List, [], ◌∷◌,
 use Rattle.rh_drawn.proofs.Common.{slice_get, nat_tests, drop_all, drop_more, map-append, take_all, slice_get-get_or, slice_get_within, BlockItem, Task}
 use Rattle.rh_drawn.proofs.Common.{block_items, flex_start, Card, flex_cards, more_card, shown_cards, card_line, is_fresh_flex, Scene, card_lines}
 use Rattle.rh_drawn.proofs.Common.{cards_behind, count_shown, place_behind}
-use Rattle.rh_defs.specs.Listing.{block_items_from}
+use Rattle.rh_defs.specs.Questions.{block_items_from}
 use Rattle.rh_defs.specs.Slot.{Flex, weight}
 use Rattle.rh_figure.specs.Cards.{flex_card, flex_cards_from, use_of_block}
 use Rattle.rh_drawn.specs.Cards.{place_from}

@@ -17,10 +17,9 @@ pub use Rattle.rh_defs.specs.Heap.{Heap}
 pub use Rattle.rh_defs.specs.Laws.{IsDesk, Rise}
 pub use Rattle.rh_defs.specs.Line.{Meaning}
 unfoldable pub use Rattle.rh_defs.specs.Line.{line_means}
-pub use Rattle.rh_defs.specs.Listing.{Nothing, block_items, in_item, out_item}
+pub use Rattle.rh_defs.specs.Questions.{Nothing, block_items, in_item, out_item, asked}
 pub use Rattle.rh_defs.specs.Messages.{Parcel, action_of}
 pub use Rattle.rh_defs.specs.Order.{IsReordered}
-pub use Rattle.rh_defs.specs.Questions.{asked}
 pub use Rattle.rh_defs.specs.Records.{in_id}
 pub use Rattle.rh_defs.specs.Script.{ended, unended}
 pub use Rattle.rh_defs.specs.Slot.{flex_start}
@@ -29,8 +28,8 @@ unfoldable pub use Rattle.rh_defs.specs.Text.{answer_text, fault_text, first_lin
 pub use Rattle.rh_defs.specs.declared.command.Command.{Command}
 pub use Rattle.rh_defs.specs.declared.fault.LineFault.{LineFault}
 pub use Rattle.rh_defs.specs.declared.fault.LineFault.TheVariants.{TooLong}
-pub use Rattle.rh_defs.specs.declared.listing.BlockItem.{BlockItem}
-pub use Rattle.rh_defs.specs.declared.listing.MessageItem.{MessageItem}
+pub use Rattle.rh_defs.specs.declared.question.BlockItem.{BlockItem}
+pub use Rattle.rh_defs.specs.declared.message.MessageItem.{MessageItem}
 pub use Rattle.rh_defs.specs.declared.reply.Reply.{Reply}
 pub use Rattle.rh_defs.specs.declared.transfer.Incoming.{Incoming}
 pub use Rattle.rh_defs.specs.declared.transfer.Outgoing.{Outgoing}

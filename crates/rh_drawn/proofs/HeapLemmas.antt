@@ -5,10 +5,10 @@ use Rattle.rh_drawn.proofs.Common.{slice_get, AllByRecursion, flat_map, list_any
 use Rattle.rh_drawn.proofs.Common.{slice_get_within, Desk, Task, Heap, IsDesk, Parcel, Card, Scene, message_in, MessageItem, held_on, waiting_on, HasBlock}
 use Rattle.rh_drawn.proofs.Common.{heap_seen, heap_start_of, band_cards, is_fresh_card, with_items}
 use Rattle.rh_defs.specs.declared.sizes.TheConstants.{SEGMENTS_AT_ONCE}
-use Rattle.rh_defs.specs.declared.listing.SegmentItem.{SegmentItem}
-use Rattle.rh_defs.specs.declared.listing.SegmentItem.TheVariants as segment
+use Rattle.rh_defs.specs.declared.question.SegmentItem.{SegmentItem}
+use Rattle.rh_defs.specs.declared.question.SegmentItem.TheVariants as segment
 use Rattle.rh_defs.specs.Heap.{Hole, Segment, Used, place_after, size_of}
-use Rattle.rh_defs.specs.Listing.{segment_item, segment_items_from}
+use Rattle.rh_defs.specs.Questions.{segment_item, segment_items_from}
 use Rattle.rh_defs.specs.Laws.{IsQueued}
 use Rattle.rh_defs.specs.Order.{is_to}
 use Rattle.rh_defs.specs.Pieces.{total}

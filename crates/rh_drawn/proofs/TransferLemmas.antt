@@ -4,7 +4,7 @@ use Rattle.rh_drawn.proofs.Common.{◌||◌, not, filter, find, if◌then◌else
 use Rattle.rh_drawn.proofs.Common.{in_item, out_item, in_id, Side, has_id, transfer_line, under, Text, comes_alone, goes_out}
 use Rattle.std.proofs.lemmas.List.Elements.{filter-append}
 use Rattle.std.proofs.lemmas.List.Folds.{find-append, list_any-append}
-use Rattle.rh_defs.specs.declared.listing.RecordItem.{RecordItem}
+use Rattle.rh_defs.specs.declared.question.RecordItem.{RecordItem}
 use Rattle.rh_defs.specs.declared.transfer.Incoming.TheVariants as incoming
 use Rattle.rh_defs.specs.declared.transfer.Outgoing.TheVariants as outgoing
 use Rattle.rh_defs.specs.Records.{out_id}

@@ -1,12 +1,12 @@
 -- The cards of a heap: a task's C heap, or that of the module area.
 use Rattle.std.specs.Prelude.{◌≡◌, ℕ, ◌+◌, ◌-◌, ◌==◌, ◌&&◌, nat_le, Bool, false, if◌then◌else◌, List, [], ◌∷◌, ◌++◌, codes, slice_get, Option, Some, None}
 use Rattle.std.specs.Fmt.{decimal}
-use Rattle.rh_defs.specs.declared.listing.SegmentItem.{SegmentItem}
-use Rattle.rh_defs.specs.declared.listing.SegmentItem.TheVariants as segment
+use Rattle.rh_defs.specs.declared.question.SegmentItem.{SegmentItem}
+use Rattle.rh_defs.specs.declared.question.SegmentItem.TheVariants as segment
 use Rattle.rh_defs.specs.Messages.{Parcel, action_of}
 use Rattle.rh_defs.specs.Heap.{Segment, Heap, first_place, place_after}
 use Rattle.rh_defs.specs.Desk.{Desk, Task, module_start}
-use Rattle.rh_defs.specs.Listing.{segment_items_from}
+use Rattle.rh_defs.specs.Questions.{segment_items_from}
 use Rattle.rh_figure.specs.Phrases.{Text}
 use Rattle.rh_figure.specs.Scene.{Scene, message_in}
 use Rattle.rh_figure.specs.Cards.{Card, hole_card, heap_card, module_card, cards_from}
@@ -14,7 +14,7 @@ use Rattle.rh_figure.specs.Layout.{is_fresh_block, is_new_message}
 use Rattle.rh_figure.specs.declared.limits.TheConstants.{MOST_CARDS}
 use Rattle.rh_sight.specs.declared.sight.HeapOf.{HeapOf}
 use Rattle.rh_sight.specs.declared.sight.HeapOf.TheVariants as heap_of
-use Rattle.rh_defs.specs.declared.listing.MessageItem.{MessageItem}
+use Rattle.rh_defs.specs.declared.message.MessageItem.{MessageItem}
 use Rattle.rh_sight.specs.declared.message_list.Place.{Place}
 use Rattle.rh_sight.specs.declared.message_list.Place.TheVariants.{Held, Before, Last}
 use Rattle.rh_sight.specs.Seen.{heap_start_of}

@@ -7,7 +7,7 @@ use Rattle.rh_figure.specs.declared.limits.TheConstants.{MOST_LISTED}
 use Rattle.rh_map.specs.Messages.{letterbox_of}
 use Rattle.rh_map.specs.declared.letterboxes.MessageEntry.{MessageEntry}
 use Rattle.rh_sight.specs.Messages.{is_held_by, waits_for}
-use Rattle.rh_defs.specs.declared.listing.MessageItem.{MessageItem}
+use Rattle.rh_defs.specs.declared.message.MessageItem.{MessageItem}
 
 -- whether a message is for the task
 abbrev pub has_letters_in : ℕ → List MessageItem → Bool

@@ -1,5 +1,5 @@
 -- What a map has done with a line of its script.
-use Rattle.std.specs.Prelude.{◌≡◌, ◌||◌, ◌&&◌, not, Bool, false, if◌then◌else◌, List, [], ◌∷◌, ℕ, Option, is_err}
+use Rattle.std.specs.Prelude.{◌≡◌, ◌||◌, ◌&&◌, not, Bool, false, List, [], ◌∷◌, ℕ, Option, is_err}
 use Rattle.rh_defs.specs.declared.command.Command.{Command}
 use Rattle.rh_defs.specs.declared.reply.Reply.{Reply}
 use Rattle.rh_defs.specs.Line.{Meaning, line_means}

@@ -3,7 +3,7 @@ use Rattle.std.specs.Prelude.{ℕ, ◌==◌, ◌&&◌, not, Bool, if◌then◌el
 use Rattle.rh_defs.specs.Desk.{Desk}
 use Rattle.rh_figure.specs.Phrases.{Text, is_returned, task_name}
 use Rattle.rh_figure.specs.Changes.{returns_line}
-use Rattle.rh_defs.specs.declared.listing.MessageItem.{MessageItem}
+use Rattle.rh_defs.specs.declared.message.MessageItem.{MessageItem}
 
 -- whether a message that waits has the ref, and is on its way back
 abbrev pub returns : ℕ → MessageItem → Bool

@@ -2,7 +2,7 @@
 use Rattle.std.specs.Prelude.{List, find, map, Some, None}
 use Rattle.std.specs.List.{flat_map}
 use Rattle.rh_defs.specs.Desk.{Desk, Task}
-use Rattle.rh_defs.specs.Listing.{out_item, in_item}
+use Rattle.rh_defs.specs.Questions.{out_item, in_item}
 use Rattle.rh_figure.specs.Figure.{Side, Transfer, has_id}
 
 -- the sides that go out, and those that come in, task by task

@@ -2,7 +2,7 @@
 
 ghost use Rattle.std.specs.Prelude.{◌≡◌, ◌≤◌, ◌<◌, [], ◌∷◌, ◌++◌, IfSome, List, filter, flat_map, if◌then◌else◌, length, map, not};
 ghost use Rattle.rh_defs.specs.Desk.{task_at};
-ghost use Rattle.rh_defs.specs.declared.listing.BlockItem.{BlockItem};
+ghost use Rattle.rh_defs.specs.declared.question.BlockItem.{BlockItem};
 ghost use Rattle.rh_defs.specs.declared.sizes.TheConstants.{ANCHORS};
 ghost use Rattle.rh_drawn.specs.Parts.{block_part, indented, slide_part};
 ghost use Rattle.rh_drawn.specs.Slides.{from_seen, summary_of, with_one};

@@ -3,7 +3,7 @@
 ghost use Rattle.std.specs.Prelude.{◌≡◌, ◌==◌, ◌||◌, [], ◌∷◌, filter, find, if◌then◌else◌, length, map, not};
 ghost use Rattle.std.specs.List.{list_any};
 ghost use Rattle.std.specs.Option.{option_map};
-ghost use Rattle.rh_defs.specs.Listing.{in_item as in_item_of, out_item as out_item_of};
+ghost use Rattle.rh_defs.specs.Questions.{in_item as in_item_of, out_item as out_item_of};
 ghost use Rattle.rh_defs.specs.Records.{in_id as in_id_of, out_id as out_id_of};
 ghost use Rattle.rh_drawn.specs.Parts.{transfer_part};
 ghost use Rattle.rh_drawn.specs.Sides.{comes_alone, goes_out, ins_of, outs_of};

@@ -7,9 +7,8 @@ use Rattle.rh_defs.specs.declared.reply.Reply.{Reply}
 use Rattle.rh_defs.specs.declared.fault.LineFault.{LineFault}
 use Rattle.rh_defs.specs.Messages.{Parcel}
 use Rattle.rh_defs.specs.Desk.{Desk, Task}
-use Rattle.rh_defs.specs.Listing.{Nothing}
+use Rattle.rh_defs.specs.Questions.{Nothing, begins}
 use Rattle.rh_defs.specs.Range.{can_be_asked}
-use Rattle.rh_defs.specs.Questions.{begins}
 use Rattle.rh_defs.specs.Order.{with_queue, IsReordered}
 use Rattle.rh_defs.specs.Commands.{step}
 use Rattle.rh_defs.specs.Text.{answer_text, first_line, reply_text, fault_text}

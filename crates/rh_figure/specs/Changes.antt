@@ -2,14 +2,14 @@
 use Rattle.std.specs.Prelude.{ℕ, ◌-◌, ◌==◌, nat_lt, ◌&&◌, not, Bool, if◌then◌else◌, List, [], ◌∷◌, ◌++◌, length, drop, map, filter, find, codes, Option, Some, None}
 use Rattle.std.specs.List.{list_any, flat_map, concat}
 use Rattle.std.specs.Fmt.{decimal}
-use Rattle.rh_defs.specs.declared.listing.BlockItem.{BlockItem}
+use Rattle.rh_defs.specs.declared.question.BlockItem.{BlockItem}
 use Rattle.rh_defs.specs.declared.message.Action.{Action}
 use Rattle.rh_defs.specs.declared.message.Body.{Body}
 use Rattle.rh_defs.specs.declared.message.Body.TheVariants.{RamTransmit}
 use Rattle.rh_defs.specs.declared.message.Letter.{Letter}
 use Rattle.rh_defs.specs.Messages.{Parcel, action_of}
 use Rattle.rh_defs.specs.Desk.{Task, task_at}
-use Rattle.rh_defs.specs.Listing.{block_items}
+use Rattle.rh_defs.specs.Questions.{block_items}
 use Rattle.rh_defs.specs.Text.{action_name, address}
 use Rattle.rh_figure.specs.Share.{Holding, count_of, holdings}
 use Rattle.rh_figure.specs.Scene.{Scene, waiting}

@@ -4,13 +4,13 @@ use Rattle.std.specs.List.{list_any, flat_map, concat, join_by, enumerate_from, 
 use Rattle.std.specs.Fmt.{decimal}
 use Rattle.rh_defs.specs.declared.command.Manner.{Manner}
 use Rattle.rh_defs.specs.declared.command.Manner.TheVariants as manner
-use Rattle.rh_defs.specs.declared.listing.RecordItem.{RecordItem}
+use Rattle.rh_defs.specs.declared.question.RecordItem.{RecordItem}
 use Rattle.rh_defs.specs.declared.message.Letter.{Letter}
 use Rattle.rh_defs.specs.Slot.{slot_start}
 use Rattle.rh_defs.specs.Messages.{Parcel}
 use Rattle.rh_defs.specs.Post.{held_by}
 use Rattle.rh_defs.specs.Desk.{Task, Made, Scrap, task_pages, module_pages, free_pages, module_area, module_start, scrap_area}
-use Rattle.rh_defs.specs.Listing.{out_item, in_item}
+use Rattle.rh_defs.specs.Questions.{out_item, in_item}
 use Rattle.rh_figure.specs.Share.{Owner, AreaOf, SlotOf, Holding, holdings}
 use Rattle.rh_figure.specs.Scene.{Scene, held_list}
 use Rattle.rh_figure.specs.Phrases.{Text, where_so, size_text, pages_text, listed_numbers, and_more, area_name, message_text}

@@ -1,7 +1,7 @@
 -- The pieces of an area: its bytes, one thing after the other.
 use Rattle.std.specs.Prelude.{◌≡◌, ℕ, ◌+◌, ◌-◌, ◌*◌, ◌==◌, ◌&&◌, ◌||◌, not, Bool, false, List, [], ◌∷◌, ◌++◌, length, take, drop, Option, Some, None}
 use Rattle.std.specs.List.{list_any}
-use Rattle.rh_defs.specs.declared.listing.BlockItem.{BlockItem}
+use Rattle.rh_defs.specs.declared.question.BlockItem.{BlockItem}
 use Rattle.rh_defs.specs.declared.sizes.TheConstants.{C_HEAP_PLACE}
 use Rattle.rh_defs.specs.Pieces.{page, total}
 use Rattle.rh_defs.specs.Heap.{Segment, Used, Hole, Heap, size_of, first_place, base}

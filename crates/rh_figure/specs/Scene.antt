@@ -5,7 +5,7 @@ use Rattle.rh_defs.specs.declared.command.Command.{Command}
 use Rattle.rh_defs.specs.declared.command.Command.TheVariants as command
 use Rattle.rh_defs.specs.declared.reply.Reply.{Reply}
 use Rattle.rh_defs.specs.declared.reply.Reply.TheVariants as reply
-use Rattle.rh_defs.specs.declared.listing.BlockItem.{BlockItem}
+use Rattle.rh_defs.specs.declared.question.BlockItem.{BlockItem}
 use Rattle.rh_defs.specs.declared.message.Action.{Action}
 use Rattle.rh_defs.specs.declared.message.Body.{Body}
 use Rattle.rh_defs.specs.declared.message.Body.TheVariants.{RamFetch, RamTransmit}
@@ -13,7 +13,7 @@ use Rattle.rh_defs.specs.declared.message.Letter.{Letter}
 use Rattle.rh_defs.specs.Messages.{Parcel}
 use Rattle.rh_defs.specs.Post.{Seat, held_by}
 use Rattle.rh_defs.specs.Desk.{Desk, Task, has_name, task_at, free_pages, next_ref}
-use Rattle.rh_defs.specs.Listing.{block_items}
+use Rattle.rh_defs.specs.Questions.{block_items}
 use Rattle.rh_defs.specs.Order.{is_to, with_queue}
 use Rattle.rh_defs.specs.Named.{name_in}
 use Rattle.rh_defs.specs.Commands.{is_refused}

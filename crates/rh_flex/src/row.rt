@@ -1,6 +1,6 @@
 //! Walks over the row of flex blocks of a slot in lent bytes.
 ghost use Rattle.std.specs.Prelude.{◌≡◌, ◌+◌, length, slice_get, OnSome, IfNone};
-ghost use Rattle.rh_defs.specs.Listing.{block_items};
+ghost use Rattle.rh_defs.specs.Questions.{block_items};
 ghost use Rattle.rh_flex.specs.Slots.{IsSlotBytes, slot_in};
 ghost use Rattle.rh_slot.specs.Row.{WalksIn};
 

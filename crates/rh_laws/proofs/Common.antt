@@ -45,7 +45,7 @@ pub use Rattle.rh_defs.specs.Laws.{IsDesk, Rise}
 pub use Rattle.rh_defs.specs.Letters.{load_ack_letter, save_letter}
 pub use Rattle.rh_defs.specs.Line.{command_of, hex_number, is_skipped, longest_line, row_of, word}
 unfoldable pub use Rattle.rh_defs.specs.Line.{line_means}
-pub use Rattle.rh_defs.specs.Listing.{Bytes}
+pub use Rattle.rh_defs.specs.Questions.{Bytes, Told, asked}
 pub use Rattle.rh_defs.specs.Messages.{Parcel, action_of}
 unfoldable pub use Rattle.rh_defs.specs.Module.{module_claim}
 pub use Rattle.rh_defs.specs.OutgoingEvents.{Handled, ignored, portion, refused}
@@ -54,7 +54,6 @@ pub use Rattle.rh_defs.specs.Pieces.{Split, lacks_pages, moved, total, written, 
 pub use Rattle.rh_defs.specs.Places.{buffer_at, with_heap_bytes, written_in}
 pub use Rattle.rh_defs.specs.Post.{Post, Seat, as_returned, bounce_held, first_for, has_seat, held_by, taken_from}
 unfoldable pub use Rattle.rh_defs.specs.Post.{post_join, post_poll, post_send}
-pub use Rattle.rh_defs.specs.Questions.{Told, asked}
 unfoldable pub use Rattle.rh_defs.specs.Questions.{heap}
 pub use Rattle.rh_defs.specs.Range.{all_in_range}
 unfoldable pub use Rattle.rh_defs.specs.Range.{in_range}

@@ -6,6 +6,7 @@ use Rattle.rh_laws.proofs.Common.{Segment, Used, Hole, Heap, block_room, claim_g
 use Rattle.rh_laws.proofs.Common.{placed_in, raised, segment_size, size_of, Slot, slot_claim, with_placed, Desk, Task, edit_task, free_pages, has_name, named}
 use Rattle.rh_laws.proofs.Common.{with_slot, with_task, Answer, claim, heap, IsDesk, OnGrant, granted, granted-unless, eqb_apart, eqb_same, leb_no, leb_yes}
 use Rattle.rh_defs.specs.declared.sizes.TheConstants.{PAGE}
+use Rattle.rh_defs.specs.declared.question.Numbers.TheVariants as numbers
 use Rattle.rh_defs.specs.declared.reply.Reply.TheVariants as reply
 use Rattle.rh_defs.specs.Pieces.{round_up}
 use Rattle.rh_defs.specs.Heap.{IsHeap, with_hole}
@@ -153,7 +154,7 @@ module _ (name : List ℕ) (t : Task) (s : Slot) where
 -- ---- a desk
 
 described-is : (d : Desk) (name : List ℕ) (t : Task) → find (has_name name) d.tasks ≡ Some t
-    → described d name ≡ reply.HeapSums t.slot.heap.end (largest t.slot.heap) (free_bytes t.slot.heap)
+    → described d name ≡ reply.Answered (numbers.HeapSums t.slot.heap.end (largest t.slot.heap) (free_bytes t.slot.heap))
 unfolding heap named found_or ◌>>=◌ or_else
 described-is d name t e = rw (e, described) refl
 
@@ -165,15 +166,16 @@ record IsDescribed (d : Desk) (name : List ℕ) (size most free : ℕ) : Type 0 
   most_is : largest task.slot.heap ≡ most
   free_is : free_bytes task.slot.heap ≡ free
 
-described-of : (d : Desk) (name : List ℕ) (size most free : ℕ) → described d name ≡ reply.HeapSums size most free
+described-of : (d : Desk) (name : List ℕ) (size most free : ℕ) → described d name ≡ reply.Answered (numbers.HeapSums size most free)
     → IsDescribed d name size most free
 unfolding heap named found_or ◌>>=◌ or_else
 described-of d name size most free q = go (find (has_name name) d.tasks) refl
   where
     go : (o : Option Task) → find (has_name name) d.tasks ≡ o → IsDescribed d name size most free
-    go None e = absurd (let r : reply.Refused NoName ≡ reply.HeapSums size most free = (rw (e, described) at q) in cc)
+    go None e = absurd (let r : reply.Refused NoName ≡ reply.Answered (numbers.HeapSums size most free) = (rw (e, described) at q) in cc)
     go (Some t) e =
-        let r : reply.HeapSums t.slot.heap.end (largest t.slot.heap) (free_bytes t.slot.heap) ≡ reply.HeapSums size most free =
+        let r : reply.Answered (numbers.HeapSums t.slot.heap.end (largest t.slot.heap) (free_bytes t.slot.heap))
+        ≡ reply.Answered (numbers.HeapSums size most free) =
         sym (described-is d name t e) ∙ q in
         record { task = t; found = e; size_is = cc; most_is = cc; free_is = cc }
 
@@ -188,7 +190,7 @@ module _ (d : Desk) (is : IsDesk d) where
   claimed-is name n t e = rw e refl
 
   described-after : (name : List ℕ) (t : Task) (s : Slot) → find (has_name name) d.tasks ≡ Some t
-      → described (with_slot t.handle s d) name ≡ reply.HeapSums s.heap.end (largest s.heap) (free_bytes s.heap)
+      → described (with_slot t.handle s d) name ≡ reply.Answered (numbers.HeapSums s.heap.end (largest s.heap) (free_bytes s.heap))
   unfolding with_task
   described-after name t s e =
       described-is (with_slot t.handle s d) name (record t { slot = s })
@@ -201,7 +203,7 @@ module _ (d : Desk) (is : IsDesk d) where
   within-leaves name size t (Err r) e = refl
 
   described-granted : (name : List ℕ) (t : Task) (p : Slot × ℕ) → find (has_name name) d.tasks ≡ Some t
-      → described (after_claim t (Ok p)).0 name ≡ reply.HeapSums p.0.heap.end (largest p.0.heap) (free_bytes p.0.heap)
+      → described (after_claim t (Ok p)).0 name ≡ reply.Answered (numbers.HeapSums p.0.heap.end (largest p.0.heap) (free_bytes p.0.heap))
   unfolding ◌>>=◌ or_else
   described-granted name t p e = described-after name t p.0 e
 

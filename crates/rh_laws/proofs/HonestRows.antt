@@ -4,6 +4,7 @@ use Rattle.rh_laws.proofs.Common.{zeros, Heap, Used, Hole, base, block_room, fir
 use Rattle.rh_laws.proofs.Common.{segment_size, Desk, after, fresh, script}
 use Rattle.rh_defs.specs.declared.heap.HeapRefusal.{HeapRefusal}
 use Rattle.rh_defs.specs.declared.heap.HeapRefusal.TheVariants.{BadSize, NoRoom}
+use Rattle.rh_defs.specs.declared.question.Numbers.TheVariants as numbers
 use Rattle.rh_defs.specs.declared.reply.Reply.TheVariants as reply
 use Rattle.rh_defs.specs.Heap.{as_granted, claim}
 use Rattle.rh_defs.specs.Script
@@ -30,12 +31,12 @@ claims = after fresh (script ("task a 100" ∷ "claim a 10" ∷ "claim a 10" ∷
     ∷ "release a &8124" ∷ "claim a 12" ∷ "claim a 13" ∷ []))
 
 -- the largest claim is granted in the heap as it is, and one byte more makes it longer
-task_claims : (described claims (codes "a") ≡ reply.HeapSums 3840 3748 3752)
+task_claims : (described claims (codes "a") ≡ reply.Answered (numbers.HeapSums 3840 3748 3752))
     × (is_granted_within 3840 claims (codes "a") 0 ≡ false)
     × (is_granted_within 3840 claims (codes "a") 1 ≡ true)
     × (is_granted_within 3840 claims (codes "a") 3748 ≡ true)
     × (is_granted_within 3840 claims (codes "a") 3749 ≡ false)
-    × (described (claimed claims (codes "a") 3748).0 (codes "a") ≡ reply.HeapSums 3840 0 0)
+    × (described (claimed claims (codes "a") 3748).0 (codes "a") ≡ reply.Answered (numbers.HeapSums 3840 0 0))
     × (is_granted_within 7936 claims (codes "a") 3749 ≡ true)
 unfolding Script.computing
 task_claims = (refl, refl, refl, refl, refl, refl, refl)

@@ -1,12 +1,11 @@
--- Each command on messages, areas and questions, against its rows of the table.
+-- Each command on messages, against its rows of the table.
 use Rattle.rh_laws.proofs.Common.{◌≡◌, ℕ, ◌^◌, Bool, true, false, cond, List, [], ◌∷◌, length, Option, Some, None, refl, sym, ap, ◌∙◌, arith, find, is_none}
-use Rattle.rh_laws.proofs.Common.{is_some, not, ◌||◌, ◌==◌, if◌then◌else◌, Ok, list_any, NoTask, NoRoom, Busy, BadSize, Question, Letter, Outgoing, Incoming}
-use Rattle.rh_laws.proofs.Common.{Granted, ◌>>=◌, save_letter, Parcel, module_claim, open_of, slot_block, Seat, has_seat, post_poll, post_send, Desk, Task}
-use Rattle.rh_laws.proofs.Common.{has_name, named, next_ref, send_letter, task_at, with_delivered, Answer, asked, heap, cancel_in, cancel_out, poll}
+use Rattle.rh_laws.proofs.Common.{is_some, not, ◌||◌, ◌==◌, if◌then◌else◌, list_any, NoTask, NoRoom, Busy, BadSize, Letter, Outgoing, Incoming}
+use Rattle.rh_laws.proofs.Common.{Granted, ◌>>=◌, save_letter, Parcel, module_claim, open_of, Seat, has_seat, post_poll, post_send, Desk, Task}
+use Rattle.rh_laws.proofs.Common.{has_name, named, next_ref, send_letter, task_at, with_delivered, Answer, cancel_in, cancel_out, poll}
 use Rattle.rh_laws.proofs.Common.{poll_taken, repeat, save, IsDesk, eqb_apart, eqb_same}
 use Rattle.rh_defs.specs.declared.refusal.Refusal.TheVariants.{NoRefs, QueueFull}
 use Rattle.rh_defs.specs.declared.command.Command.TheVariants as command
-use Rattle.rh_defs.specs.declared.question.Question.TheVariants as question
 use Rattle.rh_defs.specs.declared.transfer.Outgoing.TheVariants as outgoing
 use Rattle.rh_defs.specs.declared.transfer.Incoming.TheVariants as incoming
 use Rattle.rh_defs.specs.Messages.{parcel_size}
@@ -14,11 +13,10 @@ use Rattle.rh_defs.specs.Records.{is_meant}
 use Rattle.rh_defs.specs.Sender as sender
 use Rattle.rh_defs.specs.Receiver as receiver
 use Rattle.rh_defs.specs.Post.{message_of, sendable}
-use Rattle.rh_defs.specs.Questions.{blocks, show, status}
 use Rattle.rh_defs.specs.Laws.{seat_handles, task_handles}
 use Rattle.rh_laws.specs.RefusalOrder.{refusal_in}
 use Rattle.rh_laws.specs.RefusalRooms.{lacks, message_size}
-use Rattle.rh_laws.specs.Conditions.{asked_rows, conditions, is_coming_one, is_open_one, lacks_module_room, send_rows}
+use Rattle.rh_laws.specs.Conditions.{conditions, is_coming_one, is_open_one, lacks_module_room, send_rows}
 use Rattle.rh_laws.proofs.RefusalSteps.{GoesBy, done, drop_row, found_as, found_then, granted_then, in_steps, in_steps_both, one_row, passes, refused_if}
 use Rattle.rh_laws.proofs.RefusalSteps.{refused_then}
 use Rattle.rh_laws.proofs.RefusalRoomLaws.{le_same, need-short, size-same}
@@ -127,7 +125,7 @@ module _ (d : Desk) (is : IsDesk d) where
   repeat-goes name =
       found_then _ _ _ _ λ t e. rw e (found_then _ _ _ _ λ last f. rw f (send-then (record last.0 { from = t.handle }) _ λ u. done _ refl))
 
-  -- ---- polls, cancels and questions
+  -- ---- polls and cancels
 
   pub poll-goes : (name : List ℕ) → GoesBy (poll d name) (conditions d (command.Poll name))
   unfolding poll named poll_taken
@@ -150,13 +148,3 @@ module _ (d : Desk) (is : IsDesk d) where
   cancel_out-goes name id =
       found_then _ _ _ _ λ t e. rw e (in_steps _ _ _ _ (found_as _ _ _ _ _ (none-open id t.sending) λ x f.
       granted_then _ _ _ _ refl (done _ refl)))
-
-  pub ask-goes : (q : Question) → GoesBy (asked d q >>= λ told. Ok (d, told.0)) (asked_rows d q)
-  unfolding named show blocks heap status slot_block
-  ask-goes (question.Show name k) =
-      in_steps _ _ _ _ (found_then _ _ _ _ λ t e. rw e (in_steps _ _ _ _ (found_then _ _ _ _ λ b f.
-      granted_then _ _ _ _ refl (done _ refl))))
-  ask-goes (question.Blocks name) = in_steps _ _ _ _ (found_then _ _ _ _ λ t e. granted_then _ _ _ _ refl (done _ refl))
-  ask-goes (question.Heap name) = in_steps _ _ _ _ (found_then _ _ _ _ λ t e. granted_then _ _ _ _ refl (done _ refl))
-  ask-goes (question.Status name) = in_steps _ _ _ _ (found_then _ _ _ _ λ t e. granted_then _ _ _ _ refl (done _ refl))
-  ask-goes question.Areas = granted_then _ _ _ _ refl (done _ refl)

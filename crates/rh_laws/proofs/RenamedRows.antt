@@ -4,7 +4,7 @@ use Rattle.rh_laws.proofs.Common.{Command, Granted, or_else, Desk, Answer, put, 
 use Rattle.rh_defs.specs.declared.command.Command.TheVariants as command
 use Rattle.rh_defs.specs.declared.question.Question.TheVariants as question
 use Rattle.rh_defs.specs.declared.reply.Reply.TheVariants as reply
-use Rattle.rh_defs.specs.Listing.{Listed}
+use Rattle.rh_defs.specs.Questions.{Listed}
 use Rattle.rh_defs.specs.Script
 use Rattle.rh_laws.specs.Renaming.{renamed, renamed_command}
 

@@ -4,6 +4,7 @@ use Rattle.std.specs.List.{AllByRecursion}
 use Rattle.rh_defs.specs.declared.command.Command.TheVariants as command
 use Rattle.rh_defs.specs.declared.question.Question.TheVariants as question
 use Rattle.rh_defs.specs.declared.reply.Reply.{Reply}
+use Rattle.rh_defs.specs.declared.question.Numbers.TheVariants as numbers
 use Rattle.rh_defs.specs.declared.reply.Reply.TheVariants as reply
 use Rattle.rh_defs.specs.Pieces.{round_up, total}
 use Rattle.rh_defs.specs.Heap.{Heap, IsHeap, Segment, Used, Hole, claim, first_place, free_bytes, largest}
@@ -49,12 +50,12 @@ claimed d name n = step d (command.Claim name n)
 
 -- whether a reply describes a heap of so many bytes
 abbrev pub has_size : ℕ → Reply → Bool
-has_size size (reply.HeapSums other largest free) = other == size
+has_size size (reply.Answered (numbers.HeapSums other largest free)) = other == size
 has_size size _ = false
 
 -- the free bytes of the heap that a reply describes
 abbrev pub free_in : Reply → ℕ
-free_in (reply.HeapSums size largest free) = free
+free_in (reply.Answered (numbers.HeapSums size largest free)) = free
 free_in _ = 0
 
 -- whether the task's claim of n bytes is granted, and its heap is then of so many bytes
@@ -65,8 +66,8 @@ is_granted_within size d name n =
 -- Where a task's heap is described by its size, its largest block and its free bytes, a claim of n bytes is granted
 -- without growth just for 1 to the largest; it takes n bytes and a size word, in whole units of 8, from the free ones.
 pub record ClaimsAsDescribed (d : Desk) : Type 0 where
-  pub granted : (name : List ℕ) (size largest free n : ℕ) → described d name ≡ reply.HeapSums size largest free
+  pub granted : (name : List ℕ) (size largest free n : ℕ) → described d name ≡ reply.Answered (numbers.HeapSums size largest free)
       → is_granted_within size d name n ≡ (nat_le 1 n && nat_le n largest)
-  pub costs : (name : List ℕ) (size largest free n : ℕ) → described d name ≡ reply.HeapSums size largest free → 1 ≤ n
+  pub costs : (name : List ℕ) (size largest free n : ℕ) → described d name ≡ reply.Answered (numbers.HeapSums size largest free) → 1 ≤ n
       → n ≤ largest
       → free_in (described (claimed d name n).0 name) + round_up 8 (n + 4) ≡ free

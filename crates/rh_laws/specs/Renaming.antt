@@ -6,14 +6,13 @@ use Rattle.rh_defs.specs.declared.command.Command.{Command}
 use Rattle.rh_defs.specs.declared.command.Command.TheVariants as command
 use Rattle.rh_defs.specs.declared.question.Question.{Question}
 use Rattle.rh_defs.specs.declared.question.Question.TheVariants as question
-use Rattle.rh_defs.specs.declared.reply.Reply.{Reply}
+use Rattle.rh_defs.specs.declared.question.Numbers.{Numbers}
 use Rattle.rh_defs.specs.Chain.{Granted}
 use Rattle.rh_defs.specs.Heap.{Segment, Used, Hole, Heap}
 use Rattle.rh_defs.specs.Slot.{Slot, Flex}
 use Rattle.rh_defs.specs.Files.{FileList}
 use Rattle.rh_defs.specs.Desk.{Desk, Task, Scrap}
-use Rattle.rh_defs.specs.Listing.{Listed, Bytes, shown_at}
-use Rattle.rh_defs.specs.Questions.{Told, asked}
+use Rattle.rh_defs.specs.Questions.{Listed, Bytes, shown_at, Told, asked}
 use Rattle.rh_defs.specs.Commands.{step}
 use Rattle.rh_defs.specs.Runs.{start_with, after, replies}
 
@@ -128,7 +127,7 @@ is_given files commands b = b == 0 || (list_any (puts_byte b) commands || list_a
 -- what is shown after a run has no byte that wasn't given to it
 abbrev pub ShowsGiven : Type 0
 ShowsGiven =
-    (pool handle ref : ℕ) (files : FileList) (commands : List Command) (name : List ℕ) (k : ℕ) (r : Reply) →
-    (bytes : List ℕ) →
-    asked (after (start_with pool files handle ref) commands) (question.Show name k) ≡ Ok (r, Bytes bytes) →
+    (pool handle ref : ℕ) (files : FileList) (commands : List Command) (name : List ℕ) (k : ℕ) →
+    (size : Numbers) (bytes : List ℕ) →
+    asked (after (start_with pool files handle ref) commands) (question.Show name k) ≡ Ok (size, Bytes bytes) →
     AllByRecursion (λ b. is_given files commands b ≡ true) bytes

@@ -98,7 +98,7 @@ each_splits f (x ∷ xs) (suc i) d h =
     ∙ (sym (append_assoc (f x) (flat_map f (take i xs)) (f (get_or xs i d) ++ flat_map f (drop (suc i) xs)))
     ∙ sym (append_assoc (f x ++ flat_map f (take i xs)) (f (get_or xs i d)) (flat_map f (drop (suc i) xs)))))
 
-each_more : {X : Type 0} (f : X → List ℕ) (xs : List X) (i : ℕ) (d : X) → i < length xs
+pub each_more : {X : Type 0} (f : X → List ℕ) (xs : List X) (i : ℕ) (d : X) → i < length xs
     → flat_map f (take (i + 1) xs) ≡ flat_map f (take i xs) ++ f (get_or xs i d)
 each_more f xs i d h = ap (flat_map f) (take_more xs i d h)
     ∙ (flat_map-append f (take i xs) (get_or xs i d ∷ []) ∙ ap (λ z. flat_map f (take i xs) ++ z) (append-nil (f (get_or xs i d))))

@@ -6,3 +6,4 @@ pub mod LineLemmas
 pub mod Tables
 pub mod HexDigits
 pub mod TextLemmas
+mod NumberLemmas

@@ -25,6 +25,7 @@ const MOST_HEX_DIGITS: usize = 8;
 
 /// Word `n` as a name: an ASCII letter, and then up to 11 ASCII letters or digits.
 #[tactic(auto, unfolding(rh_defs::specs::Line::name_at))]
+#[inline(always)]
 pub fn name_at(words: &Words<'_>, n: u8) -> Result<Name, LineFault>
     requires { 0 < n }
     ensures means { result ≡ name_at words.now n }
@@ -121,6 +122,7 @@ fn decimal(word: &[u8]) -> Option<u64>
 
 /// Word `n` as an address: `&`, and 1 to 8 hexadecimal digits of either case.
 #[tactic(auto, unfolding(rh_defs::specs::Line::address_at, rh_defs::specs::Line::is_address))]
+#[inline(always)]
 pub fn address_at(words: &Words<'_>, n: u8) -> Result<u32, LineFault>
     requires { 0 < n }
     ensures { result ≡ address_at words.now n }

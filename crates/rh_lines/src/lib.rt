@@ -29,4 +29,5 @@ pub use print::{add_number, print_fault, print_first_line};
 pub use row::{ROW, Row};
 pub use sink::{Sink, WriteFailed, put};
 pub use source::{ReadFailed, Source};
+pub use unseen::Unseen;
 pub use whole_text::WholeText;

@@ -1,8 +1,8 @@
 //! Bad lines, and the first lines of replies, as text.
 
-ghost use Rattle.std.specs.Prelude.{◌≡◌, ◌≤◌, ◌++◌, ◌∷◌, [], ◌+◌, codes, length};
+ghost use Rattle.std.specs.Prelude.{◌≡◌, ◌≤◌, ◌++◌, ◌∷◌, [], ◌+◌, codes, length, map};
 ghost use Rattle.std.specs.Fmt.{decimal};
-ghost use Rattle.rh_defs.specs.Listing.{Nothing};
+ghost use Rattle.rh_defs.specs.Questions.{Nothing, each_of};
 ghost use Rattle.rh_defs.specs.Messages.{code_number};
 ghost use Rattle.rh_defs.specs.Text.{address, ok, action_name, fault_text, first_line, outcome_words, refusal_name, rest_of_line};
 ghost use Rattle.rh_lines.specs.Flow.{Puts};
@@ -10,7 +10,7 @@ ghost use Rattle.rh_lines.specs.declared.row.TheConstants.{ROW};
 
 use crate::row::Row;
 use crate::sink::{Sink, WriteFailed, put};
-use rh_defs::{Action, EventCode, LineFault, Outcome, Ref, Refusal, Reply};
+use rh_defs::{Action, EventCode, LineFault, Numbers, Outcome, Ref, Refusal, Reply};
 
 /// Writes the reply of a bad line, `bad FAULT`. Fails only where the writer failed or took none
 /// of what it was offered; a front of the text is then written.
@@ -45,11 +45,7 @@ pub fn print_first_line<W: Sink>(reply: &Reply, writer: &mut W) -> Result<(), Wr
         Reply::Block { address } => print_address(*address, writer),
         Reply::WasBudging(true) => put(writer, b"ok on\n"),
         Reply::WasBudging(false) => put(writer, b"ok off\n"),
-        Reply::HeapSums {
-            length,
-            largest,
-            free,
-        } => print_numbers(*length, *largest, *free, writer),
+        Reply::Answered(numbers) => print_numbers(numbers, writer),
         Reply::NoEvent => put(writer, b"ok 0\n"),
         Reply::Event {
             code,
@@ -58,13 +54,9 @@ pub fn print_first_line<W: Sink>(reply: &Reply, writer: &mut W) -> Result<(), Wr
             your_ref,
             outcome,
         } => print_event(*code, *action, *my_ref, *your_ref, outcome, writer),
-        Reply::Started(handle) | Reply::StatusOf(handle) => print_number(handle.0, writer),
+        Reply::Started(handle) => print_number(handle.0, writer),
         Reply::Sent(number) => print_number(number.0, writer),
-        Reply::Moved { bytes: number }
-        | Reply::Made { number }
-        | Reply::Shown { size: number }
-        | Reply::BlockCount(number)
-        | Reply::FreePages(number) => print_number(*number, writer),
+        Reply::Moved { bytes: number } | Reply::Made { number } => print_number(*number, writer),
     }
 }
 
@@ -106,23 +98,27 @@ fn print_address<W: Sink>(number: u32, writer: &mut W) -> Result<(), WriteFailed
     put(writer, row.as_slice())
 }
 
-fn print_numbers<W: Sink>(
-    first: u32,
-    second: u32,
-    third: u32,
-    writer: &mut W,
-) -> Result<(), WriteFailed>
-    ensures { Puts (W.output writer.old) (W.output writer.new) result (ok (decimal first ∷ decimal second ∷ decimal third ∷ [])) }
+/// The first line of an answer.
+fn print_numbers<W: Sink>(numbers: &Numbers, writer: &mut W) -> Result<(), WriteFailed>
+    ensures { Puts (W.output writer.old) (W.output writer.new) result (ok (map decimal (each_of numbers.now))) }
 {
     let mut row = Row::new();
-    row.text(b"ok ");
-    row.decimal(first);
-    row.byte(b' ');
-    row.decimal(second);
-    row.byte(b' ');
-    row.decimal(third);
-    row.byte(b'\n');
+    row.text(b"ok");
+    add_numbers(&numbers.each(), &mut row);
     put(writer, row.as_slice())
+}
+
+/// Ends the line with these numbers.
+fn add_numbers(numbers: &[u32], row: &mut Row)
+    requires few { length numbers.now ≤ 3 }
+    requires room { length row.old ≤ 2 }
+    ensures { row.new ≡ row.old ++ rest_of_line (map decimal numbers.now) }
+{
+    for number in numbers {
+        row.byte(b' ');
+        row.decimal(*number);
+    }
+    row.byte(b'\n');
 }
 
 /// What a poll took, and what it did with it.

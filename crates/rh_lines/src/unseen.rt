@@ -18,7 +18,7 @@ impl Model for Unseen {
 
 impl Unseen {
     /// No byte is noted yet.
-    pub(crate) fn new() -> Unseen
+    pub fn new() -> Unseen
         ensures { result.bytes ≡ [] }
     {
         Unseen {
@@ -27,7 +27,7 @@ impl Unseen {
     }
 
     /// Notes these bytes behind the others.
-    pub(crate) fn note(&mut self, _bytes: &[u8])
+    pub fn note(&mut self, _bytes: &[u8])
         ensures { self.new.bytes ≡ self.old.bytes ++ _bytes.now }
     {}
 }

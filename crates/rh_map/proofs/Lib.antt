@@ -6,5 +6,6 @@ pub mod CardLemmas
 mod FillLemmas
 mod WordLemmas
 mod LetterLemmas
+pub mod FrontLemmas
 pub mod SeamLemmas
 pub mod Common

@@ -17,7 +17,7 @@ pub use Rattle.rh_defs.specs.Desk.{Desk, Task, module_pages, task_at}
 pub use Rattle.rh_defs.specs.Heap.{base}
 pub use Rattle.rh_defs.specs.Line.{Meaning}
 unfoldable pub use Rattle.rh_defs.specs.Line.{line_means}
-pub use Rattle.rh_defs.specs.Listing.{block_items}
+pub use Rattle.rh_defs.specs.Questions.{block_items}
 pub use Rattle.rh_defs.specs.Messages.{Parcel}
 pub use Rattle.rh_defs.specs.Order.{IsReordered, with_queue}
 pub use Rattle.rh_defs.specs.Slot.{flex_start, heap_start}
@@ -25,8 +25,8 @@ pub use Rattle.rh_defs.specs.Commands.{step}
 pub use Rattle.rh_defs.specs.Text.{fault_text}
 pub use Rattle.rh_defs.specs.declared.command.Command.{Command}
 pub use Rattle.rh_defs.specs.declared.fault.LineFault.{LineFault}
-pub use Rattle.rh_defs.specs.declared.listing.BlockItem.{BlockItem}
-pub use Rattle.rh_defs.specs.declared.listing.MessageItem.{MessageItem}
+pub use Rattle.rh_defs.specs.declared.question.BlockItem.{BlockItem}
+pub use Rattle.rh_defs.specs.declared.message.MessageItem.{MessageItem}
 pub use Rattle.rh_drawn.proofs.CardLemmas.{flex-long}
 pub use Rattle.rh_drawn.proofs.DrawingLemmas.{seen-same}
 pub use Rattle.rh_drawn.proofs.HeapLemmas.{cards-long, from-first, if-heap}

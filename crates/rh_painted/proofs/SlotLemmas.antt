@@ -3,7 +3,7 @@ use Rattle.rh_painted.proofs.Common.{◌≡◌, ℕ, suc, ◌+◌, ◌-◌, ◌*
 use Rattle.rh_painted.proofs.Common.{slice_get, AllByRecursion, BlockItem, base, Piece, Scene}
 use Rattle.std.proofs.lemmas.List.{take-append-drop}
 use Rattle.rh_defs.specs.Heap.{Heap, Segment, Used, Hole, size_of}
-use Rattle.rh_defs.specs.Listing.{block_items_from}
+use Rattle.rh_defs.specs.Questions.{block_items_from}
 use Rattle.rh_defs.specs.Pieces.{page, total}
 use Rattle.rh_defs.specs.Slot.{Flex, HaveAnchors, Slot, slot_length, slot_pages, weight}
 use Rattle.rh_defs.proofs.HeapLists.{total-append}

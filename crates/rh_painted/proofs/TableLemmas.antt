@@ -7,7 +7,7 @@ use Rattle.std.proofs.lemmas.List.Elements.{filter-append}
 use Rattle.std.proofs.lemmas.List.Folds.{flat_map-map}
 use Rattle.rh_defs.specs.declared.transfer.Incoming.{Incoming}
 use Rattle.rh_defs.specs.Laws.{IsDesk}
-use Rattle.rh_defs.specs.Listing.{in_item}
+use Rattle.rh_defs.specs.Questions.{in_item}
 use Rattle.rh_defs.specs.Order.{is_to}
 use Rattle.rh_defs.specs.Post.{held_by}
 use Rattle.rh_defs.specs.Records.{in_id}

@@ -1,7 +1,7 @@
 -- The messages that wait, by the list of all.
 use Rattle.std.specs.Prelude.{ℕ, ◌==◌, ◌&&◌, not, Bool, List, find, Option, Some, None}
 use Rattle.rh_defs.specs.Messages.{code_number}
-use Rattle.rh_defs.specs.declared.listing.MessageItem.{MessageItem}
+use Rattle.rh_defs.specs.declared.message.MessageItem.{MessageItem}
 
 -- whether a message has the ref and waits
 abbrev pub waits_as : ℕ → MessageItem → Bool

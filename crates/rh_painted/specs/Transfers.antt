@@ -3,7 +3,7 @@ use Rattle.std.specs.Prelude.{List, filter, map, not}
 use Rattle.std.specs.List.{flat_map, list_any}
 use Rattle.rh_defs.specs.declared.transfer.Incoming.{Incoming}
 use Rattle.rh_defs.specs.declared.transfer.Outgoing.{Outgoing}
-use Rattle.rh_defs.specs.Listing.{in_item, out_item}
+use Rattle.rh_defs.specs.Questions.{in_item, out_item}
 use Rattle.rh_drawn.specs.Sides.{comes_alone, goes_out}
 use Rattle.rh_figure.specs.Figure.{Side, has_id}
 use Rattle.rh_figure.specs.Phrases.{Text}

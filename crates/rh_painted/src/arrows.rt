@@ -1,7 +1,7 @@
 //! The arrow of a slide.
 
 ghost use Rattle.std.specs.Prelude.{◌≡◌, ◌≤◌, ◌==◌, flat_map, length};
-ghost use Rattle.rh_defs.specs.declared.listing.BlockItem.{BlockItem};
+ghost use Rattle.rh_defs.specs.declared.question.BlockItem.{BlockItem};
 ghost use Rattle.rh_defs.specs.declared.sizes.TheConstants.{ANCHORS};
 ghost use Rattle.rh_figure.specs.Changes.{item_of, slide_of};
 ghost use Rattle.rh_figure.specs.Phrases.{where_so};

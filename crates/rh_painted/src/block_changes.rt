@@ -2,7 +2,7 @@
 
 ghost use Rattle.std.specs.Prelude.{◌≡◌, ◌≤◌, ◌++◌, [], ◌∷◌, filter, flat_map, if◌then◌else◌, length, map, not};
 ghost use Rattle.rh_defs.specs.Desk.{task_at};
-ghost use Rattle.rh_defs.specs.declared.listing.BlockItem.{BlockItem};
+ghost use Rattle.rh_defs.specs.declared.question.BlockItem.{BlockItem};
 ghost use Rattle.rh_defs.specs.declared.sizes.TheConstants.{ANCHORS};
 ghost use Rattle.rh_figure.specs.Changes.{block_change, block_changes, gone_line, has_anchor as has_anchor_in, item_of, slide_change, slide_of, slides};
 ghost use Rattle.rh_lines.specs.Flow.{Puts};

@@ -3,7 +3,7 @@
 ghost use Rattle.std.specs.Prelude.{◌≡◌, ◌≤◌, ◌<◌, ◌-◌, ℕ, length, slice_get, take, Some};
 ghost use Rattle.rh_defs.specs.Slot.{anchor_count};
 ghost use Rattle.rh_defs.specs.Desk.{Task};
-ghost use Rattle.rh_defs.specs.Listing.{block_items};
+ghost use Rattle.rh_defs.specs.Questions.{block_items};
 ghost use Rattle.rh_drawn.specs.Cards.{cards_behind};
 ghost use Rattle.rh_figure.specs.Cards.{Card as FlexCard, flex_cards, shown_cards};
 ghost use Rattle.rh_figure.specs.declared.limits.TheConstants.{MOST_CARDS};

@@ -3,7 +3,7 @@
 ghost use Rattle.std.specs.Prelude.{◌≡◌, ◌≤◌, ◌<◌, ◌+◌, ◌-◌, ◌^◌, ◌==◌, ℕ, IfSome, List, find, length, take, Some};
 ghost use Rattle.rh_defs.specs.Desk.{Desk};
 ghost use Rattle.rh_defs.specs.Heap.{Segment};
-ghost use Rattle.rh_defs.specs.Listing.{segment_item};
+ghost use Rattle.rh_defs.specs.Questions.{segment_item};
 ghost use Rattle.rh_defs.specs.Messages.{Parcel};
 ghost use Rattle.rh_defs.specs.Records.{is_buffer_of};
 ghost use Rattle.rh_drawn.specs.Bands.{HasSegment, IsBandOf, IsItemOf, IsSurvey, band_card, band_cards, is_fresh_used};

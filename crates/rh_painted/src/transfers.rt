@@ -1,7 +1,7 @@
 //! The table of transfers: a row for each, with the record of either side.
 
 ghost use Rattle.std.specs.Prelude.{◌≡◌, [], ◌∷◌};
-ghost use Rattle.rh_defs.specs.Listing.{in_item as in_item_of, out_item as out_item_of};
+ghost use Rattle.rh_defs.specs.Questions.{in_item as in_item_of, out_item as out_item_of};
 ghost use Rattle.rh_drawn.specs.Sides.{goes_out, ins_of, outs_of};
 ghost use Rattle.rh_figure.specs.Figure.{transfers_of};
 ghost use Rattle.rh_lines.specs.Flow.{Puts};

@@ -7,8 +7,8 @@ use Rattle.std.specs.Result.{MatchResult}
 use Rattle.std.proofs.lemmas.Bool.{ne_eqb}
 use Rattle.std.proofs.lemmas.Bool.Decides.{nat_tests}
 use Rattle.rh_defs.specs.declared.sizes.TheConstants.{SEGMENTS_AT_ONCE}
-use Rattle.rh_defs.specs.declared.listing.BlockItem.{BlockItem}
-use Rattle.rh_defs.specs.declared.listing.SegmentItem.{SegmentItem}
+use Rattle.rh_defs.specs.declared.question.BlockItem.{BlockItem}
+use Rattle.rh_defs.specs.declared.question.SegmentItem.{SegmentItem}
 use Rattle.rh_defs.specs.declared.refusal.Refusal.{Refusal}
 use Rattle.rh_defs.specs.declared.refusal.Refusal.TheVariants.{BadRange, NotABlock, NoTask}
 use Rattle.rh_defs.specs.Chain.{Granted, found_or}
@@ -16,7 +16,7 @@ use Rattle.rh_defs.specs.Commands.{own_block}
 use Rattle.rh_defs.specs.Desk.{module_start, Desk, Task, task_at}
 use Rattle.rh_defs.specs.Heap.{Heap, Hole, IsTidy, Segment, Used, block_at, bytes_of, is_block_at, place_after, size_of}
 use Rattle.rh_defs.specs.Laws.{IsDesk}
-use Rattle.rh_defs.specs.Listing.{block_items, block_items_from, segment_items_from}
+use Rattle.rh_defs.specs.Questions.{block_items, block_items_from, segment_items_from}
 use Rattle.rh_defs.specs.Pieces.{NonePass, Split, first_at, total}
 use Rattle.rh_defs.specs.Post.{post_is_message}
 use Rattle.rh_defs.specs.Slot.{Flex, Slot, flex_start, heap_start, weight}

@@ -6,7 +6,7 @@ use Rattle.rh_safety.proofs.Common.{Split, Heap, Flex, Slot, Parcel, is_recorded
 use Rattle.rh_safety.proofs.Common.{bounce_all, without_block, taken_from, queued_in, put_down, post_join, post_send, post_poll, post_death, Desk, Task}
 use Rattle.rh_safety.proofs.Common.{Scrap, next_ref, free_pages, with_slot, with_task, with_delivered, send_letter, Handled, transmit, answer_fetch}
 use Rattle.rh_safety.proofs.Common.{fail_sending, save_scrap, answer_ack, finish_load, ended, accept, take_save, appended, fetch_more, took, take_bytes, ask}
-use Rattle.rh_safety.proofs.Common.{fetch_back, ack_back, loaded, load_file, take_file, came, came_back, handled, Answer, start_task, kill, free, make, save}
+use Rattle.rh_safety.proofs.Common.{fetch_back, ack_back, loaded, load_file, take_file, came, came_back, handled, Answer, start_task, kill, make, save}
 use Rattle.rh_safety.proofs.Common.{repeat, poll, poll_taken, cancel_in, cancel_out, step, after, start_with, Always, OnGrant, granted, granted-then}
 use Rattle.rh_safety.proofs.Common.{granted-with, granted-past, or_else-keeps, chosen}
 use Rattle.rh_defs.specs.declared.command.Command.TheVariants as command

@@ -5,7 +5,7 @@ use Rattle.rh_script.proofs.Common.{segment_items_at, heap_of_named, bytes_of_na
 use Rattle.std.specs.List.{AllByRecursion}
 use Rattle.rh_defs.specs.declared.refusal.Refusal.{Refusal}
 use Rattle.rh_defs.specs.declared.refusal.Refusal.TheVariants.{NoName, NoBlock, BadRange}
-use Rattle.rh_defs.specs.declared.reply.Reply.TheVariants as reply
+use Rattle.rh_defs.specs.declared.question.Numbers.TheVariants as numbers
 use Rattle.rh_defs.specs.declared.transfer.Outgoing.{Outgoing}
 use Rattle.rh_defs.specs.declared.transfer.Incoming.{Incoming}
 use Rattle.rh_defs.specs.Chain.{Granted, ◌>>=◌, ◌>>◌, refuse_if, found_or}
@@ -13,8 +13,7 @@ use Rattle.rh_defs.specs.Pieces.{Split, behind, first_at, total}
 use Rattle.rh_defs.specs.Laws.{IsDesk}
 use Rattle.rh_defs.specs.Slot.{Slot, Flex, slot_pages, slot_length, IsSlot, HaveAnchors, weight, flex_start, block_of, slot_block, anchor_count}
 use Rattle.rh_defs.specs.Desk.{Desk, Task, task_pages, has_name, named}
-use Rattle.rh_defs.specs.Listing.{Bytes, shown_at, status_at}
-use Rattle.rh_defs.specs.Questions.{Told, show}
+use Rattle.rh_defs.specs.Questions.{Bytes, shown_at, status_at, Told, show}
 use Rattle.rh_tasks.specs.Lists.{segments_of}
 use Rattle.rh_script.specs.Named.{slot_in, slot_named, bytes_of_cut}
 
@@ -138,7 +137,7 @@ no_block k s is past = ap (λ o. found_or o NoBlock) (none_has k (flex_start s) 
 
 missed : {A : Type 0} (o : Option Task) (k : ℕ) (one : Task → A) (x : A) → IsSlot (slot_in o) → anchor_count ≤ k
     → (found_or o NoName >>= λ t. Ok (one t)) ≡ Ok x
-    → (found_or o NoName >>= λ t. slot_block k t.slot >>= λ b. (let r : Granted Told = Ok (reply.Shown (length b.here.bytes), Bytes b.here.bytes) in
+    → (found_or o NoName >>= λ t. slot_block k t.slot >>= λ b. (let r : Granted Told = Ok (numbers.Shown (length b.here.bytes), Bytes b.here.bytes) in
     r)) ≡ Err NoBlock
 unfolding ◌>>=◌ found_or
 missed None k one x is past e = absurd (cc)
@@ -154,7 +153,7 @@ shows_none d name k h out taken is past e = missed (find (has_name name) d.tasks
 
 -- the size that is read is that of the whole answer
 pub record IsSize (answer : Granted Told) (bytes : List ℕ) (r : Result ℕ Refusal) : Type 0 where
-  pub told : IfOk r (λ size. answer ≡ Ok (reply.Shown size, Bytes bytes))
+  pub told : IfOk r (λ size. answer ≡ Ok (numbers.Shown size, Bytes bytes))
   pub size : IfOk r (λ size. size ≡ length bytes)
   pub refused : IfErr r (λ refusal. answer ≡ Err refusal)
 
@@ -162,12 +161,12 @@ size_refused : {answer : Granted Told} {bytes : List ℕ} {r : Result ℕ Refusa
     → IsSize answer bytes r
 size_refused refusal e a = record { told = rw e tt; size = rw e tt; refused = rw e a }
 
-size_told : {answer : Granted Told} {bytes : List ℕ} {r : Result ℕ Refusal} → r ≡ Ok (length bytes) → answer ≡ Ok (reply.Shown (length bytes), Bytes bytes)
+size_told : {answer : Granted Told} {bytes : List ℕ} {r : Result ℕ Refusal} → r ≡ Ok (length bytes) → answer ≡ Ok (numbers.Shown (length bytes), Bytes bytes)
     → IsSize answer bytes r
 size_told e a = record { told = rw e a; size = rw e refl; refused = rw e tt }
 
 size_by : (t : Bool) (bytes : List ℕ) (r : Result ℕ Refusal) (old new : List ℕ) → nat_lt (length bytes) (0 + 0) ≡ t
-    → Answers (refuse_if t BadRange >> Ok (length bytes, take 0 (drop 0 bytes))) r old new → IsSize (Ok (reply.Shown (length bytes), Bytes bytes)) bytes r
+    → Answers (refuse_if t BadRange >> Ok (length bytes, take 0 (drop 0 bytes))) r old new → IsSize (Ok (numbers.Shown (length bytes), Bytes bytes)) bytes r
 unfolding ◌>>=◌ ◌>>◌ refuse_if
 size_by true bytes r old new short a = absurd (grind (arith, tests))
 size_by false bytes r old new short a = size_told a.0 refl
@@ -175,7 +174,7 @@ size_by false bytes r old new short a = size_told a.0 refl
 size_in : (o : Option (Split Flex)) (r : Result ℕ Refusal) (old new : List ℕ)
     → Answers (found_or o NoBlock >>= (λ b. refuse_if (nat_lt (length b.here.bytes) (0 + 0)) BadRange >> Ok
     (length b.here.bytes, take 0 (drop 0 b.here.bytes)))) r old new
-    → IsSize (found_or o NoBlock >>= λ b. Ok (reply.Shown (length b.here.bytes), Bytes b.here.bytes)) (bytes_of_cut o) r
+    → IsSize (found_or o NoBlock >>= λ b. Ok (numbers.Shown (length b.here.bytes), Bytes b.here.bytes)) (bytes_of_cut o) r
 unfolding ◌>>=◌ found_or
 size_in None r old new a = size_refused NoBlock a.0 refl
 size_in (Some b) r old new a = size_by (nat_lt (length b.here.bytes) (0 + 0)) b.here.bytes r old new refl a
@@ -183,7 +182,7 @@ size_in (Some b) r old new a = size_by (nat_lt (length b.here.bytes) (0 + 0)) b.
 size_named : (o : Option Task) (k : ℕ) (r : Result ℕ Refusal) (old new : List ℕ)
     → Answers (found_or o NoName >>= (λ t. slot_block k t.slot >>= (λ b. refuse_if (nat_lt (length b.here.bytes) (0 + 0)) BadRange >> Ok
     (length b.here.bytes, take 0 (drop 0 b.here.bytes))))) r old new
-    → IsSize (found_or o NoName >>= λ t. slot_block k t.slot >>= λ b. Ok (reply.Shown (length b.here.bytes), Bytes b.here.bytes))
+    → IsSize (found_or o NoName >>= λ t. slot_block k t.slot >>= λ b. Ok (numbers.Shown (length b.here.bytes), Bytes b.here.bytes))
     (bytes_of_cut (block_of k (slot_in o))) r
 unfolding ◌>>=◌ found_or slot_block
 size_named None k r old new a = size_refused NoName a.0 refl

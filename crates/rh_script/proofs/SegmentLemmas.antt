@@ -9,7 +9,7 @@ use Rattle.rh_defs.specs.declared.sizes.TheConstants.{SEGMENTS_AT_ONCE}
 use Rattle.rh_defs.specs.Pieces.{Split, behind, first_at, total}
 use Rattle.rh_defs.specs.Heap.{Segment, Used, Hole, Heap, IsTidy, IsHeap, size_of, first_place, place_after, segment_at}
 use Rattle.rh_defs.specs.Slot.{heap_start}
-use Rattle.rh_defs.specs.Listing.{segment_item, segment_items_from}
+use Rattle.rh_defs.specs.Questions.{segment_item, segment_items_from}
 use Rattle.rh_defs.proofs.Cuts.{total-append}
 use Rattle.rh_heap.specs.Listed.{from_cut}
 use Rattle.rh_script.specs.Named.{item_end}

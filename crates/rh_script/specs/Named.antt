@@ -1,12 +1,12 @@
 -- What the slot of a named task has, where a desk with no such task has a slot with nothing in it.
 use Rattle.std.specs.Prelude.{ℕ, ◌+◌, true, List, [], Option, Some, None, find}
-use Rattle.rh_defs.specs.declared.listing.SegmentItem.{SegmentItem}
-use Rattle.rh_defs.specs.declared.listing.SegmentItem.TheVariants as segment
+use Rattle.rh_defs.specs.declared.question.SegmentItem.{SegmentItem}
+use Rattle.rh_defs.specs.declared.question.SegmentItem.TheVariants as segment
 use Rattle.rh_defs.specs.Heap.{Heap, empty_heap, first_place}
 use Rattle.rh_defs.specs.Pieces.{Split}
 use Rattle.rh_defs.specs.Slot.{Slot, Flex, heap_start, block_of}
 use Rattle.rh_defs.specs.Desk.{Desk, Task, has_name}
-use Rattle.rh_defs.specs.Listing.{segment_items_from}
+use Rattle.rh_defs.specs.Questions.{segment_items_from}
 
 -- the task's slot, or one with no block and an empty C heap
 abbrev pub slot_in : Option Task → Slot

@@ -1,7 +1,7 @@
-//! Lines of a list, several at a time in a row of bytes.
+//! Items of a list as lines, several at a time in a row of bytes.
 
-ghost use Rattle.std.specs.Prelude.{◌≡◌, ◌≤◌, ◌+◌, [], length, OnOk, OnErr};
-ghost use Rattle.rh_lines.specs.Flow.{Breaks};
+ghost use Rattle.std.specs.Prelude.{◌≡◌, ◌≤◌, ◌+◌, ◌++◌, ℕ, List, [], flat_map, length, OnOk, OnErr};
+ghost use Rattle.rh_lines.specs.Flow.{Breaks, Puts};
 ghost use Rattle.rh_lines.specs.declared.row.TheConstants.{ROW};
 ghost use Rattle.rh_script.specs.declared.gathered.TheConstants.{LONGEST_ITEM};
 ghost use Rattle.rh_script.specs.Gathered.{Gathered};
@@ -10,6 +10,32 @@ use rh_lines::{ROW, Row, Sink, WriteFailed, put};
 
 /// The line of an item has so many bytes at most.
 const LONGEST_ITEM: usize = 38;
+
+/// An item that has a line of its own.
+pub trait Item {
+    ghost line: { Self → List ℕ };
+
+    /// Adds its line to a row that has room for one.
+    fn add(&self, row: &mut Row)
+        requires { length row.old + LONGEST_ITEM ≤ ROW }
+        ensures { row.new ≡ row.old ++ line self.now };
+}
+
+/// Writes what waits in the row, and a line for each of these items.
+pub fn print_items<T: Item, W: Sink>(
+    first: Row,
+    items: &[T],
+    writer: &mut W,
+) -> Result<(), WriteFailed>
+    ensures { Puts (W.output writer.old) (W.output writer.new) result (first ++ flat_map (λ item. T.line item) items.now) }
+{
+    let mut row = first;
+    for item in items {
+        make_room(&mut row, writer)?;
+        item.add(&mut row);
+    }
+    put(writer, row.as_slice())
+}
 
 /// Writes the row, and empties it, where it has no room for one more line.
 #[inline(always)]

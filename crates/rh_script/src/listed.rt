@@ -2,15 +2,14 @@
 
 ghost use Rattle.std.specs.Prelude.{◌≡◌, ◌≤◌, ◌+◌, ◌∷◌, ◌++◌, [], Ok, codes, flat_map, length};
 ghost use Rattle.std.specs.Fmt.{decimal};
-ghost use Rattle.rh_defs.specs.Listing.{area_items};
-ghost use Rattle.rh_defs.specs.Questions.{areas, blocks};
+ghost use Rattle.rh_defs.specs.Questions.{area_items, areas, blocks};
 ghost use Rattle.rh_defs.specs.Text.{answer_text, area_line, block_line, later, ok};
 ghost use Rattle.rh_lines.specs.Flow.{Puts};
 ghost use Rattle.rh_lines.specs.declared.row.TheConstants.{ROW};
 ghost use Rattle.rh_tasks.specs.Items.{item_of};
 ghost use Rattle.rh_script.specs.declared.gathered.TheConstants.{LONGEST_ITEM};
 
-use crate::gathered::make_room;
+use crate::gathered::{Item, make_room, print_items};
 use arrayvec::ArrayVec;
 use rh_defs::{BlockItem, Name, Reply};
 use rh_lines::{Row, Sink, WriteFailed, add_number, print_first_line, put};
@@ -28,37 +27,38 @@ pub fn print_blocks<S: Store, F: NamedFiles, W: Sink>(
 {
     let mut items = ArrayVec::new();
     match world.blocks_of(name, &mut items) {
-        Ok(()) => print_items(items.len() as u32, &items, writer),
+        Ok(()) => print_counted(items.len() as u32, &items, writer),
         Err(refusal) => print_first_line(&Reply::Refused(refusal), writer),
     }
 }
 
-/// Writes a number, and a line for each of these blocks.
-fn print_items<W: Sink>(count: u32, items: &[BlockItem], writer: &mut W) -> Result<(), WriteFailed>
+/// Writes a number, and a line for each of these items.
+fn print_counted<T: Item, W: Sink>(
+    count: u32,
+    items: &[T],
+    writer: &mut W,
+) -> Result<(), WriteFailed>
     ensures { Puts (W.output writer.old) (W.output writer.new) result
-        (ok (decimal count ∷ []) ++ flat_map block_line items.now) }
+        (ok (decimal count ∷ []) ++ flat_map (λ item. T.line item) items.now) }
 {
     let mut row = Row::new();
     add_number(count, &mut row);
-    for item in items {
-        make_room(&mut row, writer)?;
-        add_block(&mut row, item);
-    }
-    put(writer, row.as_slice())
+    print_items(row, items, writer)
 }
 
-#[inline(always)]
-fn add_block(row: &mut Row, item: &BlockItem)
-    requires { length row.old + LONGEST_ITEM ≤ ROW }
-    ensures { row.new ≡ row.old ++ block_line item.now }
-{
-    row.text(b"  ");
-    row.decimal(u32::from(item.anchor.0));
-    row.byte(b' ');
-    row.address(item.address);
-    row.byte(b' ');
-    row.decimal(item.size);
-    row.byte(b'\n');
+impl Item for BlockItem {
+    ghost line = { block_line };
+
+    #[inline(always)]
+    fn add(&self, row: &mut Row) {
+        row.text(b"  ");
+        row.decimal(u32::from(self.anchor.0));
+        row.byte(b' ');
+        row.address(self.address);
+        row.byte(b' ');
+        row.decimal(self.size);
+        row.byte(b'\n');
+    }
 }
 
 /// Writes how many pages are free, and a line for each area, and then for each slot in order of handle.

@@ -1,8 +1,7 @@
 //! Replies as text.
 
 ghost use Rattle.std.specs.Prelude.{◌≡◌, true, if◌then◌else◌};
-ghost use Rattle.rh_defs.specs.Listing.{Nothing};
-ghost use Rattle.rh_defs.specs.Questions.{asked, begins, is_same as is_same_as};
+ghost use Rattle.rh_defs.specs.Questions.{Nothing, asked, begins, is_same as is_same_as};
 ghost use Rattle.rh_defs.specs.Range.{can_be_asked};
 ghost use Rattle.rh_defs.specs.Text.{answer_text, first_line, reply_text};
 ghost use Rattle.rh_lines.specs.Flow.{Puts};
@@ -11,7 +10,7 @@ use crate::listed::{print_areas, print_blocks};
 use crate::records::print_status;
 use crate::segments::print_heap;
 use crate::shown::print_shown;
-use rh_defs::{Command, Question, Reply};
+use rh_defs::{Command, Numbers, Question, Reply};
 use rh_lines::{Sink, WriteFailed, print_first_line};
 use rh_store::Store;
 use rh_tasks::{NamedFiles, World};
@@ -56,29 +55,22 @@ fn print_told<S: Store, F: NamedFiles, W: Sink>(
     }
 }
 
-/// Whether the reply has the words and numbers of what the desk answers.
+/// Whether the reply has the numbers of what the desk answers.
 fn is_told<S: Store, F: NamedFiles>(world: &World<S, F>, question: &Question, reply: &Reply) -> bool
     requires { can_be_asked question.now ≡ true }
     ensures { result ≡ begins (asked world.now.desk question.now) reply.now }
 {
-    match world.told(question) {
-        Ok(first) => is_same(&first, reply),
-        Err(_) => false,
+    match (world.told(question), reply) {
+        (Ok(first), Reply::Answered(numbers)) => is_same(&first, numbers),
+        _ => false,
     }
 }
 
-/// Whether two first lines of answers have the same words and numbers.
-fn is_same(first: &Reply, other: &Reply) -> bool
+/// Whether two first lines of answers have the same numbers.
+fn is_same(first: &Numbers, other: &Numbers) -> bool
     ensures { result ≡ is_same_as first.now other.now }
 {
-    match (first, other) {
-        (Reply::Shown { size: a }, Reply::Shown { size: b }) => a == b,
-        (Reply::BlockCount(a), Reply::BlockCount(b)) => a == b,
-        (Reply::HeapSums { .. }, Reply::HeapSums { .. }) => first == other,
-        (Reply::StatusOf(a), Reply::StatusOf(b)) => a == b,
-        (Reply::FreePages(a), Reply::FreePages(b)) => a == b,
-        _ => false,
-    }
+    first == other
 }
 
 /// Writes what the desk answers to a question, all its lines, or why it is refused. Fails only where the writer failed

@@ -4,9 +4,8 @@ ghost use Rattle.std.specs.Prelude.{◌≡◌, ◌+◌, ◌≤◌, ◌<◌, ◌^
 ghost use Rattle.rh_defs.specs.Slot.{anchor_count};
 ghost use Rattle.rh_defs.specs.Heap.{IsHeap};
 ghost use Rattle.rh_tasks.specs.Lists.{segment_items_at};
-ghost use Rattle.rh_defs.specs.Listing.{Bytes};
-ghost use Rattle.rh_defs.specs.Questions.{show};
-ghost use Rattle.rh_defs.specs.declared.reply.Reply.TheVariants as Reply;
+ghost use Rattle.rh_defs.specs.Questions.{Bytes, show};
+ghost use Rattle.rh_defs.specs.declared.question.Numbers.TheVariants as Numbers;
 ghost use Rattle.rh_script.specs.Named.{bytes_of_named, heap_of_named};
 
 use arrayvec::ArrayVec;
@@ -39,7 +38,7 @@ pub fn size_of_block<S: Store, F: NamedFiles>(
     name: &Name,
     anchor: Anchor,
 ) -> Result<u32, Refusal>
-    ensures told { IfOk result (λ size. show world.now.desk name.now anchor ≡ Ok (Reply.Shown size, Bytes (bytes_of_named name.now anchor world.now.desk))) }
+    ensures told { IfOk result (λ size. show world.now.desk name.now anchor ≡ Ok (Numbers.Shown size, Bytes (bytes_of_named name.now anchor world.now.desk))) }
     ensures size { IfOk result (λ size. size ≡ length (bytes_of_named name.now anchor world.now.desk)) }
     ensures anchor { IfOk result (λ size. anchor < anchor_count) }
     ensures refused { IfErr result (λ refusal. show world.now.desk name.now anchor ≡ Err refusal) }

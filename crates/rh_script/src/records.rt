@@ -2,12 +2,11 @@
 
 ghost use Rattle.std.specs.Prelude.{◌≡◌, ◌≤◌, ◌++◌, ◌∷◌, [], codes, length, map};
 ghost use Rattle.std.specs.Fmt.{decimal};
-ghost use Rattle.rh_defs.specs.Listing.{Nothing, in_item as in_item_of, out_item as out_item_of};
-ghost use Rattle.rh_defs.specs.Questions.{status};
+ghost use Rattle.rh_defs.specs.Questions.{Nothing, in_item as in_item_of, out_item as out_item_of, status};
 ghost use Rattle.rh_defs.specs.Text.{answer_text, first_line, record_line, record_lines, state_name as state_name_of};
 ghost use Rattle.rh_lines.specs.Flow.{Puts};
 
-use rh_defs::{Handle, Incoming, Name, Outgoing, RecordItem, Reply, State};
+use rh_defs::{Handle, Incoming, Name, Numbers, Outgoing, RecordItem, Reply, State};
 use rh_lines::{Row, Sink, WriteFailed, print_first_line, put};
 use rh_store::Store;
 use rh_tasks::{NamedFiles, World};
@@ -34,10 +33,10 @@ fn print_records<W: Sink>(
     writer: &mut W,
 ) -> Result<(), WriteFailed>
     ensures { Puts (W.output writer.old) (W.output writer.new) result
-        (first_line (Reply.StatusOf handle) Nothing
+        (first_line (Reply.Answered (Numbers.StatusOf handle)) Nothing
         ++ (record_lines (codes "out") (map out_item_of outgoing.now) ++ record_lines (codes "in") (map in_item_of incoming.now))) }
 {
-    print_first_line(&Reply::StatusOf(handle), writer)?;
+    print_first_line(&Reply::Answered(Numbers::StatusOf(handle)), writer)?;
     print_both(outgoing, incoming, writer)
 }
 

@@ -2,8 +2,7 @@
 
 ghost use Rattle.std.specs.Prelude.{◌≡◌, ◌<◌, ◌≤◌, ◌+◌, ◌^◌, ◌++◌, codes, flat_map, length};
 ghost use Rattle.std.specs.Fmt.{decimal};
-ghost use Rattle.rh_defs.specs.Listing.{Nothing};
-ghost use Rattle.rh_defs.specs.Questions.{heap};
+ghost use Rattle.rh_defs.specs.Questions.{Nothing, heap};
 ghost use Rattle.rh_defs.specs.Text.{address, answer_text, first_line, segment_line};
 ghost use Rattle.rh_defs.specs.declared.sizes.TheConstants.{C_HEAP_START};
 ghost use Rattle.rh_lines.specs.Flow.{Puts};
@@ -11,11 +10,11 @@ ghost use Rattle.rh_lines.specs.declared.row.TheConstants.{ROW};
 ghost use Rattle.rh_script.specs.declared.gathered.TheConstants.{LONGEST_ITEM};
 ghost use Rattle.rh_script.specs.Named.{item_end, segments_of_named};
 
-use crate::gathered::make_room;
+use crate::gathered::{Item, print_items};
 use crate::read::segments_of;
 use rh_defs::sizes::{C_HEAP_START, HEAP_FIRST};
-use rh_defs::{Name, Reply, SegmentItem};
-use rh_lines::{Row, Sink, WriteFailed, print_first_line, put};
+use rh_defs::{Name, Numbers, Reply, SegmentItem};
+use rh_lines::{Row, Sink, WriteFailed, print_first_line};
 use rh_store::Store;
 use rh_tasks::{HeapSums, NamedFiles, World};
 
@@ -41,16 +40,16 @@ fn print_sums<S: Store, F: NamedFiles, W: Sink>(
     writer: &mut W,
 ) -> Result<(), WriteFailed>
     ensures { Puts (W.output writer.old) (W.output writer.new) result
-        (first_line (Reply.HeapSums sums.0 sums.1 sums.2) Nothing
+        (first_line (Reply.Answered (Numbers.HeapSums sums.0 sums.1 sums.2)) Nothing
         ++ flat_map segment_line (segments_of_named name.now world.now.desk)) }
 {
     let (length, largest, free) = sums;
-    let reply = Reply::HeapSums {
+    let numbers = Numbers::HeapSums {
         length,
         largest,
         free,
     };
-    print_first_line(&reply, writer)?;
+    print_first_line(&Reply::Answered(numbers), writer)?;
     print_segments(world, name, writer)
 }
 
@@ -66,7 +65,7 @@ fn print_segments<S: Store, F: NamedFiles, W: Sink>(
     let mut place = HEAP_FIRST as u32;
     let mut items = segments_of(world, name, place);
     'places: while let Some(last) = items.last() {
-        print_items(&items, writer)?;
+        print_items(Row::new(), &items, writer)?;
         place = place_behind(last);
         items = segments_of(world, name, place);
     }
@@ -86,26 +85,15 @@ fn place_behind(item: &SegmentItem) -> u32
     end - C_HEAP_START as u32
 }
 
-/// Writes a line for each of these segments.
-fn print_items<W: Sink>(items: &[SegmentItem], writer: &mut W) -> Result<(), WriteFailed>
-    ensures { Puts (W.output writer.old) (W.output writer.new) result (flat_map segment_line items.now) }
-{
-    let mut row = Row::new();
-    for item in items {
-        make_room(&mut row, writer)?;
-        add_segment(&mut row, item);
-    }
-    put(writer, row.as_slice())
-}
+impl Item for SegmentItem {
+    ghost line = { segment_line };
 
-#[inline(always)]
-fn add_segment(row: &mut Row, item: &SegmentItem)
-    requires { length row.old + LONGEST_ITEM ≤ ROW }
-    ensures { row.new ≡ row.old ++ segment_line item.now }
-{
-    match item {
-        SegmentItem::Used { address, size } => add_stretch(row, b"  used ", *address, *size),
-        SegmentItem::Hole { address, size } => add_stretch(row, b"  hole ", *address, *size),
+    #[inline(always)]
+    fn add(&self, row: &mut Row) {
+        match self {
+            SegmentItem::Used { address, size } => add_stretch(row, b"  used ", *address, *size),
+            SegmentItem::Hole { address, size } => add_stretch(row, b"  hole ", *address, *size),
+        }
     }
 }
 

@@ -4,8 +4,7 @@ use Rattle.rh_defs.specs.declared.command.Command.{Command}
 use Rattle.rh_defs.specs.Desk.{Desk}
 use Rattle.rh_defs.specs.Line.{Meaning}
 use Rattle.rh_defs.specs.Script.{meaning_desk, line_desk, is_bad}
-use Rattle.rh_defs.specs.Listing.{Nothing}
-use Rattle.rh_defs.specs.Questions.{asked}
+use Rattle.rh_defs.specs.Questions.{Nothing, asked}
 use Rattle.rh_defs.specs.Text.{answer_text, first_line, fault_text}
 use Rattle.rh_session.specs.declared.answer.Answer.{Answer}
 use Rattle.rh_session.specs.declared.answer.Answer.TheVariants.{Told, Reply, Fault}

@@ -3,14 +3,14 @@ use Rattle.std.proofs.Common.{ℕ, ◌≡◌, ◌+◌, sym, subst, inl, inr, ari
 use Rattle.std.specs.Prelude.{◌⊎◌, ◌==◌, ℤ, Ok, Err, IfSome, if◌then◌else◌}
 use Rattle.std.specs.Option.{option_map}
 use Rattle.std.proofs.lemmas.Bool.Decides.{eqb_tells}
-use Rattle.rh_defs.specs.declared.listing.BlockItem.{BlockItem}
+use Rattle.rh_defs.specs.declared.question.BlockItem.{BlockItem}
 use Rattle.rh_defs.specs.declared.refusal.Refusal.TheVariants.{NoBlock}
 use Rattle.rh_defs.specs.Chain.{Granted, found_or}
 use Rattle.rh_defs.specs.Pieces.{Split, with_here}
 use Rattle.rh_defs.specs.Heap.{Heap, claim_growing, new_size, released, resize_growing}
 use Rattle.rh_defs.specs.Slot.{Slot, Flex, IsSlot, IsFree, HaveAnchors, flex_weight, weight, heap_start, flex_start, block_of, with_block, with_bytes}
 use Rattle.rh_defs.specs.Slot.{without, with_heap, slot_block, slot_alloc, slot_free, slot_extend, slot_mid, slot_put, slot_claim, slot_release, slot_resize}
-use Rattle.rh_defs.specs.Listing.{block_items_from}
+use Rattle.rh_defs.specs.Questions.{block_items_from}
 use Rattle.rh_defs.proofs.Chains.{OnGrant, granted, refused, granted-then, granted-unless}
 use Rattle.rh_defs.proofs.Cuts.{IsCut, first_at-cuts}
 use Rattle.rh_figure.specs.Changes.{item_of}

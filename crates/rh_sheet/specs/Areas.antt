@@ -1,13 +1,13 @@
 -- The figures of slots and of the module area.
 use Rattle.std.specs.Prelude.{ℕ, ◌+◌, ◌-◌, ◌*◌, ◌/◌, ◌==◌, nat_le, nat_lt, max, min, ◌&&◌, List, [], ◌∷◌, ◌++◌, length, codes}
 use Rattle.std.specs.List.{concat, flat_map}
-use Rattle.rh_defs.specs.declared.listing.BlockItem.{BlockItem}
+use Rattle.rh_defs.specs.declared.question.BlockItem.{BlockItem}
 use Rattle.rh_defs.specs.declared.sizes.TheConstants.{C_HEAP_PLACE, MAX_PAGES}
 use Rattle.rh_defs.specs.Pieces.{page}
 use Rattle.rh_defs.specs.Heap.{first_place, base}
 use Rattle.rh_defs.specs.Slot.{Slot, slot_start, slot_length}
 use Rattle.rh_defs.specs.Desk.{Task, module_area, module_start}
-use Rattle.rh_defs.specs.Listing.{block_items}
+use Rattle.rh_defs.specs.Questions.{block_items}
 use Rattle.rh_figure.specs.Share.{Owner, AreaOf, SlotOf, count_of}
 use Rattle.rh_figure.specs.Scene.{Scene}
 use Rattle.rh_figure.specs.Phrases.{Text, where_so, size_text, listed_numbers}

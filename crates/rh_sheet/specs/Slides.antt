@@ -1,10 +1,10 @@
 -- How far flex blocks slide: the one arrow of a figure stands for all of them.
 use Rattle.std.specs.Prelude.{◌≡◌, ◌⊎◌, ℕ, ◌+◌, ℤ, List, Option, Some, Ok, Err}
 use Rattle.std.specs.Option.{option_map}
-use Rattle.rh_defs.specs.declared.listing.BlockItem.{BlockItem}
+use Rattle.rh_defs.specs.declared.question.BlockItem.{BlockItem}
 use Rattle.rh_defs.specs.Chain.{Granted}
 use Rattle.rh_defs.specs.Slot.{Slot, IsSlot, slot_alloc, slot_free, slot_extend, slot_mid, slot_put, slot_claim, slot_release, slot_resize}
-use Rattle.rh_defs.specs.Listing.{block_items}
+use Rattle.rh_defs.specs.Questions.{block_items}
 use Rattle.rh_figure.specs.Changes.{item_of}
 
 -- the address of an anchor's block, where it has one

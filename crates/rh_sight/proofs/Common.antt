@@ -11,11 +11,11 @@ pub use Rattle.rh_defs.proofs.Cuts.{total-append}
 pub use Rattle.rh_defs.specs.Desk.{Desk, Made, Task, free_pages, task_pages}
 pub use Rattle.rh_defs.specs.Heap.{Heap, Hole, Segment, Used, first_place, place_after, size_of}
 pub use Rattle.rh_defs.specs.Laws.{IsDesk}
-pub use Rattle.rh_defs.specs.Listing.{block_items, segment_item, segment_items_from}
+pub use Rattle.rh_defs.specs.Questions.{block_items, segment_item, segment_items_from}
 pub use Rattle.rh_defs.specs.Pieces.{total}
-pub use Rattle.rh_defs.specs.declared.listing.BlockItem.{BlockItem}
-pub use Rattle.rh_defs.specs.declared.listing.MessageItem.{MessageItem}
-pub use Rattle.rh_defs.specs.declared.listing.SegmentItem.{SegmentItem}
+pub use Rattle.rh_defs.specs.declared.question.BlockItem.{BlockItem}
+pub use Rattle.rh_defs.specs.declared.message.MessageItem.{MessageItem}
+pub use Rattle.rh_defs.specs.declared.question.SegmentItem.{SegmentItem}
 pub use Rattle.rh_defs.specs.declared.sizes.TheConstants.{SEGMENTS_AT_ONCE}
 pub use Rattle.rh_figure.specs.Layout.{Legend, heap_pieces, more_pieces, segment_pieces}
 pub use Rattle.rh_figure.specs.Scene.{Scene}

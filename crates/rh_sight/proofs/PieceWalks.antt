@@ -6,7 +6,7 @@ use Rattle.rh_sight.proofs.Common.{segment_item, segment_items_from, total-appen
 use Rattle.rh_sight.proofs.Common.{ComesTo, item_end, item_pieces, item_weight}
 use Rattle.std.proofs.lemmas.List.{drop-take, drop_more, take-take, take_more}
 use Rattle.rh_defs.specs.Slot.{Flex, flex_weight, weight}
-use Rattle.rh_defs.specs.Listing.{block_items_from}
+use Rattle.rh_defs.specs.Questions.{block_items_from}
 use Rattle.rh_figure.specs.declared.piece.Kind.TheVariants.{FlexBlock, MoreSegments}
 use Rattle.rh_figure.specs.Layout.{flex_piece, flex_pieces, is_fresh_flex, segment_piece}
 use Rattle.rh_sight.specs.declared.sight.HeapOf.TheVariants as heap_of

@@ -6,7 +6,7 @@ use Rattle.rh_defs.specs.Order.{is_to}
 use Rattle.rh_defs.specs.Post.{Seat}
 use Rattle.rh_defs.specs.Desk.{Desk}
 use Rattle.rh_figure.specs.Scene.{held_list}
-use Rattle.rh_defs.specs.declared.listing.MessageItem.{MessageItem}
+use Rattle.rh_defs.specs.declared.message.MessageItem.{MessageItem}
 use Rattle.rh_sight.specs.declared.message_list.Place.{Place}
 use Rattle.rh_sight.specs.declared.message_list.Place.TheVariants.{Held, Before, Last}
 

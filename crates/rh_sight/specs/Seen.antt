@@ -2,10 +2,10 @@
 use Rattle.std.specs.Prelude.{◌≡◌, ℕ, ◌+◌, List, ◌∷◌, ◌++◌, length, slice_get, slice_index, Option, Some, None, false, if◌then◌else◌, ◌==◌}
 use Rattle.std.specs.Option.{option_map}
 use Rattle.std.specs.Borrow.{Bor}
-use Rattle.rh_defs.specs.declared.listing.BlockItem.{BlockItem}
+use Rattle.rh_defs.specs.declared.question.BlockItem.{BlockItem}
 use Rattle.rh_defs.specs.declared.message.Letter.{Letter}
 use Rattle.rh_defs.specs.Heap.{Segment, Used, Heap, place_after}
-use Rattle.rh_defs.specs.Listing.{block_items}
+use Rattle.rh_defs.specs.Questions.{block_items}
 use Rattle.rh_defs.specs.Slot.{Flex, heap_start}
 use Rattle.rh_defs.specs.Post.{post_is_message}
 use Rattle.rh_defs.specs.Desk.{Desk, Task, Made, Scrap, task_pages, module_pages, module_area, module_start}

@@ -3,7 +3,7 @@
 ghost use Rattle.std.specs.Prelude.{◌≡◌, ◌==◌, ◌&&◌, ◌||◌, length, not};
 ghost use Rattle.std.specs.List.{list_any};
 ghost use Rattle.std.specs.Option.{option_map};
-ghost use Rattle.rh_defs.specs.declared.listing.BlockItem.{BlockItem};
+ghost use Rattle.rh_defs.specs.declared.question.BlockItem.{BlockItem};
 ghost use Rattle.rh_defs.specs.Desk.{Desk, Task};
 ghost use Rattle.rh_figure.specs.Figure.{is_drawn as is_drawn_in, is_recipient as is_recipient_of};
 ghost use Rattle.rh_figure.specs.Layout.{is_changed_block as is_changed_of, is_fresh_block as is_fresh_block_in, is_fresh_flex as is_fresh_flex_in, is_put as is_put_of};

@@ -4,7 +4,7 @@ ghost use Rattle.std.specs.Prelude.{◌≡◌, ◌≤◌, ◌<◌, ◌+◌, ◌-
 ghost use Rattle.rh_defs.specs.Pieces.{total};
 ghost use Rattle.rh_defs.specs.Heap.{Segment, first_place, place_after};
 ghost use Rattle.rh_defs.specs.Desk.{Desk, Task};
-ghost use Rattle.rh_defs.specs.Listing.{block_items, segment_item, segment_items_from};
+ghost use Rattle.rh_defs.specs.Questions.{block_items, segment_item, segment_items_from};
 ghost use Rattle.rh_defs.specs.declared.sizes.TheConstants.{MODULE_START};
 ghost use Rattle.rh_figure.specs.Layout.{heap_pieces, module_legend, module_pieces as module_pieces_of, segment_piece, segment_pieces, slot_pieces as slot_pieces_of};
 ghost use Rattle.rh_figure.specs.declared.limits.TheConstants.{MOST_SEGMENTS};

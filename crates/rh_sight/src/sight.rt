@@ -6,7 +6,7 @@ ghost use Rattle.rh_defs.specs.Desk.{most_made, Desk, Task, free_pages as free_p
 ghost use Rattle.rh_defs.specs.declared.sizes.TheConstants.{FIXED_AREAS, SEGMENTS_AT_ONCE};
 ghost use Rattle.rh_defs.specs.Heap.{Segment, place_after};
 ghost use Rattle.rh_defs.specs.Laws.{IsDesk};
-ghost use Rattle.rh_defs.specs.Listing.{block_items, segment_items_from};
+ghost use Rattle.rh_defs.specs.Questions.{block_items, segment_items_from};
 ghost use Rattle.rh_defs.specs.Records.{most_records};
 ghost use Rattle.rh_figure.specs.Share.{IsShared};
 

@@ -23,7 +23,7 @@ pub use Rattle.rh_defs.specs.Chain.{Granted, left_of, no_answer}
 unfoldable pub use Rattle.rh_defs.specs.Chain.{found_or, refuse_if, ◌>>=◌}
 pub use Rattle.rh_defs.specs.Heap.{Heap, Hole, Segment, Used, base, block_at, bytes_of, claim_growing, fitted, need, raised, size_of}
 pub use Rattle.rh_defs.specs.HeapImage.{Spells, Stand, fault_of}
-pub use Rattle.rh_defs.specs.Listing.{block_items}
+pub use Rattle.rh_defs.specs.Questions.{block_items}
 pub use Rattle.rh_defs.specs.Memory.{Edited, IsOpen, Memory, OnlyArea, Resized}
 unfoldable pub use Rattle.rh_defs.specs.Memory.{bytes}
 pub use Rattle.rh_defs.specs.Pieces.{Split, moved, pages_for, total, written, zeros}
@@ -32,7 +32,7 @@ pub use Rattle.rh_defs.specs.Slot.{lacks_room, slot_length, slot_pages, slot_sta
 unfoldable pub use Rattle.rh_defs.specs.Slot.{slot_block, slot_put}
 pub use Rattle.rh_defs.specs.SlotImage.{Hang, Lie, SlotWords, SpellsSlot, flex_place, heap_place, is_block}
 unfoldable pub use Rattle.rh_defs.specs.SlotImage.{flex_in, slot_of}
-pub use Rattle.rh_defs.specs.declared.listing.BlockItem.{BlockItem}
+pub use Rattle.rh_defs.specs.declared.question.BlockItem.{BlockItem}
 pub use Rattle.rh_defs.specs.declared.refusal.Refusal.{Refusal}
 pub use Rattle.rh_defs.specs.declared.refusal.Refusal.TheVariants.{NoBlock, NoRoom}
 pub use Rattle.rh_defs.specs.declared.sizes.TheConstants.{PAGE}

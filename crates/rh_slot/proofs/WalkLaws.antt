@@ -5,7 +5,7 @@ use Rattle.rh_slot.proofs.Common.{flex_weight, slot_start, slot_length, flex_sta
 use Rattle.rh_slot.proofs.Common.{is_block, block_items, BlockItem, Lie-split, Hang-split, HaveAnchors-cut, Walked, item_of, WalksIn, length-take-le}
 use Rattle.rh_defs.specs.Pieces.{first_at, is_inside, NonePass}
 use Rattle.rh_defs.specs.Slot.{flex_around}
-use Rattle.rh_defs.specs.Listing.{block_items_from}
+use Rattle.rh_defs.specs.Questions.{block_items_from}
 use Rattle.rh_defs.proofs.Cuts.{total-append}
 use Rattle.rh_defs.proofs.HeapLists.{NonePass-append, first_at-none, first_at-found}
 use Rattle.rh_defs.proofs.SlotImageLaws.{is_block-here, is_block-top}

@@ -5,7 +5,7 @@ use Rattle.rh_defs.specs.Memory.{Memory, Edited, bytes}
 use Rattle.rh_defs.specs.Pieces.{total}
 use Rattle.rh_defs.specs.Slot.{Flex, Slot, weight, slot_start, heap_start, IsFree, HaveAnchors}
 use Rattle.rh_defs.specs.SlotImage.{Lie, Hang, heap_place, flex_place}
-use Rattle.rh_defs.specs.declared.listing.BlockItem.{BlockItem}
+use Rattle.rh_defs.specs.declared.question.BlockItem.{BlockItem}
 use Rattle.rh_defs.specs.declared.sizes.TheConstants.{ANCHORS, FLEX_HEADER, WORD}
 use Rattle.rh_slot.specs.declared.row.FlexWalk.{FlexWalk}
 

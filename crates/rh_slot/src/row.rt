@@ -3,10 +3,10 @@ ghost use Rattle.std.specs.Prelude.{◌≡◌, ◌+◌, ◌-◌, ◌%◌, ◌<�
 ghost use Rattle.rh_defs.specs.Memory.{IsOpen, bytes, Edited};
 ghost use Rattle.rh_defs.specs.Slot.{Flex, flex_around, flex_weight, weight, slot_length};
 ghost use Rattle.rh_defs.specs.Pieces.{total};
-ghost use Rattle.rh_defs.specs.Listing.{block_items};
+ghost use Rattle.rh_defs.specs.Questions.{block_items};
 ghost use Rattle.rh_defs.specs.Bytes.{word, part, put_word, SameIn};
 ghost use Rattle.rh_defs.specs.SlotImage.{Lie, is_block, flex_place};
-ghost use Rattle.rh_defs.specs.declared.listing.BlockItem.{BlockItem};
+ghost use Rattle.rh_defs.specs.declared.question.BlockItem.{BlockItem};
 ghost use Rattle.rh_slot.specs.Area.{IsSlot, slot_in};
 ghost use Rattle.rh_slot.specs.Row.{Row, Hung, HangsApart, Shifted, Walked, WalksIn, Headed, item_of};
 ghost use Rattle.rh_defs.specs.declared.sizes.TheConstants.{ANCHORS, C_HEAP_PLACE, FLEX_HEADER, PAGE};

@@ -32,7 +32,7 @@ pub use Rattle.rh_defs.specs.Heap.{size_of}
 unfoldable pub use Rattle.rh_defs.specs.IncomingEvents.{accept, appended, fetch_back, take_bytes}
 pub use Rattle.rh_defs.specs.Laws.{IsDesk}
 pub use Rattle.rh_defs.specs.Letters.{fetch_letter}
-pub use Rattle.rh_defs.specs.Listing.{block_items, segment_item}
+pub use Rattle.rh_defs.specs.Questions.{block_items, segment_item}
 pub use Rattle.rh_defs.specs.Memory.{IsOpen, Memory, OnlyArea, closed, grown, open_below, opened}
 unfoldable pub use Rattle.rh_defs.specs.Memory.{bytes}
 pub use Rattle.rh_defs.specs.Messages.{Parcel}
@@ -52,8 +52,8 @@ unfoldable pub use Rattle.rh_defs.specs.Slot.{slot_alloc, slot_block, slot_claim
 pub use Rattle.rh_defs.specs.SlotImage.{flex_place}
 pub use Rattle.rh_defs.specs.Commands.{change}
 pub use Rattle.rh_defs.specs.declared.command.Command.{Command}
-pub use Rattle.rh_defs.specs.declared.listing.BlockItem.{BlockItem}
-pub use Rattle.rh_defs.specs.declared.listing.SegmentItem.{SegmentItem}
+pub use Rattle.rh_defs.specs.declared.question.BlockItem.{BlockItem}
+pub use Rattle.rh_defs.specs.declared.question.SegmentItem.{SegmentItem}
 pub use Rattle.rh_defs.specs.declared.message.EventCode.{EventCode}
 pub use Rattle.rh_defs.specs.declared.message.EventCode.TheVariants.{User}
 pub use Rattle.rh_defs.specs.declared.message.Letter.{Letter}

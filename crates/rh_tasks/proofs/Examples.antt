@@ -1,7 +1,7 @@
 -- Worked lists of a task's blocks and segments: the definitions compute these answers.
 use Rattle.rh_tasks.proofs.Common.{◌≡◌, refl, [], ◌∷◌, codes, true, None, Ok, Err, NoName, Slot, Desk, Task, segment_items_at}
 use Rattle.rh_defs.specs.declared.command.Manner.TheVariants.{Plain}
-use Rattle.rh_defs.specs.declared.listing.SegmentItem.TheVariants.{Used, Hole}
+use Rattle.rh_defs.specs.declared.question.SegmentItem.TheVariants.{Used, Hole}
 use Rattle.rh_defs.specs.Chain as chain
 use Rattle.rh_defs.specs.Desk as desk
 use Rattle.rh_defs.specs.Runs.{start}

@@ -8,9 +8,9 @@ use Rattle.std.proofs.lemmas.Option.{slice_get_past}
 use Rattle.rh_defs.specs.Heap.{hole_size, largest_hole, largest, free_bytes}
 use Rattle.rh_defs.specs.Slot as plain
 use Rattle.rh_defs.specs.Desk.{module_pages}
-use Rattle.rh_defs.specs.Listing.{area_items, area_item, areas_at}
-use Rattle.rh_defs.specs.declared.listing.AreaItem.{AreaItem}
-use Rattle.rh_defs.specs.declared.listing.AreaItem.TheVariants as item
+use Rattle.rh_defs.specs.Questions.{area_items, area_item, areas_at}
+use Rattle.rh_defs.specs.declared.question.AreaItem.{AreaItem}
+use Rattle.rh_defs.specs.declared.question.AreaItem.TheVariants as item
 use Rattle.rh_tasks.specs.Items.{fixed_items, made_items, slot_items, items_in}
 use Rattle.rh_tasks.proofs.Posts.{module-length}
 

@@ -3,7 +3,7 @@ use Rattle.rh_tasks.proofs.Common.{◌≡◌, ℕ, ◌+◌, ◌≤◌, Bool, tru
 use Rattle.rh_tasks.proofs.Common.{drop, ◌==◌, option_map, Memory, bytes, FileList, Refusal, BadRange, eqb-true, Granted, ◌>>=◌, ◌>>◌, refuse_if, outcome_of}
 use Rattle.rh_tasks.proofs.Common.{result_or, Split, total, Heap, Segment, Used, Hole, size_of, segment_at, first_place, base, IsCut, first_at-cuts}
 use Rattle.rh_tasks.proofs.Common.{cut-total, Desk, named, segment_item, slot_in, Seat, MadeArea, Kept, desk_of, task_of, IsWorld, Owns, begins, found-named}
-use Rattle.rh_defs.specs.declared.listing.SegmentItem.TheVariants as segment
+use Rattle.rh_defs.specs.declared.question.SegmentItem.TheVariants as segment
 use Rattle.rh_defs.specs.Slot as plain
 use Rattle.rh_heap.specs.declared.layout.Segment.{Segment as Piece}
 use Rattle.rh_heap.specs.Segments.{piece}

@@ -5,9 +5,9 @@ use Rattle.rh_tasks.proofs.Common.{Heap, Used, Hole, size_of, segment_at, first_
 use Rattle.std.proofs.Common.{get_or}
 use Rattle.std.proofs.lemmas.List.{take-map, take_more}
 use Rattle.rh_defs.specs.declared.sizes.TheConstants.{SEGMENTS_AT_ONCE}
-use Rattle.rh_defs.specs.declared.listing.SegmentItem.TheVariants as segment
+use Rattle.rh_defs.specs.declared.question.SegmentItem.TheVariants as segment
 use Rattle.rh_defs.specs.Heap as heap
-use Rattle.rh_defs.specs.Listing.{segment_items_from}
+use Rattle.rh_defs.specs.Questions.{segment_items_from}
 use Rattle.rh_heap.specs.declared.layout.Segment.{Segment}
 use Rattle.rh_heap.specs.Image.{listed}
 use Rattle.rh_heap.specs.Listed.{from_cut, segments_from}

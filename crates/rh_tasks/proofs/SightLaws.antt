@@ -8,11 +8,11 @@ use Rattle.rh_tasks.proofs.Common.{desk_of, scrap_of, scrap_from, scrap_size, Is
 use Rattle.rh_tasks.proofs.Common.{lt-true, lt-false, named-is, Sits, mapped-at}
 use Rattle.std.proofs.lemmas.Option.{slice_get_past}
 use Rattle.rh_defs.specs.declared.sizes.TheConstants.{SEGMENTS_AT_ONCE}
-use Rattle.rh_defs.specs.declared.listing.SegmentItem.TheVariants as segment
+use Rattle.rh_defs.specs.declared.question.SegmentItem.TheVariants as segment
 use Rattle.rh_defs.specs.Blocks.{blank, block_bytes, SameShape}
 use Rattle.rh_defs.specs.Pieces.{behind}
 use Rattle.rh_defs.specs.Post.{post_is_message}
-use Rattle.rh_defs.specs.Listing.{segment_items_from}
+use Rattle.rh_defs.specs.Questions.{segment_items_from}
 use Rattle.rh_defs.proofs.BlockLaws.{block_at-bytes, bytes_here}
 use Rattle.rh_defs.proofs.ShapeLaws.{len0}
 use Rattle.rh_heap.specs.Listed.{from_cut}

@@ -7,6 +7,7 @@ use Rattle.rh_defs.specs.declared.reply.Reply.TheVariants as reply
 use Rattle.rh_defs.specs.Chain.{Granted}
 use Rattle.rh_defs.specs.declared.command.Command.{Command}
 use Rattle.rh_defs.specs.declared.command.Command.TheVariants as command
+use Rattle.rh_defs.specs.declared.question.Numbers.{Numbers}
 use Rattle.rh_defs.specs.declared.question.Question.{Question}
 use Rattle.rh_defs.specs.Desk.{Desk}
 use Rattle.rh_defs.specs.Commands.{Answer, step}
@@ -46,10 +47,15 @@ pub record Does (c : Command) (old new : Shown) (said : Reply) : Type 0 where
 abbrev pub RunsOn : Command → Desk → Desk → Type 0
 RunsOn c old new = (d : Desk) (commands : List Command) → IsReordered (after d commands) old → IsReordered (after d (commands ++ c ∷ [])) new
 
--- the words and numbers of an answer
-abbrev pub first_told : Granted Told → Granted Reply
+-- the numbers of an answer
+abbrev pub first_told : Granted Told → Granted Numbers
 first_told (Ok told) = Ok told.0
 first_told (Err refusal) = Err refusal
+
+-- the result of a question by its numbers
+abbrev pub answered : Granted Numbers → Granted Reply
+answered (Ok numbers) = Ok (reply.Answered numbers)
+answered (Err refusal) = Err refusal
 
 -- the reply that a call's result is
 abbrev pub reply_of : Result Reply Refusal → Reply

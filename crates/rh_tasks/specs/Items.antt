@@ -1,10 +1,10 @@
 -- Items of lists, from what the world keeps.
 use Rattle.std.specs.Prelude.{ℕ, ◌+◌, ◌-◌, ◌≤◌, if◌then◌else◌, List, ◌++◌, map}
 use Rattle.rh_defs.specs.Memory.{Memory}
-use Rattle.rh_defs.specs.declared.listing.AreaItem.{AreaItem}
-use Rattle.rh_defs.specs.declared.listing.AreaItem.TheVariants as item
-use Rattle.rh_defs.specs.declared.listing.SegmentItem.{SegmentItem}
-use Rattle.rh_defs.specs.declared.listing.SegmentItem.TheVariants as segment
+use Rattle.rh_defs.specs.declared.question.AreaItem.{AreaItem}
+use Rattle.rh_defs.specs.declared.question.AreaItem.TheVariants as item
+use Rattle.rh_defs.specs.declared.question.SegmentItem.{SegmentItem}
+use Rattle.rh_defs.specs.declared.question.SegmentItem.TheVariants as segment
 use Rattle.rh_heap.specs.declared.layout.Segment.{Segment}
 use Rattle.rh_tasks.specs.declared.listing.AreaEntry.{AreaEntry}
 use Rattle.rh_tasks.specs.declared.listing.AreaEntry.TheVariants as entry

@@ -1,12 +1,12 @@
 -- What is asked of a named task's blocks and segments, many at once.
 use Rattle.std.specs.Prelude.{ℕ, ◌+◌, List, take, Ok}
 use Rattle.rh_defs.specs.Chain.{Granted, ◌>>=◌}
-use Rattle.rh_defs.specs.declared.listing.BlockItem.{BlockItem}
-use Rattle.rh_defs.specs.declared.listing.SegmentItem.{SegmentItem}
+use Rattle.rh_defs.specs.declared.question.BlockItem.{BlockItem}
+use Rattle.rh_defs.specs.declared.question.SegmentItem.{SegmentItem}
 use Rattle.rh_defs.specs.Heap.{Heap, segment_at}
 use Rattle.rh_defs.specs.Slot.{heap_start}
 use Rattle.rh_defs.specs.Desk.{Desk, named}
-use Rattle.rh_defs.specs.Listing.{block_items, segment_items_from}
+use Rattle.rh_defs.specs.Questions.{block_items, segment_items_from}
 use Rattle.rh_heap.specs.Listed.{from_cut}
 use Rattle.rh_defs.specs.declared.sizes.TheConstants.{SEGMENTS_AT_ONCE}
 

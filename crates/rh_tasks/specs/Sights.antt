@@ -3,8 +3,8 @@
 use Rattle.std.specs.Prelude.{◌≡◌, ℕ, ◌+◌, not, nat_lt, List, length, take, drop, Option, Some, None, Ok}
 use Rattle.std.specs.Option.{option_copied, option_map}
 use Rattle.rh_defs.specs.declared.refusal.Refusal.TheVariants.{NoTask, BadRange}
-use Rattle.rh_defs.specs.declared.listing.BlockItem.{BlockItem}
-use Rattle.rh_defs.specs.declared.listing.SegmentItem.{SegmentItem}
+use Rattle.rh_defs.specs.declared.question.BlockItem.{BlockItem}
+use Rattle.rh_defs.specs.declared.question.SegmentItem.{SegmentItem}
 use Rattle.rh_defs.specs.Chain.{Granted, ◌>>=◌, ◌>>◌, refuse_if, found_or}
 use Rattle.rh_defs.specs.Heap.{bytes_of, largest, free_bytes}
 use Rattle.rh_defs.specs.Slot.{holds}
@@ -12,7 +12,7 @@ use Rattle.rh_defs.specs.Messages.{Parcel}
 use Rattle.rh_defs.specs.Post.{post_poll}
 use Rattle.rh_defs.specs.Desk.{Desk, Task, Made, Scrap, named, task_at, task_pages}
 use Rattle.rh_defs.specs.Commands.{own_block}
-use Rattle.rh_defs.specs.Listing.{block_items}
+use Rattle.rh_defs.specs.Questions.{block_items}
 use Rattle.rh_tasks.specs.declared.sights.TaskSight.{TaskSight}
 use Rattle.rh_tasks.specs.declared.sights.MadeSight.{MadeSight}
 use Rattle.rh_tasks.specs.declared.scrap.ScrapFile.{ScrapFile}

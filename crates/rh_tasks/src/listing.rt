@@ -9,9 +9,8 @@ ghost use Rattle.rh_tasks.specs.declared.seat.Seat.{Seat};
 ghost use Rattle.rh_defs.specs.Slot.{anchor_count};
 ghost use Rattle.rh_defs.specs.Memory.{Memory, IsOpen};
 ghost use Rattle.rh_defs.specs.Range.{can_be_asked};
-ghost use Rattle.rh_defs.specs.Questions.{asked};
+ghost use Rattle.rh_defs.specs.Questions.{asked, area_items, areas_at, blocks_at, heap_at, shown_at, status_at};
 ghost use Rattle.rh_defs.specs.Desk.{free_pages as free_pages_on};
-ghost use Rattle.rh_defs.specs.Listing.{area_items, areas_at, blocks_at, heap_at, shown_at, status_at};
 ghost use Rattle.rh_tasks.specs.Answer.{first_told};
 ghost use Rattle.rh_tasks.specs.View.{pages_at, HasAreas};
 ghost use Rattle.rh_tasks.specs.Items.{item_of, items_in, slot_items, segment_item_of, placed_item, IsSmall};
@@ -26,7 +25,7 @@ use crate::world::World;
 use arrayvec::ArrayVec;
 use rh_defs::sizes::{ANCHORS, C_HEAP_START, FIXED_AREAS, PAGE, SEGMENTS_AT_ONCE, WORD};
 use rh_defs::{
-    Anchor, AreaItem, BlockItem, Handle, Incoming, Name, Outgoing, Question, Refusal, Reply,
+    Anchor, AreaItem, BlockItem, Handle, Incoming, Name, Numbers, Outgoing, Question, Refusal,
     SegmentItem,
 };
 use rh_heap::Segment;
@@ -244,30 +243,30 @@ impl<S: Store, F: NamedFiles> World<S, F> {
         Ok((seat.handle, seat.sending.records(), seat.taking.records()))
     }
 
-    /// The words and numbers of a question's answer: NoName, NoBlock.
-    pub fn told(&self, question: &Question) -> Result<Reply, Refusal>
+    /// The numbers of a question's answer: NoName, NoBlock.
+    pub fn told(&self, question: &Question) -> Result<Numbers, Refusal>
         requires { can_be_asked question.now ≡ true }
         ensures { result ≡ first_told (asked self.now.desk question.now) }
     {
         match question {
             Question::Show { name, anchor } => {
                 let size = self.show(name, *anchor, 0, &mut [])?;
-                Ok(Reply::Shown { size })
+                Ok(Numbers::Shown { size })
             }
-            Question::Blocks { name } => Ok(Reply::BlockCount(self.blocks(name, 0)?.0)),
+            Question::Blocks { name } => Ok(Numbers::BlockCount(self.blocks(name, 0)?.0)),
             Question::Heap { name } => {
                 let ((length, largest, free), _) = self.heap(name, 0)?;
-                Ok(Reply::HeapSums {
+                Ok(Numbers::HeapSums {
                     length,
                     largest,
                     free,
                 })
             }
             Question::Status { name } => match self.status(name) {
-                Ok(records) => Ok(Reply::StatusOf(records.0)),
+                Ok(records) => Ok(Numbers::StatusOf(records.0)),
                 Err(refusal) => Err(refusal),
             },
-            Question::Areas => Ok(Reply::FreePages(self.free_pages())),
+            Question::Areas => Ok(Numbers::FreePages(self.free_pages())),
         }
     }
 

@@ -9,7 +9,7 @@ use Rattle.std.proofs.Math.ListN.{drop_of_length-le}
 use Rattle.rh_defs.specs.Messages.{Fits}
 use Rattle.rh_defs.specs.declared.message.Action.TheVariants as action
 use Rattle.rh_defs.proofs.ParcelLaws.{padded-words}
-use Rattle.rh_defs.specs.declared.listing.MessageItem.{MessageItem}
+use Rattle.rh_defs.specs.declared.message.MessageItem.{MessageItem}
 use Rattle.rh_wimp.proofs.OrderLaws.{by_seats-length, sent_to}
 use Rattle.rh_wimp.proofs.PollLaws.{next-small}
 use Rattle.rh_wimp.proofs.RowEdits.{lies-above}

@@ -7,7 +7,7 @@ use Rattle.rh_defs.specs.Post.{Post}
 use Rattle.rh_module.specs.Area.{heap_in}
 use Rattle.rh_module.specs.declared.module.Module.{Module}
 use Rattle.rh_wimp.specs.Chains.{Lies, Row, held_list, rows_of}
-use Rattle.rh_defs.specs.declared.listing.MessageItem.{MessageItem}
+use Rattle.rh_defs.specs.declared.message.MessageItem.{MessageItem}
 
 -- a message that waits for a task, or is held by it
 abbrev pub item_of : ℕ → Bool → Parcel → MessageItem

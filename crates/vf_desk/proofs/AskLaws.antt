@@ -2,7 +2,7 @@
 use Rattle.vf_desk.proofs.Common.{◌≡◌, ℕ, refl, sym, ap, subst, ◌∙◌, Option, Some, None, Command, Question, Desk, Called, Station, IsAsked, called, in_form}
 use Rattle.vf_desk.proofs.Common.{status_of, listed, SeenBy}
 use Rattle.rh_defs.specs.declared.command.Command.TheVariants as command
-use Rattle.rh_defs.specs.Listing.{Nothing}
+use Rattle.rh_defs.specs.Questions.{Nothing}
 use Rattle.vf_desk.specs.declared.called.Called.TheVariants.{Closed}
 use Rattle.vf_desk.specs.declared.desk.VfDesk.{VfDesk}
 use Rattle.vf_desk.specs.Called.{Asks, done_or}

@@ -1,18 +1,17 @@
 -- What is listed of a desk, from what its readers give.
 use Rattle.vf_desk.proofs.Common.{◌≡◌, ℕ, zero, suc, List, [], ◌∷◌, ◌++◌, length, take, drop, min, refl, sym, ap, ◌∙◌, arith, subst, Ok, Err, Some, None}
 use Rattle.vf_desk.proofs.Common.{Option, false, true, if◌then◌else◌, map, filled, Console, Question, ◌>>=◌, Desk, Task, named, listed, SeenBy}
-use Rattle.rh_defs.specs.declared.listing.BlockItem.{BlockItem}
+use Rattle.rh_defs.specs.declared.question.BlockItem.{BlockItem}
 use Rattle.rh_defs.specs.declared.refusal.Refusal.{Refusal}
 use Rattle.rh_defs.specs.declared.transfer.Incoming.{Incoming}
 use Rattle.rh_defs.specs.declared.transfer.Outgoing.{Outgoing}
-use Rattle.rh_defs.specs.declared.reply.Reply.TheVariants as reply
+use Rattle.rh_defs.specs.declared.question.Numbers.TheVariants as numbers
 use Rattle.rh_defs.specs.Chain.{Granted}
-use Rattle.rh_defs.specs.Listing.{Blocks, Bytes, Nothing, Records, block_items, in_item, out_item, status_at}
-use Rattle.rh_defs.specs.Questions.{Told, asked, blocks, status}
+use Rattle.rh_defs.specs.Questions.{Blocks, Bytes, Nothing, Records, block_items, in_item, out_item, status_at, Told, asked, blocks, status}
 use Rattle.rh_defs.specs.Range.{can_be_asked}
 use Rattle.rh_defs.proofs.QuestionLaws.{asked-alike}
 use Rattle.rh_tasks.specs.Lists.{blocks_of}
-use Rattle.rh_script.proofs.PrintLemmas.{blocks_refused, status_refused}
+use Rattle.rh_script.proofs.PrintLemmas.{refused_alike}
 use Rattle.vf_desk.specs.Items.{blocks_in, bytes_in, incoming_in, listed_with, outgoing_in}
 
 pub map-map : {A B C : Type 0} (f : B → C) (g : A → B) (xs : List A) → map f (map g xs) ≡ map (λ x. f (g x)) xs
@@ -26,7 +25,7 @@ map-length f (x ∷ xs) = ap suc (map-length f xs)
 -- ---- flex blocks
 
 listed_blocks : (g : Granted Task) (items : List BlockItem) → (g >>= λ t. Ok (block_items t.slot)) ≡ Ok items
-    → blocks_in (listed_with (g >>= λ t. Ok (reply.BlockCount (length t.slot.blocks), Blocks (block_items t.slot)))) ≡ items
+    → blocks_in (listed_with (g >>= λ t. Ok (numbers.BlockCount (length t.slot.blocks), Blocks (block_items t.slot)))) ≡ items
 unfolding ◌>>=◌
 listed_blocks (Ok t) items e = cc
 listed_blocks (Err r) items e = absurd (cc)
@@ -36,7 +35,8 @@ unfolding blocks_of blocks
 blocks-listed d name items e = listed_blocks (named name d) items e
 
 pub no-blocks-listed : (d : Desk) (name : List ℕ) (refusal : Refusal) → blocks_of d name ≡ Err refusal → blocks_in (listed_with (blocks d name)) ≡ []
-no-blocks-listed d name refusal e = ap (λ a. blocks_in (listed_with a)) (blocks_refused d name refusal e)
+unfolding blocks_of blocks
+no-blocks-listed d name refusal e = ap (λ a. blocks_in (listed_with a)) (refused_alike (named name d) _ _ refusal e)
 
 -- ---- records of transfers
 
@@ -47,7 +47,7 @@ pub record Lists (answer : Granted Told) (sent : List Outgoing) (got : List Inco
 
 listed_records : (g : Granted Task) (h : ℕ) (out : List Outgoing) (taken : List Incoming)
     → (g >>= λ t. (let r : Granted (ℕ × List Outgoing × List Incoming) = Ok (t.handle, t.sending, t.taking) in r)) ≡ Ok (h, out, taken)
-    → Lists (g >>= λ t. Ok (reply.StatusOf t.handle, Records (map out_item t.sending) (map in_item t.taking))) out taken
+    → Lists (g >>= λ t. Ok (numbers.StatusOf t.handle, Records (map out_item t.sending) (map in_item t.taking))) out taken
 unfolding ◌>>=◌
 listed_records (Ok t) h out taken e = record {
   out = ap (map out_item) (ap (λ (p : ℕ × List Outgoing × List Incoming). p.1) (same e));
@@ -64,8 +64,9 @@ unfolding status_at status
 records-listed d name h out taken e = listed_records (named name d) h out taken e
 
 pub no-records-listed : (d : Desk) (name : List ℕ) (refusal : Refusal) → status_at d name ≡ Err refusal → Lists (status d name) [] []
+unfolding status_at status
 no-records-listed d name refusal e =
-    let is = status_refused d name refusal e in
+    let is = refused_alike (named name d) _ _ refusal e in
     record { out = ap (λ a. outgoing_in (listed_with a)) is; taken = ap (λ a. incoming_in (listed_with a)) is }
 
 -- ---- a block's bytes
@@ -84,7 +85,7 @@ bytes-filled bytes old part n is read = ap (λ l. l ++ drop n old) read ∙ go b
     go (x ∷ bytes) (y ∷ old) zero is = absurd (omega arith)
     go (x ∷ bytes) (y ∷ old) (suc n) is = ap (λ l. x ∷ l) (go bytes old n (omega arith))
 
-pub shown-bytes : (answer : Granted Told) (size : ℕ) (bytes : List ℕ) → answer ≡ Ok (reply.Shown size, Bytes bytes) → bytes_in (listed_with answer) ≡ bytes
+pub shown-bytes : (answer : Granted Told) (size : ℕ) (bytes : List ℕ) → answer ≡ Ok (numbers.Shown size, Bytes bytes) → bytes_in (listed_with answer) ≡ bytes
 shown-bytes answer size bytes e = ap (λ a. bytes_in (listed_with a)) e
 
 pub no-shown-bytes : (answer : Granted Told) (refusal : Refusal) → answer ≡ Err refusal → bytes_in (listed_with answer) ≡ []

@@ -5,16 +5,15 @@ use Rattle.vf_desk.proofs.Common.{◌>>=◌, Desk, Task, named, filled_from}
 use Rattle.std.proofs.lemmas.List.{take-append-drop}
 use Rattle.std.specs.Option.{option_map}
 use Rattle.rh_defs.specs.declared.sizes.TheConstants.{SEGMENTS_AT_ONCE}
-use Rattle.rh_defs.specs.declared.listing.SegmentItem.{SegmentItem}
+use Rattle.rh_defs.specs.declared.question.SegmentItem.{SegmentItem}
 use Rattle.rh_defs.specs.declared.refusal.Refusal.TheVariants.{NoName}
-use Rattle.rh_defs.specs.declared.reply.Reply.TheVariants as reply
+use Rattle.rh_defs.specs.declared.question.Numbers.TheVariants as numbers
 use Rattle.rh_defs.specs.Chain.{found_or}
 use Rattle.rh_defs.specs.Desk.{has_name}
 use Rattle.rh_defs.specs.Pieces.{Split, behind, first_at, total}
 use Rattle.rh_defs.specs.Heap.{Segment, Used, Hole, Heap, IsHeap, size_of, first_place, place_after, segment_at, largest, free_bytes}
 use Rattle.rh_defs.specs.Slot.{heap_start}
-use Rattle.rh_defs.specs.Listing.{Segments, segment_item, segment_items, segment_items_from}
-use Rattle.rh_defs.specs.Questions.{heap}
+use Rattle.rh_defs.specs.Questions.{Segments, segment_item, segment_items, segment_items_from, heap}
 use Rattle.rh_defs.proofs.Cuts.{total-append}
 use Rattle.rh_heap.specs.Listed.{from_cut}
 use Rattle.rh_tasks.specs.Lists.{segment_items_at}
@@ -209,7 +208,7 @@ module _ (h : Heap) (place count : ℕ) (old now : List VfSegment) (is : IsHeap 
 
 listed_segments : (o : Option Task)
     → segments_in (listed_with (found_or o NoName
-    >>= λ t. Ok (reply.HeapSums t.slot.heap.end (largest t.slot.heap) (free_bytes t.slot.heap), Segments (segment_items t.slot))))
+    >>= λ t. Ok (numbers.HeapSums t.slot.heap.end (largest t.slot.heap) (free_bytes t.slot.heap), Segments (segment_items t.slot))))
     ≡ segment_items_from (heap_start + first_place) (slot_in o).heap.segments
 unfolding ◌>>=◌ found_or
 listed_segments None = refl

@@ -1,9 +1,12 @@
 -- What a call with a command comes to, and what it tells.
-use Rattle.std.specs.Prelude.{◌≡◌, ◌≢◌, ℕ, Bool, if◌then◌else◌, Option, Some, None}
+use Rattle.std.specs.Prelude.{◌≡◌, ◌≢◌, ℕ, Bool, if◌then◌else◌, List, [], ◌∷◌, Option, Some, None}
 use Rattle.rh_defs.specs.declared.command.Command.{Command}
 use Rattle.rh_defs.specs.declared.command.Command.TheVariants as command
 use Rattle.rh_defs.specs.declared.question.Question.{Question}
+use Rattle.rh_defs.specs.declared.question.Numbers.{Numbers}
+use Rattle.rh_defs.specs.declared.question.Numbers.TheVariants as numbers
 use Rattle.rh_defs.specs.declared.reply.Reply.TheVariants as reply
+use Rattle.rh_defs.specs.Questions.{each_of}
 use Rattle.rh_defs.specs.Range.{in_range}
 use Rattle.rh_defs.specs.Desk.{Desk}
 use Rattle.rh_defs.specs.Order.{IsReordered}
@@ -73,17 +76,23 @@ pub record Asks (q : Question) (old new : VfDesk) (status : ℕ) : Type 0 where
 
 -- ---- words and numbers of a reply, or what was there before
 
+-- the number that is alone in a list
+abbrev pub only_of : List ℕ → ℕ → ℕ
+only_of (n ∷ []) old = n
+only_of _ old = old
+
+-- the number of an answer's first line that has one alone
+abbrev pub only_or : Numbers → ℕ → ℕ
+only_or numbers old = only_of (each_of numbers) old
+
 -- the one number of a reply
 abbrev pub number_or : Called → ℕ → ℕ
 number_or (Said (reply.Started handle)) old = handle
-number_or (Said (reply.StatusOf handle)) old = handle
 number_or (Said (reply.Sent ref)) old = ref
 number_or (Said (reply.Block address)) old = address
 number_or (Said (reply.Moved bytes)) old = bytes
 number_or (Said (reply.Made number)) old = number
-number_or (Said (reply.Shown size)) old = size
-number_or (Said (reply.BlockCount count)) old = count
-number_or (Said (reply.FreePages pages)) old = pages
+number_or (Said (reply.Answered numbers)) old = only_or numbers old
 number_or _ old = old
 
 -- whether budging was on
@@ -93,7 +102,7 @@ was_or _ old = old
 
 -- the sums over a C heap
 abbrev pub sums_or : Called → VfHeapSums → VfHeapSums
-sums_or (Said (reply.HeapSums length largest free)) old = record { length = length; largest = largest; free = free }
+sums_or (Said (reply.Answered (numbers.HeapSums length largest free))) old = record { length = length; largest = largest; free = free }
 sums_or _ old = old
 
 -- a number that is told where the call is done

@@ -1,18 +1,17 @@
 -- The items of lists as structs of C, and which list a question is answered with.
 use Rattle.std.specs.Prelude.{ℕ, ◌-◌, true, false, if◌then◌else◌, List, [], ◌++◌, length, replicate, Option, Some, None, Ok, Err}
-use Rattle.rh_defs.specs.declared.listing.AreaItem.{AreaItem}
-use Rattle.rh_defs.specs.declared.listing.AreaItem.TheVariants as item
-use Rattle.rh_defs.specs.declared.listing.BlockItem.{BlockItem}
-use Rattle.rh_defs.specs.declared.listing.RecordItem.{RecordItem}
-use Rattle.rh_defs.specs.declared.listing.SegmentItem.{SegmentItem}
-use Rattle.rh_defs.specs.declared.listing.SegmentItem.TheVariants as segment
-use Rattle.rh_defs.specs.declared.listing.State.{State}
-use Rattle.rh_defs.specs.declared.listing.State.TheVariants as state
+use Rattle.rh_defs.specs.declared.question.AreaItem.{AreaItem}
+use Rattle.rh_defs.specs.declared.question.AreaItem.TheVariants as item
+use Rattle.rh_defs.specs.declared.question.BlockItem.{BlockItem}
+use Rattle.rh_defs.specs.declared.question.RecordItem.{RecordItem}
+use Rattle.rh_defs.specs.declared.question.SegmentItem.{SegmentItem}
+use Rattle.rh_defs.specs.declared.question.SegmentItem.TheVariants as segment
+use Rattle.rh_defs.specs.declared.question.State.{State}
+use Rattle.rh_defs.specs.declared.question.State.TheVariants as state
 use Rattle.rh_defs.specs.declared.question.Question.{Question}
 use Rattle.rh_defs.specs.Chain.{Granted}
 use Rattle.rh_defs.specs.Desk.{Desk}
-use Rattle.rh_defs.specs.Listing.{Listed, Nothing, Bytes, Blocks, Segments, Records, Areas}
-use Rattle.rh_defs.specs.Questions.{Told, asked}
+use Rattle.rh_defs.specs.Questions.{Listed, Nothing, Bytes, Blocks, Segments, Records, Areas, Told, asked}
 use Rattle.rh_defs.specs.Range.{can_be_asked}
 use Rattle.vf_desk.specs.declared.items.VfArea.{VfArea}
 use Rattle.vf_desk.specs.declared.items.VfBlock.{VfBlock}

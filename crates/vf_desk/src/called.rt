@@ -1,10 +1,10 @@
 //! What a call with a command came to, and its words and numbers for C.
 ghost use Rattle.std.specs.Prelude.{◌≡◌};
-ghost use Rattle.vf_desk.specs.Called.{done_or, number_or, status_of, sums_or, was_or};
+ghost use Rattle.vf_desk.specs.Called.{done_or, number_or, only_or, status_of, sums_or, was_or};
 
 use crate::items::VfHeapSums;
 use crate::status::{BAD_ARGUMENT, CLOSED, OK, refusal_number};
-use rh_defs::Reply;
+use rh_defs::{Numbers, Reply};
 
 /// What a call with a command came to.
 #[derive(Clone, Copy)]
@@ -36,14 +36,12 @@ impl Called {
         ensures number { number.new ≡ number_or self.now number.old }
     {
         match self {
-            Called::Said(Reply::Started(handle) | Reply::StatusOf(handle)) => *number = handle.0,
+            Called::Said(Reply::Started(handle)) => *number = handle.0,
             Called::Said(Reply::Sent(r)) => *number = r.0,
             Called::Said(Reply::Block { address }) => *number = *address,
             Called::Said(Reply::Moved { bytes }) => *number = *bytes,
             Called::Said(Reply::Made { number: made }) => *number = *made,
-            Called::Said(Reply::Shown { size }) => *number = *size,
-            Called::Said(Reply::BlockCount(count)) => *number = *count,
-            Called::Said(Reply::FreePages(pages)) => *number = *pages,
+            Called::Said(Reply::Answered(numbers)) => tell(numbers, number),
             _ => {}
         }
         self.status()
@@ -78,11 +76,13 @@ impl Called {
         ensures sums { sums.new ≡ sums_or self.now sums.old }
     {
         if let Called::Said(
-            Reply::HeapSums {
-                length,
-                largest,
-                free,
-            },
+            Reply::Answered(
+                Numbers::HeapSums {
+                    length,
+                    largest,
+                    free,
+                },
+            ),
         ) = self
         {
             *sums = VfHeapSums {
@@ -92,5 +92,14 @@ impl Called {
             };
         }
         self.status()
+    }
+}
+
+/// Tells the number of an answer's first line, if there is one alone.
+fn tell(numbers: &Numbers, number: &mut u32)
+    ensures { number.new ≡ only_or numbers.now number.old }
+{
+    if let [only] = numbers.each().as_slice() {
+        *number = *only;
     }
 }

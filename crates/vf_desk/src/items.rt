@@ -1,6 +1,6 @@
 //! The items of lists, as structs of C.
 ghost use Rattle.std.specs.Prelude.{◌≡◌, ◌≤◌, length};
-ghost use Rattle.rh_defs.specs.Listing.{in_item, out_item};
+ghost use Rattle.rh_defs.specs.Questions.{in_item, out_item};
 ghost use Rattle.rh_tasks.specs.Items.{item_of};
 ghost use Rattle.vf_desk.specs.Items.{area_of, block_of, name_bytes, record_of, segment_of, state_number as state_number_of};
 

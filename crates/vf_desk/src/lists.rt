@@ -2,8 +2,7 @@
 ghost use Rattle.std.specs.Prelude.{◌≡◌, ◌+◌, ◌≤◌, ◌<◌, ◌^◌, ◌∷◌, [], length, map};
 ghost use Rattle.rh_console.specs.Console.{filled};
 ghost use Rattle.rh_defs.specs.Slot.{anchor_count};
-ghost use Rattle.rh_defs.specs.Listing.{area_items};
-ghost use Rattle.rh_defs.specs.Questions.{blocks as blocks_on, heap as heap_on, show as show_on, status as status_on};
+ghost use Rattle.rh_defs.specs.Questions.{area_items, blocks as blocks_on, heap as heap_on, show as show_on, status as status_on};
 ghost use Rattle.rh_defs.specs.declared.sizes.TheConstants.{C_HEAP_START};
 ghost use Rattle.rh_defs.specs.Heap.{IsHeap};
 ghost use Rattle.rh_script.specs.Named.{heap_of_named, item_end};

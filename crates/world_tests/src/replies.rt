@@ -3,7 +3,7 @@
 use crate::calls::{fill, name, said, task};
 use crate::same::{is_true, same};
 use crate::stores::paged_store;
-use rh_defs::{Anchor, Command, Files, Handle, Name, Question, Refusal, Reply};
+use rh_defs::{Anchor, Command, Files, Handle, Name, Numbers, Question, Refusal, Reply};
 use rh_lines::Held;
 use rh_script::{print_answer, print_reply};
 use rh_store::Store;
@@ -74,7 +74,14 @@ fn prints_answers<R: Abort, S: Store>(rt: &R, world: &mut World<S>, held: &mut H
 
 /// Replies that the desk doesn't give stand alone.
 fn prints_others<R: Abort, S: Store>(rt: &R, world: &World<S>, held: &mut Held, a: &Name) {
-    prints(rt, world, held, blocks(a), Reply::BlockCount(7), b"ok 7\n");
+    prints(
+        rt,
+        world,
+        held,
+        blocks(a),
+        Reply::Answered(Numbers::BlockCount(7)),
+        b"ok 7\n",
+    );
     prints(rt, world, held, show(a, 0), no_block(), REFUSED);
     prints(rt, world, held, show(a, 64), no_block(), REFUSED);
     prints(rt, world, held, show(a, 0), Reply::Done, b"ok\n");

@@ -1,5 +1,5 @@
 use Rattle.rh_painted.proofs.Common.{ℕ, None, Some, ap, ap₂, sym, ◌∙◌, list_any, transfer_row, outs_of, puts_none, puts_same}
-use Rattle.rh_defs.specs.declared.listing.RecordItem.{RecordItem}
+use Rattle.rh_defs.specs.declared.question.RecordItem.{RecordItem}
 use Rattle.rh_figure.specs.Figure.{Transfer, has_id}
 use Rattle.rh_drawn.proofs.TransferLemmas.{in-id}
 use Rattle.rh_painted.proofs.TableLemmas.{in_rows-none, in_rows-one}

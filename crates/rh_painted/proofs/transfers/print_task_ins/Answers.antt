@@ -1,6 +1,6 @@
 use Rattle.rh_painted.proofs.Common.{List, refl, [], ◌∷◌, outs_of, in_rows, ins_named, left_breaks, left_less, left_none}
 use Rattle.rh_defs.specs.declared.transfer.Incoming.{Incoming}
-use Rattle.rh_defs.specs.Listing.{in_item}
+use Rattle.rh_defs.specs.Questions.{in_item}
 use Rattle.rh_painted.proofs.TableLemmas.{in_rows-each}
 use Rattle.rh_painted.proofs.TextWalks.{Each, text-at, text-end}
 use Rattle.rh_painted.proofs.transfers.print_task_ins.Goals as goal

@@ -1,7 +1,14 @@
-use Rattle.rh_script.proofs.Common.{arith, tests}
-use Rattle.rh_script.proofs.PrintLemmas.{unnamed_shows}
+use Rattle.rh_script.proofs.Common.{◌≡◌, ℕ, List, Err, arith, tests}
+use Rattle.rh_defs.specs.declared.refusal.Refusal.{Refusal}
+use Rattle.rh_defs.specs.Desk.{Desk, named}
+use Rattle.rh_defs.specs.Questions.{show, status_at}
+use Rattle.rh_script.proofs.PrintLemmas.{refused_alike}
 use Rattle.rh_script.proofs.ReadLemmas.{named_is_slot, shows_none, size_read}
 use Rattle.rh_script.proofs.read.size_of_block.Goals as goal
+
+unnamed_shows : (d : Desk) (name : List ℕ) (k : ℕ) (refusal : Refusal) → status_at d name ≡ Err refusal → show d name k ≡ Err refusal
+unfolding status_at show
+unnamed_shows d name k refusal e = refused_alike (named name d) _ _ refusal e
 
 pub returns-in-Err-clause-refused : goal.returns-in-Err-clause-refused
 returns-in-Err-clause-refused g c =

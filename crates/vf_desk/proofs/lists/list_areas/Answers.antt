@@ -1,6 +1,6 @@
 use Rattle.vf_desk.proofs.Common.{sym, arith, area_of}
 use Rattle.std.proofs.lemmas.Option.{slice_get_within}
-use Rattle.rh_defs.specs.Listing.{area_items}
+use Rattle.rh_defs.specs.Questions.{area_items}
 use Rattle.rh_tasks.specs.Items.{item_of}
 use Rattle.vf_desk.proofs.FillLaws.{filled-none, items-all, items-more}
 use Rattle.vf_desk.proofs.lists.list_areas.Goals as goal

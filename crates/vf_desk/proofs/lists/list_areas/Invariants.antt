@@ -1,5 +1,5 @@
 use Rattle.vf_desk.proofs.Common.{◌≡◌, ◌-◌, ◌≤◌, length, take, map, filled, area_of}
-use Rattle.rh_defs.specs.Listing.{area_items}
+use Rattle.rh_defs.specs.Questions.{area_items}
 use Rattle.vf_desk.proofs.lists.list_areas.Given as goal
 
 -- the areas and slots so far were put into the slice

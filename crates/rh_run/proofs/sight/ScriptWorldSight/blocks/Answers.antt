@@ -1,5 +1,5 @@
 use Rattle.std.proofs.Common.{◌∙◌}
-use Rattle.rh_defs.specs.Listing.{block_items}
+use Rattle.rh_defs.specs.Questions.{block_items}
 use Rattle.rh_run.proofs.TaskLaws.{blocks-there, given, is-granted, there}
 use Rattle.rh_run.proofs.sight.ScriptWorldSight.blocks.Goals as goal
 

@@ -1,5 +1,5 @@
 use Rattle.rh_tasks.proofs.Common.{ℕ, sym, arith, length, slice_get, Option, Ok, err_from_is_err_and, BlockItem, Granted, block_items, ends, nobody, owned}
-use Rattle.rh_defs.specs.Listing.{blocks_at}
+use Rattle.rh_defs.specs.Questions.{blocks_at}
 use Rattle.rh_tasks.proofs.QuestionLaws.{of-slot}
 use Rattle.rh_tasks.proofs.Readers.{few-blocks}
 use Rattle.rh_tasks.proofs.world.World.blocks.Goals as goal

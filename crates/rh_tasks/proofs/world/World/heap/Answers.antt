@@ -1,5 +1,5 @@
 use Rattle.rh_tasks.proofs.Common.{◌∙◌, sym, arith, err_from_is_err_and, ends, nobody, owned}
-use Rattle.rh_defs.specs.Listing.{heap_at}
+use Rattle.rh_defs.specs.Questions.{heap_at}
 use Rattle.rh_tasks.proofs.QuestionLaws.{of-slot}
 use Rattle.rh_tasks.proofs.Readers.{listed_heap, listed-none, listed-some, small-largest, small-free, small-place, small-piece}
 use Rattle.rh_tasks.proofs.world.World.heap.Goals as goal

@@ -1,5 +1,5 @@
 use Rattle.rh_tasks.proofs.Common.{refl, ◌∙◌, arith, length, err_from_is_err_and, ends, nobody, owned}
-use Rattle.rh_defs.specs.Listing.{shown_at}
+use Rattle.rh_defs.specs.Questions.{shown_at}
 use Rattle.rh_tasks.proofs.QuestionLaws.{of-slot, shown_of_slot, unsized, unread, read-done}
 use Rattle.rh_tasks.proofs.Readers.{if-ok, if-err, kept, small-size}
 use Rattle.rh_tasks.proofs.world.World.show.Goals as goal

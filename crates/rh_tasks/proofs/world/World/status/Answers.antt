@@ -1,5 +1,5 @@
 use Rattle.rh_tasks.proofs.Common.{refl, sym, err_from_is_err_and, task_of, Found, begins, ends, nobody, named-is}
-use Rattle.rh_defs.specs.Listing.{status_at}
+use Rattle.rh_defs.specs.Questions.{status_at}
 use Rattle.rh_tasks.proofs.world.World.status.Goals as goal
 
 pub returns-in_err-i-clause-err : goal.returns-in_err-i-clause-err
