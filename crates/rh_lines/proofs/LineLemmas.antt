@@ -1,11 +1,10 @@
 -- What a line means, by its first word and its first six words.
-use Rattle.std.proofs.Common.{◌≡◌, ℕ, ◌+◌, ◌<◌, ◌≤◌, Bool, true, false, eqb, List, [], ◌∷◌, length, take, get_or, subst, Option, Some, None, refl, sym, ◌∙◌}
-use Rattle.std.proofs.Common.{ap, arith, rules, cond, ◌&&◌, ◌||◌, ◌⊎◌, inl, inr}
-use Rattle.std.specs.Prelude.{find, IfSome, IfNone, map, nat_le, nat_lt, if◌then◌else◌, Ok, Err, IsErr, IsErrAnd}
+use Rattle.std.proofs.Common.{◌≡◌, ℕ, ◌+◌, ◌<◌, ◌≤◌, Bool, true, false, eqb, List, [], ◌∷◌, ◌++◌, length, take, Option, Some, refl, sym, ◌∙◌}
+use Rattle.std.proofs.Common.{ap, arith, rules, ◌&&◌, ◌||◌, ◌⊎◌, inl, inr}
+use Rattle.std.specs.Prelude.{nat_le, nat_lt, if◌then◌else◌, Ok, Err, IsErr, IsErrAnd}
 use Rattle.rh_defs.specs.declared.fault.LineFault.{LineFault}
 use Rattle.rh_lines.specs.Placed.{if_placed}
-use Rattle.std.specs.List.{list_all, list_any, filter}
-use Rattle.std.specs.Option.{option_map}
+use Rattle.std.specs.List.{AllByRecursion, list_all, list_any}
 use Rattle.std.specs.Str.{bytes_eq}
 use Rattle.std.proofs.lemmas.List.{take_all, length-take}
 use borrow.Author.Tests.{tests}
@@ -14,8 +13,7 @@ use Rattle.rh_defs.specs.Grammar.{Form, Maybe, Row, rows}
 use Rattle.rh_defs.specs.Line.{words_of, word, is_skipped, line_means, is_count, follow, row_of, row_means, longest_line}
 use Rattle.rh_defs.specs.Line.{command_by, command_of, Meaning, ◌>>=◌}
 use Rattle.rh_defs.specs.declared.command.Command.{Command}
-use Rattle.rh_lines.specs.declared.parse.Keyword.{Keyword}
-use Rattle.rh_lines.specs.Keywords.{spelled, firsts, SpellsNone}
+use Rattle.rh_lines.specs.Readers.{IsNoneOf}
 use Rattle.rh_lines.specs.Words.{first_words}
 
 -- ---- by the first word
@@ -24,50 +22,43 @@ and_true : (a b : Bool) → (a && b) ≡ true → (a ≡ true) × (b ≡ true)
 and_true true b e = (refl, e)
 and_true false b e = absurd (cc)
 
--- the line's command, where its first word is a keyword
-pub by_keyword : (text : List ℕ) (words : List (List ℕ)) → word words 1 ≡ text → command_by text words ≡ command_of words
-by_keyword text words e = ap (λ w. command_by w words) (sym e)
-
 same_bytes : (a b : List ℕ) → bytes_eq a b ≡ true → a ≡ b
 same_bytes a b e = search (rules, tests)
 
-abbrev first_of : Row → List ℕ
-first_of row = row.first
+-- it differs from each of these
+abbrev Differs : List ℕ → List (List ℕ) → Type 0
+Differs w texts = AllByRecursion (λ text. bytes_eq w text ≡ false) texts
 
--- a word that no row begins with is none that a row begins with as this one does
-unlike : (w text : List ℕ) (rs : List Row) → list_any (λ row. bytes_eq text row.first) rs ≡ true →
-    SpellsNone w (map first_of rs) → bytes_eq w text ≡ false
-unlike w text [] e h = absurd (cc)
-unlike w text (row ∷ rs) e h = go (bytes_eq text row.first) refl e (λ found. unlike w text rs found h.1)
+unlike : (w text : List ℕ) (texts : List (List ℕ)) → list_any (bytes_eq text) texts ≡ true → Differs w texts → bytes_eq w text ≡ false
+unlike w text [] found differs = absurd cc
+unlike w text (other ∷ texts) found differs = go (bytes_eq text other) refl found (λ behind. unlike w text texts behind differs.1)
   where
-    found : Bool
-    found = list_any (λ other. bytes_eq text other.first) rs
-
-    go : (same : Bool) → bytes_eq text row.first ≡ same → (same || found) ≡ true →
-        (found ≡ true → bytes_eq w text ≡ false) → bytes_eq w text ≡ false
-    go true is either rest = rw (same_bytes text row.first is) h.0
+    go : (same : Bool) → bytes_eq text other ≡ same → (same || list_any (bytes_eq text) texts) ≡ true
+        → (list_any (bytes_eq text) texts ≡ true → bytes_eq w text ≡ false) → bytes_eq w text ≡ false
+    go true is either rest = rw (same_bytes text other is) differs.0
     go false is either rest = rest either
 
-none_of_all : (w : List ℕ) (rs : List Row) → SpellsNone w (firsts rs) → SpellsNone w (map first_of rs)
-none_of_all w [] h = tt
-none_of_all w (row ∷ rs) h = go (list_any (λ other. bytes_eq row.first other.first) rs) refl (none_of_all w rs) h
+no_row : (w : List ℕ) (words texts : List (List ℕ)) (fault : LineFault) (rs : List Row) → Differs w texts
+    → list_all (λ row. list_any (bytes_eq row.first) texts) rs ≡ true → row_of rs w words fault ≡ Err fault
+no_row w words texts fault [] differs known = refl
+no_row w words texts fault (row ∷ rs) differs known =
+    let both = and_true (list_any (bytes_eq row.first) texts) (list_all (λ row. list_any (bytes_eq row.first) texts) rs) known in
+    rw (unlike w row.first texts both.0 differs) (no_row w words texts fault rs differs both.1)
+
+-- none of some words and none of others
+pub none-both : {w : List ℕ} {texts others : List (List ℕ)} → IsNoneOf w texts → IsNoneOf w others → IsNoneOf w (texts ++ others)
+none-both {w} {texts} {others} none more = record { differs = go texts none.differs }
   where
-    go : (again : Bool) → list_any (λ other. bytes_eq row.first other.first) rs ≡ again →
-        (SpellsNone w (firsts rs) → SpellsNone w (map first_of rs)) →
-        SpellsNone w (cond again (firsts rs) (row.first ∷ firsts rs)) → SpellsNone w (map first_of (row ∷ rs))
-    go true is rest none = (unlike w row.first rs is (rest none), rest none)
-    go false is rest none = (none.0, rest none.1)
+    go : (some : List (List ℕ)) → Differs w some → Differs w (some ++ others)
+    go [] here = more.differs
+    go (text ∷ some) here = (here.0, go some here.1)
 
-no_row : (w : List ℕ) (words : List (List ℕ)) (fault : LineFault) (rs : List Row) → SpellsNone w (map first_of rs) →
-    row_of rs w words fault ≡ Err fault
-no_row w words fault [] h = refl
-no_row w words fault (row ∷ rs) h = rw h.0 (no_row w words fault rs h.1)
-
--- a line whose first word is none
-pub by_none : (words : List (List ℕ)) → SpellsNone (word words 1) (firsts rows) → Err Unknown ≡ command_of words
+-- a line whose first word is none that a row begins with
+pub by_none : (words : List (List ℕ)) {texts : List (List ℕ)} → IsNoneOf (word words 1) texts
+    → list_all (λ row. list_any (bytes_eq row.first) texts) rows ≡ true
+    → Err Unknown ≡ command_of words
 unfolding command_by
-by_none words h =
-    rw (no_row (word words 1) words Unknown rows (none_of_all (word words 1) rows h)) refl
+by_none words {texts} none known = rw (no_row (word words 1) words texts Unknown rows none.differs known) refl
 
 -- ---- by the first six words
 
@@ -165,35 +156,7 @@ pub is_skipped-first_words : (line : List ℕ) → is_skipped (first_words line)
 unfolding first_words
 is_skipped-first_words line = skipped_same (words_of line)
 
--- ---- keywords
-
-found_first : {X : Type 0} (of : X → Keyword) (w text : List ℕ) (x : X) (rest : Option X) (fits : Bool) → bytes_eq w text ≡ fits → text ≡ spelled (of x)
-    → IfSome (option_map of rest) (λ k. w ≡ spelled k) → IfSome (option_map of (cond fits (Some x) rest)) (λ k. w ≡ spelled k)
-found_first of w text x rest true e same h = same_bytes w text e ∙ same
-found_first of w text x rest false e same h = h
-
--- the first entry that fits is spelled like the word
-pub found_keyword : {X : Type 0} (text : X → List ℕ) (of : X → Keyword) (w : List ℕ) (entries : List X)
-    → list_all (λ e. bytes_eq (text e) (spelled (of e))) entries ≡ true
-    → IfSome (option_map of (find (λ e. bytes_eq w (text e)) entries)) (λ k. w ≡ spelled k)
-found_keyword text of w [] h = tt
-found_keyword text of w (x ∷ entries) h =
-    let both = and_true (bytes_eq (text x) (spelled (of x))) (list_all (λ e. bytes_eq (text e) (spelled (of e))) entries) h in
-    found_first of w (text x) x (find (λ e. bytes_eq w (text e)) entries) (bytes_eq w (text x)) refl (same_bytes (text x) (spelled (of x)) both.0)
-    (found_keyword text of w entries both.1)
-
-no_first : {X : Type 0} (of : X → Keyword) (w text : List ℕ) (x : X) (rest : Option X) (texts : List (List ℕ)) (fits : Bool) → bytes_eq w text ≡ fits
-    → IfNone (option_map of rest) (SpellsNone w texts) → IfNone (option_map of (cond fits (Some x) rest)) (SpellsNone w (text ∷ texts))
-no_first of w text x rest texts true e h = tt
-no_first of w text x None texts false e h = (e, h)
-no_first of w text x (Some y) texts false e h = tt
-
--- where none fits, none is spelled like the word
-no_keyword : {X : Type 0} (text : X → List ℕ) (of : X → Keyword) (w : List ℕ) (entries : List X)
-    → IfNone (option_map of (find (λ e. bytes_eq w (text e)) entries)) (SpellsNone w (map text entries))
-no_keyword text of w [] = tt
-no_keyword text of w (x ∷ entries) =
-    no_first of w (text x) x (find (λ e. bytes_eq w (text e)) entries) (map text entries) (bytes_eq w (text x)) refl (no_keyword text of w entries)
+-- ---- a whole line
 
 -- a line's command, which it has
 abbrev pub asked : Meaning Command → Meaning (Option Command)
@@ -212,39 +175,5 @@ means_asked line words all fits not =
 pub fault_same : (r : Meaning Bool) (fault : LineFault) (command : Command) → IsErr r → IsErrAnd r (λ other. other ≡ fault) → if_placed r command ≡ Err fault
 fault_same (Ok found) fault command is same = absurd (cc)
 fault_same (Err other) fault command is same = ap Err same
-
--- words that begin otherwise differ
-differs : (w text : List ℕ) (first : ℕ) (same : Bool) → bytes_eq w text ≡ same → get_or w 0 0 ≡ first → eqb (get_or text 0 0) first ≡ false → same ≡ false
-differs w text first true e begins other =
-    let is : w ≡ text = same_bytes w text e in
-    let one : get_or text 0 0 ≡ first = ap (λ (t : List ℕ). get_or t 0 0) (sym is) ∙ begins in
-    absurd (search (rules, tests, other, one))
-differs w text first false e begins other = refl
-
-next_text : (w text : List ℕ) (first : ℕ) (rest some : List (List ℕ)) (fits : Bool) → eqb (get_or text 0 0) first ≡ fits → get_or w 0 0 ≡ first
-    → (SpellsNone w some → SpellsNone w rest) → SpellsNone w (cond fits (text ∷ some) some) → SpellsNone w (text ∷ rest)
-next_text w text first rest some true e begins before h = (h.0, before h.1)
-next_text w text first rest some false e begins before h = (differs w text first (bytes_eq w text) refl begins e, before h)
-
--- a word is none of the texts, if it is none of those that begin as it does
-by_first : (w : List ℕ) (first : ℕ) (texts : List (List ℕ)) → get_or w 0 0 ≡ first → SpellsNone w (filter (λ text. eqb (get_or text 0 0) first) texts)
-    → SpellsNone w texts
-by_first w first [] begins h = tt
-by_first w first (text ∷ texts) begins h =
-    next_text w text first texts (filter (λ text. eqb (get_or text 0 0) first) texts) (eqb (get_or text 0 0) first) refl begins
-    (by_first w first texts begins) h
-
-if_none : {X : Type 0} (P Q : Type 0) (found : Option X) → (P → Q) → IfNone found P → IfNone found Q
-if_none P Q None f h = f h
-if_none P Q (Some x) f h = tt
-
--- where none of those that begin as the word does fits, it is none of the texts
-pub no_keyword_from : {X : Type 0} (text : X → List ℕ) (of : X → Keyword) (w : List ℕ) (first : ℕ) (entries : List X) (texts : List (List ℕ))
-    → get_or w 0 0 ≡ first → map text entries ≡ filter (λ name. eqb (get_or name 0 0) first) texts
-    → IfNone (option_map of (find (λ e. bytes_eq w (text e)) entries)) (SpellsNone w texts)
-no_keyword_from text of w first entries texts begins are =
-    if_none (SpellsNone w (map text entries)) (SpellsNone w texts) (option_map of (find (λ e. bytes_eq w (text e)) entries))
-    (λ h. let P : List (List ℕ) → Type 0 = λ names. SpellsNone w names in by_first w first texts begins (subst P are h))
-    (no_keyword text of w entries)
 
 pub ruleset by_words = (is_skipped-first_words, command_of-first_words)

@@ -2,5 +2,5 @@ pub mod Placed
 pub mod Flow
 pub mod Noted
 pub mod Words
-pub mod Keywords
+pub mod Readers
 pub mod WholeText

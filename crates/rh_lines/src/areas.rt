@@ -1,9 +1,10 @@
 //! Lines about areas of pages.
 
-ghost use Rattle.std.specs.Prelude.{◌≡◌, codes, OnOk, OnErr, IsTrue};
-ghost use Rattle.rh_defs.specs.Line.{command_by};
+ghost use Rattle.std.specs.Prelude.{◌≡◌, codes, IfNone, IfSome, OnOk, OnErr, IsTrue, ◌∷◌, []};
+ghost use Rattle.rh_defs.specs.Line.{command_by, command_of, word};
 ghost use Rattle.rh_defs.specs.Range.{in_range};
 ghost use Rattle.rh_lines.specs.Placed.{placed};
+ghost use Rattle.rh_lines.specs.Readers.{IsNoneOf};
 
 use crate::counts::counted;
 use crate::forms::{delta_at, number_at};
@@ -11,9 +12,27 @@ use crate::words::Words;
 use rh_defs::sizes::{FIRST_MADE, LAST_AREA, MAX_PAGES};
 use rh_defs::{Command, LineFault, Question};
 
+/// Puts the command of a line about areas of pages in its place; None where the line begins with none of their words.
+pub fn read_command(words: &Words<'_>, command: &mut Command) -> Option<Result<(), LineFault>>
+    ensures means { IfSome result (λ read. placed read command.new ≡ command_of words.now) }
+    ensures in_range { IfSome result (λ read. OnOk read (IsTrue (in_range command.new))) }
+    ensures kept { IfSome result (λ read. OnErr read (command.new ≡ command.old)) }
+    ensures other { IfNone result (IsNoneOf (word words.now 1) (codes "area" ∷ codes "make" ∷ codes "remove" ∷ codes "areas" ∷ [])) }
+    ensures same { IfNone result (command.new ≡ command.old) }
+{
+    match words.word(1) {
+        b"area" => Some(area_of(words, command)),
+        b"make" => Some(make_of(words, command)),
+        b"remove" => Some(remove_of(words, command)),
+        b"areas" => Some(areas_of(words, command)),
+        _ => None,
+    }
+}
+
 /// `area K DELTA`.
 #[tactic(auto, unfolding(crate::specs::Placed::reading))]
-pub fn area_of(words: &Words<'_>, command: &mut Command) -> Result<(), LineFault>
+#[inline(always)]
+fn area_of(words: &Words<'_>, command: &mut Command) -> Result<(), LineFault>
     ensures means { placed result command.new ≡ command_by (codes "area") words.now }
     ensures in_range { OnOk result (IsTrue (in_range command.new)) }
     ensures kept { OnErr result (command.new ≡ command.old) }
@@ -27,7 +46,8 @@ pub fn area_of(words: &Words<'_>, command: &mut Command) -> Result<(), LineFault
 
 /// `make MAX`.
 #[tactic(auto, unfolding(crate::specs::Placed::reading))]
-pub fn make_of(words: &Words<'_>, command: &mut Command) -> Result<(), LineFault>
+#[inline(always)]
+fn make_of(words: &Words<'_>, command: &mut Command) -> Result<(), LineFault>
     ensures means { placed result command.new ≡ command_by (codes "make") words.now }
     ensures in_range { OnOk result (IsTrue (in_range command.new)) }
     ensures kept { OnErr result (command.new ≡ command.old) }
@@ -40,7 +60,8 @@ pub fn make_of(words: &Words<'_>, command: &mut Command) -> Result<(), LineFault
 
 /// `remove K`.
 #[tactic(auto, unfolding(crate::specs::Placed::reading))]
-pub fn remove_of(words: &Words<'_>, command: &mut Command) -> Result<(), LineFault>
+#[inline(always)]
+fn remove_of(words: &Words<'_>, command: &mut Command) -> Result<(), LineFault>
     ensures means { placed result command.new ≡ command_by (codes "remove") words.now }
     ensures in_range { OnOk result (IsTrue (in_range command.new)) }
     ensures kept { OnErr result (command.new ≡ command.old) }
@@ -53,7 +74,8 @@ pub fn remove_of(words: &Words<'_>, command: &mut Command) -> Result<(), LineFau
 
 /// `areas`.
 #[tactic(auto, unfolding(crate::specs::Placed::reading))]
-pub fn areas_of(words: &Words<'_>, command: &mut Command) -> Result<(), LineFault>
+#[inline(always)]
+fn areas_of(words: &Words<'_>, command: &mut Command) -> Result<(), LineFault>
     ensures means { placed result command.new ≡ command_by (codes "areas") words.now }
     ensures in_range { OnOk result (IsTrue (in_range command.new)) }
     ensures kept { OnErr result (command.new ≡ command.old) }

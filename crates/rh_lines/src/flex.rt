@@ -1,9 +1,10 @@
 //! Lines about flex blocks.
 
-ghost use Rattle.std.specs.Prelude.{◌≡◌, codes, OnOk, OnErr, IsTrue};
-ghost use Rattle.rh_defs.specs.Line.{command_by};
+ghost use Rattle.std.specs.Prelude.{◌≡◌, codes, IfNone, IfSome, OnOk, OnErr, IsTrue, ◌∷◌, []};
+ghost use Rattle.rh_defs.specs.Line.{command_by, command_of, word};
 ghost use Rattle.rh_defs.specs.Range.{in_range};
 ghost use Rattle.rh_lines.specs.Placed.{placed};
+ghost use Rattle.rh_lines.specs.Readers.{IsNoneOf};
 
 use crate::counts::counted;
 use crate::forms::{anchor_at, bytes_at, delta_at, name_at, size_at};
@@ -11,9 +12,31 @@ use crate::words::Words;
 use arrayvec::ArrayVec;
 use rh_defs::{Bytes, Command, LineFault, Question};
 
+/// Puts the command of a line about flex blocks in its place; None where the line begins with none of their words.
+pub fn read_command(words: &Words<'_>, command: &mut Command) -> Option<Result<(), LineFault>>
+    ensures means { IfSome result (λ read. placed read command.new ≡ command_of words.now) }
+    ensures in_range { IfSome result (λ read. OnOk read (IsTrue (in_range command.new))) }
+    ensures kept { IfSome result (λ read. OnErr read (command.new ≡ command.old)) }
+    ensures other { IfNone result (IsNoneOf (word words.now 1) (codes "alloc" ∷ codes "load" ∷ codes "put" ∷ codes "free" ∷ codes "extend" ∷ codes "mid" ∷ codes "show" ∷ codes "blocks" ∷ [])) }
+    ensures same { IfNone result (command.new ≡ command.old) }
+{
+    match words.word(1) {
+        b"alloc" => Some(alloc_of(words, command)),
+        b"load" => Some(load_of(words, command)),
+        b"put" => Some(put_of(words, command)),
+        b"free" => Some(free_of(words, command)),
+        b"extend" => Some(extend_of(words, command)),
+        b"mid" => Some(mid_of(words, command)),
+        b"show" => Some(show_of(words, command)),
+        b"blocks" => Some(blocks_of(words, command)),
+        _ => None,
+    }
+}
+
 /// `alloc NAME A N`.
 #[tactic(auto, unfolding(crate::specs::Placed::reading))]
-pub fn alloc_of(words: &Words<'_>, command: &mut Command) -> Result<(), LineFault>
+#[inline(always)]
+fn alloc_of(words: &Words<'_>, command: &mut Command) -> Result<(), LineFault>
     ensures means { placed result command.new ≡ command_by (codes "alloc") words.now }
     ensures in_range { OnOk result (IsTrue (in_range command.new)) }
     ensures kept { OnErr result (command.new ≡ command.old) }
@@ -28,7 +51,8 @@ pub fn alloc_of(words: &Words<'_>, command: &mut Command) -> Result<(), LineFaul
 
 /// `load NAME A FILE`.
 #[tactic(auto, unfolding(crate::specs::Placed::reading))]
-pub fn load_of(words: &Words<'_>, command: &mut Command) -> Result<(), LineFault>
+#[inline(always)]
+fn load_of(words: &Words<'_>, command: &mut Command) -> Result<(), LineFault>
     ensures means { placed result command.new ≡ command_by (codes "load") words.now }
     ensures in_range { OnOk result (IsTrue (in_range command.new)) }
     ensures kept { OnErr result (command.new ≡ command.old) }
@@ -43,7 +67,8 @@ pub fn load_of(words: &Words<'_>, command: &mut Command) -> Result<(), LineFault
 
 /// `put NAME A OFF HEX`.
 #[tactic(auto, unfolding(crate::specs::Placed::reading))]
-pub fn put_of(words: &Words<'_>, command: &mut Command) -> Result<(), LineFault>
+#[inline(always)]
+fn put_of(words: &Words<'_>, command: &mut Command) -> Result<(), LineFault>
     ensures means { placed result command.new ≡ command_by (codes "put") words.now }
     ensures in_range { OnOk result (IsTrue (in_range command.new)) }
     ensures kept { OnErr result (command.new ≡ command.old) }
@@ -65,7 +90,8 @@ pub fn put_of(words: &Words<'_>, command: &mut Command) -> Result<(), LineFault>
 
 /// `free NAME A`.
 #[tactic(auto, unfolding(crate::specs::Placed::reading))]
-pub fn free_of(words: &Words<'_>, command: &mut Command) -> Result<(), LineFault>
+#[inline(always)]
+fn free_of(words: &Words<'_>, command: &mut Command) -> Result<(), LineFault>
     ensures means { placed result command.new ≡ command_by (codes "free") words.now }
     ensures in_range { OnOk result (IsTrue (in_range command.new)) }
     ensures kept { OnErr result (command.new ≡ command.old) }
@@ -79,7 +105,8 @@ pub fn free_of(words: &Words<'_>, command: &mut Command) -> Result<(), LineFault
 
 /// `extend NAME A N`.
 #[tactic(auto, unfolding(crate::specs::Placed::reading))]
-pub fn extend_of(words: &Words<'_>, command: &mut Command) -> Result<(), LineFault>
+#[inline(always)]
+fn extend_of(words: &Words<'_>, command: &mut Command) -> Result<(), LineFault>
     ensures means { placed result command.new ≡ command_by (codes "extend") words.now }
     ensures in_range { OnOk result (IsTrue (in_range command.new)) }
     ensures kept { OnErr result (command.new ≡ command.old) }
@@ -94,7 +121,8 @@ pub fn extend_of(words: &Words<'_>, command: &mut Command) -> Result<(), LineFau
 
 /// `mid NAME A AT BY`.
 #[tactic(auto, unfolding(crate::specs::Placed::reading))]
-pub fn mid_of(words: &Words<'_>, command: &mut Command) -> Result<(), LineFault>
+#[inline(always)]
+fn mid_of(words: &Words<'_>, command: &mut Command) -> Result<(), LineFault>
     ensures means { placed result command.new ≡ command_by (codes "mid") words.now }
     ensures in_range { OnOk result (IsTrue (in_range command.new)) }
     ensures kept { OnErr result (command.new ≡ command.old) }
@@ -115,7 +143,8 @@ pub fn mid_of(words: &Words<'_>, command: &mut Command) -> Result<(), LineFault>
 
 /// `show NAME A`.
 #[tactic(auto, unfolding(crate::specs::Placed::reading))]
-pub fn show_of(words: &Words<'_>, command: &mut Command) -> Result<(), LineFault>
+#[inline(always)]
+fn show_of(words: &Words<'_>, command: &mut Command) -> Result<(), LineFault>
     ensures means { placed result command.new ≡ command_by (codes "show") words.now }
     ensures in_range { OnOk result (IsTrue (in_range command.new)) }
     ensures kept { OnErr result (command.new ≡ command.old) }
@@ -129,7 +158,8 @@ pub fn show_of(words: &Words<'_>, command: &mut Command) -> Result<(), LineFault
 
 /// `blocks NAME`.
 #[tactic(auto, unfolding(crate::specs::Placed::reading))]
-pub fn blocks_of(words: &Words<'_>, command: &mut Command) -> Result<(), LineFault>
+#[inline(always)]
+fn blocks_of(words: &Words<'_>, command: &mut Command) -> Result<(), LineFault>
     ensures means { placed result command.new ≡ command_by (codes "blocks") words.now }
     ensures in_range { OnOk result (IsTrue (in_range command.new)) }
     ensures kept { OnErr result (command.new ≡ command.old) }

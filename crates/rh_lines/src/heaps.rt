@@ -1,18 +1,39 @@
 //! Lines about the blocks of heaps: a task's C heap and the module area.
 
-ghost use Rattle.std.specs.Prelude.{◌≡◌, codes, OnOk, OnErr, IsTrue};
-ghost use Rattle.rh_defs.specs.Line.{command_by};
+ghost use Rattle.std.specs.Prelude.{◌≡◌, codes, IfNone, IfSome, OnOk, OnErr, IsTrue, ◌∷◌, []};
+ghost use Rattle.rh_defs.specs.Line.{command_by, command_of, word};
 ghost use Rattle.rh_defs.specs.Range.{in_range};
 ghost use Rattle.rh_lines.specs.Placed.{placed};
+ghost use Rattle.rh_lines.specs.Readers.{IsNoneOf};
 
 use crate::counts::counted;
 use crate::forms::{address_at, choice_at, delta_at, name_at, size_at};
 use crate::words::Words;
 use rh_defs::{Command, LineFault, Question};
 
+/// Puts the command of a line about the blocks of heaps in its place; None where the line begins with none of their words.
+pub fn read_command(words: &Words<'_>, command: &mut Command) -> Option<Result<(), LineFault>>
+    ensures means { IfSome result (λ read. placed read command.new ≡ command_of words.now) }
+    ensures in_range { IfSome result (λ read. OnOk read (IsTrue (in_range command.new))) }
+    ensures kept { IfSome result (λ read. OnErr read (command.new ≡ command.old)) }
+    ensures other { IfNone result (IsNoneOf (word words.now 1) (codes "claim" ∷ codes "release" ∷ codes "resize" ∷ codes "budge" ∷ codes "heap" ∷ codes "rma" ∷ [])) }
+    ensures same { IfNone result (command.new ≡ command.old) }
+{
+    match words.word(1) {
+        b"claim" => Some(claim_of(words, command)),
+        b"release" => Some(release_of(words, command)),
+        b"resize" => Some(resize_of(words, command)),
+        b"budge" => Some(budge_of(words, command)),
+        b"heap" => Some(heap_of(words, command)),
+        b"rma" => Some(rma_of(words, command)),
+        _ => None,
+    }
+}
+
 /// `claim NAME N`.
 #[tactic(auto, unfolding(crate::specs::Placed::reading))]
-pub fn claim_of(words: &Words<'_>, command: &mut Command) -> Result<(), LineFault>
+#[inline(always)]
+fn claim_of(words: &Words<'_>, command: &mut Command) -> Result<(), LineFault>
     ensures means { placed result command.new ≡ command_by (codes "claim") words.now }
     ensures in_range { OnOk result (IsTrue (in_range command.new)) }
     ensures kept { OnErr result (command.new ≡ command.old) }
@@ -26,7 +47,8 @@ pub fn claim_of(words: &Words<'_>, command: &mut Command) -> Result<(), LineFaul
 
 /// `release NAME ADDR`.
 #[tactic(auto, unfolding(crate::specs::Placed::reading))]
-pub fn release_of(words: &Words<'_>, command: &mut Command) -> Result<(), LineFault>
+#[inline(always)]
+fn release_of(words: &Words<'_>, command: &mut Command) -> Result<(), LineFault>
     ensures means { placed result command.new ≡ command_by (codes "release") words.now }
     ensures in_range { OnOk result (IsTrue (in_range command.new)) }
     ensures kept { OnErr result (command.new ≡ command.old) }
@@ -40,7 +62,8 @@ pub fn release_of(words: &Words<'_>, command: &mut Command) -> Result<(), LineFa
 
 /// `resize NAME ADDR DELTA`.
 #[tactic(auto, unfolding(crate::specs::Placed::reading))]
-pub fn resize_of(words: &Words<'_>, command: &mut Command) -> Result<(), LineFault>
+#[inline(always)]
+fn resize_of(words: &Words<'_>, command: &mut Command) -> Result<(), LineFault>
     ensures means { placed result command.new ≡ command_by (codes "resize") words.now }
     ensures in_range { OnOk result (IsTrue (in_range command.new)) }
     ensures kept { OnErr result (command.new ≡ command.old) }
@@ -59,7 +82,8 @@ pub fn resize_of(words: &Words<'_>, command: &mut Command) -> Result<(), LineFau
 
 /// `budge NAME on, or off`.
 #[tactic(auto, unfolding(crate::specs::Placed::reading))]
-pub fn budge_of(words: &Words<'_>, command: &mut Command) -> Result<(), LineFault>
+#[inline(always)]
+fn budge_of(words: &Words<'_>, command: &mut Command) -> Result<(), LineFault>
     ensures means { placed result command.new ≡ command_by (codes "budge") words.now }
     ensures in_range { OnOk result (IsTrue (in_range command.new)) }
     ensures kept { OnErr result (command.new ≡ command.old) }
@@ -73,7 +97,8 @@ pub fn budge_of(words: &Words<'_>, command: &mut Command) -> Result<(), LineFaul
 
 /// `heap NAME`.
 #[tactic(auto, unfolding(crate::specs::Placed::reading))]
-pub fn heap_of(words: &Words<'_>, command: &mut Command) -> Result<(), LineFault>
+#[inline(always)]
+fn heap_of(words: &Words<'_>, command: &mut Command) -> Result<(), LineFault>
     ensures means { placed result command.new ≡ command_by (codes "heap") words.now }
     ensures in_range { OnOk result (IsTrue (in_range command.new)) }
     ensures kept { OnErr result (command.new ≡ command.old) }
@@ -86,7 +111,8 @@ pub fn heap_of(words: &Words<'_>, command: &mut Command) -> Result<(), LineFault
 
 /// `rma claim N`, `rma free ADDR` or `rma resize ADDR DELTA`.
 #[tactic(auto, unfolding(crate::specs::Placed::reading))]
-pub fn rma_of(words: &Words<'_>, command: &mut Command) -> Result<(), LineFault>
+#[inline(always)]
+fn rma_of(words: &Words<'_>, command: &mut Command) -> Result<(), LineFault>
     ensures means { placed result command.new ≡ command_by (codes "rma") words.now }
     ensures in_range { OnOk result (IsTrue (in_range command.new)) }
     ensures kept { OnErr result (command.new ≡ command.old) }

@@ -1,10 +1,11 @@
 //! Lines about tasks and their transfers.
 
-ghost use Rattle.std.specs.Prelude.{◌≡◌, codes, IfOk, OnOk, OnErr, IsTrue};
+ghost use Rattle.std.specs.Prelude.{◌≡◌, codes, IfOk, IfNone, IfSome, OnOk, OnErr, IsTrue, ◌∷◌, []};
 ghost use Rattle.rh_defs.specs.Grammar.{Choice, Maybe, Ref as RefForm, manner_of};
-ghost use Rattle.rh_defs.specs.Line.{command_by, value_at};
+ghost use Rattle.rh_defs.specs.Line.{command_by, command_of, value_at, word};
 ghost use Rattle.rh_defs.specs.Range.{in_range, is_of};
 ghost use Rattle.rh_lines.specs.Placed.{placed};
+ghost use Rattle.rh_lines.specs.Readers.{IsNoneOf};
 
 use crate::counts::{counted, counted_from};
 use crate::forms::{anchor_at, choice_at, leaf_at, name_at, number_at};
@@ -12,9 +13,30 @@ use crate::words::Words;
 use rh_defs::sizes::LONGEST_BUFFER;
 use rh_defs::{Command, LineFault, Manner, Question, Ref};
 
+/// Puts the command of a line about tasks and their transfers in its place; None where the line begins with none of their words.
+pub fn read_command(words: &Words<'_>, command: &mut Command) -> Option<Result<(), LineFault>>
+    ensures means { IfSome result (λ read. placed read command.new ≡ command_of words.now) }
+    ensures in_range { IfSome result (λ read. OnOk read (IsTrue (in_range command.new))) }
+    ensures kept { IfSome result (λ read. OnErr read (command.new ≡ command.old)) }
+    ensures other { IfNone result (IsNoneOf (word words.now 1) (codes "task" ∷ codes "kill" ∷ codes "save" ∷ codes "poll" ∷ codes "cancel" ∷ codes "repeat" ∷ codes "status" ∷ [])) }
+    ensures same { IfNone result (command.new ≡ command.old) }
+{
+    match words.word(1) {
+        b"task" => Some(task_of(words, command)),
+        b"kill" => Some(kill_of(words, command)),
+        b"save" => Some(save_of(words, command)),
+        b"poll" => Some(poll_of(words, command)),
+        b"cancel" => Some(cancel_of(words, command)),
+        b"repeat" => Some(repeat_of(words, command)),
+        b"status" => Some(status_of(words, command)),
+        _ => None,
+    }
+}
+
 /// `task NAME BUF`, with `deaf` or `file` behind it or not.
 #[tactic(auto, unfolding(crate::specs::Placed::reading))]
-pub fn task_of(words: &Words<'_>, command: &mut Command) -> Result<(), LineFault>
+#[inline(always)]
+fn task_of(words: &Words<'_>, command: &mut Command) -> Result<(), LineFault>
     ensures means { placed result command.new ≡ command_by (codes "task") words.now }
     ensures in_range { OnOk result (IsTrue (in_range command.new)) }
     ensures kept { OnErr result (command.new ≡ command.old) }
@@ -54,7 +76,8 @@ fn manner_of(deaf: Option<bool>) -> Manner
 
 /// `kill NAME`.
 #[tactic(auto, unfolding(crate::specs::Placed::reading))]
-pub fn kill_of(words: &Words<'_>, command: &mut Command) -> Result<(), LineFault>
+#[inline(always)]
+fn kill_of(words: &Words<'_>, command: &mut Command) -> Result<(), LineFault>
     ensures means { placed result command.new ≡ command_by (codes "kill") words.now }
     ensures in_range { OnOk result (IsTrue (in_range command.new)) }
     ensures kept { OnErr result (command.new ≡ command.old) }
@@ -67,7 +90,8 @@ pub fn kill_of(words: &Words<'_>, command: &mut Command) -> Result<(), LineFault
 
 /// `save NAME A TO LEAF`.
 #[tactic(auto, unfolding(crate::specs::Placed::reading))]
-pub fn save_of(words: &Words<'_>, command: &mut Command) -> Result<(), LineFault>
+#[inline(always)]
+fn save_of(words: &Words<'_>, command: &mut Command) -> Result<(), LineFault>
     ensures means { placed result command.new ≡ command_by (codes "save") words.now }
     ensures in_range { OnOk result (IsTrue (in_range command.new)) }
     ensures kept { OnErr result (command.new ≡ command.old) }
@@ -88,7 +112,8 @@ pub fn save_of(words: &Words<'_>, command: &mut Command) -> Result<(), LineFault
 
 /// `poll NAME`.
 #[tactic(auto, unfolding(crate::specs::Placed::reading))]
-pub fn poll_of(words: &Words<'_>, command: &mut Command) -> Result<(), LineFault>
+#[inline(always)]
+fn poll_of(words: &Words<'_>, command: &mut Command) -> Result<(), LineFault>
     ensures means { placed result command.new ≡ command_by (codes "poll") words.now }
     ensures in_range { OnOk result (IsTrue (in_range command.new)) }
     ensures kept { OnErr result (command.new ≡ command.old) }
@@ -101,7 +126,8 @@ pub fn poll_of(words: &Words<'_>, command: &mut Command) -> Result<(), LineFault
 
 /// `repeat NAME`.
 #[tactic(auto, unfolding(crate::specs::Placed::reading))]
-pub fn repeat_of(words: &Words<'_>, command: &mut Command) -> Result<(), LineFault>
+#[inline(always)]
+fn repeat_of(words: &Words<'_>, command: &mut Command) -> Result<(), LineFault>
     ensures means { placed result command.new ≡ command_by (codes "repeat") words.now }
     ensures in_range { OnOk result (IsTrue (in_range command.new)) }
     ensures kept { OnErr result (command.new ≡ command.old) }
@@ -114,7 +140,8 @@ pub fn repeat_of(words: &Words<'_>, command: &mut Command) -> Result<(), LineFau
 
 /// `status NAME`.
 #[tactic(auto, unfolding(crate::specs::Placed::reading))]
-pub fn status_of(words: &Words<'_>, command: &mut Command) -> Result<(), LineFault>
+#[inline(always)]
+fn status_of(words: &Words<'_>, command: &mut Command) -> Result<(), LineFault>
     ensures means { placed result command.new ≡ command_by (codes "status") words.now }
     ensures in_range { OnOk result (IsTrue (in_range command.new)) }
     ensures kept { OnErr result (command.new ≡ command.old) }
@@ -127,7 +154,8 @@ pub fn status_of(words: &Words<'_>, command: &mut Command) -> Result<(), LineFau
 
 /// `cancel NAME in`, or `out`, with an ID behind it or not.
 #[tactic(auto, unfolding(crate::specs::Placed::reading))]
-pub fn cancel_of(words: &Words<'_>, command: &mut Command) -> Result<(), LineFault>
+#[inline(always)]
+fn cancel_of(words: &Words<'_>, command: &mut Command) -> Result<(), LineFault>
     ensures means { placed result command.new ≡ command_by (codes "cancel") words.now }
     ensures in_range { OnOk result (IsTrue (in_range command.new)) }
     ensures kept { OnErr result (command.new ≡ command.old) }
@@ -146,6 +174,7 @@ pub fn cancel_of(words: &Words<'_>, command: &mut Command) -> Result<(), LineFau
 }
 
 /// The id of a cancel, which a fourth word may give.
+#[inline(always)]
 fn id_of(words: &Words<'_>) -> Result<Option<Ref>, LineFault>
     ensures means { result ≡ value_at (Maybe RefForm) words.now 4 }
     ensures form { IfOk result (λ id. IsTrue (is_of (Maybe RefForm) id)) }
