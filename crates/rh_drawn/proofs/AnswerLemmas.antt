@@ -1,20 +1,20 @@
 -- Answers as they are kept: how many lines each has, and what the first 4,096 bytes show of them.
 use Rattle.rh_drawn.proofs.Common.{◌≡◌, ℕ, zero, suc, ◌+◌, ◌*◌, ◌/◌, ◌%◌, ◌<◌, ◌≤◌, ◌⊎◌, inl, inr, Bool, true, false, eqb, refl, ap, ap₂, sym, subst, ◌∙◌}
-use Rattle.rh_drawn.proofs.Common.{arith, rules, List, [], ◌∷◌, ◌++◌, append-nil, append_assoc, length, take, map, Option, Some, None, Result, Ok, Err, codes}
+use Rattle.rh_drawn.proofs.Common.{arith, rules, List, [], ◌∷◌, ◌++◌, append-nil, append_assoc, length, take, map, Option, Some, None, Ok, Err, codes}
 use Rattle.rh_drawn.proofs.Common.{find, if◌then◌else◌, max, nat_le, slice_get, slice_index, ◌==◌, decimal, AllByRecursion, enumerate_from, flat_map}
-use Rattle.rh_drawn.proofs.Common.{flat_map-append, length-append, slice_get_within, BlockItem, Reply, Desk, Made, Task, task_pages, block_items, in_item}
-use Rattle.rh_drawn.proofs.Common.{out_item, asked, ended, unended, answer_text, first_line, cut, Puts, Excerpts}
+use Rattle.rh_drawn.proofs.Common.{flat_map-append, length-append, BlockItem, Desk, Made, Task, task_pages, block_items, in_item}
+use Rattle.rh_drawn.proofs.Common.{out_item, asked, ended, unended, answer_text, first_line, cut, Excerpts}
 use Rattle.std.specs.Fmt.{digit_glyph, digits, digits_onto}
 use Rattle.std.proofs.lemmas.List.FromFn.{length-enumerate_from}
 use borrow.Author.Tests.{tests}
 use Rattle.hex.specs.Hex.{encode_with, lower_digits}
-use Rattle.rh_defs.specs.declared.listing.AreaItem.{AreaItem}
-use Rattle.rh_defs.specs.declared.listing.AreaItem.TheVariants as item
-use Rattle.rh_defs.specs.declared.listing.RecordItem.{RecordItem}
-use Rattle.rh_defs.specs.declared.listing.SegmentItem.{SegmentItem}
-use Rattle.rh_defs.specs.declared.listing.SegmentItem.TheVariants as segment
-use Rattle.rh_defs.specs.declared.listing.State.{State}
-use Rattle.rh_defs.specs.declared.listing.State.TheVariants as state
+use Rattle.rh_defs.specs.declared.question.AreaItem.{AreaItem}
+use Rattle.rh_defs.specs.declared.question.AreaItem.TheVariants as item
+use Rattle.rh_defs.specs.declared.question.RecordItem.{RecordItem}
+use Rattle.rh_defs.specs.declared.question.SegmentItem.{SegmentItem}
+use Rattle.rh_defs.specs.declared.question.SegmentItem.TheVariants as segment
+use Rattle.rh_defs.specs.declared.question.State.{State}
+use Rattle.rh_defs.specs.declared.question.State.TheVariants as state
 use Rattle.rh_defs.specs.declared.question.Question.{Question}
 use Rattle.rh_defs.specs.declared.question.Question.TheVariants as question
 use Rattle.rh_defs.specs.declared.refusal.Refusal.{Refusal}
@@ -22,21 +22,36 @@ use Rattle.rh_defs.specs.declared.refusal.Refusal.TheVariants.{NoName}
 use Rattle.rh_defs.specs.declared.reply.Reply.TheVariants as reply
 use Rattle.rh_defs.specs.Chain.{Granted, found_or, ◌>>=◌}
 use Rattle.rh_defs.specs.Desk.{has_name, named}
-use Rattle.rh_defs.specs.Listing.{Areas, Blocks, Bytes, Listed, Records, Segments, area_item, area_items, segment_items}
-use Rattle.rh_defs.specs.Questions.{Told, areas, blocks, heap, show, status}
+use Rattle.rh_defs.specs.Questions.{Areas, Blocks, Bytes, Listed, Records, Segments, area_item, area_items, segment_items, Told, areas, blocks, heap}
+use Rattle.rh_defs.specs.Questions.{show, status}
 use Rattle.rh_defs.specs.Script.{onto_line, unended_after}
 use Rattle.rh_defs.specs.Slot.{slot_block}
 use Rattle.rh_defs.specs.Text.{Words, address, area_line, block_line, hex_words, later, later_lines, line, record_line, record_lines, rest_of_line}
 use Rattle.rh_defs.specs.Text.{segment_line, state_name}
 use Rattle.rh_feed.proofs.LineLemmas.{NoFeed, bool_cases, ended-unended, ended_first, no_feed_open, unended-append, unended_first}
 use Rattle.rh_figure.specs.Map.{reply_lines}
-use Rattle.rh_lines.specs.Flow.{Holding}
 use Rattle.rh_map.specs.Replies.{excerpt_lines, lines_in, more_behind, rest_line}
 use Rattle.rh_map.proofs.SeamLemmas.{whole-reply}
-use Rattle.rh_sight.proofs.Places.{front-none, front-some, total-more}
+use Rattle.rh_sight.proofs.Places.{front-none, front-some}
 use Rattle.rh_sight.proofs.SegmentWalks.{length-items}
-use Rattle.rh_drawn.specs.Replies.{HaveShortNames, block_count, count_in, record_count, segment_count, slot_lines}
-use Rattle.rh_drawn.proofs.ExcerptLemmas.{AreOpen, OneLine, address-open, decimal-open, first-one, line-one, onto-long, one-kept, out_of, rest-one}
+use Rattle.rh_drawn.specs.Replies.{AreSmall, IsSmall}
+use Rattle.rh_map.specs.Replies.{front_of}
+use Rattle.rh_drawn.proofs.ExcerptLemmas.{AreOpen, OneLine, address-open, decimal-open, first-one, line-one, one-kept, rest-one}
+use Rattle.rh_map.proofs.FrontLemmas.{onto-long}
+use Rattle.std.proofs.Common.{sym}
+use Rattle.rh_defs.specs.declared.question.Numbers.{Numbers}
+use Rattle.rh_defs.specs.declared.question.Numbers.TheVariants as numbers
+use Rattle.rh_defs.specs.Laws.{IsDesk}
+use Rattle.rh_defs.specs.Questions.{each_of, block_items_from}
+use Rattle.rh_defs.specs.Slot.{Flex, weight, flex_start}
+use Rattle.rh_defs.specs.Text.{shown_bytes}
+use Rattle.rh_defs.specs.Pieces.{total}
+use Rattle.rh_sight.specs.declared.sight.HeapOf.TheVariants as heap_of
+use Rattle.rh_sight.specs.Walks.{ComesTo}
+use Rattle.rh_sight.proofs.Heaps.{room, seen, sized-many, task-slot}
+use Rattle.rh_sight.proofs.SlotPieces.{few-blocks}
+use Rattle.rh_drawn.proofs.Common.{heap_seen, option_map}
+use Rattle.rh_drawn.proofs.ExcerptLemmas.{Kept, kept}
 
 -- ---- short lines
 
@@ -139,17 +154,12 @@ whole-short n text t =
     let none : unended text ≡ [] = ap unended t.is ∙ unended-joined t.lines t.short in
     ap (excerpt_lines text) (t.count ∙ ap length (sym lines)) ∙ whole-reply text none
 
-short-kept : {E : Type 0} {old new : Holding} (r : Result Unit E) (n : ℕ) (text : List ℕ) → ShortLines n text → old.bytes ≡ []
-    → (new.failed ≡ true → length new.bytes ≡ 4096)
-    → Puts (out_of old) (out_of new) r text → Excerpts new.bytes n text
-short-kept {E} {old} {new} (Ok v) n text t none full p =
-    let is : new.bytes ≡ text = p.ok.taken ∙ ap (λ z. z ++ text) none in
-    let P : List ℕ → Type 0 = λ z. Excerpts z n text in
-    subst P (sym is) (whole-short n text t)
-short-kept {E} {old} {new} (Err e) n text t none full p =
-    let is : new.bytes ≡ p.err.front = p.err.taken ∙ ap (λ z. z ++ p.err.front) none in
-    let P : List ℕ → Type 0 = λ z. Excerpts z n text in
-    subst P (sym is) (part-short n text p.err.front p.err.back t p.err.whole (sym (ap length is) ∙ full p.err.failed))
+short-kept : (n : ℕ) (text : List ℕ) → ShortLines n text → Excerpts (front_of text) n text
+short-kept n text t = go (kept text)
+  where
+    go : Kept text → Excerpts (front_of text) n text
+    go (Kept.all is) = let P : List ℕ → Type 0 = λ z. Excerpts z n text in subst P (sym is) (whole-short n text t)
+    go (Kept.part b back whole full) = part-short n text (front_of text) (b ∷ back) t whole full
 
 -- a text of one line, however long, or of so many short ones
 abbrev pub IsCounted : ℕ → List ℕ → Type 0
@@ -159,14 +169,10 @@ pub counted-is : (n : ℕ) (text : List ℕ) → IsCounted n text → n ≡ leng
 counted-is n text (inl t) = t.0 ∙ sym (ap length (ap ended t.1.is ∙ ended_first t.1.words [] t.1.open_))
 counted-is n text (inr t) = t.count ∙ ap length (sym (ap ended t.is ∙ ended-joined t.lines t.short))
 
--- what is kept of a text that was written to a front that had nothing
-pub counted-kept : {E : Type 0} {old new : Holding} (r : Result Unit E) (n : ℕ) (text : List ℕ) → IsCounted n text → old.bytes ≡ []
-    → (new.failed ≡ true → length new.bytes ≡ 4096)
-    → Puts (out_of old) (out_of new) r text → Excerpts new.bytes n text
-counted-kept {E} {old} {new} r n text (inl t) none full p =
-    let P : ℕ → Type 0 = λ z. Excerpts new.bytes z text in
-    subst P (sym t.0) (one-kept r text t.1 none full p).shows
-counted-kept r n text (inr t) none full p = short-kept r n text t none full p
+-- what a front shows of it
+pub counted-kept : (n : ℕ) (text : List ℕ) → IsCounted n text → Excerpts (front_of text) n text
+counted-kept n text (inl t) = let P : ℕ → Type 0 = λ z. Excerpts (front_of text) z text in subst P (sym t.0) (one-kept text t.1)
+counted-kept n text (inr t) = short-kept n text t
 
 -- ---- words of a line
 
@@ -397,56 +403,34 @@ ended-few (b ∷ bs) = go (bool_cases (eqb b 10)) (ended-few bs)
     go (inl e) h = rw e (omega arith)
     go (inr e) h = rw e (omega (arith, onto-long b (ended bs)))
 
--- so many lines of the first i slots, of which none has a long name
-pub record SlotsSoFar (ts : List Task) (i count : ℕ) : Type 0 where
-  pub inside : i ≤ length ts
-  pub count_is : count ≡ slot_lines (take i ts)
-  pub few : count ≤ 13 * i
-  pub names : HaveShortNames (take i ts)
-
-pub slots-none : (ts : List Task) → SlotsSoFar ts 0 0
-slots-none ts = record { inside = omega arith; count_is = refl; few = omega arith; names = tt }
-
-names-more : (ts : List Task) (t : Task) → HaveShortNames ts → length t.name ≤ 12 → HaveShortNames (ts ++ t ∷ [])
-names-more [] t all here = (here, tt)
-names-more (x ∷ ts) t all here = (all.0, names-more ts t all.1 here)
-
-pub slots-more : (ts : List Task) (i count n : ℕ) (t : Task) → SlotsSoFar ts i count → slice_get ts i ≡ Some t → length t.name ≤ 12
-    → n ≡ count + (1 + length (ended t.name)) → SlotsSoFar ts (i + 1) n
-slots-more ts i count n t so_far at short e =
-    let inside : i < length ts = slice_get_within ts i t at in
-    let lines : length (ended t.name) ≤ length t.name = ended-few t.name in
-    let more : slot_lines (take (i + 1) ts) ≡ slot_lines (take i ts) + (1 + length (ended t.name)) =
-    total-more (λ (x : Task). 1 + length (ended x.name)) ts i t at in
-    let few = so_far.few in
-    record {
-      inside = omega arith;
-      count_is = e ∙ (ap (λ k. k + (1 + length (ended t.name))) so_far.count_is ∙ sym more);
-      few = omega arith;
-      names = subst HaveShortNames (sym (front-some ts i t at)) (names-more (take i ts) t so_far.names short);
-    }
-
--- all of them
-pub record AllSlots (ts : List Task) (count : ℕ) : Type 0 where
-  pub count_is : count ≡ slot_lines ts
-  pub few : count ≤ 13 * length ts
-  pub names : HaveShortNames ts
-
-pub slots-all : (ts : List Task) (i count : ℕ) → SlotsSoFar ts i count → slice_get ts i ≡ None → AllSlots ts count
-slots-all ts i count so_far e =
-    let all : take i ts ≡ ts = front-none ts i e in
-    let few = so_far.few in
-    let inside = so_far.inside in
-    record { count_is = so_far.count_is ∙ ap slot_lines all; few = omega arith; names = subst HaveShortNames all so_far.names }
-
 abbrev slot_item : Task → AreaItem
 slot_item t = item.Slot t.name (task_pages t)
 
-slots-lines : (ts : List Task) → HaveShortNames ts → ShortLines (slot_lines ts) (flat_map area_line (map slot_item ts))
-slots-lines [] all = no-lines
-slots-lines (t ∷ ts) all = lines-both (slot-line t.name (task_pages t) all.0) (slots-lines ts all.1)
+-- the tasks up to the next one, and all of them
+pub small-more : (ts : List Task) (i : ℕ) (t : Task) → AllByRecursion IsSmall (take i ts) → slice_get ts i ≡ Some t → IsSmall t
+    → AllByRecursion IsSmall (take (i + 1) ts)
+small-more ts i t all at here = subst (AllByRecursion IsSmall) (sym (front-some ts i t at)) (go (take i ts) all)
+  where
+    go : (xs : List Task) → AllByRecursion IsSmall xs → AllByRecursion IsSmall (xs ++ t ∷ [])
+    go [] all = (here, tt)
+    go (x ∷ xs) all = (all.0, go xs all.1)
 
-areas-lines : (d : Desk) → HaveShortNames d.tasks
+pub small-all : (ts : List Task) (i : ℕ) → AllByRecursion IsSmall (take i ts) → slice_get ts i ≡ None → AllByRecursion IsSmall ts
+small-all ts i all past = subst (AllByRecursion IsSmall) (front-none ts i past) all
+
+-- one line for each slot, and one more for each line feed of its name
+abbrev slot_lines : List Task → ℕ
+slot_lines tasks = total (λ (t : Task). 1 + length (ended t.name)) tasks
+
+slots-lines : (ts : List Task) → AllByRecursion IsSmall ts → ShortLines (slot_lines ts) (flat_map area_line (map slot_item ts))
+slots-lines [] all = no-lines
+slots-lines (t ∷ ts) all = lines-both (slot-line t.name (task_pages t) all.0.name) (slots-lines ts all.1)
+
+slots-few : (ts : List Task) → AllByRecursion IsSmall ts → slot_lines ts ≤ 13 * length ts
+slots-few [] all = omega arith
+slots-few (t ∷ ts) all = omega (arith, all.0.name, ended-few t.name, slots-few ts all.1)
+
+areas-lines : (d : Desk) → AllByRecursion IsSmall d.tasks
     → ShortLines (length d.areas + (length d.made + slot_lines d.tasks)) (flat_map area_line (area_items d))
 areas-lines d names =
     let fixed = map (area_item d) (enumerate_from 0 d.areas) in
@@ -476,7 +460,7 @@ hex-words : (bytes : List ℕ) → AreOpen (hex_words bytes)
 hex-words [] = tt
 hex-words (b ∷ bytes) = (hex-open lower_digits (no_feed_open lower_digits refl) (b ∷ bytes), tt)
 
-shown-one : (size : ℕ) (bytes : List ℕ) → OneLine (answer_text (Ok (reply.Shown size, Bytes bytes)))
+shown-one : (size : ℕ) (bytes : List ℕ) → OneLine (answer_text (Ok (numbers.Shown size, Bytes bytes)))
 unfolding answer_text first_line later_lines
 shown-one size bytes =
     let text = line (codes "ok") (decimal size ∷ hex_words bytes) in
@@ -489,90 +473,114 @@ refused-one : (refusal : Refusal) → OneLine (answer_text (Err refusal))
 unfolding answer_text
 refused-one refusal = first-one (reply.Refused refusal)
 
-told-lines : (r : Reply) (listed : Listed) (n : ℕ) → ShortLines 1 (first_line r listed) → ShortLines n (later_lines listed)
-    → IsCounted (1 + n) (answer_text (Ok (r, listed)))
+-- the first line of an answer that shows no bytes
+first-short : (numbers : Numbers) (listed : Listed) → shown_bytes listed ≡ [] → ShortLines 1 (first_line (reply.Answered numbers) listed)
+unfolding first_line
+first-short numbers listed none = rw none (ok-line (map decimal (each_of numbers) ++ []) (number-words (each_of numbers)) (three numbers))
+  where
+    number-words : (ns : List ℕ) → AreWords (map decimal ns ++ [])
+    number-words [] = tt
+    number-words (n ∷ ns) = (decimal-word n, number-words ns)
+
+    three : (numbers : Numbers) → length (map decimal (each_of numbers) ++ []) ≤ 3
+    three numbers = search (rules, arith)
+
+-- one of some
+all-at : (P : Task → Type 0) (ts : List Task) (i : ℕ) (t : Task) → AllByRecursion P ts → slice_get ts i ≡ Some t → P t
+all-at P [] i t all e = cc
+all-at P (x ∷ ts) zero t all e = let same : x ≡ t = cc in subst P same all.0
+all-at P (x ∷ ts) (suc i) t all e = all-at P ts i t all.1 e
+
+-- a text with few lines, which are counted
+pub record FewLines (text : List ℕ) : Type 0 where
+  pub count : ℕ
+  pub counted : IsCounted count text
+  pub few : count ≤ 8388608
+
+told-lines : (numbers : Numbers) (listed : Listed) (n : ℕ) → ShortLines n (later_lines listed) → shown_bytes listed ≡ [] → n < 8388608
+    → FewLines (answer_text (Ok (numbers, listed)))
 unfolding answer_text
-told-lines r listed n first rest = inr (lines-both first rest)
-
-heap-told : (a b c : ℕ) (items : List SegmentItem) → IsCounted (1 + length items) (answer_text (Ok (reply.HeapSums a b c, Segments items)))
-unfolding first_line later_lines
-heap-told a b c items =
-    told-lines (reply.HeapSums a b c) (Segments items) (length items)
-    (ok-line (decimal a ∷ decimal b ∷ decimal c ∷ []) (decimal-word a, (decimal-word b, (decimal-word c, tt))) (omega arith))
-    (lines-each segment_line items segment-line)
-
-blocks-told : (count : ℕ) (items : List BlockItem) → IsCounted (1 + length items) (answer_text (Ok (reply.BlockCount count, Blocks items)))
-unfolding first_line later_lines
-blocks-told count items =
-    told-lines (reply.BlockCount count) (Blocks items) (length items)
-    (ok-line (decimal count ∷ []) (decimal-word count, tt) (omega arith))
-    (lines-each block_line items block-line)
-
-status-told : (t : Task)
-    → IsCounted (1 + record_count t) (answer_text (Ok (reply.StatusOf t.handle, Records (map out_item t.sending) (map in_item t.taking))))
-unfolding first_line later_lines
-status-told t =
-    told-lines (reply.StatusOf t.handle) (Records (map out_item t.sending) (map in_item t.taking)) (record_count t)
-    (ok-line (decimal t.handle ∷ []) (decimal-word t.handle, tt) (omega arith))
-    (lines-both
-    (records-lines out_item (codes "out") (word-of (codes "out") refl refl) t.sending)
-    (records-lines in_item (codes "in") (word-of (codes "in") refl refl) t.taking))
+told-lines numbers listed n rest none few =
+    record { count = 1 + n; counted = inr (lines-both (first-short numbers listed none) rest); few = omega (arith, few) }
 
 -- an answer about a task that may not be there
-told-of : (o : Option Task) (f : Task → Granted Told) (count : Task → ℕ) → ((t : Task) → IsCounted (1 + count t) (answer_text (f t)))
-    → IsCounted (1 + count_in count o) (answer_text (found_or o NoName >>= f))
-unfolding ◌>>=◌ found_or
-told-of None f count each = inl (refl, refused-one NoName)
-told-of (Some t) f count each = each t
+module _ (d : Desk) (is : IsDesk d) (small : AreSmall d.tasks) where
+  found-at : (p : Task → Bool) (ts : List Task) (t : Task) → find p ts ≡ Some t → (i : ℕ) × (slice_get ts i ≡ Some t)
+  found-at p [] t e = cc
+  found-at p (x ∷ ts) t e = go (p x) e (found-at p ts t)
+    where
+      go : (b : Bool) → (if b then Some x else find p ts) ≡ Some t → (find p ts ≡ Some t → (i : ℕ) × (slice_get ts i ≡ Some t))
+          → (i : ℕ) × (slice_get (x ∷ ts) i ≡ Some t)
+      go true e rest = (0, e)
+      go false e rest = let at = rest e in (suc at.0, at.1)
 
--- an answer of one line behind a step that may be refused
-one-of : {A : Type 0} (g : Granted A) (f : A → Granted Told) → ((x : A) → OneLine (answer_text (f x))) → OneLine (answer_text (g >>= f))
-unfolding ◌>>=◌
-one-of (Ok x) f each = each x
-one-of (Err refusal) f each = refused-one refusal
+  told-of : (name : List ℕ) (f : Task → Granted Told) → ((i : ℕ) (t : Task) → slice_get d.tasks i ≡ Some t → FewLines (answer_text (f t)))
+      → FewLines (answer_text (named name d >>= f))
+  unfolding ◌>>=◌ named found_or
+  told-of name f each = go (find (has_name name) d.tasks) refl
+    where
+      go : (o : Option Task) → find (has_name name) d.tasks ≡ o → FewLines (answer_text (found_or o NoName >>= f))
+      go None e = record { count = 1; counted = inl (refl, refused-one NoName); few = omega arith }
+      go (Some t) e = let at = found-at (has_name name) d.tasks t e in each at.0 t at.1
 
-pub show-counted : (d : Desk) (name : List ℕ) (k : ℕ) → IsCounted 1 (answer_text (show d name k))
-unfolding show
-show-counted d name k =
-    inl (refl, one-of (named name d) _ (λ t. one-of (slot_block k t.slot) _ (λ b. shown-one (length b.here.bytes) b.here.bytes)))
+  -- an answer of one line behind a step that may be refused
+  one-of : {A : Type 0} (g : Granted A) (f : A → Granted Told) → ((x : A) → OneLine (answer_text (f x))) → OneLine (answer_text (g >>= f))
+  unfolding ◌>>=◌
+  one-of (Ok x) f each = each x
+  one-of (Err refusal) f each = refused-one refusal
 
-pub blocks-counted : (d : Desk) (name : List ℕ) → IsCounted (1 + count_in block_count (find (has_name name) d.tasks)) (answer_text (blocks d name))
-unfolding blocks named
-blocks-counted d name = told-of (find (has_name name) d.tasks) _ block_count (λ t. blocks-told (length t.slot.blocks) (block_items t.slot))
+  show-few : (name : List ℕ) (k : ℕ) → FewLines (answer_text (show d name k))
+  unfolding show
+  show-few name k = record {
+    count = 1;
+    counted = inl (refl, one-of (named name d) _ (λ t. one-of (slot_block k t.slot) _ (λ b. shown-one (length b.here.bytes) b.here.bytes)));
+    few = omega arith;
+  }
 
-heap-one : (t : Task) (a b c : ℕ) → IsCounted (1 + segment_count t) (answer_text (Ok (reply.HeapSums a b c, Segments (segment_items t.slot))))
-heap-one t a b c =
-    let P : ℕ → Type 0 = λ n. IsCounted (1 + n) (answer_text (Ok (reply.HeapSums a b c, Segments (segment_items t.slot)))) in
-    subst P (length-items _ t.slot.heap.segments) (heap-told a b c (segment_items t.slot))
+  blocks-few : (name : List ℕ) → FewLines (answer_text (blocks d name))
+  unfolding blocks later_lines
+  blocks-few name = told-of name _ λ i t at.
+      let items = block_items t.slot in
+      let few = few-blocks t.slot.blocks (task-slot is i t at).anchors in
+      told-lines _ (Blocks items) (length items) (lines-each block_line items block-line) refl
+      (omega (arith, few, items-long (flex_start t.slot) t.slot.blocks))
+    where
+      items-long : (place : ℕ) (bs : List Flex) → length (block_items_from place bs) ≡ length bs
+      items-long place [] = refl
+      items-long place (b ∷ bs) = ap suc (items-long (place + weight b) bs)
 
-pub heap-counted : (d : Desk) (name : List ℕ) → IsCounted (1 + count_in segment_count (find (has_name name) d.tasks)) (answer_text (heap d name))
-unfolding heap named
-heap-counted d name = told-of (find (has_name name) d.tasks) _ segment_count (λ t. heap-one t _ _ _)
+  heap-few : (name : List ℕ) → FewLines (answer_text (heap d name))
+  unfolding heap later_lines
+  heap-few name = told-of name _ λ i t at.
+      let h = t.slot.heap in
+      let items = segment_items t.slot in
+      let e = ap (option_map (λ (u : Task). u.slot.heap)) at in
+      let w : ComesTo (heap_seen (heap_of.Task i) d) 16 h.segments = record { heap = h; is = e; below = []; whole = refl; at = refl } in
+      let small_heap = seen is (heap_of.Task i) h e in
+      let k = room w small_heap in
+      let many : length items ≡ length h.segments = length-items _ h.segments in
+      told-lines _ (Segments items) (length items) (lines-each segment_line items segment-line) refl
+      (omega (arith, k.fits, small_heap.few, sized-many h.segments k.sized, many))
 
-pub status-counted : (d : Desk) (name : List ℕ) → IsCounted (1 + count_in record_count (find (has_name name) d.tasks)) (answer_text (status d name))
-unfolding status named
-status-counted d name = told-of (find (has_name name) d.tasks) _ record_count status-told
+  status-few : (name : List ℕ) → FewLines (answer_text (status d name))
+  unfolding status later_lines
+  status-few name = told-of name _ λ i t at.
+      let few = all-at IsSmall d.tasks i t small.each at in
+      told-lines _ (Records (map out_item t.sending) (map in_item t.taking)) (max (length t.sending) 1 + max (length t.taking) 1)
+      (lines-both
+      (records-lines out_item (codes "out") (word-of (codes "out") refl refl) t.sending)
+      (records-lines in_item (codes "in") (word-of (codes "in") refl refl) t.taking)) refl (omega (arith, few.sending, few.taking))
 
-pub areas-counted : (d : Desk) → HaveShortNames d.tasks
-    → IsCounted (1 + (length d.areas + (length d.made + slot_lines d.tasks))) (answer_text (asked d question.Areas))
-unfolding first_line later_lines
-areas-counted d names =
-    told-lines (areas d).0 (Areas (area_items d)) (length d.areas + (length d.made + slot_lines d.tasks))
-    (ok-line (decimal _ ∷ []) (decimal-word _, tt) (omega arith))
-    (areas-lines d names)
+  areas-few : FewLines (answer_text (asked d question.Areas))
+  unfolding later_lines
+  areas-few =
+      told-lines (areas d).0 (Areas (area_items d)) (length d.areas + (length d.made + slot_lines d.tasks)) (areas-lines d small.each) refl
+      (omega (arith, is.areas.six, is.made.few, small.few, slots-few d.tasks small.each))
 
--- each answer has lines that are counted
-pub answer-counted : (d : Desk) (q : Question) → (q ≡ question.Areas → HaveShortNames d.tasks)
-    → IsCounted (length (ended (answer_text (asked d q)))) (answer_text (asked d q))
-answer-counted d q names = go q names
-  where
-    so : {n : ℕ} {text : List ℕ} → IsCounted n text → IsCounted (length (ended text)) text
-    so {n} {text} c = let P : ℕ → Type 0 = λ z. IsCounted z text in subst P (counted-is n text c) c
-
-    go : (q : Question) → (q ≡ question.Areas → HaveShortNames d.tasks)
-        → IsCounted (length (ended (answer_text (asked d q)))) (answer_text (asked d q))
-    go (question.Show name k) names = so (show-counted d name k)
-    go (question.Blocks name) names = so (blocks-counted d name)
-    go (question.Heap name) names = so (heap-counted d name)
-    go (question.Status name) names = so (status-counted d name)
-    go question.Areas names = so (areas-counted d (names refl))
+  -- each answer has few lines
+  pub answer-few : (q : Question) → FewLines (answer_text (asked d q))
+  answer-few (question.Show name k) = show-few name k
+  answer-few (question.Blocks name) = blocks-few name
+  answer-few (question.Heap name) = heap-few name
+  answer-few (question.Status name) = status-few name
+  answer-few question.Areas = areas-few

@@ -1,10 +1,9 @@
 -- Replies as they are kept: how many lines they have, and what their front shows.
 use Rattle.rh_drawn.proofs.Common.{◌≡◌, ℕ, zero, suc, ◌+◌, ◌/◌, ◌%◌, ◌<◌, ◌≤◌, Bool, true, false, eqb, refl, ap, ap₂, sym, subst, ◌∙◌, arith, List, [], ◌∷◌}
-use Rattle.rh_drawn.proofs.Common.{◌++◌, append-nil, append_assoc, length, take, drop, Some, None, Result, Ok, Err, codes, if◌then◌else◌, max, nat_le, nat_lt}
-use Rattle.rh_drawn.proofs.Common.{slice_index, ◌==◌, decimal, AllByRecursion, ne_eqb, nat_tests, drop_more, length-append, length-drop, LineFault, TooLong}
+use Rattle.rh_drawn.proofs.Common.{◌++◌, append-nil, append_assoc, length, take, drop, Some, None, Result, Ok, Err, codes, if◌then◌else◌, nat_le, nat_lt}
+use Rattle.rh_drawn.proofs.Common.{◌==◌, decimal, AllByRecursion, ne_eqb, nat_tests, length-append, length-drop, LineFault, TooLong}
 use Rattle.rh_drawn.proofs.Common.{Reply, Nothing, ended, unended, fault_text, first_line, cut, Output, Puts, Excerpts}
 use Rattle.std.specs.Fmt.{digit_glyph, digits, digits_onto}
-use Rattle.memchr.specs.Find.{is_byte, places_from}
 use Rattle.rh_defs.specs.declared.fault.LineFault.TheVariants.{Unended, Unknown, Count, Word}
 use Rattle.rh_defs.specs.declared.message.Action.{Action}
 use Rattle.rh_defs.specs.declared.message.Action.TheVariants as action
@@ -16,40 +15,14 @@ use Rattle.rh_defs.specs.declared.reply.Outcome.{Outcome}
 use Rattle.rh_defs.specs.declared.reply.Outcome.TheVariants as outcome
 use Rattle.rh_defs.specs.declared.reply.Reply.TheVariants as reply
 use Rattle.rh_defs.specs.Messages.{code_number}
-use Rattle.rh_defs.specs.Script.{onto_line}
 use Rattle.rh_defs.specs.Text.{Words, action_name, address, line, on_or_off, outcome_words, refusal_name, rest_of_line}
 use Rattle.rh_feed.proofs.LineLemmas.{NoFeed, ended_first, ended_none, no_feed_join, no_feed_open, unended_first}
-use Rattle.rh_lines.specs.Flow.{Holding}
 use Rattle.rh_map.specs.Replies.{excerpt_lines, lines_in}
 use Rattle.rh_map.proofs.SeamLemmas.{whole-reply}
-
--- ---- how many lines end
-
-pub onto-long : (b : ℕ) (ls : List (List ℕ)) → length (onto_line b ls) ≡ length ls
-onto-long b [] = refl
-onto-long b (l ∷ ls) = refl
-
-places-ended : (text : List ℕ) (i : ℕ) (xs : List ℕ) → drop i text ≡ xs → length (places_from (is_byte 10) text i (length xs)) ≡ length (ended xs)
-unfolding places_from
-places-ended text i [] e = refl
-places-ended text i (x ∷ xs) e =
-    let low : i < length text = omega (arith, length-drop i text, ap length e) in
-    let next = sym e ∙ drop_more text i 0 low in
-    let here : x ≡ slice_index text i = cc in
-    let rest : drop (i + 1) text ≡ xs = cc in
-    go (x == 10) refl here (places-ended text (i + 1) xs rest)
-  where
-    go : (t : Bool) → (x == 10) ≡ t → x ≡ slice_index text i → length (places_from (is_byte 10) text (i + 1) (length xs)) ≡ length (ended xs)
-        → length (places_from (is_byte 10) text i (length (x ∷ xs))) ≡ length (ended (x ∷ xs))
-    go true k here more =
-        let t : (slice_index text i == 10) ≡ true = ap (λ n. n == 10) (sym here) ∙ k in
-        rw (t, k) (ap suc more)
-    go false k here more =
-        let t : (slice_index text i == 10) ≡ false = ap (λ n. n == 10) (sym here) ∙ k in
-        rw (t, k) (more ∙ sym (onto-long x (ended xs)))
-
-pub count-ended : (text : List ℕ) → length (places_from (is_byte 10) text 0 (length text)) ≡ length (ended text)
-count-ended text = places-ended text 0 text refl
+use Rattle.std.specs.Prelude.{◌^◌, ◌-◌, min}
+use Rattle.rh_map.specs.Replies.{front_of}
+use Rattle.rh_defs.specs.Questions.{each_of}
+use Rattle.std.proofs.Common.{length-take-le, map, take-append-drop}
 
 -- ---- words without a line feed
 
@@ -169,6 +142,10 @@ line-one w ws here all =
 ok-one : (ws : Words) → AreOpen ws → OneLine (line (codes "ok") ws)
 ok-one ws all = line-one (codes "ok") ws (no_feed_open (codes "ok") refl) all
 
+numbers-open : (ns : List ℕ) → AreOpen (map decimal ns ++ [])
+numbers-open [] = tt
+numbers-open (n ∷ ns) = (decimal-open n, numbers-open ns)
+
 pub first-one : (r : Reply) → OneLine (first_line r Nothing)
 unfolding first_line
 first-one (reply.Refused refusal) = line-one (codes "refused") (refusal_name refusal ∷ []) (no_feed_open (codes "refused") refl) (refusal-open refusal, tt)
@@ -179,12 +156,7 @@ first-one (reply.WasBudging on) = ok-one (on_or_off on ∷ []) (switch-open on, 
 first-one (reply.Sent ref) = ok-one (decimal ref ∷ []) (decimal-open ref, tt)
 first-one (reply.Moved bytes) = ok-one (decimal bytes ∷ []) (decimal-open bytes, tt)
 first-one (reply.Made number) = ok-one (decimal number ∷ []) (decimal-open number, tt)
-first-one (reply.Shown size) = ok-one (decimal size ∷ []) (decimal-open size, tt)
-first-one (reply.BlockCount count) = ok-one (decimal count ∷ []) (decimal-open count, tt)
-first-one (reply.HeapSums length largest free) =
-    ok-one (decimal length ∷ decimal largest ∷ decimal free ∷ []) (decimal-open length, (decimal-open largest, (decimal-open free, tt)))
-first-one (reply.StatusOf handle) = ok-one (decimal handle ∷ []) (decimal-open handle, tt)
-first-one (reply.FreePages pages) = ok-one (decimal pages ∷ []) (decimal-open pages, tt)
+first-one (reply.Answered numbers) = ok-one (map decimal (each_of numbers) ++ []) (numbers-open (each_of numbers))
 first-one reply.NoEvent = ok-one (codes "0" ∷ []) (no_feed_open (codes "0") refl, tt)
 first-one (reply.Event code action mine yours outcome) =
     ok-one (decimal (code_number code) ∷ action_name action ∷ decimal mine ∷ decimal yours ∷ outcome_words outcome)
@@ -237,48 +209,58 @@ open-lines : (front : List ℕ) → 0 < length front → NoFeed front → lines_
 open-lines [] some clear = absurd (omega arith)
 open-lines (b ∷ bs) some clear = rw (ended_none (b ∷ bs) clear) refl
 
--- how many lines are counted in what is kept of a line
-pub record OneKept (bytes text : List ℕ) : Type 0 where
-  pub count : max (length (ended bytes)) 1 ≡ 1
-  pub shows : Excerpts bytes 1 text
-
-whole-one : (text : List ℕ) → OneLine text → OneKept text text
+whole-one : (text : List ℕ) → OneLine text → Excerpts text 1 text
 whole-one text t =
     let e : ended text ≡ t.words ∷ [] = ap ended t.is ∙ ended_first t.words [] t.open_ in
     let u : unended text ≡ [] = ap unended t.is ∙ unended_first t.words [] t.open_ in
     let n : length (ended text) ≡ 1 = ap length e in
-    record { count = ap (λ k. max k 1) n; shows = ap (excerpt_lines text) (sym n) ∙ whole-reply text u }
+    ap (excerpt_lines text) (sym n) ∙ whole-reply text u
 
-part-one : (text front : List ℕ) (b : ℕ) (back : List ℕ) → OneLine text → text ≡ front ++ b ∷ back → length front ≡ 4096 → OneKept front text
+part-one : (text front : List ℕ) (b : ℕ) (back : List ℕ) → OneLine text → text ≡ front ++ b ∷ back → length front ≡ 4096 → Excerpts front 1 text
 part-one text front b back t e full =
     let p = part-of t.words front b back (sym t.is ∙ e) in
     let open_ : NoFeed front = open-front front p.rest (subst NoFeed p.is t.open_) in
-    let none : ended front ≡ [] = ended_none front open_ in
     let lines : ended text ≡ t.words ∷ [] = ap ended t.is ∙ ended_first t.words [] t.open_ in
     let same : cut 76 front ≡ cut 76 t.words = cut-part front p.rest (omega arith) ∙ ap (cut 76) (sym p.is) in
-    record {
-      count = ap (λ ls. max (length ls) 1) none;
-      shows = rw (open-lines front (omega arith) open_, lines) (ap (λ z. z ∷ []) same);
-    }
+    rw (open-lines front (omega arith) open_, lines) (ap (λ z. z ∷ []) same)
 
-abbrev pub out_of : Holding → Output
-out_of h = record { taken = Some h.bytes; count = None; failed = h.failed }
+-- ---- what a front keeps
 
--- a text of one line that was written to a front that had nothing
-pub one-kept : {E : Type 0} {old new : Holding} (r : Result Unit E) (text : List ℕ) → OneLine text → old.bytes ≡ []
-    → (new.failed ≡ true → length new.bytes ≡ 4096) → Puts (out_of old) (out_of new) r text → OneKept new.bytes text
-one-kept {E} {old} {new} (Ok v) text t none full p =
-    let is : new.bytes ≡ text = p.ok.taken ∙ ap (λ z. z ++ text) none in
-    let P : List ℕ → Type 0 = λ z. OneKept z text in
-    subst P (sym is) (whole-one text t)
-one-kept {E} {old} {new} (Err e) text t none full p = go p.err.back p.err.whole
+-- a text that has room, or a front of a longer one
+pub data Kept (text : List ℕ) : Type 0 where
+  all : front_of text ≡ text → Kept text
+  part : (b : ℕ) (back : List ℕ) → text ≡ front_of text ++ b ∷ back → length (front_of text) ≡ 4096 → Kept text
+
+pub kept : (text : List ℕ) → Kept text
+kept text = go (drop 4096 text) refl
   where
-    go : (back : List ℕ) → text ≡ p.err.front ++ back → OneKept new.bytes text
-    go [] whole =
-        let is : new.bytes ≡ text = p.err.taken ∙ (ap (λ z. z ++ p.err.front) none ∙ (sym (append-nil p.err.front) ∙ sym whole)) in
-        let P : List ℕ → Type 0 = λ z. OneKept z text in
-        subst P (sym is) (whole-one text t)
-    go (b ∷ back) whole =
-        let is : new.bytes ≡ p.err.front = p.err.taken ∙ ap (λ z. z ++ p.err.front) none in
-        let P : List ℕ → Type 0 = λ z. OneKept z text in
-        subst P (sym is) (part-one text p.err.front b back t whole (sym (ap length is) ∙ full p.err.failed))
+    go : (behind : List ℕ) → drop 4096 text ≡ behind → Kept text
+    go [] e =
+        Kept.all (sym (append-nil (front_of text)) ∙ ap (λ z. front_of text ++ z) (sym e) ∙ take-append-drop 4096 text)
+    go (b ∷ back) e =
+        let long : length (drop 4096 text) ≡ suc (length back) = ap length e in
+        Kept.part b back (sym (take-append-drop 4096 text) ∙ ap (λ z. front_of text ++ z) e)
+        (length-take-le 4096 text (omega (arith, length-drop 4096 text)))
+
+-- what a front shows of a text of one line
+pub one-kept : (text : List ℕ) → OneLine text → Excerpts (front_of text) 1 text
+one-kept text t = go (kept text)
+  where
+    go : Kept text → Excerpts (front_of text) 1 text
+    go (Kept.all is) = let P : List ℕ → Type 0 = λ z. Excerpts z 1 text in subst P (sym is) (whole-one text t)
+    go (Kept.part b back whole full) = part-one text (front_of text) b back t whole full
+
+-- ---- what is written to a front that had nothing
+
+abbrev pub out_of : List ℕ → Output
+out_of text = record { taken = Some text; count = None; failed = false }
+
+pub written : {E : Type 0} {old new : List ℕ} (r : Result Unit E) (text : List ℕ) → old ≡ [] → Puts (out_of old) (out_of new) r text → new ≡ text
+written (Ok v) text none p = p.ok.taken ∙ ap (λ z. z ++ text) none
+written (Err e) text none p = absurd (let never : ◌≡◌ {A = Bool} false true = p.err.failed in cc)
+
+-- the count of a line that was written
+pub one-counted : {n : ℕ} (text : List ℕ) → OneLine text → n ≡ min (length (ended text)) (2 ^ 32 - 1) → n ≡ 1
+one-counted text t e =
+    let one : length (ended text) ≡ 1 = ap length (ap ended t.is ∙ ended_first t.words [] t.open_) in
+    omega (arith, e, one)

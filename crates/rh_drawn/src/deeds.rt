@@ -8,6 +8,7 @@ ghost use Rattle.rh_defs.specs.Range.{in_range};
 ghost use Rattle.rh_defs.specs.Commands.{step};
 ghost use Rattle.rh_drawn.specs.Deeds.{IsLikeReply, reply_to, rest_means};
 ghost use Rattle.rh_drawn.specs.Replies.{Excerpts};
+ghost use Rattle.rh_map.specs.Replies.{front_of};
 ghost use Rattle.rh_figure.specs.Map.{is_mark as is_mark_of};
 ghost use Rattle.rh_figure.specs.Scene.{marks_of};
 ghost use Rattle.rh_sight.specs.Steps.{marks_seen};
@@ -36,7 +37,7 @@ pub fn answer<D: Drawn>(drawn: &mut D, command: &Command, front: &mut Front) -> 
     requires in_range { IsTrue (in_range command.now) }
     ensures desk { IsReordered (step (D.desk drawn.old) command.now).0 (D.desk drawn.new) }
     ensures reply { IsLikeReply (D.desk drawn.old) command.now result.0 }
-    ensures excerpt { Excerpts front.new.bytes result.1 (reply_to (D.desk drawn.old) command.now) }
+    ensures excerpt { Excerpts (front_of front.new) result.1 (reply_to (D.desk drawn.old) command.now) }
 {
     if let Command::Ask(question) = command {
         let count = excerpt_answer(drawn, question, front);

@@ -7,6 +7,7 @@ ghost use Rattle.rh_defs.specs.Range.{in_range};
 ghost use Rattle.rh_defs.specs.Commands.{step};
 ghost use Rattle.rh_drawn.specs.Places.{Broke, Drew, IsFirst, IsSamePlace, shown_step};
 ghost use Rattle.rh_drawn.specs.Replies.{Excerpts};
+ghost use Rattle.rh_map.specs.Replies.{front_of};
 ghost use Rattle.rh_lines.specs.Flow.{Puts};
 ghost use Rattle.rh_figure.specs.Share.{IsShared};
 ghost use Rattle.rh_map.specs.Written.{shown_lines};
@@ -169,7 +170,7 @@ impl<D: Drawn> Mapper<D> {
         deed: Deed<'_>,
         writer: &mut W,
     ) -> Result<(), WriteFailed>
-        ensures text { (text : List ℕ) → Excerpts self.old.front.bytes deed.entry.count text → Puts (W.output writer.old) (W.output writer.new) result
+        ensures text { (text : List ℕ) → Excerpts (front_of self.old.front) deed.entry.count text → Puts (W.output writer.old) (W.output writer.new) result
             (shown_lines (shown_step deed.entry.wanted self.old.steps line.now text (D.desk self.old.drawn) (share_in self.new.pages.items (D.desk self.old.drawn)) deed.entry.kept.now (option_map (λ c. c.now) deed.entry.command) deed.entry.reply.now)) }
         ensures shared { IsShared (share_in self.new.pages.items (D.desk self.old.drawn)) (D.desk self.old.drawn) }
         ensures same { IsSamePlace self.old self.new }

@@ -4,6 +4,7 @@ use Rattle.rh_defs.specs.Script.{ended, unended}
 use Rattle.rh_figure.specs.Phrases.{Text, cut}
 use Rattle.rh_figure.specs.Map.{more_lines}
 use Rattle.rh_figure.specs.declared.limits.TheConstants.{MOST_REPLY_LINES, REPLY_COLUMNS}
+use Rattle.rh_map.specs.declared.front.TheConstants.{ROOM}
 
 -- a line without a line feed behind it, if there is one
 abbrev pub rest_line : Text → List Text
@@ -21,6 +22,10 @@ first_lines n lines = map (cut REPLY_COLUMNS) (take n lines)
 -- how many of n lines are left out, if some are
 abbrev pub more_behind : ℕ → List Text
 more_behind n = if nat_lt MOST_REPLY_LINES n then more_lines (n - MOST_REPLY_LINES) ∷ [] else []
+
+-- the front of a text, as much of it as is kept
+abbrev pub front_of : Text → Text
+front_of text = take ROOM text
 
 -- the first lines of a reply of n lines, by the front of it
 abbrev pub excerpt_lines : Text → ℕ → List Text

@@ -1,80 +1,93 @@
-//! The front of a reply, which is kept until it is shown.
+//! The front of a reply, which is kept until it is shown, and how many lines the whole has.
 
-ghost use Rattle.std.specs.Prelude.{◌≡◌, ◌≤◌, [], false, true, length};
-ghost use Rattle.rh_map.specs.declared.front.TheConstants.{ROOM};
+ghost use Rattle.std.specs.Prelude.{◌≡◌, ◌≤◌, ◌^◌, ◌-◌, [], length, min};
+ghost use Rattle.rh_defs.specs.Script.{ended};
+ghost use Rattle.rh_map.specs.Replies.{front_of};
 
-use rh_lines::{Sink, WriteFailed};
+use memchr::memchr_iter;
+use rh_lines::{Sink, Unseen, WriteFailed};
 use std::marker::Model;
 
 /// So many bytes of a reply are kept.
 const ROOM: usize = 4_096;
 
-/// The first 4,096 bytes of what is written to it, which lie in the value itself. Once it is full it takes none, and
-/// counts as failed.
+/// A text, of which the first 4,096 bytes lie in the value itself. No write of it fails: lines that aren't kept are
+/// counted.
 #[derive(Drop)]
 pub struct Front {
     bytes: [u8; ROOM],
     len: usize,
-    failed: bool,
+    lines: usize,
+    text: Unseen,
 }
 
 impl Model for Front {
-    ghost use Rattle.std.specs.Prelude.{◌≡◌, ◌≤◌, take, true};
-    ghost use Rattle.rh_lines.specs.Flow.{Holding};
+    ghost use Rattle.std.specs.Prelude.{◌≡◌, ◌≤◌, ◌^◌, ◌-◌, ℕ, List, length, min, take};
+    ghost use Rattle.rh_defs.specs.Script.{ended};
     ghost use Rattle.rh_map.specs.declared.front.TheConstants.{ROOM};
 
-    ghost Value = { Holding };
+    ghost Value = { List ℕ };
 
-    ghost view = { λ s. record { bytes = take s.len s.bytes; failed = s.failed } };
+    ghost view = { λ s. s.text.bytes };
 
-    ghost invariant = { λ s. (s.len ≤ ROOM) × (s.failed ≡ true → s.len ≡ ROOM) };
+    ghost invariant = { λ s. (s.len ≤ ROOM) × ((take s.len s.bytes ≡ take ROOM s.text.bytes)
+        × (s.lines ≡ min (length (ended s.text.bytes)) (2 ^ 64 - 1))) };
 }
 
 impl Front {
-    /// Nothing is kept.
+    /// No text.
     pub fn new() -> Front
-        ensures bytes { result.bytes ≡ [] }
-        ensures failed { result.failed ≡ false }
+        ensures { result ≡ [] }
     {
         Front {
             bytes: [0; ROOM],
             len: 0,
-            failed: false,
+            lines: 0,
+            text: Unseen::new(),
         }
     }
 
-    /// The bytes that are kept: all that was written, or where it has failed the first 4,096.
+    /// The text, or the first 4,096 bytes of a longer one.
     pub fn as_slice(&self) -> &[u8]
-        ensures value { result.now ≡ self.now.bytes }
-        ensures few { length self.now.bytes ≤ ROOM }
-        ensures full { self.now.failed ≡ true → length self.now.bytes ≡ ROOM }
+        ensures { result.now ≡ front_of self.now }
     {
         &self.bytes[..self.len]
     }
 
-    /// Keeps nothing, and has room again.
-    pub fn clear(&mut self)
-        ensures bytes { self.new.bytes ≡ [] }
-        ensures failed { self.new.failed ≡ false }
+    /// How many lines of the text end, or 2^32 - 1 where more do.
+    pub fn lines(&self) -> u32
+        ensures { result ≡ min (length (ended self.now)) (2 ^ 32 - 1) }
     {
-        self.len = 0;
-        self.failed = false;
+        self.lines.min(u32::MAX as usize) as u32
+    }
+
+    /// Keeps no text.
+    pub fn clear(&mut self)
+        ensures { self.new ≡ [] }
+    {
+        *self = Front::new();
     }
 }
 
 impl Sink for Front {
-    ghost use Rattle.std.specs.Prelude.{None, Some};
+    ghost use Rattle.std.specs.Prelude.{None, Some, false};
 
-    ghost output = { λ s. record { taken = Some s.bytes; count = None; failed = s.failed } };
+    ghost output = { λ text. record { taken = Some text; count = None; failed = false } };
 
     fn write(&mut self, bytes: &[u8]) -> Result<usize, WriteFailed> {
         let count = bytes.len().min(ROOM - self.len);
-        if count == 0 && !bytes.is_empty() {
-            self.failed = true;
-        }
         let end = self.len + count;
         self.bytes[self.len..end].copy_from_slice(&bytes[..count]);
         self.len = end;
-        Ok(count)
+        self.lines = self.lines.saturating_add(count_lines(bytes));
+        self.text.note(bytes);
+        Ok(bytes.len())
     }
+}
+
+/// How many lines end in a text.
+fn count_lines(text: &[u8]) -> usize
+    ensures { result ≡ length (ended text.now) }
+{
+    memchr_iter(b'\n', text).count()
 }

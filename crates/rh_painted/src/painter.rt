@@ -8,6 +8,7 @@ ghost use Rattle.rh_defs.specs.Order.{IsReordered};
 ghost use Rattle.rh_defs.specs.Range.{in_range};
 ghost use Rattle.rh_defs.specs.Commands.{step};
 ghost use Rattle.rh_drawn.specs.Replies.{Excerpts};
+ghost use Rattle.rh_map.specs.Replies.{front_of};
 ghost use Rattle.rh_figure.specs.Scene.{Before, Marks, is_still as is_still_of, scene_of};
 ghost use Rattle.rh_figure.specs.Share.{Share};
 ghost use Rattle.rh_lines.specs.Flow.{Output, Puts};
@@ -230,7 +231,7 @@ impl<D: Drawn> Painter<D> {
         requires few { self.old.progress.shown < MOST_STEPS }
         requires shown { is_shown self.old.marked (walk_in D.desk self.old) self.old.progress.wanted ≡ true }
         requires wanted { deed.wanted ≡ self.old.progress.wanted }
-        ensures text { (text : List ℕ) → Excerpts self.old.front.bytes deed.entry.count text →
+        ensures text { (text : List ℕ) → Excerpts (front_of self.old.front) deed.entry.count text →
             TookStep D.desk self.old (W.output writer.old) (W.output writer.new) result line.now
             (λ s. happened_at (D.desk self.old.drawn) s deed.entry.kept.now (option_map
             (λ c. c.now) deed.entry.command) deed.entry.reply.now text) self.new }
@@ -280,7 +281,7 @@ impl<D: Drawn> Painter<D> {
     ) -> Result<(), WriteFailed>
         requires room { self.old.progress.shown < MOST_STEPS }
         requires messages { self.old.messages.items ≡ message_items (D.desk self.old.drawn) }
-        ensures text { (text : List ℕ) → Excerpts self.old.front.bytes deed.entry.count text →
+        ensures text { (text : List ℕ) → Excerpts (front_of self.old.front) deed.entry.count text →
             WroteStep D.desk self.old (W.output writer.old) (W.output writer.new) result line.now deed.entry.wanted
             (λ s. happened_at (D.desk self.old.drawn) s deed.entry.kept.now (option_map
             (λ c. c.now) deed.entry.command) deed.entry.reply.now text) self.new }

@@ -3,6 +3,7 @@ use Rattle.rh_defs.specs.declared.reply.Reply.TheVariants.{Done}
 use Rattle.rh_defs.specs.Range.{in_range}
 use Rattle.rh_defs.proofs.QuestionLaws.{asked-stays, one-line, question-text}
 use Rattle.rh_drawn.specs.Deeds.{IsLikeReply}
+use Rattle.rh_map.specs.Replies.{front_of}
 use Rattle.rh_drawn.proofs.deeds.answer.Goals as goal
 
 pub returns-in-Ask-clause-desk : goal.returns-in-Ask-clause-desk
@@ -28,7 +29,7 @@ pub returns-in-Ask-clause-excerpt : goal.returns-in-Ask-clause-excerpt
 unfolding in_range
 returns-in-Ask-clause-excerpt g c =
     let d = g.D.Sight.desk c.args.drawn.now in
-    let front = c.excerpt_answer-count.new.front.bytes in
+    let front = front_of c.excerpt_answer-count.new.front in
     let count = c.excerpt_answer-count.result in
     let R : Command → Type 0 = λ z. IsTrue (in_range z) in
     let P : Command → Type 0 = λ z. Excerpts front count (reply_to d z) in
@@ -44,7 +45,7 @@ returns-clause-reply g c =
 pub returns-clause-excerpt : goal.returns-clause-excerpt
 returns-clause-excerpt g c =
     let d = g.D.Sight.desk c.args.drawn.now in
-    let front = c.excerpt_reply-count.new.front.bytes in
+    let front = front_of c.excerpt_reply-count.new.front in
     let count = c.excerpt_reply-count.result in
     let P : Reply → Type 0 = λ z. Excerpts front count (first_line z Nothing) in
     let Q : List ℕ → Type 0 = λ z. Excerpts front count z in

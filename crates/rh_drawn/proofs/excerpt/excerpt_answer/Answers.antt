@@ -1,13 +1,17 @@
-use Rattle.rh_drawn.proofs.Common.{ℕ, length, sym, subst, asked, ended, answer_text, Excerpts}
-use Rattle.rh_drawn.proofs.AnswerLemmas.{answer-counted, counted-kept}
+use Rattle.rh_drawn.proofs.Common.{ℕ, List, ap, arith, length, subst, sym, asked, ended, answer_text, Excerpts}
+use Rattle.rh_map.specs.Replies.{front_of}
+use Rattle.rh_drawn.proofs.AnswerLemmas.{answer-few, counted-is, counted-kept}
+use Rattle.rh_drawn.proofs.ExcerptLemmas.{written}
 use Rattle.rh_drawn.proofs.excerpt.excerpt_answer.Goals as goal
 
 pub returns : goal.returns
 returns g c =
     let d = g.D.Sight.desk c.args.drawn.now in
     let text = answer_text (asked d c.args.question.now) in
-    let told = answer-counted d c.args.question.now c.count_answer.ensures.names in
-    let put = c.print_answer-whole.ensures d (g.met.D.Drawn.seen c.args.drawn.now) in
-    let P : ℕ → Type 0 = λ n. Excerpts c.print_answer-whole.new.writer.bytes n text in
-    subst P (sym c.count_answer.ensures.count)
-    (counted-kept c.print_answer-whole.result (length (ended text)) text told c.clear.ensures.bytes c.as_slice-kept.ensures.full put)
+    let told = answer-few d c.spelled.ensures c.look_over.ensures c.args.question.now in
+    let whole = written c.print_answer-whole.result text c.clear.ensures (c.print_answer-whole.ensures d (g.met.D.Drawn.seen c.args.drawn.now)) in
+    let count = counted-is told.count text told.counted in
+    let P : ℕ → Type 0 = λ n. Excerpts (front_of text) n text in
+    let Q : List ℕ → Type 0 = λ t. Excerpts (front_of t) c.lines.result text in
+    subst Q (sym whole)
+    (subst P (omega (arith, told.few, count, c.lines.ensures, ap (λ t. length (ended t)) whole)) (counted-kept told.count text told.counted))

@@ -1,12 +1,15 @@
-use Rattle.rh_drawn.proofs.Common.{◌≡◌, ◌∙◌, ℕ, length, ap, subst, sym, max, fault_text, ended, Excerpts}
-use Rattle.rh_drawn.proofs.ExcerptLemmas.{fault-one, one-kept}
+use Rattle.rh_drawn.proofs.Common.{◌∙◌, ℕ, List, ap, length, subst, sym, ended, Excerpts, fault_text}
+use Rattle.std.specs.Prelude.{◌-◌, ◌^◌, min}
+use Rattle.rh_map.specs.Replies.{front_of}
+use Rattle.rh_drawn.proofs.ExcerptLemmas.{fault-one, one-counted, one-kept, written}
 use Rattle.rh_drawn.proofs.excerpt.excerpt_fault.Goals as goal
 
 pub returns : goal.returns
 returns c =
     let text = fault_text c.args.fault.now in
-    let bytes = c.print_fault-whole.new.writer.bytes in
-    let k = one-kept c.print_fault-whole.result text (fault-one c.args.fault.now) c.clear.ensures.bytes c.as_slice.ensures.full c.print_fault-whole.ensures in
-    let n : c.max.result ≡ 1 = c.max.ensures ∙ (ap (λ z. max z 1) (c.count_lines.ensures ∙ ap (λ z. length (ended z)) c.as_slice.ensures.value) ∙ k.count) in
-    let P : ℕ → Type 0 = λ z. Excerpts bytes z text in
-    subst P (sym n) k.shows
+    let one = fault-one c.args.fault.now in
+    let whole = written c.print_fault-whole.result text c.clear.ensures c.print_fault-whole.ensures in
+    let count = one-counted text one (c.lines.ensures ∙ ap (λ t. min (length (ended t)) (2 ^ 32 - 1)) whole) in
+    let P : ℕ → Type 0 = λ n. Excerpts (front_of text) n text in
+    let Q : List ℕ → Type 0 = λ t. Excerpts (front_of t) c.lines.result text in
+    subst Q (sym whole) (subst P (sym count) (one-kept text one))

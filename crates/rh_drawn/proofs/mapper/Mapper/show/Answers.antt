@@ -16,4 +16,4 @@ returns-clause-text g c = λ text excerpt.
     ∙ ap (scene_of d (share_in c.page_list.new.list.items d) deed.kept.now) is.marks in
     puts_same (ap₂ (λ still x. shown_lines (step_lines still m.steps c.args.line.now text x))
     (c.holds_unless.ensures ∙ ap (λ z. z && not deed.wanted) c.is_still.ensures) scene)
-    (c.print_step.ensures text (subst P (sym c.as_slice.ensures.value) excerpt))
+    (c.print_step.ensures text (subst P (sym c.as_slice.ensures) excerpt))

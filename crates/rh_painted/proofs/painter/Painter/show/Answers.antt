@@ -42,7 +42,7 @@ returns-in_err-print_step-clause-text g c = λ text excerpt.
       shared = c.page_list.ensures.shared;
       puts = puts-then c.in_ok-open_step.ensures
           (puts_stops c.from_residual-in_err-print_step.result (puts_same words (c.in_err-print_step.ensures text (subst P
-          (sym c.as_slice.ensures.value) excerpt)))
+          (sym c.as_slice.ensures) excerpt)))
           c.from_residual-in_err-print_step.ensures.0);
       next = err-comes _ c.from_residual-in_err-print_step.result c.from_residual-in_err-print_step.ensures.0;
     }
@@ -64,7 +64,7 @@ returns-clause-text g c = λ text excerpt.
     record {
       share = share_in c.page_list.new.list.items d;
       shared = c.page_list.ensures.shared;
-      puts = puts-then c.in_ok-open_step.ensures (puts_same words (c.in_ok-print_step.ensures text (subst P (sym c.as_slice.ensures.value) excerpt)));
+      puts = puts-then c.in_ok-open_step.ensures (puts_same words (c.in_ok-print_step.ensures text (subst P (sym c.as_slice.ensures) excerpt)));
       next = record {
         drawn_is = refl;
         marked_is = refl;

@@ -1,5 +1,6 @@
 use Rattle.rh_painted.proofs.Common.{List, ℕ, ap, subst, sym, option_map, marks_of, Share, Happened, happened_at}
 use Rattle.rh_drawn.specs.Replies.{Excerpts}
+use Rattle.rh_map.specs.Replies.{front_of}
 use Rattle.rh_painted.proofs.StepLemmas.{IsNoted, took-shown, wrote-over}
 use Rattle.rh_painted.proofs.painter.Painter.take_step.Goals as goal
 
@@ -24,4 +25,4 @@ returns-clause-text g c = λ text excerpt.
     c.requires.wanted is c.requires.shown
     (wrote-over desk b c.show.new.self (g.W.Sink.output c.args.writer.now) (g.W.Sink.output c.show.new.writer) c.show.result c.args.line.now deed.wanted
     deed.kept.now command deed.reply.now text is.drawn
-    (c.show.ensures.text text (subst P (sym (ap (λ z. z.front.bytes) c.begin_step.ensures.rest)) excerpt)))
+    (c.show.ensures.text text (subst P (sym (ap (λ z. front_of z.front) c.begin_step.ensures.rest)) excerpt)))

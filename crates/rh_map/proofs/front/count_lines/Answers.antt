@@ -1,7 +1,7 @@
 use Rattle.std.proofs.Common.{◌≡◌, ◌∙◌, ◌-◌, length, ap, arith}
 use Rattle.memchr.specs.Find.{is_byte, places_from}
-use Rattle.rh_drawn.proofs.ExcerptLemmas.{count-ended}
-use Rattle.rh_drawn.proofs.excerpt.count_lines.Goals as goal
+use Rattle.rh_map.proofs.FrontLemmas.{count-ended}
+use Rattle.rh_map.proofs.front.count_lines.Goals as goal
 
 pub returns : goal.returns
 returns c =
