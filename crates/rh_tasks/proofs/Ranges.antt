@@ -1,6 +1,6 @@
 -- What the form of a command says of its numbers.
-use Rattle.rh_tasks.proofs.Common.{◌≡◌, ℕ, ◌<◌, true, arith, List, ℤ, pos, negsuc, SFits, w32, ints, anchor_count, nat_tests, in_range}
-use Rattle.rh_defs.specs.Forms.{is_delta, is_leaf}
+use Rattle.rh_tasks.proofs.Common.{◌≡◌, ℕ, ◌<◌, true, arith, List, ℤ, anchor_count, nat_tests, in_range}
+use Rattle.rh_defs.specs.Forms.{is_leaf}
 use Rattle.rh_defs.specs.declared.command.Command.TheVariants as command
 use Rattle.rh_defs.specs.declared.question.Question.{Question}
 use Rattle.rh_defs.specs.declared.question.Question.TheVariants as question
@@ -44,25 +44,3 @@ save-anchor name k to leaf h = grind (arith, nat_tests)
 pub save-leaf : (name : List ℕ) (k : ℕ) (to leaf : List ℕ) → in_range (command.Save name k to leaf) ≡ true → is_leaf leaf ≡ true
 unfolding in_range
 save-leaf name k to leaf h = grind (arith, nat_tests)
-
--- ---- signed amounts are 32-bit numbers
-
-amount : (delta : ℤ) → is_delta delta ≡ true → SFits w32 delta
-amount (pos n) h = grind (arith, nat_tests, ints)
-amount (negsuc n) h = grind (arith, nat_tests, ints)
-
-pub mid-fits : (name : List ℕ) (k offset : ℕ) (by : ℤ) → in_range (command.Mid name k offset by) ≡ true → SFits w32 by
-unfolding in_range
-mid-fits name k offset by h = amount by (grind (arith, nat_tests))
-
-pub resize-fits : (name : List ℕ) (address : ℕ) (delta : ℤ) → in_range (command.Resize name address delta) ≡ true → SFits w32 delta
-unfolding in_range
-resize-fits name address delta h = amount delta (grind (arith, nat_tests))
-
-pub area-fits : (k : ℕ) (delta : ℤ) → in_range (command.Area k delta) ≡ true → SFits w32 delta
-unfolding in_range
-area-fits k delta h = amount delta (grind (arith, nat_tests))
-
-pub rma_resize-fits : (address : ℕ) (delta : ℤ) → in_range (command.RmaResize address delta) ≡ true → SFits w32 delta
-unfolding in_range
-rma_resize-fits address delta h = amount delta h

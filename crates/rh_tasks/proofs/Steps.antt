@@ -68,6 +68,10 @@ abbrev asks : Command → Bool
 asks (command.Ask q) = true
 asks c = false
 
+pub no-question : (c : Command) → ((q : Question) → c ≡ command.Ask q → ⊥) → asks c ≡ false
+no-question (command.Ask q) other = absurd (other q refl)
+no-question c other = refl
+
 unasked : (c : Command) (old new : Shown) → asks c ≡ false → StaysIfAsked c old new
 unasked c old new changes q is = absurd (let both : ◌≡◌ {A = Bool} true false = sym (ap asks is) ∙ changes in (cc))
 

@@ -1,6 +1,7 @@
 pub mod Shown
 pub mod View
 pub mod Answer
+pub mod Nouns
 pub mod Finding
 pub mod Items
 pub mod Lists

@@ -5,8 +5,9 @@ ghost use Rattle.rh_defs.specs.Memory.{Memory, IsOpen, OnlyArea, bytes};
 ghost use Rattle.rh_defs.specs.Module.{whole_pages};
 ghost use Rattle.rh_defs.specs.declared.command.Command.TheVariants as Command;
 ghost use Rattle.rh_defs.specs.Range.{in_range};
-ghost use Rattle.rh_defs.specs.Commands.{least_length as least_length_on, pages_after as pages_after_on, change_area as change_area_on};
+ghost use Rattle.rh_defs.specs.Commands.{least_length as least_length_on, pages_after as pages_after_on, change_area as change_area_on, change};
 ghost use Rattle.rh_tasks.specs.Answer.{Gives};
+ghost use Rattle.rh_tasks.specs.Nouns.{changes_areas};
 ghost use Rattle.rh_tasks.specs.View.{pages_at};
 ghost use Rattle.rh_defs.specs.declared.sizes.TheConstants.{FIXED_AREAS, PAGE};
 
@@ -16,7 +17,7 @@ use crate::named_files::NamedFiles;
 use crate::scrap::{SCRAP, scrap_size};
 use crate::world::World;
 use rh_defs::sizes::{FIXED_AREAS, PAGE};
-use rh_defs::{Refusal, Reply};
+use rh_defs::{Command, Refusal, Reply};
 use rh_store::{AreaId, Pages, Store};
 
 /// How many pages hold an amount of bytes, whatever its sign.
@@ -71,6 +72,20 @@ fn set_pages<S: Pages>(store: &mut S, area: AreaId, pages: usize)
 }
 
 impl<S: Store, F: NamedFiles> World<S, F> {
+    /// Carries out a command that changes an area, or which areas there are.
+    pub(crate) fn area_command(&mut self, command: &Command) -> Result<Reply, Refusal>
+        requires ranged { in_range command.now ≡ true }
+        requires on_areas { changes_areas command.now ≡ true }
+        ensures { Gives (change self.old.desk command.now) self.old self.new result }
+    {
+        match command {
+            Command::Area { number, delta } => self.change_area(*number, *delta),
+            Command::Make { most } => self.make(*most),
+            Command::Remove { number } => self.remove(*number),
+            _ => unreachable!(),
+        }
+    }
+
     /// Makes an area longer or shorter: ExcessiveShrink, NoRoom, NoArea, TooBig.
     pub(crate) fn change_area(&mut self, number: u32, delta: i32) -> Result<Reply, Refusal>
         requires { in_range (Command.Area number delta) ≡ true }

@@ -1,18 +1,48 @@
 //! Flex blocks: the commands that change them.
 
-ghost use Rattle.std.specs.Prelude.{◌≡◌, true, Ok, Err};
+ghost use Rattle.std.specs.Prelude.{◌≡◌, true, false, Ok, Err};
+ghost use Rattle.std.specs.Option.{IfNone, IfSome};
 ghost use Rattle.rh_defs.specs.declared.command.Command.TheVariants as Command;
 ghost use Rattle.rh_defs.specs.Range.{in_range};
-ghost use Rattle.rh_defs.specs.Commands.{alloc as alloc_on, load as load_on, put as put_on, free as free_on, extend as extend_on, mid as mid_on};
+ghost use Rattle.rh_defs.specs.Commands.{alloc as alloc_on, load as load_on, put as put_on, free as free_on, extend as extend_on, mid as mid_on, change};
 ghost use Rattle.rh_tasks.specs.Answer.{Gives};
+ghost use Rattle.rh_tasks.specs.Nouns.{changes_blocks};
 
 use crate::named_files::NamedFiles;
 use crate::seats::{idle_slot, slot_of};
 use crate::world::World;
-use rh_defs::{Anchor, Name, Refusal, Reply};
+use rh_defs::{Anchor, Command, Name, Refusal, Reply};
 use rh_store::Store;
 
 impl<S: Store, F: NamedFiles> World<S, F> {
+    /// Carries out a command that changes flex blocks; None of any other.
+    pub(crate) fn block_command(&mut self, command: &Command) -> Option<Result<Reply, Refusal>>
+        requires ranged { in_range command.now ≡ true }
+        ensures given { IfSome result (λ given. Gives (change self.old.desk command.now) self.old self.new given) }
+        ensures other { IfNone result (changes_blocks command.now ≡ false) }
+        ensures same { IfNone result (self.new ≡ self.old) }
+    {
+        Some(match command {
+            Command::Alloc { name, anchor, size } => self.alloc(name, *anchor, *size),
+            Command::Load { name, anchor, file } => self.load(name, *anchor, file),
+            Command::Put {
+                name,
+                anchor,
+                offset,
+                bytes,
+            } => self.put(name, *anchor, *offset, bytes.as_slice()),
+            Command::Free { name, anchor } => self.free(name, *anchor),
+            Command::Extend { name, anchor, size } => self.extend(name, *anchor, *size),
+            Command::Mid {
+                name,
+                anchor,
+                offset,
+                by,
+            } => self.mid(name, *anchor, *offset, *by),
+            _ => return None,
+        })
+    }
+
     /// Puts a block of zeros on top of the task's slot (flex_alloc): NoName, AnchorInUse, NoRoom.
     pub(crate) fn alloc(&mut self, name: &Name, anchor: Anchor, size: u32) -> Result<Reply, Refusal>
         requires { in_range (Command.Alloc name.now anchor size) ≡ true }

@@ -1,18 +1,40 @@
 //! Blocks of a task's C heap, and whether flex blocks give way to it.
 
-ghost use Rattle.std.specs.Prelude.{◌≡◌, true, Ok, Err};
+ghost use Rattle.std.specs.Prelude.{◌≡◌, true, false, Ok, Err};
+ghost use Rattle.std.specs.Option.{IfNone, IfSome};
 ghost use Rattle.rh_defs.specs.declared.command.Command.TheVariants as Command;
 ghost use Rattle.rh_defs.specs.Range.{in_range};
-ghost use Rattle.rh_defs.specs.Commands.{claim as claim_on, release as release_on, resize as resize_on, budge as budge_on};
+ghost use Rattle.rh_defs.specs.Commands.{claim as claim_on, release as release_on, resize as resize_on, budge as budge_on, change};
 ghost use Rattle.rh_tasks.specs.Answer.{Gives};
+ghost use Rattle.rh_tasks.specs.Nouns.{changes_heap};
 
 use crate::named_files::NamedFiles;
 use crate::seats::{find, idle_heap, slot_of};
 use crate::world::World;
-use rh_defs::{Name, Refusal, Reply};
+use rh_defs::{Command, Name, Refusal, Reply};
 use rh_store::Store;
 
 impl<S: Store, F: NamedFiles> World<S, F> {
+    /// Carries out a command that changes a C heap; None of any other.
+    pub(crate) fn heap_command(&mut self, command: &Command) -> Option<Result<Reply, Refusal>>
+        requires ranged { in_range command.now ≡ true }
+        ensures given { IfSome result (λ given. Gives (change self.old.desk command.now) self.old self.new given) }
+        ensures other { IfNone result (changes_heap command.now ≡ false) }
+        ensures same { IfNone result (self.new ≡ self.old) }
+    {
+        Some(match command {
+            Command::Claim { name, size } => self.claim(name, *size),
+            Command::Release { name, address } => self.release(name, *address),
+            Command::Resize {
+                name,
+                address,
+                delta,
+            } => self.resize(name, *address, *delta),
+            Command::Budge { name, on } => self.budge(name, *on),
+            _ => return None,
+        })
+    }
+
     /// Claims a block of the task's C heap (OS_Heap 2): NoName, BadSize, NoBudge, NoRoom.
     pub(crate) fn claim(&mut self, name: &Name, size: u32) -> Result<Reply, Refusal>
         requires { in_range (Command.Claim name.now size) ≡ true }

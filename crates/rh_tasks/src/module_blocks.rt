@@ -1,21 +1,38 @@
 //! Blocks of the module area that commands claim (the RMA's).
 
 ghost use Rattle.std.specs.Prelude.{◌≡◌, ◌-◌, true, false, Ok, Err, IfOk, IfErr};
+ghost use Rattle.std.specs.Option.{IfNone, IfSome};
 ghost use Rattle.rh_defs.specs.declared.command.Command.TheVariants as Command;
 ghost use Rattle.rh_defs.specs.Range.{in_range};
-ghost use Rattle.rh_defs.specs.Commands.{own_block, rma_claim as rma_claim_on, rma_free as rma_free_on, rma_resize as rma_resize_on};
+ghost use Rattle.rh_defs.specs.Commands.{own_block, rma_claim as rma_claim_on, rma_free as rma_free_on, rma_resize as rma_resize_on, change};
 ghost use Rattle.rh_defs.specs.Desk.{module_start};
 ghost use Rattle.rh_defs.specs.Post.{post_is_message};
 ghost use Rattle.rh_tasks.specs.Answer.{Gives};
+ghost use Rattle.rh_tasks.specs.Nouns.{changes_module};
 
 use crate::module_area::MODULE;
 use crate::named_files::NamedFiles;
 use crate::world::World;
 use rh_defs::sizes::MODULE_START;
-use rh_defs::{Refusal, Reply};
+use rh_defs::{Command, Refusal, Reply};
 use rh_store::Store;
 
 impl<S: Store, F: NamedFiles> World<S, F> {
+    /// Carries out a command that changes blocks of the module area; None of any other.
+    pub(crate) fn module_command(&mut self, command: &Command) -> Option<Result<Reply, Refusal>>
+        requires ranged { in_range command.now ≡ true }
+        ensures given { IfSome result (λ given. Gives (change self.old.desk command.now) self.old self.new given) }
+        ensures other { IfNone result (changes_module command.now ≡ false) }
+        ensures same { IfNone result (self.new ≡ self.old) }
+    {
+        Some(match command {
+            Command::RmaClaim { size } => self.rma_claim(*size),
+            Command::RmaFree { address } => self.rma_free(*address),
+            Command::RmaResize { address, delta } => self.rma_resize(*address, *delta),
+            _ => return None,
+        })
+    }
+
     /// Claims a block of the module area (OS_Module 6): BadSize, NoRoom.
     pub(crate) fn rma_claim(&mut self, size: u32) -> Result<Reply, Refusal>
         requires { in_range (Command.RmaClaim size) ≡ true }

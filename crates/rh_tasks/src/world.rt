@@ -3,10 +3,12 @@
 ghost use Rattle.std.specs.Prelude.{◌≡◌, ◌≤◌, ℕ, ◌+◌, ◌<◌, true, Ok, Err, IsSome};
 ghost use Rattle.rh_defs.specs.Memory.{Memory, fresh, bytes};
 ghost use Rattle.rh_defs.specs.Range.{in_range};
+ghost use Rattle.rh_defs.specs.Commands.{change};
 ghost use Rattle.rh_defs.specs.Runs.{start, start_with};
 ghost use Rattle.rh_defs.specs.Laws.{IsDesk};
 ghost use Rattle.rh_tasks.specs.Shown.{IsSpelled, IsBalanced, HasApartBlocks};
-ghost use Rattle.rh_tasks.specs.Answer.{Does, RunsOn, StaysIfAsked, StaysIfRefused, StepsTo, reply_of};
+ghost use Rattle.rh_tasks.specs.Answer.{Does, Gives, RunsOn, StaysIfAsked, StaysIfRefused, StepsTo, answered as answered_of, reply_of};
+ghost use Rattle.rh_tasks.specs.Nouns.{changes_memory};
 ghost use Rattle.rh_tasks.specs.Start.{IsFurnished};
 ghost use Rattle.rh_defs.specs.declared.sizes.TheConstants.{MAX_PAGES, MIN_PAGES};
 
@@ -17,7 +19,7 @@ use crate::next::Next;
 use crate::scrap::ScrapFile;
 use crate::seat::Seats;
 use rh_defs::sizes::FIXED_AREAS;
-use rh_defs::{Command, Files, Handle, Ref, Refusal, Reply};
+use rh_defs::{Command, Files, Handle, Numbers, Ref, Refusal, Reply};
 use rh_module::Module;
 use rh_store::Store;
 use rh_tables::Table;
@@ -131,46 +133,13 @@ impl<S: Store, F: NamedFiles> World<S, F> {
         ensures { Does command.now self.old self.new result }
     {
         match command {
+            Command::Ask(question) => answer(answered(self.told(question))),
             Command::Task {
                 name,
                 buffer,
                 manner,
             } => answer(self.start_task(name, *buffer, *manner)),
             Command::Kill { name } => answer(self.kill(name)),
-            Command::Alloc { name, anchor, size } => answer(self.alloc(name, *anchor, *size)),
-            Command::Load { name, anchor, file } => answer(self.load(name, *anchor, file)),
-            Command::Put {
-                name,
-                anchor,
-                offset,
-                bytes,
-            } => answer(self.put(name, *anchor, *offset, bytes.as_slice())),
-            Command::Free { name, anchor } => answer(self.free(name, *anchor)),
-            Command::Extend { name, anchor, size } => answer(self.extend(name, *anchor, *size)),
-            Command::Mid {
-                name,
-                anchor,
-                offset,
-                by,
-            } => answer(self.mid(name, *anchor, *offset, *by)),
-            Command::Claim { name, size } => answer(self.claim(name, *size)),
-            Command::Release { name, address } => answer(self.release(name, *address)),
-            Command::Resize {
-                name,
-                address,
-                delta,
-            } => answer(self.resize(name, *address, *delta)),
-            Command::Budge { name, on } => answer(self.budge(name, *on)),
-            Command::Area { number, delta } => answer(self.change_area(*number, *delta)),
-            Command::Make { most } => answer(self.make(*most)),
-            Command::Remove { number } => answer(self.remove(*number)),
-            Command::RmaClaim { size } => answer(self.rma_claim(*size)),
-            Command::RmaFree { address } => answer(self.rma_free(*address)),
-            Command::RmaResize { address, delta } => answer(self.rma_resize(*address, *delta)),
-            Command::Ask(question) => answer(self.told(question)),
-            Command::CancelIn { name, id } => answer(self.cancel_in(name, *id)),
-            Command::CancelOut { name, id } => answer(self.cancel_out(name, *id)),
-            Command::Repeat { name } => answer(self.repeat(name)),
             Command::Save {
                 name,
                 anchor,
@@ -178,8 +147,37 @@ impl<S: Store, F: NamedFiles> World<S, F> {
                 leaf,
             } => answer(self.save(name, *anchor, to, leaf)),
             Command::Poll { name } => answer(self.poll(name)),
+            Command::CancelIn { name, id } => answer(self.cancel_in(name, *id)),
+            Command::CancelOut { name, id } => answer(self.cancel_out(name, *id)),
+            Command::Repeat { name } => answer(self.repeat(name)),
+            _ => answer(self.memory_command(command)),
         }
     }
+
+    /// Carries out a command that changes blocks or areas alone.
+    fn memory_command(&mut self, command: &Command) -> Result<Reply, Refusal>
+        requires ranged { in_range command.now ≡ true }
+        requires on_memory { changes_memory command.now ≡ true }
+        ensures { Gives (change self.old.desk command.now) self.old self.new result }
+    {
+        if let Some(given) = self.block_command(command) {
+            return given;
+        }
+        if let Some(given) = self.heap_command(command) {
+            return given;
+        }
+        if let Some(given) = self.module_command(command) {
+            return given;
+        }
+        self.area_command(command)
+    }
+}
+
+/// The result of a question by its numbers.
+fn answered(told: Result<Numbers, Refusal>) -> Result<Reply, Refusal>
+    ensures { result ≡ answered_of told }
+{
+    told.map(Reply::Answered)
 }
 
 /// The reply that a command's result is.
