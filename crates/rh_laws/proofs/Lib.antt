@@ -6,11 +6,13 @@ pub mod LineRows
 pub mod Lengths
 pub mod Spelled
 pub mod PrinterRows
+pub mod Asked
 pub mod RefusalSteps
 pub mod RefusalRoomLaws
 pub mod RefusalCalls
 pub mod RefusalSends
 pub mod RefusalAreas
+pub mod EachCommand
 pub mod RefusalLaw
 pub mod RefusalRows
 pub mod HonestHeapLaws

@@ -4,14 +4,15 @@ use Rattle.rh_laws.proofs.Common.{Ok, Err, ◌==◌, ◌||◌, nat_lt, take, dro
 use Rattle.rh_laws.proofs.Common.{Answer, Bytes, Told, asked, step, start_with, after, replies, Follows, follows-as}
 use Rattle.rh_defs.specs.declared.command.Command.TheVariants as command
 use Rattle.rh_defs.specs.declared.question.Question.TheVariants as question
-use Rattle.rh_defs.specs.Listing.{Listed, shown_at}
+use Rattle.rh_defs.specs.Questions.{Listed, shown_at}
 use Rattle.rh_defs.proofs.Follows.{or_else-follows}
 use Rattle.rh_laws.specs.Renaming.{renamed, renamed_files, renamed_command, renamed_listed, renamed_told, renamed_piece, StepsRenamed, ShowsRenamed}
 use Rattle.rh_laws.specs.Renaming.{PiecesRenamed, AlwaysRenamed, has_byte, puts_byte, is_given, ShowsGiven}
 use Rattle.rh_laws.proofs.RenamedParts.{By, follows-by}
 use Rattle.rh_laws.proofs.RenamedSlots.{slot_block-renamed}
-use Rattle.rh_laws.proofs.RenamedDesks.{renamed_with, named-renamed, asked-renamed}
-use Rattle.rh_laws.proofs.RenamedSteps.{change-renamed}
+use Rattle.rh_laws.proofs.Asked.{asked-renamed}
+use Rattle.rh_laws.proofs.RenamedDesks.{renamed_with, named-renamed}
+use Rattle.rh_laws.proofs.EachCommand.{change-renamed}
 
 -- ---- one command
 
