@@ -58,12 +58,11 @@ def is_new(crate):
 
 def prove(crates, log):
     """Proves each library below the crates that isn't yet, and then the crates, and builds their archives."""
-    held = rtlib.lock([*libraries.below(crates), *crates])
-    left = libraries.unbuilt(libraries.below(crates))
-    given = rt.in_lanes(libraries.tasks(left, lambda it, jobs: libraries.build(it, jobs, log)))
-    lost = [it.name for it in left if not given[it.name, "library"]]
-    lost = lost or [it.name for it in crates if not compiled(it, log)]
-    del held
+    with libraries.locked([*libraries.below(crates), *crates]):
+        left = libraries.unbuilt(libraries.below(crates))
+        given = rt.in_lanes(libraries.tasks(left, lambda it, jobs: libraries.build(it, jobs, log)))
+        lost = [it.name for it in left if not given[it.name, "library"]]
+        lost = lost or [it.name for it in crates if not compiled(it, log)]
     if lost:
         raise Fault(f"{lost[0]} is not proved, and no archive was built: {FOLDER}/{LOG} says why")
 

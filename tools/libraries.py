@@ -1,5 +1,6 @@
 """The libraries of the repository as those above them read them: their statements, without their proofs."""
 
+import contextlib
 import copy
 import os
 import shutil
@@ -13,6 +14,17 @@ STAMP = "stamp"
 def below(crates):
     """Each library that one of the crates stands on, lowest first."""
     return list(dict.fromkeys(dep for crate in crates for dep in crate.below()))
+
+
+@contextlib.contextmanager
+def locked(crates):
+    """Keeps other calls of rt out of the crates' folders, and lets go of them at its end."""
+    held = rtlib.lock(crates)
+    try:
+        yield
+    finally:
+        for it in held:
+            os.close(it)
 
 
 def are_left_by_gate(libraries):

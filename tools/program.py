@@ -67,17 +67,16 @@ def failed(top, log):
     """Builds all that isn't built of these sources yet, and the program; gives the crate that is not proved, if any."""
     program = named(kit.crates_of(top))
     needed = program.below()
-    held = rtlib.lock([*needed, program])
-    left = libraries.unbuilt(needed)
-    progress = Progress(len(left) + 1)
-    call = lambda it, jobs: progress.at(it.name, lambda: libraries.build(it, jobs, log))
-    given = rt.in_lanes(libraries.tasks(left, call))
-    lost = next((it.name for it in left if not given[it.name, "library"]), None)
-    if not lost and not progress.at(NAME, lambda: linked(program, rt.processors(), log)):
-        lost = NAME
-    progress.end()
-    del held
-    return lost
+    with libraries.locked([*needed, program]):
+        left = libraries.unbuilt(needed)
+        progress = Progress(len(left) + 1)
+        call = lambda it, jobs: progress.at(it.name, lambda: libraries.build(it, jobs, log))
+        given = rt.in_lanes(libraries.tasks(left, call))
+        lost = next((it.name for it in left if not given[it.name, "library"]), None)
+        if not lost and not progress.at(NAME, lambda: linked(program, rt.processors(), log)):
+            lost = NAME
+        progress.end()
+        return lost
 
 
 def main(top):
