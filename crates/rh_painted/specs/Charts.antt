@@ -4,15 +4,15 @@ use Rattle.rh_defs.specs.Desk.{Desk}
 use Rattle.rh_draw.specs.declared.chart.Ends.{Ends}
 use Rattle.rh_figure.specs.Phrases.{Text}
 use Rattle.rh_painted.specs.declared.chart.Chart.{Chart}
-use Rattle.rh_painted.specs.declared.numbers.TheConstants.{MOST_NUMBERS}
+use Rattle.rh_painted.specs.declared.numbers.TheConstants.{MOST_IN_SET}
 use Rattle.rh_painted.specs.declared.ways.Way.{Way}
 use Rattle.rh_painted.specs.Ways.{arrows_seen}
 use Rattle.rh_sheet.specs.Chart.{Arrow, arrow_path, arrow_words, beat_text, chart_body, life_of, step_y, steps_in, task_x, tasks_in}
 
 -- a chart has as few tasks and steps as that of the last messages
 pub record IsSmall (c : Chart) : Type 0 where
-  pub tasks : length c.tasks.now ≤ MOST_NUMBERS
-  pub steps : length c.steps.now ≤ MOST_NUMBERS
+  pub tasks : length c.tasks.now ≤ MOST_IN_SET
+  pub steps : length c.steps.now ≤ MOST_IN_SET
 
 -- it has arrows, and their tasks and steps
 pub record IsWhole (c : Chart) : Type 0 where

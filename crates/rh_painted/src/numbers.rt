@@ -1,22 +1,22 @@
-//! Numbers in order, each once.
+//! Sets of numbers.
 
 ghost use Rattle.std.specs.Prelude.{◌≡◌, ◌≤◌, ◌<◌, ◌+◌, length, nat_le};
 ghost use Rattle.std.specs.List.{position};
-ghost use Rattle.rh_painted.specs.declared.numbers.TheConstants.{MOST_NUMBERS};
+ghost use Rattle.rh_painted.specs.declared.numbers.TheConstants.{MOST_IN_SET};
 ghost use Rattle.rh_sheet.specs.Chart.{inserted};
 
 use arrayvec::ArrayVec;
 use rh_sheet::sizes::MOST_NOTES;
 
 /// A chart has at most so many steps or tasks: each message has two arrows, and each arrow two ends.
-pub const MOST_NUMBERS: usize = 4 * MOST_NOTES;
+pub const MOST_IN_SET: usize = 4 * MOST_NOTES;
 
-/// Numbers in order, each once.
-pub type Numbers = ArrayVec<u32, MOST_NUMBERS>;
+/// A set of numbers: in order, each once.
+pub type NumberSet = ArrayVec<u32, MOST_IN_SET>;
 
-/// Puts a number in its place among others, if it isn't there.
-pub fn put_number(number: u32, numbers: &mut Numbers)
-    requires { length numbers.old.items < MOST_NUMBERS }
+/// Puts a number into a set.
+pub fn put_number(number: u32, numbers: &mut NumberSet)
+    requires { length numbers.old.items < MOST_IN_SET }
     ensures value { numbers.new.items ≡ inserted number numbers.old.items }
     ensures few { length numbers.new.items ≤ length numbers.old.items + 1 }
 {

@@ -2,12 +2,12 @@
 
 ghost use Rattle.std.specs.Prelude.{◌≡◌, ◌≤◌, ◌<◌, ◌+◌, ◌∷◌, [], length};
 ghost use Rattle.rh_painted.specs.Ways.{arrow_of, arrows_seen, with_step, words_of};
-ghost use Rattle.rh_painted.specs.declared.numbers.TheConstants.{MOST_NUMBERS};
+ghost use Rattle.rh_painted.specs.declared.numbers.TheConstants.{MOST_IN_SET};
 ghost use Rattle.rh_painted.specs.declared.ways.TheConstants.{MOST_WAYS};
 ghost use Rattle.rh_sheet.specs.Chart.{arrows, steps_in as steps_of, tasks_in as tasks_of, way_back as arrow_back, way_out as arrow_out};
 ghost use Rattle.rh_sheet.specs.declared.sizes.TheConstants.{MOST_NOTES};
 
-use crate::numbers::{Numbers, put_number};
+use crate::numbers::{NumberSet, put_number};
 use arrayvec::ArrayVec;
 use rh_defs::Action;
 use rh_lines::Row;
@@ -112,7 +112,7 @@ impl Way {
 }
 
 /// The steps at which arrows begin or end.
-pub fn steps_in(ways: &[Way]) -> Numbers
+pub fn steps_in(ways: &[Way]) -> NumberSet
     requires { length ways.now ≤ MOST_WAYS }
     ensures { result.items ≡ steps_of (arrows_seen ways.now) }
 {
@@ -127,8 +127,8 @@ pub fn steps_in(ways: &[Way]) -> Numbers
 }
 
 /// Puts a step in its place among others, if it is one and isn't there.
-fn put_step(step: u32, steps: &mut Numbers)
-    requires { length steps.old.items < MOST_NUMBERS }
+fn put_step(step: u32, steps: &mut NumberSet)
+    requires { length steps.old.items < MOST_IN_SET }
     ensures value { steps.new.items ≡ with_step step steps.old.items }
     ensures few { length steps.new.items ≤ length steps.old.items + 1 }
 {
@@ -138,7 +138,7 @@ fn put_step(step: u32, steps: &mut Numbers)
 }
 
 /// The tasks between which arrows go, by their handles.
-pub fn tasks_in(ways: &[Way]) -> Numbers
+pub fn tasks_in(ways: &[Way]) -> NumberSet
     requires { length ways.now ≤ MOST_WAYS }
     ensures { result.items ≡ tasks_of (arrows_seen ways.now) }
 {
