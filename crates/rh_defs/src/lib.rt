@@ -31,7 +31,9 @@ pub use message::{
 };
 pub use name::Name;
 pub use pathname::Pathname;
-pub use question::{AreaItem, BlockItem, Numbers, Question, RecordItem, SegmentItem, State};
+pub use question::{
+    AreaItem, BlockItem, MOST_NUMBERS, Numbers, Question, RecordItem, SegmentItem, State,
+};
 pub use refusal::Refusal;
 pub use reply::{Outcome, Reply};
 pub use transfer::{Asked, Incoming, Outgoing, Sending, Taking};

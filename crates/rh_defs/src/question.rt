@@ -54,7 +54,7 @@ impl Question {
 }
 
 /// So many numbers stand in an answer's first line at most.
-const MOST_NUMBERS: usize = 3;
+pub const MOST_NUMBERS: usize = 3;
 
 /// What the first line of an answer tells.
 #[derive(Clone, Copy, Debug, PartialEq, Eq)]

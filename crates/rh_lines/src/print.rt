@@ -3,6 +3,7 @@
 ghost use Rattle.std.specs.Prelude.{◌≡◌, ◌≤◌, ◌++◌, ◌∷◌, [], ◌+◌, codes, length, map};
 ghost use Rattle.std.specs.Fmt.{decimal};
 ghost use Rattle.rh_defs.specs.Questions.{Nothing, each_of};
+ghost use Rattle.rh_defs.specs.declared.question.TheConstants.{MOST_NUMBERS};
 ghost use Rattle.rh_defs.specs.Messages.{code_number};
 ghost use Rattle.rh_defs.specs.Text.{address, ok, action_name, fault_text, first_line, outcome_words, refusal_name, rest_of_line};
 ghost use Rattle.rh_lines.specs.Flow.{Puts};
@@ -110,7 +111,7 @@ fn print_numbers<W: Sink>(numbers: &Numbers, writer: &mut W) -> Result<(), Write
 
 /// Ends the line with these numbers.
 fn add_numbers(numbers: &[u32], row: &mut Row)
-    requires few { length numbers.now ≤ 3 }
+    requires few { length numbers.now ≤ MOST_NUMBERS }
     requires room { length row.old ≤ 2 }
     ensures { row.new ≡ row.old ++ rest_of_line (map decimal numbers.now) }
 {
