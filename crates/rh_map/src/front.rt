@@ -65,7 +65,9 @@ impl Front {
     pub fn clear(&mut self)
         ensures { self.new ≡ [] }
     {
-        *self = Front::new();
+        self.len = 0;
+        self.lines = 0;
+        self.text = Unseen::new();
     }
 }
 
