@@ -1,10 +1,10 @@
 //! The commands of a script.
 
-ghost use Rattle.std.specs.Prelude.{◌≡◌};
+ghost use Rattle.std.specs.Prelude.{◌≡◌, true};
 ghost use Rattle.std.specs.Option.{option_map};
 ghost use Rattle.rh_defs.specs.Forms.{is_delta as is_delta_of};
 ghost use Rattle.rh_defs.specs.Grammar.{Maybe, Ref as RefForm};
-ghost use Rattle.rh_defs.specs.Named.{name_in};
+ghost use Rattle.rh_defs.specs.Named.{name_in, names_anchor};
 ghost use Rattle.rh_defs.specs.Range.{in_range as in_range_of, is_of};
 
 use crate::bytes::Bytes;
@@ -180,6 +180,44 @@ impl Command {
                 buffer,
                 manner: _,
             } => { name.is_valid() && *buffer >= 1 && *buffer <= LONGEST_BUFFER }
+            Command::Alloc { .. }
+            | Command::Load { .. }
+            | Command::Put { .. }
+            | Command::Free { .. }
+            | Command::Extend { .. }
+            | Command::Mid { .. }
+            | Command::Save { .. } => self.block_in_range(),
+            Command::Claim { name, size } => name.is_valid() && *size <= GREATEST_NUMBER,
+            Command::Resize {
+                name,
+                address: _,
+                delta,
+            } => name.is_valid() && is_delta(*delta),
+            Command::CancelIn { name, id } | Command::CancelOut { name, id } => {
+                name.is_valid() && is_id(*id)
+            }
+            Command::Area { number, delta } => *number <= LAST_AREA && is_delta(*delta),
+            Command::Make { most } => *most >= 1 && *most as usize <= MAX_PAGES,
+            Command::Remove { number } => *number >= FIRST_MADE && *number <= LAST_AREA,
+            Command::RmaClaim { size } => *size <= GREATEST_NUMBER,
+            Command::RmaResize { address: _, delta } => is_delta(*delta),
+            Command::RmaFree { address: _ } => true,
+            Command::Kill { name }
+            | Command::Release { name, address: _ }
+            | Command::Budge { name, on: _ }
+            | Command::Poll { name }
+            | Command::Repeat { name } => name.is_valid(),
+            Command::Ask(question) => question.in_range(),
+        }
+    }
+
+    /// The same of a command that names a flex block by its anchor.
+    #[tactic(auto, unfolding(crate::specs::Range::in_range))]
+    fn block_in_range(&self) -> bool
+        requires { names_anchor self.now ≡ true }
+        ensures { result ≡ in_range_of self.now }
+    {
+        match self {
             Command::Alloc { name, anchor, size } | Command::Extend { name, anchor, size } => {
                 name.is_valid() && anchor.is_valid() && *size <= GREATEST_NUMBER
             }
@@ -206,33 +244,13 @@ impl Command {
             } => {
                 name.is_valid() && anchor.is_valid() && *offset <= GREATEST_NUMBER && is_delta(*by)
             }
-            Command::Claim { name, size } => name.is_valid() && *size <= GREATEST_NUMBER,
-            Command::Resize {
-                name,
-                address: _,
-                delta,
-            } => name.is_valid() && is_delta(*delta),
             Command::Save {
                 name,
                 anchor,
                 to,
                 leaf,
             } => { name.is_valid() && anchor.is_valid() && to.is_valid() && leaf.is_valid() }
-            Command::CancelIn { name, id } | Command::CancelOut { name, id } => {
-                name.is_valid() && is_id(*id)
-            }
-            Command::Area { number, delta } => *number <= LAST_AREA && is_delta(*delta),
-            Command::Make { most } => *most >= 1 && *most as usize <= MAX_PAGES,
-            Command::Remove { number } => *number >= FIRST_MADE && *number <= LAST_AREA,
-            Command::RmaClaim { size } => *size <= GREATEST_NUMBER,
-            Command::RmaResize { address: _, delta } => is_delta(*delta),
-            Command::RmaFree { address: _ } => true,
-            Command::Kill { name }
-            | Command::Release { name, address: _ }
-            | Command::Budge { name, on: _ }
-            | Command::Poll { name }
-            | Command::Repeat { name } => name.is_valid(),
-            Command::Ask(question) => question.in_range(),
+            _ => unreachable!(),
         }
     }
 
