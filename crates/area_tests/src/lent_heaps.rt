@@ -148,7 +148,7 @@ fn a_run_of_lent_bytes_goes_up_to_their_end(rt: HostRuntime) -> Result<(), Fail>
 }
 
 #[test]
-#[tactic(auto, unfolding(rh_lent::specs::Lent::memory_of, rh_lent::specs::Lent::memory_over, rh_defs::specs::Memory::area_set, rh_defs::specs::Memory::bytes))]
+#[tactic(auto, unfolding(rh_lent::specs::Lent::lent_memory, rh_lent::specs::Lent::memory_over, rh_defs::specs::Memory::area_set, rh_defs::specs::Memory::bytes))]
 fn a_run_of_bytes_to_be_written_goes_up_to_their_end(rt: HostRuntime) -> Result<(), Fail> {
     let mut bytes = [1, 2, 3, 4, 5, 6, 7];
     let store = LentMut { bytes: &mut bytes };

@@ -20,7 +20,7 @@ pub(crate) fn plain_store(alloc: Global) -> Result<PlainStore, AllocError>
 
 /// A store whose areas are scattered pages of one region.
 pub(crate) fn paged_store(alloc: Global) -> Result<PagedStore, AllocError>
-    ensures { IfOk result (λ s. open_below (pages.memory_of s).area MAX_AREAS < MAX_AREAS) }
+    ensures { IfOk result (λ s. open_below (pages.paged_memory s).area MAX_AREAS < MAX_AREAS) }
 {
     let store = PagedStore::new(alloc, 64)?;
     Ok(store)

@@ -3,7 +3,7 @@
 ghost use Rattle.std.specs.Prelude.{◌≡◌, ◌*◌, ◌≤◌, length};
 ghost use Rattle.rh_defs.specs.Memory.{fresh};
 ghost use Rattle.rh_defs.specs.declared.sizes.TheConstants.{MAX_PAGES, MIN_PAGES, PAGE};
-ghost use Rattle.rh_pages.specs.Paged.{memory_of};
+ghost use Rattle.rh_pages.specs.Paged.{paged_memory};
 ghost use Rattle.rh_pages.specs.declared.table.TheConstants.{LISTS};
 
 use crate::same::same;
@@ -47,9 +47,9 @@ const SCRIPTS: [&str; 4] = [
 fn lent_store<'a>(bytes: &'a mut [u8], numbers: &'a mut [u16]) -> PagedStore<LentGround<'a>>
     requires bytes { length bytes.now ≡ PAGE * 64 }
     requires numbers { length numbers.now ≡ LISTS * 64 }
-    ensures fresh { memory_of result ≡ fresh (memory_of result).pages }
-    ensures least { MIN_PAGES ≤ (memory_of result).pages }
-    ensures most { (memory_of result).pages ≤ MAX_PAGES }
+    ensures fresh { paged_memory result ≡ fresh (paged_memory result).pages }
+    ensures least { MIN_PAGES ≤ (paged_memory result).pages }
+    ensures most { (paged_memory result).pages ≤ MAX_PAGES }
 {
     PagedStore::over(LentGround::new(bytes, numbers), 64)
 }

@@ -64,8 +64,8 @@ fn plain_store(alloc: Global) -> Result<PlainStore, AllocError>
 }
 
 fn paged_store(alloc: Global) -> Result<PagedStore, AllocError>
-    ensures fresh { IfOk result (λ s. pages.memory_of s ≡ fresh (pages.memory_of s).pages) }
-    ensures pages { IfOk result (λ s. (pages.memory_of s).pages ≡ 8) }
+    ensures fresh { IfOk result (λ s. pages.paged_memory s ≡ fresh (pages.paged_memory s).pages) }
+    ensures pages { IfOk result (λ s. (pages.paged_memory s).pages ≡ 8) }
 {
     let store = PagedStore::new(alloc, 8)?;
     Ok(store)

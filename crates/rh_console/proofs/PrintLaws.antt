@@ -5,18 +5,18 @@ use Rattle.std.specs.Prelude.{nat_le, drop, take, true, false, if◌then◌else�
 use borrow.Author.Tests.{tests}
 use Rattle.rh_lines.proofs.TextLemmas.{writes_all, wrote}
 use Rattle.rh_lines.specs.Flow.{Puts}
-use Rattle.rh_lines.specs.WholeText.{before_of, bytes_of, filled, output_of, text_of}
+use Rattle.rh_lines.specs.WholeText.{before_of, whole_bytes, filled, output_of, whole_text}
 use Rattle.rh_lines.specs.declared.whole_text.WholeText.{WholeText}
 use Rattle.rh_console.specs.Console.{Prints}
 
 -- all of a text was written into the bytes that were lent
 pub record Printed (old new : WholeText) (text : List ℕ) : Type 0 where
-  pub name : (bytes_of new).ghost_name ≡ (bytes_of old).ghost_name
+  pub name : (whole_bytes new).ghost_name ≡ (whole_bytes old).ghost_name
   pub before : before_of new ≡ before_of old
-  pub text_is : text_of new ≡ text
+  pub text_is : whole_text new ≡ text
 
 -- whatever printing it answers, as no write fails
-pub printed : {E : Type 0} (old new : WholeText) (r : Result Unit E) (text : List ℕ) → text_of old ≡ [] → Puts (output_of old) (output_of new) r text
+pub printed : {E : Type 0} (old new : WholeText) (r : Result Unit E) (text : List ℕ) → whole_text old ≡ [] → Puts (output_of old) (output_of new) r text
     → Printed old new text
 printed old new (Ok u) text none puts =
     let w = wrote puts.ok in

@@ -2,8 +2,8 @@
 use Rattle.std.specs.Prelude.{◌≡◌, ℕ, ◌-◌, nat_le, if◌then◌else◌, List, ◌++◌, length, take, drop, replicate, Option, Some, None}
 
 -- the old list with the items in place of its first ones, as many as it has room for
-abbrev pub filled : {A : Type 0} → List A → List A → List A
-filled items old = take (length old) items ++ drop (length items) old
+abbrev pub filled_front : {A : Type 0} → List A → List A → List A
+filled_front items old = take (length old) items ++ drop (length items) old
 
 -- the lent bytes with a text and zeros behind it, or as they are where they have no room for it
 abbrev pub with_text : List ℕ → List ℕ → List ℕ

@@ -2,7 +2,8 @@
 use Rattle.rh_defs.proofs.Common.{◌≡◌, ℕ, zero, suc, ◌+◌, ◌-◌, ◌%◌, ◌<◌, ◌≤◌, ◌≢◌, inl, inr, Bool, true, false, cond, eqb, List, [], ◌∷◌, ◌++◌, length, refl}
 use Rattle.rh_defs.proofs.Common.{sym, ap, subst, ◌∙◌, arith, append-nil, cases_eq, cases_lt, nat_tests, Option, Some, None, IfSome, option_map, total, Split}
 use Rattle.rh_defs.proofs.Common.{first_at, Segment, Used, Hole, Heap, size_of, bytes_of, with_hole, joined, hole_for, is_hole_for, block_at, is_block_at}
-use Rattle.rh_defs.proofs.Common.{placed, placed_in, release, release_found, part, put, IsTidy, Stand, Spells, HasRoom, length-put, block_bytes, poked, Puts}
+use Rattle.rh_defs.proofs.Common.{placed_block, placed_in, release_block, release_found, part, with_part, IsTidy, Stand, Spells, HasRoom, length-put}
+use Rattle.rh_defs.proofs.Common.{block_bytes, poked, PutsBlock}
 use Rattle.rh_defs.specs.Pieces as pieces
 use Rattle.rh_defs.proofs.HeapLists.{cond_true, cond_false, eqb_same, eqb_apart, IsCut, first_at-cuts, HasRoom-from_tidy}
 use Rattle.std.proofs.lemmas.Grind.{same_number_lists}
@@ -45,7 +46,7 @@ joined-blocks a p (Hole n ∷ ss) = with_hole-blocks a p n (joined ss) ∙ joine
 
 -- ---- a block that is put there
 in_hole : (bs : List ℕ) (xs ys : List Segment) (n r q : ℕ) → q ≡ 16 + total size_of xs → n ≡ 4 + length bs + r → (end end' : ℕ)
-    → Puts bs (record { segments = xs ++ Hole n ∷ ys; end = end }) (record { segments = xs ++ Used bs ∷ with_hole r ys; end = end' }) (q + 4)
+    → PutsBlock bs (record { segments = xs ++ Hole n ∷ ys; end = end }) (record { segments = xs ++ Used bs ∷ with_hole r ys; end = end' }) (q + 4)
 in_hole bs xs ys n r q eq en end end' =
     let old : (a : ℕ) → q + 4 ≤ a → bytes_at a 16 (xs ++ Hole n ∷ ys) ≡ bytes_at a (q + n) ys = λ a h. behind a 16 q xs (Hole n ∷ ys) eq h in
     let new : (a : ℕ) → q + 4 ≤ a → bytes_at a 16 (xs ++ Used bs ∷ with_hole r ys) ≡ bytes_at a q (Used bs ∷ with_hole r ys) =
@@ -61,7 +62,7 @@ in_hole bs xs ys n r q eq en end end' =
     }
 
 at_top : (bs : List ℕ) (xs : List Segment) (q : ℕ) → q ≡ 16 + total size_of xs → (end end' : ℕ)
-    → Puts bs (record { segments = xs; end = end }) (record { segments = xs ++ Used bs ∷ []; end = end' }) (q + 4)
+    → PutsBlock bs (record { segments = xs; end = end }) (record { segments = xs ++ Used bs ∷ []; end = end' }) (q + 4)
 at_top bs xs q eq end end' =
     let new : (a : ℕ) → q + 4 ≤ a → bytes_at a 16 (xs ++ Used bs ∷ []) ≡ bytes_at a q (Used bs ∷ []) = λ a h. behind a 16 q xs (Used bs ∷ []) eq h in
     record {
@@ -74,23 +75,24 @@ at_top bs xs q eq end end' =
     }
 
 fits_hole : (bs : List ℕ) (h : Heap) (s : Split Segment) → (g : Segment) → s.here ≡ g → h.segments ≡ s.before ++ g ∷ s.after
-    → is_hole_for (4 + length bs) (16 + total size_of s.before) g ≡ true → Puts bs h (placed_in bs h (Some s)).heap (placed_in bs h (Some s)).address
+    → is_hole_for (4 + length bs) (16 + total size_of s.before) g ≡ true → PutsBlock bs h (placed_in bs h (Some s)).heap (placed_in bs h (Some s)).address
 fits_hole bs h s (Used cs) eg e t = absurd cc
 fits_hole bs h s (Hole n) eg e t =
     let le : 4 + length bs ≤ n = grind (arith, nat_tests) in
     let p = in_hole bs s.before s.after n (n - (4 + length bs)) (16 + total size_of s.before) refl (omega arith) h.end h.end in
-    let q : Puts bs h (record { segments = s.before ++ Used bs ∷ with_hole (n - (4 + length bs)) s.after; end = h.end }) (16 + total size_of s.before + 4) =
-    subst (λ (l : List Segment). Puts bs (record { segments = l; end = h.end })
+    let q : PutsBlock bs h (record { segments = s.before ++ Used bs ∷ with_hole (n - (4 + length bs)) s.after; end = h.end })
+    (16 + total size_of s.before + 4) =
+    subst (λ (l : List Segment). PutsBlock bs (record { segments = l; end = h.end })
     (record { segments = s.before ++ Used bs ∷ with_hole (n - (4 + length bs)) s.after; end = h.end }) (16 + total size_of s.before + 4)) (sym e) p in
-    subst (λ (i : ℕ). Puts bs h (record { segments = s.before ++ Used bs ∷ with_hole (i - (4 + length bs)) s.after; end = h.end })
+    subst (λ (i : ℕ). PutsBlock bs h (record { segments = s.before ++ Used bs ∷ with_hole (i - (4 + length bs)) s.after; end = h.end })
     (16 + total size_of s.before + 4)) (sym (ap size_of eg)) q
 
 -- a block that is placed is a new one, and no other changes
-pub placed-puts : (bs : List ℕ) (h : Heap) → Puts bs h (placed bs h).heap (placed bs h).address
+pub placed-puts : (bs : List ℕ) (h : Heap) → PutsBlock bs h (placed_block bs h).heap (placed_block bs h).address
 placed-puts bs h = go (hole_for (4 + length bs) h.segments) (first_at-cuts size_of (is_hole_for (4 + length bs)) 16 h.segments)
   where
     go : (o : Option (Split Segment)) → IfSome o (IsCut size_of (is_hole_for (4 + length bs)) 16 h.segments)
-        → Puts bs h (placed_in bs h o).heap (placed_in bs h o).address
+        → PutsBlock bs h (placed_in bs h o).heap (placed_in bs h o).address
     go None c = at_top bs h.segments (16 + total size_of h.segments) refl h.end h.end
     go (Some s) c = fits_hole bs h s s.here refl c.whole c.passes
 
@@ -140,7 +142,7 @@ opened_up x q end xs ys ss bs eq ex es =
     }
 
 -- a block that is released is one no more, and no other changes
-pub release-frees : (x : ℕ) (h : Heap) → Frees x h (release x h)
+pub release-frees : (x : ℕ) (h : Heap) → Frees x h (release_block x h)
 release-frees x h = go (block_at x h) (block_at-bytes x h) (first_at-cuts size_of (is_block_at x) 16 h.segments)
   where
     go : (o : Option (Split Segment)) → bytes_here o ≡ block_bytes x h → IfSome o (IsCut size_of (is_block_at x) 16 h.segments) → Frees x h (release_found o h)
@@ -165,20 +167,20 @@ range_at a p (Hole n ∷ ss) bs e = let r = range_at a (p + n) ss bs e in (omega
 pub total-written : (a o : ℕ) (xs : List ℕ) (p : ℕ) (ss : List Segment) → total size_of (written_at a o xs p ss) ≡ total size_of ss
 total-written a o xs p [] = refl
 total-written a o xs p (Used bs ∷ ss) = elim (eqb a (p + 4)) as (λ t. total size_of
-    (cond t (Used (put bs o xs) ∷ ss) (Used bs ∷ written_at a o xs (p + (4 + length bs)) ss)) ≡ total size_of (Used bs ∷ ss)) [
+    (cond t (Used (with_part bs o xs) ∷ ss) (Used bs ∷ written_at a o xs (p + (4 + length bs)) ss)) ≡ total size_of (Used bs ∷ ss)) [
       | true ↦ omega (arith, length-put bs o xs)
       | false ↦ omega (arith, total-written a o xs (p + (4 + length bs)) ss)
     ]
 total-written a o xs p (Hole n ∷ ss) = omega (arith, total-written a o xs (p + n) ss)
 
 written-here : (a o : ℕ) (xs : List ℕ) (p : ℕ) (ss : List Segment) (bs : List ℕ) → bytes_at a p ss ≡ Some bs
-    → bytes_at a p (written_at a o xs p ss) ≡ Some (put bs o xs)
+    → bytes_at a p (written_at a o xs p ss) ≡ Some (with_part bs o xs)
 written-here a o xs p [] bs e = absurd cc
 written-here a o xs p (Used cs ∷ ss) bs e = elim (cases_eq a (p + 4)) [
   | inl q ↦ let t = eqb_same a (p + 4) q in
       let same : Some cs ≡ Some bs = sym (cond_true (eqb a (p + 4)) _ _ t) ∙ e in
       ap (bytes_at a p) (cond_true (eqb a (p + 4)) _ _ t) ∙ cond_true (eqb a (p + 4)) _ _ t
-      ∙ ap (λ (o' : Option (List ℕ)). option_map (λ l. put l o xs) o') same
+      ∙ ap (λ (o' : Option (List ℕ)). option_map (λ l. with_part l o xs) o') same
   | inr ne ↦ let f = eqb_apart a (p + 4) ne in
       ap (bytes_at a p) (cond_false (eqb a (p + 4)) _ _ f) ∙ cond_false (eqb a (p + 4)) _ _ f
       ∙ written-here a o xs (p + (4 + length cs)) ss bs (sym (cond_false (eqb a (p + 4)) _ _ f) ∙ e)
@@ -197,19 +199,19 @@ written-other a b o xs p (Used cs ∷ ss) ne = elim (cases_eq a (p + 4)) [
 written-other a b o xs p (Hole n ∷ ss) ne = written-other a b o xs (p + n) ss ne
 
 -- bytes that are written into a block change it alone
-pub poked-pokes : (a o : ℕ) (xs : List ℕ) (h : Heap) (bs : List ℕ) → block_bytes a h ≡ Some bs → Pokes a (put bs o xs) h (poked a o xs h)
+pub poked-pokes : (a o : ℕ) (xs : List ℕ) (h : Heap) (bs : List ℕ) → block_bytes a h ≡ Some bs → Pokes a (with_part bs o xs) h (poked a o xs h)
 poked-pokes a o xs h bs e = record { here = written-here a o xs 16 h.segments bs e; others = λ b ne. written-other a b o xs 16 h.segments ne }
 
 pub tidy-written : (f : Bool) (a o : ℕ) (xs : List ℕ) (p : ℕ) (ss : List Segment) → IsTidy f ss → IsTidy f (written_at a o xs p ss)
 tidy-written false a o xs p [] t = t
 tidy-written true a o xs p [] t = t
 tidy-written false a o xs p (Used bs ∷ ss) t =
-    elim (eqb a (p + 4)) as (λ b. IsTidy false (cond b (Used (put bs o xs) ∷ ss) (Used bs ∷ written_at a o xs (p + (4 + length bs)) ss))) [
+    elim (eqb a (p + 4)) as (λ b. IsTidy false (cond b (Used (with_part bs o xs) ∷ ss) (Used bs ∷ written_at a o xs (p + (4 + length bs)) ss))) [
       | true ↦ (ap (λ n. (4 + n) % 8) (length-put bs o xs) ∙ t.0, t.1)
       | false ↦ (t.0, tidy-written false a o xs (p + (4 + length bs)) ss t.1)
     ]
 tidy-written true a o xs p (Used bs ∷ ss) t =
-    elim (eqb a (p + 4)) as (λ b. IsTidy true (cond b (Used (put bs o xs) ∷ ss) (Used bs ∷ written_at a o xs (p + (4 + length bs)) ss))) [
+    elim (eqb a (p + 4)) as (λ b. IsTidy true (cond b (Used (with_part bs o xs) ∷ ss) (Used bs ∷ written_at a o xs (p + (4 + length bs)) ss))) [
       | true ↦ (ap (λ n. (4 + n) % 8) (length-put bs o xs) ∙ t.0, t.1)
       | false ↦ (t.0, tidy-written false a o xs (p + (4 + length bs)) ss t.1)
     ]
@@ -217,13 +219,14 @@ tidy-written false a o xs p (Hole n ∷ ss) t = (t.0, t.1, tidy-written true a o
 tidy-written true a o xs p (Hole n ∷ ss) t = absurd t
 
 -- a part with bytes written into it
-pub part-written : (b : List ℕ) (at n o : ℕ) (xs : List ℕ) → o + length xs ≤ n → at + n ≤ length b → part (put b (at + o) xs) at n ≡ put (part b at n) o xs
+pub part-written : (b : List ℕ) (at n o : ℕ) (xs : List ℕ) → o + length xs ≤ n → at + n ≤ length b → part (with_part b (at + o) xs) at n ≡ with_part
+    (part b at n) o xs
 part-written b at n o xs f w =
     let l = length-part b at n in
-    let m = length-part (put b (at + o) xs) at n in
+    let m = length-part (with_part b (at + o) xs) at n in
     let k = length-put (part b at n) o xs in
-    same_number_lists (part (put b (at + o) xs) at n) (put (part b at n) o xs) (omega arith)
-    (λ i h. let i-below : i < n = omega arith in get-part (put b (at + o) xs) at n i i-below ∙ elim (cases_lt i o) [
+    same_number_lists (part (with_part b (at + o) xs) at n) (with_part (part b at n) o xs) (omega arith)
+    (λ i h. let i-below : i < n = omega arith in get-part (with_part b (at + o) xs) at n i i-below ∙ elim (cases_lt i o) [
       | inl u ↦ put_below b (at + o) xs (at + i) (omega arith) ∙ sym (put_below (part b at n) o xs i u ∙ get-part b at n i i-below)
       | inr u ↦ elim (cases_lt i (o + length xs)) [
         | inl v ↦ put_inside b (at + o) xs (at + i) (i - o) (omega arith) (omega arith) (omega arith)
@@ -233,7 +236,7 @@ part-written b at n o xs f w =
     ])
 
 Stand-written : (b : List ℕ) (a o : ℕ) (xs : List ℕ) (f p : ℕ) (ss : List Segment) (bs : List ℕ) → HasRoom ss → bytes_at a p ss ≡ Some bs
-    → o + length xs ≤ length bs → p + total size_of ss ≤ length b → f + 4 ≤ p → Stand b f p ss → Stand (put b (a + o) xs) f p (written_at a o xs p ss)
+    → o + length xs ≤ length bs → p + total size_of ss ≤ length b → f + 4 ≤ p → Stand b f p ss → Stand (with_part b (a + o) xs) f p (written_at a o xs p ss)
 Stand-written b a o xs f p [] bs r e i w l s = absurd cc
 Stand-written b a o xs f p (Used cs ∷ ss) bs r e i w l s = elim (cases_eq a (p + 4)) [
   | inl q ↦
@@ -242,19 +245,19 @@ Stand-written b a o xs f p (Used cs ∷ ss) bs r e i w l s = elim (cases_eq a (p
       let here : cs ≡ bs = cc in
       let n = ap length here in
       let len = length-put cs o xs in
-      subst (Stand (put b (a + o) xs) f p) (sym (cond_true (eqb a (p + 4)) _ _ t)) (
+      subst (Stand (with_part b (a + o) xs) f p) (sym (cond_true (eqb a (p + 4)) _ _ t)) (
         word-put_below b (a + o) xs p (omega arith) ∙ s.0 ∙ ap (λ k. 4 + k) (sym len),
-        ap (λ k. part (put b (a + o) xs) (p + 4) k) len ∙ ap (λ k. part (put b (k + o) xs) (p + 4) (length cs)) q
-            ∙ part-written b (p + 4) (length cs) o xs (omega arith) (omega arith) ∙ ap (λ l'. put l' o xs) s.1,
-        subst (λ k. Stand (put b (a + o) xs) f (p + (4 + k)) ss) (sym len)
-            (Stand-kept b (put b (a + o) xs) f (p + (4 + length cs)) ss r (word-put_below b (a + o) xs f (omega arith))
+        ap (λ k. part (with_part b (a + o) xs) (p + 4) k) len ∙ ap (λ k. part (with_part b (k + o) xs) (p + 4) (length cs)) q
+            ∙ part-written b (p + 4) (length cs) o xs (omega arith) (omega arith) ∙ ap (λ l'. with_part l' o xs) s.1,
+        subst (λ k. Stand (with_part b (a + o) xs) f (p + (4 + k)) ss) (sym len)
+            (Stand-kept b (with_part b (a + o) xs) f (p + (4 + length cs)) ss r (word-put_below b (a + o) xs f (omega arith))
             (record { each = λ k lo hi. put_above b (a + o) xs k (omega arith) }) s.2),
       )
   | inr ne ↦
       let t = eqb_apart a (p + 4) ne in
       let e' : bytes_at a (p + (4 + length cs)) ss ≡ Some bs = sym (cond_false (eqb a (p + 4)) _ _ t) ∙ e in
       let g = range_at a (p + (4 + length cs)) ss bs e' in
-      subst (Stand (put b (a + o) xs) f p) (sym (cond_false (eqb a (p + 4)) _ _ t)) (
+      subst (Stand (with_part b (a + o) xs) f p) (sym (cond_false (eqb a (p + 4)) _ _ t)) (
         word-put_below b (a + o) xs p (omega arith) ∙ s.0,
         part-put_below b (a + o) xs (p + 4) (length cs) (omega arith) ∙ s.1,
         Stand-written b a o xs f (p + (4 + length cs)) ss bs r e' i (omega arith) (omega arith) s.2,
@@ -270,7 +273,7 @@ Stand-written b a o xs f p (Hole n ∷ ss) bs r e i w l s =
 
 -- bytes written inside a block leave a heap that is spelled, with that block changed alone
 pub Spells-written : (b : List ℕ) (h : Heap) (a o : ℕ) (xs bs : List ℕ) → Spells b 0 h → block_bytes a h ≡ Some bs → o + length xs ≤ length bs
-    → Spells (put b (a + o) xs) 0 (poked a o xs h)
+    → Spells (with_part b (a + o) xs) 0 (poked a o xs h)
 Spells-written b h a o xs bs s e i =
     let t = total-written a o xs 16 h.segments in
     let g = range_at a 16 h.segments bs e in
@@ -286,7 +289,7 @@ Spells-written b h a o xs bs s e i =
     }
 
 pub IsImage-written : (b : List ℕ) (h : Heap) (a o : ℕ) (xs bs : List ℕ) → IsImage b h → block_bytes a h ≡ Some bs → o + length xs ≤ length bs
-    → IsImage (put b (a + o) xs) (poked a o xs h)
+    → IsImage (with_part b (a + o) xs) (poked a o xs h)
 IsImage-written b h a o xs bs s e i = record { whole = length-put b (a + o) xs ∙ s.whole; spells = Spells-written b h a o xs bs s.spells e i }
 
 -- two writes into one block, the second where the first ends
@@ -296,7 +299,7 @@ written-row a o q xs ys p [] e = refl
 written-row a o q xs ys p (Used bs ∷ ss) e = elim (cases_eq a (p + 4)) [
   | inl z ↦ let t = eqb_same a (p + 4) z in
       ap (written_at a q ys p) (cond_true (eqb a (p + 4)) _ _ t) ∙ cond_true (eqb a (p + 4)) _ _ t
-      ∙ ap (λ l. Used l ∷ ss) (ap (λ k. put (put bs o xs) k ys) e ∙ sym (put_more bs o xs ys)) ∙ sym (cond_true (eqb a (p + 4)) _ _ t)
+      ∙ ap (λ l. Used l ∷ ss) (ap (λ k. with_part (with_part bs o xs) k ys) e ∙ sym (put_more bs o xs ys)) ∙ sym (cond_true (eqb a (p + 4)) _ _ t)
   | inr ne ↦ let f = eqb_apart a (p + 4) ne in
       ap (written_at a q ys p) (cond_false (eqb a (p + 4)) _ _ f) ∙ cond_false (eqb a (p + 4)) _ _ f
       ∙ ap (λ l. Used bs ∷ l) (written-row a o q xs ys (p + (4 + length bs)) ss e) ∙ sym (cond_false (eqb a (p + 4)) _ _ f)
@@ -309,7 +312,7 @@ poked-row a o q xs ys h e = ap (λ (l : List Segment). let k : Heap = record { s
 pub has-poked : (a n o : ℕ) (xs : List ℕ) (h : Heap) → HasBlock a n h → HasBlock a n (poked a o xs h)
 has-poked a n o xs h b =
     record {
-      bytes = put b.bytes o xs;
+      bytes = with_part b.bytes o xs;
       found = (poked-pokes a o xs h b.bytes b.found).here;
       room = (let r = b.room in omega (arith, length-put b.bytes o xs));
     }
@@ -325,7 +328,7 @@ block-above a h bs e = let r = range_at a 16 h.segments bs e in r.0
 
 -- ---- a block that is released was written in vain
 abbrev poked_cut : ℕ → List ℕ → Split Segment → Split Segment
-poked_cut o xs s = record { before = s.before; here = Used (put (bytes_of s.here) o xs); after = s.after }
+poked_cut o xs s = record { before = s.before; here = Used (with_part (bytes_of s.here) o xs); after = s.after }
 
 poked-behind : (o : ℕ) (xs : List ℕ) (g : Segment) (q : Option (Split Segment))
     → option_map (pieces.behind g) (option_map (poked_cut o xs) q) ≡ option_map (poked_cut o xs) (option_map (pieces.behind g) q)
@@ -348,7 +351,7 @@ first-poked a o xs p (Used bs ∷ ss) = elim (cases_eq a (p + 4)) [
       ∙ sym (ap (option_map (poked_cut o xs)) (cond_false (eqb a (p + 4)) _ _ f))
 ]
 
-pub release-poked : (a o : ℕ) (xs : List ℕ) (h : Heap) (bs : List ℕ) → block_bytes a h ≡ Some bs → release a (poked a o xs h) ≡ release a h
+pub release-poked : (a o : ℕ) (xs : List ℕ) (h : Heap) (bs : List ℕ) → block_bytes a h ≡ Some bs → release_block a (poked a o xs h) ≡ release_block a h
 release-poked a o xs h bs e = ap (λ q. release_found q (poked a o xs h)) (first-poked a o xs 16 h.segments)
     ∙ go (block_at a h) (block_at-bytes a h) (first_at-cuts size_of (is_block_at a) 16 h.segments)
   where
@@ -357,6 +360,6 @@ release-poked a o xs h bs e = ap (λ q. release_found q (poked a o xs h)) (first
     go None f c = absurd (let bad : None ≡ Some bs = f ∙ e in cc)
     go (Some s) f c =
         let b = block_cut a (16 + total size_of s.before) s.here c.passes in
-        let n : 4 + length (put (bytes_of s.here) o xs) ≡ size_of s.here =
+        let n : 4 + length (with_part (bytes_of s.here) o xs) ≡ size_of s.here =
         ap (λ k. 4 + k) (length-put (bytes_of s.here) o xs ∙ ap (λ g. length (bytes_of g)) b.1) ∙ sym (ap size_of b.1) in
         ap (λ (k : ℕ). let r : Heap = record { segments = joined (s.before ++ Hole k ∷ s.after); end = h.end } in r) n

@@ -1,5 +1,6 @@
 -- Worked blocks of a heap by their addresses: the definitions compute these answers.
-use Rattle.rh_defs.proofs.Common.{◌≡◌, refl, [], ◌∷◌, Some, None, Ok, put, zeros, Used, Hole, Heap, block_room, block_bytes, poked, module_claim, module_free}
+use Rattle.rh_defs.proofs.Common.{◌≡◌, refl, [], ◌∷◌, Some, None, Ok, with_part, zeros, Used, Hole, Heap, block_room, block_bytes, poked, module_claim}
+use Rattle.rh_defs.proofs.Common.{module_free}
 use Rattle.rh_defs.specs.Chain as chain
 use Rattle.rh_defs.specs.Module as module_area
 
@@ -30,5 +31,5 @@ freed = refl
 
 -- two bytes from offset 1 on
 pub written : poked 36 1 (9 ∷ 10 ∷ []) two_blocks ≡ record two_blocks { segments = Used (1 ∷ 2 ∷ 3 ∷ 4 ∷ []) ∷ Hole 8 ∷ Used (5 ∷ 9 ∷ 10 ∷ 8 ∷ []) ∷ [] }
-unfolding put
+unfolding with_part
 written = refl

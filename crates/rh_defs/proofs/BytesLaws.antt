@@ -11,11 +11,11 @@ use Rattle.std.proofs.lemmas.Nat.{from_le_bytes-to_le_bytes_4}
 use Rattle.std.proofs.lemmas.Bool.{cases_lt}
 use Rattle.std.specs.Int.{w32, to_le_bytes}
 use Rattle.std.specs.List.{slice_range}
-use Rattle.rh_defs.specs.Bytes.{word, part, put, put_word, SameIn, SameOutside}
+use Rattle.rh_defs.specs.Bytes.{word, part, with_part, put_word, SameIn, SameOutside}
 
 -- lengths
-pub length-put : (b : List ℕ) (at : ℕ) (xs : List ℕ) → length (put b at xs) ≡ length b
-unfolding put
+pub length-put : (b : List ℕ) (at : ℕ) (xs : List ℕ) → length (with_part b at xs) ≡ length b
+unfolding with_part
 length-put b at [] = refl
 length-put b at (x ∷ xs) = length-put (set b at x) (at + 1) xs ∙ length-set b at x
 
@@ -29,22 +29,22 @@ length-part b at zero = refl
 length-part b at (suc n) = ap suc (length-part b (at + 1) n)
 
 -- single bytes after a write
-pub put_below : (b : List ℕ) (at : ℕ) (xs : List ℕ) (k : ℕ) → k < at → get_or (put b at xs) k 0 ≡ get_or b k 0
-unfolding put
+pub put_below : (b : List ℕ) (at : ℕ) (xs : List ℕ) (k : ℕ) → k < at → get_or (with_part b at xs) k 0 ≡ get_or b k 0
+unfolding with_part
 put_below b at [] k h = refl
 put_below b at (x ∷ xs) k h =
     let other : k ≢ at = omega arith in
     put_below (set b at x) (at + 1) xs k (omega arith) ∙ get_or-set_other b at k x 0 other
 
-pub put_above : (b : List ℕ) (at : ℕ) (xs : List ℕ) (k : ℕ) → at + length xs ≤ k → get_or (put b at xs) k 0 ≡ get_or b k 0
-unfolding put
+pub put_above : (b : List ℕ) (at : ℕ) (xs : List ℕ) (k : ℕ) → at + length xs ≤ k → get_or (with_part b at xs) k 0 ≡ get_or b k 0
+unfolding with_part
 put_above b at [] k h = refl
 put_above b at (x ∷ xs) k h =
     let other : k ≢ at = omega arith in
     put_above (set b at x) (at + 1) xs k (omega arith) ∙ get_or-set_other b at k x 0 other
 
-pub put_inside : (b : List ℕ) (at : ℕ) (xs : List ℕ) (j k : ℕ) → k < length xs → j ≡ at + k → at + k < length b → get_or (put b at xs) j 0 ≡ get_or xs k 0
-unfolding put
+pub put_inside : (b : List ℕ) (at : ℕ) (xs : List ℕ) (j k : ℕ) → k < length xs → j ≡ at + k → at + k < length b → get_or (with_part b at xs) j 0 ≡ get_or xs k 0
+unfolding with_part
 put_inside b at [] j k h e l = absurd (omega arith)
 put_inside b at (x ∷ xs) j zero h e l =
     put_below (set b at x) (at + 1) xs j (omega arith) ∙ rw (let q : j ≡ at = omega arith in q) (get_or-set_same b at x 0 (omega arith))
@@ -95,16 +95,16 @@ word-put_word b p w h lt =
     rw (e0, e1, e2, e3) (from_le_bytes-to_le_bytes_4 w lt)
 
 -- words elsewhere stay
-pub word-put_below : (b : List ℕ) (at : ℕ) (xs : List ℕ) (p : ℕ) → p + 4 ≤ at → word (put b at xs) p ≡ word b p
-word-put_below b at xs p h = word_same b (put b at xs) p (record { each = λ k lo hi. put_below b at xs k (omega arith) })
+pub word-put_below : (b : List ℕ) (at : ℕ) (xs : List ℕ) (p : ℕ) → p + 4 ≤ at → word (with_part b at xs) p ≡ word b p
+word-put_below b at xs p h = word_same b (with_part b at xs) p (record { each = λ k lo hi. put_below b at xs k (omega arith) })
 
-pub word-put_above : (b : List ℕ) (at : ℕ) (xs : List ℕ) (p : ℕ) → at + length xs ≤ p → word (put b at xs) p ≡ word b p
-word-put_above b at xs p h = word_same b (put b at xs) p (record { each = λ k lo hi. put_above b at xs k (omega arith) })
+pub word-put_above : (b : List ℕ) (at : ℕ) (xs : List ℕ) (p : ℕ) → at + length xs ≤ p → word (with_part b at xs) p ≡ word b p
+word-put_above b at xs p h = word_same b (with_part b at xs) p (record { each = λ k lo hi. put_above b at xs k (omega arith) })
 
 -- a word inside what was written
 pub word-put_inside : (b : List ℕ) (at : ℕ) (xs : List ℕ) (p k : ℕ) → p ≡ at + k → k + 4 ≤ length xs → at + length xs ≤ length b
-    → word (put b at xs) p ≡ word xs k
-word-put_inside b at xs p k e h l = words_same xs (put b at xs) k p (λ j i. put_inside b at xs (p + j) (k + j) (omega arith) (omega arith) (omega arith))
+    → word (with_part b at xs) p ≡ word xs k
+word-put_inside b at xs p k e h l = words_same xs (with_part b at xs) k p (λ j i. put_inside b at xs (p + j) (k + j) (omega arith) (omega arith) (omega arith))
 
 pub word-put_word_below : (b : List ℕ) (at w p : ℕ) → p + 4 ≤ at → word (put_word b at w) p ≡ word b p
 unfolding put_word
@@ -123,20 +123,21 @@ unfolding put_word
 get-put_word_above b at w k h = put_above b at (to_le_bytes w32 w) k (omega arith)
 
 -- ranges after a write
-pub part-put : (b : List ℕ) (at : ℕ) (xs : List ℕ) (n : ℕ) → n ≡ length xs → at + n ≤ length b → part (put b at xs) at n ≡ xs
-part-put b at xs n e h = same_number_lists (part (put b at xs) at n) xs (length-part (put b at xs) at n ∙ e)
-    (λ k l. let i : k < n = omega (arith, length-part (put b at xs) at n) in
-    get-part (put b at xs) at n k i ∙ put_inside b at xs (at + k) k (omega arith) refl (omega arith))
+pub part-put : (b : List ℕ) (at : ℕ) (xs : List ℕ) (n : ℕ) → n ≡ length xs → at + n ≤ length b → part (with_part b at xs) at n ≡ xs
+part-put b at xs n e h = same_number_lists (part (with_part b at xs) at n) xs (length-part (with_part b at xs) at n ∙ e)
+    (λ k l. let i : k < n = omega (arith, length-part (with_part b at xs) at n) in
+    get-part (with_part b at xs) at n k i ∙ put_inside b at xs (at + k) k (omega arith) refl (omega arith))
 
-pub part-put_below : (b : List ℕ) (at : ℕ) (xs : List ℕ) (p n : ℕ) → p + n ≤ at → part (put b at xs) p n ≡ part b p n
-part-put_below b at xs p n h = part_same b (put b at xs) p n (record { each = λ k lo hi. put_below b at xs k (omega arith) })
+pub part-put_below : (b : List ℕ) (at : ℕ) (xs : List ℕ) (p n : ℕ) → p + n ≤ at → part (with_part b at xs) p n ≡ part b p n
+part-put_below b at xs p n h = part_same b (with_part b at xs) p n (record { each = λ k lo hi. put_below b at xs k (omega arith) })
 
-pub part-put_above : (b : List ℕ) (at : ℕ) (xs : List ℕ) (p n : ℕ) → at + length xs ≤ p → part (put b at xs) p n ≡ part b p n
-part-put_above b at xs p n h = part_same b (put b at xs) p n (record { each = λ k lo hi. put_above b at xs k (omega arith) })
+pub part-put_above : (b : List ℕ) (at : ℕ) (xs : List ℕ) (p n : ℕ) → at + length xs ≤ p → part (with_part b at xs) p n ≡ part b p n
+part-put_above b at xs p n h = part_same b (with_part b at xs) p n (record { each = λ k lo hi. put_above b at xs k (omega arith) })
 
 pub part-put_inside : (b : List ℕ) (at : ℕ) (xs : List ℕ) (p k n : ℕ) → p ≡ at + k → k + n ≤ length xs → at + length xs ≤ length b
-    → part (put b at xs) p n ≡ part xs k n
-part-put_inside b at xs p k n e h l = parts_same xs (put b at xs) k p n (λ j i. put_inside b at xs (p + j) (k + j) (omega arith) (omega arith) (omega arith))
+    → part (with_part b at xs) p n ≡ part xs k n
+part-put_inside b at xs p k n e h l = parts_same xs (with_part b at xs) k p n
+    (λ j i. put_inside b at xs (p + j) (k + j) (omega arith) (omega arith) (omega arith))
 
 pub part-put_word_below : (b : List ℕ) (at w p n : ℕ) → p + n ≤ at → part (put_word b at w) p n ≡ part b p n
 unfolding put_word
@@ -147,13 +148,13 @@ unfolding put_word
 part-put_word_above b at w p n h = part-put_above b at (to_le_bytes w32 w) p n (omega arith)
 
 -- zeros
-pub part-put_zeros : (b : List ℕ) (at n : ℕ) → at + n ≤ length b → part (put b at (replicate n 0)) at n ≡ replicate n 0
+pub part-put_zeros : (b : List ℕ) (at n : ℕ) → at + n ≤ length b → part (with_part b at (replicate n 0)) at n ≡ replicate n 0
 part-put_zeros b at n h = part-put b at (replicate n 0) n (sym (length-replicate n 0)) h
 
-pub put_zeros_below : (b : List ℕ) (at n k : ℕ) → k < at → get_or (put b at (replicate n 0)) k 0 ≡ get_or b k 0
+pub put_zeros_below : (b : List ℕ) (at n k : ℕ) → k < at → get_or (with_part b at (replicate n 0)) k 0 ≡ get_or b k 0
 put_zeros_below b at n k h = put_below b at (replicate n 0) k h
 
-pub put_zeros_above : (b : List ℕ) (at n k : ℕ) → at + n ≤ k → get_or (put b at (replicate n 0)) k 0 ≡ get_or b k 0
+pub put_zeros_above : (b : List ℕ) (at n k : ℕ) → at + n ≤ k → get_or (with_part b at (replicate n 0)) k 0 ≡ get_or b k 0
 put_zeros_above b at n k h = put_above b at (replicate n 0) k (omega (arith, length-replicate {A = ℕ} n 0))
 
 zero_at : (n k : ℕ) → k < n → ◌≡◌ {A = ℕ} (get_or (replicate n 0) k 0) 0
@@ -185,18 +186,18 @@ part_more b at (suc n) k =
     let e : suc n + k ≡ suc (n + k) = omega arith in
     rw e (ap (λ l. get_or b at 0 ∷ l) (part_more b (at + 1) n k ∙ ap (λ j. part b (at + 1) n ++ part b j k) (omega arith)))
 
-pub put_more : (b : List ℕ) (at : ℕ) (xs ys : List ℕ) → put b at (xs ++ ys) ≡ put (put b at xs) (at + length xs) ys
-unfolding put
-put_more b at [] ys = ap (λ j. put b j ys) (omega arith)
-put_more b at (x ∷ xs) ys = put_more (set b at x) (at + 1) xs ys ∙ ap (λ j. put (put (set b at x) (at + 1) xs) j ys) (omega arith)
+pub put_more : (b : List ℕ) (at : ℕ) (xs ys : List ℕ) → with_part b at (xs ++ ys) ≡ with_part (with_part b at xs) (at + length xs) ys
+unfolding with_part
+put_more b at [] ys = ap (λ j. with_part b j ys) (omega arith)
+put_more b at (x ∷ xs) ys = put_more (set b at x) (at + 1) xs ys ∙ ap (λ j. with_part (with_part (set b at x) (at + 1) xs) j ys) (omega arith)
 
 -- nothing read or written
 pub part_none : (b : List ℕ) (at : ℕ) → part b at 0 ≡ []
 unfolding part
 part_none b at = refl
 
-pub put_none : (b : List ℕ) (at : ℕ) → put b at [] ≡ b
-unfolding put
+pub put_none : (b : List ℕ) (at : ℕ) → with_part b at [] ≡ b
+unfolding with_part
 put_none b at = refl
 
 -- all bytes
@@ -207,7 +208,7 @@ part_all b = same_number_lists (part b 0 (length b)) b (length-part b 0 (length 
 -- a byte of a written list, by where it lies
 get-put : (b : List ℕ) (at : ℕ) (xs ys : List ℕ) (k : ℕ) → at + length xs ≤ length b → (k < at → get_or b k 0 ≡ get_or ys k 0)
     → ((j : ℕ) → j < length xs → k ≡ at + j → get_or xs j 0 ≡ get_or ys k 0)
-    → (at + length xs ≤ k → get_or b k 0 ≡ get_or ys k 0) → get_or (put b at xs) k 0 ≡ get_or ys k 0
+    → (at + length xs ≤ k → get_or b k 0 ≡ get_or ys k 0) → get_or (with_part b at xs) k 0 ≡ get_or ys k 0
 get-put b at xs ys k h below inside above = elim (cases_lt k at) [
   | inl l ↦ put_below b at xs k l ∙ below l
   | inr g ↦ elim (cases_lt k (at + length xs)) [
@@ -217,59 +218,63 @@ get-put b at xs ys k h below inside above = elim (cases_lt k at) [
 ]
 
 -- what stands there, written again
-pub put-part : (b : List ℕ) (at n : ℕ) → at + n ≤ length b → put b at (part b at n) ≡ b
+pub put-part : (b : List ℕ) (at n : ℕ) → at + n ≤ length b → with_part b at (part b at n) ≡ b
 put-part b at n h =
     let len = length-part b at n in
-    same_number_lists (put b at (part b at n)) b (length-put b at (part b at n))
+    same_number_lists (with_part b at (part b at n)) b (length-put b at (part b at n))
     (λ k l. get-put b at (part b at n) b k (omega arith) (λ i. refl) (λ j i e. get-part b at n j (omega arith) ∙ get_at b (at + j) k (omega arith)) (λ i. refl))
 
 -- a longer write hides a shorter one
-pub put-put : (b : List ℕ) (at : ℕ) (xs ys : List ℕ) → length xs ≤ length ys → at + length ys ≤ length b → put (put b at xs) at ys ≡ put b at ys
+pub put-put : (b : List ℕ) (at : ℕ) (xs ys : List ℕ) → length xs ≤ length ys → at + length ys ≤ length b → with_part (with_part b at xs) at ys
+    ≡ with_part b at ys
 put-put b at xs ys h l =
     let len = length-put b at xs in
-    same_number_lists (put (put b at xs) at ys) (put b at ys) (length-put (put b at xs) at ys ∙ len ∙ sym (length-put b at ys))
-    (λ k i. get-put (put b at xs) at ys (put b at ys) k (omega arith)
+    same_number_lists (with_part (with_part b at xs) at ys) (with_part b at ys) (length-put (with_part b at xs) at ys ∙ len ∙ sym (length-put b at ys))
+    (λ k i. get-put (with_part b at xs) at ys (with_part b at ys) k (omega arith)
     (λ j. put_below b at xs k j ∙ sym (put_below b at ys k j))
     (λ j n e. sym (put_inside b at ys k j n e (omega arith)))
     (λ j. put_above b at xs k (omega arith) ∙ sym (put_above b at ys k j)))
 
 -- two writes apart, in either order
 pub put_apart : (b : List ℕ) (p : ℕ) (xs : List ℕ) (q : ℕ) (ys : List ℕ) → p + length xs ≤ q → q + length ys ≤ length b
-    → put (put b p xs) q ys ≡ put (put b q ys) p xs
+    → with_part (with_part b p xs) q ys ≡ with_part (with_part b q ys) p xs
 put_apart b p xs q ys h l =
     let left = length-put b p xs in
     let right = length-put b q ys in
-    same_number_lists (put (put b p xs) q ys) (put (put b q ys) p xs) (length-put (put b p xs) q ys ∙ left ∙ sym right ∙ sym (length-put (put b q ys) p xs))
-    (λ k i. get-put (put b p xs) q ys (put (put b q ys) p xs) k (omega arith)
-    (λ j. sym (get-put (put b q ys) p xs (put b p xs) k (omega arith)
+    same_number_lists (with_part (with_part b p xs) q ys) (with_part (with_part b q ys) p xs)
+    (length-put (with_part b p xs) q ys ∙ left ∙ sym right ∙ sym (length-put (with_part b q ys) p xs))
+    (λ k i. get-put (with_part b p xs) q ys (with_part (with_part b q ys) p xs) k (omega arith)
+    (λ j. sym (get-put (with_part b q ys) p xs (with_part b p xs) k (omega arith)
     (λ n. put_below b q ys k j ∙ sym (put_below b p xs k n))
     (λ n m e. sym (put_inside b p xs k n m e (omega arith)))
     (λ n. put_below b q ys k j ∙ sym (put_above b p xs k n))))
-    (λ j n e. sym (put_above (put b q ys) p xs k (omega arith) ∙ put_inside b q ys k j n e (omega arith)))
-    (λ j. put_above b p xs k (omega arith) ∙ sym (put_above (put b q ys) p xs k (omega arith) ∙ put_above b q ys k j)))
+    (λ j n e. sym (put_above (with_part b q ys) p xs k (omega arith) ∙ put_inside b q ys k j n e (omega arith)))
+    (λ j. put_above b p xs k (omega arith) ∙ sym (put_above (with_part b q ys) p xs k (omega arith) ∙ put_above b q ys k j)))
 
 -- a write before another that begins where it ends
 pub put_before : (b : List ℕ) (at : ℕ) (xs ys : List ℕ) (n : ℕ) → n ≡ length xs → at + n + length ys ≤ length b
-    → put (put b (at + n) ys) at xs ≡ put b at (xs ++ ys)
-put_before b at xs ys n e h = sym (put_apart b at xs (at + n) ys (omega arith) h) ∙ ap (λ k. put (put b at xs) (at + k) ys) e ∙ sym (put_more b at xs ys)
+    → with_part (with_part b (at + n) ys) at xs ≡ with_part b at (xs ++ ys)
+put_before b at xs ys n e h = sym (put_apart b at xs (at + n) ys (omega arith) h) ∙ ap (λ k. with_part (with_part b at xs) (at + k) ys) e ∙ sym
+    (put_more b at xs ys)
 
 -- the steps of a slide in parts: towards lower offsets from the lower end on, towards higher ones from the upper end
 pub slide_down : (b : List ℕ) (from to d n : ℕ) → to ≤ from → from + d + n ≤ length b
-    → put (put b to (part b from d)) (to + d) (part (put b to (part b from d)) (from + d) n) ≡ put b to (part b from (d + n))
+    → with_part (with_part b to (part b from d)) (to + d) (part (with_part b to (part b from d)) (from + d) n) ≡ with_part b to (part b from (d + n))
 slide_down b from to d n low h =
     let len = length-part b from d in
-    ap (put (put b to (part b from d)) (to + d)) (part-put_above b to (part b from d) (from + d) n (omega arith))
-    ∙ ap (λ k. put (put b to (part b from d)) (to + k) (part b (from + d) n)) (sym len)
+    ap (with_part (with_part b to (part b from d)) (to + d)) (part-put_above b to (part b from d) (from + d) n (omega arith))
+    ∙ ap (λ k. with_part (with_part b to (part b from d)) (to + k) (part b (from + d) n)) (sym len)
     ∙ sym (put_more b to (part b from d) (part b (from + d) n))
-    ∙ ap (put b to) (sym (part_more b from d n))
+    ∙ ap (with_part b to) (sym (part_more b from d n))
 
 pub slide_up : (b : List ℕ) (from to n d : ℕ) → from ≤ to → to + n + d ≤ length b
-    → put (put b (to + n) (part b (from + n) d)) to (part (put b (to + n) (part b (from + n) d)) from n) ≡ put b to (part b from (n + d))
+    → with_part (with_part b (to + n) (part b (from + n) d)) to (part (with_part b (to + n) (part b (from + n) d)) from n) ≡ with_part b to
+    (part b from (n + d))
 slide_up b from to n d low h =
     let len = length-part b (from + n) d in
-    ap (put (put b (to + n) (part b (from + n) d)) to) (part-put_below b (to + n) (part b (from + n) d) from n (omega arith))
+    ap (with_part (with_part b (to + n) (part b (from + n) d)) to) (part-put_below b (to + n) (part b (from + n) d) from n (omega arith))
     ∙ put_before b to (part b from n) (part b (from + n) d) n (sym (length-part b from n)) (omega arith)
-    ∙ ap (put b to) (sym (part_more b from n d))
+    ∙ ap (with_part b to) (sym (part_more b from n d))
 
 -- the first bytes of a longer list
 pub word-append_left : (b c : List ℕ) (p : ℕ) → p + 4 ≤ length b → word (b ++ c) p ≡ word b p
@@ -293,13 +298,13 @@ pub part-take : (n : ℕ) (b : List ℕ) (p k : ℕ) → p + k ≤ n → part (t
 part-take n b p k h = part_same b (take n b) p k (record { each = λ j lo hi. get_or-take n b j 0 (omega arith) })
 
 -- a write to one of two joined lists
-put-sets : (b : List ℕ) (at : ℕ) (xs : List ℕ) → put b at xs ≡ sets b at xs
-unfolding put
+put-sets : (b : List ℕ) (at : ℕ) (xs : List ℕ) → with_part b at xs ≡ sets b at xs
+unfolding with_part
 put-sets b at [] = refl
 put-sets b at (x ∷ xs) = put-sets (set b at x) (at + 1) xs ∙ ap (λ i. sets (set b at x) i xs) (omega arith)
 
 -- bridges: a write and a range by what `take` and `drop` give
-pub put-parts : (b : List ℕ) (at : ℕ) (xs : List ℕ) → at + length xs ≤ length b → put b at xs ≡ take at b ++ (xs ++ drop (at + length xs) b)
+pub put-parts : (b : List ℕ) (at : ℕ) (xs : List ℕ) → at + length xs ≤ length b → with_part b at xs ≡ take at b ++ (xs ++ drop (at + length xs) b)
 put-parts b at xs h = put-sets b at xs ∙ sets-eq xs b at h ∙ append_assoc (take at b) xs (drop (at + length xs) b)
 
 pub part-drop : (b : List ℕ) (at n : ℕ) → at + n ≤ length b → part b at n ≡ take n (drop at b)
@@ -310,10 +315,10 @@ part-drop b at (suc n) h = ap (λ l. get_or b at 0 ∷ l) (part-drop b (at + 1) 
 pub part-range : (b : List ℕ) (at n : ℕ) → at + n ≤ length b → part b at n ≡ slice_range b at (at + n)
 part-range b at n h = part-drop b at n h ∙ ap (λ k. take k (drop at b)) (omega arith)
 
-pub put_all : (b xs : List ℕ) → length xs ≡ length b → put b 0 xs ≡ xs
+pub put_all : (b xs : List ℕ) → length xs ≡ length b → with_part b 0 xs ≡ xs
 put_all b xs e = put-parts b 0 xs (omega arith) ∙ ap (λ l. xs ++ l) (drop_of_length-le b (omega arith)) ∙ append-nil xs
 
-pub put-append_left : (b c : List ℕ) (at : ℕ) (xs : List ℕ) → at + length xs ≤ length b → put (b ++ c) at xs ≡ put b at xs ++ c
+pub put-append_left : (b c : List ℕ) (at : ℕ) (xs : List ℕ) → at + length xs ≤ length b → with_part (b ++ c) at xs ≡ with_part b at xs ++ c
 put-append_left b c at xs h =
     put-parts (b ++ c) at xs (omega (arith, length-append b c))
     ∙ ap (λ l. l ++ (xs ++ drop (at + length xs) (b ++ c))) (take-append-le at b c (omega arith))
@@ -321,7 +326,7 @@ put-append_left b c at xs h =
     ∙ sym (ap (λ l. l ++ c) (put-parts b at xs h) ∙ append_assoc (take at b) (xs ++ drop (at + length xs) b) c
     ∙ ap (λ l. take at b ++ l) (append_assoc xs (drop (at + length xs) b) c))
 
-pub put-append_right : (b c : List ℕ) (at : ℕ) (xs : List ℕ) → at + length xs ≤ length c → put (b ++ c) (length b + at) xs ≡ b ++ put c at xs
+pub put-append_right : (b c : List ℕ) (at : ℕ) (xs : List ℕ) → at + length xs ≤ length c → with_part (b ++ c) (length b + at) xs ≡ b ++ with_part c at xs
 put-append_right b c at xs h =
     put-parts (b ++ c) (length b + at) xs (omega (arith, length-append b c))
     ∙ ap (λ l. l ++ (xs ++ drop (length b + at + length xs) (b ++ c))) (take-append-add b c at)
@@ -330,7 +335,7 @@ put-append_right b c at xs h =
     ∙ ap (λ l. b ++ l) (sym (put-parts c at xs h))
 
 -- what a write leaves outside of it
-pub put_outside : (b : List ℕ) (at : ℕ) (xs : List ℕ) (hi : ℕ) → at + length xs ≤ hi → SameOutside b (put b at xs) at hi
+pub put_outside : (b : List ℕ) (at : ℕ) (xs : List ℕ) (hi : ℕ) → at + length xs ≤ hi → SameOutside b (with_part b at xs) at hi
 put_outside b at xs hi h = record {
   len = length-put b at xs;
   below = λ k l. put_below b at xs k l;

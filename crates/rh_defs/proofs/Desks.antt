@@ -1,7 +1,7 @@
 -- What each edit of a desk keeps.
 use Rattle.rh_defs.proofs.Common.{◌≡◌, ◌≢◌, ℕ, ◌+◌, ◌*◌, ◌/◌, ◌≤◌, ◌<◌, Bool, true, false, cond, refl, ap, sym, subst, ◌∙◌, arith, List, [], ◌∷◌, length, map}
 use Rattle.rh_defs.proofs.Common.{Option, Some, None, IfSome, ◌==◌, find, slice_index, slice_set, AllByRecursion, eqb-true, eqb-false, Letter, Incoming}
-use Rattle.rh_defs.proofs.Common.{total, page, Heap, Slot, IsSlot, slot_pages, Post, Desk, Task, Scrap, free_pages, named, with_delivered, file_length}
+use Rattle.rh_defs.proofs.Common.{total, page_size, Heap, Slot, IsSlot, slot_pages, Post, Desk, Task, Scrap, free_pages, named, with_delivered, file_length}
 use Rattle.rh_defs.proofs.Common.{scrap_area, IsDesk}
 use Rattle.std.proofs.lemmas.List.{length-map, length-set, get_or-set_same, get_or-set_other}
 use Rattle.rh_defs.specs.declared.refusal.Refusal.TheVariants.{NoName}
@@ -130,7 +130,7 @@ roomed-after first second = record { room = omega (arith, first.room, second.roo
 -- ---- the post and the module area
 
 -- another post with the same seats
-posted-keeps : (p : Post) (o : Option Scrap) (d : Desk) → p.heap.end / page ≤ free_pages d + d.post.heap.end / page
+posted-keeps : (p : Post) (o : Option Scrap) (d : Desk) → p.heap.end / page_size ≤ free_pages d + d.post.heap.end / page_size
     → task_handles d.tasks ≡ map (λ s. s.handle) p.seats → IsPost p → file_length o ≤ file_length d.scrap → IsDesk d
     → IsDesk (record d { post = p; scrap = o })
 posted-keeps p o d room handles post file is = record {
@@ -157,7 +157,7 @@ kept_scrap-less p (Some file) =
 pub with_delivered-keeps : (p : Post) (d : Desk) → PostKept 0 d.post p → IsDesk d → IsDesk (with_delivered p d)
 unfolding with_delivered
 with_delivered-keeps p d kept is =
-    posted-keeps p (kept_scrap p d.scrap) d (omega (arith, ap (λ n. n / page) kept.end)) (sym is.seats ∙ sym kept.handles) kept.post.is
+    posted-keeps p (kept_scrap p d.scrap) d (omega (arith, ap (λ n. n / page_size) kept.end)) (sym is.seats ∙ sym kept.handles) kept.post.is
     (kept_scrap-less p d.scrap) is
 
 with_task-areas : (h : ℕ) (edit : Task → Task) (d : Desk) → (with_task h edit d).areas ≡ d.areas
@@ -188,7 +188,8 @@ with_module-keeps h d fills is =
 -- ---- areas
 
 -- other pages of one of the six areas that isn't the module area
-pub areas-keep : (k n : ℕ) (d : Desk) → k < length d.areas → (1 ≡ k → ⊥) → n ≤ free_pages d + slice_index d.areas k → least_length k d ≤ page * n → IsDesk d
+pub areas-keep : (k n : ℕ) (d : Desk) → k < length d.areas → (1 ≡ k → ⊥) → n ≤ free_pages d + slice_index d.areas k → least_length k d ≤ page_size * n
+    → IsDesk d
     → IsDesk (record d { areas = slice_set d.areas k n })
 areas-keep k n d below other room least is = record {
   pool = is.pool;
@@ -204,8 +205,8 @@ areas-keep k n d below other room least is = record {
   scrap = go (k == scrap_area) refl least;
 }
   where
-    go : (b : Bool) → (k == scrap_area) ≡ b → cond b (file_length d.scrap) 0 ≤ page * n
-        → file_length d.scrap ≤ page * slice_index (slice_set d.areas k n) scrap_area
+    go : (b : Bool) → (k == scrap_area) ≡ b → cond b (file_length d.scrap) 0 ≤ page_size * n
+        → file_length d.scrap ≤ page_size * slice_index (slice_set d.areas k n) scrap_area
     go true e h =
         let same : k ≡ scrap_area = eqb-true _ _ e in
         omega (arith, h, subst (λ a. slice_index (slice_set d.areas k n) a ≡ n) same (get_or-set_same d.areas k n 0 below))

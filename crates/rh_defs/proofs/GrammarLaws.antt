@@ -4,7 +4,7 @@ use Rattle.rh_defs.specs.declared.command.Command.TheVariants as command
 use Rattle.rh_defs.specs.declared.command.Manner.TheVariants as manner
 use Rattle.rh_defs.specs.declared.question.Question.{Question}
 use Rattle.rh_defs.specs.declared.question.Question.TheVariants as question
-use Rattle.rh_defs.specs.Grammar.{Form, Value, Values, Maker, Row, Spelling, manner_of, manner_word, cancel_of, cancel_spelled, spelled_by}
+use Rattle.rh_defs.specs.Grammar.{Form, Value, Values, Maker, GrammarRow, Spelling, manner_of, manner_word, cancel_of, cancel_spelled, spelled_by}
 use Rattle.rh_defs.specs.Grammar.{question_spelling, rows, spelling}
 
 -- the command made of values
@@ -22,11 +22,11 @@ Spells [] command give = spelling command ≡ give tt
 Spells (form ∷ forms) make give = (value : Value form) → Spells forms (make value) (λ values. give (value, values))
 
 -- a row's command is spelled by the row and the values that it was made of
-abbrev pub RowSpells : Row → Type 0
+abbrev pub RowSpells : GrammarRow → Type 0
 RowSpells row = Spells row.forms row.make (spelled_by row)
 
 -- that of each row is
-abbrev pub AllSpell : List Row → Type 0
+abbrev pub AllSpell : List GrammarRow → Type 0
 AllSpell [] = Unit {0}
 AllSpell (row ∷ rows) = RowSpells row × AllSpell rows
 

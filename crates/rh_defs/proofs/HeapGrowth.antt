@@ -1,8 +1,8 @@
 -- A call with growth is the call on the longer heap.
 use Rattle.rh_defs.proofs.Common.{◌≡◌, ℕ, ◌+◌, ◌-◌, ◌*◌, ◌<◌, ◌≤◌, ◌≢◌, inl, inr, Bool, true, false, cond, eqb, leb, ltb, List, [], ◌∷◌, refl, sym, ap, ◌∙◌}
-use Rattle.rh_defs.proofs.Common.{arith, cases_eq, nat_tests, Option, Some, None, Ok, ℤ, answer_of, Split, page, pages_for, Segment, Used, Hole, Heap, Way}
+use Rattle.rh_defs.proofs.Common.{arith, cases_eq, nat_tests, Option, Some, None, Ok, ℤ, answer_of, Split, page_size, pages_for, Segment, Used, Hole, Heap, Way}
 use Rattle.rh_defs.proofs.Common.{Stays, Shrinks, GrowsIntoHole, GrowsAtTop, MovesToHole, MovesToTop, size_of, place_after, hole_for, shortage_in}
-use Rattle.rh_defs.proofs.Common.{segment_size, need, claim, new_size, raised, claim_growing, way_beyond, way_to_grow, way_to, end_for, resize_need}
+use Rattle.rh_defs.proofs.Common.{segment_size, need, claim_block, new_size, raised, claim_growing, way_beyond, way_to_grow, way_to, end_for, resize_need}
 use Rattle.rh_defs.proofs.Common.{resized_by, fitted, block_room, bytes_of, resize_growing}
 use Rattle.rh_defs.specs.Heap.{claim_need, resize_found, need_found, as_granted, resized}
 use Rattle.rh_defs.proofs.HeapLists.{cond_true, cond_false, eqb_same, eqb_apart, leb_yes, leb_no}
@@ -15,7 +15,7 @@ none_short t h None = omega arith
 pub need-raised : (n : ℕ) (h : Heap) → need n (raised (need n h) h) ≡ 0
 need-raised n h = none_short (segment_size n) h (hole_for (segment_size n) h.segments)
 
-pub claim-raised : (n : ℕ) (h : Heap) → n ≢ 0 → claim n (raised (need n h) h) ≡ Ok (as_granted (claim_growing n h))
+pub claim-raised : (n : ℕ) (h : Heap) → n ≢ 0 → claim_block n (raised (need n h) h) ≡ Ok (as_granted (claim_growing n h))
 claim-raised n h ne =
     cond_false (eqb n 0) _ _ (eqb_apart n 0 ne)
     ∙ cond_true (eqb (need n (raised (need n h) h)) 0) _ _ (eqb_same (need n (raised (need n h) h)) 0 (need-raised n h))
@@ -85,10 +85,10 @@ resize_need-raised n s h =
 
 -- a heap that is raised by nothing
 pub raised-none : (h : Heap) → raised 0 h ≡ h
-raised-none h = ap (λ (e : ℕ). let r : Heap = record h { end = e } in r) (let z : h.end + page * pages_for 0 ≡ h.end = omega arith in z)
+raised-none h = ap (λ (e : ℕ). let r : Heap = record h { end = e } in r) (let z : h.end + page_size * pages_for 0 ≡ h.end = omega arith in z)
 
 -- a claim that was granted needs no more
-pub claim-granted : (n x : ℕ) (h : Heap) → Ok x ≡ answer_of (claim n h) → Ok 0 ≡ claim_need n h
+pub claim-granted : (n x : ℕ) (h : Heap) → Ok x ≡ answer_of (claim_block n h) → Ok 0 ≡ claim_need n h
 claim-granted n x h e = elim (cases_eq n 0) [
   | inl z ↦ absurd (let q = e ∙ ap answer_of (cond_true (eqb n 0) _ _ (eqb_same n 0 z)) in cc)
   | inr ne ↦ elim (cases_eq (need n h) 0) [

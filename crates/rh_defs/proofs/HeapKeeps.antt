@@ -3,7 +3,8 @@ use Rattle.rh_defs.proofs.Common.{◌≡◌, ℕ, ◌+◌, ◌-◌, ◌≤◌, �
 use Rattle.rh_defs.proofs.Common.{append_assoc, length-replicate, Option, Some, None, IfSome, nat_le, nat_lt, ◌==◌, total, zeros, Split, Heap, Segment, Used}
 use Rattle.rh_defs.proofs.Common.{Hole, Way, Stays, Shrinks, GrowsIntoHole, GrowsAtTop, MovesToHole, MovesToTop, IsTidy, IsHeap, size_of, bytes_of, base}
 use Rattle.rh_defs.proofs.Common.{place_after, first_place, with_hole, joined, placed_in, hole_for, is_hole_for, is_block_at, block_at, shortage_in, need}
-use Rattle.rh_defs.proofs.Common.{raised, segment_size, block_room, claim_growing, released, release, release_found, fitted, way_to, way_to_grow, way_beyond}
+use Rattle.rh_defs.proofs.Common.{raised, segment_size, block_room, claim_growing, released, release_block, release_found, fitted, way_to, way_to_grow}
+use Rattle.rh_defs.proofs.Common.{way_beyond}
 use Rattle.rh_defs.proofs.Common.{resized_by, end_for, resize_growing}
 use borrow.Author.Tests.{ltb-true, leb-true}
 use Rattle.rh_defs.proofs.HeapLists.{total-append, tidy_after, tidy_before, tidy_front, tidy_other, tidy_behind_used, tidy_behind_hole, tidy_join}
@@ -139,7 +140,7 @@ release_found-heap : (address : ℕ) (h : Heap) (o : Option (Split Segment)) →
 release_found-heap address h None is c = is
 release_found-heap address h (Some s) is c = released-heap (is_block_at address) s h is c
 
-pub release-heap : (address : ℕ) (h : Heap) → IsHeap h → IsHeap (release address h)
+pub release-heap : (address : ℕ) (h : Heap) → IsHeap h → IsHeap (release_block address h)
 release-heap address h is = release_found-heap address h (block_at address h) is (first_at-cuts size_of (is_block_at address) first_place h.segments)
 
 -- ---- resizes

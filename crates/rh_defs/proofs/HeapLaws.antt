@@ -1,7 +1,7 @@
 -- Laws of segments that stand in bytes.
 use Rattle.rh_defs.proofs.Common.{◌≡◌, ℕ, zero, suc, ◌+◌, ◌-◌, ◌<◌, ◌≤◌, ◌≢◌, ◌⊎◌, inl, inr, false, List, [], ◌∷◌, ◌++◌, length, get_or, eqb, refl, sym, ap}
 use Rattle.rh_defs.proofs.Common.{◌∙◌, arith, word, part, SameIn, total, Segment, Used, Hole, Heap, size_of, Stand, Spells, word_same, part_same, HasRoom}
-use Rattle.rh_defs.specs.HeapImage.{segments_in, heap_of}
+use Rattle.rh_defs.specs.HeapImage.{segments_read, heap_of}
 use Rattle.rh_defs.proofs.HeapLists.{HasRoom-from_tidy, cond_true, cond_false, eqb_same, eqb_apart}
 use Rattle.rh_defs.specs.HeapParts.{last_link, Open}
 
@@ -143,8 +143,8 @@ link_ahead b f p ss l h = elim (next_hole b f p ss l h) [ inl n ↦ inl n.1 | in
 
 -- ---- what the bytes spell is one heap
 pub segments_in-Stand : (k : ℕ) (b : List ℕ) (f p n : ℕ) (ss : List Segment) → f < p → HasRoom ss → n ≡ total size_of ss → n ≤ k → Stand b f p ss
-    → segments_in k b f p n ≡ ss
-unfolding segments_in
+    → segments_read k b f p n ≡ ss
+unfolding segments_read
 segments_in-Stand zero b f p n [] l r e m h = refl
 segments_in-Stand zero b f p n (Used bs ∷ ss) l r e m h = absurd (omega arith)
 segments_in-Stand zero b f p n (Hole i ∷ ss) l r e m h = let big = r.0 in absurd (omega arith)
@@ -155,15 +155,15 @@ segments_in-Stand (suc k) b f p (suc n) [] l r e m h = absurd (omega arith)
 segments_in-Stand (suc k) b f p (suc n) (Used bs ∷ ss) l r e m h =
     let ne : f + word b f ≢ p = elim (link_ahead b f (p + (4 + length bs)) ss (omega arith) h.2) [ inl z ↦ omega arith | inr a ↦ omega arith ] in
     cond_false (eqb (f + word b f) p) _ _ (eqb_apart (f + word b f) p ne)
-    ∙ ap (λ w. Used (part b (p + 4) (w - 4)) ∷ segments_in k b f (p + w) (suc n - w)) h.0
-    ∙ ap (λ i. Used (part b (p + 4) i) ∷ segments_in k b f (p + (4 + length bs)) (suc n - (4 + length bs)))
+    ∙ ap (λ w. Used (part b (p + 4) (w - 4)) ∷ segments_read k b f (p + w) (suc n - w)) h.0
+    ∙ ap (λ i. Used (part b (p + 4) i) ∷ segments_read k b f (p + (4 + length bs)) (suc n - (4 + length bs)))
     (let e4 : 4 + length bs - 4 ≡ length bs = omega arith in e4)
-    ∙ ap (λ i. Used i ∷ segments_in k b f (p + (4 + length bs)) (suc n - (4 + length bs))) h.1
+    ∙ ap (λ i. Used i ∷ segments_read k b f (p + (4 + length bs)) (suc n - (4 + length bs))) h.1
     ∙ ap (λ i. Used bs ∷ i) (segments_in-Stand k b f (p + (4 + length bs)) (suc n - (4 + length bs)) ss (omega arith) r (omega arith) (omega arith) h.2)
 segments_in-Stand (suc k) b f p (suc n) (Hole i ∷ ss) l r e m h =
     let big = r.0 in
     cond_true (eqb (f + word b f) p) _ _ (eqb_same (f + word b f) p h.0)
-    ∙ ap (λ w. Hole w ∷ segments_in k b p (p + w) (suc n - w)) h.1
+    ∙ ap (λ w. Hole w ∷ segments_read k b p (p + w) (suc n - w)) h.1
     ∙ ap (λ l. Hole i ∷ l) (segments_in-Stand k b p (p + i) (suc n - i) ss (omega arith) r.1 (omega arith) (omega arith) h.2)
 
 -- the bytes spell at most one heap

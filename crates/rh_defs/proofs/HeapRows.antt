@@ -1,7 +1,7 @@
 -- Worked heaps: the definitions compute these answers.
-use Rattle.rh_defs.proofs.Common.{◌≡◌, refl, ℕ, ℤ, pos, negsuc, List, [], ◌∷◌, Some, None, Result, Ok, Err, answer_of, left_of, Used, Hole, Heap, claim}
+use Rattle.rh_defs.proofs.Common.{◌≡◌, refl, ℕ, ℤ, pos, negsuc, List, [], ◌∷◌, Some, None, Result, Ok, Err, answer_of, left_of, Used, Hole, Heap, claim_block}
 use Rattle.rh_defs.proofs.Common.{zeros, HeapRefusal}
-use Rattle.rh_defs.specs.Heap.{empty_heap, released_at, resize, extend, block_size, largest, free_bytes}
+use Rattle.rh_defs.specs.Heap.{empty_heap, released_at, resize_block, extend_by, block_size, largest, free_bytes}
 use Rattle.rh_defs.specs.declared.heap.HeapRefusal.TheVariants.{NotABlock, BadSize, NoRoom, ExcessiveShrink}
 
 pub data Call : Type 0 where
@@ -23,10 +23,10 @@ of_heap h (Ok g) = record { heap = g; answer = Ok 0 }
 of_heap h (Err e) = record { heap = h; answer = Err e }
 
 abbrev pub called : Heap → Call → Step
-called h (Claim n) = of_placed h (claim n h)
+called h (Claim n) = of_placed h (claim_block n h)
 called h (Release a) = of_heap h (released_at a h)
-called h (Resize a d) = of_placed h (resize a d h)
-called h (Extend d) = of_heap h (extend d h)
+called h (Resize a d) = of_placed h (resize_block a d h)
+called h (Extend d) = of_heap h (extend_by d h)
 
 abbrev pub heap_after : Heap → List Call → Heap
 heap_after h [] = h

@@ -1,6 +1,6 @@
 -- Laws of memories: what each call leaves of the areas, and frames.
 use Rattle.rh_defs.proofs.Common.{inl, inr, ◌≡◌, ℕ, zero, suc, ◌+◌, ◌-◌, ◌*◌, ◌/◌, ◌<◌, ◌≤◌, ◌≢◌, ◌==◌, cond, Bool, true, false, List, [], ◌++◌, length, take}
-use Rattle.rh_defs.proofs.Common.{replicate, refl, sym, ap, subst, ◌∙◌, arith, nat_tests, cases_eq, page, length-replicate, length-take, unwrap_or, Some}
+use Rattle.rh_defs.proofs.Common.{replicate, refl, sym, ap, subst, ◌∙◌, arith, nat_tests, cases_eq, page_size, length-replicate, length-take, unwrap_or, Some}
 use Rattle.rh_defs.proofs.Common.{None, Option, IsSome, IsNone, is_some, SameIn, SameOutside}
 use Rattle.rh_defs.proofs.BytesLaws.{SameOutside-self, SameOutside-wider, SameOutside-both, SameIn-append, SameIn-take}
 use Rattle.std.proofs.Math.ListN.{length-append}
@@ -154,7 +154,7 @@ bytes-closed_other m id j h = ap (λ (o : Option (List ℕ)). unwrap_or o []) (a
 pub bytes-closed : (m : Memory) (id : ℕ) → bytes (closed m id) id ≡ []
 bytes-closed m id = bytes-none (closed m id) id (area-closed_same m id)
 
-pub free-closed : (m : Memory) (id : ℕ) → (closed m id).free ≡ m.free + length (bytes m id) / page
+pub free-closed : (m : Memory) (id : ℕ) → (closed m id).free ≡ m.free + length (bytes m id) / page_size
 unfolding closed
 free-closed m id = refl
 
@@ -167,25 +167,25 @@ unfolding closed
 loan-closed m id = refl
 
 -- an area grown
-pub area-grown_same : (m : Memory) (id n : ℕ) → (grown m id n).area id ≡ Some (bytes m id ++ replicate (page * n) 0)
+pub area-grown_same : (m : Memory) (id n : ℕ) → (grown m id n).area id ≡ Some (bytes m id ++ replicate (page_size * n) 0)
 unfolding grown
-area-grown_same m id n = area_set-same m.area id (Some (bytes m id ++ replicate (page * n) 0))
+area-grown_same m id n = area_set-same m.area id (Some (bytes m id ++ replicate (page_size * n) 0))
 
 pub area-grown : (m : Memory) (id n j : ℕ) → j ≢ id → (grown m id n).area j ≡ m.area j
 unfolding grown
-area-grown m id n j h = area_set-other m.area id (Some (bytes m id ++ replicate (page * n) 0)) j h
+area-grown m id n j h = area_set-other m.area id (Some (bytes m id ++ replicate (page_size * n) 0)) j h
 
 pub bytes-grown_other : (m : Memory) (id n j : ℕ) → j ≢ id → bytes (grown m id n) j ≡ bytes m j
 unfolding bytes
 bytes-grown_other m id n j h = ap (λ (o : Option (List ℕ)). unwrap_or o []) (area-grown m id n j h)
 
-pub bytes-grown : (m : Memory) (id n : ℕ) → bytes (grown m id n) id ≡ bytes m id ++ replicate (page * n) 0
+pub bytes-grown : (m : Memory) (id n : ℕ) → bytes (grown m id n) id ≡ bytes m id ++ replicate (page_size * n) 0
 unfolding bytes
 bytes-grown m id n = ap (λ (o : Option (List ℕ)). unwrap_or o []) (area-grown_same m id n)
 
-pub length-grown : (m : Memory) (id n : ℕ) → length (bytes (grown m id n) id) ≡ length (bytes m id) + page * n
-length-grown m id n = ap length (bytes-grown m id n) ∙ length-append (bytes m id) (replicate (page * n) 0)
-    ∙ ap (λ k. length (bytes m id) + k) (length-replicate {A = ℕ} (page * n) 0)
+pub length-grown : (m : Memory) (id n : ℕ) → length (bytes (grown m id n) id) ≡ length (bytes m id) + page_size * n
+length-grown m id n = ap length (bytes-grown m id n) ∙ length-append (bytes m id) (replicate (page_size * n) 0)
+    ∙ ap (λ k. length (bytes m id) + k) (length-replicate {A = ℕ} (page_size * n) 0)
 
 pub IsOpen-grown : (m : Memory) (id n : ℕ) → IsOpen (grown m id n) id
 IsOpen-grown m id n = rw (area-grown_same m id n) refl
@@ -203,24 +203,24 @@ unfolding grown
 loan-grown m id n = refl
 
 -- an area shrunk
-pub area-shrunk_same : (m : Memory) (id n : ℕ) → (shrunk m id n).area id ≡ Some (take (length (bytes m id) - page * n) (bytes m id))
+pub area-shrunk_same : (m : Memory) (id n : ℕ) → (shrunk m id n).area id ≡ Some (take (length (bytes m id) - page_size * n) (bytes m id))
 unfolding shrunk
-area-shrunk_same m id n = area_set-same m.area id (Some (take (length (bytes m id) - page * n) (bytes m id)))
+area-shrunk_same m id n = area_set-same m.area id (Some (take (length (bytes m id) - page_size * n) (bytes m id)))
 
 pub area-shrunk : (m : Memory) (id n j : ℕ) → j ≢ id → (shrunk m id n).area j ≡ m.area j
 unfolding shrunk
-area-shrunk m id n j h = area_set-other m.area id (Some (take (length (bytes m id) - page * n) (bytes m id))) j h
+area-shrunk m id n j h = area_set-other m.area id (Some (take (length (bytes m id) - page_size * n) (bytes m id))) j h
 
 pub bytes-shrunk_other : (m : Memory) (id n j : ℕ) → j ≢ id → bytes (shrunk m id n) j ≡ bytes m j
 unfolding bytes
 bytes-shrunk_other m id n j h = ap (λ (o : Option (List ℕ)). unwrap_or o []) (area-shrunk m id n j h)
 
-pub bytes-shrunk : (m : Memory) (id n : ℕ) → bytes (shrunk m id n) id ≡ take (length (bytes m id) - page * n) (bytes m id)
+pub bytes-shrunk : (m : Memory) (id n : ℕ) → bytes (shrunk m id n) id ≡ take (length (bytes m id) - page_size * n) (bytes m id)
 unfolding bytes
 bytes-shrunk m id n = ap (λ (o : Option (List ℕ)). unwrap_or o []) (area-shrunk_same m id n)
 
-pub length-shrunk : (m : Memory) (id n : ℕ) → length (bytes (shrunk m id n) id) ≡ length (bytes m id) - page * n
-length-shrunk m id n = ap length (bytes-shrunk m id n) ∙ length-take (length (bytes m id) - page * n) (bytes m id) ∙ omega arith
+pub length-shrunk : (m : Memory) (id n : ℕ) → length (bytes (shrunk m id n) id) ≡ length (bytes m id) - page_size * n
+length-shrunk m id n = ap length (bytes-shrunk m id n) ∙ length-take (length (bytes m id) - page_size * n) (bytes m id) ∙ omega arith
 
 pub IsOpen-shrunk : (m : Memory) (id n : ℕ) → IsOpen (shrunk m id n) id
 IsOpen-shrunk m id n = rw (area-shrunk_same m id n) refl
@@ -266,25 +266,26 @@ pages_set-above : (area : ℕ → Option (List ℕ)) (id : ℕ) (o : Option (Lis
 unfolding pages_below
 pages_set-above area id o zero h = refl
 pages_set-above area id o (suc n) h =
-    ap (λ (p : Option (List ℕ)). length (unwrap_or p []) / page + pages_below (area_set area id o) n)
+    ap (λ (p : Option (List ℕ)). length (unwrap_or p []) / page_size + pages_below (area_set area id o) n)
     (let ne : n ≢ id = omega arith in area_set-other area id o n ne)
-    ∙ ap (λ k. length (unwrap_or (area n) []) / page + k) (pages_set-above area id o n (omega arith))
+    ∙ ap (λ k. length (unwrap_or (area n) []) / page_size + k) (pages_set-above area id o n (omega arith))
 
 -- how many pages areas have after one is set
 pub pages_below-set : (area : ℕ → Option (List ℕ)) (id : ℕ) (o : Option (List ℕ)) (n : ℕ) → id < n
-    → pages_below (area_set area id o) n + length (unwrap_or (area id) []) / page ≡ pages_below area n + length (unwrap_or o []) / page
+    → pages_below (area_set area id o) n + length (unwrap_or (area id) []) / page_size ≡ pages_below area n + length (unwrap_or o []) / page_size
 unfolding pages_below
 pages_below-set area id o zero h = absurd (omega arith)
 pages_below-set area id o (suc n) h = elim (cases_eq id n) [
   | inl e ↦ let top : area_set area id o n ≡ o = ap (area_set area id o) (sym e) ∙ area_set-same area id o in
       let rest = pages_set-above area id o n (omega arith) in
-      let here : length (unwrap_or (area_set area id o n) []) / page ≡ length (unwrap_or o []) / page =
-      ap (λ (p : Option (List ℕ)). length (unwrap_or p []) / page) top in
-      let there : length (unwrap_or (area id) []) / page ≡ length (unwrap_or (area n) []) / page = ap (λ (k : ℕ). length (unwrap_or (area k) []) / page) e in
+      let here : length (unwrap_or (area_set area id o n) []) / page_size ≡ length (unwrap_or o []) / page_size =
+      ap (λ (p : Option (List ℕ)). length (unwrap_or p []) / page_size) top in
+      let there : length (unwrap_or (area id) []) / page_size ≡ length (unwrap_or (area n) []) / page_size = ap
+      (λ (k : ℕ). length (unwrap_or (area k) []) / page_size) e in
       omega arith
   | inr ne ↦ let other : n ≢ id = λ q. ne (sym q) in
-      let here : length (unwrap_or (area_set area id o n) []) / page ≡ length (unwrap_or (area n) []) / page =
-      ap (λ (p : Option (List ℕ)). length (unwrap_or p []) / page) (area_set-other area id o n other) in
+      let here : length (unwrap_or (area_set area id o n) []) / page_size ≡ length (unwrap_or (area n) []) / page_size =
+      ap (λ (p : Option (List ℕ)). length (unwrap_or p []) / page_size) (area_set-other area id o n other) in
       let rest = pages_below-set area id o n (omega arith) in
       omega arith
 ]
@@ -302,12 +303,12 @@ at_most_one (Some bs) = omega arith
 at_most_one None = omega arith
 
 -- one of the areas has no more pages than all
-pub pages_below-one : (area : ℕ → Option (List ℕ)) (id n : ℕ) → id < n → length (unwrap_or (area id) []) / page ≤ pages_below area n
+pub pages_below-one : (area : ℕ → Option (List ℕ)) (id n : ℕ) → id < n → length (unwrap_or (area id) []) / page_size ≤ pages_below area n
 unfolding pages_below
 pages_below-one area id zero h = absurd (omega arith)
 pages_below-one area id (suc n) h = elim (cases_eq id n) [
-  | inl e ↦ let here : length (unwrap_or (area id) []) / page ≡ length (unwrap_or (area n) []) / page =
-      ap (λ (k : ℕ). length (unwrap_or (area k) []) / page) e in omega arith
+  | inl e ↦ let here : length (unwrap_or (area id) []) / page_size ≡ length (unwrap_or (area n) []) / page_size =
+      ap (λ (k : ℕ). length (unwrap_or (area k) []) / page_size) e in omega arith
   | inr ne ↦ let rest = pages_below-one area id n (omega arith) in omega arith
 ]
 
@@ -315,7 +316,7 @@ pub pages_below-none : (area : ℕ → Option (List ℕ)) (n : ℕ) → ((k : �
 unfolding pages_below
 pages_below-none area zero e = refl
 pages_below-none area (suc n) e =
-    let here : length (unwrap_or (area n) []) / page ≡ 0 = ap (λ (o : Option (List ℕ)). length (unwrap_or o []) / page) (e n) in
+    let here : length (unwrap_or (area n) []) / page_size ≡ 0 = ap (λ (o : Option (List ℕ)). length (unwrap_or o []) / page_size) (e n) in
     let rest = pages_below-none area n e in omega arith
 
 pub open_below-all : (area : ℕ → Option (List ℕ)) (n : ℕ) → ((k : ℕ) → k < n → IsSome (area k)) → open_below area n ≡ n
@@ -444,7 +445,7 @@ OnlyArea-grown m id n h = record {
   loan = loan-grown m id n;
 }
 
-pub OnlyArea-shrunk : (m : Memory) (id n : ℕ) → page * n ≤ length (bytes m id) → OnlyArea m (shrunk m id n) id
+pub OnlyArea-shrunk : (m : Memory) (id n : ℕ) → page_size * n ≤ length (bytes m id) → OnlyArea m (shrunk m id n) id
 OnlyArea-shrunk m id n h = record {
   opened = IsOpen-shrunk m id n;
   others = λ j ne. area-shrunk m id n j ne;
@@ -455,10 +456,10 @@ OnlyArea-shrunk m id n h = record {
 
 -- the first bytes of a grown or shrunk area
 pub SameIn-grown : (m : Memory) (id n lo hi : ℕ) → hi ≤ length (bytes m id) → SameIn (bytes m id) (bytes (grown m id n) id) lo hi
-SameIn-grown m id n lo hi h = rw (bytes-grown m id n) (SameIn-append (bytes m id) (replicate (page * n) 0) lo hi h)
+SameIn-grown m id n lo hi h = rw (bytes-grown m id n) (SameIn-append (bytes m id) (replicate (page_size * n) 0) lo hi h)
 
-pub SameIn-shrunk : (m : Memory) (id n lo hi : ℕ) → hi + page * n ≤ length (bytes m id) → SameIn (bytes m id) (bytes (shrunk m id n) id) lo hi
-SameIn-shrunk m id n lo hi h = rw (bytes-shrunk m id n) (SameIn-take (length (bytes m id) - page * n) (bytes m id) lo hi (omega arith))
+pub SameIn-shrunk : (m : Memory) (id n lo hi : ℕ) → hi + page_size * n ≤ length (bytes m id) → SameIn (bytes m id) (bytes (shrunk m id n) id) lo hi
+SameIn-shrunk m id n lo hi h = rw (bytes-shrunk m id n) (SameIn-take (length (bytes m id) - page_size * n) (bytes m id) lo hi (omega arith))
 
 -- for `grind`
 pub ruleset memory_laws =

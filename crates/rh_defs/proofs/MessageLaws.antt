@@ -1,6 +1,6 @@
 -- Laws of the bytes of messages.
 use Rattle.rh_defs.proofs.Common.{◌≡◌, ℕ, ◌+◌, ◌-◌, ◌*◌, ◌/◌, ◌%◌, ◌<◌, ◌≤◌, ◌^◌, Bool, true, false, leb, lit<, List, [], ◌∷◌, ◌++◌, length, refl, sym, ap}
-use Rattle.rh_defs.proofs.Common.{subst, ◌∙◌, arith, nat_tests, length-append, length-replicate, append_assoc, ◌&&◌, word, part, put, zeros, encoded}
+use Rattle.rh_defs.proofs.Common.{subst, ◌∙◌, arith, nat_tests, length-append, length-replicate, append_assoc, ◌&&◌, word, part, with_part, zeros, encoded}
 use Rattle.rh_defs.proofs.Common.{encoded_length, Fits, SpellWords, Body, DataSave, DataSaveAck, DataLoad, DataLoadAck, RamFetch, RamTransmit, Message}
 use Rattle.std.proofs.lemmas.Nat.{from_le_bytes-to_le_bytes_4}
 use Rattle.rh_defs.specs.declared.sizes.TheConstants.{LONGEST_MESSAGE}
@@ -23,8 +23,8 @@ pub word_first : (n : ℕ) (xs : List ℕ) → n < 2 ^ 32 → word (word_bytes n
 word_first n xs l = word-append_left (word_bytes n) xs 0 (omega (arith, length-word_bytes n)) ∙ word-word_bytes n l
 
 -- two writes, the second where the first ends
-pub puts_in_row : (b : List ℕ) (p q : ℕ) (xs ys : List ℕ) → q ≡ p + length xs → put (put b p xs) q ys ≡ put b p (xs ++ ys)
-puts_in_row b p q xs ys e = ap (λ k. put (put b p xs) k ys) e ∙ sym (put_more b p xs ys)
+pub puts_in_row : (b : List ℕ) (p q : ℕ) (xs ys : List ℕ) → q ≡ p + length xs → with_part (with_part b p xs) q ys ≡ with_part b p (xs ++ ys)
+puts_in_row b p q xs ys e = ap (λ k. with_part (with_part b p xs) k ys) e ∙ sym (put_more b p xs ys)
 
 pub length-words : (ns : List ℕ) → length (words ns) ≡ 4 * length ns
 length-words [] = refl

@@ -1,7 +1,8 @@
 -- The module area's heap stays one that fills whole pages, and takes no more pages than are free.
-use Rattle.rh_defs.proofs.Common.{◌≡◌, ℕ, ◌+◌, ◌/◌, ◌≤◌, ◌%◌, false, refl, arith, List, length, IfSome, ℤ, pos, negsuc, ltb-false, page, lacks_pages, zeros}
+use Rattle.rh_defs.proofs.Common.{◌≡◌, ℕ, ◌+◌, ◌/◌, ◌≤◌, ◌%◌, false, refl, arith, List, length, IfSome, ℤ, pos, negsuc, ltb-false, page_size, lacks_pages}
+use Rattle.rh_defs.proofs.Common.{zeros}
 use Rattle.rh_defs.proofs.Common.{Split, Heap, Segment, IsHeap, size_of, first_place, block_at, is_block_at, need, raised, claim_growing, hole_for}
-use Rattle.rh_defs.proofs.Common.{block_room, release, new_size, resize_need, resize_growing, way_to, segment_size, fitted, bytes_of, FillsPages}
+use Rattle.rh_defs.proofs.Common.{block_room, release_block, new_size, resize_need, resize_growing, way_to, segment_size, fitted, bytes_of, FillsPages}
 use Rattle.rh_defs.proofs.Common.{module_claim, module_free, module_resize, module_change, changed_length, poked}
 use Rattle.rh_defs.proofs.BlockLaws.{tidy-written, total-written}
 use Rattle.rh_defs.proofs.Chains.{OnGrant, granted, granted-with, granted-unless, found_or-grants}
@@ -12,7 +13,7 @@ use Rattle.rh_defs.proofs.ModuleLaws.{placed_in-end, resized_by-end, release_fou
 -- what a call leaves, where so many pages are free
 pub record Fills (free : ℕ) (old new : Heap) : Type 0 where
   pub fills : FillsPages new
-  pub room : new.end / page ≤ free + old.end / page
+  pub room : new.end / page_size ≤ free + old.end / page_size
 
 pub claim_growing-end : (n : ℕ) (h : Heap) → (claim_growing n h).heap.end ≡ (raised (need n h) h).end
 claim_growing-end n h = let bytes = zeros (block_room n) in placed_in-end bytes (raised (need n h) h) (hole_for (4 + length bytes) h.segments)
@@ -58,7 +59,7 @@ module_resize-grants free address delta h is =
     granted (grown free (resize_need (new_size delta b) b h) h _ is (resize_growing-heap address (new_size delta b) b h is.heap cut)
     (resize_growing-end (new_size delta b) b h) room)
 
-pub changed-whole : (n : ℕ) (delta : ℤ) → n % page ≡ 0 → changed_length n delta % page ≡ 0
+pub changed-whole : (n : ℕ) (delta : ℤ) → n % page_size ≡ 0 → changed_length n delta % page_size ≡ 0
 changed-whole n (pos by) e = omega (arith, e)
 changed-whole n (negsuc by) e = omega (arith, e)
 
@@ -74,11 +75,11 @@ module_change-grants free delta h is =
 
 -- ---- releases and writes
 
-pub released-fills : (address : ℕ) (h : Heap) → FillsPages h → FillsPages (release address h)
+pub released-fills : (address : ℕ) (h : Heap) → FillsPages h → FillsPages (release_block address h)
 released-fills address h is =
     record { heap = release-heap address h is.heap; whole = omega (arith, is.whole, release_found-end (block_at address h) h) }
 
-pub release-end : (address : ℕ) (h : Heap) → (release address h).end ≡ h.end
+pub release-end : (address : ℕ) (h : Heap) → (release_block address h).end ≡ h.end
 release-end address h = release_found-end (block_at address h) h
 
 -- bytes that are written into a block

@@ -2,10 +2,11 @@
 use Rattle.rh_defs.proofs.Common.{◌≡◌, ℕ, ◌+◌, ◌-◌, ◌<◌, ◌≤◌, ◌≢◌, true, false, eqb, ltb, List, length, refl, sym, ap, ◌∙◌, inl, inr, arith, eqb_tells}
 use Rattle.rh_defs.proofs.Common.{Option, Some, None, Result, Ok, Err, ℤ, SameIn, Granted, ◌>>=◌, found_or, pages_for, lacks_pages, zeros, Split, Segment}
 use Rattle.rh_defs.proofs.Common.{Heap, Placed, Way, Stays, Shrinks, GrowsIntoHole, GrowsAtTop, MovesToHole, MovesToTop, segment_size, block_room, bytes_of}
-use Rattle.rh_defs.proofs.Common.{place_after, hole_for, placed_in, fitted, way_to, resized_by, base, block_at, need, claim, claim_growing, raised, release}
+use Rattle.rh_defs.proofs.Common.{place_after, hole_for, placed_in, fitted, way_to, resized_by, base, block_at, need, claim_block, claim_growing, raised}
+use Rattle.rh_defs.proofs.Common.{release_block}
 use Rattle.rh_defs.proofs.Common.{release_found, new_size, resize_need, resize_growing, Spells, module_claim, module_free, module_resize, module_change}
 use Rattle.rh_defs.proofs.Common.{module_need_pages, changed_length, Refusal, NotABlock, BadSize, NoRoom, HeapRefusal, word_same}
-use Rattle.rh_defs.specs.Heap.{as_granted, claim_need, resize, resize_found, need_at, need_found, refusal_of}
+use Rattle.rh_defs.specs.Heap.{as_granted, claim_need, resize_block, resize_found, need_at, need_found, refusal_of}
 use Rattle.rh_defs.specs.Module.{whole_pages}
 use Rattle.rh_defs.specs.declared.refusal.Refusal.TheVariants.{ExcessiveShrink}
 use Rattle.rh_defs.specs.declared.heap.HeapRefusal.TheVariants as heap_refusal
@@ -96,13 +97,13 @@ module_claim-short free k n h e l =
     refuse_if-false (eqb n 0) BadSize _ w.0 ∙ refuse_if-true (lacks_pages free (need n h)) NoRoom _ (lacking free (need n h) (rw (sym w.2) l))
 
 pub module_claim-grows : (free k n : ℕ) (h : Heap) → Ok k ≡ claim_need n h → pages_for k ≤ free
-    → Grows (raised k h).end (claim n (raised k h)) (module_claim free n h)
+    → Grows (raised k h).end (claim_block n (raised k h)) (module_claim free n h)
 unfolding module_claim
 module_claim-grows free k n h e l =
     let w = could_need k n h e in
     record {
       placed = claim_growing n h;
-      called_is = ap (λ i. claim n (raised i h)) w.2 ∙ claim-raised n h w.1;
+      called_is = ap (λ i. claim_block n (raised i h)) w.2 ∙ claim-raised n h w.1;
       granted_is = refuse_if-false (eqb n 0) BadSize _ w.0
           ∙ refuse_if-false (lacks_pages free (need n h)) NoRoom _ (sufficing free (need n h) (rw (sym w.2) l));
       end_is = let g = raised (need n h) h in let bytes =
@@ -124,7 +125,7 @@ pub module_free-none : (address : ℕ) (h : Heap) → block_at address h ≡ Non
 unfolding module_free
 module_free-none address h e = not_found (block_at address h) NotABlock _ e
 
-pub module_free-some : (address : ℕ) (h : Heap) (b : Split Segment) → block_at address h ≡ Some b → module_free address h ≡ Ok (release address h)
+pub module_free-some : (address : ℕ) (h : Heap) (b : Split Segment) → block_at address h ≡ Some b → module_free address h ≡ Ok (release_block address h)
 unfolding module_free
 module_free-some address h b e = found (block_at address h) b NotABlock _ e ∙ ap (λ o. Ok (release_found o h)) (sym e)
 
@@ -178,7 +179,7 @@ module_resize-short free k address delta h e l =
     ∙ refuse_if-true (lacks_pages free (resize_need n w.block h)) NoRoom _ (lacking free (resize_need n w.block h) (rw (sym w.need_is) l))
 
 pub module_resize-grows : (free k address : ℕ) (delta : ℤ) (h : Heap) → Ok k ≡ need_at address delta h → pages_for k ≤ free
-    → Grows (raised k h).end (resize address delta (raised k h)) (module_resize free address delta h)
+    → Grows (raised k h).end (resize_block address delta (raised k h)) (module_resize free address delta h)
 unfolding module_resize
 module_resize-grows free k address delta h e l =
     let w = could_resize k address delta h e in
@@ -186,7 +187,7 @@ module_resize-grows free k address delta h e l =
     let g = raised (resize_need n w.block h) h in
     record {
       placed = resize_growing n w.block h;
-      called_is = ap (λ i. resize address delta (raised i h)) w.need_is ∙ ap (λ o. resize_found delta o g) w.found
+      called_is = ap (λ i. resize_block address delta (raised i h)) w.need_is ∙ ap (λ o. resize_found delta o g) w.found
           ∙ cond_false (eqb n 0) _ _ w.left
           ∙ cond_true (eqb (resize_need n w.block g) 0) _ _ (eqb_same (resize_need n w.block g) 0 (resize_need-raised n w.block h))
           ∙ ap (λ p. Ok (as_granted p)) (resize-raised n w.block h);

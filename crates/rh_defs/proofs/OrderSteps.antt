@@ -12,7 +12,8 @@ use Rattle.rh_defs.specs.declared.transfer.Incoming.TheVariants as incoming
 use Rattle.rh_defs.specs.Desk.{with_task, with_post, kept_scrap, send_letter, module_start}
 use Rattle.rh_defs.specs.Commands.{own_block, event, poll_taken, is_refused}
 use Rattle.rh_defs.specs.OutgoingEvents.{Handled, transmit, refused, answer_fetch, fail_sending, save_scrap, answer_ack, finish_load}
-use Rattle.rh_defs.specs.IncomingEvents.{ended, accept, take_save, appended, fetch_more, took, is_uncountable, take_bytes, ask, fetch_back, ack_back, loaded}
+use Rattle.rh_defs.specs.IncomingEvents.{taking_ended, accept, take_save, appended, fetch_more, took, is_uncountable, take_bytes, ask, fetch_back, ack_back}
+use Rattle.rh_defs.specs.IncomingEvents.{loaded}
 use Rattle.rh_defs.specs.IncomingEvents.{load_file, take_file}
 use Rattle.rh_defs.specs.Transfer.{came, came_back}
 use Rattle.rh_defs.specs.Order.{SameForEach, requeued, with_queue}
@@ -114,14 +115,14 @@ module _ (d : Desk) (queue : List Parcel) (same : SameForEach d.post.queued queu
   fetch_more-alike t m f n = follows-desk _ _ (send_letter-alike _ d queue same) λ sent q s. Follows.both (Alike.alike _ q _ s)
 
   took-alike : (t : Task) (m : Parcel) (f : Taking) (n : ℕ) → Alike (took d t m f n) (took (with_queue queue d) t m f n)
-  unfolding took ended with_task
+  unfolding took taking_ended with_task
   took-alike t m f n =
       chosen-both Alike (nat_lt n t.buffer) _ _ _ _ (Alike.alike _ queue _ same)
       (or_else-follows Alike _ _ (fetch_more-alike t m f n) (λ refusal. Alike.alike _ queue _ same))
 
 take_bytes-alike : (d : Desk) (queue : List Parcel) (t : Task) (m : Parcel) (n : ℕ) (o : Option Incoming) → SameForEach d.post.queued queue
     → Alike (take_bytes d t m n o) (take_bytes (with_queue queue d) t m n o)
-unfolding take_bytes ended with_task
+unfolding take_bytes taking_ended with_task
 take_bytes-alike d queue t m n None same = Alike.alike d queue _ same
 take_bytes-alike d queue t m n (Some (incoming.Fetching f)) same =
     or_else-follows Alike _ _
@@ -135,12 +136,12 @@ take_bytes-alike d queue t m n (Some (incoming.Failed id anchor count)) same = A
 
 ask-alike : (d : Desk) (queue : List Parcel) (t : Task) (f : Taking) → SameForEach d.post.queued queue
     → Follows Alike (ask d t f) (ask (with_queue queue d) t f)
-unfolding ask ended with_task
+unfolding ask taking_ended with_task
 ask-alike d queue t f same = follows-desk _ _ (send_letter-alike _ d queue same) λ sent q s. Follows.both (Alike.alike _ q _ s)
 
 fetch_back-alike : (d : Desk) (queue : List Parcel) (t : Task) (o : Option Incoming) → SameForEach d.post.queued queue
     → Alike (fetch_back d t o) (fetch_back (with_queue queue d) t o)
-unfolding fetch_back ended with_task
+unfolding fetch_back taking_ended with_task
 fetch_back-alike d queue t None same = Alike.alike d queue _ same
 fetch_back-alike d queue t (Some (incoming.Fetching f)) same =
     chosen-both Alike (f.count == 0) _ _ _ _ (or_else-follows Alike _ _ (ask-alike d queue t f same) (λ refusal. Alike.alike _ queue _ same))

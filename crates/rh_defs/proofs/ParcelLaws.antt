@@ -1,6 +1,7 @@
 -- Laws of the bytes of live messages in their blocks.
 use Rattle.rh_defs.proofs.Common.{◌≡◌, ℕ, ◌+◌, ◌<◌, ◌≤◌, ◌^◌, lit<, List, [], ◌∷◌, ◌++◌, length, refl, sym, ap, ◌∙◌, arith, length-append, length-replicate}
-use Rattle.rh_defs.proofs.Common.{append_assoc, append-nil, word, part, put, zeros, block_room, Parcel, encoded, encoded_length, parcel_bytes, parcel_size}
+use Rattle.rh_defs.proofs.Common.{append_assoc, append-nil, word, part, with_part, zeros, block_room, Parcel, encoded, encoded_length, parcel_bytes}
+use Rattle.rh_defs.proofs.Common.{parcel_size}
 use Rattle.rh_defs.proofs.Common.{Fits, SpellWords, EventCode, User, Recorded, Acknowledge, Message, length-put}
 use Rattle.rh_defs.specs.Bytes.{word_bytes}
 use Rattle.rh_defs.specs.Messages.{code_number, words, padded}
@@ -44,13 +45,13 @@ pub padded-least : (link : ℕ) (p : Parcel) → 24 ≤ length (padded link p)
 padded-least link p = omega (arith, length-padded link p, room_enough (parcel_size p.message))
 
 -- ---- another link, another code
-padded-tail : (link : ℕ) (p : Parcel) → padded link p ≡ put (put (zeros (block_room (parcel_size p.message))) 0 (word_bytes link)) 4 (tail p)
+padded-tail : (link : ℕ) (p : Parcel) → padded link p ≡ with_part (with_part (zeros (block_room (parcel_size p.message))) 0 (word_bytes link)) 4 (tail p)
 unfolding padded
 padded-tail link p =
-    ap (put (zeros (block_room (parcel_size p.message))) 0) (parcel-row link p)
+    ap (with_part (zeros (block_room (parcel_size p.message))) 0) (parcel-row link p)
     ∙ sym (puts_in_row (zeros (block_room (parcel_size p.message))) 0 4 (word_bytes link) (tail p) (omega (arith, length-word_bytes link)))
 
-pub padded-relinked : (x y : ℕ) (p : Parcel) → put (padded x p) 0 (word_bytes y) ≡ padded y p
+pub padded-relinked : (x y : ℕ) (p : Parcel) → with_part (padded x p) 0 (word_bytes y) ≡ padded y p
 padded-relinked x y p =
     let n = block_room (parcel_size p.message) in
     let r = room_enough (parcel_size p.message) in
@@ -59,13 +60,13 @@ padded-relinked x y p =
     let lz = length-replicate {A = ℕ} n 0 in
     let lp = length-put (zeros n) 0 (word_bytes x) in
     let lt = length-tail p in
-    ap (λ b. put b 0 (word_bytes y)) (padded-tail x p)
-    ∙ sym (put_apart (put (zeros n) 0 (word_bytes x)) 0 (word_bytes y) 4 (tail p) (omega arith) (omega arith))
-    ∙ ap (λ b. put b 4 (tail p)) (put-put (zeros n) 0 (word_bytes x) (word_bytes y) (omega arith) (omega arith))
+    ap (λ b. with_part b 0 (word_bytes y)) (padded-tail x p)
+    ∙ sym (put_apart (with_part (zeros n) 0 (word_bytes x)) 0 (word_bytes y) 4 (tail p) (omega arith) (omega arith))
+    ∙ ap (λ b. with_part b 4 (tail p)) (put-put (zeros n) 0 (word_bytes x) (word_bytes y) (omega arith) (omega arith))
     ∙ sym (padded-tail y p)
 
 -- the same block written anew
-pub padded-rewritten : (x y : ℕ) (p q : Parcel) → p.message ≡ q.message → put (padded x p) 0 (parcel_bytes y q) ≡ padded y q
+pub padded-rewritten : (x y : ℕ) (p q : Parcel) → p.message ≡ q.message → with_part (padded x p) 0 (parcel_bytes y q) ≡ padded y q
 unfolding padded
 padded-rewritten x y p q e =
     let n = block_room (parcel_size p.message) in
@@ -75,10 +76,10 @@ padded-rewritten x y p q e =
     let l2 = length-parcel_bytes y q in
     let l3 = ap parcel_size e in
     put-put (zeros n) 0 (parcel_bytes x p) (parcel_bytes y q) (omega arith) (omega arith)
-    ∙ ap (λ (m : Message). put (zeros (block_room (parcel_size m))) 0 (parcel_bytes y q)) e
+    ∙ ap (λ (m : Message). with_part (zeros (block_room (parcel_size m))) 0 (parcel_bytes y q)) e
 
 -- another code in the second word
-pub padded-recoded : (x : ℕ) (p q : Parcel) → p.message ≡ q.message → put (padded x p) 4 (word_bytes (code_number q.code)) ≡ padded x q
+pub padded-recoded : (x : ℕ) (p q : Parcel) → p.message ≡ q.message → with_part (padded x p) 4 (word_bytes (code_number q.code)) ≡ padded x q
 unfolding padded
 padded-recoded x p q e =
     let n = block_room (parcel_size p.message) in
@@ -90,18 +91,18 @@ padded-recoded x p q e =
     let lc = length-word_bytes (code_number q.code) in
     let ld = length-word_bytes (code_number p.code) in
     let le = length-encoded p.message in
-    let z : List ℕ = put (zeros n) 0 (word_bytes x) in
+    let z : List ℕ = with_part (zeros n) 0 (word_bytes x) in
     let lp = length-put (zeros n) 0 (word_bytes x) in
     let lq = length-put z 4 old in
-    let split : put (zeros n) 0 (parcel_bytes x p) ≡ put (put z 4 old) 8 (encoded p.message) =
+    let split : with_part (zeros n) 0 (parcel_bytes x p) ≡ with_part (with_part z 4 old) 8 (encoded p.message) =
     padded-tail x p ∙ sym (puts_in_row z 4 8 old (encoded p.message) (omega arith)) in
-    ap (λ b. put b 4 new) split
-    ∙ sym (put_apart (put z 4 old) 4 new 8 (encoded p.message) (omega arith) (omega arith))
-    ∙ ap (λ b. put b 8 (encoded p.message)) (put-put z 4 old new (omega arith) (omega arith))
+    ap (λ b. with_part b 4 new) split
+    ∙ sym (put_apart (with_part z 4 old) 4 new 8 (encoded p.message) (omega arith) (omega arith))
+    ∙ ap (λ b. with_part b 8 (encoded p.message)) (put-put z 4 old new (omega arith) (omega arith))
     ∙ puts_in_row z 4 8 new (encoded p.message) (omega arith)
     ∙ puts_in_row (zeros n) 0 4 (word_bytes x) (new ++ encoded p.message) (omega arith)
-    ∙ ap (λ (m : Message). put (zeros (block_room (parcel_size m))) 0 (word_bytes x ++ (new ++ encoded m))) e
-    ∙ ap (put (zeros (block_room (parcel_size q.message))) 0) (sym (parcel-row x q))
+    ∙ ap (λ (m : Message). with_part (zeros (block_room (parcel_size m))) 0 (word_bytes x ++ (new ++ encoded m))) e
+    ∙ ap (with_part (zeros (block_room (parcel_size q.message))) 0) (sym (parcel-row x q))
 
 -- ---- what is read there
 abbrev pub parcel_words : ℕ → Parcel → List ℕ

@@ -1,6 +1,7 @@
 -- What sends, polls and deaths keep of a post.
 use Rattle.rh_defs.proofs.Common.{◌≡◌, ℕ, ◌+◌, ◌/◌, ◌≤◌, ◌<◌, Bool, true, false, cond, refl, ap, sym, subst, ◌∙◌, arith, List, [], ◌∷◌, ◌++◌, length}
-use Rattle.rh_defs.proofs.Common.{length-append, Option, Some, None, IfSome, ◌==◌, filter, not, ◌^◌, AllByRecursion, eqb-true, eqb-false, Letter, total, page}
+use Rattle.rh_defs.proofs.Common.{length-append, Option, Some, None, IfSome, ◌==◌, filter, not, ◌^◌, AllByRecursion, eqb-true, eqb-false, Letter, total}
+use Rattle.rh_defs.proofs.Common.{page_size}
 use Rattle.rh_defs.proofs.Common.{Heap, FillsPages, poked, Parcel, is_recorded, parcel_bytes, parcel_size, Seat, Post, has_seat, held_by, with_held}
 use Rattle.rh_defs.proofs.Common.{post_join, answers_held, put_down, queued_in, posted, message_of, sendable, post_send, as_returned, without_block, bounced}
 use Rattle.rh_defs.proofs.Common.{bounce_held, first_for, taken_from, post_poll, bounce_all, post_death}
@@ -374,7 +375,7 @@ post_death-kept h post is =
 
 -- what a send leaves, where so many pages are free
 pub record PostSent (free : ℕ) (old new : Post) : Type 0 where
-  pub room : new.heap.end / page ≤ free + old.heap.end / page
+  pub room : new.heap.end / page_size ≤ free + old.heap.end / page_size
   pub handles : seat_handles new.seats ≡ seat_handles old.seats
   pub post : IsPost new
 

@@ -1,9 +1,10 @@
 -- What a resize does to a heap's shape and to its blocks.
 use Rattle.rh_defs.proofs.Common.{◌≡◌, ◌≢◌, ℕ, ◌+◌, ◌-◌, ◌<◌, ◌≤◌, inl, inr, Bool, true, false, cond, eqb, leb, ltb, List, [], ◌∷◌, ◌++◌, length, append-nil}
-use Rattle.rh_defs.proofs.Common.{refl, sym, ap, subst, ◌∙◌, arith, cases_lt, nat_tests, eqb_tells, Option, Some, None, IfSome, option_map, block_bytes, Puts}
+use Rattle.rh_defs.proofs.Common.{refl, sym, ap, subst, ◌∙◌, arith, cases_lt, nat_tests, eqb_tells, Option, Some, None, IfSome, option_map, block_bytes}
+use Rattle.rh_defs.proofs.Common.{PutsBlock}
 use Rattle.rh_defs.proofs.Common.{Split, total, zeros, Segment, Used, Hole, Heap, Placed, Way, Stays, Shrinks, GrowsIntoHole, GrowsAtTop, MovesToHole}
-use Rattle.rh_defs.proofs.Common.{MovesToTop, size_of, bytes_of, place_after, with_hole, joined, placed, placed_in, hole_for, is_block_at, block_at}
-use Rattle.rh_defs.proofs.Common.{segment_size, block_room, raised, release, release_found, fitted, way_to, way_to_grow, way_beyond, end_for, resize_need}
+use Rattle.rh_defs.proofs.Common.{MovesToTop, size_of, bytes_of, place_after, with_hole, joined, placed_block, placed_in, hole_for, is_block_at, block_at}
+use Rattle.rh_defs.proofs.Common.{segment_size, block_room, raised, release_block, release_found, fitted, way_to, way_to_grow, way_beyond, end_for, resize_need}
 use Rattle.rh_defs.proofs.Common.{resized_by, resize_growing}
 use Rattle.std.proofs.lemmas.List.{take_all}
 use Rattle.rh_defs.specs.Blocks.{blank, blanked, bytes_at, SameShape}
@@ -99,16 +100,16 @@ found-blanked h (Some s) =
     ∙ ap joined (sym (blank-append s.before (Hole (size_of s.here) ∷ s.after)))
     ∙ sym (blank-joined (s.before ++ Hole (size_of s.here) ∷ s.after)))
 
-release-blanked : (a : ℕ) (h : Heap) → release a (blanked h) ≡ blanked (release a h)
+release-blanked : (a : ℕ) (h : Heap) → release_block a (blanked h) ≡ blanked (release_block a h)
 release-blanked a h = ap (λ o. release_found o (blanked h)) (block-blank a 16 h.segments) ∙ found-blanked h (block_at a h)
 
 -- a block that moves to a place
 moved-blank : (bytes : List ℕ) (before : List Segment) (h : Heap) (o : Option (Split Segment))
-    → release (place_after (blank before) + 4) (placed_in (zeros (length bytes)) (blanked h) (option_map blank_cut o)).heap ≡ blanked
-    (release (place_after before + 4) (placed_in bytes h o).heap)
+    → release_block (place_after (blank before) + 4) (placed_in (zeros (length bytes)) (blanked h) (option_map blank_cut o)).heap ≡ blanked
+    (release_block (place_after before + 4) (placed_in bytes h o).heap)
 moved-blank bytes before h o =
-    ap (λ x. release (16 + x + 4) (placed_in (zeros (length bytes)) (blanked h) (option_map blank_cut o)).heap) (total-blank before)
-    ∙ ap (release (place_after before + 4)) (placed-blank bytes h o).0
+    ap (λ x. release_block (16 + x + 4) (placed_in (zeros (length bytes)) (blanked h) (option_map blank_cut o)).heap) (total-blank before)
+    ∙ ap (release_block (place_after before + 4)) (placed-blank bytes h o).0
     ∙ release-blanked (place_after before + 4) (placed_in bytes h o).heap
 
 -- a block's place and the heap, once the block has another size
@@ -205,8 +206,8 @@ in_place xs ys zs old new q end end' e f = record {
 }
 
 -- a block that was put elsewhere, and is released where it lay
-elsewhere : (a : ℕ) (old bytes : List ℕ) (h k : Heap) (address : ℕ) → block_bytes a h ≡ Some old → Puts bytes h k address
-    → Moves a bytes h (release a k) address
+elsewhere : (a : ℕ) (old bytes : List ℕ) (h k : Heap) (address : ℕ) → block_bytes a h ≡ Some old → PutsBlock bytes h k address
+    → Moves a bytes h (release_block a k) address
 elsewhere a old bytes h k address e p =
     let w = release-frees a k in
     let apart : address ≢ a = λ z. let bad : Some old ≡ None = sym e ∙ ap (λ b. block_bytes b h) (sym z) ∙ p.fresh in absurd cc in
@@ -288,17 +289,17 @@ module _ (s : Split Segment) (h k : Heap) (old bytes : List ℕ) (used : s.here 
   }
 
   moves_to : (o : Option (Split Segment)) → hole_for (4 + length bytes) h.segments ≡ o
-      → Moves at_cut bytes h (release at_cut (placed_in bytes k o).heap) (placed_in bytes k o).address
+      → Moves at_cut bytes h (release_block at_cut (placed_in bytes k o).heap) (placed_in bytes k o).address
   moves_to o e =
       let w = placed-puts bytes k in
       let o_is : hole_for (4 + length bytes) k.segments ≡ o = ap (hole_for (4 + length bytes)) same ∙ e in
-      let p : Puts bytes h (placed bytes k).heap (placed bytes k).address = record {
-        fresh = ap (bytes_at (placed bytes k).address 16) (sym same) ∙ w.fresh;
+      let p : PutsBlock bytes h (placed_block bytes k).heap (placed_block bytes k).address = record {
+        fresh = ap (bytes_at (placed_block bytes k).address 16) (sym same) ∙ w.fresh;
         here = w.here;
         others = λ b ne. w.others b ne ∙ ap (bytes_at b 16) same;
       } in
-      subst (λ x. Moves at_cut bytes h (release at_cut (placed_in bytes k x).heap) (placed_in bytes k x).address) o_is
-      (elsewhere at_cut old bytes h (placed bytes k).heap (placed bytes k).address there p)
+      subst (λ x. Moves at_cut bytes h (release_block at_cut (placed_in bytes k x).heap) (placed_in bytes k x).address) o_is
+      (elsewhere at_cut old bytes h (placed_block bytes k).heap (placed_block bytes k).address there p)
 
   by-moves : (w : Way) → WayIs (4 + length bytes) s h w → (w ≡ Stays → bytes ≡ old)
       → Moves at_cut bytes h (resized_by w bytes s k).heap (resized_by w bytes s k).address

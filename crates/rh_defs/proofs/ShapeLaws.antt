@@ -1,9 +1,10 @@
 -- What a heap's calls do to its shape, and that they look at no block's bytes.
 use Rattle.rh_defs.proofs.Common.{◌≡◌, ℕ, zero, suc, ◌+◌, ◌-◌, Bool, true, false, cond, eqb, leb, ltb, List, [], ◌∷◌, ◌++◌, length, refl, sym, ap, subst, ◌∙◌}
-use Rattle.rh_defs.proofs.Common.{arith, length-replicate, Option, Some, None, Ok, Err, option_map, put, Granted, ◌>>=◌, ◌>>◌, refuse_if, total, Split}
+use Rattle.rh_defs.proofs.Common.{arith, length-replicate, Option, Some, None, Ok, Err, option_map, with_part, Granted, ◌>>=◌, ◌>>◌, refuse_if, total, Split}
 use Rattle.rh_defs.proofs.Common.{behind, first_at, zeros, pages_for, Segment, Used, Hole, Heap, Placed, size_of, bytes_of, with_hole, joined, hole_for}
-use Rattle.rh_defs.proofs.Common.{is_hole_for, block_at, is_block_at, placed, placed_in, segment_size, block_room, shortage_in, need, raised, claim_growing}
-use Rattle.rh_defs.proofs.Common.{release, release_found, module_claim, module_need_pages, BadSize, NoRoom, length-put, poked}
+use Rattle.rh_defs.proofs.Common.{is_hole_for, block_at, is_block_at, placed_block, placed_in, segment_size, block_room, shortage_in, need, raised}
+use Rattle.rh_defs.proofs.Common.{claim_growing}
+use Rattle.rh_defs.proofs.Common.{release_block, release_found, module_claim, module_need_pages, BadSize, NoRoom, length-put, poked}
 use Rattle.rh_defs.specs.Heap.{block_size}
 use Rattle.rh_defs.specs.Blocks.{blank, blanked, written_at, SameShape}
 
@@ -35,7 +36,8 @@ blank-joined (Hole n ∷ ss) = blank-with_hole n (joined ss) ∙ ap (with_hole n
 pub blank-written : (a o : ℕ) (xs : List ℕ) (p : ℕ) (ss : List Segment) → blank (written_at a o xs p ss) ≡ blank ss
 blank-written a o xs p [] = refl
 blank-written a o xs p (Used bs ∷ ss) =
-    elim (eqb a (p + 4)) as (λ t. blank (cond t (Used (put bs o xs) ∷ ss) (Used bs ∷ written_at a o xs (p + (4 + length bs)) ss)) ≡ blank (Used bs ∷ ss)) [
+    elim (eqb a (p + 4)) as (λ t. blank (cond t (Used (with_part bs o xs) ∷ ss) (Used bs ∷ written_at a o xs (p + (4 + length bs)) ss)) ≡ blank
+    (Used bs ∷ ss)) [
       | true ↦ ap (λ n. Used (zeros n) ∷ blank ss) (length-put bs o xs)
       | false ↦ ap (λ l. Used (zeros (length bs)) ∷ l) (blank-written a o xs (p + (4 + length bs)) ss)
     ]
@@ -137,10 +139,11 @@ in-blank m h (Some s) =
       };
     }
 
-placed-blank : (m : ℕ) (h : Heap) → PutAlike (placed (zeros m) (blanked h)) (placed (zeros m) h)
+placed-blank : (m : ℕ) (h : Heap) → PutAlike (placed_block (zeros m) (blanked h)) (placed_block (zeros m) h)
 placed-blank m h =
     let t : ℕ = 4 + length (zeros m) in
-    subst (λ o. PutAlike (placed_in (zeros m) (blanked h) o) (placed (zeros m) h)) (sym (hole-blank t 16 h.segments)) (in-blank m h (hole_for t h.segments))
+    subst (λ o. PutAlike (placed_in (zeros m) (blanked h) o) (placed_block (zeros m) h)) (sym (hole-blank t 16 h.segments))
+    (in-blank m h (hole_for t h.segments))
 
 pub same_heap : (h d : Heap) → SameShape h d → blanked h ≡ blanked d
 same_heap h d s = ap (λ l. heap_with l h.end) s.blank ∙ ap (heap_with (blank d.segments)) s.end
@@ -154,16 +157,16 @@ shape-both s t = record { blank = s.blank ∙ t.blank; end = s.end ∙ t.end }
 pub need-alike : (n : ℕ) (h d : Heap) → SameShape h d → need n h ≡ need n d
 need-alike n h d s = sym (need-blank n h) ∙ ap (need n) (same_heap h d s) ∙ need-blank n d
 
-placed-alike : (m : ℕ) (h d : Heap) → SameShape h d → PutAlike (placed (zeros m) h) (placed (zeros m) d)
+placed-alike : (m : ℕ) (h d : Heap) → SameShape h d → PutAlike (placed_block (zeros m) h) (placed_block (zeros m) d)
 placed-alike m h d s =
     let x = placed-blank m h in
-    let y : PutAlike (placed (zeros m) (blanked h)) (placed (zeros m) d) =
-    subst (λ (k : Heap). PutAlike (placed (zeros m) k) (placed (zeros m) d)) (sym (same_heap h d s)) (placed-blank m d) in
+    let y : PutAlike (placed_block (zeros m) (blanked h)) (placed_block (zeros m) d) =
+    subst (λ (k : Heap). PutAlike (placed_block (zeros m) k) (placed_block (zeros m) d)) (sym (same_heap h d s)) (placed-blank m d) in
     record { address = sym x.address ∙ y.address; shape = shape-both (shape-sym x.shape) y.shape }
 
 pub growing-alike : (n : ℕ) (h d : Heap) → SameShape h d → PutAlike (claim_growing n h) (claim_growing n d)
 growing-alike n h d s =
-    subst (λ k. PutAlike (claim_growing n h) (placed (zeros (block_room n)) (raised k d))) (need-alike n h d s)
+    subst (λ k. PutAlike (claim_growing n h) (placed_block (zeros (block_room n)) (raised k d))) (need-alike n h d s)
     (placed-alike (block_room n) (raised (need n h) h) (raised (need n h) d)
     (record { blank = s.blank; end = ap (λ e. (raised (need n h) (heap_with [] e)).end) s.end }))
 
@@ -210,12 +213,13 @@ found-blank h (Some s) = record {
   end = refl;
 }
 
-release-blank : (a : ℕ) (h : Heap) → SameShape (release a (blanked h)) (release a h)
-release-blank a h = subst (λ o. SameShape (release_found o (blanked h)) (release a h)) (sym (block-blank a 16 h.segments)) (found-blank h (block_at a h))
+release-blank : (a : ℕ) (h : Heap) → SameShape (release_block a (blanked h)) (release_block a h)
+release-blank a h = subst (λ o. SameShape (release_found o (blanked h)) (release_block a h)) (sym (block-blank a 16 h.segments)) (found-blank h (block_at a h))
 
-pub release-alike : (a : ℕ) (h d : Heap) → SameShape h d → SameShape (release a h) (release a d)
+pub release-alike : (a : ℕ) (h d : Heap) → SameShape h d → SameShape (release_block a h) (release_block a d)
 release-alike a h d s =
-    shape-both (shape-sym (release-blank a h)) (subst (λ (k : Heap). SameShape (release a k) (release a d)) (sym (same_heap h d s)) (release-blank a d))
+    shape-both (shape-sym (release-blank a h)) (subst (λ (k : Heap). SameShape (release_block a k) (release_block a d)) (sym (same_heap h d s))
+    (release-blank a d))
 
 -- ---- sizes of blocks
 abbrev bytes_at_cut : Option (Split Segment) → Option ℕ

@@ -8,7 +8,7 @@ use borrow.Author.Tests.{leb-true}
 use Rattle.rh_defs.specs.Chain.{result_or}
 use Rattle.rh_defs.specs.Pieces.{written, is_inside}
 use Rattle.rh_defs.specs.Heap.{block_around, is_around}
-use Rattle.rh_defs.specs.Slot.{flex_address, block_of, flex_around, heap_block_at, with_bytes, length_with, lacks_room, opened_at, taken_out, slot_begin}
+use Rattle.rh_defs.specs.Slot.{flex_address, block_of, flex_around, heap_block_at, with_block_bytes, length_with, lacks_room, opened_at, taken_out, slot_begin}
 use Rattle.rh_defs.specs.Slot.{slot_alloc, slot_block, slot_free, slot_extend, slot_mid, slot_put, slot_claim, slot_release, slot_resize}
 use Rattle.rh_defs.specs.Places.{with_heap_bytes, roomy_in, buffer_at, written_heap, written_around, written_in}
 use Rattle.rh_defs.specs.IncomingEvents.{without_buffer}
@@ -37,7 +37,7 @@ block-grants k s = found_or-grants (AtAnchor k s) (block_of k s) _ (first_at-cut
 
 -- other bytes in a block
 bytes-slot : {test : ℕ → Flex → Bool} {place : ℕ} (b : Split Flex) (bytes : List ℕ) (s : Slot) → IsCut weight test place s.blocks b → IsSlot s
-    → IsSlot (with_bytes b bytes s)
+    → IsSlot (with_block_bytes b bytes s)
 bytes-slot b bytes s cut is =
     record {
       heap = is.heap;
@@ -45,15 +45,15 @@ bytes-slot b bytes s cut is =
     }
 
 bytes-room : {test : ℕ → Flex → Bool} {place : ℕ} (free n : ℕ) (b : Split Flex) (bytes : List ℕ) (s : Slot) → IsCut weight test place s.blocks b
-    → length bytes ≡ n → lacks_room free (length_with b n s) s ≡ false → IsSlot s → IsRoomed free s (with_bytes b bytes s)
+    → length bytes ≡ n → lacks_room free (length_with b n s) s ≡ false → IsSlot s → IsRoomed free s (with_block_bytes b bytes s)
 bytes-room free n b bytes s cut e room is =
-    let size : slot_length (with_bytes b bytes s) ≡ length_with b n s = length-with_bytes b bytes s (sym cut.whole) ∙ ap (λ m. length_with b m s) e in
+    let size : slot_length (with_block_bytes b bytes s) ≡ length_with b n s = length-with_bytes b bytes s (sym cut.whole) ∙ ap (λ m. length_with b m s) e in
     let some : pages_for (length_with b n s) - slot_pages s ≤ free = ltb-false _ _ room in
     record { room = omega (arith, ap pages_for size, some); slot = bytes-slot b bytes s cut is }
 
 -- as many bytes as before
 same-room : {test : ℕ → Flex → Bool} {place : ℕ} (b : Split Flex) (bytes : List ℕ) (s : Slot) → IsCut weight test place s.blocks b
-    → length bytes ≡ length b.here.bytes → slot_pages (with_bytes b bytes s) ≡ slot_pages s
+    → length bytes ≡ length b.here.bytes → slot_pages (with_block_bytes b bytes s) ≡ slot_pages s
 same-room b bytes s cut e =
     ap pages_for (omega (
       arith,

@@ -2,7 +2,7 @@
 use Rattle.rh_defs.proofs.Common.{◌≡◌, ℕ, ◌+◌, ◌-◌, ◌≤◌, List, [], ◌∷◌, ◌++◌, length, ap, arith, length-append, length-take, length-drop, length-replicate, ℤ}
 use Rattle.rh_defs.proofs.Common.{pos, negsuc, pages_for, moved, zeros, total, Split, Heap, fitted, raised, Slot, Flex, weight, flex_weight, slot_length}
 use Rattle.rh_defs.proofs.Common.{slot_pages, with_heap}
-use Rattle.rh_defs.specs.Slot.{with_block, with_bytes, length_with, opened_at, taken_out}
+use Rattle.rh_defs.specs.Slot.{with_block, with_block_bytes, length_with, opened_at, taken_out}
 use Rattle.rh_defs.proofs.Cuts.{total-append}
 
 -- one more block
@@ -14,7 +14,7 @@ length-with_zeros k n s = omega (arith, total-append weight s.blocks (record { a
 
 -- other bytes in a block
 pub length-with_bytes : (b : Split Flex) (bytes : List ℕ) (s : Slot) → s.blocks ≡ b.before ++ b.here ∷ b.after
-    → slot_length (with_bytes b bytes s) ≡ length_with b (length bytes) s
+    → slot_length (with_block_bytes b bytes s) ≡ length_with b (length bytes) s
 length-with_bytes b bytes s whole =
     omega (
       arith,

@@ -1,6 +1,6 @@
 -- Worked slots and module areas: the definitions compute these answers.
 use Rattle.rh_defs.proofs.Common.{◌≡◌, refl, ℕ, ◌-◌, ◌/◌, ℤ, pos, negsuc, Bool, true, false, List, [], ◌∷◌, map, Ok, Err, NotABlock, BadSize, NoRoom, Granted}
-use Rattle.rh_defs.proofs.Common.{answer_of, left_of, page, Heap, Slot, slot_pages, module_claim, module_free, module_resize, module_change}
+use Rattle.rh_defs.proofs.Common.{answer_of, left_of, page_size, Heap, Slot, slot_pages, module_claim, module_free, module_resize, module_change}
 use Rattle.rh_defs.specs.declared.refusal.Refusal.TheVariants.{AnchorInUse, BadRange, NoBudge, ExcessiveShrink}
 use Rattle.rh_defs.specs.declared.question.BlockItem.{BlockItem}
 use Rattle.rh_defs.specs.Chain as chain
@@ -154,10 +154,10 @@ pub data ModuleCall : Type 0 where
 
 -- a call on the module area of a pool of 8 pages of which no other area has one
 abbrev pub module_called : Heap → ModuleCall → Heap × Granted ℕ
-module_called h (ModuleClaim n) = answered h (module_claim (8 - h.end / page) n h)
+module_called h (ModuleClaim n) = answered h (module_claim (8 - h.end / page_size) n h)
 module_called h (ModuleFree address) = done h (module_free address h)
-module_called h (ModuleResize address delta) = answered h (module_resize (8 - h.end / page) address delta h)
-module_called h (Change delta) = answered h (module_change (8 - h.end / page) delta h)
+module_called h (ModuleResize address delta) = answered h (module_resize (8 - h.end / page_size) address delta h)
+module_called h (Change delta) = answered h (module_change (8 - h.end / page_size) delta h)
 
 abbrev pub module_answers : Heap → List ModuleCall → List (Granted ℕ)
 module_answers h [] = []

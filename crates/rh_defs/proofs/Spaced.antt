@@ -1,5 +1,5 @@
 -- Blocks that lie one after the other are apart.
-use Rattle.rh_defs.proofs.Common.{ℕ, ◌+◌, ◌*◌, ◌/◌, ◌≤◌, arith, List, [], ◌∷◌, ◌++◌, length, inl, AllByRecursion, total, page, Heap, Segment, Used, Hole}
+use Rattle.rh_defs.proofs.Common.{ℕ, ◌+◌, ◌*◌, ◌/◌, ◌≤◌, arith, List, [], ◌∷◌, ◌++◌, length, inl, AllByRecursion, total, page_size, Heap, Segment, Used, Hole}
 use Rattle.rh_defs.proofs.Common.{size_of, first_place, Slot, Flex, IsSlot, weight, heap_start, flex_start, slot_pages, FillsPages, Desk, IsDesk}
 use Rattle.rh_defs.specs.Slot.{slot_start}
 use Rattle.rh_defs.specs.Desk.{module_start}
@@ -52,7 +52,7 @@ apart-join from between to [] more f g p q = q
 apart-join from between to (a ∷ spans) more f g p q =
     (all-join (IsApart a) spans more p.0 (before-all a between to more f.0.1 g), apart-join from between to spans more f.1 g p.1 q)
 
-pub slot-laid_out : (s : Slot) → IsSlot s → AreLaidOut slot_start (page * slot_pages s) (slot_spans s)
+pub slot-laid_out : (s : Slot) → IsSlot s → AreLaidOut slot_start (page_size * slot_pages s) (slot_spans s)
 slot-laid_out s is =
     let lower = widened _ _ heap_start (flex_start s) (heap_spans (heap_start + first_place) s.heap.segments) (omega arith) (omega (arith, is.heap.fits))
     (heap_spans-within (heap_start + first_place) s.heap.segments) in
@@ -60,13 +60,13 @@ slot-laid_out s is =
     record {
       apart = apart-join heap_start (flex_start s) (flex_start s + total weight s.blocks) _ _ lower upper
           (heap_spans-apart (heap_start + first_place) s.heap.segments) (flex_spans-apart (flex_start s) s.blocks);
-      within = all-join (IsWithin slot_start (slot_start + page * slot_pages s)) _ _
+      within = all-join (IsWithin slot_start (slot_start + page_size * slot_pages s)) _ _
           (widened _ _ _ _ (heap_spans (heap_start + first_place) s.heap.segments) (omega arith) (omega arith) lower)
           (widened _ _ _ _ (flex_spans (flex_start s) s.blocks) (omega arith) (omega arith) upper);
     }
 
 -- the module area's blocks lie below its heap's end, which is its length
-pub module-laid_out : (h : Heap) → FillsPages h → AreLaidOut module_start (page * (h.end / page)) (module_spans h)
+pub module-laid_out : (h : Heap) → FillsPages h → AreLaidOut module_start (page_size * (h.end / page_size)) (module_spans h)
 module-laid_out h is = record {
   apart = heap_spans-apart (module_start + first_place) h.segments;
   within =

@@ -1,7 +1,8 @@
 -- Each command, step by step; and what follows of every run.
 use Rattle.rh_defs.proofs.Common.{◌≡◌, ◌≢◌, ℕ, ◌+◌, ◌*◌, ◌/◌, ◌≤◌, ◌<◌, ◌^◌, Bool, true, false, cond, refl, ap, sym, subst, ◌∙◌, arith, List, [], ◌∷◌, ◌++◌}
 use Rattle.rh_defs.proofs.Common.{length, length-append, map, Option, Some, None, ℤ, pos, negsuc, ◌&&◌, ◌==◌, nat_lt, not, find, filter, slice_index}
-use Rattle.rh_defs.proofs.Common.{AllByRecursion, ltb-false, eqb-true, eqb-false, anchor_count, Command, Granted, page, total, changed_length, Parcel, Post}
+use Rattle.rh_defs.proofs.Common.{AllByRecursion, ltb-false, eqb-true, eqb-false, anchor_count, Command, Granted, page_size, total, changed_length, Parcel}
+use Rattle.rh_defs.proofs.Common.{Post}
 use Rattle.rh_defs.proofs.Common.{post_poll, post_death, post_join, Desk, Task, free_pages, named, with_delivered, nat_tests, Answer, scrap_area}
 use Rattle.rh_defs.proofs.Common.{file_length, asked, step}
 use Rattle.rh_defs.proofs.Common.{handled, start_with, IsDesk}
@@ -51,7 +52,7 @@ with_new_task-keeps d t next few more room slot is =
     ∙ sym (map-append (λ (t : Task). t.handle) d.tasks (t ∷ [])) in
     record {
       pool = is.pool;
-      pages = omega (arith, is.pages, room, total-append task_pages d.tasks (t ∷ []), ap (λ n. n / page) (post_join-end d.next_handle d.post));
+      pages = omega (arith, is.pages, room, total-append task_pages d.tasks (t ∷ []), ap (λ n. n / page_size) (post_join-end d.next_handle d.post));
       handles = rise-append (λ (t : Task). t.handle) 0 d.next_handle d.tasks t is.handles next;
       last = omega (arith, more);
       few = omega (arith, few, length-append d.tasks (t ∷ []));
@@ -88,16 +89,16 @@ delivered-task p d t task = record { found = task.found; slot = task.slot }
 -- the pages of an area after a change: free ones suffice, and it keeps what it must
 record PagesFit (free least pages n : ℕ) : Type 0 where
   room : n ≤ free + pages
-  enough : least ≤ page * n
+  enough : least ≤ page_size * n
 
-pages_after-grants : (free least pages : ℕ) (delta : ℤ) → least ≤ page * pages → OnGrant (PagesFit free least pages) (pages_after free least pages delta)
+pages_after-grants : (free least pages : ℕ) (delta : ℤ) → least ≤ page_size * pages → OnGrant (PagesFit free least pages) (pages_after free least pages delta)
 unfolding pages_after
 pages_after-grants free least pages delta enough =
     granted-past _ _ _ λ low. granted-past _ _ _ λ room.
-    let whole = changed-whole (page * pages) delta (omega arith) in
+    let whole = changed-whole (page_size * pages) delta (omega arith) in
     granted (record { room = omega (arith, whole, ltb-false _ _ room); enough = omega (arith, whole, kept delta low) })
   where
-    kept : (delta : ℤ) → shrinks_below least (page * pages) delta ≡ false → least ≤ changed_length (page * pages) delta
+    kept : (delta : ℤ) → shrinks_below least (page_size * pages) delta ≡ false → least ≤ changed_length (page_size * pages) delta
     kept (pos by) e = omega (arith, enough)
     kept (negsuc by) e = omega (arith, ltb-false _ _ e)
 
@@ -170,7 +171,7 @@ module _ (d : Desk) where
       let dead = post_death-kept t.handle d.post is.post in
       granted (answer-is (record {
         pool = is.pool;
-        pages = omega (arith, is.pages, ap (λ n. n / page) dead.end, filter-total task_pages other d.tasks);
+        pages = omega (arith, is.pages, ap (λ n. n / page_size) dead.end, filter-total task_pages other d.tasks);
         handles = rise-filter (λ (u : Task). u.handle) other 0 d.next_handle d.tasks is.handles;
         last = is.last;
         few = omega (arith, is.few, filter-length other d.tasks);
@@ -209,7 +210,7 @@ module _ (d : Desk) where
       granted-with _ (pages_after-grants (free_pages d) (least_length k d) (slice_index d.areas k) delta (enough (k == scrap_area) refl)) λ n fits.
       granted (answer-is (areas-keep k n d below other fits.room fits.enough is))
     where
-      enough : (b : Bool) → (k == scrap_area) ≡ b → cond b (file_length d.scrap) 0 ≤ page * slice_index d.areas k
+      enough : (b : Bool) → (k == scrap_area) ≡ b → cond b (file_length d.scrap) 0 ≤ page_size * slice_index d.areas k
       enough true e = omega (arith, is.scrap, ap (slice_index d.areas) (eqb-true _ _ e))
       enough false e = omega arith
 

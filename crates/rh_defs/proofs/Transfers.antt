@@ -1,7 +1,7 @@
 -- What the parts of a transfer keep of a desk.
 use Rattle.rh_defs.proofs.Common.{ℕ, suc, zero, ◌+◌, ◌*◌, ◌≤◌, ◌<◌, true, false, cond, refl, ap, arith, List, length, take, drop, length-take, Option, Some}
 use Rattle.rh_defs.proofs.Common.{None, IfSome, slice_index, ltb-false, Refusal, EventCode, User, Recorded, Acknowledge, Body, DataSave, DataSaveAck}
-use Rattle.rh_defs.proofs.Common.{DataLoad, DataLoadAck, RamFetch, RamTransmit, Incoming, page, Split, Slot, Flex, anchor_count, Parcel, Desk, Task, Scrap}
+use Rattle.rh_defs.proofs.Common.{DataLoad, DataLoadAck, RamFetch, RamTransmit, Incoming, page_size, Split, Slot, Flex, anchor_count, Parcel, Desk, Task, Scrap}
 use Rattle.rh_defs.proofs.Common.{free_pages, scrap_area, file_length, handled, IsDesk}
 use Rattle.std.proofs.lemmas.List.{get_or-set_same}
 use Rattle.rh_defs.specs.declared.transfer.Sending.{Sending}
@@ -13,7 +13,8 @@ use Rattle.rh_defs.specs.Places.{free_from, free_anchor}
 use Rattle.rh_defs.specs.Desk.{next_ref, with_slot}
 use Rattle.rh_defs.specs.OutgoingEvents.{Handled, refused as failed_by, portion, transmit, answer_fetch, fail_sending, scrap_shortage, wider, save_scrap}
 use Rattle.rh_defs.specs.OutgoingEvents.{answer_ack, finish_load}
-use Rattle.rh_defs.specs.IncomingEvents.{without_buffer, ended, accept, take_save, appended, fetch_more, took, take_bytes, ask, fetch_back, ack_back, loaded}
+use Rattle.rh_defs.specs.IncomingEvents.{without_buffer, taking_ended, accept, take_save, appended, fetch_more, took, take_bytes, ask, fetch_back, ack_back}
+use Rattle.rh_defs.specs.IncomingEvents.{loaded}
 use Rattle.rh_defs.specs.IncomingEvents.{load_file, take_file}
 use Rattle.rh_defs.specs.Transfer.{came, came_back}
 use Rattle.rh_defs.proofs.Chains.{OnGrant, granted, granted-then, granted-with, granted-both, granted-past, granted-unless, found_or-grants, or_else-keeps}
@@ -68,13 +69,13 @@ wider-keeps more d room is =
     (omega (arith, is.scrap)) is
 
 -- area 5 has room for the bytes that it was made wider for
-pub wider-room : (n : ℕ) (d : Desk) → IsDesk d → n ≤ page * slice_index (wider (scrap_shortage n d) d).areas scrap_area
+pub wider-room : (n : ℕ) (d : Desk) → IsDesk d → n ≤ page_size * slice_index (wider (scrap_shortage n d) d).areas scrap_area
 wider-room n d is =
     let five : scrap_area < length d.areas = omega (arith, is.areas.six) in
     omega (arith, get_or-set_same d.areas scrap_area (slice_index d.areas scrap_area + scrap_shortage n d) 0 five)
 
 -- a scrap file that area 5 has room for
-pub scrap-keeps : (o : Option Scrap) (d : Desk) → file_length o ≤ page * slice_index d.areas scrap_area → IsDesk d → IsDesk (record d { scrap = o })
+pub scrap-keeps : (o : Option Scrap) (d : Desk) → file_length o ≤ page_size * slice_index d.areas scrap_area → IsDesk d → IsDesk (record d { scrap = o })
 scrap-keeps o d room is = record {
   pool = is.pool;
   pages = is.pages;
@@ -125,8 +126,8 @@ free_from-small k (suc rest) s =
     mono None h = tt
     mono (Some a) h = omega (arith, h)
 
-ended-keeps : (h : ℕ) (f : Taking) (edit : List Incoming → List Incoming) (d : Desk) → IsDesk d → IsDesk (ended h f edit d)
-unfolding ended
+ended-keeps : (h : ℕ) (f : Taking) (edit : List Incoming → List Incoming) (d : Desk) → IsDesk d → IsDesk (taking_ended h f edit d)
+unfolding taking_ended
 ended-keeps h f edit d is =
     with_taking-keeps h edit _
     (with_task-keeps h (λ t. record t { slot = without_buffer f.buffer t.slot }) d (λ t. refl) (λ t slot. without_buffer-kept f.buffer t.slot slot) is)

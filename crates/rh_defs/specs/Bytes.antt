@@ -11,13 +11,13 @@ unfoldable pub word : List ℕ → ℕ → ℕ
 word b at = from_le_bytes w32 (slice_index b at ∷ slice_index b (at + 1) ∷ slice_index b (at + 2) ∷ slice_index b (at + 3) ∷ [])
 
 -- the bytes with others written over them from a place on
-unfoldable pub put : List ℕ → ℕ → List ℕ → List ℕ
-put b at [] = b
-put b at (x ∷ xs) = put (slice_set b at x) (at + 1) xs
+unfoldable pub with_part : List ℕ → ℕ → List ℕ → List ℕ
+with_part b at [] = b
+with_part b at (x ∷ xs) = with_part (slice_set b at x) (at + 1) xs
 
 -- the bytes with a word written at a place
 unfoldable pub put_word : List ℕ → ℕ → ℕ → List ℕ
-put_word b at w = put b at (to_le_bytes w32 w)
+put_word b at w = with_part b at (to_le_bytes w32 w)
 
 -- the four bytes of a word
 unfoldable pub word_bytes : ℕ → List ℕ

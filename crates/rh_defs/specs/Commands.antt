@@ -8,7 +8,7 @@ use Rattle.rh_defs.specs.declared.reply.Reply.{Reply}
 use Rattle.rh_defs.specs.declared.reply.Reply.TheVariants as reply
 use Rattle.rh_defs.specs.Chain.{Granted, ◌>>=◌, ◌>>◌, refuse_if, found_or, or_else}
 use Rattle.rh_defs.specs.Forms.{last_made}
-use Rattle.rh_defs.specs.Pieces.{page, lacks_pages, Split}
+use Rattle.rh_defs.specs.Pieces.{page_size, lacks_pages, Split}
 use Rattle.rh_defs.specs.Heap.{Segment, block_at}
 use Rattle.rh_defs.specs.Module.{whole_pages, changed_length, module_claim, module_free, module_resize, module_change}
 use Rattle.rh_defs.specs.Slot.{Slot, slot_begin, slot_alloc, slot_free, slot_extend, slot_mid, slot_put, slot_claim, slot_release, slot_resize, slot_set_budge}
@@ -152,10 +152,10 @@ shrinks_below least n (negsuc by) = nat_lt n (least + whole_pages (negsuc by))
 -- the pages of an area that has so many and keeps so many bytes at least, after the change
 unfoldable pub pages_after : ℕ → ℕ → ℕ → ℤ → Granted ℕ
 pages_after free least pages delta =
-    let n : ℕ = page * pages in do
+    let n : ℕ = page_size * pages in do
       refuse_if (shrinks_below least n delta) ExcessiveShrink
       refuse_if (lacks_pages free (changed_length n delta - n)) NoRoom
-      Ok (changed_length n delta / page)
+      Ok (changed_length n delta / page_size)
 
 -- the module area longer or shorter by whole pages
 unfoldable pub change_module : Desk → ℤ → Granted Answer
@@ -247,7 +247,7 @@ save d name k to leaf = do
   refuse_if (is_full is_open t.sending) Busy
   r ← found_or (find (has_name to) d.tasks) NoTask
   sent ← send_letter (save_letter t.handle r.handle (length b.here.bytes) leaf) d
-  Ok (with_sending t.handle (sender.offered (next_ref d) r.handle k) sent, reply.Sent (next_ref d))
+  Ok (with_sending t.handle (sender.sending_offered (next_ref d) r.handle k) sent, reply.Sent (next_ref d))
 
 -- the last message once more, with another ref
 unfoldable pub repeat : Desk → List ℕ → Granted Answer
@@ -277,14 +277,14 @@ poll d name = do
 unfoldable pub cancel_in : Desk → List ℕ → Option ℕ → Granted Answer
 cancel_in d name id = do
   t ← named name d
-  records ← receiver.cancel id t.taking
+  records ← receiver.cancel_taking id t.taking
   Ok (with_taking t.handle (λ _. records) d, reply.Done)
 
 -- a transfer that goes out is given up
 unfoldable pub cancel_out : Desk → List ℕ → Option ℕ → Granted Answer
 cancel_out d name id = do
   t ← named name d
-  records ← sender.cancel id t.sending
+  records ← sender.cancel_sending id t.sending
   Ok (with_sending t.handle (λ _. records) d, reply.Done)
 
 -- ---- one command

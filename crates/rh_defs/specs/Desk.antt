@@ -9,7 +9,7 @@ use Rattle.rh_defs.specs.declared.transfer.Outgoing.{Outgoing}
 use Rattle.rh_defs.specs.declared.transfer.Incoming.{Incoming}
 use Rattle.rh_defs.specs.declared.sizes.TheConstants.{MADE_AREAS, MAX_TASKS, MODULE_START}
 use Rattle.rh_defs.specs.Chain.{Granted, ◌>>=◌, ◌>>◌, refuse_if, found_or}
-use Rattle.rh_defs.specs.Pieces.{page, total, Split}
+use Rattle.rh_defs.specs.Pieces.{page_size, total, Split}
 use Rattle.rh_defs.specs.Heap.{Segment, Heap}
 use Rattle.rh_defs.specs.Slot.{Slot, Flex, slot_pages, slot_block, heap_block_at}
 use Rattle.rh_defs.specs.Files.{FileList}
@@ -83,7 +83,7 @@ next_ref d = d.post.next_ref
 
 -- the pages of the module area
 abbrev pub module_pages : Desk → ℕ
-module_pages d = d.post.heap.end / page
+module_pages d = d.post.heap.end / page_size
 
 -- the pages of a task's slot
 abbrev pub task_pages : Task → ℕ

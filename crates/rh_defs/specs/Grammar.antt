@@ -42,7 +42,7 @@ Maker [] = Command
 Maker (form ∷ forms) = Value form → Maker forms
 
 -- the word that a line begins with, those that must follow, the forms of the others, and their command
-pub record Row : Type 0 where
+pub record GrammarRow : Type 0 where
   pub first : List ℕ
   pub further : List (List ℕ)
   pub forms : List Form
@@ -57,10 +57,10 @@ Values (form ∷ forms) = Value form × Values forms
 
 -- a row, and what the words behind its own spell
 pub data Spelling : Type 0 where
-  spelled_by : (row : Row) → Values row.forms → Spelling
+  spelled_by : (row : GrammarRow) → Values row.forms → Spelling
 
 -- that row
-abbrev pub row_of_spelling : Spelling → Row
+abbrev pub row_of_spelling : Spelling → GrammarRow
 row_of_spelling (spelled_by row values) = row
 
 -- a command that its first word names, and one on the module area's blocks
@@ -153,5 +153,5 @@ samples =
     ∷ Ask (Show [] 0) ∷ Ask (Blocks []) ∷ Ask (Heap []) ∷ Ask (Status []) ∷ Ask Areas ∷ []
 
 -- the rows of all commands
-unfoldable pub rows : List Row
+unfoldable pub rows : List GrammarRow
 rows = map (λ c. row_of_spelling (spelling c)) samples

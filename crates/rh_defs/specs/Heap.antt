@@ -1,7 +1,7 @@
 -- Heaps as lists of used segments and holes, and the calls on them.
 use Rattle.std.specs.Prelude.{◌≡◌, ℕ, zero, suc, ◌+◌, ◌-◌, ◌<◌, ◌≤◌, ◌%◌, ℤ, Bool, true, false, nat_lt, nat_le, ◌==◌, max, if◌then◌else◌, List, [], ◌∷◌, ◌++◌, length, take, Option, Some, None, Result, Ok, Err, ok_or}
 use Rattle.std.specs.Option.{option_map}
-use Rattle.rh_defs.specs.Pieces.{round_up, page, zeros, moved, total, Split, first_at, with_here, is_inside}
+use Rattle.rh_defs.specs.Pieces.{round_up, page_size, zeros, moved, total, Split, first_at, with_here, is_inside}
 use Rattle.rh_defs.specs.declared.heap.HeapRefusal.{HeapRefusal}
 use Rattle.rh_defs.specs.declared.heap.HeapRefusal.TheVariants.{NotABlock, BadSize, NoRoom, ExcessiveShrink}
 use Rattle.rh_defs.specs.declared.refusal.Refusal.{Refusal}
@@ -130,8 +130,8 @@ placed_in bytes h (Some s) = record {
 }
 placed_in bytes h None = record { heap = record h { segments = h.segments ++ Used bytes ∷ [] }; address = base h + 4 }
 
-abbrev pub placed : List ℕ → Heap → Placed
-placed bytes h = placed_in bytes h (hole_for (4 + length bytes) h.segments)
+abbrev pub placed_block : List ℕ → Heap → Placed
+placed_block bytes h = placed_in bytes h (hole_for (4 + length bytes) h.segments)
 
 -- by how much the heap is too short for a new segment of t bytes
 abbrev pub shortage_in : ℕ → Heap → Option (Split Segment) → ℕ
@@ -143,10 +143,10 @@ abbrev pub need : ℕ → Heap → ℕ
 need n h = shortage_in (segment_size n) h (hole_for (segment_size n) h.segments)
 
 -- a block of n zeros: the heap, and the block's address
-abbrev pub claim : ℕ → Heap → Result (Heap × ℕ) HeapRefusal
-claim n h =
+abbrev pub claim_block : ℕ → Heap → Result (Heap × ℕ) HeapRefusal
+claim_block n h =
     if n == 0 then Err BadSize
-    else if need n h == 0 then Ok (as_granted (placed (zeros (block_room n)) h))
+    else if need n h == 0 then Ok (as_granted (placed_block (zeros (block_room n)) h))
     else Err NoRoom
 
 -- the same as the answer to a call
@@ -155,11 +155,11 @@ claim_need n h = if n == 0 then Err BadSize else Ok (need n h)
 
 -- the heap with its end raised by whole pages
 abbrev pub raised : ℕ → Heap → Heap
-raised shortage h = record h { end = h.end + round_up page shortage }
+raised shortage h = record h { end = h.end + round_up page_size shortage }
 
 -- the same, where the heap may grow
 abbrev pub claim_growing : ℕ → Heap → Placed
-claim_growing n h = placed (zeros (block_room n)) (raised (need n h) h)
+claim_growing n h = placed_block (zeros (block_room n)) (raised (need n h) h)
 
 -- ---- releases
 
@@ -172,8 +172,8 @@ release_found None h = h
 release_found (Some s) h = released s h
 
 -- the heap without the block at the address; the same where no block begins there
-abbrev pub release : ℕ → Heap → Heap
-release address h = release_found (block_at address h) h
+abbrev pub release_block : ℕ → Heap → Heap
+release_block address h = release_found (block_at address h) h
 
 -- the same, refused where no block begins there
 abbrev pub released_at : ℕ → Heap → Result Heap HeapRefusal
@@ -233,10 +233,10 @@ resized_by GrowsAtTop bytes s h = record {
 }
 resized_by (MovesToHole hole) bytes s h =
     let there = placed_in bytes h (Some hole) in
-    record { heap = release (place_after s.before + 4) there.heap; address = there.address }
+    record { heap = release_block (place_after s.before + 4) there.heap; address = there.address }
 resized_by MovesToTop bytes s h =
     let there = placed_in bytes h None in
-    record { heap = release (place_after s.before + 4) there.heap; address = there.address }
+    record { heap = release_block (place_after s.before + 4) there.heap; address = there.address }
 
 -- the end that a way wants
 abbrev pub end_for : Way → ℕ → Split Segment → Heap → ℕ
@@ -268,8 +268,8 @@ resize_found delta (Some s) h =
     else Err NoRoom
 
 -- delta bytes more in the block at the address: the heap, and the block's address
-abbrev pub resize : ℕ → ℤ → Heap → Result (Heap × ℕ) HeapRefusal
-resize address delta h = resize_found delta (block_at address h) h
+abbrev pub resize_block : ℕ → ℤ → Heap → Result (Heap × ℕ) HeapRefusal
+resize_block address delta h = resize_found delta (block_at address h) h
 
 -- the shortage as the answer to a call
 abbrev pub need_found : ℤ → Option (Split Segment) → Heap → Result ℕ HeapRefusal
@@ -286,8 +286,8 @@ abbrev pub extended : ℤ → Heap → Heap
 extended delta h = record h { end = moved h.end delta }
 
 -- refused where the end would be below the base
-abbrev pub extend : ℤ → Heap → Result Heap HeapRefusal
-extend delta h = if nat_lt (moved h.end delta) (base h) then Err ExcessiveShrink else Ok (extended delta h)
+abbrev pub extend_by : ℤ → Heap → Result Heap HeapRefusal
+extend_by delta h = if nat_lt (moved h.end delta) (base h) then Err ExcessiveShrink else Ok (extended delta h)
 
 abbrev pub hole_size : Segment → ℕ
 hole_size (Used bytes) = 0

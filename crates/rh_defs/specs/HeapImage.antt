@@ -32,17 +32,17 @@ pub record IsImage (b : List ℕ) (h : Heap) : Type 0 where
   pub spells : Spells b 0 h
 
 -- The segments that stand in n bytes from place p on, where f is the place of the link before them. The first argument bounds how many.
-unfoldable pub segments_in : ℕ → List ℕ → ℕ → ℕ → ℕ → List Segment
-segments_in zero b f p n = []
-segments_in (suc k) b f p zero = []
-segments_in (suc k) b f p (suc n) =
-    if f + word b f == p then Hole (word b (p + 4)) ∷ segments_in k b p (p + word b (p + 4)) (suc n - word b (p + 4))
-    else Used (part b (p + 4) (word b p - 4)) ∷ segments_in k b f (p + word b p) (suc n - word b p)
+unfoldable pub segments_read : ℕ → List ℕ → ℕ → ℕ → ℕ → List Segment
+segments_read zero b f p n = []
+segments_read (suc k) b f p zero = []
+segments_read (suc k) b f p (suc n) =
+    if f + word b f == p then Hole (word b (p + 4)) ∷ segments_read k b p (p + word b (p + 4)) (suc n - word b (p + 4))
+    else Used (part b (p + 4) (word b p - 4)) ∷ segments_read k b f (p + word b p) (suc n - word b p)
 
 -- the heap that the bytes from a place on spell, if they spell one
 unfoldable pub heap_of : List ℕ → ℕ → Heap
 heap_of b at = record {
-  segments = segments_in (length b) b (at + 4) (at + first_place) (word b (at + 8) - first_place);
+  segments = segments_read (length b) b (at + 4) (at + first_place) (word b (at + 8) - first_place);
   end = word b (at + 12);
 }
 

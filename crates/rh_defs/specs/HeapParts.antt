@@ -3,7 +3,7 @@ use Rattle.std.specs.Prelude.{◌≡◌, ◌≢◌, ℕ, ◌+◌, ◌-◌, ◌<�
 use Rattle.rh_defs.specs.Bytes.{word, part}
 use Rattle.rh_defs.specs.Pieces.{total}
 use Rattle.rh_defs.specs.Heap.{Segment, Used, Hole, size_of}
-use Rattle.rh_defs.specs.HeapImage.{Stand, segments_in, special_word}
+use Rattle.rh_defs.specs.HeapImage.{Stand, segments_read, special_word}
 
 -- each hole has room for its two words
 abbrev pub HasRoom : List Segment → Type 0
@@ -52,7 +52,7 @@ pub record HasStretch (b : List ℕ) (at end : ℕ) (xs ys : List Segment) (q lo
 
 -- the segments from a place up to base
 abbrev pub rest_in : List ℕ → ℕ → ℕ → ℕ → List Segment
-rest_in b base from place = segments_in (length b) b from place (base - place)
+rest_in b base from place = segments_read (length b) b from place (base - place)
 
 -- The segments that are left stand from a place up to base, where the link at `from` leads to their first hole.
 pub record IsRest (b : List ℕ) (base from place : ℕ) : Type 0 where

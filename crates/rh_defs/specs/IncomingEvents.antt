@@ -24,12 +24,12 @@ abbrev pub without_buffer : ℕ → Slot → Slot
 without_buffer address s = result_or s (slot_release address s)
 
 -- the transfer's buffer goes, and its records are others
-unfoldable pub ended : ℕ → Taking → (List Incoming → List Incoming) → Desk → Desk
-ended h f edit d = with_taking h edit (with_task h (λ t. record t { slot = without_buffer f.buffer t.slot }) d)
+unfoldable pub taking_ended : ℕ → Taking → (List Incoming → List Incoming) → Desk → Desk
+taking_ended h f edit d = with_taking h edit (with_task h (λ t. record t { slot = without_buffer f.buffer t.slot }) d)
 
 -- the transfer fails with so many bytes
 abbrev pub end_failed : ℕ → Taking → ℕ → Desk → Desk
-end_failed h f count d = ended h f (receiver.failed f count) d
+end_failed h f count d = taking_ended h f (receiver.taking_failed f count) d
 
 -- a buffer, an empty document and a fetch
 unfoldable pub accept : Desk → Task → Parcel → Granted Handled
@@ -39,7 +39,7 @@ accept d t m = do
   p ← slot_alloc (free_pages (with_slot t.handle b.0 d)) k 0 b.0
   sent ← send_letter (fetch_letter t.handle m.message.from m.message.my_ref b.1 t.buffer) (with_slot t.handle p.0 d)
   Ok (
-    with_taking t.handle (receiver.fetching (receiver.begun m.message.my_ref m.message.from k b.1 (next_ref d))) sent,
+    with_taking t.handle (receiver.fetching (receiver.new_taking m.message.my_ref m.message.from k b.1 (next_ref d))) sent,
     outcome.Fetch (next_ref d),
   )
 
@@ -71,7 +71,7 @@ fetch_more d t m f n = do
 -- after n bytes: a short transmit was the last
 unfoldable pub took : Desk → Task → Parcel → Taking → ℕ → Handled
 took d t m f n =
-    if nat_lt n t.buffer then (ended t.handle f (receiver.finished f n) d, outcome.TookLast n)
+    if nat_lt n t.buffer then (taking_ended t.handle f (receiver.finished f n) d, outcome.TookLast n)
     else or_else (fetch_more d t m f n) (λ refusal. (end_failed t.handle f (f.count + n) d, outcome.TookFailed n refusal))
 
 -- whether n more bytes are more than a record can count: no slot has room for a document of 4 GiB
@@ -95,7 +95,7 @@ take_bytes d t m n _ = ignored d
 unfoldable pub ask : Desk → Task → Taking → Granted Handled
 ask d t f = do
   sent ← send_letter (ack_letter t.handle f.sender f.id) d
-  Ok (ended t.handle f (receiver.asking f (next_ref d)) sent, outcome.Asked (next_ref d))
+  Ok (taking_ended t.handle f (receiver.asking f (next_ref d)) sent, outcome.Asked (next_ref d))
 
 -- the fetch of a record came back: after the first one a file is asked for
 unfoldable pub fetch_back : Desk → Task → Option Incoming → Handled
@@ -115,7 +115,7 @@ unfoldable pub loaded : Desk → Task → Parcel → Asked → ℕ → Handled
 loaded d t m q n =
     or_else
     (send_letter (load_ack_letter t.handle m n) d >>= λ sent. Ok (
-      with_taking t.handle (receiver.loaded q n) sent,
+      with_taking t.handle (receiver.taking_loaded q n) sent,
       outcome.Loaded n,
     ))
     (λ refusal. (with_taking t.handle (receiver.abandoned q n) d, outcome.LoadedFailed n refusal))
@@ -137,5 +137,5 @@ take_file d t m (Some q) = load_file d t m q d.scrap
 
 -- opens this file's words, for a proof that computes
 unfoldable pub computing : Unit {0}
-unfolding ended accept take_save appended fetch_more took take_bytes ask fetch_back ack_back loaded load_file take_file
+unfolding taking_ended accept take_save appended fetch_more took take_bytes ask fetch_back ack_back loaded load_file take_file
 computing = tt

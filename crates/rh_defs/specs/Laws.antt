@@ -4,10 +4,10 @@ use Rattle.std.specs.List.{AllByRecursion}
 use Rattle.rh_defs.specs.declared.command.Command.{Command}
 use Rattle.rh_defs.specs.declared.sizes.TheConstants.{FIXED_AREAS, MIN_PAGES}
 use Rattle.rh_defs.specs.Forms.{most_pages, first_made, last_made}
-use Rattle.rh_defs.specs.Pieces.{page, zeros}
-use Rattle.rh_defs.specs.Bytes.{put}
+use Rattle.rh_defs.specs.Pieces.{page_size, zeros}
+use Rattle.rh_defs.specs.Bytes.{with_part}
 use Rattle.rh_defs.specs.Heap.{Heap, block_room}
-use Rattle.rh_defs.specs.Blocks.{block_bytes, poked, Puts, Frees, Pokes}
+use Rattle.rh_defs.specs.Blocks.{block_bytes, poked, PutsBlock, Frees, Pokes}
 use Rattle.rh_defs.specs.HeapImage.{IsImage, Spells, heap_of}
 use Rattle.rh_defs.specs.Module.{FillsPages, module_claim, module_free}
 use Rattle.rh_defs.specs.Range.{all_in_range}
@@ -85,7 +85,7 @@ pub record IsDesk (d : Desk) : Type 0 where
   pub post : IsPost d.post
   pub areas : AreFixed d.areas
   pub made : AreMade d.next_area d.made
-  pub scrap : file_length d.scrap ≤ page * slice_index d.areas scrap_area
+  pub scrap : file_length d.scrap ≤ page_size * slice_index d.areas scrap_area
 
 -- the free pages and those of all areas and slots are the pool's
 abbrev pub IsBalanced : Desk → Type 0
@@ -93,8 +93,8 @@ IsBalanced d = free_pages d + used_pages d ≡ d.pool
 
 -- The live blocks lie in their slots and in the module area, and no two of one overlap.
 pub record HasApartBlocks (d : Desk) : Type 0 where
-  pub slots : AllByRecursion (λ t. AreLaidOut slot_start (page * slot_pages t.slot) (slot_spans t.slot)) d.tasks
-  pub module_area : AreLaidOut module_start (page * module_pages d) (module_spans d.post.heap)
+  pub slots : AllByRecursion (λ t. AreLaidOut slot_start (page_size * slot_pages t.slot) (slot_spans t.slot)) d.tasks
+  pub module_area : AreLaidOut module_start (page_size * module_pages d) (module_spans d.post.heap)
 
 -- what a run starts from: a pool of as many pages as there may be, and a next handle and ref from 1 up to the last 32-bit word
 pub record IsStart (pool handle ref : ℕ) : Type 0 where
@@ -124,7 +124,7 @@ HaveOneSlot = (b : List ℕ) (s : Slot) → SpellsSlot b s → slot_of s.budging
 -- a block that is claimed is a new one of zeros, and no other changes
 abbrev pub ClaimsOne : Type 0
 ClaimsOne =
-    (free n : ℕ) (h k : Heap) (address : ℕ) → module_claim free n h ≡ Ok (k, address) → Puts (zeros (block_room n)) h k address
+    (free n : ℕ) (h k : Heap) (address : ℕ) → module_claim free n h ≡ Ok (k, address) → PutsBlock (zeros (block_room n)) h k address
 
 -- a block that is freed is gone, and no other changes
 abbrev pub FreesOne : Type 0
@@ -135,5 +135,5 @@ abbrev pub WritesOne : Type 0
 WritesOne =
     (b : List ℕ) (h : Heap) (address offset : ℕ) (old bytes : List ℕ) → IsImage b h → block_bytes address h ≡ Some old →
     offset + length bytes ≤ length old →
-    IsImage (put b (address + offset) bytes) (poked address offset bytes h)
-    × Pokes address (put old offset bytes) h (poked address offset bytes h)
+    IsImage (with_part b (address + offset) bytes) (poked address offset bytes h)
+    × Pokes address (with_part old offset bytes) h (poked address offset bytes h)

@@ -10,7 +10,7 @@ use Rattle.rh_defs.specs.declared.fault.LineFault.{LineFault}
 use Rattle.rh_defs.specs.declared.fault.LineFault.TheVariants.{TooLong, Unknown, Count, Word}
 use Rattle.rh_defs.specs.declared.sizes.TheConstants.{LONGEST_LINE}
 use Rattle.rh_defs.specs.Forms.{is_name, is_decimal, is_leaf, number_of, greatest, last_ref}
-use Rattle.rh_defs.specs.Grammar.{Form, Name, Leaf, Number, Ref, Delta, Address, Bytes, Choice, Maybe, Value, Maker, Row, rows}
+use Rattle.rh_defs.specs.Grammar.{Form, Name, Leaf, Number, Ref, Delta, Address, Bytes, Choice, Maybe, Value, Maker, GrammarRow, rows}
 
 -- what a part of a line means, or its fault
 abbrev pub Meaning : Type 0 → Type 0
@@ -31,17 +31,17 @@ abbrev pub words_of : List ℕ → List (List ℕ)
 words_of line = filter (λ w. not (length w == 0)) (slice_split (λ b. b == space) line)
 
 -- word n, counted from 1, or no bytes
-abbrev pub word : List (List ℕ) → ℕ → List ℕ
-word words n = unwrap_or (slice_get words (n - 1)) []
+abbrev pub nth_word : List (List ℕ) → ℕ → List ℕ
+nth_word words n = unwrap_or (slice_get words (n - 1)) []
 
 -- word n as a name
 unfoldable pub name_at : List (List ℕ) → ℕ → Meaning (List ℕ)
-name_at words n = let w = word words n in if is_name w then Ok w else Err (Word n)
+name_at words n = let w = nth_word words n in if is_name w then Ok w else Err (Word n)
 
 -- word n as a decimal number from low to high
 unfoldable pub number_at : List (List ℕ) → ℕ → ℕ → ℕ → Meaning ℕ
 number_at words n low high =
-    let w = word words n in
+    let w = nth_word words n in
     if is_decimal w && nat_le low (number_of w) && nat_le (number_of w) high then Ok (number_of w) else Err (Word n)
 
 -- a magnitude with its sign; 0 has none
@@ -60,7 +60,7 @@ unsigned w = if is_negative w then drop 1 w else w
 -- word n as a decimal number, with `-` before it or not
 unfoldable pub delta_at : List (List ℕ) → ℕ → Meaning ℤ
 delta_at words n =
-    let w = word words n in
+    let w = nth_word words n in
     if is_decimal (unsigned w) && nat_le (number_of (unsigned w)) greatest
     then Ok (signed (is_negative w) (number_of (unsigned w)))
     else Err (Word n)
@@ -76,22 +76,22 @@ hex_number digits = fold (λ n c. 16 * n + unwrap_or (hex_digit_value c) 0) 0 di
 
 -- word n as an address
 unfoldable pub address_at : List (List ℕ) → ℕ → Meaning ℕ
-address_at words n = let w = word words n in if is_address w then Ok (hex_number (drop 1 w)) else Err (Word n)
+address_at words n = let w = nth_word words n in if is_address w then Ok (hex_number (drop 1 w)) else Err (Word n)
 
 -- word n as a leafname
 unfoldable pub leaf_at : List (List ℕ) → ℕ → Meaning (List ℕ)
-leaf_at words n = let w = word words n in if is_leaf w then Ok w else Err (Word n)
+leaf_at words n = let w = nth_word words n in if is_leaf w then Ok w else Err (Word n)
 
 -- word n as one of two words: whether it is the first
 unfoldable pub choice_at : List (List ℕ) → ℕ → List ℕ → List ℕ → Meaning Bool
 choice_at words n first second =
-    if bytes_eq (word words n) first then Ok true
-    else if bytes_eq (word words n) second then Ok false
+    if bytes_eq (nth_word words n) first then Ok true
+    else if bytes_eq (nth_word words n) second then Ok false
     else Err (Word n)
 
 -- word n as hexadecimal digits of either case, two for each byte, at least one byte
-unfoldable pub bytes_at : List (List ℕ) → ℕ → Meaning (List ℕ)
-bytes_at words n = let w = word words n in bytes_if n (nat_le 1 (length w)) (result_ok (decode_of w))
+unfoldable pub bytes_read_at : List (List ℕ) → ℕ → Meaning (List ℕ)
+bytes_read_at words n = let w = nth_word words n in bytes_if n (nat_le 1 (length w)) (result_ok (decode_of w))
   where
     bytes_if : ℕ → Bool → Option (List ℕ) → Meaning (List ℕ)
     bytes_if n true (Some bytes) = Ok bytes
@@ -107,7 +107,7 @@ value_at (Number low high) words n = number_at words n low high
 value_at Ref words n = number_at words n 1 last_ref
 value_at Delta words n = delta_at words n
 value_at Address words n = address_at words n
-value_at Bytes words n = bytes_at words n
+value_at Bytes words n = bytes_read_at words n
 value_at (Choice first second) words n = choice_at words n first second
 value_at (Maybe form) words n =
     if length words == n - 1 then Ok None else (value_at form words n >>= λ value. Ok (Some value))
@@ -127,36 +127,36 @@ is_count (form ∷ forms) n count = is_count forms (n + 1) count
 -- whether these words stand behind the first n
 abbrev pub follow : List (List ℕ) → List (List ℕ) → ℕ → Bool
 follow [] words n = true
-follow (text ∷ texts) words n = bytes_eq (word words (n + 1)) text && follow texts words (n + 1)
+follow (text ∷ texts) words n = bytes_eq (nth_word words (n + 1)) text && follow texts words (n + 1)
 
 -- the fault where a first word of several commands has none of their second words behind it
 abbrev pub second_fault : List (List ℕ) → LineFault
 second_fault words = if length words == 1 then Count else Word 2
 
 -- the row of a line that begins with this word, or its fault, which is the given one where no row begins with it
-abbrev pub row_of : List Row → List ℕ → List (List ℕ) → LineFault → Meaning Row
-row_of [] first words fault = Err fault
-row_of (row ∷ rows) first words fault =
+abbrev pub grammar_row : List GrammarRow → List ℕ → List (List ℕ) → LineFault → Meaning GrammarRow
+grammar_row [] first words fault = Err fault
+grammar_row (row ∷ rows) first words fault =
     if bytes_eq first row.first && follow row.further words 1 then Ok row
-    else row_of rows first words (if bytes_eq first row.first then second_fault words else fault)
+    else grammar_row rows first words (if bytes_eq first row.first then second_fault words else fault)
 
 -- the command of a row, where the line has as many words as the row
-abbrev pub row_means : Row → List (List ℕ) → Meaning Command
+abbrev pub row_means : GrammarRow → List (List ℕ) → Meaning Command
 row_means row words =
     let named = 1 + length row.further in
     if is_count row.forms named (length words) then command_from row.forms row.make words named else Err Count
 
 -- the command of a line that begins with this word
 unfoldable pub command_by : List ℕ → List (List ℕ) → Meaning Command
-command_by first words = row_of rows first words Unknown >>= λ row. row_means row words
+command_by first words = grammar_row rows first words Unknown >>= λ row. row_means row words
 
 -- the command that a line's words spell
 abbrev pub command_of : List (List ℕ) → Meaning Command
-command_of words = command_by (word words 1) words
+command_of words = command_by (nth_word words 1) words
 
 -- a line without words, or whose first word begins with `#`
 abbrev pub is_skipped : List (List ℕ) → Bool
-is_skipped words = slice_index (word words 1) 0 == 35 || length words == 0
+is_skipped words = slice_index (nth_word words 1) 0 == 35 || length words == 0
 
 -- a complete line without its line feed; a line that is cut is not seen here
 unfoldable pub line_means : List ℕ → Meaning (Option Command)
@@ -167,5 +167,5 @@ line_means line =
 
 -- opens this file's words, for a proof that computes
 unfoldable pub computing : Unit {0}
-unfolding is_decimal name_at number_at bytes_at delta_at is_address address_at leaf_at choice_at rows command_by line_means
+unfolding is_decimal name_at number_at bytes_read_at delta_at is_address address_at leaf_at choice_at rows command_by line_means
 computing = tt

@@ -1,7 +1,7 @@
 -- Memory: areas of bytes in whole pages of 4,096 bytes, and pages that are free.
 use Rattle.std.specs.Prelude.{◌≡◌, ◌≢◌, ℕ, zero, suc, ◌+◌, ◌-◌, ◌*◌, ◌/◌, ◌==◌, if◌then◌else◌, List, [], ◌++◌, length, take, replicate, Option, Some, None, IsSome, unwrap_or}
 use Rattle.rh_defs.specs.Bytes.{SameIn, SameOutside}
-use Rattle.rh_defs.specs.Pieces.{page}
+use Rattle.rh_defs.specs.Pieces.{page_size}
 
 -- What each area contains, None where it is closed; the free pages; the number of pages given at start. The last number names the loan where the bytes are a caller's, and is 0 for memory of the store's own.
 pub record Memory : Type 0 where
@@ -36,12 +36,12 @@ opened m id = record { area = area_set m.area id (Some []); free = m.free; pages
 
 -- an area closed, its pages free
 unfoldable pub closed : Memory → ℕ → Memory
-closed m id = record { area = area_set m.area id None; free = m.free + length (bytes m id) / page; pages = m.pages; loan = m.loan }
+closed m id = record { area = area_set m.area id None; free = m.free + length (bytes m id) / page_size; pages = m.pages; loan = m.loan }
 
 -- an area grown by free pages, which come as zeros at its end
 unfoldable pub grown : Memory → ℕ → ℕ → Memory
 grown m id n = record {
-  area = area_set m.area id (Some (bytes m id ++ replicate (page * n) 0));
+  area = area_set m.area id (Some (bytes m id ++ replicate (page_size * n) 0));
   free = m.free - n;
   pages = m.pages;
   loan = m.loan;
@@ -50,7 +50,7 @@ grown m id n = record {
 -- an area's last pages cut off and free
 unfoldable pub shrunk : Memory → ℕ → ℕ → Memory
 shrunk m id n = record {
-  area = area_set m.area id (Some (take (length (bytes m id) - page * n) (bytes m id)));
+  area = area_set m.area id (Some (take (length (bytes m id) - page_size * n) (bytes m id)));
   free = m.free + n;
   pages = m.pages;
   loan = m.loan;
@@ -69,7 +69,7 @@ open_below area (suc k) = one_if_open (area k) + open_below area k
 -- how many pages the areas below a number have
 unfoldable pub pages_below : (ℕ → Option (List ℕ)) → ℕ → ℕ
 pages_below area zero = 0
-pages_below area (suc k) = length (unwrap_or (area k) []) / page + pages_below area k
+pages_below area (suc k) = length (unwrap_or (area k) []) / page_size + pages_below area k
 
 -- the ledger: free pages and the pages of all areas below a limit are those given at start
 abbrev pub Ledger : Memory → ℕ → Type 0
@@ -92,12 +92,12 @@ pub record Edited (m n : Memory) (id lo hi : ℕ) : Type 0 where
 pub record OnlyArea (m n : Memory) (id : ℕ) : Type 0 where
   pub opened : IsOpen n id
   pub others : (j : ℕ) → j ≢ id → n.area j ≡ m.area j
-  pub ledger : page * n.free + length (bytes n id) ≡ page * m.free + length (bytes m id)
+  pub ledger : page_size * n.free + length (bytes n id) ≡ page_size * m.free + length (bytes m id)
   pub pages : n.pages ≡ m.pages
   pub loan : n.loan ≡ m.loan
 
 -- one area gets another number of pages and keeps its first bytes
 pub record Resized (m n : Memory) (id keep count : ℕ) : Type 0 where
   pub same : SameIn (bytes m id) (bytes n id) 0 keep
-  pub len : length (bytes n id) ≡ page * count
+  pub len : length (bytes n id) ≡ page_size * count
   pub only : OnlyArea m n id

@@ -1,6 +1,6 @@
 -- What a message says, and the bytes that spell it.
 use Rattle.std.specs.Prelude.{◌≡◌, ℕ, ◌+◌, ◌-◌, ◌^◌, ◌<◌, Bool, true, false, ◌==◌, if◌then◌else◌, List, [], ◌∷◌, ◌++◌, length, Option, Some, None}
-use Rattle.rh_defs.specs.Bytes.{put, word_bytes}
+use Rattle.rh_defs.specs.Bytes.{with_part, word_bytes}
 use Rattle.rh_defs.specs.Pieces.{round_up, zeros}
 use Rattle.rh_defs.specs.Pathnames.{is_pathname}
 use Rattle.rh_defs.specs.Heap.{block_room}
@@ -137,7 +137,7 @@ parcel_bytes link p = words (link ∷ code_number p.code ∷ []) ++ encoded p.me
 
 -- all bytes of the block
 unfoldable pub padded : ℕ → Parcel → List ℕ
-padded link p = put (zeros (block_room (parcel_size p.message))) 0 (parcel_bytes link p)
+padded link p = with_part (zeros (block_room (parcel_size p.message))) 0 (parcel_bytes link p)
 
 -- opens this file's words, for a proof that computes
 unfoldable pub computing : Unit {0}

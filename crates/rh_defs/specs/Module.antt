@@ -2,13 +2,13 @@
 use Rattle.std.specs.Prelude.{◌≡◌, ℕ, ◌+◌, ◌-◌, ◌%◌, ℤ, pos, negsuc, nat_lt, ◌==◌, Ok}
 use Rattle.rh_defs.specs.declared.refusal.Refusal.TheVariants.{NotABlock, BadSize, ExcessiveShrink, NoRoom}
 use Rattle.rh_defs.specs.Chain.{Granted, ◌>>=◌, refuse_if, found_or}
-use Rattle.rh_defs.specs.Pieces.{round_up, page, pages_for, lacks_pages}
+use Rattle.rh_defs.specs.Pieces.{round_up, page_size, pages_for, lacks_pages}
 use Rattle.rh_defs.specs.Heap.{Heap, IsHeap, as_granted, base, block_at, need, claim_growing, released, new_size, resize_need, resize_growing}
 
 -- a heap that fills whole pages, as the module area's does
 pub record FillsPages (h : Heap) : Type 0 where
   pub heap : IsHeap h
-  pub whole : h.end % page ≡ 0
+  pub whole : h.end % page_size ≡ 0
 
 -- a signed amount without its sign
 abbrev pub magnitude : ℤ → ℕ
@@ -17,7 +17,7 @@ magnitude (negsuc n) = n + 1
 
 -- the bytes that an area gets or loses by an amount: whole pages
 abbrev pub whole_pages : ℤ → ℕ
-whole_pages delta = round_up page (magnitude delta)
+whole_pages delta = round_up page_size (magnitude delta)
 
 -- an area's length after the change; 0 where it would lose more than it has
 abbrev pub changed_length : ℕ → ℤ → ℕ

@@ -53,7 +53,7 @@ transmit d t m buffer amount x source =
 
 -- the transfer fails by a refusal
 abbrev pub refused : Desk → Task → Sending → Refusal → Handled
-refused d t x refusal = (with_sending t.handle (sender.failed x) d, outcome.Refused refusal)
+refused d t x refusal = (with_sending t.handle (sender.sending_failed x) d, outcome.Refused refusal)
 
 -- a fetch for a record
 unfoldable pub answer_fetch : Desk → Task → Parcel → ℕ → ℕ → Option Sending → Handled
@@ -63,7 +63,7 @@ answer_fetch d t m buffer amount (Some x) = or_else (slot_block x.anchor t.slot 
 -- the last message of a record came back
 unfoldable pub fail_sending : Desk → Task → Option Sending → Handled
 fail_sending d t None = ignored d
-fail_sending d t (Some x) = (with_sending t.handle (sender.failed x) d, outcome.Failed)
+fail_sending d t (Some x) = (with_sending t.handle (sender.sending_failed x) d, outcome.Failed)
 
 -- ---- the scrap file
 
@@ -98,7 +98,7 @@ finish_load d t None = ignored d
 finish_load d t (Some x) =
     or_else
     (slot_block x.anchor t.slot >>= λ source. Ok (
-      with_sending t.handle (sender.loaded x (length source.here.bytes)) d,
+      with_sending t.handle (sender.sending_loaded x (length source.here.bytes)) d,
       outcome.Done,
     ))
     (refused d t x)

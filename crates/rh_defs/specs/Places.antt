@@ -2,7 +2,7 @@
 use Rattle.std.specs.Prelude.{ℕ, zero, suc, ◌+◌, ◌-◌, Bool, ◌&&◌, nat_lt, nat_le, if◌then◌else◌, List, [], length, take, Option, Some, None}
 use Rattle.rh_defs.specs.Pieces.{Split, with_here, written}
 use Rattle.rh_defs.specs.Heap.{Segment, Used, bytes_of, place_after, block_around}
-use Rattle.rh_defs.specs.Slot.{Slot, Flex, heap_start, flex_address, flex_around, heap_block_at, is_used, with_bytes, with_heap, anchor_count}
+use Rattle.rh_defs.specs.Slot.{Slot, Flex, heap_start, flex_address, flex_around, heap_block_at, is_used, with_block_bytes, with_heap, anchor_count}
 
 -- the slot with bytes written into the block of its C heap at the cut, from an offset on
 abbrev pub with_heap_bytes : Split Segment → ℕ → List ℕ → Slot → Slot
@@ -26,7 +26,7 @@ written_heap x bytes (Some b) s = with_heap_bytes b (x - (heap_start + place_aft
 -- the same, in the flex block that holds them, where there is one
 abbrev pub written_around : ℕ → List ℕ → Option (Split Flex) → Slot → Slot
 written_around x bytes None s = written_heap x bytes (block_around (x - heap_start) (length bytes) s.heap) s
-written_around x bytes (Some b) s = with_bytes b (written b.here.bytes (x - flex_address s b.before) bytes) s
+written_around x bytes (Some b) s = with_block_bytes b (written b.here.bytes (x - flex_address s b.before) bytes) s
 
 -- the slot with bytes written at an address: into the block of the C heap there, else into any block that holds them
 abbrev pub written_in : ℕ → List ℕ → Option (Split Segment) → Slot → Slot

@@ -5,7 +5,7 @@ use Rattle.rh_defs.specs.declared.refusal.Refusal.TheVariants.{NoTask, NoRefs, Q
 use Rattle.rh_defs.specs.declared.sizes.TheConstants.{MOST_MESSAGES}
 use Rattle.rh_defs.specs.Chain.{Granted, ◌>>=◌, ◌>>◌, refuse_if}
 use Rattle.rh_defs.specs.Pieces.{total}
-use Rattle.rh_defs.specs.Heap.{Heap, release}
+use Rattle.rh_defs.specs.Heap.{Heap, release_block}
 use Rattle.rh_defs.specs.Module.{module_claim, module_need_pages}
 use Rattle.rh_defs.specs.Blocks.{poked}
 use Rattle.rh_defs.specs.Messages.{Parcel, is_recorded, parcel_bytes, parcel_size}
@@ -93,7 +93,7 @@ answers_held ref held = holds_such (λ (p : Parcel). p.message.my_ref == ref) he
 -- the block of a message is released
 abbrev pub release_held : Option Parcel → Heap → Heap
 release_held None h = h
-release_held (Some p) h = release p.block h
+release_held (Some p) h = release_block p.block h
 
 -- the task holds no more what it held
 abbrev pub put_down : ℕ → Post → Post
@@ -141,7 +141,7 @@ as_returned p = record p { code = Acknowledge; to = p.message.from }
 
 -- a message's block away
 abbrev pub without_block : Parcel → Post → Post
-without_block p post = record post { heap = release p.block post.heap }
+without_block p post = record post { heap = release_block p.block post.heap }
 
 -- the message goes to the end of the queue as one that came back, or vanishes where its sender isn't live
 abbrev pub bounced : Parcel → Post → Post

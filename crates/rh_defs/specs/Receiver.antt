@@ -16,8 +16,8 @@ abbrev pub on_save : Bool → List Incoming → Bool
 on_save is_deaf records = not is_deaf && not (is_full is_going records)
 
 -- the record of a DataSave that was taken
-abbrev pub begun : ℕ → ℕ → ℕ → ℕ → ℕ → Taking
-begun id sender k buffer ref = record { id = id; sender = sender; anchor = k; buffer = buffer; count = 0; fetch = ref }
+abbrev pub new_taking : ℕ → ℕ → ℕ → ℕ → ℕ → Taking
+new_taking id sender k buffer ref = record { id = id; sender = sender; anchor = k; buffer = buffer; count = 0; fetch = ref }
 
 -- with a record that fetches
 abbrev pub fetching : Taking → List Incoming → List Incoming
@@ -44,12 +44,12 @@ finished f n records = with_id in_id f.id (incoming.Done f.id f.anchor (f.count 
 -- ---- failures
 
 -- the transfer failed with so many bytes taken
-abbrev pub failed : Taking → ℕ → List Incoming → List Incoming
-failed f count records = with_id in_id f.id (incoming.Failed f.id f.anchor count) records
+abbrev pub taking_failed : Taking → ℕ → List Incoming → List Incoming
+taking_failed f count records = with_id in_id f.id (incoming.Failed f.id f.anchor count) records
 
 -- the record whose fetch came back
-abbrev pub on_bounce : ℕ → List Incoming → Option Incoming
-on_bounce ref records = active_of (λ f. f.fetch == ref) records
+abbrev pub on_taking_bounce : ℕ → List Incoming → Option Incoming
+on_taking_bounce ref records = active_of (λ f. f.fetch == ref) records
 
 -- whether a cancel means the record: it fetches or asks, and has the id
 abbrev pub is_wanted : Option ℕ → Incoming → Bool
@@ -64,8 +64,8 @@ cancelled (incoming.Asking q) = incoming.Failed q.id q.anchor 0
 cancelled r = r
 
 -- the transfer that is meant is given up
-unfoldable pub cancel : Option ℕ → List Incoming → Granted (List Incoming)
-cancel wanted records = do
+unfoldable pub cancel_taking : Option ℕ → List Incoming → Granted (List Incoming)
+cancel_taking wanted records = do
   r ← found_or (find (is_wanted wanted) records) NotOpen
   Ok (with_id in_id (in_id r) (cancelled r) records)
 
@@ -92,8 +92,8 @@ abbrev pub on_load : ℕ → ℕ → List Incoming → Option Asked
 on_load from your_ref records = asking_of (is_load from your_ref) records
 
 -- the document has all n bytes
-abbrev pub loaded : Asked → ℕ → List Incoming → List Incoming
-loaded q n records = with_id in_id q.id (incoming.Done q.id q.anchor n) records
+abbrev pub taking_loaded : Asked → ℕ → List Incoming → List Incoming
+taking_loaded q n records = with_id in_id q.id (incoming.Done q.id q.anchor n) records
 
 -- the transfer failed with n bytes in its document
 abbrev pub abandoned : Asked → ℕ → List Incoming → List Incoming
@@ -101,5 +101,5 @@ abandoned q n records = with_id in_id q.id (incoming.Failed q.id q.anchor n) rec
 
 -- opens this file's words, for a proof that computes
 unfoldable pub computing : Unit {0}
-unfolding cancel
+unfolding cancel_taking
 computing = tt

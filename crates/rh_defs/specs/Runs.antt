@@ -3,7 +3,7 @@ use Rattle.std.specs.Prelude.{ℕ, List, [], ◌∷◌, None}
 use Rattle.rh_defs.specs.declared.command.Command.{Command}
 use Rattle.rh_defs.specs.declared.reply.Reply.{Reply}
 use Rattle.rh_defs.specs.Forms.{first_made}
-use Rattle.rh_defs.specs.Pieces.{page}
+use Rattle.rh_defs.specs.Pieces.{page_size}
 use Rattle.rh_defs.specs.Heap.{empty_heap}
 use Rattle.rh_defs.specs.Files.{FileList}
 use Rattle.rh_defs.specs.Desk.{Desk}
@@ -27,7 +27,7 @@ use Rattle.rh_defs.specs.Transfer as transfer
 abbrev pub start_with : ℕ → FileList → ℕ → ℕ → Desk
 start_with pool files handle ref = record {
   tasks = [];
-  post = record { seats = []; queued = []; heap = empty_heap page; next_ref = ref };
+  post = record { seats = []; queued = []; heap = empty_heap page_size; next_ref = ref };
   areas = 0 ∷ 0 ∷ 0 ∷ 0 ∷ 0 ∷ 0 ∷ [];
   made = [];
   scrap = None;
@@ -53,5 +53,5 @@ replies d (c ∷ commands) = (step d c).1 ∷ replies (step d c).0 commands
 
 -- opens all that a run computes with
 unfoldable pub computing : Unit {0}
-unfolding chain.computing slot.computing module_area.computing bytes.put messages.computing post.computing sender.computing receiver.computing desk.computing commands.computing questions.computing outgoing_events.computing incoming_events.computing transfer.computing
+unfolding chain.computing slot.computing module_area.computing bytes.with_part messages.computing post.computing sender.computing receiver.computing desk.computing commands.computing questions.computing outgoing_events.computing incoming_events.computing transfer.computing
 computing = tt

@@ -11,18 +11,18 @@ use Rattle.rh_defs.specs.Records.{out_id, is_open, is_full, one_more, with_id, o
 -- ---- saves
 
 -- the record of a DataSave
-abbrev pub opened : ℕ → ℕ → ℕ → Sending
-opened id recipient k = record { id = id; recipient = recipient; anchor = k; count = 0; last = id }
+abbrev pub new_sending : ℕ → ℕ → ℕ → Sending
+new_sending id recipient k = record { id = id; recipient = recipient; anchor = k; count = 0; last = id }
 
 -- with an open record for a DataSave
-abbrev pub offered : ℕ → ℕ → ℕ → List Outgoing → List Outgoing
-offered id recipient k records = one_more is_open (outgoing.Open (opened id recipient k)) records
+abbrev pub sending_offered : ℕ → ℕ → ℕ → List Outgoing → List Outgoing
+sending_offered id recipient k records = one_more is_open (outgoing.Open (new_sending id recipient k)) records
 
 -- the same, refused where as many are open as may be
 unfoldable pub offer : ℕ → ℕ → ℕ → List Outgoing → Granted (List Outgoing)
 offer id recipient k records = do
   _ ← refuse_if (is_full is_open records) Busy
-  Ok (offered id recipient k records)
+  Ok (sending_offered id recipient k records)
 
 -- ---- fetches
 
@@ -47,18 +47,18 @@ sent x n amount ref records = with_id out_id x.id (after_sent x n amount ref) re
 -- ---- failures
 
 -- the transfer failed
-abbrev pub failed : Sending → List Outgoing → List Outgoing
-failed x records = with_id out_id x.id (outgoing.Failed x.id x.count) records
+abbrev pub sending_failed : Sending → List Outgoing → List Outgoing
+sending_failed x records = with_id out_id x.id (outgoing.Failed x.id x.count) records
 
 -- the record whose last message came back
-abbrev pub on_bounce : ℕ → List Outgoing → Option Sending
-on_bounce ref records = open_of (λ x. x.last == ref) records
+abbrev pub on_sending_bounce : ℕ → List Outgoing → Option Sending
+on_sending_bounce ref records = open_of (λ x. x.last == ref) records
 
 -- the open transfer that is meant is given up
-unfoldable pub cancel : Option ℕ → List Outgoing → Granted (List Outgoing)
-cancel wanted records = do
+unfoldable pub cancel_sending : Option ℕ → List Outgoing → Granted (List Outgoing)
+cancel_sending wanted records = do
   x ← found_or (open_of (λ x. is_meant wanted x.id) records) NotOpen
-  Ok (failed x records)
+  Ok (sending_failed x records)
 
 -- ---- by way of a file
 
@@ -83,10 +83,10 @@ abbrev pub on_load_ack : ℕ → ℕ → List Outgoing → Option Sending
 on_load_ack from your_ref records = open_of (is_loaded from your_ref) records
 
 -- all n bytes of the source were loaded
-abbrev pub loaded : Sending → ℕ → List Outgoing → List Outgoing
-loaded x n records = with_id out_id x.id (outgoing.Done x.id n) records
+abbrev pub sending_loaded : Sending → ℕ → List Outgoing → List Outgoing
+sending_loaded x n records = with_id out_id x.id (outgoing.Done x.id n) records
 
 -- opens this file's words, for a proof that computes
 unfoldable pub computing : Unit {0}
-unfolding offer cancel
+unfolding offer cancel_sending
 computing = tt

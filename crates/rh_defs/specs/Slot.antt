@@ -4,7 +4,7 @@ use Rattle.std.specs.List.{AllByRecursion}
 use Rattle.rh_defs.specs.declared.refusal.Refusal.TheVariants.{NoBlock, AnchorInUse, NotABlock, BadRange, BadSize, NoBudge, NoRoom}
 use Rattle.rh_defs.specs.declared.sizes.TheConstants.{ANCHORS, SLOT_START, C_HEAP_PLACE, C_HEAP_START, C_HEAP_LENGTH}
 use Rattle.rh_defs.specs.Chain.{Granted, ◌>>=◌, refuse_if, found_or}
-use Rattle.rh_defs.specs.Pieces.{round_up, page, pages_for, lacks_pages, zeros, moved, total, Split, first_at, with_here, written, is_inside}
+use Rattle.rh_defs.specs.Pieces.{round_up, page_size, pages_for, lacks_pages, zeros, moved, total, Split, first_at, with_here, written, is_inside}
 use Rattle.rh_defs.specs.Heap.{Segment, Heap, IsHeap, Placed, empty_heap, block_at, block_around, need, claim_growing, released, new_size, resize_need, resize_growing, fitted}
 
 -- a flex block, by its anchor and its bytes
@@ -99,8 +99,8 @@ abbrev pub with_block : ℕ → List ℕ → Slot → Slot
 with_block k bytes s = record s { blocks = s.blocks ++ record { anchor = k; bytes = bytes } ∷ [] }
 
 -- the slot with other bytes in the block at the cut
-abbrev pub with_bytes : Split Flex → List ℕ → Slot → Slot
-with_bytes b bytes s = record s { blocks = with_here b (record { anchor = b.here.anchor; bytes = bytes }) }
+abbrev pub with_block_bytes : Split Flex → List ℕ → Slot → Slot
+with_block_bytes b bytes s = record s { blocks = with_here b (record { anchor = b.here.anchor; bytes = bytes }) }
 
 -- the slot without the block at the cut
 abbrev pub without : Split Flex → Slot → Slot
@@ -177,7 +177,7 @@ unfoldable pub slot_extend : ℕ → ℕ → ℕ → Slot → Granted Slot
 slot_extend free k n s = do
   b ← slot_block k s
   _ ← refuse_if (lacks_room free (length_with b n s) s) NoRoom
-  Ok (with_bytes b (fitted n b.here.bytes) s)
+  Ok (with_block_bytes b (fitted n b.here.bytes) s)
 
 -- zeros put into the block at an offset, or the bytes before it taken out
 unfoldable pub slot_mid : ℕ → ℕ → ℕ → ℤ → Slot → Granted Slot
@@ -185,14 +185,14 @@ slot_mid free k offset by s = do
   b ← slot_block k s
   _ ← refuse_if (nat_lt (length b.here.bytes) offset || nat_lt offset (taken_out by)) BadRange
   _ ← refuse_if (lacks_room free (length_with b (moved (length b.here.bytes) by) s) s) NoRoom
-  Ok (with_bytes b (opened_at offset by b.here.bytes) s)
+  Ok (with_block_bytes b (opened_at offset by b.here.bytes) s)
 
 -- bytes written into a block, from an offset on
 unfoldable pub slot_put : ℕ → ℕ → List ℕ → Slot → Granted Slot
 slot_put k offset bytes s = do
   b ← slot_block k s
   _ ← refuse_if (nat_lt (length b.here.bytes) (offset + length bytes)) BadRange
-  Ok (with_bytes b (written b.here.bytes offset bytes) s)
+  Ok (with_block_bytes b (written b.here.bytes offset bytes) s)
 
 -- n bytes of a block, from an offset on
 unfoldable pub slot_read : ℕ → ℕ → ℕ → Slot → Granted (List ℕ)
@@ -229,7 +229,7 @@ unfoldable pub slot_take_pages : ℕ → Slot → Granted ℕ
 slot_take_pages n s = do
   _ ← refuse_if (n == 0) BadSize
   _ ← refuse_if (is_stuck (need n s.heap) s) NoBudge
-  Ok (pages_for (slot_length s + round_up page (need n s.heap) + flex_weight 0) - slot_pages s)
+  Ok (pages_for (slot_length s + round_up page_size (need n s.heap) + flex_weight 0) - slot_pages s)
 
 -- budging set, and the state before
 abbrev pub slot_set_budge : Bool → Slot → Slot × Bool

@@ -2,7 +2,7 @@
 use Rattle.std.specs.Prelude.{◌≡◌, ℕ, zero, suc, ◌+◌, ◌-◌, ◌*◌, ◌/◌, ◌%◌, ◌<◌, ◌≤◌, ◌==◌, Bool, nat_le, nat_lt, ◌&&◌, if◌then◌else◌, List, [], ◌∷◌, length}
 use Rattle.rh_defs.specs.Bytes.{word, part}
 use Rattle.rh_defs.specs.declared.sizes.TheConstants.{C_HEAP_PLACE}
-use Rattle.rh_defs.specs.Pieces.{page}
+use Rattle.rh_defs.specs.Pieces.{page_size}
 use Rattle.rh_defs.specs.HeapImage.{Spells, heap_of}
 use Rattle.rh_defs.specs.Slot.{Flex, Slot, anchor_count, flex_weight, weight, slot_start, heap_start, slot_length, slot_pages, IsFree, HaveAnchors}
 
@@ -37,7 +37,7 @@ pub record SlotWords (b : List ℕ) (s : Slot) : Type 0 where
 -- the bytes spell the slot: they hold it, and are its pages
 pub record SpellsSlot (b : List ℕ) (s : Slot) : Type 0 where
   pub words : SlotWords b s
-  pub pages : length b ≡ page * slot_pages s
+  pub pages : length b ≡ page_size * slot_pages s
 
 -- whether a block stands at place p: its header names an anchor word that holds its address
 abbrev pub is_block : List ℕ → ℕ → Bool

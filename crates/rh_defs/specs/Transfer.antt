@@ -32,12 +32,12 @@ came d t m (RamTransmit buffer n) =
 
 -- a message that came back
 unfoldable pub came_back : Desk → Task → Parcel → Body → Handled
-came_back d t m (DataSave file) = fail_sending d t (sender.on_bounce m.message.my_ref t.sending)
+came_back d t m (DataSave file) = fail_sending d t (sender.on_sending_bounce m.message.my_ref t.sending)
 came_back d t m (DataSaveAck file) = ack_back d t (receiver.on_ack_bounce m.message.my_ref t.taking)
-came_back d t m (DataLoad file) = fail_sending d t (sender.on_bounce m.message.my_ref t.sending)
+came_back d t m (DataLoad file) = fail_sending d t (sender.on_sending_bounce m.message.my_ref t.sending)
 came_back d t m (DataLoadAck file) = ignored d
-came_back d t m (RamFetch buffer amount) = fetch_back d t (receiver.on_bounce m.message.my_ref t.taking)
-came_back d t m (RamTransmit buffer n) = fail_sending d t (sender.on_bounce m.message.my_ref t.sending)
+came_back d t m (RamFetch buffer amount) = fetch_back d t (receiver.on_taking_bounce m.message.my_ref t.taking)
+came_back d t m (RamTransmit buffer n) = fail_sending d t (sender.on_sending_bounce m.message.my_ref t.sending)
 
 -- a message, by its code
 unfoldable pub handled : Desk → Task → Parcel → EventCode → Handled

@@ -8,7 +8,7 @@ pub use Rattle.std.specs.Prelude.{codes, if◌then◌else◌, nat_le, nat_lt}
 pub use Rattle.rh_figure.specs.Phrases.{cut}
 pub use Rattle.rh_lines.proofs.FlowLemmas.{puts_before, puts_more, puts_stops}
 pub use Rattle.rh_map.proofs.Left.{Left, left_breaks, left_less}
-pub use Rattle.rh_map.specs.Messages.{text_of}
+pub use Rattle.rh_map.specs.Messages.{message_entry_text}
 pub use Rattle.rh_map.specs.Replies.{lines_in}
 pub use Rattle.rh_sheet.specs.Frames.{row_y}
 pub use Rattle.rh_sheet.specs.Markup.{escape, escaped_byte}

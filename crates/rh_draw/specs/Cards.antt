@@ -20,8 +20,8 @@ kind_of More = cards.MoreCard
 abbrev pub classes_of_card : Look → Bool → Text
 classes_of_card look fresh = concat (codes "card " ∷ card_class (kind_of look) ∷ fresh_class fresh ∷ [])
 
-abbrev pub card_of : Card → cards.Card
-card_of c = record {
+abbrev pub drawn_card : Card → cards.Card
+drawn_card c = record {
   kind = kind_of c.look;
   first = c.first.now;
   second = c.second.now;

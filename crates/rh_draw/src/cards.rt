@@ -1,7 +1,7 @@
 //! Cards: what may be too small for its scale, written out.
 
 ghost use Rattle.std.specs.Prelude.{◌≡◌, ◌≤◌, ◌<◌, ◌+◌, length};
-ghost use Rattle.rh_draw.specs.Cards.{card_of, classes_of_card, kind_of};
+ghost use Rattle.rh_draw.specs.Cards.{drawn_card, classes_of_card, kind_of};
 ghost use Rattle.rh_figure.specs.declared.limits.TheConstants.{MOST_CARDS};
 ghost use Rattle.rh_lines.specs.Flow.{Puts};
 ghost use Rattle.rh_sheet.specs.Cards.{card_box, card_line_text, card_text, card_x as x_of_card, high_card_text, high_card_y as y_of_high_card, low_card_text};
@@ -97,7 +97,7 @@ fn print_card_box<W: Sink>(
 /// Writes a card whose room begins at a point.
 fn print_card<W: Sink>(card: &Card<'_>, x: u32, y: u32, writer: &mut W) -> Result<(), WriteFailed>
     requires { x + y ≤ 4000 }
-    ensures { Puts (W.output writer.old) (W.output writer.new) result (card_text (card_of card.now) x y) }
+    ensures { Puts (W.output writer.old) (W.output writer.new) result (card_text (drawn_card card.now) x y) }
 {
     print_card_box(card.look, card.fresh, x, y, writer)?;
     print_card_line(b"first", 0, x, y, card.first, writer)?;
@@ -123,7 +123,7 @@ pub fn print_low_card<W: Sink>(
 ) -> Result<(), WriteFailed>
     requires few { i < MOST_CARDS }
     requires height { y0 ≤ 1000 }
-    ensures { Puts (W.output writer.old) (W.output writer.new) result (low_card_text y0 (i, card_of card.now)) }
+    ensures { Puts (W.output writer.old) (W.output writer.new) result (low_card_text y0 (i, drawn_card card.now)) }
 {
     print_card(card, card_x(i), y0 + CARD_RISE * (i / CARDS_ACROSS), writer)
 }
@@ -147,7 +147,7 @@ pub fn print_high_card<W: Sink>(
 ) -> Result<(), WriteFailed>
     requires few { i < MOST_CARDS }
     requires height { y0 ≤ 1000 }
-    ensures { Puts (W.output writer.old) (W.output writer.new) result (high_card_text y0 (i, card_of card.now)) }
+    ensures { Puts (W.output writer.old) (W.output writer.new) result (high_card_text y0 (i, drawn_card card.now)) }
 {
     print_card(card, card_x(i), high_card_y(y0, i), writer)
 }

@@ -2,7 +2,7 @@
 
 ghost use Rattle.std.specs.Prelude.{◌≤◌, ◌<◌, ◌+◌, ◌*◌, ◌/◌, ◌^◌, nat_lt, if◌then◌else◌, length, codes};
 ghost use Rattle.std.specs.Fmt.{decimal};
-ghost use Rattle.rh_defs.specs.Pieces.{page};
+ghost use Rattle.rh_defs.specs.Pieces.{page_size};
 ghost use Rattle.rh_defs.specs.Text.{address};
 ghost use Rattle.rh_defs.specs.declared.sizes.TheConstants.{MAX_PAGES};
 ghost use Rattle.rh_draw.specs.Pieces.{AreDrawable};
@@ -117,7 +117,7 @@ fn print_address<W: Sink>(start: u32, y: u32, k: usize, writer: &mut W) -> Resul
     requires height { y ≤ 800 }
     requires page { k < MAX_PAGES }
     ensures { Puts (W.output writer.old) (W.output writer.new) result
-        (words_text (codes "addr") 0 (y + BASELINE) (address (start + page * k))) }
+        (words_text (codes "addr") 0 (y + BASELINE) (address (start + page_size * k))) }
 {
     let mut text = Row::new();
     text.address(start + (PAGE * k) as u32);

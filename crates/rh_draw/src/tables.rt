@@ -9,7 +9,7 @@ ghost use Rattle.rh_defs.specs.declared.sizes.TheConstants.{MAX_PAGES};
 ghost use Rattle.rh_draw.specs.Letters.{behind_commas};
 ghost use Rattle.rh_figure.specs.Phrases.{and_more};
 ghost use Rattle.rh_lines.specs.Flow.{Puts};
-ghost use Rattle.rh_map.specs.Messages.{held_text, letterbox_of, text_of, waits_text};
+ghost use Rattle.rh_map.specs.Messages.{held_text, mapped_letterbox, message_entry_text, waits_text};
 ghost use Rattle.rh_map.specs.Sides.{side_of};
 ghost use Rattle.rh_sheet.specs.Markup.{cell_text, escape};
 ghost use Rattle.rh_sheet.specs.Tables.{letterbox_row, side_cells, transfer_row};
@@ -31,7 +31,7 @@ pub fn print_letterbox_row<W: Sink>(
 ) -> Result<(), WriteFailed>
     requires { count ≤ MAX_PAGES }
     ensures { Puts (W.output writer.old) (W.output writer.new) result
-        (letterbox_row (letterbox_of name.now held waits.now count)) }
+        (letterbox_row (mapped_letterbox name.now held waits.now count)) }
 {
     put(writer, b"<tr>")?;
     print_cell(name, writer)?;
@@ -89,7 +89,7 @@ fn put_waits<W: Sink>(
 /// Writes messages with commas between them.
 fn put_entries<W: Sink>(waits: &[MessageEntry], writer: &mut W) -> Result<(), WriteFailed>
     ensures { Puts (W.output writer.old) (W.output writer.new) result
-        (escape (join_by text_of (codes ", ") waits.now)) }
+        (escape (join_by message_entry_text (codes ", ") waits.now)) }
 {
     let Some((first, others)) = waits.split_first() else {
         return Ok(());
@@ -113,7 +113,8 @@ fn put_others<W: Sink>(others: &[MessageEntry], writer: &mut W) -> Result<(), Wr
 /// Writes a message behind what stands before it.
 fn put_entry<W: Sink>(before: &[u8], entry: MessageEntry, writer: &mut W) -> Result<(), WriteFailed>
     requires { length before.now ≤ 2 }
-    ensures { Puts (W.output writer.old) (W.output writer.new) result (escape (before.now ++ text_of entry)) }
+    ensures { Puts (W.output writer.old) (W.output writer.new) result
+        (escape (before.now ++ message_entry_text entry)) }
 {
     let mut row = Row::new();
     row.text(before);

@@ -34,7 +34,7 @@ use Rattle.rh_map.specs.Replies.{excerpt_lines, lines_in, more_behind, rest_line
 use Rattle.rh_map.proofs.SeamLemmas.{whole-reply}
 use Rattle.rh_sight.proofs.Places.{front-none, front-some}
 use Rattle.rh_sight.proofs.SegmentWalks.{length-items}
-use Rattle.rh_drawn.specs.Replies.{AreSmall, IsSmall}
+use Rattle.rh_drawn.specs.Replies.{AreSmall, IsSmallTask}
 use Rattle.rh_map.specs.Replies.{front_of}
 use Rattle.rh_drawn.proofs.ExcerptLemmas.{AreOpen, OneLine, address-open, decimal-open, first-one, line-one, one-kept, rest-one}
 use Rattle.rh_map.proofs.FrontLemmas.{onto-long}
@@ -47,7 +47,7 @@ use Rattle.rh_defs.specs.Slot.{Flex, weight, flex_start}
 use Rattle.rh_defs.specs.Text.{shown_bytes}
 use Rattle.rh_defs.specs.Pieces.{total}
 use Rattle.rh_sight.specs.declared.sight.HeapOf.TheVariants as heap_of
-use Rattle.rh_sight.specs.Walks.{ComesTo}
+use Rattle.rh_sight.specs.Walks.{ComesToRest}
 use Rattle.rh_sight.proofs.Heaps.{room, seen, sized-many, task-slot}
 use Rattle.rh_sight.proofs.SlotPieces.{few-blocks}
 use Rattle.rh_drawn.proofs.Common.{heap_seen, option_map}
@@ -407,30 +407,30 @@ abbrev slot_item : Task → AreaItem
 slot_item t = item.Slot t.name (task_pages t)
 
 -- the tasks up to the next one, and all of them
-pub small-more : (ts : List Task) (i : ℕ) (t : Task) → AllByRecursion IsSmall (take i ts) → slice_get ts i ≡ Some t → IsSmall t
-    → AllByRecursion IsSmall (take (i + 1) ts)
-small-more ts i t all at here = subst (AllByRecursion IsSmall) (sym (front-some ts i t at)) (go (take i ts) all)
+pub small-more : (ts : List Task) (i : ℕ) (t : Task) → AllByRecursion IsSmallTask (take i ts) → slice_get ts i ≡ Some t → IsSmallTask t
+    → AllByRecursion IsSmallTask (take (i + 1) ts)
+small-more ts i t all at here = subst (AllByRecursion IsSmallTask) (sym (front-some ts i t at)) (go (take i ts) all)
   where
-    go : (xs : List Task) → AllByRecursion IsSmall xs → AllByRecursion IsSmall (xs ++ t ∷ [])
+    go : (xs : List Task) → AllByRecursion IsSmallTask xs → AllByRecursion IsSmallTask (xs ++ t ∷ [])
     go [] all = (here, tt)
     go (x ∷ xs) all = (all.0, go xs all.1)
 
-pub small-all : (ts : List Task) (i : ℕ) → AllByRecursion IsSmall (take i ts) → slice_get ts i ≡ None → AllByRecursion IsSmall ts
-small-all ts i all past = subst (AllByRecursion IsSmall) (front-none ts i past) all
+pub small-all : (ts : List Task) (i : ℕ) → AllByRecursion IsSmallTask (take i ts) → slice_get ts i ≡ None → AllByRecursion IsSmallTask ts
+small-all ts i all past = subst (AllByRecursion IsSmallTask) (front-none ts i past) all
 
 -- one line for each slot, and one more for each line feed of its name
 abbrev slot_lines : List Task → ℕ
 slot_lines tasks = total (λ (t : Task). 1 + length (ended t.name)) tasks
 
-slots-lines : (ts : List Task) → AllByRecursion IsSmall ts → ShortLines (slot_lines ts) (flat_map area_line (map slot_item ts))
+slots-lines : (ts : List Task) → AllByRecursion IsSmallTask ts → ShortLines (slot_lines ts) (flat_map area_line (map slot_item ts))
 slots-lines [] all = no-lines
 slots-lines (t ∷ ts) all = lines-both (slot-line t.name (task_pages t) all.0.name) (slots-lines ts all.1)
 
-slots-few : (ts : List Task) → AllByRecursion IsSmall ts → slot_lines ts ≤ 13 * length ts
+slots-few : (ts : List Task) → AllByRecursion IsSmallTask ts → slot_lines ts ≤ 13 * length ts
 slots-few [] all = omega arith
 slots-few (t ∷ ts) all = omega (arith, all.0.name, ended-few t.name, slots-few ts all.1)
 
-areas-lines : (d : Desk) → AllByRecursion IsSmall d.tasks
+areas-lines : (d : Desk) → AllByRecursion IsSmallTask d.tasks
     → ShortLines (length d.areas + (length d.made + slot_lines d.tasks)) (flat_map area_line (area_items d))
 areas-lines d names =
     let fixed = map (area_item d) (enumerate_from 0 d.areas) in
@@ -555,7 +555,7 @@ module _ (d : Desk) (is : IsDesk d) (small : AreSmall d.tasks) where
       let h = t.slot.heap in
       let items = segment_items t.slot in
       let e = ap (option_map (λ (u : Task). u.slot.heap)) at in
-      let w : ComesTo (heap_seen (heap_of.Task i) d) 16 h.segments = record { heap = h; is = e; below = []; whole = refl; at = refl } in
+      let w : ComesToRest (heap_seen (heap_of.Task i) d) 16 h.segments = record { heap = h; is = e; below = []; whole = refl; at = refl } in
       let small_heap = seen is (heap_of.Task i) h e in
       let k = room w small_heap in
       let many : length items ≡ length h.segments = length-items _ h.segments in
@@ -565,7 +565,7 @@ module _ (d : Desk) (is : IsDesk d) (small : AreSmall d.tasks) where
   status-few : (name : List ℕ) → FewLines (answer_text (status d name))
   unfolding status later_lines
   status-few name = told-of name _ λ i t at.
-      let few = all-at IsSmall d.tasks i t small.each at in
+      let few = all-at IsSmallTask d.tasks i t small.each at in
       told-lines _ (Records (map out_item t.sending) (map in_item t.taking)) (max (length t.sending) 1 + max (length t.taking) 1)
       (lines-both
       (records-lines out_item (codes "out") (word-of (codes "out") refl refl) t.sending)

@@ -36,7 +36,7 @@ pub use Rattle.rh_defs.specs.declared.transfer.Outgoing.{Outgoing}
 pub use Rattle.rh_feed.proofs.LineLemmas.{kept_means}
 unfoldable pub use Rattle.rh_feed.specs.Lines.{kept}
 pub use Rattle.rh_figure.specs.Cards.{Card, flex_cards, more_card, shown_cards}
-pub use Rattle.rh_figure.specs.Changes.{block_change, gone_line, has_anchor, item_of, slide_of, taken_line}
+pub use Rattle.rh_figure.specs.Changes.{block_change, gone_line, has_anchor, item_with_anchor, slide_of, taken_line}
 pub use Rattle.rh_figure.specs.Figure.{Panel, Side, fixed_panel, has_id, made_panel, owner_of, slot_panel}
 unfoldable pub use Rattle.rh_figure.specs.Figure.{figure}
 pub use Rattle.rh_figure.specs.Layout.{is_fresh_flex}
@@ -44,7 +44,7 @@ pub use Rattle.rh_figure.specs.Map.{Place, after_read, card_line, heading_line, 
 pub use Rattle.rh_figure.specs.Map.{written_lines}
 pub use Rattle.rh_figure.specs.Phrases.{Text, area_name, cut, is_returned, task_name}
 pub use Rattle.rh_figure.specs.Rows.{area_rows, page_mark}
-pub use Rattle.rh_figure.specs.Scene.{Scene, message_in, scene_of}
+pub use Rattle.rh_figure.specs.Scene.{Scene, message_of_scene, scene_of}
 pub use Rattle.rh_figure.specs.Share.{AreaOf, Holding, IsShared, Owner, Share, SlotOf, count_of, fixed_holding, holdings}
 pub use Rattle.rh_lines.proofs.FlowLemmas.{takes_more, takes_none}
 pub use Rattle.rh_lines.specs.Flow.{Breaks, Output, Puts, Takes}
@@ -56,7 +56,7 @@ pub use Rattle.rh_sight.proofs.Places.{rest-none, rest-some}
 pub use Rattle.rh_sight.specs.Messages.{held_on, lies_in, message_items, waiting_on}
 pub use Rattle.rh_sight.specs.Owners.{made_holding, slot_holding}
 pub use Rattle.rh_sight.specs.Pages.{share_in}
-pub use Rattle.rh_sight.specs.Seen.{HasBlock, IsTaskSeen, heap_seen, heap_start_of}
+pub use Rattle.rh_sight.specs.Seen.{SeesBlock, IsTaskSeen, heap_seen, heap_start_of}
 pub use Rattle.rh_sight.specs.Steps.{scene_at}
 pub use Rattle.rh_drawn.specs.Bands.{IsSurvey, band_cards, is_fresh_card, with_items}
 pub use Rattle.rh_drawn.specs.Cards.{card_lines, cards_behind, count_shown, place_behind}

@@ -2,7 +2,8 @@
 use Rattle.rh_drawn.proofs.Common.{◌≡◌, ℕ, zero, suc, ◌+◌, ◌-◌, ◌<◌, ◌≤◌, Bool, true, false, refl, ap, ap₂, sym, subst, ◌∙◌, arith, eq-eqb, List, [], ◌∷◌}
 use Rattle.rh_drawn.proofs.Common.{◌++◌, length, take, drop, get_or, Option, Some, None, IfSome, ◌&&◌, ◌||◌, ◌==◌, filter, find, if◌then◌else◌, nat_le}
 use Rattle.rh_drawn.proofs.Common.{slice_get, AllByRecursion, flat_map, list_any, option_map, eqb-true, nat_tests, drop_all, take_all, slice_get-get_or}
-use Rattle.rh_drawn.proofs.Common.{slice_get_within, Desk, Task, Heap, IsDesk, Parcel, Card, Scene, message_in, MessageItem, held_on, waiting_on, HasBlock}
+use Rattle.rh_drawn.proofs.Common.{slice_get_within, Desk, Task, Heap, IsDesk, Parcel, Card, Scene, message_of_scene, MessageItem, held_on, waiting_on}
+use Rattle.rh_drawn.proofs.Common.{SeesBlock}
 use Rattle.rh_drawn.proofs.Common.{heap_seen, heap_start_of, band_cards, is_fresh_card, with_items}
 use Rattle.rh_defs.specs.declared.sizes.TheConstants.{SEGMENTS_AT_ONCE}
 use Rattle.rh_defs.specs.declared.question.SegmentItem.{SegmentItem}
@@ -19,7 +20,7 @@ use Rattle.rh_figure.specs.Layout.{is_fresh_block}
 use Rattle.rh_figure.specs.Scene.{held_list}
 use Rattle.rh_sight.specs.declared.sight.HeapOf.{HeapOf}
 use Rattle.rh_sight.specs.declared.sight.HeapOf.TheVariants as heap_of
-use Rattle.rh_sight.specs.Walks.{ComesTo, IsInArea}
+use Rattle.rh_sight.specs.Walks.{ComesToRest, IsInArea}
 use Rattle.rh_sight.proofs.Heaps.{Counted, told}
 use Rattle.rh_sight.proofs.PieceWalks.{item-in-area}
 use Rattle.rh_sight.proofs.SegmentWalks.{length-items, take-items}
@@ -44,7 +45,7 @@ pub band-heap : (d : Desk) (b : Band) → IsBandOf d b → BandHeap d b.heap
 band-heap d b r = band-heap-for d b b.heap r
 
 -- all segments come from the first place on
-abbrev pub from-first : {o : Option Heap} (h : Heap) → o ≡ Some h → ComesTo o 16 h.segments
+abbrev pub from-first : {o : Option Heap} (h : Heap) → o ≡ Some h → ComesToRest o 16 h.segments
 from-first h e = record { heap = h; is = e; below = []; whole = refl; at = refl }
 
 -- what holds of the heap that is there
@@ -213,7 +214,7 @@ posted-fresh x at bytes (Some p) = refl
 fresh-used : (x : Scene) (d : Desk) (b : Band) (o : HeapOf) (p : ℕ) (bytes : List ℕ) → IsBandFor d b o
     → is_fresh_at x b.handle o (p + 4) ≡ (card_for x d o p (Used bytes)).fresh
 fresh-used x d b (heap_of.Task i) p bytes r = ap (λ h. is_fresh_block x h (p + 4)) r.2 ∙ sym (ap (λ o. (card_of_task x o p (Used bytes)).fresh) r.1)
-fresh-used x d b heap_of.Module p bytes r = posted-fresh x (p + 4) bytes (message_in x (p + 4 - 25165824))
+fresh-used x d b heap_of.Module p bytes r = posted-fresh x (p + 4) bytes (message_of_scene x (p + 4 - 25165824))
 
 fresh-hole : (x : Scene) (d : Desk) (b : Band) (o : HeapOf) (p n : ℕ) → IsBandFor d b o → false ≡ (card_for x d o p (Hole n)).fresh
 fresh-hole x d b (heap_of.Task i) p n r = sym (ap (λ o. (card_of_task x o p (Hole n)).fresh) r.1)
@@ -350,9 +351,9 @@ pub used-here : (p a n : ℕ) (s : Segment) → segment_item p s ≡ segment.Use
 used-here p a n (Used bytes) e = let size : length bytes ≡ n = cc in let at : p + 4 ≡ a = cc in record { bytes = bytes; is = refl; at = at; size = size }
 used-here p a n (Hole m) e = absurd (cc)
 
-pub has-block : {o : Option Heap} {place : ℕ} {s : Segment} (bytes : List ℕ) → HasSegment o place s → s ≡ Used bytes → HasBlock o place bytes
+pub has-block : {o : Option Heap} {place : ℕ} {s : Segment} (bytes : List ℕ) → HasSegment o place s → s ≡ Used bytes → SeesBlock o place bytes
 has-block {o} {place} {s} bytes has e =
-    let P : Option Heap → Type 0 = λ z. HasBlock z place bytes in
+    let P : Option Heap → Type 0 = λ z. SeesBlock z place bytes in
     subst P (sym has.is) (record { below = has.below; above = has.above; whole = has.whole ∙ ap (λ z. has.below ++ z ∷ has.above) e; at = has.at })
 
 hole-for : (x : Scene) (d : Desk) (b : Band) (o : HeapOf) (p n : ℕ) → IsBandFor d b o → hole_card p n ≡ card_for x d o p (Hole n)
@@ -382,25 +383,25 @@ task-is x d b i p a n s heap r q =
     ∙ (used-task x d b i p q.bytes (subst (IsBandFor d b) heap r)
     ∙ (ap (λ o. card_for x d o p (Used q.bytes)) (sym heap) ∙ ap (band_card x d b p) (sym q.is))))
 
-used-module : (x : Scene) (d : Desk) (b : Band) (p : ℕ) (bytes : List ℕ) → b.taking.now ≡ [] → message_in x (p + 4 - 25165824) ≡ None
+used-module : (x : Scene) (d : Desk) (b : Band) (p : ℕ) (bytes : List ℕ) → b.taking.now ≡ [] → message_of_scene x (p + 4 - 25165824) ≡ None
     → used_card (p + 4) bytes (in_use_text (find (is_buffer_of (p + 4)) b.taking.now)) (x.marks.module_block == p + 4) ≡ card_for x d heap_of.Module p
     (Used bytes)
 used-module x d b p bytes none e =
     ap (λ tk. used_card (p + 4) bytes (in_use_text (find (is_buffer_of (p + 4)) tk)) (x.marks.module_block == p + 4)) none
     ∙ sym (ap (λ o. post_or_used_card x (p + 4) bytes o) e)
 
-pub module-is : (x : Scene) (d : Desk) (b : Band) (p a n : ℕ) (s : Segment) → b.heap ≡ heap_of.Module → IsBandOf d b → message_in x (a - 25165824) ≡ None
+pub module-is : (x : Scene) (d : Desk) (b : Band) (p a n : ℕ) (s : Segment) → b.heap ≡ heap_of.Module → IsBandOf d b → message_of_scene x (a - 25165824) ≡ None
     → (q : UsedHere p a n s) → plain_card x b a q.bytes ≡ band_card x d b p s
 module-is x d b p a n s heap r e q =
     ap (λ z. plain_card x b z q.bytes) (sym q.at)
     ∙ (ap (λ o. used_card (p + 4) q.bytes (in_use_text (find (is_buffer_of (p + 4)) b.taking.now)) (is_fresh_block_of x b.handle o (p + 4))) heap
-    ∙ (used-module x d b p q.bytes (subst (IsBandFor d b) heap r) (ap (λ z. message_in x (z - 25165824)) q.at ∙ e)
+    ∙ (used-module x d b p q.bytes (subst (IsBandFor d b) heap r) (ap (λ z. message_of_scene x (z - 25165824)) q.at ∙ e)
     ∙ (ap (λ o. card_for x d o p (Used q.bytes)) (sym heap) ∙ ap (band_card x d b p) (sym q.is))))
 
-pub posted-is : (x : Scene) (d : Desk) (b : Band) (p a n : ℕ) (s : Segment) (m : Parcel) → b.heap ≡ heap_of.Module → message_in x (a - 25165824) ≡ Some m
+pub posted-is : (x : Scene) (d : Desk) (b : Band) (p a n : ℕ) (s : Segment) (m : Parcel) → b.heap ≡ heap_of.Module → message_of_scene x (a - 25165824) ≡ Some m
     → UsedHere p a n s → post_card x m ≡ band_card x d b p s
 posted-is x d b p a n s m heap e q =
-    sym (ap (λ o. post_or_used_card x (p + 4) q.bytes o) (ap (λ z. message_in x (z - 25165824)) q.at ∙ e))
+    sym (ap (λ o. post_or_used_card x (p + 4) q.bytes o) (ap (λ z. message_of_scene x (z - 25165824)) q.at ∙ e))
     ∙ (ap (λ o. card_for x d o p (Used q.bytes)) (sym heap) ∙ ap (band_card x d b p) (sym q.is))
 
 -- ---- messages in blocks

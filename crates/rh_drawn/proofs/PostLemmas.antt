@@ -16,30 +16,30 @@ use Rattle.rh_figure.specs.Figure.{Letterbox, messages_text}
 use Rattle.rh_figure.specs.Phrases.{and_more, message_text}
 use Rattle.rh_figure.specs.Cards.{after_ref, next_text}
 use Rattle.rh_figure.specs.Scene.{held_list, ref_of}
-use Rattle.rh_map.specs.Messages.{held_text, text_of, waits_text}
+use Rattle.rh_map.specs.Messages.{held_text, message_entry_text, waits_text}
 use Rattle.rh_map.specs.Messages as lines
 use Rattle.rh_sight.specs.declared.message_list.Place.{Place}
 use Rattle.rh_sight.specs.declared.message_list.Place.TheVariants.{Held}
-use Rattle.rh_sight.specs.Messages.{before_next, behind, first_ref, held_ref, is_held_by, item_of, place_among, waits_for}
+use Rattle.rh_sight.specs.Messages.{before_next, items_behind, first_ref, held_ref, is_held_by, seen_item, message_place, waits_for}
 use Rattle.rh_sight.proofs.Posts.{held-is}
 use Rattle.rh_drawn.specs.Bands.{IsItemOf, place_seen}
 use Rattle.rh_drawn.specs.Letters.{entry_seen, letterbox_in}
 
 -- ---- what waits for a task
 
-waits-held : (h : ℕ) (qs : List Parcel) → filter (waits_for h) (map (item_of true) qs) ≡ []
+waits-held : (h : ℕ) (qs : List Parcel) → filter (waits_for h) (map (seen_item true) qs) ≡ []
 waits-held h [] = refl
 waits-held h (q ∷ qs) = waits-held h qs
 
 waits-listed : (h : ℕ) (ps : List Parcel) (ms : List MessageItem)
-    → filter (waits_for h) (map (item_of false) ps ++ ms) ≡ map (item_of false) (filter (is_to h) ps) ++ filter (waits_for h) ms
+    → filter (waits_for h) (map (seen_item false) ps ++ ms) ≡ map (seen_item false) (filter (is_to h) ps) ++ filter (waits_for h) ms
 waits-listed h [] ms = refl
 waits-listed h (p ∷ ps) ms = go (p.to == h) refl (waits-listed h ps ms)
   where
     go : (t : Bool) → (p.to == h) ≡ t
-        → filter (waits_for h) (map (item_of false) ps ++ ms) ≡ map (item_of false) (filter (is_to h) ps) ++ filter (waits_for h) ms
-        → filter (waits_for h) (map (item_of false) (p ∷ ps) ++ ms) ≡ map (item_of false) (filter (is_to h) (p ∷ ps)) ++ filter (waits_for h) ms
-    go true k rest = rw k (ap (λ z. item_of false p ∷ z) rest)
+        → filter (waits_for h) (map (seen_item false) ps ++ ms) ≡ map (seen_item false) (filter (is_to h) ps) ++ filter (waits_for h) ms
+        → filter (waits_for h) (map (seen_item false) (p ∷ ps) ++ ms) ≡ map (seen_item false) (filter (is_to h) (p ∷ ps)) ++ filter (waits_for h) ms
+    go true k rest = rw k (ap (λ z. seen_item false p ∷ z) rest)
     go false k rest = rw k rest
 
 to-same : (h : ℕ) (ps : List Parcel) → filter (is_to h) (filter (is_to h) ps) ≡ filter (is_to h) ps
@@ -127,27 +127,27 @@ module _ {d : Desk} (is : IsDesk d) (h : ℕ) where
       go false e = sym (none-queued d.post.next_ref h d.post.seats d.post.queued is.post.queued e)
 
   -- the list has the messages that wait for a task, in their order
-  pub waits-are : filter (waits_for h) (message_items d) ≡ map (item_of false) (filter (is_to h) d.post.queued)
+  pub waits-are : filter (waits_for h) (message_items d) ≡ map (seen_item false) (filter (is_to h) d.post.queued)
   waits-are =
-      waits-listed h (waiting_on d) (map (item_of true) (held_on d))
-      ∙ (ap (λ z. map (item_of false) (filter (is_to h) (waiting_on d)) ++ z) (waits-held h (held_on d))
-      ∙ (append-nil (map (item_of false) (filter (is_to h) (waiting_on d))) ∙ ap (map (item_of false)) queued-is))
+      waits-listed h (waiting_on d) (map (seen_item true) (held_on d))
+      ∙ (ap (λ z. map (seen_item false) (filter (is_to h) (waiting_on d)) ++ z) (waits-held h (held_on d))
+      ∙ (append-nil (map (seen_item false) (filter (is_to h) (waiting_on d))) ∙ ap (map (seen_item false)) queued-is))
 
 -- ---- what a task holds
 
-none-waits : (h : ℕ) (ps : List Parcel) (ms : List MessageItem) → find (is_held_by h) (map (item_of false) ps ++ ms) ≡ find (is_held_by h) ms
+none-waits : (h : ℕ) (ps : List Parcel) (ms : List MessageItem) → find (is_held_by h) (map (seen_item false) ps ++ ms) ≡ find (is_held_by h) ms
 none-waits h [] ms = refl
 none-waits h (p ∷ ps) ms = none-waits h ps ms
 
 abbrev holds_of : List Seat → List MessageItem
-holds_of seats = map (item_of true) (flat_map (λ (s : Seat). held_list s.holds) seats)
+holds_of seats = map (seen_item true) (flat_map (λ (s : Seat). held_list s.holds) seats)
 
 held-other : (next h : ℕ) (seats : List Seat) → AllByRecursion (HoldsOwn next) seats → Others h seats → find (is_held_by h) (holds_of seats) ≡ None
 held-other next h [] own off = refl
 held-other next h (s ∷ seats) own off = go s.holds own.0 (held-other next h seats own.1 off.1)
   where
     go : (o : Option Parcel) → IfSome o (IsHeld next s.handle) → find (is_held_by h) (holds_of seats) ≡ None
-        → find (is_held_by h) (map (item_of true) (held_list o ++ flat_map (λ (x : Seat). held_list x.holds) seats)) ≡ None
+        → find (is_held_by h) (map (seen_item true) (held_list o ++ flat_map (λ (x : Seat). held_list x.holds) seats)) ≡ None
     go None is rest = rest
     go (Some p) is rest =
         let mine : (p.to == h) ≡ false = ap (λ n. n == h) is.own ∙ off.0 in
@@ -155,7 +155,7 @@ held-other next h (s ∷ seats) own off = go s.holds own.0 (held-other next h se
 
 held-first : (least next given h : ℕ) (tasks : List Task) (seats : List Seat) → seat_handles seats ≡ task_handles tasks
     → Rise (λ (t : Task). t.handle) least next tasks → AllByRecursion (HoldsOwn given) seats
-    → find (is_held_by h) (holds_of seats) ≡ option_map (item_of true) (held_by h seats)
+    → find (is_held_by h) (holds_of seats) ≡ option_map (seen_item true) (held_by h seats)
 held-first least next given h tasks [] e r own = refl
 held-first least next given h [] (s ∷ seats) e r own = absurd (cc)
 held-first least next given h (t ∷ tasks) (s ∷ seats) e r own =
@@ -164,8 +164,8 @@ held-first least next given h (t ∷ tasks) (s ∷ seats) e r own =
     go here rest (s.handle == h) refl s.holds own.0 (held-first (t.handle + 1) next given h tasks seats rest r.1 own.1)
   where
     go : s.handle ≡ t.handle → seat_handles seats ≡ task_handles tasks → (b : Bool) → (s.handle == h) ≡ b → (o : Option Parcel)
-        → IfSome o (IsHeld given s.handle) → find (is_held_by h) (holds_of seats) ≡ option_map (item_of true) (held_by h seats)
-        → find (is_held_by h) (map (item_of true) (held_list o ++ flat_map (λ (x : Seat). held_list x.holds) seats)) ≡ option_map (item_of true)
+        → IfSome o (IsHeld given s.handle) → find (is_held_by h) (holds_of seats) ≡ option_map (seen_item true) (held_by h seats)
+        → find (is_held_by h) (map (seen_item true) (held_list o ++ flat_map (λ (x : Seat). held_list x.holds) seats)) ≡ option_map (seen_item true)
         (if b then o else held_by h seats)
     go here rest true k None is more =
         let same : s.handle ≡ h = eqb-true s.handle h k in
@@ -179,9 +179,9 @@ held-first least next given h (t ∷ tasks) (s ∷ seats) e r own =
         rw mine more
 
 -- the list has the message that a task holds
-pub held-are : {d : Desk} → IsDesk d → (h : ℕ) → find (is_held_by h) (message_items d) ≡ option_map (item_of true) (held_by h d.post.seats)
+pub held-are : {d : Desk} → IsDesk d → (h : ℕ) → find (is_held_by h) (message_items d) ≡ option_map (seen_item true) (held_by h d.post.seats)
 held-are {d} is h =
-    none-waits h (waiting_on d) (map (item_of true) (held_on d))
+    none-waits h (waiting_on d) (map (seen_item true) (held_on d))
     ∙ held-first 0 d.next_handle d.post.next_ref h d.tasks d.post.seats is.seats is.handles is.post.held
 
 -- ---- letterboxes
@@ -245,15 +245,15 @@ join-map f g sep [] = refl
 join-map f g sep (x ∷ xs) = ap (λ z. f (g x) ++ z) (flat_map-map (λ y. sep ++ f y) g xs)
 
 waits-text : (ws : List Parcel)
-    → waits_text (take MOST_LISTED (map entry_seen (map (item_of false) ws))) (length (map entry_seen (map (item_of false) ws))) ≡ messages_text ws
+    → waits_text (take MOST_LISTED (map entry_seen (map (seen_item false) ws))) (length (map entry_seen (map (seen_item false) ws))) ≡ messages_text ws
 waits-text ws =
-    let items = map (item_of false) ws in
-    ap (λ n. waits_text (take MOST_LISTED (map entry_seen items)) n) (length-map items entry_seen ∙ length-map ws (item_of false))
-    ∙ (ap (λ z. waits_text z (length ws)) (take-map entry_seen MOST_LISTED items ∙ ap (map entry_seen) (take-map (item_of false) MOST_LISTED ws))
-    ∙ ap (λ z. z ++ and_more (length ws)) (join-map text_of entry_seen (codes ", ") (map (item_of false) (take MOST_LISTED ws))
-    ∙ join-map (λ (m : MessageItem). text_of (entry_seen m)) (item_of false) (codes ", ") (take MOST_LISTED ws)))
+    let items = map (seen_item false) ws in
+    ap (λ n. waits_text (take MOST_LISTED (map entry_seen items)) n) (length-map items entry_seen ∙ length-map ws (seen_item false))
+    ∙ (ap (λ z. waits_text z (length ws)) (take-map entry_seen MOST_LISTED items ∙ ap (map entry_seen) (take-map (seen_item false) MOST_LISTED ws))
+    ∙ ap (λ z. z ++ and_more (length ws)) (join-map message_entry_text entry_seen (codes ", ") (map (seen_item false) (take MOST_LISTED ws))
+    ∙ join-map (λ (m : MessageItem). message_entry_text (entry_seen m)) (seen_item false) (codes ", ") (take MOST_LISTED ws)))
 
-held-text : (o : Option Parcel) → held_text (option_map entry_seen (option_map (item_of true) o)) ≡ flat_map message_text (held_list o)
+held-text : (o : Option Parcel) → held_text (option_map entry_seen (option_map (seen_item true) o)) ≡ flat_map message_text (held_list o)
 held-text None = refl
 held-text (Some p) = sym (append-nil (message_text p))
 
@@ -261,23 +261,23 @@ abbrev box : Text → Option Parcel → List Parcel → Letterbox
 box name o ws = record { name = name; held = flat_map message_text (held_list o); waits = messages_text ws }
 
 box-is : (name : Text) (o : Option Parcel) (ws : List Parcel)
-    → lines.letterbox_of name (option_map entry_seen (option_map (item_of true) o)) (take MOST_LISTED (map entry_seen (map (item_of false) ws)))
-    (length (map entry_seen (map (item_of false) ws))) ≡ box name o ws
+    → lines.mapped_letterbox name (option_map entry_seen (option_map (seen_item true) o)) (take MOST_LISTED (map entry_seen (map (seen_item false) ws)))
+    (length (map entry_seen (map (seen_item false) ws))) ≡ box name o ws
 box-is name o ws = ap₂ (λ a b. let r : Letterbox = record { name = name; held = a; waits = b } in r) (held-text o) (waits-text ws)
 
 -- the list tells a task's letterbox
-pub letters-are : (name : Text) (h : ℕ) (ms : List MessageItem) (o : Option Parcel) (ws : List Parcel) → find (is_held_by h) ms ≡ option_map (item_of true) o
-    → filter (waits_for h) ms ≡ map (item_of false) ws → letterboxes_in name h ms ≡ figure.letterbox_of name (held_list o) ws
+pub letters-are : (name : Text) (h : ℕ) (ms : List MessageItem) (o : Option Parcel) (ws : List Parcel) → find (is_held_by h) ms ≡ option_map (seen_item true) o
+    → filter (waits_for h) ms ≡ map (seen_item false) ws → letterboxes_in name h ms ≡ figure.letterbox_of name (held_list o) ws
 letters-are name h ms o ws held waits = go (has_letters_in h ms) refl o ws held waits
   where
-    here : (o : Option Parcel) (ws : List Parcel) → find (is_held_by h) ms ≡ option_map (item_of true) o → filter (waits_for h) ms ≡ map (item_of false) ws
+    here : (o : Option Parcel) (ws : List Parcel) → find (is_held_by h) ms ≡ option_map (seen_item true) o → filter (waits_for h) ms ≡ map (seen_item false) ws
         → letterbox_in name h ms ≡ box name o ws
     here o ws held waits =
-        ap₂ (λ a b. lines.letterbox_of name (option_map entry_seen a) (take MOST_LISTED (map entry_seen b)) (length (map entry_seen b))) held waits
+        ap₂ (λ a b. lines.mapped_letterbox name (option_map entry_seen a) (take MOST_LISTED (map entry_seen b)) (length (map entry_seen b))) held waits
         ∙ box-is name o ws
 
-    go : (b : Bool) → has_letters_in h ms ≡ b → (o : Option Parcel) (ws : List Parcel) → find (is_held_by h) ms ≡ option_map (item_of true) o
-        → filter (waits_for h) ms ≡ map (item_of false) ws → (if b then letterbox_in name h ms ∷ [] else []) ≡ figure.letterbox_of name (held_list o) ws
+    go : (b : Bool) → has_letters_in h ms ≡ b → (o : Option Parcel) (ws : List Parcel) → find (is_held_by h) ms ≡ option_map (seen_item true) o
+        → filter (waits_for h) ms ≡ map (seen_item false) ws → (if b then letterbox_in name h ms ∷ [] else []) ≡ figure.letterbox_of name (held_list o) ws
     go false e None [] held waits = refl
     go false e (Some p) ws held waits = let k = letters-some h ms e in absurd (cc)
     go false e None (w ∷ ws) held waits = let k = letters-some h ms e in absurd (cc)
@@ -325,16 +325,16 @@ boxes-some heading ms (t ∷ ts) e = go (boxes-some heading ms ts) (has_letters_
 
 -- ---- where a message stands in its chain
 
-behind-are : (held : Bool) (ref : ℕ) (ps : List Parcel) → behind ref (map (item_of held) ps) ≡ map (item_of held) (after_ref ref ps)
+behind-are : (held : Bool) (ref : ℕ) (ps : List Parcel) → items_behind ref (map (seen_item held) ps) ≡ map (seen_item held) (after_ref ref ps)
 behind-are held ref [] = refl
 behind-are held ref (p ∷ ps) = go (p.message.my_ref == ref) refl (behind-are held ref ps)
   where
-    go : (b : Bool) → (p.message.my_ref == ref) ≡ b → behind ref (map (item_of held) ps) ≡ map (item_of held) (after_ref ref ps)
-        → behind ref (map (item_of held) (p ∷ ps)) ≡ map (item_of held) (after_ref ref (p ∷ ps))
+    go : (b : Bool) → (p.message.my_ref == ref) ≡ b → items_behind ref (map (seen_item held) ps) ≡ map (seen_item held) (after_ref ref ps)
+        → items_behind ref (map (seen_item held) (p ∷ ps)) ≡ map (seen_item held) (after_ref ref (p ∷ ps))
     go true e rest = rw e refl
     go false e rest = rw e rest
 
-next-is : (ps : List Parcel) → place_seen (before_next (first_ref (map (item_of false) ps))) ≡ next_text ps
+next-is : (ps : List Parcel) → place_seen (before_next (first_ref (map (seen_item false) ps))) ≡ next_text ps
 next-is [] = refl
 next-is (p ∷ ps) = refl
 
@@ -343,14 +343,15 @@ if-seen true p q = refl
 if-seen false p q = refl
 
 pub chain-is : {d : Desk} (is : IsDesk d) (h ref : ℕ) (m : MessageItem) → m.to ≡ h → m.my_ref ≡ ref
-    → place_seen (place_among (message_items d) m)
+    → place_seen (message_place (message_items d) m)
     ≡ (if ref_of (held_by h d.post.seats) == ref then codes "held" else next_text (after_ref ref (filter (is_to h) d.post.queued)))
 chain-is {d} is h ref m to mine =
-    ap₂ (λ k r. place_seen (if held_ref k (message_items d) == r then Held else before_next (first_ref (behind r (filter (waits_for k) (message_items d))))))
+    ap₂ (λ k r. place_seen (if held_ref k (message_items d) == r then Held else before_next
+    (first_ref (items_behind r (filter (waits_for k) (message_items d))))))
     to mine
-    ∙ (if-seen (held_ref h (message_items d) == ref) Held (before_next (first_ref (behind ref (filter (waits_for h) (message_items d)))))
+    ∙ (if-seen (held_ref h (message_items d) == ref) Held (before_next (first_ref (items_behind ref (filter (waits_for h) (message_items d)))))
     ∙ ap₂ (λ k z. if k == ref then codes "held" else z) (held-is d is h)
-    (ap (λ z. place_seen (before_next (first_ref (behind ref z)))) (waits-are is h)
+    (ap (λ z. place_seen (before_next (first_ref (items_behind ref z)))) (waits-are is h)
     ∙ (ap (λ z. place_seen (before_next (first_ref z))) (behind-are false ref (filter (is_to h) d.post.queued))
     ∙ next-is (after_ref ref (filter (is_to h) d.post.queued)))))
 
@@ -367,20 +368,20 @@ Told b (Some m) None = ⊥
 Told b (Some m) (Some p) = IsItemOf m p × (p.block ≡ b)
 
 told-more : (b : ℕ) (held : Bool) (ps : List Parcel) (ms : List MessageItem) (qs : List Parcel) → Told b (find (lies_in b) ms) (find (stands_in b) qs)
-    → Told b (find (lies_in b) (map (item_of held) ps ++ ms)) (find (stands_in b) (ps ++ qs))
+    → Told b (find (lies_in b) (map (seen_item held) ps ++ ms)) (find (stands_in b) (ps ++ qs))
 told-more b held [] ms qs t = t
 told-more b held (p ∷ ps) ms qs t = go (p.block == b) refl (told-more b held ps ms qs t)
   where
-    go : (k : Bool) → (p.block == b) ≡ k → Told b (find (lies_in b) (map (item_of held) ps ++ ms)) (find (stands_in b) (ps ++ qs))
-        → Told b (find (lies_in b) (map (item_of held) (p ∷ ps) ++ ms)) (find (stands_in b) ((p ∷ ps) ++ qs))
+    go : (k : Bool) → (p.block == b) ≡ k → Told b (find (lies_in b) (map (seen_item held) ps ++ ms)) (find (stands_in b) (ps ++ qs))
+        → Told b (find (lies_in b) (map (seen_item held) (p ∷ ps) ++ ms)) (find (stands_in b) ((p ∷ ps) ++ qs))
     go true k rest =
-        let is : IsItemOf (item_of held p) p = record { block = refl; to = refl; from = refl; my_ref = refl; action = refl; code = refl } in
+        let is : IsItemOf (seen_item held p) p = record { block = refl; to = refl; from = refl; my_ref = refl; action = refl; code = refl } in
         rw k (is, eqb-true p.block b k)
     go false k rest = rw k rest
 
 pub message-told : (b : ℕ) (d : Desk) → Told b (find (lies_in b) (message_items d)) (find (stands_in b) (waiting_on d ++ held_on d))
 message-told b d =
     let P : List MessageItem → Type 0 = λ z. Told b (find (lies_in b) z) (find (stands_in b) (held_on d ++ [])) in
-    let Q : List Parcel → Type 0 = λ z. Told b (find (lies_in b) (map (item_of true) (held_on d))) (find (stands_in b) z) in
-    told-more b false (waiting_on d) (map (item_of true) (held_on d)) (held_on d)
-    (subst Q (append-nil (held_on d)) (subst P (append-nil (map (item_of true) (held_on d))) (told-more b true (held_on d) [] [] tt)))
+    let Q : List Parcel → Type 0 = λ z. Told b (find (lies_in b) (map (seen_item true) (held_on d))) (find (stands_in b) z) in
+    told-more b false (waiting_on d) (map (seen_item true) (held_on d)) (held_on d)
+    (subst Q (append-nil (held_on d)) (subst P (append-nil (map (seen_item true) (held_on d))) (told-more b true (held_on d) [] [] tt)))

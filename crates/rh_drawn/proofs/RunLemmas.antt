@@ -21,7 +21,7 @@ use Rattle.rh_session.specs.Outcome.{status_of}
 use Rattle.rh_session.specs.declared.status.RunFault.{RunFault}
 use Rattle.rh_session.specs.declared.status.RunFault.TheVariants as run
 use Rattle.rh_session.specs.declared.status.Status.{Status}
-use Rattle.rh_drawn.specs.Mapped.{Mapped, MappedSoFar, MappedUntil, fault_of}
+use Rattle.rh_drawn.specs.Mapped.{Mapped, MappedSoFar, MappedUntil, run_fault_of}
 use Rattle.rh_drawn.specs.Deeds.{rest_means}
 use Rattle.rh_drawn.specs.Places.{Broke, BrokeLine, BrokeRest, IsFirst, TookRest}
 use Rattle.rh_drawn.proofs.ReadLemmas.{long_lines, same_read}
@@ -354,15 +354,15 @@ feeding_of run.ReadFailed = feed.ReadFailed
 feeding_of run.WriteFailed = feed.WriteFailed
 feeding_of run.TooLong = feed.TooLong
 
-there_and_back : (f : FeedFault) → feeding_of (fault_of f) ≡ f
+there_and_back : (f : FeedFault) → feeding_of (run_fault_of f) ≡ f
 unfolding feeding_of
 there_and_back feed.ReadFailed = refl
 there_and_back feed.WriteFailed = refl
 there_and_back feed.TooLong = refl
 
 -- no two faults of the lines give one fault of a run
-pub same_fault : {A B : Type 0} {r : RunFault} {f : FeedFault} (g : FeedFault) → r ≡ fault_of f → IsErrOf {T = A} (Err r) (fault_of g)
+pub same_fault : {A B : Type 0} {r : RunFault} {f : FeedFault} (g : FeedFault) → r ≡ run_fault_of f → IsErrOf {T = A} (Err r) (run_fault_of g)
     → IsErrOf {T = B} (Err f) g
 same_fault {r = r} {f = f} g is e =
-    let same : fault_of f ≡ fault_of g = cc in
+    let same : run_fault_of f ≡ run_fault_of g = cc in
     ap Err (sym (there_and_back f) ∙ (ap feeding_of same ∙ there_and_back g))

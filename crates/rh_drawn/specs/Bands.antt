@@ -8,7 +8,7 @@ use Rattle.rh_defs.specs.Heap.{Segment, Heap, first_place, place_after}
 use Rattle.rh_defs.specs.Desk.{Desk, Task, module_start}
 use Rattle.rh_defs.specs.Questions.{segment_items_from}
 use Rattle.rh_figure.specs.Phrases.{Text}
-use Rattle.rh_figure.specs.Scene.{Scene, message_in}
+use Rattle.rh_figure.specs.Scene.{Scene, message_of_scene}
 use Rattle.rh_figure.specs.Cards.{Card, hole_card, heap_card, module_card, cards_from}
 use Rattle.rh_figure.specs.Layout.{is_fresh_block, is_new_message}
 use Rattle.rh_figure.specs.declared.limits.TheConstants.{MOST_CARDS}
@@ -66,7 +66,7 @@ is_fresh_or_posted x address (Some p) = is_new_message x (Some p)
 -- whether the block at an address of a heap has changed
 abbrev pub is_fresh_at : Scene → ℕ → HeapOf → ℕ → Bool
 is_fresh_at x handle (heap_of.Task i) address = is_fresh_block x handle address
-is_fresh_at x handle heap_of.Module address = is_fresh_or_posted x address (message_in x (address - module_start))
+is_fresh_at x handle heap_of.Module address = is_fresh_or_posted x address (message_of_scene x (address - module_start))
 
 abbrev pub is_fresh_card : Scene → Band → SegmentItem → Bool
 is_fresh_card x b (segment.Used address size) = is_fresh_at x b.handle b.heap address

@@ -4,7 +4,7 @@ use Rattle.std.specs.List.{list_any}
 use Rattle.std.specs.Option.{option_map}
 use Rattle.rh_figure.specs.Figure.{Letterbox}
 use Rattle.rh_figure.specs.declared.limits.TheConstants.{MOST_LISTED}
-use Rattle.rh_map.specs.Messages.{letterbox_of}
+use Rattle.rh_map.specs.Messages.{mapped_letterbox}
 use Rattle.rh_map.specs.declared.letterboxes.MessageEntry.{MessageEntry}
 use Rattle.rh_sight.specs.Messages.{is_held_by, waits_for}
 use Rattle.rh_defs.specs.declared.message.MessageItem.{MessageItem}
@@ -21,7 +21,7 @@ entry_seen m = record { my_ref = m.my_ref; action = m.action; code = m.code }
 abbrev pub letterbox_in : List ℕ → ℕ → List MessageItem → Letterbox
 letterbox_in name h messages =
     let waits = map entry_seen (filter (waits_for h) messages) in
-    letterbox_of name (option_map entry_seen (find (is_held_by h) messages)) (take MOST_LISTED waits) (length waits)
+    mapped_letterbox name (option_map entry_seen (find (is_held_by h) messages)) (take MOST_LISTED waits) (length waits)
 
 -- the same, where a message is for it
 abbrev pub letterboxes_in : List ℕ → ℕ → List MessageItem → List Letterbox

@@ -47,7 +47,7 @@ pub record MappedUntil (marked : Bool) (p : Place) (before after : Input) (old n
   pub broken : Breaks old new text
 
 -- the fault of a run whose lines ended early
-abbrev pub fault_of : FeedFault → RunFault
-fault_of feed.ReadFailed = run.ReadFailed
-fault_of feed.WriteFailed = run.WriteFailed
-fault_of feed.TooLong = run.TooLong
+abbrev pub run_fault_of : FeedFault → RunFault
+run_fault_of feed.ReadFailed = run.ReadFailed
+run_fault_of feed.WriteFailed = run.WriteFailed
+run_fault_of feed.TooLong = run.TooLong

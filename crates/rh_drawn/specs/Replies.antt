@@ -13,7 +13,7 @@ abbrev pub Excerpts : List ℕ → ℕ → List ℕ → Type 0
 Excerpts front count reply = excerpt_lines front count ≡ reply_lines (ended reply)
 
 -- a task with a short name and few records
-pub record IsSmall (t : Task) : Type 0 where
+pub record IsSmallTask (t : Task) : Type 0 where
   pub name : length t.name ≤ LONGEST_NAME
   pub sending : length t.sending ≤ most_records
   pub taking : length t.taking ≤ most_records
@@ -21,4 +21,4 @@ pub record IsSmall (t : Task) : Type 0 where
 -- few tasks, and each is small
 pub record AreSmall (tasks : List Task) : Type 0 where
   pub few : length tasks ≤ most_tasks
-  pub each : AllByRecursion IsSmall tasks
+  pub each : AllByRecursion IsSmallTask tasks

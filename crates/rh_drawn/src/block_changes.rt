@@ -6,7 +6,7 @@ ghost use Rattle.rh_defs.specs.declared.question.BlockItem.{BlockItem};
 ghost use Rattle.rh_defs.specs.declared.sizes.TheConstants.{ANCHORS};
 ghost use Rattle.rh_drawn.specs.Parts.{block_part, indented, slide_part};
 ghost use Rattle.rh_drawn.specs.Slides.{from_seen, summary_of, with_one};
-ghost use Rattle.rh_figure.specs.Changes.{Slide, block_change, gone_line, has_anchor as has_anchor_in, item_of, slide_change, slide_of};
+ghost use Rattle.rh_figure.specs.Changes.{Slide, block_change, gone_line, has_anchor as has_anchor_in, item_with_anchor, slide_change, slide_of};
 ghost use Rattle.rh_lines.specs.Flow.{Puts};
 ghost use Rattle.rh_map.specs.Written.{shown_lines};
 ghost use Rattle.rh_sight.specs.Steps.{scene_at};
@@ -78,7 +78,7 @@ pub fn has_anchor(blocks: &[BlockItem], block: &BlockItem) -> bool
 /// Writes which of the blocks are new, and which had another size.
 fn print_now<W: Sink>(kept: &Kept, blocks: &[BlockItem], writer: &mut W) -> Result<(), WriteFailed>
     ensures { Puts (W.output writer.old) (W.output writer.new) result
-        (shown_lines (indented (flat_map (λ (b : BlockItem). block_change b (item_of b.anchor kept.now.blocks)) blocks.now))) }
+        (shown_lines (indented (flat_map (λ (b : BlockItem). block_change b (item_with_anchor b.anchor kept.now.blocks)) blocks.now))) }
 {
     for block in blocks {
         print_change(kept, block, writer)?;
@@ -89,7 +89,7 @@ fn print_now<W: Sink>(kept: &Kept, blocks: &[BlockItem], writer: &mut W) -> Resu
 /// Writes that a block is new, or had another size, where it is so.
 fn print_change<W: Sink>(kept: &Kept, block: &BlockItem, writer: &mut W) -> Result<(), WriteFailed>
     ensures { Puts (W.output writer.old) (W.output writer.new) result
-        (shown_lines (indented (block_change block.now (item_of block.now.anchor kept.now.blocks)))) }
+        (shown_lines (indented (block_change block.now (item_with_anchor block.now.anchor kept.now.blocks)))) }
 {
     match kept.block(block.anchor) {
         None => print_block_new(block.anchor, writer),
@@ -116,7 +116,7 @@ fn print_slides<W: Sink>(
 ) -> Result<(), WriteFailed>
     requires { length blocks.now ≤ ANCHORS }
     ensures { Puts (W.output writer.old) (W.output writer.new) result
-        (shown_lines (indented (slide_change (flat_map (λ (b : BlockItem). slide_of b (item_of b.anchor kept.now.blocks)) blocks.now)))) }
+        (shown_lines (indented (slide_change (flat_map (λ (b : BlockItem). slide_of b (item_with_anchor b.anchor kept.now.blocks)) blocks.now)))) }
 {
     match find_slid(kept, blocks) {
         Some(slid) => print_slide(slid.count, slid.from, slid.to, writer),
@@ -127,7 +127,7 @@ fn print_slides<W: Sink>(
 /// The blocks that lie elsewhere now, if there are some.
 pub fn find_slid(kept: &Kept, blocks: &[BlockItem]) -> Option<Slid>
     requires { length blocks.now ≤ ANCHORS }
-    ensures { result ≡ summary_of (flat_map (λ (b : BlockItem). slide_of b (item_of b.anchor kept.now.blocks)) blocks.now) }
+    ensures { result ≡ summary_of (flat_map (λ (b : BlockItem). slide_of b (item_with_anchor b.anchor kept.now.blocks)) blocks.now) }
 {
     let mut found = None;
     for block in blocks {
@@ -139,7 +139,7 @@ pub fn find_slid(kept: &Kept, blocks: &[BlockItem]) -> Option<Slid>
 /// The same blocks, and this one if it lies elsewhere now.
 fn with_block(found: Option<Slid>, kept: &Kept, block: &BlockItem) -> Option<Slid>
     requires { IfSome found (λ slid. slid.count < ANCHORS) }
-    ensures { (slides : List Slide) → found ≡ summary_of slides → result ≡ summary_of (slides ++ slide_of block.now (item_of block.now.anchor kept.now.blocks)) }
+    ensures { (slides : List Slide) → found ≡ summary_of slides → result ≡ summary_of (slides ++ slide_of block.now (item_with_anchor block.now.anchor kept.now.blocks)) }
 {
     match slid_from(kept, block) {
         Some(from) => Some(one_more(found, from, block.address)),
@@ -149,7 +149,8 @@ fn with_block(found: Option<Slid>, kept: &Kept, block: &BlockItem) -> Option<Sli
 
 /// Where a block lay that lies elsewhere now.
 fn slid_from(kept: &Kept, block: &BlockItem) -> Option<u32>
-    ensures { from_seen result block.now.address ≡ slide_of block.now (item_of block.now.anchor kept.now.blocks) }
+    ensures { from_seen result block.now.address ≡ slide_of block.now
+        (item_with_anchor block.now.anchor kept.now.blocks) }
 {
     let old = kept.block(block.anchor)?;
     if old.address == block.address {

@@ -17,7 +17,7 @@ ghost use Rattle.rh_lines.specs.Flow.{Puts};
 ghost use Rattle.rh_map.specs.Messages.{place_text};
 ghost use Rattle.rh_map.specs.Written.{shown_lines};
 ghost use Rattle.rh_sight.specs.Messages.{lies_in};
-ghost use Rattle.rh_sight.specs.Seen.{HasBlock, IsFree, heap_seen, heap_start_of};
+ghost use Rattle.rh_sight.specs.Seen.{SeesBlock, SeesFree, heap_seen, heap_start_of};
 ghost use Rattle.rh_sight.specs.Steps.{IsStepOf, scene_at};
 ghost use Rattle.rh_sight.specs.Walks.{IsInArea};
 
@@ -257,9 +257,9 @@ fn print_used<S: Sight, W: Sink>(
     writer: &mut W,
 ) -> Result<(), WriteFailed>
     requires start { heap_start_of band.now.heap + 4 ≤ address }
-    requires block { (bytes : List ℕ) × HasBlock (heap_seen band.now.heap (S.desk sight.now)) (address - heap_start_of band.now.heap - 4) bytes × (length bytes ≡ size) }
-    requires free { IsFree band.now.heap (address - heap_start_of band.now.heap - 4) (S.desk sight.now) }
-    ensures { (d : Desk) (bytes : List ℕ) → IsStepOf d step.now → HasBlock (heap_seen band.now.heap (S.desk sight.now)) (address - heap_start_of band.now.heap - 4) bytes → length bytes ≡ size →
+    requires block { (bytes : List ℕ) × SeesBlock (heap_seen band.now.heap (S.desk sight.now)) (address - heap_start_of band.now.heap - 4) bytes × (length bytes ≡ size) }
+    requires free { SeesFree band.now.heap (address - heap_start_of band.now.heap - 4) (S.desk sight.now) }
+    ensures { (d : Desk) (bytes : List ℕ) → IsStepOf d step.now → SeesBlock (heap_seen band.now.heap (S.desk sight.now)) (address - heap_start_of band.now.heap - 4) bytes → length bytes ≡ size →
         Puts (W.output writer.old) (W.output writer.new) result
         (shown_lines (card_lines (used_card address bytes (in_use_text (find (is_buffer_of address) band.now.taking.now)) (is_fresh_used (scene_at d step.now) band.now address) ∷ []))) }
 {

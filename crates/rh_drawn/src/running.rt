@@ -3,7 +3,7 @@
 ghost use Rattle.std.specs.Prelude.{◌≡◌, ◌≤◌, [], false, length, true, IfErr, IfOk, IsErrOf};
 ghost use Rattle.rh_defs.specs.declared.sizes.TheConstants.{MOST_READS};
 ghost use Rattle.rh_defs.specs.Desk.{Desk};
-ghost use Rattle.rh_drawn.specs.Mapped.{Mapped, MappedSoFar, MappedUntil, fault_of};
+ghost use Rattle.rh_drawn.specs.Mapped.{Mapped, MappedSoFar, MappedUntil, run_fault_of};
 ghost use Rattle.rh_feed.specs.declared.feeding.TheConstants.{LONGEST_SCRIPT};
 ghost use Rattle.rh_figure.specs.Map.{place};
 ghost use Rattle.rh_lines.specs.Flow.{unread};
@@ -72,7 +72,7 @@ pub fn map_whole<D: Drawn, W: Sink>(
 
 /// The fault of a run whose lines ended early.
 pub fn run_fault(fault: FeedFault) -> RunFault
-    ensures { result ≡ fault_of fault }
+    ensures { result ≡ run_fault_of fault }
 {
     match fault {
         FeedFault::ReadFailed => RunFault::ReadFailed,

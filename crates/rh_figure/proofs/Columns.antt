@@ -7,7 +7,7 @@ use Rattle.rh_defs.specs.Bytes.{space}
 use Rattle.rh_defs.specs.Script.{ended, unended, onto_line, unended_after}
 use Rattle.std.proofs.lemmas.Bool.Decides.{nat_tests}
 use Rattle.rh_defs.proofs.HeapLists.{cond_false, eqb_apart}
-use Rattle.rh_figure.specs.Map.{shown_byte, shown_line, written_lines, first_place, map_lines}
+use Rattle.rh_figure.specs.Map.{shown_byte, shown_line, written_lines, map_start, map_lines}
 use Rattle.rh_figure.specs.Laws.{IsShownByte, IsMapLine, HasMapLines, AreMaps}
 use Rattle.rh_figure.specs.declared.limits.TheConstants.{MAP_COLUMNS}
 
@@ -78,4 +78,4 @@ lines-are (l ∷ ls) =
     }
 
 pub are-maps : AreMaps
-are-maps marked stages pages files = lines-are (map_lines marked (first_place pages files) stages)
+are-maps marked stages pages files = lines-are (map_lines marked (map_start pages files) stages)

@@ -2,7 +2,7 @@
 use Rattle.std.proofs.Common.{ℕ, ◌+◌, ◌*◌, ◌≤◌, ◌≡◌, refl, subst, sym, ap, ◌∙◌, arith, List, [], ◌∷◌, ◌++◌, length, take, drop}
 use Rattle.std.proofs.lemmas.List.{take-append-drop}
 use Rattle.rh_defs.specs.SlotImage.{heap_place}
-use Rattle.rh_defs.specs.Pieces.{total, page}
+use Rattle.rh_defs.specs.Pieces.{total, page_size}
 use Rattle.rh_defs.specs.Heap.{Heap, Segment, Used, Hole, size_of, first_place, base}
 use Rattle.rh_defs.specs.Slot.{Slot, Flex, IsSlot, weight, slot_pages}
 use Rattle.rh_defs.specs.Desk.{Desk}
@@ -59,10 +59,10 @@ flex-tile x h p [] = omega arith
 flex-tile x h p (b ∷ blocks) =
     (refl, tile-to _ _ _ (flex_pieces x h (p + weight b) blocks) (omega arith) (flex-tile x h (p + weight b) blocks))
 
-pub slot-tile : (x : Scene) (h : ℕ) (s : Slot) → IsSlot s → Tile 0 (page * slot_pages s) (slot_pieces x h s)
+pub slot-tile : (x : Scene) (h : ℕ) (s : Slot) → IsSlot s → Tile 0 (page_size * slot_pages s) (slot_pieces x h s)
 slot-tile x h s is = (
   refl,
-  tile-join heap_place _ (page * slot_pages s) (heap_pieces (slot_legend x h) heap_place s.heap
+  tile-join heap_place _ (page_size * slot_pages s) (heap_pieces (slot_legend x h) heap_place s.heap
       ++ flex_pieces x h (heap_place + s.heap.end) s.blocks) _
       (tile-join heap_place _ _ (heap_pieces (slot_legend x h) heap_place s.heap) _
       (heap-tile (slot_legend x h) heap_place s.heap is.heap.fits)

@@ -13,7 +13,7 @@ use Rattle.rh_defs.specs.Messages.{Parcel, code_number, action_of}
 use Rattle.rh_defs.specs.Post.{held_by}
 use Rattle.rh_defs.specs.Desk.{Task, module_start}
 use Rattle.rh_defs.specs.Text.{address, action_name}
-use Rattle.rh_figure.specs.Scene.{Scene, ref_of, message_in}
+use Rattle.rh_figure.specs.Scene.{Scene, ref_of, message_of_scene}
 use Rattle.rh_figure.specs.Phrases.{Text, size_text, bytes_text, task_name, is_returned}
 use Rattle.rh_figure.specs.Layout.{is_fresh_flex, is_fresh_block, is_new_message}
 use Rattle.rh_figure.specs.declared.limits.TheConstants.{MOST_CARDS}
@@ -148,7 +148,7 @@ post_or_used_card x at bytes (Some p) = post_card x p
 post_or_used_card x at bytes None = used_card at bytes [] (x.marks.module_block == at)
 
 abbrev pub module_card : Scene → ℕ → Segment → Card
-module_card x place (Used bytes) = post_or_used_card x (place + 4) bytes (message_in x (place + 4 - module_start))
+module_card x place (Used bytes) = post_or_used_card x (place + 4) bytes (message_of_scene x (place + 4 - module_start))
 module_card x place (Hole n) = hole_card place n
 
 abbrev pub module_cards : Scene → List Card

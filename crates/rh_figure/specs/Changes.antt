@@ -46,8 +46,8 @@ page_changes x = flat_map (takes_text x) (holdings x.desk) ++ freed_text (freed_
 -- ---- flex blocks
 
 -- the block of an anchor in a list
-abbrev pub item_of : ℕ → List BlockItem → Option BlockItem
-item_of k blocks = find (λ (b : BlockItem). b.anchor == k) blocks
+abbrev pub item_with_anchor : ℕ → List BlockItem → Option BlockItem
+item_with_anchor k blocks = find (λ (b : BlockItem). b.anchor == k) blocks
 
 abbrev pub has_anchor : ℕ → List BlockItem → Bool
 has_anchor k blocks = list_any (λ (b : BlockItem). b.anchor == k) blocks
@@ -78,7 +78,7 @@ block_changes x None = []
 block_changes x (Some t) =
     map (λ (b : BlockItem). gone_line b.anchor)
     (filter (λ (b : BlockItem). not (has_anchor b.anchor (block_items t.slot))) x.before.blocks)
-    ++ flat_map (λ (b : BlockItem). block_change b (item_of b.anchor x.before.blocks)) (block_items t.slot)
+    ++ flat_map (λ (b : BlockItem). block_change b (item_with_anchor b.anchor x.before.blocks)) (block_items t.slot)
 
 -- a block that lies elsewhere now: where it lay, and where it lies
 pub record Slide : Type 0 where
@@ -92,7 +92,7 @@ slide_of b (Some old) = if old.address == b.address then [] else record { from =
 -- the blocks of the named task that slid, from below
 abbrev pub slides : Scene → List Slide
 slides x =
-    flat_map (λ (b : BlockItem). slide_of b (item_of b.anchor x.before.blocks)) (blocks_now
+    flat_map (λ (b : BlockItem). slide_of b (item_with_anchor b.anchor x.before.blocks)) (blocks_now
     (task_at x.before.handle x.desk))
 
 abbrev pub who_slides : ℕ → Text

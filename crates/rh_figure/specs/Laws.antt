@@ -4,7 +4,7 @@ use Rattle.std.specs.List.{AllByRecursion}
 use Rattle.rh_defs.specs.Bytes.{space}
 use Rattle.rh_defs.specs.declared.command.Command.{Command}
 use Rattle.rh_defs.specs.Files.{FileList}
-use Rattle.rh_defs.specs.Pieces.{page}
+use Rattle.rh_defs.specs.Pieces.{page_size}
 use Rattle.rh_defs.specs.Slot.{slot_pages}
 use Rattle.rh_defs.specs.Desk.{Desk, Task, module_pages}
 use Rattle.rh_defs.specs.Commands.{step}
@@ -18,13 +18,13 @@ use Rattle.rh_figure.specs.declared.limits.TheConstants.{MAP_COLUMNS}
 
 -- whatever is marked, the pieces of a task's slot are its bytes from the first to the last one
 abbrev pub HasTiledSlot : Task → Type 0
-HasTiledSlot t = (x : Scene) → Tile 0 (page * slot_pages t.slot) (slot_pieces x t.handle t.slot)
+HasTiledSlot t = (x : Scene) → Tile 0 (page_size * slot_pages t.slot) (slot_pieces x t.handle t.slot)
 
 -- the same of all slots, and of the module area
 pub record HasTiledAreas (d : Desk) : Type 0 where
   pub slots : AllByRecursion HasTiledSlot d.tasks
   pub module_area :
-      (s : Share) (b : Before) (m : Marks) → Tile 0 (page * module_pages d) (module_pieces (scene_of d s b m))
+      (s : Share) (b : Before) (m : Marks) → Tile 0 (page_size * module_pages d) (module_pieces (scene_of d s b m))
 
 -- a byte that a terminal shows
 pub record IsShownByte (b : ℕ) : Type 0 where

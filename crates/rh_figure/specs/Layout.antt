@@ -3,12 +3,12 @@ use Rattle.std.specs.Prelude.{◌≡◌, ℕ, ◌+◌, ◌-◌, ◌*◌, ◌==�
 use Rattle.std.specs.List.{list_any}
 use Rattle.rh_defs.specs.declared.question.BlockItem.{BlockItem}
 use Rattle.rh_defs.specs.declared.sizes.TheConstants.{C_HEAP_PLACE}
-use Rattle.rh_defs.specs.Pieces.{page, total}
+use Rattle.rh_defs.specs.Pieces.{page_size, total}
 use Rattle.rh_defs.specs.Heap.{Segment, Used, Hole, Heap, size_of, first_place, base}
 use Rattle.rh_defs.specs.Slot.{Slot, Flex, flex_weight, weight, slot_start, slot_length, slot_pages}
 use Rattle.rh_defs.specs.Messages.{Parcel}
 use Rattle.rh_defs.specs.Desk.{module_start}
-use Rattle.rh_figure.specs.Scene.{Scene, message_in}
+use Rattle.rh_figure.specs.Scene.{Scene, message_of_scene}
 use Rattle.rh_figure.specs.declared.limits.TheConstants.{MOST_SEGMENTS}
 pub use Rattle.rh_figure.specs.declared.piece.Kind.{Kind}
 pub use Rattle.rh_figure.specs.declared.piece.Kind.TheVariants.{AnchorWords, Descriptor, Claimed, Posted, FreeHole, MoreSegments, FreeTop, FlexBlock, Unused}
@@ -101,7 +101,7 @@ slot_pieces x h s =
     ∷ (
     heap_pieces (slot_legend x h) C_HEAP_PLACE s.heap
     ++ flex_pieces x h (C_HEAP_PLACE + s.heap.end) s.blocks
-    ++ record { kind = Unused; at = slot_length s; size = page * slot_pages s - slot_length s; fresh = false } ∷ []
+    ++ record { kind = Unused; at = slot_length s; size = page_size * slot_pages s - slot_length s; fresh = false } ∷ []
     )
 
 -- ---- the module area
@@ -118,8 +118,8 @@ is_new_message x (Some p) = p.message.my_ref == x.before.next_ref
 abbrev pub module_legend : Scene → Legend
 module_legend x = record {
   start = module_start;
-  kind_of = λ address n. posted_or n (message_in x (address - module_start));
-  is_fresh = λ address. x.marks.module_block == address || is_new_message x (message_in x (address - module_start));
+  kind_of = λ address n. posted_or n (message_of_scene x (address - module_start));
+  is_fresh = λ address. x.marks.module_block == address || is_new_message x (message_of_scene x (address - module_start));
 }
 
 abbrev pub module_pieces : Scene → List Piece

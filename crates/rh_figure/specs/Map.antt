@@ -10,7 +10,7 @@ use Rattle.rh_defs.specs.declared.reply.Reply.TheVariants as reply
 use Rattle.rh_defs.specs.declared.fault.LineFault.{LineFault}
 use Rattle.rh_defs.specs.declared.fault.LineFault.TheVariants.{TooLong, Unended}
 use Rattle.rh_defs.specs.Files.{FileList}
-use Rattle.rh_defs.specs.Line.{Meaning, line_means, longest_line, words_of, word}
+use Rattle.rh_defs.specs.Line.{Meaning, line_means, longest_line, words_of, nth_word}
 use Rattle.rh_defs.specs.Desk.{Desk}
 use Rattle.rh_defs.specs.Commands.{step}
 use Rattle.rh_defs.specs.Runs.{start}
@@ -150,7 +150,7 @@ read_lines script = read_ended script ++ read_rest (unended script)
 
 -- whether a line asks for a picture of the next command
 abbrev pub is_mark : Text → Bool
-is_mark line = bytes_eq (word (words_of line) 1) (codes "#picture")
+is_mark line = bytes_eq (nth_word (words_of line) 1) (codes "#picture")
 
 -- a line that is skipped, if it has words
 abbrev pub remark_lines : Text → List Text
@@ -199,8 +199,8 @@ abbrev pub shown_line : Text → Text
 shown_line line = cut MAP_COLUMNS (map shown_byte line)
 
 -- before the first line, over a fresh desk of so many pages with these files
-abbrev pub first_place : ℕ → FileList → Place
-first_place pages files = place (start pages files) 0 false
+abbrev pub map_start : ℕ → FileList → Place
+map_start pages files = place (start pages files) 0 false
 
 -- lines as they are written, each with its line feed
 abbrev pub written_lines : List Text → List ℕ
@@ -208,7 +208,7 @@ written_lines lines = flat_map (λ line. shown_line line ++ codes "\n") lines
 
 -- all that `map` writes of the lines of a script
 abbrev pub map_text : Bool → List Stage → ℕ → FileList → List ℕ
-map_text marked stages pages files = written_lines (map_lines marked (first_place pages files) stages)
+map_text marked stages pages files = written_lines (map_lines marked (map_start pages files) stages)
 
 -- opens all that a map computes with
 unfoldable pub computing : Unit {0}

@@ -4,7 +4,7 @@ use Rattle.std.specs.List.{range_with_len, position}
 use Rattle.std.specs.Fmt.{decimal}
 use Rattle.rh_defs.specs.declared.sizes.TheConstants.{FIXED_AREAS}
 use Rattle.rh_defs.specs.Bytes.{space}
-use Rattle.rh_defs.specs.Pieces.{page}
+use Rattle.rh_defs.specs.Pieces.{page_size}
 use Rattle.rh_defs.specs.Text.{address}
 use Rattle.rh_figure.specs.Share.{Owner, AreaOf, SlotOf, is_owner}
 use Rattle.rh_figure.specs.Phrases.{Text, pages_text}
@@ -76,15 +76,15 @@ kind_mark FreeTop = 46
 kind_mark (FlexBlock k n) = 48 + k % 10
 kind_mark Unused = space
 
-abbrev pub is_block : Kind → Bool
-is_block (Claimed n) = true
-is_block (Posted ref) = true
-is_block (FlexBlock k n) = true
-is_block _ = false
+abbrev pub is_block_kind : Kind → Bool
+is_block_kind (Claimed n) = true
+is_block_kind (Posted ref) = true
+is_block_kind (FlexBlock k n) = true
+is_block_kind _ = false
 
 -- whether a block begins in a cell
 abbrev pub begins_in : ℕ → Piece → Bool
-begins_in at p = is_block p.kind && nat_le at p.at && nat_lt p.at (at + CELL_BYTES)
+begins_in at p = is_block_kind p.kind && nat_le at p.at && nat_lt p.at (at + CELL_BYTES)
 
 -- whether a piece has the byte
 abbrev pub has_byte : ℕ → Piece → Bool
@@ -106,9 +106,9 @@ cell_mark pieces at = mark_of (filter (begins_in at) pieces)
 -- the row of a page
 abbrev pub page_row : Drawing → ℕ → Text
 page_row g k = map_row
-    (address (g.start + page * k))
+    (address (g.start + page_size * k))
     (decimal (slice_index g.pages k))
-    (map (λ c. cell_mark g.pieces (page * k + CELL_BYTES * c)) (range_with_len 0 MAP_CELLS))
+    (map (λ c. cell_mark g.pieces (page_size * k + CELL_BYTES * c)) (range_with_len 0 MAP_CELLS))
 
 -- Row i from below of an area of n pages: its page i, or where there are too many the row that counts those between,
 -- and above it the last pages.

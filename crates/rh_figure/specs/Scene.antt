@@ -178,5 +178,5 @@ abbrev pub live : Scene → List Parcel
 live x = waiting x ++ flat_map (λ (s : Seat). held_list s.holds) x.desk.post.seats
 
 -- the message in a block of the module area
-abbrev pub message_in : Scene → ℕ → Option Parcel
-message_in x block = find (λ (p : Parcel). p.block == block) (live x)
+abbrev pub message_of_scene : Scene → ℕ → Option Parcel
+message_of_scene x block = find (λ (p : Parcel). p.block == block) (live x)

@@ -6,7 +6,7 @@ pub use Rattle.std.proofs.lemmas.List.{length-replicate, length-take-le}
 pub use Rattle.std.specs.Int.{w32}
 pub use Rattle.std.specs.Prelude.{Err, IsSome, None, Ok, OnErr, Option, Some, is_some, ℤ, [], ◌++◌, ◌||◌, ◌∷◌}
 pub use Rattle.rh_defs.proofs.BytesLaws.{length-part}
-pub use Rattle.rh_defs.specs.Bytes.{part, put}
+pub use Rattle.rh_defs.specs.Bytes.{part, with_part}
 pub use Rattle.rh_defs.specs.Chain.{no_answer}
 pub use Rattle.rh_defs.specs.Memory.{Memory}
 unfoldable pub use Rattle.rh_defs.specs.Memory.{area_set, bytes}
@@ -14,7 +14,7 @@ pub use Rattle.rh_defs.specs.Slot.{new_slot}
 unfoldable pub use Rattle.rh_defs.specs.SlotImage.{slot_of}
 pub use Rattle.rh_defs.specs.declared.refusal.Refusal.TheVariants.{BadRange}
 pub use Rattle.rh_defs.specs.declared.sizes.TheConstants.{PAGE}
-pub use Rattle.rh_flex.specs.Pages.{first_pages, memory_in}
-unfoldable pub use Rattle.rh_flex.specs.Pages.{memory_of, memory_over, memory_shown}
-pub use Rattle.rh_flex.specs.Slots.{IsSlotBytes, LeavesSlot, bytes_of, free_in, slot_in}
+pub use Rattle.rh_flex.specs.Pages.{first_pages, lent_memory_in}
+unfoldable pub use Rattle.rh_flex.specs.Pages.{lent_pages_memory, pages_memory_over, pages_memory_shown}
+pub use Rattle.rh_flex.specs.Slots.{IsSlotBytes, LeavesSlot, lent_slot_bytes, free_in, lent_slot_in}
 unfoldable pub use Rattle.rh_flex.specs.Write.{slot_write}

@@ -1,6 +1,6 @@
 -- Worked bytes, and worked writes at addresses: the definitions compute them.
-use Rattle.rh_flex.proofs.Common.{◌≡◌, refl, ℕ, true, List, [], ◌∷◌, ◌++◌, length, take, Ok, Err, sym, ap, ◌∙◌, new_slot, BadRange, first_pages, memory_in}
-use Rattle.rh_flex.proofs.Common.{memory_over, free_in, slot_write}
+use Rattle.rh_flex.proofs.Common.{◌≡◌, refl, ℕ, true, List, [], ◌∷◌, ◌++◌, length, take, Ok, Err, sym, ap, ◌∙◌, new_slot, BadRange, first_pages, lent_memory_in}
+use Rattle.rh_flex.proofs.Common.{pages_memory_over, free_in, slot_write}
 use Rattle.std.proofs.Math.Seq.{take-append_seam}
 use Rattle.rh_defs.specs.Chain as chain
 use Rattle.rh_defs.specs.Chain.{result_or}
@@ -13,8 +13,8 @@ use Rattle.rh_defs.proofs.SlotRows.{Alloc, Put, Claim, slot_after, hello}
 pub two_free : (b : List ℕ) → length b ≡ 12388 → free_in b (record { pages = 1; budge = true }) ≡ 2
 two_free b e = rw e refl
 
-pub three_pages : (b : List ℕ) → length b ≡ 12388 → (memory_in b 1 7).pages ≡ 3
-unfolding memory_over
+pub three_pages : (b : List ℕ) → length b ≡ 12388 → (lent_memory_in b 1 7).pages ≡ 3
+unfolding pages_memory_over
 three_pages b e = rw e refl
 
 -- a page and more: the first page

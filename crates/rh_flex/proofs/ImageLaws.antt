@@ -1,6 +1,6 @@
 -- What a check of a slot's pages says of the bytes that they lie in.
 use Rattle.rh_flex.proofs.Common.{◌≡◌, ℕ, ◌*◌, ◌/◌, ◌^◌, ◌≤◌, ◌<◌, true, List, length, refl, arith, Some, nat_tests, length-take-le, PAGE}
-use Rattle.rh_flex.proofs.Common.{slot_of, IsSlotBytes, bytes_of, slot_in}
+use Rattle.rh_flex.proofs.Common.{slot_of, IsSlotBytes, lent_slot_bytes, lent_slot_in}
 use Rattle.rh_flex.specs.Image.{IsShortSlot, pages_fault_of}
 use Rattle.rh_flex.specs.declared.slot.LentSlot.{LentSlot}
 use Rattle.rh_flex.proofs.SlotBytes.{budged}
@@ -11,7 +11,7 @@ use Rattle.rh_store.specs.Limits.{area_limit}
 module _ (b : List ℕ) (s : LentSlot) where
   -- where the pages' bytes are a slot's, all bytes have it
   pub short_from : length b ≤ area_limit → PAGE * s.pages ≤ length b
-      → IsSlotImage (bytes_of b s) (slot_of true (bytes_of b s)) → IsShortSlot b s
+      → IsSlotImage (lent_slot_bytes b s) (slot_of true (lent_slot_bytes b s)) → IsShortSlot b s
   short_from few within image =
       let most = image.most in
       let long = length-take-le (PAGE * s.pages) b within in
@@ -20,7 +20,7 @@ module _ (b : List ℕ) (s : LentSlot) where
       record { most = omega arith; slot = budged b (record { pages = s.pages; budge = true }) s.budge slot }
 
   -- and the other way round
-  pub short_back : IsShortSlot b s → IsSlotImage (bytes_of b s) (slot_of true (bytes_of b s))
+  pub short_back : IsShortSlot b s → IsSlotImage (lent_slot_bytes b s) (slot_of true (lent_slot_bytes b s))
   short_back short =
       let most = short.most in
       let long = length-take-le (PAGE * s.pages) b short.slot.within in
@@ -34,12 +34,12 @@ module _ (b : List ℕ) (s : LentSlot) where
   short_few short = short.slot.few
 
   -- the sums don't tell whether budging is on
-  pub same_sums : slot_summary (PAGE * s.pages) (slot_of true (bytes_of b s)) ≡ slot_summary (PAGE * s.pages) (slot_in b s)
+  pub same_sums : slot_summary (PAGE * s.pages) (slot_of true (lent_slot_bytes b s)) ≡ slot_summary (PAGE * s.pages) (lent_slot_in b s)
   unfolding slot_of
   same_sums = refl
 
   -- the fault is that of the pages where they lie in the bytes
-  pub fault_inside : length b ≤ area_limit → PAGE * s.pages ≤ length b → slot_fault_of (bytes_of b s) ≡ pages_fault_of b s
+  pub fault_inside : length b ≤ area_limit → PAGE * s.pages ≤ length b → slot_fault_of (lent_slot_bytes b s) ≡ pages_fault_of b s
   unfolding pages_fault_of
   fault_inside few within = grind (arith, nat_tests)
 

@@ -1,7 +1,8 @@
 -- What a call on a slot in lent bytes leaves, from what it leaves of their memory.
 use Rattle.rh_flex.proofs.Common.{◌≡◌, ℕ, ◌*◌, ◌/◌, ◌≤◌, Bool, true, List, length, take, replicate, refl, sym, ap, subst, ◌∙◌, arith, length-replicate}
-use Rattle.rh_flex.proofs.Common.{length-take-le, ℤ, Ok, Err, OnErr, PAGE, put, Memory, area_set, bytes, new_slot, first_pages, memory_over, memory_in}
-use Rattle.rh_flex.proofs.Common.{memory_of, IsSlotBytes, LeavesSlot, bytes_of, slot_in}
+use Rattle.rh_flex.proofs.Common.{length-take-le, ℤ, Ok, Err, OnErr, PAGE, with_part, Memory, area_set, bytes, new_slot, first_pages, pages_memory_over}
+use Rattle.rh_flex.proofs.Common.{lent_memory_in}
+use Rattle.rh_flex.proofs.Common.{lent_pages_memory, IsSlotBytes, LeavesSlot, lent_slot_bytes, lent_slot_in}
 use Rattle.rh_defs.specs.declared.sizes.TheConstants.{C_HEAP_LENGTH}
 use Rattle.rh_defs.specs.Chain.{Granted, answer_of, left_of}
 use Rattle.rh_defs.specs.Heap.{empty_heap}
@@ -16,8 +17,8 @@ use Rattle.rh_flex.specs.Pages.{pages_behind}
 use Rattle.rh_flex.specs.declared.pages_mut.LentPagesMut.{LentPagesMut}
 use Rattle.rh_flex.specs.declared.slot.LentSlot.{LentSlot}
 use Rattle.rh_flex.proofs.Over.{over-open, take-zeros}
-use Rattle.rh_slot.specs.Area.{IsSlot}
-use Rattle.rh_slot.specs.Calls.{Leaves}
+use Rattle.rh_slot.specs.Area.{IsSlotIn}
+use Rattle.rh_slot.specs.Calls.{LeavesSlotIn}
 use Rattle.rh_slot.specs.declared.slot.Slot.{Slot}
 use Rattle.rh_slot.proofs.SpanLaws.{slot_now}
 use Rattle.rh_slot.proofs.StartLaws.{Opened, spells_new}
@@ -27,8 +28,8 @@ abbrev pub lent : Bool → Slot
 lent budge = record { area = record { 0 = 0 }; budge = budge }
 
 -- bytes of a slot are the slot of their memory
-pub is_slot : (b : List ℕ) (s : LentSlot) (l : ℕ) → IsSlotBytes b s → IsSlot (memory_in b s.pages l) (lent s.budge)
-unfolding memory_over area_set bytes
+pub is_slot : (b : List ℕ) (s : LentSlot) (l : ℕ) → IsSlotBytes b s → IsSlotIn (lent_memory_in b s.pages l) (lent s.budge)
+unfolding pages_memory_over area_set bytes
 is_slot b s l h = record {
   opened = over-open (first_pages s.pages b) (pages_behind s.pages b) (length b / PAGE) l;
   spells = h.spells;
@@ -36,9 +37,9 @@ is_slot b s l h = record {
 
 -- a refused call leaves the slot's pages
 same_err : {A : Type 0} (b : List ℕ) (n l : ℕ) (store : LentPagesMut) (result : Granted A) → PAGE * n ≤ length b
-    → OnErr result (memory_of store ≡ memory_in b n l)
+    → OnErr result (lent_pages_memory store ≡ lent_memory_in b n l)
     → OnErr result ((store.pages ≡ n) × (first_pages store.pages store.bytes.now ≡ first_pages n b))
-unfolding memory_of memory_over area_set bytes
+unfolding lent_pages_memory pages_memory_over area_set bytes
 same_err b n l store (Ok x) w e = tt
 same_err b n l store (Err x) w e =
     let is : first_pages store.pages store.bytes.now ≡ first_pages n b = ap (λ (m : Memory). bytes m 0) e in
@@ -49,9 +50,9 @@ same_err b n l store (Err x) w e =
 
 -- what is left of the memory is left of the bytes
 pub leaves_slot : {A : Type 0} (b : List ℕ) (s : LentSlot) (l : ℕ) (store : LentPagesMut) (granted : Granted (plain.Slot × A))
-    (result : Granted A) → IsSlotBytes b s → Leaves (memory_in b s.pages l) (memory_of store) (lent s.budge) granted result
+    (result : Granted A) → IsSlotBytes b s → LeavesSlotIn (lent_memory_in b s.pages l) (lent_pages_memory store) (lent s.budge) granted result
     → LeavesSlot b store.bytes.now s (record { pages = store.pages; budge = s.budge }) granted result
-unfolding memory_of memory_over area_set bytes
+unfolding lent_pages_memory pages_memory_over area_set bytes
 leaves_slot b s l store granted result h e = record {
   answer = e.answer;
   slot = e.slot;
@@ -63,18 +64,18 @@ leaves_slot b s l store granted result h e = record {
 -- the same of a call with a signed argument, from what is said of the number that it is passed as
 pub leaves_signed : {A : Type 0} (b : List ℕ) (s : LentSlot) (l : ℕ) (store : LentPagesMut)
     (granted : ℤ → Granted (plain.Slot × A)) (result : Granted A) (d e : ℤ) → d ≡ e → IsSlotBytes b s
-    → Leaves (memory_in b s.pages l) (memory_of store) (lent s.budge) (granted d) result
+    → LeavesSlotIn (lent_memory_in b s.pages l) (lent_pages_memory store) (lent s.budge) (granted d) result
     → LeavesSlot b store.bytes.now s (record { pages = store.pages; budge = s.budge }) (granted e) result
 leaves_signed b s l store granted result d e is h k =
     leaves_slot b s l store (granted e) result h
-    (subst (λ x. Leaves (memory_in b s.pages l) (memory_of store) (lent s.budge) (granted x) result) is k)
+    (subst (λ x. LeavesSlotIn (lent_memory_in b s.pages l) (lent_pages_memory store) (lent s.budge) (granted x) result) is k)
 
 -- a call that is refused before it does anything
 pub refused_slot : {A : Type 0} (b : List ℕ) (s : LentSlot) (granted : Granted (plain.Slot × A)) (refusal : Refusal)
     → IsSlotBytes b s → granted ≡ Err refusal → LeavesSlot {A = A} b b s s granted (Err refusal)
 refused_slot {A} b s granted refusal h e = record {
   answer = sym (ap answer_of e);
-  slot = sym (ap (left_of (slot_in b s)) e);
+  slot = sym (ap (left_of (lent_slot_in b s)) e);
   bytes = h;
   budge = refl;
   err = (refl, refl);
@@ -83,16 +84,17 @@ refused_slot {A} b s granted refusal h e = record {
 -- ---- how a slot begins
 
 -- the first page after zeros were written over it
-pub page_of_zeros : (b c : List ℕ) → PAGE ≤ length b → c ≡ put b 0 (replicate PAGE 0) → first_pages 1 c ≡ replicate PAGE 0
+pub page_of_zeros : (b c : List ℕ) → PAGE ≤ length b → c ≡ with_part b 0 (replicate PAGE 0) → first_pages 1 c ≡ replicate PAGE 0
 page_of_zeros b c h e = ap (take PAGE) e ∙ take-zeros 0 PAGE b h
 
 -- an empty heap behind the anchor words of a page of zeros
 pub begun : (b : List ℕ) (l : ℕ) (store : LentPagesMut) → first_pages 1 b ≡ replicate PAGE 0
-    → Edited (memory_in b 1 l) (memory_of store) 0 heap_place PAGE → Spells (bytes (memory_of store) 0) heap_place (empty_heap C_HEAP_LENGTH)
+    → Edited (lent_memory_in b 1 l) (lent_pages_memory store) 0 heap_place PAGE → Spells (bytes (lent_pages_memory store) 0) heap_place
+    (empty_heap C_HEAP_LENGTH)
     → SpellsSlot (first_pages store.pages store.bytes.now) new_slot
-unfolding memory_of memory_over area_set bytes
+unfolding lent_pages_memory pages_memory_over area_set bytes
 begun b l store z e s =
-    let m = memory_in b 1 l in
+    let m = lent_memory_in b 1 l in
     let is : IsOpen m 0 = over-open (first_pages 1 b) (pages_behind 1 b) (length b / PAGE) l in
     let page : Opened m m 0 = record {
       opened = is;
@@ -100,13 +102,13 @@ begun b l store z e s =
       len = ap length z ∙ length-replicate {A = ℕ} PAGE 0;
       only = OnlyArea-self m 0 is;
     } in
-    spells_new m m (memory_of store) 0 page e s
+    spells_new m m (lent_pages_memory store) 0 page e s
 
 -- so the bytes have a new slot
 pub begun_slot : (store : LentPagesMut) → SpellsSlot (first_pages store.pages store.bytes.now) new_slot
-    → slot_in store.bytes.now (record { pages = store.pages; budge = true }) ≡ new_slot
-unfolding memory_of memory_over area_set bytes
-begun_slot store s = slot_now (memory_of store) (lent true) new_slot s refl
+    → lent_slot_in store.bytes.now (record { pages = store.pages; budge = true }) ≡ new_slot
+unfolding lent_pages_memory pages_memory_over area_set bytes
+begun_slot store s = slot_now (lent_pages_memory store) (lent true) new_slot s refl
 
 pub begun_bytes : (store : LentPagesMut) → SpellsSlot (first_pages store.pages store.bytes.now) new_slot
     → IsSlotBytes store.bytes.now (record { pages = store.pages; budge = true })
@@ -121,6 +123,6 @@ pub budged : (b : List ℕ) (s : LentSlot) (on : Bool) → IsSlotBytes b s → I
 budged b s on h = record {
   few = h.few;
   within = h.within;
-  spells = subst (SpellsSlot (bytes_of b s)) (sym (slot_of-SlotWords on (bytes_of b s) (slot_in b s) h.spells.words))
-      (SpellsSlot-budging on (bytes_of b s) (slot_in b s) h.spells);
+  spells = subst (SpellsSlot (lent_slot_bytes b s)) (sym (slot_of-SlotWords on (lent_slot_bytes b s) (lent_slot_in b s) h.spells.words))
+      (SpellsSlot-budging on (lent_slot_bytes b s) (lent_slot_in b s) h.spells);
 }

@@ -1,5 +1,6 @@
 -- Bytes written at an address of a slot: what is granted, and what they leave of the memory.
-use Rattle.rh_flex.proofs.Common.{◌≡◌, ℕ, ◌-◌, Bool, true, false, List, length, refl, arith, Ok, Err, ◌||◌, is_some, put, no_answer, Memory, bytes, BadRange}
+use Rattle.rh_flex.proofs.Common.{◌≡◌, ℕ, ◌-◌, Bool, true, false, List, length, refl, arith, Ok, Err, ◌||◌, is_some, with_part, no_answer, Memory, bytes}
+use Rattle.rh_flex.proofs.Common.{BadRange}
 use Rattle.rh_flex.proofs.Common.{slot_write}
 use Rattle.rh_defs.specs.Chain.{◌>>=◌, refuse_if}
 use Rattle.rh_defs.specs.Memory.{with_bytes}
@@ -7,8 +8,8 @@ use Rattle.rh_defs.specs.Places.{buffer_at, written_in}
 use Rattle.rh_defs.specs.Slot as plain
 use Rattle.rh_defs.specs.Slot.{holds}
 use Rattle.rh_defs.specs.SlotImage.{SpellsSlot}
-use Rattle.rh_slot.specs.Area.{IsSlot, slot_in}
-use Rattle.rh_slot.specs.Calls.{Leaves}
+use Rattle.rh_slot.specs.Area.{IsSlotIn, slot_in}
+use Rattle.rh_slot.specs.Calls.{LeavesSlotIn}
 use Rattle.rh_slot.specs.declared.slot.Slot.{Slot}
 use Rattle.rh_slot.proofs.ReachLaws.{Reached, Within, reached, within, reached_spells, reached_budging}
 use Rattle.rh_slot.proofs.WriteLaws.{copied}
@@ -37,10 +38,10 @@ module _ (x : ℕ) (xs : List ℕ) (s : plain.Slot) where
   write_within b k e = within b s x (length xs) xs k (reach b k e)
 
 -- bytes are put into a slot's area, where a block holds them
-pub write_leaves : (m n : Memory) (slot : Slot) (x : ℕ) (xs : List ℕ) → IsSlot m slot
+pub write_leaves : (m n : Memory) (slot : Slot) (x : ℕ) (xs : List ℕ) → IsSlotIn m slot
     → holds x (length xs) (slot_in m slot) ≡ true
-    → n ≡ with_bytes m slot.area.0 (put (bytes m slot.area.0) (x - 32768) xs)
-    → Leaves m n slot (no_answer (slot_write x xs (slot_in m slot))) (Ok tt)
+    → n ≡ with_bytes m slot.area.0 (with_part (bytes m slot.area.0) (x - 32768) xs)
+    → LeavesSlotIn m n slot (no_answer (slot_write x xs (slot_in m slot))) (Ok tt)
 write_leaves m n slot x xs k e is =
     let s = slot_in m slot in
     let r = reach x xs s (bytes m slot.area.0) k.spells e in

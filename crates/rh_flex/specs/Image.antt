@@ -1,7 +1,7 @@
 -- Slots in bytes from anywhere: when the first pages are one, and their first fault.
 use Rattle.std.specs.Prelude.{ℕ, ◌*◌, ◌≤◌, nat_le, ◌&&◌, if◌then◌else◌, List, length, Option, Some}
 use Rattle.rh_defs.specs.declared.sizes.TheConstants.{PAGE}
-use Rattle.rh_flex.specs.Slots.{IsSlotBytes, bytes_of}
+use Rattle.rh_flex.specs.Slots.{IsSlotBytes, lent_slot_bytes}
 use Rattle.rh_flex.specs.declared.slot.LentSlot.{LentSlot}
 use Rattle.rh_slot.specs.Image.{slot_fault_of}
 use Rattle.rh_slot.specs.declared.image.SlotFault.{SlotFault}
@@ -18,5 +18,5 @@ pub record IsShortSlot (b : List ℕ) (s : LentSlot) : Type 0 where
 -- 1 GiB, and else that of the bytes of the pages
 unfoldable pub pages_fault_of : List ℕ → LentSlot → Option SlotFault
 pages_fault_of b s =
-    if nat_le (length b) area_limit && nat_le (PAGE * s.pages) (length b) then slot_fault_of (bytes_of b s)
+    if nat_le (length b) area_limit && nat_le (PAGE * s.pages) (length b) then slot_fault_of (lent_slot_bytes b s)
     else Some BadLength

@@ -17,21 +17,21 @@ abbrev pub pages_behind : ℕ → List ℕ → ℕ
 pages_behind n b = length b / PAGE - n
 
 -- one area of these bytes, so many pages free of so many, under the name of the loan
-unfoldable pub memory_over : List ℕ → ℕ → ℕ → ℕ → Memory
-memory_over bs free pages loan =
+unfoldable pub pages_memory_over : List ℕ → ℕ → ℕ → ℕ → Memory
+pages_memory_over bs free pages loan =
     record { area = area_set (λ k. None) 0 (Some bs); free = free; pages = pages; loan = loan }
 
 -- the memory of lent bytes: the first n pages are the area, those behind are free
-abbrev pub memory_in : List ℕ → ℕ → ℕ → Memory
-memory_in b n loan = memory_over (first_pages n b) (pages_behind n b) (length b / PAGE) loan
+abbrev pub lent_memory_in : List ℕ → ℕ → ℕ → Memory
+lent_memory_in b n loan = pages_memory_over (first_pages n b) (pages_behind n b) (length b / PAGE) loan
 
 -- the memory of the bytes as they are now
-unfoldable pub memory_of : LentPagesMut → Memory
-memory_of s = memory_in s.bytes.now s.pages s.bytes.ghost_name
+unfoldable pub lent_pages_memory : LentPagesMut → Memory
+lent_pages_memory s = lent_memory_in s.bytes.now s.pages s.bytes.ghost_name
 
 -- the memory of bytes that are lent to be read: no edit needs the loan's name
-unfoldable pub memory_shown : LentPages → Memory
-memory_shown s = memory_in s.bytes.now s.pages 0
+unfoldable pub pages_memory_shown : LentPages → Memory
+pages_memory_shown s = lent_memory_in s.bytes.now s.pages 0
 
 long : (b : List ℕ) (n : ℕ) → PAGE * n ≤ length b → length (first_pages n b) ≡ PAGE * n
 long b n within = length-take-le (PAGE * n) b within
@@ -45,37 +45,37 @@ one_whole : (b : Bool) (bs : List ℕ) → length bs % PAGE ≡ 0
 one_whole true bs h = h
 one_whole false bs h = refl
 
-pub small_law : (s : LentPagesMut) (id : ℕ) → length (bytes (memory_of s) id) ≤ area_limit
-unfolding memory_of memory_over area_set bytes
-small_law s id =
+pub lent_small_law : (s : LentPagesMut) (id : ℕ) → length (bytes (lent_pages_memory s) id) ≤ area_limit
+unfolding lent_pages_memory pages_memory_over area_set bytes
+lent_small_law s id =
     one_short (id == 0) _ area_limit (let l = long s.bytes.now s.pages s.within in let w = s.within in let f = s.few in omega arith)
 
-pub whole_law : (s : LentPagesMut) (id : ℕ) → length (bytes (memory_of s) id) % PAGE ≡ 0
-unfolding memory_of memory_over area_set bytes
-whole_law s id = one_whole (id == 0) _ (let l = long s.bytes.now s.pages s.within in omega arith)
+pub lent_whole_law : (s : LentPagesMut) (id : ℕ) → length (bytes (lent_pages_memory s) id) % PAGE ≡ 0
+unfolding lent_pages_memory pages_memory_over area_set bytes
+lent_whole_law s id = one_whole (id == 0) _ (let l = long s.bytes.now s.pages s.within in omega arith)
 
-pub shown_small_law : (s : LentPages) (id : ℕ) → length (bytes (memory_shown s) id) ≤ area_limit
-unfolding memory_shown memory_over area_set bytes
-shown_small_law s id =
+pub shown_pages_small_law : (s : LentPages) (id : ℕ) → length (bytes (pages_memory_shown s) id) ≤ area_limit
+unfolding pages_memory_shown pages_memory_over area_set bytes
+shown_pages_small_law s id =
     one_short (id == 0) _ area_limit
     (let l = long s.bytes.now s.pages s.within in let w = s.within in let f = s.few in omega arith)
 
-pub shown_whole_law : (s : LentPages) (id : ℕ) → length (bytes (memory_shown s) id) % PAGE ≡ 0
-unfolding memory_shown memory_over area_set bytes
+pub shown_whole_law : (s : LentPages) (id : ℕ) → length (bytes (pages_memory_shown s) id) % PAGE ≡ 0
+unfolding pages_memory_shown pages_memory_over area_set bytes
 shown_whole_law s id = one_whole (id == 0) _ (let l = long s.bytes.now s.pages s.within in omega arith)
 
-pub within_law : (s : LentPagesMut) (id : ℕ)
-    → PAGE * (memory_of s).free + length (bytes (memory_of s) id) ≤ PAGE * (memory_of s).pages
-unfolding memory_of memory_over area_set bytes
-within_law s id =
+pub lent_within_law : (s : LentPagesMut) (id : ℕ)
+    → PAGE * (lent_pages_memory s).free + length (bytes (lent_pages_memory s) id) ≤ PAGE * (lent_pages_memory s).pages
+unfolding lent_pages_memory pages_memory_over area_set bytes
+lent_within_law s id =
     let h = one_short (id == 0) (first_pages s.pages s.bytes.now) (PAGE * s.pages) (let l = long s.bytes.now s.pages s.within in omega arith) in
     let w = s.within in
     omega arith
 
-pub few_law : (s : LentPagesMut) → (memory_of s).pages ≤ pool_limit
-unfolding memory_of memory_over
-few_law s = let f = s.few in omega arith
+pub lent_few_law : (s : LentPagesMut) → (lent_pages_memory s).pages ≤ pool_limit
+unfolding lent_pages_memory pages_memory_over
+lent_few_law s = let f = s.few in omega arith
 
-pub ledger_law : (s : LentPagesMut) → Ledger (memory_of s) MAX_AREAS
-unfolding memory_of memory_over area_set pages_below
-ledger_law s = let l = long s.bytes.now s.pages s.within in let w = s.within in omega arith
+pub lent_ledger_law : (s : LentPagesMut) → Ledger (lent_pages_memory s) MAX_AREAS
+unfolding lent_pages_memory pages_memory_over area_set pages_below
+lent_ledger_law s = let l = long s.bytes.now s.pages s.within in let w = s.within in omega arith

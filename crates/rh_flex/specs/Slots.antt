@@ -9,12 +9,12 @@ use Rattle.rh_flex.specs.declared.slot.LentSlot.{LentSlot}
 use Rattle.rh_store.specs.Limits.{area_limit}
 
 -- the bytes of the slot's pages: the first ones
-abbrev pub bytes_of : List ℕ → LentSlot → List ℕ
-bytes_of b s = first_pages s.pages b
+abbrev pub lent_slot_bytes : List ℕ → LentSlot → List ℕ
+lent_slot_bytes b s = first_pages s.pages b
 
 -- the slot that they spell
-abbrev pub slot_in : List ℕ → LentSlot → Slot
-slot_in b s = slot_of s.budge (bytes_of b s)
+abbrev pub lent_slot_in : List ℕ → LentSlot → Slot
+lent_slot_in b s = slot_of s.budge (lent_slot_bytes b s)
 
 -- how many whole pages are free behind them
 abbrev pub free_in : List ℕ → LentSlot → ℕ
@@ -24,14 +24,14 @@ free_in b s = pages_behind s.pages b
 pub record IsSlotBytes (b : List ℕ) (s : LentSlot) : Type 0 where
   pub few : length b ≤ area_limit
   pub within : PAGE * s.pages ≤ length b
-  pub spells : SpellsSlot (bytes_of b s) (slot_in b s)
+  pub spells : SpellsSlot (lent_slot_bytes b s) (lent_slot_in b s)
 
 -- A call on the slot s of bytes b is granted this: it answers so, the slot t of bytes c is then the one that is granted,
 -- budging is as it was, and where the call is refused the slot has the same pages, and each byte of them has stayed.
 pub record LeavesSlot {A : Type 0} (b c : List ℕ) (s t : LentSlot) (granted : Granted (Slot × A)) (result : Granted A)
     : Type 0 where
   pub answer : result ≡ answer_of granted
-  pub slot : slot_in c t ≡ left_of (slot_in b s) granted
+  pub slot : lent_slot_in c t ≡ left_of (lent_slot_in b s) granted
   pub bytes : IsSlotBytes c t
   pub budge : t.budge ≡ s.budge
-  pub err : OnErr result ((t.pages ≡ s.pages) × (bytes_of c t ≡ bytes_of b s))
+  pub err : OnErr result ((t.pages ≡ s.pages) × (lent_slot_bytes c t ≡ lent_slot_bytes b s))

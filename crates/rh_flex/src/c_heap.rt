@@ -4,7 +4,7 @@ ghost use Rattle.std.specs.Option.{option_map};
 ghost use Rattle.rh_defs.specs.Chain.{no_answer};
 ghost use Rattle.rh_defs.specs.Heap.{block_size, free_bytes, largest, segment_at};
 ghost use Rattle.rh_defs.specs.Slot.{heap_start, slot_claim, slot_release, slot_resize, slot_take_pages};
-ghost use Rattle.rh_flex.specs.Slots.{IsSlotBytes, LeavesSlot, free_in, slot_in};
+ghost use Rattle.rh_flex.specs.Slots.{IsSlotBytes, LeavesSlot, free_in, lent_slot_in};
 ghost use Rattle.rh_heap.specs.Listed.{segments_from};
 ghost use Rattle.rh_heap.specs.Segments.{piece};
 
@@ -25,7 +25,7 @@ impl LentSlot {
     pub fn claim(&mut self, bytes: &mut [u8], n: u32) -> Result<usize, Refusal>
         requires { IsSlotBytes bytes.old self.old }
         ensures { LeavesSlot bytes.old bytes.new self.old self.new
-            (slot_claim (free_in bytes.old self.old) n (slot_in bytes.old self.old)) result }
+            (slot_claim (free_in bytes.old self.old) n (lent_slot_in bytes.old self.old)) result }
     {
         let LentSlot { pages, budge } = *self;
         let mut store = LentPagesMut { bytes, pages };
@@ -39,7 +39,7 @@ impl LentSlot {
     pub fn release(&mut self, bytes: &mut [u8], address: usize) -> Result<(), Refusal>
         requires { IsSlotBytes bytes.old self.old }
         ensures { LeavesSlot bytes.old bytes.new self.old self.new
-            (no_answer (slot_release address (slot_in bytes.old self.old))) result }
+            (no_answer (slot_release address (lent_slot_in bytes.old self.old))) result }
     {
         let LentSlot { pages, budge } = *self;
         let mut store = LentPagesMut { bytes, pages };
@@ -55,7 +55,7 @@ impl LentSlot {
     pub fn resize(&mut self, bytes: &mut [u8], address: usize, delta: i32) -> Result<usize, Refusal>
         requires { IsSlotBytes bytes.old self.old }
         ensures { LeavesSlot bytes.old bytes.new self.old self.new
-            (slot_resize (free_in bytes.old self.old) address delta (slot_in bytes.old self.old)) result }
+            (slot_resize (free_in bytes.old self.old) address delta (lent_slot_in bytes.old self.old)) result }
     {
         let LentSlot { pages, budge } = *self;
         let mut store = LentPagesMut { bytes, pages };
@@ -69,7 +69,7 @@ impl LentSlot {
     /// `BadSize` for 0 bytes, `NoBudge` where the C heap is too short and budging is off.
     pub fn take_pages(self, bytes: &[u8], n: u32) -> Result<usize, Refusal>
         requires { IsSlotBytes bytes.now self }
-        ensures { result ≡ slot_take_pages n (slot_in bytes.now self) }
+        ensures { result ≡ slot_take_pages n (lent_slot_in bytes.now self) }
     {
         let LentSlot { pages, budge } = self;
         let store = LentPages { bytes, pages };
@@ -81,7 +81,7 @@ impl LentSlot {
     /// (OS_Heap 6.)
     pub fn block_size(self, bytes: &[u8], address: usize) -> Result<usize, Refusal>
         requires { IsSlotBytes bytes.now self }
-        ensures { result ≡ ok_or (block_size (address - heap_start) (slot_in bytes.now self).heap)
+        ensures { result ≡ ok_or (block_size (address - heap_start) (lent_slot_in bytes.now self).heap)
             Refusal.NotABlock }
     {
         let LentSlot { pages, budge } = self;
@@ -93,7 +93,7 @@ impl LentSlot {
     /// The segment of the C heap that begins at a place, in bytes from the heap's first one.
     pub fn segment(self, bytes: &[u8], place: usize) -> Option<Segment>
         requires { IsSlotBytes bytes.now self }
-        ensures { result ≡ option_map piece (segment_at place (slot_in bytes.now self).heap) }
+        ensures { result ≡ option_map piece (segment_at place (lent_slot_in bytes.now self).heap) }
     {
         let LentSlot { pages, budge } = self;
         let store = LentPages { bytes, pages };
@@ -105,7 +105,7 @@ impl LentSlot {
     /// begins there.
     pub fn segments_from(self, bytes: &[u8], place: usize) -> ArrayVec<Segment, SEGMENTS_AT_ONCE>
         requires { IsSlotBytes bytes.now self }
-        ensures { result.items ≡ segments_from place (slot_in bytes.now self).heap }
+        ensures { result.items ≡ segments_from place (lent_slot_in bytes.now self).heap }
     {
         let LentSlot { pages, budge } = self;
         let store = LentPages { bytes, pages };
@@ -117,9 +117,9 @@ impl LentSlot {
     /// (OS_Heap 1.)
     pub fn describe(self, bytes: &[u8]) -> (usize, usize, usize)
         requires { IsSlotBytes bytes.now self }
-        ensures end { result.0 ≡ (slot_in bytes.now self).heap.end }
-        ensures largest { result.1 ≡ largest (slot_in bytes.now self).heap }
-        ensures free { result.2 ≡ free_bytes (slot_in bytes.now self).heap }
+        ensures end { result.0 ≡ (lent_slot_in bytes.now self).heap.end }
+        ensures largest { result.1 ≡ largest (lent_slot_in bytes.now self).heap }
+        ensures free { result.2 ≡ free_bytes (lent_slot_in bytes.now self).heap }
     {
         let LentSlot { pages, budge } = self;
         let store = LentPages { bytes, pages };

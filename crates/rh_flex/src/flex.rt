@@ -5,7 +5,7 @@ ghost use Rattle.rh_defs.specs.Places.{free_anchor};
 ghost use Rattle.rh_defs.specs.Slot.{slot_address, slot_alloc, slot_extend, slot_free, slot_mid};
 ghost use Rattle.rh_defs.specs.Slot.{slot_put, slot_read, slot_size};
 ghost use Rattle.rh_defs.specs.declared.sizes.TheConstants.{ANCHORS};
-ghost use Rattle.rh_flex.specs.Slots.{IsSlotBytes, LeavesSlot, free_in, slot_in};
+ghost use Rattle.rh_flex.specs.Slots.{IsSlotBytes, LeavesSlot, free_in, lent_slot_in};
 
 use crate::pages::LentPages;
 use crate::pages_mut::LentPagesMut;
@@ -19,7 +19,7 @@ impl LentSlot {
     pub fn size(self, bytes: &[u8], anchor: Anchor) -> Result<usize, Refusal>
         requires slot { IsSlotBytes bytes.now self }
         requires anchor { anchor < ANCHORS }
-        ensures { result ≡ slot_size anchor (slot_in bytes.now self) }
+        ensures { result ≡ slot_size anchor (lent_slot_in bytes.now self) }
     {
         let LentSlot { pages, budge } = self;
         let store = LentPages { bytes, pages };
@@ -32,7 +32,7 @@ impl LentSlot {
     pub fn address(self, bytes: &[u8], anchor: Anchor) -> Result<usize, Refusal>
         requires slot { IsSlotBytes bytes.now self }
         requires anchor { anchor < ANCHORS }
-        ensures { result ≡ slot_address anchor (slot_in bytes.now self) }
+        ensures { result ≡ slot_address anchor (lent_slot_in bytes.now self) }
     {
         let LentSlot { pages, budge } = self;
         let store = LentPages { bytes, pages };
@@ -43,7 +43,7 @@ impl LentSlot {
     /// The lowest anchor without a block, `None` where all have one.
     pub fn free_anchor(self, bytes: &[u8]) -> Option<Anchor>
         requires { IsSlotBytes bytes.now self }
-        ensures { result ≡ free_anchor (slot_in bytes.now self) }
+        ensures { result ≡ free_anchor (lent_slot_in bytes.now self) }
     {
         let LentSlot { pages, budge } = self;
         let store = LentPages { bytes, pages };
@@ -57,7 +57,7 @@ impl LentSlot {
         requires slot { IsSlotBytes bytes.old self.old }
         requires anchor { anchor < ANCHORS }
         ensures { LeavesSlot bytes.old bytes.new self.old self.new
-            (slot_alloc (free_in bytes.old self.old) anchor n (slot_in bytes.old self.old)) result }
+            (slot_alloc (free_in bytes.old self.old) anchor n (lent_slot_in bytes.old self.old)) result }
     {
         let LentSlot { pages, budge } = *self;
         let mut store = LentPagesMut { bytes, pages };
@@ -72,7 +72,7 @@ impl LentSlot {
         requires slot { IsSlotBytes bytes.old self.old }
         requires anchor { anchor < ANCHORS }
         ensures { LeavesSlot bytes.old bytes.new self.old self.new
-            (no_answer (slot_free anchor (slot_in bytes.old self.old))) result }
+            (no_answer (slot_free anchor (lent_slot_in bytes.old self.old))) result }
     {
         let LentSlot { pages, budge } = *self;
         let mut store = LentPagesMut { bytes, pages };
@@ -88,7 +88,7 @@ impl LentSlot {
         requires slot { IsSlotBytes bytes.old self.old }
         requires anchor { anchor < ANCHORS }
         ensures { LeavesSlot bytes.old bytes.new self.old self.new
-            (no_answer (slot_extend (free_in bytes.old self.old) anchor n (slot_in bytes.old self.old))) result }
+            (no_answer (slot_extend (free_in bytes.old self.old) anchor n (lent_slot_in bytes.old self.old))) result }
     {
         let LentSlot { pages, budge } = *self;
         let mut store = LentPagesMut { bytes, pages };
@@ -111,7 +111,8 @@ impl LentSlot {
         requires slot { IsSlotBytes bytes.old self.old }
         requires anchor { anchor < ANCHORS }
         ensures { LeavesSlot bytes.old bytes.new self.old self.new
-            (no_answer (slot_mid (free_in bytes.old self.old) anchor offset by (slot_in bytes.old self.old))) result }
+            (no_answer (slot_mid (free_in bytes.old self.old) anchor offset by
+            (lent_slot_in bytes.old self.old))) result }
     {
         let LentSlot { pages, budge } = *self;
         let mut store = LentPagesMut { bytes, pages };
@@ -133,7 +134,7 @@ impl LentSlot {
         requires slot { IsSlotBytes bytes.old self.old }
         requires anchor { anchor < ANCHORS }
         ensures { LeavesSlot bytes.old bytes.new self.old self.new
-            (no_answer (slot_put anchor offset from.now (slot_in bytes.old self.old))) result }
+            (no_answer (slot_put anchor offset from.now (lent_slot_in bytes.old self.old))) result }
     {
         let LentSlot { pages, budge } = *self;
         let mut store = LentPagesMut { bytes, pages };
@@ -154,8 +155,9 @@ impl LentSlot {
     ) -> Result<(), Refusal>
         requires slot { IsSlotBytes bytes.now self }
         requires anchor { anchor < ANCHORS }
-        ensures answer { result ≡ outcome_of (slot_read anchor offset (length to.old) (slot_in bytes.now self)) }
-        ensures buffer { to.new ≡ result_or to.old (slot_read anchor offset (length to.old) (slot_in bytes.now self)) }
+        ensures answer { result ≡ outcome_of (slot_read anchor offset (length to.old) (lent_slot_in bytes.now self)) }
+        ensures buffer { to.new ≡ result_or to.old (slot_read anchor offset (length to.old)
+            (lent_slot_in bytes.now self)) }
     {
         let LentSlot { pages, budge } = self;
         let store = LentPages { bytes, pages };

@@ -2,8 +2,8 @@
 ghost use Rattle.std.specs.Prelude.{◌≡◌, ◌↔◌, ◌*◌, IsOk, IfOk};
 ghost use Rattle.rh_defs.specs.declared.sizes.TheConstants.{PAGE};
 ghost use Rattle.rh_flex.specs.Image.{IsShortSlot, pages_fault_of};
-ghost use Rattle.rh_flex.specs.Slots.{slot_in};
-ghost use Rattle.rh_slot.specs.Image.{fault_in, slot_summary};
+ghost use Rattle.rh_flex.specs.Slots.{lent_slot_in};
+ghost use Rattle.rh_slot.specs.Image.{slot_fault_in, slot_summary};
 
 use crate::slot::LentSlot;
 use rh_defs::sizes::PAGE;
@@ -18,8 +18,8 @@ impl LentSlot {
     /// don't lie in the bytes, or the bytes are more than 1 GiB.
     pub fn check(self, bytes: &[u8]) -> Result<SlotSummary, SlotFault>
         ensures ok { IsOk result ↔ IsShortSlot bytes.now self }
-        ensures sums { IfOk result (λ sums. sums ≡ slot_summary (PAGE * self.pages) (slot_in bytes.now self)) }
-        ensures fault { fault_in result ≡ pages_fault_of bytes.now self }
+        ensures sums { IfOk result (λ sums. sums ≡ slot_summary (PAGE * self.pages) (lent_slot_in bytes.now self)) }
+        ensures fault { slot_fault_in result ≡ pages_fault_of bytes.now self }
     {
         let len = bytes.len();
         if MOST_LENT < len || len / PAGE < self.pages {

@@ -1,5 +1,5 @@
 //! Bytes that a caller lends to be read, whose first pages are the one area 0.
-#![tactic(auto, unfolding(crate::specs::Pages::memory_shown, crate::specs::Pages::memory_over))]
+#![tactic(auto, unfolding(crate::specs::Pages::pages_memory_shown, crate::specs::Pages::pages_memory_over))]
 
 ghost use Rattle.std.specs.Prelude.{◌≡◌, ◌*◌, ◌≤◌, length};
 ghost use Rattle.rh_defs.specs.declared.sizes.TheConstants.{PAGE};
@@ -19,9 +19,9 @@ pub struct LentPages<'a> {
 }
 
 impl Words for LentPages<'_> {
-    ghost use Rattle.rh_flex.specs.Pages.{memory_shown, shown_small_law};
+    ghost use Rattle.rh_flex.specs.Pages.{pages_memory_shown, shown_pages_small_law};
 
-    ghost memory = { memory_shown };
+    ghost memory = { pages_memory_shown };
 
     fn word(&self, _id: AreaId, at: usize) -> u32 {
         word_in(self.bytes, at)
@@ -40,7 +40,7 @@ impl Words for LentPages<'_> {
         PAGE * self.pages
     }
 
-    ghost small = { shown_small_law };
+    ghost small = { shown_pages_small_law };
 }
 
 impl Paged for LentPages<'_> {

@@ -1,5 +1,5 @@
 //! Bytes that a caller lends to be written, whose first pages are the one area 0, and whose other whole pages are free.
-#![tactic(auto, unfolding(crate::specs::Pages::memory_of, crate::specs::Pages::memory_over))]
+#![tactic(auto, unfolding(crate::specs::Pages::lent_pages_memory, crate::specs::Pages::pages_memory_over))]
 
 ghost use Rattle.std.specs.Prelude.{◌≡◌, ◌*◌, ◌≤◌, length};
 ghost use Rattle.rh_defs.specs.declared.sizes.TheConstants.{PAGE};
@@ -20,9 +20,9 @@ pub struct LentPagesMut<'a> {
 }
 
 impl Words for LentPagesMut<'_> {
-    ghost use Rattle.rh_flex.specs.Pages.{memory_of, small_law};
+    ghost use Rattle.rh_flex.specs.Pages.{lent_pages_memory, lent_small_law};
 
-    ghost memory = { memory_of };
+    ghost memory = { lent_pages_memory };
 
     fn word(&self, _id: AreaId, at: usize) -> u32 {
         word_in(self.bytes, at)
@@ -41,7 +41,7 @@ impl Words for LentPagesMut<'_> {
         PAGE * self.pages
     }
 
-    ghost small = { small_law };
+    ghost small = { lent_small_law };
 }
 
 impl WordsMut for LentPagesMut<'_> {
@@ -69,17 +69,17 @@ impl WordsMut for LentPagesMut<'_> {
 }
 
 impl Paged for LentPagesMut<'_> {
-    ghost use Rattle.rh_flex.specs.Pages.{whole_law};
+    ghost use Rattle.rh_flex.specs.Pages.{lent_whole_law};
 
     fn rest_of_page(&self, _id: AreaId, at: usize) -> &[u8] {
         part_of(self.bytes, at, PAGE - at % PAGE)
     }
 
-    ghost whole = { whole_law };
+    ghost whole = { lent_whole_law };
 }
 
 impl Pages for LentPagesMut<'_> {
-    ghost use Rattle.rh_flex.specs.Pages.{ledger_law, within_law, few_law};
+    ghost use Rattle.rh_flex.specs.Pages.{lent_ledger_law, lent_within_law, lent_few_law};
 
     fn grow(&mut self, _id: AreaId, pages: usize) -> Result<(), StoreFault> {
         if self.free_pages() < pages {
@@ -104,9 +104,9 @@ impl Pages for LentPagesMut<'_> {
         self.bytes.len() / PAGE - self.pages
     }
 
-    ghost ledger = { ledger_law };
+    ghost ledger = { lent_ledger_law };
 
-    ghost within = { within_law };
+    ghost within = { lent_within_law };
 
-    ghost few = { few_law };
+    ghost few = { lent_few_law };
 }

@@ -1,7 +1,7 @@
 //! Walks over the row of flex blocks of a slot in lent bytes.
 ghost use Rattle.std.specs.Prelude.{◌≡◌, ◌+◌, length, slice_get, OnSome, IfNone};
 ghost use Rattle.rh_defs.specs.Questions.{block_items};
-ghost use Rattle.rh_flex.specs.Slots.{IsSlotBytes, slot_in};
+ghost use Rattle.rh_flex.specs.Slots.{IsSlotBytes, lent_slot_in};
 ghost use Rattle.rh_slot.specs.Row.{WalksIn};
 
 use crate::pages::LentPages;
@@ -16,7 +16,7 @@ impl LentSlot {
     /// How many flex blocks the slot has.
     pub fn count(self, bytes: &[u8]) -> usize
         requires { IsSlotBytes bytes.now self }
-        ensures { result ≡ length (slot_in bytes.now self).blocks }
+        ensures { result ≡ length (lent_slot_in bytes.now self).blocks }
     {
         let LentSlot { pages, budge } = self;
         let store = LentPages { bytes, pages };
@@ -28,7 +28,7 @@ impl LentSlot {
     pub fn blocks(self, bytes: &[u8]) -> FlexWalk
         requires { IsSlotBytes bytes.now self }
         ensures passed { result.passed ≡ 0 }
-        ensures walk { WalksIn (slot_in bytes.now self) result }
+        ensures walk { WalksIn (lent_slot_in bytes.now self) result }
     {
         let LentSlot { pages, budge } = self;
         let store = LentPages { bytes, pages };
@@ -40,12 +40,12 @@ impl LentSlot {
     /// stays.
     pub fn next_block(self, bytes: &[u8], walk: &mut FlexWalk) -> Option<BlockItem>
         requires slot { IsSlotBytes bytes.now self }
-        requires walk { WalksIn (slot_in bytes.now self) walk.old }
-        ensures block { result ≡ slice_get (block_items (slot_in bytes.now self)) walk.old.passed }
-        ensures walk { WalksIn (slot_in bytes.now self) walk.new }
+        requires walk { WalksIn (lent_slot_in bytes.now self) walk.old }
+        ensures block { result ≡ slice_get (block_items (lent_slot_in bytes.now self)) walk.old.passed }
+        ensures walk { WalksIn (lent_slot_in bytes.now self) walk.new }
         ensures passed { OnSome result (walk.new.passed ≡ walk.old.passed + 1) }
         ensures stays { IfNone result (walk.new ≡ walk.old) }
-        ensures all { IfNone result (walk.new.passed ≡ length (slot_in bytes.now self).blocks) }
+        ensures all { IfNone result (walk.new.passed ≡ length (lent_slot_in bytes.now self).blocks) }
     {
         let LentSlot { pages, budge } = self;
         let store = LentPages { bytes, pages };
@@ -57,7 +57,7 @@ impl LentSlot {
     /// each.
     pub fn list(self, bytes: &[u8], items: &mut ArrayVec<BlockItem, ANCHORS>)
         requires { IsSlotBytes bytes.now self }
-        ensures { items.new.items ≡ block_items (slot_in bytes.now self) }
+        ensures { items.new.items ≡ block_items (lent_slot_in bytes.now self) }
     {
         let LentSlot { pages, budge } = self;
         let store = LentPages { bytes, pages };
@@ -68,7 +68,7 @@ impl LentSlot {
     /// Flex block `i` from below, from 0 on: its anchor, address and size in bytes.
     pub fn block(self, bytes: &[u8], i: usize) -> Option<BlockItem>
         requires { IsSlotBytes bytes.now self }
-        ensures { result ≡ slice_get (block_items (slot_in bytes.now self)) i }
+        ensures { result ≡ slice_get (block_items (lent_slot_in bytes.now self)) i }
     {
         let LentSlot { pages, budge } = self;
         let store = LentPages { bytes, pages };

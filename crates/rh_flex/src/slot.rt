@@ -4,7 +4,7 @@ ghost use Rattle.std.specs.Prelude.{◌≡◌, ◌/◌, ◌≤◌, List, ℕ, le
 ghost use Rattle.rh_defs.specs.Chain.{no_answer, outcome_of};
 ghost use Rattle.rh_defs.specs.Slot.{holds, new_slot, slot_begin, slot_set_budge};
 ghost use Rattle.rh_defs.specs.declared.sizes.TheConstants.{PAGE};
-ghost use Rattle.rh_flex.specs.Slots.{IsSlotBytes, LeavesSlot, slot_in};
+ghost use Rattle.rh_flex.specs.Slots.{IsSlotBytes, LeavesSlot, lent_slot_in};
 ghost use Rattle.rh_flex.specs.Write.{slot_write};
 ghost use Rattle.rh_store.specs.Limits.{area_limit};
 
@@ -42,7 +42,7 @@ impl LentSlot {
     pub fn start(bytes: &mut [u8]) -> Result<LentSlot, Refusal>
         requires { length bytes.old ≤ area_limit }
         ensures answer { outcome_of result ≡ outcome_of (slot_begin (length bytes.old / PAGE)) }
-        ensures slot { IfOk result (λ slot. slot_in bytes.new slot ≡ new_slot) }
+        ensures slot { IfOk result (λ slot. lent_slot_in bytes.new slot ≡ new_slot) }
         ensures spells { IfOk result (λ slot. IsSlotBytes bytes.new slot) }
         ensures budge { IfOk result (λ slot. slot.budge ≡ true) }
         ensures err { OnErr result (bytes.new ≡ bytes.old) }
@@ -62,7 +62,8 @@ impl LentSlot {
         ensures slot { self.new ≡ record { pages = self.old.pages; budge = on } }
         ensures answer { result ≡ self.old.budge }
         ensures still { (b : List ℕ) → IsSlotBytes b self.old → IsSlotBytes b self.new }
-        ensures spelled { (b : List ℕ) → (slot_in b self.new, result) ≡ slot_set_budge on (slot_in b self.old) }
+        ensures spelled { (b : List ℕ) → (lent_slot_in b self.new, result) ≡ slot_set_budge on
+            (lent_slot_in b self.old) }
     {
         let was = self.budge;
         self.budge = on;
@@ -73,7 +74,7 @@ impl LentSlot {
     /// any `n` may be asked for.
     pub fn inside(self, bytes: &[u8], address: usize, n: usize) -> bool
         requires { IsSlotBytes bytes.now self }
-        ensures { result ≡ holds address n (slot_in bytes.now self) }
+        ensures { result ≡ holds address n (lent_slot_in bytes.now self) }
     {
         let LentSlot { pages, budge } = self;
         let store = LentPages { bytes, pages };
@@ -85,7 +86,7 @@ impl LentSlot {
     pub fn write(&mut self, bytes: &mut [u8], address: usize, from: &[u8]) -> Result<(), Refusal>
         requires { IsSlotBytes bytes.old self.old }
         ensures { LeavesSlot bytes.old bytes.new self.old self.new
-            (no_answer (slot_write address from.now (slot_in bytes.old self.old))) result }
+            (no_answer (slot_write address from.now (lent_slot_in bytes.old self.old))) result }
     {
         let LentSlot { pages, budge } = *self;
         let mut store = LentPagesMut { bytes, pages };

@@ -1,7 +1,7 @@
 -- Blocks of zeros and of old bytes.
 use Rattle.rh_heap.proofs.Common.{◌≡◌, ℕ, ◌+◌, ◌-◌, ◌≤◌, List, ◌++◌, length, replicate, sym, ap, subst, ◌∙◌, arith, length-replicate, part, SameOutside}
 use Rattle.rh_heap.proofs.Common.{Memory, part_more, length-part, zeros}
-use Rattle.rh_defs.specs.Bytes.{put}
+use Rattle.rh_defs.specs.Bytes.{with_part}
 use Rattle.rh_defs.specs.Memory.{Edited, bytes, with_bytes}
 use Rattle.rh_defs.proofs.BytesLaws.{part-put, put_outside}
 use Rattle.rh_defs.proofs.MemoryLaws.{bytes-with_bytes, Edited-with_bytes}
@@ -27,15 +27,15 @@ longer_part b b1 c at place size t l g o1 o2 z =
     e1 ∙ part_more c p n (t - size) ∙ ap (λ l. l ++ part c (p + n) (t - size)) e2 ∙ ap (λ l. part b p n ++ l) e3
 
 -- bytes that slid to another place
-pub slid_bytes : (m n : Memory) (id from to k : ℕ) → n ≡ with_bytes m id (put (bytes m id) to (part (bytes m id) from k)) → to + k ≤ length (bytes m id)
+pub slid_bytes : (m n : Memory) (id from to k : ℕ) → n ≡ with_bytes m id (with_part (bytes m id) to (part (bytes m id) from k)) → to + k ≤ length (bytes m id)
     → part (bytes n id) to k ≡ part (bytes m id) from k
 slid_bytes m n id from to k e h =
-    let new = put (bytes m id) to (part (bytes m id) from k) in
+    let new = with_part (bytes m id) to (part (bytes m id) from k) in
     ap (λ (r : Memory). part (bytes r id) to k) e ∙ ap (λ b. part b to k) (bytes-with_bytes m id new)
     ∙ part-put (bytes m id) to (part (bytes m id) from k) k (sym (length-part (bytes m id) from k)) h
 
-pub slid_only : (m n : Memory) (id from to k : ℕ) → n ≡ with_bytes m id (put (bytes m id) to (part (bytes m id) from k)) → Edited m n id to (to + k)
+pub slid_only : (m n : Memory) (id from to k : ℕ) → n ≡ with_bytes m id (with_part (bytes m id) to (part (bytes m id) from k)) → Edited m n id to (to + k)
 slid_only m n id from to k e =
     let xs = part (bytes m id) from k in
-    subst (λ (r : Memory). Edited m r id to (to + k)) (sym e) (Edited-with_bytes m id to (to + k) (put (bytes m id) to xs)
+    subst (λ (r : Memory). Edited m r id to (to + k)) (sym e) (Edited-with_bytes m id to (to + k) (with_part (bytes m id) to xs)
     (put_outside (bytes m id) to xs (to + k) (omega (arith, length-part (bytes m id) from k))))

@@ -1,11 +1,12 @@
 -- What a resize answers.
 use Rattle.rh_heap.proofs.Common.{◌≡◌, ℕ, ◌+◌, ◌-◌, ◌<◌, ◌≤◌, ◌≢◌, eqb, refl, sym, ap, subst, ◌∙◌, arith, Some, None, Result, Ok, Err, ℤ, MatchResult, Memory}
 use Rattle.rh_heap.proofs.Common.{Split, moved, Segment, Heap, Placed, way_to, resized_by, fitted, segment_size, shortage_in, hole_for, block_at, HeapRefusal}
-use Rattle.rh_heap.proofs.Common.{cond_true, cond_false, eqb_same, eqb_apart, IsSpan, SpellsIn, heap_in, FoundBlock, WayIs, WithBlock, resized_in, Span, Spot}
-use Rattle.rh_defs.specs.Heap.{new_size, resize_need, resized, resize, resize_found, need_at, need_found, as_granted}
+use Rattle.rh_heap.proofs.Common.{cond_true, cond_false, eqb_same, eqb_apart, IsSpan, SpellsHeapIn, heap_in, FoundBlock, WayIs, WithBlock, resized_in, Span}
+use Rattle.rh_heap.proofs.Common.{Spot}
+use Rattle.rh_defs.specs.Heap.{new_size, resize_need, resized, resize_block, resize_found, need_at, need_found, as_granted}
 use Rattle.rh_defs.specs.Heap as heap
 use Rattle.rh_defs.specs.declared.heap.HeapRefusal.TheVariants.{NotABlock, BadSize, NoRoom}
-use Rattle.rh_heap.specs.Calls.{Leaves}
+use Rattle.rh_heap.specs.Calls.{LeavesHeap}
 use Rattle.rh_heap.specs.Spans.{OnlySpan}
 use Rattle.rh_heap.specs.Ways.{WayOf, SpellsResized, short_by, ShortBy, Changed, NotChanged, Moved}
 use Rattle.rh_heap.specs.declared.span.resize.Way.TheVariants as way
@@ -24,7 +25,7 @@ module _ (m n : Memory) (span : Span) (spot : Spot) (t : ℕ) (f : FoundBlock sp
   changed : (address : ℕ) → short_by t here h ≡ 0 → address ≡ (resized_in t here h).address → SpellsResized m n span t spot
       → WithBlock spot h (Changed m n span t address)
   changed address room e k = at_cut span.at h spot f (Changed m n span t address)
-      (record { room = room; address_is = e; spells = from_cut span.at h spot f (λ s. SpellsIn n span (resized_in t s h).heap) k })
+      (record { room = room; address_is = e; spells = from_cut span.at h spot f (λ s. SpellsHeapIn n span (resized_in t s h).heap) k })
 
   pub changed_shrinks : WayOf t spot h way.Shrinks → SpellsResized m n span t spot → WithBlock spot h (Changed m n span t (spot.place + 4))
   changed_shrinks w k = changed (spot.place + 4) (short_shrinks span.at h spot f t w)
@@ -47,7 +48,7 @@ module _ (m n : Memory) (span : Span) (spot : Spot) (t : ℕ) (f : FoundBlock sp
       at_cut span.at h spot f (Changed m n span t address) (record {
         room = short_moves span.at h spot f t w ∙ v.room;
         address_is = v.address_is ∙ sym (ap (λ (p : Placed). p.address) r);
-        spells = subst (λ (p : Placed). SpellsIn n span p.heap) (sym r) v.spells;
+        spells = subst (λ (p : Placed). SpellsHeapIn n span p.heap) (sym r) v.spells;
       })
 
   pub not_changed_top : (end : ℕ) → end ≡ h.end → end < spot.place + t → n ≡ m → WayOf t spot h way.AtTop → WithBlock spot h (NotChanged m n span t NoRoom)
@@ -59,7 +60,7 @@ module _ (m n : Memory) (span : Span) (spot : Spot) (t : ℕ) (f : FoundBlock sp
       (record { no_room = λ z. short (sym (short_moves span.at h spot f t w) ∙ z); refusal_is = refl; same = same })
 
 pub changed_stays : (m : Memory) (span : Span) (spot : Spot) (t : ℕ) → (f : FoundBlock span.at (heap_in m span) (spot.place + 4) spot)
-    → SpellsIn m span (heap_in m span) → WayOf t spot (heap_in m span) way.Stays → WithBlock spot (heap_in m span) (Changed m m span t (spot.place + 4))
+    → SpellsHeapIn m span (heap_in m span) → WayOf t spot (heap_in m span) way.Stays → WithBlock spot (heap_in m span) (Changed m m span t (spot.place + 4))
 changed_stays m span spot t f s w =
     let h = heap_in m span in
     let here = cut_of span.at h spot f in
@@ -67,7 +68,7 @@ changed_stays m span spot t f s w =
     at_cut span.at h spot f (Changed m m span t (spot.place + 4)) (record {
       room = short_stays span.at h spot f t w;
       address_is = address_stays span.at h spot f t (way_to t here h) k;
-      spells = subst (λ (v : heap.Way). SpellsIn m span (resized_by v (fitted (t - 4) f.bytes) here h).heap) (sym (same_way (way_to t here h) k)) s;
+      spells = subst (λ (v : heap.Way). SpellsHeapIn m span (resized_by v (fitted (t - 4) f.bytes) here h).heap) (sym (same_way (way_to t here h) k)) s;
     })
 
 -- ---- the shortage
@@ -111,7 +112,7 @@ module _ (delta : ℤ) (s : Split Segment) (h : Heap) (n : ℕ) (en : n ≡ new_
   need_some : n ≢ 0 → need_found delta (Some s) h ≡ Ok (short_by (segment_size n) s h)
   need_some nz = cond_false (eqb (new_size delta s) 0) _ _ (eqb_apart (new_size delta s) 0 (λ z. nz (en ∙ z))) ∙ ap (λ i. Ok (resize_need i s h)) (sym en)
 
-pub no_block_resize : (address : ℕ) (delta : ℤ) (h : Heap) → block_at address h ≡ None → resize address delta h ≡ Err NotABlock
+pub no_block_resize : (address : ℕ) (delta : ℤ) (h : Heap) → block_at address h ≡ None → resize_block address delta h ≡ Err NotABlock
 no_block_resize address delta h e = ap (λ o. resize_found delta o h) e
 
 pub no_block_need : (address : ℕ) (delta : ℤ) (h : Heap) → block_at address h ≡ None → need_at address delta h ≡ Err NotABlock
@@ -127,7 +128,7 @@ module _ (at : ℕ) (h : Heap) (address : ℕ) (spot : Spot) (f : FoundBlock at 
   size_s : n ≡ new_size delta s
   size_s = let z = (at_place f).size_is in en ∙ ap (λ i. moved i delta) (omega arith)
 
-  pub resize_zero : n ≡ 0 → resize address delta h ≡ Err BadSize
+  pub resize_zero : n ≡ 0 → resize_block address delta h ≡ Err BadSize
   resize_zero z = ap (λ o. resize_found delta o h) found_s ∙ found_zero delta s h n size_s z
 
   pub need_is_zero : n ≡ 0 → need_at address delta h ≡ Err BadSize
@@ -138,12 +139,12 @@ module _ (at : ℕ) (h : Heap) (address : ℕ) (spot : Spot) (f : FoundBlock at 
       ap Ok (from_cut at h spot (at_place f) (ShortBy h t k) w ∙ ap (λ i. short_by i s h) et)
       ∙ sym (ap (λ o. need_found delta o h) found_s ∙ need_some delta s h n size_s nz)
 
-  pub resize_done : (t : ℕ) → n ≢ 0 → t ≡ segment_size n → short_by t s h ≡ 0 → resize address delta h ≡ Ok (as_granted (resized_in t s h))
+  pub resize_done : (t : ℕ) → n ≢ 0 → t ≡ segment_size n → short_by t s h ≡ 0 → resize_block address delta h ≡ Ok (as_granted (resized_in t s h))
   resize_done t nz et e =
       ap (λ o. resize_found delta o h) found_s ∙ found_done delta s h n size_s nz (ap (λ i. short_by i s h) (sym et) ∙ e)
       ∙ ap (λ i. Ok (as_granted (resized_in i s h))) (sym et)
 
-  pub resize_full : (t : ℕ) → n ≢ 0 → t ≡ segment_size n → short_by t s h ≢ 0 → resize address delta h ≡ Err NoRoom
+  pub resize_full : (t : ℕ) → n ≢ 0 → t ≡ segment_size n → short_by t s h ≢ 0 → resize_block address delta h ≡ Err NoRoom
   resize_full t nz et e = ap (λ o. resize_found delta o h) found_s ∙ found_full delta s h n size_s nz (λ z. e (ap (λ i. short_by i s h) et ∙ z))
 
 module _ (m k : Memory) (span : Span) (address : ℕ) (spot : Spot) (f : FoundBlock span.at (heap_in m span) address spot) (delta : ℤ) (n : ℕ)
@@ -153,15 +154,15 @@ module _ (m k : Memory) (span : Span) (address : ℕ) (spot : Spot) (f : FoundBl
   pub answered : (r : Result ℕ HeapRefusal)
       → MatchResult r (λ a. WithBlock spot (heap_in m span) (Changed m k span t a))
       (λ refusal. WithBlock spot (heap_in m span) (NotChanged m k span t refusal))
-      → Leaves m k span (resize address delta (heap_in m span)) r
+      → LeavesHeap m k span (resize_block address delta (heap_in m span)) r
   answered (Ok a) w =
       let h = heap_in m span in
       let v = from_cut span.at h spot (at_place f) (Changed m k span t a) w in
       let g = resized_in t (cut_of span.at h spot (at_place f)) h in
-      leaves m k span (resize address delta h) g.heap a (resize_done span.at h address spot f delta n en t nz et v.room
+      leaves m k span (resize_block address delta h) g.heap a (resize_done span.at h address spot f delta n en t nz et v.room
       ∙ ap (λ i. Ok (g.heap, i)) (sym v.address_is)) v.spells only
   answered (Err refusal) w =
       let h = heap_in m span in
       let v = from_cut span.at h spot (at_place f) (NotChanged m k span t refusal) w in
-      refuses m k span (resize address delta h) refusal (resize_full span.at h address spot f delta n en t nz et v.no_room ∙ ap Err (sym v.refusal_is))
+      refuses m k span (resize_block address delta h) refusal (resize_full span.at h address spot f delta n en t nz et v.no_room ∙ ap Err (sym v.refusal_is))
       v.same s0

@@ -1,11 +1,11 @@
 -- The walk over holes, and what a claim makes of a heap.
 use Rattle.rh_heap.proofs.Common.{◌≡◌, ℕ, ◌+◌, ◌-◌, ◌%◌, ◌<◌, ◌≤◌, ◌≢◌, inl, inr, false, eqb, List, [], ◌∷◌, ◌++◌, length, refl, sym, ap, subst, ◌∙◌}
 use Rattle.rh_heap.proofs.Common.{append_assoc, arith, append-nil, None, Ok, Err, word, part, SameOutside, total, NonePass, Segment, Used, Hole, Heap, Placed}
-use Rattle.rh_heap.proofs.Common.{IsTidy, size_of, base, hole_for, placed, with_hole, shortage_in, segment_size, zeros, Stand, Spells, HasRoom-from_tidy}
+use Rattle.rh_heap.proofs.Common.{IsTidy, size_of, base, hole_for, placed_block, with_hole, shortage_in, segment_size, zeros, Stand, Spells, HasRoom-from_tidy}
 use Rattle.rh_heap.proofs.Common.{HasRoom-append, total-append, tidy_before, tidy_behind_hole, tidy_after, NonePass-append, first_at-none, first_at-found}
 use Rattle.rh_heap.proofs.Common.{cond_true, cond_false, eqb_same, eqb_apart, leb_no, last_link-append, last_link-none, Stand-split, HasNone, opened}
 use Rattle.rh_heap.proofs.Common.{StretchBetween, IsStretch, Settles, FoundHole, Gap, HasRoom, last_link, LinksTo}
-use Rattle.rh_defs.specs.Heap.{is_hole_for, placed_in, block_room, need, claim, claim_need, as_granted}
+use Rattle.rh_defs.specs.Heap.{is_hole_for, placed_in, block_room, need, claim_block, claim_need, as_granted}
 use Rattle.rh_defs.specs.declared.heap.HeapRefusal.TheVariants.{BadSize, NoRoom}
 use Rattle.rh_defs.proofs.HeapLists.{tidy_join, leb_yes}
 use Rattle.rh_defs.proofs.HeapLaws.{last_link_range, NextHole, next_hole}
@@ -132,13 +132,13 @@ walk_turn b at h t from place s w k =
 
 -- ---- a block in a hole
 module _ (at : ℕ) (h : Heap) (t : ℕ) (gap : Gap) (f : FoundHole at h t gap) (bs : List ℕ) (et : t ≡ 4 + length bs) where
-  pub placed_found : placed bs h ≡ record {
+  pub placed_found : placed_block bs h ≡ record {
     heap = record { segments = f.before ++ Used bs ∷ with_hole (gap.size - (4 + length bs)) f.after; end = h.end };
     address = 16 + total size_of f.before + 4;
   }
   placed_found = ap (λ n. placed_in bs h (hole_for n h.segments)) (sym et) ∙ ap (placed_in bs h) f.found
 
-  pub placed_there : gap.place + 4 ≡ (placed bs h).address
+  pub placed_there : gap.place + 4 ≡ (placed_block bs h).address
   placed_there = ap (λ n. n + 4) f.place_is ∙ sym (ap (λ (p : Placed). p.address) placed_found)
 
   pub fill_between : (b c : List ℕ) (next : ℕ) → Spells b at h → LinksTo b at (at + gap.place) next → SameOutside b c (at + gap.place) (at + gap.place + t)
@@ -176,7 +176,7 @@ module _ (at : ℕ) (h : Heap) (t : ℕ) (gap : Gap) (f : FoundHole at h t gap) 
 
   pub fill_spells : (b c d : List ℕ) (next : ℕ) → Spells b at h → LinksTo b at (at + gap.place) next → SameOutside b c (at + gap.place) (at + gap.place + t)
       → word c (at + gap.place) ≡ t → part c (at + gap.place + 4) (length bs) ≡ bs → t % 8 ≡ 0
-      → Settles c d at (record { link = gap.from; low = gap.place + t; next = next; upper = gap.place + gap.size }) → Spells d at (placed bs h).heap
+      → Settles c d at (record { link = gap.from; low = gap.place + t; next = next; upper = gap.place + gap.size }) → Spells d at (placed_block bs h).heap
   fill_spells b c d next s k o sized block mult settles =
       let flat : (f.before ++ Used bs ∷ []) ++ with_hole (gap.place + gap.size - (gap.place + t)) f.after ≡ f.before ++ Used bs ∷ with_hole
       (gap.size - (4 + length bs)) f.after =
@@ -188,15 +188,15 @@ module _ (at : ℕ) (h : Heap) (t : ℕ) (gap : Gap) (f : FoundHole at h t gap) 
 
 -- ---- a block at the top
 module _ (at : ℕ) (h : Heap) (t : ℕ) (none : hole_for t h.segments ≡ None) (bs : List ℕ) (et : t ≡ 4 + length bs) where
-  pub placed_none : placed bs h ≡ record { heap = record { segments = h.segments ++ Used bs ∷ []; end = h.end }; address = base h + 4 }
+  pub placed_none : placed_block bs h ≡ record { heap = record { segments = h.segments ++ Used bs ∷ []; end = h.end }; address = base h + 4 }
   placed_none = ap (λ n. placed_in bs h (hole_for n h.segments)) (sym et) ∙ ap (placed_in bs h) none
 
-  pub placed_top : (place : ℕ) → place ≡ base h → place + 4 ≡ (placed bs h).address
+  pub placed_top : (place : ℕ) → place ≡ base h → place + 4 ≡ (placed_block bs h).address
   placed_top place e = ap (λ n. n + 4) e ∙ sym (ap (λ (p : Placed). p.address) placed_none)
 
   pub append_spells : (b c d : List ℕ) (place : ℕ) → Spells b at h → place ≡ base h → place + t ≤ h.end → SameOutside b c (at + place) (at + place + t)
       → word c (at + place) ≡ t → part c (at + place + 4) (length bs) ≡ bs → SameOutside c d (at + 8) (at + 8 + 4) → word d (at + 8) ≡ place + t → t % 8 ≡ 0
-      → Spells d at (placed bs h).heap
+      → Spells d at (placed_block bs h).heap
   append_spells b c d place s e fit o1 sized block o2 based mult =
       let q = last_link (at + 4) (at + 16) h.segments in
       let is : h.segments ≡ h.segments ++ ([] ++ []) = sym (append-nil h.segments) in
@@ -218,13 +218,13 @@ pub no_top_shortage : (t : ℕ) (h : Heap) (top : ℕ) → hole_for t h.segments
 no_top_shortage t h top e b r = top_shortage t h e ∙ omega arith
 
 module _ (n : ℕ) (h : Heap) where
-  pub claim_zero : n ≡ 0 → claim n h ≡ Err BadSize
+  pub claim_zero : n ≡ 0 → claim_block n h ≡ Err BadSize
   claim_zero e = cond_true (eqb n 0) _ _ (eqb_same n 0 e)
 
-  pub claim_done : n ≢ 0 → need n h ≡ 0 → claim n h ≡ Ok (as_granted (placed (zeros (block_room n)) h))
+  pub claim_done : n ≢ 0 → need n h ≡ 0 → claim_block n h ≡ Ok (as_granted (placed_block (zeros (block_room n)) h))
   claim_done ne e = cond_false (eqb n 0) _ _ (eqb_apart n 0 ne) ∙ cond_true (eqb (need n h) 0) _ _ (eqb_same (need n h) 0 e)
 
-  pub claim_full : n ≢ 0 → need n h ≢ 0 → claim n h ≡ Err NoRoom
+  pub claim_full : n ≢ 0 → need n h ≢ 0 → claim_block n h ≡ Err NoRoom
   claim_full ne e = cond_false (eqb n 0) _ _ (eqb_apart n 0 ne) ∙ cond_false (eqb (need n h) 0) _ _ (eqb_apart (need n h) 0 e)
 
   pub claim_need_zero : n ≡ 0 → claim_need n h ≡ Err BadSize
@@ -235,11 +235,11 @@ module _ (n : ℕ) (h : Heap) where
 
 -- what a block that was put there answers
 pub claim_answered : (n : ℕ) (h : Heap) (t address : ℕ) → n ≢ 0 → t ≡ segment_size n → shortage_in t h (hole_for t h.segments) ≡ 0
-    → address ≡ (placed (zeros (t - 4)) h).address → claim n h ≡ Ok ((placed (zeros (t - 4)) h).heap, address)
+    → address ≡ (placed_block (zeros (t - 4)) h).address → claim_block n h ≡ Ok ((placed_block (zeros (t - 4)) h).heap, address)
 claim_answered n h t address ne et e a =
     let none : need n h ≡ 0 = subst (λ i. shortage_in i h (hole_for i h.segments) ≡ 0) et e in
-    let same : placed (zeros (block_room n)) h ≡ placed (zeros (t - 4)) h = ap (λ i. placed (zeros (i - 4)) h) (sym et) in
-    claim_done n h ne none ∙ ap (λ p. Ok (as_granted p)) same ∙ ap (λ i. Ok ((placed (zeros (t - 4)) h).heap, i)) (sym a)
+    let same : placed_block (zeros (block_room n)) h ≡ placed_block (zeros (t - 4)) h = ap (λ i. placed_block (zeros (i - 4)) h) (sym et) in
+    claim_done n h ne none ∙ ap (λ p. Ok (as_granted p)) same ∙ ap (λ i. Ok ((placed_block (zeros (t - 4)) h).heap, i)) (sym a)
 
-pub claim_refused : (n : ℕ) (h : Heap) (t : ℕ) → n ≢ 0 → t ≡ segment_size n → shortage_in t h (hole_for t h.segments) ≢ 0 → claim n h ≡ Err NoRoom
+pub claim_refused : (n : ℕ) (h : Heap) (t : ℕ) → n ≢ 0 → t ≡ segment_size n → shortage_in t h (hole_for t h.segments) ≢ 0 → claim_block n h ≡ Err NoRoom
 claim_refused n h t ne et e = claim_full n h ne (λ z. e (subst (λ i. shortage_in i h (hole_for i h.segments) ≡ 0) (sym et) z))

@@ -18,7 +18,8 @@ pub use Rattle.rh_defs.proofs.HeapStretch.{HasStretch-kept, closed, link_place, 
 pub use Rattle.rh_defs.proofs.MemoryLaws.{Edited-both, Edited-wider}
 pub use Rattle.rh_defs.specs.Bytes.{SameOutside, part, word}
 pub use Rattle.rh_defs.specs.Chain.{left_of, no_answer}
-pub use Rattle.rh_defs.specs.Heap.{Heap, Hole, IsTidy, Placed, Segment, Used, base, block_at, bytes_of, fitted, hole_for, is_block_at, placed, release}
+pub use Rattle.rh_defs.specs.Heap.{Heap, Hole, IsTidy, Placed, Segment, Used, base, block_at, bytes_of, fitted, hole_for, is_block_at, placed_block}
+pub use Rattle.rh_defs.specs.Heap.{release_block}
 pub use Rattle.rh_defs.specs.Heap.{released_at, resized_by, segment_at, segment_size, shortage_in, size_of, way_to, with_hole}
 pub use Rattle.rh_defs.specs.HeapImage.{Spells, Stand}
 pub use Rattle.rh_defs.specs.HeapParts.{Await, HasRoom, HasStretch, LinksTo, last_link}
@@ -30,8 +31,8 @@ pub use Rattle.rh_store.specs.Starts.{IsIndex, bit, hole_at, once, used_at}
 pub use Rattle.rh_store.specs.declared.starts.TheConstants.{BITS, HOLES, USED}
 pub use Rattle.rh_heap.specs.Holes.{FoundHole}
 pub use Rattle.rh_heap.specs.Image.{listed}
-pub use Rattle.rh_heap.specs.Segments.{Found, FoundBlock, GapIs, HereIs, Reached, a_gap, hole_here, no_gap, used_here}
-pub use Rattle.rh_heap.specs.Spans.{IsSpan, SpellsIn, bytes_in, heap_in}
+pub use Rattle.rh_heap.specs.Segments.{FoundSegment, FoundBlock, GapIs, HereIs, Reached, a_gap, hole_here, no_gap, used_here}
+pub use Rattle.rh_heap.specs.Spans.{IsSpan, SpellsHeapIn, bytes_in, heap_in}
 pub use Rattle.rh_heap.specs.Starts.{Became, LastBit}
 pub use Rattle.rh_heap.specs.Stretches.{IsStretch, Settles, StretchBetween}
 pub use Rattle.rh_heap.specs.Ways.{WayIs, WithBlock, into_hole, resized_in}

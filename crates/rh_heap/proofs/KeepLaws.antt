@@ -1,7 +1,8 @@
 -- What keeps a map the map of its heap.
 use Rattle.rh_heap.proofs.Common.{◌≡◌, ◌≢◌, ℕ, ◌+◌, ◌-◌, ◌*◌, ◌/◌, ◌%◌, ◌<◌, ◌≤◌, inl, inr, true, false, List, [], ◌∷◌, ◌++◌, length, refl, sym, ap, subst}
 use Rattle.rh_heap.proofs.Common.{◌∙◌, append_assoc, arith, None, cases_eq, cases_lt, total, Segment, Used, Hole, Heap, Placed, IsTidy, size_of, base}
-use Rattle.rh_heap.proofs.Common.{with_hole, release, placed, hole_for, fitted, way_to, resized_by, Spells, HasRoom, HasRoom-from_tidy, HasRoom-append}
+use Rattle.rh_heap.proofs.Common.{with_hole, release_block, placed_block, hole_for, fitted, way_to, resized_by, Spells, HasRoom, HasRoom-from_tidy}
+use Rattle.rh_heap.proofs.Common.{HasRoom-append}
 use Rattle.rh_heap.proofs.Common.{total-append, tidy_behind_used, tidy_behind_hole, GapIs, no_gap, a_gap, FoundBlock, FoundHole, WayIs, WithBlock, resized_in}
 use Rattle.rh_heap.proofs.Common.{bit, once, used_at, hole_at, IsIndex, Became, Spot, Gap, USED, HOLES}
 use Rattle.rh_defs.specs.Heap as heap
@@ -113,7 +114,7 @@ module _ (at : ℕ) (h : Heap) (address : ℕ) (spot : Spot) (t : IsTidy false h
 
   pub release_index : (old mid new : List ℕ) (base' : ℕ) → IsIndex old h → Became USED (spot.place / 8) 0 old mid
       → Settled mid new spot.low (spot.place + spot.size) base' → length new ≡ length old
-      → base' ≡ base (release address h) → IsIndex new (release address h)
+      → base' ≡ base (release_block address h) → IsIndex new (release_block address h)
   release_index old mid new base' i b n el eb =
       let r = f.reached in
       let bs = f.bytes in
@@ -144,9 +145,9 @@ module _ (at : ℕ) (h : Heap) (address : ℕ) (spot : Spot) (t : IsTidy false h
       ∙ ap (λ n. hole_at p 16 r.front + n) (gap_holes p spot.low spot.place spot.link spot.from r.gap bs f.after r.gap_is off
       ∙ ap (λ q. hole_at p q f.after) upper_is) in
       let long = i.long in
-      settled mid new (release address h) r.front f.after spot.low upper base' (ap (λ (k : Heap). k.segments) done) low (omega arith)
+      settled mid new (release_block address h) r.front f.after spot.low upper base' (ap (λ (k : Heap). k.segments) done) low (omega arith)
       (λ z. absurd (omega arith)) room (HasRoom-from_tidy false f.after behind.1) eb
-      (let en : (release address h).end ≡ h.end = ap (λ (k : Heap). k.end) done in let half = ap (λ x. 512 * (x / 2)) el in omega arith)
+      (let en : (release_block address h).end ≡ h.end = ap (λ (k : Heap). k.end) done in let half = ap (λ x. 512 * (x / 2)) el in omega arith)
       (record {
         used = λ j. elim (cases_eq j (spot.place / 8)) [
           | inl same ↦
@@ -167,7 +168,7 @@ hole_even at h t gap f tidy =
 module _ (at : ℕ) (h : Heap) (t : ℕ) (gap : Gap) (f : FoundHole at h t gap) (bs : List ℕ) (et : t ≡ 4 + length bs) (tidy : IsTidy false h.segments) where
   pub fill_index : (old one mid new : List ℕ) (base' : ℕ) → IsIndex old h → Became USED (gap.place / 8) 1 old one → Became HOLES (gap.place / 8) 0 one mid
       → Settled mid new (gap.place + t) (gap.place + gap.size) base'
-      → length new ≡ length old → base' ≡ base (placed bs h).heap → IsIndex new (placed bs h).heap
+      → length new ≡ length old → base' ≡ base (placed_block bs h).heap → IsIndex new (placed_block bs h).heap
   fill_index old one mid new base' i b c n el eb =
       let place = f.place_is in
       let fits = f.fits in
@@ -181,7 +182,7 @@ module _ (at : ℕ) (h : Heap) (t : ℕ) (gap : Gap) (f : FoundHole at h t gap) 
       let big = rooms.1.0 in
       let even = hole_even at h t gap f tidy in
       let done = placed_found at h t gap f bs et in
-      let segments_are : (placed bs h).heap.segments ≡ front ++ with_hole (upper - low) f.after =
+      let segments_are : (placed_block bs h).heap.segments ≡ front ++ with_hole (upper - low) f.after =
       ap (λ (p : Placed). p.heap.segments) done
       ∙ ap (λ n. f.before ++ Used bs ∷ with_hole n f.after) (let e : gap.size - (4 + length bs) ≡ upper - low = omega arith in e)
       ∙ sym (append_assoc f.before (Used bs ∷ []) (with_hole (upper - low) f.after)) in
@@ -196,9 +197,9 @@ module _ (at : ℕ) (h : Heap) (t : ℕ) (gap : Gap) (f : FoundHole at h t gap) 
       λ p. used_at-append p 16 f.before (Used bs ∷ []) ∙ omega (arith, ap (once p) place) in
       let front_hole : (p : ℕ) → hole_at p 16 front ≡ hole_at p 16 f.before = λ p. omega (arith, hole_at-append p 16 f.before (Used bs ∷ [])) in
       let long = i.long in
-      settled mid new (placed bs h).heap front f.after low upper base' segments_are (omega arith) (omega arith) (λ z. behind.1)
+      settled mid new (placed_block bs h).heap front f.after low upper base' segments_are (omega arith) (omega arith) (λ z. behind.1)
       (HasRoom-join f.before (Used bs ∷ []) rooms.0 tt) rooms.1.1 eb
-      (let en : (placed bs h).heap.end ≡ h.end = ap (λ (p : Placed). p.heap.end) done in let half = ap (λ x. 512 * (x / 2)) el in omega arith)
+      (let en : (placed_block bs h).heap.end ≡ h.end = ap (λ (p : Placed). p.heap.end) done in let half = ap (λ x. 512 * (x / 2)) el in omega arith)
       (record {
         used = λ j. c.other USED j (omega arith) (omega arith) ∙ elim (cases_eq j (gap.place / 8)) [
           | inl same ↦
@@ -235,18 +236,18 @@ module _ (at : ℕ) (h : Heap) (t : ℕ) (none : hole_for t h.segments ≡ None)
   pub base_even : base h % 8 ≡ 0
   base_even = omega (arith, units-total h.segments (units_of false h.segments tidy))
 
-  pub append_index : (old new : List ℕ) → IsIndex old h → Became USED (base h / 8) 1 old new → length new ≡ length old → IsIndex new (placed bs h).heap
+  pub append_index : (old new : List ℕ) → IsIndex old h → Became USED (base h / 8) 1 old new → length new ≡ length old → IsIndex new (placed_block bs h).heap
   append_index old new i b el =
       let done = placed_none at h t none bs et in
-      let e : (placed bs h).heap.segments ≡ h.segments ++ Used bs ∷ [] = ap (λ (p : Placed). p.heap.segments) done in
+      let e : (placed_block bs h).heap.segments ≡ h.segments ++ Used bs ∷ [] = ap (λ (p : Placed). p.heap.segments) done in
       let even = base_even in
-      let used_is : (p : ℕ) → used_at p 16 (placed bs h).heap.segments ≡ used_at p 16 h.segments + once p (base h) =
+      let used_is : (p : ℕ) → used_at p 16 (placed_block bs h).heap.segments ≡ used_at p 16 h.segments + once p (base h) =
       λ p. ap (used_at p 16) e ∙ used_at-append p 16 h.segments (Used bs ∷ []) ∙ omega arith in
-      let hole_is : (p : ℕ) → hole_at p 16 (placed bs h).heap.segments ≡ hole_at p 16 h.segments =
+      let hole_is : (p : ℕ) → hole_at p 16 (placed_block bs h).heap.segments ≡ hole_at p 16 h.segments =
       λ p. ap (hole_at p 16) e ∙ hole_at-append p 16 h.segments (Used bs ∷ []) ∙ omega arith in
       let long = i.long in
       record {
-        long = (let en : (placed bs h).heap.end ≡ h.end = ap (λ (p : Placed). p.heap.end) done in let half = ap (λ x. 512 * (x / 2)) el in omega arith);
+        long = (let en : (placed_block bs h).heap.end ≡ h.end = ap (λ (p : Placed). p.heap.end) done in let half = ap (λ x. 512 * (x / 2)) el in omega arith);
         used = λ j. elim (cases_eq j (base h / 8)) [
           | inl same ↦
               let p : 8 * j ≡ base h = omega arith in
@@ -394,8 +395,8 @@ module _ (b : List ℕ) (at : ℕ) (h : Heap) (spot : Spot) (s : Spells b at h) 
       })
 
 -- ---- a block's bytes don't matter
-pub other_bytes : (starts : List ℕ) (h : Heap) (t : ℕ) (bs cs : List ℕ) → t ≡ 4 + length bs → t ≡ 4 + length cs → IsIndex starts (placed bs h).heap
-    → IsIndex starts (placed cs h).heap
+pub other_bytes : (starts : List ℕ) (h : Heap) (t : ℕ) (bs cs : List ℕ) → t ≡ 4 + length bs → t ≡ 4 + length cs → IsIndex starts (placed_block bs h).heap
+    → IsIndex starts (placed_block cs h).heap
 other_bytes starts h t bs cs eb ec i =
     let p = placed_at h t in
     let one = p.is bs eb in

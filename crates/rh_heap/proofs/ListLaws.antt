@@ -2,7 +2,7 @@
 use Rattle.rh_heap.proofs.Common.{◌≡◌, ℕ, ◌+◌, ◌<◌, ◌≤◌, ◌≢◌, inl, inr, Bool, true, false, List, [], ◌∷◌, ◌++◌, length, take, refl, sym, ap, subst, ◌∙◌}
 use Rattle.rh_heap.proofs.Common.{append_assoc, append-nil, arith, word, total, Used, Hole, Heap, IsTidy, size_of, base, segment_at, Spells, HasRoom, LinksTo}
 use Rattle.rh_heap.proofs.Common.{last_link, last_link-append, HasRoom-from_tidy, HasRoom-append, no_segments, tidy_before, tidy_behind_used, tidy_front}
-use Rattle.rh_heap.proofs.Common.{total-append, listed, Reached, Found, a_gap, no_gap, Spot}
+use Rattle.rh_heap.proofs.Common.{total-append, listed, Reached, FoundSegment, a_gap, no_gap, Spot}
 use Rattle.std.proofs.lemmas.List.{take-append-le, take_all, append_cancel_left}
 use Rattle.rh_defs.specs.Heap as heap
 use Rattle.rh_defs.proofs.HeapLaws.{link_ahead}
@@ -10,7 +10,7 @@ use Rattle.rh_heap.specs.Listed.{from_cut, HasListed}
 use Rattle.rh_heap.proofs.WalkLaws.{leads_here, stands}
 use Rattle.rh_heap.specs.declared.layout.Segment.{Segment}
 
-pub lists_start : (at : ℕ) (h : Heap) (target : ℕ) (spot : Spot) (items : List Segment) → Found at h target spot → items ≡ []
+pub lists_start : (at : ℕ) (h : Heap) (target : ℕ) (spot : Spot) (items : List Segment) → FoundSegment at h target spot → items ≡ []
     → HasListed at h spot.from spot.place items (listed target (from_cut (segment_at target h)))
 lists_start at h target spot items f none = record {
   link = spot.link;

@@ -1,7 +1,7 @@
 -- A map tells of a heap's shape alone.
 use Rattle.rh_heap.proofs.Common.{◌≡◌, ℕ, ℤ, ◌+◌, ◌*◌, ◌/◌, ◌≤◌, inl, inr, List, [], ◌∷◌, ◌++◌, length, refl, sym, ap, subst, ◌∙◌, cases_lt, left_of}
 use Rattle.rh_heap.proofs.Common.{no_answer, moved, zeros, Segment, Used, Hole, Heap, base, once, used_at, hole_at, IsIndex}
-use Rattle.rh_defs.specs.Heap.{extend}
+use Rattle.rh_defs.specs.Heap.{extend_by}
 use Rattle.rh_defs.proofs.HeapCalls.{extend-low, extend-done}
 use Rattle.rh_defs.specs.Blocks.{blank, SameShape}
 use Rattle.rh_defs.proofs.ShapeLaws.{len0, blank-append}
@@ -41,7 +41,7 @@ pub index_ended : (starts : List ℕ) (h : Heap) (end : ℕ) → end ≤ LINE_BY
 index_ended starts h end long i = record { long = long; used = i.used; holes = i.holes }
 
 pub index_extended : (starts : List ℕ) (delta : ℤ) (h : Heap) → moved h.end delta ≤ LINE_BYTES * (length starts / 2) → IsIndex starts h
-    → IsIndex starts (left_of h (no_answer (extend delta h)))
+    → IsIndex starts (left_of h (no_answer (extend_by delta h)))
 index_extended starts delta h long i = elim (cases_lt (moved h.end delta) (base h)) [
   | inl low ↦ subst (λ r. IsIndex starts (left_of h (no_answer r))) (sym (extend-low delta h low)) i
   | inr high ↦ subst (λ r. IsIndex starts (left_of h (no_answer r))) (sym (extend-done delta h high)) (index_ended starts h (moved h.end delta) long i)

@@ -2,9 +2,9 @@
 use Rattle.rh_heap.proofs.Common.{◌≡◌, ℕ, zero, suc, ◌+◌, ◌-◌, ◌%◌, ◌<◌, ◌≤◌, ◌⊎◌, inl, inr, Bool, false, true, cond, eqb, List, [], ◌∷◌, ◌++◌, length}
 use Rattle.rh_heap.proofs.Common.{replicate, refl, sym, ap, subst, ◌∙◌, append_assoc, arith, Option, Some, None, IfSome, Ok, option_map, word, part}
 use Rattle.rh_heap.proofs.Common.{SameOutside, total, Split, first_at, Segment, Used, Hole, Heap, Placed, IsTidy, size_of, base, with_hole, fitted}
-use Rattle.rh_heap.proofs.Common.{hole_for, placed, release, shortage_in, block_at, is_block_at, released_at, way_to, resized_by, zeros, Stand}
+use Rattle.rh_heap.proofs.Common.{hole_for, placed_block, release_block, shortage_in, block_at, is_block_at, released_at, way_to, resized_by, zeros, Stand}
 use Rattle.rh_heap.proofs.Common.{Spells, part_more, HasRoom-from_tidy, HasRoom-append, total-append, tidy_behind_used, cond_true, eqb_same, Stand-split}
-use Rattle.rh_heap.proofs.Common.{released_at-some, link_place, HasStretch-kept, opened, closed, FoundBlock, Memory, heap_of-Spells, SpellsIn, bytes_in}
+use Rattle.rh_heap.proofs.Common.{released_at-some, link_place, HasStretch-kept, opened, closed, FoundBlock, Memory, heap_of-Spells, SpellsHeapIn, bytes_in}
 use Rattle.rh_heap.proofs.Common.{heap_in, Span, WayIs, WithBlock, resized_in, into_hole, Spot, HasRoom, last_link, LinksTo}
 use Rattle.rh_defs.specs.Pieces as pieces
 use Rattle.rh_defs.specs.Heap.{place_after, is_hole_for, placed_in, end_for}
@@ -71,7 +71,7 @@ pub record PlacedAt (h : Heap) (t : ℕ) : Type 0 where
   pub front : List Segment
   pub rest : List Segment
   pub is : (bs : List ℕ) → t ≡ 4 + length bs
-      → placed bs h ≡ record { heap = record { segments = front ++ Used bs ∷ rest; end = h.end }; address = 16 + total size_of front + 4 }
+      → placed_block bs h ≡ record { heap = record { segments = front ++ Used bs ∷ rest; end = h.end }; address = 16 + total size_of front + 4 }
   pub keeps : (a : ℕ) (bytes new : List ℕ) → t ≡ 4 + length new → BlockIn a 16 bytes h.segments → BlockIn a 16 bytes (front ++ Used new ∷ rest)
 
 hole_here : (t place : ℕ) (g : Segment) → is_hole_for t place g ≡ true → (g ≡ Hole (size_of g)) × (t ≤ size_of g)
@@ -160,14 +160,14 @@ module _ (b : List ℕ) (at : ℕ) (h : Heap) (spot : Spot) (s : Spells b at h) 
   abbrev p : PlacedAt h t
   p = placed_at h t
 
-  pub new_address : (address : ℕ) → address ≡ (placed (zeros (t - 4)) h).address → address ≡ 16 + total size_of p.front + 4
+  pub new_address : (address : ℕ) → address ≡ (placed_block (zeros (t - 4)) h).address → address ≡ 16 + total size_of p.front + 4
   new_address address e = e ∙ ap (λ (q : Placed). q.address) (p.is (zeros (t - 4)) zeros_are)
 
-  pub new_spells : (c : List ℕ) → Spells c at (placed (zeros (t - 4)) h).heap
+  pub new_spells : (c : List ℕ) → Spells c at (placed_block (zeros (t - 4)) h).heap
       → Spells c at (record { segments = p.front ++ Used (zeros (t - 4)) ∷ p.rest; end = h.end })
   new_spells c k = subst (λ (q : Placed). Spells c at q.heap) (p.is (zeros (t - 4)) zeros_are) k
 
-  pub new_inside : (c : List ℕ) (address : ℕ) → Spells c at (placed (zeros (t - 4)) h).heap → address ≡ (placed (zeros (t - 4)) h).address
+  pub new_inside : (c : List ℕ) (address : ℕ) → Spells c at (placed_block (zeros (t - 4)) h).heap → address ≡ (placed_block (zeros (t - 4)) h).address
       → address + (t - 4) ≤ h.end
   new_inside c address k e =
       let w = new_spells c k in
@@ -182,7 +182,7 @@ module _ (b : List ℕ) (at : ℕ) (h : Heap) (spot : Spot) (s : Spells b at h) 
       subst (BlockIn (spot.place + 4) 16 f.bytes) (sym (found_is at h spot f))
       (BlockIn-behind (spot.place + 4) 16 f.bytes (f.reached.front ++ f.reached.gap) (Used f.bytes ∷ f.after) (inl (omega arith, refl)))
 
-  old_bytes : (c : List ℕ) → Spells c at (placed (zeros (t - 4)) h).heap → part c (at + (spot.place + 4)) (spot.size - 4) ≡ f.bytes
+  old_bytes : (c : List ℕ) → Spells c at (placed_block (zeros (t - 4)) h).heap → part c (at + (spot.place + 4)) (spot.size - 4) ≡ f.bytes
   old_bytes c k =
       let w = new_spells c k in
       let z = f.size_is in
@@ -190,9 +190,9 @@ module _ (b : List ℕ) (at : ℕ) (h : Heap) (spot : Spot) (s : Spells b at h) 
       ∙ block_bytes c at (at + 4) (spot.place + 4) 16 f.bytes (p.front ++ Used (zeros (t - 4)) ∷ p.rest) w.stand
       (p.keeps (spot.place + 4) f.bytes (zeros (t - 4)) zeros_are old_in)
 
-  pub moved_spells : (c d : List ℕ) (address : ℕ) → Spells c at (placed (zeros (t - 4)) h).heap → address ≡ (placed (zeros (t - 4)) h).address
+  pub moved_spells : (c d : List ℕ) (address : ℕ) → Spells c at (placed_block (zeros (t - 4)) h).heap → address ≡ (placed_block (zeros (t - 4)) h).address
       → part d (at + address) (spot.size - 4) ≡ part c (at + (spot.place + 4)) (spot.size - 4) → SameOutside c d (at + address) (at + address + (spot.size - 4))
-      → Spells d at (placed now h).heap
+      → Spells d at (placed_block now h).heap
   moved_spells c d address k e copied o =
       let w = new_spells c k in
       let a = new_address address e in
@@ -220,35 +220,36 @@ module _ (b : List ℕ) (at : ℕ) (h : Heap) (spot : Spot) (s : Spells b at h) 
       record { len = o.len; below = λ i l. o.below i (omega arith); above = λ i l. o.above i (omega arith) } in
       subst (λ (q : Placed). Spells d at q.heap) (sym (p.is now now_is)) (rewritten c d at h.end p.front p.rest (zeros (t - 4)) now w (omega arith) wide whole)
 
-  still_there : BlockIn (spot.place + 4) 16 f.bytes (placed now h).heap.segments
+  still_there : BlockIn (spot.place + 4) 16 f.bytes (placed_block now h).heap.segments
   still_there = subst (λ (q : Placed). BlockIn (spot.place + 4) 16 f.bytes q.heap.segments) (sym (p.is now now_is))
       (p.keeps (spot.place + 4) f.bytes now now_is old_in)
 
-  pub placed_end : (placed now h).heap.end ≡ h.end
+  pub placed_end : (placed_block now h).heap.end ≡ h.end
   placed_end = ap (λ (q : Placed). q.heap.end) (p.is now now_is)
 
-  pub same_address : (placed now h).address ≡ (placed (zeros (t - 4)) h).address
+  pub same_address : (placed_block now h).address ≡ (placed_block (zeros (t - 4)) h).address
   same_address = ap (λ (q : Placed). q.address) (p.is now now_is) ∙ sym (ap (λ (q : Placed). q.address) (p.is (zeros (t - 4)) zeros_are))
 
 -- ---- the span
 pub moved_done : (m m2 n : Memory) (span : Span) (spot : Spot) (t address : ℕ) → Spells (bytes_in m span) span.at (heap_in m span)
     → (f : FoundBlock span.at (heap_in m span) (spot.place + 4) spot) → spot.size < t
-    → shortage_in t (heap_in m span) (hole_for t (heap_in m span).segments) ≡ 0 → address ≡ (placed (zeros (t - 4)) (heap_in m span)).address
-    → SpellsIn m2 span (placed (fitted (t - 4) f.bytes) (heap_in m span)).heap → SpellsIn n span (release (spot.place + 4) (heap_in m2 span))
+    → shortage_in t (heap_in m span) (hole_for t (heap_in m span).segments) ≡ 0 → address ≡ (placed_block (zeros (t - 4)) (heap_in m span)).address
+    → SpellsHeapIn m2 span (placed_block (fitted (t - 4) f.bytes) (heap_in m span)).heap → SpellsHeapIn n span
+    (release_block (spot.place + 4) (heap_in m2 span))
     → WithBlock spot (heap_in m span) (Moved m n span t address (spot.place + 4))
 moved_done m m2 n span spot t address s f longer room e k r =
     at_cut span.at (heap_in m span) spot f (Moved m n span t address (spot.place + 4)) (record {
       room = room;
       address_is = e ∙ sym (same_address (bytes_in m span) span.at (heap_in m span) spot s f t longer);
-      spells = subst (λ (h : Heap). SpellsIn n span (release (spot.place + 4) h))
-          (heap_of-Spells (bytes_in m2 span) span.at (placed (fitted (t - 4) f.bytes) (heap_in m span)).heap k) r;
+      spells = subst (λ (h : Heap). SpellsHeapIn n span (release_block (spot.place + 4) h))
+          (heap_of-Spells (bytes_in m2 span) span.at (placed_block (fitted (t - 4) f.bytes) (heap_in m span)).heap k) r;
     })
 
 pub moved_end : (m m2 : Memory) (span : Span) (spot : Spot) (t : ℕ) → Spells (bytes_in m span) span.at (heap_in m span)
     → (f : FoundBlock span.at (heap_in m span) (spot.place + 4) spot) → spot.size < t
-    → SpellsIn m2 span (placed (fitted (t - 4) f.bytes) (heap_in m span)).heap → (heap_in m2 span).end ≡ (heap_in m span).end
+    → SpellsHeapIn m2 span (placed_block (fitted (t - 4) f.bytes) (heap_in m span)).heap → (heap_in m2 span).end ≡ (heap_in m span).end
 moved_end m m2 span spot t s f longer k =
-    ap (λ (h : Heap). h.end) (heap_of-Spells (bytes_in m2 span) span.at (placed (fitted (t - 4) f.bytes) (heap_in m span)).heap k)
+    ap (λ (h : Heap). h.end) (heap_of-Spells (bytes_in m2 span) span.at (placed_block (fitted (t - 4) f.bytes) (heap_in m span)).heap k)
     ∙ placed_end (bytes_in m span) span.at (heap_in m span) spot s f t longer
 
 -- a block among the segments is found
@@ -266,21 +267,21 @@ not_missed a p bytes (Used bs ∷ ss) (inl q) e = let found = sym e ∙ cond_tru
 not_missed a p bytes (Used bs ∷ ss) (inr k) e = not_missed a (p + (4 + length bs)) bytes ss k (none_behind (Used bs) _ (none_else (eqb a (p + 4)) _ _ e))
 not_missed a p bytes (Hole n ∷ ss) k e = not_missed a (p + n) bytes ss k (none_behind (Hole n) _ e)
 
-released_there : (a : ℕ) (h : Heap) → (block_at a h ≡ None → ⊥) → released_at a h ≡ Ok (release a h)
+released_there : (a : ℕ) (h : Heap) → (block_at a h ≡ None → ⊥) → released_at a h ≡ Ok (release_block a h)
 released_there a h f = go (block_at a h) refl
   where
-    go : (o : Option (Split Segment)) → block_at a h ≡ o → released_at a h ≡ Ok (release a h)
+    go : (o : Option (Split Segment)) → block_at a h ≡ o → released_at a h ≡ Ok (release_block a h)
     go None e = absurd (f e)
     go (Some s) e = released_at-some a h s e
 
 -- the old block is still there, so its release is done
 pub moved_released : (m m2 : Memory) (span : Span) (spot : Spot) (t : ℕ) → Spells (bytes_in m span) span.at (heap_in m span)
     → (f : FoundBlock span.at (heap_in m span) (spot.place + 4) spot) → spot.size < t
-    → SpellsIn m2 span (placed (fitted (t - 4) f.bytes) (heap_in m span)).heap
-    → released_at (spot.place + 4) (heap_in m2 span) ≡ Ok (release (spot.place + 4) (heap_in m2 span))
+    → SpellsHeapIn m2 span (placed_block (fitted (t - 4) f.bytes) (heap_in m span)).heap
+    → released_at (spot.place + 4) (heap_in m2 span) ≡ Ok (release_block (spot.place + 4) (heap_in m2 span))
 moved_released m m2 span spot t s f longer k =
     let a = spot.place + 4 in
-    let same = heap_of-Spells (bytes_in m2 span) span.at (placed (fitted (t - 4) f.bytes) (heap_in m span)).heap k in
+    let same = heap_of-Spells (bytes_in m2 span) span.at (placed_block (fitted (t - 4) f.bytes) (heap_in m span)).heap k in
     let there = still_there (bytes_in m span) span.at (heap_in m span) spot s f t longer in
     released_there a (heap_in m2 span) (not_missed a 16 f.bytes (heap_in m2 span).segments
     (subst (λ (h : Heap). BlockIn a 16 f.bytes h.segments) (sym same) there))
@@ -373,16 +374,24 @@ module _ (at : ℕ) (h : Heap) (spot : Spot) (f : FoundBlock at h (spot.place + 
   short_moves w = short_moves_of (way_to t here h) (moves w).0
 
   abbrev there : Placed
-  there = placed (fitted (t - 4) f.bytes) h
+  there = placed_block (fitted (t - 4) f.bytes) h
 
   resized_moves_of : (v : heap.Way) → t ≡ 4 + length (fitted (t - 4) f.bytes) → MovesBy t h v
       → resized_by v (fitted
-      (t - 4) f.bytes) here h ≡ record { heap = release (place_after (f.reached.front ++ f.reached.gap) + 4) there.heap; address = there.address }
+      (t - 4) f.bytes) here h ≡ record { heap = release_block (place_after (f.reached.front ++ f.reached.gap) + 4) there.heap; address = there.address }
   resized_moves_of (heap.MovesToHole hole) et (by_hole _ e) =
-      ap (λ (p : Placed). let r : Placed = record { heap = release (place_after (f.reached.front ++ f.reached.gap) + 4) p.heap; address = p.address } in r)
+      ap (λ (p : Placed). let r : Placed = record {
+        heap = release_block
+            (place_after (f.reached.front ++ f.reached.gap) + 4) p.heap;
+        address = p.address;
+      } in r)
       (sym (ap (λ n. placed_in (fitted (t - 4) f.bytes) h (hole_for n h.segments)) (sym et) ∙ ap (placed_in (fitted (t - 4) f.bytes) h) e))
   resized_moves_of heap.MovesToTop et (by_top e) =
-      ap (λ (p : Placed). let r : Placed = record { heap = release (place_after (f.reached.front ++ f.reached.gap) + 4) p.heap; address = p.address } in r)
+      ap (λ (p : Placed). let r : Placed = record {
+        heap = release_block
+            (place_after (f.reached.front ++ f.reached.gap) + 4) p.heap;
+        address = p.address;
+      } in r)
       (sym (ap (λ n. placed_in (fitted (t - 4) f.bytes) h (hole_for n h.segments)) (sym et) ∙ ap (placed_in (fitted (t - 4) f.bytes) h) e))
   resized_moves_of heap.Stays et k = elim k [ ]
   resized_moves_of heap.Shrinks et k = elim k [ ]
@@ -390,14 +399,14 @@ module _ (at : ℕ) (h : Heap) (spot : Spot) (f : FoundBlock at h (spot.place + 
   resized_moves_of heap.GrowsAtTop et k = elim k [ ]
 
   pub resized_moves : WithBlock spot h (λ q. WayIs (way_to t q h) way.Moves)
-      → resized_in t here h ≡ record { heap = release (spot.place + 4) there.heap; address = there.address }
+      → resized_in t here h ≡ record { heap = release_block (spot.place + 4) there.heap; address = there.address }
   resized_moves w =
       let l = f.least in
       let g = moves_longer w in
       let n = length-fitted (t - 4) f.bytes in
       let p = f.reached.place_is in
       resized_moves_of (way_to t here h) (omega arith) (moves w).0
-      ∙ ap (λ k. let r : Placed = record { heap = release (k + 4) there.heap; address = there.address } in r) (sym p)
+      ∙ ap (λ k. let r : Placed = record { heap = release_block (k + 4) there.heap; address = there.address } in r) (sym p)
 
   -- the address where the block stays
   pub address_stays : (v : heap.Way) → WayIs v way.Stays → spot.place + 4 ≡ (resized_by v (fitted (t - 4) f.bytes) here h).address

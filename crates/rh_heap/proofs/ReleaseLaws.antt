@@ -1,6 +1,7 @@
 -- The stretch that a release leaves.
 use Rattle.rh_heap.proofs.Common.{◌≡◌, ℕ, ◌+◌, ◌-◌, ◌<◌, false, List, [], ◌∷◌, ◌++◌, length, sym, ap, subst, ◌∙◌, append_assoc, arith, total, Segment, Used}
-use Rattle.rh_heap.proofs.Common.{Hole, Heap, IsTidy, size_of, with_hole, release, Spells, total-append, tidy_behind_used, opened, StretchBetween, IsStretch}
+use Rattle.rh_heap.proofs.Common.{Hole, Heap, IsTidy, size_of, with_hole, release_block, Spells, total-append, tidy_behind_used, opened, StretchBetween}
+use Rattle.rh_heap.proofs.Common.{IsStretch}
 use Rattle.rh_heap.proofs.Common.{Settles, GapIs, no_gap, a_gap, FoundBlock, Stretch, Spot, last_link, LinksTo}
 use Rattle.rh_defs.specs.Heap.{joined, release_found}
 use Rattle.rh_defs.proofs.HeapLists.{with_hole-with_hole, joined-tidy, joined-front}
@@ -63,7 +64,7 @@ joined_gap low place link from size (Hole n ∷ x ∷ ss) after k t h = elim k [
 
 -- the list after a release
 pub released_is : (at : ℕ) (h : Heap) (address : ℕ) (spot : Spot) → IsTidy false h.segments → (f : FoundBlock at h address spot)
-    → release address h ≡ record { segments = f.reached.front ++ with_hole (spot.place + spot.size - spot.low) f.after; end = h.end }
+    → release_block address h ≡ record { segments = f.reached.front ++ with_hole (spot.place + spot.size - spot.low) f.after; end = h.end }
 released_is at h address spot t f =
     let r = f.reached in
     let bs = f.bytes in
@@ -77,7 +78,7 @@ released_is at h address spot t f =
     ∙ ap (λ n. with_hole (spot.place + n - spot.low) f.after) (sym f.size_is)))
 
 pub release_spells : (b c : List ℕ) (at : ℕ) (h : Heap) (address : ℕ) (spot : Spot) (next : ℕ) → Spells b at h → FoundBlock at h address spot
-    → LinksTo b at (at + spot.from) next → Settles b c at (release_stretch spot next) → Spells c at (release address h)
+    → LinksTo b at (at + spot.from) next → Settles b c at (release_stretch spot next) → Spells c at (release_block address h)
 release_spells b c at h address spot next s f k settles =
     subst (Spells c at) (sym (released_is at h address spot s.heap.tidy f))
     (settles h.end f.reached.front f.after (release_between b at h address spot next s f k))

@@ -1,7 +1,8 @@
 -- What stands at a place, how much room there is, and where a heap ends.
 use Rattle.rh_heap.proofs.Common.{◌≡◌, ℕ, ◌+◌, ◌-◌, ◌%◌, ◌<◌, ◌≤◌, Bool, true, false, max, List, [], ◌∷◌, ◌++◌, length, refl, sym, ap, ◌∙◌, arith, Some, Ok}
 use Rattle.rh_heap.proofs.Common.{ok_or, ℤ, option_map, word, SameOutside, moved, total, Segment, Used, Hole, Heap, size_of, bytes_of, base, segment_at}
-use Rattle.rh_heap.proofs.Common.{Spells, HeapRefusal, HasRoom-from_tidy, cases_lt, inl, inr, HasNone, Found, FoundBlock, HereIs, used_here, hole_here, Spot}
+use Rattle.rh_heap.proofs.Common.{Spells, HeapRefusal, HasRoom-from_tidy, cases_lt, inl, inr, HasNone, FoundSegment, FoundBlock, HereIs, used_here, hole_here}
+use Rattle.rh_heap.proofs.Common.{Spot}
 use Rattle.rh_defs.specs.Heap.{block_size, hole_size, largest_hole, largest, free_bytes, empty_heap, extended}
 use Rattle.rh_defs.proofs.HeapLists.{sum-append}
 use Rattle.rh_defs.proofs.HeapStretch.{Stand-kept}
@@ -25,7 +26,7 @@ piece_of size false (Hole n) before after place (hole_here _ e) p = ap (λ n. So
 piece_of size true (Hole n) before after place k p = elim k [ ]
 piece_of size false (Used bs) before after place k p = elim k [ ]
 
-pub segment_answer : (at : ℕ) (h : Heap) (target : ℕ) (spot : Spot) → Found at h target spot
+pub segment_answer : (at : ℕ) (h : Heap) (target : ℕ) (spot : Spot) → FoundSegment at h target spot
     → Some (record { place = spot.place; size = spot.size; used = spot.used }) ≡ option_map piece (segment_at target h)
 segment_answer at h target spot f =
     piece_of spot.size spot.used f.met.here (f.met.reached.front ++ f.met.reached.gap) f.met.after spot.place f.met.here_is f.met.reached.place_is

@@ -4,7 +4,7 @@ use Rattle.rh_heap.proofs.Common.{ap, subst, ◌∙◌, append_assoc, arith, app
 use Rattle.rh_heap.proofs.Common.{first_at, NonePass, Segment, Used, Hole, Heap, IsTidy, size_of, base, is_block_at, block_at, segment_at, Stand, Spells}
 use Rattle.rh_heap.proofs.Common.{HasRoom-from_tidy, HasRoom-append, total-append, tidy_before, tidy_front, tidy_behind_used, NonePass-append, first_at-none}
 use Rattle.rh_heap.proofs.Common.{first_at-found, eqb_same, eqb_apart, last_link-append, last_link-none, Stand-split, length-part, GapIs, no_gap, a_gap}
-use Rattle.rh_heap.proofs.Common.{Reached, HereIs, used_here, hole_here, Found, FoundBlock, Spot, Gap, HasRoom, last_link, LinksTo}
+use Rattle.rh_heap.proofs.Common.{Reached, HereIs, used_here, hole_here, FoundSegment, FoundBlock, Spot, Gap, HasRoom, last_link, LinksTo}
 use Rattle.rh_defs.specs.Pieces.{behind}
 use Rattle.rh_defs.proofs.HeapLaws.{NextHole, next_hole}
 use Rattle.rh_defs.proofs.BytesLaws.{word-part}
@@ -343,7 +343,7 @@ parts_of at h spot t m =
 
 -- the segment round a place begins there
 pub found_here : (at : ℕ) (h : Heap) (target : ℕ) (spot : Spot) → IsTidy false h.segments → Around at h target spot → spot.place ≡ target
-    → Found at h target spot
+    → FoundSegment at h target spot
 found_here at h target spot t a e =
     let m = a.met in
     let xs = m.reached.front ++ m.reached.gap in
@@ -410,7 +410,7 @@ none_below address p (Hole n ∷ ss) r l = (refl, none_below address (p + n) ss 
 pub no_low_block : (address : ℕ) (h : Heap) → address < 4 → block_at address h ≡ None
 no_low_block address h l = first_at-none size_of (is_block_at address) 16 h.segments (none_above address 16 h.segments (omega arith))
 
-found_block_at : (at : ℕ) (h : Heap) (address : ℕ) (spot : Spot) → IsTidy false h.segments → 4 ≤ address → (f : Found at h (address - 4) spot)
+found_block_at : (at : ℕ) (h : Heap) (address : ℕ) (spot : Spot) → IsTidy false h.segments → 4 ≤ address → (f : FoundSegment at h (address - 4) spot)
     → (bs : List ℕ) → f.met.here ≡ Used bs → spot.size ≡ 4 + length bs → FoundBlock at h address spot
 found_block_at at h address spot t l f bs eh es =
     let m = f.met in
@@ -444,13 +444,15 @@ block_is size false (Hole n) (hole_here _ e) t = absurd cc
 block_is size true (Hole n) k t = elim k [ ]
 block_is size false (Used bs) k t = elim k [ ]
 
-pub found_block : (at : ℕ) (h : Heap) (address : ℕ) (spot : Spot) → IsTidy false h.segments → 4 ≤ address → Found at h (address - 4) spot → spot.used ≡ true
+pub found_block : (at : ℕ) (h : Heap) (address : ℕ) (spot : Spot) → IsTidy false h.segments → 4 ≤ address → FoundSegment at h (address - 4) spot → spot.used
+    ≡ true
     → FoundBlock at h address spot
 found_block at h address spot t l f e =
     let k = block_is spot.size spot.used f.met.here f.met.here_is e in
     found_block_at at h address spot t l f k.0 k.1 k.2
 
-pub found_hole : (at : ℕ) (h : Heap) (address : ℕ) (spot : Spot) → IsTidy false h.segments → 4 ≤ address → Found at h (address - 4) spot → spot.used ≡ false
+pub found_hole : (at : ℕ) (h : Heap) (address : ℕ) (spot : Spot) → IsTidy false h.segments → 4 ≤ address → FoundSegment at h (address - 4) spot → spot.used
+    ≡ false
     → block_at address h ≡ None
 found_hole at h address spot t l f e =
     let m = f.met in

@@ -52,7 +52,7 @@ pub record Around (at : ℕ) (h : Heap) (target : ℕ) (spot : Spot) : Type 0 wh
   pub up_to : target < spot.place + spot.size
 
 -- the segment at a place
-pub record Found (at : ℕ) (h : Heap) (target : ℕ) (spot : Spot) : Type 0 where
+pub record FoundSegment (at : ℕ) (h : Heap) (target : ℕ) (spot : Spot) : Type 0 where
   pub met : Met at h spot
   pub place_is : spot.place ≡ target
   pub found : segment_at target h ≡ Some (record { before = met.reached.front ++ met.reached.gap; here = met.here; after = met.after })
@@ -86,10 +86,10 @@ pub record FoundBlock (at : ℕ) (h : Heap) (address : ℕ) (spot : Spot) : Type
   pub least : HEAP_UNIT ≤ spot.size
   pub multiple : spot.size % HEAP_UNIT ≡ 0
 
-abbrev pub is_used : Segment → Bool
-is_used (Used bytes) = true
-is_used (Hole size) = false
+abbrev pub is_used_segment : Segment → Bool
+is_used_segment (Used bytes) = true
+is_used_segment (Hole size) = false
 
 -- the segment at a cut
 abbrev pub piece : Split Segment → layout.Segment
-piece s = record { place = place_after s.before; size = size_of s.here; used = is_used s.here }
+piece s = record { place = place_after s.before; size = size_of s.here; used = is_used_segment s.here }

@@ -19,8 +19,8 @@ pub record IsSpan (m : Memory) (span : Span) : Type 0 where
   pub spells : Spells (bytes_in m span) span.at (heap_in m span)
 
 -- the span's bytes now spell this heap
-abbrev pub SpellsIn : Memory → Span → Heap → Type 0
-SpellsIn m span h = Spells (bytes_in m span) span.at h
+abbrev pub SpellsHeapIn : Memory → Span → Heap → Type 0
+SpellsHeapIn m span h = Spells (bytes_in m span) span.at h
 
 -- nothing but the bytes of the heap's span has changed
 abbrev pub OnlySpan : Memory → Memory → Span → Type 0

@@ -2,7 +2,7 @@
 use Rattle.std.specs.Prelude.{◌≡◌, ◌≢◌, ℕ, ◌+◌, ◌-◌, List, IfSome}
 use Rattle.rh_defs.specs.Memory.{Memory}
 use Rattle.rh_defs.specs.Pieces.{Split}
-use Rattle.rh_defs.specs.Heap.{Segment, Heap, Placed, bytes_of, block_at, way_to, resized_by, end_for, fitted, placed, release, shortage_in, hole_for}
+use Rattle.rh_defs.specs.Heap.{Segment, Heap, Placed, bytes_of, block_at, way_to, resized_by, end_for, fitted, placed_block, release_block, shortage_in, hole_for}
 use Rattle.rh_defs.specs.Heap as heap
 use Rattle.rh_defs.specs.declared.heap.HeapRefusal.{HeapRefusal}
 use Rattle.rh_defs.specs.declared.heap.HeapRefusal.TheVariants.{NoRoom}
@@ -10,7 +10,7 @@ use Rattle.rh_heap.specs.declared.span.Span.{Span}
 use Rattle.rh_heap.specs.declared.span.segments.Spot.{Spot}
 use Rattle.rh_heap.specs.declared.span.resize.Way.{Way}
 use Rattle.rh_heap.specs.declared.span.resize.Way.TheVariants as way
-use Rattle.rh_heap.specs.Spans.{heap_in, SpellsIn}
+use Rattle.rh_heap.specs.Spans.{heap_in, SpellsHeapIn}
 use Rattle.rh_heap.specs.declared.layout.TheConstants.{BLOCK}
 
 -- the same way
@@ -36,7 +36,7 @@ resized_in t s h = resized_by (way_to t s h) (fitted (t - BLOCK) (bytes_of s.her
 
 -- the span's bytes spell that heap
 abbrev pub SpellsResized : Memory → Memory → Span → ℕ → Spot → Type 0
-SpellsResized m n span t spot = WithBlock spot (heap_in m span) (λ s. SpellsIn n span (resized_in t s (heap_in m span)).heap)
+SpellsResized m n span t spot = WithBlock spot (heap_in m span) (λ s. SpellsHeapIn n span (resized_in t s (heap_in m span)).heap)
 
 -- by how much the heap is too short for it
 abbrev pub short_by : ℕ → Split Segment → Heap → ℕ
@@ -49,7 +49,7 @@ ShortBy h t n s = n ≡ short_by t s h
 pub record Changed (m n : Memory) (span : Span) (t address : ℕ) (s : Split Segment) : Type 0 where
   pub room : short_by t s (heap_in m span) ≡ 0
   pub address_is : address ≡ (resized_in t s (heap_in m span)).address
-  pub spells : SpellsIn n span (resized_in t s (heap_in m span)).heap
+  pub spells : SpellsHeapIn n span (resized_in t s (heap_in m span)).heap
 
 -- the block has not got it, as the heap is too short
 pub record NotChanged (m n : Memory) (span : Span) (t : ℕ) (refusal : HeapRefusal) (s : Split Segment) : Type 0 where
@@ -60,5 +60,5 @@ pub record NotChanged (m n : Memory) (span : Span) (t : ℕ) (refusal : HeapRefu
 -- the block has moved, and the one at an address is released
 pub record Moved (m n : Memory) (span : Span) (t address place : ℕ) (s : Split Segment) : Type 0 where
   pub room : shortage_in t (heap_in m span) (hole_for t (heap_in m span).segments) ≡ 0
-  pub address_is : address ≡ (placed (fitted (t - BLOCK) (bytes_of s.here)) (heap_in m span)).address
-  pub spells : SpellsIn n span (release place (placed (fitted (t - BLOCK) (bytes_of s.here)) (heap_in m span)).heap)
+  pub address_is : address ≡ (placed_block (fitted (t - BLOCK) (bytes_of s.here)) (heap_in m span)).address
+  pub spells : SpellsHeapIn n span (release_block place (placed_block (fitted (t - BLOCK) (bytes_of s.here)) (heap_in m span)).heap)

@@ -24,7 +24,7 @@ use Rattle.rh_safety.proofs.Runs.{start_good}
 use Rattle.rh_safety.proofs.SeenBlocks.{added_still, alloc_is, changed_still, extend_is, free_is, mid_is, put_is}
 use Rattle.rh_safety.proofs.SeenHeaps.{claim_is, claimed_free, claimed_map, gone_map, idle_is, release_is}
 use Rattle.rh_laws.specs.Claimed.{AlwaysLeaksNone, Claims, HoldsNone, LeaksNone, claimed, claimed_at, claims_from, claims_next, IsAccounted, holders, noted}
-use Rattle.rh_laws.specs.Claimed.{released_at, resized_at, size_after, size_at}
+use Rattle.rh_laws.specs.Claimed.{claims_released_at, resized_at, size_after, size_at}
 use Rattle.rh_laws.specs.Frame.{FillsBuffer, actor, handle_of, poller}
 use Rattle.rh_laws.proofs.Frames.{leaves-others}
 use Rattle.rh_laws.proofs.FramePolls.{polls-fill}
@@ -97,7 +97,7 @@ module _ (c : Claims) (d : Desk) (h : ℕ) where
   claimed-other None n a ne = refl
   claimed-other (Some t) n a ne = noted-other c t.handle a _ h (ne t refl)
 
-  released-other : (o : Option Task) (a : ℕ) → IsOther o → released_at c o a h ≡ c h
+  released-other : (o : Option Task) (a : ℕ) → IsOther o → claims_released_at c o a h ≡ c h
   released-other None a ne = refl
   released-other (Some t) a ne = noted-other c t.handle a None h (ne t refl)
 
@@ -258,7 +258,7 @@ module _ (c : Claims) (d : Desk) {o : Offers} {e : Edits} (g : Good o e (view d)
   release-own name a =
       granted-then _ _ λ t q. granted-then _ _ λ b i. granted-then _ _ λ s j.
       let now : claims_next c d (command.Release name a) reply.Done t.handle ≡ at_place (c t.handle) a None =
-      ap (λ v. released_at c v a t.handle) (found name t q) ∙ noted-own c t.handle a None in
+      ap (λ v. claims_released_at c v a t.handle) (found name t q) ∙ noted-own c t.handle a None in
       granted (kept-own name t q (claims_next c d (command.Release name a)) (with_slot t.handle s d, reply.Done) t.taking (record {
         slot = s;
         stands = stands-slot s (stand name t q);
@@ -302,7 +302,7 @@ module _ (c : Claims) (d : Desk) {o : Offers} {e : Edits} (g : Good o e (view d)
       granted (kept-own name t q (λ r. c) (sent, reply.Sent (next_ref d)) t.taking (record { slot = t.slot; stands = st; all = counted name t q }))
 
   cancel_in-own : (name : List ℕ) (id : Option ℕ) → OnGrant (Still name) (cancel_in d name id)
-  unfolding cancel_in receiver.cancel
+  unfolding cancel_in receiver.cancel_taking
   cancel_in-own name id =
       granted-then _ _ λ t q. granted-with {Q = λ ws. Accounts (c t.handle) (buffers_of t.slot) ws} _
       (granted-then _ _ λ v i. granted (renewed-accounts (next_ref d) (ids name t q) v (receiver.cancelled v)

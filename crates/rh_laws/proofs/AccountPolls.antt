@@ -4,7 +4,7 @@ use Rattle.rh_laws.proofs.Common.{arith, length-take, min, IfSome, eqb_tells, Bo
 use Rattle.rh_laws.proofs.Common.{Taking, Incoming, Outgoing, Granted, Rise, Split, Flex, Slot, Parcel, buffer_at, written_in, Post, active_of, asking_of}
 use Rattle.rh_laws.proofs.Common.{in_id, is_buffer_of, with_id, Desk, Task, Scrap, next_ref, send_letter, task_at, with_delivered, with_post, with_sending}
 use Rattle.rh_laws.proofs.Common.{with_slot, with_taking, with_task, Handled, answer_ack, answer_fetch, fail_sending, finish_load, ignored, portion}
-use Rattle.rh_laws.proofs.Common.{save_scrap, transmit, accept, ack_back, appended, ask, ended, fetch_back, fetch_more, load_file, loaded, take_bytes}
+use Rattle.rh_laws.proofs.Common.{save_scrap, transmit, accept, ack_back, appended, ask, taking_ended, fetch_back, fetch_more, load_file, loaded, take_bytes}
 use Rattle.rh_laws.proofs.Common.{take_file, take_save, took, without_buffer, came, came_back, handled, OnGrant, chosen, granted, granted-both, granted-past}
 use Rattle.rh_laws.proofs.Common.{granted-then, granted-unless, granted-with, or_else-keeps, Has, FoundActive, active_is, asking_is, drains, fetches}
 use Rattle.rh_laws.proofs.Common.{buffers_of, task_of, any-grant}
@@ -83,8 +83,8 @@ stands-letter {h} {d} {s} {ws} l w =
     (λ y. refl) (λ y. refl) (λ y. refl) (record { task = w.task; there = w.there; slot = w.slot; taking = w.taking }))
 
 pub stands-ends : {h : ℕ} {d : Desk} {s : Slot} {ws : List Incoming} (f : Taking) (edit : List Incoming → List Incoming) →
-    Stands h d s ws → Stands h (ended h f edit d) (without_buffer f.buffer s) (edit ws)
-unfolding ended
+    Stands h d s ws → Stands h (taking_ended h f edit d) (without_buffer f.buffer s) (edit ws)
+unfolding taking_ended
 stands-ends {h} {d} {s} {ws} f edit w =
     stands-takes edit (stands-own (λ (t : Task). record t { slot = without_buffer f.buffer t.slot }) (λ y. refl)
     (without_buffer f.buffer s) ws (λ y q. ap (without_buffer f.buffer) q) (λ y q. q) w)
@@ -168,7 +168,7 @@ module _ (c : ℕ → Option ℕ) (t : Task) (next : ℕ) (up : Rise in_id 0 nex
 
   -- a record that ends
   ended-after : (d : Desk) → Kept c h d t.taking → (f : Taking) (v : Incoming) → HasBuffer f → ((p : ℕ) → one p v ≡ 0) → (o : Outcome) →
-      K (ended h f (λ ws. with_id in_id f.id v ws) d, o)
+      K (taking_ended h f (λ ws. with_id in_id f.id v ws) d, o)
   ended-after d g f v has none o = record {
     records = with_id in_id f.id v t.taking;
     desk = record {
@@ -196,10 +196,10 @@ module _ (c : ℕ → Option ℕ) (t : Task) (next : ℕ) (up : Rise in_id 0 nex
     renewed-keeps w v has same o = renewed-after d g w v has same o
 
     ended-keeps : (f : Taking) (v : Incoming) → HasBuffer f → ((p : ℕ) → one p v ≡ 0) → (o : Outcome) →
-        K (ended h f (λ ws. with_id in_id f.id v ws) d, o)
+        K (taking_ended h f (λ ws. with_id in_id f.id v ws) d, o)
     ended-keeps f v has none o = ended-after d g f v has none o
 
-    failed-keeps : (f : Taking) → HasBuffer f → (n : ℕ) (o : Outcome) → K (ended h f (receiver.failed f n) d, o)
+    failed-keeps : (f : Taking) → HasBuffer f → (n : ℕ) (o : Outcome) → K (taking_ended h f (receiver.taking_failed f n) d, o)
     failed-keeps f has n o = ended-keeps f (incoming.Failed f.id f.anchor n) has (λ p. refl) o
 
     transmit-keeps : (m : Parcel) (buffer amount : ℕ) (x : Sending) (source : Split Flex) → OnGrant K (transmit d t m buffer amount x source)
@@ -238,7 +238,7 @@ module _ (c : ℕ → Option ℕ) (t : Task) (next : ℕ) (up : Rise in_id 0 nex
         granted-then _ _ λ k free. granted-then _ _ λ b e. granted-then _ _ λ p f.
         let w = claim_is _ t.buffer t.slot b e in
         let a = alloc_is _ k 0 b.0 p f in
-        let record_ : Taking = receiver.begun m.message.my_ref m.message.from k b.1 (next_ref d) in
+        let record_ : Taking = receiver.new_taking m.message.my_ref m.message.from k b.1 (next_ref d) in
         granted-with _ (stands-letter _ (stands-slot p.0 g.stands)) λ sent st.
         granted (record {
           records = receiver.fetching record_ t.taking;

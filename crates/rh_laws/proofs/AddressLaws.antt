@@ -77,7 +77,7 @@ module _ (a : Addresses) (d : Desk) (g : Agrees a d) where
 
   -- the records of the task that was found, one of them written anew
   cancel_in-keeps : (name : List ℕ) (id : Option ℕ) → OnGrant Keeps (cancel_in d name id)
-  unfolding cancel_in receiver.cancel
+  unfolding cancel_in receiver.cancel_taking
   cancel_in-keeps name id =
       granted-then _ _ λ t e. granted-with {Q = InsAgree a t.handle} _
       (granted-then _ _ λ w f. granted (all-with (InAgrees a t.handle) in_id (in_id w) (receiver.cancelled w) t.taking
@@ -93,7 +93,7 @@ module _ (a : Addresses) (d : Desk) (g : Agrees a d) where
       cancelled-agrees h (incoming.Failed i k n) is = is
 
   cancel_out-keeps : (name : List ℕ) (id : Option ℕ) → OnGrant Keeps (cancel_out d name id)
-  unfolding cancel_out sender.cancel
+  unfolding cancel_out sender.cancel_sending
   cancel_out-keeps name id =
       granted-then _ _ λ t e. granted-with {Q = OutsAgree a t.handle} _
       (granted-then _ _ λ x f. granted (all-with (OutAgrees a t.handle) out_id x.id (outgoing.Failed x.id x.count) t.sending (
@@ -147,8 +147,8 @@ module _ (a : Addresses) (d : Desk) (g : Agrees a d) where
       let is : parties_of (find (has_name name) d.tasks) (find (has_name to) d.tasks) ≡ v =
       ap (λ o. parties_of o (find (has_name to) d.tasks)) (found_name d name t e) ∙ ap (parties_of (Some t)) (is_found _ NoTask r i) in
       granted-with _ (letter-agrees a new (more v) _ d (later v) here g) λ sent all.
-      let edit : List Outgoing → List Outgoing = sender.offered (next_ref d) r.handle k in
-      let opened : Outgoing = outgoing.Open (sender.opened (next_ref d) r.handle k) in
+      let edit : List Outgoing → List Outgoing = sender.sending_offered (next_ref d) r.handle k in
+      let opened : Outgoing = outgoing.Open (sender.new_sending (next_ref d) r.handle k) in
       granted (record {
         desk = subst (λ w. Agrees (at_place a (next_ref d) w) (with_sending t.handle edit sent)) (sym is)
             (outs-agree t.handle edit (λ vs old. all-more (OutAgrees new t.handle) is_open opened vs here old) sent all);

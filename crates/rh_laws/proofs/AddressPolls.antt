@@ -2,7 +2,8 @@
 use Rattle.rh_laws.proofs.Common.{◌≡◌, ℕ, Bool, List, length, Option, Some, None, refl, subst, ◌+◌, nat_lt, IfSome, Refusal, Body, EventCode, User, Recorded}
 use Rattle.rh_laws.proofs.Common.{Acknowledge, Asked, Sending, Taking, Incoming, Outgoing, Split, Flex, Parcel, active_of, asking_of, open_of, Desk, Task}
 use Rattle.rh_laws.proofs.Common.{Scrap, next_ref, Handled, answer_ack, answer_fetch, fail_sending, finish_load, ignored, refused, save_scrap, transmit}
-use Rattle.rh_laws.proofs.Common.{accept, ack_back, appended, ask, ended, fetch_back, fetch_more, load_file, loaded, take_bytes, take_file, take_save, took}
+use Rattle.rh_laws.proofs.Common.{accept, ack_back, appended, ask, taking_ended, fetch_back, fetch_more, load_file, loaded, take_bytes, take_file, take_save}
+use Rattle.rh_laws.proofs.Common.{took}
 use Rattle.rh_laws.proofs.Common.{came, came_back, handled, OnGrant, chosen, granted, granted-both, granted-past, granted-then, granted-unless, granted-with}
 use Rattle.rh_laws.proofs.Common.{or_else-keeps, FoundActive, active_is, asking_is, drains, fetches, open_is, any-grant}
 use Rattle.rh_defs.specs.declared.message.Body.TheVariants as body
@@ -51,10 +52,10 @@ module _ (a : Addresses) (t : Task) (own : TaskAgrees a t) where
 
   -- an outgoing record written anew
   module _ (x : Sending) (is : Offers x) where
-    failed-out : (vs : List Outgoing) → OutsAgree a h vs → OutsAgree a h (sender.failed x vs)
+    failed-out : (vs : List Outgoing) → OutsAgree a h vs → OutsAgree a h (sender.sending_failed x vs)
     failed-out vs all = all-with (OutAgrees a h) _ x.id (outgoing.Failed x.id x.count) vs (x.recipient, is) all
 
-    loaded-out : (n : ℕ) (vs : List Outgoing) → OutsAgree a h vs → OutsAgree a h (sender.loaded x n vs)
+    loaded-out : (n : ℕ) (vs : List Outgoing) → OutsAgree a h vs → OutsAgree a h (sender.sending_loaded x n vs)
     loaded-out n vs all = all-with (OutAgrees a h) _ x.id (outgoing.Done x.id n) vs (x.recipient, is) all
 
     saved-out : (ref : ℕ) (vs : List Outgoing) → OutsAgree a h vs → OutsAgree a h (sender.saved x ref vs)
@@ -67,7 +68,7 @@ module _ (a : Addresses) (t : Task) (own : TaskAgrees a t) where
 
   -- an incoming record written anew
   module _ (f : Taking) (is : Takes f) where
-    failed-in : (n : ℕ) (ws : List Incoming) → InsAgree a h ws → InsAgree a h (receiver.failed f n ws)
+    failed-in : (n : ℕ) (ws : List Incoming) → InsAgree a h ws → InsAgree a h (receiver.taking_failed f n ws)
     failed-in n ws all = all-with (InAgrees a h) _ f.id (incoming.Failed f.id f.anchor n) ws (f.sender, is) all
 
     finished-in : (n : ℕ) (ws : List Incoming) → InsAgree a h ws → InsAgree a h (receiver.finished f n ws)
@@ -81,7 +82,7 @@ module _ (a : Addresses) (t : Task) (own : TaskAgrees a t) where
     asking-in ref ws all = all-with (InAgrees a h) _ f.id (incoming.Asking (receiver.asked_by f ref)) ws is all
 
   module _ (q : Asked) (is : Asks q) where
-    loaded-in : (n : ℕ) (ws : List Incoming) → InsAgree a h ws → InsAgree a h (receiver.loaded q n ws)
+    loaded-in : (n : ℕ) (ws : List Incoming) → InsAgree a h ws → InsAgree a h (receiver.taking_loaded q n ws)
     loaded-in n ws all = all-with (InAgrees a h) _ q.id (incoming.Done q.id q.anchor n) ws (q.sender, is) all
 
     abandoned-in : (n : ℕ) (ws : List Incoming) → InsAgree a h ws → InsAgree a h (receiver.abandoned q n ws)
@@ -96,7 +97,7 @@ module _ (a : Addresses) (t : Task) (own : TaskAgrees a t) where
     refused-keeps : (x : Sending) → Offers x → (refusal : Refusal) → Keeps a (refused d t x refusal)
     refused-keeps x is refusal = record { desk = outs-agree h _ (failed-out x is) d g }
 
-    failed-keeps : (f : Taking) → Takes f → (n : ℕ) (o : _) → Keeps a (ended h f (receiver.failed f n) d, o)
+    failed-keeps : (f : Taking) → Takes f → (n : ℕ) (o : _) → Keeps a (taking_ended h f (receiver.taking_failed f n) d, o)
     failed-keeps f is n o = record { desk = ended-agrees h f _ (failed-in f is n) d g }
 
     transmit-keeps : (m : Parcel) (buffer amount : ℕ) (x : Sending) → Offers x → (source : Split Flex) →

@@ -2,7 +2,7 @@
 use Rattle.rh_laws.proofs.Common.{◌≡◌, ℕ, ◌+◌, ◌≤◌, Bool, List, [], ◌∷◌, Option, Some, None, refl, sym, subst, inl, inr, arith, ◌==◌, nat_le, AllByRecursion}
 use Rattle.rh_laws.proofs.Common.{eqb_tells, Body, EventCode, User, Recorded, Acknowledge, Letter, Outgoing, Incoming, Taking, Parcel, Post, as_returned}
 use Rattle.rh_laws.proofs.Common.{in_id, out_id, with_id, Slot, Desk, Task, edit_task, free_pages, send_letter, with_delivered, with_post, with_sending}
-use Rattle.rh_laws.proofs.Common.{with_slot, with_taking, with_task, ended, OnGrant, chosen, granted, granted-with, all-mono, append-all, Has, at_place}
+use Rattle.rh_laws.proofs.Common.{with_slot, with_taking, with_task, taking_ended, OnGrant, chosen, granted, granted-with, all-mono, append-all, Has, at_place}
 use Rattle.rh_defs.specs.declared.message.Body.TheVariants as body
 use Rattle.rh_defs.specs.declared.transfer.Outgoing.TheVariants as outgoing
 use Rattle.rh_defs.specs.declared.transfer.Incoming.TheVariants as incoming
@@ -201,8 +201,8 @@ module _ {a : Addresses} where
       }) d g
 
   pub ended-agrees : (h : ℕ) (f : Taking) (edit : List Incoming → List Incoming) →
-      ((ws : List Incoming) → InsAgree a h ws → InsAgree a h (edit ws)) → (d : Desk) → Agrees a d → Agrees a (ended h f edit d)
-  unfolding ended
+      ((ws : List Incoming) → InsAgree a h ws → InsAgree a h (edit ws)) → (d : Desk) → Agrees a d → Agrees a (taking_ended h f edit d)
+  unfolding taking_ended
   ended-agrees h f edit keeps d g = ins-agree h edit keeps _ (task-agrees h _ (λ t same is. is) d g)
 
   pub delivered-agrees : (p : Post) (d : Desk) → Left (ParcelAgrees a) (back-agrees a) d.post p → Agrees a d → Agrees a (with_delivered p d)

@@ -33,17 +33,17 @@ unfoldable pub use Rattle.rh_defs.specs.Desk.{idle_block, named, send_letter, wi
 pub use Rattle.rh_defs.specs.Files.{FileList}
 pub use Rattle.rh_defs.specs.Forms.{is_delta, is_leaf, is_name, number_of}
 unfoldable pub use Rattle.rh_defs.specs.Forms.{is_decimal}
-pub use Rattle.rh_defs.specs.Grammar.{Choice, Maybe, Number, Row}
+pub use Rattle.rh_defs.specs.Grammar.{Choice, Maybe, Number, GrammarRow}
 unfoldable pub use Rattle.rh_defs.specs.Grammar.{rows}
 pub use Rattle.rh_defs.specs.Heap.{Heap, Hole, Placed, Segment, Used, base, block_around, block_room, bytes_of, claim_growing, first_place, fitted}
 pub use Rattle.rh_defs.specs.Heap.{free_bytes, hole_for, hole_size, is_hole_for, largest, largest_hole, need, new_size, place_after, placed_in, raised}
 pub use Rattle.rh_defs.specs.Heap.{resize_growing, resize_need, segment_size, size_of, way_to}
 pub use Rattle.rh_defs.specs.IncomingEvents.{without_buffer}
-unfoldable pub use Rattle.rh_defs.specs.IncomingEvents.{accept, ack_back, appended, ask, ended, fetch_back, fetch_more, load_file, loaded, take_bytes}
+unfoldable pub use Rattle.rh_defs.specs.IncomingEvents.{accept, ack_back, appended, ask, taking_ended, fetch_back, fetch_more, load_file, loaded, take_bytes}
 unfoldable pub use Rattle.rh_defs.specs.IncomingEvents.{take_file, take_save, took}
 pub use Rattle.rh_defs.specs.Laws.{IsDesk, Rise}
 pub use Rattle.rh_defs.specs.Letters.{load_ack_letter, save_letter}
-pub use Rattle.rh_defs.specs.Line.{command_of, hex_number, is_skipped, longest_line, row_of, word}
+pub use Rattle.rh_defs.specs.Line.{command_of, hex_number, is_skipped, longest_line, grammar_row, nth_word}
 unfoldable pub use Rattle.rh_defs.specs.Line.{line_means}
 pub use Rattle.rh_defs.specs.Questions.{Bytes, Told, asked}
 pub use Rattle.rh_defs.specs.Messages.{Parcel, action_of}

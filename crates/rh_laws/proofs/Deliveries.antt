@@ -2,7 +2,8 @@
 use Rattle.rh_laws.proofs.Common.{◌≡◌, ℕ, ◌+◌, ◌≤◌, Bool, true, false, List, [], ◌∷◌, Option, Some, None, refl, sym, subst, ◌∙◌, inl, inr, arith, ◌==◌}
 use Rattle.rh_laws.proofs.Common.{if◌then◌else◌, find, IfSome, AllByRecursion, eqb_tells, Body, EventCode, User, Recorded, Acknowledge, Letter, Outgoing}
 use Rattle.rh_laws.proofs.Common.{Incoming, Taking, Parcel, Post, as_returned, Slot, Desk, Task, edit_task, free_pages, send_letter, with_delivered}
-use Rattle.rh_laws.proofs.Common.{with_post, with_sending, with_slot, with_taking, with_task, ended, OnGrant, granted, granted-with, all-mono, append-all}
+use Rattle.rh_laws.proofs.Common.{with_post, with_sending, with_slot, with_taking, with_task, taking_ended, OnGrant, granted, granted-with, all-mono}
+use Rattle.rh_laws.proofs.Common.{append-all}
 use Rattle.rh_laws.proofs.Common.{none_some, Has, at_place}
 use Rattle.rh_defs.specs.declared.message.Body.TheVariants as body
 use Rattle.rh_defs.specs.declared.transfer.Outgoing.TheVariants as outgoing
@@ -253,8 +254,8 @@ module _ {a : Marks} {I : Ins} where
 
   pub ended-agrees : (h : ℕ) (f : Taking) (edit : List Incoming → List Incoming) →
       ((ws : List Incoming) → AllByRecursion (I h) ws → AllByRecursion (I h) (edit ws)) → (d : Desk) → AgreesBy a I d →
-      AgreesBy a I (ended h f edit d)
-  unfolding ended
+      AgreesBy a I (taking_ended h f edit d)
+  unfolding taking_ended
   ended-agrees h f edit keeps d g = ins-agree h edit keeps _ (task-agrees h _ (λ t. refl) (λ t is. record {
     sent = is.sent;
     outs = is.outs;

@@ -131,7 +131,7 @@ module _ (a : Marks) (d : Desk) (f : Fits d) (g : Agrees a d) where
 
   -- the records of the task that was found, one of them written anew
   cancel_in-keeps : (name : List ℕ) (id : Option ℕ) → OnGrant (Keeps a) (cancel_in d name id)
-  unfolding cancel_in receiver.cancel
+  unfolding cancel_in receiver.cancel_taking
   cancel_in-keeps name id =
       granted-then _ _ λ t e. granted-with {Q = AllByRecursion (InAgrees a t.handle)} _
       (granted-then _ _ λ w f2. granted (all-with (InAgrees a t.handle) in_id (in_id w) (receiver.cancelled w) t.taking
@@ -147,7 +147,7 @@ module _ (a : Marks) (d : Desk) (f : Fits d) (g : Agrees a d) where
       cancelled-agrees h (incoming.Failed i k n) is = is
 
   cancel_out-keeps : (name : List ℕ) (id : Option ℕ) → OnGrant (Keeps a) (cancel_out d name id)
-  unfolding cancel_out sender.cancel
+  unfolding cancel_out sender.cancel_sending
   cancel_out-keeps name id =
       granted-then _ _ λ t e. granted-with {Q = AllByRecursion (OutAgrees a)} _
       (granted-then _ _ λ x f2. granted (all-with (OutAgrees a) out_id x.id (outgoing.Failed x.id x.count) t.sending tt
@@ -189,7 +189,7 @@ module _ (a : Marks) (d : Desk) (f : Fits d) (g : Agrees a d) where
       granted (record {
         marks = next_of v;
         more = next-more v;
-        desk = outs-agree t.handle (sender.offered (next_ref d) r.handle k)
+        desk = outs-agree t.handle (sender.sending_offered (next_ref d) r.handle k)
             (λ vs old. all-more (OutAgrees (next_of v)) is_open _ vs (next-is v) old) sent all;
       })
 

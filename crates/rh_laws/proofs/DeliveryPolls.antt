@@ -3,7 +3,7 @@ use Rattle.rh_laws.proofs.Common.{◌≡◌, ℕ, ◌+◌, ◌<◌, Bool, List, 
 use Rattle.rh_laws.proofs.Common.{nat_eq, IfSome, AllByRecursion, eqb_tells, Refusal, Body, EventCode, User, Recorded, Acknowledge, Asked, Sending, Taking}
 use Rattle.rh_laws.proofs.Common.{Incoming, Outgoing, Split, Flex, Parcel, load_ack_letter, as_returned, active_of, asking_of, in_id, open_of, with_id, Desk}
 use Rattle.rh_laws.proofs.Common.{Task, Scrap, next_ref, with_slot, with_task, Handled, answer_ack, answer_fetch, fail_sending, finish_load, ignored, refused}
-use Rattle.rh_laws.proofs.Common.{save_scrap, transmit, accept, ack_back, appended, ask, ended, fetch_back, fetch_more, load_file, loaded, take_bytes}
+use Rattle.rh_laws.proofs.Common.{save_scrap, transmit, accept, ack_back, appended, ask, taking_ended, fetch_back, fetch_more, load_file, loaded, take_bytes}
 use Rattle.rh_laws.proofs.Common.{take_file, take_save, took, came, came_back, handled, OnGrant, chosen, granted, granted-both, granted-past, granted-then}
 use Rattle.rh_laws.proofs.Common.{granted-unless, granted-with, or_else-keeps, Has, FoundActive, active_is, and_left, and_right, asking_is, drains, fetches}
 use Rattle.rh_laws.proofs.Common.{is_equal, open_is, same_value, any-grant}
@@ -118,10 +118,10 @@ module _ (a : Marks) (t : Task) (own : HandleAgrees a (InAgrees a) t.handle t) w
   abbrev AllIn : Marks → List Incoming → Type 0
   AllIn b ws = AllByRecursion (InAgrees b h) ws
 
-  failed-out : (b : Marks) (x : Sending) (vs : List Outgoing) → AllOut b vs → AllOut b (sender.failed x vs)
+  failed-out : (b : Marks) (x : Sending) (vs : List Outgoing) → AllOut b vs → AllOut b (sender.sending_failed x vs)
   failed-out b x vs all = all-with (OutAgrees b) _ x.id (outgoing.Failed x.id x.count) vs tt all
 
-  loaded-out : (b : Marks) (x : Sending) (n : ℕ) (vs : List Outgoing) → AllOut b vs → AllOut b (sender.loaded x n vs)
+  loaded-out : (b : Marks) (x : Sending) (n : ℕ) (vs : List Outgoing) → AllOut b vs → AllOut b (sender.sending_loaded x n vs)
   loaded-out b x n vs all = all-with (OutAgrees b) _ x.id (outgoing.Done x.id n) vs tt all
 
   saved-out : (b : Marks) (x : Sending) (ref : ℕ) → b.of_ref ref ≡ Some x.id → (vs : List Outgoing) → AllOut b vs →
@@ -135,7 +135,7 @@ module _ (a : Marks) (t : Task) (own : HandleAgrees a (InAgrees a) t.handle t) w
       (chosen (OutAgrees b) (nat_lt n amount) _ _ tt is) all
 
   module _ (f : Taking) (is : Unloaded a h f.id) where
-    failed-in : (n : ℕ) (ws : List Incoming) → AllIn a ws → AllIn a (receiver.failed f n ws)
+    failed-in : (n : ℕ) (ws : List Incoming) → AllIn a ws → AllIn a (receiver.taking_failed f n ws)
     failed-in n ws all = all-with (InAgrees a h) _ f.id (incoming.Failed f.id f.anchor n) ws is all
 
     finished-in : (n : ℕ) (ws : List Incoming) → AllIn a ws → AllIn a (receiver.finished f n ws)
@@ -178,7 +178,7 @@ module _ (a : Marks) (t : Task) (own : HandleAgrees a (InAgrees a) t.handle t) w
     refused-keeps : (x : Sending) (refusal : Refusal) → Keeps a (refused d t x refusal)
     refused-keeps x refusal = still (outs-agree h _ (failed-out a x) d g)
 
-    failed-keeps : (f : Taking) → Unloaded a h f.id → (n : ℕ) (o : _) → Keeps a (ended h f (receiver.failed f n) d, o)
+    failed-keeps : (f : Taking) → Unloaded a h f.id → (n : ℕ) (o : _) → Keeps a (taking_ended h f (receiver.taking_failed f n) d, o)
     failed-keeps f is n o = still (ended-agrees h f _ (failed-in f is n) d g)
 
     transmit-keeps : (m : Parcel) (buffer amount : ℕ) (x : Sending) (source : Split Flex) →
@@ -306,7 +306,7 @@ module _ (a : Marks) (t : Task) (own : HandleAgrees a (InAgrees a) t.handle t) w
         granted (record {
           marks = b;
           more = more;
-          desk = ins-become h (receiver.loaded q n) (ins-done a h q.id q.anchor n)
+          desk = ins-become h (receiver.taking_loaded q n) (ins-done a h q.id q.anchor n)
               (λ j other w but. but (λ here same. other here)) sent all;
         }))
         (λ refusal. still (ins-agree h _ (abandoned-in q apart n) d g))

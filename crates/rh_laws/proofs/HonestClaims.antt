@@ -19,7 +19,7 @@ use Rattle.rh_defs.proofs.Lists.{find-all, number-finds}
 use Rattle.rh_defs.proofs.ModuleKeeps.{claim_growing-end}
 use Rattle.rh_defs.proofs.Spaced.{always-is}
 use Rattle.rh_laws.specs.RefusalOrder.{refusal_in}
-use Rattle.rh_laws.specs.HonestHeaps.{ClaimsAsDescribed, HasHonestHeaps, claimed, described, free_in, has_size, used_bytes, used_size}
+use Rattle.rh_laws.specs.HonestHeaps.{ClaimsAsDescribed, HasHonestHeaps, claim_answer, described, free_in, has_size, used_bytes, used_size}
 use Rattle.rh_laws.proofs.HonestHeapLaws.{honest, need-none, need-some}
 
 -- ---- a block takes its bytes
@@ -185,7 +185,7 @@ module _ (d : Desk) (is : IsDesk d) where
   after_claim t g = or_else (g >>= λ p. Ok (with_slot t.handle p.0 d, reply.Block p.1)) (λ r. (d, reply.Refused r))
 
   claimed-is : (name : List ℕ) (n : ℕ) (t : Task) → find (has_name name) d.tasks ≡ Some t
-      → claimed d name n ≡ after_claim t (slot_claim (free_pages d) n t.slot)
+      → claim_answer d name n ≡ after_claim t (slot_claim (free_pages d) n t.slot)
   unfolding claim named found_or ◌>>=◌
   claimed-is name n t e = rw e refl
 
@@ -225,7 +225,7 @@ module _ (d : Desk) (is : IsDesk d) where
         let t = described-of d name size most free q in
         let small : n ≤ largest t.task.slot.heap = (let e = t.most_is in omega arith) in
         let heap_is = heap-of name t.task t.found in
-        let left : free_in (described (claimed d name n).0 name) ≡ free_bytes (claim_growing n t.task.slot.heap).heap =
+        let left : free_in (described (claim_answer d name n).0 name) ≡ free_bytes (claim_growing n t.task.slot.heap).heap =
         ap (λ (a : Answer). free_in (described a.0 name)) (claimed-is name n t.task t.found)
         ∙ ap (λ (g : Granted (Slot × ℕ)). free_in (described (after_claim t.task g).0 name))
         (claim-within (free_pages d) n t.task.slot heap_is some small)

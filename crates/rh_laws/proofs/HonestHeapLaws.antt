@@ -4,7 +4,7 @@ use Rattle.rh_laws.proofs.Common.{◌==◌, ◌&&◌, Result, Ok, Err, if◌then
 use Rattle.rh_laws.proofs.Common.{hole_size, largest, largest_hole, need, segment_size, size_of, leb_yes, leb_no, eqb_same, eqb_apart}
 use Rattle.rh_defs.specs.declared.heap.HeapRefusal.{HeapRefusal}
 use Rattle.rh_defs.specs.declared.heap.HeapRefusal.TheVariants.{BadSize, NoRoom}
-use Rattle.rh_defs.specs.Heap.{IsHeap, IsTidy, as_granted, claim, placed}
+use Rattle.rh_defs.specs.Heap.{IsHeap, IsTidy, as_granted, claim_block, placed_block}
 use Rattle.rh_laws.specs.HonestHeaps.{AreHonest, used_size}
 use Rattle.rh_laws.proofs.RefusalRoomLaws.{need-short}
 
@@ -52,7 +52,7 @@ module _ (n : ℕ) (h : Heap) (is : IsHeap h) where
       (leb_no (segment_size n) (largest_hole h.segments) hole) in
       omega arith
 
-  claims-honest : is_ok (claim n h) ≡ (nat_le 1 n && nat_le n (largest h))
+  claims-honest : is_ok (claim_block n h) ≡ (nat_le 1 n && nat_le n (largest h))
   claims-honest = elim (eqb_tells n 0) [
     | inl u ↦ ap (λ (b : Bool). is_ok (answer b (need n h == 0))) u.0
         ∙ sym (ap (λ (b : Bool). b && nat_le n (largest h)) (leb_no 1 n (let none = u.1 in omega arith)))
@@ -67,7 +67,7 @@ module _ (n : ℕ) (h : Heap) (is : IsHeap h) where
   ]
     where
       answer : Bool → Bool → Result (Heap × ℕ) HeapRefusal
-      answer none room = if none then Err BadSize else if room then Ok (as_granted (placed (zeros (block_room n)) h)) else Err NoRoom
+      answer none room = if none then Err BadSize else if room then Ok (as_granted (placed_block (zeros (block_room n)) h)) else Err NoRoom
 
 -- ---- sums
 

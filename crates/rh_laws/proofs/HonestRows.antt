@@ -6,9 +6,9 @@ use Rattle.rh_defs.specs.declared.heap.HeapRefusal.{HeapRefusal}
 use Rattle.rh_defs.specs.declared.heap.HeapRefusal.TheVariants.{BadSize, NoRoom}
 use Rattle.rh_defs.specs.declared.question.Numbers.TheVariants as numbers
 use Rattle.rh_defs.specs.declared.reply.Reply.TheVariants as reply
-use Rattle.rh_defs.specs.Heap.{as_granted, claim}
+use Rattle.rh_defs.specs.Heap.{as_granted, claim_block}
 use Rattle.rh_defs.specs.Script
-use Rattle.rh_laws.specs.HonestHeaps.{claimed, described, is_granted_within, used_bytes}
+use Rattle.rh_laws.specs.HonestHeaps.{claim_answer, described, is_granted_within, used_bytes}
 
 -- ---- a heap of 56 bytes: blocks of 12 and 4 bytes with a hole of 8 between them, and a top of 8
 
@@ -18,17 +18,17 @@ small = record { segments = Used (zeros 12) ∷ Hole 8 ∷ Used (zeros 4) ∷ []
 small_claims : (largest small ≡ 4)
     × (free_bytes small ≡ 16)
     × (first_place + used_bytes small + free_bytes small ≡ 56)
-    × (is_ok (claim 0 small) ≡ false)
-    × (is_ok (claim 1 small) ≡ true)
-    × (is_ok (claim 4 small) ≡ true)
-    × (claim 5 small ≡ Err NoRoom)
+    × (is_ok (claim_block 0 small) ≡ false)
+    × (is_ok (claim_block 1 small) ≡ true)
+    × (is_ok (claim_block 4 small) ≡ true)
+    × (claim_block 5 small ≡ Err NoRoom)
 small_claims = (refl, refl, refl, refl, refl, refl, refl)
 
 -- ---- a task's heap
 
 abbrev claims : Desk
-claims = after fresh (script ("task a 100" ∷ "claim a 10" ∷ "claim a 10" ∷ "claim a 10"
-    ∷ "release a &8124" ∷ "claim a 12" ∷ "claim a 13" ∷ []))
+claims = after fresh (script ("task a 100" ∷ "claim_block a 10" ∷ "claim_block a 10" ∷ "claim_block a 10"
+    ∷ "release a &8124" ∷ "claim_block a 12" ∷ "claim_block a 13" ∷ []))
 
 -- the largest claim is granted in the heap as it is, and one byte more makes it longer
 task_claims : (described claims (codes "a") ≡ reply.Answered (numbers.HeapSums 3840 3748 3752))
@@ -36,7 +36,7 @@ task_claims : (described claims (codes "a") ≡ reply.Answered (numbers.HeapSums
     × (is_granted_within 3840 claims (codes "a") 1 ≡ true)
     × (is_granted_within 3840 claims (codes "a") 3748 ≡ true)
     × (is_granted_within 3840 claims (codes "a") 3749 ≡ false)
-    × (described (claimed claims (codes "a") 3748).0 (codes "a") ≡ reply.Answered (numbers.HeapSums 3840 0 0))
+    × (described (claim_answer claims (codes "a") 3748).0 (codes "a") ≡ reply.Answered (numbers.HeapSums 3840 0 0))
     × (is_granted_within 7936 claims (codes "a") 3749 ≡ true)
 unfolding Script.computing
 task_claims = (refl, refl, refl, refl, refl, refl, refl)
@@ -47,7 +47,7 @@ task_claims = (refl, refl, refl, refl, refl, refl, refl)
 abbrev largest_segment : Heap → ℕ
 largest_segment h = max (largest_hole h.segments) (h.end - base h)
 
-wrong_largest : (largest_segment small ≡ 8) × (claim 8 small ≡ Err NoRoom)
+wrong_largest : (largest_segment small ≡ 8) × (claim_block 8 small ≡ Err NoRoom)
 wrong_largest = (refl, refl)
 
 -- free bytes that leave out the top
@@ -68,5 +68,5 @@ claim_on_top n h =
 abbrev full : Heap
 full = record { segments = Hole 32 ∷ Used (zeros 4) ∷ []; end = 56 }
 
-wrong_claim : (largest full ≡ 28) × (is_ok (claim 28 full) ≡ true) × (is_ok (claim_on_top 28 full) ≡ false)
+wrong_claim : (largest full ≡ 28) × (is_ok (claim_block 28 full) ≡ true) × (is_ok (claim_on_top 28 full) ≡ false)
 wrong_claim = (refl, refl, refl)

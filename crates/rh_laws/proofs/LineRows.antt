@@ -1,7 +1,7 @@
 -- The printed line of each command means the command.
 use Rattle.rh_laws.proofs.Common.{◌≡◌, ℕ, Bool, true, false, ◌&&◌, List, [], ◌∷◌, ◌++◌, length, refl, ap, ◌∙◌, nat_le, ◌==◌, arith, nat_tests}
 use Rattle.rh_laws.proofs.Common.{slice_index, Some, Ok, join_with_byte, Command, Unknown}
-use Rattle.rh_laws.proofs.Common.{space, Row, rows, row_of, is_skipped, longest_line, line_means, in_range, and_left, and_right}
+use Rattle.rh_laws.proofs.Common.{space, GrammarRow, rows, grammar_row, is_skipped, longest_line, line_means, in_range, and_left, and_right}
 use Rattle.rh_defs.specs.declared.command.Command.TheVariants as command
 use Rattle.rh_defs.specs.declared.question.Question.{Question}
 use Rattle.rh_defs.specs.declared.question.Question.TheVariants as question
@@ -13,10 +13,10 @@ use Rattle.rh_laws.proofs.Texts.{are_readable, is_clear_row, row_spells}
 use Rattle.rh_laws.proofs.Words.{line_joined}
 
 -- what is found of a row and its values by computing: the words are told apart, no comment, and those of this row alone
-record HasRow (row : Row) (values : Values row.forms) : Type 0 where
+record HasRow (row : GrammarRow) (values : Values row.forms) : Type 0 where
   clear : is_clear_row row ≡ true
   said : (slice_index row.first 0 == 35) ≡ false
-  found : row_of rows row.first (words_spelled (spelled_by row values)) Unknown ≡ Ok row
+  found : grammar_row rows row.first (words_spelled (spelled_by row values)) Unknown ≡ Ok row
 
 not-skipped : (w : List ℕ) (ws : List (List ℕ)) → (slice_index w 0 == 35) ≡ false → is_skipped (w ∷ ws) ≡ false
 not-skipped w ws h =

@@ -1,12 +1,12 @@
 -- Each form of a word reads what is printed for it.
 use Rattle.rh_laws.proofs.Common.{◌≡◌, ℕ, zero, suc, ◌/◌, ◌%◌, ◌^◌, ◌<◌, Bool, true, false, ◌&&◌, List, [], ◌∷◌, length, refl, arith, lit≤, nat_le, nat_lt}
 use Rattle.rh_laws.proofs.Common.{slice_index, ◌==◌, ℤ, pos, negsuc, Ok, list_all, is_ascii_digit, decimal, signed_decimal, digits, nat_tests, encode_lower}
-use Rattle.rh_laws.proofs.Common.{is_name, is_leaf, is_decimal, is_delta, word, Words, address, and_left, and_right}
+use Rattle.rh_laws.proofs.Common.{is_name, is_leaf, is_decimal, is_delta, nth_word, Words, address, and_left, and_right}
 use Rattle.std.specs.Char.{is_ascii_alphanumeric, is_ascii_alphabetic}
 use Rattle.hex.specs.Hex.{encode_with, lower_digits}
 use Rattle.hex.proofs.HexLemmas.{decode_of-encode_lower, length-encode_with}
 use Rattle.rh_defs.specs.Forms.{is_graphic, greatest}
-use Rattle.rh_defs.specs.Line.{name_at, number_at, delta_at, is_negative, is_address, address_at, leaf_at, bytes_at}
+use Rattle.rh_defs.specs.Line.{name_at, number_at, delta_at, is_negative, is_address, address_at, leaf_at, bytes_read_at}
 use Rattle.rh_laws.proofs.Words.{is_whole, is_inner, all_pass}
 use Rattle.rh_laws.proofs.Numbers.{number_of_decimal, decimal_is_decimal, hex_digits, decimal_is_whole, test_at}
 
@@ -25,7 +25,7 @@ name_is_whole w h =
     (list_all is_ascii_alphanumeric w) h)) in
     rw (some, all_pass is_ascii_alphanumeric is_inner w letter_is_inner all) refl
 
-pub name_read : (words : Words) (n : ℕ) → is_name (word words n) ≡ true → name_at words n ≡ Ok (word words n)
+pub name_read : (words : Words) (n : ℕ) → is_name (nth_word words n) ≡ true → name_at words n ≡ Ok (nth_word words n)
 unfolding name_at
 name_read words n h = rw h refl
 
@@ -35,13 +35,13 @@ leaf_is_whole w h =
     let some = and_left (nat_le 1 (length w)) _ (and_left _ (list_all is_graphic w) h) in
     rw (some, all_pass is_graphic is_inner w graphic_is_inner all) refl
 
-pub leaf_read : (words : Words) (n : ℕ) → is_leaf (word words n) ≡ true → leaf_at words n ≡ Ok (word words n)
+pub leaf_read : (words : Words) (n : ℕ) → is_leaf (nth_word words n) ≡ true → leaf_at words n ≡ Ok (nth_word words n)
 unfolding leaf_at
 leaf_read words n h = rw h refl
 
 -- ---- numbers
 
-pub number_read : (words : Words) (n low high k : ℕ) → word words n ≡ decimal k → k < 2 ^ 32 →
+pub number_read : (words : Words) (n low high k : ℕ) → nth_word words n ≡ decimal k → k < 2 ^ 32 →
     (nat_le low k && nat_le k high) ≡ true → number_at words n low high ≡ Ok k
 unfolding number_at
 number_read words n low high k is small range =
@@ -64,7 +64,7 @@ decimal_has_no_sign n small =
     first_digit (decimal n) (and_right (list_all is_ascii_digit (decimal n)) _ front) (and_left _ (nat_le 1 (length
     (decimal n))) front)
 
-pub delta_read : (words : Words) (n : ℕ) (by : ℤ) → word words n ≡ signed_decimal by → is_delta by ≡ true →
+pub delta_read : (words : Words) (n : ℕ) (by : ℤ) → nth_word words n ≡ signed_decimal by → is_delta by ≡ true →
     delta_at words n ≡ Ok by
 unfolding delta_at
 delta_read words n (pos k) is range =
@@ -83,7 +83,7 @@ delta_is_whole (negsuc k) range =
 
 -- ---- addresses
 
-pub address_read : (words : Words) (n place : ℕ) → word words n ≡ address place → nat_lt place (2 ^ 32) ≡ true →
+pub address_read : (words : Words) (n place : ℕ) → nth_word words n ≡ address place → nat_lt place (2 ^ 32) ≡ true →
     address_at words n ≡ Ok place
 unfolding address_at is_address address
 address_read words n place is small =
@@ -112,9 +112,9 @@ byte_at (b ∷ bytes) h zero = let small = and_left (is_byte b) (list_all is_byt
 )
 byte_at (b ∷ bytes) h (suc i) = byte_at bytes (and_right (is_byte b) (list_all is_byte bytes) h) i
 
-pub bytes_read : (words : Words) (n : ℕ) (bytes : List ℕ) → word words n ≡ encode_lower bytes →
-    nat_le 1 (length bytes) ≡ true → list_all is_byte bytes ≡ true → bytes_at words n ≡ Ok bytes
-unfolding bytes_at
+pub bytes_read : (words : Words) (n : ℕ) (bytes : List ℕ) → nth_word words n ≡ encode_lower bytes →
+    nat_le 1 (length bytes) ≡ true → list_all is_byte bytes ≡ true → bytes_read_at words n ≡ Ok bytes
+unfolding bytes_read_at
 bytes_read words n bytes is some small =
     let twice = length-encode_with lower_digits bytes in
     let has : nat_le 1 (length (encode_lower bytes)) ≡ true = grind (arith, nat_tests, some, twice) in

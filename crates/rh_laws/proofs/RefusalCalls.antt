@@ -6,11 +6,11 @@ use Rattle.rh_laws.proofs.Common.{Segment, module_claim, Flex, Slot, block_of, f
 use Rattle.rh_laws.proofs.Common.{slot_put, Desk, Task, free_pages, idle_block, Answer, free, leb_no}
 use Rattle.rh_defs.specs.declared.refusal.Refusal.TheVariants.{NotYours}
 use Rattle.rh_defs.specs.Files.{file_bytes}
-use Rattle.rh_defs.specs.Slot.{IsFree, is_used, slot_length, with_block, with_bytes}
+use Rattle.rh_defs.specs.Slot.{IsFree, is_used, slot_length, with_block, with_block_bytes}
 use Rattle.rh_defs.specs.Desk.{idle_buffer, is_busy_block, is_busy_buffer}
 use Rattle.rh_defs.specs.Commands.{own_block}
 use Rattle.rh_defs.proofs.SlotLaws.{block_of-at, find as at_anchor}
-use Rattle.rh_laws.specs.RefusalOrder.{Row}
+use Rattle.rh_laws.specs.RefusalOrder.{RefusalRow}
 use Rattle.rh_laws.specs.RefusalRooms.{lacks, short_of}
 use Rattle.rh_laws.specs.Conditions.{lacks_module_room, lacks_room_with, module_block, must_not_grow, not_a_module_block, not_yours}
 use Rattle.rh_laws.proofs.RefusalSteps.{GoesBy, found_then, granted_then, in_steps, in_steps_both, refused_if}
@@ -18,7 +18,7 @@ use Rattle.rh_laws.proofs.RefusalRoomLaws.{need-short, room-same}
 
 -- ---- blocks that no transfer uses
 
-pub idle-then : (k : ℕ) (t : Task) (next : Split Flex → Granted Answer) (rows : List Row)
+pub idle-then : (k : ℕ) (t : Task) (next : Split Flex → Granted Answer) (rows : List RefusalRow)
     → ((b : Split Flex) → block_of k t.slot ≡ Some b → GoesBy (next b) rows)
     → GoesBy (idle_block k t >>= next) ((NoBlock, is_none (block_of k t.slot)) ∷ (Busy, is_busy_block k t) ∷ rows)
 unfolding idle_block slot_block
@@ -27,7 +27,7 @@ idle-then k t next rows f =
     in_steps_both _ _ _ _ (refused_if (is_busy_block k t) (is_busy_block k t) Busy _ _ refl λ no.
     granted_then _ _ _ _ refl (f b e)))
 
-pub idle_buffer-then : (address : ℕ) (t : Task) (next : Split Segment → Granted Answer) (rows : List Row)
+pub idle_buffer-then : (address : ℕ) (t : Task) (next : Split Segment → Granted Answer) (rows : List RefusalRow)
     → ((b : Split Segment) → heap_block_at address t.slot ≡ Some b → GoesBy (next b) rows)
     → GoesBy (idle_buffer address t >>= next)
     ((NotABlock, is_none (heap_block_at address t.slot)) ∷ (Busy, is_busy_buffer address t) ∷ rows)
@@ -83,13 +83,13 @@ loaded k bytes s unused =
     let fits : nat_lt (length b.here.bytes) (0 + length bytes) ≡ false =
     leb_no _ _ (omega (arith, length-replicate {A = ℕ} (length bytes) 0)) in
     record {
-      into = with_bytes b (written b.here.bytes 0 bytes) (with_block k (zeros (length bytes)) s);
+      into = with_block_bytes b (written b.here.bytes 0 bytes) (with_block k (zeros (length bytes)) s);
       granted = rw found (rw fits refl);
     }
 
 module _ (d : Desk) (t : Task) where
   -- a new block: where it is granted, its anchor was free
-  pub alloc-then : (k n : ℕ) (next : Slot × ℕ → Granted Answer) (rows : List Row)
+  pub alloc-then : (k n : ℕ) (next : Slot × ℕ → Granted Answer) (rows : List RefusalRow)
       → (is_used k t.slot ≡ false → GoesBy (next (with_block k (zeros n) t.slot, flex_address t.slot t.slot.blocks)) rows)
       → GoesBy (slot_alloc (free_pages d) k n t.slot >>= next) ((AnchorInUse, is_used k t.slot) ∷ (NoRoom, lacks_room_with n t d) ∷ rows)
   unfolding slot_alloc
@@ -120,7 +120,7 @@ module _ (d : Desk) where
       in_steps _ _ _ _ (refused_if _ _ NoRoom _ _ (ap (λ (x : ℕ). lacks x d) (need-short n d.post.heap)) λ fits.
       granted_then _ _ _ _ refl (f _)))
 
-  pub own_block-then : (address : ℕ) (next : Split Segment → Granted Answer) (rows : List Row)
+  pub own_block-then : (address : ℕ) (next : Split Segment → Granted Answer) (rows : List RefusalRow)
       → ((b : Split Segment) → module_block address d ≡ Some b → GoesBy (next b) rows)
       → GoesBy (own_block address d >>= next) (not_a_module_block address d ∷ not_yours address d ∷ rows)
   unfolding own_block

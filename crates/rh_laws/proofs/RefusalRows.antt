@@ -12,7 +12,7 @@ use Rattle.rh_defs.specs.declared.command.Manner.TheVariants as manner
 use Rattle.rh_defs.specs.Sender as sender
 use Rattle.rh_defs.specs.Runs.{start}
 use Rattle.rh_defs.specs.Script
-use Rattle.rh_laws.specs.RefusalOrder.{Row, first_refusal, number_of, refusal_in}
+use Rattle.rh_laws.specs.RefusalOrder.{RefusalRow, first_refusal, refusal_number, refusal_in}
 use Rattle.rh_laws.specs.Conditions.{conditions}
 
 -- ---- what the table says along a run
@@ -23,7 +23,7 @@ Said = String × Option Refusal
 
 abbrev is_same : Option Refusal → Option Refusal → Bool
 is_same None None = true
-is_same (Some a) (Some b) = number_of a == number_of b
+is_same (Some a) (Some b) = refusal_number a == refusal_number b
 is_same _ _ = false
 
 abbrev agrees : Desk → List Command → List (Option Refusal) → Bool
@@ -176,8 +176,8 @@ full = (refl, refl, refl, refl, refl, refl)
 -- ---- several conditions at once
 
 -- all refusals whose conditions hold
-abbrev all_refusals : List Row → List Refusal
-all_refusals rows = map (λ (row : Row). row.0) (filter (λ (row : Row). row.1) rows)
+abbrev all_refusals : List RefusalRow → List Refusal
+all_refusals rows = map (λ (row : RefusalRow). row.0) (filter (λ (row : RefusalRow). row.1) rows)
 
 -- a block that is busy, offered to no task where no ref is left; and a range outside a block that has no room to grow
 abbrev busy_source : Desk
@@ -211,7 +211,7 @@ recipient_first d name k to leaf = do
   r ← found_or (find (has_name to) d.tasks) NoTask
   b ← idle_block k t
   sent ← send_letter (save_letter t.handle r.handle (length b.here.bytes) leaf) d
-  Ok (with_sending t.handle (sender.offered (next_ref d) r.handle k) sent, reply.Sent (next_ref d))
+  Ok (with_sending t.handle (sender.sending_offered (next_ref d) r.handle k) sent, reply.Sent (next_ref d))
 
 wrong_save : answered busy_source (recipient_first busy_source (codes "a") 0 (codes "q") (codes "x")) ≡ Some NoTask
 unfolding Script.computing

@@ -137,14 +137,14 @@ module _ (d : Desk) (is : IsDesk d) where
 
   pub cancel_in-goes : (name : List ℕ) (id : Option ℕ)
       → GoesBy (cancel_in d name id) (conditions d (command.CancelIn name id))
-  unfolding cancel_in named receiver.cancel
+  unfolding cancel_in named receiver.cancel_taking
   cancel_in-goes name id =
       found_then _ _ _ _ λ t e. rw e (in_steps _ _ _ _ (found_as _ _ _ _ _ (none-coming id t.taking) λ r f.
       granted_then _ _ _ _ refl (done _ refl)))
 
   pub cancel_out-goes : (name : List ℕ) (id : Option ℕ)
       → GoesBy (cancel_out d name id) (conditions d (command.CancelOut name id))
-  unfolding cancel_out named sender.cancel
+  unfolding cancel_out named sender.cancel_sending
   cancel_out-goes name id =
       found_then _ _ _ _ λ t e. rw e (in_steps _ _ _ _ (found_as _ _ _ _ _ (none-open id t.sending) λ x f.
       granted_then _ _ _ _ refl (done _ refl)))

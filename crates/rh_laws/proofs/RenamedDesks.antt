@@ -5,7 +5,7 @@ use Rattle.rh_laws.proofs.Common.{Slot, Post, post_send, Desk, Task, Scrap}
 use Rattle.rh_laws.proofs.Common.{free_pages, has_name, named, task_at, idle_block, edit_task, with_task, with_slot, with_post, with_delivered, send_letter}
 use Rattle.rh_laws.proofs.Common.{Follows, follows-then, follows-equal}
 use Rattle.rh_defs.specs.Chain.{result_or}
-use Rattle.rh_defs.specs.Pieces.{page}
+use Rattle.rh_defs.specs.Pieces.{page_size}
 use Rattle.rh_defs.specs.Post.{post_is_live}
 use Rattle.rh_defs.specs.Desk.{Made, task_pages, idle_buffer, kept_scrap}
 use Rattle.rh_laws.specs.Renaming.{renamed_slot, renamed_task, renamed_scrap, renamed}
@@ -31,7 +31,7 @@ module _ (f : ℕ → ℕ) where
 
   pub free-renamed : (d : Desk) → free_pages (renamed f d) ≡ free_pages d
   free-renamed d =
-      ap (λ n. d.pool - (total (λ pages. pages) d.areas + d.post.heap.end / page + total (λ (m : Made). m.pages) d.made + n))
+      ap (λ n. d.pool - (total (λ pages. pages) d.areas + d.post.heap.end / page_size + total (λ (m : Made). m.pages) d.made + n))
       (total-map task_pages (renamed_task f) (λ t. pages-renamed f t.slot) d.tasks)
 
   -- a call where so many pages are free

@@ -5,7 +5,7 @@ use Rattle.rh_laws.proofs.Common.{Heap, Placed, size_of, bytes_of, place_after, 
 use Rattle.rh_laws.proofs.Common.{block_room, raised, claim_growing, fitted, way_to, resize_need, resize_growing, new_size, hole_size, largest_hole, largest}
 use Rattle.rh_defs.specs.Pieces.{is_inside}
 use Rattle.rh_defs.specs.Heap.{Way, Stays, Shrinks, GrowsIntoHole, GrowsAtTop, MovesToHole, MovesToTop, block_at, is_block_at, is_around, with_hole, joined}
-use Rattle.rh_defs.specs.Heap.{placed, shortage_in, released, release, release_found, way_beyond, way_to_grow, resized_by, end_for, resized}
+use Rattle.rh_defs.specs.Heap.{placed_block, shortage_in, released, release_block, release_found, way_beyond, way_to_grow, resized_by, end_for, resized}
 use Rattle.rh_laws.specs.Renaming.{renamed_segment, renamed_heap}
 use Rattle.rh_laws.proofs.RenamedParts.{total-map, cut_by, first_at-map, zeros-map, fitted-map}
 
@@ -103,7 +103,7 @@ module _ (f : ℕ → ℕ) where
       ∙ ap (λ ss. placed_at ss h.end (place_after s.before + 4)) (sym (map-append one s.before (Used bytes ∷ with_hole (size_of s.here -
       (4 + length bytes)) s.after)))
 
-  placed-renamed : (bytes : List ℕ) (h : Heap) → placed (map f bytes) (renamed_heap f h) ≡ renamed_placed f (placed bytes h)
+  placed-renamed : (bytes : List ℕ) (h : Heap) → placed_block (map f bytes) (renamed_heap f h) ≡ renamed_placed f (placed_block bytes h)
   placed-renamed bytes h =
       ap (λ n. placed_in (map f bytes) (renamed_heap f h) (hole_for (4 + n) (map one h.segments))) (length-map bytes f)
       ∙ ap (placed_in (map f bytes) (renamed_heap f h)) (hole_for-renamed (4 + length bytes) h.segments)
@@ -129,7 +129,7 @@ module _ (f : ℕ → ℕ) where
       heap_of : List Segment → Heap
       heap_of ss = record { segments = ss; end = h.end }
 
-  pub release-renamed : (a : ℕ) (h : Heap) → release a (renamed_heap f h) ≡ renamed_heap f (release a h)
+  pub release-renamed : (a : ℕ) (h : Heap) → release_block a (renamed_heap f h) ≡ renamed_heap f (release_block a h)
   release-renamed a h = ap (λ o. release_found o (renamed_heap f h)) (block_at-renamed a h) ∙ go (block_at a h)
     where
       go : (o : Option (Split Segment)) → release_found (option_map (renamed_cut f) o) (renamed_heap f h) ≡ renamed_heap f (release_found o h)
@@ -188,15 +188,15 @@ module _ (f : ℕ → ℕ) where
       ∙ chosen-way (t == size_of s.here) _ _ _ _ refl (chosen-way (nat_lt t (size_of s.here)) _ _ _ _ refl (way_to_grow-renamed t s s.after h))
 
   moved-renamed : (bytes : List ℕ) (s : Split Segment) (h : Heap) (o : Option (Split Segment)) →
-      placed_at (release (place_after (map one s.before) + 4) (placed_in (map f bytes) (renamed_heap f h) (option_map (renamed_cut f) o)).heap).segments
-      (release (place_after (map one s.before) + 4) (placed_in (map f bytes) (renamed_heap f h) (option_map (renamed_cut f) o)).heap).end
+      placed_at (release_block (place_after (map one s.before) + 4) (placed_in (map f bytes) (renamed_heap f h) (option_map (renamed_cut f) o)).heap).segments
+      (release_block (place_after (map one s.before) + 4) (placed_in (map f bytes) (renamed_heap f h) (option_map (renamed_cut f) o)).heap).end
       (placed_in (map f bytes) (renamed_heap f h) (option_map (renamed_cut f) o)).address
-      ≡ placed_at (map one (release (place_after s.before + 4) (placed_in bytes h o).heap).segments) (release (place_after s.before + 4)
+      ≡ placed_at (map one (release_block (place_after s.before + 4) (placed_in bytes h o).heap).segments) (release_block (place_after s.before + 4)
       (placed_in bytes h o).heap).end (placed_in bytes h o).address
   moved-renamed bytes s h o =
-      ap (λ (p : Placed). placed_at (release (place_after (map one s.before) + 4) p.heap).segments (release (place_after
+      ap (λ (p : Placed). placed_at (release_block (place_after (map one s.before) + 4) p.heap).segments (release_block (place_after
       (map one s.before) + 4) p.heap).end p.address) (placed_in-renamed bytes h o)
-      ∙ ap (λ n. placed_at (release (n + 4) (renamed_heap f (placed_in bytes h o).heap)).segments (release (n + 4) (renamed_heap f
+      ∙ ap (λ n. placed_at (release_block (n + 4) (renamed_heap f (placed_in bytes h o).heap)).segments (release_block (n + 4) (renamed_heap f
       (placed_in bytes h o).heap)).end (placed_in bytes h o).address) (place-renamed s.before)
       ∙ ap (λ (k : Heap). placed_at k.segments k.end (placed_in bytes h o).address) (release-renamed (place_after s.before + 4) (placed_in bytes h o).heap)
 
@@ -252,8 +252,8 @@ module _ (f : ℕ → ℕ) where
 module _ (f : ℕ → ℕ) (zero-is : f 0 ≡ 0) where
   pub claim-renamed : (n : ℕ) (h : Heap) → claim_growing n (renamed_heap f h) ≡ renamed_placed f (claim_growing n h)
   claim-renamed n h =
-      ap (λ m. placed (zeros (block_room n)) (raised m (renamed_heap f h))) (need-renamed f n h)
-      ∙ ap (λ bytes. placed bytes (raised (need n h) (renamed_heap f h))) (sym (zeros-map f zero-is (block_room n)))
+      ap (λ m. placed_block (zeros (block_room n)) (raised m (renamed_heap f h))) (need-renamed f n h)
+      ∙ ap (λ bytes. placed_block bytes (raised (need n h) (renamed_heap f h))) (sym (zeros-map f zero-is (block_room n)))
       ∙ placed-renamed f (zeros (block_room n)) (raised (need n h) h)
 
   pub resize-renamed : (n : ℕ) (s : Split Segment) (h : Heap) → resize_growing n (renamed_cut f s) (renamed_heap f h) ≡ renamed_placed f (resize_growing n s h)

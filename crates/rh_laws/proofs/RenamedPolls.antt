@@ -5,7 +5,8 @@ use Rattle.rh_laws.proofs.Common.{EventCode, User, Recorded, Acknowledge, Body, 
 use Rattle.rh_laws.proofs.Common.{refuse_if, found_or, Split, Slot, Flex, flex_address, heap_block_at, slot_alloc, slot_extend, slot_put, slot_claim, Parcel}
 use Rattle.rh_laws.proofs.Common.{post_poll, Desk, Task, Scrap, next_ref, free_pages, task_at, with_task, with_slot, with_sending, with_taking}
 use Rattle.rh_laws.proofs.Common.{with_delivered, send_letter, buffer_at, written_in, Handled, portion, transmit, refused, answer_fetch, fail_sending}
-use Rattle.rh_laws.proofs.Common.{save_scrap, answer_ack, finish_load, without_buffer, ended, accept, take_save, appended, fetch_more, took, take_bytes, ask}
+use Rattle.rh_laws.proofs.Common.{save_scrap, answer_ack, finish_load, without_buffer, taking_ended, accept, take_save, appended, fetch_more, took, take_bytes}
+use Rattle.rh_laws.proofs.Common.{ask}
 use Rattle.rh_laws.proofs.Common.{fetch_back, ack_back, loaded, load_file, take_file, answers_none, came, came_back, handled, event, poll_taken, poll}
 use Rattle.rh_laws.proofs.Common.{Follows, follows-then, follows-equal, follows-as}
 use Rattle.rh_defs.specs.declared.message.Body.TheVariants.{DataSave, DataSaveAck, DataLoad, DataLoadAck, RamFetch, RamTransmit}
@@ -170,7 +171,7 @@ module _ (f : ℕ → ℕ) (zero-is : f 0 ≡ 0) where
   finish_load-renamed d t (Some x) =
       or_else-follows (By (renamed_with f)) _ _ (follows-by _ _ (slot_block-renamed f x.anchor t.slot) λ source.
       Follows.both (
-      ap (λ (n : ℕ). (with_sending t.handle (sender.loaded x n) (renamed f d), outcome.Done)) (length-map source.here.bytes f)
+      ap (λ (n : ℕ). (with_sending t.handle (sender.sending_loaded x n) (renamed f d), outcome.Done)) (length-map source.here.bytes f)
       ∙ edited t.handle _ _ d outcome.Done (λ u. refl)
       )) (refused-renamed d t x)
 
@@ -179,8 +180,9 @@ module _ (f : ℕ → ℕ) (zero-is : f 0 ≡ 0) where
   without-renamed : (address : ℕ) (s : Slot) → without_buffer address (renamed_slot f s) ≡ renamed_slot f (without_buffer address s)
   without-renamed address s = result-by s (slot_release-renamed f address s)
 
-  ended-renamed : (h : ℕ) (x : Taking) (edit : List Incoming → List Incoming) (d : Desk) → ended h x edit (renamed f d) ≡ renamed f (ended h x edit d)
-  unfolding ended
+  ended-renamed : (h : ℕ) (x : Taking) (edit : List Incoming → List Incoming) (d : Desk) → taking_ended h x edit (renamed f d) ≡ renamed f
+      (taking_ended h x edit d)
+  unfolding taking_ended
   ended-renamed h x edit d =
       ap (with_taking h edit) (with_task-renamed f h _ _ d (λ t. ap (with_it t) (without-renamed x.buffer t.slot)))
       ∙ with_task-renamed f h _ _ _ (λ t. refl)
@@ -189,7 +191,7 @@ module _ (f : ℕ → ℕ) (zero-is : f 0 ≡ 0) where
       with_it t s = record t { slot = s }
 
   ended-same : (h : ℕ) (x : Taking) (edit : List Incoming → List Incoming) (d : Desk) (o : Outcome) →
-      Same (ended h x edit d, o) (ended h x edit (renamed f d), o)
+      Same (taking_ended h x edit d, o) (taking_ended h x edit (renamed f d), o)
   ended-same h x edit d o = ap (λ (e : Desk). (e, o)) (ended-renamed h x edit d)
 
   accept-renamed : (d : Desk) (t : Task) (m : Parcel) → After (accept d t m) (accept (renamed f d) (renamed_task f t) m)

@@ -7,7 +7,8 @@ use Rattle.rh_laws.proofs.Common.{heap_start, slot_pages, flex_address, block_of
 use Rattle.rh_laws.proofs.Common.{slot_free, slot_extend, slot_mid, slot_put, slot_claim, slot_release, slot_resize, with_heap_bytes, buffer_at, written_in}
 use Rattle.rh_defs.specs.SlotImage.{heap_place}
 use Rattle.rh_defs.specs.Pieces.{pages_for, is_inside}
-use Rattle.rh_defs.specs.Slot.{weight, slot_length, flex_start, is_used, flex_around, holds, with_bytes, without, with_heap, opened_at, taken_out, is_stuck}
+use Rattle.rh_defs.specs.Slot.{weight, slot_length, flex_start, is_used, flex_around, holds, with_block_bytes, without, with_heap, opened_at, taken_out}
+use Rattle.rh_defs.specs.Slot.{is_stuck}
 use Rattle.rh_defs.specs.Places.{roomy_in, written_heap, written_around, first_bytes, free_from}
 use Rattle.rh_laws.specs.Renaming.{renamed_block, renamed_segment, renamed_heap, renamed_slot}
 use Rattle.rh_laws.proofs.RenamedParts.{By, follows-by, follows-test, found-by, total-map, cut_by, first_at-map, zeros-map, fitted-map, written-map}
@@ -79,8 +80,8 @@ module _ (f : ℕ → ℕ) where
 
   -- ---- edits
 
-  with_bytes-renamed : (b : Split Flex) (bytes : List ℕ) (s : Slot) → with_bytes (renamed_here f b) (map f bytes) (renamed_slot f s)
-      ≡ renamed_slot f (with_bytes b bytes s)
+  with_bytes-renamed : (b : Split Flex) (bytes : List ℕ) (s : Slot) → with_block_bytes (renamed_here f b) (map f bytes) (renamed_slot f s)
+      ≡ renamed_slot f (with_block_bytes b bytes s)
   with_bytes-renamed b bytes s = ap (slot_of s) (sym (map-append one b.before (record { anchor = b.here.anchor; bytes = bytes } ∷ b.after)))
 
   without-renamed : (b : Split Flex) (s : Slot) → without (renamed_here f b) (renamed_slot f s) ≡ renamed_slot f (without b s)
@@ -114,7 +115,7 @@ module _ (f : ℕ → ℕ) where
       follows-by _ _ (slot_block-renamed k s) λ b.
       follows-test _ _ _ _ _ (ap (λ n. nat_lt n (offset + length (map f bytes))) (length-map b.here.bytes f) ∙ ap (λ n. nat_lt (length b.here.bytes)
       (offset + n)) (length-map bytes f))
-      (Follows.both (ap (λ l. with_bytes (renamed_here f b) l (renamed_slot f s)) (written-map f b.here.bytes offset bytes) ∙ with_bytes-renamed b
+      (Follows.both (ap (λ l. with_block_bytes (renamed_here f b) l (renamed_slot f s)) (written-map f b.here.bytes offset bytes) ∙ with_bytes-renamed b
       (written b.here.bytes offset bytes) s))
 
   pub slot_release-renamed : (address : ℕ) (s : Slot) → Follows (By (renamed_slot f)) (slot_release address s) (slot_release address (renamed_slot f s))
@@ -160,8 +161,8 @@ module _ (f : ℕ → ℕ) where
       ∙ ap (λ o. written_heap x (map f bytes) o (renamed_slot f s)) (block_around-renamed f (x - heap_start) (length bytes) s.heap)
       ∙ written_heap-renamed x bytes (block_around (x - heap_start) (length bytes) s.heap) s
   written_around-renamed x bytes (Some b) s =
-      ap (λ a. with_bytes (renamed_here f b) (written (map f b.here.bytes) (x - a) (map f bytes)) (renamed_slot f s)) (address-renamed s b.before)
-      ∙ ap (λ l. with_bytes (renamed_here f b) l (renamed_slot f s)) (written-map f b.here.bytes (x - flex_address s b.before) bytes)
+      ap (λ a. with_block_bytes (renamed_here f b) (written (map f b.here.bytes) (x - a) (map f bytes)) (renamed_slot f s)) (address-renamed s b.before)
+      ∙ ap (λ l. with_block_bytes (renamed_here f b) l (renamed_slot f s)) (written-map f b.here.bytes (x - flex_address s b.before) bytes)
       ∙ with_bytes-renamed b (written b.here.bytes (x - flex_address s b.before) bytes) s
 
   pub written_in-renamed : (x : ℕ) (bytes : List ℕ) (o : Option (Split Segment)) (s : Slot) → written_in x (map f bytes) (option_map
@@ -200,7 +201,7 @@ module _ (f : ℕ → ℕ) (zero-is : f 0 ≡ 0) where
   slot_extend-renamed free k n s =
       follows-by _ _ (slot_block-renamed f k s) λ b.
       follows-test _ _ _ _ _ (room-within f free n b s)
-      (Follows.both (ap (λ l. with_bytes (renamed_here f b) l (renamed_slot f s)) (fitted-map f zero-is n b.here.bytes) ∙ with_bytes-renamed f b
+      (Follows.both (ap (λ l. with_block_bytes (renamed_here f b) l (renamed_slot f s)) (fitted-map f zero-is n b.here.bytes) ∙ with_bytes-renamed f b
       (fitted n b.here.bytes) s))
 
   opened-map : (offset : ℕ) (by : ℤ) (bytes : List ℕ) → opened_at offset by (map f bytes) ≡ map f (opened_at offset by bytes)
@@ -223,7 +224,7 @@ module _ (f : ℕ → ℕ) (zero-is : f 0 ≡ 0) where
       follows-test _ _ _ _ _ (ap (λ n. nat_lt n offset || nat_lt offset (taken_out by)) (length-map b.here.bytes f))
       (follows-test _ _ _ _ _ (ap (λ n. lacks_room free (length_with (renamed_here f b) (moved n by) (renamed_slot f s)) (renamed_slot f s))
       (length-map b.here.bytes f) ∙ room-within f free (moved (length b.here.bytes) by) b s)
-      (Follows.both (ap (λ l. with_bytes (renamed_here f b) l (renamed_slot f s)) (opened-map offset by b.here.bytes) ∙ with_bytes-renamed f b
+      (Follows.both (ap (λ l. with_block_bytes (renamed_here f b) l (renamed_slot f s)) (opened-map offset by b.here.bytes) ∙ with_bytes-renamed f b
       (opened_at offset by b.here.bytes) s)))
 
   given-renamed : (p q : Placed) (s : Slot) → q ≡ renamed_placed f p → with_placed q (renamed_slot f s) ≡ renamed_given f (with_placed p s)

@@ -106,7 +106,7 @@ module _ (e : Desk) (t : Task) (p : Parcel) where
 
   -- a fetch that came back
   back_handled : (c : EventCode) → c ≡ Acknowledge → action_of p.message.body ≡ action.RamFetch →
-      transfer.handled e t p c ≡ fetch_back e t (receiver.on_bounce p.message.my_ref t.taking)
+      transfer.handled e t p c ≡ fetch_back e t (receiver.on_taking_bounce p.message.my_ref t.taking)
   unfolding transfer.handled
   back_handled User q kind = absurd (let z : User ≡ Acknowledge = q in (cc))
   back_handled Recorded q kind = absurd (let z : Recorded ≡ Acknowledge = q in (cc))
@@ -140,13 +140,13 @@ ignored_turn d h m a (takes e t p is taken keeps) code kind file =
 -- a first fetch that came back
 pub asked_turn : (d : Desk) (h : ℕ) (m : Message) (a : Answer) → Turn d h m a → is_refused_poll a.1 ≡ false →
     m.code ≡ Acknowledge → m.letter.kind ≡ action.RamFetch → (f : Taking) → f.count ≡ 0 →
-    receiver.on_bounce m.letter.me ((view d).taking h) ≡ Some (incoming.Fetching f) →
+    receiver.on_taking_bounce m.letter.me ((view d).taking h) ≡ Some (incoming.Fetching f) →
     sight.lost (view a.0) ≡ sight.asked (sight.picked (sight.lost (view d)) h m Acknowledge) h f
 asked_turn d h m a (takes e t p is taken keeps) granted code kind f none found =
     let seen = taken ∙ ap (sight.picked (sight.lost (view d)) t.handle (seen_parcel p)) code in
     let records : t.taking ≡ (view d).taking t.handle = sym (field_is (λ y. y.taking) [] t.handle e.tasks t is) ∙
     ap (λ (y : sight.Desk). y.taking t.handle) seen in
-    let same = back_handled e t p p.code code kind ∙ ap (fetch_back e t) (ap (receiver.on_bounce p.message.my_ref)
+    let same = back_handled e t p p.code code kind ∙ ap (fetch_back e t) (ap (receiver.on_taking_bounce p.message.my_ref)
     records ∙ found) in
     ap (λ (z : Handled). sight.lost (view z.0)) same ∙
     ap sight.lost (asked_view e t p p.message.body is f none (granted_by e t p _ action.RamFetch same kind granted)) ∙

@@ -72,7 +72,7 @@ loads_untold d t None file = ignored d
 loads_untold d t (Some q) None = ignored d
 loads_untold d t (Some q) (Some file) =
     or_else (appended d t q.anchor file.bytes >>= λ longer. Ok (
-      with_taking t.handle (receiver.loaded q (length file.bytes)) (record longer { scrap = None }),
+      with_taking t.handle (receiver.taking_loaded q (length file.bytes)) (record longer { scrap = None }),
       outcome.Loaded (length file.bytes),
     ))
     (λ refusal. (with_taking t.handle (receiver.abandoned q 0) d, outcome.Refused refusal))

@@ -54,7 +54,7 @@ came_is d t m (body.RamFetch a n) x q = go (answers_none t.manner) refl q
     go false e s = absurd (none_some None refl s)
 
 pub back_is : (d : Desk) (t : Task) (m : Parcel) (b : Body) → action_of b ≡ action.RamFetch →
-    transfer.came_back d t m b ≡ fetch_back d t (receiver.on_bounce m.message.my_ref t.taking)
+    transfer.came_back d t m b ≡ fetch_back d t (receiver.on_taking_bounce m.message.my_ref t.taking)
 unfolding transfer.came_back
 back_is d t m (body.RamFetch a n) q = refl
 back_is d t m (body.DataSave f) q = absurd (let z : action.DataSave ≡ action.RamFetch = q in (cc))
@@ -151,7 +151,7 @@ module _ (d : Desk) (t : Task) (m : Parcel) (b : Body) (is : task_of t.handle d.
       (λ y z. with_step (slot_block x.anchor t.slot) _ y z (λ s e1 z1.
       let same : s.here.bytes ≡ bytes = same_value ((view d).block h x.anchor)
       (block_seen x.anchor ∙ block_there x.anchor t.slot s e1) there in
-      subst P (ok_is _ y z1) (λ granted. outs_view d h (sender.loaded x (length s.here.bytes)) live ∙
+      subst P (ok_is _ y z1) (λ granted. outs_view d h (sender.sending_loaded x (length s.here.bytes)) live ∙
       ap (λ (z : List ℕ). sight.with_out (view d) h x (outgoing.Done x.id (length z))) same)))
       (λ refusal z granted. absurd (let y : is_refusal action.DataLoadAck (outcome.Refused refusal) ≡ false = granted
       in (cc)))
@@ -176,7 +176,7 @@ module _ (d : Desk) (t : Task) (m : Parcel) (b : Body) (is : task_of t.handle d.
       let letter = load_ack_letter h m n in
       let v2 : view sent ≡ sight.sent (view d1) h (seen_letter letter d1.post.next_ref) = sent_view d1 sent letter e1
       w.live in
-      let edit = receiver.loaded q n in
+      let edit = receiver.taking_loaded q n in
       subst P (ok_is _ x z1)
       (λ granted. ins_view sent h edit (ap (λ (y : sight.Desk). y.live h) v2 ∙ w.live) ∙
       ap (λ (y : sight.Desk). record y { taking = put y.taking h (edit (y.taking h)) }) v2 ∙

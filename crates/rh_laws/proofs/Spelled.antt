@@ -3,8 +3,9 @@ use Rattle.rh_laws.proofs.Common.{◌≡◌, ℕ, zero, suc, ◌+◌, ◌-◌, �
 use Rattle.rh_laws.proofs.Common.{sym, subst}
 use Rattle.rh_laws.proofs.Common.{◌∙◌, ap, arith, length-append, inl, inr, ◌⊎◌, nat_le, nat_lt, ◌==◌, ℤ, pos, Some, None, Result, Ok, Err, if◌then◌else◌}
 use Rattle.rh_laws.proofs.Common.{unwrap_or, slice_get, slice_index, drop, list_all, join_with_byte, decimal, signed_decimal, bytes_eq, is_ascii_digit}
-use Rattle.rh_laws.proofs.Common.{nat_tests, bytes_eq-Decides, encode_lower, Unknown, Command, space, Number, Choice, Maybe, Row, rows, is_name, is_leaf}
-use Rattle.rh_laws.proofs.Common.{is_decimal, number_of, longest_line, word, hex_number, row_of, command_of, is_skipped, line_means, Words, address, in_range}
+use Rattle.rh_laws.proofs.Common.{nat_tests, bytes_eq-Decides, encode_lower, Unknown, Command, space, Number, Choice, Maybe, GrammarRow, rows, is_name, is_leaf}
+use Rattle.rh_laws.proofs.Common.{is_decimal, number_of, longest_line, nth_word, hex_number, grammar_row, command_of, is_skipped, line_means, Words, address}
+use Rattle.rh_laws.proofs.Common.{in_range}
 use Rattle.rh_laws.proofs.Common.{all_in_range, and_left, and_right}
 use Rattle.std.specs.List.{slice_split, onto_first, filter}
 use Rattle.std.specs.Char.{is_ascii_alphabetic, is_ascii_alphanumeric}
@@ -17,10 +18,10 @@ use Rattle.rh_defs.specs.Grammar.{Form, Name, Leaf, Ref, Delta, Address, Bytes, 
 use Rattle.rh_defs.proofs.GrammarLaws.{Spells, AllSpell, rows-spell}
 use Rattle.rh_defs.specs.Forms.{is_graphic, greatest, last_ref}
 use Rattle.rh_defs.specs.Line.{Meaning, ◌>>=◌, words_of, name_at, number_at, delta_at, signed, is_negative, unsigned, is_address, address_at, leaf_at}
-use Rattle.rh_defs.specs.Line.{choice_at, bytes_at, value_at, command_from, is_count, follow, row_means, command_by}
+use Rattle.rh_defs.specs.Line.{choice_at, bytes_read_at, value_at, command_from, is_count, follow, row_means, command_by}
 use Rattle.rh_defs.specs.Script.{commands_in}
 use Rattle.rh_safety.proofs.Lines.{commands_in_range}
-use Rattle.rh_laws.specs.Printer.{text, texts, words_spelled, command_words, is_word, is_sized, are_sized, is_typed, has_sizes, line_of, fits_a_line}
+use Rattle.rh_laws.specs.Printer.{form_text, texts, words_spelled, command_words, is_word, is_sized, are_sized, is_typed, has_sizes, line_of, fits_a_line}
 use Rattle.rh_laws.specs.Printer.{AreSpelled}
 use Rattle.rh_laws.proofs.Lengths.{decimal_short, hex_short, hex_word}
 
@@ -79,8 +80,8 @@ cost_at (w ∷ ws) zero h = omega arith
 cost_at (w ∷ ws) (suc n) h = omega (arith, cost_at ws n h)
 
 -- a word that has a byte is one of the words
-pub cost_next : (ws : Words) (n : ℕ) → 1 ≤ length (word ws (n + 1)) →
-    cost (take (suc n) ws) ≡ cost (take n ws) + suc (length (word ws (n + 1)))
+pub cost_next : (ws : Words) (n : ℕ) → 1 ≤ length (nth_word ws (n + 1)) →
+    cost (take (suc n) ws) ≡ cost (take n ws) + suc (length (nth_word ws (n + 1)))
 cost_next ws n some =
     let same : n ≡ n + 1 - 1 = omega arith in
     subst (λ m. 1 ≤ length (word_at ws m) → cost (take (suc n) ws) ≡ cost (take n ws) + suc (length
@@ -98,11 +99,11 @@ is_proper form = true
 -- what is known of a word's value
 record IsPrinted (form : Form) (words : Words) (n : ℕ) (value : Value form) : Type 0 where
   sized : is_sized form value ≡ true
-  short : cost (take n words) + cost (text form value) ≤ cost (take (suc n) words)
+  short : cost (take n words) + cost (form_text form value) ≤ cost (take (suc n) words)
 
 -- a word that has a byte, and what is printed in its place
-one_word : (words : Words) (n : ℕ) (printed : List ℕ) → 1 ≤ length (word words (n + 1)) →
-    length printed ≤ length (word words (n + 1)) →
+one_word : (words : Words) (n : ℕ) (printed : List ℕ) → 1 ≤ length (nth_word words (n + 1)) →
+    length printed ≤ length (nth_word words (n + 1)) →
     cost (take n words) + cost (printed ∷ []) ≤ cost (take (suc n) words)
 one_word words n printed some short = omega (arith, cost_next words n some, short)
 
@@ -121,17 +122,17 @@ then_ok (Err fault) next y e = absurd cc
 -- ---- each form
 
 -- a word that stands for itself
-itself : (words : Words) (n : ℕ) (w : List ℕ) → nat_le 1 (length (word words (n + 1))) ≡ true →
-    word words (n + 1) ≡ w →
+itself : (words : Words) (n : ℕ) (w : List ℕ) → nat_le 1 (length (nth_word words (n + 1))) ≡ true →
+    nth_word words (n + 1) ≡ w →
     cost (take n words) + cost (w ∷ []) ≤ cost (take (suc n) words)
 itself words n w some same =
-    let has : 1 ≤ length (word words (n + 1)) = grind (arith, nat_tests, some) in
+    let has : 1 ≤ length (nth_word words (n + 1)) = grind (arith, nat_tests, some) in
     one_word words n w has (omega (arith, ap length same))
 
 name_printed : (words : Words) (n : ℕ) (name : List ℕ) → name_at words (n + 1) ≡ Ok name → IsPrinted Name words n name
 unfolding name_at
 name_printed words n name e =
-    let w = word words (n + 1) in
+    let w = nth_word words (n + 1) in
     let told = if_ok (is_name w) w name (Word (n + 1)) e in
     let some = and_left (nat_le 1 (length w)) _ (and_left _ (is_ascii_alphabetic (slice_index w 0)) (and_left _
     (list_all is_ascii_alphanumeric w) told.0)) in
@@ -140,7 +141,7 @@ name_printed words n name e =
 leaf_printed : (words : Words) (n : ℕ) (leaf : List ℕ) → leaf_at words (n + 1) ≡ Ok leaf → IsPrinted Leaf words n leaf
 unfolding leaf_at
 leaf_printed words n leaf e =
-    let w = word words (n + 1) in
+    let w = nth_word words (n + 1) in
     let told = if_ok (is_leaf w) w leaf (Word (n + 1)) e in
     let some = and_left (nat_le 1 (length w)) _ (and_left _ (list_all is_graphic w) told.0) in
     record { sized = refl; short = itself words n leaf some told.1 }
@@ -162,7 +163,7 @@ record IsNumber (words : Words) (n high k : ℕ) : Type 0 where
 number_shown : (words : Words) (n low high k : ℕ) → number_at words (n + 1) low high ≡ Ok k → IsNumber words n high k
 unfolding number_at
 number_shown words n low high k e =
-    let w = word words (n + 1) in
+    let w = nth_word words (n + 1) in
     let told = if_ok (is_decimal w && nat_le low (number_of w) && nat_le (number_of w) high) (number_of w) k (Word
     (n + 1)) e in
     let digits_only = and_left (is_decimal w) _ (and_left _ (nat_le (number_of w) high) told.0) in
@@ -198,7 +199,7 @@ signed_short (b ∷ w) true e h =
 delta_printed : (words : Words) (n : ℕ) (by : ℤ) → delta_at words (n + 1) ≡ Ok by → IsPrinted Delta words n by
 unfolding delta_at
 delta_printed words n by e =
-    let w = word words (n + 1) in
+    let w = nth_word words (n + 1) in
     let told = if_ok (is_decimal (unsigned w) && nat_le (number_of (unsigned w)) greatest) (signed (is_negative w)
     (number_of (unsigned w))) by (Word (n + 1)) e in
     let parts = signed_short w (is_negative w) refl (and_left (is_decimal (unsigned w)) _ told.0) in
@@ -224,7 +225,7 @@ address_printed : (words : Words) (n place : ℕ) → address_at words (n + 1) �
     IsPrinted Address words n place
 unfolding address_at
 address_printed words n place e =
-    let w = word words (n + 1) in
+    let w = nth_word words (n + 1) in
     let told = if_ok (is_address w) (hex_number (drop 1 w)) place (Word (n + 1)) e in
     let parts = address_short w told.0 in
     record {
@@ -245,12 +246,12 @@ all_small (b ∷ bytes) h =
     rw first (all_small bytes (λ i. h (suc i)))
 
 bytes_by : (words : Words) (n : ℕ) (bytes : List ℕ) (some : Bool) (d : Result (List ℕ) FromHexError) →
-    nat_le 1 (length (word words n)) ≡ some →
-    decode_of (word words n) ≡ d → bytes_at words n ≡ Ok bytes → AreBytes (word words n) bytes
-unfolding bytes_at
+    nat_le 1 (length (nth_word words n)) ≡ some →
+    decode_of (nth_word words n) ≡ d → bytes_read_at words n ≡ Ok bytes → AreBytes (nth_word words n) bytes
+unfolding bytes_read_at
 bytes_by words n bytes true (Ok found) q s e =
     let same : found ≡ bytes = let read : Ok found ≡ Ok bytes = subst (λ m. m ≡ Ok bytes) (rw (q, s) refl) e in cc in
-    let told = decode_of-ok (word words n) bytes (s ∙ ap Ok same) in
+    let told = decode_of-ok (nth_word words n) bytes (s ∙ ap Ok same) in
     record {
       some = grind (arith, nat_tests, q);
       small = all_small bytes told.3;
@@ -261,10 +262,10 @@ bytes_by words n bytes true (Err fault) q s e = absurd (let z : Err (Word n) ≡
 bytes_by words n bytes false d q s e = absurd (let z : Err (Word n) ≡ Ok bytes = subst (λ m. m ≡ Ok bytes)
     (rw q refl) e in cc)
 
-bytes_printed : (words : Words) (n : ℕ) (bytes : List ℕ) → bytes_at words (n + 1) ≡ Ok bytes →
+bytes_printed : (words : Words) (n : ℕ) (bytes : List ℕ) → bytes_read_at words (n + 1) ≡ Ok bytes →
     IsPrinted Bytes words n bytes
 bytes_printed words n bytes e =
-    let w = word words (n + 1) in
+    let w = nth_word words (n + 1) in
     let are = bytes_by words (n + 1) bytes (nat_le 1 (length w)) (decode_of w) refl refl e in
     record { sized = are.small; short = one_word words n (encode_lower bytes) are.some are.short }
 
@@ -272,18 +273,18 @@ same_word : (w v : List ℕ) → bytes_eq w v ≡ true → w ≡ v
 same_word w v h = (bytes_eq-Decides w v).0 h
 
 choice_by : (words : Words) (n : ℕ) (first second : List ℕ) (is_first : Bool) (is : Bool) →
-    bytes_eq (word words n) first ≡ is →
-    choice_at words n first second ≡ Ok is_first → word words n ≡ cond is_first first second
+    bytes_eq (nth_word words n) first ≡ is →
+    choice_at words n first second ≡ Ok is_first → nth_word words n ≡ cond is_first first second
 unfolding choice_at
 choice_by words n first second is_first true q e =
     let read : Ok true ≡ Ok is_first = subst (λ m. m ≡ Ok is_first) (rw q refl) e in
     let same : true ≡ is_first = cc in
-    subst (λ b. word words n ≡ cond b first second) same (same_word (word words n) first q)
+    subst (λ b. nth_word words n ≡ cond b first second) same (same_word (nth_word words n) first q)
 choice_by words n first second is_first false q e =
-    let read : (if bytes_eq (word words n) second then Ok false else Err (Word n)) ≡ Ok is_first = subst
+    let read : (if bytes_eq (nth_word words n) second then Ok false else Err (Word n)) ≡ Ok is_first = subst
     (λ m. m ≡ Ok is_first) (rw q refl) e in
-    let told = if_ok (bytes_eq (word words n) second) false is_first (Word n) read in
-    subst (λ b. word words n ≡ cond b first second) told.1 (same_word (word words n) second told.0)
+    let told = if_ok (bytes_eq (nth_word words n) second) false is_first (Word n) read in
+    subst (λ b. nth_word words n ≡ cond b first second) told.1 (same_word (nth_word words n) second told.0)
 
 proper_choice : (first second : List ℕ) (is_first : Bool) → (nat_le 1 (length first) && nat_le 1
     (length second)) ≡ true →
@@ -295,7 +296,7 @@ choice_printed : (words : Words) (n : ℕ) (first second : List ℕ) (is_first :
     (nat_le 1 (length first) && nat_le 1 (length second)) ≡ true →
     choice_at words (n + 1) first second ≡ Ok is_first → IsPrinted (Choice first second) words n is_first
 choice_printed words n first second is_first proper e =
-    let same = choice_by words (n + 1) first second is_first (bytes_eq (word words (n + 1)) first) refl e in
+    let same = choice_by words (n + 1) first second is_first (bytes_eq (nth_word words (n + 1)) first) refl e in
     record {
       sized = refl;
       short = itself words n (cond is_first first second) (subst (λ v. nat_le 1 (length v) ≡ true) (sym same)
@@ -342,7 +343,7 @@ value_printed (Maybe form) words n (Some value) proper e =
 abbrev pub Writes : (forms : List Form) → Maker forms → ℕ → Type 0
 Writes [] command front = (has_sizes command ≡ true) × (cost (command_words command) ≤ front)
 Writes (form ∷ forms) make front =
-    (value : Value form) → is_sized form value ≡ true → Writes forms (make value) (front + cost (text form value))
+    (value : Value form) → is_sized form value ≡ true → Writes forms (make value) (front + cost (form_text form value))
 
 -- the printed words cost no more than those that were read
 record IsShort (words : Words) (c : Command) : Type 0 where
@@ -364,18 +365,18 @@ from_writes (form ∷ forms) make words n front c proper writes so_far e =
     let printed = value_printed form words n told.0 (and_left (is_proper form)
     (list_all is_proper forms) proper) told.1 in
     let next : suc n ≡ n + 1 = omega arith in
-    let paid : front + cost (text form told.0) ≤ cost (take (n + 1) words) =
-    subst (λ m. front + cost (text form told.0) ≤ cost (take m words)) next (omega (arith, so_far, printed.short)) in
-    from_writes forms (make told.0) words (n + 1) (front + cost (text form told.0)) c
+    let paid : front + cost (form_text form told.0) ≤ cost (take (n + 1) words) =
+    subst (λ m. front + cost (form_text form told.0) ≤ cost (take m words)) next (omega (arith, so_far, printed.short)) in
+    from_writes forms (make told.0) words (n + 1) (front + cost (form_text form told.0)) c
     (and_right (is_proper form) (list_all is_proper forms) proper) (writes told.0 printed.sized) paid told.2
 
 -- the same of a row, whose own words have bytes
-pub record RowWrites (row : Row) : Type 0 where
+pub record RowWrites (row : GrammarRow) : Type 0 where
   pub proper : list_all is_proper row.forms ≡ true
   pub named : list_all has_byte (row.first ∷ row.further) ≡ true
   pub writes : Writes row.forms row.make (cost (row.first ∷ row.further))
 
-abbrev pub AllWrite : List Row → Type 0
+abbrev pub AllWrite : List GrammarRow → Type 0
 AllWrite [] = Unit {0}
 AllWrite (row ∷ rows) = RowWrites row × AllWrite rows
 
@@ -393,15 +394,15 @@ spelled_writes [] command give front spells sizes costs = (
   let all = ap (λ s. cost (words_spelled s)) spells in omega (arith, all, costs tt),
 )
 spelled_writes (form ∷ forms) make give front spells sizes costs = λ value sized.
-    spelled_writes forms (make value) (λ values. give (value, values)) (front + cost (text form value)) (spells value)
+    spelled_writes forms (make value) (λ values. give (value, values)) (front + cost (form_text form value)) (spells value)
     (λ values. sizes (value, values) ∙ ap (λ b. b && are_sized forms values) sized)
-    (λ values. omega (arith, costs (value, values), cost_both (text form value) (texts forms values)))
+    (λ values. omega (arith, costs (value, values), cost_both (form_text form value) (texts forms values)))
 
 -- a row whose own words, and those of its choices, have bytes
-abbrev pub is_sound : Row → Bool
+abbrev pub is_sound : GrammarRow → Bool
 is_sound row = list_all is_proper row.forms && list_all has_byte (row.first ∷ row.further)
 
-all-write : (rs : List Row) → AllSpell rs → list_all is_sound rs ≡ true → AllWrite rs
+all-write : (rs : List GrammarRow) → AllSpell rs → list_all is_sound rs ≡ true → AllWrite rs
 all-write [] all sound = tt
 all-write (row ∷ rs) all sound =
     let here = and_left (is_sound row) (list_all is_sound rs) sound in (
@@ -422,15 +423,15 @@ either true m n y e = inl (refl, e)
 either false m n y e = inr e
 
 -- a row that begins a line, and what its words cost
-record IsBegun (words : Words) (row : Row) : Type 0 where
+record IsBegun (words : Words) (row : GrammarRow) : Type 0 where
   row_writes : RowWrites row
-  begun : (bytes_eq (word words 1) row.first && follow row.further words 1) ≡ true
+  begun : (bytes_eq (nth_word words 1) row.first && follow row.further words 1) ≡ true
 
-row_found : (rs : List Row) (words : Words) (fault : LineFault) (row : Row) → AllWrite rs →
-    row_of rs (word words 1) words fault ≡ Ok row → IsBegun words row
+row_found : (rs : List GrammarRow) (words : Words) (fault : LineFault) (row : GrammarRow) → AllWrite rs →
+    grammar_row rs (nth_word words 1) words fault ≡ Ok row → IsBegun words row
 row_found [] words fault row all e = absurd cc
 row_found (r ∷ rs) words fault row all e =
-    elim (either (bytes_eq (word words 1) r.first && follow r.further words 1) (Ok r) _ row e) [
+    elim (either (bytes_eq (nth_word words 1) r.first && follow r.further words 1) (Ok r) _ row e) [
       | inl this ↦ let same : r ≡ row = cc this.1 in subst (IsBegun words) same
           (record { row_writes = all.0; begun = this.0 })
       | inr other ↦ row_found rs words _ row all.1 other
@@ -442,8 +443,8 @@ follow_cost [] words n front some h so_far =
     let same : n ≡ n + length {A = List ℕ} [] = omega arith in
     subst (λ m. front + 0 ≤ cost (take m words)) same (omega (arith, so_far))
 follow_cost (w ∷ texts) words n front some h so_far =
-    let here = same_word (word words (n + 1)) w (and_left _ (follow texts words (n + 1)) h) in
-    let has : 1 ≤ length (word words (n + 1)) = let told = and_left (has_byte w)
+    let here = same_word (nth_word words (n + 1)) w (and_left _ (follow texts words (n + 1)) h) in
+    let has : 1 ≤ length (nth_word words (n + 1)) = let told = and_left (has_byte w)
     (list_all has_byte texts) some in grind (arith, nat_tests, told, ap length here) in
     let next : suc n ≡ n + 1 = omega arith in
     let paid : front + cost (w ∷ []) ≤ cost (take (n + 1) words) =
@@ -458,15 +459,15 @@ follow_cost (w ∷ texts) words n front some h so_far =
     let end : n + 1 + length texts ≡ n + length (w ∷ texts) = omega arith in
     subst (λ m. front + cost (w ∷ texts) ≤ cost (take m words)) end (omega (arith, rest))
 
-row_cost : (words : Words) (row : Row) → IsBegun words row →
+row_cost : (words : Words) (row : GrammarRow) → IsBegun words row →
     cost (row.first ∷ row.further) ≤ cost (take (1 + length row.further) words)
 row_cost words row begun =
-    let first = same_word (word words 1) row.first (and_left _ (follow row.further words 1) begun.begun) in
-    let has : 1 ≤ length (word words 1) = let told = and_left (has_byte row.first)
+    let first = same_word (nth_word words 1) row.first (and_left _ (follow row.further words 1) begun.begun) in
+    let has : 1 ≤ length (nth_word words 1) = let told = and_left (has_byte row.first)
     (list_all has_byte row.further) begun.row_writes.named in grind (arith, nat_tests, told, ap length first) in
     follow_cost row.further words 1 (suc (length row.first)) (and_right (has_byte row.first)
     (list_all has_byte row.further) begun.row_writes.named)
-    (and_right (bytes_eq (word words 1) row.first) _ begun.begun) (omega (
+    (and_right (bytes_eq (nth_word words 1) row.first) _ begun.begun) (omega (
       arith,
       cost_next words 0 has,
       ap length first,
@@ -477,7 +478,7 @@ row_cost words row begun =
 command_short : AllWrite rows → (words : Words) (c : Command) → command_of words ≡ Ok c → IsShort words c
 unfolding command_by
 command_short all words c e =
-    let found = then_ok (row_of rows (word words 1) words Unknown) (λ row. row_means row words) c e in
+    let found = then_ok (grammar_row rows (nth_word words 1) words Unknown) (λ row. row_means row words) c e in
     let row = found.0 in
     let begun = row_found rows words Unknown row all found.1 in
     elim (either (is_count row.forms (1 + length row.further) (length words)) (command_from row.forms row.make words

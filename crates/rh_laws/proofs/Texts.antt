@@ -2,13 +2,13 @@
 use Rattle.rh_laws.proofs.Common.{◌≡◌, ℕ, zero, suc, ◌+◌, ◌-◌, ◌^◌, ◌<◌, Bool, true, false, ◌&&◌, ◌||◌, not, cond, List, [], ◌∷◌, ◌++◌, length, drop}
 use Rattle.rh_laws.proofs.Common.{length-append, refl, sym, subst, ap, ◌∙◌, arith, nat_le, nat_lt, ◌==◌, Some, None, Ok, slice_get, unwrap_or}
 use Rattle.rh_laws.proofs.Common.{list_all, decimal, signed_decimal, bytes_eq, nat_tests, bytes_eq-Decides, encode_lower, Command, Unknown, is_name, is_leaf}
-use Rattle.rh_laws.proofs.Common.{is_delta, Number, Choice, Maybe, Row, rows, word, row_of, command_of, Words, address, and_left, and_right}
+use Rattle.rh_laws.proofs.Common.{is_delta, Number, Choice, Maybe, GrammarRow, rows, nth_word, grammar_row, command_of, Words, address, and_left, and_right}
 use Rattle.rh_defs.specs.Grammar.{Form, Name, Leaf, Ref, Delta, Address, Bytes, Value, Values, Maker, spelled_by}
 use Rattle.rh_defs.specs.Forms.{last_ref}
 use Rattle.rh_defs.specs.Range.{is_of}
 use Rattle.rh_defs.proofs.GrammarLaws.{made}
 use Rattle.rh_defs.specs.Line.{choice_at, value_at, command_from, is_count, command_by}
-use Rattle.rh_laws.specs.Printer.{text, texts, words_spelled, is_sized}
+use Rattle.rh_laws.specs.Printer.{form_text, texts, words_spelled, is_sized}
 use Rattle.rh_laws.proofs.Words.{is_whole}
 use Rattle.rh_laws.proofs.Numbers.{decimal_is_whole}
 use Rattle.rh_laws.proofs.Readers.{name_is_whole, leaf_is_whole, number_read, delta_read, delta_is_whole, address_read, address_is_whole, bytes_read}
@@ -61,7 +61,7 @@ next_there [] (suc n) w rest e = absurd cc
 next_there (x ∷ words) zero w rest e = cc
 next_there (x ∷ words) (suc n) w rest e = next_there words n w rest e
 
-word_first : (words : Words) (n : ℕ) (w : List ℕ) (rest : Words) → Stand words n (w ∷ rest) → word words (n + 1) ≡ w
+word_first : (words : Words) (n : ℕ) (w : List ℕ) (rest : Words) → Stand words n (w ∷ rest) → nth_word words (n + 1) ≡ w
 word_first words n w rest stand =
     let same : n ≡ n + 1 - 1 = omega arith in
     subst (λ m. unwrap_or (slice_get words m) [] ≡ w) same (word_there words n w rest stand.behind)
@@ -92,7 +92,7 @@ not_first true h = absurd cc
 not_first false h = refl
 
 choice_read : (words : Words) (n : ℕ) (first second : List ℕ) (is_first : Bool) →
-    is_clear (Choice first second) ≡ true → word words n ≡ cond is_first first second →
+    is_clear (Choice first second) ≡ true → nth_word words n ≡ cond is_first first second →
     choice_at words n first second ≡ Ok is_first
 unfolding choice_at
 choice_read words n first second true clear is = rw (is, (bytes_eq-Decides first first).1 refl) refl
@@ -101,7 +101,7 @@ choice_read words n first second false clear is =
     rw (is, apart, (bytes_eq-Decides second second).1 refl) refl
 
 -- what can't be left out is one word
-one_text : (form : Form) (value : Value form) → is_wanted form ≡ true → (w : List ℕ) × (text form value ≡ w ∷ [])
+one_text : (form : Form) (value : Value form) → is_wanted form ≡ true → (w : List ℕ) × (form_text form value ≡ w ∷ [])
 one_text Name name wanted = (name, refl)
 one_text Leaf leaf wanted = (leaf, refl)
 one_text (Number low high) n wanted = (decimal n, refl)
@@ -113,15 +113,15 @@ one_text (Choice first second) is_first wanted = (cond is_first first second, re
 one_text (Maybe form) value wanted = absurd cc
 
 text_next : (form : Form) (words : Words) (n : ℕ) (value : Value form) (rest : Words) → is_wanted form ≡ true →
-    Stand words n (text form value ++ rest) → Stand words (n + 1) rest
+    Stand words n (form_text form value ++ rest) → Stand words (n + 1) rest
 text_next form words n value rest wanted stand =
     let one = one_text form value wanted in
     word_next words n one.0 rest (subst (λ ws. Stand words n (ws ++ rest)) one.1 stand)
 
 -- a word that is printed is whole, and read
 record IsRead (form : Form) (words : Words) (n : ℕ) (value : Value form) (rest : Words) : Type 0 where
-  whole : list_all is_whole (text form value) ≡ true
-  read : Stand words n (text form value ++ rest) → value_at form words (n + 1) ≡ Ok value
+  whole : list_all is_whole (form_text form value) ≡ true
+  read : Stand words n (form_text form value ++ rest) → value_at form words (n + 1) ≡ Ok value
 
 word_read : (form : Form) (words : Words) (n : ℕ) (value : Value form) (rest : Words) → is_wanted form ≡ true →
     is_clear form ≡ true → is_readable form value ≡ true → IsRead form words n value rest
@@ -199,7 +199,7 @@ last_read (Maybe form) words n (Some value) clear h =
       read = λ stand.
           let more : (length words == n + 1 - 1) ≡ false =
           let long = stand.long in
-          let one : length (text form value ++ []) ≡ 1 = ap (λ ws. length (ws ++ [])) (one_text form value wanted).1 in
+          let one : length (form_text form value ++ []) ≡ 1 = ap (λ ws. length (ws ++ [])) (one_text form value wanted).1 in
           grind (arith, nat_tests, long, one) in
           rw (more, given.read stand) refl;
     }
@@ -234,7 +234,7 @@ counted form forms n count h = h
 
 -- with the last word left out or not
 last_count : (form : Form) (words : Words) (n : ℕ) (value : Value form) → is_clear form ≡ true →
-    Stand words n (text form value ++ []) → is_count (form ∷ []) n (length words) ≡ true
+    Stand words n (form_text form value ++ []) → is_count (form ∷ []) n (length words) ≡ true
 last_count (Maybe form) words n None clear stand =
     let ended : (length words == n) ≡ true = let long = stand.long in grind (arith, nat_tests, long) in rw ended refl
 last_count (Maybe form) words n (Some value) clear stand =
@@ -248,7 +248,7 @@ all_read [] make words n values clear h = record { whole = refl; count = ended w
 all_read (form ∷ []) make words n values clear h =
     let one = last_read form words n values.0 clear (and_left (is_readable form values.0) true h) in
     record {
-      whole = all_whole (text form values.0) [] one.whole refl;
+      whole = all_whole (form_text form values.0) [] one.whole refl;
       count = last_count form words n values.0 clear;
       read = λ stand. rw (one.read stand) refl;
     }
@@ -262,7 +262,7 @@ all_read (form ∷ next ∷ forms) make words n values clear h =
     (and_right (is_wanted form && is_clear form) (are_clear (next ∷ forms)) clear)
     (and_right (is_readable form values.0) (are_readable (next ∷ forms) values.1) h) in
     record {
-      whole = all_whole (text form values.0) (texts (next ∷ forms) values.1) one.whole rest.whole;
+      whole = all_whole (form_text form values.0) (texts (next ∷ forms) values.1) one.whole rest.whole;
       count = λ stand.
           counted form (next ∷ forms) n (length words)
           (rest.count (text_next form words n values.0 (texts (next ∷ forms) values.1) wanted stand));
@@ -274,7 +274,7 @@ all_read (form ∷ next ∷ forms) make words n values clear h =
 -- ---- a row
 
 -- whether the words of a row, and the texts of its forms, can be told apart in a line
-abbrev pub is_clear_row : Row → Bool
+abbrev pub is_clear_row : GrammarRow → Bool
 is_clear_row row = are_clear row.forms && list_all is_whole (row.first ∷ row.further)
 
 -- words that spell a command
@@ -282,8 +282,8 @@ pub record Spells (words : Words) (c : Command) : Type 0 where
   pub whole : list_all is_whole words ≡ true
   pub means : command_of words ≡ Ok c
 
-pub row_spells : (row : Row) (values : Values row.forms) → is_clear_row row ≡ true →
-    row_of rows row.first (words_spelled (spelled_by row values)) Unknown ≡ Ok row → are_readable row.forms values ≡ true →
+pub row_spells : (row : GrammarRow) (values : Values row.forms) → is_clear_row row ≡ true →
+    grammar_row rows row.first (words_spelled (spelled_by row values)) Unknown ≡ Ok row → are_readable row.forms values ≡ true →
     Spells (words_spelled (spelled_by row values)) (made row.forms row.make values)
 unfolding command_by
 row_spells row values proper found h =

@@ -3,7 +3,7 @@ use Rattle.rh_laws.proofs.Common.{◌≡◌, ℕ, suc, ◌+◌, ◌-◌, ◌*◌
 use Rattle.rh_laws.proofs.Common.{inr, arith, nat_lt, nat_le, Ok, if◌then◌else◌, min, leb_tells, Refusal, Outcome, Body, EventCode, User, Recorded}
 use Rattle.rh_laws.proofs.Common.{Acknowledge, Asked, Sending, Taking, Incoming, Outgoing, NoBlock, Split, Flex, block_of, slot_block, Parcel, open_of}
 use Rattle.rh_laws.proofs.Common.{out_id, Desk, Scrap, Task, next_ref, with_sending, with_taking, buffer_at, written_in, Handled, answer_ack, answer_fetch}
-use Rattle.rh_laws.proofs.Common.{fail_sending, finish_load, portion, refused, save_scrap, transmit, accept, ack_back, appended, ask, ended, fetch_back}
+use Rattle.rh_laws.proofs.Common.{fail_sending, finish_load, portion, refused, save_scrap, transmit, accept, ack_back, appended, ask, taking_ended, fetch_back}
 use Rattle.rh_laws.proofs.Common.{fetch_more, load_file, loaded, take_bytes, take_file, take_save, took, came, came_back, handled, OnGrant, chosen, granted}
 use Rattle.rh_laws.proofs.Common.{granted-both, granted-past, granted-then, granted-unless, granted-with, or_else-keeps, Has, Offers, Ascend, and_right}
 use Rattle.rh_laws.proofs.Common.{open_is, is_found, any-grant}
@@ -61,12 +61,12 @@ module _ (o : Offers) (t : Task) (own : Owns o t) (w n : ℕ) (held : Option Par
   -- ---- outgoing records written anew
 
   module _ (x : Sending) (has : Has (outgoing.Open x) t.sending) where
-    failed-outs : outs_work o (sender.failed x t.sending) + 0 ≤ outs_work o t.sending + 0
+    failed-outs : outs_work o (sender.sending_failed x t.sending) + 0 ≤ outs_work o t.sending + 0
     failed-outs =
         let z = total-with (offered_work o) out_id (outgoing.Open x) (outgoing.Failed x.id x.count) t.sending own.ids has in
         omega (arith, z)
 
-    loaded-outs : (k : ℕ) → outs_work o (sender.loaded x k t.sending) + 0 ≤ outs_work o t.sending + 0
+    loaded-outs : (k : ℕ) → outs_work o (sender.sending_loaded x k t.sending) + 0 ≤ outs_work o t.sending + 0
     loaded-outs k =
         let z = total-with (offered_work o) out_id (outgoing.Open x) (outgoing.Done x.id k) t.sending own.ids has in
         omega (arith, z)
@@ -129,7 +129,7 @@ module _ (o : Offers) (t : Task) (own : Owns o t) (w n : ℕ) (held : Option Par
 
     refused-falls : {p : ℕ} → held_work held + 1 ≤ p → (x : Sending) → Has (outgoing.Open x) t.sending → (r : Refusal) →
         Falls p (refused d t x r)
-    refused-falls room x has r = shut-falls room (sender.failed x) (failed-outs x has) _
+    refused-falls room x has r = shut-falls room (sender.sending_failed x) (failed-outs x has) _
 
     transmit-falls : (buffer amount : ℕ) (x : Sending) → Has (outgoing.Open x) t.sending → 1 ≤ amount → (source : Split Flex) →
         o x.id ≡ Some source.here.bytes → OnGrant (Falls 8) (transmit d t m buffer amount x source)
@@ -158,7 +158,7 @@ module _ (o : Offers) (t : Task) (own : Owns o t) (w n : ℕ) (held : Option Par
         ((x : Sending) → v ≡ Some x → Has (outgoing.Open x) t.sending) → Falls p (fail_sending d t v)
     unfolding fail_sending
     fail_sending-falls room None has = plain-falls room d _ is
-    fail_sending-falls room (Some x) has = shut-falls room (sender.failed x) (failed-outs x (has x refl)) _
+    fail_sending-falls room (Some x) has = shut-falls room (sender.sending_failed x) (failed-outs x (has x refl)) _
 
     save_scrap-falls : (x : Sending) → Has (outgoing.Open x) t.sending → (source : Split Flex) → OnGrant (Falls 5) (save_scrap d t m x source)
     unfolding save_scrap
@@ -192,7 +192,7 @@ module _ (o : Offers) (t : Task) (own : Owns o t) (w n : ℕ) (held : Option Par
     finish_load-falls room None has = plain-falls room d _ is
     finish_load-falls {p} room (Some x) has =
         or_else-keeps (Falls p) _ (granted-then _ _ λ source found.
-        granted (shut-falls room (sender.loaded x (length source.here.bytes)) (loaded-outs x (has x refl) _) _))
+        granted (shut-falls room (sender.sending_loaded x (length source.here.bytes)) (loaded-outs x (has x refl) _) _))
         (refused-falls room x (has x refl))
 
   -- ---- messages to a receiver
@@ -203,7 +203,7 @@ module _ (o : Offers) (t : Task) (own : Owns o t) (w n : ℕ) (held : Option Par
     ins-falls room edit x = plain-falls room _ x (ins-here o h edit d is)
 
     ended-falls : {p : ℕ} → held_work held + 1 ≤ p → (f : Taking) (edit : List Incoming → List Incoming) (x : Outcome) →
-        Falls p (ended h f edit d, x)
+        Falls p (taking_ended h f edit d, x)
     ended-falls room f edit x = plain-falls room _ x (ended-here o h f edit d is)
 
     appended-here : (k : ℕ) (bytes : List ℕ) → OnGrant On (appended d t k bytes)

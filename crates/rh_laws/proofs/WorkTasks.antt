@@ -1,7 +1,8 @@
 -- What a desk leaves to do, by what was offered: what edits of tasks, and letters sent, make of it.
 use Rattle.rh_laws.proofs.Common.{◌≡◌, ◌≢◌, ℕ, ◌+◌, ◌≤◌, true, List, [], ◌∷◌, Option, Some, refl, ap, ◌∙◌, inl, inr, arith, map, nat_eq, eq-eqb, eqb_tells}
 use Rattle.rh_laws.proofs.Common.{Letter, Incoming, Outgoing, Taking, total, Parcel, Post, held_by, with_id, Slot, Desk, Task, edit_task, free_pages, Ascend}
-use Rattle.rh_laws.proofs.Common.{send_letter, with_post, with_sending, with_slot, with_taking, with_task, ended, OnGrant, granted, granted-with, Has, Offers}
+use Rattle.rh_laws.proofs.Common.{send_letter, with_post, with_sending, with_slot, with_taking, with_task, taking_ended, OnGrant, granted, granted-with, Has}
+use Rattle.rh_laws.proofs.Common.{Offers}
 use Rattle.rh_defs.specs.declared.transfer.Outgoing.TheVariants as outgoing
 use Rattle.rh_safety.proofs.SeenTasks.{change_other}
 use Rattle.rh_safety.proofs.View.{field}
@@ -120,8 +121,8 @@ module _ (o : Offers) where
     ins-here k edit d is = task-here k (λ (t : Task). record t { taking = edit t.taking }) (λ t. refl) (λ t. refl) (λ t. refl) d is
 
     pub ended-here : (k : ℕ) (f : Taking) (edit : List Incoming → List Incoming) (d : Desk) → Here h outs c w n held live d →
-        Here h outs c w n held live (ended k f edit d)
-    unfolding ended
+        Here h outs c w n held live (taking_ended k f edit d)
+    unfolding taking_ended
     ended-here k f edit d is = ins-here k edit _ (task-here k _ (λ t. refl) (λ t. refl) (λ t. refl) d is)
 
     -- other transfers going out

@@ -39,13 +39,13 @@ claimed_next c d name n (reply.Block address) = claimed_at c (find (has_name nam
 claimed_next c d name n _ = c
 
 -- a block was released
-abbrev pub released_at : Claims → Option Task → ℕ → Claims
-released_at c None address = c
-released_at c (Some t) address = noted c t.handle address None
+abbrev pub claims_released_at : Claims → Option Task → ℕ → Claims
+claims_released_at c None address = c
+claims_released_at c (Some t) address = noted c t.handle address None
 
 -- a release that was granted answers Done
 abbrev pub released_next : Claims → Desk → List ℕ → ℕ → Reply → Claims
-released_next c d name address reply.Done = released_at c (find (has_name name) d.tasks) address
+released_next c d name address reply.Done = claims_released_at c (find (has_name name) d.tasks) address
 released_next c d name address _ = c
 
 -- the size of a block that had another one, with delta bytes more

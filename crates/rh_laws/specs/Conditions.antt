@@ -20,8 +20,8 @@ use Rattle.rh_defs.specs.Records.{is_meant, is_open, most_records}
 use Rattle.rh_defs.specs.Post.{live_count, most_messages, post_is_message}
 use Rattle.rh_defs.specs.Desk.{Desk, Made, Task, free_pages, has_name, is_busy_block, is_busy_buffer, most_tasks, next_ref, task_at, module_start, most_made}
 use Rattle.rh_defs.specs.Commands.{step}
-use Rattle.rh_laws.specs.RefusalOrder.{Row, are_in_order, first_refusal, refusal_in}
-use Rattle.rh_laws.specs.RefusalRooms.{file_message_size, gained_pages, kept_length, lacks, length_of, lost_bytes, made_area, message_size, outgrows, short_for, short_of}
+use Rattle.rh_laws.specs.RefusalOrder.{RefusalRow, are_in_order, first_refusal, refusal_in}
+use Rattle.rh_laws.specs.RefusalRooms.{file_message_size, gained_pages, kept_length, lacks, area_length_of, lost_bytes, made_area, message_size, outgrows, short_for, short_of}
 
 -- whether there is one, and it passes the test
 abbrev pub there_is : {A : Type 0} → (A → Bool) → Option A → Bool
@@ -35,7 +35,7 @@ abbrev pub task_of : List ℕ → Desk → Option Task
 task_of name d = find (has_name name) d.tasks
 
 -- no live task has the name
-abbrev pub no_name : List ℕ → Desk → Row
+abbrev pub no_name : List ℕ → Desk → RefusalRow
 no_name name d = (NoName, is_none (task_of name d))
 
 -- whether the live task with the name passes the test
@@ -45,11 +45,11 @@ of_task name d test = there_is test (task_of name d)
 -- ---- flex blocks
 
 -- the task has no block at the anchor
-abbrev pub no_block : ℕ → List ℕ → Desk → Row
+abbrev pub no_block : ℕ → List ℕ → Desk → RefusalRow
 no_block k name d = (NoBlock, of_task name d λ t. is_none (block_of k t.slot))
 
 -- a transfer uses the block
-abbrev pub busy_block : ℕ → List ℕ → Desk → Row
+abbrev pub busy_block : ℕ → List ℕ → Desk → RefusalRow
 busy_block k name d = (Busy, of_task name d λ t. is_busy_block k t)
 
 -- whether the task's block at the anchor, of so many bytes, passes the test
@@ -68,11 +68,11 @@ lacks_room_from n m t d = outgrows ((slot_length t.slot + flex_weight m) - flex_
 -- ---- blocks of the C heap
 
 -- no block of the task's C heap has the address
-abbrev pub not_a_block : ℕ → List ℕ → Desk → Row
+abbrev pub not_a_block : ℕ → List ℕ → Desk → RefusalRow
 not_a_block address name d = (NotABlock, of_task name d λ t. is_none (heap_block_at address t.slot))
 
 -- the block is a transfer's buffer
-abbrev pub busy_buffer : ℕ → List ℕ → Desk → Row
+abbrev pub busy_buffer : ℕ → List ℕ → Desk → RefusalRow
 busy_buffer address name d = (Busy, of_task name d λ t. is_busy_buffer address t)
 
 -- whether the block of the task's C heap at the address passes the test
@@ -94,11 +94,11 @@ abbrev pub module_block : ℕ → Desk → Option (Split Segment)
 module_block address d = block_at (address - module_start) d.post.heap
 
 -- no block of the module area has the address
-abbrev pub not_a_module_block : ℕ → Desk → Row
+abbrev pub not_a_module_block : ℕ → Desk → RefusalRow
 not_a_module_block address d = (NotABlock, is_none (module_block address d))
 
 -- the block holds a message
-abbrev pub not_yours : ℕ → Desk → Row
+abbrev pub not_yours : ℕ → Desk → RefusalRow
 not_yours address d = (NotYours, post_is_message (address - module_start) d.post)
 
 -- ---- messages
@@ -108,7 +108,7 @@ abbrev pub lacks_module_room : ℕ → Desk → Bool
 lacks_module_room n d = lacks (short_of n d.post.heap) d
 
 -- a message can't be sent: its recipient isn't live, all refs were given, as many messages are live as can be, or there is no room
-abbrev pub send_rows : Bool → Bool → Desk → List Row
+abbrev pub send_rows : Bool → Bool → Desk → List RefusalRow
 send_rows is_gone lacks_room d =
     (NoTask, is_gone)
     ∷ (NoRefs, nat_lt 4294967295 (next_ref d))
@@ -134,7 +134,7 @@ is_coming_one id _ = false
 -- ---- the table
 
 -- a question's conditions
-abbrev pub asked_rows : Desk → Question → List Row
+abbrev pub asked_rows : Desk → Question → List RefusalRow
 asked_rows d (question.Show name k) = no_name name d ∷ no_block k name d ∷ []
 asked_rows d (question.Blocks name) = no_name name d ∷ []
 asked_rows d (question.Heap name) = no_name name d ∷ []
@@ -142,7 +142,7 @@ asked_rows d (question.Status name) = no_name name d ∷ []
 asked_rows d question.Areas = []
 
 -- a command's conditions
-abbrev pub conditions : Desk → Command → List Row
+abbrev pub conditions : Desk → Command → List RefusalRow
 conditions d (command.Task name buffer manner) =
     (NameInUse, is_some (task_of name d))
     ∷ (TooManyTasks, nat_le most_tasks (length d.tasks))
@@ -214,9 +214,9 @@ conditions d (command.Repeat name) =
     ∷ send_rows (of_last name d λ l. is_none (task_at l.to d))
     (of_last name d λ l. lacks_module_room (message_size l.body) d) d
 conditions d (command.Area k delta) =
-    (ExcessiveShrink, there_is (λ n. nat_lt n (kept_length k d + lost_bytes delta)) (length_of k d))
-    ∷ (NoRoom, is_some (length_of k d) && nat_lt (free_pages d) (gained_pages delta))
-    ∷ (NoArea, is_none (length_of k d))
+    (ExcessiveShrink, there_is (λ n. nat_lt n (kept_length k d + lost_bytes delta)) (area_length_of k d))
+    ∷ (NoRoom, is_some (area_length_of k d) && nat_lt (free_pages d) (gained_pages delta))
+    ∷ (NoArea, is_none (area_length_of k d))
     ∷ (TooBig, there_is (λ (m : Made). nat_lt m.most (m.pages + gained_pages delta)) (made_area k d))
     ∷ []
 conditions d (command.Make most) =

@@ -14,22 +14,22 @@ use Rattle.rh_defs.specs.Text.{Words, address}
 -- ---- the words of a command
 
 -- what is printed for a value of a form
-abbrev pub text : (form : Form) → Value form → Words
-text Name name = name ∷ []
-text Leaf leaf = leaf ∷ []
-text (Number low high) n = decimal n ∷ []
-text Ref ref = decimal ref ∷ []
-text Delta amount = signed_decimal amount ∷ []
-text Address place = address place ∷ []
-text Bytes bytes = encode_lower bytes ∷ []
-text (Choice first second) is_first = (if is_first then first else second) ∷ []
-text (Maybe form) None = []
-text (Maybe form) (Some value) = text form value
+abbrev pub form_text : (form : Form) → Value form → Words
+form_text Name name = name ∷ []
+form_text Leaf leaf = leaf ∷ []
+form_text (Number low high) n = decimal n ∷ []
+form_text Ref ref = decimal ref ∷ []
+form_text Delta amount = signed_decimal amount ∷ []
+form_text Address place = address place ∷ []
+form_text Bytes bytes = encode_lower bytes ∷ []
+form_text (Choice first second) is_first = (if is_first then first else second) ∷ []
+form_text (Maybe form) None = []
+form_text (Maybe form) (Some value) = form_text form value
 
 -- the same for the values of all forms
 abbrev pub texts : (forms : List Form) → Values forms → Words
 texts [] values = []
-texts (form ∷ forms) values = text form values.0 ++ texts forms values.1
+texts (form ∷ forms) values = form_text form values.0 ++ texts forms values.1
 
 -- the words of a spelling: those of its row, and then those of the values
 abbrev pub words_spelled : Spelling → Words

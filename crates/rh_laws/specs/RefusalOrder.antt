@@ -6,43 +6,43 @@ use Rattle.rh_defs.specs.declared.reply.Reply.{Reply}
 use Rattle.rh_defs.specs.declared.reply.Reply.TheVariants as reply
 
 -- a refusal's number in the one order: where several conditions hold, the least number is answered
-abbrev pub number_of : Refusal → ℕ
-number_of refusal.NameInUse = 1
-number_of refusal.NoName = 2
-number_of refusal.TooManyTasks = 3
-number_of refusal.NoHandles = 4
-number_of refusal.NoFile = 5
-number_of refusal.NoBlock = 6
-number_of refusal.AnchorInUse = 7
-number_of refusal.NotABlock = 8
-number_of refusal.NotYours = 9
-number_of refusal.Busy = 10
-number_of refusal.NotOpen = 11
-number_of refusal.NothingSent = 12
-number_of refusal.BadRange = 13
-number_of refusal.BadSize = 14
-number_of refusal.ExcessiveShrink = 15
-number_of refusal.NoTask = 16
-number_of refusal.NoRefs = 17
-number_of refusal.QueueFull = 18
-number_of refusal.NoBudge = 19
-number_of refusal.NoRoom = 20
-number_of refusal.NoArea = 21
-number_of refusal.TooManyAreas = 22
-number_of refusal.NoNumbers = 23
-number_of refusal.TooBig = 24
+abbrev pub refusal_number : Refusal → ℕ
+refusal_number refusal.NameInUse = 1
+refusal_number refusal.NoName = 2
+refusal_number refusal.TooManyTasks = 3
+refusal_number refusal.NoHandles = 4
+refusal_number refusal.NoFile = 5
+refusal_number refusal.NoBlock = 6
+refusal_number refusal.AnchorInUse = 7
+refusal_number refusal.NotABlock = 8
+refusal_number refusal.NotYours = 9
+refusal_number refusal.Busy = 10
+refusal_number refusal.NotOpen = 11
+refusal_number refusal.NothingSent = 12
+refusal_number refusal.BadRange = 13
+refusal_number refusal.BadSize = 14
+refusal_number refusal.ExcessiveShrink = 15
+refusal_number refusal.NoTask = 16
+refusal_number refusal.NoRefs = 17
+refusal_number refusal.QueueFull = 18
+refusal_number refusal.NoBudge = 19
+refusal_number refusal.NoRoom = 20
+refusal_number refusal.NoArea = 21
+refusal_number refusal.TooManyAreas = 22
+refusal_number refusal.NoNumbers = 23
+refusal_number refusal.TooBig = 24
 
 -- a row of the table: a refusal, and whether its condition holds
-abbrev pub Row : Type 0
-Row = Refusal × Bool
+abbrev pub RefusalRow : Type 0
+RefusalRow = Refusal × Bool
 
 -- the numbers of the rows' refusals go up, from above the last one
-abbrev pub are_in_order : ℕ → List Row → Bool
+abbrev pub are_in_order : ℕ → List RefusalRow → Bool
 are_in_order last [] = true
-are_in_order last (row ∷ rows) = nat_lt last (number_of row.0) && are_in_order (number_of row.0) rows
+are_in_order last (row ∷ rows) = nat_lt last (refusal_number row.0) && are_in_order (refusal_number row.0) rows
 
 -- the refusal of the first row whose condition holds
-abbrev pub first_refusal : List Row → Option Refusal
+abbrev pub first_refusal : List RefusalRow → Option Refusal
 first_refusal [] = None
 first_refusal (row ∷ rows) = if row.1 then Some row.0 else first_refusal rows
 

@@ -3,7 +3,7 @@ use Rattle.std.specs.Prelude.{ℕ, ◌+◌, ◌-◌, ◌*◌, ℤ, pos, negsuc, 
 use Rattle.std.specs.Option.{option_map}
 use Rattle.rh_defs.specs.declared.message.Body.{Body}
 use Rattle.rh_defs.specs.declared.message.Body.TheVariants.{DataSave, DataSaveAck, DataLoad, DataLoadAck, RamFetch, RamTransmit}
-use Rattle.rh_defs.specs.Pieces.{page, pages_for, round_up, Split}
+use Rattle.rh_defs.specs.Pieces.{page_size, pages_for, round_up, Split}
 use Rattle.rh_defs.specs.Heap.{Segment, Heap, base, hole_size, largest_hole, place_after, segment_size, size_of}
 use Rattle.rh_defs.specs.Slot.{Slot, slot_pages}
 use Rattle.rh_defs.specs.Desk.{Desk, Made, free_pages, module_area, scrap_area, file_length}
@@ -66,11 +66,11 @@ abbrev pub made_area : ℕ → Desk → Option Made
 made_area k d = find (is_numbered k) d.made
 
 -- the bytes of an area: the module area is as long as its heap; none where no area has the number
-abbrev pub length_of : ℕ → Desk → Option ℕ
-length_of k d =
+abbrev pub area_length_of : ℕ → Desk → Option ℕ
+area_length_of k d =
     if k == module_area then Some d.post.heap.end
-    else if nat_le k 5 then Some (page * slice_index d.areas k)
-    else option_map (λ (m : Made). page * m.pages) (made_area k d)
+    else if nat_le k 5 then Some (page_size * slice_index d.areas k)
+    else option_map (λ (m : Made). page_size * m.pages) (made_area k d)
 
 -- the bytes that an area can't lose: what lies below the module heap's base, and the scrap file
 abbrev pub kept_length : ℕ → Desk → ℕ
@@ -79,7 +79,7 @@ kept_length k d = if k == module_area then base d.post.heap else if k == scrap_a
 -- the bytes of whole pages that a change takes from an area, and the pages that it brings
 abbrev pub lost_bytes : ℤ → ℕ
 lost_bytes (pos by) = 0
-lost_bytes (negsuc by) = round_up page (by + 1)
+lost_bytes (negsuc by) = round_up page_size (by + 1)
 
 abbrev pub gained_pages : ℤ → ℕ
 gained_pages (pos by) = pages_for by

@@ -3,11 +3,11 @@ pub use Rattle.std.proofs.Common.{Bool, List, ap, arith, cond, false, length, re
 pub use Rattle.std.proofs.lemmas.Int.{to_z-of_z}
 pub use Rattle.std.specs.Int.{w32}
 pub use Rattle.std.specs.Prelude.{Err, IsSome, None, Ok, OnErr, Option, Result, Some, ℤ}
-pub use Rattle.rh_defs.specs.Bytes.{part, put}
+pub use Rattle.rh_defs.specs.Bytes.{part, with_part}
 pub use Rattle.rh_defs.specs.Chain.{no_answer}
 pub use Rattle.rh_defs.specs.HeapImage.{heap_of}
 unfoldable pub use Rattle.rh_defs.specs.Memory.{area_set, bytes}
-pub use Rattle.rh_heap.specs.Calls.{Leaves}
+pub use Rattle.rh_heap.specs.Calls.{LeavesHeap}
 pub use Rattle.rh_store.specs.Starts.{IsIndex}
 pub use Rattle.rh_lent.specs.Heaps.{LeavesBytes}
-unfoldable pub use Rattle.rh_lent.specs.Lent.{memory_of, memory_over, memory_shown}
+unfoldable pub use Rattle.rh_lent.specs.Lent.{lent_memory, memory_over, memory_shown}

@@ -1,5 +1,5 @@
 -- What a call on lent bytes leaves, from what it leaves of their memory.
-use Rattle.rh_lent.proofs.Common.{◌≡◌, ℕ, ◌+◌, ◌≤◌, List, length, sym, ap, subst, arith, Result, Ok, Err, OnErr, area_set, bytes, heap_of, Leaves}
+use Rattle.rh_lent.proofs.Common.{◌≡◌, ℕ, ◌+◌, ◌≤◌, List, length, sym, ap, subst, arith, Result, Ok, Err, OnErr, area_set, bytes, heap_of, LeavesHeap}
 use Rattle.rh_lent.proofs.Common.{memory_over, LeavesBytes}
 use Rattle.rh_defs.specs.Bytes.{SameOutside}
 use Rattle.rh_defs.specs.Memory.{Memory}
@@ -32,7 +32,7 @@ pub heap_bytes : (b c : List ℕ) (n : ℕ) → length b ≤ area_limit → Same
 heap_bytes b c n h o s = record { few = subst (λ k. k ≤ area_limit) (sym o.len) h; spells = s }
 
 pub leaves_bytes : {A : Type 0} (b c : List ℕ) (l k : ℕ) (granted : Result (Heap × A) HeapRefusal)
-    (result : Result A HeapRefusal) → IsHeapBytes b → Leaves (memory_over b l) (memory_over c k) whole granted result
+    (result : Result A HeapRefusal) → IsHeapBytes b → LeavesHeap (memory_over b l) (memory_over c k) whole granted result
     → LeavesBytes b c granted result
 unfolding memory_over area_set bytes
 leaves_bytes b c l k granted result h e =

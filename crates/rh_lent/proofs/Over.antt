@@ -1,6 +1,6 @@
 -- The one area of lent bytes: what its bytes are, and what an edit of them makes of the memory.
 use Rattle.rh_lent.proofs.Common.{◌≡◌, ℕ, ◌==◌, cond, Bool, true, false, List, refl, sym, ap, ◌∙◌, arith, Option, Some, None, IsSome, area_set, bytes}
-use Rattle.rh_lent.proofs.Common.{memory_of, memory_over, memory_shown}
+use Rattle.rh_lent.proofs.Common.{lent_memory, memory_over, memory_shown}
 use Rattle.std.proofs.lemmas.Bool.Decides.{nat_tests}
 use Rattle.rh_defs.specs.Memory.{Memory, IsOpen, with_bytes}
 use Rattle.rh_defs.proofs.MemoryLaws.{area_set-area_set}
@@ -40,8 +40,8 @@ set_over bs xs loan id o =
     set_at_zero bs xs loan ∙ ap (λ k. with_bytes (memory_over bs loan) k xs) (sym (open_zero bs loan id o))
 
 -- an open area's bytes are the lent ones
-pub lent_bytes : (s : LentMut) (id : ℕ) → IsOpen (memory_of s) id → bytes (memory_of s) id ≡ s.bytes.now
-unfolding memory_of
+pub lent_bytes : (s : LentMut) (id : ℕ) → IsOpen (lent_memory s) id → bytes (lent_memory s) id ≡ s.bytes.now
+unfolding lent_memory
 lent_bytes s id o = bytes_over s.bytes.now s.bytes.ghost_name id o
 
 pub shown_bytes : (s : Lent) (id : ℕ) → IsOpen (memory_shown s) id → bytes (memory_shown s) id ≡ s.bytes.now
@@ -49,10 +49,10 @@ unfolding memory_shown
 shown_bytes s id o = bytes_over s.bytes.now 0 id o
 
 -- an edit of the lent bytes is that edit of the area's
-pub edited : (s : LentMut) (id : ℕ) (edit : List ℕ → List ℕ) (new : List ℕ) → IsOpen (memory_of s) id
+pub edited : (s : LentMut) (id : ℕ) (edit : List ℕ → List ℕ) (new : List ℕ) → IsOpen (lent_memory s) id
     → new ≡ edit s.bytes.now
-    → memory_over new s.bytes.ghost_name ≡ with_bytes (memory_of s) id (edit (bytes (memory_of s) id))
-unfolding memory_of
+    → memory_over new s.bytes.ghost_name ≡ with_bytes (lent_memory s) id (edit (bytes (lent_memory s) id))
+unfolding lent_memory
 edited s id edit new o e =
     set_over s.bytes.now new s.bytes.ghost_name id o
-    ∙ ap (with_bytes (memory_of s) id) (e ∙ ap edit (sym (lent_bytes s id o)))
+    ∙ ap (with_bytes (lent_memory s) id) (e ∙ ap edit (sym (lent_bytes s id o)))

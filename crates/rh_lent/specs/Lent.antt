@@ -11,8 +11,8 @@ unfoldable pub memory_over : List ℕ → ℕ → Memory
 memory_over bs loan = record { area = area_set (λ k. None) 0 (Some bs); free = 0; pages = 0; loan = loan }
 
 -- the memory of the bytes as they are now
-unfoldable pub memory_of : LentMut → Memory
-memory_of s = memory_over s.bytes.now s.bytes.ghost_name
+unfoldable pub lent_memory : LentMut → Memory
+lent_memory s = memory_over s.bytes.now s.bytes.ghost_name
 
 -- the memory of bytes that are lent to be read: no edit needs the loan's name
 unfoldable pub memory_shown : Lent → Memory
@@ -22,9 +22,9 @@ one_small : (b : Bool) (bs : List ℕ) → length bs ≤ area_limit → length (
 one_small true bs h = h
 one_small false bs h = omega arith
 
-pub small_law : (s : LentMut) (id : ℕ) → length (bytes (memory_of s) id) ≤ area_limit
-unfolding memory_of memory_over area_set bytes
-small_law s id = one_small (id == 0) s.bytes.now s.few
+pub lent_heap_small_law : (s : LentMut) (id : ℕ) → length (bytes (lent_memory s) id) ≤ area_limit
+unfolding lent_memory memory_over area_set bytes
+lent_heap_small_law s id = one_small (id == 0) s.bytes.now s.few
 
 pub shown_small_law : (s : Lent) (id : ℕ) → length (bytes (memory_shown s) id) ≤ area_limit
 unfolding memory_shown memory_over area_set bytes

@@ -2,7 +2,7 @@
 ghost use Rattle.std.specs.Prelude.{◌≡◌, ◌%◌, ◌≤◌, length, is_some, ok_or};
 ghost use Rattle.std.specs.Option.{option_map};
 ghost use Rattle.rh_defs.specs.Chain.{no_answer};
-ghost use Rattle.rh_defs.specs.Heap.{empty_heap, claim, claim_need, released_at, resize, need_at, extend};
+ghost use Rattle.rh_defs.specs.Heap.{empty_heap, claim_block, claim_need, released_at, resize_block, need_at, extend_by};
 ghost use Rattle.rh_defs.specs.Heap.{block_size, block_around, segment_at, largest, free_bytes};
 ghost use Rattle.rh_defs.specs.HeapImage.{heap_of};
 ghost use Rattle.rh_defs.specs.Pieces.{moved};
@@ -48,7 +48,7 @@ pub fn describe(memory: &[u8]) -> (usize, usize)
 /// Claims a block of `n` bytes at least, all 0, and answers its address. (OS_Heap 2.)
 pub fn claim(memory: &mut [u8], n: u32) -> Result<usize, HeapRefusal>
     requires { IsHeapBytes memory.old }
-    ensures { LeavesBytes memory.old memory.new (claim n (heap_of memory.old 0)) result }
+    ensures { LeavesBytes memory.old memory.new (claim_block n (heap_of memory.old 0)) result }
 {
     let mut store = LentMut { bytes: memory };
     rh_heap::claim(&mut store, WHOLE, n)
@@ -66,7 +66,7 @@ pub fn release(memory: &mut [u8], address: usize) -> Result<(), HeapRefusal>
 /// Gives the block at an address `delta` bytes more, and answers its address. (OS_Heap 4.)
 pub fn resize(memory: &mut [u8], address: usize, delta: i32) -> Result<usize, HeapRefusal>
     requires { IsHeapBytes memory.old }
-    ensures { LeavesBytes memory.old memory.new (resize address delta (heap_of memory.old 0)) result }
+    ensures { LeavesBytes memory.old memory.new (resize_block address delta (heap_of memory.old 0)) result }
 {
     let mut store = LentMut { bytes: memory };
     rh_heap::resize(&mut store, WHOLE, address, delta)
@@ -77,7 +77,7 @@ pub fn extend_heap(memory: &mut [u8], delta: i32) -> Result<(), HeapRefusal>
     requires bytes { IsHeapBytes memory.old }
     requires multiple { moved (heap_of memory.old 0).end delta % HEAP_UNIT ≡ 0 }
     requires within { moved (heap_of memory.old 0).end delta ≤ length memory.old }
-    ensures { LeavesBytes memory.old memory.new (no_answer (extend delta (heap_of memory.old 0))) result }
+    ensures { LeavesBytes memory.old memory.new (no_answer (extend_by delta (heap_of memory.old 0))) result }
 {
     let mut store = LentMut { bytes: memory };
     rh_heap::extend_heap(&mut store, WHOLE, delta)

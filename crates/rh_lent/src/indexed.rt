@@ -2,7 +2,7 @@
 //! 512 bytes. What is answered, and what is left of the heap's bytes, is what the calls of `heap` do.
 ghost use Rattle.std.specs.Prelude.{◌≡◌, ◌*◌, ◌/◌, ◌%◌, ◌≤◌, length, ok_or, OnErr};
 ghost use Rattle.rh_defs.specs.Chain.{no_answer};
-ghost use Rattle.rh_defs.specs.Heap.{claim, released_at, resize, need_at, block_size};
+ghost use Rattle.rh_defs.specs.Heap.{claim_block, released_at, resize_block, need_at, block_size};
 ghost use Rattle.rh_defs.specs.HeapImage.{heap_of};
 ghost use Rattle.rh_store.specs.Starts.{IsIndex};
 ghost use Rattle.rh_store.specs.declared.starts.TheConstants.{LINE_BYTES};
@@ -28,7 +28,7 @@ pub fn index(memory: &[u8], starts: &mut [u64])
 pub fn claim(memory: &mut [u8], starts: &mut [u64], n: u32) -> Result<usize, HeapRefusal>
     requires heap { IsHeapBytes memory.old }
     requires starts { IsIndex starts.old (heap_of memory.old 0) }
-    ensures leaves { LeavesBytes memory.old memory.new (claim n (heap_of memory.old 0)) result }
+    ensures leaves { LeavesBytes memory.old memory.new (claim_block n (heap_of memory.old 0)) result }
     ensures starts { IsIndex starts.new (heap_of memory.new 0) }
     ensures long { length starts.new ≡ length starts.old }
     ensures same { OnErr result (starts.new ≡ starts.old) }
@@ -59,7 +59,7 @@ pub fn resize(
 ) -> Result<usize, HeapRefusal>
     requires heap { IsHeapBytes memory.old }
     requires starts { IsIndex starts.old (heap_of memory.old 0) }
-    ensures leaves { LeavesBytes memory.old memory.new (resize address delta (heap_of memory.old 0)) result }
+    ensures leaves { LeavesBytes memory.old memory.new (resize_block address delta (heap_of memory.old 0)) result }
     ensures starts { IsIndex starts.new (heap_of memory.new 0) }
     ensures long { length starts.new ≡ length starts.old }
     ensures same { OnErr result (starts.new ≡ starts.old) }

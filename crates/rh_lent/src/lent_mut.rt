@@ -1,5 +1,5 @@
 //! Bytes that a caller lends to be written, as the one area 0.
-#![tactic(auto, unfolding(crate::specs::Lent::memory_of, crate::specs::Lent::memory_over))]
+#![tactic(auto, unfolding(crate::specs::Lent::lent_memory, crate::specs::Lent::memory_over))]
 
 ghost use Rattle.std.specs.Prelude.{◌≡◌, ◌≤◌, length};
 ghost use Rattle.rh_store.specs.Limits.{area_limit};
@@ -15,9 +15,9 @@ pub struct LentMut<'a> {
 }
 
 impl Words for LentMut<'_> {
-    ghost use Rattle.rh_lent.specs.Lent.{memory_of, small_law};
+    ghost use Rattle.rh_lent.specs.Lent.{lent_memory, lent_heap_small_law};
 
-    ghost memory = { memory_of };
+    ghost memory = { lent_memory };
 
     fn word(&self, _id: AreaId, at: usize) -> u32 {
         word_in(self.bytes, at)
@@ -36,7 +36,7 @@ impl Words for LentMut<'_> {
         self.bytes.len()
     }
 
-    ghost small = { small_law };
+    ghost small = { lent_heap_small_law };
 }
 
 impl WordsMut for LentMut<'_> {

@@ -9,8 +9,8 @@ use Rattle.std.specs.Str.{bytes_eq}
 use Rattle.std.proofs.lemmas.List.{take_all, length-take}
 use borrow.Author.Tests.{tests}
 use Rattle.rh_defs.specs.declared.fault.LineFault.TheVariants.{Unknown, Word}
-use Rattle.rh_defs.specs.Grammar.{Form, Maybe, Row, rows}
-use Rattle.rh_defs.specs.Line.{words_of, word, is_skipped, line_means, is_count, follow, row_of, row_means, longest_line}
+use Rattle.rh_defs.specs.Grammar.{Form, Maybe, GrammarRow, rows}
+use Rattle.rh_defs.specs.Line.{words_of, nth_word, is_skipped, line_means, is_count, follow, grammar_row, row_means, longest_line}
 use Rattle.rh_defs.specs.Line.{command_by, command_of, Meaning, ◌>>=◌}
 use Rattle.rh_defs.specs.declared.command.Command.{Command}
 use Rattle.rh_lines.specs.Readers.{IsNoneOf}
@@ -38,8 +38,8 @@ unlike w text (other ∷ texts) found differs = go (bytes_eq text other) refl fo
     go true is either rest = rw (same_bytes text other is) differs.0
     go false is either rest = rest either
 
-no_row : (w : List ℕ) (words texts : List (List ℕ)) (fault : LineFault) (rs : List Row) → Differs w texts
-    → list_all (λ row. list_any (bytes_eq row.first) texts) rs ≡ true → row_of rs w words fault ≡ Err fault
+no_row : (w : List ℕ) (words texts : List (List ℕ)) (fault : LineFault) (rs : List GrammarRow) → Differs w texts
+    → list_all (λ row. list_any (bytes_eq row.first) texts) rs ≡ true → grammar_row rs w words fault ≡ Err fault
 no_row w words texts fault [] differs known = refl
 no_row w words texts fault (row ∷ rs) differs known =
     let both = and_true (list_any (bytes_eq row.first) texts) (list_all (λ row. list_any (bytes_eq row.first) texts) rs) known in
@@ -54,11 +54,11 @@ none-both {w} {texts} {others} none more = record { differs = go texts none.diff
     go (text ∷ some) here = (here.0, go some here.1)
 
 -- a line whose first word is none that a row begins with
-pub by_none : (words : List (List ℕ)) {texts : List (List ℕ)} → IsNoneOf (word words 1) texts
+pub by_none : (words : List (List ℕ)) {texts : List (List ℕ)} → IsNoneOf (nth_word words 1) texts
     → list_all (λ row. list_any (bytes_eq row.first) texts) rows ≡ true
     → Err Unknown ≡ command_of words
 unfolding command_by
-by_none words {texts} none known = rw (no_row (word words 1) words texts Unknown rows none.differs known) refl
+by_none words {texts} none known = rw (no_row (nth_word words 1) words texts Unknown rows none.differs known) refl
 
 -- ---- by the first six words
 
@@ -77,18 +77,18 @@ not_counted (Maybe form ∷ forms) n count more =
 not_counted (form ∷ forms) n count more = not_counted forms (n + 1) count (omega (arith, more))
 
 -- a row has at most one word behind its first, and five in all
-abbrev is_short : Row → Bool
+abbrev is_short : GrammarRow → Bool
 is_short row = nat_le (length row.further) 1 && nat_le (1 + length row.further + length row.forms) 5
 
-second_follows : (texts words others : List (List ℕ)) → nat_le (length texts) 1 ≡ true → word words 2 ≡ word others 2 →
+second_follows : (texts words others : List (List ℕ)) → nat_le (length texts) 1 ≡ true → nth_word words 2 ≡ nth_word others 2 →
     follow texts words 1 ≡ follow texts others 1
 second_follows [] words others short e = refl
 second_follows (text ∷ []) words others short e = rw e refl
 second_follows (text ∷ other ∷ texts) words others short e = absurd (search (rules, tests, short))
 
 -- lines with too many words
-module _ (words others : List (List ℕ)) (second : word words 2 ≡ word others 2) (many : 5 < length words) (more : 5 < length others) where
-  too_long : (row : Row) → is_short row ≡ true → row_means row words ≡ row_means row others
+module _ (words others : List (List ℕ)) (second : nth_word words 2 ≡ nth_word others 2) (many : 5 < length words) (more : 5 < length others) where
+  too_long : (row : GrammarRow) → is_short row ≡ true → row_means row words ≡ row_means row others
   too_long row short =
       let named : ℕ = 1 + length row.further in
       let fits : nat_le (named + length row.forms) 5 ≡ true =
@@ -100,18 +100,18 @@ module _ (words others : List (List ℕ)) (second : word words 2 ≡ word others
       ) refl
 
   -- what a line means whose first word is w, by these rows
-  abbrev by_rows : List (List ℕ) → List ℕ → LineFault → List Row → Meaning Command
-  by_rows given w fault rs = row_of rs w given fault >>= λ row. row_means row given
+  abbrev by_rows : List (List ℕ) → List ℕ → LineFault → List GrammarRow → Meaning Command
+  by_rows given w fault rs = grammar_row rs w given fault >>= λ row. row_means row given
 
-  one_row : (w : List ℕ) (fault : LineFault) (row : Row) (rs : List Row) (first follows : Bool) → is_short row ≡ true →
+  one_row : (w : List ℕ) (fault : LineFault) (row : GrammarRow) (rs : List GrammarRow) (first follows : Bool) → is_short row ≡ true →
       ((f : LineFault) → by_rows words w f rs ≡ by_rows others w f rs) →
-      ((if first && follows then Ok row else row_of rs w words (if first then Word 2 else fault)) >>= λ row. row_means row words)
-      ≡ ((if first && follows then Ok row else row_of rs w others (if first then Word 2 else fault)) >>= λ row. row_means row others)
+      ((if first && follows then Ok row else grammar_row rs w words (if first then Word 2 else fault)) >>= λ row. row_means row words)
+      ≡ ((if first && follows then Ok row else grammar_row rs w others (if first then Word 2 else fault)) >>= λ row. row_means row others)
   one_row w fault row rs true true short rest = too_long row short
   one_row w fault row rs true false short rest = rest (Word 2)
   one_row w fault row rs false follows short rest = rest fault
 
-  too_many : (w : List ℕ) (rs : List Row) → list_all is_short rs ≡ true → (fault : LineFault) →
+  too_many : (w : List ℕ) (rs : List GrammarRow) → list_all is_short rs ≡ true → (fault : LineFault) →
       by_rows words w fault rs ≡ by_rows others w fault rs
   too_many w [] short fault = refl
   too_many w (row ∷ rs) short fault =
@@ -125,11 +125,11 @@ module _ (words others : List (List ℕ)) (second : word words 2 ≡ word others
       )
       (one_row w fault row rs (bytes_eq w row.first) (follow row.further others 1) now.0 (too_many w rs now.1))
 
-first_same : (words : List (List ℕ)) → word (take 6 words) 1 ≡ word words 1
+first_same : (words : List (List ℕ)) → nth_word (take 6 words) 1 ≡ nth_word words 1
 first_same [] = refl
 first_same (w ∷ words) = refl
 
-second_same : (words : List (List ℕ)) → word (take 6 words) 2 ≡ word words 2
+second_same : (words : List (List ℕ)) → nth_word (take 6 words) 2 ≡ nth_word words 2
 second_same [] = refl
 second_same (w ∷ []) = refl
 second_same (w ∷ v ∷ words) = refl
@@ -142,7 +142,7 @@ unfolding command_by rows
 commands_same words (inl few) = ap command_of (take_all 6 words few)
 commands_same words (inr many) =
     ap (λ w. command_by w (take 6 words)) (first_same words)
-    ∙ too_many (take 6 words) words (second_same words) (grind (arith, length-take)) many (word words 1) rows refl Unknown
+    ∙ too_many (take 6 words) words (second_same words) (grind (arith, length-take)) many (nth_word words 1) rows refl Unknown
 
 pub command_of-first_words : (line : List ℕ) → command_of (first_words line) ≡ command_of (words_of line)
 unfolding first_words

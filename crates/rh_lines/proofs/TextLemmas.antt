@@ -7,7 +7,7 @@ use Rattle.std.specs.Prelude.{nat_lt, ◌&&◌}
 use Rattle.std.proofs.lemmas.List.{drop-drop}
 use borrow.Author.Tests.{tests}
 use Rattle.rh_lines.specs.Flow.{Takes, Breaks}
-use Rattle.rh_lines.specs.WholeText.{output_of, before_of, text_of, Wrote}
+use Rattle.rh_lines.specs.WholeText.{output_of, before_of, whole_text, Wrote}
 use Rattle.rh_lines.specs.declared.whole_text.WholeText.{WholeText}
 
 -- bytes that were put in place of others leave those behind them
@@ -84,8 +84,8 @@ pub wrote : {old new : WholeText} {bytes : List ℕ} → Takes (output_of old) (
 unfolding output_of
 wrote {old} {new} {bytes} takes =
     let split = parts takes.taken in
-    let both = fronts (before_of new) (text_of new) (before_of old) (text_of old ++ bytes) split.1.0
-    (split.1.1 ∙ append_assoc (before_of old) (text_of old) bytes) in
+    let both = fronts (before_of new) (whole_text new) (before_of old) (whole_text old ++ bytes) split.1.0
+    (split.1.1 ∙ append_assoc (before_of old) (whole_text old) bytes) in
     record { same_reference = split.0; before = both.0; text = both.1 }
 
 -- no write fails

@@ -6,9 +6,9 @@ use Rattle.rh_defs.specs.Line.{Meaning, command_by}
 use Rattle.rh_defs.specs.Range.{in_range}
 
 -- what is in the place, unless there is a fault
-abbrev pub placed : {A : Type 0} → Meaning Unit → A → Meaning A
-placed (Ok done) x = Ok x
-placed (Err fault) x = Err fault
+abbrev pub when_placed : {A : Type 0} → Meaning Unit → A → Meaning A
+when_placed (Ok done) x = Ok x
+when_placed (Err fault) x = Err fault
 
 -- the command in the place, where a line may have none
 abbrev pub if_placed : Meaning Bool → Command → Meaning (Option Command)

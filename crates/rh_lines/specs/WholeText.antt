@@ -9,22 +9,22 @@ abbrev pub filled : List ℕ → List ℕ → List ℕ
 filled text old = take (length old) text ++ drop (length text) old
 
 -- the lent bytes
-abbrev pub bytes_of : WholeText → MutBor (List ℕ)
-bytes_of t = t.bytes
+abbrev pub whole_bytes : WholeText → MutBor (List ℕ)
+whole_bytes t = t.bytes
 
 -- the lent bytes as they were before
 abbrev pub before_of : WholeText → List ℕ
 before_of t = t.before.bytes
 
 -- all that was offered: what lies in the lent bytes, and what found no room there
-abbrev pub text_of : WholeText → List ℕ
-text_of t = take t.taken t.bytes.now ++ t.beyond.bytes
+abbrev pub whole_text : WholeText → List ℕ
+whole_text t = take t.taken t.bytes.now ++ t.beyond.bytes
 
 -- The same behind the name of the loan and the bytes as they were before. No write changes these, so that a caller of
 -- what writes knows by them that the bytes are still the ones that it lent.
 unfoldable pub output_of : WholeText → Output
 output_of t = record {
-  taken = Some (t.bytes.ghost_name ∷ length (before_of t) ∷ (before_of t ++ text_of t));
+  taken = Some (t.bytes.ghost_name ∷ length (before_of t) ∷ (before_of t ++ whole_text t));
   count = None;
   failed = false;
 }
@@ -33,4 +33,4 @@ output_of t = record {
 pub record Wrote (old new : WholeText) (bytes : List ℕ) : Type 0 where
   pub same_reference : new.bytes.ghost_name ≡ old.bytes.ghost_name
   pub before : before_of new ≡ before_of old
-  pub text : text_of new ≡ text_of old ++ bytes
+  pub text : whole_text new ≡ whole_text old ++ bytes

@@ -1,9 +1,9 @@
 //! Lines about areas of pages.
 
 ghost use Rattle.std.specs.Prelude.{◌≡◌, codes, IfNone, IfSome, OnOk, OnErr, IsTrue, ◌∷◌, []};
-ghost use Rattle.rh_defs.specs.Line.{command_by, command_of, word};
+ghost use Rattle.rh_defs.specs.Line.{command_by, command_of, nth_word};
 ghost use Rattle.rh_defs.specs.Range.{in_range};
-ghost use Rattle.rh_lines.specs.Placed.{placed};
+ghost use Rattle.rh_lines.specs.Placed.{when_placed};
 ghost use Rattle.rh_lines.specs.Readers.{IsNoneOf};
 
 use crate::counts::counted;
@@ -14,10 +14,10 @@ use rh_defs::{Command, LineFault, Question};
 
 /// Puts the command of a line about areas of pages in its place; None where the line begins with none of their words.
 pub fn read_command(words: &Words<'_>, command: &mut Command) -> Option<Result<(), LineFault>>
-    ensures means { IfSome result (λ read. placed read command.new ≡ command_of words.now) }
+    ensures means { IfSome result (λ read. when_placed read command.new ≡ command_of words.now) }
     ensures in_range { IfSome result (λ read. OnOk read (IsTrue (in_range command.new))) }
     ensures kept { IfSome result (λ read. OnErr read (command.new ≡ command.old)) }
-    ensures other { IfNone result (IsNoneOf (word words.now 1) (codes "area" ∷ codes "make" ∷ codes "remove" ∷ codes "areas" ∷ [])) }
+    ensures other { IfNone result (IsNoneOf (nth_word words.now 1) (codes "area" ∷ codes "make" ∷ codes "remove" ∷ codes "areas" ∷ [])) }
     ensures same { IfNone result (command.new ≡ command.old) }
 {
     match words.word(1) {
@@ -33,7 +33,7 @@ pub fn read_command(words: &Words<'_>, command: &mut Command) -> Option<Result<(
 #[tactic(auto, unfolding(crate::specs::Placed::reading))]
 #[inline(always)]
 fn area_of(words: &Words<'_>, command: &mut Command) -> Result<(), LineFault>
-    ensures means { placed result command.new ≡ command_by (codes "area") words.now }
+    ensures means { when_placed result command.new ≡ command_by (codes "area") words.now }
     ensures in_range { OnOk result (IsTrue (in_range command.new)) }
     ensures kept { OnErr result (command.new ≡ command.old) }
 {
@@ -48,7 +48,7 @@ fn area_of(words: &Words<'_>, command: &mut Command) -> Result<(), LineFault>
 #[tactic(auto, unfolding(crate::specs::Placed::reading))]
 #[inline(always)]
 fn make_of(words: &Words<'_>, command: &mut Command) -> Result<(), LineFault>
-    ensures means { placed result command.new ≡ command_by (codes "make") words.now }
+    ensures means { when_placed result command.new ≡ command_by (codes "make") words.now }
     ensures in_range { OnOk result (IsTrue (in_range command.new)) }
     ensures kept { OnErr result (command.new ≡ command.old) }
 {
@@ -62,7 +62,7 @@ fn make_of(words: &Words<'_>, command: &mut Command) -> Result<(), LineFault>
 #[tactic(auto, unfolding(crate::specs::Placed::reading))]
 #[inline(always)]
 fn remove_of(words: &Words<'_>, command: &mut Command) -> Result<(), LineFault>
-    ensures means { placed result command.new ≡ command_by (codes "remove") words.now }
+    ensures means { when_placed result command.new ≡ command_by (codes "remove") words.now }
     ensures in_range { OnOk result (IsTrue (in_range command.new)) }
     ensures kept { OnErr result (command.new ≡ command.old) }
 {
@@ -76,7 +76,7 @@ fn remove_of(words: &Words<'_>, command: &mut Command) -> Result<(), LineFault>
 #[tactic(auto, unfolding(crate::specs::Placed::reading))]
 #[inline(always)]
 fn areas_of(words: &Words<'_>, command: &mut Command) -> Result<(), LineFault>
-    ensures means { placed result command.new ≡ command_by (codes "areas") words.now }
+    ensures means { when_placed result command.new ≡ command_by (codes "areas") words.now }
     ensures in_range { OnOk result (IsTrue (in_range command.new)) }
     ensures kept { OnErr result (command.new ≡ command.old) }
 {

@@ -1,9 +1,9 @@
 //! Lines about flex blocks.
 
 ghost use Rattle.std.specs.Prelude.{◌≡◌, codes, IfNone, IfSome, OnOk, OnErr, IsTrue, ◌∷◌, []};
-ghost use Rattle.rh_defs.specs.Line.{command_by, command_of, word};
+ghost use Rattle.rh_defs.specs.Line.{command_by, command_of, nth_word};
 ghost use Rattle.rh_defs.specs.Range.{in_range};
-ghost use Rattle.rh_lines.specs.Placed.{placed};
+ghost use Rattle.rh_lines.specs.Placed.{when_placed};
 ghost use Rattle.rh_lines.specs.Readers.{IsNoneOf};
 
 use crate::counts::counted;
@@ -14,10 +14,10 @@ use rh_defs::{Bytes, Command, LineFault, Question};
 
 /// Puts the command of a line about flex blocks in its place; None where the line begins with none of their words.
 pub fn read_command(words: &Words<'_>, command: &mut Command) -> Option<Result<(), LineFault>>
-    ensures means { IfSome result (λ read. placed read command.new ≡ command_of words.now) }
+    ensures means { IfSome result (λ read. when_placed read command.new ≡ command_of words.now) }
     ensures in_range { IfSome result (λ read. OnOk read (IsTrue (in_range command.new))) }
     ensures kept { IfSome result (λ read. OnErr read (command.new ≡ command.old)) }
-    ensures other { IfNone result (IsNoneOf (word words.now 1) (codes "alloc" ∷ codes "load" ∷ codes "put" ∷ codes "free" ∷ codes "extend" ∷ codes "mid" ∷ codes "show" ∷ codes "blocks" ∷ [])) }
+    ensures other { IfNone result (IsNoneOf (nth_word words.now 1) (codes "alloc" ∷ codes "load" ∷ codes "put" ∷ codes "free" ∷ codes "extend" ∷ codes "mid" ∷ codes "show" ∷ codes "blocks" ∷ [])) }
     ensures same { IfNone result (command.new ≡ command.old) }
 {
     match words.word(1) {
@@ -37,7 +37,7 @@ pub fn read_command(words: &Words<'_>, command: &mut Command) -> Option<Result<(
 #[tactic(auto, unfolding(crate::specs::Placed::reading))]
 #[inline(always)]
 fn alloc_of(words: &Words<'_>, command: &mut Command) -> Result<(), LineFault>
-    ensures means { placed result command.new ≡ command_by (codes "alloc") words.now }
+    ensures means { when_placed result command.new ≡ command_by (codes "alloc") words.now }
     ensures in_range { OnOk result (IsTrue (in_range command.new)) }
     ensures kept { OnErr result (command.new ≡ command.old) }
 {
@@ -53,7 +53,7 @@ fn alloc_of(words: &Words<'_>, command: &mut Command) -> Result<(), LineFault>
 #[tactic(auto, unfolding(crate::specs::Placed::reading))]
 #[inline(always)]
 fn load_of(words: &Words<'_>, command: &mut Command) -> Result<(), LineFault>
-    ensures means { placed result command.new ≡ command_by (codes "load") words.now }
+    ensures means { when_placed result command.new ≡ command_by (codes "load") words.now }
     ensures in_range { OnOk result (IsTrue (in_range command.new)) }
     ensures kept { OnErr result (command.new ≡ command.old) }
 {
@@ -69,7 +69,7 @@ fn load_of(words: &Words<'_>, command: &mut Command) -> Result<(), LineFault>
 #[tactic(auto, unfolding(crate::specs::Placed::reading))]
 #[inline(always)]
 fn put_of(words: &Words<'_>, command: &mut Command) -> Result<(), LineFault>
-    ensures means { placed result command.new ≡ command_by (codes "put") words.now }
+    ensures means { when_placed result command.new ≡ command_by (codes "put") words.now }
     ensures in_range { OnOk result (IsTrue (in_range command.new)) }
     ensures kept { OnErr result (command.new ≡ command.old) }
 {
@@ -92,7 +92,7 @@ fn put_of(words: &Words<'_>, command: &mut Command) -> Result<(), LineFault>
 #[tactic(auto, unfolding(crate::specs::Placed::reading))]
 #[inline(always)]
 fn free_of(words: &Words<'_>, command: &mut Command) -> Result<(), LineFault>
-    ensures means { placed result command.new ≡ command_by (codes "free") words.now }
+    ensures means { when_placed result command.new ≡ command_by (codes "free") words.now }
     ensures in_range { OnOk result (IsTrue (in_range command.new)) }
     ensures kept { OnErr result (command.new ≡ command.old) }
 {
@@ -107,7 +107,7 @@ fn free_of(words: &Words<'_>, command: &mut Command) -> Result<(), LineFault>
 #[tactic(auto, unfolding(crate::specs::Placed::reading))]
 #[inline(always)]
 fn extend_of(words: &Words<'_>, command: &mut Command) -> Result<(), LineFault>
-    ensures means { placed result command.new ≡ command_by (codes "extend") words.now }
+    ensures means { when_placed result command.new ≡ command_by (codes "extend") words.now }
     ensures in_range { OnOk result (IsTrue (in_range command.new)) }
     ensures kept { OnErr result (command.new ≡ command.old) }
 {
@@ -123,7 +123,7 @@ fn extend_of(words: &Words<'_>, command: &mut Command) -> Result<(), LineFault>
 #[tactic(auto, unfolding(crate::specs::Placed::reading))]
 #[inline(always)]
 fn mid_of(words: &Words<'_>, command: &mut Command) -> Result<(), LineFault>
-    ensures means { placed result command.new ≡ command_by (codes "mid") words.now }
+    ensures means { when_placed result command.new ≡ command_by (codes "mid") words.now }
     ensures in_range { OnOk result (IsTrue (in_range command.new)) }
     ensures kept { OnErr result (command.new ≡ command.old) }
 {
@@ -145,7 +145,7 @@ fn mid_of(words: &Words<'_>, command: &mut Command) -> Result<(), LineFault>
 #[tactic(auto, unfolding(crate::specs::Placed::reading))]
 #[inline(always)]
 fn show_of(words: &Words<'_>, command: &mut Command) -> Result<(), LineFault>
-    ensures means { placed result command.new ≡ command_by (codes "show") words.now }
+    ensures means { when_placed result command.new ≡ command_by (codes "show") words.now }
     ensures in_range { OnOk result (IsTrue (in_range command.new)) }
     ensures kept { OnErr result (command.new ≡ command.old) }
 {
@@ -160,7 +160,7 @@ fn show_of(words: &Words<'_>, command: &mut Command) -> Result<(), LineFault>
 #[tactic(auto, unfolding(crate::specs::Placed::reading))]
 #[inline(always)]
 fn blocks_of(words: &Words<'_>, command: &mut Command) -> Result<(), LineFault>
-    ensures means { placed result command.new ≡ command_by (codes "blocks") words.now }
+    ensures means { when_placed result command.new ≡ command_by (codes "blocks") words.now }
     ensures in_range { OnOk result (IsTrue (in_range command.new)) }
     ensures kept { OnErr result (command.new ≡ command.old) }
 {

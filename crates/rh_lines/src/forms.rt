@@ -6,9 +6,9 @@ ghost use Rattle.std.specs.Char.{is_ascii_digit};
 ghost use Rattle.std.specs.Result.{result_ok};
 ghost use Rattle.hex.specs.Hex.{decode_of, hex_digit_value, is_hex_digit};
 ghost use Rattle.rh_defs.specs.Forms.{is_name, is_anchor, is_number, is_delta, is_leaf, is_decimal, number_of};
-ghost use Rattle.rh_defs.specs.Line.{name_at, number_at, delta_at, is_address, hex_number, address_at, leaf_at, choice_at, bytes_at, signed};
+ghost use Rattle.rh_defs.specs.Line.{name_at, number_at, delta_at, is_address, hex_number, address_at, leaf_at, choice_at, bytes_read_at, signed};
 ghost use Rattle.rh_defs.specs.declared.sizes.TheConstants.{ANCHORS, GREATEST_NUMBER, LONGEST_LEAF};
-ghost use Rattle.rh_lines.specs.Placed.{placed};
+ghost use Rattle.rh_lines.specs.Placed.{when_placed};
 ghost use Rattle.rh_lines.specs.declared.forms.TheConstants.{MOST_DIGITS};
 
 use crate::hex_digits::{are_hex_digits, hex_bytes, hex_number};
@@ -176,7 +176,7 @@ pub fn choice_at(words: &Words<'_>, n: u8, first: &[u8], second: &[u8]) -> Resul
 
 /// Word `n` as hexadecimal digits of either case, two for each byte, at least one byte. The bytes are added to an empty
 /// list.
-#[tactic(auto, unfolding(rh_defs::specs::Line::bytes_at))]
+#[tactic(auto, unfolding(rh_defs::specs::Line::bytes_read_at))]
 pub fn bytes_at(
     words: &Words<'_>,
     n: u8,
@@ -184,7 +184,7 @@ pub fn bytes_at(
 ) -> Result<(), LineFault>
     requires counted { 0 < n }
     requires none { bytes.old.items ≡ [] }
-    ensures means { placed result bytes.new.items ≡ bytes_at words.now n }
+    ensures means { when_placed result bytes.new.items ≡ bytes_read_at words.now n }
     ensures form { OnOk result (1 ≤ length bytes.new.items) }
 {
     let word = words.word(n);

@@ -1,9 +1,9 @@
 //! Lines about the blocks of heaps: a task's C heap and the module area.
 
 ghost use Rattle.std.specs.Prelude.{◌≡◌, codes, IfNone, IfSome, OnOk, OnErr, IsTrue, ◌∷◌, []};
-ghost use Rattle.rh_defs.specs.Line.{command_by, command_of, word};
+ghost use Rattle.rh_defs.specs.Line.{command_by, command_of, nth_word};
 ghost use Rattle.rh_defs.specs.Range.{in_range};
-ghost use Rattle.rh_lines.specs.Placed.{placed};
+ghost use Rattle.rh_lines.specs.Placed.{when_placed};
 ghost use Rattle.rh_lines.specs.Readers.{IsNoneOf};
 
 use crate::counts::counted;
@@ -13,10 +13,10 @@ use rh_defs::{Command, LineFault, Question};
 
 /// Puts the command of a line about the blocks of heaps in its place; None where the line begins with none of their words.
 pub fn read_command(words: &Words<'_>, command: &mut Command) -> Option<Result<(), LineFault>>
-    ensures means { IfSome result (λ read. placed read command.new ≡ command_of words.now) }
+    ensures means { IfSome result (λ read. when_placed read command.new ≡ command_of words.now) }
     ensures in_range { IfSome result (λ read. OnOk read (IsTrue (in_range command.new))) }
     ensures kept { IfSome result (λ read. OnErr read (command.new ≡ command.old)) }
-    ensures other { IfNone result (IsNoneOf (word words.now 1) (codes "claim" ∷ codes "release" ∷ codes "resize" ∷ codes "budge" ∷ codes "heap" ∷ codes "rma" ∷ [])) }
+    ensures other { IfNone result (IsNoneOf (nth_word words.now 1) (codes "claim" ∷ codes "release" ∷ codes "resize" ∷ codes "budge" ∷ codes "heap" ∷ codes "rma" ∷ [])) }
     ensures same { IfNone result (command.new ≡ command.old) }
 {
     match words.word(1) {
@@ -34,7 +34,7 @@ pub fn read_command(words: &Words<'_>, command: &mut Command) -> Option<Result<(
 #[tactic(auto, unfolding(crate::specs::Placed::reading))]
 #[inline(always)]
 fn claim_of(words: &Words<'_>, command: &mut Command) -> Result<(), LineFault>
-    ensures means { placed result command.new ≡ command_by (codes "claim") words.now }
+    ensures means { when_placed result command.new ≡ command_by (codes "claim") words.now }
     ensures in_range { OnOk result (IsTrue (in_range command.new)) }
     ensures kept { OnErr result (command.new ≡ command.old) }
 {
@@ -49,7 +49,7 @@ fn claim_of(words: &Words<'_>, command: &mut Command) -> Result<(), LineFault>
 #[tactic(auto, unfolding(crate::specs::Placed::reading))]
 #[inline(always)]
 fn release_of(words: &Words<'_>, command: &mut Command) -> Result<(), LineFault>
-    ensures means { placed result command.new ≡ command_by (codes "release") words.now }
+    ensures means { when_placed result command.new ≡ command_by (codes "release") words.now }
     ensures in_range { OnOk result (IsTrue (in_range command.new)) }
     ensures kept { OnErr result (command.new ≡ command.old) }
 {
@@ -64,7 +64,7 @@ fn release_of(words: &Words<'_>, command: &mut Command) -> Result<(), LineFault>
 #[tactic(auto, unfolding(crate::specs::Placed::reading))]
 #[inline(always)]
 fn resize_of(words: &Words<'_>, command: &mut Command) -> Result<(), LineFault>
-    ensures means { placed result command.new ≡ command_by (codes "resize") words.now }
+    ensures means { when_placed result command.new ≡ command_by (codes "resize") words.now }
     ensures in_range { OnOk result (IsTrue (in_range command.new)) }
     ensures kept { OnErr result (command.new ≡ command.old) }
 {
@@ -84,7 +84,7 @@ fn resize_of(words: &Words<'_>, command: &mut Command) -> Result<(), LineFault>
 #[tactic(auto, unfolding(crate::specs::Placed::reading))]
 #[inline(always)]
 fn budge_of(words: &Words<'_>, command: &mut Command) -> Result<(), LineFault>
-    ensures means { placed result command.new ≡ command_by (codes "budge") words.now }
+    ensures means { when_placed result command.new ≡ command_by (codes "budge") words.now }
     ensures in_range { OnOk result (IsTrue (in_range command.new)) }
     ensures kept { OnErr result (command.new ≡ command.old) }
 {
@@ -99,7 +99,7 @@ fn budge_of(words: &Words<'_>, command: &mut Command) -> Result<(), LineFault>
 #[tactic(auto, unfolding(crate::specs::Placed::reading))]
 #[inline(always)]
 fn heap_of(words: &Words<'_>, command: &mut Command) -> Result<(), LineFault>
-    ensures means { placed result command.new ≡ command_by (codes "heap") words.now }
+    ensures means { when_placed result command.new ≡ command_by (codes "heap") words.now }
     ensures in_range { OnOk result (IsTrue (in_range command.new)) }
     ensures kept { OnErr result (command.new ≡ command.old) }
 {
@@ -113,7 +113,7 @@ fn heap_of(words: &Words<'_>, command: &mut Command) -> Result<(), LineFault>
 #[tactic(auto, unfolding(crate::specs::Placed::reading))]
 #[inline(always)]
 fn rma_of(words: &Words<'_>, command: &mut Command) -> Result<(), LineFault>
-    ensures means { placed result command.new ≡ command_by (codes "rma") words.now }
+    ensures means { when_placed result command.new ≡ command_by (codes "rma") words.now }
     ensures in_range { OnOk result (IsTrue (in_range command.new)) }
     ensures kept { OnErr result (command.new ≡ command.old) }
 {

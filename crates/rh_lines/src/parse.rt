@@ -3,7 +3,7 @@
 ghost use Rattle.std.specs.Prelude.{◌≡◌, IfOk, IfSome, OnOk, OnErr, IsTrue};
 ghost use Rattle.rh_defs.specs.Range.{in_range};
 ghost use Rattle.rh_defs.specs.Line.{command_of, is_skipped, line_means};
-ghost use Rattle.rh_lines.specs.Placed.{if_placed, placed, OnFound, OnNone};
+ghost use Rattle.rh_lines.specs.Placed.{if_placed, when_placed, OnFound, OnNone};
 
 use crate::words::Words;
 use crate::{areas, flex, heaps, tasks};
@@ -56,7 +56,7 @@ fn is_skipped(words: &Words<'_>) -> bool
 
 /// Puts the command of a line in its place, as the reader of its first word has it.
 fn put_command(words: &Words<'_>, command: &mut Command) -> Result<(), LineFault>
-    ensures means { placed result command.new ≡ command_of words.now }
+    ensures means { when_placed result command.new ≡ command_of words.now }
     ensures in_range { OnOk result (IsTrue (in_range command.new)) }
     ensures kept { OnErr result (command.new ≡ command.old) }
 {

@@ -2,9 +2,9 @@
 
 ghost use Rattle.std.specs.Prelude.{◌≡◌, codes, IfOk, IfNone, IfSome, OnOk, OnErr, IsTrue, ◌∷◌, []};
 ghost use Rattle.rh_defs.specs.Grammar.{Choice, Maybe, Ref as RefForm, manner_of};
-ghost use Rattle.rh_defs.specs.Line.{command_by, command_of, value_at, word};
+ghost use Rattle.rh_defs.specs.Line.{command_by, command_of, value_at, nth_word};
 ghost use Rattle.rh_defs.specs.Range.{in_range, is_of};
-ghost use Rattle.rh_lines.specs.Placed.{placed};
+ghost use Rattle.rh_lines.specs.Placed.{when_placed};
 ghost use Rattle.rh_lines.specs.Readers.{IsNoneOf};
 
 use crate::counts::{counted, counted_from};
@@ -15,10 +15,10 @@ use rh_defs::{Command, LineFault, Manner, Question, Ref};
 
 /// Puts the command of a line about tasks and their transfers in its place; None where the line begins with none of their words.
 pub fn read_command(words: &Words<'_>, command: &mut Command) -> Option<Result<(), LineFault>>
-    ensures means { IfSome result (λ read. placed read command.new ≡ command_of words.now) }
+    ensures means { IfSome result (λ read. when_placed read command.new ≡ command_of words.now) }
     ensures in_range { IfSome result (λ read. OnOk read (IsTrue (in_range command.new))) }
     ensures kept { IfSome result (λ read. OnErr read (command.new ≡ command.old)) }
-    ensures other { IfNone result (IsNoneOf (word words.now 1) (codes "task" ∷ codes "kill" ∷ codes "save" ∷ codes "poll" ∷ codes "cancel" ∷ codes "repeat" ∷ codes "status" ∷ [])) }
+    ensures other { IfNone result (IsNoneOf (nth_word words.now 1) (codes "task" ∷ codes "kill" ∷ codes "save" ∷ codes "poll" ∷ codes "cancel" ∷ codes "repeat" ∷ codes "status" ∷ [])) }
     ensures same { IfNone result (command.new ≡ command.old) }
 {
     match words.word(1) {
@@ -37,7 +37,7 @@ pub fn read_command(words: &Words<'_>, command: &mut Command) -> Option<Result<(
 #[tactic(auto, unfolding(crate::specs::Placed::reading))]
 #[inline(always)]
 fn task_of(words: &Words<'_>, command: &mut Command) -> Result<(), LineFault>
-    ensures means { placed result command.new ≡ command_by (codes "task") words.now }
+    ensures means { when_placed result command.new ≡ command_by (codes "task") words.now }
     ensures in_range { OnOk result (IsTrue (in_range command.new)) }
     ensures kept { OnErr result (command.new ≡ command.old) }
 {
@@ -78,7 +78,7 @@ fn manner_of(deaf: Option<bool>) -> Manner
 #[tactic(auto, unfolding(crate::specs::Placed::reading))]
 #[inline(always)]
 fn kill_of(words: &Words<'_>, command: &mut Command) -> Result<(), LineFault>
-    ensures means { placed result command.new ≡ command_by (codes "kill") words.now }
+    ensures means { when_placed result command.new ≡ command_by (codes "kill") words.now }
     ensures in_range { OnOk result (IsTrue (in_range command.new)) }
     ensures kept { OnErr result (command.new ≡ command.old) }
 {
@@ -92,7 +92,7 @@ fn kill_of(words: &Words<'_>, command: &mut Command) -> Result<(), LineFault>
 #[tactic(auto, unfolding(crate::specs::Placed::reading))]
 #[inline(always)]
 fn save_of(words: &Words<'_>, command: &mut Command) -> Result<(), LineFault>
-    ensures means { placed result command.new ≡ command_by (codes "save") words.now }
+    ensures means { when_placed result command.new ≡ command_by (codes "save") words.now }
     ensures in_range { OnOk result (IsTrue (in_range command.new)) }
     ensures kept { OnErr result (command.new ≡ command.old) }
 {
@@ -114,7 +114,7 @@ fn save_of(words: &Words<'_>, command: &mut Command) -> Result<(), LineFault>
 #[tactic(auto, unfolding(crate::specs::Placed::reading))]
 #[inline(always)]
 fn poll_of(words: &Words<'_>, command: &mut Command) -> Result<(), LineFault>
-    ensures means { placed result command.new ≡ command_by (codes "poll") words.now }
+    ensures means { when_placed result command.new ≡ command_by (codes "poll") words.now }
     ensures in_range { OnOk result (IsTrue (in_range command.new)) }
     ensures kept { OnErr result (command.new ≡ command.old) }
 {
@@ -128,7 +128,7 @@ fn poll_of(words: &Words<'_>, command: &mut Command) -> Result<(), LineFault>
 #[tactic(auto, unfolding(crate::specs::Placed::reading))]
 #[inline(always)]
 fn repeat_of(words: &Words<'_>, command: &mut Command) -> Result<(), LineFault>
-    ensures means { placed result command.new ≡ command_by (codes "repeat") words.now }
+    ensures means { when_placed result command.new ≡ command_by (codes "repeat") words.now }
     ensures in_range { OnOk result (IsTrue (in_range command.new)) }
     ensures kept { OnErr result (command.new ≡ command.old) }
 {
@@ -142,7 +142,7 @@ fn repeat_of(words: &Words<'_>, command: &mut Command) -> Result<(), LineFault>
 #[tactic(auto, unfolding(crate::specs::Placed::reading))]
 #[inline(always)]
 fn status_of(words: &Words<'_>, command: &mut Command) -> Result<(), LineFault>
-    ensures means { placed result command.new ≡ command_by (codes "status") words.now }
+    ensures means { when_placed result command.new ≡ command_by (codes "status") words.now }
     ensures in_range { OnOk result (IsTrue (in_range command.new)) }
     ensures kept { OnErr result (command.new ≡ command.old) }
 {
@@ -156,7 +156,7 @@ fn status_of(words: &Words<'_>, command: &mut Command) -> Result<(), LineFault>
 #[tactic(auto, unfolding(crate::specs::Placed::reading))]
 #[inline(always)]
 fn cancel_of(words: &Words<'_>, command: &mut Command) -> Result<(), LineFault>
-    ensures means { placed result command.new ≡ command_by (codes "cancel") words.now }
+    ensures means { when_placed result command.new ≡ command_by (codes "cancel") words.now }
     ensures in_range { OnOk result (IsTrue (in_range command.new)) }
     ensures kept { OnErr result (command.new ≡ command.old) }
 {

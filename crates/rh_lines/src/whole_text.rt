@@ -26,13 +26,13 @@ pub struct WholeText<'a> {
 }
 
 impl<'a> WholeText<'a> {
-    ghost use Rattle.rh_lines.specs.WholeText.{before_of, bytes_of, filled, text_of};
+    ghost use Rattle.rh_lines.specs.WholeText.{before_of, whole_bytes, filled, whole_text};
 
     /// These bytes, in which no text is yet.
     pub fn new(bytes: &'a mut [u8]) -> WholeText<'a>
-        ensures same_reference { (bytes_of result).ghost_name ≡ bytes.entry.ghost_name }
+        ensures same_reference { (whole_bytes result).ghost_name ≡ bytes.entry.ghost_name }
         ensures before { before_of result ≡ bytes.entry.now }
-        ensures text { text_of result ≡ [] }
+        ensures text { whole_text result ≡ [] }
     {
         let mut before = Unseen::new();
         before.note(bytes);
@@ -48,8 +48,8 @@ impl<'a> WholeText<'a> {
     /// How many bytes the text has, or 2^64 - 1 where it has more. Those that have room lie in the lent bytes, and what
     /// stands behind them there is as it was.
     pub fn length(&self) -> usize
-        ensures value { result ≡ min (length (text_of self.now)) (2 ^ 64 - 1) }
-        ensures bytes { (bytes_of self.now).now ≡ filled (text_of self.now) (before_of self.now) }
+        ensures value { result ≡ min (length (whole_text self.now)) (2 ^ 64 - 1) }
+        ensures bytes { (whole_bytes self.now).now ≡ filled (whole_text self.now) (before_of self.now) }
     {
         self.count
     }

@@ -2,7 +2,7 @@
 
 ghost use Rattle.std.specs.Prelude.{◌≡◌, ◌<◌, ◌≤◌, ◌++◌, ◌∷◌, [], length, map, All};
 ghost use Rattle.rh_defs.specs.Bytes.{space};
-ghost use Rattle.rh_defs.specs.Line.{words_of, word};
+ghost use Rattle.rh_defs.specs.Line.{words_of, nth_word};
 ghost use Rattle.memchr.specs.Find.{IsFirstByte, is_byte};
 ghost use Rattle.rh_lines.specs.Words.{first_words, piece_words};
 ghost use Rattle.rh_defs.specs.declared.sizes.TheConstants.{LONGEST_LINE};
@@ -64,7 +64,7 @@ impl<'a> Words<'a> {
     /// Word `n`, counted from 1, or no bytes.
     pub fn word(&self, n: u8) -> &'a [u8]
         requires { 0 < n }
-        ensures value { result.now ≡ word self.now n }
+        ensures value { result.now ≡ nth_word self.now n }
         ensures short { length result.now ≤ LONGEST_LINE }
     {
         match self.found.get(n as usize - 1) {

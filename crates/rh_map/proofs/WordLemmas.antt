@@ -2,7 +2,7 @@
 use Rattle.rh_map.proofs.Common.{◌≡◌, ℕ, zero, suc, ◌<◌, ◌≤◌, true, false, eqb, List, [], ◌∷◌, ◌++◌, length, take, drop, refl, sym, ap, ◌∙◌, append-nil}
 use Rattle.rh_map.proofs.Common.{arith, slice_index, codes, ◌==◌, nat_tests, cond_false, eqb_apart, shown_line, shown_lines}
 use Rattle.rh_defs.specs.Bytes.{space}
-use Rattle.rh_defs.specs.Line.{words_of, word}
+use Rattle.rh_defs.specs.Line.{words_of, nth_word}
 use Rattle.rh_defs.proofs.HeapLists.{cond_true}
 use Rattle.rh_figure.specs.Phrases.{cut}
 use Rattle.rh_figure.specs.Map.{remark_lines}
@@ -21,13 +21,13 @@ piece-some b bs = rw (eqb_apart (length (b ∷ bs)) 0 (λ z. omega (arith, z))) 
 
 -- the words of a line whose first word is known
 pub record FirstWord (line w : List ℕ) : Type 0 where
-  pub is : w ≡ word (words_of line) 1
+  pub is : w ≡ nth_word (words_of line) 1
   pub none : (length w == 0) ≡ (length (words_of line) == 0)
 
 first-of : (line : List ℕ) (b : ℕ) (bs : List ℕ) (ws : List (List ℕ)) → words_of line ≡ (b ∷ bs) ∷ ws
     → FirstWord line (b ∷ bs)
 first-of line b bs ws e = record {
-  is = sym (ap (λ words. word words 1) e);
+  is = sym (ap (λ words. nth_word words 1) e);
   none = eqb_apart (suc (length bs)) 0 (λ z. omega (arith, z))
       ∙ sym (ap (λ words. length words == 0) e ∙ eqb_apart (suc (length ws)) 0 (λ z. omega (arith, z)));
 }

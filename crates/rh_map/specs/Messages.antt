@@ -22,16 +22,16 @@ abbrev pub card_of : CardMessage → Card
 card_of m = message_card m.my_ref m.action m.code (who_text m.from) (who_text m.to) (place_text m.place) m.fresh
 
 -- a message of a letterbox
-abbrev pub text_of : MessageEntry → Text
-text_of e = entry_text e.my_ref e.action e.code
+abbrev pub message_entry_text : MessageEntry → Text
+message_entry_text e = entry_text e.my_ref e.action e.code
 
 abbrev pub held_text : Option MessageEntry → Text
 held_text None = []
-held_text (Some e) = text_of e
+held_text (Some e) = message_entry_text e
 
 -- the first of n messages that wait
 abbrev pub waits_text : List MessageEntry → ℕ → Text
-waits_text first n = join_by text_of (codes ", ") first ++ and_more n
+waits_text first n = join_by message_entry_text (codes ", ") first ++ and_more n
 
-abbrev pub letterbox_of : List ℕ → Option MessageEntry → List MessageEntry → ℕ → Letterbox
-letterbox_of name held first n = record { name = name; held = held_text held; waits = waits_text first n }
+abbrev pub mapped_letterbox : List ℕ → Option MessageEntry → List MessageEntry → ℕ → Letterbox
+mapped_letterbox name held first n = record { name = name; held = held_text held; waits = waits_text first n }

@@ -1,7 +1,7 @@
 //! The characters of a map's row: each stands for 64 bytes of an area.
 
 ghost use Rattle.std.specs.Prelude.{◌≡◌, ◌∷◌, [], ◌<◌, ◌^◌, filter, find, IfNone, IfSome};
-ghost use Rattle.rh_figure.specs.Rows.{begins_in, cell_mark, has_byte, is_block, kind_mark, mark_or_space};
+ghost use Rattle.rh_figure.specs.Rows.{begins_in, cell_mark, has_byte, is_block_kind, kind_mark, mark_or_space};
 
 use rh_figure::limits::CELL_BYTES;
 use rh_figure::{Kind, Piece};
@@ -65,7 +65,7 @@ fn has_byte(at: usize, piece: &Piece) -> bool
 }
 
 fn is_block(kind: Kind) -> bool
-    ensures { result ≡ is_block kind }
+    ensures { result ≡ is_block_kind kind }
 {
     matches!(
         kind,

@@ -7,7 +7,7 @@ ghost use Rattle.rh_figure.specs.Phrases.{and_more, is_returned, where_so};
 ghost use Rattle.rh_figure.specs.declared.limits.TheConstants.{MAP_COLUMNS, MOST_LISTED};
 ghost use Rattle.rh_lines.specs.Flow.{Puts};
 ghost use Rattle.rh_lines.specs.declared.row.TheConstants.{ROW};
-ghost use Rattle.rh_map.specs.Messages.{held_text, letterbox_of, text_of, waits_text};
+ghost use Rattle.rh_map.specs.Messages.{held_text, mapped_letterbox, message_entry_text, waits_text};
 ghost use Rattle.rh_map.specs.Written.{Fills};
 ghost use Rattle.rh_defs.specs.Post.{most_messages};
 
@@ -38,7 +38,7 @@ pub fn print_letterbox<W: Sink>(
     requires few { count ≤ most_messages }
     requires first { length waits.now ≡ min count MOST_LISTED }
     ensures { Puts (W.output writer.old) (W.output writer.new) result
-        (shown_line (letterbox_line (letterbox_of name.now held waits.now count)) ++ codes "\n") }
+        (shown_line (letterbox_line (mapped_letterbox name.now held waits.now count)) ++ codes "\n") }
 {
     let row = letterbox_row(name, held, waits, count);
     put_line(row.as_slice(), writer)
@@ -53,7 +53,7 @@ fn letterbox_row(
 ) -> Row
     requires few { count ≤ most_messages }
     requires first { length waits.now ≡ min count MOST_LISTED }
-    ensures { Fills result (letterbox_line (letterbox_of name.now held waits.now count)) }
+    ensures { Fills result (letterbox_line (mapped_letterbox name.now held waits.now count)) }
 {
     let mut row = Row::new();
     row.text(b"  for ");
@@ -95,7 +95,7 @@ fn add_waits(row: &mut Row, waits: &[MessageEntry], count: usize)
 /// Adds messages behind commas, as far as a line shows them.
 fn add_others(row: &mut Row, others: &[MessageEntry])
     requires { length row.old ≤ 120 }
-    ensures value { (text : List ℕ) → Fills row.old text → Fills row.new (text ++ flat_map (λ e. codes ", " ++ text_of e) others.now) }
+    ensures value { (text : List ℕ) → Fills row.old text → Fills row.new (text ++ flat_map (λ e. codes ", " ++ message_entry_text e) others.now) }
     ensures few { length row.new ≤ 120 }
 {
     let mut rest = others;
@@ -108,7 +108,8 @@ fn add_others(row: &mut Row, others: &[MessageEntry])
 /// Adds a message behind a comma, where a line shows more.
 fn add_behind(row: &mut Row, entry: MessageEntry)
     requires { length row.old ≤ 120 }
-    ensures value { (text : List ℕ) → Fills row.old text → Fills row.new (text ++ (codes ", " ++ text_of entry)) }
+    ensures value { (text : List ℕ) → Fills row.old text → Fills row.new
+        (text ++ (codes ", " ++ message_entry_text entry)) }
     ensures few { length row.new ≤ 120 }
 {
     if row.as_slice().len() <= MAP_COLUMNS {
@@ -131,7 +132,7 @@ fn add_more_behind(row: &mut Row, n: usize)
 /// Adds a message: its ref and action, and whether it comes back.
 pub fn add_entry(row: &mut Row, entry: MessageEntry)
     requires { length row.old + 28 ≤ ROW }
-    ensures value { row.new ≡ row.old ++ text_of entry }
+    ensures value { row.new ≡ row.old ++ message_entry_text entry }
     ensures few { length row.new ≤ length row.old + 28 }
 {
     row.decimal(entry.my_ref.0);

@@ -1,7 +1,7 @@
 //! Lines of a script that ask for nothing: remarks, and marks of the next command.
 
 ghost use Rattle.std.specs.Prelude.{◌≡◌, ◌==◌, ◌++◌, codes, length, not};
-ghost use Rattle.rh_defs.specs.Line.{word, words_of};
+ghost use Rattle.rh_defs.specs.Line.{nth_word, words_of};
 ghost use Rattle.rh_figure.specs.Map.{is_mark as is_mark_of, remark_lines, shown_line};
 ghost use Rattle.rh_figure.specs.Phrases.{cut};
 ghost use Rattle.rh_figure.specs.declared.limits.TheConstants.{LINE_COLUMNS};
@@ -55,7 +55,7 @@ fn print_cut<W: Sink>(line: &[u8], writer: &mut W) -> Result<(), WriteFailed>
 
 /// The first word of a line, or no bytes where it has no words.
 fn first_word(line: &[u8]) -> &[u8]
-    ensures value { result.now ≡ word (words_of line.now) 1 }
+    ensures value { result.now ≡ nth_word (words_of line.now) 1 }
     ensures none { (length result.now == 0) ≡ (length (words_of line.now) == 0) }
 {
     let rest = unspaced(line);

@@ -1,8 +1,8 @@
 -- Blocks of the module area, by the bytes of the area.
 use Rattle.rh_module.proofs.Common.{◌≡◌, ℕ, ◌+◌, ◌≤◌, inl, inr, eqb, List, [], ◌∷◌, length, sym, ap, subst, ◌∙◌, arith, Option, Some, None, IfSome, Memory}
-use Rattle.rh_module.proofs.Common.{IsOpen, bytes, Heap, IsImage, heap_of-Spells, IsModule, SpellsIn, heap_in, Module, Span}
+use Rattle.rh_module.proofs.Common.{IsOpen, bytes, Heap, IsImage, heap_of-Spells, IsModule, SpellsModuleIn, module_heap_in, Module, Span}
 use Rattle.std.proofs.lemmas.Bool.{cases_eq}
-use Rattle.rh_defs.specs.Bytes.{word, part, put, put_word, word_bytes}
+use Rattle.rh_defs.specs.Bytes.{word, part, with_part, put_word, word_bytes}
 use Rattle.rh_defs.specs.Memory.{with_bytes}
 use Rattle.rh_defs.specs.Heap.{Segment, Used, Hole}
 use Rattle.rh_defs.specs.HeapImage.{Stand}
@@ -34,10 +34,10 @@ pub record Stands (m : Memory) (rma : Module) (a : ℕ) (bs : List ℕ) : Type 0
   pub within : a + length bs ≤ length (bytes m rma.area.0)
   pub above : 20 ≤ a
 
-pub stands : (m : Memory) (rma : Module) (a : ℕ) (bs : List ℕ) → IsModule m rma → block_bytes a (heap_in m rma) ≡ Some bs → Stands m rma a bs
+pub stands : (m : Memory) (rma : Module) (a : ℕ) (bs : List ℕ) → IsModule m rma → block_bytes a (module_heap_in m rma) ≡ Some bs → Stands m rma a bs
 stands m rma a bs s e =
-    let r = range_at a 16 (heap_in m rma).segments bs e in
-    let h = heap_in m rma in
+    let r = range_at a 16 (module_heap_in m rma).segments bs e in
+    let h = module_heap_in m rma in
     let fits = s.spells.spells.heap.fits in
     let whole = s.spells.whole in
     record {
@@ -46,22 +46,22 @@ stands m rma a bs s e =
       above = r.0;
     }
 
-pub block_within : (m : Memory) (rma : Module) (a n : ℕ) → IsModule m rma → HasBlock a n (heap_in m rma) → a + n ≤ length (bytes m rma.area.0)
+pub block_within : (m : Memory) (rma : Module) (a n : ℕ) → IsModule m rma → HasBlock a n (module_heap_in m rma) → a + n ≤ length (bytes m rma.area.0)
 block_within m rma a n s b = let w = stands m rma a b.bytes s b.found in let r = b.room in let v = w.within in omega arith
 
 one_of : {x y : List ℕ} → ◌≡◌ {A = Option (List ℕ)} (Some x) (Some y) → x ≡ y
 one_of e = cc
 
-pub word_there : (m : Memory) (rma : Module) (a o : ℕ) (bs : List ℕ) → IsModule m rma → HasBlock a (o + 4) (heap_in m rma)
-    → block_bytes a (heap_in m rma) ≡ Some bs → word (bytes m rma.area.0) (a + o) ≡ word bs o
+pub word_there : (m : Memory) (rma : Module) (a o : ℕ) (bs : List ℕ) → IsModule m rma → HasBlock a (o + 4) (module_heap_in m rma)
+    → block_bytes a (module_heap_in m rma) ≡ Some bs → word (bytes m rma.area.0) (a + o) ≡ word bs o
 word_there m rma a o bs s b e =
     let w = stands m rma a bs s e in
     let same : b.bytes ≡ bs = one_of (sym b.found ∙ e) in
     let r : o + 4 ≤ length bs = subst (λ l. o + 4 ≤ length l) same b.room in
     sym (word-part (bytes m rma.area.0) a (length bs) o r) ∙ ap (λ l. word l o) w.part
 
-pub part_there : (m : Memory) (rma : Module) (a o n : ℕ) (bs : List ℕ) → IsModule m rma → HasBlock a (o + n) (heap_in m rma)
-    → block_bytes a (heap_in m rma) ≡ Some bs → part (bytes m rma.area.0) (a + o) n ≡ part bs o n
+pub part_there : (m : Memory) (rma : Module) (a o n : ℕ) (bs : List ℕ) → IsModule m rma → HasBlock a (o + n) (module_heap_in m rma)
+    → block_bytes a (module_heap_in m rma) ≡ Some bs → part (bytes m rma.area.0) (a + o) n ≡ part bs o n
 part_there m rma a o n bs s b e =
     let w = stands m rma a bs s e in
     let same : b.bytes ≡ bs = one_of (sym b.found ∙ e) in
@@ -69,30 +69,30 @@ part_there m rma a o n bs s b e =
     sym (part-part (bytes m rma.area.0) a (length bs) o n r) ∙ ap (λ l. part l o n) w.part
 
 -- ---- the heap after a call
-pub heap_is : (m : Memory) (rma : Module) (h : Heap) → SpellsIn m rma h → heap_in m rma ≡ h
+pub heap_is : (m : Memory) (rma : Module) (h : Heap) → SpellsModuleIn m rma h → module_heap_in m rma ≡ h
 heap_is m rma h s = heap_of-Spells (bytes m rma.area.0) 0 h s.spells
 
-pub is_module : (m : Memory) (rma : Module) (h : Heap) → IsOpen m rma.area.0 → SpellsIn m rma h → IsModule m rma
+pub is_module : (m : Memory) (rma : Module) (h : Heap) → IsOpen m rma.area.0 → SpellsModuleIn m rma h → IsModule m rma
 is_module m rma h o s = record { opened = o; spells = subst (IsImage (bytes m rma.area.0)) (sym (heap_is m rma h s)) s }
 
 -- ---- bytes written inside a block
-pub wrote : (m n : Memory) (rma : Module) (a o : ℕ) (xs : List ℕ) → IsModule m rma → HasBlock a (o + length xs) (heap_in m rma)
-    → n ≡ with_bytes m rma.area.0 (put (bytes m rma.area.0) (a + o) xs) → Wrote m n rma a o xs
+pub wrote : (m n : Memory) (rma : Module) (a o : ℕ) (xs : List ℕ) → IsModule m rma → HasBlock a (o + length xs) (module_heap_in m rma)
+    → n ≡ with_bytes m rma.area.0 (with_part (bytes m rma.area.0) (a + o) xs) → Wrote m n rma a o xs
 wrote m n rma a o xs s b e =
-    let c = put (bytes m rma.area.0) (a + o) xs in
-    let image = IsImage-written (bytes m rma.area.0) (heap_in m rma) a o xs b.bytes s.spells b.found b.room in
+    let c = with_part (bytes m rma.area.0) (a + o) xs in
+    let image = IsImage-written (bytes m rma.area.0) (module_heap_in m rma) a o xs b.bytes s.spells b.found b.room in
     let k : Memory = with_bytes m rma.area.0 c in
-    let there : SpellsIn k rma (poked a o xs (heap_in m rma)) =
-    subst (λ l. IsImage l (poked a o xs (heap_in m rma))) (sym (bytes-with_bytes m rma.area.0 c)) image in
+    let there : SpellsModuleIn k rma (poked a o xs (module_heap_in m rma)) =
+    subst (λ l. IsImage l (poked a o xs (module_heap_in m rma))) (sym (bytes-with_bytes m rma.area.0 c)) image in
     let made : Wrote m k rma a o xs = record {
-      still = is_module k rma (poked a o xs (heap_in m rma)) (IsOpen-with_bytes m rma.area.0 c) there;
-      heap = heap_is k rma (poked a o xs (heap_in m rma)) there;
+      still = is_module k rma (poked a o xs (module_heap_in m rma)) (IsOpen-with_bytes m rma.area.0 c) there;
+      heap = heap_is k rma (poked a o xs (module_heap_in m rma)) there;
       only = OnlyArea-with_bytes m rma.area.0 c (length-put (bytes m rma.area.0) (a + o) xs);
       free = free-with_bytes m rma.area.0 c;
     } in
     subst (λ (z : Memory). Wrote m z rma a o xs) (sym e) made
 
-pub wrote_word : (m n : Memory) (rma : Module) (a o w : ℕ) → IsModule m rma → HasBlock a (o + 4) (heap_in m rma)
+pub wrote_word : (m n : Memory) (rma : Module) (a o w : ℕ) → IsModule m rma → HasBlock a (o + 4) (module_heap_in m rma)
     → n ≡ with_bytes m rma.area.0 (put_word (bytes m rma.area.0) (a + o) w) → Wrote m n rma a o (word_bytes w)
 unfolding put_word word_bytes
 wrote_word m n rma a o w s b e = wrote m n rma a o (word_bytes w) s b e
@@ -107,7 +107,7 @@ maps_on items h d s (Some x) i = index_shape (items x) d h s i
 -- what was written in a block left the heap its shape
 pub same_shape : (m n : Memory) (rma : Module) (a o : ℕ) (xs : List ℕ) (before behind : Span) → Wrote m n rma a o xs → IsModule m rma → before ≡ span_of rma
     → behind ≡ span_of rma → SameShape (spans.heap_in n behind) (spans.heap_in m before)
-same_shape m n rma a o xs before behind w s e f = rw (old_heap f w.still, w.heap, old_heap e s) (poked-shape a o xs (heap_in m rma))
+same_shape m n rma a o xs before behind w s e f = rw (old_heap f w.still, w.heap, old_heap e s) (poked-shape a o xs (module_heap_in m rma))
 
 pub span_after : (m n : Memory) (rma : Module) (a o : ℕ) (xs : List ℕ) (span : Span) → Wrote m n rma a o xs → span ≡ span_of rma → spans.IsSpan n span
-span_after m n rma a o xs span w e = is_span n rma span (heap_in n rma) e w.still.opened w.still.spells.spells
+span_after m n rma a o xs span w e = is_span n rma span (module_heap_in n rma) e w.still.opened w.still.spells.spells

@@ -1,6 +1,6 @@
 -- Calls on the heap that has grown by what it was short of.
 use Rattle.rh_module.proofs.Common.{◌≡◌, ℕ, length, refl, sym, ap, subst, ◌∙◌, Result, Ok, IsOk, Memory, OnlyArea, bytes, pages_for, Heap, answer_of, left_of}
-use Rattle.rh_module.proofs.Common.{HeapRefusal, OnlyArea-from_Edited, Span, Module, SpellsIn, longer, Leaves}
+use Rattle.rh_module.proofs.Common.{HeapRefusal, OnlyArea-from_Edited, Span, Module, SpellsModuleIn, longer, LeavesModule}
 use Rattle.rh_defs.specs.Heap.{as_granted, raised}
 use Rattle.rh_defs.specs.Chain.{Granted}
 use Rattle.rh_defs.proofs.MemoryLaws.{OnlyArea-both}
@@ -17,7 +17,7 @@ pub record Grown (k : Memory) (rma : Module) (span : Span) (h : Heap) (shortage 
   pub at : span ≡ span_of rma
   pub pages : ℕ
   pub pages_are : pages ≡ pages_for shortage
-  pub long : SpellsIn k rma (longer pages h)
+  pub long : SpellsModuleIn k rma (longer pages h)
 
 module _ {k : Memory} {rma : Module} {span : Span} {h : Heap} {shortage : ℕ} {call : Heap → Result (Heap × ℕ) HeapRefusal} {granted : Granted (Heap × ℕ)}
     (w : Grown k rma span h shortage call granted) where
@@ -27,18 +27,18 @@ module _ {k : Memory} {rma : Module} {span : Span} {h : Heap} {shortage : ℕ} {
   called : call (spans.heap_in k span) ≡ Ok (as_granted w.grows.placed)
   called = ap call raised_there ∙ w.grows.called_is
 
-  module _ (m n : Memory) (r : Result ℕ HeapRefusal) (l : heap_calls.Leaves k n span (call (spans.heap_in k span)) r) where
+  module _ (m n : Memory) (r : Result ℕ HeapRefusal) (l : heap_calls.LeavesHeap k n span (call (spans.heap_in k span)) r) where
     -- the heap's call is done
     pub is_done : IsOk r
     is_done = rw (l.answer ∙ ap answer_of called) refl
 
     -- and so is that on the module area
-    pub done : (x : ℕ) → r ≡ Ok x → OnlyArea m k rma.area.0 → Leaves m n rma granted (Ok x)
+    pub done : (x : ℕ) → r ≡ Ok x → OnlyArea m k rma.area.0 → LeavesModule m n rma granted (Ok x)
     done x u only =
         let new = w.grows.placed.heap in
         let same : ◌≡◌ {A = Result ℕ HeapRefusal} (Ok w.grows.placed.address) (Ok x) = sym (sym u ∙ l.answer ∙ ap answer_of called) in
         let address : w.grows.placed.address ≡ x = cc in
-        let spelt = begins_there n rma span new w.at (subst (λ c. spans.SpellsIn n span (left_of (spans.heap_in k span) c)) called l.spells) in
+        let spelt = begins_there n rma span new w.at (subst (λ c. spans.SpellsHeapIn n span (left_of (spans.heap_in k span) c)) called l.spells) in
         let len : length (bytes n rma.area.0) ≡ length (bytes k rma.area.0) =
         subst (λ (t : Span). length (bytes n t.area.0) ≡ length (bytes k t.area.0)) w.at l.only.outside.len in
         leaves m n rma granted new x (w.grows.granted_is ∙ ap (λ i. Ok (new, i)) address)

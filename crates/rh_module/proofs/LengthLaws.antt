@@ -1,12 +1,12 @@
 -- The heap while its area gets another length.
 use Rattle.rh_module.proofs.Common.{◌≡◌, ℕ, ◌+◌, ◌-◌, ◌*◌, ◌%◌, ◌^◌, ◌<◌, ◌≤◌, length, to_z, of_z, zero, suc, pos, neg_ℤ, ◌-ℤ◌, sym, ap, subst, ◌∙◌, arith, ℤ}
 use Rattle.rh_module.proofs.Common.{Ok, Err, w32, PAGE, Memory, IsOpen, OnlyArea, bytes, answer_of, no_answer, Heap, extended, HeapRefusal, IsImage}
-use Rattle.rh_module.proofs.Common.{OnlyArea-from_Edited, Span, Module, IsModule, SpellsIn, heap_in, longer}
+use Rattle.rh_module.proofs.Common.{OnlyArea-from_Edited, Span, Module, IsModule, SpellsModuleIn, module_heap_in, longer}
 use Rattle.std.specs.Int.{w64}
 use Rattle.std.proofs.lemmas.Int.{to_z_pos, ints}
 use Rattle.rh_defs.specs.Memory.{grown, shrunk}
 use Rattle.rh_defs.specs.Pieces.{moved}
-use Rattle.rh_defs.specs.Heap.{extend, base}
+use Rattle.rh_defs.specs.Heap.{extend_by, base}
 use Rattle.rh_defs.specs.declared.heap.HeapRefusal.TheVariants.{ExcessiveShrink}
 use Rattle.rh_defs.proofs.MemoryLaws.{IsOpen-grown, length-grown, length-shrunk, SameIn-grown, SameIn-shrunk, OnlyArea-grown, OnlyArea-shrunk, OnlyArea-both}
 use Rattle.rh_defs.proofs.HeapCalls.{extend-done, extend-fits, extend-refused}
@@ -33,10 +33,10 @@ moved_up e pages l = ap (moved e) (to_z_pos w32 (pages * PAGE) (omega arith)) �
 
 -- an area that has grown
 pub grown_may_move : (m k : Memory) (rma : Module) (span : Span) (pages : ℕ) → IsModule m rma → k ≡ grown m rma.area.0 pages → span ≡ span_of rma
-    → pages ≤ pool_limit → MayMove k rma span (heap_in m rma) pages (to_z w32 (pages * PAGE))
+    → pages ≤ pool_limit → MayMove k rma span (module_heap_in m rma) pages (to_z w32 (pages * PAGE))
 grown_may_move m k rma span pages s e at l =
     let id = rma.area.0 in
-    let h = heap_in m rma in
+    let h = module_heap_in m rma in
     let long : length (bytes k id) ≡ h.end + PAGE * pages =
     subst (λ n. length (bytes n id) ≡ h.end + PAGE * pages) (sym e) (length-grown m id pages ∙ ap (λ n. n + PAGE * pages) s.spells.whole) in
     let begins : Begins k rma h = subst (λ n. Begins n rma h) (sym e)
@@ -61,7 +61,7 @@ grown_may_move m k rma span pages s e at l =
 
 -- the end has moved
 pub lengthened : (k n : Memory) (rma : Module) (span : Span) (h : Heap) (pages : ℕ) (delta : ℤ) → MayMove k rma span h pages delta → span ≡ span_of rma
-    → spans.OnlySpan k n span → spans.SpellsIn n span (extended delta (spans.heap_in k span)) → SpellsIn n rma (longer pages h)
+    → spans.OnlySpan k n span → spans.SpellsHeapIn n span (extended delta (spans.heap_in k span)) → SpellsModuleIn n rma (longer pages h)
 lengthened k n rma span h pages delta w at only s =
     let same : extended delta (spans.heap_in k span) ≡ longer pages h =
     ap (λ (e : ℕ). let g : Heap = record { segments = (spans.heap_in k span).segments; end = e } in g) w.moved_is
@@ -70,7 +70,7 @@ lengthened k n rma span h pages delta w at only s =
     let area : span.area ≡ rma.area = ap (λ (t : Span). t.area) at in
     record {
       whole = subst (λ a. length (bytes n a.0) ≡ length (bytes k a.0)) area len ∙ w.len;
-      spells = begins_there n rma span (longer pages h) at (subst (spans.SpellsIn n span) same s);
+      spells = begins_there n rma span (longer pages h) at (subst (spans.SpellsHeapIn n span) same s);
     }
 
 pub only_lengthened : (m k n : Memory) (rma : Module) (span : Span) (pages : ℕ) → k ≡ grown m rma.area.0 pages → pages ≤ m.free → span ≡ span_of rma
@@ -97,43 +97,43 @@ moved_down e pages l = ap (moved e) (down_is pages l) ∙ minus e (pages * PAGE)
 
 -- the end may be moved, or lies too low
 pub may_shorten : (m : Memory) (rma : Module) (span : Span) (pages : ℕ) → IsModule m rma → span ≡ span_of rma → pages ≤ 2 ^ 19 → {x : Unit {0}}
-    → Ok x ≡ answer_of (no_answer (extend (down pages) (spans.heap_in m span)))
-    → (base (heap_in m rma) ≤ (shorter pages (heap_in m rma)).end) × (extend (down pages) (spans.heap_in m span) ≡ Ok
+    → Ok x ≡ answer_of (no_answer (extend_by (down pages) (spans.heap_in m span)))
+    → (base (module_heap_in m rma) ≤ (shorter pages (module_heap_in m rma)).end) × (extend_by (down pages) (spans.heap_in m span) ≡ Ok
     (extended (down pages) (spans.heap_in m span)))
 may_shorten m rma span pages s at l e =
     let fits = extend-fits (down pages) (spans.heap_in m span) e in
     let same = old_heap at s in
-    let low : base (spans.heap_in m span) ≡ base (heap_in m rma) = ap base same in
-    let now : moved (spans.heap_in m span).end (down pages) ≡ (heap_in m rma).end - PAGE * pages =
-    ap (λ (g : Heap). moved g.end (down pages)) same ∙ moved_down (heap_in m rma).end pages l in
+    let low : base (spans.heap_in m span) ≡ base (module_heap_in m rma) = ap base same in
+    let now : moved (spans.heap_in m span).end (down pages) ≡ (module_heap_in m rma).end - PAGE * pages =
+    ap (λ (g : Heap). moved g.end (down pages)) same ∙ moved_down (module_heap_in m rma).end pages l in
     (omega arith, extend-done (down pages) (spans.heap_in m span) fits)
 
 pub may_not_shorten : (m : Memory) (rma : Module) (span : Span) (pages : ℕ) {refusal : HeapRefusal} → IsModule m rma → span ≡ span_of rma → pages ≤ 2 ^ 19
-    → Err refusal ≡ answer_of (no_answer (extend (down pages) (spans.heap_in m span)))
-    → ((shorter pages (heap_in m rma)).end < base (heap_in m rma)) × (refusal ≡ ExcessiveShrink)
+    → Err refusal ≡ answer_of (no_answer (extend_by (down pages) (spans.heap_in m span)))
+    → ((shorter pages (module_heap_in m rma)).end < base (module_heap_in m rma)) × (refusal ≡ ExcessiveShrink)
 may_not_shorten m rma span pages s at l e =
     let low = extend-refused (down pages) (spans.heap_in m span) e in
     let under = low.0 in
     let same = old_heap at s in
-    let based : base (spans.heap_in m span) ≡ base (heap_in m rma) = ap base same in
-    let now : moved (spans.heap_in m span).end (down pages) ≡ (heap_in m rma).end - PAGE * pages =
-    ap (λ (g : Heap). moved g.end (down pages)) same ∙ moved_down (heap_in m rma).end pages l in
+    let based : base (spans.heap_in m span) ≡ base (module_heap_in m rma) = ap base same in
+    let now : moved (spans.heap_in m span).end (down pages) ≡ (module_heap_in m rma).end - PAGE * pages =
+    ap (λ (g : Heap). moved g.end (down pages)) same ∙ moved_down (module_heap_in m rma).end pages l in
     (omega arith, low.1)
 
 -- the area's last pages, where the heap leaves them
 record Spare (m k : Memory) (rma : Module) (pages : ℕ) : Type 0 where
-  begins : Begins k rma (shorter pages (heap_in m rma))
-  len : length (bytes k rma.area.0) ≡ (heap_in m rma).end
+  begins : Begins k rma (shorter pages (module_heap_in m rma))
+  len : length (bytes k rma.area.0) ≡ (module_heap_in m rma).end
   inside : PAGE * pages ≤ length (bytes k rma.area.0)
 
 spare : (m k : Memory) (rma : Module) (span : Span) (pages : ℕ) → IsModule m rma → span ≡ span_of rma → pages ≤ 2 ^ 19 → spans.OnlySpan m k span
-    → spans.SpellsIn k span (extended (down pages) (spans.heap_in m span)) → Spare m k rma pages
+    → spans.SpellsHeapIn k span (extended (down pages) (spans.heap_in m span)) → Spare m k rma pages
 spare m k rma span pages s at l only sp =
-    let h = heap_in m rma in
+    let h = module_heap_in m rma in
     let same : extended (down pages) (spans.heap_in m span) ≡ shorter pages h =
     ap (extended (down pages)) (heap_there m rma span h at s.spells.spells)
     ∙ ap (λ (e : ℕ). let g : Heap = record { segments = h.segments; end = e } in g) (moved_down h.end pages l) in
-    let there : Begins k rma (shorter pages h) = begins_there k rma span (shorter pages h) at (subst (spans.SpellsIn k span) same sp) in
+    let there : Begins k rma (shorter pages h) = begins_there k rma span (shorter pages h) at (subst (spans.SpellsHeapIn k span) same sp) in
     let fits = there.heap.fits in
     let long : length (bytes k rma.area.0) ≡ length (bytes m rma.area.0) =
     subst (λ (t : Span). length (bytes k t.area.0) ≡ length (bytes m t.area.0)) at only.outside.len in
@@ -141,10 +141,11 @@ spare m k rma span pages s at l only sp =
 
 -- the pages are gone
 pub shortened : (m k n : Memory) (rma : Module) (span : Span) (pages : ℕ) → IsModule m rma → span ≡ span_of rma → pages ≤ 2 ^ 19 → spans.OnlySpan m k span
-    → spans.SpellsIn k span (extended (down pages) (spans.heap_in m span)) → n ≡ shrunk k rma.area.0 pages → SpellsIn n rma (shorter pages (heap_in m rma))
+    → spans.SpellsHeapIn k span (extended (down pages) (spans.heap_in m span)) → n ≡ shrunk k rma.area.0 pages → SpellsModuleIn n rma
+    (shorter pages (module_heap_in m rma))
 shortened m k n rma span pages s at l only sp e =
     let id = rma.area.0 in
-    let g = shorter pages (heap_in m rma) in
+    let g = shorter pages (module_heap_in m rma) in
     let w = spare m k rma span pages s at l only sp in
     let len = w.len in
     let inside = w.inside in
@@ -153,10 +154,10 @@ shortened m k n rma span pages s at l only sp e =
       whole = omega arith;
       spells = Spells-kept (bytes k id) (bytes (shrunk k id pages) id) 0 g w.begins (SameIn-shrunk k id pages 0 (0 + g.end) (omega arith)) (omega arith);
     } in
-    subst (λ i. SpellsIn i rma g) (sym e) image
+    subst (λ i. SpellsModuleIn i rma g) (sym e) image
 
 pub only_shortened : (m k n : Memory) (rma : Module) (span : Span) (pages : ℕ) → IsModule m rma → span ≡ span_of rma → pages ≤ 2 ^ 19
-    → spans.OnlySpan m k span → spans.SpellsIn k span (extended (down pages) (spans.heap_in m span))
+    → spans.OnlySpan m k span → spans.SpellsHeapIn k span (extended (down pages) (spans.heap_in m span))
     → n ≡ shrunk k rma.area.0 pages → OnlyArea m n rma.area.0
 only_shortened m k n rma span pages s at l only sp e =
     OnlyArea-both m k n rma.area.0 (subst (λ (t : Span). OnlyArea m k t.area.0) at (OnlyArea-from_Edited m k span.area.0 _ _ only))

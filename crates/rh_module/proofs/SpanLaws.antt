@@ -1,5 +1,6 @@
 -- The module area as a span that a heap stands in.
-use Rattle.rh_module.proofs.Common.{◌≡◌, sym, subst, Memory, IsOpen, bytes, Heap, IsImage, heap_of-Spells, Span, Module, IsModule, SpellsIn, heap_in}
+use Rattle.rh_module.proofs.Common.{◌≡◌, sym, subst, Memory, IsOpen, bytes, Heap, IsImage, heap_of-Spells, Span, Module, IsModule, SpellsModuleIn}
+use Rattle.rh_module.proofs.Common.{module_heap_in}
 use Rattle.rh_defs.specs.HeapImage.{Spells}
 use Rattle.rh_heap.specs.Spans as spans
 use Rattle.rh_heap.proofs.SpanLaws as span_laws
@@ -18,13 +19,13 @@ is_span m rma span h e o s = subst (spans.IsSpan m) (sym e) (span_laws.is_span m
 pub heap_there : (m : Memory) (rma : Module) (span : Span) (h : Heap) → span ≡ span_of rma → Begins m rma h → spans.heap_in m span ≡ h
 heap_there m rma span h e s = subst (λ t. spans.heap_in m t ≡ h) (sym e) (heap_of-Spells (bytes m rma.area.0) 0 h s)
 
-pub begins_there : (m : Memory) (rma : Module) (span : Span) (h : Heap) → span ≡ span_of rma → spans.SpellsIn m span h → Begins m rma h
-begins_there m rma span h e s = subst (λ t. spans.SpellsIn m t h) e s
+pub begins_there : (m : Memory) (rma : Module) (span : Span) (h : Heap) → span ≡ span_of rma → spans.SpellsHeapIn m span h → Begins m rma h
+begins_there m rma span h e s = subst (λ t. spans.SpellsHeapIn m t h) e s
 
 -- before a call
-pub old_heap : {m : Memory} {rma : Module} {span : Span} → span ≡ span_of rma → IsModule m rma → spans.heap_in m span ≡ heap_in m rma
-old_heap {m = m} {rma = rma} {span = span} e s = heap_there m rma span (heap_in m rma) e s.spells.spells
+pub old_heap : {m : Memory} {rma : Module} {span : Span} → span ≡ span_of rma → IsModule m rma → spans.heap_in m span ≡ module_heap_in m rma
+old_heap {m = m} {rma = rma} {span = span} e s = heap_there m rma span (module_heap_in m rma) e s.spells.spells
 
 -- after it
-pub is_module : (m : Memory) (rma : Module) (h : Heap) → IsOpen m rma.area.0 → SpellsIn m rma h → IsModule m rma
+pub is_module : (m : Memory) (rma : Module) (h : Heap) → IsOpen m rma.area.0 → SpellsModuleIn m rma h → IsModule m rma
 is_module m rma h o s = record { opened = o; spells = subst (IsImage (bytes m rma.area.0)) (sym (heap_of-Spells (bytes m rma.area.0) 0 h s.spells)) s }

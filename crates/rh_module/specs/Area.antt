@@ -5,14 +5,14 @@ use Rattle.rh_defs.specs.HeapImage.{IsImage, heap_of}
 use Rattle.rh_module.specs.declared.module.Module.{Module}
 
 -- the heap that the area's bytes spell
-abbrev pub heap_in : Memory → Module → Heap
-heap_in m rma = heap_of (bytes m rma.area.0) 0
+abbrev pub module_heap_in : Memory → Module → Heap
+module_heap_in m rma = heap_of (bytes m rma.area.0) 0
 
 -- the area's bytes, to their end, spell this heap
-abbrev pub SpellsIn : Memory → Module → Heap → Type 0
-SpellsIn m rma h = IsImage (bytes m rma.area.0) h
+abbrev pub SpellsModuleIn : Memory → Module → Heap → Type 0
+SpellsModuleIn m rma h = IsImage (bytes m rma.area.0) h
 
 -- the area is open, and its bytes spell a heap
 pub record IsModule (m : Memory) (rma : Module) : Type 0 where
   pub opened : IsOpen m rma.area.0
-  pub spells : SpellsIn m rma (heap_in m rma)
+  pub spells : SpellsModuleIn m rma (module_heap_in m rma)

@@ -2,12 +2,12 @@
 use Rattle.std.specs.Prelude.{◌≡◌, ℕ, List}
 use Rattle.rh_defs.specs.Memory.{Memory, OnlyArea}
 use Rattle.rh_defs.specs.Blocks.{poked}
-use Rattle.rh_module.specs.Area.{IsModule, heap_in}
+use Rattle.rh_module.specs.Area.{IsModule, module_heap_in}
 use Rattle.rh_module.specs.declared.module.Module.{Module}
 
 -- the block at an address has these bytes from an offset on, its other bytes and all other blocks stay, and no page moves
 pub record Wrote (m n : Memory) (rma : Module) (address offset : ℕ) (bytes : List ℕ) : Type 0 where
   pub still : IsModule n rma
-  pub heap : heap_in n rma ≡ poked address offset bytes (heap_in m rma)
+  pub heap : module_heap_in n rma ≡ poked address offset bytes (module_heap_in m rma)
   pub only : OnlyArea m n rma.area.0
   pub free : n.free ≡ m.free

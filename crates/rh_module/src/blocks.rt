@@ -6,8 +6,8 @@ ghost use Rattle.rh_defs.specs.Heap.{block_around, block_size, segment_at};
 ghost use Rattle.rh_defs.specs.Module.{module_claim, module_free, module_resize, module_need_pages};
 ghost use Rattle.rh_heap.specs.Listed.{segments_from};
 ghost use Rattle.rh_heap.specs.Segments.{piece};
-ghost use Rattle.rh_module.specs.Area.{IsModule, heap_in};
-ghost use Rattle.rh_module.specs.Calls.{Leaves};
+ghost use Rattle.rh_module.specs.Area.{IsModule, module_heap_in};
+ghost use Rattle.rh_module.specs.Calls.{LeavesModule};
 
 use crate::module::Module;
 use arrayvec::ArrayVec;
@@ -20,8 +20,8 @@ impl Module {
     /// Claims a block where the heap as it is refused one: it is too short and grows first, or refuses again.
     fn claim_growing<S: Pages>(self, store: &mut S, n: u32) -> Result<usize, Refusal>
         requires { IsModule (S.memory store.old) self }
-        ensures { Leaves (S.memory store.old) (S.memory store.new) self
-            (module_claim (S.memory store.old).free n (heap_in (S.memory store.old) self)) result }
+        ensures { LeavesModule (S.memory store.old) (S.memory store.new) self
+            (module_claim (S.memory store.old).free n (module_heap_in (S.memory store.old) self)) result }
     {
         let span = self.span();
         let shortage = need(store, span, n)?;
@@ -34,8 +34,8 @@ impl Module {
     /// Refused, and nothing changed: `BadSize` for 0 bytes, `NoRoom` where too few pages are free. (OS_Module 6.)
     pub fn claim<S: Pages>(self, store: &mut S, n: u32) -> Result<usize, Refusal>
         requires { IsModule (S.memory store.old) self }
-        ensures { Leaves (S.memory store.old) (S.memory store.new) self
-            (module_claim (S.memory store.old).free n (heap_in (S.memory store.old) self)) result }
+        ensures { LeavesModule (S.memory store.old) (S.memory store.new) self
+            (module_claim (S.memory store.old).free n (module_heap_in (S.memory store.old) self)) result }
     {
         match claim(store, self.span(), n) {
             Ok(address) => Ok(address),
@@ -47,8 +47,8 @@ impl Module {
     /// (OS_Module 7.)
     pub fn free<S: Pages>(self, store: &mut S, address: usize) -> Result<(), Refusal>
         requires { IsModule (S.memory store.old) self }
-        ensures { Leaves (S.memory store.old) (S.memory store.new) self
-            (no_answer (module_free address (heap_in (S.memory store.old) self))) result }
+        ensures { LeavesModule (S.memory store.old) (S.memory store.new) self
+            (no_answer (module_free address (module_heap_in (S.memory store.old) self))) result }
     {
         release(store, self.span(), address)?;
         Ok(())
@@ -62,8 +62,8 @@ impl Module {
         delta: i32,
     ) -> Result<usize, Refusal>
         requires { IsModule (S.memory store.old) self }
-        ensures { Leaves (S.memory store.old) (S.memory store.new) self
-            (module_resize (S.memory store.old).free address delta (heap_in (S.memory store.old) self)) result }
+        ensures { LeavesModule (S.memory store.old) (S.memory store.new) self
+            (module_resize (S.memory store.old).free address delta (module_heap_in (S.memory store.old) self)) result }
     {
         let span = self.span();
         let shortage = resize_need(store, span, address, delta)?;
@@ -82,8 +82,8 @@ impl Module {
         delta: i32,
     ) -> Result<usize, Refusal>
         requires { IsModule (S.memory store.old) self }
-        ensures { Leaves (S.memory store.old) (S.memory store.new) self
-            (module_resize (S.memory store.old).free address delta (heap_in (S.memory store.old) self)) result }
+        ensures { LeavesModule (S.memory store.old) (S.memory store.new) self
+            (module_resize (S.memory store.old).free address delta (module_heap_in (S.memory store.old) self)) result }
     {
         match resize(store, self.span(), address, delta) {
             Ok(address) => Ok(address),
@@ -94,7 +94,7 @@ impl Module {
     /// The pages that a claim of `n` bytes would take. Refused (`BadSize`) for 0 bytes.
     pub fn need_pages<S: Words>(self, store: &S, n: u32) -> Result<usize, Refusal>
         requires { IsModule (S.memory store.now) self }
-        ensures { result ≡ module_need_pages n (heap_in (S.memory store.now) self) }
+        ensures { result ≡ module_need_pages n (module_heap_in (S.memory store.now) self) }
     {
         let shortage = need(store, self.span(), n)?;
         Ok(pages_for(shortage))
@@ -103,7 +103,7 @@ impl Module {
     /// The bytes of the block at an address. Refused (`NotABlock`) exactly where no block begins there. (OS_Heap 6.)
     pub fn block_size<S: Words>(self, store: &S, address: usize) -> Result<usize, Refusal>
         requires { IsModule (S.memory store.now) self }
-        ensures { result ≡ ok_or (block_size address (heap_in (S.memory store.now) self)) Refusal.NotABlock }
+        ensures { result ≡ ok_or (block_size address (module_heap_in (S.memory store.now) self)) Refusal.NotABlock }
     {
         let size = rh_heap::block_size(store, self.span(), address)?;
         Ok(size)
@@ -112,7 +112,7 @@ impl Module {
     /// The segment that begins at a place, in bytes from the area's first one.
     pub fn segment<S: Words>(self, store: &S, place: usize) -> Option<Segment>
         requires { IsModule (S.memory store.now) self }
-        ensures { result ≡ option_map piece (segment_at place (heap_in (S.memory store.now) self)) }
+        ensures { result ≡ option_map piece (segment_at place (module_heap_in (S.memory store.now) self)) }
     {
         rh_heap::segment(store, self.span(), place)
     }
@@ -124,7 +124,7 @@ impl Module {
         place: usize,
     ) -> ArrayVec<Segment, SEGMENTS_AT_ONCE>
         requires { IsModule (S.memory store.now) self }
-        ensures { result.items ≡ segments_from place (heap_in (S.memory store.now) self) }
+        ensures { result.items ≡ segments_from place (module_heap_in (S.memory store.now) self) }
     {
         rh_heap::segments_from(store, self.span(), place)
     }
@@ -133,7 +133,7 @@ impl Module {
     /// asked for.
     pub fn holds<S: Words>(self, store: &S, address: usize, n: usize) -> bool
         requires { IsModule (S.memory store.now) self }
-        ensures { result ≡ is_some (block_around address n (heap_in (S.memory store.now) self)) }
+        ensures { result ≡ is_some (block_around address n (module_heap_in (S.memory store.now) self)) }
     {
         rh_heap::holds(store, self.span(), address, n)
     }

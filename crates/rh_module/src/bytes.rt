@@ -2,7 +2,7 @@
 ghost use Rattle.std.specs.Prelude.{◌≡◌, ℕ, ◌+◌, List, Some, length};
 ghost use Rattle.rh_defs.specs.Blocks.{HasBlock, block_bytes};
 ghost use Rattle.rh_defs.specs.Bytes.{part, word, word_bytes};
-ghost use Rattle.rh_module.specs.Area.{IsModule, heap_in};
+ghost use Rattle.rh_module.specs.Area.{IsModule, module_heap_in};
 ghost use Rattle.rh_module.specs.Writes.{Wrote};
 
 use crate::module::Module;
@@ -13,8 +13,8 @@ impl Module {
     /// The word at an offset of the block at an address.
     pub fn read_word<S: Words>(self, store: &S, address: usize, offset: usize) -> u32
         requires module { IsModule (S.memory store.now) self }
-        requires block { HasBlock address (offset + 4) (heap_in (S.memory store.now) self) }
-        ensures { (bytes : List ℕ) → block_bytes address (heap_in (S.memory store.now) self) ≡ Some bytes → result ≡ word bytes offset }
+        requires block { HasBlock address (offset + 4) (module_heap_in (S.memory store.now) self) }
+        ensures { (bytes : List ℕ) → block_bytes address (module_heap_in (S.memory store.now) self) ≡ Some bytes → result ≡ word bytes offset }
     {
         store.word(self.area, address + offset)
     }
@@ -22,8 +22,8 @@ impl Module {
     /// Fills a slice with the bytes of the block at an address, from an offset on.
     pub fn read_bytes<S: Words>(self, store: &S, address: usize, offset: usize, to: &mut [u8])
         requires module { IsModule (S.memory store.now) self }
-        requires block { HasBlock address (offset + length to.old) (heap_in (S.memory store.now) self) }
-        ensures { (bytes : List ℕ) → block_bytes address (heap_in (S.memory store.now) self) ≡ Some bytes → to.new ≡ part bytes offset (length to.old) }
+        requires block { HasBlock address (offset + length to.old) (module_heap_in (S.memory store.now) self) }
+        ensures { (bytes : List ℕ) → block_bytes address (module_heap_in (S.memory store.now) self) ≡ Some bytes → to.new ≡ part bytes offset (length to.old) }
     {
         store.copy_out(self.area, address + offset, to);
     }
@@ -31,7 +31,7 @@ impl Module {
     /// Writes a word at an offset of the block at an address.
     pub fn write_word<S: WordsMut>(self, store: &mut S, address: usize, offset: usize, w: u32)
         requires module { IsModule (S.memory store.old) self }
-        requires block { HasBlock address (offset + 4) (heap_in (S.memory store.old) self) }
+        requires block { HasBlock address (offset + 4) (module_heap_in (S.memory store.old) self) }
         ensures { Wrote (S.memory store.old) (S.memory store.new) self address offset (word_bytes w) }
     {
         let map = take_map(store, self.span());
@@ -42,7 +42,7 @@ impl Module {
     /// Writes bytes into the block at an address, from an offset on.
     pub fn write_bytes<S: WordsMut>(self, store: &mut S, address: usize, offset: usize, from: &[u8])
         requires module { IsModule (S.memory store.old) self }
-        requires block { HasBlock address (offset + length from.now) (heap_in (S.memory store.old) self) }
+        requires block { HasBlock address (offset + length from.now) (module_heap_in (S.memory store.old) self) }
         ensures { Wrote (S.memory store.old) (S.memory store.new) self address offset from.now }
     {
         let map = take_map(store, self.span());

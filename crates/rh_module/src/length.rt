@@ -3,8 +3,8 @@ ghost use Rattle.std.specs.Prelude.{◌≡◌, ◌^◌, ◌<◌, ◌≤◌, leng
 ghost use Rattle.rh_defs.specs.Memory.{IsOpen, OnlyArea, bytes};
 ghost use Rattle.rh_defs.specs.Heap.{base, empty_heap, free_bytes, largest};
 ghost use Rattle.rh_defs.specs.Module.{module_change};
-ghost use Rattle.rh_module.specs.Area.{IsModule, SpellsIn, heap_in};
-ghost use Rattle.rh_module.specs.Calls.{Leaves};
+ghost use Rattle.rh_module.specs.Area.{IsModule, SpellsModuleIn, module_heap_in};
+ghost use Rattle.rh_module.specs.Calls.{LeavesModule};
 ghost use Rattle.rh_module.specs.Lengths.{longer, shorter};
 
 use crate::module::Module;
@@ -19,8 +19,9 @@ impl Module {
         requires opened { IsOpen (S.memory store.old) area.0 }
         requires page { PAGE ≤ length (bytes (S.memory store.old) area.0) }
         ensures area { result.area ≡ area }
-        ensures heap { heap_in (S.memory store.new) result ≡ empty_heap (length (bytes (S.memory store.old) area.0)) }
-        ensures spells { SpellsIn (S.memory store.new) result (empty_heap (length (bytes (S.memory store.old) area.0))) }
+        ensures heap { module_heap_in (S.memory store.new) result ≡ empty_heap
+            (length (bytes (S.memory store.old) area.0)) }
+        ensures spells { SpellsModuleIn (S.memory store.new) result (empty_heap (length (bytes (S.memory store.old) area.0))) }
         ensures still { IsModule (S.memory store.new) result }
         ensures only { OnlyArea (S.memory store.old) (S.memory store.new) area.0 }
     {
@@ -35,8 +36,8 @@ impl Module {
     /// `NoRoom` where too few pages are free. (OS_ChangeDynamicArea.)
     pub fn change<S: Pages>(self, store: &mut S, delta: i32) -> Result<usize, Refusal>
         requires { IsModule (S.memory store.old) self }
-        ensures { Leaves (S.memory store.old) (S.memory store.new) self
-            (module_change (S.memory store.old).free delta (heap_in (S.memory store.old) self)) result }
+        ensures { LeavesModule (S.memory store.old) (S.memory store.new) self
+            (module_change (S.memory store.old).free delta (module_heap_in (S.memory store.old) self)) result }
     {
         let pages = pages_for(delta.unsigned_abs() as usize);
         if delta < 0 {
@@ -51,7 +52,7 @@ impl Module {
     /// fewer are free.
     pub(crate) fn lengthen<S: Pages>(self, store: &mut S, pages: usize) -> Result<(), Refusal>
         requires { IsModule (S.memory store.old) self }
-        ensures spells { OnOk result (SpellsIn (S.memory store.new) self (longer pages (heap_in (S.memory store.old) self))) }
+        ensures spells { OnOk result (SpellsModuleIn (S.memory store.new) self (longer pages (module_heap_in (S.memory store.old) self))) }
         ensures room { OnOk result (pages ≤ (S.memory store.old).free) }
         ensures refused { OnErr result ((S.memory store.old).free < pages) }
         ensures reason { IfErr result (λ refusal. refusal ≡ Refusal.NoRoom) }
@@ -70,9 +71,9 @@ impl Module {
     fn shorten<S: Pages>(self, store: &mut S, pages: usize) -> Result<(), Refusal>
         requires module { IsModule (S.memory store.old) self }
         requires small { pages ≤ 2 ^ 19 }
-        ensures spells { OnOk result (SpellsIn (S.memory store.new) self (shorter pages (heap_in (S.memory store.old) self))) }
-        ensures room { OnOk result (base (heap_in (S.memory store.old) self) ≤ (shorter pages (heap_in (S.memory store.old) self)).end) }
-        ensures refused { OnErr result ((shorter pages (heap_in (S.memory store.old) self)).end < base (heap_in (S.memory store.old) self)) }
+        ensures spells { OnOk result (SpellsModuleIn (S.memory store.new) self (shorter pages (module_heap_in (S.memory store.old) self))) }
+        ensures room { OnOk result (base (module_heap_in (S.memory store.old) self) ≤ (shorter pages (module_heap_in (S.memory store.old) self)).end) }
+        ensures refused { OnErr result ((shorter pages (module_heap_in (S.memory store.old) self)).end < base (module_heap_in (S.memory store.old) self)) }
         ensures reason { IfErr result (λ refusal. refusal ≡ Refusal.ExcessiveShrink) }
         ensures only { OnlyArea (S.memory store.old) (S.memory store.new) self.area.0 }
         ensures err { OnErr result (S.memory store.new ≡ S.memory store.old) }
@@ -86,7 +87,7 @@ impl Module {
     /// The heap's end in bytes, which is the area's.
     pub fn end<S: Words>(self, store: &S) -> usize
         requires { IsModule (S.memory store.now) self }
-        ensures { result ≡ (heap_in (S.memory store.now) self).end }
+        ensures { result ≡ (module_heap_in (S.memory store.now) self).end }
     {
         store.len(self.area)
     }
@@ -95,8 +96,8 @@ impl Module {
     /// top. (OS_Heap 1.)
     pub fn describe<S: Words>(self, store: &S) -> (usize, usize)
         requires { IsModule (S.memory store.now) self }
-        ensures largest { result.0 ≡ largest (heap_in (S.memory store.now) self) }
-        ensures total { result.1 ≡ free_bytes (heap_in (S.memory store.now) self) }
+        ensures largest { result.0 ≡ largest (module_heap_in (S.memory store.now) self) }
+        ensures total { result.1 ≡ free_bytes (module_heap_in (S.memory store.now) self) }
     {
         rh_heap::describe(store, self.span())
     }

@@ -7,18 +7,18 @@ pub use Rattle.std.proofs.lemmas.List.{get_or-set_other, get_or-set_same, get_or
 pub use Rattle.std.specs.Prelude.{IsSome, None, Option, Some, unwrap_or}
 pub use Rattle.rh_defs.proofs.BytesLaws.{length-part, length-put, part-range, part_none}
 pub use Rattle.rh_defs.proofs.MemoryLaws.{length-shrunk}
-pub use Rattle.rh_defs.specs.Bytes.{put}
+pub use Rattle.rh_defs.specs.Bytes.{with_part}
 unfoldable pub use Rattle.rh_defs.specs.Bytes.{part}
 pub use Rattle.rh_defs.specs.Memory.{IsOpen, Memory, area_set}
 unfoldable pub use Rattle.rh_defs.specs.Memory.{bytes, grown, shrunk, with_bytes}
 pub use Rattle.rh_defs.specs.declared.sizes.TheConstants.{MAX_AREAS, PAGE}
 pub use Rattle.rh_store.specs.Shares.{times, times_all}
 pub use Rattle.rh_pages.specs.Kept.{length-bytes}
-pub use Rattle.rh_pages.specs.Paged.{free_of, numbered_law, pages_of, region_of, small_law, whole_law}
-unfoldable pub use Rattle.rh_pages.specs.Paged.{memory_of}
-pub use Rattle.rh_pages.specs.Pages.{IsStore, areas_in, bytes_of, free_in, list_at, memory_in}
-unfoldable pub use Rattle.rh_pages.specs.Pages.{contents}
-pub use Rattle.rh_pages.specs.Table.{rows}
+pub use Rattle.rh_pages.specs.Paged.{free_of, paged_numbered_law, pages_of, region_of, paged_small_law, paged_whole_law}
+unfoldable pub use Rattle.rh_pages.specs.Paged.{paged_memory}
+pub use Rattle.rh_pages.specs.Pages.{IsPagedStore, areas_in, paged_bytes, free_in, list_at, paged_memory_in}
+unfoldable pub use Rattle.rh_pages.specs.Pages.{paged_contents}
+pub use Rattle.rh_pages.specs.Table.{table_rows}
 unfoldable pub use Rattle.rh_pages.specs.Table.{lists_of}
 pub use Rattle.rh_pages.specs.declared.paged.PagedStore.{PagedStore}
 pub use Rattle.rh_pages.specs.declared.table.TheConstants.{LISTS}

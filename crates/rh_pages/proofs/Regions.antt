@@ -1,5 +1,5 @@
 -- What a region's own calls do, in the words of byte lists.
-use Rattle.rh_pages.proofs.Common.{◌≡◌, ℕ, ◌+◌, ◌≤◌, List, length, replicate, slice_range, refl, sym, ap, ◌∙◌, arith, length-replicate, part, put}
+use Rattle.rh_pages.proofs.Common.{◌≡◌, ℕ, ◌+◌, ◌≤◌, List, length, replicate, slice_range, refl, sym, ap, ◌∙◌, arith, length-replicate, part, with_part}
 use Rattle.rh_pages.proofs.Common.{length-part, part-range}
 use Rattle.std.specs.Int.{from_le_bytes, w32}
 use Rattle.rh_region.specs.Patched.{with_run, patched}
@@ -9,17 +9,17 @@ use Rattle.rh_region.proofs.PatchedLemmas.{patched_same}
 use Rattle.rh_defs.specs.Bytes.{word}
 use Rattle.rh_defs.proofs.BytesLaws.{part-drop, put-parts}
 
-pub run_put : (r : List ℕ) (p n : ℕ) (ws : List ℕ) → length ws ≡ n → p + n ≤ length r → with_run r p n ws ≡ put r p ws
+pub run_put : (r : List ℕ) (p n : ℕ) (ws : List ℕ) → length ws ≡ n → p + n ≤ length r → with_run r p n ws ≡ with_part r p ws
 run_put r p n ws l h = ap (λ k. with_run r p k ws) (sym l) ∙ sym (put-parts r p ws (omega arith))
 
-pub slid : (r : List ℕ) (p q n : ℕ) → p + n ≤ length r → q + n ≤ length r → with_run r q n (slice_range r p (p + n)) ≡ put r q (part r p n)
+pub slid : (r : List ℕ) (p q n : ℕ) → p + n ≤ length r → q + n ≤ length r → with_run r q n (slice_range r p (p + n)) ≡ with_part r q (part r p n)
 slid r p q n h i = ap (with_run r q n) (sym (part-range r p n h)) ∙ run_put r q n (part r p n) (length-part r p n) i
 
-pub zeroed : (r : List ℕ) (p n : ℕ) → p + n ≤ length r → with_run r p n (zeros n) ≡ put r p (replicate n 0)
+pub zeroed : (r : List ℕ) (p n : ℕ) → p + n ≤ length r → with_run r p n (zeros n) ≡ with_part r p (replicate n 0)
 unfolding zeros
 zeroed r p n h = run_put r p n (replicate n 0) (length-replicate {A = ℕ} n 0) h
 
-pub filled : (r : List ℕ) (p n : ℕ) (ws : List ℕ) → length ws ≡ n → p + n ≤ length r → patched r p n ws ≡ put r p ws
+pub filled : (r : List ℕ) (p n : ℕ) (ws : List ℕ) → length ws ≡ n → p + n ≤ length r → patched r p n ws ≡ with_part r p ws
 filled r p n ws l h = patched_same r p n ws l ∙ run_put r p n ws l h
 
 -- a word is its four bytes

@@ -1,7 +1,8 @@
 -- Where the code finds a part of one page of a store, and what a write there does to the store.
 use Rattle.rh_pages.proofs.Common.{◌≡◌, ℕ, ◌+◌, ◌-◌, ◌*◌, ◌/◌, ◌%◌, ◌<◌, ◌≤◌, List, [], length, get_or, sym, ap, subst, ◌∙◌, arith, lit≤, get_or-take}
-use Rattle.rh_pages.proofs.Common.{MAX_AREAS, PAGE, part, put, IsOpen, bytes, with_bytes, PagedStore, areas_in, bytes_of, free_in, list_at, memory_in}
-use Rattle.rh_pages.proofs.Common.{IsStore, memory_of, region_of, pages_of, free_of, numbered_law, LISTS, lists_of}
+use Rattle.rh_pages.proofs.Common.{MAX_AREAS, PAGE, part, with_part, IsOpen, bytes, with_bytes, PagedStore, areas_in, paged_bytes, free_in, list_at}
+use Rattle.rh_pages.proofs.Common.{paged_memory_in}
+use Rattle.rh_pages.proofs.Common.{IsPagedStore, paged_memory, region_of, pages_of, free_of, paged_numbered_law, LISTS, lists_of}
 use Rattle.rh_defs.specs.declared.sizes.TheConstants.{MAX_PAGES}
 use Rattle.rh_pages.specs.Pages.{spot_in}
 use Rattle.rh_pages.specs.Paged.{place_of}
@@ -13,34 +14,34 @@ use Rattle.rh_pages.proofs.Counts.{apart}
 abbrev pub table_of : {G : _} {d : _} → PagedStore G d → List (List ℕ)
 table_of {G} {d} s = lists_of (d.numbers s.site) s.table
 
-pub area_below : {G : _} {d : _} (s : PagedStore G d) (id : ℕ) → IsOpen (memory_of s) id → id < LISTS
-area_below s id o = let h = numbered_law s id o in omega arith
+pub area_below : {G : _} {d : _} (s : PagedStore G d) (id : ℕ) → IsOpen (paged_memory s) id → id < LISTS
+area_below s id o = let h = paged_numbered_law s id o in omega arith
 
 -- a page list as the code reads it
-pub list_read : {G : _} {d : _} (s : PagedStore G d) (id : ℕ) → IsOpen (memory_of s) id → list_at (table_of s) id ≡ list_at (pages_of s) id
-list_read s id o = sym (get_or-take MAX_AREAS (table_of s) id [] (numbered_law s id o))
+pub list_read : {G : _} {d : _} (s : PagedStore G d) (id : ℕ) → IsOpen (paged_memory s) id → list_at (table_of s) id ≡ list_at (pages_of s) id
+list_read s id o = sym (get_or-take MAX_AREAS (table_of s) id [] (paged_numbered_law s id o))
 
-pub number_read : {G : _} {d : _} (s : PagedStore G d) (id i k : ℕ) → IsOpen (memory_of s) id → k ≡ get_or (list_at (table_of s) id) i 0
+pub number_read : {G : _} {d : _} (s : PagedStore G d) (id i k : ℕ) → IsOpen (paged_memory s) id → k ≡ get_or (list_at (table_of s) id) i 0
     → k ≡ get_or (list_at (pages_of s) id) i 0
 number_read s id i k o e = e ∙ ap (λ l. get_or l i 0) (list_read s id o)
 
-pub area_long : {G : _} {d : _} (s : PagedStore G d) (id : ℕ) → IsOpen (memory_of s) id
-    → length (bytes (memory_of s) id) ≡ PAGE * length (list_at (pages_of s) id)
-unfolding memory_of
+pub area_long : {G : _} {d : _} (s : PagedStore G d) (id : ℕ) → IsOpen (paged_memory s) id
+    → length (bytes (paged_memory s) id) ≡ PAGE * length (list_at (pages_of s) id)
+unfolding paged_memory
 area_long s id o = length_are (region_of s) (pages_of s) s.opened (free_of s) s.table.room MAX_AREAS s.kept id o
 
-pub table_long : {G : _} {d : _} (s : PagedStore G d) (id : ℕ) → IsOpen (memory_of s) id
-    → length (bytes (memory_of s) id) ≡ PAGE * length (list_at (table_of s) id)
+pub table_long : {G : _} {d : _} (s : PagedStore G d) (id : ℕ) → IsOpen (paged_memory s) id
+    → length (bytes (paged_memory s) id) ≡ PAGE * length (list_at (table_of s) id)
 table_long s id o = let e = ap length (list_read s id o) in let long = area_long s id o in omega arith
 
 pub record Seat {G : _} {d : _} (s : PagedStore G d) (id at n p : ℕ) : Type 0 where
   pub within : p + n ≤ length (region_of s)
-  pub read : part (region_of s) p n ≡ part (bytes (memory_of s) id) at n
-  pub kept : (r numbers ws : List ℕ) → r ≡ put (region_of s) p ws → numbers ≡ d.numbers s.site → length ws ≡ n
-      → IsStore r (areas_in (lists_of numbers s.table)) s.opened (free_in (lists_of numbers s.table)) s.table.room MAX_AREAS
-  pub memory : (r numbers ws : List ℕ) → r ≡ put (region_of s) p ws → numbers ≡ d.numbers s.site → length ws ≡ n
-      → memory_in r (areas_in (lists_of numbers s.table)) s.opened (free_in (lists_of numbers s.table)) s.table.room ≡ with_bytes (memory_of s) id
-      (put (bytes (memory_of s) id) at ws)
+  pub read : part (region_of s) p n ≡ part (bytes (paged_memory s) id) at n
+  pub kept : (r numbers ws : List ℕ) → r ≡ with_part (region_of s) p ws → numbers ≡ d.numbers s.site → length ws ≡ n
+      → IsPagedStore r (areas_in (lists_of numbers s.table)) s.opened (free_in (lists_of numbers s.table)) s.table.room MAX_AREAS
+  pub memory : (r numbers ws : List ℕ) → r ≡ with_part (region_of s) p ws → numbers ≡ d.numbers s.site → length ws ≡ n
+      → paged_memory_in r (areas_in (lists_of numbers s.table)) s.opened (free_in (lists_of numbers s.table)) s.table.room ≡ with_bytes (paged_memory s) id
+      (with_part (bytes (paged_memory s) id) at ws)
 
 -- a row of as many numbers is long enough
 pub still_long : {G : _} {d : _} (s : PagedStore G d) (numbers : List ℕ) → numbers ≡ d.numbers s.site → LISTS * s.table.room ≤ length numbers
@@ -48,24 +49,24 @@ still_long s numbers e = omega (arith, ap length e, s.long)
 
 at_spot : {G : _} {d : _} (s : PagedStore G d) (id at n : ℕ) → Spot (region_of s) (pages_of s) s.opened (free_of s) s.table.room MAX_AREAS id at n
     → Seat s id at n (spot_in (pages_of s) id at)
-unfolding memory_of
+unfolding paged_memory
 at_spot s id at n there = record {
   within = there.within;
   read = there.read;
   kept = λ r numbers ws e f l.
-      subst (λ (x : List ℕ). IsStore r (areas_in (lists_of x s.table)) s.opened (free_in (lists_of x s.table)) s.table.room MAX_AREAS) (sym f)
-      (subst (λ (x : List ℕ). IsStore x (pages_of s) s.opened (free_of s) s.table.room MAX_AREAS) (sym e) (there.kept ws l));
+      subst (λ (x : List ℕ). IsPagedStore r (areas_in (lists_of x s.table)) s.opened (free_in (lists_of x s.table)) s.table.room MAX_AREAS) (sym f)
+      (subst (λ (x : List ℕ). IsPagedStore x (pages_of s) s.opened (free_of s) s.table.room MAX_AREAS) (sym e) (there.kept ws l));
   memory = λ r numbers ws e f l.
-      ap (λ (x : List ℕ). memory_in r (areas_in (lists_of x s.table)) s.opened (free_in (lists_of x s.table)) s.table.room) f
-      ∙ ap (λ x. memory_in x (pages_of s) s.opened (free_of s) s.table.room) e ∙ there.memory ws l;
+      ap (λ (x : List ℕ). paged_memory_in r (areas_in (lists_of x s.table)) s.opened (free_in (lists_of x s.table)) s.table.room) f
+      ∙ ap (λ x. paged_memory_in x (pages_of s) s.opened (free_of s) s.table.room) e ∙ there.memory ws l;
 }
 
-spot_there : {G : _} {d : _} (s : PagedStore G d) (id at n : ℕ) → IsOpen (memory_of s) id → 0 < n → at + n ≤ length (bytes (memory_of s) id)
+spot_there : {G : _} {d : _} (s : PagedStore G d) (id at n : ℕ) → IsOpen (paged_memory s) id → 0 < n → at + n ≤ length (bytes (paged_memory s) id)
     → at % PAGE + n ≤ PAGE → Spot (region_of s) (pages_of s) s.opened (free_of s) s.table.room MAX_AREAS id at n
-unfolding memory_of
+unfolding paged_memory
 spot_there s id at n o some inside fits = spot (region_of s) (pages_of s) s.opened (free_of s) s.table.room MAX_AREAS s.kept id o at n some inside fits
 
-pub seat : {G : _} {d : _} (s : PagedStore G d) (id at n p : ℕ) → IsOpen (memory_of s) id → 0 < n → at + n ≤ length (bytes (memory_of s) id)
+pub seat : {G : _} {d : _} (s : PagedStore G d) (id at n p : ℕ) → IsOpen (paged_memory s) id → 0 < n → at + n ≤ length (bytes (paged_memory s) id)
     → at % PAGE + n ≤ PAGE → p ≡ spot_in (pages_of s) id at → Seat s id at n p
 seat s id at n p o some inside fits e = subst (Seat s id at n) (sym e) (at_spot s id at n (spot_there s id at n o some inside fits))
 
@@ -84,12 +85,12 @@ page_small s id i lt k e =
 -- page i of an area has the number k
 pub record Placed {G : _} {d : _} (s : PagedStore G d) (id i k : ℕ) : Type 0 where
   pub within : PAGE * k + PAGE ≤ length (region_of s)
-  pub same : part (region_of s) (PAGE * k) PAGE ≡ part (bytes (memory_of s) id) (PAGE * i) PAGE
-  pub apart : (a j : ℕ) → IsOpen (memory_of s) a → PAGE * j < length (bytes (memory_of s) a) → place_of s a j ≡ PAGE * k → (a ≡ id) × (j ≡ i)
+  pub same : part (region_of s) (PAGE * k) PAGE ≡ part (bytes (paged_memory s) id) (PAGE * i) PAGE
+  pub apart : (a j : ℕ) → IsOpen (paged_memory s) a → PAGE * j < length (bytes (paged_memory s) a) → place_of s a j ≡ PAGE * k → (a ≡ id) × (j ≡ i)
 
-pub placed : {G : _} {d : _} (s : PagedStore G d) (id i k : ℕ) → IsOpen (memory_of s) id → PAGE * i < length (bytes (memory_of s) id)
+pub placed : {G : _} {d : _} (s : PagedStore G d) (id i k : ℕ) → IsOpen (paged_memory s) id → PAGE * i < length (bytes (paged_memory s) id)
     → k ≡ get_or (list_at (pages_of s) id) i 0 → Placed s id i k
-unfolding memory_of place_of
+unfolding paged_memory place_of
 placed s id i k o inside at =
     let lists = (pages_of s) in let long = area_long s id o in let li : i < length (list_at lists id) = omega arith in
     let low = page_below (region_of s) lists s.opened (free_of s) s.table.room MAX_AREAS s.kept id i li in let size = s.kept.size in
@@ -97,7 +98,7 @@ placed s id i k o inside at =
     record {
       within = omega arith;
       same = ap (λ p. part (region_of s) p PAGE) y ∙ sym (bytes_read (region_of s) (list_at lists id) i 0 PAGE li (lit≤ tt))
-          ∙ ap (λ p. part (bytes_of (region_of s) (list_at lists id)) p PAGE) z
+          ∙ ap (λ p. part (paged_bytes (region_of s) (list_at lists id)) p PAGE) z
           ∙ ap (λ l. part l (PAGE * i) PAGE) (sym (bytes_are (region_of s) lists s.opened (free_of s) s.table.room MAX_AREAS s.kept id o));
       apart = λ a j oa lj e.
           let there = area_long s a oa in let in' : j < length (list_at lists a) = omega arith in

@@ -1,9 +1,10 @@
 -- A part of one page of an area: where it stands, how it is read, and what a write there does.
 use Rattle.rh_pages.proofs.Common.{◌≡◌, ◌≢◌, ℕ, ◌+◌, ◌*◌, ◌/◌, ◌%◌, ◌<◌, ◌≤◌, Bool, inl, inr, List, [], length, get_or, refl, sym, ap, ◌∙◌, arith, Some}
-use Rattle.rh_pages.proofs.Common.{IsSome, unwrap_or, cases_lt, PAGE, part, put, area_set, bytes, with_bytes, length-put, bytes_of, list_at, contents}
-use Rattle.rh_pages.proofs.Common.{memory_in, IsStore, times, length-bytes}
+use Rattle.rh_pages.proofs.Common.{IsSome, unwrap_or, cases_lt, PAGE, part, with_part, area_set, bytes, with_bytes, length-put, paged_bytes, list_at}
+use Rattle.rh_pages.proofs.Common.{paged_contents}
+use Rattle.rh_pages.proofs.Common.{paged_memory_in, IsPagedStore, times, length-bytes}
 use Rattle.rh_pages.specs.Pages.{spot_in}
-use Rattle.rh_pages.specs.Kept.{numbered_areas}
+use Rattle.rh_pages.specs.Kept.{numbered_paged_areas}
 use Rattle.rh_pages.proofs.Areas.{bytes_open, rewritten, ledger_set, memory_set}
 use Rattle.rh_pages.proofs.Chunks.{bytes_read, bytes_other, bytes_same, stands}
 use Rattle.rh_pages.proofs.Counts.{times_at, times_two}
@@ -12,13 +13,13 @@ pub record Spot (r : List ℕ) (lists : List (List ℕ)) (flags : List Bool) (fr
   pub listed : at / PAGE < length (list_at lists id)
   pub small : get_or (list_at lists id) (at / PAGE) 0 < pages
   pub within : spot_in lists id at + n ≤ length r
-  pub read : part r (spot_in lists id at) n ≡ part (bytes (memory_in r lists flags free pages) id) at n
-  pub kept : (ws : List ℕ) → length ws ≡ n → IsStore (put r (spot_in lists id at) ws) lists flags free pages limit
+  pub read : part r (spot_in lists id at) n ≡ part (bytes (paged_memory_in r lists flags free pages) id) at n
+  pub kept : (ws : List ℕ) → length ws ≡ n → IsPagedStore (with_part r (spot_in lists id at) ws) lists flags free pages limit
   pub memory : (ws : List ℕ) → length ws ≡ n
-      → memory_in (put r (spot_in lists id at) ws) lists flags free pages ≡ with_bytes (memory_in r lists flags free pages) id
-      (put (bytes (memory_in r lists flags free pages) id) at ws)
+      → paged_memory_in (with_part r (spot_in lists id at) ws) lists flags free pages ≡ with_bytes (paged_memory_in r lists flags free pages) id
+      (with_part (bytes (paged_memory_in r lists flags free pages) id) at ws)
 
-module _ (r : List ℕ) (lists : List (List ℕ)) (flags : List Bool) (free : List ℕ) (pages limit : ℕ) (ok : IsStore r lists flags free pages limit) where
+module _ (r : List ℕ) (lists : List (List ℕ)) (flags : List Bool) (free : List ℕ) (pages limit : ℕ) (ok : IsPagedStore r lists flags free pages limit) where
   -- a page that stands in an area is one of the region
   pub page_below : (id i : ℕ) → i < length (list_at lists id) → get_or (list_at lists id) i 0 < pages
   page_below id i li =
@@ -28,15 +29,15 @@ module _ (r : List ℕ) (lists : List (List ℕ)) (flags : List Bool) (free : Li
         | inr h ↦ absurd (let a = ok.below k h in let b = stands k (list_at lists id) i li refl in let c = times_at k lists id in omega arith)
       ]
 
-  module _ (id : ℕ) (o : IsSome (contents r lists flags id)) where
-    pub bytes_are : bytes (memory_in r lists flags free pages) id ≡ bytes_of r (list_at lists id)
+  module _ (id : ℕ) (o : IsSome (paged_contents r lists flags id)) where
+    pub bytes_are : bytes (paged_memory_in r lists flags free pages) id ≡ paged_bytes r (list_at lists id)
     unfolding bytes
     bytes_are = bytes_open r lists flags id o
 
-    pub length_are : length (bytes (memory_in r lists flags free pages) id) ≡ PAGE * length (list_at lists id)
+    pub length_are : length (bytes (paged_memory_in r lists flags free pages) id) ≡ PAGE * length (list_at lists id)
     length_are = ap length bytes_are ∙ length-bytes r (list_at lists id)
 
-    module _ (at n : ℕ) (some : 0 < n) (inside : at + n ≤ length (bytes (memory_in r lists flags free pages) id)) (fits : at % PAGE + n ≤ PAGE) where
+    module _ (at n : ℕ) (some : 0 < n) (inside : at + n ≤ length (bytes (paged_memory_in r lists flags free pages) id)) (fits : at % PAGE + n ≤ PAGE) where
       abbrev i : ℕ
       i = at / PAGE
 
@@ -50,7 +51,7 @@ module _ (r : List ℕ) (lists : List (List ℕ)) (flags : List Bool) (free : Li
       k = get_or ks i 0
 
       abbrev was : List ℕ
-      was = bytes (memory_in r lists flags free pages) id
+      was = bytes (paged_memory_in r lists flags free pages) id
 
       listed : i < length ks
       listed = let long = length_are in omega arith
@@ -65,7 +66,7 @@ module _ (r : List ℕ) (lists : List (List ℕ)) (flags : List Bool) (free : Li
       within = let a = page_in in omega arith
 
       read : part r (spot_in lists id at) n ≡ part was at n
-      read = sym (bytes_read r ks i f n listed fits) ∙ ap (λ m. part (bytes_of r ks) m n) is ∙ ap (λ l. part l at n) (sym bytes_are)
+      read = sym (bytes_read r ks i f n listed fits) ∙ ap (λ m. part (paged_bytes r ks) m n) is ∙ ap (λ l. part l at n) (sym bytes_are)
 
       module _ (ws : List ℕ) (lw : length ws ≡ n) where
         fit : f + length ws ≤ PAGE
@@ -77,18 +78,19 @@ module _ (r : List ℕ) (lists : List (List ℕ)) (flags : List Bool) (free : Li
         none : (j : ℕ) → j ≢ id → times k (list_at lists j) ≡ 0
         none j ne = let a = ok.once k in let b = times_two k lists j id ne in let c = stands k ks i listed refl in omega arith
 
-        here : bytes_of (put r (spot_in lists id at) ws) ks ≡ put was at ws
-        here = bytes_same r k f ws fit page_in ks i listed refl one ∙ ap (λ m. put (bytes_of r ks) m ws) is ∙ ap (λ l. put l at ws) (sym bytes_are)
+        here : paged_bytes (with_part r (spot_in lists id at) ws) ks ≡ with_part was at ws
+        here = bytes_same r k f ws fit page_in ks i listed refl one ∙ ap (λ m. with_part (paged_bytes r ks) m ws) is ∙ ap (λ l. with_part l at ws)
+            (sym bytes_are)
 
-        changed : contents (put r (spot_in lists id at) ws) lists flags ≡ area_set (contents r lists flags) id (Some (put was at ws))
-        changed = rewritten r (put r (spot_in lists id at) ws) lists lists flags id (put was at ws) o here
+        changed : paged_contents (with_part r (spot_in lists id at) ws) lists flags ≡ area_set (paged_contents r lists flags) id (Some (with_part was at ws))
+        changed = rewritten r (with_part r (spot_in lists id at) ws) lists lists flags id (with_part was at ws) o here
             (λ j ne. bytes_other r k f ws fit page_in (list_at lists j) (none j ne))
 
-        sum : length free + length (put was at ws) / PAGE ≡ length free + length (unwrap_or (contents r lists flags id) []) / PAGE
+        sum : length free + length (with_part was at ws) / PAGE ≡ length free + length (unwrap_or (paged_contents r lists flags id) []) / PAGE
         unfolding bytes
         sum = ap (λ m. length free + m / PAGE) (length-put was at ws)
 
-        is_kept : IsStore (put r (spot_in lists id at) ws) lists flags free pages limit
+        is_kept : IsPagedStore (with_part r (spot_in lists id at) ws) lists flags free pages limit
         is_kept = record {
           size = length-put r (spot_in lists id at) ws ∙ ok.size;
           table = ok.table;
@@ -96,14 +98,17 @@ module _ (r : List ℕ) (lists : List (List ℕ)) (flags : List Bool) (free : Li
           once = ok.once;
           below = ok.below;
           empty = ok.empty;
-          ledger = ledger_set (contents r lists flags) (contents (put r (spot_in lists id at) ws) lists flags) id (Some (put was at ws)) (length free)
+          ledger = ledger_set (paged_contents r lists flags) (paged_contents (with_part r (spot_in lists id at) ws) lists flags) id (Some (with_part was at ws))
+              (length free)
               (length free) pages limit changed
-              (numbered_areas r lists flags free pages limit id ok o) sum ok.ledger;
+              (numbered_paged_areas r lists flags free pages limit id ok o) sum ok.ledger;
         }
 
-        is_memory : memory_in (put r (spot_in lists id at) ws) lists flags free pages ≡ with_bytes (memory_in r lists flags free pages) id (put was at ws)
+        is_memory : paged_memory_in (with_part r (spot_in lists id at) ws) lists flags free pages ≡ with_bytes (paged_memory_in r lists flags free pages) id
+            (with_part was at ws)
         unfolding with_bytes
-        is_memory = memory_set (contents r lists flags) (contents (put r (spot_in lists id at) ws) lists flags) id (Some (put was at ws)) (length free) pages
+        is_memory = memory_set (paged_contents r lists flags) (paged_contents (with_part r (spot_in lists id at) ws) lists flags) id
+            (Some (with_part was at ws)) (length free) pages
             changed
 
       pub spot : Spot r lists flags free pages limit id at n

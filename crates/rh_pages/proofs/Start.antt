@@ -1,7 +1,7 @@
 -- A store whose pages are all free, and areas that are opened and closed.
 use Rattle.rh_pages.proofs.Common.{◌≡◌, ℕ, zero, suc, ◌+◌, ◌*◌, ◌/◌, ◌<◌, ◌≤◌, Bool, true, false, inl, inr, List, [], ◌∷◌, ◌++◌, length, get_or, set}
 use Rattle.rh_pages.proofs.Common.{replicate, refl, sym, ap, ◌∙◌, arith, Option, Some, None, unwrap_or, cases_eq, length-replicate, length_push, length-set}
-use Rattle.rh_pages.proofs.Common.{get_or-set_other, PAGE, area_set, bytes_of, list_at, contents, memory_in, IsStore, times, times_all}
+use Rattle.rh_pages.proofs.Common.{get_or-set_other, PAGE, area_set, paged_bytes, list_at, paged_contents, paged_memory_in, IsPagedStore, times, times_all}
 use Rattle.std.proofs.Math.Path.{fun_ext}
 use Rattle.rh_defs.specs.Memory.{opened, fresh}
 use Rattle.rh_defs.proofs.MemoryLaws.{pages_below-none}
@@ -46,13 +46,13 @@ flag_none (suc n) (suc j) = flag_none n j
 
 module _ (r : List ℕ) (lists : List (List ℕ)) (flags : List Bool) (free : List ℕ) (pages limit : ℕ) (no_lists : lists ≡ replicate limit [])
     (no_flags : flags ≡ replicate limit false) (all : free ≡ first pages) where
-  all_closed : (j : ℕ) → contents r lists flags j ≡ None
+  all_closed : (j : ℕ) → paged_contents r lists flags j ≡ None
   all_closed j = contents_marked r lists flags j false (ap (λ (l : List Bool). get_or l j false) no_flags ∙ flag_none limit j)
 
   count : length free ≡ pages
   count = ap length all ∙ length_first pages
 
-  pub fresh_kept : length r ≡ PAGE * pages → IsStore r lists flags free pages limit
+  pub fresh_kept : length r ≡ PAGE * pages → IsPagedStore r lists flags free pages limit
   fresh_kept size = record {
     size = size;
     table = ap length no_lists ∙ length-replicate {A = List ℕ} limit [];
@@ -60,15 +60,15 @@ module _ (r : List ℕ) (lists : List (List ℕ)) (flags : List Bool) (free : Li
     once = λ j. let a = ap (times_all j) no_lists ∙ times_none j limit in let b = ap (times j) all in let c = times_first j pages in omega arith;
     below = λ j h. let a = ap (times_all j) no_lists ∙ times_none j limit in let b = ap (times j) all in let c = times_past j pages h in omega arith;
     empty = λ j off. ap (λ l. list_at l j) no_lists ∙ list_none limit j;
-    ledger = let none = pages_below-none (contents r lists flags) limit all_closed in let c = count in omega arith;
+    ledger = let none = pages_below-none (paged_contents r lists flags) limit all_closed in let c = count in omega arith;
   }
 
-  pub fresh_memory : memory_in r lists flags free pages ≡ fresh pages
+  pub fresh_memory : paged_memory_in r lists flags free pages ≡ fresh pages
   unfolding fresh
   fresh_memory =
-      let areas : contents r lists flags ≡ (λ k. None) = fun_ext all_closed in λ i. record { area = areas i; free = count i; pages = pages; loan = 0 }
+      let areas : paged_contents r lists flags ≡ (λ k. None) = fun_ext all_closed in λ i. record { area = areas i; free = count i; pages = pages; loan = 0 }
 
-module _ (r : List ℕ) (lists : List (List ℕ)) (flags : List Bool) (free : List ℕ) (pages limit : ℕ) (ok : IsStore r lists flags free pages limit) (id : ℕ)
+module _ (r : List ℕ) (lists : List (List ℕ)) (flags : List Bool) (free : List ℕ) (pages limit : ℕ) (ok : IsPagedStore r lists flags free pages limit) (id : ℕ)
     (lt : id < limit) where
   in_table : id < length flags
   in_table = let t = ok.flags in omega arith
@@ -78,13 +78,13 @@ module _ (r : List ℕ) (lists : List (List ℕ)) (flags : List Bool) (free : Li
     no_pages : list_at lists id ≡ []
     no_pages = ok.empty id off
 
-    pub was_closed : contents r lists flags id ≡ None
+    pub was_closed : paged_contents r lists flags id ≡ None
     was_closed = contents_marked r lists flags id false off
 
-    area_opened : contents r lists (set flags id true) ≡ area_set (contents r lists flags) id (Some [])
-    area_opened = flagged r lists flags id true in_table ∙ ap (λ (l : List ℕ). area_set (contents r lists flags) id (Some (bytes_of r l))) no_pages
+    area_opened : paged_contents r lists (set flags id true) ≡ area_set (paged_contents r lists flags) id (Some [])
+    area_opened = flagged r lists flags id true in_table ∙ ap (λ (l : List ℕ). area_set (paged_contents r lists flags) id (Some (paged_bytes r l))) no_pages
 
-    pub opened_kept : IsStore r lists (set flags id true) free pages limit
+    pub opened_kept : IsPagedStore r lists (set flags id true) free pages limit
     opened_kept = record {
       size = ok.size;
       table = ok.table;
@@ -95,20 +95,21 @@ module _ (r : List ℕ) (lists : List (List ℕ)) (flags : List Bool) (free : Li
         | inl e ↦ ap (list_at lists) e ∙ no_pages
         | inr ne ↦ ok.empty j (sym (get_or-set_other flags id j true false ne) ∙ h)
       ];
-      ledger = ledger_set (contents r lists flags) (contents r lists (set flags id true)) id (Some []) (length free) (length free) pages limit area_opened lt
+      ledger = ledger_set (paged_contents r lists flags) (paged_contents r lists (set flags id true)) id (Some []) (length free)
+          (length free) pages limit area_opened lt
           (ap (λ (o : Option (List ℕ)). length free + length (unwrap_or o []) / PAGE) (sym was_closed)) ok.ledger;
     }
 
-    pub opened_memory : memory_in r lists (set flags id true) free pages ≡ opened (memory_in r lists flags free pages) id
+    pub opened_memory : paged_memory_in r lists (set flags id true) free pages ≡ opened (paged_memory_in r lists flags free pages) id
     unfolding opened
-    opened_memory = memory_set (contents r lists flags) (contents r lists (set flags id true)) id (Some []) (length free) pages area_opened
+    opened_memory = memory_set (paged_contents r lists flags) (paged_contents r lists (set flags id true)) id (Some []) (length free) pages area_opened
 
   -- an area without pages is closed
-  module _ (none : list_at lists id ≡ []) (no_bytes : length (unwrap_or (contents r lists flags id) []) ≡ 0) where
-    area_closed : contents r lists (set flags id false) ≡ area_set (contents r lists flags) id None
+  module _ (none : list_at lists id ≡ []) (no_bytes : length (unwrap_or (paged_contents r lists flags id) []) ≡ 0) where
+    area_closed : paged_contents r lists (set flags id false) ≡ area_set (paged_contents r lists flags) id None
     area_closed = flagged r lists flags id false in_table
 
-    pub closed_kept : IsStore r lists (set flags id false) free pages limit
+    pub closed_kept : IsPagedStore r lists (set flags id false) free pages limit
     closed_kept = record {
       size = ok.size;
       table = ok.table;
@@ -119,10 +120,11 @@ module _ (r : List ℕ) (lists : List (List ℕ)) (flags : List Bool) (free : Li
         | inl e ↦ ap (list_at lists) e ∙ none
         | inr ne ↦ ok.empty j (sym (get_or-set_other flags id j false false ne) ∙ h)
       ];
-      ledger = ledger_set (contents r lists flags) (contents r lists (set flags id false)) id None (length free) (length free) pages limit area_closed lt
+      ledger = ledger_set (paged_contents r lists flags) (paged_contents r lists (set flags id false)) id None (length free)
+          (length free) pages limit area_closed lt
           (ap (λ k. length free + k / PAGE) (sym no_bytes)) ok.ledger;
     }
 
-    pub closed_memory : memory_in r lists (set flags id false) free pages ≡ record
-        { area = area_set (contents r lists flags) id None; free = length free; pages = pages; loan = 0 }
-    closed_memory = memory_set (contents r lists flags) (contents r lists (set flags id false)) id None (length free) pages area_closed
+    pub closed_memory : paged_memory_in r lists (set flags id false) free pages ≡ record
+        { area = area_set (paged_contents r lists flags) id None; free = length free; pages = pages; loan = 0 }
+    closed_memory = memory_set (paged_contents r lists flags) (paged_contents r lists (set flags id false)) id None (length free) pages area_closed

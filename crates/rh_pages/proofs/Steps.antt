@@ -1,6 +1,7 @@
 -- Loops that edit one area: one step more.
 use Rattle.rh_pages.proofs.Common.{◌≡◌, ◌≢◌, ℕ, ◌+◌, ◌-◌, ◌*◌, ◌/◌, ◌≤◌, List, [], ◌++◌, length, take, replicate, refl, sym, ap, subst, ◌∙◌, arith}
-use Rattle.rh_pages.proofs.Common.{append_assoc, Option, Some, None, IsSome, unwrap_or, length-replicate, PAGE, part, put, Memory, IsOpen, area_set, bytes}
+use Rattle.rh_pages.proofs.Common.{append_assoc, Option, Some, None, IsSome, unwrap_or, length-replicate, PAGE, part, with_part, Memory, IsOpen, area_set}
+use Rattle.rh_pages.proofs.Common.{bytes}
 use Rattle.rh_pages.proofs.Common.{with_bytes, grown, shrunk, length-part, length-put, length-shrunk}
 use Rattle.std.proofs.lemmas.List.{append-nil, replicate-append-replicate, take-take}
 use Rattle.std.proofs.Math.Seq.{take-length}
@@ -17,55 +18,56 @@ edited m w u id x f e g =
     g ∙ ap (λ l. with_bytes w id (f l)) seen ∙ ap (λ k. with_bytes k id (f x)) e ∙ with_bytes-with_bytes m id x (f x)
 
 -- nothing written yet
-pub none_written : (m : Memory) (id at : ℕ) (xs : List ℕ) → IsOpen m id → xs ≡ [] → m ≡ with_bytes m id (put (bytes m id) at xs)
+pub none_written : (m : Memory) (id at : ℕ) (xs : List ℕ) → IsOpen m id → xs ≡ [] → m ≡ with_bytes m id (with_part (bytes m id) at xs)
 none_written m id at xs o e =
-    sym (ap (λ l. with_bytes m id (put (bytes m id) at l)) e ∙ ap (with_bytes m id) (put_none (bytes m id) at) ∙ with_bytes-self m id o)
+    sym (ap (λ l. with_bytes m id (with_part (bytes m id) at l)) e ∙ ap (with_bytes m id) (put_none (bytes m id) at) ∙ with_bytes-self m id o)
 
 -- more written behind what was
-pub written_more : (m w u : Memory) (id at d : ℕ) (xs ys : List ℕ) → length xs ≡ d → w ≡ with_bytes m id (put (bytes m id) at xs)
-    → u ≡ with_bytes w id (put (bytes w id) (at + d) ys) → u ≡ with_bytes m id (put (bytes m id) at (xs ++ ys))
+pub written_more : (m w u : Memory) (id at d : ℕ) (xs ys : List ℕ) → length xs ≡ d → w ≡ with_bytes m id (with_part (bytes m id) at xs)
+    → u ≡ with_bytes w id (with_part (bytes w id) (at + d) ys) → u ≡ with_bytes m id (with_part (bytes m id) at (xs ++ ys))
 written_more m w u id at d xs ys l e g =
-    edited m w u id (put (bytes m id) at xs) (λ b. put b (at + d) ys) e g
-    ∙ ap (λ k. with_bytes m id (put (put (bytes m id) at xs) (at + k) ys)) (sym l) ∙ ap (with_bytes m id) (sym (put_more (bytes m id) at xs ys))
+    edited m w u id (with_part (bytes m id) at xs) (λ b. with_part b (at + d) ys) e g
+    ∙ ap (λ k. with_bytes m id (with_part (with_part (bytes m id) at xs) (at + k) ys)) (sym l) ∙ ap (with_bytes m id) (sym (put_more (bytes m id) at xs ys))
 
-pub zeroed_more : (m w u : Memory) (id at d n : ℕ) → w ≡ with_bytes m id (put (bytes m id) at (replicate d 0))
-    → u ≡ with_bytes w id (put (bytes w id) (at + d) (replicate n 0)) → u ≡ with_bytes m id (put (bytes m id) at (replicate (d + n) 0))
+pub zeroed_more : (m w u : Memory) (id at d n : ℕ) → w ≡ with_bytes m id (with_part (bytes m id) at (replicate d 0))
+    → u ≡ with_bytes w id (with_part (bytes w id) (at + d) (replicate n 0)) → u ≡ with_bytes m id (with_part (bytes m id) at (replicate (d + n) 0))
 zeroed_more m w u id at d n e g =
     written_more m w u id at d (replicate d 0) (replicate n 0) (length-replicate {A = ℕ} d 0) e g
-    ∙ ap (λ l. with_bytes m id (put (bytes m id) at l)) (replicate-append-replicate {A = ℕ} d n 0)
+    ∙ ap (λ l. with_bytes m id (with_part (bytes m id) at l)) (replicate-append-replicate {A = ℕ} d n 0)
 
 -- bytes from elsewhere, d of them written
-pub copied_more : (m w u : Memory) (id at d n p : ℕ) (from : List ℕ) → w ≡ with_bytes m id (put (bytes m id) at (part from p d))
-    → u ≡ with_bytes w id (put (bytes w id) (at + d) (part from (p + d) n)) → u ≡ with_bytes m id (put (bytes m id) at (part from p (d + n)))
+pub copied_more : (m w u : Memory) (id at d n p : ℕ) (from : List ℕ) → w ≡ with_bytes m id (with_part (bytes m id) at (part from p d))
+    → u ≡ with_bytes w id (with_part (bytes w id) (at + d) (part from (p + d) n)) → u ≡ with_bytes m id (with_part (bytes m id) at (part from p (d + n)))
 copied_more m w u id at d n p from e g =
     written_more m w u id at d (part from p d) (part from (p + d) n) (length-part from p d) e g
-    ∙ ap (λ l. with_bytes m id (put (bytes m id) at l)) (sym (part_more from p d n))
+    ∙ ap (λ l. with_bytes m id (with_part (bytes m id) at l)) (sym (part_more from p d n))
 
-pub across_more : (m w u : Memory) (id id2 at at2 d n : ℕ) → id ≢ id2 → w ≡ with_bytes m id2 (put (bytes m id2) at2 (part (bytes m id) at d))
-    → u ≡ with_bytes w id2 (put (bytes w id2) (at2 + d) (part (bytes w id) (at + d) n))
-    → u ≡ with_bytes m id2 (put (bytes m id2) at2 (part (bytes m id) at (d + n)))
+pub across_more : (m w u : Memory) (id id2 at at2 d n : ℕ) → id ≢ id2 → w ≡ with_bytes m id2 (with_part (bytes m id2) at2 (part (bytes m id) at d))
+    → u ≡ with_bytes w id2 (with_part (bytes w id2) (at2 + d) (part (bytes w id) (at + d) n))
+    → u ≡ with_bytes m id2 (with_part (bytes m id2) at2 (part (bytes m id) at (d + n)))
 across_more m w u id id2 at at2 d n ne e g =
-    let same : bytes w id ≡ bytes m id = ap (λ k. bytes k id) e ∙ bytes-with_other m id2 (put (bytes m id2) at2 (part (bytes m id) at d)) id ne in
-    copied_more m w u id2 at2 d n at (bytes m id) e (g ∙ ap (λ l. with_bytes w id2 (put (bytes w id2) (at2 + d) (part l (at + d) n))) same)
+    let same : bytes w id ≡ bytes m id = ap (λ k. bytes k id) e ∙ bytes-with_other m id2 (with_part (bytes m id2) at2 (part (bytes m id) at d)) id ne in
+    copied_more m w u id2 at2 d n at (bytes m id) e (g ∙ ap (λ l. with_bytes w id2 (with_part (bytes w id2) (at2 + d) (part l (at + d) n))) same)
 
 pub down_more : (m w u : Memory) (id from to d n : ℕ) → to ≤ from → from + (d + n) ≤ length (bytes m id)
-    → w ≡ with_bytes m id (put (bytes m id) to (part (bytes m id) from d))
-    → u ≡ with_bytes w id (put (bytes w id) (to + d) (part (bytes w id) (from + d) n))
-    → u ≡ with_bytes m id (put (bytes m id) to (part (bytes m id) from (d + n)))
+    → w ≡ with_bytes m id (with_part (bytes m id) to (part (bytes m id) from d))
+    → u ≡ with_bytes w id (with_part (bytes w id) (to + d) (part (bytes w id) (from + d) n))
+    → u ≡ with_bytes m id (with_part (bytes m id) to (part (bytes m id) from (d + n)))
 down_more m w u id from to d n low h e g =
-    edited m w u id (put (bytes m id) to (part (bytes m id) from d)) (λ b. put b (to + d) (part b (from + d) n)) e g
+    edited m w u id (with_part (bytes m id) to (part (bytes m id) from d)) (λ b. with_part b (to + d) (part b (from + d) n)) e g
     ∙ ap (with_bytes m id) (slide_down (bytes m id) from to d n low (omega arith))
 
 -- from the upper end: the last k bytes were moved, and n more below them
 pub up_more : (m w u : Memory) (id from to left n k : ℕ) → from ≤ to → to + left + n + k ≤ length (bytes m id)
-    → w ≡ with_bytes m id (put (bytes m id) (to + (left + n)) (part (bytes m id) (from + (left + n)) k))
-    → u ≡ with_bytes w id (put (bytes w id) (to + left) (part (bytes w id) (from + left) n))
-    → u ≡ with_bytes m id (put (bytes m id) (to + left) (part (bytes m id) (from + left) (n + k)))
+    → w ≡ with_bytes m id (with_part (bytes m id) (to + (left + n)) (part (bytes m id) (from + (left + n)) k))
+    → u ≡ with_bytes w id (with_part (bytes w id) (to + left) (part (bytes w id) (from + left) n))
+    → u ≡ with_bytes m id (with_part (bytes m id) (to + left) (part (bytes m id) (from + left) (n + k)))
 up_more m w u id from to left n k low h e g =
     let a : to + (left + n) ≡ to + left + n = omega arith in let b : from + (left + n) ≡ from + left + n = omega arith in
-    let e' = e ∙ ap (λ i. with_bytes m id (put (bytes m id) i (part (bytes m id) (from + (left + n)) k))) a
-    ∙ ap (λ i. with_bytes m id (put (bytes m id) (to + left + n) (part (bytes m id) i k))) b in
-    edited m w u id (put (bytes m id) (to + left + n) (part (bytes m id) (from + left + n) k)) (λ l. put l (to + left) (part l (from + left) n)) e' g
+    let e' = e ∙ ap (λ i. with_bytes m id (with_part (bytes m id) i (part (bytes m id) (from + (left + n)) k))) a
+    ∙ ap (λ i. with_bytes m id (with_part (bytes m id) (to + left + n) (part (bytes m id) i k))) b in
+    edited m w u id (with_part (bytes m id) (to + left + n) (part (bytes m id) (from + left + n) k))
+    (λ l. with_part l (to + left) (part l (from + left) n)) e' g
     ∙ ap (with_bytes m id) (slide_up (bytes m id) (from + left) (to + left) n k (omega arith) h)
 
 same_memory : (area area' : ℕ → Option (List ℕ)) (free free' pages loan : ℕ) → area ≡ area' → free ≡ free'
@@ -142,11 +144,11 @@ pub record Rewritten (m w : Memory) (id : ℕ) (x : List ℕ) : Type 0 where
   pub opened : IsOpen w id
   pub len : length (bytes w id) ≡ length (bytes m id)
 
-pub put_to : (m w : Memory) (id at : ℕ) (xs : List ℕ) → w ≡ with_bytes m id (put (bytes m id) at xs) → Rewritten m w id (put (bytes m id) at xs)
+pub put_to : (m w : Memory) (id at : ℕ) (xs : List ℕ) → w ≡ with_bytes m id (with_part (bytes m id) at xs) → Rewritten m w id (with_part (bytes m id) at xs)
 put_to m w id at xs e = record {
   memory = e;
-  opened = subst (λ k. IsOpen k id) (sym e) (IsOpen-with_bytes m id (put (bytes m id) at xs));
-  len = ap (λ k. length (bytes k id)) e ∙ ap length (bytes-with_bytes m id (put (bytes m id) at xs)) ∙ length-put (bytes m id) at xs;
+  opened = subst (λ k. IsOpen k id) (sym e) (IsOpen-with_bytes m id (with_part (bytes m id) at xs));
+  len = ap (λ k. length (bytes k id)) e ∙ ap length (bytes-with_bytes m id (with_part (bytes m id) at xs)) ∙ length-put (bytes m id) at xs;
 }
 
 -- another area while one has other bytes
@@ -161,8 +163,9 @@ untouched m w id id2 x ne o e = record {
 }
 
 -- a buffer filled with bytes from elsewhere, d of them
-pub filled_more : (buffer t u b : List ℕ) (at d n : ℕ) → t ≡ put buffer 0 (part b at d) → u ≡ put t d (part b (at + d) n) → u ≡ put buffer 0 (part b at (d + n))
+pub filled_more : (buffer t u b : List ℕ) (at d n : ℕ) → t ≡ with_part buffer 0 (part b at d) → u ≡ with_part t d (part b (at + d) n) → u ≡ with_part buffer 0
+    (part b at (d + n))
 filled_more buffer t u b at d n e g =
     let len = length-part b at d in let here : d ≡ 0 + length (part b at d) = omega arith in
-    g ∙ ap (λ l. put l d (part b (at + d) n)) e ∙ ap (λ i. put (put buffer 0 (part b at d)) i (part b (at + d) n)) here
-    ∙ sym (put_more buffer 0 (part b at d) (part b (at + d) n)) ∙ ap (put buffer 0) (sym (part_more b at d n))
+    g ∙ ap (λ l. with_part l d (part b (at + d) n)) e ∙ ap (λ i. with_part (with_part buffer 0 (part b at d)) i (part b (at + d) n)) here
+    ∙ sym (put_more buffer 0 (part b at d) (part b (at + d) n)) ∙ ap (with_part buffer 0) (sym (part_more b at d n))

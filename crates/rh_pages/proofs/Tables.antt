@@ -1,6 +1,6 @@
 -- A page table's lists: where the code finds a number of one, and what its calls make of all.
 use Rattle.rh_pages.proofs.Common.{◌≡◌, ℕ, zero, suc, ◌+◌, ◌*◌, ◌<◌, ◌≤◌, List, [], ◌∷◌, ◌++◌, length, get_or, set, take, drop, sym, ap, ◌∙◌, arith}
-use Rattle.rh_pages.proofs.Common.{length-drop, length-take, get_or-take, LISTS, list_at, rows, lists_of}
+use Rattle.rh_pages.proofs.Common.{length-drop, length-take, get_or-take, LISTS, list_at, table_rows, lists_of}
 use Rattle.std.proofs.lemmas.List.{get_or-drop}
 use Rattle.std.proofs.lemmas.Nat.{mul-le}
 use Rattle.rh_defs.specs.declared.sizes.TheConstants.{MAX_PAGES}
@@ -63,19 +63,20 @@ module _ (numbers : List ℕ) (table : PageTable) where
 
     -- a number is written there
     pub pushed : (v : ℕ) → get_or table.lengths k 0 < table.room
-        → rows (set numbers (k * table.room + get_or table.lengths k 0) v) table.room (set table.lengths k (get_or table.lengths k 0 + 1)) ≡ set
+        → table_rows (set numbers (k * table.room + get_or table.lengths k 0) v) table.room (set table.lengths k (get_or table.lengths k 0 + 1)) ≡ set
         (lists_of numbers table) k (list_at (lists_of numbers table) k ++ v ∷ [])
     unfolding lists_of
     pushed v inside = push_rows table.room numbers table.lengths k v in_count long_enough table.fits inside
 
     -- the last number is taken off
     module _ (m : ℕ) (less : get_or table.lengths k 0 ≡ m + 1) where
-      pub popped : rows numbers table.room (set table.lengths k m) ≡ set (lists_of numbers table) k
-          (list_at (rows numbers table.room (set table.lengths k m)) k)
+      pub popped : table_rows numbers table.room (set table.lengths k m) ≡ set (lists_of numbers table) k
+          (list_at (table_rows numbers table.room (set table.lengths k m)) k)
       unfolding lists_of
       popped = pop_rows table.room numbers table.lengths k 0 in_count long_enough table.fits m less
 
-      pub last_off : list_at (lists_of numbers table) k ≡ list_at (rows numbers table.room (set table.lengths k m)) k ++ get_or numbers (k * table.room + m)
+      pub last_off : list_at (lists_of numbers table) k ≡ list_at (table_rows numbers table.room (set table.lengths k m)) k ++ get_or numbers
+          (k * table.room + m)
           0 ∷ []
       unfolding lists_of
       last_off = last_of_list table.room numbers table.lengths k 0 in_count long_enough table.fits m less

@@ -7,27 +7,27 @@ use Rattle.rh_defs.specs.declared.sizes.TheConstants.{MAX_PAGES, PAGE}
 use Rattle.rh_defs.specs.Memory.{IsOpen, bytes}
 use Rattle.rh_defs.proofs.BytesLaws.{length-part}
 use Rattle.rh_defs.proofs.MemoryLaws.{pages_below-one}
-use Rattle.rh_pages.specs.Pages.{page, bytes_of, list_at, contents, memory_in, IsStore}
+use Rattle.rh_pages.specs.Pages.{page, paged_bytes, list_at, paged_contents, paged_memory_in, IsPagedStore}
 use Rattle.rh_store.specs.Limits.{area_limit, pool_limit}
 
-pub length-bytes : (region ks : List ℕ) → length (bytes_of region ks) ≡ PAGE * length ks
+pub length-bytes : (region ks : List ℕ) → length (paged_bytes region ks) ≡ PAGE * length ks
 length-bytes region [] = refl
 length-bytes region (k ∷ ks) =
     let here = length-part region (PAGE * k) PAGE in let rest = length-bytes region ks in
-    omega (arith, length-append (page region k) (bytes_of region ks))
+    omega (arith, length-append (page region k) (paged_bytes region ks))
 
 some_of : (b : Bool) (y : List ℕ) → IsSome (cond b (Some y) None) → b ≡ true
 some_of true y h = refl
 some_of false y h = absurd cc
 
 -- an open area is marked so
-pub open_flag : (region : List ℕ) (lists : List (List ℕ)) (opened : List Bool) (id : ℕ) → IsSome (contents region lists opened id) → get_or opened id false ≡ true
-unfolding contents
-open_flag region lists opened id o = some_of (get_or opened id false) (bytes_of region (list_at lists id)) o
+pub open_flag : (region : List ℕ) (lists : List (List ℕ)) (opened : List Bool) (id : ℕ) → IsSome (paged_contents region lists opened id) → get_or opened id false ≡ true
+unfolding paged_contents
+open_flag region lists opened id o = some_of (get_or opened id false) (paged_bytes region (list_at lists id)) o
 
 -- and its number is inside the table
-pub open_index : (region : List ℕ) (lists : List (List ℕ)) (opened : List Bool) (id : ℕ) → IsSome (contents region lists opened id) → id < length opened
-open_index region lists opened id o = elim (cases_lt id (length opened)) [
+pub open_paged_index : (region : List ℕ) (lists : List (List ℕ)) (opened : List Bool) (id : ℕ) → IsSome (paged_contents region lists opened id) → id < length opened
+open_paged_index region lists opened id o = elim (cases_lt id (length opened)) [
   | inl h ↦ h
   | inr h ↦ absurd (let past : false ≡ true = sym (get_or_past opened id false h) ∙ open_flag region lists opened id o in cc)
 ]
@@ -36,38 +36,38 @@ whole_shown : (b : Bool) (y : List ℕ) → length y % PAGE ≡ 0 → length (un
 whole_shown true y h = h
 whole_shown false y h = refl
 
-pub whole_contents : (region : List ℕ) (lists : List (List ℕ)) (opened : List Bool) (id : ℕ) → length (unwrap_or (contents region lists opened id) []) % PAGE ≡ 0
-unfolding contents
-whole_contents region lists opened id =
+pub whole_paged_contents : (region : List ℕ) (lists : List (List ℕ)) (opened : List Bool) (id : ℕ) → length (unwrap_or (paged_contents region lists opened id) []) % PAGE ≡ 0
+unfolding paged_contents
+whole_paged_contents region lists opened id =
     let long = length-bytes region (list_at lists id) in
-    whole_shown (get_or opened id false) (bytes_of region (list_at lists id)) (omega arith)
+    whole_shown (get_or opened id false) (paged_bytes region (list_at lists id)) (omega arith)
 
-pub whole_areas : (region : List ℕ) (lists : List (List ℕ)) (opened : List Bool) (free : List ℕ) (pages id : ℕ) → length (bytes (memory_in region lists opened free pages) id) % PAGE ≡ 0
+pub whole_paged_areas : (region : List ℕ) (lists : List (List ℕ)) (opened : List Bool) (free : List ℕ) (pages id : ℕ) → length (bytes (paged_memory_in region lists opened free pages) id) % PAGE ≡ 0
 unfolding bytes
-whole_areas region lists opened free pages id = whole_contents region lists opened id
+whole_paged_areas region lists opened free pages id = whole_paged_contents region lists opened id
 
-pub numbered_areas : (region : List ℕ) (lists : List (List ℕ)) (opened : List Bool) (free : List ℕ) (pages limit id : ℕ) → IsStore region lists opened free pages limit → IsOpen (memory_in region lists opened free pages) id → id < limit
-numbered_areas region lists opened free pages limit id k o = let h = open_index region lists opened id o in let t = k.flags in omega arith
+pub numbered_paged_areas : (region : List ℕ) (lists : List (List ℕ)) (opened : List Bool) (free : List ℕ) (pages limit id : ℕ) → IsPagedStore region lists opened free pages limit → IsOpen (paged_memory_in region lists opened free pages) id → id < limit
+numbered_paged_areas region lists opened free pages limit id k o = let h = open_paged_index region lists opened id o in let t = k.flags in omega arith
 
 past_shown : (b : Bool) (y : List ℕ) → b ≡ false → length (unwrap_or (cond b (Some y) None) []) ≡ 0
 past_shown true y e = absurd cc
 past_shown false y e = refl
 
-past : (region : List ℕ) (lists : List (List ℕ)) (opened : List Bool) (id : ℕ) → length opened ≤ id → length (unwrap_or (contents region lists opened id) []) ≡ 0
-unfolding contents
-past region lists opened id h = past_shown (get_or opened id false) (bytes_of region (list_at lists id)) (get_or_past opened id false h)
+past : (region : List ℕ) (lists : List (List ℕ)) (opened : List Bool) (id : ℕ) → length opened ≤ id → length (unwrap_or (paged_contents region lists opened id) []) ≡ 0
+unfolding paged_contents
+past region lists opened id h = past_shown (get_or opened id false) (paged_bytes region (list_at lists id)) (get_or_past opened id false h)
 
-pub within_pool : (region : List ℕ) (lists : List (List ℕ)) (opened : List Bool) (free : List ℕ) (pages limit id : ℕ) → IsStore region lists opened free pages limit
-    → PAGE * length free + length (bytes (memory_in region lists opened free pages) id) ≤ PAGE * pages
+pub within_paged_pool : (region : List ℕ) (lists : List (List ℕ)) (opened : List Bool) (free : List ℕ) (pages limit id : ℕ) → IsPagedStore region lists opened free pages limit
+    → PAGE * length free + length (bytes (paged_memory_in region lists opened free pages) id) ≤ PAGE * pages
 unfolding bytes
-within_pool region lists opened free pages limit id k = elim (cases_lt id limit) [
-  | inl h ↦ let one = pages_below-one (contents region lists opened) id limit h in let whole = whole_contents region lists opened id in let sum = k.ledger in omega arith
+within_paged_pool region lists opened free pages limit id k = elim (cases_lt id limit) [
+  | inl h ↦ let one = pages_below-one (paged_contents region lists opened) id limit h in let whole = whole_paged_contents region lists opened id in let sum = k.ledger in omega arith
   | inr h ↦ let none = past region lists opened id (let t = k.flags in omega arith) in let sum = k.ledger in omega arith
 ]
 
-pub few_pages : (pages : ℕ) → pages ≤ MAX_PAGES → pages ≤ pool_limit
-few_pages pages few = omega arith
+pub few_paged_pages : (pages : ℕ) → pages ≤ MAX_PAGES → pages ≤ pool_limit
+few_paged_pages pages few = omega arith
 
-pub small_areas : (region : List ℕ) (lists : List (List ℕ)) (opened : List Bool) (free : List ℕ) (pages limit id : ℕ) → pages ≤ MAX_PAGES → IsStore region lists opened free pages limit
-    → length (bytes (memory_in region lists opened free pages) id) ≤ area_limit
-small_areas region lists opened free pages limit id few k = let h = within_pool region lists opened free pages limit id k in omega arith
+pub small_paged_areas : (region : List ℕ) (lists : List (List ℕ)) (opened : List Bool) (free : List ℕ) (pages limit id : ℕ) → pages ≤ MAX_PAGES → IsPagedStore region lists opened free pages limit
+    → length (bytes (paged_memory_in region lists opened free pages) id) ≤ area_limit
+small_paged_areas region lists opened free pages limit id few k = let h = within_paged_pool region lists opened free pages limit id k in omega arith

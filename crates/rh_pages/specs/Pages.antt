@@ -10,9 +10,9 @@ abbrev pub page : List ℕ → ℕ → List ℕ
 page region k = part region (PAGE * k) PAGE
 
 -- the bytes of pages, one page after another
-abbrev pub bytes_of : List ℕ → List ℕ → List ℕ
-bytes_of region [] = []
-bytes_of region (k ∷ ks) = page region k ++ bytes_of region ks
+abbrev pub paged_bytes : List ℕ → List ℕ → List ℕ
+paged_bytes region [] = []
+paged_bytes region (k ∷ ks) = page region k ++ paged_bytes region ks
 
 -- the page list of an area
 abbrev pub list_at : List (List ℕ) → ℕ → List ℕ
@@ -26,19 +26,19 @@ abbrev pub free_in : List (List ℕ) → List ℕ
 free_in lists = list_at lists MAX_AREAS
 
 -- what the area of a number contains, None where it is closed
-unfoldable pub contents : List ℕ → List (List ℕ) → List Bool → ℕ → Option (List ℕ)
-contents region lists opened id = if get_or opened id false then Some (bytes_of region (list_at lists id)) else None
+unfoldable pub paged_contents : List ℕ → List (List ℕ) → List Bool → ℕ → Option (List ℕ)
+paged_contents region lists opened id = if get_or opened id false then Some (paged_bytes region (list_at lists id)) else None
 
 -- the memory that these areas make up
-abbrev pub memory_in : List ℕ → List (List ℕ) → List Bool → List ℕ → ℕ → Memory
-memory_in region lists opened free pages = record { area = contents region lists opened; free = length free; pages = pages; loan = 0 }
+abbrev pub paged_memory_in : List ℕ → List (List ℕ) → List Bool → List ℕ → ℕ → Memory
+paged_memory_in region lists opened free pages = record { area = paged_contents region lists opened; free = length free; pages = pages; loan = 0 }
 
 -- where the byte at an offset of an area stands in the region
 abbrev pub spot_in : List (List ℕ) → ℕ → ℕ → ℕ
 spot_in lists id at = PAGE * get_or (list_at lists id) (at / PAGE) 0 + at % PAGE
 
 -- page lists and a free list that share out the pages of a region
-pub record IsStore (region : List ℕ) (lists : List (List ℕ)) (opened : List Bool) (free : List ℕ) (pages limit : ℕ) : Type 0 where
+pub record IsPagedStore (region : List ℕ) (lists : List (List ℕ)) (opened : List Bool) (free : List ℕ) (pages limit : ℕ) : Type 0 where
   pub size : length region ≡ PAGE * pages
   pub table : length lists ≡ limit
   pub flags : length opened ≡ limit
@@ -48,4 +48,4 @@ pub record IsStore (region : List ℕ) (lists : List (List ℕ)) (opened : List 
   pub below : (k : ℕ) → pages ≤ k → times_all k lists + times k free ≡ 0
   -- a closed area has no pages
   pub empty : (id : ℕ) → get_or opened id false ≡ false → list_at lists id ≡ []
-  pub ledger : Ledger (memory_in region lists opened free pages) limit
+  pub ledger : Ledger (paged_memory_in region lists opened free pages) limit

@@ -7,7 +7,7 @@ use Rattle.rh_defs.specs.declared.sizes.TheConstants.{PAGE}
 use Rattle.rh_defs.specs.Memory.{bytes, pages_below}
 use Rattle.rh_defs.specs.Pieces.{total}
 use Rattle.rh_pages.specs.Kept.{length-bytes}
-use Rattle.rh_pages.specs.Pages.{bytes_of, list_at, contents, memory_in, IsStore}
+use Rattle.rh_pages.specs.Pages.{paged_bytes, list_at, paged_contents, paged_memory_in, IsPagedStore}
 use Rattle.rh_store.specs.Shares.{times, times_all, SharesOut}
 
 -- ---- sums
@@ -93,16 +93,16 @@ lengths-sum (xs ∷ lists) = sum-first (λ id. length (list_at (xs ∷ lists) id
 
 -- ---- a store
 
-module _ (region : List ℕ) (lists : List (List ℕ)) (opened : List Bool) (free : List ℕ) (pages limit : ℕ) (k : IsStore region lists opened free pages limit) where
-  area-long : (id : ℕ) → PAGE * length (list_at lists id) ≡ length (unwrap_or (contents region lists opened id) [])
-  unfolding contents
+module _ (region : List ℕ) (lists : List (List ℕ)) (opened : List Bool) (free : List ℕ) (pages limit : ℕ) (k : IsPagedStore region lists opened free pages limit) where
+  area-long : (id : ℕ) → PAGE * length (list_at lists id) ≡ length (unwrap_or (paged_contents region lists opened id) [])
+  unfolding paged_contents
   area-long id = go (get_or opened id false) refl
     where
-      go : (b : Bool) → get_or opened id false ≡ b → PAGE * length (list_at lists id) ≡ length (unwrap_or (cond b (Some (bytes_of region (list_at lists id))) None) [])
+      go : (b : Bool) → get_or opened id false ≡ b → PAGE * length (list_at lists id) ≡ length (unwrap_or (cond b (Some (paged_bytes region (list_at lists id))) None) [])
       go true e = sym (length-bytes region (list_at lists id))
       go false e = let none = ap length (k.empty id e) in omega arith
 
-  pages-are : (n : ℕ) → pages_below (contents region lists opened) n ≡ sum_below (λ id. length (list_at lists id)) n
+  pages-are : (n : ℕ) → pages_below (paged_contents region lists opened) n ≡ sum_below (λ id. length (list_at lists id)) n
   unfolding pages_below
   pages-are zero = refl
   pages-are (suc n) = let here = area-long n in let rest = pages-are n in omega arith
@@ -117,7 +117,7 @@ module _ (region : List ℕ) (lists : List (List ℕ)) (opened : List Bool) (fre
       let sum = k.ledger in
       sum-both (λ j. times_all j lists) (λ j. times j free) pages ∙ omega (arith, taken, given, by_place, long, table, sum)
 
-  pub shared_out : SharesOut (memory_in region lists opened free pages) lists free
+  pub shared_out : SharesOut (paged_memory_in region lists opened free pages) lists free
   unfolding bytes
   shared_out = record {
     areas = area-long;

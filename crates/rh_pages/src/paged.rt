@@ -1,10 +1,10 @@
 //! The paged store: one ground, and on it a page list for each area and the list of free pages.
-#![tactic(auto, unfolding(rh_defs::specs::Memory::bytes, crate::specs::Paged::memory_of))]
+#![tactic(auto, unfolding(rh_defs::specs::Memory::bytes, crate::specs::Paged::paged_memory))]
 
 ghost use Rattle.std.specs.Prelude.{◌*◌, ◌≤◌, length};
 ghost use Rattle.rh_defs.specs.declared.sizes.TheConstants.{MAX_AREAS, MAX_PAGES, PAGE};
 ghost use Rattle.rh_pages.specs.declared.table.TheConstants.{LISTS};
-ghost use Rattle.rh_pages.specs.Pages.{IsStore, areas_in, free_in};
+ghost use Rattle.rh_pages.specs.Pages.{IsPagedStore, areas_in, free_in};
 ghost use Rattle.rh_pages.specs.Table.{lists_of};
 
 mod across;
@@ -29,21 +29,21 @@ pub struct PagedStore<G: Ground = RegionGround> {
     opened: [bool; MAX_AREAS],
     ghost few: { table.room ≤ MAX_PAGES },
     ghost long: { LISTS * table.room ≤ length (G.numbers site) },
-    ghost kept: { IsStore (G.bytes site) (areas_in (lists_of (G.numbers site) table)) opened
+    ghost kept: { IsPagedStore (G.bytes site) (areas_in (lists_of (G.numbers site) table)) opened
         (free_in (lists_of (G.numbers site) table)) table.room MAX_AREAS },
 }
 
 impl PagedStore {
     ghost use Rattle.std.specs.Prelude.{◌≡◌, IfOk};
     ghost use Rattle.rh_defs.specs.Memory.{fresh};
-    ghost use Rattle.rh_pages.specs.Paged.{memory_of};
+    ghost use Rattle.rh_pages.specs.Paged.{paged_memory};
 
     /// A store of this many pages, 8 to 1,024, all of them free. All memory is taken here: AllocError where it is
     /// refused.
     pub fn new(alloc: Global, pages: usize) -> Result<PagedStore, AllocError>
         requires least { MIN_PAGES ≤ pages }
         requires most { pages ≤ MAX_PAGES }
-        ensures { IfOk result (λ s. memory_of s ≡ fresh pages) }
+        ensures { IfOk result (λ s. paged_memory s ≡ fresh pages) }
     {
         let site = RegionGround::new(alloc, pages)?;
         Ok(PagedStore::over(site, pages))
@@ -52,7 +52,7 @@ impl PagedStore {
     /// The region that holds the bytes of all areas, 4096 for each page of the store.
     pub fn region(&self) -> &Region
         ensures bytes { result.now ≡ self.now.site.region }
-        ensures size { length result.now ≡ PAGE * (memory_of self.now).pages }
+        ensures size { length result.now ≡ PAGE * (paged_memory self.now).pages }
     {
         self.site.region()
     }
@@ -63,7 +63,7 @@ impl<G: Ground> PagedStore<G> {
     ghost use Rattle.rh_defs.specs.Bytes.{part};
     ghost use Rattle.rh_defs.specs.Memory.{IsOpen, bytes, fresh};
     ghost use Rattle.rh_pages.specs.Pages.{spot_in};
-    ghost use Rattle.rh_pages.specs.Paged.{memory_of, pages_of, place_of};
+    ghost use Rattle.rh_pages.specs.Paged.{paged_memory, pages_of, place_of};
 
     /// A store of this many pages, at most 1,024, all of them free, on a ground of 4096 bytes for each page and `LISTS`
     /// page numbers for each, whatever they hold.
@@ -71,7 +71,7 @@ impl<G: Ground> PagedStore<G> {
         requires most { pages ≤ MAX_PAGES }
         requires size { length (G.bytes site) ≡ PAGE * pages }
         requires numbers { LISTS * pages ≤ length (G.numbers site) }
-        ensures { memory_of result ≡ fresh pages }
+        ensures { paged_memory result ≡ fresh pages }
     {
         let mut site = site;
         let mut table = PageTable::new(pages);
@@ -88,14 +88,15 @@ impl<G: Ground> PagedStore<G> {
     /// The address on the ground of page i of an area, where the page's 4096 bytes stand together.
     /// It is a multiple of 4096, and no other page has it.
     pub fn place(&self, id: AreaId, i: usize) -> usize
-        requires opened { IsOpen (memory_of self.now) id.0 }
-        requires within { PAGE * i < length (bytes (memory_of self.now) id.0) }
+        requires opened { IsOpen (paged_memory self.now) id.0 }
+        requires within { PAGE * i < length (bytes (paged_memory self.now) id.0) }
         ensures value { result ≡ place_of self.now id.0 i }
         ensures whole { result % PAGE ≡ 0 }
         ensures within { result + PAGE ≤ length (G.bytes self.now.site) }
         ensures bytes { part (G.bytes self.now.site) result PAGE ≡
-            part (bytes (memory_of self.now) id.0) (PAGE * i) PAGE }
-        ensures apart { (a j : ℕ) → IsOpen (memory_of self.now) a → PAGE * j < length (bytes (memory_of self.now) a) →
+            part (bytes (paged_memory self.now) id.0) (PAGE * i) PAGE }
+        ensures apart { (a j : ℕ) → IsOpen (paged_memory self.now) a → PAGE * j < length
+            (bytes (paged_memory self.now) a) →
             place_of self.now a j ≡ result → (a ≡ id.0) × (j ≡ i) }
     {
         PAGE * self.table.at(&self.site, id.0 as usize, i) as usize
@@ -103,8 +104,8 @@ impl<G: Ground> PagedStore<G> {
 
     /// The address on the ground of the byte at an offset of an area.
     fn spot(&self, id: AreaId, at: usize) -> usize
-        requires opened { IsOpen (memory_of self.now) id.0 }
-        requires within { at < length (bytes (memory_of self.now) id.0) }
+        requires opened { IsOpen (paged_memory self.now) id.0 }
+        requires within { at < length (bytes (paged_memory self.now) id.0) }
         ensures { result ≡ spot_in (pages_of self.now) id.0 at }
     {
         PAGE * self.table.at(&self.site, id.0 as usize, at / PAGE) as usize + at % PAGE

@@ -41,7 +41,7 @@ pub use Rattle.rh_drawn.specs.Sides.{ins_of, outs_of}
 pub use Rattle.rh_feed.proofs.LineLemmas.{kept_means}
 unfoldable pub use Rattle.rh_feed.specs.Lines.{kept}
 pub use Rattle.rh_figure.specs.Cards.{flex_cards, heap_cards, module_cards, shown_cards}
-pub use Rattle.rh_figure.specs.Changes.{block_change, changes, freed_text, gone_line, has_anchor, item_of, slide_change, slide_of, slides, taken_line}
+pub use Rattle.rh_figure.specs.Changes.{block_change, changes, freed_text, gone_line, has_anchor, item_with_anchor, slide_change, slide_of, slides, taken_line}
 pub use Rattle.rh_figure.specs.Changes.{takes_text}
 pub use Rattle.rh_figure.specs.Figure.{fixed_panel, letterboxes, made_panel, transfers}
 pub use Rattle.rh_figure.specs.Map.{Place, Read, Stage, after_read}
@@ -78,9 +78,9 @@ pub use Rattle.rh_painted.specs.Charts.{beat_in, path_in, words_in}
 pub use Rattle.rh_painted.specs.Figures.{IsSlotPlan}
 pub use Rattle.rh_painted.specs.Notes.{code_among}
 pub use Rattle.rh_painted.specs.Owners.{who_seen}
-pub use Rattle.rh_painted.specs.Progress.{Stand}
+pub use Rattle.rh_painted.specs.Progress.{PaintStand}
 pub use Rattle.rh_painted.specs.Transfers.{in_rows, ins_named, out_rows, outs_named}
-pub use Rattle.rh_painted.specs.Walks.{Painted, TookLine, happened_at, walk_in}
+pub use Rattle.rh_painted.specs.Walks.{PaintedLine, TookPaintedLine, happened_at, walk_in}
 pub use Rattle.rh_painted.specs.Ways.{arrow_of, arrows_seen}
 pub use Rattle.rh_painted.specs.declared.painter.Painter.{Painter}
 pub use Rattle.rh_painted.specs.declared.ways.Way.{Way}

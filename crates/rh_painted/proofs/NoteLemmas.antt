@@ -9,22 +9,22 @@ use Rattle.rh_defs.specs.declared.message.Letter.{Letter}
 use Rattle.rh_figure.specs.Scene.{Marks, sent_by}
 use Rattle.rh_sheet.specs.Chart.{code_or_none, last_of, new_notes, waiting_code}
 use Rattle.rh_sheet.specs.declared.sizes.TheConstants.{MOST_NOTES}
-use Rattle.rh_sight.specs.Messages.{item_of}
+use Rattle.rh_sight.specs.Messages.{seen_item}
 
 -- ---- the code under which a message waits
 
-code-held : (ref : ℕ) (qs : List Parcel) → code_among ref (map (item_of true) qs) ≡ 0
+code-held : (ref : ℕ) (qs : List Parcel) → code_among ref (map (seen_item true) qs) ≡ 0
 code-held ref [] = refl
 code-held ref (q ∷ qs) = code-held ref qs
 
 code-both : (ref : ℕ) (ps qs : List Parcel)
-    → code_among ref (map (item_of false) ps ++ map (item_of true) qs) ≡ code_or_none (find (λ (p : Parcel). p.message.my_ref == ref) ps)
+    → code_among ref (map (seen_item false) ps ++ map (seen_item true) qs) ≡ code_or_none (find (λ (p : Parcel). p.message.my_ref == ref) ps)
 code-both ref [] qs = code-held ref qs
 code-both ref (p ∷ ps) qs = go (p.message.my_ref == ref) refl (code-both ref ps qs)
   where
     go : (b : Bool) → (p.message.my_ref == ref) ≡ b
-        → code_among ref (map (item_of false) ps ++ map (item_of true) qs) ≡ code_or_none (find (λ (p : Parcel). p.message.my_ref == ref) ps)
-        → code_among ref (map (item_of false) (p ∷ ps) ++ map (item_of true) qs) ≡ code_or_none (find (λ (p : Parcel). p.message.my_ref == ref) (p ∷ ps))
+        → code_among ref (map (seen_item false) ps ++ map (seen_item true) qs) ≡ code_or_none (find (λ (p : Parcel). p.message.my_ref == ref) ps)
+        → code_among ref (map (seen_item false) (p ∷ ps) ++ map (seen_item true) qs) ≡ code_or_none (find (λ (p : Parcel). p.message.my_ref == ref) (p ∷ ps))
     go true e rest = rw e refl
     go false e rest = rw e rest
 

@@ -2,7 +2,7 @@
 use Rattle.rh_painted.proofs.Common.{◌≡◌, ◌⊎◌, inl, inr, ℕ, Bool, true, false, ◌||◌, List, [], ◌∷◌, ◌++◌, length, map, take, refl, sym, ap, ap₂, ◌∙◌, subst}
 use Rattle.rh_painted.proofs.Common.{append-nil, append_assoc, arith, Err, Ok, Result, is_err, not, ◌==◌, list_any, ne_eqb, Desk, IsReordered, rest_means}
 use Rattle.rh_painted.proofs.Common.{kept, IsShared, Text, Place, Read, Stage, after_read, AreShared, Output, Takes, Breaks, Puts, takes_more, Walk}
-use Rattle.rh_painted.proofs.Common.{behind_read, read_text, sheet_lines, Painter, TookLine}
+use Rattle.rh_painted.proofs.Common.{behind_read, read_text, sheet_lines, Painter, TookPaintedLine}
 use Rattle.std.specs.Io.KnownBytes.{Consumes, IsAtEnd}
 use Rattle.std.proofs.lemmas.List.{map-append}
 use Rattle.rh_defs.specs.Script.{ended, is_bad, unended}
@@ -19,7 +19,7 @@ use Rattle.rh_session.specs.declared.status.Status.{Status}
 use Rattle.rh_sheet.specs.Sheet.{sheet_end, sheet_head}
 use Rattle.rh_painted.specs.Painted as run
 use Rattle.rh_painted.specs.Painted.{IsSheet, IsSheetFront, PaintedSoFar, PaintedUntil, front_lines}
-use Rattle.rh_painted.specs.Walks.{BrokeLine, BrokeRest, IsFirst, TookRest, walk_at, walk_from}
+use Rattle.rh_painted.specs.Walks.{BrokePaintedLine, BrokePaintedRest, IsFirstPainted, TookPaintedRest, walk_at, walk_from}
 use Rattle.rh_painted.proofs.LineLemmas.{same-line, same-rest}
 use Rattle.rh_painted.proofs.SheetLemmas.{PaintedAll, bad-lines, lines-last, lines-split, place-after, shared-more, stage-is, took-lines, walk_behind}
 use Rattle.rh_painted.proofs.WalkLemmas.{Stands, all-there, breaks-there, place-behind, rest-there, shared-there}
@@ -98,7 +98,8 @@ split (x ∷ xs) (b ∷ before) line behind e =
 
 -- ---- before the first line
 
-pub stands-first : {D : Type 0} {desk : D → Desk} {marked : Bool} {drawn : D} {s : Painter D} (d : Desk) → IsReordered d (desk drawn) → IsFirst s drawn marked
+pub stands-first : {D : Type 0} {desk : D → Desk} {marked : Bool} {drawn : D} {s : Painter D} (d : Desk) → IsReordered d (desk drawn)
+    → IsFirstPainted s drawn marked
     → Stands desk marked (walk_from d) s
 stands-first {D} {desk} {marked} {drawn} {s} d alike first =
     let P : D → Type 0 = λ z. IsReordered d (desk z) in
@@ -109,7 +110,8 @@ stands-first {D} {desk} {marked} {drawn} {s} d alike first =
     }
 
 -- the same pool
-pub same-pool : {D : Type 0} (desk : D → Desk) {marked : Bool} {drawn : D} {s : Painter D} (d : Desk) → IsReordered d (desk drawn) → IsFirst s drawn marked
+pub same-pool : {D : Type 0} (desk : D → Desk) {marked : Bool} {drawn : D} {s : Painter D} (d : Desk) → IsReordered d (desk drawn)
+    → IsFirstPainted s drawn marked
     → (desk s.drawn).pool ≡ d.pool
 same-pool desk d alike first = ap (λ z. (desk z).pool) first.drawn_is ∙ ap (λ (z : Desk). z.pool) alike.rest
 
@@ -141,7 +143,7 @@ module _ {D : Type 0} {desk : D → Desk} {marked : Bool} {d : Desk} {s : Painte
     (walk_from d) s) {before after : Input} {old head new : Output}
     (begun : Takes old head (sheet_head name d.pool)) where
   pub painted : {t : Painter D} (status : Status) → s.has_bad_line ≡ false
-      → FedAll (TookLine desk) (TookRest desk) before after s t head new → status ≡ status_of t.has_bad_line
+      → FedAll (TookPaintedLine desk) (TookPaintedRest desk) before after s t head new → status ≡ status_of t.has_bad_line
       → run.Painted marked name d before after old new status
   painted {t} status well fed told =
       let p = took-lines (ended fed.bytes) is fed.taken in
@@ -162,7 +164,7 @@ module _ {D : Type 0} {desk : D → Desk} {marked : Bool} {d : Desk} {s : Painte
         status_is = told ∙ ap status_of (last.bad ∙ ap₂ (λ a b. a || not b) bad (kept-some (unended fed.bytes)));
       }
 
-  pub painted-so-far : {t : Painter D} → Fed (TookLine desk) before after s t head new → PaintedSoFar marked name d before after old new
+  pub painted-so-far : {t : Painter D} → Fed (TookPaintedLine desk) before after s t head new → PaintedSoFar marked name d before after old new
   painted-so-far fed =
       let p = took-lines (ended fed.bytes) is fed.taken in
       record {
@@ -175,14 +177,15 @@ module _ {D : Type 0} {desk : D → Desk} {marked : Bool} {d : Desk} {s : Painte
 
   -- ---- the writer failed
 
-  until-line : (bytes : List ℕ) → Consumes before.left after.left bytes → BrokeAmong (TookLine desk) (BrokeLine desk) s head (kept_lines bytes) new
+  until-line : (bytes : List ℕ) → Consumes before.left after.left bytes → BrokeAmong (TookPaintedLine desk) (BrokePaintedLine desk) s head
+      (kept_lines bytes) new
       → PaintedUntil marked name d before after old new
   until-line bytes read broke =
       let cut = split (ended bytes) broke.before broke.line broke.behind broke.whole in
-      let T : List (List ℕ) → Type 0 = λ z. TookAll (TookLine desk) s head z broke.taker broke.written in
+      let T : List (List ℕ) → Type 0 = λ z. TookAll (TookPaintedLine desk) s head z broke.taker broke.written in
       let p = took-lines cut.first is (subst T (sym cut.first_is) broke.taken) in
       let x = walk_behind marked (walk_from d) p.stages in
-      let B : List ℕ → Type 0 = λ z. BrokeLine desk broke.taker broke.written z new in
+      let B : List ℕ → Type 0 = λ z. BrokePaintedLine desk broke.taker broke.written z new in
       let stop = subst B (sym cut.here_is) broke.broken in
       let r = read_line cut.here in
       let k = read_line (kept cut.here) in
@@ -214,7 +217,8 @@ module _ {D : Type 0} {desk : D → Desk} {marked : Bool} {d : Desk} {s : Painte
       }
 
   until-rest : (bytes : List ℕ) → Consumes before.left after.left bytes → IsAtEnd after.left
-      → BrokeAtRest (TookLine desk) (BrokeRest desk) s head (kept_lines bytes) (kept_rest bytes) new → PaintedUntil marked name d before after old new
+      → BrokeAtRest (TookPaintedLine desk) (BrokePaintedRest desk) s head (kept_lines bytes) (kept_rest bytes) new
+      → PaintedUntil marked name d before after old new
   until-rest bytes read at_end broke =
       let p = took-lines (ended bytes) is broke.taken in
       let x = walk_behind marked (walk_from d) p.stages in
@@ -229,11 +233,12 @@ module _ {D : Type 0} {desk : D → Desk} {marked : Bool} {d : Desk} {s : Painte
         broken = takes_breaks begun (takes_breaks p.written (subst B (rest-there p.stands last.stages) last.broken));
       }
 
-  pub painted-until : FedUntil (TookLine desk) (BrokeLine desk) (BrokeRest desk) before after s head new → PaintedUntil marked name d before after old new
+  pub painted-until : FedUntil (TookPaintedLine desk) (BrokePaintedLine desk) (BrokePaintedRest desk) before after s head new
+      → PaintedUntil marked name d before after old new
   painted-until fed = go fed.broken
     where
-      go : BrokeAmong (TookLine desk) (BrokeLine desk) s head (kept_lines fed.bytes) new
-          ⊎ (IsAtEnd after.left × BrokeAtRest (TookLine desk) (BrokeRest desk) s head (kept_lines fed.bytes) (kept_rest fed.bytes) new)
+      go : BrokeAmong (TookPaintedLine desk) (BrokePaintedLine desk) s head (kept_lines fed.bytes) new
+          ⊎ (IsAtEnd after.left × BrokeAtRest (TookPaintedLine desk) (BrokePaintedRest desk) s head (kept_lines fed.bytes) (kept_rest fed.bytes) new)
           → PaintedUntil marked name d before after old new
       go (inl broke) = until-line fed.bytes fed.read broke
       go (inr (at_end, broke)) = until-rest fed.bytes fed.read at_end broke
@@ -258,13 +263,13 @@ pub record Began {D : Type 0} (desk : D → Desk) (marked : Bool) (d : Desk) (na
   pub begun : Takes old head (sheet_head name d.pool)
 
 module _ {D E : Type 0} (desk : D → Desk) {marked : Bool} {drawn : D} (d : Desk) (alike : IsReordered d (desk drawn)) (name : Text) {old head : Output}
-    (m s : Painter D) (first : IsFirst m drawn marked) where
+    (m s : Painter D) (first : IsFirstPainted m drawn marked) where
   pub began : s ≡ record m { pages = s.pages } → (r : Result Unit E) → is_err r ≡ false → Puts old head r (sheet_head name (desk m.drawn).pool)
       → Began desk marked d name old head s
   began is (Err e) well puts = absurd (cc)
   began is (Ok v) well puts =
       let T : ℕ → Type 0 = λ z. Takes old head (sheet_head name z) in
-      let same : IsFirst s drawn marked = record {
+      let same : IsFirstPainted s drawn marked = record {
         drawn_is = ap (λ (z : Painter D). z.drawn) is ∙ first.drawn_is;
         marked_is = ap (λ (z : Painter D). z.marked) is ∙ first.marked_is;
         progress_is = ap (λ (z : Painter D). z.progress) is ∙ first.progress_is;

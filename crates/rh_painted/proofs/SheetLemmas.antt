@@ -1,8 +1,8 @@
 -- A sheet from the lines that were taken, one after the other.
 use Rattle.rh_painted.proofs.Common.{◌≡◌, Bool, true, false, ◌||◌, List, [], ◌∷◌, ◌++◌, map, refl, sym, ap, ap₂, ◌∙◌, subst, append-nil, append_assoc, Option}
 use Rattle.rh_painted.proofs.Common.{is_err, list_any, Command, Meaning, line_means, Desk, Output, Takes, takes_none, takes_more, kept, kept_means, Share}
-use Rattle.rh_painted.proofs.Common.{IsShared, Text, Place, Read, Stage, after_read, AreShared, Walk, behind_read, read_text, sheet_lines, Painter, Painted}
-use Rattle.rh_painted.proofs.Common.{TookLine}
+use Rattle.rh_painted.proofs.Common.{IsShared, Text, Place, Read, Stage, after_read, AreShared, Walk, behind_read, read_text, sheet_lines, Painter, PaintedLine}
+use Rattle.rh_painted.proofs.Common.{TookPaintedLine}
 use Rattle.rh_defs.specs.Script.{is_bad}
 use Rattle.rh_feed.specs.Taken.{TookAll}
 use Rattle.rh_figure.specs.Map.{read_line}
@@ -78,7 +78,7 @@ painted-none {m = m} o is = record {
 
 painted-more : {D : Type 0} {desk : D → Desk} {marked : Bool} {x : Walk} {m n l : Painter D} {o q u : Output} (line : Text) (meaning : Meaning
     (Option Command)) (reads : List Read)
-    → Stands desk marked x m → (here : Painted desk m o line meaning n q)
+    → Stands desk marked x m → (here : PaintedLine desk m o line meaning n q)
     → PaintedAll desk marked (behind_read marked here.share x (line, meaning)) reads n.has_bad_line l q u
     → PaintedAll desk marked x ((line, meaning) ∷ reads) m.has_bad_line l o u
 painted-more {marked = marked} {x = x} {m = m} line meaning reads is here rest =
@@ -96,7 +96,7 @@ painted-more {marked = marked} {x = x} {m = m} line meaning reads is here rest =
 
 -- all lines that were taken, as far as they are kept
 took-kept : {D : Type 0} {desk : D → Desk} {marked : Bool} (x : Walk) {m n : Painter D} {o q : Output} (lines : List Text) → Stands desk marked x m
-    → TookAll (TookLine desk) m o lines n q → PaintedAll desk marked x (map read_line lines) m.has_bad_line n o q
+    → TookAll (TookPaintedLine desk) m o lines n q → PaintedAll desk marked x (map read_line lines) m.has_bad_line n o q
 took-kept {D} {desk} {marked} x {m} {n} {o} {q} [] is (a, b) =
     let P : Painter D → Type 0 = λ z. PaintedAll desk marked x [] m.has_bad_line z o q in
     let Q : Output → Type 0 = λ z. PaintedAll desk marked x [] m.has_bad_line m o z in
@@ -166,7 +166,7 @@ bad-lines (l ∷ ls) = ap (λ b. is_bad l || b) (bad-lines ls)
 
 -- all lines that were taken, each whole
 pub took-lines : {D : Type 0} {desk : D → Desk} {marked : Bool} {x : Walk} {m n : Painter D} {o q : Output} (lines : List Text) → Stands desk marked x m
-    → TookAll (TookLine desk) m o (map kept lines) n q → PaintedAll desk marked x (map read_line lines) m.has_bad_line n o q
+    → TookAll (TookPaintedLine desk) m o (map kept lines) n q → PaintedAll desk marked x (map read_line lines) m.has_bad_line n o q
 took-lines {D} {desk} {marked} {x} {m} {n} {o} {q} lines is took =
     let painted = took-kept x (map kept lines) is took in
     let whole = wholes marked x lines painted.stages painted.lines painted.shared in

@@ -4,7 +4,7 @@ use Rattle.rh_painted.proofs.Common.{slice_get, AllByRecursion, BlockItem, base,
 use Rattle.std.proofs.lemmas.List.{take-append-drop}
 use Rattle.rh_defs.specs.Heap.{Heap, Segment, Used, Hole, size_of}
 use Rattle.rh_defs.specs.Questions.{block_items_from}
-use Rattle.rh_defs.specs.Pieces.{page, total}
+use Rattle.rh_defs.specs.Pieces.{page_size, total}
 use Rattle.rh_defs.specs.Slot.{Flex, HaveAnchors, Slot, slot_length, slot_pages, weight}
 use Rattle.rh_defs.proofs.HeapLists.{total-append}
 use Rattle.rh_defs.proofs.Lists.{all-join}
@@ -43,7 +43,7 @@ flex-end : (n : ℕ) (x : Scene) (h p : ℕ) (blocks : List Flex) → p + total 
 flex-end n x h p [] e = tt
 flex-end n x h p (b ∷ blocks) e = (omega (arith, e), flex-end n x h (p + weight b) blocks (omega (arith, e)))
 
-pub slot-ends : (n : ℕ) (x : Scene) (h : ℕ) (s : Slot) → base s.heap ≤ s.heap.end → page * slot_pages s ≤ n → AllByRecursion (EndsBy n) (slot_pieces x h s)
+pub slot-ends : (n : ℕ) (x : Scene) (h : ℕ) (s : Slot) → base s.heap ≤ s.heap.end → page_size * slot_pages s ≤ n → AllByRecursion (EndsBy n) (slot_pieces x h s)
 slot-ends n x h s fits low = (
   omega (arith, low),
   all-join (EndsBy n) (heap_pieces (slot_legend x h) 256 s.heap ++ flex_pieces x h (256 + s.heap.end) s.blocks) _
@@ -65,7 +65,7 @@ last-item (x ∷ z ∷ xs) y =
 -- what is unused begins where the flex blocks end
 pub last-piece : (x : Scene) (h : ℕ) (s : Slot) (p : Piece) → slice_get (slot_pieces x h s) (length (slot_pieces x h s) - 1) ≡ Some p → p.at ≡ slot_length s
 last-piece x h s p e =
-    let u : Piece = record { kind = Unused; at = slot_length s; size = page * slot_pages s - slot_length s; fresh = false } in
+    let u : Piece = record { kind = Unused; at = slot_length s; size = page_size * slot_pages s - slot_length s; fresh = false } in
     let k : Some u ≡ Some p = sym (last-item (record { kind = AnchorWords; at = 0; size = 256; fresh = false } ∷ heap_pieces
     (slot_legend x h) 256 s.heap ++ flex_pieces x h (256 + s.heap.end) s.blocks) u) ∙ e in
     let q : u ≡ p = cc in

@@ -3,7 +3,7 @@ use Rattle.rh_painted.proofs.Common.{◌≡◌, ℕ, ◌+◌, Bool, true, false,
 use Rattle.rh_painted.proofs.Common.{if◌then◌else◌, is_err, not, nat_lt, OnErr, OnOk, Result, IsErr, Command, LineFault, Desk, Meaning, IsReordered, step}
 use Rattle.rh_painted.proofs.Common.{fault_text, reply_to, Share, IsShared, Text, where_so, Before, marks_of, scene_of, Read, after_read, Breaks, Output}
 use Rattle.rh_painted.proofs.Common.{Puts, Takes, takes_none, noted, Note, at_desk, Happened, behind_read, fault_happened, happened_text, read_text}
-use Rattle.rh_painted.proofs.Common.{step_text, Painter, Stand, Painted, happened_at, walk_in}
+use Rattle.rh_painted.proofs.Common.{step_text, Painter, PaintStand, PaintedLine, happened_at, walk_in}
 use Rattle.rh_defs.specs.declared.reply.Reply.{Reply}
 use Rattle.rh_defs.specs.declared.reply.Reply.TheVariants.{Done}
 use Rattle.rh_drawn.specs.Deeds.{IsLikeReply}
@@ -16,7 +16,7 @@ use Rattle.rh_sheet.specs.Sheet.{behind_happened, behind_step, command_happened,
 use Rattle.rh_sheet.specs.Steps.{remark_text}
 use Rattle.rh_sheet.specs.declared.sizes.TheConstants.{MOST_STEPS}
 use Rattle.rh_painted.specs.Progress.{stand_behind, stand_shown}
-use Rattle.rh_painted.specs.Walks.{Broke, ComesTo, Follows, TookStep, WroteStep, scene_behind, step_written, walk_at}
+use Rattle.rh_painted.specs.Walks.{BrokePainting, ComesTo, FollowsPainting, TookStep, WroteStep, scene_behind, step_written, walk_at}
 
 -- ---- tests
 
@@ -54,7 +54,7 @@ err-comes A (Err e) h = tt
 
 -- ---- where a sheet stands behind a step
 
-module _ (d e : Desk) (p : Stand) (notes : List Note) (h : Happened) where
+module _ (d e : Desk) (p : PaintStand) (notes : List Note) (h : Happened) where
   as-shown : (r : Read) → (after_read (place d p.steps p.wanted) r).steps ≡ p.steps + 1 → (after_read (place d p.steps p.wanted) r).wanted ≡ false
       → walk_at e (stand_behind true h.still p) (noted (p.steps + 1) h.scene notes) ≡ at_desk e (behind_step true (walk_at d p notes) r h)
   as-shown r steps wanted =
@@ -101,14 +101,14 @@ module _ {D E : Type 0} (desk : D → Desk) (m b n : Painter D) (o p : Output) (
       (took : TookStep desk b o p r line happened n) where
     follows : ComesTo b (stand_behind (is_shown b.marked (walk_in desk b) b.progress.wanted) (happened took.share).still b.progress)
         (noted (b.progress.steps + 1) (happened took.share).scene b.notes.items) n
-        → Follows desk m took.share (line, meaning) n
+        → FollowsPainting desk m took.share (line, meaning) n
     follows comes =
         let P : D → Type 0 = λ z. IsReordered (after_read (walk_in desk m).place (line, meaning)).desk (desk z) in
         record {
           desk_is = subst P (sym comes.drawn_is) desk-is;
           walk_is =
               ap₂ (λ q notes. walk_at (desk n.drawn) q notes) comes.progress_is comes.notes_are
-              ∙ (ap₂ (λ marked (w : Stand × List Note). walk_at (desk n.drawn)
+              ∙ (ap₂ (λ marked (w : PaintStand × List Note). walk_at (desk n.drawn)
               (stand_behind (nat_lt w.0.shown MOST_STEPS && (not marked || w.0.wanted)) (happened took.share).still w.0)
               (noted (w.0.steps + 1) (happened took.share).scene w.1)) rest.marked (ap₂ (λ q notes. (q, notes)) rest.progress rest.notes)
               ∙ (behind-stand (desk m.drawn) (desk n.drawn) m.progress m.notes.items (happened took.share)
@@ -124,12 +124,12 @@ module _ {D E : Type 0} (desk : D → Desk) (m b n : Painter D) (o p : Output) (
     whole : happened_text b.marked (walk_in desk b) line (happened took.share) ≡ read_text m.marked took.share (walk_in desk m) (line, meaning)
     whole = text-moved (happened took.share) (now took.share) (same took.share) ∙ sym (text-is took.share)
 
-    pub took-line : OnOk r (Painted desk m o line meaning n p)
+    pub took-line : OnOk r (PaintedLine desk m o line meaning n p)
     took-line = on-ok r (λ both.
         let T : Text → Type 0 = λ z. Takes o p z in
         record { share = took.share; shared = shared; written = subst T whole both.0; follows = follows both.1 }) took.ok
 
-    pub broke-line : OnErr r (Broke desk m o line meaning p)
+    pub broke-line : OnErr r (BrokePainting desk m o line meaning p)
     broke-line = on-err r (λ broken.
         let B : Text → Type 0 = λ z. Breaks o p z in
         record { share = took.share; shared = shared; broken = subst B whole broken }) took.err
@@ -150,10 +150,10 @@ module _ {D E : Type 0} (desk : D → Desk) (m b n : Painter D) (o p : Output) (
 
     module _ (bad : b.has_bad_line ≡ m.has_bad_line)
         (took : TookStep desk b o p r line (λ s. happened_at (desk b.drawn) s kept (Some c) reply (reply_to (desk m.drawn) c)) n) where
-      pub took-command : OnOk r (Painted desk m o line (Ok (Some c)) n p)
+      pub took-command : OnOk r (PaintedLine desk m o line (Ok (Some c)) n p)
       took-command = took-line (Ok (Some c)) _ _ same-command refl refl moved (bad ∙ or-off m.has_bad_line) (λ s. refl) (λ s. refl) took
 
-      pub broke-command : OnErr r (Broke desk m o line (Ok (Some c)) p)
+      pub broke-command : OnErr r (BrokePainting desk m o line (Ok (Some c)) p)
       broke-command = broke-line (Ok (Some c)) _ _ same-command refl refl moved (bad ∙ or-off m.has_bad_line) (λ s. refl) (λ s. refl) took
 
   -- a bad line
@@ -162,11 +162,11 @@ module _ {D E : Type 0} (desk : D → Desk) (m b n : Painter D) (o p : Output) (
     same-fault s = ap₂ (λ z f. happened_at (desk z) s f None Done (fault_text fault)) stays kept-is
 
     module _ (took : TookStep desk b o p r line (λ s. happened_at (desk b.drawn) s kept None Done (fault_text fault)) n) where
-      pub took-fault : OnOk r (Painted desk m o line (Err fault) n p)
+      pub took-fault : OnOk r (PaintedLine desk m o line (Err fault) n p)
       took-fault = took-line (Err fault) _ _ same-fault refl refl (reordered-as desk m.drawn b.drawn stays) (bad
           ∙ or-on m.has_bad_line) (λ s. refl) (λ s. refl) took
 
-      pub broke-fault : OnErr r (Broke desk m o line (Err fault) p)
+      pub broke-fault : OnErr r (BrokePainting desk m o line (Err fault) p)
       broke-fault = broke-line (Err fault) _ _ same-fault refl refl (reordered-as desk m.drawn b.drawn stays) (bad
           ∙ or-on m.has_bad_line) (λ s. refl) (λ s. refl) took
 
@@ -176,7 +176,7 @@ module _ {D : Type 0} (desk : D → Desk) (m n : Painter D) (o : Output) (line :
     (notes : n.notes.items ≡ m.notes.items) (bad : n.has_bad_line ≡ m.has_bad_line) where
   -- behind it
   skipped-behind : (opened : Bool) → n.progress ≡ record m.progress { wanted = m.progress.wanted || is_mark line; opened = opened }
-      → opened ≡ (m.progress.opened || is_shown_remark m.marked (walk_in desk m) line) → (s : Share) → Follows desk m s (line, Ok None) n
+      → opened ≡ (m.progress.opened || is_shown_remark m.marked (walk_in desk m) line) → (s : Share) → FollowsPainting desk m s (line, Ok None) n
   skipped-behind opened progress opened-is s = record {
     desk_is = reordered-as desk m.drawn n.drawn drawn;
     walk_is =
@@ -188,7 +188,7 @@ module _ {D : Type 0} (desk : D → Desk) (m n : Painter D) (o : Output) (line :
 
   -- it isn't shown
   pub skip-hidden : n.progress ≡ record m.progress { wanted = m.progress.wanted || is_mark line } → is_shown_remark m.marked (walk_in desk m) line ≡ false
-      → (s : Share) → IsShared s (desk m.drawn) → Painted desk m o line (Ok None) n o
+      → (s : Share) → IsShared s (desk m.drawn) → PaintedLine desk m o line (Ok None) n o
   skip-hidden progress test s shared =
       let T : Text → Type 0 = λ z. Takes o o z in
       record {
@@ -206,7 +206,8 @@ module _ {D : Type 0} (desk : D → Desk) (m n : Painter D) (o : Output) (line :
         (walk_in desk m) ++ remark_text line)
     shown-text = sym (ap (λ b. where_so b (opening (walk_in desk m) ++ remark_text line)) test)
 
-    pub skip-shown : n.progress ≡ record m.progress { wanted = m.progress.wanted || is_mark line; opened = true } → OnOk r (Painted desk m o line (Ok None) n p)
+    pub skip-shown : n.progress ≡ record m.progress { wanted = m.progress.wanted || is_mark line; opened = true } → OnOk r
+        (PaintedLine desk m o line (Ok None) n p)
     skip-shown progress = on-ok r (λ takes.
         let T : Text → Type 0 = λ z. Takes o p z in
         record {
@@ -216,7 +217,7 @@ module _ {D : Type 0} (desk : D → Desk) (m n : Painter D) (o : Output) (line :
           follows = skipped-behind true progress (or-on m.progress.opened ∙ ap (λ b. m.progress.opened || b) (sym test)) s;
         }) puts.ok
 
-    pub skip-broken : OnErr r (Broke desk m o line (Ok None) p)
+    pub skip-broken : OnErr r (BrokePainting desk m o line (Ok None) p)
     skip-broken = on-err r (λ breaks.
         let B : Text → Type 0 = λ z. Breaks o p z in
         record { share = s; shared = shared; broken = subst B shown-text breaks }) puts.err
@@ -291,7 +292,7 @@ module _ {D E : Type 0} (desk : D → Desk) (m b n : Painter D) (o : Output) (li
           record {
             drawn_is = ap (λ (z : Painter D). z.drawn) n-is ∙ is.drawn;
             marked_is = ap (λ (z : Painter D). z.marked) n-is ∙ is.marked;
-            progress_is = ap (λ (z : Painter D). z.progress) n-is ∙ (ap (λ (q : Stand). record q { left = q.left + 1 }) is.progress
+            progress_is = ap (λ (z : Painter D). z.progress) n-is ∙ (ap (λ (q : PaintStand). record q { left = q.left + 1 }) is.progress
                 ∙ sym (ap (λ z. stand_behind z h.still m.progress) here));
             notes_are = ap (λ (z : Painter D). z.notes.items) n-is ∙ is.notes s;
             bad = ap (λ (z : Painter D). z.has_bad_line) n-is ∙ is.bad;

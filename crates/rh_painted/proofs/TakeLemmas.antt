@@ -2,7 +2,7 @@
 use Rattle.rh_painted.proofs.Common.{◌≡◌, Bool, true, false, ◌||◌, [], ◌∷◌, ◌++◌, length, refl, sym, ap, ap₂, ◌∙◌, subst, arith, Option, Ok, Err, is_err, not}
 use Rattle.rh_painted.proofs.Common.{◌==◌, OnErr, OnOk, Result, Command, LineFault, Desk, Meaning, line_means, IsReordered, rest_means, kept, kept_means}
 use Rattle.rh_painted.proofs.Common.{Share, IsShared, Text, Place, Read, after_read, Breaks, Output, Puts, Takes, takes_more, at_desk, Walk, behind_read}
-use Rattle.rh_painted.proofs.Common.{read_text, Painter, Painted, TookLine, walk_in}
+use Rattle.rh_painted.proofs.Common.{read_text, Painter, PaintedLine, TookPaintedLine, walk_in}
 use Rattle.std.proofs.lemmas.Bool.{eqb-true}
 use Rattle.rh_drawn.proofs.RunLemmas.{kept_some}
 use Rattle.rh_drawn.proofs.StepLemmas.{on-err, on-ok}
@@ -10,7 +10,7 @@ use Rattle.rh_feed.proofs.LineLemmas.{kept_nil}
 use Rattle.rh_figure.specs.Map.{read_rest}
 use Rattle.rh_lines.proofs.FlowLemmas.{breaks_before, takes_breaks}
 use Rattle.rh_sheet.specs.Sheet.{sheet_end}
-use Rattle.rh_painted.specs.Walks.{Broke, BrokeLine, BrokeRest, TookRest}
+use Rattle.rh_painted.specs.Walks.{BrokePainting, BrokePaintedLine, BrokePaintedRest, TookPaintedRest}
 use Rattle.rh_painted.proofs.LineLemmas.{SameRead, same-line, same-rest}
 use Rattle.rh_painted.proofs.RunLemmas.{kept-some}
 use Rattle.rh_painted.proofs.WalkLemmas.{place-behind}
@@ -29,7 +29,7 @@ module _ {D : Type 0} (desk : D → Desk) (m : Painter D) (means : Text → Mean
   shared-kept shared = let P : Place → Type 0 = λ z. IsShared s z.desk in subst P place-kept shared
 
 module _ {D : Type 0} {desk : D → Desk} {m n : Painter D} {o p : Output} where
-  painted-kept : (line : Text) → Painted desk m o line (line_means line) n p → TookLine desk m o (kept line) n p
+  painted-kept : (line : Text) → PaintedLine desk m o line (line_means line) n p → TookPaintedLine desk m o (kept line) n p
   painted-kept line painted =
       let same = same-line line in
       let x = walk_in desk m in
@@ -47,8 +47,8 @@ module _ {D : Type 0} {desk : D → Desk} {m n : Painter D} {o p : Output} where
         };
       }
 
-broke-kept : {D : Type 0} {desk : D → Desk} {m : Painter D} {o p : Output} (line : Text) → Broke desk m o line (line_means line) p
-    → BrokeLine desk m o (kept line) p
+broke-kept : {D : Type 0} {desk : D → Desk} {m : Painter D} {o p : Output} (line : Text) → BrokePainting desk m o line (line_means line) p
+    → BrokePaintedLine desk m o (kept line) p
 broke-kept {D} {desk} {m} {o} {p} line broke =
     let same = same-line line in
     let B : Text → Type 0 = λ z. Breaks o p z in
@@ -61,14 +61,14 @@ broke-kept {D} {desk} {m} {o} {p} line broke =
 -- the same by what was found of the line
 module _ {D E : Type 0} (desk : D → Desk) (m : Painter D) (o p : Output) (r : Result Unit E) (line : Text) (found : Meaning (Option Command))
     (means : found ≡ line_means line) where
-  pub line-took : (n : Painter D) → OnOk r (Painted desk m o line found n p) → OnOk r (TookLine desk m o (kept line) n p)
+  pub line-took : (n : Painter D) → OnOk r (PaintedLine desk m o line found n p) → OnOk r (TookPaintedLine desk m o (kept line) n p)
   line-took n =
-      let P : Meaning (Option Command) → Type 0 = λ z. Painted desk m o line z n p in
+      let P : Meaning (Option Command) → Type 0 = λ z. PaintedLine desk m o line z n p in
       on-ok r (λ painted. painted-kept line (subst P means painted))
 
-  pub line-broke : OnErr r (Broke desk m o line found p) → OnErr r (BrokeLine desk m o (kept line) p)
+  pub line-broke : OnErr r (BrokePainting desk m o line found p) → OnErr r (BrokePaintedLine desk m o (kept line) p)
   line-broke =
-      let P : Meaning (Option Command) → Type 0 = λ z. Broke desk m o line z p in
+      let P : Meaning (Option Command) → Type 0 = λ z. BrokePainting desk m o line z p in
       on-err r (λ broke. broke-kept line (subst P means broke))
 
 -- it holds where the writer failed
@@ -87,11 +87,11 @@ module _ {D E : Type 0} (desk : D → Desk) (m : Painter D) (o p : Output) (r : 
       or-off true = refl
       or-off false = refl
 
-  pub empty-took : (rest : Text) → true ≡ (length rest == 0) → OnOk r (TookRest desk m o (kept rest) m p)
+  pub empty-took : (rest : Text) → true ≡ (length rest == 0) → OnOk r (TookPaintedRest desk m o (kept rest) m p)
   empty-took [] none = on-ok r (λ takes. record { stages = []; lines = sym (ap read_rest kept_nil); shared = tt; written = takes; bad = empty-bad }) puts.ok
   empty-took (b ∷ bs) none = let no : length (b ∷ bs) ≡ 0 = eqb-true (length (b ∷ bs)) 0 (sym none) in absurd (omega arith)
 
-  pub empty-broke : (rest : Text) → true ≡ (length rest == 0) → OnErr r (BrokeRest desk m o (kept rest) p)
+  pub empty-broke : (rest : Text) → true ≡ (length rest == 0) → OnErr r (BrokePaintedRest desk m o (kept rest) p)
   empty-broke [] none = on-err r (λ breaks. record { stages = []; lines = sym (ap read_rest kept_nil); shared = tt; broken = breaks }) puts.err
   empty-broke (b ∷ bs) none = let no : length (b ∷ bs) ≡ 0 = eqb-true (length (b ∷ bs)) 0 (sym none) in absurd (omega arith)
 
@@ -120,7 +120,7 @@ module _ {D : Type 0} (desk : D → Desk) (m : Painter D) (o : Output) (rest : T
       shared-kept desk m rest_means rest (same-rest rest) s (subst P (sym means) shared)
 
   -- the writer failed at it
-  pub some-stops : {p : Output} → Broke desk m o rest (Err fault) p → BrokeRest desk m o (kept rest) p
+  pub some-stops : {p : Output} → BrokePainting desk m o rest (Err fault) p → BrokePaintedRest desk m o (kept rest) p
   some-stops {p} broke =
       let x = walk_in desk m in
       let B : Text → Type 0 = λ z. Breaks o p z in
@@ -131,7 +131,7 @@ module _ {D : Type 0} (desk : D → Desk) (m : Painter D) (o : Output) (rest : T
         broken = subst B (end-kept broke.share) (breaks_before (sheet_end (behind_read m.marked broke.share x (rest, Err fault))) broke.broken);
       }
 
-  module _ {E : Type 0} (n : Painter D) (q p : Output) (r : Result Unit E) (painted : Painted desk m o rest (Err fault) n q) (puts : Puts q p r (sheet_end
+  module _ {E : Type 0} (n : Painter D) (q p : Output) (r : Result Unit E) (painted : PaintedLine desk m o rest (Err fault) n q) (puts : Puts q p r (sheet_end
       (walk_in desk n))) where
     end-is : sheet_end (walk_in desk n) ≡ sheet_end (behind_read m.marked painted.share (walk_in desk m) (rest, Err fault))
     end-is = ap sheet_end painted.follows.walk_is
@@ -139,7 +139,7 @@ module _ {D : Type 0} (desk : D → Desk) (m : Painter D) (o : Output) (rest : T
     some-bad : n.has_bad_line ≡ (m.has_bad_line || not (length (kept rest) == 0))
     some-bad = painted.follows.bad ∙ ap (λ b. m.has_bad_line || not b) (some ∙ sym (kept-some rest))
 
-    pub some-took : OnOk r (TookRest desk m o (kept rest) n p)
+    pub some-took : OnOk r (TookPaintedRest desk m o (kept rest) n p)
     some-took = on-ok r (λ takes.
         let T : Text → Type 0 = λ z. Takes q p z in
         let U : Text → Type 0 = λ z. Takes o p z in
@@ -151,7 +151,7 @@ module _ {D : Type 0} (desk : D → Desk) (m : Painter D) (o : Output) (rest : T
           bad = some-bad;
         }) puts.ok
 
-    pub some-broke : OnErr r (BrokeRest desk m o (kept rest) p)
+    pub some-broke : OnErr r (BrokePaintedRest desk m o (kept rest) p)
     some-broke = on-err r (λ breaks.
         let T : Text → Type 0 = λ z. Breaks q p z in
         let U : Text → Type 0 = λ z. Breaks o p z in

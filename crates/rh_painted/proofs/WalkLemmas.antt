@@ -9,7 +9,7 @@ use Rattle.rh_figure.specs.Scene.{before_of, is_still, no_marks}
 use Rattle.rh_figure.proofs.Alike.{before-alike, marks-alike, scene-alike, text-alike}
 use Rattle.rh_drawn.proofs.MapLemmas.{SamePlaces, after_alike, shared_alike}
 use Rattle.rh_sheet.specs.Sheet.{behind_happened, command_happened}
-use Rattle.rh_painted.specs.Walks.{Follows}
+use Rattle.rh_painted.specs.Walks.{FollowsPainting}
 
 -- ---- what a line does on two desks
 
@@ -85,7 +85,7 @@ module _ {D : Type 0} {desk : D → Desk} {marked : Bool} {x : Walk} {m : Painte
       ∙ ap (λ (w : Walk). at_desk (after_read w.place r).desk (behind_read marked s x r)) (sym is.walk_is))
 
   -- behind a line a painter stands where the sheet does
-  pub stands-on : {n : Painter D} → Follows desk m s r n → Stands desk marked (behind_read marked s x r) n
+  pub stands-on : {n : Painter D} → FollowsPainting desk m s r n → Stands desk marked (behind_read marked s x r) n
   stands-on {n} f =
       let same = after_alike x.place (walk_in desk m).place r (stands-place is) in
       let P : Place → Type 0 = λ z. IsReordered z.desk (desk n.drawn) in

@@ -10,12 +10,12 @@ use Rattle.rh_painted.specs.Ways.{arrows_seen}
 use Rattle.rh_sheet.specs.Chart.{Arrow, arrow_path, arrow_words, beat_text, chart_body, life_of, step_y, steps_in, task_x, tasks_in}
 
 -- a chart has as few tasks and steps as that of the last messages
-pub record IsSmall (c : Chart) : Type 0 where
+pub record IsSmallChart (c : Chart) : Type 0 where
   pub tasks : length c.tasks.now ≤ MOST_IN_SET
   pub steps : length c.steps.now ≤ MOST_IN_SET
 
 -- it has arrows, and their tasks and steps
-pub record IsWhole (c : Chart) : Type 0 where
+pub record IsWholeChart (c : Chart) : Type 0 where
   pub some : 0 < length c.ways.now
   pub tasks : c.tasks.now ≡ tasks_in (arrows_seen c.ways.now)
   pub steps : c.steps.now ≡ steps_in (arrows_seen c.ways.now)
@@ -52,5 +52,5 @@ abbrev pub words_in : Chart → Arrow → Text
 words_in c a = arrow_words c.tasks.now c.steps.now c.step a
 
 -- all of them
-abbrev pub body_in : Desk → Chart → Text
-body_in d c = chart_body d (arrows_seen c.ways.now) c.tasks.now c.steps.now c.step
+abbrev pub body_of_chart : Desk → Chart → Text
+body_of_chart d c = chart_body d (arrows_seen c.ways.now) c.tasks.now c.steps.now c.step

@@ -3,7 +3,7 @@ use Rattle.std.specs.Prelude.{ℕ, ◌+◌, Bool, true, false, ◌&&◌, not, if
 
 -- how many commands are behind it, and whether a mark was seen since; how many are shown, which of those has the last
 -- figure, and how many are left out; and whether the next step was begun
-pub record Stand : Type 0 where
+pub record PaintStand : Type 0 where
   pub steps : ℕ
   pub wanted : Bool
   pub shown : ℕ
@@ -12,16 +12,16 @@ pub record Stand : Type 0 where
   pub opened : Bool
 
 -- before the first line
-abbrev pub stand_first : Stand
+abbrev pub stand_first : PaintStand
 stand_first = record { steps = 0; wanted = false; shown = 0; last = 0; left = 0; opened = false }
 
 -- behind the step of a command, with a figure or without
-abbrev pub stand_shown : Bool → Stand → Stand
+abbrev pub stand_shown : Bool → PaintStand → PaintStand
 stand_shown still p =
     record p { shown = p.shown + 1; last = if still then p.last else p.shown + 1; opened = false }
 
 -- behind a command that is shown or left out, and that leaves memory as it is or not
-abbrev pub stand_behind : Bool → Bool → Stand → Stand
+abbrev pub stand_behind : Bool → Bool → PaintStand → PaintStand
 stand_behind true still p =
     record (stand_shown (still && not p.wanted) p) { steps = p.steps + 1; wanted = false }
 stand_behind false still p = record p { steps = p.steps + 1; wanted = false; left = p.left + 1 }

@@ -16,11 +16,11 @@ use Rattle.rh_sheet.specs.declared.note.Note.{Note}
 use Rattle.rh_sheet.specs.Laws.{at_desk}
 use Rattle.rh_sheet.specs.Sheet.{Happened, Walk, behind_read, happened_text, is_shown, opening, read_text, sheet_lines}
 use Rattle.rh_sheet.specs.Steps.{step_text}
-use Rattle.rh_painted.specs.Progress.{Stand, stand_behind, stand_first, stand_shown}
+use Rattle.rh_painted.specs.Progress.{PaintStand, stand_behind, stand_first, stand_shown}
 use Rattle.rh_painted.specs.declared.painter.Painter.{Painter}
 
 -- where a sheet stands over a desk
-abbrev pub walk_at : Desk → Stand → List Note → Walk
+abbrev pub walk_at : Desk → PaintStand → List Note → Walk
 walk_at d p notes = record {
   place = place d p.steps p.wanted;
   shown = p.shown;
@@ -39,7 +39,7 @@ abbrev pub walk_in : {D : Type 0} → (D → Desk) → Painter D → Walk
 walk_in desk m = walk_at (desk m.drawn) m.progress m.notes.items
 
 -- a sheet that has taken no line
-pub record IsFirst {D : Type 0} (m : Painter D) (drawn : D) (marked : Bool) : Type 0 where
+pub record IsFirstPainted {D : Type 0} (m : Painter D) (drawn : D) (marked : Bool) : Type 0 where
   pub drawn_is : m.drawn ≡ drawn
   pub marked_is : m.marked ≡ marked
   pub progress_is : m.progress ≡ stand_first
@@ -47,7 +47,7 @@ pub record IsFirst {D : Type 0} (m : Painter D) (drawn : D) (marked : Bool) : Ty
   pub well : m.has_bad_line ≡ false
 
 -- the second has come so far and keeps these notes, and is else as the first
-pub record ComesTo {D : Type 0} (m : Painter D) (p : Stand) (notes : List Note) (n : Painter D) : Type 0 where
+pub record ComesTo {D : Type 0} (m : Painter D) (p : PaintStand) (notes : List Note) (n : Painter D) : Type 0 where
   pub drawn_is : n.drawn ≡ m.drawn
   pub marked_is : n.marked ≡ m.marked
   pub progress_is : n.progress ≡ p
@@ -55,34 +55,34 @@ pub record ComesTo {D : Type 0} (m : Painter D) (p : Stand) (notes : List Note) 
   pub bad : n.has_bad_line ≡ m.has_bad_line
 
 -- the second stands where the first does once a line was read, but for the order of messages to different tasks
-pub record Follows {D : Type 0} (desk : D → Desk) (m : Painter D) (s : Share) (r : Read) (n : Painter D) : Type 0 where
+pub record FollowsPainting {D : Type 0} (desk : D → Desk) (m : Painter D) (s : Share) (r : Read) (n : Painter D) : Type 0 where
   pub desk_is : IsReordered (after_read (walk_in desk m).place r).desk (desk n.drawn)
   pub walk_is : walk_in desk n ≡ at_desk (desk n.drawn) (behind_read m.marked s (walk_in desk m) r)
   pub marked_is : n.marked ≡ m.marked
   pub bad : n.has_bad_line ≡ (m.has_bad_line || is_err r.1)
 
 -- what a sheet has of one line of a script was written, with some share of the pool behind it
-pub record Painted {D : Type 0} (desk : D → Desk) (m : Painter D) (o : Output) (line : Text) (meaning : Meaning (Option Command)) (n : Painter D) (p : Output) : Type 0 where
+pub record PaintedLine {D : Type 0} (desk : D → Desk) (m : Painter D) (o : Output) (line : Text) (meaning : Meaning (Option Command)) (n : Painter D) (p : Output) : Type 0 where
   pub share : Share
   pub shared : IsShared share (after_read (walk_in desk m).place (line, meaning)).desk
   pub written : Takes o p (read_text m.marked share (walk_in desk m) (line, meaning))
-  pub follows : Follows desk m share (line, meaning) n
+  pub follows : FollowsPainting desk m share (line, meaning) n
 
 -- the writer failed, and took a front of it
-pub record Broke {D : Type 0} (desk : D → Desk) (m : Painter D) (o : Output) (line : Text) (meaning : Meaning (Option Command)) (p : Output) : Type 0 where
+pub record BrokePainting {D : Type 0} (desk : D → Desk) (m : Painter D) (o : Output) (line : Text) (meaning : Meaning (Option Command)) (p : Output) : Type 0 where
   pub share : Share
   pub shared : IsShared share (after_read (walk_in desk m).place (line, meaning)).desk
   pub broken : Breaks o p (read_text m.marked share (walk_in desk m) (line, meaning))
 
 -- the same of a complete line
-abbrev pub TookLine : {D : Type 0} → (D → Desk) → Painter D → Output → List ℕ → Painter D → Output → Type 0
-TookLine desk m o line n p = Painted desk m o line (line_means line) n p
+abbrev pub TookPaintedLine : {D : Type 0} → (D → Desk) → Painter D → Output → List ℕ → Painter D → Output → Type 0
+TookPaintedLine desk m o line n p = PaintedLine desk m o line (line_means line) n p
 
-abbrev pub BrokeLine : {D : Type 0} → (D → Desk) → Painter D → Output → List ℕ → Output → Type 0
-BrokeLine desk m o line p = Broke desk m o line (line_means line) p
+abbrev pub BrokePaintedLine : {D : Type 0} → (D → Desk) → Painter D → Output → List ℕ → Output → Type 0
+BrokePaintedLine desk m o line p = BrokePainting desk m o line (line_means line) p
 
 -- the rest of the sheet was written, of what stands behind the last line feed
-pub record TookRest {D : Type 0} (desk : D → Desk) (m : Painter D) (o : Output) (rest : List ℕ) (n : Painter D) (p : Output) : Type 0 where
+pub record TookPaintedRest {D : Type 0} (desk : D → Desk) (m : Painter D) (o : Output) (rest : List ℕ) (n : Painter D) (p : Output) : Type 0 where
   pub stages : List Stage
   pub lines : map read_of stages ≡ read_rest rest
   pub shared : AreShared (walk_in desk m).place stages
@@ -90,7 +90,7 @@ pub record TookRest {D : Type 0} (desk : D → Desk) (m : Painter D) (o : Output
   pub bad : n.has_bad_line ≡ (m.has_bad_line || not (length rest == 0))
 
 -- the writer failed, and took a front of it
-pub record BrokeRest {D : Type 0} (desk : D → Desk) (m : Painter D) (o : Output) (rest : List ℕ) (p : Output) : Type 0 where
+pub record BrokePaintedRest {D : Type 0} (desk : D → Desk) (m : Painter D) (o : Output) (rest : List ℕ) (p : Output) : Type 0 where
   pub stages : List Stage
   pub lines : map read_of stages ≡ read_rest rest
   pub shared : AreShared (walk_in desk m).place stages

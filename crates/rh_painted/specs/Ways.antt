@@ -8,13 +8,13 @@ use Rattle.rh_sheet.specs.Chart.{Arrow, inserted}
 use Rattle.rh_painted.specs.declared.ways.Way.{Way}
 
 -- the words of a message, on its way out or back
-abbrev pub words_of : Way → Text
-words_of w = concat (
+abbrev pub way_words : Way → Text
+way_words w = concat (
     decimal w.my_ref ∷ codes " " ∷ action_name w.action ∷ where_so w.is_back (codes " back") ∷ []
     )
 
 abbrev pub arrow_of : Way → Arrow
-arrow_of w = record { start = w.start; stop = w.stop; from = w.from; to = w.to; words = words_of w }
+arrow_of w = record { start = w.start; stop = w.stop; from = w.from; to = w.to; words = way_words w }
 
 abbrev pub arrows_seen : List Way → List Arrow
 arrows_seen ways = map arrow_of ways

@@ -3,7 +3,7 @@
 ghost use Rattle.std.specs.Prelude.{◌≡◌, ◌≤◌, ◌==◌, flat_map, length};
 ghost use Rattle.rh_defs.specs.declared.question.BlockItem.{BlockItem};
 ghost use Rattle.rh_defs.specs.declared.sizes.TheConstants.{ANCHORS};
-ghost use Rattle.rh_figure.specs.Changes.{item_of, slide_of};
+ghost use Rattle.rh_figure.specs.Changes.{item_with_anchor, slide_of};
 ghost use Rattle.rh_figure.specs.Phrases.{where_so};
 ghost use Rattle.rh_lines.specs.Flow.{Puts};
 ghost use Rattle.rh_sheet.specs.Arrows.{slide_arrow};
@@ -26,7 +26,7 @@ pub fn print_arrow_of<W: Sink>(
 ) -> Result<(), WriteFailed>
     requires { length blocks.now ≤ ANCHORS }
     ensures { Puts (W.output writer.old) (W.output writer.new) result (where_so (handle == step.now.kept.now.handle)
-        (slide_arrow frame (flat_map (λ (b : BlockItem). slide_of b (item_of b.anchor step.now.kept.now.blocks)) blocks.now))) }
+        (slide_arrow frame (flat_map (λ (b : BlockItem). slide_of b (item_with_anchor b.anchor step.now.kept.now.blocks)) blocks.now))) }
 {
     if handle != step.kept.handle() {
         return Ok(());

@@ -1,7 +1,7 @@
 //! Cards, drawn or read out, one after the other.
 
 ghost use Rattle.std.specs.Prelude.{◌≡◌, ◌≤◌, ◌<◌, ◌+◌, length};
-ghost use Rattle.rh_draw.specs.Cards.{card_of};
+ghost use Rattle.rh_draw.specs.Cards.{drawn_card};
 ghost use Rattle.rh_figure.specs.Cards.{more_card};
 ghost use Rattle.rh_figure.specs.declared.limits.TheConstants.{MOST_CARDS};
 ghost use Rattle.rh_lines.specs.Flow.{Puts};
@@ -33,7 +33,7 @@ pub fn put_card<W: Sink>(
     requires few { k < MOST_CARDS }
     requires height { IsFit form }
     requires short { length card.now.first.now + length card.now.second.now + length card.now.third.now ≤ 200 }
-    ensures { Puts (W.output writer.old) (W.output writer.new) result (form_text form (k, card_of card.now)) }
+    ensures { Puts (W.output writer.old) (W.output writer.new) result (form_text form (k, drawn_card card.now)) }
 {
     match form {
         Form::Told => tell_card(card, writer),
@@ -45,7 +45,7 @@ pub fn put_card<W: Sink>(
 /// Writes a card as it is read out.
 fn tell_card<W: Sink>(card: &Card<'_>, writer: &mut W) -> Result<(), WriteFailed>
     requires { length card.now.first.now + length card.now.second.now + length card.now.third.now ≤ 200 }
-    ensures { Puts (W.output writer.old) (W.output writer.new) result (form_text Form.Told (0, card_of card.now)) }
+    ensures { Puts (W.output writer.old) (W.output writer.new) result (form_text Form.Told (0, drawn_card card.now)) }
 {
     let mut row = Row::new();
     add_behind_comma(&mut row, card.first);

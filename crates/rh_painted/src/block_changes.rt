@@ -4,7 +4,7 @@ ghost use Rattle.std.specs.Prelude.{◌≡◌, ◌≤◌, ◌++◌, [], ◌∷�
 ghost use Rattle.rh_defs.specs.Desk.{task_at};
 ghost use Rattle.rh_defs.specs.declared.question.BlockItem.{BlockItem};
 ghost use Rattle.rh_defs.specs.declared.sizes.TheConstants.{ANCHORS};
-ghost use Rattle.rh_figure.specs.Changes.{block_change, block_changes, gone_line, has_anchor as has_anchor_in, item_of, slide_change, slide_of, slides};
+ghost use Rattle.rh_figure.specs.Changes.{block_change, block_changes, gone_line, has_anchor as has_anchor_in, item_with_anchor, slide_change, slide_of, slides};
 ghost use Rattle.rh_lines.specs.Flow.{Puts};
 ghost use Rattle.rh_sheet.specs.Markup.{change_item};
 ghost use Rattle.rh_sight.specs.Steps.{scene_at};
@@ -76,7 +76,7 @@ fn print_if_gone<W: Sink>(
 fn print_now<W: Sink>(kept: &Kept, blocks: &[BlockItem], writer: &mut W) -> Result<(), WriteFailed>
     ensures { Puts (W.output writer.old) (W.output writer.new) result
         (flat_map change_item
-        (flat_map (λ (b : BlockItem). block_change b (item_of b.anchor kept.now.blocks)) blocks.now)) }
+        (flat_map (λ (b : BlockItem). block_change b (item_with_anchor b.anchor kept.now.blocks)) blocks.now)) }
 {
     for block in blocks {
         print_block_change(kept, block, writer)?;
@@ -91,7 +91,7 @@ fn print_block_change<W: Sink>(
     writer: &mut W,
 ) -> Result<(), WriteFailed>
     ensures { Puts (W.output writer.old) (W.output writer.new) result
-        (flat_map change_item (block_change block.now (item_of block.now.anchor kept.now.blocks))) }
+        (flat_map change_item (block_change block.now (item_with_anchor block.now.anchor kept.now.blocks))) }
 {
     match kept.block(block.anchor) {
         None => print_change(block_new(block.anchor).as_slice(), writer),
@@ -112,7 +112,8 @@ fn print_slides<W: Sink>(
     requires { length blocks.now ≤ ANCHORS }
     ensures { Puts (W.output writer.old) (W.output writer.new) result
         (flat_map change_item
-        (slide_change (flat_map (λ (b : BlockItem). slide_of b (item_of b.anchor kept.now.blocks)) blocks.now))) }
+        (slide_change (flat_map (λ (b : BlockItem). slide_of b
+        (item_with_anchor b.anchor kept.now.blocks)) blocks.now))) }
 {
     match find_slid(kept, blocks) {
         Some(slid) => {

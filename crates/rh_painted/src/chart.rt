@@ -4,7 +4,7 @@ ghost use Rattle.std.specs.Prelude.{◌≡◌, ◌≤◌, ◌+◌, ◌++◌, len
 ghost use Rattle.std.specs.List.{flat_map};
 ghost use Rattle.rh_lines.specs.Flow.{Puts};
 ghost use Rattle.rh_lines.specs.declared.row.TheConstants.{ROW};
-ghost use Rattle.rh_painted.specs.Charts.{AreNear, IsSmall, IsWhole, beat_in, body_in, ends_of, life_in, path_in, words_in};
+ghost use Rattle.rh_painted.specs.Charts.{AreNear, IsSmallChart, IsWholeChart, beat_in, body_of_chart, ends_of, life_in, path_in, words_in};
 ghost use Rattle.rh_painted.specs.Ways.{arrow_of, arrows_seen};
 ghost use Rattle.rh_painted.specs.declared.numbers.TheConstants.{MOST_IN_SET};
 ghost use Rattle.rh_sheet.specs.Chart.{arrow_sentence, chart_figure, chart_foot as foot_of, chart_of, is_now as is_now_of, step_y as step_y_of, stop_sentence, task_gap as gap_of, task_x as task_x_of};
@@ -67,8 +67,8 @@ fn print_whole<S: Sight, W: Sink>(
     chart: &Chart<'_>,
     writer: &mut W,
 ) -> Result<(), WriteFailed>
-    requires small { IsSmall chart.now }
-    requires whole { IsWhole chart.now }
+    requires small { IsSmallChart chart.now }
+    requires whole { IsWholeChart chart.now }
     ensures { Puts (W.output writer.old) (W.output writer.new) result
         (chart_of (S.desk sight.now) (arrows_seen chart.now.ways.now) chart.now.step) }
 {
@@ -136,9 +136,9 @@ fn print_chart_body<S: Sight, W: Sink>(
     chart: &Chart<'_>,
     writer: &mut W,
 ) -> Result<(), WriteFailed>
-    requires { IsSmall chart.now }
+    requires { IsSmallChart chart.now }
     ensures { Puts (W.output writer.old) (W.output writer.new) result
-        (body_in (S.desk sight.now) chart.now) }
+        (body_of_chart (S.desk sight.now) chart.now) }
 {
     print_lives(sight, chart, writer)?;
     print_beats(chart, writer)?;
@@ -152,7 +152,7 @@ fn print_lives<S: Sight, W: Sink>(
     chart: &Chart<'_>,
     writer: &mut W,
 ) -> Result<(), WriteFailed>
-    requires { IsSmall chart.now }
+    requires { IsSmallChart chart.now }
     ensures { Puts (W.output writer.old) (W.output writer.new) result
         (flat_map (life_in (S.desk sight.now) chart.now) chart.now.tasks.now) }
 {
@@ -169,7 +169,7 @@ fn print_task<S: Sight, W: Sink>(
     task: u32,
     writer: &mut W,
 ) -> Result<(), WriteFailed>
-    requires { IsSmall chart.now }
+    requires { IsSmallChart chart.now }
     ensures { Puts (W.output writer.old) (W.output writer.new) result
         (life_in (S.desk sight.now) chart.now task) }
 {
@@ -183,7 +183,7 @@ fn print_task<S: Sight, W: Sink>(
 
 /// Writes the numbers of the steps.
 fn print_beats<W: Sink>(chart: &Chart<'_>, writer: &mut W) -> Result<(), WriteFailed>
-    requires { IsSmall chart.now }
+    requires { IsSmallChart chart.now }
     ensures { Puts (W.output writer.old) (W.output writer.new) result
         (flat_map (beat_in chart.now) chart.now.steps.now) }
 {
@@ -195,7 +195,7 @@ fn print_beats<W: Sink>(chart: &Chart<'_>, writer: &mut W) -> Result<(), WriteFa
 
 /// Writes the arrows without their words.
 fn print_arrows<W: Sink>(chart: &Chart<'_>, writer: &mut W) -> Result<(), WriteFailed>
-    requires { IsSmall chart.now }
+    requires { IsSmallChart chart.now }
     ensures { Puts (W.output writer.old) (W.output writer.new) result
         (flat_map (path_in chart.now) (arrows_seen chart.now.ways.now)) }
 {
@@ -207,7 +207,7 @@ fn print_arrows<W: Sink>(chart: &Chart<'_>, writer: &mut W) -> Result<(), WriteF
 
 /// Writes an arrow without its words.
 fn print_arrow<W: Sink>(chart: &Chart<'_>, way: &Way, writer: &mut W) -> Result<(), WriteFailed>
-    requires { IsSmall chart.now }
+    requires { IsSmallChart chart.now }
     ensures { Puts (W.output writer.old) (W.output writer.new) result
         (path_in chart.now (arrow_of way.now)) }
 {
@@ -216,7 +216,7 @@ fn print_arrow<W: Sink>(chart: &Chart<'_>, way: &Way, writer: &mut W) -> Result<
 
 /// Writes the words of all arrows.
 fn print_all_words<W: Sink>(chart: &Chart<'_>, writer: &mut W) -> Result<(), WriteFailed>
-    requires { IsSmall chart.now }
+    requires { IsSmallChart chart.now }
     ensures { Puts (W.output writer.old) (W.output writer.new) result
         (flat_map (words_in chart.now) (arrows_seen chart.now.ways.now)) }
 {
@@ -228,7 +228,7 @@ fn print_all_words<W: Sink>(chart: &Chart<'_>, writer: &mut W) -> Result<(), Wri
 
 /// Writes the words of an arrow.
 fn print_words_of<W: Sink>(chart: &Chart<'_>, way: &Way, writer: &mut W) -> Result<(), WriteFailed>
-    requires { IsSmall chart.now }
+    requires { IsSmallChart chart.now }
     ensures { Puts (W.output writer.old) (W.output writer.new) result
         (words_in chart.now (arrow_of way.now)) }
 {
@@ -245,7 +245,7 @@ fn print_words_of<W: Sink>(chart: &Chart<'_>, way: &Way, writer: &mut W) -> Resu
 impl<'a> Chart<'a> {
     /// From one task's line to the next.
     fn gap(&self) -> u32
-        requires { IsSmall self.now }
+        requires { IsSmallChart self.now }
         ensures value { result ≡ gap_of (length self.now.tasks.now) }
         ensures few { result ≤ 180 }
     {
@@ -255,7 +255,7 @@ impl<'a> Chart<'a> {
 
     /// Where the line of a task stands, from the left.
     fn task_x(&self, task: u32) -> u32
-        requires { IsSmall self.now }
+        requires { IsSmallChart self.now }
         ensures value { result ≡ task_x_of self.now.tasks.now task }
         ensures few { result ≤ 10_000 }
     {
@@ -264,7 +264,7 @@ impl<'a> Chart<'a> {
 
     /// The height at which arrows of a step end.
     fn step_y(&self, step: u32) -> u32
-        requires { IsSmall self.now }
+        requires { IsSmallChart self.now }
         ensures value { result ≡ step_y_of self.now.steps.now step }
         ensures few { result ≤ 10_000 }
     {
@@ -273,7 +273,7 @@ impl<'a> Chart<'a> {
 
     /// Where the lines of the tasks end.
     fn foot(&self) -> u32
-        requires { IsSmall self.now }
+        requires { IsSmallChart self.now }
         ensures value { result ≡ foot_of self.now.steps.now }
         ensures few { result ≤ 10_000 }
     {
@@ -282,7 +282,7 @@ impl<'a> Chart<'a> {
 
     /// Where an arrow begins and ends.
     fn ends(&self, way: &Way) -> Ends
-        requires { IsSmall self.now }
+        requires { IsSmallChart self.now }
         ensures value { result ≡ ends_of self.now way.now }
         ensures near { AreNear result }
     {

@@ -13,7 +13,7 @@ ghost use Rattle.rh_figure.specs.Scene.{live};
 ghost use Rattle.rh_figure.specs.declared.limits.TheConstants.{MOST_CARDS};
 ghost use Rattle.rh_lines.specs.Flow.{Puts};
 ghost use Rattle.rh_painted.specs.Bands.{IsFit, band_text, band_text_from, form_text};
-ghost use Rattle.rh_sight.specs.Seen.{HasBlock, IsFree, heap_seen, heap_start_of};
+ghost use Rattle.rh_sight.specs.Seen.{SeesBlock, SeesFree, heap_seen, heap_start_of};
 ghost use Rattle.rh_sight.specs.Steps.{IsStepOf, scene_at};
 
 use crate::bands::{Form, put_card, put_others};
@@ -196,13 +196,13 @@ fn put_used<S: Sight, W: Sink>(
 ) -> Result<(), WriteFailed>
     requires start { heap_start_of band.now.heap + 4 ≤ address }
     requires block { (bytes : List ℕ)
-        × HasBlock (heap_seen band.now.heap (S.desk sight.now)) (address - heap_start_of band.now.heap - 4) bytes
+        × SeesBlock (heap_seen band.now.heap (S.desk sight.now)) (address - heap_start_of band.now.heap - 4) bytes
         × (length bytes ≡ size) }
-    requires free { IsFree band.now.heap (address - heap_start_of band.now.heap - 4) (S.desk sight.now) }
+    requires free { SeesFree band.now.heap (address - heap_start_of band.now.heap - 4) (S.desk sight.now) }
     requires few { at < MOST_CARDS }
     requires height { IsFit form }
     ensures { (d : Desk) (bytes : List ℕ) → IsStepOf d step.now →
-        HasBlock (heap_seen band.now.heap (S.desk sight.now)) (address - heap_start_of band.now.heap - 4) bytes →
+        SeesBlock (heap_seen band.now.heap (S.desk sight.now)) (address - heap_start_of band.now.heap - 4) bytes →
         length bytes ≡ size →
         Puts (W.output writer.old) (W.output writer.new) result
         (form_text form (

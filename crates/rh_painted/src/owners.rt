@@ -7,7 +7,7 @@ ghost use Rattle.rh_lines.specs.declared.row.TheConstants.{ROW};
 ghost use Rattle.rh_painted.specs.Owners.{IsOwnerSeen, name_seen, tag_seen, tint_seen, who_seen};
 ghost use Rattle.rh_sheet.specs.Owners.{area_tag as tag_of_area, slot_tag as tag_of_slot};
 ghost use Rattle.rh_sheet.specs.declared.sizes.TheConstants.{TAG_LETTERS};
-ghost use Rattle.rh_sight.specs.Owners.{owner_of};
+ghost use Rattle.rh_sight.specs.Owners.{shared_owner};
 
 use rh_defs::sizes::FIXED_AREAS;
 use rh_defs::{Handle, Name};
@@ -103,7 +103,7 @@ fn slot_owner<S: Sight>(sight: &S, i: usize) -> Option<OwnerSight<'_>>
 impl<'a> Named<'a> {
     /// The same owner, as what is kept of a desk has it.
     pub fn owner(&self) -> Owner
-        ensures { owner_of result ≡ who_seen self.now }
+        ensures { shared_owner result ≡ who_seen self.now }
     {
         match self {
             Named::Area(number) => Owner::Area(*number),

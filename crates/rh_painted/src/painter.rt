@@ -12,7 +12,7 @@ ghost use Rattle.rh_map.specs.Replies.{front_of};
 ghost use Rattle.rh_figure.specs.Scene.{Before, Marks, is_still as is_still_of, scene_of};
 ghost use Rattle.rh_figure.specs.Share.{Share};
 ghost use Rattle.rh_lines.specs.Flow.{Output, Puts};
-ghost use Rattle.rh_painted.specs.Walks.{Broke, IsFirst, LeftStep, Painted, TookStep, WroteStep, happened_at, walk_in};
+ghost use Rattle.rh_painted.specs.Walks.{BrokePainting, IsFirstPainted, LeftStep, PaintedLine, TookStep, WroteStep, happened_at, walk_in};
 ghost use Rattle.rh_session.specs.Outcome.{status_of};
 ghost use Rattle.rh_sheet.specs.Chart.{noted};
 ghost use Rattle.rh_sheet.specs.Sheet.{is_shown, opening, sheet_end, sheet_head};
@@ -55,7 +55,7 @@ pub struct Painter<D> {
 impl<D: Drawn> Painter<D> {
     /// A sheet that has taken no line.
     pub fn new(drawn: D, marked: bool) -> Painter<D>
-        ensures { IsFirst result drawn marked }
+        ensures { IsFirstPainted result drawn marked }
     {
         Painter {
             drawn,
@@ -82,9 +82,9 @@ impl<D: Drawn> Painter<D> {
 
     /// Shows a line that asks for nothing, and notes whether it marks the next command.
     fn skip<W: Sink>(&mut self, line: &[u8], writer: &mut W) -> Result<(), WriteFailed>
-        ensures ok { OnOk result (Painted D.desk self.old (W.output writer.old) line.now (Ok None) self.new
+        ensures ok { OnOk result (PaintedLine D.desk self.old (W.output writer.old) line.now (Ok None) self.new
             (W.output writer.new)) }
-        ensures err { OnErr result (Broke D.desk self.old (W.output writer.old) line.now (Ok None)
+        ensures err { OnErr result (BrokePainting D.desk self.old (W.output writer.old) line.now (Ok None)
             (W.output writer.new)) }
         ensures steps { self.new.progress.steps ≡ self.old.progress.steps }
     {
@@ -125,9 +125,9 @@ impl<D: Drawn> Painter<D> {
     ) -> Result<(), WriteFailed>
         requires in_range { IsTrue (in_range command.now) }
         requires room { self.old.progress.steps + 1 < 2 ^ 32 }
-        ensures ok { OnOk result (Painted D.desk self.old (W.output writer.old) line.now (Ok
+        ensures ok { OnOk result (PaintedLine D.desk self.old (W.output writer.old) line.now (Ok
             (Some command.now)) self.new (W.output writer.new)) }
-        ensures err { OnErr result (Broke D.desk self.old (W.output writer.old) line.now (Ok (Some command.now))
+        ensures err { OnErr result (BrokePainting D.desk self.old (W.output writer.old) line.now (Ok (Some command.now))
             (W.output writer.new)) }
         ensures steps { self.new.progress.steps ≡ self.old.progress.steps + 1 }
     {
@@ -153,7 +153,7 @@ impl<D: Drawn> Painter<D> {
         requires in_range { IsTrue (in_range command.now) }
         requires room { self.old.progress.steps + 1 < 2 ^ 32 }
         requires hidden { is_shown self.old.marked (walk_in D.desk self.old) self.old.progress.wanted ≡ false }
-        ensures left { (o : Output) (line : List ℕ) → Painted D.desk self.old o line (Ok (Some command.now)) self.new o }
+        ensures left { (o : Output) (line : List ℕ) → PaintedLine D.desk self.old o line (Ok (Some command.now)) self.new o }
         ensures steps { self.new.progress.steps ≡ self.old.progress.steps + 1 }
     {
         let sender = Sender::new(&self.drawn, Some(command));
@@ -193,9 +193,9 @@ impl<D: Drawn> Painter<D> {
         writer: &mut W,
     ) -> Result<(), WriteFailed>
         requires room { self.old.progress.steps + 1 < 2 ^ 32 }
-        ensures ok { OnOk result (Painted D.desk self.old (W.output writer.old) line.now (Err fault.now) self.new
+        ensures ok { OnOk result (PaintedLine D.desk self.old (W.output writer.old) line.now (Err fault.now) self.new
             (W.output writer.new)) }
-        ensures err { OnErr result (Broke D.desk self.old (W.output writer.old) line.now (Err fault.now)
+        ensures err { OnErr result (BrokePainting D.desk self.old (W.output writer.old) line.now (Err fault.now)
             (W.output writer.new)) }
         ensures steps { self.new.progress.steps ≡ self.old.progress.steps + 1 }
     {
@@ -339,15 +339,15 @@ impl<D: Drawn> Painter<D> {
 
 impl<D: Drawn> LineTaker for Painter<D> {
     ghost use Rattle.std.specs.Prelude.{◌-◌, ◌^◌};
-    ghost use Rattle.rh_painted.specs.Walks.{BrokeLine, BrokeRest, TookLine, TookRest};
+    ghost use Rattle.rh_painted.specs.Walks.{BrokePaintedLine, BrokePaintedRest, TookPaintedLine, TookPaintedRest};
 
-    ghost took = { TookLine D.desk };
+    ghost took = { TookPaintedLine D.desk };
 
-    ghost broke = { BrokeLine D.desk };
+    ghost broke = { BrokePaintedLine D.desk };
 
-    ghost took_rest = { TookRest D.desk };
+    ghost took_rest = { TookPaintedRest D.desk };
 
-    ghost broke_rest = { BrokeRest D.desk };
+    ghost broke_rest = { BrokePaintedRest D.desk };
 
     ghost room = { λ m. 2 ^ 32 - 1 - m.progress.steps };
 

@@ -23,10 +23,10 @@ pub struct Progress {
 
 impl Model for Progress {
     ghost use Rattle.std.specs.Prelude.{◌≤◌, ◌+◌, if◌then◌else◌};
-    ghost use Rattle.rh_painted.specs.Progress.{Stand};
+    ghost use Rattle.rh_painted.specs.Progress.{PaintStand};
     ghost use Rattle.rh_sheet.specs.declared.sizes.TheConstants.{MOST_STEPS};
 
-    ghost Value = { Stand };
+    ghost Value = { PaintStand };
 
     ghost view = { λ s. record { steps = s.steps; wanted = s.wanted; shown = s.shown; last = s.last; left = s.left; opened = s.opened } };
 

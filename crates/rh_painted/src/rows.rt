@@ -6,7 +6,7 @@ ghost use Rattle.rh_figure.specs.Share.{count_of};
 ghost use Rattle.rh_lines.specs.Flow.{Puts};
 ghost use Rattle.rh_sheet.specs.Areas.{pages_sentence};
 ghost use Rattle.rh_sheet.specs.Markup.{escape};
-ghost use Rattle.rh_sight.specs.Owners.{owner_of};
+ghost use Rattle.rh_sight.specs.Owners.{shared_owner};
 
 use rh_defs::sizes::MAX_PAGES;
 use rh_draw::put_escaped;
@@ -16,7 +16,8 @@ use rh_sight::{Owner, Step};
 
 /// An owner has a row for each of its pages, and for each that it has given back, of which no pool has more.
 pub fn rows_for(step: &Step<'_>, owner: Owner, pages: &[u16]) -> usize
-    ensures { result ≡ min MAX_PAGES (max (length pages.now) (count_of (owner_of owner) step.now.kept.now.holdings)) }
+    ensures { result ≡ min MAX_PAGES (max (length pages.now) (count_of
+        (shared_owner owner) step.now.kept.now.holdings)) }
 {
     let most = pages.len().max(step.kept.count(owner) as usize);
     most.min(MAX_PAGES)

@@ -1,7 +1,7 @@
 //! The arrows of a chart: of each message, and of its way back.
 
 ghost use Rattle.std.specs.Prelude.{◌≡◌, ◌≤◌, ◌<◌, ◌+◌, ◌∷◌, [], length};
-ghost use Rattle.rh_painted.specs.Ways.{arrow_of, arrows_seen, with_step, words_of};
+ghost use Rattle.rh_painted.specs.Ways.{arrow_of, arrows_seen, with_step, way_words};
 ghost use Rattle.rh_painted.specs.declared.numbers.TheConstants.{MOST_IN_SET};
 ghost use Rattle.rh_painted.specs.declared.ways.TheConstants.{MOST_WAYS};
 ghost use Rattle.rh_sheet.specs.Chart.{arrows, steps_in as steps_of, tasks_in as tasks_of, way_back as arrow_back, way_out as arrow_out};
@@ -97,7 +97,7 @@ fn way_back(note: &Note) -> Way
 impl Way {
     /// The words of an arrow: the message's ref and action, and whether it comes back.
     pub fn words(&self) -> Row
-        ensures value { result ≡ words_of self.now }
+        ensures value { result ≡ way_words self.now }
         ensures few { length result ≤ 28 }
     {
         let mut row = Row::new();

@@ -7,15 +7,15 @@ use Rattle.rh_defs.specs.declared.transfer.Outgoing.{Outgoing}
 use Rattle.rh_defs.specs.declared.transfer.Incoming.{Incoming}
 use Rattle.rh_defs.specs.Chain.{◌>>=◌, refuse_if, found_or}
 use Rattle.rh_defs.specs.Records.{in_id, is_open, is_full, with_id, open_of, is_meant}
-use Rattle.rh_defs.specs.Sender.{offer, offered, failed, cancel as cancel_out}
-use Rattle.rh_defs.specs.Receiver.{is_wanted, cancelled, cancel as cancel_in}
+use Rattle.rh_defs.specs.Sender.{offer, sending_offered, sending_failed, cancel_sending as cancel_out}
+use Rattle.rh_defs.specs.Receiver.{is_wanted, cancelled, cancel_taking as cancel_in}
 
 pub offer-refused : (id recipient k : ℕ) (records : List Outgoing) → is_full is_open records ≡ true → offer id recipient k records ≡ Err Busy
 unfolding offer ◌>>=◌ refuse_if
 offer-refused id recipient k records full = rw full refl
 
 pub offer-granted : (id recipient k : ℕ) (records : List Outgoing) → is_full is_open records ≡ false
-    → offer id recipient k records ≡ Ok (offered id recipient k records)
+    → offer id recipient k records ≡ Ok (sending_offered id recipient k records)
 unfolding offer ◌>>=◌ refuse_if
 offer-granted id recipient k records few = rw few refl
 
@@ -25,7 +25,7 @@ unfolding cancel_out ◌>>=◌ found_or
 cancel_out-refused wanted records none = rw none refl
 
 pub cancel_out-granted : (wanted : Option ℕ) (records : List Outgoing) (x : Sending) → open_of (λ x. is_meant wanted x.id) records ≡ Some x
-    → cancel_out wanted records ≡ Ok (failed x records)
+    → cancel_out wanted records ≡ Ok (sending_failed x records)
 unfolding cancel_out ◌>>=◌ found_or
 cancel_out-granted wanted records x found = rw found refl
 

@@ -131,7 +131,7 @@ impl Receiver {
 
     /// The transfer failed with so many bytes taken.
     pub fn failed(&mut self, f: &Taking, count: u32)
-        ensures { self.new ≡ receiver.failed f.now count self.old }
+        ensures { self.new ≡ receiver.taking_failed f.now count self.old }
     {
         let new = Incoming::Failed {
             id: f.id,
@@ -143,7 +143,7 @@ impl Receiver {
 
     /// The record whose RAMFetch came back.
     pub fn on_bounce(&self, fetch: Ref) -> Option<Incoming>
-        ensures { result ≡ receiver.on_bounce fetch self.now }
+        ensures { result ≡ receiver.on_taking_bounce fetch self.now }
     {
         first_active(&self.records, |f| f.fetch == fetch)
     }
@@ -151,8 +151,8 @@ impl Receiver {
     /// Gives a transfer up that fetches or waits for a file: the one with the id, without one the first.
     /// NotOpen where there is none. One that fetches keeps its buffer until its fetch is answered or comes back.
     pub fn cancel(&mut self, wanted: Option<Ref>) -> Result<(), Refusal>
-        ensures answer { result ≡ outcome_of (receiver.cancel wanted self.old) }
-        ensures records { self.new ≡ result_or self.old (receiver.cancel wanted self.old) }
+        ensures answer { result ≡ outcome_of (receiver.cancel_taking wanted self.old) }
+        ensures records { self.new ≡ result_or self.old (receiver.cancel_taking wanted self.old) }
     {
         let Some(entry) = self.wanted(wanted) else {
             return Err(Refusal::NotOpen);
@@ -202,7 +202,7 @@ impl Receiver {
 
     /// The document has all bytes of the file, whose size this is.
     pub fn loaded(&mut self, q: &Asked, size: u32)
-        ensures { self.new ≡ receiver.loaded q.now size self.old }
+        ensures { self.new ≡ receiver.taking_loaded q.now size self.old }
     {
         let new = Incoming::Done {
             id: q.id,

@@ -77,7 +77,7 @@ impl Sender {
     /// The same, where it is known that fewer than eight are open.
     pub fn offered(&mut self, id: Ref, recipient: Handle, anchor: Anchor)
         requires { is_full_of is_open self.old ≡ false }
-        ensures { self.new ≡ sender.offered id recipient anchor self.old }
+        ensures { self.new ≡ sender.sending_offered id recipient anchor self.old }
     {
         make_room(&mut self.records);
         self.records.push(Outgoing::Open(Sending {
@@ -116,7 +116,7 @@ impl Sender {
 
     /// The transfer failed.
     pub fn failed(&mut self, x: &Sending)
-        ensures { self.new ≡ sender.failed x.now self.old }
+        ensures { self.new ≡ sender.sending_failed x.now self.old }
     {
         let new = Outgoing::Failed {
             id: x.id,
@@ -127,15 +127,15 @@ impl Sender {
 
     /// The transfer whose last message came back.
     pub fn on_bounce(&self, last: Ref) -> Option<Sending>
-        ensures { result ≡ sender.on_bounce last self.now }
+        ensures { result ≡ sender.on_sending_bounce last self.now }
     {
         first_open(&self.records, |x| x.last == last)
     }
 
     /// Gives an open transfer up: the one with the id, without one the first. NotOpen where there is none.
     pub fn cancel(&mut self, wanted: Option<Ref>) -> Result<(), Refusal>
-        ensures answer { result ≡ outcome_of (sender.cancel wanted self.old) }
-        ensures records { self.new ≡ result_or self.old (sender.cancel wanted self.old) }
+        ensures answer { result ≡ outcome_of (sender.cancel_sending wanted self.old) }
+        ensures records { self.new ≡ result_or self.old (sender.cancel_sending wanted self.old) }
     {
         let Some(x) = self.meant(wanted) else {
             return Err(Refusal::NotOpen);
@@ -182,7 +182,7 @@ impl Sender {
 
     /// All n bytes of the source were loaded.
     pub fn loaded(&mut self, x: &Sending, n: u32)
-        ensures { self.new ≡ sender.loaded x.now n self.old }
+        ensures { self.new ≡ sender.sending_loaded x.now n self.old }
     {
         rewrite(
             &mut self.records,

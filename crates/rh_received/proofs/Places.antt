@@ -12,7 +12,7 @@ use Rattle.rh_defs.proofs.SlotLaws as slots
 use Rattle.rh_safety.specs.Offered.{bytes_of_block}
 use Rattle.rh_safety.proofs.Basics.{none_some, same_value}
 use Rattle.rh_tasks.specs.Shown.{SpellSlots}
-use Rattle.rh_received.specs.Received.{AnchorLeadsTo, slot_bytes}
+use Rattle.rh_received.specs.Received.{AnchorLeadsTo, received_slot_bytes}
 
 -- the blocks of two lists weigh what both weigh
 weights : (xs ys : List Flex) → total weight (xs ++ ys) ≡ total weight xs + total weight ys
@@ -65,13 +65,13 @@ pub record SlotIn (found : Option (List ℕ)) (t : Task) : Type 0 where
   pub spells : SpellsSlot slot t.slot
 
 pub slot-of : (h : ℕ) (tasks : List Task) (slots : List (List ℕ)) (t : Task) → SpellSlots slots tasks →
-    find (λ (x : Task). x.handle == h) tasks ≡ Some t → SlotIn (slot_bytes h tasks slots) t
+    find (λ (x : Task). x.handle == h) tasks ≡ Some t → SlotIn (received_slot_bytes h tasks slots) t
 slot-of h [] slots t w e = absurd (none_some None refl e)
 slot-of h (x ∷ tasks) [] t w e = absurd w
 slot-of h (x ∷ tasks) (b ∷ slots) t w e = go (x.handle == h) (slot-of h tasks slots t w.1) e
   where
-    go : (c : Bool) → (find (λ (y : Task). y.handle == h) tasks ≡ Some t → SlotIn (slot_bytes h tasks slots) t) →
+    go : (c : Bool) → (find (λ (y : Task). y.handle == h) tasks ≡ Some t → SlotIn (received_slot_bytes h tasks slots) t) →
         (if c then Some x else find (λ (y : Task). y.handle == h) tasks) ≡ Some t →
-        SlotIn (if c then Some b else slot_bytes h tasks slots) t
+        SlotIn (if c then Some b else received_slot_bytes h tasks slots) t
     go true rest q = record { slot = b; is = refl; spells = subst (λ (y : Task). SpellsSlot b y.slot) (same_value (Some x) refl q) w.0 }
     go false rest q = rest q

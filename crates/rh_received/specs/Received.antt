@@ -21,9 +21,9 @@ use Rattle.rh_tasks.specs.Shown.{Shown}
 -- ---- in a slot's bytes
 
 -- the bytes of the slot of the task with the handle, where each task's stand at its place in the list
-abbrev pub slot_bytes : ℕ → List Task → List (List ℕ) → Option (List ℕ)
-slot_bytes h (t ∷ tasks) (b ∷ slots) = if t.handle == h then Some b else slot_bytes h tasks slots
-slot_bytes h _ _ = None
+abbrev pub received_slot_bytes : ℕ → List Task → List (List ℕ) → Option (List ℕ)
+received_slot_bytes h (t ∷ tasks) (b ∷ slots) = if t.handle == h then Some b else received_slot_bytes h tasks slots
+received_slot_bytes h _ _ = None
 
 -- In a slot's bytes the anchor's word has the address behind two header words, which have the address of the anchor's
 -- word and the number of the bytes; the bytes themselves stand at that address, whole within the slot.
@@ -59,7 +59,7 @@ pub record HasReceived (d : Desk) (commands : List Command) (s : Shown) (id h : 
   pub taking : Incoming
   pub recorded : find (λ w. in_id w == id) task.taking ≡ Some taking
   pub slot : List ℕ
-  pub in_store : slot_bytes h s.desk.tasks s.slots ≡ Some slot
+  pub in_store : received_slot_bytes h s.desk.tasks s.slots ≡ Some slot
   pub document : AnchorLeadsTo slot (in_anchor taking) got
   pub counted : length got ≡ counted_in taking
   pub file : List ℕ

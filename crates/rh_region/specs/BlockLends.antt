@@ -9,5 +9,5 @@ use Rattle.rh_region.specs.contracts.raw.Block.{the_row}
 abbrev pub patched_block : Block → ℕ → ℕ → List ℕ → Block
 patched_block b from n ws = record b { bytes = patched b.bytes from n ws }
 
-abbrev pub lends_run : MutBor Block → ℕ → ℕ → MutBor (List ℕ) → Fml
-lends_run b from n r = Lends the_row (Array u8 0) b r (patched_block b.now from n)
+abbrev pub block_lends_run : MutBor Block → ℕ → ℕ → MutBor (List ℕ) → Fml
+block_lends_run b from n r = Lends the_row (Array u8 0) b r (patched_block b.now from n)

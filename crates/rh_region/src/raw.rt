@@ -66,7 +66,7 @@ pub(crate) fn free(alloc: &Global, block: Block)
 }
 
 impl Block {
-    ghost use Rattle.rh_region.specs.BlockLends.{lends_run};
+    ghost use Rattle.rh_region.specs.BlockLends.{block_lends_run};
 
     /// All its bytes.
     pub(crate) fn as_slice(&self) -> &[u8]
@@ -79,7 +79,7 @@ impl Block {
     /// The `n` bytes from the index `at` on, to be written.
     pub(crate) fn run_mut(&mut self, at: usize, n: usize) -> &mut [u8]
         requires { at + n ≤ length self.old.bytes }
-        ensures* writes_back { sem 𝓛 (lends_run self.entry at n result) }
+        ensures* writes_back { sem 𝓛 (block_lends_run self.entry at n result) }
         ensures value { result.now ≡ take n (drop at self.old.bytes) }
     {
         unsafe { slice::from_raw_parts_mut(self.start.add(at), n) }

@@ -6,7 +6,7 @@ use Rattle.rh_defs.specs.Forms.{most_pages}
 use Rattle.rh_defs.specs.Desk.{Desk, Made, Task, free_pages}
 use Rattle.rh_defs.specs.Laws.{IsDesk}
 use Rattle.rh_defs.specs.Memory.{IsOpen, Memory, bytes}
-use Rattle.rh_defs.specs.Pieces.{page}
+use Rattle.rh_defs.specs.Pieces.{page_size}
 use Rattle.rh_figure.specs.Share.{Holding, IsShared, fixed_holding, holdings}
 use Rattle.rh_sight.specs.Owners.{made_holding, slot_holding}
 use Rattle.rh_sight.specs.Pages.{share_in}
@@ -19,16 +19,16 @@ use Rattle.rh_run.proofs.ShareLaws.{Match, all_of, length-numbers, shared}
 
 -- ---- lengths in bytes
 abbrev size : Holding → ℕ
-size h = page * h.1
+size h = page_size * h.1
 
 fixed-sizes : (d : Desk) (n : ℕ) (areas : List ℕ)
     → map (length_of_area d) (enumerate_from n areas) ≡ map size (map (fixed_holding d) (enumerate_from n areas))
 fixed-sizes d n [] = refl
 fixed-sizes d n (a ∷ areas) = ap (λ l. length_of_area d (n, a) ∷ l) (fixed-sizes d (n + 1) areas)
 
-made-sizes : (made : List Made) → map (λ (m : Made). page * m.pages) made ≡ map size (map made_holding made)
+made-sizes : (made : List Made) → map (λ (m : Made). page_size * m.pages) made ≡ map size (map made_holding made)
 made-sizes [] = refl
-made-sizes (m ∷ made) = ap (λ l. page * m.pages ∷ l) (made-sizes made)
+made-sizes (m ∷ made) = ap (λ l. page_size * m.pages ∷ l) (made-sizes made)
 
 slot-sizes : (bs : List (List ℕ)) (tasks : List Task) → SpellSlots bs tasks → map length bs ≡ map size (map slot_holding tasks)
 slot-sizes [] [] s = refl
@@ -46,13 +46,13 @@ all-sizes s k =
     ∙ sym (map-append size (fixed ++ made) slots ∙ ap (λ l. l ++ map size slots) (map-append size fixed made)
     ∙ append_assoc (map size fixed) (map size made) (map size slots))
 
-matched : (m : Memory) (pages : ℕ → List ℕ) (ids : List ℕ) (xs : List Holding) → ((id : ℕ) → page * length (pages id) ≡ length (bytes m id))
+matched : (m : Memory) (pages : ℕ → List ℕ) (ids : List ℕ) (xs : List Holding) → ((id : ℕ) → page_size * length (pages id) ≡ length (bytes m id))
     → map (λ id. length (bytes m id)) ids ≡ map size xs → Match pages ids xs
 matched m pages [] [] long e = tt
 matched m pages [] (x ∷ xs) long e = absurd (cc)
 matched m pages (id ∷ ids) [] long e = absurd (cc)
 matched m pages (id ∷ ids) (x ∷ xs) long e =
-    let here : length (bytes m id) ≡ page * x.1 = cc in
+    let here : length (bytes m id) ≡ page_size * x.1 = cc in
     let rest : map (λ id. length (bytes m id)) ids ≡ map size xs = cc in
     (omega (arith, long id), matched m pages ids xs long rest)
 
@@ -119,7 +119,7 @@ module _ (m : Memory) (lists : List (List ℕ)) (free : List ℕ) (shares : Shar
     area-opened l = subst (IsOpen m) (numbers-at areas i)
         (all-at (IsOpen m) ids i 0 (omega (arith, length-map areas (λ (a : AreaId). a.0))) w.opened)
 
-    pub area-fits : i < length areas → page * length items + length (bytes m (area i)) ≤ page * most_pages
+    pub area-fits : i < length areas → page_size * length items + length (bytes m (area i)) ≤ page_size * most_pages
     area-fits l =
         let pool = is.pool in
         let inside : i < length ids = omega (arith, length-map areas (λ (a : AreaId). a.0)) in

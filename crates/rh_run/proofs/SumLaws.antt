@@ -6,7 +6,7 @@ use Rattle.rh_defs.specs.Heap.{Segment, Used, Hole, Heap, IsHeap, IsTidy, size_o
 use Rattle.rh_defs.specs.HeapImage.{IsImage, heap_of}
 use Rattle.rh_heap.specs.declared.image.Summary.{Summary}
 use Rattle.rh_heap.specs.Image.{used_count, used_size, hole_count, summary_of}
-use Rattle.rh_run.specs.Checked.{AreWords}
+use Rattle.rh_run.specs.Checked.{HasWordSums}
 
 used_counted : (ss : List Segment) → total used_count ss ≤ total size_of ss
 used_counted [] = omega arith
@@ -31,7 +31,7 @@ holes_counted true (Used bytes ∷ ss) tidy = let r = holes_counted false ss tid
 holes_counted false (Hole size ∷ ss) tidy = let r = holes_counted true ss tidy.2 in let some = tidy.0 in omega arith
 holes_counted true (Hole size ∷ ss) tidy = absurd tidy
 
-sums_below : (h : Heap) → IsHeap h → h.end < 2 ^ 32 → AreWords (summary_of h)
+sums_below : (h : Heap) → IsHeap h → h.end < 2 ^ 32 → HasWordSums (summary_of h)
 sums_below h heap below =
     let fits = heap.fits in
     record {
@@ -44,7 +44,7 @@ sums_below h heap below =
 
 -- the sums of an image whose length is a word are words
 pub sums_are_words : (image : List ℕ) (sums : Summary) → sums ≡ summary_of (heap_of image 0) → IsImage image (heap_of image 0) → word image 12 < 2 ^ 32
-    → AreWords sums
+    → HasWordSums sums
 sums_are_words image sums e i below =
     let last = i.spells.last in
-    subst AreWords (sym e) (sums_below (heap_of image 0) i.spells.heap (omega arith))
+    subst HasWordSums (sym e) (sums_below (heap_of image 0) i.spells.heap (omega arith))

@@ -24,7 +24,7 @@ use Rattle.rh_defs.proofs.Cuts.{total-append}
 use Rattle.rh_defs.proofs.HeapLists.{first_at-found}
 use Rattle.rh_sight.specs.declared.sight.HeapOf.{HeapOf}
 use Rattle.rh_sight.specs.declared.sight.HeapOf.TheVariants as heap_of
-use Rattle.rh_sight.specs.Seen.{HasBlock, HasFlex, IsBlockAt, heap_seen}
+use Rattle.rh_sight.specs.Seen.{SeesBlock, HasFlex, IsBlockAt, heap_seen}
 use Rattle.rh_sight.proofs.Heaps as heaps
 use Rattle.rh_tasks.specs.declared.sights.TaskSight.{TaskSight}
 use Rattle.rh_tasks.specs.Lists.{items_at, segment_items_at}
@@ -163,14 +163,14 @@ pub module-seen : {d : Desk} → IsDesk d → heaps.IsSeen d.post.heap
 module-seen {d} is = heaps.seen is heap_of.Module d.post.heap refl
 
 pub in-heap : (d : Desk) (heap : HeapOf) (i : ℕ) (t : Task) (place : ℕ) (bytes : List ℕ) → heap ≡ heap_of.Task i → slice_get d.tasks i ≡ Some t
-    → HasBlock (heap_seen heap d) place bytes
+    → SeesBlock (heap_seen heap d) place bytes
     → IsBlockAt t.slot.heap place bytes
 in-heap d heap i t place bytes of e has =
-    subst (λ (o : Option Heap). HasBlock o place bytes) (ap (λ (h : HeapOf). heap_seen h d) of ∙ ap (option_map (λ (x : Task). x.slot.heap)) e) has
+    subst (λ (o : Option Heap). SeesBlock o place bytes) (ap (λ (h : HeapOf). heap_seen h d) of ∙ ap (option_map (λ (x : Task). x.slot.heap)) e) has
 
-pub in-module : (d : Desk) (heap : HeapOf) (place : ℕ) (bytes : List ℕ) → heap ≡ heap_of.Module → HasBlock (heap_seen heap d) place bytes
+pub in-module : (d : Desk) (heap : HeapOf) (place : ℕ) (bytes : List ℕ) → heap ≡ heap_of.Module → SeesBlock (heap_seen heap d) place bytes
     → IsBlockAt d.post.heap place bytes
-in-module d heap place bytes of has = subst (λ (o : Option Heap). HasBlock o place bytes) (ap (λ (h : HeapOf). heap_seen h d) of) has
+in-module d heap place bytes of has = subst (λ (o : Option Heap). SeesBlock o place bytes) (ap (λ (h : HeapOf). heap_seen h d) of) has
 
 -- a place has one block
 pub block-same : (h : Heap) (place : ℕ) (xs ys : List ℕ) → heaps.IsSeen h → IsBlockAt h place xs → IsBlockAt h place ys → xs ≡ ys

@@ -25,7 +25,7 @@ abbrev pub sums_line : Summary → List ℕ
 sums_line s = ok (decimal s.used ∷ decimal s.used_bytes ∷ decimal s.holes ∷ decimal s.hole_bytes ∷ decimal s.top ∷ [])
 
 -- each of a heap's sums is less than 2^32
-pub record AreWords (s : Summary) : Type 0 where
+pub record HasWordSums (s : Summary) : Type 0 where
   pub used : s.used < 2 ^ 32
   pub used_bytes : s.used_bytes < 2 ^ 32
   pub holes : s.holes < 2 ^ 32

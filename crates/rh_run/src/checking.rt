@@ -7,7 +7,7 @@ ghost use Rattle.rh_defs.specs.Text.{line};
 ghost use Rattle.rh_defs.specs.declared.sizes.TheConstants.{HEAP_END, HEAP_FIRST};
 ghost use Rattle.rh_lines.specs.Flow.{Breaks, Takes};
 ghost use Rattle.rh_lines.specs.declared.row.TheConstants.{ROW};
-ghost use Rattle.rh_run.specs.Checked.{AreWords, image_line, image_status, fault_name, sums_line};
+ghost use Rattle.rh_run.specs.Checked.{HasWordSums, image_line, image_status, fault_name, sums_line};
 
 use rh_defs::HeapFault;
 use rh_heap::{Summary, check};
@@ -44,7 +44,7 @@ fn has_small_end(image: &[u8])
 
 /// The line of a heap's sums.
 fn sums_row(sums: &Summary) -> Row
-    requires { AreWords sums.now }
+    requires { HasWordSums sums.now }
     ensures { result ≡ sums_line sums.now }
 {
     let mut row = Row::new();

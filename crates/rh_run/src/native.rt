@@ -3,7 +3,7 @@
 ghost use Rattle.std.specs.Prelude.{◌≡◌, ◌≤◌, IfOk};
 ghost use Rattle.rh_defs.specs.Memory.{fresh};
 ghost use Rattle.rh_defs.specs.declared.sizes.TheConstants.{MAX_PAGES, MIN_PAGES};
-ghost use Rattle.rh_pages.specs.Paged.{memory_of};
+ghost use Rattle.rh_pages.specs.Paged.{paged_memory};
 
 use rh_mapped::Mapped;
 use rh_pages::PagedStore;
@@ -16,7 +16,7 @@ pub type PageStore = Mapped<PagedStore>;
 pub fn page_store(alloc: Global, pages: u32) -> Result<PageStore, AllocError>
     requires least { MIN_PAGES ≤ pages }
     requires most { pages ≤ MAX_PAGES }
-    ensures { IfOk result (λ store. memory_of store ≡ fresh pages) }
+    ensures { IfOk result (λ store. paged_memory store ≡ fresh pages) }
 {
     let store = PagedStore::new(alloc, pages as usize)?;
     Mapped::new(alloc, store)

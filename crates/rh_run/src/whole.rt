@@ -7,7 +7,7 @@ ghost use Rattle.rh_defs.specs.Script.{script_text};
 ghost use Rattle.rh_defs.specs.declared.sizes.TheConstants.{MAX_PAGES, MIN_PAGES};
 ghost use Rattle.rh_drawn.specs.Mapped.{Mapped, MappedUntil};
 ghost use Rattle.rh_feed.specs.declared.feeding.TheConstants.{LONGEST_SCRIPT};
-ghost use Rattle.rh_figure.specs.Map.{first_place};
+ghost use Rattle.rh_figure.specs.Map.{map_start};
 ghost use Rattle.rh_lines.specs.Flow.{unread};
 ghost use Rattle.rh_painted.specs.Painted.{Painted, PaintedUntil};
 ghost use Rattle.rh_run.specs.Safely.{RanSafely};
@@ -59,10 +59,10 @@ pub fn map_of<S: Sited + Drop, F: NamedFiles + Drop, W: Sink>(
     requires short { length script.now ≤ LONGEST_SCRIPT }
 
     // The script's map was written.
-    ensures ok { IfOk result (λ status. Mapped marked (first_place (S.memory store).pages (F.contents files)) (unread script.now) (unread []) (W.output writer.old) (W.output writer.new) status) }
+    ensures ok { IfOk result (λ status. Mapped marked (map_start (S.memory store).pages (F.contents files)) (unread script.now) (unread []) (W.output writer.old) (W.output writer.new) status) }
 
     // The writer failed, and took a front of the map of some lines.
-    ensures write_failed { IfErr result (λ fault. MappedUntil marked (first_place (S.memory store).pages (F.contents files)) (unread script.now) (unread []) (W.output writer.old) (W.output writer.new)) }
+    ensures write_failed { IfErr result (λ fault. MappedUntil marked (map_start (S.memory store).pages (F.contents files)) (unread script.now) (unread []) (W.output writer.old) (W.output writer.new)) }
 {
     map_whole(ScriptWorld::new(store, files), marked, script, writer)
 }

@@ -22,7 +22,7 @@ pub use Rattle.rh_defs.specs.Forms.{is_name}
 pub use Rattle.rh_defs.specs.Heap.{GrowsAtTop, GrowsIntoHole, Heap, Hole, MovesToHole, MovesToTop, Placed, Segment, Shrinks, Stays, Used, Way, bytes_of}
 pub use Rattle.rh_defs.specs.Heap.{first_place, fitted, is_block_at, place_after, released, size_of}
 pub use Rattle.rh_defs.specs.IncomingEvents.{is_deaf, is_uncountable}
-unfoldable pub use Rattle.rh_defs.specs.IncomingEvents.{accept, ack_back, appended, ask, ended, fetch_back, fetch_more, load_file, loaded, take_bytes}
+unfoldable pub use Rattle.rh_defs.specs.IncomingEvents.{accept, ack_back, appended, ask, taking_ended, fetch_back, fetch_more, load_file, loaded, take_bytes}
 unfoldable pub use Rattle.rh_defs.specs.IncomingEvents.{take_file, take_save, took}
 pub use Rattle.rh_defs.specs.Laws.{Always, IsDesk}
 pub use Rattle.rh_defs.specs.Letters.{fetch_letter, load_letter, transmit_letter}

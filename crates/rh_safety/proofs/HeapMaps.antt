@@ -3,7 +3,7 @@ use Rattle.rh_safety.proofs.Common.{◌≡◌, ◌≢◌, ℕ, zero, suc, ◌+�
 use Rattle.rh_safety.proofs.Common.{◌∙◌, inl, inr, arith, nat_eq, option_map, eqb_tells, eq-eqb, total, Split, behind, first_at, with_here, Segment, Used}
 use Rattle.rh_safety.proofs.Common.{Hole, Heap, size_of, first_place, place_after, is_block_at, Placed, released, Way, Stays, Shrinks, GrowsIntoHole}
 use Rattle.rh_safety.proofs.Common.{GrowsAtTop, MovesToHole, MovesToTop, put, none_some}
-use Rattle.rh_defs.specs.Heap.{base, with_hole, joined, placed_in, release, release_found, resized_by}
+use Rattle.rh_defs.specs.Heap.{base, with_hole, joined, placed_in, release_block, release_found, resized_by}
 use Rattle.rh_safety.proofs.HeapMap.{bytes_at, heap_map, CutOf, HoleFor, BlockOf, IsClaimed, IsReleased, IsMoved, CanGo}
 
 -- the first of two
@@ -212,7 +212,7 @@ found place (Used c ∷ xs) a b q = elim (eqb_tells a (place + 4)) [
 ]
 
 -- a release by address
-released_at : (h : Heap) (a : ℕ) (b : List ℕ) → heap_map h a ≡ Some b → IsReleased h (release a h) a
+released_at : (h : Heap) (a : ℕ) (b : List ℕ) → heap_map h a ≡ Some b → IsReleased h (release_block a h) a
 released_at h a b q k =
     let f = found first_place h.segments a b q in
     ap (λ o. heap_map (release_found o h) k) f.is ∙ cleared b h f.cut (record {
@@ -222,7 +222,7 @@ released_at h a b q k =
 
 -- a block placed elsewhere, and then released
 moves : (old bytes : List ℕ) (h : Heap) (p : Placed) (s : Split Segment) → BlockOf old h s → IsClaimed h p bytes →
-    IsMoved h (release (place_after s.before + 4) p.heap) (place_after s.before + 4) p.address bytes
+    IsMoved h (release_block (place_after s.before + 4) p.heap) (place_after s.before + 4) p.address bytes
 moves old bytes h p s c w =
     let a0 = place_after s.before + 4 in
     let was = there old h s c in

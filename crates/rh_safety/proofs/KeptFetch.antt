@@ -127,7 +127,7 @@ module _ (d : Desk) (t : Task) (m : Parcel) (is : task_of t.handle d.tasks ≡ S
       (outs_view _ h edit (ap (λ (y : sight.Desk). y.live h) v ∙ live) ∙ ap (λ (y : sight.Desk). record y {
         sending = put y.sending h (edit (y.sending h));
       }) v))))))
-      (λ refusal q. fails refusal refl (outs_view d h (sender.failed x) live))
+      (λ refusal q. fails refusal refl (outs_view d h (sender.sending_failed x) live))
 
   -- the answer of a poll that was refused nothing
   pub fetch_goes : (x : Sending) (S old : List ℕ) (y : Handled) → Does x y → is_refusal action.RamFetch y.1 ≡ false →

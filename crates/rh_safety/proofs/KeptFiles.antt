@@ -69,7 +69,7 @@ module _ {o : Offers} {e : Edits} (d : Desk) (t : Task) (m : Parcel) (b : Body) 
         scrap = Some file;
       }) from)
       (filed_good h l x s.here.bytes g rd kind w.0 answers (block_seen x.anchor ∙ block_there x.anchor t.slot s e1))))))
-      (λ refusal z. seen_good (outs_view d h (sender.failed x) live) (fails x w.0))
+      (λ refusal z. seen_good (outs_view d h (sender.sending_failed x) live) (fails x w.0))
 
   pub ack_keeps : action_of b ≡ action.DataSaveAck →
       IsKept (answer_ack d t m (sender.on_ack m.message.from m.message.your_ref t.sending))
@@ -85,9 +85,9 @@ module _ {o : Offers} {e : Edits} (d : Desk) (t : Task) (m : Parcel) (b : Body) 
       let has = (open_is (sender.is_loaded m.message.from m.message.your_ref) ((view d).sending h) x q).0 in
       by_grant IsKept _ _
       (λ y z. with_step (slot_block x.anchor t.slot) _ y z (λ s e1 z1.
-      subst IsKept (ok_is _ y z1) (seen_good (outs_view d h (sender.loaded x (length s.here.bytes)) live)
+      subst IsKept (ok_is _ y z1) (seen_good (outs_view d h (sender.sending_loaded x (length s.here.bytes)) live)
       (loaded_good h x s.here.bytes g has (block_seen x.anchor ∙ block_there x.anchor t.slot s e1)))))
-      (λ refusal z. seen_good (outs_view d h (sender.failed x) live) (fails x has))
+      (λ refusal z. seen_good (outs_view d h (sender.sending_failed x) live) (fails x has))
 
   pub load_ack_keeps : IsKept (finish_load d t (sender.on_load_ack m.message.from m.message.your_ref t.sending))
   load_ack_keeps = subst (λ (xs : List Outgoing). IsKept (finish_load d t (sender.on_load_ack m.message.from
@@ -114,7 +114,7 @@ module _ {o : Offers} {e : Edits} (d : Desk) (t : Task) (m : Parcel) (b : Body) 
       let letter = load_ack_letter h m n in
       let v2 : view sent ≡ sight.sent (view d1) h (seen_letter letter d1.post.next_ref) = sent_view d1 sent letter e1
       w.live in
-      let edit = receiver.loaded q n in
+      let edit = receiver.taking_loaded q n in
       subst IsKept (ok_is _ x z1)
       (seen_good (ins_view sent h edit (ap (λ (y : sight.Desk). y.live h) v2 ∙ w.live) ∙
       ap (λ (y : sight.Desk). record y { taking = put y.taking h (edit (y.taking h)) }) v2 ∙

@@ -122,10 +122,10 @@ module _ (d : Desk) (t : Task) (m : Parcel) (is : task_of t.handle d.tasks ≡ S
       ap (λ (k : ℕ). let y = sight.sent D h (seen_letter (letter k) D.next_ref) in record y {
         taking = put y.taking h (receiver.fetched r n D.next_ref (y.taking h));
       }) (sym buffer_size) ∙ choose false (ap (nat_lt n) buffer_size ∙ full)))))
-      (λ refusal q. stops refusal refl (ended_view after h r (receiver.failed r (r.count + n)) w.live ∙
+      (λ refusal q. stops refusal refl (ended_view after h r (receiver.taking_failed r (r.count + n)) w.live ∙
       ap (λ (y : sight.Desk). record y {
         heap = put y.heap h (put (y.heap h) r.buffer None);
-        taking = put y.taking h (receiver.failed r (r.count + n) (y.taking h));
+        taking = put y.taking h (receiver.taking_failed r (r.count + n) (y.taking h));
       }) v)))
     where
       choose : (c : Bool) → nat_lt n ((view d).buf h) ≡ c →
@@ -141,7 +141,7 @@ module _ (d : Desk) (t : Task) (m : Parcel) (is : task_of t.handle d.tasks ≡ S
       (λ x q. with_step (refuse_if (is_uncountable r n) NoRoom) _ x q (λ _ e0 q0.
       with_step (appended d t r.anchor (first_bytes n (heap_block_at r.buffer t.slot))) _ x q0 (λ after e q1.
       subst (Does r) (ok_is _ x q1) (took_does r after (longer_is d t r.anchor _ after is e)))))
-      (λ refusal q. refuses refusal refl (ended_view d h r (receiver.failed r r.count) (live_of d h t is)))
+      (λ refusal q. refuses refusal refl (ended_view d h r (receiver.taking_failed r r.count) (live_of d h t is)))
 
   module _ {o : Offers} {e : Edits} (g : Good o e (view d)) (rd : Read o (view d) h l) where
     transmit_found : (w : Incoming) →
@@ -151,7 +151,7 @@ module _ (d : Desk) (t : Task) (m : Parcel) (is : task_of t.handle d.tasks ≡ S
     transmit_found w (fetches r has q) = took_good h r l _ _ g rd refl has (matched (view d) h r l q) (transmit_does r)
     transmit_found w (drains r has q) =
         let a = matched (view d) h r l q in
-        seen_good (ended_view d h r (receiver.failed r r.count) (live_of d h t is))
+        seen_good (ended_view d h r (receiver.taking_failed r r.count) (live_of d h t is))
         (given_up_good h r g (inr has) (read_quiet h r l (inr has) refl a.from a.answers rd.ok g))
 
     transmit_by : (v : Option Incoming) → receiver.on_transmit ((view d).buf h) m.message.from m.message.your_ref buffer

@@ -11,12 +11,13 @@ use Rattle.hex.proofs.HexLemmas.{decode_of-ok}
 use Rattle.rh_defs.specs.declared.fault.LineFault.{LineFault}
 use Rattle.rh_defs.specs.declared.fault.LineFault.TheVariants.{TooLong, Unknown, Count, Word}
 use Rattle.rh_defs.specs.Forms.{is_delta, is_decimal, is_leaf, is_ref, number_of, greatest, last_ref}
-use Rattle.rh_defs.specs.Grammar.{Form, Name, Leaf, Number, Ref, Delta, Address, Bytes, Choice, Maybe, Values, Maker, Row, Spelling, spelled_by, rows}
+use Rattle.rh_defs.specs.Grammar.{Form, Name, Leaf, Number, Ref, Delta, Address, Bytes, Choice, Maybe, Values, Maker, GrammarRow, Spelling, spelled_by, rows}
 use Rattle.rh_defs.specs.Range.{is_of, all_of, can_be_read, all_in_range}
 use Rattle.rh_defs.proofs.GrammarLaws.{Spells, RowSpells, AllSpell, rows-spell}
 use Rattle.rh_defs.specs.Script.{commands_in, lines_desk, meaning_desk}
-use Rattle.rh_defs.specs.Line.{Meaning, ◌>>=◌, longest_line, words_of, word, name_at, number_at, delta_at, signed, is_negative, unsigned, address_at, leaf_at}
-use Rattle.rh_defs.specs.Line.{choice_at, bytes_at, value_at, command_from, is_count, follow, row_of, command_by, command_of, is_skipped, line_means}
+use Rattle.rh_defs.specs.Line.{Meaning, ◌>>=◌, longest_line, words_of, nth_word, name_at, number_at, delta_at, signed, is_negative, unsigned, address_at}
+use Rattle.rh_defs.specs.Line.{leaf_at}
+use Rattle.rh_defs.specs.Line.{choice_at, bytes_read_at, value_at, command_from, is_count, follow, grammar_row, command_by, command_of, is_skipped, line_means}
 
 -- ---- what holds of a meaning, where there is one
 
@@ -67,17 +68,17 @@ last_two false b c q = absurd cc
 
 name_means : (words : List (List ℕ)) (n : ℕ) → Means (Passes is_name) (name_at words n)
 unfolding name_at
-name_means words n = where_true (Passes is_name) (is_name (word words n)) (word words n) (Word n) (λ q. q)
+name_means words n = where_true (Passes is_name) (is_name (nth_word words n)) (nth_word words n) (Word n) (λ q. q)
 
 leaf_means : (words : List (List ℕ)) (n : ℕ) → Means (Passes is_leaf) (leaf_at words n)
 unfolding leaf_at
-leaf_means words n = where_true (Passes is_leaf) (is_leaf (word words n)) (word words n) (Word n) (λ q. q)
+leaf_means words n = where_true (Passes is_leaf) (is_leaf (nth_word words n)) (nth_word words n) (Word n) (λ q. q)
 
 number_means : (words : List (List ℕ)) (n low high : ℕ) →
     Means (Passes (λ k. nat_le low k && nat_le k high)) (number_at words n low high)
 unfolding number_at
 number_means words n low high =
-    let w = word words n in
+    let w = nth_word words n in
     where_true (Passes (λ k. nat_le low k && nat_le k high)) _ (number_of w) (Word n) (λ q. last_two (is_decimal w) _
     _ q)
 
@@ -89,7 +90,7 @@ signed_delta true (suc n) q = q
 delta_means : (words : List (List ℕ)) (n : ℕ) → Means (Passes is_delta) (delta_at words n)
 unfolding delta_at
 delta_means words n =
-    let w = word words n in
+    let w = nth_word words n in
     where_true (Passes is_delta) _ (signed (is_negative w) (number_of (unsigned w))) (Word n) (λ q. signed_delta
     (is_negative w) (number_of (unsigned w)) (and_right (is_decimal (unsigned w)) _ q))
 
@@ -104,16 +105,16 @@ decoded_byte w bytes (Ok b) e s q =
     grind (arith, leb_tells, twice)
 decoded_byte w bytes (Err fault) e s q = absurd (let z : None ≡ Some bytes = s in cc)
 
-bytes_by : (words : List (List ℕ)) (n : ℕ) (b : Bool) (o : Option (List ℕ)) → has_byte (word words n) ≡ b →
-    result_ok (decode_of (word words n)) ≡ o → Means (Passes has_byte) (bytes_at words n)
-unfolding bytes_at
-bytes_by words n true (Some bytes) q s = rw (q, s) (decoded_byte (word words n) bytes (decode_of (word words n)) refl
+bytes_by : (words : List (List ℕ)) (n : ℕ) (b : Bool) (o : Option (List ℕ)) → has_byte (nth_word words n) ≡ b →
+    result_ok (decode_of (nth_word words n)) ≡ o → Means (Passes has_byte) (bytes_read_at words n)
+unfolding bytes_read_at
+bytes_by words n true (Some bytes) q s = rw (q, s) (decoded_byte (nth_word words n) bytes (decode_of (nth_word words n)) refl
     s q)
 bytes_by words n true None q s = rw (q, s) tt
 bytes_by words n false o q s = rw q tt
 
-bytes_means : (words : List (List ℕ)) (n : ℕ) → Means (Passes has_byte) (bytes_at words n)
-bytes_means words n = bytes_by words n (has_byte (word words n)) (result_ok (decode_of (word words n))) refl refl
+bytes_means : (words : List (List ℕ)) (n : ℕ) → Means (Passes has_byte) (bytes_read_at words n)
+bytes_means words n = bytes_by words n (has_byte (nth_word words n)) (result_ok (decode_of (nth_word words n))) refl refl
 
 -- ---- forms
 
@@ -149,11 +150,11 @@ from_in (form ∷ forms) make give tested words n spells reads h =
     (λ value q. from_in forms (make value) (λ values. give (value, values)) (tested && is_of form value) words (n + 1)
     (spells value) (λ values. reads (value, values)) (both tested (is_of form value) h q))
 
-row_in : (row : Row) (words : List (List ℕ)) (n : ℕ) → RowSpells row → IsCommand (command_from row.forms row.make words n)
+row_in : (row : GrammarRow) (words : List (List ℕ)) (n : ℕ) → RowSpells row → IsCommand (command_from row.forms row.make words n)
 row_in row words n spells = from_in row.forms row.make (spelled_by row) true words n spells (λ values. refl) refl
 
-row_found : (rs : List Row) (first : List ℕ) (words : List (List ℕ)) (fault : LineFault) → AllSpell rs →
-    Means RowSpells (row_of rs first words fault)
+row_found : (rs : List GrammarRow) (first : List ℕ) (words : List (List ℕ)) (fault : LineFault) → AllSpell rs →
+    Means RowSpells (grammar_row rs first words fault)
 row_found [] first words fault h = tt
 row_found (row ∷ rs) first words fault h =
     one_of RowSpells (bytes_eq first row.first && follow row.further words 1) (Ok row) _ h.0 (row_found rs first words _ h.1)
@@ -161,8 +162,8 @@ row_found (row ∷ rs) first words fault h =
 command_in : (words : List (List ℕ)) → IsCommand (command_of words)
 unfolding command_by
 command_in words =
-    then_means RowSpells (Passes in_range) (row_of rows (word words 1) words Unknown) _
-    (row_found rows (word words 1) words Unknown rows-spell) (λ row spells.
+    then_means RowSpells (Passes in_range) (grammar_row rows (nth_word words 1) words Unknown) _
+    (row_found rows (nth_word words 1) words Unknown rows-spell) (λ row spells.
     one_of (Passes in_range) (is_count row.forms (1 + length row.further) (length words)) _ (Err Count)
     (row_in row words (1 + length row.further) spells) tt)
 

@@ -5,7 +5,8 @@ use Rattle.rh_safety.proofs.Common.{Command, Manner, Body, EventCode, User, Reco
 use Rattle.rh_safety.proofs.Common.{Split, Heap, Flex, Slot, Parcel, is_recorded, Post, Seat, answers_held, held_by, has_seat, bounced, bounce_held}
 use Rattle.rh_safety.proofs.Common.{bounce_all, without_block, taken_from, queued_in, put_down, post_join, post_send, post_poll, post_death, Desk, Task}
 use Rattle.rh_safety.proofs.Common.{Scrap, next_ref, free_pages, with_slot, with_task, with_delivered, send_letter, Handled, transmit, answer_fetch}
-use Rattle.rh_safety.proofs.Common.{fail_sending, save_scrap, answer_ack, finish_load, ended, accept, take_save, appended, fetch_more, took, take_bytes, ask}
+use Rattle.rh_safety.proofs.Common.{fail_sending, save_scrap, answer_ack, finish_load, taking_ended, accept, take_save, appended, fetch_more, took, take_bytes}
+use Rattle.rh_safety.proofs.Common.{ask}
 use Rattle.rh_safety.proofs.Common.{fetch_back, ack_back, loaded, load_file, take_file, came, came_back, handled, Answer, start_task, kill, make, save}
 use Rattle.rh_safety.proofs.Common.{repeat, poll, poll_taken, cancel_in, cancel_out, step, after, start_with, Always, OnGrant, granted, granted-then}
 use Rattle.rh_safety.proofs.Common.{granted-with, granted-past, or_else-keeps, chosen}
@@ -236,8 +237,8 @@ module _ (d : Desk) (t : Task) where
       granted-then _ _ λ document found. granted-then _ _ λ longer e. granted-then _ _ λ s f. granted (stands refl refl refl same-mail)
 
   -- a transfer ended
-  ended-marks : (f : Taking) (edit : List Incoming → List Incoming) (o : Outcome) → refs_of_outcome o ≡ [] → Marks d (ended t.handle f edit d, o)
-  unfolding ended with_task
+  ended-marks : (f : Taking) (edit : List Incoming → List Incoming) (o : Outcome) → refs_of_outcome o ≡ [] → Marks d (taking_ended t.handle f edit d, o)
+  unfolding taking_ended with_task
   ended-marks f edit o none = quiet (stands refl refl refl same-mail) none
 
   fetch_more-marks : (m : Parcel) (f : Taking) (n : ℕ) → OnGrant (Marks d) (fetch_more d t m f n)
@@ -251,7 +252,7 @@ module _ (d : Desk) (t : Task) where
       (or_else-keeps (Marks d) _ (fetch_more-marks m f n) (λ refusal. ended-marks f _ _ refl))
 
   ask-marks : (f : Taking) → OnGrant (Marks d) (ask d t f)
-  unfolding ask ended with_task
+  unfolding ask taking_ended with_task
   ask-marks f = granted-with _ (send_letter-one _ d) λ sent one. granted (tells one (stands refl refl refl same-mail) refl)
 
   fetch_back-marks : (o : Option Incoming) → Marks d (fetch_back d t o)

@@ -3,7 +3,7 @@
 use Rattle.rh_safety.proofs.Common.{◌≡◌, ℕ, List, Option, Some, None, refl, Ok, Err, Refusal, Body, EventCode, User, Recorded, Acknowledge, Asked, Sending}
 use Rattle.rh_safety.proofs.Common.{Taking, Incoming, Outgoing, Granted, Split, Flex, Slot, Parcel, Desk, Scrap, Task, send_letter, with_sending, with_taking}
 use Rattle.rh_safety.proofs.Common.{with_task, Handled, answer_ack, answer_fetch, fail_sending, finish_load, ignored, refused, save_scrap, transmit, accept}
-use Rattle.rh_safety.proofs.Common.{ack_back, appended, ask, ended, fetch_back, fetch_more, load_file, loaded, take_bytes, take_file, take_save, took}
+use Rattle.rh_safety.proofs.Common.{ack_back, appended, ask, taking_ended, fetch_back, fetch_more, load_file, loaded, take_bytes, take_file, take_save, took}
 use Rattle.rh_safety.proofs.Common.{answers_none, came, came_back, handled, OnGrant, granted, granted-past, granted-then, granted-with, chosen, or_else-keeps}
 use Rattle.rh_defs.specs.declared.message.Body.TheVariants as body
 use Rattle.rh_defs.specs.declared.message.Letter.{Letter}
@@ -42,11 +42,11 @@ module _ (R : Desk → Desk → Type 0) (t : Task) (own : OwnEdits t.handle R) (
   pub refused-own : (x : Sending) (refusal : Refusal) → Did R d (refused d t x refusal)
   refused-own x refusal = record { desk = own.outs _ d }
 
-  ended-edits : (f : Taking) (edit : List Incoming → List Incoming) → R d (ended t.handle f edit d)
-  unfolding ended
+  ended-edits : (f : Taking) (edit : List Incoming → List Incoming) → R d (taking_ended t.handle f edit d)
+  unfolding taking_ended
   ended-edits f edit = own.after (own.slot _ d) (own.ins edit _)
 
-  ended-own : (f : Taking) (edit : List Incoming → List Incoming) (o : _) → Did R d (ended t.handle f edit d, o)
+  ended-own : (f : Taking) (edit : List Incoming → List Incoming) (o : _) → Did R d (taking_ended t.handle f edit d, o)
   ended-own f edit o = record { desk = ended-edits f edit }
 
   ins-own : (edit : List Incoming → List Incoming) (o : _) → Did R d (with_taking t.handle edit d, o)

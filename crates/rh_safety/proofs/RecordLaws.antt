@@ -9,7 +9,7 @@ use Rattle.rh_defs.specs.Desk.{is_busy_block, is_busy_buffer}
 use Rattle.rh_defs.specs.Laws.{Rise}
 use Rattle.rh_safety.specs.Offered.{bytes_of_block}
 use Rattle.rh_safety.specs.Buffers.{bytes_of_buffer}
-use Rattle.rh_safety.specs.TaskRecords.{HoldsOne, HasBlock, HasBuffer, Measures, IsRecorded, AreRecorded}
+use Rattle.rh_safety.specs.TaskRecords.{HoldsOne, HasFlexBlock, HasBuffer, Measures, IsRecorded, AreRecorded}
 use Rattle.rh_safety.proofs.SeenDocuments.{buffer_is}
 use Rattle.rh_safety.proofs.SeenLaws.{block_is}
 use Rattle.rh_safety.proofs.SeenFiles.{one_of, passes}
@@ -55,7 +55,7 @@ module _ {o : Offered} {e : ℕ → ℕ → Bool} (d : Desk) (g : Good o e (view
 
   -- ---- one record
 
-  source : (x : Sending) → Has (outgoing.Open x) t.sending → HasBlock t x.anchor x.count
+  source : (x : Sending) → Has (outgoing.Open x) t.sending → HasFlexBlock t x.anchor x.count
   source x has =
       let s = g.inv.outs.source h x (out (outgoing.Open x) has) in
       record { bytes = s.all; there = block x.anchor s.all s.there; size = s.fits }
@@ -85,24 +85,24 @@ module _ {o : Offered} {e : ℕ → ℕ → Bool} (d : Desk) (g : Good o e (view
 
   -- ---- busy blocks
 
-  measured : (k n : ℕ) → Measures t k n → HasBlock t k 0
+  measured : (k n : ℕ) → Measures t k n → HasFlexBlock t k 0
   measured k n m = record { bytes = m.bytes; there = m.there; size = omega arith }
 
-  of_source : (k : ℕ) (v : Outgoing) → Has v t.sending → is_source k v ≡ true → HasBlock t k 0
+  of_source : (k : ℕ) (v : Outgoing) → Has v t.sending → is_source k v ≡ true → HasFlexBlock t k 0
   of_source k (outgoing.Open x) has is =
       let s = source x has in
-      subst (λ a. HasBlock t a 0) (is_equal x.anchor k is) (record { bytes = s.bytes; there = s.there; size = omega arith })
+      subst (λ a. HasFlexBlock t a 0) (is_equal x.anchor k is) (record { bytes = s.bytes; there = s.there; size = omega arith })
   of_source k (outgoing.Done i n) has is = absurd cc
   of_source k (outgoing.Failed i n) has is = absurd cc
 
-  of_document : (k : ℕ) (w : Incoming) → Has w t.taking → is_document k w ≡ true → HasBlock t k 0
-  of_document k (incoming.Fetching f) has is = subst (λ a. HasBlock t a 0) (is_equal f.anchor k is) (measured f.anchor f.count (fetched f has))
-  of_document k (incoming.Asking q) has is = subst (λ a. HasBlock t a 0) (is_equal q.anchor k is) (measured q.anchor 0 (asked q has))
+  of_document : (k : ℕ) (w : Incoming) → Has w t.taking → is_document k w ≡ true → HasFlexBlock t k 0
+  of_document k (incoming.Fetching f) has is = subst (λ a. HasFlexBlock t a 0) (is_equal f.anchor k is) (measured f.anchor f.count (fetched f has))
+  of_document k (incoming.Asking q) has is = subst (λ a. HasFlexBlock t a 0) (is_equal q.anchor k is) (measured q.anchor 0 (asked q has))
   of_document k (incoming.Draining f) has is = absurd cc
   of_document k (incoming.Done i a n) has is = absurd cc
   of_document k (incoming.Failed i a n) has is = absurd cc
 
-  busy_block : (k : ℕ) → is_busy_block k t ≡ true → HasBlock t k 0
+  busy_block : (k : ℕ) → is_busy_block k t ≡ true → HasFlexBlock t k 0
   busy_block k is = elim (one_of (list_any (is_source k) t.sending) (list_any (is_document k) t.taking) is) [
     | inl s ↦ let r = passes (is_source k) t.sending s in of_source k r.0 r.1.0 r.1.1
     | inr s ↦ let r = passes (is_document k) t.taking s in of_document k r.0 r.1.0 r.1.1

@@ -58,7 +58,7 @@ accepts_bare d t m = do
   b ← slot_claim (free_pages d) t.buffer t.slot
   sent ← send_letter (fetch_letter t.handle m.message.from m.message.my_ref b.1 t.buffer) (with_slot t.handle b.0 d)
   Ok (
-    with_taking t.handle (receiver.fetching (receiver.begun m.message.my_ref m.message.from k b.1 (next_ref d))) sent,
+    with_taking t.handle (receiver.fetching (receiver.new_taking m.message.my_ref m.message.from k b.1 (next_ref d))) sent,
     outcome.Fetch (next_ref d),
   )
 

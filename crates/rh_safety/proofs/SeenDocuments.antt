@@ -3,7 +3,8 @@ use Rattle.rh_safety.proofs.Common.{length-append, drop, ◌≡◌, ℕ, ◌+◌
 use Rattle.rh_safety.proofs.Common.{subst, inl, inr, arith, Ok, Err, option_map, eqb_tells, take_all, length-replicate, append-nil, Body, Taking, Incoming}
 use Rattle.rh_safety.proofs.Common.{Granted, ◌>>=◌, found_or, Split, zeros, written, behind, first_at, Segment, Used, Hole, bytes_of, size_of, first_place}
 use Rattle.rh_safety.proofs.Common.{is_block_at, released, fitted, Slot, Flex, weight, flex_start, heap_start, heap_block_at, slot_block, slot_extend}
-use Rattle.rh_safety.proofs.Common.{slot_put, Parcel, action_of, Desk, Task, free_pages, with_task, with_slot, ended, appended, view, address_in, amount_in}
+use Rattle.rh_safety.proofs.Common.{slot_put, Parcel, action_of, Desk, Task, free_pages, with_task, with_slot, taking_ended, appended, view, address_in}
+use Rattle.rh_safety.proofs.Common.{amount_in}
 use Rattle.rh_safety.proofs.Common.{blocks_of, buffers_of, task_of, Letter, put, put_same, Same, live_of, slot_is, slot_at, block_view, buffer_view, ins_view}
 use Rattle.std.proofs.lemmas.List.{drop_all}
 use Rattle.std.proofs.Math.Seq.{take-append_seam}
@@ -77,11 +78,11 @@ rid_of a s = rid_by a s (slot_release a s) refl (heap_block_at a s) refl
 
 -- a record that ends
 pub ended_view : (d : Desk) (h : ℕ) (f : Taking) (edit : List Incoming → List Incoming) → (view d).live h ≡ true →
-    view (ended h f edit d) ≡ record (view d) {
+    view (taking_ended h f edit d) ≡ record (view d) {
       heap = put (view d).heap h (put ((view d).heap h) f.buffer None);
       taking = put (view d).taking h (edit ((view d).taking h));
     }
-unfolding ended
+unfolding taking_ended
 ended_view d h f edit live =
     let s = slot_at d h in
     let w = rid_of f.buffer s in

@@ -28,7 +28,7 @@ use Rattle.rh_defs.specs.Receiver as receiver
 use Rattle.rh_defs.specs.Places.{first_bytes, overlap}
 use Rattle.rh_defs.specs.OutgoingEvents.{is_out_of_reach}
 use Rattle.rh_defs.specs.Transfer as transfer
-use Rattle.rh_safety.specs.Buffers.{refusal_of, failed_by, HasGoodRanges}
+use Rattle.rh_safety.specs.Buffers.{outcome_refusal, failed_by, HasGoodRanges}
 use Rattle.rh_safety.specs.Polls.{LosesNoBlock}
 use Rattle.rh_safety.proofs.Polls.{Taken}
 use Rattle.rh_safety.proofs.SeenBlocks.{from_test, ok_is, extend_is, changed_map}
@@ -53,7 +53,7 @@ names_fault None = false
 names_fault (Some r) = is_fault r
 
 abbrev is_bad_outcome : Outcome → Bool
-is_bad_outcome v = names_fault (refusal_of v)
+is_bad_outcome v = names_fault (outcome_refusal v)
 
 abbrev is_bad_reply : Reply → Bool
 is_bad_reply r = names_fault (failed_by r)

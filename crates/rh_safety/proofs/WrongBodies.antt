@@ -251,7 +251,7 @@ saves_document d name k to leaf = do
   refuse_if (is_full is_open t.sending) Busy
   r ← found_or (find (has_name to) d.tasks) NoTask
   sent ← send_letter (save_letter t.handle r.handle (length b.here.bytes) leaf) d
-  Ok (with_sending t.handle (sender.offered (next_ref d) r.handle k) sent, reply.Sent (next_ref d))
+  Ok (with_sending t.handle (sender.sending_offered (next_ref d) r.handle k) sent, reply.Sent (next_ref d))
 
 abbrev save_of_a_document : Rules
 save_of_a_document = record landed { saves = saves_document }
@@ -411,7 +411,7 @@ accepts d t m = do
   sent ← send_letter (fetch_letter t.handle m.message.from m.message.my_ref b.1 t.buffer) (with_slot t.handle p.0 d)
   Ok (
     with_taking t.handle
-        (one_more is_busy_record (incoming.Fetching (receiver.begun m.message.my_ref m.message.from k b.1
+        (one_more is_busy_record (incoming.Fetching (receiver.new_taking m.message.my_ref m.message.from k b.1
         (next_ref d)))) sent,
     outcome.Fetch (next_ref d),
   )

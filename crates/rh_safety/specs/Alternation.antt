@@ -21,7 +21,7 @@ use Rattle.rh_defs.specs.Desk.{Desk, Task, has_name, task_at}
 use Rattle.rh_defs.specs.Commands.{step}
 use Rattle.rh_defs.specs.Runs.{after, replies}
 use Rattle.rh_safety.specs.Offered.{bytes_of_block}
-use Rattle.rh_safety.specs.Buffers.{refusal_of}
+use Rattle.rh_safety.specs.Buffers.{outcome_refusal}
 
 -- ---- the polls
 
@@ -38,7 +38,7 @@ turns_before r s (suc n) = command.Poll r ∷ command.Poll s ∷ turns_before r 
 -- whether a poll was refused a claim, an allocation, an extension or a message; a DataSave is ignored where it was
 abbrev pub is_refusal : Action → Outcome → Bool
 is_refusal action.DataSave outcome.Ignored = true
-is_refusal a o = is_some (refusal_of o)
+is_refusal a o = is_some (outcome_refusal o)
 
 abbrev pub is_refused_poll : Reply → Bool
 is_refused_poll (reply.Event code a my_ref your_ref o) = is_refusal a o

@@ -58,15 +58,15 @@ HasBuffers d =
 -- ---- refusals in polls
 
 -- the refusal that an outcome names
-abbrev pub refusal_of : Outcome → Option Refusal
-refusal_of (outcome.Refused r) = Some r
-refusal_of (outcome.TookFailed n r) = Some r
-refusal_of (outcome.LoadedFailed n r) = Some r
-refusal_of _ = None
+abbrev pub outcome_refusal : Outcome → Option Refusal
+outcome_refusal (outcome.Refused r) = Some r
+outcome_refusal (outcome.TookFailed n r) = Some r
+outcome_refusal (outcome.LoadedFailed n r) = Some r
+outcome_refusal _ = None
 
 -- the refusal with which a poll says that something failed
 abbrev pub failed_by : Reply → Option Refusal
-failed_by (reply.Event code action my_ref your_ref outcome) = refusal_of outcome
+failed_by (reply.Event code action my_ref your_ref outcome) = outcome_refusal outcome
 failed_by _ = None
 
 -- no poll answers that a range was bad

@@ -17,7 +17,7 @@ abbrev pub HoldsOne : Task → Taking → Type 0
 HoldsOne t f = Contains t.taking (incoming.Fetching f) ⊎ Contains t.taking (incoming.Draining f)
 
 -- the anchor has a block of n bytes at least
-pub record HasBlock (t : Task) (k n : ℕ) : Type 0 where
+pub record HasFlexBlock (t : Task) (k n : ℕ) : Type 0 where
   pub bytes : List ℕ
   pub there : bytes_of_block t.slot k ≡ Some bytes
   pub size : n ≤ length bytes
@@ -42,9 +42,9 @@ pub record IsRecorded (d : Desk) (t : Task) : Type 0 where
   pub few_in : length t.taking ≤ most_records
   pub ids_out : Rise out_id 0 (next_ref d) t.sending
   pub ids_in : Rise in_id 0 (next_ref d) t.taking
-  pub busy_blocks : (k : ℕ) → is_busy_block k t ≡ true → HasBlock t k 0
+  pub busy_blocks : (k : ℕ) → is_busy_block k t ≡ true → HasFlexBlock t k 0
   pub busy_buffers : (address : ℕ) → is_busy_buffer address t ≡ true → HasBuffer t address 0
-  pub sources : (x : Sending) → Contains t.sending (outgoing.Open x) → HasBlock t x.anchor x.count
+  pub sources : (x : Sending) → Contains t.sending (outgoing.Open x) → HasFlexBlock t x.anchor x.count
   pub asking : (q : Asked) → Contains t.taking (incoming.Asking q) → Measures t q.anchor 0
   pub fetching : (f : Taking) → Contains t.taking (incoming.Fetching f) → Measures t f.anchor f.count
   pub rooms : (f : Taking) → HoldsOne t f → HasBuffer t f.buffer t.buffer

@@ -15,19 +15,19 @@ use Rattle.rh_defs.specs.Slot.{Slot, Flex, slot_pages, slot_length, IsSlot, Have
 use Rattle.rh_defs.specs.Desk.{Desk, Task, task_pages, has_name, named}
 use Rattle.rh_defs.specs.Questions.{Bytes, shown_at, status_at, Told, show}
 use Rattle.rh_tasks.specs.Lists.{segments_of}
-use Rattle.rh_script.specs.Named.{slot_in, slot_named, bytes_of_cut}
+use Rattle.rh_script.specs.Named.{slot_or_empty, slot_named, bytes_of_cut}
 
 -- ---- the C heap
 
 given_segments : (found : Option Task) (place : ℕ) (items : List SegmentItem)
     → (found_or found NoName >>= (λ t. (let r : Granted (List SegmentItem) = Ok (segment_items_at place t.slot.heap) in r))) ≡ Ok items
-    → items ≡ segment_items_at place (slot_in found).heap
+    → items ≡ segment_items_at place (slot_or_empty found).heap
 unfolding found_or ◌>>=◌
 given_segments None place items e = absurd (cc)
 given_segments (Some t) place items e = cc
 
 refused_segments : (found : Option Task) (place : ℕ) (f : Refusal) → (found_or found NoName
-    >>= (λ t. (let r : Granted (List SegmentItem) = Ok (segment_items_at place t.slot.heap) in r))) ≡ Err f → [] ≡ segment_items_at place (slot_in
+    >>= (λ t. (let r : Granted (List SegmentItem) = Ok (segment_items_at place t.slot.heap) in r))) ≡ Err f → [] ≡ segment_items_at place (slot_or_empty
     found).heap
 unfolding found_or ◌>>=◌
 refused_segments None place f e = refl
@@ -44,26 +44,26 @@ no_segments d name place f e = refused_segments (find (has_name name) d.tasks) p
 
 -- ---- what holds of the slot
 
-empty_is_slot : IsSlot (slot_in None)
+empty_is_slot : IsSlot (slot_or_empty None)
 empty_is_slot = record { heap = record { tidy = tt; fits = omega arith; multiple = refl }; anchors = tt }
 
-found_is_slot : (p : Task → Bool) (tasks : List Task) → AllByRecursion (λ t. IsSlot t.slot) tasks → IsSlot (slot_in (find p tasks))
+found_is_slot : (p : Task → Bool) (tasks : List Task) → AllByRecursion (λ t. IsSlot t.slot) tasks → IsSlot (slot_or_empty (find p tasks))
 found_is_slot p [] all = empty_is_slot
 found_is_slot p (t ∷ tasks) all = go (p t) (found_is_slot p tasks all.1)
   where
-    go : (b : Bool) → IsSlot (slot_in (find p tasks)) → IsSlot (slot_in (cond b (Some t) (find p tasks)))
+    go : (b : Bool) → IsSlot (slot_or_empty (find p tasks)) → IsSlot (slot_or_empty (cond b (Some t) (find p tasks)))
     go true rest = all.0
     go false rest = rest
 
-pub named_is_slot : (name : List ℕ) (d : Desk) → AllByRecursion (λ t. IsSlot t.slot) d.tasks → IsSlot (slot_in (find (has_name name) d.tasks))
+pub named_is_slot : (name : List ℕ) (d : Desk) → AllByRecursion (λ t. IsSlot t.slot) d.tasks → IsSlot (slot_or_empty (find (has_name name) d.tasks))
 named_is_slot name d all = found_is_slot (has_name name) d.tasks all
 
-found_pages : (p : Task → Bool) (tasks : List Task) → slot_pages (slot_in (find p tasks)) ≤ total task_pages tasks + 1
+found_pages : (p : Task → Bool) (tasks : List Task) → slot_pages (slot_or_empty (find p tasks)) ≤ total task_pages tasks + 1
 found_pages p [] = omega arith
 found_pages p (t ∷ tasks) = go (p t) (found_pages p tasks)
   where
-    go : (b : Bool) → slot_pages (slot_in (find p tasks)) ≤ total task_pages tasks + 1
-        → slot_pages (slot_in (cond b (Some t) (find p tasks))) ≤ task_pages t + total task_pages tasks + 1
+    go : (b : Bool) → slot_pages (slot_or_empty (find p tasks)) ≤ total task_pages tasks + 1
+        → slot_pages (slot_or_empty (cond b (Some t) (find p tasks))) ≤ task_pages t + total task_pages tasks + 1
     go true rest = omega arith
     go false rest = omega (arith, rest)
 
@@ -93,7 +93,7 @@ of_block (Some b) offset n = of_test (nat_lt (length b.here.bytes) (offset + n))
 
 of_owner : (found : Option Task) (k offset n : ℕ) → ReadsPart (found_or found NoName
     >>= (λ t. slot_block k t.slot >>= (λ b. refuse_if (nat_lt (length b.here.bytes) (offset + n)) BadRange >> Ok
-    (length b.here.bytes, take n (drop offset b.here.bytes))))) (bytes_of_cut (block_of k (slot_in found))) offset n
+    (length b.here.bytes, take n (drop offset b.here.bytes))))) (bytes_of_cut (block_of k (slot_or_empty found))) offset n
 unfolding found_or ◌>>=◌ slot_block
 of_owner None k offset n = λ room. refl
 of_owner (Some t) k offset n = of_block (block_of k t.slot) offset n
@@ -135,7 +135,7 @@ no_block : (k : ℕ) (s : Slot) → IsSlot s → anchor_count ≤ k → slot_blo
 unfolding slot_block found_or
 no_block k s is past = ap (λ o. found_or o NoBlock) (none_has k (flex_start s) s.blocks is.anchors past)
 
-missed : {A : Type 0} (o : Option Task) (k : ℕ) (one : Task → A) (x : A) → IsSlot (slot_in o) → anchor_count ≤ k
+missed : {A : Type 0} (o : Option Task) (k : ℕ) (one : Task → A) (x : A) → IsSlot (slot_or_empty o) → anchor_count ≤ k
     → (found_or o NoName >>= λ t. Ok (one t)) ≡ Ok x
     → (found_or o NoName >>= λ t. slot_block k t.slot >>= λ b. (let r : Granted Told = Ok (numbers.Shown (length b.here.bytes), Bytes b.here.bytes) in
     r)) ≡ Err NoBlock
@@ -183,7 +183,7 @@ size_named : (o : Option Task) (k : ℕ) (r : Result ℕ Refusal) (old new : Lis
     → Answers (found_or o NoName >>= (λ t. slot_block k t.slot >>= (λ b. refuse_if (nat_lt (length b.here.bytes) (0 + 0)) BadRange >> Ok
     (length b.here.bytes, take 0 (drop 0 b.here.bytes))))) r old new
     → IsSize (found_or o NoName >>= λ t. slot_block k t.slot >>= λ b. Ok (numbers.Shown (length b.here.bytes), Bytes b.here.bytes))
-    (bytes_of_cut (block_of k (slot_in o))) r
+    (bytes_of_cut (block_of k (slot_or_empty o))) r
 unfolding ◌>>=◌ found_or slot_block
 size_named None k r old new a = size_refused NoName a.0 refl
 size_named (Some t) k r old new a = size_in (block_of k t.slot) r old new a

@@ -9,13 +9,13 @@ use Rattle.rh_defs.specs.Desk.{Desk, Task, has_name}
 use Rattle.rh_defs.specs.Questions.{segment_items_from}
 
 -- the task's slot, or one with no block and an empty C heap
-abbrev pub slot_in : Option Task → Slot
-slot_in None = record { heap = empty_heap first_place; blocks = []; budging = true }
-slot_in (Some t) = t.slot
+abbrev pub slot_or_empty : Option Task → Slot
+slot_or_empty None = record { heap = empty_heap first_place; blocks = []; budging = true }
+slot_or_empty (Some t) = t.slot
 
 -- the slot of the task with the name
 abbrev pub slot_named : List ℕ → Desk → Slot
-slot_named name d = slot_in (find (has_name name) d.tasks)
+slot_named name d = slot_or_empty (find (has_name name) d.tasks)
 
 -- its C heap
 abbrev pub heap_of_named : List ℕ → Desk → Heap

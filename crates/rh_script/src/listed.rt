@@ -6,7 +6,7 @@ ghost use Rattle.rh_defs.specs.Questions.{area_items, areas, blocks};
 ghost use Rattle.rh_defs.specs.Text.{answer_text, area_line, block_line, later, ok};
 ghost use Rattle.rh_lines.specs.Flow.{Puts};
 ghost use Rattle.rh_lines.specs.declared.row.TheConstants.{ROW};
-ghost use Rattle.rh_tasks.specs.Items.{item_of};
+ghost use Rattle.rh_tasks.specs.Items.{area_item_of};
 ghost use Rattle.rh_script.specs.declared.gathered.TheConstants.{LONGEST_ITEM};
 
 use crate::gathered::{Item, make_room, print_items};
@@ -95,7 +95,7 @@ fn print_entries<S: Store, F: NamedFiles, W: Sink>(
 #[inline(always)]
 fn add_area(row: &mut Row, item: AreaEntry<'_>)
     requires { length row.old + LONGEST_ITEM ≤ ROW }
-    ensures { row.new ≡ row.old ++ area_line (item_of item.entry) }
+    ensures { row.new ≡ row.old ++ area_line (area_item_of item.entry) }
 {
     match item {
         AreaEntry::Area { number, pages } => add_numbered(row, number, pages),

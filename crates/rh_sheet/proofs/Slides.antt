@@ -8,12 +8,12 @@ use Rattle.rh_defs.specs.declared.refusal.Refusal.TheVariants.{NoBlock}
 use Rattle.rh_defs.specs.Chain.{Granted, found_or}
 use Rattle.rh_defs.specs.Pieces.{Split, with_here}
 use Rattle.rh_defs.specs.Heap.{Heap, claim_growing, new_size, released, resize_growing}
-use Rattle.rh_defs.specs.Slot.{Slot, Flex, IsSlot, IsFree, HaveAnchors, flex_weight, weight, heap_start, flex_start, block_of, with_block, with_bytes}
+use Rattle.rh_defs.specs.Slot.{Slot, Flex, IsSlot, IsFree, HaveAnchors, flex_weight, weight, heap_start, flex_start, block_of, with_block, with_block_bytes}
 use Rattle.rh_defs.specs.Slot.{without, with_heap, slot_block, slot_alloc, slot_free, slot_extend, slot_mid, slot_put, slot_claim, slot_release, slot_resize}
 use Rattle.rh_defs.specs.Questions.{block_items_from}
 use Rattle.rh_defs.proofs.Chains.{OnGrant, granted, refused, granted-then, granted-unless}
 use Rattle.rh_defs.proofs.Cuts.{IsCut, first_at-cuts}
-use Rattle.rh_figure.specs.Changes.{item_of}
+use Rattle.rh_figure.specs.Changes.{item_with_anchor}
 use Rattle.rh_sheet.specs.Slides.{address_in, Slides, OnGranted, SlideInSlots}
 
 -- a block that lies from a place on
@@ -23,7 +23,7 @@ item_at place b = record { anchor = b.anchor; address = place + 8; size = length
 -- the address of an anchor's block, whose test says whether it is the first of blocks that lie from a place on
 abbrev first_or : ℕ → ℕ → Flex → List Flex → Bool → Option ℕ
 first_or k place b blocks t = option_map (λ (i : BlockItem). i.address)
-    (if t then Some (item_at place b) else item_of k (block_items_from (place + weight b) blocks))
+    (if t then Some (item_at place b) else item_with_anchor k (block_items_from (place + weight b) blocks))
 
 -- ---- lists of blocks
 
@@ -141,7 +141,7 @@ on-granted (granted p) = p
 on-granted refused = tt
 
 module _ (s : Slot) where
-  bytes-slide : (b : Split Flex) (bytes : List ℕ) → with_here b b.here ≡ s.blocks → Slides s (with_bytes b bytes s)
+  bytes-slide : (b : Split Flex) (bytes : List ℕ) → with_here b b.here ≡ s.blocks → Slides s (with_block_bytes b bytes s)
   bytes-slide b bytes whole = record {
     up = flex_weight (length bytes);
     down = weight b.here;

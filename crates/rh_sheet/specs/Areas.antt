@@ -3,7 +3,7 @@ use Rattle.std.specs.Prelude.{ℕ, ◌+◌, ◌-◌, ◌*◌, ◌/◌, ◌==◌,
 use Rattle.std.specs.List.{concat, flat_map}
 use Rattle.rh_defs.specs.declared.question.BlockItem.{BlockItem}
 use Rattle.rh_defs.specs.declared.sizes.TheConstants.{C_HEAP_PLACE, MAX_PAGES}
-use Rattle.rh_defs.specs.Pieces.{page}
+use Rattle.rh_defs.specs.Pieces.{page_size}
 use Rattle.rh_defs.specs.Heap.{first_place, base}
 use Rattle.rh_defs.specs.Slot.{Slot, slot_start, slot_length}
 use Rattle.rh_defs.specs.Desk.{Task, module_area, module_start}
@@ -35,12 +35,12 @@ pages_sentence pages = concat (codes "Page " ∷ listed_numbers pages ∷ codes 
 -- what leads from the first row, between two of its bytes, to n cards below; the bytes are all in that row, or it isn't there
 abbrev pub lens_below : Frame → ℕ → ℕ → ℕ → Text
 lens_below f low high n =
-    where_so (nat_lt 0 n && nat_le high page) (lens_text
+    where_so (nat_lt 0 n && nat_le high page_size) (lens_text
     (low / UNIT_BYTES) (high / UNIT_BYTES) (rows_foot f - ROW_GAP) n (rows_foot f + LENS_HEIGHT + 1))
 
 -- the first byte of the last row of a frame
 abbrev pub last_row_place : Frame → ℕ
-last_row_place f = page * (f.pages - 1)
+last_row_place f = page_size * (f.pages - 1)
 
 -- what leads from the last row, between two places of the area, to n cards above; both are in that row, or it isn't there
 abbrev pub lens_above : Frame → ℕ → ℕ → ℕ → Text

@@ -1,12 +1,12 @@
 -- The arrow of a slide: from where the lowest block that slid began to where it begins now.
 use Rattle.std.specs.Prelude.{ℕ, ◌+◌, ◌-◌, ◌*◌, ◌/◌, ◌%◌, ◌==◌, max, if◌then◌else◌, List, [], ◌∷◌, codes, Option, Some}
 use Rattle.std.specs.List.{concat}
-use Rattle.rh_defs.specs.Pieces.{page}
+use Rattle.rh_defs.specs.Pieces.{page_size}
 use Rattle.rh_defs.specs.Slot.{slot_start}
 use Rattle.rh_figure.specs.Phrases.{Text}
 use Rattle.rh_figure.specs.Changes.{Slide}
 use Rattle.rh_sheet.specs.Markup.{path_text, point_text, stretch_text}
-use Rattle.rh_sheet.specs.Frames.{Frame, row_of, row_y}
+use Rattle.rh_sheet.specs.Frames.{Frame, frame_row, row_y}
 use Rattle.rh_sheet.specs.declared.sizes.TheConstants.{UNIT_BYTES, LEFT, ROW_HEIGHT, HEADER_BYTES, GHOST_EDGE, GHOST_WIDTH, ARC_RISE, ARROW_INDENT, BOW}
 
 -- the place in its slot at which a block with the address begins, with its header
@@ -15,7 +15,7 @@ block_place address = address - HEADER_BYTES - slot_start
 
 -- how far from the left a place of an area is in its row
 abbrev pub place_x : ℕ → ℕ
-place_x place = LEFT + place % page / UNIT_BYTES
+place_x place = LEFT + place % page_size / UNIT_BYTES
 
 -- a dashed frame round the place where the block began, in a row at a height
 abbrev pub ghost_way : ℕ → ℕ → Text
@@ -62,4 +62,4 @@ abbrev pub slide_arrow : Frame → List Slide → Text
 slide_arrow f [] = []
 slide_arrow f (s ∷ slides) = arrow_between
     f (block_place s.from) (block_place s.to)
-    (row_of f.pages (block_place s.from / page)) (row_of f.pages (block_place s.to / page))
+    (frame_row f.pages (block_place s.from / page_size)) (frame_row f.pages (block_place s.to / page_size))

@@ -18,8 +18,8 @@ page_in n i =
     else Some (n + i - MOST_ROWS)
 
 -- the row of page k of n pages, where it has one
-abbrev pub row_of : ℕ → ℕ → Option ℕ
-row_of n k =
+abbrev pub frame_row : ℕ → ℕ → Option ℕ
+frame_row n k =
     if nat_le n MOST_ROWS || nat_lt k EDGE_ROWS then Some k
     else if nat_le n (k + EDGE_ROWS) then Some (k + MOST_ROWS - n)
     else None

@@ -2,7 +2,7 @@
 use Rattle.std.specs.Prelude.{ℕ, ◌+◌, ◌-◌, ◌*◌, ◌/◌, ◌==◌, nat_le, nat_lt, min, ◌&&◌, Bool, true, false, if◌then◌else◌, List, [], ◌∷◌, ◌++◌, length, codes}
 use Rattle.std.specs.List.{concat, flat_map}
 use Rattle.std.specs.Fmt.{decimal}
-use Rattle.rh_defs.specs.Pieces.{page}
+use Rattle.rh_defs.specs.Pieces.{page_size}
 use Rattle.rh_defs.specs.Text.{address}
 use Rattle.rh_figure.specs.Phrases.{Text, where_so, size_text}
 use Rattle.rh_figure.specs.declared.piece.Kind.{Kind}
@@ -74,11 +74,11 @@ tip_of Unused at size = codes "unused, " ++ address at
 
 -- the first byte of page k that a piece has, from the page's first one
 abbrev pub low_in : ℕ → Piece → ℕ
-low_in k p = p.at - page * k
+low_in k p = p.at - page_size * k
 
 -- the first byte of page k behind a piece
 abbrev pub high_in : ℕ → Piece → ℕ
-high_in k p = min (p.at + p.size - page * k) page
+high_in k p = min (p.at + p.size - page_size * k) page_size
 
 -- how wide a piece is in the row of page k, and how far from the row's left end it begins
 abbrev pub piece_width : ℕ → Piece → ℕ

@@ -2,7 +2,7 @@
 use Rattle.std.specs.Prelude.{ℕ, ◌+◌, ◌-◌, ◌*◌, ◌/◌, nat_lt, if◌then◌else◌, List, [], ◌∷◌, ◌++◌, length, slice_index, codes, Option, Some, None}
 use Rattle.std.specs.List.{concat, flat_map, range_with_len}
 use Rattle.std.specs.Fmt.{decimal}
-use Rattle.rh_defs.specs.Pieces.{page}
+use Rattle.rh_defs.specs.Pieces.{page_size}
 use Rattle.rh_defs.specs.Text.{address}
 use Rattle.rh_figure.specs.Phrases.{Text, pages_text}
 use Rattle.rh_figure.specs.declared.piece.Piece.{Piece}
@@ -43,7 +43,7 @@ page_row_text g y k = concat (
 -- a page by its address; one that was given back is an empty row
 abbrev pub addressed_text : Plot → ℕ → ℕ → Text
 addressed_text g y k =
-    words_text (codes "addr") 0 (y + BASELINE) (address (g.start + page * k))
+    words_text (codes "addr") 0 (y + BASELINE) (address (g.start + page_size * k))
     ++ (if nat_lt k (length g.pages) then page_row_text g y k else box_text (page_box (codes "gone") y))
 
 -- the row that counts the pages between the ends of a long area of n pages

@@ -15,7 +15,7 @@ use Rattle.rh_figure.specs.Share.{Share}
 use Rattle.rh_figure.specs.Scene.{Scene, Before, before_of, marks_of, is_still, scene_of}
 use Rattle.rh_figure.specs.Phrases.{Text, where_so}
 use Rattle.rh_figure.specs.Map
-use Rattle.rh_figure.specs.Map.{Place, Read, Stage, after_read, first_place, is_mark}
+use Rattle.rh_figure.specs.Map.{Place, Read, Stage, after_read, map_start, is_mark}
 use Rattle.rh_sheet.specs.declared.sizes.TheConstants.{MOST_STEPS}
 use Rattle.rh_sheet.specs.Markup.{escape, step_link}
 use Rattle.rh_sheet.specs.Fixed.{style_text, signs_text, key_text}
@@ -162,16 +162,16 @@ behind_read marked s x (line, Err fault) =
     behind_happened marked x (line, Err fault) (fault_happened s fault x.place.desk)
 
 -- the end of a step that a remark has begun and no command has ended
-abbrev pub rest_text : Walk → Text
-rest_text x = where_so x.opened (said_end ++ step_end)
+abbrev pub open_rest : Walk → Text
+open_rest x = where_so x.opened (said_end ++ step_end)
 
 -- how many steps were begun
-abbrev pub begun : Walk → ℕ
-begun x = if x.opened then x.shown + 1 else x.shown
+abbrev pub steps_begun : Walk → ℕ
+steps_begun x = if x.opened then x.shown + 1 else x.shown
 
 -- the end of a sheet
 abbrev pub sheet_end : Walk → Text
-sheet_end x = rest_text x ++ sheet_foot (begun x) x.left
+sheet_end x = open_rest x ++ sheet_foot (steps_begun x) x.left
 
 -- a sheet from a line on
 abbrev pub sheet_lines : Bool → Walk → List Stage → Text
@@ -181,7 +181,7 @@ sheet_lines marked x ((r, s) ∷ rest) = read_text marked s x r ++ sheet_lines m
 -- before the first line
 abbrev pub first_walk : ℕ → FileList → Walk
 first_walk pages files =
-    record { place = first_place pages files; shown = 0; last = 0; left = 0; opened = false; notes = [] }
+    record { place = map_start pages files; shown = 0; last = 0; left = 0; opened = false; notes = [] }
 
 -- all that `draw` writes of the lines of a script with a name, each with the share behind it, over so many pages with
 -- these files; of all commands, or of marked ones alone

@@ -5,11 +5,11 @@ use Rattle.rh_defs.specs.declared.question.BlockItem.{BlockItem}
 use Rattle.rh_defs.specs.Chain.{Granted}
 use Rattle.rh_defs.specs.Slot.{Slot, IsSlot, slot_alloc, slot_free, slot_extend, slot_mid, slot_put, slot_claim, slot_release, slot_resize}
 use Rattle.rh_defs.specs.Questions.{block_items}
-use Rattle.rh_figure.specs.Changes.{item_of}
+use Rattle.rh_figure.specs.Changes.{item_with_anchor}
 
 -- the address of an anchor's block, where it has one
 abbrev pub address_in : ℕ → List BlockItem → Option ℕ
-address_in k items = option_map (λ (b : BlockItem). b.address) (item_of k items)
+address_in k items = option_map (λ (b : BlockItem). b.address) (item_with_anchor k items)
 
 -- Each block that is there before and now lies where it lay, or has slid: all of them the same way, and equally far.
 pub record SlideAlike (before now : List BlockItem) : Type 0 where

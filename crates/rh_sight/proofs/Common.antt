@@ -25,6 +25,6 @@ pub use Rattle.rh_sight.specs.Messages.{lies_in}
 pub use Rattle.rh_sight.specs.Owners.{holdings_of, made_holding, slot_holding}
 pub use Rattle.rh_sight.specs.Seen.{heap_seen, heap_start_of, owner_seen}
 pub use Rattle.rh_sight.specs.Steps.{scene_at}
-pub use Rattle.rh_sight.specs.Walks.{ComesTo, area_start_of, item_end, item_pieces, item_weight, legend_of}
+pub use Rattle.rh_sight.specs.Walks.{ComesToRest, area_start_of, item_end, item_pieces, item_weight, legend_of}
 pub use Rattle.rh_sight.specs.declared.sight.HeapOf.{HeapOf}
 pub use Rattle.rh_sight.specs.declared.walk.Census.{Census}

@@ -2,8 +2,8 @@
 use Rattle.rh_sight.proofs.Common.{◌≡◌, ℕ, zero, suc, ◌+◌, ◌-◌, ◌*◌, ◌<◌, ◌≤◌, Bool, true, false, refl, ap, sym, subst, ◌∙◌, arith, List, [], ◌∷◌, ◌++◌}
 use Rattle.rh_sight.proofs.Common.{length, take, drop, Option, Some, None, slice_get, IfSome, AllByRecursion, option_map, append_assoc, length-append}
 use Rattle.rh_sight.proofs.Common.{take-append-drop, SEGMENTS_AT_ONCE, SegmentItem, total, Heap, Segment, Used, Hole, size_of, place_after, IsDesk, Desk}
-use Rattle.rh_sight.proofs.Common.{Task, task_pages, segment_items_from, total-append, Census, HeapOf, heap_seen, heap_start_of, ComesTo, item_end}
-use Rattle.rh_defs.specs.Pieces.{page}
+use Rattle.rh_sight.proofs.Common.{Task, task_pages, segment_items_from, total-append, Census, HeapOf, heap_seen, heap_start_of, ComesToRest, item_end}
+use Rattle.rh_defs.specs.Pieces.{page_size}
 use Rattle.rh_defs.specs.Heap.{IsHeap, IsTidy}
 use Rattle.rh_defs.specs.Slot.{IsSlot, slot_length}
 use Rattle.rh_sight.specs.declared.sight.HeapOf.TheVariants as heap_of
@@ -31,7 +31,7 @@ module _ {d : Desk} (is : IsDesk d) where
   pub task-slot : (i : ℕ) (t : Task) → slice_get d.tasks i ≡ Some t → IsSlot t.slot
   task-slot i t e = all-one (λ (x : Task). IsSlot x.slot) d.tasks i t is.slots e
 
-  pub task-length : (i : ℕ) (t : Task) → slice_get d.tasks i ≡ Some t → (slot_length t.slot ≤ page * task_pages t) × (page * task_pages t ≤ 4194304)
+  pub task-length : (i : ℕ) (t : Task) → slice_get d.tasks i ≡ Some t → (slot_length t.slot ≤ page_size * task_pages t) × (page_size * task_pages t ≤ 4194304)
   task-length i t e =
       let one : task_pages t ≤ total task_pages d.tasks = total-one task_pages d.tasks i t e in
       let used = is.pages in
@@ -88,7 +88,7 @@ pub record Room (h : Heap) (place : ℕ) (rest : List Segment) : Type 0 where
   pub fits : place + total size_of rest ≤ h.end
 
 -- what lies from the place on has room in the heap
-pub room : {o : Option Heap} {place : ℕ} {rest : List Segment} (w : ComesTo o place rest) → IsSeen w.heap → Room w.heap place rest
+pub room : {o : Option Heap} {place : ℕ} {rest : List Segment} (w : ComesToRest o place rest) → IsSeen w.heap → Room w.heap place rest
 room {rest = rest} w s =
     let all : AllSized (w.below ++ rest) = subst AllSized w.whole (sized false w.heap.segments s.is.tidy) in
     let sum : total size_of w.heap.segments ≡ total size_of w.below + total size_of rest = ap (total size_of) w.whole ∙ total-append size_of w.below rest in
@@ -97,7 +97,7 @@ room {rest = rest} w s =
     record { sized = sized-back w.below rest all; fits = omega arith }
 
 -- the items that are told there
-pub told : {o : Option Heap} {place : ℕ} (start : ℕ) {rest : List Segment} {items : List SegmentItem} (w : ComesTo o place rest)
+pub told : {o : Option Heap} {place : ℕ} (start : ℕ) {rest : List Segment} {items : List SegmentItem} (w : ComesToRest o place rest)
     → IfSome o (λ h. (below : List Segment) (rest : List Segment) → h.segments ≡ below ++ rest → place ≡ place_after below
     → items ≡ take SEGMENTS_AT_ONCE (segment_items_from (start + place) rest)) → items ≡ segment_items_from (start + place) (take SEGMENTS_AT_ONCE rest)
 told {place = place} start {rest = rest} {items = items} w f =
@@ -107,7 +107,8 @@ told {place = place} start {rest = rest} {items = items} w f =
     g w.below rest w.whole w.at ∙ take-items SEGMENTS_AT_ONCE (start + place) rest
 
 -- behind some of them
-pub comes-on : {o : Option Heap} {place : ℕ} (passed left : List Segment) → ComesTo o place (passed ++ left) → ComesTo o (place + total size_of passed) left
+pub comes-on : {o : Option Heap} {place : ℕ} (passed left : List Segment) → ComesToRest o place (passed ++ left) → ComesToRest o
+    (place + total size_of passed) left
 comes-on passed left w = record {
   heap = w.heap;
   is = w.is;
@@ -147,12 +148,12 @@ pub record Stepped (o : Option Heap) (start end next count : ℕ) (items : List 
   pub within : next + start ≡ item_end last → next ≤ end_of o
   pub few : count + length items ≤ 4194304
 
-module _ {o : Option Heap} {start place end count : ℕ} {items : List SegmentItem} {rest : List Segment} (w : ComesTo o place rest)
+module _ {o : Option Heap} {start place end count : ℕ} {items : List SegmentItem} {rest : List Segment} (w : ComesToRest o place rest)
     (k : Counted start place end count items rest) where
-  comes : ComesTo o end k.left
+  comes : ComesToRest o end k.left
   comes =
-      let P : List Segment → Type 0 = λ z. ComesTo o place z in
-      let Q : ℕ → Type 0 = λ z. ComesTo o z k.left in
+      let P : List Segment → Type 0 = λ z. ComesToRest o place z in
+      let Q : ℕ → Type 0 = λ z. ComesToRest o z k.left in
       subst Q (sym k.at) (comes-on k.passed k.left (subst P k.whole w))
 
   abbrev front : List Segment
@@ -203,8 +204,8 @@ module _ {o : Option Heap} {start place end count : ℕ} {items : List SegmentIt
       let count_is = k.count_is in
       let at = k.at in
       let moved : next ≡ end + total size_of front = omega arith in
-      let P : List Segment → Type 0 = λ z. ComesTo o end z in
-      let Q : ℕ → Type 0 = λ z. ComesTo o z back in
+      let P : List Segment → Type 0 = λ z. ComesToRest o end z in
+      let Q : ℕ → Type 0 = λ z. ComesToRest o z back in
       record {
         passed = k.passed ++ front;
         left = back;
@@ -214,13 +215,13 @@ module _ {o : Option Heap} {start place end count : ℕ} {items : List SegmentIt
         items_are = told start (subst Q (sym moved) (comes-on front back (subst P (sym parts) comes))) f;
       }
 
-  pub comes-next : (next : ℕ) (last : SegmentItem) → Some last ≡ slice_get items (length items - 1) → next + start ≡ item_end last → ComesTo o next back
+  pub comes-next : (next : ℕ) (last : SegmentItem) → Some last ≡ slice_get items (length items - 1) → next + start ≡ item_end last → ComesToRest o next back
   comes-next next last e q =
       let h = last-here last e in
       let ends = h.0 in
       let moved : next ≡ end + total size_of front = omega arith in
-      let P : List Segment → Type 0 = λ z. ComesTo o end z in
-      let Q : ℕ → Type 0 = λ z. ComesTo o z back in
+      let P : List Segment → Type 0 = λ z. ComesToRest o end z in
+      let Q : ℕ → Type 0 = λ z. ComesToRest o z back in
       subst Q (sym moved) (comes-on front back (subst P (sym parts) comes))
 
   pub counted-all : None ≡ slice_get items (length items - 1) → (count ≡ length rest) × (end ≡ place + total size_of rest)
@@ -235,7 +236,7 @@ module _ {o : Option Heap} {start place end count : ℕ} {items : List SegmentIt
       (omega arith, omega arith)
 
 -- as a call asks for it
-pub comes-parts : {o : Option Heap} {place : ℕ} {rest : List Segment} → ComesTo o place rest
+pub comes-parts : {o : Option Heap} {place : ℕ} {rest : List Segment} → ComesToRest o place rest
     → IfSome o (λ h. (x : List Segment) × (y : List Segment) × (h.segments ≡ x ++ y) × (place ≡ place_after x))
 comes-parts {o = o} {place = place} {rest = rest} w =
     let P : Option Heap → Type 0 = λ z. IfSome z (λ h. (x : List Segment) × (y : List Segment) × (h.segments ≡ x ++ y) × (place ≡ place_after x)) in

@@ -16,7 +16,7 @@ use Rattle.rh_defs.specs.Laws.{Rise}
 use Rattle.rh_figure.specs.Share.{Owner, AreaOf, SlotOf, IsShared, is_owner}
 use Rattle.rh_sight.specs.declared.sight.PagesOf.{PagesOf}
 use Rattle.rh_sight.specs.declared.sight.PagesOf.TheVariants as pages
-use Rattle.rh_sight.specs.Pages.{pages_among, pages_before, place_among, share_in}
+use Rattle.rh_sight.specs.Pages.{pages_among, pages_before, owner_place, share_in}
 use Rattle.rh_sight.proofs.Places.{total-more}
 
 abbrev pub counted : Holding → ℕ
@@ -201,7 +201,7 @@ get-numbered n (a ∷ areas) (suc i) =
 
 -- the owner stands at its place, with so many pages
 pub record Stands (d : Desk) (owner : PagesOf) (o : Owner) (n : ℕ) : Type 0 where
-  pub is : slice_get (holdings d) (place_among owner d) ≡ Some (o, n)
+  pub is : slice_get (holdings d) (owner_place owner d) ≡ Some (o, n)
 
 module _ {d : Desk} (is : IsDesk d) where
   pub stands-fixed : (number a : ℕ) → slice_get d.areas number ≡ Some a → Stands d (pages.Fixed number) (AreaOf number) (fixed_holding d (number, a)).1
@@ -230,7 +230,7 @@ module _ {d : Desk} (is : IsDesk d) where
 
   -- how many pages the owner has
   pub stands-count : (owner : PagesOf) (o : Owner) (n : ℕ) → Stands d owner o n → count_of o (holdings d) ≡ n
-  stands-count owner o n at = (among-at (holdings d) (place_among owner d) (o, n) [] (desk-apart is) at.is).1
+  stands-count owner o n at = (among-at (holdings d) (owner_place owner d) (o, n) [] (desk-apart is) at.is).1
 
   module _ (numbers : List ℕ) (shared : IsShared (share_in numbers d) d) where
     pub room-free : free_pages d ≤ length numbers
@@ -244,14 +244,14 @@ module _ {d : Desk} (is : IsDesk d) where
 
     pub stands-room : (owner : PagesOf) (o : Owner) (n : ℕ) → Stands d owner o n → free_pages d + pages_before owner d + n ≤ length numbers
     stands-room owner o n at =
-        let front : total counted (take (place_among owner d) (holdings d)) + n ≤ total counted (holdings d) =
-        total-at (holdings d) (place_among owner d) (o, n) at.is in
+        let front : total counted (take (owner_place owner d) (holdings d)) + n ≤ total counted (holdings d) =
+        total-at (holdings d) (owner_place owner d) (o, n) at.is in
         omega (arith, room-all)
 
     pub stands-pages : (owner : PagesOf) (o : Owner) (n : ℕ) → Stands d owner o n
         → take n (drop (free_pages d + pages_before owner d) numbers) ≡ (share_in numbers d).pages_of o
     stands-pages owner o n at =
-        sym ((among-at (holdings d) (place_among owner d) (o, n) (drop (free_pages d) numbers) (desk-apart is) at.is).0
+        sym ((among-at (holdings d) (owner_place owner d) (o, n) (drop (free_pages d) numbers) (desk-apart is) at.is).0
         ∙ ap (take n) (drop-drop (pages_before owner d) (free_pages d) numbers))
 
 -- ---- how many pages the owners before have
@@ -431,7 +431,7 @@ at-some {A = A} o P x e h = let Q : Option A → Type 0 = λ z. IfSome z P in su
 
 module _ {d : Desk} (is : IsDesk d) where
   pub before-few : (owner : PagesOf) → pages_before owner d ≤ most_pages
-  before-few owner = let some = total-take counted (place_among owner d) (holdings d) in omega (arith, holdings-few is)
+  before-few owner = let some = total-take counted (owner_place owner d) (holdings d) in omega (arith, holdings-few is)
 
   -- where an owner's pages begin and end in the list
   pub room-of : (numbers : List ℕ) (owner : PagesOf) (o : Owner) → IsShared (share_in numbers d) d → owner_seen owner d ≡ Some o

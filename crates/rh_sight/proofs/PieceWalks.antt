@@ -3,7 +3,7 @@ use Rattle.rh_sight.proofs.Common.{◌≡◌, ℕ, zero, suc, ◌+◌, ◌-◌, 
 use Rattle.rh_sight.proofs.Common.{take, drop, get_or, Option, Some, None, slice_get, IfSome, append_assoc, length-append, length-take, take-append-drop}
 use Rattle.rh_sight.proofs.Common.{SEGMENTS_AT_ONCE, BlockItem, SegmentItem, total, Heap, Segment, Used, Hole, first_place, place_after, size_of}
 use Rattle.rh_sight.proofs.Common.{segment_item, segment_items_from, total-append, Piece, Legend, more_pieces, segment_pieces, Scene, HeapOf, heap_start_of}
-use Rattle.rh_sight.proofs.Common.{ComesTo, item_end, item_pieces, item_weight}
+use Rattle.rh_sight.proofs.Common.{ComesToRest, item_end, item_pieces, item_weight}
 use Rattle.std.proofs.lemmas.List.{drop-take, drop_more, take-take, take_more}
 use Rattle.rh_defs.specs.Slot.{Flex, flex_weight, weight}
 use Rattle.rh_defs.specs.Questions.{block_items_from}
@@ -23,7 +23,7 @@ take-add n m xs =
 -- ---- segments
 
 -- the segments from a place on, where so many were passed
-pub comes-at : {o : Option Heap} (h : Heap) (n place : ℕ) → o ≡ Some h → place ≡ place_after (take n h.segments) → ComesTo o place (drop n h.segments)
+pub comes-at : {o : Option Heap} (h : Heap) (n place : ℕ) → o ≡ Some h → place ≡ place_after (take n h.segments) → ComesToRest o place (drop n h.segments)
 comes-at h n place e at = record { heap = h; is = e; below = take n h.segments; whole = sym (take-append-drop n h.segments); at = at }
 
 -- 64 more pieces

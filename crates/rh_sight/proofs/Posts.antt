@@ -9,7 +9,7 @@ use Rattle.rh_defs.specs.Post.{Seat, held_by}
 use Rattle.rh_figure.specs.declared.piece.Kind.TheVariants.{Claimed, Posted}
 use Rattle.rh_figure.specs.Layout.{is_new_message, posted_or}
 use Rattle.rh_figure.specs.Scene.{held_list, ref_of}
-use Rattle.rh_sight.specs.Messages.{held_on, held_ref, is_held_by, item_of, message_items, ref_or_none, waiting_on}
+use Rattle.rh_sight.specs.Messages.{held_on, held_ref, is_held_by, seen_item, message_items, ref_or_none, waiting_on}
 
 -- ---- the message in a block
 
@@ -25,30 +25,30 @@ module _ (b : ℕ) where
   known o = option_map (λ (p : Parcel). p.message.my_ref) o
 
   listed-part : (h : Bool) (ps : List Parcel) (ms : List MessageItem) (qs : List Parcel) → told (find (lies_in b) ms) ≡ known (find stands qs)
-      → told (find (lies_in b) (map (item_of h) ps ++ ms)) ≡ known (find stands (ps ++ qs))
+      → told (find (lies_in b) (map (seen_item h) ps ++ ms)) ≡ known (find stands (ps ++ qs))
   listed-part h [] ms qs e = e
   listed-part h (p ∷ ps) ms qs e = go (p.block == b) refl (listed-part h ps ms qs e)
     where
-      go : (t : Bool) → (p.block == b) ≡ t → told (find (lies_in b) (map (item_of h) ps ++ ms)) ≡ known (find stands (ps ++ qs))
-          → told (find (lies_in b) (map (item_of h) (p ∷ ps) ++ ms)) ≡ known (find stands ((p ∷ ps) ++ qs))
+      go : (t : Bool) → (p.block == b) ≡ t → told (find (lies_in b) (map (seen_item h) ps ++ ms)) ≡ known (find stands (ps ++ qs))
+          → told (find (lies_in b) (map (seen_item h) (p ∷ ps) ++ ms)) ≡ known (find stands ((p ∷ ps) ++ qs))
       go true k rest = rw k refl
       go false k rest = rw k rest
 
-  held-part : (h : Bool) (ps : List Parcel) → told (find (lies_in b) (map (item_of h) ps)) ≡ known (find stands ps)
+  held-part : (h : Bool) (ps : List Parcel) → told (find (lies_in b) (map (seen_item h) ps)) ≡ known (find stands ps)
   held-part h [] = refl
   held-part h (p ∷ ps) = go (p.block == b) refl (held-part h ps)
     where
-      go : (t : Bool) → (p.block == b) ≡ t → told (find (lies_in b) (map (item_of h) ps)) ≡ known (find stands ps)
-          → told (find (lies_in b) (map (item_of h) (p ∷ ps))) ≡ known (find stands (p ∷ ps))
+      go : (t : Bool) → (p.block == b) ≡ t → told (find (lies_in b) (map (seen_item h) ps)) ≡ known (find stands ps)
+          → told (find (lies_in b) (map (seen_item h) (p ∷ ps))) ≡ known (find stands (p ∷ ps))
       go true k rest = rw k refl
       go false k rest = rw k rest
 
   pub ref-in-block : (d : Desk) → told (find (lies_in b) (message_items d)) ≡ known (find stands (waiting_on d ++ held_on d))
-  ref-in-block d = listed-part false (waiting_on d) (map (item_of true) (held_on d)) (held_on d) (held-part true (held_on d))
+  ref-in-block d = listed-part false (waiting_on d) (map (seen_item true) (held_on d)) (held_on d) (held-part true (held_on d))
 
 -- ---- what a task holds
 
-none-waits : (h : ℕ) (ps : List Parcel) (ms : List MessageItem) → find (is_held_by h) (map (item_of false) ps ++ ms) ≡ find (is_held_by h) ms
+none-waits : (h : ℕ) (ps : List Parcel) (ms : List MessageItem) → find (is_held_by h) (map (seen_item false) ps ++ ms) ≡ find (is_held_by h) ms
 none-waits h [] ms = refl
 none-waits h (p ∷ ps) ms = none-waits h ps ms
 
@@ -67,13 +67,13 @@ others-above least next h (t ∷ tasks) (s ∷ seats) e r l =
     (ne_eqb s.handle h (λ q. omega arith), others-above (t.handle + 1) next h tasks seats rest r.1 (omega arith))
 
 held-other : (next h : ℕ) (seats : List Seat) → AllByRecursion (HoldsOwn next) seats → Others h seats
-    → find (is_held_by h) (map (item_of true) (flat_map (λ (s : Seat). held_list s.holds) seats)) ≡ None
+    → find (is_held_by h) (map (seen_item true) (flat_map (λ (s : Seat). held_list s.holds) seats)) ≡ None
 held-other next h [] own off = refl
 held-other next h (s ∷ seats) own off = go s.holds own.0 (held-other next h seats own.1 off.1)
   where
     go : (o : Option Parcel) → IfSome o (IsHeld next s.handle)
-        → find (is_held_by h) (map (item_of true) (flat_map (λ (x : Seat). held_list x.holds) seats)) ≡ None
-        → find (is_held_by h) (map (item_of true) (held_list o ++ flat_map (λ (x : Seat). held_list x.holds) seats)) ≡ None
+        → find (is_held_by h) (map (seen_item true) (flat_map (λ (x : Seat). held_list x.holds) seats)) ≡ None
+        → find (is_held_by h) (map (seen_item true) (held_list o ++ flat_map (λ (x : Seat). held_list x.holds) seats)) ≡ None
     go None is rest = rest
     go (Some p) is rest =
         let mine : (p.to == h) ≡ false = ap (λ n. n == h) is.own ∙ off.0 in
@@ -81,7 +81,7 @@ held-other next h (s ∷ seats) own off = go s.holds own.0 (held-other next h se
 
 held-first : (least next given h : ℕ) (tasks : List Task) (seats : List Seat) → seat_handles seats ≡ task_handles tasks
     → Rise (λ (t : Task). t.handle) least next tasks → AllByRecursion (HoldsOwn given) seats
-    → ref_or_none (find (is_held_by h) (map (item_of true) (flat_map (λ (s : Seat). held_list s.holds) seats))) ≡ ref_of (held_by h seats)
+    → ref_or_none (find (is_held_by h) (map (seen_item true) (flat_map (λ (s : Seat). held_list s.holds) seats))) ≡ ref_of (held_by h seats)
 held-first least next given h tasks [] e r own = refl
 held-first least next given h [] (s ∷ seats) e r own = absurd (cc)
 held-first least next given h (t ∷ tasks) (s ∷ seats) e r own =
@@ -91,8 +91,8 @@ held-first least next given h (t ∷ tasks) (s ∷ seats) e r own =
   where
     go : s.handle ≡ t.handle → seat_handles seats ≡ task_handles tasks → (b : Bool) → (s.handle == h) ≡ b → (o : Option Parcel)
         → IfSome o (IsHeld given s.handle)
-        → ref_or_none (find (is_held_by h) (map (item_of true) (flat_map (λ (x : Seat). held_list x.holds) seats))) ≡ ref_of (held_by h seats)
-        → ref_or_none (find (is_held_by h) (map (item_of true) (held_list o ++ flat_map (λ (x : Seat). held_list x.holds) seats))) ≡ ref_of
+        → ref_or_none (find (is_held_by h) (map (seen_item true) (flat_map (λ (x : Seat). held_list x.holds) seats))) ≡ ref_of (held_by h seats)
+        → ref_or_none (find (is_held_by h) (map (seen_item true) (held_list o ++ flat_map (λ (x : Seat). held_list x.holds) seats))) ≡ ref_of
         (if b then o else held_by h seats)
     go here rest true k None is more =
         let same : s.handle ≡ h = eqb-true s.handle h k in
@@ -108,7 +108,7 @@ held-first least next given h (t ∷ tasks) (s ∷ seats) e r own =
 -- the list has the message that a task holds
 pub held-is : (d : Desk) → IsDesk d → (h : ℕ) → held_ref h (message_items d) ≡ ref_of (held_by h d.post.seats)
 held-is d is h =
-    ap ref_or_none (none-waits h (waiting_on d) (map (item_of true) (held_on d)))
+    ap ref_or_none (none-waits h (waiting_on d) (map (seen_item true) (held_on d)))
     ∙ held-first 0 d.next_handle d.post.next_ref h d.tasks d.post.seats is.seats is.handles is.post.held
 
 -- ---- what the block is

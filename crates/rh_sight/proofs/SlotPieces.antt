@@ -7,7 +7,7 @@ use Rattle.std.specs.List.{IsDistinct, list_any}
 use Rattle.std.proofs.lemmas.List.{append-nil, length-map}
 use Rattle.std.proofs.lemmas.Map.Steps.{length-le_from_distinct_below}
 use Rattle.rh_defs.specs.SlotImage.{heap_place}
-use Rattle.rh_defs.specs.Pieces.{page}
+use Rattle.rh_defs.specs.Pieces.{page_size}
 use Rattle.rh_defs.specs.Heap.{base}
 use Rattle.rh_defs.specs.Slot.{Flex, HaveAnchors, IsFree, Slot, anchor_count, flex_start, slot_length, slot_pages, weight}
 use Rattle.rh_defs.proofs.HeapLists.{eqb_apart}
@@ -136,7 +136,7 @@ pub slot-whole : (x : Scene) (h end most pages : ℕ) (s : Slot) (blocks : List 
     → e ≡ c ++ last ∷ [] → e ≡ slot_pieces x h s
 slot-whole x h end most pages s blocks none a b c e first last en ef p q eb em r ee ep el t =
     let bottom : Piece = record { kind = AnchorWords; at = 0; size = heap_place; fresh = false } in
-    let rest : Piece = record { kind = Unused; at = slot_length s; size = page * slot_pages s - slot_length s; fresh = false } in
+    let rest : Piece = record { kind = Unused; at = slot_length s; size = page_size * slot_pages s - slot_length s; fresh = false } in
     let heap = heap_pieces (slot_legend x h) heap_place s.heap in
     let flex = flex_pieces x h (heap_place + s.heap.end) s.blocks in
     let all = weights-are s blocks eb in

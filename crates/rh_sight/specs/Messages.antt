@@ -11,8 +11,8 @@ use Rattle.rh_sight.specs.declared.message_list.Place.{Place}
 use Rattle.rh_sight.specs.declared.message_list.Place.TheVariants.{Held, Before, Last}
 
 -- a message that waits, or is held
-abbrev pub item_of : Bool → Parcel → MessageItem
-item_of held p = record {
+abbrev pub seen_item : Bool → Parcel → MessageItem
+seen_item held p = record {
   block = p.block;
   to = p.to;
   from = p.message.from;
@@ -32,7 +32,7 @@ held_on d = flat_map (λ (s : Seat). held_list s.holds) d.post.seats
 
 -- those that wait, and then those that are held
 abbrev pub message_items : Desk → List MessageItem
-message_items d = map (item_of false) (waiting_on d) ++ map (item_of true) (held_on d)
+message_items d = map (seen_item false) (waiting_on d) ++ map (seen_item true) (held_on d)
 
 -- ---- looking through the list
 
@@ -49,9 +49,9 @@ abbrev pub lies_in : ℕ → MessageItem → Bool
 lies_in block m = m.block == block
 
 -- the messages behind the first with the ref
-abbrev pub behind : ℕ → List MessageItem → List MessageItem
-behind ref [] = []
-behind ref (m ∷ ms) = if m.my_ref == ref then ms else behind ref ms
+abbrev pub items_behind : ℕ → List MessageItem → List MessageItem
+items_behind ref [] = []
+items_behind ref (m ∷ ms) = if m.my_ref == ref then ms else items_behind ref ms
 
 -- the ref of a message that may be there, else 0
 abbrev pub ref_or_none : Option MessageItem → ℕ
@@ -73,7 +73,7 @@ before_next None = Last
 before_next (Some ref) = Before ref
 
 -- where a message stands in the chain of its task
-abbrev pub place_among : List MessageItem → MessageItem → Place
-place_among messages m =
+abbrev pub message_place : List MessageItem → MessageItem → Place
+message_place messages m =
     if held_ref m.to messages == m.my_ref then Held
-    else before_next (first_ref (behind m.my_ref (filter (waits_for m.to) messages)))
+    else before_next (first_ref (items_behind m.my_ref (filter (waits_for m.to) messages)))

@@ -6,12 +6,12 @@ use Rattle.rh_sight.specs.declared.kept.Owner.{Owner}
 use Rattle.rh_sight.specs.declared.kept.Owner.TheVariants.{Area, Slot}
 use Rattle.rh_sight.specs.declared.kept.Holding.{Holding}
 
-abbrev pub owner_of : Owner → share.Owner
-owner_of (Area number) = share.AreaOf number
-owner_of (Slot handle) = share.SlotOf handle
+abbrev pub shared_owner : Owner → share.Owner
+shared_owner (Area number) = share.AreaOf number
+shared_owner (Slot handle) = share.SlotOf handle
 
 abbrev pub holding_of : Holding → share.Holding
-holding_of h = (owner_of h.owner, h.pages)
+holding_of h = (shared_owner h.owner, h.pages)
 
 abbrev pub holdings_of : List Holding → List share.Holding
 holdings_of items = map holding_of items

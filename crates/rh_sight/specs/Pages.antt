@@ -19,11 +19,11 @@ share_in pages d = record {
 }
 
 -- the place of an owner among all owners
-abbrev pub place_among : PagesOf → Desk → ℕ
-place_among (Fixed number) d = number
-place_among (Made i) d = length d.areas + i
-place_among (Slot i) d = length d.areas + length d.made + i
+abbrev pub owner_place : PagesOf → Desk → ℕ
+owner_place (Fixed number) d = number
+owner_place (Made i) d = length d.areas + i
+owner_place (Slot i) d = length d.areas + length d.made + i
 
 -- how many pages the owners before it have
 abbrev pub pages_before : PagesOf → Desk → ℕ
-pages_before owner d = total (λ (h : Holding). h.1) (take (place_among owner d) (holdings d))
+pages_before owner d = total (λ (h : Holding). h.1) (take (owner_place owner d) (holdings d))

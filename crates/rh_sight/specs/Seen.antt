@@ -51,9 +51,9 @@ pub record IsBlockAt (h : Heap) (place : ℕ) (bytes : List ℕ) : Type 0 where
   pub at : place ≡ place_after below
 
 -- the same of a heap that may be there
-abbrev pub HasBlock : Option Heap → ℕ → List ℕ → Type 0
-HasBlock None place bytes = ⊥
-HasBlock (Some h) place bytes = IsBlockAt h place bytes
+abbrev pub SeesBlock : Option Heap → ℕ → List ℕ → Type 0
+SeesBlock None place bytes = ⊥
+SeesBlock (Some h) place bytes = IsBlockAt h place bytes
 
 -- a flex block of a task that may be there, as it is listed, has these bytes
 pub record HasFlex (t : Option Task) (item : BlockItem) (bytes : List ℕ) : Type 0 where
@@ -66,9 +66,9 @@ pub record HasFlex (t : Option Task) (item : BlockItem) (bytes : List ℕ) : Typ
   pub bytes_are : bytes ≡ block.bytes
 
 -- no message lies in the block whose segment begins at the place
-abbrev pub IsFree : HeapOf → ℕ → Desk → Type 0
-IsFree (heap_of.Task i) place d = Unit {0}
-IsFree heap_of.Module place d = post_is_message (place + 4) d.post ≡ false
+abbrev pub SeesFree : HeapOf → ℕ → Desk → Type 0
+SeesFree (heap_of.Task i) place d = Unit {0}
+SeesFree heap_of.Module place d = post_is_message (place + 4) d.post ≡ false
 
 -- the area with the number has so many pages, those of the module area being told by its heap
 abbrev pub IsAreaSeen : ℕ → ℕ → Desk → Type 0

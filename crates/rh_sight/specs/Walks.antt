@@ -16,7 +16,7 @@ use Rattle.rh_sight.specs.declared.sight.HeapOf.TheVariants as heap_of
 use Rattle.rh_sight.specs.declared.walk.Census.{Census}
 
 -- of a heap that may be there, these segments lie from the place on
-pub record ComesTo (h : Option Heap) (place : ℕ) (rest : List Segment) : Type 0 where
+pub record ComesToRest (h : Option Heap) (place : ℕ) (rest : List Segment) : Type 0 where
   pub heap : Heap
   pub is : h ≡ Some heap
   pub below : List Segment

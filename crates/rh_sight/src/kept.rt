@@ -4,11 +4,11 @@ ghost use Rattle.std.specs.Prelude.{◌≡◌, ◌≤◌, ◌<◌, ◌+◌, [], 
 ghost use Rattle.std.specs.Option.{option_map};
 ghost use Rattle.rh_defs.specs.Desk.{Task};
 ghost use Rattle.rh_defs.specs.declared.sizes.TheConstants.{MAX_AREAS};
-ghost use Rattle.rh_figure.specs.Changes.{item_of};
+ghost use Rattle.rh_figure.specs.Changes.{item_with_anchor};
 ghost use Rattle.rh_figure.specs.Scene.{before_of, before_task};
 ghost use Rattle.rh_figure.specs.Share.{count_of, holdings};
 ghost use Rattle.rh_sight.specs.Messages.{message_items};
-ghost use Rattle.rh_sight.specs.Owners.{holdings_of, made_holding, owner_of, slot_holding};
+ghost use Rattle.rh_sight.specs.Owners.{holdings_of, made_holding, shared_owner, slot_holding};
 ghost use Rattle.rh_sight.specs.Steps.{IsSender};
 
 use crate::message_list::held_ref;
@@ -156,14 +156,14 @@ impl Kept {
 
     /// The block that the task had at an anchor.
     pub fn block(&self, anchor: Anchor) -> Option<BlockItem>
-        ensures { result ≡ item_of anchor self.now.blocks }
+        ensures { result ≡ item_with_anchor anchor self.now.blocks }
     {
         item_at(&self.blocks, anchor)
     }
 
     /// How many pages an owner had, 0 where it wasn't there.
     pub fn count(&self, owner: Owner) -> u32
-        ensures { result ≡ count_of (owner_of owner) self.now.holdings }
+        ensures { result ≡ count_of (shared_owner owner) self.now.holdings }
     {
         count_among(&self.holdings, owner)
     }
@@ -171,7 +171,7 @@ impl Kept {
 
 /// How many pages an owner has by a list, 0 where it isn't in it.
 fn count_among(holdings: &[Holding], owner: Owner) -> u32
-    ensures { result ≡ count_of (owner_of owner) (holdings_of holdings.now) }
+    ensures { result ≡ count_of (shared_owner owner) (holdings_of holdings.now) }
 {
     for holding in holdings {
         if holding.owner == owner {
@@ -183,7 +183,7 @@ fn count_among(holdings: &[Holding], owner: Owner) -> u32
 
 /// The block of an anchor in a list.
 pub(crate) fn item_at(blocks: &[BlockItem], anchor: Anchor) -> Option<BlockItem>
-    ensures { result ≡ item_of anchor blocks.now }
+    ensures { result ≡ item_with_anchor anchor blocks.now }
 {
     for block in blocks {
         if block.anchor == anchor {

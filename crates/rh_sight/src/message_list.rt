@@ -1,7 +1,7 @@
 //! Looking through the list of all messages.
 
 ghost use Rattle.std.specs.Prelude.{◌≡◌, filter, find};
-ghost use Rattle.rh_sight.specs.Messages.{behind, first_ref, held_ref as held_ref_in, is_held_by, lies_in, place_among, waits_for};
+ghost use Rattle.rh_sight.specs.Messages.{items_behind, first_ref, held_ref as held_ref_in, is_held_by, lies_in, message_place, waits_for};
 
 use rh_defs::{Handle, MessageItem, Ref};
 
@@ -42,7 +42,7 @@ pub fn message_in(messages: &[MessageItem], block: u32) -> Option<MessageItem>
 
 /// Where a message stands in the chain of its task.
 pub fn place_of(messages: &[MessageItem], message: MessageItem) -> Place
-    ensures { result ≡ place_among messages.now message }
+    ensures { result ≡ message_place messages.now message }
 {
     if held_ref(messages, message.to) == message.my_ref {
         return Place::Held;
@@ -65,7 +65,7 @@ pub(crate) fn held_ref(messages: &[MessageItem], handle: Handle) -> Ref
 
 /// The ref of the message that waits for the same task behind this one.
 fn next_behind(messages: &[MessageItem], message: MessageItem) -> Option<Ref>
-    ensures { result ≡ first_ref (behind message.my_ref (filter (waits_for message.to) messages.now)) }
+    ensures { result ≡ first_ref (items_behind message.my_ref (filter (waits_for message.to) messages.now)) }
 {
     let mut seen = false;
     for other in messages {

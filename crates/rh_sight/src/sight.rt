@@ -74,7 +74,7 @@ pub enum PagesOf {
 
 /// A desk that can be looked at. Nothing here changes it, or takes memory.
 pub trait Sight {
-    ghost use Rattle.rh_sight.specs.Seen.{HasBlock, HasFlex, IsAreaSeen, IsFree, IsTaskSeen, heap_seen, heap_start_of, scrap_seen};
+    ghost use Rattle.rh_sight.specs.Seen.{SeesBlock, HasFlex, IsAreaSeen, SeesFree, IsTaskSeen, heap_seen, heap_start_of, scrap_seen};
     ghost use Rattle.rh_sight.specs.Messages.{message_items};
     ghost use Rattle.rh_sight.specs.Pages.{share_in};
 
@@ -118,9 +118,9 @@ pub trait Sight {
     /// Writes the first bytes of the block of a heap whose segment begins at a place, as many as there is room for. No
     /// message lies in the block.
     fn read_heap(&self, heap: HeapOf, place: u32, to: &mut [u8])
-        requires block { (bytes : List ℕ) × HasBlock (heap_seen heap (desk self.now)) place bytes × (length to.old ≤ length bytes) }
-        requires free { IsFree heap place (desk self.now) }
-        ensures { (bytes : List ℕ) → HasBlock (heap_seen heap (desk self.now)) place bytes → to.new ≡ take (length to.old) bytes };
+        requires block { (bytes : List ℕ) × SeesBlock (heap_seen heap (desk self.now)) place bytes × (length to.old ≤ length bytes) }
+        requires free { SeesFree heap place (desk self.now) }
+        ensures { (bytes : List ℕ) → SeesBlock (heap_seen heap (desk self.now)) place bytes → to.new ≡ take (length to.old) bytes };
 
     /// Puts all messages into a list, in place of what it held: those that wait, task by task in order of handle and
     /// as polls hand them out, and then those that are held.

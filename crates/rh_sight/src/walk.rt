@@ -3,7 +3,7 @@
 ghost use Rattle.std.specs.Prelude.{◌≡◌, ◌<◌, ◌≤◌, ◌+◌, ◌^◌, List, IsSome};
 ghost use Rattle.rh_defs.specs.Heap.{Segment};
 ghost use Rattle.rh_sight.specs.Seen.{heap_seen, heap_start_of};
-ghost use Rattle.rh_sight.specs.Walks.{ComesTo, census_of, item_end};
+ghost use Rattle.rh_sight.specs.Walks.{ComesToRest, census_of, item_end};
 
 use crate::sight::{HeapOf, Sight};
 use rh_defs::SegmentItem;
@@ -41,8 +41,8 @@ pub fn place_behind(heap: HeapOf, item: &SegmentItem) -> u32
 
 /// Counts the segments of a heap from the one that begins at a place on.
 pub fn take_census<S: Sight>(sight: &S, heap: HeapOf, place: u32) -> Census
-    requires { (rest : List Segment) × ComesTo (heap_seen heap (S.desk sight.now)) place rest }
-    ensures { (rest : List Segment) → ComesTo (heap_seen heap (S.desk sight.now)) place rest → result ≡ census_of place rest }
+    requires { (rest : List Segment) × ComesToRest (heap_seen heap (S.desk sight.now)) place rest }
+    ensures { (rest : List Segment) → ComesToRest (heap_seen heap (S.desk sight.now)) place rest → result ≡ census_of place rest }
 {
     sight.spelled();
     let mut end = place;

@@ -1,9 +1,10 @@
 -- A block gets bytes at its end.
 use Rattle.rh_slot.proofs.Common.{◌≡◌, ℕ, ◌+◌, ◌-◌, ◌/◌, ◌*◌, ◌<◌, ◌≤◌, ◌≢◌, ◌⊎◌, inl, inr, List, [], ◌∷◌, ◌++◌, length, take, in_above, Shifted, FoundAt}
 use Rattle.rh_slot.proofs.Common.{drop, ltb, refl, sym, ap, subst, ◌∙◌, arith, length-replicate, take_all, append-nil, cases_eq, cases_lt, Ok, Err, unwrap_or}
-use Rattle.rh_slot.proofs.Common.{PAGE, NoBlock, NoRoom, word, part, put, SameIn, SameOutside, Granted, ◌>>=◌, refuse_if, found_or, fitted, Memory, OnlyArea}
+use Rattle.rh_slot.proofs.Common.{PAGE, NoBlock, NoRoom, word, part, with_part, SameIn, SameOutside, Granted, ◌>>=◌, refuse_if, found_or, fitted, Memory}
+use Rattle.rh_slot.proofs.Common.{OnlyArea}
 use Rattle.rh_slot.proofs.Common.{bytes, total, pages_for, zeros, written, Split, Flex, Slot, weight, flex_weight, slot_length, slot_pages, IsFree}
-use Rattle.rh_slot.proofs.Common.{with_bytes, lacks_room, slot_block, slot_put, Lie, SlotWords, heap_place, word_same, part_same, put_outside}
+use Rattle.rh_slot.proofs.Common.{with_block_bytes, lacks_room, slot_block, slot_put, Lie, SlotWords, heap_place, word_same, part_same, put_outside}
 use Rattle.rh_slot.proofs.Common.{SameOutside-self, refuse_if-true, refuse_if-false, ltb_yes, ltb_no, block_of-at, part_of, wider, same_both, in_below}
 use Rattle.std.proofs.lemmas.List.{take_at, drop_all}
 use Rattle.std.proofs.Math.ListN.{length-append}
@@ -21,8 +22,8 @@ pub appended_words : (b b2 b3 d : List ℕ) (s : Slot) (k place size from n to :
     → from ≡ place + flex_weight size → from + n ≡ slot_length s → to ≡ place + flex_weight (size + length xs)
     → ((fs : List Flex) → Lie b from fs → total weight fs ≡ n → Shifted b b2 to fs) → SameIn b b2 heap_place to → to + n ≤ length d
     → word b3 (place + 4) ≡ size + length xs → SameOutside b2 b3 (place + 4) (place + 4 + 4)
-    → d ≡ put b3 (place + 8 + size) xs
-    → SlotWords d (with_bytes cut (cut.here.bytes ++ xs) s) × (slot_length (with_bytes cut (cut.here.bytes ++ xs) s) ≡ to + n)
+    → d ≡ with_part b3 (place + 8 + size) xs
+    → SlotWords d (with_block_bytes cut (cut.here.bytes ++ xs) s) × (slot_length (with_block_bytes cut (cut.here.bytes ++ xs) s) ≡ to + n)
 appended_words b b2 b3 d s k place size from n to cut xs w t ef en et sh same fits h3 o3 e =
     let old = cut.here.bytes in
     let nb = old ++ xs in
@@ -125,7 +126,7 @@ module _ (free k : ℕ) (xs : List ℕ) (s : Slot) (place size : ℕ) (cut : Spl
       (then_at k s place size cut _ t ∙ refuse_if-true (lacks_room free (slot.length_with cut more s) s) NoRoom _ (ltb_yes free need h))
 
   abbrev longer : Slot
-  longer = with_bytes cut (fitted more cut.here.bytes) s
+  longer = with_block_bytes cut (fitted more cut.here.bytes) s
 
   abbrev there : Split Flex
   there = record { before = cut.before; here = record { anchor = cut.here.anchor; bytes = fitted more cut.here.bytes }; after = cut.after }
@@ -134,17 +135,17 @@ module _ (free k : ℕ) (xs : List ℕ) (s : Slot) (place size : ℕ) (cut : Spl
   unfolding slot_extend
   extended h = then_at k s place size cut _ t ∙ refuse_if-false (lacks_room free (slot.length_with cut more s) s) NoRoom _ (ltb_no free need h)
 
-  overwritten : slot_put k (length cut.here.bytes) xs longer ≡ Ok (with_bytes cut (cut.here.bytes ++ xs) s)
+  overwritten : slot_put k (length cut.here.bytes) xs longer ≡ Ok (with_block_bytes cut (cut.here.bytes ++ xs) s)
   unfolding slot_put slot_block found_or ◌>>=◌
   overwritten =
       ap (λ (o : Granted (Split Flex)). o >>= λ b. refuse_if (ltb (length b.here.bytes) more) BadRange
-      >>= λ _. Ok (with_bytes b (written b.here.bytes (length cut.here.bytes) xs) longer))
+      >>= λ _. Ok (with_block_bytes b (written b.here.bytes (length cut.here.bytes) xs) longer))
       (ap (λ o. found_or o NoBlock) (block_of-at k longer there refl t.free t.anchor))
       ∙ refuse_if-false (ltb (length there.here.bytes) more) BadRange _ (ltb_no (length there.here.bytes) more
       (omega (arith, length-fitted more cut.here.bytes)))
-      ∙ ap (λ l. Ok (with_bytes cut l s)) (refitted cut.here.bytes xs)
+      ∙ ap (λ l. Ok (with_block_bytes cut l s)) (refitted cut.here.bytes xs)
 
-  pub append_done : need ≤ free → slot_append free k xs s ≡ Ok (with_bytes cut (cut.here.bytes ++ xs) s)
+  pub append_done : need ≤ free → slot_append free k xs s ≡ Ok (with_block_bytes cut (cut.here.bytes ++ xs) s)
   unfolding slot_append ◌>>=◌
   append_done h =
       then_at k s place size cut _ t ∙ ap (λ (g : Granted Slot). g >>= λ l. slot_put k (length cut.here.bytes) xs l) (extended h) ∙ overwritten

@@ -1,24 +1,24 @@
 -- Areas that are edited, and their pages.
-use Rattle.rh_slot.proofs.Common.{◌≡◌, ℕ, ◌+◌, ◌*◌, ◌≤◌, List, length, refl, sym, ap, subst, ◌∙◌, arith, Result, Ok, Err, OnOk, PAGE, part, put, Memory}
+use Rattle.rh_slot.proofs.Common.{◌≡◌, ℕ, ◌+◌, ◌*◌, ◌≤◌, List, length, refl, sym, ap, subst, ◌∙◌, arith, Result, Ok, Err, OnOk, PAGE, part, with_part, Memory}
 use Rattle.rh_slot.proofs.Common.{Edited, Resized, bytes, put_outside, length-part, bytes-with_bytes, Carried}
 use Rattle.rh_defs.specs.Memory.{with_bytes, grown, shrunk}
 use Rattle.rh_defs.proofs.BytesLaws.{put_inside, get-part}
 use Rattle.rh_defs.proofs.MemoryLaws.{Edited-with_bytes, SameIn-grown, SameIn-shrunk, length-grown, length-shrunk, OnlyArea-grown, OnlyArea-shrunk}
 
 -- bytes put into an area
-pub Edited-put : (m n : Memory) (id lo hi : ℕ) (xs : List ℕ) → n ≡ with_bytes m id (put (bytes m id) lo xs) → lo + length xs ≤ hi → Edited m n id lo hi
+pub Edited-put : (m n : Memory) (id lo hi : ℕ) (xs : List ℕ) → n ≡ with_bytes m id (with_part (bytes m id) lo xs) → lo + length xs ≤ hi → Edited m n id lo hi
 Edited-put m n id lo hi xs e h =
-    subst (λ (r : Memory). Edited m r id lo hi) (sym e) (Edited-with_bytes m id lo hi (put (bytes m id) lo xs) (put_outside (bytes m id) lo xs hi h))
+    subst (λ (r : Memory). Edited m r id lo hi) (sym e) (Edited-with_bytes m id lo hi (with_part (bytes m id) lo xs) (put_outside (bytes m id) lo xs hi h))
 
-slid : (b : List ℕ) (from to k : ℕ) → to + k ≤ length b → Carried b (put b to (part b from k)) from to k
+slid : (b : List ℕ) (from to k : ℕ) → to + k ≤ length b → Carried b (with_part b to (part b from k)) from to k
 slid b from to k h =
     record { each = λ i u. put_inside b to (part b from k) (to + i) i (omega (arith, length-part b from k)) refl (omega arith) ∙ get-part b from k i u }
 
 -- bytes slid in an area
-pub Carried-slid : (m n : Memory) (id from to k : ℕ) → n ≡ with_bytes m id (put (bytes m id) to (part (bytes m id) from k)) → to + k ≤ length (bytes m id)
+pub Carried-slid : (m n : Memory) (id from to k : ℕ) → n ≡ with_bytes m id (with_part (bytes m id) to (part (bytes m id) from k)) → to + k ≤ length (bytes m id)
     → Carried (bytes m id) (bytes n id) from to k
 Carried-slid m n id from to k e h =
-    let xs = put (bytes m id) to (part (bytes m id) from k) in
+    let xs = with_part (bytes m id) to (part (bytes m id) from k) in
     let q : bytes n id ≡ xs = ap (λ (r : Memory). bytes r id) e ∙ bytes-with_bytes m id xs in
     subst (λ c. Carried (bytes m id) c from to k) (sym q) (slid (bytes m id) from to k h)
 

@@ -4,14 +4,16 @@ use Rattle.rh_slot.proofs.Common.{arith, cases_eq, IfSome, cond, Option, Some, N
 use Rattle.rh_slot.proofs.Common.{SameOutside, Memory, OnlyArea, bytes, total, pages_for, zeros, moved, Split, Granted, left_of, no_answer, ◌>>=◌, refuse_if}
 use Rattle.rh_slot.proofs.Common.{found_or, Segment, Used, Hole, Heap, need, claim_growing, raised, size_of, bytes_of, fitted, block_at, base, Spells}
 use Rattle.rh_slot.proofs.Common.{flex_weight, slot_length, slot_pages, heap_block_at, heap_start, Refusal, cond_true, cond_false, eqb_same}
-use Rattle.rh_slot.proofs.Common.{eqb_apart, IsCut, first_at-cuts, OnlyArea-from_Edited, heap_in, Span, IsSlot, SpellsIn, slot_in, Leaves, lengthened}
+use Rattle.rh_slot.proofs.Common.{eqb_apart, IsCut, first_at-cuts, OnlyArea-from_Edited, heap_in, Span, IsSlotIn, SpellsSlotIn, slot_in, LeavesSlotIn}
+use Rattle.rh_slot.proofs.Common.{lengthened}
 use Rattle.rh_slot.proofs.Common.{SpellsSlot-with_heap}
 use Rattle.std.proofs.Common.{w32}
-use Rattle.rh_defs.specs.Pieces.{round_up, page}
+use Rattle.rh_defs.specs.Pieces.{round_up, page_size}
 use Rattle.rh_defs.specs.Chain.{answer_of}
-use Rattle.rh_defs.specs.Heap.{Placed, Way, Stays, Shrinks, GrowsIntoHole, GrowsAtTop, MovesToHole, MovesToTop, claim, claim_need, placed_in, hole_for}
-use Rattle.rh_defs.specs.Heap.{is_hole_for, way_beyond, way_to_grow, block_room, resized, resized_by, resize, resize_found, resize_need, resize_growing}
-use Rattle.rh_defs.specs.Heap.{need_found, new_size, way_to, segment_size, released, release, release_found, is_block_at, released_at, as_granted, refusal_of}
+use Rattle.rh_defs.specs.Heap.{Placed, Way, Stays, Shrinks, GrowsIntoHole, GrowsAtTop, MovesToHole, MovesToTop, claim_block, claim_need, placed_in, hole_for}
+use Rattle.rh_defs.specs.Heap.{is_hole_for, way_beyond, way_to_grow, block_room, resized, resized_by, resize_block, resize_found, resize_need, resize_growing}
+use Rattle.rh_defs.specs.Heap.{need_found, new_size, way_to, segment_size, released, release_block, release_found, is_block_at, released_at, as_granted}
+use Rattle.rh_defs.specs.Heap.{refusal_of}
 use Rattle.rh_defs.specs.Heap.{place_after, end_for}
 use Rattle.rh_defs.specs.Slot.{is_stuck, with_heap, slot_claim, slot_resize, slot_release, slot_take_pages}
 use Rattle.rh_defs.specs.Slot as plain
@@ -31,16 +33,16 @@ use Rattle.rh_slot.proofs.GrowLaws.{Gives, growth_none, growth_ok, growth_err, p
 use Rattle.rh_slot.proofs.GrowLaws.{need_err}
 
 -- the heap in the span once it is longer
-longer : (m : Memory) (slot : Slot) (s : plain.Slot) (k : ℕ) → SpellsIn m slot (lengthened k s) → s.budging ≡ slot.budge
+longer : (m : Memory) (slot : Slot) (s : plain.Slot) (k : ℕ) → SpellsSlotIn m slot (lengthened k s) → s.budging ≡ slot.budge
     → heap_in m (span_of slot) ≡ raised k s.heap
 longer m slot s k w b = heap_same m slot ∙ ap (λ (x : plain.Slot). x.heap) (slot_now m slot (lengthened k s) w b)
 
 -- the heap's own call places a block, so the slot's is done
 done_there : (o m n : Memory) (slot : Slot) (k : ℕ) (p : Placed) (call : Granted (plain.Slot × ℕ)) (own : Result (Heap × ℕ) HeapRefusal) (address : ℕ)
-    → (let s = slot_in o slot in SpellsIn m slot (lengthened k s) → call ≡ after_growth o.free k s (with_heap p.heap s, heap_start + p.address)
+    → (let s = slot_in o slot in SpellsSlotIn m slot (lengthened k s) → call ≡ after_growth o.free k s (with_heap p.heap s, heap_start + p.address)
     → Gives (Ok (tt {0})) o.free k s → p.heap.end ≡ (raised k s.heap).end
-    → own ≡ Ok (as_granted p) → heap_calls.Leaves m n (span_of slot) own (Ok address) → OnlyArea o m slot.area.0
-    → Leaves o n slot call (Ok (heap_start + address)))
+    → own ≡ Ok (as_granted p) → heap_calls.LeavesHeap m n (span_of slot) own (Ok address) → OnlyArea o m slot.area.0
+    → LeavesSlotIn o n slot call (Ok (heap_start + address)))
 done_there o m n slot k p call own address w e g q is l only =
     let s = slot_in o slot in
     let same : ◌≡◌ {A = Result ℕ HeapRefusal} (Ok p.address) (Ok address) = sym (l.answer ∙ ap answer_of is) in
@@ -53,31 +55,31 @@ done_there o m n slot k p call own address w e g q is l only =
 
 -- and it is not refused
 is_done : {m n : Memory} {span : Span} {r : Result ℕ HeapRefusal} (p : Placed) (own : Result (Heap × ℕ) HeapRefusal) → own ≡ Ok (as_granted p)
-    → heap_calls.Leaves m n span own r → IsOk r
+    → heap_calls.LeavesHeap m n span own r → IsOk r
 is_done p own is l = rw (l.answer ∙ ap answer_of is) refl
 
 -- ---- claims
 
-pub claim_longer : (m : Memory) (slot : Slot) (s : plain.Slot) (k n : ℕ) → SpellsIn m slot (lengthened k s) → s.budging ≡ slot.budge → n ≢ 0
-    → k ≡ need n s.heap → claim n (heap_in m (span_of slot)) ≡ Ok (as_granted (claim_growing n s.heap))
-claim_longer m slot s k n w b ne e = ap (claim n) (longer m slot s k w b) ∙ ap (λ i. claim n (raised i s.heap)) e ∙ claim-raised n s.heap ne
+pub claim_longer : (m : Memory) (slot : Slot) (s : plain.Slot) (k n : ℕ) → SpellsSlotIn m slot (lengthened k s) → s.budging ≡ slot.budge → n ≢ 0
+    → k ≡ need n s.heap → claim_block n (heap_in m (span_of slot)) ≡ Ok (as_granted (claim_growing n s.heap))
+claim_longer m slot s k n w b ne e = ap (claim_block n) (longer m slot s k w b) ∙ ap (λ i. claim_block n (raised i s.heap)) e ∙ claim-raised n s.heap ne
 
 pub claimed : (o m l : Memory) (slot : Slot) (k n address : ℕ)
-    → (let s = slot_in o slot in SpellsIn m slot (lengthened k s) → n ≢ 0 → k ≡ need n s.heap → Gives (Ok (tt {0})) o.free k s
-    → heap_calls.Leaves m l (span_of slot) (claim n (heap_in m (span_of slot))) (Ok address) → OnlyArea o m slot.area.0
-    → Leaves o l slot (slot_claim o.free n s) (Ok (heap_start + address)))
+    → (let s = slot_in o slot in SpellsSlotIn m slot (lengthened k s) → n ≢ 0 → k ≡ need n s.heap → Gives (Ok (tt {0})) o.free k s
+    → heap_calls.LeavesHeap m l (span_of slot) (claim_block n (heap_in m (span_of slot))) (Ok address) → OnlyArea o m slot.area.0
+    → LeavesSlotIn o l slot (slot_claim o.free n s) (Ok (heap_start + address)))
 claimed o m l slot k n address w ne e g there only =
     let s = slot_in o slot in
-    done_there o m l slot k (claim_growing n s.heap) (slot_claim o.free n s) (claim n (heap_in m (span_of slot))) address w
+    done_there o m l slot k (claim_growing n s.heap) (slot_claim o.free n s) (claim_block n (heap_in m (span_of slot))) address w
     (slot_claim-growth o.free n s ne
     ∙ ap (λ i. after_growth o.free i s (with_heap (claim_growing n s.heap).heap s, heap_start + (claim_growing n s.heap).address)) (sym e)) g
     (end-claim_growing n s.heap ∙ ap (λ i. (raised i s.heap).end) (sym e)) (claim_longer m slot s k n w (budging_same o slot) ne e) there only
 
 pub claim_is_done : (o m l : Memory) (slot : Slot) (k n : ℕ) {r : Result ℕ HeapRefusal}
-    → (let s = slot_in o slot in SpellsIn m slot (lengthened k s) → n ≢ 0 → k ≡ need n s.heap
-    → heap_calls.Leaves m l (span_of slot) (claim n (heap_in m (span_of slot))) r → IsOk r)
+    → (let s = slot_in o slot in SpellsSlotIn m slot (lengthened k s) → n ≢ 0 → k ≡ need n s.heap
+    → heap_calls.LeavesHeap m l (span_of slot) (claim_block n (heap_in m (span_of slot))) r → IsOk r)
 claim_is_done o m l slot k n w ne e there = let s =
-    slot_in o slot in is_done (claim_growing n s.heap) (claim n (heap_in m (span_of slot))) (claim_longer m slot s k n w (budging_same o slot) ne e) there
+    slot_in o slot in is_done (claim_growing n s.heap) (claim_block n (heap_in m (span_of slot))) (claim_longer m slot s k n w (budging_same o slot) ne e) there
 
 -- ---- resizes
 
@@ -138,32 +140,32 @@ resize_found-raised delta b h k ne e =
     ∙ ap (λ (p : Placed). Ok (as_granted p)) (resize-raised n b h)
 
 pub resize_longer : (m : Memory) (slot : Slot) (s : plain.Slot) (k a : ℕ) (delta : ℤ) (t : Resizes delta (block_at a s.heap) s.heap k)
-    → SpellsIn m slot (lengthened k s) → s.budging ≡ slot.budge
-    → resize a delta (heap_in m (span_of slot)) ≡ Ok (as_granted (resize_growing (new_size delta t.block) t.block s.heap))
+    → SpellsSlotIn m slot (lengthened k s) → s.budging ≡ slot.budge
+    → resize_block a delta (heap_in m (span_of slot)) ≡ Ok (as_granted (resize_growing (new_size delta t.block) t.block s.heap))
 resize_longer m slot s k a delta t w b =
-    ap (resize a delta) (longer m slot s k w b) ∙ ap (λ o. resize_found delta o (raised k s.heap)) t.found
+    ap (resize_block a delta) (longer m slot s k w b) ∙ ap (λ o. resize_found delta o (raised k s.heap)) t.found
     ∙ resize_found-raised delta t.block s.heap k t.some t.short
 
 pub resized_there : (o m l : Memory) (slot : Slot) (k a address : ℕ) (delta : ℤ) (x : ℕ)
     → (let s = slot_in o slot in Resizes delta (block_at a s.heap) s.heap k → a ≡ address - heap_start
-    → SpellsIn m slot (lengthened k s) → Gives (Ok (tt {0})) o.free k s
-    → heap_calls.Leaves m l (span_of slot) (resize a delta (heap_in m (span_of slot))) (Ok x) → OnlyArea o m slot.area.0
-    → Leaves o l slot (slot_resize o.free address delta s) (Ok (heap_start + x)))
+    → SpellsSlotIn m slot (lengthened k s) → Gives (Ok (tt {0})) o.free k s
+    → heap_calls.LeavesHeap m l (span_of slot) (resize_block a delta (heap_in m (span_of slot))) (Ok x) → OnlyArea o m slot.area.0
+    → LeavesSlotIn o l slot (slot_resize o.free address delta s) (Ok (heap_start + x)))
 resized_there o m l slot k a address delta x t e w g there only =
     let s = slot_in o slot in
     let p = resize_growing (new_size delta t.block) t.block s.heap in
-    done_there o m l slot k p (slot_resize o.free address delta s) (resize a delta (heap_in m (span_of slot))) x w
+    done_there o m l slot k p (slot_resize o.free address delta s) (resize_block a delta (heap_in m (span_of slot))) x w
     (slot_resize-growth o.free address delta s t.block (ap (λ i. block_at i s.heap) (sym e) ∙ t.found) t.some
     ∙ ap (λ i. after_growth o.free i s (with_heap p.heap s, heap_start + p.address)) (sym t.short)) g
     (end-resize_growing (new_size delta t.block) t.block s.heap ∙ ap (λ i. (raised i s.heap).end) (sym t.short))
     (resize_longer m slot s k a delta t w (budging_same o slot)) there only
 
 pub resize_is_done : (o m l : Memory) (slot : Slot) (k a : ℕ) (delta : ℤ) {r : Result ℕ HeapRefusal}
-    → (let s = slot_in o slot in Resizes delta (block_at a s.heap) s.heap k → SpellsIn m slot (lengthened k s)
-    → heap_calls.Leaves m l (span_of slot) (resize a delta (heap_in m (span_of slot))) r → IsOk r)
+    → (let s = slot_in o slot in Resizes delta (block_at a s.heap) s.heap k → SpellsSlotIn m slot (lengthened k s)
+    → heap_calls.LeavesHeap m l (span_of slot) (resize_block a delta (heap_in m (span_of slot))) r → IsOk r)
 resize_is_done o m l slot k a delta t w there =
     let s = slot_in o slot in
-    is_done (resize_growing (new_size delta t.block) t.block s.heap) (resize a delta (heap_in m (span_of slot)))
+    is_done (resize_growing (new_size delta t.block) t.block s.heap) (resize_block a delta (heap_in m (span_of slot)))
     (resize_longer m slot s k a delta t w (budging_same o slot)) there
 
 pub resize_call-growth : (free address a k : ℕ) (delta : ℤ) (s : plain.Slot) (t : Resizes delta (block_at a s.heap) s.heap k) → a ≡ address - heap_start
@@ -204,16 +206,16 @@ pub slot_release-none : (address : ℕ) (s : plain.Slot) → heap_block_at addre
 unfolding slot_release ◌>>=◌ found_or
 slot_release-none address s e = rw e refl
 
-pub released_there : (m n : Memory) (slot : Slot) (address a : ℕ) {x : Unit {0}} → (let s = slot_in m slot in IsSlot m slot → a ≡ address - heap_start
-    → heap_calls.Leaves m n (span_of slot) (no_answer (released_at a (heap_in m (span_of slot)))) (Ok x)
-    → Leaves m n slot (no_answer (slot_release address s)) (Ok tt))
+pub released_there : (m n : Memory) (slot : Slot) (address a : ℕ) {x : Unit {0}} → (let s = slot_in m slot in IsSlotIn m slot → a ≡ address - heap_start
+    → heap_calls.LeavesHeap m n (span_of slot) (no_answer (released_at a (heap_in m (span_of slot)))) (Ok x)
+    → LeavesSlotIn m n slot (no_answer (slot_release address s)) (Ok tt))
 released_there m n slot address a w ea l =
     let s = slot_in m slot in
     let same = heap_same m slot in
     let b = released-found a (heap_in m (span_of slot)) l.answer in
     let found : block_at a s.heap ≡ Some b.0 = ap (block_at a) (sym same) ∙ b.1 in
     let call = slot_release-some address s b.0 (ap (λ k. block_at k s.heap) (sym ea) ∙ found) in
-    let heap : release a (heap_in m (span_of slot)) ≡ released b.0 s.heap = ap (release a) same ∙ ap (λ o. release_found o s.heap) found in
+    let heap : release_block a (heap_in m (span_of slot)) ≡ released b.0 s.heap = ap (release_block a) same ∙ ap (λ o. release_found o s.heap) found in
     let spelt = subst (λ r. Spells (bytes n slot.area.0) heap_place (left_of (heap_in m (span_of slot)) (no_answer r)))
     (released_at-some a (heap_in m (span_of slot)) b.0 b.1) l.spells in
     leaves m n slot (no_answer (slot_release address s)) (with_heap (released b.0 s.heap) s) tt (ap no_answer call) (budging_same m slot)
@@ -222,9 +224,10 @@ released_there m n slot address a w ea l =
     (subst (Spells (bytes n slot.area.0) heap_place) heap spelt) refl)
     (OnlyArea-from_Edited m n slot.area.0 _ _ l.only)
 
-pub release_refused : (m n : Memory) (slot : Slot) (address a : ℕ) {refusal : HeapRefusal} → (let s = slot_in m slot in IsSlot m slot → a ≡ address - heap_start
-    → heap_calls.Leaves m n (span_of slot) (no_answer (released_at a (heap_in m (span_of slot)))) (Err refusal)
-    → Leaves m n slot (no_answer (slot_release address s)) (Err (refusal_of refusal)))
+pub release_refused : (m n : Memory) (slot : Slot) (address a : ℕ) {refusal : HeapRefusal} →
+    (let s = slot_in m slot in IsSlotIn m slot → a ≡ address - heap_start
+    → heap_calls.LeavesHeap m n (span_of slot) (no_answer (released_at a (heap_in m (span_of slot)))) (Err refusal)
+    → LeavesSlotIn m n slot (no_answer (slot_release address s)) (Err (refusal_of refusal)))
 release_refused m n slot address a {refusal} w ea l =
     let s = slot_in m slot in
     let none = released-refused a (heap_in m (span_of slot)) l.answer in
@@ -346,21 +349,21 @@ resize_most delta a k h t f l =
 
 -- ---- calls that the heap as it is grants
 
-spells_longer : (m : Memory) (slot : Slot) → IsSlot m slot → SpellsIn m slot (lengthened 0 (slot_in m slot))
-spells_longer m slot i = subst (λ h. SpellsIn m slot (with_heap h (slot_in m slot))) (sym (raised-none (slot_in m slot).heap)) i.spells
+spells_longer : (m : Memory) (slot : Slot) → IsSlotIn m slot → SpellsSlotIn m slot (lengthened 0 (slot_in m slot))
+spells_longer m slot i = subst (λ h. SpellsSlotIn m slot (with_heap h (slot_in m slot))) (sym (raised-none (slot_in m slot).heap)) i.spells
 
-module _ (m n : Memory) (slot : Slot) (span : Span) (at : span ≡ span_of slot) (i : IsSlot m slot) where
+module _ (m n : Memory) (slot : Slot) (span : Span) (at : span ≡ span_of slot) (i : IsSlotIn m slot) where
   abbrev s : plain.Slot
   s = slot_in m slot
 
-  module _ (k address : ℕ) (l : heap_calls.Leaves m n span (claim k (heap_in m span)) (Ok address)) where
-    claim_there : heap_calls.Leaves m n (span_of slot) (claim k (heap_in m (span_of slot))) (Ok address)
-    claim_there = subst (λ t. heap_calls.Leaves m n t (claim k (heap_in m t)) (Ok address)) at l
+  module _ (k address : ℕ) (l : heap_calls.LeavesHeap m n span (claim_block k (heap_in m span)) (Ok address)) where
+    claim_there : heap_calls.LeavesHeap m n (span_of slot) (claim_block k (heap_in m (span_of slot))) (Ok address)
+    claim_there = subst (λ t. heap_calls.LeavesHeap m n t (claim_block k (heap_in m t)) (Ok address)) at l
 
     claims_none : (k ≢ 0) × (0 ≡ need k s.heap)
     claims_none = claim_needs k 0 s (heap_in m (span_of slot)) (heap_same m slot) (claim-granted k address (heap_in m (span_of slot)) claim_there.answer)
 
-    pub claimed_here : Leaves m n slot (slot_claim m.free k s) (Ok (heap_start + address))
+    pub claimed_here : LeavesSlotIn m n slot (slot_claim m.free k s) (Ok (heap_start + address))
     claimed_here =
         claimed m m n slot 0 k address (spells_longer m slot i) claims_none.0 claims_none.1 (growth_none m.free 0 s refl) claim_there
         (OnlyArea-self m slot.area.0 i.opened)
@@ -370,9 +373,9 @@ module _ (m n : Memory) (slot : Slot) (span : Span) (at : span ≡ span_of slot)
         let is = claim_longer m slot s 0 k (spells_longer m slot i) (budging_same m slot) claims_none.0 claims_none.1 in
         omega (arith, claim_low k s.heap, address_low (claim_growing k s.heap) _ address is claim_there.answer)
 
-  module _ (a : ℕ) (delta : ℤ) (x : ℕ) (l : heap_calls.Leaves m n span (resize a delta (heap_in m span)) (Ok x)) where
-    resize_there : heap_calls.Leaves m n (span_of slot) (resize a delta (heap_in m (span_of slot))) (Ok x)
-    resize_there = subst (λ t. heap_calls.Leaves m n t (resize a delta (heap_in m t)) (Ok x)) at l
+  module _ (a : ℕ) (delta : ℤ) (x : ℕ) (l : heap_calls.LeavesHeap m n span (resize_block a delta (heap_in m span)) (Ok x)) where
+    resize_there : heap_calls.LeavesHeap m n (span_of slot) (resize_block a delta (heap_in m (span_of slot))) (Ok x)
+    resize_there = subst (λ t. heap_calls.LeavesHeap m n t (resize_block a delta (heap_in m t)) (Ok x)) at l
 
     resizes_none : Resizes delta (block_at a s.heap) s.heap 0
     resizes_none =
@@ -380,7 +383,7 @@ module _ (m n : Memory) (slot : Slot) (span : Span) (at : span ≡ span_of slot)
         subst (λ (g : Heap). Resizes delta (block_at a g) g 0) (heap_same m slot)
         (need_found_ok delta (block_at a h) h 0 (resize-granted delta (block_at a h) h x resize_there.answer))
 
-    pub resized_here : (address : ℕ) → a ≡ address - heap_start → Leaves m n slot (slot_resize m.free address delta s) (Ok (heap_start + x))
+    pub resized_here : (address : ℕ) → a ≡ address - heap_start → LeavesSlotIn m n slot (slot_resize m.free address delta s) (Ok (heap_start + x))
     resized_here address e =
         resized_there m m n slot 0 a address delta x resizes_none e (spells_longer m slot i) (growth_none m.free 0 s refl) resize_there
         (OnlyArea-self m slot.area.0 i.opened)
@@ -397,7 +400,7 @@ module _ (m n : Memory) (slot : Slot) (span : Span) (at : span ≡ span_of slot)
 -- ---- the pages that a claim and a block of no bytes take
 
 pages_taken : (s : plain.Slot) (k : ℕ)
-    → pages_for (slot_length s + round_up page k + flex_weight 0) - slot_pages s ≡ pages_for k + pages_for (slot_length s + 8) - pages_for (slot_length s)
+    → pages_for (slot_length s + round_up page_size k + flex_weight 0) - slot_pages s ≡ pages_for k + pages_for (slot_length s + 8) - pages_for (slot_length s)
 pages_taken s k = omega arith
 
 pub take_zero : (n : ℕ) (s : plain.Slot) (h : Heap) (f : HeapRefusal) → h ≡ s.heap → Err f ≡ claim_need n h → slot_take_pages n s ≡ Err (refusal_of f)
@@ -414,4 +417,4 @@ unfolding slot_take_pages ◌>>=◌ refuse_if
 take_done n k s w e =
     let z = eqb_apart n 0 w.0 in
     let q : is_stuck (need n s.heap) s ≡ false = ap (λ i. is_stuck i s) (sym w.1) ∙ e in
-    rw (z, q) (ap (λ i. Ok i) (ap (λ i. pages_for (slot_length s + round_up page i + flex_weight 0) - slot_pages s) (sym w.1) ∙ pages_taken s k))
+    rw (z, q) (ap (λ i. Ok i) (ap (λ i. pages_for (slot_length s + round_up page_size i + flex_weight 0) - slot_pages s) (sym w.1) ∙ pages_taken s k))

@@ -17,7 +17,7 @@ pub use Rattle.rh_defs.proofs.MemoryLaws.{OnlyArea-both, OnlyArea-from_Edited, b
 pub use Rattle.rh_defs.proofs.SlotImageLaws.{SpellsSlot-with_heap}
 pub use Rattle.rh_defs.proofs.SlotLaws.{Carried, Hang-same, Hang-split, HaveAnchors-cut, Lie-same, Lie-split, Spells-same, block_of-at, in_above, in_below}
 pub use Rattle.rh_defs.proofs.SlotLaws.{in_both, part_of, same_both, wider}
-pub use Rattle.rh_defs.specs.Bytes.{SameIn, SameOutside, put}
+pub use Rattle.rh_defs.specs.Bytes.{SameIn, SameOutside, with_part}
 unfoldable pub use Rattle.rh_defs.specs.Bytes.{part, word}
 pub use Rattle.rh_defs.specs.Chain.{Granted, left_of, no_answer}
 unfoldable pub use Rattle.rh_defs.specs.Chain.{found_or, refuse_if, ◌>>=◌}
@@ -28,7 +28,7 @@ pub use Rattle.rh_defs.specs.Memory.{Edited, IsOpen, Memory, OnlyArea, Resized}
 unfoldable pub use Rattle.rh_defs.specs.Memory.{bytes}
 pub use Rattle.rh_defs.specs.Pieces.{Split, moved, pages_for, total, written, zeros}
 pub use Rattle.rh_defs.specs.Slot.{Flex, HaveAnchors, IsFree, Slot, anchor_count, flex_address, flex_start, flex_weight, heap_block_at, heap_start}
-pub use Rattle.rh_defs.specs.Slot.{lacks_room, slot_length, slot_pages, slot_start, weight, with_block, with_bytes}
+pub use Rattle.rh_defs.specs.Slot.{lacks_room, slot_length, slot_pages, slot_start, weight, with_block, with_block_bytes}
 unfoldable pub use Rattle.rh_defs.specs.Slot.{slot_block, slot_put}
 pub use Rattle.rh_defs.specs.SlotImage.{Hang, Lie, SlotWords, SpellsSlot, flex_place, heap_place, is_block}
 unfoldable pub use Rattle.rh_defs.specs.SlotImage.{flex_in, slot_of}
@@ -38,10 +38,10 @@ pub use Rattle.rh_defs.specs.declared.refusal.Refusal.TheVariants.{NoBlock, NoRo
 pub use Rattle.rh_defs.specs.declared.sizes.TheConstants.{PAGE}
 pub use Rattle.rh_heap.specs.Spans.{heap_in}
 pub use Rattle.rh_heap.specs.declared.span.Span.{Span}
-pub use Rattle.rh_slot.specs.Area.{IsSlot, SpellsIn, slot_in}
+pub use Rattle.rh_slot.specs.Area.{IsSlotIn, SpellsSlotIn, slot_in}
 pub use Rattle.rh_slot.specs.CHeap.{lengthened}
-pub use Rattle.rh_slot.specs.Calls.{Leaves}
-pub use Rattle.rh_slot.specs.Flex.{Found, FoundAt}
+pub use Rattle.rh_slot.specs.Calls.{LeavesSlotIn}
+pub use Rattle.rh_slot.specs.Flex.{FoundFlex, FoundAt}
 unfoldable pub use Rattle.rh_slot.specs.Image.{are_hung}
-pub use Rattle.rh_slot.specs.Row.{HangsApart, Row, Shifted, Walked, WalksIn, item_of}
+pub use Rattle.rh_slot.specs.Row.{HangsApart, BlockRow, Shifted, Walked, WalksIn, row_item}
 pub use Rattle.rh_slot.specs.declared.image.SlotFault.TheVariants.{BadAnchor, BadSize, SparePage}

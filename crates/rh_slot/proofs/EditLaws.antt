@@ -1,11 +1,11 @@
 -- A block gets other bytes.
 use Rattle.rh_slot.proofs.Common.{◌≡◌, ℕ, ◌+◌, ◌-◌, ◌*◌, ◌/◌, ◌<◌, ◌≤◌, inl, inr, ℤ, pos, negsuc, Bool, true, false, List, [], ◌∷◌, ◌++◌, length, replicate}
 use Rattle.rh_slot.proofs.Common.{take, drop, ltb, refl, sym, ap, subst, ◌∙◌, arith, length-replicate, length-take-le, take_all, append-nil, cases_lt, Ok}
-use Rattle.rh_slot.proofs.Common.{Err, IsTrue, ◌↔◌, ◌||◌, PAGE, NoBlock, NoRoom, word, part, put, SameIn, SameOutside, total, pages_for, zeros, moved}
-use Rattle.rh_slot.proofs.Common.{written, Split, fitted, Flex, Slot, weight, flex_weight, slot_length, slot_pages, IsFree, HaveAnchors, with_bytes}
+use Rattle.rh_slot.proofs.Common.{Err, IsTrue, ◌↔◌, ◌||◌, PAGE, NoBlock, NoRoom, word, part, with_part, SameIn, SameOutside, total, pages_for, zeros, moved}
+use Rattle.rh_slot.proofs.Common.{written, Split, fitted, Flex, Slot, weight, flex_weight, slot_length, slot_pages, IsFree, HaveAnchors, with_block_bytes}
 use Rattle.rh_slot.proofs.Common.{lacks_room, slot_put, Lie, Hang, SlotWords, flex_place, heap_place, word_same, part_same, length-part, put_outside}
 use Rattle.rh_slot.proofs.Common.{SameOutside-self, sum-append, ltb_yes, ltb_no, part_of, wider, same_both, in_below, in_above, in_both, Carried, Lie-split}
-use Rattle.rh_slot.proofs.Common.{Lie-same, Hang-split, Hang-same, HaveAnchors-cut, Row, Shifted, FoundAt, Found, ◌>>=◌, refuse_if, refuse_if-true}
+use Rattle.rh_slot.proofs.Common.{Lie-same, Hang-split, Hang-same, HaveAnchors-cut, BlockRow, Shifted, FoundAt, FoundFlex, ◌>>=◌, refuse_if, refuse_if-true}
 use Rattle.rh_slot.proofs.Common.{refuse_if-false}
 use Rattle.std.proofs.lemmas.List.{length-drop, drop_all}
 use Rattle.std.proofs.Math.ListN.{length-append}
@@ -20,7 +20,7 @@ use Rattle.rh_slot.proofs.FlexLaws.{rebuilt, above, then_none, then_at, false-tr
 
 -- the slot's length with other bytes in a block
 pub length_with : (s : Slot) (k place size : ℕ) (cut : Split Flex) (bytes : List ℕ) → FoundAt k s place size cut
-    → slot_length (with_bytes cut bytes s) + flex_weight size ≡ slot_length s + flex_weight (length bytes)
+    → slot_length (with_block_bytes cut bytes s) + flex_weight size ≡ slot_length s + flex_weight (length bytes)
 length_with s k place size cut bytes t =
     let new : Flex = record { anchor = cut.here.anchor; bytes = bytes } in
     let old : total weight s.blocks ≡ total weight cut.before + (weight cut.here + total weight cut.after) =
@@ -31,8 +31,8 @@ length_with s k place size cut bytes t =
     omega arith
 
 -- the blocks above a block, where bytes in it have changed
-pub row_over : (b b1 : List ℕ) (s : Slot) (k place size from n : ℕ) → SlotWords b s → Found k s place size → from ≡ place + flex_weight size
-    → from + n ≡ slot_length s → SameOutside b b1 (place + 8) from → Row b1 from n
+pub row_over : (b b1 : List ℕ) (s : Slot) (k place size from n : ℕ) → SlotWords b s → FoundFlex k s place size → from ≡ place + flex_weight size
+    → from + n ≡ slot_length s → SameOutside b b1 (place + 8) from → BlockRow b1 from n
 row_over b b1 s k place size from n w t ef en o =
     let a = above b s k place size from n t.cut w t.at ef en in
     let sum = a.1 in
@@ -53,7 +53,7 @@ pub record Slid (b b1 c : List ℕ) (s : Slot) (k place size from n to : ℕ) (c
 pub changed : {b b1 c d : List ℕ} {s : Slot} {k place size from n to : ℕ} {cut : Split Flex} (bytes : List ℕ) → Slid b b1 c s k place size from n to cut
     → to + n ≤ length d → to ≡ place + flex_weight (length bytes)
     → SameOutside c d (place + 4) to → word d (place + 4) ≡ length bytes → part d (place + 8) (length bytes) ≡ bytes
-    → SlotWords d (with_bytes cut bytes s) × (slot_length (with_bytes cut bytes s) ≡ to + n)
+    → SlotWords d (with_block_bytes cut bytes s) × (slot_length (with_block_bytes cut bytes s) ≡ to + n)
 changed {b} {b1} {c} {d} {s} {k} {place} {size} {from} {n} {to} {cut} bytes slid fits et o h p =
     let w = slid.words in
     let t = slid.found in
@@ -149,8 +149,9 @@ length_written bytes xs offset h =
     )
 
 pub put_words : (b d : List ℕ) (s : Slot) (k place size offset : ℕ) (cut : Split Flex) (xs : List ℕ) → SlotWords b s → FoundAt k s place size cut
-    → offset + length xs ≤ size → d ≡ put b (place + 8 + offset) xs
-    → SlotWords d (with_bytes cut (written cut.here.bytes offset xs) s) × (slot_length (with_bytes cut (written cut.here.bytes offset xs) s) ≡ slot_length s)
+    → offset + length xs ≤ size → d ≡ with_part b (place + 8 + offset) xs
+    → SlotWords d (with_block_bytes cut (written cut.here.bytes offset xs) s) ×
+    (slot_length (with_block_bytes cut (written cut.here.bytes offset xs) s) ≡ slot_length s)
 put_words b d s k place size offset cut xs w t h e =
     let old = cut.here.bytes in
     let new = written old offset xs in
@@ -166,15 +167,15 @@ put_words b d s k place size offset cut xs w t h e =
     let same = block_bytes b s k place size cut w t in
     let o : SameOutside b d (place + 8) from = subst (λ c. SameOutside b c (place + 8) from) (sym e)
     (wider (put_outside b (p + offset) xs (p + offset + length xs) (omega arith)) (omega arith) (omega arith)) in
-    let e1 : part (put b (p + offset) xs) p offset ≡ take offset old =
+    let e1 : part (with_part b (p + offset) xs) p offset ≡ take offset old =
     part-put_below b (p + offset) xs p offset (omega arith) ∙ part_take b p size offset old same (omega arith) in
-    let e2 : part (put b (p + offset) xs) (p + offset) (length xs) ≡ xs = part-put b (p + offset) xs (length xs) refl (omega arith) in
-    let e3 : part (put b (p + offset) xs) (p + offset + length xs) r ≡ drop (offset + length xs) old =
+    let e2 : part (with_part b (p + offset) xs) (p + offset) (length xs) ≡ xs = part-put b (p + offset) xs (length xs) refl (omega arith) in
+    let e3 : part (with_part b (p + offset) xs) (p + offset + length xs) r ≡ drop (offset + length xs) old =
     part-put_above b (p + offset) xs (p + offset + length xs) r (omega arith)
     ∙ ap (λ q. part b q r) (let z : p + offset + length xs ≡ p + (offset + length xs) = omega arith in z)
     ∙ part_rest b p size (offset + length xs) r old same (omega arith) in
     let now : part d p (length new) ≡ new =
-    ap (part d p) ln ∙ ap (λ c. part c p size) e ∙ three_parts (put b (p + offset) xs) p size offset (length xs) r _ _ _ (omega arith) e1 e2 e3 in
+    ap (part d p) ln ∙ ap (λ c. part c p size) e ∙ three_parts (with_part b (p + offset) xs) p size offset (length xs) r _ _ _ (omega arith) e1 e2 e3 in
     let ol = o.len in
     let wl : flex_weight (length new) ≡ flex_weight size = ap flex_weight ln in
     let slid : Slid b b b s k place size from n from cut = record {
@@ -198,15 +199,16 @@ read_bytes b s k place size offset n cut w t h =
     ∙ part-drop cut.here.bytes offset n (omega arith)
 
 -- ---- bytes taken out and zeros put in
-length_spliced : (bytes : List ℕ) (offset out put : ℕ) → offset ≤ length bytes → out ≤ offset → length (spliced offset out put bytes) ≡ length bytes - out + put
-length_spliced bytes offset out put h l =
+length_spliced : (bytes : List ℕ) (offset out with_part : ℕ) → offset ≤ length bytes → out ≤ offset → length (spliced offset out with_part bytes)
+    ≡ length bytes - out + with_part
+length_spliced bytes offset out with_part h l =
     omega (
       arith,
-      length-append (take (offset - out) bytes) (zeros put ++ drop offset bytes),
-      length-append (zeros put) (drop offset bytes),
+      length-append (take (offset - out) bytes) (zeros with_part ++ drop offset bytes),
+      length-append (zeros with_part) (drop offset bytes),
       length-take-le (offset - out) bytes (omega arith),
       length-drop offset bytes,
-      length-replicate {A = ℕ} put 0,
+      length-replicate {A = ℕ} with_part 0,
     )
 
 part_carried : {b c : List ℕ} {from to n : ℕ} → Carried b c from to n → part c to n ≡ part b from n
@@ -214,10 +216,10 @@ part_carried {b} {c} {from} {to} {n} s = parts_same b c from to n (λ k h. s.eac
 
 -- where a splice works: `out` bytes end at `offset` of the block, and `put` come there; the m bytes behind them stand from
 -- tail on, and the gap opens at `opened`
-pub record Splice (place size offset out put to tail opened m new : ℕ) : Type 0 where
+pub record Splice (place size offset out with_part to tail opened m new : ℕ) : Type 0 where
   pub inside : offset ≤ size
   pub enough : out ≤ offset
-  pub new_is : new ≡ size - out + put
+  pub new_is : new ≡ size - out + with_part
   pub to_is : to ≡ place + flex_weight new
   pub tail_is : tail ≡ place + 8 + offset
   pub opened_is : opened ≡ tail - out
@@ -225,22 +227,23 @@ pub record Splice (place size offset out put to tail opened m new : ℕ) : Type 
 
 -- its steps, but for the slide of those above from b1 to b2: the block's own tail goes down, the size word is written, the
 -- tail goes up, and zeros come into the gap
-pub record SpliceSteps (b b1 b2 b3 b4 d : List ℕ) (place put tail opened m new : ℕ) : Type 0 where
+pub record SpliceSteps (b b1 b2 b3 b4 d : List ℕ) (place with_part tail opened m new : ℕ) : Type 0 where
   pub down : Carried b b1 tail opened m
   pub only_down : SameOutside b b1 opened (opened + m)
   pub sized : word b3 (place + 4) ≡ new
   pub only_sized : SameOutside b2 b3 (place + 4) (place + 4 + 4)
-  pub up : Carried b3 b4 opened (opened + put) m
-  pub only_up : SameOutside b3 b4 (opened + put) (opened + put + m)
-  pub cleared : part d opened put ≡ replicate put 0
-  pub only_cleared : SameOutside b4 d opened (opened + put)
+  pub up : Carried b3 b4 opened (opened + with_part) m
+  pub only_up : SameOutside b3 b4 (opened + with_part) (opened + with_part + m)
+  pub cleared : part d opened with_part ≡ replicate with_part 0
+  pub only_cleared : SameOutside b4 d opened (opened + with_part)
 
 -- what a splice makes of the slot
-pub spliced_words : {b b1 b2 b3 b4 d : List ℕ} {s : Slot} {k place size from n to offset out put tail opened m new : ℕ} {cut : Split Flex}
-    → Slid b b1 b2 s k place size from n to cut → Splice place size offset out put to tail opened m new
-    → SpliceSteps b b1 b2 b3 b4 d place put tail opened m new → to + n ≤ length d
-    → SlotWords d (with_bytes cut (spliced offset out put cut.here.bytes) s) × (slot_length (with_bytes cut (spliced offset out put cut.here.bytes) s) ≡ to + n)
-spliced_words {b} {b1} {b2} {b3} {b4} {d} {s} {k} {place} {size} {from} {n} {to} {offset} {out} {put} {tail} {opened} {m} {new} {cut} slid at steps fits =
+pub spliced_words : {b b1 b2 b3 b4 d : List ℕ} {s : Slot} {k place size from n to offset out with_part tail opened m new : ℕ} {cut : Split Flex}
+    → Slid b b1 b2 s k place size from n to cut → Splice place size offset out with_part to tail opened m new
+    → SpliceSteps b b1 b2 b3 b4 d place with_part tail opened m new → to + n ≤ length d
+    → SlotWords d (with_block_bytes cut (spliced offset out with_part cut.here.bytes) s) ×
+    (slot_length (with_block_bytes cut (spliced offset out with_part cut.here.bytes) s) ≡ to + n)
+spliced_words {b} {b1} {b2} {b3} {b4} {d} {s} {k} {place} {size} {from} {n} {to} {offset} {out} {with_part} {tail} {opened} {m} {new} {cut} slid at steps fits =
     let w = slid.words in
     let t = slid.found in
     let ef = slid.begins in
@@ -258,10 +261,10 @@ spliced_words {b} {b1} {b2} {b3} {b4} {d} {s} {k} {place} {size} {from} {n} {to}
     let o4 = steps.only_up in
     let o5 = steps.only_cleared in
     let old = cut.here.bytes in
-    let nb = spliced offset out put old in
+    let nb = spliced offset out with_part old in
     let long = t.long in
     let low = t.low in
-    let ln : length nb ≡ new = length_spliced old offset out put (omega arith) hl ∙ omega arith in
+    let ln : length nb ≡ new = length_spliced old offset out with_part (omega arith) hl ∙ omega arith in
     let wl : flex_weight (length nb) ≡ flex_weight new = ap flex_weight ln in
     let p = place + 8 in
     let a = offset - out in
@@ -275,53 +278,57 @@ spliced_words {b} {b1} {b2} {b3} {b4} {d} {s} {k} {place} {size} {from} {n} {to}
     part_same b4 d p a (in_below o5 (omega arith)) ∙ part_same b3 b4 p a (in_below o4 (omega arith)) ∙ part_same b2 b3 p a (in_above o3 (omega arith))
     ∙ part_same b1 b2 p a (part_of same (omega arith) (omega arith)) ∙ part_same b b1 p a (in_below o1 (omega arith))
     ∙ part_take b p size a old whole (omega arith) in
-    let e2 : part d (p + a) put ≡ zeros put = ap (λ q. part d q put) (sym po) ∙ steps.cleared in
-    let e3 : part d (p + a + put) m ≡ drop offset old =
-    ap (λ q. part d q m) (let q : p + a + put ≡ opened + put = omega arith in q) ∙ part_same b4 d (opened + put) m (in_above o5 (omega arith))
+    let e2 : part d (p + a) with_part ≡ zeros with_part = ap (λ q. part d q with_part) (sym po) ∙ steps.cleared in
+    let e3 : part d (p + a + with_part) m ≡ drop offset old =
+    ap (λ q. part d q m) (let q : p + a + with_part ≡ opened + with_part = omega arith in q) ∙ part_same b4 d (opened + with_part) m (in_above o5 (omega arith))
     ∙ part_carried steps.up
     ∙ part_same b2 b3 opened m (in_above o3 (omega arith)) ∙ part_same b1 b2 opened m (part_of same (omega arith) (omega arith)) ∙ part_carried steps.down
     ∙ ap (λ q. part b q m) e_tail ∙ part_rest b p size offset m old whole (omega arith) in
-    let now : part d p (length nb) ≡ nb = ap (part d p) ln ∙ three_parts d p new a put m _ _ _ (omega arith) e1 e2 e3 in
+    let now : part d p (length nb) ≡ nb = ap (part d p) ln ∙ three_parts d p new a with_part m _ _ _ (omega arith) e1 e2 e3 in
     changed nb slid fits (omega arith) o hd now
 
 -- the bytes that the slot takes after a splice
 abbrev after_splice : Split Flex → ℕ → ℕ → Slot → ℕ
-after_splice cut out put s = slot.length_with cut (length cut.here.bytes - out + put) s
+after_splice cut out with_part s = slot.length_with cut (length cut.here.bytes - out + with_part) s
 
 -- the pages that a splice needs, where the block had the weight v and gets the weight w
-pub spliced_pages : (b : List ℕ) (s : Slot) (k place size out put v w t : ℕ) (cut : Split Flex) → FoundAt k s place size cut → length b ≡ PAGE * slot_pages s
-    → v ≡ flex_weight size → w ≡ flex_weight (size - out + put) → t ≡ slot_length s
-    → pages_for (place + w + (t - (place + v))) - length b / PAGE ≡ pages_for (slot.length_with cut (length cut.here.bytes - out + put) s) - slot_pages s
-spliced_pages b s k place size out put v w t cut f l ev ew et =
+pub spliced_pages : (b : List ℕ) (s : Slot) (k place size out with_part v w t : ℕ) (cut : Split Flex) → FoundAt k s place size cut → length b
+    ≡ PAGE * slot_pages s
+    → v ≡ flex_weight size → w ≡ flex_weight (size - out + with_part) → t ≡ slot_length s
+    → pages_for (place + w + (t - (place + v))) - length b / PAGE ≡ pages_for (slot.length_with cut (length cut.here.bytes - out + with_part) s) - slot_pages s
+spliced_pages b s k place size out with_part v w t cut f l ev ew et =
     let inside = f.inside in
-    let wl : flex_weight (length cut.here.bytes - out + put) ≡ flex_weight (size - out + put) = ap (λ i. flex_weight (i - out + put)) (sym f.long) in
+    let wl : flex_weight (length cut.here.bytes - out + with_part) ≡ flex_weight (size - out + with_part) = ap (λ i. flex_weight (i - out + with_part))
+    (sym f.long) in
     let vl : weight cut.here ≡ flex_weight size = ap flex_weight (sym f.long) in
     let q : length b / PAGE ≡ slot_pages s = omega arith in
-    let top : place + w + (t - (place + v)) ≡ after_splice cut out put s = omega arith in
+    let top : place + w + (t - (place + v)) ≡ after_splice cut out with_part s = omega arith in
     rw (q, top) refl
 
 -- ---- what the calls answer
-pub splice_full : (free offset out put : ℕ) (cut : Split Flex) (s : Slot)
-    → free < pages_for (slot.length_with cut (length cut.here.bytes - out + put) s) - slot_pages s → splice free offset out put cut s ≡ Err NoRoom
+pub splice_full : (free offset out with_part : ℕ) (cut : Split Flex) (s : Slot)
+    → free < pages_for (slot.length_with cut (length cut.here.bytes - out + with_part) s) - slot_pages s → splice free offset out with_part cut s ≡ Err NoRoom
 unfolding splice
-splice_full free offset out put cut s h =
-    refuse_if-true (lacks_room free (after_splice cut out put s) s) NoRoom _ (ltb_yes free (pages_for (after_splice cut out put s) - slot_pages s) h)
+splice_full free offset out with_part cut s h =
+    refuse_if-true (lacks_room free (after_splice cut out with_part s) s) NoRoom _
+    (ltb_yes free (pages_for (after_splice cut out with_part s) - slot_pages s) h)
 
-pub splice_done : (free offset out put : ℕ) (cut : Split Flex) (s : Slot)
-    → pages_for (slot.length_with cut (length cut.here.bytes - out + put) s) - slot_pages s ≤ free
-    → splice free offset out put cut s ≡ Ok (with_bytes cut (spliced offset out put cut.here.bytes) s)
+pub splice_done : (free offset out with_part : ℕ) (cut : Split Flex) (s : Slot)
+    → pages_for (slot.length_with cut (length cut.here.bytes - out + with_part) s) - slot_pages s ≤ free
+    → splice free offset out with_part cut s ≡ Ok (with_block_bytes cut (spliced offset out with_part cut.here.bytes) s)
 unfolding splice
-splice_done free offset out put cut s h =
-    refuse_if-false (lacks_room free (after_splice cut out put s) s) NoRoom _ (ltb_no free (pages_for (after_splice cut out put s) - slot_pages s) h)
+splice_done free offset out with_part cut s h =
+    refuse_if-false (lacks_room free (after_splice cut out with_part s) s) NoRoom _
+    (ltb_no free (pages_for (after_splice cut out with_part s) - slot_pages s) h)
 
 -- a call that gives the block another size and other bytes is a splice of them
-splice_as : (free n offset out put : ℕ) (bytes : List ℕ) (cut : Split Flex) (s : Slot) → n ≡ length cut.here.bytes - out + put
-    → bytes ≡ spliced offset out put cut.here.bytes
-    → (refuse_if (lacks_room free (slot.length_with cut n s) s) NoRoom >>= λ _. Ok (with_bytes cut bytes s)) ≡ splice free offset out put cut s
+splice_as : (free n offset out with_part : ℕ) (bytes : List ℕ) (cut : Split Flex) (s : Slot) → n ≡ length cut.here.bytes - out + with_part
+    → bytes ≡ spliced offset out with_part cut.here.bytes
+    → (refuse_if (lacks_room free (slot.length_with cut n s) s) NoRoom >>= λ _. Ok (with_block_bytes cut bytes s)) ≡ splice free offset out with_part cut s
 unfolding splice
-splice_as free n offset out put bytes cut s e q =
-    ap (λ i. refuse_if (lacks_room free (slot.length_with cut i s) s) NoRoom >>= λ _. Ok (with_bytes cut bytes s)) e
-    ∙ ap (λ l. refuse_if (lacks_room free (after_splice cut out put s) s) NoRoom >>= λ _. Ok (with_bytes cut l s)) q
+splice_as free n offset out with_part bytes cut s e q =
+    ap (λ i. refuse_if (lacks_room free (slot.length_with cut i s) s) NoRoom >>= λ _. Ok (with_block_bytes cut bytes s)) e
+    ∙ ap (λ l. refuse_if (lacks_room free (after_splice cut out with_part s) s) NoRoom >>= λ _. Ok (with_block_bytes cut l s)) q
 
 fitted_spliced : (bytes : List ℕ) (n size : ℕ) → size ≡ length bytes → fitted n bytes ≡ spliced size (size - n) (n - size) bytes
 fitted_spliced bytes n size e =
@@ -338,24 +345,24 @@ pub extend_none : (free k n : ℕ) (s : Slot) → IsFree k s.blocks → slot_ext
 unfolding slot_extend
 extend_none free k n s u = then_none k s _ u
 
-pub extend_at : (free k n out put : ℕ) (s : Slot) (place size : ℕ) (cut : Split Flex) → FoundAt k s place size cut → out ≡ size - n → put ≡ n - size
-    → slot_extend free k n s ≡ splice free size out put cut s
+pub extend_at : (free k n out with_part : ℕ) (s : Slot) (place size : ℕ) (cut : Split Flex) → FoundAt k s place size cut → out ≡ size - n → with_part ≡ n - size
+    → slot_extend free k n s ≡ splice free size out with_part cut s
 unfolding slot_extend
-extend_at free k n out put s place size cut t eo ep =
+extend_at free k n out with_part s place size cut t eo ep =
     let long = t.long in
-    let q : fitted n cut.here.bytes ≡ spliced size out put cut.here.bytes =
+    let q : fitted n cut.here.bytes ≡ spliced size out with_part cut.here.bytes =
     fitted_spliced cut.here.bytes n size t.long ∙ ap (λ i. spliced size i (n - size) cut.here.bytes) (sym eo)
     ∙ ap (λ i. spliced size out i cut.here.bytes) (sym ep) in
-    then_at k s place size cut _ t ∙ splice_as free n size out put (fitted n cut.here.bytes) cut s (omega arith) q
+    then_at k s place size cut _ t ∙ splice_as free n size out with_part (fitted n cut.here.bytes) cut s (omega arith) q
 
 opened_spliced : (bytes : List ℕ) (offset : ℕ) (by : ℤ) → opened_at offset by bytes ≡ spliced offset (taken_out by) (moved 0 by) bytes
 opened_spliced bytes offset (pos n) = ap (λ i. take i bytes ++ (zeros n ++ drop offset bytes)) (omega arith)
     ∙ ap (λ i. take (offset - 0) bytes ++ (zeros i ++ drop offset bytes)) (omega arith)
 opened_spliced bytes offset (negsuc n) = ap (λ i. take (offset - (n + 1)) bytes ++ (zeros i ++ drop offset bytes)) (let z : 0 ≡ 0 - (n + 1) = omega arith in z)
 
-moved_parts : (n out put : ℕ) (by : ℤ) → out ≡ taken_out by → put ≡ moved 0 by → moved n by ≡ n - out + put
-moved_parts n out put (pos k) eo ep = omega arith
-moved_parts n out put (negsuc k) eo ep = omega arith
+moved_parts : (n out with_part : ℕ) (by : ℤ) → out ≡ taken_out by → with_part ≡ moved 0 by → moved n by ≡ n - out + with_part
+moved_parts n out with_part (pos k) eo ep = omega arith
+moved_parts n out with_part (negsuc k) eo ep = omega arith
 
 pub mid_none : (free k offset : ℕ) (by : ℤ) (s : Slot) → IsFree k s.blocks → slot_mid free k offset by s ≡ Err NoBlock
 unfolding slot_mid
@@ -373,7 +380,7 @@ or_none : (x y : Bool) → x ≡ false → y ≡ false → (x || y) ≡ false
 or_none true y e f = e
 or_none false y e f = f
 
-pub mid_above : (free k offset : ℕ) (by : ℤ) (s : Slot) (place size : ℕ) → Found k s place size → size < offset → slot_mid free k offset by s ≡ Err BadRange
+pub mid_above : (free k offset : ℕ) (by : ℤ) (s : Slot) (place size : ℕ) → FoundFlex k s place size → size < offset → slot_mid free k offset by s ≡ Err BadRange
 unfolding slot_mid
 mid_above free k offset by s place size t h =
     let long = t.at.long in
@@ -381,7 +388,7 @@ mid_above free k offset by s place size t h =
     ∙ refuse_if-true (ltb (length t.cut.here.bytes) offset || ltb offset (taken_out by)) BadRange _
     (or_left _ _ (ltb_yes (length t.cut.here.bytes) offset (omega arith)))
 
-pub mid_short : (free k offset out : ℕ) (by : ℤ) (s : Slot) (place size : ℕ) → Found k s place size → out ≡ taken_out by → offset < out
+pub mid_short : (free k offset out : ℕ) (by : ℤ) (s : Slot) (place size : ℕ) → FoundFlex k s place size → out ≡ taken_out by → offset < out
     → slot_mid free k offset by s ≡ Err BadRange
 unfolding slot_mid
 mid_short free k offset out by s place size t e h =
@@ -389,25 +396,25 @@ mid_short free k offset out by s place size t e h =
     ∙ refuse_if-true (ltb (length t.cut.here.bytes) offset || ltb offset (taken_out by)) BadRange _
     (or_right _ _ (ltb_yes offset (taken_out by) (omega arith)))
 
-pub mid_at : (free k offset out put : ℕ) (by : ℤ) (s : Slot) (place size : ℕ) (cut : Split Flex) → FoundAt k s place size cut → out ≡ taken_out by
-    → put ≡ moved 0 by → offset ≤ size → out ≤ offset → slot_mid free k offset by s ≡ splice free offset out put cut s
+pub mid_at : (free k offset out with_part : ℕ) (by : ℤ) (s : Slot) (place size : ℕ) (cut : Split Flex) → FoundAt k s place size cut → out ≡ taken_out by
+    → with_part ≡ moved 0 by → offset ≤ size → out ≤ offset → slot_mid free k offset by s ≡ splice free offset out with_part cut s
 unfolding slot_mid
-mid_at free k offset out put by s place size cut t eo ep h l =
+mid_at free k offset out with_part by s place size cut t eo ep h l =
     let long = t.long in
-    let q : opened_at offset by cut.here.bytes ≡ spliced offset out put cut.here.bytes =
+    let q : opened_at offset by cut.here.bytes ≡ spliced offset out with_part cut.here.bytes =
     opened_spliced cut.here.bytes offset by ∙ ap (λ i. spliced offset i (moved 0 by) cut.here.bytes) (sym eo)
     ∙ ap (λ i. spliced offset out i cut.here.bytes) (sym ep) in
     then_at k s place size cut _ t
     ∙ refuse_if-false (ltb (length cut.here.bytes) offset || ltb offset (taken_out by)) BadRange _
     (or_none _ _ (ltb_no (length cut.here.bytes) offset (omega arith)) (ltb_no offset (taken_out by) (omega arith)))
-    ∙ splice_as free (moved (length cut.here.bytes) by) offset out put (opened_at offset by cut.here.bytes) cut s
-    (moved_parts (length cut.here.bytes) out put by eo ep) q
+    ∙ splice_as free (moved (length cut.here.bytes) by) offset out with_part (opened_at offset by cut.here.bytes) cut s
+    (moved_parts (length cut.here.bytes) out with_part by eo ep) q
 
 pub put_none : (k offset : ℕ) (xs : List ℕ) (s : Slot) → IsFree k s.blocks → slot_put k offset xs s ≡ Err NoBlock
 unfolding slot_put
 put_none k offset xs s u = then_none k s _ u
 
-pub put_beyond : (k offset : ℕ) (xs : List ℕ) (s : Slot) (place size : ℕ) → Found k s place size → size < offset + length xs
+pub put_beyond : (k offset : ℕ) (xs : List ℕ) (s : Slot) (place size : ℕ) → FoundFlex k s place size → size < offset + length xs
     → slot_put k offset xs s ≡ Err BadRange
 unfolding slot_put
 put_beyond k offset xs s place size t h =
@@ -417,7 +424,7 @@ put_beyond k offset xs s place size t h =
     (ltb_yes (length t.cut.here.bytes) (offset + length xs) (omega arith))
 
 pub put_at : (k offset : ℕ) (xs : List ℕ) (s : Slot) (place size : ℕ) (cut : Split Flex) → FoundAt k s place size cut → offset + length xs ≤ size
-    → slot_put k offset xs s ≡ Ok (with_bytes cut (written cut.here.bytes offset xs) s)
+    → slot_put k offset xs s ≡ Ok (with_block_bytes cut (written cut.here.bytes offset xs) s)
 unfolding slot_put
 put_at k offset xs s place size cut t h =
     let long = t.long in
@@ -428,7 +435,7 @@ pub read_none : (k offset n : ℕ) (s : Slot) → IsFree k s.blocks → slot_rea
 unfolding slot_read
 read_none k offset n s u = then_none k s _ u
 
-pub read_beyond : (k offset n : ℕ) (s : Slot) (place size : ℕ) → Found k s place size → size < offset + n → slot_read k offset n s ≡ Err BadRange
+pub read_beyond : (k offset n : ℕ) (s : Slot) (place size : ℕ) → FoundFlex k s place size → size < offset + n → slot_read k offset n s ≡ Err BadRange
 unfolding slot_read
 read_beyond k offset n s place size t h =
     let long = t.at.long in

@@ -5,7 +5,7 @@ use Rattle.rh_slot.proofs.Common.{NoBlock, NoRoom, word, part, SameIn, SameOutsi
 use Rattle.rh_slot.proofs.Common.{weight, flex_weight, slot_length, slot_pages, flex_address, IsFree, HaveAnchors, with_block, lacks_room, slot_block}
 use Rattle.rh_slot.proofs.Common.{anchor_count, Lie, Hang, SlotWords, SpellsSlot, flex_place, heap_place, word_same, part_same, sum-append, ltb_yes, ltb_no}
 use Rattle.rh_slot.proofs.Common.{part_of, wider, same_both, in_below, in_above, in_both, Lie-split, Lie-same, Hang-split, Hang-same, HaveAnchors-cut}
-use Rattle.rh_slot.proofs.Common.{block_of-at, Spells-same, Row, Shifted, Walked, FoundAt, Found, refuse_if-true, refuse_if-false}
+use Rattle.rh_slot.proofs.Common.{block_of-at, Spells-same, BlockRow, Shifted, Walked, FoundAt, FoundFlex, refuse_if-true, refuse_if-false}
 use Rattle.rh_defs.specs.declared.refusal.Refusal.TheVariants.{AnchorInUse}
 use Rattle.rh_defs.specs.Slot.{without, is_used, slot_size, slot_address, slot_free, slot_alloc}
 use Rattle.rh_defs.proofs.Anchors.{anchors-append}
@@ -42,7 +42,7 @@ settled d e s t w q o l = paged e s t (words_same d e s (subst (SameIn d e 0) (s
 pub record Leads (b : List ℕ) (s : Slot) (k a : ℕ) : Type 0 where
   pub least : 32776 ≤ a
   pub within : a - 32768 - 8 + 8 ≤ length b
-  pub found : (size : ℕ) → size ≡ word b (a - 32768 - 8 + 4) → Found k s (a - 32768 - 8) size
+  pub found : (size : ℕ) → size ≡ word b (a - 32768 - 8 + 4) → FoundFlex k s (a - 32768 - 8) size
 
 leads_at : (b : List ℕ) (s : Slot) (k a : ℕ) (xs : List Flex) (f : Flex) (ys : List Flex) → SlotWords b s → s.blocks ≡ xs ++ f ∷ ys → f.anchor ≡ k
     → IsFree k xs → a ≡ word b (4 * k) → Leads b s k a
@@ -142,8 +142,8 @@ above b s k place size from n cut w t ef en =
     let e : flex_place s + total weight cut.before + weight cut.here ≡ from = omega arith in
     (subst (λ p. Lie b p cut.after) e l, omega arith, (HaveAnchors-cut cut.before cut.here cut.after (subst HaveAnchors is w.anchors)).above)
 
-pub row_above : (b : List ℕ) (s : Slot) (k place size from n : ℕ) → SlotWords b s → Found k s place size → from ≡ place + flex_weight size
-    → from + n ≡ slot_length s → Row b from n
+pub row_above : (b : List ℕ) (s : Slot) (k place size from n : ℕ) → SlotWords b s → FoundFlex k s place size → from ≡ place + flex_weight size
+    → from + n ≡ slot_length s → BlockRow b from n
 row_above b s k place size from n w t ef en =
     let a = above b s k place size from n t.cut w t.at ef en in
     record { blocks = t.cut.after; lie = a.0; sum = a.1; anchors = a.2 }
@@ -250,7 +250,7 @@ pub size_none : (k : ℕ) (s : Slot) → IsFree k s.blocks → slot_size k s ≡
 unfolding slot_size
 size_none k s u = then_none k s _ u
 
-pub size_found : (k : ℕ) (s : Slot) (place size : ℕ) → Found k s place size → slot_size k s ≡ Ok size
+pub size_found : (k : ℕ) (s : Slot) (place size : ℕ) → FoundFlex k s place size → slot_size k s ≡ Ok size
 unfolding slot_size
 size_found k s place size t = then_at k s place size t.cut _ t.at ∙ ap (λ (n : ℕ). Ok n) (sym t.at.long)
 
@@ -258,7 +258,7 @@ pub address_none : (k : ℕ) (s : Slot) → IsFree k s.blocks → slot_address k
 unfolding slot_address
 address_none k s u = then_none k s _ u
 
-pub address_found : (k : ℕ) (s : Slot) (place size : ℕ) → Found k s place size → slot_address k s ≡ Ok (32768 + place + 8)
+pub address_found : (k : ℕ) (s : Slot) (place size : ℕ) → FoundFlex k s place size → slot_address k s ≡ Ok (32768 + place + 8)
 unfolding slot_address
 address_found k s place size t = then_at k s place size t.cut _ t.at ∙ ap (λ (n : ℕ). Ok n) (let st = t.at.stands in omega arith)
 
@@ -270,7 +270,7 @@ pub free_at : (k : ℕ) (s : Slot) (place size : ℕ) (cut : Split Flex) → Fou
 unfolding slot_free
 free_at k s place size cut t = then_at k s place size cut _ t
 
-pub alloc_used : (free k n : ℕ) (s : Slot) (place size : ℕ) → Found k s place size → slot_alloc free k n s ≡ Err AnchorInUse
+pub alloc_used : (free k n : ℕ) (s : Slot) (place size : ℕ) → FoundFlex k s place size → slot_alloc free k n s ≡ Err AnchorInUse
 unfolding slot_alloc
 alloc_used free k n s place size t = refuse_if-true (is_used k s) AnchorInUse _ (ap is_some (block_of-at k s t.cut t.at.is t.at.free t.at.anchor))
 

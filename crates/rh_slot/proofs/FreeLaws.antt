@@ -1,6 +1,6 @@
 -- The walk that looks for an anchor without a block.
 use Rattle.rh_slot.proofs.Common.{◌≡◌, ℕ, suc, ◌+◌, ◌-◌, ◌<◌, ◌≤◌, true, refl, sym, ap, ◌∙◌, arith, Some, None, is_some, Slot, IsFree, anchor_count}
-use Rattle.rh_slot.proofs.Common.{cond_true, cond_false, block_of-at, Found}
+use Rattle.rh_slot.proofs.Common.{cond_true, cond_false, block_of-at, FoundFlex}
 use Rattle.rh_defs.specs.Places.{free_anchor, free_from}
 use Rattle.rh_defs.specs.Slot.{is_used}
 use Rattle.rh_defs.proofs.SlotLaws.{block_of-none}
@@ -16,7 +16,7 @@ used_start s = record { most = omega arith; from = refl }
 one_more : (s : Slot) (k : ℕ) → k < anchor_count → free_from k (anchor_count - k) s ≡ free_from k (suc ((anchor_count - 1) - k)) s
 one_more s k h = let e : anchor_count - k ≡ suc ((anchor_count - 1) - k) = omega arith in ap (λ r. free_from k r s) e
 
-pub used_next : (s : Slot) (k place size : ℕ) → AllUsed s k → k < anchor_count → Found k s place size → AllUsed s (k + 1)
+pub used_next : (s : Slot) (k place size : ℕ) → AllUsed s k → k < anchor_count → FoundFlex k s place size → AllUsed s (k + 1)
 used_next s k place size a h f =
     let used : is_used k s ≡ true = ap (λ o. is_some o) (block_of-at k s f.cut f.at.is f.at.free f.at.anchor) in
     let e : (anchor_count - 1) - k ≡ anchor_count - (k + 1) = omega arith in

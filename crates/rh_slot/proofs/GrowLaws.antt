@@ -2,10 +2,11 @@
 use Rattle.rh_slot.proofs.Common.{◌≡◌, ◌≢◌, ℕ, ◌+◌, ◌*◌, ◌/◌, ◌<◌, ◌≤◌, inl, inr, Bool, true, false, ltb, eqb, List, length, refl, sym, ap, subst, ◌∙◌, arith}
 use Rattle.rh_slot.proofs.Common.{cases_eq, cases_lt, ◌-◌, Option, Some, None, Ok, Err, IsErr, IsErrOf, ◌↔◌, ℤ, pos, PAGE, SameIn, SameOutside, Memory}
 use Rattle.rh_slot.proofs.Common.{IsOpen, Resized, bytes, total, pages_for, zeros, moved, Split, Granted, ◌>>=◌, refuse_if, Segment, Heap, need}
-use Rattle.rh_slot.proofs.Common.{claim_growing, raised, base, Spells, Flex, weight, slot_length, Span, heap_in, SpellsIn, slot_in, Row, Shifted, lengthened}
+use Rattle.rh_slot.proofs.Common.{claim_growing, raised, base, Spells, Flex, weight, slot_length, Span, heap_in, SpellsSlotIn, slot_in, BlockRow, Shifted}
+use Rattle.rh_slot.proofs.Common.{lengthened}
 use Rattle.rh_slot.proofs.Common.{heap_start, Lie, Hang, SlotWords, SpellsSlot, flex_place, heap_place, Refusal, NoRoom, word_same, cond_true, cond_false}
 use Rattle.rh_slot.proofs.Common.{eqb_same, eqb_apart, ltb_yes, ltb_no, part_of, in_below, in_above, Lie-same, Hang-same, Spells-same, SpellsSlot-with_heap}
-use Rattle.rh_defs.specs.Heap.{Placed, claim_need, placed, placed_in, hole_for, shortage_in, block_room, segment_size, extended}
+use Rattle.rh_defs.specs.Heap.{Placed, claim_need, placed_block, placed_in, hole_for, shortage_in, block_room, segment_size, extended}
 use Rattle.rh_defs.specs.Slot.{is_stuck, with_heap, slot_claim}
 use Rattle.rh_defs.specs.Slot as plain
 use Rattle.rh_defs.specs.declared.heap.HeapRefusal.{HeapRefusal}
@@ -24,7 +25,7 @@ use Rattle.rh_slot.proofs.SpanLaws.{span_of, heap_same, slot_now}
 pub words_grown : (b c : List ℕ) (s : plain.Slot) → SpellsSlot b s → SameIn b c 0 (length b) → length b ≤ length c → SlotWords c s
 words_grown b c s k o l = let f = k.words.within in SlotWords-kept b c s (part_of o (omega arith) (omega arith)) (omega arith) k.words
 
-pub all_blocks : (b : List ℕ) (s : plain.Slot) (from n : ℕ) → SlotWords b s → from ≡ flex_place s → from + n ≡ slot_length s → Row b from n
+pub all_blocks : (b : List ℕ) (s : plain.Slot) (from n : ℕ) → SlotWords b s → from ≡ flex_place s → from + n ≡ slot_length s → BlockRow b from n
 all_blocks b s from n w e q = record { blocks = s.blocks; lie = subst (λ p. Lie b p s.blocks) (sym e) w.lie; sum = omega arith; anchors = w.anchors }
 
 -- the blocks have slid, and then a heap with the higher end stands below them
@@ -60,7 +61,7 @@ pub record Slid (m : Memory) (span : Span) (s : plain.Slot) (more : ℕ) : Type 
   pub room : span.at + (s.heap.end + more) ≤ length (bytes m span.area.0)
 
 pub slid : (l m n : Memory) (slot : Slot) (span : Span) (from top more : ℕ)
-    → (let s = slot_in l slot in SpellsIn l slot s → Resized l m slot.area.0 (length (bytes l slot.area.0)) (pages_for (top + more))
+    → (let s = slot_in l slot in SpellsSlotIn l slot s → Resized l m slot.area.0 (length (bytes l slot.area.0)) (pages_for (top + more))
     → IsOpen n slot.area.0 → SameIn (bytes m slot.area.0) (bytes n slot.area.0) heap_place (from + more)
     → length (bytes n slot.area.0) ≡ length (bytes m slot.area.0) → from ≡ flex_place s → top ≡ slot_length s → span ≡ span_of slot → Slid n span s more)
 slid l m n slot span from top more k r o same len ef et e =
@@ -133,7 +134,7 @@ end-placed_in : (bs : List ℕ) (h : Heap) (o : Option (Split Segment)) → (pla
 end-placed_in bs h None = refl
 end-placed_in bs h (Some s) = refl
 
-end-placed : (bs : List ℕ) (h : Heap) → (placed bs h).heap.end ≡ h.end
+end-placed : (bs : List ℕ) (h : Heap) → (placed_block bs h).heap.end ≡ h.end
 end-placed bs h = end-placed_in bs h (hole_for (4 + length bs) h.segments)
 
 pub end-claim_growing : (n : ℕ) (h : Heap) → (claim_growing n h).heap.end ≡ (raised (need n h) h).end
@@ -151,9 +152,9 @@ slot_claim-zero free n s e = rw e refl
 -- ---- the heap's own call, in a heap that is long enough
 
 -- a block was placed in the longer heap
-pub placed_there : (m n : Memory) (slot : Slot) (s : plain.Slot) (k : ℕ) (p : Placed) → SpellsIn m slot (lengthened k s) → s.budging ≡ slot.budge
+pub placed_there : (m n : Memory) (slot : Slot) (s : plain.Slot) (k : ℕ) (p : Placed) → SpellsSlotIn m slot (lengthened k s) → s.budging ≡ slot.budge
     → p.heap.end ≡ (raised k s.heap).end
-    → OnlySpan m n (span_of slot) → Spells (bytes n slot.area.0) heap_place p.heap → SpellsIn n slot (with_heap p.heap s)
+    → OnlySpan m n (span_of slot) → Spells (bytes n slot.area.0) heap_place p.heap → SpellsSlotIn n slot (with_heap p.heap s)
 placed_there m n slot s k p w b q o h =
     let now : (heap_in m (span_of slot)).end ≡ (raised k s.heap).end =
     ap (λ (x : Heap). x.end) (heap_same m slot ∙ ap (λ (x : plain.Slot). x.heap) (slot_now m slot (lengthened k s) w b)) in

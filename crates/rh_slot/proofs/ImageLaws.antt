@@ -11,7 +11,7 @@ use Rattle.rh_defs.proofs.BytesLaws.{words_same, parts_same}
 use Rattle.rh_defs.proofs.HeapLaws.{heap_of-Spells}
 use Rattle.rh_defs.proofs.HeapFaults.{le_from, eq_from, image_clean}
 use Rattle.rh_defs.proofs.SlotImageLaws.{IsBlock, is_block-is}
-use Rattle.rh_slot.specs.Image.{IsSlotImage, has_length, heap_bytes, has_anchor, is_hung, slot_fault_of}
+use Rattle.rh_slot.specs.Image.{IsSlotImage, has_slot_length, heap_bytes, has_anchor, is_hung, slot_fault_of}
 use Rattle.rh_slot.specs.declared.image.SlotFault.{SlotFault}
 use Rattle.rh_slot.specs.declared.image.SlotFault.TheVariants.{BadLength, BadHeap}
 
@@ -255,7 +255,7 @@ pub record Length (b : List ℕ) : Type 0 where
   pub most : length b ≤ 29360128
   pub whole : length b % PAGE ≡ 0
 
-pub length_from : (b : List ℕ) → has_length b ≡ true → Length b
+pub length_from : (b : List ℕ) → has_slot_length b ≡ true → Length b
 length_from b e =
     let r = and_left (leb PAGE (length b) && leb (length b) 29360128) (eqb (length b % PAGE) 0) e in
     record {
@@ -264,7 +264,7 @@ length_from b e =
       whole = eq_from (length b % PAGE) 0 (and_right (leb PAGE (length b) && leb (length b) 29360128) (eqb (length b % PAGE) 0) e);
     }
 
-length_yes : (b : List ℕ) → PAGE ≤ length b → length b ≤ 29360128 → length b % PAGE ≡ 0 → has_length b ≡ true
+length_yes : (b : List ℕ) → PAGE ≤ length b → length b ≤ 29360128 → length b % PAGE ≡ 0 → has_slot_length b ≡ true
 length_yes b l m e = and_both _ _ (and_both _ _ (leb_yes PAGE (length b) l) (leb_yes (length b) 29360128 m)) (eqb_same (length b % PAGE) 0 e)
 
 -- ---- bytes of a slot
@@ -309,29 +309,29 @@ is_slot b h i l within hung pages =
 
 -- ---- faults
 module _ (b : List ℕ) where
-  pub fault-length : has_length b ≡ false → slot_fault_of b ≡ Some BadLength
+  pub fault-length : has_slot_length b ≡ false → slot_fault_of b ≡ Some BadLength
   unfolding slot_fault_of
   fault-length e = rw e refl
 
-  pub fault-heap : (f : HeapFault) → has_length b ≡ true → fault_of (heap_bytes b) ≡ Some f → slot_fault_of b ≡ Some (BadHeap f)
+  pub fault-heap : (f : HeapFault) → has_slot_length b ≡ true → fault_of (heap_bytes b) ≡ Some f → slot_fault_of b ≡ Some (BadHeap f)
   unfolding slot_fault_of
   fault-heap f e h = rw (e, h) refl
 
-  pub fault-size : has_length b ≡ true → fault_of (heap_bytes b) ≡ None → nat_le (slot_length (read b)) (length b) ≡ false → slot_fault_of b ≡ Some BadSize
+  pub fault-size : has_slot_length b ≡ true → fault_of (heap_bytes b) ≡ None → nat_le (slot_length (read b)) (length b) ≡ false → slot_fault_of b ≡ Some BadSize
   unfolding slot_fault_of
   fault-size e h w = rw (e, h, w) refl
 
-  pub fault-anchor : has_length b ≡ true → fault_of (heap_bytes b) ≡ None → nat_le (slot_length (read b)) (length b) ≡ true
+  pub fault-anchor : has_slot_length b ≡ true → fault_of (heap_bytes b) ≡ None → nat_le (slot_length (read b)) (length b) ≡ true
       → are_hung b (read b).blocks anchor_count ≡ false → slot_fault_of b ≡ Some BadAnchor
   unfolding slot_fault_of
   fault-anchor e h w a = rw (e, h, w, a) refl
 
-  pub fault-page : has_length b ≡ true → fault_of (heap_bytes b) ≡ None → nat_le (slot_length (read b)) (length b) ≡ true
+  pub fault-page : has_slot_length b ≡ true → fault_of (heap_bytes b) ≡ None → nat_le (slot_length (read b)) (length b) ≡ true
       → are_hung b (read b).blocks anchor_count ≡ true → (length b == PAGE * slot_pages (read b)) ≡ false → slot_fault_of b ≡ Some SparePage
   unfolding slot_fault_of
   fault-page e h w a p = rw (e, h, w, a, p) refl
 
-  pub fault-none : has_length b ≡ true → fault_of (heap_bytes b) ≡ None → nat_le (slot_length (read b)) (length b) ≡ true
+  pub fault-none : has_slot_length b ≡ true → fault_of (heap_bytes b) ≡ None → nat_le (slot_length (read b)) (length b) ≡ true
       → are_hung b (read b).blocks anchor_count ≡ true → (length b == PAGE * slot_pages (read b)) ≡ true → slot_fault_of b ≡ None
   unfolding slot_fault_of
   fault-none e h w a p = rw (e, h, w, a, p) refl

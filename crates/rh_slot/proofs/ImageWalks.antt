@@ -7,7 +7,7 @@ use Rattle.rh_defs.specs.HeapImage.{IsImage, heap_of}
 use Rattle.rh_defs.proofs.HeapFaults.{image_clean}
 use Rattle.rh_heap.specs.Image.{summary_of}
 use Rattle.rh_heap.specs.declared.image.Summary.{Summary}
-use Rattle.rh_slot.specs.Image.{IsSlotImage, IsRow, flex_size, has_length, heap_bytes, words_in_use, slot_fault_of, slot_summary}
+use Rattle.rh_slot.specs.Image.{IsSlotImage, IsRow, flex_size, has_slot_length, heap_bytes, words_in_use, slot_fault_of, slot_summary}
 use Rattle.rh_slot.specs.declared.image.BlockSums.{BlockSums}
 use Rattle.rh_slot.specs.declared.image.SlotSummary.{SlotSummary}
 use Rattle.rh_slot.proofs.ImageLaws.{block_at, after, flex_in-yes, flex_in-no, weight-block_at, Length, length_from, read, blocks_from, long, heap_is}
@@ -121,14 +121,14 @@ row_end b from sums w t =
 
 pub record Ready (b : List ℕ) (from : ℕ) : Type 0 where
   pub length_is : Length b
-  pub right : has_length b ≡ true
+  pub right : has_slot_length b ≡ true
   pub image : IsImage (heap_bytes b) (heap_of (heap_bytes b) 0)
   pub clean : fault_of (heap_bytes b) ≡ None
   pub at : from ≡ heap_place + word b (heap_place + 12)
   pub within : from ≤ length b
   pub whole : from % 4 ≡ 0
 
-pub ready : (b : List ℕ) (from w : ℕ) → has_length b ≡ true → IsImage (heap_bytes b) (heap_of (heap_bytes b) 0) → w ≡ word b (heap_place + 12)
+pub ready : (b : List ℕ) (from w : ℕ) → has_slot_length b ≡ true → IsImage (heap_bytes b) (heap_of (heap_bytes b) 0) → w ≡ word b (heap_place + 12)
     → from ≡ heap_place + w → Ready b from
 ready b from w e i ew ef =
     let s = heap_from b (heap_of (heap_bytes b) 0) i in

@@ -1,6 +1,6 @@
 -- A flex block whose header is read in the bytes of a page.
 use Rattle.rh_slot.proofs.Common.{◌≡◌, ℕ, ◌+◌, ◌-◌, ◌/◌, ◌<◌, ◌≤◌, inl, inr, true, List, length, refl, sym, ap, ◌∙◌, arith, cases_lt, PAGE, word, part, Slot}
-use Rattle.rh_slot.proofs.Common.{slot_start, SlotWords, heap_place, is_block, BlockItem, length-part, Walked, item_of}
+use Rattle.rh_slot.proofs.Common.{slot_start, SlotWords, heap_place, is_block, BlockItem, length-part, Walked, row_item}
 use Rattle.rh_defs.proofs.BytesLaws.{word-part}
 use Rattle.rh_defs.proofs.SlotImageLaws.{is_block-yes, is_block-is}
 use Rattle.rh_slot.specs.Row.{Headed}
@@ -41,7 +41,7 @@ module _ (b anchors page : List ℕ) (start n at place : ℕ) (item : BlockItem)
         back = ap (λ a. word b (a - 32768)) (sym w) ∙ (sym (anchor_word (word page at - 32768) (omega arith)) ∙ h.back);
       })
 
-  headed_item : item ≡ item_of b place
+  headed_item : item ≡ row_item b place
   headed_item =
       h.is
       ∙ (ap (λ w. let r : BlockItem = record { anchor = (w - 32768) / 4; address = 32768 + place + 8; size = word page (at + 4) } in r) head_word
@@ -83,7 +83,7 @@ beyond b anchors page start n at place first rest e none t = elim (cases_lt (sta
 pub record Passes (b : List ℕ) (s : Slot) (place : ℕ) (item : BlockItem) : Type 0 where
   pub block : is_block b place ≡ true
   pub size : item.size ≡ word b (place + 4)
-  pub is : item ≡ item_of b place
+  pub is : item ≡ row_item b place
   pub turned : Turn b s place item.size
 
 pub passes : (b anchors page : List ℕ) (s : Slot) (start n at place : ℕ) (item : BlockItem) → SlotWords b s → Walked s place → anchors ≡ part b 0 PAGE

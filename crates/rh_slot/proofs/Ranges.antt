@@ -2,7 +2,7 @@
 use Rattle.rh_slot.proofs.Common.{◌≡◌, ℕ, ◌+◌, ◌-◌, ◌≤◌, inl, inr, List, ◌∷◌, ◌++◌, length, take, drop, refl, sym, ap, subst, ◌∙◌, arith, Ok, Some, IfSome}
 use Rattle.rh_slot.proofs.Common.{part, Memory, bytes, Split, total, Segment, Used, Heap, size_of, bytes_of, base, block_at, Stand, Spells, Flex, weight}
 use Rattle.rh_slot.proofs.Common.{flex_address, heap_block_at, slot_block, heap_start, slot_start, IsFree, flex_place, heap_place, sum-append, IsCut}
-use Rattle.rh_slot.proofs.Common.{first_at-cuts, IsSlot, slot_in, FoundAt}
+use Rattle.rh_slot.proofs.Common.{first_at-cuts, IsSlotIn, slot_in, FoundAt}
 use Rattle.rh_defs.specs.Heap.{is_block_at}
 use Rattle.rh_defs.specs.Slot as plain
 use Rattle.rh_defs.proofs.BytesLaws.{part-part, part-drop}
@@ -42,7 +42,7 @@ found_block s k cut e = elim (find k s.blocks) [
 ]
 
 -- bytes of a flex block
-pub flex-part : (m : Memory) (self : Slot) (k offset n : ℕ) (b : Split Flex) → IsSlot m self → slot_block k (slot_in m self) ≡ Ok b
+pub flex-part : (m : Memory) (self : Slot) (k offset n : ℕ) (b : Split Flex) → IsSlotIn m self → slot_block k (slot_in m self) ≡ Ok b
     → offset + n ≤ length b.here.bytes
     → Standing (bytes m self.area.0) (take n (drop offset b.here.bytes)) (flex_address (slot_in m self) b.before + offset - slot_start) n
     (flex_place (slot_in m self)) (length (bytes m self.area.0))
@@ -87,14 +87,14 @@ cut_bytes b at h x cut s c =
     ap (λ p. part b p (length (bytes_of cut.here))) (let e = c.stands in omega arith) ∙ t.1.1
 
 -- a block of the C heap is above the anchor words
-pub heap-low : (m : Memory) (self : Slot) (a : ℕ) (b : Split Segment) → IsSlot m self → heap_block_at a (slot_in m self) ≡ Some b → heap_start ≤ a
+pub heap-low : (m : Memory) (self : Slot) (a : ℕ) (b : Split Segment) → IsSlotIn m self → heap_block_at a (slot_in m self) ≡ Some b → heap_start ≤ a
 heap-low m self a b s e =
     let c = heap_cut (slot_in m self).heap (a - heap_start) b e in
     let stands = c.stands in
     omega arith
 
 -- the first bytes of a block of the C heap
-pub heap-part : (m : Memory) (self : Slot) (a n : ℕ) (b : Split Segment) → IsSlot m self → heap_block_at a (slot_in m self) ≡ Some b
+pub heap-part : (m : Memory) (self : Slot) (a n : ℕ) (b : Split Segment) → IsSlotIn m self → heap_block_at a (slot_in m self) ≡ Some b
     → n ≤ length (bytes_of b.here)
     → (slot_start ≤ a) × Standing (bytes m self.area.0) (take n (bytes_of b.here)) (a - slot_start) n 0 (flex_place (slot_in m self))
 heap-part m self a n b s e h =

@@ -1,8 +1,10 @@
 -- Bytes at an address of a slot: the block that holds them, and a write into it.
 use Rattle.rh_slot.proofs.Common.{◌≡◌, ℕ, ◌+◌, ◌-◌, ◌%◌, ◌<◌, ◌≤◌, Bool, true, false, cond, List, [], ◌∷◌, ◌++◌, length, refl, sym, ap, subst, ◌∙◌, arith}
-use Rattle.rh_slot.proofs.Common.{nat_tests, ◌&&◌, ◌||◌, Option, Some, None, IfSome, is_some, nat_le, part, put, SameOutside, Split, zeros, total, written}
+use Rattle.rh_slot.proofs.Common.{nat_tests, ◌&&◌, ◌||◌, Option, Some, None, IfSome, is_some, nat_le, part, with_part, SameOutside, Split, zeros, total}
+use Rattle.rh_slot.proofs.Common.{written}
 use Rattle.rh_slot.proofs.Common.{Segment, Used, Hole, Heap, size_of, bytes_of, base, Stand, Spells, Slot, Flex, weight, flex_start, flex_address}
-use Rattle.rh_slot.proofs.Common.{heap_block_at, with_bytes, HaveAnchors, heap_start, SpellsSlot, flex_place, heap_place, word_same, put_outside, length-put}
+use Rattle.rh_slot.proofs.Common.{heap_block_at, with_block_bytes, HaveAnchors, heap_start, SpellsSlot, flex_place, heap_place, word_same, put_outside}
+use Rattle.rh_slot.proofs.Common.{length-put}
 use Rattle.rh_slot.proofs.Common.{length-part, IsCut, first_at-cuts, SpellsSlot-with_heap, in_below, in_above, wider, HaveAnchors-cut}
 use Rattle.rh_defs.specs.Pieces.{first_at, with_here, is_inside, NonePass}
 use Rattle.rh_defs.specs.Heap.{IsTidy, is_around, block_around}
@@ -67,7 +69,7 @@ Spells-with b c at h xs ys old new p s is ep e o now =
 -- bytes put into a block of a heap
 pub Spells-put : (b : List ℕ) (at : ℕ) (h : Heap) (y offset q : ℕ) (cut : Split Segment) (xs : List ℕ) → Spells b at h → HeapCut h y cut
     → offset + length xs ≤ length (bytes_of cut.here) → q ≡ at + y + offset
-    → Spells (put b q xs) at (record h { segments = with_here cut (Used (written (bytes_of cut.here) offset xs)) })
+    → Spells (with_part b q xs) at (record h { segments = with_here cut (Used (written (bytes_of cut.here) offset xs)) })
 Spells-put b at h y offset q cut xs s c h1 eq =
     let old = bytes_of cut.here in
     let new = written old offset xs in
@@ -76,14 +78,16 @@ Spells-put b at h y offset q cut xs s c h1 eq =
     let inside = c.inside in
     let fits = s.heap.fits in
     let within = s.within in
-    let same : put old offset xs ≡ new = put-parts old offset xs h1 in
+    let same : with_part old offset xs ≡ new = put-parts old offset xs h1 in
     let e : length new ≡ length old = sym (ap length same) ∙ length-put old offset xs in
-    let o : SameOutside b (put b q xs) (p + 4) (p + 4 + length old) = wider (put_outside b q xs (q + length xs) (omega arith)) (omega arith) (omega arith) in
+    let o : SameOutside b (with_part b q xs) (p + 4) (p + 4 + length old) = wider (put_outside b q xs (q + length xs) (omega arith)) (omega arith)
+    (omega arith) in
     let place : q ≡ p + 4 + offset = omega arith in
     let whole : part b (p + 4) (length old) ≡ old = ap (λ r. part b r (length old)) (let z : p + 4 ≡ at + y = omega arith in z) ∙ cut_bytes b at h y cut s c in
-    let now : part (put b q xs) (p + 4) (length new) ≡ new = ap (part (put b q xs) (p + 4)) e ∙ ap (λ r. part (put b r xs) (p + 4) (length old)) place
-    ∙ part-written b (p + 4) (length old) offset xs h1 (omega arith) ∙ ap (λ l. put l offset xs) whole ∙ same in
-    Spells-with b (put b q xs) at h cut.before cut.after old new p s c.is refl e o now
+    let now : part (with_part b q xs) (p + 4) (length new) ≡ new = ap (part (with_part b q xs) (p + 4)) e ∙ ap
+    (λ r. part (with_part b r xs) (p + 4) (length old)) place
+    ∙ part-written b (p + 4) (length old) offset xs h1 (omega arith) ∙ ap (λ l. with_part l offset xs) whole ∙ same in
+    Spells-with b (with_part b q xs) at h cut.before cut.after old new p s c.is refl e o now
 
 -- ---- blocks in which no bytes at an address lie
 
@@ -191,7 +195,7 @@ pub data Reached (s : Slot) (x room : ℕ) (xs : List ℕ) : Type 0 where
       → written_in x xs (buffer_at x room s) s ≡ with_heap_bytes cut offset xs s → Reached s x room xs
   in_flex : (cut : Split Flex) (offset : ℕ) → s.blocks ≡ cut.before ++ cut.here ∷ cut.after → x ≡ flex_address s cut.before + offset
       → offset + length xs ≤ length cut.here.bytes
-      → written_in x xs (buffer_at x room s) s ≡ with_bytes cut (written cut.here.bytes offset xs) s → Reached s x room xs
+      → written_in x xs (buffer_at x room s) s ≡ with_block_bytes cut (written cut.here.bytes offset xs) s → Reached s x room xs
 
 roomy : (n : ℕ) (o : Option (Split Segment)) (cut : Split Segment) → roomy_in n o ≡ Some cut → (o ≡ Some cut) × (n ≤ length (bytes_of cut.here))
 roomy n None cut e = absurd cc
@@ -213,7 +217,7 @@ module _ (s : Slot) (x room : ℕ) (xs : List ℕ) (few : length xs ≤ room) (f
   in_holder e (flex_holder cut offset f is q h) =
       let same : x - flex_address s cut.before ≡ offset = omega arith in
       in_flex cut offset is q h (ap (λ o. written_in x xs o s) e ∙ ap (λ o. written_around x xs o s) f
-      ∙ ap (λ k. with_bytes cut (written cut.here.bytes k xs) s) same)
+      ∙ ap (λ k. with_block_bytes cut (written cut.here.bytes k xs) s) same)
   in_holder e (heap_holder cut offset f g c q h) =
       let same : x - (heap_start + (16 + total size_of cut.before) + 4) ≡ offset = omega arith in
       in_heap cut (16 + total size_of cut.before + 4) offset c q h
@@ -251,21 +255,22 @@ within b s x room xs k (in_flex cut offset is e h q) =
     record { low = omega arith; high = omega arith }
 
 pub reached_spells : (b : List ℕ) (s : Slot) (x room : ℕ) (xs : List ℕ) → SpellsSlot b s → Reached s x room xs
-    → SpellsSlot (put b (x - 32768) xs) (written_in x xs (buffer_at x room s) s)
+    → SpellsSlot (with_part b (x - 32768) xs) (written_in x xs (buffer_at x room s) s)
 reached_spells b s x room xs k (in_heap cut y offset c e h q) =
     let inside = c.inside in
     let stands = c.stands in
     let fits = k.words.heap.heap.fits in
-    subst (SpellsSlot (put b (x - 32768) xs)) (sym q)
-    (SpellsSlot-with_heap b (put b (x - 32768) xs) s (record s.heap { segments = with_here cut (Used (written (bytes_of cut.here) offset xs)) }) k
+    subst (SpellsSlot (with_part b (x - 32768) xs)) (sym q)
+    (SpellsSlot-with_heap b (with_part b (x - 32768) xs) s (record s.heap { segments = with_here cut (Used (written (bytes_of cut.here) offset xs)) }) k
     (wider (put_outside b (x - 32768) xs (x - 32768 + length xs) (omega arith)) (omega arith) (omega arith))
     (Spells-put b heap_place s.heap y offset (x - 32768) cut xs k.words.heap c h (omega arith)) refl)
 reached_spells b s x room xs k (in_flex cut offset is e h q) =
     let f = cut_found s cut.here.anchor cut is refl (HaveAnchors-cut cut.before cut.here cut.after (subst HaveAnchors is k.words.anchors)).before in
     let place : x - 32768 ≡ flex_place s + total weight cut.before + 8 + offset = omega arith in
-    let w = put_words b (put b (x - 32768) xs) s cut.here.anchor (flex_place s + total weight cut.before) (length cut.here.bytes) offset cut xs k.words f h
-    (ap (λ p. put b p xs) place) in
-    subst (SpellsSlot (put b (x - 32768) xs)) (sym q) (paged _ _ _ w.0 w.1 (length-put b (x - 32768) xs ∙ k.pages))
+    let w = put_words b (with_part b (x - 32768) xs) s cut.here.anchor (flex_place s + total weight cut.before)
+    (length cut.here.bytes) offset cut xs k.words f h
+    (ap (λ p. with_part b p xs) place) in
+    subst (SpellsSlot (with_part b (x - 32768) xs)) (sym q) (paged _ _ _ w.0 w.1 (length-put b (x - 32768) xs ∙ k.pages))
 
 pub reached_budging : (s : Slot) (x room : ℕ) (xs : List ℕ) → Reached s x room xs → (written_in x xs (buffer_at x room s) s).budging ≡ s.budging
 reached_budging s x room xs (in_heap cut y offset c e h q) = ap (λ (t : Slot). t.budging) q

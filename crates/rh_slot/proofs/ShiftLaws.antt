@@ -1,15 +1,15 @@
 -- Blocks that slid, and the walk that writes their anchor words.
 use Rattle.rh_slot.proofs.Common.{◌≡◌, ℕ, ◌+◌, ◌-◌, ◌*◌, ◌^◌, ◌<◌, ◌≤◌, ◌≢◌, ◌⊎◌, inl, inr, List, [], ◌∷◌, ◌++◌, length, get_or, refl, sym, ap, subst, ◌∙◌}
-use Rattle.rh_slot.proofs.Common.{append_assoc, arith, cases_lt, append-nil, word, put, part, SameOutside, total, Flex, weight, flex_weight, IsFree}
+use Rattle.rh_slot.proofs.Common.{append_assoc, arith, cases_lt, append-nil, word, with_part, part, SameOutside, total, Flex, weight, flex_weight, IsFree}
 use Rattle.rh_slot.proofs.Common.{HaveAnchors, heap_start, Lie, Hang, heap_place, word_same, length-put, length-part, SameOutside-self, sum-append, wider}
-use Rattle.rh_slot.proofs.Common.{same_both, in_below, in_above, Lie-same, HaveAnchors-cut, Carried, Row, Shifted, HangsApart}
+use Rattle.rh_slot.proofs.Common.{same_both, in_below, in_above, Lie-same, HaveAnchors-cut, Carried, BlockRow, Shifted, HangsApart}
 use Rattle.rh_defs.specs.Bytes.{put_word}
 use Rattle.rh_defs.proofs.BytesLaws.{length-put_word, put_above, put_inside, put-part, put_word_outside, word-part, word-put_above, word-put_inside}
 use Rattle.rh_defs.proofs.BytesLaws.{word-put_word}
 use Rattle.rh_defs.proofs.SlotLaws.{Lie-carried, Lie-unique, Hang-join, IsFree-split, none_weigh}
 use Rattle.rh_slot.specs.Row.{Hung, Hanging}
 
-pub hanging_start : (b : List ℕ) (from n : ℕ) → Row b from n → Hanging b b from n from
+pub hanging_start : (b : List ℕ) (from n : ℕ) → BlockRow b from n → Hanging b b from n from
 hanging_start b from n r = record {
   before = [];
   rest = r.blocks;
@@ -108,34 +108,35 @@ room b c from n p w lt = room_at c p (from + n) w.rest w.left lt
 -- ---- the same walk where the anchor words stand apart
 
 -- a byte that stays in what is written stays where it is written
-covered : (b x y : List ℕ) (k : ℕ) → length y ≡ length x → length x ≤ length b → get_or y k 0 ≡ get_or x k 0 → get_or (put b 0 y) k 0 ≡ get_or (put b 0 x) k 0
+covered : (b x y : List ℕ) (k : ℕ) → length y ≡ length x → length x ≤ length b → get_or y k 0 ≡ get_or x k 0 → get_or (with_part b 0 y) k 0 ≡ get_or
+    (with_part b 0 x) k 0
 covered b x y k e l s = elim (cases_lt k (length x)) [
   | inl i ↦ put_inside b 0 y k k (omega arith) (omega arith) (omega arith) ∙ s ∙ sym (put_inside b 0 x k k (omega arith) (omega arith) (omega arith))
   | inr o ↦ put_above b 0 y k (omega arith) ∙ sym (put_above b 0 x k (omega arith))
 ]
 
-outside_put : (b x y : List ℕ) (lo hi : ℕ) → SameOutside x y lo hi → length x ≤ length b → SameOutside (put b 0 x) (put b 0 y) lo hi
+outside_put : (b x y : List ℕ) (lo hi : ℕ) → SameOutside x y lo hi → length x ≤ length b → SameOutside (with_part b 0 x) (with_part b 0 y) lo hi
 outside_put b x y lo hi s l = record {
   len = length-put b 0 y ∙ sym (length-put b 0 x);
   below = λ k h. covered b x y k s.len l (s.below k h);
   above = λ k h. covered b x y k s.len l (s.above k h);
 }
 
-pub apart_start : (b x : List ℕ) (from n k : ℕ) → Row b from n → heap_place ≤ length b → k ≡ heap_place → x ≡ part b 0 k → HangsApart b x from n from
+pub apart_start : (b x : List ℕ) (from n k : ℕ) → BlockRow b from n → heap_place ≤ length b → k ≡ heap_place → x ≡ part b 0 k → HangsApart b x from n from
 apart_start b x from n k r w ek ex =
     let len : length x ≡ k = ap length ex ∙ length-part b 0 k in
-    let same : put b 0 x ≡ b = ap (put b 0) ex ∙ put-part b 0 k (omega arith) in
+    let same : with_part b 0 x ≡ b = ap (with_part b 0) ex ∙ put-part b 0 k (omega arith) in
     record {
       long = omega arith;
       walk = subst (λ c. Hanging b c from n from) (sym same) (hanging_start b from n r);
     }
 
-pub apart_end : (b x c : List ℕ) (from n p : ℕ) → HangsApart b x from n p → c ≡ put b 0 x → from + n ≤ p → (fs : List Flex) → Lie b from fs
+pub apart_end : (b x c : List ℕ) (from n p : ℕ) → HangsApart b x from n p → c ≡ with_part b 0 x → from + n ≤ p → (fs : List Flex) → Lie b from fs
     → total weight fs ≡ n → Hung b c from fs
-apart_end b x c from n p h e le fs l s = subst (λ r. Hung b r from fs) (sym e) (hanging_end b (put b 0 x) from n p h.walk le fs l s)
+apart_end b x c from n p h e le fs l s = subst (λ r. Hung b r from fs) (sym e) (hanging_end b (with_part b 0 x) from n p h.walk le fs l s)
 
 pub apart_room : (b x : List ℕ) (from n p : ℕ) → HangsApart b x from n p → p < from + n → p + 8 ≤ from + n
-apart_room b x from n p h lt = room b (put b 0 x) from n p h.walk lt
+apart_room b x from n p h lt = room b (with_part b 0 x) from n p h.walk lt
 
 -- what the header words at a place say, and the walk behind the block
 pub record TurnApart (b x : List ℕ) (from n p a s : ℕ) : Type 0 where
@@ -149,9 +150,9 @@ pub turn_apart : (b x : List ℕ) (from n p a s : ℕ) → HangsApart b x from n
 turn_apart b x from n p a s h lt low within small ea es =
     let long = h.long in
     let at = h.walk.place in
-    let head : a ≡ word (put b 0 x) p = ea ∙ sym (word-put_above b 0 x p (omega arith)) in
-    let size : s ≡ word (put b 0 x) (p + 4) = es ∙ sym (word-put_above b 0 x (p + 4) (omega arith)) in
-    let t = turn b (put b 0 x) from n p a s h.walk lt low head size in
+    let head : a ≡ word (with_part b 0 x) p = ea ∙ sym (word-put_above b 0 x p (omega arith)) in
+    let size : s ≡ word (with_part b 0 x) (p + 4) = es ∙ sym (word-put_above b 0 x (p + 4) (omega arith)) in
+    let t = turn b (with_part b 0 x) from n p a s h.walk lt low head size in
     let least = t.least in
     let most = t.most in
     record {
@@ -166,8 +167,8 @@ turn_apart b x from n p a s h lt low within small ea es =
           ap (λ z. word z (a - 32768)) ey ∙ word-put_word x (a - 32768) (32768 + p + 8) (omega arith) (omega arith) in
           record {
             long = len ∙ long;
-            walk = subst (Hanging b (put b 0 y) from n) (sym eq)
-                (t.next (put b 0 y) (flex_weight s) refl (outside_put b x y (a - 32768) (a - 32768 + 4) o (omega arith))
+            walk = subst (Hanging b (with_part b 0 y) from n) (sym eq)
+                (t.next (with_part b 0 y) (flex_weight s) refl (outside_put b x y (a - 32768) (a - 32768 + 4) o (omega arith))
                 (word-put_inside b 0 y (a - 32768) (a - 32768) (omega arith) (omega arith) (omega arith) ∙ e));
           };
     }

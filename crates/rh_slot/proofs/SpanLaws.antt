@@ -1,6 +1,6 @@
 -- The C heap of a slot as a span of its area.
 use Rattle.rh_slot.proofs.Common.{◌≡◌, ℕ, ◌-◌, ◌≤◌, Bool, true, false, leb, refl, sym, ap, subst, ◌∙◌, ◌&&◌, ◌||◌, is_some, heap_start, Heap, Memory, IsOpen}
-use Rattle.rh_slot.proofs.Common.{bytes, SpellsSlot, heap_place, slot_of, Span, heap_in, IsSlot, SpellsIn, slot_in}
+use Rattle.rh_slot.proofs.Common.{bytes, SpellsSlot, heap_place, slot_of, Span, heap_in, IsSlotIn, SpellsSlotIn, slot_in}
 use Rattle.rh_defs.specs.Heap.{block_around}
 use Rattle.rh_defs.proofs.HeapLists.{leb_yes}
 use Rattle.rh_defs.specs.Slot as plain
@@ -20,23 +20,23 @@ pub budging_same : (m : Memory) (slot : Slot) → (slot_in m slot).budging ≡ s
 unfolding slot_of
 budging_same m slot = refl
 
-pub is_span : (m : Memory) (slot : Slot) → IsSlot m slot → IsSpan m (span_of slot)
+pub is_span : (m : Memory) (slot : Slot) → IsSlotIn m slot → IsSpan m (span_of slot)
 unfolding slot_of
 is_span m slot s = record { opened = s.opened; spells = s.spells.words.heap }
 
 -- the same from a call's requirement of the span by name
-pub is_span_at : (m : Memory) (slot : Slot) (span : Span) → span ≡ span_of slot → IsSlot m slot → IsSpan m span
+pub is_span_at : (m : Memory) (slot : Slot) (span : Span) → span ≡ span_of slot → IsSlotIn m slot → IsSpan m span
 is_span_at m slot span e s = subst (IsSpan m) (sym e) (is_span m slot s)
 
 pub heap_at : (m : Memory) (slot : Slot) (span : Span) → span ≡ span_of slot → heap_in m span ≡ (slot_in m slot).heap
 heap_at m slot span e = ap (heap_in m) e ∙ heap_same m slot
 
 -- the slot in an area is the one that its bytes spell
-pub slot_now : (m : Memory) (slot : Slot) (s : plain.Slot) → SpellsIn m slot s → s.budging ≡ slot.budge → slot_in m slot ≡ s
+pub slot_now : (m : Memory) (slot : Slot) (s : plain.Slot) → SpellsSlotIn m slot s → s.budging ≡ slot.budge → slot_in m slot ≡ s
 slot_now m slot s k e = ap (λ t. slot_of t (bytes m slot.area.0)) (sym e) ∙ slot_of-SpellsSlot (bytes m slot.area.0) s k
 
 -- an open area whose bytes spell a slot is one, budging on or off
-pub is_slot : (m : Memory) (slot : Slot) (s : plain.Slot) → IsOpen m slot.area.0 → SpellsIn m slot s → IsSlot m slot
+pub is_slot : (m : Memory) (slot : Slot) (s : plain.Slot) → IsOpen m slot.area.0 → SpellsSlotIn m slot s → IsSlotIn m slot
 is_slot m slot s o k = record {
   opened = o;
   spells = subst (SpellsSlot (bytes m slot.area.0)) (sym (slot_of-SlotWords slot.budge (bytes m slot.area.0) s k.words))

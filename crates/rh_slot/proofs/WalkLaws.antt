@@ -2,7 +2,7 @@
 use Rattle.rh_slot.proofs.Common.{◌≡◌, ℕ, zero, suc, ◌+◌, ◌-◌, ◌*◌, ◌/◌, ◌<◌, ◌≤◌, Bool, true, false, List, [], ◌∷◌, ◌++◌, length, refl, sym, ap, subst, ◌∙◌}
 use Rattle.rh_slot.proofs.Common.{append_assoc, arith, length-append, take, drop, Some, None, is_some, slice_get, PAGE, word, total, Flex, Slot, weight}
 use Rattle.rh_slot.proofs.Common.{flex_weight, slot_start, slot_length, flex_start, HaveAnchors, anchor_count, Lie, Hang, SlotWords, SpellsSlot, flex_place}
-use Rattle.rh_slot.proofs.Common.{is_block, block_items, BlockItem, Lie-split, Hang-split, HaveAnchors-cut, Walked, item_of, WalksIn, length-take-le}
+use Rattle.rh_slot.proofs.Common.{is_block, block_items, BlockItem, Lie-split, Hang-split, HaveAnchors-cut, Walked, row_item, WalksIn, length-take-le}
 use Rattle.rh_defs.specs.Pieces.{first_at, is_inside, NonePass}
 use Rattle.rh_defs.specs.Slot.{flex_around}
 use Rattle.rh_defs.specs.Questions.{block_items_from}
@@ -127,7 +127,7 @@ item_is k a n k' a' n' e f h =
 
 -- the block that follows so many
 pub item_here : (b : List ℕ) (s : Slot) (place i : ℕ) → SlotWords b s → (w : Walked s place) → i ≡ length w.before → is_block b place ≡ true
-    → Some (item_of b place) ≡ slice_get (block_items s) i
+    → Some (row_item b place) ≡ slice_get (block_items s) i
 item_here b s place i x w e t =
     let n = next b s place x w t in
     let is : s.blocks ≡ w.before ++ n.here ∷ n.after = w.is ∙ ap (λ l. w.before ++ l) n.rest_is in
@@ -204,7 +204,7 @@ walk_at s w h = record {
 
 -- the block at which a walk stands
 pub step_item : (b : List ℕ) (s : Slot) (w : FlexWalk) → SlotWords b s → WalksIn s w → is_block b w.place ≡ true
-    → Some (item_of b w.place) ≡ slice_get (block_items s) w.passed
+    → Some (row_item b w.place) ≡ slice_get (block_items s) w.passed
 step_item b s w k h t = item_here b s w.place w.passed k (walk_at s w h) (sym (length-take-le w.passed s.blocks h.most)) t
 
 pub no_step : (b : List ℕ) (s : Slot) (w : FlexWalk) → SlotWords b s → WalksIn s w → is_block b w.place ≡ false → slice_get (block_items s) w.passed ≡ None

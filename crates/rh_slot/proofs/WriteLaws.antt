@@ -1,7 +1,8 @@
 -- Bytes of the store are copied into a slot's block.
-use Rattle.rh_slot.proofs.Common.{◌≡◌, ℕ, ◌+◌, ◌≤◌, List, length, refl, sym, ap, subst, ◌∙◌, arith, Ok, Option, Some, None, IfSome, put, Granted, no_answer}
+use Rattle.rh_slot.proofs.Common.{◌≡◌, ℕ, ◌+◌, ◌≤◌, List, length, refl, sym, ap, subst, ◌∙◌, arith, Ok, Option, Some, None, IfSome, with_part, Granted}
+use Rattle.rh_slot.proofs.Common.{no_answer}
 use Rattle.rh_slot.proofs.Common.{Heap, Memory, bytes, Split, Flex, slot_put, SpellsSlot, length-put, bytes-with_bytes, OnlyArea-from_Edited, heap_in, Span}
-use Rattle.rh_slot.proofs.Common.{IsSlot, slot_in, Leaves, FoundAt}
+use Rattle.rh_slot.proofs.Common.{IsSlotIn, slot_in, LeavesSlotIn, FoundAt}
 use Rattle.rh_defs.specs.Blocks.{SameShape}
 use Rattle.rh_defs.specs.Memory.{with_bytes}
 use Rattle.rh_defs.specs.Slot as plain
@@ -17,21 +18,22 @@ use Rattle.rh_slot.proofs.SpanLaws.{span_of, heap_at, budging_same}
 -- bytes are put into a slot's area, where they spell the slot that is granted
 pub copied : (m n : Memory) (slot : Slot) (granted : Granted (plain.Slot × Unit {0})) (s : plain.Slot) (at : ℕ) (xs : List ℕ) → granted ≡ Ok (s, tt)
     → s.budging ≡ (slot_in m slot).budging
-    → n ≡ with_bytes m slot.area.0 (put (bytes m slot.area.0) at xs) → SpellsSlot (put (bytes m slot.area.0) at xs) s → Leaves m n slot granted (Ok tt)
+    → n ≡ with_bytes m slot.area.0 (with_part (bytes m slot.area.0) at xs) → SpellsSlot (with_part (bytes m slot.area.0) at xs) s
+    → LeavesSlotIn m n slot granted (Ok tt)
 copied m n slot granted s at xs e b ne k =
     let id = slot.area.0 in
-    let now : bytes n id ≡ put (bytes m id) at xs = ap (λ (r : Memory). bytes r id) ne ∙ bytes-with_bytes m id (put (bytes m id) at xs) in
+    let now : bytes n id ≡ with_part (bytes m id) at xs = ap (λ (r : Memory). bytes r id) ne ∙ bytes-with_bytes m id (with_part (bytes m id) at xs) in
     leaves m n slot granted s tt e (b ∙ budging_same m slot) (subst (λ c. SpellsSlot c s) (sym now) k)
     (OnlyArea-from_Edited m n id at (at + length xs) (Edited-put m n id at (at + length xs) xs ne (omega arith)))
 
 -- bytes are put into an anchor's block
-pub put_copied : (m n : Memory) (slot : Slot) (k offset place size : ℕ) (cut : Split Flex) (xs : List ℕ) → IsSlot m slot
+pub put_copied : (m n : Memory) (slot : Slot) (k offset place size : ℕ) (cut : Split Flex) (xs : List ℕ) → IsSlotIn m slot
     → FoundAt k (slot_in m slot) place size cut → offset + length xs ≤ size
-    → n ≡ with_bytes m slot.area.0 (put (bytes m slot.area.0) (place + 8 + offset) xs)
-    → Leaves m n slot (no_answer (slot_put k offset xs (slot_in m slot))) (Ok tt)
+    → n ≡ with_bytes m slot.area.0 (with_part (bytes m slot.area.0) (place + 8 + offset) xs)
+    → LeavesSlotIn m n slot (no_answer (slot_put k offset xs (slot_in m slot))) (Ok tt)
 put_copied m n slot k offset place size cut xs s f h e =
     let b = bytes m slot.area.0 in
-    let w = put_words b (put b (place + 8 + offset) xs) (slot_in m slot) k place size offset cut xs s.spells.words f h refl in
+    let w = put_words b (with_part b (place + 8 + offset) xs) (slot_in m slot) k place size offset cut xs s.spells.words f h refl in
     copied m n slot _ _ (place + 8 + offset) xs (ap no_answer (put_at k offset xs (slot_in m slot) place size cut f h)) refl e
     (paged _ _ _ w.0 w.1 (length-put b (place + 8 + offset) xs ∙ s.spells.pages))
 

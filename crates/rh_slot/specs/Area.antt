@@ -9,10 +9,10 @@ abbrev pub slot_in : Memory → Slot → plain.Slot
 slot_in m slot = slot_of slot.budge (bytes m slot.area.0)
 
 -- the area's bytes now spell this slot
-abbrev pub SpellsIn : Memory → Slot → plain.Slot → Type 0
-SpellsIn m slot s = SpellsSlot (bytes m slot.area.0) s
+abbrev pub SpellsSlotIn : Memory → Slot → plain.Slot → Type 0
+SpellsSlotIn m slot s = SpellsSlot (bytes m slot.area.0) s
 
 -- the area is open, and its bytes spell a slot
-pub record IsSlot (m : Memory) (slot : Slot) : Type 0 where
+pub record IsSlotIn (m : Memory) (slot : Slot) : Type 0 where
   pub opened : IsOpen m slot.area.0
-  pub spells : SpellsIn m slot (slot_in m slot)
+  pub spells : SpellsSlotIn m slot (slot_in m slot)

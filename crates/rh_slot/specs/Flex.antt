@@ -2,7 +2,7 @@
 use Rattle.std.specs.Prelude.{◌≡◌, ℕ, ◌+◌, ◌-◌, ◌≤◌, List, ◌∷◌, ◌++◌, length, take, drop, Ok}
 use Rattle.rh_defs.specs.Chain.{Granted, ◌>>=◌, refuse_if}
 use Rattle.rh_defs.specs.Pieces.{total, zeros, Split}
-use Rattle.rh_defs.specs.Slot.{Flex, Slot, weight, flex_weight, slot_length, lacks_room, length_with, with_bytes, IsFree, slot_block, slot_extend, slot_put}
+use Rattle.rh_defs.specs.Slot.{Flex, Slot, weight, flex_weight, slot_length, lacks_room, length_with, with_block_bytes, IsFree, slot_block, slot_extend, slot_put}
 use Rattle.rh_defs.specs.SlotImage.{flex_place}
 use Rattle.rh_defs.specs.declared.refusal.Refusal.TheVariants.{NoRoom}
 
@@ -17,7 +17,7 @@ pub record FoundAt (k : ℕ) (s : Slot) (place size : ℕ) (cut : Split Flex) : 
   pub inside : place + flex_weight size ≤ slot_length s
 
 -- the anchor has such a block
-pub record Found (k : ℕ) (s : Slot) (place size : ℕ) : Type 0 where
+pub record FoundFlex (k : ℕ) (s : Slot) (place size : ℕ) : Type 0 where
   pub cut : Split Flex
   pub at : FoundAt k s place size cut
 
@@ -29,7 +29,7 @@ spliced offset out put bytes = take (offset - out) bytes ++ (zeros put ++ drop o
 unfoldable pub splice : ℕ → ℕ → ℕ → ℕ → Split Flex → Slot → Granted Slot
 splice free offset out put b s = do
   _ ← refuse_if (lacks_room free (length_with b (length b.here.bytes - out + put) s) s) NoRoom
-  Ok (with_bytes b (spliced offset out put b.here.bytes) s)
+  Ok (with_block_bytes b (spliced offset out put b.here.bytes) s)
 
 -- a slot with bytes at the end of the anchor's block, where so many pages are free
 unfoldable pub slot_append : ℕ → ℕ → List ℕ → Slot → Granted Slot

@@ -3,7 +3,7 @@
 use Rattle.std.specs.Prelude.{◌≡◌, ℕ, zero, suc, ◌+◌, ◌-◌, ◌*◌, ◌%◌, ◌≤◌, ◌==◌, Bool, true, false, nat_le, ◌&&◌, ◌||◌, if◌then◌else◌, List, length, take, drop, Option, Some, None, Result, Ok, Err}
 use Rattle.std.specs.List.{list_any}
 use Rattle.rh_defs.specs.Bytes.{word}
-use Rattle.rh_defs.specs.Pieces.{page, total}
+use Rattle.rh_defs.specs.Pieces.{page_size, total}
 use Rattle.rh_defs.specs.HeapImage.{fault_of}
 use Rattle.rh_defs.specs.Slot.{Flex, Slot, weight, slot_length, slot_pages, anchor_count}
 use Rattle.rh_defs.specs.SlotImage.{SpellsSlot, heap_place, flex_in, slot_of}
@@ -45,8 +45,8 @@ pub record IsRow (b : List ℕ) (from : ℕ) (sums : BlockSums) : Type 0 where
 -- ---- faults
 
 -- whether there are whole pages of bytes, one at least, and no more than application space has
-abbrev pub has_length : List ℕ → Bool
-has_length b = nat_le page (length b) && nat_le (length b) LONGEST_SLOT && length b % page == 0
+abbrev pub has_slot_length : List ℕ → Bool
+has_slot_length b = nat_le page_size (length b) && nat_le (length b) LONGEST_SLOT && length b % page_size == 0
 
 -- the C heap's bytes: as many as its descriptor says, or all behind the anchor words where these are fewer
 abbrev pub heap_bytes : List ℕ → List ℕ
@@ -84,10 +84,10 @@ first_fault true None true true true = None
 unfoldable pub slot_fault_of : List ℕ → Option SlotFault
 slot_fault_of b =
     let s = slot_of true b in
-    first_fault (has_length b) (fault_of (heap_bytes b)) (nat_le (slot_length s) (length b))
-    (are_hung b s.blocks anchor_count) (length b == page * slot_pages s)
+    first_fault (has_slot_length b) (fault_of (heap_bytes b)) (nat_le (slot_length s) (length b))
+    (are_hung b s.blocks anchor_count) (length b == page_size * slot_pages s)
 
 -- the fault that a check answers
-abbrev pub fault_in : Result SlotSummary SlotFault → Option SlotFault
-fault_in (Ok sums) = None
-fault_in (Err fault) = Some fault
+abbrev pub slot_fault_in : Result SlotSummary SlotFault → Option SlotFault
+slot_fault_in (Ok sums) = None
+slot_fault_in (Err fault) = Some fault

@@ -1,6 +1,6 @@
 -- The row of flex blocks in the words of an area: blocks that lie there, blocks that slid, and walks over them.
 use Rattle.std.specs.Prelude.{◌≡◌, ℕ, ◌+◌, ◌-◌, ◌*◌, ◌/◌, ◌%◌, ◌<◌, ◌≤◌, List, ◌++◌, length, take}
-use Rattle.rh_defs.specs.Bytes.{word, put, SameOutside}
+use Rattle.rh_defs.specs.Bytes.{word, with_part, SameOutside}
 use Rattle.rh_defs.specs.Memory.{Memory, Edited, bytes}
 use Rattle.rh_defs.specs.Pieces.{total}
 use Rattle.rh_defs.specs.Slot.{Flex, Slot, weight, slot_start, heap_start, IsFree, HaveAnchors}
@@ -10,7 +10,7 @@ use Rattle.rh_defs.specs.declared.sizes.TheConstants.{ANCHORS, FLEX_HEADER, WORD
 use Rattle.rh_slot.specs.declared.row.FlexWalk.{FlexWalk}
 
 -- some blocks lie in n bytes from a place on
-pub record Row (b : List ℕ) (from n : ℕ) : Type 0 where
+pub record BlockRow (b : List ℕ) (from n : ℕ) : Type 0 where
   pub blocks : List Flex
   pub lie : Lie b from blocks
   pub sum : total weight blocks ≡ n
@@ -42,7 +42,7 @@ pub record Hanging (b c : List ℕ) (from n p : ℕ) : Type 0 where
 -- the same where the anchor words stand apart, and are yet to be written over the bytes
 pub record HangsApart (b anchors : List ℕ) (from n p : ℕ) : Type 0 where
   pub long : length anchors ≡ heap_place
-  pub walk : Hanging b (put b 0 anchors) from n p
+  pub walk : Hanging b (with_part b 0 anchors) from n p
 
 -- the same in memories
 pub record Hangs (m n : Memory) (id from size p : ℕ) : Type 0 where
@@ -62,8 +62,8 @@ pub record WalksIn (s : Slot) (walk : FlexWalk) : Type 0 where
   pub place_is : walk.place ≡ flex_place s + total weight (take walk.passed s.blocks)
 
 -- the block whose header stands at a place of the slot's bytes
-abbrev pub item_of : List ℕ → ℕ → BlockItem
-item_of b place = record { anchor = (word b place - slot_start) / WORD; address = slot_start + place + FLEX_HEADER; size = word b (place + WORD) }
+abbrev pub row_item : List ℕ → ℕ → BlockItem
+row_item b place = record { anchor = (word b place - slot_start) / WORD; address = slot_start + place + FLEX_HEADER; size = word b (place + WORD) }
 
 -- The header of a flex block at a place of a slot lies so many bytes into a page, and names an anchor word that leads back to the block. This is its item.
 pub record Headed (anchors page : List ℕ) (at place : ℕ) (item : BlockItem) : Type 0 where

@@ -1,8 +1,8 @@
 //! The area of a slot: its words and bytes, and its pages. Places are in bytes from the area's first one.
 ghost use Rattle.std.specs.Prelude.{◌≡◌, ◌+◌, ◌<◌, OnErr, ◌^◌, ◌≤◌, length, ◌↔◌, OnOk, IsErr, IsErrOf, ◌*◌, ◌-◌, ◌/◌, replicate};
 ghost use Rattle.rh_defs.specs.Memory.{IsOpen, bytes, Resized, Edited};
-ghost use Rattle.rh_defs.specs.Pieces.{page, pages_for};
-ghost use Rattle.rh_defs.specs.Bytes.{word, part, put};
+ghost use Rattle.rh_defs.specs.Pieces.{page_size, pages_for};
+ghost use Rattle.rh_defs.specs.Bytes.{word, part, with_part};
 ghost use Rattle.rh_defs.proofs.SlotLaws.{Carried};
 
 use rh_defs::sizes::{PAGE, WORD, pages_for};
@@ -62,7 +62,7 @@ pub fn slide<S: WordsMut>(store: &mut S, area: AreaId, from: usize, to: usize, n
 pub fn write_bytes<S: WordsMut>(store: &mut S, area: AreaId, place: usize, from: &[u8])
     requires opened { IsOpen (S.memory store.old) area.0 }
     requires within { place + length from.now ≤ length (bytes (S.memory store.old) area.0) }
-    ensures value { bytes (S.memory store.new) area.0 ≡ put (bytes (S.memory store.old) area.0) place from.now }
+    ensures value { bytes (S.memory store.new) area.0 ≡ with_part (bytes (S.memory store.old) area.0) place from.now }
     ensures only { Edited (S.memory store.old) (S.memory store.new) area.0 place (place + length from.now) }
 {
     store.copy_in(area, place, from);
@@ -73,9 +73,9 @@ pub fn room_for<S: Pages>(store: &mut S, area: AreaId, top: usize) -> Result<(),
     requires opened { IsOpen (S.memory store.old) area.0 }
     requires small { top < 2 ^ 40 }
     ensures ok { OnOk result (Resized (S.memory store.old) (S.memory store.new) area.0 (length (bytes (S.memory store.old) area.0))
-        (length (bytes (S.memory store.old) area.0) / page + (pages_for top - length (bytes (S.memory store.old) area.0) / page))) }
+        (length (bytes (S.memory store.old) area.0) / page_size + (pages_for top - length (bytes (S.memory store.old) area.0) / page_size))) }
     ensures err { OnErr result (S.memory store.new ≡ S.memory store.old) }
-    ensures refused { IsErr result ↔ ((S.memory store.old).free < pages_for top - length (bytes (S.memory store.old) area.0) / page) }
+    ensures refused { IsErr result ↔ ((S.memory store.old).free < pages_for top - length (bytes (S.memory store.old) area.0) / page_size) }
     ensures reason { IsErr result → IsErrOf result StoreFault.NoPages }
 {
     let pages = store.len(area) / PAGE;
@@ -85,11 +85,11 @@ pub fn room_for<S: Pages>(store: &mut S, area: AreaId, top: usize) -> Result<(),
 /// Appends pages up to a top.
 pub fn grow_to<S: Pages>(store: &mut S, area: AreaId, top: usize) -> Result<(), StoreFault>
     requires opened { IsOpen (S.memory store.old) area.0 }
-    requires more { length (bytes (S.memory store.old) area.0) ≤ page * pages_for top }
+    requires more { length (bytes (S.memory store.old) area.0) ≤ page_size * pages_for top }
     requires small { top < 2 ^ 40 }
     ensures ok { OnOk result (Resized (S.memory store.old) (S.memory store.new) area.0 (length (bytes (S.memory store.old) area.0)) (pages_for top)) }
     ensures err { OnErr result (S.memory store.new ≡ S.memory store.old) }
-    ensures refused { IsErr result ↔ ((S.memory store.old).free < pages_for top - length (bytes (S.memory store.old) area.0) / page) }
+    ensures refused { IsErr result ↔ ((S.memory store.old).free < pages_for top - length (bytes (S.memory store.old) area.0) / page_size) }
     ensures reason { IsErr result → IsErrOf result StoreFault.NoPages }
 {
     let pages = store.len(area) / PAGE;

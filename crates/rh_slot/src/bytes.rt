@@ -7,8 +7,8 @@ ghost use Rattle.rh_defs.specs.Places.{buffer_at, free_anchor as free_anchor_on,
 ghost use Rattle.rh_defs.specs.Slot.{holds, slot_put, slot_start};
 ghost use Rattle.rh_defs.specs.SlotImage.{flex_place};
 ghost use Rattle.rh_defs.specs.declared.sizes.TheConstants.{ANCHORS, C_HEAP_PLACE};
-ghost use Rattle.rh_slot.specs.Area.{IsSlot, slot_in};
-ghost use Rattle.rh_slot.specs.Calls.{Leaves};
+ghost use Rattle.rh_slot.specs.Area.{IsSlotIn, slot_in};
+ghost use Rattle.rh_slot.specs.Calls.{LeavesSlotIn};
 ghost use Rattle.rh_slot.specs.Flex.{slot_append};
 
 use crate::area::{room_for, write};
@@ -22,7 +22,7 @@ use rh_store::{AreaId, Store, Words};
 
 /// The lowest anchor without a block, `None` where all have one.
 pub fn free_anchor<S: Words>(store: &S, slot: Slot) -> Option<Anchor>
-    requires { IsSlot (S.memory store.now) slot }
+    requires { IsSlotIn (S.memory store.now) slot }
     ensures { result ≡ free_anchor_on (slot_in (S.memory store.now) slot) }
 {
     let mut k: u8 = 0;
@@ -46,12 +46,12 @@ pub fn put_from<S: Store>(
     place: usize,
     n: usize,
 ) -> Result<(), Refusal>
-    requires slot { IsSlot (S.memory store.old) slot }
+    requires slot { IsSlotIn (S.memory store.old) slot }
     requires anchor { anchor < ANCHORS }
     requires opened { IsOpen (S.memory store.old) from.0 }
     requires source { place + n ≤ length (bytes (S.memory store.old) from.0) }
     requires below { from.0 ≡ slot.area.0 → place + n ≤ flex_place (slot_in (S.memory store.old) slot) }
-    ensures { Leaves (S.memory store.old) (S.memory store.new) slot
+    ensures { LeavesSlotIn (S.memory store.old) (S.memory store.new) slot
         (no_answer (slot_put anchor offset (part (bytes (S.memory store.old) from.0) place n) (slot_in (S.memory store.old) slot))) result }
 {
     let Some(spot) = slot.locate(store, anchor) else {
@@ -74,13 +74,13 @@ pub fn append_from<S: Store>(
     place: usize,
     n: usize,
 ) -> Result<(), Refusal>
-    requires slot { IsSlot (S.memory store.old) slot }
+    requires slot { IsSlotIn (S.memory store.old) slot }
     requires anchor { anchor < ANCHORS }
     requires opened { IsOpen (S.memory store.old) from.0 }
     requires source { place + n ≤ length (bytes (S.memory store.old) from.0) }
     requires above { from.0 ≡ slot.area.0 → 0 < n → C_HEAP_PLACE ≤ place }
     requires below { from.0 ≡ slot.area.0 → place + n ≤ flex_place (slot_in (S.memory store.old) slot) }
-    ensures { Leaves (S.memory store.old) (S.memory store.new) slot
+    ensures { LeavesSlotIn (S.memory store.old) (S.memory store.new) slot
         (no_answer (slot_append (S.memory store.old).free anchor (part (bytes (S.memory store.old) from.0) place n) (slot_in (S.memory store.old) slot))) result }
 {
     let Some(spot) = slot.locate(store, anchor) else {
@@ -111,13 +111,13 @@ pub fn write_from<S: Store>(
     place: usize,
     n: usize,
 )
-    requires slot { IsSlot (S.memory store.old) slot }
+    requires slot { IsSlotIn (S.memory store.old) slot }
     requires opened { IsOpen (S.memory store.old) from.0 }
     requires source { place + n ≤ length (bytes (S.memory store.old) from.0) }
     requires reach { (is_some (buffer_at address room (slot_in (S.memory store.old) slot)) || holds address room (slot_in (S.memory store.old) slot)) ≡ true }
     requires fits { n ≤ room }
     requires apart { from.0 ≡ slot.area.0 → (place + n ≤ address - slot_start) ⊎ (address - slot_start + n ≤ place) }
-    ensures { Leaves (S.memory store.old) (S.memory store.new) slot
+    ensures { LeavesSlotIn (S.memory store.old) (S.memory store.new) slot
         (no_answer (Ok (written_in address (part (bytes (S.memory store.old) from.0) place n)
         (buffer_at address room (slot_in (S.memory store.old) slot)) (slot_in (S.memory store.old) slot)))) (Ok tt) }
 {

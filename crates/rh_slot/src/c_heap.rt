@@ -8,8 +8,8 @@ ghost use Rattle.rh_defs.specs.Pieces.{pages_for};
 ghost use Rattle.rh_defs.specs.Slot.{heap_start, slot_claim, slot_release, slot_resize, slot_take_pages};
 ghost use Rattle.rh_heap.specs.Listed.{segments_from};
 ghost use Rattle.rh_heap.specs.Segments.{piece};
-ghost use Rattle.rh_slot.specs.Area.{IsSlot, SpellsIn, slot_in};
-ghost use Rattle.rh_slot.specs.Calls.{Leaves};
+ghost use Rattle.rh_slot.specs.Area.{IsSlotIn, SpellsSlotIn, slot_in};
+ghost use Rattle.rh_slot.specs.Calls.{LeavesSlotIn};
 ghost use Rattle.rh_slot.specs.CHeap.{after_growth, lengthened};
 
 use crate::area::grow_to;
@@ -42,9 +42,9 @@ impl Slot {
     /// Makes the C heap longer by a shortage, in whole pages. All flex blocks slide up. Refused (`NoRoom`) where too few
     /// pages are free.
     fn lengthen<S: Pages>(self, store: &mut S, shortage: usize) -> Result<(), Refusal>
-        requires slot { IsSlot (S.memory store.old) self }
+        requires slot { IsSlotIn (S.memory store.old) self }
         requires small { shortage < 2 ^ 34 }
-        ensures spells { OnOk result (SpellsIn (S.memory store.new) self (lengthened shortage (slot_in (S.memory store.old) self))) }
+        ensures spells { OnOk result (SpellsSlotIn (S.memory store.new) self (lengthened shortage (slot_in (S.memory store.old) self))) }
         ensures only { OnOk result (OnlyArea (S.memory store.old) (S.memory store.new) self.area.0) }
         ensures refused { IsErr result ↔ ((S.memory store.old).free < pages_for shortage) }
         ensures reason { IsErr result → IsErrOf result Refusal.NoRoom }
@@ -64,10 +64,10 @@ impl Slot {
 
     /// Makes room for a shortage of the C heap, 0 for none. Refused: `NoBudge` where budging is off, `NoRoom`.
     fn make_room<S: Pages>(self, store: &mut S, shortage: usize) -> Result<(), Refusal>
-        requires slot { IsSlot (S.memory store.old) self }
+        requires slot { IsSlotIn (S.memory store.old) self }
         requires small { shortage < 2 ^ 34 }
         ensures answer { result ≡ after_growth (S.memory store.old).free shortage (slot_in (S.memory store.old) self) tt }
-        ensures spells { OnOk result (SpellsIn (S.memory store.new) self (lengthened shortage (slot_in (S.memory store.old) self))) }
+        ensures spells { OnOk result (SpellsSlotIn (S.memory store.new) self (lengthened shortage (slot_in (S.memory store.old) self))) }
         ensures only { OnlyArea (S.memory store.old) (S.memory store.new) self.area.0 }
         ensures err { OnErr result (S.memory store.new ≡ S.memory store.old) }
     {
@@ -82,8 +82,8 @@ impl Slot {
 
     /// Claims a block where the heap as it is refused one: it is too short and gets longer first, or refuses again.
     fn claim_growing<S: Pages>(self, store: &mut S, n: u32) -> Result<usize, Refusal>
-        requires slot { IsSlot (S.memory store.old) self }
-        ensures { Leaves (S.memory store.old) (S.memory store.new) self
+        requires slot { IsSlotIn (S.memory store.old) self }
+        ensures { LeavesSlotIn (S.memory store.old) (S.memory store.new) self
             (slot_claim (S.memory store.old).free n (slot_in (S.memory store.old) self)) result }
     {
         let shortage = rh_heap::need(store, self.span(), n)?;
@@ -97,8 +97,8 @@ impl Slot {
     /// is too short grows by whole pages, and the flex blocks slide up. Refused: `BadSize` for 0 bytes, `NoBudge`
     /// where the heap is too short and budging is off, `NoRoom` where too few pages are free. (OS_Heap 2.)
     pub fn claim<S: Pages>(self, store: &mut S, n: u32) -> Result<usize, Refusal>
-        requires slot { IsSlot (S.memory store.old) self }
-        ensures { Leaves (S.memory store.old) (S.memory store.new) self
+        requires slot { IsSlotIn (S.memory store.old) self }
+        ensures { LeavesSlotIn (S.memory store.old) (S.memory store.new) self
             (slot_claim (S.memory store.old).free n (slot_in (S.memory store.old) self)) result }
     {
         match rh_heap::claim(store, self.span(), n) {
@@ -109,8 +109,8 @@ impl Slot {
 
     /// Releases the block of the C heap at an address. Refused (`NotABlock`) where none begins there. (OS_Heap 3.)
     pub fn release<S: Pages>(self, store: &mut S, address: usize) -> Result<(), Refusal>
-        requires slot { IsSlot (S.memory store.old) self }
-        ensures { Leaves (S.memory store.old) (S.memory store.new) self
+        requires slot { IsSlotIn (S.memory store.old) self }
+        ensures { LeavesSlotIn (S.memory store.old) (S.memory store.new) self
             (no_answer (slot_release address (slot_in (S.memory store.old) self))) result }
     {
         rh_heap::release(store, self.span(), address.saturating_sub(C_HEAP_START))?;
@@ -125,8 +125,8 @@ impl Slot {
         address: usize,
         delta: i32,
     ) -> Result<usize, Refusal>
-        requires slot { IsSlot (S.memory store.old) self }
-        ensures { Leaves (S.memory store.old) (S.memory store.new) self
+        requires slot { IsSlotIn (S.memory store.old) self }
+        ensures { LeavesSlotIn (S.memory store.old) (S.memory store.new) self
             (slot_resize (S.memory store.old).free address delta (slot_in (S.memory store.old) self)) result }
     {
         let place = address.saturating_sub(C_HEAP_START);
@@ -146,8 +146,8 @@ impl Slot {
         address: usize,
         delta: i32,
     ) -> Result<usize, Refusal>
-        requires slot { IsSlot (S.memory store.old) self }
-        ensures { Leaves (S.memory store.old) (S.memory store.new) self
+        requires slot { IsSlotIn (S.memory store.old) self }
+        ensures { LeavesSlotIn (S.memory store.old) (S.memory store.new) self
             (slot_resize (S.memory store.old).free address delta (slot_in (S.memory store.old) self)) result }
     {
         let place = address.saturating_sub(C_HEAP_START);
@@ -160,7 +160,7 @@ impl Slot {
     /// By how many pages a claim of `n` bytes and then a flex block of no bytes would make the slot longer. Refused:
     /// `BadSize` for 0 bytes, `NoBudge` where the C heap is too short and budging is off.
     pub fn take_pages<S: Paged>(self, store: &S, n: u32) -> Result<usize, Refusal>
-        requires slot { IsSlot (S.memory store.now) self }
+        requires slot { IsSlotIn (S.memory store.now) self }
         ensures { result ≡ slot_take_pages n (slot_in (S.memory store.now) self) }
     {
         let shortage = rh_heap::need(store, self.span(), n)?;
@@ -173,7 +173,7 @@ impl Slot {
 
     /// The bytes of the C heap's block at an address. Refused (`NotABlock`) where none begins there. (OS_Heap 6.)
     pub fn block_size<S: Words>(self, store: &S, address: usize) -> Result<usize, Refusal>
-        requires slot { IsSlot (S.memory store.now) self }
+        requires slot { IsSlotIn (S.memory store.now) self }
         ensures { result ≡ ok_or (block_size (address - heap_start) (slot_in (S.memory store.now) self).heap) Refusal.NotABlock }
     {
         let size = rh_heap::block_size(store, self.span(), address.saturating_sub(C_HEAP_START))?;
@@ -182,7 +182,7 @@ impl Slot {
 
     /// The segment of the C heap that begins at a place, in bytes from the heap's first one.
     pub fn segment<S: Words>(self, store: &S, place: usize) -> Option<Segment>
-        requires slot { IsSlot (S.memory store.now) self }
+        requires slot { IsSlotIn (S.memory store.now) self }
         ensures { result ≡ option_map piece (segment_at place (slot_in (S.memory store.now) self).heap) }
     {
         rh_heap::segment(store, self.span(), place)
@@ -195,7 +195,7 @@ impl Slot {
         store: &S,
         place: usize,
     ) -> ArrayVec<Segment, SEGMENTS_AT_ONCE>
-        requires slot { IsSlot (S.memory store.now) self }
+        requires slot { IsSlotIn (S.memory store.now) self }
         ensures { result.items ≡ segments_from place (slot_in (S.memory store.now) self).heap }
     {
         rh_heap::segments_from(store, self.span(), place)
@@ -203,7 +203,7 @@ impl Slot {
 
     /// The C heap's end in bytes, its largest free block, and the bytes of all its holes and its top. (OS_Heap 1.)
     pub fn describe<S: Words>(self, store: &S) -> (usize, usize, usize)
-        requires slot { IsSlot (S.memory store.now) self }
+        requires slot { IsSlotIn (S.memory store.now) self }
         ensures end { result.0 ≡ (slot_in (S.memory store.now) self).heap.end }
         ensures largest { result.1 ≡ largest (slot_in (S.memory store.now) self).heap }
         ensures total { result.2 ≡ free_bytes (slot_in (S.memory store.now) self).heap }

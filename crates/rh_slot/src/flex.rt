@@ -3,9 +3,9 @@ ghost use Rattle.std.specs.Prelude.{◌≡◌, ◌+◌, ◌<◌, ◌^◌, ◌≤
 ghost use Rattle.rh_defs.specs.Chain.{outcome_of, no_answer, result_or};
 ghost use Rattle.rh_defs.specs.Pieces.{Split, moved};
 ghost use Rattle.rh_defs.specs.Slot.{Flex, slot_extend, slot_mid, slot_put, slot_read, taken_out, slot_alloc, slot_free, IsFree, slot_size, slot_address};
-ghost use Rattle.rh_slot.specs.Area.{IsSlot, slot_in};
-ghost use Rattle.rh_slot.specs.Calls.{Leaves};
-ghost use Rattle.rh_slot.specs.Flex.{Found, FoundAt, splice};
+ghost use Rattle.rh_slot.specs.Area.{IsSlotIn, slot_in};
+ghost use Rattle.rh_slot.specs.Calls.{LeavesSlotIn};
+ghost use Rattle.rh_slot.specs.Flex.{FoundFlex, FoundAt, splice};
 
 use crate::area::{clear, grow_to, read, room_for, slide, trim, write, write_bytes};
 use crate::row::shift;
@@ -66,10 +66,10 @@ fn put_in(by: i32) -> usize
 impl Slot {
     /// The anchor's block, or `None` where it has none.
     pub(crate) fn locate<S: Words>(self, store: &S, anchor: Anchor) -> Option<Spot>
-        requires slot { IsSlot (S.memory store.now) self }
+        requires slot { IsSlotIn (S.memory store.now) self }
         requires anchor { anchor < ANCHORS }
         ensures { MatchOption result (IsFree anchor (slot_in (S.memory store.now) self).blocks)
-            (λ spot. Found anchor (slot_in (S.memory store.now) self) spot.place spot.size) }
+            (λ spot. FoundFlex anchor (slot_in (S.memory store.now) self) spot.place spot.size) }
     {
         let address = read(store, self.area, word_place(anchor));
         if address == 0 {
@@ -82,7 +82,7 @@ impl Slot {
 
     /// How many bytes the anchor's block has. Refused (`NoBlock`) where it has none. (flex_size.)
     pub fn size<S: Words>(self, store: &S, anchor: Anchor) -> Result<usize, Refusal>
-        requires slot { IsSlot (S.memory store.now) self }
+        requires slot { IsSlotIn (S.memory store.now) self }
         requires anchor { anchor < ANCHORS }
         ensures { result ≡ slot_size anchor (slot_in (S.memory store.now) self) }
     {
@@ -95,7 +95,7 @@ impl Slot {
     /// The address of the block's first byte, from &8000 on, as the anchor word holds it. Refused (`NoBlock`) where
     /// the anchor has none.
     pub fn address<S: Words>(self, store: &S, anchor: Anchor) -> Result<usize, Refusal>
-        requires slot { IsSlot (S.memory store.now) self }
+        requires slot { IsSlotIn (S.memory store.now) self }
         requires anchor { anchor < ANCHORS }
         ensures { result ≡ slot_address anchor (slot_in (S.memory store.now) self) }
     {
@@ -108,9 +108,9 @@ impl Slot {
     /// Puts a block of `n` zeros on top and answers its address, from &8000 on. Refused: `AnchorInUse` where the
     /// anchor has a block, `NoRoom` where too few pages are free. (flex_alloc.)
     pub fn alloc<S: Pages>(self, store: &mut S, anchor: Anchor, n: u32) -> Result<usize, Refusal>
-        requires slot { IsSlot (S.memory store.old) self }
+        requires slot { IsSlotIn (S.memory store.old) self }
         requires anchor { anchor < ANCHORS }
-        ensures { Leaves (S.memory store.old) (S.memory store.new) self
+        ensures { LeavesSlotIn (S.memory store.old) (S.memory store.new) self
             (slot_alloc (S.memory store.old).free anchor n (slot_in (S.memory store.old) self)) result }
     {
         if let Some(_) = self.locate(store, anchor) {
@@ -131,9 +131,9 @@ impl Slot {
 
     /// Takes the anchor's block away; those above it come down. Refused (`NoBlock`) where it has none. (flex_free.)
     pub fn free<S: Pages>(self, store: &mut S, anchor: Anchor) -> Result<(), Refusal>
-        requires slot { IsSlot (S.memory store.old) self }
+        requires slot { IsSlotIn (S.memory store.old) self }
         requires anchor { anchor < ANCHORS }
-        ensures { Leaves (S.memory store.old) (S.memory store.new) self
+        ensures { LeavesSlotIn (S.memory store.old) (S.memory store.new) self
             (no_answer (slot_free anchor (slot_in (S.memory store.old) self))) result }
     {
         let Some(spot) = self.locate(store, anchor) else {
@@ -156,13 +156,13 @@ impl Slot {
         spot: Spot,
         change: Change,
     ) -> Result<(), Refusal>
-        requires slot { IsSlot (S.memory store.old) self }
-        requires found { Found anchor (slot_in (S.memory store.old) self) spot.place spot.size }
+        requires slot { IsSlotIn (S.memory store.old) self }
+        requires found { FoundFlex anchor (slot_in (S.memory store.old) self) spot.place spot.size }
         requires offset { change.offset ≤ spot.size }
         requires out { change.out ≤ change.offset }
         requires small { change.put < 2 ^ 32 }
         ensures { (cut : Split Flex) → FoundAt anchor (slot_in (S.memory store.old) self) spot.place spot.size cut
-            → Leaves (S.memory store.old) (S.memory store.new) self
+            → LeavesSlotIn (S.memory store.old) (S.memory store.new) self
             (no_answer (splice (S.memory store.old).free change.offset change.out change.put cut (slot_in (S.memory store.old) self))) result }
     {
         let from = spot.place + flex_weight(spot.size);
@@ -188,9 +188,9 @@ impl Slot {
     /// Cuts the anchor's block to `n` bytes, or gives it zeros up to `n`; those above it slide. Refused: `NoBlock`
     /// where the anchor has none, `NoRoom` where too few pages are free. (flex_extend.)
     pub fn extend<S: Pages>(self, store: &mut S, anchor: Anchor, n: u32) -> Result<(), Refusal>
-        requires slot { IsSlot (S.memory store.old) self }
+        requires slot { IsSlotIn (S.memory store.old) self }
         requires anchor { anchor < ANCHORS }
-        ensures { Leaves (S.memory store.old) (S.memory store.new) self
+        ensures { LeavesSlotIn (S.memory store.old) (S.memory store.new) self
             (no_answer (slot_extend (S.memory store.old).free anchor n (slot_in (S.memory store.old) self))) result }
     {
         let Some(spot) = self.locate(store, anchor) else {
@@ -215,9 +215,9 @@ impl Slot {
         offset: usize,
         by: i32,
     ) -> Result<(), Refusal>
-        requires slot { IsSlot (S.memory store.old) self }
+        requires slot { IsSlotIn (S.memory store.old) self }
         requires anchor { anchor < ANCHORS }
-        ensures { Leaves (S.memory store.old) (S.memory store.new) self
+        ensures { LeavesSlotIn (S.memory store.old) (S.memory store.new) self
             (no_answer (slot_mid (S.memory store.old).free anchor offset by (slot_in (S.memory store.old) self))) result }
     {
         let Some(spot) = self.locate(store, anchor) else {
@@ -247,9 +247,9 @@ impl Slot {
         offset: usize,
         from: &[u8],
     ) -> Result<(), Refusal>
-        requires slot { IsSlot (S.memory store.old) self }
+        requires slot { IsSlotIn (S.memory store.old) self }
         requires anchor { anchor < ANCHORS }
-        ensures { Leaves (S.memory store.old) (S.memory store.new) self
+        ensures { LeavesSlotIn (S.memory store.old) (S.memory store.new) self
             (no_answer (slot_put anchor offset from.now (slot_in (S.memory store.old) self))) result }
     {
         let Some(spot) = self.locate(store, anchor) else {
@@ -271,7 +271,7 @@ impl Slot {
         offset: usize,
         to: &mut [u8],
     ) -> Result<(), Refusal>
-        requires slot { IsSlot (S.memory store.now) self }
+        requires slot { IsSlotIn (S.memory store.now) self }
         requires anchor { anchor < ANCHORS }
         ensures answer { result ≡ outcome_of (slot_read anchor offset (length to.old) (slot_in (S.memory store.now) self)) }
         ensures bytes { to.new ≡ result_or to.old (slot_read anchor offset (length to.old) (slot_in (S.memory store.now) self)) }

@@ -5,7 +5,7 @@ ghost use Rattle.rh_defs.specs.HeapImage.{IsImage, heap_of};
 ghost use Rattle.rh_defs.specs.Slot.{weight};
 ghost use Rattle.rh_defs.specs.SlotImage.{flex_in, is_block, slot_of};
 ghost use Rattle.rh_heap.specs.Image.{summary_of};
-ghost use Rattle.rh_slot.specs.Image.{IsSlotImage, IsRow, has_length, heap_bytes, words_in_use, slot_summary, slot_fault_of, fault_in};
+ghost use Rattle.rh_slot.specs.Image.{IsSlotImage, IsRow, has_slot_length, heap_bytes, words_in_use, slot_summary, slot_fault_of, slot_fault_in};
 ghost use Rattle.rh_defs.specs.declared.sizes.TheConstants.{ANCHORS, C_HEAP_PLACE, PAGE, WORD};
 ghost use Rattle.rh_slot.specs.declared.image.TheConstants.{LONGEST_SLOT};
 
@@ -67,7 +67,7 @@ struct BlockSums {
 pub fn check(image: &[u8]) -> Result<SlotSummary, SlotFault>
     ensures ok { IsOk result ↔ IsSlotImage image.now (slot_of true image.now) }
     ensures sums { IfOk result (λ sums. sums ≡ slot_summary (length image.now) (slot_of true image.now)) }
-    ensures fault { fault_in result ≡ slot_fault_of image.now }
+    ensures fault { slot_fault_in result ≡ slot_fault_of image.now }
 {
     if !has_length(image) {
         return Err(SlotFault::BadLength);
@@ -81,7 +81,7 @@ pub fn check(image: &[u8]) -> Result<SlotSummary, SlotFault>
 
 /// Whether a slot can have so many bytes.
 fn has_length(image: &[u8]) -> bool
-    ensures { result ≡ has_length image.now }
+    ensures { result ≡ has_slot_length image.now }
 {
     let len = image.len();
     PAGE <= len && len <= LONGEST_SLOT && len % PAGE == 0
@@ -104,12 +104,12 @@ fn heap_bytes(image: &[u8]) -> &[u8]
 
 /// The same as `check`, where the length and the C heap are right.
 fn check_blocks(image: &[u8], heap: Summary) -> Result<SlotSummary, SlotFault>
-    requires length { has_length image.now ≡ true }
+    requires length { has_slot_length image.now ≡ true }
     requires heap { IsImage (heap_bytes image.now) (heap_of (heap_bytes image.now) 0) }
     requires sums { heap ≡ summary_of (heap_of (heap_bytes image.now) 0) }
     ensures ok { IsOk result ↔ IsSlotImage image.now (slot_of true image.now) }
     ensures sums { IfOk result (λ sums. sums ≡ slot_summary (length image.now) (slot_of true image.now)) }
-    ensures fault { fault_in result ≡ slot_fault_of image.now }
+    ensures fault { slot_fault_in result ≡ slot_fault_of image.now }
 {
     let from = C_HEAP_PLACE + word_in(image, C_HEAP_PLACE + HEAP_END) as usize;
     let Some(row) = row_from(image, from) else {

@@ -7,8 +7,8 @@ ghost use Rattle.rh_defs.specs.Questions.{block_items};
 ghost use Rattle.rh_defs.specs.Bytes.{word, part, put_word, SameIn};
 ghost use Rattle.rh_defs.specs.SlotImage.{Lie, is_block, flex_place};
 ghost use Rattle.rh_defs.specs.declared.question.BlockItem.{BlockItem};
-ghost use Rattle.rh_slot.specs.Area.{IsSlot, slot_in};
-ghost use Rattle.rh_slot.specs.Row.{Row, Hung, HangsApart, Shifted, Walked, WalksIn, Headed, item_of};
+ghost use Rattle.rh_slot.specs.Area.{IsSlotIn, slot_in};
+ghost use Rattle.rh_slot.specs.Row.{BlockRow, Hung, HangsApart, Shifted, Walked, WalksIn, Headed, row_item};
 ghost use Rattle.rh_defs.specs.declared.sizes.TheConstants.{ANCHORS, C_HEAP_PLACE, FLEX_HEADER, PAGE};
 
 use crate::area::{read, slide, write, write_bytes};
@@ -103,7 +103,7 @@ fn hang_short<S: WordsMut>(store: &mut S, area: AreaId, from: usize, n: usize)
     requires opened { IsOpen (S.memory store.old) area.0 }
     requires within { from + n ≤ length (bytes (S.memory store.old) area.0) }
     requires low { C_HEAP_PLACE ≤ from }
-    requires row { Row (bytes (S.memory store.old) area.0) from n }
+    requires row { BlockRow (bytes (S.memory store.old) area.0) from n }
     ensures hung { (fs : List Flex) → Lie (bytes (S.memory store.old) area.0) from fs → total weight fs ≡ n
         → Hung (bytes (S.memory store.old) area.0) (bytes (S.memory store.new) area.0) from fs }
     ensures only { Edited (S.memory store.old) (S.memory store.new) area.0 0 C_HEAP_PLACE }
@@ -174,7 +174,7 @@ fn hang_long<S: Pages>(store: &mut S, area: AreaId, from: usize, n: usize)
     requires opened { IsOpen (S.memory store.old) area.0 }
     requires within { from + n ≤ length (bytes (S.memory store.old) area.0) }
     requires low { C_HEAP_PLACE ≤ from }
-    requires row { Row (bytes (S.memory store.old) area.0) from n }
+    requires row { BlockRow (bytes (S.memory store.old) area.0) from n }
     ensures hung { (fs : List Flex) → Lie (bytes (S.memory store.old) area.0) from fs → total weight fs ≡ n
         → Hung (bytes (S.memory store.old) area.0) (bytes (S.memory store.new) area.0) from fs }
     ensures only { Edited (S.memory store.old) (S.memory store.new) area.0 0 C_HEAP_PLACE }
@@ -196,7 +196,7 @@ fn hang<S: Pages>(store: &mut S, area: AreaId, from: usize, n: usize)
     requires opened { IsOpen (S.memory store.old) area.0 }
     requires within { from + n ≤ length (bytes (S.memory store.old) area.0) }
     requires low { C_HEAP_PLACE ≤ from }
-    requires row { Row (bytes (S.memory store.old) area.0) from n }
+    requires row { BlockRow (bytes (S.memory store.old) area.0) from n }
     ensures hung { (fs : List Flex) → Lie (bytes (S.memory store.old) area.0) from fs → total weight fs ≡ n
         → Hung (bytes (S.memory store.old) area.0) (bytes (S.memory store.new) area.0) from fs }
     ensures only { Edited (S.memory store.old) (S.memory store.new) area.0 0 C_HEAP_PLACE }
@@ -215,7 +215,7 @@ pub fn shift<S: Pages>(store: &mut S, area: AreaId, from: usize, to: usize, n: u
     requires target { to + n ≤ length (bytes (S.memory store.old) area.0) }
     requires low { C_HEAP_PLACE ≤ from }
     requires high { C_HEAP_PLACE ≤ to }
-    requires row { Row (bytes (S.memory store.old) area.0) from n }
+    requires row { BlockRow (bytes (S.memory store.old) area.0) from n }
     ensures shifted { (fs : List Flex) → Lie (bytes (S.memory store.old) area.0) from fs → total weight fs ≡ n
         → Shifted (bytes (S.memory store.old) area.0) (bytes (S.memory store.new) area.0) to fs }
     ensures below { SameIn (bytes (S.memory store.old) area.0) (bytes (S.memory store.new) area.0) C_HEAP_PLACE to }
@@ -228,7 +228,7 @@ pub fn shift<S: Pages>(store: &mut S, area: AreaId, from: usize, to: usize, n: u
 impl Slot {
     /// Where the first flex block stands or would stand: the C heap's end.
     pub(crate) fn flex_place<S: Words>(self, store: &S) -> usize
-        requires { IsSlot (S.memory store.now) self }
+        requires { IsSlotIn (S.memory store.now) self }
         ensures { result ≡ flex_place (slot_in (S.memory store.now) self) }
     {
         C_HEAP_PLACE + rh_heap::end(store, self.span())
@@ -236,7 +236,7 @@ impl Slot {
 
     /// Whether a block stands where a walk has come to, or the blocks end there.
     fn stands<S: Words>(self, store: &S, place: usize) -> bool
-        requires slot { IsSlot (S.memory store.now) self }
+        requires slot { IsSlotIn (S.memory store.now) self }
         requires walked { Walked (slot_in (S.memory store.now) self) place }
         ensures { result ≡ is_block (bytes (S.memory store.now) self.area.0) place }
     {
@@ -251,7 +251,7 @@ impl Slot {
     /// How many bytes the block has that stands where a walk has come to. `None` above the last block.
     #[inline(always)]
     pub(crate) fn size_at<S: Words>(self, store: &S, place: usize) -> Option<usize>
-        requires slot { IsSlot (S.memory store.now) self }
+        requires slot { IsSlotIn (S.memory store.now) self }
         requires walked { Walked (slot_in (S.memory store.now) self) place }
         ensures { MatchOption result (is_block (bytes (S.memory store.now) self.area.0) place ≡ false)
             (λ size. (is_block (bytes (S.memory store.now) self.area.0) place ≡ true)
@@ -265,7 +265,7 @@ impl Slot {
 
     /// Passes the flex blocks from a walk's place on whose headers lie whole in that place's page, all of them.
     fn pass_in_page<S: Paged>(self, store: &S, anchors: &[u8], start: FlexWalk) -> FlexWalk
-        requires slot { IsSlot (S.memory store.now) self }
+        requires slot { IsSlotIn (S.memory store.now) self }
         requires anchors { anchors.now ≡ part (bytes (S.memory store.now) self.area.0) 0 PAGE }
         requires walked { Walked (slot_in (S.memory store.now) self) start.place }
         requires small { start.passed < 2 ^ 32 }
@@ -291,7 +291,7 @@ impl Slot {
     /// Where the block of the highest anchor word ends, or a place to which a walk comes, whichever is higher. A walk
     /// comes there too.
     fn end_of_highest<S: Paged>(self, store: &S, least: usize) -> usize
-        requires slot { IsSlot (S.memory store.now) self }
+        requires slot { IsSlotIn (S.memory store.now) self }
         requires walked { Walked (slot_in (S.memory store.now) self) least }
         ensures walked { Walked (slot_in (S.memory store.now) self) result }
         ensures least { least ≤ result }
@@ -310,7 +310,7 @@ impl Slot {
     /// Where the flex blocks end, from a place to which a walk comes: the number of bytes that the slot takes. Where a
     /// block stands there, the highest one is asked for its end.
     pub(crate) fn top_from<S: Paged>(self, store: &S, from: usize) -> usize
-        requires slot { IsSlot (S.memory store.now) self }
+        requires slot { IsSlotIn (S.memory store.now) self }
         requires walked { Walked (slot_in (S.memory store.now) self) from }
         ensures { result ≡ slot_length (slot_in (S.memory store.now) self) }
     {
@@ -323,7 +323,7 @@ impl Slot {
 
     /// Where the flex blocks end: the number of bytes that the slot takes.
     pub(crate) fn top<S: Paged>(self, store: &S) -> usize
-        requires { IsSlot (S.memory store.now) self }
+        requires { IsSlotIn (S.memory store.now) self }
         ensures { result ≡ slot_length (slot_in (S.memory store.now) self) }
     {
         self.top_from(store, self.flex_place(store))
@@ -331,7 +331,7 @@ impl Slot {
 
     /// Whether the `n` bytes at an address lie whole in one flex block.
     pub(crate) fn in_flex<S: Words>(self, store: &S, address: usize, n: usize) -> bool
-        requires { IsSlot (S.memory store.now) self }
+        requires { IsSlotIn (S.memory store.now) self }
         ensures { result ≡ is_some (flex_around address n (slot_in (S.memory store.now) self)) }
     {
         let mut place = self.flex_place(store);
@@ -347,11 +347,11 @@ impl Slot {
 
     /// The anchor, address and size of the block that stands where a walk has come to.
     fn item_at<S: Words>(self, store: &S, place: usize, size: usize) -> BlockItem
-        requires slot { IsSlot (S.memory store.now) self }
+        requires slot { IsSlotIn (S.memory store.now) self }
         requires walked { Walked (slot_in (S.memory store.now) self) place }
         requires stands { is_block (bytes (S.memory store.now) self.area.0) place ≡ true }
         requires size { size ≡ word (bytes (S.memory store.now) self.area.0) (place + WORD) }
-        ensures { result ≡ item_of (bytes (S.memory store.now) self.area.0) place }
+        ensures { result ≡ row_item (bytes (S.memory store.now) self.area.0) place }
     {
         let anchor = (read(store, self.area, place) - SLOT_START) / WORD;
         let address = SLOT_START + place + FLEX_HEADER;
@@ -364,7 +364,7 @@ impl Slot {
 
     /// How many flex blocks the slot has.
     pub fn count<S: Paged>(self, store: &S) -> usize
-        requires slot { IsSlot (S.memory store.now) self }
+        requires slot { IsSlotIn (S.memory store.now) self }
         ensures { result ≡ length (slot_in (S.memory store.now) self).blocks }
     {
         let anchors = store.rest_of_page(self.area, 0);
@@ -379,7 +379,7 @@ impl Slot {
 
     /// A walk that has passed none of the slot's flex blocks.
     pub fn blocks<S: Words>(self, store: &S) -> FlexWalk
-        requires slot { IsSlot (S.memory store.now) self }
+        requires slot { IsSlotIn (S.memory store.now) self }
         ensures passed { result.passed ≡ 0 }
         ensures walk { WalksIn (slot_in (S.memory store.now) self) result }
     {
@@ -390,7 +390,7 @@ impl Slot {
     /// stays.
     #[inline(always)]
     pub fn next_block<S: Words>(self, store: &S, walk: &mut FlexWalk) -> Option<BlockItem>
-        requires slot { IsSlot (S.memory store.now) self }
+        requires slot { IsSlotIn (S.memory store.now) self }
         requires walk { WalksIn (slot_in (S.memory store.now) self) walk.old }
         ensures block { result ≡ slice_get (block_items (slot_in (S.memory store.now) self)) walk.old.passed }
         ensures walk { WalksIn (slot_in (S.memory store.now) self) walk.new }
@@ -414,7 +414,7 @@ impl Slot {
         start: FlexWalk,
         listed: &mut ArrayVec<BlockItem, ANCHORS>,
     ) -> FlexWalk
-        requires slot { IsSlot (S.memory store.now) self }
+        requires slot { IsSlotIn (S.memory store.now) self }
         requires anchors { anchors.now ≡ part (bytes (S.memory store.now) self.area.0) 0 PAGE }
         requires walk { WalksIn (slot_in (S.memory store.now) self) start }
         requires listed { listed.old.items ≡ take start.passed (block_items (slot_in (S.memory store.now) self)) }
@@ -440,7 +440,7 @@ impl Slot {
     /// Puts all flex blocks from below into a list, in place of what it held: the anchor, address and size in bytes of
     /// each.
     pub fn list<S: Paged>(self, store: &S, items: &mut ArrayVec<BlockItem, ANCHORS>)
-        requires slot { IsSlot (S.memory store.now) self }
+        requires slot { IsSlotIn (S.memory store.now) self }
         ensures { items.new.items ≡ block_items (slot_in (S.memory store.now) self) }
     {
         let anchors = store.rest_of_page(self.area, 0);
@@ -454,7 +454,7 @@ impl Slot {
 
     /// Flex block `i` from below, from 0 on: its anchor, address and size in bytes.
     pub fn block<S: Words>(self, store: &S, i: usize) -> Option<BlockItem>
-        requires slot { IsSlot (S.memory store.now) self }
+        requires slot { IsSlotIn (S.memory store.now) self }
         ensures { result ≡ slice_get (block_items (slot_in (S.memory store.now) self)) i }
     {
         let mut walk = self.blocks(store);

@@ -4,7 +4,7 @@ ghost use Rattle.rh_defs.specs.Memory.{Memory, IsOpen, OnlyArea, closed, open_be
 ghost use Rattle.rh_defs.specs.Chain.{outcome_of};
 ghost use Rattle.rh_defs.specs.Slot.{new_slot, slot_begin, slot_set_budge, holds};
 ghost use Rattle.rh_defs.specs.declared.sizes.TheConstants.{MAX_AREAS};
-ghost use Rattle.rh_slot.specs.Area.{IsSlot, SpellsIn, slot_in};
+ghost use Rattle.rh_slot.specs.Area.{IsSlotIn, SpellsSlotIn, slot_in};
 
 use rh_defs::Refusal;
 use rh_defs::sizes::{C_HEAP_PLACE, C_HEAP_START, PAGE};
@@ -24,8 +24,8 @@ impl Slot {
         requires { open_below (S.memory store.old).area MAX_AREAS < MAX_AREAS }
         ensures answer { outcome_of result ≡ outcome_of (slot_begin (S.memory store.old).free) }
         ensures slot { IfOk result (λ slot. slot_in (S.memory store.new) slot ≡ new_slot) }
-        ensures spells { IfOk result (λ slot. SpellsIn (S.memory store.new) slot new_slot) }
-        ensures still { IfOk result (IsSlot (S.memory store.new)) }
+        ensures spells { IfOk result (λ slot. SpellsSlotIn (S.memory store.new) slot new_slot) }
+        ensures still { IfOk result (IsSlotIn (S.memory store.new)) }
         ensures budge { IfOk result (λ slot. slot.budge ≡ true) }
         ensures closed { IfOk result (λ slot. IsNone ((S.memory store.old).area slot.area.0)) }
         ensures number { IfOk result (λ slot. slot.area.0 < MAX_AREAS) }
@@ -55,7 +55,7 @@ impl Slot {
     pub fn set_budge(&mut self, on: bool) -> bool
         ensures slot { self.new ≡ record { area = self.old.area; budge = on } }
         ensures answer { result ≡ self.old.budge }
-        ensures still { (m : Memory) → IsSlot m self.old → IsSlot m self.new }
+        ensures still { (m : Memory) → IsSlotIn m self.old → IsSlotIn m self.new }
         ensures spelled { (m : Memory) → (slot_in m self.new, result) ≡ slot_set_budge on (slot_in m self.old) }
     {
         let was = self.budge;
@@ -66,7 +66,7 @@ impl Slot {
     /// Whether the `n` bytes at an address lie whole in one block of the C heap or in one flex block. Any address and
     /// any `n` may be asked for.
     pub fn inside<S: Words>(self, store: &S, address: usize, n: usize) -> bool
-        requires slot { IsSlot (S.memory store.now) self }
+        requires slot { IsSlotIn (S.memory store.now) self }
         ensures { result ≡ holds address n (slot_in (S.memory store.now) self) }
     {
         if self.in_flex(store, address, n) {

@@ -9,7 +9,7 @@ use Rattle.std.specs.Vec.{with_items}
 use Rattle.std.proofs.Math.Path.{fun_ext}
 use Rattle.std.proofs.lemmas.Bool.Decides.{nat_tests}
 use Rattle.rh_store.specs.declared.area.Area.{Area}
-use Rattle.rh_store.specs.Areas.{shown, contents, room_at, memory_in, IsTidy, HasRoom, IsStore, ChangedAt}
+use Rattle.rh_store.specs.Areas.{shown, contents, room_at, memory_in, IsTidyArea, HasRoomFor, IsStore, ChangedAt}
 use Rattle.rh_defs.specs.declared.sizes.TheConstants.{PAGE}
 use Rattle.rh_defs.specs.Memory.{Memory, area_set, bytes, with_bytes, opened, closed, grown, shrunk, fresh}
 use Rattle.rh_defs.proofs.MemoryLaws.{pages_below-set}
@@ -61,13 +61,14 @@ open_read list i a o e =
 
 -- an area replaced by one that shows o
 replaced : (list : List Area) (i : ℕ) (a b : Area) (o : Option (List ℕ)) → i < length list → a ≡ get_or list i a → shown b ≡ o
-    → (length (unwrap_or o []) % PAGE ≡ 0 → IsTidy b) → vec_capacity a.bytes ≤ vec_capacity b.bytes → ChangedAt list (set list i b) i o
+    → (length (unwrap_or o []) % PAGE ≡ 0 → IsTidyArea b) → vec_capacity a.bytes ≤ vec_capacity b.bytes → ChangedAt list (set list i b) i o
 replaced list i a b o h e s t c = record {
   len = length-set list i b;
   contents_are = contents-set list i b h ∙ ap (area_set (contents list) i) s;
   tidy = λ whole all. let one = t whole in grind (arith, elements);
-  reserved = λ pages all. let was : HasRoom pages a =
-      subst (HasRoom pages) (sym e) (all i a h) in let one : HasRoom pages b = record { room = let r = was.room in omega arith } in grind (arith, elements);
+  reserved = λ pages all. let was : HasRoomFor pages a =
+      subst (HasRoomFor pages) (sym e) (all i a h) in let one : HasRoomFor pages b = record { room = let r = was.room in omega arith } in grind
+      (arith, elements);
 }
 
 -- an open area gets other bytes
@@ -85,12 +86,13 @@ hidden list i a b o e off eb c = replaced list i a b None (open_index list i o) 
     (λ whole. record { whole = ap (λ (l : List ℕ). length l % PAGE) eb; empty = λ f. eb }) (omega arith)
 
 -- a closed area is opened
-pub revealed : (list : List Area) (i : ℕ) (a b : Area) → i < length list → IsNone (contents list i) → All IsTidy list → a ≡ get_or list i a → b.opened ≡ true
+pub revealed : (list : List Area) (i : ℕ) (a b : Area) → i < length list → IsNone (contents list i) → All IsTidyArea list → a ≡ get_or list i a → b.opened
+    ≡ true
     → b.bytes.items ≡ a.bytes.items → vec_capacity b.bytes ≡ vec_capacity a.bytes → ChangedAt list (set list i b) i (Some [])
 revealed list i a b h n all e on eb c =
     let is : contents list i ≡ shown a = contents-get list i a h ∙ ap shown (sym e) in
     let off : a.opened ≡ false = if_hidden a.opened a.bytes.items (subst (λ (x : Option (List ℕ)). IsNone x) is n) in
-    let tidy : IsTidy a = subst IsTidy (sym e) (all i a h) in
+    let tidy : IsTidyArea a = subst IsTidyArea (sym e) (all i a h) in
     let none : b.bytes.items ≡ [] = eb ∙ tidy.empty off in
     replaced list i a b (Some []) h e (shown_items b on ∙ ap (λ (l : List ℕ). Some l) none)
     (λ whole. record { whole = ap (λ (l : List ℕ). length l % PAGE) none; empty = λ f. none }) (omega arith)
@@ -171,7 +173,7 @@ room_at-get [] i d h = absurd (omega arith)
 room_at-get (x ∷ list) zero d h = refl
 room_at-get (x ∷ list) (suc i) d h = room_at-get list i d (omega arith)
 
-pub room_at-all : (pages : ℕ) (list : List Area) (i : ℕ) → All (HasRoom pages) list → i < length list → PAGE * pages ≤ room_at list i
+pub room_at-all : (pages : ℕ) (list : List Area) (i : ℕ) → All (HasRoomFor pages) list → i < length list → PAGE * pages ≤ room_at list i
 unfolding room_at
 room_at-all pages [] i all h = absurd (omega arith)
 room_at-all pages (x ∷ list) i all h = let r = (all i x h).room in let e = room_at-get (x ∷ list) i x h in omega arith
@@ -238,10 +240,10 @@ contents-push [] a closed off (suc k) = refl
 contents-push (x ∷ list) a closed off zero = closed 0
 contents-push (x ∷ list) a closed off (suc k) = contents-push list a (λ j. closed (suc j)) off k
 
-pub tidy-push : (list : List Area) (a : Area) → All IsTidy list → IsTidy a → All IsTidy (list ++ a ∷ [])
+pub tidy-push : (list : List Area) (a : Area) → All IsTidyArea list → IsTidyArea a → All IsTidyArea (list ++ a ∷ [])
 tidy-push list a all one = grind (arith, common_steps)
 
-pub reserved-push : (pages : ℕ) (list : List Area) (a : Area) → All (HasRoom pages) list → HasRoom pages a → All (HasRoom pages) (list ++ a ∷ [])
+pub reserved-push : (pages : ℕ) (list : List Area) (a : Area) → All (HasRoomFor pages) list → HasRoomFor pages a → All (HasRoomFor pages) (list ++ a ∷ [])
 reserved-push pages list a all one = grind (arith, common_steps)
 
 pub contents-nil : (list : List Area) → list ≡ [] → (k : ℕ) → contents list k ≡ None

@@ -3,7 +3,7 @@ pub use Rattle.std.proofs.Common.{List, ap, arith, drop, false, length, length-a
 pub use Rattle.std.proofs.Common.{◌/◌, ◌<◌, ◌∙◌, ◌∷◌, ◌≡◌, ◌≤◌}
 pub use Rattle.std.specs.Prelude.{All, IsNone, IsSome, None, Option, Some, unwrap_or, vec_capacity}
 pub use Rattle.rh_defs.proofs.BytesLaws.{length-part, length-put}
-pub use Rattle.rh_defs.specs.Bytes.{part, put}
+pub use Rattle.rh_defs.specs.Bytes.{part, with_part}
 unfoldable pub use Rattle.rh_defs.specs.Memory.{bytes}
 pub use Rattle.rh_defs.specs.declared.sizes.TheConstants.{MAX_AREAS, PAGE}
 pub use Rattle.rh_store.specs.Areas.{ChangedAt}

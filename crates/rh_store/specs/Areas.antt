@@ -15,8 +15,8 @@ contents (a ∷ list) zero = shown a
 contents (a ∷ list) (suc k) = contents list k
 
 -- the bytes of the area of a number, none where it is closed
-abbrev pub bytes_at : List Area → ℕ → List ℕ
-bytes_at list i = unwrap_or (contents list i) []
+abbrev pub area_bytes_at : List Area → ℕ → List ℕ
+area_bytes_at list i = unwrap_or (contents list i) []
 
 -- the memory that these areas make up
 abbrev pub memory_in : List Area → ℕ → ℕ → Memory
@@ -29,24 +29,24 @@ room_at (a ∷ list) zero = vec_capacity a.bytes
 room_at (a ∷ list) (suc k) = room_at list k
 
 -- an area is whole pages, and none where it is closed
-pub record IsTidy (a : Area) : Type 0 where
+pub record IsTidyArea (a : Area) : Type 0 where
   pub whole : length a.bytes.items % PAGE ≡ 0
   pub empty : a.opened ≡ false → a.bytes.items ≡ []
 
 -- an area's vector has room for this many pages
-pub record HasRoom (pages : ℕ) (a : Area) : Type 0 where
+pub record HasRoomFor (pages : ℕ) (a : Area) : Type 0 where
   pub room : PAGE * pages ≤ vec_capacity a.bytes
 
 -- a table of so many areas, each of whole pages and with room for all pages, and the ledger holds
 pub record IsStore (list : List Area) (free pages limit : ℕ) : Type 0 where
   pub table : length list ≡ limit
-  pub tidy : All IsTidy list
-  pub reserved : All (HasRoom pages) list
+  pub tidy : All IsTidyArea list
+  pub reserved : All (HasRoomFor pages) list
   pub ledger : Ledger (memory_in list free pages) limit
 
 -- the area of a number has come to contain this, and the others stay
 pub record ChangedAt (list new : List Area) (i : ℕ) (o : Option (List ℕ)) : Type 0 where
   pub len : length new ≡ length list
   pub contents_are : contents new ≡ area_set (contents list) i o
-  pub tidy : length (unwrap_or o []) % PAGE ≡ 0 → All IsTidy list → All IsTidy new
-  pub reserved : (pages : ℕ) → All (HasRoom pages) list → All (HasRoom pages) new
+  pub tidy : length (unwrap_or o []) % PAGE ≡ 0 → All IsTidyArea list → All IsTidyArea new
+  pub reserved : (pages : ℕ) → All (HasRoomFor pages) list → All (HasRoomFor pages) new

@@ -4,7 +4,7 @@ use Rattle.std.proofs.Common.{inl, inr, ap, arith}
 use Rattle.std.proofs.lemmas.Bool.{cases_lt}
 use Rattle.rh_store.specs.declared.area.Area.{Area}
 use Rattle.rh_defs.specs.declared.sizes.TheConstants.{MAX_PAGES, PAGE}
-use Rattle.rh_store.specs.Areas.{contents, memory_in, IsTidy, IsStore}
+use Rattle.rh_store.specs.Areas.{contents, memory_in, IsTidyArea, IsStore}
 use Rattle.rh_defs.specs.Memory.{IsOpen, bytes}
 use Rattle.rh_defs.proofs.MemoryLaws.{pages_below-one}
 use Rattle.rh_store.specs.Limits.{area_limit, pool_limit}
@@ -27,7 +27,7 @@ whole_shown : (b : Bool) (y : List ℕ) → length y % PAGE ≡ 0 → length (un
 whole_shown true y h = h
 whole_shown false y h = refl
 
-pub whole_contents : (list : List Area) (i : ℕ) → All IsTidy list → length (unwrap_or (contents list i) []) % PAGE ≡ 0
+pub whole_contents : (list : List Area) (i : ℕ) → All IsTidyArea list → length (unwrap_or (contents list i) []) % PAGE ≡ 0
 unfolding contents
 whole_contents [] i all = refl
 whole_contents (x ∷ list) zero all = whole_shown x.opened x.bytes.items (all 0 x (omega arith)).whole

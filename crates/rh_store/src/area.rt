@@ -1,7 +1,7 @@
 //! The areas of a plain store, and the edits of one of them.
 ghost use Rattle.std.specs.Prelude.{ℕ, ◌+◌, ◌-◌, ◌≤◌, ◌<◌, ◌≢◌, ◌++◌, [], All, take, replicate, length, vec_len, IfSome, IsSome, IsNone, unwrap_or};
-ghost use Rattle.rh_store.specs.Areas.{IsTidy, ChangedAt, bytes_at, contents, room_at};
-ghost use Rattle.rh_defs.specs.Bytes.{put, put_word, part};
+ghost use Rattle.rh_store.specs.Areas.{IsTidyArea, ChangedAt, area_bytes_at, contents, room_at};
+ghost use Rattle.rh_defs.specs.Bytes.{with_part, put_word, part};
 
 use crate::bytes::{copy_over, put_in, put_word_in, slide_in, zero_in};
 
@@ -29,7 +29,7 @@ pub fn first_closed(areas: &[Area]) -> Option<usize>
 pub fn open_at(areas: &mut Vec<Area>, i: usize)
     requires inside { i < vec_len areas.old }
     requires closed { IsNone (contents areas.old.items i) }
-    requires tidy { All IsTidy areas.old.items }
+    requires tidy { All IsTidyArea areas.old.items }
     ensures { ChangedAt areas.old.items areas.new.items i (Some []) }
 {
     let area = &mut areas[i];
@@ -50,9 +50,9 @@ pub fn close_at(areas: &mut Vec<Area>, i: usize)
 pub fn lengthen_at(areas: &mut Vec<Area>, i: usize, n: usize)
     requires opened { IsSome (contents areas.old.items i) }
     requires room { n ≤ room_at areas.old.items i }
-    requires more { length (bytes_at areas.old.items i) ≤ n }
+    requires more { length (area_bytes_at areas.old.items i) ≤ n }
     ensures { ChangedAt areas.old.items areas.new.items i
-        (Some (bytes_at areas.old.items i ++ replicate (n - length (bytes_at areas.old.items i)) 0)) }
+        (Some (area_bytes_at areas.old.items i ++ replicate (n - length (area_bytes_at areas.old.items i)) 0)) }
 {
     let area = &mut areas[i];
     area.bytes.resize(n, 0).unwrap();
@@ -62,7 +62,7 @@ pub fn lengthen_at(areas: &mut Vec<Area>, i: usize, n: usize)
 pub fn shorten_at(areas: &mut Vec<Area>, i: usize, n: usize)
     requires { IsSome (contents areas.old.items i) }
     ensures { ChangedAt areas.old.items areas.new.items i
-        (Some (take n (bytes_at areas.old.items i))) }
+        (Some (take n (area_bytes_at areas.old.items i))) }
 {
     let area = &mut areas[i];
     area.bytes.truncate(n);
@@ -71,9 +71,9 @@ pub fn shorten_at(areas: &mut Vec<Area>, i: usize, n: usize)
 /// Writes a word in an area.
 pub fn set_word_at(areas: &mut Vec<Area>, i: usize, at: usize, w: u32)
     requires opened { IsSome (contents areas.old.items i) }
-    requires within { at + 4 ≤ length (bytes_at areas.old.items i) }
+    requires within { at + 4 ≤ length (area_bytes_at areas.old.items i) }
     ensures { ChangedAt areas.old.items areas.new.items i
-        (Some (put_word (bytes_at areas.old.items i) at w)) }
+        (Some (put_word (area_bytes_at areas.old.items i) at w)) }
 {
     let area = &mut areas[i];
     put_word_in(&mut area.bytes, at, w);
@@ -82,9 +82,9 @@ pub fn set_word_at(areas: &mut Vec<Area>, i: usize, at: usize, w: u32)
 /// Writes bytes in an area.
 pub fn put_at(areas: &mut Vec<Area>, i: usize, at: usize, from: &[u8])
     requires opened { IsSome (contents areas.old.items i) }
-    requires within { at + length from.now ≤ length (bytes_at areas.old.items i) }
+    requires within { at + length from.now ≤ length (area_bytes_at areas.old.items i) }
     ensures { ChangedAt areas.old.items areas.new.items i
-        (Some (put (bytes_at areas.old.items i) at from.now)) }
+        (Some (with_part (area_bytes_at areas.old.items i) at from.now)) }
 {
     let area = &mut areas[i];
     put_in(&mut area.bytes, at, from);
@@ -93,9 +93,9 @@ pub fn put_at(areas: &mut Vec<Area>, i: usize, at: usize, from: &[u8])
 /// Writes n zeros in an area.
 pub fn zero_at(areas: &mut Vec<Area>, i: usize, at: usize, n: usize)
     requires opened { IsSome (contents areas.old.items i) }
-    requires within { at + n ≤ length (bytes_at areas.old.items i) }
+    requires within { at + n ≤ length (area_bytes_at areas.old.items i) }
     ensures { ChangedAt areas.old.items areas.new.items i
-        (Some (put (bytes_at areas.old.items i) at (replicate n 0))) }
+        (Some (with_part (area_bytes_at areas.old.items i) at (replicate n 0))) }
 {
     let area = &mut areas[i];
     zero_in(&mut area.bytes, at, n);
@@ -104,10 +104,10 @@ pub fn zero_at(areas: &mut Vec<Area>, i: usize, at: usize, n: usize)
 /// Moves n bytes within an area.
 pub fn slide_at(areas: &mut Vec<Area>, i: usize, from: usize, to: usize, n: usize)
     requires opened { IsSome (contents areas.old.items i) }
-    requires source { from + n ≤ length (bytes_at areas.old.items i) }
-    requires target { to + n ≤ length (bytes_at areas.old.items i) }
+    requires source { from + n ≤ length (area_bytes_at areas.old.items i) }
+    requires target { to + n ≤ length (area_bytes_at areas.old.items i) }
     ensures { ChangedAt areas.old.items areas.new.items i
-        (Some (put (bytes_at areas.old.items i) to (part (bytes_at areas.old.items i) from n))) }
+        (Some (with_part (area_bytes_at areas.old.items i) to (part (area_bytes_at areas.old.items i) from n))) }
 {
     let area = &mut areas[i];
     slide_in(&mut area.bytes, from, to, n);
@@ -117,11 +117,11 @@ pub fn slide_at(areas: &mut Vec<Area>, i: usize, from: usize, to: usize, n: usiz
 pub fn copy_at(areas: &mut Vec<Area>, i: usize, at: usize, j: usize, at2: usize, n: usize)
     requires opened { IsSome (contents areas.old.items i) }
     requires opened2 { IsSome (contents areas.old.items j) }
-    requires source { at + n ≤ length (bytes_at areas.old.items i) }
-    requires target { at2 + n ≤ length (bytes_at areas.old.items j) }
+    requires source { at + n ≤ length (area_bytes_at areas.old.items i) }
+    requires target { at2 + n ≤ length (area_bytes_at areas.old.items j) }
     requires apart { i ≢ j }
     ensures { ChangedAt areas.old.items areas.new.items j
-        (Some (put (bytes_at areas.old.items j) at2 (part (bytes_at areas.old.items i) at n))) }
+        (Some (with_part (area_bytes_at areas.old.items j) at2 (part (area_bytes_at areas.old.items i) at n))) }
 {
     if i < j {
         let (front, back) = areas.split_at_mut(j);

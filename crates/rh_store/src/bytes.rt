@@ -1,6 +1,6 @@
 //! Words, writes and moves in slices of bytes, by whole runs.
 ghost use Rattle.std.specs.Prelude.{◌≡◌, ◌+◌, ◌<◌, ◌≤◌, length, replicate};
-ghost use Rattle.rh_defs.specs.Bytes.{word, put, put_word, part};
+ghost use Rattle.rh_defs.specs.Bytes.{word, with_part, put_word, part};
 
 /// From this distance on bytes move in pieces, each by one copy.
 const FAR: usize = 512;
@@ -17,7 +17,7 @@ pub fn word_in(b: &[u8], at: usize) -> u32
 /// Writes bytes from an offset on.
 pub fn put_in(b: &mut [u8], at: usize, from: &[u8])
     requires { at + length from.now ≤ length b.old }
-    ensures { b.new ≡ put b.old at from.now }
+    ensures { b.new ≡ with_part b.old at from.now }
 {
     b[at..at + from.len()].copy_from_slice(from);
 }
@@ -34,7 +34,7 @@ pub fn put_word_in(b: &mut [u8], at: usize, w: u32)
 /// Writes n zeros from an offset on.
 pub fn zero_in(b: &mut [u8], at: usize, n: usize)
     requires { at + n ≤ length b.old }
-    ensures { b.new ≡ put b.old at (replicate n 0) }
+    ensures { b.new ≡ with_part b.old at (replicate n 0) }
 {
     b[at..at + n].fill(0);
 }
@@ -43,7 +43,7 @@ pub fn zero_in(b: &mut [u8], at: usize, n: usize)
 fn copy_down(b: &mut [u8], from: usize, to: usize, n: usize)
     requires source { from + n ≤ length b.old }
     requires apart { to + n ≤ from }
-    ensures { b.new ≡ put b.old to (part b.old from n) }
+    ensures { b.new ≡ with_part b.old to (part b.old from n) }
 {
     let (low, high) = b.split_at_mut(from);
     put_in(low, to, part_of(high, 0, n));
@@ -53,7 +53,7 @@ fn copy_down(b: &mut [u8], from: usize, to: usize, n: usize)
 fn copy_up(b: &mut [u8], from: usize, to: usize, n: usize)
     requires target { to + n ≤ length b.old }
     requires apart { from + n ≤ to }
-    ensures { b.new ≡ put b.old to (part b.old from n) }
+    ensures { b.new ≡ with_part b.old to (part b.old from n) }
 {
     let (low, high) = b.split_at_mut(to);
     put_in(high, 0, part_of(low, from, n));
@@ -63,7 +63,7 @@ fn copy_up(b: &mut [u8], from: usize, to: usize, n: usize)
 fn slide_down(b: &mut [u8], from: usize, to: usize, n: usize)
     requires source { from + n ≤ length b.old }
     requires down { to < from }
-    ensures { b.new ≡ put b.old to (part b.old from n) }
+    ensures { b.new ≡ with_part b.old to (part b.old from n) }
 {
     let mut moved = 0;
     'walk: while moved < n {
@@ -77,7 +77,7 @@ fn slide_down(b: &mut [u8], from: usize, to: usize, n: usize)
 fn slide_up(b: &mut [u8], from: usize, to: usize, n: usize)
     requires target { to + n ≤ length b.old }
     requires up { from < to }
-    ensures { b.new ≡ put b.old to (part b.old from n) }
+    ensures { b.new ≡ with_part b.old to (part b.old from n) }
 {
     let mut left = n;
     'walk: while 0 < left {
@@ -93,7 +93,7 @@ fn slide_up(b: &mut [u8], from: usize, to: usize, n: usize)
 pub fn slide_in(b: &mut [u8], from: usize, to: usize, n: usize)
     requires source { from + n ≤ length b.old }
     requires target { to + n ≤ length b.old }
-    ensures { b.new ≡ put b.old to (part b.old from n) }
+    ensures { b.new ≡ with_part b.old to (part b.old from n) }
 {
     if from.abs_diff(to) < FAR {
         b.copy_within(from..from + n, to);
@@ -124,7 +124,7 @@ pub fn part_of(b: &[u8], at: usize, n: usize) -> &[u8]
 pub fn copy_over(from: &[u8], at: usize, to: &mut [u8], at2: usize, n: usize)
     requires source { at + n ≤ length from.now }
     requires target { at2 + n ≤ length to.old }
-    ensures { to.new ≡ put to.old at2 (part from.now at n) }
+    ensures { to.new ≡ with_part to.old at2 (part from.now at n) }
 {
     to[at2..at2 + n].copy_from_slice(&from[at..at + n]);
 }

@@ -1,6 +1,6 @@
 //! Areas of bytes that are made of pages.
 ghost use Rattle.std.specs.Prelude.{◌≡◌, ℕ, ◌+◌, ◌-◌, ◌*◌, ◌/◌, ◌%◌, ◌<◌, ◌≤◌, ◌↔◌, ◌⊎◌, true, length, replicate, IsTrue, IsNone, IfOk, IfSome, OnErr, OnOk, IsErr, IsErrOf};
-ghost use Rattle.rh_defs.specs.Bytes.{word, put, put_word, part};
+ghost use Rattle.rh_defs.specs.Bytes.{word, with_part, put_word, part};
 ghost use Rattle.rh_defs.specs.Memory.{Memory, IsOpen, Ledger, bytes, with_bytes, opened, closed, grown, shrunk, open_below};
 ghost use Rattle.rh_defs.specs.HeapImage.{heap_of};
 ghost use Rattle.rh_store.specs.Limits.{area_limit, pool_limit};
@@ -90,21 +90,21 @@ pub trait WordsMut: Words {
         requires source { from + n ≤ length (bytes (Self.memory self.old) id.0) }
         requires target { to + n ≤ length (bytes (Self.memory self.old) id.0) }
         ensures { Self.memory self.new ≡ with_bytes (Self.memory self.old) id.0
-            (put (bytes (Self.memory self.old) id.0) to (part (bytes (Self.memory self.old) id.0) from n)) };
+            (with_part (bytes (Self.memory self.old) id.0) to (part (bytes (Self.memory self.old) id.0) from n)) };
 
     /// Writes n zeros from an offset on.
     fn zero(&mut self, id: AreaId, at: usize, n: usize)
         requires opened { IsOpen (Self.memory self.old) id.0 }
         requires within { at + n ≤ length (bytes (Self.memory self.old) id.0) }
         ensures { Self.memory self.new ≡ with_bytes (Self.memory self.old) id.0
-            (put (bytes (Self.memory self.old) id.0) at (replicate n 0)) };
+            (with_part (bytes (Self.memory self.old) id.0) at (replicate n 0)) };
 
     /// Writes bytes that were lent, from an offset on.
     fn copy_in(&mut self, id: AreaId, at: usize, from: &[u8])
         requires opened { IsOpen (Self.memory self.old) id.0 }
         requires within { at + length from.now ≤ length (bytes (Self.memory self.old) id.0) }
         ensures { Self.memory self.new ≡ with_bytes (Self.memory self.old) id.0
-            (put (bytes (Self.memory self.old) id.0) at from.now) };
+            (with_part (bytes (Self.memory self.old) id.0) at from.now) };
 
     /// Takes the map that the store keeps of an area, if it keeps one. It has lines for all of the area.
     fn take_starts(&mut self, _id: AreaId) -> Option<Starts<Self::Lines>>
@@ -213,7 +213,7 @@ pub trait Store: Pages {
         requires target { at2 + n ≤ length (bytes (Self.memory self.old) id2.0) }
         requires disjoint { id.0 ≡ id2.0 → (at + n ≤ at2) ⊎ (at2 + n ≤ at) }
         ensures { Self.memory self.new ≡ with_bytes (Self.memory self.old) id2.0
-            (put (bytes (Self.memory self.old) id2.0) at2 (part (bytes (Self.memory self.old) id.0) at n)) };
+            (with_part (bytes (Self.memory self.old) id2.0) at2 (part (bytes (Self.memory self.old) id.0) at n)) };
 
     /// Open areas have numbers below `MAX_AREAS`.
     ghost numbered: { (s : Self) (id : ℕ) → IsOpen (Self.memory s) id → id < MAX_AREAS };

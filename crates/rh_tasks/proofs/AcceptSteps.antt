@@ -248,12 +248,13 @@ module _ {v : Shown} {i : ℕ} {t : Task} {m : Parcel} {message : Message} {k h 
         next-same = three.ref_is ∙ ap next_ref two.desk
 
         pub accept-done : (v4 : Shown)
-            → ((x : Task) → IsAt i x v3.desk → v4.desk ≡ with_taking x.handle (receiver.fetching (receiver.begun message.my_ref message.from k a ref)) v3.desk)
+            → ((x : Task) → IsAt i x v3.desk → v4.desk ≡ with_taking x.handle
+            (receiver.fetching (receiver.new_taking message.my_ref message.from k a ref)) v3.desk)
             → (x : Desk) × ((accept v.desk t m ≡ Ok (x, outcome.Fetch ref)) × IsReordered x v4.desk)
         accept-done v4 recorded =
-            let begun : (x : Message) (r : ℕ) → Desk → Desk = λ x r. with_taking t.handle (receiver.fetching (receiver.begun x.my_ref x.from k a r)) in
+            let begun : (x : Message) (r : ℕ) → Desk → Desk = λ x r. with_taking t.handle (receiver.fetching (receiver.new_taking x.my_ref x.from k a r)) in
             let desk : v4.desk ≡ begun message ref v3.desk = recorded sent-task.task sent-task.at
-            ∙ ap (λ h. with_taking h (receiver.fetching (receiver.begun message.my_ref message.from k a ref)) v3.desk) sent-task.handle in
+            ∙ ap (λ h. with_taking h (receiver.fetching (receiver.new_taking message.my_ref message.from k a ref)) v3.desk) sent-task.handle in
             let granted : accept v.desk t m ≡ Ok (begun m.message (next_ref v.desk) three.sent, outcome.Fetch (next_ref v.desk)) =
             accept-is v.desk t m k can.free
             ∙ begins (after_buffer v.desk t m k) one.granted (begins (after_document v.desk t m k (one.slot, a)) two.granted

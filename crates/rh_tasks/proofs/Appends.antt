@@ -2,7 +2,7 @@
 use Rattle.rh_tasks.proofs.Common.{◌≡◌, ℕ, ◌-◌, ◌<◌, ◌≤◌, refl, ap, sym, ◌∙◌, arith, inl, inr, List, [], ◌∷◌, length, take, ◌⊎◌, Option, Some, None, Ok, Err}
 use Rattle.rh_tasks.proofs.Common.{min, option_map, cases_lt, length-take, take_all, part, Memory, bytes, Refusal, NoBlock, NotABlock, Granted, Split}
 use Rattle.rh_tasks.proofs.Common.{Segment, bytes_of, block_size, Slot, Flex, HaveAnchors, slot_start, heap_start, heap_block_at, slot_size, anchor_count}
-use Rattle.rh_tasks.proofs.Common.{first_bytes, IsSlot, slot_in, slot_append}
+use Rattle.rh_tasks.proofs.Common.{first_bytes, IsSlotIn, slot_in, slot_append}
 use Rattle.std.specs.Option.{ok_or}
 use Rattle.rh_defs.specs.SlotImage.{heap_place}
 use Rattle.rh_defs.specs.Slot.{IsFree}
@@ -42,7 +42,7 @@ first-take n most xs e = elim (cases_lt most (length xs)) [
   | inr l ↦ (omega (arith, l, e, length-take most xs), take_all n xs (omega (arith, l, e, length-take most xs)) ∙ sym (take_all most xs l))
 ]
 
-module _ {m : Memory} {slot : code.Slot} (is : IsSlot m slot) (place n : ℕ) where
+module _ {m : Memory} {slot : code.Slot} (is : IsSlotIn m slot) (place n : ℕ) where
   abbrev s : Slot
   s = slot_in m slot
 
@@ -98,7 +98,7 @@ module _ (buffer : ℕ) (s : Slot) where
   block-held : (size : ℕ) → Ok size ≡ told → (b : Split Segment) × ((heap_block_at buffer s ≡ Some b) × (size ≡ length (bytes_of b.here)))
   block-held size e = block-told size (heap_block_at buffer s) e
 
-module _ {m : Memory} {slot : code.Slot} (is : IsSlot m slot) (buffer place held size count : ℕ) (p : place ≡ buffer - slot_start) (q : held ≡ min size count)
+module _ {m : Memory} {slot : code.Slot} (is : IsSlotIn m slot) (buffer place held size count : ℕ) (p : place ≡ buffer - slot_start) (q : held ≡ min size count)
     (e : Ok size ≡ told buffer (slot_in m slot)) where
   pub held-first : AreFirst place held (slot_in m slot)
   held-first =

@@ -1,7 +1,7 @@
 -- Areas that get longer or shorter by whole pages.
 use Rattle.rh_tasks.proofs.Common.{◌≡◌, ◌≢◌, ℕ, ◌+◌, ◌-◌, ◌*◌, ◌/◌, ◌%◌, ◌<◌, ◌≤◌, Bool, true, false, inl, inr, refl, ap, subst, sym, ◌∙◌, arith, List}
 use Rattle.rh_tasks.proofs.Common.{length, ℤ, pos, negsuc, map, Ok, Err, Option, Some, None, nat_lt, ◌==◌, slice_set, slice_index, cases_eq, length-take}
-use Rattle.rh_tasks.proofs.Common.{nat_tests, ints, position, PAGE, Memory, OnlyArea, bytes, FileList, Refusal, NoRoom, ◌>>=◌, ◌>>◌, refuse_if, page}
+use Rattle.rh_tasks.proofs.Common.{nat_tests, ints, position, PAGE, Memory, OnlyArea, bytes, FileList, Refusal, NoRoom, ◌>>=◌, ◌>>◌, refuse_if, page_size}
 use Rattle.rh_tasks.proofs.Common.{pages_for, in_range, Desk, free_pages, Seat, MadeArea, ScrapFile, Kept, pages_at, made_of, fixed_pages, scrap_size}
 use Rattle.rh_tasks.proofs.Common.{scrap_of, desk_of, IsWorld, begins, ends, past, stops, granted-same, lt-true, lt-false, free-is, granted-keeps, if_apart}
 use Rattle.rh_tasks.proofs.Common.{if_same, scrap-fits}
@@ -26,8 +26,8 @@ pub after-more : (free least pages more : ℕ) (delta : ℤ) → lt_z delta (pos
     → pages_after free least pages delta ≡ Ok (pages + more)
 unfolding pages_after ◌>>=◌ ◌>>◌ refuse_if
 after-more free least pages more (pos n) up is room =
-    let enough : lacks_pages free (changed_length (page * pages) (pos n) - page * pages) ≡ false = lt-false free _ (omega (arith, is, room)) in
-    let long : changed_length (page * pages) (pos n) / page ≡ pages + more = omega (arith, is) in
+    let enough : lacks_pages free (changed_length (page_size * pages) (pos n) - page_size * pages) ≡ false = lt-false free _ (omega (arith, is, room)) in
+    let long : changed_length (page_size * pages) (pos n) / page_size ≡ pages + more = omega (arith, is) in
     rw (enough, long) refl
 after-more free least pages more (negsuc n) up is room = absurd (cc)
 
@@ -35,7 +35,7 @@ pub after-full : (free least pages more : ℕ) (delta : ℤ) → lt_z delta (pos
     → pages_after free least pages delta ≡ Err NoRoom
 unfolding pages_after ◌>>=◌ ◌>>◌ refuse_if
 after-full free least pages more (pos n) up is full =
-    let lacks : lacks_pages free (changed_length (page * pages) (pos n) - page * pages) ≡ true = lt-true free _ (omega (arith, is, full)) in
+    let lacks : lacks_pages free (changed_length (page_size * pages) (pos n) - page_size * pages) ≡ true = lt-true free _ (omega (arith, is, full)) in
     rw lacks refl
 after-full free least pages more (negsuc n) up is full = absurd (cc)
 
@@ -44,9 +44,9 @@ pub after-less : (free least pages more : ℕ) (delta : ℤ) → lt_z delta (pos
 unfolding pages_after ◌>>=◌ ◌>>◌ refuse_if
 after-less free least pages more (pos n) down is room = absurd (omega (arith, ints))
 after-less free least pages more (negsuc n) down is room =
-    let fits : shrinks_below least (page * pages) (negsuc n) ≡ false = lt-false (page * pages) _ (omega (arith, is, room)) in
-    let enough : lacks_pages free (changed_length (page * pages) (negsuc n) - page * pages) ≡ false = lt-false free _ (omega (arith, is)) in
-    let long : changed_length (page * pages) (negsuc n) / page ≡ pages - more = omega (arith, is, room) in
+    let fits : shrinks_below least (page_size * pages) (negsuc n) ≡ false = lt-false (page_size * pages) _ (omega (arith, is, room)) in
+    let enough : lacks_pages free (changed_length (page_size * pages) (negsuc n) - page_size * pages) ≡ false = lt-false free _ (omega (arith, is)) in
+    let long : changed_length (page_size * pages) (negsuc n) / page_size ≡ pages - more = omega (arith, is, room) in
     rw (fits, enough, long) refl
 
 pub after-short : (free least pages more : ℕ) (delta : ℤ) → lt_z delta (pos 0) ≡ true → PAGE * more ≡ whole_pages delta → PAGE * pages < least + PAGE * more
@@ -54,7 +54,7 @@ pub after-short : (free least pages more : ℕ) (delta : ℤ) → lt_z delta (po
 unfolding pages_after ◌>>=◌ ◌>>◌ refuse_if
 after-short free least pages more (pos n) down is short = absurd (omega (arith, ints))
 after-short free least pages more (negsuc n) down is short =
-    let below : shrinks_below least (page * pages) (negsuc n) ≡ true = lt-true (page * pages) _ (omega (arith, is, short)) in
+    let below : shrinks_below least (page_size * pages) (negsuc n) ≡ true = lt-true (page_size * pages) _ (omega (arith, is, short)) in
     rw below refl
 
 differs : (a b : ℕ) → a ≢ b → (a == b) ≡ false
@@ -63,37 +63,39 @@ differs a b h = grind (arith, nat_tests)
 -- what is granted is at hand
 pub room-if : (free least pages : ℕ) (delta : ℤ) (p : ℕ) → pages_after free least pages delta ≡ Ok p → p ≤ pages + free
 unfolding pages_after ◌>>=◌ ◌>>◌ refuse_if
-room-if free least pages (pos n) p e = go (lacks_pages free (changed_length (page * pages) (pos n) - page * pages)) refl e
+room-if free least pages (pos n) p e = go (lacks_pages free (changed_length (page_size * pages) (pos n) - page_size * pages)) refl e
   where
-    go : (b : Bool) → nat_lt free (pages_for (changed_length (page * pages) (pos n) - page * pages)) ≡ b
-        → (refuse_if b NoRoom >>= (λ _. Ok (changed_length (page * pages) (pos n) / page))) ≡ Ok p → p ≤ pages + free
+    go : (b : Bool) → nat_lt free (pages_for (changed_length (page_size * pages) (pos n) - page_size * pages)) ≡ b
+        → (refuse_if b NoRoom >>= (λ _. Ok (changed_length (page_size * pages) (pos n) / page_size))) ≡ Ok p → p ≤ pages + free
     go true t q = absurd (cc)
-    go false t q = let same : changed_length (page * pages) (pos n) / page ≡ p = cc in omega (arith, same, ltb-false _ _ t)
+    go false t q = let same : changed_length (page_size * pages) (pos n) / page_size ≡ p = cc in omega (arith, same, ltb-false _ _ t)
 room-if free least pages (negsuc n) p e =
-    go (shrinks_below least (page * pages) (negsuc n)) (lacks_pages free (changed_length (page * pages) (negsuc n) - page * pages)) e
+    go (shrinks_below least (page_size * pages) (negsuc n)) (lacks_pages free (changed_length (page_size * pages) (negsuc n) - page_size * pages)) e
   where
-    go : (b c : Bool) → (refuse_if b ExcessiveShrink >>= (λ _. refuse_if c NoRoom >>= (λ _. Ok (changed_length (page * pages) (negsuc n) / page)))) ≡ Ok p
+    go : (b c : Bool) → (refuse_if b ExcessiveShrink >>= (λ _. refuse_if c NoRoom >>= (λ _. Ok (changed_length (page_size * pages) (negsuc n) / page_size))))
+        ≡ Ok p
         → p ≤ pages + free
     go true c q = absurd (cc)
     go false true q = absurd (cc)
-    go false false q = let same : changed_length (page * pages) (negsuc n) / page ≡ p = cc in omega (arith, same)
+    go false false q = let same : changed_length (page_size * pages) (negsuc n) / page_size ≡ p = cc in omega (arith, same)
 
 -- what an area keeps at least is left
 pub least-left : (free least pages : ℕ) (delta : ℤ) (p : ℕ) → pages_after free least pages delta ≡ Ok p → least ≤ PAGE * pages → least ≤ PAGE * p
 unfolding pages_after ◌>>=◌ ◌>>◌ refuse_if
-least-left free least pages (pos n) p e had = go (lacks_pages free (changed_length (page * pages) (pos n) - page * pages)) e
+least-left free least pages (pos n) p e had = go (lacks_pages free (changed_length (page_size * pages) (pos n) - page_size * pages)) e
   where
-    go : (b : Bool) → (refuse_if b NoRoom >>= (λ _. Ok (changed_length (page * pages) (pos n) / page))) ≡ Ok p → least ≤ PAGE * p
+    go : (b : Bool) → (refuse_if b NoRoom >>= (λ _. Ok (changed_length (page_size * pages) (pos n) / page_size))) ≡ Ok p → least ≤ PAGE * p
     go true q = absurd (cc)
-    go false q = let same : changed_length (page * pages) (pos n) / page ≡ p = cc in omega (arith, same, had)
+    go false q = let same : changed_length (page_size * pages) (pos n) / page_size ≡ p = cc in omega (arith, same, had)
 least-left free least pages (negsuc n) p e had =
-    go (shrinks_below least (page * pages) (negsuc n)) refl (lacks_pages free (changed_length (page * pages) (negsuc n) - page * pages)) e
+    go (shrinks_below least (page_size * pages) (negsuc n)) refl (lacks_pages free (changed_length (page_size * pages) (negsuc n) - page_size * pages)) e
   where
-    go : (b : Bool) → nat_lt (page * pages) (least + whole_pages (negsuc n)) ≡ b → (c : Bool)
-        → (refuse_if b ExcessiveShrink >>= (λ _. refuse_if c NoRoom >>= (λ _. Ok (changed_length (page * pages) (negsuc n) / page)))) ≡ Ok p → least ≤ PAGE * p
+    go : (b : Bool) → nat_lt (page_size * pages) (least + whole_pages (negsuc n)) ≡ b → (c : Bool)
+        → (refuse_if b ExcessiveShrink >>= (λ _. refuse_if c NoRoom >>= (λ _. Ok (changed_length (page_size * pages) (negsuc n) / page_size)))) ≡ Ok p
+        → least ≤ PAGE * p
     go true t c q = absurd (cc)
     go false t true q = absurd (cc)
-    go false t false q = let same : changed_length (page * pages) (negsuc n) / page ≡ p = cc in omega (arith, same, ltb-false _ _ t)
+    go false t false q = let same : changed_length (page_size * pages) (negsuc n) / page_size ≡ p = cc in omega (arith, same, ltb-false _ _ t)
 
 -- the bytes of the scrap file that the desk has
 pub file-length : (m : Memory) (scrap : Option ScrapFile) → scrap_size scrap ≤ length (bytes m 5) → file_length (scrap_of m scrap) ≡ scrap_size scrap

@@ -1,6 +1,6 @@
 -- The flag for budging of a task's slot.
-use Rattle.rh_tasks.proofs.Common.{◌≡◌, ℕ, Bool, refl, ap, sym, ◌∙◌, List, Ok, true, set, Memory, OnlyArea-self, FileList, in_range, with_slot, IsSlot}
-use Rattle.rh_tasks.proofs.Common.{slot_in, Seat, MadeArea, Kept, desk_of, task_of, IsWorld, HasSlot, Found, all-at, begins, granted-same, sits, named-is}
+use Rattle.rh_tasks.proofs.Common.{◌≡◌, ℕ, Bool, refl, ap, sym, ◌∙◌, List, Ok, true, set, Memory, OnlyArea-self, FileList, in_range, with_slot, IsSlotIn}
+use Rattle.rh_tasks.proofs.Common.{slot_in, Seat, MadeArea, Kept, desk_of, task_of, IsWorld, HasSlot, FoundSeat, all-at, begins, granted-same, sits, named-is}
 use Rattle.rh_tasks.proofs.Common.{granted-keeps, Moves, moved-desk, moved-world}
 use Rattle.rh_defs.specs.declared.reply.Reply.TheVariants as reply
 use Rattle.rh_defs.specs.declared.command.Command.TheVariants as command
@@ -11,13 +11,13 @@ use Rattle.rh_slot.specs.declared.slot.Slot.{Slot}
 -- a slot with another flag
 pub record Flagged (m : Memory) (old new : Slot) (on was : Bool) : Type 0 where
   pub area : new.area.0 ≡ old.area.0
-  pub still : IsSlot m old → IsSlot m new
+  pub still : IsSlotIn m old → IsSlotIn m new
   pub spelled : (slot_in m new, was) ≡ plain.slot_set_budge on (slot_in m old)
 
 module _ {m : Memory} {seats : List Seat} {made : List MadeArea} {files : FileList} {kept : Kept} {name : List ℕ} {i : ℕ} {s : Seat} {slot : Slot}
     {on was : Bool}
-    (w : IsWorld m seats made files kept) (f : Found name seats i s) (flag : Flagged m s.slot slot on was) where
-  has : IsSlot m s.slot
+    (w : IsWorld m seats made files kept) (f : FoundSeat name seats i s) (flag : Flagged m s.slot slot on was) where
+  has : IsSlotIn m s.slot
   has = all-at (HasSlot m) seats i s w.areas.slots (sits f)
 
   moves : Moves m m s (record s { slot = slot }) (λ t. record t { slot = slot_in m slot })

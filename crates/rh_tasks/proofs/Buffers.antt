@@ -1,7 +1,8 @@
 -- A world in which the slot of the task at a place has changed.
 use Rattle.rh_tasks.proofs.Common.{◌≡◌, ℕ, ◌<◌, refl, ap, sym, subst, ◌∙◌, arith, List, length, Ok, Err, slice_get, get_or, set, length-map, Memory, OnlyArea}
 use Rattle.rh_tasks.proofs.Common.{FileList, Refusal, Granted, ◌>>=◌, no_answer, left_of, result_or, heap_block_at, first_bytes, Desk, Task}
-use Rattle.rh_tasks.proofs.Common.{free_pages, with_task, with_slot, IsDesk, appended, OnGrant, IsRoomed, IsSlot, slot_in, Leaves, Seat, MadeArea, Shown}
+use Rattle.rh_tasks.proofs.Common.{free_pages, with_task, with_slot, IsDesk, appended, OnGrant, IsRoomed, IsSlotIn, slot_in, LeavesSlotIn, Seat, MadeArea}
+use Rattle.rh_tasks.proofs.Common.{Shown}
 use Rattle.rh_tasks.proofs.Common.{Kept, HasSlot, task_of, desk_of, shown_of, IsWorld, slot_append, IsAt, Becomes, Sits, set_same, all-at, mapped-at}
 use Rattle.rh_tasks.proofs.Common.{mapped-is, task-found, changed, free-is, Moves, moved-desk, moved-world}
 use Rattle.rh_defs.specs.Slot as plain
@@ -73,7 +74,7 @@ appended-as d t k xs = assoc-three _ _ _ _
 
 module _ {m : Memory} {seats : List Seat} {made : List MadeArea} {files : FileList} {kept : Kept} {i : ℕ} {s : Seat}
     (w : IsWorld m seats made files kept) (at : Sits seats i s) where
-  has : IsSlot m s.slot
+  has : IsSlotIn m s.slot
   has = all-at (HasSlot m) seats i s w.areas.slots at
 
   the-task : IsTask (desk_of m seats made files kept) (task_of m s)
@@ -83,7 +84,7 @@ module _ {m : Memory} {seats : List Seat} {made : List MadeArea} {files : FileLi
     slot = record { heap = has.spells.words.heap.heap; anchors = has.spells.words.anchors };
   }
 
-  module _ {n : Memory} (edit : plain.Slot → plain.Slot) (still : IsSlot n s.slot) (only : OnlyArea m n s.slot.area.0)
+  module _ {n : Memory} (edit : plain.Slot → plain.Slot) (still : IsSlotIn n s.slot) (only : OnlyArea m n s.slot.area.0)
       (is : slot_in n s.slot ≡ edit (slot_in m s.slot)) where
     slot-moves : Moves m n s s (λ t. record t { slot = edit t.slot })
     unfolding task_of
@@ -108,7 +109,7 @@ module _ {m : Memory} {seats : List Seat} {made : List MadeArea} {files : FileLi
 
   -- ---- a buffer is released
 
-  module _ {n : Memory} (buffer : ℕ) {r : Granted (Unit {0})} (l : Leaves m n s.slot (no_answer (slot_release buffer (slot_in m s.slot))) r) where
+  module _ {n : Memory} (buffer : ℕ) {r : Granted (Unit {0})} (l : LeavesSlotIn m n s.slot (no_answer (slot_release buffer (slot_in m s.slot))) r) where
     released-is : slot_in n s.slot ≡ without_buffer buffer (slot_in m s.slot)
     released-is = l.slot ∙ left-is (slot_in m s.slot) (slot_release buffer (slot_in m s.slot))
 
@@ -143,37 +144,39 @@ module _ {m : Memory} {seats : List Seat} {made : List MadeArea} {files : FileLi
     unfolding task_of
     the-append = ap (λ free. slot_append free k xs (slot_in m s.slot)) (free-is w)
 
-    roomed : {n : Memory} → Leaves m n s.slot (no_answer call) (Ok tt) → IsRoomed (free_pages d) (task_of m s).slot (slot_in n s.slot)
+    roomed : {n : Memory} → LeavesSlotIn m n s.slot (no_answer call) (Ok tt) → IsRoomed (free_pages d) (task_of m s).slot (slot_in n s.slot)
     unfolding task_of
     roomed l = grant-of (append-grants (free_pages d) k xs (task_of m s).slot the-task.slot) (the-append ∙ changed l)
 
-    appended-desk : {n : Memory} → Leaves m n s.slot (no_answer call) (Ok tt) → desk_of n seats made files kept ≡ (with_slot s.handle (slot_in n s.slot) d)
+    appended-desk : {n : Memory} → LeavesSlotIn m n s.slot (no_answer call) (Ok tt) → desk_of n seats made files kept ≡
+        (with_slot s.handle (slot_in n s.slot) d)
     appended-desk {n} l = edited-desk (λ x. slot_in n s.slot) l.still l.only refl
 
-    appended-keeps : {n : Memory} → Leaves m n s.slot (no_answer call) (Ok tt) → IsDesk (with_slot s.handle (slot_in n s.slot) d)
+    appended-keeps : {n : Memory} → LeavesSlotIn m n s.slot (no_answer call) (Ok tt) → IsDesk (with_slot s.handle (slot_in n s.slot) d)
     unfolding task_of
     appended-keeps {n} l = with_slot-keeps d (task_of m s) (slot_in n s.slot) the-task (roomed l) w.desk
 
-    pub appended-world : {n : Memory} (r : Granted (Unit {0})) → Leaves m n s.slot (no_answer call) r → IsWorld n seats made files kept
+    pub appended-world : {n : Memory} (r : Granted (Unit {0})) → LeavesSlotIn m n s.slot (no_answer call) r → IsWorld n seats made files kept
     appended-world {n} (Ok x) l = edited-world (λ y. slot_in n s.slot) l.still l.only refl (subst IsDesk (sym (appended-desk l)) (appended-keeps l))
     appended-world (Err r) l = subst (λ x. IsWorld x seats made files kept) (sym l.err) w
 
-    appended-done : {n : Memory} → Leaves m n s.slot (no_answer call) (Ok tt) → appended d (task_of m s) k xs ≡ Ok (desk_of n seats made files kept)
+    appended-done : {n : Memory} → LeavesSlotIn m n s.slot (no_answer call) (Ok tt) → appended d (task_of m s) k xs ≡ Ok (desk_of n seats made files kept)
     unfolding task_of ◌>>=◌
     appended-done {n} l =
         sym (appended-as d (task_of m s) k xs) ∙ ap (λ g. g >>= λ x. Ok (with_slot s.handle x d)) (the-append ∙ changed l)
         ∙ ap (λ x. let r : Granted Desk = Ok x in r) (sym (appended-desk l))
 
-    appended-not : {n : Memory} {r : Refusal} → Leaves m n s.slot (no_answer call) (Err r) → appended d (task_of m s) k xs ≡ Err r
+    appended-not : {n : Memory} {r : Refusal} → LeavesSlotIn m n s.slot (no_answer call) (Err r) → appended d (task_of m s) k xs ≡ Err r
     unfolding task_of ◌>>=◌
     appended-not l = sym (appended-as d (task_of m s) k xs) ∙ ap (λ g. g >>= λ x. Ok (with_slot s.handle x d)) (the-append ∙ unchanged l)
 
-    pub appended-becomes : {n : Memory} (r : Granted (Unit {0})) → Leaves m n s.slot (no_answer call) r
+    pub appended-becomes : {n : Memory} (r : Granted (Unit {0})) → LeavesSlotIn m n s.slot (no_answer call) r
         → Becomes (appended d (task_of m s) k xs) (shown_of m seats made files kept) (shown_of n seats made files kept) r
     appended-becomes (Ok x) l = appended-done l
     appended-becomes (Err r) l = (appended-not l, ap (λ x. shown_of x seats made files kept) l.err)
 
-    pub appended-returns : {n : Memory} {old : Shown} → shown_of m seats made files kept ≡ old → (r : Granted (Unit {0})) → Leaves m n s.slot (no_answer call) r
+    pub appended-returns : {n : Memory} {old : Shown} → shown_of m seats made files kept ≡ old → (r : Granted (Unit {0})) → LeavesSlotIn m n s.slot
+        (no_answer call) r
         → (buffer count : ℕ) → xs ≡ first_bytes count (heap_block_at buffer (slot_in m s.slot)) → (t : Task) → IsAt i t old.desk
         → Becomes (appended old.desk t k (first_bytes count (heap_block_at buffer t.slot))) old (shown_of n seats made files kept) r
     unfolding task_of

@@ -40,7 +40,7 @@ unfoldable pub use Rattle.rh_defs.specs.Module.{module_change, module_claim, mod
 pub use Rattle.rh_defs.specs.Order.{IsReordered, with_queue}
 pub use Rattle.rh_defs.specs.OutgoingEvents.{Handled, ignored, is_out_of_reach, refused, scrap_shortage, wider}
 unfoldable pub use Rattle.rh_defs.specs.OutgoingEvents.{answer_fetch, finish_load}
-pub use Rattle.rh_defs.specs.Pieces.{Split, first_at, page, pages_for, total, zeros}
+pub use Rattle.rh_defs.specs.Pieces.{Split, first_at, page_size, pages_for, total, zeros}
 pub use Rattle.rh_defs.specs.Places.{buffer_at, first_bytes, overlap}
 pub use Rattle.rh_defs.specs.Post.{Post, post_poll}
 unfoldable pub use Rattle.rh_defs.specs.Post.{post_send, post_send_pages}
@@ -66,15 +66,15 @@ pub use Rattle.rh_defs.specs.declared.sizes.TheConstants.{MAX_AREAS, PAGE}
 pub use Rattle.rh_defs.specs.declared.transfer.Incoming.{Incoming}
 pub use Rattle.rh_defs.specs.declared.transfer.Outgoing.{Outgoing}
 pub use Rattle.rh_defs.specs.declared.transfer.Sending.{Sending}
-pub use Rattle.rh_module.specs.Area.{IsModule, heap_in}
+pub use Rattle.rh_module.specs.Area.{IsModule, module_heap_in}
 pub use Rattle.rh_slot.proofs.Ranges.{Standing}
-pub use Rattle.rh_slot.specs.Area.{IsSlot, slot_in}
-pub use Rattle.rh_slot.specs.Calls.{Leaves}
+pub use Rattle.rh_slot.specs.Area.{IsSlotIn, slot_in}
+pub use Rattle.rh_slot.specs.Calls.{LeavesSlotIn}
 unfoldable pub use Rattle.rh_slot.specs.Flex.{slot_append}
 pub use Rattle.rh_wimp.specs.Calls.{Answers, IsQueue}
-pub use Rattle.rh_wimp.specs.Chains.{Chains, HasEntry, SpellsPost, joined}
+pub use Rattle.rh_wimp.specs.Chains.{Chains, HasEntry, SpellsPostIn, joined_chains}
 pub use Rattle.rh_wimp.specs.PostIn.{post_in}
-pub use Rattle.rh_tasks.specs.Finding.{Found, Owns, looked}
+pub use Rattle.rh_tasks.specs.Finding.{FoundSeat, Owns, looked}
 pub use Rattle.rh_tasks.specs.Letters.{with_last}
 pub use Rattle.rh_tasks.specs.Lists.{segment_items_at}
 pub use Rattle.rh_tasks.specs.Polls.{Becomes, IsAt, IsFor, IsFreeAnchor, IsPortion, Sends}

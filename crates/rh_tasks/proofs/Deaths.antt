@@ -2,8 +2,8 @@
 use Rattle.rh_tasks.proofs.Common.{◌≡◌, ◌≢◌, ℕ, ◌+◌, ◌<◌, ◌≤◌, true, false, cond, refl, ap, sym, subst, ◌∙◌, arith, List, length, map, filter, not, ◌==◌}
 use Rattle.rh_tasks.proofs.Common.{Option, Some, None, Ok, remove, option_map, Memory, IsOpen, OnlyArea, bytes, closed, total, FileList, in_range, Heap, Post}
 use Rattle.rh_tasks.proofs.Common.{Desk, Task, Made, Scrap, task_pages, used_pages, with_delivered, IsDesk, IsReordered, with_queue, MAX_AREAS, IsQueue}
-use Rattle.rh_tasks.proofs.Common.{Chains, SpellsPost, post_in, Seat, MadeArea, ScrapFile, Kept, the_module, scrap_from, scrap_size, scrap_of, slot_area}
-use Rattle.rh_tasks.proofs.Common.{made_area, Avoids, HasSlot, HasAreas, desk_of, task_of, made_of, fixed_pages, IsWorld, Found, begins, Sits, all-at}
+use Rattle.rh_tasks.proofs.Common.{Chains, SpellsPostIn, post_in, Seat, MadeArea, ScrapFile, Kept, the_module, scrap_from, scrap_size, scrap_of, slot_area}
+use Rattle.rh_tasks.proofs.Common.{made_area, Avoids, HasSlot, HasAreas, desk_of, task_of, made_of, fixed_pages, IsWorld, FoundSeat, begins, Sits, all-at}
 use Rattle.rh_tasks.proofs.Common.{avoids-below, sits, named-is, Stay, tasks-stay, mades-stay, fixed-stay, post-stays, queue-stays, scrap-stays, scrap-fits}
 use Rattle.rh_tasks.proofs.Common.{granted-keeps, same-desk}
 use Rattle.rh_defs.proofs.MemoryLaws.{free-closed, pages-closed}
@@ -12,7 +12,7 @@ use Rattle.rh_defs.specs.declared.command.Command.TheVariants as command
 use Rattle.rh_defs.specs.Post.{post_is_live, post_death}
 use Rattle.rh_defs.specs.Desk.{kept_scrap}
 use Rattle.rh_defs.specs.Commands.{kill}
-use Rattle.rh_wimp.specs.Calls.{Leaves}
+use Rattle.rh_wimp.specs.Calls.{LeavesChains}
 use Rattle.rh_wimp.proofs.PostCalls.{IsRequeued, post_in-requeued, spells-stays}
 use Rattle.rh_tasks.specs.View.{kept_file}
 use Rattle.rh_tasks.proofs.Frames.{bytes-stay, heap-stays}
@@ -37,8 +37,8 @@ kept-fits post (Some file) n fits =
     elim (post_is_live file.load post) as (λ b. scrap_size (cond b (Some file) None) ≤ n) [ true ↦ fits | false ↦ omega arith ]
 
 module _ {m n : Memory} {seats : List Seat} {made : List MadeArea} {files : FileList} {kept : Kept} {name : List ℕ} {i : ℕ} {s : Seat} {k : Chains}
-    (w : IsWorld m seats made files kept) (f : Found name seats i s) (low : s.slot.area.0 < MAX_AREAS)
-    (l : Leaves m n the_module kept.queue k (post_death s.handle)) where
+    (w : IsWorld m seats made files kept) (f : FoundSeat name seats i s) (low : s.slot.area.0 < MAX_AREAS)
+    (l : LeavesChains m n the_module kept.queue k (post_death s.handle)) where
   abbrev id : ℕ
   id = s.slot.area.0
 
@@ -173,5 +173,5 @@ module _ {m n : Memory} {seats : List Seat} {made : List MadeArea} {files : File
   queue-then = queue-stays closes not-module l.still
 
   -- the post that the queue spells once the slot's area is closed
-  pub spells-death : SpellsPost p the_module k death
+  pub spells-death : SpellsPostIn p the_module k death
   spells-death = spells-stays n p the_module k death (closes.others 1 not-module) (l.spells (post_in m the_module kept.queue) (is-post w))

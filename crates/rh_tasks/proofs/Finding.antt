@@ -18,7 +18,7 @@ use Rattle.rh_defs.specs.Commands.{is_numbered}
 use Rattle.rh_tasks.specs.declared.seat.Seat.{Seat}
 use Rattle.rh_tasks.specs.declared.made.MadeArea.{MadeArea}
 use Rattle.rh_tasks.specs.View.{Kept, is_named, has_number, task_of, made_of, desk_of}
-use Rattle.rh_tasks.specs.Finding.{Found}
+use Rattle.rh_tasks.specs.Finding.{FoundSeat}
 use Rattle.rh_tasks.proofs.Lists.{Sits}
 
 -- ---- the first member that passes a test
@@ -54,10 +54,10 @@ any-map f test (x ∷ xs) = ap (λ (b : Bool). test (f x) || b) (any-map f test 
 
 -- ---- tasks by name
 
-pub sits : {name : List ℕ} {seats : List Seat} {i : ℕ} {s : Seat} → Found name seats i s → Sits seats i s
+pub sits : {name : List ℕ} {seats : List Seat} {i : ℕ} {s : Seat} → FoundSeat name seats i s → Sits seats i s
 sits {name} {seats} {i} {s} f = record { inside = (position-Some (is_named name) seats i s f.at).0; is = f.is }
 
-pub find-named : {name : List ℕ} {seats : List Seat} {i : ℕ} {s : Seat} (m : Memory) → Found name seats i s
+pub find-named : {name : List ℕ} {seats : List Seat} {i : ℕ} {s : Seat} (m : Memory) → FoundSeat name seats i s
     → find (has_name name) (map (task_of m) seats) ≡ Some (task_of m s)
 unfolding task_of
 find-named {name} {seats} {i} {s} m f =
@@ -70,13 +70,14 @@ pub nobody-named : (m : Memory) (name : List ℕ) (seats : List Seat) → positi
 unfolding found_or task_of
 nobody-named m name seats h = rw (find-map (task_of m) (has_name name) seats (find-none (is_named name) seats h)) refl
 
-pub somebody-named : {name : List ℕ} {seats : List Seat} {i : ℕ} {s : Seat} (m : Memory) → Found name seats i s
+pub somebody-named : {name : List ℕ} {seats : List Seat} {i : ℕ} {s : Seat} (m : Memory) → FoundSeat name seats i s
     → found_or (find (has_name name) (map (task_of m) seats)) NoName ≡ Ok (task_of m s)
 unfolding found_or
 somebody-named m f = rw (find-named m f) refl
 
 module _ (m : Memory) (made : List MadeArea) (files : FileList) (kept : Kept) where
-  pub named-is : {name : List ℕ} {seats : List Seat} {i : ℕ} {s : Seat} → Found name seats i s → named name (desk_of m seats made files kept) ≡ Ok (task_of m s)
+  pub named-is : {name : List ℕ} {seats : List Seat} {i : ℕ} {s : Seat} → FoundSeat name seats i s → named name (desk_of m seats made files kept) ≡ Ok
+      (task_of m s)
   unfolding named found_or
   named-is f = rw (find-named m f) refl
 
@@ -118,7 +119,7 @@ position-within p xs i h = go (nat_lt (position_or_len p xs) (length xs)) refl h
     go false e q = absurd cc
 
 -- the seat at the place that a name has
-pub found-in : {name : List ℕ} {seats : List Seat} {i : ℕ} → position (is_named name) seats ≡ Some i → (s : Seat) × Found name seats i s
+pub found-in : {name : List ℕ} {seats : List Seat} {i : ℕ} → position (is_named name) seats ≡ Some i → (s : Seat) × FoundSeat name seats i s
 found-in {name} {seats} {i} at =
     let some = seat-there seats i (position-within (is_named name) seats i at) in
     (some.0, record { at = at; is = some.1 })

@@ -5,7 +5,7 @@ use Rattle.rh_tasks.proofs.Common.{IsDesk, IsModule, IsQueue, post_in, Seat, Mad
 use Rattle.rh_tasks.proofs.Common.{slot_area, made_area, HasAreas, IsWorld, avoids-below, Stay, pages-stay, tasks-stay, slots-stay, mades-stay, mades-opened}
 use Rattle.rh_tasks.proofs.Common.{fixed-opened, post-stays, queue-stays, scrap-stays, scrap-fits, module-stays, count-stays, same-desk, AllByRecursion, fixed}
 use Rattle.rh_defs.specs.Desk.{with_module}
-use Rattle.rh_wimp.specs.Laws.{with_heap}
+use Rattle.rh_wimp.specs.Laws.{post_with_heap}
 use Rattle.rh_tasks.proofs.Frames.{scrap-same}
 use Rattle.rh_tasks.proofs.Posts.{end-is, module-length}
 
@@ -138,7 +138,7 @@ module _ {m n : Memory} {seats : List Seat} {made : List MadeArea} {files : File
 -- the module area, beside whose messages a heap has changed
 module _ {m n : Memory} {seats : List Seat} {made : List MadeArea} {files : FileList} {kept : Kept} {h : Heap}
     (w : IsWorld m seats made files kept) (only : OnlyArea m n 1) (is : IsQueue n the_module kept.queue)
-    (same : post_in n the_module kept.queue ≡ with_heap h (post_in m the_module kept.queue)) where
+    (same : post_in n the_module kept.queue ≡ post_with_heap h (post_in m the_module kept.queue)) where
   around : Stay m n 1
   around = record { others = only.others }
 

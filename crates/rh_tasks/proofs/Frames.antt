@@ -11,9 +11,9 @@ use Rattle.rh_defs.proofs.MemoryLaws.{open_below-same}
 use Rattle.rh_defs.specs.Slot as plain
 use Rattle.rh_defs.specs.Desk.{Task, Made, Scrap, edit_task}
 use Rattle.rh_defs.specs.Commands.{with_pages}
-use Rattle.rh_module.specs.Area.{IsModule, heap_in}
+use Rattle.rh_module.specs.Area.{IsModule, module_heap_in}
 use Rattle.rh_slot.specs.declared.slot.Slot.{Slot}
-use Rattle.rh_slot.specs.Area.{IsSlot, slot_in}
+use Rattle.rh_slot.specs.Area.{IsSlotIn, slot_in}
 use Rattle.rh_wimp.specs.Calls.{IsQueue}
 use Rattle.rh_wimp.specs.Chains.{Chains}
 use Rattle.rh_wimp.specs.PostIn.{post_in}
@@ -55,13 +55,13 @@ pages-stay j stay h = ap (λ (b : List ℕ). length b / PAGE) (bytes-stay j stay
 pub slot-stays : {m n : Memory} {id : ℕ} (slot : Slot) → Stay m n id → slot.area.0 ≢ id → slot_in n slot ≡ slot_in m slot
 slot-stays slot stay h = rw (bytes-stay slot.area.0 stay h) refl
 
-pub has-slot-stays : {m n : Memory} {id : ℕ} (slot : Slot) → Stay m n id → slot.area.0 ≢ id → IsSlot m slot → IsSlot n slot
+pub has-slot-stays : {m n : Memory} {id : ℕ} (slot : Slot) → Stay m n id → slot.area.0 ≢ id → IsSlotIn m slot → IsSlotIn n slot
 has-slot-stays slot stay h has = record {
   opened = opened-stays slot.area.0 stay h has.opened;
   spells = rw (bytes-stay slot.area.0 stay h) has.spells;
 }
 
-pub heap-stays : {m n : Memory} {id : ℕ} → Stay m n id → 1 ≢ id → heap_in n the_module ≡ heap_in m the_module
+pub heap-stays : {m n : Memory} {id : ℕ} → Stay m n id → 1 ≢ id → module_heap_in n the_module ≡ module_heap_in m the_module
 heap-stays stay h = rw (bytes-stay 1 stay h) refl
 
 pub module-stays : {m n : Memory} {id : ℕ} → Stay m n id → 1 ≢ id → IsModule m the_module → IsModule n the_module

@@ -2,7 +2,7 @@
 use Rattle.rh_tasks.proofs.Common.{◌≡◌, ℕ, zero, suc, ◌+◌, ◌/◌, ◌<◌, ◌≢◌, true, false, refl, ap, subst, arith, List, [], ◌∷◌, ◌++◌, length, ◌∙◌, sym, inl}
 use Rattle.rh_tasks.proofs.Common.{inr, map, filter, not, ◌==◌, Option, Some, None, IsNone, IsSome, is_some, AllByRecursion, remove, length-append}
 use Rattle.rh_tasks.proofs.Common.{map-append, cases_eq, nat_tests, Memory, IsOpen, OnlyArea, bytes, opened, closed, open_below, open_below-opened}
-use Rattle.rh_tasks.proofs.Common.{area-opened, total, FileList, Desk, Task, task_pages, used_pages, IsDesk, IsSlot, MAX_AREAS, PAGE, IsQueue, joined}
+use Rattle.rh_tasks.proofs.Common.{area-opened, total, FileList, Desk, Task, task_pages, used_pages, IsDesk, IsSlotIn, MAX_AREAS, PAGE, IsQueue, joined_chains}
 use Rattle.rh_tasks.proofs.Common.{post_in, Seat, MadeArea, Kept, the_module, task_of, desk_of, slot_area, made_area, Avoids, AreDistinct, HasSlot, IsAbove}
 use Rattle.rh_tasks.proofs.Common.{HasAreas, IsWorld, Sits, all-at, all-map, avoids-at, Stay, tasks-stay, slots-stay, mades-stay, mades-opened, fixed-stay}
 use Rattle.rh_tasks.proofs.Common.{fixed-opened, post-stays, queue-stays, scrap-stays, scrap-fits, module-stays, same-desk}
@@ -98,7 +98,7 @@ total-map size f (x ∷ xs) = ap (λ k. size (f x) + k) (total-map size f xs)
 
 module _ {m n : Memory} {seats : List Seat} {made : List MadeArea} {files : FileList} {kept : Kept} (s : Seat)
     (w : IsWorld m seats made files kept) (none : IsNone (m.area s.slot.area.0)) (low : s.slot.area.0 < MAX_AREAS) (only : OnlyArea m n s.slot.area.0)
-    (still : IsSlot n s.slot) where
+    (still : IsSlotIn n s.slot) where
   stay : Stay m n s.slot.area.0
   stay = record { others = only.others }
 
@@ -119,9 +119,9 @@ module _ {m n : Memory} {seats : List Seat} {made : List MadeArea} {files : File
 
   -- the next handle is given, and the queue has it
   abbrev pub joined_kept : ℕ → Kept
-  joined_kept handle = record kept { next = record kept.next { handle = handle }; queue = joined s.handle kept.queue }
+  joined_kept handle = record kept { next = record kept.next { handle = handle }; queue = joined_chains s.handle kept.queue }
 
-  posts : post_in n the_module (joined s.handle kept.queue) ≡ post_join s.handle (post_in m the_module kept.queue)
+  posts : post_in n the_module (joined_chains s.handle kept.queue) ≡ post_join s.handle (post_in m the_module kept.queue)
   posts = post-joins n kept.queue s.handle ∙ ap (post_join s.handle) (post-stays kept.queue stay not-module)
 
   pub joined-desk : (handle : ℕ) → desk_of n (seats ++ s ∷ []) made files (joined_kept handle)
@@ -160,7 +160,7 @@ module _ {m n : Memory} {seats : List Seat} {made : List MadeArea} {files : File
         total-append task_pages (map (task_of m) seats) (task_of n s ∷ []),
       )
 
-  pub joined-world : (handle : ℕ) → (IsQueue n the_module kept.queue → IsQueue n the_module (joined s.handle kept.queue))
+  pub joined-world : (handle : ℕ) → (IsQueue n the_module kept.queue → IsQueue n the_module (joined_chains s.handle kept.queue))
       → IsDesk (desk_of n (seats ++ s ∷ []) made files (joined_kept handle)) → IsWorld n (seats ++ s ∷ []) made files (joined_kept handle)
   joined-world handle joins is = record {
     desk = is;

@@ -10,7 +10,7 @@ use Rattle.rh_slot.specs.declared.slot.Slot.{Slot}
 use Rattle.rh_slot.specs.Area.{slot_in}
 use Rattle.rh_slot.specs.Calls as slot_calls
 use Rattle.rh_module.specs.declared.module.Module.{Module}
-use Rattle.rh_module.specs.Area.{heap_in}
+use Rattle.rh_module.specs.Area.{module_heap_in}
 use Rattle.rh_module.specs.Calls as module_calls
 use Rattle.rh_tasks.proofs.Chains.{answered, answer-refused}
 use Rattle.rh_tasks.proofs.Moves.{Slid}
@@ -30,32 +30,32 @@ none-refused (Ok x) e = absurd (cc)
 none-refused (Err r) e = cc
 
 module _ {A : Type 0} {m n : Memory} {slot : Slot} {g : Granted (plain.Slot × A)} where
-  pub slid : {r : Granted A} → slot_calls.Leaves m n slot g r → Slid m n slot
+  pub slid : {r : Granted A} → slot_calls.LeavesSlotIn m n slot g r → Slid m n slot
   slid l = record { still = l.still; only = l.only }
 
-  pub granted : {a : A} → slot_calls.Leaves m n slot g (Ok a) → g ≡ Ok (slot_in n slot, a)
+  pub granted : {a : A} → slot_calls.LeavesSlotIn m n slot g (Ok a) → g ≡ Ok (slot_in n slot, a)
   granted {a} l = answered (slot_in n slot) a (slot_in m slot) g l.answer l.slot
 
-  pub refused : {r : Refusal} → slot_calls.Leaves m n slot g (Err r) → g ≡ Err r
+  pub refused : {r : Refusal} → slot_calls.LeavesSlotIn m n slot g (Err r) → g ≡ Err r
   refused l = answer-refused g l.answer
 
 module _ {m n : Memory} {slot : Slot} {g : Granted plain.Slot} where
-  pub changed : slot_calls.Leaves m n slot (no_answer g) (Ok tt) → g ≡ Ok (slot_in n slot)
+  pub changed : slot_calls.LeavesSlotIn m n slot (no_answer g) (Ok tt) → g ≡ Ok (slot_in n slot)
   changed l = none-done (slot_in n slot) g (granted l)
 
-  pub unchanged : {r : Refusal} → slot_calls.Leaves m n slot (no_answer g) (Err r) → g ≡ Err r
+  pub unchanged : {r : Refusal} → slot_calls.LeavesSlotIn m n slot (no_answer g) (Err r) → g ≡ Err r
   unchanged l = none-refused g (refused l)
 
 module _ {A : Type 0} {m n : Memory} {rma : Module} {g : Granted (Heap × A)} where
-  pub module-granted : {a : A} → module_calls.Leaves m n rma g (Ok a) → g ≡ Ok (heap_in n rma, a)
-  module-granted {a} l = answered (heap_in n rma) a (heap_in m rma) g l.answer l.heap
+  pub module-granted : {a : A} → module_calls.LeavesModule m n rma g (Ok a) → g ≡ Ok (module_heap_in n rma, a)
+  module-granted {a} l = answered (module_heap_in n rma) a (module_heap_in m rma) g l.answer l.heap
 
-  pub module-refused : {r : Refusal} → module_calls.Leaves m n rma g (Err r) → g ≡ Err r
+  pub module-refused : {r : Refusal} → module_calls.LeavesModule m n rma g (Err r) → g ≡ Err r
   module-refused l = answer-refused g l.answer
 
 module _ {m n : Memory} {rma : Module} {g : Granted Heap} where
-  pub module-changed : module_calls.Leaves m n rma (no_answer g) (Ok tt) → g ≡ Ok (heap_in n rma)
-  module-changed l = none-done (heap_in n rma) g (module-granted l)
+  pub module-changed : module_calls.LeavesModule m n rma (no_answer g) (Ok tt) → g ≡ Ok (module_heap_in n rma)
+  module-changed l = none-done (module_heap_in n rma) g (module-granted l)
 
-  pub module-unchanged : {r : Refusal} → module_calls.Leaves m n rma (no_answer g) (Err r) → g ≡ Err r
+  pub module-unchanged : {r : Refusal} → module_calls.LeavesModule m n rma (no_answer g) (Err r) → g ≡ Err r
   module-unchanged l = none-refused g (module-refused l)

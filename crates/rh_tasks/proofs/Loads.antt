@@ -1,7 +1,7 @@
 -- A file loaded into a new block.
 use Rattle.rh_tasks.proofs.Common.{◌≡◌, ℕ, ◌+◌, ◌≤◌, true, false, refl, ap, sym, subst, ◌∙◌, arith, List, [], length, Option, Some, None, find, Ok, Err, IsOk}
 use Rattle.rh_tasks.proofs.Common.{option_map, Memory, FileList, Refusal, BadRange, Granted, ◌>>=◌, found_or, no_answer, answer_of, in_range, zeros, Slot}
-use Rattle.rh_tasks.proofs.Common.{weight, flex_start, slot_alloc, slot_put, slot_block, OnGrant, Desk, free_pages, slot_in, Leaves, Seat, MadeArea, Kept}
+use Rattle.rh_tasks.proofs.Common.{weight, flex_start, slot_alloc, slot_put, slot_block, OnGrant, Desk, free_pages, slot_in, LeavesSlotIn, Seat, MadeArea, Kept}
 use Rattle.rh_tasks.proofs.Common.{desk_of, task_of, IsWorld, Owns, begins, ends, granted-same, lt-false, free-is, granted-keeps, Slid, found-named}
 use Rattle.std.specs.Str.{bytes_eq}
 use Rattle.std.proofs.lemmas.List.{length-replicate}
@@ -83,7 +83,7 @@ answered-ok : {A : Type 0} (g : Granted A) → IsOk g → IsOk (answer_of (no_an
 answered-ok (Ok x) h = refl
 answered-ok (Err r) h = absurd (cc)
 
-pub put-answers : {m n : Memory} {slot : code.Slot} (g : Granted Slot) (r : Granted (Unit {0})) → Leaves m n slot (no_answer g) r → IsOk g → IsOk r
+pub put-answers : {m n : Memory} {slot : code.Slot} (g : Granted Slot) (r : Granted (Unit {0})) → LeavesSlotIn m n slot (no_answer g) r → IsOk g → IsOk r
 put-answers g r l h = subst (λ x. IsOk x) (sym l.answer) (answered-ok g h)
 
 -- ---- the command
@@ -108,15 +108,16 @@ module _ {m : Memory} {seats : List Seat} {made : List MadeArea} {files : FileLi
         ∙ ap (λ (b : List ℕ). slot_alloc m.free k (length b) (slot_in m o.seat.slot)) the-file.bytes_are
         ∙ ap (λ x. slot_alloc m.free k (length bytes) (slot_in m x)) o.slot_is
 
-    pub load-refused : {n : Memory} {r : Refusal} → Leaves m n slot (slot_alloc m.free k (length bytes) (slot_in m slot)) (Err r) → load d name k file ≡ Err r
+    pub load-refused : {n : Memory} {r : Refusal} → LeavesSlotIn m n slot (slot_alloc m.free k (length bytes) (slot_in m slot)) (Err r) → load d name k file
+        ≡ Err r
     unfolding load
     load-refused l = begins _ (found-named w o) (begins _ (some-file _ _ the-file.found) (ends _ (the-alloc ∙ leaves.refused l)))
 
-    module _ {n : Memory} {a : ℕ} (l : Leaves m n slot (slot_alloc m.free k (length bytes) (slot_in m slot)) (Ok a)) where
+    module _ {n : Memory} {a : ℕ} (l : LeavesSlotIn m n slot (slot_alloc m.free k (length bytes) (slot_in m slot)) (Ok a)) where
       pub load-fits : IsOk (slot_put k 0 bytes (slot_in n slot))
       load-fits = new-fits m.free k (length bytes) bytes (slot_in m slot) (slot_in n slot, a) (leaves.granted l) (omega arith)
 
-      module _ {p : Memory} (l2 : Leaves n p slot (no_answer (slot_put k 0 bytes (slot_in n slot))) (Ok tt)) where
+      module _ {p : Memory} (l2 : LeavesSlotIn n p slot (no_answer (slot_put k 0 bytes (slot_in n slot))) (Ok tt)) where
         slid : Slid m p slot
         slid = record { still = l2.still; only = OnlyArea-both m n p slot.area.0 l.only l2.only }
 

@@ -1,7 +1,7 @@
 -- Looks at the named task for a block that isn't busy.
 use Rattle.rh_tasks.proofs.Common.{◌≡◌, ℕ, ◌-◌, Bool, true, false, refl, sym, ◌∙◌, List, Option, Some, None, Ok, Err, IsOk, ok_or, ◌||◌, list_any, option_map}
 use Rattle.rh_tasks.proofs.Common.{position, Memory, Refusal, NoName, NotABlock, Busy, Granted, ◌>>=◌, ◌>>◌, refuse_if, found_or, Split, Segment, block_at}
-use Rattle.rh_tasks.proofs.Common.{block_size, Task, idle_block, idle_buffer, slot_in, Seat, is_named, task_of, Found, looked, begins, ends}
+use Rattle.rh_tasks.proofs.Common.{block_size, Task, idle_block, idle_buffer, slot_in, Seat, is_named, task_of, FoundSeat, looked, begins, ends}
 use Rattle.rh_defs.specs.Slot as plain
 use Rattle.rh_defs.specs.Records.{is_source, is_document, is_buffer_of}
 use Rattle.rh_tasks.proofs.Finding.{nobody-named, somebody-named}
@@ -13,7 +13,7 @@ looked-none look m name seats h = ends _ (nobody-named m name seats h)
 
 -- what the look at the task gives
 pub looked-at : {B : Type 0} {name : List ℕ} {seats : List Seat} {i : ℕ} {s : Seat} (look : Task → Granted B) (m : Memory) {g : Granted B}
-    → Found name seats i s → look (task_of m s) ≡ g → looked look m name seats ≡ g
+    → FoundSeat name seats i s → look (task_of m s) ≡ g → looked look m name seats ≡ g
 looked-at look m f e = begins _ (somebody-named m f) e
 
 -- ---- a step that finds a block, and one that asks whether it is busy

@@ -2,7 +2,8 @@
 use Rattle.rh_tasks.proofs.Common.{◌≡◌, ℕ, ◌-◌, ◌%◌, Bool, true, false, refl, ap, sym, subst, ◌∙◌, List, length, ℤ, Option, Some, None, Ok, Err, IsOk}
 use Rattle.rh_tasks.proofs.Common.{is_some, ok_or, option_map, PAGE, Memory, bytes, FileList, Command, Refusal, NotABlock, Reply, Granted, ◌>>=◌, ◌>>◌}
 use Rattle.rh_tasks.proofs.Common.{refuse_if, found_or, left_of, no_answer, Split, first_at, Heap, Segment, block_at, block_size, size_of, module_claim}
-use Rattle.rh_tasks.proofs.Common.{module_resize, module_change, in_range, Post, Desk, free_pages, Answer, module_start, change, heap_in, IsQueue, post_in}
+use Rattle.rh_tasks.proofs.Common.{module_resize, module_change, in_range, Post, Desk, free_pages, Answer, module_start, change, module_heap_in, IsQueue}
+use Rattle.rh_tasks.proofs.Common.{post_in}
 use Rattle.rh_tasks.proofs.Common.{Seat, MadeArea, Kept, the_module, desk_of, IsWorld, begins, ends, granted-same, free-is, granted-keeps}
 use Rattle.rh_defs.specs.declared.refusal.Refusal.TheVariants.{NotYours}
 use Rattle.rh_defs.specs.Blocks.{SameShape}
@@ -15,7 +16,7 @@ use Rattle.rh_defs.specs.Post.{post_is_message}
 use Rattle.rh_defs.specs.Desk.{with_module}
 use Rattle.rh_defs.specs.Commands.{own_block}
 use Rattle.rh_module.specs.Calls as module_calls
-use Rattle.rh_wimp.specs.Laws.{with_heap}
+use Rattle.rh_wimp.specs.Laws.{post_with_heap}
 use Rattle.rh_wimp.proofs.FrameLaws.{IsOff}
 use Rattle.rh_wimp.proofs.BesideLaws.{Beside, off-message, claim-beside, free-beside, resize-beside, change-beside, answers-beside, queue-beside, post_in-calls}
 use Rattle.rh_tasks.proofs.Chains.{skipped, answered, answer-refused}
@@ -110,7 +111,7 @@ module _ {m : Memory} {seats : List Seat} {made : List MadeArea} {files : FileLi
   the_post = post_in m the_module kept.queue
 
   abbrev h : Heap
-  h = heap_in m the_module
+  h = module_heap_in m the_module
 
   -- ---- the look for a block
 
@@ -157,11 +158,11 @@ module _ {m : Memory} {seats : List Seat} {made : List MadeArea} {files : FileLi
     the_call : call (free_pages d) d.post.heap ≡ call m.free the_post.heap
     the_call = ap (λ f. call f the_post.heap) (free-is w)
 
-    pub area-refused : {n : Memory} {r : Refusal} → module_calls.Leaves m n the_module (call m.free h) (Err r) → on_module call said d ≡ Err r
+    pub area-refused : {n : Memory} {r : Refusal} → module_calls.LeavesModule m n the_module (call m.free h) (Err r) → on_module call said d ≡ Err r
     area-refused {n} {r} l = ends _ (the_call ∙ answer-refused (call m.free the_post.heap)
         (answers-beside m n the_module kept.queue (call m.free h) (Err r) l the_post _ beside))
 
-    module _ {n : Memory} {a : A} (l : module_calls.Leaves m n the_module (call m.free h) (Ok a)) where
+    module _ {n : Memory} {a : A} (l : module_calls.LeavesModule m n the_module (call m.free h) (Ok a)) where
       abbrev heap : Heap
       heap = left_of the_post.heap (call m.free the_post.heap)
 
@@ -169,7 +170,7 @@ module _ {m : Memory} {seats : List Seat} {made : List MadeArea} {files : FileLi
       plain-is = answered heap a the_post.heap (call m.free the_post.heap)
           (answers-beside m n the_module kept.queue (call m.free h) (Ok a) l the_post _ beside) refl
 
-      post-is : post_in n the_module kept.queue ≡ with_heap heap the_post
+      post-is : post_in n the_module kept.queue ≡ post_with_heap heap the_post
       post-is = post_in-calls m n the_module kept.queue (call m.free h) (Ok a) l (call m.free the_post.heap) (small w) (smaller w l.only) w.queue beside
 
       still : IsQueue n the_module kept.queue

@@ -12,7 +12,7 @@ use Rattle.rh_defs.specs.Slot as plain
 use Rattle.rh_defs.specs.Desk.{Desk, Task, task_pages, used_pages, named, edit_task, with_task, with_slot}
 use Rattle.rh_defs.specs.Laws.{IsDesk}
 use Rattle.rh_slot.specs.declared.slot.Slot.{Slot}
-use Rattle.rh_slot.specs.Area.{IsSlot, slot_in}
+use Rattle.rh_slot.specs.Area.{IsSlotIn, slot_in}
 use Rattle.rh_tasks.specs.declared.seat.Seat.{Seat}
 use Rattle.rh_tasks.specs.declared.made.MadeArea.{MadeArea}
 use Rattle.rh_tasks.specs.View.{Kept, task_of, desk_of, slot_area, made_area, Avoids, AreDistinct, HasSlot, IsAbove, HasAreas, IsWorld}
@@ -43,7 +43,7 @@ pub record Moves (m n : Memory) (s s' : Seat) (edit : Task → Task) : Type 0 wh
   pub task : task_of n s' ≡ edit (task_of m s)
 
 -- a slot's pages are its area's
-pub slot-pages : {m : Memory} {slot : Slot} → IsSlot m slot → length (bytes m slot.area.0) ≡ PAGE * plain.slot_pages (slot_in m slot)
+pub slot-pages : {m : Memory} {slot : Slot} → IsSlotIn m slot → length (bytes m slot.area.0) ≡ PAGE * plain.slot_pages (slot_in m slot)
 slot-pages is = is.spells.pages
 
 total-edited : (h : ℕ) (edit : Task → Task) (tasks : List Task) (t : Task) → find (λ (x : Task). x.handle == h) tasks ≡ Some t
@@ -135,7 +135,7 @@ module _ {m n : Memory} {seats : List Seat} {made : List MadeArea} {files : File
 
 -- a slot has changed in its area
 pub record Slid (m n : Memory) (slot : Slot) : Type 0 where
-  pub still : IsSlot n slot
+  pub still : IsSlotIn n slot
   pub only : OnlyArea m n slot.area.0
 
 module _ {m : Memory} {seats : List Seat} {made : List MadeArea} {files : FileList} {kept : Kept} {name : List ℕ} {slot : Slot}
@@ -149,8 +149,8 @@ module _ {m : Memory} {seats : List Seat} {made : List MadeArea} {files : FileLi
   pub found-named : named name (desk_of m seats made files kept) ≡ Ok (task_of m o.seat)
   found-named = named-is m made files kept o.found
 
-  pub owned : IsSlot m slot
-  owned = subst (IsSlot m) o.slot_is (all-at (HasSlot m) seats o.place o.seat w.areas.slots at)
+  pub owned : IsSlotIn m slot
+  owned = subst (IsSlotIn m) o.slot_is (all-at (HasSlot m) seats o.place o.seat w.areas.slots at)
 
   module _ {n : Memory} (slid : Slid m n slot) where
     moves : Moves m n o.seat o.seat (λ t. record t { slot = slot_in n slot })
@@ -158,7 +158,7 @@ module _ {m : Memory} {seats : List Seat} {made : List MadeArea} {files : FileLi
     moves = record {
       handle = refl;
       area = refl;
-      still = subst (IsSlot n) (sym o.slot_is) slid.still;
+      still = subst (IsSlotIn n) (sym o.slot_is) slid.still;
       only = (let P : Slot → Type 0 = λ x. OnlyArea m n x.area.0 in subst P (sym o.slot_is) slid.only);
       task = ap (λ (x : Slot). let t : Task = record (task_of m o.seat) { slot = slot_in n x } in t) o.slot_is;
     }

@@ -1,5 +1,6 @@
 -- The first world over a store whose areas were furnished.
-use Rattle.rh_tasks.proofs.Common.{◌≡◌, ℕ, ◌+◌, refl, ap, sym, subst, ◌∙◌, arith, [], ◌∷◌, None, Memory, FileList, Heap, empty_heap, page, used_pages, IsDesk}
+use Rattle.rh_tasks.proofs.Common.{◌≡◌, ℕ, ◌+◌, refl, ap, sym, subst, ◌∙◌, arith, [], ◌∷◌, None, Memory, FileList, Heap, empty_heap, page_size, used_pages}
+use Rattle.rh_tasks.proofs.Common.{IsDesk}
 use Rattle.rh_tasks.proofs.Common.{IsQueue, Chains, post_in, Kept, the_module, fixed_pages, scrap_of, desk_of, IsWorld}
 use Rattle.rh_defs.specs.Forms.{first_made}
 use Rattle.rh_defs.specs.Post as post
@@ -30,7 +31,7 @@ module _ {m : Memory} {pages : ℕ} (f : IsFurnished m pages) (files : FileList)
   unfolding fixed_pages
   areas = six f.zero f.two f.three f.four f.five
 
-  first_post : post_in m the_module queue ≡ record { seats = []; queued = []; heap = empty_heap page; next_ref = ref }
+  first_post : post_in m the_module queue ≡ record { seats = []; queued = []; heap = empty_heap page_size; next_ref = ref }
   first_post = post_in-starts m the_module ref ∙ ap (λ (h : Heap). let p : post.Post = record { seats = []; queued = []; heap = h; next_ref = ref } in p) f.heap
 
   pub first-desk : desk_of m [] [] files kept ≡ start_with pages files handle ref

@@ -1,7 +1,8 @@
 -- A fresh store whose first areas are opened one after the other.
 use Rattle.rh_tasks.proofs.Common.{◌≡◌, ◌≢◌, ℕ, ◌+◌, ◌/◌, ◌<◌, ◌≤◌, refl, ap, sym, subst, ◌∙◌, arith, List, [], length, inl, inr, Option, Some, None, IsNone}
 use Rattle.rh_tasks.proofs.Common.{IsSome, IsOk, IsErr, Ok, Err, Result, ◌↔◌, unwrap_or, cases_eq, Memory, IsOpen, OnlyArea, bytes, opened, grown, open_below}
-use Rattle.rh_tasks.proofs.Common.{Heap, empty_heap, page, open_below-opened, area-opened, OnlyArea-grown, length-grown, MAX_AREAS, PAGE, IsModule, heap_in}
+use Rattle.rh_tasks.proofs.Common.{Heap, empty_heap, page_size, open_below-opened, area-opened, OnlyArea-grown, length-grown, MAX_AREAS, PAGE, IsModule}
+use Rattle.rh_tasks.proofs.Common.{module_heap_in}
 use Rattle.rh_tasks.proofs.Common.{the_module, pages_at, Stay, pages-stay, count-stays}
 use Rattle.rh_defs.specs.Memory.{fresh}
 use Rattle.rh_defs.proofs.MemoryLaws.{area-fresh, free-fresh, pages-fresh, open_below-fresh, area-opened_same, free-opened, pages-opened, OnlyArea-both}
@@ -87,7 +88,7 @@ module _ {m n : Memory} {pages : ℕ} (o : AreOpened m 6 pages) (least : 1 ≤ p
   pub page-open : IsOpen n 1
   page-open = taken.opened
 
-  module _ {p : Memory} (only : OnlyArea n p 1) (still : IsModule p the_module) (heap : heap_in p the_module ≡ empty_heap page) where
+  module _ {p : Memory} (only : OnlyArea n p 1) (still : IsModule p the_module) (heap : module_heap_in p the_module ≡ empty_heap page_size) where
     all : OnlyArea m p 1
     all = OnlyArea-both m n p 1 taken only
 

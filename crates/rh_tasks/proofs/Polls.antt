@@ -1,7 +1,7 @@
 -- A poll: a message is taken, and then handled.
 use Rattle.rh_tasks.proofs.Common.{◌≡◌, ℕ, ◌<◌, refl, ap, sym, subst, ◌∙◌, arith, List, length, Option, None, Some, Ok, map, option_map, length-map, Memory}
 use Rattle.rh_tasks.proofs.Common.{FileList, EventCode, Message, Outcome, Reply, Parcel, post_poll, Desk, Task, with_delivered, IsReordered, with_queue}
-use Rattle.rh_tasks.proofs.Common.{Handled, Granted, Answer, Seat, MadeArea, Kept, task_of, desk_of, IsWorld, Found, IsAt, IsFor, begins, sits, named-is}
+use Rattle.rh_tasks.proofs.Common.{Handled, Granted, Answer, Seat, MadeArea, Kept, task_of, desk_of, IsWorld, FoundSeat, IsAt, IsFor, begins, sits, named-is}
 use Rattle.rh_tasks.proofs.Common.{mapped-at, reordered-at}
 use Rattle.rh_defs.specs.declared.message.Event.{Event}
 use Rattle.rh_defs.specs.declared.reply.Reply.TheVariants as reply
@@ -49,7 +49,7 @@ handled-too d e t p code r last outcome q h =
 -- ---- the command
 
 module _ {m : Memory} {seats : List Seat} {made : List MadeArea} {files : FileList} {kept : Kept} {name : List ℕ} {i : ℕ} {s : Seat}
-    (w : IsWorld m seats made files kept) (f : Found name seats i s) where
+    (w : IsWorld m seats made files kept) (f : FoundSeat name seats i s) where
   abbrev d : Desk
   d = desk_of m seats made files kept
 

@@ -1,7 +1,8 @@
 -- The post of a world, which its queue and its module area spell.
 use Rattle.rh_tasks.proofs.Common.{◌≡◌, ◌≢◌, ℕ, zero, suc, ◌*◌, ◌<◌, refl, ap, sym, subst, ◌∙◌, arith, List, [], ◌∷◌, ◌++◌, length, map, None, map-append}
-use Rattle.rh_tasks.proofs.Common.{length-map, PAGE, Memory, OnlyArea, bytes, FileList, Heap, Parcel, Post, Desk, Task, heap_in, Chains, HasEntry, SpellsPost}
-use Rattle.rh_tasks.proofs.Common.{joined, post_in, Seat, MadeArea, Kept, the_module, task_of, desk_of, Avoids, IsWorld, Sits}
+use Rattle.rh_tasks.proofs.Common.{length-map, PAGE, Memory, OnlyArea, bytes, FileList, Heap, Parcel, Post, Desk, Task, module_heap_in, Chains, HasEntry}
+use Rattle.rh_tasks.proofs.Common.{SpellsPostIn}
+use Rattle.rh_tasks.proofs.Common.{joined_chains, post_in, Seat, MadeArea, Kept, the_module, task_of, desk_of, Avoids, IsWorld, Sits}
 use Rattle.rh_defs.specs.Blocks.{poked}
 use Rattle.rh_defs.specs.Bytes.{word_bytes}
 use Rattle.rh_defs.specs.Post.{Seat as PostSeat, post_join}
@@ -9,8 +10,8 @@ use Rattle.rh_defs.specs.Desk.{module_pages}
 use Rattle.rh_defs.specs.Laws.{seat_handles, task_handles}
 use Rattle.rh_wimp.specs.declared.chain.Entry.{Entry}
 use Rattle.rh_wimp.specs.Calls.{handles_of}
-use Rattle.rh_wimp.specs.Chains.{Row, entry_at, row_parcels}
-use Rattle.rh_wimp.specs.Laws.{IsSmall}
+use Rattle.rh_wimp.specs.Chains.{SeatRow, entry_at, row_parcels}
+use Rattle.rh_wimp.specs.Laws.{IsSmallModule}
 use Rattle.rh_wimp.specs.PostIn.{row_in, rows_in, seat_of, chains_of, parcels_of, unlinked, post_of}
 use Rattle.rh_wimp.proofs.PostCalls.{post_in-spelled}
 use Rattle.rh_tasks.proofs.Worlds.{rise-below}
@@ -21,20 +22,20 @@ unlinked-end : (ps : List Parcel) (h : Heap) → (unlinked ps h).end ≡ h.end
 unlinked-end [] h = refl
 unlinked-end (p ∷ ps) h = unlinked-end ps (poked p.block 0 (word_bytes 0) h)
 
-pub end-is : (m : Memory) (q : Chains) → (post_in m the_module q).heap.end ≡ (heap_in m the_module).end
+pub end-is : (m : Memory) (q : Chains) → (post_in m the_module q).heap.end ≡ (module_heap_in m the_module).end
 unfolding post_of
-end-is m q = unlinked-end (parcels_of (rows_in (heap_in m the_module) q)) (heap_in m the_module)
+end-is m q = unlinked-end (parcels_of (rows_in (module_heap_in m the_module) q)) (module_heap_in m the_module)
 
 -- ---- a handle more, with no messages
 
-abbrev new_row : ℕ → Row
+abbrev new_row : ℕ → SeatRow
 new_row h = record { handle = h; chain = []; held = None }
 
-more-chains : (h : ℕ) (rows : List Row) → chains_of (rows ++ new_row h ∷ []) ≡ chains_of rows
+more-chains : (h : ℕ) (rows : List SeatRow) → chains_of (rows ++ new_row h ∷ []) ≡ chains_of rows
 more-chains h [] = refl
 more-chains h (r ∷ rows) = ap (λ l. r.chain ++ l) (more-chains h rows)
 
-more-parcels : (h : ℕ) (rows : List Row) → parcels_of (rows ++ new_row h ∷ []) ≡ parcels_of rows
+more-parcels : (h : ℕ) (rows : List SeatRow) → parcels_of (rows ++ new_row h ∷ []) ≡ parcels_of rows
 more-parcels h [] = refl
 more-parcels h (r ∷ rows) = ap (λ l. row_parcels r ++ l) (more-parcels h rows)
 
@@ -46,12 +47,12 @@ same-post : {seats seats' : List PostSeat} {queued queued' : List Parcel} {heap 
     (let y : Post = record { seats = seats'; queued = queued'; heap = heap'; next_ref = ref } in y)
 same-post p q r = cc
 
-pub post-joins : (m : Memory) (q : Chains) (h : ℕ) → post_in m the_module (joined h q) ≡ post_join h (post_in m the_module q)
+pub post-joins : (m : Memory) (q : Chains) (h : ℕ) → post_in m the_module (joined_chains h q) ≡ post_join h (post_in m the_module q)
 unfolding post_of post_join
 post-joins m q h =
-    let heap = heap_in m the_module in
+    let heap = module_heap_in m the_module in
     let rows = rows_in heap q in
-    let e : rows_in heap (joined h q) ≡ rows ++ new_row h ∷ [] = map-append (row_in heap) q.entries (new_entry h ∷ []) in
+    let e : rows_in heap (joined_chains h q) ≡ rows ++ new_row h ∷ [] = map-append (row_in heap) q.entries (new_entry h ∷ []) in
     same-post (ap (map seat_of) e ∙ map-append seat_of rows (new_row h ∷ [])) (ap chains_of e ∙ more-chains h rows)
     (ap (λ l. unlinked (parcels_of l) heap) e ∙ ap (λ l. unlinked l heap) (more-parcels h rows))
 
@@ -63,7 +64,7 @@ entry-handles h (e ∷ es) = ap (λ l. e.handle ∷ l) (entry-handles h es)
 
 post-handles : (m : Memory) (q : Chains) → seat_handles (post_in m the_module q).seats ≡ handles_of q
 unfolding post_of
-post-handles m q = entry-handles (heap_in m the_module) q.entries
+post-handles m q = entry-handles (module_heap_in m the_module) q.entries
 
 task-handles : (m : Memory) (seats : List Seat) → task_handles (map (task_of m) seats) ≡ map (λ (s : Seat). s.handle) seats
 unfolding task_of
@@ -92,13 +93,13 @@ module _ {m : Memory} {seats : List Seat} {made : List MadeArea} {files : FileLi
   pub module-length : PAGE * module_pages d ≡ length (bytes m 1)
   module-length = omega (arith, end-is m kept.queue, w.areas.module_area.spells.whole, w.desk.post.heap.whole)
 
-  pub small : IsSmall m the_module
+  pub small : IsSmallModule m the_module
   small = omega (arith, module-length, w.desk.pages, w.desk.pool)
 
-  pub smaller : {n : Memory} → OnlyArea m n 1 → IsSmall n the_module
+  pub smaller : {n : Memory} → OnlyArea m n 1 → IsSmallModule n the_module
   smaller only = omega (arith, module-length, w.desk.pool, w.ledger, only.ledger)
 
-  pub is-post : SpellsPost m the_module kept.queue (post_in m the_module kept.queue)
+  pub is-post : SpellsPostIn m the_module kept.queue (post_in m the_module kept.queue)
   is-post = post_in-spelled m the_module kept.queue small w.queue
 
   -- the live handles are the tasks'

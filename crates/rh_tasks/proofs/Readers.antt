@@ -1,7 +1,7 @@
 -- What the readers give of a slot, and that it is small.
 use Rattle.rh_tasks.proofs.Common.{◌≡◌, ℕ, ◌+◌, ◌≤◌, ap, sym, ◌∙◌, arith, List, length, Option, Some, None, Ok, Err, IfSome, Result, Bool, ◌==◌, option_map}
 use Rattle.rh_tasks.proofs.Common.{Memory, bytes, NoBlock, SegmentItem, Granted, ◌>>=◌, found_or, outcome_of, result_or, Split, total, Heap, segment_at}
-use Rattle.rh_tasks.proofs.Common.{segment_item, IsCut, first_at-cuts, cut-total, IsSlot, slot_in}
+use Rattle.rh_tasks.proofs.Common.{segment_item, IsCut, first_at-cuts, cut-total, IsSlotIn, slot_in}
 use Rattle.std.specs.Result.{MatchResult}
 use Rattle.rh_defs.specs.Heap.{largest, free_bytes}
 use Rattle.rh_defs.specs.Slot as plain
@@ -62,7 +62,7 @@ unfolding plain.slot_size plain.slot_block
 size-within k n s e = size-by (λ _ b. b.anchor == k) (plain.flex_start s) s.blocks (plain.block_of k s) n
     (first_at-cuts plain.weight (λ _ b. b.anchor == k) (plain.flex_start s) s.blocks) e
 
-module _ {m : Memory} {slot : Slot} (is : IsSlot m slot) (small : length (bytes m slot.area.0) ≤ area_limit) where
+module _ {m : Memory} {slot : Slot} (is : IsSlotIn m slot) (small : length (bytes m slot.area.0) ≤ area_limit) where
   abbrev s : plain.Slot
   s = slot_in m slot
 

@@ -1,14 +1,14 @@
 -- Letters that a task sends.
 use Rattle.rh_tasks.proofs.Common.{◌≡◌, ℕ, refl, ap, sym, subst, ◌∙◌, List, Option, Some, None, Ok, Err, true, option_map, set, Memory, OnlyArea-self}
 use Rattle.rh_tasks.proofs.Common.{FileList, Letter, Refusal, Granted, ◌>>=◌, ◌>>◌, found_or, answer_of, left_of, in_range, Post, post_send, Desk, Task}
-use Rattle.rh_tasks.proofs.Common.{next_ref, with_task, with_post, send_letter, Answer, IsDesk, IsReordered, IsSlot, Answers, Chains, HasEntry, post_in, Seat}
-use Rattle.rh_tasks.proofs.Common.{MadeArea, Kept, kept_of, the_module, HasSlot, task_of, desk_of, shown_of, IsWorld, ScrapFile, Found, with_last, Sits}
+use Rattle.rh_tasks.proofs.Common.{next_ref, with_task, with_post, send_letter, Answer, IsDesk, IsReordered, IsSlotIn, Answers, Chains, HasEntry, post_in, Seat}
+use Rattle.rh_tasks.proofs.Common.{MadeArea, Kept, kept_of, the_module, HasSlot, task_of, desk_of, shown_of, IsWorld, ScrapFile, FoundSeat, with_last, Sits}
 use Rattle.rh_tasks.proofs.Common.{all-at, set_same, begins, ends, sits, named-is, free-is, granted-keeps, Moves}
 use Rattle.rh_defs.specs.declared.command.Command.TheVariants as command
 use Rattle.rh_defs.specs.declared.refusal.Refusal.TheVariants.{NothingSent}
 use Rattle.rh_defs.specs.declared.reply.Reply.TheVariants as reply
 use Rattle.rh_defs.specs.Commands.{repeat}
-use Rattle.rh_wimp.specs.Calls.{Leaves}
+use Rattle.rh_wimp.specs.Calls.{LeavesChains}
 use Rattle.rh_tasks.specs.declared.seat.SentLetter.{SentLetter}
 use Rattle.rh_tasks.specs.View.{last_of}
 use Rattle.rh_tasks.specs.declared.next.Next.{Next}
@@ -83,11 +83,11 @@ module _ {m : Memory} {seats : List Seat} {made : List MadeArea} {files : FileLi
   letter-refused a = ends _ (ap (λ free. post_send free letter post) (free-is w) ∙ answer-refused given (a post (is-post w)))
 
   module _ {n : Memory} {k : Chains} (ref : ℕ) (a : Answers m the_module kept.queue (λ p. answer_of (post_send m.free letter p)) (Ok ref))
-      (l : Leaves m n the_module kept.queue k (λ p. left_of p (post_send m.free letter p))) where
+      (l : LeavesChains m n the_module kept.queue k (λ p. left_of p (post_send m.free letter p))) where
     abbrev edit : Task → Task
     edit t = record t { last_sent = Some (letter, ref) }
 
-    has : IsSlot m s.slot
+    has : IsSlotIn m s.slot
     has = all-at (HasSlot m) seats i s w.areas.slots at
 
     pub last-moves : Moves m m s (with_last letter ref s) edit
@@ -112,7 +112,7 @@ module _ {m : Memory} {seats : List Seat} {made : List MadeArea} {files : FileLi
 -- ---- the command that sends it once more
 
 module _ {m : Memory} {seats : List Seat} {made : List MadeArea} {files : FileList} {kept : Kept} {name : List ℕ} {i : ℕ} {s : Seat}
-    (w : IsWorld m seats made files kept) (f : Found name seats i s) where
+    (w : IsWorld m seats made files kept) (f : FoundSeat name seats i s) where
   abbrev e : Desk
   e = desk_of m seats made files kept
 
@@ -140,7 +140,7 @@ module _ {m : Memory} {seats : List Seat} {made : List MadeArea} {files : FileLi
     repeat-refused a = repeat-is ∙ ends _ (letter-refused w (sits f) letter again-own a)
 
     module _ {n : Memory} {k : Chains} (ref : ℕ) (a : Answers m the_module kept.queue (λ p. answer_of (post_send m.free letter p)) (Ok ref))
-        (l : Leaves m n the_module kept.queue k (λ p. left_of p (post_send m.free letter p))) (ranged : in_range (command.Repeat name) ≡ true) where
+        (l : LeavesChains m n the_module kept.queue k (λ p. left_of p (post_send m.free letter p))) (ranged : in_range (command.Repeat name) ≡ true) where
       abbrev then : Desk
       then = letter_then w (sits f) letter again-own ref a l
 

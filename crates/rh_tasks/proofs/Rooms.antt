@@ -1,6 +1,7 @@
 -- A buffer and then an empty document are granted just where the pages that both take are free.
 use Rattle.rh_tasks.proofs.Common.{◌≡◌, ℕ, zero, suc, ◌+◌, ◌-◌, ◌≤◌, ◌<◌, Bool, true, false, ◌⊎◌, inl, inr, cond, refl, ap, sym, ◌∙◌, arith, List, [], ◌∷◌}
-use Rattle.rh_tasks.proofs.Common.{Option, Some, None, Ok, Err, is_some, ◌==◌, option_map, BadSize, NoRoom, Granted, ◌>>=◌, refuse_if, page, pages_for, zeros}
+use Rattle.rh_tasks.proofs.Common.{Option, Some, None, Ok, Err, is_some, ◌==◌, option_map, BadSize, NoRoom, Granted, ◌>>=◌, refuse_if, page_size, pages_for}
+use Rattle.rh_tasks.proofs.Common.{zeros}
 use Rattle.rh_tasks.proofs.Common.{Split, first_at, Heap, need, claim_growing, Slot, Flex, weight, flex_address, slot_length, slot_alloc, slot_claim}
 use Rattle.rh_tasks.proofs.Common.{slot_take_pages, flex_start, anchor_count, IsFreeAnchor, lt-true, lt-false}
 use Rattle.rh_defs.specs.declared.refusal.Refusal.TheVariants.{NoBudge}
@@ -28,7 +29,7 @@ claimed n s = with_placed (claim_growing n s.heap) s
 
 -- the pages of both
 abbrev pub both_pages : ℕ → Slot → ℕ
-both_pages n s = pages_for (slot_length s + round_up page (need n s.heap) + flex_weight 0) - slot_pages s
+both_pages n s = pages_for (slot_length s + round_up page_size (need n s.heap) + flex_weight 0) - slot_pages s
 
 pub claim-by_pages : (free n : ℕ) (s : Slot) → slot_claim free n s ≡ (slot_take_pages n s >>= (λ _. where_free free (claimed n s) (pages_for (need n s.heap))))
 unfolding slot_claim slot_take_pages ◌>>=◌ refuse_if

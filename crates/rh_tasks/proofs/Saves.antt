@@ -3,8 +3,9 @@ use Rattle.rh_tasks.proofs.Common.{◌≡◌, ℕ, zero, suc, ◌<◌, Bool, tru
 use Rattle.rh_tasks.proofs.Common.{find, map, nat_lt, nat_le, ◌==◌, ◌||◌, ◌&&◌, Option, list_any, position, get_or, set, nat_tests, Memory, OnlyArea-self}
 use Rattle.rh_tasks.proofs.Common.{FileList, Letter, Refusal, NoName, NoTask, Busy, Granted, ◌>>=◌, ◌>>◌, refuse_if, found_or, answer_of, left_of, in_range}
 use Rattle.rh_tasks.proofs.Common.{post_send, is_full, Desk, Task, next_ref, edit_task, idle_block, named, with_task, with_sending, send_letter, Answer}
-use Rattle.rh_tasks.proofs.Common.{IsDesk, IsReordered, IsSlot, slot_in, Answers, Chains, HasEntry, Seat, MadeArea, Kept, the_module, HasSlot, is_named, Moves}
-use Rattle.rh_tasks.proofs.Common.{task_of, desk_of, IsWorld, Found, looked, with_last, source_block, all-at, begins, ends, sits, named-is, granted-keeps}
+use Rattle.rh_tasks.proofs.Common.{IsDesk, IsReordered, IsSlotIn, slot_in, Answers, Chains, HasEntry, Seat, MadeArea, Kept, the_module, HasSlot, is_named}
+use Rattle.rh_tasks.proofs.Common.{Moves}
+use Rattle.rh_tasks.proofs.Common.{task_of, desk_of, IsWorld, FoundSeat, looked, with_last, source_block, all-at, begins, ends, sits, named-is, granted-keeps}
 use Rattle.std.specs.List.{list_all}
 use Rattle.rh_defs.proofs.MessageLaws.{name_is}
 use Rattle.rh_defs.specs.Forms.{is_graphic, is_leaf}
@@ -17,7 +18,7 @@ use Rattle.rh_defs.specs.Sender as sender
 use Rattle.rh_defs.specs.Slot as plain
 use Rattle.rh_defs.specs.Desk.{has_name}
 use Rattle.rh_defs.specs.Commands.{save}
-use Rattle.rh_wimp.specs.Calls.{Leaves}
+use Rattle.rh_wimp.specs.Calls.{LeavesChains}
 use Rattle.rh_tasks.proofs.Finding.{find-named, nobody-named}
 use Rattle.rh_tasks.proofs.Sends.{desk_then, sent-alike, sent-world}
 use Rattle.rh_tasks.proofs.Repeats.{from-live, letter-refused, letter_then, letter-sent, ref-is}
@@ -74,14 +75,14 @@ get_or-any (x ∷ xs) zero a b inside = refl
 get_or-any (x ∷ xs) (suc i) a b inside = get_or-any xs i a b (omega arith)
 
 -- a seat that was found, read once more
-pub again-found : {name : List ℕ} {seats : List Seat} {i : ℕ} {s t : Seat} → Found name seats i s → get_or seats i t ≡ t → Found name seats i t
+pub again-found : {name : List ℕ} {seats : List Seat} {i : ℕ} {s t : Seat} → FoundSeat name seats i s → get_or seats i t ≡ t → FoundSeat name seats i t
 again-found f is = record { at = f.at; is = is }
 
-pub again-same : {name : List ℕ} {seats : List Seat} {i : ℕ} {s t : Seat} → Found name seats i s → Found name seats i t → s ≡ t
+pub again-same : {name : List ℕ} {seats : List Seat} {i : ℕ} {s t : Seat} → FoundSeat name seats i s → FoundSeat name seats i t → s ≡ t
 again-same {name} {seats} {i} {s} {t} f g = sym f.is ∙ get_or-any seats i s t (sits f).inside ∙ g.is
 
 pub again-given : {B : Type 0} (look : Task → Granted B) (m : Memory) {name : List ℕ} {seats : List Seat} {i : ℕ} {s t : Seat} {b : Granted B}
-    → Found name seats i s → Found name seats i t → look (task_of m s) ≡ b → look (task_of m t) ≡ b
+    → FoundSeat name seats i s → FoundSeat name seats i t → look (task_of m s) ≡ b → look (task_of m t) ≡ b
 again-given look m f g e = ap (λ x. look (task_of m x)) (sym (again-same f g)) ∙ e
 
 -- ---- behind the look at the source
@@ -130,7 +131,7 @@ module _ {m : Memory} {seats : List Seat} {made : List MadeArea} {files : FileLi
   -- what is done with a task and a size
   abbrev then_to : Task → ℕ → Task → Granted Answer
   then_to t n r = send_letter (save_letter t.handle r.handle n leaf) d
-      >>= (λ sent. Ok (with_sending t.handle (sender.offered (next_ref d) r.handle k) sent, reply.Sent (next_ref d)))
+      >>= (λ sent. Ok (with_sending t.handle (sender.sending_offered (next_ref d) r.handle k) sent, reply.Sent (next_ref d)))
 
   abbrev then_sized : Task → ℕ → Granted Answer
   then_sized t n = found_or (find (has_name to) d.tasks) NoTask >>= then_to t n
@@ -139,7 +140,7 @@ module _ {m : Memory} {seats : List Seat} {made : List MadeArea} {files : FileLi
   unfolding save named
   save-stopped name e = look-refused (found_or (find (has_name name) d.tasks) NoName) k then_sized e
 
-  module _ {name : List ℕ} {i : ℕ} {s : Seat} (f : Found name seats i s) (n : ℕ) (given : source_block k (task_of m s) ≡ Ok n) where
+  module _ {name : List ℕ} {i : ℕ} {s : Seat} (f : FoundSeat name seats i s) (n : ℕ) (given : source_block k (task_of m s) ≡ Ok n) where
     save-sized : save d name k to leaf ≡ then_sized (task_of m s) n
     unfolding save
     save-sized = begins _ (named-is m made files kept f) (behind-given (idle_block k (task_of m s)) (λ b. length b.here.bytes)
@@ -157,7 +158,7 @@ module _ {m : Memory} {seats : List Seat} {made : List MadeArea} {files : FileLi
         no-task None e = refl
         no-task (Some t) e = absurd cc
 
-    module _ {j h : ℕ} {x : Seat} (there : Found to seats j x) (is : x.handle ≡ h) where
+    module _ {j h : ℕ} {x : Seat} (there : FoundSeat to seats j x) (is : x.handle ≡ h) where
       abbrev pub letter : Letter
       letter = save_letter s.handle h n leaf
 
@@ -170,7 +171,7 @@ module _ {m : Memory} {seats : List Seat} {made : List MadeArea} {files : FileLi
 
       abbrev then_from : ℕ → Granted Answer
       then_from r = send_letter (save_letter s.handle r n leaf) d
-          >>= (λ sent. Ok (with_sending s.handle (sender.offered (next_ref d) r k) sent, reply.Sent (next_ref d)))
+          >>= (λ sent. Ok (with_sending s.handle (sender.sending_offered (next_ref d) r k) sent, reply.Sent (next_ref d)))
 
       save-is : save d name k to leaf ≡ then_from h
       unfolding task_of
@@ -180,14 +181,15 @@ module _ {m : Memory} {seats : List Seat} {made : List MadeArea} {files : FileLi
       save-refused a = save-is ∙ ends _ (letter-refused w (sits f) letter refl a)
 
       module _ {p : Memory} {q : Chains} (ref : ℕ) (a : Answers m the_module kept.queue (λ p. answer_of (post_send m.free letter p)) (Ok ref))
-          (l : Leaves m p the_module kept.queue q (λ p. left_of p (post_send m.free letter p))) (ranged : in_range (command.Save name k to leaf) ≡ true) where
+          (l : LeavesChains m p the_module kept.queue q (λ p. left_of p (post_send m.free letter p)))
+          (ranged : in_range (command.Save name k to leaf) ≡ true) where
         abbrev pub saved_seat : Seat
-        saved_seat = record (with_last letter ref s) { sending = sender.offered ref h k s.sending }
+        saved_seat = record (with_last letter ref s) { sending = sender.sending_offered ref h k s.sending }
 
         abbrev edit : Task → Task
-        edit t = record t { last_sent = Some (letter, ref); sending = sender.offered ref h k t.sending }
+        edit t = record t { last_sent = Some (letter, ref); sending = sender.sending_offered ref h k t.sending }
 
-        has : IsSlot m s.slot
+        has : IsSlotIn m s.slot
         has = all-at (HasSlot m) seats i s w.areas.slots (sits f)
 
         moves : Moves m m s saved_seat edit
@@ -200,16 +202,16 @@ module _ {m : Memory} {seats : List Seat} {made : List MadeArea} {files : FileLi
         abbrev then : Desk
         then = desk_then w (sits f) moves l kept.scrap w.scrap
 
-        opened : with_sending s.handle (sender.offered ref h k) sent ≡ then
+        opened : with_sending s.handle (sender.sending_offered ref h k) sent ≡ then
         unfolding with_task
         opened = ap (λ (tasks : List Task). let y : Desk = record sent { tasks = tasks } in y)
-            (edit-twice s.handle (λ t. record t { last_sent = Some (letter, ref) }) (λ t. record t { sending = sender.offered ref h k t.sending })
+            (edit-twice s.handle (λ t. record t { last_sent = Some (letter, ref) }) (λ t. record t { sending = sender.sending_offered ref h k t.sending })
             (λ t. refl) (map (task_of m) seats))
 
         saved : save d name k to leaf ≡ Ok (then, reply.Sent ref)
         saved =
             save-is ∙ begins _ (letter-sent w (sits f) letter refl ref a l)
-            (ap (λ r. let y : Granted Answer = Ok (with_sending s.handle (sender.offered r h k) sent, reply.Sent r) in y)
+            (ap (λ r. let y : Granted Answer = Ok (with_sending s.handle (sender.sending_offered r h k) sent, reply.Sent r) in y)
             (sym (ref-is w (sits f) letter refl ref a l))
             ∙ ap (λ (y : Desk). let z : Granted Answer = Ok (y, reply.Sent ref) in z) opened)
 

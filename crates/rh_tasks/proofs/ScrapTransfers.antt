@@ -1,7 +1,7 @@
 -- Transfers by way of the scrap file, on desks.
 use Rattle.rh_tasks.proofs.Common.{◌≡◌, ℕ, ◌+◌, ◌-◌, ◌*◌, ◌<◌, ◌≤◌, Bool, true, false, refl, ap, sym, subst, ◌∙◌, arith, List, length, Option, Some, None}
 use Rattle.rh_tasks.proofs.Common.{Result, Ok, Err, IsOk, is_some, not, nat_lt, ◌==◌, slice_get, slice_index, nat_tests, slice_get_within, Letter, Refusal}
-use Rattle.rh_tasks.proofs.Common.{Busy, NoRoom, BadSize, Outcome, Sending, Granted, ◌>>=◌, ◌>>◌, refuse_if, or_else, Split, page, Slot, Flex, slot_block}
+use Rattle.rh_tasks.proofs.Common.{Busy, NoRoom, BadSize, Outcome, Sending, Granted, ◌>>=◌, ◌>>◌, refuse_if, or_else, Split, page_size, Slot, Flex, slot_block}
 use Rattle.rh_tasks.proofs.Common.{slot_size, slot_put, Parcel, Post, post_send, post_send_pages, Desk, Task, Scrap, next_ref, free_pages, with_task}
 use Rattle.rh_tasks.proofs.Common.{with_slot, with_sending, with_taking, with_post, send_letter, IsDesk, IsReordered, Handled, ignored, refused}
 use Rattle.rh_tasks.proofs.Common.{scrap_shortage, wider, appended, grant-holds, Shown, IsAt, Sends, begins, ends, past, stops, lt-true, lt-false}
@@ -107,7 +107,7 @@ appended-at d e i t k xs is at given = go (slot_block k t.slot) _ given
 
 module _ (d : Desk) (i : ℕ) (t : Task) (is : IsDesk d) (at : IsAt i t d) (m : Parcel) (q : Asked) (n : ℕ) (letter : Letter)
     (same : letter ≡ load_ack_letter t.handle m n) where
-  told : {e : Desk} → send_letter letter d ≡ Ok e → loaded d t m q n ≡ (with_taking t.handle (receiver.loaded q n) e, outcome.Loaded n)
+  told : {e : Desk} → send_letter letter d ≡ Ok e → loaded d t m q n ≡ (with_taking t.handle (receiver.taking_loaded q n) e, outcome.Loaded n)
   unfolding loaded ◌>>=◌ or_else
   told h = let g = ap (λ l. send_letter l d) (sym same) ∙ h in rw g refl
 
@@ -116,14 +116,14 @@ module _ (d : Desk) (i : ℕ) (t : Task) (is : IsDesk d) (at : IsAt i t d) (m : 
   untold h = let g = ap (λ l. send_letter l d) (sym same) ∙ h in rw g refl
 
   pub loaded-sent : {mid new : Desk} → ((e : Desk) × ((send_letter letter d ≡ Ok e) × IsReordered e mid))
-      → ((u : Task) → IsAt i u mid → new ≡ with_taking u.handle (receiver.loaded q n) mid)
+      → ((u : Task) → IsAt i u mid → new ≡ with_taking u.handle (receiver.taking_loaded q n) mid)
       → (outcome.Loaded n ≡ (loaded d t m q n).1) × IsReordered (loaded d t m q n).0 new
   loaded-sent {mid} {new} sent edited =
       let e : Desk = sent.0 in
       let s = sent-at d e i t letter is at (ap (λ (l : Letter). l.from) same) sent.1.0 in
       let u : Task = record t { last_sent = s.last } in
-      let now : new ≡ with_taking t.handle (receiver.loaded q n) mid = edited u (reordered-at e mid i u sent.1.1 s.at) in
-      as-after (told sent.1.0) (refl, subst (IsReordered (with_taking t.handle (receiver.loaded q n) e)) (sym now) (edit-alike t.handle _ sent.1.1))
+      let now : new ≡ with_taking t.handle (receiver.taking_loaded q n) mid = edited u (reordered-at e mid i u sent.1.1 s.at) in
+      as-after (told sent.1.0) (refl, subst (IsReordered (with_taking t.handle (receiver.taking_loaded q n) e)) (sym now) (edit-alike t.handle _ sent.1.1))
 
   pub loaded-failed : {r : Refusal} {mid new : Desk} → send_letter letter d ≡ Err r → mid ≡ d
       → ((u : Task) → IsAt i u mid → new ≡ with_taking u.handle (receiver.abandoned q n) mid)
@@ -359,11 +359,11 @@ module _ {d : Desk} {i : ℕ} {t : Task} {m : Parcel} {x : Sending} {n : ℕ} {l
       sent-areas : sent.0.areas ≡ first.areas
       sent-areas = (grant-holds (send_letter-keeps l first first-desk) sent.1.0).areas
 
-      pub second-room : n ≤ page * slice_index second.areas scrap_area
+      pub second-room : n ≤ page_size * slice_index second.areas scrap_area
       second-room =
           let areas : second.areas ≡ (wider (scrap_shortage n d) d).areas =
           ap (λ (x : Desk). x.areas) sent.1.1.rest ∙ sent-areas ∙ ap (λ (x : Desk). x.areas) b.widened in
-          subst (λ (a : List ℕ). n ≤ page * slice_index a scrap_area) (sym areas) (wider-room n d a.is)
+          subst (λ (a : List ℕ). n ≤ page_size * slice_index a scrap_area) (sym areas) (wider-room n d a.is)
 
       pub second-block : (v : Task) → IsAt i v second → slot_size x.anchor v.slot ≡ Ok n
       second-block v h = ap (λ (y : Task). slot_size x.anchor y.slot) (one-at second i v u h second-at) ∙ a.given

@@ -3,12 +3,13 @@ use Rattle.rh_tasks.proofs.Common.{◌≡◌, ℕ, ◌+◌, ◌-◌, ◌*◌, �
 use Rattle.rh_tasks.proofs.Common.{Ok, IsOk, is_some, replicate, slice_set, length-take, take_all, PAGE, part, length-part, part-drop, Memory, OnlyArea}
 use Rattle.rh_tasks.proofs.Common.{bytes, grown, length-grown, OnlyArea-self, OnlyArea-grown, FileList, Granted, no_answer, Split, pages_for, Letter}
 use Rattle.rh_tasks.proofs.Common.{post_send_pages, Flex, flex_address, slot_start, slot_block, slot_size, anchor_count}
-use Rattle.rh_tasks.proofs.Common.{flex_place, Desk, Task, Scrap, used_pages, free_pages, IsDesk, wider, scrap_shortage, appended, IsSlot, slot_in, Leaves}
+use Rattle.rh_tasks.proofs.Common.{flex_place, Desk, Task, Scrap, used_pages, free_pages, IsDesk, wider, scrap_shortage, appended, IsSlotIn, slot_in}
+use Rattle.rh_tasks.proofs.Common.{LeavesSlotIn}
 use Rattle.rh_tasks.proofs.Common.{Answers, Standing, Seat, MadeArea, ScrapFile, Kept, the_module, HasSlot, pages_at, fixed_pages, scrap_from, scrap_size}
 use Rattle.rh_tasks.proofs.Common.{scrap_of, slot_area, made_area, task_of, desk_of, shown_of, IsWorld, Shown, slot_append, IsAt, Becomes, Sits, cons, all-at}
 use Rattle.rh_tasks.proofs.Common.{avoids-below, Stay, pages-stay, tasks-stay, mades-stay, module-stays, post-stays, queue-stays, free-is, same-desk}
 use Rattle.std.proofs.lemmas.List.{take-append-le}
-use Rattle.rh_defs.specs.Bytes.{put}
+use Rattle.rh_defs.specs.Bytes.{with_part}
 use Rattle.rh_defs.proofs.BytesLaws.{length-put, part-put}
 use Rattle.rh_defs.specs.Memory.{with_bytes}
 use Rattle.rh_defs.proofs.MemoryLaws.{bytes-with_bytes, bytes-grown, OnlyArea-with_bytes}
@@ -118,7 +119,7 @@ module _ {m : Memory} {seats : List Seat} {made : List MadeArea} {files : FileLi
   abbrev pub z : plain.Slot
   z = slot_in m s.slot
 
-  has : IsSlot m s.slot
+  has : IsSlotIn m s.slot
   has = all-at (HasSlot m) seats i s w.areas.slots at
 
   pub source : Sized k size z
@@ -157,24 +158,24 @@ module _ {m : Memory} {seats : List Seat} {made : List MadeArea} {files : FileLi
 
     module _ (room : size ≤ length (bytes m 5)) (whole : length (bytes m 5) % PAGE ≡ 0) where
       abbrev pub filled : Memory
-      filled = with_bytes m 5 (put (bytes m 5) 0 source_bytes)
+      filled = with_bytes m 5 (with_part (bytes m 5) 0 source_bytes)
 
       abbrev pub file : Option ScrapFile
       file = Some (record { load = load; size = size })
 
-      bytes-then : bytes filled 5 ≡ put (bytes m 5) 0 source_bytes
-      bytes-then = bytes-with_bytes m 5 (put (bytes m 5) 0 source_bytes)
+      bytes-then : bytes filled 5 ≡ with_part (bytes m 5) 0 source_bytes
+      bytes-then = bytes-with_bytes m 5 (with_part (bytes m 5) 0 source_bytes)
 
-      length-same : length (put (bytes m 5) 0 source_bytes) ≡ length (bytes m 5)
+      length-same : length (with_part (bytes m 5) 0 source_bytes) ≡ length (bytes m 5)
       length-same = length-put (bytes m 5) 0 source_bytes
 
       only : OnlyArea m filled 5
-      only = OnlyArea-with_bytes m 5 (put (bytes m 5) 0 source_bytes) length-same
+      only = OnlyArea-with_bytes m 5 (with_part (bytes m 5) 0 source_bytes) length-same
 
       first-are : take size (bytes filled 5) ≡ source.cut.here.bytes
       first-are =
           ap (take size) bytes-then
-          ∙ sym (part-drop (put (bytes m 5) 0 source_bytes) 0 size (omega (arith, room, length-same)))
+          ∙ sym (part-drop (with_part (bytes m 5) 0 source_bytes) 0 size (omega (arith, room, length-same)))
           ∙ part-put (bytes m 5) 0 source_bytes size (sym (length-part (bytes m s.slot.area.0) (address - 32768) size)) (omega (arith, room))
           ∙ bytes-are
 
@@ -204,7 +205,7 @@ scrap-part m (Some f) file fits e =
 
 pub scrap-appended : {m n : Memory} {seats : List Seat} {made : List MadeArea} {files : FileList} {kept : Kept} {i : ℕ} {s : Seat} {old : Shown}
     (w : IsWorld m seats made files kept) (at : Sits seats i s) (view : shown_of m seats made files kept ≡ old) (k : ℕ) (r : Granted (Unit {0}))
-    → Leaves m n s.slot (no_answer (slot_append m.free k (part (bytes m 5) 0 (scrap_size kept.scrap)) (slot_in m s.slot))) r
+    → LeavesSlotIn m n s.slot (no_answer (slot_append m.free k (part (bytes m 5) 0 (scrap_size kept.scrap)) (slot_in m s.slot))) r
     → (t : Task) (file : Scrap) → IsAt i t old.desk → old.desk.scrap ≡ Some file
     → Becomes (appended old.desk t k file.bytes) old (shown_of n seats made files kept) r
 scrap-appended {m} {n} {seats} {made} {files} {kept} {i} {s} {old} w at view k r l t file there is =

@@ -1,6 +1,6 @@
 -- The records of the task at a place, edited.
 use Rattle.rh_tasks.proofs.Common.{◌≡◌, ℕ, ◌<◌, refl, ap, sym, subst, arith, false, ◌∙◌, List, length, map, get_or, set, length-map, Memory, OnlyArea-self}
-use Rattle.rh_tasks.proofs.Common.{FileList, Outgoing, Incoming, is_going, is_full, Desk, Task, with_sending, with_taking, IsDesk, IsSlot, Seat, MadeArea}
+use Rattle.rh_tasks.proofs.Common.{FileList, Outgoing, Incoming, is_going, is_full, Desk, Task, with_sending, with_taking, IsDesk, IsSlotIn, Seat, MadeArea}
 use Rattle.rh_tasks.proofs.Common.{Kept, HasSlot, task_of, desk_of, IsWorld, IsAt, Sits, all-at, mapped-at, mapped-is, Moves, moved-desk, moved-world}
 use Rattle.rh_defs.proofs.Desks.{with_sending-keeps, with_taking-keeps}
 
@@ -14,7 +14,7 @@ module _ {m : Memory} {seats : List Seat} {made : List MadeArea} {files : FileLi
   sits-in inside is = record { inside = omega (arith, inside, length-map seats (task_of m)); is = is }
 
   module _ {i : ℕ} {s : Seat} (at : Sits seats i s) where
-    has : IsSlot m s.slot
+    has : IsSlotIn m s.slot
     has = all-at (HasSlot m) seats i s w.areas.slots at
 
     -- the task there

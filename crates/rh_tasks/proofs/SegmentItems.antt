@@ -11,7 +11,7 @@ use Rattle.rh_defs.specs.Questions.{segment_items_from}
 use Rattle.rh_heap.specs.declared.layout.Segment.{Segment}
 use Rattle.rh_heap.specs.Image.{listed}
 use Rattle.rh_heap.specs.Listed.{from_cut, segments_from}
-use Rattle.rh_tasks.specs.Items.{placed_item, IsSmall}
+use Rattle.rh_tasks.specs.Items.{placed_item, IsSmallSegment}
 use Rattle.rh_tasks.specs.Lists.{items_at}
 use Rattle.rh_store.specs.Limits.{area_limit}
 
@@ -34,31 +34,31 @@ items_from start place h =
 
 -- ---- they are small
 
-small_listed : (place : ℕ) (gs : List heap.Segment) → place + total size_of gs ≤ area_limit → AllByRecursion IsSmall (listed place gs)
+small_listed : (place : ℕ) (gs : List heap.Segment) → place + total size_of gs ≤ area_limit → AllByRecursion IsSmallSegment (listed place gs)
 small_listed place [] l = tt
 small_listed place (Used bytes ∷ gs) l = ((omega arith, omega arith), small_listed (place + (4 + length bytes)) gs (omega arith))
 small_listed place (Hole n ∷ gs) l = ((omega arith, omega arith), small_listed (place + n) gs (omega arith))
 
-small_taken : (n : ℕ) (xs : List Segment) → AllByRecursion IsSmall xs → AllByRecursion IsSmall (take n xs)
+small_taken : (n : ℕ) (xs : List Segment) → AllByRecursion IsSmallSegment xs → AllByRecursion IsSmallSegment (take n xs)
 small_taken zero xs all = tt
 small_taken (suc n) [] all = tt
 small_taken (suc n) (x ∷ xs) all = (all.0, small_taken n xs all.1)
 
 small_cut : (place : ℕ) (h : Heap) (o : Option (Split heap.Segment)) → IfSome o (IsCut size_of (λ q g. place == q) first_place h.segments)
-    → base h ≤ area_limit → AllByRecursion IsSmall (listed place (from_cut o))
+    → base h ≤ area_limit → AllByRecursion IsSmallSegment (listed place (from_cut o))
 small_cut place h None c l = tt
 small_cut place h (Some cut) c l =
     let same : place ≡ first_place + total size_of cut.before = eqb-true _ _ c.passes in
     small_listed place (cut.here ∷ cut.after) (omega (arith, same, cut-total c))
 
-pub small_from : (place : ℕ) (h : Heap) → base h ≤ area_limit → AllByRecursion IsSmall (segments_from place h)
+pub small_from : (place : ℕ) (h : Heap) → base h ≤ area_limit → AllByRecursion IsSmallSegment (segments_from place h)
 small_from place h l =
     small_taken SEGMENTS_AT_ONCE (listed place (from_cut (segment_at place h)))
     (small_cut place h (segment_at place h) (first_at-cuts size_of (λ q g. place == q) first_place h.segments) l)
 
 -- ---- one by one
 
-pub is_small : (xs : List Segment) (i : ℕ) (d : Segment) → AllByRecursion IsSmall xs → i < length xs → IsSmall (get_or xs i d)
+pub is_small : (xs : List Segment) (i : ℕ) (d : Segment) → AllByRecursion IsSmallSegment xs → i < length xs → IsSmallSegment (get_or xs i d)
 is_small [] i d all l = absurd (omega arith)
 is_small (y ∷ xs) zero d all l = all.0
 is_small (y ∷ xs) (suc i) d all l = is_small xs i d all.1 (omega arith)

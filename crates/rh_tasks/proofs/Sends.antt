@@ -3,7 +3,7 @@ use Rattle.rh_tasks.proofs.Common.{◌≡◌, ℕ, ◌+◌, ◌≤◌, ap, ◌�
 use Rattle.rh_tasks.proofs.Common.{Task, Made, task_pages, used_pages, with_task, IsDesk, IsReordered, with_queue, Chains, post_in, Seat, MadeArea, ScrapFile}
 use Rattle.rh_tasks.proofs.Common.{Kept, the_module, scrap_size, scrap_of, slot_area, made_area, HasAreas, desk_of, task_of, made_of, IsWorld, Sits}
 use Rattle.rh_tasks.proofs.Common.{avoids-below, Stay, tasks-stay, mades-stay, scrap-stays, scrap-fits, same-desk, Moves, moved-desk}
-use Rattle.rh_wimp.specs.Calls.{Leaves}
+use Rattle.rh_wimp.specs.Calls.{LeavesChains}
 use Rattle.rh_wimp.proofs.PostCalls.{IsRequeued, post_in-requeued}
 use Rattle.rh_tasks.proofs.Posts.{smaller, is-post, module-length, end-is}
 use Rattle.rh_tasks.proofs.Fixed.{changed-areas, fixed-rest}
@@ -12,7 +12,7 @@ use Rattle.rh_tasks.proofs.Reorders.{desk-reordered}
 
 module _ {m n : Memory} {seats : List Seat} {made : List MadeArea} {files : FileList} {kept : Kept} {i : ℕ} {s t : Seat} {edit : Task → Task} {k : Chains}
     {next : Post → Post}
-    (w : IsWorld m seats made files kept) (at : Sits seats i s) (moves : Moves m m s t edit) (l : Leaves m n the_module kept.queue k next)
+    (w : IsWorld m seats made files kept) (at : Sits seats i s) (moves : Moves m m s t edit) (l : LeavesChains m n the_module kept.queue k next)
     (scrap : Option ScrapFile) (fits : scrap_size scrap ≤ length (bytes m 5)) where
   abbrev d : Desk
   d = desk_of m seats made files kept

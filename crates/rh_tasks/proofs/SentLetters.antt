@@ -3,7 +3,7 @@ use Rattle.rh_tasks.proofs.Common.{◌≡◌, ℕ, refl, ap, sym, ◌∙◌, Lis
 use Rattle.rh_tasks.proofs.Common.{Letter, Refusal, answer_of, left_of, post_send, Desk, Task, IsDesk, grant-holds, Answers, Chains, Seat, MadeArea, Kept}
 use Rattle.rh_tasks.proofs.Common.{the_module, task_of, desk_of, shown_of, IsWorld, with_last, Sends, Sits, set_same, mapped-is}
 use Rattle.rh_defs.proofs.Desks.{send_letter-keeps}
-use Rattle.rh_wimp.specs.Calls.{Leaves}
+use Rattle.rh_wimp.specs.Calls.{LeavesChains}
 use Rattle.rh_tasks.proofs.Places.{mapped-inside}
 use Rattle.rh_tasks.proofs.Sends.{sent-alike, sent-world}
 use Rattle.rh_tasks.proofs.Repeats.{last-moves, letter_then, letter-refused, letter-sent, ref-is}
@@ -33,7 +33,7 @@ module _ {m : Memory} {seats : List Seat} {made : List MadeArea} {files : FileLi
   shown-kept p q r = rw (p, q, r, set_same seats i s at) refl
 
   module _ (letter : Letter) (own : letter.from ≡ s.handle) {n : Memory} {k : Chains} (t : Seat)
-      (l : Leaves m n the_module kept.queue k (λ p. left_of p (post_send m.free letter p))) where
+      (l : LeavesChains m n the_module kept.queue k (λ p. left_of p (post_send m.free letter p))) where
     abbrev after : Kept
     after = record kept { queue = k }
 

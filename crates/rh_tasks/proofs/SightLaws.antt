@@ -3,8 +3,8 @@ use Rattle.rh_tasks.proofs.Common.{◌≡◌, ℕ, ◌+◌, ◌-◌, ◌<◌, �
 use Rattle.rh_tasks.proofs.Common.{Ok, Err, not, nat_lt, map, take, drop, slice_get, ok_or, ◌==◌, position, option_map, length-map, length-take, Memory}
 use Rattle.rh_tasks.proofs.Common.{bytes, FileList, Refusal, NoTask, BadRange, NotABlock, Granted, ◌>>=◌, ◌>>◌, refuse_if, found_or, Split, first_at, zeros}
 use Rattle.rh_tasks.proofs.Common.{Heap, Segment, Used, Hole, bytes_of, block_at, block_size, size_of, holds, Post, post_poll, Desk, next_ref, task_at}
-use Rattle.rh_tasks.proofs.Common.{module_start, block_items, heap_in, slot_in, post_in, Seat, MadeArea, ScrapFile, Kept, the_module, task_of, made_of}
-use Rattle.rh_tasks.proofs.Common.{desk_of, scrap_of, scrap_from, scrap_size, IsWorld, Found, segment_items_at, bytes_held, begins, ends, past, stops}
+use Rattle.rh_tasks.proofs.Common.{module_start, block_items, module_heap_in, slot_in, post_in, Seat, MadeArea, ScrapFile, Kept, the_module, task_of, made_of}
+use Rattle.rh_tasks.proofs.Common.{desk_of, scrap_of, scrap_from, scrap_size, IsWorld, FoundSeat, segment_items_at, bytes_held, begins, ends, past, stops}
 use Rattle.rh_tasks.proofs.Common.{lt-true, lt-false, named-is, Sits, mapped-at}
 use Rattle.std.proofs.lemmas.Option.{slice_get_past}
 use Rattle.rh_defs.specs.declared.sizes.TheConstants.{SEGMENTS_AT_ONCE}
@@ -19,7 +19,7 @@ use Rattle.rh_heap.specs.Listed.{from_cut}
 use Rattle.rh_wimp.specs.PostIn.{post_of}
 use Rattle.rh_wimp.proofs.BesideLaws.{off-message}
 use Rattle.rh_tasks.specs.Lists.{items_at}
-use Rattle.rh_tasks.specs.Sights.{blocks_in, file_of, module_shown, next_message, segments_in, slot_bytes}
+use Rattle.rh_tasks.specs.Sights.{blocks_in, scrap_file_of, module_shown, next_message, segments_in, slot_bytes}
 use Rattle.rh_tasks.proofs.ModuleCommands.{unmarked-is}
 use Rattle.rh_tasks.proofs.Posts.{is-post}
 use Rattle.rh_tasks.proofs.TransferBlocks.{SeatOf, a-task, no-task}
@@ -176,24 +176,24 @@ module _ {m : Memory} {seats : List Seat} {made : List MadeArea} {files : FileLi
 
   -- ---- the module area
 
-  pub module-items : (start place : ℕ) → items_at start place (heap_in m the_module) ≡ items_at start place d.post.heap
-  module-items start place = items-alike start place (heap_in m the_module) the_post.heap (is-post w).linked.shape
+  pub module-items : (start place : ℕ) → items_at start place (module_heap_in m the_module) ≡ items_at start place d.post.heap
+  module-items start place = items-alike start place (module_heap_in m the_module) the_post.heap (is-post w).linked.shape
 
   module _ (address : ℕ) (none : post_is_message (address - module_start) the_post ≡ false) where
     abbrev place : ℕ
     place = address - module_start
 
-    plain-bytes : block_bytes place (heap_in m the_module) ≡ block_bytes place the_post.heap
-    plain-bytes = (is-post w).linked.others place (off-message (heap_in m the_module) kept.queue the_post place (is-post w) none)
+    plain-bytes : block_bytes place (module_heap_in m the_module) ≡ block_bytes place the_post.heap
+    plain-bytes = (is-post w).linked.others place (off-message (module_heap_in m the_module) kept.queue the_post place (is-post w) none)
 
-    pub module-unsized : (offset n : ℕ) → block_bytes place (heap_in m the_module) ≡ None → module_shown d address offset n ≡ Err NotABlock
+    pub module-unsized : (offset n : ℕ) → block_bytes place (module_heap_in m the_module) ≡ None → module_shown d address offset n ≡ Err NotABlock
     unfolding module_shown
     module-unsized offset n e =
         ap (λ g. g >>= (λ b. refuse_if (nat_lt (length (bytes_of b.here)) (offset + n)) BadRange >> Ok
         (length (bytes_of b.here), take n (drop offset (bytes_of b.here))))) (unmarked-is address d none)
         ∙ none-there (block_at place the_post.heap) _ (block_at-bytes place the_post.heap ∙ sym plain-bytes ∙ e)
 
-    module _ (offset n : ℕ) (bs : List ℕ) (e : block_bytes place (heap_in m the_module) ≡ Some bs) where
+    module _ (offset n : ℕ) (bs : List ℕ) (e : block_bytes place (module_heap_in m the_module) ≡ Some bs) where
       abbrev given : List ℕ → Granted (ℕ × List ℕ)
       given l = refuse_if (nat_lt (length l) (offset + n)) BadRange >> Ok (length l, take n (drop offset l))
 
@@ -211,7 +211,7 @@ module _ {m : Memory} {seats : List Seat} {made : List MadeArea} {files : FileLi
 
   -- ---- messages and the scrap file
 
-  pub next-is : {name : List ℕ} {i : ℕ} {s : Seat} → Found name seats i s → next_message d name ≡ Ok (post_poll s.handle d.post).1
+  pub next-is : {name : List ℕ} {i : ℕ} {s : Seat} → FoundSeat name seats i s → next_message d name ≡ Ok (post_poll s.handle d.post).1
   unfolding next_message task_of
   next-is f = begins _ (named-is m made files kept f) refl
 
@@ -219,11 +219,11 @@ module _ {m : Memory} {seats : List Seat} {made : List MadeArea} {files : FileLi
   unfolding post_of
   ref-is = refl
 
-  pub scrap-seen : kept.scrap ≡ option_map file_of d.scrap
+  pub scrap-seen : kept.scrap ≡ option_map scrap_file_of d.scrap
   unfolding scrap_of
   scrap-seen = go kept.scrap w.scrap
     where
-      go : (o : Option ScrapFile) → scrap_size o ≤ length (bytes m 5) → o ≡ option_map file_of (option_map (scrap_from (bytes m 5)) o)
+      go : (o : Option ScrapFile) → scrap_size o ≤ length (bytes m 5) → o ≡ option_map scrap_file_of (option_map (scrap_from (bytes m 5)) o)
       go None l = refl
       go (Some file) l =
           let size : length (take file.size (bytes m 5)) ≡ file.size = omega (arith, length-take file.size (bytes m 5), l) in

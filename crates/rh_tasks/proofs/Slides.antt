@@ -1,6 +1,7 @@
 -- A call on the slot of the seat at a place.
 use Rattle.rh_tasks.proofs.Common.{◌≡◌, ℕ, ◌<◌, refl, ap, sym, subst, ◌∙◌, arith, List, length, Ok, Err, IfSome, get_or, set, length-map, Memory, FileList}
-use Rattle.rh_tasks.proofs.Common.{Refusal, Granted, Desk, Task, free_pages, with_slot, IsDesk, OnGrant, grant-holds, IsRoomed, IsSlot, slot_in, Leaves, Seat}
+use Rattle.rh_tasks.proofs.Common.{Refusal, Granted, Desk, Task, free_pages, with_slot, IsDesk, OnGrant, grant-holds, IsRoomed, IsSlotIn, slot_in, LeavesSlotIn}
+use Rattle.rh_tasks.proofs.Common.{Seat}
 use Rattle.rh_tasks.proofs.Common.{MadeArea, Shown, Kept, task_of, desk_of, IsWorld, IsAt, Sits, all-at, set_same, mapped-is, mapped-at, task-found, free-is}
 use Rattle.rh_tasks.proofs.Common.{Moves, Slid, moved-desk, moved-world, slid, granted}
 use Rattle.rh_defs.specs.Slot as plain
@@ -21,7 +22,7 @@ module _ {m : Memory} {seats : List Seat} {made : List MadeArea} {files : FileLi
   d = desk_of m seats made files kept
 
   -- the seat has a slot
-  pub seat-slot : IsSlot m s.slot
+  pub seat-slot : IsSlotIn m s.slot
   seat-slot = all-at (view.HasSlot m) seats i s w.areas.slots at
 
   -- the desk's task is the seat's
@@ -59,11 +60,11 @@ module _ {m : Memory} {seats : List Seat} {made : List MadeArea} {files : FileLi
     unfolding task_of
     call-is t e = ap (λ (x : Task). call (free_pages d) x.slot) (sym (seat-is t e)) ∙ ap (λ k. call k (slot_in m s.slot)) (free-is w)
 
-    pub slide-refused : {n : Memory} {r : Refusal} → Leaves m n s.slot (call m.free (slot_in m s.slot)) (Err r) → (t : Task) → IsAt i t d
+    pub slide-refused : {n : Memory} {r : Refusal} → LeavesSlotIn m n s.slot (call m.free (slot_in m s.slot)) (Err r) → (t : Task) → IsAt i t d
         → call (free_pages d) t.slot ≡ Err r
     slide-refused l t e = call-is t e ∙ refused l
 
-    module _ {n : Memory} {a : A} (l : Leaves m n s.slot (call m.free (slot_in m s.slot)) (Ok a)) where
+    module _ {n : Memory} {a : A} (l : LeavesSlotIn m n s.slot (call m.free (slot_in m s.slot)) (Ok a)) where
       pub slide-granted : (t : Task) → IsAt i t d → call (free_pages d) t.slot ≡ Ok (slot_in n s.slot, a)
       slide-granted t e = call-is t e ∙ granted l
 

@@ -1,6 +1,6 @@
 -- The commands on a task's slot, from what the slot's call leaves.
 use Rattle.rh_tasks.proofs.Common.{◌≡◌, ℕ, ◌∙◌, refl, sym, ap, List, None, Ok, Err, IsOk, true, false, list_any, Memory, FileList, Command, Refusal}
-use Rattle.rh_tasks.proofs.Common.{NotABlock, Reply, Granted, no_answer, in_range, Desk, idle_block, idle_buffer, Answer, change, slot_in, Leaves, Seat}
+use Rattle.rh_tasks.proofs.Common.{NotABlock, Reply, Granted, no_answer, in_range, Desk, idle_block, idle_buffer, Answer, change, slot_in, LeavesSlotIn, Seat}
 use Rattle.rh_tasks.proofs.Common.{MadeArea, Kept, task_of, desk_of, IsWorld, Owns, slid, granted, changed}
 use Rattle.rh_defs.specs.declared.reply.Reply.TheVariants as reply
 use Rattle.rh_defs.specs.Slot as plain
@@ -33,14 +33,14 @@ module _ {m : Memory} {seats : List Seat} {made : List MadeArea} {files : FileLi
     abbrev pub on_placed : Granted Answer
     on_placed = on_slot call placed_slot placed_reply name d
 
-    module _ {n : Memory} {a : ℕ} (l : Leaves m n slot (call m.free (slot_in m slot)) (Ok a)) where
+    module _ {n : Memory} {a : ℕ} (l : LeavesSlotIn m n slot (call m.free (slot_in m slot)) (Ok a)) where
       pub placed-done : on_placed ≡ Ok (desk_of n seats made files kept, reply.Block a)
       placed-done = slot-done call placed_slot placed_reply w o (slid l) (granted l) refl
 
       pub placed-world : (c : Command) → change d c ≡ on_placed → in_range c ≡ true → IsWorld n seats made files kept
       placed-world c same ranged = slot-world call placed_slot placed_reply w o (slid l) (granted l) refl c same ranged
 
-    pub placed-refused : {n : Memory} {r : Refusal} → Leaves m n slot (call m.free (slot_in m slot)) (Err r) → on_placed ≡ Err r
+    pub placed-refused : {n : Memory} {r : Refusal} → LeavesSlotIn m n slot (call m.free (slot_in m slot)) (Err r) → on_placed ≡ Err r
     placed-refused l = slot-refused call placed_slot placed_reply w o (refused l)
 
   -- a call on the anchor's block
@@ -51,14 +51,14 @@ module _ {m : Memory} {seats : List Seat} {made : List MadeArea} {files : FileLi
     block-is : on_block ≡ on_slot call same_slot done_reply name d
     block-is = idle-is call same_slot done_reply w o (idle_block k) idle
 
-    module _ {n : Memory} (l : Leaves m n slot (no_answer (call m.free (slot_in m slot))) (Ok tt)) where
+    module _ {n : Memory} (l : LeavesSlotIn m n slot (no_answer (call m.free (slot_in m slot))) (Ok tt)) where
       pub block-done : on_block ≡ Ok (desk_of n seats made files kept, reply.Done)
       block-done = block-is ∙ slot-done call same_slot done_reply w o (slid l) (changed l) refl
 
       pub block-world : (c : Command) → change d c ≡ on_block → in_range c ≡ true → IsWorld n seats made files kept
       block-world c same ranged = slot-world call same_slot done_reply w o (slid l) (changed l) refl c (same ∙ block-is) ranged
 
-    pub block-refused : {n : Memory} {r : Refusal} → Leaves m n slot (no_answer (call m.free (slot_in m slot))) (Err r) → on_block ≡ Err r
+    pub block-refused : {n : Memory} {r : Refusal} → LeavesSlotIn m n slot (no_answer (call m.free (slot_in m slot))) (Err r) → on_block ≡ Err r
     block-refused l = block-is ∙ slot-refused call same_slot done_reply w o (unchanged l)
 
   -- where no transfer has its buffer at an address, a look for a block there is refused as the call is
@@ -78,14 +78,14 @@ module _ {m : Memory} {seats : List Seat} {made : List MadeArea} {files : FileLi
     buffer-is : on_buffer ≡ on_slot call same_slot done_reply name d
     buffer-is = first-is call same_slot done_reply w o (idle_buffer address) (none-there address call idle none)
 
-    module _ {n : Memory} (l : Leaves m n slot (no_answer (call m.free (slot_in m slot))) (Ok tt)) where
+    module _ {n : Memory} (l : LeavesSlotIn m n slot (no_answer (call m.free (slot_in m slot))) (Ok tt)) where
       pub buffer-done : on_buffer ≡ Ok (desk_of n seats made files kept, reply.Done)
       buffer-done = buffer-is ∙ slot-done call same_slot done_reply w o (slid l) (changed l) refl
 
       pub buffer-world : (c : Command) → change d c ≡ on_buffer → in_range c ≡ true → IsWorld n seats made files kept
       buffer-world c same ranged = slot-world call same_slot done_reply w o (slid l) (changed l) refl c (same ∙ buffer-is) ranged
 
-    pub buffer-refused : {n : Memory} {r : Refusal} → Leaves m n slot (no_answer (call m.free (slot_in m slot))) (Err r) → on_buffer ≡ Err r
+    pub buffer-refused : {n : Memory} {r : Refusal} → LeavesSlotIn m n slot (no_answer (call m.free (slot_in m slot))) (Err r) → on_buffer ≡ Err r
     buffer-refused l = buffer-is ∙ slot-refused call same_slot done_reply w o (unchanged l)
 
   -- a call on a block of the C heap that answers its address
@@ -97,12 +97,12 @@ module _ {m : Memory} {seats : List Seat} {made : List MadeArea} {files : FileLi
     moved-is : on_moved ≡ on_slot call placed_slot placed_reply name d
     moved-is = first-is call placed_slot placed_reply w o (idle_buffer address) (none-there address call idle none)
 
-    module _ {n : Memory} {a : ℕ} (l : Leaves m n slot (call m.free (slot_in m slot)) (Ok a)) where
+    module _ {n : Memory} {a : ℕ} (l : LeavesSlotIn m n slot (call m.free (slot_in m slot)) (Ok a)) where
       pub moved-done : on_moved ≡ Ok (desk_of n seats made files kept, reply.Block a)
       moved-done = moved-is ∙ slot-done call placed_slot placed_reply w o (slid l) (granted l) refl
 
       pub moved-world : (c : Command) → change d c ≡ on_moved → in_range c ≡ true → IsWorld n seats made files kept
       moved-world c same ranged = slot-world call placed_slot placed_reply w o (slid l) (granted l) refl c (same ∙ moved-is) ranged
 
-    pub moved-refused : {n : Memory} {r : Refusal} → Leaves m n slot (call m.free (slot_in m slot)) (Err r) → on_moved ≡ Err r
+    pub moved-refused : {n : Memory} {r : Refusal} → LeavesSlotIn m n slot (call m.free (slot_in m slot)) (Err r) → on_moved ≡ Err r
     moved-refused l = moved-is ∙ slot-refused call placed_slot placed_reply w o (refused l)

@@ -2,7 +2,7 @@
 use Rattle.rh_tasks.proofs.Common.{◌≡◌, ◌⊎◌, inl, inr, ℕ, zero, suc, ◌+◌, ◌-◌, ◌<◌, ◌≤◌, Bool, true, false, refl, ap, sym, subst, ◌∙◌, arith, length, Option}
 use Rattle.rh_tasks.proofs.Common.{Some, None, Ok, IfSome, is_some, not, ◌&&◌, ◌||◌, nat_le, nat_lt, if◌then◌else◌, take, drop, part, Memory, bytes, total}
 use Rattle.rh_tasks.proofs.Common.{Split, Segment, bytes_of, Flex, weight, flex_start, flex_address, heap_start, heap_block_at, slot_block, holds, flex_place}
-use Rattle.rh_tasks.proofs.Common.{buffer_at, overlap, IsCut, first_at-cuts, IsSlot, slot_in, Standing, Sending, Task, IsPortion, lt-true}
+use Rattle.rh_tasks.proofs.Common.{buffer_at, overlap, IsCut, first_at-cuts, IsSlotIn, slot_in, Standing, Sending, Task, IsPortion, lt-true}
 use Rattle.std.proofs.lemmas.Bool.{leb-true}
 use borrow.Author.Tests.{ltb-false}
 use Rattle.rh_defs.specs.Pieces.{is_inside}
@@ -35,7 +35,7 @@ portioned {t} {x} {amount} {address} {n} m slot p e place none some = record {
   within = λ h. omega (arith, h, p.length_is);
 }
 
-module _ {m : Memory} {slot : Slot} {k count n place : ℕ} {source : Split Flex} (is : IsSlot m slot) (p : Portioned m slot k count n place source) where
+module _ {m : Memory} {slot : Slot} {k count n place : ℕ} {source : Split Flex} (is : IsSlotIn m slot) (p : Portioned m slot k count n place source) where
   range : 0 < n → Standing (bytes m slot.area.0) (take n (drop count source.here.bytes)) (flex_address (slot_in m slot) source.before + count - 32768) n
       (flex_place (slot_in m slot)) (length (bytes m slot.area.0))
   range h = flex-part m slot k count n source is p.block (p.within h)
@@ -101,7 +101,7 @@ held-low x n s e = go (is_some (flex_around x n s)) refl e
     go true q h = flex-low x n s (flex_around x n s) (first_at-cuts weight (λ place b. is_inside x n (place + 8) (length b.bytes)) (flex_start s) s.blocks) q
     go false q h = omega (arith, leb-true heap_start x (and-first (nat_le heap_start x) (is_some (block_around (x - heap_start) n s.heap)) h))
 
-module _ {m : Memory} {slot : Slot} {k count n place : ℕ} {source : Split Flex} (is : IsSlot m slot) (p : Portioned m slot k count n place source)
+module _ {m : Memory} {slot : Slot} {k count n place : ℕ} {source : Split Flex} (is : IsSlotIn m slot) (p : Portioned m slot k count n place source)
     (address room : ℕ) (fits : n ≤ room) (same : Bool) (yes : same ≡ true)
     (reach : (not (is_some (buffer_at address room (slot_in m slot)))
     && (not (holds address room (slot_in m slot)) || (same && overlap address room (flex_address (slot_in m slot) source.before + count) n))) ≡ false) where

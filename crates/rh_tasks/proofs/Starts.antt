@@ -1,7 +1,8 @@
 -- A task's beginning.
 use Rattle.rh_tasks.proofs.Common.{◌≡◌, ℕ, ◌+◌, ◌<◌, ◌≤◌, ◌^◌, Bool, true, false, refl, ap, sym, ◌∙◌, arith, List, [], ◌∷◌, ◌++◌, length, map, None, Ok, Err}
 use Rattle.rh_tasks.proofs.Common.{IsNone, nat_lt, list_any, length-map, Memory, OnlyArea, open_below, FileList, MAX_AREAS, Refusal, NoRoom, ◌>>=◌, refuse_if}
-use Rattle.rh_tasks.proofs.Common.{outcome_of, in_range, Desk, IsSlot, slot_in, IsQueue, joined, Seat, MadeArea, Kept, the_module, task_of, desk_of, is_named}
+use Rattle.rh_tasks.proofs.Common.{outcome_of, in_range, Desk, IsSlotIn, slot_in, IsQueue, joined_chains, Seat, MadeArea, Kept, the_module, task_of, desk_of}
+use Rattle.rh_tasks.proofs.Common.{is_named}
 use Rattle.rh_tasks.proofs.Common.{IsWorld, begins, ends, past, stops, granted-same, le-true, le-false, done-refused, free-is, few-made, granted-keeps}
 use Rattle.rh_defs.specs.declared.command.Manner.{Manner}
 use Rattle.rh_defs.specs.declared.command.Command.TheVariants as command
@@ -62,12 +63,12 @@ module _ {m : Memory} {seats : List Seat} {made : List MadeArea} {files : FileLi
             (ends _ (ap plain.slot_begin (free-is w) ∙ done-refused (plain.slot_begin m.free) e))))
 
         module _ {n : Memory} (slot : Slot) (is : slot_in n slot ≡ plain.new_slot) (begins_so : Ok tt ≡ outcome_of (plain.slot_begin m.free))
-            (none : IsNone (m.area slot.area.0)) (low : slot.area.0 < MAX_AREAS) (only : OnlyArea m n slot.area.0) (still : IsSlot n slot) where
+            (none : IsNone (m.area slot.area.0)) (low : slot.area.0 < MAX_AREAS) (only : OnlyArea m n slot.area.0) (still : IsSlotIn n slot) where
           abbrev seat : Seat
           seat = record { handle = kept.next.handle; name = name; buffer = buffer; manner = manner; slot = slot; sending = []; taking = []; last_sent = None }
 
           abbrev then : Kept
-          then = record kept { next = record kept.next { handle = kept.next.handle + 1 }; queue = joined kept.next.handle kept.queue }
+          then = record kept { next = record kept.next { handle = kept.next.handle + 1 }; queue = joined_chains kept.next.handle kept.queue }
 
           pub start-done : start_task d name buffer manner ≡ Ok (desk_of n (seats ++ seat ∷ []) made files then, reply.Started kept.next.handle)
           unfolding start_task task_of
@@ -85,7 +86,7 @@ module _ {m : Memory} {seats : List Seat} {made : List MadeArea} {files : FileLi
                 scrap = d.scrap;
               } in e) is)) refl))))
 
-          pub start-world : (IsQueue n the_module kept.queue → IsQueue n the_module (joined kept.next.handle kept.queue))
+          pub start-world : (IsQueue n the_module kept.queue → IsQueue n the_module (joined_chains kept.next.handle kept.queue))
               → in_range (command.Task name buffer manner) ≡ true → IsWorld n (seats ++ seat ∷ []) made files then
           start-world joins ranged = joined-world seat w none low only still (kept.next.handle + 1) joins
               (granted-keeps d _ (command.Task name buffer manner) (reply.Started kept.next.handle) start-done ranged w.desk)

@@ -106,16 +106,17 @@ module _ {m : Memory} {seats : List Seat} {made : List MadeArea} {files : FileLi
 
   -- ---- messages that came back
 
-  bounced : {last : Desk} {outcome : Outcome} {x : Option Sending} → x ≡ sender.on_bounce message.my_ref s.sending → As (fail_sending d t x) last outcome
-      → As (fail_sending d t (sender.on_bounce p.message.my_ref t.sending)) last outcome
+  bounced : {last : Desk} {outcome : Outcome} {x : Option Sending} → x ≡ sender.on_sending_bounce message.my_ref s.sending → As
+      (fail_sending d t x) last outcome
+      → As (fail_sending d t (sender.on_sending_bounce p.message.my_ref t.sending)) last outcome
   unfolding task_of
-  bounced {last} {outcome} q h = subst (λ x. As (fail_sending d t x) last outcome) (q ∙ meant (λ y z. sender.on_bounce y.my_ref z.sending)) h
+  bounced {last} {outcome} q h = subst (λ x. As (fail_sending d t x) last outcome) (q ∙ meant (λ y z. sender.on_sending_bounce y.my_ref z.sending)) h
 
   -- a message of the sender's came back
   pub sender-back : {last : Desk} {outcome : Outcome} {x : Option Sending}
       → ((file : FileData) × (message.body ≡ DataSave file)) ⊎ (((file : FileData) × (message.body ≡ DataLoad file)) ⊎
       ((buffer : ℕ) × (n : ℕ) × (message.body ≡ RamTransmit buffer n)))
-      → x ≡ sender.on_bounce message.my_ref s.sending → As (fail_sending d t x) last outcome → As (came_back d t p p.message.body) last outcome
+      → x ≡ sender.on_sending_bounce message.my_ref s.sending → As (fail_sending d t x) last outcome → As (came_back d t p p.message.body) last outcome
   unfolding came_back
   sender-back (inl k) q h = back-as k.1 (bounced q h)
   sender-back (inr (inl k)) q h = back-as k.1 (bounced q h)
@@ -132,6 +133,7 @@ module _ {m : Memory} {seats : List Seat} {made : List MadeArea} {files : FileLi
   load-ack-back e h = back-as e h
 
   pub fetch-back : {last : Desk} {outcome : Outcome} {buffer amount : ℕ} {entry : Option Incoming} → message.body ≡ RamFetch buffer amount
-      → entry ≡ receiver.on_bounce message.my_ref s.taking → As (fetch_back d t entry) last outcome → As (came_back d t p p.message.body) last outcome
+      → entry ≡ receiver.on_taking_bounce message.my_ref s.taking → As (fetch_back d t entry) last outcome → As (came_back d t p p.message.body) last outcome
   unfolding came_back task_of
-  fetch-back {last} {outcome} e q h = back-as e (subst (λ x. As (fetch_back d t x) last outcome) (q ∙ meant (λ y z. receiver.on_bounce y.my_ref z.taking)) h)
+  fetch-back {last} {outcome} e q h = back-as e (subst (λ x. As (fetch_back d t x) last outcome)
+      (q ∙ meant (λ y z. receiver.on_taking_bounce y.my_ref z.taking)) h)

@@ -1,12 +1,12 @@
 -- The next message for a task, taken from the queue.
 use Rattle.rh_tasks.proofs.Common.{◌≡◌, ℕ, ◌≤◌, ◌<◌, true, false, cond, refl, ap, sym, subst, ◌∙◌, arith, List, [], ◌∷◌, length, Option, map, ◌==◌}
 use Rattle.rh_tasks.proofs.Common.{option_map, get_or, set, length-map, Memory, bytes, OnlyArea-self, FileList, Post, post_poll, Desk, Task, edit_task}
-use Rattle.rh_tasks.proofs.Common.{with_task, with_delivered, IsDesk, IsReordered, IsSlot, Answers, Chains, HasEntry, SpellsPost, Seat, MadeArea, ScrapFile}
+use Rattle.rh_tasks.proofs.Common.{with_task, with_delivered, IsDesk, IsReordered, IsSlotIn, Answers, Chains, HasEntry, SpellsPostIn, Seat, MadeArea, ScrapFile}
 use Rattle.rh_tasks.proofs.Common.{Kept, the_module, scrap_size, HasSlot, task_of, desk_of, IsWorld, IsAt, Sits, set_same, all-at, cons, mapped-is, Moves}
 use Rattle.rh_defs.specs.declared.message.Event.{Event}
 use Rattle.rh_defs.proofs.Desks.{with_delivered-keeps}
 use Rattle.rh_defs.proofs.PostKeeps.{post_poll-kept}
-use Rattle.rh_wimp.specs.Calls.{Leaves}
+use Rattle.rh_wimp.specs.Calls.{LeavesChains}
 use Rattle.rh_wimp.specs.Chains.{event_of}
 use Rattle.rh_tasks.specs.View.{kept_file}
 use Rattle.rh_tasks.proofs.Posts.{is-post, has-entry}
@@ -42,14 +42,14 @@ module _ {m : Memory} {seats : List Seat} {made : List MadeArea} {files : FileLi
     event-is event a t there =
         a d.post (is-post w) ∙ ap (λ h. option_map event_of (post_poll h d.post).1) (same-handle t there)
 
-    module _ {n : Memory} {k : Chains} (l : Leaves m n the_module kept.queue k (λ post. (post_poll s.handle post).0)) where
+    module _ {n : Memory} {k : Chains} (l : LeavesChains m n the_module kept.queue k (λ post. (post_poll s.handle post).0)) where
       abbrev pub post_after : Post
       post_after = (post_poll s.handle d.post).0
 
       abbrev pub file_after : Option ScrapFile
       file_after = kept_file post_after kept.scrap
 
-      has : IsSlot m s.slot
+      has : IsSlotIn m s.slot
       has = all-at (HasSlot m) seats i s w.areas.slots at
 
       stays : Moves m m s s (λ t. t)
@@ -93,5 +93,5 @@ module _ {m : Memory} {seats : List Seat} {made : List MadeArea} {files : FileLi
           subst (λ h. IsReordered (with_delivered (post_poll h d.post).0 d) (desk_of n seats made files kept_then)) (same-handle t there) taken-here
 
       -- the post that the queue spells then
-      pub spells-after : SpellsPost n the_module k post_after
+      pub spells-after : SpellsPostIn n the_module k post_after
       spells-after = l.spells d.post (is-post w)

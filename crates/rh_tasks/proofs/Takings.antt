@@ -10,7 +10,7 @@ use Rattle.rh_defs.specs.declared.transfer.Taking.{Taking}
 use Rattle.rh_defs.specs.declared.transfer.Incoming.TheVariants as incoming
 use Rattle.rh_defs.specs.Letters.{ack_letter}
 use Rattle.rh_defs.specs.Receiver as receiver
-use Rattle.rh_defs.specs.IncomingEvents.{without_buffer, ended, end_failed, fetch_more, took, is_uncountable, ask}
+use Rattle.rh_defs.specs.IncomingEvents.{without_buffer, taking_ended, end_failed, fetch_more, took, is_uncountable, ask}
 use Rattle.rh_defs.proofs.Chains.{granted, granted-then}
 use Rattle.rh_tasks.specs.Polls.{Handles}
 use Rattle.rh_tasks.proofs.Addresses.{grant-of}
@@ -91,8 +91,8 @@ stands-dropped d e i h buffer t is at =
 
 -- its buffer goes, and then its records are others
 pub ended-is : (old mid new : Desk) (i : ℕ) (f : Taking) (edit : List Incoming → List Incoming) (t : Task) → IsAt i t old → mid ≡ dropped t.handle f.buffer old
-    → ((u : Task) → IsAt i u mid → new ≡ with_taking u.handle edit mid) → new ≡ ended t.handle f edit old
-unfolding ended
+    → ((u : Task) → IsAt i u mid → new ≡ with_taking u.handle edit mid) → new ≡ taking_ended t.handle f edit old
+unfolding taking_ended
 ended-is old mid new i f edit t at is recorded =
     let s = stands-dropped old mid i t.handle f.buffer t is at in
     recorded s.task s.at ∙ ap (λ h. with_taking h edit mid) s.like.handle ∙ ap (with_taking t.handle edit) is
@@ -106,9 +106,9 @@ handles-as {after} {o} new d q r = let P : Handled → Type 0 = λ a. Handles a 
 pub failed-as : {after : Handled} {o : Outcome} (old : Desk) (mid new : Shown) (i : ℕ) (t : Task) (f : Taking) (count : ℕ)
     → after ≡ (end_failed t.handle f count old, o) → IsAt i t old → mid.desk ≡ old
     → ((u : Task) → IsAt i u mid.desk → new.desk ≡ end_failed u.handle f count mid.desk) → Handles after new o
-failed-as old mid new i t f count q at same ended =
+failed-as old mid new i t f count q at same taking_ended =
     let there : IsAt i t mid.desk = subst (IsAt i t) (sym same) at in
-    handles-as new (end_failed t.handle f count old) q (same-alike (sym (ended t there ∙ ap (end_failed t.handle f count) same)))
+    handles-as new (end_failed t.handle f count old) q (same-alike (sym (taking_ended t there ∙ ap (end_failed t.handle f count) same)))
 
 pub becomes-ok : {g : Granted Desk} {r : Granted (Unit {0})} (old new : Shown) → Becomes g old new r → r ≡ Ok tt → g ≡ Ok new.desk
 becomes-ok {g} old new b e = let P : Granted (Unit {0}) → Type 0 = λ x. Becomes g old new x in subst P e b
@@ -167,17 +167,17 @@ module _ (f : Taking) (n : ℕ) {old : Desk} {i : ℕ} {t : Task} {m : Parcel} {
 -- ---- bytes were taken
 
 module _ (d : Desk) (t : Task) (m : Parcel) (f : Taking) (n : ℕ) where
-  took-last : nat_lt n t.buffer ≡ true → took d t m f n ≡ (ended t.handle f (receiver.finished f n) d, outcome.TookLast n)
+  took-last : nat_lt n t.buffer ≡ true → took d t m f n ≡ (taking_ended t.handle f (receiver.finished f n) d, outcome.TookLast n)
   unfolding took
   took-last e =
-      ap (λ b. cond b (ended t.handle f (receiver.finished f n) d, outcome.TookLast n)
+      ap (λ b. cond b (taking_ended t.handle f (receiver.finished f n) d, outcome.TookLast n)
       (or_else (fetch_more d t m f n) (λ refusal. (end_failed t.handle f (f.count + n) d, outcome.TookFailed n refusal)))) e
 
   took-full : nat_lt n t.buffer ≡ false
       → took d t m f n ≡ or_else (fetch_more d t m f n) (λ refusal. (end_failed t.handle f (f.count + n) d, outcome.TookFailed n refusal))
   unfolding took
   took-full e =
-      ap (λ b. cond b (ended t.handle f (receiver.finished f n) d, outcome.TookLast n)
+      ap (λ b. cond b (taking_ended t.handle f (receiver.finished f n) d, outcome.TookLast n)
       (or_else (fetch_more d t m f n) (λ refusal. (end_failed t.handle f (f.count + n) d, outcome.TookFailed n refusal)))) e
 
   pub took-more : (x : Handled) → nat_lt n t.buffer ≡ false → fetch_more d t m f n ≡ Ok x → took d t m f n ≡ x
@@ -199,7 +199,7 @@ pub took-ended : (old mid : Desk) (new : Shown) (i : ℕ) (t : Task) (m : Parcel
     → mid ≡ dropped t.handle f.buffer old
     → ((u : Task) → IsAt i u mid → new.desk ≡ with_taking u.handle (receiver.finished f n) mid) → Handles (took old t m f n) new (outcome.TookLast n)
 took-ended old mid new i t m f n e at is recorded =
-    handles-as new (ended t.handle f (receiver.finished f n) old) (took-last old t m f n e)
+    handles-as new (taking_ended t.handle f (receiver.finished f n) old) (took-last old t m f n e)
     (same-alike (sym (ended-is old mid new.desk i f (receiver.finished f n) t at is recorded)))
 
 -- ---- a transmit
@@ -273,14 +273,14 @@ module _ (f : Taking) (old : Desk) (i : ℕ) {t : Task} {letter : Letter} {h : �
       → ((u : Task) → IsAt i u mid → next ≡ dropped u.handle f.buffer mid)
       → ((u : Task) → IsAt i u next → new ≡ with_taking u.handle (receiver.asking f ref) next)
       → (x : Desk) × ((ask old t f ≡ Ok (x, outcome.Asked ref)) × IsReordered x new)
-  unfolding ask ended
+  unfolding ask taking_ended
   ask-done ref d mid next new is q r drop recorded =
       let s = stands-sent letter old d i t q r at in
-      let then : ℕ → Granted Handled = λ k. Ok (ended t.handle f (receiver.asking f k) d, outcome.Asked k) in
-      let end : new ≡ ended t.handle f (receiver.asking f ref) mid =
+      let then : ℕ → Granted Handled = λ k. Ok (taking_ended t.handle f (receiver.asking f k) d, outcome.Asked k) in
+      let end : new ≡ taking_ended t.handle f (receiver.asking f ref) mid =
       ended-is mid next new i f (receiver.asking f ref) s.task s.at (drop s.task s.at) recorded
-      ∙ ap (λ k. ended k f (receiver.asking f ref) mid) s.like.handle in (
-        ended t.handle f (receiver.asking f ref) d,
+      ∙ ap (λ k. taking_ended k f (receiver.asking f ref) mid) s.like.handle in (
+        taking_ended t.handle f (receiver.asking f ref) d,
         (
           begins _ (sym the-ack ∙ q) (ap then (sym is)),
           subst (IsReordered _) (sym end)

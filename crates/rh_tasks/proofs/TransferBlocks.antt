@@ -3,7 +3,8 @@ use Rattle.rh_tasks.proofs.Common.{◌≡◌, ◌⊎◌, inl, inr, ℕ, zero, su
 use Rattle.rh_tasks.proofs.Common.{length, Option, Some, None, Ok, Err, is_some, ok_or, not, ◌&&◌, ◌||◌, ◌==◌, map, take, drop, position, get_or, cases_lt}
 use Rattle.rh_tasks.proofs.Common.{eqb-true, part, Memory, bytes, FileList, Refusal, NoTask, BadRange, Granted, found_or, no_answer, total, bytes_of, size_of}
 use Rattle.rh_tasks.proofs.Common.{heap_start, holds, slot_start, weight, flex_place, buffer_at, overlap, Desk, Task, task_at, free_pages, with_slot}
-use Rattle.rh_tasks.proofs.Common.{part-drop, length-part, IsRoomed, IsSlot, slot_in, Leaves, Standing, Seat, MadeArea, Kept, task_of, desk_of, slot_area}
+use Rattle.rh_tasks.proofs.Common.{part-drop, length-part, IsRoomed, IsSlotIn, slot_in, LeavesSlotIn, Standing, Seat, MadeArea, Kept, task_of, desk_of}
+use Rattle.rh_tasks.proofs.Common.{slot_area}
 use Rattle.rh_tasks.proofs.Common.{AreDistinct, IsWorld, bytes_held, begins, ends, past, stops, lt-true, slid, changed, Sits, avoids-at, task-found}
 use Rattle.std.proofs.lemmas.List.Quantifiers.{position-Some}
 use Rattle.rh_defs.specs.Slot as plain
@@ -60,7 +61,7 @@ held-at b s x n k (heap_holder cut offset f g c e h) =
     )
 
 -- bytes that one block holds are those of the area
-pub held-part : (m : Memory) (slot : Slot) (x n : ℕ) → IsSlot m slot → holds x n (slot_in m slot) ≡ true
+pub held-part : (m : Memory) (slot : Slot) (x n : ℕ) → IsSlotIn m slot → holds x n (slot_in m slot) ≡ true
     → (slot_start ≤ x) × Standing (bytes m slot.area.0) (bytes_held x n (slot_in m slot)) (x - slot_start) n 0 (length (bytes m slot.area.0))
 held-part m slot x n s h = held-at (bytes m slot.area.0) (slot_in m slot) x n s.spells (holder (slot_in m slot) x n h)
 
@@ -196,7 +197,7 @@ module _ {m : Memory} {seats : List Seat} {made : List MadeArea} {files : FileLi
             let low2 = (held-part m r.slot y n (seat-slot w b.at) rh).0 in
             elim (apart-from x y n over) [ inl l ↦ inl (omega arith) | inr l ↦ inr (omega arith) ]
 
-        module _ {k : Memory} (l : Leaves m k r.slot (no_answer (Ok (written_in y (part (bytes m s.slot.area.0) (x - slot_start) n)
+        module _ {k : Memory} (l : LeavesSlotIn m k r.slot (no_answer (Ok (written_in y (part (bytes m s.slot.area.0) (x - slot_start) n)
             (buffer_at y n (slot_in m r.slot)) (slot_in m r.slot)))) (Ok tt)) where
           now : written_in y (part (bytes m s.slot.area.0) (x - slot_start) n) (buffer_at y n (slot_in m r.slot)) (slot_in m r.slot) ≡ slot_in k r.slot
           now = ok-same (changed l)

@@ -198,7 +198,7 @@ module _ (d : Desk) (t : Task) (x : Sending) where
   fetch-refused m buffer amount e = rw e refl
 
   pub load-done : {source : Split Flex} → slot_block x.anchor t.slot ≡ Ok source
-      → finish_load d t (Some x) ≡ (with_sending t.handle (sender.loaded x (length source.here.bytes)) d, outcome.Done)
+      → finish_load d t (Some x) ≡ (with_sending t.handle (sender.sending_loaded x (length source.here.bytes)) d, outcome.Done)
   unfolding finish_load or_else ◌>>=◌
   load-done e = rw e refl
 

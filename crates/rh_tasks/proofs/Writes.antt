@@ -3,7 +3,8 @@ use Rattle.rh_tasks.proofs.Common.{◌≡◌, ◌⊎◌, inl, inr, ℕ, ◌+◌,
 use Rattle.rh_tasks.proofs.Common.{Some, Ok, Err, is_some, slice_get, map, take, drop, ◌==◌, ◌&&◌, ◌||◌, option_map, get_or, set, cases_eq, length-map}
 use Rattle.rh_tasks.proofs.Common.{slice_get-map, slice_get-get_or, slice_get_within, Letter, Sending, part, Granted, ◌>>=◌, no_answer, FileList, Memory}
 use Rattle.rh_tasks.proofs.Common.{bytes, Split, Flex, slot_block, holds, buffer_at, overlap, Post, post_send, Desk, Task, free_pages}
-use Rattle.rh_tasks.proofs.Common.{edit_task, with_task, with_post, send_letter, IsDesk, IsReordered, is_out_of_reach, length-part, IsSlot, slot_in, Leaves}
+use Rattle.rh_tasks.proofs.Common.{edit_task, with_task, with_post, send_letter, IsDesk, IsReordered, is_out_of_reach, length-part, IsSlotIn, slot_in}
+use Rattle.rh_tasks.proofs.Common.{LeavesSlotIn}
 use Rattle.rh_tasks.proofs.Common.{Seat, MadeArea, Kept, HasSlot, slot_area, task_of, desk_of, IsWorld, IsAt, IsPortion, Sits, all-at, set_same, Moves}
 use Rattle.rh_tasks.proofs.Common.{moved-desk, moved-world, mapped-at, mapped-is}
 use Rattle.rh_defs.specs.Slot as plain
@@ -21,7 +22,7 @@ with_written address room bytes r = record r { slot = written_in address bytes (
 
 module _ {m n : Memory} {seats : List Seat} {made : List MadeArea} {files : FileList} {kept : Kept} {j : ℕ} {s : Seat}
     (w : IsWorld m seats made files kept) (at : Sits seats j s) (address room : ℕ) (bytes : List ℕ) (few : length bytes ≤ room)
-    (l : Leaves m n s.slot (no_answer (Ok (written_in address bytes (buffer_at address room (slot_in m s.slot)) (slot_in m s.slot)))) (Ok tt)) where
+    (l : LeavesSlotIn m n s.slot (no_answer (Ok (written_in address bytes (buffer_at address room (slot_in m s.slot)) (slot_in m s.slot)))) (Ok tt)) where
   abbrev old : Desk
   old = desk_of m seats made files kept
 
@@ -69,7 +70,7 @@ module _ {m : Memory} {seats : List Seat} {made : List MadeArea} {files : FileLi
   unfolding task_of
   ported = portioned m a.slot the-portion refl place none some
 
-  has : IsSlot m a.slot
+  has : IsSlotIn m a.slot
   has = all-at (HasSlot m) seats i a w.areas.slots at
 
   reached : is_out_of_reach (task_of m a) (task_of m b) buffer room address n ≡ false
@@ -103,7 +104,7 @@ module _ {m : Memory} {seats : List Seat} {made : List MadeArea} {files : FileLi
   few : length written ≤ room
   few = omega (arith, length-part (bytes m a.slot.area.0) place n, fits)
 
-  module _ {o : Memory} (l : Leaves m o b.slot (no_answer (Ok (written_in buffer written (buffer_at buffer room (slot_in m b.slot)) (slot_in m b.slot))))
+  module _ {o : Memory} (l : LeavesSlotIn m o b.slot (no_answer (Ok (written_in buffer written (buffer_at buffer room (slot_in m b.slot)) (slot_in m b.slot))))
       (Ok tt)) where
     pub wrote-world : IsWorld o seats made files kept
     wrote-world = written-world w bt buffer room written few l

@@ -12,7 +12,7 @@ use Rattle.rh_tasks.specs.declared.seat.Seat.{Seat}
 use Rattle.rh_tasks.specs.View.{is_named, task_of}
 
 -- the seat is the first with the name
-pub record Found (name : List ℕ) (seats : List Seat) (i : ℕ) (s : Seat) : Type 0 where
+pub record FoundSeat (name : List ℕ) (seats : List Seat) (i : ℕ) (s : Seat) : Type 0 where
   pub at : position (is_named name) seats ≡ Some i
   pub is : get_or seats i s ≡ s
 
@@ -20,7 +20,7 @@ pub record Found (name : List ℕ) (seats : List Seat) (i : ℕ) (s : Seat) : Ty
 pub record Owns (name : List ℕ) (seats : List Seat) (slot : Slot) : Type 0 where
   pub place : ℕ
   pub seat : Seat
-  pub found : Found name seats place seat
+  pub found : FoundSeat name seats place seat
   pub slot_is : seat.slot ≡ slot
 
 -- what a look at the named task gives

@@ -14,9 +14,9 @@ use Rattle.rh_tasks.specs.View.{fixed, pages_at}
 use Rattle.rh_store.specs.Limits.{area_limit}
 
 -- the item that an entry stands for
-abbrev pub item_of : AreaEntry → AreaItem
-item_of (entry.Area number pages) = item.Area number pages
-item_of (entry.Slot name pages) = item.Slot name.now pages
+abbrev pub area_item_of : AreaEntry → AreaItem
+area_item_of (entry.Area number pages) = item.Area number pages
+area_item_of (entry.Slot name pages) = item.Slot name.now pages
 
 -- areas 0 to 5
 abbrev pub fixed_items : Memory → List AreaItem
@@ -44,5 +44,5 @@ abbrev pub placed_item : ℕ → Segment → SegmentItem
 placed_item start s = segment_item_of start s.place s
 
 -- a segment whose place and size are small enough for an address
-abbrev pub IsSmall : Segment → Type 0
-IsSmall s = (s.place ≤ area_limit) × (s.size ≤ area_limit)
+abbrev pub IsSmallSegment : Segment → Type 0
+IsSmallSegment s = (s.place ≤ area_limit) × (s.size ≤ area_limit)

@@ -1,7 +1,7 @@
 -- What callers see of a world: the desk, and beside it the bytes and the lengths of the store's areas, which spell it.
 use Rattle.std.specs.Prelude.{◌≡◌, ℕ, ◌+◌, ◌*◌, ◌==◌, if◌then◌else◌, List, [], ◌∷◌, length, map, Option, Some, None}
 use Rattle.std.specs.List.{enumerate_from}
-use Rattle.rh_defs.specs.Pieces.{page, total}
+use Rattle.rh_defs.specs.Pieces.{page_size, total}
 use Rattle.rh_defs.specs.HeapImage.{IsImage}
 use Rattle.rh_defs.specs.SlotImage.{SpellsSlot}
 use Rattle.rh_defs.specs.Slot.{slot_start}
@@ -36,7 +36,7 @@ SpellSlots _ _ = ⊥
 
 -- the bytes of one of areas 0 to 5, from its number and the pages that the desk's list has for it
 abbrev pub length_of_area : Desk → ℕ × ℕ → ℕ
-length_of_area d area = page * (if area.0 == module_area then module_pages d else area.1)
+length_of_area d area = page_size * (if area.0 == module_area then module_pages d else area.1)
 
 -- the bytes of the scrap file, none where there is none
 abbrev pub scrap_bytes : Option Scrap → List ℕ
@@ -57,13 +57,13 @@ pub record IsSpelled (s : Shown) : Type 0 where
   pub module_area : SpellsPost s.module_bytes s.desk.post
   pub slots : SpellSlots s.slots s.desk.tasks
   pub areas : s.areas ≡ map (length_of_area s.desk) (enumerate_from 0 s.desk.areas)
-  pub made : s.made ≡ map (λ (m : Made). page * m.pages) s.desk.made
+  pub made : s.made ≡ map (λ (m : Made). page_size * m.pages) s.desk.made
   pub scrap : s.scrap ≡ scrap_bytes s.desk.scrap
   pub free : s.free ≡ free_pages s.desk
 
 -- the free pages and those of all areas that are open, made ones and slots included, are the pool
-abbrev pub IsBalanced : Shown → Type 0
-IsBalanced s = page * s.free + (total (λ n. n) s.areas + (total (λ n. n) s.made + total length s.slots)) ≡ page * s.desk.pool
+abbrev pub ShowsBalance : Shown → Type 0
+ShowsBalance s = page_size * s.free + (total (λ n. n) s.areas + (total (λ n. n) s.made + total length s.slots)) ≡ page_size * s.desk.pool
 
 -- each task's blocks lie in its slot's bytes, and no two overlap
 abbrev pub LieApart : List (List ℕ) → List Task → Type 0
@@ -72,6 +72,6 @@ LieApart (b ∷ bs) (t ∷ tasks) = AreLaidOut slot_start (length b) (slot_spans
 LieApart _ _ = ⊥
 
 -- all live blocks lie in the areas of the store, and no two of one area overlap
-pub record HasApartBlocks (s : Shown) : Type 0 where
+pub record ShowsApartBlocks (s : Shown) : Type 0 where
   pub slots : LieApart s.slots s.desk.tasks
   pub module_area : AreLaidOut module_start (length s.module_bytes) (module_spans s.desk.post.heap)

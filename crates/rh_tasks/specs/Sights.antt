@@ -84,5 +84,5 @@ abbrev pub made_of_sight : MadeSight → Made
 made_of_sight s = record { number = s.number; most = s.most; pages = s.pages }
 
 -- the scrap file, by the length of its bytes
-abbrev pub file_of : Scrap → ScrapFile
-file_of s = record { load = s.load; size = length s.bytes }
+abbrev pub scrap_file_of : Scrap → ScrapFile
+scrap_file_of s = record { load = s.load; size = length s.bytes }

@@ -4,7 +4,7 @@ use Rattle.std.specs.List.{AllByRecursion}
 use Rattle.std.specs.Option.{option_map}
 use Rattle.std.specs.Str.{bytes_eq}
 use Rattle.rh_defs.specs.Memory.{Memory, IsOpen, bytes, open_below}
-use Rattle.rh_defs.specs.Pieces.{page}
+use Rattle.rh_defs.specs.Pieces.{page_size}
 use Rattle.rh_defs.specs.Files.{FileList}
 use Rattle.rh_defs.specs.Post.{Post, post_is_live}
 use Rattle.rh_defs.specs.Desk.{Desk, Task, Made, Scrap, scrap_area, used_pages}
@@ -13,7 +13,7 @@ use Rattle.rh_defs.specs.declared.message.Letter.{Letter}
 use Rattle.rh_defs.specs.declared.sizes.TheConstants.{FIXED_AREAS, MAX_AREAS}
 use Rattle.rh_module.specs.declared.module.Module.{Module}
 use Rattle.rh_module.specs.Area.{IsModule}
-use Rattle.rh_slot.specs.Area.{IsSlot, slot_in}
+use Rattle.rh_slot.specs.Area.{IsSlotIn, slot_in}
 use Rattle.rh_wimp.specs.Calls.{IsQueue}
 use Rattle.rh_wimp.specs.Chains.{Chains}
 use Rattle.rh_wimp.specs.PostIn.{post_in}
@@ -35,7 +35,7 @@ fixed = 0 ∷ 1 ∷ 2 ∷ 3 ∷ 4 ∷ 5 ∷ []
 
 -- how many pages an area has
 unfoldable pub pages_at : Memory → ℕ → ℕ
-pages_at m id = length (bytes m id) / page
+pages_at m id = length (bytes m id) / page_size
 
 -- what a seat has of the last letter that its task sent
 abbrev pub last_of : SentLetter → Letter × ℕ
@@ -135,7 +135,7 @@ AreDistinct (id ∷ ids) = Avoids id ids × AreDistinct ids
 
 -- a seat's area holds a slot
 abbrev pub HasSlot : Memory → Seat → Type 0
-HasSlot m s = IsSlot m s.slot
+HasSlot m s = IsSlotIn m s.slot
 
 -- an area is none of areas 0 to 5
 abbrev pub IsAbove : ℕ → Type 0

@@ -4,15 +4,15 @@ ghost use Rattle.std.specs.Prelude.{◌≡◌, ◌≤◌, ◌<◌, ◌+◌, ◌^
 ghost use Rattle.rh_defs.specs.declared.transfer.Incoming.TheVariants as incoming;
 ghost use Rattle.rh_defs.specs.Chain.{no_answer};
 ghost use Rattle.rh_defs.specs.Desk.{Task, with_task};
-ghost use Rattle.rh_defs.specs.IncomingEvents.{appended, without_buffer, end_failed as end_failed_on, ended, fetch_more as fetch_more_on, took as took_on, take_bytes as take_bytes_on, ask as ask_on, fetch_back as fetch_back_on, ack_back as ack_back_on};
+ghost use Rattle.rh_defs.specs.IncomingEvents.{appended, without_buffer, end_failed as end_failed_on, taking_ended, fetch_more as fetch_more_on, took as took_on, take_bytes as take_bytes_on, ask as ask_on, fetch_back as fetch_back_on, ack_back as ack_back_on};
 ghost use Rattle.rh_defs.specs.Memory.{Memory, IsOpen, bytes};
 ghost use Rattle.rh_defs.specs.Bytes.{part};
 ghost use Rattle.rh_defs.specs.Messages.{Parcel};
 ghost use Rattle.rh_defs.specs.Places.{first_bytes};
 ghost use Rattle.rh_defs.specs.Receiver as receiver;
 ghost use Rattle.rh_defs.specs.Slot.{slot_size, heap_block_at};
-ghost use Rattle.rh_slot.specs.Area.{IsSlot, slot_in};
-ghost use Rattle.rh_slot.specs.Calls.{Leaves};
+ghost use Rattle.rh_slot.specs.Area.{IsSlotIn, slot_in};
+ghost use Rattle.rh_slot.specs.Calls.{LeavesSlotIn};
 ghost use Rattle.rh_slot.specs.Flex.{slot_append};
 ghost use Rattle.rh_tasks.specs.Polls.{IsAt, IsFor, Attempts, Becomes, Handles, AreFirst};
 
@@ -26,7 +26,7 @@ use rh_store::{AreaId, Store, Words};
 
 /// How many bytes the anchor's block has: NoBlock where it has none, also for an anchor that no slot has.
 pub fn document_size<S: Words>(store: &S, slot: Slot, anchor: Anchor) -> Result<u32, Refusal>
-    requires { IsSlot (S.memory store.now) slot }
+    requires { IsSlotIn (S.memory store.now) slot }
     ensures { result ≡ slot_size anchor (slot_in (S.memory store.now) slot) }
 {
     if usize::from(anchor.0) >= ANCHORS {
@@ -46,11 +46,11 @@ pub fn append<S: Store>(
     place: usize,
     n: usize,
 ) -> Result<(), Refusal>
-    requires slot { IsSlot (S.memory store.old) slot }
+    requires slot { IsSlotIn (S.memory store.old) slot }
     requires opened { IsOpen (S.memory store.old) from.0 }
     requires source { place + n ≤ length (bytes (S.memory store.old) from.0) }
     requires below { from.0 ≡ slot.area.0 → AreFirst place n (slot_in (S.memory store.old) slot) }
-    ensures { Leaves (S.memory store.old) (S.memory store.new) slot
+    ensures { LeavesSlotIn (S.memory store.old) (S.memory store.new) slot
         (no_answer (slot_append (S.memory store.old).free anchor (part (bytes (S.memory store.old) from.0) place n) (slot_in (S.memory store.old) slot))) result }
 {
     if usize::from(anchor.0) >= ANCHORS {
@@ -62,7 +62,7 @@ pub fn append<S: Store>(
 /// The first bytes of a buffer, n of them where it has so many: where they stand in the slot's area, and how many there are.
 /// None where no block of the C heap begins at the address.
 fn held_in<S: Words>(store: &S, slot: Slot, buffer: u32, n: u32) -> (usize, usize)
-    requires { IsSlot (S.memory store.now) slot }
+    requires { IsSlotIn (S.memory store.now) slot }
     ensures bytes { part (bytes (S.memory store.now) slot.area.0) result.0 result.1 ≡ first_bytes n (heap_block_at buffer (slot_in (S.memory store.now) slot)) }
     ensures first { AreFirst result.0 result.1 (slot_in (S.memory store.now) slot) }
 {

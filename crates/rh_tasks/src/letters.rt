@@ -5,7 +5,7 @@ ghost use Rattle.rh_defs.specs.Letters.{file_of, scrap_name, fetch_letter as fet
 ghost use Rattle.rh_defs.specs.Messages.{Parcel};
 ghost use Rattle.rh_defs.specs.Chain.{answer_of, left_of};
 ghost use Rattle.rh_defs.specs.Post.{post_send};
-ghost use Rattle.rh_wimp.specs.Calls.{Answers, IsQueue, Leaves};
+ghost use Rattle.rh_wimp.specs.Calls.{Answers, IsQueue, LeavesChains};
 ghost use Rattle.rh_wimp.specs.Chains.{HasEntry};
 ghost use Rattle.rh_tasks.specs.View.{the_module};
 ghost use Rattle.rh_defs.specs.Desk.{Task};
@@ -39,7 +39,7 @@ pub fn send<S: Pages>(
     requires queue { IsQueue (S.memory store.old) the_module queue.old }
     requires from { HasEntry letter.from queue.old }
     ensures answer { Answers (S.memory store.old) the_module queue.old (λ post. answer_of (post_send (S.memory store.old).free letter post)) result }
-    ensures leaves { Leaves (S.memory store.old) (S.memory store.new) the_module queue.old queue.new
+    ensures leaves { LeavesChains (S.memory store.old) (S.memory store.new) the_module queue.old queue.new
         (λ post. left_of post (post_send (S.memory store.old).free letter post)) }
     ensures ok { IfOk result (λ my_ref. seat.new ≡ with_last letter my_ref seat.old) }
     ensures err { OnErr result ((S.memory store.new ≡ S.memory store.old) × ((queue.new ≡ queue.old) × (seat.new ≡ seat.old))) }

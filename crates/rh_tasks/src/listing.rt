@@ -13,7 +13,7 @@ ghost use Rattle.rh_defs.specs.Questions.{asked, area_items, areas_at, blocks_at
 ghost use Rattle.rh_defs.specs.Desk.{free_pages as free_pages_on};
 ghost use Rattle.rh_tasks.specs.Answer.{first_told};
 ghost use Rattle.rh_tasks.specs.View.{pages_at, HasAreas};
-ghost use Rattle.rh_tasks.specs.Items.{item_of, items_in, slot_items, segment_item_of, placed_item, IsSmall};
+ghost use Rattle.rh_tasks.specs.Items.{area_item_of, items_in, slot_items, segment_item_of, placed_item, IsSmallSegment};
 ghost use Rattle.rh_tasks.specs.Lists.{blocks_of, segments_of};
 ghost use Rattle.rh_defs.specs.declared.sizes.TheConstants.{MAX_AREAS, SEGMENTS_AT_ONCE};
 
@@ -60,7 +60,8 @@ fn entry_at<'a, S: Store>(
     i: usize,
 ) -> Option<AreaEntry<'a>>
     requires { HasAreas (S.memory store.now) seats.now.items made.now.items }
-    ensures { option_map item_of result ≡ slice_get (items_in (S.memory store.now) seats.now.items made.now.items) i }
+    ensures { option_map area_item_of result ≡ slice_get (items_in
+        (S.memory store.now) seats.now.items made.now.items) i }
 {
     if i < FIXED_AREAS {
         return Some(AreaEntry::Area {
@@ -81,7 +82,7 @@ fn entry_at<'a, S: Store>(
 
 fn slot_entry<'a, S: Store>(store: &S, seats: &'a Seats, i: usize) -> Option<AreaEntry<'a>>
     requires { AllByRecursion (λ (s : Seat). IsOpen (S.memory store.now) s.slot.area.0) seats.now.items }
-    ensures { option_map item_of result ≡ slice_get (slot_items (S.memory store.now) seats.now.items) i }
+    ensures { option_map area_item_of result ≡ slice_get (slot_items (S.memory store.now) seats.now.items) i }
 {
     if i >= seats.len() {
         return None;
@@ -129,7 +130,7 @@ fn segment_item(start: u32, place: u32, segment: Segment) -> SegmentItem
 pub fn segment_items(start: u32, segments: &[Segment]) -> ArrayVec<SegmentItem, SEGMENTS_AT_ONCE>
     requires start { start ≤ area_limit }
     requires few { length segments.now ≤ SEGMENTS_AT_ONCE }
-    requires small { AllByRecursion IsSmall segments.now }
+    requires small { AllByRecursion IsSmallSegment segments.now }
     ensures { result.items ≡ map (placed_item start) segments.now }
 {
     let mut items = ArrayVec::new();
@@ -152,7 +153,7 @@ impl<S: Store, F: NamedFiles> World<S, F> {
 
     /// The same item without a copy of its name, and without the free pages; None past the end.
     pub fn area_entry(&self, i: usize) -> Option<AreaEntry<'_>>
-        ensures item { option_map item_of result ≡ slice_get (area_items self.now.desk) i }
+        ensures item { option_map area_item_of result ≡ slice_get (area_items self.now.desk) i }
         ensures few { length (area_items self.now.desk) ≤ MAX_AREAS }
     {
         entry_at(&self.store, &self.seats, &self.made, i)

@@ -26,7 +26,7 @@ impl<S: Store, F: NamedFiles> World<S, F> {
     /// A transfer that went out has failed.
     pub(crate) fn record_failed_out(&mut self, i: usize, x: &Sending)
         requires { i < length self.old.desk.tasks }
-        ensures { (t : Task) → IsAt i t self.old.desk → self.new.desk ≡ with_sending t.handle (sender.failed x.now) self.old.desk }
+        ensures { (t : Task) → IsAt i t self.old.desk → self.new.desk ≡ with_sending t.handle (sender.sending_failed x.now) self.old.desk }
     {
         let seat = &mut self.seats[i];
         seat.sending.failed(x);
@@ -44,7 +44,7 @@ impl<S: Store, F: NamedFiles> World<S, F> {
     /// The recipient has loaded all n bytes of the source.
     pub(crate) fn record_loaded_out(&mut self, i: usize, x: &Sending, n: u32)
         requires { i < length self.old.desk.tasks }
-        ensures { (t : Task) → IsAt i t self.old.desk → self.new.desk ≡ with_sending t.handle (sender.loaded x.now n) self.old.desk }
+        ensures { (t : Task) → IsAt i t self.old.desk → self.new.desk ≡ with_sending t.handle (sender.sending_loaded x.now n) self.old.desk }
     {
         let seat = &mut self.seats[i];
         seat.sending.loaded(x, n);
@@ -83,7 +83,7 @@ impl<S: Store, F: NamedFiles> World<S, F> {
     /// A transfer that came in has failed with so many bytes.
     pub(crate) fn record_failed_in(&mut self, i: usize, f: &Taking, count: u32)
         requires { i < length self.old.desk.tasks }
-        ensures { (t : Task) → IsAt i t self.old.desk → self.new.desk ≡ with_taking t.handle (receiver.failed f.now count) self.old.desk }
+        ensures { (t : Task) → IsAt i t self.old.desk → self.new.desk ≡ with_taking t.handle (receiver.taking_failed f.now count) self.old.desk }
     {
         let seat = &mut self.seats[i];
         seat.taking.failed(f, count);
@@ -101,7 +101,7 @@ impl<S: Store, F: NamedFiles> World<S, F> {
     /// The document has all n bytes of the file.
     pub(crate) fn record_loaded_in(&mut self, i: usize, q: &Asked, n: u32)
         requires { i < length self.old.desk.tasks }
-        ensures { (t : Task) → IsAt i t self.old.desk → self.new.desk ≡ with_taking t.handle (receiver.loaded q.now n) self.old.desk }
+        ensures { (t : Task) → IsAt i t self.old.desk → self.new.desk ≡ with_taking t.handle (receiver.taking_loaded q.now n) self.old.desk }
     {
         let seat = &mut self.seats[i];
         seat.taking.loaded(q, n);

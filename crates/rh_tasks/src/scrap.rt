@@ -4,7 +4,7 @@ ghost use Rattle.std.specs.Prelude.{◌≡◌};
 ghost use Rattle.rh_defs.specs.Memory.{Memory};
 ghost use Rattle.rh_defs.specs.Post.{Post};
 ghost use Rattle.rh_wimp.specs.Calls.{IsQueue};
-ghost use Rattle.rh_wimp.specs.Chains.{SpellsPost};
+ghost use Rattle.rh_wimp.specs.Chains.{SpellsPostIn};
 ghost use Rattle.rh_tasks.specs.View.{the_module, kept_file, scrap_size as scrap_size_of};
 
 use crate::module_area::MODULE;
@@ -37,7 +37,7 @@ pub fn scrap_size(scrap: Option<ScrapFile>) -> u32
 /// The scrap file, while its DataLoad is queued or held.
 pub fn kept_scrap<S: Words>(store: &S, queue: &Queue, scrap: Option<ScrapFile>) -> Option<ScrapFile>
     requires { IsQueue (S.memory store.now) the_module queue.now }
-    ensures { (post : Post) → SpellsPost (S.memory store.now) the_module queue.now post → result ≡ kept_file post scrap }
+    ensures { (post : Post) → SpellsPostIn (S.memory store.now) the_module queue.now post → result ≡ kept_file post scrap }
 {
     let file = scrap?;
     if !queue.is_live(store, MODULE, file.load) {

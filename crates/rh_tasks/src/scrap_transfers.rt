@@ -2,7 +2,7 @@
 
 ghost use Rattle.std.specs.Prelude.{◌≡◌, ◌<◌, ◌≤◌, ◌*◌, length, slice_index, Ok, Some, None};
 ghost use Rattle.rh_defs.specs.Desk.{Task, Scrap, free_pages, scrap_area};
-ghost use Rattle.rh_defs.specs.Pieces.{Split, page};
+ghost use Rattle.rh_defs.specs.Pieces.{Split, page_size};
 ghost use Rattle.rh_defs.specs.IncomingEvents.{appended, loaded as loaded_on, take_file as take_file_on};
 ghost use Rattle.rh_defs.specs.Messages.{Parcel};
 ghost use Rattle.rh_defs.specs.OutgoingEvents.{wider, answer_ack as answer_ack_on};
@@ -141,7 +141,7 @@ impl<S: Store, F: NamedFiles> World<S, F> {
     /// The block at the anchor becomes the scrap file, for which area 5 has room and which the DataLoad with the ref tells.
     fn fill_scrap(&mut self, i: usize, anchor: Anchor, size: u32, load: Ref)
         requires place { i < length self.old.desk.tasks }
-        requires room { size ≤ page * slice_index self.old.desk.areas scrap_area }
+        requires room { size ≤ page_size * slice_index self.old.desk.areas scrap_area }
         requires block { (t : Task) → IsAt i t self.old.desk → slot_size anchor t.slot ≡ Ok size }
         ensures { (t : Task) (source : Split Flex) → IsAt i t self.old.desk → slot_block anchor t.slot ≡ Ok source
             → self.new.desk ≡ record self.old.desk { scrap = Some (record { load = load; bytes = source.here.bytes }) } }

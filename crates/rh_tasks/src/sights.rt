@@ -9,7 +9,7 @@ ghost use Rattle.rh_defs.specs.Messages.{Parcel};
 ghost use Rattle.rh_defs.specs.Records.{most_records};
 ghost use Rattle.rh_wimp.specs.Items.{message_items, with_message};
 ghost use Rattle.rh_tasks.specs.Lists.{items_at};
-ghost use Rattle.rh_tasks.specs.Sights.{IsSeen, blocks_in, file_of, made_of_sight, module_shown, next_message as next_message_on, segments_in, slot_bytes};
+ghost use Rattle.rh_tasks.specs.Sights.{IsSeen, blocks_in, scrap_file_of, made_of_sight, module_shown, next_message as next_message_on, segments_in, slot_bytes};
 
 use crate::listing::{HeapSums, pages_in, segment_items};
 use crate::module_area::MODULE;
@@ -211,7 +211,7 @@ impl<S: Store, F: NamedFiles> World<S, F> {
 
     /// The scrap file, while there is one.
     pub fn scrap(&self) -> Option<ScrapFile>
-        ensures { result ≡ option_map file_of self.now.desk.scrap }
+        ensures { result ≡ option_map scrap_file_of self.now.desk.scrap }
     {
         self.scrap
     }

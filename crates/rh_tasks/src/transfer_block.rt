@@ -2,7 +2,7 @@
 
 ghost use Rattle.rh_defs.specs.Laws.{IsDesk};
 ghost use Rattle.rh_tasks.specs.Polls.{Becomes};
-ghost use Rattle.rh_tasks.specs.Shown.{IsSpelled, IsBalanced, HasApartBlocks};
+ghost use Rattle.rh_tasks.specs.Shown.{IsSpelled, ShowsBalance, ShowsApartBlocks};
 ghost use Rattle.rh_tasks.specs.TransferBlock.{transferred};
 
 use crate::named_files::NamedFiles;
@@ -27,8 +27,8 @@ impl<S: Store, F: NamedFiles> World<S, F> {
     ) -> Result<(), Refusal>
         ensures moves { Becomes (transferred self.old.desk from address to address2 n) self.old self.new result }
         ensures spelled { IsSpelled self.new }
-        ensures apart { HasApartBlocks self.new }
-        ensures balanced { IsBalanced self.new }
+        ensures apart { ShowsApartBlocks self.new }
+        ensures balanced { ShowsBalance self.new }
         ensures desk { IsDesk self.new.desk }
     {
         let moved = self.move_block(from, address, to, address2, n);

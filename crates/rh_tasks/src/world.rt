@@ -6,7 +6,7 @@ ghost use Rattle.rh_defs.specs.Range.{in_range};
 ghost use Rattle.rh_defs.specs.Commands.{change};
 ghost use Rattle.rh_defs.specs.Runs.{start, start_with};
 ghost use Rattle.rh_defs.specs.Laws.{IsDesk};
-ghost use Rattle.rh_tasks.specs.Shown.{IsSpelled, IsBalanced, HasApartBlocks};
+ghost use Rattle.rh_tasks.specs.Shown.{IsSpelled, ShowsBalance, ShowsApartBlocks};
 ghost use Rattle.rh_tasks.specs.Answer.{Does, Gives, RunsOn, StaysIfAsked, StaysIfRefused, StepsTo, answered as answered_of, reply_of};
 ghost use Rattle.rh_tasks.specs.Nouns.{changes_memory};
 ghost use Rattle.rh_tasks.specs.Start.{IsFurnished};
@@ -102,8 +102,8 @@ impl<S: Store, F: NamedFiles> World<S, F> {
     /// and all pages add up.
     pub fn spelled(&self)
         ensures spelled { IsSpelled self.now }
-        ensures apart { HasApartBlocks self.now }
-        ensures balanced { IsBalanced self.now }
+        ensures apart { ShowsApartBlocks self.now }
+        ensures balanced { ShowsBalance self.now }
         ensures desk { IsDesk self.now.desk }
     {
         let _ = &self.store;
@@ -119,8 +119,8 @@ impl<S: Store, F: NamedFiles> World<S, F> {
         ensures refused { StaysIfRefused self.old self.new result }
         ensures asked { StaysIfAsked command.now self.old self.new }
         ensures spelled { IsSpelled self.new }
-        ensures apart { HasApartBlocks self.new }
-        ensures balanced { IsBalanced self.new }
+        ensures apart { ShowsApartBlocks self.new }
+        ensures balanced { ShowsBalance self.new }
         ensures desk { IsDesk self.new.desk }
     {
         let reply = self.change(command);

@@ -1,6 +1,6 @@
 -- Which entry is a task's, and what it holds.
 use Rattle.rh_wimp.proofs.Common.{◌≡◌, ℕ, ◌<◌, ◌≢◌, inl, inr, true, false, Bool, List, length, get_or, refl, sym, ap, ◌∙◌, arith, cases_eq, Option, Some}
-use Rattle.rh_wimp.proofs.Common.{None, ◌==◌, position, word, Heap, block_bytes, HasBlock, Parcel, padded, answers_held, Row, RowsLie, Holds, entry_at}
+use Rattle.rh_wimp.proofs.Common.{None, ◌==◌, position, word, Heap, block_bytes, HasBlock, Parcel, padded, answers_held, SeatRow, RowsLie, Holds, entry_at}
 use Rattle.rh_wimp.proofs.Common.{row_at, no_entry, Entry, ref_read, padded-least}
 use Rattle.std.proofs.lemmas.List.{get_or_default}
 use Rattle.rh_wimp.proofs.PostLaws.{found-at, not-found}
@@ -10,7 +10,7 @@ pub read_entry : (es : List Entry) (i : ℕ) (e : Entry) → i < length es → e
 read_entry es i e l r = r ∙ get_or_default es i e no_entry l
 
 -- one entry alone has a handle
-pub one_entry : (h : Heap) (es : List Entry) (rows : List Row) (x at i : ℕ) → RowsLie h es rows → position (λ (e : Entry). e.handle == x) es ≡ Some at
+pub one_entry : (h : Heap) (es : List Entry) (rows : List SeatRow) (x at i : ℕ) → RowsLie h es rows → position (λ (e : Entry). e.handle == x) es ≡ Some at
     → i < length rows → (row_at rows i).handle ≡ x → at ≡ i
 one_entry h es rows x at i s f l e =
     let w = found-at es x at f in
@@ -20,7 +20,7 @@ one_entry h es rows x at i s f l e =
       | inr ne ↦ absurd (s.handles at i (omega arith) l ne (sym (s.each at (omega arith)).handle ∙ w.1 ∙ sym e))
     ]
 
-pub some_entry : (h : Heap) (es : List Entry) (rows : List Row) (x i : ℕ) → RowsLie h es rows → position (λ (e : Entry). e.handle == x) es ≡ None
+pub some_entry : (h : Heap) (es : List Entry) (rows : List SeatRow) (x i : ℕ) → RowsLie h es rows → position (λ (e : Entry). e.handle == x) es ≡ None
     → i < length rows → (row_at rows i).handle ≢ x
 some_entry h es rows x i s n l = λ z. let len = s.len in not-found es x n i (omega arith) ((s.each i l).handle ∙ z)
 

@@ -1,8 +1,9 @@
 -- The post stays where the module area's calls claim, free and resize blocks of others, or move the area's end.
 use Rattle.rh_wimp.proofs.Common.{◌≡◌, ℕ, ◌-◌, ◌<◌, ◌≤◌, inl, inr, Bool, true, false, List, [], ◌∷◌, length, refl, sym, ap, subst, ◌∙◌, arith, cases_eq}
 use Rattle.rh_wimp.proofs.Common.{cases_lt, eqb_tells, Option, Some, None, Ok, Err, ◌==◌, ◌||◌, ℤ, list_any, option_map, block_bytes, SameShape, Granted}
-use Rattle.rh_wimp.proofs.Common.{answer_of, left_of, Heap, block_room, release, total, Memory, Parcel, module_claim, Post, module_claim-alike, heap_in}
-use Rattle.rh_wimp.proofs.Common.{Module, IsQueue, Chains, IsPost, SpellsPost, Off, entry_at, row_at, rows_of, row_parcels}
+use Rattle.rh_wimp.proofs.Common.{answer_of, left_of, Heap, block_room, release_block, total, Memory, Parcel, module_claim, Post, module_claim-alike}
+use Rattle.rh_wimp.proofs.Common.{module_heap_in}
+use Rattle.rh_wimp.proofs.Common.{Module, IsQueue, Chains, ArePostChains, SpellsPostIn, Off, entry_at, row_at, rows_of, row_parcels}
 use Rattle.rh_defs.specs.Chain.{◌>>=◌, refuse_if, found_or, no_answer}
 use Rattle.rh_defs.specs.Heap.{Segment, Placed, as_granted, base, block_at, block_size, bytes_of, fitted, new_size, resize_growing, resize_need, size_of}
 use Rattle.rh_defs.specs.Pieces.{Split, lacks_pages, moved, pages_for}
@@ -16,7 +17,7 @@ use Rattle.rh_defs.proofs.ModuleLaws.{module_change-low, module_change-short, mo
 use Rattle.rh_defs.proofs.ResizeLaws.{CutAlike, Moves, resize_growing-alike, resize_growing-moves, resize_need-alike}
 use Rattle.rh_defs.proofs.ShapeLaws.{Alike, blank_cut, block-blank, block_size-alike, same_heap, total-blank}
 use Rattle.rh_module.specs.Calls as module_calls
-use Rattle.rh_wimp.specs.Laws.{GoesBeside, IsSmall, with_heap}
+use Rattle.rh_wimp.specs.Laws.{GoesBeside, IsSmallModule, post_with_heap}
 use Rattle.rh_wimp.specs.PostIn.{post_in}
 use Rattle.rh_wimp.proofs.FrameLaws.{IsOff, block-changed, blocks-changed, claimed-beside, freed-beside}
 use Rattle.rh_wimp.proofs.LinkLaws.{zero-off, none-low}
@@ -33,7 +34,7 @@ off-list a (p ∷ ps) e = elim (eqb_tells p.block a) [
 ]
 
 -- a block that is no message's is off them all
-pub off-message : (h : Heap) (q : Chains) (post : Post) (a : ℕ) → IsPost h q post → post_is_message a post ≡ false → IsOff a post
+pub off-message : (h : Heap) (q : Chains) (post : Post) (a : ℕ) → ArePostChains h q post → post_is_message a post ≡ false → IsOff a post
 unfolding post_is_message
 off-message h q post a s e j l = off-list a (row_parcels (row_at (rows_of post) j)) (go (list_any test (row_parcels (row_at (rows_of post) j))) refl)
   where
@@ -45,30 +46,30 @@ off-message h q post a s e j l = off-list a (row_parcels (row_at (rows_of post) 
     go false f = refl
 
 -- the area's blocks have the sizes of the post's
-pub block_size-beside : (h : Heap) (q : Chains) (post : Post) (a : ℕ) → IsPost h q post → block_size a h ≡ block_size a post.heap
+pub block_size-beside : (h : Heap) (q : Chains) (post : Post) (a : ℕ) → ArePostChains h q post → block_size a h ≡ block_size a post.heap
 block_size-beside h q post a s = block_size-alike a h post.heap s.linked.shape
 
 -- ---- a call beside the queue
 -- The area's heap and the post's heap grant the same, and the post is spelled with the heap that its own one becomes.
 pub record Beside {A : Type 0} (h : Heap) (q : Chains) (post : Post) (granted plain : Granted (Heap × A)) : Type 0 where
   pub answer : answer_of granted ≡ answer_of plain
-  pub spells : IsPost (left_of h granted) q (with_heap (left_of post.heap plain) post)
+  pub spells : ArePostChains (left_of h granted) q (post_with_heap (left_of post.heap plain) post)
 
 module _ {A : Type 0} (h : Heap) (q : Chains) (post : Post) where
   -- both are refused
-  pub both-refused : (granted plain : Granted (Heap × A)) (refusal : Refusal) → IsPost h q post → granted ≡ Err refusal → plain ≡ Err refusal
+  pub both-refused : (granted plain : Granted (Heap × A)) (refusal : Refusal) → ArePostChains h q post → granted ≡ Err refusal → plain ≡ Err refusal
       → Beside h q post granted plain
   both-refused granted plain refusal s e f =
       subst (λ g. Beside h q post g plain) (sym e) (subst (Beside h q post (Err refusal)) (sym f) (record { answer = refl; spells = s }))
 
   -- both are granted
-  pub both-granted : (granted plain : Granted (Heap × A)) (k d : Heap) (answer : A) → IsPost k q (with_heap d post) → granted ≡ Ok (k, answer)
+  pub both-granted : (granted plain : Granted (Heap × A)) (k d : Heap) (answer : A) → ArePostChains k q (post_with_heap d post) → granted ≡ Ok (k, answer)
       → plain ≡ Ok (d, answer) → Beside h q post granted plain
   both-granted granted plain k d answer s e f =
       subst (λ g. Beside h q post g plain) (sym e) (subst (Beside h q post (Ok (k, answer))) (sym f) (record { answer = refl; spells = s }))
 
 -- a claim
-pub claim-beside : (h : Heap) (q : Chains) (post : Post) (free n : ℕ) → IsPost h q post
+pub claim-beside : (h : Heap) (q : Chains) (post : Post) (free n : ℕ) → ArePostChains h q post
     → Beside h q post (module_claim free n h) (module_claim free n post.heap)
 claim-beside h q post free n s = go (module_claim free n h) refl (module_claim free n post.heap) refl (module_claim-alike free n h post.heap s.linked.shape)
   where
@@ -88,7 +89,7 @@ gone-nowhere a h e = go (block_at a h) refl (block_at-bytes a h)
     go (Some s) f b = let bad = b ∙ e in absurd cc
 
 -- a block of others is freed
-pub free-beside : (h : Heap) (q : Chains) (post : Post) (a : ℕ) → IsPost h q post → IsOff a post
+pub free-beside : (h : Heap) (q : Chains) (post : Post) (a : ℕ) → ArePostChains h q post → IsOff a post
     → Beside h q post (no_answer (module_free a h)) (no_answer (module_free a post.heap))
 free-beside h q post a s off = go (block_bytes a h) refl
   where
@@ -96,7 +97,7 @@ free-beside h q post a s off = go (block_bytes a h) refl
     go None e = both-refused h q post _ _ NotABlock s (ap (λ g. no_answer g) (gone-nowhere a h e))
         (ap (λ g. no_answer g) (gone-nowhere a post.heap (sym (s.linked.others a off) ∙ e)))
     go (Some bs) e =
-        both-granted h q post _ _ (release a h) (release a post.heap) tt (freed-beside h q post a s off)
+        both-granted h q post _ _ (release_block a h) (release_block a post.heap) tt (freed-beside h q post a s off)
         (ap (λ g. no_answer g) (module_free-there a h bs e)) (ap (λ g. no_answer g) (module_free-there a post.heap bs (sym (s.linked.others a off) ∙ e)))
 
 -- ---- a resize
@@ -118,8 +119,9 @@ cuts-alike h d a s c shape same e f = record {
 }
 
 -- a block of others is resized in both heaps
-resized-beside : (h : Heap) (q : Chains) (post : Post) (a n : ℕ) (s c : Split Segment) → IsPost h q post → IsOff a post → block_at a h ≡ Some s
-    → block_at a post.heap ≡ Some c → CutAlike h post.heap s c → IsPost (resize_growing n s h).heap q (with_heap (resize_growing n c post.heap).heap post)
+resized-beside : (h : Heap) (q : Chains) (post : Post) (a n : ℕ) (s c : Split Segment) → ArePostChains h q post → IsOff a post → block_at a h ≡ Some s
+    → block_at a post.heap ≡ Some c → CutAlike h post.heap s c → ArePostChains (resize_growing n s h).heap q
+    (post_with_heap (resize_growing n c post.heap).heap post)
 resized-beside h q post a n s c w off e f alike =
     let d = post.heap in
     let k = resize_growing n s h in
@@ -140,7 +142,7 @@ resized-beside h q post a n s c w off e f alike =
     blocks-changed h k.heap q post l.heap a k.address w off off_there p.shape x.others y.others there here
 
 -- a resize of a block of others
-pub resize-beside : (h : Heap) (q : Chains) (post : Post) (free a : ℕ) (delta : ℤ) → IsPost h q post → IsOff a post
+pub resize-beside : (h : Heap) (q : Chains) (post : Post) (free a : ℕ) (delta : ℤ) → ArePostChains h q post → IsOff a post
     → Beside h q post (module_resize free a delta h) (module_resize free a delta post.heap)
 unfolding module_resize ◌>>=◌ refuse_if found_or
 resize-beside h q post free a delta w off = go (block_at a h) refl (block_at a d) refl
@@ -162,7 +164,7 @@ resize-beside h q post free a delta w off = go (block_at a h) refl (block_at a d
     missing : (g : Heap) → block_at a g ≡ None → module_resize free a delta g ≡ Err NotABlock
     missing g e = ap (λ o. found_or o NotABlock >>= granted g) e
 
-    chosen : (t u : Bool) (k l : Placed) → k.address ≡ l.address → IsPost k.heap q (with_heap l.heap post)
+    chosen : (t u : Bool) (k l : Placed) → k.address ≡ l.address → ArePostChains k.heap q (post_with_heap l.heap post)
         → Beside h q post (refuse_if t BadSize >>= (λ x. refuse_if u NoRoom >>= (λ y. Ok (as_granted k))))
         (refuse_if t BadSize >>= (λ x. refuse_if u NoRoom >>= (λ y. Ok (as_granted l))))
     chosen true u k l e v = record { answer = refl; spells = w }
@@ -196,7 +198,8 @@ abbrev pub ended : ℕ → Heap → Heap
 ended n h = record h { end = n }
 
 -- the ends move alike
-pub ended-beside : (h : Heap) (q : Chains) (post : Post) (n m : ℕ) → n ≡ m → IsPost h q post → IsPost (ended n h) q (with_heap (ended m post.heap) post)
+pub ended-beside : (h : Heap) (q : Chains) (post : Post) (n m : ℕ) → n ≡ m → ArePostChains h q post → ArePostChains (ended n h) q
+    (post_with_heap (ended m post.heap) post)
 ended-beside h q post n m e s =
     block-changed h (ended n h) q post (ended m post.heap) 0 s (λ j l. zero-off post.heap (row_parcels (row_at (rows_of post) j)) (s.linked.lie j l))
     (record { blank = s.linked.shape.blank; end = e }) (λ b ne. refl) (λ b ne. refl) (none-low (ended n h) (ended m post.heap) 0 (omega arith))
@@ -205,7 +208,7 @@ same-base : (h d : Heap) → SameShape h d → base h ≡ base d
 same-base h d s = omega (arith, total-blank h.segments, total-blank d.segments, ap (λ l. total size_of l) s.blank)
 
 -- a change of the area's length
-pub change-beside : (h : Heap) (q : Chains) (post : Post) (free : ℕ) (delta : ℤ) → IsPost h q post
+pub change-beside : (h : Heap) (q : Chains) (post : Post) (free : ℕ) (delta : ℤ) → ArePostChains h q post
     → Beside h q post (module_change free delta h) (module_change free delta post.heap)
 change-beside h q post free delta s =
     let d = post.heap in
@@ -228,34 +231,35 @@ change-beside h q post free delta s =
 
 -- ---- in the module area
 module _ {A : Type 0} (m n : Memory) (rma : Module) (q : Chains) (granted : Granted (Heap × A)) (result : Granted A)
-    (l : module_calls.Leaves m n rma granted result) where
-  pub answers-beside : (post : Post) (plain : Granted (Heap × A)) → Beside (heap_in m rma) q post granted plain → result ≡ answer_of plain
+    (l : module_calls.LeavesModule m n rma granted result) where
+  pub answers-beside : (post : Post) (plain : Granted (Heap × A)) → Beside (module_heap_in m rma) q post granted plain → result ≡ answer_of plain
   answers-beside post plain b = l.answer ∙ b.answer
 
-  pub spells-beside : (post : Post) (plain : Granted (Heap × A)) → Beside (heap_in m rma) q post granted plain
-      → SpellsPost n rma q (with_heap (left_of post.heap plain) post)
-  spells-beside post plain b = subst (λ h. IsPost h q (with_heap (left_of post.heap plain) post)) (sym l.heap) b.spells
+  pub spells-beside : (post : Post) (plain : Granted (Heap × A)) → Beside (module_heap_in m rma) q post granted plain
+      → SpellsPostIn n rma q (post_with_heap (left_of post.heap plain) post)
+  spells-beside post plain b = subst (λ h. ArePostChains h q (post_with_heap (left_of post.heap plain) post)) (sym l.heap) b.spells
 
   -- it still is a queue
-  pub queue-beside : (post : Post) (plain : Granted (Heap × A)) → Beside (heap_in m rma) q post granted plain → IsQueue n rma q
-  queue-beside post plain b = record { area = l.still; post = with_heap (left_of post.heap plain) post; spells = spells-beside post plain b }
+  pub queue-beside : (post : Post) (plain : Granted (Heap × A)) → Beside (module_heap_in m rma) q post granted plain → IsQueue n rma q
+  queue-beside post plain b = record { area = l.still; post = post_with_heap (left_of post.heap plain) post; spells = spells-beside post plain b }
 
   -- the post that is read has the heap that its own one becomes
-  pub post_in-calls : (plain : Granted (Heap × A)) → IsSmall m rma → IsSmall n rma → IsQueue m rma q → Beside (heap_in m rma) q (post_in m rma q) granted plain
-      → post_in n rma q ≡ with_heap (left_of (post_in m rma q).heap plain) (post_in m rma q)
+  pub post_in-calls : (plain : Granted (Heap × A)) → IsSmallModule m rma → IsSmallModule n rma → IsQueue m rma q → Beside (module_heap_in m rma) q
+      (post_in m rma q) granted plain
+      → post_in n rma q ≡ post_with_heap (left_of (post_in m rma q).heap plain) (post_in m rma q)
   post_in-calls plain small smaller s b =
       let post = post_in m rma q in
-      post_in-is n rma q (with_heap (left_of post.heap plain) post) smaller l.still (spells-beside post plain b)
-      ∙ sym (ap (with_heap (left_of post.heap plain)) (post_in-in_order m rma q small s))
+      post_in-is n rma q (post_with_heap (left_of post.heap plain) post) smaller l.still (spells-beside post plain b)
+      ∙ sym (ap (post_with_heap (left_of post.heap plain)) (post_in-in_order m rma q small s))
 
 -- a call that the post's heap grants as the area's does
 goes-beside : {A : Type 0} (allowed : Post → Type 0) (call : ℕ → Heap → Granted (Heap × A))
-    → ((h : Heap) (q : Chains) (post : Post) (free : ℕ) → allowed post → IsPost h q post → Beside h q post (call free h) (call free post.heap))
+    → ((h : Heap) (q : Chains) (post : Post) (free : ℕ) → allowed post → ArePostChains h q post → Beside h q post (call free h) (call free post.heap))
     → GoesBeside allowed call
 goes-beside allowed call f m n rma q post result a s l =
-    let b = f (heap_in m rma) q post m.free a s in (
-      answers-beside m n rma q (call m.free (heap_in m rma)) result l post (call m.free post.heap) b,
-      spells-beside m n rma q (call m.free (heap_in m rma)) result l post (call m.free post.heap) b,
+    let b = f (module_heap_in m rma) q post m.free a s in (
+      answers-beside m n rma q (call m.free (module_heap_in m rma)) result l post (call m.free post.heap) b,
+      spells-beside m n rma q (call m.free (module_heap_in m rma)) result l post (call m.free post.heap) b,
     )
 
 pub claims-beside : (n : ℕ) → GoesBeside (λ post. Unit {0}) (λ free h. module_claim free n h)

@@ -1,9 +1,10 @@
 -- A post after a message bounces.
 use Rattle.rh_wimp.proofs.Common.{◌≡◌, ℕ, ◌+◌, ◌<◌, ◌≤◌, ◌≢◌, inl, inr, true, List, [], ◌∷◌, ◌++◌, length, map, set, refl, sym, ap, subst, ◌∙◌, arith}
-use Rattle.rh_wimp.proofs.Common.{append-nil, cases_eq, length-set, get_or-set_same, get_or-set_other, Some, None, total, Heap, release, relinked}
+use Rattle.rh_wimp.proofs.Common.{append-nil, cases_eq, length-set, get_or-set_same, get_or-set_other, Some, None, total, Heap, release_block, relinked}
 use Rattle.rh_wimp.proofs.Common.{block_bytes, poked, SameShape, word_bytes, Parcel, parcel_bytes, padded, Seat, Post, has_seat, held_by, with_held}
-use Rattle.rh_wimp.proofs.Common.{count_held, live_count, most_messages, as_returned, Loose, Chains, Holds, Row, RowLies, RowsLie, IsLinked, IsPost, AllLie}
-use Rattle.rh_wimp.proofs.Common.{AllLive, Off, no_row, entry_at, row_at, row_of, rows_of, row_parcels, held_list, lengthened, emptied, emptied_chains}
+use Rattle.rh_wimp.proofs.Common.{count_held, live_count, most_messages, as_returned, Loose, Chains, Holds, SeatRow, RowLies, RowsLie, IsLinked, ArePostChains}
+use Rattle.rh_wimp.proofs.Common.{AllLie}
+use Rattle.rh_wimp.proofs.Common.{AllLive, Off, no_row, entry_at, row_at, seat_row, rows_of, row_parcels, held_list, lengthened, emptied, emptied_chains}
 use Rattle.rh_wimp.proofs.Common.{last_block, lifted, Entry, poked-pokes, poked-other, release-frees, poked-shape, shape-both, release-alike}
 use Rattle.rh_defs.proofs.BlockLaws.{block-above}
 use Rattle.rh_wimp.proofs.LinkLaws.{AllLie-kept, AllLie-parts}
@@ -15,7 +16,7 @@ use Rattle.rh_wimp.proofs.SendLaws.{Links, relinked-other, relinked-last, relink
 use Rattle.rh_defs.proofs.ShapeLaws.{shape-sym}
 
 -- ---- what a task holds is lifted
-linked-lifted : (h d : Heap) (es : List Entry) (rows : List Row) (i : ℕ) (q : Parcel) → i < length rows → RowsLie h es rows → (row_at rows i).held ≡ Some q
+linked-lifted : (h d : Heap) (es : List Entry) (rows : List SeatRow) (i : ℕ) (q : Parcel) → i < length rows → RowsLie h es rows → (row_at rows i).held ≡ Some q
     → IsLinked h d rows → block_bytes q.block h ≡ block_bytes q.block d → IsLinked h d (set rows i (without_held (row_at rows i)))
 linked-lifted h d es rows i q l s held linked same-bytes =
     let r = row_at rows i in
@@ -41,22 +42,22 @@ linked-lifted h d es rows i q l s held linked same-bytes =
     }
 
 module _ (h : Heap) (q : Chains) (post : Post) (x i : ℕ) (p : Parcel) where
-  pub lift : IsPost h q post → i < length q.entries → (entry_at q.entries i).handle ≡ x → held_by x post.seats ≡ Some p
-      → IsPost h (emptied_chains i q) (lifted x post) × Loose h (lifted x post) p
+  pub lift : ArePostChains h q post → i < length q.entries → (entry_at q.entries i).handle ≡ x → held_by x post.seats ≡ Some p
+      → ArePostChains h (emptied_chains i q) (lifted x post) × Loose h (lifted x post) p
   lift s lt handle held =
       let w = seated h q post i s lt in
-      let row : Row = row_at (rows_of post) i in
+      let row : SeatRow = row_at (rows_of post) i in
       let seat : Seat = seat_at post.seats i in
       let names = named h q post s in
       let here : seat.holds ≡ Some p = sym (held-at post.seats i x names w.seat (sym w.handle ∙ handle)) ∙ held in
-      let row-holds : row.held ≡ Some p = ap (λ (r : Row). r.held) w.row_is ∙ here in
+      let row-holds : row.held ≡ Some p = ap (λ (r : SeatRow). r.held) w.row_is ∙ here in
       let holds = subst (Holds h (entry_at q.entries i).held) row-holds (s.rows.each i w.row).held in
       let plain : block_bytes p.block post.heap ≡ Some (padded 0 p) =
       (subst (λ o. AllLie post.heap (held_list o)) row-holds (AllLie-parts post.heap row.chain (held_list row.held) (s.linked.lie i w.row)).1).0 in
       let seats-are : with_held x None post.seats ≡ set post.seats i (seat_with None seat) =
       with_held-at None post.seats i x names w.seat (sym w.handle ∙ handle) in
-      let rows-are : map (row_of post.queued) (with_held x None post.seats) ≡ set (rows_of post) i (without_held row) =
-      ap (map (row_of post.queued)) seats-are ∙ rows-seat post.queued post.seats i (seat_with None seat)
+      let rows-are : map (seat_row post.queued) (with_held x None post.seats) ≡ set (rows_of post) i (without_held row) =
+      ap (map (seat_row post.queued)) seats-are ∙ rows-seat post.queued post.seats i (seat_with None seat)
       ∙ ap (λ r. set (rows_of post) i (without_held r)) (sym w.row_is) in
       let keeps : KeepsBut h h p.block p.block = record { each = λ b ne ne'. refl } in
       let counts = count-seat post.seats i (seat_with None seat) w.seat in
@@ -84,18 +85,18 @@ module _ (h : Heap) (q : Chains) (post : Post) (x i : ℕ) (p : Parcel) where
       )
 
 -- ---- a loose message goes back to its sender
-pub returned-queued : (h h1 k : Heap) (q : Chains) (post : Post) (p : Parcel) (to : ℕ) → IsPost h q post → Loose h post p
+pub returned-queued : (h h1 k : Heap) (q : Chains) (post : Post) (p : Parcel) (to : ℕ) → ArePostChains h q post → Loose h post p
     → has_seat p.message.from post.seats ≡ true → live_count post < most_messages
     → to < length q.entries → (entry_at q.entries to).handle ≡ p.message.from → h1 ≡ poked p.block 4 (word_bytes 19) h
     → k ≡ relinked (entry_at q.entries to).last p.block h1
-    → IsPost k (record { entries = set q.entries to (lengthened p.block (entry_at q.entries to)); live = q.live + 1; next_ref = q.next_ref })
+    → ArePostChains k (record { entries = set q.entries to (lengthened p.block (entry_at q.entries to)); live = q.live + 1; next_ref = q.next_ref })
     (record post { queued = post.queued ++ as_returned p ∷ []; heap = poked p.block 0 (parcel_bytes 0 (as_returned p)) post.heap })
 returned-queued h h1 k q post p to s loose alive few lt named-to e1 ek =
     let new : Parcel = as_returned p in
     let d : Heap = poked p.block 0 (parcel_bytes 0 new) post.heap in
     let last : ℕ = (entry_at q.entries to).last in
     let w = seated h q post to s lt in
-    let row : Row = row_at (rows_of post) to in
+    let row : SeatRow = row_at (rows_of post) to in
     let here = s.rows.each to w.row in
     let off = loose.off to w.row in
     let apart : p.block ≢ last = apart-last h (entry_at q.entries to) row p.block (block-above p.block h (padded 0 p) loose.lies.block) here off in
@@ -113,7 +114,7 @@ returned-queued h h1 k q post p to s loose alive few lt named-to e1 ek =
     queue-longer h k q post new to d s alive few lt named-to loose.off joins (record { block = in-k; fits = loose.lies.fits }) shape in-d
     (λ b ne. poked-other p.block b 0 (parcel_bytes 0 new) post.heap ne) q.next_ref post.next_ref s.next_ref
   where
-    apart-last : (g : Heap) (en : Entry) (r : Row) (b : ℕ) → 20 ≤ b → RowLies g en r → Off b (row_parcels r) → b ≢ en.last
+    apart-last : (g : Heap) (en : Entry) (r : SeatRow) (b : ℕ) → 20 ≤ b → RowLies g en r → Off b (row_parcels r) → b ≢ en.last
     apart-last g en r b above lies off = go r.chain lies.last (Off-parts b r.chain (held_list r.held) off).0
       where
         go : (ps : List Parcel) → en.last ≡ last_block ps → Off b ps → b ≢ en.last
@@ -131,16 +132,16 @@ returned-queued h h1 k q post p to s loose alive few lt named-to e1 ek =
     }
 
 -- ---- a loose message vanishes
-pub vanished : (h : Heap) (q : Chains) (post : Post) (p : Parcel) → IsPost h q post → Loose h post p
-    → IsPost (release p.block h) q (record post { heap = release p.block post.heap })
+pub vanished : (h : Heap) (q : Chains) (post : Post) (p : Parcel) → ArePostChains h q post → Loose h post p
+    → ArePostChains (release_block p.block h) q (record post { heap = release_block p.block post.heap })
 vanished h q post p s loose =
     let f = release-frees p.block h in
     let f' = release-frees p.block post.heap in
     record {
       rows = record {
         len = s.rows.len;
-        each = λ i l. row-kept h (release p.block h) (entry_at q.entries i) (row_at (rows_of post) i)
-            (agree-off h (release p.block h) p.block p.block (row_parcels (row_at (rows_of post) i)) (record { each = λ b ne ne'. f.others b ne })
+        each = λ i l. row-kept h (release_block p.block h) (entry_at q.entries i) (row_at (rows_of post) i)
+            (agree-off h (release_block p.block h) p.block p.block (row_parcels (row_at (rows_of post) i)) (record { each = λ b ne ne'. f.others b ne })
             (loose.off i l) (loose.off i l)) (s.rows.each i l);
         own = s.rows.own;
         cross = s.rows.cross;
@@ -148,10 +149,10 @@ vanished h q post p s loose =
       };
       linked = record {
         shape = release-alike p.block h post.heap s.linked.shape;
-        lie = λ i l. AllLie-kept post.heap (release p.block post.heap) p.block (row_parcels (row_at (rows_of post) i)) f'.others (loose.off i l)
+        lie = λ i l. AllLie-kept post.heap (release_block p.block post.heap) p.block (row_parcels (row_at (rows_of post) i)) f'.others (loose.off i l)
             (s.linked.lie i l);
         others = λ b out. elim (cases_eq b p.block) [
-          | inl z ↦ subst (λ m. block_bytes m (release p.block h) ≡ block_bytes m (release p.block post.heap)) (sym z) (f.gone ∙ sym f'.gone)
+          | inl z ↦ subst (λ m. block_bytes m (release_block p.block h) ≡ block_bytes m (release_block p.block post.heap)) (sym z) (f.gone ∙ sym f'.gone)
           | inr ne ↦ f.others b ne ∙ s.linked.others b out ∙ sym (f'.others b ne)
         ];
       };

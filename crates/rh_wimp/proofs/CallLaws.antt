@@ -1,30 +1,33 @@
 -- What calls on the module area leave of its blocks.
 use Rattle.rh_wimp.proofs.Common.{◌≡◌, ℕ, ◌+◌, ◌≤◌, List, ◌++◌, length, length-append, take, drop, replicate, refl, sym, ap, subst, ◌∙◌, arith, append_assoc}
-use Rattle.rh_wimp.proofs.Common.{Ok, Err, put, Granted, answer_of, left_of, Memory, zeros, Heap, block_room, release, module_claim, OnlyArea-both, heap_in}
+use Rattle.rh_wimp.proofs.Common.{Ok, Err, with_part, Granted, answer_of, left_of, Memory, zeros, Heap, block_room, release_block, module_claim, OnlyArea-both}
+use Rattle.rh_wimp.proofs.Common.{module_heap_in}
 use Rattle.rh_wimp.proofs.Common.{Module, Turns, poked, HasBlock, word_bytes, encoded, encoded_length, Message, module_claim-puts, length-word_bytes}
 use Rattle.rh_wimp.proofs.Common.{length-encoded}
 use Rattle.std.proofs.lemmas.List.{take_at}
 use Rattle.rh_defs.specs.Chain.{no_answer}
 use Rattle.rh_defs.specs.Module.{module_free}
 use Rattle.rh_defs.proofs.BytesLaws.{put-parts}
-use Rattle.rh_module.specs.Calls.{Leaves}
+use Rattle.rh_module.specs.Calls.{LeavesModule}
 use Rattle.rh_module.specs.Writes.{Wrote}
-use Rattle.rh_defs.specs.Blocks.{Puts}
+use Rattle.rh_defs.specs.Blocks.{PutsBlock}
 use Rattle.rh_defs.proofs.BlockCalls.{module_claim-has, module_free-there}
 use Rattle.rh_defs.proofs.BlockLaws.{has-poked}
 
 -- ---- claims
 pub record Claimed (m n : Memory) (rma : Module) (size block : ℕ) : Type 0 where
   pub there : Heap × ℕ
-  pub granted : module_claim m.free size (heap_in m rma) ≡ Ok there
+  pub granted : module_claim m.free size (module_heap_in m rma) ≡ Ok there
   pub block_is : block ≡ there.1
   pub turns : Turns m n rma there.0
-  pub puts : Puts (zeros (block_room size)) (heap_in m rma) there.0 there.1
+  pub puts : PutsBlock (zeros (block_room size)) (module_heap_in m rma) there.0 there.1
 
-pub claimed : (m n : Memory) (rma : Module) (size block : ℕ) → Leaves m n rma (module_claim m.free size (heap_in m rma)) (Ok block) → Claimed m n rma size block
-claimed m n rma size block w = go (module_claim m.free size (heap_in m rma)) refl w.answer w.heap
+pub claimed : (m n : Memory) (rma : Module) (size block : ℕ) → LeavesModule m n rma (module_claim m.free size (module_heap_in m rma)) (Ok block)
+    → Claimed m n rma size block
+claimed m n rma size block w = go (module_claim m.free size (module_heap_in m rma)) refl w.answer w.heap
   where
-    go : (g : Granted (Heap × ℕ)) → module_claim m.free size (heap_in m rma) ≡ g → Ok block ≡ answer_of g → heap_in n rma ≡ left_of (heap_in m rma) g
+    go : (g : Granted (Heap × ℕ)) → module_claim m.free size (module_heap_in m rma) ≡ g → Ok block ≡ answer_of g → module_heap_in n rma ≡ left_of
+        (module_heap_in m rma) g
         → Claimed m n rma size block
     go (Err e) eg a h = absurd cc
     go (Ok there) eg a h = record {
@@ -32,20 +35,21 @@ claimed m n rma size block w = go (module_claim m.free size (heap_in m rma)) ref
       granted = eg;
       block_is = cc;
       turns = record { still = w.still; heap = h; only = w.only };
-      puts = module_claim-puts m.free size (heap_in m rma) there eg;
+      puts = module_claim-puts m.free size (module_heap_in m rma) there eg;
     }
 
-pub claimed-block : (m n : Memory) (rma : Module) (size block : ℕ) → Claimed m n rma size block → HasBlock block size (heap_in n rma)
+pub claimed-block : (m n : Memory) (rma : Module) (size block : ℕ) → Claimed m n rma size block → HasBlock block size (module_heap_in n rma)
 claimed-block m n rma size block c =
     subst (λ (h : Heap). HasBlock block size h) (sym c.turns.heap) (subst (λ a. HasBlock a size c.there.0) (sym c.block_is)
-    (module_claim-has m.free size (heap_in m rma) c.there c.granted))
+    (module_claim-has m.free size (module_heap_in m rma) c.there c.granted))
 
 -- ---- writes in a row
-pub wrote-block : (m n : Memory) (rma : Module) (a o k : ℕ) (xs : List ℕ) → Wrote m n rma a o xs → HasBlock a k (heap_in m rma) → HasBlock a k (heap_in n rma)
-wrote-block m n rma a o k xs w b = subst (HasBlock a k) (sym w.heap) (has-poked a k o xs (heap_in m rma) b)
+pub wrote-block : (m n : Memory) (rma : Module) (a o k : ℕ) (xs : List ℕ) → Wrote m n rma a o xs → HasBlock a k (module_heap_in m rma) → HasBlock a k
+    (module_heap_in n rma)
+wrote-block m n rma a o k xs w b = subst (HasBlock a k) (sym w.heap) (has-poked a k o xs (module_heap_in m rma) b)
 
 -- ---- the bytes of a parcel: its link and its code, then its message
-pub parcel_head : (code : ℕ) (p : List ℕ) → p ≡ put (replicate 264 0) 4 (word_bytes code) → take 8 p ≡ word_bytes 0 ++ word_bytes code
+pub parcel_head : (code : ℕ) (p : List ℕ) → p ≡ with_part (replicate 264 0) 4 (word_bytes code) → take 8 p ≡ word_bytes 0 ++ word_bytes code
 unfolding word_bytes
 parcel_head code p e =
     let z : List ℕ = replicate 264 0 in
@@ -57,7 +61,7 @@ parcel_head code p e =
     let q : p ≡ (take 4 z ++ word_bytes code) ++ d = e ∙ put-parts z 4 (word_bytes code) (omega arith) ∙ sym (append_assoc (take 4 z) (word_bytes code) d) in
     ap (take 8) q ∙ take_at (take 4 z ++ word_bytes code) d 8 (omega (arith, length-append (take 4 z) (word_bytes code))) ∙ ap (λ x. x ++ word_bytes code) none
 
-pub parcel_bytes : (b h r : List ℕ) (m : Message) (n : ℕ) (c : List ℕ) → length h ≡ 8 → n ≡ encoded_length m → n ≤ length b → c ≡ put b 0 (encoded m)
+pub parcel_bytes : (b h r : List ℕ) (m : Message) (n : ℕ) (c : List ℕ) → length h ≡ 8 → n ≡ encoded_length m → n ≤ length b → c ≡ with_part b 0 (encoded m)
     → take (8 + n) (h ++ (c ++ r)) ≡ h ++ encoded m
 parcel_bytes b h r m n c l e s ec =
     let k = length-encoded m in
@@ -68,7 +72,7 @@ parcel_bytes b h r m n c l e s ec =
     ap (take (8 + n)) q ∙ take_at (h ++ encoded m) (d ++ r) (8 + n) (omega (arith, length-append h (encoded m)))
 
 pub placed-there : (m n n1 : Memory) (rma : Module) (size block : ℕ) (xs : List ℕ) → Claimed m n rma size block → Wrote n n1 rma block 0 xs
-    → (there : Heap × ℕ) → module_claim m.free size (heap_in m rma) ≡ Ok there → Turns m n1 rma (poked there.1 0 xs there.0)
+    → (there : Heap × ℕ) → module_claim m.free size (module_heap_in m rma) ≡ Ok there → Turns m n1 rma (poked there.1 0 xs there.0)
 placed-there m n n1 rma size block xs c w there e =
     let same : ◌≡◌ {A = Heap × ℕ} c.there there = let q : ◌≡◌ {A = Granted (Heap × ℕ)} (Ok c.there) (Ok there) = sym c.granted ∙ e in cc in
     subst (λ (x : Heap × ℕ). Turns m n1 rma (poked x.1 0 xs x.0)) same (record {
@@ -78,13 +82,13 @@ placed-there m n n1 rma size block xs c w there e =
     })
 
 -- ---- frees
-module _ (m n : Memory) (rma : Module) (a k : ℕ) (result : Granted (Unit {0})) (b : HasBlock a k (heap_in m rma))
-    (w : Leaves m n rma (no_answer (module_free a (heap_in m rma))) result) where
-  granted : no_answer (module_free a (heap_in m rma)) ≡ Ok (release a (heap_in m rma), tt)
-  granted = ap no_answer (module_free-there a (heap_in m rma) b.bytes b.found)
+module _ (m n : Memory) (rma : Module) (a k : ℕ) (result : Granted (Unit {0})) (b : HasBlock a k (module_heap_in m rma))
+    (w : LeavesModule m n rma (no_answer (module_free a (module_heap_in m rma))) result) where
+  granted : no_answer (module_free a (module_heap_in m rma)) ≡ Ok (release_block a (module_heap_in m rma), tt)
+  granted = ap no_answer (module_free-there a (module_heap_in m rma) b.bytes b.found)
 
   pub free-done : result ≡ Ok tt
   free-done = w.answer ∙ ap answer_of granted
 
-  pub freed : Turns m n rma (release a (heap_in m rma))
-  freed = record { still = w.still; heap = w.heap ∙ ap (left_of (heap_in m rma)) granted; only = w.only }
+  pub freed : Turns m n rma (release_block a (module_heap_in m rma))
+  freed = record { still = w.still; heap = w.heap ∙ ap (left_of (module_heap_in m rma)) granted; only = w.only }

@@ -1,5 +1,6 @@
 -- What was encoded in a block is decoded from it, whatever stands behind it.
-use Rattle.rh_wimp.proofs.Common.{◌≡◌, ℕ, ◌+◌, ◌*◌, ◌%◌, ◌≤◌, List, [], ◌∷◌, length, take, ap, sym, subst, ◌∙◌, arith, word, put, action_number, action_of}
+use Rattle.rh_wimp.proofs.Common.{◌≡◌, ℕ, ◌+◌, ◌*◌, ◌%◌, ◌≤◌, List, [], ◌∷◌, length, take, ap, sym, subst, ◌∙◌, arith, word, with_part, action_number}
+use Rattle.rh_wimp.proofs.Common.{action_of}
 use Rattle.rh_wimp.proofs.Common.{data_words, encoded, Body, DataSave, DataSaveAck, DataLoad, DataLoadAck, RamFetch, RamTransmit, Message, length-encoded}
 use Rattle.std.proofs.lemmas.List.{length-take-le}
 use Rattle.rh_defs.specs.Bytes.{SameIn}
@@ -57,10 +58,10 @@ module _ (b c : List ℕ) (same : SameIn b c 0 (length b)) where
       }
 
 -- a block that a message was written into begins with it
-front-same : (block xs : List ℕ) (n : ℕ) → length xs ≤ n → n ≤ length block → SameIn xs (take n (put block 0 xs)) 0 (length xs)
+front-same : (block xs : List ℕ) (n : ℕ) → length xs ≤ n → n ≤ length block → SameIn xs (take n (with_part block 0 xs)) 0 (length xs)
 front-same block xs n low high = record {
   each = λ k least below.
-      (SameIn-take n (put block 0 xs) 0 (length xs) low).each k least below
+      (SameIn-take n (with_part block 0 xs) 0 (length xs) low).each k least below
       ∙ put_inside block 0 xs k k below (omega arith) (omega arith);
 }
 
@@ -68,7 +69,7 @@ pub comes-back : ComesBack
 comes-back m block n fits whole low high =
     let l = length-encoded m in
     let there = front-same block (encoded m) n (omega arith) (omega arith) in
-    let many = length-take-le n (put block 0 (encoded m)) (omega (arith, length-put block 0 (encoded m))) in
+    let many = length-take-le n (with_part block 0 (encoded m)) (omega (arith, length-put block 0 (encoded m))) in
     let long = length-put block 0 (encoded m) in
-    spelled-decodes (take n (put block 0 (encoded m))) m
-    (message-there (encoded m) (take n (put block 0 (encoded m))) there m (omega (arith, many, long)) (encoded-spells m fits))
+    spelled-decodes (take n (with_part block 0 (encoded m))) m
+    (message-there (encoded m) (take n (with_part block 0 (encoded m))) there m (omega (arith, many, long)) (encoded-spells m fits))

@@ -1,7 +1,9 @@
 -- The turns of a death.
 use Rattle.rh_wimp.proofs.Common.{◌≡◌, ℕ, ◌+◌, ◌<◌, ◌≤◌, List, [], ◌∷◌, length, refl, sym, ap, subst, ◌∙◌, arith, Option, Some, None, true, false, ◌==◌, Heap}
-use Rattle.rh_wimp.proofs.Common.{release, Memory, OnlyArea, Parcel, is_recorded, Post, held_by, bounced, without_block, post_death, most_messages, cond_true}
-use Rattle.rh_wimp.proofs.Common.{cond_false, eqb_same, eqb_apart, IsModule, heap_in, Module, Chains, IsPost, Lifted, MayBounce, SpellsPost, entry_at}
+use Rattle.rh_wimp.proofs.Common.{release_block, Memory, OnlyArea, Parcel, is_recorded, Post, held_by, bounced, without_block, post_death, most_messages}
+use Rattle.rh_wimp.proofs.Common.{cond_true}
+use Rattle.rh_wimp.proofs.Common.{cond_false, eqb_same, eqb_apart, IsModule, module_heap_in, Module, Chains, ArePostChains, Lifted, MayBounce, SpellsPostIn}
+use Rattle.rh_wimp.proofs.Common.{entry_at}
 use Rattle.rh_wimp.proofs.Common.{ended_from, lifted, queue_to, settled_from, without_seat}
 use Rattle.rh_defs.specs.Post.{bounce_all}
 use Rattle.rh_wimp.specs.Chains.{LiftsFirst}
@@ -18,10 +20,10 @@ use Rattle.rh_wimp.proofs.TakeLaws.{first-none, first-some, rest_of}
 -- ---- one message
 -- a loose message whose block was freed
 pub may-vanish : (m : Memory) (rma : Module) (q : Chains) (post : Post) (p : Parcel) (block : ℕ) (k : Heap) → MayBounce m rma q post p block
-    → k ≡ release block (heap_in m rma) → IsPost k q (without_block p post)
+    → k ≡ release_block block (module_heap_in m rma) → ArePostChains k q (without_block p post)
 may-vanish m rma q post p block k w e =
-    subst (λ (g : Heap). IsPost g q (without_block p post)) (sym (e ∙ ap (λ a. release a (heap_in m rma)) w.block_is))
-    (vanished (heap_in m rma) q post p w.spells w.loose)
+    subst (λ (g : Heap). ArePostChains g q (without_block p post)) (sym (e ∙ ap (λ a. release_block a (module_heap_in m rma)) w.block_is))
+    (vanished (module_heap_in m rma) q post p w.spells w.loose)
 
 pub from-dying : (h : ℕ) (p : Parcel) (post : Post) → p.message.from ≡ h → bounced_from h p post ≡ without_block p post
 from-dying h p post e = cond_true (p.message.from == h) (without_block p post) (bounced p post) (eqb_same p.message.from h e)
@@ -36,7 +38,7 @@ pub ended-vanishes : (h : ℕ) (p : Parcel) (post : Post) → is_recorded p.code
 ended-vanishes h p post e = cond_false (is_recorded p.code) (bounced_from h p post) (without_block p post) e
 
 -- ---- the turns
-pub drained-start : (m : Memory) (rma : Module) (q : Chains) (post : Post) (h : ℕ) → SpellsPost m rma q post → Drains m rma q post h 0
+pub drained-start : (m : Memory) (rma : Module) (q : Chains) (post : Post) (h : ℕ) → SpellsPostIn m rma q post → Drains m rma q post h 0
 drained-start m rma q post h s =
     let f = fewer-filter (λ (p : Parcel). p.to == h) post.queued in
     let few = s.few in
@@ -44,7 +46,7 @@ drained-start m rma q post h s =
 
 pub drained-step : (m n k : Memory) (rma : Module) (q q1 q2 : Chains) (post now : Post) (h turn block : ℕ) (t : Parcel × List Parcel)
     → Drained m rma q post h turn now → Lifted n rma q1 now h block t
-    → SpellsPost k rma q2 (ended_from h t.0 (rest_of t.1 now)) → Drains k rma q2 post h (turn + 1)
+    → SpellsPostIn k rma q2 (ended_from h t.0 (rest_of t.1 now)) → Drains k rma q2 post h (turn + 1)
 drained-step m n k rma q q1 q2 post now h turn block t d w s =
     let f = first-some h now.queued t w.first in
     let l = ap length f.same in
@@ -66,18 +68,18 @@ pub record Ends (m n : Memory) (rma : Module) (q k : Chains) (h i turn : ℕ) : 
   pub only : OnlyArea m n rma.area.0
   pub within : i < length k.entries
   pub handle : (entry_at k.entries i).handle ≡ h
-  pub drains : (post : Post) → SpellsPost m rma q post → Drains n rma k post h turn
+  pub drains : (post : Post) → SpellsPostIn m rma q post → Drains n rma k post h turn
 
 -- ---- places
 -- the place of a task stays where the seats have the same handles
 pub place-stays : (h g : Heap) (q k : Chains) (post other : Post) (i : ℕ) → length other.seats ≡ length post.seats
-    → (seat_at other.seats i).handle ≡ (seat_at post.seats i).handle → IsPost h q post → IsPost g k other → i < length q.entries → Stays q k i
+    → (seat_at other.seats i).handle ≡ (seat_at post.seats i).handle → ArePostChains h q post → ArePostChains g k other → i < length q.entries → Stays q k i
 place-stays h g q k post other i el eh s t l =
     let a = as_many h q post s in
     let b = as_many g k other t in
     record { within = omega arith; handle = (seated g k other i t (omega arith)).handle ∙ eh ∙ sym (seated h q post i s l).handle }
 
-pub settled-stays : (h g : Heap) (q k : Chains) (post : Post) (x i : ℕ) (o : Option Parcel) → IsPost h q post → IsPost g k (settled_from x o post)
+pub settled-stays : (h g : Heap) (q k : Chains) (post : Post) (x i : ℕ) (o : Option Parcel) → ArePostChains h q post → ArePostChains g k (settled_from x o post)
     → i < length q.entries → Stays q k i
 settled-stays h g q k post x i None s t l = place-stays h g q k post post i refl refl s t l
 settled-stays h g q k post x i (Some p) s t l =
@@ -96,11 +98,12 @@ no_length (p ∷ ps) l = absurd (omega arith)
 
 -- once no message is left for the handle, its seat goes
 pub death-done : (m : Memory) (rma : Module) (q : Chains) (post : Post) (x i : ℕ) → i < length q.entries → (entry_at q.entries i).handle ≡ x
-    → Drains m rma q (settled_from x (held_by x post.seats) post) x most_messages → IsPost (heap_in m rma) (left_chains i q) (post_death x post)
+    → Drains m rma q (settled_from x (held_by x post.seats) post) x most_messages → ArePostChains (module_heap_in m rma) (left_chains i q) (post_death x post)
 death-done m rma q post x i lt e d =
     let now : Post = d.0 in
     let few = d.1.few in
     let empty : queue_to x now.queued ≡ [] = no_length (queue_to x now.queued) (omega arith) in
     let none : held_by x now.seats ≡ None = ap (held_by x) d.1.seats ∙ settled-none x (held_by x post.seats) post refl in
     let is : post_death x post ≡ without_seat x now = death-settled x post ∙ sym d.1.same ∙ ap (λ l. bounce_all l (without_seat x now)) empty in
-    subst (λ (y : Post). IsPost (heap_in m rma) (left_chains i q) y) (sym is) (seat-left (heap_in m rma) q now x i d.1.spells lt e none empty)
+    subst (λ (y : Post). ArePostChains (module_heap_in m rma) (left_chains i q) y) (sym is)
+    (seat-left (module_heap_in m rma) q now x i d.1.spells lt e none empty)

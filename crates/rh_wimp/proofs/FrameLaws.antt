@@ -1,6 +1,6 @@
 -- The post stays where blocks of others come and go.
-use Rattle.rh_wimp.proofs.Common.{◌≡◌, ℕ, ◌<◌, ◌≢◌, inl, inr, length, sym, subst, ◌∙◌, cases_eq, List, [], ◌∷◌, Ok, Parcel, Heap, release, module_claim}
-use Rattle.rh_wimp.proofs.Common.{block_bytes, SameShape, Post, AllLie, Chains, IsPost, Off, entry_at, row_at, rows_of, row_parcels, release-frees}
+use Rattle.rh_wimp.proofs.Common.{◌≡◌, ℕ, ◌<◌, ◌≢◌, inl, inr, length, sym, subst, ◌∙◌, cases_eq, List, [], ◌∷◌, Ok, Parcel, Heap, release_block, module_claim}
+use Rattle.rh_wimp.proofs.Common.{block_bytes, SameShape, Post, AllLie, Chains, ArePostChains, Off, entry_at, row_at, rows_of, row_parcels, release-frees}
 use Rattle.rh_wimp.proofs.Common.{module_claim-puts, module_claim-alike, release-alike}
 use Rattle.rh_wimp.proofs.RowLaws.{agree-off, row-kept, row-fresh}
 use Rattle.rh_wimp.proofs.SendLaws.{alike-ok}
@@ -17,9 +17,9 @@ IsOff a post = (j : ℕ) → j < length (rows_of post) → Off a (row_parcels (r
 
 -- two blocks that hold no message change, in both heaps alike
 module _ (h k : Heap) (q : Chains) (post : Post) (d : Heap) (x y : ℕ) where
-  pub blocks-changed : IsPost h q post → IsOff x post → IsOff y post → SameShape k d
+  pub blocks-changed : ArePostChains h q post → IsOff x post → IsOff y post → SameShape k d
       → ((b : ℕ) → b ≢ x → b ≢ y → block_bytes b k ≡ block_bytes b h) → ((b : ℕ) → b ≢ x → b ≢ y → block_bytes b d ≡ block_bytes b post.heap)
-      → block_bytes x k ≡ block_bytes x d → block_bytes y k ≡ block_bytes y d → IsPost k q (record post { heap = d })
+      → block_bytes x k ≡ block_bytes x d → block_bytes y k ≡ block_bytes y d → ArePostChains k q (record post { heap = d })
   blocks-changed s off off' shape keeps keeps' same same' = record {
     rows = record {
       len = s.rows.len;
@@ -48,18 +48,18 @@ module _ (h k : Heap) (q : Chains) (post : Post) (d : Heap) (x y : ℕ) where
 
 -- one block that holds no message changes, in both heaps alike
 module _ (h k : Heap) (q : Chains) (post : Post) (d : Heap) (a : ℕ) where
-  pub block-changed : IsPost h q post → IsOff a post → SameShape k d
+  pub block-changed : ArePostChains h q post → IsOff a post → SameShape k d
       → ((b : ℕ) → b ≢ a → block_bytes b k ≡ block_bytes b h) → ((b : ℕ) → b ≢ a → block_bytes b d ≡ block_bytes b post.heap)
-      → block_bytes a k ≡ block_bytes a d → IsPost k q (record post { heap = d })
+      → block_bytes a k ≡ block_bytes a d → ArePostChains k q (record post { heap = d })
   block-changed s off shape keeps keeps' same = blocks-changed h k q post d a a s off off shape (λ b ne ne'. keeps b ne) (λ b ne ne'. keeps' b ne) same same
 
 -- a block that others claim: the plain heap grants the same, and the post stays
 pub record ClaimedBeside (h : Heap) (q : Chains) (post : Post) (free n : ℕ) (there : Heap × ℕ) : Type 0 where
   pub plain : Heap
   pub granted : module_claim free n post.heap ≡ Ok (plain, there.1)
-  pub spells : IsPost there.0 q (record post { heap = plain })
+  pub spells : ArePostChains there.0 q (record post { heap = plain })
 
-pub claimed-beside : (h : Heap) (q : Chains) (post : Post) (free n : ℕ) (there : Heap × ℕ) → IsPost h q post → module_claim free n h ≡ Ok there
+pub claimed-beside : (h : Heap) (q : Chains) (post : Post) (free n : ℕ) (there : Heap × ℕ) → ArePostChains h q post → module_claim free n h ≡ Ok there
     → ClaimedBeside h q post free n there
 claimed-beside h q post free n there s e =
     let d = alike-ok (module_claim free n h) (module_claim free n post.heap) there (module_claim-alike free n h post.heap s.linked.shape) e in
@@ -73,9 +73,10 @@ claimed-beside h q post free n there s e =
     }
 
 -- a block of others that is freed
-pub freed-beside : (h : Heap) (q : Chains) (post : Post) (a : ℕ) → IsPost h q post → IsOff a post
-    → IsPost (release a h) q (record post { heap = release a post.heap })
+pub freed-beside : (h : Heap) (q : Chains) (post : Post) (a : ℕ) → ArePostChains h q post → IsOff a post
+    → ArePostChains (release_block a h) q (record post { heap = release_block a post.heap })
 freed-beside h q post a s off =
     let w = release-frees a h in
     let v = release-frees a post.heap in
-    block-changed h (release a h) q post (release a post.heap) a s off (release-alike a h post.heap s.linked.shape) w.others v.others (w.gone ∙ sym v.gone)
+    block-changed h (release_block a h) q post (release_block a post.heap) a s off (release-alike a h post.heap s.linked.shape) w.others v.others
+    (w.gone ∙ sym v.gone)

@@ -2,8 +2,10 @@
 use Rattle.rh_wimp.proofs.Common.{◌≡◌, ℕ, zero, suc, ◌+◌, ◌<◌, ◌≤◌, ◌≢◌, ◌^◌, Bool, true, false, List, [], ◌∷◌, ◌++◌, length, map, drop, get_or, refl, sym}
 use Rattle.rh_wimp.proofs.Common.{ap, ◌∙◌, arith, append-nil, length-map, length-append, append_assoc, Option, Some, None, word, HasBlock, block_bytes, Heap}
 use Rattle.rh_wimp.proofs.Common.{Memory, bytes, Parcel, action_at, action_number, action_of, padded, parcel_size, Action, EventCode, total, Seat, Post}
-use Rattle.rh_wimp.proofs.Common.{count_held, most_messages, room_enough, encoded-most, length-padded, link_read, IsModule, heap_in, Module, Chain, Chains}
-use Rattle.rh_wimp.proofs.Common.{Holds, IsPost, Row, first_block, held_list, no_row, row_of, row_at, rows_of, LinksAt, held_items, item_of, waiting_items}
+use Rattle.rh_wimp.proofs.Common.{count_held, most_messages, room_enough, encoded-most, length-padded, link_read, IsModule, module_heap_in, Module, Chain}
+use Rattle.rh_wimp.proofs.Common.{Chains}
+use Rattle.rh_wimp.proofs.Common.{Holds, ArePostChains, SeatRow, first_block, held_list, no_row, seat_row, row_at, rows_of, LinksAt, held_items}
+use Rattle.rh_wimp.proofs.Common.{message_item_of, waiting_items}
 use Rattle.rh_wimp.proofs.Common.{by_seats, area_limit}
 use Rattle.std.proofs.Math.ListN.{drop_of_length-le}
 use Rattle.rh_defs.specs.Messages.{Fits}
@@ -28,10 +30,10 @@ pub action_read : (x : ℕ) (p : Parcel) → x < 2 ^ 32 → Fits p.message → w
 action_read x p l f = (padded-words x p l f).1.1.1.1.1.1.0
 
 module _ {m : Memory} {rma : Module} {block link : ℕ} {p : Parcel} (w : LinksAt m rma block link p) where
-  pub links-bytes : block_bytes block (heap_in m rma) ≡ Some (padded link p)
-  links-bytes = ap (λ a. block_bytes a (heap_in m rma)) w.block_is ∙ w.lies.block
+  pub links-bytes : block_bytes block (module_heap_in m rma) ≡ Some (padded link p)
+  links-bytes = ap (λ a. block_bytes a (module_heap_in m rma)) w.block_is ∙ w.lies.block
 
-  pub links-has : HasBlock block 36 (heap_in m rma)
+  pub links-has : HasBlock block 36 (module_heap_in m rma)
   links-has = record { bytes = padded link p; found = links-bytes; room = padded-more link p w.lies.fits }
 
 -- what is read is an item
@@ -51,7 +53,7 @@ known action.RamTransmit = refl
 
 -- ---- a walk along a chain
 abbrev pub waiting : ℕ → List Parcel → List MessageItem
-waiting to ps = map (item_of to false) ps
+waiting to ps = map (message_item_of to false) ps
 
 -- what is listed, and what is left of the chain from a block on, are the whole chain behind what the list had
 pub record Walks (h : Heap) (block turn to : ℕ) (ps : List Parcel) (old items : List MessageItem) : Type 0 where
@@ -67,10 +69,10 @@ pub record Meets (m : Memory) (rma : Module) (block turn to : ℕ) (ps : List Pa
   pub parcel : Parcel
   pub rest : List Parcel
   pub links : LinksAt m rma block (first_block rest 0) parcel
-  pub chain : Chain (heap_in m rma) rest 0
+  pub chain : Chain (module_heap_in m rma) rest 0
   pub few : length rest + suc turn ≤ most_messages
   pub room : suc (length items) + length rest ≤ most_messages
-  pub all : items ++ (item_of to false parcel ∷ waiting to rest) ≡ old ++ waiting to ps
+  pub all : items ++ (message_item_of to false parcel ∷ waiting to rest) ≡ old ++ waiting to ps
 
 pub walk-begins : (h : Heap) (first to : ℕ) (ps : List Parcel) (old : List MessageItem) → first ≡ first_block ps 0 → Chain h ps 0
     → length old + length ps ≤ most_messages → Walks h first 0 to ps old old
@@ -93,16 +95,16 @@ walk-past h block turn to ps old items w z = go w.rest w.few w.all
     go (p ∷ rest) f all = absurd (omega arith)
 
 pub walk-some : (m : Memory) (rma : Module) (block turn to : ℕ) (ps : List Parcel) (old items : List MessageItem) → IsModule m rma
-    → length (bytes m rma.area.0) ≤ area_limit → Walks (heap_in m rma) block turn to ps old items → block ≢ 0 → Meets m rma block turn to ps old items
+    → length (bytes m rma.area.0) ≤ area_limit → Walks (module_heap_in m rma) block turn to ps old items → block ≢ 0 → Meets m rma block turn to ps old items
 walk-some m rma block turn to ps old items s l w ne = go w.rest w.block_is w.chain w.few w.room w.all
   where
-    go : (rest : List Parcel) → block ≡ first_block rest 0 → Chain (heap_in m rma) rest 0 → length rest + turn ≤ most_messages
+    go : (rest : List Parcel) → block ≡ first_block rest 0 → Chain (module_heap_in m rma) rest 0 → length rest + turn ≤ most_messages
         → length items + length rest ≤ most_messages → items ++ waiting to rest ≡ old ++ waiting to ps → Meets m rma block turn to ps old items
     go [] e c f r all = absurd (ne e)
     go (p ∷ rest) e c f r all = record {
       parcel = p;
       rest = rest;
-      links = record { lies = c.0; block_is = e; small = next-small m rma (first_block rest 0) s l (next-there (heap_in m rma) rest c.1) };
+      links = record { lies = c.0; block_is = e; small = next-small m rma (first_block rest 0) s l (next-there (module_heap_in m rma) rest c.1) };
       chain = c.1;
       few = omega arith;
       room = omega arith;
@@ -111,8 +113,9 @@ walk-some m rma block turn to ps old items s l w ne = go w.rest w.block_is w.cha
 
 pub walk-on : (m : Memory) (rma : Module) (block turn to next : ℕ) (ps : List Parcel) (old items more : List MessageItem) (item : MessageItem)
     (w : Meets m rma block turn to ps old items)
-    → more ≡ items ++ item ∷ [] → item ≡ item_of to false w.parcel → ((bs : List ℕ) → block_bytes block (heap_in m rma) ≡ Some bs → next ≡ word bs 0)
-    → Walks (heap_in m rma) next (turn + 1) to ps old more
+    → more ≡ items ++ item ∷ [] → item ≡ message_item_of to false w.parcel →
+    ((bs : List ℕ) → block_bytes block (module_heap_in m rma) ≡ Some bs → next ≡ word bs 0)
+    → Walks (module_heap_in m rma) next (turn + 1) to ps old more
 walk-on m rma block turn to next ps old items more item w e f r = record {
   rest = w.rest;
   block_is = r (padded (first_block w.rest 0) w.parcel) (links-bytes w.links) ∙ link_read (first_block w.rest 0) w.parcel w.links.small w.links.lies.fits;
@@ -120,7 +123,8 @@ walk-on m rma block turn to next ps old items more item w e f r = record {
   few = let few = w.few in omega arith;
   room = let room = w.room in omega (arith, ap length e, length-append items (item ∷ []));
   all =
-      ap (λ l. l ++ waiting to w.rest) (e ∙ ap (λ x. items ++ x ∷ []) f) ∙ append_assoc items (item_of to false w.parcel ∷ []) (waiting to w.rest) ∙ w.all;
+      ap (λ l. l ++ waiting to w.rest) (e ∙ ap (λ x. items ++ x ∷ []) f) ∙ append_assoc items (message_item_of to false w.parcel ∷ []) (waiting to w.rest)
+      ∙ w.all;
 }
 
 -- ---- task by task
@@ -133,11 +137,11 @@ drop-at : {A : Type 0} (xs : List A) (i : ℕ) (d : A) → i < length xs → dro
 drop-at xs i d l = drop-here xs i d l ∙ ap (λ k. get_or xs i d ∷ drop k xs) (let next : suc i ≡ i + 1 = omega arith in next)
 
 -- what is listed, and what the rows from a place on have, are all behind what the list had
-abbrev pub Goes : (List Row → List MessageItem) → ℕ → List Row → List MessageItem → List MessageItem → Type 0
+abbrev pub Goes : (List SeatRow → List MessageItem) → ℕ → List SeatRow → List MessageItem → List MessageItem → Type 0
 Goes listed i rows old items = items ++ listed (drop i rows) ≡ old ++ listed rows
 
-pub goes-room : (listed : List Row → List MessageItem) (here : Row → List MessageItem) (i : ℕ) (rows : List Row) (old items : List MessageItem)
-    → ((r : Row) (rs : List Row) → listed (r ∷ rs) ≡ here r ++ listed rs) → i < length rows → Goes listed i rows old items
+pub goes-room : (listed : List SeatRow → List MessageItem) (here : SeatRow → List MessageItem) (i : ℕ) (rows : List SeatRow) (old items : List MessageItem)
+    → ((r : SeatRow) (rs : List SeatRow) → listed (r ∷ rs) ≡ here r ++ listed rs) → i < length rows → Goes listed i rows old items
     → length old + length (listed rows) ≤ most_messages → length items + length (here (row_at rows i)) ≤ most_messages
 goes-room listed here i rows old items by l g few =
     omega (
@@ -149,8 +153,8 @@ goes-room listed here i rows old items by l g few =
       length-append old (listed rows),
     )
 
-pub goes-on : (listed : List Row → List MessageItem) (here : Row → List MessageItem) (i : ℕ) (rows : List Row) (old items more : List MessageItem)
-    → ((r : Row) (rs : List Row) → listed (r ∷ rs) ≡ here r ++ listed rs) → i < length rows → Goes listed i rows old items
+pub goes-on : (listed : List SeatRow → List MessageItem) (here : SeatRow → List MessageItem) (i : ℕ) (rows : List SeatRow) (old items more : List MessageItem)
+    → ((r : SeatRow) (rs : List SeatRow) → listed (r ∷ rs) ≡ here r ++ listed rs) → i < length rows → Goes listed i rows old items
     → more ≡ items ++ here (row_at rows i) → Goes listed (i + 1) rows old more
 goes-on listed here i rows old items more by l g e =
     ap (λ x. x ++ listed (drop (i + 1) rows)) e
@@ -158,39 +162,39 @@ goes-on listed here i rows old items more by l g e =
     ∙ ap (λ x. items ++ x) (sym (by (row_at rows i) (drop (i + 1) rows)) ∙ ap listed (sym (drop-at rows i no_row l)))
     ∙ g
 
-pub goes-past : (listed : List Row → List MessageItem) (i : ℕ) (rows : List Row) (old items : List MessageItem) → listed [] ≡ [] → length rows ≤ i
+pub goes-past : (listed : List SeatRow → List MessageItem) (i : ℕ) (rows : List SeatRow) (old items : List MessageItem) → listed [] ≡ [] → length rows ≤ i
     → Goes listed i rows old items → items ≡ old ++ listed rows
 goes-past listed i rows old items none l g =
     sym (append-nil items) ∙ ap (λ x. items ++ x) (sym none ∙ ap listed (sym (drop_of_length-le rows l))) ∙ g
 
-abbrev pub waiting_of : Row → List MessageItem
-waiting_of r = map (item_of r.handle false) r.chain
+abbrev pub waiting_of : SeatRow → List MessageItem
+waiting_of r = map (message_item_of r.handle false) r.chain
 
-abbrev pub held_of : Row → List MessageItem
-held_of r = map (item_of r.handle true) (held_list r.held)
+abbrev pub held_of : SeatRow → List MessageItem
+held_of r = map (message_item_of r.handle true) (held_list r.held)
 
 -- ---- there is room for all
-waiting-count : (queued : List Parcel) (seats : List Seat) → length (waiting_items (map (row_of queued) seats)) ≡ length (by_seats seats queued)
+waiting-count : (queued : List Parcel) (seats : List Seat) → length (waiting_items (map (seat_row queued) seats)) ≡ length (by_seats seats queued)
 waiting-count queued [] = refl
 waiting-count queued (s ∷ seats) =
     omega (
       arith,
-      length-append (waiting_of (row_of queued s)) (waiting_items (map (row_of queued) seats)),
-      length-map (sent_to s.handle queued) (item_of s.handle false),
+      length-append (waiting_of (seat_row queued s)) (waiting_items (map (seat_row queued) seats)),
+      length-map (sent_to s.handle queued) (message_item_of s.handle false),
       length-append (sent_to s.handle queued) (by_seats seats queued),
       waiting-count queued seats,
     )
 
-held-one : (h : ℕ) (o : Option Parcel) → length (map (item_of h true) (held_list o)) ≡ count_held o
+held-one : (h : ℕ) (o : Option Parcel) → length (map (message_item_of h true) (held_list o)) ≡ count_held o
 held-one h None = refl
 held-one h (Some p) = refl
 
-held-count : (queued : List Parcel) (seats : List Seat) → length (held_items (map (row_of queued) seats)) ≡ total (λ (s : Seat). count_held s.holds) seats
+held-count : (queued : List Parcel) (seats : List Seat) → length (held_items (map (seat_row queued) seats)) ≡ total (λ (s : Seat). count_held s.holds) seats
 held-count queued [] = refl
 held-count queued (s ∷ seats) =
-    omega (arith, length-append (held_of (row_of queued s)) (held_items (map (row_of queued) seats)), held-one s.handle s.holds, held-count queued seats)
+    omega (arith, length-append (held_of (seat_row queued s)) (held_items (map (seat_row queued) seats)), held-one s.handle s.holds, held-count queued seats)
 
-pub items-few : (h : Heap) (q : Chains) (post : Post) → IsPost h q post
+pub items-few : (h : Heap) (q : Chains) (post : Post) → ArePostChains h q post
     → length (waiting_items (rows_of post)) + length (held_items (rows_of post)) ≤ most_messages
 items-few h q post s =
     omega (

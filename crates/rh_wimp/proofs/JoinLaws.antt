@@ -1,16 +1,17 @@
 -- A post with a handle more.
 use Rattle.rh_wimp.proofs.Common.{◌≡◌, ℕ, ◌<◌, ◌≢◌, inl, inr, true, false, Bool, cond, eqb, List, [], ◌∷◌, ◌++◌, length, map, refl, sym, ap, subst, ◌∙◌}
 use Rattle.rh_wimp.proofs.Common.{arith, cases_lt, eqb_tells, length-append, None, filter, ◌==◌, Heap, cond_true, cond_false, Parcel, Seat, Post, has_seat}
-use Rattle.rh_wimp.proofs.Common.{count_held, post_join, Chains, Row, RowLies, RowsLie, IsLinked, IsPost, AllLie, AllLive, Apart, Clear, Off, HasEntry}
-use Rattle.rh_wimp.proofs.Common.{no_row, no_entry, entry_at, row_at, row_of, rows_of, row_parcels, Entry}
+use Rattle.rh_wimp.proofs.Common.{count_held, post_join, Chains, SeatRow, RowLies, RowsLie, IsLinked, ArePostChains, AllLie, AllLive, Apart, Clear, Off}
+use Rattle.rh_wimp.proofs.Common.{HasEntry}
+use Rattle.rh_wimp.proofs.Common.{no_row, no_entry, entry_at, row_at, seat_row, rows_of, row_parcels, Entry}
 use Rattle.std.proofs.lemmas.List.{map-append, get_or_append_left, get_or_at}
 use Rattle.rh_defs.proofs.HeapLists.{sum-append}
-use Rattle.rh_wimp.specs.Chains.{joined}
+use Rattle.rh_wimp.specs.Chains.{joined_chains}
 use Rattle.rh_wimp.proofs.PostLaws.{live-no}
 use Rattle.rh_wimp.proofs.RowLaws.{Clear-none}
 use Rattle.rh_wimp.proofs.SendLaws.{seated, as_many}
 
-abbrev new_row : ℕ → Row
+abbrev new_row : ℕ → SeatRow
 new_row x = record { handle = x; chain = []; held = None }
 
 abbrev new_entry : ℕ → Entry
@@ -41,14 +42,14 @@ all-live-more : (x : ℕ) (seats : List Seat) (ps : List Parcel) → AllLive sea
 all-live-more x seats [] a = tt
 all-live-more x seats (p ∷ ps) a = (live-more p.to x seats a.0, all-live-more x seats ps a.1)
 
-module _ (x : ℕ) (rows : List Row) where
+module _ (x : ℕ) (rows : List SeatRow) where
   row-old : (i : ℕ) → i < length rows → row_at (rows ++ new_row x ∷ []) i ≡ row_at rows i
   row-old i l = get_or_append_left rows (new_row x ∷ []) no_row i l
 
   row-new : (i : ℕ) → i ≡ length rows → row_at (rows ++ new_row x ∷ []) i ≡ new_row x
   row-new i e = get_or_at rows (new_row x) [] no_row i (sym e)
 
-module _ (h : Heap) (es : List Entry) (rows : List Row) (x : ℕ) where
+module _ (h : Heap) (es : List Entry) (rows : List SeatRow) (x : ℕ) where
   rows-joined : RowsLie h es rows → ((i : ℕ) → i < length rows → (row_at rows i).handle ≢ x) → RowsLie h (es ++ new_entry x ∷ []) (rows ++ new_row x ∷ [])
   rows-joined s apart =
       let n = length-append rows (new_row x ∷ []) in
@@ -64,54 +65,55 @@ module _ (h : Heap) (es : List Entry) (rows : List Row) (x : ℕ) where
               (record { handle = refl; first = refl; last = refl; chain = tt; held = refl }))
         ];
         own = λ i b. elim (cases_lt i (length rows)) [
-          | inl l ↦ subst (λ (r : Row). Apart (row_parcels r)) (sym (row-old x rows i l)) (s.own i l)
-          | inr g ↦ subst (λ (r : Row). Apart (row_parcels r)) (sym (row-new x rows i (omega arith))) tt
+          | inl l ↦ subst (λ (r : SeatRow). Apart (row_parcels r)) (sym (row-old x rows i l)) (s.own i l)
+          | inr g ↦ subst (λ (r : SeatRow). Apart (row_parcels r)) (sym (row-new x rows i (omega arith))) tt
         ];
         cross = λ i j bi bj ne. elim (cases_lt i (length rows)) [
           | inl li ↦ elim (cases_lt j (length rows)) [
-            | inl lj ↦ subst (λ (r : Row). Clear (row_parcels r) (row_parcels (row_at (rows ++ new_row x ∷ []) j))) (sym (row-old x rows i li))
-                (subst (λ (r : Row). Clear (row_parcels (row_at rows i)) (row_parcels r)) (sym (row-old x rows j lj)) (s.cross i j li lj ne))
-            | inr gj ↦ subst (λ (r : Row). Clear (row_parcels (row_at (rows ++ new_row x ∷ []) i)) (row_parcels r)) (sym (row-new x rows j (omega arith)))
+            | inl lj ↦ subst (λ (r : SeatRow). Clear (row_parcels r) (row_parcels (row_at (rows ++ new_row x ∷ []) j))) (sym (row-old x rows i li))
+                (subst (λ (r : SeatRow). Clear (row_parcels (row_at rows i)) (row_parcels r)) (sym (row-old x rows j lj)) (s.cross i j li lj ne))
+            | inr gj ↦ subst (λ (r : SeatRow). Clear (row_parcels (row_at (rows ++ new_row x ∷ []) i)) (row_parcels r)) (sym (row-new x rows j (omega arith)))
                 (Clear-none (row_parcels (row_at (rows ++ new_row x ∷ []) i)))
           ]
-          | inr gi ↦ subst (λ (r : Row). Clear (row_parcels r) (row_parcels (row_at (rows ++ new_row x ∷ []) j))) (sym (row-new x rows i (omega arith))) tt
+          | inr gi ↦ subst (λ (r : SeatRow). Clear (row_parcels r) (row_parcels (row_at (rows ++ new_row x ∷ []) j))) (sym (row-new x rows i (omega arith))) tt
         ];
         handles = λ i j bi bj ne. elim (cases_lt i (length rows)) [
           | inl li ↦ elim (cases_lt j (length rows)) [
-            | inl lj ↦ λ z. s.handles i j li lj ne (sym (ap (λ (r : Row). r.handle) (row-old x rows i li)) ∙ z
-                ∙ ap (λ (r : Row). r.handle) (row-old x rows j lj))
-            | inr gj ↦ λ z. apart i li (sym (ap (λ (r : Row). r.handle) (row-old x rows i li)) ∙ z
-                ∙ ap (λ (r : Row). r.handle) (row-new x rows j (omega arith)))
+            | inl lj ↦ λ z. s.handles i j li lj ne (sym (ap (λ (r : SeatRow). r.handle) (row-old x rows i li)) ∙ z
+                ∙ ap (λ (r : SeatRow). r.handle) (row-old x rows j lj))
+            | inr gj ↦ λ z. apart i li (sym (ap (λ (r : SeatRow). r.handle) (row-old x rows i li)) ∙ z
+                ∙ ap (λ (r : SeatRow). r.handle) (row-new x rows j (omega arith)))
           ]
           | inr gi ↦ elim (cases_lt j (length rows)) [
-            | inl lj ↦ λ z. apart j lj (sym (ap (λ (r : Row). r.handle) (row-old x rows j lj)) ∙ sym z
-                ∙ ap (λ (r : Row). r.handle) (row-new x rows i (omega arith)))
+            | inl lj ↦ λ z. apart j lj (sym (ap (λ (r : SeatRow). r.handle) (row-old x rows j lj)) ∙ sym z
+                ∙ ap (λ (r : SeatRow). r.handle) (row-new x rows i (omega arith)))
             | inr gj ↦ absurd (ne (omega arith))
           ]
         ];
       }
 
-linked-joined : (h d : Heap) (rows : List Row) (x : ℕ) → IsLinked h d rows → IsLinked h d (rows ++ new_row x ∷ [])
+linked-joined : (h d : Heap) (rows : List SeatRow) (x : ℕ) → IsLinked h d rows → IsLinked h d (rows ++ new_row x ∷ [])
 linked-joined h d rows x s =
     let n = length-append rows (new_row x ∷ []) in
     record {
       shape = s.shape;
       lie = λ i b. elim (cases_lt i (length rows)) [
-        | inl l ↦ subst (λ (r : Row). AllLie d (row_parcels r)) (sym (row-old x rows i l)) (s.lie i l)
-        | inr g ↦ subst (λ (r : Row). AllLie d (row_parcels r)) (sym (row-new x rows i (omega arith))) tt
+        | inl l ↦ subst (λ (r : SeatRow). AllLie d (row_parcels r)) (sym (row-old x rows i l)) (s.lie i l)
+        | inr g ↦ subst (λ (r : SeatRow). AllLie d (row_parcels r)) (sym (row-new x rows i (omega arith))) tt
       ];
-      others = λ a out. s.others a (λ i l. subst (λ (r : Row). Off a (row_parcels r)) (row-old x rows i l) (out i (omega arith)));
+      others = λ a out. s.others a (λ i l. subst (λ (r : SeatRow). Off a (row_parcels r)) (row-old x rows i l) (out i (omega arith)));
     }
 
-pub join-spells : (h : Heap) (q : Chains) (post : Post) (x : ℕ) → IsPost h q post → (HasEntry x q → ⊥) → IsPost h (joined x q) (post_join x post)
+pub join-spells : (h : Heap) (q : Chains) (post : Post) (x : ℕ) → ArePostChains h q post → (HasEntry x q → ⊥) → ArePostChains h (joined_chains x q)
+    (post_join x post)
 unfolding post_join
 join-spells h q post x s fresh =
     let m = as_many h q post s in
     let dead = live-no post.seats x (λ j b. let t = seated h q post j s (omega arith) in λ z. fresh (j, (omega arith, t.handle ∙ z))) in
-    let last : row_of post.queued (new_seat x) ≡ new_row x =
-    ap (λ (l : List Parcel). let r : Row = record { handle = x; chain = l; held = None } in r) (none-for post.seats x post.queued s.recipients dead) in
-    let rows-are : map (row_of post.queued) (post.seats ++ new_seat x ∷ []) ≡ rows_of post ++ new_row x ∷ [] =
-    map-append (row_of post.queued) post.seats (new_seat x ∷ []) ∙ ap (λ r. rows_of post ++ r ∷ []) last in
+    let last : seat_row post.queued (new_seat x) ≡ new_row x =
+    ap (λ (l : List Parcel). let r : SeatRow = record { handle = x; chain = l; held = None } in r) (none-for post.seats x post.queued s.recipients dead) in
+    let rows-are : map (seat_row post.queued) (post.seats ++ new_seat x ∷ []) ≡ rows_of post ++ new_row x ∷ [] =
+    map-append (seat_row post.queued) post.seats (new_seat x ∷ []) ∙ ap (λ r. rows_of post ++ r ∷ []) last in
     let len = s.rows.len in
     let counts = sum-append (λ (t : Seat). count_held t.holds) post.seats (new_seat x ∷ []) in
     let live = s.live in
@@ -128,7 +130,7 @@ join-spells h q post x s fresh =
 
 -- the post of a queue with no task
 pub start-spells : (h : Heap) (ref : ℕ)
-    → IsPost h (record { entries = []; live = 0; next_ref = ref }) (record { seats = []; queued = []; heap = h; next_ref = ref })
+    → ArePostChains h (record { entries = []; live = 0; next_ref = ref }) (record { seats = []; queued = []; heap = h; next_ref = ref })
 start-spells h ref = record {
   rows = record {
     len = refl;

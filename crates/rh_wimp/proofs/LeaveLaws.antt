@@ -1,8 +1,9 @@
 -- A post that loses the seat of a task with no messages.
 use Rattle.rh_wimp.proofs.Common.{◌≡◌, ℕ, zero, suc, ◌+◌, ◌-◌, ◌<◌, ◌≤◌, ◌≢◌, ◌⊎◌, inl, inr, eqb, List, [], ◌∷◌, ◌++◌, length, map, refl, sym, ap, subst, ◌∙◌}
 use Rattle.rh_wimp.proofs.Common.{arith, cases_eq, cases_lt, None, not, Heap, Parcel, total, Seat, Post, held_by, count_held, cond_true, cond_false, eqb_same}
-use Rattle.rh_wimp.proofs.Common.{eqb_apart, Chains, Row, IsPost, IsLinked, RowLies, RowsLie, AllLie, AllLive, Apart, Clear, Off, entry_at, held_list}
-use Rattle.rh_wimp.proofs.Common.{no_entry, no_row, row_at, row_of, rows_of, row_parcels, queue_to, without_seat, Entry}
+use Rattle.rh_wimp.proofs.Common.{eqb_apart, Chains, SeatRow, ArePostChains, IsLinked, RowLies, RowsLie, AllLie, AllLive, Apart, Clear, Off, entry_at}
+use Rattle.rh_wimp.proofs.Common.{held_list}
+use Rattle.rh_wimp.proofs.Common.{no_entry, no_row, row_at, seat_row, rows_of, row_parcels, queue_to, without_seat, Entry}
 use Rattle.std.proofs.lemmas.List.Edits.{length-remove, get_or-remove_below, get_or-remove_above}
 use Rattle.std.specs.List.{remove}
 use Rattle.rh_wimp.proofs.DeathLaws.{queue_but, seats_but, seat-other}
@@ -25,11 +26,11 @@ seats-removed h (s ∷ seats) (suc i) n b e =
     cond_true (not (eqb s.handle h)) _ _ (ap not (eqb_apart s.handle h (λ z. n 0 (suc i) (omega arith) (omega arith) (omega arith) (z ∙ sym e))))
     ∙ ap (λ l. s ∷ l) (seats-removed h seats i (λ j m bj bm ne. n (suc j) (suc m) (omega arith) (omega arith) (omega arith)) (omega arith) e)
 
-map-removed : (queue : List Parcel) (seats : List Seat) (i : ℕ) → map (row_of queue) (remove seats i) ≡ remove (map (row_of queue) seats) i
+map-removed : (queue : List Parcel) (seats : List Seat) (i : ℕ) → map (seat_row queue) (remove seats i) ≡ remove (map (seat_row queue) seats) i
 map-removed queue [] zero = refl
 map-removed queue [] (suc i) = refl
 map-removed queue (s ∷ seats) zero = refl
-map-removed queue (s ∷ seats) (suc i) = ap (λ l. row_of queue s ∷ l) (map-removed queue seats i)
+map-removed queue (s ∷ seats) (suc i) = ap (λ l. seat_row queue s ∷ l) (map-removed queue seats i)
 
 -- nothing is queued for it
 queue-stays : (h : ℕ) (queue : List Parcel) → queue_to h queue ≡ [] → queue_but h queue ≡ queue
@@ -55,7 +56,7 @@ count-removed (s ∷ seats) (suc i) b = omega (arith, count-removed seats i (let
 
 -- ---- rows without an empty one
 -- where the row at a place stood before
-record Was (es : List Entry) (rows : List Row) (i j : ℕ) : Type 0 where
+record Was (es : List Entry) (rows : List SeatRow) (i j : ℕ) : Type 0 where
   place : ℕ
   within : place < length rows
   apart : place ≢ i
@@ -63,7 +64,7 @@ record Was (es : List Entry) (rows : List Row) (i j : ℕ) : Type 0 where
   entry : entry_at (remove es i) j ≡ entry_at es place
   moved : ((j < i) × (place ≡ j)) ⊎ ((i ≤ j) × (place ≡ j + 1))
 
-module _ (es : List Entry) (rows : List Row) (i : ℕ) (we : i < length es) (w : i < length rows) where
+module _ (es : List Entry) (rows : List SeatRow) (i : ℕ) (we : i < length es) (w : i < length rows) where
   was : (j : ℕ) → j < length (remove rows i) → Was es rows i j
   was j b = let n = length-remove rows i w in elim (cases_lt j i) [
     | inl l ↦ record {
@@ -106,20 +107,20 @@ module _ (es : List Entry) (rows : List Row) (i : ℕ) (we : i < length es) (w :
         len = omega arith;
         each = λ j b.
             let x = was j b in
-            subst (λ (r : Row). RowLies h (entry_at (remove es i) j) r) (sym x.row)
+            subst (λ (r : SeatRow). RowLies h (entry_at (remove es i) j) r) (sym x.row)
             (subst (λ (e : Entry). RowLies h e (row_at rows x.place)) (sym x.entry) (s.each x.place x.within));
-        own = λ j b. let x = was j b in subst (λ (r : Row). Apart (row_parcels r)) (sym x.row) (s.own x.place x.within);
+        own = λ j b. let x = was j b in subst (λ (r : SeatRow). Apart (row_parcels r)) (sym x.row) (s.own x.place x.within);
         cross = λ j k bj bk ne.
             let x = was j bj in
             let y = was k bk in
-            subst (λ (r : Row). Clear (row_parcels r) (row_parcels (row_at (remove rows i) k))) (sym x.row)
-            (subst (λ (r : Row). Clear (row_parcels (row_at rows x.place)) (row_parcels r)) (sym y.row)
+            subst (λ (r : SeatRow). Clear (row_parcels r) (row_parcels (row_at (remove rows i) k))) (sym x.row)
+            (subst (λ (r : SeatRow). Clear (row_parcels (row_at rows x.place)) (row_parcels r)) (sym y.row)
             (s.cross x.place y.place x.within y.within (were-apart j k ne x y)));
         handles = λ j k bj bk ne.
             let x = was j bj in
             let y = was k bk in
             λ z. s.handles x.place y.place x.within y.within (were-apart j k ne x y)
-            (sym (ap (λ (r : Row). r.handle) x.row) ∙ z ∙ ap (λ (r : Row). r.handle) y.row);
+            (sym (ap (λ (r : SeatRow). r.handle) x.row) ∙ z ∙ ap (λ (r : SeatRow). r.handle) y.row);
       }
 
   linked-removed : (h d : Heap) → row_parcels (row_at rows i) ≡ [] → IsLinked h d rows → IsLinked h d (remove rows i)
@@ -127,15 +128,15 @@ module _ (es : List Entry) (rows : List Row) (i : ℕ) (we : i < length es) (w :
       let n = length-remove rows i w in
       record {
         shape = s.shape;
-        lie = λ j b. let x = was j b in subst (λ (r : Row). AllLie d (row_parcels r)) (sym x.row) (s.lie x.place x.within);
+        lie = λ j b. let x = was j b in subst (λ (r : SeatRow). AllLie d (row_parcels r)) (sym x.row) (s.lie x.place x.within);
         others = λ a out. s.others a (λ j b. elim (cases_eq j i) [
           | inl z ↦ subst (λ k. Off a (row_parcels (row_at rows k))) (sym z) (subst (Off a) (sym none) tt)
           | inr ne ↦ elim (cases_lt j i) [
-            | inl l ↦ subst (λ (r : Row). Off a (row_parcels r)) (get_or-remove_below rows i no_row j l w) (out j (omega arith))
+            | inl l ↦ subst (λ (r : SeatRow). Off a (row_parcels r)) (get_or-remove_below rows i no_row j l w) (out j (omega arith))
             | inr g ↦
                 let e : (j - 1) + 1 ≡ j = omega arith in
                 let c : i ≤ j - 1 = omega arith in
-                subst (λ k. Off a (row_parcels (row_at rows k))) e (subst (λ (r : Row). Off a (row_parcels r))
+                subst (λ k. Off a (row_parcels (row_at rows k))) e (subst (λ (r : SeatRow). Off a (row_parcels r))
                 (get_or-remove_above rows i no_row (j - 1) c w) (out (j - 1) (omega arith)))
           ]
         ]);
@@ -146,8 +147,8 @@ abbrev pub left_chains : ℕ → Chains → Chains
 left_chains i q = record q { entries = remove q.entries i }
 
 -- the seat of a task with no messages goes
-pub seat-left : (h : Heap) (q : Chains) (post : Post) (x i : ℕ) → IsPost h q post → i < length q.entries → (entry_at q.entries i).handle ≡ x
-    → held_by x post.seats ≡ None → queue_to x post.queued ≡ [] → IsPost h (left_chains i q) (without_seat x post)
+pub seat-left : (h : Heap) (q : Chains) (post : Post) (x i : ℕ) → ArePostChains h q post → i < length q.entries → (entry_at q.entries i).handle ≡ x
+    → held_by x post.seats ≡ None → queue_to x post.queued ≡ [] → ArePostChains h (left_chains i q) (without_seat x post)
 seat-left h q post x i s lt e none empty =
     let t = seated h q post i s lt in
     let names = named h q post s in
@@ -156,7 +157,7 @@ seat-left h q post x i s lt e none empty =
     let queue-is = queue-stays x post.queued empty in
     let seats-are = seats-removed x post.seats i names t.seat at_ in
     let rows-are : rows_of (without_seat x post) ≡ remove (rows_of post) i =
-    ap (λ l. map (row_of l) (seats_but x post.seats)) queue-is ∙ ap (map (row_of post.queued)) seats-are ∙ map-removed post.queued post.seats i in
+    ap (λ l. map (seat_row l) (seats_but x post.seats)) queue-is ∙ ap (map (seat_row post.queued)) seats-are ∙ map-removed post.queued post.seats i in
     let parcels : row_parcels (row_at (rows_of post) i) ≡ [] =
     ap row_parcels t.row_is ∙ ap (λ y. queue_to y post.queued ++ held_list (seat_at post.seats i).holds) at_
     ∙ ap (λ l. l ++ held_list (seat_at post.seats i).holds) empty ∙ ap held_list holds in

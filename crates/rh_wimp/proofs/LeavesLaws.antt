@@ -1,14 +1,14 @@
 -- What a call leaves, by the post that it spells then.
 use Rattle.rh_wimp.proofs.Common.{◌≡◌, ℕ, zero, suc, cond, ◌<◌, true, false, Bool, List, [], ◌∷◌, length, map, refl, sym, ap, ◌∙◌, arith, ◌==◌, ◌||◌}
-use Rattle.rh_wimp.proofs.Common.{list_any, Heap, Memory, OnlyArea, Seat, Post, has_seat, eqb_same, IsModule, Module, IsQueue, Chains, HasEntry, IsPost}
-use Rattle.rh_wimp.proofs.Common.{SpellsPost, entry_at, Entry}
+use Rattle.rh_wimp.proofs.Common.{list_any, Heap, Memory, OnlyArea, Seat, Post, has_seat, eqb_same, IsModule, Module, IsQueue, Chains, HasEntry, ArePostChains}
+use Rattle.rh_wimp.proofs.Common.{SpellsPostIn, entry_at, Entry}
 use Rattle.rh_defs.specs.Post.{post_handles}
-use Rattle.rh_wimp.specs.Calls.{Leaves, handles_of}
+use Rattle.rh_wimp.specs.Calls.{LeavesChains, handles_of}
 use Rattle.rh_wimp.proofs.PostLaws.{eq_of, seat_at}
 use Rattle.rh_wimp.proofs.SendLaws.{as_many, seated}
 
 pub left : {m n : Memory} {rma : Module} {q k : Chains} {next : Post → Post} → IsQueue m rma q
-    → ((post : Post) → SpellsPost m rma q post → SpellsPost n rma k (next post)) → IsModule n rma → OnlyArea m n rma.area.0 → Leaves m n rma q k next
+    → ((post : Post) → SpellsPostIn m rma q post → SpellsPostIn n rma k (next post)) → IsModule n rma → OnlyArea m n rma.area.0 → LeavesChains m n rma q k next
 left {next = next} old spells area only =
     record { spells = spells; still = record { area = area; post = next old.post; spells = spells old.post old.spells }; only = only }
 
@@ -22,10 +22,10 @@ alike (e ∷ es) (s ∷ seats) l f = ap (λ x. x ∷ map (λ (y : Entry). y.hand
     ∙ ap (λ r. s.handle ∷ r) (alike es seats (omega arith) (λ i b. f (suc i) (omega arith)))
 
 -- the queue's handles are the post's
-pub handles-are : (h : Heap) (q : Chains) (post : Post) → IsPost h q post → handles_of q ≡ post_handles post
+pub handles-are : (h : Heap) (q : Chains) (post : Post) → ArePostChains h q post → handles_of q ≡ post_handles post
 handles-are h q post s = alike q.entries post.seats (as_many h q post s) (λ i l. (seated h q post i s l).handle)
 
-pub handles-stay : (h g : Heap) (q k : Chains) (post next : Post) → IsPost h q post → IsPost g k next → post_handles next ≡ post_handles post
+pub handles-stay : (h g : Heap) (q k : Chains) (post next : Post) → ArePostChains h q post → ArePostChains g k next → post_handles next ≡ post_handles post
     → handles_of k ≡ handles_of q
 handles-stay h g q k post next s t e = handles-are g k next t ∙ e ∙ sym (handles-are h q post s)
 
@@ -52,7 +52,7 @@ seat-among x (s ∷ seats) = go (s.handle == x) ∙ ap (λ t. (s.handle == x) ||
     go false = refl
 
 -- one with a seat is live
-pub HasEntry-from_seat : (h : Heap) (q : Chains) (post : Post) (x : ℕ) → IsPost h q post → has_seat x post.seats ≡ true → HasEntry x q
+pub HasEntry-from_seat : (h : Heap) (q : Chains) (post : Post) (x : ℕ) → ArePostChains h q post → has_seat x post.seats ≡ true → HasEntry x q
 HasEntry-from_seat h q post x s t = HasEntry-from_handles x q (ap (list_any (λ y. y == x)) (handles-are h q post s) ∙ sym (seat-among x post.seats) ∙ t)
 
 either : (a : Bool) {b : Bool} → b ≡ true → (a || b) ≡ true

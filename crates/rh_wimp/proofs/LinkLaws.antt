@@ -1,6 +1,6 @@
 -- The heap with its links beside the plain one, after each edit of both.
 use Rattle.rh_wimp.proofs.Common.{◌≡◌, ℕ, ◌<◌, ◌≢◌, inl, inr, List, [], ◌∷◌, ◌++◌, length, set, refl, sym, ap, subst, ◌∙◌, arith, append-nil, cases_eq}
-use Rattle.rh_wimp.proofs.Common.{length-set, get_or-set_same, get_or-set_other, Some, None, Heap, block_bytes, SameShape, Parcel, padded, Row, RowsLie}
+use Rattle.rh_wimp.proofs.Common.{length-set, get_or-set_same, get_or-set_other, Some, None, Heap, block_bytes, SameShape, Parcel, padded, SeatRow, RowsLie}
 use Rattle.rh_wimp.proofs.Common.{IsLinked, AllLie, Off, last_block, held_list, row_parcels, row_at, no_row, Entry}
 use Rattle.rh_defs.proofs.BlockLaws.{below}
 use Rattle.rh_wimp.proofs.RowLaws.{Off-append, Off-parts, Off-last}
@@ -27,7 +27,7 @@ zero-off c [] a = tt
 zero-off c (p ∷ ps) a =
     ((λ z. let bad : Some (padded 0 p) ≡ None = sym a.0 ∙ ap (λ m. block_bytes m c) z ∙ below 0 16 c.segments (omega arith) in cc), zero-off c ps a.1)
 
-module _ (h k d e : Heap) (rows : List Row) (i : ℕ) (q : Parcel) where
+module _ (h k d e : Heap) (rows : List SeatRow) (i : ℕ) (q : Parcel) where
   -- a message that lies in both heaps, at the end of a chain
   pub linked-longer : i < length rows → IsLinked h d rows → SameShape k e → ((j : ℕ) → j < length rows → Off q.block (row_parcels (row_at rows j)))
       → ((b : ℕ) → b ≢ last_block (row_at rows i).chain → b ≢ q.block → block_bytes b k ≡ block_bytes b h)

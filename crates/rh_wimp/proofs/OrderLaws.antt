@@ -2,7 +2,8 @@
 use Rattle.rh_wimp.proofs.Common.{◌≡◌, ℕ, zero, suc, ◌<◌, ◌≢◌, inl, inr, Bool, true, false, cond, List, [], ◌∷◌, ◌++◌, length, map, refl, sym, ap, subst, ◌∙◌}
 use Rattle.rh_wimp.proofs.Common.{arith, eqb_tells, length-map, length-append, filter-append, Option, Some, None, filter, ◌==◌, option_map, Heap, Parcel}
 use Rattle.rh_wimp.proofs.Common.{padded, parcel_bytes, total, Seat, Post, has_seat, count_held, live_count, cond_true, cond_false, eqb_same, eqb_apart}
-use Rattle.rh_wimp.proofs.Common.{Chains, Row, Lies, Holds, RowLies, RowsLie, IsLinked, IsPost, AllLie, AllLive, Off, Apart, Clear, held_list, row_of}
+use Rattle.rh_wimp.proofs.Common.{Chains, SeatRow, Lies, Holds, RowLies, RowsLie, IsLinked, ArePostChains, AllLie, AllLive, Off, Apart, Clear, held_list}
+use Rattle.rh_wimp.proofs.Common.{seat_row}
 use Rattle.rh_wimp.proofs.Common.{row_parcels, row_at, rows_of, entry_at, no_row, by_seats, in_order, Entry}
 use Rattle.std.proofs.Math.ListN.{get_or-map}
 use Rattle.rh_wimp.specs.PostIn.{seat_of, chains_of, for_task, own_seat}
@@ -154,10 +155,10 @@ own-total [] = refl
 own-total (s ∷ seats) = omega (arith, own-count s.handle s.holds, own-total seats)
 
 -- ---- rows whose held messages are for them
-abbrev pub own_row : Row → Row
+abbrev pub own_row : SeatRow → SeatRow
 own_row r = record r { held = option_map (for_task r.handle) r.held }
 
-pub own_row-at : (rows : List Row) (i : ℕ) → row_at (map own_row rows) i ≡ own_row (row_at rows i)
+pub own_row-at : (rows : List SeatRow) (i : ℕ) → row_at (map own_row rows) i ≡ own_row (row_at rows i)
 own_row-at rows i = get_or-map own_row rows i no_row
 
 module _ (to : ℕ) where
@@ -194,8 +195,8 @@ module _ (to : ℕ) where
   own-plain d ps None a = a
   own-plain d ps (Some p) a = let r = AllLie-parts d ps (p ∷ []) a in AllLie-append d ps (for_task to p ∷ []) r.0 r.1
 
-module _ (h d : Heap) (es : List Entry) (rows : List Row) where
-  abbrev at_row : (P : Row → Type 0) (i : ℕ) → P (own_row (row_at rows i)) → P (row_at (map own_row rows) i)
+module _ (h d : Heap) (es : List Entry) (rows : List SeatRow) where
+  abbrev at_row : (P : SeatRow → Type 0) (i : ℕ) → P (own_row (row_at rows i)) → P (row_at (map own_row rows) i)
   at_row P i = subst P (sym (own_row-at rows i))
 
   pub own-rows : RowsLie h es rows → RowsLie h es (map own_row rows)
@@ -211,7 +212,7 @@ module _ (h d : Heap) (es : List Entry) (rows : List Row) where
             (let r = row_at rows i in let t = row_at rows j in own-clear r.handle r.chain r.held (row_parcels (own_row t))
             (own-clear_behind t.handle (row_parcels r) t.chain t.held (s.cross i j (omega arith) (omega arith) ne))));
         handles = λ i j bi bj ne z. s.handles i j (omega arith) (omega arith) ne
-            (sym (ap (λ (r : Row). r.handle) (own_row-at rows i)) ∙ z ∙ ap (λ (r : Row). r.handle) (own_row-at rows j));
+            (sym (ap (λ (r : SeatRow). r.handle) (own_row-at rows i)) ∙ z ∙ ap (λ (r : SeatRow). r.handle) (own_row-at rows j));
       }
 
   pub own-linked : IsLinked h d rows → IsLinked h d (map own_row rows)
@@ -225,27 +226,27 @@ module _ (h d : Heap) (es : List Entry) (rows : List Row) where
       }
 
 -- ---- the rows of a post in order
-pub seats-of-rows : (queue : List Parcel) (seats : List Seat) → map seat_of (map own_row (map (row_of queue) seats)) ≡ map own_seat seats
+pub seats-of-rows : (queue : List Parcel) (seats : List Seat) → map seat_of (map own_row (map (seat_row queue) seats)) ≡ map own_seat seats
 seats-of-rows queue [] = refl
 seats-of-rows queue (s ∷ seats) = ap (λ l. own_seat s ∷ l) (seats-of-rows queue seats)
 
-pub chains-of-rows : (queue : List Parcel) (seats : List Seat) → chains_of (map own_row (map (row_of queue) seats)) ≡ by_seats seats queue
+pub chains-of-rows : (queue : List Parcel) (seats : List Seat) → chains_of (map own_row (map (seat_row queue) seats)) ≡ by_seats seats queue
 chains-of-rows queue [] = refl
 chains-of-rows queue (s ∷ seats) = ap (λ l. sent_to s.handle queue ++ l) (chains-of-rows queue seats)
 
 rows-alike : (q r : List Parcel) (seats : List Seat) → ((i : ℕ) → i < length seats → sent_to (seat_at seats i).handle q ≡ sent_to (seat_at seats i).handle r)
-    → map (row_of q) (map own_seat seats) ≡ map own_row (map (row_of r) seats)
+    → map (seat_row q) (map own_seat seats) ≡ map own_row (map (seat_row r) seats)
 rows-alike q r [] f = refl
 rows-alike q r (s ∷ seats) f =
-    ap (λ (l : List Parcel). let x : Row = record { handle = s.handle; chain = l; held = option_map (for_task s.handle) s.holds } in
-    x ∷ map (row_of q) (map own_seat seats)) (f 0 (omega arith))
-    ∙ ap (λ l. own_row (row_of r s) ∷ l) (rows-alike q r seats (λ i b. f (suc i) (omega arith)))
+    ap (λ (l : List Parcel). let x : SeatRow = record { handle = s.handle; chain = l; held = option_map (for_task s.handle) s.holds } in
+    x ∷ map (seat_row q) (map own_seat seats)) (f 0 (omega arith))
+    ∙ ap (λ l. own_row (seat_row r s) ∷ l) (rows-alike q r seats (λ i b. f (suc i) (omega arith)))
 
 pub rows-in_order : (post : Post) → Named post.seats → rows_of (in_order post) ≡ map own_row (rows_of post)
 rows-in_order post n = rows-alike (by_seats post.seats post.queued) post.queued post.seats (λ i b. by_seats-sent post.seats post.queued i n b)
 
 -- a queue that spells a post spells it in order
-pub in_order-spells : (h : Heap) (q : Chains) (post : Post) → IsPost h q post → IsPost h q (in_order post)
+pub in_order-spells : (h : Heap) (q : Chains) (post : Post) → ArePostChains h q post → ArePostChains h q (in_order post)
 in_order-spells h q post s =
     let n = named h q post s in
     let e = rows-in_order post n in

@@ -1,8 +1,8 @@
 -- What a poll would hand out.
 use Rattle.rh_wimp.proofs.Common.{◌≡◌, ◌≢◌, ℕ, ◌<◌, inl, inr, Bool, true, false, cond, eqb, List, [], ◌∷◌, ◌++◌, length, refl, sym, ap, subst, ◌∙◌, eqb_tells}
-use Rattle.rh_wimp.proofs.Common.{Option, Some, None, ◌==◌, if◌then◌else◌, poked, Heap, release, Parcel, parcel_bytes, Seat, Post, has_seat, held_by}
+use Rattle.rh_wimp.proofs.Common.{Option, Some, None, ◌==◌, if◌then◌else◌, poked, Heap, release_block, Parcel, parcel_bytes, Seat, Post, has_seat, held_by}
 use Rattle.rh_wimp.proofs.Common.{with_held, holds_such, as_returned, bounce_held, first_for, taken, taken_from, post_poll, cond_true, cond_false, eqb_same}
-use Rattle.rh_wimp.proofs.Common.{eqb_apart, Chains, Holds, IsPost, Row, entry_at}
+use Rattle.rh_wimp.proofs.Common.{eqb_apart, Chains, Holds, ArePostChains, SeatRow, entry_at}
 use Rattle.rh_defs.specs.Post.{behind_first}
 use Rattle.rh_wimp.proofs.PostLaws.{held-at}
 use Rattle.rh_wimp.proofs.SendLaws.{named, seated}
@@ -76,7 +76,8 @@ bounced-queue h p post =
       queued = post.queued ++ as_returned p ∷ [];
       heap = poked p.block 0 (parcel_bytes 0 (as_returned p)) post.heap;
     })
-    (record post { seats = with_held h None post.seats; heap = release p.block post.heap })).queued ≡ with_back t p post.queued) [ true ↦ refl | false ↦ refl ])
+    (record post { seats = with_held h None post.seats; heap = release_block p.block post.heap })).queued
+    ≡ with_back t p post.queued) [ true ↦ refl | false ↦ refl ])
     ∙ ap (λ t. with_back t p post.queued) (seat-stays p.message.from h None post.seats)
 
 module _ (h : ℕ) (post : Post) where
@@ -124,12 +125,12 @@ module _ (h : ℕ) (post : Post) where
 abbrev pub is_own : ℕ → Parcel → Bool
 is_own h p = p.message.from == h
 
-pub held-there : (h : Heap) (q : Chains) (post : Post) (x i : ℕ) → IsPost h q post → i < length q.entries → (entry_at q.entries i).handle ≡ x
+pub held-there : (h : Heap) (q : Chains) (post : Post) (x i : ℕ) → ArePostChains h q post → i < length q.entries → (entry_at q.entries i).handle ≡ x
     → Holds h (entry_at q.entries i).held (held_by x post.seats)
 held-there h q post x i s lt e =
     let t = seated h q post i s lt in
     subst (Holds h (entry_at q.entries i).held) (sym (held-at post.seats i x (named h q post s) t.seat (sym t.handle ∙ e)))
-    (subst (λ (r : Row). Holds h (entry_at q.entries i).held r.held) t.row_is (s.rows.each i t.row).held)
+    (subst (λ (r : SeatRow). Holds h (entry_at q.entries i).held r.held) t.row_is (s.rows.each i t.row).held)
 
 -- a message of the task's own that it holds
 pub record HoldsOwn (h : ℕ) (seats : List Seat) : Type 0 where

@@ -1,14 +1,14 @@
 -- The post as a value: what the queue's calls, and edits of other areas, do to it.
 use Rattle.rh_wimp.proofs.Common.{◌≡◌, ◌≢◌, ℕ, zero, suc, ◌<◌, Bool, true, false, cond, List, [], ◌∷◌, ◌++◌, length, filter, refl, sym, ap, subst, ◌∙◌, arith}
-use Rattle.rh_wimp.proofs.Common.{Option, Some, None, unwrap_or, ◌==◌, Heap, Memory, OnlyArea, bytes, Parcel, Seat, Post, post_join, IsModule, heap_in}
-use Rattle.rh_wimp.proofs.Common.{Module, IsQueue, Chains, HasEntry, IsPost, SpellsPost, by_seats, in_order}
+use Rattle.rh_wimp.proofs.Common.{Option, Some, None, unwrap_or, ◌==◌, Heap, Memory, OnlyArea, bytes, Parcel, Seat, Post, post_join, IsModule, module_heap_in}
+use Rattle.rh_wimp.proofs.Common.{Module, IsQueue, Chains, HasEntry, ArePostChains, SpellsPostIn, by_seats, in_order}
 use Rattle.std.specs.List.{AllByRecursion}
 use Rattle.rh_defs.specs.HeapImage.{heap_of}
 use Rattle.rh_defs.specs.Laws as laws
 use Rattle.rh_defs.specs.Order.{SameForEach, requeued}
-use Rattle.rh_wimp.specs.Calls.{Answers, Leaves}
-use Rattle.rh_wimp.specs.Chains.{joined}
-use Rattle.rh_wimp.specs.Laws.{HaveOnePost, IsSmall}
+use Rattle.rh_wimp.specs.Calls.{Answers, LeavesChains}
+use Rattle.rh_wimp.specs.Chains.{joined_chains}
+use Rattle.rh_wimp.specs.Laws.{HaveOnePost, IsSmallModule}
 use Rattle.rh_wimp.specs.PostIn.{post_in, post_of}
 use Rattle.rh_wimp.proofs.JoinLaws.{join-spells}
 use Rattle.rh_wimp.proofs.OrderLaws.{HoldsOwn, by_seats-each, by_seats-length, own-seats}
@@ -18,24 +18,24 @@ use Rattle.rh_wimp.proofs.SendLaws.{named}
 
 -- ---- which post it is
 -- the post that is read is spelled
-pub post_in-spelled : (m : Memory) (rma : Module) (q : Chains) → IsSmall m rma → IsQueue m rma q → SpellsPost m rma q (post_in m rma q)
-post_in-spelled m rma q small s = post_of-spells (heap_in m rma) q s.post (module-low m rma s.area small) s.spells
+pub post_in-spelled : (m : Memory) (rma : Module) (q : Chains) → IsSmallModule m rma → IsQueue m rma q → SpellsPostIn m rma q (post_in m rma q)
+post_in-spelled m rma q small s = post_of-spells (module_heap_in m rma) q s.post (module-low m rma s.area small) s.spells
 
 -- each post that is spelled, in order of seats, is the one that is read
-pub post_in-is : (m : Memory) (rma : Module) (q : Chains) (post : Post) → IsSmall m rma → IsModule m rma → SpellsPost m rma q post
+pub post_in-is : (m : Memory) (rma : Module) (q : Chains) (post : Post) → IsSmallModule m rma → IsModule m rma → SpellsPostIn m rma q post
     → post_in m rma q ≡ in_order post
-post_in-is m rma q post small s w = post_of-is (heap_in m rma) q post (module-low m rma s small) w
+post_in-is m rma q post small s w = post_of-is (module_heap_in m rma) q post (module-low m rma s small) w
 
 pub one-post : HaveOnePost
 one-post m rma q post small s w = (post_in-spelled m rma q small (record { area = s; post = post; spells = w }), post_in-is m rma q post small s w)
 
 -- it is in order of seats
-pub post_in-in_order : (m : Memory) (rma : Module) (q : Chains) → IsSmall m rma → IsQueue m rma q → post_in m rma q ≡ in_order (post_in m rma q)
+pub post_in-in_order : (m : Memory) (rma : Module) (q : Chains) → IsSmallModule m rma → IsQueue m rma q → post_in m rma q ≡ in_order (post_in m rma q)
 post_in-in_order m rma q small s = post_in-is m rma q (post_in m rma q) small s.area (post_in-spelled m rma q small s)
 
 -- two posts that are spelled differ in the order of messages to different tasks alone
-pub posts-alike : (m : Memory) (rma : Module) (q : Chains) (post other : Post) → IsSmall m rma → IsModule m rma → SpellsPost m rma q post
-    → SpellsPost m rma q other → in_order post ≡ in_order other
+pub posts-alike : (m : Memory) (rma : Module) (q : Chains) (post other : Post) → IsSmallModule m rma → IsModule m rma → SpellsPostIn m rma q post
+    → SpellsPostIn m rma q other → in_order post ≡ in_order other
 posts-alike m rma q post other small s v w = sym (post_in-is m rma q post small s v) ∙ post_in-is m rma q other small s w
 
 -- ---- what is held is for the handle that holds it
@@ -59,10 +59,10 @@ in_order-own post w =
     (own-seats post.seats (own-each post.next_ref post.seats w))
 
 -- the post that is read is the one that is spelled, but for that order
-pub post_in-requeued : (m : Memory) (rma : Module) (q : Chains) (post : Post) → IsSmall m rma → IsModule m rma → SpellsPost m rma q post
+pub post_in-requeued : (m : Memory) (rma : Module) (q : Chains) (post : Post) → IsSmallModule m rma → IsModule m rma → SpellsPostIn m rma q post
     → AllByRecursion (laws.HoldsOwn post.next_ref) post.seats → IsRequeued post (post_in m rma q)
 post_in-requeued m rma q post small s w own =
-    let same = named (heap_in m rma) q post w in
+    let same = named (module_heap_in m rma) q post w in
     subst (IsRequeued post) (sym (post_in-is m rma q post small s w ∙ in_order-own post own)) (record {
       same = record { each = λ h. sym (by_seats-each post.seats post.queued h same w.recipients) };
       rest = refl;
@@ -87,7 +87,7 @@ module _ (P : Parcel → Type 0) where
   all-by_seats (s ∷ seats) queue a = all-both (filter (λ (p : Parcel). p.to == s.handle) queue) (by_seats seats queue)
       (all-some (λ (p : Parcel). p.to == s.handle) queue a) (all-by_seats seats queue a)
 
-pub in_order-keeps : (h : Heap) (q : Chains) (post : Post) → IsPost h q post → laws.IsPost post → laws.IsPost (in_order post)
+pub in_order-keeps : (h : Heap) (q : Chains) (post : Post) → ArePostChains h q post → laws.IsPost post → laws.IsPost (in_order post)
 in_order-keeps h q post s w =
     let n = by_seats-length post.seats post.queued (named h q post s) s.recipients in
     let few = w.few in
@@ -104,7 +104,7 @@ bytes-stay : (m n : Memory) (id : ℕ) → n.area id ≡ m.area id → bytes n i
 unfolding bytes
 bytes-stay m n id e = ap (λ o. unwrap_or o []) e
 
-pub heap-stays : (m n : Memory) (rma : Module) → n.area rma.area.0 ≡ m.area rma.area.0 → heap_in n rma ≡ heap_in m rma
+pub heap-stays : (m n : Memory) (rma : Module) → n.area rma.area.0 ≡ m.area rma.area.0 → module_heap_in n rma ≡ module_heap_in m rma
 heap-stays m n rma e = ap (λ b. heap_of b 0) (bytes-stay m n rma.area.0 e)
 
 -- where the module area stays, so does the post
@@ -114,31 +114,31 @@ post_in-stays m n rma q e = ap (λ h. post_of h q) (heap-stays m n rma e)
 pub post_in-beside : (m n : Memory) (id : ℕ) (rma : Module) (q : Chains) → OnlyArea m n id → rma.area.0 ≢ id → post_in n rma q ≡ post_in m rma q
 post_in-beside m n id rma q only ne = post_in-stays m n rma q (only.others rma.area.0 ne)
 
-pub spells-stays : (m n : Memory) (rma : Module) (q : Chains) (post : Post) → n.area rma.area.0 ≡ m.area rma.area.0 → SpellsPost m rma q post
-    → SpellsPost n rma q post
-spells-stays m n rma q post e w = subst (λ h. IsPost h q post) (sym (heap-stays m n rma e)) w
+pub spells-stays : (m n : Memory) (rma : Module) (q : Chains) (post : Post) → n.area rma.area.0 ≡ m.area rma.area.0 → SpellsPostIn m rma q post
+    → SpellsPostIn n rma q post
+spells-stays m n rma q post e w = subst (λ h. ArePostChains h q post) (sym (heap-stays m n rma e)) w
 
 -- ---- calls of the queue
 -- what a call answers
-pub answered : {A : Type 0} (m : Memory) (rma : Module) (q : Chains) (answer : Post → A) (result : A) → IsSmall m rma → IsQueue m rma q
+pub answered : {A : Type 0} (m : Memory) (rma : Module) (q : Chains) (answer : Post → A) (result : A) → IsSmallModule m rma → IsQueue m rma q
     → Answers m rma q answer result → result ≡ answer (post_in m rma q)
 answered m rma q answer result small s a = a (post_in m rma q) (post_in-spelled m rma q small s)
 
 -- the post that a call leaves
-pub post_in-leaves : (m n : Memory) (rma : Module) (q k : Chains) (next : Post → Post) → IsSmall m rma → IsSmall n rma → IsQueue m rma q
-    → Leaves m n rma q k next → post_in n rma k ≡ in_order (next (post_in m rma q))
+pub post_in-leaves : (m n : Memory) (rma : Module) (q k : Chains) (next : Post → Post) → IsSmallModule m rma → IsSmallModule n rma → IsQueue m rma q
+    → LeavesChains m n rma q k next → post_in n rma k ≡ in_order (next (post_in m rma q))
 post_in-leaves m n rma q k next small smaller s l =
     post_in-is n rma k (next (post_in m rma q)) smaller l.still.area (l.spells (post_in m rma q) (post_in-spelled m rma q small s))
 
 -- a new queue has an empty post
 pub post_in-starts : (m : Memory) (rma : Module) (ref : ℕ)
-    → post_in m rma (record { entries = []; live = 0; next_ref = ref }) ≡ record { seats = []; queued = []; heap = heap_in m rma; next_ref = ref }
+    → post_in m rma (record { entries = []; live = 0; next_ref = ref }) ≡ record { seats = []; queued = []; heap = module_heap_in m rma; next_ref = ref }
 unfolding post_of
 post_in-starts m rma ref = refl
 
 -- a handle that joins
-pub post_in-joins : (m : Memory) (rma : Module) (q : Chains) (h : ℕ) → IsSmall m rma → IsQueue m rma q → (HasEntry h q → ⊥)
-    → post_in m rma (joined h q) ≡ in_order (post_join h (post_in m rma q))
+pub post_in-joins : (m : Memory) (rma : Module) (q : Chains) (h : ℕ) → IsSmallModule m rma → IsQueue m rma q → (HasEntry h q → ⊥)
+    → post_in m rma (joined_chains h q) ≡ in_order (post_join h (post_in m rma q))
 post_in-joins m rma q h small s new =
-    post_in-is m rma (joined h q) (post_join h (post_in m rma q)) small s.area
-    (join-spells (heap_in m rma) q (post_in m rma q) h (post_in-spelled m rma q small s) new)
+    post_in-is m rma (joined_chains h q) (post_join h (post_in m rma q)) small s.area
+    (join-spells (module_heap_in m rma) q (post_in m rma q) h (post_in-spelled m rma q small s) new)

@@ -3,8 +3,10 @@ use Rattle.rh_wimp.proofs.Common.{◌≡◌, ℕ, zero, suc, ◌+◌, ◌<◌, �
 use Rattle.rh_wimp.proofs.Common.{sym, ap, subst, ◌∙◌, arith, cases_eq, length-map, Option, Some, None, ◌==◌, option_map, block_bytes, poked, SameShape, part}
 use Rattle.rh_wimp.proofs.Common.{word, word_bytes, Heap, decoded, Memory, bytes, Parcel, code_number, padded, Seat, Post, most_messages, EventCode, Message}
 use Rattle.rh_wimp.proofs.Common.{poked-pokes, cond_true, cond_false, eqb_same, eqb_apart, code_read, length_read, link_read, message_read, padded-relinked}
-use Rattle.rh_wimp.proofs.Common.{poked-shape, shape-both, block_within, IsModule, heap_in, Module, Chain, Chains, Holds, Lies, Row, RowLies, RowsLie}
-use Rattle.rh_wimp.proofs.Common.{IsLinked, IsPost, AllLie, Off, entry_at, first_block, held_list, row_at, row_of, row_parcels, rows_of, in_order, Entry}
+use Rattle.rh_wimp.proofs.Common.{poked-shape, shape-both, block_within, IsModule, module_heap_in, Module, Chain, Chains, Holds, Lies, SeatRow, RowLies}
+use Rattle.rh_wimp.proofs.Common.{RowsLie}
+use Rattle.rh_wimp.proofs.Common.{IsLinked, ArePostChains, AllLie, Off, entry_at, first_block, held_list, row_at, seat_row, row_parcels, rows_of, in_order}
+use Rattle.rh_wimp.proofs.Common.{Entry}
 use Rattle.rh_wimp.proofs.Common.{area_limit}
 use Rattle.rh_defs.specs.Blocks.{blank, bytes_at}
 use Rattle.rh_defs.specs.Heap.{Segment, Used, Hole}
@@ -12,7 +14,8 @@ use Rattle.rh_defs.specs.Messages.{code_at}
 use Rattle.rh_defs.specs.declared.message.EventCode.TheVariants.{User, Recorded, Acknowledge}
 use Rattle.rh_defs.proofs.BlockLaws.{below}
 use Rattle.rh_defs.proofs.MessageImageLaws.{decoded-encoded}
-use Rattle.rh_wimp.specs.PostIn.{bytes_in, or_no_bytes, or_user, or_no_message, parcel_in, chain_in, held_in, row_in, rows_in, seat_of, chains_of, parcels_of}
+use Rattle.rh_wimp.specs.PostIn.{message_bytes, or_no_bytes, or_user, or_no_message, parcel_in, chain_in, held_in, row_in, rows_in, seat_of, chains_of}
+use Rattle.rh_wimp.specs.PostIn.{parcels_of}
 use Rattle.rh_wimp.specs.PostIn.{unlinked, post_of, for_task}
 use Rattle.rh_wimp.proofs.OrderLaws.{own_row, own-rows, own-linked, in_order-spells, seats-of-rows, chains-of-rows, sent_to}
 use Rattle.rh_wimp.proofs.PostLaws.{eq_of, row-at, seat_at}
@@ -109,23 +112,23 @@ held-linked : (h : Heap) (block : ℕ) (o : Option Parcel) → Holds h block o �
 held-linked h block None c = tt
 held-linked h block (Some p) c = ((0, c.1.block), tt)
 
-row-linked : (h : Heap) (e : Entry) (r : Row) → RowLies h e r → AllLinked h (row_parcels r)
+row-linked : (h : Heap) (e : Entry) (r : SeatRow) → RowLies h e r → AllLinked h (row_parcels r)
 row-linked h e r l = linked-both h r.chain (held_list r.held) (chain-linked h r.chain 0 l.chain) (held-linked h e.held r.held l.held)
 
-parcels-linked : (h : Heap) (rows : List Row) → ((i : ℕ) → i < length rows → AllLinked h (row_parcels (row_at rows i))) → AllLinked h (parcels_of rows)
+parcels-linked : (h : Heap) (rows : List SeatRow) → ((i : ℕ) → i < length rows → AllLinked h (row_parcels (row_at rows i))) → AllLinked h (parcels_of rows)
 parcels-linked h [] f = tt
 parcels-linked h (r ∷ rows) f = linked-both h (row_parcels r) (parcels_of rows) (f 0 (omega arith)) (parcels-linked h rows (λ i b. f (suc i) (omega arith)))
 
-parcels-lie : (d : Heap) (rows : List Row) → ((i : ℕ) → i < length rows → AllLie d (row_parcels (row_at rows i))) → AllLie d (parcels_of rows)
+parcels-lie : (d : Heap) (rows : List SeatRow) → ((i : ℕ) → i < length rows → AllLie d (row_parcels (row_at rows i))) → AllLie d (parcels_of rows)
 parcels-lie d [] f = tt
 parcels-lie d (r ∷ rows) f = lie-both d (row_parcels r) (parcels_of rows) (f 0 (omega arith)) (parcels-lie d rows (λ i b. f (suc i) (omega arith)))
 
-parcels-off : (a : ℕ) (rows : List Row) → Off a (parcels_of rows) → (i : ℕ) → i < length rows → Off a (row_parcels (row_at rows i))
+parcels-off : (a : ℕ) (rows : List SeatRow) → Off a (parcels_of rows) → (i : ℕ) → i < length rows → Off a (row_parcels (row_at rows i))
 parcels-off a [] o i b = absurd (omega arith)
 parcels-off a (r ∷ rows) o zero b = (off-both a (row_parcels r) (parcels_of rows) o).0
 parcels-off a (r ∷ rows) o (suc i) b = parcels-off a rows (off-both a (row_parcels r) (parcels_of rows) o).1 i (omega arith)
 
-pub rows-unlinked : (h d : Heap) (es : List Entry) (rows : List Row) → RowsLie h es rows → IsLinked h d rows → unlinked (parcels_of rows) h ≡ d
+pub rows-unlinked : (h d : Heap) (es : List Entry) (rows : List SeatRow) → RowsLie h es rows → IsLinked h d rows → unlinked (parcels_of rows) h ≡ d
 rows-unlinked h d es rows s l = unlinked-is h d (parcels_of rows) (record {
   shape = l.shape;
   linked = parcels-linked h rows (λ i b. row-linked h (entry_at es i) (row_at rows i) (s.each i b));
@@ -145,15 +148,15 @@ code-known Acknowledge = refl
 
 pub parcel-found : (h : Heap) (to link : ℕ) (p : Parcel) → link < 2 ^ 32 → Lies h link p → parcel_in to p.block h ≡ for_task to p
 parcel-found h to link p small l =
-    let e : bytes_in p.block h ≡ padded link p = ap or_no_bytes l.block in
-    let code : or_user (code_at (word (bytes_in p.block h) 4)) ≡ p.code =
+    let e : message_bytes p.block h ≡ padded link p = ap or_no_bytes l.block in
+    let code : or_user (code_at (word (message_bytes p.block h) 4)) ≡ p.code =
     ap (λ b. or_user (code_at (word b 4))) e ∙ ap (λ n. or_user (code_at n)) (code_read link p small l.fits) ∙ code-known p.code in
-    let message : or_no_message (decoded (part (bytes_in p.block h) 8 (word (bytes_in p.block h) 8))) ≡ p.message =
+    let message : or_no_message (decoded (part (message_bytes p.block h) 8 (word (message_bytes p.block h) 8))) ≡ p.message =
     ap (λ b. or_no_message (decoded (part b 8 (word b 8)))) e
     ∙ ap (λ b. or_no_message (decoded b)) (message_read link p (word (padded link p) 8) (length_read link p small l.fits))
     ∙ ap or_no_message (decoded-encoded p.message l.fits) in
     ap (λ (c : EventCode). let x : Parcel =
-    record { code = c; to = to; block = p.block; message = or_no_message (decoded (part (bytes_in p.block h) 8 (word (bytes_in p.block h) 8))) } in
+    record { code = c; to = to; block = p.block; message = or_no_message (decoded (part (message_bytes p.block h) 8 (word (message_bytes p.block h) 8))) } in
     x) code
     ∙ ap (λ (m : Message). let x : Parcel = record { code = p.code; to = to; block = p.block; message = m } in x) message
 
@@ -181,9 +184,10 @@ chain-found h (suc n) to [] s c f l = refl
 chain-found h (suc n) to (p ∷ ps) s c f l =
     let above = lies-above h (first_block ps 0) p c.0 in
     let small = link-small h ps s c.1 in
-    let next : word (bytes_in p.block h) 0 ≡ first_block ps 0 = ap (λ o. word (or_no_bytes o) 0) c.0.block ∙ link_read (first_block ps 0) p small c.0.fits in
+    let next : word (message_bytes p.block h) 0 ≡ first_block ps 0 = ap (λ o. word (or_no_bytes o) 0) c.0.block ∙ link_read
+    (first_block ps 0) p small c.0.fits in
     cond_false (p.block == 0) _ _ (eqb_apart p.block 0 (omega arith))
-    ∙ ap (λ x. x ∷ chain_in n to (word (bytes_in p.block h) 0) h) (parcel-found h to (first_block ps 0) p small c.0 ∙ ap (λ x. for_task x p) (sym f.0))
+    ∙ ap (λ x. x ∷ chain_in n to (word (message_bytes p.block h) 0) h) (parcel-found h to (first_block ps 0) p small c.0 ∙ ap (λ x. for_task x p) (sym f.0))
     ∙ ap (λ x. p ∷ chain_in n to x h) next
     ∙ ap (λ l. p ∷ l) (chain-found h n to ps s c.1 f.1 (omega arith))
 
@@ -194,14 +198,14 @@ held-found h to block (Some p) c =
     let e = c.0 in
     cond_false (block == 0) _ _ (eqb_apart block 0 (omega arith)) ∙ ap (λ b. Some (parcel_in to b h)) e ∙ ap Some (parcel-found h to 0 p (omega arith) c.1)
 
-row-found : (h : Heap) (e : Entry) (r : Row) → IsLow h → RowLies h e r → AllFor r.handle r.chain → length r.chain ≤ most_messages → row_in h e ≡ own_row r
+row-found : (h : Heap) (e : Entry) (r : SeatRow) → IsLow h → RowLies h e r → AllFor r.handle r.chain → length r.chain ≤ most_messages → row_in h e ≡ own_row r
 row-found h e r s l f few =
-    ap (λ (x : ℕ). let y : Row = record { handle = x; chain = chain_in most_messages x e.first h; held = held_in x e.held h } in y) l.handle
-    ∙ ap (λ (c : List Parcel). let y : Row = record { handle = r.handle; chain = c; held = held_in r.handle e.held h } in y)
+    ap (λ (x : ℕ). let y : SeatRow = record { handle = x; chain = chain_in most_messages x e.first h; held = held_in x e.held h } in y) l.handle
+    ∙ ap (λ (c : List Parcel). let y : SeatRow = record { handle = r.handle; chain = c; held = held_in r.handle e.held h } in y)
     (ap (λ b. chain_in most_messages r.handle b h) l.first ∙ chain-found h most_messages r.handle r.chain s l.chain f few)
-    ∙ ap (λ (o : Option Parcel). let y : Row = record { handle = r.handle; chain = r.chain; held = o } in y) (held-found h r.handle e.held r.held l.held)
+    ∙ ap (λ (o : Option Parcel). let y : SeatRow = record { handle = r.handle; chain = r.chain; held = o } in y) (held-found h r.handle e.held r.held l.held)
 
-rows-found : (h : Heap) (es : List Entry) (rows : List Row) → length es ≡ length rows
+rows-found : (h : Heap) (es : List Entry) (rows : List SeatRow) → length es ≡ length rows
     → ((i : ℕ) → i < length rows → row_in h (entry_at es i) ≡ own_row (row_at rows i)) → map (row_in h) es ≡ map own_row rows
 rows-found h [] [] n f = refl
 rows-found h [] (r ∷ rows) n f = absurd (omega arith)
@@ -210,15 +214,15 @@ rows-found h (e ∷ es) (r ∷ rows) n f =
     ap (λ x. x ∷ map (row_in h) es) (f 0 (omega arith)) ∙ ap (λ l. own_row r ∷ l) (rows-found h es rows (omega arith) (λ i b. f (suc i) (omega arith)))
 
 -- ---- the whole post
-pub rows_in-are : (h : Heap) (q : Chains) (post : Post) → IsLow h → IsPost h q post → rows_in h q ≡ map own_row (rows_of post)
+pub rows_in-are : (h : Heap) (q : Chains) (post : Post) → IsLow h → ArePostChains h q post → rows_in h q ≡ map own_row (rows_of post)
 rows_in-are h q post s w = rows-found h q.entries (rows_of post) w.rows.len (λ i b.
-    let n = length-map post.seats (row_of post.queued) in
+    let n = length-map post.seats (seat_row post.queued) in
     let e = row-at post.queued post.seats i (omega arith) in
     row-found h (entry_at q.entries i) (row_at (rows_of post) i) s (w.rows.each i b)
-    (subst (λ (r : Row). AllFor r.handle r.chain) (sym e) (sent-for (seat_at post.seats i).handle post.queued)) (short-rows h q post w i b))
+    (subst (λ (r : SeatRow). AllFor r.handle r.chain) (sym e) (sent-for (seat_at post.seats i).handle post.queued)) (short-rows h q post w i b))
 
 -- the walk finds the post that is spelled, in order of seats
-pub post_of-is : (h : Heap) (q : Chains) (post : Post) → IsLow h → IsPost h q post → post_of h q ≡ in_order post
+pub post_of-is : (h : Heap) (q : Chains) (post : Post) → IsLow h → ArePostChains h q post → post_of h q ≡ in_order post
 unfolding post_of
 post_of-is h q post s w =
     let e = rows_in-are h q post s w in
@@ -236,9 +240,9 @@ post_of-is h q post s w =
     ∙ ap (λ (x : ℕ). let y : Post = record { seats = (in_order post).seats; queued = (in_order post).queued; heap = post.heap; next_ref = x } in y) w.next_ref
 
 -- and the queue spells what the walk finds
-pub post_of-spells : (h : Heap) (q : Chains) (post : Post) → IsLow h → IsPost h q post → IsPost h q (post_of h q)
-post_of-spells h q post s w = subst (IsPost h q) (sym (post_of-is h q post s w)) (in_order-spells h q post w)
+pub post_of-spells : (h : Heap) (q : Chains) (post : Post) → IsLow h → ArePostChains h q post → ArePostChains h q (post_of h q)
+post_of-spells h q post s w = subst (ArePostChains h q) (sym (post_of-is h q post s w)) (in_order-spells h q post w)
 
 -- the blocks of a module area lie in its bytes
-pub module-low : (m : Memory) (rma : Module) → IsModule m rma → length (bytes m rma.area.0) ≤ area_limit → IsLow (heap_in m rma)
+pub module-low : (m : Memory) (rma : Module) → IsModule m rma → length (bytes m rma.area.0) ≤ area_limit → IsLow (module_heap_in m rma)
 module-low m rma s l = record { each = λ a bs e. let r = block_within m rma a 0 s (record { bytes = bs; found = e; room = omega arith }) in omega arith }

@@ -1,7 +1,7 @@
 -- A post's rows, after each edit of the post.
 use Rattle.rh_wimp.proofs.Common.{◌≡◌, ℕ, zero, suc, ◌+◌, ◌<◌, ◌≤◌, ◌≢◌, inl, inr, true, false, cond, eqb, ltb, List, [], ◌∷◌, ◌++◌, length, map, get_or, set}
 use Rattle.rh_wimp.proofs.Common.{refl, sym, ap, ◌∙◌, arith, Option, Some, None, filter, ◌==◌, position, eqb_tells, append-nil, filter-append, cases_lt}
-use Rattle.rh_wimp.proofs.Common.{total, cond_true, cond_false, eqb_same, eqb_apart, Parcel, Seat, has_seat, held_by, with_held, count_held, Row, row_of}
+use Rattle.rh_wimp.proofs.Common.{total, cond_true, cond_false, eqb_same, eqb_apart, Parcel, Seat, has_seat, held_by, with_held, count_held, SeatRow, seat_row}
 use Rattle.rh_wimp.proofs.Common.{row_at, entry_at, no_entry, Entry}
 use Rattle.std.specs.List.{position_or_len}
 use Rattle.std.proofs.lemmas.Bool.Decides.{nat_tests}
@@ -45,7 +45,7 @@ named-rest s seats n i j bi bj ne = n (suc i) (suc j) (omega arith) (omega arith
 named-head : (s : Seat) (seats : List Seat) → Named (s ∷ seats) → (j : ℕ) → j < length seats → s.handle ≢ (seat_at seats j).handle
 named-head s seats n j b = n 0 (suc j) (omega arith) (omega arith) (omega arith)
 
-pub row-at : (queued : List Parcel) (seats : List Seat) (i : ℕ) → i < length seats → row_at (map (row_of queued) seats) i ≡ row_of queued (seat_at seats i)
+pub row-at : (queued : List Parcel) (seats : List Seat) (i : ℕ) → i < length seats → row_at (map (seat_row queued) seats) i ≡ seat_row queued (seat_at seats i)
 row-at queued [] i b = absurd (omega arith)
 row-at queued (s ∷ seats) zero b = refl
 row-at queued (s ∷ seats) (suc i) b = row-at queued seats i (omega arith)
@@ -79,44 +79,44 @@ with_held-at o (s ∷ seats) (suc i) x n b e =
     ∙ ap (λ l. s ∷ l) (with_held-at o seats i x (named-rest s seats n) (omega arith) e)
 
 -- ---- one message more in the queue
-one-more : (queued : List Parcel) (q : Parcel) (s : Seat) → s.handle ≡ q.to → row_of (queued ++ q ∷ []) s ≡ with_last q (row_of queued s)
+one-more : (queued : List Parcel) (q : Parcel) (s : Seat) → s.handle ≡ q.to → seat_row (queued ++ q ∷ []) s ≡ with_last q (seat_row queued s)
 one-more queued q s e =
     let f : filter (λ (p : Parcel). p.to == s.handle) (queued ++ q ∷ []) ≡ filter (λ (p : Parcel). p.to == s.handle) queued ++ q ∷ [] =
     filter-append (λ (p : Parcel). p.to == s.handle) queued (q ∷ [])
     ∙ ap (λ l. filter (λ (p : Parcel). p.to == s.handle) queued ++ l) (cond_true (eqb q.to s.handle) _ _ (eqb_same q.to s.handle (sym e))) in
-    ap (λ (l : List Parcel). let r : Row = record { handle = s.handle; chain = l; held = s.holds } in r) f
+    ap (λ (l : List Parcel). let r : SeatRow = record { handle = s.handle; chain = l; held = s.holds } in r) f
 
-none-more : (queued : List Parcel) (q : Parcel) (s : Seat) → s.handle ≢ q.to → row_of (queued ++ q ∷ []) s ≡ row_of queued s
+none-more : (queued : List Parcel) (q : Parcel) (s : Seat) → s.handle ≢ q.to → seat_row (queued ++ q ∷ []) s ≡ seat_row queued s
 none-more queued q s ne =
     let f : filter (λ (p : Parcel). p.to == s.handle) (queued ++ q ∷ []) ≡ filter (λ (p : Parcel). p.to == s.handle) queued =
     filter-append (λ (p : Parcel). p.to == s.handle) queued (q ∷ [])
     ∙ ap (λ l. filter (λ (p : Parcel). p.to == s.handle) queued ++ l) (cond_false (eqb q.to s.handle) _ _ (eqb_apart q.to s.handle (λ z. ne (sym z))))
     ∙ append-nil (filter (λ (p : Parcel). p.to == s.handle) queued) in
-    ap (λ (l : List Parcel). let r : Row = record { handle = s.handle; chain = l; held = s.holds } in r) f
+    ap (λ (l : List Parcel). let r : SeatRow = record { handle = s.handle; chain = l; held = s.holds } in r) f
 
 nowhere-more : (queued : List Parcel) (q : Parcel) (seats : List Seat) → ((j : ℕ) → j < length seats → (seat_at seats j).handle ≢ q.to)
-    → map (row_of (queued ++ q ∷ [])) seats ≡ map (row_of queued) seats
+    → map (seat_row (queued ++ q ∷ [])) seats ≡ map (seat_row queued) seats
 nowhere-more queued q [] n = refl
 nowhere-more queued q (s ∷ seats) n =
-    ap (λ r. r ∷ map (row_of (queued ++ q ∷ [])) seats) (none-more queued q s (n 0 (omega arith)))
-    ∙ ap (λ l. row_of queued s ∷ l) (nowhere-more queued q seats (λ j b. n (suc j) (omega arith)))
+    ap (λ r. r ∷ map (seat_row (queued ++ q ∷ [])) seats) (none-more queued q s (n 0 (omega arith)))
+    ∙ ap (λ l. seat_row queued s ∷ l) (nowhere-more queued q seats (λ j b. n (suc j) (omega arith)))
 
 pub rows-queued : (queued : List Parcel) (q : Parcel) (seats : List Seat) (i : ℕ) → Named seats → i < length seats → (seat_at seats i).handle ≡ q.to
-    → map (row_of (queued ++ q ∷ [])) seats ≡ set (map (row_of queued) seats) i (with_last q (row_of queued (seat_at seats i)))
+    → map (seat_row (queued ++ q ∷ [])) seats ≡ set (map (seat_row queued) seats) i (with_last q (seat_row queued (seat_at seats i)))
 rows-queued queued q [] i n b e = absurd (omega arith)
 rows-queued queued q (s ∷ seats) zero n b e =
-    ap (λ r. r ∷ map (row_of (queued ++ q ∷ [])) seats) (one-more queued q s e)
-    ∙ ap (λ l. with_last q (row_of queued s) ∷ l) (nowhere-more queued q seats (λ j c z. named-head s seats n j c (e ∙ sym z)))
+    ap (λ r. r ∷ map (seat_row (queued ++ q ∷ [])) seats) (one-more queued q s e)
+    ∙ ap (λ l. with_last q (seat_row queued s) ∷ l) (nowhere-more queued q seats (λ j c z. named-head s seats n j c (e ∙ sym z)))
 rows-queued queued q (s ∷ seats) (suc i) n b e =
-    ap (λ r. r ∷ map (row_of (queued ++ q ∷ [])) seats) (none-more queued q s (λ z. named-head s seats n i (omega arith) (z ∙ sym e)))
-    ∙ ap (λ l. row_of queued s ∷ l) (rows-queued queued q seats i (named-rest s seats n) (omega arith) e)
+    ap (λ r. r ∷ map (seat_row (queued ++ q ∷ [])) seats) (none-more queued q s (λ z. named-head s seats n i (omega arith) (z ∙ sym e)))
+    ∙ ap (λ l. seat_row queued s ∷ l) (rows-queued queued q seats i (named-rest s seats n) (omega arith) e)
 
 -- ---- a seat that holds another message, or none
 pub rows-seat : (queued : List Parcel) (seats : List Seat) (i : ℕ) (s : Seat)
-    → map (row_of queued) (set seats i s) ≡ set (map (row_of queued) seats) i (row_of queued s)
+    → map (seat_row queued) (set seats i s) ≡ set (map (seat_row queued) seats) i (seat_row queued s)
 rows-seat queued [] i s = refl
 rows-seat queued (t ∷ seats) zero s = refl
-rows-seat queued (t ∷ seats) (suc i) s = ap (λ l. row_of queued t ∷ l) (rows-seat queued seats i s)
+rows-seat queued (t ∷ seats) (suc i) s = ap (λ l. seat_row queued t ∷ l) (rows-seat queued seats i s)
 
 pub count-seat : (seats : List Seat) (i : ℕ) (s : Seat) → i < length seats
     → total (λ (t : Seat). count_held t.holds) (set seats i s) + count_held (seat_at seats i).holds ≡ total (λ (t : Seat). count_held t.holds) seats

@@ -1,7 +1,7 @@
 -- Rows after a message joins a chain, leaves one, is held or put down.
 use Rattle.rh_wimp.proofs.Common.{◌≡◌, ℕ, ◌<◌, ◌≤◌, ◌≢◌, inl, inr, eqb, List, [], ◌∷◌, ◌++◌, length, set, refl, sym, subst, ◌∙◌, arith, append-nil, cases_eq}
 use Rattle.rh_wimp.proofs.Common.{get_or-set_same, get_or-set_other, Option, Some, None, Heap, cond_true, cond_false, eqb_same, eqb_apart, Parcel, padded}
-use Rattle.rh_wimp.proofs.Common.{no_row, Row, Lies, Chain, Holds, RowLies, RowsLie, Off, Apart, Clear, first_block, last_block, held_list, row_parcels}
+use Rattle.rh_wimp.proofs.Common.{no_row, SeatRow, Lies, Chain, Holds, RowLies, RowsLie, Off, Apart, Clear, first_block, last_block, held_list, row_parcels}
 use Rattle.rh_wimp.proofs.Common.{row_at, entry_at, lengthened, emptied, Entry}
 use Rattle.rh_defs.proofs.BlockLaws.{range_at}
 use Rattle.rh_wimp.proofs.RowLaws.{Off-append, Off-parts, Clear-append, Clear-parts, Clear-behind, Clear-behind-parts, Clear-one, Apart-append, Apart-parts}
@@ -19,7 +19,7 @@ pub held-nonzero : (h : Heap) (block : ℕ) (o : Option Parcel) → Holds h bloc
 held-nonzero h block None c = tt
 held-nonzero h block (Some p) c = ((λ e. let a = lies-above h 0 p c.1 in absurd (omega arith)), tt)
 
-pub row-nonzero : (h : Heap) (e : Entry) (r : Row) → RowLies h e r → Off 0 (row_parcels r)
+pub row-nonzero : (h : Heap) (e : Entry) (r : SeatRow) → RowLies h e r → Off 0 (row_parcels r)
 row-nonzero h e r l = Off-append 0 r.chain (held_list r.held) (chain-nonzero h r.chain 0 l.chain) (held-nonzero h e.held r.held l.held)
 
 pub off-last : (ps qs : List Parcel) → Clear ps qs → Off 0 qs → Off (last_block ps) qs
@@ -41,10 +41,10 @@ longer-first h e [] q c ef el = cond_true (eqb e.last 0) _ _ (eqb_same e.last 0 
 longer-first h e (p ∷ ps) q c ef el = cond_false (eqb e.last 0) _ _ (eqb_apart e.last 0 (λ z. last-nonzero h p ps 0 c (sym el ∙ z))) ∙ ef
 
 -- ---- a message at the end of a chain
-abbrev pub with_last : Parcel → Row → Row
+abbrev pub with_last : Parcel → SeatRow → SeatRow
 with_last q r = record r { chain = r.chain ++ q ∷ [] }
 
-module _ (h k : Heap) (es : List Entry) (rows : List Row) (i : ℕ) (q : Parcel) where
+module _ (h k : Heap) (es : List Entry) (rows : List SeatRow) (i : ℕ) (q : Parcel) where
   pub appended : i < length rows → RowsLie h es rows → ((j : ℕ) → j < length rows → Off q.block (row_parcels (row_at rows j)))
       → KeepsBut h k (entry_at es i).last q.block → LinkedTo h k (entry_at es i).last q.block → Lies k 0 q
       → RowsLie k (set es i (lengthened q.block (entry_at es i))) (set rows i (with_last q (row_at rows i)))
@@ -85,10 +85,10 @@ module _ (h k : Heap) (es : List Entry) (rows : List Row) (i : ℕ) (q : Parcel)
       })
 
 -- ---- a held message put down
-abbrev pub without_held : Row → Row
+abbrev pub without_held : SeatRow → SeatRow
 without_held r = record r { held = None }
 
-module _ (h k : Heap) (es : List Entry) (rows : List Row) (i : ℕ) (q : Parcel) where
+module _ (h k : Heap) (es : List Entry) (rows : List SeatRow) (i : ℕ) (q : Parcel) where
   pub dropped : i < length rows → RowsLie h es rows → (row_at rows i).held ≡ Some q → KeepsBut h k q.block q.block
       → RowsLie k (set es i (emptied (entry_at es i))) (set rows i (without_held (row_at rows i)))
   dropped l s held keeps =

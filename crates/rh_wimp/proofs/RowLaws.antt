@@ -1,6 +1,7 @@
 -- Rows of messages in a heap whose blocks change.
 use Rattle.rh_wimp.proofs.Common.{◌≡◌, ℕ, ◌<◌, ◌≢◌, inl, inr, List, [], ◌∷◌, ◌++◌, length, set, refl, sym, ap, subst, ◌∙◌, arith, cases_eq, length-set}
-use Rattle.rh_wimp.proofs.Common.{get_or-set_same, get_or-set_other, Option, Some, None, put, Heap, block_bytes, HasBlock, word_bytes, Parcel, padded, Row}
+use Rattle.rh_wimp.proofs.Common.{get_or-set_same, get_or-set_other, Option, Some, None, with_part, Heap, block_bytes, HasBlock, word_bytes, Parcel, padded}
+use Rattle.rh_wimp.proofs.Common.{SeatRow}
 use Rattle.rh_wimp.proofs.Common.{Lies, Chain, Holds, RowLies, RowsLie, Off, Apart, Clear, first_block, last_block, held_list, row_parcels, row_at, entry_at}
 use Rattle.rh_wimp.proofs.Common.{no_row, no_entry, Entry, padded-relinked, padded-least}
 
@@ -86,7 +87,7 @@ pub holds-kept : (h k : Heap) (block : ℕ) (o : Option Parcel) → Agree h k (h
 holds-kept h k block None a c = c
 holds-kept h k block (Some p) a c = (c.0, lies-kept h k 0 p a.0 c.1)
 
-pub row-kept : (h k : Heap) (e : Entry) (r : Row) → Agree h k (row_parcels r) → RowLies h e r → RowLies k e r
+pub row-kept : (h k : Heap) (e : Entry) (r : SeatRow) → Agree h k (row_parcels r) → RowLies h e r → RowLies k e r
 row-kept h k e r a l =
     let s = Agree-parts h k r.chain (held_list r.held) a in
     record { handle = l.handle; first = l.first; last = l.last; chain = chain-kept h k r.chain 0 s.0 l.chain; held = holds-kept h k e.held r.held s.1 l.held }
@@ -99,7 +100,7 @@ pub chain-fresh : (h : Heap) (ps : List Parcel) (next x : ℕ) → block_bytes x
 chain-fresh h [] next x e c = tt
 chain-fresh h (p ∷ ps) next x e c = (fresh-one h (first_block ps next) p x e c.0, chain-fresh h ps next x e c.1)
 
-pub row-fresh : (h : Heap) (e : Entry) (r : Row) (x : ℕ) → block_bytes x h ≡ None → RowLies h e r → Off x (row_parcels r)
+pub row-fresh : (h : Heap) (e : Entry) (r : SeatRow) (x : ℕ) → block_bytes x h ≡ None → RowLies h e r → Off x (row_parcels r)
 row-fresh h e r x f l = Off-append x r.chain (held_list r.held) (chain-fresh h r.chain 0 x f l.chain) (go r.held l.held)
   where
     go : (o : Option Parcel) → Holds h e.held o → Off x (held_list o)
@@ -109,7 +110,7 @@ row-fresh h e r x f l = Off-append x r.chain (held_list r.held) (chain-fresh h r
 -- ---- the end of a chain
 -- the last of some messages links to another block
 pub record LinkedTo (h k : Heap) (last block : ℕ) : Type 0 where
-  pub there : (bs : List ℕ) → block_bytes last h ≡ Some bs → block_bytes last k ≡ Some (put bs 0 (word_bytes block))
+  pub there : (bs : List ℕ) → block_bytes last h ≡ Some bs → block_bytes last k ≡ Some (with_part bs 0 (word_bytes block))
 
 pub chain-longer : (h k : Heap) (ps : List Parcel) (q : Parcel) → Chain h ps 0 → Apart ps → Off q.block ps → KeepsBut h k (last_block ps) q.block
     → LinkedTo h k (last_block ps) q.block → Lies k 0 q → Chain k (ps ++ q ∷ []) 0
@@ -130,14 +131,14 @@ last-there h p [] next c = record { bytes = padded next p; found = c.0.block; ro
 last-there h p (q ∷ ps) next c = last-there h q ps next c.1
 
 -- ---- one row changes
-pub record RowChanges (h k : Heap) (es : List Entry) (rows : List Row) (i : ℕ) (e : Entry) (r : Row) : Type 0 where
+pub record RowChanges (h k : Heap) (es : List Entry) (rows : List SeatRow) (i : ℕ) (e : Entry) (r : SeatRow) : Type 0 where
   pub lies : RowLies k e r
   pub own : Apart (row_parcels r)
   pub handle : r.handle ≡ (row_at rows i).handle
   pub others : (j : ℕ) → j < length rows → j ≢ i
       → Agree h k (row_parcels (row_at rows j)) × (Clear (row_parcels r) (row_parcels (row_at rows j)) × Clear (row_parcels (row_at rows j)) (row_parcels r))
 
-pub rows-changed : (h k : Heap) (es : List Entry) (rows : List Row) (i : ℕ) (e : Entry) (r : Row) → i < length rows → RowsLie h es rows
+pub rows-changed : (h k : Heap) (es : List Entry) (rows : List SeatRow) (i : ℕ) (e : Entry) (r : SeatRow) → i < length rows → RowsLie h es rows
     → RowChanges h k es rows i e r → RowsLie k (set es i e) (set rows i r)
 rows-changed h k es rows i e r l s c =
     let le = length-set es i e in
@@ -172,8 +173,9 @@ rows-changed h k es rows i e r l s c =
       ];
       handles = λ j m bj bm ne.
           let named : (n : ℕ) → (row_at (set rows i r) n).handle ≡ (row_at rows n).handle = λ n. elim (cases_eq n i) [
-            | inl q ↦ ap (λ z. (row_at (set rows i r) z).handle) q ∙ ap (λ (x : Row). x.handle) same-row ∙ c.handle ∙ ap (λ z. (row_at rows z).handle) (sym q)
-            | inr nn ↦ ap (λ (x : Row). x.handle) (other-row n nn)
+            | inl q ↦ ap (λ z. (row_at (set rows i r) z).handle) q ∙ ap (λ (x : SeatRow). x.handle) same-row ∙ c.handle ∙ ap (λ z. (row_at rows z).handle)
+                (sym q)
+            | inr nn ↦ ap (λ (x : SeatRow). x.handle) (other-row n nn)
           ] in
           λ z. s.handles j m (omega arith) (omega arith) ne (sym (named j) ∙ z ∙ named m);
     }

@@ -1,15 +1,17 @@
 -- Laws of searches among the live messages.
 use Rattle.rh_wimp.proofs.Common.{◌≡◌, ℕ, zero, suc, ◌+◌, ◌<◌, ◌≤◌, ◌≢◌, ◌^◌, inl, inr, Bool, true, false, cond, eqb, List, [], ◌∷◌, length, map, refl, sym}
 use Rattle.rh_wimp.proofs.Common.{ap, ◌∙◌, arith, eqb_tells, length-map, Option, Some, None, filter, ◌==◌, ◌||◌, list_any, Heap, Parcel, padded, Seat, Post}
-use Rattle.rh_wimp.proofs.Common.{has_seat, holds_such, most_messages, HasBlock, block_bytes, word, Memory, bytes, link_read, padded-least, IsModule, heap_in}
-use Rattle.rh_wimp.proofs.Common.{Module, Chain, Chains, Holds, Lies, Row, IsPost, AllLive, first_block, held_list, row_at, row_of, row_parcels, rows_of}
+use Rattle.rh_wimp.proofs.Common.{has_seat, holds_such, most_messages, HasBlock, block_bytes, word, Memory, bytes, link_read, padded-least, IsModule}
+use Rattle.rh_wimp.proofs.Common.{module_heap_in}
+use Rattle.rh_wimp.proofs.Common.{Module, Chain, Chains, Holds, Lies, SeatRow, ArePostChains, AllLive, first_block, held_list, row_at, seat_row, row_parcels}
+use Rattle.rh_wimp.proofs.Common.{rows_of}
 use Rattle.rh_wimp.proofs.Common.{area_limit}
 use Rattle.std.proofs.lemmas.List.Folds.{list_any-append}
 use Rattle.rh_defs.specs.Post.{has_message}
 use Rattle.rh_wimp.proofs.PollLaws.{next-small}
 use Rattle.rh_wimp.proofs.RowEdits.{lies-above}
 use Rattle.rh_wimp.proofs.TakeLaws.{next-there}
-use Rattle.rh_wimp.specs.Searches.{AreShort, rows_have}
+use Rattle.rh_wimp.specs.Searches.{AreShortChains, rows_have}
 use Rattle.rh_wimp.proofs.PostLaws.{row-at, seat_at}
 
 -- what is left of a chain, from a block on
@@ -110,8 +112,8 @@ held_one test (Some p) = go (test p)
 -- a message is in a row exactly where it is queued or held
 pub rows-have : (test : Parcel → Bool) (post : Post) → AllLive post.seats post.queued → rows_have test (rows_of post) ≡ has_message test post
 rows-have test post a =
-    list_any-map (row_of post.queued) (λ (r : Row). list_any test (row_parcels r)) post.seats
-    ∙ list_any-same (λ (s : Seat). list_any test (row_parcels (row_of post.queued s)))
+    list_any-map (seat_row post.queued) (λ (r : SeatRow). list_any test (row_parcels r)) post.seats
+    ∙ list_any-same (λ (s : Seat). list_any test (row_parcels (seat_row post.queued s)))
     (λ (s : Seat). list_any test (chain_for s post.queued) || holds_such test s.holds) post.seats
     (λ s. list_any-append test (chain_for s post.queued) (held_list s.holds) ∙ ap (λ t. list_any test (chain_for s post.queued) || t) (held_one test s.holds))
     ∙ list_any-or (λ (s : Seat). list_any test (chain_for s post.queued)) (λ (s : Seat). holds_such test s.holds) post.seats
@@ -126,22 +128,22 @@ fewer-filter test (p ∷ ps) = go (test p) (fewer-filter test ps)
     go true l = omega arith
     go false l = omega arith
 
-pub short-rows : (h : Heap) (q : Chains) (post : Post) → IsPost h q post → AreShort (rows_of post)
+pub short-rows : (h : Heap) (q : Chains) (post : Post) → ArePostChains h q post → AreShortChains (rows_of post)
 short-rows h q post s i l =
-    let n = length-map post.seats (row_of post.queued) in
+    let n = length-map post.seats (seat_row post.queued) in
     let few = s.few in
     let f = fewer-filter (λ (p : Parcel). p.to == (seat_at post.seats i).handle) post.queued in
-    let e = ap (λ (r : Row). length r.chain) (row-at post.queued post.seats i (omega arith)) in
+    let e = ap (λ (r : SeatRow). length r.chain) (row-at post.queued post.seats i (omega arith)) in
     omega arith
 
 -- no row has it, by their places
-pub none-have : (test : Parcel → Bool) (rows : List Row) → ((j : ℕ) → j < length rows → list_any test (row_parcels (row_at rows j)) ≡ false)
+pub none-have : (test : Parcel → Bool) (rows : List SeatRow) → ((j : ℕ) → j < length rows → list_any test (row_parcels (row_at rows j)) ≡ false)
     → rows_have test rows ≡ false
 none-have test [] f = refl
 none-have test (r ∷ rows) f = ap (λ t. t || rows_have test rows) (f 0 (omega arith)) ∙ none-have test rows (λ j l. f (suc j) (omega arith))
 
 -- one row has it
-pub one-has : (test : Parcel → Bool) (rows : List Row) (j : ℕ) → j < length rows → list_any test (row_parcels (row_at rows j)) ≡ true
+pub one-has : (test : Parcel → Bool) (rows : List SeatRow) (j : ℕ) → j < length rows → list_any test (row_parcels (row_at rows j)) ≡ true
     → rows_have test rows ≡ true
 one-has test [] j l e = absurd (omega arith)
 one-has test (r ∷ rows) zero l e = ap (λ t. t || rows_have test rows) e
@@ -160,13 +162,13 @@ or_false : (x y : Bool) → y ≡ false → (x || y) ≡ x
 or_false true y e = refl
 or_false false y e = e
 
-row-has : (test : Parcel → Bool) (r : Row) → list_any test (row_parcels r) ≡ (list_any test r.chain || holds_such test r.held)
+row-has : (test : Parcel → Bool) (r : SeatRow) → list_any test (row_parcels r) ≡ (list_any test r.chain || holds_such test r.held)
 row-has test r = list_any-append test r.chain (held_list r.held) ∙ ap (λ t. list_any test r.chain || t) (held_one test r.held)
 
-pub held-has_it : (test : Parcel → Bool) (r : Row) (t : Bool) → t ≡ holds_such test r.held → t ≡ true → true ≡ list_any test (row_parcels r)
+pub held-has_it : (test : Parcel → Bool) (r : SeatRow) (t : Bool) → t ≡ holds_such test r.held → t ≡ true → true ≡ list_any test (row_parcels r)
 held-has_it test r t e et = sym (row-has test r ∙ or_true (list_any test r.chain) (holds_such test r.held) (sym e ∙ et))
 
-pub chain-decides : (test : Parcel → Bool) (r : Row) (t u : Bool) → t ≡ holds_such test r.held → t ≡ false → u ≡ list_any test r.chain
+pub chain-decides : (test : Parcel → Bool) (r : SeatRow) (t u : Bool) → t ≡ holds_such test r.held → t ≡ false → u ≡ list_any test r.chain
     → u ≡ list_any test (row_parcels r)
 chain-decides test r t u e et eu = eu ∙ sym (row-has test r ∙ or_false (list_any test r.chain) (holds_such test r.held) (sym e ∙ et))
 
@@ -190,9 +192,9 @@ pub record Here (m : Memory) (rma : Module) (block turn : ℕ) (test : Parcel �
   pub parcel : Parcel
   pub rest : List Parcel
   pub block_is : block ≡ parcel.block
-  pub lies : Lies (heap_in m rma) (first_block rest 0) parcel
+  pub lies : Lies (module_heap_in m rma) (first_block rest 0) parcel
   pub small : first_block rest 0 < 2 ^ 32
-  pub chain : Chain (heap_in m rma) rest 0
+  pub chain : Chain (module_heap_in m rma) rest 0
   pub few : length rest + suc turn ≤ most_messages
   pub same : list_any test ps ≡ (test parcel || list_any test rest)
 
@@ -204,10 +206,10 @@ ahead-none h block turn test ps a z = go a.rest a.block_is a.chain (sym a.same)
     go (p ∷ rest) e c f = let l = lies-above h (first_block rest 0) p c.0 in absurd (omega arith)
 
 pub ahead-some : (m : Memory) (rma : Module) (block turn : ℕ) (test : Parcel → Bool) (ps : List Parcel) → IsModule m rma
-    → length (bytes m rma.area.0) ≤ area_limit → Ahead (heap_in m rma) block turn test ps → block ≢ 0 → Here m rma block turn test ps
+    → length (bytes m rma.area.0) ≤ area_limit → Ahead (module_heap_in m rma) block turn test ps → block ≢ 0 → Here m rma block turn test ps
 ahead-some m rma block turn test ps s l a ne = go a.rest a.block_is a.chain a.few a.same
   where
-    go : (rest : List Parcel) → block ≡ first_block rest 0 → Chain (heap_in m rma) rest 0 → length rest + turn ≤ most_messages
+    go : (rest : List Parcel) → block ≡ first_block rest 0 → Chain (module_heap_in m rma) rest 0 → length rest + turn ≤ most_messages
         → list_any test ps ≡ list_any test rest → Here m rma block turn test ps
     go [] e c f same = absurd (ne e)
     go (p ∷ rest) e c f same = record {
@@ -215,7 +217,7 @@ ahead-some m rma block turn test ps s l a ne = go a.rest a.block_is a.chain a.fe
       rest = rest;
       block_is = e;
       lies = c.0;
-      small = next-small m rma (first_block rest 0) s l (next-there (heap_in m rma) rest c.1);
+      small = next-small m rma (first_block rest 0) s l (next-there (module_heap_in m rma) rest c.1);
       chain = c.1;
       few = omega arith;
       same = same;
@@ -230,17 +232,17 @@ ahead-past h block turn test ps a z = go a.rest a.few (sym a.same)
     go (p ∷ rest) f e = absurd (omega arith)
 
 module _ (m : Memory) (rma : Module) (block turn : ℕ) (test : Parcel → Bool) (ps : List Parcel) (w : Here m rma block turn test ps) where
-  pub here-bytes : block_bytes block (heap_in m rma) ≡ Some (padded (first_block w.rest 0) w.parcel)
-  here-bytes = ap (λ a. block_bytes a (heap_in m rma)) w.block_is ∙ w.lies.block
+  pub here-bytes : block_bytes block (module_heap_in m rma) ≡ Some (padded (first_block w.rest 0) w.parcel)
+  here-bytes = ap (λ a. block_bytes a (module_heap_in m rma)) w.block_is ∙ w.lies.block
 
-  pub here-has : HasBlock block 24 (heap_in m rma)
+  pub here-has : HasBlock block 24 (module_heap_in m rma)
   here-has = record { bytes = padded (first_block w.rest 0) w.parcel; found = here-bytes; room = padded-least (first_block w.rest 0) w.parcel }
 
   pub found-here : (t : Bool) → t ≡ test w.parcel → t ≡ true → true ≡ list_any test ps
   found-here t e et = sym (w.same ∙ ap (λ b. b || list_any test w.rest) (sym e ∙ et))
 
-  pub one-on : (t : Bool) (next : ℕ) → t ≡ test w.parcel → t ≡ false → ((bs : List ℕ) → block_bytes block (heap_in m rma) ≡ Some bs → next ≡ word bs 0)
-      → Ahead (heap_in m rma) next (suc turn) test ps
+  pub one-on : (t : Bool) (next : ℕ) → t ≡ test w.parcel → t ≡ false → ((bs : List ℕ) → block_bytes block (module_heap_in m rma) ≡ Some bs → next ≡ word bs 0)
+      → Ahead (module_heap_in m rma) next (suc turn) test ps
   one-on t next e et r = record {
     rest = w.rest;
     block_is = r (padded (first_block w.rest 0) w.parcel) here-bytes ∙ link_read (first_block w.rest 0) w.parcel w.small w.lies.fits;

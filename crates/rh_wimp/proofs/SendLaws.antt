@@ -1,11 +1,13 @@
 -- A post after a letter is sent.
 use Rattle.rh_wimp.proofs.Common.{◌≡◌, ℕ, zero, suc, ◌+◌, ◌-◌, ◌<◌, ◌≤◌, ◌≢◌, ◌^◌, inl, inr, true, false, Bool, cond, eqb, leb, List, [], ◌∷◌, ◌++◌, length}
 use Rattle.rh_wimp.proofs.Common.{map, set, refl, sym, ap, subst, ◌∙◌, arith, cases_eq, length-append, length-map, length-set, get_or-set_same}
-use Rattle.rh_wimp.proofs.Common.{get_or-set_other, Option, Some, None, Ok, Err, not, ◌==◌, position, put, Granted, answer_of, total, zeros, Heap, block_room}
-use Rattle.rh_wimp.proofs.Common.{release, module_claim, cond_false, eqb_apart, Memory, OnlyArea, IsModule, heap_in, Module, Turns, relinked, block_bytes}
+use Rattle.rh_wimp.proofs.Common.{get_or-set_other, Option, Some, None, Ok, Err, not, ◌==◌, position, with_part, Granted, answer_of, total, zeros, Heap}
+use Rattle.rh_wimp.proofs.Common.{block_room}
+use Rattle.rh_wimp.proofs.Common.{release_block, module_claim, cond_false, eqb_apart, Memory, OnlyArea, IsModule, module_heap_in, Module, Turns, relinked}
+use Rattle.rh_wimp.proofs.Common.{block_bytes}
 use Rattle.rh_wimp.proofs.Common.{poked, HasBlock, SameShape, word_bytes, Parcel, code_number, encoded, parcel_bytes, parcel_size, padded, Seat, Post}
-use Rattle.rh_wimp.proofs.Common.{has_seat, held_by, with_held, count_held, live_count, most_messages, answers_held, Chains, Chain, Holds, Row, RowLies}
-use Rattle.rh_wimp.proofs.Common.{RowsLie, IsLinked, IsPost, AllLive, Lies, Off, no_entry, entry_at, row_at, row_of, rows_of, row_parcels, lengthened}
+use Rattle.rh_wimp.proofs.Common.{has_seat, held_by, with_held, count_held, live_count, most_messages, answers_held, Chains, Chain, Holds, SeatRow, RowLies}
+use Rattle.rh_wimp.proofs.Common.{RowsLie, IsLinked, ArePostChains, AllLive, Lies, Off, no_entry, entry_at, row_at, seat_row, rows_of, row_parcels, lengthened}
 use Rattle.rh_wimp.proofs.Common.{emptied, emptied_chains, last_block, Entry, poked-pokes, poked-other, release-frees, module_claim-puts, module_claim-alike}
 use Rattle.rh_wimp.proofs.Common.{poked-shape, shape-both, release-alike}
 use Rattle.std.proofs.lemmas.Bool.Decides.{nat_tests}
@@ -14,7 +16,7 @@ use Rattle.rh_defs.specs.Module.{module_need_pages}
 use Rattle.rh_defs.specs.declared.refusal.Refusal.{Refusal}
 use Rattle.rh_defs.specs.declared.refusal.Refusal.TheVariants.{NoTask, NoRefs, QueueFull}
 use Rattle.rh_wimp.specs.Moves.{PutsDown, Settled}
-use Rattle.rh_defs.specs.Blocks.{Puts}
+use Rattle.rh_defs.specs.Blocks.{PutsBlock}
 use Rattle.rh_defs.proofs.ParcelLaws.{parcel-row}
 use Rattle.rh_defs.specs.Messages.{Fits}
 use Rattle.rh_defs.specs.Post.{put_down, queued_in, posted, post_send, post_send_pages, sendable, parcel_of, message_of, release_held}
@@ -33,30 +35,30 @@ use Rattle.rh_defs.proofs.ShapeLaws.{Alike, module_need_pages-alike, shape-sym}
 pub record Seated (h : Heap) (q : Chains) (post : Post) (i : ℕ) : Type 0 where
   pub seat : i < length post.seats
   pub row : i < length (rows_of post)
-  pub row_is : row_at (rows_of post) i ≡ row_of post.queued (seat_at post.seats i)
+  pub row_is : row_at (rows_of post) i ≡ seat_row post.queued (seat_at post.seats i)
   pub handle : (entry_at q.entries i).handle ≡ (seat_at post.seats i).handle
 
-pub seated : (h : Heap) (q : Chains) (post : Post) (i : ℕ) → IsPost h q post → i < length q.entries → Seated h q post i
+pub seated : (h : Heap) (q : Chains) (post : Post) (i : ℕ) → ArePostChains h q post → i < length q.entries → Seated h q post i
 seated h q post i p l =
-    let n = length-map post.seats (row_of post.queued) in
+    let n = length-map post.seats (seat_row post.queued) in
     let len = p.rows.len in
     let is = row-at post.queued post.seats i (omega arith) in
     record {
       seat = omega arith;
       row = omega arith;
       row_is = is;
-      handle = (p.rows.each i (omega arith)).handle ∙ ap (λ (r : Row). r.handle) is;
+      handle = (p.rows.each i (omega arith)).handle ∙ ap (λ (r : SeatRow). r.handle) is;
     }
 
-pub as_many : (h : Heap) (q : Chains) (post : Post) → IsPost h q post → length post.seats ≡ length q.entries
-as_many h q post p = let n = length-map post.seats (row_of post.queued) in let len = p.rows.len in omega arith
+pub as_many : (h : Heap) (q : Chains) (post : Post) → ArePostChains h q post → length post.seats ≡ length q.entries
+as_many h q post p = let n = length-map post.seats (seat_row post.queued) in let len = p.rows.len in omega arith
 
-pub named : (h : Heap) (q : Chains) (post : Post) → IsPost h q post → Named post.seats
+pub named : (h : Heap) (q : Chains) (post : Post) → ArePostChains h q post → Named post.seats
 named h q post p i j bi bj ne z =
     let m = as_many h q post p in
-    let n = length-map post.seats (row_of post.queued) in
+    let n = length-map post.seats (seat_row post.queued) in
     p.rows.handles i j (omega arith) (omega arith) ne
-    (ap (λ (r : Row). r.handle) (row-at post.queued post.seats i bi) ∙ z ∙ sym (ap (λ (r : Row). r.handle) (row-at post.queued post.seats j bj)))
+    (ap (λ (r : SeatRow). r.handle) (row-at post.queued post.seats i bi) ∙ z ∙ sym (ap (λ (r : SeatRow). r.handle) (row-at post.queued post.seats j bj)))
 
 -- ---- refusals
 pub record Admits (h : Heap) (q : Chains) (post : Post) (to : ℕ) : Type 0 where
@@ -72,7 +74,7 @@ past_none i q e = go (leb (2 ^ 32) q.next_ref) (leb most_messages q.live) e
     go false true z = absurd cc
     go false false z = (refl, refl)
 
-pub admits : (h : Heap) (q : Chains) (post : Post) (to : ℕ) → IsPost h q post → refusal_for to q ≡ None → Admits h q post to
+pub admits : (h : Heap) (q : Chains) (post : Post) (to : ℕ) → ArePostChains h q post → refusal_for to q ≡ None → Admits h q post to
 admits h q post to p e = go (position (λ (x : Entry). x.handle == to) q.entries) refl e
   where
     go : (o : Option ℕ) → position (λ (x : Entry). x.handle == to) q.entries ≡ o → refusal_at o q ≡ None → Admits h q post to
@@ -96,7 +98,7 @@ refusals true false true refusal x y = let z = y refl in ap Err cc
 refusals true false false refusal x y = let z = y refl in absurd cc
 
 -- a letter that is refused before its block is claimed
-pub sendable-refused : (h : Heap) (q : Chains) (post : Post) (l : Letter) (refusal : Refusal) → IsPost h q post → refusal_for l.to q ≡ Some refusal
+pub sendable-refused : (h : Heap) (q : Chains) (post : Post) (l : Letter) (refusal : Refusal) → ArePostChains h q post → refusal_for l.to q ≡ Some refusal
     → sendable l post ≡ Err refusal
 unfolding sendable
 sendable-refused h q post l refusal p e = go (position (λ (x : Entry). x.handle == l.to) q.entries) refl e
@@ -147,7 +149,8 @@ then_refused : {A B : Type 0} (o : Granted A) (r : Refusal) (next : Granted B) �
 unfolding ◌>>◌
 then_refused o r next e = next_refused o r (λ y. next) e
 
-pub send-refused : (h : Heap) (q : Chains) (post : Post) (free : ℕ) (l : Letter) (refusal : Refusal) → IsPost h q post → refusal_for l.to q ≡ Some refusal
+pub send-refused : (h : Heap) (q : Chains) (post : Post) (free : ℕ) (l : Letter) (refusal : Refusal) → ArePostChains h q post → refusal_for l.to q
+    ≡ Some refusal
     → post_send free l post ≡ Err refusal
 unfolding post_send
 send-refused h q post free l refusal p e = then_refused (sendable l post) refusal _ (sendable-refused h q post l refusal p e)
@@ -171,7 +174,7 @@ relinked-other last x b h ne = elim (eqb last 0) as (λ t. block_bytes b (cond t
     [ true ↦ refl | false ↦ poked-other last b 0 (word_bytes x) h ne ]
 
 pub relinked-last : (last x : ℕ) (h : Heap) (bs : List ℕ) → last ≢ 0 → block_bytes last h ≡ Some bs
-    → block_bytes last (relinked last x h) ≡ Some (put bs 0 (word_bytes x))
+    → block_bytes last (relinked last x h) ≡ Some (with_part bs 0 (word_bytes x))
 relinked-last last x h bs ne e = ap (block_bytes last) (cond_false (eqb last 0) _ _ (eqb_apart last 0 ne)) ∙ (poked-pokes last 0 (word_bytes x) h bs e).here
 
 pub relinked-shape : (last x : ℕ) (h : Heap) → SameShape (relinked last x h) h
@@ -209,16 +212,16 @@ with_parcel new d ref post = record { seats = post.seats; queued = post.queued +
 
 -- a message that lies in a block of no row's goes to the end of a chain
 module _ (h k : Heap) (q : Chains) (post : Post) (new : Parcel) (to : ℕ) (d : Heap) where
-  pub queue-longer : IsPost h q post → has_seat new.to post.seats ≡ true → live_count post < most_messages → to < length q.entries
+  pub queue-longer : ArePostChains h q post → has_seat new.to post.seats ≡ true → live_count post < most_messages → to < length q.entries
       → (entry_at q.entries to).handle ≡ new.to
       → ((j : ℕ) → j < length (rows_of post) → Off new.block (row_parcels (row_at (rows_of post) j))) → Links h k (entry_at q.entries to).last new.block
       → Lies k 0 new → SameShape k d
       → block_bytes new.block d ≡ Some (padded 0 new) → ((b : ℕ) → b ≢ new.block → block_bytes b d ≡ block_bytes b post.heap) → (ref ref' : ℕ) → ref ≡ ref'
-      → IsPost k (record { entries = set q.entries to (lengthened new.block (entry_at q.entries to)); live = q.live + 1; next_ref = ref })
+      → ArePostChains k (record { entries = set q.entries to (lengthened new.block (entry_at q.entries to)); live = q.live + 1; next_ref = ref })
       (with_parcel new d ref' post)
   queue-longer p alive few lt named-to off w lies shape in-d others ref ref' er =
       let s = seated h q post to p lt in
-      let row : Row = row_at (rows_of post) to in
+      let row : SeatRow = row_at (rows_of post) to in
       let last-is = (p.rows.each to s.row).last in
       let rows-are : rows_of (with_parcel new d ref' post) ≡ set (rows_of post) to (with_last new row) =
       rows-queued post.queued new post.seats to (named h q post p) s.seat (sym s.handle ∙ named-to)
@@ -240,17 +243,18 @@ module _ (h h1 k : Heap) (q : Chains) (post : Post) (l : Letter) (to : ℕ) (the
   abbrev new : Parcel
   new = parcel_of l post.next_ref there.1
 
-  pub letter-queued : IsPost h q post → Admits h q post l.to → to < length q.entries → (entry_at q.entries to).handle ≡ l.to → Fits new.message
-      → Puts (zeros (block_room (parcel_size new.message))) h there.0 there.1 → Puts (zeros (block_room (parcel_size new.message))) post.heap d there.1
+  pub letter-queued : ArePostChains h q post → Admits h q post l.to → to < length q.entries → (entry_at q.entries to).handle ≡ l.to → Fits new.message
+      → PutsBlock (zeros (block_room (parcel_size new.message))) h there.0 there.1 → PutsBlock
+      (zeros (block_room (parcel_size new.message))) post.heap d there.1
       → SameShape there.0 d → h1 ≡ poked there.1 0 (parcel_bytes 0 new) there.0 → k ≡ relinked (entry_at q.entries to).last there.1 h1
-      → IsPost k (longer_chains to there.1 q) (queued_in l (d, there.1) post)
+      → ArePostChains k (longer_chains to there.1 q) (queued_in l (d, there.1) post)
   unfolding padded
   letter-queued p a lt named-to fits puts puts' shape e1 ek =
       let zs : List ℕ = zeros (block_room (parcel_size new.message)) in
       let e : List ℕ = parcel_bytes 0 new in
       let last : ℕ = (entry_at q.entries to).last in
       let s = seated h q post to p lt in
-      let row : Row = row_at (rows_of post) to in
+      let row : SeatRow = row_at (rows_of post) to in
       let in-h1 : block_bytes there.1 h1 ≡ Some (padded 0 new) = ap (block_bytes there.1) e1 ∙ (poked-pokes there.1 0 e there.0 zs puts.here).here in
       let keeps1 : (b : ℕ) → b ≢ there.1 → block_bytes b h1 ≡ block_bytes b h =
       λ b ne. ap (block_bytes b) e1 ∙ poked-other there.1 b 0 e there.0 ne ∙ puts.others b ne in
@@ -270,7 +274,7 @@ module _ (h h1 k : Heap) (q : Chains) (post : Post) (l : Letter) (to : ℕ) (the
       (record { block = in-k; fits = fits }) shape' in-d
       (λ b ne. poked-other there.1 b 0 e d ne ∙ puts'.others b ne) (q.next_ref + 1) (post.next_ref + 1) (ap (λ n. n + 1) p.next_ref)
     where
-      new-last : (g : Heap) (x : ℕ) (en : Entry) (r : Row) → block_bytes x g ≡ None → 20 ≤ x → RowLies g en r → x ≢ en.last
+      new-last : (g : Heap) (x : ℕ) (en : Entry) (r : SeatRow) → block_bytes x g ≡ None → 20 ≤ x → RowLies g en r → x ≢ en.last
       new-last g x en r f b lies = go r.chain lies.last lies.chain
         where
           go : (ps : List Parcel) → en.last ≡ last_block ps → Chain g ps 0 → x ≢ en.last
@@ -290,26 +294,26 @@ all-live-same o seats i [] a = tt
 all-live-same o seats i (p ∷ ps) a = (live-same p.to o seats i ∙ a.0, all-live-same o seats i ps a.1)
 
 module _ (h k : Heap) (q : Chains) (post : Post) (x i : ℕ) (p : Parcel) where
-  pub put-down : IsPost h q post → i < length q.entries → (entry_at q.entries i).handle ≡ x → held_by x post.seats ≡ Some p
-      → k ≡ release (entry_at q.entries i).held h → IsPost k (emptied_chains i q) (put_down x post)
+  pub put-down : ArePostChains h q post → i < length q.entries → (entry_at q.entries i).handle ≡ x → held_by x post.seats ≡ Some p
+      → k ≡ release_block (entry_at q.entries i).held h → ArePostChains k (emptied_chains i q) (put_down x post)
   put-down s lt handle held ek =
       let w = seated h q post i s lt in
-      let row : Row = row_at (rows_of post) i in
+      let row : SeatRow = row_at (rows_of post) i in
       let seat : Seat = seat_at post.seats i in
       let names = named h q post s in
       let here : seat.holds ≡ Some p = sym (held-at post.seats i x names w.seat (sym w.handle ∙ handle)) ∙ held in
-      let row-holds : row.held ≡ Some p = ap (λ (r : Row). r.held) w.row_is ∙ here in
+      let row-holds : row.held ≡ Some p = ap (λ (r : SeatRow). r.held) w.row_is ∙ here in
       let holds = subst (Holds h (entry_at q.entries i).held) row-holds (s.rows.each i w.row).held in
-      let k-is : k ≡ release p.block h = ek ∙ ap (λ b. release b h) holds.0 in
+      let k-is : k ≡ release_block p.block h = ek ∙ ap (λ b. release_block b h) holds.0 in
       let frees = release-frees p.block h in
       let frees' = release-frees p.block post.heap in
       let seats-are : with_held x None post.seats ≡ set post.seats i (seat_with None seat) =
       with_held-at None post.seats i x names w.seat (sym w.handle ∙ handle) in
-      let rows-are : map (row_of post.queued) (with_held x None post.seats) ≡ set (rows_of post) i (without_held row) =
-      ap (map (row_of post.queued)) seats-are ∙ rows-seat post.queued post.seats i (seat_with None seat)
+      let rows-are : map (seat_row post.queued) (with_held x None post.seats) ≡ set (rows_of post) i (without_held row) =
+      ap (map (seat_row post.queued)) seats-are ∙ rows-seat post.queued post.seats i (seat_with None seat)
       ∙ ap (λ r. set (rows_of post) i (without_held r)) (sym w.row_is) in
       let keeps : KeepsBut h k p.block p.block = record { each = λ b ne ne'. ap (block_bytes b) k-is ∙ frees.others b ne } in
-      let heap-is : release_held (held_by x post.seats) post.heap ≡ release p.block post.heap = ap (λ o. release_held o post.heap) held in
+      let heap-is : release_held (held_by x post.seats) post.heap ≡ release_block p.block post.heap = ap (λ o. release_held o post.heap) held in
       let counts = count-seat post.seats i (seat_with None seat) w.seat in
       let one : count_held seat.holds ≡ 1 = ap count_held here in
       let total-is = ap (total (λ (t : Seat). count_held t.holds)) seats-are in
@@ -318,10 +322,10 @@ module _ (h k : Heap) (q : Chains) (post : Post) (x i : ℕ) (p : Parcel) where
       record {
         rows = subst (RowsLie k (set q.entries i (emptied (entry_at q.entries i)))) (sym rows-are)
             (dropped h k q.entries (rows_of post) i p w.row s.rows row-holds keeps);
-        linked = subst (λ (d : Heap). IsLinked k d (map (row_of post.queued) (with_held x None post.seats))) (sym heap-is)
-            (subst (IsLinked k (release p.block post.heap)) (sym rows-are)
-            (linked-dropped h k post.heap (release p.block post.heap) (rows_of post) i p q.entries w.row s.rows row-holds s.linked
-            (subst (λ (g : Heap). SameShape g (release p.block post.heap)) (sym k-is) (release-alike p.block h post.heap s.linked.shape))
+        linked = subst (λ (d : Heap). IsLinked k d (map (seat_row post.queued) (with_held x None post.seats))) (sym heap-is)
+            (subst (IsLinked k (release_block p.block post.heap)) (sym rows-are)
+            (linked-dropped h k post.heap (release_block p.block post.heap) (rows_of post) i p q.entries w.row s.rows row-holds s.linked
+            (subst (λ (g : Heap). SameShape g (release_block p.block post.heap)) (sym k-is) (release-alike p.block h post.heap s.linked.shape))
             (ap (block_bytes p.block) k-is ∙ frees.gone) (λ b ne. ap (block_bytes b) k-is ∙ frees.others b ne) frees'.gone frees'.others));
         live = omega arith;
         recipients = subst (λ ss. AllLive ss post.queued) (sym seats-are) (all-live-same None post.seats i post.queued s.recipients);
@@ -348,7 +352,7 @@ alike-err (Err s) (Ok z) r a e = absurd a
 alike-err (Err s) (Err t) r a e = let b : s ≡ t = a in ap Err cc
 
 -- a letter was admitted, and its block refused
-pub send-short : (h : Heap) (q : Chains) (post : Post) (free : ℕ) (l : Letter) (refusal : Refusal) → IsPost h q post → refusal_for l.to q ≡ None
+pub send-short : (h : Heap) (q : Chains) (post : Post) (free : ℕ) (l : Letter) (refusal : Refusal) → ArePostChains h q post → refusal_for l.to q ≡ None
     → Err refusal ≡ answer_of (module_claim free (parcel_size (message_of l 0)) h) → post_send free l post ≡ Err refusal
 send-short h q post free l refusal p ok e =
     let size = parcel_size (message_of l 0) in
@@ -358,18 +362,18 @@ send-short h q post free l refusal p ok e =
 -- the same, claimed, written and linked
 pub record Joined (m n k : Memory) (rma : Module) (q : Chains) (post : Post) (l : Letter) (to block : ℕ) : Type 0 where
   pub plain : Heap
-  pub admitted : Admits (heap_in m rma) q post l.to
+  pub admitted : Admits (module_heap_in m rma) q post l.to
   pub granted : module_claim m.free (parcel_size (message_of l 0)) post.heap ≡ Ok (plain, block)
-  pub spells : IsPost (heap_in k rma) (longer_chains to block q) (queued_in l (plain, block) post)
+  pub spells : ArePostChains (module_heap_in k rma) (longer_chains to block q) (queued_in l (plain, block) post)
 
-pub letter-joined : (m n k : Memory) (rma : Module) (q : Chains) (post : Post) (l : Letter) (to block : ℕ) → IsPost (heap_in m rma) q post
+pub letter-joined : (m n k : Memory) (rma : Module) (q : Chains) (post : Post) (l : Letter) (to block : ℕ) → ArePostChains (module_heap_in m rma) q post
     → refusal_for l.to q ≡ None → to < length q.entries → (entry_at q.entries to).handle ≡ l.to → Fits (message_of l q.next_ref)
-    → Ok block ≡ answer_of (module_claim m.free (parcel_size (message_of l 0)) (heap_in m rma))
-    → ((there : Heap × ℕ) → module_claim m.free (parcel_size (message_of l 0)) (heap_in m rma) ≡ Ok there
+    → Ok block ≡ answer_of (module_claim m.free (parcel_size (message_of l 0)) (module_heap_in m rma))
+    → ((there : Heap × ℕ) → module_claim m.free (parcel_size (message_of l 0)) (module_heap_in m rma) ≡ Ok there
     → Turns m n rma (poked there.1 0 (word_bytes 0 ++ (word_bytes (code_number l.code) ++ encoded (message_of l q.next_ref))) there.0))
-    → heap_in k rma ≡ relinked (entry_at q.entries to).last block (heap_in n rma) → Joined m n k rma q post l to block
+    → module_heap_in k rma ≡ relinked (entry_at q.entries to).last block (module_heap_in n rma) → Joined m n k rma q post l to block
 letter-joined m n k rma q post l to block p ok lt named-to fits ea placed ek =
-    let h : Heap = heap_in m rma in
+    let h : Heap = module_heap_in m rma in
     let size : ℕ = parcel_size (message_of l 0) in
     let a = admits h q post l.to p ok in
     let g = granted_of (module_claim m.free size h) block ea in
@@ -384,30 +388,30 @@ letter-joined m n k rma q post l to block p ok lt named-to fits ea placed ek =
     ap (λ r. word_bytes 0 ++ (word_bytes (code_number l.code) ++ encoded (message_of l r))) p.next_ref
     ∙ sym (parcel-row 0 (parcel_of l post.next_ref there.1)) in
     let fits' : Fits (message_of l post.next_ref) = subst (λ r. Fits (message_of l r)) p.next_ref fits in
-    let s : IsPost (heap_in k rma) (longer_chains to there.1 q) (queued_in l (plain.0, there.1) post) =
-    letter-queued h (heap_in n rma) (heap_in k rma) q post l to there plain.0 p a lt named-to fits' puts puts' plain.1.1
-    (w.heap ∙ ap (λ bs. poked there.1 0 bs there.0) bytes-are) (ek ∙ ap (λ b. relinked (entry_at q.entries to).last b (heap_in n rma)) g.1.1) in
+    let s : ArePostChains (module_heap_in k rma) (longer_chains to there.1 q) (queued_in l (plain.0, there.1) post) =
+    letter-queued h (module_heap_in n rma) (module_heap_in k rma) q post l to there plain.0 p a lt named-to fits' puts puts' plain.1.1
+    (w.heap ∙ ap (λ bs. poked there.1 0 bs there.0) bytes-are) (ek ∙ ap (λ b. relinked (entry_at q.entries to).last b (module_heap_in n rma)) g.1.1) in
     record {
       plain = plain.0;
       admitted = a;
       granted = plain.1.0 ∙ ap (λ b. Ok (plain.0, b)) (sym g.1.1);
-      spells = subst (λ b. IsPost (heap_in k rma) (longer_chains to b q) (queued_in l (plain.0, b) post)) (sym g.1.1) s;
+      spells = subst (λ b. ArePostChains (module_heap_in k rma) (longer_chains to b q) (queued_in l (plain.0, b) post)) (sym g.1.1) s;
     }
 
 -- the chain's last block is still there once the new one is written
-pub last-has : (h : Heap) (e : Entry) (r : Row) → RowLies h e r → e.last ≢ 0 → HasBlock e.last 24 h
+pub last-has : (h : Heap) (e : Entry) (r : SeatRow) → RowLies h e r → e.last ≢ 0 → HasBlock e.last 24 h
 last-has h e r l ne = go r.chain l.last l.chain
   where
     go : (ps : List Parcel) → e.last ≡ last_block ps → Chain h ps 0 → HasBlock e.last 24 h
     go [] el c = absurd (ne el)
     go (p ∷ ps) el c = subst (λ b. HasBlock b 24 h) (sym el) (last-there h p ps 0 c)
 
-pub last-stays : (m n : Memory) (rma : Module) (q : Chains) (post : Post) (size block to : ℕ) (xs : List ℕ) → IsPost (heap_in m rma) q post
-    → to < length q.entries → Ok block ≡ answer_of (module_claim m.free size (heap_in m rma))
-    → ((there : Heap × ℕ) → module_claim m.free size (heap_in m rma) ≡ Ok there → Turns m n rma (poked there.1 0 xs there.0))
-    → (entry_at q.entries to).last ≢ 0 → HasBlock (entry_at q.entries to).last 4 (heap_in n rma)
+pub last-stays : (m n : Memory) (rma : Module) (q : Chains) (post : Post) (size block to : ℕ) (xs : List ℕ) → ArePostChains (module_heap_in m rma) q post
+    → to < length q.entries → Ok block ≡ answer_of (module_claim m.free size (module_heap_in m rma))
+    → ((there : Heap × ℕ) → module_claim m.free size (module_heap_in m rma) ≡ Ok there → Turns m n rma (poked there.1 0 xs there.0))
+    → (entry_at q.entries to).last ≢ 0 → HasBlock (entry_at q.entries to).last 4 (module_heap_in n rma)
 last-stays m n rma q post size block to xs p lt ea placed ne =
-    let h : Heap = heap_in m rma in
+    let h : Heap = module_heap_in m rma in
     let last : ℕ = (entry_at q.entries to).last in
     let s = seated h q post to p lt in
     let g = granted_of (module_claim m.free size h) block ea in
@@ -422,11 +426,11 @@ last-stays m n rma q post size block to xs p lt ea placed ne =
       room = let r = b.room in omega arith;
     }
 
-pub new-there : (m n : Memory) (rma : Module) (size block : ℕ) (xs : List ℕ) → Ok block ≡ answer_of (module_claim m.free size (heap_in m rma))
-    → ((there : Heap × ℕ) → module_claim m.free size (heap_in m rma) ≡ Ok there → Turns m n rma (poked there.1 0 xs there.0))
-    → IsModule n rma × (OnlyArea m n rma.area.0 × HasBlock block 0 (heap_in n rma))
+pub new-there : (m n : Memory) (rma : Module) (size block : ℕ) (xs : List ℕ) → Ok block ≡ answer_of (module_claim m.free size (module_heap_in m rma))
+    → ((there : Heap × ℕ) → module_claim m.free size (module_heap_in m rma) ≡ Ok there → Turns m n rma (poked there.1 0 xs there.0))
+    → IsModule n rma × (OnlyArea m n rma.area.0 × HasBlock block 0 (module_heap_in n rma))
 new-there m n rma size block xs ea placed =
-    let h : Heap = heap_in m rma in
+    let h : Heap = module_heap_in m rma in
     let g = granted_of (module_claim m.free size h) block ea in
     let there : Heap × ℕ = g.0 in
     let w = placed there g.1.0 in
@@ -436,7 +440,7 @@ new-there m n rma size block xs ea placed =
       (
         w.only,
         record {
-          bytes = put zs 0 xs;
+          bytes = with_part zs 0 xs;
           found = ap (block_bytes block) w.heap ∙ ap (λ b. block_bytes b (poked there.1 0 xs there.0)) g.1.1
               ∙ (poked-pokes there.1 0 xs there.0 zs puts.here).here;
           room = omega arith;
@@ -446,33 +450,34 @@ new-there m n rma size block xs ea placed =
 
 -- and the message that it answers is put down
 pub letter-settled : (n : Memory) (k : Memory) (rma : Module) (q : Chains) (post : Post) (l : Letter) (to block from freed : ℕ) (plain : Heap) (es : List Entry)
-    → IsPost (heap_in n rma) (longer_chains to block q) (queued_in l (plain, block) post) → from < length (longer_chains to block q).entries
+    → ArePostChains (module_heap_in n rma) (longer_chains to block q) (queued_in l (plain, block) post) → from < length (longer_chains to block q).entries
     → (entry_at (longer_chains to block q).entries from).handle ≡ l.from
     → Settled n k rma (longer_chains to block q).entries es from l.your_ref (held_by l.from post.seats) freed
-    → IsPost (heap_in k rma) (record { entries = es; live = q.live + 1 - freed; next_ref = q.next_ref + 1 }) (posted l (plain, block) post)
+    → ArePostChains (module_heap_in k rma) (record { entries = es; live = q.live + 1 - freed; next_ref = q.next_ref + 1 }) (posted l (plain, block) post)
 letter-settled n k rma q post l to block from freed plain es p lt named-from s = go (answers_held l.your_ref (held_by l.from post.seats)) refl s
   where
     go : (t : Bool) → answers_held l.your_ref (held_by l.from post.seats) ≡ t → PutsDown t n k rma (longer_chains to block q).entries es from freed
-        → IsPost (heap_in k rma) (record { entries = es; live = q.live + 1 - freed; next_ref = q.next_ref + 1 })
+        → ArePostChains (module_heap_in k rma) (record { entries = es; live = q.live + 1 - freed; next_ref = q.next_ref + 1 })
         (cond t (put_down l.from (queued_in l (plain, block) post)) (queued_in l (plain, block) post))
     go true et d =
         let o = answered-some l.your_ref (held_by l.from post.seats) et in
-        let r = put-down (heap_in n rma) (heap_in k rma) (longer_chains to block q) (queued_in l (plain, block) post) l.from from o.0 p lt named-from o.1
+        let r = put-down (module_heap_in n rma) (module_heap_in k rma) (longer_chains to block q)
+        (queued_in l (plain, block) post) l.from from o.0 p lt named-from o.1
         d.2.heap in
-        subst (λ xs. IsPost (heap_in k rma) (record { entries = xs; live = q.live + 1 - freed; next_ref = q.next_ref + 1 })
+        subst (λ xs. ArePostChains (module_heap_in k rma) (record { entries = xs; live = q.live + 1 - freed; next_ref = q.next_ref + 1 })
         (put_down l.from (queued_in l (plain, block) post))) (sym d.1)
-        (subst (λ f. IsPost (heap_in k rma)
+        (subst (λ f. ArePostChains (module_heap_in k rma)
         (record {
           entries = set (longer_chains to block q).entries from (emptied (entry_at (longer_chains to block q).entries from));
           live = q.live + 1 - f;
           next_ref = q.next_ref + 1;
         }) (put_down l.from (queued_in l (plain, block) post))) (sym d.0) r)
     go false et d =
-        subst (λ (m : Memory). IsPost (heap_in m rma) (record { entries = es; live = q.live + 1 - freed; next_ref = q.next_ref + 1 })
+        subst (λ (m : Memory). ArePostChains (module_heap_in m rma) (record { entries = es; live = q.live + 1 - freed; next_ref = q.next_ref + 1 })
         (queued_in l (plain, block) post)) (sym d.2)
-        (subst (λ xs. IsPost (heap_in n rma) (record { entries = xs; live = q.live + 1 - freed; next_ref = q.next_ref + 1 })
+        (subst (λ xs. ArePostChains (module_heap_in n rma) (record { entries = xs; live = q.live + 1 - freed; next_ref = q.next_ref + 1 })
         (queued_in l (plain, block) post)) (sym d.1)
-        (subst (λ f. IsPost (heap_in n rma) (record { entries = (longer_chains to block q).entries; live = f; next_ref = q.next_ref + 1 })
+        (subst (λ f. ArePostChains (module_heap_in n rma) (record { entries = (longer_chains to block q).entries; live = f; next_ref = q.next_ref + 1 })
         (queued_in l (plain, block) post)) (let z : q.live + 1 ≡ q.live + 1 - freed = omega (arith, d.0) in z) p))
 
 pub admitted-refs : (to : ℕ) (q : Chains) → refusal_for to q ≡ None → q.next_ref < 2 ^ 32
@@ -498,7 +503,8 @@ pub record Owns (h : Heap) (q : Chains) (post : Post) (x i : ℕ) : Type 0 where
   pub named : (row_at (rows_of post) i).handle ≡ x
   pub held : (row_at (rows_of post) i).held ≡ held_by x post.seats
 
-pub owns : (h : Heap) (q : Chains) (post : Post) (x i : ℕ) → IsPost h q post → i < length q.entries → (entry_at q.entries i).handle ≡ x → Owns h q post x i
+pub owns : (h : Heap) (q : Chains) (post : Post) (x i : ℕ) → ArePostChains h q post → i < length q.entries → (entry_at q.entries i).handle ≡ x
+    → Owns h q post x i
 owns h q post x i p l e =
     let s = seated h q post i p l in
     record {
@@ -506,23 +512,23 @@ owns h q post x i p l e =
       handle = e;
       row = s.row;
       named = sym (p.rows.each i s.row).handle ∙ e;
-      held = ap (λ (r : Row). r.held) s.row_is ∙ sym (held-at post.seats i x (named h q post p) s.seat (sym s.handle ∙ e));
+      held = ap (λ (r : SeatRow). r.held) s.row_is ∙ sym (held-at post.seats i x (named h q post p) s.seat (sym s.handle ∙ e));
     }
 
 pub owns-longer : (h k : Heap) (q : Chains) (post : Post) (l : Letter) (to block i : ℕ) (plain : Heap)
-    → IsPost k (longer_chains to block q) (queued_in l (plain, block) post) → to < length q.entries
+    → ArePostChains k (longer_chains to block q) (queued_in l (plain, block) post) → to < length q.entries
     → i < length q.entries → (entry_at q.entries i).handle ≡ l.from → Owns k (longer_chains to block q) (queued_in l (plain, block) post) l.from i
 owns-longer h k q post l to block i plain p lt li e =
     let n = length-set q.entries to (lengthened block (entry_at q.entries to)) in
     owns k (longer_chains to block q) (queued_in l (plain, block) post) l.from i p (omega arith) (longer-handle q.entries to block i lt ∙ e)
 
 -- ---- the pages of a send
-pub pages-refused : (h : Heap) (q : Chains) (post : Post) (l : Letter) (refusal : Refusal) → IsPost h q post → refusal_for l.to q ≡ Some refusal
+pub pages-refused : (h : Heap) (q : Chains) (post : Post) (l : Letter) (refusal : Refusal) → ArePostChains h q post → refusal_for l.to q ≡ Some refusal
     → post_send_pages l post ≡ Err refusal
 unfolding post_send_pages
 pages-refused h q post l refusal p e = then_refused (sendable l post) refusal _ (sendable-refused h q post l refusal p e)
 
-pub pages-granted : (h : Heap) (q : Chains) (post : Post) (l : Letter) (n : ℕ) → IsPost h q post → refusal_for l.to q ≡ None
+pub pages-granted : (h : Heap) (q : Chains) (post : Post) (l : Letter) (n : ℕ) → ArePostChains h q post → refusal_for l.to q ≡ None
     → n ≡ parcel_size (message_of l 0) → module_need_pages n h ≡ post_send_pages l post
 unfolding post_send_pages
 pages-granted h q post l n p e en =

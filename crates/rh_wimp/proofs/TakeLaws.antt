@@ -2,8 +2,8 @@
 use Rattle.rh_wimp.proofs.Common.{◌≡◌, ℕ, zero, suc, ◌+◌, ◌<◌, ◌≢◌, ◌⊎◌, inl, inr, true, false, cond, eqb, List, [], ◌∷◌, ◌++◌, length, map, set, refl, sym}
 use Rattle.rh_wimp.proofs.Common.{ap, subst, ◌∙◌, arith, append-nil, cases_eq, eqb_tells, length-set, get_or-set_same, get_or-set_other, Option, Some, None}
 use Rattle.rh_wimp.proofs.Common.{filter, not, ◌==◌, total, Heap, cond_true, cond_false, eqb_apart, block_bytes, HasBlock, SameShape, Parcel, padded, Seat}
-use Rattle.rh_wimp.proofs.Common.{Post, held_by, with_held, count_held, live_count, most_messages, first_for, Loose, Chains, Chain, Row, RowsLie, IsLinked}
-use Rattle.rh_wimp.proofs.Common.{IsPost, AllLie, AllLive, Lies, Off, Apart, Clear, no_row, entry_at, row_at, row_of, rows_of, row_parcels, held_list}
+use Rattle.rh_wimp.proofs.Common.{Post, held_by, with_held, count_held, live_count, most_messages, first_for, Loose, Chains, Chain, SeatRow, RowsLie, IsLinked}
+use Rattle.rh_wimp.proofs.Common.{ArePostChains, AllLie, AllLive, Lies, Off, Apart, Clear, no_row, entry_at, row_at, seat_row, rows_of, row_parcels, held_list}
 use Rattle.rh_wimp.proofs.Common.{first_block, last_block, Entry, padded-least, shape-both}
 use Rattle.rh_defs.specs.Post.{behind_first}
 use Rattle.rh_wimp.specs.Chains.{shortened, shortened_chains, holding, holding_chains}
@@ -72,7 +72,7 @@ first-none x (q ∷ queue) e = elim (eqb_tells q.to x) [
     go (Some r) f s eo = absurd cc
 
 -- ---- a chain without its first message
-abbrev pub with_chain : List Parcel → Row → Row
+abbrev pub with_chain : List Parcel → SeatRow → SeatRow
 with_chain ps r = record r { chain = ps }
 
 last-shortened : (h : Heap) (e : Entry) (p : Parcel) (ps : List Parcel) → e.last ≡ last_block (p ∷ ps) → Chain h ps 0
@@ -82,7 +82,7 @@ last-shortened h e p (q ∷ ps) el c =
     let a = lies-above h (first_block ps 0) q c.0 in
     cond_false (eqb q.block 0) _ _ (eqb_apart q.block 0 (omega arith)) ∙ el
 
-module _ (h k : Heap) (es : List Entry) (rows : List Row) (i : ℕ) (p : Parcel) (ps : List Parcel) where
+module _ (h k : Heap) (es : List Entry) (rows : List SeatRow) (i : ℕ) (p : Parcel) (ps : List Parcel) where
   pub rows-shortened : i < length rows → RowsLie h es rows → (row_at rows i).chain ≡ p ∷ ps → KeepsBut h k p.block p.block
       → RowsLie k (set es i (shortened (first_block ps 0) (entry_at es i))) (set rows i (with_chain ps (row_at rows i)))
   rows-shortened l s is keeps =
@@ -127,10 +127,10 @@ module _ (h k : Heap) (es : List Entry) (rows : List Row) (i : ℕ) (p : Parcel)
   ]
 
 -- ---- a message held
-abbrev pub with_hold : Parcel → Row → Row
+abbrev pub with_hold : Parcel → SeatRow → SeatRow
 with_hold p r = record r { held = Some p }
 
-module _ (h : Heap) (es : List Entry) (rows : List Row) (i : ℕ) (p : Parcel) where
+module _ (h : Heap) (es : List Entry) (rows : List SeatRow) (i : ℕ) (p : Parcel) where
   pub rows-held : i < length rows → RowsLie h es rows → (row_at rows i).held ≡ None → Lies h 0 p
       → ((j : ℕ) → j < length rows → Off p.block (row_parcels (row_at rows j)))
       → RowsLie h (set es i (holding p.block (entry_at es i))) (set rows i (with_hold p (row_at rows i)))
@@ -154,7 +154,7 @@ module _ (h : Heap) (es : List Entry) (rows : List Row) (i : ℕ) (p : Parcel) w
       })
 
 -- ---- the heaps beside
-module _ (h k d : Heap) (es : List Entry) (rows : List Row) (i : ℕ) (p : Parcel) (ps : List Parcel) where
+module _ (h k d : Heap) (es : List Entry) (rows : List SeatRow) (i : ℕ) (p : Parcel) (ps : List Parcel) where
   pub linked-shortened : i < length rows → RowsLie h es rows → (row_at rows i).chain ≡ p ∷ ps → IsLinked h d rows → SameShape k h
       → KeepsBut h k p.block p.block → block_bytes p.block k ≡ Some (padded 0 p)
       → IsLinked k d (set rows i (with_chain ps (row_at rows i))) × (block_bytes p.block d ≡ Some (padded 0 p))
@@ -183,7 +183,7 @@ module _ (h k d : Heap) (es : List Entry) (rows : List Row) (i : ℕ) (p : Parce
         all.0,
       )
 
-module _ (h d : Heap) (rows : List Row) (i : ℕ) (p : Parcel) where
+module _ (h d : Heap) (rows : List SeatRow) (i : ℕ) (p : Parcel) where
   pub linked-held : i < length rows → (row_at rows i).held ≡ None → IsLinked h d rows → block_bytes p.block d ≡ Some (padded 0 p)
       → IsLinked h d (set rows i (with_hold p (row_at rows i)))
   linked-held l none linked there =
@@ -206,28 +206,29 @@ module _ (h d : Heap) (rows : List Row) (i : ℕ) (p : Parcel) where
       }
 
 -- ---- the post
-kept-row : (queue rest : List Parcel) (x : ℕ) (p : Parcel) (s : Seat) → FirstFor x queue p rest → s.handle ≢ x → row_of rest s ≡ row_of queue s
+kept-row : (queue rest : List Parcel) (x : ℕ) (p : Parcel) (s : Seat) → FirstFor x queue p rest → s.handle ≢ x → seat_row rest s ≡ seat_row queue s
 kept-row queue rest x p s w ne =
-    ap (λ (l : List Parcel). let r : Row = record { handle = s.handle; chain = l; held = s.holds } in r) (sym (w.others s.handle ne))
+    ap (λ (l : List Parcel). let r : SeatRow = record { handle = s.handle; chain = l; held = s.holds } in r) (sym (w.others s.handle ne))
 
 kept-rows : (queue rest : List Parcel) (x : ℕ) (p : Parcel) (seats : List Seat) → FirstFor x queue p rest
-    → ((j : ℕ) → j < length seats → (seat_at seats j).handle ≢ x) → map (row_of rest) seats ≡ map (row_of queue) seats
+    → ((j : ℕ) → j < length seats → (seat_at seats j).handle ≢ x) → map (seat_row rest) seats ≡ map (seat_row queue) seats
 kept-rows queue rest x p [] w n = refl
 kept-rows queue rest x p (s ∷ seats) w n =
-    ap (λ r. r ∷ map (row_of rest) seats) (kept-row queue rest x p s w (n 0 (omega arith)))
-    ∙ ap (λ l. row_of queue s ∷ l) (kept-rows queue rest x p seats w (λ j b. n (suc j) (omega arith)))
+    ap (λ r. r ∷ map (seat_row rest) seats) (kept-row queue rest x p s w (n 0 (omega arith)))
+    ∙ ap (λ l. seat_row queue s ∷ l) (kept-rows queue rest x p seats w (λ j b. n (suc j) (omega arith)))
 
 rows-taken : (queue rest : List Parcel) (x : ℕ) (p : Parcel) (seats : List Seat) (i : ℕ) → FirstFor x queue p rest → Named seats → i < length seats
     → (seat_at seats i).handle ≡ x
-    → map (row_of rest) seats ≡ set (map (row_of queue) seats) i (with_chain (filter (λ (r : Parcel). r.to == x) rest) (row_of queue (seat_at seats i)))
+    → map (seat_row rest) seats ≡ set (map (seat_row queue) seats) i (with_chain (filter (λ (r : Parcel). r.to == x) rest) (seat_row queue (seat_at seats i)))
 rows-taken queue rest x p [] i w n b e = absurd (omega arith)
 rows-taken queue rest x p (s ∷ seats) zero w n b e =
-    ap (λ y. (let r : Row = record { handle = s.handle; chain = filter (λ (r : Parcel). r.to == y) rest; held = s.holds } in r) ∷ map (row_of rest) seats) e
-    ∙ ap (λ l. with_chain (filter (λ (r : Parcel). r.to == x) rest) (row_of queue s) ∷ l)
+    ap (λ y. (let r : SeatRow = record { handle = s.handle; chain = filter (λ (r : Parcel). r.to == y) rest; held = s.holds } in r) ∷ map
+    (seat_row rest) seats) e
+    ∙ ap (λ l. with_chain (filter (λ (r : Parcel). r.to == x) rest) (seat_row queue s) ∷ l)
     (kept-rows queue rest x p seats w (λ j c z. n 0 (suc j) (omega arith) (omega arith) (omega arith) (e ∙ sym z)))
 rows-taken queue rest x p (s ∷ seats) (suc i) w n b e =
-    ap (λ r. r ∷ map (row_of rest) seats) (kept-row queue rest x p s w (λ z. n 0 (suc i) (omega arith) (omega arith) (omega arith) (z ∙ sym e)))
-    ∙ ap (λ l. row_of queue s ∷ l) (rows-taken queue rest x p seats i w (λ j m bj bm ne. n (suc j) (suc m) (omega arith) (omega arith) (omega arith))
+    ap (λ r. r ∷ map (seat_row rest) seats) (kept-row queue rest x p s w (λ z. n 0 (suc i) (omega arith) (omega arith) (omega arith) (z ∙ sym e)))
+    ∙ ap (λ l. seat_row queue s ∷ l) (rows-taken queue rest x p seats i w (λ j m bj bm ne. n (suc j) (suc m) (omega arith) (omega arith) (omega arith))
     (omega arith) e)
 
 abbrev pub rest_of : List Parcel → Post → Post
@@ -246,33 +247,33 @@ pub record Ahead (h : Heap) (q : Chains) (x i : ℕ) (p : Parcel) (rest : List P
   pub first : (entry_at q.entries i).first ≡ p.block
   pub lies : Lies h (first_block (chain_to x rest) 0) p
 
-pub ahead : (h : Heap) (q : Chains) (post : Post) (x i : ℕ) (p : Parcel) (rest : List Parcel) → IsPost h q post → i < length q.entries
+pub ahead : (h : Heap) (q : Chains) (post : Post) (x i : ℕ) (p : Parcel) (rest : List Parcel) → ArePostChains h q post → i < length q.entries
     → (entry_at q.entries i).handle ≡ x → FirstFor x post.queued p rest → Ahead h q x i p rest
 ahead h q post x i p rest s lt e w =
     let t = seated h q post i s lt in
     let here = s.rows.each i t.row in
     let is : (row_at (rows_of post) i).chain ≡ p ∷ chain_to x rest =
-    ap (λ (r : Row). r.chain) t.row_is ∙ ap (λ y. chain_to y post.queued) (sym t.handle ∙ e) ∙ w.same in
+    ap (λ (r : SeatRow). r.chain) t.row_is ∙ ap (λ y. chain_to y post.queued) (sym t.handle ∙ e) ∙ w.same in
     let chain = subst (λ c. Chain h c 0) is here.chain in
     record { next = next-there h (chain_to x rest) chain.1; first = here.first ∙ ap (λ c. first_block c 0) is; lies = chain.0 }
 
-pub none-ahead : (h : Heap) (q : Chains) (post : Post) (x i : ℕ) → IsPost h q post → i < length q.entries → (entry_at q.entries i).handle ≡ x
+pub none-ahead : (h : Heap) (q : Chains) (post : Post) (x i : ℕ) → ArePostChains h q post → i < length q.entries → (entry_at q.entries i).handle ≡ x
     → first_for x post.queued ≡ None → (entry_at q.entries i).first ≡ 0
 none-ahead h q post x i s lt e n =
     let t = seated h q post i s lt in
     let here = s.rows.each i t.row in
-    here.first ∙ ap (λ c. first_block c 0) (ap (λ (r : Row). r.chain) t.row_is ∙ ap (λ y. chain_to y post.queued) (sym t.handle ∙ e)
+    here.first ∙ ap (λ c. first_block c 0) (ap (λ (r : SeatRow). r.chain) t.row_is ∙ ap (λ y. chain_to y post.queued) (sym t.handle ∙ e)
     ∙ first-none x post.queued n)
 
 module _ (h k : Heap) (q : Chains) (post : Post) (x i : ℕ) (p : Parcel) (rest : List Parcel) where
-  pub taken-off : IsPost h q post → i < length q.entries → (entry_at q.entries i).handle ≡ x → FirstFor x post.queued p rest → SameShape k h
+  pub taken-off : ArePostChains h q post → i < length q.entries → (entry_at q.entries i).handle ≡ x → FirstFor x post.queued p rest → SameShape k h
       → KeepsBut h k p.block p.block → block_bytes p.block k ≡ Some (padded 0 p)
-      → IsPost k (shortened_chains i (first_block (chain_to x rest) 0) q) (rest_of rest post) × Loose k (rest_of rest post) p
+      → ArePostChains k (shortened_chains i (first_block (chain_to x rest) 0) q) (rest_of rest post) × Loose k (rest_of rest post) p
   taken-off s lt e w shape keeps there =
       let t = seated h q post i s lt in
-      let row : Row = row_at (rows_of post) i in
+      let row : SeatRow = row_at (rows_of post) i in
       let ps : List Parcel = chain_to x rest in
-      let is : row.chain ≡ p ∷ ps = ap (λ (r : Row). r.chain) t.row_is ∙ ap (λ y. chain_to y post.queued) (sym t.handle ∙ e) ∙ w.same in
+      let is : row.chain ≡ p ∷ ps = ap (λ (r : SeatRow). r.chain) t.row_is ∙ ap (λ y. chain_to y post.queued) (sym t.handle ∙ e) ∙ w.same in
       let lies = (ahead h q post x i p rest s lt e w).lies in
       let rows-are : rows_of (rest_of rest post) ≡ set (rows_of post) i (with_chain ps row) =
       rows-taken post.queued rest x p post.seats i w (named h q post s) t.seat (sym t.handle ∙ e)
@@ -300,19 +301,19 @@ module _ (h k : Heap) (q : Chains) (post : Post) (x i : ℕ) (p : Parcel) (rest 
       )
 
 module _ (h : Heap) (q : Chains) (post : Post) (x i : ℕ) (p : Parcel) where
-  pub held-post : IsPost h q post → i < length q.entries → (entry_at q.entries i).handle ≡ x → held_by x post.seats ≡ None → Loose h post p
-      → live_count post < most_messages → IsPost h (holding_chains i p.block q) (record post { seats = with_held x (Some p) post.seats })
+  pub held-post : ArePostChains h q post → i < length q.entries → (entry_at q.entries i).handle ≡ x → held_by x post.seats ≡ None → Loose h post p
+      → live_count post < most_messages → ArePostChains h (holding_chains i p.block q) (record post { seats = with_held x (Some p) post.seats })
   held-post s lt e none loose less =
       let t = seated h q post i s lt in
-      let row : Row = row_at (rows_of post) i in
+      let row : SeatRow = row_at (rows_of post) i in
       let seat : Seat = seat_at post.seats i in
       let names = named h q post s in
       let here : seat.holds ≡ None = sym (held-at post.seats i x names t.seat (sym t.handle ∙ e)) ∙ none in
-      let row-none : row.held ≡ None = ap (λ (r : Row). r.held) t.row_is ∙ here in
+      let row-none : row.held ≡ None = ap (λ (r : SeatRow). r.held) t.row_is ∙ here in
       let seats-are : with_held x (Some p) post.seats ≡ set post.seats i (seat_with (Some p) seat) =
       with_held-at (Some p) post.seats i x names t.seat (sym t.handle ∙ e) in
-      let rows-are : map (row_of post.queued) (with_held x (Some p) post.seats) ≡ set (rows_of post) i (with_hold p row) =
-      ap (map (row_of post.queued)) seats-are ∙ rows-seat post.queued post.seats i (seat_with (Some p) seat)
+      let rows-are : map (seat_row post.queued) (with_held x (Some p) post.seats) ≡ set (rows_of post) i (with_hold p row) =
+      ap (map (seat_row post.queued)) seats-are ∙ rows-seat post.queued post.seats i (seat_with (Some p) seat)
       ∙ ap (λ r. set (rows_of post) i (with_hold p r)) (sym t.row_is) in
       let counts = count-seat post.seats i (seat_with (Some p) seat) t.seat in
       let zero_ : count_held seat.holds ≡ 0 = ap count_held here in

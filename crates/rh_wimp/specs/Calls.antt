@@ -4,25 +4,25 @@ use Rattle.rh_defs.specs.Memory.{Memory, OnlyArea}
 use Rattle.rh_defs.specs.Post.{Post}
 use Rattle.rh_module.specs.Area.{IsModule}
 use Rattle.rh_module.specs.declared.module.Module.{Module}
-use Rattle.rh_wimp.specs.Chains.{Chains, SpellsPost}
+use Rattle.rh_wimp.specs.Chains.{Chains, SpellsPostIn}
 use Rattle.rh_wimp.specs.declared.chain.Entry.{Entry}
 
 -- the module area's bytes spell a heap, and with the queue's entries they spell a post
 pub record IsQueue (m : Memory) (rma : Module) (q : Chains) : Type 0 where
   pub area : IsModule m rma
   pub post : Post
-  pub spells : SpellsPost m rma q post
+  pub spells : SpellsPostIn m rma q post
 
 -- the live handles, in the order in which they joined
 abbrev pub handles_of : Chains → List ℕ
 handles_of q = map (λ (e : Entry). e.handle) q.entries
 
 -- The queue spells the next post, whichever it spelled; it still is a queue, and no other area has changed.
-pub record Leaves (m n : Memory) (rma : Module) (q k : Chains) (next : Post → Post) : Type 0 where
-  pub spells : (post : Post) → SpellsPost m rma q post → SpellsPost n rma k (next post)
+pub record LeavesChains (m n : Memory) (rma : Module) (q k : Chains) (next : Post → Post) : Type 0 where
+  pub spells : (post : Post) → SpellsPostIn m rma q post → SpellsPostIn n rma k (next post)
   pub still : IsQueue n rma k
   pub only : OnlyArea m n rma.area.0
 
 -- the answer for the post that the queue spells
 abbrev pub Answers : {A : Type 0} → Memory → Module → Chains → (Post → A) → A → Type 0
-Answers m rma q answer result = (post : Post) → SpellsPost m rma q post → result ≡ answer post
+Answers m rma q answer result = (post : Post) → SpellsPostIn m rma q post → result ≡ answer post

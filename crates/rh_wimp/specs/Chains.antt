@@ -5,7 +5,7 @@ use Rattle.rh_defs.specs.declared.refusal.Refusal.{Refusal}
 use Rattle.rh_defs.specs.declared.refusal.Refusal.TheVariants.{NoTask, NoRefs, QueueFull}
 use Rattle.rh_defs.specs.Heap.{Heap}
 use Rattle.rh_defs.specs.Memory.{Memory}
-use Rattle.rh_module.specs.Area.{heap_in}
+use Rattle.rh_module.specs.Area.{module_heap_in}
 use Rattle.rh_module.specs.declared.module.Module.{Module}
 use Rattle.rh_defs.specs.Blocks.{block_bytes, SameShape}
 use Rattle.rh_defs.specs.Messages.{Parcel, Fits, padded}
@@ -21,16 +21,16 @@ pub record Chains : Type 0 where
   pub next_ref : ℕ
 
 -- a live handle with the messages queued for it and the one that it holds
-pub record Row : Type 0 where
+pub record SeatRow : Type 0 where
   pub handle : ℕ
   pub chain : List Parcel
   pub held : Option Parcel
 
-abbrev pub row_of : List Parcel → Seat → Row
-row_of queued s = record { handle = s.handle; chain = filter (λ (p : Parcel). p.to == s.handle) queued; held = s.holds }
+abbrev pub seat_row : List Parcel → Seat → SeatRow
+seat_row queued s = record { handle = s.handle; chain = filter (λ (p : Parcel). p.to == s.handle) queued; held = s.holds }
 
-abbrev pub rows_of : Post → List Row
-rows_of post = map (row_of post.queued) post.seats
+abbrev pub rows_of : Post → List SeatRow
+rows_of post = map (seat_row post.queued) post.seats
 
 -- ---- one row
 -- the block of the first of some messages, or what stands behind them
@@ -58,7 +58,7 @@ abbrev pub Holds : Heap → ℕ → Option Parcel → Type 0
 Holds h block None = block ≡ 0
 Holds h block (Some p) = (block ≡ p.block) × Lies h 0 p
 
-pub record RowLies (h : Heap) (e : Entry) (r : Row) : Type 0 where
+pub record RowLies (h : Heap) (e : Entry) (r : SeatRow) : Type 0 where
   pub handle : e.handle ≡ r.handle
   pub first : e.first ≡ first_block r.chain 0
   pub last : e.last ≡ last_block r.chain
@@ -70,7 +70,7 @@ abbrev pub held_list : Option Parcel → List Parcel
 held_list None = []
 held_list (Some p) = p ∷ []
 
-abbrev pub row_parcels : Row → List Parcel
+abbrev pub row_parcels : SeatRow → List Parcel
 row_parcels r = r.chain ++ held_list r.held
 
 -- none of the messages lies in the block
@@ -88,19 +88,19 @@ abbrev pub Clear : List Parcel → List Parcel → Type 0
 Clear [] qs = Unit {0}
 Clear (p ∷ ps) qs = Off p.block qs × Clear ps qs
 
-abbrev pub no_row : Row
+abbrev pub no_row : SeatRow
 no_row = record { handle = 0; chain = []; held = None }
 
 abbrev pub no_entry : Entry
 no_entry = record { handle = 0; first = 0; last = 0; held = 0 }
 
-abbrev pub row_at : List Row → ℕ → Row
+abbrev pub row_at : List SeatRow → ℕ → SeatRow
 row_at rows i = get_or rows i no_row
 
 abbrev pub entry_at : List Entry → ℕ → Entry
 entry_at es i = get_or es i no_entry
 
-pub record RowsLie (h : Heap) (es : List Entry) (rows : List Row) : Type 0 where
+pub record RowsLie (h : Heap) (es : List Entry) (rows : List SeatRow) : Type 0 where
   pub len : length es ≡ length rows
   pub each : (i : ℕ) → i < length rows → RowLies h (entry_at es i) (row_at rows i)
   pub own : (i : ℕ) → i < length rows → Apart (row_parcels (row_at rows i))
@@ -113,7 +113,7 @@ AllLie d [] = Unit {0}
 AllLie d (p ∷ ps) = (block_bytes p.block d ≡ Some (padded 0 p)) × AllLie d ps
 
 -- the heap is the plain one, but for the links of messages; every other block is its user's
-pub record IsLinked (h d : Heap) (rows : List Row) : Type 0 where
+pub record IsLinked (h d : Heap) (rows : List SeatRow) : Type 0 where
   pub shape : SameShape h d
   pub lie : (i : ℕ) → i < length rows → AllLie d (row_parcels (row_at rows i))
   pub others : (a : ℕ) → ((i : ℕ) → i < length rows → Off a (row_parcels (row_at rows i))) → block_bytes a h ≡ block_bytes a d
@@ -124,7 +124,7 @@ AllLive seats [] = Unit {0}
 AllLive seats (p ∷ ps) = (has_seat p.to seats ≡ true) × AllLive seats ps
 
 -- the queue's entries and the module area's heap spell the post
-pub record IsPost (h : Heap) (q : Chains) (post : Post) : Type 0 where
+pub record ArePostChains (h : Heap) (q : Chains) (post : Post) : Type 0 where
   pub rows : RowsLie h q.entries (rows_of post)
   pub linked : IsLinked h post.heap (rows_of post)
   pub live : q.live ≡ live_count post
@@ -132,8 +132,8 @@ pub record IsPost (h : Heap) (q : Chains) (post : Post) : Type 0 where
   pub few : live_count post ≤ most_messages
   pub next_ref : q.next_ref ≡ post.next_ref
 
-abbrev pub SpellsPost : Memory → Module → Chains → Post → Type 0
-SpellsPost m rma q post = IsPost (heap_in m rma) q post
+abbrev pub SpellsPostIn : Memory → Module → Chains → Post → Type 0
+SpellsPostIn m rma q post = ArePostChains (module_heap_in m rma) q post
 
 -- ---- what a queue has
 -- the handle is live
@@ -150,7 +150,7 @@ refusal_for h q = refusal_at (position (λ (e : Entry). e.handle == h) q.entries
 
 -- a message lies in the block, and links to none
 pub record LiesAt (m : Memory) (rma : Module) (block : ℕ) (p : Parcel) : Type 0 where
-  pub lies : Lies (heap_in m rma) 0 p
+  pub lies : Lies (module_heap_in m rma) 0 p
   pub block_is : block ≡ p.block
 
 -- what a poll hands out
@@ -166,8 +166,8 @@ pub record Loose (h : Heap) (post : Post) (p : Parcel) : Type 0 where
 
 -- a message that may bounce
 pub record MayBounce (m : Memory) (rma : Module) (q : Chains) (post : Post) (p : Parcel) (block : ℕ) : Type 0 where
-  pub spells : SpellsPost m rma q post
-  pub loose : Loose (heap_in m rma) post p
+  pub spells : SpellsPostIn m rma q post
+  pub loose : Loose (module_heap_in m rma) post p
   pub block_is : block ≡ p.block
   pub few : live_count post < most_messages
 
@@ -178,7 +178,7 @@ pub record Lifted (m : Memory) (rma : Module) (q : Chains) (post : Post) (h bloc
 
 -- the first message for a task was taken off its chain, where there is one
 abbrev pub LiftsFirst : Memory → Module → Chains → Post → ℕ → Option ℕ → Type 0
-LiftsFirst m rma q post h None = (first_for h post.queued ≡ None) × SpellsPost m rma q post
+LiftsFirst m rma q post h None = (first_for h post.queued ≡ None) × SpellsPostIn m rma q post
 LiftsFirst m rma q post h (Some block) = (t : Parcel × List Parcel) × Lifted m rma q post h block t
 
 -- ---- edits of entries
@@ -200,8 +200,8 @@ emptied e = record e { held = 0 }
 
 -- ---- edits of queues
 -- a handle more, with no messages
-abbrev pub joined : ℕ → Chains → Chains
-joined h q = record q { entries = q.entries ++ record { handle = h; first = 0; last = 0; held = 0 } ∷ [] }
+abbrev pub joined_chains : ℕ → Chains → Chains
+joined_chains h q = record q { entries = q.entries ++ record { handle = h; first = 0; last = 0; held = 0 } ∷ [] }
 
 -- a new message at the end of a chain
 abbrev pub longer_chains : ℕ → ℕ → Chains → Chains

@@ -5,7 +5,7 @@ use Rattle.rh_defs.specs.Memory.{Memory}
 use Rattle.rh_defs.specs.Messages.{Parcel, is_recorded}
 use Rattle.rh_defs.specs.Post.{Seat, Post, with_held, bounced, bounce_all, without_block}
 use Rattle.rh_module.specs.declared.module.Module.{Module}
-use Rattle.rh_wimp.specs.Chains.{Chains, SpellsPost}
+use Rattle.rh_wimp.specs.Chains.{Chains, SpellsPostIn}
 
 -- what is held is held no more
 abbrev pub lifted : ℕ → Post → Post
@@ -40,7 +40,7 @@ rest_of_death h post = bounce_all (queue_to h post.queued) (without_seat h post)
 
 -- a post from which the same is left of the death, with fewer messages queued for the handle
 pub record Drained (m : Memory) (rma : Module) (q : Chains) (post : Post) (h turn : ℕ) (now : Post) : Type 0 where
-  pub spells : SpellsPost m rma q now
+  pub spells : SpellsPostIn m rma q now
   pub same : rest_of_death h now ≡ rest_of_death h post
   pub few : length (queue_to h now.queued) + turn ≤ MOST_MESSAGES
   pub seats : now.seats ≡ post.seats

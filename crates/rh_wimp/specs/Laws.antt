@@ -1,7 +1,7 @@
 -- What holds of every queue over every module area, and of every message block.
 use Rattle.std.specs.Prelude.{◌≡◌, ℕ, ◌≤◌, List, length, take, Ok}
 use Rattle.rh_defs.specs.declared.sizes.TheConstants.{LONGEST_MESSAGE}
-use Rattle.rh_defs.specs.Bytes.{put}
+use Rattle.rh_defs.specs.Bytes.{with_part}
 use Rattle.rh_defs.specs.MessageImage.{decoded}
 use Rattle.rh_defs.specs.Messages.{Fits, encoded, encoded_length}
 use Rattle.rh_defs.specs.declared.message.Message.{Message}
@@ -9,37 +9,37 @@ use Rattle.rh_defs.specs.Chain.{Granted, answer_of, left_of}
 use Rattle.rh_defs.specs.Heap.{Heap}
 use Rattle.rh_defs.specs.Memory.{Memory, bytes}
 use Rattle.rh_defs.specs.Post.{Post}
-use Rattle.rh_module.specs.Area.{IsModule, heap_in}
+use Rattle.rh_module.specs.Area.{IsModule, module_heap_in}
 use Rattle.rh_module.specs.Calls as module_calls
 use Rattle.rh_module.specs.declared.module.Module.{Module}
-use Rattle.rh_wimp.specs.Chains.{Chains, SpellsPost}
+use Rattle.rh_wimp.specs.Chains.{Chains, SpellsPostIn}
 use Rattle.rh_wimp.specs.PostIn.{in_order, post_in}
 use Rattle.rh_store.specs.Limits.{area_limit}
 
 -- the area is so small that its blocks have addresses that are words, as every store's areas are
-abbrev pub IsSmall : Memory → Module → Type 0
-IsSmall m rma = length (bytes m rma.area.0) ≤ area_limit
+abbrev pub IsSmallModule : Memory → Module → Type 0
+IsSmallModule m rma = length (bytes m rma.area.0) ≤ area_limit
 
 -- the post that is read off the area's bytes and the queue's entries is spelled, and it is each one that is, in order of seats
 abbrev pub HaveOnePost : Type 0
 HaveOnePost =
-    (m : Memory) (rma : Module) (q : Chains) (post : Post) → IsSmall m rma → IsModule m rma → SpellsPost m rma q post
-    → SpellsPost m rma q (post_in m rma q) × (post_in m rma q ≡ in_order post)
+    (m : Memory) (rma : Module) (q : Chains) (post : Post) → IsSmallModule m rma → IsModule m rma → SpellsPostIn m rma q post
+    → SpellsPostIn m rma q (post_in m rma q) × (post_in m rma q ≡ in_order post)
 
 -- the post with another heap
-abbrev pub with_heap : Heap → Post → Post
-with_heap h post = record post { heap = h }
+abbrev pub post_with_heap : Heap → Post → Post
+post_with_heap h post = record post { heap = h }
 
 -- Where the queue spells a post on which a call of the module area is allowed, the call answers as it does on the post's heap, and the post has the heap that it leaves.
 abbrev pub GoesBeside : {A : Type 0} → (Post → Type 0) → (ℕ → Heap → Granted (Heap × A)) → Type 0
 GoesBeside {A} allowed call =
-    (m n : Memory) (rma : Module) (q : Chains) (post : Post) (result : Granted A) → allowed post → SpellsPost m rma q post
-    → module_calls.Leaves m n rma (call m.free (heap_in m rma)) result
-    → (result ≡ answer_of (call m.free post.heap)) × SpellsPost n rma q (with_heap (left_of post.heap (call m.free post.heap)) post)
+    (m n : Memory) (rma : Module) (q : Chains) (post : Post) (result : Granted A) → allowed post → SpellsPostIn m rma q post
+    → module_calls.LeavesModule m n rma (call m.free (module_heap_in m rma)) result
+    → (result ≡ answer_of (call m.free post.heap)) × SpellsPostIn n rma q (post_with_heap (left_of post.heap (call m.free post.heap)) post)
 
 -- What stands in a message block once a message was encoded there decodes to that message: the whole block, whatever was
 -- in it before, and each front of it that has the message's length.
 abbrev pub ComesBack : Type 0
 ComesBack =
     (m : Message) (block : List ℕ) (n : ℕ) → Fits m → length block ≡ LONGEST_MESSAGE → encoded_length m ≤ n → n ≤ LONGEST_MESSAGE
-    → decoded (take n (put block 0 (encoded m))) ≡ Ok m
+    → decoded (take n (with_part block 0 (encoded m))) ≡ Ok m

@@ -2,11 +2,11 @@
 use Rattle.std.specs.Prelude.{◌≡◌, ℕ, ◌==◌, if◌then◌else◌, Bool, true, false, List, Option, set}
 use Rattle.rh_defs.specs.Bytes.{word_bytes}
 use Rattle.rh_defs.specs.Memory.{Memory, OnlyArea}
-use Rattle.rh_defs.specs.Heap.{Heap, release}
+use Rattle.rh_defs.specs.Heap.{Heap, release_block}
 use Rattle.rh_defs.specs.Blocks.{poked}
 use Rattle.rh_defs.specs.Messages.{Parcel}
 use Rattle.rh_defs.specs.Post.{answers_held}
-use Rattle.rh_module.specs.Area.{IsModule, heap_in}
+use Rattle.rh_module.specs.Area.{IsModule, module_heap_in}
 use Rattle.rh_module.specs.declared.module.Module.{Module}
 use Rattle.rh_wimp.specs.Chains.{entry_at, emptied}
 use Rattle.rh_wimp.specs.declared.chain.Entry.{Entry}
@@ -14,7 +14,7 @@ use Rattle.rh_wimp.specs.declared.chain.Entry.{Entry}
 -- the module area's heap becomes another, and nothing else changes but for the pages that it takes
 pub record Turns (m n : Memory) (rma : Module) (h : Heap) : Type 0 where
   pub still : IsModule n rma
-  pub heap : heap_in n rma ≡ h
+  pub heap : module_heap_in n rma ≡ h
   pub only : OnlyArea m n rma.area.0
 
 -- the link of a block now leads to another, where there is such a block
@@ -24,14 +24,14 @@ relinked last block h = if last == 0 then h else poked last 0 (word_bytes block)
 -- a chain's last block links to another, and no page moves
 pub record Relinks (m n : Memory) (rma : Module) (last block : ℕ) : Type 0 where
   pub still : IsModule n rma
-  pub heap : heap_in n rma ≡ relinked last block (heap_in m rma)
+  pub heap : module_heap_in n rma ≡ relinked last block (module_heap_in m rma)
   pub only : OnlyArea m n rma.area.0
   pub free : n.free ≡ m.free
 
 -- what a task holds is put down where the test says so, and how many messages that were
 abbrev pub PutsDown : Bool → Memory → Memory → Module → List Entry → List Entry → ℕ → ℕ → Type 0
 PutsDown true m n rma es new i freed =
-    (freed ≡ 1) × (new ≡ set es i (emptied (entry_at es i))) × Turns m n rma (release (entry_at es i).held (heap_in m rma))
+    (freed ≡ 1) × (new ≡ set es i (emptied (entry_at es i))) × Turns m n rma (release_block (entry_at es i).held (module_heap_in m rma))
 PutsDown false m n rma es new i freed = (freed ≡ 0) × (new ≡ es) × (n ≡ m)
 
 -- the same, where a letter that answers this ref was sent

@@ -14,9 +14,9 @@ use Rattle.rh_defs.specs.MessageImage.{decoded}
 use Rattle.rh_defs.specs.Messages.{Parcel, code_at}
 use Rattle.rh_defs.specs.Post.{Seat, Post}
 use Rattle.rh_defs.specs.Memory.{Memory}
-use Rattle.rh_module.specs.Area.{heap_in}
+use Rattle.rh_module.specs.Area.{module_heap_in}
 use Rattle.rh_module.specs.declared.module.Module.{Module}
-use Rattle.rh_wimp.specs.Chains.{Chains, Row, row_parcels}
+use Rattle.rh_wimp.specs.Chains.{Chains, SeatRow, row_parcels}
 use Rattle.rh_wimp.specs.declared.chain.Entry.{Entry}
 
 -- ---- one block
@@ -25,8 +25,8 @@ or_no_bytes None = []
 or_no_bytes (Some bytes) = bytes
 
 -- the bytes of a block, none where there is no block
-abbrev pub bytes_in : ℕ → Heap → List ℕ
-bytes_in block h = or_no_bytes (block_bytes block h)
+abbrev pub message_bytes : ℕ → Heap → List ℕ
+message_bytes block h = or_no_bytes (block_bytes block h)
 
 -- the code 17 stands in for numbers that are no code
 abbrev pub or_user : Option EventCode → EventCode
@@ -48,36 +48,36 @@ parcel_of_bytes to block bytes = record {
 }
 
 abbrev pub parcel_in : ℕ → ℕ → Heap → Parcel
-parcel_in to block h = parcel_of_bytes to block (bytes_in block h)
+parcel_in to block h = parcel_of_bytes to block (message_bytes block h)
 
 -- ---- one entry
 -- at most n messages for a task, from a block on along the links
 abbrev pub chain_in : ℕ → ℕ → ℕ → Heap → List Parcel
 chain_in zero to block h = []
-chain_in (suc n) to block h = if block == 0 then [] else parcel_in to block h ∷ chain_in n to (word (bytes_in block h) 0) h
+chain_in (suc n) to block h = if block == 0 then [] else parcel_in to block h ∷ chain_in n to (word (message_bytes block h) 0) h
 
 -- the message that a task holds in a block, none for block 0
 abbrev pub held_in : ℕ → ℕ → Heap → Option Parcel
 held_in to block h = if block == 0 then None else Some (parcel_in to block h)
 
 -- what an entry's two chains have: the one of its blocks, and the block that is held
-abbrev pub row_in : Heap → Entry → Row
+abbrev pub row_in : Heap → Entry → SeatRow
 row_in h e = record { handle = e.handle; chain = chain_in MOST_MESSAGES e.handle e.first h; held = held_in e.handle e.held h }
 
 -- ---- all entries
-abbrev pub rows_in : Heap → Chains → List Row
+abbrev pub rows_in : Heap → Chains → List SeatRow
 rows_in h q = map (row_in h) q.entries
 
-abbrev pub seat_of : Row → Seat
+abbrev pub seat_of : SeatRow → Seat
 seat_of r = record { handle = r.handle; holds = r.held }
 
 -- the messages of the chains, entry by entry
-abbrev pub chains_of : List Row → List Parcel
+abbrev pub chains_of : List SeatRow → List Parcel
 chains_of [] = []
 chains_of (r ∷ rows) = r.chain ++ chains_of rows
 
 -- the messages of the chains and those that are held, entry by entry
-abbrev pub parcels_of : List Row → List Parcel
+abbrev pub parcels_of : List SeatRow → List Parcel
 parcels_of [] = []
 parcels_of (r ∷ rows) = row_parcels r ++ parcels_of rows
 
@@ -97,7 +97,7 @@ post_of h q = record {
 
 -- the post that the module area's bytes and the queue's entries spell, whatever bytes they are
 abbrev pub post_in : Memory → Module → Chains → Post
-post_in m rma q = post_of (heap_in m rma) q
+post_in m rma q = post_of (module_heap_in m rma) q
 
 -- ---- a post in order of seats
 -- a message for a task

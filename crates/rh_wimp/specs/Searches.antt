@@ -3,7 +3,7 @@ use Rattle.std.specs.Prelude.{ℕ, ◌<◌, ◌≤◌, ◌==◌, Bool, List, len
 use Rattle.std.specs.List.{list_any}
 use Rattle.rh_defs.specs.declared.sizes.TheConstants.{MOST_MESSAGES}
 use Rattle.rh_defs.specs.Messages.{Parcel}
-use Rattle.rh_wimp.specs.Chains.{Row, row_at, row_parcels}
+use Rattle.rh_wimp.specs.Chains.{SeatRow, row_at, row_parcels}
 use Rattle.rh_wimp.specs.declared.searching.Wanted.{Wanted}
 use Rattle.rh_wimp.specs.declared.searching.Wanted.TheVariants.{At, WithRef}
 
@@ -13,9 +13,9 @@ wants (At block) p = p.block == block
 wants (WithRef ref) p = p.message.my_ref == ref
 
 -- whether a message of some rows passes the test
-abbrev pub rows_have : (Parcel → Bool) → List Row → Bool
-rows_have test rows = list_any (λ (r : Row). list_any test (row_parcels r)) rows
+abbrev pub rows_have : (Parcel → Bool) → List SeatRow → Bool
+rows_have test rows = list_any (λ (r : SeatRow). list_any test (row_parcels r)) rows
 
 -- no chain is longer than there can be messages
-abbrev pub AreShort : List Row → Type 0
-AreShort rows = (i : ℕ) → i < length rows → length (row_at rows i).chain ≤ MOST_MESSAGES
+abbrev pub AreShortChains : List SeatRow → Type 0
+AreShortChains rows = (i : ℕ) → i < length rows → length (row_at rows i).chain ≤ MOST_MESSAGES

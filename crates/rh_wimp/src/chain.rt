@@ -2,7 +2,7 @@
 ghost use Rattle.std.specs.Prelude.{◌≡◌, ◌≢◌, ◌<◌, ◌^◌, ◌==◌, length, set, Some, None};
 ghost use Rattle.std.specs.List.{position};
 ghost use Rattle.rh_defs.specs.Memory.{Memory};
-ghost use Rattle.rh_module.specs.Area.{IsModule, heap_in};
+ghost use Rattle.rh_module.specs.Area.{IsModule, module_heap_in};
 ghost use Rattle.rh_wimp.specs.Moves.{Relinks};
 ghost use Rattle.rh_defs.specs.Blocks.{HasBlock};
 ghost use Rattle.rh_wimp.specs.Chains.{entry_at, lengthened, shortened};
@@ -64,7 +64,7 @@ pub fn append<S: WordsMut>(
 )
     requires module { IsModule (S.memory store.old) rma }
     requires within { at < length entries.old.items }
-    requires last { (entry_at entries.old.items at).last ≢ 0 → HasBlock (entry_at entries.old.items at).last WORD (heap_in (S.memory store.old) rma) }
+    requires last { (entry_at entries.old.items at).last ≢ 0 → HasBlock (entry_at entries.old.items at).last WORD (module_heap_in (S.memory store.old) rma) }
     requires small { block < 2 ^ 32 }
     ensures entries { entries.new.items ≡ set entries.old.items at (lengthened block (entry_at entries.old.items at)) }
     ensures len { length entries.new.items ≡ length entries.old.items }

@@ -5,8 +5,8 @@ ghost use Rattle.rh_defs.specs.Memory.{OnlyArea};
 ghost use Rattle.rh_defs.specs.Messages.{Parcel};
 ghost use Rattle.rh_defs.specs.Post.{Post, held_by, post_death};
 ghost use Rattle.rh_module.specs.Area.{IsModule};
-ghost use Rattle.rh_wimp.specs.Calls.{IsQueue, Leaves, handles_of};
-ghost use Rattle.rh_wimp.specs.Chains.{HasEntry, MayBounce, SpellsPost, entry_at};
+ghost use Rattle.rh_wimp.specs.Calls.{IsQueue, LeavesChains, handles_of};
+ghost use Rattle.rh_wimp.specs.Chains.{HasEntry, MayBounce, SpellsPostIn, entry_at};
 ghost use Rattle.rh_wimp.specs.Deaths.{Drains, bounced_from, ended_from, settled_from};
 
 use crate::chain::find;
@@ -25,7 +25,8 @@ impl Queue {
     pub fn bounce_for_death<S: Pages>(&mut self, store: &mut S, rma: Module, handle: Handle)
         requires queue { IsQueue (S.memory store.old) rma self.old }
         requires live { HasEntry handle self.old }
-        ensures leaves { Leaves (S.memory store.old) (S.memory store.new) rma self.old self.new (post_death handle) }
+        ensures leaves { LeavesChains (S.memory store.old) (S.memory store.new) rma self.old self.new
+            (post_death handle) }
         ensures handles { handles_of self.new ≡ filter (λ h. not (h == handle)) (handles_of self.old) }
     {
         let Some(at) = find(&self.entries, handle) else {
@@ -41,9 +42,9 @@ impl Queue {
         requires module { IsModule (S.memory store.old) rma }
         requires within { at < length self.old.entries }
         requires handle { (entry_at self.old.entries at).handle ≡ dying }
-        requires post { (post : Post) × SpellsPost (S.memory store.old) rma self.old post }
-        ensures spells { (post : Post) → SpellsPost (S.memory store.old) rma self.old post
-            → SpellsPost (S.memory store.new) rma self.new (settled_from dying (held_by dying post.seats) post) }
+        requires post { (post : Post) × SpellsPostIn (S.memory store.old) rma self.old post }
+        ensures spells { (post : Post) → SpellsPostIn (S.memory store.old) rma self.old post
+            → SpellsPostIn (S.memory store.new) rma self.new (settled_from dying (held_by dying post.seats) post) }
         ensures module { IsModule (S.memory store.new) rma }
         ensures only { OnlyArea (S.memory store.old) (S.memory store.new) rma.area.0 }
     {
@@ -57,8 +58,8 @@ impl Queue {
         requires module { IsModule (S.memory store.old) rma }
         requires within { at < length self.old.entries }
         requires handle { (entry_at self.old.entries at).handle ≡ dying }
-        requires post { (post : Post) × SpellsPost (S.memory store.old) rma self.old post }
-        ensures drains { (post : Post) → SpellsPost (S.memory store.old) rma self.old post → Drains (S.memory store.new) rma self.new post dying MOST_MESSAGES }
+        requires post { (post : Post) × SpellsPostIn (S.memory store.old) rma self.old post }
+        ensures drains { (post : Post) → SpellsPostIn (S.memory store.old) rma self.old post → Drains (S.memory store.new) rma self.new post dying MOST_MESSAGES }
         ensures module { IsModule (S.memory store.new) rma }
         ensures only { OnlyArea (S.memory store.old) (S.memory store.new) rma.area.0 }
     {
@@ -74,7 +75,7 @@ impl Queue {
     fn end_message<S: Pages>(&mut self, store: &mut S, rma: Module, block: usize, dying: Handle)
         requires module { IsModule (S.memory store.old) rma }
         requires loose { (post : Post) × ((p : Parcel) × MayBounce (S.memory store.old) rma self.old post p block) }
-        ensures spells { (post : Post) (p : Parcel) → MayBounce (S.memory store.old) rma self.old post p block → SpellsPost (S.memory store.new) rma self.new (ended_from dying p post) }
+        ensures spells { (post : Post) (p : Parcel) → MayBounce (S.memory store.old) rma self.old post p block → SpellsPostIn (S.memory store.new) rma self.new (ended_from dying p post) }
         ensures module { IsModule (S.memory store.new) rma }
         ensures only { OnlyArea (S.memory store.old) (S.memory store.new) rma.area.0 }
     {
@@ -89,7 +90,7 @@ impl Queue {
     fn bounce_from<S: Pages>(&mut self, store: &mut S, rma: Module, block: usize, dying: Handle)
         requires module { IsModule (S.memory store.old) rma }
         requires loose { (post : Post) × ((p : Parcel) × MayBounce (S.memory store.old) rma self.old post p block) }
-        ensures spells { (post : Post) (p : Parcel) → MayBounce (S.memory store.old) rma self.old post p block → SpellsPost (S.memory store.new) rma self.new (bounced_from dying p post) }
+        ensures spells { (post : Post) (p : Parcel) → MayBounce (S.memory store.old) rma self.old post p block → SpellsPostIn (S.memory store.new) rma self.new (bounced_from dying p post) }
         ensures module { IsModule (S.memory store.new) rma }
         ensures only { OnlyArea (S.memory store.old) (S.memory store.new) rma.area.0 }
     {

@@ -1,7 +1,7 @@
 //! Messages into bytes.
 ghost use Rattle.std.specs.Prelude.{◌≡◌, ◌+◌, ◌^◌, ◌<◌, ◌≤◌, ◌++◌, [], ◌∷◌, true, length};
 ghost use Rattle.rh_defs.specs.declared.sizes.TheConstants.{LONGEST_MESSAGE};
-ghost use Rattle.rh_defs.specs.Bytes.{put};
+ghost use Rattle.rh_defs.specs.Bytes.{with_part};
 ghost use Rattle.rh_defs.specs.Messages.{AreWords, Fits, HasName, body_bytes, data_words, encoded, encoded_length, file_words, name_bytes, words};
 ghost use Rattle.rh_defs.specs.Pathnames.{is_pathname};
 ghost use Rattle.rh_wimp.specs.declared.layout.TheConstants.{ACTION, DATA, FILE_LENGTH, NAME, RAM_LENGTH};
@@ -23,7 +23,7 @@ fn name_room(name: &[u8]) -> usize
 fn encode_name(name: &[u8], out: &mut [u8]) -> usize
     requires room { length out.old ≡ LONGEST_MESSAGE }
     requires name { is_pathname name.now ≡ true }
-    ensures bytes { out.new ≡ put out.old NAME (name_bytes name.now) }
+    ensures bytes { out.new ≡ with_part out.old NAME (name_bytes name.now) }
     ensures length { result ≡ length (name_bytes name.now) }
     ensures short { NAME + result ≤ LONGEST_MESSAGE }
 {
@@ -36,7 +36,7 @@ fn encode_name(name: &[u8], out: &mut [u8]) -> usize
 /// Writes what is said of a file from offset 20 on, and answers its length.
 fn encode_file(file: &FileData, out: &mut [u8]) -> usize
     requires { length out.old ≡ LONGEST_MESSAGE }
-    ensures bytes { out.new ≡ put out.old DATA (words (file_words file.now) ++ name_bytes file.now.name) }
+    ensures bytes { out.new ≡ with_part out.old DATA (words (file_words file.now) ++ name_bytes file.now.name) }
     ensures length { result ≡ FILE_LENGTH + length (name_bytes file.now.name) }
     ensures short { DATA + result ≤ LONGEST_MESSAGE }
     ensures numbers { AreWords (file_words file.now) }
@@ -60,7 +60,7 @@ fn encode_file(file: &FileData, out: &mut [u8]) -> usize
 /// Writes the two words of a RAMFetch or RAMTransmit, and answers their length.
 fn encode_pair(buffer: u32, n: u32, out: &mut [u8]) -> usize
     requires { length out.old ≡ LONGEST_MESSAGE }
-    ensures bytes { out.new ≡ put out.old DATA (words (buffer ∷ n ∷ [])) }
+    ensures bytes { out.new ≡ with_part out.old DATA (words (buffer ∷ n ∷ [])) }
     ensures length { result ≡ RAM_LENGTH }
 {
     put_words(out, DATA, &[buffer, n]);
@@ -70,7 +70,7 @@ fn encode_pair(buffer: u32, n: u32, out: &mut [u8]) -> usize
 /// Writes action and data from offset 16 on, and answers their length.
 fn encode_body(body: &Body, out: &mut [u8]) -> usize
     requires { length out.old ≡ LONGEST_MESSAGE }
-    ensures bytes { out.new ≡ put out.old ACTION (body_bytes body.now) }
+    ensures bytes { out.new ≡ with_part out.old ACTION (body_bytes body.now) }
     ensures length { result ≡ length (body_bytes body.now) }
     ensures short { ACTION + result ≤ LONGEST_MESSAGE }
     ensures numbers { AreWords (data_words body.now) }
@@ -114,7 +114,7 @@ pub fn body_length(body: &Body) -> usize
 fn encode_parts(from: u32, my_ref: u32, your_ref: u32, body: &Body, out: &mut [u8]) -> usize
     requires { length out.old ≡ LONGEST_MESSAGE }
     ensures length { result ≡ ACTION + length (body_bytes body.now) }
-    ensures bytes { out.new ≡ put out.old 0 (encoded (record { from = from; my_ref = my_ref; your_ref = your_ref; body = body.now })) }
+    ensures bytes { out.new ≡ with_part out.old 0 (encoded (record { from = from; my_ref = my_ref; your_ref = your_ref; body = body.now })) }
     ensures short { result ≤ LONGEST_MESSAGE }
     ensures fits { Fits (record { from = from; my_ref = my_ref; your_ref = your_ref; body = body.now }) }
 {
@@ -128,7 +128,7 @@ fn encode_parts(from: u32, my_ref: u32, your_ref: u32, body: &Body, out: &mut [u
 pub(crate) fn encode_into(message: &Message, out: &mut [u8]) -> usize
     requires { length out.old ≡ LONGEST_MESSAGE }
     ensures length { result ≡ encoded_length message.now }
-    ensures bytes { out.new ≡ put out.old 0 (encoded message.now) }
+    ensures bytes { out.new ≡ with_part out.old 0 (encoded message.now) }
     ensures short { result ≤ LONGEST_MESSAGE }
     ensures fits { Fits message.now }
 {
@@ -144,7 +144,7 @@ pub(crate) fn encode_into(message: &Message, out: &mut [u8]) -> usize
 /// Writes a message block, and answers its length; the bytes beyond it stay as they were.
 pub fn encode(message: &Message, out: &mut [u8; LONGEST_MESSAGE]) -> usize
     ensures length { result ≡ encoded_length message.now }
-    ensures bytes { out.new ≡ put out.old 0 (encoded message.now) }
+    ensures bytes { out.new ≡ with_part out.old 0 (encoded message.now) }
     ensures short { result ≤ LONGEST_MESSAGE }
     ensures fits { Fits message.now }
 {

@@ -3,10 +3,10 @@ ghost use Rattle.std.specs.Prelude.{◌≡◌, ◌+◌, ◌≤◌, ◌++◌, ℕ
 ghost use Rattle.rh_defs.specs.declared.sizes.TheConstants.{MOST_MESSAGES};
 ghost use Rattle.rh_defs.specs.Memory.{Memory};
 ghost use Rattle.rh_defs.specs.Messages.{Parcel};
-ghost use Rattle.rh_module.specs.Area.{IsModule, heap_in};
+ghost use Rattle.rh_module.specs.Area.{IsModule, module_heap_in};
 ghost use Rattle.rh_wimp.specs.Calls.{Answers, IsQueue};
-ghost use Rattle.rh_wimp.specs.Chains.{Chain, Holds, Row, RowsLie, first_block, held_list};
-ghost use Rattle.rh_wimp.specs.Items.{LinksAt, held_items, item_of, message_items, waiting_items};
+ghost use Rattle.rh_wimp.specs.Chains.{Chain, Holds, SeatRow, RowsLie, first_block, held_list};
+ghost use Rattle.rh_wimp.specs.Items.{LinksAt, held_items, message_item_of, message_items, waiting_items};
 
 use crate::chain::Entry;
 use crate::layout::{ACTION, LINK, MESSAGE, MY_REF, SENDER};
@@ -45,8 +45,8 @@ fn push_waiting<S: Words>(
     items: &mut ArrayVec<MessageItem, MOST_MESSAGES>,
 )
     requires module { IsModule (S.memory store.now) rma }
-    requires rows { (rows : List Row) × (RowsLie (heap_in (S.memory store.now) rma) entries.now.items rows × (length items.old.items + length (waiting_items rows) ≤ MOST_MESSAGES)) }
-    ensures { (rows : List Row) → RowsLie (heap_in (S.memory store.now) rma) entries.now.items rows → length items.old.items + length (waiting_items rows) ≤ MOST_MESSAGES
+    requires rows { (rows : List SeatRow) × (RowsLie (module_heap_in (S.memory store.now) rma) entries.now.items rows × (length items.old.items + length (waiting_items rows) ≤ MOST_MESSAGES)) }
+    ensures { (rows : List SeatRow) → RowsLie (module_heap_in (S.memory store.now) rma) entries.now.items rows → length items.old.items + length (waiting_items rows) ≤ MOST_MESSAGES
         → items.new.items ≡ items.old.items ++ waiting_items rows }
 {
     for entry in entries.as_slice() {
@@ -63,9 +63,9 @@ fn push_chain<S: Words>(
     items: &mut ArrayVec<MessageItem, MOST_MESSAGES>,
 )
     requires module { IsModule (S.memory store.now) rma }
-    requires chain { (ps : List Parcel) × ((first ≡ first_block ps 0) × Chain (heap_in (S.memory store.now) rma) ps 0 × (length items.old.items + length ps ≤ MOST_MESSAGES)) }
-    ensures { (ps : List Parcel) → first ≡ first_block ps 0 → Chain (heap_in (S.memory store.now) rma) ps 0 → length items.old.items + length ps ≤ MOST_MESSAGES
-        → items.new.items ≡ items.old.items ++ map (item_of to false) ps }
+    requires chain { (ps : List Parcel) × ((first ≡ first_block ps 0) × Chain (module_heap_in (S.memory store.now) rma) ps 0 × (length items.old.items + length ps ≤ MOST_MESSAGES)) }
+    ensures { (ps : List Parcel) → first ≡ first_block ps 0 → Chain (module_heap_in (S.memory store.now) rma) ps 0 → length items.old.items + length ps ≤ MOST_MESSAGES
+        → items.new.items ≡ items.old.items ++ map (message_item_of to false) ps }
 {
     let mut block = first;
     for _turn in 0..MOST_MESSAGES {
@@ -85,8 +85,8 @@ fn push_held<S: Words>(
     items: &mut ArrayVec<MessageItem, MOST_MESSAGES>,
 )
     requires module { IsModule (S.memory store.now) rma }
-    requires rows { (rows : List Row) × (RowsLie (heap_in (S.memory store.now) rma) entries.now.items rows × (length items.old.items + length (held_items rows) ≤ MOST_MESSAGES)) }
-    ensures { (rows : List Row) → RowsLie (heap_in (S.memory store.now) rma) entries.now.items rows → length items.old.items + length (held_items rows) ≤ MOST_MESSAGES
+    requires rows { (rows : List SeatRow) × (RowsLie (module_heap_in (S.memory store.now) rma) entries.now.items rows × (length items.old.items + length (held_items rows) ≤ MOST_MESSAGES)) }
+    ensures { (rows : List SeatRow) → RowsLie (module_heap_in (S.memory store.now) rma) entries.now.items rows → length items.old.items + length (held_items rows) ≤ MOST_MESSAGES
         → items.new.items ≡ items.old.items ++ held_items rows }
 {
     for entry in entries.as_slice() {
@@ -103,9 +103,9 @@ fn push_block<S: Words>(
     items: &mut ArrayVec<MessageItem, MOST_MESSAGES>,
 )
     requires module { IsModule (S.memory store.now) rma }
-    requires held { (o : Option Parcel) × (Holds (heap_in (S.memory store.now) rma) held o × (length items.old.items + length (held_list o) ≤ MOST_MESSAGES)) }
-    ensures { (o : Option Parcel) → Holds (heap_in (S.memory store.now) rma) held o → length items.old.items + length (held_list o) ≤ MOST_MESSAGES
-        → items.new.items ≡ items.old.items ++ map (item_of to true) (held_list o) }
+    requires held { (o : Option Parcel) × (Holds (module_heap_in (S.memory store.now) rma) held o × (length items.old.items + length (held_list o) ≤ MOST_MESSAGES)) }
+    ensures { (o : Option Parcel) → Holds (module_heap_in (S.memory store.now) rma) held o → length items.old.items + length (held_list o) ≤ MOST_MESSAGES
+        → items.new.items ≡ items.old.items ++ map (message_item_of to true) (held_list o) }
 {
     if held == 0 {
         return;
@@ -117,7 +117,8 @@ fn push_block<S: Words>(
 fn read_item<S: Words>(store: &S, rma: Module, block: usize, to: Handle, held: bool) -> MessageItem
     requires module { IsModule (S.memory store.now) rma }
     requires lies { (link : ℕ) × ((p : Parcel) × LinksAt (S.memory store.now) rma block link p) }
-    ensures { (link : ℕ) (p : Parcel) → LinksAt (S.memory store.now) rma block link p → result ≡ item_of to held p }
+    ensures { (link : ℕ) (p : Parcel) → LinksAt (S.memory store.now) rma block link p → result
+        ≡ message_item_of to held p }
 {
     let action = rma.read_word(store, block, MESSAGE + ACTION);
     MessageItem {

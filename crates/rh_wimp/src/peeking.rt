@@ -4,7 +4,7 @@ ghost use Rattle.std.specs.Option.{option_map};
 ghost use Rattle.rh_defs.specs.Memory.{Memory};
 ghost use Rattle.rh_defs.specs.Messages.{Parcel};
 ghost use Rattle.rh_defs.specs.Post.{holds_such, post_poll};
-ghost use Rattle.rh_module.specs.Area.{IsModule, heap_in};
+ghost use Rattle.rh_module.specs.Area.{IsModule, module_heap_in};
 ghost use Rattle.rh_wimp.specs.Calls.{Answers, IsQueue};
 ghost use Rattle.rh_wimp.specs.Chains.{HasEntry, Holds};
 ghost use Rattle.rh_wimp.specs.Items.{with_message};
@@ -54,8 +54,8 @@ impl Queue {
 /// Whether the message that a task holds in a block, 0 for none, was sent by the task itself.
 fn holds_own<S: Words>(store: &S, rma: Module, held: usize, handle: Handle) -> bool
     requires module { IsModule (S.memory store.now) rma }
-    requires held { (o : Option Parcel) × Holds (heap_in (S.memory store.now) rma) held o }
-    ensures { (o : Option Parcel) → Holds (heap_in (S.memory store.now) rma) held o → result ≡ holds_such (λ (p : Parcel). p.message.from == handle) o }
+    requires held { (o : Option Parcel) × Holds (module_heap_in (S.memory store.now) rma) held o }
+    ensures { (o : Option Parcel) → Holds (module_heap_in (S.memory store.now) rma) held o → result ≡ holds_such (λ (p : Parcel). p.message.from == handle) o }
 {
     if held == 0 {
         return false;

@@ -2,10 +2,10 @@
 ghost use Rattle.std.specs.Prelude.{◌≡◌, ◌≢◌, ◌+◌, ◌<◌, ◌==◌, ◌++◌, ℕ, List, Some, None, Ok, false, OnErr, IfOk, length, set};
 ghost use Rattle.rh_defs.specs.Bytes.{word};
 ghost use Rattle.rh_defs.specs.Chain.{answer_of};
-ghost use Rattle.rh_defs.specs.Heap.{Heap, release};
+ghost use Rattle.rh_defs.specs.Heap.{Heap, release_block};
 ghost use Rattle.rh_defs.specs.Memory.{Memory, OnlyArea};
 ghost use Rattle.rh_defs.specs.Module.{module_claim};
-ghost use Rattle.rh_module.specs.Area.{IsModule, heap_in};
+ghost use Rattle.rh_module.specs.Area.{IsModule, module_heap_in};
 ghost use Rattle.rh_wimp.specs.Moves.{Turns};
 ghost use Rattle.rh_defs.specs.Blocks.{HasBlock, block_bytes, poked};
 ghost use Rattle.rh_wimp.specs.Chains.{entry_at, emptied};
@@ -33,8 +33,8 @@ pub fn place<S: Pages>(
     message: &Message,
 ) -> Result<usize, Refusal>
     requires { IsModule (S.memory store.old) rma }
-    ensures answer { result ≡ answer_of (module_claim (S.memory store.old).free (parcel_size message.now) (heap_in (S.memory store.old) rma)) }
-    ensures placed { (there : Heap × ℕ) → module_claim (S.memory store.old).free (parcel_size message.now) (heap_in (S.memory store.old) rma) ≡ Ok there
+    ensures answer { result ≡ answer_of (module_claim (S.memory store.old).free (parcel_size message.now) (module_heap_in (S.memory store.old) rma)) }
+    ensures placed { (there : Heap × ℕ) → module_claim (S.memory store.old).free (parcel_size message.now) (module_heap_in (S.memory store.old) rma) ≡ Ok there
         → Turns (S.memory store.old) (S.memory store.new) rma (poked there.1 0 (word_bytes 0 ++ (word_bytes (code_number code) ++ encoded message.now)) there.0) }
     ensures fits { Fits message.now }
     ensures err { OnErr result (S.memory store.new ≡ S.memory store.old) }
@@ -50,9 +50,10 @@ pub fn place<S: Pages>(
 /// Whether a task holds a message with this ref.
 pub fn holds_ref<S: Words>(store: &S, rma: Module, entry: Entry, my_ref: Ref) -> bool
     requires module { IsModule (S.memory store.now) rma }
-    requires held { entry.held ≢ 0 → HasBlock entry.held (MESSAGE + MY_REF + WORD) (heap_in (S.memory store.now) rma) }
+    requires held { entry.held ≢ 0 → HasBlock entry.held (MESSAGE + MY_REF + WORD)
+        (module_heap_in (S.memory store.now) rma) }
     ensures none { entry.held ≡ 0 → result ≡ false }
-    ensures some { entry.held ≢ 0 → (bytes : List ℕ) → block_bytes entry.held (heap_in (S.memory store.now) rma) ≡ Some bytes → result ≡ (word bytes (MESSAGE + MY_REF) == my_ref) }
+    ensures some { entry.held ≢ 0 → (bytes : List ℕ) → block_bytes entry.held (module_heap_in (S.memory store.now) rma) ≡ Some bytes → result ≡ (word bytes (MESSAGE + MY_REF) == my_ref) }
 {
     if entry.held == 0 {
         return false;
@@ -63,8 +64,9 @@ pub fn holds_ref<S: Words>(store: &S, rma: Module, entry: Entry, my_ref: Ref) ->
 /// Frees a block.
 pub fn free<S: Pages>(store: &mut S, rma: Module, block: usize)
     requires module { IsModule (S.memory store.old) rma }
-    requires block { HasBlock block WORD (heap_in (S.memory store.old) rma) }
-    ensures { Turns (S.memory store.old) (S.memory store.new) rma (release block (heap_in (S.memory store.old) rma)) }
+    requires block { HasBlock block WORD (module_heap_in (S.memory store.old) rma) }
+    ensures { Turns (S.memory store.old) (S.memory store.new) rma
+        (release_block block (module_heap_in (S.memory store.old) rma)) }
 {
     rma.free(store, block).unwrap();
 }
@@ -78,10 +80,10 @@ pub fn put_down<S: Pages>(
 )
     requires module { IsModule (S.memory store.old) rma }
     requires within { at < length entries.old.items }
-    requires held { HasBlock (entry_at entries.old.items at).held WORD (heap_in (S.memory store.old) rma) }
+    requires held { HasBlock (entry_at entries.old.items at).held WORD (module_heap_in (S.memory store.old) rma) }
     ensures entries { entries.new.items ≡ set entries.old.items at (emptied (entry_at entries.old.items at)) }
     ensures len { length entries.new.items ≡ length entries.old.items }
-    ensures heap { Turns (S.memory store.old) (S.memory store.new) rma (release (entry_at entries.old.items at).held (heap_in (S.memory store.old) rma)) }
+    ensures heap { Turns (S.memory store.old) (S.memory store.new) rma (release_block (entry_at entries.old.items at).held (module_heap_in (S.memory store.old) rma)) }
 {
     let entry = entries[at];
     free(store, rma, entry.held);

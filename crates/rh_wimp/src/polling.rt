@@ -6,9 +6,9 @@ ghost use Rattle.rh_defs.specs.Heap.{Heap};
 ghost use Rattle.rh_defs.specs.Memory.{OnlyArea};
 ghost use Rattle.rh_defs.specs.Messages.{Parcel};
 ghost use Rattle.rh_defs.specs.Post.{Post, bounce_held, bounced, held_by, post_poll, taken};
-ghost use Rattle.rh_module.specs.Area.{IsModule, heap_in};
-ghost use Rattle.rh_wimp.specs.Calls.{Answers, IsQueue, Leaves, handles_of};
-ghost use Rattle.rh_wimp.specs.Chains.{HasEntry, IsPost, LiftsFirst, MayBounce, SpellsPost, emptied_chains, entry_at, event_of, holding_chains};
+ghost use Rattle.rh_module.specs.Area.{IsModule, module_heap_in};
+ghost use Rattle.rh_wimp.specs.Calls.{Answers, IsQueue, LeavesChains, handles_of};
+ghost use Rattle.rh_wimp.specs.Chains.{HasEntry, ArePostChains, LiftsFirst, MayBounce, SpellsPostIn, emptied_chains, entry_at, event_of, holding_chains};
 
 use crate::chain::{Entry, append, find, shortened};
 use crate::layout::{CODE, LINK, MESSAGE, SENDER};
@@ -27,7 +27,7 @@ impl Queue {
         requires queue { IsQueue (S.memory store.old) rma self.old }
         requires live { HasEntry handle self.old }
         ensures answer { Answers (S.memory store.old) rma self.old (λ post. option_map event_of (post_poll handle post).1) result }
-        ensures leaves { Leaves (S.memory store.old) (S.memory store.new) rma self.old self.new (λ post. (post_poll handle post).0) }
+        ensures leaves { LeavesChains (S.memory store.old) (S.memory store.new) rma self.old self.new (λ post. (post_poll handle post).0) }
         ensures handles { handles_of self.new ≡ handles_of self.old }
     {
         let Some(at) = find(&self.entries, handle) else {
@@ -41,9 +41,9 @@ impl Queue {
     fn bounce_held<S: Pages>(&mut self, store: &mut S, rma: Module, at: usize)
         requires module { IsModule (S.memory store.old) rma }
         requires within { at < length self.old.entries }
-        requires post { (post : Post) × SpellsPost (S.memory store.old) rma self.old post }
-        ensures spells { (post : Post) → SpellsPost (S.memory store.old) rma self.old post
-            → SpellsPost (S.memory store.new) rma self.new (bounce_held (entry_at self.old.entries at).handle (held_by (entry_at self.old.entries at).handle post.seats) post) }
+        requires post { (post : Post) × SpellsPostIn (S.memory store.old) rma self.old post }
+        ensures spells { (post : Post) → SpellsPostIn (S.memory store.old) rma self.old post
+            → SpellsPostIn (S.memory store.new) rma self.new (bounce_held (entry_at self.old.entries at).handle (held_by (entry_at self.old.entries at).handle post.seats) post) }
         ensures module { IsModule (S.memory store.new) rma }
         ensures only { OnlyArea (S.memory store.old) (S.memory store.new) rma.area.0 }
     {
@@ -55,7 +55,7 @@ impl Queue {
     /// Takes the message that a task holds off it, and answers its block.
     pub(crate) fn lift_held(&mut self, at: usize) -> Option<usize>
         requires within { at < length self.old.entries }
-        requires post { (h : Heap) × ((post : Post) × IsPost h self.old post) }
+        requires post { (h : Heap) × ((post : Post) × ArePostChains h self.old post) }
         ensures none { IfNone result (((entry_at self.old.entries at).held ≡ 0) × (self.new ≡ self.old)) }
         ensures held { IfSome result (λ block. (block ≡ (entry_at self.old.entries at).held) × ((entry_at self.old.entries at).held ≢ 0) × (self.new ≡ emptied_chains at self.old)) }
     {
@@ -72,7 +72,7 @@ impl Queue {
     pub(crate) fn bounce<S: Pages>(&mut self, store: &mut S, rma: Module, block: usize)
         requires module { IsModule (S.memory store.old) rma }
         requires loose { (post : Post) × ((p : Parcel) × MayBounce (S.memory store.old) rma self.old post p block) }
-        ensures spells { (post : Post) (p : Parcel) → MayBounce (S.memory store.old) rma self.old post p block → SpellsPost (S.memory store.new) rma self.new (bounced p post) }
+        ensures spells { (post : Post) (p : Parcel) → MayBounce (S.memory store.old) rma self.old post p block → SpellsPostIn (S.memory store.new) rma self.new (bounced p post) }
         ensures module { IsModule (S.memory store.new) rma }
         ensures only { OnlyArea (S.memory store.old) (S.memory store.new) rma.area.0 }
     {
@@ -95,8 +95,8 @@ impl Queue {
     ) -> Option<usize>
         requires module { IsModule (S.memory store.old) rma }
         requires within { at < length self.old.entries }
-        requires post { (post : Post) × SpellsPost (S.memory store.old) rma self.old post }
-        ensures lifts { (post : Post) → SpellsPost (S.memory store.old) rma self.old post
+        requires post { (post : Post) × SpellsPostIn (S.memory store.old) rma self.old post }
+        ensures lifts { (post : Post) → SpellsPostIn (S.memory store.old) rma self.old post
             → LiftsFirst (S.memory store.new) rma self.new post (entry_at self.old.entries at).handle result }
         ensures module { IsModule (S.memory store.new) rma }
         ensures only { OnlyArea (S.memory store.old) (S.memory store.new) rma.area.0 }
@@ -127,11 +127,11 @@ impl Queue {
     fn take<S: Pages>(&mut self, store: &mut S, rma: Module, at: usize) -> Option<Event>
         requires module { IsModule (S.memory store.old) rma }
         requires within { at < length self.old.entries }
-        requires post { (post : Post) × SpellsPost (S.memory store.old) rma self.old post × (held_by (entry_at self.old.entries at).handle post.seats ≡ None) }
-        ensures answer { (post : Post) → SpellsPost (S.memory store.old) rma self.old post → held_by (entry_at self.old.entries at).handle post.seats ≡ None
+        requires post { (post : Post) × SpellsPostIn (S.memory store.old) rma self.old post × (held_by (entry_at self.old.entries at).handle post.seats ≡ None) }
+        ensures answer { (post : Post) → SpellsPostIn (S.memory store.old) rma self.old post → held_by (entry_at self.old.entries at).handle post.seats ≡ None
             → result ≡ option_map event_of (taken (entry_at self.old.entries at).handle post).1 }
-        ensures spells { (post : Post) → SpellsPost (S.memory store.old) rma self.old post → held_by (entry_at self.old.entries at).handle post.seats ≡ None
-            → SpellsPost (S.memory store.new) rma self.new (taken (entry_at self.old.entries at).handle post).0 }
+        ensures spells { (post : Post) → SpellsPostIn (S.memory store.old) rma self.old post → held_by (entry_at self.old.entries at).handle post.seats ≡ None
+            → SpellsPostIn (S.memory store.new) rma self.new (taken (entry_at self.old.entries at).handle post).0 }
         ensures module { IsModule (S.memory store.new) rma }
         ensures only { OnlyArea (S.memory store.old) (S.memory store.new) rma.area.0 }
     {

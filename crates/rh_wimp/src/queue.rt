@@ -7,7 +7,7 @@ ghost use Rattle.rh_defs.specs.Post.{Post, post_join};
 ghost use Rattle.rh_module.specs.Area.{IsModule};
 ghost use Rattle.rh_module.specs.declared.module.Module.{Module};
 ghost use Rattle.rh_wimp.specs.Calls.{IsQueue, handles_of};
-ghost use Rattle.rh_wimp.specs.Chains.{HasEntry, IsPost, joined};
+ghost use Rattle.rh_wimp.specs.Chains.{HasEntry, ArePostChains, joined_chains};
 
 use crate::chain::Entry;
 use rh_defs::sizes::MAX_TASKS;
@@ -70,9 +70,10 @@ impl Queue {
     pub fn join(&mut self, handle: Handle)
         requires few { length self.old.entries < MAX_TASKS }
         requires new { ¬ HasEntry handle self.old }
-        ensures entries { self.new ≡ joined handle self.old }
+        ensures entries { self.new ≡ joined_chains handle self.old }
         ensures handles { handles_of self.new ≡ handles_of self.old ++ handle ∷ [] }
-        ensures spells { (h : Heap) (post : Post) → IsPost h self.old post → IsPost h self.new (post_join handle post) }
+        ensures spells { (h : Heap) (post : Post) → ArePostChains h self.old post → ArePostChains h self.new
+            (post_join handle post) }
         ensures still { (m : Memory) (rma : Module) → IsQueue m rma self.old → IsQueue m rma self.new }
     {
         self.entries.push(Entry {

@@ -5,7 +5,7 @@ ghost use Rattle.rh_defs.specs.Memory.{Memory};
 ghost use Rattle.rh_module.specs.Area.{IsModule};
 ghost use Rattle.rh_wimp.specs.Chains.{LiesAt};
 ghost use Rattle.rh_wimp.specs.Items.{LinksAt};
-ghost use Rattle.rh_defs.specs.Bytes.{put};
+ghost use Rattle.rh_defs.specs.Bytes.{with_part};
 ghost use Rattle.rh_defs.specs.Messages.{Parcel, encoded};
 
 use crate::decoding::decode;
@@ -62,7 +62,7 @@ pub fn copy_block<S: Words>(store: &S, rma: Module, block: usize, to: &mut [u8])
     requires module { IsModule (S.memory store.now) rma }
     requires room { length to.old ≡ LONGEST_MESSAGE }
     requires lies { (link : ℕ) × ((p : Parcel) × LinksAt (S.memory store.now) rma block link p) }
-    ensures { (link : ℕ) (p : Parcel) → LinksAt (S.memory store.now) rma block link p → to.new ≡ put to.old 0 (encoded p.message) }
+    ensures { (link : ℕ) (p : Parcel) → LinksAt (S.memory store.now) rma block link p → to.new ≡ with_part to.old 0 (encoded p.message) }
 {
     let length = rma.read_word(store, block, MESSAGE) as usize;
     let bytes = &mut to[..length];

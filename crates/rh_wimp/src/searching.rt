@@ -4,10 +4,10 @@ ghost use Rattle.std.specs.List.{list_any};
 ghost use Rattle.rh_defs.specs.declared.sizes.TheConstants.{MOST_MESSAGES};
 ghost use Rattle.rh_defs.specs.Messages.{Parcel};
 ghost use Rattle.rh_defs.specs.Post.{holds_such, post_is_live, post_is_message};
-ghost use Rattle.rh_module.specs.Area.{IsModule, heap_in};
+ghost use Rattle.rh_module.specs.Area.{IsModule, module_heap_in};
 ghost use Rattle.rh_wimp.specs.Calls.{Answers, IsQueue};
-ghost use Rattle.rh_wimp.specs.Chains.{Chain, Holds, Lies, Row, RowLies, RowsLie, first_block, row_parcels};
-ghost use Rattle.rh_wimp.specs.Searches.{AreShort, rows_have, wants};
+ghost use Rattle.rh_wimp.specs.Chains.{Chain, Holds, Lies, SeatRow, RowLies, RowsLie, first_block, row_parcels};
+ghost use Rattle.rh_wimp.specs.Searches.{AreShortChains, rows_have, wants};
 
 use crate::chain::Entry;
 use crate::layout::{LINK, MESSAGE, MY_REF};
@@ -53,8 +53,8 @@ fn any_entry<S: Words>(
     wanted: &Wanted,
 ) -> bool
     requires module { IsModule (S.memory store.now) rma }
-    requires rows { (rows : List Row) × (RowsLie (heap_in (S.memory store.now) rma) entries.now.items rows × AreShort rows) }
-    ensures { (rows : List Row) → RowsLie (heap_in (S.memory store.now) rma) entries.now.items rows → AreShort rows → result ≡ rows_have (wants wanted.now) rows }
+    requires rows { (rows : List SeatRow) × (RowsLie (module_heap_in (S.memory store.now) rma) entries.now.items rows × AreShortChains rows) }
+    ensures { (rows : List SeatRow) → RowsLie (module_heap_in (S.memory store.now) rma) entries.now.items rows → AreShortChains rows → result ≡ rows_have (wants wanted.now) rows }
 {
     for entry in entries.as_slice() {
         if entry_has(store, rma, *entry, wanted) {
@@ -67,8 +67,9 @@ fn any_entry<S: Words>(
 /// Whether a message of a task is the one that is looked for.
 fn entry_has<S: Words>(store: &S, rma: Module, entry: Entry, wanted: &Wanted) -> bool
     requires module { IsModule (S.memory store.now) rma }
-    requires row { (r : Row) × (RowLies (heap_in (S.memory store.now) rma) entry r × (length r.chain ≤ MOST_MESSAGES)) }
-    ensures { (r : Row) → RowLies (heap_in (S.memory store.now) rma) entry r → length r.chain ≤ MOST_MESSAGES → result ≡ list_any (wants wanted.now) (row_parcels r) }
+    requires row { (r : SeatRow) × (RowLies (module_heap_in (S.memory store.now) rma) entry r ×
+        (length r.chain ≤ MOST_MESSAGES)) }
+    ensures { (r : SeatRow) → RowLies (module_heap_in (S.memory store.now) rma) entry r → length r.chain ≤ MOST_MESSAGES → result ≡ list_any (wants wanted.now) (row_parcels r) }
 {
     if held_has(store, rma, entry.held, wanted) {
         return true;
@@ -79,8 +80,8 @@ fn entry_has<S: Words>(store: &S, rma: Module, entry: Entry, wanted: &Wanted) ->
 /// Whether the message that is held in a block, 0 for none, is the one that is looked for.
 fn held_has<S: Words>(store: &S, rma: Module, held: usize, wanted: &Wanted) -> bool
     requires module { IsModule (S.memory store.now) rma }
-    requires held { (o : Option Parcel) × Holds (heap_in (S.memory store.now) rma) held o }
-    ensures { (o : Option Parcel) → Holds (heap_in (S.memory store.now) rma) held o → result ≡ holds_such (wants wanted.now) o }
+    requires held { (o : Option Parcel) × Holds (module_heap_in (S.memory store.now) rma) held o }
+    ensures { (o : Option Parcel) → Holds (module_heap_in (S.memory store.now) rma) held o → result ≡ holds_such (wants wanted.now) o }
 {
     if held == 0 {
         return false;
@@ -91,8 +92,8 @@ fn held_has<S: Words>(store: &S, rma: Module, held: usize, wanted: &Wanted) -> b
 /// Whether a message of a chain is the one that is looked for.
 fn chain_has<S: Words>(store: &S, rma: Module, first: usize, wanted: &Wanted) -> bool
     requires module { IsModule (S.memory store.now) rma }
-    requires chain { (ps : List Parcel) × ((first ≡ first_block ps 0) × Chain (heap_in (S.memory store.now) rma) ps 0 × (length ps ≤ MOST_MESSAGES)) }
-    ensures { (ps : List Parcel) → first ≡ first_block ps 0 → Chain (heap_in (S.memory store.now) rma) ps 0 → length ps ≤ MOST_MESSAGES → result ≡ list_any (wants wanted.now) ps }
+    requires chain { (ps : List Parcel) × ((first ≡ first_block ps 0) × Chain (module_heap_in (S.memory store.now) rma) ps 0 × (length ps ≤ MOST_MESSAGES)) }
+    ensures { (ps : List Parcel) → first ≡ first_block ps 0 → Chain (module_heap_in (S.memory store.now) rma) ps 0 → length ps ≤ MOST_MESSAGES → result ≡ list_any (wants wanted.now) ps }
 {
     let mut block = first;
     for _turn in 0..MOST_MESSAGES {
@@ -110,8 +111,8 @@ fn chain_has<S: Words>(store: &S, rma: Module, first: usize, wanted: &Wanted) ->
 /// Whether the message that lies in a block is the one that is looked for.
 fn matches_wanted<S: Words>(store: &S, rma: Module, block: usize, wanted: &Wanted) -> bool
     requires module { IsModule (S.memory store.now) rma }
-    requires lies { (link : ℕ) × ((p : Parcel) × (Lies (heap_in (S.memory store.now) rma) link p × (block ≡ p.block) × (link < 2 ^ 32))) }
-    ensures { (link : ℕ) (p : Parcel) → Lies (heap_in (S.memory store.now) rma) link p → block ≡ p.block → link < 2 ^ 32 → result ≡ wants wanted.now p }
+    requires lies { (link : ℕ) × ((p : Parcel) × (Lies (module_heap_in (S.memory store.now) rma) link p × (block ≡ p.block) × (link < 2 ^ 32))) }
+    ensures { (link : ℕ) (p : Parcel) → Lies (module_heap_in (S.memory store.now) rma) link p → block ≡ p.block → link < 2 ^ 32 → result ≡ wants wanted.now p }
 {
     match wanted {
         Wanted::At(at) => block == *at,

@@ -3,9 +3,9 @@ ghost use Rattle.std.specs.Prelude.{◌≡◌, ◌<◌, ◌≤◌, ℕ, List, So
 ghost use Rattle.rh_defs.specs.Chain.{answer_of, left_of};
 ghost use Rattle.rh_defs.specs.Memory.{OnlyArea};
 ghost use Rattle.rh_defs.specs.Post.{post_send, post_send_pages};
-ghost use Rattle.rh_module.specs.Area.{IsModule, heap_in};
-ghost use Rattle.rh_wimp.specs.Calls.{Answers, IsQueue, Leaves, handles_of};
-ghost use Rattle.rh_wimp.specs.Chains.{HasEntry, Row, RowsLie, entry_at, refusal_for, row_at};
+ghost use Rattle.rh_module.specs.Area.{IsModule, module_heap_in};
+ghost use Rattle.rh_wimp.specs.Calls.{Answers, IsQueue, LeavesChains, handles_of};
+ghost use Rattle.rh_wimp.specs.Chains.{HasEntry, SeatRow, RowsLie, entry_at, refusal_for, row_at};
 ghost use Rattle.rh_wimp.specs.Moves.{Settled};
 
 use crate::chain::{Entry, append, find};
@@ -48,7 +48,7 @@ impl Queue {
         requires queue { IsQueue (S.memory store.old) rma self.old }
         requires from { HasEntry letter.from self.old }
         ensures answer { Answers (S.memory store.old) rma self.old (λ post. answer_of (post_send (S.memory store.old).free letter post)) result }
-        ensures leaves { Leaves (S.memory store.old) (S.memory store.new) rma self.old self.new
+        ensures leaves { LeavesChains (S.memory store.old) (S.memory store.new) rma self.old self.new
             (λ post. left_of post (post_send (S.memory store.old).free letter post)) }
         ensures handles { handles_of self.new ≡ handles_of self.old }
         ensures err { OnErr result ((S.memory store.new ≡ S.memory store.old) × (self.new ≡ self.old)) }
@@ -100,12 +100,12 @@ fn answer<S: Pages>(
     your_ref: Ref,
 ) -> usize
     requires module { IsModule (S.memory store.old) rma }
-    requires rows { (rows : List Row) × RowsLie (heap_in (S.memory store.old) rma) entries.old.items rows }
+    requires rows { (rows : List SeatRow) × RowsLie (module_heap_in (S.memory store.old) rma) entries.old.items rows }
     ensures one { result ≤ 1 }
     ensures len { length entries.new.items ≡ length entries.old.items }
     ensures module { IsModule (S.memory store.new) rma }
     ensures only { OnlyArea (S.memory store.old) (S.memory store.new) rma.area.0 }
-    ensures settles { (rows : List Row) (i : ℕ) → RowsLie (heap_in (S.memory store.old) rma) entries.old.items rows → i < length rows → (row_at rows i).handle ≡ from
+    ensures settles { (rows : List SeatRow) (i : ℕ) → RowsLie (module_heap_in (S.memory store.old) rma) entries.old.items rows → i < length rows → (row_at rows i).handle ≡ from
         → Settled (S.memory store.old) (S.memory store.new) rma entries.old.items entries.new.items i your_ref (row_at rows i).held result }
 {
     let Some(at) = find(entries, from) else {

@@ -1,7 +1,7 @@
 -- What three calls leave of an empty heap of one page.
 use Rattle.std.proofs.Common.{◌≡◌, ℕ, ◌+◌, [], ◌∷◌, sym, ap, subst, ◌∙◌}
 use Rattle.rh_defs.specs.Chain.{left_of, no_answer}
-use Rattle.rh_defs.specs.Heap.{Heap, Hole, Used, empty_heap, claim, released_at}
+use Rattle.rh_defs.specs.Heap.{Heap, Hole, Used, empty_heap, claim_block, released_at}
 use Rattle.rh_defs.specs.Memory.{Memory, Edited}
 use Rattle.rh_defs.specs.Pieces.{zeros}
 use Rattle.rh_defs.specs.declared.sizes.TheConstants.{PAGE}
@@ -19,11 +19,11 @@ both_blocks = record { segments = Used (zeros 20) ∷ Used (zeros 100) ∷ []; e
 abbrev pub last_block : Heap
 last_block = record { segments = Hole 24 ∷ Used (zeros 100) ∷ []; end = PAGE }
 
-pub first_left : (h k : Heap) → h ≡ empty_heap PAGE → k ≡ left_of h (claim 20 h) → k ≡ one_block
-first_left h k is left = left ∙ ap (λ (x : Heap). left_of x (claim 20 x)) is
+pub first_left : (h k : Heap) → h ≡ empty_heap PAGE → k ≡ left_of h (claim_block 20 h) → k ≡ one_block
+first_left h k is left = left ∙ ap (λ (x : Heap). left_of x (claim_block 20 x)) is
 
-pub second_left : (h k : Heap) → h ≡ one_block → k ≡ left_of h (claim 100 h) → k ≡ both_blocks
-second_left h k is left = left ∙ ap (λ (x : Heap). left_of x (claim 100 x)) is
+pub second_left : (h k : Heap) → h ≡ one_block → k ≡ left_of h (claim_block 100 h) → k ≡ both_blocks
+second_left h k is left = left ∙ ap (λ (x : Heap). left_of x (claim_block 100 x)) is
 
 pub last_left : (a : ℕ) (h k : Heap) → a ≡ 20 → h ≡ both_blocks → k ≡ left_of h (no_answer (released_at a h)) → k ≡ last_block
 last_left a h k at is left =

@@ -15,7 +15,7 @@ use Rattle.rh_defs.specs.declared.refusal.Refusal.TheVariants.{NoBlock, NoRoom, 
 use Rattle.rh_defs.proofs.HeapLists.{ltb_yes, ltb_no}
 use Rattle.rh_defs.proofs.MemoryLaws.{bytes-none}
 use Rattle.rh_defs.proofs.SlotRooms.{length-with_block}
-use Rattle.rh_slot.specs.Area.{SpellsIn}
+use Rattle.rh_slot.specs.Area.{SpellsSlotIn}
 use Rattle.rh_slot.specs.declared.slot.Slot as slots
 use Rattle.rh_store.proofs.AreasLaws.{none_is}
 
@@ -40,7 +40,7 @@ unfolding refuse_if
 held-granted free bytes room = rw (ltb_no free (slot_pages (with_block 0 bytes new_slot)) room) refl
 
 -- the page that a new slot has was free
-pub one_less : (m n : Memory) (slot : slots.Slot) → IsNone (m.area slot.area.0) → OnlyArea m n slot.area.0 → SpellsIn n slot new_slot → n.free + 1 ≡ m.free
+pub one_less : (m n : Memory) (slot : slots.Slot) → IsNone (m.area slot.area.0) → OnlyArea m n slot.area.0 → SpellsSlotIn n slot new_slot → n.free + 1 ≡ m.free
 one_less m n slot none only spells =
     let was : length (bytes m slot.area.0) ≡ 0 = ap length (bytes-none m slot.area.0 (none_is (m.area slot.area.0) none)) in
     let is : length (bytes n slot.area.0) ≡ 4096 * slot_pages new_slot = spells.pages in

@@ -25,5 +25,5 @@ abbrev pub fetch_size : ℕ
 fetch_size = 36
 
 -- the post after it was sent where so many pages are free, and task 2 has polled
-abbrev pub asked : ℕ → ℕ → ℕ → Heap → Post
-asked free buffer n h = (post_poll 2 (left_of (two_idle h) (post_send free (fetch buffer n) (two_idle h)))).0
+abbrev pub post_asked : ℕ → ℕ → ℕ → Heap → Post
+post_asked free buffer n h = (post_poll 2 (left_of (two_idle h) (post_send free (fetch buffer n) (two_idle h)))).0

@@ -1,12 +1,12 @@
 //! A block of the module area.
 ghost use Rattle.std.specs.Prelude.{◌≡◌, ◌^◌, ◌<◌, ℕ, List, Some, length, replicate, IfOk, OnErr};
-ghost use Rattle.rh_defs.specs.Blocks.{Frees, HasBlock, Puts, block_bytes, poked};
-ghost use Rattle.rh_defs.specs.Bytes.{part, put};
+ghost use Rattle.rh_defs.specs.Blocks.{Frees, HasBlock, PutsBlock, block_bytes, poked};
+ghost use Rattle.rh_defs.specs.Bytes.{part, with_part};
 ghost use Rattle.rh_defs.specs.Chain.{answer_of, left_of};
-ghost use Rattle.rh_defs.specs.Heap.{block_room, release};
+ghost use Rattle.rh_defs.specs.Heap.{block_room, release_block};
 ghost use Rattle.rh_defs.specs.Memory.{OnlyArea};
 ghost use Rattle.rh_defs.specs.Module.{module_claim};
-ghost use Rattle.rh_module.specs.Area.{IsModule, heap_in};
+ghost use Rattle.rh_module.specs.Area.{IsModule, module_heap_in};
 
 use rh_defs::Refusal;
 use rh_module::Module;
@@ -19,13 +19,14 @@ pub fn keep_bytes<S: Pages>(store: &mut S, rma: Module, bytes: &[u8]) -> Result<
     requires fits { length bytes.now < 2 ^ 32 }
     ensures module { IsModule (S.memory store.new) rma }
     ensures answer { result ≡ answer_of
-        (module_claim (S.memory store.old).free (length bytes.now) (heap_in (S.memory store.old) rma)) }
-    ensures heap { IfOk result (λ address. heap_in (S.memory store.new) rma ≡ poked address 0 bytes.now
-        (left_of (heap_in (S.memory store.old) rma)
-        (module_claim (S.memory store.old).free (length bytes.now) (heap_in (S.memory store.old) rma)))) }
-    ensures kept { IfOk result (Puts (put (replicate (block_room (length bytes.now)) 0) 0 bytes.now)
-        (heap_in (S.memory store.old) rma) (heap_in (S.memory store.new) rma)) }
-    ensures block { IfOk result (λ address. HasBlock address (length bytes.now) (heap_in (S.memory store.new) rma)) }
+        (module_claim (S.memory store.old).free (length bytes.now) (module_heap_in (S.memory store.old) rma)) }
+    ensures heap { IfOk result (λ address. module_heap_in (S.memory store.new) rma ≡ poked address 0 bytes.now
+        (left_of (module_heap_in (S.memory store.old) rma)
+        (module_claim (S.memory store.old).free (length bytes.now) (module_heap_in (S.memory store.old) rma)))) }
+    ensures kept { IfOk result (PutsBlock (with_part (replicate (block_room (length bytes.now)) 0) 0 bytes.now)
+        (module_heap_in (S.memory store.old) rma) (module_heap_in (S.memory store.new) rma)) }
+    ensures block { IfOk result (λ address. HasBlock address (length bytes.now)
+        (module_heap_in (S.memory store.new) rma)) }
     ensures only { OnlyArea (S.memory store.old) (S.memory store.new) rma.area.0 }
     ensures err { OnErr result (S.memory store.new ≡ S.memory store.old) }
 {
@@ -37,12 +38,13 @@ pub fn keep_bytes<S: Pages>(store: &mut S, rma: Module, bytes: &[u8]) -> Result<
 /// Reads the first bytes of a block, and frees it. (OS_Module 7.)
 pub fn give_bytes<S: Pages>(store: &mut S, rma: Module, address: usize, to: &mut [u8])
     requires module { IsModule (S.memory store.old) rma }
-    requires block { HasBlock address (length to.old) (heap_in (S.memory store.old) rma) }
+    requires block { HasBlock address (length to.old) (module_heap_in (S.memory store.old) rma) }
     ensures module { IsModule (S.memory store.new) rma }
-    ensures read { (bytes : List ℕ) → block_bytes address (heap_in (S.memory store.old) rma) ≡ Some bytes
+    ensures read { (bytes : List ℕ) → block_bytes address (module_heap_in (S.memory store.old) rma) ≡ Some bytes
         → to.new ≡ part bytes 0 (length to.old) }
-    ensures heap { heap_in (S.memory store.new) rma ≡ release address (heap_in (S.memory store.old) rma) }
-    ensures freed { Frees address (heap_in (S.memory store.old) rma) (heap_in (S.memory store.new) rma) }
+    ensures heap { module_heap_in (S.memory store.new) rma ≡ release_block address
+        (module_heap_in (S.memory store.old) rma) }
+    ensures freed { Frees address (module_heap_in (S.memory store.old) rma) (module_heap_in (S.memory store.new) rma) }
     ensures only { OnlyArea (S.memory store.old) (S.memory store.new) rma.area.0 }
 {
     rma.read_bytes(store, address, 0, to);

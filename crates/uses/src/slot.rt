@@ -3,7 +3,7 @@ ghost use Rattle.std.specs.Prelude.{◌≡◌, ◌^◌, ◌<◌, ℕ, List, Ok, 
 ghost use Rattle.rh_defs.specs.Chain.{outcome_of, refuse_if, result_or};
 ghost use Rattle.rh_defs.specs.Memory.{OnlyArea, open_below};
 ghost use Rattle.rh_defs.specs.Slot.{new_slot, slot_free, slot_pages, slot_read, with_block};
-ghost use Rattle.rh_slot.specs.Area.{IsSlot, slot_in};
+ghost use Rattle.rh_slot.specs.Area.{IsSlotIn, slot_in};
 ghost use Rattle.rh_defs.specs.declared.sizes.TheConstants.{MAX_AREAS};
 ghost use Rattle.uses.specs.Areas.{IsNewArea};
 
@@ -18,7 +18,7 @@ pub fn hold_bytes<S: Store>(store: &mut S, bytes: &[u8]) -> Result<Slot, Refusal
     requires fits { length bytes.now < 2 ^ 32 }
     ensures answer { outcome_of result ≡ refuse_if
         (nat_lt (S.memory store.old).free (slot_pages (with_block 0 bytes.now new_slot))) Refusal.NoRoom }
-    ensures slot { IfOk result (IsSlot (S.memory store.new)) }
+    ensures slot { IfOk result (IsSlotIn (S.memory store.new)) }
     ensures held { IfOk result (λ slot. slot_in (S.memory store.new) slot ≡ with_block 0 bytes.now new_slot) }
     ensures area { IfOk result (λ slot. IsNewArea (S.memory store.old) (S.memory store.new) slot.area.0) }
     ensures err { OnErr result (S.memory store.new ≡ S.memory store.old) }
@@ -39,10 +39,10 @@ pub fn hold_bytes<S: Store>(store: &mut S, bytes: &[u8]) -> Result<Slot, Refusal
 /// Reads the first bytes of the block at anchor 0, and takes the block away. Refused, and nothing changed, as the read
 /// is: `NoBlock`, `BadRange`. (flex_free.)
 pub fn take_bytes<S: Store>(store: &mut S, slot: Slot, to: &mut [u8]) -> Result<(), Refusal>
-    requires { IsSlot (S.memory store.old) slot }
+    requires { IsSlotIn (S.memory store.old) slot }
     ensures answer { result ≡ outcome_of (slot_read 0 0 (length to.old) (slot_in (S.memory store.old) slot)) }
     ensures read { to.new ≡ result_or to.old (slot_read 0 0 (length to.old) (slot_in (S.memory store.old) slot)) }
-    ensures slot { IsSlot (S.memory store.new) slot }
+    ensures slot { IsSlotIn (S.memory store.new) slot }
     ensures freed { OnOk result (slot_in (S.memory store.new) slot
         ≡ result_or (slot_in (S.memory store.old) slot) (slot_free 0 (slot_in (S.memory store.old) slot))) }
     ensures back { (bytes : List ℕ) → slot_in (S.memory store.old) slot ≡ with_block 0 bytes new_slot

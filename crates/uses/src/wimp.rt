@@ -6,11 +6,11 @@ ghost use Rattle.rh_defs.specs.Memory.{Memory, OnlyArea};
 ghost use Rattle.rh_defs.specs.Pieces.{lacks_pages};
 ghost use Rattle.rh_defs.specs.declared.message.Body.TheVariants.{RamFetch};
 ghost use Rattle.rh_defs.specs.declared.message.EventCode.TheVariants.{User};
-ghost use Rattle.rh_module.specs.Area.{IsModule, heap_in};
+ghost use Rattle.rh_module.specs.Area.{IsModule, module_heap_in};
 ghost use Rattle.rh_module.specs.declared.module.Module.{Module};
 ghost use Rattle.rh_wimp.specs.Calls.{IsQueue, handles_of};
-ghost use Rattle.rh_wimp.specs.Chains.{SpellsPost};
-ghost use Rattle.uses.specs.Wimp.{asked, fetch_size, two_idle};
+ghost use Rattle.rh_wimp.specs.Chains.{SpellsPostIn};
+ghost use Rattle.uses.specs.Wimp.{post_asked, fetch_size, two_idle};
 
 use rh_defs::{Body, Event, EventCode, Handle, Letter, Ref, Refusal};
 use rh_module::Module;
@@ -22,7 +22,7 @@ pub fn two_tasks() -> Queue
     ensures queue { (m : Memory) (rma : Module) → IsModule m rma → IsQueue m rma result }
     ensures handles { handles_of result ≡ 1 ∷ 2 ∷ [] }
     ensures idle { (m : Memory) (rma : Module) → IsModule m rma
-        → SpellsPost m rma result (two_idle (heap_in m rma)) }
+        → SpellsPostIn m rma result (two_idle (module_heap_in m rma)) }
 {
     let mut queue = Queue::new();
     queue.join(Handle(1));
@@ -41,17 +41,19 @@ pub fn ask_for_bytes<S: Pages>(
 ) -> Result<Option<Event>, Refusal>
     requires queue { IsQueue (S.memory store.old) rma queue.old }
     requires handles { handles_of queue.old ≡ 1 ∷ 2 ∷ [] }
-    requires idle { SpellsPost (S.memory store.old) rma queue.old (two_idle (heap_in (S.memory store.old) rma)) }
+    requires idle { SpellsPostIn (S.memory store.old) rma queue.old
+        (two_idle (module_heap_in (S.memory store.old) rma)) }
     ensures answer { outcome_of result ≡ refuse_if
-        (lacks_pages (S.memory store.old).free (need fetch_size (heap_in (S.memory store.old) rma))) Refusal.NoRoom }
+        (lacks_pages (S.memory store.old).free (need fetch_size
+        (module_heap_in (S.memory store.old) rma))) Refusal.NoRoom }
     ensures queue { IsQueue (S.memory store.new) rma queue.new }
     ensures handles { handles_of queue.new ≡ 1 ∷ 2 ∷ [] }
     ensures event { IfOk result (λ event. event ≡ Some (record {
       code = User;
       message = record { from = 1; my_ref = 1; your_ref = 0; body = RamFetch buffer length };
     })) }
-    ensures post { IfOk result (λ event. SpellsPost (S.memory store.new) rma queue.new
-        (asked (S.memory store.old).free buffer length (heap_in (S.memory store.old) rma))) }
+    ensures post { IfOk result (λ event. SpellsPostIn (S.memory store.new) rma queue.new
+        (post_asked (S.memory store.old).free buffer length (module_heap_in (S.memory store.old) rma))) }
     ensures only { OnlyArea (S.memory store.old) (S.memory store.new) rma.area.0 }
     ensures err { OnErr result ((S.memory store.new ≡ S.memory store.old) × (queue.new ≡ queue.old)) }
 {

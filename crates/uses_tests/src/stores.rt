@@ -24,9 +24,9 @@ pub(crate) fn plain_store(alloc: Global) -> Result<PlainStore, AllocError>
 
 /// A store whose areas are scattered pages of one region.
 pub(crate) fn paged_store(alloc: Global) -> Result<PagedStore, AllocError>
-    ensures areas { IfOk result (λ s. open_below (pages.memory_of s).area MAX_AREAS < MAX_AREAS) }
-    ensures fresh { IfOk result (λ s. pages.memory_of s ≡ fresh (pages.memory_of s).pages) }
-    ensures pages { IfOk result (λ s. (pages.memory_of s).pages ≡ 8) }
+    ensures areas { IfOk result (λ s. open_below (pages.paged_memory s).area MAX_AREAS < MAX_AREAS) }
+    ensures fresh { IfOk result (λ s. pages.paged_memory s ≡ fresh (pages.paged_memory s).pages) }
+    ensures pages { IfOk result (λ s. (pages.paged_memory s).pages ≡ 8) }
 {
     let store = PagedStore::new(alloc, 8)?;
     Ok(store)

@@ -1,30 +1,30 @@
 -- A call that asks a question, from what its step says and what is listed of the station.
 use Rattle.vf_desk.proofs.Common.{◌≡◌, ℕ, refl, sym, ap, subst, ◌∙◌, Option, Some, None, Command, Question, Desk, Called, Station, IsAsked, called, in_form}
-use Rattle.vf_desk.proofs.Common.{status_of, listed, SeenBy}
+use Rattle.vf_desk.proofs.Common.{status_of, list_asked, SeenBy}
 use Rattle.rh_defs.specs.declared.command.Command.TheVariants as command
 use Rattle.rh_defs.specs.Questions.{Nothing}
 use Rattle.vf_desk.specs.declared.called.Called.TheVariants.{Closed}
 use Rattle.vf_desk.specs.declared.desk.VfDesk.{VfDesk}
 use Rattle.vf_desk.specs.Called.{Asks, done_or}
-use Rattle.vf_desk.specs.Seen.{IsSeen}
+use Rattle.vf_desk.specs.Seen.{IsSeenDesk}
 use Rattle.vf_desk.proofs.CallLaws.{asks, question-asked, told_by}
 use Rattle.vf_desk.proofs.ListLaws.{listed-closed}
 use Rattle.vf_desk.proofs.SeenLaws.{closed-said, empty-seen, in-handle}
 
 module _ (q : Question) (old after : VfDesk) {form : Option Command} {said : Called} (same : form ≡ in_form (command.Ask q))
-    (says : (s : Option Desk) → IsSeen old s → said ≡ called s form) (stays : IsAsked form → after.handle.station ≡ old.handle.station) where
+    (says : (s : Option Desk) → IsSeenDesk old s → said ≡ called s form) (stays : IsAsked form → after.handle.station ≡ old.handle.station) where
   -- the step has changed nothing
   kept : after.handle.station ≡ old.handle.station
   kept = stays (subst IsAsked (sym same) (question-asked q))
 
   -- what is told of the reply
-  pub ask-told : {A : Type 0} (tell : Called → A) {now : A} → now ≡ tell said → (s : Option Desk) → IsSeen old s
+  pub ask-told : {A : Type 0} (tell : Called → A) {now : A} → now ≡ tell said → (s : Option Desk) → IsSeenDesk old s
       → now ≡ tell (called s (in_form (command.Ask q)))
   ask-told tell told s seen = told_by old same says tell told s seen
 
   -- how many there are is told
-  pub ask-counted : (was : ℕ) {n now : ℕ} (count : Option Desk → ℕ) → now ≡ done_or said n was → ((s : Option Desk) → IsSeen old s → n ≡ count s)
-      → (s : Option Desk) → IsSeen old s → now ≡ done_or (called s (in_form (command.Ask q))) (count s) was
+  pub ask-counted : (was : ℕ) {n now : ℕ} (count : Option Desk → ℕ) → now ≡ done_or said n was → ((s : Option Desk) → IsSeenDesk old s → n ≡ count s)
+      → (s : Option Desk) → IsSeenDesk old s → now ≡ done_or (called s (in_form (command.Ask q))) (count s) was
   ask-counted was {n} count told counted s seen =
       told_by old same says (λ c. done_or c n was) told s seen ∙ ap (λ k. done_or (called s (in_form (command.Ask q))) k was) (counted s seen)
 
@@ -33,17 +33,17 @@ module _ (q : Question) (old after : VfDesk) {form : Option Command} {said : Cal
     pub shut-asks : {new : VfDesk} → new.handle.station ≡ None → {status : ℕ} → status ≡ status_of said → Asks q old new status
     shut-asks left told = asks same says (λ _. left ∙ taken ∙ kept) told
 
-    shut-seen : (s : Option Desk) → IsSeen old s → SeenBy None s
+    shut-seen : (s : Option Desk) → IsSeenDesk old s → SeenBy None s
     shut-seen s seen = empty-seen (sym kept ∙ sym taken) s seen
 
-    pub shut-list : (s : Option Desk) → IsSeen old s → listed s q ≡ Nothing
+    pub shut-list : (s : Option Desk) → IsSeenDesk old s → list_asked s q ≡ Nothing
     shut-list s seen = listed-closed refl s q (shut-seen s seen)
 
     -- what was told before stays
-    pub shut-told : {A : Type 0} (tell : Called → A) (s : Option Desk) → IsSeen old s → tell Closed ≡ tell (called s (in_form (command.Ask q)))
+    pub shut-told : {A : Type 0} (tell : Called → A) (s : Option Desk) → IsSeenDesk old s → tell Closed ≡ tell (called s (in_form (command.Ask q)))
     shut-told tell s seen = ap tell (closed-said s (in_form (command.Ask q)) (shut-seen s seen))
 
-    pub shut-counted : (was n : ℕ) (s : Option Desk) → IsSeen old s → was ≡ done_or (called s (in_form (command.Ask q))) n was
+    pub shut-counted : (was n : ℕ) (s : Option Desk) → IsSeenDesk old s → was ≡ done_or (called s (in_form (command.Ask q))) n was
     shut-counted was n s seen = shut-told (λ c. done_or c n was) s seen
 
   -- where it had a station
@@ -53,5 +53,5 @@ module _ (q : Question) (old after : VfDesk) {form : Option Command} {said : Cal
 
   -- what is listed of a station is listed of the handle
   pub open-list : {station : Station} → Some station ≡ after.handle.station → {P : Option Desk → Type 0} → ((s : Option Desk) → SeenBy station.console s → P s)
-      → (s : Option Desk) → IsSeen old s → P s
+      → (s : Option Desk) → IsSeenDesk old s → P s
   open-list taken holds s seen = in-handle (taken ∙ kept) holds s seen

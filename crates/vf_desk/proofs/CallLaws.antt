@@ -3,22 +3,22 @@ use Rattle.vf_desk.proofs.Common.{◌≡◌, ℕ, Bool, true, false, sym, ap, su
 use Rattle.vf_desk.proofs.Common.{Called, IsAsked, called, desk_by, in_form, status_of, KeepsRest}
 use Rattle.rh_defs.specs.declared.command.Command.TheVariants as command
 use Rattle.vf_desk.specs.declared.desk.VfDesk.{VfDesk}
-use Rattle.vf_desk.specs.Called.{Asks, Does}
-use Rattle.vf_desk.specs.Seen.{IsSeen}
+use Rattle.vf_desk.specs.Called.{Asks, DoesCalled}
+use Rattle.vf_desk.specs.Seen.{IsSeenDesk}
 
 module _ {command form : Option Command} (old : VfDesk) {said : Called} (same : form ≡ command)
-    (says : (s : Option Desk) → IsSeen old s → said ≡ called s form) where
+    (says : (s : Option Desk) → IsSeenDesk old s → said ≡ called s form) where
   -- what is told of what was said
   pub told_by : {A : Type 0} (tell : Called → A) {now : A} → now ≡ tell said
-      → (s : Option Desk) → IsSeen old s → now ≡ tell (called s command)
+      → (s : Option Desk) → IsSeenDesk old s → now ≡ tell (called s command)
   told_by tell told s seen = told ∙ ap tell (says s seen ∙ ap (called s) same)
 
-  pub does : {new : VfDesk} → ((s : Option Desk) → IsSeen old s → IsSeen new (desk_by s form))
+  pub does : {new : VfDesk} → ((s : Option Desk) → IsSeenDesk old s → IsSeenDesk new (desk_by s form))
       → KeepsRest old.handle.station new.handle.station → (status_of said ≢ 0 → new.handle.station ≡ old.handle.station)
-      → {status : ℕ} → status ≡ status_of said → Does command old new status
+      → {status : ℕ} → status ≡ status_of said → DoesCalled command old new status
   does {new} desk rest refused {status} told = record {
     status_is = told_by status_of told;
-    desk = λ s seen. subst (λ f. IsSeen new (desk_by s f)) same (desk s seen);
+    desk = λ s seen. subst (λ f. IsSeenDesk new (desk_by s f)) same (desk s seen);
     rest = rest;
     refused = λ bad. refused (λ zero. bad (told ∙ zero));
   }
@@ -32,7 +32,7 @@ question-asked q = go (in_range (command.Ask q))
     go false = tt
 
 pub asks : {q : Question} {form : Option Command} {old new : VfDesk} {said : Called} {status : ℕ}
-    → form ≡ in_form (command.Ask q) → ((s : Option Desk) → IsSeen old s → said ≡ called s form)
+    → form ≡ in_form (command.Ask q) → ((s : Option Desk) → IsSeenDesk old s → said ≡ called s form)
     → (IsAsked form → new.handle.station ≡ old.handle.station) → status ≡ status_of said → Asks q old new status
 asks {q} {old = old} same says stays told = record {
   status_is = told_by old same says status_of told;

@@ -31,7 +31,7 @@ pub use Rattle.std.specs.Prelude.{IsSome, MatchResult, OnOk, Option, Result, fin
 pub use Rattle.std.specs.Prelude.{◌≢◌, ◌⊎◌}
 pub use Rattle.std.specs.contracts.impls.GlobalAllocator.TheImpl.{ghosts}
 pub use Rattle.core.proofs.alloc.Calls.{Goes-blank, handle_tells}
-pub use Rattle.rh_console.specs.Console.{filled}
+pub use Rattle.rh_console.specs.Console.{filled_front}
 pub use Rattle.rh_console.specs.declared.console.Console.{Console}
 unfoldable pub use Rattle.rh_defs.specs.Chain.{◌>>=◌}
 pub use Rattle.rh_defs.specs.Desk.{Desk, Task}
@@ -41,10 +41,10 @@ unfoldable pub use Rattle.rh_defs.specs.Range.{in_range}
 pub use Rattle.rh_defs.specs.declared.command.Command.{Command}
 pub use Rattle.rh_defs.specs.declared.question.Question.{Question}
 pub use Rattle.vf_desk.specs.Called.{IsAsked, called, desk_by, in_form, number_or, status_of}
-pub use Rattle.vf_desk.specs.Items.{area_of, listed}
-pub use Rattle.vf_desk.specs.Lines.{Takes}
+pub use Rattle.vf_desk.specs.Items.{as_area, list_asked}
+pub use Rattle.vf_desk.specs.Lines.{TakesLine}
 pub use Rattle.vf_desk.specs.Lists.{filled_from}
 pub use Rattle.vf_desk.specs.Seen.{KeepsRest, SeenBy, console_in}
-pub use Rattle.vf_desk.specs.Status.{closed}
+pub use Rattle.vf_desk.specs.Status.{closed_status}
 pub use Rattle.vf_desk.specs.declared.called.Called.{Called}
 pub use Rattle.vf_desk.specs.declared.station.Station.{Station}

@@ -1,6 +1,6 @@
 -- Lists with items in place of their first ones, or of those from an index on.
 use Rattle.vf_desk.proofs.Common.{◌≡◌, ℕ, Bool, true, false, zero, suc, ◌+◌, ◌<◌, ◌≤◌, List, [], ◌∷◌, ◌++◌, length, take, drop, get_or, Some, None, refl, sym}
-use Rattle.vf_desk.proofs.Common.{ap, ◌∙◌, arith, set, append-nil, take_all, ◌-◌, nat_le, map, min, slice_get, tests, filled, filled_from}
+use Rattle.vf_desk.proofs.Common.{ap, ◌∙◌, arith, set, append-nil, take_all, ◌-◌, nat_le, map, min, slice_get, tests, filled_front, filled_from}
 use Rattle.std.proofs.Common.{take-append-drop}
 
 -- the same, item by item
@@ -13,7 +13,7 @@ take-none : {A : Type 0} (n : ℕ) → take {A = A} n [] ≡ []
 take-none zero = refl
 take-none (suc n) = refl
 
-filled-is : {A : Type 0} (xs old : List A) → filled xs old ≡ overlaid xs old
+filled-is : {A : Type 0} (xs old : List A) → filled_front xs old ≡ overlaid xs old
 filled-is [] old = ap (λ l. l ++ old) (take-none (length old))
 filled-is (x ∷ xs) [] = refl
 filled-is (x ∷ xs) (y ∷ old) = ap (λ l. x ∷ l) (filled-is xs old)
@@ -36,25 +36,25 @@ overlaid-nothing : {A : Type 0} (xs : List A) → overlaid {A = A} xs [] ≡ []
 overlaid-nothing [] = refl
 overlaid-nothing (x ∷ xs) = refl
 
-filled-nothing : {A : Type 0} (xs : List A) → filled {A = A} xs [] ≡ []
+filled-nothing : {A : Type 0} (xs : List A) → filled_front {A = A} xs [] ≡ []
 filled-nothing xs = filled-is xs [] ∙ overlaid-nothing xs
 
 -- one item more
-pub filled-next : {A : Type 0} (xs old : List A) (x : A) → length xs < length old → filled (xs ++ x ∷ []) old ≡ set (filled xs old) (length xs) x
+pub filled-next : {A : Type 0} (xs old : List A) (x : A) → length xs < length old → filled_front (xs ++ x ∷ []) old ≡ set (filled_front xs old) (length xs) x
 filled-next xs old x low =
     filled-is (xs ++ x ∷ []) old ∙ overlaid-next xs old x low ∙ ap (λ l. set l (length xs) x) (sym (filled-is xs old))
 
 -- no items
-pub filled-none : {A : Type 0} (old : List A) → filled [] old ≡ old
+pub filled-none : {A : Type 0} (old : List A) → filled_front [] old ≡ old
 filled-none old = filled-is [] old
 
 -- items that find no room
-pub filled-full : {A : Type 0} (xs more old : List A) → length old ≤ length xs → filled (xs ++ more) old ≡ filled xs old
+pub filled-full : {A : Type 0} (xs more old : List A) → length old ≤ length xs → filled_front (xs ++ more) old ≡ filled_front xs old
 filled-full xs more old all = filled-is (xs ++ more) old ∙ overlaid-full xs more old all ∙ sym (filled-is xs old)
 
 -- items behind those that are there already
-pub filled-behind : {A : Type 0} (xs ys old : List A) → filled_from (length xs) ys (filled xs old) ≡ filled (xs ++ ys) old
-filled-behind [] ys old = ap (λ l. filled ys l) (filled-is [] old) ∙ refl
+pub filled-behind : {A : Type 0} (xs ys old : List A) → filled_from (length xs) ys (filled_front xs old) ≡ filled_front (xs ++ ys) old
+filled-behind [] ys old = ap (λ l. filled_front ys l) (filled-is [] old) ∙ refl
 filled-behind (x ∷ xs) ys [] = filled-nothing ys
 filled-behind (x ∷ xs) ys (y ∷ old) = ap (λ l. x ∷ l) (filled-behind xs ys old)
 
@@ -62,7 +62,7 @@ filled-behind (x ∷ xs) ys (y ∷ old) = ap (λ l. x ∷ l) (filled-behind xs y
 pub from-next : {A : Type 0} (at : ℕ) (xs old : List A) (x : A) → at + length xs < length old
     → filled_from at (xs ++ x ∷ []) old ≡ set (filled_from at xs old) (at + length xs) x
 from-next zero xs old x low =
-    filled-next xs old x (omega arith) ∙ ap (λ n. set (filled xs old) n x) (omega arith)
+    filled-next xs old x (omega arith) ∙ ap (λ n. set (filled_front xs old) n x) (omega arith)
 from-next (suc at) xs [] x low = absurd (omega arith)
 from-next (suc at) xs (y ∷ old) x low =
     let one : suc (at + length xs) ≡ suc at + length xs = omega arith in
@@ -114,19 +114,19 @@ got-item (y ∷ items) (suc i) x low e = got-item items i x (omega arith) e
 
 -- one more, at its index
 pub items-more : {A B : Type 0} (f : A → B) (items : List A) (i : ℕ) (x : A) (y : B) (old to later : List B) → y ≡ f x → Some x ≡ slice_get items i
-    → to ≡ filled (map f (take i items)) old → later ≡ filled_from i (y ∷ []) to → later ≡ filled (map f (take (i + 1) items)) old
+    → to ≡ filled_front (map f (take i items)) old → later ≡ filled_from i (y ∷ []) to → later ≡ filled_front (map f (take (i + 1) items)) old
 items-more f items i x y old to later is at same puts =
     let next = next-item f items i x at in
     puts ∙ ap (λ z. filled_from i (z ∷ []) to) is ∙ ap (filled_from i (f x ∷ [])) same
-    ∙ ap (λ n. filled_from n (f x ∷ []) (filled (map f (take i items)) old)) (sym next.1)
-    ∙ filled-behind (map f (take i items)) (f x ∷ []) old ∙ ap (λ l. filled l old) (sym next.0)
+    ∙ ap (λ n. filled_from n (f x ∷ []) (filled_front (map f (take i items)) old)) (sym next.1)
+    ∙ filled-behind (map f (take i items)) (f x ∷ []) old ∙ ap (λ l. filled_front l old) (sym next.0)
 
 -- all of them
 pub items-all : {A B : Type 0} (f : A → B) (items : List A) (i : ℕ) (old to : List B) → i ≤ length items → None ≡ slice_get items i
-    → to ≡ filled (map f (take i items)) old → (to ≡ filled (map f items) old) × (i ≡ length items)
+    → to ≡ filled_front (map f (take i items)) old → (to ≡ filled_front (map f items) old) × (i ≡ length items)
 items-all f items i old to few at same =
     let past = no-more-items items i at in
-    (same ∙ ap (λ l. filled (map f l) old) (take_all i items past), omega arith)
+    (same ∙ ap (λ l. filled_front (map f l) old) (take_all i items past), omega arith)
 
 -- the same from an index on
 pub fill-more : {A B : Type 0} (f : A → B) (items : List A) (at i : ℕ) (x : A) (y : B) (old to : List B) → i < length items → x ≡ get_or items i x → y ≡ f x

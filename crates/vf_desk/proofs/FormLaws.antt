@@ -9,7 +9,7 @@ use Rattle.std.proofs.Common.{arith}
 use Rattle.rh_defs.specs.Forms.{is_anchor, is_number}
 use Rattle.rh_defs.specs.Grammar.{Anchor, Size}
 use Rattle.rh_defs.specs.Range.{is_of}
-use Rattle.vf_desk.specs.Forms.{anchor_in, name_in}
+use Rattle.vf_desk.specs.Forms.{anchor_in, name_read}
 
 -- what isn't in range is no command
 pub out-of-form : (c : Command) → in_range c ≡ false → None ≡ in_form c
@@ -20,7 +20,7 @@ pub in-its-form : (c : Command) → in_range c ≡ true → Some c ≡ in_form c
 in-its-form c good = ap (λ (b : Bool). if b then Some c else None) (sym good)
 
 -- bytes that are no name
-pub no-name : (bytes : List ℕ) → None ≡ name_in bytes → is_name bytes ≡ false
+pub no-name : (bytes : List ℕ) → None ≡ name_read bytes → is_name bytes ≡ false
 no-name bytes none = go (is_name bytes) none
   where
     go : (b : Bool) → None ≡ (if b then Some bytes else None) → b ≡ false
@@ -28,7 +28,7 @@ no-name bytes none = go (is_name bytes) none
     go true none = absurd (let bad : None ≡ Some bytes = none in cc)
 
 -- bytes that are a name
-pub a-name : (bytes name : List ℕ) → Some name ≡ name_in bytes → (name ≡ bytes) × (is_name bytes ≡ true)
+pub a-name : (bytes name : List ℕ) → Some name ≡ name_read bytes → (name ≡ bytes) × (is_name bytes ≡ true)
 a-name bytes name some = go (is_name bytes) refl some
   where
     go : (b : Bool) → is_name bytes ≡ b → Some name ≡ (if b then Some bytes else None) → (name ≡ bytes) × (is_name bytes ≡ true)

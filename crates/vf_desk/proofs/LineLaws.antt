@@ -1,6 +1,6 @@
 -- Lines on a desk that is open, and on one that isn't.
 use Rattle.vf_desk.proofs.Common.{◌≡◌, ℕ, Bool, true, false, List, length, Option, Some, None, refl, sym, ap, subst, ◌∙◌, nat_le, if◌then◌else◌, Console}
-use Rattle.vf_desk.proofs.Common.{Desk, Station, Takes, SeenBy, console_in, closed}
+use Rattle.vf_desk.proofs.Common.{Desk, Station, TakesLine, SeenBy, console_in, closed_status}
 use Rattle.rh_console.specs.Console.{Prints}
 use Rattle.rh_console.specs.Said.{said_text}
 use Rattle.rh_defs.specs.Order.{IsReordered}
@@ -10,7 +10,8 @@ use Rattle.vf_desk.specs.Seen.{files_in}
 use Rattle.vf_desk.specs.Status.{short}
 
 -- a line on a desk that isn't open
-takes_none : (line : List ℕ) (console : Option Console) → console ≡ None → (held : Option Station) → console_in held ≡ console → Takes line held held closed
+takes_none : (line : List ℕ) (console : Option Console) → console ≡ None → (held : Option Station) → console_in held ≡ console
+    → TakesLine line held held closed_status
 takes_none line console none held is = record {
   status_is = λ s seen. status s (unseen s seen);
   desk = λ s seen. after s seen (unseen s seen);
@@ -22,7 +23,7 @@ takes_none line console none held is = record {
     unseen : (s : Option Desk) → SeenBy (console_in held) s → SeenBy None s
     unseen s seen = subst (λ c. SeenBy c s) (is ∙ none) seen
 
-    status : (s : Option Desk) → SeenBy None s → closed ≡ line_status s
+    status : (s : Option Desk) → SeenBy None s → closed_status ≡ line_status s
     status None seen = refl
     status (Some d) seen = absurd seen
 
@@ -30,7 +31,7 @@ takes_none line console none held is = record {
     after None seen _ = seen
     after (Some d) seen shut = absurd shut
 
-pub takes-closed : {line : List ℕ} {held : Option Station} → console_in held ≡ None → Takes line held held closed
+pub takes-closed : {line : List ℕ} {held : Option Station} → console_in held ≡ None → TakesLine line held held closed_status
 takes-closed {line} {held} none = takes_none line None refl held none
 
 -- a line that the console has taken
@@ -38,7 +39,7 @@ pub takes-open : {line : List ℕ} (old new : Option Station) (console now : Con
     → files_in new ≡ files_in old
     → ((d : Desk) → IsReordered d console.world.desk → IsReordered (line_desk d line) now.world.desk)
     → ((d : Desk) → IsReordered d console.world.desk → said_text (line_desk d line) now.said ≡ line_text d line)
-    → Takes line old new 0
+    → TakesLine line old new 0
 takes-open {line} old new console now was_open after files desk said = record {
   status_is = λ s seen. status s (was s seen);
   desk = λ s seen. subst (λ c. SeenBy c (desk_after s line)) (sym after) (seen_after s (was s seen));
@@ -101,7 +102,7 @@ replies-open {held} {console} {before} {after} {was} {now} {status} is fills = r
   stays = λ seen. absurd (subst (λ h. SeenBy h None) is seen);
 }
 
-pub replies-closed : {held : Option Station} {before : List ℕ} {was : ℕ} → console_in held ≡ None → Replies held before before was was closed
+pub replies-closed : {held : Option Station} {before : List ℕ} {was : ℕ} → console_in held ≡ None → Replies held before before was was closed_status
 replies-closed is = record {
   fills = λ d seen. absurd (subst (λ h. SeenBy h (Some d)) is seen);
   stays = λ _. record { status_is = refl; bytes = refl; length_is = refl };

@@ -1,6 +1,6 @@
 -- The message that a task's next poll would take, on each desk that a handle may be seen as.
 use Rattle.vf_desk.proofs.Common.{◌≡◌, ℕ, List, true, false, Option, Some, None, Result, Ok, Err, refl, sym, ap, subst, ◌∙◌, MatchResult, if◌then◌else◌}
-use Rattle.vf_desk.proofs.Common.{◌>>=◌, Desk, Task, named, is_name, Console, SeenBy, closed}
+use Rattle.vf_desk.proofs.Common.{◌>>=◌, Desk, Task, named, is_name, Console, SeenBy, closed_status}
 use Rattle.std.specs.Option.{option_map}
 use Rattle.rh_defs.specs.declared.message.EventCode.{EventCode}
 use Rattle.rh_defs.specs.declared.refusal.Refusal.{Refusal}
@@ -11,7 +11,7 @@ use Rattle.rh_defs.specs.Post.{Post, post_poll}
 use Rattle.rh_defs.proofs.Orders.{AnswerAlike, post_poll-alike}
 use Rattle.rh_tasks.specs.Sights.{next_message}
 use Rattle.rh_wimp.specs.Items.{with_message}
-use Rattle.vf_desk.specs.Next.{code_or, next_in, next_on, parcel_in, status_of_next}
+use Rattle.vf_desk.specs.Next.{code_or, next_in, next_on, next_parcel, status_of_next}
 use Rattle.vf_desk.specs.Status.{bad_argument, refusal_number}
 
 same-answer : {B : Type 0} {x y : Post × B} → AnswerAlike x y → y.1 ≡ x.1
@@ -45,10 +45,10 @@ next-bad {held} {console} is s name seen bad = go s (subst (λ h. SeenBy h s) is
     go None seen = absurd seen
     go (Some d) seen = ap (λ b. if b then next_on (next_message d name) else Err bad_argument) bad
 
-pub next-closed : {held : Option Console} → held ≡ None → (s : Option Desk) (name : List ℕ) → SeenBy held s → next_in s name ≡ Err closed
+pub next-closed : {held : Option Console} → held ≡ None → (s : Option Desk) (name : List ℕ) → SeenBy held s → next_in s name ≡ Err closed_status
 next-closed {held} is s name seen = go s (subst (λ h. SeenBy h s) is seen)
   where
-    go : (s : Option Desk) → SeenBy None s → next_in s name ≡ Err closed
+    go : (s : Option Desk) → SeenBy None s → next_in s name ≡ Err closed_status
     go None seen = refl
     go (Some d) seen = absurd seen
 
@@ -63,7 +63,7 @@ Answers next answer before after =
 pub record Told (next : Granted (Option Parcel)) (status was code : ℕ) (before after : List ℕ) : Type 0 where
   pub status_is : status ≡ status_of_next (next_on next)
   pub code_is : code ≡ code_or (next_on next) was
-  pub block : after ≡ with_message (parcel_in (next_on next)) before
+  pub block : after ≡ with_message (next_parcel (next_on next)) before
 
 pub told-some : (next : Granted (Option Parcel)) (was : ℕ) {answer : Result (Option EventCode) Refusal} {code : EventCode} {before after : List ℕ}
     → Answers next answer before after → answer ≡ Ok (Some code) → Told next 0 was (code_number code) before after

@@ -1,6 +1,7 @@
 -- The segments of a C heap in a slice, some at a time.
 use Rattle.vf_desk.proofs.Common.{◌≡◌, ℕ, zero, suc, ◌+◌, ◌-◌, ◌≤◌, ◌<◌, Bool, true, false, cond, List, [], ◌∷◌, ◌++◌, length, take, drop, Option, Some, None}
-use Rattle.vf_desk.proofs.Common.{Ok, refl, sym, ap, subst, ◌∙◌, arith, append_assoc, append-nil, length-append, ◌==◌, slice_get, map, find, tests, filled}
+use Rattle.vf_desk.proofs.Common.{Ok, refl, sym, ap, subst, ◌∙◌, arith, append_assoc, append-nil, length-append, ◌==◌, slice_get, map, find, tests}
+use Rattle.vf_desk.proofs.Common.{filled_front}
 use Rattle.vf_desk.proofs.Common.{◌>>=◌, Desk, Task, named, filled_from}
 use Rattle.std.proofs.lemmas.List.{take-append-drop}
 use Rattle.std.specs.Option.{option_map}
@@ -17,9 +18,9 @@ use Rattle.rh_defs.specs.Questions.{Segments, segment_item, segment_items, segme
 use Rattle.rh_defs.proofs.Cuts.{total-append}
 use Rattle.rh_heap.specs.Listed.{from_cut}
 use Rattle.rh_tasks.specs.Lists.{segment_items_at}
-use Rattle.rh_script.specs.Named.{item_end, segments_of_named, slot_in}
+use Rattle.rh_script.specs.Named.{item_end, segments_of_named, slot_or_empty}
 use Rattle.rh_script.proofs.SegmentLemmas.{AllSized, sized}
-use Rattle.vf_desk.specs.Items.{listed_with, segment_of, segments_in}
+use Rattle.vf_desk.specs.Items.{listed_with, as_segment, segments_listed}
 use Rattle.vf_desk.specs.declared.items.VfSegment.{VfSegment}
 use Rattle.vf_desk.proofs.FillLaws.{filled-behind, filled-none, map-append}
 use Rattle.vf_desk.proofs.ListLaws.{map-length}
@@ -104,7 +105,7 @@ few-sized (g ∷ gs) all = omega (arith, few-sized gs all.1, all.0)
 
 -- segments as structs, from the heap's first place on
 abbrev pub shown : List Segment → List VfSegment
-shown segments = map segment_of (segment_items_from (heap_start + first_place) segments)
+shown segments = map as_segment (segment_items_from (heap_start + first_place) segments)
 
 -- the segments below a place were put into the slice, and counted
 pub record Walked (segments : List Segment) (place count : ℕ) (old now : List VfSegment) : Type 0 where
@@ -113,7 +114,7 @@ pub record Walked (segments : List Segment) (place count : ℕ) (old now : List 
   pub whole : before ++ after ≡ segments
   pub stands : place ≡ place_after before
   pub counted : count ≡ length before
-  pub filled_is : now ≡ filled (shown before) old
+  pub filled_is : now ≡ filled_front (shown before) old
 
 pub walk-none : (segments : List Segment) (old : List VfSegment) → Walked segments first_place 0 old old
 walk-none segments old =
@@ -163,7 +164,7 @@ module _ (h : Heap) (place count : ℕ) (old now : List VfSegment) (is : IsHeap 
         record { low = omega (arith, ends); within = omega (arith, ends, sum1, sum2, sum3, sum4, w.stands, is.fits) }
 
     -- the segments below the next place were put there
-    pub batch-more : (next : ℕ) (later : List VfSegment) → next + heap_start ≡ item_end last → later ≡ filled_from count (map segment_of items) now
+    pub batch-more : (next : ℕ) (later : List VfSegment) → next + heap_start ≡ item_end last → later ≡ filled_from count (map as_segment items) now
         → Walked h.segments next (count + length items) old later
     batch-more next later q puts =
         let front = take SEGMENTS_AT_ONCE w.after in
@@ -171,13 +172,13 @@ module _ (h : Heap) (place count : ℕ) (old now : List VfSegment) (is : IsHeap 
         let these : items ≡ segment_items_from (heap_start + place) front = there items e in
         let ends = last-ends (heap_start + place) front last parts-sized.0 last-here in
         let place_is : heap_start + first_place + total size_of w.before ≡ heap_start + place = omega (arith, w.stands) in
-        let more : shown (w.before ++ front) ≡ shown w.before ++ map segment_of items =
-        ap (map segment_of) (items-append (heap_start + first_place) w.before front
+        let more : shown (w.before ++ front) ≡ shown w.before ++ map as_segment items =
+        ap (map as_segment) (items-append (heap_start + first_place) w.before front
         ∙ ap (λ n. segment_items_from (heap_start + first_place) w.before ++ segment_items_from n front) place_is
         ∙ ap (λ l. segment_items_from (heap_start + first_place) w.before ++ l) (sym these))
-        ∙ map-append segment_of (segment_items_from (heap_start + first_place) w.before) items in
+        ∙ map-append as_segment (segment_items_from (heap_start + first_place) w.before) items in
         let long : length (shown w.before) ≡ count =
-        map-length segment_of (segment_items_from (heap_start + first_place) w.before) ∙ items-length (heap_start + first_place) w.before ∙ sym w.counted in
+        map-length as_segment (segment_items_from (heap_start + first_place) w.before) ∙ items-length (heap_start + first_place) w.before ∙ sym w.counted in
         let many : length items ≡ length front = ap length these ∙ items-length (heap_start + place) front in
         record {
           before = w.before ++ front;
@@ -185,9 +186,9 @@ module _ (h : Heap) (place count : ℕ) (old now : List VfSegment) (is : IsHeap 
           whole = append_assoc w.before front back ∙ (ap (λ gs. w.before ++ gs) (take-append-drop SEGMENTS_AT_ONCE w.after) ∙ w.whole);
           stands = omega (arith, ends, q, w.stands, total-append size_of w.before front);
           counted = omega (arith, w.counted, many, length-append w.before front);
-          filled_is = puts ∙ ap (λ n. filled_from n (map segment_of items) now) (sym long)
-              ∙ ap (filled_from (length (shown w.before)) (map segment_of items)) w.filled_is
-              ∙ filled-behind (shown w.before) (map segment_of items) old ∙ ap (λ l. filled l old) (sym more);
+          filled_is = puts ∙ ap (λ n. filled_from n (map as_segment items) now) (sym long)
+              ∙ ap (filled_from (length (shown w.before)) (map as_segment items)) w.filled_is
+              ∙ filled-behind (shown w.before) (map as_segment items) old ∙ ap (λ l. filled_front l old) (sym more);
         }
 
   all-walked : (p : ℕ) (before after : List Segment) → before ++ after ≡ h.segments → [] ≡ segment_items_from p (take SEGMENTS_AT_ONCE after)
@@ -197,23 +198,23 @@ module _ (h : Heap) (place count : ℕ) (old now : List VfSegment) (is : IsHeap 
 
   -- all were put there where none stands at the place
   pub batch-none : [] ≡ segment_items_at place h
-      → (now ≡ filled (shown h.segments) old) × (count ≡ length (segment_items_from (heap_start + first_place) h.segments))
+      → (now ≡ filled_front (shown h.segments) old) × (count ≡ length (segment_items_from (heap_start + first_place) h.segments))
   batch-none none =
       let all : w.before ≡ h.segments = all-walked (heap_start + place) w.before w.after w.whole (there [] none) in (
-        w.filled_is ∙ ap (λ gs. filled (shown gs) old) all,
+        w.filled_is ∙ ap (λ gs. filled_front (shown gs) old) all,
         w.counted ∙ ap length all ∙ sym (items-length (heap_start + first_place) h.segments),
       )
 
 -- ---- what is listed of a task's C heap, or where there is no task
 
 listed_segments : (o : Option Task)
-    → segments_in (listed_with (found_or o NoName
+    → segments_listed (listed_with (found_or o NoName
     >>= λ t. Ok (numbers.HeapSums t.slot.heap.end (largest t.slot.heap) (free_bytes t.slot.heap), Segments (segment_items t.slot))))
-    ≡ segment_items_from (heap_start + first_place) (slot_in o).heap.segments
+    ≡ segment_items_from (heap_start + first_place) (slot_or_empty o).heap.segments
 unfolding ◌>>=◌ found_or
 listed_segments None = refl
 listed_segments (Some t) = refl
 
-pub segments-listed : (d : Desk) (name : List ℕ) → segments_in (listed_with (heap d name)) ≡ segments_of_named name d
+pub segments-listed : (d : Desk) (name : List ℕ) → segments_listed (listed_with (heap d name)) ≡ segments_of_named name d
 unfolding heap named
 segments-listed d name = listed_segments (find (has_name name) d.tasks)

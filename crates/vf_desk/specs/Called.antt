@@ -16,8 +16,8 @@ use Rattle.vf_desk.specs.declared.called.Called.{Called}
 use Rattle.vf_desk.specs.declared.called.Called.TheVariants.{Closed, BadArgument, Said}
 use Rattle.vf_desk.specs.declared.desk.VfDesk.{VfDesk}
 use Rattle.vf_desk.specs.declared.items.VfHeapSums.{VfHeapSums}
-use Rattle.vf_desk.specs.Seen.{IsSeen, KeepsRest}
-use Rattle.vf_desk.specs.Status.{bad_argument, closed, refusal_number}
+use Rattle.vf_desk.specs.Seen.{IsSeenDesk, KeepsRest}
+use Rattle.vf_desk.specs.Status.{bad_argument, closed_status, refusal_number}
 
 -- a command whose numbers, names and bytes are of their forms, or none
 abbrev pub in_form : Command → Option Command
@@ -41,16 +41,16 @@ desk_by (Some d) command = Some (desk_with command d)
 
 -- its status
 abbrev pub status_of : Called → ℕ
-status_of Closed = closed
+status_of Closed = closed_status
 status_of BadArgument = bad_argument
 status_of (Said (reply.Refused refusal)) = refusal_number refusal
 status_of (Said _) = 0
 
 -- A call does a command: its status is that of the step on each desk that the handle may be seen as, and so is the desk
 -- afterwards. The last reply stays, and with any status but 0 all that the handle has: the desk, its bytes and areas.
-pub record Does (command : Option Command) (old new : VfDesk) (status : ℕ) : Type 0 where
-  pub status_is : (s : Option Desk) → IsSeen old s → status ≡ status_of (called s command)
-  pub desk : (s : Option Desk) → IsSeen old s → IsSeen new (desk_by s command)
+pub record DoesCalled (command : Option Command) (old new : VfDesk) (status : ℕ) : Type 0 where
+  pub status_is : (s : Option Desk) → IsSeenDesk old s → status ≡ status_of (called s command)
+  pub desk : (s : Option Desk) → IsSeenDesk old s → IsSeenDesk new (desk_by s command)
   pub rest : KeepsRest old.handle.station new.handle.station
   pub refused : status ≢ 0 → new.handle.station ≡ old.handle.station
 
@@ -71,7 +71,7 @@ pub record Steps (command : Option Command) (old new : Shown) (said : Called) : 
 -- A call asks a question: its status is that of the answer on each desk that the handle may be seen as, and all that
 -- the handle has stays.
 pub record Asks (q : Question) (old new : VfDesk) (status : ℕ) : Type 0 where
-  pub status_is : (s : Option Desk) → IsSeen old s → status ≡ status_of (called s (in_form (command.Ask q)))
+  pub status_is : (s : Option Desk) → IsSeenDesk old s → status ≡ status_of (called s (in_form (command.Ask q)))
   pub same : new.handle.station ≡ old.handle.station
 
 -- ---- words and numbers of a reply, or what was there before

@@ -45,12 +45,12 @@ event_with code action mine yours deed = record {
 }
 
 -- a poll's reply as an event, or what was there before
-abbrev pub event_of : Reply → VfEvent → VfEvent
-event_of reply.NoEvent old = event_with 0 0 0 0 (deed_with 0 0 0 0)
-event_of (reply.Event code action mine yours out) old =
+abbrev pub event_told : Reply → VfEvent → VfEvent
+event_told reply.NoEvent old = event_with 0 0 0 0 (deed_with 0 0 0 0)
+event_told (reply.Event code action mine yours out) old =
     event_with (code_number code) (action_number action) mine yours (deed_of out)
-event_of _ old = old
+event_told _ old = old
 
 abbrev pub event_or : Called → VfEvent → VfEvent
-event_or (Said r) old = event_of r old
+event_or (Said r) old = event_told r old
 event_or _ old = old

@@ -8,8 +8,8 @@ use Rattle.rh_defs.specs.Forms.{is_name, is_anchor}
 use Rattle.vf_desk.specs.Called.{in_form}
 
 -- a name, if these bytes are one
-abbrev pub name_in : List ℕ → Option (List ℕ)
-name_in name = if is_name name then Some name else None
+abbrev pub name_read : List ℕ → Option (List ℕ)
+name_read name = if is_name name then Some name else None
 
 -- an anchor, if a slot has it
 abbrev pub anchor_in : ℕ → Option ℕ

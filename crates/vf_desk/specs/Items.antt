@@ -20,12 +20,12 @@ use Rattle.vf_desk.specs.declared.items.VfSegment.{VfSegment}
 
 -- ---- items
 
-abbrev pub block_of : BlockItem → VfBlock
-block_of b = record { anchor = b.anchor; address = b.address; size = b.size }
+abbrev pub as_block : BlockItem → VfBlock
+as_block b = record { anchor = b.anchor; address = b.address; size = b.size }
 
-abbrev pub segment_of : SegmentItem → VfSegment
-segment_of (segment.Used address size) = record { address = address; size = size; used = true }
-segment_of (segment.Hole address size) = record { address = address; size = size; used = false }
+abbrev pub as_segment : SegmentItem → VfSegment
+as_segment (segment.Used address size) = record { address = address; size = size; used = true }
+as_segment (segment.Hole address size) = record { address = address; size = size; used = false }
 
 abbrev pub state_number : State → ℕ
 state_number state.Open = 0
@@ -39,12 +39,12 @@ abbrev pub record_of : RecordItem → VfRecord
 record_of r = record { state = state_number r.state; id = r.id; count = r.count }
 
 -- a name with zeros behind it, 13 bytes in all
-abbrev pub name_bytes : List ℕ → List ℕ
-name_bytes name = name ++ replicate (13 - length name) 0
+abbrev pub padded_name : List ℕ → List ℕ
+padded_name name = name ++ replicate (13 - length name) 0
 
-abbrev pub area_of : AreaItem → VfArea
-area_of (item.Area number pages) = record { number = number; pages = pages; name = name_bytes [] }
-area_of (item.Slot name pages) = record { number = 0; pages = pages; name = name_bytes name }
+abbrev pub as_area : AreaItem → VfArea
+as_area (item.Area number pages) = record { number = number; pages = pages; name = padded_name [] }
+as_area (item.Slot name pages) = record { number = 0; pages = pages; name = padded_name name }
 
 -- ---- the list that a question is answered with
 
@@ -54,22 +54,22 @@ listed_with (Ok told) = told.1
 listed_with (Err refusal) = Nothing
 
 -- what is listed for a question, where the desk is open and seen as this one, or closed
-abbrev pub listed : Option Desk → Question → Listed
-listed None q = Nothing
-listed (Some d) q = if can_be_asked q then listed_with (asked d q) else Nothing
+abbrev pub list_asked : Option Desk → Question → Listed
+list_asked None q = Nothing
+list_asked (Some d) q = if can_be_asked q then listed_with (asked d q) else Nothing
 
 -- the list of each kind, empty where an answer has another
-abbrev pub bytes_in : Listed → List ℕ
-bytes_in (Bytes bytes) = bytes
-bytes_in _ = []
+abbrev pub bytes_listed : Listed → List ℕ
+bytes_listed (Bytes bytes) = bytes
+bytes_listed _ = []
 
-abbrev pub blocks_in : Listed → List BlockItem
-blocks_in (Blocks blocks) = blocks
-blocks_in _ = []
+abbrev pub blocks_listed : Listed → List BlockItem
+blocks_listed (Blocks blocks) = blocks
+blocks_listed _ = []
 
-abbrev pub segments_in : Listed → List SegmentItem
-segments_in (Segments segments) = segments
-segments_in _ = []
+abbrev pub segments_listed : Listed → List SegmentItem
+segments_listed (Segments segments) = segments
+segments_listed _ = []
 
 abbrev pub outgoing_in : Listed → List RecordItem
 outgoing_in (Records outgoing incoming) = outgoing
@@ -79,6 +79,6 @@ abbrev pub incoming_in : Listed → List RecordItem
 incoming_in (Records outgoing incoming) = incoming
 incoming_in _ = []
 
-abbrev pub areas_in : Listed → List AreaItem
-areas_in (Areas areas) = areas
-areas_in _ = []
+abbrev pub areas_listed : Listed → List AreaItem
+areas_listed (Areas areas) = areas
+areas_listed _ = []

@@ -7,7 +7,7 @@ use Rattle.rh_defs.specs.Desk.{Desk}
 use Rattle.rh_defs.specs.Script.{line_desk, line_text}
 use Rattle.vf_desk.specs.declared.station.Station.{Station}
 use Rattle.vf_desk.specs.Seen.{SeenBy, console_in, files_in}
-use Rattle.vf_desk.specs.Status.{closed, short}
+use Rattle.vf_desk.specs.Status.{closed_status, short}
 
 -- the desk after a line, where it is open and seen as this one, or closed
 abbrev pub desk_after : Option Desk → List ℕ → Option Desk
@@ -16,7 +16,7 @@ desk_after (Some d) line = Some (line_desk d line)
 
 -- whether a line is taken
 abbrev pub line_status : Option Desk → ℕ
-line_status None = closed
+line_status None = closed_status
 line_status (Some d) = 0
 
 -- the text of the reply that is kept, over a desk
@@ -25,7 +25,7 @@ kept_text None d = []
 kept_text (Some console) d = said_text d console.said
 
 -- A line is taken: the desk is the one after it, and its reply is kept. Where the desk isn't open all stays.
-pub record Takes (line : List ℕ) (old new : Option Station) (status : ℕ) : Type 0 where
+pub record TakesLine (line : List ℕ) (old new : Option Station) (status : ℕ) : Type 0 where
   pub status_is : (s : Option Desk) → SeenBy (console_in old) s → status ≡ line_status s
   pub desk : (s : Option Desk) → SeenBy (console_in old) s → SeenBy (console_in new) (desk_after s line)
   pub kept : (d : Desk) → SeenBy (console_in old) (Some d) →
@@ -42,7 +42,7 @@ pub record Fills (text before after : List ℕ) (was now status : ℕ) : Type 0 
 
 -- nothing is told of a desk that isn't open
 pub record Stays (before after : List ℕ) (was now status : ℕ) : Type 0 where
-  pub status_is : status ≡ closed
+  pub status_is : status ≡ closed_status
   pub bytes : after ≡ before
   pub length_is : now ≡ was
 

@@ -5,7 +5,7 @@ use Rattle.rh_defs.specs.Desk.{Desk}
 use Rattle.rh_defs.specs.Forms.{is_name}
 use Rattle.rh_defs.specs.Messages.{Parcel, code_number}
 use Rattle.rh_tasks.specs.Sights.{next_message}
-use Rattle.vf_desk.specs.Status.{bad_argument, closed, refusal_number}
+use Rattle.vf_desk.specs.Status.{bad_argument, closed_status, refusal_number}
 
 -- a message, or none; or the status of why that isn't told
 abbrev pub Next : Type 0
@@ -17,7 +17,7 @@ next_on (Err refusal) = Err (refusal_number refusal)
 
 -- where the desk is open and seen as this one, or closed
 abbrev pub next_in : Option Desk → List ℕ → Next
-next_in None name = Err closed
+next_in None name = Err closed_status
 next_in (Some d) name = if is_name name then next_on (next_message d name) else Err bad_argument
 
 abbrev pub status_of_next : Next → ℕ
@@ -25,9 +25,9 @@ status_of_next (Ok found) = 0
 status_of_next (Err status) = status
 
 -- the message, if there is one
-abbrev pub parcel_in : Next → Option Parcel
-parcel_in (Ok found) = found
-parcel_in (Err status) = None
+abbrev pub next_parcel : Next → Option Parcel
+next_parcel (Ok found) = found
+next_parcel (Err status) = None
 
 -- the message's code, 0 where there is none, or what was there before
 abbrev pub code_or : Next → ℕ → ℕ

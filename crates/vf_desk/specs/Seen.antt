@@ -35,5 +35,5 @@ SeenBy None None = Unit {0}
 SeenBy (Some console) (Some d) = IsReordered d console.world.desk
 SeenBy _ _ = ⊥
 
-abbrev pub IsSeen : VfDesk → Option Desk → Type 0
-IsSeen v s = SeenBy (console_in v.handle.station) s
+abbrev pub IsSeenDesk : VfDesk → Option Desk → Type 0
+IsSeenDesk v s = SeenBy (console_in v.handle.station) s

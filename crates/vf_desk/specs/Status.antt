@@ -39,8 +39,8 @@ abbrev pub short : ℕ
 short = 34
 
 -- the desk isn't open
-abbrev pub closed : ℕ
-closed = 43
+abbrev pub closed_status : ℕ
+closed_status = 43
 
 -- the desk is open already
 abbrev pub already_open : ℕ

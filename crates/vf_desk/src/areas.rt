@@ -2,8 +2,8 @@
 ghost use Rattle.std.specs.Prelude.{◌≡◌, Option};
 ghost use Rattle.rh_defs.specs.Desk.{Desk};
 ghost use Rattle.rh_defs.specs.declared.command.Command.TheVariants as Command;
-ghost use Rattle.vf_desk.specs.Called.{Does, called, in_form, number_or};
-ghost use Rattle.vf_desk.specs.Seen.{IsSeen};
+ghost use Rattle.vf_desk.specs.Called.{DoesCalled, called, in_form, number_or};
+ghost use Rattle.vf_desk.specs.Seen.{IsSeenDesk};
 
 use crate::desk::VfDesk;
 use crate::forms::checked;
@@ -19,8 +19,8 @@ pub extern "C" fn vf_desk_area(
     delta: i32,
     bytes: &mut u32,
 ) -> u32
-    ensures does { Does (in_form (Command.Area number delta)) desk.old desk.new result }
-    ensures bytes { (s : Option Desk) → IsSeen desk.old s →
+    ensures does { DoesCalled (in_form (Command.Area number delta)) desk.old desk.new result }
+    ensures bytes { (s : Option Desk) → IsSeenDesk desk.old s →
         bytes.new ≡ number_or (called s (in_form (Command.Area number delta))) bytes.old }
 {
     let command = checked(Command::Area { number, delta });
@@ -30,8 +30,8 @@ pub extern "C" fn vf_desk_area(
 /// Makes an area of no page, and of at most `most` pages, and tells its number. (OS_DynamicArea 0.)
 #[unsafe(no_mangle)]
 pub extern "C" fn vf_desk_make(alloc: Global, desk: &mut VfDesk, most: u32, number: &mut u32) -> u32
-    ensures does { Does (in_form (Command.Make most)) desk.old desk.new result }
-    ensures number { (s : Option Desk) → IsSeen desk.old s →
+    ensures does { DoesCalled (in_form (Command.Make most)) desk.old desk.new result }
+    ensures number { (s : Option Desk) → IsSeenDesk desk.old s →
         number.new ≡ number_or (called s (in_form (Command.Make most))) number.old }
 {
     let command = checked(Command::Make { most });
@@ -41,7 +41,7 @@ pub extern "C" fn vf_desk_make(alloc: Global, desk: &mut VfDesk, most: u32, numb
 /// Takes a made area away; its pages are free then. (OS_DynamicArea 1.)
 #[unsafe(no_mangle)]
 pub extern "C" fn vf_desk_remove(alloc: Global, desk: &mut VfDesk, number: u32) -> u32
-    ensures { Does (in_form (Command.Remove number)) desk.old desk.new result }
+    ensures { DoesCalled (in_form (Command.Remove number)) desk.old desk.new result }
 {
     let command = checked(Command::Remove { number });
     desk.step(alloc, command).status()
@@ -55,8 +55,8 @@ pub extern "C" fn vf_desk_rma_claim(
     size: u32,
     address: &mut u32,
 ) -> u32
-    ensures does { Does (in_form (Command.RmaClaim size)) desk.old desk.new result }
-    ensures address { (s : Option Desk) → IsSeen desk.old s →
+    ensures does { DoesCalled (in_form (Command.RmaClaim size)) desk.old desk.new result }
+    ensures address { (s : Option Desk) → IsSeenDesk desk.old s →
         address.new ≡ number_or (called s (in_form (Command.RmaClaim size))) address.old }
 {
     let command = checked(Command::RmaClaim { size });
@@ -66,7 +66,7 @@ pub extern "C" fn vf_desk_rma_claim(
 /// Frees the block at an address of the module area. (OS_Module 7.)
 #[unsafe(no_mangle)]
 pub extern "C" fn vf_desk_rma_free(alloc: Global, desk: &mut VfDesk, address: u32) -> u32
-    ensures { Does (in_form (Command.RmaFree address)) desk.old desk.new result }
+    ensures { DoesCalled (in_form (Command.RmaFree address)) desk.old desk.new result }
 {
     let command = checked(Command::RmaFree { address });
     desk.step(alloc, command).status()
@@ -81,8 +81,8 @@ pub extern "C" fn vf_desk_rma_resize(
     delta: i32,
     moved_to: &mut u32,
 ) -> u32
-    ensures does { Does (in_form (Command.RmaResize address delta)) desk.old desk.new result }
-    ensures address { (s : Option Desk) → IsSeen desk.old s →
+    ensures does { DoesCalled (in_form (Command.RmaResize address delta)) desk.old desk.new result }
+    ensures address { (s : Option Desk) → IsSeenDesk desk.old s →
         moved_to.new ≡ number_or (called s (in_form (Command.RmaResize address delta))) moved_to.old }
 {
     let command = checked(Command::RmaResize { address, delta });

@@ -2,8 +2,8 @@
 ghost use Rattle.std.specs.Prelude.{◌≡◌, Option};
 ghost use Rattle.rh_defs.specs.Desk.{Desk};
 ghost use Rattle.rh_defs.specs.declared.command.Command.TheVariants as Command;
-ghost use Rattle.vf_desk.specs.Called.{Does, called, in_form, number_or, was_or};
-ghost use Rattle.vf_desk.specs.Seen.{IsSeen};
+ghost use Rattle.vf_desk.specs.Called.{DoesCalled, called, in_form, number_or, was_or};
+ghost use Rattle.vf_desk.specs.Seen.{IsSeenDesk};
 
 use crate::desk::VfDesk;
 use crate::forms;
@@ -18,8 +18,8 @@ pub extern "C" fn vf_desk_claim(
     size: u32,
     address: &mut u32,
 ) -> u32
-    ensures does { Does (in_form (Command.Claim name.now size)) desk.old desk.new result }
-    ensures address { (s : Option Desk) → IsSeen desk.old s →
+    ensures does { DoesCalled (in_form (Command.Claim name.now size)) desk.old desk.new result }
+    ensures address { (s : Option Desk) → IsSeenDesk desk.old s →
         address.new ≡ number_or (called s (in_form (Command.Claim name.now size))) address.old }
 {
     desk.step(alloc, forms::claim(name, size)).told(address)
@@ -33,7 +33,7 @@ pub extern "C" fn vf_desk_release(
     name: &[u8],
     address: u32,
 ) -> u32
-    ensures { Does (in_form (Command.Release name.now address)) desk.old desk.new result }
+    ensures { DoesCalled (in_form (Command.Release name.now address)) desk.old desk.new result }
 {
     desk.step(alloc, forms::release(name, address)).status()
 }
@@ -48,8 +48,8 @@ pub extern "C" fn vf_desk_resize(
     delta: i32,
     moved_to: &mut u32,
 ) -> u32
-    ensures does { Does (in_form (Command.Resize name.now address delta)) desk.old desk.new result }
-    ensures address { (s : Option Desk) → IsSeen desk.old s →
+    ensures does { DoesCalled (in_form (Command.Resize name.now address delta)) desk.old desk.new result }
+    ensures address { (s : Option Desk) → IsSeenDesk desk.old s →
         moved_to.new ≡ number_or (called s (in_form (Command.Resize name.now address delta))) moved_to.old }
 {
     desk.step(alloc, forms::resize(name, address, delta))
@@ -65,8 +65,8 @@ pub extern "C" fn vf_desk_budge(
     on: bool,
     was: &mut bool,
 ) -> u32
-    ensures does { Does (in_form (Command.Budge name.now on)) desk.old desk.new result }
-    ensures was { (s : Option Desk) → IsSeen desk.old s →
+    ensures does { DoesCalled (in_form (Command.Budge name.now on)) desk.old desk.new result }
+    ensures was { (s : Option Desk) → IsSeenDesk desk.old s →
         was.new ≡ was_or (called s (in_form (Command.Budge name.now on))) was.old }
 {
     desk.step(alloc, forms::budge(name, on)).told_was(was)

@@ -2,8 +2,8 @@
 ghost use Rattle.std.specs.Prelude.{◌≡◌, Option};
 ghost use Rattle.rh_defs.specs.Desk.{Desk};
 ghost use Rattle.rh_defs.specs.declared.command.Command.TheVariants as Command;
-ghost use Rattle.vf_desk.specs.Called.{Does, called, in_form, number_or};
-ghost use Rattle.vf_desk.specs.Seen.{IsSeen};
+ghost use Rattle.vf_desk.specs.Called.{DoesCalled, called, in_form, number_or};
+ghost use Rattle.vf_desk.specs.Seen.{IsSeenDesk};
 
 use crate::desk::VfDesk;
 use crate::forms;
@@ -19,8 +19,8 @@ pub extern "C" fn vf_desk_alloc(
     size: u32,
     address: &mut u32,
 ) -> u32
-    ensures does { Does (in_form (Command.Alloc name.now anchor size)) desk.old desk.new result }
-    ensures address { (s : Option Desk) → IsSeen desk.old s →
+    ensures does { DoesCalled (in_form (Command.Alloc name.now anchor size)) desk.old desk.new result }
+    ensures address { (s : Option Desk) → IsSeenDesk desk.old s →
         address.new ≡ number_or (called s (in_form (Command.Alloc name.now anchor size))) address.old }
 {
     desk.step(alloc, forms::alloc(name, anchor, size))
@@ -37,8 +37,8 @@ pub extern "C" fn vf_desk_load(
     file: &[u8],
     address: &mut u32,
 ) -> u32
-    ensures does { Does (in_form (Command.Load name.now anchor file.now)) desk.old desk.new result }
-    ensures address { (s : Option Desk) → IsSeen desk.old s →
+    ensures does { DoesCalled (in_form (Command.Load name.now anchor file.now)) desk.old desk.new result }
+    ensures address { (s : Option Desk) → IsSeenDesk desk.old s →
         address.new ≡ number_or (called s (in_form (Command.Load name.now anchor file.now))) address.old }
 {
     desk.step(alloc, forms::load(name, anchor, file))
@@ -55,7 +55,7 @@ pub extern "C" fn vf_desk_put(
     offset: u32,
     from: &[u8],
 ) -> u32
-    ensures { Does (in_form (Command.Put name.now anchor offset from.now)) desk.old desk.new result }
+    ensures { DoesCalled (in_form (Command.Put name.now anchor offset from.now)) desk.old desk.new result }
 {
     desk.write(alloc, name, anchor, offset, from).status()
 }
@@ -63,7 +63,7 @@ pub extern "C" fn vf_desk_put(
 /// Takes the anchor's block away; those above it come down. (flex_free.)
 #[unsafe(no_mangle)]
 pub extern "C" fn vf_desk_free(alloc: Global, desk: &mut VfDesk, name: &[u8], anchor: u32) -> u32
-    ensures { Does (in_form (Command.Free name.now anchor)) desk.old desk.new result }
+    ensures { DoesCalled (in_form (Command.Free name.now anchor)) desk.old desk.new result }
 {
     desk.step(alloc, forms::free(name, anchor)).status()
 }
@@ -77,7 +77,7 @@ pub extern "C" fn vf_desk_extend(
     anchor: u32,
     size: u32,
 ) -> u32
-    ensures { Does (in_form (Command.Extend name.now anchor size)) desk.old desk.new result }
+    ensures { DoesCalled (in_form (Command.Extend name.now anchor size)) desk.old desk.new result }
 {
     desk.step(alloc, forms::extend(name, anchor, size)).status()
 }
@@ -92,7 +92,7 @@ pub extern "C" fn vf_desk_mid(
     offset: u32,
     by: i32,
 ) -> u32
-    ensures { Does (in_form (Command.Mid name.now anchor offset by)) desk.old desk.new result }
+    ensures { DoesCalled (in_form (Command.Mid name.now anchor offset by)) desk.old desk.new result }
 {
     desk.step(alloc, forms::mid(name, anchor, offset, by))
         .status()

@@ -6,7 +6,7 @@ ghost use Rattle.rh_defs.specs.Range.{in_range};
 ghost use Rattle.rh_defs.specs.declared.command.Command.TheVariants as Command;
 ghost use Rattle.rh_defs.specs.declared.question.Question.TheVariants as Question;
 ghost use Rattle.vf_desk.specs.Called.{in_form};
-ghost use Rattle.vf_desk.specs.Forms.{anchor_in, id_in, manner_at, name_in, task_form};
+ghost use Rattle.vf_desk.specs.Forms.{anchor_in, id_in, manner_at, name_read, task_form};
 
 use arrayvec::ArrayVec;
 use rh_defs::sizes::ANCHORS;
@@ -23,7 +23,7 @@ pub const TASK_FILE: u32 = 2;
 
 /// A name, if these bytes are one.
 pub fn name_of(bytes: &[u8]) -> Option<Name>
-    ensures { result ≡ name_in bytes.now }
+    ensures { result ≡ name_read bytes.now }
 {
     match Name::new(bytes) {
         Some(name) if name.is_valid() => Some(name),

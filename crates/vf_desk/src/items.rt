@@ -1,8 +1,8 @@
 //! The items of lists, as structs of C.
 ghost use Rattle.std.specs.Prelude.{◌≡◌, ◌≤◌, length};
 ghost use Rattle.rh_defs.specs.Questions.{in_item, out_item};
-ghost use Rattle.rh_tasks.specs.Items.{item_of};
-ghost use Rattle.vf_desk.specs.Items.{area_of, block_of, name_bytes, record_of, segment_of, state_number as state_number_of};
+ghost use Rattle.rh_tasks.specs.Items.{area_item_of};
+ghost use Rattle.vf_desk.specs.Items.{as_area, as_block, padded_name, record_of, as_segment, state_number as state_number_of};
 
 use rh_defs::{BlockItem, Incoming, Name, Outgoing, SegmentItem, State};
 use rh_tasks::AreaEntry;
@@ -84,7 +84,7 @@ pub trait Listed<T>: Copy {
 }
 
 impl Listed<BlockItem> for VfBlock {
-    ghost shown = { block_of };
+    ghost shown = { as_block };
 
     fn of(item: &BlockItem) -> VfBlock {
         VfBlock {
@@ -96,7 +96,7 @@ impl Listed<BlockItem> for VfBlock {
 }
 
 impl Listed<SegmentItem> for VfSegment {
-    ghost shown = { segment_of };
+    ghost shown = { as_segment };
 
     fn of(item: &SegmentItem) -> VfSegment {
         match *item {
@@ -178,7 +178,7 @@ impl Listed<Incoming> for VfRecord {
 
 /// A name in an array, with zeros behind it.
 fn name_array(name: &Name) -> [u8; 13]
-    ensures { result ≡ name_bytes name.now }
+    ensures { result ≡ padded_name name.now }
 {
     let letters = name.as_bytes();
     let mut bytes = [0; NAME_ROOM];
@@ -188,7 +188,7 @@ fn name_array(name: &Name) -> [u8; 13]
 
 /// An item of the list of areas, as a struct.
 pub fn listed_area(entry: AreaEntry<'_>) -> VfArea
-    ensures { result ≡ area_of (item_of entry.entry) }
+    ensures { result ≡ as_area (area_item_of entry.entry) }
 {
     match entry {
         AreaEntry::Area { number, pages } => VfArea {

@@ -3,7 +3,7 @@ ghost use Rattle.std.specs.Prelude.{◌≡◌, Some};
 ghost use Rattle.rh_defs.specs.Desk.{Desk};
 ghost use Rattle.rh_defs.specs.Order.{IsReordered};
 ghost use Rattle.rh_console.specs.Said.{said_text};
-ghost use Rattle.vf_desk.specs.Lines.{Fills, Replies, Takes};
+ghost use Rattle.vf_desk.specs.Lines.{Fills, Replies, TakesLine};
 
 use crate::desk::VfDesk;
 use crate::station::Station;
@@ -14,7 +14,7 @@ use std::alloc::Global;
 /// Takes a line without its line feed, and keeps its reply.
 #[unsafe(no_mangle)]
 pub extern "C" fn vf_desk_line(alloc: Global, desk: &mut VfDesk, line: &[u8]) -> u32
-    ensures { Takes line.now desk.old.handle.station desk.new.handle.station result }
+    ensures { TakesLine line.now desk.old.handle.station desk.new.handle.station result }
 {
     let Some(mut station) = desk.take(alloc) else {
         return CLOSED;
@@ -47,7 +47,7 @@ pub extern "C" fn vf_desk_reply(
 impl Station {
     /// Takes a line, and keeps its reply: CLOSED.
     fn take_line(&mut self, line: &[u8]) -> u32
-        ensures { Takes line.now (Some self.old) (Some self.new) result }
+        ensures { TakesLine line.now (Some self.old) (Some self.new) result }
     {
         let Some(mut console) = self.console.take() else {
             return CLOSED;

@@ -1,9 +1,9 @@
 //! The lists of a desk that may be closed: none where it is, or where a name or an anchor isn't of its form.
 ghost use Rattle.std.specs.Prelude.{◌≡◌, Option, length, map};
-ghost use Rattle.rh_console.specs.Console.{filled};
+ghost use Rattle.rh_console.specs.Console.{filled_front};
 ghost use Rattle.rh_defs.specs.Desk.{Desk};
 ghost use Rattle.rh_defs.specs.declared.question.Question.TheVariants as Question;
-ghost use Rattle.vf_desk.specs.Items.{area_of, areas_in, block_of, blocks_in, bytes_in, incoming_in, listed, outgoing_in, record_of, segment_of, segments_in};
+ghost use Rattle.vf_desk.specs.Items.{as_area, areas_listed, as_block, blocks_listed, bytes_listed, incoming_in, list_asked, outgoing_in, record_of, as_segment, segments_listed};
 ghost use Rattle.vf_desk.specs.Seen.{SeenBy};
 
 use crate::forms::{anchor_of, name_of};
@@ -17,7 +17,7 @@ impl Station {
     /// Fills a slice with the first bytes of the task's block at the anchor.
     pub fn bytes(&self, name: &[u8], anchor: u32, to: &mut [u8])
         ensures { (s : Option Desk) → SeenBy self.now.console s →
-            to.new ≡ filled (bytes_in (listed s (Question.Show name.now anchor))) to.old }
+            to.new ≡ filled_front (bytes_listed (list_asked s (Question.Show name.now anchor))) to.old }
     {
         let Some(console) = &self.console else {
             return;
@@ -34,9 +34,9 @@ impl Station {
     /// Puts the task's flex blocks into a slice, and answers how many there are.
     pub fn blocks(&self, name: &[u8], to: &mut [VfBlock]) -> usize
         ensures list { (s : Option Desk) → SeenBy self.now.console s →
-            to.new ≡ filled (map block_of (blocks_in (listed s (Question.Blocks name.now)))) to.old }
+            to.new ≡ filled_front (map as_block (blocks_listed (list_asked s (Question.Blocks name.now)))) to.old }
         ensures count { (s : Option Desk) → SeenBy self.now.console s →
-            result ≡ length (blocks_in (listed s (Question.Blocks name.now))) }
+            result ≡ length (blocks_listed (list_asked s (Question.Blocks name.now))) }
     {
         let Some(console) = &self.console else {
             return 0;
@@ -50,9 +50,9 @@ impl Station {
     /// Puts the segments of the task's C heap into a slice, and answers how many there are.
     pub fn segments(&self, name: &[u8], to: &mut [VfSegment]) -> usize
         ensures list { (s : Option Desk) → SeenBy self.now.console s →
-            to.new ≡ filled (map segment_of (segments_in (listed s (Question.Heap name.now)))) to.old }
+            to.new ≡ filled_front (map as_segment (segments_listed (list_asked s (Question.Heap name.now)))) to.old }
         ensures count { (s : Option Desk) → SeenBy self.now.console s →
-            result ≡ length (segments_in (listed s (Question.Heap name.now))) }
+            result ≡ length (segments_listed (list_asked s (Question.Heap name.now))) }
     {
         let Some(console) = &self.console else {
             return 0;
@@ -71,13 +71,15 @@ impl Station {
         incoming: &mut [VfRecord],
     ) -> RecordCounts
         ensures out { (s : Option Desk) → SeenBy self.now.console s →
-            outgoing.new ≡ filled (map record_of (outgoing_in (listed s (Question.Status name.now)))) outgoing.old }
+            outgoing.new ≡ filled_front (map record_of (outgoing_in
+            (list_asked s (Question.Status name.now)))) outgoing.old }
         ensures taken { (s : Option Desk) → SeenBy self.now.console s →
-            incoming.new ≡ filled (map record_of (incoming_in (listed s (Question.Status name.now)))) incoming.old }
+            incoming.new ≡ filled_front (map record_of (incoming_in
+            (list_asked s (Question.Status name.now)))) incoming.old }
         ensures outs { (s : Option Desk) → SeenBy self.now.console s →
-            result.outgoing ≡ length (outgoing_in (listed s (Question.Status name.now))) }
+            result.outgoing ≡ length (outgoing_in (list_asked s (Question.Status name.now))) }
         ensures ins { (s : Option Desk) → SeenBy self.now.console s →
-            result.incoming ≡ length (incoming_in (listed s (Question.Status name.now))) }
+            result.incoming ≡ length (incoming_in (list_asked s (Question.Status name.now))) }
     {
         let Some(console) = &self.console else {
             return NO_RECORDS;
@@ -91,9 +93,9 @@ impl Station {
     /// Puts areas and slots into a slice, and answers how many there are.
     pub fn areas(&self, to: &mut [VfArea]) -> usize
         ensures list { (s : Option Desk) → SeenBy self.now.console s →
-            to.new ≡ filled (map area_of (areas_in (listed s Question.Areas))) to.old }
+            to.new ≡ filled_front (map as_area (areas_listed (list_asked s Question.Areas))) to.old }
         ensures count { (s : Option Desk) → SeenBy self.now.console s →
-            result ≡ length (areas_in (listed s Question.Areas)) }
+            result ≡ length (areas_listed (list_asked s Question.Areas)) }
     {
         match &self.console {
             Some(console) => list_areas(&console.world, to),

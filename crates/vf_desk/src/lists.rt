@@ -1,13 +1,13 @@
 //! Lists that a question is answered with, put into slices: as many items as there is room for.
 ghost use Rattle.std.specs.Prelude.{◌≡◌, ◌+◌, ◌≤◌, ◌<◌, ◌^◌, ◌∷◌, [], length, map};
-ghost use Rattle.rh_console.specs.Console.{filled};
+ghost use Rattle.rh_console.specs.Console.{filled_front};
 ghost use Rattle.rh_defs.specs.Slot.{anchor_count};
 ghost use Rattle.rh_defs.specs.Questions.{area_items, blocks as blocks_on, heap as heap_on, show as show_on, status as status_on};
 ghost use Rattle.rh_defs.specs.declared.sizes.TheConstants.{C_HEAP_START};
 ghost use Rattle.rh_defs.specs.Heap.{IsHeap};
 ghost use Rattle.rh_script.specs.Named.{heap_of_named, item_end};
 ghost use Rattle.rh_tasks.specs.Lists.{segment_items_at};
-ghost use Rattle.vf_desk.specs.Items.{area_of, block_of, blocks_in, bytes_in, incoming_in, listed_with, outgoing_in, record_of, segment_of, segments_in};
+ghost use Rattle.vf_desk.specs.Items.{as_area, as_block, blocks_listed, bytes_listed, incoming_in, listed_with, outgoing_in, record_of, as_segment, segments_listed};
 ghost use Rattle.vf_desk.specs.Lists.{filled_from};
 
 use crate::items::{Listed, VfArea, VfBlock, VfRecord, VfSegment, listed_area};
@@ -30,7 +30,7 @@ fn fill<T, B: Listed<T>>(items: &[T], to: &mut [B], at: usize)
 /// Puts the bytes of the task's block at the anchor into a slice.
 pub fn list_bytes(world: &PagedWorld, name: &Name, anchor: Anchor, to: &mut [u8])
     requires { anchor < anchor_count }
-    ensures { to.new ≡ filled (bytes_in (listed_with (show_on world.now.desk name.now anchor))) to.old }
+    ensures { to.new ≡ filled_front (bytes_listed (listed_with (show_on world.now.desk name.now anchor))) to.old }
 {
     let Ok(size) = world.show(name, anchor, 0, &mut []) else {
         return;
@@ -41,8 +41,9 @@ pub fn list_bytes(world: &PagedWorld, name: &Name, anchor: Anchor, to: &mut [u8]
 
 /// Puts the task's flex blocks into a slice, and answers how many there are.
 pub fn list_blocks(world: &PagedWorld, name: &Name, to: &mut [VfBlock]) -> usize
-    ensures list { to.new ≡ filled (map block_of (blocks_in (listed_with (blocks_on world.now.desk name.now)))) to.old }
-    ensures count { result ≡ length (blocks_in (listed_with (blocks_on world.now.desk name.now))) }
+    ensures list { to.new ≡ filled_front (map as_block (blocks_listed
+        (listed_with (blocks_on world.now.desk name.now)))) to.old }
+    ensures count { result ≡ length (blocks_listed (listed_with (blocks_on world.now.desk name.now))) }
 {
     let mut items = ArrayVec::new();
     match world.blocks_of(name, &mut items) {
@@ -87,8 +88,8 @@ fn place_behind(item: &SegmentItem) -> u32
 /// Puts the segments of the task's C heap into a slice, and answers how many there are.
 pub fn list_segments(world: &PagedWorld, name: &Name, to: &mut [VfSegment]) -> usize
     ensures list { to.new ≡
-        filled (map segment_of (segments_in (listed_with (heap_on world.now.desk name.now)))) to.old }
-    ensures count { result ≡ length (segments_in (listed_with (heap_on world.now.desk name.now))) }
+        filled_front (map as_segment (segments_listed (listed_with (heap_on world.now.desk name.now)))) to.old }
+    ensures count { result ≡ length (segments_listed (listed_with (heap_on world.now.desk name.now))) }
 {
     let mut place = HEAP_FIRST as u32;
     let mut count = 0;
@@ -123,9 +124,9 @@ pub fn list_records(
     incoming: &mut [VfRecord],
 ) -> RecordCounts
     ensures out { outgoing.new ≡
-        filled (map record_of (outgoing_in (listed_with (status_on world.now.desk name.now)))) outgoing.old }
+        filled_front (map record_of (outgoing_in (listed_with (status_on world.now.desk name.now)))) outgoing.old }
     ensures taken { incoming.new ≡
-        filled (map record_of (incoming_in (listed_with (status_on world.now.desk name.now)))) incoming.old }
+        filled_front (map record_of (incoming_in (listed_with (status_on world.now.desk name.now)))) incoming.old }
     ensures outs { result.outgoing ≡ length (outgoing_in (listed_with (status_on world.now.desk name.now))) }
     ensures ins { result.incoming ≡ length (incoming_in (listed_with (status_on world.now.desk name.now))) }
 {
@@ -153,7 +154,7 @@ fn put_at(to: &mut [VfArea], i: usize, item: VfArea)
 
 /// Puts areas 0 to 5, the made ones and the slots into a slice, and answers how many there are.
 pub fn list_areas(world: &PagedWorld, to: &mut [VfArea]) -> usize
-    ensures list { to.new ≡ filled (map area_of (area_items world.now.desk)) to.old }
+    ensures list { to.new ≡ filled_front (map as_area (area_items world.now.desk)) to.old }
     ensures count { result ≡ length (area_items world.now.desk) }
 {
     let mut i = 0;

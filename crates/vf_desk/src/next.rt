@@ -2,8 +2,8 @@
 ghost use Rattle.std.specs.Prelude.{◌≡◌, Option};
 ghost use Rattle.rh_defs.specs.Desk.{Desk};
 ghost use Rattle.rh_wimp.specs.Items.{with_message};
-ghost use Rattle.vf_desk.specs.Next.{code_or, next_in, parcel_in, status_of_next};
-ghost use Rattle.vf_desk.specs.Seen.{IsSeen, SeenBy};
+ghost use Rattle.vf_desk.specs.Next.{code_or, next_in, next_parcel, status_of_next};
+ghost use Rattle.vf_desk.specs.Seen.{IsSeenDesk, SeenBy};
 
 use crate::desk::VfDesk;
 use crate::forms::name_of;
@@ -31,11 +31,11 @@ pub extern "C" fn vf_desk_next(
     message: &mut VfMessage,
     code: &mut u32,
 ) -> u32
-    ensures status { (s : Option Desk) → IsSeen desk.old s → result ≡ status_of_next (next_in s name.now) }
+    ensures status { (s : Option Desk) → IsSeenDesk desk.old s → result ≡ status_of_next (next_in s name.now) }
     ensures same { desk.new.handle.station ≡ desk.old.handle.station }
-    ensures message { (s : Option Desk) → IsSeen desk.old s →
-        message.new.bytes ≡ with_message (parcel_in (next_in s name.now)) message.old.bytes }
-    ensures code { (s : Option Desk) → IsSeen desk.old s → code.new ≡ code_or (next_in s name.now) code.old }
+    ensures message { (s : Option Desk) → IsSeenDesk desk.old s →
+        message.new.bytes ≡ with_message (next_parcel (next_in s name.now)) message.old.bytes }
+    ensures code { (s : Option Desk) → IsSeenDesk desk.old s → code.new ≡ code_or (next_in s name.now) code.old }
 {
     let Some(station) = desk.take(alloc) else {
         return CLOSED;
@@ -50,7 +50,7 @@ impl Station {
     fn next(&self, name: &[u8], message: &mut VfMessage, code: &mut u32) -> u32
         ensures status { (s : Option Desk) → SeenBy self.now.console s → result ≡ status_of_next (next_in s name.now) }
         ensures message { (s : Option Desk) → SeenBy self.now.console s →
-            message.new.bytes ≡ with_message (parcel_in (next_in s name.now)) message.old.bytes }
+            message.new.bytes ≡ with_message (next_parcel (next_in s name.now)) message.old.bytes }
         ensures code { (s : Option Desk) → SeenBy self.now.console s →
             code.new ≡ code_or (next_in s name.now) code.old }
     {

@@ -1,12 +1,12 @@
 //! The questions: they leave the desk as it is, and list what they are asked for.
 ghost use Rattle.std.specs.Prelude.{◌≡◌, Option, length, map};
-ghost use Rattle.rh_console.specs.Console.{filled};
+ghost use Rattle.rh_console.specs.Console.{filled_front};
 ghost use Rattle.rh_defs.specs.Desk.{Desk};
 ghost use Rattle.rh_defs.specs.declared.command.Command.TheVariants as Command;
 ghost use Rattle.rh_defs.specs.declared.question.Question.TheVariants as Question;
 ghost use Rattle.vf_desk.specs.Called.{Asks, called, done_or, in_form, number_or, sums_or};
-ghost use Rattle.vf_desk.specs.Items.{area_of, areas_in, block_of, blocks_in, bytes_in, incoming_in, listed, outgoing_in, record_of, segment_of, segments_in};
-ghost use Rattle.vf_desk.specs.Seen.{IsSeen};
+ghost use Rattle.vf_desk.specs.Items.{as_area, areas_listed, as_block, blocks_listed, bytes_listed, incoming_in, list_asked, outgoing_in, record_of, as_segment, segments_listed};
+ghost use Rattle.vf_desk.specs.Seen.{IsSeenDesk};
 
 use crate::desk::VfDesk;
 use crate::forms;
@@ -25,10 +25,10 @@ pub extern "C" fn vf_desk_show(
     size: &mut u32,
 ) -> u32
     ensures asks { Asks (Question.Show name.now anchor) desk.old desk.new result }
-    ensures size { (s : Option Desk) → IsSeen desk.old s →
+    ensures size { (s : Option Desk) → IsSeenDesk desk.old s →
         size.new ≡ number_or (called s (in_form (Command.Ask (Question.Show name.now anchor)))) size.old }
-    ensures bytes { (s : Option Desk) → IsSeen desk.old s →
-        to.new ≡ filled (bytes_in (listed s (Question.Show name.now anchor))) to.old }
+    ensures bytes { (s : Option Desk) → IsSeenDesk desk.old s →
+        to.new ≡ filled_front (bytes_listed (list_asked s (Question.Show name.now anchor))) to.old }
 {
     let called = desk.step(alloc, forms::show(name, anchor));
     let Some(station) = desk.take(alloc) else {
@@ -49,11 +49,11 @@ pub extern "C" fn vf_desk_blocks(
     count: &mut usize,
 ) -> u32
     ensures asks { Asks (Question.Blocks name.now) desk.old desk.new result }
-    ensures list { (s : Option Desk) → IsSeen desk.old s →
-        blocks.new ≡ filled (map block_of (blocks_in (listed s (Question.Blocks name.now)))) blocks.old }
-    ensures count { (s : Option Desk) → IsSeen desk.old s →
+    ensures list { (s : Option Desk) → IsSeenDesk desk.old s →
+        blocks.new ≡ filled_front (map as_block (blocks_listed (list_asked s (Question.Blocks name.now)))) blocks.old }
+    ensures count { (s : Option Desk) → IsSeenDesk desk.old s →
         count.new ≡ done_or (called s (in_form (Command.Ask (Question.Blocks name.now))))
-        (length (blocks_in (listed s (Question.Blocks name.now)))) count.old }
+        (length (blocks_listed (list_asked s (Question.Blocks name.now)))) count.old }
 {
     let called = desk.step(alloc, forms::blocks(name));
     let Some(station) = desk.take(alloc) else {
@@ -75,13 +75,14 @@ pub extern "C" fn vf_desk_heap(
     count: &mut usize,
 ) -> u32
     ensures asks { Asks (Question.Heap name.now) desk.old desk.new result }
-    ensures sums { (s : Option Desk) → IsSeen desk.old s →
+    ensures sums { (s : Option Desk) → IsSeenDesk desk.old s →
         sums.new ≡ sums_or (called s (in_form (Command.Ask (Question.Heap name.now)))) sums.old }
-    ensures list { (s : Option Desk) → IsSeen desk.old s →
-        segments.new ≡ filled (map segment_of (segments_in (listed s (Question.Heap name.now)))) segments.old }
-    ensures count { (s : Option Desk) → IsSeen desk.old s →
+    ensures list { (s : Option Desk) → IsSeenDesk desk.old s →
+        segments.new ≡ filled_front (map as_segment (segments_listed
+        (list_asked s (Question.Heap name.now)))) segments.old }
+    ensures count { (s : Option Desk) → IsSeenDesk desk.old s →
         count.new ≡ done_or (called s (in_form (Command.Ask (Question.Heap name.now))))
-        (length (segments_in (listed s (Question.Heap name.now)))) count.old }
+        (length (segments_listed (list_asked s (Question.Heap name.now)))) count.old }
 {
     let called = desk.step(alloc, forms::heap(name));
     let Some(station) = desk.take(alloc) else {
@@ -106,18 +107,20 @@ pub extern "C" fn vf_desk_status(
     ins: &mut usize,
 ) -> u32
     ensures asks { Asks (Question.Status name.now) desk.old desk.new result }
-    ensures handle { (s : Option Desk) → IsSeen desk.old s →
+    ensures handle { (s : Option Desk) → IsSeenDesk desk.old s →
         handle.new ≡ number_or (called s (in_form (Command.Ask (Question.Status name.now)))) handle.old }
-    ensures out { (s : Option Desk) → IsSeen desk.old s →
-        outgoing.new ≡ filled (map record_of (outgoing_in (listed s (Question.Status name.now)))) outgoing.old }
-    ensures outs { (s : Option Desk) → IsSeen desk.old s →
+    ensures out { (s : Option Desk) → IsSeenDesk desk.old s →
+        outgoing.new ≡ filled_front (map record_of (outgoing_in
+        (list_asked s (Question.Status name.now)))) outgoing.old }
+    ensures outs { (s : Option Desk) → IsSeenDesk desk.old s →
         outs.new ≡ done_or (called s (in_form (Command.Ask (Question.Status name.now))))
-        (length (outgoing_in (listed s (Question.Status name.now)))) outs.old }
-    ensures taken { (s : Option Desk) → IsSeen desk.old s →
-        incoming.new ≡ filled (map record_of (incoming_in (listed s (Question.Status name.now)))) incoming.old }
-    ensures ins { (s : Option Desk) → IsSeen desk.old s →
+        (length (outgoing_in (list_asked s (Question.Status name.now)))) outs.old }
+    ensures taken { (s : Option Desk) → IsSeenDesk desk.old s →
+        incoming.new ≡ filled_front (map record_of (incoming_in
+        (list_asked s (Question.Status name.now)))) incoming.old }
+    ensures ins { (s : Option Desk) → IsSeenDesk desk.old s →
         ins.new ≡ done_or (called s (in_form (Command.Ask (Question.Status name.now))))
-        (length (incoming_in (listed s (Question.Status name.now)))) ins.old }
+        (length (incoming_in (list_asked s (Question.Status name.now)))) ins.old }
 {
     let called = desk.step(alloc, forms::status(name));
     let Some(station) = desk.take(alloc) else {
@@ -141,13 +144,13 @@ pub extern "C" fn vf_desk_areas(
     count: &mut usize,
 ) -> u32
     ensures asks { Asks Question.Areas desk.old desk.new result }
-    ensures free { (s : Option Desk) → IsSeen desk.old s →
+    ensures free { (s : Option Desk) → IsSeenDesk desk.old s →
         free.new ≡ number_or (called s (in_form (Command.Ask Question.Areas))) free.old }
-    ensures list { (s : Option Desk) → IsSeen desk.old s →
-        areas.new ≡ filled (map area_of (areas_in (listed s Question.Areas))) areas.old }
-    ensures count { (s : Option Desk) → IsSeen desk.old s →
+    ensures list { (s : Option Desk) → IsSeenDesk desk.old s →
+        areas.new ≡ filled_front (map as_area (areas_listed (list_asked s Question.Areas))) areas.old }
+    ensures count { (s : Option Desk) → IsSeenDesk desk.old s →
         count.new ≡ done_or (called s (in_form (Command.Ask Question.Areas)))
-        (length (areas_in (listed s Question.Areas))) count.old }
+        (length (areas_listed (list_asked s Question.Areas))) count.old }
 {
     let called = desk.step(alloc, forms::asked(Question::Areas));
     let Some(station) = desk.take(alloc) else {

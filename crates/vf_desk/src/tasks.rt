@@ -2,10 +2,10 @@
 ghost use Rattle.std.specs.Prelude.{◌≡◌, Option};
 ghost use Rattle.rh_defs.specs.Desk.{Desk};
 ghost use Rattle.rh_defs.specs.declared.command.Command.TheVariants as Command;
-ghost use Rattle.vf_desk.specs.Called.{Does, called, in_form, number_or};
+ghost use Rattle.vf_desk.specs.Called.{DoesCalled, called, in_form, number_or};
 ghost use Rattle.vf_desk.specs.Event.{event_or};
 ghost use Rattle.vf_desk.specs.Forms.{id_in, manner_at, task_form};
-ghost use Rattle.vf_desk.specs.Seen.{IsSeen};
+ghost use Rattle.vf_desk.specs.Seen.{IsSeenDesk};
 
 use crate::desk::VfDesk;
 use crate::event::{VfEvent, told_event};
@@ -22,8 +22,8 @@ pub extern "C" fn vf_desk_task(
     manner: u32,
     handle: &mut u32,
 ) -> u32
-    ensures does { Does (task_form name.now buffer (manner_at manner)) desk.old desk.new result }
-    ensures handle { (s : Option Desk) → IsSeen desk.old s →
+    ensures does { DoesCalled (task_form name.now buffer (manner_at manner)) desk.old desk.new result }
+    ensures handle { (s : Option Desk) → IsSeenDesk desk.old s →
         handle.new ≡ number_or (called s (task_form name.now buffer (manner_at manner))) handle.old }
 {
     desk.step(alloc, forms::task(name, buffer, manner))
@@ -33,7 +33,7 @@ pub extern "C" fn vf_desk_task(
 /// Ends a task: its messages bounce or vanish, and its pages are free. (Wimp_CloseDown.)
 #[unsafe(no_mangle)]
 pub extern "C" fn vf_desk_kill(alloc: Global, desk: &mut VfDesk, name: &[u8]) -> u32
-    ensures { Does (in_form (Command.Kill name.now)) desk.old desk.new result }
+    ensures { DoesCalled (in_form (Command.Kill name.now)) desk.old desk.new result }
 {
     desk.step(alloc, forms::kill(name)).status()
 }
@@ -50,8 +50,8 @@ pub extern "C" fn vf_desk_save(
     leaf: &[u8],
     my_ref: &mut u32,
 ) -> u32
-    ensures does { Does (in_form (Command.Save name.now anchor to.now leaf.now)) desk.old desk.new result }
-    ensures my_ref { (s : Option Desk) → IsSeen desk.old s →
+    ensures does { DoesCalled (in_form (Command.Save name.now anchor to.now leaf.now)) desk.old desk.new result }
+    ensures my_ref { (s : Option Desk) → IsSeenDesk desk.old s →
         my_ref.new ≡ number_or (called s (in_form (Command.Save name.now anchor to.now leaf.now))) my_ref.old }
 {
     desk.step(alloc, forms::save(name, anchor, to, leaf))
@@ -66,8 +66,8 @@ pub extern "C" fn vf_desk_poll(
     name: &[u8],
     event: &mut VfEvent,
 ) -> u32
-    ensures does { Does (in_form (Command.Poll name.now)) desk.old desk.new result }
-    ensures event { (s : Option Desk) → IsSeen desk.old s →
+    ensures does { DoesCalled (in_form (Command.Poll name.now)) desk.old desk.new result }
+    ensures event { (s : Option Desk) → IsSeenDesk desk.old s →
         event.new ≡ event_or (called s (in_form (Command.Poll name.now))) event.old }
 {
     told_event(&desk.step(alloc, forms::poll(name)), event)
@@ -76,7 +76,7 @@ pub extern "C" fn vf_desk_poll(
 /// Gives up the transfer with the id that comes in; with the id 0 the first one that can be given up.
 #[unsafe(no_mangle)]
 pub extern "C" fn vf_desk_cancel_in(alloc: Global, desk: &mut VfDesk, name: &[u8], id: u32) -> u32
-    ensures { Does (in_form (Command.CancelIn name.now (id_in id))) desk.old desk.new result }
+    ensures { DoesCalled (in_form (Command.CancelIn name.now (id_in id))) desk.old desk.new result }
 {
     desk.step(alloc, forms::cancel_in(name, id)).status()
 }
@@ -84,7 +84,7 @@ pub extern "C" fn vf_desk_cancel_in(alloc: Global, desk: &mut VfDesk, name: &[u8
 /// Gives up the open transfer with the id that goes out; with the id 0 the first one.
 #[unsafe(no_mangle)]
 pub extern "C" fn vf_desk_cancel_out(alloc: Global, desk: &mut VfDesk, name: &[u8], id: u32) -> u32
-    ensures { Does (in_form (Command.CancelOut name.now (id_in id))) desk.old desk.new result }
+    ensures { DoesCalled (in_form (Command.CancelOut name.now (id_in id))) desk.old desk.new result }
 {
     desk.step(alloc, forms::cancel_out(name, id)).status()
 }
@@ -97,8 +97,8 @@ pub extern "C" fn vf_desk_repeat(
     name: &[u8],
     my_ref: &mut u32,
 ) -> u32
-    ensures does { Does (in_form (Command.Repeat name.now)) desk.old desk.new result }
-    ensures my_ref { (s : Option Desk) → IsSeen desk.old s →
+    ensures does { DoesCalled (in_form (Command.Repeat name.now)) desk.old desk.new result }
+    ensures my_ref { (s : Option Desk) → IsSeenDesk desk.old s →
         my_ref.new ≡ number_or (called s (in_form (Command.Repeat name.now))) my_ref.old }
 {
     desk.step(alloc, forms::repeat(name)).told(my_ref)

@@ -2,8 +2,8 @@
 ghost use Rattle.std.specs.Prelude.{◌≡◌, ◌≢◌, length};
 ghost use Rattle.rh_defs.specs.Chain.{answer_of};
 ghost use Rattle.rh_defs.specs.Heap.{free_bytes, largest};
-ghost use Rattle.rh_flex.specs.Slots.{slot_in};
-ghost use Rattle.vf_flex.specs.Calls.{AreLeft, Leaves, RefusesInput};
+ghost use Rattle.rh_flex.specs.Slots.{lent_slot_in};
+ghost use Rattle.vf_flex.specs.Calls.{AreLeft, LeavesLentSlot, RefusesInput};
 ghost use Rattle.vf_flex.specs.Calls.{claim_granted, release_granted, resize_granted, size_at};
 ghost use Rattle.vf_flex.specs.Status.{answer_or, answer_status, place_or, place_status, slot_status, status_of};
 
@@ -30,7 +30,7 @@ pub extern "C" fn vf_flex_claim(
     ensures place { slot_status (length memory.old) slot.old ≡ 0 →
         place.new ≡ place_or (answer_of (claim_granted memory.old slot.old n)) place.old }
     ensures left { slot_status (length memory.old) slot.old ≡ 0 →
-        Leaves memory.old memory.new slot.old slot.new (claim_granted memory.old slot.old n) }
+        LeavesLentSlot memory.old memory.new slot.old slot.new (claim_granted memory.old slot.old n) }
 {
     match slot_status(memory.len(), *slot) {
         OK => told_place(slot.claim(memory, nearest(n)), place),
@@ -47,7 +47,7 @@ pub extern "C" fn vf_flex_release(memory: &mut [u8], slot: &mut LentSlot, place:
     ensures status { place_status (length memory.old) slot.old place ≡ 0 →
         result ≡ status_of (release_granted memory.old slot.old place) }
     ensures left { place_status (length memory.old) slot.old place ≡ 0 →
-        Leaves memory.old memory.new slot.old slot.new (release_granted memory.old slot.old place) }
+        LeavesLentSlot memory.old memory.new slot.old slot.new (release_granted memory.old slot.old place) }
 {
     match place_status(memory.len(), *slot, place) {
         OK => outcome_status(slot.release(memory, SLOT_START + place)),
@@ -73,7 +73,7 @@ pub extern "C" fn vf_flex_resize(
     ensures place { place_status (length memory.old) slot.old place ≡ 0 →
         moved_to.new ≡ place_or (answer_of (resize_granted memory.old slot.old place delta)) moved_to.old }
     ensures left { place_status (length memory.old) slot.old place ≡ 0 →
-        Leaves memory.old memory.new slot.old slot.new (resize_granted memory.old slot.old place delta) }
+        LeavesLentSlot memory.old memory.new slot.old slot.new (resize_granted memory.old slot.old place delta) }
 {
     match place_status(memory.len(), *slot, place) {
         OK => told_place(
@@ -97,9 +97,9 @@ pub extern "C" fn vf_flex_block_size(
         result ≡ place_status (length memory.now) slot.now place }
     ensures kept { place_status (length memory.now) slot.now place ≢ 0 → size.new ≡ size.old }
     ensures status { place_status (length memory.now) slot.now place ≡ 0 →
-        result ≡ answer_status (size_at place (slot_in memory.now slot.now)) }
+        result ≡ answer_status (size_at place (lent_slot_in memory.now slot.now)) }
     ensures size { place_status (length memory.now) slot.now place ≡ 0 →
-        size.new ≡ answer_or (size_at place (slot_in memory.now slot.now)) size.old }
+        size.new ≡ answer_or (size_at place (lent_slot_in memory.now slot.now)) size.old }
 {
     match place_status(memory.len(), *slot, place) {
         OK => told(slot.block_size(memory, SLOT_START + place), size),
@@ -118,8 +118,8 @@ pub extern "C" fn vf_flex_describe(
     requires { AreLeft memory.now slot.now }
     ensures status { result ≡ slot_status (length memory.now) slot.now }
     ensures refused { result ≢ 0 → (most.new ≡ most.old) × (free.new ≡ free.old) }
-    ensures most { result ≡ 0 → most.new ≡ largest (slot_in memory.now slot.now).heap }
-    ensures free { result ≡ 0 → free.new ≡ free_bytes (slot_in memory.now slot.now).heap }
+    ensures most { result ≡ 0 → most.new ≡ largest (lent_slot_in memory.now slot.now).heap }
+    ensures free { result ≡ 0 → free.new ≡ free_bytes (lent_slot_in memory.now slot.now).heap }
 {
     let status = slot_status(memory.len(), *slot);
     if status == OK {

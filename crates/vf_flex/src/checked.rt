@@ -3,8 +3,8 @@ ghost use Rattle.std.specs.Prelude.{◌≡◌, ◌≢◌, length};
 ghost use Rattle.rh_defs.specs.Chain.{answer_of, outcome_of, result_or};
 ghost use Rattle.rh_defs.specs.Heap.{free_bytes, largest};
 ghost use Rattle.rh_defs.specs.Slot.{slot_address, slot_read, slot_size};
-ghost use Rattle.rh_flex.specs.Slots.{IsSlotBytes, slot_in};
-ghost use Rattle.vf_flex.specs.Calls.{Leaves, RefusesInput, size_at};
+ghost use Rattle.rh_flex.specs.Slots.{IsSlotBytes, lent_slot_in};
+ghost use Rattle.vf_flex.specs.Calls.{LeavesLentSlot, RefusesInput, size_at};
 ghost use Rattle.vf_flex.specs.Calls.{alloc_granted, extend_granted, free_granted, mid_granted, put_granted};
 ghost use Rattle.vf_flex.specs.Calls.{claim_granted, release_granted, resize_granted};
 ghost use Rattle.vf_flex.specs.Status.{answer_or, answer_status, place_or, status_of};
@@ -41,7 +41,7 @@ pub extern "C" fn vf_flex_checked_alloc(
     ensures place { checked_anchor_status memory.old slot.old anchor ≡ 0 →
         place.new ≡ place_or (answer_of (alloc_granted memory.old slot.old anchor n)) place.old }
     ensures left { checked_anchor_status memory.old slot.old anchor ≡ 0 →
-        Leaves memory.old memory.new slot.old slot.new (alloc_granted memory.old slot.old anchor n) }
+        LeavesLentSlot memory.old memory.new slot.old slot.new (alloc_granted memory.old slot.old anchor n) }
 {
     match checked_anchor_status(memory, *slot, anchor) {
         OK => flex::vf_flex_alloc(memory, slot, anchor, n, place),
@@ -61,9 +61,9 @@ pub extern "C" fn vf_flex_checked_size(
         result ≡ checked_anchor_status memory.now slot.now anchor }
     ensures kept { checked_anchor_status memory.now slot.now anchor ≢ 0 → size.new ≡ size.old }
     ensures status { checked_anchor_status memory.now slot.now anchor ≡ 0 →
-        result ≡ answer_status (slot_size anchor (slot_in memory.now slot.now)) }
+        result ≡ answer_status (slot_size anchor (lent_slot_in memory.now slot.now)) }
     ensures size { checked_anchor_status memory.now slot.now anchor ≡ 0 →
-        size.new ≡ answer_or (slot_size anchor (slot_in memory.now slot.now)) size.old }
+        size.new ≡ answer_or (slot_size anchor (lent_slot_in memory.now slot.now)) size.old }
 {
     match checked_anchor_status(memory, *slot, anchor) {
         OK => flex::vf_flex_size(memory, slot, anchor, size),
@@ -79,7 +79,7 @@ pub extern "C" fn vf_flex_checked_free(memory: &mut [u8], slot: &mut LentSlot, a
     ensures status { checked_anchor_status memory.old slot.old anchor ≡ 0 →
         result ≡ status_of (free_granted memory.old slot.old anchor) }
     ensures left { checked_anchor_status memory.old slot.old anchor ≡ 0 →
-        Leaves memory.old memory.new slot.old slot.new (free_granted memory.old slot.old anchor) }
+        LeavesLentSlot memory.old memory.new slot.old slot.new (free_granted memory.old slot.old anchor) }
 {
     match checked_anchor_status(memory, *slot, anchor) {
         OK => flex::vf_flex_free(memory, slot, anchor),
@@ -100,7 +100,7 @@ pub extern "C" fn vf_flex_checked_extend(
     ensures status { checked_anchor_status memory.old slot.old anchor ≡ 0 →
         result ≡ status_of (extend_granted memory.old slot.old anchor n) }
     ensures left { checked_anchor_status memory.old slot.old anchor ≡ 0 →
-        Leaves memory.old memory.new slot.old slot.new (extend_granted memory.old slot.old anchor n) }
+        LeavesLentSlot memory.old memory.new slot.old slot.new (extend_granted memory.old slot.old anchor n) }
 {
     match checked_anchor_status(memory, *slot, anchor) {
         OK => flex::vf_flex_extend(memory, slot, anchor, n),
@@ -122,7 +122,7 @@ pub extern "C" fn vf_flex_checked_midextend(
     ensures status { checked_anchor_status memory.old slot.old anchor ≡ 0 →
         result ≡ status_of (mid_granted memory.old slot.old anchor offset by) }
     ensures left { checked_anchor_status memory.old slot.old anchor ≡ 0 →
-        Leaves memory.old memory.new slot.old slot.new (mid_granted memory.old slot.old anchor offset by) }
+        LeavesLentSlot memory.old memory.new slot.old slot.new (mid_granted memory.old slot.old anchor offset by) }
 {
     match checked_anchor_status(memory, *slot, anchor) {
         OK => flex::vf_flex_midextend(memory, slot, anchor, offset, by),
@@ -142,9 +142,9 @@ pub extern "C" fn vf_flex_checked_place(
         result ≡ checked_anchor_status memory.now slot.now anchor }
     ensures kept { checked_anchor_status memory.now slot.now anchor ≢ 0 → place.new ≡ place.old }
     ensures status { checked_anchor_status memory.now slot.now anchor ≡ 0 →
-        result ≡ answer_status (slot_address anchor (slot_in memory.now slot.now)) }
+        result ≡ answer_status (slot_address anchor (lent_slot_in memory.now slot.now)) }
     ensures place { checked_anchor_status memory.now slot.now anchor ≡ 0 →
-        place.new ≡ place_or (slot_address anchor (slot_in memory.now slot.now)) place.old }
+        place.new ≡ place_or (slot_address anchor (lent_slot_in memory.now slot.now)) place.old }
 {
     match checked_anchor_status(memory, *slot, anchor) {
         OK => flex::vf_flex_place(memory, slot, anchor, place),
@@ -166,7 +166,8 @@ pub extern "C" fn vf_flex_checked_put(
     ensures status { checked_anchor_status memory.old slot.old anchor ≡ 0 →
         result ≡ status_of (put_granted memory.old slot.old anchor offset from.now) }
     ensures left { checked_anchor_status memory.old slot.old anchor ≡ 0 →
-        Leaves memory.old memory.new slot.old slot.new (put_granted memory.old slot.old anchor offset from.now) }
+        LeavesLentSlot memory.old memory.new slot.old slot.new
+        (put_granted memory.old slot.old anchor offset from.now) }
 {
     match checked_anchor_status(memory, *slot, anchor) {
         OK => flex::vf_flex_put(memory, slot, anchor, offset, from),
@@ -187,9 +188,10 @@ pub extern "C" fn vf_flex_checked_read(
         result ≡ checked_anchor_status memory.now slot.now anchor }
     ensures kept { checked_anchor_status memory.now slot.now anchor ≢ 0 → to.new ≡ to.old }
     ensures status { checked_anchor_status memory.now slot.now anchor ≡ 0 →
-        result ≡ answer_status (outcome_of (slot_read anchor offset (length to.old) (slot_in memory.now slot.now))) }
+        result ≡ answer_status (outcome_of (slot_read anchor offset (length to.old)
+        (lent_slot_in memory.now slot.now))) }
     ensures buffer { checked_anchor_status memory.now slot.now anchor ≡ 0 →
-        to.new ≡ result_or to.old (slot_read anchor offset (length to.old) (slot_in memory.now slot.now)) }
+        to.new ≡ result_or to.old (slot_read anchor offset (length to.old) (lent_slot_in memory.now slot.now)) }
 {
     match checked_anchor_status(memory, *slot, anchor) {
         OK => flex::vf_flex_read(memory, slot, anchor, offset, to),
@@ -213,7 +215,7 @@ pub extern "C" fn vf_flex_checked_claim(
     ensures place { image_status memory.old slot.old ≡ 0 →
         place.new ≡ place_or (answer_of (claim_granted memory.old slot.old n)) place.old }
     ensures left { image_status memory.old slot.old ≡ 0 →
-        Leaves memory.old memory.new slot.old slot.new (claim_granted memory.old slot.old n) }
+        LeavesLentSlot memory.old memory.new slot.old slot.new (claim_granted memory.old slot.old n) }
 {
     match image_status(memory, *slot) {
         OK => c_heap::vf_flex_claim(memory, slot, n, place),
@@ -233,7 +235,7 @@ pub extern "C" fn vf_flex_checked_release(
     ensures status { checked_place_status memory.old slot.old place ≡ 0 →
         result ≡ status_of (release_granted memory.old slot.old place) }
     ensures left { checked_place_status memory.old slot.old place ≡ 0 →
-        Leaves memory.old memory.new slot.old slot.new (release_granted memory.old slot.old place) }
+        LeavesLentSlot memory.old memory.new slot.old slot.new (release_granted memory.old slot.old place) }
 {
     match checked_place_status(memory, *slot, place) {
         OK => c_heap::vf_flex_release(memory, slot, place),
@@ -258,7 +260,7 @@ pub extern "C" fn vf_flex_checked_resize(
     ensures place { checked_place_status memory.old slot.old place ≡ 0 →
         moved_to.new ≡ place_or (answer_of (resize_granted memory.old slot.old place delta)) moved_to.old }
     ensures left { checked_place_status memory.old slot.old place ≡ 0 →
-        Leaves memory.old memory.new slot.old slot.new (resize_granted memory.old slot.old place delta) }
+        LeavesLentSlot memory.old memory.new slot.old slot.new (resize_granted memory.old slot.old place delta) }
 {
     match checked_place_status(memory, *slot, place) {
         OK => c_heap::vf_flex_resize(memory, slot, place, delta, moved_to),
@@ -278,9 +280,9 @@ pub extern "C" fn vf_flex_checked_block_size(
         result ≡ checked_place_status memory.now slot.now place }
     ensures kept { checked_place_status memory.now slot.now place ≢ 0 → size.new ≡ size.old }
     ensures status { checked_place_status memory.now slot.now place ≡ 0 →
-        result ≡ answer_status (size_at place (slot_in memory.now slot.now)) }
+        result ≡ answer_status (size_at place (lent_slot_in memory.now slot.now)) }
     ensures size { checked_place_status memory.now slot.now place ≡ 0 →
-        size.new ≡ answer_or (size_at place (slot_in memory.now slot.now)) size.old }
+        size.new ≡ answer_or (size_at place (lent_slot_in memory.now slot.now)) size.old }
 {
     match checked_place_status(memory, *slot, place) {
         OK => c_heap::vf_flex_block_size(memory, slot, place, size),
@@ -298,8 +300,8 @@ pub extern "C" fn vf_flex_checked_describe(
 ) -> u32
     ensures status { result ≡ image_status memory.now slot.now }
     ensures refused { result ≢ 0 → (most.new ≡ most.old) × (free.new ≡ free.old) }
-    ensures most { result ≡ 0 → most.new ≡ largest (slot_in memory.now slot.now).heap }
-    ensures free { result ≡ 0 → free.new ≡ free_bytes (slot_in memory.now slot.now).heap }
+    ensures most { result ≡ 0 → most.new ≡ largest (lent_slot_in memory.now slot.now).heap }
+    ensures free { result ≡ 0 → free.new ≡ free_bytes (lent_slot_in memory.now slot.now).heap }
 {
     match image_status(memory, *slot) {
         OK => c_heap::vf_flex_describe(memory, slot, most, free),

@@ -2,8 +2,8 @@
 ghost use Rattle.std.specs.Prelude.{◌≡◌, ◌≢◌, length};
 ghost use Rattle.rh_defs.specs.Chain.{answer_of, outcome_of, result_or};
 ghost use Rattle.rh_defs.specs.Slot.{slot_address, slot_read, slot_size};
-ghost use Rattle.rh_flex.specs.Slots.{slot_in};
-ghost use Rattle.vf_flex.specs.Calls.{AreLeft, Leaves, RefusesInput};
+ghost use Rattle.rh_flex.specs.Slots.{lent_slot_in};
+ghost use Rattle.vf_flex.specs.Calls.{AreLeft, LeavesLentSlot, RefusesInput};
 ghost use Rattle.vf_flex.specs.Calls.{alloc_granted, extend_granted, free_granted, mid_granted, put_granted};
 ghost use Rattle.vf_flex.specs.Status.{anchor_status, answer_or, answer_status, place_or, status_of};
 
@@ -31,7 +31,7 @@ pub extern "C" fn vf_flex_alloc(
     ensures place { anchor_status (length memory.old) slot.old anchor ≡ 0 →
         place.new ≡ place_or (answer_of (alloc_granted memory.old slot.old anchor n)) place.old }
     ensures left { anchor_status (length memory.old) slot.old anchor ≡ 0 →
-        Leaves memory.old memory.new slot.old slot.new (alloc_granted memory.old slot.old anchor n) }
+        LeavesLentSlot memory.old memory.new slot.old slot.new (alloc_granted memory.old slot.old anchor n) }
 {
     match anchor_status(memory.len(), *slot, anchor) {
         OK => told_place(slot.alloc(memory, Anchor(anchor as u8), nearest(n)), place),
@@ -47,9 +47,9 @@ pub extern "C" fn vf_flex_size(memory: &[u8], slot: &LentSlot, anchor: u32, size
         result ≡ anchor_status (length memory.now) slot.now anchor }
     ensures kept { anchor_status (length memory.now) slot.now anchor ≢ 0 → size.new ≡ size.old }
     ensures status { anchor_status (length memory.now) slot.now anchor ≡ 0 →
-        result ≡ answer_status (slot_size anchor (slot_in memory.now slot.now)) }
+        result ≡ answer_status (slot_size anchor (lent_slot_in memory.now slot.now)) }
     ensures size { anchor_status (length memory.now) slot.now anchor ≡ 0 →
-        size.new ≡ answer_or (slot_size anchor (slot_in memory.now slot.now)) size.old }
+        size.new ≡ answer_or (slot_size anchor (lent_slot_in memory.now slot.now)) size.old }
 {
     match anchor_status(memory.len(), *slot, anchor) {
         OK => told(slot.size(memory, Anchor(anchor as u8)), size),
@@ -66,7 +66,7 @@ pub extern "C" fn vf_flex_free(memory: &mut [u8], slot: &mut LentSlot, anchor: u
     ensures status { anchor_status (length memory.old) slot.old anchor ≡ 0 →
         result ≡ status_of (free_granted memory.old slot.old anchor) }
     ensures left { anchor_status (length memory.old) slot.old anchor ≡ 0 →
-        Leaves memory.old memory.new slot.old slot.new (free_granted memory.old slot.old anchor) }
+        LeavesLentSlot memory.old memory.new slot.old slot.new (free_granted memory.old slot.old anchor) }
 {
     match anchor_status(memory.len(), *slot, anchor) {
         OK => outcome_status(slot.free(memory, Anchor(anchor as u8))),
@@ -88,7 +88,7 @@ pub extern "C" fn vf_flex_extend(
     ensures status { anchor_status (length memory.old) slot.old anchor ≡ 0 →
         result ≡ status_of (extend_granted memory.old slot.old anchor n) }
     ensures left { anchor_status (length memory.old) slot.old anchor ≡ 0 →
-        Leaves memory.old memory.new slot.old slot.new (extend_granted memory.old slot.old anchor n) }
+        LeavesLentSlot memory.old memory.new slot.old slot.new (extend_granted memory.old slot.old anchor n) }
 {
     match anchor_status(memory.len(), *slot, anchor) {
         OK => outcome_status(slot.extend(memory, Anchor(anchor as u8), nearest(n))),
@@ -111,7 +111,7 @@ pub extern "C" fn vf_flex_midextend(
     ensures status { anchor_status (length memory.old) slot.old anchor ≡ 0 →
         result ≡ status_of (mid_granted memory.old slot.old anchor offset by) }
     ensures left { anchor_status (length memory.old) slot.old anchor ≡ 0 →
-        Leaves memory.old memory.new slot.old slot.new (mid_granted memory.old slot.old anchor offset by) }
+        LeavesLentSlot memory.old memory.new slot.old slot.new (mid_granted memory.old slot.old anchor offset by) }
 {
     match anchor_status(memory.len(), *slot, anchor) {
         OK => outcome_status(slot.mid(memory, Anchor(anchor as u8), offset, nearest_amount(by))),
@@ -132,9 +132,9 @@ pub extern "C" fn vf_flex_place(
         result ≡ anchor_status (length memory.now) slot.now anchor }
     ensures kept { anchor_status (length memory.now) slot.now anchor ≢ 0 → place.new ≡ place.old }
     ensures status { anchor_status (length memory.now) slot.now anchor ≡ 0 →
-        result ≡ answer_status (slot_address anchor (slot_in memory.now slot.now)) }
+        result ≡ answer_status (slot_address anchor (lent_slot_in memory.now slot.now)) }
     ensures place { anchor_status (length memory.now) slot.now anchor ≡ 0 →
-        place.new ≡ place_or (slot_address anchor (slot_in memory.now slot.now)) place.old }
+        place.new ≡ place_or (slot_address anchor (lent_slot_in memory.now slot.now)) place.old }
 {
     match anchor_status(memory.len(), *slot, anchor) {
         OK => told_place(slot.address(memory, Anchor(anchor as u8)), place),
@@ -157,7 +157,8 @@ pub extern "C" fn vf_flex_put(
     ensures status { anchor_status (length memory.old) slot.old anchor ≡ 0 →
         result ≡ status_of (put_granted memory.old slot.old anchor offset from.now) }
     ensures left { anchor_status (length memory.old) slot.old anchor ≡ 0 →
-        Leaves memory.old memory.new slot.old slot.new (put_granted memory.old slot.old anchor offset from.now) }
+        LeavesLentSlot memory.old memory.new slot.old slot.new
+        (put_granted memory.old slot.old anchor offset from.now) }
 {
     match anchor_status(memory.len(), *slot, anchor) {
         OK => outcome_status(slot.put(memory, Anchor(anchor as u8), offset, from)),
@@ -179,9 +180,10 @@ pub extern "C" fn vf_flex_read(
         result ≡ anchor_status (length memory.now) slot.now anchor }
     ensures kept { anchor_status (length memory.now) slot.now anchor ≢ 0 → to.new ≡ to.old }
     ensures status { anchor_status (length memory.now) slot.now anchor ≡ 0 →
-        result ≡ answer_status (outcome_of (slot_read anchor offset (length to.old) (slot_in memory.now slot.now))) }
+        result ≡ answer_status (outcome_of (slot_read anchor offset (length to.old)
+        (lent_slot_in memory.now slot.now))) }
     ensures buffer { anchor_status (length memory.now) slot.now anchor ≡ 0 →
-        to.new ≡ result_or to.old (slot_read anchor offset (length to.old) (slot_in memory.now slot.now)) }
+        to.new ≡ result_or to.old (slot_read anchor offset (length to.old) (lent_slot_in memory.now slot.now)) }
 {
     match anchor_status(memory.len(), *slot, anchor) {
         OK => outcome_status(slot.read(memory, Anchor(anchor as u8), offset, to)),

@@ -1,7 +1,7 @@
 //! How a slot begins, and whether its blocks give way.
 ghost use Rattle.std.specs.Prelude.{◌≡◌, ◌≢◌, List, ℕ, length};
 ghost use Rattle.rh_defs.specs.Slot.{new_slot, slot_set_budge};
-ghost use Rattle.rh_flex.specs.Slots.{IsSlotBytes, slot_in};
+ghost use Rattle.rh_flex.specs.Slots.{IsSlotBytes, lent_slot_in};
 ghost use Rattle.vf_flex.specs.Status.{length_status};
 
 use crate::input::length_status;
@@ -13,7 +13,7 @@ use rh_flex::LentSlot;
 pub extern "C" fn vf_flex_start(memory: &mut [u8], slot: &mut LentSlot) -> u32
     ensures status { result ≡ length_status (length memory.old) }
     ensures bytes { result ≡ 0 → IsSlotBytes memory.new slot.new }
-    ensures slot { result ≡ 0 → slot_in memory.new slot.new ≡ new_slot }
+    ensures slot { result ≡ 0 → lent_slot_in memory.new slot.new ≡ new_slot }
     ensures refused { result ≢ 0 → (memory.new ≡ memory.old) × (slot.new ≡ slot.old) }
 {
     let status = length_status(memory.len());
@@ -36,7 +36,7 @@ pub extern "C" fn vf_flex_set_budge(slot: &mut LentSlot, on: bool, was: &mut boo
     ensures slot { slot.new ≡ record { pages = slot.old.pages; budge = on } }
     ensures was { was.new ≡ slot.old.budge }
     ensures still { (b : List ℕ) → IsSlotBytes b slot.old → IsSlotBytes b slot.new }
-    ensures spelled { (b : List ℕ) → (slot_in b slot.new, was.new) ≡ slot_set_budge on (slot_in b slot.old) }
+    ensures spelled { (b : List ℕ) → (lent_slot_in b slot.new, was.new) ≡ slot_set_budge on (lent_slot_in b slot.old) }
 {
     *was = slot.set_budge(on);
     OK

@@ -3,7 +3,7 @@ use Rattle.std.proofs.Common.{◌≡◌, ◌≢◌, ℕ, ◌≤◌, ◌<◌, ◌
 use Rattle.std.specs.Prelude.{ℤ, Result, Ok, Err}
 use Rattle.std.proofs.lemmas.Bool.Decides.{nat_tests}
 use Rattle.rh_defs.specs.Chain.{no_answer, answer_of}
-use Rattle.rh_defs.specs.Heap.{Heap, extend}
+use Rattle.rh_defs.specs.Heap.{Heap, extend_by}
 use Rattle.rh_defs.specs.HeapImage.{heap_of}
 use Rattle.rh_defs.specs.Pieces.{moved}
 use Rattle.rh_defs.specs.declared.heap.HeapRefusal.{HeapRefusal}
@@ -22,7 +22,7 @@ misfit n e d h is l m = grind (arith, nat_tests)
 
 -- it is one, and lies in them, so that the heap answers
 pub within : (n e : ℕ) (d : ℤ) (h : Heap) → e ≡ moved h.end d → e % 8 ≡ 0 → e ≤ n
-    → extend_status n d h ≡ answer_status (extend d h)
+    → extend_status n d h ≡ answer_status (extend_by d h)
 unfolding extend_status
 within n e d h is m l = grind (arith, nat_tests)
 
@@ -32,8 +32,8 @@ same_status (Err refusal) = refl
 
 -- what the call on the heap answered is the status, also where its argument was spelled otherwise
 pub answered : (n e : ℕ) (d d' : ℤ) (b c : List ℕ) (r : Result (Unit {0}) HeapRefusal) → d' ≡ d
-    → LeavesBytes b c (no_answer (extend d' (heap_of b 0))) r → e ≡ moved (heap_of b 0).end d → e % 8 ≡ 0 → e ≤ n
+    → LeavesBytes b c (no_answer (extend_by d' (heap_of b 0))) r → e ≡ moved (heap_of b 0).end d → e % 8 ≡ 0 → e ≤ n
     → answer_status r ≡ extend_status n d (heap_of b 0)
 answered n e d d' b c r ed left is m l =
-    ap answer_status left.answer ∙ same_status (extend d' (heap_of b 0))
-    ∙ ap (λ (x : ℤ). answer_status (extend x (heap_of b 0))) ed ∙ sym (within n e d (heap_of b 0) is m l)
+    ap answer_status left.answer ∙ same_status (extend_by d' (heap_of b 0))
+    ∙ ap (λ (x : ℤ). answer_status (extend_by x (heap_of b 0))) ed ∙ sym (within n e d (heap_of b 0) is m l)

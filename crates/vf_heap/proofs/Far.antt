@@ -6,7 +6,7 @@ use Rattle.std.specs.Int.Signed.{lt_z}
 use Rattle.std.specs.Option.{option_map}
 use Rattle.std.proofs.lemmas.Bool.Decides.{nat_tests}
 use Rattle.rh_defs.specs.Heap.{Segment, Used, Hole, Heap, IsHeap, Way, bytes_of, size_of, hole_for, first_place, base, end_for, way_to, segment_size}
-use Rattle.rh_defs.specs.Heap.{new_size, resize_need, resize_found, resize, block_at, block_size, is_block_at}
+use Rattle.rh_defs.specs.Heap.{new_size, resize_need, resize_found, resize_block, block_at, block_size, is_block_at}
 use Rattle.rh_defs.specs.HeapImage.{heap_of}
 use Rattle.rh_defs.specs.Pieces.{total, Split}
 use Rattle.rh_defs.specs.declared.heap.HeapRefusal.{HeapRefusal}
@@ -61,7 +61,7 @@ far_found test (pos k) (Some s) h n cut fits few found far =
     ∙ cond_false (eqb (resize_need m s h) 0) _ _ (eqb_apart (resize_need m s h) 0 (λ z. omega arith))
 
 pub far_resize : (b : List ℕ) (a n : ℕ) (d : ℤ) → IsHeapBytes b → Ok n ≡ ok_or (block_size a (heap_of b 0)) NotABlock
-    → IsFar d → resize a d (heap_of b 0) ≡ Err (far_refusal d)
+    → IsFar d → resize_block a d (heap_of b 0) ≡ Err (far_refusal d)
 far_resize b a n d bytes found far =
     let h = heap_of b 0 in
     let few = bytes.few in

@@ -1,7 +1,7 @@
 -- What a call leaves of the bytes that it was lent, and what it leaves of those that are no heap's.
 use Rattle.std.specs.Prelude.{◌≡◌, ◌≢◌, ℕ, ◌≤◌, ◌^◌, ℤ, pos, negsuc, List, Result, Ok, ok_or}
 use Rattle.rh_defs.specs.Chain.{no_answer, answer_of}
-use Rattle.rh_defs.specs.Heap.{Heap, extend, block_size}
+use Rattle.rh_defs.specs.Heap.{Heap, extend_by, block_size}
 use Rattle.rh_defs.specs.HeapImage.{heap_of}
 use Rattle.rh_defs.specs.declared.heap.HeapRefusal.{HeapRefusal}
 use Rattle.rh_defs.specs.declared.heap.HeapRefusal.TheVariants.{NotABlock}
@@ -9,12 +9,12 @@ use Rattle.rh_lent.specs.Heaps.{LeavesBytes}
 use Rattle.vf_heap.specs.Status.{image_status}
 
 -- a call on the heap of bytes b that is granted this leaves bytes c
-abbrev pub Leaves : {A : Type 0} → List ℕ → List ℕ → Result (Heap × A) HeapRefusal → Type 0
-Leaves b c granted = LeavesBytes b c granted (answer_of granted)
+abbrev pub LeavesLentHeap : {A : Type 0} → List ℕ → List ℕ → Result (Heap × A) HeapRefusal → Type 0
+LeavesLentHeap b c granted = LeavesBytes b c granted (answer_of granted)
 
 -- the heap of bytes b has its end moved by delta in bytes c, and nothing else was changed
 abbrev pub Extends : List ℕ → List ℕ → ℤ → Type 0
-Extends b c delta = LeavesBytes b c (no_answer (extend delta (heap_of b 0))) (Ok tt)
+Extends b c delta = LeavesBytes b c (no_answer (extend_by delta (heap_of b 0))) (Ok tt)
 
 -- the number of bytes of the block at an address
 abbrev pub size_at : ℕ → Heap → Result ℕ HeapRefusal

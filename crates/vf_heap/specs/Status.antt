@@ -2,7 +2,7 @@
 use Rattle.std.specs.Prelude.{ℕ, ◌==◌, ◌+◌, ◌-◌, ◌*◌, ◌/◌, nat_le, nat_lt, ◌&&◌, ◌||◌, if◌then◌else◌, ℤ, List, length, take, Option, Some, None, Result, Ok, Err}
 use Rattle.rh_defs.specs.Bytes.{word}
 use Rattle.rh_defs.specs.Chain.{answer_of}
-use Rattle.rh_defs.specs.Heap.{Heap, first_place, extend}
+use Rattle.rh_defs.specs.Heap.{Heap, first_place, extend_by}
 use Rattle.rh_defs.specs.HeapImage.{is_multiple, special_word, fault_of}
 use Rattle.rh_defs.specs.Pieces.{moved}
 use Rattle.rh_defs.specs.declared.heap.HeapFault.{HeapFault}
@@ -73,7 +73,7 @@ image_status b =
 unfoldable pub extend_status : ℕ → ℤ → Heap → ℕ
 extend_status n delta h =
     if nat_lt n (moved h.end delta) then short
-    else if is_multiple (moved h.end delta) then answer_status (extend delta h)
+    else if is_multiple (moved h.end delta) then answer_status (extend_by delta h)
     else bad_length
 
 -- the words of a map for a heap of n bytes: two for each line of it, and for the bytes that are left

@@ -1,11 +1,11 @@
 //! The calls on any bytes. Each looks at all of the heap first, and leaves bytes that are none.
 ghost use Rattle.std.specs.Prelude.{◌≡◌, ◌≢◌, length};
 ghost use Rattle.rh_defs.specs.Chain.{no_answer};
-ghost use Rattle.rh_defs.specs.Heap.{claim, released_at, resize, largest, free_bytes};
+ghost use Rattle.rh_defs.specs.Heap.{claim_block, released_at, resize_block, largest, free_bytes};
 ghost use Rattle.rh_defs.specs.HeapImage.{heap_of};
 ghost use Rattle.rh_lent.specs.Heaps.{IsHeapBytes};
 ghost use Rattle.vf_heap.specs.Status.{answer_or, answer_status, extend_status, image_status, number_or, status_of};
-ghost use Rattle.vf_heap.specs.Calls.{Leaves, Extends, RefusesImage, size_at};
+ghost use Rattle.vf_heap.specs.Calls.{LeavesLentHeap, Extends, RefusesImage, size_at};
 
 use crate::image::image_status;
 use crate::plain;
@@ -39,9 +39,10 @@ pub extern "C" fn vf_heap_checked_describe(memory: &[u8], most: &mut usize, free
 pub extern "C" fn vf_heap_checked_claim(memory: &mut [u8], n: usize, address: &mut usize) -> u32
     ensures refused { RefusesImage memory.old memory.new result }
     ensures kept { image_status memory.old ≢ 0 → address.new ≡ address.old }
-    ensures status { image_status memory.old ≡ 0 → result ≡ status_of (claim n (heap_of memory.old 0)) }
-    ensures address { image_status memory.old ≡ 0 → address.new ≡ number_or (claim n (heap_of memory.old 0)) address.old }
-    ensures left { image_status memory.old ≡ 0 → Leaves memory.old memory.new (claim n (heap_of memory.old 0)) }
+    ensures status { image_status memory.old ≡ 0 → result ≡ status_of (claim_block n (heap_of memory.old 0)) }
+    ensures address { image_status memory.old ≡ 0 → address.new ≡ number_or (claim_block n (heap_of memory.old 0)) address.old }
+    ensures left { image_status memory.old ≡ 0 → LeavesLentHeap memory.old memory.new
+        (claim_block n (heap_of memory.old 0)) }
 {
     match image_status(memory) {
         OK => plain::vf_heap_claim(memory, n, address),
@@ -54,7 +55,7 @@ pub extern "C" fn vf_heap_checked_claim(memory: &mut [u8], n: usize, address: &m
 pub extern "C" fn vf_heap_checked_release(memory: &mut [u8], address: usize) -> u32
     ensures refused { RefusesImage memory.old memory.new result }
     ensures status { image_status memory.old ≡ 0 → result ≡ status_of (no_answer (released_at address (heap_of memory.old 0))) }
-    ensures left { image_status memory.old ≡ 0 → Leaves memory.old memory.new (no_answer (released_at address (heap_of memory.old 0))) }
+    ensures left { image_status memory.old ≡ 0 → LeavesLentHeap memory.old memory.new (no_answer (released_at address (heap_of memory.old 0))) }
 {
     match image_status(memory) {
         OK => plain::vf_heap_release(memory, address),
@@ -72,9 +73,10 @@ pub extern "C" fn vf_heap_checked_resize(
 ) -> u32
     ensures refused { RefusesImage memory.old memory.new result }
     ensures kept { image_status memory.old ≢ 0 → moved_to.new ≡ moved_to.old }
-    ensures status { image_status memory.old ≡ 0 → result ≡ status_of (resize address delta (heap_of memory.old 0)) }
-    ensures address { image_status memory.old ≡ 0 → moved_to.new ≡ number_or (resize address delta (heap_of memory.old 0)) moved_to.old }
-    ensures left { image_status memory.old ≡ 0 → Leaves memory.old memory.new (resize address delta (heap_of memory.old 0)) }
+    ensures status { image_status memory.old ≡ 0 → result ≡ status_of
+        (resize_block address delta (heap_of memory.old 0)) }
+    ensures address { image_status memory.old ≡ 0 → moved_to.new ≡ number_or (resize_block address delta (heap_of memory.old 0)) moved_to.old }
+    ensures left { image_status memory.old ≡ 0 → LeavesLentHeap memory.old memory.new (resize_block address delta (heap_of memory.old 0)) }
 {
     match image_status(memory) {
         OK => plain::vf_heap_resize(memory, address, delta, moved_to),

@@ -2,13 +2,13 @@
 //! block. They take the bytes and the map as the last call left them, and do with the bytes what the plain calls do.
 ghost use Rattle.std.specs.Prelude.{◌≡◌, ◌≢◌, ◌*◌, ◌/◌, ◌≤◌, length};
 ghost use Rattle.rh_defs.specs.Chain.{no_answer};
-ghost use Rattle.rh_defs.specs.Heap.{claim, released_at, resize, need_at};
+ghost use Rattle.rh_defs.specs.Heap.{claim_block, released_at, resize_block, need_at};
 ghost use Rattle.rh_defs.specs.HeapImage.{heap_of};
 ghost use Rattle.rh_store.specs.Starts.{IsIndex};
 ghost use Rattle.rh_store.specs.declared.starts.TheConstants.{LINE_BYTES};
 ghost use Rattle.rh_lent.specs.Heaps.{IsHeapBytes};
 ghost use Rattle.vf_heap.specs.Status.{answer_or, answer_status, map_status, map_words, number_or, status_of};
-ghost use Rattle.vf_heap.specs.Calls.{Leaves, IsFar, size_at};
+ghost use Rattle.vf_heap.specs.Calls.{LeavesLentHeap, IsFar, size_at};
 
 use crate::plain::far_refusal;
 use crate::status::{NO_ROOM, OK, SHORT, outcome_status, refusal_status, told};
@@ -50,9 +50,9 @@ pub extern "C" fn vf_heap_indexed_claim(
 ) -> u32
     requires heap { IsHeapBytes memory.old }
     requires map { IsIndex map.old (heap_of memory.old 0) }
-    ensures status { result ≡ status_of (claim n (heap_of memory.old 0)) }
-    ensures address { address.new ≡ number_or (claim n (heap_of memory.old 0)) address.old }
-    ensures left { Leaves memory.old memory.new (claim n (heap_of memory.old 0)) }
+    ensures status { result ≡ status_of (claim_block n (heap_of memory.old 0)) }
+    ensures address { address.new ≡ number_or (claim_block n (heap_of memory.old 0)) address.old }
+    ensures left { LeavesLentHeap memory.old memory.new (claim_block n (heap_of memory.old 0)) }
     ensures map { IsIndex map.new (heap_of memory.new 0) }
     ensures refused { result ≢ 0 → map.new ≡ map.old }
 {
@@ -68,7 +68,7 @@ pub extern "C" fn vf_heap_indexed_release(memory: &mut [u8], map: &mut [u64], ad
     requires heap { IsHeapBytes memory.old }
     requires map { IsIndex map.old (heap_of memory.old 0) }
     ensures status { result ≡ status_of (no_answer (released_at address (heap_of memory.old 0))) }
-    ensures left { Leaves memory.old memory.new (no_answer (released_at address (heap_of memory.old 0))) }
+    ensures left { LeavesLentHeap memory.old memory.new (no_answer (released_at address (heap_of memory.old 0))) }
     ensures map { IsIndex map.new (heap_of memory.new 0) }
     ensures refused { result ≢ 0 → map.new ≡ map.old }
 {
@@ -86,9 +86,9 @@ pub extern "C" fn vf_heap_indexed_resize(
 ) -> u32
     requires heap { IsHeapBytes memory.old }
     requires map { IsIndex map.old (heap_of memory.old 0) }
-    ensures status { result ≡ status_of (resize address delta (heap_of memory.old 0)) }
-    ensures address { moved_to.new ≡ number_or (resize address delta (heap_of memory.old 0)) moved_to.old }
-    ensures left { Leaves memory.old memory.new (resize address delta (heap_of memory.old 0)) }
+    ensures status { result ≡ status_of (resize_block address delta (heap_of memory.old 0)) }
+    ensures address { moved_to.new ≡ number_or (resize_block address delta (heap_of memory.old 0)) moved_to.old }
+    ensures left { LeavesLentHeap memory.old memory.new (resize_block address delta (heap_of memory.old 0)) }
     ensures map { IsIndex map.new (heap_of memory.new 0) }
     ensures refused { result ≢ 0 → map.new ≡ map.old }
 {
@@ -128,7 +128,7 @@ pub extern "C" fn vf_heap_indexed_resize_need(
     requires map { IsIndex map.now (heap_of memory.now 0) }
     ensures status { (IsFar delta → ⊥) → result ≡ answer_status (need_at address delta (heap_of memory.now 0)) }
     ensures need { (IsFar delta → ⊥) → need.new ≡ answer_or (need_at address delta (heap_of memory.now 0)) need.old }
-    ensures far { IsFar delta → result ≡ status_of (resize address delta (heap_of memory.now 0)) }
+    ensures far { IsFar delta → result ≡ status_of (resize_block address delta (heap_of memory.now 0)) }
     ensures kept { IsFar delta → need.new ≡ need.old }
 {
     match i32::try_from(delta) {

@@ -1,11 +1,11 @@
 //! The calls on bytes that are as the last call left them.
 ghost use Rattle.std.specs.Prelude.{◌≡◌, ◌≢◌, length, Err};
 ghost use Rattle.rh_defs.specs.Chain.{no_answer};
-ghost use Rattle.rh_defs.specs.Heap.{claim, released_at, resize, largest, free_bytes, empty_heap};
+ghost use Rattle.rh_defs.specs.Heap.{claim_block, released_at, resize_block, largest, free_bytes, empty_heap};
 ghost use Rattle.rh_defs.specs.HeapImage.{heap_of};
 ghost use Rattle.rh_lent.specs.Heaps.{IsHeapBytes};
 ghost use Rattle.vf_heap.specs.Status.{answer_or, answer_status, extend_status, length_status, number_or, status_of};
-ghost use Rattle.vf_heap.specs.Calls.{Leaves, Extends, IsFar, size_at};
+ghost use Rattle.vf_heap.specs.Calls.{LeavesLentHeap, Extends, IsFar, size_at};
 
 use crate::image::length_status;
 use crate::status::{
@@ -48,9 +48,9 @@ pub extern "C" fn vf_heap_describe(memory: &[u8], most: &mut usize, free: &mut u
 #[unsafe(no_mangle)]
 pub extern "C" fn vf_heap_claim(memory: &mut [u8], n: usize, address: &mut usize) -> u32
     requires { IsHeapBytes memory.old }
-    ensures status { result ≡ status_of (claim n (heap_of memory.old 0)) }
-    ensures address { address.new ≡ number_or (claim n (heap_of memory.old 0)) address.old }
-    ensures left { Leaves memory.old memory.new (claim n (heap_of memory.old 0)) }
+    ensures status { result ≡ status_of (claim_block n (heap_of memory.old 0)) }
+    ensures address { address.new ≡ number_or (claim_block n (heap_of memory.old 0)) address.old }
+    ensures left { LeavesLentHeap memory.old memory.new (claim_block n (heap_of memory.old 0)) }
 {
     match u32::try_from(n) {
         Ok(n) => told(heap::claim(memory, n), address),
@@ -63,7 +63,7 @@ pub extern "C" fn vf_heap_claim(memory: &mut [u8], n: usize, address: &mut usize
 pub extern "C" fn vf_heap_release(memory: &mut [u8], address: usize) -> u32
     requires { IsHeapBytes memory.old }
     ensures status { result ≡ status_of (no_answer (released_at address (heap_of memory.old 0))) }
-    ensures left { Leaves memory.old memory.new (no_answer (released_at address (heap_of memory.old 0))) }
+    ensures left { LeavesLentHeap memory.old memory.new (no_answer (released_at address (heap_of memory.old 0))) }
 {
     outcome_status(heap::release(memory, address))
 }
@@ -72,7 +72,7 @@ pub extern "C" fn vf_heap_release(memory: &mut [u8], address: usize) -> u32
 pub(crate) fn far_refusal(memory: &[u8], address: usize, delta: isize) -> HeapRefusal
     requires heap { IsHeapBytes memory.now }
     requires far { IsFar delta }
-    ensures { resize address delta (heap_of memory.now 0) ≡ Err result }
+    ensures { resize_block address delta (heap_of memory.now 0) ≡ Err result }
 {
     match heap::block_size(memory, address) {
         Err(refusal) => refusal,
@@ -90,9 +90,9 @@ pub extern "C" fn vf_heap_resize(
     moved_to: &mut usize,
 ) -> u32
     requires { IsHeapBytes memory.old }
-    ensures status { result ≡ status_of (resize address delta (heap_of memory.old 0)) }
-    ensures address { moved_to.new ≡ number_or (resize address delta (heap_of memory.old 0)) moved_to.old }
-    ensures left { Leaves memory.old memory.new (resize address delta (heap_of memory.old 0)) }
+    ensures status { result ≡ status_of (resize_block address delta (heap_of memory.old 0)) }
+    ensures address { moved_to.new ≡ number_or (resize_block address delta (heap_of memory.old 0)) moved_to.old }
+    ensures left { LeavesLentHeap memory.old memory.new (resize_block address delta (heap_of memory.old 0)) }
 {
     match i32::try_from(delta) {
         Ok(delta) => told(heap::resize(memory, address, delta), moved_to),

@@ -9,7 +9,7 @@ use Rattle.std.specs.Option.{option_map}
 use Rattle.rh_defs.specs.Files.{FileList, file_bytes, has_file}
 use Rattle.rh_defs.specs.Bytes.{word}
 use Rattle.rh_defs.specs.declared.sizes.TheConstants.{WORD}
-use Rattle.vf_web.specs.Packed.{are_apart, files_within, front_file, listed, named_file}
+use Rattle.vf_web.specs.Packed.{are_apart, files_within, front_file, packed_files, named_file}
 
 -- a file, and the bytes behind it
 abbrev Found : Type 0
@@ -59,13 +59,13 @@ files_within-enough (suc j) (suc k) (x ∷ rest) p q =
     before-same j k (front_file (x ∷ rest)) (λ found e. files_within-enough j k found.1 (omega (arith, front_file-fewer (x ∷ rest) found e))
     (omega (arith, front_file-fewer (x ∷ rest) found e)))
 
-pub listed-none : listed [] ≡ Some []
-unfolding listed files_within
+pub listed-none : packed_files [] ≡ Some []
+unfolding packed_files files_within
 listed-none = refl
 
 -- the files are the first one and those behind it
-pub listed-front : (b : List ℕ) (found : Found) → front_file b ≡ Some found → listed b ≡ option_map (λ files. found.0 ∷ files) (listed found.1)
-unfolding listed files_within front_file
+pub listed-front : (b : List ℕ) (found : Found) → front_file b ≡ Some found → packed_files b ≡ option_map (λ files. found.0 ∷ files) (packed_files found.1)
+unfolding packed_files files_within front_file
 listed-front [] found e = absurd (cc)
 listed-front (x ∷ rest) found e =
     ap (option_and_then (before (length rest))) e
@@ -73,15 +73,15 @@ listed-front (x ∷ rest) found e =
     (omega (arith, front_file-fewer (x ∷ rest) found e)) (omega arith))
 
 -- where no file stands at the front, there are no bytes, or they are no files
-pub listed-no_front : (b : List ℕ) → front_file b ≡ None → 0 < length b → listed b ≡ None
-unfolding listed files_within
+pub listed-no_front : (b : List ℕ) → front_file b ≡ None → 0 < length b → packed_files b ≡ None
+unfolding packed_files files_within
 listed-no_front [] e p = absurd (omega arith)
 listed-no_front (x ∷ rest) e p = ap (option_and_then (before (length rest))) e
 
 -- ---- walks
 
 -- where no file stands at the front, there are no bytes, if they are files
-pub listed-end : (b : List ℕ) (files : FileList) → listed b ≡ Some files → front_file b ≡ None → files ≡ []
+pub listed-end : (b : List ℕ) (files : FileList) → packed_files b ≡ Some files → front_file b ≡ None → files ≡ []
 listed-end [] files l e = some_same (sym l ∙ listed-none)
   where
     some_same : {X : Type 0} {x y : X} → Some x ≡ Some y → x ≡ y
@@ -92,24 +92,25 @@ listed-end (x ∷ rest) files l e = absurd (none_is_none (sym l ∙ listed-no_fr
     none_is_none e = cc
 
 -- the files are the first one and some behind it
-pub listed-step : (b : List ℕ) (files : FileList) (found : Found) → listed b ≡ Some files → front_file b ≡ Some found
-    → (behind : FileList) × (listed found.1 ≡ Some behind) × (files ≡ found.0 ∷ behind)
-listed-step b files found l e = step (listed found.1) refl (sym l ∙ listed-front b found e)
+pub listed-step : (b : List ℕ) (files : FileList) (found : Found) → packed_files b ≡ Some files → front_file b ≡ Some found
+    → (behind : FileList) × (packed_files found.1 ≡ Some behind) × (files ≡ found.0 ∷ behind)
+listed-step b files found l e = step (packed_files found.1) refl (sym l ∙ listed-front b found e)
   where
-    step : (o : Option FileList) → listed found.1 ≡ o → Some files ≡ option_map (λ files. found.0 ∷ files) o
-        → (behind : FileList) × (listed found.1 ≡ Some behind) × (files ≡ found.0 ∷ behind)
+    step : (o : Option FileList) → packed_files found.1 ≡ o → Some files ≡ option_map (λ files. found.0 ∷ files) o
+        → (behind : FileList) × (packed_files found.1 ≡ Some behind) × (files ≡ found.0 ∷ behind)
     step None h q = absurd (cc)
     step (Some behind) h q = (behind, h, cc)
 
 -- some bytes are files just where what is behind the first one is
-pub is_some-front : (b : List ℕ) (file : List ℕ × List ℕ) (behind : List ℕ) → front_file b ≡ Some (file, behind) → is_some (listed b) ≡ is_some (listed behind)
-is_some-front b file behind e = ap is_some (listed-front b (file, behind) e) ∙ is_some-map (listed behind)
+pub is_some-front : (b : List ℕ) (file : List ℕ × List ℕ) (behind : List ℕ) → front_file b ≡ Some (file, behind) → is_some (packed_files b) ≡ is_some
+    (packed_files behind)
+is_some-front b file behind e = ap is_some (listed-front b (file, behind) e) ∙ is_some-map (packed_files behind)
   where
     is_some-map : (o : Option FileList) → is_some (option_map (λ files. file ∷ files) o) ≡ is_some o
     is_some-map None = refl
     is_some-map (Some files) = refl
 
-pub listed-empty : (b : List ℕ) → length b ≡ 0 → listed b ≡ Some []
+pub listed-empty : (b : List ℕ) → length b ≡ 0 → packed_files b ≡ Some []
 listed-empty [] e = listed-none
 listed-empty (x ∷ rest) e = absurd (omega arith)
 
@@ -128,22 +129,23 @@ has_file-found name (file ∷ files) =
     [ true ↦ refl | false ↦ has_file-found name files ])
 
 -- a file with another name is passed by
-pub find-next : (b name : List ℕ) (file : List ℕ × List ℕ) (behind : List ℕ) (rest : FileList) → listed b ≡ Some rest → front_file b ≡ Some (file, behind)
-    → bytes_eq file.0 name ≡ false → (x : FileList) × (listed behind ≡ Some x) × (file_bytes name rest ≡ file_bytes name x)
+pub find-next : (b name : List ℕ) (file : List ℕ × List ℕ) (behind : List ℕ) (rest : FileList) → packed_files b ≡ Some rest → front_file b ≡ Some (file, behind)
+    → bytes_eq file.0 name ≡ false → (x : FileList) × (packed_files behind ≡ Some x) × (file_bytes name rest ≡ file_bytes name x)
 find-next b name file behind rest l e n =
     let s = listed-step b rest (file, behind) l e in (s.0, s.1, ap (file_bytes name) s.2 ∙ rw n refl)
 
 -- a file whose name none behind it has is passed by
-pub apart-next : (b : List ℕ) (file : List ℕ × List ℕ) (behind : List ℕ) (rest : FileList) → listed b ≡ Some rest → front_file b ≡ Some (file, behind)
-    → ((x : FileList) → listed behind ≡ Some x → file_bytes file.0 x ≡ None) → (x : FileList) × (listed behind ≡ Some x) × (are_apart rest ≡ are_apart x)
+pub apart-next : (b : List ℕ) (file : List ℕ × List ℕ) (behind : List ℕ) (rest : FileList) → packed_files b ≡ Some rest → front_file b ≡ Some (file, behind)
+    → ((x : FileList) → packed_files behind ≡ Some x → file_bytes file.0 x ≡ None) → (x : FileList) × (packed_files behind ≡ Some x) ×
+    (are_apart rest ≡ are_apart x)
 apart-next b file behind rest l e n =
     let s = listed-step b rest (file, behind) l e in
     let h : has_file file.0 s.0 ≡ false = has_file-found file.0 s.0 ∙ ap is_some (n s.0 s.1) in
     (s.0, s.1, ap are_apart s.2 ∙ rw h refl)
 
 -- files of which two have one name aren't apart
-pub apart-none : (b : List ℕ) (file : List ℕ × List ℕ) (behind : List ℕ) (rest : FileList) → listed b ≡ Some rest → front_file b ≡ Some (file, behind)
-    → ((x : FileList) → listed behind ≡ Some x → is_some (file_bytes file.0 x) ≡ true) → are_apart rest ≡ false
+pub apart-none : (b : List ℕ) (file : List ℕ × List ℕ) (behind : List ℕ) (rest : FileList) → packed_files b ≡ Some rest → front_file b ≡ Some (file, behind)
+    → ((x : FileList) → packed_files behind ≡ Some x → is_some (file_bytes file.0 x) ≡ true) → are_apart rest ≡ false
 apart-none b file behind rest l e n =
     let s = listed-step b rest (file, behind) l e in
     let h : has_file file.0 s.0 ≡ true = has_file-found file.0 s.0 ∙ n s.0 s.1 in

@@ -7,25 +7,25 @@ use Rattle.rh_figure.specs.Map.{Place, read_lines}
 use Rattle.rh_figure.specs.Whole.{IsMap}
 use Rattle.rh_lines.proofs.TextLemmas.{wrote}
 use Rattle.rh_lines.specs.Flow.{Takes, unread}
-use Rattle.rh_lines.specs.WholeText.{before_of, bytes_of, output_of, text_of}
+use Rattle.rh_lines.specs.WholeText.{before_of, whole_bytes, output_of, whole_text}
 use Rattle.rh_lines.specs.declared.whole_text.WholeText.{WholeText}
 use Rattle.rh_painted.specs.Painted.{IsSheet, Painted}
 use Rattle.rh_session.specs.Outcome.{Finished, status_of}
 use Rattle.rh_session.specs.declared.status.Status.{Status}
-use Rattle.vf_web.specs.Status.{bad_status, number_of}
+use Rattle.vf_web.specs.Status.{bad_status, status_number}
 
 -- the text was written to the bytes that were lent, and the status says whether something was bad
 pub record Ended (old new : WholeText) (text : List ℕ) (bad : Bool) (status : Status) : Type 0 where
-  pub same : (bytes_of new).ghost_name ≡ (bytes_of old).ghost_name
+  pub same : (whole_bytes new).ghost_name ≡ (whole_bytes old).ghost_name
   pub before : before_of new ≡ before_of old
-  pub text_is : text_of new ≡ text
-  pub status_is : number_of status ≡ bad_status bad
+  pub text_is : whole_text new ≡ text
+  pub status_is : status_number status ≡ bad_status bad
 
-numbered : (bad : Bool) → number_of (status_of bad) ≡ bad_status bad
+numbered : (bad : Bool) → status_number (status_of bad) ≡ bad_status bad
 numbered true = refl
 numbered false = refl
 
-pub ended : (old new : WholeText) {text : List ℕ} {status : Status} (bad : Bool) → text_of old ≡ [] → Takes (output_of old) (output_of new) text
+pub ended : (old new : WholeText) {text : List ℕ} {status : Status} (bad : Bool) → whole_text old ≡ [] → Takes (output_of old) (output_of new) text
     → status ≡ status_of bad → Ended old new text bad status
 ended old new {text} bad none takes is =
     let w = wrote takes in
@@ -33,7 +33,7 @@ ended old new {text} bad none takes is =
       same = w.same_reference;
       before = w.before;
       text_is = w.text ∙ ap (λ l. l ++ text) none;
-      status_is = ap number_of is ∙ numbered bad;
+      status_is = ap status_number is ∙ numbered bad;
     }
 
 -- what ends in no error
@@ -45,7 +45,7 @@ never (Err e) P h refuted = absurd (refuted e h)
 read_whole : (script bytes : List ℕ) → script ≡ bytes ++ [] → bytes ≡ script
 read_whole script bytes all = sym (all ∙ append-nil bytes)
 
-pub run_ended : (d : Desk) (script : List ℕ) (old new : WholeText) (status : Status) → text_of old ≡ []
+pub run_ended : (d : Desk) (script : List ℕ) (old new : WholeText) (status : Status) → whole_text old ≡ []
     → Finished d (unread script) (unread []) (output_of old) (output_of new) status → Ended old new (script_text d script) (has_bad_line script) status
 run_ended d script old new status none f =
     let e = read_whole script f.bytes f.read in
@@ -58,7 +58,7 @@ pub record MapEnded (marked : Bool) (p : Place) (script : List ℕ) (old new : W
   pub map : IsMap marked p (read_lines script) text
   pub ends : Ended old new text (has_bad_line script) status
 
-pub map_ended : (marked : Bool) (p : Place) (script : List ℕ) (old new : WholeText) (status : Status) → text_of old ≡ []
+pub map_ended : (marked : Bool) (p : Place) (script : List ℕ) (old new : WholeText) (status : Status) → whole_text old ≡ []
     → Mapped marked p (unread script) (unread []) (output_of old) (output_of new) status → MapEnded marked p script old new status
 map_ended marked p script old new status none f =
     let e = read_whole script f.bytes f.read in
@@ -71,7 +71,7 @@ pub record SheetEnded (marked : Bool) (name : List ℕ) (d : Desk) (script : Lis
   pub sheet : IsSheet marked name d (read_lines script) text
   pub ends : Ended old new text (has_bad_line script) status
 
-pub sheet_ended : (marked : Bool) (name : List ℕ) (d : Desk) (script : List ℕ) (old new : WholeText) (status : Status) → text_of old ≡ []
+pub sheet_ended : (marked : Bool) (name : List ℕ) (d : Desk) (script : List ℕ) (old new : WholeText) (status : Status) → whole_text old ≡ []
     → Painted marked name d (unread script) (unread []) (output_of old) (output_of new) status → SheetEnded marked name d script old new status
 sheet_ended marked name d script old new status none f =
     let e = read_whole script f.bytes f.read in

@@ -30,8 +30,8 @@ files_within (suc most) (x ∷ rest) =
     option_and_then (λ found. option_map (λ files. found.0 ∷ files) (files_within most found.1)) (front_file (x ∷ rest))
 
 -- the files that stand one behind the other in the bytes, whatever their names; None where they don't
-unfoldable pub listed : List ℕ → Option FileList
-listed bytes = files_within (length bytes) bytes
+unfoldable pub packed_files : List ℕ → Option FileList
+packed_files bytes = files_within (length bytes) bytes
 
 -- no two files have one name
 abbrev pub are_apart : FileList → Bool
@@ -40,7 +40,7 @@ are_apart (file ∷ files) = not (has_file file.0 files) && are_apart files
 
 -- the files that the bytes are; None where they are none, or two of them have one name
 unfoldable pub files_in : List ℕ → Option FileList
-files_in bytes = option_and_then (λ files. if are_apart files then Some files else None) (listed bytes)
+files_in bytes = option_and_then (λ files. if are_apart files then Some files else None) (packed_files bytes)
 
 -- the same, and no files where the bytes are none
 abbrev pub files_of : List ℕ → FileList

@@ -5,7 +5,7 @@ use Rattle.rh_feed.specs.declared.feeding.TheConstants.{LONGEST_SCRIPT}
 use Rattle.rh_session.specs.declared.status.Status.{Status}
 use Rattle.rh_session.specs.declared.status.Status.TheVariants.{Clean, BadLines}
 use Rattle.vf_web.specs.Packed.{files_in}
-use Rattle.vf_web.specs.Room.{has_room}
+use Rattle.vf_web.specs.Room.{has_room_for}
 
 -- 0 where a script has no more bytes than are read, and else 5
 abbrev pub script_status : ℕ → ℕ
@@ -20,16 +20,16 @@ files_status (Some files) n = script_status n
 -- else 2, where there are too few or too many of the first three, 3 or 5
 unfoldable pub lent_status : ℕ → ℕ → ℕ → ℕ → List ℕ → ℕ
 lent_status pages pool numbers script files =
-    if has_room pages pool numbers then files_status (files_in files) script else 2
+    if has_room_for pages pool numbers then files_status (files_in files) script else 2
 
 -- 0 where nothing was bad, and 1 where something was
 abbrev pub bad_status : Bool → ℕ
 bad_status bad = if bad then 1 else 0
 
 -- the same of a run
-abbrev pub number_of : Status → ℕ
-number_of Clean = 0
-number_of BadLines = 1
+abbrev pub status_number : Status → ℕ
+status_number Clean = 0
+status_number BadLines = 1
 
 -- the status of a text that is to be written to n bytes: 4 where it is longer, and else whether something was bad
 abbrev pub text_status : ℕ → List ℕ → Bool → ℕ

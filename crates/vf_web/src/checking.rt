@@ -5,7 +5,7 @@ ghost use Rattle.rh_defs.specs.HeapImage.{fault_of};
 ghost use Rattle.rh_slot.specs.Image.{slot_fault_of};
 ghost use Rattle.rh_run.specs.Checked.{image_line};
 ghost use Rattle.rh_run.specs.CheckedSlot.{slot_image_line};
-ghost use Rattle.vf_web.specs.Calls.{Told};
+ghost use Rattle.vf_web.specs.Calls.{ToldText};
 
 use crate::running::told;
 use rh_lines::WholeText;
@@ -13,7 +13,7 @@ use rh_run::{check_image, check_slot_image};
 
 /// What a heap of these bytes consists of, or what is wrong first.
 pub fn heap(image: &[u8], text: &mut [u8], needed: &mut usize) -> u32
-    ensures { Told (image_line image.now) (is_some (fault_of image.now)) result text.old text.new needed.new }
+    ensures { ToldText (image_line image.now) (is_some (fault_of image.now)) result text.old text.new needed.new }
 {
     let room = text.len();
     let mut writer = WholeText::new(text);
@@ -23,7 +23,7 @@ pub fn heap(image: &[u8], text: &mut [u8], needed: &mut usize) -> u32
 
 /// What a slot of these bytes consists of, or what is wrong first.
 pub fn slot(image: &[u8], text: &mut [u8], needed: &mut usize) -> u32
-    ensures { Told (slot_image_line image.now) (is_some (slot_fault_of image.now)) result text.old text.new needed.new }
+    ensures { ToldText (slot_image_line image.now) (is_some (slot_fault_of image.now)) result text.old text.new needed.new }
 {
     let room = text.len();
     let mut writer = WholeText::new(text);

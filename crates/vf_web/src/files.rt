@@ -5,7 +5,7 @@ ghost use Rattle.std.specs.Option.{option_map};
 ghost use Rattle.rh_defs.specs.Files.{file_bytes};
 ghost use Rattle.rh_defs.specs.Forms.{is_name};
 ghost use Rattle.rh_defs.specs.declared.sizes.TheConstants.{LONGEST_FILE};
-ghost use Rattle.vf_web.specs.Packed.{are_apart, files_in, front_file, listed, named_file};
+ghost use Rattle.vf_web.specs.Packed.{are_apart, files_in, front_file, packed_files, named_file};
 
 use rh_defs::Name;
 use rh_defs::sizes::{LONGEST_FILE, WORD};
@@ -69,7 +69,7 @@ struct Front<'a> {
 
 /// Whether these bytes are files, one behind the other, whatever their names.
 fn are_listed(bytes: &[u8]) -> bool
-    ensures { result ≡ is_some (listed bytes.now) }
+    ensures { result ≡ is_some (packed_files bytes.now) }
 {
     let mut rest = bytes;
     while !rest.is_empty() {
@@ -83,8 +83,8 @@ fn are_listed(bytes: &[u8]) -> bool
 
 /// Whether no two of these files have one name.
 fn have_own_names(bytes: &[u8]) -> bool
-    requires { IsTrue (is_some (listed bytes.now)) }
-    ensures { IfSome (listed bytes.now) (λ files. result ≡ are_apart files) }
+    requires { IsTrue (is_some (packed_files bytes.now)) }
+    ensures { IfSome (packed_files bytes.now) (λ files. result ≡ are_apart files) }
 {
     let mut rest = bytes;
     while let Some(front) = front_file(rest) {
@@ -98,8 +98,8 @@ fn have_own_names(bytes: &[u8]) -> bool
 
 /// The bytes of the first of these files with the name, None where there is none.
 fn find<'a>(bytes: &'a [u8], name: &[u8]) -> Option<&'a [u8]>
-    requires { IsTrue (is_some (listed bytes.now)) }
-    ensures value { IfSome (listed bytes.now) (λ files. MatchOption result (file_bytes name.now files ≡ None) (λ found. file_bytes name.now files ≡ Some found.now)) }
+    requires { IsTrue (is_some (packed_files bytes.now)) }
+    ensures value { IfSome (packed_files bytes.now) (λ files. MatchOption result (file_bytes name.now files ≡ None) (λ found. file_bytes name.now files ≡ Some found.now)) }
     ensures short { IfSome result (λ found. length found.now ≤ LONGEST_FILE) }
 {
     let mut rest = bytes;

@@ -3,7 +3,7 @@
 ghost use Rattle.std.specs.Prelude.{◌≡◌, ◌≢◌, ◌≤◌, IfErr, IfOk, IsTrue};
 ghost use Rattle.rh_feed.specs.declared.feeding.TheConstants.{LONGEST_SCRIPT};
 ghost use Rattle.vf_web.specs.Packed.{files_of};
-ghost use Rattle.vf_web.specs.Room.{has_room};
+ghost use Rattle.vf_web.specs.Room.{has_room_for};
 ghost use Rattle.vf_web.specs.Status.{lent_status};
 
 use crate::files::LentFiles;
@@ -21,7 +21,7 @@ pub fn lent_files<'a>(
     script: usize,
     files: &'a [u8],
 ) -> Result<LentFiles<'a>, u32>
-    ensures room { IfOk result (λ found. IsTrue (has_room pages bytes numbers)) }
+    ensures room { IfOk result (λ found. IsTrue (has_room_for pages bytes numbers)) }
     ensures short { IfOk result (λ found. script ≤ LONGEST_SCRIPT) }
     ensures files { IfOk result (λ found. found ≡ files_of files.now) }
     ensures fit { IfOk result (λ found. lent_status pages bytes numbers script files.now ≡ 0) }

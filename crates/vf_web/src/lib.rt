@@ -18,10 +18,10 @@ ghost use Rattle.rh_defs.specs.HeapImage.{fault_of};
 ghost use Rattle.rh_defs.specs.Runs.{start};
 ghost use Rattle.rh_defs.specs.Script.{script_text, has_bad_line};
 ghost use Rattle.rh_slot.specs.Image.{slot_fault_of};
-ghost use Rattle.rh_figure.specs.Map.{first_place};
+ghost use Rattle.rh_figure.specs.Map.{map_start};
 ghost use Rattle.rh_run.specs.Checked.{image_line};
 ghost use Rattle.rh_run.specs.CheckedSlot.{slot_image_line};
-ghost use Rattle.vf_web.specs.Calls.{MapTold, SheetTold, Told, Untouched};
+ghost use Rattle.vf_web.specs.Calls.{MapTold, SheetTold, ToldText, Untouched};
 ghost use Rattle.vf_web.specs.Packed.{files_of};
 ghost use Rattle.vf_web.specs.Status.{lent_status};
 
@@ -43,7 +43,7 @@ pub extern "C" fn vf_run(
     ensures refused { let refusal = lent_status pages (length pool.old) (length numbers.old) (length script.now) files.now in
         refusal ≢ 0 → Untouched result refusal text.old text.new needed.old needed.new }
     ensures told { lent_status pages (length pool.old) (length numbers.old) (length script.now) files.now ≡ 0 →
-        Told (script_text (start pages (files_of files.now)) script.now) (has_bad_line script.now) result text.old text.new needed.new }
+        ToldText (script_text (start pages (files_of files.now)) script.now) (has_bad_line script.now) result text.old text.new needed.new }
 {
     let files = match lent_files(pages, pool.len(), numbers.len(), script.len(), files) {
         Ok(files) => files,
@@ -68,7 +68,7 @@ pub extern "C" fn vf_map(
     ensures refused { let refusal = lent_status pages (length pool.old) (length numbers.old) (length script.now) files.now in
         refusal ≢ 0 → Untouched result refusal text.old text.new needed.old needed.new }
     ensures told { lent_status pages (length pool.old) (length numbers.old) (length script.now) files.now ≡ 0 →
-        MapTold (not (marked == 0)) (first_place pages (files_of files.now)) script.now result text.old text.new needed.new }
+        MapTold (not (marked == 0)) (map_start pages (files_of files.now)) script.now result text.old text.new needed.new }
 {
     let files = match lent_files(pages, pool.len(), numbers.len(), script.len(), files) {
         Ok(files) => files,
@@ -108,8 +108,8 @@ pub extern "C" fn vf_draw(
 /// Writes what the heap (0) or the slot (1) of these bytes consists of, or what is wrong first with bytes that are none.
 #[unsafe(no_mangle)]
 pub extern "C" fn vf_check(kind: u32, image: &[u8], text: &mut [u8], needed: &mut usize) -> u32
-    ensures heap { kind ≡ 0 → Told (image_line image.now) (is_some (fault_of image.now)) result text.old text.new needed.new }
-    ensures slot { kind ≡ 1 → Told (slot_image_line image.now) (is_some (slot_fault_of image.now)) result text.old text.new needed.new }
+    ensures heap { kind ≡ 0 → ToldText (image_line image.now) (is_some (fault_of image.now)) result text.old text.new needed.new }
+    ensures slot { kind ≡ 1 → ToldText (slot_image_line image.now) (is_some (slot_fault_of image.now)) result text.old text.new needed.new }
     ensures unknown { 1 < kind → Untouched result 2 text.old text.new needed.old needed.new }
 {
     match kind {

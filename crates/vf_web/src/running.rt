@@ -6,9 +6,9 @@ ghost use Rattle.rh_defs.specs.Runs.{start};
 ghost use Rattle.rh_defs.specs.Script.{has_bad_line, script_text};
 ghost use Rattle.rh_defs.specs.declared.sizes.TheConstants.{MAX_PAGES, MIN_PAGES};
 ghost use Rattle.rh_feed.specs.declared.feeding.TheConstants.{LONGEST_SCRIPT};
-ghost use Rattle.rh_figure.specs.Map.{first_place};
-ghost use Rattle.vf_web.specs.Calls.{MapTold, SheetTold, Told};
-ghost use Rattle.vf_web.specs.Status.{number_of};
+ghost use Rattle.rh_figure.specs.Map.{map_start};
+ghost use Rattle.vf_web.specs.Calls.{MapTold, SheetTold, ToldText};
+ghost use Rattle.vf_web.specs.Status.{status_number};
 ghost use Rattle.vf_web.specs.declared.status.TheConstants.{SHORT_TEXT};
 
 use crate::status::{DONE, SHORT_TEXT, SOME_BAD};
@@ -28,7 +28,7 @@ pub fn replies<S: Store + Drop, F: NamedFiles + Drop>(
     requires fresh { S.memory store ≡ fresh (S.memory store).pages }
     requires least { MIN_PAGES ≤ (S.memory store).pages }
     requires most { (S.memory store).pages ≤ MAX_PAGES }
-    ensures told { Told (script_text (start (S.memory store).pages (F.contents files)) script.now) (has_bad_line script.now) result text.old text.new needed.new }
+    ensures told { ToldText (script_text (start (S.memory store).pages (F.contents files)) script.now) (has_bad_line script.now) result text.old text.new needed.new }
 {
     let room = text.len();
     let mut writer = WholeText::new(text);
@@ -49,7 +49,7 @@ pub fn map<S: Sited + Drop, F: NamedFiles + Drop>(
     requires least { MIN_PAGES ≤ (S.memory store).pages }
     requires most { (S.memory store).pages ≤ MAX_PAGES }
     requires short { length script.now ≤ LONGEST_SCRIPT }
-    ensures told { MapTold marked (first_place (S.memory store).pages (F.contents files)) script.now result text.old text.new needed.new }
+    ensures told { MapTold marked (map_start (S.memory store).pages (F.contents files)) script.now result text.old text.new needed.new }
 {
     let room = text.len();
     let mut writer = WholeText::new(text);
@@ -81,7 +81,7 @@ pub fn sheet<S: Sited + Drop, F: NamedFiles + Drop>(
 
 /// Tells how long a text is, and says how the call ends that wrote it to so many bytes.
 pub fn told(status: Status, length: usize, room: usize, needed: &mut usize) -> u32
-    ensures status { result ≡ (if nat_lt room length then SHORT_TEXT else number_of status) }
+    ensures status { result ≡ (if nat_lt room length then SHORT_TEXT else status_number status) }
     ensures needed { needed.new ≡ length }
 {
     *needed = length;

@@ -20,8 +20,8 @@ pub(crate) fn plain_store(alloc: Global) -> Result<PlainStore, AllocError>
 
 /// A store whose areas are scattered pages of one region.
 pub(crate) fn paged_store(alloc: Global) -> Result<PagedStore, AllocError>
-    ensures fresh { IfOk result (λ s. pages.memory_of s ≡ fresh (pages.memory_of s).pages) }
-    ensures pages { IfOk result (λ s. (pages.memory_of s).pages ≡ 64) }
+    ensures fresh { IfOk result (λ s. pages.paged_memory s ≡ fresh (pages.paged_memory s).pages) }
+    ensures pages { IfOk result (λ s. (pages.paged_memory s).pages ≡ 64) }
 {
     let store = PagedStore::new(alloc, 64)?;
     Ok(store)

@@ -2,9 +2,9 @@
 ghost use Rattle.std.specs.Prelude.{◌≡◌, ◌≢◌, ℕ, ◌+◌, ◌-◌, ◌%◌, ◌^◌, ◌<◌, ◌≤◌, length, replicate, None, MatchOption};
 ghost use Rattle.rh_defs.specs.Bytes.{word, part};
 ghost use Rattle.rh_defs.specs.Memory.{Memory, IsOpen, Edited, bytes};
-ghost use Rattle.rh_defs.specs.Heap.{Heap, hole_for, shortage_in, base, claim, claim_need};
+ghost use Rattle.rh_defs.specs.Heap.{Heap, hole_for, shortage_in, base, claim_block, claim_need};
 ghost use Rattle.rh_heap.specs.Spans.{IsSpan, OnlySpan, bytes_in, heap_in};
-ghost use Rattle.rh_heap.specs.Calls.{Leaves};
+ghost use Rattle.rh_heap.specs.Calls.{LeavesHeap};
 ghost use Rattle.rh_heap.specs.Claims.{Took};
 ghost use Rattle.rh_heap.specs.Holes.{FoundHole};
 ghost use Rattle.rh_defs.specs.declared.sizes.TheConstants.{HEAP_UNIT};
@@ -118,8 +118,8 @@ pub fn shortage<S: Words>(store: &S, span: Span, size: usize) -> usize
 /// segments. Refused: `BadSize` for 0 bytes, `NoRoom` where the heap is too short. (OS_Heap 2.)
 pub fn claim<S: WordsMut>(store: &mut S, span: Span, n: u32) -> Result<usize, HeapRefusal>
     requires { IsSpan (S.memory store.old) span }
-    ensures { Leaves (S.memory store.old) (S.memory store.new) span
-        (claim n (heap_in (S.memory store.old) span)) result }
+    ensures { LeavesHeap (S.memory store.old) (S.memory store.new) span
+        (claim_block n (heap_in (S.memory store.old) span)) result }
 {
     if n == 0 {
         return Err(HeapRefusal::BadSize);

@@ -4,9 +4,9 @@ ghost use Rattle.std.specs.Prelude.{◌≡◌, ◌≢◌, ℕ, ◌+◌, ◌*◌,
 ghost use Rattle.rh_defs.specs.Bytes.{word};
 ghost use Rattle.rh_defs.specs.Memory.{Memory, IsOpen, bytes};
 ghost use Rattle.rh_defs.specs.Chain.{no_answer};
-ghost use Rattle.rh_defs.specs.Heap.{hole_for, shortage_in, block_at, block_around, block_size, base, claim, released_at, resize, need_at};
+ghost use Rattle.rh_defs.specs.Heap.{hole_for, shortage_in, block_at, block_around, block_size, base, claim_block, released_at, resize_block, need_at};
 ghost use Rattle.rh_heap.specs.Spans.{IsSpan, OnlySpan, bytes_in, heap_in};
-ghost use Rattle.rh_heap.specs.Calls.{Leaves};
+ghost use Rattle.rh_heap.specs.Calls.{LeavesHeap};
 ghost use Rattle.rh_heap.specs.Claims.{Took};
 ghost use Rattle.rh_heap.specs.Segments.{FoundBlock};
 ghost use Rattle.rh_store.specs.Starts.{bit, IsIndex};
@@ -192,7 +192,7 @@ pub fn release_in<S: WordsMut>(
 ) -> Result<(), HeapRefusal>
     requires span { IsSpan (S.memory store.old) span }
     requires starts { IsIndex starts.old (heap_in (S.memory store.old) span) }
-    ensures leaves { Leaves (S.memory store.old) (S.memory store.new) span
+    ensures leaves { LeavesHeap (S.memory store.old) (S.memory store.new) span
         (no_answer (released_at address (heap_in (S.memory store.old) span))) result }
     ensures starts { IsIndex starts.new (heap_in (S.memory store.new) span) }
     ensures long { length starts.new ≡ length starts.old }
@@ -254,8 +254,8 @@ pub fn claim_in<S: WordsMut>(
 ) -> Result<usize, HeapRefusal>
     requires span { IsSpan (S.memory store.old) span }
     requires starts { IsIndex starts.old (heap_in (S.memory store.old) span) }
-    ensures leaves { Leaves (S.memory store.old) (S.memory store.new) span
-        (claim n (heap_in (S.memory store.old) span)) result }
+    ensures leaves { LeavesHeap (S.memory store.old) (S.memory store.new) span
+        (claim_block n (heap_in (S.memory store.old) span)) result }
     ensures starts { IsIndex starts.new (heap_in (S.memory store.new) span) }
     ensures long { length starts.new ≡ length starts.old }
     ensures same { OnErr result (starts.new ≡ starts.old) }
@@ -365,8 +365,8 @@ pub fn resize_in<S: WordsMut>(
 ) -> Result<usize, HeapRefusal>
     requires span { IsSpan (S.memory store.old) span }
     requires starts { IsIndex starts.old (heap_in (S.memory store.old) span) }
-    ensures leaves { Leaves (S.memory store.old) (S.memory store.new) span
-        (resize address delta (heap_in (S.memory store.old) span)) result }
+    ensures leaves { LeavesHeap (S.memory store.old) (S.memory store.new) span
+        (resize_block address delta (heap_in (S.memory store.old) span)) result }
     ensures starts { IsIndex starts.new (heap_in (S.memory store.new) span) }
     ensures long { length starts.new ≡ length starts.old }
     ensures same { OnErr result (starts.new ≡ starts.old) }

@@ -4,9 +4,9 @@ ghost use Rattle.std.specs.Prelude.{◌≡◌, ◌+◌, ◌*◌, ◌/◌, ◌%�
 ghost use Rattle.rh_defs.specs.Memory.{Memory, bytes};
 ghost use Rattle.rh_defs.specs.Pieces.{moved};
 ghost use Rattle.rh_defs.specs.Chain.{no_answer};
-ghost use Rattle.rh_defs.specs.Heap.{block_around, block_size, claim, extend, need_at, released_at, resize};
+ghost use Rattle.rh_defs.specs.Heap.{block_around, block_size, claim_block, extend_by, need_at, released_at, resize_block};
 ghost use Rattle.rh_heap.specs.Spans.{IsSpan, bytes_in, heap_in};
-ghost use Rattle.rh_heap.specs.Calls.{Leaves};
+ghost use Rattle.rh_heap.specs.Calls.{LeavesHeap};
 ghost use Rattle.rh_store.specs.Starts.{IsIndex};
 ghost use Rattle.rh_defs.specs.declared.sizes.TheConstants.{HEAP_UNIT};
 ghost use Rattle.rh_store.specs.declared.starts.TheConstants.{LINE_BYTES};
@@ -93,8 +93,8 @@ pub fn keep_map<S: WordsMut>(store: &mut S, span: Span, map: Option<S::Lines>)
 /// segments. Refused: `BadSize` for 0 bytes, `NoRoom` where the heap is too short. (OS_Heap 2.)
 pub fn claim<S: WordsMut>(store: &mut S, span: Span, n: u32) -> Result<usize, HeapRefusal>
     requires { IsSpan (S.memory store.old) span }
-    ensures { Leaves (S.memory store.old) (S.memory store.new) span
-        (claim n (heap_in (S.memory store.old) span)) result }
+    ensures { LeavesHeap (S.memory store.old) (S.memory store.new) span
+        (claim_block n (heap_in (S.memory store.old) span)) result }
 {
     let Some(mut lines) = map_for_change(store, span) else {
         return claim::claim(store, span, n);
@@ -108,7 +108,7 @@ pub fn claim<S: WordsMut>(store: &mut S, span: Span, n: u32) -> Result<usize, He
 /// of the top. Refused (`NotABlock`) exactly where no block begins there. (OS_Heap 3.)
 pub fn release<S: WordsMut>(store: &mut S, span: Span, address: usize) -> Result<(), HeapRefusal>
     requires { IsSpan (S.memory store.old) span }
-    ensures { Leaves (S.memory store.old) (S.memory store.new) span
+    ensures { LeavesHeap (S.memory store.old) (S.memory store.new) span
         (no_answer (released_at address (heap_in (S.memory store.old) span))) result }
 {
     let Some(mut lines) = map_for_change(store, span) else {
@@ -129,8 +129,8 @@ pub fn resize<S: WordsMut>(
     delta: i32,
 ) -> Result<usize, HeapRefusal>
     requires { IsSpan (S.memory store.old) span }
-    ensures { Leaves (S.memory store.old) (S.memory store.new) span
-        (resize address delta (heap_in (S.memory store.old) span)) result }
+    ensures { LeavesHeap (S.memory store.old) (S.memory store.new) span
+        (resize_block address delta (heap_in (S.memory store.old) span)) result }
 {
     let Some(mut lines) = map_for_change(store, span) else {
         return resize::resize(store, span, address, delta);
@@ -146,8 +146,8 @@ pub fn extend_heap<S: WordsMut>(store: &mut S, span: Span, delta: i32) -> Result
     requires span { IsSpan (S.memory store.old) span }
     requires multiple { moved (heap_in (S.memory store.old) span).end delta % HEAP_UNIT ≡ 0 }
     requires within { span.at + moved (heap_in (S.memory store.old) span).end delta ≤ length (bytes_in (S.memory store.old) span) }
-    ensures { Leaves (S.memory store.old) (S.memory store.new) span
-        (no_answer (extend delta (heap_in (S.memory store.old) span))) result }
+    ensures { LeavesHeap (S.memory store.old) (S.memory store.new) span
+        (no_answer (extend_by delta (heap_in (S.memory store.old) span))) result }
 {
     let Some(lines) = map_for_change(store, span) else {
         return whole::extend_heap(store, span, delta);

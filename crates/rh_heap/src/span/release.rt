@@ -2,9 +2,9 @@
 ghost use Rattle.std.specs.Prelude.{◌≡◌, ℕ, ◌+◌};
 ghost use Rattle.rh_defs.specs.Memory.{Memory, IsOpen, Edited, bytes};
 ghost use Rattle.rh_defs.specs.Chain.{no_answer};
-ghost use Rattle.rh_defs.specs.Heap.{release, released_at};
-ghost use Rattle.rh_heap.specs.Spans.{IsSpan, OnlySpan, SpellsIn, heap_in};
-ghost use Rattle.rh_heap.specs.Calls.{Leaves};
+ghost use Rattle.rh_defs.specs.Heap.{release_block, released_at};
+ghost use Rattle.rh_heap.specs.Spans.{IsSpan, OnlySpan, SpellsHeapIn, heap_in};
+ghost use Rattle.rh_heap.specs.Calls.{LeavesHeap};
 ghost use Rattle.rh_heap.specs.Segments.{FoundBlock};
 ghost use Rattle.rh_heap.specs.declared.layout.TheConstants.{BLOCK};
 
@@ -20,7 +20,7 @@ use rh_store::WordsMut;
 pub fn free_segment<S: WordsMut>(store: &mut S, span: Span, spot: Spot)
     requires span { IsSpan (S.memory store.old) span }
     requires found { FoundBlock span.at (heap_in (S.memory store.old) span) (spot.place + BLOCK) spot }
-    ensures spells { SpellsIn (S.memory store.new) span (release (spot.place + BLOCK) (heap_in (S.memory store.old) span)) }
+    ensures spells { SpellsHeapIn (S.memory store.new) span (release_block (spot.place + BLOCK) (heap_in (S.memory store.old) span)) }
     ensures only { OnlySpan (S.memory store.old) (S.memory store.new) span }
 {
     let next = follow(store, span, spot.from);
@@ -41,7 +41,7 @@ pub fn free_segment<S: WordsMut>(store: &mut S, span: Span, spot: Spot)
 #[inline(always)]
 pub fn release<S: WordsMut>(store: &mut S, span: Span, address: usize) -> Result<(), HeapRefusal>
     requires { IsSpan (S.memory store.old) span }
-    ensures { Leaves (S.memory store.old) (S.memory store.new) span
+    ensures { LeavesHeap (S.memory store.old) (S.memory store.new) span
         (no_answer (released_at address (heap_in (S.memory store.old) span))) result }
 {
     let Some(spot) = locate(store, span, address) else {

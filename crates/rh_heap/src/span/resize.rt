@@ -2,9 +2,9 @@
 ghost use Rattle.std.specs.Prelude.{◌≡◌, ◌≢◌, ℕ, ℤ, ◌+◌, ◌-◌, ◌%◌, ◌^◌, ◌<◌, ◌≤◌, ◌++◌, length, replicate, MatchOption, MatchResult};
 ghost use Rattle.rh_defs.specs.Bytes.{word, part};
 ghost use Rattle.rh_defs.specs.Memory.{Memory, IsOpen, Edited, bytes};
-ghost use Rattle.rh_defs.specs.Heap.{hole_for, shortage_in, block_at, base, resize, need_at};
+ghost use Rattle.rh_defs.specs.Heap.{hole_for, shortage_in, block_at, base, resize_block, need_at};
 ghost use Rattle.rh_heap.specs.Spans.{IsSpan, OnlySpan, bytes_in, heap_in};
-ghost use Rattle.rh_heap.specs.Calls.{Leaves};
+ghost use Rattle.rh_heap.specs.Calls.{LeavesHeap};
 ghost use Rattle.rh_heap.specs.Segments.{FoundBlock};
 ghost use Rattle.rh_heap.specs.Ways.{WayOf, ShortBy, Changed, NotChanged, WithBlock, SpellsResized, Moved};
 ghost use Rattle.rh_defs.specs.declared.sizes.TheConstants.{HEAP_UNIT};
@@ -233,8 +233,8 @@ pub fn resize<S: WordsMut>(
     delta: i32,
 ) -> Result<usize, HeapRefusal>
     requires { IsSpan (S.memory store.old) span }
-    ensures { Leaves (S.memory store.old) (S.memory store.new) span
-        (resize address delta (heap_in (S.memory store.old) span)) result }
+    ensures { LeavesHeap (S.memory store.old) (S.memory store.new) span
+        (resize_block address delta (heap_in (S.memory store.old) span)) result }
 {
     match locate(store, span, address) {
         Some(spot) => {

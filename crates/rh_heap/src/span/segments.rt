@@ -4,7 +4,7 @@ ghost use Rattle.std.specs.Option.{option_map};
 ghost use Rattle.rh_defs.specs.Memory.{Memory, IsOpen, bytes};
 ghost use Rattle.rh_defs.specs.Heap.{segment_at, block_at, block_around, block_size, base};
 ghost use Rattle.rh_heap.specs.Spans.{IsSpan, bytes_in, heap_in};
-ghost use Rattle.rh_heap.specs.Segments.{Around, Found, FoundBlock, NoHole, Reached, piece};
+ghost use Rattle.rh_heap.specs.Segments.{Around, FoundSegment, FoundBlock, NoHole, Reached, piece};
 ghost use Rattle.rh_defs.specs.declared.sizes.TheConstants.{HEAP_FIRST};
 
 use crate::layout::{BLOCK, Segment};
@@ -146,7 +146,7 @@ fn segment_around<S: Words>(store: &S, span: Span, target: usize) -> Spot
 pub fn find_segment<S: Words>(store: &S, span: Span, target: usize) -> Option<Spot>
     requires { IsSpan (S.memory store.now) span }
     ensures { MatchOption result (segment_at target (heap_in (S.memory store.now) span) ≡ None)
-        (λ spot. Found span.at (heap_in (S.memory store.now) span) target spot) }
+        (λ spot. FoundSegment span.at (heap_in (S.memory store.now) span) target spot) }
 {
     if target < HEAP_FIRST || read(store, span, HEAP_BASE) <= target {
         return None;

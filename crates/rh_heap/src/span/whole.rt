@@ -3,9 +3,9 @@ ghost use Rattle.std.specs.Prelude.{◌≡◌, ℕ, ℤ, ◌+◌, ◌%◌, ◌^�
 ghost use Rattle.rh_defs.specs.Memory.{Memory, IsOpen, Edited, bytes};
 ghost use Rattle.rh_defs.specs.Pieces.{moved};
 ghost use Rattle.rh_defs.specs.Chain.{no_answer};
-ghost use Rattle.rh_defs.specs.Heap.{empty_heap, extend};
-ghost use Rattle.rh_heap.specs.Spans.{IsSpan, SpellsIn, bytes_in, heap_in};
-ghost use Rattle.rh_heap.specs.Calls.{Leaves};
+ghost use Rattle.rh_defs.specs.Heap.{empty_heap, extend_by};
+ghost use Rattle.rh_heap.specs.Spans.{IsSpan, SpellsHeapIn, bytes_in, heap_in};
+ghost use Rattle.rh_heap.specs.Calls.{LeavesHeap};
 ghost use Rattle.rh_defs.specs.declared.sizes.TheConstants.{HEAP_FIRST, HEAP_UNIT};
 
 use crate::span::Span;
@@ -21,7 +21,7 @@ pub fn init<S: WordsMut>(store: &mut S, span: Span, end: usize)
     requires least { HEAP_FIRST ≤ end }
     requires multiple { end % HEAP_UNIT ≡ 0 }
     ensures heap { heap_in (S.memory store.new) span ≡ empty_heap end }
-    ensures spells { SpellsIn (S.memory store.new) span (empty_heap end) }
+    ensures spells { SpellsHeapIn (S.memory store.new) span (empty_heap end) }
     ensures still { IsSpan (S.memory store.new) span }
     ensures only { Edited (S.memory store.old) (S.memory store.new) span.area.0 span.at (span.at + end) }
 {
@@ -45,8 +45,8 @@ pub fn extend_heap<S: WordsMut>(store: &mut S, span: Span, delta: i32) -> Result
     requires span { IsSpan (S.memory store.old) span }
     requires multiple { moved (heap_in (S.memory store.old) span).end delta % HEAP_UNIT ≡ 0 }
     requires within { span.at + moved (heap_in (S.memory store.old) span).end delta ≤ length (bytes_in (S.memory store.old) span) }
-    ensures { Leaves (S.memory store.old) (S.memory store.new) span
-        (no_answer (extend delta (heap_in (S.memory store.old) span))) result }
+    ensures { LeavesHeap (S.memory store.old) (S.memory store.new) span
+        (no_answer (extend_by delta (heap_in (S.memory store.old) span))) result }
 {
     let end = moved(read(store, span, HEAP_END), delta);
     if end < read(store, span, HEAP_BASE) {

@@ -1,5 +1,5 @@
 //! Words that lie in two pages. They are rare, and the others are read and written faster for standing apart.
-#![tactic(auto, unfolding(rh_defs::specs::Memory::bytes, crate::specs::Paged::memory_of))]
+#![tactic(auto, unfolding(rh_defs::specs::Memory::bytes, crate::specs::Paged::paged_memory))]
 
 use super::PagedStore;
 use crate::ground::Ground;
@@ -10,15 +10,15 @@ impl<G: Ground> PagedStore<G> {
     ghost use Rattle.std.specs.Prelude.{◌≡◌, ◌+◌, ◌≤◌, length};
     ghost use Rattle.rh_defs.specs.Bytes.{put_word, word};
     ghost use Rattle.rh_defs.specs.Memory.{IsOpen, bytes, with_bytes};
-    ghost use Rattle.rh_pages.specs.Paged.{memory_of};
+    ghost use Rattle.rh_pages.specs.Paged.{paged_memory};
 
     /// The word at an offset, which may lie in two pages.
     #[cold]
     #[inline(never)]
     pub(super) fn word_across(&self, id: AreaId, at: usize) -> u32
-        requires opened { IsOpen (memory_of self.now) id.0 }
-        requires within { at + 4 ≤ length (bytes (memory_of self.now) id.0) }
-        ensures { result ≡ word (bytes (memory_of self.now) id.0) at }
+        requires opened { IsOpen (paged_memory self.now) id.0 }
+        requires within { at + 4 ≤ length (bytes (paged_memory self.now) id.0) }
+        ensures { result ≡ word (bytes (paged_memory self.now) id.0) at }
     {
         let mut bytes = [0; WORD];
         self.copy_out(id, at, &mut bytes);
@@ -29,10 +29,10 @@ impl<G: Ground> PagedStore<G> {
     #[cold]
     #[inline(never)]
     pub(super) fn set_word_across(&mut self, id: AreaId, at: usize, w: u32)
-        requires opened { IsOpen (memory_of self.old) id.0 }
-        requires within { at + 4 ≤ length (bytes (memory_of self.old) id.0) }
-        ensures { memory_of self.new ≡ with_bytes (memory_of self.old) id.0
-            (put_word (bytes (memory_of self.old) id.0) at w) }
+        requires opened { IsOpen (paged_memory self.old) id.0 }
+        requires within { at + 4 ≤ length (bytes (paged_memory self.old) id.0) }
+        ensures { paged_memory self.new ≡ with_bytes (paged_memory self.old) id.0
+            (put_word (bytes (paged_memory self.old) id.0) at w) }
     {
         self.copy_in(id, at, &w.to_le_bytes());
     }

@@ -1,5 +1,5 @@
 //! Moves of bytes that lie in one page, and moves of single pages between the lists.
-#![tactic(auto, unfolding(rh_defs::specs::Memory::bytes, crate::specs::Paged::memory_of))]
+#![tactic(auto, unfolding(rh_defs::specs::Memory::bytes, crate::specs::Paged::paged_memory))]
 
 use super::PagedStore;
 use crate::ground::Ground;
@@ -9,19 +9,19 @@ use rh_store::AreaId;
 
 impl<G: Ground> PagedStore<G> {
     ghost use Rattle.std.specs.Prelude.{◌≡◌, ℕ, ◌+◌, ◌*◌, ◌%◌, ◌<◌, ◌≤◌, length, replicate};
-    ghost use Rattle.rh_defs.specs.Bytes.{part, put};
+    ghost use Rattle.rh_defs.specs.Bytes.{part, with_part};
     ghost use Rattle.rh_defs.specs.Memory.{IsOpen, bytes, with_bytes, grown, shrunk};
     ghost use Rattle.rh_defs.specs.declared.sizes.TheConstants.{PAGE};
-    ghost use Rattle.rh_pages.specs.Paged.{memory_of};
+    ghost use Rattle.rh_pages.specs.Paged.{paged_memory};
 
     /// Writes zeros to bytes of one page.
     pub(super) fn zero_part(&mut self, id: AreaId, at: usize, n: usize)
-        requires opened { IsOpen (memory_of self.old) id.0 }
+        requires opened { IsOpen (paged_memory self.old) id.0 }
         requires some { 0 < n }
-        requires within { at + n ≤ length (bytes (memory_of self.old) id.0) }
+        requires within { at + n ≤ length (bytes (paged_memory self.old) id.0) }
         requires fits { at % PAGE + n ≤ PAGE }
-        ensures { memory_of self.new ≡ with_bytes (memory_of self.old) id.0
-            (put (bytes (memory_of self.old) id.0) at (replicate n 0)) }
+        ensures { paged_memory self.new ≡ with_bytes (paged_memory self.old) id.0
+            (with_part (bytes (paged_memory self.old) id.0) at (replicate n 0)) }
     {
         let place = self.spot(id, at);
         self.site.zero(place, n);
@@ -29,15 +29,15 @@ impl<G: Ground> PagedStore<G> {
 
     /// Copies bytes from one page to one page, which can be the same. The two runs may overlap.
     pub(super) fn copy_part(&mut self, id: AreaId, at: usize, id2: AreaId, at2: usize, n: usize)
-        requires opened { IsOpen (memory_of self.old) id.0 }
-        requires opened2 { IsOpen (memory_of self.old) id2.0 }
+        requires opened { IsOpen (paged_memory self.old) id.0 }
+        requires opened2 { IsOpen (paged_memory self.old) id2.0 }
         requires some { 0 < n }
-        requires source { at + n ≤ length (bytes (memory_of self.old) id.0) }
+        requires source { at + n ≤ length (bytes (paged_memory self.old) id.0) }
         requires source_fits { at % PAGE + n ≤ PAGE }
-        requires target { at2 + n ≤ length (bytes (memory_of self.old) id2.0) }
+        requires target { at2 + n ≤ length (bytes (paged_memory self.old) id2.0) }
         requires target_fits { at2 % PAGE + n ≤ PAGE }
-        ensures { memory_of self.new ≡ with_bytes (memory_of self.old) id2.0
-            (put (bytes (memory_of self.old) id2.0) at2 (part (bytes (memory_of self.old) id.0) at n)) }
+        ensures { paged_memory self.new ≡ with_bytes (paged_memory self.old) id2.0
+            (with_part (bytes (paged_memory self.old) id2.0) at2 (part (bytes (paged_memory self.old) id.0) at n)) }
     {
         let from = self.spot(id, at);
         let to = self.spot(id2, at2);
@@ -46,12 +46,12 @@ impl<G: Ground> PagedStore<G> {
 
     /// Writes bytes that were lent to one page.
     pub(super) fn put_part(&mut self, id: AreaId, at: usize, from: &[u8])
-        requires opened { IsOpen (memory_of self.old) id.0 }
+        requires opened { IsOpen (paged_memory self.old) id.0 }
         requires some { 0 < length from.now }
-        requires within { at + length from.now ≤ length (bytes (memory_of self.old) id.0) }
+        requires within { at + length from.now ≤ length (bytes (paged_memory self.old) id.0) }
         requires fits { at % PAGE + length from.now ≤ PAGE }
-        ensures { memory_of self.new ≡ with_bytes (memory_of self.old) id.0
-            (put (bytes (memory_of self.old) id.0) at from.now) }
+        ensures { paged_memory self.new ≡ with_bytes (paged_memory self.old) id.0
+            (with_part (bytes (paged_memory self.old) id.0) at from.now) }
     {
         let place = self.spot(id, at);
         self.site.copy_in(place, from);
@@ -59,11 +59,11 @@ impl<G: Ground> PagedStore<G> {
 
     /// Fills a buffer that was lent with bytes of one page.
     pub(super) fn get_part(&self, id: AreaId, at: usize, to: &mut [u8])
-        requires opened { IsOpen (memory_of self.now) id.0 }
+        requires opened { IsOpen (paged_memory self.now) id.0 }
         requires some { 0 < length to.old }
-        requires within { at + length to.old ≤ length (bytes (memory_of self.now) id.0) }
+        requires within { at + length to.old ≤ length (bytes (paged_memory self.now) id.0) }
         requires fits { at % PAGE + length to.old ≤ PAGE }
-        ensures { to.new ≡ part (bytes (memory_of self.now) id.0) at (length to.old) }
+        ensures { to.new ≡ part (bytes (paged_memory self.now) id.0) at (length to.old) }
     {
         let place = self.spot(id, at);
         to.copy_from_slice(self.site.bytes(place, to.len()));
@@ -71,9 +71,9 @@ impl<G: Ground> PagedStore<G> {
 
     /// Zeroes a free page and appends it to an area.
     pub(super) fn grow_page(&mut self, id: AreaId)
-        requires opened { IsOpen (memory_of self.old) id.0 }
-        requires some { 0 < (memory_of self.old).free }
-        ensures { memory_of self.new ≡ grown (memory_of self.old) id.0 1 }
+        requires opened { IsOpen (paged_memory self.old) id.0 }
+        requires some { 0 < (paged_memory self.old).free }
+        ensures { paged_memory self.new ≡ grown (paged_memory self.old) id.0 1 }
     {
         let k = self.table.pop(&self.site, FREE);
         self.site.zero(PAGE * k as usize, PAGE);
@@ -82,9 +82,9 @@ impl<G: Ground> PagedStore<G> {
 
     /// Takes an area's last page off and frees it.
     pub(super) fn shrink_page(&mut self, id: AreaId)
-        requires opened { IsOpen (memory_of self.old) id.0 }
-        requires some { PAGE ≤ length (bytes (memory_of self.old) id.0) }
-        ensures { memory_of self.new ≡ shrunk (memory_of self.old) id.0 1 }
+        requires opened { IsOpen (paged_memory self.old) id.0 }
+        requires some { PAGE ≤ length (bytes (paged_memory self.old) id.0) }
+        ensures { paged_memory self.new ≡ shrunk (paged_memory self.old) id.0 1 }
     {
         let k = self.table.pop(&self.site, id.0 as usize);
         self.table.push(&mut self.site, FREE, k);

@@ -1,5 +1,5 @@
 //! The calls of a store, over page lists.
-#![tactic(auto, unfolding(rh_defs::specs::Memory::bytes, crate::specs::Paged::memory_of))]
+#![tactic(auto, unfolding(rh_defs::specs::Memory::bytes, crate::specs::Paged::paged_memory))]
 
 ghost use Rattle.std.specs.Prelude.{◌≡◌, ℕ, ◌<◌, true, false, get_or, length, unwrap_or, IfSome};
 
@@ -23,9 +23,9 @@ fn first_closed(opened: &[bool]) -> Option<usize>
 }
 
 impl<G: Ground> Words for PagedStore<G> {
-    ghost use Rattle.rh_pages.specs.Paged.{memory_of, small_law};
+    ghost use Rattle.rh_pages.specs.Paged.{paged_memory, paged_small_law};
 
-    ghost memory = { memory_of };
+    ghost memory = { paged_memory };
 
     fn word(&self, id: AreaId, at: usize) -> u32 {
         let page = at / PAGE;
@@ -58,7 +58,7 @@ impl<G: Ground> Words for PagedStore<G> {
         PAGE * self.table.len(id.0 as usize)
     }
 
-    ghost small = { small_law };
+    ghost small = { paged_small_law };
 }
 
 impl<G: Ground> WordsMut for PagedStore<G> {
@@ -106,18 +106,18 @@ impl<G: Ground> WordsMut for PagedStore<G> {
 }
 
 impl<G: Ground> Paged for PagedStore<G> {
-    ghost use Rattle.rh_pages.specs.Paged.{whole_law};
+    ghost use Rattle.rh_pages.specs.Paged.{paged_whole_law};
 
     fn rest_of_page(&self, id: AreaId, at: usize) -> &[u8] {
         let start = self.spot(id, at);
         self.site.bytes(start, PAGE - at % PAGE)
     }
 
-    ghost whole = { whole_law };
+    ghost whole = { paged_whole_law };
 }
 
 impl<G: Ground> Pages for PagedStore<G> {
-    ghost use Rattle.rh_pages.specs.Paged.{ledger_law, within_law, few_law};
+    ghost use Rattle.rh_pages.specs.Paged.{paged_ledger_law, paged_within_law, paged_few_law};
 
     fn grow(&mut self, id: AreaId, pages: usize) -> Result<(), StoreFault> {
         if self.table.len(FREE) < pages {
@@ -143,15 +143,15 @@ impl<G: Ground> Pages for PagedStore<G> {
         self.table.len(FREE)
     }
 
-    ghost ledger = { ledger_law };
+    ghost ledger = { paged_ledger_law };
 
-    ghost within = { within_law };
+    ghost within = { paged_within_law };
 
-    ghost few = { few_law };
+    ghost few = { paged_few_law };
 }
 
 impl<G: Ground> Store for PagedStore<G> {
-    ghost use Rattle.rh_pages.specs.Paged.{numbered_law};
+    ghost use Rattle.rh_pages.specs.Paged.{paged_numbered_law};
 
     fn open(&mut self) -> Result<AreaId, StoreFault> {
         match first_closed(&self.opened) {
@@ -177,7 +177,7 @@ impl<G: Ground> Store for PagedStore<G> {
         }
     }
 
-    ghost numbered = { numbered_law };
+    ghost numbered = { paged_numbered_law };
 }
 
 impl<G: Ground> Sited for PagedStore<G> {

@@ -5,7 +5,7 @@ ghost use Rattle.rh_defs.specs.Desk.{Desk};
 ghost use Rattle.rh_defs.specs.Range.{in_range};
 ghost use Rattle.rh_defs.specs.declared.command.Command.TheVariants as Command;
 ghost use Rattle.vf_desk.specs.Called.{IsAsked, called, desk_by, in_form, status_of};
-ghost use Rattle.vf_desk.specs.Seen.{IsSeen, KeepsRest};
+ghost use Rattle.vf_desk.specs.Seen.{IsSeenDesk, KeepsRest};
 
 use crate::called::Called;
 use crate::desk::VfDesk;
@@ -54,8 +54,8 @@ impl VfDesk {
     /// Does a command on the desk, if it is open and there is one; else nothing changes.
     pub fn step(&mut self, alloc: Global, command: Option<Command>) -> Called
         requires { IfSome command (λ c. in_range c ≡ true) }
-        ensures said { (s : Option Desk) → IsSeen self.old s → result ≡ called s command }
-        ensures desk { (s : Option Desk) → IsSeen self.old s → IsSeen self.new (desk_by s command) }
+        ensures said { (s : Option Desk) → IsSeenDesk self.old s → result ≡ called s command }
+        ensures desk { (s : Option Desk) → IsSeenDesk self.old s → IsSeenDesk self.new (desk_by s command) }
         ensures rest { KeepsRest self.old.handle.station self.new.handle.station }
         ensures refused { status_of result ≢ 0 → self.new.handle.station ≡ self.old.handle.station }
         ensures asked { IsAsked command → self.new.handle.station ≡ self.old.handle.station }
@@ -77,10 +77,10 @@ impl VfDesk {
         offset: u32,
         from: &[u8],
     ) -> Called
-        ensures said { (s : Option Desk) → IsSeen self.old s →
+        ensures said { (s : Option Desk) → IsSeenDesk self.old s →
             result ≡ called s (in_form (Command.Put name.now anchor offset from.now)) }
-        ensures desk { (s : Option Desk) → IsSeen self.old s →
-            IsSeen self.new (desk_by s (in_form (Command.Put name.now anchor offset from.now))) }
+        ensures desk { (s : Option Desk) → IsSeenDesk self.old s →
+            IsSeenDesk self.new (desk_by s (in_form (Command.Put name.now anchor offset from.now))) }
         ensures rest { KeepsRest self.old.handle.station self.new.handle.station }
         ensures refused { status_of result ≢ 0 → self.new.handle.station ≡ self.old.handle.station }
     {

@@ -1,6 +1,6 @@
 use Rattle.rh_draw.proofs.Common.{◌≡◌, ◌/◌, Some, row_y}
-use Rattle.rh_defs.specs.Pieces.{page}
-use Rattle.rh_sheet.specs.Frames.{row_of}
+use Rattle.rh_defs.specs.Pieces.{page_size}
+use Rattle.rh_sheet.specs.Frames.{frame_row}
 use Rattle.rh_sheet.specs.Arrows.{block_place, ghost_way, arrow_way, place_x}
 use Rattle.rh_draw.proofs.ArrowLemmas.{arrow-drawn}
 use Rattle.rh_draw.proofs.arrows.print_slide_arrow.Goals as goal
@@ -10,8 +10,8 @@ returns g c =
     let f = c.args.frame in
     let from = block_place c.args.first.from in
     let to = block_place c.args.first.to in
-    let row : row_of f.pages (from / page) ≡ Some c.in-Some.r = cc in
-    let behind : row_of f.pages (to / page) ≡ Some c.in-Some-row_of.s = cc in
+    let row : frame_row f.pages (from / page_size) ≡ Some c.in-Some.r = cc in
+    let behind : frame_row f.pages (to / page_size) ≡ Some c.in-Some-row_of.s = cc in
     let ghost : c.ghost_way.result ≡ ghost_way (place_x from) (row_y f c.in-Some.r) = cc in
     let way :
     c.arrow_way-way.result

@@ -1,10 +1,10 @@
 use Rattle.std.proofs.Common.{ap}
 use Rattle.rh_sheet.specs.Cards.{card_text, low_card_y}
-use Rattle.rh_draw.specs.Cards.{card_of}
+use Rattle.rh_draw.specs.Cards.{drawn_card}
 use Rattle.rh_draw.proofs.WriteLemmas.{puts-as}
 use Rattle.rh_draw.proofs.cards.print_low_card.Goals as goal
 
 pub returns : goal.returns
 returns g c =
     puts-as c.print_card.ensures
-    (ap (λ x. card_text (card_of c.args.card.now) x (low_card_y c.args.y0 c.args.i)) c.card_x.ensures.value)
+    (ap (λ x. card_text (drawn_card c.args.card.now) x (low_card_y c.args.y0 c.args.i)) c.card_x.ensures.value)

@@ -1,10 +1,10 @@
-use Rattle.rh_draw.proofs.Common.{List, ℕ, ◌++◌, codes, text_of, left_less, left_breaks}
+use Rattle.rh_draw.proofs.Common.{List, ℕ, ◌++◌, codes, message_entry_text, left_less, left_breaks}
 use Rattle.rh_map.specs.declared.letterboxes.MessageEntry.{MessageEntry}
 use Rattle.rh_draw.proofs.EscapedItems.{escape-item}
 use Rattle.rh_draw.proofs.tables.put_others.Goals as goal
 
 abbrev behind : MessageEntry → List ℕ
-behind entry = codes ", " ++ text_of entry
+behind entry = codes ", " ++ message_entry_text entry
 
 pub returns-in_err-put_entry : goal.returns-in_err-put_entry
 returns-in_err-put_entry g c =

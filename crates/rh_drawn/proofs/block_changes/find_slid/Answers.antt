@@ -1,5 +1,6 @@
 use Rattle.rh_drawn.proofs.Common.{◌≡◌, ℕ, ◌<◌, ◌≤◌, ◌++◌, Bool, true, false, List, [], ◌∷◌, Option, Some, None, length, take, get_or, ap, sym, subst, refl}
-use Rattle.rh_drawn.proofs.Common.{◌∙◌, arith, append-nil, IfSome, ◌==◌, flat_map, flat_map-append, length-append, length-take, BlockItem, item_of, slide_of}
+use Rattle.rh_drawn.proofs.Common.{◌∙◌, arith, append-nil, IfSome, ◌==◌, flat_map, flat_map-append, length-append, length-take, BlockItem, item_with_anchor}
+use Rattle.rh_drawn.proofs.Common.{slide_of}
 use Rattle.rh_drawn.proofs.Common.{summary_of}
 use Rattle.std.proofs.lemmas.List.{take_more}
 use Rattle.rh_defs.specs.Slot.{anchor_count}
@@ -7,7 +8,7 @@ use Rattle.rh_figure.specs.Changes.{Slide}
 use Rattle.rh_drawn.proofs.block_changes.find_slid.Goals as goal
 
 abbrev of : List BlockItem → BlockItem → List Slide
-of before b = slide_of b (item_of b.anchor before)
+of before b = slide_of b (item_with_anchor b.anchor before)
 
 one-slide : (b : BlockItem) (o : Option BlockItem) → length (slide_of b o) ≤ 1
 one-slide b None = omega arith
@@ -19,7 +20,13 @@ one-slide b (Some old) = go (old.address == b.address) refl
 
 few-slides : (before bs : List BlockItem) → length (flat_map (of before) bs) ≤ length bs
 few-slides before [] = omega arith
-few-slides before (b ∷ bs) = omega (arith, length-append (of before b) (flat_map (of before) bs), one-slide b (item_of b.anchor before), few-slides before bs)
+few-slides before (b ∷ bs) = omega (
+  arith,
+  length-append (of before b) (flat_map (of before) bs),
+  one-slide b
+      (item_with_anchor b.anchor before),
+  few-slides before bs,
+)
 
 count-few : (n : ℕ) (slides : List Slide) → length slides < n → IfSome (summary_of slides) (λ slid. slid.count < n)
 count-few n [] few = tt

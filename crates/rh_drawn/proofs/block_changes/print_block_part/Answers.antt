@@ -1,5 +1,6 @@
 use Rattle.rh_drawn.proofs.Common.{◌≡◌, ◌++◌, List, Some, map, ap, ap₂, sym, ◌∙◌, append_assoc, filter, not, flat_map, BlockItem, Task, task_at, block_items}
-use Rattle.rh_drawn.proofs.Common.{block_change, gone_line, has_anchor, item_of, slide_of, Text, Scene, shown_lines, scene_at, block_part, indented, slide_part}
+use Rattle.rh_drawn.proofs.Common.{block_change, gone_line, has_anchor, item_with_anchor, slide_of, Text, Scene, shown_lines, scene_at, block_part, indented}
+use Rattle.rh_drawn.proofs.Common.{slide_part}
 use Rattle.rh_figure.specs.Changes.{block_changes, blocks_now, slide_change}
 use Rattle.rh_drawn.proofs.Walks.{indented-append, lines_stop, lines_then, puts_same}
 use Rattle.rh_drawn.proofs.block_changes.print_block_part.Goals as goal
@@ -8,10 +9,10 @@ abbrev gone : List BlockItem → List BlockItem → List Text
 gone before now = indented (map (λ (b : BlockItem). gone_line b.anchor) (filter (λ (b : BlockItem). not (has_anchor b.anchor now)) before))
 
 abbrev changed : List BlockItem → List BlockItem → List Text
-changed before now = indented (flat_map (λ (b : BlockItem). block_change b (item_of b.anchor before)) now)
+changed before now = indented (flat_map (λ (b : BlockItem). block_change b (item_with_anchor b.anchor before)) now)
 
 abbrev slid : List BlockItem → List BlockItem → List Text
-slid before now = indented (slide_change (flat_map (λ (b : BlockItem). slide_of b (item_of b.anchor before)) now))
+slid before now = indented (slide_change (flat_map (λ (b : BlockItem). slide_of b (item_with_anchor b.anchor before)) now))
 
 -- the parts of what has changed of a task's blocks
 block-parts : (x : Scene) (t : Task) → task_at x.before.handle x.desk ≡ Some t
@@ -20,9 +21,10 @@ block-parts : (x : Scene) (t : Task) → task_at x.before.handle x.desk ≡ Some
 block-parts x t e =
     let now = block_items t.slot in
     let before = x.before.blocks in
-    ap (λ o. indented (block_changes x o) ++ indented (slide_change (flat_map (λ (b : BlockItem). slide_of b (item_of b.anchor before)) (blocks_now o)))) e
+    ap (λ o. indented (block_changes x o) ++ indented (slide_change
+    (flat_map (λ (b : BlockItem). slide_of b (item_with_anchor b.anchor before)) (blocks_now o)))) e
     ∙ (ap (λ z. z ++ slid before now) (indented-append (map (λ (b : BlockItem). gone_line b.anchor)
-    (filter (λ (b : BlockItem). not (has_anchor b.anchor now)) before)) (flat_map (λ (b : BlockItem). block_change b (item_of b.anchor before)) now))
+    (filter (λ (b : BlockItem). not (has_anchor b.anchor now)) before)) (flat_map (λ (b : BlockItem). block_change b (item_with_anchor b.anchor before)) now))
     ∙ append_assoc (gone before now) (changed before now) (slid before now))
 
 pub returns-in_err-print_gone : goal.returns-in_err-print_gone

@@ -1,9 +1,9 @@
-use Rattle.rh_drawn.proofs.Common.{List, refl, flat_map, BlockItem, block_change, item_of, Text, left_breaks, left_less, left_none, indented}
+use Rattle.rh_drawn.proofs.Common.{List, refl, flat_map, BlockItem, block_change, item_with_anchor, Text, left_breaks, left_less, left_none, indented}
 use Rattle.rh_drawn.proofs.Walks.{indented-each, walk-at, walk-end}
 use Rattle.rh_drawn.proofs.block_changes.print_now.Goals as goal
 
 abbrev change : List BlockItem → BlockItem → List Text
-change before b = block_change b (item_of b.anchor before)
+change before b = block_change b (item_with_anchor b.anchor before)
 
 pub loop-block-preserved : goal.loop-block-preserved
 loop-block-preserved g c =

@@ -1,11 +1,11 @@
 use Rattle.std.proofs.Common.{◌-◌, length, take}
 use Rattle.std.specs.List.{AllByRecursion}
-use Rattle.rh_drawn.specs.Replies.{IsSmall}
+use Rattle.rh_drawn.specs.Replies.{IsSmallTask}
 use Rattle.rh_drawn.proofs.excerpt.look_over.Given as goal
 
 -- the tasks so far are small
 abbrev pub invariant-tasks : goal.invariant-tasks
-invariant-tasks g l = AllByRecursion IsSmall (take l.i (g.S.Sight.desk l.sight).tasks)
+invariant-tasks g l = AllByRecursion IsSmallTask (take l.i (g.S.Sight.desk l.sight).tasks)
 
 abbrev pub decreases-tasks : goal.decreases-tasks
 decreases-tasks g l = length (g.S.Sight.desk l.sight).tasks - l.i

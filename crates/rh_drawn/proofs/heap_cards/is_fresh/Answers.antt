@@ -1,4 +1,5 @@
-use Rattle.rh_drawn.proofs.Common.{◌≡◌, ℕ, ◌-◌, Option, Some, None, ap, refl, subst, sym, ◌∙◌, ◌==◌, find, Parcel, Scene, message_in, MessageItem, lies_in}
+use Rattle.rh_drawn.proofs.Common.{◌≡◌, ℕ, ◌-◌, Option, Some, None, ap, refl, subst, sym, ◌∙◌, ◌==◌, find, Parcel, Scene, message_of_scene, MessageItem}
+use Rattle.rh_drawn.proofs.Common.{lies_in}
 use Rattle.rh_drawn.proofs.Common.{message_items, scene_at, is_fresh_card}
 use Rattle.rh_drawn.specs.Bands.{is_fresh_at, is_fresh_or_posted}
 use Rattle.rh_drawn.proofs.PostLemmas.{Told, message-told}
@@ -26,8 +27,8 @@ returns-in-Some c = λ d step.
     let b = c.in-Used.address - 25165824 in
     let here : find (lies_in b) (message_items d) ≡ Some c.in-Some.message =
     ap (find (lies_in b)) (sym step.messages) ∙ (sym c.message_at.ensures ∙ c.in-Some.is) in
-    let T : Option MessageItem → Type 0 = λ z. Told b z (message_in x b) in
-    c.is_new_ref.ensures ∙ (told-fresh x b c.in-Used.address c.in-Some.message (message_in x b) (subst T here (message-told b d))
+    let T : Option MessageItem → Type 0 = λ z. Told b z (message_of_scene x b) in
+    c.is_new_ref.ensures ∙ (told-fresh x b c.in-Used.address c.in-Some.message (message_of_scene x b) (subst T here (message-told b d))
     ∙ sym (ap (is_fresh_card x band) c.in-Used.is ∙ ap (λ h. is_fresh_at x band.handle h c.in-Used.address) c.in-Module.is))
 
 pub returns-in-None : goal.returns-in-None
@@ -36,6 +37,6 @@ returns-in-None c = λ d step.
     let band = c.args.band.now in
     let b = c.in-Used.address - 25165824 in
     let here : find (lies_in b) (message_items d) ≡ None = ap (find (lies_in b)) (sym step.messages) ∙ (sym c.message_at.ensures ∙ c.in-None.is) in
-    let T : Option MessageItem → Type 0 = λ z. Told b z (message_in x b) in
-    told-none x b c.in-Used.address (message_in x b) (subst T here (message-told b d))
+    let T : Option MessageItem → Type 0 = λ z. Told b z (message_of_scene x b) in
+    told-none x b c.in-Used.address (message_of_scene x b) (subst T here (message-told b d))
     ∙ sym (ap (is_fresh_card x band) c.in-Used.is ∙ ap (λ h. is_fresh_at x band.handle h c.in-Used.address) c.in-Module.is)

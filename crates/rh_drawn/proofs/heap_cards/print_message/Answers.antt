@@ -3,7 +3,7 @@ use Rattle.rh_defs.specs.declared.message.Action.{Action}
 use Rattle.rh_defs.specs.declared.message.EventCode.{EventCode}
 use Rattle.rh_figure.specs.Cards.{chain_text, message_card}
 use Rattle.rh_figure.specs.Layout.{is_new_message}
-use Rattle.rh_sight.specs.Messages.{place_among}
+use Rattle.rh_sight.specs.Messages.{message_place}
 use Rattle.rh_drawn.specs.Bands.{place_seen}
 use Rattle.rh_drawn.proofs.PostLemmas.{chain-is}
 use Rattle.rh_drawn.proofs.Walks.{puts_line}
@@ -26,7 +26,7 @@ pub returns : goal.returns
 returns g c = λ p found is.
     let d = g.S.Sight.desk c.args.sight.now in
     let x = scene_at d c.args.step.now in
-    let place = c.chain_place-place.ensures ∙ (ap place_seen (c.place_of.ensures ∙ ap (λ ms. place_among ms c.args.message.now) c.requires.messages)
+    let place = c.chain_place-place.ensures ∙ (ap place_seen (c.place_of.ensures ∙ ap (λ ms. message_place ms c.args.message.now) c.requires.messages)
     ∙ chain-is c.spelled.ensures p.to p.message.my_ref c.args.message.now is.to is.my_ref) in
     puts_line
     (line-same _ p.message.my_ref _ (action_of p.message.body) _ p.code _ (task_name x.desk p.message.from) _ (task_name x.desk p.to) _ (chain_text x p) _

@@ -1,4 +1,4 @@
-use Rattle.rh_drawn.proofs.Common.{◌≡◌, ℕ, ◌-◌, List, [], ◌∷◌, length, take, ap₂, sym, subst, ◌∙◌, arith, length-take, card_line, HasBlock, heap_seen}
+use Rattle.rh_drawn.proofs.Common.{◌≡◌, ℕ, ◌-◌, List, [], ◌∷◌, length, take, ap₂, sym, subst, ◌∙◌, arith, length-take, card_line, SeesBlock, heap_seen}
 use Rattle.rh_drawn.proofs.Common.{heap_start_of}
 use Rattle.rh_figure.specs.Cards.{used_card}
 use Rattle.rh_drawn.proofs.CardLemmas.{front-is}
@@ -12,7 +12,7 @@ returns g c = λ d bytes step block size.
     let zeros : List ℕ = (0 ∷ 0 ∷ 0 ∷ 0 ∷ 0 ∷ 0 ∷ 0 ∷ []) in
     let n = c.front_length.result in
     let here : a - heap_start_of heap - 4 ≡ a - 4 - c.heap_address.result = omega (arith, c.heap_address.ensures) in
-    let P : ℕ → Type 0 = λ z. HasBlock (heap_seen heap (g.S.Sight.desk c.args.sight.now)) z bytes in
+    let P : ℕ → Type 0 = λ z. SeesBlock (heap_seen heap (g.S.Sight.desk c.args.sight.now)) z bytes in
     let first = front-is c.args.size (length (take n zeros)) bytes size (omega (arith, c.front_length.ensures, length-take n zeros))
     ∙ sym (c.read_heap.ensures bytes (subst P here block)) in
     puts_line (ap₂ (λ u f. card_line (used_card a bytes u f)) c.use_of_buffer.ensures (c.is_changed.ensures d))

@@ -2,7 +2,7 @@ use Rattle.rh_drawn.proofs.Common.{◌≡◌, ℕ, ◌++◌, Bool, true, false, 
 use Rattle.rh_drawn.proofs.Common.{flat_map-append, Desk, Parcel, action_of, Text, is_returned, task_name, shown_lines, Left, left_breaks, left_less}
 use Rattle.rh_drawn.proofs.Common.{left_none, left_whole, MessageItem, held_on, message_items, waiting_on, indented}
 use Rattle.rh_figure.specs.Changes.{returns_line}
-use Rattle.rh_sight.specs.Messages.{item_of}
+use Rattle.rh_sight.specs.Messages.{seen_item}
 use Rattle.rh_drawn.specs.Returns.{return_lines}
 use Rattle.rh_drawn.proofs.Walks.{indented-each, walk-at, walk-end}
 use Rattle.rh_drawn.proofs.post_changes.print_returned.Goals as goal
@@ -13,16 +13,16 @@ goes_back held p = p.message.my_ref == held && is_returned p.code
 abbrev line_of : Desk → Parcel → Text
 line_of d p = returns_line (action_of p.message.body) p.message.my_ref (task_name d p.to)
 
-no-holds : (d : Desk) (held : ℕ) (ps : List Parcel) → flat_map (return_lines d held) (map (item_of true) ps) ≡ []
+no-holds : (d : Desk) (held : ℕ) (ps : List Parcel) → flat_map (return_lines d held) (map (seen_item true) ps) ≡ []
 no-holds d held [] = refl
 no-holds d held (p ∷ ps) = no-holds d held ps
 
-waits : (d : Desk) (held : ℕ) (ps : List Parcel) → map (line_of d) (filter (goes_back held) ps) ≡ flat_map (return_lines d held) (map (item_of false) ps)
+waits : (d : Desk) (held : ℕ) (ps : List Parcel) → map (line_of d) (filter (goes_back held) ps) ≡ flat_map (return_lines d held) (map (seen_item false) ps)
 waits d held [] = refl
 waits d held (p ∷ ps) = go (goes_back held p) refl (waits d held ps)
   where
-    go : (b : Bool) → goes_back held p ≡ b → map (line_of d) (filter (goes_back held) ps) ≡ flat_map (return_lines d held) (map (item_of false) ps)
-        → map (line_of d) (filter (goes_back held) (p ∷ ps)) ≡ flat_map (return_lines d held) (map (item_of false) (p ∷ ps))
+    go : (b : Bool) → goes_back held p ≡ b → map (line_of d) (filter (goes_back held) ps) ≡ flat_map (return_lines d held) (map (seen_item false) ps)
+        → map (line_of d) (filter (goes_back held) (p ∷ ps)) ≡ flat_map (return_lines d held) (map (seen_item false) (p ∷ ps))
     go true e rest = rw e (ap (λ z. line_of d p ∷ z) rest)
     go false e rest = rw e rest
 
@@ -31,9 +31,9 @@ returns-are : (d : Desk) (held : ℕ) (ms : List MessageItem) → ms ≡ message
     → map (line_of d) (filter (goes_back held) (waiting_on d)) ≡ flat_map (return_lines d held) ms
 returns-are d held ms e =
     waits d held (waiting_on d)
-    ∙ (sym (append-nil (flat_map (return_lines d held) (map (item_of false) (waiting_on d))))
-    ∙ (ap (λ z. flat_map (return_lines d held) (map (item_of false) (waiting_on d)) ++ z) (sym (no-holds d held (held_on d)))
-    ∙ (sym (flat_map-append (return_lines d held) (map (item_of false) (waiting_on d)) (map (item_of true) (held_on d)))
+    ∙ (sym (append-nil (flat_map (return_lines d held) (map (seen_item false) (waiting_on d))))
+    ∙ (ap (λ z. flat_map (return_lines d held) (map (seen_item false) (waiting_on d)) ++ z) (sym (no-holds d held (held_on d)))
+    ∙ (sym (flat_map-append (return_lines d held) (map (seen_item false) (waiting_on d)) (map (seen_item true) (held_on d)))
     ∙ ap (flat_map (return_lines d held)) (sym e))))
 
 pub loop-message-init : goal.loop-message-init

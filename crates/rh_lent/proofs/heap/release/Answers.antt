@@ -1,14 +1,14 @@
-use Rattle.rh_lent.proofs.Common.{rules, heap_of, bytes, area_set, memory_of, memory_over, no_answer, LeavesBytes}
+use Rattle.rh_lent.proofs.Common.{rules, heap_of, bytes, area_set, lent_memory, memory_over, no_answer, LeavesBytes}
 use Rattle.rh_defs.specs.Heap.{released_at}
 use Rattle.rh_lent.proofs.HeapBytes.{is_span, leaves_bytes}
 use Rattle.rh_lent.proofs.heap.release.Goals as goal
 
 pub release-requires : goal.release-requires
-unfolding memory_of
+unfolding lent_memory
 release-requires c = is_span c.args.memory.now _ c.requires
 
 pub returns : goal.returns
-unfolding memory_of memory_over bytes area_set
+unfolding lent_memory memory_over bytes area_set
 returns c =
     let b = c.args.memory.now in
     let new = c.release.new.store.bytes.now in

@@ -1,18 +1,18 @@
-use Rattle.rh_lent.proofs.Common.{rules, heap_of, bytes, area_set, no_answer, IsIndex, memory_of, memory_over, LeavesBytes}
+use Rattle.rh_lent.proofs.Common.{rules, heap_of, bytes, area_set, no_answer, IsIndex, lent_memory, memory_over, LeavesBytes}
 use Rattle.rh_defs.specs.Heap.{released_at}
 use Rattle.rh_lent.proofs.HeapBytes.{is_span, leaves_bytes}
 use Rattle.rh_lent.proofs.indexed.release.Goals as goal
 
 pub release_in-requires-clause-span : goal.release_in-requires-clause-span
-unfolding memory_of
+unfolding lent_memory
 release_in-requires-clause-span c = is_span c.args.memory.now _ c.requires.heap
 
 pub release_in-requires-clause-starts : goal.release_in-requires-clause-starts
-unfolding memory_of memory_over bytes area_set
+unfolding lent_memory memory_over bytes area_set
 release_in-requires-clause-starts c = c.requires.starts
 
 pub returns-clause-leaves : goal.returns-clause-leaves
-unfolding memory_of memory_over bytes area_set
+unfolding lent_memory memory_over bytes area_set
 returns-clause-leaves c =
     let b = c.args.memory.now in
     let new = c.release_in.new.store.bytes.now in
@@ -23,7 +23,7 @@ returns-clause-leaves c =
     search rules
 
 pub returns-clause-starts : goal.returns-clause-starts
-unfolding memory_of memory_over bytes area_set
+unfolding lent_memory memory_over bytes area_set
 returns-clause-starts c =
     let name = c.release_in.ensures.leaves.only.loan in
     let made : IsIndex c.release_in.new.starts (heap_of c.release_in.new.store.bytes.now 0) = c.release_in.ensures.starts in

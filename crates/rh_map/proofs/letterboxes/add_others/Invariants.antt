@@ -1,4 +1,4 @@
-use Rattle.rh_map.proofs.Common.{ℕ, ◌≤◌, List, ◌++◌, length, codes, flat_map, text_of, Fills}
+use Rattle.rh_map.proofs.Common.{ℕ, ◌≤◌, List, ◌++◌, length, codes, flat_map, message_entry_text, Fills}
 use Rattle.rh_map.proofs.FillLemmas.{FillsLeft}
 use Rattle.rh_map.proofs.letterboxes.add_others.Given as goal
 
@@ -6,8 +6,8 @@ use Rattle.rh_map.proofs.letterboxes.add_others.Given as goal
 abbrev pub invariant-loop-entry : goal.invariant-loop-entry
 invariant-loop-entry l = record {
   left : (text : List ℕ) → Fills l.initial.row text
-      → FillsLeft l.row (text ++ flat_map (λ e. codes ", " ++ text_of e) l.others)
-      (flat_map (λ e. codes ", " ++ text_of e) l.rest);
+      → FillsLeft l.row (text ++ flat_map (λ e. codes ", " ++ message_entry_text e) l.others)
+      (flat_map (λ e. codes ", " ++ message_entry_text e) l.rest);
   few : length l.row ≤ 120;
 }
 

@@ -1,5 +1,6 @@
 use Rattle.rh_painted.proofs.Common.{◌≡◌, ◌++◌, List, Some, map, ap, ap₂, sym, ◌∙◌, append_assoc, filter, not, flat_map, BlockItem, Task, task_at}
-use Rattle.rh_painted.proofs.Common.{block_items, block_change, gone_line, has_anchor, item_of, slide_change, slide_of, slides, Text, Scene, change_item}
+use Rattle.rh_painted.proofs.Common.{block_items, block_change, gone_line, has_anchor, item_with_anchor, slide_change, slide_of, slides, Text, Scene}
+use Rattle.rh_painted.proofs.Common.{change_item}
 use Rattle.rh_painted.proofs.Common.{scene_at, puts_same}
 use Rattle.rh_figure.specs.Changes.{block_changes, blocks_now}
 use Rattle.rh_painted.proofs.ElementLemmas.{parts-three}
@@ -10,10 +11,10 @@ abbrev gone : List BlockItem → List BlockItem → List Text
 gone before now = map (λ (b : BlockItem). gone_line b.anchor) (filter (λ (b : BlockItem). not (has_anchor b.anchor now)) before)
 
 abbrev changed : List BlockItem → List BlockItem → List Text
-changed before now = flat_map (λ (b : BlockItem). block_change b (item_of b.anchor before)) now
+changed before now = flat_map (λ (b : BlockItem). block_change b (item_with_anchor b.anchor before)) now
 
 abbrev slid : List BlockItem → List BlockItem → List Text
-slid before now = slide_change (flat_map (λ (b : BlockItem). slide_of b (item_of b.anchor before)) now)
+slid before now = slide_change (flat_map (λ (b : BlockItem). slide_of b (item_with_anchor b.anchor before)) now)
 
 abbrev items : List Text → Text
 items lines = flat_map change_item lines
@@ -26,7 +27,7 @@ block-parts : (x : Scene) (t : Task) → task_at x.before.handle x.desk ≡ Some
 block-parts x t e =
     let now = block_items t.slot in
     let before = x.before.blocks in
-    ap (λ o. items (block_changes x o ++ slide_change (flat_map (λ (b : BlockItem). slide_of b (item_of b.anchor before)) (blocks_now o)))) e
+    ap (λ o. items (block_changes x o ++ slide_change (flat_map (λ (b : BlockItem). slide_of b (item_with_anchor b.anchor before)) (blocks_now o)))) e
     ∙ (ap items (append_assoc (gone before now) (changed before now) (slid before now))
     ∙ parts-three change_item (gone before now) (changed before now) (slid before now))
 

@@ -1,4 +1,4 @@
-use Rattle.rh_painted.proofs.Common.{◌≡◌, List, [], ◌∷◌, length, ap, sym, ◌∙◌, Some, flat_map, BlockItem, item_of, slide_change, slide_of, change_item}
+use Rattle.rh_painted.proofs.Common.{◌≡◌, List, [], ◌∷◌, length, ap, sym, ◌∙◌, Some, flat_map, BlockItem, item_with_anchor, slide_change, slide_of, change_item}
 use Rattle.rh_painted.proofs.Common.{puts_same}
 use Rattle.rh_drawn.specs.declared.block_changes.Slid.{Slid}
 use Rattle.rh_drawn.specs.Slides.{summary_of}
@@ -15,7 +15,7 @@ slid-line (first ∷ rest) s e =
 
 pub returns-in-Some : goal.returns-in-Some
 returns-in-Some g c =
-    let slides = flat_map (λ (b : BlockItem). slide_of b (item_of b.anchor c.args.kept.now.blocks)) c.args.blocks.now in
+    let slides = flat_map (λ (b : BlockItem). slide_of b (item_with_anchor b.anchor c.args.kept.now.blocks)) c.args.blocks.now in
     let slid = c.in-Some.slid in
     puts_same (ap change_item (c.as_slice.ensures ∙ c.blocks_slide-change.ensures.value)
     ∙ (sym (parts-one change_item (slide_line slid.count slid.from slid.to))

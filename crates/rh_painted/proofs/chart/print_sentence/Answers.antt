@@ -1,6 +1,6 @@
 use Rattle.rh_painted.proofs.Common.{◌≡◌, ◌++◌, ap, ap₂, ◌∙◌, codes, decimal, Text, task_name, escape, puts_same}
 use Rattle.rh_sheet.specs.Chart.{stop_sentence}
-use Rattle.rh_painted.specs.Ways.{words_of}
+use Rattle.rh_painted.specs.Ways.{way_words}
 use Rattle.rh_painted.proofs.ChartLemmas.{nine-parts}
 use Rattle.rh_painted.proofs.chart.print_sentence.Goals as goal
 
@@ -8,7 +8,7 @@ pub returns : goal.returns
 returns g c =
     let d = g.S.Sight.desk c.args.sight.now in
     let w = c.args.way.now in
-    let words : Text = words_of w in
+    let words : Text = way_words w in
     let from : Text = task_name d w.from in
     let to : Text = task_name d w.to in
     let t1 : Text = words ++ codes " from " in

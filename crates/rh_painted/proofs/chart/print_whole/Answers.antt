@@ -1,7 +1,7 @@
 use Rattle.rh_painted.proofs.Common.{◌+◌, ◌++◌, ap, refl, codes, flat_map, Text, arrow_sentence, escape, figure_open, puts_same, arrows_seen, puts_before}
 use Rattle.rh_painted.proofs.Common.{puts_more, puts_stops}
 use Rattle.rh_sheet.specs.declared.sizes.TheConstants.{CHART_EDGE, CHART_WIDTH}
-use Rattle.rh_painted.specs.Charts.{body_in}
+use Rattle.rh_painted.specs.Charts.{body_of_chart}
 use Rattle.rh_painted.proofs.ChartLemmas.{chart-parts, title, ways-some}
 use Rattle.rh_painted.proofs.chart.print_whole.Goals as goal
 
@@ -16,7 +16,7 @@ returns-in_err-print_figure_open g c =
     let d = g.S.Sight.desk c.args.sight.now in
     let chart = c.args.chart.now in
     let told : Text = escape (flat_map (arrow_sentence d) (arrows_seen chart.ways.now)) in
-    let body : Text = body_in d chart in
+    let body : Text = body_of_chart d chart in
     let some = ways-some chart.ways.now c.requires.whole.some in
     let e = chart-parts d (arrows_seen chart.ways.now) chart.tasks.now chart.steps.now chart.step c.requires.whole.tasks c.requires.whole.steps some in
     let high = ap (λ h. figure_open CHART_WIDTH (h + CHART_EDGE) title) c.foot-height.ensures.value in
@@ -29,7 +29,7 @@ returns-in_err-print_sentences g c =
     let d = g.S.Sight.desk c.args.sight.now in
     let chart = c.args.chart.now in
     let told : Text = escape (flat_map (arrow_sentence d) (arrows_seen chart.ways.now)) in
-    let body : Text = body_in d chart in
+    let body : Text = body_of_chart d chart in
     let some = ways-some chart.ways.now c.requires.whole.some in
     let e = chart-parts d (arrows_seen chart.ways.now) chart.tasks.now chart.steps.now chart.step c.requires.whole.tasks c.requires.whole.steps some in
     let high = ap (λ h. figure_open CHART_WIDTH (h + CHART_EDGE) title) c.foot-height.ensures.value in
@@ -42,7 +42,7 @@ returns-in_err-print_described g c =
     let d = g.S.Sight.desk c.args.sight.now in
     let chart = c.args.chart.now in
     let told : Text = escape (flat_map (arrow_sentence d) (arrows_seen chart.ways.now)) in
-    let body : Text = body_in d chart in
+    let body : Text = body_of_chart d chart in
     let some = ways-some chart.ways.now c.requires.whole.some in
     let e = chart-parts d (arrows_seen chart.ways.now) chart.tasks.now chart.steps.now chart.step c.requires.whole.tasks c.requires.whole.steps some in
     let high = ap (λ h. figure_open CHART_WIDTH (h + CHART_EDGE) title) c.foot-height.ensures.value in
@@ -56,7 +56,7 @@ returns-in_err-print_chart_body g c =
     let d = g.S.Sight.desk c.args.sight.now in
     let chart = c.args.chart.now in
     let told : Text = escape (flat_map (arrow_sentence d) (arrows_seen chart.ways.now)) in
-    let body : Text = body_in d chart in
+    let body : Text = body_of_chart d chart in
     let some = ways-some chart.ways.now c.requires.whole.some in
     let e = chart-parts d (arrows_seen chart.ways.now) chart.tasks.now chart.steps.now chart.step c.requires.whole.tasks c.requires.whole.steps some in
     let high = ap (λ h. figure_open CHART_WIDTH (h + CHART_EDGE) title) c.foot-height.ensures.value in
@@ -71,7 +71,7 @@ returns g c =
     let d = g.S.Sight.desk c.args.sight.now in
     let chart = c.args.chart.now in
     let told : Text = escape (flat_map (arrow_sentence d) (arrows_seen chart.ways.now)) in
-    let body : Text = body_in d chart in
+    let body : Text = body_of_chart d chart in
     let some = ways-some chart.ways.now c.requires.whole.some in
     let e = chart-parts d (arrows_seen chart.ways.now) chart.tasks.now chart.steps.now chart.step c.requires.whole.tasks c.requires.whole.steps some in
     let high = ap (λ h. figure_open CHART_WIDTH (h + CHART_EDGE) title) c.foot-height.ensures.value in

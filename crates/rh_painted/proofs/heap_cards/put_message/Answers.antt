@@ -2,7 +2,7 @@ use Rattle.rh_painted.proofs.Common.{[], ◌∷◌, ap, ap₂, ◌∙◌, codes,
 use Rattle.rh_defs.specs.Messages.{code_number}
 use Rattle.rh_defs.specs.Text.{action_name}
 use Rattle.rh_figure.specs.Cards.{PostCard, between_text}
-use Rattle.rh_sight.specs.Messages.{place_among}
+use Rattle.rh_sight.specs.Messages.{message_place}
 use Rattle.rh_drawn.specs.Bands.{place_seen}
 use Rattle.rh_drawn.proofs.PostLemmas.{chain-is}
 use Rattle.rh_painted.proofs.BandLemmas.{card-same}
@@ -12,7 +12,7 @@ pub returns : goal.returns
 returns g c = λ p found is.
     let d = g.S.Sight.desk c.args.sight.now in
     let x = scene_at d c.args.step.now in
-    let place = c.chain_place-place.ensures ∙ (ap place_seen (c.place_of.ensures ∙ ap (λ ms. place_among ms c.args.message.now) c.requires.step.messages)
+    let place = c.chain_place-place.ensures ∙ (ap place_seen (c.place_of.ensures ∙ ap (λ ms. message_place ms c.args.message.now) c.requires.step.messages)
     ∙ chain-is c.spelled.ensures p.to p.message.my_ref c.args.message.now is.to is.my_ref) in
     let from = c.who_of-sender.ensures ∙ ap (task_name d) is.from in
     let to = c.who_of-receiver.ensures ∙ ap (task_name d) is.to in

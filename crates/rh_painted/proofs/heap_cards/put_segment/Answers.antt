@@ -1,10 +1,10 @@
 use Rattle.rh_painted.proofs.Common.{◌≡◌, ◌∙◌, ℕ, ◌+◌, ◌-◌, ◌++◌, Option, Some, None, ap, sym, subst, arith, ◌==◌, find, Parcel, MessageItem, held_on}
 use Rattle.rh_painted.proofs.Common.{message_items, waiting_on, heap_seen, heap_start_of, scene_at, puts_same, form_text}
 use Rattle.rh_defs.specs.Post.{post_is_message}
-use Rattle.rh_figure.specs.Scene.{live, message_in}
+use Rattle.rh_figure.specs.Scene.{live, message_of_scene}
 use Rattle.rh_sight.specs.declared.sight.HeapOf.{HeapOf}
 use Rattle.rh_sight.specs.Messages.{lies_in}
-use Rattle.rh_sight.specs.Seen.{HasBlock, IsFree}
+use Rattle.rh_sight.specs.Seen.{SeesBlock, SeesFree}
 use Rattle.rh_drawn.proofs.HeapLemmas.{block-free, has-block, module-is, posted-is, task-is, told-none, told-some, used-here}
 use Rattle.rh_drawn.proofs.PostLemmas.{Told, message-told, stands_in}
 use Rattle.rh_painted.proofs.heap_cards.put_segment.Goals as goal
@@ -21,7 +21,7 @@ put_used-requires-in-None-clause-free g c =
     let T : Option MessageItem → Type 0 = λ z. Told at z (find (stands_in at) (waiting_on d ++ held_on d)) in
     let free = block-free c.spelled.ensures at (told-none at (find (stands_in at) (waiting_on d ++ held_on d)) (subst T here (message-told at d))) in
     let same : at ≡ at - 4 + 4 = omega (arith, q.at, ap heap_start_of c.in-Module.is) in
-    let P : HeapOf → Type 0 = λ o. IsFree o (a - heap_start_of o - 4) d in
+    let P : HeapOf → Type 0 = λ o. SeesFree o (a - heap_start_of o - 4) d in
     subst P (sym c.in-Module.is) (ap (λ z. post_is_message z d.post) (sym same) ∙ free)
 
 pub returns-in-Task : goal.returns-in-Task
@@ -33,7 +33,7 @@ returns-in-Task g c = λ place segment has is.
     let a = c.in-Used.address in
     let q = used-here (start + place) a c.in-Used.size segment (sym is ∙ c.in-Used.is) in
     let at : place ≡ a - start - 4 = omega (arith, q.at) in
-    let P : ℕ → Type 0 = λ z. HasBlock (heap_seen b.heap d) z q.bytes in
+    let P : ℕ → Type 0 = λ z. SeesBlock (heap_seen b.heap d) z q.bytes in
     puts_same (ap (λ z. form_text c.args.form (c.args.at, z)) (task-is x d b c.in-Task.field-0
     (start + place) a c.in-Used.size segment c.in-Task.is c.requires.band q))
     (c.put_used.ensures d q.bytes c.requires.step (subst P at (has-block q.bytes has q.is)) q.size)
@@ -49,8 +49,8 @@ returns-in-Some g c = λ place segment has is.
     let at = a - 25165824 in
     let here : find (lies_in at) (message_items d) ≡ Some c.in-Some.message = ap (find (lies_in at)) (sym c.requires.step.messages) ∙
     (sym c.message_at.ensures ∙ c.in-Some.is) in
-    let T : Option MessageItem → Type 0 = λ z. Told at z (message_in x at) in
-    let w = told-some at c.in-Some.message (message_in x at) (subst T here (message-told at d)) in
+    let T : Option MessageItem → Type 0 = λ z. Told at z (message_of_scene x at) in
+    let w = told-some at c.in-Some.message (message_of_scene x at) (subst T here (message-told at d)) in
     puts_same (ap (λ z. form_text c.args.form (c.args.at, z)) (posted-is x d b (start + place) a c.in-Used.size segment w.parcel c.in-Module.is w.is q))
     (c.put_message.ensures w.parcel (ap (λ n. find (λ (z : Parcel). z.block == n) (live x)) w.at ∙ w.is) w.item)
 
@@ -64,9 +64,9 @@ returns-in-None g c = λ place segment has is.
     let q = used-here (start + place) a c.in-Used.size segment (sym is ∙ c.in-Used.is) in
     let at = a - 25165824 in
     let here : find (lies_in at) (message_items d) ≡ None = ap (find (lies_in at)) (sym c.requires.step.messages) ∙ (sym c.message_at.ensures ∙ c.in-None.is) in
-    let T : Option MessageItem → Type 0 = λ z. Told at z (message_in x at) in
-    let none = told-none at (message_in x at) (subst T here (message-told at d)) in
+    let T : Option MessageItem → Type 0 = λ z. Told at z (message_of_scene x at) in
+    let none = told-none at (message_of_scene x at) (subst T here (message-told at d)) in
     let there : place ≡ a - start - 4 = omega (arith, q.at) in
-    let P : ℕ → Type 0 = λ z. HasBlock (heap_seen b.heap d) z q.bytes in
+    let P : ℕ → Type 0 = λ z. SeesBlock (heap_seen b.heap d) z q.bytes in
     puts_same (ap (λ z. form_text c.args.form (c.args.at, z)) (module-is x d b (start + place) a c.in-Used.size segment c.in-Module.is c.requires.band none q))
     (c.put_used-in-None.ensures d q.bytes c.requires.step (subst P there (has-block q.bytes has q.is)) q.size)

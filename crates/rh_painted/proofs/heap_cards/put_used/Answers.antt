@@ -2,7 +2,7 @@ use Rattle.rh_painted.proofs.Common.{◌≡◌, ℕ, ◌-◌, ◌++◌, List, []
 use Rattle.rh_painted.proofs.Common.{Text, size_text, heap_seen, heap_start_of, puts_same, form_text}
 use Rattle.rh_defs.specs.Text.{address}
 use Rattle.rh_figure.specs.Cards.{UsedCard}
-use Rattle.rh_sight.specs.Seen.{HasBlock}
+use Rattle.rh_sight.specs.Seen.{SeesBlock}
 use Rattle.rh_drawn.proofs.CardLemmas.{front-is}
 use Rattle.rh_painted.proofs.BandLemmas.{card-same, front-bytes}
 use Rattle.rh_painted.proofs.heap_cards.put_used.Goals as goal
@@ -14,7 +14,7 @@ returns g c = λ d bytes step block size.
     let zeros : List ℕ = (0 ∷ 0 ∷ 0 ∷ 0 ∷ 0 ∷ 0 ∷ 0 ∷ []) in
     let n = c.front_length.result in
     let here : a - heap_start_of heap - 4 ≡ a - 4 - c.heap_address.result = omega (arith, c.heap_address.ensures) in
-    let P : ℕ → Type 0 = λ z. HasBlock (heap_seen heap (g.S.Sight.desk c.args.sight.now)) z bytes in
+    let P : ℕ → Type 0 = λ z. SeesBlock (heap_seen heap (g.S.Sight.desk c.args.sight.now)) z bytes in
     let front = front-is c.args.size (length (take n zeros)) bytes size (omega (arith, c.front_length.ensures, length-take n zeros)) ∙ sym
     (c.read_heap.ensures bytes (subst P here block)) in
     let used = c.use_of_buffer.ensures in

@@ -1,5 +1,6 @@
 use Rattle.rh_painted.proofs.Common.{◌≡◌, ℕ, ◌+◌, ◌-◌, ◌++◌, List, [], length, ap, ap₂, subst, sym, ◌∙◌, arith, ◌==◌, ◌^◌, ◌<◌, AllByRecursion, flat_map}
-use Rattle.rh_painted.proofs.Common.{option_map, Task, task_at, block_items, BlockItem, flex_start, heap_start, flex_cards, heap_cards, shown_cards, item_of}
+use Rattle.rh_painted.proofs.Common.{option_map, Task, task_at, block_items, BlockItem, flex_start, heap_start, flex_cards, heap_cards, shown_cards}
+use Rattle.rh_painted.proofs.Common.{item_with_anchor}
 use Rattle.rh_painted.proofs.Common.{slide_of, Text, where_so, Scene, SlotOf, ticks_text, Frame, Plot, IsTaskSeen, heap_seen, scene_at, task-slot, at-some}
 use Rattle.rh_painted.proofs.Common.{items-long, few-blocks, seen-same, owned-few, seen-slot, puts_same, IsSlotPlan}
 use Rattle.rh_defs.specs.Heap.{first_place}
@@ -23,7 +24,8 @@ use Rattle.rh_painted.proofs.slots.print_body.Goals as goal
 
 -- the arrow of a task's slide, by its parts
 abbrev arrow_with : Scene → ℕ → Frame → List BlockItem → Text
-arrow_with x h f blocks = where_so (h == x.before.handle) (slide_arrow f (flat_map (λ (b : BlockItem). slide_of b (item_of b.anchor x.before.blocks)) blocks))
+arrow_with x h f blocks = where_so (h == x.before.handle) (slide_arrow f
+    (flat_map (λ (b : BlockItem). slide_of b (item_with_anchor b.anchor x.before.blocks)) blocks))
 
 parts-same : (x : Scene) {h k : ℕ} {f g : Frame} {bs cs : List BlockItem} → h ≡ k → f ≡ g → bs ≡ cs → arrow_with x h f bs ≡ arrow_with x k g cs
 parts-same x {h} {k} {f} {g} {bs} {cs} i j l =

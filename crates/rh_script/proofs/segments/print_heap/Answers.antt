@@ -9,7 +9,7 @@ use Rattle.rh_defs.specs.Heap.{first_place, free_bytes, largest, segment_at}
 use Rattle.rh_defs.specs.Questions.{Nothing, Segments, heap, heap_at, segment_item, segment_items, segment_items_from}
 use Rattle.rh_defs.specs.Slot.{heap_start}
 use Rattle.rh_defs.specs.Text.{answer_text, first_line, later_lines}
-use Rattle.rh_script.specs.Named.{segments_of_named, slot_in}
+use Rattle.rh_script.specs.Named.{segments_of_named, slot_or_empty}
 use Rattle.rh_script.proofs.PrintLemmas.{ok_same, refused_alike, refused_text}
 use Rattle.rh_script.proofs.segments.print_heap.Goals as goal
 
@@ -20,7 +20,7 @@ summed_text : (o : Option Task) (place : ℕ) (sums : ℕ × ℕ × ℕ) (item :
       option_map (λ s. segment_item (heap_start + place) s.here) (segment_at place t.slot.heap),
     ) in r)) ≡ Ok (sums, item)
     → first_line (reply.Answered (numbers.HeapSums sums.0 sums.1 sums.2)) Nothing ++ flat_map segment_line
-    (segment_items_from (heap_start + first_place) (slot_in o).heap.segments)
+    (segment_items_from (heap_start + first_place) (slot_or_empty o).heap.segments)
     ≡ answer_text (found_or o NoName
     >>= λ t. Ok (numbers.HeapSums t.slot.heap.end (largest t.slot.heap) (free_bytes t.slot.heap), Segments (segment_items t.slot)))
 unfolding ◌>>=◌ found_or answer_text first_line later_lines

@@ -1,5 +1,5 @@
 use Rattle.rh_sight.proofs.Common.{◌≡◌, drop, filter}
-use Rattle.rh_sight.specs.Messages.{behind, first_ref, waits_for}
+use Rattle.rh_sight.specs.Messages.{items_behind, first_ref, waits_for}
 use Rattle.rh_sight.proofs.Chains.{rest_behind}
 use Rattle.rh_sight.proofs.message_list.next_behind.Given as goal
 
@@ -7,4 +7,4 @@ use Rattle.rh_sight.proofs.message_list.next_behind.Given as goal
 abbrev pub invariant-loop-other : goal.invariant-loop-other
 invariant-loop-other l =
     first_ref (rest_behind l.seen l.message.my_ref (filter (waits_for l.message.to) (drop l.other-index l.messages)))
-    ≡ first_ref (behind l.message.my_ref (filter (waits_for l.message.to) l.messages))
+    ≡ first_ref (items_behind l.message.my_ref (filter (waits_for l.message.to) l.messages))

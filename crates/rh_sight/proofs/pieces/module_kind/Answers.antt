@@ -3,7 +3,7 @@ use Rattle.rh_sight.proofs.Common.{MessageItem, lies_in, scene_at}
 use Rattle.rh_figure.specs.declared.piece.Kind.{Kind}
 use Rattle.rh_figure.specs.declared.piece.Kind.TheVariants.{Posted}
 use Rattle.rh_figure.specs.Layout.{is_new_message}
-use Rattle.rh_figure.specs.Scene.{message_in}
+use Rattle.rh_figure.specs.Scene.{message_of_scene}
 use Rattle.rh_sight.proofs.Posts.{claimed-kind, claimed-new, posted-kind, posted-new, ref-in-block}
 use Rattle.rh_sight.proofs.pieces.module_kind.Goals as goal
 
@@ -23,8 +23,8 @@ returns-then-changed c = λ d is.
     let known = ap (option_map (λ (m : MessageItem). m.my_ref)) (sym c.in-Some.is ∙ c.message_in.ensures)
     ∙ (ap (λ ms. option_map (λ (m : MessageItem). m.my_ref) (find (lies_in b) ms)) is.messages ∙ ref-in-block b d) in
     let t = eq-eqb c.args.step.now.marks.module_block c.args.address c.if-changed.true in
-    both (ap Posted mine ∙ posted-kind c.args.size c.in-Some.message.my_ref (message_in x b) known)
-    (t ∙ sym (ap (λ (z : Bool). z || is_new_message x (message_in x b)) t))
+    both (ap Posted mine ∙ posted-kind c.args.size c.in-Some.message.my_ref (message_of_scene x b) known)
+    (t ∙ sym (ap (λ (z : Bool). z || is_new_message x (message_of_scene x b)) t))
 
 pub returns-else-changed : goal.returns-else-changed
 returns-else-changed c = λ d is.
@@ -34,8 +34,9 @@ returns-else-changed c = λ d is.
     let known = ap (option_map (λ (m : MessageItem). m.my_ref)) (sym c.in-Some.is ∙ c.message_in.ensures)
     ∙ (ap (λ ms. option_map (λ (m : MessageItem). m.my_ref) (find (lies_in b) ms)) is.messages ∙ ref-in-block b d) in
     let f = ne_eqb c.args.step.now.marks.module_block c.args.address c.if-changed.false in
-    both (ap Posted mine ∙ posted-kind c.args.size c.in-Some.message.my_ref (message_in x b) known)
-    (c.is_new_ref.ensures ∙ (posted-new x c.in-Some.message.my_ref (message_in x b) known ∙ sym (ap (λ (z : Bool). z || is_new_message x (message_in x b)) f)))
+    both (ap Posted mine ∙ posted-kind c.args.size c.in-Some.message.my_ref (message_of_scene x b) known)
+    (c.is_new_ref.ensures ∙ (posted-new x c.in-Some.message.my_ref (message_of_scene x b) known ∙ sym
+    (ap (λ (z : Bool). z || is_new_message x (message_of_scene x b)) f)))
 
 pub returns-in-None : goal.returns-in-None
 returns-in-None c = λ d is.
@@ -44,4 +45,5 @@ returns-in-None c = λ d is.
     let known = ap (option_map (λ (m : MessageItem). m.my_ref)) (sym c.in-None.is ∙ c.message_in.ensures)
     ∙ (ap (λ ms. option_map (λ (m : MessageItem). m.my_ref) (find (lies_in b) ms)) is.messages ∙ ref-in-block b d) in
     let changed : Bool = c.args.step.now.marks.module_block == c.args.address in
-    both (claimed-kind c.args.size (message_in x b) known) (sym (or-none changed) ∙ ap (λ (z : Bool). changed || z) (claimed-new x (message_in x b) known))
+    both (claimed-kind c.args.size (message_of_scene x b) known)
+    (sym (or-none changed) ∙ ap (λ (z : Bool). changed || z) (claimed-new x (message_of_scene x b) known))

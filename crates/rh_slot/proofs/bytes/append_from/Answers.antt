@@ -1,4 +1,4 @@
-use Rattle.rh_slot.proofs.Common.{◌≡◌, ◌+◌, ◌-◌, length, refl, sym, ap, ◌∙◌, arith, part, put, SameIn, no_answer, Memory, bytes}
+use Rattle.rh_slot.proofs.Common.{◌≡◌, ◌+◌, ◌-◌, length, refl, sym, ap, ◌∙◌, arith, part, with_part, SameIn, no_answer, Memory, bytes}
 use Rattle.rh_slot.proofs.Common.{flex_weight, flex_place, heap_place, length-part, SameOutside-self, bytes-with_bytes, part_of, in_below, in_both, slot_in}
 use Rattle.rh_slot.proofs.AppendLaws.{append_none, append_full, append_done, appended_words, appended_pages, source_inside, source_stays}
 use Rattle.rh_slot.proofs.AreaLaws.{Edited-put}
@@ -63,9 +63,9 @@ returns g c =
     in_both (part_of r.same (omega arith) (omega (arith, c.requires.slot.spells.words.within)))
     (in_both (part_of c.shift.ensures.below (omega arith) (omega arith)) (in_below c.write.ensures.only.outside (omega arith))) in
     let src = source_stays _ _ _ _ _ _ _ edits stays c.requires.above c.requires.below in
-    let e : bytes (g.S.Words.memory c.copy.new.self) id ≡ put (bytes (g.S.Words.memory c.write.new.store) id) (place + 8 + size) xs =
+    let e : bytes (g.S.Words.memory c.copy.new.self) id ≡ with_part (bytes (g.S.Words.memory c.write.new.store) id) (place + 8 + size) xs =
     ap (λ (r : Memory). bytes r id) c.copy.ensures ∙ bytes-with_bytes _ id _
-    ∙ ap (λ ys. put (bytes (g.S.Words.memory c.write.new.store) id) (place + 8 + size) ys) src in
+    ∙ ap (λ ys. with_part (bytes (g.S.Words.memory c.write.new.store) id) (place + 8 + size) ys) src in
     let copied = Edited-put _ _ id (place + 8 + size) (place + 8 + size + c.args.n) _ c.copy.ensures
     (omega (arith, length-part (bytes (g.S.Words.memory c.write.new.store) c.args.from.0) c.args.place c.args.n)) in
     let a = appended_words _ _ _ _ s _ place size from n to t.cut xs (words_grown _ _ _ c.requires.slot.spells r.same (omega (arith, r.len))) t.at

@@ -1,4 +1,4 @@
-use Rattle.rh_store.proofs.Common.{◌<◌, ◌≤◌, [], length, take, drop, ap, ◌∙◌, arith, unwrap_or, put, part, length-put, contents, open_index}
+use Rattle.rh_store.proofs.Common.{◌<◌, ◌≤◌, [], length, take, drop, ap, ◌∙◌, arith, unwrap_or, with_part, part, length-put, contents, open_index}
 use Rattle.rh_store.proofs.AreasLaws.{read_slice, in_front, in_back, written_front, written_back}
 use Rattle.rh_store.proofs.area.copy_at.Goals as goal
 
@@ -40,10 +40,10 @@ returns-then-i-j c =
     let target = read_slice list c.args.j y _ c.deref_mut-then-i-j.result.now c.requires.opened2 (in_back list _ c.args.j y back c.index-back-0.is)
     c.index-back-0.is c.deref_mut-then-i-j.ensures.value in
     let h : c.args.j ≤ length list = omega (arith, open_index list c.args.j c.requires.opened2) in
-    written_back c.args.areas.now _ _ c.args.j y c.copy_over.new.to (put old c.args.at2 (part from c.args.at c.args.n)) front back h c.index-back-0.is
+    written_back c.args.areas.now _ _ c.args.j y c.copy_over.new.to (with_part old c.args.at2 (part from c.args.at c.args.n)) front back h c.index-back-0.is
     c.requires.opened2
-    (c.copy_over.ensures ∙ ap (λ l. put l c.args.at2 (part c.deref.result.now c.args.at c.args.n)) target
-    ∙ ap (λ l. put old c.args.at2 (part l c.args.at c.args.n)) source)
+    (c.copy_over.ensures ∙ ap (λ l. with_part l c.args.at2 (part c.deref.result.now c.args.at c.args.n)) target
+    ∙ ap (λ l. with_part old c.args.at2 (part l c.args.at c.args.n)) source)
     (length-put old c.args.at2 (part from c.args.at c.args.n))
 
 pub split_at_mut-front-requires-else-i-j : goal.split_at_mut-front-requires-else-i-j
@@ -86,8 +86,9 @@ returns-else-i-j c =
     let target = read_slice list c.args.j y _ c.deref_mut-else-i-j-2.result.now c.requires.opened2
     (in_front list _ c.args.j c.args.i y front below c.index-front-j.is) c.index-front-j.is c.deref_mut-else-i-j-2.ensures.value in
     let h : c.args.i ≤ length list = omega (arith, open_index list c.args.i c.requires.opened) in
-    written_front c.args.areas.now _ _ c.args.j c.args.i y c.copy_over-else-i-j.new.to (put old c.args.at2 (part from c.args.at c.args.n)) front back below h
+    written_front c.args.areas.now _ _ c.args.j c.args.i y c.copy_over-else-i-j.new.to
+    (with_part old c.args.at2 (part from c.args.at c.args.n)) front back below h
     c.index-front-j.is c.requires.opened2
-    (c.copy_over-else-i-j.ensures ∙ ap (λ l. put l c.args.at2 (part c.deref-else-i-j.result.now c.args.at c.args.n)) target
-    ∙ ap (λ l. put old c.args.at2 (part l c.args.at c.args.n)) source)
+    (c.copy_over-else-i-j.ensures ∙ ap (λ l. with_part l c.args.at2 (part c.deref-else-i-j.result.now c.args.at c.args.n)) target
+    ∙ ap (λ l. with_part old c.args.at2 (part l c.args.at c.args.n)) source)
     (length-put old c.args.at2 (part from c.args.at c.args.n))

@@ -1,4 +1,4 @@
-use Rattle.rh_store.proofs.Common.{◌≡◌, [], length, sym, ap, ◌∙◌, arith, unwrap_or, put, length-put, contents, open_index, open_read, written_slice}
+use Rattle.rh_store.proofs.Common.{◌≡◌, [], length, sym, ap, ◌∙◌, arith, unwrap_or, with_part, length-put, contents, open_index, open_read, written_slice}
 use Rattle.rh_store.proofs.area.put_at.Goals as goal
 
 pub index_mut-area-requires : goal.index_mut-area-requires
@@ -14,6 +14,6 @@ returns c =
     let a = c.index_mut-area.result.now in
     let old = unwrap_or (contents list c.args.i) [] in
     let was : old ≡ a.bytes.items = (open_read list c.args.i a c.requires.opened c.index_mut-area.ensures.value).1 in
-    written_slice list c.args.i a c.put_in.new.b (put old c.args.at c.args.from.now) c.requires.opened c.index_mut-area.ensures.value
-    (c.put_in.ensures ∙ ap (λ l. put l c.args.at c.args.from.now) (c.deref_mut.ensures.value ∙ sym was))
+    written_slice list c.args.i a c.put_in.new.b (with_part old c.args.at c.args.from.now) c.requires.opened c.index_mut-area.ensures.value
+    (c.put_in.ensures ∙ ap (λ l. with_part l c.args.at c.args.from.now) (c.deref_mut.ensures.value ∙ sym was))
     (length-put old c.args.at c.args.from.now ∙ ap length was)

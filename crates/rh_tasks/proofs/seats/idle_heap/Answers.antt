@@ -1,4 +1,4 @@
-use Rattle.rh_tasks.proofs.Common.{refl, sym, ◌∙◌, err_from_is_err_and, idle_buffer, HasSlot, Found, all-at, sits}
+use Rattle.rh_tasks.proofs.Common.{refl, sym, ◌∙◌, err_from_is_err_and, idle_buffer, HasSlot, FoundSeat, all-at, sits}
 use Rattle.rh_tasks.proofs.Looks.{looked-none, looked-at, buffer-missing, buffer-busy}
 use Rattle.rh_tasks.proofs.seats.idle_heap.Goals as goal
 
@@ -22,7 +22,7 @@ returns-then-not-is_busy_buffer-clause-ok g c =
 pub block_size-requires : goal.block_size-requires
 block_size-requires g c =
     let m = g.S.Words.memory c.args.store.now in
-    let f : Found c.args.name.now c.args.seats.now.items c.in_ok-i.i c.index-seat.result.now =
+    let f : FoundSeat c.args.name.now c.args.seats.now.items c.in_ok-i.i c.index-seat.result.now =
     record { at = c.in_ok-i.ensures.ok; is = sym c.index-seat.ensures } in
     record { slot = all-at (HasSlot m) c.args.seats.now.items c.in_ok-i.i c.index-seat.result.now c.requires (sits f) }
 
@@ -31,13 +31,13 @@ returns-in_err-block_size-clause-err g c =
     let p = err_from_is_err_and c.from_residual-in_err-block_size.result c.from_residual-in_err-block_size.ensures.1 in
     let m = g.S.Words.memory c.args.store.now in
     let s = c.index-seat.result.now in
-    let f : Found c.args.name.now c.args.seats.now.items c.in_ok-i.i s = record { at = c.in_ok-i.ensures.ok; is = sym c.index-seat.ensures } in
+    let f : FoundSeat c.args.name.now c.args.seats.now.items c.in_ok-i.i s = record { at = c.in_ok-i.ensures.ok; is = sym c.index-seat.ensures } in
     rw (p.1, p.2) (looked-at (idle_buffer c.args.address) m f (buffer-missing m s c.args.address c.in_err-block_size.ensures))
 
 pub returns-clause-err : goal.returns-clause-err
 returns-clause-err g c =
     let m = g.S.Words.memory c.args.store.now in
     let s = c.index-seat.result.now in
-    let f : Found c.args.name.now c.args.seats.now.items c.in_ok-i.i s = record { at = c.in_ok-i.ensures.ok; is = sym c.index-seat.ensures } in
+    let f : FoundSeat c.args.name.now c.args.seats.now.items c.in_ok-i.i s = record { at = c.in_ok-i.ensures.ok; is = sym c.index-seat.ensures } in
     looked-at (idle_buffer c.args.address) m f (buffer-busy m s c.args.address c.in_ok-block_size.ensures
     (sym c.is_busy_buffer.ensures ∙ c.if-not-is_busy_buffer.false))

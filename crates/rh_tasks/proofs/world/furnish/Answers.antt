@@ -1,4 +1,4 @@
-use Rattle.rh_tasks.proofs.Common.{◌≡◌, ap, sym, subst, ◌∙◌, arith, empty_heap, IsModule, heap_in, the_module}
+use Rattle.rh_tasks.proofs.Common.{◌≡◌, ap, sym, subst, ◌∙◌, arith, empty_heap, IsModule, module_heap_in, the_module}
 use Rattle.rh_module.specs.declared.module.Module.{Module}
 use Rattle.rh_tasks.proofs.Openings.{none-opened, next-opened, opens, six-opened, open-at, page-long, page-open, furnished}
 use Rattle.rh_tasks.proofs.PageLaws.{not-refused}
@@ -45,4 +45,4 @@ returns g c =
     let n = g.S.Words.memory c.start.new.store in
     let StillIs : Module → Type 0 = λ k. IsModule n k in
     furnished six (omega (arith, c.requires.least)) is c.start.ensures.only (subst StillIs one c.start.ensures.still)
-    (ap (heap_in n) (sym one) ∙ c.start.ensures.heap ∙ ap empty_heap (page-long six (omega (arith, c.requires.least)) is))
+    (ap (module_heap_in n) (sym one) ∙ c.start.ensures.heap ∙ ap empty_heap (page-long six (omega (arith, c.requires.least)) is))

@@ -1,4 +1,5 @@
-use Rattle.rh_wimp.proofs.Common.{length, sym, ap, ◌∙◌, arith, append-nil, put, action_number, body_bytes, words, data_words, DataSave, DataSaveAck, DataLoad}
+use Rattle.rh_wimp.proofs.Common.{length, sym, ap, ◌∙◌, arith, append-nil, with_part, action_number, body_bytes, words, data_words, DataSave, DataSaveAck}
+use Rattle.rh_wimp.proofs.Common.{DataLoad}
 use Rattle.rh_wimp.proofs.Common.{DataLoadAck, RamFetch, RamTransmit}
 use Rattle.rh_defs.proofs.MessageLaws.{length-body}
 use Rattle.rh_wimp.proofs.EncodeLaws.{body-put}
@@ -22,11 +23,11 @@ returns-clause-bytes c =
           ∙ body-put c.args.body.now (RamFetch w.in-RamFetch.buffer w.in-RamFetch.length) c.args.out.now c.put_word.new.out w.encode_pair.new.out
           c.number.result
           w.in-RamFetch.is n c.put_word.ensures
-          (w.encode_pair.ensures.bytes ∙ ap (put c.put_word.new.out 20) (sym
+          (w.encode_pair.ensures.bytes ∙ ap (with_part c.put_word.new.out 20) (sym
           (append-nil (words (data_words (RamFetch w.in-RamFetch.buffer w.in-RamFetch.length))))))
       | in-RamTransmit w ↦ w.out-is ∙ body-put c.args.body.now (RamTransmit w.in-RamTransmit.buffer w.in-RamTransmit.written) c.args.out.now
           c.put_word.new.out w.encode_pair-in-RamTransmit.new.out c.number.result w.in-RamTransmit.is n c.put_word.ensures
-          (w.encode_pair-in-RamTransmit.ensures.bytes ∙ ap (put c.put_word.new.out 20)
+          (w.encode_pair-in-RamTransmit.ensures.bytes ∙ ap (with_part c.put_word.new.out 20)
           (sym (append-nil (words (data_words (RamTransmit w.in-RamTransmit.buffer w.in-RamTransmit.written))))))
     ]
 

@@ -1,20 +1,21 @@
-use Rattle.rh_wimp.proofs.Common.{◌≡◌, ◌+◌, ◌≤◌, List, length, arith, most_messages, Parcel, has-less, heap_in, Chain, first_block}
+use Rattle.rh_wimp.proofs.Common.{◌≡◌, ◌+◌, ◌≤◌, List, length, arith, most_messages, Parcel, has-less, module_heap_in, Chain, first_block}
 use Rattle.rh_wimp.proofs.ItemLaws.{Meets, links-has, walk-begins, walk-none, walk-on, walk-past, walk-some}
 use Rattle.rh_wimp.proofs.listing.push_chain.Goals as goal
 use Rattle.rh_wimp.proofs.listing.push_chain.Goals.{Else-block-eq0}
 use Rattle.rh_wimp.proofs.listing.push_chain.Given as given
 
 pub loop-turn-init : goal.loop-turn-init
-loop-turn-init g c = λ ps e l few. walk-begins (heap_in (g.S.Words.memory c.args.store.now) c.args.rma) c.args.first c.args.to ps c.args.items.now.items e l few
+loop-turn-init g c = λ ps e l few. walk-begins (module_heap_in
+    (g.S.Words.memory c.args.store.now) c.args.rma) c.args.first c.args.to ps c.args.items.now.items e l few
 
 pub returns-then-block-eq0 : goal.returns-then-block-eq0
 returns-then-block-eq0 g c = λ ps e l few.
-    walk-none (heap_in (g.S.Words.memory c.args.store.now) c.args.rma) c.loop-turn.block _ c.args.to ps c.args.items.now.items c.loop-turn.items.items
+    walk-none (module_heap_in (g.S.Words.memory c.args.store.now) c.args.rma) c.loop-turn.block _ c.args.to ps c.args.items.now.items c.loop-turn.items.items
     (c.loop-turn.invariant ps e l few) c.if-block-eq0.true
 
 -- the message whose block is the next one
 here : (g : given.Over) (c : Else-block-eq0 g) (ps : List Parcel) → c.args.first ≡ first_block ps 0
-    → Chain (heap_in (g.S.Words.memory c.args.store.now) c.args.rma) ps 0 → length c.args.items.now.items + length ps ≤ most_messages
+    → Chain (module_heap_in (g.S.Words.memory c.args.store.now) c.args.rma) ps 0 → length c.args.items.now.items + length ps ≤ most_messages
     → Meets (g.S.Words.memory c.args.store.now) c.args.rma c.loop-turn.block c.loop-turn._turn c.args.to ps c.args.items.now.items c.loop-turn.items.items
 here g c ps e l few =
     walk-some (g.S.Words.memory c.args.store.now) c.args.rma c.loop-turn.block c.loop-turn._turn c.args.to ps c.args.items.now.items c.loop-turn.items.items
@@ -38,7 +39,7 @@ pub read_word-block-requires-clause-block : goal.read_word-block-requires-clause
 read_word-block-requires-clause-block g c =
     let r = c.requires.chain in
     let w = here g (goal.at.read_word-block-requires-clause-block g c).Else-block-eq0 r.0 r.1.0 r.1.1 r.1.2 in
-    has-less c.loop-turn.block 36 4 (heap_in (g.S.Words.memory c.args.store.now) c.args.rma) (omega arith) (links-has w.links)
+    has-less c.loop-turn.block 36 4 (module_heap_in (g.S.Words.memory c.args.store.now) c.args.rma) (omega arith) (links-has w.links)
 
 pub loop-turn-preserved : goal.loop-turn-preserved
 loop-turn-preserved g c = λ ps e l few.
@@ -49,5 +50,5 @@ loop-turn-preserved g c = λ ps e l few.
 
 pub returns : goal.returns
 returns g c = λ ps e l few.
-    walk-past (heap_in (g.S.Words.memory c.args.store.now) c.args.rma) c.loop-turn.block c.loop-turn._turn c.args.to ps c.args.items.now.items
+    walk-past (module_heap_in (g.S.Words.memory c.args.store.now) c.args.rma) c.loop-turn.block c.loop-turn._turn c.args.to ps c.args.items.now.items
     c.loop-turn.items.items (c.loop-turn.invariant ps e l few) (omega arith)

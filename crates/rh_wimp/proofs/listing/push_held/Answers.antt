@@ -1,5 +1,6 @@
-use Rattle.rh_wimp.proofs.Common.{◌≡◌, ◌<◌, ℕ, List, length, get_or, map, refl, sym, ap, subst, ◌∙◌, arith, true, ◌++◌, length-map, heap_in, Row, RowLies}
-use Rattle.rh_wimp.proofs.Common.{RowsLie, entry_at, held_list, row_at, item_of, held_items, Entry}
+use Rattle.rh_wimp.proofs.Common.{◌≡◌, ◌<◌, ℕ, List, length, get_or, map, refl, sym, ap, subst, ◌∙◌, arith, true, ◌++◌, length-map, module_heap_in, SeatRow}
+use Rattle.rh_wimp.proofs.Common.{RowLies}
+use Rattle.rh_wimp.proofs.Common.{RowsLie, entry_at, held_list, row_at, message_item_of, held_items, Entry}
 use Rattle.rh_wimp.proofs.AnswerLaws.{read_entry}
 use Rattle.rh_wimp.proofs.ItemLaws.{goes-on, goes-past, goes-room, held_of}
 use Rattle.rh_wimp.proofs.listing.push_held.Goals as goal
@@ -21,16 +22,19 @@ at g c =
     )
 
 -- its row
-row : (g : given.Over) (c : After-entry-item g) (rows : List Row)
-    → RowsLie (heap_in (g.S.Words.memory c.args.store.now) c.args.rma) c.args.entries.now.items rows
-    → (c.loop-entry.entry-index < length rows) × RowLies (heap_in (g.S.Words.memory c.args.store.now) c.args.rma) c.entry-item.result
+row : (g : given.Over) (c : After-entry-item g) (rows : List SeatRow)
+    → RowsLie (module_heap_in (g.S.Words.memory c.args.store.now) c.args.rma) c.args.entries.now.items rows
+    → (c.loop-entry.entry-index < length rows) × RowLies (module_heap_in (g.S.Words.memory c.args.store.now) c.args.rma) c.entry-item.result
     (row_at rows c.loop-entry.entry-index)
 row g c rows s =
     let w = at g c in
     let l = w.0 in
     let len = s.len in
-    let i : ℕ = c.loop-entry.entry-index in
-    (omega arith, subst (λ (e : Entry). RowLies (heap_in (g.S.Words.memory c.args.store.now) c.args.rma) e (row_at rows i)) (sym w.1) (s.each i (omega arith)))
+    let i : ℕ = c.loop-entry.entry-index in (
+      omega arith,
+      subst (λ (e : Entry). RowLies (module_heap_in (g.S.Words.memory c.args.store.now) c.args.rma) e (row_at rows i)) (sym w.1)
+          (s.each i (omega arith)),
+    )
 
 pub push_block-requires-clause-held : goal.push_block-requires-clause-held
 push_block-requires-clause-held g c =
@@ -40,7 +44,7 @@ push_block-requires-clause-held g c =
     let w = row g o r.0 r.1.0 in
     let room = goes-room held_items held_of i r.0 c.args.items.now.items c.loop-entry.items.items (λ x xs. refl) w.0 (c.loop-entry.invariant r.0 r.1.0 r.1.1)
     r.1.1 in
-    ((row_at r.0 i).held, (w.1.held, omega (arith, room, length-map (held_list (row_at r.0 i).held) (item_of (row_at r.0 i).handle true))))
+    ((row_at r.0 i).held, (w.1.held, omega (arith, room, length-map (held_list (row_at r.0 i).held) (message_item_of (row_at r.0 i).handle true))))
 
 pub loop-entry-preserved : goal.loop-entry-preserved
 loop-entry-preserved g c = λ rows s few.
@@ -50,9 +54,9 @@ loop-entry-preserved g c = λ rows s few.
     let g' = c.loop-entry.invariant rows s few in
     let room = goes-room held_items held_of i rows c.args.items.now.items c.loop-entry.items.items (λ x xs. refl) w.0 g' few in
     let more = c.push_block.ensures (row_at rows i).held w.1.held (omega
-    (arith, room, length-map (held_list (row_at rows i).held) (item_of (row_at rows i).handle true))) in
+    (arith, room, length-map (held_list (row_at rows i).held) (message_item_of (row_at rows i).handle true))) in
     goes-on held_items held_of i rows c.args.items.now.items c.loop-entry.items.items _ (λ x xs. refl) w.0 g'
-    (more ∙ ap (λ h. c.loop-entry.items.items ++ map (item_of h true) (held_list (row_at rows i).held)) w.1.handle)
+    (more ∙ ap (λ h. c.loop-entry.items.items ++ map (message_item_of h true) (held_list (row_at rows i).held)) w.1.handle)
 
 pub returns : goal.returns
 returns g c = λ rows s few.

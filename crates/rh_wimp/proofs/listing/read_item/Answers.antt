@@ -1,5 +1,5 @@
 use Rattle.rh_wimp.proofs.Common.{◌≡◌, ℕ, refl, sym, ap, subst, ◌∙◌, arith, Option, Some, IsSome, Parcel, action_at, action_of, padded, Action, has-less}
-use Rattle.rh_wimp.proofs.Common.{from_read, ref_read, heap_in, block_within, LinksAt}
+use Rattle.rh_wimp.proofs.Common.{from_read, ref_read, module_heap_in, block_within, LinksAt}
 use Rattle.rh_wimp.proofs.ItemLaws.{action_read, known, links-bytes, links-has, same-item}
 use Rattle.rh_wimp.proofs.listing.read_item.Goals as goal
 use Rattle.rh_wimp.proofs.listing.read_item.Goals.{After-from_number}
@@ -7,7 +7,7 @@ use Rattle.rh_wimp.proofs.listing.read_item.Given as given
 
 pub read_word-action-requires-clause-block : goal.read_word-action-requires-clause-block
 read_word-action-requires-clause-block g c =
-    has-less c.args.block 36 28 (heap_in (g.S.Words.memory c.args.store.now) c.args.rma) (omega arith) (links-has c.requires.lies.1.1)
+    has-less c.args.block 36 28 (module_heap_in (g.S.Words.memory c.args.store.now) c.args.rma) (omega arith) (links-has c.requires.lies.1.1)
 
 pub overflow_cast-result : goal.overflow_cast-result
 overflow_cast-result g c =
@@ -17,11 +17,11 @@ overflow_cast-result g c =
 
 pub read_word-requires-clause-block : goal.read_word-requires-clause-block
 read_word-requires-clause-block g c =
-    has-less c.args.block 36 16 (heap_in (g.S.Words.memory c.args.store.now) c.args.rma) (omega arith) (links-has c.requires.lies.1.1)
+    has-less c.args.block 36 16 (module_heap_in (g.S.Words.memory c.args.store.now) c.args.rma) (omega arith) (links-has c.requires.lies.1.1)
 
 pub read_word-requires-2-clause-block : goal.read_word-requires-2-clause-block
 read_word-requires-2-clause-block g c =
-    has-less c.args.block 36 20 (heap_in (g.S.Words.memory c.args.store.now) c.args.rma) (omega arith) (links-has c.requires.lies.1.1)
+    has-less c.args.block 36 20 (module_heap_in (g.S.Words.memory c.args.store.now) c.args.rma) (omega arith) (links-has c.requires.lies.1.1)
 
 -- the action that is read
 found : (g : given.Over) (c : After-from_number g) (link : ℕ) (p : Parcel) → LinksAt (g.S.Words.memory c.args.store.now) c.args.rma c.args.block link p

@@ -1,5 +1,5 @@
 use Rattle.rh_wimp.proofs.Common.{◌≡◌, ℕ, ◌+◌, length, length-append, take, drop, replicate, ◌≤◌, ◌++◌, List, sym, ap, subst, ◌∙◌, arith, Ok, append_assoc}
-use Rattle.rh_wimp.proofs.Common.{length-take, LONGEST_MESSAGE, module_claim, heap_in, word_bytes, code_number, encoded, parcel_size, Turns, has-less}
+use Rattle.rh_wimp.proofs.Common.{length-take, LONGEST_MESSAGE, module_claim, module_heap_in, word_bytes, code_number, encoded, parcel_size, Turns, has-less}
 use Rattle.rh_wimp.proofs.Common.{length-word_bytes, poked}
 use Rattle.std.proofs.Common.{length-drop}
 use Rattle.rh_defs.proofs.BytesLaws.{length-put}
@@ -19,7 +19,7 @@ write_bytes-requires-clause-block g c =
     let n : ℕ = 8 + c.encode_into-length.result in
     let parcel : List ℕ = put_mid 8 LONGEST_MESSAGE c.put_word.new.out c.encode_into-length.new.out in
     let l = length-take n parcel in
-    has-less c.in_ok-block.block n (0 + length (take n parcel)) (heap_in (g.S.Words.memory c.claim.new.store) c.args.rma) (omega arith)
+    has-less c.in_ok-block.block n (0 + length (take n parcel)) (module_heap_in (g.S.Words.memory c.claim.new.store) c.args.rma) (omega arith)
     (claimed-block (g.S.Words.memory c.args.store.now) (g.S.Words.memory c.claim.new.store) c.args.rma n c.in_ok-block.block
     (took g (goal.at.write_bytes-requires-clause-block g c).In_ok-block))
 
@@ -47,4 +47,5 @@ returns-clause-placed g c =
     (took g (goal.at.returns-clause-placed g c).In_ok-block) c.write_bytes.ensures in
     λ h e.
     subst (λ l. Turns (g.S.Words.memory c.args.store.now) (g.S.Words.memory c.write_bytes.new.store) c.args.rma (poked h.1 0 l h.0)) there
-    (done h (subst (λ k. module_claim (g.S.Words.memory c.args.store.now).free k (heap_in (g.S.Words.memory c.args.store.now) c.args.rma) ≡ Ok h) (sym size) e))
+    (done h (subst (λ k. module_claim (g.S.Words.memory c.args.store.now).free k (module_heap_in (g.S.Words.memory c.args.store.now) c.args.rma) ≡ Ok h)
+    (sym size) e))

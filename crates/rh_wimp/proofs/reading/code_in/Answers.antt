@@ -1,5 +1,5 @@
 use Rattle.rh_wimp.proofs.Common.{◌≡◌, ℕ, refl, sym, ap, subst, ◌∙◌, arith, Option, Some, IsSome, Parcel, code_number, padded, EventCode, has-less, code_read}
-use Rattle.rh_wimp.proofs.Common.{heap_in, LinksAt}
+use Rattle.rh_wimp.proofs.Common.{module_heap_in, LinksAt}
 use Rattle.rh_defs.specs.Messages.{code_at}
 use Rattle.rh_defs.specs.declared.message.EventCode.TheVariants.{User, Recorded, Acknowledge}
 use Rattle.rh_wimp.proofs.ItemLaws.{links-bytes, links-has}
@@ -10,7 +10,7 @@ use Rattle.rh_wimp.proofs.reading.code_in.Given as given
 pub read_word-requires-clause-block : goal.read_word-requires-clause-block
 read_word-requires-clause-block g c =
     let m = g.S.Words.memory c.args.store.now in
-    has-less c.args.block 36 8 (heap_in m c.args.rma) (omega arith) (links-has c.requires.lies.1.1)
+    has-less c.args.block 36 8 (module_heap_in m c.args.rma) (omega arith) (links-has c.requires.lies.1.1)
 
 known : (code : EventCode) → code_at (code_number code) ≡ Some code
 known User = refl

@@ -1,5 +1,6 @@
 use Rattle.rh_wimp.proofs.Common.{◌≡◌, ℕ, ◌+◌, ◌≤◌, length, take, sym, ◌∙◌, arith, length-take, LONGEST_MESSAGE, Parcel, encoded, encoded_length, padded}
-use Rattle.rh_wimp.proofs.Common.{has-less, room_enough, encoded-most, length-encoded, length_read, length-padded, message_read, heap_in, written, LinksAt}
+use Rattle.rh_wimp.proofs.Common.{has-less, room_enough, encoded-most, length-encoded, length_read, length-padded, message_read, module_heap_in, written}
+use Rattle.rh_wimp.proofs.Common.{LinksAt}
 use Rattle.rh_wimp.proofs.ItemLaws.{links-bytes, links-has}
 use Rattle.rh_wimp.proofs.reading.copy_block.Goals as goal
 use Rattle.rh_wimp.proofs.reading.copy_block.Goals.{After-read_word-length}
@@ -8,7 +9,7 @@ use Rattle.rh_wimp.proofs.reading.copy_block.Given as given
 pub read_word-length-requires-clause-block : goal.read_word-length-requires-clause-block
 read_word-length-requires-clause-block g c =
     let m = g.S.Words.memory c.args.store.now in
-    has-less c.args.block 36 12 (heap_in m c.args.rma) (omega arith) (links-has c.requires.lies.1.1)
+    has-less c.args.block 36 12 (module_heap_in m c.args.rma) (omega arith) (links-has c.requires.lies.1.1)
 
 -- the length that is read
 measured : (g : given.Over) (c : After-read_word-length g) (link : ℕ) (p : Parcel) → LinksAt (g.S.Words.memory c.args.store.now) c.args.rma c.args.block link p

@@ -1,5 +1,6 @@
 use Rattle.rh_wimp.proofs.Common.{◌≡◌, ℕ, ◌+◌, ◌≤◌, List, length, take, refl, sym, ap, subst, ◌∙◌, arith, length-take, Some, Ok, Result, LONGEST_MESSAGE}
-use Rattle.rh_wimp.proofs.Common.{part, heap_in, block_bytes, LiesAt, Parcel, encoded_length, padded, decoded, MessageFault, Message, has-less, encoded-most}
+use Rattle.rh_wimp.proofs.Common.{part, module_heap_in, block_bytes, LiesAt, Parcel, encoded_length, padded, decoded, MessageFault, Message, has-less}
+use Rattle.rh_wimp.proofs.Common.{encoded-most}
 use Rattle.rh_wimp.proofs.Common.{room_enough, length_read, length-padded, message_read}
 use Rattle.std.specs.Result.{IsOk}
 use Rattle.rh_defs.proofs.MessageImageLaws.{decoded-encoded}
@@ -12,7 +13,7 @@ pub read_word-length-requires-clause-block : goal.read_word-length-requires-clau
 read_word-length-requires-clause-block g c =
     let m = g.S.Words.memory c.args.store.now in
     let l = c.requires.lies in
-    has-less c.args.block 24 12 (heap_in m c.args.rma) (omega arith) (lies-has m c.args.rma c.args.block l.0 l.1)
+    has-less c.args.block 24 12 (module_heap_in m c.args.rma) (omega arith) (lies-has m c.args.rma c.args.block l.0 l.1)
 
 -- the length that is read
 measured : (g : given.Over) (c : After-read_word-length g) (p : Parcel) → LiesAt (g.S.Words.memory c.args.store.now) c.args.rma c.args.block p
@@ -54,7 +55,7 @@ read_bytes-requires-clause-block g c =
 -- what is decoded
 answered : (g : given.Over) (c : After-read_word-length g) (to : List ℕ) (result : Result Message MessageFault) (p : Parcel)
     → LiesAt (g.S.Words.memory c.args.store.now) c.args.rma c.args.block p
-    → ((bytes : List ℕ) → block_bytes c.args.block (heap_in (g.S.Words.memory c.args.store.now) c.args.rma) ≡ Some bytes
+    → ((bytes : List ℕ) → block_bytes c.args.block (module_heap_in (g.S.Words.memory c.args.store.now) c.args.rma) ≡ Some bytes
     → to ≡ part bytes 8 (length (take c.read_word-length.result c.args.buffer.now))) → result ≡ decoded to → result ≡ Ok p.message
 answered g c to result p w r e =
     let m = measured g c p w in

@@ -1,4 +1,5 @@
-use Rattle.rh_wimp.proofs.Common.{◌≡◌, ◌<◌, ℕ, inl, inr, length, get_or, sym, ap, subst, ◌∙◌, arith, cases_eq, list_any, heap_in, RowLies, entry_at, row_at}
+use Rattle.rh_wimp.proofs.Common.{◌≡◌, ◌<◌, ℕ, inl, inr, length, get_or, sym, ap, subst, ◌∙◌, arith, cases_eq, list_any, module_heap_in, RowLies, entry_at}
+use Rattle.rh_wimp.proofs.Common.{row_at}
 use Rattle.rh_wimp.proofs.Common.{row_parcels, wants, Entry}
 use Rattle.rh_wimp.proofs.AnswerLaws.{read_entry}
 use Rattle.rh_wimp.proofs.SearchLaws.{none-have, one-has}
@@ -27,7 +28,7 @@ entry_has-requires-clause-row g c =
     let i : ℕ = c.loop-entry.entry-index in (
       row_at r.0 i,
       (
-        subst (λ (e : Entry). RowLies (heap_in (g.S.Words.memory c.args.store.now) c.args.rma) e (row_at r.0 i)) (sym w.1) (r.1.0.each i (omega
+        subst (λ (e : Entry). RowLies (module_heap_in (g.S.Words.memory c.args.store.now) c.args.rma) e (row_at r.0 i)) (sym w.1) (r.1.0.each i (omega
             arith)),
         r.1.1 i (omega arith),
       ),
@@ -40,7 +41,8 @@ returns-then-entry_has g c = λ rows s short.
     let l = w.0 in
     let len = s.len in
     let i : ℕ = c.loop-entry.entry-index in
-    let lies = subst (λ (e : Entry). RowLies (heap_in (g.S.Words.memory c.args.store.now) c.args.rma) e (row_at rows i)) (sym w.1) (s.each i (omega arith)) in
+    let lies = subst (λ (e : Entry). RowLies (module_heap_in (g.S.Words.memory c.args.store.now) c.args.rma) e (row_at rows i)) (sym w.1)
+    (s.each i (omega arith)) in
     sym (one-has (wants c.args.wanted.now) rows i (omega arith) (sym (c.entry_has.ensures (row_at rows i) lies (short i (omega arith))) ∙ c.if-entry_has.true))
 
 pub loop-entry-preserved : goal.loop-entry-preserved
@@ -52,7 +54,7 @@ loop-entry-preserved g c = λ rows s short j b.
     let i : ℕ = c.loop-entry.entry-index in
     elim (cases_eq j i) [
       | inl z ↦
-          let lies = subst (λ (e : Entry). RowLies (heap_in (g.S.Words.memory c.args.store.now) c.args.rma) e (row_at rows i)) (sym w.1)
+          let lies = subst (λ (e : Entry). RowLies (module_heap_in (g.S.Words.memory c.args.store.now) c.args.rma) e (row_at rows i)) (sym w.1)
           (s.each i (omega arith)) in
           ap (λ k. list_any (wants c.args.wanted.now) (row_parcels (row_at rows k))) z
           ∙ sym (c.entry_has.ensures (row_at rows i) lies (short i (omega arith))) ∙ c.if-entry_has.false

@@ -1,5 +1,6 @@
-use Rattle.rh_wimp.proofs.Common.{◌≡◌, ℕ, ◌<◌, ◌≢◌, Bool, true, false, List, length, refl, sym, ap, subst, ◌∙◌, arith, Some, ◌==◌, word, heap_in, HasBlock}
-use Rattle.rh_wimp.proofs.Common.{block_bytes, Row, RowsLie, Holds, entry_at, row_at, answers_held, Entry, has-less}
+use Rattle.rh_wimp.proofs.Common.{◌≡◌, ℕ, ◌<◌, ◌≢◌, Bool, true, false, List, length, refl, sym, ap, subst, ◌∙◌, arith, Some, ◌==◌, word, module_heap_in}
+use Rattle.rh_wimp.proofs.Common.{HasBlock}
+use Rattle.rh_wimp.proofs.Common.{block_bytes, SeatRow, RowsLie, Holds, entry_at, row_at, answers_held, Entry, has-less}
 use Rattle.rh_wimp.specs.Moves.{PutsDown}
 use Rattle.rh_wimp.proofs.AnswerLaws.{read_entry, one_entry, some_entry, held-has, held-test}
 use Rattle.rh_wimp.proofs.PostLaws.{found-at}
@@ -9,7 +10,7 @@ use Rattle.rh_wimp.proofs.sending.answer.Given as given
 
 pub returns-in_default-clause-settles : goal.returns-in_default-clause-settles
 returns-in_default-clause-settles g c =
-    λ rows i s l e. absurd (some_entry (heap_in (g.S.Words.memory c.args.store.now) c.args.rma) c.args.entries.now.items rows c.args.from i s
+    λ rows i s l e. absurd (some_entry (module_heap_in (g.S.Words.memory c.args.store.now) c.args.rma) c.args.entries.now.items rows c.args.from i s
     (sym c.in_default.ensures) l e)
 
 entry_is : (g : given.Over) (c : After-index g) → c.index.result.now ≡ entry_at c.args.entries.now.items c.in-Some.at
@@ -17,31 +18,33 @@ entry_is g c =
     let w = found-at c.args.entries.now.items c.args.from c.in-Some.at (sym c.in-Some.ensures) in
     read_entry c.args.entries.now.items c.in-Some.at c.index.result.now w.0 c.index.ensures
 
-holds : (g : given.Over) (c : After-index g) (rows : List Row) (s : RowsLie (heap_in (g.S.Words.memory c.args.store.now) c.args.rma) c.args.entries.now.items
+holds : (g : given.Over) (c : After-index g) (rows : List SeatRow)
+    (s : RowsLie (module_heap_in (g.S.Words.memory c.args.store.now) c.args.rma) c.args.entries.now.items
     rows)
-    → Holds (heap_in (g.S.Words.memory c.args.store.now) c.args.rma) c.index.result.now.held (row_at rows c.in-Some.at).held
+    → Holds (module_heap_in (g.S.Words.memory c.args.store.now) c.args.rma) c.index.result.now.held (row_at rows c.in-Some.at).held
 holds g c rows s =
     let es = c.args.entries.now.items in
     let w = found-at es c.args.from c.in-Some.at (sym c.in-Some.ensures) in
     let len = s.len in
-    subst (λ b. Holds (heap_in (g.S.Words.memory c.args.store.now) c.args.rma) b (row_at rows c.in-Some.at).held)
+    subst (λ b. Holds (module_heap_in (g.S.Words.memory c.args.store.now) c.args.rma) b (row_at rows c.in-Some.at).held)
     (sym (ap (λ (x : Entry). x.held) (entry_is g c))) (s.each c.in-Some.at (omega arith)).held
 
 pub holds_ref-requires-clause-held : goal.holds_ref-requires-clause-held
 holds_ref-requires-clause-held g c =
-    let h = heap_in (g.S.Words.memory c.args.store.now) c.args.rma in
+    let h = module_heap_in (g.S.Words.memory c.args.store.now) c.args.rma in
     λ ne. has-less c.index.result.now.held 24 20 h (omega arith)
     (held-has h c.index.result.now.held (row_at c.requires.rows.0 c.in-Some.at).held
     (holds g (goal.at.holds_ref-requires-clause-held g c).After-index c.requires.rows.0 c.requires.rows.1) ne)
 
 -- what the test says of the place's row
 tested : (g : given.Over) (c : After-index g) (t : Bool) → (c.index.result.now.held ≡ 0 → t ≡ false)
-    → (c.index.result.now.held ≢ 0 → (bytes : List ℕ) → block_bytes c.index.result.now.held (heap_in (g.S.Words.memory c.args.store.now) c.args.rma) ≡ Some
+    → (c.index.result.now.held ≢ 0 → (bytes : List ℕ) → block_bytes c.index.result.now.held (module_heap_in (g.S.Words.memory c.args.store.now) c.args.rma)
+    ≡ Some
     bytes → t ≡ (word bytes 16 == c.args.your_ref))
-    → (rows : List Row) (i : ℕ) → RowsLie (heap_in (g.S.Words.memory c.args.store.now) c.args.rma) c.args.entries.now.items rows → i < length rows
+    → (rows : List SeatRow) (i : ℕ) → RowsLie (module_heap_in (g.S.Words.memory c.args.store.now) c.args.rma) c.args.entries.now.items rows → i < length rows
     → (row_at rows i).handle ≡ c.args.from → (t ≡ answers_held c.args.your_ref (row_at rows i).held) × (c.in-Some.at ≡ i)
 tested g c t none some rows i s l e =
-    let h = heap_in (g.S.Words.memory c.args.store.now) c.args.rma in
+    let h = module_heap_in (g.S.Words.memory c.args.store.now) c.args.rma in
     let same = one_entry h c.args.entries.now.items rows c.args.from c.in-Some.at i s (sym c.in-Some.ensures) l e in (
       held-test h c.index.result.now.held c.args.your_ref (row_at rows c.in-Some.at).held t (holds g c rows s) none some ∙ ap (λ k. answers_held
           c.args.your_ref (row_at rows k).held) same,
@@ -59,7 +62,7 @@ returns-then-not-holds_ref-clause-settles g c =
 
 pub put_down-requires-clause-held : goal.put_down-requires-clause-held
 put_down-requires-clause-held g c =
-    let h = heap_in (g.S.Words.memory c.args.store.now) c.args.rma in
+    let h = module_heap_in (g.S.Words.memory c.args.store.now) c.args.rma in
     let o = (goal.at.put_down-requires-clause-held g c).After-index in
     let ne : c.index.result.now.held ≢ 0 = λ z. let bad : true ≡ false = sym c.if-not-holds_ref.false ∙ c.holds_ref.ensures.none z in cc in
     subst (λ (e : Entry). HasBlock e.held 4 h) (entry_is g o)

@@ -1,11 +1,11 @@
-use Rattle.vf_desk.proofs.Common.{Some, ap, refl, subst, ◌∙◌, closed}
+use Rattle.vf_desk.proofs.Common.{Some, ap, refl, subst, ◌∙◌, closed_status}
 use Rattle.vf_desk.specs.Lines.{Replies}
 use Rattle.vf_desk.proofs.LineLaws.{replies-closed}
 use Rattle.vf_desk.proofs.lines.vf_desk_reply.Goals as goal
 
 pub returns-in_default-clause-replies : goal.returns-in_default-clause-replies
 returns-in_default-clause-replies c =
-    subst (λ h. Replies h c.args.text.now c.args.text.now c.args.length.now c.args.length.now closed) c.in_default.ensures.taken (replies-closed refl)
+    subst (λ h. Replies h c.args.text.now c.args.text.now c.args.length.now c.args.length.now closed_status) c.in_default.ensures.taken (replies-closed refl)
 
 pub returns-in_default-clause-same : goal.returns-in_default-clause-same
 returns-in_default-clause-same c = c.in_default.ensures.left ∙ c.in_default.ensures.taken

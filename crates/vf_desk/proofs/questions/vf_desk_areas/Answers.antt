@@ -1,6 +1,6 @@
-use Rattle.vf_desk.proofs.Common.{length, Some, sym, ap, ◌∙◌, map, filled, number_or, area_of, listed}
+use Rattle.vf_desk.proofs.Common.{length, Some, sym, ap, ◌∙◌, map, filled_front, number_or, as_area, list_asked}
 use Rattle.rh_defs.specs.declared.question.Question.TheVariants as question
-use Rattle.vf_desk.specs.Items.{areas_in}
+use Rattle.vf_desk.specs.Items.{areas_listed}
 use Rattle.vf_desk.proofs.AskLaws.{ask-counted, ask-told, open-asks, open-list, shut-asks, shut-counted, shut-list, shut-told}
 use Rattle.vf_desk.proofs.FillLaws.{filled-none}
 use Rattle.vf_desk.proofs.questions.vf_desk_areas.Goals as goal
@@ -11,13 +11,14 @@ returns-in_default-clause-asks c = shut-asks question.Areas c.args.desk.now c.st
 
 pub returns-in_default-clause-list : goal.returns-in_default-clause-list
 returns-in_default-clause-list c = λ s seen.
-    sym (filled-none c.args.areas.now) ∙ sym (ap (λ l. filled (map area_of (areas_in l)) c.args.areas.now)
+    sym (filled-none c.args.areas.now) ∙ sym (ap (λ l. filled_front (map as_area (areas_listed l)) c.args.areas.now)
     (shut-list question.Areas c.args.desk.now c.step-called.new.self c.asked.ensures.form c.step-called.ensures.said c.step-called.ensures.asked
     c.in_default.ensures.taken s seen))
 
 pub returns-in_default-clause-count : goal.returns-in_default-clause-count
 returns-in_default-clause-count c = λ s seen. shut-counted question.Areas c.args.desk.now c.step-called.new.self c.asked.ensures.form
-    c.step-called.ensures.said c.step-called.ensures.asked c.in_default.ensures.taken c.args.count.now (length (areas_in (listed s question.Areas))) s seen
+    c.step-called.ensures.said c.step-called.ensures.asked c.in_default.ensures.taken c.args.count.now
+    (length (areas_listed (list_asked s question.Areas))) s seen
 
 pub returns-in_default-clause-free : goal.returns-in_default-clause-free
 returns-in_default-clause-free c = shut-told question.Areas c.args.desk.now c.step-called.new.self c.asked.ensures.form c.step-called.ensures.said
@@ -33,7 +34,7 @@ returns-clause-list c = open-list question.Areas c.args.desk.now c.step-called.n
 
 pub returns-clause-count : goal.returns-clause-count
 returns-clause-count c = ask-counted question.Areas c.args.desk.now c.step-called.new.self c.asked.ensures.form c.step-called.ensures.said
-    c.step-called.ensures.asked c.args.count.now (λ s. length (areas_in (listed s question.Areas))) c.told_count.ensures.count
+    c.step-called.ensures.asked c.args.count.now (λ s. length (areas_listed (list_asked s question.Areas))) c.told_count.ensures.count
     (open-list question.Areas c.args.desk.now c.step-called.new.self c.asked.ensures.form c.step-called.ensures.said c.step-called.ensures.asked
     (ap Some c.deref.ensures ∙ c.in-Some.ensures.taken) c.areas-n.ensures.count)
 

@@ -1,6 +1,6 @@
-use Rattle.vf_desk.proofs.Common.{length, Some, sym, ap, ◌∙◌, map, filled, listed}
+use Rattle.vf_desk.proofs.Common.{length, Some, sym, ap, ◌∙◌, map, filled_front, list_asked}
 use Rattle.rh_defs.specs.declared.question.Question.TheVariants as question
-use Rattle.vf_desk.specs.Items.{block_of, blocks_in}
+use Rattle.vf_desk.specs.Items.{as_block, blocks_listed}
 use Rattle.vf_desk.proofs.AskLaws.{ask-counted, open-asks, open-list, shut-asks, shut-counted, shut-list}
 use Rattle.vf_desk.proofs.FillLaws.{filled-none}
 use Rattle.vf_desk.proofs.questions.vf_desk_blocks.Goals as goal
@@ -11,14 +11,14 @@ returns-in_default-clause-asks c = shut-asks (question.Blocks c.args.name.now) c
 
 pub returns-in_default-clause-list : goal.returns-in_default-clause-list
 returns-in_default-clause-list c = λ s seen.
-    sym (filled-none c.args.blocks.now) ∙ sym (ap (λ l. filled (map block_of (blocks_in l)) c.args.blocks.now)
+    sym (filled-none c.args.blocks.now) ∙ sym (ap (λ l. filled_front (map as_block (blocks_listed l)) c.args.blocks.now)
     (shut-list (question.Blocks c.args.name.now) c.args.desk.now c.step-called.new.self c.blocks-2.ensures.form c.step-called.ensures.said
     c.step-called.ensures.asked c.in_default.ensures.taken s seen))
 
 pub returns-in_default-clause-count : goal.returns-in_default-clause-count
 returns-in_default-clause-count c = λ s seen. shut-counted (question.Blocks c.args.name.now) c.args.desk.now c.step-called.new.self c.blocks-2.ensures.form
     c.step-called.ensures.said c.step-called.ensures.asked c.in_default.ensures.taken c.args.count.now
-    (length (blocks_in (listed s (question.Blocks c.args.name.now)))) s seen
+    (length (blocks_listed (list_asked s (question.Blocks c.args.name.now)))) s seen
 
 pub returns-clause-asks : goal.returns-clause-asks
 returns-clause-asks c = open-asks (question.Blocks c.args.name.now) c.args.desk.now c.step-called.new.self c.blocks-2.ensures.form c.step-called.ensures.said
@@ -30,7 +30,7 @@ returns-clause-list c = open-list (question.Blocks c.args.name.now) c.args.desk.
 
 pub returns-clause-count : goal.returns-clause-count
 returns-clause-count c = ask-counted (question.Blocks c.args.name.now) c.args.desk.now c.step-called.new.self c.blocks-2.ensures.form
-    c.step-called.ensures.said c.step-called.ensures.asked c.args.count.now (λ s. length (blocks_in (listed s (question.Blocks c.args.name.now))))
+    c.step-called.ensures.said c.step-called.ensures.asked c.args.count.now (λ s. length (blocks_listed (list_asked s (question.Blocks c.args.name.now))))
     c.told_count.ensures.count
     (open-list (question.Blocks c.args.name.now) c.args.desk.now c.step-called.new.self c.blocks-2.ensures.form c.step-called.ensures.said
     c.step-called.ensures.asked (ap Some c.deref.ensures ∙ c.in-Some.ensures.taken) c.blocks-n.ensures.count)

@@ -1,7 +1,7 @@
-use Rattle.vf_desk.proofs.Common.{length, Some, sym, ap, ◌∙◌, map, filled, listed}
+use Rattle.vf_desk.proofs.Common.{length, Some, sym, ap, ◌∙◌, map, filled_front, list_asked}
 use Rattle.rh_defs.specs.declared.question.Question.TheVariants as question
 use Rattle.vf_desk.specs.Called.{sums_or}
-use Rattle.vf_desk.specs.Items.{segment_of, segments_in}
+use Rattle.vf_desk.specs.Items.{as_segment, segments_listed}
 use Rattle.vf_desk.proofs.AskLaws.{ask-counted, ask-told, open-asks, open-list, shut-asks, shut-counted, shut-list, shut-told}
 use Rattle.vf_desk.proofs.FillLaws.{filled-none}
 use Rattle.vf_desk.proofs.questions.vf_desk_heap.Goals as goal
@@ -12,14 +12,14 @@ returns-in_default-clause-asks c = shut-asks (question.Heap c.args.name.now) c.a
 
 pub returns-in_default-clause-list : goal.returns-in_default-clause-list
 returns-in_default-clause-list c = λ s seen.
-    sym (filled-none c.args.segments.now) ∙ sym (ap (λ l. filled (map segment_of (segments_in l)) c.args.segments.now)
+    sym (filled-none c.args.segments.now) ∙ sym (ap (λ l. filled_front (map as_segment (segments_listed l)) c.args.segments.now)
     (shut-list (question.Heap c.args.name.now) c.args.desk.now c.step-called.new.self c.heap.ensures.form c.step-called.ensures.said
     c.step-called.ensures.asked c.in_default.ensures.taken s seen))
 
 pub returns-in_default-clause-count : goal.returns-in_default-clause-count
 returns-in_default-clause-count c = λ s seen. shut-counted (question.Heap c.args.name.now) c.args.desk.now c.step-called.new.self c.heap.ensures.form
     c.step-called.ensures.said c.step-called.ensures.asked c.in_default.ensures.taken c.args.count.now
-    (length (segments_in (listed s (question.Heap c.args.name.now)))) s seen
+    (length (segments_listed (list_asked s (question.Heap c.args.name.now)))) s seen
 
 pub returns-in_default-clause-sums : goal.returns-in_default-clause-sums
 returns-in_default-clause-sums c = shut-told (question.Heap c.args.name.now) c.args.desk.now c.step-called.new.self c.heap.ensures.form
@@ -35,7 +35,7 @@ returns-clause-list c = open-list (question.Heap c.args.name.now) c.args.desk.no
 
 pub returns-clause-count : goal.returns-clause-count
 returns-clause-count c = ask-counted (question.Heap c.args.name.now) c.args.desk.now c.step-called.new.self c.heap.ensures.form c.step-called.ensures.said
-    c.step-called.ensures.asked c.args.count.now (λ s. length (segments_in (listed s (question.Heap c.args.name.now)))) c.told_count.ensures.count
+    c.step-called.ensures.asked c.args.count.now (λ s. length (segments_listed (list_asked s (question.Heap c.args.name.now)))) c.told_count.ensures.count
     (open-list (question.Heap c.args.name.now) c.args.desk.now c.step-called.new.self c.heap.ensures.form c.step-called.ensures.said
     c.step-called.ensures.asked (ap Some c.deref.ensures ∙ c.in-Some.ensures.taken) c.segments-n.ensures.count)
 

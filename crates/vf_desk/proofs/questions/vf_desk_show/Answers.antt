@@ -1,6 +1,6 @@
-use Rattle.vf_desk.proofs.Common.{Some, sym, ap, ◌∙◌, filled, number_or}
+use Rattle.vf_desk.proofs.Common.{Some, sym, ap, ◌∙◌, filled_front, number_or}
 use Rattle.rh_defs.specs.declared.question.Question.TheVariants as question
-use Rattle.vf_desk.specs.Items.{bytes_in}
+use Rattle.vf_desk.specs.Items.{bytes_listed}
 use Rattle.vf_desk.proofs.AskLaws.{ask-told, open-asks, open-list, shut-asks, shut-list, shut-told}
 use Rattle.vf_desk.proofs.FillLaws.{filled-none}
 use Rattle.vf_desk.proofs.questions.vf_desk_show.Goals as goal
@@ -11,7 +11,7 @@ returns-in_default-clause-asks c = shut-asks (question.Show c.args.name.now c.ar
 
 pub returns-in_default-clause-bytes : goal.returns-in_default-clause-bytes
 returns-in_default-clause-bytes c = λ s seen.
-    sym (filled-none c.args.to.now) ∙ sym (ap (λ l. filled ((bytes_in l)) c.args.to.now)
+    sym (filled-none c.args.to.now) ∙ sym (ap (λ l. filled_front ((bytes_listed l)) c.args.to.now)
     (shut-list (question.Show c.args.name.now c.args.anchor) c.args.desk.now c.step-called.new.self c.show.ensures.form c.step-called.ensures.said
     c.step-called.ensures.asked c.in_default.ensures.taken s seen))
 

@@ -1,5 +1,5 @@
 use Rattle.std.proofs.Common.{sym, ap}
-use Rattle.rh_defs.specs.Heap.{claim}
+use Rattle.rh_defs.specs.Heap.{claim_block}
 use Rattle.rh_defs.specs.HeapImage.{heap_of}
 use Rattle.rh_defs.specs.declared.heap.HeapRefusal.TheVariants.{NoRoom}
 use Rattle.vf_heap.specs.Status.{status_of, number_or}
@@ -22,4 +22,4 @@ returns-in-Err-clause-address c =
 pub returns-in-Err-clause-left : goal.returns-in-Err-clause-left
 returns-in-Err-clause-left c =
     let full = claim_beyond c.args.memory.now c.args.n c.requires.heap c.in-Err.ensures in
-    refused c.args.memory.now NoRoom (claim c.args.n (heap_of c.args.memory.now 0)) full c.requires.heap
+    refused c.args.memory.now NoRoom (claim_block c.args.n (heap_of c.args.memory.now 0)) full c.requires.heap

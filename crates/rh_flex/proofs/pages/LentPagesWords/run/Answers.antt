@@ -1,4 +1,4 @@
-use Rattle.rh_flex.proofs.Common.{◌≡◌, ◌+◌, ◌-◌, ◌*◌, ◌≤◌, length, sym, ap, ◌∙◌, arith, PAGE, part, bytes, length-part, memory_shown}
+use Rattle.rh_flex.proofs.Common.{◌≡◌, ◌+◌, ◌-◌, ◌*◌, ◌≤◌, length, sym, ap, ◌∙◌, arith, PAGE, part, bytes, length-part, pages_memory_shown}
 use Rattle.rh_flex.proofs.Over.{shown_length, shown_part}
 use Rattle.rh_flex.proofs.pages.LentPagesWords.run.Goals as goal
 
@@ -15,11 +15,11 @@ returns-clause-bytes c =
     let s = c.args.self.now in
     let id = c.args._id.0 in
     let n = PAGE * s.pages - c.args.at in
-    let all : c.args.at + n ≤ length (bytes (memory_shown s) id) =
+    let all : c.args.at + n ≤ length (bytes (pages_memory_shown s) id) =
     omega (arith, shown_length s id c.requires.opened, c.requires.within) in
     let long : length c.part_of.result.now ≡ n = ap length c.part_of.ensures ∙ length-part s.bytes.now c.args.at n in
     c.part_of.ensures ∙ shown_part s id c.requires.opened c.args.at n all
-    ∙ ap (part (bytes (memory_shown s) id) c.args.at) (sym long)
+    ∙ ap (part (bytes (pages_memory_shown s) id) c.args.at) (sym long)
 
 pub returns-clause-some : goal.returns-clause-some
 returns-clause-some c =

@@ -1,4 +1,4 @@
-use Rattle.rh_flex.proofs.Common.{arith, memory_of}
+use Rattle.rh_flex.proofs.Common.{arith, lent_pages_memory}
 use Rattle.rh_flex.proofs.Over.{lent_length, shrank}
 use Rattle.rh_flex.proofs.pages_mut.LentPagesMutPages.shrink.Goals as goal
 
@@ -7,5 +7,5 @@ overflow_sub-self c =
     omega (arith, lent_length c.args.self.now c.args._id.0 c.requires.opened, c.requires.within)
 
 pub returns : goal.returns
-unfolding memory_of
+unfolding lent_pages_memory
 returns c = shrank c.args.self.now c.args._id.0 c.requires.opened c.args.pages c.requires.within

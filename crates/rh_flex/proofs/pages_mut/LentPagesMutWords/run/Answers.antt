@@ -1,4 +1,4 @@
-use Rattle.rh_flex.proofs.Common.{◌≡◌, ◌+◌, ◌-◌, ◌*◌, ◌≤◌, length, sym, ap, ◌∙◌, arith, PAGE, part, bytes, length-part, memory_of}
+use Rattle.rh_flex.proofs.Common.{◌≡◌, ◌+◌, ◌-◌, ◌*◌, ◌≤◌, length, sym, ap, ◌∙◌, arith, PAGE, part, bytes, length-part, lent_pages_memory}
 use Rattle.rh_flex.proofs.Over.{lent_length, part_in}
 use Rattle.rh_flex.proofs.pages_mut.LentPagesMutWords.run.Goals as goal
 
@@ -15,11 +15,11 @@ returns-clause-bytes c =
     let s = c.args.self.now in
     let id = c.args._id.0 in
     let n = PAGE * s.pages - c.args.at in
-    let all : c.args.at + n ≤ length (bytes (memory_of s) id) =
+    let all : c.args.at + n ≤ length (bytes (lent_pages_memory s) id) =
     omega (arith, lent_length s id c.requires.opened, c.requires.within) in
     let long : length c.part_of.result.now ≡ n = ap length c.part_of.ensures ∙ length-part s.bytes.now c.args.at n in
     c.part_of.ensures ∙ part_in s id c.requires.opened c.args.at n all
-    ∙ ap (part (bytes (memory_of s) id) c.args.at) (sym long)
+    ∙ ap (part (bytes (lent_pages_memory s) id) c.args.at) (sym long)
 
 pub returns-clause-some : goal.returns-clause-some
 returns-clause-some c =

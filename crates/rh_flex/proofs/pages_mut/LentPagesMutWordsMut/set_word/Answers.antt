@@ -1,4 +1,4 @@
-use Rattle.rh_flex.proofs.Common.{arith, memory_of}
+use Rattle.rh_flex.proofs.Common.{arith, lent_pages_memory}
 use Rattle.rh_flex.proofs.Over.{lent_length, word_written}
 use Rattle.rh_flex.proofs.pages_mut.LentPagesMutWordsMut.set_word.Goals as goal
 
@@ -7,7 +7,7 @@ put_word_in-requires c =
     omega (arith, lent_length c.args.self.now c.args._id.0 c.requires.opened, c.args.self.now.within, c.requires.within)
 
 pub returns : goal.returns
-unfolding memory_of
+unfolding lent_pages_memory
 returns c =
     word_written c.args.self.now c.args._id.0 c.requires.opened c.put_word_in.new.b c.args.at c.args.w
     c.put_word_in.ensures c.requires.within

@@ -1,4 +1,4 @@
-use Rattle.rh_flex.proofs.Common.{arith, memory_of}
+use Rattle.rh_flex.proofs.Common.{arith, lent_pages_memory}
 use Rattle.rh_flex.proofs.Over.{lent_length, slid}
 use Rattle.rh_flex.proofs.pages_mut.LentPagesMutWordsMut.slide.Goals as goal
 
@@ -11,7 +11,7 @@ slide_in-requires-clause-target c =
     omega (arith, lent_length c.args.self.now c.args._id.0 c.requires.opened, c.args.self.now.within, c.requires.target)
 
 pub returns : goal.returns
-unfolding memory_of
+unfolding lent_pages_memory
 returns c =
     slid c.args.self.now c.args._id.0 c.requires.opened c.slide_in.new.b c.args.from c.args.to c.args.n
     c.slide_in.ensures c.requires.source c.requires.target

@@ -1,15 +1,15 @@
-use Rattle.rh_flex.proofs.Common.{area_set, bytes, memory_shown, memory_over}
+use Rattle.rh_flex.proofs.Common.{area_set, bytes, pages_memory_shown, pages_memory_over}
 use Rattle.rh_flex.proofs.SlotBytes.{is_slot}
 use Rattle.rh_flex.proofs.slot.LentSlot.blocks.Goals as goal
 
 pub blocks-requires : goal.blocks-requires
-unfolding memory_shown
+unfolding pages_memory_shown
 blocks-requires c = record { slot = is_slot c.args.bytes.now c.args.self _ c.requires }
 
 pub returns-clause-passed : goal.returns-clause-passed
-unfolding memory_shown memory_over bytes area_set
+unfolding pages_memory_shown pages_memory_over bytes area_set
 returns-clause-passed c = c.blocks-2.ensures.passed
 
 pub returns-clause-walk : goal.returns-clause-walk
-unfolding memory_shown memory_over bytes area_set
+unfolding pages_memory_shown pages_memory_over bytes area_set
 returns-clause-walk c = c.blocks-2.ensures.walk

@@ -1,4 +1,4 @@
-use Rattle.rh_flex.proofs.Common.{◌≡◌, ◌≤◌, ◌*◌, true, length, ap, ◌∙◌, arith, nat_tests, length-take-le, PAGE, slot_of, bytes_of}
+use Rattle.rh_flex.proofs.Common.{◌≡◌, ◌≤◌, ◌*◌, true, length, ap, ◌∙◌, arith, nat_tests, length-take-le, PAGE, slot_of, lent_slot_bytes}
 use Rattle.std.proofs.lemmas.Result.{IfOk-weaker}
 use Rattle.rh_flex.specs.Image.{pages_fault_of}
 use Rattle.rh_slot.specs.Image.{slot_summary}
@@ -28,7 +28,7 @@ returns-clause-sums c =
     let s = c.args.self in
     let within : PAGE * s.pages ≤ length b = omega (arith, c.if-len-self.false) in
     IfOk-weaker c.check.result _ _ (λ sums e.
-    e ∙ ap (λ n. slot_summary n (slot_of true (bytes_of b s))) (length-take-le (PAGE * s.pages) b within) ∙ same_sums b s)
+    e ∙ ap (λ n. slot_summary n (slot_of true (lent_slot_bytes b s))) (length-take-le (PAGE * s.pages) b within) ∙ same_sums b s)
     c.check.ensures.sums
 
 pub returns-clause-fault : goal.returns-clause-fault

@@ -1,11 +1,11 @@
-use Rattle.rh_flex.proofs.Common.{area_set, bytes, memory_shown, memory_over}
+use Rattle.rh_flex.proofs.Common.{area_set, bytes, pages_memory_shown, pages_memory_over}
 use Rattle.rh_flex.proofs.SlotBytes.{is_slot}
 use Rattle.rh_flex.proofs.slot.LentSlot.count.Goals as goal
 
 pub count-requires : goal.count-requires
-unfolding memory_shown
+unfolding pages_memory_shown
 count-requires c = record { slot = is_slot c.args.bytes.now c.args.self _ c.requires }
 
 pub returns : goal.returns
-unfolding memory_shown memory_over bytes area_set
+unfolding pages_memory_shown pages_memory_over bytes area_set
 returns c = c.count.ensures

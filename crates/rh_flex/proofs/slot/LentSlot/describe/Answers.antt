@@ -1,19 +1,19 @@
-use Rattle.rh_flex.proofs.Common.{area_set, bytes, memory_shown, memory_over}
+use Rattle.rh_flex.proofs.Common.{area_set, bytes, pages_memory_shown, pages_memory_over}
 use Rattle.rh_flex.proofs.SlotBytes.{is_slot}
 use Rattle.rh_flex.proofs.slot.LentSlot.describe.Goals as goal
 
 pub describe-requires : goal.describe-requires
-unfolding memory_shown
+unfolding pages_memory_shown
 describe-requires c = record { slot = is_slot c.args.bytes.now c.args.self _ c.requires }
 
 pub returns-clause-end : goal.returns-clause-end
-unfolding memory_shown memory_over bytes area_set
+unfolding pages_memory_shown pages_memory_over bytes area_set
 returns-clause-end c = c.describe.ensures.end
 
 pub returns-clause-largest : goal.returns-clause-largest
-unfolding memory_shown memory_over bytes area_set
+unfolding pages_memory_shown pages_memory_over bytes area_set
 returns-clause-largest c = c.describe.ensures.largest
 
 pub returns-clause-free : goal.returns-clause-free
-unfolding memory_shown memory_over bytes area_set
+unfolding pages_memory_shown pages_memory_over bytes area_set
 returns-clause-free c = c.describe.ensures.total

@@ -1,11 +1,11 @@
-use Rattle.rh_flex.proofs.Common.{area_set, bytes, memory_shown, memory_over}
+use Rattle.rh_flex.proofs.Common.{area_set, bytes, pages_memory_shown, pages_memory_over}
 use Rattle.rh_flex.proofs.SlotBytes.{is_slot}
 use Rattle.rh_flex.proofs.slot.LentSlot.free_anchor.Goals as goal
 
 pub free_anchor-requires : goal.free_anchor-requires
-unfolding memory_shown
+unfolding pages_memory_shown
 free_anchor-requires c = is_slot c.args.bytes.now c.args.self _ c.requires
 
 pub returns : goal.returns
-unfolding memory_shown memory_over bytes area_set
+unfolding pages_memory_shown pages_memory_over bytes area_set
 returns c = c.free_anchor.ensures

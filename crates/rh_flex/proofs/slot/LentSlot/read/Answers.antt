@@ -1,15 +1,15 @@
-use Rattle.rh_flex.proofs.Common.{area_set, bytes, memory_shown, memory_over}
+use Rattle.rh_flex.proofs.Common.{area_set, bytes, pages_memory_shown, pages_memory_over}
 use Rattle.rh_flex.proofs.SlotBytes.{is_slot}
 use Rattle.rh_flex.proofs.slot.LentSlot.read.Goals as goal
 
 pub read-requires-clause-slot : goal.read-requires-clause-slot
-unfolding memory_shown
+unfolding pages_memory_shown
 read-requires-clause-slot c = is_slot c.args.bytes.now c.args.self _ c.requires.slot
 
 pub returns-clause-answer : goal.returns-clause-answer
-unfolding memory_shown memory_over bytes area_set
+unfolding pages_memory_shown pages_memory_over bytes area_set
 returns-clause-answer c = c.read.ensures.answer
 
 pub returns-clause-buffer : goal.returns-clause-buffer
-unfolding memory_shown memory_over bytes area_set
+unfolding pages_memory_shown pages_memory_over bytes area_set
 returns-clause-buffer c = c.read.ensures.bytes

@@ -1,11 +1,11 @@
-use Rattle.rh_flex.proofs.Common.{area_set, bytes, memory_shown, memory_over}
+use Rattle.rh_flex.proofs.Common.{area_set, bytes, pages_memory_shown, pages_memory_over}
 use Rattle.rh_flex.proofs.SlotBytes.{is_slot}
 use Rattle.rh_flex.proofs.slot.LentSlot.take_pages.Goals as goal
 
 pub take_pages-requires : goal.take_pages-requires
-unfolding memory_shown
+unfolding pages_memory_shown
 take_pages-requires c = record { slot = is_slot c.args.bytes.now c.args.self _ c.requires }
 
 pub returns : goal.returns
-unfolding memory_shown memory_over bytes area_set
+unfolding pages_memory_shown pages_memory_over bytes area_set
 returns c = c.take_pages.ensures

@@ -1,4 +1,4 @@
-use Rattle.rh_heap.proofs.Common.{◌∙◌, subst, sym, arith, SpellsIn, heap_in, IsIndex, resized_in}
+use Rattle.rh_heap.proofs.Common.{◌∙◌, subst, sym, arith, SpellsHeapIn, heap_in, IsIndex, resized_in}
 use Rattle.rh_heap.proofs.ChangeLaws.{changed_stays, changed_shrinks, changed_into, changed_top, changed_moves}
 use Rattle.rh_heap.proofs.KeepLaws.{place_even, shrinks_shorter, shrink_index, widen_index, raise_index}
 use Rattle.rh_heap.proofs.ResizeLaws.{into, top, widen_bounds, widen_even}
@@ -47,7 +47,7 @@ returns-in-Shrinks-clause-starts g c =
     let n = g.S.Words.memory c.shrink.new.store in
     let f = c.requires.found in
     let s = c.requires.span.spells in
-    let k = from_cut c.args.span.at h c.args.spot f (λ q. SpellsIn n c.args.span (resized_in c.args.size q h).heap) c.shrink.ensures.spells in
+    let k = from_cut c.args.span.at h c.args.spot f (λ q. SpellsHeapIn n c.args.span (resized_in c.args.size q h).heap) c.shrink.ensures.spells in
     subst (IsIndex c.note_hole.new.starts) (sym (heap_now n c.args.span _ k))
     (shrink_index _ _ h _ s f _ c.requires.least _ _ _ c.requires.multiple (shrinks_shorter _ _ h _ s f _ c.requires.least c.in-Shrinks.ensures)
     c.requires.starts
@@ -63,7 +63,7 @@ returns-in-IntoHole-clause-starts g c =
     let n = g.S.Words.memory c.widen.new.store in
     let f = c.requires.found in
     let s = c.requires.span.spells in
-    let k = from_cut c.args.span.at h c.args.spot f (λ q. SpellsIn n c.args.span (resized_in c.args.size q h).heap) c.widen.ensures.spells in
+    let k = from_cut c.args.span.at h c.args.spot f (λ q. SpellsHeapIn n c.args.span (resized_in c.args.size q h).heap) c.widen.ensures.spells in
     subst (IsIndex c.note_hole-in-IntoHole.new.starts) (sym (heap_now n c.args.span _ k))
     (widen_index _ _ h _ s f _ c.requires.least _ _ _ _ _ c.requires.multiple (into _ _ h _ s f _ _ c.in-IntoHole.ensures) c.requires.starts
     c.clear.ensures.bits
@@ -82,7 +82,7 @@ returns-else-read-spot-clause-starts g c =
     let n = g.S.Words.memory c.raise.new.store in
     let f = c.requires.found in
     let s = c.requires.span.spells in
-    let k = from_cut c.args.span.at h c.args.spot f (λ q. SpellsIn n c.args.span (resized_in c.args.size q h).heap) c.raise.ensures.spells in
+    let k = from_cut c.args.span.at h c.args.spot f (λ q. SpellsHeapIn n c.args.span (resized_in c.args.size q h).heap) c.raise.ensures.spells in
     subst (IsIndex c.args.starts.now) (sym (heap_now n c.args.span _ k))
     (raise_index _ _ h _ s f _ c.requires.least _ (top _ _ h _ s f _ c.in-AtTop.ensures) c.requires.starts)
 

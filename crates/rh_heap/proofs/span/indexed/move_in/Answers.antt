@@ -1,5 +1,6 @@
-use Rattle.rh_heap.proofs.Common.{◌≡◌, ◌+◌, ◌-◌, refl, sym, subst, arith, zeros, IsIndex, Ok, left_of, no_answer, placed, fitted, release, released_at}
-use Rattle.rh_heap.proofs.Common.{Edited-both, Edited-wider, SpellsIn, heap_in}
+use Rattle.rh_heap.proofs.Common.{◌≡◌, ◌+◌, ◌-◌, refl, sym, subst, arith, zeros, IsIndex, Ok, left_of, no_answer, placed_block, fitted, release_block}
+use Rattle.rh_heap.proofs.Common.{released_at}
+use Rattle.rh_heap.proofs.Common.{Edited-both, Edited-wider, SpellsHeapIn, heap_in}
 use Rattle.rh_heap.proofs.BlockLaws.{zeros_long}
 use Rattle.rh_heap.proofs.KeepLaws.{other_bytes}
 use Rattle.rh_heap.proofs.ResizeLaws.{length-fitted}
@@ -18,15 +19,16 @@ move_bytes-requires-clause-target g c =
     let l = c.requires.longer in
     omega (arith, i, s.within, o.outside.len)
 
-copied : (g : given.Over) (c : After-move_bytes g) → SpellsIn (g.S.Words.memory c.move_bytes.new.store) c.args.span
-    (placed (fitted (c.args.size - 4) c.requires.found.bytes) (heap_in (g.S.Words.memory c.args.store.now) c.args.span)).heap
+copied : (g : given.Over) (c : After-move_bytes g) → SpellsHeapIn (g.S.Words.memory c.move_bytes.new.store) c.args.span
+    (placed_block (fitted (c.args.size - 4) c.requires.found.bytes) (heap_in (g.S.Words.memory c.args.store.now) c.args.span)).heap
 copied g c =
     let t = c.in-Some.ensures.took in
     moved_spells _ _ _ _ c.requires.span.spells c.requires.found _ c.requires.longer _ _ _ t.spells t.address_is c.move_bytes.ensures.bytes
     c.move_bytes.ensures.only.outside
 
 done : (g : given.Over) (c : After-move_bytes g)
-    → let h = heap_in (g.S.Words.memory c.move_bytes.new.store) c.args.span in released_at (c.args.spot.place + 4) h ≡ Ok (release (c.args.spot.place + 4) h)
+    → let h = heap_in (g.S.Words.memory c.move_bytes.new.store) c.args.span in released_at (c.args.spot.place + 4) h ≡ Ok
+    (release_block (c.args.spot.place + 4) h)
 done g c = moved_released (g.S.Words.memory c.args.store.now) _ _ _ _ c.requires.span.spells c.requires.found c.requires.longer (copied g c)
 
 pub release_in-requires-clause-span : goal.release_in-requires-clause-span
@@ -41,7 +43,7 @@ returns-in-Some-clause-moved g c =
     let t = c.in-Some.ensures.took in
     let h = heap_in (g.S.Words.memory c.move_bytes.new.store) c.args.span in
     moved_done _ _ _ _ _ _ _ c.requires.span.spells c.requires.found c.requires.longer t.room t.address_is (copied g k)
-    (subst (λ r. SpellsIn (g.S.Words.memory c.release_in.new.store) c.args.span (left_of h (no_answer r))) (done g k) c.release_in.ensures.leaves.spells)
+    (subst (λ r. SpellsHeapIn (g.S.Words.memory c.release_in.new.store) c.args.span (left_of h (no_answer r))) (done g k) c.release_in.ensures.leaves.spells)
 
 pub returns-in-Some-clause-only : goal.returns-in-Some-clause-only
 returns-in-Some-clause-only g c =

@@ -1,4 +1,4 @@
-use Rattle.rh_heap.proofs.Common.{◌∙◌, ap, subst, sym, arith, no_answer, release, released_at-some, SpellsIn, heap_in, IsIndex}
+use Rattle.rh_heap.proofs.Common.{◌∙◌, ap, subst, sym, arith, no_answer, release_block, released_at-some, SpellsHeapIn, heap_in, IsIndex}
 use Rattle.rh_heap.proofs.CallLaws.{leaves}
 use Rattle.rh_heap.proofs.KeepLaws.{place_even, low_even, release_index}
 use Rattle.rh_heap.proofs.SpanLaws.{heap_now}
@@ -16,7 +16,7 @@ returns-clause-leaves g c =
     let h = heap_in (g.S.Words.memory c.args.store.now) c.args.span in
     let f = c.in-Some.ensures in
     leaves _ _ _ _ _ tt (ap no_answer (released_at-some c.args.address h _ f.found))
-    (subst (λ a. SpellsIn (g.S.Words.memory c.free_segment.new.store) c.args.span (release a h)) f.address_is c.free_segment.ensures.spells)
+    (subst (λ a. SpellsHeapIn (g.S.Words.memory c.free_segment.new.store) c.args.span (release_block a h)) f.address_is c.free_segment.ensures.spells)
     c.free_segment.ensures.only
 
 pub returns-clause-starts : goal.returns-clause-starts

@@ -1,12 +1,12 @@
 use Rattle.rh_heap.proofs.SizeLaws.{init_spells}
 use Rattle.rh_heap.proofs.SpanLaws.{heap_now, is_span}
-use Rattle.rh_heap.specs.Spans.{SpellsIn}
+use Rattle.rh_heap.specs.Spans.{SpellsHeapIn}
 use Rattle.rh_defs.specs.Heap.{empty_heap}
 use Rattle.rh_heap.proofs.span.whole.init.Goals as goal
 use Rattle.rh_heap.proofs.span.whole.init.Goals.{After-write-4}
 use Rattle.rh_heap.proofs.span.whole.init.Given as given
 
-spelt : (g : given.Over) (c : After-write-4 g) → SpellsIn (g.S.Words.memory c.write-4.new.store) c.args.span (empty_heap c.args.end)
+spelt : (g : given.Over) (c : After-write-4 g) → SpellsHeapIn (g.S.Words.memory c.write-4.new.store) c.args.span (empty_heap c.args.end)
 spelt g c =
     init_spells _ _ _ _ _ _ _ c.requires.least c.requires.multiple c.requires.within c.write.ensures.only.outside c.write.ensures.value
     c.write-2.ensures.only.outside c.write-2.ensures.value

@@ -1,4 +1,4 @@
-use Rattle.rh_lent.proofs.Common.{List, ℕ, ap, length, arith, put, part, memory_of}
+use Rattle.rh_lent.proofs.Common.{List, ℕ, ap, length, arith, with_part, part, lent_memory}
 use Rattle.rh_lent.proofs.Over.{lent_bytes, edited}
 use Rattle.rh_lent.proofs.lent_mut.LentMutWordsMut.slide.Goals as goal
 
@@ -11,7 +11,7 @@ slide_in-requires-clause-target c =
     omega (arith, ap length (lent_bytes c.args.self.now c.args._id.0 c.requires.opened), c.requires.target)
 
 pub returns : goal.returns
-unfolding memory_of
+unfolding lent_memory
 returns c =
     edited c.args.self.now c.args._id.0
-    (λ (b : List ℕ). put b c.args.to (part b c.args.from c.args.n)) c.slide_in.new.b c.requires.opened c.slide_in.ensures
+    (λ (b : List ℕ). with_part b c.args.to (part b c.args.from c.args.n)) c.slide_in.new.b c.requires.opened c.slide_in.ensures

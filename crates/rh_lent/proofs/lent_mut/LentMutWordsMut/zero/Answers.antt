@@ -1,4 +1,4 @@
-use Rattle.rh_lent.proofs.Common.{List, ℕ, ap, length, replicate, arith, put, memory_of}
+use Rattle.rh_lent.proofs.Common.{List, ℕ, ap, length, replicate, arith, with_part, lent_memory}
 use Rattle.rh_lent.proofs.Over.{lent_bytes, edited}
 use Rattle.rh_lent.proofs.lent_mut.LentMutWordsMut.zero.Goals as goal
 
@@ -7,7 +7,7 @@ zero_in-requires c =
     omega (arith, ap length (lent_bytes c.args.self.now c.args._id.0 c.requires.opened), c.requires.within)
 
 pub returns : goal.returns
-unfolding memory_of
+unfolding lent_memory
 returns c =
     edited c.args.self.now c.args._id.0
-    (λ (b : List ℕ). put b c.args.at (replicate c.args.n 0)) c.zero_in.new.b c.requires.opened c.zero_in.ensures
+    (λ (b : List ℕ). with_part b c.args.at (replicate c.args.n 0)) c.zero_in.new.b c.requires.opened c.zero_in.ensures

@@ -1,5 +1,5 @@
 -- The amount is negative or not, and its whole pages go or come.
-use Rattle.rh_module.proofs.Common.{◌≡◌, Bool, pos, err_from_is_err_and, heap_in}
+use Rattle.rh_module.proofs.Common.{◌≡◌, Bool, pos, err_from_is_err_and, module_heap_in}
 use Rattle.std.specs.Int.Signed.{lt_z}
 use Rattle.rh_module.proofs.CallLaws.{leaves, refuses}
 use Rattle.rh_module.proofs.NeedLaws.{passed}
@@ -17,7 +17,7 @@ returns-in_err-shorten g c =
     let m = g.S.Words.memory c.args.store.now in
     let a = amount g (goal.at.returns-in_err-shorten g c).After-pages_for-pages c.if-delta-lt0.true in
     let p = err_from_is_err_and c.from_residual.result c.from_residual.ensures.1 in
-    rw (p.1, p.2, c.in_err-shorten.ensures.reason) (refuses _ _ _ _ _ (change_too_low m.free (heap_in m c.args.self) a c.in_err-shorten.ensures.refused)
+    rw (p.1, p.2, c.in_err-shorten.ensures.reason) (refuses _ _ _ _ _ (change_too_low m.free (module_heap_in m c.args.self) a c.in_err-shorten.ensures.refused)
     c.in_err-shorten.ensures.err c.requires)
 
 pub returns-in_err-lengthen : goal.returns-in_err-lengthen
@@ -26,13 +26,13 @@ returns-in_err-lengthen g c =
     let a = amount g (goal.at.returns-in_err-lengthen g c).After-pages_for-pages c.if-delta-lt0.false in
     let p = err_from_is_err_and c.from_residual-in_err-lengthen.result c.from_residual-in_err-lengthen.ensures.1 in
     rw (p.1, p.2, c.in_err-lengthen.ensures.reason)
-    (refuses _ _ _ _ _ (change_no_room m.free (heap_in m c.args.self) a c.requires.spells.spells.heap.fits c.in_err-lengthen.ensures.refused)
+    (refuses _ _ _ _ _ (change_no_room m.free (module_heap_in m c.args.self) a c.requires.spells.spells.heap.fits c.in_err-lengthen.ensures.refused)
     c.in_err-lengthen.ensures.err c.requires)
 
 pub returns : goal.returns
 returns g c =
     let m = g.S.Words.memory c.args.store.now in
-    let h = heap_in m c.args.self in
+    let h = module_heap_in m c.args.self in
     let k = (goal.at.returns g c).After-pages_for-pages in
     elim c.if-delta-lt0.branch [
       | then-delta-lt0+in_ok-shorten w ↦

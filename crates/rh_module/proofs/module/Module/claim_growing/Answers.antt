@@ -1,6 +1,6 @@
 -- The heap is short of what its need says, and has room once the area has grown by that.
-use Rattle.rh_module.proofs.Common.{refl, err_from_is_err_and, heap_in}
-use Rattle.rh_defs.specs.Heap.{claim}
+use Rattle.rh_module.proofs.Common.{refl, err_from_is_err_and, module_heap_in}
+use Rattle.rh_defs.specs.Heap.{claim_block}
 use Rattle.rh_defs.specs.Module.{module_claim}
 use Rattle.rh_module.proofs.SpanLaws.{is_span}
 use Rattle.rh_module.proofs.CallLaws.{refuses}
@@ -26,8 +26,8 @@ claim-requires g c = is_span (g.S.Words.memory c.lengthen.new.store) c.args.self
     c.in_ok-lengthen.ensures.only.opened c.in_ok-lengthen.ensures.spells.spells
 
 grown : (g : given.Over) (c : In_ok-lengthen g)
-    → let m = g.S.Words.memory c.args.store.now in let h = heap_in m c.args.self in
-    Grown (g.S.Words.memory c.lengthen.new.store) c.args.self c.span-span.result h c.in_ok-shortage.shortage (claim c.args.n)
+    → let m = g.S.Words.memory c.args.store.now in let h = module_heap_in m c.args.self in
+    Grown (g.S.Words.memory c.lengthen.new.store) c.args.self c.span-span.result h c.in_ok-shortage.shortage (claim_block c.args.n)
     (module_claim m.free c.args.n h)
 grown g c = claim_grown c.span-span.ensures c.requires c.args.n (g.S.Words.memory c.lengthen.new.store) c.in_ok-shortage.ensures c.pages_for.ensures
     c.in_ok-lengthen.ensures.room c.in_ok-lengthen.ensures.spells

@@ -1,6 +1,6 @@
 -- The area has grown by zeros, and the heap's end moves up to the area's.
-use Rattle.rh_module.proofs.Common.{◌≡◌, ◌*◌, ◌≤◌, to_z, refl, subst, arith, w32, Ok, PAGE, left_of, no_answer, extended, heap_in}
-use Rattle.rh_defs.specs.Heap.{extend}
+use Rattle.rh_module.proofs.Common.{◌≡◌, ◌*◌, ◌≤◌, to_z, refl, subst, arith, w32, Ok, PAGE, left_of, no_answer, extended, module_heap_in}
+use Rattle.rh_defs.specs.Heap.{extend_by}
 use Rattle.rh_defs.proofs.HeapCalls.{extend-done}
 use Rattle.rh_heap.specs.Spans as spans
 use Rattle.rh_module.proofs.LengthLaws.{MayMove, grown_may_move, lengthened, only_lengthened}
@@ -10,7 +10,7 @@ use Rattle.rh_module.proofs.module.Module.lengthen.Given as given
 use Rattle.rh_store.specs.Limits.{pool_limit}
 
 may_move : (g : given.Over) (c : After-span g)
-    → MayMove (g.S.Words.memory c.grow.new.self) c.args.self c.span.result (heap_in (g.S.Words.memory c.args.store.now) c.args.self) c.args.pages
+    → MayMove (g.S.Words.memory c.grow.new.self) c.args.self c.span.result (module_heap_in (g.S.Words.memory c.args.store.now) c.args.self) c.args.pages
     (to_z w32 (c.args.pages * PAGE))
 may_move g c =
     let few : c.args.pages ≤ pool_limit =
@@ -21,7 +21,7 @@ may_move g c =
 -- the end is moved up, so it is not refused
 moves : (g : given.Over) (c : After-span g)
     → let h = spans.heap_in (g.S.Words.memory c.grow.new.self) c.span.result in let delta =
-    to_z w32 (c.args.pages * PAGE) in extend delta h ≡ Ok (extended delta h)
+    to_z w32 (c.args.pages * PAGE) in extend_by delta h ≡ Ok (extended delta h)
 moves g c = extend-done (to_z w32 (c.args.pages * PAGE)) (spans.heap_in (g.S.Words.memory c.grow.new.self) c.span.result) (may_move g c).high
 
 pub extend_heap-requires-clause-span : goal.extend_heap-requires-clause-span
@@ -42,7 +42,8 @@ returns-clause-spells g c =
     let h = spans.heap_in (g.S.Words.memory c.grow.new.self) c.span.result in
     lengthened (g.S.Words.memory c.grow.new.self) (g.S.Words.memory c.extend_heap.new.store) c.args.self c.span.result _ c.args.pages _ (may_move g k)
     c.span.ensures c.extend_heap.ensures.only
-    (subst (λ r. spans.SpellsIn (g.S.Words.memory c.extend_heap.new.store) c.span.result (left_of h (no_answer r))) (moves g k) c.extend_heap.ensures.spells)
+    (subst (λ r. spans.SpellsHeapIn (g.S.Words.memory c.extend_heap.new.store) c.span.result (left_of h (no_answer r)))
+    (moves g k) c.extend_heap.ensures.spells)
 
 pub returns-clause-only : goal.returns-clause-only
 returns-clause-only g c =

@@ -1,6 +1,6 @@
 -- The heap is short of what its need says, and has room once the area has grown by that.
-use Rattle.rh_module.proofs.Common.{refl, err_from_is_err_and, heap_in}
-use Rattle.rh_defs.specs.Heap.{resize}
+use Rattle.rh_module.proofs.Common.{refl, err_from_is_err_and, module_heap_in}
+use Rattle.rh_defs.specs.Heap.{resize_block}
 use Rattle.rh_defs.specs.Module.{module_resize}
 use Rattle.rh_module.proofs.SpanLaws.{is_span}
 use Rattle.rh_module.proofs.CallLaws.{refuses}
@@ -28,8 +28,8 @@ resize-requires g c = is_span (g.S.Words.memory c.lengthen.new.store) c.args.sel
     c.in_ok-lengthen.ensures.only.opened c.in_ok-lengthen.ensures.spells.spells
 
 grown : (g : given.Over) (c : In_ok-lengthen g)
-    → let m = g.S.Words.memory c.args.store.now in let h = heap_in m c.args.self in
-    Grown (g.S.Words.memory c.lengthen.new.store) c.args.self c.span-span.result h c.in_ok-shortage.shortage (resize c.args.address (passed c.args.delta))
+    → let m = g.S.Words.memory c.args.store.now in let h = module_heap_in m c.args.self in
+    Grown (g.S.Words.memory c.lengthen.new.store) c.args.self c.span-span.result h c.in_ok-shortage.shortage (resize_block c.args.address (passed c.args.delta))
     (module_resize m.free c.args.address c.args.delta h)
 grown g c =
     resize_grown c.span-span.ensures c.requires c.args.address c.args.delta c.ranges.delta (g.S.Words.memory c.lengthen.new.store) c.in_ok-shortage.ensures

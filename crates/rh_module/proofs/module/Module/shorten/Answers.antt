@@ -7,11 +7,11 @@ use Rattle.rh_module.proofs.module.Module.shorten.Goals.{In_ok-extend_heap}
 use Rattle.rh_module.proofs.module.Module.shorten.Given as given
 
 ended : (g : given.Over) (c : In_ok-extend_heap g) → let m = g.S.Words.memory c.args.store.now in
-    spans.SpellsIn (g.S.Words.memory c.extend_heap.new.store) c.span.result (extended (down c.args.pages) (spans.heap_in m c.span.result))
+    spans.SpellsHeapIn (g.S.Words.memory c.extend_heap.new.store) c.span.result (extended (down c.args.pages) (spans.heap_in m c.span.result))
 ended g c =
     let m = g.S.Words.memory c.args.store.now in
     let e = (may_shorten m c.args.self c.span.result c.args.pages c.requires.module c.span.ensures c.requires.small c.in_ok-extend_heap.ensures.answer).1 in
-    subst (λ r. spans.SpellsIn (g.S.Words.memory c.extend_heap.new.store) c.span.result (left_of (spans.heap_in m c.span.result) (no_answer r))) e
+    subst (λ r. spans.SpellsHeapIn (g.S.Words.memory c.extend_heap.new.store) c.span.result (left_of (spans.heap_in m c.span.result) (no_answer r))) e
     c.in_ok-extend_heap.ensures.spells
 
 pub returns-in_err-extend_heap-clause-refused : goal.returns-in_err-extend_heap-clause-refused

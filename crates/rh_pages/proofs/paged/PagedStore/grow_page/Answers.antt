@@ -1,5 +1,5 @@
 use Rattle.rh_pages.proofs.Common.{ℕ, ◌*◌, ◌∷◌, [], ◌++◌, List, length, set, replicate, refl, ap, ◌∙◌, arith, length-replicate, length_push, MAX_AREAS, PAGE}
-use Rattle.rh_pages.proofs.Common.{LISTS, free_in, list_at, memory_of, region_of, pages_of, free_of, numbered_law, lists_of}
+use Rattle.rh_pages.proofs.Common.{LISTS, free_in, list_at, paged_memory, region_of, pages_of, free_of, paged_numbered_law, lists_of}
 use Rattle.rh_pages.proofs.Passing.{same_area}
 use Rattle.rh_pages.proofs.Regions.{zeroed}
 use Rattle.rh_pages.proofs.Seats.{area_below, table_of}
@@ -8,11 +8,11 @@ use Rattle.rh_pages.proofs.Turns.{page_free, room_left}
 use Rattle.rh_pages.proofs.paged.PagedStore.grow_page.Goals as goal
 
 pub pop-k-requires : goal.pop-k-requires
-unfolding memory_of
+unfolding paged_memory
 pop-k-requires g c = record { list = omega arith; long = c.args.self.now.long; some = c.requires.some }
 
 pub overflow_mul-k : goal.overflow_mul-k
-unfolding memory_of
+unfolding paged_memory
 overflow_mul-k g c =
     let s = c.args.self.now in let free = free_in (lists_of (g.G.Ground.numbers s.site) c.pop-k.new.self) in
     let a = page_free (region_of s) (pages_of s) s.opened (free_of s) s.table.room MAX_AREAS s.kept c.args.id.0 c.requires.opened free c.pop-k.result
@@ -24,11 +24,11 @@ zero-requires g c =
     free_within s c.args.id.0 c.pop-k.result (free_in (lists_of (g.G.Ground.numbers s.site) c.pop-k.new.self)) c.requires.opened c.pop-k.ensures.last
 
 pub push-requires : goal.push-requires
-unfolding memory_of
+unfolding paged_memory
 push-requires g c =
     let s = c.args.self.now in let id = c.args.id.0 in let numbers = g.G.Ground.numbers s.site in let mid = lists_of numbers c.pop-k.new.self in
     let same = ap length (same_area (table_of s) mid (set mid id (list_at mid id ++ c.pop-k.result ∷ [])) MAX_AREAS id c.pop-k.result
-    (numbered_law s id c.requires.opened) c.pop-k.ensures.lists refl) in
+    (paged_numbered_law s id c.requires.opened) c.pop-k.ensures.lists refl) in
     let room = room_left (region_of s) (pages_of s) s.opened (free_of s) s.table.room MAX_AREAS s.kept id c.requires.opened in
     let a = ap length c.pop-k.ensures.last in let b = length_push (free_in mid) c.pop-k.result in
     let there = ap (λ l. length (list_at (lists_of l c.pop-k.new.self) id)) c.zero.ensures.numbers in
@@ -55,7 +55,7 @@ invariant_of-self g c =
     }
 
 pub returns : goal.returns
-unfolding memory_of
+unfolding paged_memory
 returns g c =
     let s = c.args.self.now in let id = c.args.id.0 in let numbers = g.G.Ground.numbers s.site in let k = c.pop-k.result in
     let mid = lists_of numbers c.pop-k.new.self in

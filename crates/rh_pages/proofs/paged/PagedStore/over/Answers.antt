@@ -1,5 +1,5 @@
 use Rattle.rh_pages.proofs.Common.{◌≡◌, suc, ◌+◌, ◌*◌, ◌++◌, ◌∷◌, [], length, refl, ap, ◌∙◌, arith, get_or-set_same, take-set-le, MAX_AREAS, LISTS, areas_in}
-use Rattle.rh_pages.proofs.Common.{free_in, list_at, memory_of, lists_of}
+use Rattle.rh_pages.proofs.Common.{free_in, list_at, paged_memory, lists_of}
 use Rattle.rh_defs.specs.Memory.{fresh}
 use Rattle.rh_pages.proofs.Start.{first, length_first, fresh_kept, fresh_memory}
 use Rattle.rh_pages.proofs.Tables.{length_lists}
@@ -39,7 +39,7 @@ invariant_of-result g c =
     }
 
 pub returns : goal.returns
-unfolding memory_of
+unfolding paged_memory
 returns g c =
     let so_far = c.loop-k.invariant in let t = c.loop-k.table in let lists = lists_of (g.G.Ground.numbers c.loop-k.site) t in
     let out : c.loop-k.k ≡ t.room = omega (arith, so_far.count, so_far.room, c.loop-k-test.false) in

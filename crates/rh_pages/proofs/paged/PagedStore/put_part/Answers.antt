@@ -1,4 +1,4 @@
-use Rattle.rh_pages.proofs.Common.{length, refl, ◌∙◌, memory_of, region_of}
+use Rattle.rh_pages.proofs.Common.{length, refl, ◌∙◌, paged_memory, region_of}
 use Rattle.rh_pages.proofs.Regions.{run_put}
 use Rattle.rh_pages.proofs.Seats.{seat, still_long}
 use Rattle.rh_pages.proofs.paged.PagedStore.put_part.Goals as goal
@@ -19,7 +19,7 @@ invariant_of-self g c =
     }
 
 pub returns : goal.returns
-unfolding memory_of
+unfolding paged_memory
 returns g c =
     let s = c.args.self.now in let q = c.requires in let p = c.spot-place.result in let ws = c.args.from.now in let n = length ws in
     let there = seat s c.args.id.0 c.args.at n p q.opened q.some q.within q.fits c.spot-place.ensures in

@@ -1,5 +1,5 @@
-use Rattle.rh_pages.proofs.Common.{◌*◌, ◌++◌, ◌∷◌, [], length, set, refl, sym, ap, ◌∙◌, arith, length_push, MAX_AREAS, LISTS, list_at, memory_of, region_of}
-use Rattle.rh_pages.proofs.Common.{pages_of, free_of, numbered_law, lists_of}
+use Rattle.rh_pages.proofs.Common.{◌*◌, ◌++◌, ◌∷◌, [], length, set, refl, sym, ap, ◌∙◌, arith, length_push, MAX_AREAS, LISTS, list_at, paged_memory, region_of}
+use Rattle.rh_pages.proofs.Common.{pages_of, free_of, paged_numbered_law, lists_of}
 use Rattle.rh_pages.proofs.Passing.{same_free}
 use Rattle.rh_pages.proofs.Seats.{area_below, list_read, table_of, table_long}
 use Rattle.rh_pages.proofs.Shifts.{shrunk_is_kept, shrunk_is_memory}
@@ -13,12 +13,12 @@ pop-k-requires g c =
     record { list = area_below s c.args.id.0 c.requires.opened; long = s.long; some = omega arith }
 
 pub push-requires : goal.push-requires
-unfolding memory_of
+unfolding paged_memory
 push-requires g c =
     let s = c.args.self.now in let id = c.args.id.0 in let numbers = g.G.Ground.numbers s.site in let k = c.pop-k.result in
     let mid = lists_of numbers c.pop-k.new.self in
     let same = ap length (same_free (table_of s) mid (set mid MAX_AREAS (list_at mid MAX_AREAS ++ k ∷ [])) MAX_AREAS id k
-    (numbered_law s id c.requires.opened) c.pop-k.ensures.lists refl) in
+    (paged_numbered_law s id c.requires.opened) c.pop-k.ensures.lists refl) in
     let room = room_left (region_of s) (pages_of s) s.opened (free_of s) s.table.room MAX_AREAS s.kept id c.requires.opened in
     let a = ap length (sym (list_read s id c.requires.opened) ∙ c.pop-k.ensures.last) in let b = length_push (list_at mid id) k in
     record {
@@ -40,7 +40,7 @@ invariant_of-self g c =
     }
 
 pub returns : goal.returns
-unfolding memory_of
+unfolding paged_memory
 returns g c =
     let s = c.args.self.now in let id = c.args.id.0 in let numbers = g.G.Ground.numbers s.site in let k = c.pop-k.result in
     let mid = lists_of numbers c.pop-k.new.self in

@@ -1,10 +1,10 @@
-use Rattle.rh_pages.proofs.Common.{◌≡◌, ◌+◌, ◌-◌, ◌≤◌, [], length, ap, ◌∙◌, arith, part, put, bytes, with_bytes, part_none, memory_of}
+use Rattle.rh_pages.proofs.Common.{◌≡◌, ◌+◌, ◌-◌, ◌≤◌, [], length, ap, ◌∙◌, arith, part, with_part, bytes, with_bytes, part_none, paged_memory}
 use Rattle.rh_pages.proofs.Steps.{put_to, none_written, up_more}
 use Rattle.rh_pages.proofs.paged.PagedStore.slide_up.Goals as goal
 
 pub loop-left-init : goal.loop-left-init
 loop-left-init g c =
-    let m = memory_of c.args.self.now in let id = c.args.id.0 in let b = bytes m id in let n = c.args.n in
+    let m = paged_memory c.args.self.now in let id = c.args.id.0 in let b = bytes m id in let n = c.args.n in
     let none : n - n ≡ 0 = omega arith in
     let empty : part b (c.args.from + n) (n - n) ≡ [] = ap (part b (c.args.from + n)) none ∙ part_none b (c.args.from + n) in (
       omega arith,
@@ -14,23 +14,23 @@ loop-left-init g c =
 
 pub loop-left-preserved : goal.loop-left-preserved
 loop-left-preserved g c =
-    let m = memory_of c.args.self.now in let id = c.args.id.0 in let b = bytes m id in
+    let m = paged_memory c.args.self.now in let id = c.args.id.0 in let b = bytes m id in
     let x = c.loop-left.left in let n = c.min-run.result in let target = c.requires.target in
     let u = c.min.ensures in let v = c.min-run.ensures in let t = c.loop-left-test.true in let kept = c.loop-left.invariant.0 in
     let left = x - n in let k = c.args.n - x in
     let all : x ≡ left + n = omega arith in let inside : c.args.to + left + n + k ≤ length b = omega arith in
     let rest : n + k ≡ c.args.n - left = omega arith in
-    let was = c.loop-left.invariant.1.memory ∙ ap (λ i. with_bytes m id (put b (c.args.to + i) (part b (c.args.from + i) k))) all in (
+    let was = c.loop-left.invariant.1.memory ∙ ap (λ i. with_bytes m id (with_part b (c.args.to + i) (part b (c.args.from + i) k))) all in (
       omega arith,
-      put_to m (memory_of c.copy_part.new.self) id (c.args.to + left) (part b (c.args.from + left) (c.args.n - left))
-          (up_more m (memory_of c.loop-left.self) (memory_of c.copy_part.new.self) id c.args.from c.args.to left n k c.requires.up inside was
+      put_to m (paged_memory c.copy_part.new.self) id (c.args.to + left) (part b (c.args.from + left) (c.args.n - left))
+          (up_more m (paged_memory c.loop-left.self) (paged_memory c.copy_part.new.self) id c.args.from c.args.to left n k c.requires.up inside was
           c.copy_part.ensures
-          ∙ ap (λ i. with_bytes m id (put b (c.args.to + left) (part b (c.args.from + left) i))) rest),
+          ∙ ap (λ i. with_bytes m id (with_part b (c.args.to + left) (part b (c.args.from + left) i))) rest),
     )
 
 pub returns : goal.returns
 returns g c =
-    let m = memory_of c.args.self.now in let id = c.args.id.0 in let b = bytes m id in let n = c.args.n in
+    let m = paged_memory c.args.self.now in let id = c.args.id.0 in let b = bytes m id in let n = c.args.n in
     let x = c.loop-left.left in let t = c.loop-left-test.false in let none : x ≡ 0 = omega arith in
     let to : c.args.to + x ≡ c.args.to = omega arith in let from : c.args.from + x ≡ c.args.from = omega arith in let all : n - x ≡ n = omega arith in
-    c.loop-left.invariant.1.memory ∙ (λ i. with_bytes m id (put b (to i) (part b (from i) (all i))))
+    c.loop-left.invariant.1.memory ∙ (λ i. with_bytes m id (with_part b (to i) (part b (from i) (all i))))

@@ -1,4 +1,4 @@
-use Rattle.rh_pages.proofs.Common.{ℕ, replicate, ◌∙◌, length-replicate, memory_of, region_of}
+use Rattle.rh_pages.proofs.Common.{ℕ, replicate, ◌∙◌, length-replicate, paged_memory, region_of}
 use Rattle.rh_pages.proofs.Regions.{zeroed}
 use Rattle.rh_pages.proofs.Seats.{seat, still_long}
 use Rattle.rh_pages.proofs.paged.PagedStore.zero_part.Goals as goal
@@ -20,7 +20,7 @@ invariant_of-self g c =
     }
 
 pub returns : goal.returns
-unfolding memory_of
+unfolding paged_memory
 returns g c =
     let s = c.args.self.now in let n = c.args.n in
     let there = seat s c.args.id.0 c.args.at n c.spot-place.result c.requires.opened c.requires.some c.requires.within c.requires.fits c.spot-place.ensures in

@@ -1,4 +1,4 @@
-use Rattle.rh_pages.proofs.Common.{◌≡◌, ◌+◌, ◌-◌, ◌++◌, ◌∷◌, [], ℕ, get_or, set, sym, ap, ◌∙◌, arith, list_at, rows, lists_of}
+use Rattle.rh_pages.proofs.Common.{◌≡◌, ◌+◌, ◌-◌, ◌++◌, ◌∷◌, [], ℕ, get_or, set, sym, ap, ◌∙◌, arith, list_at, table_rows, lists_of}
 use Rattle.rh_pages.proofs.Tables.{length_there, in_row, last_off, popped}
 use Rattle.rh_pages.proofs.table.PageTable.pop.Goals as goal
 
@@ -20,7 +20,7 @@ returns-clause-last g c =
     let n = length_there numbers t c.args.from q.list q.long in
     let less : get_or t.lengths c.args.from 0 ≡ (get_or t.lengths c.args.from 0 - 1) + 1 = omega (arith, q.some) in
     last_off numbers t c.args.from q.list q.long (get_or t.lengths c.args.from 0 - 1) less
-    ∙ ap (λ (x : ℕ). list_at (rows numbers t.room (set t.lengths c.args.from (get_or t.lengths c.args.from 0 - 1))) c.args.from ++ x ∷ [])
+    ∙ ap (λ (x : ℕ). list_at (table_rows numbers t.room (set t.lengths c.args.from (get_or t.lengths c.args.from 0 - 1))) c.args.from ++ x ∷ [])
     (sym c.number.ensures)
 
 pub returns-clause-lists : goal.returns-clause-lists

@@ -1,4 +1,4 @@
-use Rattle.rh_pages.proofs.Common.{◌+◌, get_or, set, ap, ◌∙◌, arith, length-set, rows, lists_of}
+use Rattle.rh_pages.proofs.Common.{◌+◌, get_or, set, ap, ◌∙◌, arith, length-set, table_rows, lists_of}
 use Rattle.rh_pages.proofs.Tables.{set_fits, length_there, end_in_row, pushed}
 use Rattle.rh_pages.proofs.table.PageTable.push.Goals as goal
 
@@ -23,5 +23,5 @@ unfolding lists_of
 returns-clause-lists g c =
     let t = c.args.self.now in let numbers = g.G.Ground.numbers c.args.site.now in let q = c.requires in
     let n = length_there numbers t c.args.to q.list q.long in
-    ap (λ l. rows l t.room (set t.lengths c.args.to (get_or t.lengths c.args.to 0 + 1))) c.set_number.ensures.after
+    ap (λ l. table_rows l t.room (set t.lengths c.args.to (get_or t.lengths c.args.to 0 + 1))) c.set_number.ensures.after
     ∙ pushed numbers t c.args.to q.list q.long c.args.number (omega (arith, q.room))

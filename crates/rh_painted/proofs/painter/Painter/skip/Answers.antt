@@ -1,5 +1,5 @@
 use Rattle.rh_painted.proofs.Common.{[], ◌≡◌, ◌+◌, ◌∙◌, ◌||◌, ap, ap₂, false, length, refl, sym, true, ◌&&◌, ◌==◌, if◌then◌else◌, nat_lt, not, puts_same}
-use Rattle.rh_painted.proofs.Common.{Stand, walk_in}
+use Rattle.rh_painted.proofs.Common.{PaintStand, walk_in}
 use Rattle.rh_defs.specs.Line.{words_of}
 use Rattle.rh_drawn.proofs.ShareLemmas.{is_shared}
 use Rattle.rh_figure.specs.Map.{is_mark}
@@ -19,9 +19,10 @@ returns-in_err-open_step-clause-err g c =
     let progress : c.want.new.self ≡ record m.progress { wanted = m.progress.wanted || is_mark line } = c.want.ensures
     ∙ ap (λ w. record m.progress { wanted = w }) w-is in
     let test : is_shown_remark m.marked (walk_in desk m) line ≡ true =
-    sym (c.shows.ensures.value ∙ ap₂ (λ (p : Stand) w. not (length (words_of line) == 0) && (nat_lt p.shown MOST_STEPS && (not m.marked || w))) progress w-is)
+    sym (c.shows.ensures.value ∙ ap₂ (λ (p : PaintStand) w. not (length (words_of line) == 0) &&
+    (nat_lt p.shown MOST_STEPS && (not m.marked || w))) progress w-is)
     ∙ c.if-shows.true in
-    let opening-is = ap (λ (p : Stand). if p.opened then [] else step_open (p.shown + 1)) progress in
+    let opening-is = ap (λ (p : PaintStand). if p.opened then [] else step_open (p.shown + 1)) progress in
     skip-broken desk m m (g.W.Sink.output c.args.writer.now) line refl refl refl refl (g.W.Sink.output c.open_step.new.writer) c.from_residual.result test _
     (is_shared (desk m.drawn) c.spelled.ensures) (puts-stop (remark_text line) (puts_same opening-is c.in_err-open_step.ensures) c.from_residual.ensures.0)
 
@@ -35,12 +36,13 @@ returns-then-shows-clause-ok g c =
     let progress : c.want.new.self ≡ record m.progress { wanted = m.progress.wanted || is_mark line } = c.want.ensures
     ∙ ap (λ w. record m.progress { wanted = w }) w-is in
     let test : is_shown_remark m.marked (walk_in desk m) line ≡ true =
-    sym (c.shows.ensures.value ∙ ap₂ (λ (p : Stand) w. not (length (words_of line) == 0) && (nat_lt p.shown MOST_STEPS && (not m.marked || w))) progress w-is)
+    sym (c.shows.ensures.value ∙ ap₂ (λ (p : PaintStand) w. not (length (words_of line) == 0) &&
+    (nat_lt p.shown MOST_STEPS && (not m.marked || w))) progress w-is)
     ∙ c.if-shows.true in
-    let opening-is = ap (λ (p : Stand). if p.opened then [] else step_open (p.shown + 1)) progress in
+    let opening-is = ap (λ (p : PaintStand). if p.opened then [] else step_open (p.shown + 1)) progress in
     skip-shown desk m n (g.W.Sink.output c.args.writer.now) line refl refl refl refl (g.W.Sink.output c.print_remark.new.writer) c.print_remark.result test _
     (is_shared (desk m.drawn) c.spelled.ensures) (puts-then (puts_same opening-is c.in_ok-open_step.ensures) c.print_remark.ensures)
-    (c.open.ensures ∙ ap (λ (p : Stand). record p { opened = true }) progress)
+    (c.open.ensures ∙ ap (λ (p : PaintStand). record p { opened = true }) progress)
 
 pub returns-then-shows-clause-err : goal.returns-then-shows-clause-err
 returns-then-shows-clause-err g c =
@@ -51,9 +53,10 @@ returns-then-shows-clause-err g c =
     let progress : c.want.new.self ≡ record m.progress { wanted = m.progress.wanted || is_mark line } = c.want.ensures
     ∙ ap (λ w. record m.progress { wanted = w }) w-is in
     let test : is_shown_remark m.marked (walk_in desk m) line ≡ true =
-    sym (c.shows.ensures.value ∙ ap₂ (λ (p : Stand) w. not (length (words_of line) == 0) && (nat_lt p.shown MOST_STEPS && (not m.marked || w))) progress w-is)
+    sym (c.shows.ensures.value ∙ ap₂ (λ (p : PaintStand) w. not (length (words_of line) == 0) &&
+    (nat_lt p.shown MOST_STEPS && (not m.marked || w))) progress w-is)
     ∙ c.if-shows.true in
-    let opening-is = ap (λ (p : Stand). if p.opened then [] else step_open (p.shown + 1)) progress in
+    let opening-is = ap (λ (p : PaintStand). if p.opened then [] else step_open (p.shown + 1)) progress in
     skip-broken desk m m (g.W.Sink.output c.args.writer.now) line refl refl refl refl (g.W.Sink.output c.print_remark.new.writer) c.print_remark.result test _
     (is_shared (desk m.drawn) c.spelled.ensures) (puts-then (puts_same opening-is c.in_ok-open_step.ensures) c.print_remark.ensures)
 
@@ -67,6 +70,7 @@ returns-clause-ok g c =
     let progress : c.want.new.self ≡ record m.progress { wanted = m.progress.wanted || is_mark line } = c.want.ensures
     ∙ ap (λ w. record m.progress { wanted = w }) w-is in
     let test : is_shown_remark m.marked (walk_in desk m) line ≡ false =
-    sym (c.shows.ensures.value ∙ ap₂ (λ (p : Stand) w. not (length (words_of line) == 0) && (nat_lt p.shown MOST_STEPS && (not m.marked || w))) progress w-is)
+    sym (c.shows.ensures.value ∙ ap₂ (λ (p : PaintStand) w. not (length (words_of line) == 0) &&
+    (nat_lt p.shown MOST_STEPS && (not m.marked || w))) progress w-is)
     ∙ c.if-shows.false in
     skip-hidden desk m n (g.W.Sink.output c.args.writer.now) line refl refl refl refl progress test _ (is_shared (desk m.drawn) c.spelled.ensures)

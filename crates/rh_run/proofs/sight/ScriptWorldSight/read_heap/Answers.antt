@@ -1,5 +1,5 @@
 use Rattle.std.proofs.Common.{◌≤◌, ap, arith, length, refl, subst, ◌∙◌}
-use Rattle.rh_sight.specs.Seen.{IsFree}
+use Rattle.rh_sight.specs.Seen.{SeesFree}
 use Rattle.rh_sight.specs.declared.sight.HeapOf.{HeapOf}
 use Rattle.rh_run.proofs.TaskLaws.{as-granted, block-room, block-same, heap-there, in-heap, in-module, module-seen, module-there, task-seen, there}
 use Rattle.rh_run.proofs.sight.ScriptWorldSight.read_heap.Goals as goal
@@ -49,7 +49,7 @@ unwrap-requires-in-Module g c =
     let d = c.args.self.now.world.desk in
     let wanted = c.requires.block in
     let here = in-module d c.args.heap c.args.place wanted.0 c.in-Module.is wanted.1 in
-    let free = subst (λ (h : HeapOf). IsFree h c.args.place d) c.in-Module.is c.requires.free in
+    let free = subst (λ (h : HeapOf). SeesFree h c.args.place d) c.in-Module.is c.requires.free in
     rw (as-granted _ _ _ _ c.read_module.ensures
     (module-there d c.args.place _ (length c.args.to.now) wanted.0
     (module-seen c.spelled.ensures.desk) here free wanted.2 c.block_address-address-in-Module.ensures)).0 refl
@@ -62,6 +62,6 @@ returns-in-Module g c = λ bytes has.
     let first = in-module d c.args.heap c.args.place wanted.0 c.in-Module.is wanted.1 in
     let here = in-module d c.args.heap c.args.place bytes c.in-Module.is has in
     let few : length c.args.to.now ≤ length bytes = omega (arith, ap length (block-same _ c.args.place wanted.0 bytes is first here), wanted.2) in
-    let free = subst (λ (h : HeapOf). IsFree h c.args.place d) c.in-Module.is c.requires.free in
+    let free = subst (λ (h : HeapOf). SeesFree h c.args.place d) c.in-Module.is c.requires.free in
     (as-granted _ _ _ _ c.read_module.ensures
     (module-there d c.args.place _ (length c.args.to.now) bytes is here free few c.block_address-address-in-Module.ensures)).1

@@ -2,7 +2,7 @@
 use Rattle.rh_slot.proofs.Common.{◌≡◌, ◌+◌, ◌-◌, ◌*◌, refl, subst, ap, to_z, arith, w32, pos, PAGE, raised, left_of, no_answer, heap_in, slot_in}
 use Rattle.std.proofs.lemmas.Int.{to_z_pos}
 use Rattle.rh_defs.proofs.HeapCalls.{extend-done}
-use Rattle.rh_heap.specs.Spans.{SpellsIn}
+use Rattle.rh_heap.specs.Spans.{SpellsHeapIn}
 use Rattle.rh_slot.proofs.GrowLaws.{budged, all_blocks, words_grown, raised_by, slid}
 use Rattle.rh_slot.proofs.slot.Slot.lengthen.Goals as goal
 
@@ -77,8 +77,8 @@ returns-clause-spells g c =
     omega (arith, g.met.S.Words.small c.grow_to.new.store c.args.self.area.0)) in
     let h = heap_in (g.S.Words.memory c.shift.new.store) c.span.result in
     let done = extend-done (to_z w32 more) h (rw (sl.heap, d) (omega arith)) in
-    let kept = subst (λ r. SpellsIn (g.S.Words.memory c.extend_heap.new.store) c.span.result (left_of h (no_answer r))) done c.extend_heap.ensures.spells in
-    let there = subst (λ h. SpellsIn (g.S.Words.memory c.extend_heap.new.store) c.span.result h)
+    let kept = subst (λ r. SpellsHeapIn (g.S.Words.memory c.extend_heap.new.store) c.span.result (left_of h (no_answer r))) done c.extend_heap.ensures.spells in
+    let there = subst (λ h. SpellsHeapIn (g.S.Words.memory c.extend_heap.new.store) c.span.result h)
     (raised_by c.args.shortage more (to_z w32 more) s.heap _ d (ap (λ k. k * PAGE) c.pages_for-more.ensures) sl.heap) kept in
     let outside = rw (sl.heap, c.span.ensures) at c.extend_heap.ensures.only.outside in
     let words = budged _ _ _ s (raised c.args.shortage s.heap) more from (from + more) n _ (words_grown _ _ s c.requires.slot.spells r.same (omega arith)) ef

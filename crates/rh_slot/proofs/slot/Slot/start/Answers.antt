@@ -1,5 +1,5 @@
 -- The area is opened, given a page and an empty heap.
-use Rattle.rh_slot.proofs.Common.{true, ◌∙◌, refl, sym, subst, arith, IsOpen, OnlyArea, OnlyArea-both, OnlyArea-from_Edited, SpellsIn}
+use Rattle.rh_slot.proofs.Common.{true, ◌∙◌, refl, sym, subst, arith, IsOpen, OnlyArea, OnlyArea-both, OnlyArea-from_Edited, SpellsSlotIn}
 use Rattle.rh_defs.specs.Slot.{new_slot}
 use Rattle.rh_defs.proofs.MemoryLaws.{IsOpen-opened}
 use Rattle.rh_slot.proofs.StartLaws.{Opened, is_granted, page_granted, begin_refused, begin_done, opened_page, spells_new}
@@ -28,7 +28,7 @@ page g c =
     opened_page (g.S.Words.memory c.args.store.now) (g.S.Words.memory c.open.new.self) _ _ c.grow.result
     (λ z. c.if-free_pages-eq0.false (c.free_pages.ensures ∙ z)) (rw c.unwrap-area.ensures at c.open.ensures.ok) c.grow.ensures.ok c.grow.ensures.refused
 
-spelt : (g : given.Over) (c : After-init g) → SpellsIn (g.S.Words.memory c.init.new.store) (record { area = c.unwrap-area.result; budge = true }) new_slot
+spelt : (g : given.Over) (c : After-init g) → SpellsSlotIn (g.S.Words.memory c.init.new.store) (record { area = c.unwrap-area.result; budge = true }) new_slot
 spelt g c = spells_new _ _ _ _ (page g (goal.at.returns-clause-spells g c).After-grow) (rw c.span.ensures at c.init.ensures.only)
     (rw c.span.ensures at c.init.ensures.spells)
 

@@ -1,7 +1,7 @@
 use Rattle.rh_store.proofs.Common.{◌≡◌, ◌+◌, ◌%◌, ℕ, false, List, [], ◌∷◌, length, refl, sym, ap, subst, ◌∙◌, arith, All, None, Area, MAX_AREAS, PAGE}
 use Rattle.rh_store.proofs.Common.{contents, memory_of}
 use Rattle.std.proofs.Math.ListN.{length-append}
-use Rattle.rh_store.specs.Areas.{IsTidy, HasRoom}
+use Rattle.rh_store.specs.Areas.{IsTidyArea, HasRoomFor}
 use Rattle.rh_defs.proofs.MemoryLaws.{pages_below-none}
 use Rattle.rh_store.proofs.AreasLaws.{contents-nil, contents-push, tidy-push, reserved-push, memory-fresh}
 use Rattle.rh_store.proofs.plain.PlainStore.new.Goals as goal
@@ -27,9 +27,9 @@ loop-k-preserved c =
     let a : Area = record { opened = false; bytes = c.in_ok-bytes.bytes } in
     record {
       len = ap length items ∙ length-append list (a ∷ []) ∙ ap (λ k. k + 1) so_far.len;
-      tidy = subst (λ (l : List Area). All IsTidy l) (sym items) (tidy-push list a so_far.tidy
+      tidy = subst (λ (l : List Area). All IsTidyArea l) (sym items) (tidy-push list a so_far.tidy
           (record { whole = ap (λ (l : List ℕ). length l % PAGE) none; empty = λ f. none }));
-      reserved = subst (λ (l : List Area). All (HasRoom c.args.pages) l) (sym items)
+      reserved = subst (λ (l : List Area). All (HasRoomFor c.args.pages) l) (sym items)
           (reserved-push c.args.pages list a so_far.reserved (record { room = let exact = c.in_ok-bytes.ensures.exact in omega arith }));
       closed = subst (λ (l : List Area). (k : ℕ) → contents l k ≡ None) (sym items) (contents-push list a so_far.closed refl);
     }

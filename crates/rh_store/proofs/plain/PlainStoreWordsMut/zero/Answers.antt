@@ -1,4 +1,4 @@
-use Rattle.rh_store.proofs.Common.{replicate, put, bytes, length-put, MAX_AREAS, memory_of, stays, memory-rewritten}
+use Rattle.rh_store.proofs.Common.{replicate, with_part, bytes, length-put, MAX_AREAS, memory_of, stays, memory-rewritten}
 use Rattle.rh_store.proofs.plain.PlainStoreWordsMut.zero.Goals as goal
 
 pub invariant_of-self : goal.invariant_of-self
@@ -8,7 +8,7 @@ invariant_of-self c =
     let old = bytes (memory_of s) c.args.id.0 in
     record {
       few = s.few;
-      kept = stays s.areas.items _ c.args.id.0 (put old c.args.at (replicate c.args.n 0)) s.free s.pages MAX_AREAS s.kept c.zero_at.ensures
+      kept = stays s.areas.items _ c.args.id.0 (with_part old c.args.at (replicate c.args.n 0)) s.free s.pages MAX_AREAS s.kept c.zero_at.ensures
           c.requires.opened (length-put old c.args.at (replicate c.args.n 0));
     }
 
@@ -17,4 +17,4 @@ unfolding bytes memory_of
 returns c =
     let s = c.args.self.now in
     let old = bytes (memory_of s) c.args.id.0 in
-    memory-rewritten s.areas.items _ c.args.id.0 (put old c.args.at (replicate c.args.n 0)) s.free s.pages c.zero_at.ensures
+    memory-rewritten s.areas.items _ c.args.id.0 (with_part old c.args.at (replicate c.args.n 0)) s.free s.pages c.zero_at.ensures

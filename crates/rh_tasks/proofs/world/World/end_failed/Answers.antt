@@ -11,4 +11,4 @@ record_failed_in-requires g c =
 pub returns : goal.returns
 returns g c t at =
     ended-is c.args.self.now.desk c.drop_buffer.new.self.desk c.record_failed_in.new.self.desk c.args.i c.args.f.now
-    (receiver.failed c.args.f.now c.args.count) t at (c.drop_buffer.ensures t at) c.record_failed_in.ensures
+    (receiver.taking_failed c.args.f.now c.args.count) t at (c.drop_buffer.ensures t at) c.record_failed_in.ensures

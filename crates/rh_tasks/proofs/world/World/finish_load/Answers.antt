@@ -22,7 +22,8 @@ returns-in-Ok g c =
     let there = rw (← c.self.view_is) at ti in
     let is : t ≡ task_of m s = seat-is (seated m c.self.inside.seats.items c.args.i t there) s (sym c.index-seat.ensures) in
     let block : slot_block x.anchor t.slot ≡ Ok z.cut = rw is z.block in
-    handles-alike (load-done d t x block) (same-alike (sym (c.record_loaded_out.ensures t ti ∙ ap (λ k. with_sending t.handle (sender.loaded x k) d) z.long))))
+    handles-alike (load-done d t x block) (same-alike
+    (sym (c.record_loaded_out.ensures t ti ∙ ap (λ k. with_sending t.handle (sender.sending_loaded x k) d) z.long))))
 
 pub returns-in-Err : goal.returns-in-Err
 unfolding task_of

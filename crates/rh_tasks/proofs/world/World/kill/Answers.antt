@@ -1,4 +1,4 @@
-use Rattle.rh_tasks.proofs.Common.{refl, sym, err_from_is_err_and, HasSlot, Found, ends, all-at, nobody, sits}
+use Rattle.rh_tasks.proofs.Common.{refl, sym, err_from_is_err_and, HasSlot, FoundSeat, ends, all-at, nobody, sits}
 use Rattle.rh_defs.specs.Commands.{kill}
 use Rattle.rh_tasks.proofs.Posts.{has-entry}
 use Rattle.rh_tasks.proofs.Deaths.{kill-done, kill-world, slot-open, queue-then, spells-death}
@@ -15,14 +15,14 @@ bounce_for_death-requires-clause-queue g c = c.self.invariant.queue
 
 pub bounce_for_death-requires-clause-live : goal.bounce_for_death-requires-clause-live
 bounce_for_death-requires-clause-live g c =
-    let f : Found c.args.name.now c.self.inside.seats.items c.in_ok-i.i c.remove-seat.result =
+    let f : FoundSeat c.args.name.now c.self.inside.seats.items c.in_ok-i.i c.remove-seat.result =
     record { at = c.in_ok-i.ensures.ok; is = sym c.remove-seat.ensures.value } in
     has-entry c.self.invariant (sits f)
 
 pub end-requires : goal.end-requires
 end-requires g c =
     let m = g.S.Words.memory c.self.inside.store in
-    let f : Found c.args.name.now c.self.inside.seats.items c.in_ok-i.i c.remove-seat.result =
+    let f : FoundSeat c.args.name.now c.self.inside.seats.items c.in_ok-i.i c.remove-seat.result =
     record { at = c.in_ok-i.ensures.ok; is = sym c.remove-seat.ensures.value } in
     let has = all-at (HasSlot m) c.self.inside.seats.items c.in_ok-i.i c.remove-seat.result c.self.invariant.areas.slots (sits f) in
     let low = g.met.S.Store.numbered c.self.inside.store c.remove-seat.result.slot.area.0 has.opened in
@@ -31,7 +31,7 @@ end-requires g c =
 pub kept_scrap-self-inside-requires : goal.kept_scrap-self-inside-requires
 kept_scrap-self-inside-requires g c =
     let m = g.S.Words.memory c.self.inside.store in
-    let f : Found c.args.name.now c.self.inside.seats.items c.in_ok-i.i c.remove-seat.result =
+    let f : FoundSeat c.args.name.now c.self.inside.seats.items c.in_ok-i.i c.remove-seat.result =
     record { at = c.in_ok-i.ensures.ok; is = sym c.remove-seat.ensures.value } in
     let has = all-at (HasSlot m) c.self.inside.seats.items c.in_ok-i.i c.remove-seat.result c.self.invariant.areas.slots (sits f) in
     let low = g.met.S.Store.numbered c.self.inside.store c.remove-seat.result.slot.area.0 has.opened in
@@ -40,7 +40,7 @@ kept_scrap-self-inside-requires g c =
 pub invariant_of-self : goal.invariant_of-self
 invariant_of-self g c =
     let m = g.S.Words.memory c.self.inside.store in
-    let f : Found c.args.name.now c.self.inside.seats.items c.in_ok-i.i c.remove-seat.result =
+    let f : FoundSeat c.args.name.now c.self.inside.seats.items c.in_ok-i.i c.remove-seat.result =
     record { at = c.in_ok-i.ensures.ok; is = sym c.remove-seat.ensures.value } in
     let has = all-at (HasSlot m) c.self.inside.seats.items c.in_ok-i.i c.remove-seat.result c.self.invariant.areas.slots (sits f) in
     let low = g.met.S.Store.numbered c.self.inside.store c.remove-seat.result.slot.area.0 has.opened in
@@ -51,7 +51,7 @@ invariant_of-self g c =
 pub returns : goal.returns
 returns g c =
     let m = g.S.Words.memory c.self.inside.store in
-    let f : Found c.args.name.now c.self.inside.seats.items c.in_ok-i.i c.remove-seat.result =
+    let f : FoundSeat c.args.name.now c.self.inside.seats.items c.in_ok-i.i c.remove-seat.result =
     record { at = c.in_ok-i.ensures.ok; is = sym c.remove-seat.ensures.value } in
     let has = all-at (HasSlot m) c.self.inside.seats.items c.in_ok-i.i c.remove-seat.result c.self.invariant.areas.slots (sits f) in
     let low = g.met.S.Store.numbered c.self.inside.store c.remove-seat.result.slot.area.0 has.opened in

@@ -1,4 +1,4 @@
-use Rattle.rh_tasks.proofs.Common.{ap, refl, sym, Option, Ok, err_from_is_err_and, Granted, EventCode, Found, ends, nobody, sits}
+use Rattle.rh_tasks.proofs.Common.{ap, refl, sym, Option, Ok, err_from_is_err_and, Granted, EventCode, FoundSeat, ends, nobody, sits}
 use Rattle.rh_tasks.specs.Sights.{next_message}
 use Rattle.rh_tasks.proofs.Posts.{has-entry, is-post}
 use Rattle.rh_tasks.proofs.Readers.{if-ok, if-err}
@@ -13,13 +13,13 @@ returns-in_err-i g c =
 
 pub peek-code-requires-clause-live : goal.peek-code-requires-clause-live
 peek-code-requires-clause-live g c =
-    let f : Found c.args.name.now c.self.inside.seats.items c.in_ok-i.i c.index-seat.result.now =
+    let f : FoundSeat c.args.name.now c.self.inside.seats.items c.in_ok-i.i c.index-seat.result.now =
     record { at = c.in_ok-i.ensures.ok; is = sym c.index-seat.ensures } in
     has-entry c.self.invariant (sits f)
 
 pub returns : goal.returns
 returns g c =
-    let f : Found c.args.name.now c.self.inside.seats.items c.in_ok-i.i c.index-seat.result.now =
+    let f : FoundSeat c.args.name.now c.self.inside.seats.items c.in_ok-i.i c.index-seat.result.now =
     record { at = c.in_ok-i.ensures.ok; is = sym c.index-seat.ensures } in
     let post = is-post c.self.invariant in
     rw (← c.self.view_is)

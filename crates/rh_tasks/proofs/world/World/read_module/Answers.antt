@@ -1,4 +1,4 @@
-use Rattle.rh_tasks.proofs.Common.{◌≡◌, ℕ, ◌∙◌, ap, length, refl, subst, sym, arith, err_from_is_err_and, Some, None, Ok, Granted, part-drop, heap_in}
+use Rattle.rh_tasks.proofs.Common.{◌≡◌, ℕ, ◌∙◌, ap, length, refl, subst, sym, arith, err_from_is_err_and, Some, None, Ok, Granted, part-drop, module_heap_in}
 use Rattle.rh_tasks.proofs.Common.{the_module, ends}
 use Rattle.rh_defs.specs.Blocks.{block_bytes}
 use Rattle.rh_module.proofs.BlockBytes.{block_within}
@@ -16,7 +16,7 @@ returns-in_err-place g c =
 
 pub returns-in_err-size : goal.returns-in_err-size
 returns-in_err-size g c =
-    let h = heap_in (g.S.Words.memory c.self.inside.store) the_module in
+    let h = module_heap_in (g.S.Words.memory c.self.inside.store) the_module in
     let p = err_from_is_err_and c.from_residual-in_err-size.result c.from_residual-in_err-size.ensures.1 in
     let absent = unsized-block c.in_ok-place.place h _ c.in_err-size.ensures in
     let away = subst (λ (a : ℕ). block_bytes a h ≡ None) c.in_ok-place.ensures.ok.0 absent.0 in
@@ -26,7 +26,7 @@ returns-in_err-size g c =
 
 pub returns-then-not-fits : goal.returns-then-not-fits
 returns-then-not-fits g c =
-    let h = heap_in (g.S.Words.memory c.self.inside.store) the_module in
+    let h = module_heap_in (g.S.Words.memory c.self.inside.store) the_module in
     let some = sized-bytes c.in_ok-place.place h c.in_ok-size.size c.in_ok-size.ensures in
     let here = subst (λ (a : ℕ). block_bytes a h ≡ Some some.0) c.in_ok-place.ensures.ok.0 some.1.0 in
     let none = rw (← c.self.view_is) at c.in_ok-place.ensures.ok.1 in
@@ -37,13 +37,13 @@ returns-then-not-fits g c =
 
 pub read_bytes-requires-clause-block : goal.read_bytes-requires-clause-block
 read_bytes-requires-clause-block g c =
-    let some = sized-bytes c.in_ok-place.place (heap_in (g.S.Words.memory c.self.inside.store) the_module) c.in_ok-size.size c.in_ok-size.ensures in
+    let some = sized-bytes c.in_ok-place.place (module_heap_in (g.S.Words.memory c.self.inside.store) the_module) c.in_ok-size.size c.in_ok-size.ensures in
     record { bytes = some.0; found = some.1.0; room = omega (arith, c.fits.ensures.0 c.if-not-fits.false, some.1.1) }
 
 pub overflow_cast-result : goal.overflow_cast-result
 overflow_cast-result g c =
     let m = g.S.Words.memory c.self.inside.store in
-    let some = sized-bytes c.in_ok-place.place (heap_in m the_module) c.in_ok-size.size c.in_ok-size.ensures in
+    let some = sized-bytes c.in_ok-place.place (module_heap_in m the_module) c.in_ok-size.size c.in_ok-size.ensures in
     let is = c.self.invariant.areas.module_area in
     let room = block_within m the_module c.in_ok-place.place c.in_ok-size.size is
     (record { bytes = some.0; found = some.1.0; room = omega (arith, some.1.1) }) in
@@ -51,7 +51,7 @@ overflow_cast-result g c =
 
 pub returns : goal.returns
 returns g c =
-    let h = heap_in (g.S.Words.memory c.self.inside.store) the_module in
+    let h = module_heap_in (g.S.Words.memory c.self.inside.store) the_module in
     let some = sized-bytes c.in_ok-place.place h c.in_ok-size.size c.in_ok-size.ensures in
     let here = subst (λ (a : ℕ). block_bytes a h ≡ Some some.0) c.in_ok-place.ensures.ok.0 some.1.0 in
     let none = rw (← c.self.view_is) at c.in_ok-place.ensures.ok.1 in

@@ -7,13 +7,13 @@ pub invariant_of-self : goal.invariant_of-self
 invariant_of-self g c =
     let inside = rw (← c.self.view_is) at c.requires in
     let at = sits-in c.self.invariant inside (sym c.index_mut-seat.ensures.value) in
-    let edit = receiver.failed c.args.f.now c.args.count in
+    let edit = receiver.taking_failed c.args.f.now c.args.count in
     taking-world c.self.invariant at edit c.failed.ensures
 
 pub returns : goal.returns
 returns g c = λ t there.
     let inside = rw (← c.self.view_is) at c.requires in
     let at = sits-in c.self.invariant inside (sym c.index_mut-seat.ensures.value) in
-    let edit = receiver.failed c.args.f.now c.args.count in
+    let edit = receiver.taking_failed c.args.f.now c.args.count in
     let where_is = rw (← c.self.view_is) at there in
     rw (← c.self.view_is) (taking-done c.self.invariant at edit c.failed.ensures t where_is)

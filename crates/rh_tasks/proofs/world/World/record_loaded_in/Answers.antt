@@ -7,13 +7,13 @@ pub invariant_of-self : goal.invariant_of-self
 invariant_of-self g c =
     let inside = rw (← c.self.view_is) at c.requires in
     let at = sits-in c.self.invariant inside (sym c.index_mut-seat.ensures.value) in
-    let edit = receiver.loaded c.args.q.now c.args.n in
+    let edit = receiver.taking_loaded c.args.q.now c.args.n in
     taking-world c.self.invariant at edit c.loaded.ensures
 
 pub returns : goal.returns
 returns g c = λ t there.
     let inside = rw (← c.self.view_is) at c.requires in
     let at = sits-in c.self.invariant inside (sym c.index_mut-seat.ensures.value) in
-    let edit = receiver.loaded c.args.q.now c.args.n in
+    let edit = receiver.taking_loaded c.args.q.now c.args.n in
     let where_is = rw (← c.self.view_is) at there in
     rw (← c.self.view_is) (taking-done c.self.invariant at edit c.loaded.ensures t where_is)

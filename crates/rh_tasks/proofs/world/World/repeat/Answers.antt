@@ -1,4 +1,4 @@
-use Rattle.rh_tasks.proofs.Common.{refl, ap, sym, ◌∙◌, err_from_is_err_and, set, Found, ends, sits, nobody}
+use Rattle.rh_tasks.proofs.Common.{refl, ap, sym, ◌∙◌, err_from_is_err_and, set, FoundSeat, ends, sits, nobody}
 use Rattle.rh_defs.specs.Commands.{repeat}
 use Rattle.rh_tasks.proofs.Repeats.{same-shown, seat-kept, from-live, again-own, repeat-nothing, repeat-refused, repeat-world, repeat-done}
 use Rattle.rh_tasks.proofs.world.World.repeat.Goals as goal
@@ -12,7 +12,7 @@ returns-in_err-i g c =
 pub returns-in_err-letter : goal.returns-in_err-letter
 returns-in_err-letter g c =
     let s = c.index_mut-seat.result.now in
-    let f : Found c.args.name.now c.self.inside.seats.items c.in_ok-i.i s = record { at = c.in_ok-i.ensures.ok; is = sym c.index_mut-seat.ensures.value } in
+    let f : FoundSeat c.args.name.now c.self.inside.seats.items c.in_ok-i.i s = record { at = c.in_ok-i.ensures.ok; is = sym c.index_mut-seat.ensures.value } in
     let p = err_from_is_err_and c.from_residual-in_err-letter.result c.from_residual-in_err-letter.ensures.1 in
     rw (p.1, p.2, ← c.self.view_is) (
       repeat-nothing c.self.invariant f (sym c.in_err-letter.ensures),
@@ -23,13 +23,13 @@ returns-in_err-letter g c =
 pub send-requires-clause-from : goal.send-requires-clause-from
 send-requires-clause-from g c =
     let s = c.index_mut-seat.result.now in
-    let f : Found c.args.name.now c.self.inside.seats.items c.in_ok-i.i s = record { at = c.in_ok-i.ensures.ok; is = sym c.index_mut-seat.ensures.value } in
+    let f : FoundSeat c.args.name.now c.self.inside.seats.items c.in_ok-i.i s = record { at = c.in_ok-i.ensures.ok; is = sym c.index_mut-seat.ensures.value } in
     from-live c.self.invariant (sits f) c.in_ok-letter.letter (again-own c.self.invariant f c.in_ok-letter.letter (sym c.in_ok-letter.ensures))
 
 pub returns-in_err-my_ref : goal.returns-in_err-my_ref
 returns-in_err-my_ref g c =
     let s = c.index_mut-seat.result.now in
-    let f : Found c.args.name.now c.self.inside.seats.items c.in_ok-i.i s = record { at = c.in_ok-i.ensures.ok; is = sym c.index_mut-seat.ensures.value } in
+    let f : FoundSeat c.args.name.now c.self.inside.seats.items c.in_ok-i.i s = record { at = c.in_ok-i.ensures.ok; is = sym c.index_mut-seat.ensures.value } in
     let p = err_from_is_err_and c.from_residual-in_err-my_ref.result c.from_residual-in_err-my_ref.ensures.1 in
     let e = c.in_err-my_ref.ensures in
     rw (p.1, p.2, ← c.self.view_is) (
@@ -41,14 +41,14 @@ returns-in_err-my_ref g c =
 pub invariant_of-self-2 : goal.invariant_of-self-2
 invariant_of-self-2 g c =
     let s = c.index_mut-seat.result.now in
-    let f : Found c.args.name.now c.self.inside.seats.items c.in_ok-i.i s = record { at = c.in_ok-i.ensures.ok; is = sym c.index_mut-seat.ensures.value } in
+    let f : FoundSeat c.args.name.now c.self.inside.seats.items c.in_ok-i.i s = record { at = c.in_ok-i.ensures.ok; is = sym c.index_mut-seat.ensures.value } in
     let e = c.in_ok-my_ref.ensures in
     rw (e.ok) (repeat-world c.self.invariant f c.in_ok-letter.letter (sym c.in_ok-letter.ensures) c.in_ok-my_ref.my_ref e.answer e.leaves c.requires)
 
 pub returns : goal.returns
 returns g c =
     let s = c.index_mut-seat.result.now in
-    let f : Found c.args.name.now c.self.inside.seats.items c.in_ok-i.i s = record { at = c.in_ok-i.ensures.ok; is = sym c.index_mut-seat.ensures.value } in
+    let f : FoundSeat c.args.name.now c.self.inside.seats.items c.in_ok-i.i s = record { at = c.in_ok-i.ensures.ok; is = sym c.index_mut-seat.ensures.value } in
     let e = c.in_ok-my_ref.ensures in
     rw (← c.self.view_is, e.ok) (repeat-done c.self.invariant f c.in_ok-letter.letter (sym c.in_ok-letter.ensures) c.in_ok-my_ref.my_ref e.answer e.leaves
     c.requires)

@@ -1,4 +1,4 @@
-use Rattle.rh_tasks.proofs.Common.{refl, ap, sym, ◌∙◌, set, err_from_is_err_and, Found, source_block}
+use Rattle.rh_tasks.proofs.Common.{refl, ap, sym, ◌∙◌, set, err_from_is_err_and, FoundSeat, source_block}
 use Rattle.rh_tasks.proofs.Ranges.{save-anchor, save-leaf}
 use Rattle.rh_tasks.proofs.Repeats.{same-shown, seat-kept}
 use Rattle.rh_tasks.proofs.Saves.{again-found, again-given, save-stopped, save-nobody, may-open, save-refused, save-world, save-done, save-live}
@@ -29,7 +29,7 @@ pub send-requires-clause-from : goal.send-requires-clause-from
 send-requires-clause-from g c =
     let e = c.in_ok-source.ensures.ok in
     let s = c.index_mut-seat.result.now in
-    let f : Found c.args.name.now c.self.inside.seats.items c.in_ok-source.source.place s = again-found e.found (sym c.index_mut-seat.ensures.value) in
+    let f : FoundSeat c.args.name.now c.self.inside.seats.items c.in_ok-source.source.place s = again-found e.found (sym c.index_mut-seat.ensures.value) in
     let given = again-given (source_block c.args.anchor) (g.S.Words.memory c.self.inside.store) e.found f e.given in
     let r = c.in_ok-recipient.ensures.ok in
     rw (c.save_letter-letter.ensures) (save-live c.self.invariant c.args.anchor c.args.to.now c.args.leaf.now f c.in_ok-source.source.size given r.found r.is)
@@ -38,7 +38,7 @@ pub returns-in_err-my_ref : goal.returns-in_err-my_ref
 returns-in_err-my_ref g c =
     let e = c.in_ok-source.ensures.ok in
     let s = c.index_mut-seat.result.now in
-    let f : Found c.args.name.now c.self.inside.seats.items c.in_ok-source.source.place s = again-found e.found (sym c.index_mut-seat.ensures.value) in
+    let f : FoundSeat c.args.name.now c.self.inside.seats.items c.in_ok-source.source.place s = again-found e.found (sym c.index_mut-seat.ensures.value) in
     let given = again-given (source_block c.args.anchor) (g.S.Words.memory c.self.inside.store) e.found f e.given in
     let r = c.in_ok-recipient.ensures.ok in
     let p = err_from_is_err_and c.from_residual-in_err-my_ref.result c.from_residual-in_err-my_ref.ensures.1 in
@@ -53,7 +53,7 @@ pub offered-requires : goal.offered-requires
 offered-requires g c =
     let e = c.in_ok-source.ensures.ok in
     let s = c.index_mut-seat.result.now in
-    let f : Found c.args.name.now c.self.inside.seats.items c.in_ok-source.source.place s = again-found e.found (sym c.index_mut-seat.ensures.value) in
+    let f : FoundSeat c.args.name.now c.self.inside.seats.items c.in_ok-source.source.place s = again-found e.found (sym c.index_mut-seat.ensures.value) in
     let given = again-given (source_block c.args.anchor) (g.S.Words.memory c.self.inside.store) e.found f e.given in
     let r = c.in_ok-recipient.ensures.ok in
     rw (c.in_ok-my_ref.ensures.ok) (may-open c.self.invariant c.args.anchor c.args.to.now c.args.leaf.now f c.in_ok-source.source.size given)
@@ -62,7 +62,7 @@ pub invariant_of-self-2 : goal.invariant_of-self-2
 invariant_of-self-2 g c =
     let e = c.in_ok-source.ensures.ok in
     let s = c.index_mut-seat.result.now in
-    let f : Found c.args.name.now c.self.inside.seats.items c.in_ok-source.source.place s = again-found e.found (sym c.index_mut-seat.ensures.value) in
+    let f : FoundSeat c.args.name.now c.self.inside.seats.items c.in_ok-source.source.place s = again-found e.found (sym c.index_mut-seat.ensures.value) in
     let given = again-given (source_block c.args.anchor) (g.S.Words.memory c.self.inside.store) e.found f e.given in
     let r = c.in_ok-recipient.ensures.ok in
     let x = rw (c.save_letter-letter.ensures) at c.in_ok-my_ref.ensures in
@@ -73,7 +73,7 @@ pub returns : goal.returns
 returns g c =
     let e = c.in_ok-source.ensures.ok in
     let s = c.index_mut-seat.result.now in
-    let f : Found c.args.name.now c.self.inside.seats.items c.in_ok-source.source.place s = again-found e.found (sym c.index_mut-seat.ensures.value) in
+    let f : FoundSeat c.args.name.now c.self.inside.seats.items c.in_ok-source.source.place s = again-found e.found (sym c.index_mut-seat.ensures.value) in
     let given = again-given (source_block c.args.anchor) (g.S.Words.memory c.self.inside.store) e.found f e.given in
     let r = c.in_ok-recipient.ensures.ok in
     let x = rw (c.save_letter-letter.ensures) at c.in_ok-my_ref.ensures in

@@ -1,4 +1,4 @@
-use Rattle.rh_tasks.proofs.Common.{refl, sym, err_from_is_err_and, task_of, Found, begins, ends, nobody, named-is}
+use Rattle.rh_tasks.proofs.Common.{refl, sym, err_from_is_err_and, task_of, FoundSeat, begins, ends, nobody, named-is}
 use Rattle.rh_defs.specs.Questions.{status_at}
 use Rattle.rh_tasks.proofs.world.World.status.Goals as goal
 
@@ -11,6 +11,6 @@ returns-in_err-i-clause-err g c =
 pub returns-clause-ok : goal.returns-clause-ok
 unfolding status_at task_of
 returns-clause-ok g c =
-    let f : Found c.args.name.now c.self.inside.seats.items c.in_ok-i.i c.index-seat.result.now =
+    let f : FoundSeat c.args.name.now c.self.inside.seats.items c.in_ok-i.i c.index-seat.result.now =
     record { at = c.in_ok-i.ensures.ok; is = sym c.index-seat.ensures } in
     rw (← c.self.view_is, c.records.ensures.value, c.records-2.ensures.value) (begins _ (named-is _ _ _ _ f) refl)

@@ -1,4 +1,5 @@
-use Rattle.rh_wimp.proofs.Common.{◌≡◌, ◌+◌, sym, ap, subst, ◌∙◌, arith, Some, None, ◌==◌, position, poked, word_bytes, heap_in, Chains, IsPost, MayBounce}
+use Rattle.rh_wimp.proofs.Common.{◌≡◌, ◌+◌, sym, ap, subst, ◌∙◌, arith, Some, None, ◌==◌, position, poked, word_bytes, module_heap_in, Chains, ArePostChains}
+use Rattle.rh_wimp.proofs.Common.{MayBounce}
 use Rattle.rh_wimp.proofs.Common.{bounced, Entry, block_within, has-less}
 use Rattle.rh_wimp.proofs.PollLaws.{bounce-has, bounce-from, bounce-last, bounce-gone, bounce-done}
 use Rattle.rh_wimp.proofs.PostLaws.{found-at}
@@ -8,13 +9,13 @@ pub read_word-requires-clause-block : goal.read_word-requires-clause-block
 read_word-requires-clause-block g c =
     let m = g.S.Words.memory c.args.store.now in
     let l = c.requires.loose in
-    has-less c.args.block 24 16 (heap_in m c.args.rma) (omega arith) (bounce-has m c.args.rma c.args.self.now l.0 l.1.0 c.args.block l.1.1)
+    has-less c.args.block 24 16 (module_heap_in m c.args.rma) (omega arith) (bounce-has m c.args.rma c.args.self.now l.0 l.1.0 c.args.block l.1.1)
 
 pub free-requires-clause-block : goal.free-requires-clause-block
 free-requires-clause-block g c =
     let m = g.S.Words.memory c.args.store.now in
     let l = c.requires.loose in
-    has-less c.args.block 24 4 (heap_in m c.args.rma) (omega arith) (bounce-has m c.args.rma c.args.self.now l.0 l.1.0 c.args.block l.1.1)
+    has-less c.args.block 24 4 (module_heap_in m c.args.rma) (omega arith) (bounce-has m c.args.rma c.args.self.now l.0 l.1.0 c.args.block l.1.1)
 
 pub returns-in_default-clause-spells : goal.returns-in_default-clause-spells
 returns-in_default-clause-spells g c = λ post p b.
@@ -24,14 +25,14 @@ returns-in_default-clause-spells g c = λ post p b.
     let from = bounce-from m c.args.rma q post p c.args.block b' c.read_word.result c.read_word.ensures in
     let none : position (λ (e : Entry). e.handle == p.message.from) q.entries ≡ None =
     ap (λ n. position (λ (e : Entry). e.handle == n) q.entries) (sym from) ∙ sym c.in_default.ensures in
-    subst (λ (x : Chains). IsPost (heap_in (g.S.Words.memory c.free.new.store) c.args.rma) x (bounced p post)) c.self.view_is
-    (bounce-gone m c.args.rma q post p c.args.block b' none (heap_in (g.S.Words.memory c.free.new.store) c.args.rma) c.free.ensures.heap)
+    subst (λ (x : Chains). ArePostChains (module_heap_in (g.S.Words.memory c.free.new.store) c.args.rma) x (bounced p post)) c.self.view_is
+    (bounce-gone m c.args.rma q post p c.args.block b' none (module_heap_in (g.S.Words.memory c.free.new.store) c.args.rma) c.free.ensures.heap)
 
 pub write_word-requires-clause-block : goal.write_word-requires-clause-block
 write_word-requires-clause-block g c =
     let m = g.S.Words.memory c.args.store.now in
     let l = c.requires.loose in
-    has-less c.args.block 24 8 (heap_in m c.args.rma) (omega arith) (bounce-has m c.args.rma c.args.self.now l.0 l.1.0 c.args.block l.1.1)
+    has-less c.args.block 24 8 (module_heap_in m c.args.rma) (omega arith) (bounce-has m c.args.rma c.args.self.now l.0 l.1.0 c.args.block l.1.1)
 
 pub append-requires-clause-last : goal.append-requires-clause-last
 append-requires-clause-last g c =
@@ -63,8 +64,8 @@ returns-clause-spells g c = λ post p b.
     let from = bounce-from m c.args.rma q post p c.args.block b' c.read_word.result c.read_word.ensures in
     let some : position (λ (e : Entry). e.handle == p.message.from) q.entries ≡ Some c.in-Some.to =
     ap (λ n. position (λ (e : Entry). e.handle == n) q.entries) (sym from) ∙ sym c.in-Some.ensures in
-    subst (λ es. IsPost (heap_in k c.args.rma) (record { entries = es; live = q.live + 1; next_ref = q.next_ref }) (bounced p post))
+    subst (λ es. ArePostChains (module_heap_in k c.args.rma) (record { entries = es; live = q.live + 1; next_ref = q.next_ref }) (bounced p post))
     (sym c.append.ensures.entries)
-    (bounce-done m c.args.rma q post p c.args.block b' c.in-Some.to some (heap_in (g.S.Words.memory c.write_word.new.store) c.args.rma)
-    (heap_in k c.args.rma) (c.write_word.ensures.heap ∙ ap (λ n. poked c.args.block 4 (word_bytes n) (heap_in m c.args.rma)) c.number.ensures)
+    (bounce-done m c.args.rma q post p c.args.block b' c.in-Some.to some (module_heap_in (g.S.Words.memory c.write_word.new.store) c.args.rma)
+    (module_heap_in k c.args.rma) (c.write_word.ensures.heap ∙ ap (λ n. poked c.args.block 4 (word_bytes n) (module_heap_in m c.args.rma)) c.number.ensures)
     c.append.ensures.heap.heap)

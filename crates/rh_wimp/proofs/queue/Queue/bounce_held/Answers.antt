@@ -1,4 +1,5 @@
-use Rattle.rh_wimp.proofs.Common.{ℕ, refl, sym, subst, heap_in, Chains, IsPost, SpellsPost, MayBounce, emptied_chains, entry_at, Post, bounce_held, held_by}
+use Rattle.rh_wimp.proofs.Common.{ℕ, refl, sym, subst, module_heap_in, Chains, ArePostChains, SpellsPostIn, MayBounce, emptied_chains, entry_at, Post}
+use Rattle.rh_wimp.proofs.Common.{bounce_held, held_by}
 use Rattle.rh_wimp.proofs.Common.{lifted}
 use Rattle.rh_wimp.proofs.PollLaws.{HoldsOne, holds-one, holds-none, may-bounce}
 use Rattle.rh_wimp.proofs.queue.Queue.bounce_held.Goals as goal
@@ -6,8 +7,9 @@ use Rattle.rh_wimp.proofs.queue.Queue.bounce_held.Goals.{In-Some}
 use Rattle.rh_wimp.proofs.queue.Queue.bounce_held.Given as given
 
 -- the message that was held may bounce
-may : (g : given.Over) (c : In-Some g) (post : Post) → SpellsPost (g.S.Words.memory c.args.store.now) c.args.rma c.args.self.now post
-    → (w : HoldsOne (heap_in (g.S.Words.memory c.args.store.now) c.args.rma) c.args.self.now post (entry_at c.args.self.now.entries c.args.at).handle c.args.at)
+may : (g : given.Over) (c : In-Some g) (post : Post) → SpellsPostIn (g.S.Words.memory c.args.store.now) c.args.rma c.args.self.now post
+    → (w : HoldsOne (module_heap_in (g.S.Words.memory c.args.store.now) c.args.rma) c.args.self.now post
+    (entry_at c.args.self.now.entries c.args.at).handle c.args.at)
     × MayBounce (g.S.Words.memory c.args.store.now) c.args.rma c.lift_held.new.self (lifted (entry_at c.args.self.now.entries c.args.at).handle post)
     w.parcel c.in-Some.block
 may g c post s =
@@ -15,7 +17,7 @@ may g c post s =
     let q = c.args.self.now in
     let x : ℕ = (entry_at q.entries c.args.at).handle in
     let e = c.in-Some.ensures.held in
-    let w = holds-one (heap_in m c.args.rma) q post x c.args.at s c.requires.within refl e.1 in (
+    let w = holds-one (module_heap_in m c.args.rma) q post x c.args.at s c.requires.within refl e.1 in (
       w,
       subst (λ (k : Chains). MayBounce m c.args.rma k (lifted x post) w.parcel c.in-Some.block) (sym e.2)
           (subst (λ b. MayBounce m c.args.rma (emptied_chains c.args.at q) (lifted x post) w.parcel b) (sym e.0)
@@ -32,13 +34,14 @@ returns-in-Some-clause-spells g c = λ post s.
     let k = g.S.Words.memory c.bounce.new.store in
     let x : ℕ = (entry_at c.args.self.now.entries c.args.at).handle in
     let w = may g (goal.at.returns-in-Some-clause-spells g c).In-Some post s in
-    subst (λ o. IsPost (heap_in k c.args.rma) c.bounce.new.self (bounce_held x o post)) (sym w.0.held) (c.bounce.ensures.spells (lifted x post) w.0.parcel w.1)
+    subst (λ o. ArePostChains (module_heap_in k c.args.rma) c.bounce.new.self (bounce_held x o post)) (sym w.0.held)
+    (c.bounce.ensures.spells (lifted x post) w.0.parcel w.1)
 
 pub returns-in_default-clause-spells : goal.returns-in_default-clause-spells
 returns-in_default-clause-spells g c = λ post s.
-    let h = heap_in (g.S.Words.memory c.args.store.now) c.args.rma in
+    let h = module_heap_in (g.S.Words.memory c.args.store.now) c.args.rma in
     let x : ℕ = (entry_at c.args.self.now.entries c.args.at).handle in
     let e = c.in_default.ensures.none in
     let none = holds-none h c.args.self.now post x c.args.at s c.requires.within refl e.0 in
-    subst (λ (k : Chains). IsPost h k (bounce_held x (held_by x post.seats) post)) (sym e.1)
-    (subst (λ b. IsPost h c.args.self.now (bounce_held x b post)) (sym none) s)
+    subst (λ (k : Chains). ArePostChains h k (bounce_held x (held_by x post.seats) post)) (sym e.1)
+    (subst (λ b. ArePostChains h c.args.self.now (bounce_held x b post)) (sym none) s)

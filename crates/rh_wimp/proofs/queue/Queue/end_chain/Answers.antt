@@ -1,5 +1,6 @@
-use Rattle.rh_wimp.proofs.Common.{ℕ, ◌+◌, ◌≤◌, length, List, ap, subst, ◌∙◌, arith, Option, Some, None, Parcel, Post, most_messages, OnlyArea-both, heap_in}
-use Rattle.rh_wimp.proofs.Common.{Lifted, SpellsPost, entry_at, ended_from, queue_to}
+use Rattle.rh_wimp.proofs.Common.{ℕ, ◌+◌, ◌≤◌, length, List, ap, subst, ◌∙◌, arith, Option, Some, None, Parcel, Post, most_messages, OnlyArea-both}
+use Rattle.rh_wimp.proofs.Common.{module_heap_in}
+use Rattle.rh_wimp.proofs.Common.{Lifted, SpellsPostIn, entry_at, ended_from, queue_to}
 use Rattle.rh_defs.proofs.MemoryLaws.{OnlyArea-self}
 use Rattle.rh_wimp.specs.Chains.{LiftsFirst}
 use Rattle.rh_wimp.proofs.DeathLaws.{seats-ended}
@@ -31,7 +32,7 @@ pub lift_first-requires-clause-post : goal.lift_first-requires-clause-post
 lift_first-requires-clause-post g c = let d = c.loop-turn.invariant.drains c.requires.post.0 c.requires.post.1 in (d.0, d.1.spells)
 
 -- what the call took off
-lifts : (g : given.Over) (c : After-lift_first g) (now : Post) → SpellsPost (g.S.Words.memory c.loop-turn.store) c.args.rma c.loop-turn.self now
+lifts : (g : given.Over) (c : After-lift_first g) (now : Post) → SpellsPostIn (g.S.Words.memory c.loop-turn.store) c.args.rma c.loop-turn.self now
     → LiftsFirst (g.S.Words.memory c.lift_first.new.store) c.args.rma c.lift_first.new.self now c.args.dying c.lift_first.result
 lifts g c now s =
     subst (λ y. LiftsFirst (g.S.Words.memory c.lift_first.new.store) c.args.rma c.lift_first.new.self now y c.lift_first.result) c.loop-turn.invariant.handle
@@ -53,7 +54,7 @@ returns-in_default-clause-only g c =
     c.loop-turn.invariant.only c.lift_first.ensures.only
 
 -- the message that was taken off
-first : (g : given.Over) (c : In-Some g) (now : Post) → SpellsPost (g.S.Words.memory c.loop-turn.store) c.args.rma c.loop-turn.self now
+first : (g : given.Over) (c : In-Some g) (now : Post) → SpellsPostIn (g.S.Words.memory c.loop-turn.store) c.args.rma c.loop-turn.self now
     → (t : Parcel × List Parcel) × Lifted (g.S.Words.memory c.lift_first.new.store) c.args.rma c.lift_first.new.self now c.args.dying c.in-Some.block t
 first g c now s =
     let w : LiftsFirst (g.S.Words.memory c.lift_first.new.store) c.args.rma c.lift_first.new.self now (entry_at c.loop-turn.self.entries c.args.at).handle
@@ -80,7 +81,8 @@ loop-turn-preserved g c =
     let d = i.drains c.requires.post.0 c.requires.post.1 in
     let w = first g o d.0 d.1.spells in
     let e = seats-ended x w.0.0 (rest_of w.0.1 d.0) in
-    let t = place-stays (heap_in m c.args.rma) (heap_in k c.args.rma) c.loop-turn.self c.end_message.new.self d.0 (ended_from x w.0.0 (rest_of w.0.1 d.0))
+    let t = place-stays (module_heap_in m c.args.rma) (module_heap_in k c.args.rma) c.loop-turn.self c.end_message.new.self d.0
+    (ended_from x w.0.0 (rest_of w.0.1 d.0))
     c.args.at (ap length e) (ap (λ ss. (seat_at ss c.args.at).handle) e)
     d.1.spells (c.end_message.ensures.spells (rest_of w.0.1 d.0) w.0.0 w.1.may) i.within in
     record {

@@ -1,4 +1,4 @@
-use Rattle.rh_wimp.proofs.Common.{sym, subst, ◌∙◌, heap_in, Chains, SpellsPost, rows_of, wants}
+use Rattle.rh_wimp.proofs.Common.{sym, subst, ◌∙◌, module_heap_in, Chains, SpellsPostIn, rows_of, wants}
 use Rattle.rh_defs.specs.Post.{post_is_message}
 use Rattle.rh_wimp.specs.declared.searching.Wanted.TheVariants.{At}
 use Rattle.rh_wimp.proofs.SearchLaws.{rows-have, short-rows}
@@ -9,13 +9,13 @@ any_entry-requires-clause-rows g c =
     let m = g.S.Words.memory c.args.store.now in
     let post = c.requires.post in
     let q : Chains = record { entries = c.self.inside.entries.items; live = c.self.inside.live; next_ref = c.self.inside.next_ref } in
-    let s : SpellsPost m c.args.rma q post = subst (λ (k : Chains). SpellsPost m c.args.rma k post) (sym c.self.view_is) c.requires.spells in
-    (rows_of post, (s.rows, short-rows (heap_in m c.args.rma) q post s))
+    let s : SpellsPostIn m c.args.rma q post = subst (λ (k : Chains). SpellsPostIn m c.args.rma k post) (sym c.self.view_is) c.requires.spells in
+    (rows_of post, (s.rows, short-rows (module_heap_in m c.args.rma) q post s))
 
 pub returns : goal.returns
 unfolding post_is_message
 returns g c = λ post s'.
     let m = g.S.Words.memory c.args.store.now in
     let q : Chains = record { entries = c.self.inside.entries.items; live = c.self.inside.live; next_ref = c.self.inside.next_ref } in
-    let s : SpellsPost m c.args.rma q post = subst (λ (k : Chains). SpellsPost m c.args.rma k post) (sym c.self.view_is) s' in
-    c.any_entry.ensures (rows_of post) s.rows (short-rows (heap_in m c.args.rma) q post s) ∙ rows-have (wants (At c.args.block)) post s.recipients
+    let s : SpellsPostIn m c.args.rma q post = subst (λ (k : Chains). SpellsPostIn m c.args.rma k post) (sym c.self.view_is) s' in
+    c.any_entry.ensures (rows_of post) s.rows (short-rows (module_heap_in m c.args.rma) q post s) ∙ rows-have (wants (At c.args.block)) post s.recipients

@@ -1,4 +1,4 @@
-use Rattle.rh_wimp.proofs.Common.{◌≡◌, ◌<◌, length, refl, sym, ap, subst, ◌∙◌, None, option_map, OnlyArea-both, heap_in, Chains, SpellsPost, HasEntry}
+use Rattle.rh_wimp.proofs.Common.{◌≡◌, ◌<◌, length, refl, sym, ap, subst, ◌∙◌, None, option_map, OnlyArea-both, module_heap_in, Chains, SpellsPostIn, HasEntry}
 use Rattle.rh_wimp.proofs.Common.{entry_at, Post, held_by, first_for, taken_from, bounce_held, post_poll}
 use Rattle.rh_defs.proofs.PostLaws.{post_poll-handles}
 use Rattle.rh_wimp.proofs.LeavesLaws.{handles-stay, left}
@@ -38,16 +38,17 @@ place g c =
 abbrev between : (g : given.Over) (c : After-bounce_held g) → Post → Post
 between g c post = bounce_held c.args.handle (held_by c.args.handle post.seats) post
 
-spelled : (g : given.Over) (c : After-bounce_held g) (post : Post) → SpellsPost (g.S.Words.memory c.args.store.now) c.args.rma c.args.self.now post
-    → SpellsPost (g.S.Words.memory c.bounce_held.new.store) c.args.rma c.bounce_held.new.self (between g c post)
+spelled : (g : given.Over) (c : After-bounce_held g) (post : Post) → SpellsPostIn (g.S.Words.memory c.args.store.now) c.args.rma c.args.self.now post
+    → SpellsPostIn (g.S.Words.memory c.bounce_held.new.store) c.args.rma c.bounce_held.new.self (between g c post)
 spelled g c post s =
-    subst (λ x. SpellsPost (g.S.Words.memory c.bounce_held.new.store) c.args.rma c.bounce_held.new.self (bounce_held x (held_by x post.seats) post))
+    subst (λ x. SpellsPostIn (g.S.Words.memory c.bounce_held.new.store) c.args.rma c.bounce_held.new.self (bounce_held x (held_by x post.seats) post))
     (place g c).1 (c.bounce_held.ensures.spells post s)
 
-there : (g : given.Over) (c : After-bounce_held g) (post : Post) → SpellsPost (g.S.Words.memory c.args.store.now) c.args.rma c.args.self.now post
+there : (g : given.Over) (c : After-bounce_held g) (post : Post) → SpellsPostIn (g.S.Words.memory c.args.store.now) c.args.rma c.args.self.now post
     → (c.in-Some.at < length c.bounce_held.new.self.entries) × ((entry_at c.bounce_held.new.self.entries c.in-Some.at).handle ≡ c.args.handle)
 there g c post s =
-    let w = stays (heap_in (g.S.Words.memory c.args.store.now) c.args.rma) (heap_in (g.S.Words.memory c.bounce_held.new.store) c.args.rma) c.args.self.now
+    let w = stays (module_heap_in (g.S.Words.memory c.args.store.now) c.args.rma)
+    (module_heap_in (g.S.Words.memory c.bounce_held.new.store) c.args.rma) c.args.self.now
     c.bounce_held.new.self post c.args.handle c.in-Some.at
     (held_by c.args.handle post.seats) s (spelled g c post s) (place g c).0 in
     (w.within, w.handle ∙ (place g c).1)
@@ -82,7 +83,7 @@ returns-clause-leaves g c = left c.requires.queue (λ post s.
     let w = there g o post s in
     let none = held-after c.args.handle (held_by c.args.handle post.seats) post refl in
     let before = between g o post in
-    subst (λ x. SpellsPost (g.S.Words.memory c.take.new.store) c.args.rma c.take.new.self (taken_from x (first_for x before.queued) before).0) w.1
+    subst (λ x. SpellsPostIn (g.S.Words.memory c.take.new.store) c.args.rma c.take.new.self (taken_from x (first_for x before.queued) before).0) w.1
     (c.take.ensures.spells before (spelled g o post s) (subst (λ x. held_by x before.seats ≡ None) (sym w.1) none)))
     c.take.ensures.module (OnlyArea-both (g.S.Words.memory c.args.store.now) (g.S.Words.memory c.bounce_held.new.store) (g.S.Words.memory c.take.new.store)
     c.args.rma.area.0 c.bounce_held.ensures.only c.take.ensures.only)
@@ -91,5 +92,5 @@ pub returns-clause-handles : goal.returns-clause-handles
 returns-clause-handles g c =
     let post = c.requires.queue.post in
     let l = (returns-clause-leaves g c).spells post c.requires.queue.spells in
-    handles-stay (heap_in (g.S.Words.memory c.args.store.now) c.args.rma) (heap_in (g.S.Words.memory c.take.new.store) c.args.rma) c.args.self.now
+    handles-stay (module_heap_in (g.S.Words.memory c.args.store.now) c.args.rma) (module_heap_in (g.S.Words.memory c.take.new.store) c.args.rma) c.args.self.now
     c.take.new.self post (post_poll c.args.handle post).0 c.requires.queue.spells l (post_poll-handles c.args.handle post)

@@ -1,5 +1,6 @@
 use Rattle.rh_wimp.proofs.Common.{◌≡◌, ℕ, ◌+◌, ◌-◌, ◌<◌, length, sym, ap, subst, ◌∙◌, arith, err_from_is_err_and, Ok, None, answer_of, left_of, Memory}
-use Rattle.rh_wimp.proofs.Common.{OnlyArea, OnlyArea-both, IsModule, heap_in, HasBlock, Chains, RowsLie, IsPost, SpellsPost, HasEntry, entry_at, rows_of}
+use Rattle.rh_wimp.proofs.Common.{OnlyArea, OnlyArea-both, IsModule, module_heap_in, HasBlock, Chains, RowsLie, ArePostChains, SpellsPostIn, HasEntry, entry_at}
+use Rattle.rh_wimp.proofs.Common.{rows_of}
 use Rattle.rh_wimp.proofs.Common.{Post, held_by, block_within}
 use Rattle.rh_defs.proofs.MemoryLaws.{OnlyArea-self}
 use Rattle.rh_defs.proofs.PostLaws.{post_send-handles}
@@ -17,21 +18,21 @@ pub returns-in_err-to-clause-answer : goal.returns-in_err-to-clause-answer
 returns-in_err-to-clause-answer g c = λ post p.
     let m = g.S.Words.memory c.args.store.now in
     let e = err_from_is_err_and c.from_residual.result c.from_residual.ensures.1 in
-    let refused = send-refused (heap_in m c.args.rma) c.args.self.now post m.free c.args.letter c.in_err-to.field-0.0 p c.in_err-to.ensures.refused in
+    let refused = send-refused (module_heap_in m c.args.rma) c.args.self.now post m.free c.args.letter c.in_err-to.field-0.0 p c.in_err-to.ensures.refused in
     rw (e.1, e.2) (sym (ap answer_of refused))
 
 pub returns-in_err-to-clause-leaves : goal.returns-in_err-to-clause-leaves
 returns-in_err-to-clause-leaves g c = left c.requires.queue (λ post p.
     let m = g.S.Words.memory c.args.store.now in
-    let refused = send-refused (heap_in m c.args.rma) c.args.self.now post m.free c.args.letter c.in_err-to.field-0.0 p c.in_err-to.ensures.refused in
-    subst (λ r. IsPost (heap_in m c.args.rma) c.args.self.now (left_of post r)) (sym refused) p) c.requires.queue.area (OnlyArea-self
+    let refused = send-refused (module_heap_in m c.args.rma) c.args.self.now post m.free c.args.letter c.in_err-to.field-0.0 p c.in_err-to.ensures.refused in
+    subst (λ r. ArePostChains (module_heap_in m c.args.rma) c.args.self.now (left_of post r)) (sym refused) p) c.requires.queue.area (OnlyArea-self
     (g.S.Words.memory c.args.store.now) c.args.rma.area.0 c.requires.queue.area.opened)
 
 pub returns-in_err-block-clause-answer : goal.returns-in_err-block-clause-answer
 returns-in_err-block-clause-answer g c = λ post p.
     let m = g.S.Words.memory c.args.store.now in
     let e = err_from_is_err_and c.from_residual-in_err-block.result c.from_residual-in_err-block.ensures.1 in
-    let refused = send-short (heap_in m c.args.rma) c.args.self.now post m.free c.args.letter c.in_err-block.field-0.0 p c.in_ok-to.ensures.ok
+    let refused = send-short (module_heap_in m c.args.rma) c.args.self.now post m.free c.args.letter c.in_err-block.field-0.0 p c.in_ok-to.ensures.ok
     c.in_err-block.ensures.answer in
     rw (e.1, e.2) (sym (ap answer_of refused))
 
@@ -41,17 +42,18 @@ returns-in_err-block-clause-leaves g c =
     let same = sym c.in_err-block.ensures.err in
     left c.requires.queue (λ post p.
     let m = g.S.Words.memory c.args.store.now in
-    let refused = send-short (heap_in m c.args.rma) c.args.self.now post m.free c.args.letter c.in_err-block.field-0.0 p c.in_ok-to.ensures.ok
+    let refused = send-short (module_heap_in m c.args.rma) c.args.self.now post m.free c.args.letter c.in_err-block.field-0.0 p c.in_ok-to.ensures.ok
     c.in_err-block.ensures.answer in
-    subst (λ (n : Memory). IsPost (heap_in n c.args.rma) c.args.self.now (left_of post (post_send m.free c.args.letter post))) (sym c.in_err-block.ensures.err)
-    (subst (λ r. IsPost (heap_in m c.args.rma) c.args.self.now (left_of post r)) (sym refused) p))
+    subst (λ (n : Memory). ArePostChains (module_heap_in n c.args.rma) c.args.self.now (left_of post (post_send m.free c.args.letter post)))
+    (sym c.in_err-block.ensures.err)
+    (subst (λ r. ArePostChains (module_heap_in m c.args.rma) c.args.self.now (left_of post r)) (sym refused) p))
     (subst (λ (n : Memory). IsModule n c.args.rma) same c.requires.queue.area)
     (subst (λ (n : Memory). OnlyArea m n c.args.rma.area.0) same (OnlyArea-self m c.args.rma.area.0 c.requires.queue.area.opened))
 
 -- ---- the block
 there : (g : given.Over) (c : In_ok-block g) → IsModule (g.S.Words.memory c.place.new.store) c.args.rma ×
     (OnlyArea (g.S.Words.memory c.args.store.now) (g.S.Words.memory c.place.new.store) c.args.rma.area.0 × HasBlock c.in_ok-block.block 0
-    (heap_in (g.S.Words.memory c.place.new.store) c.args.rma))
+    (module_heap_in (g.S.Words.memory c.place.new.store) c.args.rma))
 there g c = new-there (g.S.Words.memory c.args.store.now) (g.S.Words.memory c.place.new.store) c.args.rma _ c.in_ok-block.block _
     c.in_ok-block.ensures.answer c.in_ok-block.ensures.placed
 
@@ -64,10 +66,10 @@ seen g c = record { entries = c.self.inside.entries.items; live = c.self.inside.
 
 abbrev Asks : (g : given.Over) (c : In_ok-block g) → Chains → Post → Type 0
 Asks g c q post =
-    SpellsPost (g.S.Words.memory c.args.store.now) c.args.rma q post × (refusal_for c.args.letter.to q ≡ None) × (c.in_ok-to.to < length q.entries)
+    SpellsPostIn (g.S.Words.memory c.args.store.now) c.args.rma q post × (refusal_for c.args.letter.to q ≡ None) × (c.in_ok-to.to < length q.entries)
     × ((entry_at q.entries c.in_ok-to.to).handle ≡ c.args.letter.to) × HasEntry c.args.letter.from q
 
-asks : (g : given.Over) (c : In_ok-block g) (post : Post) → SpellsPost (g.S.Words.memory c.args.store.now) c.args.rma c.args.self.now post
+asks : (g : given.Over) (c : In_ok-block g) (post : Post) → SpellsPostIn (g.S.Words.memory c.args.store.now) c.args.rma c.args.self.now post
     → Asks g c (seen g c) post
 unfolding seen
 asks g c post p =
@@ -89,7 +91,7 @@ append-requires-clause-small g c =
     omega (arith, block_within n c.args.rma c.in_ok-block.block 0 w.0 w.1.1, g.met.S.Words.small c.place.new.store c.args.rma.area.0)
 
 -- ---- the letter, claimed, written and linked
-joined : (g : given.Over) (c : In_ok-block g) (k : Memory) (post : Post) → SpellsPost (g.S.Words.memory c.args.store.now) c.args.rma c.args.self.now post
+joined : (g : given.Over) (c : In_ok-block g) (k : Memory) (post : Post) → SpellsPostIn (g.S.Words.memory c.args.store.now) c.args.rma c.args.self.now post
     → Relinks (g.S.Words.memory c.place.new.store) k c.args.rma (entry_at c.self.inside.entries.items c.in_ok-to.to).last c.in_ok-block.block
     → Joined (g.S.Words.memory c.args.store.now) (g.S.Words.memory c.place.new.store) k c.args.rma (seen g c) post c.args.letter c.in_ok-to.to
     c.in_ok-block.block
@@ -106,7 +108,7 @@ answer-freed-requires-clause-rows g c =
     let o = (goal.at.answer-freed-requires-clause-rows g c).In_ok-block in
     let j = joined g o (g.S.Words.memory c.append.new.store) c.requires.queue.post c.requires.queue.spells c.append.ensures.heap in (
       rows_of (queued_in c.args.letter (j.plain, c.in_ok-block.block) c.requires.queue.post),
-      subst (λ es. RowsLie (heap_in (g.S.Words.memory c.append.new.store) c.args.rma) es
+      subst (λ es. RowsLie (module_heap_in (g.S.Words.memory c.append.new.store) c.args.rma) es
           (rows_of (queued_in c.args.letter (j.plain, c.in_ok-block.block) c.requires.queue.post))) (sym c.append.ensures.entries) j.spells.rows,
     )
 
@@ -125,7 +127,7 @@ returns-clause-answer g c = λ post p.
     let m = g.S.Words.memory c.args.store.now in
     let a = asks g o post p in
     let j = joined g o (g.S.Words.memory c.append.new.store) post p c.append.ensures.heap in
-    ap Ok a.0.next_ref ∙ sym (ap answer_of (send-granted (heap_in m c.args.rma) (seen g o) post m.free c.args.letter (j.plain, c.in_ok-block.block)
+    ap Ok a.0.next_ref ∙ sym (ap answer_of (send-granted (module_heap_in m c.args.rma) (seen g o) post m.free c.args.letter (j.plain, c.in_ok-block.block)
     j.admitted j.granted))
 
 pub returns-clause-leaves : goal.returns-clause-leaves
@@ -143,8 +145,8 @@ returns-clause-leaves g c = left c.requires.queue (λ post p.
     let j = joined g o n post p c.append.ensures.heap in
     let new : Post = queued_in l (j.plain, b) post in
     let i : ℕ = a.4.0 in
-    let w = owns-longer (heap_in m c.args.rma) (heap_in n c.args.rma) q post l to b i j.plain j.spells a.2 a.4.1.0 a.4.1.1 in
-    let rows = subst (λ es. RowsLie (heap_in n c.args.rma) es (rows_of new)) (sym c.append.ensures.entries) j.spells.rows in
+    let w = owns-longer (module_heap_in m c.args.rma) (module_heap_in n c.args.rma) q post l to b i j.plain j.spells a.2 a.4.1.0 a.4.1.1 in
+    let rows = subst (λ es. RowsLie (module_heap_in n c.args.rma) es (rows_of new)) (sym c.append.ensures.entries) j.spells.rows in
     let settled = c.answer-freed.ensures.settles (rows_of new) i rows w.row w.named in
     let settled' : Settled n k c.args.rma (longer_chains to b q).entries c.answer-freed.new.entries.items i l.your_ref (held_by l.from post.seats)
     c.answer-freed.result =
@@ -153,9 +155,9 @@ returns-clause-leaves g c = left c.requires.queue (λ post p.
     (subst (λ x. Settled n k c.args.rma c.append.new.entries.items c.answer-freed.new.entries.items i l.your_ref x c.answer-freed.result) w.held settled) in
     let done = letter-settled n k c.args.rma q post l to b i c.answer-freed.result j.plain c.answer-freed.new.entries.items j.spells w.entry w.handle
     settled' in
-    subst (λ r. IsPost (heap_in k c.args.rma)
+    subst (λ r. ArePostChains (module_heap_in k c.args.rma)
     (record { entries = c.answer-freed.new.entries.items; live = q.live + 1 - c.answer-freed.result; next_ref = q.next_ref + 1 }) (left_of post r))
-    (sym (send-granted (heap_in m c.args.rma) q post m.free l (j.plain, b) j.admitted j.granted)) done)
+    (sym (send-granted (module_heap_in m c.args.rma) q post m.free l (j.plain, b) j.admitted j.granted)) done)
     c.answer-freed.ensures.module (let w = there g (goal.at.returns-clause-leaves g c).In_ok-block in
     OnlyArea-both (g.S.Words.memory c.args.store.now) (g.S.Words.memory c.place.new.store) (g.S.Words.memory c.answer-freed.new.store) c.args.rma.area.0 w.1.0
     (OnlyArea-both (g.S.Words.memory c.place.new.store) (g.S.Words.memory c.append.new.store) (g.S.Words.memory c.answer-freed.new.store) c.args.rma.area.0
@@ -167,5 +169,5 @@ returns-clause-handles g c =
     let k = g.S.Words.memory c.answer-freed.new.store in
     let post = c.requires.queue.post in
     let l = (returns-clause-leaves g c).spells post c.requires.queue.spells in
-    handles-stay (heap_in m c.args.rma) (heap_in k c.args.rma) c.args.self.now _ post (left_of post (post_send m.free c.args.letter post))
+    handles-stay (module_heap_in m c.args.rma) (module_heap_in k c.args.rma) c.args.self.now _ post (left_of post (post_send m.free c.args.letter post))
     c.requires.queue.spells l (post_send-handles m.free c.args.letter post)

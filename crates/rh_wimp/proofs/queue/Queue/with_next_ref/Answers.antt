@@ -1,15 +1,15 @@
-use Rattle.rh_wimp.proofs.Common.{[], sym, subst, ◌∙◌, Post, heap_in, IsPost}
+use Rattle.rh_wimp.proofs.Common.{[], sym, subst, ◌∙◌, Post, module_heap_in, ArePostChains}
 use Rattle.rh_wimp.proofs.JoinLaws.{start-spells}
 use Rattle.rh_wimp.proofs.queue.Queue.with_next_ref.Goals as goal
 
 pub returns-clause-starts : goal.returns-clause-starts
 returns-clause-starts c = λ m rma w.
-    let h = heap_in m rma in
+    let h = module_heap_in m rma in
     let p : Post = record { seats = []; queued = []; heap = h; next_ref = c.args.next_ref } in
     record {
       area = w;
       post = p;
-      spells = subst (λ es. IsPost h (record { entries = es; live = 0; next_ref = c.from.result }) p) (sym c.new.ensures)
-          (subst (λ r. IsPost h (record { entries = []; live = 0; next_ref = r }) p) (sym (c.from.ensures ∙ c.next_ref.view_is))
+      spells = subst (λ es. ArePostChains h (record { entries = es; live = 0; next_ref = c.from.result }) p) (sym c.new.ensures)
+          (subst (λ r. ArePostChains h (record { entries = []; live = 0; next_ref = r }) p) (sym (c.from.ensures ∙ c.next_ref.view_is))
           (start-spells h c.args.next_ref));
     }

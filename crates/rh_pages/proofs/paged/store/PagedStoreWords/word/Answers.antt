@@ -1,4 +1,4 @@
-use Rattle.rh_pages.proofs.Common.{◌∙◌, arith, bytes, memory_of, region_of}
+use Rattle.rh_pages.proofs.Common.{◌∙◌, arith, bytes, paged_memory, region_of}
 use Rattle.rh_pages.proofs.Regions.{word_there}
 use Rattle.rh_pages.proofs.Seats.{seat, on_from_place}
 use Rattle.rh_pages.proofs.paged.store.PagedStoreWords.word.Goals as goal
@@ -13,4 +13,4 @@ returns-then-offset g c =
     let s = c.args.self.now in
     let there = seat s c.args.id.0 c.args.at 4 _ c.requires.opened (omega arith) c.requires.within (let t = c.if-offset.true in omega arith)
     (on_from_place s c.args.id.0 c.args.at c.place-start.result c.place-start.ensures.value) in
-    c.word.ensures ∙ word_there (region_of s) (bytes (memory_of s) c.args.id.0) _ c.args.at there.within there.read
+    c.word.ensures ∙ word_there (region_of s) (bytes (paged_memory s) c.args.id.0) _ c.args.at there.within there.read

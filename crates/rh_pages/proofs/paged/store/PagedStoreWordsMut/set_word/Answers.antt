@@ -1,4 +1,4 @@
-use Rattle.rh_pages.proofs.Common.{refl, ◌∙◌, arith, w32, memory_of, region_of}
+use Rattle.rh_pages.proofs.Common.{refl, ◌∙◌, arith, w32, paged_memory, region_of}
 use Rattle.std.specs.Int.{to_le_bytes}
 use Rattle.rh_defs.specs.Bytes.{put_word}
 use Rattle.rh_pages.proofs.Regions.{run_put}
@@ -22,7 +22,7 @@ invariant_of-self g c =
     }
 
 pub returns-then-offset : goal.returns-then-offset
-unfolding memory_of put_word
+unfolding paged_memory put_word
 returns-then-offset g c =
     let s = c.args.self.now in let ws = to_le_bytes w32 c.args.w in
     let there = seat s c.args.id.0 c.args.at 4 _ c.requires.opened (omega arith) c.requires.within (let t = c.if-offset.true in omega arith)
