@@ -67,14 +67,14 @@ fn each_byte_of_an_image_changed(rt: HostRuntime) {
 
 /// Numbers that look random, the same in each run.
 #[derive(Drop)]
-pub(crate) struct Numbers {
+pub(crate) struct RandomNumbers {
     last: u32,
 }
 
-impl Numbers {
+impl RandomNumbers {
     /// The first of them is still to come.
-    pub(crate) fn new() -> Numbers {
-        Numbers { last: 1 }
+    pub(crate) fn new() -> RandomNumbers {
+        RandomNumbers { last: 1 }
     }
 
     /// One of the numbers below a limit.
@@ -108,7 +108,7 @@ pub(crate) fn put_word(image: &mut [u8], place: usize, word: u32) {
 }
 
 /// Fills an image with such words, behind a descriptor that is mostly right.
-fn scribble(numbers: &mut Numbers, image: &mut [u8]) {
+fn scribble(numbers: &mut RandomNumbers, image: &mut [u8]) {
     for place in (0..image.len()).step_by(4) {
         put_word(image, place, numbers.word());
     }
@@ -121,7 +121,7 @@ fn scribble(numbers: &mut Numbers, image: &mut [u8]) {
 
 #[test]
 fn random_images(rt: HostRuntime) {
-    let mut numbers = Numbers::new();
+    let mut numbers = RandomNumbers::new();
     let mut taken = 0u32;
     for _image in 0..IMAGES {
         let mut image = [0; 128];
@@ -146,7 +146,7 @@ fn empty_heap<S: Store>(store: &mut S) -> Result<Span, StoreFault>
 }
 
 /// Claims a block, or releases one if it is where a block may be.
-fn change<S: WordsMut>(store: &mut S, span: Span, numbers: &mut Numbers)
+fn change<S: WordsMut>(store: &mut S, span: Span, numbers: &mut RandomNumbers)
     requires { IsSpan (S.memory store.old) span }
     ensures { IsSpan (S.memory store.new) span }
 {
@@ -173,7 +173,7 @@ fn bytes_of<S: Words>(store: &S, span: Span) -> [u8; 512]
 fn changed_words<R: Abort, S: WordsMut>(rt: &R, store: &mut S, span: Span) -> u32
     requires { IsSpan (S.memory store.old) span }
 {
-    let mut numbers = Numbers::new();
+    let mut numbers = RandomNumbers::new();
     let mut taken = 0u32;
     for _image in 0..IMAGES {
         change(store, span, &mut numbers);

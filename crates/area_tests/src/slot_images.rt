@@ -1,7 +1,7 @@
 //! The checker of slots over bytes from anywhere: worked images and what is wrong with each, every byte of one image at
 //! every value, and random words in it, against a model that starts from the anchor words.
 
-use crate::images::{Numbers, put_word};
+use crate::images::{RandomNumbers, put_word};
 use crate::same::same;
 use rh_defs::HeapFault;
 use rh_heap::Summary;
@@ -297,7 +297,7 @@ fn each_byte_of_the_flex_blocks_changed(rt: HostRuntime) {
 }
 
 /// A word as it may stand in a slot: 0, an address, a small number, or anything.
-fn some_word(numbers: &mut Numbers) -> u32 {
+fn some_word(numbers: &mut RandomNumbers) -> u32 {
     match numbers.below(4) {
         0 => 0,
         1 => 0x8000 + numbers.below(96) * 4,
@@ -308,7 +308,7 @@ fn some_word(numbers: &mut Numbers) -> u32 {
 
 #[test]
 fn random_words_in_a_slot(rt: HostRuntime) {
-    let mut numbers = Numbers::new();
+    let mut numbers = RandomNumbers::new();
     for _image in 0..IMAGES {
         let place = numbers.below(96) as usize * 4;
         let mut image = changed(place, some_word(&mut numbers));

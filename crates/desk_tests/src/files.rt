@@ -1,7 +1,7 @@
 //! The files that a run is given, and those that are checked.
 
 use crate::same::{is_true, same};
-use crate::words::{Outcome, ended, is_told};
+use crate::words::{Ending, ended, is_told};
 use std::alloc::Global;
 use std::fs;
 use std::process::Abort;
@@ -167,7 +167,7 @@ fn a_file_has_a_limit(rt: HostRuntime) -> Result<(), Fail> {
 }
 
 /// Checks a file that has these bytes in front of zeros, `length` in all.
-fn checked(rt: &HostRuntime, front: &str, length: usize) -> Result<Outcome, Fail> {
+fn checked(rt: &HostRuntime, front: &str, length: usize) -> Result<Ending, Fail> {
     let mut bytes = [0; 56];
     let digits = bytes.len().min(front.len() / 2);
     hex::decode_to_slice(front.as_bytes(), &mut bytes[..digits])?;
@@ -179,7 +179,7 @@ fn checked(rt: &HostRuntime, front: &str, length: usize) -> Result<Outcome, Fail
 }
 
 /// Compares what was said of a file, and how the program ended.
-pub(crate) fn said(rt: &impl Abort, checked: &Outcome, wanted: &str, status: u8) {
+pub(crate) fn said(rt: &impl Abort, checked: &Ending, wanted: &str, status: u8) {
     same(rt, checked.output.as_slice(), wanted.as_bytes());
     is_true(rt, checked.errors.is_empty());
     same(rt, checked.status, status);

@@ -1,13 +1,13 @@
 //! Sheets of scripts: their head, marked steps, remarks, bad lines, and what ends a sheet early.
 
 use crate::same::{is_true, same};
-use crate::words::{Outcome, ended, is_told};
+use crate::words::{Ending, ended, is_told};
 use memchr::memmem;
 use std::process::Abort;
 use std::test::Fail;
 
 /// A sheet's output has each of these texts, one behind the other.
-fn has_in_turn(rt: &impl Abort, sheet: &Outcome, texts: &[&str]) {
+fn has_in_turn(rt: &impl Abort, sheet: &Ending, texts: &[&str]) {
     let mut rest = sheet.output.as_slice();
     for text in texts {
         let found = memmem::find(rest, text.as_bytes());
@@ -17,7 +17,7 @@ fn has_in_turn(rt: &impl Abort, sheet: &Outcome, texts: &[&str]) {
 }
 
 /// Whether a sheet's output has a text.
-fn has(sheet: &Outcome, text: &str) -> bool {
+fn has(sheet: &Ending, text: &str) -> bool {
     memmem::find(sheet.output.as_slice(), text.as_bytes()).is_some()
 }
 

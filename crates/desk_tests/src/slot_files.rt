@@ -1,7 +1,7 @@
 //! Files that are checked as slots.
 
 use crate::files::said;
-use crate::words::{Outcome, ended, is_told};
+use crate::words::{Ending, ended, is_told};
 use std::fs;
 use std::test::Fail;
 
@@ -35,7 +35,7 @@ fn put_word(image: &mut [u8], place: usize, word: u32) {
 }
 
 /// What is said of the first bytes of two pages that begin with the slot, with another word at a place.
-fn checked(rt: &HostRuntime, change: (usize, u32), length: usize) -> Result<Outcome, Fail> {
+fn checked(rt: &HostRuntime, change: (usize, u32), length: usize) -> Result<Ending, Fail> {
     let mut image = [0; 8192];
     for (place, word) in WORDS {
         put_word(&mut image, place, word);

@@ -12,7 +12,7 @@ use std::{fs, rt};
 
 /// What the program wrote to its output and its errors, and its exit status.
 #[derive(Drop)]
-pub struct Outcome {
+pub struct Ending {
     pub output: Vec<u8>,
     pub errors: Vec<u8>,
     pub status: u8,
@@ -29,7 +29,7 @@ pub(crate) fn all_words(alloc: Global, words: &[&str]) -> Result<Vec<String>, Al
 }
 
 /// Runs the program on these words behind its own name, over this input.
-pub(crate) fn ended(rt: &HostRuntime, words: &[&str], input: &[u8]) -> Result<Outcome, AllocError> {
+pub(crate) fn ended(rt: &HostRuntime, words: &[&str], input: &[u8]) -> Result<Ending, AllocError> {
     ended_over(rt, rt, words, input)
 }
 
@@ -39,7 +39,7 @@ pub(crate) fn ended_over<F: rt::Files, I: Read + Drop>(
     rt: &HostRuntime,
     words: &[&str],
     input: I,
-) -> Result<Outcome, AllocError> {
+) -> Result<Ending, AllocError> {
     let alloc: Global = rt.alloc();
     let all = all_words(alloc, words)?;
     let mut reader = Flagged::new(input);
@@ -53,7 +53,7 @@ pub(crate) fn ended_over<F: rt::Files, I: Read + Drop>(
         &mut writer,
         &mut errors,
     );
-    Ok(Outcome {
+    Ok(Ending {
         output: writer.into_inner(),
         errors: errors.into_inner(),
         status,
@@ -140,7 +140,7 @@ fn help_is_no_mistake(rt: HostRuntime) -> Result<(), Fail> {
 }
 
 /// The help has each of the texts.
-fn helps(rt: &impl Abort, help: &Outcome, texts: &[&str]) {
+fn helps(rt: &impl Abort, help: &Ending, texts: &[&str]) {
     for text in texts {
         let held = holds(help.output.as_slice(), text.as_bytes());
         same(rt, (*text, held), (*text, true));
@@ -284,7 +284,7 @@ fn a_long_path_is_told_whole(rt: HostRuntime) -> Result<(), Fail> {
 }
 
 /// The program told just this, wrote nothing, and ended with this status.
-pub(crate) fn is_told(rt: &impl Abort, told: &Outcome, text: &str, status: u8) {
+pub(crate) fn is_told(rt: &impl Abort, told: &Ending, text: &str, status: u8) {
     same(rt, told.errors.as_slice(), text.as_bytes());
     is_true(rt, told.output.is_empty());
     same(rt, told.status, status);
@@ -372,7 +372,7 @@ fn each_number_of_pages_is_had(rt: HostRuntime) -> Result<(), Fail> {
 }
 
 /// What the program wrote for these words begins so, and it ended clean.
-fn begins(rt: &impl Abort, words: &[&str], all: &Outcome, wanted: &str) {
+fn begins(rt: &impl Abort, words: &[&str], all: &Ending, wanted: &str) {
     let begins = all.output.as_slice().starts_with(wanted.as_bytes());
     same(rt, (words, begins), (words, true));
     same(rt, (words, all.status), (words, 0));

@@ -33,15 +33,12 @@ fn is_plain(bytes: &[u8]) -> bool
 }
 
 impl Pathname {
-    /// The most bytes of a name: with its zero byte it fills the longest message.
-    pub const MOST_BYTES: usize = LONGEST_PATHNAME;
-
     /// The name with these bytes: none where there are more than the most, or one of them is 0.
     pub fn new(bytes: &[u8]) -> Option<Pathname>
         ensures found { IsSome result ↔ (is_pathname bytes.now ≡ true) }
         ensures value { IfSome result (λ name. name ≡ bytes.now) }
     {
-        if bytes.len() > Pathname::MOST_BYTES || !is_plain(bytes) {
+        if bytes.len() > LONGEST_PATHNAME || !is_plain(bytes) {
             return None;
         }
         let mut letters = ArrayVec::new();

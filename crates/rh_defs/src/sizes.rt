@@ -115,6 +115,12 @@ pub const SEGMENTS_AT_ONCE: usize = 64;
 /// The most reads of a script.
 pub const MOST_READS: u32 = 1_000_000;
 
+/// The number of the module area, in which messages and modules have their blocks.
+pub const MODULE_AREA: u32 = 1;
+
+/// The number of the area that has the scrap file.
+pub const SCRAP_AREA: u32 = 5;
+
 /// The number of the first area that is made at run.
 pub const FIRST_MADE: u32 = 256;
 

@@ -9,16 +9,10 @@ ghost use Rattle.rh_map.specs.Written.{shown_lines};
 ghost use Rattle.rh_sight.specs.Steps.{IsStepOf, scene_at};
 ghost use Rattle.rh_defs.specs.declared.sizes.TheConstants.{FIXED_AREAS};
 
-use rh_defs::sizes::FIXED_AREAS;
+use rh_defs::sizes::{FIXED_AREAS, MODULE_AREA, SCRAP_AREA};
 use rh_lines::{Sink, WriteFailed};
 use rh_map::{ScrapFile, print_fixed_area, print_made_area};
 use rh_sight::{PagesOf, Sight, Step, pages_of};
-
-/// The module area, whose line stands above its own rows.
-const MODULE_AREA: u32 = 1;
-
-/// The area that has the scrap file.
-const SCRAP_AREA: u32 = 5;
 
 /// Writes a line for each of areas 0 to 5 that has pages, but the module area, and for each made area. Fails only
 /// where the writer failed or took none of what it was offered; a front of the lines is then written.

@@ -9,13 +9,10 @@ ghost use Rattle.rh_sight.specs.Steps.{IsStepOf, scene_at};
 use crate::heap_cards::{Band, print_heap_cards};
 use crate::lists::Lists;
 use rh_defs::Handle;
-use rh_defs::sizes::MODULE_START;
+use rh_defs::sizes::{MODULE_AREA, MODULE_START};
 use rh_lines::{Sink, WriteFailed};
 use rh_map::{Area, print_area, print_module_heading};
 use rh_sight::{HeapOf, PagesOf, Sight, Step, module_pieces, pages_of};
-
-/// The number of the module area.
-const MODULE_AREA: u32 = 1;
 
 /// Writes the module area. Fails only where the writer failed or took none of what it was offered; a front of the
 /// lines is then written.

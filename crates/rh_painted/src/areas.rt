@@ -10,15 +10,12 @@ ghost use Rattle.rh_sheet.specs.Steps.{area_heading};
 ghost use Rattle.rh_sight.specs.Steps.{IsStepOf, scene_at};
 ghost use Rattle.rh_defs.specs.declared.sizes.TheConstants.{FIXED_AREAS};
 
-use rh_defs::sizes::FIXED_AREAS;
+use rh_defs::sizes::{FIXED_AREAS, MODULE_AREA};
 use rh_draw::print_heading;
 use rh_drawn::scrap_in;
 use rh_lines::{Row, Sink, WriteFailed};
 use rh_map::{add_area_name, fixed_area_note, made_area_note};
 use rh_sight::{PagesOf, Sight, Step, pages_of};
-
-/// The module area, whose heading stands above its own figure.
-const MODULE_AREA: u32 = 1;
 
 /// Writes a heading for each of areas 0 to 5 that has pages, but the module area, and for each made area. Fails only
 /// where the writer failed or took none of what it was offered; a front of the headings is then written.

@@ -18,7 +18,7 @@ use crate::bands::Form;
 use crate::heap_cards::put_heap_cards;
 use crate::rows::{put_pages, rows_for};
 use rh_defs::Handle;
-use rh_defs::sizes::{HEAP_FIRST, MODULE_START};
+use rh_defs::sizes::{HEAP_FIRST, MODULE_AREA, MODULE_START};
 use rh_draw::{
     Plot, Tint, foot, height, print_described, print_figure_end, print_figure_open,
     print_lens_below, print_rows,
@@ -29,9 +29,6 @@ use rh_map::add_pages;
 use rh_sheet::Frame;
 use rh_sheet::sizes::{FIGURE_WIDTH, LENS_HEIGHT};
 use rh_sight::{Census, HeapOf, Owner, PagesOf, Sight, Step, module_pieces, pages_of, take_census};
-
-/// The number of the module area.
-const MODULE_AREA: u32 = 1;
 
 /// Writes the heading and the figure of the module area. Fails only where the writer failed or took none of what it was
 /// offered; a front of them is then written.

@@ -9,7 +9,7 @@ ghost use Rattle.rh_sheet.specs.Owners.{area_tag as tag_of_area, slot_tag as tag
 ghost use Rattle.rh_sheet.specs.declared.sizes.TheConstants.{TAG_LETTERS};
 ghost use Rattle.rh_sight.specs.Owners.{shared_owner};
 
-use rh_defs::sizes::FIXED_AREAS;
+use rh_defs::sizes::{FIXED_AREAS, MODULE_AREA};
 use rh_defs::{Handle, Name};
 use rh_draw::Tint;
 use rh_drawn::count_made;
@@ -17,9 +17,6 @@ use rh_lines::Row;
 use rh_map::{add_area_name, add_slot_name};
 use rh_sheet::sizes::TAG_LETTERS;
 use rh_sight::{Owner, PagesOf, Sight};
-
-/// The number of the module area.
-const MODULE_AREA: u32 = 1;
 
 /// An owner by name: an area by its number, or the slot of the task with the handle and the name.
 #[derive(Clone, Copy)]

@@ -36,7 +36,7 @@ pub type Pieces = ArrayVec<Piece, MOST_PIECES>;
 
 /// A heap that is drawn, with the handle of its task; 0 for that of the module area.
 #[derive(Clone, Copy)]
-struct Drawn {
+struct DrawnHeap {
     heap: HeapOf,
     handle: Handle,
 }
@@ -58,7 +58,7 @@ pub fn slot_pieces<S: Sight>(
     sight.spelled();
     pieces.clear();
     pieces.push(plain(Kind::AnchorWords, 0, C_HEAP_PLACE));
-    let drawn = Drawn {
+    let drawn = DrawnHeap {
         heap: HeapOf::Task(i),
         handle: task.handle,
     };
@@ -80,7 +80,7 @@ pub fn module_pieces<S: Sight>(sight: &S, step: &Step<'_>, pieces: &mut Pieces)
     ensures { pieces.new.items ≡ module_pieces_of (scene_at (S.desk sight.now) step.now) }
 {
     pieces.clear();
-    let drawn = Drawn {
+    let drawn = DrawnHeap {
         heap: HeapOf::Module,
         handle: Handle(0),
     };
@@ -130,7 +130,7 @@ fn push_blocks(
 }
 
 /// Appends the pieces of a heap.
-fn push_heap<S: Sight>(sight: &S, step: &Step<'_>, drawn: &Drawn, pieces: &mut Pieces)
+fn push_heap<S: Sight>(sight: &S, step: &Step<'_>, drawn: &DrawnHeap, pieces: &mut Pieces)
     requires step { IsStepOf (S.desk sight.now) step.now }
     requires few { length pieces.old.items + MOST_SEGMENTS + 3 ≤ MOST_PIECES }
     requires heap { IsSome (heap_seen drawn.now.heap (S.desk sight.now)) }
@@ -154,7 +154,12 @@ fn push_heap<S: Sight>(sight: &S, step: &Step<'_>, drawn: &Drawn, pieces: &mut P
 
 /// Appends the segments that are drawn one by one, and answers where the last ends, in bytes from the heap's first
 /// one.
-fn push_segments<S: Sight>(sight: &S, step: &Step<'_>, drawn: &Drawn, pieces: &mut Pieces) -> u32
+fn push_segments<S: Sight>(
+    sight: &S,
+    step: &Step<'_>,
+    drawn: &DrawnHeap,
+    pieces: &mut Pieces,
+) -> u32
     requires step { IsStepOf (S.desk sight.now) step.now }
     requires few { length pieces.old.items + MOST_SEGMENTS ≤ MOST_PIECES }
     requires heap { IsSome (heap_seen drawn.now.heap (S.desk sight.now)) }
@@ -175,7 +180,7 @@ fn push_segments<S: Sight>(sight: &S, step: &Step<'_>, drawn: &Drawn, pieces: &m
 }
 
 /// Appends segments.
-fn push_items(step: &Step<'_>, drawn: &Drawn, items: &[SegmentItem], pieces: &mut Pieces)
+fn push_items(step: &Step<'_>, drawn: &DrawnHeap, items: &[SegmentItem], pieces: &mut Pieces)
     requires few { length pieces.old.items + length items.now ≤ MOST_PIECES }
     requires items { (place : ℕ) × (segments : List Segment) × (items.now ≡ segment_items_from (heap_start_of drawn.now.heap + place) segments) }
     ensures { (d : Desk) (place : ℕ) (segments : List Segment) → IsStepOf d step.now → items.now ≡ segment_items_from (heap_start_of drawn.now.heap + place) segments →
@@ -187,7 +192,7 @@ fn push_items(step: &Step<'_>, drawn: &Drawn, items: &[SegmentItem], pieces: &mu
 }
 
 /// The piece of a segment.
-fn piece_of(step: &Step<'_>, drawn: &Drawn, item: &SegmentItem) -> Piece
+fn piece_of(step: &Step<'_>, drawn: &DrawnHeap, item: &SegmentItem) -> Piece
     requires { IsInArea drawn.now.heap item.now }
     ensures { (d : Desk) (place : ℕ) (segment : Segment) → IsStepOf d step.now → item.now ≡ segment_item (heap_start_of drawn.now.heap + place) segment →
         result ≡ segment_piece (legend_of (scene_at d step.now) drawn.now.heap drawn.now.handle) (heap_start_of drawn.now.heap - area_start_of drawn.now.heap + place) segment }
@@ -212,7 +217,7 @@ fn piece_of(step: &Step<'_>, drawn: &Drawn, item: &SegmentItem) -> Piece
 }
 
 /// What the block of a heap at an address is, and whether the command has changed it.
-fn block_kind(step: &Step<'_>, drawn: &Drawn, address: u32, size: u32) -> (Kind, bool)
+fn block_kind(step: &Step<'_>, drawn: &DrawnHeap, address: u32, size: u32) -> (Kind, bool)
     requires { area_start_of drawn.now.heap ≤ address }
     ensures { (d : Desk) → IsStepOf d step.now →
         result ≡ kind_and_freshness (legend_of (scene_at d step.now) drawn.now.heap drawn.now.handle) address size }

@@ -16,7 +16,7 @@ use rh_store::{Pages, Words, WordsMut};
 
 /// Where a flex block's header stands in the slot's area, and how many bytes the block has.
 #[derive(Clone, Copy)]
-pub(crate) struct Spot {
+pub(crate) struct FlexSpot {
     pub place: usize,
     pub size: usize,
 }
@@ -65,7 +65,7 @@ fn put_in(by: i32) -> usize
 
 impl Slot {
     /// The anchor's block, or `None` where it has none.
-    pub(crate) fn locate<S: Words>(self, store: &S, anchor: Anchor) -> Option<Spot>
+    pub(crate) fn locate<S: Words>(self, store: &S, anchor: Anchor) -> Option<FlexSpot>
         requires slot { IsSlotIn (S.memory store.now) self }
         requires anchor { anchor < ANCHORS }
         ensures { MatchOption result (IsFree anchor (slot_in (S.memory store.now) self).blocks)
@@ -77,7 +77,7 @@ impl Slot {
         }
         let place = address - SLOT_START - FLEX_HEADER;
         let size = read(store, self.area, place + WORD);
-        Some(Spot { place, size })
+        Some(FlexSpot { place, size })
     }
 
     /// How many bytes the anchor's block has. Refused (`NoBlock`) where it has none. (flex_size.)
@@ -153,7 +153,7 @@ impl Slot {
         self,
         store: &mut S,
         anchor: Anchor,
-        spot: Spot,
+        spot: FlexSpot,
         change: Change,
     ) -> Result<(), Refusal>
         requires slot { IsSlotIn (S.memory store.old) self }

@@ -21,7 +21,7 @@ use rh_store::{Pages, Store};
 use rh_wimp::Queue;
 
 /// The type of the files that tasks offer (data).
-pub const DATA: u32 = 0xffd;
+pub const DATA_TYPE: u32 = 0xffd;
 
 /// The name of the scrap file.
 const SCRAP_NAME: &[u8] = b"<Wimp$Scrap>";
@@ -78,7 +78,7 @@ fn scrap_file(size: u32) -> FileData
         x: 0,
         y: 0,
         size,
-        file_type: DATA,
+        file_type: DATA_TYPE,
         name,
     }
 }

@@ -14,7 +14,7 @@ ghost use Rattle.rh_tasks.specs.Finding.{looked};
 ghost use Rattle.rh_tasks.specs.Saves.{CanOffer, HasHandle, source_block};
 ghost use Rattle.rh_tasks.specs.View.{is_named, HasSlot};
 
-use crate::letters::{DATA, send};
+use crate::letters::{DATA_TYPE, send};
 use crate::named_files::NamedFiles;
 use crate::seat::Seats;
 use crate::seats::find;
@@ -85,7 +85,7 @@ fn save_letter(from: Handle, to: Handle, size: u32, leaf: &Leaf) -> Letter
             x: 0,
             y: 0,
             size,
-            file_type: DATA,
+            file_type: DATA_TYPE,
             name,
         }),
     }

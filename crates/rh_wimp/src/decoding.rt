@@ -1,12 +1,11 @@
 //! Messages out of bytes.
 ghost use Rattle.std.specs.Prelude.{◌≡◌, ◌≤◌, ◌+◌, ◌==◌, length, true, Some, Ok, IfOk};
 ghost use Rattle.std.specs.List.{position};
-ghost use Rattle.rh_defs.specs.declared.sizes.TheConstants.{LONGEST_MESSAGE};
+ghost use Rattle.rh_defs.specs.declared.sizes.TheConstants.{LONGEST_MESSAGE, LONGEST_PATHNAME};
 ghost use Rattle.rh_defs.specs.Bytes.{part};
 ghost use Rattle.rh_defs.specs.MessageImage.{SpellsMessage, body_for, decoded, file_in, has_length as has_length_of, name_length};
 ghost use Rattle.rh_defs.specs.Pathnames.{is_plain};
 ghost use Rattle.rh_defs.specs.declared.message.Message.{Message as SpecMessage};
-ghost use Rattle.rh_defs.specs.declared.pathname.TheConstants.Pathname.{MOST_BYTES};
 ghost use Rattle.rh_wimp.specs.declared.layout.TheConstants.{LEAST_LENGTH, NAME};
 
 use crate::bytes::get_word;
@@ -35,7 +34,7 @@ fn name_length(bytes: &[u8], end: usize) -> Option<usize>
 /// The name of so many bytes that begins at offset 44.
 fn read_name(bytes: &[u8], n: usize) -> Pathname
     requires within { NAME + n ≤ length bytes.now }
-    requires short { n ≤ MOST_BYTES }
+    requires short { n ≤ LONGEST_PATHNAME }
     requires plain { is_plain (part bytes.now NAME n) ≡ true }
     ensures { result ≡ part bytes.now NAME n }
 {

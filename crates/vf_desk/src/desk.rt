@@ -4,12 +4,12 @@ ghost use Rattle.std.specs.Prelude.{◌≡◌, is_some};
 
 mod steps;
 
-use crate::handle::Handle;
+use crate::handle::StationHandle;
 
 /// A desk. One of zeros alone is closed, and has no file.
 #[repr(C)]
 pub struct VfDesk {
-    pub handle: Handle,
+    pub handle: StationHandle,
     pub live: bool,
     pub ghost known: { live ≡ is_some handle.station },
 }

@@ -17,32 +17,32 @@ use unboxed::Unboxed;
 /// The address of a station in a box, or null. It is not `Drop`, so no code can forget it: `into_box` and `end` alone
 /// take it.
 #[repr(C)]
-pub struct Handle {
+pub struct StationHandle {
     at: *mut u8,
     alloc: Global,
     pub ghost station: { Option Station },
 }
 
-impl Model for Handle {
+impl Model for StationHandle {
     ghost also_owns = { λ h. handle_owns h.alloc h.at h.station };
 }
 
-impl Handle {
+impl StationHandle {
     /// A handle that has nothing.
-    pub fn empty(alloc: Global) -> Handle
+    pub fn empty(alloc: Global) -> StationHandle
         ensures { result.station ≡ None }
     {
-        Handle {
+        StationHandle {
             at: ptr::null_mut(),
             alloc,
         }
     }
 
     /// A handle that has this station.
-    pub fn of(station: Box<Station>) -> Handle
+    pub fn of(station: Box<Station>) -> StationHandle
         ensures { result.station ≡ Some station.value }
     {
-        Handle::of_unboxed(Unboxed::of(station))
+        StationHandle::of_unboxed(Unboxed::of(station))
     }
 
     /// Its station.
@@ -57,14 +57,14 @@ impl Handle {
     pub fn end(self)
         requires { self.station ≡ None }
     {
-        let Handle { at: _, alloc: _ } = self;
+        let StationHandle { at: _, alloc: _ } = self;
     }
 
-    fn of_unboxed(station: Unboxed<Station, Global>) -> Handle
+    fn of_unboxed(station: Unboxed<Station, Global>) -> StationHandle
         ensures { result.station ≡ Some station.value }
     {
         let Unboxed { at, alloc } = station;
-        Handle {
+        StationHandle {
             at: at as *mut u8,
             alloc,
         }
@@ -74,7 +74,7 @@ impl Handle {
         requires { IsSome self.station }
         ensures { Some result.value ≡ self.station }
     {
-        let Handle { at, alloc } = self;
+        let StationHandle { at, alloc } = self;
         Unboxed {
             at: at as *mut Station,
             alloc,

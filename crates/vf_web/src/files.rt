@@ -61,7 +61,7 @@ impl<'a> NamedFiles for LentFiles<'a> {
 
 /// The file at the front of some bytes, and the bytes behind it.
 #[derive(Clone, Copy)]
-struct Front<'a> {
+struct FrontFile<'a> {
     name: &'a [u8],
     bytes: &'a [u8],
     behind: &'a [u8],
@@ -114,7 +114,7 @@ fn find<'a>(bytes: &'a [u8], name: &[u8]) -> Option<&'a [u8]>
 
 /// The file at the front of some bytes, and the bytes behind it, where a file stands there.
 #[tactic(auto, unfolding(crate::specs::Packed::front_file))]
-fn front_file(bytes: &[u8]) -> Option<Front<'_>>
+fn front_file(bytes: &[u8]) -> Option<FrontFile<'_>>
     ensures value { option_map (λ front. ((front.name.now, front.bytes.now), front.behind.now)) result ≡ front_file bytes.now }
     ensures short { IfSome result (λ front. length front.bytes.now ≤ LONGEST_FILE) }
     ensures fewer { IfSome result (λ front. length front.behind.now < length bytes.now) }
@@ -132,7 +132,7 @@ fn front_file(bytes: &[u8]) -> Option<Front<'_>>
 
 /// The file with this name, whose bytes are the first `size` of these, where it may be one.
 #[tactic(auto, unfolding(crate::specs::Packed::named_file))]
-fn named_file<'a>(name: &'a [u8], size: usize, rest: &'a [u8]) -> Option<Front<'a>>
+fn named_file<'a>(name: &'a [u8], size: usize, rest: &'a [u8]) -> Option<FrontFile<'a>>
     ensures value { option_map (λ front. ((front.name.now, front.bytes.now), front.behind.now)) result ≡ named_file name.now size rest.now }
     ensures short { IfSome result (λ front. length front.bytes.now ≤ LONGEST_FILE) }
     ensures fewer { IfSome result (λ front. length front.behind.now ≤ length rest.now) }
@@ -140,7 +140,7 @@ fn named_file<'a>(name: &'a [u8], size: usize, rest: &'a [u8]) -> Option<Front<'
     if !may_name(name) || size > LONGEST_FILE || size > rest.len() {
         return None;
     }
-    Some(Front {
+    Some(FrontFile {
         name,
         bytes: &rest[..size],
         behind: &rest[size..],

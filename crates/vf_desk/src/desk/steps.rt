@@ -9,7 +9,7 @@ ghost use Rattle.vf_desk.specs.Seen.{IsSeenDesk, KeepsRest};
 
 use crate::called::Called;
 use crate::desk::VfDesk;
-use crate::handle::Handle;
+use crate::handle::StationHandle;
 use crate::station::Station;
 use rh_defs::Command;
 use std::alloc::Global;
@@ -20,7 +20,7 @@ impl VfDesk {
         ensures { result.handle.station ≡ None }
     {
         VfDesk {
-            handle: Handle::empty(alloc),
+            handle: StationHandle::empty(alloc),
             live: false,
         }
     }
@@ -44,7 +44,7 @@ impl VfDesk {
         ensures { self.new.handle.station ≡ Some station.value }
     {
         let live = VfDesk {
-            handle: Handle::of(station),
+            handle: StationHandle::of(station),
             live: true,
         };
         let VfDesk { handle, live: _ } = mem::replace(self, live);

@@ -8,10 +8,10 @@ use Rattle.std.specs.contracts.alloc.Global as heap
 use Rattle.std.proofs.alloc.Global.TheLaws as heap_laws
 use Rattle.vf_desk.proofs.Pairs.{pair, Apart, apart_good, apart_out, handle_in}
 use Rattle.vf_desk.specs.contracts.station.Station as Station
-use Rattle.vf_desk.specs.contracts.handle.Handle.of_unboxed as f
-use Rattle.vf_desk.specs.contracts.handle.Handle as Handle
-use Rattle.vf_desk.proofs.handle.Handle.of_unboxed.Statement.{statement}
-use Rattle.vf_desk.proofs.handle.Handle.of_unboxed.Code as code
+use Rattle.vf_desk.specs.contracts.handle.StationHandle.of_unboxed as f
+use Rattle.vf_desk.specs.contracts.handle.StationHandle as StationHandle
+use Rattle.vf_desk.proofs.handle.StationHandle.of_unboxed.Statement.{statement}
+use Rattle.vf_desk.proofs.handle.StationHandle.of_unboxed.Code as code
 
 abbrev From : Slot 0
 From = plain (λ _. Apart Station.the_row heap.the_row heap_laws.the_row_laws ghosts)
@@ -33,7 +33,7 @@ of_unboxed_spec 𝓤 𝓛 𝓜 𝓡 wired =
     apart_out Station.the_row heap.the_row heap_laws.the_row_laws ghosts ! v y.0.4.0 (λ b o h there words fits.
     let w : Val = pair (vptr b o) h in
     let typed = apart_good Station.the_row heap.the_row heap_laws.the_row_laws ghosts b o h fits in
-    let made : Handle.the_row.Denot = record { at = block_ptr b o; alloc = a; station = Some v.value } in
+    let made : StationHandle.the_row.Denot = record { at = block_ptr b o; alloc = a; station = Some v.value } in
     suffices ! (Runs (w ∷ [])) (subst (λ (us : List Val). ent 𝓤 (Runs (w ∷ [])) (Runs us)) (sym (λ i. words i ++ [])) (id⊢ 𝓤 (Runs (w ∷ [])))) $
     enter ! 𝓣.C 𝓣.Λ code.function (w ∷ []) End $ alloc_all ! (λ l. pass_all ! refl (typed, tt) $
     sets ! (of_opd ! (get_in ! (fld ! refl (stop !)) (sub ! 0 refl (whole !)))) refl (tt, tt) $

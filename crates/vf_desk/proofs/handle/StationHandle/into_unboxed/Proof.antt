@@ -13,13 +13,13 @@ use Rattle.std.specs.contracts.alloc.Global as heap
 use Rattle.std.proofs.alloc.Global.TheLaws as heap_laws
 use Rattle.vf_desk.proofs.Pairs.{pair, owned, Apart, apart_good, apart_in, handle_out}
 use Rattle.vf_desk.specs.contracts.station.Station as Station
-use Rattle.vf_desk.specs.contracts.handle.Handle.into_unboxed as f
-use Rattle.vf_desk.specs.contracts.handle.Handle as Handle
-use Rattle.vf_desk.proofs.handle.Handle.into_unboxed.Statement.{statement}
-use Rattle.vf_desk.proofs.handle.Handle.into_unboxed.Code as code
+use Rattle.vf_desk.specs.contracts.handle.StationHandle.into_unboxed as f
+use Rattle.vf_desk.specs.contracts.handle.StationHandle as StationHandle
+use Rattle.vf_desk.proofs.handle.StationHandle.into_unboxed.Statement.{statement}
+use Rattle.vf_desk.proofs.handle.StationHandle.into_unboxed.Code as code
 
 abbrev From : Slot 0
-From = plain (λ _. Handle.the_row)
+From = plain (λ _. StationHandle.the_row)
 
 abbrev kept : Stays f.ended.signature.params f.ended.kept
 kept = (stay_dropped From yes, tt)
@@ -38,7 +38,7 @@ into_unboxed_spec 𝓤 𝓛 𝓜 𝓡 wired =
     let a = v.alloc in
     let End : Val → SProp 𝓤 = (walk_of 𝓛 f.ended kept clauses).post y in
     let Runs : List Val → SProp 𝓤 = λ ws. WpFn 𝓤 𝓛.H 𝓣.C 𝓣.Λ code.function ws End in
-    qed 𝓛 ((‵ ftrue ⊛ ‵ (fsep (Handle.the_row.own_val v y.0.4.0) ftrue)) ∷ raw (fact 𝓤 (IsSome v.station)) ∷ []) ∵ move ! (1 ∷ []) $ heard ! _ (λ there.
+    qed 𝓛 ((‵ ftrue ⊛ ‵ (fsep (StationHandle.the_row.own_val v y.0.4.0) ftrue)) ∷ raw (fact 𝓤 (IsSome v.station)) ∷ []) ∵ move ! (1 ∷ []) $ heard ! _ (λ there.
     let found = station_in v.station there in
     let x = found.0 in
     split ! $ move ! (1 ∷ []) $ fsplit ! $ handle_out ! v y.0.4.0 (λ h words fits.

@@ -9,10 +9,10 @@ use denote.Triple.Walked.{Goes-dropped}
 use Rattle.std.specs.contracts.alloc.Global as heap
 use Rattle.std_alloc.proofs.ResultValues.{and_tt}
 use Rattle.vf_desk.proofs.Pairs.{pair, heap_al, handle_in}
-use Rattle.vf_desk.specs.contracts.handle.Handle.empty as f
-use Rattle.vf_desk.specs.contracts.handle.Handle as Handle
-use Rattle.vf_desk.proofs.handle.Handle.empty.Statement.{statement}
-use Rattle.vf_desk.proofs.handle.Handle.empty.Code as code
+use Rattle.vf_desk.specs.contracts.handle.StationHandle.empty as f
+use Rattle.vf_desk.specs.contracts.handle.StationHandle as StationHandle
+use Rattle.vf_desk.proofs.handle.StationHandle.empty.Statement.{statement}
+use Rattle.vf_desk.proofs.handle.StationHandle.empty.Code as code
 
 abbrev kept : Stays f.ended.signature.params f.ended.kept
 kept = (stay_dropped (plain (λ _. heap.the_row)) yes, tt)
@@ -26,7 +26,7 @@ empty_spec 𝓤 𝓛 𝓜 𝓡 wired =
     let a = y.0.3.0 in
     let End : Val → SProp 𝓤 = (walk_of 𝓛 f.ended kept clauses).post y in
     let Runs : List Val → SProp 𝓤 = λ ws. WpFn 𝓤 𝓛.H 𝓣.C 𝓣.Λ code.function ws End in
-    let made : Handle.the_row.Denot = record { at = null_ptr; alloc = a; station = None } in
+    let made : StationHandle.the_row.Denot = record { at = null_ptr; alloc = a; station = None } in
     qed 𝓛 ((‵ ftrue ⊛ ‵ (fsep (heap.the_row.own_val a y.0.4.0) ftrue)) ∷ raw (emp 𝓤) ∷ []) ∵ split ! $ move ! (1 ∷ []) $ fsplit ! $
     handle_tells heap_al ! a y.0.4.0 (λ h words fits.
     suffices ! (Runs (h ∷ [])) (subst (λ (us : List Val). ent 𝓤 (Runs (h ∷ [])) (Runs us)) (sym (λ i. words i ++ [])) (id⊢ 𝓤 (Runs (h ∷ [])))) $
