@@ -1,4 +1,4 @@
--- A command that may be refused: its steps one after another, up to the first refusal.
+-- What may be refused or have a fault: its steps one after another, up to the first that is or has.
 use Rattle.std.specs.Prelude.{Bool, true, false, Option, Some, None, Result, Ok, Err}
 use Rattle.rh_defs.specs.declared.refusal.Refusal.{Refusal}
 
@@ -8,9 +8,9 @@ Granted A = Result A Refusal
 
 infixr 10 ◌>>=◌ ◌>>◌
 -- the first step, and with what it gives the next one
-unfoldable pub ◌>>=◌ : {A B : Type 0} → Granted A → (A → Granted B) → Granted B
+unfoldable pub ◌>>=◌ : {A B E : Type 0} → Result A E → (A → Result B E) → Result B E
 Ok x >>= next = next x
-Err refusal >>= next = Err refusal
+Err e >>= next = Err e
 
 -- the first step, and then the next one
 unfoldable pub ◌>>◌ : {A B : Type 0} → Granted A → Granted B → Granted B

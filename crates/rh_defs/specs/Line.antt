@@ -5,6 +5,7 @@ use Rattle.std.specs.Str.{bytes_eq}
 use Rattle.std.specs.Result.{result_ok}
 use Rattle.hex.specs.Hex.{decode_of, hex_digit_value, is_hex_digit}
 use Rattle.rh_defs.specs.Bytes.{space}
+use Rattle.rh_defs.specs.Chain.{◌>>=◌}
 use Rattle.rh_defs.specs.declared.command.Command.{Command}
 use Rattle.rh_defs.specs.declared.fault.LineFault.{LineFault}
 use Rattle.rh_defs.specs.declared.fault.LineFault.TheVariants.{TooLong, Unknown, Count, Word}
@@ -15,12 +16,6 @@ use Rattle.rh_defs.specs.Grammar.{Form, Name, Leaf, Number, Ref, Delta, Address,
 -- what a part of a line means, or its fault
 abbrev pub Meaning : Type 0 → Type 0
 Meaning A = Result A LineFault
-
-infixl 10 ◌>>=◌
--- the first part, and with what it means the next one
-abbrev pub ◌>>=◌ : {A B : Type 0} → Meaning A → (A → Meaning B) → Meaning B
-(Ok x) >>= f = f x
-(Err e) >>= f = Err e
 
 -- a line has at most so many bytes before its line feed
 abbrev pub longest_line : ℕ
@@ -167,5 +162,5 @@ line_means line =
 
 -- opens this file's words, for a proof that computes
 unfoldable pub computing : Unit {0}
-unfolding is_decimal name_at number_at bytes_read_at delta_at is_address address_at leaf_at choice_at rows command_by line_means
+unfolding is_decimal name_at number_at bytes_read_at delta_at is_address address_at leaf_at choice_at rows command_by line_means ◌>>=◌
 computing = tt

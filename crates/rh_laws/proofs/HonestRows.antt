@@ -27,8 +27,8 @@ small_claims = (refl, refl, refl, refl, refl, refl, refl)
 -- ---- a task's heap
 
 abbrev claims : Desk
-claims = after fresh (script ("task a 100" ∷ "claim_block a 10" ∷ "claim_block a 10" ∷ "claim_block a 10"
-    ∷ "release a &8124" ∷ "claim_block a 12" ∷ "claim_block a 13" ∷ []))
+claims = after fresh (script ("task a 100" ∷ "claim a 10" ∷ "claim a 10" ∷ "claim a 10"
+    ∷ "release a &8124" ∷ "claim a 12" ∷ "claim a 13" ∷ []))
 
 -- the largest claim is granted in the heap as it is, and one byte more makes it longer
 task_claims : (described claims (codes "a") ≡ reply.Answered (numbers.HeapSums 3840 3748 3752))

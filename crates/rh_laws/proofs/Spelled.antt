@@ -17,7 +17,8 @@ use Rattle.rh_defs.specs.declared.fault.LineFault.TheVariants.{TooLong, Count, W
 use Rattle.rh_defs.specs.Grammar.{Form, Name, Leaf, Ref, Delta, Address, Bytes, Value, Values, Maker, Spelling, spelled_by}
 use Rattle.rh_defs.proofs.GrammarLaws.{Spells, AllSpell, rows-spell}
 use Rattle.rh_defs.specs.Forms.{is_graphic, greatest, last_ref}
-use Rattle.rh_defs.specs.Line.{Meaning, ◌>>=◌, words_of, name_at, number_at, delta_at, signed, is_negative, unsigned, is_address, address_at, leaf_at}
+use Rattle.rh_defs.specs.Chain.{◌>>=◌}
+use Rattle.rh_defs.specs.Line.{Meaning, words_of, name_at, number_at, delta_at, signed, is_negative, unsigned, is_address, address_at, leaf_at}
 use Rattle.rh_defs.specs.Line.{choice_at, bytes_read_at, value_at, command_from, is_count, follow, row_means, command_by}
 use Rattle.rh_defs.specs.Script.{commands_in}
 use Rattle.rh_safety.proofs.Lines.{commands_in_range}
@@ -116,6 +117,7 @@ if_ok false x y fault e = absurd cc
 
 then_ok : {A B : Type 0} (m : Meaning A) (next : A → Meaning B) (y : B) → (m >>= next) ≡ Ok y →
     (x : A) × (m ≡ Ok x) × (next x ≡ Ok y)
+unfolding ◌>>=◌
 then_ok (Ok x) next y e = (x, refl, e)
 then_ok (Err fault) next y e = absurd cc
 

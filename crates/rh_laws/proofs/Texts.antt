@@ -2,7 +2,7 @@
 use Rattle.rh_laws.proofs.Common.{◌≡◌, ℕ, zero, suc, ◌+◌, ◌-◌, ◌^◌, ◌<◌, Bool, true, false, ◌&&◌, ◌||◌, not, cond, List, [], ◌∷◌, ◌++◌, length, drop}
 use Rattle.rh_laws.proofs.Common.{length-append, refl, sym, subst, ap, ◌∙◌, arith, nat_le, nat_lt, ◌==◌, Some, None, Ok, slice_get, unwrap_or}
 use Rattle.rh_laws.proofs.Common.{list_all, decimal, signed_decimal, bytes_eq, nat_tests, bytes_eq-Decides, encode_lower, Command, Unknown, is_name, is_leaf}
-use Rattle.rh_laws.proofs.Common.{is_delta, Number, Choice, Maybe, GrammarRow, rows, nth_word, grammar_row, command_of, Words, address, and_left, and_right}
+use Rattle.rh_laws.proofs.Common.{◌>>=◌, is_delta, Number, Choice, Maybe, GrammarRow, rows, nth_word, grammar_row, command_of, Words, address, and_left, and_right}
 use Rattle.rh_defs.specs.Grammar.{Form, Name, Leaf, Ref, Delta, Address, Bytes, Value, Values, Maker, spelled_by}
 use Rattle.rh_defs.specs.Forms.{last_ref}
 use Rattle.rh_defs.specs.Range.{is_of}
@@ -185,6 +185,7 @@ word_read (Maybe form) words n value rest wanted clear h = absurd cc
 -- the last word, which may be left out
 last_read : (form : Form) (words : Words) (n : ℕ) (value : Value form) → is_clear form ≡ true →
     is_readable form value ≡ true → IsRead form words n value []
+unfolding ◌>>=◌
 last_read (Maybe form) words n None clear h = record {
   whole = refl;
   read = λ stand.
@@ -244,6 +245,7 @@ last_count form words n value clear stand = ended words (n + 1) (text_next form 
 
 all_read : (forms : List Form) (make : Maker forms) (words : Words) (n : ℕ) (values : Values forms) →
     are_clear forms ≡ true → are_readable forms values ≡ true → AreRead forms make words n values
+unfolding ◌>>=◌
 all_read [] make words n values clear h = record { whole = refl; count = ended words n; read = λ stand. refl }
 all_read (form ∷ []) make words n values clear h =
     let one = last_read form words n values.0 clear (and_left (is_readable form values.0) true h) in
@@ -285,7 +287,7 @@ pub record Spells (words : Words) (c : Command) : Type 0 where
 pub row_spells : (row : GrammarRow) (values : Values row.forms) → is_clear_row row ≡ true →
     grammar_row rows row.first (words_spelled (spelled_by row values)) Unknown ≡ Ok row → are_readable row.forms values ≡ true →
     Spells (words_spelled (spelled_by row values)) (made row.forms row.make values)
-unfolding command_by
+unfolding command_by ◌>>=◌
 row_spells row values proper found h =
     let words = words_spelled (spelled_by row values) in
     let n : ℕ = 1 + length row.further in

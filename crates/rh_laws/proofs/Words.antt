@@ -1,6 +1,6 @@
 -- Words that are joined by spaces are found again.
 use Rattle.rh_laws.proofs.Common.{◌≡◌, ℕ, Bool, true, false, ◌&&◌, not, List, [], ◌∷◌, length, refl, ◌∙◌, ap, arith, nat_le, nat_lt, ◌==◌, Some, Ok, list_all}
-use Rattle.rh_laws.proofs.Common.{join_with_byte, nat_tests, space, Command, longest_line, is_skipped, command_of, line_means, and_left, and_right}
+use Rattle.rh_laws.proofs.Common.{◌>>=◌, join_with_byte, nat_tests, space, Command, longest_line, is_skipped, command_of, line_means, and_left, and_right}
 use Rattle.std.specs.List.{slice_split, filter}
 use Rattle.std.proofs.lemmas.List.Splits.{slice_split_none, slice_split_at}
 use Rattle.std.proofs.lemmas.List.Sums.{AllPass-from_list_all}
@@ -62,6 +62,6 @@ short n h = grind (arith, nat_tests, h)
 pub line_joined : (w : List ℕ) (ws : List (List ℕ)) (c : Command) → list_all is_whole (w ∷ ws) ≡ true →
     nat_le (length (join_with_byte space (w ∷ ws))) longest_line ≡ true → is_skipped (w ∷ ws) ≡ false →
     command_of (w ∷ ws) ≡ Ok c → line_means (join_with_byte space (w ∷ ws)) ≡ Ok (Some c)
-unfolding line_means
+unfolding line_means ◌>>=◌
 line_joined w ws c whole fits meant spelled =
     rw (short (length (join_with_byte space (w ∷ ws))) fits, words_joined w ws whole, meant, spelled) refl

@@ -1,17 +1,17 @@
 -- What a line means, by its first word and its first six words.
-use Rattle.std.proofs.Common.{◌≡◌, ℕ, ◌+◌, ◌<◌, ◌≤◌, Bool, true, false, eqb, List, [], ◌∷◌, ◌++◌, length, take, Option, Some, refl, sym, ◌∙◌}
+use Rattle.std.proofs.Common.{◌≡◌, ℕ, ◌+◌, ◌<◌, ◌≤◌, Bool, true, false, eqb, List, [], ◌∷◌, ◌++◌, length, take, refl, ◌∙◌}
 use Rattle.std.proofs.Common.{ap, arith, rules, ◌&&◌, ◌||◌, ◌⊎◌, inl, inr}
-use Rattle.std.specs.Prelude.{nat_le, nat_lt, if◌then◌else◌, Ok, Err, IsErr, IsErrAnd}
+use Rattle.std.specs.Prelude.{nat_le, if◌then◌else◌, Ok, Err}
 use Rattle.rh_defs.specs.declared.fault.LineFault.{LineFault}
-use Rattle.rh_lines.specs.Placed.{if_placed}
 use Rattle.std.specs.List.{AllByRecursion, list_all, list_any}
 use Rattle.std.specs.Str.{bytes_eq}
 use Rattle.std.proofs.lemmas.List.{take_all, length-take}
 use borrow.Author.Tests.{tests}
 use Rattle.rh_defs.specs.declared.fault.LineFault.TheVariants.{Unknown, Word}
 use Rattle.rh_defs.specs.Grammar.{Form, Maybe, GrammarRow, rows}
-use Rattle.rh_defs.specs.Line.{words_of, nth_word, is_skipped, line_means, is_count, follow, grammar_row, row_means, longest_line}
-use Rattle.rh_defs.specs.Line.{command_by, command_of, Meaning, ◌>>=◌}
+use Rattle.rh_defs.specs.Line.{words_of, nth_word, is_skipped, is_count, follow, grammar_row, row_means}
+use Rattle.rh_defs.specs.Chain.{◌>>=◌}
+use Rattle.rh_defs.specs.Line.{command_by, command_of, Meaning}
 use Rattle.rh_defs.specs.declared.command.Command.{Command}
 use Rattle.rh_lines.specs.Readers.{IsNoneOf}
 use Rattle.rh_lines.specs.Words.{first_words}
@@ -57,7 +57,7 @@ none-both {w} {texts} {others} none more = record { differs = go texts none.diff
 pub by_none : (words : List (List ℕ)) {texts : List (List ℕ)} → IsNoneOf (nth_word words 1) texts
     → list_all (λ row. list_any (bytes_eq row.first) texts) rows ≡ true
     → Err Unknown ≡ command_of words
-unfolding command_by
+unfolding command_by ◌>>=◌
 by_none words {texts} none known = rw (no_row (nth_word words 1) words texts Unknown rows none.differs known) refl
 
 -- ---- by the first six words
@@ -107,12 +107,14 @@ module _ (words others : List (List ℕ)) (second : nth_word words 2 ≡ nth_wor
       ((f : LineFault) → by_rows words w f rs ≡ by_rows others w f rs) →
       ((if first && follows then Ok row else grammar_row rs w words (if first then Word 2 else fault)) >>= λ row. row_means row words)
       ≡ ((if first && follows then Ok row else grammar_row rs w others (if first then Word 2 else fault)) >>= λ row. row_means row others)
+  unfolding ◌>>=◌
   one_row w fault row rs true true short rest = too_long row short
   one_row w fault row rs true false short rest = rest (Word 2)
   one_row w fault row rs false follows short rest = rest fault
 
   too_many : (w : List ℕ) (rs : List GrammarRow) → list_all is_short rs ≡ true → (fault : LineFault) →
       by_rows words w fault rs ≡ by_rows others w fault rs
+  unfolding ◌>>=◌
   too_many w [] short fault = refl
   too_many w (row ∷ rs) short fault =
       let now = and_true (is_short row) (list_all is_short rs) short in
@@ -155,25 +157,5 @@ skipped_same (w ∷ words) = let longer : eqb (length (w ∷ take 5 words)) 0 �
 pub is_skipped-first_words : (line : List ℕ) → is_skipped (first_words line) ≡ is_skipped (words_of line)
 unfolding first_words
 is_skipped-first_words line = skipped_same (words_of line)
-
--- ---- a whole line
-
--- a line's command, which it has
-abbrev pub asked : Meaning Command → Meaning (Option Command)
-asked meaning = meaning >>= λ command. Ok (Some command)
-
--- what a line means that isn't too long, and isn't skipped, by its first six words
-pub means_asked : (line : List ℕ) (words : List (List ℕ)) → words ≡ first_words line → length line ≤ longest_line → is_skipped words ≡ false
-    → asked (command_of words) ≡ line_means line
-unfolding line_means
-means_asked line words all fits not =
-    let few : nat_lt longest_line (length line) ≡ false = search (rules, arith, tests) in
-    let here : is_skipped (words_of line) ≡ false = sym (is_skipped-first_words line) ∙ (ap is_skipped (sym all) ∙ not) in
-    rw (few, here) (ap asked (ap command_of all ∙ command_of-first_words line))
-
--- a fault that is handed on
-pub fault_same : (r : Meaning Bool) (fault : LineFault) (command : Command) → IsErr r → IsErrAnd r (λ other. other ≡ fault) → if_placed r command ≡ Err fault
-fault_same (Ok found) fault command is same = absurd (cc)
-fault_same (Err other) fault command is same = ap Err same
 
 pub ruleset by_words = (is_skipped-first_words, command_of-first_words)

@@ -1,6 +1,7 @@
 -- What a line asks for, where its command or its bytes are put in a place that the caller gives.
 use Rattle.std.specs.Prelude.{Bool, true, false, Option, Some, None, Ok, Err}
 use Rattle.rh_defs.specs.declared.command.Command.{Command}
+use Rattle.rh_defs.specs.Chain.{◌>>=◌}
 use Rattle.rh_defs.specs.Grammar.{rows}
 use Rattle.rh_defs.specs.Line.{Meaning, command_by}
 use Rattle.rh_defs.specs.Range.{in_range}
@@ -30,5 +31,5 @@ OnNone (Err fault) X = X
 
 -- opens what a command's row asks of its line, for a proof of one command
 unfoldable pub reading : Unit {0}
-unfolding command_by rows in_range
+unfolding command_by rows in_range ◌>>=◌
 reading = tt

@@ -54,6 +54,7 @@ fn task_of(words: &Words<'_>, command: &mut Command) -> Result<(), LineFault>
 }
 
 /// Whether a task is deaf, or one of files, where a fourth word says so.
+#[tactic(auto, unfolding(rh_defs::specs::Chain::computing))]
 fn deaf_at(words: &Words<'_>) -> Result<Option<bool>, LineFault>
     ensures { result ≡ value_at (Maybe (Choice (codes "deaf") (codes "file"))) words.now 4 }
 {
@@ -175,6 +176,7 @@ fn cancel_of(words: &Words<'_>, command: &mut Command) -> Result<(), LineFault>
 
 /// The id of a cancel, which a fourth word may give.
 #[inline(always)]
+#[tactic(auto, unfolding(rh_defs::specs::Chain::computing))]
 fn id_of(words: &Words<'_>) -> Result<Option<Ref>, LineFault>
     ensures means { result ≡ value_at (Maybe RefForm) words.now 4 }
     ensures form { IfOk result (λ id. IsTrue (is_of (Maybe RefForm) id)) }

@@ -15,7 +15,8 @@ use Rattle.rh_defs.specs.Grammar.{Form, Name, Leaf, Number, Ref, Delta, Address,
 use Rattle.rh_defs.specs.Range.{is_of, all_of, can_be_read, all_in_range}
 use Rattle.rh_defs.proofs.GrammarLaws.{Spells, RowSpells, AllSpell, rows-spell}
 use Rattle.rh_defs.specs.Script.{commands_in, lines_desk, meaning_desk}
-use Rattle.rh_defs.specs.Line.{Meaning, ◌>>=◌, longest_line, words_of, nth_word, name_at, number_at, delta_at, signed, is_negative, unsigned, address_at}
+use Rattle.rh_defs.specs.Chain.{◌>>=◌}
+use Rattle.rh_defs.specs.Line.{Meaning, longest_line, words_of, nth_word, name_at, number_at, delta_at, signed, is_negative, unsigned, address_at}
 use Rattle.rh_defs.specs.Line.{leaf_at}
 use Rattle.rh_defs.specs.Line.{choice_at, bytes_read_at, value_at, command_from, is_count, follow, grammar_row, command_by, command_of, is_skipped, line_means}
 
@@ -27,6 +28,7 @@ Means P (Err fault) = Unit {0}
 
 then_means : {A B : Type 0} (P : A → Type 0) (Q : B → Type 0) (m : Meaning A) (next : A → Meaning B) → Means P m →
     ((x : A) → P x → Means Q (next x)) → Means Q (m >>= next)
+unfolding ◌>>=◌
 then_means P Q (Ok x) next p f = f x p
 then_means P Q (Err fault) next p f = tt
 
