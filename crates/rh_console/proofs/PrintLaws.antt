@@ -1,7 +1,7 @@
 -- What lent bytes have of a text that was printed into them.
-use Rattle.std.proofs.Common.{◌≡◌, ℕ, ◌-◌, ◌<◌, ◌≤◌, List, [], ◌++◌, length, replicate, Some, None, Result, Ok, Err, sym, ap, ◌∙◌, arith, take_all}
+use Rattle.std.proofs.Common.{◌≡◌, ℕ, ◌-◌, ◌≤◌, List, [], ◌++◌, length, replicate, Some, None, Result, Ok, Err, sym, ap, ◌∙◌, arith, take_all}
 use Rattle.std.proofs.lemmas.List.{drop-replicate, length-replicate}
-use Rattle.std.specs.Prelude.{nat_le, drop, take, true, false, if◌then◌else◌}
+use Rattle.std.specs.Prelude.{nat_le, drop, take, true, if◌then◌else◌}
 use borrow.Author.Tests.{tests}
 use Rattle.rh_lines.proofs.TextLemmas.{writes_all, wrote}
 use Rattle.rh_lines.specs.Flow.{Puts}
@@ -39,13 +39,4 @@ prints-some {text} {lent} {now} {bytes} {n} fit are is told =
     record {
       bytes = is ∙ are ∙ sym (ap (λ b. if b then text ++ replicate (length lent - length text) 0 else lent) low);
       told = ap Some told ∙ sym (ap (λ b. if b then Some (length text) else None) low);
-    }
-
--- what is answered of one that has none
-pub prints-none : {text lent : List ℕ} → length lent < length text → Prints text lent lent None
-prints-none {text} {lent} longer =
-    let low : nat_le (length text) (length lent) ≡ false = grind (arith, tests) in
-    record {
-      bytes = sym (ap (λ b. if b then text ++ replicate (length lent - length text) 0 else lent) low);
-      told = sym (ap (λ b. if b then Some (length text) else None) low);
     }

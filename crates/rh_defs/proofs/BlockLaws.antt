@@ -8,7 +8,7 @@ use Rattle.rh_defs.specs.Pieces as pieces
 use Rattle.rh_defs.proofs.HeapLists.{cond_true, cond_false, eqb_same, eqb_apart, IsCut, first_at-cuts, HasRoom-from_tidy}
 use Rattle.std.proofs.lemmas.Grind.{same_number_lists}
 use Rattle.rh_defs.specs.HeapImage.{IsImage}
-use Rattle.rh_defs.proofs.BytesLaws.{put_more, length-part, get-part, put_below, put_above, put_inside, word-put_below, part-put_below}
+use Rattle.rh_defs.proofs.BytesLaws.{length-part, get-part, put_below, put_above, put_inside, word-put_below, part-put_below}
 use Rattle.rh_defs.proofs.HeapStretch.{Stand-kept}
 use Rattle.rh_defs.specs.Blocks.{bytes_at, written_at, HasBlock, Frees, Pokes}
 
@@ -292,23 +292,6 @@ pub IsImage-written : (b : List ℕ) (h : Heap) (a o : ℕ) (xs bs : List ℕ) �
     → IsImage (with_part b (a + o) xs) (poked a o xs h)
 IsImage-written b h a o xs bs s e i = record { whole = length-put b (a + o) xs ∙ s.whole; spells = Spells-written b h a o xs bs s.spells e i }
 
--- two writes into one block, the second where the first ends
-written-row : (a o q : ℕ) (xs ys : List ℕ) (p : ℕ) (ss : List Segment) → q ≡ o + length xs
-    → written_at a q ys p (written_at a o xs p ss) ≡ written_at a o (xs ++ ys) p ss
-written-row a o q xs ys p [] e = refl
-written-row a o q xs ys p (Used bs ∷ ss) e = elim (cases_eq a (p + 4)) [
-  | inl z ↦ let t = eqb_same a (p + 4) z in
-      ap (written_at a q ys p) (cond_true (eqb a (p + 4)) _ _ t) ∙ cond_true (eqb a (p + 4)) _ _ t
-      ∙ ap (λ l. Used l ∷ ss) (ap (λ k. with_part (with_part bs o xs) k ys) e ∙ sym (put_more bs o xs ys)) ∙ sym (cond_true (eqb a (p + 4)) _ _ t)
-  | inr ne ↦ let f = eqb_apart a (p + 4) ne in
-      ap (written_at a q ys p) (cond_false (eqb a (p + 4)) _ _ f) ∙ cond_false (eqb a (p + 4)) _ _ f
-      ∙ ap (λ l. Used bs ∷ l) (written-row a o q xs ys (p + (4 + length bs)) ss e) ∙ sym (cond_false (eqb a (p + 4)) _ _ f)
-]
-written-row a o q xs ys p (Hole n ∷ ss) e = ap (λ l. Hole n ∷ l) (written-row a o q xs ys (p + n) ss e)
-
-pub poked-row : (a o q : ℕ) (xs ys : List ℕ) (h : Heap) → q ≡ o + length xs → poked a q ys (poked a o xs h) ≡ poked a o (xs ++ ys) h
-poked-row a o q xs ys h e = ap (λ (l : List Segment). let k : Heap = record { segments = l; end = h.end } in k) (written-row a o q xs ys 16 h.segments e)
-
 pub has-poked : (a n o : ℕ) (xs : List ℕ) (h : Heap) → HasBlock a n h → HasBlock a n (poked a o xs h)
 has-poked a n o xs h b =
     record {
@@ -325,41 +308,3 @@ poked-other a b o xs h ne = written-other a b o xs 16 h.segments ne
 
 pub block-above : (a : ℕ) (h : Heap) (bs : List ℕ) → block_bytes a h ≡ Some bs → 20 ≤ a
 block-above a h bs e = let r = range_at a 16 h.segments bs e in r.0
-
--- ---- a block that is released was written in vain
-abbrev poked_cut : ℕ → List ℕ → Split Segment → Split Segment
-poked_cut o xs s = record { before = s.before; here = Used (with_part (bytes_of s.here) o xs); after = s.after }
-
-poked-behind : (o : ℕ) (xs : List ℕ) (g : Segment) (q : Option (Split Segment))
-    → option_map (pieces.behind g) (option_map (poked_cut o xs) q) ≡ option_map (poked_cut o xs) (option_map (pieces.behind g) q)
-poked-behind o xs g None = refl
-poked-behind o xs g (Some s) = refl
-
-first-poked : (a o : ℕ) (xs : List ℕ) (p : ℕ) (ss : List Segment)
-    → first_at size_of (is_block_at a) p (written_at a o xs p ss) ≡ option_map (poked_cut o xs) (first_at size_of (is_block_at a) p ss)
-first-poked a o xs p [] = refl
-first-poked a o xs p (Hole n ∷ ss) =
-    ap (option_map (pieces.behind (Hole n))) (first-poked a o xs (p + n) ss) ∙ poked-behind o xs (Hole n) (first_at size_of (is_block_at a) (p + n) ss)
-first-poked a o xs p (Used bs ∷ ss) = elim (cases_eq a (p + 4)) [
-  | inl z ↦ let t = eqb_same a (p + 4) z in
-      ap (first_at size_of (is_block_at a) p) (cond_true (eqb a (p + 4)) _ _ t) ∙ cond_true (eqb a (p + 4)) _ _ t
-      ∙ sym (ap (option_map (poked_cut o xs)) (cond_true (eqb a (p + 4)) _ _ t))
-  | inr ne ↦ let f = eqb_apart a (p + 4) ne in
-      ap (first_at size_of (is_block_at a) p) (cond_false (eqb a (p + 4)) _ _ f) ∙ cond_false (eqb a (p + 4)) _ _ f
-      ∙ ap (option_map (pieces.behind (Used bs))) (first-poked a o xs (p + (4 + length bs)) ss)
-      ∙ poked-behind o xs (Used bs) (first_at size_of (is_block_at a) (p + (4 + length bs)) ss)
-      ∙ sym (ap (option_map (poked_cut o xs)) (cond_false (eqb a (p + 4)) _ _ f))
-]
-
-pub release-poked : (a o : ℕ) (xs : List ℕ) (h : Heap) (bs : List ℕ) → block_bytes a h ≡ Some bs → release_block a (poked a o xs h) ≡ release_block a h
-release-poked a o xs h bs e = ap (λ q. release_found q (poked a o xs h)) (first-poked a o xs 16 h.segments)
-    ∙ go (block_at a h) (block_at-bytes a h) (first_at-cuts size_of (is_block_at a) 16 h.segments)
-  where
-    go : (q : Option (Split Segment)) → bytes_here q ≡ block_bytes a h → IfSome q (IsCut size_of (is_block_at a) 16 h.segments)
-        → release_found (option_map (poked_cut o xs) q) (poked a o xs h) ≡ release_found q h
-    go None f c = absurd (let bad : None ≡ Some bs = f ∙ e in cc)
-    go (Some s) f c =
-        let b = block_cut a (16 + total size_of s.before) s.here c.passes in
-        let n : 4 + length (with_part (bytes_of s.here) o xs) ≡ size_of s.here =
-        ap (λ k. 4 + k) (length-put (bytes_of s.here) o xs ∙ ap (λ g. length (bytes_of g)) b.1) ∙ sym (ap size_of b.1) in
-        ap (λ (k : ℕ). let r : Heap = record { segments = joined (s.before ++ Hole k ∷ s.after); end = h.end } in r) n

@@ -1,6 +1,6 @@
 -- Two chains of steps, one of which follows the other: both are refused alike, or both are granted and related.
 use Rattle.rh_defs.proofs.Common.{◌≡◌, Bool, true, false, cond, sym, subst, Ok, Err, Refusal, Granted, ◌>>=◌, ◌>>◌, or_else}
-use Rattle.rh_defs.proofs.Chains.{OnGrant, granted, refused}
+use Rattle.rh_defs.proofs.Chains.{granted, refused}
 
 -- both are refused by the same refusal, or what they give is related. A data type, so that the relation is found from a goal
 pub data Follows {A : Type 0} (R : A → A → Type 0) : Granted A → Granted A → Type 0 where
@@ -54,16 +54,3 @@ follows-equal {R = R} first second next other e h = subst (λ third. Follows R (
 pub follows-as : {A B : Type 0} {R : B → B → Type 0} (first second : Granted A) (next other : Granted B) → second ≡ first → Follows R next other
     → Follows R (first >> next) (second >> other)
 follows-as {R = R} first second next other e h = subst (λ third. Follows R (first >> next) (third >> other)) (sym e) (follows-then first next other h)
-
--- the same first step, of whose grant something is known
-follows-granted : {A B : Type 0} {Q : A → Type 0} {R : B → B → Type 0} {first : Granted A} (next other : A → Granted B) → OnGrant Q first
-    → ((x : A) → Q x → Follows R (next x) (other x)) → Follows R (first >>= next) (first >>= other)
-unfolding ◌>>=◌
-follows-granted next other (granted {x = x} q) h = h x q
-follows-granted next other refused h = Follows.neither
-
--- equal first steps, of whose grant something is known
-pub follows-known : {A B : Type 0} {Q : A → Type 0} {R : B → B → Type 0} {first second : Granted A} (next other : A → Granted B) → second ≡ first
-    → OnGrant Q first → ((x : A) → Q x → Follows R (next x) (other x)) → Follows R (first >>= next) (second >>= other)
-follows-known {R = R} {first = first} next other e known h =
-    subst (λ third. Follows R (first >>= next) (third >>= other)) (sym e) (follows-granted next other known h)

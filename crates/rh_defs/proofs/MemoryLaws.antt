@@ -99,13 +99,6 @@ pub pages-fresh : (pages : ℕ) → (fresh pages).pages ≡ pages
 unfolding fresh
 pages-fresh pages = refl
 
-pub loan-fresh : (pages : ℕ) → (fresh pages).loan ≡ 0
-unfolding fresh
-loan-fresh pages = refl
-
-pub bytes-fresh : (pages id : ℕ) → bytes (fresh pages) id ≡ []
-bytes-fresh pages id = bytes-none (fresh pages) id (area-fresh pages id)
-
 -- an area opened
 pub area-opened_same : (m : Memory) (id : ℕ) → (opened m id).area id ≡ Some []
 unfolding opened

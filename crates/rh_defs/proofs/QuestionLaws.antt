@@ -61,10 +61,6 @@ quiet-granted said quiet = refl
 pub same-self : (n : Numbers) → is_same n n ≡ true
 same-self n = search (rules, tests)
 
--- replies that are the same are equal
-pub same-equal : (a b : Numbers) → is_same a b ≡ true → a ≡ b
-same-equal a b e = search (rules, tests)
-
 -- the reply to a question is printed as its answer is
 pub question-text : (d : Desk) (q : Question) → can_be_asked q ≡ true →
     reply_text (step d (command.Ask q)).0 (command.Ask q) (step d (command.Ask q)).1 ≡ answer_text (asked d q)

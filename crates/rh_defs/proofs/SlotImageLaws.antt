@@ -136,9 +136,6 @@ SpellsSlot-budging on b s k =
     let w = k.words in
     record { words = record { heap = w.heap; within = w.within; lie = w.lie; hang = w.hang; none = w.none; anchors = w.anchors }; pages = k.pages }
 
-pub one_slot : (b : List ℕ) (s t : Slot) → SpellsSlot b s → SpellsSlot b t → s.budging ≡ t.budging → s ≡ t
-one_slot b s t j k e = sym (slot_of-SpellsSlot b s j) ∙ ap (λ x. slot_of x b) e ∙ slot_of-SpellsSlot b t k
-
 -- ---- bytes that stay
 
 -- the slot's bytes stay, and what is behind them does not matter

@@ -164,10 +164,6 @@ find k (f ∷ fs) = elim (cases_eq f.anchor k) [
   | inr ne ↦ elim (find k fs) [ inl u ↦ inl (ne, u) | inr t ↦ inr (at_next k f fs ne t) ]
 ]
 
-pub not_free : (k : ℕ) (xs : List Flex) (f : Flex) (ys : List Flex) → f.anchor ≡ k → IsFree k (xs ++ f ∷ ys) → ⊥
-not_free k [] f ys e u = u.0 e
-not_free k (g ∷ xs) f ys e u = not_free k xs f ys e u.1
-
 none_pass : (k p : ℕ) (xs : List Flex) → IsFree k xs → NonePass weight (λ _ b. b.anchor == k) p xs
 none_pass k p [] u = tt
 none_pass k p (f ∷ xs) u = (eqb_apart f.anchor k u.0, none_pass k (p + weight f) xs u.1)

@@ -1,5 +1,5 @@
 -- How a run, a check and the words end, from what their calls say.
-use Rattle.std.proofs.Common.{◌≡◌, ◌≢◌, ◌⊎◌, inl, inr, refl, sym, ap, subst, ◌∙◌, ℕ, ◌+◌, ◌≤◌, min, arith, true, false, Bool, Bor, List, [], ◌∷◌, ◌++◌}
+use Rattle.std.proofs.Common.{◌≡◌, ◌≢◌, inl, inr, refl, sym, ap, subst, ◌∙◌, ℕ, ◌+◌, ◌≤◌, min, arith, true, false, Bool, Bor, List, [], ◌∷◌, ◌++◌}
 use Rattle.std.proofs.Common.{length, map, take, codes, Option, Some, None, Result, Ok, Err, IfOk, IfErr, IfSome, option_map}
 use Rattle.std.proofs.lemmas.List.{length-take, take_all}
 use Rattle.std.specs.Prelude.{All, IsErrOf}
@@ -16,16 +16,15 @@ use Rattle.rh_session.specs.declared.status.RunFault.TheVariants.{NoMemory, Read
 use Rattle.rh_session.specs.declared.status.Status.{Status}
 use Rattle.rh_session.specs.declared.status.Status.TheVariants as status
 use Rattle.clap.specs.Words.{Row, Text, fault_of, subcommand_of}
-use Rattle.clap.specs.declared.error.kind.ErrorKind.{ErrorKind}
 use Rattle.clap.specs.declared.error.kind.ErrorKind.TheVariants as kind
 use Rattle.rh_desk.specs.CommandLine.{program_words}
-use Rattle.rh_desk.specs.Done.{CheckOver, ErrorEnds, FileOver, IsWhole, MapOver, RequestEnds, RunEnds, RunOver, SheetOver, ShownOver, Streams, Untouched}
+use Rattle.rh_desk.specs.Done.{CheckOver, FileOver, IsWhole, MapOver, RequestEnds, RunEnds, RunOver, SheetOver, ShownOver, Streams, Untouched}
 use Rattle.rh_desk.specs.Done.{WordsEnd, line_as, status_as}
-use Rattle.rh_desk.specs.Ending.{ending_of, exit_status}
+use Rattle.rh_desk.specs.Ending.{ending_of}
 use Rattle.rh_desk.specs.FileWords.{AreGood, TellsBadFile, word_name}
-use Rattle.rh_desk.specs.Requests.{AsksFor, AsksNothing}
+use Rattle.rh_desk.specs.Requests.{AsksFor}
 use Rattle.rh_desk.specs.declared.ending.Ending.{Ending}
-use Rattle.rh_desk.specs.declared.ending.Ending.TheVariants.{Clean, BadLines, WrongWords, Fault}
+use Rattle.rh_desk.specs.declared.ending.Ending.TheVariants.{Clean, BadLines}
 use Rattle.rh_desk.specs.declared.request.ImageKind.{ImageKind}
 use Rattle.rh_desk.specs.declared.request.Request.{Request}
 use Rattle.rh_desk.specs.declared.request.Shown.{Shown}
@@ -179,32 +178,9 @@ file-over remaining shown d path s ending file inner failed reads rest of well n
     let flagged = subst (λ b. ShownOver shown path d (noted remaining inner b 0 rest s) ending) well counted in
     inl (same, (file, rest, subst (λ f. ShownOver shown path d (noted remaining f false 0 rest s) ending) of flagged))
 
--- how an error in the words ends the program
-pub error-ends : (k : ErrorKind) (s : Streams) (ending : Ending) → (ending ≡ BadLines → ⊥)
-    → (k ≡ kind.OutOfMemory → ending ≡ Fault)
-    → (ending ≡ Clean → (k ≡ kind.DisplayHelp) ⊎ (k ≡ kind.DisplayVersion))
-    → (ending ≡ WrongWords → (k ≢ kind.DisplayHelp) × (k ≢ kind.DisplayVersion))
-    → (exit_status ending ≤ 1 → s.new.failed ≡ s.old.failed)
-    → (ending ≡ WrongWords → s.new ≡ s.old)
-    → (ending ≡ Clean → s.told ≡ s.quiet)
-    → (ending ≡ Fault → (Tells s.quiet s.told (run_fault_text NoMemory) × (s.new ≡ s.old))
-    ⊎ (Tells s.quiet s.told (run_fault_text WriteFailed) × (s.new.failed ≡ true) × ((k ≡ kind.DisplayHelp) ⊎ (k ≡ kind.DisplayVersion))))
-    → ErrorEnds k s ending
-error-ends k s Clean ran memory shown mistake well wrong quiet fault = (shown refl, well (omega arith), quiet refl)
-error-ends k s BadLines ran memory shown mistake well wrong quiet fault = ran refl
-error-ends k s WrongWords ran memory shown mistake well wrong quiet fault =
-    ((mistake refl).0, (mistake refl).1, (λ none. let other = memory none in cc), wrong refl)
-error-ends k s Fault ran memory shown mistake well wrong quiet fault = fault refl
-
 -- the words are `clap`'s, and ask for this
 pub words-ask : {F : Type 0} (remaining : F → Option (List ℕ)) (words : List (List ℕ)) (found : Option (Text × List Row)) (request : Request) (s : Streams)
     (ending : Ending)
     → found ≡ subcommand_of program_words words → fault_of program_words words ≡ [] → AsksFor found request → RequestEnds remaining request s ending
     → WordsEnd remaining words s ending
 words-ask remaining words found request s ending is none asks ends = inl (none, (request, subst (λ f. AsksFor f request) is asks, ends))
-
--- they are, and ask for nothing
-pub words-rest : {F : Type 0} (remaining : F → Option (List ℕ)) (words : List (List ℕ)) (found : Option (Text × List Row)) (s : Streams) (ending : Ending)
-    → found ≡ subcommand_of program_words words → fault_of program_words words ≡ [] → AsksNothing found → ending ≡ WrongWords → Untouched s → s.told ≡ s.quiet
-    → WordsEnd remaining words s ending
-words-rest remaining words found s ending is none nothing wrong still quiet = inr (inr (none, subst AsksNothing is nothing, wrong, still, quiet))

@@ -1,7 +1,6 @@
 -- The lines of a reply, one by one.
-use Rattle.rh_draw.proofs.Common.{◌≡◌, ℕ, suc, ◌-◌, Bool, true, false, List, [], ◌∷◌, ◌++◌, refl, sym, ap, ◌∙◌, codes, nat_lt, if◌then◌else◌, flat_map}
+use Rattle.rh_draw.proofs.Common.{◌≡◌, ℕ, suc, ◌-◌, Bool, true, false, List, [], ◌∷◌, ◌++◌, refl, sym, ap, ◌∙◌, codes, if◌then◌else◌, flat_map}
 use Rattle.rh_draw.proofs.Common.{join_by, flat_map-append, cut, lines_in, escape, escaped_byte, behind_feeds}
-use Rattle.rh_figure.specs.Map.{more_lines}
 use Rattle.rh_figure.specs.declared.limits.TheConstants.{REPLY_COLUMNS, MOST_REPLY_LINES}
 use Rattle.rh_map.specs.Replies.{excerpt_lines, first_lines, more_behind}
 
@@ -26,13 +25,6 @@ one-line : (some : Bool) (line : List ℕ)
     → joined (if some then line ∷ [] else []) ≡ escape (flat_map (λ (l : List ℕ). l) (if some then line ∷ [] else []))
 one-line true line = refl
 one-line false line = refl
-
--- a reply whose front has no lines
-pub joined-none : (front : List ℕ) (count : ℕ) → lines_in front ≡ []
-    → escape (flat_map (λ (line : List ℕ). line) (more_behind count)) ≡ joined (excerpt_lines front count)
-joined-none front count is =
-    sym (ap (λ ls. joined (first_lines MOST_REPLY_LINES ls ++ more_behind count)) is
-    ∙ one-line (nat_lt MOST_REPLY_LINES count) (more_lines (count - MOST_REPLY_LINES)))
 
 -- a reply whose front has some: the first one, those behind it, and what is said of the others
 pub joined-some : (front behind : List ℕ) (line : List ℕ) (count : ℕ) → lines_in front ≡ line ∷ lines_in behind

@@ -20,11 +20,6 @@ some-count n many = let e : nat_le n 24 ≡ false = grind (arith, nat_tests) in 
 pub shown-few : (cards : List Card) → length cards ≤ 24 → shown_cards cards ≡ cards
 shown-few cards few = let e : nat_le (length cards) 24 ≡ true = grind (arith, nat_tests) in rw e refl
 
-pub shown-many : (cards : List Card) → 24 < length cards → (fresh : List Card) → take 1 (filter (λ (c : Card). c.fresh) (drop 22 cards)) ≡ fresh
-    → shown_cards cards ≡ take 22 cards ++ (fresh ++ more_card (length cards - 22 - length fresh) ∷ [])
-shown-many cards many fresh e = let k : nat_le (length cards) 24 ≡ false =
-    grind (arith, nat_tests) in rw (k, e) (append_assoc (take 22 cards) fresh (more_card (length cards - 22 - length fresh) ∷ []))
-
 pub shown-parts : (cards : List Card) → 24 < length cards → shown_cards cards ≡ take 22 cards ++ cards_behind cards
 shown-parts cards many =
     let k : nat_le (length cards) 24 ≡ false = grind (arith, nat_tests) in
@@ -50,12 +45,6 @@ alike-drop test (suc n) [] [] a = tt
 alike-drop test (suc n) [] (c ∷ cards) a = absurd a
 alike-drop test (suc n) (x ∷ items) [] a = absurd a
 alike-drop test (suc n) (x ∷ items) (c ∷ cards) a = alike-drop test n items cards a.1
-
-pub alike-long : {A : Type 0} (test : A → Bool) (items : List A) (cards : List Card) → Alike test items cards → length items ≡ length cards
-alike-long test [] [] a = refl
-alike-long test [] (c ∷ cards) a = absurd a
-alike-long test (x ∷ items) [] a = absurd a
-alike-long test (x ∷ items) (c ∷ cards) a = ap suc (alike-long test items cards a.1)
 
 pub pick-none : {A : Type 0} (test : A → Bool) (n : ℕ) (items : List A) (cards : List Card) → Alike test items cards → place_from test n items ≡ None
     → take 1 (filter (λ (c : Card). c.fresh) cards) ≡ []

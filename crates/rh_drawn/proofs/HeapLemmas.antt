@@ -15,7 +15,7 @@ use Rattle.rh_defs.specs.Order.{is_to}
 use Rattle.rh_defs.specs.Pieces.{total}
 use Rattle.rh_defs.specs.Post.{Seat, has_seat, holds_such, post_is_message}
 use Rattle.rh_defs.specs.Records.{is_buffer_of}
-use Rattle.rh_figure.specs.Cards.{cards_from, hole_card, in_use_text, post_card, post_or_used_card, used_card}
+use Rattle.rh_figure.specs.Cards.{cards_from, in_use_text, post_card, post_or_used_card, used_card}
 use Rattle.rh_figure.specs.Layout.{is_fresh_block}
 use Rattle.rh_figure.specs.Scene.{held_list}
 use Rattle.rh_sight.specs.declared.sight.HeapOf.{HeapOf}
@@ -337,10 +337,6 @@ pub record HoleHere (p a n : ℕ) (s : Segment) : Type 0 where
   pub is : s ≡ Hole n
   pub at : p ≡ a
 
-pub hole-here : (p a n : ℕ) (s : Segment) → segment_item p s ≡ segment.Hole a n → HoleHere p a n s
-hole-here p a n (Used bytes) e = absurd (cc)
-hole-here p a n (Hole m) e = let size : m ≡ n = cc in let at : p ≡ a = cc in record { is = ap Hole size; at = at }
-
 pub record UsedHere (p a n : ℕ) (s : Segment) : Type 0 where
   pub bytes : List ℕ
   pub is : s ≡ Used bytes
@@ -355,14 +351,6 @@ pub has-block : {o : Option Heap} {place : ℕ} {s : Segment} (bytes : List ℕ)
 has-block {o} {place} {s} bytes has e =
     let P : Option Heap → Type 0 = λ z. SeesBlock z place bytes in
     subst P (sym has.is) (record { below = has.below; above = has.above; whole = has.whole ∙ ap (λ z. has.below ++ z ∷ has.above) e; at = has.at })
-
-hole-for : (x : Scene) (d : Desk) (b : Band) (o : HeapOf) (p n : ℕ) → IsBandFor d b o → hole_card p n ≡ card_for x d o p (Hole n)
-hole-for x d b (heap_of.Task i) p n r = sym (ap (λ o. card_of_task x o p (Hole n)) r.1)
-hole-for x d b heap_of.Module p n r = refl
-
-pub hole-is : (x : Scene) (d : Desk) (b : Band) (p a n : ℕ) (s : Segment) → IsBandOf d b → HoleHere p a n s → hole_card a n ≡ band_card x d b p s
-hole-is x d b p a n s r q =
-    ap (λ z. hole_card z n) (sym q.at) ∙ (hole-for x d b b.heap p n r ∙ ap (band_card x d b p) (sym q.is))
 
 -- the card of a block that is no message
 abbrev pub plain_card : Scene → Band → ℕ → List ℕ → Card

@@ -1,19 +1,16 @@
 -- Owners of pages, and the pages that they have.
-use Rattle.rh_drawn.proofs.Common.{◌≡◌, ℕ, zero, suc, ◌+◌, ◌<◌, ◌≤◌, ◌++◌, true, false, arith, refl, ap, sym, subst, ◌∙◌, List, [], ◌∷◌, length, drop, Option}
-use Rattle.rh_drawn.proofs.Common.{Some, IfSome, IsSome, slice_get, slice_index, if◌then◌else◌, ◌==◌, codes, nat_lt, enumerate_from, option_map, nat_tests}
-use Rattle.rh_drawn.proofs.Common.{drop_all, drop_more, length-drop, Desk, Made, Task, module_pages, task_pages, IsDesk, Rise, taken_line, Scene, AreaOf}
+use Rattle.rh_drawn.proofs.Common.{◌≡◌, ℕ, zero, suc, ◌+◌, ◌<◌, ◌≤◌, ◌++◌, true, arith, refl, ap, sym, subst, ◌∙◌, List, [], ◌∷◌, length, drop}
+use Rattle.rh_drawn.proofs.Common.{Some, IfSome, slice_get, slice_index, if◌then◌else◌, ◌==◌, codes, nat_lt, enumerate_from, option_map, nat_tests}
+use Rattle.rh_drawn.proofs.Common.{drop_more, Desk, Made, Task, module_pages, task_pages, IsDesk, Rise, taken_line, Scene, AreaOf}
 use Rattle.rh_drawn.proofs.Common.{IsShared, Owner, SlotOf, count_of, share_in, indented, takes_part, at-some}
 use Rattle.rh_defs.specs.Forms.{first_made, most_pages}
 use Rattle.rh_defs.specs.Desk.{module_area}
-use Rattle.rh_figure.specs.Changes.{freed_line, freed_pages, freed_text, taken_pages}
+use Rattle.rh_figure.specs.Changes.{taken_pages}
 use Rattle.rh_figure.specs.Phrases.{owner_name}
 use Rattle.rh_sight.specs.declared.sight.PagesOf.{PagesOf}
 use Rattle.rh_sight.specs.declared.sight.PagesOf.TheVariants as pages
 use Rattle.rh_sight.specs.Seen.{owner_seen}
 use Rattle.rh_sight.proofs.Holders.{area-at, count-fixed, count-made, count-slot, room-of}
-
-pub is-some : {A : Type 0} {o : Option A} {x : A} → o ≡ Some x → IsSome o
-is-some {A} {o} {x} e = let P : Option A → Type 0 = λ z. IsSome z in subst P (sym e) refl
 
 -- a member's number is at least the first one
 rise-least : {A : Type 0} (number : A → ℕ) (least next : ℕ) (xs : List A) (i : ℕ) (x : A) → Rise number least next xs → slice_get xs i ≡ Some x
@@ -67,23 +64,8 @@ numbered-next i xs low =
 
 -- ---- what an owner has taken
 
-pub takes-none : (x : Scene) (o : Owner) (n : ℕ) → n ≤ count_of o x.before.holdings → takes_part x (o, n) ≡ []
-takes-none x o n low =
-    let off : nat_lt (count_of o x.before.holdings) n ≡ false = grind (arith, nat_tests) in
-    ap (λ b. indented (if b then taken_line (owner_name x.desk o) (taken_pages x (o, n)) ∷ [] else [])) off
-
 pub takes-some : (x : Scene) (o : Owner) (n : ℕ) → count_of o x.before.holdings < n
     → takes_part x (o, n) ≡ (codes "  " ++ taken_line (owner_name x.desk o) (taken_pages x (o, n))) ∷ []
 takes-some x o n low =
     let on : nat_lt (count_of o x.before.holdings) n ≡ true = grind (arith, nat_tests) in
     ap (λ b. indented (if b then taken_line (owner_name x.desk o) (taken_pages x (o, n)) ∷ [] else [])) on
-
-pub freed-none : (x : Scene) → length x.share.free ≤ x.before.free → indented (freed_text (freed_pages x)) ≡ []
-freed-none x past = ap (λ z. indented (freed_text z)) (drop_all x.before.free x.share.free past)
-
-some-freed : (numbers : List ℕ) → 0 < length numbers → freed_text numbers ≡ freed_line numbers ∷ []
-some-freed [] some = absurd (omega (arith, some))
-some-freed (n ∷ ns) some = refl
-
-pub freed-some : (x : Scene) → x.before.free < length x.share.free → indented (freed_text (freed_pages x)) ≡ (codes "  " ++ freed_line (freed_pages x)) ∷ []
-freed-some x some = ap indented (some-freed (freed_pages x) (omega (arith, length-drop x.before.free x.share.free)))

@@ -53,11 +53,6 @@ fault_with : Bool → ℕ → Text → Desk → Share → LineFault → List Tex
 fault_with wanted n shown d s fault =
     (decimal n ++ (codes "  " ++ shown ++ [])) ∷ drop 1 (fault_lines wanted s n [] fault d)
 
-fault_shown : (wanted : Bool) (s : Share) (n : ℕ) (line : Text) (fault : LineFault) (d : Desk)
-    → fault_lines wanted s n line fault d ≡ fault_with wanted n (cut LINE_COLUMNS line) d s fault
-unfolding fault_with
-fault_shown wanted s n line fault d = refl
-
 pub long_lines : (line : List ℕ) → longest_line < length line → (marked : Bool) (s : Share) (p : Place)
     → lines_of_read marked s p (kept line, Err TooLong) ≡ lines_of_read marked s p (line, Err TooLong)
 unfolding fault_with kept

@@ -3,7 +3,7 @@ use Rattle.rh_heap.proofs.Common.{◌≡◌, ◌≢◌, ℕ, ◌+◌, ◌-◌, �
 use Rattle.rh_heap.proofs.Common.{sym, ap, subst, ◌∙◌, arith, bit_and, cases_eq, cases_lt, eqb_same, BITS, bit, Became, LastBit}
 use Rattle.std.specs.Int.{bit_at}
 use Rattle.std.specs.Int.Count.{count_leading_zeros}
-use Rattle.std.proofs.lemmas.List.{get_or-set_same, get_or-set_other, get_or_past}
+use Rattle.std.proofs.lemmas.List.{get_or-set_same, get_or-set_other}
 use Rattle.std.proofs.Math.Nat.{pow-suc}
 use Rattle.std.proofs.lemmas.Nat.{and_le_l, leading_top, le-div, div_below, pow_pos, one_shl}
 use Rattle.std.proofs.lemmas.Nat.Bits.{bit_at-zero, bit_at-lt, bit_at_above, bit_at_and, bit_at_ones, bit_at_ones_above}
@@ -28,14 +28,6 @@ module _ (lane k v b : ℕ) (old new : List ℕ) (lt : lane < 2) (e : new ≡ se
     ];
     other = λ lane' j small ne. ap (λ w. bit_at w (j % BITS)) (word_still j lane' (omega arith));
   }
-
--- a bit past the map's end is clear
-pub past_end : (lane k : ℕ) (starts : List ℕ) → length starts ≤ 2 * (k / BITS) + lane → bit lane starts k ≡ 0
-past_end lane k starts l = ap (λ w. bit_at w (k % BITS)) (get_or_past starts (2 * (k / BITS) + lane) 0 l) ∙ bit_at-zero (k % BITS)
-
--- nothing is to be cleared there
-pub became_clear : (lane k : ℕ) (starts : List ℕ) → length starts ≤ 2 * (k / BITS) + lane → Became lane k 0 starts starts
-became_clear lane k starts l = record { here = past_end lane k starts l; same = λ j ne. refl; other = λ lane' j small ne. refl }
 
 -- ---- the search
 -- A search below n has come to a line, and what is left of it is in a word.

@@ -115,9 +115,6 @@ module _ (delta : ℤ) (s : Split Segment) (h : Heap) (n : ℕ) (en : n ≡ new_
 pub no_block_resize : (address : ℕ) (delta : ℤ) (h : Heap) → block_at address h ≡ None → resize_block address delta h ≡ Err NotABlock
 no_block_resize address delta h e = ap (λ o. resize_found delta o h) e
 
-pub no_block_need : (address : ℕ) (delta : ℤ) (h : Heap) → block_at address h ≡ None → need_at address delta h ≡ Err NotABlock
-no_block_need address delta h e = ap (λ o. need_found delta o h) e
-
 module _ (at : ℕ) (h : Heap) (address : ℕ) (spot : Spot) (f : FoundBlock at h address spot) (delta : ℤ) (n : ℕ) (en : n ≡ moved (spot.size - 4) delta) where
   abbrev s : Split Segment
   s = cut_of at h spot (at_place f)

@@ -2,7 +2,8 @@
 use Rattle.rh_laws.proofs.Common.{◌≡◌, ℕ, zero, suc, ◌+◌, ◌-◌, ◌^◌, ◌<◌, Bool, true, false, ◌&&◌, ◌||◌, not, cond, List, [], ◌∷◌, ◌++◌, length, drop}
 use Rattle.rh_laws.proofs.Common.{length-append, refl, sym, subst, ap, ◌∙◌, arith, nat_le, nat_lt, ◌==◌, Some, None, Ok, slice_get, unwrap_or}
 use Rattle.rh_laws.proofs.Common.{list_all, decimal, signed_decimal, bytes_eq, nat_tests, bytes_eq-Decides, encode_lower, Command, Unknown, is_name, is_leaf}
-use Rattle.rh_laws.proofs.Common.{◌>>=◌, is_delta, Number, Choice, Maybe, GrammarRow, rows, nth_word, grammar_row, command_of, Words, address, and_left, and_right}
+use Rattle.rh_laws.proofs.Common.{◌>>=◌, is_delta, Number, Choice, Maybe, GrammarRow, rows, nth_word, grammar_row, command_of, Words, address, and_left}
+use Rattle.rh_laws.proofs.Common.{and_right}
 use Rattle.rh_defs.specs.Grammar.{Form, Name, Leaf, Ref, Delta, Address, Bytes, Value, Values, Maker, spelled_by}
 use Rattle.rh_defs.specs.Forms.{last_ref}
 use Rattle.rh_defs.specs.Range.{is_of}

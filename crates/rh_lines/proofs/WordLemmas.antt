@@ -1,30 +1,15 @@
 -- A word is no longer than its line, and twice as long as the bytes that it spells.
 use Rattle.std.specs.Result.{result_ok}
-use Rattle.std.proofs.Common.{Result, Ok, Err, refl, ◌*◌, ◌≡◌, ℕ, zero, suc, ◌≤◌, Bool, true, false, cond, not, eqb, List, [], ◌∷◌, length, Some, arith}
-use Rattle.std.specs.List.{slice_split, onto_first, filter, slice_get}
+use Rattle.std.proofs.Common.{Result, Ok, Err, refl, ◌*◌, ◌≡◌, ℕ, zero, suc, ◌≤◌, Bool, true, false, cond, List, [], ◌∷◌, length, Some}
+use Rattle.std.specs.List.{filter, slice_get}
 use Rattle.hex.specs.Hex.{decode_of}
 use Rattle.hex.specs.declared.error.FromHexError.{FromHexError}
 use Rattle.hex.proofs.HexLemmas.{decode_of-ok}
-use Rattle.rh_defs.specs.Bytes.{space}
-use Rattle.rh_defs.specs.Line.{words_of}
 
 -- no list here is longer than n
 abbrev AllShort : ℕ → List (List ℕ) → Type 0
 AllShort n [] = Unit {0}
 AllShort n (w ∷ ws) = (length w ≤ n) × AllShort n ws
-
-weaker : (n : ℕ) (ws : List (List ℕ)) → AllShort n ws → AllShort (suc n) ws
-weaker n [] h = tt
-weaker n (w ∷ ws) h = (omega (arith, h.0), weaker n ws h.1)
-
-next_part : (b : Bool) (x n : ℕ) (ws : List (List ℕ)) → AllShort n ws → AllShort (suc n) (cond b ([] ∷ ws) (onto_first x ws))
-next_part true x n ws h = (omega arith, weaker n ws h)
-next_part false x n [] h = (omega arith, tt)
-next_part false x n (w ∷ ws) h = (omega (arith, h.0), weaker n ws h.1)
-
-short_parts : (p : ℕ → Bool) (xs : List ℕ) → AllShort (length xs) (slice_split p xs)
-short_parts p [] = (omega arith, tt)
-short_parts p (x ∷ xs) = next_part (p x) x (length xs) (slice_split p xs) (short_parts p xs)
 
 keeps_one : (b : Bool) (n : ℕ) (w : List ℕ) (ws : List (List ℕ)) → length w ≤ n → AllShort n ws → AllShort n (cond b (w ∷ ws) ws)
 keeps_one true n w ws h k = (h, k)
@@ -38,11 +23,6 @@ reads : (n : ℕ) (ws : List (List ℕ)) (i : ℕ) (w : List ℕ) → AllShort n
 reads n [] i w h e = absurd (cc)
 reads n (v ∷ ws) zero w h e = let s : v ≡ w = cc in rw s at h.0
 reads n (v ∷ ws) (suc i) w h e = reads n ws i w h.1 e
-
-pub short_word : (line : List ℕ) (i : ℕ) (w : List ℕ) → slice_get (words_of line) i ≡ Some w → length w ≤ length line
-short_word line i w e =
-    reads (length line) (words_of line) i w (kept (λ w. not (eqb (length w) 0)) (length line) (slice_split (λ b. eqb b space) line)
-    (short_parts (λ b. eqb b space) line)) e
 
 -- what a word of hexadecimal digits spells is half as long
 half_of : (w b : List ℕ) (d : Result (List ℕ) FromHexError) → decode_of w ≡ d → Some b ≡ result_ok d → length w ≡ 2 * length b

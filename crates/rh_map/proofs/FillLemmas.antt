@@ -1,5 +1,5 @@
 -- A text that is written as far as a line shows it.
-use Rattle.rh_map.proofs.Common.{◌≡◌, ℕ, ◌<◌, ◌≤◌, Bool, true, false, List, [], ◌++◌, length, map, take, refl, sym, ap, ◌∙◌, subst, append_assoc, append-nil}
+use Rattle.rh_map.proofs.Common.{◌≡◌, ℕ, ◌<◌, ◌≤◌, Bool, true, false, List, [], ◌++◌, length, map, take, refl, sym, ap, ◌∙◌, append-nil}
 use Rattle.rh_map.proofs.Common.{length-append, arith, codes, nat_le, not, ◌==◌, nat_tests, eqb_apart, where_so, shown_byte, shown_line, Fills}
 use Rattle.std.proofs.lemmas.List.{take-append-le}
 use Rattle.rh_map.proofs.LineLemmas.{cut-long}
@@ -11,23 +11,6 @@ fills-all row = record { rest = []; whole = sym (append-nil row); full = λ shor
 -- a text of which all is written
 fills-is : {row text : List ℕ} → Fills row text → length row ≤ 79 → text ≡ row
 fills-is {row} p short = p.whole ∙ ap (λ r. row ++ r) (p.full short) ∙ append-nil row
-
--- one more part, where a line shows more
-pub fills-more : {row new text : List ℕ} (part : List ℕ) → Fills row text → length row ≤ 79 → new ≡ row ++ part
-    → Fills new (text ++ part)
-fills-more {new = new} part p short e = record {
-  rest = [];
-  whole = ap (λ t. t ++ part) (fills-is p short) ∙ sym e ∙ sym (append-nil new);
-  full = λ fits. refl;
-}
-
--- one more part, of which a line shows nothing
-pub fills-past : {row text : List ℕ} (part : List ℕ) → Fills row text → 79 < length row → Fills row (text ++ part)
-fills-past {row} part p long = record {
-  rest = p.rest ++ part;
-  whole = ap (λ t. t ++ part) p.whole ∙ append_assoc row p.rest part;
-  full = λ short. absurd (omega (arith, short, long));
-}
 
 -- a line shows the same of both
 pub fills-shown : {row text : List ℕ} → Fills row text → shown_line row ≡ shown_line text
@@ -53,24 +36,6 @@ pub record FillsLeft (row whole left : List ℕ) : Type 0 where
   pub so_far : List ℕ
   pub fills : Fills row so_far
   pub is : whole ≡ so_far ++ left
-
--- nothing of the rest is written yet
-pub left_all : {row text : List ℕ} (rest : List ℕ) → Fills row text → FillsLeft row (text ++ rest) rest
-left_all {text = text} rest p = record { so_far = text; fills = p; is = refl }
-
--- one more part is written
-pub left_fewer : {row new whole left : List ℕ} (part behind : List ℕ) → FillsLeft row whole left → left ≡ part ++ behind
-    → ((text : List ℕ) → Fills row text → Fills new (text ++ part)) → FillsLeft new whole behind
-left_fewer part behind p e step = record {
-  so_far = p.so_far ++ part;
-  fills = step p.so_far p.fills;
-  is = p.is ∙ (ap (λ z. p.so_far ++ z) e ∙ sym (append_assoc p.so_far part behind));
-}
-
--- nothing is left
-pub left_nothing : {row whole left : List ℕ} → FillsLeft row whole left → left ≡ [] → Fills row whole
-left_nothing {row} p e =
-    subst (Fills row) (sym (p.is ∙ (ap (λ z. p.so_far ++ z) e ∙ append-nil p.so_far))) p.fills
 
 -- ---- texts that aren't empty
 

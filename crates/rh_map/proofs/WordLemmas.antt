@@ -1,19 +1,11 @@
 -- The first word of a line.
-use Rattle.rh_map.proofs.Common.{◌≡◌, ℕ, zero, suc, ◌<◌, ◌≤◌, true, false, eqb, List, [], ◌∷◌, ◌++◌, length, take, drop, refl, sym, ap, ◌∙◌, append-nil}
-use Rattle.rh_map.proofs.Common.{arith, slice_index, codes, ◌==◌, nat_tests, cond_false, eqb_apart, shown_line, shown_lines}
+use Rattle.rh_map.proofs.Common.{◌≡◌, ℕ, zero, suc, ◌<◌, ◌≤◌, true, eqb, List, [], ◌∷◌, ◌++◌, length, take, drop, refl, sym, ap, ◌∙◌}
+use Rattle.rh_map.proofs.Common.{arith, slice_index, ◌==◌, nat_tests, eqb_apart}
 use Rattle.rh_defs.specs.Bytes.{space}
 use Rattle.rh_defs.specs.Line.{words_of, nth_word}
-use Rattle.rh_defs.proofs.HeapLists.{cond_true}
-use Rattle.rh_figure.specs.Phrases.{cut}
-use Rattle.rh_figure.specs.Map.{remark_lines}
-use Rattle.rh_figure.specs.declared.limits.TheConstants.{LINE_COLUMNS}
 use Rattle.rh_lines.specs.Words.{piece_words}
 use Rattle.rh_lines.proofs.SplitLemmas.{words_last, words_next}
 use Rattle.rh_map.specs.Script.{BeginsWord}
-
--- a space before a line is no part of a word
-pub space-skipped : (bs : List ℕ) → words_of (space ∷ bs) ≡ words_of bs
-space-skipped bs = words_next (space ∷ bs) 0 (omega arith) (λ k lt e. omega (arith, lt)) refl
 
 -- what stands between two spaces is a word, if it isn't empty
 piece-some : (b : ℕ) (bs : List ℕ) → piece_words (b ∷ bs) ≡ (b ∷ bs) ∷ []
@@ -52,16 +44,3 @@ first-cut (b ∷ bs) (suc n) begins lt none e =
     first-of (b ∷ bs) b (take n bs) (words_of (drop (suc n) bs))
     (words_next (b ∷ bs) (suc n) lt (λ k less. none k (omega arith) less) e
     ∙ ap (λ ws. ws ++ words_of (drop (suc n) bs)) (piece-some b (take n bs)))
-
--- ---- remarks
-
--- a line without words is no remark
-pub remark-none : (line : List ℕ) → (length (words_of line) == 0) ≡ true → shown_lines (remark_lines line) ≡ []
-remark-none line e = ap shown_lines (cond_true (length (words_of line) == 0) [] (cut LINE_COLUMNS line ∷ []) e)
-
--- a line with words is one
-pub remark-some : (line : List ℕ) → (length (words_of line) == 0) ≡ false
-    → shown_lines (remark_lines line) ≡ shown_line (cut LINE_COLUMNS line) ++ codes "\n"
-remark-some line e =
-    ap shown_lines (cond_false (length (words_of line) == 0) [] (cut LINE_COLUMNS line ∷ []) e)
-    ∙ append-nil (shown_line (cut LINE_COLUMNS line) ++ codes "\n")

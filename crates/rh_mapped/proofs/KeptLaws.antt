@@ -1,5 +1,5 @@
 -- What keeps a map that of its area's heap.
-use Rattle.std.proofs.Common.{◌≡◌, ◌≢◌, ℕ, zero, suc, ◌+◌, ◌-◌, ◌*◌, ◌≤◌, inl, inr, true, false, List, [], ◌∷◌, ◌++◌, length, refl, sym, ap, subst, ◌∙◌, arith}
+use Rattle.std.proofs.Common.{◌≡◌, ◌≢◌, ℕ, ◌+◌, ◌-◌, ◌*◌, ◌≤◌, inl, inr, true, false, List, length, refl, sym, ap, subst, ◌∙◌, arith}
 use Rattle.std.specs.Prelude.{slice_index, Option, Some, None, IfSome, Result, Ok, Err, IfOk, OnOk, OnErr, IsNone}
 use Rattle.std.proofs.lemmas.Bool.{cases_eq}
 use Rattle.rh_defs.specs.declared.sizes.TheConstants.{PAGE}
@@ -154,16 +154,3 @@ kept_open m n maps (Err e) k ok err = rw err k
 -- ---- maps of no heap yet
 abbrev pub AreUnknown : List (Option Map) → Type 0
 AreUnknown maps = (id : ℕ) → IfSome (map_of maps id) (λ s. s.known ≡ false)
-
-pub unknown_none : AreUnknown []
-unknown_none zero = tt
-unknown_none (suc id) = tt
-
-pub unknown_pushed : (maps : List (Option Map)) (s : Map) → s.known ≡ false → AreUnknown maps → AreUnknown (maps ++ Some s ∷ [])
-unknown_pushed [] s u k zero = u
-unknown_pushed [] s u k (suc id) = tt
-unknown_pushed (m ∷ ms) s u k zero = k zero
-unknown_pushed (m ∷ ms) s u k (suc id) = unknown_pushed ms s u (λ j. k (suc j)) id
-
-pub all_unknown : (m : Memory) (maps : List (Option Map)) → AreUnknown maps → AreKept m maps
-all_unknown m maps k id = kept_unknown (bytes m id) (map_of maps id) (k id)

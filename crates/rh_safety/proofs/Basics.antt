@@ -339,10 +339,6 @@ pub length_written : (n : ℕ) (new old : List ℕ) → length new ≡ n → n �
     length (new ++ drop n old) ≡ length old
 length_written n new old e h = simp (length-append, length-drop) (omega arith)
 
--- by cases on one place
-pub everywhere : (P : ℕ → Type 0) (h : ℕ) → P h → ((k : ℕ) → k ≢ h → P k) → (k : ℕ) → P k
-everywhere P h here there k = elim (eqb_tells k h) [ inl w ↦ subst P (sym w.1) here | inr w ↦ there k w.1 ]
-
 -- ---- members and fronts, in the library's words
 
 pub has_of : {A : Type 0} (xs : List A) (x : A) → Contains xs x → Has x xs

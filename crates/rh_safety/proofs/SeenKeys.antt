@@ -1,7 +1,7 @@
 -- The handles and names of tasks, which commands on a task leave.
 use Rattle.rh_safety.proofs.Common.{◌≡◌, ℕ, Bool, true, false, List, [], ◌∷◌, Option, Some, None, refl, ap, ◌∙◌, subst, if◌then◌else◌, ◌==◌, find, map, Ok}
-use Rattle.rh_safety.proofs.Common.{option_map, bytes_eq, Taking, Outgoing, Incoming, Slot, Desk, Task, has_name, with_task, with_sending, with_taking}
-use Rattle.rh_safety.proofs.Common.{with_post, send_letter, taking_ended, Parcel, handled, EventCode, OnGrant, granted, granted-then, either}
+use Rattle.rh_safety.proofs.Common.{option_map, bytes_eq, Outgoing, Incoming, Slot, Desk, Task, has_name, with_task, with_sending, with_taking}
+use Rattle.rh_safety.proofs.Common.{with_post, send_letter, Parcel, handled, EventCode, OnGrant, granted, granted-then, either}
 use Rattle.rh_defs.specs.declared.message.Letter.{Letter}
 use Rattle.rh_defs.specs.Desk.{edit_task}
 use Rattle.rh_safety.proofs.OwnEdits.{OwnEdits, handled-own}
@@ -59,10 +59,6 @@ outs_keys h g d = task_keys h (λ t. record t { sending = g t.sending }) d (λ y
 
 pub ins_keys : (h : ℕ) (g : List Incoming → List Incoming) (d : Desk) → SameKeys d (with_taking h g d)
 ins_keys h g d = task_keys h (λ t. record t { taking = g t.taking }) d (λ y. refl) (λ y. refl)
-
-pub ended_keys : (h : ℕ) (f : Taking) (g : List Incoming → List Incoming) (d : Desk) → SameKeys d (taking_ended h f g d)
-unfolding taking_ended
-ended_keys h f g d = ins_keys h g _ ∙ slot_keys h _ d
 
 letter_keys : (l : Letter) (d : Desk) → OnGrant (SameKeys d) (send_letter l d)
 unfolding send_letter

@@ -338,19 +338,3 @@ found_task p (x ∷ ts) t n q = go (p x) refl q (λ s. found_task p ts t n.1 s)
     go false e s next =
         let ne = not_in_found p x.handle ts t n.0 s in
         let c : nat_eq x.handle t.handle ≡ false = grind (arith, eqb_tells x.handle t.handle) in rw c (next s)
-
-pub not_in_edit : (k h : ℕ) (f : Task → Task) → ((y : Task) → (f y).handle ≡ y.handle) → (ts : List Task) →
-    NotIn k ts → NotIn k (edit_task h f ts)
-not_in_edit k h f kh [] n = tt
-not_in_edit k h f kh (t ∷ ts) n = elim (eqb_tells t.handle h) [
-  | inl a ↦ rw a.0 ((λ w. n.0 (sym (kh t) ∙ w)), n.1)
-  | inr a ↦ rw a.0 (n.0, not_in_edit k h f kh ts n.1)
-]
-
-pub distinct_edit : (h : ℕ) (f : Task → Task) → ((y : Task) → (f y).handle ≡ y.handle) → (ts : List Task) →
-    Distinct ts → Distinct (edit_task h f ts)
-distinct_edit h f kh [] n = tt
-distinct_edit h f kh (t ∷ ts) n = elim (eqb_tells t.handle h) [
-  | inl a ↦ rw a.0 (subst (λ j. NotIn j ts) (sym (kh t)) n.0, n.1)
-  | inr a ↦ rw a.0 (not_in_edit t.handle h f kh ts n.0, distinct_edit h f kh ts n.1)
-]

@@ -190,9 +190,6 @@ not_held b s place x n k w t =
 
 -- ---- the walk that its caller takes step by step
 
-pub walks_start : (s : Slot) (place : ℕ) → place ≡ flex_place s → WalksIn s (record { passed = 0; place = place })
-walks_start s place e = record { most = omega arith; place_is = omega arith }
-
 -- the blocks that a walk has passed, and those that are left
 abbrev pub walk_at : (s : Slot) (w : FlexWalk) → WalksIn s w → Walked s w.place
 walk_at s w h = record {

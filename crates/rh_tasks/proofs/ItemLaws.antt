@@ -1,10 +1,9 @@
 -- What is listed, from what the world keeps.
 use Rattle.rh_tasks.proofs.Common.{◌≡◌, ℕ, zero, suc, ◌+◌, ◌-◌, ◌*◌, ◌<◌, ◌≤◌, refl, ap, sym, ◌∙◌, arith, List, [], ◌∷◌, ◌++◌, length, map, Option, Some}
-use Rattle.rh_tasks.proofs.Common.{None, slice_get, AllByRecursion, option_map, get_or, length-append, length-map, slice_get-map, slice_get-get_or, MAX_AREAS}
+use Rattle.rh_tasks.proofs.Common.{slice_get, AllByRecursion, option_map, get_or, length-append, length-map, slice_get-map, slice_get-get_or, MAX_AREAS}
 use Rattle.rh_tasks.proofs.Common.{Memory, bytes, total, FileList, Heap, Segment, Used, Hole, size_of, base, Desk, Task, Made, task_pages, free_pages}
 use Rattle.rh_tasks.proofs.Common.{slot_in, Seat, MadeArea, Kept, pages_at, task_of, made_of, fixed_pages, desk_of, HasSlot, IsWorld, cons, few-made, few-seats}
 use Rattle.std.specs.List.{enumerate_from}
-use Rattle.std.proofs.lemmas.Option.{slice_get_past}
 use Rattle.rh_defs.specs.Heap.{hole_size, largest_hole, largest, free_bytes}
 use Rattle.rh_defs.specs.Slot as plain
 use Rattle.rh_defs.specs.Desk.{module_pages}
@@ -82,17 +81,6 @@ module _ {m : Memory} {seats : List Seat} {made : List MadeArea} {files : FileLi
   pub told : (i : ℕ) {free : ℕ} {x : Option AreaItem} → free ≡ free_pages d → x ≡ slice_get (items_in m seats made) i → (free, x) ≡ areas_at d i
   told i {free} {x} p q = let e : x ≡ slice_get (area_items d) i = q ∙ ap (λ l. slice_get l i) (sym items-are) in cc
 
--- item i, by where it stands
-pub item-fixed : (m : Memory) (seats : List Seat) (made : List MadeArea) (i : ℕ) → i < 6
-    → slice_get (items_in m seats made) i ≡ Some (item.Area i (pages_at m i))
-item-fixed m seats made zero low = refl
-item-fixed m seats made (suc zero) low = refl
-item-fixed m seats made (suc (suc zero)) low = refl
-item-fixed m seats made (suc (suc (suc zero))) low = refl
-item-fixed m seats made (suc (suc (suc (suc zero)))) low = refl
-item-fixed m seats made (suc (suc (suc (suc (suc zero))))) low = refl
-item-fixed m seats made (suc (suc (suc (suc (suc (suc i)))))) low = absurd (omega arith)
-
 made-long : (m : Memory) (made : List MadeArea) → length (fixed_items m ++ made_items m made) ≡ 6 + length made
 made-long m made =
     omega (arith, length-append (fixed_items m) (made_items m made), length-map made (λ (a : MadeArea). item.Area a.number (pages_at m a.area.0)))
@@ -110,15 +98,6 @@ pub item-slot : (m : Memory) (seats : List Seat) (made : List MadeArea) (i : ℕ
 item-slot m seats made i high past =
     get-behind (fixed_items m ++ made_items m made) (slot_items m seats) i (omega (arith, made-long m made))
     ∙ ap (slice_get (slot_items m seats)) (omega (arith, made-long m made))
-
-pub slot-past : (m : Memory) (seats : List Seat) (i : ℕ) → length seats ≤ i → slice_get (slot_items m seats) i ≡ None
-slot-past m seats i past = slice_get_past (slot_items m seats) i (omega (arith, length-map seats (λ (s : Seat). item.Slot s.name (pages_at m s.slot.area.0))))
-
-pub slot-there : (m : Memory) (seats : List Seat) (i : ℕ) (s : Seat) → i < length seats → get_or seats i s ≡ s
-    → slice_get (slot_items m seats) i ≡ Some (item.Slot s.name (pages_at m s.slot.area.0))
-slot-there m seats i s inside is =
-    slice_get-map (λ (x : Seat). item.Slot x.name (pages_at m x.slot.area.0)) seats i
-    ∙ ap (option_map (λ (x : Seat). item.Slot x.name (pages_at m x.slot.area.0))) (get-at seats i s inside is)
 
 -- ---- sums are small
 

@@ -34,9 +34,6 @@ pub ask-ranged : (q : Question) → in_range (command.Ask q) ≡ true → can_be
 unfolding in_range
 ask-ranged q h = h
 
-pub show-anchor : (name : List ℕ) (k : ℕ) → can_be_asked (question.Show name k) ≡ true → k < anchor_count
-show-anchor name k h = grind (arith, nat_tests)
-
 pub save-anchor : (name : List ℕ) (k : ℕ) (to leaf : List ℕ) → in_range (command.Save name k to leaf) ≡ true → k < anchor_count
 unfolding in_range
 save-anchor name k to leaf h = grind (arith, nat_tests)

@@ -5,7 +5,7 @@ use Rattle.rh_wimp.proofs.Common.{answer_of, left_of, Heap, block_room, release_
 use Rattle.rh_wimp.proofs.Common.{module_heap_in}
 use Rattle.rh_wimp.proofs.Common.{Module, IsQueue, Chains, ArePostChains, SpellsPostIn, Off, entry_at, row_at, rows_of, row_parcels}
 use Rattle.rh_defs.specs.Chain.{◌>>=◌, refuse_if, found_or, no_answer}
-use Rattle.rh_defs.specs.Heap.{Segment, Placed, as_granted, base, block_at, block_size, bytes_of, fitted, new_size, resize_growing, resize_need, size_of}
+use Rattle.rh_defs.specs.Heap.{Segment, Placed, as_granted, base, block_at, bytes_of, fitted, new_size, resize_growing, resize_need, size_of}
 use Rattle.rh_defs.specs.Pieces.{Split, lacks_pages, moved, pages_for}
 use Rattle.rh_defs.specs.declared.refusal.Refusal.{Refusal}
 use Rattle.rh_defs.specs.declared.refusal.Refusal.TheVariants.{BadSize, NotABlock, ExcessiveShrink, NoRoom}
@@ -15,7 +15,7 @@ use Rattle.rh_defs.proofs.BlockCalls.{module_free-there}
 use Rattle.rh_defs.proofs.BlockLaws.{bytes_here, block_at-bytes}
 use Rattle.rh_defs.proofs.ModuleLaws.{module_change-low, module_change-short, module_change-done, module_free-none}
 use Rattle.rh_defs.proofs.ResizeLaws.{CutAlike, Moves, resize_growing-alike, resize_growing-moves, resize_need-alike}
-use Rattle.rh_defs.proofs.ShapeLaws.{Alike, blank_cut, block-blank, block_size-alike, same_heap, total-blank}
+use Rattle.rh_defs.proofs.ShapeLaws.{Alike, blank_cut, block-blank, same_heap, total-blank}
 use Rattle.rh_module.specs.Calls as module_calls
 use Rattle.rh_wimp.specs.Laws.{GoesBeside, IsSmallModule, post_with_heap}
 use Rattle.rh_wimp.specs.PostIn.{post_in}
@@ -44,10 +44,6 @@ off-message h q post a s e j l = off-list a (row_parcels (row_at (rows_of post) 
     go : (t : Bool) → list_any test (row_parcels (row_at (rows_of post) j)) ≡ t → t ≡ false
     go true f = sym (one-has test (rows_of post) j l f) ∙ rows-have test post s.recipients ∙ e
     go false f = refl
-
--- the area's blocks have the sizes of the post's
-pub block_size-beside : (h : Heap) (q : Chains) (post : Post) (a : ℕ) → ArePostChains h q post → block_size a h ≡ block_size a post.heap
-block_size-beside h q post a s = block_size-alike a h post.heap s.linked.shape
 
 -- ---- a call beside the queue
 -- The area's heap and the post's heap grant the same, and the post is spelled with the heap that its own one becomes.

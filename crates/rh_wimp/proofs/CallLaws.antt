@@ -12,7 +12,6 @@ use Rattle.rh_module.specs.Calls.{LeavesModule}
 use Rattle.rh_module.specs.Writes.{Wrote}
 use Rattle.rh_defs.specs.Blocks.{PutsBlock}
 use Rattle.rh_defs.proofs.BlockCalls.{module_claim-has, module_free-there}
-use Rattle.rh_defs.proofs.BlockLaws.{has-poked}
 
 -- ---- claims
 pub record Claimed (m n : Memory) (rma : Module) (size block : ℕ) : Type 0 where
@@ -42,11 +41,6 @@ pub claimed-block : (m n : Memory) (rma : Module) (size block : ℕ) → Claimed
 claimed-block m n rma size block c =
     subst (λ (h : Heap). HasBlock block size h) (sym c.turns.heap) (subst (λ a. HasBlock a size c.there.0) (sym c.block_is)
     (module_claim-has m.free size (module_heap_in m rma) c.there c.granted))
-
--- ---- writes in a row
-pub wrote-block : (m n : Memory) (rma : Module) (a o k : ℕ) (xs : List ℕ) → Wrote m n rma a o xs → HasBlock a k (module_heap_in m rma) → HasBlock a k
-    (module_heap_in n rma)
-wrote-block m n rma a o k xs w b = subst (HasBlock a k) (sym w.heap) (has-poked a k o xs (module_heap_in m rma) b)
 
 -- ---- the bytes of a parcel: its link and its code, then its message
 pub parcel_head : (code : ℕ) (p : List ℕ) → p ≡ with_part (replicate 264 0) 4 (word_bytes code) → take 8 p ≡ word_bytes 0 ++ word_bytes code

@@ -1,6 +1,6 @@
 -- What a call leaves, by the post that it spells then.
-use Rattle.rh_wimp.proofs.Common.{◌≡◌, ℕ, zero, suc, cond, ◌<◌, true, false, Bool, List, [], ◌∷◌, length, map, refl, sym, ap, ◌∙◌, arith, ◌==◌, ◌||◌}
-use Rattle.rh_wimp.proofs.Common.{list_any, Heap, Memory, OnlyArea, Seat, Post, has_seat, eqb_same, IsModule, Module, IsQueue, Chains, HasEntry, ArePostChains}
+use Rattle.rh_wimp.proofs.Common.{◌≡◌, ℕ, suc, ◌<◌, true, false, Bool, List, [], ◌∷◌, length, map, refl, sym, ap, ◌∙◌, arith, ◌==◌, ◌||◌}
+use Rattle.rh_wimp.proofs.Common.{list_any, Heap, Memory, OnlyArea, Seat, Post, IsModule, Module, IsQueue, Chains, HasEntry, ArePostChains}
 use Rattle.rh_wimp.proofs.Common.{SpellsPostIn, entry_at, Entry}
 use Rattle.rh_defs.specs.Post.{post_handles}
 use Rattle.rh_wimp.specs.Calls.{LeavesChains, handles_of}
@@ -43,30 +43,6 @@ HasEntry-from_handles x q t = go q.entries t
         one true eb v f = (0, (omega arith, eq_of e.handle x eb))
         one false eb v f = let r = f v in (suc r.0, (let l = r.1.0 in omega arith, r.1.1))
 
-seat-among : (x : ℕ) (seats : List Seat) → has_seat x seats ≡ list_any (λ h. h == x) (map (λ (s : Seat). s.handle) seats)
-seat-among x [] = refl
-seat-among x (s ∷ seats) = go (s.handle == x) ∙ ap (λ t. (s.handle == x) || t) (seat-among x seats)
-  where
-    go : (b : Bool) → cond b true (has_seat x seats) ≡ (b || has_seat x seats)
-    go true = refl
-    go false = refl
-
--- one with a seat is live
-pub HasEntry-from_seat : (h : Heap) (q : Chains) (post : Post) (x : ℕ) → ArePostChains h q post → has_seat x post.seats ≡ true → HasEntry x q
-HasEntry-from_seat h q post x s t = HasEntry-from_handles x q (ap (list_any (λ y. y == x)) (handles-are h q post s) ∙ sym (seat-among x post.seats) ∙ t)
-
 either : (a : Bool) {b : Bool} → b ≡ true → (a || b) ≡ true
 either true e = refl
 either false e = e
-
--- a live handle is among them
-pub HasEntry-among : (x : ℕ) (q : Chains) → HasEntry x q → list_any (λ h. h == x) (handles_of q) ≡ true
-HasEntry-among x q e = go q.entries e.0 e.1.0 e.1.1
-  where
-    go : (es : List Entry) (i : ℕ) → i < length es → (entry_at es i).handle ≡ x → list_any (λ h. h == x) (map (λ (y : Entry). y.handle) es) ≡ true
-    go [] i l h = absurd (omega arith)
-    go (y ∷ es) zero l h = ap (λ b. b || list_any (λ z. z == x) (map (λ (w : Entry). w.handle) es)) (eqb_same y.handle x h)
-    go (y ∷ es) (suc i) l h = either (y.handle == x) (go es i (omega arith) h)
-
-pub not-HasEntry : (x : ℕ) (q : Chains) → list_any (λ h. h == x) (handles_of q) ≡ false → HasEntry x q → ⊥
-not-HasEntry x q f = λ e. let bad : true ≡ false = sym (HasEntry-among x q e) ∙ f in absurd cc

@@ -95,5 +95,6 @@ module _ {M : Type 1} {𝓤 : Ura M} {𝓛 : Logic 𝓤} {K : Type 0} {Γ : List
       let made : StationHandle.the_row.Denot = record { at = p; alloc = a; station = x } in
       nothing t $ move t (2 ∷ 0 ∷ []) $ fjoin t $ feq_i t (List Val) (ptr_val p ∷ []) (ptr_val p ∷ []) refl $ fjoin t $
       feq_i t (List Val) (v ∷ []) (v ∷ []) refl $ fjoin t $
-      fpack t (Valss ((shape StationHandle.the_type).fields)) (within (shape StationHandle.the_type) (to StationHandle.the_type made) (v ∷ [])) (ptr_val p ∷ [], (h ∷ [], tt)) $
+      fpack t (Valss ((shape StationHandle.the_type).fields)) (within (shape StationHandle.the_type) (to StationHandle.the_type made) (v ∷ []))
+      (ptr_val p ∷ [], (h ∷ [], tt)) $
       fjoin t $ s)
