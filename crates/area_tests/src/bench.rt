@@ -3,7 +3,7 @@
 
 ghost use Rattle.std.specs.Prelude.{◌<◌, IfOk};
 ghost use Rattle.rh_defs.specs.Memory.{open_below};
-ghost use Rattle.rh_slot.specs.Area.{IsSlotIn};
+ghost use Rattle.rh_slot.specs.SlotArea.{IsSlotIn};
 ghost use Rattle.rh_defs.specs.declared.sizes.TheConstants.{ANCHORS, MAX_AREAS};
 
 use arrayvec::ArrayVec;

@@ -2,7 +2,7 @@
 
 ghost use Rattle.std.specs.Prelude.{◌<◌};
 ghost use Rattle.rh_defs.specs.Memory.{open_below};
-ghost use Rattle.rh_slot.specs.Area.{IsSlotIn};
+ghost use Rattle.rh_slot.specs.SlotArea.{IsSlotIn};
 ghost use Rattle.rh_defs.specs.declared.sizes.TheConstants.{MAX_AREAS};
 
 use crate::bench::Bench;

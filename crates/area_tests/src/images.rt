@@ -2,7 +2,7 @@
 
 ghost use Rattle.std.specs.Prelude.{◌<◌, IfOk};
 ghost use Rattle.rh_defs.specs.HeapImage.{IsImage, heap_of};
-ghost use Rattle.rh_heap.specs.Spans.{IsSpan};
+ghost use Rattle.rh_heap.specs.HeapSpans.{IsSpan};
 
 use crate::heaps::IMAGE;
 use crate::same::{is_true, same};

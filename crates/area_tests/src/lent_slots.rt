@@ -305,7 +305,7 @@ fn a_page_comes_and_goes<R: Abort, S: Pages>(
 }
 
 #[test]
-#[tactic(auto, unfolding(rh_flex::specs::Pages::lent_pages_memory, rh_flex::specs::Pages::pages_memory_over, rh_defs::specs::Memory::area_set, rh_defs::specs::Memory::bytes))]
+#[tactic(auto, unfolding(rh_flex::specs::LentPages::lent_pages_memory, rh_flex::specs::LentPages::pages_memory_over, rh_defs::specs::Memory::area_set, rh_defs::specs::Memory::bytes))]
 fn a_lent_page_comes_and_goes(rt: HostRuntime) -> Result<(), Fail> {
     let mut bytes = vec![in rt.alloc(); 9; 9000]?;
     let mut store = LentPagesMut {
@@ -331,7 +331,7 @@ fn two_pages_are_read<R: Abort, S: Paged>(rt: &R, store: &S, id: AreaId)
 }
 
 #[test]
-#[tactic(auto, unfolding(rh_flex::specs::Pages::pages_memory_shown, rh_flex::specs::Pages::pages_memory_over, rh_defs::specs::Memory::area_set, rh_defs::specs::Memory::bytes))]
+#[tactic(auto, unfolding(rh_flex::specs::LentPages::pages_memory_shown, rh_flex::specs::LentPages::pages_memory_over, rh_defs::specs::Memory::area_set, rh_defs::specs::Memory::bytes))]
 fn lent_pages_are_read(rt: HostRuntime) -> Result<(), Fail> {
     let mut bytes = vec![in rt.alloc(); 9; 4096]?;
     bytes.resize(9000, 1)?;

@@ -2,7 +2,7 @@
 
 ghost use Rattle.std.specs.Prelude.{◌<◌, IfOk};
 ghost use Rattle.rh_defs.specs.Memory.{open_below};
-ghost use Rattle.rh_heap.specs.Spans.{IsSpan};
+ghost use Rattle.rh_heap.specs.HeapSpans.{IsSpan};
 ghost use Rattle.rh_defs.specs.declared.sizes.TheConstants.{MAX_AREAS};
 
 use crate::bench::Bench;

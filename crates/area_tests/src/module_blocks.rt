@@ -1,7 +1,7 @@
 //! Blocks of the module area, which grows and shrinks by pages.
 
 ghost use Rattle.std.specs.Prelude.{IfOk};
-ghost use Rattle.rh_module.specs.Area.{IsModule};
+ghost use Rattle.rh_module.specs.ModuleArea.{IsModule};
 
 use crate::same::{is_true, same};
 use arrayvec::ArrayVec;

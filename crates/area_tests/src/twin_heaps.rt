@@ -3,7 +3,7 @@
 ghost use Rattle.std.specs.Prelude.{◌≡◌, IfOk};
 ghost use Rattle.rh_store.specs.Plain.{memory_of};
 ghost use Rattle.area_tests.specs.declared.twin_heaps.TheConstants.{LENGTH};
-ghost use Rattle.rh_heap.specs.Spans.{IsSpan, heap_in};
+ghost use Rattle.rh_heap.specs.HeapSpans.{IsSpan, heap_in};
 ghost use Rattle.rh_store.specs.Starts.{IsIndex};
 
 use crate::images::Numbers;

@@ -5,7 +5,7 @@
 
 ghost use Rattle.std.specs.Prelude.{◌≡◌, ◌+◌, ◌*◌, ◌≤◌, length, IfOk};
 ghost use Rattle.rh_defs.specs.Memory.{Memory, IsOpen, bytes};
-ghost use Rattle.rh_heap.specs.Spans.{IsSpan};
+ghost use Rattle.rh_heap.specs.HeapSpans.{IsSpan};
 
 use rh_defs::HeapRefusal;
 use rh_defs::sizes::PAGE;

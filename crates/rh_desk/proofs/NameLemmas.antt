@@ -2,7 +2,7 @@
 use Rattle.std.proofs.Common.{◌≡◌, ◌∙◌, ℕ, zero, suc, ◌+◌, ◌<◌, ◌≤◌, ◌||◌, Bool, true, false, List, [], ◌∷◌, length, drop, ap, arith, refl, sym}
 use Rattle.std.specs.Prelude.{◌==◌, if◌then◌else◌, slice_index}
 use Rattle.std.specs.List.{list_any}
-use Rattle.rh_desk.specs.Names.{last_part}
+use Rattle.rh_desk.specs.SheetNames.{last_part}
 
 -- whether a byte is a `/`
 abbrev is_slash : ℕ → Bool

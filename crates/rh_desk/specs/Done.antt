@@ -23,7 +23,7 @@ use Rattle.rh_session.specs.declared.status.Status.TheVariants as status
 use Rattle.rh_desk.specs.CommandLine.{program_words}
 use Rattle.rh_desk.specs.FileWords.{AreGood, TellsBadWord, word_name, word_path}
 use Rattle.rh_desk.specs.Requests.{AsksFor, AsksNothing}
-use Rattle.rh_desk.specs.Names.{last_part}
+use Rattle.rh_desk.specs.SheetNames.{last_part}
 use Rattle.rh_desk.specs.Telling.{Tells, lost_file_text, run_fault_text}
 use Rattle.rh_desk.specs.declared.ending.Ending.{Ending}
 use Rattle.rh_desk.specs.declared.ending.Ending.TheVariants.{Clean, BadLines, WrongWords, Fault}

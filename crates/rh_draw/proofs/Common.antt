@@ -8,11 +8,11 @@ pub use Rattle.std.specs.Prelude.{codes, if◌then◌else◌, nat_le, nat_lt}
 pub use Rattle.rh_figure.specs.Phrases.{cut}
 pub use Rattle.rh_lines.proofs.FlowLemmas.{puts_before, puts_more, puts_stops}
 pub use Rattle.rh_map.proofs.Left.{Left, left_breaks, left_less}
-pub use Rattle.rh_map.specs.Messages.{message_entry_text}
+pub use Rattle.rh_map.specs.MapMessages.{message_entry_text}
 pub use Rattle.rh_map.specs.Replies.{lines_in}
 pub use Rattle.rh_sheet.specs.Frames.{row_y}
 pub use Rattle.rh_sheet.specs.Markup.{escape, escaped_byte}
-pub use Rattle.rh_sheet.specs.Rows.{row_text}
-pub use Rattle.rh_sheet.specs.Steps.{remark_byte}
-pub use Rattle.rh_draw.specs.Replies.{behind_feeds}
-pub use Rattle.rh_draw.specs.Rows.{plot_of}
+pub use Rattle.rh_sheet.specs.SheetRows.{row_text}
+pub use Rattle.rh_sheet.specs.SheetSteps.{remark_byte}
+pub use Rattle.rh_draw.specs.DrawReplies.{behind_feeds}
+pub use Rattle.rh_draw.specs.DrawRows.{plot_of}

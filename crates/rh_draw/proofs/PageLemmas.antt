@@ -2,7 +2,7 @@
 use Rattle.rh_draw.proofs.Common.{◌≡◌, ℕ, Some, refl, row_y, row_text}
 use Rattle.rh_sheet.specs.declared.frame.Frame.{Frame}
 use Rattle.rh_sheet.specs.Frames.{page_in}
-use Rattle.rh_sheet.specs.Rows.{Plot, addressed_text}
+use Rattle.rh_sheet.specs.SheetRows.{Plot, addressed_text}
 
 -- it is drawn by the page's address
 pub row-of-page : (f : Frame) (g : Plot) (i k : ℕ) → page_in f.pages i ≡ Some k

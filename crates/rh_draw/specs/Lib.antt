@@ -1,8 +1,8 @@
 pub mod Boxes
+pub mod DrawArrows
+pub mod DrawCards
+pub mod DrawLetters
+pub mod DrawPieces
+pub mod DrawReplies
+pub mod DrawRows
 pub mod Tints
-pub mod Pieces
-pub mod Rows
-pub mod Cards
-pub mod Arrows
-pub mod Replies
-pub mod Letters

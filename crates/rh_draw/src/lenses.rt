@@ -4,8 +4,8 @@ ghost use Rattle.std.specs.Prelude.{◌≤◌, ◌<◌, ◌+◌};
 ghost use Rattle.rh_defs.specs.Slot.{anchor_count};
 ghost use Rattle.rh_defs.specs.declared.sizes.TheConstants.{MAX_PAGES, PAGE};
 ghost use Rattle.rh_lines.specs.Flow.{Puts};
-ghost use Rattle.rh_sheet.specs.Areas.{last_row_place, lens_above, lens_below, tick_text};
-ghost use Rattle.rh_sheet.specs.Cards.{lens_text};
+ghost use Rattle.rh_sheet.specs.SheetAreas.{last_row_place, lens_above, lens_below, tick_text};
+ghost use Rattle.rh_sheet.specs.SheetCards.{lens_text};
 ghost use Rattle.rh_sheet.specs.declared.sizes.TheConstants.{ROW_WIDTH};
 
 use crate::frames::{foot, top};

@@ -5,14 +5,14 @@ ghost use Rattle.std.specs.Fmt.{decimal};
 ghost use Rattle.std.specs.List.{concat};
 ghost use Rattle.rh_defs.specs.Text.{address as address_of};
 ghost use Rattle.rh_defs.specs.declared.sizes.TheConstants.{PAGE};
-ghost use Rattle.rh_draw.specs.Pieces.{AreDrawable, IsDrawable};
+ghost use Rattle.rh_draw.specs.DrawPieces.{AreDrawable, IsDrawable};
 ghost use Rattle.rh_draw.specs.Tints.{tint_class};
 ghost use Rattle.rh_lines.specs.Flow.{Puts};
 ghost use Rattle.rh_lines.specs.declared.row.TheConstants.{ROW};
 ghost use Rattle.rh_figure.specs.Phrases.{where_so};
 ghost use Rattle.rh_sheet.specs.declared.sizes.TheConstants.{ROW_WIDTH, SHORT_EDGE, UNIT_BYTES};
 ghost use Rattle.rh_sheet.specs.Markup.{box_text};
-ghost use Rattle.rh_sheet.specs.Pieces.{fitting as fitting_label, has_room as has_room_for, high_in as high_byte_in, is_tinted as is_tinted_kind, kind_class as class_of_kind, label_of, low_in as low_byte_in, piece_box, piece_classes, piece_label, piece_text, piece_width as width_of_piece, piece_x as x_of_piece, pieces_text, short_label_of, sized_at, tip_of};
+ghost use Rattle.rh_sheet.specs.SheetPieces.{fitting as fitting_label, has_room as has_room_for, high_in as high_byte_in, is_tinted as is_tinted_kind, kind_class as class_of_kind, label_of, low_in as low_byte_in, piece_box, piece_classes, piece_label, piece_text, piece_width as width_of_piece, piece_x as x_of_piece, pieces_text, short_label_of, sized_at, tip_of};
 
 use crate::boxes::{Extent, print_box, print_words};
 use crate::tints::{Tint, add_tint};

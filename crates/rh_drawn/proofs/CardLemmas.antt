@@ -7,7 +7,7 @@ use Rattle.rh_drawn.proofs.Common.{cards_behind, count_shown, place_behind}
 use Rattle.rh_defs.specs.Questions.{block_items_from}
 use Rattle.rh_defs.specs.Slot.{Flex, weight}
 use Rattle.rh_figure.specs.Cards.{flex_card, flex_cards_from, use_of_block}
-use Rattle.rh_drawn.specs.Cards.{place_from}
+use Rattle.rh_drawn.specs.DrawnCards.{place_from}
 
 -- ---- how many are shown
 

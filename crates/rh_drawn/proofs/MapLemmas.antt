@@ -10,7 +10,7 @@ use Rattle.rh_feed.specs.Taken.{TookAll}
 use Rattle.rh_figure.specs.Map.{Read, Stage, map_lines, place}
 use Rattle.rh_figure.specs.Whole.{AreShared, IsMap, read_of}
 use Rattle.rh_figure.proofs.Alike.{no-order}
-use Rattle.rh_drawn.specs.Places.{Follows}
+use Rattle.rh_drawn.specs.DrawnPlaces.{Follows}
 use Rattle.rh_drawn.proofs.ReadLemmas.{same_read}
 
 -- ---- where a map stands, but for the order of messages to different tasks

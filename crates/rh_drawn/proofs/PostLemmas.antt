@@ -16,14 +16,14 @@ use Rattle.rh_figure.specs.Figure.{Letterbox, messages_text}
 use Rattle.rh_figure.specs.Phrases.{and_more, message_text}
 use Rattle.rh_figure.specs.Cards.{after_ref, next_text}
 use Rattle.rh_figure.specs.Scene.{held_list, ref_of}
-use Rattle.rh_map.specs.Messages.{held_text, message_entry_text, waits_text}
-use Rattle.rh_map.specs.Messages as lines
+use Rattle.rh_map.specs.MapMessages.{held_text, message_entry_text, waits_text}
+use Rattle.rh_map.specs.MapMessages as lines
 use Rattle.rh_sight.specs.declared.message_list.Place.{Place}
 use Rattle.rh_sight.specs.declared.message_list.Place.TheVariants.{Held}
-use Rattle.rh_sight.specs.Messages.{before_next, items_behind, first_ref, held_ref, is_held_by, seen_item, message_place, waits_for}
+use Rattle.rh_sight.specs.SightMessages.{before_next, items_behind, first_ref, held_ref, is_held_by, seen_item, message_place, waits_for}
 use Rattle.rh_sight.proofs.Posts.{held-is}
 use Rattle.rh_drawn.specs.Bands.{IsItemOf, place_seen}
-use Rattle.rh_drawn.specs.Letters.{entry_seen, letterbox_in}
+use Rattle.rh_drawn.specs.DrawnLetters.{entry_seen, letterbox_in}
 
 -- ---- what waits for a task
 

@@ -23,7 +23,7 @@ use Rattle.rh_session.specs.declared.status.RunFault.TheVariants as run
 use Rattle.rh_session.specs.declared.status.Status.{Status}
 use Rattle.rh_drawn.specs.Mapped.{Mapped, MappedSoFar, MappedUntil, run_fault_of}
 use Rattle.rh_drawn.specs.Deeds.{rest_means}
-use Rattle.rh_drawn.specs.Places.{Broke, BrokeLine, BrokeRest, IsFirst, TookRest}
+use Rattle.rh_drawn.specs.DrawnPlaces.{Broke, BrokeLine, BrokeRest, IsFirst, TookRest}
 use Rattle.rh_drawn.proofs.ReadLemmas.{long_lines, same_read}
 use Rattle.rh_drawn.proofs.MapLemmas.{Drawn, Shows, Stands, after_alike, after_reads, is_bad_read, lines_alike, map_is, shared_alike, shows, stands_place}
 use Rattle.rh_drawn.proofs.MapLemmas.{took_lines, written_more}

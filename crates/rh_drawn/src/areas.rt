@@ -4,7 +4,7 @@ ghost use Rattle.std.specs.Prelude.{◌≡◌, ◌<◌, ◌==◌, [], if◌then�
 ghost use Rattle.rh_drawn.specs.Parts.{area_part, panel_part};
 ghost use Rattle.rh_figure.specs.Figure.{fixed_panel, made_panel, scrap_text};
 ghost use Rattle.rh_lines.specs.Flow.{Puts};
-ghost use Rattle.rh_map.specs.Areas.{scrap_note_of};
+ghost use Rattle.rh_map.specs.MapAreas.{scrap_note_of};
 ghost use Rattle.rh_map.specs.Written.{shown_lines};
 ghost use Rattle.rh_sight.specs.Steps.{IsStepOf, scene_at};
 ghost use Rattle.rh_defs.specs.declared.sizes.TheConstants.{FIXED_AREAS};

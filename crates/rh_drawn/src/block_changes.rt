@@ -5,7 +5,7 @@ ghost use Rattle.rh_defs.specs.Desk.{task_at};
 ghost use Rattle.rh_defs.specs.declared.question.BlockItem.{BlockItem};
 ghost use Rattle.rh_defs.specs.declared.sizes.TheConstants.{ANCHORS};
 ghost use Rattle.rh_drawn.specs.Parts.{block_part, indented, slide_part};
-ghost use Rattle.rh_drawn.specs.Slides.{from_seen, summary_of, with_one};
+ghost use Rattle.rh_drawn.specs.DrawnSlides.{from_seen, summary_of, with_one};
 ghost use Rattle.rh_figure.specs.Changes.{Slide, block_change, gone_line, has_anchor as has_anchor_in, item_with_anchor, slide_change, slide_of};
 ghost use Rattle.rh_lines.specs.Flow.{Puts};
 ghost use Rattle.rh_map.specs.Written.{shown_lines};

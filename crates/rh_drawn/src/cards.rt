@@ -1,7 +1,7 @@
 //! How many cards of a band are shown.
 
 ghost use Rattle.std.specs.Prelude.{◌≡◌, ◌≤◌, ◌<◌, ◌+◌, ◌^◌, ◌∷◌, [], min};
-ghost use Rattle.rh_drawn.specs.Cards.{card_lines, count_left, count_shown};
+ghost use Rattle.rh_drawn.specs.DrawnCards.{card_lines, count_left, count_shown};
 ghost use Rattle.rh_figure.specs.Cards.{more_card};
 ghost use Rattle.rh_figure.specs.declared.limits.TheConstants.{CARD_BYTES};
 ghost use Rattle.rh_lines.specs.Flow.{Puts};

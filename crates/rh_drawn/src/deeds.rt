@@ -7,7 +7,7 @@ ghost use Rattle.rh_defs.specs.Order.{IsReordered};
 ghost use Rattle.rh_defs.specs.Range.{in_range};
 ghost use Rattle.rh_defs.specs.Commands.{step};
 ghost use Rattle.rh_drawn.specs.Deeds.{IsLikeReply, reply_to, rest_means};
-ghost use Rattle.rh_drawn.specs.Replies.{Excerpts};
+ghost use Rattle.rh_drawn.specs.DrawnReplies.{Excerpts};
 ghost use Rattle.rh_map.specs.Replies.{front_of};
 ghost use Rattle.rh_figure.specs.Map.{is_mark as is_mark_of};
 ghost use Rattle.rh_figure.specs.Scene.{marks_of};

@@ -5,7 +5,7 @@ ghost use Rattle.rh_defs.specs.Slot.{anchor_count};
 ghost use Rattle.rh_defs.specs.Desk.{Desk, Task};
 ghost use Rattle.rh_defs.specs.Questions.{block_items};
 ghost use Rattle.rh_defs.specs.declared.question.BlockItem.{BlockItem};
-ghost use Rattle.rh_drawn.specs.Cards.{card_lines, cards_behind, place_behind};
+ghost use Rattle.rh_drawn.specs.DrawnCards.{card_lines, cards_behind, place_behind};
 ghost use Rattle.rh_figure.specs.Cards.{Card, flex_cards, shown_cards};
 ghost use Rattle.rh_figure.specs.Layout.{is_fresh_flex as is_fresh_flex_in};
 ghost use Rattle.rh_lines.specs.Flow.{Puts};

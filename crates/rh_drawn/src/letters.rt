@@ -5,7 +5,7 @@ ghost use Rattle.std.specs.List.{list_any};
 ghost use Rattle.std.specs.Option.{option_map};
 ghost use Rattle.rh_defs.specs.Post.{most_messages};
 ghost use Rattle.rh_defs.specs.Desk.{Task};
-ghost use Rattle.rh_drawn.specs.Letters.{entry_seen, has_letters_in, letterboxes_in};
+ghost use Rattle.rh_drawn.specs.DrawnLetters.{entry_seen, has_letters_in, letterboxes_in};
 ghost use Rattle.rh_drawn.specs.Parts.{letter_part};
 ghost use Rattle.rh_figure.specs.Figure.{letterboxes};
 ghost use Rattle.rh_figure.specs.Map.{letterbox_line};
@@ -13,7 +13,7 @@ ghost use Rattle.rh_figure.specs.declared.limits.TheConstants.{MOST_LISTED};
 ghost use Rattle.rh_lines.specs.Flow.{Puts};
 ghost use Rattle.rh_map.specs.Written.{shown_lines};
 ghost use Rattle.rh_map.specs.declared.letterboxes.MessageEntry.{MessageEntry};
-ghost use Rattle.rh_sight.specs.Messages.{is_held_by, waits_for};
+ghost use Rattle.rh_sight.specs.SightMessages.{is_held_by, waits_for};
 ghost use Rattle.rh_sight.specs.Steps.{IsStepOf, scene_at};
 
 use rh_defs::{Action, EventCode, Handle, MessageItem, Name, Ref};

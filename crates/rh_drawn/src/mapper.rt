@@ -5,14 +5,14 @@ ghost use Rattle.std.specs.Option.{option_map};
 ghost use Rattle.rh_defs.specs.Order.{IsReordered};
 ghost use Rattle.rh_defs.specs.Range.{in_range};
 ghost use Rattle.rh_defs.specs.Commands.{step};
-ghost use Rattle.rh_drawn.specs.Places.{Broke, Drew, IsFirst, IsSamePlace, shown_step};
-ghost use Rattle.rh_drawn.specs.Replies.{Excerpts};
+ghost use Rattle.rh_drawn.specs.DrawnPlaces.{Broke, Drew, IsFirst, IsSamePlace, shown_step};
+ghost use Rattle.rh_drawn.specs.DrawnReplies.{Excerpts};
 ghost use Rattle.rh_map.specs.Replies.{front_of};
 ghost use Rattle.rh_lines.specs.Flow.{Puts};
 ghost use Rattle.rh_figure.specs.Share.{IsShared};
 ghost use Rattle.rh_map.specs.Written.{shown_lines};
 ghost use Rattle.rh_session.specs.Outcome.{status_of};
-ghost use Rattle.rh_sight.specs.Pages.{share_in};
+ghost use Rattle.rh_sight.specs.SightPages.{share_in};
 
 use crate::deeds::{Deed, answer, holds_unless, is_wanted, rest_fault, step_of};
 use crate::drawn::Drawn;
@@ -209,7 +209,7 @@ impl<D: Drawn> Mapper<D> {
 
 impl<D: Drawn> LineTaker for Mapper<D> {
     ghost use Rattle.std.specs.Prelude.{◌-◌, ◌^◌};
-    ghost use Rattle.rh_drawn.specs.Places.{BrokeLine, BrokeRest, TookLine, TookRest};
+    ghost use Rattle.rh_drawn.specs.DrawnPlaces.{BrokeLine, BrokeRest, TookLine, TookRest};
 
     ghost took = { TookLine D.desk };
 

@@ -8,7 +8,7 @@ ghost use Rattle.rh_figure.specs.Changes.{freed_pages, freed_text};
 ghost use Rattle.rh_figure.specs.Share.{AreaOf, count_of, fixed_holding, holdings};
 ghost use Rattle.rh_lines.specs.Flow.{Puts};
 ghost use Rattle.rh_map.specs.Written.{shown_lines};
-ghost use Rattle.rh_sight.specs.Owners.{made_holding, slot_holding};
+ghost use Rattle.rh_sight.specs.SightOwners.{made_holding, slot_holding};
 ghost use Rattle.rh_sight.specs.Seen.{IsTaskSeen, owner_seen};
 ghost use Rattle.rh_sight.specs.Steps.{IsStepOf, scene_at};
 

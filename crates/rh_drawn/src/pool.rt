@@ -8,7 +8,7 @@ ghost use Rattle.rh_figure.specs.Figure.{owner_of};
 ghost use Rattle.rh_figure.specs.Rows.{page_mark};
 ghost use Rattle.rh_lines.specs.Flow.{Puts};
 ghost use Rattle.rh_map.specs.Written.{shown_lines};
-ghost use Rattle.rh_sight.specs.Pages.{share_in};
+ghost use Rattle.rh_sight.specs.SightPages.{share_in};
 ghost use Rattle.rh_sight.specs.Steps.{IsStepOf, scene_at};
 
 use crate::lists::Lists;

@@ -1,7 +1,7 @@
 //! A step of a map: its line, its reply, and its figure.
 
 ghost use Rattle.std.specs.Prelude.{◌≤◌, ℕ, List, length};
-ghost use Rattle.rh_drawn.specs.Replies.{Excerpts};
+ghost use Rattle.rh_drawn.specs.DrawnReplies.{Excerpts};
 ghost use Rattle.rh_figure.specs.Map.{step_lines};
 ghost use Rattle.rh_lines.specs.Flow.{Puts};
 ghost use Rattle.rh_map.specs.Written.{shown_lines};

@@ -6,7 +6,7 @@ ghost use Rattle.std.specs.Option.{option_map};
 ghost use Rattle.rh_defs.specs.Questions.{in_item as in_item_of, out_item as out_item_of};
 ghost use Rattle.rh_defs.specs.Records.{in_id as in_id_of, out_id as out_id_of};
 ghost use Rattle.rh_drawn.specs.Parts.{transfer_part};
-ghost use Rattle.rh_drawn.specs.Sides.{comes_alone, goes_out, ins_of, outs_of};
+ghost use Rattle.rh_drawn.specs.DrawnSides.{comes_alone, goes_out, ins_of, outs_of};
 ghost use Rattle.rh_figure.specs.Figure.{has_id as has_id_of};
 ghost use Rattle.rh_figure.specs.Map.{transfer_line};
 ghost use Rattle.rh_figure.specs.Scene.{Before, Marks, scene_of};

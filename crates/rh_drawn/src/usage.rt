@@ -4,7 +4,7 @@ ghost use Rattle.std.specs.Prelude.{◌≡◌, find};
 ghost use Rattle.std.specs.Option.{option_map};
 ghost use Rattle.rh_defs.specs.Records.{in_id as in_id_of, is_buffer_of as is_buffer_at, is_document as is_document_of, is_source, out_id as out_id_of};
 ghost use Rattle.rh_figure.specs.Cards.{in_use_text, out_use_text};
-ghost use Rattle.rh_map.specs.Cards.{use_text};
+ghost use Rattle.rh_map.specs.MapCards.{use_text};
 
 use rh_defs::{Anchor, Incoming, Outgoing, Ref};
 use rh_map::Usage;

@@ -2,7 +2,7 @@
 
 ghost use Rattle.std.specs.Prelude.{◌≡◌};
 ghost use Rattle.rh_figure.specs.Phrases.{task_name};
-ghost use Rattle.rh_map.specs.Tasks.{who_text};
+ghost use Rattle.rh_map.specs.MapTasks.{who_text};
 
 use rh_defs::Handle;
 use rh_map::Who;

@@ -17,7 +17,7 @@ use Rattle.rh_defs.proofs.Steps.{order-ignored}
 use Rattle.rh_figure.specs.Share.{Share}
 use Rattle.rh_figure.specs.Scene.{Before, Marks, no_marks, is_still, before_of, before_task, task_in, marks_of, scene_of}
 use Rattle.rh_figure.specs.Map.{step_lines, command_lines, fault_lines, is_mark, remark_lines}
-use Rattle.rh_figure.specs.Laws.{ShowsNoOrder}
+use Rattle.rh_figure.specs.FigureLaws.{ShowsNoOrder}
 
 -- a function by its values
 same-values : {A : Type 0} {f g : ℕ → A} → ((n : ℕ) → f n ≡ g n) → f ≡ g

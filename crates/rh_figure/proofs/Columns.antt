@@ -8,7 +8,7 @@ use Rattle.rh_defs.specs.Script.{ended, unended, onto_line, unended_after}
 use Rattle.std.proofs.lemmas.Bool.Decides.{nat_tests}
 use Rattle.rh_defs.proofs.HeapLists.{cond_false, eqb_apart}
 use Rattle.rh_figure.specs.Map.{shown_byte, shown_line, written_lines, map_start, map_lines}
-use Rattle.rh_figure.specs.Laws.{IsShownByte, IsMapLine, HasMapLines, AreMaps}
+use Rattle.rh_figure.specs.FigureLaws.{IsShownByte, IsMapLine, HasMapLines, AreMaps}
 use Rattle.rh_figure.specs.declared.limits.TheConstants.{MAP_COLUMNS}
 
 -- a byte that was shown because two tests hold, or the question mark

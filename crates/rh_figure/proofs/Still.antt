@@ -11,7 +11,7 @@ use Rattle.rh_defs.proofs.Chains.{OnGrant, granted, refused}
 use Rattle.rh_defs.proofs.Steps.{never-refused}
 use Rattle.rh_defs.proofs.QuestionLaws.{asked-stays}
 use Rattle.rh_figure.specs.Scene.{is_question}
-use Rattle.rh_figure.specs.Laws.{KeepsStill}
+use Rattle.rh_figure.specs.FigureLaws.{KeepsStill}
 
 refused-stays : (d : Desk) (g : Granted Answer) → OnGrant (λ (a : Answer). is_refused a.1 ≡ false) g
     → is_refused (or_else g (λ refusal. (d, reply.Refused refusal))).1 ≡ true

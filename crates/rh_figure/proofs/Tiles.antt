@@ -12,7 +12,7 @@ use Rattle.rh_defs.proofs.HeapLists.{total-append}
 use Rattle.rh_defs.proofs.Spaced.{always-is}
 use Rattle.rh_figure.specs.Scene.{Scene, scene_of}
 use Rattle.rh_figure.specs.Layout.{Tile, Piece, Legend, segment_pieces, more_pieces, heap_pieces, flex_pieces, slot_pieces, slot_legend, module_legend}
-use Rattle.rh_figure.specs.Laws.{HasTiledSlot, HasTiledAreas}
+use Rattle.rh_figure.specs.FigureLaws.{HasTiledSlot, HasTiledAreas}
 use Rattle.rh_figure.specs.declared.limits.TheConstants.{MOST_SEGMENTS}
 
 pub tile-join : (a b c : ℕ) (ps qs : List Piece) → Tile a b ps → Tile b c qs → Tile a c (ps ++ qs)

@@ -1,7 +1,7 @@
 //! Laws of pictures over the definitions alone, each the contract of a function with nothing to do.
 
 ghost use Rattle.rh_defs.specs.Laws.{Always};
-ghost use Rattle.rh_figure.specs.Laws.{AreMaps, HasTiledAreas, KeepsStill, ShowsNoOrder};
+ghost use Rattle.rh_figure.specs.FigureLaws.{AreMaps, HasTiledAreas, KeepsStill, ShowsNoOrder};
 
 /// After any commands the pieces of each slot and of the module area lie one after the other, from the area's first
 /// byte to the end of its last page, whatever is marked as changed.

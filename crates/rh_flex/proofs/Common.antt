@@ -14,7 +14,7 @@ pub use Rattle.rh_defs.specs.Slot.{new_slot}
 unfoldable pub use Rattle.rh_defs.specs.SlotImage.{slot_of}
 pub use Rattle.rh_defs.specs.declared.refusal.Refusal.TheVariants.{BadRange}
 pub use Rattle.rh_defs.specs.declared.sizes.TheConstants.{PAGE}
-pub use Rattle.rh_flex.specs.Pages.{first_pages, lent_memory_in}
-unfoldable pub use Rattle.rh_flex.specs.Pages.{lent_pages_memory, pages_memory_over, pages_memory_shown}
+pub use Rattle.rh_flex.specs.LentPages.{first_pages, lent_memory_in}
+unfoldable pub use Rattle.rh_flex.specs.LentPages.{lent_pages_memory, pages_memory_over, pages_memory_shown}
 pub use Rattle.rh_flex.specs.Slots.{IsSlotBytes, LeavesSlot, lent_slot_bytes, free_in, lent_slot_in}
 unfoldable pub use Rattle.rh_flex.specs.Write.{slot_write}

@@ -1,10 +1,10 @@
 -- What a check of a slot's pages says of the bytes that they lie in.
 use Rattle.rh_flex.proofs.Common.{◌≡◌, ℕ, ◌*◌, ◌/◌, ◌^◌, ◌≤◌, ◌<◌, true, List, length, refl, arith, Some, nat_tests, length-take-le, PAGE}
 use Rattle.rh_flex.proofs.Common.{slot_of, IsSlotBytes, lent_slot_bytes, lent_slot_in}
-use Rattle.rh_flex.specs.Image.{IsShortSlot, pages_fault_of}
+use Rattle.rh_flex.specs.LentSlotChecks.{IsShortSlot, pages_fault_of}
 use Rattle.rh_flex.specs.declared.slot.LentSlot.{LentSlot}
 use Rattle.rh_flex.proofs.SlotBytes.{budged}
-use Rattle.rh_slot.specs.Image.{IsSlotImage, slot_fault_of, slot_summary}
+use Rattle.rh_slot.specs.SlotChecks.{IsSlotImage, slot_fault_of, slot_summary}
 use Rattle.rh_slot.specs.declared.image.SlotFault.TheVariants.{BadLength}
 use Rattle.rh_store.specs.Limits.{area_limit}
 

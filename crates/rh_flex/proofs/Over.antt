@@ -9,7 +9,7 @@ use Rattle.rh_defs.specs.Bytes.{word, put_word}
 use Rattle.rh_defs.specs.Memory.{IsOpen, with_bytes, grown, shrunk}
 use Rattle.rh_defs.proofs.BytesLaws.{length-put, part-take, word-take, put-append_left, put-parts}
 use Rattle.rh_defs.proofs.MemoryLaws.{area_set-area_set}
-use Rattle.rh_flex.specs.Pages.{pages_behind}
+use Rattle.rh_flex.specs.LentPages.{pages_behind}
 use Rattle.rh_flex.specs.declared.pages.LentPages.{LentPages}
 use Rattle.rh_flex.specs.declared.pages_mut.LentPagesMut.{LentPagesMut}
 

@@ -13,12 +13,12 @@ use Rattle.rh_defs.specs.SlotImage.{SpellsSlot, heap_place}
 use Rattle.rh_defs.specs.declared.refusal.Refusal.{Refusal}
 use Rattle.rh_defs.proofs.MemoryLaws.{OnlyArea-self}
 use Rattle.rh_defs.proofs.SlotImageLaws.{slot_of-SlotWords, SpellsSlot-budging}
-use Rattle.rh_flex.specs.Pages.{pages_behind}
+use Rattle.rh_flex.specs.LentPages.{pages_behind}
 use Rattle.rh_flex.specs.declared.pages_mut.LentPagesMut.{LentPagesMut}
 use Rattle.rh_flex.specs.declared.slot.LentSlot.{LentSlot}
 use Rattle.rh_flex.proofs.Over.{over-open, take-zeros}
-use Rattle.rh_slot.specs.Area.{IsSlotIn}
-use Rattle.rh_slot.specs.Calls.{LeavesSlotIn}
+use Rattle.rh_slot.specs.SlotArea.{IsSlotIn}
+use Rattle.rh_slot.specs.SlotCalls.{LeavesSlotIn}
 use Rattle.rh_slot.specs.declared.slot.Slot.{Slot}
 use Rattle.rh_slot.proofs.SpanLaws.{slot_now}
 use Rattle.rh_slot.proofs.StartLaws.{Opened, spells_new}

@@ -8,8 +8,8 @@ use Rattle.rh_defs.specs.Places.{buffer_at, written_in}
 use Rattle.rh_defs.specs.Slot as plain
 use Rattle.rh_defs.specs.Slot.{holds}
 use Rattle.rh_defs.specs.SlotImage.{SpellsSlot}
-use Rattle.rh_slot.specs.Area.{IsSlotIn, slot_in}
-use Rattle.rh_slot.specs.Calls.{LeavesSlotIn}
+use Rattle.rh_slot.specs.SlotArea.{IsSlotIn, slot_in}
+use Rattle.rh_slot.specs.SlotCalls.{LeavesSlotIn}
 use Rattle.rh_slot.specs.declared.slot.Slot.{Slot}
 use Rattle.rh_slot.proofs.ReachLaws.{Reached, Within, reached, within, reached_spells, reached_budging}
 use Rattle.rh_slot.proofs.WriteLaws.{copied}

@@ -1,4 +1,4 @@
-pub mod Image
-pub mod Pages
+pub mod LentPages
+pub mod LentSlotChecks
 pub mod Slots
 pub mod Write

@@ -4,7 +4,7 @@ use Rattle.rh_defs.specs.Chain.{Granted, answer_of, left_of}
 use Rattle.rh_defs.specs.Slot.{Slot}
 use Rattle.rh_defs.specs.SlotImage.{SpellsSlot, slot_of}
 use Rattle.rh_defs.specs.declared.sizes.TheConstants.{PAGE}
-use Rattle.rh_flex.specs.Pages.{first_pages, pages_behind}
+use Rattle.rh_flex.specs.LentPages.{first_pages, pages_behind}
 use Rattle.rh_flex.specs.declared.slot.LentSlot.{LentSlot}
 use Rattle.rh_store.specs.Limits.{area_limit}
 

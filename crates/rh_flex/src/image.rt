@@ -1,9 +1,9 @@
 //! Slots in bytes from anywhere: whether their first pages are one, so that the other calls may be made.
 ghost use Rattle.std.specs.Prelude.{◌≡◌, ◌↔◌, ◌*◌, IsOk, IfOk};
 ghost use Rattle.rh_defs.specs.declared.sizes.TheConstants.{PAGE};
-ghost use Rattle.rh_flex.specs.Image.{IsShortSlot, pages_fault_of};
+ghost use Rattle.rh_flex.specs.LentSlotChecks.{IsShortSlot, pages_fault_of};
 ghost use Rattle.rh_flex.specs.Slots.{lent_slot_in};
-ghost use Rattle.rh_slot.specs.Image.{slot_fault_in, slot_summary};
+ghost use Rattle.rh_slot.specs.SlotChecks.{slot_fault_in, slot_summary};
 
 use crate::slot::LentSlot;
 use rh_defs::sizes::PAGE;

@@ -1,5 +1,5 @@
 //! Bytes that a caller lends to be read, whose first pages are the one area 0.
-#![tactic(auto, unfolding(crate::specs::Pages::pages_memory_shown, crate::specs::Pages::pages_memory_over))]
+#![tactic(auto, unfolding(crate::specs::LentPages::pages_memory_shown, crate::specs::LentPages::pages_memory_over))]
 
 ghost use Rattle.std.specs.Prelude.{◌≡◌, ◌*◌, ◌≤◌, length};
 ghost use Rattle.rh_defs.specs.declared.sizes.TheConstants.{PAGE};
@@ -19,7 +19,7 @@ pub struct LentPages<'a> {
 }
 
 impl Words for LentPages<'_> {
-    ghost use Rattle.rh_flex.specs.Pages.{pages_memory_shown, shown_pages_small_law};
+    ghost use Rattle.rh_flex.specs.LentPages.{pages_memory_shown, shown_pages_small_law};
 
     ghost memory = { pages_memory_shown };
 
@@ -44,7 +44,7 @@ impl Words for LentPages<'_> {
 }
 
 impl Paged for LentPages<'_> {
-    ghost use Rattle.rh_flex.specs.Pages.{shown_whole_law};
+    ghost use Rattle.rh_flex.specs.LentPages.{shown_whole_law};
 
     fn rest_of_page(&self, _id: AreaId, at: usize) -> &[u8] {
         part_of(self.bytes, at, PAGE - at % PAGE)

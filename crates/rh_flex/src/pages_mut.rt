@@ -1,5 +1,5 @@
 //! Bytes that a caller lends to be written, whose first pages are the one area 0, and whose other whole pages are free.
-#![tactic(auto, unfolding(crate::specs::Pages::lent_pages_memory, crate::specs::Pages::pages_memory_over))]
+#![tactic(auto, unfolding(crate::specs::LentPages::lent_pages_memory, crate::specs::LentPages::pages_memory_over))]
 
 ghost use Rattle.std.specs.Prelude.{◌≡◌, ◌*◌, ◌≤◌, length};
 ghost use Rattle.rh_defs.specs.declared.sizes.TheConstants.{PAGE};
@@ -20,7 +20,7 @@ pub struct LentPagesMut<'a> {
 }
 
 impl Words for LentPagesMut<'_> {
-    ghost use Rattle.rh_flex.specs.Pages.{lent_pages_memory, lent_small_law};
+    ghost use Rattle.rh_flex.specs.LentPages.{lent_pages_memory, lent_small_law};
 
     ghost memory = { lent_pages_memory };
 
@@ -69,7 +69,7 @@ impl WordsMut for LentPagesMut<'_> {
 }
 
 impl Paged for LentPagesMut<'_> {
-    ghost use Rattle.rh_flex.specs.Pages.{lent_whole_law};
+    ghost use Rattle.rh_flex.specs.LentPages.{lent_whole_law};
 
     fn rest_of_page(&self, _id: AreaId, at: usize) -> &[u8] {
         part_of(self.bytes, at, PAGE - at % PAGE)
@@ -79,7 +79,7 @@ impl Paged for LentPagesMut<'_> {
 }
 
 impl Pages for LentPagesMut<'_> {
-    ghost use Rattle.rh_flex.specs.Pages.{lent_ledger_law, lent_within_law, lent_few_law};
+    ghost use Rattle.rh_flex.specs.LentPages.{lent_ledger_law, lent_within_law, lent_few_law};
 
     fn grow(&mut self, _id: AreaId, pages: usize) -> Result<(), StoreFault> {
         if self.free_pages() < pages {

@@ -2,8 +2,8 @@
 use Rattle.rh_heap.proofs.Common.{◌≡◌, sym, ap, subst, ◌∙◌, Result, Ok, Err, Memory, left_of, Heap, HeapRefusal, Span, IsSpan, SpellsHeapIn, heap_in}
 use Rattle.rh_defs.specs.Chain.{answer_of}
 use Rattle.rh_defs.proofs.MemoryLaws.{Edited-self}
-use Rattle.rh_heap.specs.Spans.{OnlySpan}
-use Rattle.rh_heap.specs.Calls.{LeavesHeap}
+use Rattle.rh_heap.specs.HeapSpans.{OnlySpan}
+use Rattle.rh_heap.specs.HeapCalls.{LeavesHeap}
 use Rattle.rh_heap.proofs.SpanLaws.{heap_now, is_span}
 
 module _ {A : Type 0} (m n : Memory) (span : Span) (granted : Result (Heap × A) HeapRefusal) where

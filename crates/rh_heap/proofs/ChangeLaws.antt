@@ -6,9 +6,9 @@ use Rattle.rh_heap.proofs.Common.{Spot}
 use Rattle.rh_defs.specs.Heap.{new_size, resize_need, resized, resize_block, resize_found, need_at, need_found, as_granted}
 use Rattle.rh_defs.specs.Heap as heap
 use Rattle.rh_defs.specs.declared.heap.HeapRefusal.TheVariants.{NotABlock, BadSize, NoRoom}
-use Rattle.rh_heap.specs.Calls.{LeavesHeap}
-use Rattle.rh_heap.specs.Spans.{OnlySpan}
-use Rattle.rh_heap.specs.Ways.{WayOf, SpellsResized, short_by, ShortBy, Changed, NotChanged, Moved}
+use Rattle.rh_heap.specs.HeapCalls.{LeavesHeap}
+use Rattle.rh_heap.specs.HeapSpans.{OnlySpan}
+use Rattle.rh_heap.specs.HeapWays.{WayOf, SpellsResized, short_by, ShortBy, Changed, NotChanged, Moved}
 use Rattle.rh_heap.specs.declared.span.resize.Way.TheVariants as way
 use Rattle.rh_heap.proofs.CallLaws.{leaves, refuses}
 use Rattle.rh_heap.proofs.WayLaws.{cut_of, at_cut, from_cut, at_place}

@@ -10,7 +10,7 @@ use Rattle.rh_defs.proofs.HeapLists.{sum-append}
 use Rattle.rh_defs.proofs.HeapLaws.{Open-join, Stand-join}
 use Rattle.rh_defs.proofs.HeapFaults.{LinkIs, ends, leads, link_from, size_from, at_base, at_hole, next_is, fault-end, fault-used, fault-used_size}
 use Rattle.rh_defs.proofs.HeapFaults.{fault-hole, fault-hole_size, fault-hole_link, fault_of-segments, fault_of-link, descriptor_from, image_clean}
-use Rattle.rh_heap.specs.Image.{used_count, used_size, hole_count, summary_of}
+use Rattle.rh_heap.specs.HeapChecks.{used_count, used_size, hole_count, summary_of}
 use Rattle.rh_heap.specs.declared.image.Summary.{Summary}
 use Rattle.rh_defs.specs.HeapParts.{Open}
 

@@ -30,12 +30,12 @@ pub use Rattle.rh_defs.specs.declared.heap.HeapRefusal.{HeapRefusal}
 pub use Rattle.rh_store.specs.Starts.{IsIndex, bit, hole_at, once, used_at}
 pub use Rattle.rh_store.specs.declared.starts.TheConstants.{BITS, HOLES, USED}
 pub use Rattle.rh_heap.specs.Holes.{FoundHole}
-pub use Rattle.rh_heap.specs.Image.{listed}
+pub use Rattle.rh_heap.specs.HeapChecks.{listed}
 pub use Rattle.rh_heap.specs.Segments.{FoundSegment, FoundBlock, GapIs, HereIs, Reached, a_gap, hole_here, no_gap, used_here}
-pub use Rattle.rh_heap.specs.Spans.{IsSpan, SpellsHeapIn, bytes_in, heap_in}
-pub use Rattle.rh_heap.specs.Starts.{Became, LastBit}
+pub use Rattle.rh_heap.specs.HeapSpans.{IsSpan, SpellsHeapIn, bytes_in, heap_in}
+pub use Rattle.rh_heap.specs.HeapStarts.{Became, LastBit}
 pub use Rattle.rh_heap.specs.Stretches.{IsStretch, Settles, StretchBetween}
-pub use Rattle.rh_heap.specs.Ways.{WayIs, WithBlock, into_hole, resized_in}
+pub use Rattle.rh_heap.specs.HeapWays.{WayIs, WithBlock, into_hole, resized_in}
 pub use Rattle.rh_heap.specs.declared.span.Span.{Span}
 pub use Rattle.rh_heap.specs.declared.span.holes.Gap.{Gap}
 pub use Rattle.rh_heap.specs.declared.span.segments.Spot.{Spot}

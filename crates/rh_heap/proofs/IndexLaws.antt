@@ -6,7 +6,7 @@ use Rattle.rh_heap.proofs.Common.{total-append, tidy_before, tidy_behind_used, f
 use Rattle.rh_heap.proofs.Common.{last_link-append, last_link-none, Stand-split, GapIs, no_gap, a_gap, FoundBlock, bit, used_at, hole_at, IsIndex, LastBit}
 use Rattle.std.proofs.lemmas.Nat.Bits.{bit_at-lt}
 use Rattle.rh_defs.proofs.HeapStretch.{Await-from_link}
-use Rattle.rh_heap.specs.Starts.{LinkBelow, no_hole, a_hole}
+use Rattle.rh_heap.specs.HeapStarts.{LinkBelow, no_hole, a_hole}
 use Rattle.rh_heap.proofs.StartLaws.{hole_at-append, hole_at-low, hole_at-before_first, used_at-high, hole_at-high, HasUnits, units_of, units-append}
 use Rattle.rh_heap.proofs.StartLaws.{units-total, unmarked, off_units, UsedHere, used_here, no_holes, LastOf, last_of}
 

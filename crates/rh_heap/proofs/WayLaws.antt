@@ -7,7 +7,7 @@ use Rattle.std.proofs.lemmas.Bool.Decides.{nat_tests}
 use Rattle.rh_defs.specs.Heap.{place_after, way_to_grow, way_beyond}
 use Rattle.rh_defs.specs.Heap as heap
 use Rattle.rh_defs.proofs.HeapLists.{leb_yes}
-use Rattle.rh_heap.specs.Ways.{stays, shrinks, at_top, to_hole, to_top}
+use Rattle.rh_heap.specs.HeapWays.{stays, shrinks, at_top, to_hole, to_top}
 use Rattle.rh_heap.specs.declared.span.resize.Way.{Way}
 use Rattle.rh_heap.specs.declared.span.resize.Way.TheVariants as way
 use Rattle.rh_heap.proofs.StretchLaws.{next_range}

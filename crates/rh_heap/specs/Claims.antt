@@ -4,7 +4,7 @@ use Rattle.rh_defs.specs.Memory.{Memory}
 use Rattle.rh_defs.specs.Pieces.{zeros}
 use Rattle.rh_defs.specs.Heap.{hole_for, placed_block, shortage_in}
 use Rattle.rh_heap.specs.declared.span.Span.{Span}
-use Rattle.rh_heap.specs.Spans.{heap_in, SpellsHeapIn}
+use Rattle.rh_heap.specs.HeapSpans.{heap_in, SpellsHeapIn}
 use Rattle.rh_heap.specs.declared.layout.TheConstants.{BLOCK}
 
 -- a block of zeros is put into a segment of t bytes

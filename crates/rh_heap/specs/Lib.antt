@@ -1,10 +1,10 @@
-pub mod Calls
 pub mod Claims
+pub mod HeapCalls
+pub mod HeapChecks
+pub mod HeapSpans
+pub mod HeapStarts
+pub mod HeapWays
 pub mod Holes
-pub mod Image
 pub mod Listed
 pub mod Segments
-pub mod Spans
-pub mod Starts
 pub mod Stretches
-pub mod Ways

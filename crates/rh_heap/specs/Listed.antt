@@ -3,7 +3,7 @@ use Rattle.std.specs.Prelude.{◌≡◌, ℕ, List, [], ◌∷◌, ◌++◌, tak
 use Rattle.rh_defs.specs.Pieces.{Split}
 use Rattle.rh_defs.specs.Heap as heap
 use Rattle.rh_defs.specs.Heap.{Heap, segment_at}
-use Rattle.rh_heap.specs.Image.{listed}
+use Rattle.rh_heap.specs.HeapChecks.{listed}
 use Rattle.rh_heap.specs.Segments.{Reached}
 use Rattle.rh_heap.specs.declared.layout.Segment.{Segment}
 use Rattle.rh_defs.specs.declared.sizes.TheConstants.{SEGMENTS_AT_ONCE}

@@ -3,7 +3,7 @@ ghost use Rattle.std.specs.Prelude.{◌≡◌, ◌↔◌, ℕ, ◌+◌, ◌*◌,
 ghost use Rattle.std.specs.Iterator.{YieldsFirst, item_count};
 ghost use Rattle.rh_defs.specs.Bytes.{word};
 ghost use Rattle.rh_defs.specs.HeapImage.{IsImage, heap_of, is_size, is_link, next_place, has_descriptor, fault_of};
-ghost use Rattle.rh_heap.specs.Image.{summary_of, fault_in, listed, left};
+ghost use Rattle.rh_heap.specs.HeapChecks.{summary_of, fault_in, listed, left};
 ghost use Rattle.rh_defs.specs.declared.sizes.TheConstants.{HEAP_BASE, HEAP_FIRST, HEAP_FREE, WORD};
 
 mod segment_iter;

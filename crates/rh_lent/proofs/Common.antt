@@ -7,7 +7,7 @@ pub use Rattle.rh_defs.specs.Bytes.{part, with_part}
 pub use Rattle.rh_defs.specs.Chain.{no_answer}
 pub use Rattle.rh_defs.specs.HeapImage.{heap_of}
 unfoldable pub use Rattle.rh_defs.specs.Memory.{area_set, bytes}
-pub use Rattle.rh_heap.specs.Calls.{LeavesHeap}
+pub use Rattle.rh_heap.specs.HeapCalls.{LeavesHeap}
 pub use Rattle.rh_store.specs.Starts.{IsIndex}
 pub use Rattle.rh_lent.specs.Heaps.{LeavesBytes}
 unfoldable pub use Rattle.rh_lent.specs.Lent.{lent_memory, memory_over, memory_shown}

@@ -6,7 +6,7 @@ use Rattle.rh_defs.specs.Memory.{Memory}
 use Rattle.rh_defs.specs.Heap.{Heap}
 use Rattle.rh_defs.specs.HeapImage.{Spells}
 use Rattle.rh_defs.specs.declared.heap.HeapRefusal.{HeapRefusal}
-use Rattle.rh_heap.specs.Spans.{IsSpan}
+use Rattle.rh_heap.specs.HeapSpans.{IsSpan}
 use Rattle.rh_heap.specs.declared.span.Span.{Span}
 use Rattle.rh_lent.specs.Heaps.{IsHeapBytes}
 use Rattle.rh_lent.proofs.Over.{over-open}

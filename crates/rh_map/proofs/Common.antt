@@ -11,6 +11,6 @@ pub use Rattle.rh_figure.specs.Phrases.{size_text, where_so}
 pub use Rattle.rh_figure.specs.Rows.{trimmed}
 pub use Rattle.rh_figure.specs.declared.limits.TheConstants.{MOST_REPLY_LINES}
 pub use Rattle.rh_lines.proofs.FlowLemmas.{puts_stops}
-pub use Rattle.rh_map.specs.Messages.{message_entry_text}
+pub use Rattle.rh_map.specs.MapMessages.{message_entry_text}
 pub use Rattle.rh_map.specs.Replies.{first_lines, lines_in}
 pub use Rattle.rh_map.specs.Written.{Fills, shown_lines}

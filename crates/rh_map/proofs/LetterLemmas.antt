@@ -4,7 +4,7 @@ use Rattle.rh_map.proofs.Common.{decimal, where_so, message_entry_text}
 use Rattle.rh_defs.specs.Text.{action_name}
 use Rattle.rh_figure.specs.Phrases.{and_more, is_returned}
 use Rattle.rh_map.specs.declared.letterboxes.MessageEntry.{MessageEntry}
-use Rattle.rh_map.specs.Messages.{waits_text}
+use Rattle.rh_map.specs.MapMessages.{waits_text}
 use Rattle.rh_map.proofs.FillLemmas.{some-text}
 
 -- messages behind commas

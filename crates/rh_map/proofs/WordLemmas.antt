@@ -5,7 +5,7 @@ use Rattle.rh_defs.specs.Bytes.{space}
 use Rattle.rh_defs.specs.Line.{words_of, nth_word}
 use Rattle.rh_lines.specs.Words.{piece_words}
 use Rattle.rh_lines.proofs.SplitLemmas.{words_last, words_next}
-use Rattle.rh_map.specs.Script.{BeginsWord}
+use Rattle.rh_map.specs.MapScript.{BeginsWord}
 
 -- what stands between two spaces is a word, if it isn't empty
 piece-some : (b : ℕ) (bs : List ℕ) → piece_words (b ∷ bs) ≡ (b ∷ bs) ∷ []

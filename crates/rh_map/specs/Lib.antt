@@ -1,8 +1,8 @@
-pub mod Written
-pub mod Cards
-pub mod Sides
-pub mod Areas
-pub mod Tasks
-pub mod Messages
-pub mod Script
+pub mod MapAreas
+pub mod MapCards
+pub mod MapMessages
+pub mod MapScript
+pub mod MapTasks
 pub mod Replies
+pub mod Sides
+pub mod Written

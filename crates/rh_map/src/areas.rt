@@ -8,7 +8,7 @@ ghost use Rattle.rh_figure.specs.Map.{heading_line, shown_line};
 ghost use Rattle.rh_figure.specs.Phrases.{area_name, pages_text};
 ghost use Rattle.rh_lines.specs.Flow.{Puts};
 ghost use Rattle.rh_lines.specs.declared.row.TheConstants.{ROW};
-ghost use Rattle.rh_map.specs.Areas.{scrap_note_of};
+ghost use Rattle.rh_map.specs.MapAreas.{scrap_note_of};
 
 use crate::line::put_line;
 use crate::numbers::add_numbers;

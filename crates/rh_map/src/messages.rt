@@ -9,8 +9,8 @@ ghost use Rattle.rh_figure.specs.Cards.{between_text};
 ghost use Rattle.rh_figure.specs.Map.{card_line, shown_line};
 ghost use Rattle.rh_lines.specs.Flow.{Puts};
 ghost use Rattle.rh_lines.specs.declared.row.TheConstants.{ROW};
-ghost use Rattle.rh_map.specs.Messages.{card_of, place_text};
-ghost use Rattle.rh_map.specs.Tasks.{who_text};
+ghost use Rattle.rh_map.specs.MapMessages.{card_of, place_text};
+ghost use Rattle.rh_map.specs.MapTasks.{who_text};
 
 use crate::cards::print_card;
 use crate::who::{Who, add_who};

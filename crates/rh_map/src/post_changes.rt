@@ -8,7 +8,7 @@ ghost use Rattle.rh_figure.specs.Changes.{bytes_line, returns_line, sends_line, 
 ghost use Rattle.rh_figure.specs.Map.{shown_line};
 ghost use Rattle.rh_lines.specs.Flow.{Puts};
 ghost use Rattle.rh_lines.specs.declared.row.TheConstants.{ROW};
-ghost use Rattle.rh_map.specs.Tasks.{who_text};
+ghost use Rattle.rh_map.specs.MapTasks.{who_text};
 
 use crate::changes::print_change;
 use crate::messages::action_name;

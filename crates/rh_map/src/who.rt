@@ -2,7 +2,7 @@
 
 ghost use Rattle.std.specs.Prelude.{◌≡◌, ◌≤◌, ◌+◌, ◌++◌, length};
 ghost use Rattle.rh_lines.specs.declared.row.TheConstants.{ROW};
-ghost use Rattle.rh_map.specs.Tasks.{who_text};
+ghost use Rattle.rh_map.specs.MapTasks.{who_text};
 
 use rh_defs::{Handle, Name};
 use rh_lines::Row;

@@ -11,7 +11,7 @@ use Rattle.rh_defs.proofs.MemoryLaws.{bytes-with_bytes, IsOpen-with_bytes, OnlyA
 use Rattle.rh_defs.proofs.HeapLists.{cond_true, cond_false, eqb_same, eqb_apart}
 use Rattle.rh_defs.specs.Blocks.{bytes_at, block_bytes, poked, HasBlock, SameShape}
 use Rattle.rh_module.specs.Writes.{Wrote}
-use Rattle.rh_heap.specs.Spans as spans
+use Rattle.rh_heap.specs.HeapSpans as spans
 use Rattle.rh_heap.proofs.MapShapes.{index_shape}
 use Rattle.rh_store.specs.Starts.{IsIndex}
 use Rattle.rh_defs.proofs.ShapeLaws.{poked-shape}

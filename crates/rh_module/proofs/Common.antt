@@ -14,7 +14,7 @@ pub use Rattle.rh_defs.specs.Pieces.{pages_for}
 pub use Rattle.rh_defs.specs.declared.heap.HeapRefusal.{HeapRefusal}
 pub use Rattle.rh_defs.specs.declared.sizes.TheConstants.{PAGE}
 pub use Rattle.rh_heap.specs.declared.span.Span.{Span}
-pub use Rattle.rh_module.specs.Area.{IsModule, SpellsModuleIn, module_heap_in}
-pub use Rattle.rh_module.specs.Calls.{LeavesModule}
+pub use Rattle.rh_module.specs.ModuleArea.{IsModule, SpellsModuleIn, module_heap_in}
+pub use Rattle.rh_module.specs.ModuleCalls.{LeavesModule}
 pub use Rattle.rh_module.specs.Lengths.{longer}
 pub use Rattle.rh_module.specs.declared.module.Module.{Module}

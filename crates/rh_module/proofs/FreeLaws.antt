@@ -5,8 +5,8 @@ use Rattle.rh_defs.specs.Heap.{block_at, release_block, released_at}
 use Rattle.rh_defs.specs.Module.{module_free}
 use Rattle.rh_defs.proofs.HeapCalls.{released_at-some, released-found, released-refused}
 use Rattle.rh_defs.proofs.ModuleLaws.{release_found-end, module_free-none, module_free-some}
-use Rattle.rh_heap.specs.Calls as heap_calls
-use Rattle.rh_heap.specs.Spans as spans
+use Rattle.rh_heap.specs.HeapCalls as heap_calls
+use Rattle.rh_heap.specs.HeapSpans as spans
 use Rattle.rh_module.proofs.SpanLaws.{span_of, old_heap, begins_there}
 use Rattle.rh_module.proofs.CallLaws.{leaves, refuses}
 

@@ -5,8 +5,8 @@ use Rattle.rh_defs.specs.Heap.{as_granted, raised}
 use Rattle.rh_defs.specs.Chain.{Granted}
 use Rattle.rh_defs.proofs.MemoryLaws.{OnlyArea-both}
 use Rattle.rh_defs.proofs.ModuleLaws.{Grows}
-use Rattle.rh_heap.specs.Calls as heap_calls
-use Rattle.rh_heap.specs.Spans as spans
+use Rattle.rh_heap.specs.HeapCalls as heap_calls
+use Rattle.rh_heap.specs.HeapSpans as spans
 use Rattle.rh_module.proofs.SpanLaws.{span_of, heap_there, begins_there}
 use Rattle.rh_module.proofs.CallLaws.{leaves}
 

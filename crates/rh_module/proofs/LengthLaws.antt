@@ -11,7 +11,7 @@ use Rattle.rh_defs.specs.declared.heap.HeapRefusal.TheVariants.{ExcessiveShrink}
 use Rattle.rh_defs.proofs.MemoryLaws.{IsOpen-grown, length-grown, length-shrunk, SameIn-grown, SameIn-shrunk, OnlyArea-grown, OnlyArea-shrunk, OnlyArea-both}
 use Rattle.rh_defs.proofs.HeapCalls.{extend-done, extend-fits, extend-refused}
 use Rattle.rh_defs.proofs.ModuleLaws.{Spells-kept}
-use Rattle.rh_heap.specs.Spans as spans
+use Rattle.rh_heap.specs.HeapSpans as spans
 use Rattle.rh_module.specs.Lengths.{shorter}
 use Rattle.rh_module.proofs.SpanLaws.{span_of, Begins, is_span, heap_there, old_heap, begins_there}
 use Rattle.rh_store.specs.Limits.{pool_limit}

@@ -10,8 +10,8 @@ use Rattle.rh_defs.proofs.ModuleLaws.{Grows, module_claim-zero, module_claim-sho
 use Rattle.rh_defs.proofs.ModuleLaws.{module_resize-refused, module_resize-short, module_resize-grows}
 use Rattle.rh_defs.proofs.HeapGrowth.{claim-granted, resize-granted}
 use Rattle.rh_defs.proofs.MemoryLaws.{OnlyArea-self}
-use Rattle.rh_heap.specs.Calls as heap_calls
-use Rattle.rh_heap.specs.Spans as spans
+use Rattle.rh_heap.specs.HeapCalls as heap_calls
+use Rattle.rh_heap.specs.HeapSpans as spans
 use Rattle.rh_module.proofs.SpanLaws.{span_of, old_heap}
 use Rattle.rh_module.proofs.GrowthLaws.{Grown, done}
 

@@ -2,7 +2,7 @@
 use Rattle.rh_module.proofs.Common.{◌≡◌, sym, subst, Memory, IsOpen, bytes, Heap, IsImage, heap_of-Spells, Span, Module, IsModule, SpellsModuleIn}
 use Rattle.rh_module.proofs.Common.{module_heap_in}
 use Rattle.rh_defs.specs.HeapImage.{Spells}
-use Rattle.rh_heap.specs.Spans as spans
+use Rattle.rh_heap.specs.HeapSpans as spans
 use Rattle.rh_heap.proofs.SpanLaws as span_laws
 
 -- where the module area's heap stands

@@ -1,4 +1,4 @@
-pub mod Area
-pub mod Calls
 pub mod Lengths
+pub mod ModuleArea
+pub mod ModuleCalls
 pub mod Writes

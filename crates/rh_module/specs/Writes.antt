@@ -2,7 +2,7 @@
 use Rattle.std.specs.Prelude.{◌≡◌, ℕ, List}
 use Rattle.rh_defs.specs.Memory.{Memory, OnlyArea}
 use Rattle.rh_defs.specs.Blocks.{poked}
-use Rattle.rh_module.specs.Area.{IsModule, module_heap_in}
+use Rattle.rh_module.specs.ModuleArea.{IsModule, module_heap_in}
 use Rattle.rh_module.specs.declared.module.Module.{Module}
 
 -- the block at an address has these bytes from an offset on, its other bytes and all other blocks stay, and no page moves

@@ -6,8 +6,8 @@ ghost use Rattle.rh_defs.specs.Heap.{block_around, block_size, segment_at};
 ghost use Rattle.rh_defs.specs.Module.{module_claim, module_free, module_resize, module_need_pages};
 ghost use Rattle.rh_heap.specs.Listed.{segments_from};
 ghost use Rattle.rh_heap.specs.Segments.{piece};
-ghost use Rattle.rh_module.specs.Area.{IsModule, module_heap_in};
-ghost use Rattle.rh_module.specs.Calls.{LeavesModule};
+ghost use Rattle.rh_module.specs.ModuleArea.{IsModule, module_heap_in};
+ghost use Rattle.rh_module.specs.ModuleCalls.{LeavesModule};
 
 use crate::module::Module;
 use arrayvec::ArrayVec;

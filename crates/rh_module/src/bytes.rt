@@ -2,7 +2,7 @@
 ghost use Rattle.std.specs.Prelude.{◌≡◌, ℕ, ◌+◌, List, Some, length};
 ghost use Rattle.rh_defs.specs.Blocks.{HasBlock, block_bytes};
 ghost use Rattle.rh_defs.specs.Bytes.{part, word, word_bytes};
-ghost use Rattle.rh_module.specs.Area.{IsModule, module_heap_in};
+ghost use Rattle.rh_module.specs.ModuleArea.{IsModule, module_heap_in};
 ghost use Rattle.rh_module.specs.Writes.{Wrote};
 
 use crate::module::Module;

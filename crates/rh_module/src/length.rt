@@ -3,8 +3,8 @@ ghost use Rattle.std.specs.Prelude.{◌≡◌, ◌^◌, ◌<◌, ◌≤◌, leng
 ghost use Rattle.rh_defs.specs.Memory.{IsOpen, OnlyArea, bytes};
 ghost use Rattle.rh_defs.specs.Heap.{base, empty_heap, free_bytes, largest};
 ghost use Rattle.rh_defs.specs.Module.{module_change};
-ghost use Rattle.rh_module.specs.Area.{IsModule, SpellsModuleIn, module_heap_in};
-ghost use Rattle.rh_module.specs.Calls.{LeavesModule};
+ghost use Rattle.rh_module.specs.ModuleArea.{IsModule, SpellsModuleIn, module_heap_in};
+ghost use Rattle.rh_module.specs.ModuleCalls.{LeavesModule};
 ghost use Rattle.rh_module.specs.Lengths.{longer, shorter};
 
 use crate::module::Module;

@@ -1,5 +1,5 @@
-pub mod Kept
-pub mod Sited
-pub mod Pages
-pub mod Table
 pub mod Paged
+pub mod PagedKept
+pub mod Pages
+pub mod Sited
+pub mod Table

@@ -5,7 +5,7 @@ use Rattle.rh_defs.specs.Memory.{Memory, IsOpen, Ledger, bytes}
 use Rattle.rh_pages.specs.declared.paged.PagedStore.{PagedStore}
 use Rattle.rh_pages.specs.Pages.{areas_in, free_in, list_at, paged_memory_in}
 use Rattle.rh_pages.specs.Table.{lists_of}
-use Rattle.rh_pages.specs.Kept.{whole_paged_areas, within_paged_pool, few_paged_pages, small_paged_areas, numbered_paged_areas}
+use Rattle.rh_pages.specs.PagedKept.{whole_paged_areas, within_paged_pool, few_paged_pages, small_paged_areas, numbered_paged_areas}
 use Rattle.rh_pages.specs.Sited.{shared_out}
 use Rattle.rh_store.specs.Limits.{area_limit, pool_limit}
 use Rattle.rh_store.specs.Shares.{SharesOut}

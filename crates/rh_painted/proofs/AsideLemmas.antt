@@ -2,7 +2,7 @@
 use Rattle.rh_painted.proofs.Common.{◌≡◌, ℕ, true, List, [], ◌∷◌, ◌++◌, ap, sym, ◌∙◌, codes, concat, Desk, with_queue, letterboxes, transfers, Text, where_so}
 use Rattle.rh_painted.proofs.Common.{Scene, Note, arrows, messages_table, transfers_table}
 use Rattle.rh_sheet.specs.Chart.{chart_figure, chart_of}
-use Rattle.rh_sheet.specs.Steps.{aside_text, has_aside}
+use Rattle.rh_sheet.specs.SheetSteps.{aside_text, has_aside}
 use Rattle.rh_painted.proofs.ChartLemmas.{chart-seen}
 
 abbrev pub first : Text

@@ -5,8 +5,8 @@ use Rattle.rh_painted.proofs.Common.{escaped_byte, rest-some, band_text_from, fo
 use Rattle.hex.specs.Hex.{encode_lower}
 use Rattle.rh_figure.specs.Cards.{Card, CardKind}
 use Rattle.rh_figure.specs.Phrases.{bytes_text}
-use Rattle.rh_map.specs.Cards.{IsFrontOf, front_text}
-use Rattle.rh_sheet.specs.Cards.{card_sentence}
+use Rattle.rh_map.specs.MapCards.{IsFrontOf, front_text}
+use Rattle.rh_sheet.specs.SheetCards.{card_sentence}
 use Rattle.rh_painted.specs.declared.bands.Form.{Form}
 use Rattle.rh_painted.specs.declared.bands.Form.TheVariants.{Told}
 

@@ -33,11 +33,11 @@ pub use Rattle.rh_drawn.proofs.HeapLemmas.{cards-long, from-first, if-heap}
 pub use Rattle.rh_drawn.proofs.PageLemmas.{owned, owned-few, seen-fixed, seen-slot}
 pub use Rattle.rh_drawn.proofs.Walks.{left_last, puts_none, puts_same}
 pub use Rattle.rh_drawn.specs.Bands.{band_cards}
-pub use Rattle.rh_drawn.specs.Cards.{cards_behind}
+pub use Rattle.rh_drawn.specs.DrawnCards.{cards_behind}
 pub use Rattle.rh_drawn.specs.Deeds.{reply_to, rest_means}
-pub use Rattle.rh_drawn.specs.Letters.{letterboxes_in}
+pub use Rattle.rh_drawn.specs.DrawnLetters.{letterboxes_in}
 pub use Rattle.rh_drawn.specs.Returns.{return_lines}
-pub use Rattle.rh_drawn.specs.Sides.{ins_of, outs_of}
+pub use Rattle.rh_drawn.specs.DrawnSides.{ins_of, outs_of}
 pub use Rattle.rh_feed.proofs.LineLemmas.{kept_means}
 unfoldable pub use Rattle.rh_feed.specs.Lines.{kept}
 pub use Rattle.rh_figure.specs.Cards.{flex_cards, heap_cards, module_cards, shown_cards}
@@ -53,14 +53,14 @@ pub use Rattle.rh_figure.specs.declared.piece.Piece.{Piece}
 pub use Rattle.rh_lines.proofs.FlowLemmas.{puts_before, puts_more, puts_stops, takes_more, takes_none}
 pub use Rattle.rh_lines.specs.Flow.{Breaks, Output, Puts, Takes}
 pub use Rattle.rh_map.proofs.Left.{Left, left_breaks, left_less, left_none, left_whole}
-pub use Rattle.rh_sheet.specs.Areas.{lens_below, ticks_text}
+pub use Rattle.rh_sheet.specs.SheetAreas.{lens_below, ticks_text}
 pub use Rattle.rh_sheet.specs.Chart.{arrow_sentence, arrows, followed, inserted, noted, steps_in, tasks_in}
-pub use Rattle.rh_sheet.specs.Laws.{at_desk}
+pub use Rattle.rh_sheet.specs.SheetLaws.{at_desk}
 pub use Rattle.rh_sheet.specs.Markup.{change_item, escape, escaped_byte, figure_open, heading_text}
-pub use Rattle.rh_sheet.specs.Rows.{Plot}
+pub use Rattle.rh_sheet.specs.SheetRows.{Plot}
 pub use Rattle.rh_sheet.specs.Sheet.{Happened, Walk, behind_read, fault_happened, happened_text, read_text, sheet_lines}
-pub use Rattle.rh_sheet.specs.Steps.{area_heading, changes_text, said_end, slot_part, step_end, step_text}
-unfoldable pub use Rattle.rh_sheet.specs.Steps.{figure_text}
+pub use Rattle.rh_sheet.specs.SheetSteps.{area_heading, changes_text, said_end, slot_part, step_end, step_text}
+unfoldable pub use Rattle.rh_sheet.specs.SheetSteps.{figure_text}
 pub use Rattle.rh_sheet.specs.Tables.{letterbox_row, messages_table, transfer_row, transfers_table}
 pub use Rattle.rh_sheet.specs.declared.frame.Frame.{Frame}
 pub use Rattle.rh_sheet.specs.declared.note.Note.{Note}
@@ -69,18 +69,18 @@ pub use Rattle.rh_sight.proofs.Holders.{at-some}
 pub use Rattle.rh_sight.proofs.PieceWalks.{items-long}
 pub use Rattle.rh_sight.proofs.Places.{rest-some}
 pub use Rattle.rh_sight.proofs.SlotPieces.{few-blocks}
-pub use Rattle.rh_sight.specs.Messages.{held_on, message_items, waiting_on}
+pub use Rattle.rh_sight.specs.SightMessages.{held_on, message_items, waiting_on}
 pub use Rattle.rh_sight.specs.Seen.{IsTaskSeen, heap_seen, heap_start_of}
 pub use Rattle.rh_sight.specs.Steps.{scene_at}
 pub use Rattle.rh_sight.specs.declared.walk.Census.{Census}
-pub use Rattle.rh_painted.specs.Bands.{band_text_from, form_text}
+pub use Rattle.rh_painted.specs.PaintedBands.{band_text_from, form_text}
 pub use Rattle.rh_painted.specs.Charts.{beat_in, path_in, words_in}
 pub use Rattle.rh_painted.specs.Figures.{IsSlotPlan}
 pub use Rattle.rh_painted.specs.Notes.{code_among}
-pub use Rattle.rh_painted.specs.Owners.{who_seen}
-pub use Rattle.rh_painted.specs.Progress.{PaintStand}
+pub use Rattle.rh_painted.specs.PaintedOwners.{who_seen}
+pub use Rattle.rh_painted.specs.PaintedProgress.{PaintStand}
 pub use Rattle.rh_painted.specs.Transfers.{in_rows, ins_named, out_rows, outs_named}
-pub use Rattle.rh_painted.specs.Walks.{PaintedLine, TookPaintedLine, happened_at, walk_in}
+pub use Rattle.rh_painted.specs.PaintedWalks.{PaintedLine, TookPaintedLine, happened_at, walk_in}
 pub use Rattle.rh_painted.specs.Ways.{arrow_of, arrows_seen}
 pub use Rattle.rh_painted.specs.declared.painter.Painter.{Painter}
 pub use Rattle.rh_painted.specs.declared.ways.Way.{Way}

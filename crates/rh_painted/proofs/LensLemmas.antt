@@ -4,7 +4,7 @@ use Rattle.rh_painted.proofs.Common.{item_with_anchor}
 use Rattle.rh_painted.proofs.Common.{slide_of, slides, where_so, Scene, lens_below, Frame}
 use Rattle.std.proofs.lemmas.Bool.{eqb-true}
 use Rattle.rh_figure.specs.Changes.{blocks_now}
-use Rattle.rh_sheet.specs.Areas.{lens_above}
+use Rattle.rh_sheet.specs.SheetAreas.{lens_above}
 use Rattle.rh_sheet.specs.Arrows.{slide_arrow}
 
 pub above-same : (f : Frame) {a b p q m n : ℕ} → a ≡ p → b ≡ q → m ≡ n → lens_above f a b m ≡ lens_above f p q n

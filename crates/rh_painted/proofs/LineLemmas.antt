@@ -9,7 +9,7 @@ use Rattle.rh_feed.proofs.LineLemmas.{is_above, kept_short, split_at}
 use Rattle.rh_figure.specs.Phrases.{cut}
 use Rattle.rh_figure.specs.Map.{shown_byte}
 use Rattle.rh_figure.specs.declared.limits.TheConstants.{LINE_COLUMNS}
-use Rattle.rh_sheet.specs.Steps.{command_text, reply_shown, said_text, still_text}
+use Rattle.rh_sheet.specs.SheetSteps.{command_text, reply_shown, said_text, still_text}
 use Rattle.rh_sheet.specs.Sheet.{is_shown, opening}
 
 -- what is done with a line of some meaning is the same by what is kept of it

@@ -13,7 +13,7 @@ use Rattle.rh_figure.specs.Share.{fixed_holding}
 use Rattle.rh_sheet.specs.Owners.{slot_tag}
 use Rattle.rh_sight.specs.declared.sight.PagesOf.TheVariants as pages
 use Rattle.rh_sight.specs.declared.sight.TaskSight.{TaskSight}
-use Rattle.rh_sight.specs.Pages.{share_in}
+use Rattle.rh_sight.specs.SightPages.{share_in}
 use Rattle.rh_sight.specs.Seen.{owner_seen}
 use Rattle.rh_sight.proofs.Holders.{area-at, stands-count, stands-fixed, stands-made, stands-slot}
 use Rattle.rh_sight.proofs.Places.{past-end}
@@ -21,7 +21,7 @@ use Rattle.rh_drawn.proofs.DrawingLemmas.{task-stands}
 use Rattle.rh_drawn.proofs.PageLemmas.{seen-made}
 use Rattle.rh_painted.specs.declared.owners.Named.TheVariants.{Area, Slot}
 use Rattle.rh_painted.specs.declared.owners.OwnerSight.{OwnerSight}
-use Rattle.rh_painted.specs.Owners.{IsOwnerOf, IsOwnerSeen}
+use Rattle.rh_painted.specs.PaintedOwners.{IsOwnerOf, IsOwnerSeen}
 
 -- ---- how many they are
 

@@ -2,7 +2,7 @@
 use Rattle.rh_painted.proofs.Common.{◌≡◌, ℕ, Bool, true, false, List, [], ◌∷◌, ◌++◌, refl, sym, ap, ◌∙◌, Result, Ok, Err, if◌then◌else◌, IsErr, concat}
 use Rattle.rh_painted.proofs.Common.{changes, Text, Scene, Output, Puts, puts_before, puts_more, puts_stops, Note, changes_text, figure_text, said_end}
 use Rattle.rh_painted.proofs.Common.{step_end, step_text}
-use Rattle.rh_sheet.specs.Steps.{said_text, still_text}
+use Rattle.rh_sheet.specs.SheetSteps.{said_text, still_text}
 
 -- a text behind another
 pub puts-then : {E : Type 0} {s t u : Output} {v : Unit {0}} {r : Result Unit E} {x y : Text} → Puts {E = E} s t (Ok v) x → Puts t u r y → Puts s u r (x ++ y)

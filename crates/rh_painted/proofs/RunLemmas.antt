@@ -19,7 +19,7 @@ use Rattle.rh_session.specs.declared.status.Status.{Status}
 use Rattle.rh_sheet.specs.Sheet.{sheet_end, sheet_head}
 use Rattle.rh_painted.specs.Painted as run
 use Rattle.rh_painted.specs.Painted.{IsSheet, IsSheetFront, PaintedSoFar, PaintedUntil, front_lines}
-use Rattle.rh_painted.specs.Walks.{BrokePaintedLine, BrokePaintedRest, IsFirstPainted, TookPaintedRest, walk_at, walk_from}
+use Rattle.rh_painted.specs.PaintedWalks.{BrokePaintedLine, BrokePaintedRest, IsFirstPainted, TookPaintedRest, walk_at, walk_from}
 use Rattle.rh_painted.proofs.LineLemmas.{same-line, same-rest}
 use Rattle.rh_painted.proofs.SheetLemmas.{PaintedAll, bad-lines, lines-last, lines-split, place-after, shared-more, stage-is, took-lines, walk_behind}
 use Rattle.rh_painted.proofs.WalkLemmas.{Stands, all-there, breaks-there, place-behind, rest-there, shared-there}

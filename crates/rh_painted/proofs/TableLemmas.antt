@@ -15,9 +15,9 @@ use Rattle.rh_figure.specs.Figure as figure
 use Rattle.rh_figure.specs.Figure.{Letterbox, Side, has_id, transfers_of}
 use Rattle.rh_figure.specs.Scene.{held_list}
 use Rattle.rh_sheet.specs.Tables.{rows_under}
-use Rattle.rh_sight.specs.Messages.{is_held_by, waits_for}
-use Rattle.rh_drawn.specs.Letters.{has_letters_in, letterbox_in}
-use Rattle.rh_drawn.specs.Sides.{comes_alone, goes_out}
+use Rattle.rh_sight.specs.SightMessages.{is_held_by, waits_for}
+use Rattle.rh_drawn.specs.DrawnLetters.{has_letters_in, letterbox_in}
+use Rattle.rh_drawn.specs.DrawnSides.{comes_alone, goes_out}
 use Rattle.rh_drawn.proofs.PostLemmas.{held-are, letters-are, waits-are}
 use Rattle.rh_drawn.proofs.TransferLemmas.{are_some, filter-flat, in-id, ins, map-flat, outs}
 use Rattle.rh_painted.specs.Transfers.{alone_among}

@@ -10,7 +10,7 @@ use Rattle.rh_feed.proofs.LineLemmas.{kept_nil}
 use Rattle.rh_figure.specs.Map.{read_rest}
 use Rattle.rh_lines.proofs.FlowLemmas.{breaks_before, takes_breaks}
 use Rattle.rh_sheet.specs.Sheet.{sheet_end}
-use Rattle.rh_painted.specs.Walks.{BrokePainting, BrokePaintedLine, BrokePaintedRest, TookPaintedRest}
+use Rattle.rh_painted.specs.PaintedWalks.{BrokePainting, BrokePaintedLine, BrokePaintedRest, TookPaintedRest}
 use Rattle.rh_painted.proofs.LineLemmas.{SameRead, same-line, same-rest}
 use Rattle.rh_painted.proofs.RunLemmas.{kept-some}
 use Rattle.rh_painted.proofs.WalkLemmas.{place-behind}

@@ -9,7 +9,7 @@ use Rattle.rh_figure.specs.Scene.{before_of, is_still, no_marks}
 use Rattle.rh_figure.proofs.Alike.{before-alike, marks-alike, scene-alike, text-alike}
 use Rattle.rh_drawn.proofs.MapLemmas.{SamePlaces, after_alike, shared_alike}
 use Rattle.rh_sheet.specs.Sheet.{behind_happened, command_happened}
-use Rattle.rh_painted.specs.Walks.{FollowsPainting}
+use Rattle.rh_painted.specs.PaintedWalks.{FollowsPainting}
 
 -- ---- what a line does on two desks
 

@@ -1,10 +1,10 @@
-pub mod Owners
-pub mod Notes
-pub mod Ways
 pub mod Charts
-pub mod Bands
 pub mod Figures
-pub mod Progress
-pub mod Walks
+pub mod Notes
 pub mod Painted
+pub mod PaintedBands
+pub mod PaintedOwners
+pub mod PaintedProgress
+pub mod PaintedWalks
 pub mod Transfers
+pub mod Ways

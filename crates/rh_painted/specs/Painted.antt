@@ -10,7 +10,7 @@ use Rattle.rh_lines.specs.Flow.{Input, Output, Takes, Breaks}
 use Rattle.rh_session.specs.Outcome.{status_of}
 use Rattle.rh_session.specs.declared.status.Status.{Status}
 use Rattle.rh_sheet.specs.Sheet.{Walk, behind_read, read_text, sheet_head, sheet_lines}
-use Rattle.rh_painted.specs.Walks.{walk_from}
+use Rattle.rh_painted.specs.PaintedWalks.{walk_from}
 
 -- ---- sheets
 

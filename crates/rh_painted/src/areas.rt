@@ -6,7 +6,7 @@ ghost use Rattle.rh_figure.specs.Figure.{area_panels, fixed_panel, made_panel};
 ghost use Rattle.rh_figure.specs.Phrases.{area_name};
 ghost use Rattle.rh_lines.specs.Flow.{Puts};
 ghost use Rattle.rh_sheet.specs.Markup.{heading_text};
-ghost use Rattle.rh_sheet.specs.Steps.{area_heading};
+ghost use Rattle.rh_sheet.specs.SheetSteps.{area_heading};
 ghost use Rattle.rh_sight.specs.Steps.{IsStepOf, scene_at};
 ghost use Rattle.rh_defs.specs.declared.sizes.TheConstants.{FIXED_AREAS};
 

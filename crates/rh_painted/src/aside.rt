@@ -2,7 +2,7 @@
 
 ghost use Rattle.std.specs.Prelude.{◌≡◌, ◌≤◌, length};
 ghost use Rattle.rh_lines.specs.Flow.{Puts};
-ghost use Rattle.rh_sheet.specs.Steps.{aside_text, has_aside as has_aside_at};
+ghost use Rattle.rh_sheet.specs.SheetSteps.{aside_text, has_aside as has_aside_at};
 ghost use Rattle.rh_sheet.specs.declared.sizes.TheConstants.{MOST_NOTES};
 ghost use Rattle.rh_sight.specs.Steps.{IsStepOf, scene_at};
 ghost use Rattle.rh_defs.specs.Post.{most_messages};

@@ -1,13 +1,13 @@
 //! Cards, drawn or read out, one after the other.
 
 ghost use Rattle.std.specs.Prelude.{◌≡◌, ◌≤◌, ◌<◌, ◌+◌, length};
-ghost use Rattle.rh_draw.specs.Cards.{drawn_card};
+ghost use Rattle.rh_draw.specs.DrawCards.{drawn_card};
 ghost use Rattle.rh_figure.specs.Cards.{more_card};
 ghost use Rattle.rh_figure.specs.declared.limits.TheConstants.{MOST_CARDS};
 ghost use Rattle.rh_lines.specs.Flow.{Puts};
 ghost use Rattle.rh_lines.specs.declared.row.TheConstants.{ROW};
-ghost use Rattle.rh_painted.specs.Bands.{IsFit, form_text, with_comma};
-ghost use Rattle.rh_sheet.specs.Cards.{card_sentence};
+ghost use Rattle.rh_painted.specs.PaintedBands.{IsFit, form_text, with_comma};
+ghost use Rattle.rh_sheet.specs.SheetCards.{card_sentence};
 ghost use Rattle.rh_sheet.specs.Markup.{escape};
 
 use rh_draw::{Card, Look, print_high_card, print_low_card, put_escaped};

@@ -2,7 +2,7 @@
 
 ghost use Rattle.std.specs.Prelude.{◌≤◌, length};
 ghost use Rattle.rh_lines.specs.Flow.{Puts};
-ghost use Rattle.rh_sheet.specs.Steps.{figure_text, memory_text};
+ghost use Rattle.rh_sheet.specs.SheetSteps.{figure_text, memory_text};
 ghost use Rattle.rh_sight.specs.Steps.{IsStepOf, scene_at};
 ghost use Rattle.rh_defs.specs.Post.{most_messages};
 

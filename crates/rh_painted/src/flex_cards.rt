@@ -4,11 +4,11 @@ ghost use Rattle.std.specs.Prelude.{◌≡◌, ◌≤◌, ◌<◌, ◌-◌, ℕ,
 ghost use Rattle.rh_defs.specs.Slot.{anchor_count};
 ghost use Rattle.rh_defs.specs.Desk.{Task};
 ghost use Rattle.rh_defs.specs.Questions.{block_items};
-ghost use Rattle.rh_drawn.specs.Cards.{cards_behind};
+ghost use Rattle.rh_drawn.specs.DrawnCards.{cards_behind};
 ghost use Rattle.rh_figure.specs.Cards.{Card as FlexCard, flex_cards, shown_cards};
 ghost use Rattle.rh_figure.specs.declared.limits.TheConstants.{MOST_CARDS};
 ghost use Rattle.rh_lines.specs.Flow.{Puts};
-ghost use Rattle.rh_painted.specs.Bands.{IsFit, band_text, band_text_from, form_text};
+ghost use Rattle.rh_painted.specs.PaintedBands.{IsFit, band_text, band_text_from, form_text};
 ghost use Rattle.rh_sight.specs.Seen.{IsTaskSeen};
 ghost use Rattle.rh_sight.specs.Steps.{scene_at};
 

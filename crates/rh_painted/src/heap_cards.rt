@@ -7,12 +7,12 @@ ghost use Rattle.rh_defs.specs.Questions.{segment_item};
 ghost use Rattle.rh_defs.specs.Messages.{Parcel};
 ghost use Rattle.rh_defs.specs.Records.{is_buffer_of};
 ghost use Rattle.rh_drawn.specs.Bands.{HasSegment, IsBandOf, IsItemOf, IsSurvey, band_card, band_cards, is_fresh_used};
-ghost use Rattle.rh_drawn.specs.Cards.{cards_behind};
+ghost use Rattle.rh_drawn.specs.DrawnCards.{cards_behind};
 ghost use Rattle.rh_figure.specs.Cards.{hole_card, in_use_text, post_card, shown_cards, used_card};
 ghost use Rattle.rh_figure.specs.Scene.{live};
 ghost use Rattle.rh_figure.specs.declared.limits.TheConstants.{MOST_CARDS};
 ghost use Rattle.rh_lines.specs.Flow.{Puts};
-ghost use Rattle.rh_painted.specs.Bands.{IsFit, band_text, band_text_from, form_text};
+ghost use Rattle.rh_painted.specs.PaintedBands.{IsFit, band_text, band_text_from, form_text};
 ghost use Rattle.rh_sight.specs.Seen.{SeesBlock, SeesFree, heap_seen, heap_start_of};
 ghost use Rattle.rh_sight.specs.Steps.{IsStepOf, scene_at};
 

@@ -3,13 +3,13 @@
 ghost use Rattle.std.specs.Prelude.{◌≡◌, ◌≤◌, length};
 ghost use Rattle.rh_defs.specs.Heap.{first_place};
 ghost use Rattle.rh_defs.specs.declared.sizes.TheConstants.{MAX_PAGES};
-ghost use Rattle.rh_draw.specs.Rows.{plot_of};
+ghost use Rattle.rh_draw.specs.DrawRows.{plot_of};
 ghost use Rattle.rh_figure.specs.Layout.{module_pieces as module_pieces_of};
 ghost use Rattle.rh_figure.specs.Share.{AreaOf};
 ghost use Rattle.rh_lines.specs.Flow.{Puts};
-ghost use Rattle.rh_sheet.specs.Areas.{module_body, module_description, module_figure, module_frame, module_plot};
+ghost use Rattle.rh_sheet.specs.SheetAreas.{module_body, module_description, module_figure, module_frame, module_plot};
 ghost use Rattle.rh_sheet.specs.Markup.{escape};
-ghost use Rattle.rh_sheet.specs.Steps.{module_part};
+ghost use Rattle.rh_sheet.specs.SheetSteps.{module_part};
 ghost use Rattle.rh_sight.specs.Steps.{IsStepOf, scene_at};
 ghost use Rattle.rh_sight.specs.Walks.{census_of};
 

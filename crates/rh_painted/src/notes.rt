@@ -6,7 +6,7 @@ ghost use Rattle.rh_figure.specs.Scene.{Before, Marks, scene_of};
 ghost use Rattle.rh_figure.specs.Share.{Share};
 ghost use Rattle.rh_sheet.specs.Chart.{followed as note_after, last_of, note_of, noted};
 ghost use Rattle.rh_sheet.specs.declared.sizes.TheConstants.{MOST_NOTES};
-ghost use Rattle.rh_sight.specs.Messages.{message_items};
+ghost use Rattle.rh_sight.specs.SightMessages.{message_items};
 ghost use Rattle.rh_sight.specs.Seen.{letter_seen};
 ghost use Rattle.rh_sight.specs.Steps.{IsSender};
 

@@ -4,10 +4,10 @@ ghost use Rattle.std.specs.Prelude.{◌≡◌, ◌≤◌, ◌<◌, ◌+◌, ◌+
 ghost use Rattle.rh_defs.specs.declared.sizes.TheConstants.{FIXED_AREAS, MAX_AREAS};
 ghost use Rattle.rh_figure.specs.Share.{holdings};
 ghost use Rattle.rh_lines.specs.declared.row.TheConstants.{ROW};
-ghost use Rattle.rh_painted.specs.Owners.{IsOwnerSeen, name_seen, tag_seen, tint_seen, who_seen};
+ghost use Rattle.rh_painted.specs.PaintedOwners.{IsOwnerSeen, name_seen, tag_seen, tint_seen, who_seen};
 ghost use Rattle.rh_sheet.specs.Owners.{area_tag as tag_of_area, slot_tag as tag_of_slot};
 ghost use Rattle.rh_sheet.specs.declared.sizes.TheConstants.{TAG_LETTERS};
-ghost use Rattle.rh_sight.specs.Owners.{shared_owner};
+ghost use Rattle.rh_sight.specs.SightOwners.{shared_owner};
 
 use rh_defs::sizes::{FIXED_AREAS, MODULE_AREA};
 use rh_defs::{Handle, Name};

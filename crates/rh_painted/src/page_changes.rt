@@ -5,7 +5,7 @@ ghost use Rattle.std.specs.List.{flat_map};
 ghost use Rattle.rh_defs.specs.declared.sizes.TheConstants.{MAX_PAGES};
 ghost use Rattle.rh_figure.specs.Changes.{freed_pages as pages_freed, freed_text, page_changes, taken_line, takes_text};
 ghost use Rattle.rh_lines.specs.Flow.{Puts};
-ghost use Rattle.rh_painted.specs.Owners.{IsOwnerOf, holding_seen, name_seen};
+ghost use Rattle.rh_painted.specs.PaintedOwners.{IsOwnerOf, holding_seen, name_seen};
 ghost use Rattle.rh_sheet.specs.Markup.{change_item};
 ghost use Rattle.rh_sight.specs.Steps.{IsStepOf, scene_at};
 

@@ -7,19 +7,19 @@ ghost use Rattle.rh_defs.specs.Line.{words_of};
 ghost use Rattle.rh_defs.specs.Order.{IsReordered};
 ghost use Rattle.rh_defs.specs.Range.{in_range};
 ghost use Rattle.rh_defs.specs.Commands.{step};
-ghost use Rattle.rh_drawn.specs.Replies.{Excerpts};
+ghost use Rattle.rh_drawn.specs.DrawnReplies.{Excerpts};
 ghost use Rattle.rh_map.specs.Replies.{front_of};
 ghost use Rattle.rh_figure.specs.Scene.{Before, Marks, is_still as is_still_of, scene_of};
 ghost use Rattle.rh_figure.specs.Share.{Share};
 ghost use Rattle.rh_lines.specs.Flow.{Output, Puts};
-ghost use Rattle.rh_painted.specs.Walks.{BrokePainting, IsFirstPainted, LeftStep, PaintedLine, TookStep, WroteStep, happened_at, walk_in};
+ghost use Rattle.rh_painted.specs.PaintedWalks.{BrokePainting, IsFirstPainted, LeftStep, PaintedLine, TookStep, WroteStep, happened_at, walk_in};
 ghost use Rattle.rh_session.specs.Outcome.{status_of};
 ghost use Rattle.rh_sheet.specs.Chart.{noted};
 ghost use Rattle.rh_sheet.specs.Sheet.{is_shown, opening, sheet_end, sheet_head};
-ghost use Rattle.rh_sheet.specs.Steps.{step_text};
+ghost use Rattle.rh_sheet.specs.SheetSteps.{step_text};
 ghost use Rattle.rh_sheet.specs.declared.sizes.TheConstants.{MOST_STEPS};
-ghost use Rattle.rh_sight.specs.Messages.{message_items};
-ghost use Rattle.rh_sight.specs.Pages.{share_in};
+ghost use Rattle.rh_sight.specs.SightMessages.{message_items};
+ghost use Rattle.rh_sight.specs.SightPages.{share_in};
 ghost use Rattle.rh_sight.specs.Steps.{IsSender};
 
 use crate::notes::{Notes, note_step};
@@ -339,7 +339,7 @@ impl<D: Drawn> Painter<D> {
 
 impl<D: Drawn> LineTaker for Painter<D> {
     ghost use Rattle.std.specs.Prelude.{◌-◌, ◌^◌};
-    ghost use Rattle.rh_painted.specs.Walks.{BrokePaintedLine, BrokePaintedRest, TookPaintedLine, TookPaintedRest};
+    ghost use Rattle.rh_painted.specs.PaintedWalks.{BrokePaintedLine, BrokePaintedRest, TookPaintedLine, TookPaintedRest};
 
     ghost took = { TookPaintedLine D.desk };
 

@@ -23,7 +23,7 @@ pub struct Progress {
 
 impl Model for Progress {
     ghost use Rattle.std.specs.Prelude.{◌≤◌, ◌+◌, if◌then◌else◌};
-    ghost use Rattle.rh_painted.specs.Progress.{PaintStand};
+    ghost use Rattle.rh_painted.specs.PaintedProgress.{PaintStand};
     ghost use Rattle.rh_sheet.specs.declared.sizes.TheConstants.{MOST_STEPS};
 
     ghost Value = { PaintStand };
@@ -34,7 +34,7 @@ impl Model for Progress {
 }
 
 impl Progress {
-    ghost use Rattle.rh_painted.specs.Progress.{stand_first, stand_shown};
+    ghost use Rattle.rh_painted.specs.PaintedProgress.{stand_first, stand_shown};
 
     /// Before the first line.
     pub fn new() -> Progress

@@ -4,9 +4,9 @@ ghost use Rattle.std.specs.Prelude.{◌≡◌, ◌≤◌, length, max, min};
 ghost use Rattle.rh_defs.specs.declared.sizes.TheConstants.{MAX_PAGES};
 ghost use Rattle.rh_figure.specs.Share.{count_of};
 ghost use Rattle.rh_lines.specs.Flow.{Puts};
-ghost use Rattle.rh_sheet.specs.Areas.{pages_sentence};
+ghost use Rattle.rh_sheet.specs.SheetAreas.{pages_sentence};
 ghost use Rattle.rh_sheet.specs.Markup.{escape};
-ghost use Rattle.rh_sight.specs.Owners.{shared_owner};
+ghost use Rattle.rh_sight.specs.SightOwners.{shared_owner};
 
 use rh_defs::sizes::MAX_PAGES;
 use rh_draw::put_escaped;

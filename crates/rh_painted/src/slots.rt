@@ -5,14 +5,14 @@ ghost use Rattle.std.specs.List.{AllByRecursion, flat_map};
 ghost use Rattle.rh_defs.specs.Desk.{Task};
 ghost use Rattle.rh_defs.specs.Slot.{anchor_count, slot_length};
 ghost use Rattle.rh_defs.specs.declared.question.BlockItem.{BlockItem};
-ghost use Rattle.rh_draw.specs.Rows.{plot_of};
+ghost use Rattle.rh_draw.specs.DrawRows.{plot_of};
 ghost use Rattle.rh_figure.specs.Figure.{slot_note};
 ghost use Rattle.rh_figure.specs.Scene.{Scene};
 ghost use Rattle.rh_lines.specs.Flow.{Puts};
 ghost use Rattle.rh_painted.specs.Figures.{IsSlotPlan};
-ghost use Rattle.rh_sheet.specs.Areas.{slot_body, slot_description, slot_figure, slot_lenses, slot_plot, ticks_text};
+ghost use Rattle.rh_sheet.specs.SheetAreas.{slot_body, slot_description, slot_figure, slot_lenses, slot_plot, ticks_text};
 ghost use Rattle.rh_sheet.specs.Markup.{escape, heading_text};
-ghost use Rattle.rh_sheet.specs.Steps.{slot_part};
+ghost use Rattle.rh_sheet.specs.SheetSteps.{slot_part};
 ghost use Rattle.rh_sight.specs.Seen.{IsTaskSeen};
 ghost use Rattle.rh_sight.specs.Steps.{IsStepOf, scene_at};
 

@@ -2,11 +2,11 @@
 
 ghost use Rattle.std.specs.Prelude.{◌≤◌, ◌∷◌, ℕ, List, [], length};
 ghost use Rattle.std.specs.List.{concat};
-ghost use Rattle.rh_drawn.specs.Replies.{Excerpts};
+ghost use Rattle.rh_drawn.specs.DrawnReplies.{Excerpts};
 ghost use Rattle.rh_figure.specs.Changes.{changes};
 ghost use Rattle.rh_figure.specs.Phrases.{where_so};
 ghost use Rattle.rh_lines.specs.Flow.{Puts};
-ghost use Rattle.rh_sheet.specs.Steps.{changes_text, said_end, step_end, step_text};
+ghost use Rattle.rh_sheet.specs.SheetSteps.{changes_text, said_end, step_end, step_text};
 ghost use Rattle.rh_sight.specs.Steps.{IsStepOf, scene_at};
 ghost use Rattle.rh_defs.specs.Post.{most_messages};
 

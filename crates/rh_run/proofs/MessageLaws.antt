@@ -10,9 +10,9 @@ use Rattle.rh_defs.specs.Order.{is_to}
 use Rattle.rh_defs.specs.Post.{Seat}
 use Rattle.rh_defs.specs.Desk.{Desk}
 use Rattle.rh_figure.specs.Scene as scene
-use Rattle.rh_sight.specs.Messages.{seen_item, message_items}
+use Rattle.rh_sight.specs.SightMessages.{seen_item, message_items}
 use Rattle.rh_wimp.specs.Chains.{held_list, seat_row}
-use Rattle.rh_wimp.specs.Items as listed
+use Rattle.rh_wimp.specs.QueueItems as listed
 
 -- those that wait for a task are for it
 waiting-seen : (h : ℕ) (ps : List Parcel) → map (listed.message_item_of h false) (filter (is_to h) ps) ≡ map (seen_item false) (filter (is_to h) ps)

@@ -4,9 +4,9 @@ use Rattle.rh_defs.specs.Pieces.{total}
 use Rattle.rh_defs.specs.Heap.{Segment, Used, Hole, Heap, IsHeap, size_of, hole_size}
 use Rattle.rh_defs.specs.Slot.{Flex, Slot, weight, slot_length}
 use Rattle.rh_defs.specs.SlotImage.{slot_of}
-use Rattle.rh_heap.specs.Image.{used_size, summary_of}
+use Rattle.rh_heap.specs.HeapChecks.{used_size, summary_of}
 use Rattle.rh_run.specs.CheckedSlot.{AreSlotWords, heap_length}
-use Rattle.rh_slot.specs.Image.{IsSlotImage, flex_size, slot_summary}
+use Rattle.rh_slot.specs.SlotChecks.{IsSlotImage, flex_size, slot_summary}
 use Rattle.rh_slot.specs.declared.image.SlotSummary.{SlotSummary}
 
 both_sizes : (ss : List Segment) → total used_size ss + total hole_size ss ≡ total size_of ss

@@ -5,7 +5,7 @@ use Rattle.rh_defs.specs.Pieces.{total}
 use Rattle.rh_defs.specs.Heap.{Segment, Used, Hole, Heap, IsHeap, IsTidy, size_of, hole_size}
 use Rattle.rh_defs.specs.HeapImage.{IsImage, heap_of}
 use Rattle.rh_heap.specs.declared.image.Summary.{Summary}
-use Rattle.rh_heap.specs.Image.{used_count, used_size, hole_count, summary_of}
+use Rattle.rh_heap.specs.HeapChecks.{used_count, used_size, hole_count, summary_of}
 use Rattle.rh_run.specs.Checked.{HasWordSums}
 
 used_counted : (ss : List Segment) → total used_count ss ≤ total size_of ss

@@ -27,7 +27,7 @@ use Rattle.rh_sight.specs.declared.sight.HeapOf.TheVariants as heap_of
 use Rattle.rh_sight.specs.Seen.{SeesBlock, HasFlex, IsBlockAt, heap_seen}
 use Rattle.rh_sight.proofs.Heaps as heaps
 use Rattle.rh_tasks.specs.declared.sights.TaskSight.{TaskSight}
-use Rattle.rh_tasks.specs.Lists.{items_at, segment_items_at}
+use Rattle.rh_tasks.specs.WorldLists.{items_at, segment_items_at}
 use Rattle.rh_tasks.specs.Sights.{IsSeen, blocks_in, module_shown, segments_in, slot_bytes}
 use Rattle.rh_tasks.proofs.Chains.{begins, past}
 use Rattle.rh_tasks.proofs.FirstBytes.{first-read, flex-first, flex-holds, heap-first, heap-holds}

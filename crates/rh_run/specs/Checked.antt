@@ -6,7 +6,7 @@ use Rattle.rh_defs.specs.declared.heap.HeapFault.TheVariants.{BadDescriptor, Bad
 use Rattle.rh_defs.specs.HeapImage.{heap_of, fault_of}
 use Rattle.rh_defs.specs.Text.{line, ok}
 use Rattle.rh_heap.specs.declared.image.Summary.{Summary}
-use Rattle.rh_heap.specs.Image.{summary_of}
+use Rattle.rh_heap.specs.HeapChecks.{summary_of}
 use Rattle.rh_session.specs.declared.status.Status.{Status}
 use Rattle.rh_session.specs.Outcome.{status_of}
 

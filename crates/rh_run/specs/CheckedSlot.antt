@@ -8,7 +8,7 @@ use Rattle.rh_heap.specs.declared.image.Summary.{Summary}
 use Rattle.rh_run.specs.Checked.{fault_name}
 use Rattle.rh_session.specs.Outcome.{status_of}
 use Rattle.rh_session.specs.declared.status.Status.{Status}
-use Rattle.rh_slot.specs.Image.{slot_fault_of, slot_summary}
+use Rattle.rh_slot.specs.SlotChecks.{slot_fault_of, slot_summary}
 use Rattle.rh_slot.specs.declared.image.SlotFault.{SlotFault}
 use Rattle.rh_slot.specs.declared.image.SlotFault.TheVariants.{BadLength, BadHeap, BadSize, BadAnchor, SparePage}
 use Rattle.rh_slot.specs.declared.image.SlotSummary.{SlotSummary}

@@ -13,6 +13,6 @@ pub use Rattle.rh_defs.specs.Text.{area_line, block_line, ok, record_line, segme
 pub use Rattle.rh_defs.specs.declared.question.SegmentItem.{SegmentItem}
 pub use Rattle.rh_lines.proofs.FlowLemmas.{breaks_before, puts_before, puts_more, puts_stops, takes_breaks, takes_more, takes_none}
 pub use Rattle.rh_lines.specs.Flow.{Breaks, Output, Puts, Takes}
-pub use Rattle.rh_tasks.specs.Lists.{segment_items_at}
+pub use Rattle.rh_tasks.specs.WorldLists.{segment_items_at}
 pub use Rattle.rh_script.specs.Gathered.{Gathered}
-pub use Rattle.rh_script.specs.Named.{bytes_of_named, heap_of_named}
+pub use Rattle.rh_script.specs.NamedSlots.{bytes_of_named, heap_of_named}

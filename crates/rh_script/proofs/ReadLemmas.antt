@@ -14,8 +14,8 @@ use Rattle.rh_defs.specs.Laws.{IsDesk}
 use Rattle.rh_defs.specs.Slot.{Slot, Flex, slot_pages, slot_length, IsSlot, HaveAnchors, weight, flex_start, block_of, slot_block, anchor_count}
 use Rattle.rh_defs.specs.Desk.{Desk, Task, task_pages, has_name, named}
 use Rattle.rh_defs.specs.Questions.{Bytes, shown_at, status_at, Told, show}
-use Rattle.rh_tasks.specs.Lists.{segments_of}
-use Rattle.rh_script.specs.Named.{slot_or_empty, slot_named, bytes_of_cut}
+use Rattle.rh_tasks.specs.WorldLists.{segments_of}
+use Rattle.rh_script.specs.NamedSlots.{slot_or_empty, slot_named, bytes_of_cut}
 
 -- ---- the C heap
 

@@ -6,7 +6,7 @@ ghost use Rattle.rh_defs.specs.Questions.{area_items, areas, blocks};
 ghost use Rattle.rh_defs.specs.Text.{answer_text, area_line, block_line, later, ok};
 ghost use Rattle.rh_lines.specs.Flow.{Puts};
 ghost use Rattle.rh_lines.specs.declared.row.TheConstants.{ROW};
-ghost use Rattle.rh_tasks.specs.Items.{area_item_of};
+ghost use Rattle.rh_tasks.specs.WorldItems.{area_item_of};
 ghost use Rattle.rh_script.specs.declared.gathered.TheConstants.{LONGEST_ITEM};
 
 use crate::gathered::{Item, make_room, print_items};

@@ -3,10 +3,10 @@
 ghost use Rattle.std.specs.Prelude.{◌≡◌, ◌+◌, ◌≤◌, ◌<◌, ◌^◌, Ok, Err, IfOk, IfErr, length, take, drop};
 ghost use Rattle.rh_defs.specs.Slot.{anchor_count};
 ghost use Rattle.rh_defs.specs.Heap.{IsHeap};
-ghost use Rattle.rh_tasks.specs.Lists.{segment_items_at};
+ghost use Rattle.rh_tasks.specs.WorldLists.{segment_items_at};
 ghost use Rattle.rh_defs.specs.Questions.{Bytes, show};
 ghost use Rattle.rh_defs.specs.declared.question.Numbers.TheVariants as Numbers;
-ghost use Rattle.rh_script.specs.Named.{bytes_of_named, heap_of_named};
+ghost use Rattle.rh_script.specs.NamedSlots.{bytes_of_named, heap_of_named};
 
 use arrayvec::ArrayVec;
 use rh_defs::sizes::SEGMENTS_AT_ONCE;

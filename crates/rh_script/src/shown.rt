@@ -9,7 +9,7 @@ ghost use Rattle.rh_defs.specs.Text.{answer_text, ok, hex_words, rest_of_line};
 ghost use Rattle.rh_lines.specs.Flow.{Puts};
 ghost use Rattle.rh_lines.specs.declared.row.TheConstants.{ROW};
 ghost use Rattle.rh_script.specs.declared.shown.TheConstants.{PIECE};
-ghost use Rattle.rh_script.specs.Named.{bytes_of_named};
+ghost use Rattle.rh_script.specs.NamedSlots.{bytes_of_named};
 
 use crate::read::{read_block, read_whole, size_of_block};
 use rh_defs::{Anchor, Name, Reply};

@@ -9,7 +9,7 @@ use Rattle.rh_lines.specs.Flow.{Input, Output, Takes, Breaks}
 use Rattle.rh_lines.proofs.FlowLemmas.{takes_none, takes_more, takes_breaks, breaks_before}
 use Rattle.rh_defs.specs.Script.{ended, unended, script_text, rest_text, is_bad}
 use Rattle.rh_session.specs.declared.session.Session.{Session}
-use Rattle.rh_session.specs.Kept.{IsState}
+use Rattle.rh_session.specs.SessionKept.{IsState}
 use Rattle.rh_feed.specs.Lines.{kept}
 use Rattle.rh_feed.proofs.FeedLemmas.{Consumes-keeps, Consumes-more, Consumes-none, keeps_same}
 use Rattle.rh_session.specs.Session.{State, begin, state_of, text_of}

@@ -11,8 +11,8 @@ use Rattle.rh_lines.specs.Flow.{Output, Breaks}
 use Rattle.rh_lines.proofs.FlowLemmas.{breaks_before}
 use Rattle.rh_session.specs.declared.session.Session.{Session}
 use Rattle.rh_session.specs.Session.{State, state_after, text_after, state_of, text_of}
-use Rattle.rh_session.specs.Answer.{state_after_line}
-use Rattle.rh_session.specs.Kept.{IsState}
+use Rattle.rh_session.specs.SessionAnswer.{state_after_line}
+use Rattle.rh_session.specs.SessionKept.{IsState}
 use Rattle.rh_session.specs.Holding.{Holds, Gathers}
 use Rattle.rh_feed.specs.Lines.{kept}
 use Rattle.rh_feed.proofs.LineLemmas.{NoFeed, NoneBelow, behind, behind_is, cut_at, kept_front, kept_short, means_front, no_feed_all, no_feed_below, short_kept}

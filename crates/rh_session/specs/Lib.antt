@@ -1,5 +1,5 @@
 pub mod Holding
-pub mod Session
-pub mod Kept
-pub mod Answer
 pub mod Outcome
+pub mod Session
+pub mod SessionAnswer
+pub mod SessionKept

@@ -19,7 +19,7 @@ pub enum Answer<'a> {
 }
 
 impl<'a> Answer<'a> {
-    ghost use Rattle.rh_session.specs.Answer.{answer_bytes};
+    ghost use Rattle.rh_session.specs.SessionAnswer.{answer_bytes};
 
     /// Writes the answer behind what is held. What is held is written first only where there is no room for both.
     #[inline(always)]

@@ -6,7 +6,7 @@ ghost use Rattle.rh_defs.specs.Range.{in_range};
 ghost use Rattle.rh_defs.specs.Script.{line_text, meaning_text, rest_text};
 ghost use Rattle.rh_lines.specs.Flow.{Puts};
 ghost use Rattle.rh_lines.specs.Placed.{if_placed, OnFound};
-ghost use Rattle.rh_session.specs.Answer.{state_after_meaning, state_after_line};
+ghost use Rattle.rh_session.specs.SessionAnswer.{state_after_meaning, state_after_line};
 ghost use Rattle.rh_session.specs.Holding.{Gathers};
 ghost use Rattle.rh_session.specs.Outcome.{status_of};
 ghost use Rattle.rh_session.specs.Session.{State, begin, state_of, text_of};
@@ -29,7 +29,7 @@ pub struct Session<D> {
 }
 
 impl<D: Desktop> Session<D> {
-    ghost use Rattle.rh_session.specs.Kept.{IsState};
+    ghost use Rattle.rh_session.specs.SessionKept.{IsState};
 
     /// A session over this desktop, which has read nothing.
     pub fn new(desktop: D) -> Session<D>

@@ -13,7 +13,7 @@ use Rattle.rh_figure.specs.Share.{Share}
 use Rattle.rh_figure.specs.Scene.{Before, no_marks, is_still, before_of, marks_of, scene_of}
 use Rattle.rh_figure.proofs.Alike.{scene-alike, before-alike, marks-alike, text-alike}
 use Rattle.rh_sheet.specs.Sheet.{command_happened, fault_happened, happened_text, behind_happened, skipped_text, behind_skipped, sheet_lines}
-use Rattle.rh_sheet.specs.Laws.{at_desk, DrawsNoOrder}
+use Rattle.rh_sheet.specs.SheetLaws.{at_desk, DrawsNoOrder}
 
 -- one reply on the desk after it
 after-alike : {x y : Desk} → IsReordered x y → (s : Share) (c : Command) (f : Before) (r : Reply)

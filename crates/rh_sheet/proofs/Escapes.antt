@@ -2,7 +2,7 @@
 use Rattle.std.proofs.Common.{ℕ, ◌<◌, ◌≡◌, ◌≢◌, refl, sym, ◌∙◌, arith, Bool, true, false, List, [], ◌∷◌, ◌++◌, eq-eqb, true≢false}
 use Rattle.std.specs.Prelude.{◌==◌, if◌then◌else◌, codes}
 use Rattle.rh_sheet.specs.Markup.{escape}
-use Rattle.rh_sheet.specs.Laws.{IsEscaped, EscapesAll, begins_sign}
+use Rattle.rh_sheet.specs.SheetLaws.{IsEscaped, EscapesAll, begins_sign}
 
 -- a letter before such a text
 letter : (b : ℕ) (t : List ℕ) → 62 < b → IsEscaped t → IsEscaped (b ∷ t)

@@ -3,9 +3,9 @@ use Rattle.std.proofs.Common.{ℕ, ◌<◌, ◌≤◌, ◌+◌, ◌-◌, ◌*◌
 use Rattle.std.specs.Prelude.{min}
 use Rattle.rh_figure.specs.declared.piece.Piece.{Piece}
 use Rattle.rh_sheet.specs.Frames.{shown_rows, rows_top}
-use Rattle.rh_sheet.specs.Pieces.{low_in, high_in, piece_box}
-use Rattle.rh_sheet.specs.Rows.{page_box}
-use Rattle.rh_sheet.specs.Laws.{IsInRow, LiesInside}
+use Rattle.rh_sheet.specs.SheetPieces.{low_in, high_in, piece_box}
+use Rattle.rh_sheet.specs.SheetRows.{page_box}
+use Rattle.rh_sheet.specs.SheetLaws.{IsInRow, LiesInside}
 
 -- whole words of a page end with the page
 words-fit : (low high : ℕ) → low < high → high ≤ 4096 → low / 4 + (high - low) / 4 ≤ 1024

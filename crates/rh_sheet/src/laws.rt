@@ -1,6 +1,6 @@
 //! Laws of sheets over the definitions alone, each the contract of a function with nothing to do.
 
-ghost use Rattle.rh_sheet.specs.Laws.{DrawsNoOrder, EscapesAll, LiesInside};
+ghost use Rattle.rh_sheet.specs.SheetLaws.{DrawsNoOrder, EscapesAll, LiesInside};
 ghost use Rattle.rh_sheet.specs.Slides.{SlideInSlots};
 
 /// Whatever stands in a text or a tip: no `<`, `>` or `"` is in it, and `&` only before the name of a sign. So nothing

@@ -9,7 +9,7 @@ use Rattle.rh_defs.specs.Post.{Seat, held_by}
 use Rattle.rh_figure.specs.declared.piece.Kind.TheVariants.{Claimed, Posted}
 use Rattle.rh_figure.specs.Layout.{is_new_message, posted_or}
 use Rattle.rh_figure.specs.Scene.{held_list, ref_of}
-use Rattle.rh_sight.specs.Messages.{held_on, held_ref, is_held_by, seen_item, message_items, ref_or_none, waiting_on}
+use Rattle.rh_sight.specs.SightMessages.{held_on, held_ref, is_held_by, seen_item, message_items, ref_or_none, waiting_on}
 
 -- ---- the message in a block
 

@@ -1,6 +1,6 @@
 pub mod Seen
-pub mod Messages
-pub mod Owners
-pub mod Pages
+pub mod SightMessages
+pub mod SightOwners
+pub mod SightPages
 pub mod Steps
 pub mod Walks

@@ -9,8 +9,8 @@ use Rattle.rh_sight.specs.declared.marks.HeapBlock.{HeapBlock}
 use Rattle.rh_sight.specs.declared.marks.Marks.{Marks}
 use Rattle.rh_sight.specs.declared.sender.Sender.{Sender}
 use Rattle.rh_sight.specs.declared.step.Step.{Step}
-use Rattle.rh_sight.specs.Messages.{message_items}
-use Rattle.rh_sight.specs.Pages.{share_in}
+use Rattle.rh_sight.specs.SightMessages.{message_items}
+use Rattle.rh_sight.specs.SightPages.{share_in}
 use Rattle.rh_sight.specs.Seen.{letter_seen}
 
 -- a block of a C heap by its task's handle and its address

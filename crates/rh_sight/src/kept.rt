@@ -7,8 +7,8 @@ ghost use Rattle.rh_defs.specs.declared.sizes.TheConstants.{MAX_AREAS};
 ghost use Rattle.rh_figure.specs.Changes.{item_with_anchor};
 ghost use Rattle.rh_figure.specs.Scene.{before_of, before_task};
 ghost use Rattle.rh_figure.specs.Share.{count_of, holdings};
-ghost use Rattle.rh_sight.specs.Messages.{message_items};
-ghost use Rattle.rh_sight.specs.Owners.{holdings_of, made_holding, shared_owner, slot_holding};
+ghost use Rattle.rh_sight.specs.SightMessages.{message_items};
+ghost use Rattle.rh_sight.specs.SightOwners.{holdings_of, made_holding, shared_owner, slot_holding};
 ghost use Rattle.rh_sight.specs.Steps.{IsSender};
 
 use crate::message_list::held_ref;
@@ -58,7 +58,7 @@ pub struct Kept {
 
 impl Model for Kept {
     ghost use Rattle.rh_figure.specs.Scene.{Before};
-    ghost use Rattle.rh_sight.specs.Owners.{holdings_of};
+    ghost use Rattle.rh_sight.specs.SightOwners.{holdings_of};
 
     ghost Value = { Before };
 

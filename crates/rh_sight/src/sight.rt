@@ -75,8 +75,8 @@ pub enum PagesOf {
 /// A desk that can be looked at. Nothing here changes it, or takes memory.
 pub trait Sight {
     ghost use Rattle.rh_sight.specs.Seen.{SeesBlock, HasFlex, IsAreaSeen, SeesFree, IsTaskSeen, heap_seen, heap_start_of, scrap_seen};
-    ghost use Rattle.rh_sight.specs.Messages.{message_items};
-    ghost use Rattle.rh_sight.specs.Pages.{share_in};
+    ghost use Rattle.rh_sight.specs.SightMessages.{message_items};
+    ghost use Rattle.rh_sight.specs.SightPages.{share_in};
 
     // The desk that is seen.
     ghost desk: { Self → Desk };

@@ -24,7 +24,7 @@ use Rattle.rh_defs.proofs.Cuts.{total-append}
 use Rattle.rh_defs.proofs.HeapCalls.{released_at-some, released-found, released-refused}
 use Rattle.rh_defs.proofs.MemoryLaws.{OnlyArea-self}
 use Rattle.rh_defs.proofs.HeapGrowth.{claim-raised, resize-raised, resize_need-raised, raised-none, claim-granted, resize-granted}
-use Rattle.rh_heap.specs.Calls as heap_calls
+use Rattle.rh_heap.specs.HeapCalls as heap_calls
 use Rattle.rh_slot.specs.declared.slot.Slot.{Slot}
 use Rattle.rh_slot.specs.CHeap.{after_growth}
 use Rattle.rh_slot.proofs.SpanLaws.{span_of, heap_same, slot_now, budging_same}

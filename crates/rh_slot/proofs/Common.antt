@@ -36,12 +36,12 @@ pub use Rattle.rh_defs.specs.declared.question.BlockItem.{BlockItem}
 pub use Rattle.rh_defs.specs.declared.refusal.Refusal.{Refusal}
 pub use Rattle.rh_defs.specs.declared.refusal.Refusal.TheVariants.{NoBlock, NoRoom}
 pub use Rattle.rh_defs.specs.declared.sizes.TheConstants.{PAGE}
-pub use Rattle.rh_heap.specs.Spans.{heap_in}
+pub use Rattle.rh_heap.specs.HeapSpans.{heap_in}
 pub use Rattle.rh_heap.specs.declared.span.Span.{Span}
-pub use Rattle.rh_slot.specs.Area.{IsSlotIn, SpellsSlotIn, slot_in}
+pub use Rattle.rh_slot.specs.SlotArea.{IsSlotIn, SpellsSlotIn, slot_in}
 pub use Rattle.rh_slot.specs.CHeap.{lengthened}
-pub use Rattle.rh_slot.specs.Calls.{LeavesSlotIn}
+pub use Rattle.rh_slot.specs.SlotCalls.{LeavesSlotIn}
 pub use Rattle.rh_slot.specs.Flex.{FoundFlex, FoundAt}
-unfoldable pub use Rattle.rh_slot.specs.Image.{are_hung}
+unfoldable pub use Rattle.rh_slot.specs.SlotChecks.{are_hung}
 pub use Rattle.rh_slot.specs.Row.{HangsApart, BlockRow, Shifted, Walked, WalksIn, row_item}
 pub use Rattle.rh_slot.specs.declared.image.SlotFault.TheVariants.{BadAnchor, BadSize, SparePage}

@@ -13,7 +13,7 @@ use Rattle.rh_defs.specs.declared.heap.HeapRefusal.{HeapRefusal}
 use Rattle.rh_defs.specs.declared.heap.HeapRefusal.TheVariants as heap_refusal
 use Rattle.rh_defs.specs.declared.refusal.Refusal.TheVariants.{BadSize, NoBudge}
 use Rattle.rh_defs.proofs.SlotImageLaws.{SlotWords-kept}
-use Rattle.rh_heap.specs.Spans.{IsSpan, OnlySpan}
+use Rattle.rh_heap.specs.HeapSpans.{IsSpan, OnlySpan}
 use Rattle.rh_heap.proofs.SpanLaws.{is_span, heap_now}
 use Rattle.rh_slot.specs.declared.slot.Slot.{Slot}
 use Rattle.rh_slot.specs.CHeap.{after_growth}

@@ -11,7 +11,7 @@ use Rattle.rh_defs.proofs.BytesLaws.{words_same, parts_same}
 use Rattle.rh_defs.proofs.HeapLaws.{heap_of-Spells}
 use Rattle.rh_defs.proofs.HeapFaults.{le_from, eq_from, image_clean}
 use Rattle.rh_defs.proofs.SlotImageLaws.{IsBlock, is_block-is}
-use Rattle.rh_slot.specs.Image.{IsSlotImage, has_slot_length, heap_bytes, has_anchor, is_hung, slot_fault_of}
+use Rattle.rh_slot.specs.SlotChecks.{IsSlotImage, has_slot_length, heap_bytes, has_anchor, is_hung, slot_fault_of}
 use Rattle.rh_slot.specs.declared.image.SlotFault.{SlotFault}
 use Rattle.rh_slot.specs.declared.image.SlotFault.TheVariants.{BadLength, BadHeap}
 

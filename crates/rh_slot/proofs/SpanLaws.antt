@@ -5,7 +5,7 @@ use Rattle.rh_defs.specs.Heap.{block_around}
 use Rattle.rh_defs.proofs.HeapLists.{leb_yes}
 use Rattle.rh_defs.specs.Slot as plain
 use Rattle.rh_defs.proofs.SlotImageLaws.{slot_of-SlotWords, slot_of-SpellsSlot, SpellsSlot-budging}
-use Rattle.rh_heap.specs.Spans.{IsSpan}
+use Rattle.rh_heap.specs.HeapSpans.{IsSpan}
 use Rattle.rh_slot.specs.declared.slot.Slot.{Slot}
 
 abbrev pub span_of : Slot → Span

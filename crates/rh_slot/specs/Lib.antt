@@ -1,6 +1,6 @@
-pub mod Area
-pub mod Calls
-pub mod Row
-pub mod Flex
 pub mod CHeap
-pub mod Image
+pub mod Flex
+pub mod Row
+pub mod SlotArea
+pub mod SlotCalls
+pub mod SlotChecks

@@ -7,8 +7,8 @@ ghost use Rattle.rh_defs.specs.Places.{buffer_at, free_anchor as free_anchor_on,
 ghost use Rattle.rh_defs.specs.Slot.{holds, slot_put, slot_start};
 ghost use Rattle.rh_defs.specs.SlotImage.{flex_place};
 ghost use Rattle.rh_defs.specs.declared.sizes.TheConstants.{ANCHORS, C_HEAP_PLACE};
-ghost use Rattle.rh_slot.specs.Area.{IsSlotIn, slot_in};
-ghost use Rattle.rh_slot.specs.Calls.{LeavesSlotIn};
+ghost use Rattle.rh_slot.specs.SlotArea.{IsSlotIn, slot_in};
+ghost use Rattle.rh_slot.specs.SlotCalls.{LeavesSlotIn};
 ghost use Rattle.rh_slot.specs.Flex.{slot_append};
 
 use crate::area::{room_for, write};

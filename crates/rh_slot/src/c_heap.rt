@@ -8,8 +8,8 @@ ghost use Rattle.rh_defs.specs.Pieces.{pages_for};
 ghost use Rattle.rh_defs.specs.Slot.{heap_start, slot_claim, slot_release, slot_resize, slot_take_pages};
 ghost use Rattle.rh_heap.specs.Listed.{segments_from};
 ghost use Rattle.rh_heap.specs.Segments.{piece};
-ghost use Rattle.rh_slot.specs.Area.{IsSlotIn, SpellsSlotIn, slot_in};
-ghost use Rattle.rh_slot.specs.Calls.{LeavesSlotIn};
+ghost use Rattle.rh_slot.specs.SlotArea.{IsSlotIn, SpellsSlotIn, slot_in};
+ghost use Rattle.rh_slot.specs.SlotCalls.{LeavesSlotIn};
 ghost use Rattle.rh_slot.specs.CHeap.{after_growth, lengthened};
 
 use crate::area::grow_to;

@@ -7,7 +7,7 @@ ghost use Rattle.rh_defs.specs.Questions.{block_items};
 ghost use Rattle.rh_defs.specs.Bytes.{word, part, put_word, SameIn};
 ghost use Rattle.rh_defs.specs.SlotImage.{Lie, is_block, flex_place};
 ghost use Rattle.rh_defs.specs.declared.question.BlockItem.{BlockItem};
-ghost use Rattle.rh_slot.specs.Area.{IsSlotIn, slot_in};
+ghost use Rattle.rh_slot.specs.SlotArea.{IsSlotIn, slot_in};
 ghost use Rattle.rh_slot.specs.Row.{BlockRow, Hung, HangsApart, Shifted, Walked, WalksIn, Headed, row_item};
 ghost use Rattle.rh_defs.specs.declared.sizes.TheConstants.{ANCHORS, C_HEAP_PLACE, FLEX_HEADER, PAGE};
 

@@ -4,7 +4,7 @@ ghost use Rattle.rh_defs.specs.Memory.{Memory, IsOpen, OnlyArea, closed, open_be
 ghost use Rattle.rh_defs.specs.Chain.{outcome_of};
 ghost use Rattle.rh_defs.specs.Slot.{new_slot, slot_begin, slot_set_budge, holds};
 ghost use Rattle.rh_defs.specs.declared.sizes.TheConstants.{MAX_AREAS};
-ghost use Rattle.rh_slot.specs.Area.{IsSlotIn, SpellsSlotIn, slot_in};
+ghost use Rattle.rh_slot.specs.SlotArea.{IsSlotIn, SpellsSlotIn, slot_in};
 
 use rh_defs::Refusal;
 use rh_defs::sizes::{C_HEAP_PLACE, C_HEAP_START, PAGE};

@@ -10,7 +10,7 @@ use Rattle.rh_slot.specs.declared.slot.Slot as code
 use Rattle.rh_slot.proofs.AppendLaws.{append_none}
 use Rattle.rh_slot.proofs.FlexLaws.{size_none}
 use Rattle.rh_slot.proofs.Ranges.{heap-part, heap-low}
-use Rattle.rh_tasks.specs.Polls.{AreFirst}
+use Rattle.rh_tasks.specs.WorldPolls.{AreFirst}
 
 -- ---- the anchor's block
 

@@ -66,18 +66,18 @@ pub use Rattle.rh_defs.specs.declared.sizes.TheConstants.{MAX_AREAS, PAGE}
 pub use Rattle.rh_defs.specs.declared.transfer.Incoming.{Incoming}
 pub use Rattle.rh_defs.specs.declared.transfer.Outgoing.{Outgoing}
 pub use Rattle.rh_defs.specs.declared.transfer.Sending.{Sending}
-pub use Rattle.rh_module.specs.Area.{IsModule, module_heap_in}
+pub use Rattle.rh_module.specs.ModuleArea.{IsModule, module_heap_in}
 pub use Rattle.rh_slot.proofs.Ranges.{Standing}
-pub use Rattle.rh_slot.specs.Area.{IsSlotIn, slot_in}
-pub use Rattle.rh_slot.specs.Calls.{LeavesSlotIn}
+pub use Rattle.rh_slot.specs.SlotArea.{IsSlotIn, slot_in}
+pub use Rattle.rh_slot.specs.SlotCalls.{LeavesSlotIn}
 unfoldable pub use Rattle.rh_slot.specs.Flex.{slot_append}
-pub use Rattle.rh_wimp.specs.Calls.{Answers, IsQueue}
+pub use Rattle.rh_wimp.specs.QueueCalls.{Answers, IsQueue}
 pub use Rattle.rh_wimp.specs.Chains.{Chains, HasEntry, SpellsPostIn, joined_chains}
 pub use Rattle.rh_wimp.specs.PostIn.{post_in}
 pub use Rattle.rh_tasks.specs.Finding.{FoundSeat, Owns, looked}
-pub use Rattle.rh_tasks.specs.Letters.{with_last}
-pub use Rattle.rh_tasks.specs.Lists.{segment_items_at}
-pub use Rattle.rh_tasks.specs.Polls.{Becomes, IsAt, IsFor, IsFreeAnchor, IsPortion, Sends}
+pub use Rattle.rh_tasks.specs.WorldLetters.{with_last}
+pub use Rattle.rh_tasks.specs.WorldLists.{segment_items_at}
+pub use Rattle.rh_tasks.specs.WorldPolls.{Becomes, IsAt, IsFor, IsFreeAnchor, IsPortion, Sends}
 pub use Rattle.rh_tasks.specs.Saves.{source_block}
 pub use Rattle.rh_tasks.specs.Shown.{Shown}
 pub use Rattle.rh_tasks.specs.TransferBlock.{bytes_held}

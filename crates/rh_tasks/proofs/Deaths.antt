@@ -12,7 +12,7 @@ use Rattle.rh_defs.specs.declared.command.Command.TheVariants as command
 use Rattle.rh_defs.specs.Post.{post_is_live, post_death}
 use Rattle.rh_defs.specs.Desk.{kept_scrap}
 use Rattle.rh_defs.specs.Commands.{kill}
-use Rattle.rh_wimp.specs.Calls.{LeavesChains}
+use Rattle.rh_wimp.specs.QueueCalls.{LeavesChains}
 use Rattle.rh_wimp.proofs.PostCalls.{IsRequeued, post_in-requeued, spells-stays}
 use Rattle.rh_tasks.specs.View.{kept_file}
 use Rattle.rh_tasks.proofs.Frames.{bytes-stay, heap-stays}

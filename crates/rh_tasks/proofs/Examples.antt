@@ -6,7 +6,7 @@ use Rattle.rh_defs.specs.Chain as chain
 use Rattle.rh_defs.specs.Desk as desk
 use Rattle.rh_defs.specs.Runs.{start}
 use Rattle.rh_defs.proofs.BlockRows.{two_blocks}
-use Rattle.rh_tasks.specs.Lists.{blocks_of, segments_of}
+use Rattle.rh_tasks.specs.WorldLists.{blocks_of, segments_of}
 
 -- a block of 5 bytes at anchor 7 and an empty one at anchor 1, above a heap of 48 bytes
 abbrev pub two_by_two : Slot

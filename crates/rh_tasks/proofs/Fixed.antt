@@ -5,7 +5,7 @@ use Rattle.rh_tasks.proofs.Common.{IsDesk, IsModule, IsQueue, post_in, Seat, Mad
 use Rattle.rh_tasks.proofs.Common.{slot_area, made_area, HasAreas, IsWorld, avoids-below, Stay, pages-stay, tasks-stay, slots-stay, mades-stay, mades-opened}
 use Rattle.rh_tasks.proofs.Common.{fixed-opened, post-stays, queue-stays, scrap-stays, scrap-fits, module-stays, count-stays, same-desk, AllByRecursion, fixed}
 use Rattle.rh_defs.specs.Desk.{with_module}
-use Rattle.rh_wimp.specs.Laws.{post_with_heap}
+use Rattle.rh_wimp.specs.QueueLaws.{post_with_heap}
 use Rattle.rh_tasks.proofs.Frames.{scrap-same}
 use Rattle.rh_tasks.proofs.Posts.{end-is, module-length}
 

@@ -11,10 +11,10 @@ use Rattle.rh_defs.proofs.MemoryLaws.{open_below-same}
 use Rattle.rh_defs.specs.Slot as plain
 use Rattle.rh_defs.specs.Desk.{Task, Made, Scrap, edit_task}
 use Rattle.rh_defs.specs.Commands.{with_pages}
-use Rattle.rh_module.specs.Area.{IsModule, module_heap_in}
+use Rattle.rh_module.specs.ModuleArea.{IsModule, module_heap_in}
 use Rattle.rh_slot.specs.declared.slot.Slot.{Slot}
-use Rattle.rh_slot.specs.Area.{IsSlotIn, slot_in}
-use Rattle.rh_wimp.specs.Calls.{IsQueue}
+use Rattle.rh_slot.specs.SlotArea.{IsSlotIn, slot_in}
+use Rattle.rh_wimp.specs.QueueCalls.{IsQueue}
 use Rattle.rh_wimp.specs.Chains.{Chains}
 use Rattle.rh_wimp.specs.PostIn.{post_in}
 use Rattle.rh_wimp.proofs.PostCalls.{post_in-stays, spells-stays}

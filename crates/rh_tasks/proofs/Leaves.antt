@@ -7,11 +7,11 @@ use Rattle.rh_defs.specs.declared.refusal.Refusal.{Refusal}
 use Rattle.rh_defs.specs.Heap.{Heap}
 use Rattle.rh_defs.specs.Slot as plain
 use Rattle.rh_slot.specs.declared.slot.Slot.{Slot}
-use Rattle.rh_slot.specs.Area.{slot_in}
-use Rattle.rh_slot.specs.Calls as slot_calls
+use Rattle.rh_slot.specs.SlotArea.{slot_in}
+use Rattle.rh_slot.specs.SlotCalls as slot_calls
 use Rattle.rh_module.specs.declared.module.Module.{Module}
-use Rattle.rh_module.specs.Area.{module_heap_in}
-use Rattle.rh_module.specs.Calls as module_calls
+use Rattle.rh_module.specs.ModuleArea.{module_heap_in}
+use Rattle.rh_module.specs.ModuleCalls as module_calls
 use Rattle.rh_tasks.proofs.Chains.{answered, answer-refused}
 use Rattle.rh_tasks.proofs.Moves.{Slid}
 

@@ -15,8 +15,8 @@ use Rattle.rh_defs.specs.Module.{module_free}
 use Rattle.rh_defs.specs.Post.{post_is_message}
 use Rattle.rh_defs.specs.Desk.{with_module}
 use Rattle.rh_defs.specs.Commands.{own_block}
-use Rattle.rh_module.specs.Calls as module_calls
-use Rattle.rh_wimp.specs.Laws.{post_with_heap}
+use Rattle.rh_module.specs.ModuleCalls as module_calls
+use Rattle.rh_wimp.specs.QueueLaws.{post_with_heap}
 use Rattle.rh_wimp.proofs.FrameLaws.{IsOff}
 use Rattle.rh_wimp.proofs.BesideLaws.{Beside, off-message, claim-beside, free-beside, resize-beside, change-beside, answers-beside, queue-beside, post_in-calls}
 use Rattle.rh_tasks.proofs.Chains.{skipped, answered, answer-refused}

@@ -12,7 +12,7 @@ use Rattle.rh_defs.specs.Slot as plain
 use Rattle.rh_defs.specs.Desk.{Desk, Task, task_pages, used_pages, named, edit_task, with_task, with_slot}
 use Rattle.rh_defs.specs.Laws.{IsDesk}
 use Rattle.rh_slot.specs.declared.slot.Slot.{Slot}
-use Rattle.rh_slot.specs.Area.{IsSlotIn, slot_in}
+use Rattle.rh_slot.specs.SlotArea.{IsSlotIn, slot_in}
 use Rattle.rh_tasks.specs.declared.seat.Seat.{Seat}
 use Rattle.rh_tasks.specs.declared.made.MadeArea.{MadeArea}
 use Rattle.rh_tasks.specs.View.{Kept, task_of, desk_of, slot_area, made_area, Avoids, AreDistinct, HasSlot, IsAbove, HasAreas, IsWorld}

@@ -9,9 +9,9 @@ use Rattle.rh_defs.specs.Post.{Seat as PostSeat, post_join}
 use Rattle.rh_defs.specs.Desk.{module_pages}
 use Rattle.rh_defs.specs.Laws.{seat_handles, task_handles}
 use Rattle.rh_wimp.specs.declared.chain.Entry.{Entry}
-use Rattle.rh_wimp.specs.Calls.{handles_of}
+use Rattle.rh_wimp.specs.QueueCalls.{handles_of}
 use Rattle.rh_wimp.specs.Chains.{SeatRow, entry_at, row_parcels}
-use Rattle.rh_wimp.specs.Laws.{IsSmallModule}
+use Rattle.rh_wimp.specs.QueueLaws.{IsSmallModule}
 use Rattle.rh_wimp.specs.PostIn.{row_in, rows_in, seat_of, chains_of, parcels_of, unlinked, post_of}
 use Rattle.rh_wimp.proofs.PostCalls.{post_in-spelled}
 use Rattle.rh_tasks.proofs.Worlds.{rise-below}

@@ -8,7 +8,7 @@ use Rattle.rh_defs.specs.Slot as plain
 use Rattle.rh_heap.specs.declared.layout.Segment.{Segment}
 use Rattle.rh_heap.specs.Segments.{piece}
 use Rattle.rh_slot.specs.declared.slot.Slot.{Slot}
-use Rattle.rh_tasks.specs.Items.{segment_item_of}
+use Rattle.rh_tasks.specs.WorldItems.{segment_item_of}
 use Rattle.rh_tasks.proofs.ItemLaws.{blocks-weigh, largest-small, free-small}
 use Rattle.rh_tasks.proofs.QuestionLaws.{IsPiece, piece-at, piece-none, segment-listed}
 use Rattle.rh_store.specs.Limits.{area_limit}

@@ -8,11 +8,11 @@ use Rattle.rh_defs.specs.declared.command.Command.TheVariants as command
 use Rattle.rh_defs.specs.declared.refusal.Refusal.TheVariants.{NothingSent}
 use Rattle.rh_defs.specs.declared.reply.Reply.TheVariants as reply
 use Rattle.rh_defs.specs.Commands.{repeat}
-use Rattle.rh_wimp.specs.Calls.{LeavesChains}
+use Rattle.rh_wimp.specs.QueueCalls.{LeavesChains}
 use Rattle.rh_tasks.specs.declared.seat.SentLetter.{SentLetter}
 use Rattle.rh_tasks.specs.View.{last_of}
 use Rattle.rh_tasks.specs.declared.next.Next.{Next}
-use Rattle.rh_tasks.specs.Letters.{from_last, again}
+use Rattle.rh_tasks.specs.WorldLetters.{from_last, again}
 use Rattle.rh_tasks.proofs.Chains.{answered, answer-refused}
 use Rattle.rh_tasks.proofs.Posts.{is-post, has-entry}
 use Rattle.rh_tasks.proofs.Sends.{desk_then, sent-alike, sent-world}

@@ -18,7 +18,7 @@ use Rattle.rh_defs.specs.Sender as sender
 use Rattle.rh_defs.specs.Slot as plain
 use Rattle.rh_defs.specs.Desk.{has_name}
 use Rattle.rh_defs.specs.Commands.{save}
-use Rattle.rh_wimp.specs.Calls.{LeavesChains}
+use Rattle.rh_wimp.specs.QueueCalls.{LeavesChains}
 use Rattle.rh_tasks.proofs.Finding.{find-named, nobody-named}
 use Rattle.rh_tasks.proofs.Sends.{desk_then, sent-alike, sent-world}
 use Rattle.rh_tasks.proofs.Repeats.{from-live, letter-refused, letter_then, letter-sent, ref-is}

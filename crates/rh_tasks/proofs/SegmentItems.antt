@@ -9,10 +9,10 @@ use Rattle.rh_defs.specs.declared.question.SegmentItem.TheVariants as segment
 use Rattle.rh_defs.specs.Heap as heap
 use Rattle.rh_defs.specs.Questions.{segment_items_from}
 use Rattle.rh_heap.specs.declared.layout.Segment.{Segment}
-use Rattle.rh_heap.specs.Image.{listed}
+use Rattle.rh_heap.specs.HeapChecks.{listed}
 use Rattle.rh_heap.specs.Listed.{from_cut, segments_from}
-use Rattle.rh_tasks.specs.Items.{placed_item, IsSmallSegment}
-use Rattle.rh_tasks.specs.Lists.{items_at}
+use Rattle.rh_tasks.specs.WorldItems.{placed_item, IsSmallSegment}
+use Rattle.rh_tasks.specs.WorldLists.{items_at}
 use Rattle.rh_store.specs.Limits.{area_limit}
 
 items_listed : (start place : ℕ) (gs : List heap.Segment) → map (placed_item start) (listed place gs) ≡ segment_items_from (start + place) gs

@@ -3,7 +3,7 @@ use Rattle.rh_tasks.proofs.Common.{◌≡◌, ℕ, ◌+◌, ◌≤◌, ap, ◌�
 use Rattle.rh_tasks.proofs.Common.{Task, Made, task_pages, used_pages, with_task, IsDesk, IsReordered, with_queue, Chains, post_in, Seat, MadeArea, ScrapFile}
 use Rattle.rh_tasks.proofs.Common.{Kept, the_module, scrap_size, scrap_of, slot_area, made_area, HasAreas, desk_of, task_of, made_of, IsWorld, Sits}
 use Rattle.rh_tasks.proofs.Common.{avoids-below, Stay, tasks-stay, mades-stay, scrap-stays, scrap-fits, same-desk, Moves, moved-desk}
-use Rattle.rh_wimp.specs.Calls.{LeavesChains}
+use Rattle.rh_wimp.specs.QueueCalls.{LeavesChains}
 use Rattle.rh_wimp.proofs.PostCalls.{IsRequeued, post_in-requeued}
 use Rattle.rh_tasks.proofs.Posts.{smaller, is-post, module-length, end-is}
 use Rattle.rh_tasks.proofs.Fixed.{changed-areas, fixed-rest}

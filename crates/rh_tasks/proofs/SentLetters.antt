@@ -3,7 +3,7 @@ use Rattle.rh_tasks.proofs.Common.{◌≡◌, ℕ, refl, ap, sym, ◌∙◌, Lis
 use Rattle.rh_tasks.proofs.Common.{Letter, Refusal, answer_of, left_of, post_send, Desk, Task, IsDesk, grant-holds, Answers, Chains, Seat, MadeArea, Kept}
 use Rattle.rh_tasks.proofs.Common.{the_module, task_of, desk_of, shown_of, IsWorld, with_last, Sends, Sits, set_same, mapped-is}
 use Rattle.rh_defs.proofs.Desks.{send_letter-keeps}
-use Rattle.rh_wimp.specs.Calls.{LeavesChains}
+use Rattle.rh_wimp.specs.QueueCalls.{LeavesChains}
 use Rattle.rh_tasks.proofs.Places.{mapped-inside}
 use Rattle.rh_tasks.proofs.Sends.{sent-alike, sent-world}
 use Rattle.rh_tasks.proofs.Repeats.{last-moves, letter_then, letter-refused, letter-sent, ref-is}

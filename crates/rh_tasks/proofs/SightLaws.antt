@@ -18,7 +18,7 @@ use Rattle.rh_defs.proofs.ShapeLaws.{len0}
 use Rattle.rh_heap.specs.Listed.{from_cut}
 use Rattle.rh_wimp.specs.PostIn.{post_of}
 use Rattle.rh_wimp.proofs.BesideLaws.{off-message}
-use Rattle.rh_tasks.specs.Lists.{items_at}
+use Rattle.rh_tasks.specs.WorldLists.{items_at}
 use Rattle.rh_tasks.specs.Sights.{blocks_in, scrap_file_of, module_shown, next_message, segments_in, slot_bytes}
 use Rattle.rh_tasks.proofs.ModuleCommands.{unmarked-is}
 use Rattle.rh_tasks.proofs.Posts.{is-post}

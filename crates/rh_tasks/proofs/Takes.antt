@@ -6,7 +6,7 @@ use Rattle.rh_tasks.proofs.Common.{Kept, the_module, scrap_size, HasSlot, task_o
 use Rattle.rh_defs.specs.declared.message.Event.{Event}
 use Rattle.rh_defs.proofs.Desks.{with_delivered-keeps}
 use Rattle.rh_defs.proofs.PostKeeps.{post_poll-kept}
-use Rattle.rh_wimp.specs.Calls.{LeavesChains}
+use Rattle.rh_wimp.specs.QueueCalls.{LeavesChains}
 use Rattle.rh_wimp.specs.Chains.{event_of}
 use Rattle.rh_tasks.specs.View.{kept_file}
 use Rattle.rh_tasks.proofs.Posts.{is-post, has-entry}

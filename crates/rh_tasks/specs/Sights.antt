@@ -16,7 +16,7 @@ use Rattle.rh_defs.specs.Questions.{block_items}
 use Rattle.rh_tasks.specs.declared.sights.TaskSight.{TaskSight}
 use Rattle.rh_tasks.specs.declared.sights.MadeSight.{MadeSight}
 use Rattle.rh_tasks.specs.declared.scrap.ScrapFile.{ScrapFile}
-use Rattle.rh_tasks.specs.Lists.{segment_items_at}
+use Rattle.rh_tasks.specs.WorldLists.{segment_items_at}
 use Rattle.rh_tasks.specs.TransferBlock.{bytes_held}
 use Rattle.rh_tasks.specs.View.{last_of}
 

@@ -5,7 +5,7 @@ use Rattle.rh_defs.specs.Memory.{Memory, IsOpen, open_below}
 use Rattle.rh_defs.specs.Heap.{empty_heap}
 use Rattle.rh_defs.specs.Pieces.{page_size}
 use Rattle.rh_defs.specs.declared.sizes.TheConstants.{FIXED_AREAS, MAX_AREAS}
-use Rattle.rh_module.specs.Area.{IsModule, module_heap_in}
+use Rattle.rh_module.specs.ModuleArea.{IsModule, module_heap_in}
 use Rattle.rh_tasks.specs.View.{the_module, fixed, pages_at}
 
 -- areas 0 to 5 are open alone, and have no page but area 1, which is an empty heap of one page

@@ -12,9 +12,9 @@ use Rattle.rh_defs.specs.Laws.{IsDesk}
 use Rattle.rh_defs.specs.declared.message.Letter.{Letter}
 use Rattle.rh_defs.specs.declared.sizes.TheConstants.{FIXED_AREAS, MAX_AREAS}
 use Rattle.rh_module.specs.declared.module.Module.{Module}
-use Rattle.rh_module.specs.Area.{IsModule}
-use Rattle.rh_slot.specs.Area.{IsSlotIn, slot_in}
-use Rattle.rh_wimp.specs.Calls.{IsQueue}
+use Rattle.rh_module.specs.ModuleArea.{IsModule}
+use Rattle.rh_slot.specs.SlotArea.{IsSlotIn, slot_in}
+use Rattle.rh_wimp.specs.QueueCalls.{IsQueue}
 use Rattle.rh_wimp.specs.Chains.{Chains}
 use Rattle.rh_wimp.specs.PostIn.{post_in}
 use Rattle.rh_tasks.specs.declared.seat.Seat.{Seat}

@@ -11,10 +11,10 @@ ghost use Rattle.rh_defs.specs.Messages.{Parcel};
 ghost use Rattle.rh_defs.specs.Places.{first_bytes};
 ghost use Rattle.rh_defs.specs.Receiver as receiver;
 ghost use Rattle.rh_defs.specs.Slot.{slot_size, heap_block_at};
-ghost use Rattle.rh_slot.specs.Area.{IsSlotIn, slot_in};
-ghost use Rattle.rh_slot.specs.Calls.{LeavesSlotIn};
+ghost use Rattle.rh_slot.specs.SlotArea.{IsSlotIn, slot_in};
+ghost use Rattle.rh_slot.specs.SlotCalls.{LeavesSlotIn};
 ghost use Rattle.rh_slot.specs.Flex.{slot_append};
-ghost use Rattle.rh_tasks.specs.Polls.{IsAt, IsFor, Attempts, Becomes, Handles, AreFirst};
+ghost use Rattle.rh_tasks.specs.WorldPolls.{IsAt, IsFor, Attempts, Becomes, Handles, AreFirst};
 
 use crate::letters::{ack_letter, fetch_letter};
 use crate::named_files::NamedFiles;

@@ -5,12 +5,12 @@ ghost use Rattle.rh_defs.specs.Letters.{file_of, scrap_name, fetch_letter as fet
 ghost use Rattle.rh_defs.specs.Messages.{Parcel};
 ghost use Rattle.rh_defs.specs.Chain.{answer_of, left_of};
 ghost use Rattle.rh_defs.specs.Post.{post_send};
-ghost use Rattle.rh_wimp.specs.Calls.{Answers, IsQueue, LeavesChains};
+ghost use Rattle.rh_wimp.specs.QueueCalls.{Answers, IsQueue, LeavesChains};
 ghost use Rattle.rh_wimp.specs.Chains.{HasEntry};
 ghost use Rattle.rh_tasks.specs.View.{the_module};
 ghost use Rattle.rh_defs.specs.Desk.{Task};
-ghost use Rattle.rh_tasks.specs.Letters.{again, with_last};
-ghost use Rattle.rh_tasks.specs.Polls.{IsAt, Sends};
+ghost use Rattle.rh_tasks.specs.WorldLetters.{again, with_last};
+ghost use Rattle.rh_tasks.specs.WorldPolls.{IsAt, Sends};
 
 use crate::module_area::MODULE;
 use crate::named_files::NamedFiles;

@@ -3,7 +3,7 @@
 ghost use Rattle.std.specs.Prelude.{◌≡◌};
 ghost use Rattle.rh_defs.specs.Memory.{Memory};
 ghost use Rattle.rh_defs.specs.Post.{Post};
-ghost use Rattle.rh_wimp.specs.Calls.{IsQueue};
+ghost use Rattle.rh_wimp.specs.QueueCalls.{IsQueue};
 ghost use Rattle.rh_wimp.specs.Chains.{SpellsPostIn};
 ghost use Rattle.rh_tasks.specs.View.{the_module, kept_file, scrap_size as scrap_size_of};
 

@@ -7,8 +7,8 @@ ghost use Rattle.std.specs.Result.{MatchResult};
 ghost use Rattle.rh_defs.specs.Desk.{module_start, most_made, most_tasks, next_ref as next_ref_on, task_at};
 ghost use Rattle.rh_defs.specs.Messages.{Parcel};
 ghost use Rattle.rh_defs.specs.Records.{most_records};
-ghost use Rattle.rh_wimp.specs.Items.{message_items, with_message};
-ghost use Rattle.rh_tasks.specs.Lists.{items_at};
+ghost use Rattle.rh_wimp.specs.QueueItems.{message_items, with_message};
+ghost use Rattle.rh_tasks.specs.WorldLists.{items_at};
 ghost use Rattle.rh_tasks.specs.Sights.{IsSeen, blocks_in, scrap_file_of, made_of_sight, module_shown, next_message as next_message_on, segments_in, slot_bytes};
 
 use crate::listing::{HeapSums, pages_in, segment_items};

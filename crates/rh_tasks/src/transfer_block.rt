@@ -1,7 +1,7 @@
 //! Bytes that are moved from one task's block to another's.
 
 ghost use Rattle.rh_defs.specs.Laws.{IsDesk};
-ghost use Rattle.rh_tasks.specs.Polls.{Becomes};
+ghost use Rattle.rh_tasks.specs.WorldPolls.{Becomes};
 ghost use Rattle.rh_tasks.specs.Shown.{IsSpelled, ShowsBalance, ShowsApartBlocks};
 ghost use Rattle.rh_tasks.specs.TransferBlock.{transferred};
 

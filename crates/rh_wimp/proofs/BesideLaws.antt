@@ -16,8 +16,8 @@ use Rattle.rh_defs.proofs.BlockLaws.{bytes_here, block_at-bytes}
 use Rattle.rh_defs.proofs.ModuleLaws.{module_change-low, module_change-short, module_change-done, module_free-none}
 use Rattle.rh_defs.proofs.ResizeLaws.{CutAlike, Moves, resize_growing-alike, resize_growing-moves, resize_need-alike}
 use Rattle.rh_defs.proofs.ShapeLaws.{Alike, blank_cut, block-blank, same_heap, total-blank}
-use Rattle.rh_module.specs.Calls as module_calls
-use Rattle.rh_wimp.specs.Laws.{GoesBeside, IsSmallModule, post_with_heap}
+use Rattle.rh_module.specs.ModuleCalls as module_calls
+use Rattle.rh_wimp.specs.QueueLaws.{GoesBeside, IsSmallModule, post_with_heap}
 use Rattle.rh_wimp.specs.PostIn.{post_in}
 use Rattle.rh_wimp.proofs.FrameLaws.{IsOff, block-changed, blocks-changed, claimed-beside, freed-beside}
 use Rattle.rh_wimp.proofs.LinkLaws.{zero-off, none-low}

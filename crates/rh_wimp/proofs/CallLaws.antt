@@ -8,7 +8,7 @@ use Rattle.std.proofs.lemmas.List.{take_at}
 use Rattle.rh_defs.specs.Chain.{no_answer}
 use Rattle.rh_defs.specs.Module.{module_free}
 use Rattle.rh_defs.proofs.BytesLaws.{put-parts}
-use Rattle.rh_module.specs.Calls.{LeavesModule}
+use Rattle.rh_module.specs.ModuleCalls.{LeavesModule}
 use Rattle.rh_module.specs.Writes.{Wrote}
 use Rattle.rh_defs.specs.Blocks.{PutsBlock}
 use Rattle.rh_defs.proofs.BlockCalls.{module_claim-has, module_free-there}

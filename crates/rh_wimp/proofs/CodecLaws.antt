@@ -7,7 +7,7 @@ use Rattle.rh_defs.specs.Bytes.{SameIn}
 use Rattle.rh_defs.specs.MessageImage.{SpellWords, SpellsName, SpellsTail, SpellsMessage}
 use Rattle.rh_defs.proofs.BytesLaws.{SameIn-narrower, SameIn-take, length-put, part_same, put_inside, word_same}
 use Rattle.rh_defs.proofs.MessageImageLaws.{encoded-spells, spelled-decodes}
-use Rattle.rh_wimp.specs.Laws.{ComesBack}
+use Rattle.rh_wimp.specs.QueueLaws.{ComesBack}
 
 -- the words of a message end below its length
 words-fit : (b : List ℕ) (end : ℕ) (body : Body) → SpellsTail b end body → 20 + 4 * length (data_words body) ≤ end

@@ -6,9 +6,9 @@ use Rattle.std.specs.List.{AllByRecursion}
 use Rattle.rh_defs.specs.HeapImage.{heap_of}
 use Rattle.rh_defs.specs.Laws as laws
 use Rattle.rh_defs.specs.Order.{SameForEach, requeued}
-use Rattle.rh_wimp.specs.Calls.{Answers, LeavesChains}
+use Rattle.rh_wimp.specs.QueueCalls.{Answers, LeavesChains}
 use Rattle.rh_wimp.specs.Chains.{joined_chains}
-use Rattle.rh_wimp.specs.Laws.{HaveOnePost, IsSmallModule}
+use Rattle.rh_wimp.specs.QueueLaws.{HaveOnePost, IsSmallModule}
 use Rattle.rh_wimp.specs.PostIn.{post_in, post_of}
 use Rattle.rh_wimp.proofs.JoinLaws.{join-spells}
 use Rattle.rh_wimp.proofs.OrderLaws.{HoldsOwn, by_seats-each, by_seats-length, own-seats}

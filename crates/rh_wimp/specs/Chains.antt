@@ -5,7 +5,7 @@ use Rattle.rh_defs.specs.declared.refusal.Refusal.{Refusal}
 use Rattle.rh_defs.specs.declared.refusal.Refusal.TheVariants.{NoTask, NoRefs, QueueFull}
 use Rattle.rh_defs.specs.Heap.{Heap}
 use Rattle.rh_defs.specs.Memory.{Memory}
-use Rattle.rh_module.specs.Area.{module_heap_in}
+use Rattle.rh_module.specs.ModuleArea.{module_heap_in}
 use Rattle.rh_module.specs.declared.module.Module.{Module}
 use Rattle.rh_defs.specs.Blocks.{block_bytes, SameShape}
 use Rattle.rh_defs.specs.Messages.{Parcel, Fits, padded}

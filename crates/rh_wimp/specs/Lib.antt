@@ -1,8 +1,8 @@
 pub mod Chains
-pub mod Moves
-pub mod Searches
 pub mod Deaths
-pub mod Calls
+pub mod Moves
 pub mod PostIn
-pub mod Items
-pub mod Laws
+pub mod QueueCalls
+pub mod QueueItems
+pub mod QueueLaws
+pub mod Searches

@@ -6,7 +6,7 @@ use Rattle.rh_defs.specs.Heap.{Heap, release_block}
 use Rattle.rh_defs.specs.Blocks.{poked}
 use Rattle.rh_defs.specs.Messages.{Parcel}
 use Rattle.rh_defs.specs.Post.{answers_held}
-use Rattle.rh_module.specs.Area.{IsModule, module_heap_in}
+use Rattle.rh_module.specs.ModuleArea.{IsModule, module_heap_in}
 use Rattle.rh_module.specs.declared.module.Module.{Module}
 use Rattle.rh_wimp.specs.Chains.{entry_at, emptied}
 use Rattle.rh_wimp.specs.declared.chain.Entry.{Entry}

@@ -14,7 +14,7 @@ use Rattle.rh_defs.specs.MessageImage.{decoded}
 use Rattle.rh_defs.specs.Messages.{Parcel, code_at}
 use Rattle.rh_defs.specs.Post.{Seat, Post}
 use Rattle.rh_defs.specs.Memory.{Memory}
-use Rattle.rh_module.specs.Area.{module_heap_in}
+use Rattle.rh_module.specs.ModuleArea.{module_heap_in}
 use Rattle.rh_module.specs.declared.module.Module.{Module}
 use Rattle.rh_wimp.specs.Chains.{Chains, SeatRow, row_parcels}
 use Rattle.rh_wimp.specs.declared.chain.Entry.{Entry}

@@ -2,7 +2,7 @@
 ghost use Rattle.std.specs.Prelude.{◌≡◌, ◌≢◌, ◌<◌, ◌^◌, ◌==◌, length, set, Some, None};
 ghost use Rattle.std.specs.List.{position};
 ghost use Rattle.rh_defs.specs.Memory.{Memory};
-ghost use Rattle.rh_module.specs.Area.{IsModule, module_heap_in};
+ghost use Rattle.rh_module.specs.ModuleArea.{IsModule, module_heap_in};
 ghost use Rattle.rh_wimp.specs.Moves.{Relinks};
 ghost use Rattle.rh_defs.specs.Blocks.{HasBlock};
 ghost use Rattle.rh_wimp.specs.Chains.{entry_at, lengthened, shortened};

@@ -4,8 +4,8 @@ ghost use Rattle.rh_defs.specs.declared.sizes.TheConstants.{MOST_MESSAGES};
 ghost use Rattle.rh_defs.specs.Memory.{OnlyArea};
 ghost use Rattle.rh_defs.specs.Messages.{Parcel};
 ghost use Rattle.rh_defs.specs.Post.{Post, held_by, post_death};
-ghost use Rattle.rh_module.specs.Area.{IsModule};
-ghost use Rattle.rh_wimp.specs.Calls.{IsQueue, LeavesChains, handles_of};
+ghost use Rattle.rh_module.specs.ModuleArea.{IsModule};
+ghost use Rattle.rh_wimp.specs.QueueCalls.{IsQueue, LeavesChains, handles_of};
 ghost use Rattle.rh_wimp.specs.Chains.{HasEntry, MayBounce, SpellsPostIn, entry_at};
 ghost use Rattle.rh_wimp.specs.Deaths.{Drains, bounced_from, ended_from, settled_from};
 

@@ -4,7 +4,7 @@ ghost use Rattle.rh_defs.specs.Chain.{no_answer};
 ghost use Rattle.rh_defs.specs.Heap.{Heap};
 ghost use Rattle.rh_defs.specs.Module.{module_change, module_claim, module_free, module_resize};
 ghost use Rattle.rh_defs.specs.Post.{Post, post_is_message};
-ghost use Rattle.rh_wimp.specs.Laws.{ComesBack, GoesBeside, HaveOnePost};
+ghost use Rattle.rh_wimp.specs.QueueLaws.{ComesBack, GoesBeside, HaveOnePost};
 
 /// What `encode` wrote, `decode` reads as the same message: from the whole block, whatever stood behind the message in it,
 /// and from each front of the block that has the message's length.

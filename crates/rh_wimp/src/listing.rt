@@ -3,10 +3,10 @@ ghost use Rattle.std.specs.Prelude.{◌≡◌, ◌+◌, ◌≤◌, ◌++◌, ℕ
 ghost use Rattle.rh_defs.specs.declared.sizes.TheConstants.{MOST_MESSAGES};
 ghost use Rattle.rh_defs.specs.Memory.{Memory};
 ghost use Rattle.rh_defs.specs.Messages.{Parcel};
-ghost use Rattle.rh_module.specs.Area.{IsModule, module_heap_in};
-ghost use Rattle.rh_wimp.specs.Calls.{Answers, IsQueue};
+ghost use Rattle.rh_module.specs.ModuleArea.{IsModule, module_heap_in};
+ghost use Rattle.rh_wimp.specs.QueueCalls.{Answers, IsQueue};
 ghost use Rattle.rh_wimp.specs.Chains.{Chain, Holds, SeatRow, RowsLie, first_block, held_list};
-ghost use Rattle.rh_wimp.specs.Items.{LinksAt, held_items, message_item_of, message_items, waiting_items};
+ghost use Rattle.rh_wimp.specs.QueueItems.{LinksAt, held_items, message_item_of, message_items, waiting_items};
 
 use crate::chain::Entry;
 use crate::layout::{ACTION, LINK, MESSAGE, MY_REF, SENDER};

@@ -4,10 +4,10 @@ ghost use Rattle.std.specs.Option.{option_map};
 ghost use Rattle.rh_defs.specs.Memory.{Memory};
 ghost use Rattle.rh_defs.specs.Messages.{Parcel};
 ghost use Rattle.rh_defs.specs.Post.{holds_such, post_poll};
-ghost use Rattle.rh_module.specs.Area.{IsModule, module_heap_in};
-ghost use Rattle.rh_wimp.specs.Calls.{Answers, IsQueue};
+ghost use Rattle.rh_module.specs.ModuleArea.{IsModule, module_heap_in};
+ghost use Rattle.rh_wimp.specs.QueueCalls.{Answers, IsQueue};
 ghost use Rattle.rh_wimp.specs.Chains.{HasEntry, Holds};
-ghost use Rattle.rh_wimp.specs.Items.{with_message};
+ghost use Rattle.rh_wimp.specs.QueueItems.{with_message};
 
 use crate::chain::find;
 use crate::layout::{MESSAGE, SENDER};

@@ -5,7 +5,7 @@ ghost use Rattle.rh_defs.specs.Chain.{answer_of};
 ghost use Rattle.rh_defs.specs.Heap.{Heap, release_block};
 ghost use Rattle.rh_defs.specs.Memory.{Memory, OnlyArea};
 ghost use Rattle.rh_defs.specs.Module.{module_claim};
-ghost use Rattle.rh_module.specs.Area.{IsModule, module_heap_in};
+ghost use Rattle.rh_module.specs.ModuleArea.{IsModule, module_heap_in};
 ghost use Rattle.rh_wimp.specs.Moves.{Turns};
 ghost use Rattle.rh_defs.specs.Blocks.{HasBlock, block_bytes, poked};
 ghost use Rattle.rh_wimp.specs.Chains.{entry_at, emptied};

@@ -4,9 +4,9 @@ ghost use Rattle.rh_defs.specs.declared.sizes.TheConstants.{MAX_TASKS};
 ghost use Rattle.rh_defs.specs.Heap.{Heap};
 ghost use Rattle.rh_defs.specs.Memory.{Memory};
 ghost use Rattle.rh_defs.specs.Post.{Post, post_join};
-ghost use Rattle.rh_module.specs.Area.{IsModule};
+ghost use Rattle.rh_module.specs.ModuleArea.{IsModule};
 ghost use Rattle.rh_module.specs.declared.module.Module.{Module};
-ghost use Rattle.rh_wimp.specs.Calls.{IsQueue, handles_of};
+ghost use Rattle.rh_wimp.specs.QueueCalls.{IsQueue, handles_of};
 ghost use Rattle.rh_wimp.specs.Chains.{HasEntry, ArePostChains, joined_chains};
 
 use crate::chain::Entry;

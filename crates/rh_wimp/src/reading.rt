@@ -2,9 +2,9 @@
 ghost use Rattle.std.specs.Prelude.{◌≡◌, ℕ, length};
 ghost use Rattle.rh_defs.specs.declared.sizes.TheConstants.{LONGEST_MESSAGE};
 ghost use Rattle.rh_defs.specs.Memory.{Memory};
-ghost use Rattle.rh_module.specs.Area.{IsModule};
+ghost use Rattle.rh_module.specs.ModuleArea.{IsModule};
 ghost use Rattle.rh_wimp.specs.Chains.{LiesAt};
-ghost use Rattle.rh_wimp.specs.Items.{LinksAt};
+ghost use Rattle.rh_wimp.specs.QueueItems.{LinksAt};
 ghost use Rattle.rh_defs.specs.Bytes.{with_part};
 ghost use Rattle.rh_defs.specs.Messages.{Parcel, encoded};
 

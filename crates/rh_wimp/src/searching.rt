@@ -4,8 +4,8 @@ ghost use Rattle.std.specs.List.{list_any};
 ghost use Rattle.rh_defs.specs.declared.sizes.TheConstants.{MOST_MESSAGES};
 ghost use Rattle.rh_defs.specs.Messages.{Parcel};
 ghost use Rattle.rh_defs.specs.Post.{holds_such, post_is_live, post_is_message};
-ghost use Rattle.rh_module.specs.Area.{IsModule, module_heap_in};
-ghost use Rattle.rh_wimp.specs.Calls.{Answers, IsQueue};
+ghost use Rattle.rh_module.specs.ModuleArea.{IsModule, module_heap_in};
+ghost use Rattle.rh_wimp.specs.QueueCalls.{Answers, IsQueue};
 ghost use Rattle.rh_wimp.specs.Chains.{Chain, Holds, Lies, SeatRow, RowLies, RowsLie, first_block, row_parcels};
 ghost use Rattle.rh_wimp.specs.Searches.{AreShortChains, rows_have, wants};
 

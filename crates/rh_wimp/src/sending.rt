@@ -3,8 +3,8 @@ ghost use Rattle.std.specs.Prelude.{◌≡◌, ◌<◌, ◌≤◌, ℕ, List, So
 ghost use Rattle.rh_defs.specs.Chain.{answer_of, left_of};
 ghost use Rattle.rh_defs.specs.Memory.{OnlyArea};
 ghost use Rattle.rh_defs.specs.Post.{post_send, post_send_pages};
-ghost use Rattle.rh_module.specs.Area.{IsModule, module_heap_in};
-ghost use Rattle.rh_wimp.specs.Calls.{Answers, IsQueue, LeavesChains, handles_of};
+ghost use Rattle.rh_module.specs.ModuleArea.{IsModule, module_heap_in};
+ghost use Rattle.rh_wimp.specs.QueueCalls.{Answers, IsQueue, LeavesChains, handles_of};
 ghost use Rattle.rh_wimp.specs.Chains.{HasEntry, SeatRow, RowsLie, entry_at, refusal_for, row_at};
 ghost use Rattle.rh_wimp.specs.Moves.{Settled};
 

@@ -6,7 +6,7 @@ use Rattle.rh_defs.specs.Memory.{Memory, Edited}
 use Rattle.rh_defs.specs.Pieces.{zeros}
 use Rattle.rh_defs.specs.declared.sizes.TheConstants.{PAGE}
 use Rattle.rh_defs.proofs.MemoryLaws.{Edited-both}
-use Rattle.rh_heap.specs.Spans.{OnlySpan, heap_in}
+use Rattle.rh_heap.specs.HeapSpans.{OnlySpan, heap_in}
 use Rattle.rh_heap.specs.declared.span.Span.{Span}
 
 -- ---- the heap after each call

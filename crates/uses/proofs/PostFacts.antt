@@ -17,7 +17,7 @@ use Rattle.rh_defs.specs.Post.{Post, message_of, posted, post_send, post_poll}
 use Rattle.rh_defs.specs.declared.message.Body.TheVariants.{RamFetch}
 use Rattle.rh_defs.specs.declared.message.Event.{Event}
 use Rattle.rh_defs.specs.declared.message.EventCode.TheVariants.{User}
-use Rattle.rh_wimp.specs.Calls.{handles_of}
+use Rattle.rh_wimp.specs.QueueCalls.{handles_of}
 use Rattle.rh_wimp.specs.Chains.{Chains, HasEntry, event_of}
 use Rattle.rh_wimp.proofs.LeavesLaws.{HasEntry-from_handles}
 use Rattle.uses.specs.Wimp.{fetch, fetch_size, two_idle}

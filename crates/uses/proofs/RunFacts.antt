@@ -12,7 +12,7 @@ use Rattle.rh_defs.specs.declared.command.Manner.TheVariants.{Plain}
 use Rattle.rh_defs.specs.declared.reply.Reply.{Reply}
 use Rattle.rh_defs.specs.declared.reply.Reply.TheVariants.{Block}
 use Rattle.rh_tasks.specs.Answer.{RunsOn, StepsTo}
-use Rattle.uses.specs.Tasks.{the_commands, the_name}
+use Rattle.uses.specs.UsedTasks.{the_commands, the_name}
 
 begun : (d0 d : Desk) → d0 ≡ d → IsReordered d d0
 begun d0 d is = subst (λ (x : Desk). IsReordered d x) (sym is) (record { same = record { each = λ h. refl }; rest = refl })

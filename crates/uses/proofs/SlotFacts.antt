@@ -15,7 +15,7 @@ use Rattle.rh_defs.specs.declared.refusal.Refusal.TheVariants.{NoBlock, NoRoom, 
 use Rattle.rh_defs.proofs.HeapLists.{ltb_yes, ltb_no}
 use Rattle.rh_defs.proofs.MemoryLaws.{bytes-none}
 use Rattle.rh_defs.proofs.SlotRooms.{length-with_block}
-use Rattle.rh_slot.specs.Area.{SpellsSlotIn}
+use Rattle.rh_slot.specs.SlotArea.{SpellsSlotIn}
 use Rattle.rh_slot.specs.declared.slot.Slot as slots
 use Rattle.rh_store.proofs.AreasLaws.{none_is}
 

@@ -1,3 +1,3 @@
-pub mod Areas
-pub mod Tasks
+pub mod NewAreas
+pub mod UsedTasks
 pub mod Wimp

@@ -2,9 +2,9 @@
 ghost use Rattle.std.specs.Prelude.{◌≡◌, [], ◌∷◌, replicate, IfOk, OnErr};
 ghost use Rattle.rh_defs.specs.Chain.{outcome_of};
 ghost use Rattle.rh_defs.specs.Heap.{Hole, Used, empty_heap};
-ghost use Rattle.rh_heap.specs.Spans.{IsSpan, OnlySpan, heap_in};
+ghost use Rattle.rh_heap.specs.HeapSpans.{IsSpan, OnlySpan, heap_in};
 ghost use Rattle.rh_defs.specs.declared.sizes.TheConstants.{PAGE};
-ghost use Rattle.uses.specs.Areas.{IsNewArea, one_page};
+ghost use Rattle.uses.specs.NewAreas.{IsNewArea, one_page};
 
 use rh_defs::sizes::PAGE;
 use rh_heap::{Span, claim, describe, init, release};

@@ -6,7 +6,7 @@ ghost use Rattle.rh_defs.specs.Chain.{answer_of, left_of};
 ghost use Rattle.rh_defs.specs.Heap.{block_room, release_block};
 ghost use Rattle.rh_defs.specs.Memory.{OnlyArea};
 ghost use Rattle.rh_defs.specs.Module.{module_claim};
-ghost use Rattle.rh_module.specs.Area.{IsModule, module_heap_in};
+ghost use Rattle.rh_module.specs.ModuleArea.{IsModule, module_heap_in};
 
 use rh_defs::Refusal;
 use rh_module::Module;

@@ -3,9 +3,9 @@ ghost use Rattle.std.specs.Prelude.{◌≡◌, ◌^◌, ◌<◌, ℕ, List, Ok, 
 ghost use Rattle.rh_defs.specs.Chain.{outcome_of, refuse_if, result_or};
 ghost use Rattle.rh_defs.specs.Memory.{OnlyArea, open_below};
 ghost use Rattle.rh_defs.specs.Slot.{new_slot, slot_free, slot_pages, slot_read, with_block};
-ghost use Rattle.rh_slot.specs.Area.{IsSlotIn, slot_in};
+ghost use Rattle.rh_slot.specs.SlotArea.{IsSlotIn, slot_in};
 ghost use Rattle.rh_defs.specs.declared.sizes.TheConstants.{MAX_AREAS};
-ghost use Rattle.uses.specs.Areas.{IsNewArea};
+ghost use Rattle.uses.specs.NewAreas.{IsNewArea};
 
 use rh_defs::{Anchor, Refusal};
 use rh_slot::Slot;

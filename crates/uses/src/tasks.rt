@@ -2,7 +2,7 @@
 ghost use Rattle.std.specs.Prelude.{◌≡◌, [], Some, IfOk};
 ghost use Rattle.rh_defs.specs.Order.{IsReordered};
 ghost use Rattle.rh_defs.specs.Runs.{after, start};
-ghost use Rattle.uses.specs.Tasks.{the_commands};
+ghost use Rattle.uses.specs.UsedTasks.{the_commands};
 
 use rh_defs::{Anchor, Command, Files, Manner, Name, Reply};
 use rh_store::{PlainStore, Store};

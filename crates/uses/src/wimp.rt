@@ -6,9 +6,9 @@ ghost use Rattle.rh_defs.specs.Memory.{Memory, OnlyArea};
 ghost use Rattle.rh_defs.specs.Pieces.{lacks_pages};
 ghost use Rattle.rh_defs.specs.declared.message.Body.TheVariants.{RamFetch};
 ghost use Rattle.rh_defs.specs.declared.message.EventCode.TheVariants.{User};
-ghost use Rattle.rh_module.specs.Area.{IsModule, module_heap_in};
+ghost use Rattle.rh_module.specs.ModuleArea.{IsModule, module_heap_in};
 ghost use Rattle.rh_module.specs.declared.module.Module.{Module};
-ghost use Rattle.rh_wimp.specs.Calls.{IsQueue, handles_of};
+ghost use Rattle.rh_wimp.specs.QueueCalls.{IsQueue, handles_of};
 ghost use Rattle.rh_wimp.specs.Chains.{SpellsPostIn};
 ghost use Rattle.uses.specs.Wimp.{post_asked, fetch_size, two_idle};
 

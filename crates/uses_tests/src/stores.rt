@@ -2,7 +2,7 @@
 
 ghost use Rattle.std.specs.Prelude.{◌≡◌, ◌<◌, IfOk};
 ghost use Rattle.rh_defs.specs.Memory.{fresh, open_below};
-ghost use Rattle.rh_module.specs.Area.{IsModule};
+ghost use Rattle.rh_module.specs.ModuleArea.{IsModule};
 ghost use Rattle.rh_pages.specs.Paged as pages;
 ghost use Rattle.rh_store.specs.Plain as plain;
 ghost use Rattle.rh_defs.specs.declared.sizes.TheConstants.{MAX_AREAS};

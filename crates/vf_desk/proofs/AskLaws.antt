@@ -6,7 +6,7 @@ use Rattle.rh_defs.specs.Questions.{Nothing}
 use Rattle.vf_desk.specs.declared.called.Called.TheVariants.{Closed}
 use Rattle.vf_desk.specs.declared.desk.VfDesk.{VfDesk}
 use Rattle.vf_desk.specs.Called.{Asks, done_or}
-use Rattle.vf_desk.specs.Seen.{IsSeenDesk}
+use Rattle.vf_desk.specs.SeenDesk.{IsSeenDesk}
 use Rattle.vf_desk.proofs.CallLaws.{asks, question-asked, told_by}
 use Rattle.vf_desk.proofs.ListLaws.{listed-closed}
 use Rattle.vf_desk.proofs.SeenLaws.{closed-said, empty-seen, in-handle}

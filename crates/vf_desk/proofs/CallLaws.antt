@@ -4,7 +4,7 @@ use Rattle.vf_desk.proofs.Common.{Called, IsAsked, called, desk_by, in_form, sta
 use Rattle.rh_defs.specs.declared.command.Command.TheVariants as command
 use Rattle.vf_desk.specs.declared.desk.VfDesk.{VfDesk}
 use Rattle.vf_desk.specs.Called.{Asks, DoesCalled}
-use Rattle.vf_desk.specs.Seen.{IsSeenDesk}
+use Rattle.vf_desk.specs.SeenDesk.{IsSeenDesk}
 
 module _ {command form : Option Command} (old : VfDesk) {said : Called} (same : form ≡ command)
     (says : (s : Option Desk) → IsSeenDesk old s → said ≡ called s form) where

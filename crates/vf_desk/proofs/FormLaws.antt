@@ -9,7 +9,7 @@ use Rattle.std.proofs.Common.{arith}
 use Rattle.rh_defs.specs.Forms.{is_anchor, is_number}
 use Rattle.rh_defs.specs.Grammar.{Anchor, Size}
 use Rattle.rh_defs.specs.Range.{is_of}
-use Rattle.vf_desk.specs.Forms.{anchor_in, name_read}
+use Rattle.vf_desk.specs.DeskForms.{anchor_in, name_read}
 
 -- what isn't in range is no command
 pub out-of-form : (c : Command) → in_range c ≡ false → None ≡ in_form c

@@ -5,9 +5,9 @@ use Rattle.rh_console.specs.Console.{Prints}
 use Rattle.rh_console.specs.Said.{said_text}
 use Rattle.rh_defs.specs.Order.{IsReordered}
 use Rattle.rh_defs.specs.Script.{line_desk, line_text}
-use Rattle.vf_desk.specs.Lines.{Fills, Replies, desk_after, kept_text, line_status}
-use Rattle.vf_desk.specs.Seen.{files_in}
-use Rattle.vf_desk.specs.Status.{short}
+use Rattle.vf_desk.specs.DeskLines.{Fills, Replies, desk_after, kept_text, line_status}
+use Rattle.vf_desk.specs.SeenDesk.{files_in}
+use Rattle.vf_desk.specs.DeskStatus.{short}
 
 -- a line on a desk that isn't open
 takes_none : (line : List ℕ) (console : Option Console) → console ≡ None → (held : Option Station) → console_in held ≡ console

@@ -10,9 +10,9 @@ use Rattle.rh_defs.specs.Chain.{Granted}
 use Rattle.rh_defs.specs.Questions.{Blocks, Bytes, Nothing, Records, block_items, in_item, out_item, status_at, Told, asked, blocks, status}
 use Rattle.rh_defs.specs.Range.{can_be_asked}
 use Rattle.rh_defs.proofs.QuestionLaws.{asked-alike}
-use Rattle.rh_tasks.specs.Lists.{blocks_of}
+use Rattle.rh_tasks.specs.WorldLists.{blocks_of}
 use Rattle.rh_script.proofs.PrintLemmas.{refused_alike}
-use Rattle.vf_desk.specs.Items.{blocks_listed, bytes_listed, incoming_in, listed_with, outgoing_in}
+use Rattle.vf_desk.specs.DeskItems.{blocks_listed, bytes_listed, incoming_in, listed_with, outgoing_in}
 
 pub map-map : {A B C : Type 0} (f : B → C) (g : A → B) (xs : List A) → map f (map g xs) ≡ map (λ x. f (g x)) xs
 map-map f g [] = refl

@@ -10,9 +10,9 @@ use Rattle.rh_defs.specs.Order.{IsReordered, requeued}
 use Rattle.rh_defs.specs.Post.{Post, post_poll}
 use Rattle.rh_defs.proofs.Orders.{AnswerAlike, post_poll-alike}
 use Rattle.rh_tasks.specs.Sights.{next_message}
-use Rattle.rh_wimp.specs.Items.{with_message}
+use Rattle.rh_wimp.specs.QueueItems.{with_message}
 use Rattle.vf_desk.specs.Next.{code_or, next_in, next_on, next_parcel, status_of_next}
-use Rattle.vf_desk.specs.Status.{bad_argument, refusal_number}
+use Rattle.vf_desk.specs.DeskStatus.{bad_argument, refusal_number}
 
 same-answer : {B : Type 0} {x y : Post × B} → AnswerAlike x y → y.1 ≡ x.1
 same-answer (AnswerAlike.alike post queue x same) = refl

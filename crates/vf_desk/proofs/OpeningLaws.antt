@@ -2,8 +2,8 @@
 use Rattle.vf_desk.proofs.Common.{◌≡◌, ℕ, List, [], ◌∷◌, ◌++◌, length, Option, Some, None, inl, inr, refl, sym, ap, subst, ◌∙◌, ◌≢◌, ◌⊎◌, ◌==◌, ◌||◌, nat_lt}
 use Rattle.vf_desk.proofs.Common.{not, is_some, if◌then◌else◌, Console, Station, console_in, is_name}
 use Rattle.vf_desk.specs.Opening.{Adds, IsFresh, Opens, Tries, file_status, opening_status}
-use Rattle.vf_desk.specs.Seen.{files_in}
-use Rattle.vf_desk.specs.Status.{already_open, bad_argument, bad_length, file_exists, no_memory}
+use Rattle.vf_desk.specs.SeenDesk.{files_in}
+use Rattle.vf_desk.specs.DeskStatus.{already_open, bad_argument, bad_length, file_exists, no_memory}
 use Rattle.rh_defs.specs.declared.sizes.TheConstants.{LONGEST_FILE, MAX_PAGES, MIN_PAGES}
 use Rattle.rh_defs.specs.Files.{FileList, has_file}
 

@@ -71,7 +71,7 @@ abbrev pub heap_al : Al
 heap_al = al Station.the_row heap.the_row heap_laws.the_row_laws ghosts
 
 abbrev pub owned : heap.the_row.Denot → Ptr → Option Station.the_row.Denot → base.Fml.Fml
-owned = Rattle.vf_desk.specs.Ownership.handle_owns
+owned = Rattle.vf_desk.specs.HandleOwnership.handle_owns
 
 module _ {M : Type 1} {𝓤 : Ura M} {𝓛 : Logic 𝓤} {K : Type 0} {Γ : List (Item 𝓤)} {G : Goal 𝓤 𝓛.H} where
   -- what a handle owns: what its station says, and the heap's handle

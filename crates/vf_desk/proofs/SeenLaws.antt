@@ -9,7 +9,7 @@ use Rattle.rh_tasks.specs.Shown.{Shown}
 use Rattle.vf_desk.specs.declared.called.Called.TheVariants.{Closed, BadArgument, Said}
 use Rattle.vf_desk.specs.Called.{Steps}
 use Rattle.vf_desk.proofs.FormLaws.{in-its-form, out-of-form}
-use Rattle.vf_desk.specs.Seen.{said_in}
+use Rattle.vf_desk.specs.SeenDesk.{said_in}
 
 -- ---- a closed desk
 

@@ -17,10 +17,10 @@ use Rattle.rh_defs.specs.Slot.{heap_start}
 use Rattle.rh_defs.specs.Questions.{Segments, segment_item, segment_items, segment_items_from, heap}
 use Rattle.rh_defs.proofs.Cuts.{total-append}
 use Rattle.rh_heap.specs.Listed.{from_cut}
-use Rattle.rh_tasks.specs.Lists.{segment_items_at}
-use Rattle.rh_script.specs.Named.{item_end, segments_of_named, slot_or_empty}
+use Rattle.rh_tasks.specs.WorldLists.{segment_items_at}
+use Rattle.rh_script.specs.NamedSlots.{item_end, segments_of_named, slot_or_empty}
 use Rattle.rh_script.proofs.SegmentLemmas.{AllSized, sized}
-use Rattle.vf_desk.specs.Items.{listed_with, as_segment, segments_listed}
+use Rattle.vf_desk.specs.DeskItems.{listed_with, as_segment, segments_listed}
 use Rattle.vf_desk.specs.declared.items.VfSegment.{VfSegment}
 use Rattle.vf_desk.proofs.FillLaws.{filled-behind, filled-none, map-append}
 use Rattle.vf_desk.proofs.ListLaws.{map-length}

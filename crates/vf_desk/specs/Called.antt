@@ -16,8 +16,8 @@ use Rattle.vf_desk.specs.declared.called.Called.{Called}
 use Rattle.vf_desk.specs.declared.called.Called.TheVariants.{Closed, BadArgument, Said}
 use Rattle.vf_desk.specs.declared.desk.VfDesk.{VfDesk}
 use Rattle.vf_desk.specs.declared.items.VfHeapSums.{VfHeapSums}
-use Rattle.vf_desk.specs.Seen.{IsSeenDesk, KeepsRest}
-use Rattle.vf_desk.specs.Status.{bad_argument, closed_status, refusal_number}
+use Rattle.vf_desk.specs.SeenDesk.{IsSeenDesk, KeepsRest}
+use Rattle.vf_desk.specs.DeskStatus.{bad_argument, closed_status, refusal_number}
 
 -- a command whose numbers, names and bytes are of their forms, or none
 abbrev pub in_form : Command → Option Command

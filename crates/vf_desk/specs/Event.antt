@@ -9,7 +9,7 @@ use Rattle.vf_desk.specs.declared.called.Called.{Called}
 use Rattle.vf_desk.specs.declared.called.Called.TheVariants.{Said}
 use Rattle.vf_desk.specs.declared.event.Deed.{Deed}
 use Rattle.vf_desk.specs.declared.event.VfEvent.{VfEvent}
-use Rattle.vf_desk.specs.Status.{refusal_number}
+use Rattle.vf_desk.specs.DeskStatus.{refusal_number}
 
 -- what was done with a message: the deed, the bytes that were moved, the ref of the message that was sent, the refusal
 abbrev pub deed_with : ℕ → ℕ → ℕ → ℕ → Deed

@@ -5,7 +5,7 @@ use Rattle.rh_defs.specs.Desk.{Desk}
 use Rattle.rh_defs.specs.Forms.{is_name}
 use Rattle.rh_defs.specs.Messages.{Parcel, code_number}
 use Rattle.rh_tasks.specs.Sights.{next_message}
-use Rattle.vf_desk.specs.Status.{bad_argument, closed_status, refusal_number}
+use Rattle.vf_desk.specs.DeskStatus.{bad_argument, closed_status, refusal_number}
 
 -- a message, or none; or the status of why that isn't told
 abbrev pub Next : Type 0

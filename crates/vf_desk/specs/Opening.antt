@@ -7,8 +7,8 @@ use Rattle.rh_defs.specs.declared.sizes.TheConstants.{MAX_PAGES, MIN_PAGES, LONG
 use Rattle.rh_console.specs.declared.console.Console.{Console}
 use Rattle.rh_console.specs.declared.said.Said.TheVariants as said
 use Rattle.vf_desk.specs.declared.station.Station.{Station}
-use Rattle.vf_desk.specs.Seen.{console_in, files_in}
-use Rattle.vf_desk.specs.Status.{already_open, bad_argument, bad_length, file_exists, no_memory}
+use Rattle.vf_desk.specs.SeenDesk.{console_in, files_in}
+use Rattle.vf_desk.specs.DeskStatus.{already_open, bad_argument, bad_length, file_exists, no_memory}
 
 -- 0 where a file can be added, if memory is granted
 abbrev pub file_status : Option Station → List ℕ → List ℕ → ℕ

@@ -1,7 +1,7 @@
 //! What a poll took and did, as a struct of numbers.
 ghost use Rattle.std.specs.Prelude.{◌≡◌};
 ghost use Rattle.vf_desk.specs.Called.{status_of};
-ghost use Rattle.vf_desk.specs.Status.{refusal_number};
+ghost use Rattle.vf_desk.specs.DeskStatus.{refusal_number};
 ghost use Rattle.vf_desk.specs.Event.{deed_of, deed_with, event_or};
 
 use crate::called::Called;

@@ -4,7 +4,7 @@
 //! a value that has lists in it.
 ghost use Rattle.std.specs.Prelude.{◌≡◌, Option, Some, None, IsSome};
 ghost use Rattle.vf_desk.specs.declared.station.Station.{Station};
-ghost use Rattle.vf_desk.specs.Ownership.{handle_owns};
+ghost use Rattle.vf_desk.specs.HandleOwnership.{handle_owns};
 
 mod unboxed;
 

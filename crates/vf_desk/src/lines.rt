@@ -3,7 +3,7 @@ ghost use Rattle.std.specs.Prelude.{◌≡◌, Some};
 ghost use Rattle.rh_defs.specs.Desk.{Desk};
 ghost use Rattle.rh_defs.specs.Order.{IsReordered};
 ghost use Rattle.rh_console.specs.Said.{said_text};
-ghost use Rattle.vf_desk.specs.Lines.{Fills, Replies, TakesLine};
+ghost use Rattle.vf_desk.specs.DeskLines.{Fills, Replies, TakesLine};
 
 use crate::desk::VfDesk;
 use crate::station::Station;

@@ -1,9 +1,9 @@
 //! The message that a task's next poll would take, as its block.
 ghost use Rattle.std.specs.Prelude.{◌≡◌, Option};
 ghost use Rattle.rh_defs.specs.Desk.{Desk};
-ghost use Rattle.rh_wimp.specs.Items.{with_message};
+ghost use Rattle.rh_wimp.specs.QueueItems.{with_message};
 ghost use Rattle.vf_desk.specs.Next.{code_or, next_in, next_parcel, status_of_next};
-ghost use Rattle.vf_desk.specs.Seen.{IsSeenDesk, SeenBy};
+ghost use Rattle.vf_desk.specs.SeenDesk.{IsSeenDesk, SeenBy};
 
 use crate::desk::VfDesk;
 use crate::forms::name_of;

@@ -3,7 +3,7 @@ ghost use Rattle.std.specs.Prelude.{◌≡◌, ◌≤◌, ◌⊎◌, ◌++◌, �
 ghost use Rattle.rh_defs.specs.Files.{has_file};
 ghost use Rattle.vf_desk.specs.Opening.{Adds, Opens, opening_status};
 ghost use Rattle.rh_defs.specs.declared.sizes.TheConstants.{LONGEST_FILE};
-ghost use Rattle.vf_desk.specs.Status.{no_memory};
+ghost use Rattle.vf_desk.specs.DeskStatus.{no_memory};
 
 use crate::desk::VfDesk;
 use crate::forms::name_of;

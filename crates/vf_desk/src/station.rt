@@ -4,7 +4,7 @@ ghost use Rattle.rh_defs.specs.Desk.{Desk};
 ghost use Rattle.rh_defs.specs.Range.{in_range};
 ghost use Rattle.rh_defs.specs.declared.command.Command.TheVariants as Command;
 ghost use Rattle.vf_desk.specs.Called.{IsAsked, Steps, called, desk_by, in_form, status_of};
-ghost use Rattle.vf_desk.specs.Seen.{KeepsRest, SeenBy};
+ghost use Rattle.vf_desk.specs.SeenDesk.{KeepsRest, SeenBy};
 
 use crate::called::Called;
 use crate::forms::{anchor_of, name_of};

@@ -1,6 +1,6 @@
 //! Statuses: how a call ended, as a number. The header for C has the same numbers.
 ghost use Rattle.std.specs.Prelude.{◌≡◌};
-ghost use Rattle.vf_desk.specs.Status.{refusal_number};
+ghost use Rattle.vf_desk.specs.DeskStatus.{refusal_number};
 
 use rh_defs::Refusal;
 

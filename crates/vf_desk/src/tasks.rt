@@ -4,8 +4,8 @@ ghost use Rattle.rh_defs.specs.Desk.{Desk};
 ghost use Rattle.rh_defs.specs.declared.command.Command.TheVariants as Command;
 ghost use Rattle.vf_desk.specs.Called.{DoesCalled, called, in_form, number_or};
 ghost use Rattle.vf_desk.specs.Event.{event_or};
-ghost use Rattle.vf_desk.specs.Forms.{id_in, manner_at, task_form};
-ghost use Rattle.vf_desk.specs.Seen.{IsSeenDesk};
+ghost use Rattle.vf_desk.specs.DeskForms.{id_in, manner_at, task_form};
+ghost use Rattle.vf_desk.specs.SeenDesk.{IsSeenDesk};
 
 use crate::desk::VfDesk;
 use crate::event::{VfEvent, told_event};

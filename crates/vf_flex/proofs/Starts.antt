@@ -7,7 +7,7 @@ use Rattle.rh_defs.specs.Slot.{new_slot, slot_begin}
 use Rattle.rh_defs.specs.declared.refusal.Refusal.{Refusal}
 use Rattle.rh_flex.specs.declared.slot.LentSlot.{LentSlot}
 use Rattle.rh_slot.specs.declared.image.TheConstants.{LONGEST_SLOT}
-use Rattle.vf_flex.specs.Status.{length_status, slot_status}
+use Rattle.vf_flex.specs.SlotStatus.{length_status, slot_status}
 
 begins : (n : ℕ) → 1 ≤ n → slot_begin n ≡ Ok new_slot
 unfolding slot_begin ◌>>=◌ refuse_if

@@ -1,2 +1,2 @@
-pub mod Calls
-pub mod Status
+pub mod LentSlotCalls
+pub mod SlotStatus

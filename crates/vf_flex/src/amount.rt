@@ -1,6 +1,6 @@
 //! Amounts of a caller in C, in as many bits as a slot's calls take. No slot has room for more.
 ghost use Rattle.std.specs.Prelude.{◌≡◌};
-ghost use Rattle.vf_flex.specs.Calls.{nearest, nearest_amount};
+ghost use Rattle.vf_flex.specs.LentSlotCalls.{nearest, nearest_amount};
 
 /// A number of bytes, or the greatest of 32 bits where it has more.
 pub fn nearest(n: usize) -> u32

@@ -3,9 +3,9 @@ ghost use Rattle.std.specs.Prelude.{◌≡◌, ◌≢◌, length};
 ghost use Rattle.rh_defs.specs.Chain.{answer_of};
 ghost use Rattle.rh_defs.specs.Heap.{free_bytes, largest};
 ghost use Rattle.rh_flex.specs.Slots.{lent_slot_in};
-ghost use Rattle.vf_flex.specs.Calls.{AreLeft, LeavesLentSlot, RefusesInput};
-ghost use Rattle.vf_flex.specs.Calls.{claim_granted, release_granted, resize_granted, size_at};
-ghost use Rattle.vf_flex.specs.Status.{answer_or, answer_status, place_or, place_status, slot_status, status_of};
+ghost use Rattle.vf_flex.specs.LentSlotCalls.{AreLeft, LeavesLentSlot, RefusesInput};
+ghost use Rattle.vf_flex.specs.LentSlotCalls.{claim_granted, release_granted, resize_granted, size_at};
+ghost use Rattle.vf_flex.specs.SlotStatus.{answer_or, answer_status, place_or, place_status, slot_status, status_of};
 
 use crate::amount::{nearest, nearest_amount};
 use crate::input::{place_status, slot_status};

@@ -4,11 +4,11 @@ ghost use Rattle.rh_defs.specs.Chain.{answer_of, outcome_of, result_or};
 ghost use Rattle.rh_defs.specs.Heap.{free_bytes, largest};
 ghost use Rattle.rh_defs.specs.Slot.{slot_address, slot_read, slot_size};
 ghost use Rattle.rh_flex.specs.Slots.{IsSlotBytes, lent_slot_in};
-ghost use Rattle.vf_flex.specs.Calls.{LeavesLentSlot, RefusesInput, size_at};
-ghost use Rattle.vf_flex.specs.Calls.{alloc_granted, extend_granted, free_granted, mid_granted, put_granted};
-ghost use Rattle.vf_flex.specs.Calls.{claim_granted, release_granted, resize_granted};
-ghost use Rattle.vf_flex.specs.Status.{answer_or, answer_status, place_or, status_of};
-ghost use Rattle.vf_flex.specs.Status.{checked_anchor_status, checked_place_status, image_status};
+ghost use Rattle.vf_flex.specs.LentSlotCalls.{LeavesLentSlot, RefusesInput, size_at};
+ghost use Rattle.vf_flex.specs.LentSlotCalls.{alloc_granted, extend_granted, free_granted, mid_granted, put_granted};
+ghost use Rattle.vf_flex.specs.LentSlotCalls.{claim_granted, release_granted, resize_granted};
+ghost use Rattle.vf_flex.specs.SlotStatus.{answer_or, answer_status, place_or, status_of};
+ghost use Rattle.vf_flex.specs.SlotStatus.{checked_anchor_status, checked_place_status, image_status};
 
 use crate::image::{checked_anchor_status, checked_place_status, image_status};
 use crate::status::OK;

@@ -3,9 +3,9 @@ ghost use Rattle.std.specs.Prelude.{◌≡◌, ◌≢◌, length};
 ghost use Rattle.rh_defs.specs.Chain.{answer_of, outcome_of, result_or};
 ghost use Rattle.rh_defs.specs.Slot.{slot_address, slot_read, slot_size};
 ghost use Rattle.rh_flex.specs.Slots.{lent_slot_in};
-ghost use Rattle.vf_flex.specs.Calls.{AreLeft, LeavesLentSlot, RefusesInput};
-ghost use Rattle.vf_flex.specs.Calls.{alloc_granted, extend_granted, free_granted, mid_granted, put_granted};
-ghost use Rattle.vf_flex.specs.Status.{anchor_status, answer_or, answer_status, place_or, status_of};
+ghost use Rattle.vf_flex.specs.LentSlotCalls.{AreLeft, LeavesLentSlot, RefusesInput};
+ghost use Rattle.vf_flex.specs.LentSlotCalls.{alloc_granted, extend_granted, free_granted, mid_granted, put_granted};
+ghost use Rattle.vf_flex.specs.SlotStatus.{anchor_status, answer_or, answer_status, place_or, status_of};
 
 use crate::amount::{nearest, nearest_amount};
 use crate::input::anchor_status;

@@ -2,7 +2,7 @@
 ghost use Rattle.std.specs.Prelude.{◌≡◌, ◌<◌};
 ghost use Rattle.rh_defs.specs.declared.sizes.TheConstants.{ANCHORS};
 ghost use Rattle.rh_slot.specs.declared.image.TheConstants.{LONGEST_SLOT};
-ghost use Rattle.vf_flex.specs.Status.{anchor_status, length_status, place_status, slot_status};
+ghost use Rattle.vf_flex.specs.SlotStatus.{anchor_status, length_status, place_status, slot_status};
 
 use crate::status::{BAD_ANCHOR, BAD_LENGTH, NO_SLOT, NOT_A_BLOCK, OK, SHORT};
 use rh_defs::sizes::{ANCHORS, PAGE};

@@ -2,7 +2,7 @@
 ghost use Rattle.std.specs.Prelude.{◌≡◌, ◌≢◌, List, ℕ, length};
 ghost use Rattle.rh_defs.specs.Slot.{new_slot, slot_set_budge};
 ghost use Rattle.rh_flex.specs.Slots.{IsSlotBytes, lent_slot_in};
-ghost use Rattle.vf_flex.specs.Status.{length_status};
+ghost use Rattle.vf_flex.specs.SlotStatus.{length_status};
 
 use crate::input::length_status;
 use crate::status::{OK, refusal_status};

@@ -12,7 +12,7 @@ use Rattle.rh_defs.specs.declared.heap.HeapRefusal.{HeapRefusal}
 use Rattle.rh_defs.specs.declared.heap.HeapRefusal.TheVariants.{NoRoom}
 use Rattle.rh_heap.proofs.ClaimLaws.{claim_refused, top_shortage}
 use Rattle.rh_lent.specs.Heaps.{IsHeapBytes, LeavesBytes}
-use Rattle.vf_heap.specs.Calls.{LeavesLentHeap}
+use Rattle.vf_heap.specs.LentHeapCalls.{LeavesLentHeap}
 
 -- no hole has more bytes than all segments together
 pub no_hole : (t p : ℕ) (ss : List Segment) → total size_of ss < t → first_at size_of (is_hole_for t) p ss ≡ None

@@ -8,7 +8,7 @@ use Rattle.rh_defs.specs.HeapImage.{heap_of}
 use Rattle.rh_defs.specs.Pieces.{moved}
 use Rattle.rh_defs.specs.declared.heap.HeapRefusal.{HeapRefusal}
 use Rattle.rh_lent.specs.Heaps.{LeavesBytes}
-use Rattle.vf_heap.specs.Status.{answer_status, bad_length, extend_status, short}
+use Rattle.vf_heap.specs.HeapStatus.{answer_status, bad_length, extend_status, short}
 
 -- the new end lies beyond the bytes
 pub beyond : (n e : ℕ) (d : ℤ) (h : Heap) → e ≡ moved h.end d → n < e → extend_status n d h ≡ short

@@ -9,7 +9,7 @@ use Rattle.rh_defs.proofs.HeapLaws.{heap_of-Spells}
 use Rattle.rh_defs.proofs.ModuleLaws.{Spells-kept}
 use Rattle.rh_lent.specs.Heaps.{IsHeapBytes}
 use Rattle.rh_store.specs.Limits.{area_limit}
-use Rattle.vf_heap.specs.Status.{found_status, image_status}
+use Rattle.vf_heap.specs.HeapStatus.{found_status, image_status}
 
 same_back : (b c : List ℕ) (lo hi : ℕ) → SameIn b c lo hi → SameIn c b lo hi
 same_back b c lo hi s = record { each = λ k l m. sym (s.each k l m) }

@@ -1,2 +1,2 @@
-pub mod Status
-pub mod Calls
+pub mod HeapStatus
+pub mod LentHeapCalls

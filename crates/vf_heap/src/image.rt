@@ -1,7 +1,7 @@
 //! Whether bytes from anywhere begin with a heap.
 ghost use Rattle.std.specs.Prelude.{◌≡◌, length};
 ghost use Rattle.rh_lent.specs.Heaps.{IsHeapBytes};
-ghost use Rattle.vf_heap.specs.Status.{image_status, length_status};
+ghost use Rattle.vf_heap.specs.HeapStatus.{image_status, length_status};
 
 use crate::status::{BAD_DESCRIPTOR, BAD_LENGTH, OK, SHORT, fault_status};
 use rh_defs::sizes::{HEAP_END, HEAP_FIRST, HEAP_SPECIAL, HEAP_UNIT, HEAP_WORD};

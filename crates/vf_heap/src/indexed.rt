@@ -7,8 +7,8 @@ ghost use Rattle.rh_defs.specs.HeapImage.{heap_of};
 ghost use Rattle.rh_store.specs.Starts.{IsIndex};
 ghost use Rattle.rh_store.specs.declared.starts.TheConstants.{LINE_BYTES};
 ghost use Rattle.rh_lent.specs.Heaps.{IsHeapBytes};
-ghost use Rattle.vf_heap.specs.Status.{answer_or, answer_status, map_status, map_words, number_or, status_of};
-ghost use Rattle.vf_heap.specs.Calls.{LeavesLentHeap, IsFar, size_at};
+ghost use Rattle.vf_heap.specs.HeapStatus.{answer_or, answer_status, map_status, map_words, number_or, status_of};
+ghost use Rattle.vf_heap.specs.LentHeapCalls.{LeavesLentHeap, IsFar, size_at};
 
 use crate::plain::far_refusal;
 use crate::status::{NO_ROOM, OK, SHORT, outcome_status, refusal_status, told};

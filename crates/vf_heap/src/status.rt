@@ -1,6 +1,6 @@
 //! Statuses: how a call ended, as a number. The header for C has the same numbers.
 ghost use Rattle.std.specs.Prelude.{◌≡◌};
-ghost use Rattle.vf_heap.specs.Status.{answer_or, answer_status, fault_status, refusal_status};
+ghost use Rattle.vf_heap.specs.HeapStatus.{answer_or, answer_status, fault_status, refusal_status};
 
 use rh_defs::{HeapFault, HeapRefusal};
 

@@ -1,7 +1,7 @@
 -- Worked rows of statuses: what a call is lent, and how it ends.
 use Rattle.std.specs.Prelude.{◌≡◌, refl, [], ◌∷◌, true, false}
 use Rattle.vf_web.specs.Packed.{files_in, packed_files, files_within, front_file, named_file}
-use Rattle.vf_web.specs.Status.{lent_status, text_status}
+use Rattle.vf_web.specs.PageStatus.{lent_status, text_status}
 use Rattle.rh_defs.specs.Bytes.{word}
 
 -- eight pages are 32,768 bytes, and 568 numbers say whose they are

@@ -12,7 +12,7 @@ use Rattle.rh_lines.specs.declared.whole_text.WholeText.{WholeText}
 use Rattle.rh_painted.specs.Painted.{IsSheet, Painted}
 use Rattle.rh_session.specs.Outcome.{Finished, status_of}
 use Rattle.rh_session.specs.declared.status.Status.{Status}
-use Rattle.vf_web.specs.Status.{bad_status, status_number}
+use Rattle.vf_web.specs.PageStatus.{bad_status, status_number}
 
 -- the text was written to the bytes that were lent, and the status says whether something was bad
 pub record Ended (old new : WholeText) (text : List ℕ) (bad : Bool) (status : Status) : Type 0 where

@@ -1,4 +1,4 @@
-pub mod Calls
 pub mod Packed
+pub mod PageCalls
+pub mod PageStatus
 pub mod Room
-pub mod Status

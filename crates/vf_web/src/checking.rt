@@ -2,10 +2,10 @@
 
 ghost use Rattle.std.specs.Prelude.{◌≡◌, is_some};
 ghost use Rattle.rh_defs.specs.HeapImage.{fault_of};
-ghost use Rattle.rh_slot.specs.Image.{slot_fault_of};
+ghost use Rattle.rh_slot.specs.SlotChecks.{slot_fault_of};
 ghost use Rattle.rh_run.specs.Checked.{image_line};
 ghost use Rattle.rh_run.specs.CheckedSlot.{slot_image_line};
-ghost use Rattle.vf_web.specs.Calls.{ToldText};
+ghost use Rattle.vf_web.specs.PageCalls.{ToldText};
 
 use crate::running::told;
 use rh_lines::WholeText;

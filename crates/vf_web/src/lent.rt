@@ -4,7 +4,7 @@ ghost use Rattle.std.specs.Prelude.{◌≡◌, ◌≢◌, ◌≤◌, IfErr, IfOk
 ghost use Rattle.rh_feed.specs.declared.feeding.TheConstants.{LONGEST_SCRIPT};
 ghost use Rattle.vf_web.specs.Packed.{files_of};
 ghost use Rattle.vf_web.specs.Room.{has_room_for};
-ghost use Rattle.vf_web.specs.Status.{lent_status};
+ghost use Rattle.vf_web.specs.PageStatus.{lent_status};
 
 use crate::files::LentFiles;
 use crate::memory::has_room;
@@ -13,7 +13,7 @@ use rh_feed::LONGEST_SCRIPT;
 
 /// The files for a script of so many bytes, which is to run over so many pages in so much memory; or the status of a
 /// call that can't run it.
-#[tactic(auto, unfolding(crate::specs::Status::lent_status))]
+#[tactic(auto, unfolding(crate::specs::PageStatus::lent_status))]
 pub fn lent_files<'a>(
     pages: u32,
     bytes: usize,

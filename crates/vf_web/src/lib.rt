@@ -17,13 +17,13 @@ ghost use Rattle.std.specs.Prelude.{◌≡◌, ◌≢◌, ◌<◌, is_some, leng
 ghost use Rattle.rh_defs.specs.HeapImage.{fault_of};
 ghost use Rattle.rh_defs.specs.Runs.{start};
 ghost use Rattle.rh_defs.specs.Script.{script_text, has_bad_line};
-ghost use Rattle.rh_slot.specs.Image.{slot_fault_of};
+ghost use Rattle.rh_slot.specs.SlotChecks.{slot_fault_of};
 ghost use Rattle.rh_figure.specs.Map.{map_start};
 ghost use Rattle.rh_run.specs.Checked.{image_line};
 ghost use Rattle.rh_run.specs.CheckedSlot.{slot_image_line};
-ghost use Rattle.vf_web.specs.Calls.{MapTold, SheetTold, ToldText, Untouched};
+ghost use Rattle.vf_web.specs.PageCalls.{MapTold, SheetTold, ToldText, Untouched};
 ghost use Rattle.vf_web.specs.Packed.{files_of};
-ghost use Rattle.vf_web.specs.Status.{lent_status};
+ghost use Rattle.vf_web.specs.PageStatus.{lent_status};
 
 use crate::lent::lent_files;
 use crate::memory::store_over;

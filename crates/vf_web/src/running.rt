@@ -7,8 +7,8 @@ ghost use Rattle.rh_defs.specs.Script.{has_bad_line, script_text};
 ghost use Rattle.rh_defs.specs.declared.sizes.TheConstants.{MAX_PAGES, MIN_PAGES};
 ghost use Rattle.rh_feed.specs.declared.feeding.TheConstants.{LONGEST_SCRIPT};
 ghost use Rattle.rh_figure.specs.Map.{map_start};
-ghost use Rattle.vf_web.specs.Calls.{MapTold, SheetTold, ToldText};
-ghost use Rattle.vf_web.specs.Status.{status_number};
+ghost use Rattle.vf_web.specs.PageCalls.{MapTold, SheetTold, ToldText};
+ghost use Rattle.vf_web.specs.PageStatus.{status_number};
 ghost use Rattle.vf_web.specs.declared.status.TheConstants.{SHORT_TEXT};
 
 use crate::status::{DONE, SHORT_TEXT, SOME_BAD};

@@ -1,12 +1,12 @@
 //! A queue that is compared with plain lists at each call.
 
 ghost use Rattle.std.specs.Prelude.{◌≡◌, [], ◌∷◌, IfOk};
-ghost use Rattle.rh_wimp.specs.Calls.{handles_of, IsQueue};
+ghost use Rattle.rh_wimp.specs.QueueCalls.{handles_of, IsQueue};
 ghost use Rattle.rh_wimp.specs.Chains.{HasEntry};
 ghost use Rattle.rh_defs.specs.Memory.{Memory};
-ghost use Rattle.rh_module.specs.Area.{IsModule};
+ghost use Rattle.rh_module.specs.ModuleArea.{IsModule};
 ghost use Rattle.rh_module.specs.declared.module.Module.{Module as SpecModule};
-ghost use Rattle.wimp_tests.specs.Runs.{Runs};
+ghost use Rattle.wimp_tests.specs.TestRuns.{Runs};
 
 use crate::lists::{Lists, Sent};
 use crate::same::same;

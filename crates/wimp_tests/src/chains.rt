@@ -1,7 +1,7 @@
 //! Chains of messages in blocks of the module area.
 
 ghost use Rattle.std.specs.Prelude.{◌≡◌, ◌<◌};
-ghost use Rattle.wimp_tests.specs.Runs.{Runs};
+ghost use Rattle.wimp_tests.specs.TestRuns.{Runs};
 
 use crate::bench::{Bench, recorded};
 use crate::lists::Sent;

@@ -1,4 +1,4 @@
-use Rattle.rh_heap.specs.Spans.{IsSpan}
+use Rattle.rh_heap.specs.HeapSpans.{IsSpan}
 use Rattle.heap_bench.proofs.go_round.Given as goal
 
 -- the span spells a heap

@@ -3,8 +3,8 @@ ghost use Rattle.std.specs.Prelude.{◌≡◌, ◌≢◌, ℕ, ◌+◌, ◌-◌,
 ghost use Rattle.rh_defs.specs.Bytes.{word, part};
 ghost use Rattle.rh_defs.specs.Memory.{Memory, IsOpen, Edited, bytes};
 ghost use Rattle.rh_defs.specs.Heap.{Heap, hole_for, shortage_in, base, claim_block, claim_need};
-ghost use Rattle.rh_heap.specs.Spans.{IsSpan, OnlySpan, bytes_in, heap_in};
-ghost use Rattle.rh_heap.specs.Calls.{LeavesHeap};
+ghost use Rattle.rh_heap.specs.HeapSpans.{IsSpan, OnlySpan, bytes_in, heap_in};
+ghost use Rattle.rh_heap.specs.HeapCalls.{LeavesHeap};
 ghost use Rattle.rh_heap.specs.Claims.{Took};
 ghost use Rattle.rh_heap.specs.Holes.{FoundHole};
 ghost use Rattle.rh_defs.specs.declared.sizes.TheConstants.{HEAP_UNIT};

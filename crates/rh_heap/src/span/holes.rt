@@ -2,7 +2,7 @@
 ghost use Rattle.std.specs.Prelude.{◌≡◌, ℕ, ◌+◌, ◌<◌, ◌≤◌, length, None, MatchOption};
 ghost use Rattle.rh_defs.specs.Memory.{Memory, IsOpen, bytes};
 ghost use Rattle.rh_defs.specs.Heap.{hole_for, largest, free_bytes};
-ghost use Rattle.rh_heap.specs.Spans.{IsSpan, bytes_in, heap_in};
+ghost use Rattle.rh_heap.specs.HeapSpans.{IsSpan, bytes_in, heap_in};
 ghost use Rattle.rh_heap.specs.Holes.{FoundHole};
 ghost use Rattle.rh_heap.specs.Segments.{LastHole, NoHole};
 ghost use Rattle.rh_defs.specs.declared.sizes.TheConstants.{HEAP_FIRST, HEAP_FREE};

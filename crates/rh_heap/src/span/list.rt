@@ -1,6 +1,6 @@
 //! The segments of a heap one after the other, many at once.
 ghost use Rattle.std.specs.Prelude.{◌≡◌};
-ghost use Rattle.rh_heap.specs.Spans.{IsSpan, heap_in};
+ghost use Rattle.rh_heap.specs.HeapSpans.{IsSpan, heap_in};
 ghost use Rattle.rh_heap.specs.Listed.{segments_from};
 
 use crate::layout::{HOLE_SIZE, Segment};

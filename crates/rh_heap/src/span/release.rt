@@ -3,8 +3,8 @@ ghost use Rattle.std.specs.Prelude.{◌≡◌, ℕ, ◌+◌};
 ghost use Rattle.rh_defs.specs.Memory.{Memory, IsOpen, Edited, bytes};
 ghost use Rattle.rh_defs.specs.Chain.{no_answer};
 ghost use Rattle.rh_defs.specs.Heap.{release_block, released_at};
-ghost use Rattle.rh_heap.specs.Spans.{IsSpan, OnlySpan, SpellsHeapIn, heap_in};
-ghost use Rattle.rh_heap.specs.Calls.{LeavesHeap};
+ghost use Rattle.rh_heap.specs.HeapSpans.{IsSpan, OnlySpan, SpellsHeapIn, heap_in};
+ghost use Rattle.rh_heap.specs.HeapCalls.{LeavesHeap};
 ghost use Rattle.rh_heap.specs.Segments.{FoundBlock};
 ghost use Rattle.rh_heap.specs.declared.layout.TheConstants.{BLOCK};
 

@@ -3,10 +3,10 @@ ghost use Rattle.std.specs.Prelude.{◌≡◌, ◌≢◌, ℕ, ℤ, ◌+◌, ◌
 ghost use Rattle.rh_defs.specs.Bytes.{word, part};
 ghost use Rattle.rh_defs.specs.Memory.{Memory, IsOpen, Edited, bytes};
 ghost use Rattle.rh_defs.specs.Heap.{hole_for, shortage_in, block_at, base, resize_block, need_at};
-ghost use Rattle.rh_heap.specs.Spans.{IsSpan, OnlySpan, bytes_in, heap_in};
-ghost use Rattle.rh_heap.specs.Calls.{LeavesHeap};
+ghost use Rattle.rh_heap.specs.HeapSpans.{IsSpan, OnlySpan, bytes_in, heap_in};
+ghost use Rattle.rh_heap.specs.HeapCalls.{LeavesHeap};
 ghost use Rattle.rh_heap.specs.Segments.{FoundBlock};
-ghost use Rattle.rh_heap.specs.Ways.{WayOf, ShortBy, Changed, NotChanged, WithBlock, SpellsResized, Moved};
+ghost use Rattle.rh_heap.specs.HeapWays.{WayOf, ShortBy, Changed, NotChanged, WithBlock, SpellsResized, Moved};
 ghost use Rattle.rh_defs.specs.declared.sizes.TheConstants.{HEAP_UNIT};
 ghost use Rattle.rh_heap.specs.declared.layout.TheConstants.{BLOCK};
 

@@ -2,7 +2,7 @@
 //! of the heap: a bit for each 8 bytes, in one word for used segments and in the other for holes.
 ghost use Rattle.std.specs.Prelude.{◌≡◌, ℕ, ◌+◌, ◌*◌, ◌/◌, ◌%◌, ◌^◌, ◌<◌, ◌≤◌, ◌==◌, length, true, MatchOption, if◌then◌else◌};
 ghost use Rattle.rh_store.specs.Starts.{bit};
-ghost use Rattle.rh_heap.specs.Starts.{Became, LastBit, LinkBelow};
+ghost use Rattle.rh_heap.specs.HeapStarts.{Became, LastBit, LinkBelow};
 ghost use Rattle.rh_defs.specs.declared.sizes.TheConstants.{HEAP_UNIT};
 ghost use Rattle.rh_store.specs.declared.starts.TheConstants.{BITS, HOLES};
 

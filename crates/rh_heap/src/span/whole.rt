@@ -4,8 +4,8 @@ ghost use Rattle.rh_defs.specs.Memory.{Memory, IsOpen, Edited, bytes};
 ghost use Rattle.rh_defs.specs.Pieces.{moved};
 ghost use Rattle.rh_defs.specs.Chain.{no_answer};
 ghost use Rattle.rh_defs.specs.Heap.{empty_heap, extend_by};
-ghost use Rattle.rh_heap.specs.Spans.{IsSpan, SpellsHeapIn, bytes_in, heap_in};
-ghost use Rattle.rh_heap.specs.Calls.{LeavesHeap};
+ghost use Rattle.rh_heap.specs.HeapSpans.{IsSpan, SpellsHeapIn, bytes_in, heap_in};
+ghost use Rattle.rh_heap.specs.HeapCalls.{LeavesHeap};
 ghost use Rattle.rh_defs.specs.declared.sizes.TheConstants.{HEAP_FIRST, HEAP_UNIT};
 
 use crate::span::Span;

@@ -2,7 +2,7 @@
 ghost use Rattle.std.specs.Prelude.{◌≡◌, ◌≢◌, ℕ, ◌+◌, ◌-◌, ◌^◌, ◌<◌, ◌≤◌, length, replicate};
 ghost use Rattle.rh_defs.specs.Bytes.{word, part, put_word};
 ghost use Rattle.rh_defs.specs.Memory.{Memory, IsOpen, Edited, bytes};
-ghost use Rattle.rh_heap.specs.Spans.{bytes_in};
+ghost use Rattle.rh_heap.specs.HeapSpans.{bytes_in};
 ghost use Rattle.rh_defs.specs.HeapParts.{LinksTo};
 ghost use Rattle.rh_defs.specs.declared.sizes.TheConstants.{WORD};
 

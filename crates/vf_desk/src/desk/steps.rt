@@ -5,7 +5,7 @@ ghost use Rattle.rh_defs.specs.Desk.{Desk};
 ghost use Rattle.rh_defs.specs.Range.{in_range};
 ghost use Rattle.rh_defs.specs.declared.command.Command.TheVariants as Command;
 ghost use Rattle.vf_desk.specs.Called.{IsAsked, called, desk_by, in_form, status_of};
-ghost use Rattle.vf_desk.specs.Seen.{IsSeenDesk, KeepsRest};
+ghost use Rattle.vf_desk.specs.SeenDesk.{IsSeenDesk, KeepsRest};
 
 use crate::called::Called;
 use crate::desk::VfDesk;

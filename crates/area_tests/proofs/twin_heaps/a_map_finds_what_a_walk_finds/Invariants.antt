@@ -1,4 +1,4 @@
-use Rattle.rh_heap.specs.Spans.{IsSpan, heap_in}
+use Rattle.rh_heap.specs.HeapSpans.{IsSpan, heap_in}
 use Rattle.rh_store.specs.Starts.{IsIndex}
 use Rattle.rh_store.specs.Plain.{memory_of}
 use Rattle.area_tests.proofs.twin_heaps.a_map_finds_what_a_walk_finds.Given as goal

@@ -2,7 +2,7 @@ use Rattle.std.proofs.Common.{rules, ◌≡◌, ◌+◌, ◌-◌, ◌∙◌, ap,
 use Rattle.std.specs.Prelude.{if◌then◌else◌}
 use Rattle.std.specs.Str.{bytes_eq}
 use Rattle.std.proofs.lemmas.List.{length-drop, take_all}
-use Rattle.rh_desk.specs.Names.{last_part}
+use Rattle.rh_desk.specs.SheetNames.{last_part}
 use Rattle.rh_desk.proofs.NameLemmas.{behind-last, whole-path}
 use Rattle.rh_desk.proofs.words.sheet_name.Goals as goal
 

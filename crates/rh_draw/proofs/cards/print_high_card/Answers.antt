@@ -1,6 +1,6 @@
 use Rattle.std.proofs.Common.{ap, ◌∙◌}
-use Rattle.rh_sheet.specs.Cards.{card_text, card_x}
-use Rattle.rh_draw.specs.Cards.{drawn_card}
+use Rattle.rh_sheet.specs.SheetCards.{card_text, card_x}
+use Rattle.rh_draw.specs.DrawCards.{drawn_card}
 use Rattle.rh_draw.proofs.WriteLemmas.{puts-as}
 use Rattle.rh_draw.proofs.cards.print_high_card.Goals as goal
 

@@ -1,6 +1,6 @@
 use Rattle.rh_draw.proofs.Common.{subst, left_less, left_breaks}
-use Rattle.rh_sheet.specs.Pieces.{piece_text}
-use Rattle.rh_draw.specs.Pieces.{AreDrawable}
+use Rattle.rh_sheet.specs.SheetPieces.{piece_text}
+use Rattle.rh_draw.specs.DrawPieces.{AreDrawable}
 use Rattle.rh_draw.specs.Tints.{tint_class}
 use Rattle.rh_draw.proofs.LoopLemmas.{items-behind}
 use Rattle.rh_draw.proofs.pieces.print_pieces.Goals as goal

@@ -1,6 +1,6 @@
 use Rattle.rh_draw.proofs.Common.{length, Left}
-use Rattle.rh_sheet.specs.Pieces.{pieces_text}
-use Rattle.rh_draw.specs.Pieces.{AreDrawable}
+use Rattle.rh_sheet.specs.SheetPieces.{pieces_text}
+use Rattle.rh_draw.specs.DrawPieces.{AreDrawable}
 use Rattle.rh_draw.specs.Tints.{tint_class}
 use Rattle.rh_draw.proofs.pieces.print_pieces.Given as goal
 

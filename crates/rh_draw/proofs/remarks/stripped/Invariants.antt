@@ -1,6 +1,6 @@
 use Rattle.rh_draw.proofs.Common.{◌≡◌, length, map, remark_byte}
 use Rattle.rh_figure.specs.Rows.{trimmed}
-use Rattle.rh_sheet.specs.Steps.{stripped}
+use Rattle.rh_sheet.specs.SheetSteps.{stripped}
 use Rattle.rh_draw.proofs.remarks.stripped.Given as goal
 
 -- only bytes that are shown as spaces were left out

@@ -1,5 +1,5 @@
 use Rattle.rh_draw.proofs.Common.{◌≡◌, length, map, remark_byte}
-use Rattle.rh_sheet.specs.Steps.{without_indent}
+use Rattle.rh_sheet.specs.SheetSteps.{without_indent}
 use Rattle.rh_draw.proofs.remarks.unindented.Given as goal
 
 -- only bytes that are shown as spaces were left out

@@ -1,6 +1,6 @@
 use Rattle.rh_draw.proofs.Common.{◌≡◌, Some, ap, ◌∙◌, plot_of}
 use Rattle.rh_sheet.specs.Frames.{page_in}
-use Rattle.rh_sheet.specs.Rows.{addressed_text}
+use Rattle.rh_sheet.specs.SheetRows.{addressed_text}
 use Rattle.rh_draw.proofs.PageLemmas.{row-of-page}
 use Rattle.rh_draw.proofs.WriteLemmas.{puts-as}
 use Rattle.rh_draw.proofs.rows.print_row.Goals as goal

@@ -1,6 +1,6 @@
 use Rattle.rh_draw.proofs.Common.{◌-◌, flat_map, range_with_len, row_text, Left, plot_of}
 use Rattle.rh_sheet.specs.Frames.{shown_rows}
-use Rattle.rh_sheet.specs.Rows.{rows_text}
+use Rattle.rh_sheet.specs.SheetRows.{rows_text}
 use Rattle.rh_draw.proofs.rows.print_rows.Given as goal
 
 -- the rows from the index on are left

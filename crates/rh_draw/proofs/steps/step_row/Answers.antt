@@ -1,6 +1,6 @@
 use Rattle.rh_draw.proofs.Common.{◌+◌, [], ◌∷◌, ◌++◌, ap, ◌∙◌, codes, decimal}
 use Rattle.rh_sheet.specs.Markup.{step_link}
-use Rattle.rh_sheet.specs.Steps.{back_link}
+use Rattle.rh_sheet.specs.SheetSteps.{back_link}
 use Rattle.rh_draw.proofs.ListLemmas.{seven-parts}
 use Rattle.rh_draw.proofs.steps.step_row.Goals as goal
 

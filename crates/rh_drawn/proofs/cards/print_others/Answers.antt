@@ -1,6 +1,6 @@
 use Rattle.rh_drawn.proofs.Common.{◌≡◌, ℕ, ◌-◌, Bool, true, false, ap, ◌∙◌, arith, more_card, card_line}
 use mir.Val.{bool_byte}
-use Rattle.rh_drawn.specs.Cards.{count_left}
+use Rattle.rh_drawn.specs.DrawnCards.{count_left}
 use Rattle.rh_drawn.proofs.Walks.{puts_line}
 use Rattle.rh_drawn.proofs.cards.print_others.Goals as goal
 

@@ -1,6 +1,6 @@
 use Rattle.rh_drawn.proofs.Common.{◌++◌, [], ◌∷◌, ap, sym, ◌∙◌, codes, action_of, task_name, scene_of, shown_lines, indented}
 use Rattle.rh_figure.specs.Changes.{bytes_sent_text, sends_line}
-use Rattle.rh_map.specs.Tasks.{who_text}
+use Rattle.rh_map.specs.MapTasks.{who_text}
 use Rattle.rh_drawn.proofs.Walks.{indented-append, lines_stop, lines_then, puts_line, puts_same}
 use Rattle.rh_drawn.proofs.post_changes.print_sent.Goals as goal
 

@@ -1,4 +1,4 @@
-use Rattle.rh_map.specs.Cards.{use_text}
+use Rattle.rh_map.specs.MapCards.{use_text}
 use Rattle.rh_map.proofs.CardLemmas.{flex-line}
 use Rattle.rh_map.proofs.cards.print_flex_card.Goals as goal
 

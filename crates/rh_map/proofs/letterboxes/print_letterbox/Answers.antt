@@ -1,7 +1,7 @@
 use Rattle.rh_map.proofs.Common.{ℕ, List, ◌++◌, ◌≡◌, subst, ap, ◌∙◌, codes, shown_line}
 use Rattle.rh_figure.specs.Map.{letterbox_line}
 use Rattle.rh_lines.specs.Flow.{Puts}
-use Rattle.rh_map.specs.Messages.{mapped_letterbox}
+use Rattle.rh_map.specs.MapMessages.{mapped_letterbox}
 use Rattle.rh_map.proofs.FillLemmas.{fills-shown}
 use Rattle.rh_map.proofs.letterboxes.print_letterbox.Goals as goal
 

@@ -1,5 +1,5 @@
-use Rattle.rh_map.specs.Messages.{place_text}
-use Rattle.rh_map.specs.Tasks.{who_text}
+use Rattle.rh_map.specs.MapMessages.{place_text}
+use Rattle.rh_map.specs.MapTasks.{who_text}
 use Rattle.rh_map.proofs.CardLemmas.{message-line}
 use Rattle.rh_map.proofs.messages.print_message_card.Goals as goal
 

@@ -1,6 +1,6 @@
 use Rattle.rh_map.proofs.Common.{◌++◌, append_assoc, append-nil, ap, ◌∙◌, codes, size_text}
 use Rattle.rh_defs.specs.Text.{address}
-use Rattle.rh_map.specs.Tasks.{who_text}
+use Rattle.rh_map.specs.MapTasks.{who_text}
 use Rattle.rh_map.proofs.post_changes.bytes_sent.Goals as goal
 
 pub returns-clause-value : goal.returns-clause-value

@@ -1,7 +1,7 @@
 use Rattle.rh_painted.proofs.Common.{◌≡◌, List, [], ◌∷◌, length, ap, sym, ◌∙◌, Some, flat_map, BlockItem, item_with_anchor, slide_change, slide_of, change_item}
 use Rattle.rh_painted.proofs.Common.{puts_same}
 use Rattle.rh_drawn.specs.declared.block_changes.Slid.{Slid}
-use Rattle.rh_drawn.specs.Slides.{summary_of}
+use Rattle.rh_drawn.specs.DrawnSlides.{summary_of}
 use Rattle.rh_figure.specs.Changes.{Slide, slide_line}
 use Rattle.rh_painted.proofs.ElementLemmas.{parts-one}
 use Rattle.rh_painted.proofs.block_changes.print_slides.Goals as goal

@@ -1,5 +1,5 @@
 use Rattle.rh_painted.proofs.Common.{List, ap, Note, figure_text, scene_at, puts_same}
-use Rattle.rh_sheet.specs.Steps.{aside_text, memory_text}
+use Rattle.rh_sheet.specs.SheetSteps.{aside_text, memory_text}
 use Rattle.rh_painted.proofs.TextPuts.{text_stop, text_then}
 use Rattle.rh_painted.proofs.figure.print_figure.Goals as goal
 

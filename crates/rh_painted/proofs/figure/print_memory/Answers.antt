@@ -1,7 +1,7 @@
 use Rattle.rh_painted.proofs.Common.{◌++◌, [], codes, flat_map, area_heading, slot_part, scene_at}
 use Rattle.rh_figure.specs.Figure.{area_panels}
 use Rattle.rh_sheet.specs.Pool.{pool_figure}
-use Rattle.rh_sheet.specs.Steps.{module_part}
+use Rattle.rh_sheet.specs.SheetSteps.{module_part}
 use Rattle.rh_painted.proofs.TextPuts.{text_last, text_stop, text_then}
 use Rattle.rh_painted.proofs.figure.print_memory.Goals as goal
 

@@ -3,7 +3,7 @@ use Rattle.rh_painted.proofs.Common.{flex_cards, IsTaskSeen, scene_at, flex-long
 use Rattle.std.proofs.lemmas.Option.{slice_get-get_or}
 use Rattle.rh_figure.specs.Cards.{more_card}
 use Rattle.rh_figure.specs.Layout.{is_fresh_flex}
-use Rattle.rh_drawn.specs.Cards.{place_behind}
+use Rattle.rh_drawn.specs.DrawnCards.{place_behind}
 use Rattle.rh_drawn.proofs.CardLemmas.{behind-are, flex-picked, flex-unpicked}
 use Rattle.rh_painted.proofs.TextPuts.{text_last, text_stop, text_then}
 use Rattle.rh_painted.proofs.flex_cards.put_behind.Goals as goal

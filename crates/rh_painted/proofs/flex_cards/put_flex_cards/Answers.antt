@@ -1,6 +1,6 @@
 use Rattle.rh_painted.proofs.Common.{◌≡◌, ◌+◌, length, take, ap, sym, ◌∙◌, arith, take_all, block_items, flex_start, flex_cards, scene_at, cards_behind}
 use Rattle.rh_painted.proofs.Common.{flex-long, seen-same, puts_same, band_text_from}
-use Rattle.rh_drawn.specs.Cards.{count_shown}
+use Rattle.rh_drawn.specs.DrawnCards.{count_shown}
 use Rattle.rh_drawn.proofs.CardLemmas.{count-few, count-many, count-within, shown-few, shown-parts, shown-split, some-count}
 use Rattle.rh_painted.proofs.TextPuts.{text_stop, text_then}
 use Rattle.rh_painted.proofs.BandLemmas.{band-append, shown-behind}

@@ -1,7 +1,7 @@
 use Rattle.rh_painted.proofs.Common.{◌≡◌, ◌+◌, ◌∙◌, length, take, ap, sym, arith, take_all, heap_seen, scene_at, at-some, band_cards, cards_behind, if-heap}
 use Rattle.rh_painted.proofs.Common.{puts_same, band_text_from}
 use Rattle.rh_drawn.specs.Bands.{IsSurvey}
-use Rattle.rh_drawn.specs.Cards.{count_shown}
+use Rattle.rh_drawn.specs.DrawnCards.{count_shown}
 use Rattle.rh_drawn.proofs.CardLemmas.{count-few, count-many, count-most, count-within, shown-few, shown-parts, shown-split, some-count}
 use Rattle.rh_drawn.proofs.HeapLemmas.{band-long, band-many}
 use Rattle.rh_painted.proofs.TextPuts.{text_stop, text_then}

@@ -2,7 +2,7 @@ use Rattle.rh_painted.proofs.Common.{[], ◌∷◌, ap, ap₂, ◌∙◌, codes,
 use Rattle.rh_defs.specs.Messages.{code_number}
 use Rattle.rh_defs.specs.Text.{action_name}
 use Rattle.rh_figure.specs.Cards.{PostCard, between_text}
-use Rattle.rh_sight.specs.Messages.{message_place}
+use Rattle.rh_sight.specs.SightMessages.{message_place}
 use Rattle.rh_drawn.specs.Bands.{place_seen}
 use Rattle.rh_drawn.proofs.PostLemmas.{chain-is}
 use Rattle.rh_painted.proofs.BandLemmas.{card-same}

@@ -3,7 +3,7 @@ use Rattle.rh_painted.proofs.Common.{message_items, waiting_on, heap_seen, heap_
 use Rattle.rh_defs.specs.Post.{post_is_message}
 use Rattle.rh_figure.specs.Scene.{live, message_of_scene}
 use Rattle.rh_sight.specs.declared.sight.HeapOf.{HeapOf}
-use Rattle.rh_sight.specs.Messages.{lies_in}
+use Rattle.rh_sight.specs.SightMessages.{lies_in}
 use Rattle.rh_sight.specs.Seen.{SeesBlock, SeesFree}
 use Rattle.rh_drawn.proofs.HeapLemmas.{block-free, has-block, module-is, posted-is, task-is, told-none, told-some, used-here}
 use Rattle.rh_drawn.proofs.PostLemmas.{Told, message-told, stands_in}

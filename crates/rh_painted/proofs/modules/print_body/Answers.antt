@@ -2,10 +2,10 @@ use Rattle.rh_painted.proofs.Common.{◌≡◌, ◌+◌, ◌++◌, [], length, a
 use Rattle.rh_painted.proofs.Common.{AreaOf, lens_below, Frame, Plot, Census, scene_at, cards-long, owned-few, seen-fixed, puts_same}
 use Rattle.rh_figure.specs.Cards.{module_card}
 use Rattle.rh_figure.specs.Layout.{module_legend}
-use Rattle.rh_sheet.specs.Areas.{module_frame, module_plot}
-use Rattle.rh_sheet.specs.Cards.{cards_below}
+use Rattle.rh_sheet.specs.SheetAreas.{module_frame, module_plot}
+use Rattle.rh_sheet.specs.SheetCards.{cards_below}
 use Rattle.rh_sheet.specs.Frames.{rows_foot}
-use Rattle.rh_sheet.specs.Rows.{rows_text}
+use Rattle.rh_sheet.specs.SheetRows.{rows_text}
 use Rattle.rh_sight.specs.declared.sight.PagesOf.TheVariants as pages
 use Rattle.rh_drawn.proofs.PageLemmas.{owned-fixed}
 use Rattle.rh_painted.proofs.SlotLemmas.{EndsBy, heap-ends}

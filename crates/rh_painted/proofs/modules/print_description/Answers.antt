@@ -1,6 +1,6 @@
 use Rattle.rh_painted.proofs.Common.{ap, sym, flat_map-append, module_cards, shown_cards, AreaOf, escape, escaped_byte, scene_at, puts_same}
-use Rattle.rh_sheet.specs.Areas.{pages_sentence}
-use Rattle.rh_sheet.specs.Cards.{cards_sentences}
+use Rattle.rh_sheet.specs.SheetAreas.{pages_sentence}
+use Rattle.rh_sheet.specs.SheetCards.{cards_sentences}
 use Rattle.rh_painted.proofs.BandLemmas.{told-all}
 use Rattle.rh_painted.proofs.TextPuts.{text_stop, text_then}
 use Rattle.rh_painted.proofs.modules.print_description.Goals as goal

@@ -2,7 +2,7 @@ use Rattle.rh_painted.proofs.Common.{◌≡◌, ℕ, ◌+◌, ◌++◌, List, []
 use Rattle.rh_painted.proofs.Common.{count_of, Frame, escape, figure_open, Plot, Census, scene_at, cards-long, from-first, owned, owned-few, seen-fixed}
 use Rattle.rh_painted.proofs.Common.{puts_same}
 use Rattle.rh_figure.specs.Cards.{module_card}
-use Rattle.rh_sheet.specs.Areas.{module_body, module_description, module_frame, rows_for}
+use Rattle.rh_sheet.specs.SheetAreas.{module_body, module_description, module_frame, rows_for}
 use Rattle.rh_sheet.specs.Frames.{frame_height}
 use Rattle.rh_sight.specs.declared.sight.PagesOf.TheVariants as pages
 use Rattle.rh_painted.proofs.TextPuts.{text_last, text_stop, text_then}

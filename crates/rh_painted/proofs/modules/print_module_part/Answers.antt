@@ -1,6 +1,6 @@
 use Rattle.rh_painted.proofs.Common.{◌++◌, ap, ◌∙◌, module_pages, area_name, heading_text, scene_at, puts_same}
 use Rattle.rh_figure.specs.Phrases.{pages_text}
-use Rattle.rh_sheet.specs.Areas.{module_figure}
+use Rattle.rh_sheet.specs.SheetAreas.{module_figure}
 use Rattle.rh_painted.proofs.TextPuts.{text_stop, text_then}
 use Rattle.rh_painted.proofs.modules.print_module_part.Goals as goal
 

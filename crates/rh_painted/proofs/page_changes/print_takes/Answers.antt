@@ -1,7 +1,7 @@
 use Rattle.rh_painted.proofs.Common.{◌≡◌, ◌<◌, ◌-◌, length, drop, ap, ap₂, sym, ◌∙◌, arith, length-take, taken_line, owner_name, count_of, change_item}
 use Rattle.rh_painted.proofs.Common.{scene_at, puts_same, who_seen}
 use Rattle.std.proofs.lemmas.List.{length-drop, take_rest}
-use Rattle.rh_painted.specs.Owners.{holding_seen, name_seen}
+use Rattle.rh_painted.specs.PaintedOwners.{holding_seen, name_seen}
 use Rattle.rh_painted.proofs.OwnerLemmas.{owner-few, owner-pages, takes-one}
 use Rattle.rh_painted.proofs.page_changes.print_takes.Goals as goal
 

@@ -3,7 +3,7 @@ use Rattle.rh_painted.proofs.Common.{count_of, puts_before, puts_more, puts_stop
 use Rattle.std.proofs.lemmas.List.{drop_min, take_min}
 use Rattle.rh_figure.specs.Phrases.{listed_numbers}
 use Rattle.rh_sheet.specs.Pool.{squares_text}
-use Rattle.rh_painted.specs.Owners.{name_seen}
+use Rattle.rh_painted.specs.PaintedOwners.{name_seen}
 use Rattle.rh_painted.proofs.OwnerLemmas.{owner-few, owner-pages}
 use Rattle.rh_painted.proofs.pool.print_owner_squares.Goals as goal
 

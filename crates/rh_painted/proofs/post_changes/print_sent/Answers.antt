@@ -1,7 +1,7 @@
 use Rattle.rh_painted.proofs.Common.{◌≡◌, [], ◌∷◌, ap, sym, ◌∙◌, flat_map, task_name, scene_of, change_item, puts_same}
 use Rattle.rh_defs.specs.Messages.{action_of}
 use Rattle.rh_figure.specs.Changes.{bytes_sent_text, sends_line}
-use Rattle.rh_map.specs.Tasks.{who_text}
+use Rattle.rh_map.specs.MapTasks.{who_text}
 use Rattle.rh_painted.proofs.ElementLemmas.{parts-both, parts-one}
 use Rattle.rh_painted.proofs.TextPuts.{text_stop, text_then}
 use Rattle.rh_painted.proofs.post_changes.print_sent.Goals as goal

@@ -5,17 +5,17 @@ use Rattle.rh_painted.proofs.Common.{slide_of, Text, where_so, Scene, SlotOf, ti
 use Rattle.rh_painted.proofs.Common.{items-long, few-blocks, seen-same, owned-few, seen-slot, puts_same, IsSlotPlan}
 use Rattle.rh_defs.specs.Heap.{first_place}
 use Rattle.rh_figure.specs.Cards.{cards_from}
-use Rattle.rh_sheet.specs.Areas.{slot_arrow, slot_frame, slot_lenses, slot_plot}
+use Rattle.rh_sheet.specs.SheetAreas.{slot_arrow, slot_frame, slot_lenses, slot_plot}
 use Rattle.rh_sheet.specs.Arrows.{slide_arrow}
-use Rattle.rh_sheet.specs.Cards.{cards_above, cards_below}
+use Rattle.rh_sheet.specs.SheetCards.{cards_above, cards_below}
 use Rattle.rh_sheet.specs.Frames.{row_y, rows_foot, rows_top}
-use Rattle.rh_sheet.specs.Rows.{rows_text}
+use Rattle.rh_sheet.specs.SheetRows.{rows_text}
 use Rattle.rh_sight.specs.declared.sight.HeapOf.TheVariants as heap_of
 use Rattle.rh_sight.specs.declared.sight.PagesOf.TheVariants as pages
 use Rattle.rh_sight.proofs.Heaps.{task-length}
 use Rattle.rh_drawn.specs.Bands.{card_of_task}
 use Rattle.rh_drawn.proofs.DrawingLemmas.{task-stands}
-use Rattle.rh_painted.specs.Bands.{band_text}
+use Rattle.rh_painted.specs.PaintedBands.{band_text}
 use Rattle.rh_painted.specs.declared.bands.Form.TheVariants.{Below}
 use Rattle.rh_painted.proofs.LensLemmas.{arrow-same}
 use Rattle.rh_painted.proofs.SlotLemmas.{EndsBy, anchors-small, slot-ends}

@@ -4,12 +4,12 @@ use Rattle.rh_painted.proofs.Common.{escaped_byte, Plot, IsTaskSeen, heap_seen, 
 use Rattle.rh_painted.proofs.Common.{seen-slot, puts_same, IsSlotPlan}
 use Rattle.rh_defs.specs.Heap.{first_place}
 use Rattle.rh_figure.specs.Cards.{cards_from}
-use Rattle.rh_sheet.specs.Areas.{pages_sentence}
-use Rattle.rh_sheet.specs.Cards.{cards_sentences}
+use Rattle.rh_sheet.specs.SheetAreas.{pages_sentence}
+use Rattle.rh_sheet.specs.SheetCards.{cards_sentences}
 use Rattle.rh_sight.specs.declared.sight.HeapOf.TheVariants as heap_of
 use Rattle.rh_sight.specs.declared.sight.PagesOf.TheVariants as pages
 use Rattle.rh_drawn.specs.Bands.{card_of_task}
-use Rattle.rh_painted.specs.Bands.{band_text}
+use Rattle.rh_painted.specs.PaintedBands.{band_text}
 use Rattle.rh_painted.specs.declared.bands.Form.TheVariants.{Told}
 use Rattle.rh_painted.proofs.BandLemmas.{told-all}
 use Rattle.rh_painted.proofs.TextPuts.{text_stop, text_then}

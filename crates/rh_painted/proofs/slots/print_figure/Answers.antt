@@ -1,7 +1,7 @@
 use Rattle.rh_painted.proofs.Common.{◌≡◌, ℕ, ◌+◌, List, length, ap, ap₂, sym, ◌∙◌, max, min, option_map, Task, flex_start, heap_start, flex_cards, heap_cards}
 use Rattle.rh_painted.proofs.Common.{Piece, SlotOf, count_of, Frame, Plot, Census, scene_at, flex-long, cards-long, from-first, owned, seen-slot}
 use Rattle.rh_figure.specs.Cards.{heap_card}
-use Rattle.rh_sheet.specs.Areas.{rows_for}
+use Rattle.rh_sheet.specs.SheetAreas.{rows_for}
 use Rattle.rh_sheet.specs.Owners.{task_class}
 use Rattle.rh_sight.specs.declared.sight.PagesOf.TheVariants as pages
 use Rattle.rh_sight.specs.declared.sight.TaskSight.{TaskSight}

@@ -3,7 +3,7 @@ use Rattle.rh_painted.proofs.Common.{Frame, Census, IsTaskSeen, scene_at, task-s
 use Rattle.rh_painted.proofs.Common.{seen-slot, puts_same, IsSlotPlan}
 use Rattle.rh_defs.specs.Slot.{slot_length}
 use Rattle.rh_figure.specs.Cards.{heap_card}
-use Rattle.rh_sheet.specs.Areas.{lens_above}
+use Rattle.rh_sheet.specs.SheetAreas.{lens_above}
 use Rattle.rh_sight.specs.declared.sight.PagesOf.TheVariants as pages
 use Rattle.rh_drawn.proofs.PageLemmas.{owned-slot}
 use Rattle.rh_painted.proofs.LensLemmas.{above-same, below-same}

@@ -1,5 +1,5 @@
 use Rattle.rh_painted.proofs.Common.{◌++◌, [], ap, ap₂, ◌∙◌, codes, escape, figure_open, IsTaskSeen, scene_at, seen-same, puts_same, IsSlotPlan}
-use Rattle.rh_sheet.specs.Areas.{slot_body, slot_description, slot_frame}
+use Rattle.rh_sheet.specs.SheetAreas.{slot_body, slot_description, slot_frame}
 use Rattle.rh_sheet.specs.Frames.{frame_height}
 use Rattle.rh_painted.proofs.TextPuts.{text_last, text_stop, text_then}
 use Rattle.rh_painted.proofs.slots.print_plan.Goals as goal

@@ -1,6 +1,6 @@
 use Rattle.rh_painted.proofs.Common.{◌≡◌, ◌++◌, Bool, true, false, ap, sym, ◌∙◌, where_so, heading_text, IsTaskSeen, scene_at, seen-same, puts_same}
 use Rattle.rh_figure.specs.Figure.{is_drawn, slot_note}
-use Rattle.rh_sheet.specs.Areas.{slot_figure}
+use Rattle.rh_sheet.specs.SheetAreas.{slot_figure}
 use Rattle.rh_painted.proofs.TextPuts.{text_last, text_stop, text_then}
 use Rattle.rh_painted.proofs.slots.print_slot.Goals as goal
 

@@ -1,5 +1,5 @@
 use Rattle.rh_painted.proofs.Common.{ap, refl, ◌∙◌, BlockItem, left_breaks, left_less, left_none, ticks_text, puts_same}
-use Rattle.rh_sheet.specs.Areas.{tick_text}
+use Rattle.rh_sheet.specs.SheetAreas.{tick_text}
 use Rattle.rh_painted.proofs.TextWalks.{text-at, text-end}
 use Rattle.rh_painted.proofs.slots.print_ticks.Goals as goal
 

@@ -7,7 +7,7 @@ use Rattle.rh_defs.specs.Desk.{Desk, Task, named}
 use Rattle.rh_defs.specs.Questions.{Blocks, block_items, block_items_from, blocks}
 use Rattle.rh_defs.specs.Slot.{Flex, weight, flex_start}
 use Rattle.rh_defs.specs.Text.{answer_text, first_line, later_lines}
-use Rattle.rh_tasks.specs.Lists.{blocks_of}
+use Rattle.rh_tasks.specs.WorldLists.{blocks_of}
 use Rattle.rh_script.proofs.PrintLemmas.{refused_alike, refused_text}
 use Rattle.rh_script.proofs.listed.print_blocks.Goals as goal
 

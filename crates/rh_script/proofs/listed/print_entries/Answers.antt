@@ -1,6 +1,6 @@
 use Rattle.rh_script.proofs.Common.{◌∷◌, [], sym, arith, area_items, decimal, area_line, ok}
 use Rattle.std.proofs.lemmas.Option.{slice_get_within}
-use Rattle.rh_tasks.specs.Items.{area_item_of}
+use Rattle.rh_tasks.specs.WorldItems.{area_item_of}
 use Rattle.rh_script.proofs.GatherLemmas.{gathered_none, gathered_next, gathered_stops, gathered_ends, gathered_whole}
 use Rattle.rh_script.proofs.listed.print_entries.Goals as goal
 

@@ -1,5 +1,5 @@
 use Rattle.rh_sight.proofs.Common.{◌≡◌, drop, count_of, holdings_of}
-use Rattle.rh_sight.specs.Owners.{shared_owner}
+use Rattle.rh_sight.specs.SightOwners.{shared_owner}
 use Rattle.rh_sight.proofs.kept.count_among.Given as goal
 
 -- none so far is of the owner

@@ -1,5 +1,5 @@
 use Rattle.rh_sight.proofs.Common.{◌∙◌, ap, map-append, holdings_of, made_holding}
-use Rattle.rh_sight.specs.Owners.{holding_of}
+use Rattle.rh_sight.specs.SightOwners.{holding_of}
 use Rattle.rh_sight.proofs.Places.{filled-all, filled-more}
 use Rattle.rh_sight.proofs.kept.push_made.Goals as goal
 

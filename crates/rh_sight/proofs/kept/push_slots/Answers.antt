@@ -1,6 +1,6 @@
 use Rattle.rh_sight.proofs.Common.{◌≡◌, ◌∙◌, ℕ, [], ◌∷◌, ◌++◌, ap, ap₂, map-append, Task, task_pages, Holding, holdings_of, slot_holding}
 use Rattle.rh_figure.specs.Share.{SlotOf}
-use Rattle.rh_sight.specs.Owners.{holding_of}
+use Rattle.rh_sight.specs.SightOwners.{holding_of}
 use Rattle.rh_sight.proofs.Places.{filled-all, filled-more}
 use Rattle.rh_sight.proofs.kept.push_slots.Goals as goal
 

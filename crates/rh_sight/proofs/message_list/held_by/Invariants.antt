@@ -1,5 +1,5 @@
 use Rattle.rh_sight.proofs.Common.{◌≡◌, drop, find}
-use Rattle.rh_sight.specs.Messages.{is_held_by}
+use Rattle.rh_sight.specs.SightMessages.{is_held_by}
 use Rattle.rh_sight.proofs.message_list.held_by.Given as goal
 
 -- the task holds none so far

@@ -1,5 +1,5 @@
 use Rattle.rh_sight.proofs.Common.{◌≡◌, drop, filter}
-use Rattle.rh_sight.specs.Messages.{items_behind, first_ref, waits_for}
+use Rattle.rh_sight.specs.SightMessages.{items_behind, first_ref, waits_for}
 use Rattle.rh_sight.proofs.Chains.{rest_behind}
 use Rattle.rh_sight.proofs.message_list.next_behind.Given as goal
 

@@ -1,5 +1,5 @@
 use Rattle.rh_tasks.proofs.Common.{◌≡◌, take, map}
-use Rattle.rh_tasks.specs.Items.{placed_item}
+use Rattle.rh_tasks.specs.WorldItems.{placed_item}
 use Rattle.rh_tasks.proofs.listing.segment_items.Given as goal
 
 -- the segments so far are listed

@@ -1,4 +1,4 @@
-use Rattle.rh_module.specs.Area.{module_heap_in}
+use Rattle.rh_module.specs.ModuleArea.{module_heap_in}
 use Rattle.std.proofs.Common.{length, ap, ◌∙◌, arith}
 use Rattle.std.proofs.lemmas.Result.{err_from_is_err_and}
 use Rattle.rh_defs.specs.Blocks.{poked}

@@ -2,7 +2,7 @@ use Rattle.std.proofs.Common.{List, ℕ, refl, ◌∙◌, ap}
 use Rattle.rh_defs.specs.Chain.{Granted, outcome_of, result_or}
 use Rattle.rh_defs.specs.Slot.{slot_free}
 use Rattle.rh_defs.proofs.MemoryLaws.{OnlyArea-self}
-use Rattle.rh_slot.specs.Area.{slot_in}
+use Rattle.rh_slot.specs.SlotArea.{slot_in}
 use Rattle.uses.proofs.SlotFacts.{free_after_read, freed_by, left_by, read_after, free_after}
 use Rattle.uses.proofs.slot.take_bytes.Goals as goal
 

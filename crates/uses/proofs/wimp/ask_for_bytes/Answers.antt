@@ -1,7 +1,7 @@
 use Rattle.std.proofs.Common.{◌∙◌}
 use Rattle.std.proofs.lemmas.Result.{err_from_is_err_and}
 use Rattle.rh_defs.proofs.MemoryLaws.{OnlyArea-both}
-use Rattle.rh_module.specs.Area.{module_heap_in}
+use Rattle.rh_module.specs.ModuleArea.{module_heap_in}
 use Rattle.uses.specs.Wimp.{two_idle}
 use Rattle.uses.proofs.PostFacts.{fetch-answer, fetch-polled, second_live}
 use Rattle.uses.proofs.wimp.ask_for_bytes.Goals as goal

@@ -1,5 +1,5 @@
 use Rattle.vf_desk.proofs.Common.{Some, ap, refl, subst, ◌∙◌, closed_status}
-use Rattle.vf_desk.specs.Lines.{Replies}
+use Rattle.vf_desk.specs.DeskLines.{Replies}
 use Rattle.vf_desk.proofs.LineLaws.{replies-closed}
 use Rattle.vf_desk.proofs.lines.vf_desk_reply.Goals as goal
 

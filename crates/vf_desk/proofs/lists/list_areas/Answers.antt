@@ -1,7 +1,7 @@
 use Rattle.vf_desk.proofs.Common.{sym, arith, as_area}
 use Rattle.std.proofs.lemmas.Option.{slice_get_within}
 use Rattle.rh_defs.specs.Questions.{area_items}
-use Rattle.rh_tasks.specs.Items.{area_item_of}
+use Rattle.rh_tasks.specs.WorldItems.{area_item_of}
 use Rattle.vf_desk.proofs.FillLaws.{filled-none, items-all, items-more}
 use Rattle.vf_desk.proofs.lists.list_areas.Goals as goal
 

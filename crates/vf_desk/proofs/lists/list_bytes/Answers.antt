@@ -1,5 +1,5 @@
 use Rattle.vf_desk.proofs.Common.{◌≡◌, length, take, drop, min, sym, ap, ◌∙◌, arith, length-take-le, filled_front}
-use Rattle.rh_script.specs.Named.{bytes_of_named}
+use Rattle.rh_script.specs.NamedSlots.{bytes_of_named}
 use Rattle.rh_script.proofs.ReadLemmas.{answered_part, reads_part, size_read}
 use Rattle.vf_desk.proofs.FillLaws.{filled-none}
 use Rattle.vf_desk.proofs.ListLaws.{bytes-filled, no-shown-bytes, shown-bytes}

@@ -1,6 +1,6 @@
 use Rattle.std.proofs.Common.{refl, sym}
 use Rattle.rh_defs.specs.Questions.{in_item, out_item}
-use Rattle.vf_desk.specs.Items.{record_of}
+use Rattle.vf_desk.specs.DeskItems.{record_of}
 use Rattle.vf_desk.proofs.FillLaws.{filled-none}
 use Rattle.vf_desk.proofs.ListLaws.{map-length, map-map, no-records-listed, records-listed}
 use Rattle.vf_desk.proofs.lists.list_records.Goals as goal

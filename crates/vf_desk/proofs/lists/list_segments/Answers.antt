@@ -1,5 +1,5 @@
 use Rattle.std.proofs.Common.{◌∙◌, arith}
-use Rattle.rh_script.specs.Named.{heap_of_named}
+use Rattle.rh_script.specs.NamedSlots.{heap_of_named}
 use Rattle.vf_desk.proofs.SegmentLaws.{batch-ends, batch-more, batch-none, none-last, segments-listed, walk-none, walked-few}
 use Rattle.vf_desk.proofs.lists.list_segments.Goals as goal
 

@@ -1,6 +1,6 @@
 use Rattle.std.proofs.Common.{◌≡◌, ◌-◌}
-use Rattle.rh_tasks.specs.Lists.{segment_items_at}
-use Rattle.rh_script.specs.Named.{heap_of_named}
+use Rattle.rh_tasks.specs.WorldLists.{segment_items_at}
+use Rattle.rh_script.specs.NamedSlots.{heap_of_named}
 use Rattle.vf_desk.proofs.SegmentLaws.{Walked}
 use Rattle.vf_desk.proofs.lists.list_segments.Given as goal
 

@@ -1,6 +1,6 @@
 use Rattle.vf_desk.proofs.Common.{length, Some, sym, ap, ◌∙◌, map, filled_front, number_or, as_area, list_asked}
 use Rattle.rh_defs.specs.declared.question.Question.TheVariants as question
-use Rattle.vf_desk.specs.Items.{areas_listed}
+use Rattle.vf_desk.specs.DeskItems.{areas_listed}
 use Rattle.vf_desk.proofs.AskLaws.{ask-counted, ask-told, open-asks, open-list, shut-asks, shut-counted, shut-list, shut-told}
 use Rattle.vf_desk.proofs.FillLaws.{filled-none}
 use Rattle.vf_desk.proofs.questions.vf_desk_areas.Goals as goal

@@ -1,6 +1,6 @@
 use Rattle.vf_desk.proofs.Common.{length, Some, sym, ap, ◌∙◌, map, filled_front, list_asked}
 use Rattle.rh_defs.specs.declared.question.Question.TheVariants as question
-use Rattle.vf_desk.specs.Items.{as_block, blocks_listed}
+use Rattle.vf_desk.specs.DeskItems.{as_block, blocks_listed}
 use Rattle.vf_desk.proofs.AskLaws.{ask-counted, open-asks, open-list, shut-asks, shut-counted, shut-list}
 use Rattle.vf_desk.proofs.FillLaws.{filled-none}
 use Rattle.vf_desk.proofs.questions.vf_desk_blocks.Goals as goal

@@ -1,7 +1,7 @@
 use Rattle.vf_desk.proofs.Common.{length, Some, sym, ap, ◌∙◌, map, filled_front, list_asked}
 use Rattle.rh_defs.specs.declared.question.Question.TheVariants as question
 use Rattle.vf_desk.specs.Called.{sums_or}
-use Rattle.vf_desk.specs.Items.{as_segment, segments_listed}
+use Rattle.vf_desk.specs.DeskItems.{as_segment, segments_listed}
 use Rattle.vf_desk.proofs.AskLaws.{ask-counted, ask-told, open-asks, open-list, shut-asks, shut-counted, shut-list, shut-told}
 use Rattle.vf_desk.proofs.FillLaws.{filled-none}
 use Rattle.vf_desk.proofs.questions.vf_desk_heap.Goals as goal

@@ -1,6 +1,6 @@
 use Rattle.vf_desk.proofs.Common.{Some, sym, ap, ◌∙◌, filled_front, number_or}
 use Rattle.rh_defs.specs.declared.question.Question.TheVariants as question
-use Rattle.vf_desk.specs.Items.{bytes_listed}
+use Rattle.vf_desk.specs.DeskItems.{bytes_listed}
 use Rattle.vf_desk.proofs.AskLaws.{ask-told, open-asks, open-list, shut-asks, shut-list, shut-told}
 use Rattle.vf_desk.proofs.FillLaws.{filled-none}
 use Rattle.vf_desk.proofs.questions.vf_desk_show.Goals as goal

@@ -1,6 +1,6 @@
 use Rattle.std.proofs.Common.{arith}
 use Rattle.std.proofs.lemmas.Bool.Decides.{nat_tests}
-use Rattle.vf_flex.specs.Status.{checked_anchor_status}
+use Rattle.vf_flex.specs.SlotStatus.{checked_anchor_status}
 use Rattle.vf_flex.proofs.image.checked_anchor_status.Goals as goal
 
 pub returns-in-0-clause-status : goal.returns-in-0-clause-status

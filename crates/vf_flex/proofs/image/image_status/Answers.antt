@@ -1,5 +1,5 @@
 use Rattle.std.proofs.Common.{refl, sym, ap, ◌∙◌}
-use Rattle.vf_flex.specs.Status.{found_status}
+use Rattle.vf_flex.specs.SlotStatus.{found_status}
 use Rattle.vf_flex.proofs.Images.{looked_at, not_done, passed_over}
 use Rattle.vf_flex.proofs.image.image_status.Goals as goal
 

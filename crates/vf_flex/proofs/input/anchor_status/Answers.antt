@@ -1,6 +1,6 @@
 use Rattle.std.proofs.Common.{arith}
 use Rattle.std.proofs.lemmas.Bool.Decides.{nat_tests}
-use Rattle.vf_flex.specs.Status.{anchor_status}
+use Rattle.vf_flex.specs.SlotStatus.{anchor_status}
 use Rattle.vf_flex.proofs.input.anchor_status.Goals as goal
 
 pub returns-in-0-clause-status : goal.returns-in-0-clause-status

@@ -1,6 +1,6 @@
 use Rattle.std.proofs.Common.{arith}
 use Rattle.std.proofs.lemmas.Bool.Decides.{nat_tests}
-use Rattle.vf_flex.specs.Status.{length_status}
+use Rattle.vf_flex.specs.SlotStatus.{length_status}
 use Rattle.vf_flex.proofs.input.length_status.Goals as goal
 
 pub returns-then-len-lt-PAGE : goal.returns-then-len-lt-PAGE

@@ -1,6 +1,6 @@
 use Rattle.std.proofs.Common.{sym, ◌∙◌, arith}
 use Rattle.std.proofs.lemmas.Bool.Decides.{nat_tests}
-use Rattle.vf_flex.specs.Status.{place_status}
+use Rattle.vf_flex.specs.SlotStatus.{place_status}
 use Rattle.vf_flex.proofs.Starts.{within}
 use Rattle.vf_flex.proofs.input.place_status.Goals as goal
 

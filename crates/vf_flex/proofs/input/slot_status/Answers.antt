@@ -1,6 +1,6 @@
 use Rattle.std.proofs.Common.{arith}
 use Rattle.std.proofs.lemmas.Bool.Decides.{nat_tests}
-use Rattle.vf_flex.specs.Status.{slot_status}
+use Rattle.vf_flex.specs.SlotStatus.{slot_status}
 use Rattle.vf_flex.proofs.input.slot_status.Goals as goal
 
 pub returns-then-status-ne-OK : goal.returns-then-status-ne-OK

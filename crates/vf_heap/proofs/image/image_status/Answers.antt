@@ -1,6 +1,6 @@
 use Rattle.std.proofs.Common.{refl, sym, ap, ◌∙◌, arith}
 use Rattle.std.proofs.lemmas.Bool.Decides.{nat_tests}
-use Rattle.vf_heap.specs.Status.{found_status, image_status}
+use Rattle.vf_heap.specs.HeapStatus.{found_status, image_status}
 use Rattle.vf_heap.proofs.Images.{taken, looked_at}
 use Rattle.vf_heap.proofs.image.image_status.Goals as goal
 

@@ -2,7 +2,7 @@ use Rattle.std.proofs.Common.{sym, ap}
 use Rattle.rh_defs.specs.Heap.{claim_block}
 use Rattle.rh_defs.specs.HeapImage.{heap_of}
 use Rattle.rh_defs.specs.declared.heap.HeapRefusal.TheVariants.{NoRoom}
-use Rattle.vf_heap.specs.Status.{status_of, number_or}
+use Rattle.vf_heap.specs.HeapStatus.{status_of, number_or}
 use Rattle.vf_heap.proofs.Claims.{claim_beyond, refused}
 use Rattle.vf_heap.proofs.plain.vf_heap_claim.Goals as goal
 

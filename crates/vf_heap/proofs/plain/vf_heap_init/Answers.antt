@@ -1,6 +1,6 @@
 use Rattle.std.proofs.Common.{arith}
 use Rattle.std.proofs.lemmas.Bool.Decides.{nat_tests}
-use Rattle.vf_heap.specs.Status.{length_status}
+use Rattle.vf_heap.specs.HeapStatus.{length_status}
 use Rattle.vf_heap.proofs.plain.vf_heap_init.Goals as goal
 
 pub init-requires-clause-few : goal.init-requires-clause-few

@@ -1,4 +1,4 @@
-use Rattle.wimp_tests.specs.Runs.{Runs}
+use Rattle.wimp_tests.specs.TestRuns.{Runs}
 use Rattle.wimp_tests.proofs.chains.steps.Given as goal
 
 abbrev pub invariant-loop-turn : goal.invariant-loop-turn

@@ -1,7 +1,7 @@
 use Rattle.rh_flex.proofs.Common.{◌≡◌, ◌≤◌, ◌*◌, true, length, ap, ◌∙◌, arith, nat_tests, length-take-le, PAGE, slot_of, lent_slot_bytes}
 use Rattle.std.proofs.lemmas.Result.{IfOk-weaker}
-use Rattle.rh_flex.specs.Image.{pages_fault_of}
-use Rattle.rh_slot.specs.Image.{slot_summary}
+use Rattle.rh_flex.specs.LentSlotChecks.{pages_fault_of}
+use Rattle.rh_slot.specs.SlotChecks.{slot_summary}
 use Rattle.rh_flex.proofs.ImageLaws.{fault_inside, same_sums, short_back, short_few, short_from, short_lies}
 use Rattle.rh_flex.proofs.slot.LentSlot.check.Goals as goal
 

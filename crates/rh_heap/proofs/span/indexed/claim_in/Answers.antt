@@ -1,4 +1,4 @@
-use Rattle.rh_heap.specs.Spans.{heap_in}
+use Rattle.rh_heap.specs.HeapSpans.{heap_in}
 use Rattle.rh_heap.proofs.CallLaws.{leaves}
 use Rattle.rh_heap.proofs.ClaimLaws.{claim_answered}
 use Rattle.rh_heap.proofs.span.indexed.claim_in.Goals as goal

@@ -1,6 +1,6 @@
 -- The first hole is read, and below it the map has no bit for one.
 use Rattle.std.proofs.Common.{refl}
-use Rattle.rh_heap.specs.Starts.{no_hole}
+use Rattle.rh_heap.specs.HeapStarts.{no_hole}
 use Rattle.rh_heap.proofs.IndexLaws.{none_below_first}
 use Rattle.rh_heap.proofs.span.indexed.link_before.Goals.{then-first-eq0-via-then-first-eq0, then-first-eq0-via-else-first-eq0+then-place-first}
 use Rattle.rh_heap.proofs.span.indexed.link_before.Goals as goal

@@ -1,4 +1,4 @@
-use Rattle.rh_heap.specs.Spans.{heap_in}
+use Rattle.rh_heap.specs.HeapSpans.{heap_in}
 use Rattle.rh_heap.proofs.BitLaws.{not_set}
 use Rattle.rh_heap.proofs.IndexLaws.{not_marked, not_there}
 use Rattle.rh_heap.proofs.WalkLaws.{no_low_block}

@@ -1,5 +1,5 @@
 use Rattle.rh_heap.proofs.WalkLaws.{before_first, past_base, found_here, none_here}
-use Rattle.rh_heap.specs.Spans.{heap_in}
+use Rattle.rh_heap.specs.HeapSpans.{heap_in}
 use Rattle.rh_heap.proofs.span.segments.find_segment.Goals.{then-target-lt-HEAP_FIRST-via-then-target-lt-HEAP_FIRST}
 use Rattle.rh_heap.proofs.span.segments.find_segment.Goals.{then-target-lt-HEAP_FIRST-via-else-target-lt-HEAP_FIRST+then-read-target}
 use Rattle.rh_heap.proofs.span.segments.find_segment.Goals as goal

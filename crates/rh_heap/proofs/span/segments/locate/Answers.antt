@@ -1,4 +1,4 @@
-use Rattle.rh_heap.specs.Spans.{heap_in}
+use Rattle.rh_heap.specs.HeapSpans.{heap_in}
 use Rattle.rh_heap.proofs.WalkLaws.{no_low_block, no_block_at, found_block, found_hole}
 use Rattle.rh_heap.proofs.span.segments.locate.Goals as goal
 

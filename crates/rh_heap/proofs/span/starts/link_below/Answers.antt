@@ -1,5 +1,5 @@
 use Rattle.std.proofs.Common.{refl}
-use Rattle.rh_heap.specs.Starts.{a_hole}
+use Rattle.rh_heap.specs.HeapStarts.{a_hole}
 use Rattle.rh_heap.proofs.span.starts.link_below.Goals as goal
 
 pub returns-in-Some : goal.returns-in-Some

@@ -1,6 +1,6 @@
 use Rattle.rh_heap.proofs.SizeLaws.{init_spells}
 use Rattle.rh_heap.proofs.SpanLaws.{heap_now, is_span}
-use Rattle.rh_heap.specs.Spans.{SpellsHeapIn}
+use Rattle.rh_heap.specs.HeapSpans.{SpellsHeapIn}
 use Rattle.rh_defs.specs.Heap.{empty_heap}
 use Rattle.rh_heap.proofs.span.whole.init.Goals as goal
 use Rattle.rh_heap.proofs.span.whole.init.Goals.{After-write-4}

@@ -2,7 +2,7 @@
 use Rattle.rh_module.proofs.Common.{◌≡◌, ◌*◌, ◌≤◌, to_z, refl, subst, arith, w32, Ok, PAGE, left_of, no_answer, extended, module_heap_in}
 use Rattle.rh_defs.specs.Heap.{extend_by}
 use Rattle.rh_defs.proofs.HeapCalls.{extend-done}
-use Rattle.rh_heap.specs.Spans as spans
+use Rattle.rh_heap.specs.HeapSpans as spans
 use Rattle.rh_module.proofs.LengthLaws.{MayMove, grown_may_move, lengthened, only_lengthened}
 use Rattle.rh_module.proofs.module.Module.lengthen.Goals as goal
 use Rattle.rh_module.proofs.module.Module.lengthen.Goals.{After-span}

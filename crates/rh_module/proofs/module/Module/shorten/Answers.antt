@@ -1,6 +1,6 @@
 -- The heap's end has moved down, and the pages above it go.
 use Rattle.rh_module.proofs.Common.{ap, subst, err_from_is_err_and, left_of, no_answer, extended, refusal_of}
-use Rattle.rh_heap.specs.Spans as spans
+use Rattle.rh_heap.specs.HeapSpans as spans
 use Rattle.rh_module.proofs.LengthLaws.{down, may_shorten, may_not_shorten, shortened, only_shortened}
 use Rattle.rh_module.proofs.module.Module.shorten.Goals as goal
 use Rattle.rh_module.proofs.module.Module.shorten.Goals.{In_ok-extend_heap}

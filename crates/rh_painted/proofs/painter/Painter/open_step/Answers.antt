@@ -1,5 +1,5 @@
 use Rattle.rh_painted.proofs.Common.{[], ◌+◌, ◌∙◌, ap, sym, if◌then◌else◌, puts_same}
-use Rattle.rh_sheet.specs.Steps.{step_open}
+use Rattle.rh_sheet.specs.SheetSteps.{step_open}
 use Rattle.rh_painted.proofs.painter.Painter.open_step.Goals as goal
 
 pub returns : goal.returns

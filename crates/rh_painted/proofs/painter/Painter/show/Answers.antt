@@ -1,9 +1,9 @@
 use Rattle.rh_painted.proofs.Common.{◌∙◌, List, ℕ, ap, ap₂, refl, subst, sym, ◌&&◌, not, option_map, puts_same, scene_of, puts_stops, step_text, scene_at}
 use Rattle.rh_painted.proofs.Common.{happened_at}
-use Rattle.rh_drawn.specs.Replies.{Excerpts}
-use Rattle.rh_sight.specs.Pages.{share_in}
+use Rattle.rh_drawn.specs.DrawnReplies.{Excerpts}
+use Rattle.rh_sight.specs.SightPages.{share_in}
 use Rattle.rh_sight.specs.Steps.{marks_seen}
-use Rattle.rh_painted.specs.Progress.{stand_shown}
+use Rattle.rh_painted.specs.PaintedProgress.{stand_shown}
 use Rattle.rh_painted.proofs.PrintLemmas.{puts-stop, puts-then}
 use Rattle.rh_painted.proofs.StepLemmas.{err-comes}
 use Rattle.rh_painted.proofs.painter.Painter.show.Goals as goal

@@ -4,7 +4,7 @@ use Rattle.rh_defs.specs.Line.{words_of}
 use Rattle.rh_drawn.proofs.ShareLemmas.{is_shared}
 use Rattle.rh_figure.specs.Map.{is_mark}
 use Rattle.rh_sheet.specs.Sheet.{is_shown_remark}
-use Rattle.rh_sheet.specs.Steps.{remark_text, step_open}
+use Rattle.rh_sheet.specs.SheetSteps.{remark_text, step_open}
 use Rattle.rh_sheet.specs.declared.sizes.TheConstants.{MOST_STEPS}
 use Rattle.rh_painted.proofs.PrintLemmas.{puts-stop, puts-then}
 use Rattle.rh_painted.proofs.StepLemmas.{skip-broken, skip-hidden, skip-shown}

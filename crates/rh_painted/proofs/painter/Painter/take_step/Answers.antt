@@ -1,5 +1,5 @@
 use Rattle.rh_painted.proofs.Common.{List, ℕ, ap, subst, sym, option_map, marks_of, Share, Happened, happened_at}
-use Rattle.rh_drawn.specs.Replies.{Excerpts}
+use Rattle.rh_drawn.specs.DrawnReplies.{Excerpts}
 use Rattle.rh_map.specs.Replies.{front_of}
 use Rattle.rh_painted.proofs.StepLemmas.{IsNoted, took-shown, wrote-over}
 use Rattle.rh_painted.proofs.painter.Painter.take_step.Goals as goal

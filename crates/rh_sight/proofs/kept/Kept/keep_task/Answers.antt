@@ -2,7 +2,7 @@ use Rattle.rh_sight.proofs.Common.{◌≡◌, ◌∙◌, Some, ap, sym, Desk, Ta
 use Rattle.rh_defs.specs.Desk.{next_ref}
 use Rattle.rh_defs.specs.Post.{held_by}
 use Rattle.rh_figure.specs.Scene.{Before, before_task, ref_of}
-use Rattle.rh_sight.specs.Messages.{held_ref}
+use Rattle.rh_sight.specs.SightMessages.{held_ref}
 use Rattle.rh_sight.proofs.Posts.{held-is}
 use Rattle.rh_sight.proofs.kept.Kept.keep_task.Goals as goal
 

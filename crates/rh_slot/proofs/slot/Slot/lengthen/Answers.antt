@@ -2,7 +2,7 @@
 use Rattle.rh_slot.proofs.Common.{◌≡◌, ◌+◌, ◌-◌, ◌*◌, refl, subst, ap, to_z, arith, w32, pos, PAGE, raised, left_of, no_answer, heap_in, slot_in}
 use Rattle.std.proofs.lemmas.Int.{to_z_pos}
 use Rattle.rh_defs.proofs.HeapCalls.{extend-done}
-use Rattle.rh_heap.specs.Spans.{SpellsHeapIn}
+use Rattle.rh_heap.specs.HeapSpans.{SpellsHeapIn}
 use Rattle.rh_slot.proofs.GrowLaws.{budged, all_blocks, words_grown, raised_by, slid}
 use Rattle.rh_slot.proofs.slot.Slot.lengthen.Goals as goal
 

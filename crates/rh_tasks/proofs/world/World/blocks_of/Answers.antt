@@ -1,5 +1,5 @@
 use Rattle.rh_tasks.proofs.Common.{List, refl, Ok, err_from_is_err_and, BlockItem, Granted, block_items, ends, nobody}
-use Rattle.rh_tasks.specs.Lists.{blocks_of}
+use Rattle.rh_tasks.specs.WorldLists.{blocks_of}
 use Rattle.rh_tasks.proofs.QuestionLaws.{of-slot}
 use Rattle.rh_tasks.proofs.world.World.blocks_of.Goals as goal
 

@@ -1,6 +1,6 @@
 use Rattle.rh_tasks.proofs.Common.{List, ◌∙◌, ap, sym, arith, Ok, err_from_is_err_and, SegmentItem, Granted, heap_start, slot_in, segment_items_at, ends}
 use Rattle.rh_tasks.proofs.Common.{nobody, owned}
-use Rattle.rh_tasks.specs.Lists.{segments_of}
+use Rattle.rh_tasks.specs.WorldLists.{segments_of}
 use Rattle.rh_tasks.proofs.QuestionLaws.{of-slot}
 use Rattle.rh_tasks.proofs.Readers.{small-end}
 use Rattle.rh_tasks.proofs.SegmentItems.{items_from, small_from}

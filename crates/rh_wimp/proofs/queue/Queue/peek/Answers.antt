@@ -1,6 +1,6 @@
 use Rattle.rh_wimp.proofs.Common.{◌≡◌, ◌≢◌, ◌<◌, Bool, List, true, length, sym, ap, subst, ◌∙◌, arith, Option, Some, None, option_map, Parcel, Post, has_seat}
 use Rattle.rh_wimp.proofs.Common.{held_by, holds_such, post_poll, module_heap_in, Chains, HasEntry, Holds, SpellsPostIn, entry_at, LinksAt, Entry}
-use Rattle.rh_wimp.specs.Items.{with_message}
+use Rattle.rh_wimp.specs.QueueItems.{with_message}
 use Rattle.rh_wimp.proofs.AnswerLaws.{read_entry}
 use Rattle.rh_wimp.proofs.PeekLaws.{HoldsOwn, front, front-is, first_of, held-there, is_own, own-held, poll-none, poll-own, poll-waiting}
 use Rattle.rh_wimp.proofs.PollLaws.{Heads, heads, next-small, no-head}

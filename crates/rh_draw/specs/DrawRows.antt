@@ -1,5 +1,5 @@
 -- Areas by what is written of them.
-use Rattle.rh_sheet.specs.Rows as rows
+use Rattle.rh_sheet.specs.SheetRows as rows
 use Rattle.rh_draw.specs.declared.rows.Plot.{Plot}
 use Rattle.rh_draw.specs.Tints.{tint_class}
 

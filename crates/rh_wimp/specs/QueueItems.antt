@@ -4,7 +4,7 @@ use Rattle.rh_defs.specs.Bytes.{with_part}
 use Rattle.rh_defs.specs.Memory.{Memory}
 use Rattle.rh_defs.specs.Messages.{Parcel, action_of, encoded}
 use Rattle.rh_defs.specs.Post.{Post}
-use Rattle.rh_module.specs.Area.{module_heap_in}
+use Rattle.rh_module.specs.ModuleArea.{module_heap_in}
 use Rattle.rh_module.specs.declared.module.Module.{Module}
 use Rattle.rh_wimp.specs.Chains.{Lies, SeatRow, held_list, rows_of}
 use Rattle.rh_defs.specs.declared.message.MessageItem.{MessageItem}

@@ -4,9 +4,9 @@ use Rattle.std.specs.List.{list_any}
 use Rattle.std.specs.Option.{option_map}
 use Rattle.rh_figure.specs.Figure.{Letterbox}
 use Rattle.rh_figure.specs.declared.limits.TheConstants.{MOST_LISTED}
-use Rattle.rh_map.specs.Messages.{mapped_letterbox}
+use Rattle.rh_map.specs.MapMessages.{mapped_letterbox}
 use Rattle.rh_map.specs.declared.letterboxes.MessageEntry.{MessageEntry}
-use Rattle.rh_sight.specs.Messages.{is_held_by, waits_for}
+use Rattle.rh_sight.specs.SightMessages.{is_held_by, waits_for}
 use Rattle.rh_defs.specs.declared.message.MessageItem.{MessageItem}
 
 -- whether a message is for the task

@@ -6,7 +6,7 @@ use Rattle.rh_defs.specs.Slot.{Slot, heap_start, slot_start, slot_alloc, slot_fr
 use Rattle.rh_defs.specs.declared.refusal.Refusal.TheVariants.{NotABlock}
 use Rattle.rh_flex.specs.Slots.{IsSlotBytes, LeavesSlot, free_in, lent_slot_in}
 use Rattle.rh_flex.specs.declared.slot.LentSlot.{LentSlot}
-use Rattle.vf_flex.specs.Status.{slot_status}
+use Rattle.vf_flex.specs.SlotStatus.{slot_status}
 
 -- where the slot's pages lie in the bytes, they spell a slot
 abbrev pub AreLeft : List ℕ → LentSlot → Type 0

@@ -3,7 +3,7 @@ use Rattle.std.specs.Prelude.{List, ◌++◌, codes}
 use Rattle.std.specs.List.{flat_map}
 use Rattle.rh_figure.specs.Phrases.{Text}
 use Rattle.rh_map.specs.declared.letterboxes.MessageEntry.{MessageEntry}
-use Rattle.rh_map.specs.Messages.{message_entry_text}
+use Rattle.rh_map.specs.MapMessages.{message_entry_text}
 
 -- messages, each behind a comma
 abbrev pub behind_commas : List MessageEntry → Text

@@ -2,7 +2,7 @@
 use Rattle.std.specs.Prelude.{◌≡◌, ℕ, List}
 use Rattle.rh_defs.specs.Memory.{Memory}
 use Rattle.rh_module.specs.declared.module.Module.{Module}
-use Rattle.rh_wimp.specs.Calls.{IsQueue, handles_of}
+use Rattle.rh_wimp.specs.QueueCalls.{IsQueue, handles_of}
 use Rattle.rh_wimp.specs.Chains.{Chains}
 
 -- the queue is one, and its handles are those that the lists have

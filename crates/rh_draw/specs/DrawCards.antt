@@ -4,7 +4,7 @@ use Rattle.std.specs.List.{concat}
 use Rattle.rh_figure.specs.Phrases.{Text}
 use Rattle.rh_figure.specs.Cards as cards
 use Rattle.rh_sheet.specs.Markup.{fresh_class}
-use Rattle.rh_sheet.specs.Cards.{card_class}
+use Rattle.rh_sheet.specs.SheetCards.{card_class}
 use Rattle.rh_draw.specs.declared.cards.Look.{Look}
 use Rattle.rh_draw.specs.declared.cards.Look.TheVariants.{Flex, Used, Hole, Post, More}
 use Rattle.rh_draw.specs.declared.cards.Card.{Card}

@@ -10,9 +10,9 @@ use Rattle.rh_figure.specs.declared.piece.Piece.{Piece}
 use Rattle.rh_figure.specs.Cards.{CardKind}
 use Rattle.rh_sheet.specs.Markup.{Box, escape}
 use Rattle.rh_sheet.specs.Frames.{Frame, shown_rows, rows_foot, row_y}
-use Rattle.rh_sheet.specs.Pieces.{low_in, high_in, piece_box}
-use Rattle.rh_sheet.specs.Rows.{page_box}
-use Rattle.rh_sheet.specs.Cards.{card_box, card_x}
+use Rattle.rh_sheet.specs.SheetPieces.{low_in, high_in, piece_box}
+use Rattle.rh_sheet.specs.SheetRows.{page_box}
+use Rattle.rh_sheet.specs.SheetCards.{card_box, card_x}
 use Rattle.rh_sheet.specs.Pool.{cell_x}
 use Rattle.rh_sheet.specs.Sheet.{Walk, sheet_lines}
 use Rattle.rh_sheet.specs.declared.sizes.TheConstants.{LEFT, ROW_WIDTH, ROW_HEIGHT, FIGURE_WIDTH, CELL}

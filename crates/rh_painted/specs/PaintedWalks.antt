@@ -13,10 +13,10 @@ use Rattle.rh_figure.specs.Whole.{AreShared, read_of}
 use Rattle.rh_lines.specs.Flow.{Output, Takes, Breaks, Puts}
 use Rattle.rh_sheet.specs.Chart.{noted}
 use Rattle.rh_sheet.specs.declared.note.Note.{Note}
-use Rattle.rh_sheet.specs.Laws.{at_desk}
+use Rattle.rh_sheet.specs.SheetLaws.{at_desk}
 use Rattle.rh_sheet.specs.Sheet.{Happened, Walk, behind_read, happened_text, is_shown, opening, read_text, sheet_lines}
-use Rattle.rh_sheet.specs.Steps.{step_text}
-use Rattle.rh_painted.specs.Progress.{PaintStand, stand_behind, stand_first, stand_shown}
+use Rattle.rh_sheet.specs.SheetSteps.{step_text}
+use Rattle.rh_painted.specs.PaintedProgress.{PaintStand, stand_behind, stand_first, stand_shown}
 use Rattle.rh_painted.specs.declared.painter.Painter.{Painter}
 
 -- where a sheet stands over a desk

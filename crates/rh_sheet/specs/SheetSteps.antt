@@ -14,7 +14,7 @@ use Rattle.rh_figure.specs.Map.{is_mark, reply_lines, shown_byte}
 use Rattle.rh_figure.specs.declared.limits.TheConstants.{LINE_COLUMNS}
 use Rattle.rh_sheet.specs.Markup.{escape, heading_text, change_item, step_link}
 use Rattle.rh_sheet.specs.Pool.{pool_figure}
-use Rattle.rh_sheet.specs.Areas.{slot_figure, module_figure}
+use Rattle.rh_sheet.specs.SheetAreas.{slot_figure, module_figure}
 use Rattle.rh_sheet.specs.Tables.{messages_table, transfers_table}
 use Rattle.rh_sheet.specs.Chart.{Note, chart_figure}
 

@@ -2,7 +2,7 @@
 use Rattle.std.specs.Prelude.{◌≡◌, ℕ, List, map}
 use Rattle.rh_defs.specs.Memory.{Memory, OnlyArea}
 use Rattle.rh_defs.specs.Post.{Post}
-use Rattle.rh_module.specs.Area.{IsModule}
+use Rattle.rh_module.specs.ModuleArea.{IsModule}
 use Rattle.rh_module.specs.declared.module.Module.{Module}
 use Rattle.rh_wimp.specs.Chains.{Chains, SpellsPostIn}
 use Rattle.rh_wimp.specs.declared.chain.Entry.{Entry}

@@ -6,8 +6,8 @@ use Rattle.rh_console.specs.declared.console.Console.{Console}
 use Rattle.rh_defs.specs.Desk.{Desk}
 use Rattle.rh_defs.specs.Script.{line_desk, line_text}
 use Rattle.vf_desk.specs.declared.station.Station.{Station}
-use Rattle.vf_desk.specs.Seen.{SeenBy, console_in, files_in}
-use Rattle.vf_desk.specs.Status.{closed_status, short}
+use Rattle.vf_desk.specs.SeenDesk.{SeenBy, console_in, files_in}
+use Rattle.vf_desk.specs.DeskStatus.{closed_status, short}
 
 -- the desk after a line, where it is open and seen as this one, or closed
 abbrev pub desk_after : Option Desk → List ℕ → Option Desk

@@ -4,7 +4,7 @@ use Rattle.std.specs.List.{flat_map, enumerate_from}
 use Rattle.rh_figure.specs.Phrases.{Text}
 use Rattle.rh_figure.specs.Cards.{Card}
 use Rattle.rh_sheet.specs.Markup.{escape}
-use Rattle.rh_sheet.specs.Cards.{card_sentence, low_card_text, high_card_text}
+use Rattle.rh_sheet.specs.SheetCards.{card_sentence, low_card_text, high_card_text}
 use Rattle.rh_painted.specs.declared.bands.Form.{Form}
 use Rattle.rh_painted.specs.declared.bands.Form.TheVariants.{Told, Below, Above}
 

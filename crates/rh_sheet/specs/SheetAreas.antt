@@ -17,8 +17,8 @@ use Rattle.rh_figure.specs.Changes.{slides}
 use Rattle.rh_sheet.specs.Markup.{path_text, point_text, stretch_text, svg_text}
 use Rattle.rh_sheet.specs.Owners.{area_class, task_class}
 use Rattle.rh_sheet.specs.Frames.{Frame, rows_top, rows_foot, frame_height, row_y}
-use Rattle.rh_sheet.specs.Rows.{Plot, rows_text}
-use Rattle.rh_sheet.specs.Cards.{cards_above, cards_below, lens_text, cards_sentences}
+use Rattle.rh_sheet.specs.SheetRows.{Plot, rows_text}
+use Rattle.rh_sheet.specs.SheetCards.{cards_above, cards_below, lens_text, cards_sentences}
 use Rattle.rh_sheet.specs.Arrows.{slide_arrow}
 use Rattle.rh_sheet.specs.declared.sizes.TheConstants.{UNIT_BYTES, LEFT, FIGURE_WIDTH, ROW_HEIGHT, ROW_GAP, LENS_HEIGHT}
 

@@ -9,8 +9,8 @@ use Rattle.rh_defs.specs.Chain.{Granted, answer_of, left_of}
 use Rattle.rh_defs.specs.Heap.{Heap}
 use Rattle.rh_defs.specs.Memory.{Memory, bytes}
 use Rattle.rh_defs.specs.Post.{Post}
-use Rattle.rh_module.specs.Area.{IsModule, module_heap_in}
-use Rattle.rh_module.specs.Calls as module_calls
+use Rattle.rh_module.specs.ModuleArea.{IsModule, module_heap_in}
+use Rattle.rh_module.specs.ModuleCalls as module_calls
 use Rattle.rh_module.specs.declared.module.Module.{Module}
 use Rattle.rh_wimp.specs.Chains.{Chains, SpellsPostIn}
 use Rattle.rh_wimp.specs.PostIn.{in_order, post_in}

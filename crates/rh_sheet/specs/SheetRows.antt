@@ -9,7 +9,7 @@ use Rattle.rh_figure.specs.declared.piece.Piece.{Piece}
 use Rattle.rh_figure.specs.declared.limits.TheConstants.{EDGE_ROWS}
 use Rattle.rh_sheet.specs.Markup.{Box, box_text, words_text}
 use Rattle.rh_sheet.specs.Frames.{Frame, shown_rows, page_in, row_y}
-use Rattle.rh_sheet.specs.Pieces.{pieces_text}
+use Rattle.rh_sheet.specs.SheetPieces.{pieces_text}
 use Rattle.rh_sheet.specs.declared.sizes.TheConstants.{LEFT, ROW_WIDTH, ROW_HEIGHT, BASELINE, CHIP_LEFT, CHIP_WIDTH}
 
 -- an area as it is drawn: its first address, the numbers of its pages from below, its pieces, and its owner's tint

@@ -10,7 +10,7 @@ use Rattle.rh_heap.specs.declared.span.Span.{Span}
 use Rattle.rh_heap.specs.declared.span.segments.Spot.{Spot}
 use Rattle.rh_heap.specs.declared.span.resize.Way.{Way}
 use Rattle.rh_heap.specs.declared.span.resize.Way.TheVariants as way
-use Rattle.rh_heap.specs.Spans.{heap_in, SpellsHeapIn}
+use Rattle.rh_heap.specs.HeapSpans.{heap_in, SpellsHeapIn}
 use Rattle.rh_heap.specs.declared.layout.TheConstants.{BLOCK}
 
 -- the same way

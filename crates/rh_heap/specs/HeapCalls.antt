@@ -5,7 +5,7 @@ use Rattle.rh_defs.specs.Chain.{answer_of, left_of}
 use Rattle.rh_defs.specs.Heap.{Heap}
 use Rattle.rh_defs.specs.declared.heap.HeapRefusal.{HeapRefusal}
 use Rattle.rh_heap.specs.declared.span.Span.{Span}
-use Rattle.rh_heap.specs.Spans.{IsSpan, SpellsHeapIn, OnlySpan, heap_in}
+use Rattle.rh_heap.specs.HeapSpans.{IsSpan, SpellsHeapIn, OnlySpan, heap_in}
 
 -- A call on the span's heap is granted this: it answers so, the span's bytes spell the heap that is granted, nothing else has changed, and where it is refused nothing at all.
 pub record LeavesHeap {A : Type 0} (m n : Memory) (span : Span) (granted : Result (Heap × A) HeapRefusal) (result : Result A HeapRefusal) : Type 0 where

@@ -9,7 +9,7 @@ use Rattle.rh_map.specs.declared.messages.ChainPlace.{ChainPlace}
 use Rattle.rh_map.specs.declared.messages.ChainPlace.TheVariants.{Held, Before, Last}
 use Rattle.rh_map.specs.declared.messages.CardMessage.{CardMessage}
 use Rattle.rh_map.specs.declared.letterboxes.MessageEntry.{MessageEntry}
-use Rattle.rh_map.specs.Tasks.{who_text}
+use Rattle.rh_map.specs.MapTasks.{who_text}
 
 -- where a message stands in its chain
 abbrev pub place_text : ChainPlace → Text

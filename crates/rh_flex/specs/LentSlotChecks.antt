@@ -3,7 +3,7 @@ use Rattle.std.specs.Prelude.{ℕ, ◌*◌, ◌≤◌, nat_le, ◌&&◌, if◌th
 use Rattle.rh_defs.specs.declared.sizes.TheConstants.{PAGE}
 use Rattle.rh_flex.specs.Slots.{IsSlotBytes, lent_slot_bytes}
 use Rattle.rh_flex.specs.declared.slot.LentSlot.{LentSlot}
-use Rattle.rh_slot.specs.Image.{slot_fault_of}
+use Rattle.rh_slot.specs.SlotChecks.{slot_fault_of}
 use Rattle.rh_slot.specs.declared.image.SlotFault.{SlotFault}
 use Rattle.rh_slot.specs.declared.image.SlotFault.TheVariants.{BadLength}
 use Rattle.rh_slot.specs.declared.image.TheConstants.{LONGEST_SLOT}

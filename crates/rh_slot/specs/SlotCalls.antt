@@ -4,7 +4,7 @@ use Rattle.rh_defs.specs.Memory.{Memory, OnlyArea}
 use Rattle.rh_defs.specs.Chain.{Granted, answer_of, left_of}
 use Rattle.rh_defs.specs.Slot as plain
 use Rattle.rh_slot.specs.declared.slot.Slot.{Slot}
-use Rattle.rh_slot.specs.Area.{IsSlotIn, SpellsSlotIn, slot_in}
+use Rattle.rh_slot.specs.SlotArea.{IsSlotIn, SpellsSlotIn, slot_in}
 
 -- A call on the slot s is granted this: it answers so, the area's bytes spell the slot that is granted, no other area has changed, and where it is refused nothing at all.
 pub record LeavesSlotIn {A : Type 0} (m n : Memory) (s : Slot) (granted : Granted (plain.Slot × A)) (result : Granted A) : Type 0 where

@@ -8,7 +8,7 @@ use Rattle.rh_defs.specs.HeapImage.{fault_of}
 use Rattle.rh_defs.specs.Slot.{Flex, Slot, weight, slot_length, slot_pages, anchor_count}
 use Rattle.rh_defs.specs.SlotImage.{SpellsSlot, heap_place, flex_in, slot_of}
 use Rattle.rh_defs.specs.declared.heap.HeapFault.{HeapFault}
-use Rattle.rh_heap.specs.Image.{summary_of}
+use Rattle.rh_heap.specs.HeapChecks.{summary_of}
 use Rattle.rh_slot.specs.declared.image.BlockSums.{BlockSums}
 use Rattle.rh_slot.specs.declared.image.SlotFault.{SlotFault}
 use Rattle.rh_slot.specs.declared.image.SlotFault.TheVariants.{BadLength, BadHeap, BadSize, BadAnchor, SparePage}

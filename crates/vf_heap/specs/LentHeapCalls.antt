@@ -6,7 +6,7 @@ use Rattle.rh_defs.specs.HeapImage.{heap_of}
 use Rattle.rh_defs.specs.declared.heap.HeapRefusal.{HeapRefusal}
 use Rattle.rh_defs.specs.declared.heap.HeapRefusal.TheVariants.{NotABlock}
 use Rattle.rh_lent.specs.Heaps.{LeavesBytes}
-use Rattle.vf_heap.specs.Status.{image_status}
+use Rattle.vf_heap.specs.HeapStatus.{image_status}
 
 -- a call on the heap of bytes b that is granted this leaves bytes c
 abbrev pub LeavesLentHeap : {A : Type 0} → List ℕ → List ℕ → Result (Heap × A) HeapRefusal → Type 0
