@@ -18,97 +18,97 @@ use std::test::Fail;
 #[derive(Drop)]
 struct Bench<S: Store> {
     store: S,
-    rma: Module,
+    module_area: Module,
 }
 
 impl<S: Store + Drop> Bench<S> {
     /// The module area in an area of one page.
     #[tactic(auto, using(rh_defs::proofs::BytesLaws::word_laws, rh_defs::proofs::MemoryLaws::memory_laws, rh_defs::proofs::MemoryLaws::pool_laws))]
     fn new(store: S) -> Result<Bench<S>, StoreFault>
-        ensures { IfOk result (λ bench. IsModule (S.memory bench.store) bench.rma) }
+        ensures { IfOk result (λ bench. IsModule (S.memory bench.store) bench.module_area) }
     {
         let mut store = store;
         let area = store.open()?;
         store.grow(area, 1)?;
-        let rma = Module::start(&mut store, area);
-        Ok(Bench { store, rma })
+        let module_area = Module::start(&mut store, area);
+        Ok(Bench { store, module_area })
     }
 
     fn claim(&mut self, n: u32) -> Result<usize, Refusal>
-        requires { IsModule (S.memory self.old.store) self.old.rma }
-        ensures { IsModule (S.memory self.new.store) self.new.rma }
+        requires { IsModule (S.memory self.old.store) self.old.module_area }
+        ensures { IsModule (S.memory self.new.store) self.new.module_area }
     {
-        self.rma.claim(&mut self.store, n)
+        self.module_area.claim(&mut self.store, n)
     }
 
     fn free(&mut self, address: usize) -> Result<(), Refusal>
-        requires { IsModule (S.memory self.old.store) self.old.rma }
-        ensures { IsModule (S.memory self.new.store) self.new.rma }
+        requires { IsModule (S.memory self.old.store) self.old.module_area }
+        ensures { IsModule (S.memory self.new.store) self.new.module_area }
     {
-        self.rma.free(&mut self.store, address)
+        self.module_area.free(&mut self.store, address)
     }
 
     fn resize(&mut self, address: usize, delta: i32) -> Result<usize, Refusal>
-        requires { IsModule (S.memory self.old.store) self.old.rma }
-        ensures { IsModule (S.memory self.new.store) self.new.rma }
+        requires { IsModule (S.memory self.old.store) self.old.module_area }
+        ensures { IsModule (S.memory self.new.store) self.new.module_area }
     {
-        self.rma.resize(&mut self.store, address, delta)
+        self.module_area.resize(&mut self.store, address, delta)
     }
 
     fn change(&mut self, delta: i32) -> Result<usize, Refusal>
-        requires { IsModule (S.memory self.old.store) self.old.rma }
-        ensures { IsModule (S.memory self.new.store) self.new.rma }
+        requires { IsModule (S.memory self.old.store) self.old.module_area }
+        ensures { IsModule (S.memory self.new.store) self.new.module_area }
     {
-        self.rma.change(&mut self.store, delta)
+        self.module_area.change(&mut self.store, delta)
     }
 
     fn need_pages(&self, n: u32) -> Result<usize, Refusal>
-        requires { IsModule (S.memory self.now.store) self.now.rma }
+        requires { IsModule (S.memory self.now.store) self.now.module_area }
     {
-        self.rma.need_pages(&self.store, n)
+        self.module_area.need_pages(&self.store, n)
     }
 
     fn block_size(&self, address: usize) -> Result<usize, Refusal>
-        requires { IsModule (S.memory self.now.store) self.now.rma }
+        requires { IsModule (S.memory self.now.store) self.now.module_area }
     {
-        self.rma.block_size(&self.store, address)
+        self.module_area.block_size(&self.store, address)
     }
 
     fn segment(&self, place: usize) -> Option<Segment>
-        requires { IsModule (S.memory self.now.store) self.now.rma }
+        requires { IsModule (S.memory self.now.store) self.now.module_area }
     {
-        self.rma.segment(&self.store, place)
+        self.module_area.segment(&self.store, place)
     }
 
     fn segments_from(&self, place: usize) -> ArrayVec<Segment, SEGMENTS_AT_ONCE>
-        requires { IsModule (S.memory self.now.store) self.now.rma }
+        requires { IsModule (S.memory self.now.store) self.now.module_area }
     {
-        self.rma.segments_from(&self.store, place)
+        self.module_area.segments_from(&self.store, place)
     }
 
     fn holds(&self, address: usize, n: usize) -> bool
-        requires { IsModule (S.memory self.now.store) self.now.rma }
+        requires { IsModule (S.memory self.now.store) self.now.module_area }
     {
-        self.rma.holds(&self.store, address, n)
+        self.module_area.holds(&self.store, address, n)
     }
 
     fn end(&self) -> usize
-        requires { IsModule (S.memory self.now.store) self.now.rma }
+        requires { IsModule (S.memory self.now.store) self.now.module_area }
     {
-        self.rma.end(&self.store)
+        self.module_area.end(&self.store)
     }
 
     fn describe(&self) -> (usize, usize)
-        requires { IsModule (S.memory self.now.store) self.now.rma }
+        requires { IsModule (S.memory self.now.store) self.now.module_area }
     {
-        self.rma.describe(&self.store)
+        self.module_area.describe(&self.store)
     }
 
     /// The length of the area, in bytes.
     fn len(&self) -> usize
-        requires { IsModule (S.memory self.now.store) self.now.rma }
+        requires { IsModule (S.memory self.now.store) self.now.module_area }
     {
-        self.store.len(self.rma.area)
+        self.store.len(self.module_area.area)
     }
 }
 

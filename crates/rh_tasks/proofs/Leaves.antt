@@ -46,16 +46,16 @@ module _ {m n : Memory} {slot : Slot} {g : Granted plain.Slot} where
   pub unchanged : {r : Refusal} → slot_calls.LeavesSlotIn m n slot (no_answer g) (Err r) → g ≡ Err r
   unchanged l = none-refused g (refused l)
 
-module _ {A : Type 0} {m n : Memory} {rma : Module} {g : Granted (Heap × A)} where
-  pub module-granted : {a : A} → module_calls.LeavesModule m n rma g (Ok a) → g ≡ Ok (module_heap_in n rma, a)
-  module-granted {a} l = answered (module_heap_in n rma) a (module_heap_in m rma) g l.answer l.heap
+module _ {A : Type 0} {m n : Memory} {module_area : Module} {g : Granted (Heap × A)} where
+  pub module-granted : {a : A} → module_calls.LeavesModule m n module_area g (Ok a) → g ≡ Ok (module_heap_in n module_area, a)
+  module-granted {a} l = answered (module_heap_in n module_area) a (module_heap_in m module_area) g l.answer l.heap
 
-  pub module-refused : {r : Refusal} → module_calls.LeavesModule m n rma g (Err r) → g ≡ Err r
+  pub module-refused : {r : Refusal} → module_calls.LeavesModule m n module_area g (Err r) → g ≡ Err r
   module-refused l = answer-refused g l.answer
 
-module _ {m n : Memory} {rma : Module} {g : Granted Heap} where
-  pub module-changed : module_calls.LeavesModule m n rma (no_answer g) (Ok tt) → g ≡ Ok (module_heap_in n rma)
-  module-changed l = none-done (module_heap_in n rma) g (module-granted l)
+module _ {m n : Memory} {module_area : Module} {g : Granted Heap} where
+  pub module-changed : module_calls.LeavesModule m n module_area (no_answer g) (Ok tt) → g ≡ Ok (module_heap_in n module_area)
+  module-changed l = none-done (module_heap_in n module_area) g (module-granted l)
 
-  pub module-unchanged : {r : Refusal} → module_calls.LeavesModule m n rma (no_answer g) (Err r) → g ≡ Err r
+  pub module-unchanged : {r : Refusal} → module_calls.LeavesModule m n module_area (no_answer g) (Err r) → g ≡ Err r
   module-unchanged l = none-refused g (module-refused l)

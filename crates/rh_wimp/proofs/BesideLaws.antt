@@ -226,36 +226,37 @@ change-beside h q post free delta s =
     ]
 
 -- ---- in the module area
-module _ {A : Type 0} (m n : Memory) (rma : Module) (q : Chains) (granted : Granted (Heap × A)) (result : Granted A)
-    (l : module_calls.LeavesModule m n rma granted result) where
-  pub answers-beside : (post : Post) (plain : Granted (Heap × A)) → Beside (module_heap_in m rma) q post granted plain → result ≡ answer_of plain
+module _ {A : Type 0} (m n : Memory) (module_area : Module) (q : Chains) (granted : Granted (Heap × A)) (result : Granted A)
+    (l : module_calls.LeavesModule m n module_area granted result) where
+  pub answers-beside : (post : Post) (plain : Granted (Heap × A)) → Beside (module_heap_in m module_area) q post granted plain → result ≡ answer_of plain
   answers-beside post plain b = l.answer ∙ b.answer
 
-  pub spells-beside : (post : Post) (plain : Granted (Heap × A)) → Beside (module_heap_in m rma) q post granted plain
-      → SpellsPostIn n rma q (post_with_heap (left_of post.heap plain) post)
+  pub spells-beside : (post : Post) (plain : Granted (Heap × A)) → Beside (module_heap_in m module_area) q post granted plain
+      → SpellsPostIn n module_area q (post_with_heap (left_of post.heap plain) post)
   spells-beside post plain b = subst (λ h. ArePostChains h q (post_with_heap (left_of post.heap plain) post)) (sym l.heap) b.spells
 
   -- it still is a queue
-  pub queue-beside : (post : Post) (plain : Granted (Heap × A)) → Beside (module_heap_in m rma) q post granted plain → IsQueue n rma q
+  pub queue-beside : (post : Post) (plain : Granted (Heap × A)) → Beside (module_heap_in m module_area) q post granted plain → IsQueue n module_area q
   queue-beside post plain b = record { area = l.still; post = post_with_heap (left_of post.heap plain) post; spells = spells-beside post plain b }
 
   -- the post that is read has the heap that its own one becomes
-  pub post_in-calls : (plain : Granted (Heap × A)) → IsSmallModule m rma → IsSmallModule n rma → IsQueue m rma q → Beside (module_heap_in m rma) q
-      (post_in m rma q) granted plain
-      → post_in n rma q ≡ post_with_heap (left_of (post_in m rma q).heap plain) (post_in m rma q)
+  pub post_in-calls : (plain : Granted (Heap × A)) → IsSmallModule m module_area → IsSmallModule n module_area → IsQueue m module_area q → Beside
+      (module_heap_in m module_area) q
+      (post_in m module_area q) granted plain
+      → post_in n module_area q ≡ post_with_heap (left_of (post_in m module_area q).heap plain) (post_in m module_area q)
   post_in-calls plain small smaller s b =
-      let post = post_in m rma q in
-      post_in-is n rma q (post_with_heap (left_of post.heap plain) post) smaller l.still (spells-beside post plain b)
-      ∙ sym (ap (post_with_heap (left_of post.heap plain)) (post_in-in_order m rma q small s))
+      let post = post_in m module_area q in
+      post_in-is n module_area q (post_with_heap (left_of post.heap plain) post) smaller l.still (spells-beside post plain b)
+      ∙ sym (ap (post_with_heap (left_of post.heap plain)) (post_in-in_order m module_area q small s))
 
 -- a call that the post's heap grants as the area's does
 goes-beside : {A : Type 0} (allowed : Post → Type 0) (call : ℕ → Heap → Granted (Heap × A))
     → ((h : Heap) (q : Chains) (post : Post) (free : ℕ) → allowed post → ArePostChains h q post → Beside h q post (call free h) (call free post.heap))
     → GoesBeside allowed call
-goes-beside allowed call f m n rma q post result a s l =
-    let b = f (module_heap_in m rma) q post m.free a s in (
-      answers-beside m n rma q (call m.free (module_heap_in m rma)) result l post (call m.free post.heap) b,
-      spells-beside m n rma q (call m.free (module_heap_in m rma)) result l post (call m.free post.heap) b,
+goes-beside allowed call f m n module_area q post result a s l =
+    let b = f (module_heap_in m module_area) q post m.free a s in (
+      answers-beside m n module_area q (call m.free (module_heap_in m module_area)) result l post (call m.free post.heap) b,
+      spells-beside m n module_area q (call m.free (module_heap_in m module_area)) result l post (call m.free post.heap) b,
     )
 
 pub claims-beside : (n : ℕ) → GoesBeside (λ post. Unit {0}) (λ free h. module_claim free n h)

@@ -19,11 +19,11 @@ use Rattle.rh_wimp.proofs.TakeLaws.{first-none, first-some, rest_of}
 
 -- ---- one message
 -- a loose message whose block was freed
-pub may-vanish : (m : Memory) (rma : Module) (q : Chains) (post : Post) (p : Parcel) (block : ℕ) (k : Heap) → MayBounce m rma q post p block
-    → k ≡ release_block block (module_heap_in m rma) → ArePostChains k q (without_block p post)
-may-vanish m rma q post p block k w e =
-    subst (λ (g : Heap). ArePostChains g q (without_block p post)) (sym (e ∙ ap (λ a. release_block a (module_heap_in m rma)) w.block_is))
-    (vanished (module_heap_in m rma) q post p w.spells w.loose)
+pub may-vanish : (m : Memory) (module_area : Module) (q : Chains) (post : Post) (p : Parcel) (block : ℕ) (k : Heap) → MayBounce m module_area q post p block
+    → k ≡ release_block block (module_heap_in m module_area) → ArePostChains k q (without_block p post)
+may-vanish m module_area q post p block k w e =
+    subst (λ (g : Heap). ArePostChains g q (without_block p post)) (sym (e ∙ ap (λ a. release_block a (module_heap_in m module_area)) w.block_is))
+    (vanished (module_heap_in m module_area) q post p w.spells w.loose)
 
 pub from-dying : (h : ℕ) (p : Parcel) (post : Post) → p.message.from ≡ h → bounced_from h p post ≡ without_block p post
 from-dying h p post e = cond_true (p.message.from == h) (without_block p post) (bounced p post) (eqb_same p.message.from h e)
@@ -38,16 +38,16 @@ pub ended-vanishes : (h : ℕ) (p : Parcel) (post : Post) → is_recorded p.code
 ended-vanishes h p post e = cond_false (is_recorded p.code) (bounced_from h p post) (without_block p post) e
 
 -- ---- the turns
-pub drained-start : (m : Memory) (rma : Module) (q : Chains) (post : Post) (h : ℕ) → SpellsPostIn m rma q post → Drains m rma q post h 0
-drained-start m rma q post h s =
+pub drained-start : (m : Memory) (module_area : Module) (q : Chains) (post : Post) (h : ℕ) → SpellsPostIn m module_area q post → Drains m module_area q post h 0
+drained-start m module_area q post h s =
     let f = fewer-filter (λ (p : Parcel). p.to == h) post.queued in
     let few = s.few in
     (post, record { spells = s; same = refl; few = omega arith; seats = refl })
 
-pub drained-step : (m n k : Memory) (rma : Module) (q q1 q2 : Chains) (post now : Post) (h turn block : ℕ) (t : Parcel × List Parcel)
-    → Drained m rma q post h turn now → Lifted n rma q1 now h block t
-    → SpellsPostIn k rma q2 (ended_from h t.0 (rest_of t.1 now)) → Drains k rma q2 post h (turn + 1)
-drained-step m n k rma q q1 q2 post now h turn block t d w s =
+pub drained-step : (m n k : Memory) (module_area : Module) (q q1 q2 : Chains) (post now : Post) (h turn block : ℕ) (t : Parcel × List Parcel)
+    → Drained m module_area q post h turn now → Lifted n module_area q1 now h block t
+    → SpellsPostIn k module_area q2 (ended_from h t.0 (rest_of t.1 now)) → Drains k module_area q2 post h (turn + 1)
+drained-step m n k module_area q q1 q2 post now h turn block t d w s =
     let f = first-some h now.queued t w.first in
     let l = ap length f.same in
     let e = ap length (queue-ended h t.0 (rest_of t.1 now)) in
@@ -56,19 +56,19 @@ drained-step m n k rma q q1 q2 post now h turn block t d w s =
       record { spells = s; same = death-step h now t.0 t.1 f ∙ d.same; few = omega arith; seats = seats-ended h t.0 (rest_of t.1 now) ∙ d.seats },
     )
 
-pub drained-end : (m n : Memory) (rma : Module) (q q1 : Chains) (post now : Post) (h turn : ℕ) → Drained m rma q post h turn now
-    → LiftsFirst n rma q1 now h None → Drains n rma q1 post h most_messages
-drained-end m n rma q q1 post now h turn d w =
+pub drained-end : (m n : Memory) (module_area : Module) (q q1 : Chains) (post now : Post) (h turn : ℕ) → Drained m module_area q post h turn now
+    → LiftsFirst n module_area q1 now h None → Drains n module_area q1 post h most_messages
+drained-end m n module_area q q1 post now h turn d w =
     let l = ap length (first-none h now.queued w.0) in
     (now, record { spells = w.1; same = d.same; few = omega arith; seats = d.seats })
 
 -- what the loop keeps
-pub record Ends (m n : Memory) (rma : Module) (q k : Chains) (h i turn : ℕ) : Type 0 where
-  pub still : IsModule n rma
-  pub only : OnlyArea m n rma.area.0
+pub record Ends (m n : Memory) (module_area : Module) (q k : Chains) (h i turn : ℕ) : Type 0 where
+  pub still : IsModule n module_area
+  pub only : OnlyArea m n module_area.area.0
   pub within : i < length k.entries
   pub handle : (entry_at k.entries i).handle ≡ h
-  pub drains : (post : Post) → SpellsPostIn m rma q post → Drains n rma k post h turn
+  pub drains : (post : Post) → SpellsPostIn m module_area q post → Drains n module_area k post h turn
 
 -- ---- places
 -- the place of a task stays where the seats have the same handles
@@ -97,13 +97,14 @@ no_length [] l = refl
 no_length (p ∷ ps) l = absurd (omega arith)
 
 -- once no message is left for the handle, its seat goes
-pub death-done : (m : Memory) (rma : Module) (q : Chains) (post : Post) (x i : ℕ) → i < length q.entries → (entry_at q.entries i).handle ≡ x
-    → Drains m rma q (settled_from x (held_by x post.seats) post) x most_messages → ArePostChains (module_heap_in m rma) (left_chains i q) (post_death x post)
-death-done m rma q post x i lt e d =
+pub death-done : (m : Memory) (module_area : Module) (q : Chains) (post : Post) (x i : ℕ) → i < length q.entries → (entry_at q.entries i).handle ≡ x
+    → Drains m module_area q (settled_from x (held_by x post.seats) post) x most_messages → ArePostChains (module_heap_in m module_area) (left_chains i q)
+    (post_death x post)
+death-done m module_area q post x i lt e d =
     let now : Post = d.0 in
     let few = d.1.few in
     let empty : queue_to x now.queued ≡ [] = no_length (queue_to x now.queued) (omega arith) in
     let none : held_by x now.seats ≡ None = ap (held_by x) d.1.seats ∙ settled-none x (held_by x post.seats) post refl in
     let is : post_death x post ≡ without_seat x now = death-settled x post ∙ sym d.1.same ∙ ap (λ l. bounce_all l (without_seat x now)) empty in
-    subst (λ (y : Post). ArePostChains (module_heap_in m rma) (left_chains i q) y) (sym is)
-    (seat-left (module_heap_in m rma) q now x i d.1.spells lt e none empty)
+    subst (λ (y : Post). ArePostChains (module_heap_in m module_area) (left_chains i q) y) (sym is)
+    (seat-left (module_heap_in m module_area) q now x i d.1.spells lt e none empty)

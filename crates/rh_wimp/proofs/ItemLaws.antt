@@ -29,11 +29,11 @@ padded-more link p f =
 pub action_read : (x : ℕ) (p : Parcel) → x < 2 ^ 32 → Fits p.message → word (padded x p) 24 ≡ action_number (action_of p.message.body)
 action_read x p l f = (padded-words x p l f).1.1.1.1.1.1.0
 
-module _ {m : Memory} {rma : Module} {block link : ℕ} {p : Parcel} (w : LinksAt m rma block link p) where
-  pub links-bytes : block_bytes block (module_heap_in m rma) ≡ Some (padded link p)
-  links-bytes = ap (λ a. block_bytes a (module_heap_in m rma)) w.block_is ∙ w.lies.block
+module _ {m : Memory} {module_area : Module} {block link : ℕ} {p : Parcel} (w : LinksAt m module_area block link p) where
+  pub links-bytes : block_bytes block (module_heap_in m module_area) ≡ Some (padded link p)
+  links-bytes = ap (λ a. block_bytes a (module_heap_in m module_area)) w.block_is ∙ w.lies.block
 
-  pub links-has : HasBlock block 36 (module_heap_in m rma)
+  pub links-has : HasBlock block 36 (module_heap_in m module_area)
   links-has = record { bytes = padded link p; found = links-bytes; room = padded-more link p w.lies.fits }
 
 -- what is read is an item
@@ -65,11 +65,11 @@ pub record Walks (h : Heap) (block turn to : ℕ) (ps : List Parcel) (old items 
   pub all : items ++ waiting to rest ≡ old ++ waiting to ps
 
 -- the message whose block is the next one
-pub record Meets (m : Memory) (rma : Module) (block turn to : ℕ) (ps : List Parcel) (old items : List MessageItem) : Type 0 where
+pub record Meets (m : Memory) (module_area : Module) (block turn to : ℕ) (ps : List Parcel) (old items : List MessageItem) : Type 0 where
   pub parcel : Parcel
   pub rest : List Parcel
-  pub links : LinksAt m rma block (first_block rest 0) parcel
-  pub chain : Chain (module_heap_in m rma) rest 0
+  pub links : LinksAt m module_area block (first_block rest 0) parcel
+  pub chain : Chain (module_heap_in m module_area) rest 0
   pub few : length rest + suc turn ≤ most_messages
   pub room : suc (length items) + length rest ≤ most_messages
   pub all : items ++ (message_item_of to false parcel ∷ waiting to rest) ≡ old ++ waiting to ps
@@ -94,29 +94,35 @@ walk-past h block turn to ps old items w z = go w.rest w.few w.all
     go [] f all = sym (append-nil items) ∙ all
     go (p ∷ rest) f all = absurd (omega arith)
 
-pub walk-some : (m : Memory) (rma : Module) (block turn to : ℕ) (ps : List Parcel) (old items : List MessageItem) → IsModule m rma
-    → length (bytes m rma.area.0) ≤ area_limit → Walks (module_heap_in m rma) block turn to ps old items → block ≢ 0 → Meets m rma block turn to ps old items
-walk-some m rma block turn to ps old items s l w ne = go w.rest w.block_is w.chain w.few w.room w.all
+pub walk-some : (m : Memory) (module_area : Module) (block turn to : ℕ) (ps : List Parcel) (old items : List MessageItem) → IsModule m module_area
+    → length (bytes m module_area.area.0) ≤ area_limit → Walks (module_heap_in m module_area) block turn to ps old items → block ≢ 0
+    → Meets m module_area block turn to ps old items
+walk-some m module_area block turn to ps old items s l w ne = go w.rest w.block_is w.chain w.few w.room w.all
   where
-    go : (rest : List Parcel) → block ≡ first_block rest 0 → Chain (module_heap_in m rma) rest 0 → length rest + turn ≤ most_messages
-        → length items + length rest ≤ most_messages → items ++ waiting to rest ≡ old ++ waiting to ps → Meets m rma block turn to ps old items
+    go : (rest : List Parcel) → block ≡ first_block rest 0 → Chain (module_heap_in m module_area) rest 0 → length rest + turn ≤ most_messages
+        → length items + length rest ≤ most_messages → items ++ waiting to rest ≡ old ++ waiting to ps → Meets m module_area block turn to ps old items
     go [] e c f r all = absurd (ne e)
     go (p ∷ rest) e c f r all = record {
       parcel = p;
       rest = rest;
-      links = record { lies = c.0; block_is = e; small = next-small m rma (first_block rest 0) s l (next-there (module_heap_in m rma) rest c.1) };
+      links = record {
+        lies = c.0;
+        block_is = e;
+        small = next-small m module_area (first_block rest 0) s l
+            (next-there (module_heap_in m module_area) rest c.1);
+      };
       chain = c.1;
       few = omega arith;
       room = omega arith;
       all = all;
     }
 
-pub walk-on : (m : Memory) (rma : Module) (block turn to next : ℕ) (ps : List Parcel) (old items more : List MessageItem) (item : MessageItem)
-    (w : Meets m rma block turn to ps old items)
+pub walk-on : (m : Memory) (module_area : Module) (block turn to next : ℕ) (ps : List Parcel) (old items more : List MessageItem) (item : MessageItem)
+    (w : Meets m module_area block turn to ps old items)
     → more ≡ items ++ item ∷ [] → item ≡ message_item_of to false w.parcel →
-    ((bs : List ℕ) → block_bytes block (module_heap_in m rma) ≡ Some bs → next ≡ word bs 0)
-    → Walks (module_heap_in m rma) next (turn + 1) to ps old more
-walk-on m rma block turn to next ps old items more item w e f r = record {
+    ((bs : List ℕ) → block_bytes block (module_heap_in m module_area) ≡ Some bs → next ≡ word bs 0)
+    → Walks (module_heap_in m module_area) next (turn + 1) to ps old more
+walk-on m module_area block turn to next ps old items more item w e f r = record {
   rest = w.rest;
   block_is = r (padded (first_block w.rest 0) w.parcel) (links-bytes w.links) ∙ link_read (first_block w.rest 0) w.parcel w.links.small w.links.lies.fits;
   chain = w.chain;

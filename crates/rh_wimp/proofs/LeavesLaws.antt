@@ -7,8 +7,9 @@ use Rattle.rh_wimp.specs.QueueCalls.{LeavesChains, handles_of}
 use Rattle.rh_wimp.proofs.PostLaws.{eq_of, seat_at}
 use Rattle.rh_wimp.proofs.SendLaws.{as_many, seated}
 
-pub left : {m n : Memory} {rma : Module} {q k : Chains} {next : Post → Post} → IsQueue m rma q
-    → ((post : Post) → SpellsPostIn m rma q post → SpellsPostIn n rma k (next post)) → IsModule n rma → OnlyArea m n rma.area.0 → LeavesChains m n rma q k next
+pub left : {m n : Memory} {module_area : Module} {q k : Chains} {next : Post → Post} → IsQueue m module_area q
+    → ((post : Post) → SpellsPostIn m module_area q post → SpellsPostIn n module_area k (next post)) → IsModule n module_area → OnlyArea m n module_area.area.0
+    → LeavesChains m n module_area q k next
 left {next = next} old spells area only =
     record { spells = spells; still = record { area = area; post = next old.post; spells = spells old.post old.spells }; only = only }
 

@@ -24,30 +24,37 @@ has-any a n b o xs h w = elim (cases_eq a b) [
 ]
 
 -- ---- one bounce
-module _ (m : Memory) (rma : Module) (q : Chains) (post : Post) (p : Parcel) (block : ℕ) where
-  pub bounce-has : MayBounce m rma q post p block → HasBlock block 24 (module_heap_in m rma)
-  bounce-has b = record { bytes = padded 0 p; found = ap (λ a. block_bytes a (module_heap_in m rma)) b.block_is ∙ b.loose.lies.block; room = padded-least 0 p }
+module _ (m : Memory) (module_area : Module) (q : Chains) (post : Post) (p : Parcel) (block : ℕ) where
+  pub bounce-has : MayBounce m module_area q post p block → HasBlock block 24 (module_heap_in m module_area)
+  bounce-has b = record {
+    bytes = padded 0 p;
+    found = ap (λ a. block_bytes a (module_heap_in m module_area)) b.block_is
+        ∙ b.loose.lies.block;
+    room = padded-least 0 p;
+  }
 
-  pub bounce-from : MayBounce m rma q post p block → (from : ℕ) →
-      ((bytes : List ℕ) → block_bytes block (module_heap_in m rma) ≡ Some bytes → from ≡ word bytes 12)
+  pub bounce-from : MayBounce m module_area q post p block → (from : ℕ) →
+      ((bytes : List ℕ) → block_bytes block (module_heap_in m module_area) ≡ Some bytes → from ≡ word bytes 12)
       → from ≡ p.message.from
   bounce-from b from r =
-      r (padded 0 p) (ap (λ a. block_bytes a (module_heap_in m rma)) b.block_is ∙ b.loose.lies.block) ∙ from_read 0 p (omega arith) b.loose.lies.fits
+      r (padded 0 p) (ap (λ a. block_bytes a (module_heap_in m module_area)) b.block_is ∙ b.loose.lies.block) ∙ from_read 0 p (omega arith) b.loose.lies.fits
 
-  pub bounce-last : MayBounce m rma q post p block → (n : Memory) (to o : ℕ) (xs : List ℕ) → to < length q.entries
-      → module_heap_in n rma ≡ poked block o xs (module_heap_in m rma) → (entry_at q.entries to).last ≢ 0 → HasBlock (entry_at q.entries to).last 4
-      (module_heap_in n rma)
+  pub bounce-last : MayBounce m module_area q post p block → (n : Memory) (to o : ℕ) (xs : List ℕ) → to < length q.entries
+      → module_heap_in n module_area ≡ poked block o xs (module_heap_in m module_area) → (entry_at q.entries to).last ≢ 0 → HasBlock
+      (entry_at q.entries to).last 4
+      (module_heap_in n module_area)
   bounce-last b n to o xs lt e ne =
-      let s = seated (module_heap_in m rma) q post to b.spells lt in
+      let s = seated (module_heap_in m module_area) q post to b.spells lt in
       let last : ℕ = (entry_at q.entries to).last in
-      subst (HasBlock last 4) (sym e) (has-any last 4 block o xs (module_heap_in m rma)
-      (has-less last 24 4 (module_heap_in m rma) (omega arith) (last-has (module_heap_in m rma) (entry_at q.entries to) (row_at (rows_of post) to)
+      subst (HasBlock last 4) (sym e) (has-any last 4 block o xs (module_heap_in m module_area)
+      (has-less last 24 4 (module_heap_in m module_area) (omega arith)
+      (last-has (module_heap_in m module_area) (entry_at q.entries to) (row_at (rows_of post) to)
       (b.spells.rows.each to s.row) ne)))
 
-  pub bounce-gone : MayBounce m rma q post p block → position (λ (e : Entry). e.handle == p.message.from) q.entries ≡ None → (k : Heap)
-      → k ≡ release_block block (module_heap_in m rma) → ArePostChains k q (bounced p post)
+  pub bounce-gone : MayBounce m module_area q post p block → position (λ (e : Entry). e.handle == p.message.from) q.entries ≡ None → (k : Heap)
+      → k ≡ release_block block (module_heap_in m module_area) → ArePostChains k q (bounced p post)
   bounce-gone b none k e =
-      let h : Heap = module_heap_in m rma in
+      let h : Heap = module_heap_in m module_area in
       let many = as_many h q post b.spells in
       let dead = live-no post.seats p.message.from (λ j c. let s = seated h q post j b.spells (omega arith) in
       let n = not-found q.entries p.message.from none j (omega arith) in λ z. n (s.handle ∙ z)) in
@@ -55,13 +62,13 @@ module _ (m : Memory) (rma : Module) (q : Chains) (post : Post) (p : Parcel) (bl
       (subst (λ (g : Heap). ArePostChains g q (record post { heap = release_block p.block post.heap })) (sym (e ∙ ap (λ a. release_block a h) b.block_is))
       (vanished h q post p b.spells b.loose))
 
-  pub bounce-done : MayBounce m rma q post p block → (to : ℕ) → position (λ (e : Entry). e.handle == p.message.from) q.entries ≡ Some to → (h1 k : Heap)
-      → h1 ≡ poked block 4 (word_bytes 19) (module_heap_in m rma)
+  pub bounce-done : MayBounce m module_area q post p block → (to : ℕ) → position (λ (e : Entry). e.handle == p.message.from) q.entries ≡ Some to → (h1 k : Heap)
+      → h1 ≡ poked block 4 (word_bytes 19) (module_heap_in m module_area)
       → k ≡ relinked (entry_at q.entries to).last block h1
       → ArePostChains k (record { entries = set q.entries to (lengthened block (entry_at q.entries to)); live = q.live + 1; next_ref = q.next_ref })
       (bounced p post)
   bounce-done b to f h1 k e1 ek =
-      let h : Heap = module_heap_in m rma in
+      let h : Heap = module_heap_in m module_area in
       let w = found-at q.entries p.message.from to f in
       let s = seated h q post to b.spells w.0 in
       let alive = live-yes post.seats to p.message.from s.seat (sym s.handle ∙ w.1) in
@@ -112,11 +119,12 @@ holds-none h q post x i s lt e z =
     go (Some p) eo by holds = let w : Holds h (entry_at q.entries i).held (Some p) =
         subst (Holds h (entry_at q.entries i).held) eo holds in let a = lies-above h 0 p w.1 in let b = w.0 in absurd (omega arith)
 
-pub may-bounce : (m : Memory) (rma : Module) (q : Chains) (post : Post) (x i : ℕ) → ArePostChains (module_heap_in m rma) q post → i < length q.entries
-    → (entry_at q.entries i).handle ≡ x → (w : HoldsOne (module_heap_in m rma) q post x i)
-    → MayBounce m rma (emptied_chains i q) (lifted x post) w.parcel (entry_at q.entries i).held
-may-bounce m rma q post x i s lt e w =
-    let l = lift (module_heap_in m rma) q post x i w.parcel s lt e w.held in
+pub may-bounce : (m : Memory) (module_area : Module) (q : Chains) (post : Post) (x i : ℕ) → ArePostChains (module_heap_in m module_area) q post
+    → i < length q.entries
+    → (entry_at q.entries i).handle ≡ x → (w : HoldsOne (module_heap_in m module_area) q post x i)
+    → MayBounce m module_area (emptied_chains i q) (lifted x post) w.parcel (entry_at q.entries i).held
+may-bounce m module_area q post x i s lt e w =
+    let l = lift (module_heap_in m module_area) q post x i w.parcel s lt e w.held in
     let live = s.live in
     let few = s.few in
     let live' = l.0.live in
@@ -191,25 +199,26 @@ stays h g q k post x i (Some p) s t l =
     }
 
 -- ---- the first message
-pub record Heads (m : Memory) (rma : Module) (q : Chains) (post : Post) (x i : ℕ) (t : Parcel × List Parcel) : Type 0 where
+pub record Heads (m : Memory) (module_area : Module) (q : Chains) (post : Post) (x i : ℕ) (t : Parcel × List Parcel) : Type 0 where
   pub first : first_for x post.queued ≡ Some t
   pub for_ : FirstFor x post.queued t.0 t.1
   pub next : ℕ
   pub next_is : next ≡ first_block (chain_to x t.1) 0
   pub block_is : (entry_at q.entries i).first ≡ t.0.block
-  pub lies : Lies (module_heap_in m rma) next t.0
-  pub next_there : (next ≡ 0) ⊎ HasBlock next 24 (module_heap_in m rma)
+  pub lies : Lies (module_heap_in m module_area) next t.0
+  pub next_there : (next ≡ 0) ⊎ HasBlock next 24 (module_heap_in m module_area)
   pub live : 1 ≤ q.live
 
-pub heads : (m : Memory) (rma : Module) (q : Chains) (post : Post) (x i : ℕ) → ArePostChains (module_heap_in m rma) q post → i < length q.entries
-    → (entry_at q.entries i).handle ≡ x → (entry_at q.entries i).first ≢ 0 → (t : Parcel × List Parcel) × Heads m rma q post x i t
-heads m rma q post x i s lt e ne = go (first_for x post.queued) refl
+pub heads : (m : Memory) (module_area : Module) (q : Chains) (post : Post) (x i : ℕ) → ArePostChains (module_heap_in m module_area) q post
+    → i < length q.entries
+    → (entry_at q.entries i).handle ≡ x → (entry_at q.entries i).first ≢ 0 → (t : Parcel × List Parcel) × Heads m module_area q post x i t
+heads m module_area q post x i s lt e ne = go (first_for x post.queued) refl
   where
-    go : (o : Option (Parcel × List Parcel)) → first_for x post.queued ≡ o → (t : Parcel × List Parcel) × Heads m rma q post x i t
-    go None eo = absurd (ne (none-ahead (module_heap_in m rma) q post x i s lt e eo))
+    go : (o : Option (Parcel × List Parcel)) → first_for x post.queued ≡ o → (t : Parcel × List Parcel) × Heads m module_area q post x i t
+    go None eo = absurd (ne (none-ahead (module_heap_in m module_area) q post x i s lt e eo))
     go (Some t) eo =
         let f = first-some x post.queued t eo in
-        let a = ahead (module_heap_in m rma) q post x i t.0 t.1 s lt e f in
+        let a = ahead (module_heap_in m module_area) q post x i t.0 t.1 s lt e f in
         let fewer = f.fewer in
         let live = s.live in (
           t,
@@ -237,43 +246,46 @@ no-head h q post x i s lt e z = go (first_for x post.queued) refl
         let f = a.first in absurd (omega arith)
 
 -- a message that links to none
-module _ (m : Memory) (rma : Module) (block : ℕ) (p : Parcel) (w : LiesAt m rma block p) where
-  pub lies-bytes : block_bytes block (module_heap_in m rma) ≡ Some (padded 0 p)
-  lies-bytes = ap (λ a. block_bytes a (module_heap_in m rma)) w.block_is ∙ w.lies.block
+module _ (m : Memory) (module_area : Module) (block : ℕ) (p : Parcel) (w : LiesAt m module_area block p) where
+  pub lies-bytes : block_bytes block (module_heap_in m module_area) ≡ Some (padded 0 p)
+  lies-bytes = ap (λ a. block_bytes a (module_heap_in m module_area)) w.block_is ∙ w.lies.block
 
-  pub lies-has : HasBlock block 24 (module_heap_in m rma)
+  pub lies-has : HasBlock block 24 (module_heap_in m module_area)
   lies-has = record { bytes = padded 0 p; found = lies-bytes; room = padded-least 0 p }
 
-  pub lies-code : (code : ℕ) → ((bytes : List ℕ) → block_bytes block (module_heap_in m rma) ≡ Some bytes → code ≡ word bytes 4) → code ≡ code_number p.code
+  pub lies-code : (code : ℕ) → ((bytes : List ℕ) → block_bytes block (module_heap_in m module_area) ≡ Some bytes → code ≡ word bytes 4) → code
+      ≡ code_number p.code
   lies-code code r = r (padded 0 p) lies-bytes ∙ code_read 0 p (omega arith) w.lies.fits
 
 -- the next one's place is small
-pub next-small : (m : Memory) (rma : Module) (next : ℕ) → IsModule m rma → length (bytes m rma.area.0) ≤ area_limit
-    → (next ≡ 0) ⊎ HasBlock next 24 (module_heap_in m rma) → next < 2 ^ 32
-next-small m rma next s l w = elim w [ inl z ↦ omega arith | inr b ↦ let f = block_within m rma next 24 s b in omega arith ]
+pub next-small : (m : Memory) (module_area : Module) (next : ℕ) → IsModule m module_area → length (bytes m module_area.area.0) ≤ area_limit
+    → (next ≡ 0) ⊎ HasBlock next 24 (module_heap_in m module_area) → next < 2 ^ 32
+next-small m module_area next s l w = elim w [ inl z ↦ omega arith | inr b ↦ let f = block_within m module_area next 24 s b in omega arith ]
 
-module _ (m : Memory) (rma : Module) (q : Chains) (post : Post) (x i : ℕ) (t : Parcel × List Parcel) (w : Heads m rma q post x i t) where
-  pub head-bytes : block_bytes (entry_at q.entries i).first (module_heap_in m rma) ≡ Some (padded w.next t.0)
-  head-bytes = ap (λ a. block_bytes a (module_heap_in m rma)) w.block_is ∙ w.lies.block
+module _ (m : Memory) (module_area : Module) (q : Chains) (post : Post) (x i : ℕ) (t : Parcel × List Parcel) (w : Heads m module_area q post x i t) where
+  pub head-bytes : block_bytes (entry_at q.entries i).first (module_heap_in m module_area) ≡ Some (padded w.next t.0)
+  head-bytes = ap (λ a. block_bytes a (module_heap_in m module_area)) w.block_is ∙ w.lies.block
 
-  pub head-has : HasBlock (entry_at q.entries i).first 24 (module_heap_in m rma)
+  pub head-has : HasBlock (entry_at q.entries i).first 24 (module_heap_in m module_area)
   head-has = record { bytes = padded w.next t.0; found = head-bytes; room = padded-least w.next t.0 }
 
-  pub next-of : (next : ℕ) → w.next < 2 ^ 32 → ((bs : List ℕ) → block_bytes (entry_at q.entries i).first (module_heap_in m rma) ≡ Some bs → next ≡ word bs 0)
+  pub next-of : (next : ℕ) → w.next < 2 ^ 32 → ((bs : List ℕ) → block_bytes (entry_at q.entries i).first (module_heap_in m module_area) ≡ Some bs → next
+      ≡ word bs 0)
       → next ≡ w.next
   next-of next small r = r (padded w.next t.0) head-bytes ∙ link_read w.next t.0 small w.lies.fits
 
   -- the first message is off its chain
-  pub first-lifted : (n : Memory) (next : ℕ) → ArePostChains (module_heap_in m rma) q post → i < length q.entries → (entry_at q.entries i).handle ≡ x → next
+  pub first-lifted : (n : Memory) (next : ℕ) → ArePostChains (module_heap_in m module_area) q post → i < length q.entries → (entry_at q.entries i).handle ≡ x
+      → next
       ≡ w.next
-      → module_heap_in n rma ≡ poked (entry_at q.entries i).first 0 (word_bytes 0) (module_heap_in m rma)
-      → Lifted n rma (shortened_chains i next q) post x (entry_at q.entries i).first t
+      → module_heap_in n module_area ≡ poked (entry_at q.entries i).first 0 (word_bytes 0) (module_heap_in m module_area)
+      → Lifted n module_area (shortened_chains i next q) post x (entry_at q.entries i).first t
   first-lifted n next s lt e en eh =
-      let h : Heap = module_heap_in m rma in
+      let h : Heap = module_heap_in m module_area in
       let p : Parcel = t.0 in
       let rest : List Parcel = t.1 in
       let k : Heap = poked p.block 0 (word_bytes 0) h in
-      let ek : module_heap_in n rma ≡ k = eh ∙ ap (λ a. poked a 0 (word_bytes 0) h) w.block_is in
+      let ek : module_heap_in n module_area ≡ k = eh ∙ ap (λ a. poked a 0 (word_bytes 0) h) w.block_is in
       let here = (poked-pokes p.block 0 (word_bytes 0) h (padded w.next p) w.lies.block).here ∙ ap Some (padded-relinked w.next 0 p) in
       let off = taken-off h k q post x i p rest s lt e w.for_ (poked-shape p.block 0 (word_bytes 0) h)
       (record { each = λ b nb nb'. poked-other p.block b 0 (word_bytes 0) h nb }) here in
@@ -304,11 +316,12 @@ seats-stay h g q k post other i es s t l =
     }
 
 -- a recorded message that was first is held
-pub take-held : (m : Memory) (rma : Module) (q : Chains) (post : Post) (x i block : ℕ) (t : Parcel × List Parcel) → Lifted m rma q post x block t
+pub take-held : (m : Memory) (module_area : Module) (q : Chains) (post : Post) (x i block : ℕ) (t : Parcel × List Parcel)
+    → Lifted m module_area q post x block t
     → i < length q.entries → (entry_at q.entries i).handle ≡ x
-    → held_by x post.seats ≡ None → is_recorded t.0.code ≡ true → ArePostChains (module_heap_in m rma) (holding_chains i block q) (taken x post).0
-take-held m rma q post x i block t w lt e none code =
-    let h : Heap = module_heap_in m rma in
+    → held_by x post.seats ≡ None → is_recorded t.0.code ≡ true → ArePostChains (module_heap_in m module_area) (holding_chains i block q) (taken x post).0
+take-held m module_area q post x i block t w lt e none code =
+    let h : Heap = module_heap_in m module_area in
     let p : Parcel = t.0 in
     let rest : Post = rest_of t.1 post in
     let held = held-post h q rest x i p w.may.spells lt e none w.may.loose w.may.few in
@@ -318,10 +331,11 @@ take-held m rma q post x i block t w lt e none code =
     (subst (λ b. ArePostChains h (holding_chains i b q) (record rest { seats = with_held x (Some p) rest.seats })) (sym w.may.block_is) held))
 
 -- the block of any other that was first is freed
-pub take-freed : (m : Memory) (rma : Module) (q : Chains) (post : Post) (x block : ℕ) (t : Parcel × List Parcel) (k : Heap) → Lifted m rma q post x block t
-    → is_recorded t.0.code ≡ false → k ≡ release_block block (module_heap_in m rma) → ArePostChains k q (taken x post).0
-take-freed m rma q post x block t k w code ek =
-    let h : Heap = module_heap_in m rma in
+pub take-freed : (m : Memory) (module_area : Module) (q : Chains) (post : Post) (x block : ℕ) (t : Parcel × List Parcel) (k : Heap)
+    → Lifted m module_area q post x block t
+    → is_recorded t.0.code ≡ false → k ≡ release_block block (module_heap_in m module_area) → ArePostChains k q (taken x post).0
+take-freed m module_area q post x block t k w code ek =
+    let h : Heap = module_heap_in m module_area in
     let p : Parcel = t.0 in
     let rest : Post = rest_of t.1 post in
     subst (λ o. ArePostChains k q (taken_from x o post).0) (sym w.first)

@@ -18,25 +18,33 @@ use Rattle.rh_wimp.proofs.SendLaws.{named}
 
 -- ---- which post it is
 -- the post that is read is spelled
-pub post_in-spelled : (m : Memory) (rma : Module) (q : Chains) → IsSmallModule m rma → IsQueue m rma q → SpellsPostIn m rma q (post_in m rma q)
-post_in-spelled m rma q small s = post_of-spells (module_heap_in m rma) q s.post (module-low m rma s.area small) s.spells
+pub post_in-spelled : (m : Memory) (module_area : Module) (q : Chains) → IsSmallModule m module_area → IsQueue m module_area q → SpellsPostIn m module_area q
+    (post_in m module_area q)
+post_in-spelled m module_area q small s = post_of-spells (module_heap_in m module_area) q s.post (module-low m module_area s.area small) s.spells
 
 -- each post that is spelled, in order of seats, is the one that is read
-pub post_in-is : (m : Memory) (rma : Module) (q : Chains) (post : Post) → IsSmallModule m rma → IsModule m rma → SpellsPostIn m rma q post
-    → post_in m rma q ≡ in_order post
-post_in-is m rma q post small s w = post_of-is (module_heap_in m rma) q post (module-low m rma s small) w
+pub post_in-is : (m : Memory) (module_area : Module) (q : Chains) (post : Post) → IsSmallModule m module_area → IsModule m module_area
+    → SpellsPostIn m module_area q post
+    → post_in m module_area q ≡ in_order post
+post_in-is m module_area q post small s w = post_of-is (module_heap_in m module_area) q post (module-low m module_area s small) w
 
 pub one-post : HaveOnePost
-one-post m rma q post small s w = (post_in-spelled m rma q small (record { area = s; post = post; spells = w }), post_in-is m rma q post small s w)
+one-post m module_area q post small s w = (
+  post_in-spelled m module_area q small
+      (record { area = s; post = post; spells = w }),
+  post_in-is m module_area q post small s w,
+)
 
 -- it is in order of seats
-pub post_in-in_order : (m : Memory) (rma : Module) (q : Chains) → IsSmallModule m rma → IsQueue m rma q → post_in m rma q ≡ in_order (post_in m rma q)
-post_in-in_order m rma q small s = post_in-is m rma q (post_in m rma q) small s.area (post_in-spelled m rma q small s)
+pub post_in-in_order : (m : Memory) (module_area : Module) (q : Chains) → IsSmallModule m module_area → IsQueue m module_area q → post_in m module_area q
+    ≡ in_order (post_in m module_area q)
+post_in-in_order m module_area q small s = post_in-is m module_area q (post_in m module_area q) small s.area (post_in-spelled m module_area q small s)
 
 -- two posts that are spelled differ in the order of messages to different tasks alone
-pub posts-alike : (m : Memory) (rma : Module) (q : Chains) (post other : Post) → IsSmallModule m rma → IsModule m rma → SpellsPostIn m rma q post
-    → SpellsPostIn m rma q other → in_order post ≡ in_order other
-posts-alike m rma q post other small s v w = sym (post_in-is m rma q post small s v) ∙ post_in-is m rma q other small s w
+pub posts-alike : (m : Memory) (module_area : Module) (q : Chains) (post other : Post) → IsSmallModule m module_area → IsModule m module_area
+    → SpellsPostIn m module_area q post
+    → SpellsPostIn m module_area q other → in_order post ≡ in_order other
+posts-alike m module_area q post other small s v w = sym (post_in-is m module_area q post small s v) ∙ post_in-is m module_area q other small s w
 
 -- ---- what is held is for the handle that holds it
 -- a post and the same post with its queue in another order
@@ -59,11 +67,12 @@ in_order-own post w =
     (own-seats post.seats (own-each post.next_ref post.seats w))
 
 -- the post that is read is the one that is spelled, but for that order
-pub post_in-requeued : (m : Memory) (rma : Module) (q : Chains) (post : Post) → IsSmallModule m rma → IsModule m rma → SpellsPostIn m rma q post
-    → AllByRecursion (laws.HoldsOwn post.next_ref) post.seats → IsRequeued post (post_in m rma q)
-post_in-requeued m rma q post small s w own =
-    let same = named (module_heap_in m rma) q post w in
-    subst (IsRequeued post) (sym (post_in-is m rma q post small s w ∙ in_order-own post own)) (record {
+pub post_in-requeued : (m : Memory) (module_area : Module) (q : Chains) (post : Post) → IsSmallModule m module_area → IsModule m module_area
+    → SpellsPostIn m module_area q post
+    → AllByRecursion (laws.HoldsOwn post.next_ref) post.seats → IsRequeued post (post_in m module_area q)
+post_in-requeued m module_area q post small s w own =
+    let same = named (module_heap_in m module_area) q post w in
+    subst (IsRequeued post) (sym (post_in-is m module_area q post small s w ∙ in_order-own post own)) (record {
       same = record { each = λ h. sym (by_seats-each post.seats post.queued h same w.recipients) };
       rest = refl;
     })
@@ -104,41 +113,49 @@ bytes-stay : (m n : Memory) (id : ℕ) → n.area id ≡ m.area id → bytes n i
 unfolding bytes
 bytes-stay m n id e = ap (λ o. unwrap_or o []) e
 
-pub heap-stays : (m n : Memory) (rma : Module) → n.area rma.area.0 ≡ m.area rma.area.0 → module_heap_in n rma ≡ module_heap_in m rma
-heap-stays m n rma e = ap (λ b. heap_of b 0) (bytes-stay m n rma.area.0 e)
+pub heap-stays : (m n : Memory) (module_area : Module) → n.area module_area.area.0 ≡ m.area module_area.area.0 → module_heap_in n module_area
+    ≡ module_heap_in m module_area
+heap-stays m n module_area e = ap (λ b. heap_of b 0) (bytes-stay m n module_area.area.0 e)
 
 -- where the module area stays, so does the post
-pub post_in-stays : (m n : Memory) (rma : Module) (q : Chains) → n.area rma.area.0 ≡ m.area rma.area.0 → post_in n rma q ≡ post_in m rma q
-post_in-stays m n rma q e = ap (λ h. post_of h q) (heap-stays m n rma e)
+pub post_in-stays : (m n : Memory) (module_area : Module) (q : Chains) → n.area module_area.area.0 ≡ m.area module_area.area.0 → post_in n module_area q
+    ≡ post_in m module_area q
+post_in-stays m n module_area q e = ap (λ h. post_of h q) (heap-stays m n module_area e)
 
-pub post_in-beside : (m n : Memory) (id : ℕ) (rma : Module) (q : Chains) → OnlyArea m n id → rma.area.0 ≢ id → post_in n rma q ≡ post_in m rma q
-post_in-beside m n id rma q only ne = post_in-stays m n rma q (only.others rma.area.0 ne)
+pub post_in-beside : (m n : Memory) (id : ℕ) (module_area : Module) (q : Chains) → OnlyArea m n id → module_area.area.0 ≢ id → post_in n module_area q
+    ≡ post_in m module_area q
+post_in-beside m n id module_area q only ne = post_in-stays m n module_area q (only.others module_area.area.0 ne)
 
-pub spells-stays : (m n : Memory) (rma : Module) (q : Chains) (post : Post) → n.area rma.area.0 ≡ m.area rma.area.0 → SpellsPostIn m rma q post
-    → SpellsPostIn n rma q post
-spells-stays m n rma q post e w = subst (λ h. ArePostChains h q post) (sym (heap-stays m n rma e)) w
+pub spells-stays : (m n : Memory) (module_area : Module) (q : Chains) (post : Post) → n.area module_area.area.0 ≡ m.area module_area.area.0
+    → SpellsPostIn m module_area q post
+    → SpellsPostIn n module_area q post
+spells-stays m n module_area q post e w = subst (λ h. ArePostChains h q post) (sym (heap-stays m n module_area e)) w
 
 -- ---- calls of the queue
 -- what a call answers
-pub answered : {A : Type 0} (m : Memory) (rma : Module) (q : Chains) (answer : Post → A) (result : A) → IsSmallModule m rma → IsQueue m rma q
-    → Answers m rma q answer result → result ≡ answer (post_in m rma q)
-answered m rma q answer result small s a = a (post_in m rma q) (post_in-spelled m rma q small s)
+pub answered : {A : Type 0} (m : Memory) (module_area : Module) (q : Chains) (answer : Post → A) (result : A) → IsSmallModule m module_area
+    → IsQueue m module_area q
+    → Answers m module_area q answer result → result ≡ answer (post_in m module_area q)
+answered m module_area q answer result small s a = a (post_in m module_area q) (post_in-spelled m module_area q small s)
 
 -- the post that a call leaves
-pub post_in-leaves : (m n : Memory) (rma : Module) (q k : Chains) (next : Post → Post) → IsSmallModule m rma → IsSmallModule n rma → IsQueue m rma q
-    → LeavesChains m n rma q k next → post_in n rma k ≡ in_order (next (post_in m rma q))
-post_in-leaves m n rma q k next small smaller s l =
-    post_in-is n rma k (next (post_in m rma q)) smaller l.still.area (l.spells (post_in m rma q) (post_in-spelled m rma q small s))
+pub post_in-leaves : (m n : Memory) (module_area : Module) (q k : Chains) (next : Post → Post) → IsSmallModule m module_area → IsSmallModule n module_area
+    → IsQueue m module_area q
+    → LeavesChains m n module_area q k next → post_in n module_area k ≡ in_order (next (post_in m module_area q))
+post_in-leaves m n module_area q k next small smaller s l =
+    post_in-is n module_area k (next (post_in m module_area q)) smaller l.still.area
+    (l.spells (post_in m module_area q) (post_in-spelled m module_area q small s))
 
 -- a new queue has an empty post
-pub post_in-starts : (m : Memory) (rma : Module) (ref : ℕ)
-    → post_in m rma (record { entries = []; live = 0; next_ref = ref }) ≡ record { seats = []; queued = []; heap = module_heap_in m rma; next_ref = ref }
+pub post_in-starts : (m : Memory) (module_area : Module) (ref : ℕ)
+    → post_in m module_area (record { entries = []; live = 0; next_ref = ref })
+    ≡ record { seats = []; queued = []; heap = module_heap_in m module_area; next_ref = ref }
 unfolding post_of
-post_in-starts m rma ref = refl
+post_in-starts m module_area ref = refl
 
 -- a handle that joins
-pub post_in-joins : (m : Memory) (rma : Module) (q : Chains) (h : ℕ) → IsSmallModule m rma → IsQueue m rma q → (HasEntry h q → ⊥)
-    → post_in m rma (joined_chains h q) ≡ in_order (post_join h (post_in m rma q))
-post_in-joins m rma q h small s new =
-    post_in-is m rma (joined_chains h q) (post_join h (post_in m rma q)) small s.area
-    (join-spells (module_heap_in m rma) q (post_in m rma q) h (post_in-spelled m rma q small s) new)
+pub post_in-joins : (m : Memory) (module_area : Module) (q : Chains) (h : ℕ) → IsSmallModule m module_area → IsQueue m module_area q → (HasEntry h q → ⊥)
+    → post_in m module_area (joined_chains h q) ≡ in_order (post_join h (post_in m module_area q))
+post_in-joins m module_area q h small s new =
+    post_in-is m module_area (joined_chains h q) (post_join h (post_in m module_area q)) small s.area
+    (join-spells (module_heap_in m module_area) q (post_in m module_area q) h (post_in-spelled m module_area q small s) new)

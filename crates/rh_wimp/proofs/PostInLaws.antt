@@ -244,5 +244,9 @@ pub post_of-spells : (h : Heap) (q : Chains) (post : Post) → IsLow h → ArePo
 post_of-spells h q post s w = subst (ArePostChains h q) (sym (post_of-is h q post s w)) (in_order-spells h q post w)
 
 -- the blocks of a module area lie in its bytes
-pub module-low : (m : Memory) (rma : Module) → IsModule m rma → length (bytes m rma.area.0) ≤ area_limit → IsLow (module_heap_in m rma)
-module-low m rma s l = record { each = λ a bs e. let r = block_within m rma a 0 s (record { bytes = bs; found = e; room = omega arith }) in omega arith }
+pub module-low : (m : Memory) (module_area : Module) → IsModule m module_area → length (bytes m module_area.area.0) ≤ area_limit → IsLow
+    (module_heap_in m module_area)
+module-low m module_area s l = record {
+  each = λ a bs e. let r = block_within m module_area a 0 s
+      (record { bytes = bs; found = e; room = omega arith }) in omega arith;
+}

@@ -188,13 +188,13 @@ held-some h held None s ne = absurd (ne s)
 held-some h held (Some p) s ne = record { parcel = p; is = refl; block = s.0; lies = s.1 }
 
 -- ---- one step along a chain
-pub record Here (m : Memory) (rma : Module) (block turn : ℕ) (test : Parcel → Bool) (ps : List Parcel) : Type 0 where
+pub record Here (m : Memory) (module_area : Module) (block turn : ℕ) (test : Parcel → Bool) (ps : List Parcel) : Type 0 where
   pub parcel : Parcel
   pub rest : List Parcel
   pub block_is : block ≡ parcel.block
-  pub lies : Lies (module_heap_in m rma) (first_block rest 0) parcel
+  pub lies : Lies (module_heap_in m module_area) (first_block rest 0) parcel
   pub small : first_block rest 0 < 2 ^ 32
-  pub chain : Chain (module_heap_in m rma) rest 0
+  pub chain : Chain (module_heap_in m module_area) rest 0
   pub few : length rest + suc turn ≤ most_messages
   pub same : list_any test ps ≡ (test parcel || list_any test rest)
 
@@ -205,19 +205,20 @@ ahead-none h block turn test ps a z = go a.rest a.block_is a.chain (sym a.same)
     go [] e c f = f
     go (p ∷ rest) e c f = let l = lies-above h (first_block rest 0) p c.0 in absurd (omega arith)
 
-pub ahead-some : (m : Memory) (rma : Module) (block turn : ℕ) (test : Parcel → Bool) (ps : List Parcel) → IsModule m rma
-    → length (bytes m rma.area.0) ≤ area_limit → Ahead (module_heap_in m rma) block turn test ps → block ≢ 0 → Here m rma block turn test ps
-ahead-some m rma block turn test ps s l a ne = go a.rest a.block_is a.chain a.few a.same
+pub ahead-some : (m : Memory) (module_area : Module) (block turn : ℕ) (test : Parcel → Bool) (ps : List Parcel) → IsModule m module_area
+    → length (bytes m module_area.area.0) ≤ area_limit → Ahead (module_heap_in m module_area) block turn test ps → block ≢ 0
+    → Here m module_area block turn test ps
+ahead-some m module_area block turn test ps s l a ne = go a.rest a.block_is a.chain a.few a.same
   where
-    go : (rest : List Parcel) → block ≡ first_block rest 0 → Chain (module_heap_in m rma) rest 0 → length rest + turn ≤ most_messages
-        → list_any test ps ≡ list_any test rest → Here m rma block turn test ps
+    go : (rest : List Parcel) → block ≡ first_block rest 0 → Chain (module_heap_in m module_area) rest 0 → length rest + turn ≤ most_messages
+        → list_any test ps ≡ list_any test rest → Here m module_area block turn test ps
     go [] e c f same = absurd (ne e)
     go (p ∷ rest) e c f same = record {
       parcel = p;
       rest = rest;
       block_is = e;
       lies = c.0;
-      small = next-small m rma (first_block rest 0) s l (next-there (module_heap_in m rma) rest c.1);
+      small = next-small m module_area (first_block rest 0) s l (next-there (module_heap_in m module_area) rest c.1);
       chain = c.1;
       few = omega arith;
       same = same;
@@ -231,18 +232,19 @@ ahead-past h block turn test ps a z = go a.rest a.few (sym a.same)
     go [] f e = e
     go (p ∷ rest) f e = absurd (omega arith)
 
-module _ (m : Memory) (rma : Module) (block turn : ℕ) (test : Parcel → Bool) (ps : List Parcel) (w : Here m rma block turn test ps) where
-  pub here-bytes : block_bytes block (module_heap_in m rma) ≡ Some (padded (first_block w.rest 0) w.parcel)
-  here-bytes = ap (λ a. block_bytes a (module_heap_in m rma)) w.block_is ∙ w.lies.block
+module _ (m : Memory) (module_area : Module) (block turn : ℕ) (test : Parcel → Bool) (ps : List Parcel) (w : Here m module_area block turn test ps) where
+  pub here-bytes : block_bytes block (module_heap_in m module_area) ≡ Some (padded (first_block w.rest 0) w.parcel)
+  here-bytes = ap (λ a. block_bytes a (module_heap_in m module_area)) w.block_is ∙ w.lies.block
 
-  pub here-has : HasBlock block 24 (module_heap_in m rma)
+  pub here-has : HasBlock block 24 (module_heap_in m module_area)
   here-has = record { bytes = padded (first_block w.rest 0) w.parcel; found = here-bytes; room = padded-least (first_block w.rest 0) w.parcel }
 
   pub found-here : (t : Bool) → t ≡ test w.parcel → t ≡ true → true ≡ list_any test ps
   found-here t e et = sym (w.same ∙ ap (λ b. b || list_any test w.rest) (sym e ∙ et))
 
-  pub one-on : (t : Bool) (next : ℕ) → t ≡ test w.parcel → t ≡ false → ((bs : List ℕ) → block_bytes block (module_heap_in m rma) ≡ Some bs → next ≡ word bs 0)
-      → Ahead (module_heap_in m rma) next (suc turn) test ps
+  pub one-on : (t : Bool) (next : ℕ) → t ≡ test w.parcel → t ≡ false →
+      ((bs : List ℕ) → block_bytes block (module_heap_in m module_area) ≡ Some bs → next ≡ word bs 0)
+      → Ahead (module_heap_in m module_area) next (suc turn) test ps
   one-on t next e et r = record {
     rest = w.rest;
     block_is = r (padded (first_block w.rest 0) w.parcel) here-bytes ∙ link_read (first_block w.rest 0) w.parcel w.small w.lies.fits;

@@ -360,20 +360,21 @@ send-short h q post free l refusal p ok e =
     (module_claim-alike free size h post.heap p.linked.shape) e)
 
 -- the same, claimed, written and linked
-pub record Joined (m n k : Memory) (rma : Module) (q : Chains) (post : Post) (l : Letter) (to block : ℕ) : Type 0 where
+pub record Joined (m n k : Memory) (module_area : Module) (q : Chains) (post : Post) (l : Letter) (to block : ℕ) : Type 0 where
   pub plain : Heap
-  pub admitted : Admits (module_heap_in m rma) q post l.to
+  pub admitted : Admits (module_heap_in m module_area) q post l.to
   pub granted : module_claim m.free (parcel_size (message_of l 0)) post.heap ≡ Ok (plain, block)
-  pub spells : ArePostChains (module_heap_in k rma) (longer_chains to block q) (queued_in l (plain, block) post)
+  pub spells : ArePostChains (module_heap_in k module_area) (longer_chains to block q) (queued_in l (plain, block) post)
 
-pub letter-joined : (m n k : Memory) (rma : Module) (q : Chains) (post : Post) (l : Letter) (to block : ℕ) → ArePostChains (module_heap_in m rma) q post
+pub letter-joined : (m n k : Memory) (module_area : Module) (q : Chains) (post : Post) (l : Letter) (to block : ℕ) → ArePostChains
+    (module_heap_in m module_area) q post
     → refusal_for l.to q ≡ None → to < length q.entries → (entry_at q.entries to).handle ≡ l.to → Fits (message_of l q.next_ref)
-    → Ok block ≡ answer_of (module_claim m.free (parcel_size (message_of l 0)) (module_heap_in m rma))
-    → ((there : Heap × ℕ) → module_claim m.free (parcel_size (message_of l 0)) (module_heap_in m rma) ≡ Ok there
-    → Turns m n rma (poked there.1 0 (word_bytes 0 ++ (word_bytes (code_number l.code) ++ encoded (message_of l q.next_ref))) there.0))
-    → module_heap_in k rma ≡ relinked (entry_at q.entries to).last block (module_heap_in n rma) → Joined m n k rma q post l to block
-letter-joined m n k rma q post l to block p ok lt named-to fits ea placed ek =
-    let h : Heap = module_heap_in m rma in
+    → Ok block ≡ answer_of (module_claim m.free (parcel_size (message_of l 0)) (module_heap_in m module_area))
+    → ((there : Heap × ℕ) → module_claim m.free (parcel_size (message_of l 0)) (module_heap_in m module_area) ≡ Ok there
+    → Turns m n module_area (poked there.1 0 (word_bytes 0 ++ (word_bytes (code_number l.code) ++ encoded (message_of l q.next_ref))) there.0))
+    → module_heap_in k module_area ≡ relinked (entry_at q.entries to).last block (module_heap_in n module_area) → Joined m n k module_area q post l to block
+letter-joined m n k module_area q post l to block p ok lt named-to fits ea placed ek =
+    let h : Heap = module_heap_in m module_area in
     let size : ℕ = parcel_size (message_of l 0) in
     let a = admits h q post l.to p ok in
     let g = granted_of (module_claim m.free size h) block ea in
@@ -388,14 +389,14 @@ letter-joined m n k rma q post l to block p ok lt named-to fits ea placed ek =
     ap (λ r. word_bytes 0 ++ (word_bytes (code_number l.code) ++ encoded (message_of l r))) p.next_ref
     ∙ sym (parcel-row 0 (parcel_of l post.next_ref there.1)) in
     let fits' : Fits (message_of l post.next_ref) = subst (λ r. Fits (message_of l r)) p.next_ref fits in
-    let s : ArePostChains (module_heap_in k rma) (longer_chains to there.1 q) (queued_in l (plain.0, there.1) post) =
-    letter-queued h (module_heap_in n rma) (module_heap_in k rma) q post l to there plain.0 p a lt named-to fits' puts puts' plain.1.1
-    (w.heap ∙ ap (λ bs. poked there.1 0 bs there.0) bytes-are) (ek ∙ ap (λ b. relinked (entry_at q.entries to).last b (module_heap_in n rma)) g.1.1) in
+    let s : ArePostChains (module_heap_in k module_area) (longer_chains to there.1 q) (queued_in l (plain.0, there.1) post) =
+    letter-queued h (module_heap_in n module_area) (module_heap_in k module_area) q post l to there plain.0 p a lt named-to fits' puts puts' plain.1.1
+    (w.heap ∙ ap (λ bs. poked there.1 0 bs there.0) bytes-are) (ek ∙ ap (λ b. relinked (entry_at q.entries to).last b (module_heap_in n module_area)) g.1.1) in
     record {
       plain = plain.0;
       admitted = a;
       granted = plain.1.0 ∙ ap (λ b. Ok (plain.0, b)) (sym g.1.1);
-      spells = subst (λ b. ArePostChains (module_heap_in k rma) (longer_chains to b q) (queued_in l (plain.0, b) post)) (sym g.1.1) s;
+      spells = subst (λ b. ArePostChains (module_heap_in k module_area) (longer_chains to b q) (queued_in l (plain.0, b) post)) (sym g.1.1) s;
     }
 
 -- the chain's last block is still there once the new one is written
@@ -406,12 +407,13 @@ last-has h e r l ne = go r.chain l.last l.chain
     go [] el c = absurd (ne el)
     go (p ∷ ps) el c = subst (λ b. HasBlock b 24 h) (sym el) (last-there h p ps 0 c)
 
-pub last-stays : (m n : Memory) (rma : Module) (q : Chains) (post : Post) (size block to : ℕ) (xs : List ℕ) → ArePostChains (module_heap_in m rma) q post
-    → to < length q.entries → Ok block ≡ answer_of (module_claim m.free size (module_heap_in m rma))
-    → ((there : Heap × ℕ) → module_claim m.free size (module_heap_in m rma) ≡ Ok there → Turns m n rma (poked there.1 0 xs there.0))
-    → (entry_at q.entries to).last ≢ 0 → HasBlock (entry_at q.entries to).last 4 (module_heap_in n rma)
-last-stays m n rma q post size block to xs p lt ea placed ne =
-    let h : Heap = module_heap_in m rma in
+pub last-stays : (m n : Memory) (module_area : Module) (q : Chains) (post : Post) (size block to : ℕ) (xs : List ℕ) → ArePostChains
+    (module_heap_in m module_area) q post
+    → to < length q.entries → Ok block ≡ answer_of (module_claim m.free size (module_heap_in m module_area))
+    → ((there : Heap × ℕ) → module_claim m.free size (module_heap_in m module_area) ≡ Ok there → Turns m n module_area (poked there.1 0 xs there.0))
+    → (entry_at q.entries to).last ≢ 0 → HasBlock (entry_at q.entries to).last 4 (module_heap_in n module_area)
+last-stays m n module_area q post size block to xs p lt ea placed ne =
+    let h : Heap = module_heap_in m module_area in
     let last : ℕ = (entry_at q.entries to).last in
     let s = seated h q post to p lt in
     let g = granted_of (module_claim m.free size h) block ea in
@@ -426,11 +428,12 @@ last-stays m n rma q post size block to xs p lt ea placed ne =
       room = let r = b.room in omega arith;
     }
 
-pub new-there : (m n : Memory) (rma : Module) (size block : ℕ) (xs : List ℕ) → Ok block ≡ answer_of (module_claim m.free size (module_heap_in m rma))
-    → ((there : Heap × ℕ) → module_claim m.free size (module_heap_in m rma) ≡ Ok there → Turns m n rma (poked there.1 0 xs there.0))
-    → IsModule n rma × (OnlyArea m n rma.area.0 × HasBlock block 0 (module_heap_in n rma))
-new-there m n rma size block xs ea placed =
-    let h : Heap = module_heap_in m rma in
+pub new-there : (m n : Memory) (module_area : Module) (size block : ℕ) (xs : List ℕ) → Ok block ≡ answer_of
+    (module_claim m.free size (module_heap_in m module_area))
+    → ((there : Heap × ℕ) → module_claim m.free size (module_heap_in m module_area) ≡ Ok there → Turns m n module_area (poked there.1 0 xs there.0))
+    → IsModule n module_area × (OnlyArea m n module_area.area.0 × HasBlock block 0 (module_heap_in n module_area))
+new-there m n module_area size block xs ea placed =
+    let h : Heap = module_heap_in m module_area in
     let g = granted_of (module_claim m.free size h) block ea in
     let there : Heap × ℕ = g.0 in
     let w = placed there g.1.0 in
@@ -449,35 +452,38 @@ new-there m n rma size block xs ea placed =
     )
 
 -- and the message that it answers is put down
-pub letter-settled : (n : Memory) (k : Memory) (rma : Module) (q : Chains) (post : Post) (l : Letter) (to block from freed : ℕ) (plain : Heap) (es : List Entry)
-    → ArePostChains (module_heap_in n rma) (longer_chains to block q) (queued_in l (plain, block) post) → from < length (longer_chains to block q).entries
+pub letter-settled : (n : Memory) (k : Memory) (module_area : Module) (q : Chains) (post : Post) (l : Letter) (to block from freed : ℕ) (plain : Heap)
+    (es : List Entry)
+    → ArePostChains (module_heap_in n module_area) (longer_chains to block q) (queued_in l (plain, block) post) → from < length
+    (longer_chains to block q).entries
     → (entry_at (longer_chains to block q).entries from).handle ≡ l.from
-    → Settled n k rma (longer_chains to block q).entries es from l.your_ref (held_by l.from post.seats) freed
-    → ArePostChains (module_heap_in k rma) (record { entries = es; live = q.live + 1 - freed; next_ref = q.next_ref + 1 }) (posted l (plain, block) post)
-letter-settled n k rma q post l to block from freed plain es p lt named-from s = go (answers_held l.your_ref (held_by l.from post.seats)) refl s
+    → Settled n k module_area (longer_chains to block q).entries es from l.your_ref (held_by l.from post.seats) freed
+    → ArePostChains (module_heap_in k module_area) (record { entries = es; live = q.live + 1 - freed; next_ref = q.next_ref + 1 })
+    (posted l (plain, block) post)
+letter-settled n k module_area q post l to block from freed plain es p lt named-from s = go (answers_held l.your_ref (held_by l.from post.seats)) refl s
   where
-    go : (t : Bool) → answers_held l.your_ref (held_by l.from post.seats) ≡ t → PutsDown t n k rma (longer_chains to block q).entries es from freed
-        → ArePostChains (module_heap_in k rma) (record { entries = es; live = q.live + 1 - freed; next_ref = q.next_ref + 1 })
+    go : (t : Bool) → answers_held l.your_ref (held_by l.from post.seats) ≡ t → PutsDown t n k module_area (longer_chains to block q).entries es from freed
+        → ArePostChains (module_heap_in k module_area) (record { entries = es; live = q.live + 1 - freed; next_ref = q.next_ref + 1 })
         (cond t (put_down l.from (queued_in l (plain, block) post)) (queued_in l (plain, block) post))
     go true et d =
         let o = answered-some l.your_ref (held_by l.from post.seats) et in
-        let r = put-down (module_heap_in n rma) (module_heap_in k rma) (longer_chains to block q)
+        let r = put-down (module_heap_in n module_area) (module_heap_in k module_area) (longer_chains to block q)
         (queued_in l (plain, block) post) l.from from o.0 p lt named-from o.1
         d.2.heap in
-        subst (λ xs. ArePostChains (module_heap_in k rma) (record { entries = xs; live = q.live + 1 - freed; next_ref = q.next_ref + 1 })
+        subst (λ xs. ArePostChains (module_heap_in k module_area) (record { entries = xs; live = q.live + 1 - freed; next_ref = q.next_ref + 1 })
         (put_down l.from (queued_in l (plain, block) post))) (sym d.1)
-        (subst (λ f. ArePostChains (module_heap_in k rma)
+        (subst (λ f. ArePostChains (module_heap_in k module_area)
         (record {
           entries = set (longer_chains to block q).entries from (emptied (entry_at (longer_chains to block q).entries from));
           live = q.live + 1 - f;
           next_ref = q.next_ref + 1;
         }) (put_down l.from (queued_in l (plain, block) post))) (sym d.0) r)
     go false et d =
-        subst (λ (m : Memory). ArePostChains (module_heap_in m rma) (record { entries = es; live = q.live + 1 - freed; next_ref = q.next_ref + 1 })
+        subst (λ (m : Memory). ArePostChains (module_heap_in m module_area) (record { entries = es; live = q.live + 1 - freed; next_ref = q.next_ref + 1 })
         (queued_in l (plain, block) post)) (sym d.2)
-        (subst (λ xs. ArePostChains (module_heap_in n rma) (record { entries = xs; live = q.live + 1 - freed; next_ref = q.next_ref + 1 })
+        (subst (λ xs. ArePostChains (module_heap_in n module_area) (record { entries = xs; live = q.live + 1 - freed; next_ref = q.next_ref + 1 })
         (queued_in l (plain, block) post)) (sym d.1)
-        (subst (λ f. ArePostChains (module_heap_in n rma) (record { entries = (longer_chains to block q).entries; live = f; next_ref = q.next_ref + 1 })
+        (subst (λ f. ArePostChains (module_heap_in n module_area) (record { entries = (longer_chains to block q).entries; live = f; next_ref = q.next_ref + 1 })
         (queued_in l (plain, block) post)) (let z : q.live + 1 ≡ q.live + 1 - freed = omega (arith, d.0) in z) p))
 
 pub admitted-refs : (to : ℕ) (q : Chains) → refusal_for to q ≡ None → q.next_ref < 2 ^ 32

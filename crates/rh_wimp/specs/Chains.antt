@@ -133,7 +133,7 @@ pub record ArePostChains (h : Heap) (q : Chains) (post : Post) : Type 0 where
   pub next_ref : q.next_ref ≡ post.next_ref
 
 abbrev pub SpellsPostIn : Memory → Module → Chains → Post → Type 0
-SpellsPostIn m rma q post = ArePostChains (module_heap_in m rma) q post
+SpellsPostIn m module_area q post = ArePostChains (module_heap_in m module_area) q post
 
 -- ---- what a queue has
 -- the handle is live
@@ -149,8 +149,8 @@ abbrev pub refusal_for : ℕ → Chains → Option Refusal
 refusal_for h q = refusal_at (position (λ (e : Entry). e.handle == h) q.entries) q
 
 -- a message lies in the block, and links to none
-pub record LiesAt (m : Memory) (rma : Module) (block : ℕ) (p : Parcel) : Type 0 where
-  pub lies : Lies (module_heap_in m rma) 0 p
+pub record LiesAt (m : Memory) (module_area : Module) (block : ℕ) (p : Parcel) : Type 0 where
+  pub lies : Lies (module_heap_in m module_area) 0 p
   pub block_is : block ≡ p.block
 
 -- what a poll hands out
@@ -165,21 +165,21 @@ pub record Loose (h : Heap) (post : Post) (p : Parcel) : Type 0 where
   pub off : (j : ℕ) → j < length (rows_of post) → Off p.block (row_parcels (row_at (rows_of post) j))
 
 -- a message that may bounce
-pub record MayBounce (m : Memory) (rma : Module) (q : Chains) (post : Post) (p : Parcel) (block : ℕ) : Type 0 where
-  pub spells : SpellsPostIn m rma q post
-  pub loose : Loose (module_heap_in m rma) post p
+pub record MayBounce (m : Memory) (module_area : Module) (q : Chains) (post : Post) (p : Parcel) (block : ℕ) : Type 0 where
+  pub spells : SpellsPostIn m module_area q post
+  pub loose : Loose (module_heap_in m module_area) post p
   pub block_is : block ≡ p.block
   pub few : live_count post < most_messages
 
 -- the post without the first message for a task, which belongs to no row, and the others queued
-pub record Lifted (m : Memory) (rma : Module) (q : Chains) (post : Post) (h block : ℕ) (t : Parcel × List Parcel) : Type 0 where
+pub record Lifted (m : Memory) (module_area : Module) (q : Chains) (post : Post) (h block : ℕ) (t : Parcel × List Parcel) : Type 0 where
   pub first : first_for h post.queued ≡ Some t
-  pub may : MayBounce m rma q (record post { queued = t.1 }) t.0 block
+  pub may : MayBounce m module_area q (record post { queued = t.1 }) t.0 block
 
 -- the first message for a task was taken off its chain, where there is one
 abbrev pub LiftsFirst : Memory → Module → Chains → Post → ℕ → Option ℕ → Type 0
-LiftsFirst m rma q post h None = (first_for h post.queued ≡ None) × SpellsPostIn m rma q post
-LiftsFirst m rma q post h (Some block) = (t : Parcel × List Parcel) × Lifted m rma q post h block t
+LiftsFirst m module_area q post h None = (first_for h post.queued ≡ None) × SpellsPostIn m module_area q post
+LiftsFirst m module_area q post h (Some block) = (t : Parcel × List Parcel) × Lifted m module_area q post h block t
 
 -- ---- edits of entries
 -- a block more at the end of the chain

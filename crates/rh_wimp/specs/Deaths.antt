@@ -39,12 +39,12 @@ abbrev pub rest_of_death : ℕ → Post → Post
 rest_of_death h post = bounce_all (queue_to h post.queued) (without_seat h post)
 
 -- a post from which the same is left of the death, with fewer messages queued for the handle
-pub record Drained (m : Memory) (rma : Module) (q : Chains) (post : Post) (h turn : ℕ) (now : Post) : Type 0 where
-  pub spells : SpellsPostIn m rma q now
+pub record Drained (m : Memory) (module_area : Module) (q : Chains) (post : Post) (h turn : ℕ) (now : Post) : Type 0 where
+  pub spells : SpellsPostIn m module_area q now
   pub same : rest_of_death h now ≡ rest_of_death h post
   pub few : length (queue_to h now.queued) + turn ≤ MOST_MESSAGES
   pub seats : now.seats ≡ post.seats
 
 -- after so many turns
 abbrev pub Drains : Memory → Module → Chains → Post → ℕ → ℕ → Type 0
-Drains m rma q post h turn = (now : Post) × Drained m rma q post h turn now
+Drains m module_area q post h turn = (now : Post) × Drained m module_area q post h turn now

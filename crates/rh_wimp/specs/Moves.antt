@@ -12,28 +12,28 @@ use Rattle.rh_wimp.specs.Chains.{entry_at, emptied}
 use Rattle.rh_wimp.specs.declared.chain.Entry.{Entry}
 
 -- the module area's heap becomes another, and nothing else changes but for the pages that it takes
-pub record Turns (m n : Memory) (rma : Module) (h : Heap) : Type 0 where
-  pub still : IsModule n rma
-  pub heap : module_heap_in n rma ≡ h
-  pub only : OnlyArea m n rma.area.0
+pub record Turns (m n : Memory) (module_area : Module) (h : Heap) : Type 0 where
+  pub still : IsModule n module_area
+  pub heap : module_heap_in n module_area ≡ h
+  pub only : OnlyArea m n module_area.area.0
 
 -- the link of a block now leads to another, where there is such a block
 abbrev pub relinked : ℕ → ℕ → Heap → Heap
 relinked last block h = if last == 0 then h else poked last 0 (word_bytes block) h
 
 -- a chain's last block links to another, and no page moves
-pub record Relinks (m n : Memory) (rma : Module) (last block : ℕ) : Type 0 where
-  pub still : IsModule n rma
-  pub heap : module_heap_in n rma ≡ relinked last block (module_heap_in m rma)
-  pub only : OnlyArea m n rma.area.0
+pub record Relinks (m n : Memory) (module_area : Module) (last block : ℕ) : Type 0 where
+  pub still : IsModule n module_area
+  pub heap : module_heap_in n module_area ≡ relinked last block (module_heap_in m module_area)
+  pub only : OnlyArea m n module_area.area.0
   pub free : n.free ≡ m.free
 
 -- what a task holds is put down where the test says so, and how many messages that were
 abbrev pub PutsDown : Bool → Memory → Memory → Module → List Entry → List Entry → ℕ → ℕ → Type 0
-PutsDown true m n rma es new i freed =
-    (freed ≡ 1) × (new ≡ set es i (emptied (entry_at es i))) × Turns m n rma (release_block (entry_at es i).held (module_heap_in m rma))
-PutsDown false m n rma es new i freed = (freed ≡ 0) × (new ≡ es) × (n ≡ m)
+PutsDown true m n module_area es new i freed =
+    (freed ≡ 1) × (new ≡ set es i (emptied (entry_at es i))) × Turns m n module_area (release_block (entry_at es i).held (module_heap_in m module_area))
+PutsDown false m n module_area es new i freed = (freed ≡ 0) × (new ≡ es) × (n ≡ m)
 
 -- the same, where a letter that answers this ref was sent
 abbrev pub Settled : Memory → Memory → Module → List Entry → List Entry → ℕ → ℕ → Option Parcel → ℕ → Type 0
-Settled m n rma es new i your_ref held freed = PutsDown (answers_held your_ref held) m n rma es new i freed
+Settled m n module_area es new i your_ref held freed = PutsDown (answers_held your_ref held) m n module_area es new i freed

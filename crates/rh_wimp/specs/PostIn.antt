@@ -97,7 +97,7 @@ post_of h q = record {
 
 -- the post that the module area's bytes and the queue's entries spell, whatever bytes they are
 abbrev pub post_in : Memory → Module → Chains → Post
-post_in m rma q = post_of (module_heap_in m rma) q
+post_in m module_area q = post_of (module_heap_in m module_area) q
 
 -- ---- a post in order of seats
 -- a message for a task

@@ -8,21 +8,21 @@ use Rattle.rh_wimp.specs.Chains.{Chains, SpellsPostIn}
 use Rattle.rh_wimp.specs.declared.chain.Entry.{Entry}
 
 -- the module area's bytes spell a heap, and with the queue's entries they spell a post
-pub record IsQueue (m : Memory) (rma : Module) (q : Chains) : Type 0 where
-  pub area : IsModule m rma
+pub record IsQueue (m : Memory) (module_area : Module) (q : Chains) : Type 0 where
+  pub area : IsModule m module_area
   pub post : Post
-  pub spells : SpellsPostIn m rma q post
+  pub spells : SpellsPostIn m module_area q post
 
 -- the live handles, in the order in which they joined
 abbrev pub handles_of : Chains → List ℕ
 handles_of q = map (λ (e : Entry). e.handle) q.entries
 
 -- The queue spells the next post, whichever it spelled; it still is a queue, and no other area has changed.
-pub record LeavesChains (m n : Memory) (rma : Module) (q k : Chains) (next : Post → Post) : Type 0 where
-  pub spells : (post : Post) → SpellsPostIn m rma q post → SpellsPostIn n rma k (next post)
-  pub still : IsQueue n rma k
-  pub only : OnlyArea m n rma.area.0
+pub record LeavesChains (m n : Memory) (module_area : Module) (q k : Chains) (next : Post → Post) : Type 0 where
+  pub spells : (post : Post) → SpellsPostIn m module_area q post → SpellsPostIn n module_area k (next post)
+  pub still : IsQueue n module_area k
+  pub only : OnlyArea m n module_area.area.0
 
 -- the answer for the post that the queue spells
 abbrev pub Answers : {A : Type 0} → Memory → Module → Chains → (Post → A) → A → Type 0
-Answers m rma q answer result = (post : Post) → SpellsPostIn m rma q post → result ≡ answer post
+Answers m module_area q answer result = (post : Post) → SpellsPostIn m module_area q post → result ≡ answer post

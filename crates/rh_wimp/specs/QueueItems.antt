@@ -41,7 +41,7 @@ with_message None block = block
 with_message (Some p) block = with_part block 0 (encoded p.message)
 
 -- a message lies in the block, which links to a place
-pub record LinksAt (m : Memory) (rma : Module) (block link : ℕ) (p : Parcel) : Type 0 where
-  pub lies : Lies (module_heap_in m rma) link p
+pub record LinksAt (m : Memory) (module_area : Module) (block link : ℕ) (p : Parcel) : Type 0 where
+  pub lies : Lies (module_heap_in m module_area) link p
   pub block_is : block ≡ p.block
   pub small : link < 2 ^ 32

@@ -18,13 +18,13 @@ use Rattle.rh_store.specs.Limits.{area_limit}
 
 -- the area is so small that its blocks have addresses that are words, as every store's areas are
 abbrev pub IsSmallModule : Memory → Module → Type 0
-IsSmallModule m rma = length (bytes m rma.area.0) ≤ area_limit
+IsSmallModule m module_area = length (bytes m module_area.area.0) ≤ area_limit
 
 -- the post that is read off the area's bytes and the queue's entries is spelled, and it is each one that is, in order of seats
 abbrev pub HaveOnePost : Type 0
 HaveOnePost =
-    (m : Memory) (rma : Module) (q : Chains) (post : Post) → IsSmallModule m rma → IsModule m rma → SpellsPostIn m rma q post
-    → SpellsPostIn m rma q (post_in m rma q) × (post_in m rma q ≡ in_order post)
+    (m : Memory) (module_area : Module) (q : Chains) (post : Post) → IsSmallModule m module_area → IsModule m module_area → SpellsPostIn m module_area q post
+    → SpellsPostIn m module_area q (post_in m module_area q) × (post_in m module_area q ≡ in_order post)
 
 -- the post with another heap
 abbrev pub post_with_heap : Heap → Post → Post
@@ -33,9 +33,9 @@ post_with_heap h post = record post { heap = h }
 -- Where the queue spells a post on which a call of the module area is allowed, the call answers as it does on the post's heap, and the post has the heap that it leaves.
 abbrev pub GoesBeside : {A : Type 0} → (Post → Type 0) → (ℕ → Heap → Granted (Heap × A)) → Type 0
 GoesBeside {A} allowed call =
-    (m n : Memory) (rma : Module) (q : Chains) (post : Post) (result : Granted A) → allowed post → SpellsPostIn m rma q post
-    → module_calls.LeavesModule m n rma (call m.free (module_heap_in m rma)) result
-    → (result ≡ answer_of (call m.free post.heap)) × SpellsPostIn n rma q (post_with_heap (left_of post.heap (call m.free post.heap)) post)
+    (m n : Memory) (module_area : Module) (q : Chains) (post : Post) (result : Granted A) → allowed post → SpellsPostIn m module_area q post
+    → module_calls.LeavesModule m n module_area (call m.free (module_heap_in m module_area)) result
+    → (result ≡ answer_of (call m.free post.heap)) × SpellsPostIn n module_area q (post_with_heap (left_of post.heap (call m.free post.heap)) post)
 
 -- What stands in a message block once a message was encoded there decodes to that message: the whole block, whatever was
 -- in it before, and each front of it that has the message's length.

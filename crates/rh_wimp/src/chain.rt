@@ -57,18 +57,19 @@ pub fn shortened(entry: Entry, next: usize) -> Entry
 /// Puts a block whose link is 0 at the end of a chain.
 pub fn append<S: WordsMut>(
     store: &mut S,
-    rma: Module,
+    module_area: Module,
     entries: &mut Table<Entry, MAX_TASKS>,
     at: usize,
     block: usize,
 )
-    requires module { IsModule (S.memory store.old) rma }
+    requires module { IsModule (S.memory store.old) module_area }
     requires within { at < length entries.old.items }
-    requires last { (entry_at entries.old.items at).last ≢ 0 → HasBlock (entry_at entries.old.items at).last WORD (module_heap_in (S.memory store.old) rma) }
+    requires last { (entry_at entries.old.items at).last ≢ 0 → HasBlock (entry_at entries.old.items at).last WORD (module_heap_in (S.memory store.old) module_area) }
     requires small { block < 2 ^ 32 }
     ensures entries { entries.new.items ≡ set entries.old.items at (lengthened block (entry_at entries.old.items at)) }
     ensures len { length entries.new.items ≡ length entries.old.items }
-    ensures heap { Relinks (S.memory store.old) (S.memory store.new) rma (entry_at entries.old.items at).last block }
+    ensures heap { Relinks (S.memory store.old) (S.memory store.new) module_area
+        (entry_at entries.old.items at).last block }
 {
     let entry = entries[at];
     if entry.last == 0 {
@@ -79,7 +80,7 @@ pub fn append<S: WordsMut>(
         };
         return;
     }
-    rma.write_word(store, entry.last, LINK, block as u32);
+    module_area.write_word(store, entry.last, LINK, block as u32);
     entries[at] = Entry {
         last: block,
         ..entry

@@ -25,46 +25,46 @@ impl Queue {
     pub fn list<S: Words>(
         &self,
         store: &S,
-        rma: Module,
+        module_area: Module,
         items: &mut ArrayVec<MessageItem, MOST_MESSAGES>,
     )
-        requires { IsQueue (S.memory store.now) rma self.now }
-        ensures { Answers (S.memory store.now) rma self.now message_items items.new.items }
+        requires { IsQueue (S.memory store.now) module_area self.now }
+        ensures { Answers (S.memory store.now) module_area self.now message_items items.new.items }
     {
         items.clear();
-        push_waiting(store, rma, &self.entries, items);
-        push_held(store, rma, &self.entries, items);
+        push_waiting(store, module_area, &self.entries, items);
+        push_held(store, module_area, &self.entries, items);
     }
 }
 
 /// Appends the messages that wait, task by task.
 fn push_waiting<S: Words>(
     store: &S,
-    rma: Module,
+    module_area: Module,
     entries: &Table<Entry, MAX_TASKS>,
     items: &mut ArrayVec<MessageItem, MOST_MESSAGES>,
 )
-    requires module { IsModule (S.memory store.now) rma }
-    requires rows { (rows : List SeatRow) × (RowsLie (module_heap_in (S.memory store.now) rma) entries.now.items rows × (length items.old.items + length (waiting_items rows) ≤ MOST_MESSAGES)) }
-    ensures { (rows : List SeatRow) → RowsLie (module_heap_in (S.memory store.now) rma) entries.now.items rows → length items.old.items + length (waiting_items rows) ≤ MOST_MESSAGES
+    requires module { IsModule (S.memory store.now) module_area }
+    requires rows { (rows : List SeatRow) × (RowsLie (module_heap_in (S.memory store.now) module_area) entries.now.items rows × (length items.old.items + length (waiting_items rows) ≤ MOST_MESSAGES)) }
+    ensures { (rows : List SeatRow) → RowsLie (module_heap_in (S.memory store.now) module_area) entries.now.items rows → length items.old.items + length (waiting_items rows) ≤ MOST_MESSAGES
         → items.new.items ≡ items.old.items ++ waiting_items rows }
 {
     for entry in entries.as_slice() {
-        push_chain(store, rma, entry.first, entry.handle, items);
+        push_chain(store, module_area, entry.first, entry.handle, items);
     }
 }
 
 /// Appends the messages of a chain, which wait for a task.
 fn push_chain<S: Words>(
     store: &S,
-    rma: Module,
+    module_area: Module,
     first: usize,
     to: Handle,
     items: &mut ArrayVec<MessageItem, MOST_MESSAGES>,
 )
-    requires module { IsModule (S.memory store.now) rma }
-    requires chain { (ps : List Parcel) × ((first ≡ first_block ps 0) × Chain (module_heap_in (S.memory store.now) rma) ps 0 × (length items.old.items + length ps ≤ MOST_MESSAGES)) }
-    ensures { (ps : List Parcel) → first ≡ first_block ps 0 → Chain (module_heap_in (S.memory store.now) rma) ps 0 → length items.old.items + length ps ≤ MOST_MESSAGES
+    requires module { IsModule (S.memory store.now) module_area }
+    requires chain { (ps : List Parcel) × ((first ≡ first_block ps 0) × Chain (module_heap_in (S.memory store.now) module_area) ps 0 × (length items.old.items + length ps ≤ MOST_MESSAGES)) }
+    ensures { (ps : List Parcel) → first ≡ first_block ps 0 → Chain (module_heap_in (S.memory store.now) module_area) ps 0 → length items.old.items + length ps ≤ MOST_MESSAGES
         → items.new.items ≡ items.old.items ++ map (message_item_of to false) ps }
 {
     let mut block = first;
@@ -72,62 +72,68 @@ fn push_chain<S: Words>(
         if block == 0 {
             return;
         }
-        items.push(read_item(store, rma, block, to, false));
-        block = rma.read_word(store, block, LINK) as usize;
+        items.push(read_item(store, module_area, block, to, false));
+        block = module_area.read_word(store, block, LINK) as usize;
     }
 }
 
 /// Appends the messages that are held, task by task.
 fn push_held<S: Words>(
     store: &S,
-    rma: Module,
+    module_area: Module,
     entries: &Table<Entry, MAX_TASKS>,
     items: &mut ArrayVec<MessageItem, MOST_MESSAGES>,
 )
-    requires module { IsModule (S.memory store.now) rma }
-    requires rows { (rows : List SeatRow) × (RowsLie (module_heap_in (S.memory store.now) rma) entries.now.items rows × (length items.old.items + length (held_items rows) ≤ MOST_MESSAGES)) }
-    ensures { (rows : List SeatRow) → RowsLie (module_heap_in (S.memory store.now) rma) entries.now.items rows → length items.old.items + length (held_items rows) ≤ MOST_MESSAGES
+    requires module { IsModule (S.memory store.now) module_area }
+    requires rows { (rows : List SeatRow) × (RowsLie (module_heap_in (S.memory store.now) module_area) entries.now.items rows × (length items.old.items + length (held_items rows) ≤ MOST_MESSAGES)) }
+    ensures { (rows : List SeatRow) → RowsLie (module_heap_in (S.memory store.now) module_area) entries.now.items rows → length items.old.items + length (held_items rows) ≤ MOST_MESSAGES
         → items.new.items ≡ items.old.items ++ held_items rows }
 {
     for entry in entries.as_slice() {
-        push_block(store, rma, entry.held, entry.handle, items);
+        push_block(store, module_area, entry.held, entry.handle, items);
     }
 }
 
 /// Appends the message that a task holds in a block, 0 for none.
 fn push_block<S: Words>(
     store: &S,
-    rma: Module,
+    module_area: Module,
     held: usize,
     to: Handle,
     items: &mut ArrayVec<MessageItem, MOST_MESSAGES>,
 )
-    requires module { IsModule (S.memory store.now) rma }
-    requires held { (o : Option Parcel) × (Holds (module_heap_in (S.memory store.now) rma) held o × (length items.old.items + length (held_list o) ≤ MOST_MESSAGES)) }
-    ensures { (o : Option Parcel) → Holds (module_heap_in (S.memory store.now) rma) held o → length items.old.items + length (held_list o) ≤ MOST_MESSAGES
+    requires module { IsModule (S.memory store.now) module_area }
+    requires held { (o : Option Parcel) × (Holds (module_heap_in (S.memory store.now) module_area) held o × (length items.old.items + length (held_list o) ≤ MOST_MESSAGES)) }
+    ensures { (o : Option Parcel) → Holds (module_heap_in (S.memory store.now) module_area) held o → length items.old.items + length (held_list o) ≤ MOST_MESSAGES
         → items.new.items ≡ items.old.items ++ map (message_item_of to true) (held_list o) }
 {
     if held == 0 {
         return;
     }
-    items.push(read_item(store, rma, held, to, true));
+    items.push(read_item(store, module_area, held, to, true));
 }
 
 /// What is listed of the message that lies in a block.
-fn read_item<S: Words>(store: &S, rma: Module, block: usize, to: Handle, held: bool) -> MessageItem
-    requires module { IsModule (S.memory store.now) rma }
-    requires lies { (link : ℕ) × ((p : Parcel) × LinksAt (S.memory store.now) rma block link p) }
-    ensures { (link : ℕ) (p : Parcel) → LinksAt (S.memory store.now) rma block link p → result
+fn read_item<S: Words>(
+    store: &S,
+    module_area: Module,
+    block: usize,
+    to: Handle,
+    held: bool,
+) -> MessageItem
+    requires module { IsModule (S.memory store.now) module_area }
+    requires lies { (link : ℕ) × ((p : Parcel) × LinksAt (S.memory store.now) module_area block link p) }
+    ensures { (link : ℕ) (p : Parcel) → LinksAt (S.memory store.now) module_area block link p → result
         ≡ message_item_of to held p }
 {
-    let action = rma.read_word(store, block, MESSAGE + ACTION);
+    let action = module_area.read_word(store, block, MESSAGE + ACTION);
     MessageItem {
         block: block as u32,
         to,
-        from: Handle(rma.read_word(store, block, MESSAGE + SENDER)),
-        my_ref: Ref(rma.read_word(store, block, MESSAGE + MY_REF)),
+        from: Handle(module_area.read_word(store, block, MESSAGE + SENDER)),
+        my_ref: Ref(module_area.read_word(store, block, MESSAGE + MY_REF)),
         action: Action::from_number(action).unwrap(),
-        code: code_in(store, rma, block),
+        code: code_in(store, module_area, block),
         held,
     }
 }

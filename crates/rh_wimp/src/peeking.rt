@@ -25,41 +25,41 @@ impl Queue {
     pub fn peek<S: Words>(
         &self,
         store: &S,
-        rma: Module,
+        module_area: Module,
         handle: Handle,
         block: &mut [u8; LONGEST_MESSAGE],
     ) -> Option<EventCode>
-        requires queue { IsQueue (S.memory store.now) rma self.now }
+        requires queue { IsQueue (S.memory store.now) module_area self.now }
         requires live { HasEntry handle self.now }
-        ensures code { Answers (S.memory store.now) rma self.now (λ post. option_map (λ (p : Parcel). p.code) (post_poll handle post).1) result }
-        ensures message { Answers (S.memory store.now) rma self.now (λ post. with_message (post_poll handle post).1 block.old) block.new }
+        ensures code { Answers (S.memory store.now) module_area self.now (λ post. option_map (λ (p : Parcel). p.code) (post_poll handle post).1) result }
+        ensures message { Answers (S.memory store.now) module_area self.now (λ post. with_message (post_poll handle post).1 block.old) block.new }
     {
         let Some(at) = find(&self.entries, handle) else {
             return None;
         };
         let entry = self.entries[at];
         if entry.first != 0 {
-            copy_block(store, rma, entry.first, block);
-            return Some(code_in(store, rma, entry.first));
+            copy_block(store, module_area, entry.first, block);
+            return Some(code_in(store, module_area, entry.first));
         }
-        if !holds_own(store, rma, entry.held, handle) {
+        if !holds_own(store, module_area, entry.held, handle) {
             return None;
         }
         // What the task holds would come back to itself.
-        copy_block(store, rma, entry.held, block);
+        copy_block(store, module_area, entry.held, block);
         Some(EventCode::Acknowledge)
     }
 }
 
 /// Whether the message that a task holds in a block, 0 for none, was sent by the task itself.
-fn holds_own<S: Words>(store: &S, rma: Module, held: usize, handle: Handle) -> bool
-    requires module { IsModule (S.memory store.now) rma }
-    requires held { (o : Option Parcel) × Holds (module_heap_in (S.memory store.now) rma) held o }
-    ensures { (o : Option Parcel) → Holds (module_heap_in (S.memory store.now) rma) held o → result ≡ holds_such (λ (p : Parcel). p.message.from == handle) o }
+fn holds_own<S: Words>(store: &S, module_area: Module, held: usize, handle: Handle) -> bool
+    requires module { IsModule (S.memory store.now) module_area }
+    requires held { (o : Option Parcel) × Holds (module_heap_in (S.memory store.now) module_area) held o }
+    ensures { (o : Option Parcel) → Holds (module_heap_in (S.memory store.now) module_area) held o → result ≡ holds_such (λ (p : Parcel). p.message.from == handle) o }
 {
     if held == 0 {
         return false;
     }
-    let from = Handle(rma.read_word(store, held, MESSAGE + SENDER));
+    let from = Handle(module_area.read_word(store, held, MESSAGE + SENDER));
     from == handle
 }

@@ -28,64 +28,65 @@ use rh_tables::Table;
 /// area can't grow.
 pub fn place<S: Pages>(
     store: &mut S,
-    rma: Module,
+    module_area: Module,
     code: EventCode,
     message: &Message,
 ) -> Result<usize, Refusal>
-    requires { IsModule (S.memory store.old) rma }
-    ensures answer { result ≡ answer_of (module_claim (S.memory store.old).free (parcel_size message.now) (module_heap_in (S.memory store.old) rma)) }
-    ensures placed { (there : Heap × ℕ) → module_claim (S.memory store.old).free (parcel_size message.now) (module_heap_in (S.memory store.old) rma) ≡ Ok there
-        → Turns (S.memory store.old) (S.memory store.new) rma (poked there.1 0 (word_bytes 0 ++ (word_bytes (code_number code) ++ encoded message.now)) there.0) }
+    requires { IsModule (S.memory store.old) module_area }
+    ensures answer { result ≡ answer_of (module_claim (S.memory store.old).free (parcel_size message.now) (module_heap_in (S.memory store.old) module_area)) }
+    ensures placed { (there : Heap × ℕ) → module_claim (S.memory store.old).free (parcel_size message.now) (module_heap_in (S.memory store.old) module_area) ≡ Ok there
+        → Turns (S.memory store.old) (S.memory store.new) module_area (poked there.1 0 (word_bytes 0 ++ (word_bytes (code_number code) ++ encoded message.now)) there.0) }
     ensures fits { Fits message.now }
     ensures err { OnErr result (S.memory store.new ≡ S.memory store.old) }
 {
     let mut parcel = [0u8; MOST_PARCEL];
     put_word(&mut parcel, CODE, code.number());
     let length = MESSAGE + encode_into(message, &mut parcel[MESSAGE..]);
-    let block = rma.claim(store, length as u32)?;
-    rma.write_bytes(store, block, LINK, &parcel[..length]);
+    let block = module_area.claim(store, length as u32)?;
+    module_area.write_bytes(store, block, LINK, &parcel[..length]);
     Ok(block)
 }
 
 /// Whether a task holds a message with this ref.
-pub fn holds_ref<S: Words>(store: &S, rma: Module, entry: Entry, my_ref: Ref) -> bool
-    requires module { IsModule (S.memory store.now) rma }
+pub fn holds_ref<S: Words>(store: &S, module_area: Module, entry: Entry, my_ref: Ref) -> bool
+    requires module { IsModule (S.memory store.now) module_area }
     requires held { entry.held ≢ 0 → HasBlock entry.held (MESSAGE + MY_REF + WORD)
-        (module_heap_in (S.memory store.now) rma) }
+        (module_heap_in (S.memory store.now) module_area) }
     ensures none { entry.held ≡ 0 → result ≡ false }
-    ensures some { entry.held ≢ 0 → (bytes : List ℕ) → block_bytes entry.held (module_heap_in (S.memory store.now) rma) ≡ Some bytes → result ≡ (word bytes (MESSAGE + MY_REF) == my_ref) }
+    ensures some { entry.held ≢ 0 → (bytes : List ℕ) → block_bytes entry.held (module_heap_in (S.memory store.now) module_area) ≡ Some bytes → result ≡ (word bytes (MESSAGE + MY_REF) == my_ref) }
 {
     if entry.held == 0 {
         return false;
     }
-    rma.read_word(store, entry.held, MESSAGE + MY_REF) == my_ref.0
+    module_area.read_word(store, entry.held, MESSAGE + MY_REF) == my_ref.0
 }
 
 /// Frees a block.
-pub fn free<S: Pages>(store: &mut S, rma: Module, block: usize)
-    requires module { IsModule (S.memory store.old) rma }
-    requires block { HasBlock block WORD (module_heap_in (S.memory store.old) rma) }
-    ensures { Turns (S.memory store.old) (S.memory store.new) rma
-        (release_block block (module_heap_in (S.memory store.old) rma)) }
+pub fn free<S: Pages>(store: &mut S, module_area: Module, block: usize)
+    requires module { IsModule (S.memory store.old) module_area }
+    requires block { HasBlock block WORD (module_heap_in (S.memory store.old) module_area) }
+    ensures { Turns (S.memory store.old) (S.memory store.new) module_area
+        (release_block block (module_heap_in (S.memory store.old) module_area)) }
 {
-    rma.free(store, block).unwrap();
+    module_area.free(store, block).unwrap();
 }
 
 /// Frees the block that a task holds.
 pub fn put_down<S: Pages>(
     store: &mut S,
-    rma: Module,
+    module_area: Module,
     entries: &mut Table<Entry, MAX_TASKS>,
     at: usize,
 )
-    requires module { IsModule (S.memory store.old) rma }
+    requires module { IsModule (S.memory store.old) module_area }
     requires within { at < length entries.old.items }
-    requires held { HasBlock (entry_at entries.old.items at).held WORD (module_heap_in (S.memory store.old) rma) }
+    requires held { HasBlock (entry_at entries.old.items at).held WORD
+        (module_heap_in (S.memory store.old) module_area) }
     ensures entries { entries.new.items ≡ set entries.old.items at (emptied (entry_at entries.old.items at)) }
     ensures len { length entries.new.items ≡ length entries.old.items }
-    ensures heap { Turns (S.memory store.old) (S.memory store.new) rma (release_block (entry_at entries.old.items at).held (module_heap_in (S.memory store.old) rma)) }
+    ensures heap { Turns (S.memory store.old) (S.memory store.new) module_area (release_block (entry_at entries.old.items at).held (module_heap_in (S.memory store.old) module_area)) }
 {
     let entry = entries[at];
-    free(store, rma, entry.held);
+    free(store, module_area, entry.held);
     entries[at] = Entry { held: 0, ..entry };
 }

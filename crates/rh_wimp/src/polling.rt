@@ -23,32 +23,40 @@ impl Queue {
     /// Hands out the next message for a live task, none where there is none. First the message that it holds bounces:
     /// it goes back to its sender as event 19, or vanishes where that one isn't live. A recorded message (18) is held
     /// from then on; the block of any other is freed.
-    pub fn poll<S: Pages>(&mut self, store: &mut S, rma: Module, handle: Handle) -> Option<Event>
-        requires queue { IsQueue (S.memory store.old) rma self.old }
+    pub fn poll<S: Pages>(
+        &mut self,
+        store: &mut S,
+        module_area: Module,
+        handle: Handle,
+    ) -> Option<Event>
+        requires queue { IsQueue (S.memory store.old) module_area self.old }
         requires live { HasEntry handle self.old }
-        ensures answer { Answers (S.memory store.old) rma self.old (λ post. option_map event_of (post_poll handle post).1) result }
-        ensures leaves { LeavesChains (S.memory store.old) (S.memory store.new) rma self.old self.new (λ post. (post_poll handle post).0) }
+        ensures answer { Answers (S.memory store.old) module_area self.old
+            (λ post. option_map event_of (post_poll handle post).1) result }
+        ensures leaves { LeavesChains (S.memory store.old) (S.memory store.new) module_area self.old self.new
+            (λ post. (post_poll handle post).0) }
         ensures handles { handles_of self.new ≡ handles_of self.old }
     {
         let Some(at) = find(&self.entries, handle) else {
             return None;
         };
-        self.bounce_held(store, rma, at);
-        self.take(store, rma, at)
+        self.bounce_held(store, module_area, at);
+        self.take(store, module_area, at)
     }
 
     /// Bounces the message that a task holds, if there is one.
-    fn bounce_held<S: Pages>(&mut self, store: &mut S, rma: Module, at: usize)
-        requires module { IsModule (S.memory store.old) rma }
+    fn bounce_held<S: Pages>(&mut self, store: &mut S, module_area: Module, at: usize)
+        requires module { IsModule (S.memory store.old) module_area }
         requires within { at < length self.old.entries }
-        requires post { (post : Post) × SpellsPostIn (S.memory store.old) rma self.old post }
-        ensures spells { (post : Post) → SpellsPostIn (S.memory store.old) rma self.old post
-            → SpellsPostIn (S.memory store.new) rma self.new (bounce_held (entry_at self.old.entries at).handle (held_by (entry_at self.old.entries at).handle post.seats) post) }
-        ensures module { IsModule (S.memory store.new) rma }
-        ensures only { OnlyArea (S.memory store.old) (S.memory store.new) rma.area.0 }
+        requires post { (post : Post) × SpellsPostIn (S.memory store.old) module_area self.old post }
+        ensures spells { (post : Post) → SpellsPostIn (S.memory store.old) module_area self.old post
+            → SpellsPostIn (S.memory store.new) module_area self.new
+            (bounce_held (entry_at self.old.entries at).handle (held_by (entry_at self.old.entries at).handle post.seats) post) }
+        ensures module { IsModule (S.memory store.new) module_area }
+        ensures only { OnlyArea (S.memory store.old) (S.memory store.new) module_area.area.0 }
     {
         if let Some(block) = self.lift_held(at) {
-            self.bounce(store, rma, block);
+            self.bounce(store, module_area, block);
         }
     }
 
@@ -57,7 +65,8 @@ impl Queue {
         requires within { at < length self.old.entries }
         requires post { (h : Heap) × ((post : Post) × ArePostChains h self.old post) }
         ensures none { IfNone result (((entry_at self.old.entries at).held ≡ 0) × (self.new ≡ self.old)) }
-        ensures held { IfSome result (λ block. (block ≡ (entry_at self.old.entries at).held) × ((entry_at self.old.entries at).held ≢ 0) × (self.new ≡ emptied_chains at self.old)) }
+        ensures held { IfSome result (λ block. (block ≡ (entry_at self.old.entries at).held) ×
+            ((entry_at self.old.entries at).held ≢ 0) × (self.new ≡ emptied_chains at self.old)) }
     {
         let entry = self.entries[at];
         if entry.held == 0 {
@@ -69,20 +78,22 @@ impl Queue {
     }
 
     /// Sends a message that belongs to nobody back to its sender, or frees its block where that one isn't live.
-    pub(crate) fn bounce<S: Pages>(&mut self, store: &mut S, rma: Module, block: usize)
-        requires module { IsModule (S.memory store.old) rma }
-        requires loose { (post : Post) × ((p : Parcel) × MayBounce (S.memory store.old) rma self.old post p block) }
-        ensures spells { (post : Post) (p : Parcel) → MayBounce (S.memory store.old) rma self.old post p block → SpellsPostIn (S.memory store.new) rma self.new (bounced p post) }
-        ensures module { IsModule (S.memory store.new) rma }
-        ensures only { OnlyArea (S.memory store.old) (S.memory store.new) rma.area.0 }
+    pub(crate) fn bounce<S: Pages>(&mut self, store: &mut S, module_area: Module, block: usize)
+        requires module { IsModule (S.memory store.old) module_area }
+        requires loose { (post : Post) × ((p : Parcel) × MayBounce
+            (S.memory store.old) module_area self.old post p block) }
+        ensures spells { (post : Post) (p : Parcel) → MayBounce (S.memory store.old) module_area self.old post p block
+            → SpellsPostIn (S.memory store.new) module_area self.new (bounced p post) }
+        ensures module { IsModule (S.memory store.new) module_area }
+        ensures only { OnlyArea (S.memory store.old) (S.memory store.new) module_area.area.0 }
     {
-        let from = Handle(rma.read_word(store, block, MESSAGE + SENDER));
+        let from = Handle(module_area.read_word(store, block, MESSAGE + SENDER));
         let Some(to) = find(&self.entries, from) else {
-            free(store, rma, block);
+            free(store, module_area, block);
             return;
         };
-        rma.write_word(store, block, CODE, EventCode::Acknowledge.number());
-        append(store, rma, &mut self.entries, to, block);
+        module_area.write_word(store, block, CODE, EventCode::Acknowledge.number());
+        append(store, module_area, &mut self.entries, to, block);
         self.live += 1;
     }
 
@@ -90,24 +101,24 @@ impl Queue {
     pub(crate) fn lift_first<S: Pages>(
         &mut self,
         store: &mut S,
-        rma: Module,
+        module_area: Module,
         at: usize,
     ) -> Option<usize>
-        requires module { IsModule (S.memory store.old) rma }
+        requires module { IsModule (S.memory store.old) module_area }
         requires within { at < length self.old.entries }
-        requires post { (post : Post) × SpellsPostIn (S.memory store.old) rma self.old post }
-        ensures lifts { (post : Post) → SpellsPostIn (S.memory store.old) rma self.old post
-            → LiftsFirst (S.memory store.new) rma self.new post (entry_at self.old.entries at).handle result }
-        ensures module { IsModule (S.memory store.new) rma }
-        ensures only { OnlyArea (S.memory store.old) (S.memory store.new) rma.area.0 }
+        requires post { (post : Post) × SpellsPostIn (S.memory store.old) module_area self.old post }
+        ensures lifts { (post : Post) → SpellsPostIn (S.memory store.old) module_area self.old post
+            → LiftsFirst (S.memory store.new) module_area self.new post (entry_at self.old.entries at).handle result }
+        ensures module { IsModule (S.memory store.new) module_area }
+        ensures only { OnlyArea (S.memory store.old) (S.memory store.new) module_area.area.0 }
     {
         let entry = self.entries[at];
         let block = entry.first;
         if block == 0 {
             return None;
         }
-        let next = rma.read_word(store, block, LINK) as usize;
-        rma.write_word(store, block, LINK, 0);
+        let next = module_area.read_word(store, block, LINK) as usize;
+        module_area.write_word(store, block, LINK, 0);
         self.entries[at] = shortened(entry, next);
         self.live -= 1;
         Some(block)
@@ -124,26 +135,30 @@ impl Queue {
     }
 
     /// Takes the first message of a task that holds none.
-    fn take<S: Pages>(&mut self, store: &mut S, rma: Module, at: usize) -> Option<Event>
-        requires module { IsModule (S.memory store.old) rma }
+    fn take<S: Pages>(&mut self, store: &mut S, module_area: Module, at: usize) -> Option<Event>
+        requires module { IsModule (S.memory store.old) module_area }
         requires within { at < length self.old.entries }
-        requires post { (post : Post) × SpellsPostIn (S.memory store.old) rma self.old post × (held_by (entry_at self.old.entries at).handle post.seats ≡ None) }
-        ensures answer { (post : Post) → SpellsPostIn (S.memory store.old) rma self.old post → held_by (entry_at self.old.entries at).handle post.seats ≡ None
+        requires post { (post : Post) × SpellsPostIn (S.memory store.old) module_area self.old post ×
+            (held_by (entry_at self.old.entries at).handle post.seats ≡ None) }
+        ensures answer { (post : Post) → SpellsPostIn (S.memory store.old) module_area self.old post → held_by
+            (entry_at self.old.entries at).handle post.seats ≡ None
             → result ≡ option_map event_of (taken (entry_at self.old.entries at).handle post).1 }
-        ensures spells { (post : Post) → SpellsPostIn (S.memory store.old) rma self.old post → held_by (entry_at self.old.entries at).handle post.seats ≡ None
-            → SpellsPostIn (S.memory store.new) rma self.new (taken (entry_at self.old.entries at).handle post).0 }
-        ensures module { IsModule (S.memory store.new) rma }
-        ensures only { OnlyArea (S.memory store.old) (S.memory store.new) rma.area.0 }
+        ensures spells { (post : Post) → SpellsPostIn (S.memory store.old) module_area self.old post → held_by
+            (entry_at self.old.entries at).handle post.seats ≡ None
+            → SpellsPostIn (S.memory store.new) module_area self.new
+            (taken (entry_at self.old.entries at).handle post).0 }
+        ensures module { IsModule (S.memory store.new) module_area }
+        ensures only { OnlyArea (S.memory store.old) (S.memory store.new) module_area.area.0 }
     {
-        let Some(block) = self.lift_first(store, rma, at) else {
+        let Some(block) = self.lift_first(store, module_area, at) else {
             return None;
         };
-        let code = read_code(store, rma, block);
-        let message = read_message(store, rma, block);
+        let code = read_code(store, module_area, block);
+        let message = read_message(store, module_area, block);
         if code.is_recorded() {
             self.hold(at, block);
         } else {
-            free(store, rma, block);
+            free(store, module_area, block);
         }
         Some(Event { code, message })
     }

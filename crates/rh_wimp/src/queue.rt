@@ -41,7 +41,7 @@ impl Queue {
     /// An empty queue whose first ref is 1, with room for all tasks.
     pub fn new() -> Queue
         ensures value { result ≡ record { entries = []; live = 0; next_ref = 1 } }
-        ensures starts { (m : Memory) (rma : Module) → IsModule m rma → IsQueue m rma result }
+        ensures starts { (m : Memory) (module_area : Module) → IsModule m module_area → IsQueue m module_area result }
     {
         Queue::with_next_ref(Ref(1))
     }
@@ -50,7 +50,7 @@ impl Queue {
     pub fn with_next_ref(next_ref: Ref) -> Queue
         ensures word { next_ref < 2 ^ 32 }
         ensures value { result ≡ record { entries = []; live = 0; next_ref = next_ref } }
-        ensures starts { (m : Memory) (rma : Module) → IsModule m rma → IsQueue m rma result }
+        ensures starts { (m : Memory) (module_area : Module) → IsModule m module_area → IsQueue m module_area result }
     {
         Queue {
             entries: Table::new(),
@@ -74,7 +74,8 @@ impl Queue {
         ensures handles { handles_of self.new ≡ handles_of self.old ++ handle ∷ [] }
         ensures spells { (h : Heap) (post : Post) → ArePostChains h self.old post → ArePostChains h self.new
             (post_join handle post) }
-        ensures still { (m : Memory) (rma : Module) → IsQueue m rma self.old → IsQueue m rma self.new }
+        ensures still { (m : Memory) (module_area : Module) → IsQueue m module_area self.old
+            → IsQueue m module_area self.new }
     {
         self.entries.push(Entry {
             handle,

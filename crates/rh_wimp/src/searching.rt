@@ -29,35 +29,35 @@ pub(crate) enum Wanted {
 
 impl Queue {
     /// Whether a message, queued or held, lies in the block at an offset of the module area.
-    pub fn is_message<S: Words>(&self, store: &S, rma: Module, block: usize) -> bool
-        requires { IsQueue (S.memory store.now) rma self.now }
-        ensures { Answers (S.memory store.now) rma self.now (post_is_message block) result }
+    pub fn is_message<S: Words>(&self, store: &S, module_area: Module, block: usize) -> bool
+        requires { IsQueue (S.memory store.now) module_area self.now }
+        ensures { Answers (S.memory store.now) module_area self.now (post_is_message block) result }
     {
-        any_entry(store, rma, &self.entries, &Wanted::At(block))
+        any_entry(store, module_area, &self.entries, &Wanted::At(block))
     }
 
     /// Whether the message with a ref is queued or held.
-    pub fn is_live<S: Words>(&self, store: &S, rma: Module, my_ref: Ref) -> bool
-        requires { IsQueue (S.memory store.now) rma self.now }
-        ensures { Answers (S.memory store.now) rma self.now (post_is_live my_ref) result }
+    pub fn is_live<S: Words>(&self, store: &S, module_area: Module, my_ref: Ref) -> bool
+        requires { IsQueue (S.memory store.now) module_area self.now }
+        ensures { Answers (S.memory store.now) module_area self.now (post_is_live my_ref) result }
     {
-        any_entry(store, rma, &self.entries, &Wanted::WithRef(my_ref))
+        any_entry(store, module_area, &self.entries, &Wanted::WithRef(my_ref))
     }
 }
 
 /// Whether a message of some tasks is the one that is looked for.
 fn any_entry<S: Words>(
     store: &S,
-    rma: Module,
+    module_area: Module,
     entries: &Table<Entry, MAX_TASKS>,
     wanted: &Wanted,
 ) -> bool
-    requires module { IsModule (S.memory store.now) rma }
-    requires rows { (rows : List SeatRow) × (RowsLie (module_heap_in (S.memory store.now) rma) entries.now.items rows × AreShortChains rows) }
-    ensures { (rows : List SeatRow) → RowsLie (module_heap_in (S.memory store.now) rma) entries.now.items rows → AreShortChains rows → result ≡ rows_have (wants wanted.now) rows }
+    requires module { IsModule (S.memory store.now) module_area }
+    requires rows { (rows : List SeatRow) × (RowsLie (module_heap_in (S.memory store.now) module_area) entries.now.items rows × AreShortChains rows) }
+    ensures { (rows : List SeatRow) → RowsLie (module_heap_in (S.memory store.now) module_area) entries.now.items rows → AreShortChains rows → result ≡ rows_have (wants wanted.now) rows }
 {
     for entry in entries.as_slice() {
-        if entry_has(store, rma, *entry, wanted) {
+        if entry_has(store, module_area, *entry, wanted) {
             return true;
         }
     }
@@ -65,57 +65,58 @@ fn any_entry<S: Words>(
 }
 
 /// Whether a message of a task is the one that is looked for.
-fn entry_has<S: Words>(store: &S, rma: Module, entry: Entry, wanted: &Wanted) -> bool
-    requires module { IsModule (S.memory store.now) rma }
-    requires row { (r : SeatRow) × (RowLies (module_heap_in (S.memory store.now) rma) entry r ×
+fn entry_has<S: Words>(store: &S, module_area: Module, entry: Entry, wanted: &Wanted) -> bool
+    requires module { IsModule (S.memory store.now) module_area }
+    requires row { (r : SeatRow) × (RowLies (module_heap_in (S.memory store.now) module_area) entry r ×
         (length r.chain ≤ MOST_MESSAGES)) }
-    ensures { (r : SeatRow) → RowLies (module_heap_in (S.memory store.now) rma) entry r → length r.chain ≤ MOST_MESSAGES → result ≡ list_any (wants wanted.now) (row_parcels r) }
+    ensures { (r : SeatRow) → RowLies (module_heap_in (S.memory store.now) module_area) entry r → length r.chain ≤ MOST_MESSAGES → result ≡ list_any (wants wanted.now) (row_parcels r) }
 {
-    if held_has(store, rma, entry.held, wanted) {
+    if held_has(store, module_area, entry.held, wanted) {
         return true;
     }
-    chain_has(store, rma, entry.first, wanted)
+    chain_has(store, module_area, entry.first, wanted)
 }
 
 /// Whether the message that is held in a block, 0 for none, is the one that is looked for.
-fn held_has<S: Words>(store: &S, rma: Module, held: usize, wanted: &Wanted) -> bool
-    requires module { IsModule (S.memory store.now) rma }
-    requires held { (o : Option Parcel) × Holds (module_heap_in (S.memory store.now) rma) held o }
-    ensures { (o : Option Parcel) → Holds (module_heap_in (S.memory store.now) rma) held o → result ≡ holds_such (wants wanted.now) o }
+fn held_has<S: Words>(store: &S, module_area: Module, held: usize, wanted: &Wanted) -> bool
+    requires module { IsModule (S.memory store.now) module_area }
+    requires held { (o : Option Parcel) × Holds (module_heap_in (S.memory store.now) module_area) held o }
+    ensures { (o : Option Parcel) → Holds (module_heap_in (S.memory store.now) module_area) held o → result ≡ holds_such (wants wanted.now) o }
 {
     if held == 0 {
         return false;
     }
-    matches_wanted(store, rma, held, wanted)
+    matches_wanted(store, module_area, held, wanted)
 }
 
 /// Whether a message of a chain is the one that is looked for.
-fn chain_has<S: Words>(store: &S, rma: Module, first: usize, wanted: &Wanted) -> bool
-    requires module { IsModule (S.memory store.now) rma }
-    requires chain { (ps : List Parcel) × ((first ≡ first_block ps 0) × Chain (module_heap_in (S.memory store.now) rma) ps 0 × (length ps ≤ MOST_MESSAGES)) }
-    ensures { (ps : List Parcel) → first ≡ first_block ps 0 → Chain (module_heap_in (S.memory store.now) rma) ps 0 → length ps ≤ MOST_MESSAGES → result ≡ list_any (wants wanted.now) ps }
+fn chain_has<S: Words>(store: &S, module_area: Module, first: usize, wanted: &Wanted) -> bool
+    requires module { IsModule (S.memory store.now) module_area }
+    requires chain { (ps : List Parcel) × ((first ≡ first_block ps 0) × Chain (module_heap_in (S.memory store.now) module_area) ps 0 × (length ps ≤ MOST_MESSAGES)) }
+    ensures { (ps : List Parcel) → first ≡ first_block ps 0 → Chain (module_heap_in (S.memory store.now) module_area) ps 0 → length ps ≤ MOST_MESSAGES → result ≡ list_any (wants wanted.now) ps }
 {
     let mut block = first;
     for _turn in 0..MOST_MESSAGES {
         if block == 0 {
             return false;
         }
-        if matches_wanted(store, rma, block, wanted) {
+        if matches_wanted(store, module_area, block, wanted) {
             return true;
         }
-        block = rma.read_word(store, block, LINK) as usize;
+        block = module_area.read_word(store, block, LINK) as usize;
     }
     false
 }
 
 /// Whether the message that lies in a block is the one that is looked for.
-fn matches_wanted<S: Words>(store: &S, rma: Module, block: usize, wanted: &Wanted) -> bool
-    requires module { IsModule (S.memory store.now) rma }
-    requires lies { (link : ℕ) × ((p : Parcel) × (Lies (module_heap_in (S.memory store.now) rma) link p × (block ≡ p.block) × (link < 2 ^ 32))) }
-    ensures { (link : ℕ) (p : Parcel) → Lies (module_heap_in (S.memory store.now) rma) link p → block ≡ p.block → link < 2 ^ 32 → result ≡ wants wanted.now p }
+fn matches_wanted<S: Words>(store: &S, module_area: Module, block: usize, wanted: &Wanted) -> bool
+    requires module { IsModule (S.memory store.now) module_area }
+    requires lies { (link : ℕ) × ((p : Parcel) × (Lies (module_heap_in (S.memory store.now) module_area) link p × (block ≡ p.block) × (link < 2 ^ 32))) }
+    ensures { (link : ℕ) (p : Parcel) → Lies (module_heap_in (S.memory store.now) module_area) link p → block ≡ p.block → link < 2 ^ 32 → result ≡ wants wanted.now p }
 {
     match wanted {
         Wanted::At(at) => block == *at,
-        Wanted::WithRef(my_ref) => rma.read_word(store, block, MESSAGE + MY_REF) == my_ref.0,
+        Wanted::WithRef(my_ref) => module_area.read_word(store, block, MESSAGE + MY_REF)
+            == my_ref.0,
     }
 }

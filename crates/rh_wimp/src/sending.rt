@@ -24,15 +24,15 @@ impl Queue {
     pub fn send_pages<S: Words>(
         &self,
         store: &S,
-        rma: Module,
+        module_area: Module,
         letter: &Letter,
     ) -> Result<usize, Refusal>
-        requires { IsQueue (S.memory store.now) rma self.now }
-        ensures { Answers (S.memory store.now) rma self.now (post_send_pages letter.now) result }
+        requires { IsQueue (S.memory store.now) module_area self.now }
+        ensures { Answers (S.memory store.now) module_area self.now (post_send_pages letter.now) result }
     {
         let _to = self.admit(letter.to)?;
         let length = MESSAGE + ACTION + body_length(&letter.body);
-        rma.need_pages(store, length as u32)
+        module_area.need_pages(store, length as u32)
     }
 
     /// Sends a letter: it gets the next ref, and goes to the end of its recipient's chain. Where it answers the message
@@ -42,13 +42,13 @@ impl Queue {
     pub fn send<S: Pages>(
         &mut self,
         store: &mut S,
-        rma: Module,
+        module_area: Module,
         letter: Letter,
     ) -> Result<Ref, Refusal>
-        requires queue { IsQueue (S.memory store.old) rma self.old }
+        requires queue { IsQueue (S.memory store.old) module_area self.old }
         requires from { HasEntry letter.from self.old }
-        ensures answer { Answers (S.memory store.old) rma self.old (λ post. answer_of (post_send (S.memory store.old).free letter post)) result }
-        ensures leaves { LeavesChains (S.memory store.old) (S.memory store.new) rma self.old self.new
+        ensures answer { Answers (S.memory store.old) module_area self.old (λ post. answer_of (post_send (S.memory store.old).free letter post)) result }
+        ensures leaves { LeavesChains (S.memory store.old) (S.memory store.new) module_area self.old self.new
             (λ post. left_of post (post_send (S.memory store.old).free letter post)) }
         ensures handles { handles_of self.new ≡ handles_of self.old }
         ensures err { OnErr result ((S.memory store.new ≡ S.memory store.old) × (self.new ≡ self.old)) }
@@ -64,9 +64,9 @@ impl Queue {
             your_ref,
             body: letter.body,
         };
-        let block = place(store, rma, code, &message)?;
-        append(store, rma, &mut self.entries, to, block);
-        let freed = answer(store, rma, &mut self.entries, from, your_ref);
+        let block = place(store, module_area, code, &message)?;
+        append(store, module_area, &mut self.entries, to, block);
+        let freed = answer(store, module_area, &mut self.entries, from, your_ref);
         self.live = self.live + 1 - freed;
         self.next_ref += 1;
         Ok(my_ref)
@@ -94,26 +94,27 @@ impl Queue {
 /// Frees the block that a task holds where its message has this ref, and answers how many messages that were.
 fn answer<S: Pages>(
     store: &mut S,
-    rma: Module,
+    module_area: Module,
     entries: &mut Table<Entry, MAX_TASKS>,
     from: Handle,
     your_ref: Ref,
 ) -> usize
-    requires module { IsModule (S.memory store.old) rma }
-    requires rows { (rows : List SeatRow) × RowsLie (module_heap_in (S.memory store.old) rma) entries.old.items rows }
+    requires module { IsModule (S.memory store.old) module_area }
+    requires rows { (rows : List SeatRow) × RowsLie (module_heap_in
+        (S.memory store.old) module_area) entries.old.items rows }
     ensures one { result ≤ 1 }
     ensures len { length entries.new.items ≡ length entries.old.items }
-    ensures module { IsModule (S.memory store.new) rma }
-    ensures only { OnlyArea (S.memory store.old) (S.memory store.new) rma.area.0 }
-    ensures settles { (rows : List SeatRow) (i : ℕ) → RowsLie (module_heap_in (S.memory store.old) rma) entries.old.items rows → i < length rows → (row_at rows i).handle ≡ from
-        → Settled (S.memory store.old) (S.memory store.new) rma entries.old.items entries.new.items i your_ref (row_at rows i).held result }
+    ensures module { IsModule (S.memory store.new) module_area }
+    ensures only { OnlyArea (S.memory store.old) (S.memory store.new) module_area.area.0 }
+    ensures settles { (rows : List SeatRow) (i : ℕ) → RowsLie (module_heap_in (S.memory store.old) module_area) entries.old.items rows → i < length rows → (row_at rows i).handle ≡ from
+        → Settled (S.memory store.old) (S.memory store.new) module_area entries.old.items entries.new.items i your_ref (row_at rows i).held result }
 {
     let Some(at) = find(entries, from) else {
         return 0;
     };
-    if !holds_ref(store, rma, entries[at], your_ref) {
+    if !holds_ref(store, module_area, entries[at], your_ref) {
         return 0;
     }
-    put_down(store, rma, entries, at);
+    put_down(store, module_area, entries, at);
     1
 }

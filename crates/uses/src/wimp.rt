@@ -19,10 +19,10 @@ use rh_wimp::Queue;
 
 /// A queue with tasks 1 and 2, and no message.
 pub fn two_tasks() -> Queue
-    ensures queue { (m : Memory) (rma : Module) → IsModule m rma → IsQueue m rma result }
+    ensures queue { (m : Memory) (module_area : Module) → IsModule m module_area → IsQueue m module_area result }
     ensures handles { handles_of result ≡ 1 ∷ 2 ∷ [] }
-    ensures idle { (m : Memory) (rma : Module) → IsModule m rma
-        → SpellsPostIn m rma result (two_idle (module_heap_in m rma)) }
+    ensures idle { (m : Memory) (module_area : Module) → IsModule m module_area
+        → SpellsPostIn m module_area result (two_idle (module_heap_in m module_area)) }
 {
     let mut queue = Queue::new();
     queue.join(Handle(1));
@@ -34,27 +34,27 @@ pub fn two_tasks() -> Queue
 /// changed, where the module area has no room for it and too few pages are free. (Message_RAMFetch, Wimp_Poll.)
 pub fn ask_for_bytes<S: Pages>(
     store: &mut S,
-    rma: Module,
+    module_area: Module,
     queue: &mut Queue,
     buffer: u32,
     length: u32,
 ) -> Result<Option<Event>, Refusal>
-    requires queue { IsQueue (S.memory store.old) rma queue.old }
+    requires queue { IsQueue (S.memory store.old) module_area queue.old }
     requires handles { handles_of queue.old ≡ 1 ∷ 2 ∷ [] }
-    requires idle { SpellsPostIn (S.memory store.old) rma queue.old
-        (two_idle (module_heap_in (S.memory store.old) rma)) }
+    requires idle { SpellsPostIn (S.memory store.old) module_area queue.old
+        (two_idle (module_heap_in (S.memory store.old) module_area)) }
     ensures answer { outcome_of result ≡ refuse_if
         (lacks_pages (S.memory store.old).free (need fetch_size
-        (module_heap_in (S.memory store.old) rma))) Refusal.NoRoom }
-    ensures queue { IsQueue (S.memory store.new) rma queue.new }
+        (module_heap_in (S.memory store.old) module_area))) Refusal.NoRoom }
+    ensures queue { IsQueue (S.memory store.new) module_area queue.new }
     ensures handles { handles_of queue.new ≡ 1 ∷ 2 ∷ [] }
     ensures event { IfOk result (λ event. event ≡ Some (record {
       code = User;
       message = record { from = 1; my_ref = 1; your_ref = 0; body = RamFetch buffer length };
     })) }
-    ensures post { IfOk result (λ event. SpellsPostIn (S.memory store.new) rma queue.new
-        (post_asked (S.memory store.old).free buffer length (module_heap_in (S.memory store.old) rma))) }
-    ensures only { OnlyArea (S.memory store.old) (S.memory store.new) rma.area.0 }
+    ensures post { IfOk result (λ event. SpellsPostIn (S.memory store.new) module_area queue.new
+        (post_asked (S.memory store.old).free buffer length (module_heap_in (S.memory store.old) module_area))) }
+    ensures only { OnlyArea (S.memory store.old) (S.memory store.new) module_area.area.0 }
     ensures err { OnErr result ((S.memory store.new ≡ S.memory store.old) × (queue.new ≡ queue.old)) }
 {
     let letter = Letter {
@@ -64,6 +64,6 @@ pub fn ask_for_bytes<S: Pages>(
         your_ref: Ref(0),
         body: Body::RamFetch { buffer, length },
     };
-    queue.send(store, rma, letter)?;
-    Ok(queue.poll(store, rma, Handle(2)))
+    queue.send(store, module_area, letter)?;
+    Ok(queue.poll(store, module_area, Handle(2)))
 }

@@ -13,7 +13,7 @@ const WHOLE: u32 = 4076;
 
 fn a_fetch_is_polled<R: Abort, S: Store + Drop>(rt: &R, store: S) -> Result<(), Fail> {
     let mut store = store;
-    let rma = started(&mut store)?;
+    let module_area = started(&mut store)?;
     let mut queue = two_tasks();
     let polled = Event {
         code: EventCode::User,
@@ -27,7 +27,7 @@ fn a_fetch_is_polled<R: Abort, S: Store + Drop>(rt: &R, store: S) -> Result<(), 
             },
         },
     };
-    let asked = ask_for_bytes(&mut store, rma, &mut queue, 0x9008, 100);
+    let asked = ask_for_bytes(&mut store, module_area, &mut queue, 0x9008, 100);
     same(rt, asked, Ok(Some(polled)));
     Ok(())
 }
@@ -35,10 +35,10 @@ fn a_fetch_is_polled<R: Abort, S: Store + Drop>(rt: &R, store: S) -> Result<(), 
 fn a_fetch_wants_room<R: Abort, S: Store + Drop>(rt: &R, store: S) -> Result<(), Fail> {
     let mut store = store;
     take_pages(&mut store, 7)?;
-    let rma = started(&mut store)?;
+    let module_area = started(&mut store)?;
     let mut queue = two_tasks();
-    same(rt, rma.claim(&mut store, WHOLE), Ok(20));
-    let asked = ask_for_bytes(&mut store, rma, &mut queue, 0x9008, 100);
+    same(rt, module_area.claim(&mut store, WHOLE), Ok(20));
+    let asked = ask_for_bytes(&mut store, module_area, &mut queue, 0x9008, 100);
     same(rt, asked, Err(Refusal::NoRoom));
     Ok(())
 }

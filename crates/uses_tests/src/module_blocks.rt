@@ -13,13 +13,13 @@ const TOO_MANY: usize = 32_768;
 
 fn bytes_are_kept_and_given<R: Abort, S: Store + Drop>(rt: &R, store: S) -> Result<(), Fail> {
     let mut store = store;
-    let rma = started(&mut store)?;
-    let address = keep_bytes(&mut store, rma, b"hello")?;
+    let module_area = started(&mut store)?;
+    let address = keep_bytes(&mut store, module_area, b"hello")?;
     same(rt, address, 20);
     let mut bytes = [0; 5];
-    give_bytes(&mut store, rma, address, &mut bytes);
+    give_bytes(&mut store, module_area, address, &mut bytes);
     same(rt, bytes, [0x68, 0x65, 0x6c, 0x6c, 0x6f]);
-    let again = keep_bytes(&mut store, rma, b"hello")?;
+    let again = keep_bytes(&mut store, module_area, b"hello")?;
     same(rt, again, 20);
     Ok(())
 }
@@ -29,10 +29,10 @@ fn no_block_is_of_no_bytes_or_too_many<R: Abort, S: Store + Drop>(
     store: S,
 ) -> Result<(), Fail> {
     let mut store = store;
-    let rma = started(&mut store)?;
-    let none = keep_bytes(&mut store, rma, b"");
+    let module_area = started(&mut store)?;
+    let none = keep_bytes(&mut store, module_area, b"");
     same(rt, none, Err(Refusal::BadSize));
-    let many = keep_bytes(&mut store, rma, &[7; TOO_MANY]);
+    let many = keep_bytes(&mut store, module_area, &[7; TOO_MANY]);
     same(rt, many, Err(Refusal::NoRoom));
     same(rt, store.free_pages(), 7);
     Ok(())

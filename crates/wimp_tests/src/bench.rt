@@ -26,7 +26,7 @@ use std::test::Fail;
 #[derive(Drop)]
 pub(crate) struct Bench<S: Store> {
     pub store: S,
-    pub rma: Module,
+    pub module_area: Module,
     pub queue: Queue,
     pub lists: Lists,
 }
@@ -89,7 +89,8 @@ fn expected(sent: &Sent, held: bool) -> Told {
 pub(crate) fn three(queue: &mut Queue)
     requires { handles_of queue.old ≡ [] }
     ensures handles { handles_of queue.new ≡ 1 ∷ 2 ∷ 3 ∷ [] }
-    ensures still { (m : Memory) (rma : SpecModule) → IsQueue m rma queue.old → IsQueue m rma queue.new }
+    ensures still { (m : Memory) (module_area : SpecModule) → IsQueue m module_area queue.old
+        → IsQueue m module_area queue.new }
 {
     queue.join(Handle(1));
     queue.join(Handle(2));
@@ -144,15 +145,15 @@ fn compare_task(
 impl<S: Store + Drop> Bench<S> {
     /// Tasks 1, 2 and 3 over a store, with no message.
     pub(crate) fn new(alloc: Global, store: S, next_ref: u32) -> Result<Bench<S>, Fail>
-        ensures { IfOk result (λ bench. Runs (S.memory bench.store) bench.rma bench.queue bench.lists.live.items) }
+        ensures { IfOk result (λ bench. Runs (S.memory bench.store) bench.module_area bench.queue bench.lists.live.items) }
     {
         let mut store = store;
-        let rma = started(&mut store)?;
+        let module_area = started(&mut store)?;
         let mut queue = Queue::with_next_ref(Ref(next_ref));
         three(&mut queue);
         Ok(Bench {
             store,
-            rma,
+            module_area,
             queue,
             lists: Lists::new(alloc, &[1, 2, 3], next_ref)?,
         })
@@ -160,20 +161,20 @@ impl<S: Store + Drop> Bench<S> {
 
     /// Sends a message of a live task, and answers what the queue does.
     pub(crate) fn try_send(&mut self, rt: &impl Abort, sent: Sent) -> Result<Ref, Refusal>
-        requires { Runs (S.memory self.old.store) self.old.rma self.old.queue self.old.lists.live.items }
-        ensures { Runs (S.memory self.new.store) self.new.rma self.new.queue self.new.lists.live.items }
+        requires { Runs (S.memory self.old.store) self.old.module_area self.old.queue self.old.lists.live.items }
+        ensures { Runs (S.memory self.new.store) self.new.module_area self.new.queue self.new.lists.live.items }
     {
         if !self.lists.is_live(sent.from) {
             panic!(rt; "{} is live", sent.from);
         }
         let letter = letter(rt, sent);
-        self.queue.send(&mut self.store, self.rma, letter)
+        self.queue.send(&mut self.store, self.module_area, letter)
     }
 
     /// Sends a message, if its sender is live.
     pub(crate) fn send(&mut self, rt: &impl Abort, sent: Sent) -> Result<(), AllocError>
-        requires { Runs (S.memory self.old.store) self.old.rma self.old.queue self.old.lists.live.items }
-        ensures { Runs (S.memory self.new.store) self.new.rma self.new.queue self.new.lists.live.items }
+        requires { Runs (S.memory self.old.store) self.old.module_area self.old.queue self.old.lists.live.items }
+        ensures { Runs (S.memory self.new.store) self.new.module_area self.new.queue self.new.lists.live.items }
     {
         if !self.lists.is_live(sent.from) {
             return Ok(());
@@ -186,15 +187,18 @@ impl<S: Store + Drop> Bench<S> {
 
     /// Polls a task, if it is live.
     pub(crate) fn poll(&mut self, rt: &impl Abort, task: u32) -> Result<(), AllocError>
-        requires { Runs (S.memory self.old.store) self.old.rma self.old.queue self.old.lists.live.items }
-        ensures { Runs (S.memory self.new.store) self.new.rma self.new.queue self.new.lists.live.items }
+        requires { Runs (S.memory self.old.store) self.old.module_area self.old.queue self.old.lists.live.items }
+        ensures { Runs (S.memory self.new.store) self.new.module_area self.new.queue self.new.lists.live.items }
     {
         if !self.lists.is_live(task) {
             return Ok(());
         }
         let expected = self.lists.poll(task)?;
         let peeked = self.peek(task);
-        match self.queue.poll(&mut self.store, self.rma, Handle(task)) {
+        match self
+            .queue
+            .poll(&mut self.store, self.module_area, Handle(task))
+        {
             None => {
                 same(rt, peeked, None);
                 same(rt, expected, None);
@@ -216,42 +220,42 @@ impl<S: Store + Drop> Bench<S> {
 
     /// What the next poll of a live task would hand out, read off the block that is lent for it.
     fn peek(&self, task: u32) -> Option<(EventCode, Option<Message>)>
-        requires runs { Runs (S.memory self.now.store) self.now.rma self.now.queue self.now.lists.live.items }
+        requires runs { Runs (S.memory self.now.store) self.now.module_area self.now.queue self.now.lists.live.items }
         requires live { HasEntry task self.now.queue }
     {
         let mut block = [0xff; LONGEST_MESSAGE];
         let code = self
             .queue
-            .peek(&self.store, self.rma, Handle(task), &mut block)?;
+            .peek(&self.store, self.module_area, Handle(task), &mut block)?;
         Some((code, decode(&block).ok()))
     }
 
     /// Ends a task, if it is live.
     pub(crate) fn end(&mut self, task: u32) -> Result<(), AllocError>
-        requires { Runs (S.memory self.old.store) self.old.rma self.old.queue self.old.lists.live.items }
-        ensures { Runs (S.memory self.new.store) self.new.rma self.new.queue self.new.lists.live.items }
+        requires { Runs (S.memory self.old.store) self.old.module_area self.old.queue self.old.lists.live.items }
+        ensures { Runs (S.memory self.new.store) self.new.module_area self.new.queue self.new.lists.live.items }
     {
         if !self.lists.is_live(task) {
             return Ok(());
         }
         self.queue
-            .bounce_for_death(&mut self.store, self.rma, Handle(task));
+            .bounce_for_death(&mut self.store, self.module_area, Handle(task));
         self.lists.end(task)
     }
 
     /// Whether a message lies in a block.
     pub(crate) fn is_message(&self, block: usize) -> bool
-        requires { Runs (S.memory self.now.store) self.now.rma self.now.queue self.now.lists.live.items }
+        requires { Runs (S.memory self.now.store) self.now.module_area self.now.queue self.now.lists.live.items }
     {
-        self.queue.is_message(&self.store, self.rma, block)
+        self.queue.is_message(&self.store, self.module_area, block)
     }
 
     /// Compares the list of all messages.
     pub(crate) fn compare_listed(&self, rt: &impl Abort)
-        requires { Runs (S.memory self.now.store) self.now.rma self.now.queue self.now.lists.live.items }
+        requires { Runs (S.memory self.now.store) self.now.module_area self.now.queue self.now.lists.live.items }
     {
         let mut items = ArrayVec::new();
-        self.queue.list(&self.store, self.rma, &mut items);
+        self.queue.list(&self.store, self.module_area, &mut items);
         let waiting = compare_tasks(rt, &items, &self.lists.queued, false, 0);
         let all = compare_tasks(rt, &items, &self.lists.held, true, waiting);
         same(rt, items.len(), all);
@@ -259,10 +263,12 @@ impl<S: Store + Drop> Bench<S> {
 
     /// Compares what is live, for refs from 1 on.
     pub(crate) fn compare(&self, rt: &impl Abort, refs: u32)
-        requires { Runs (S.memory self.now.store) self.now.rma self.now.queue self.now.lists.live.items }
+        requires { Runs (S.memory self.now.store) self.now.module_area self.now.queue self.now.lists.live.items }
     {
         for my_ref in 1..refs {
-            let live = self.queue.is_live(&self.store, self.rma, Ref(my_ref));
+            let live = self
+                .queue
+                .is_live(&self.store, self.module_area, Ref(my_ref));
             assert_eq!(rt; live, self.lists.has_ref(my_ref), "{my_ref}");
         }
     }

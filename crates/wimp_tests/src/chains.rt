@@ -15,10 +15,10 @@ use std::test::Fail;
 
 /// The word of the module area at an offset.
 fn word_at<S: Store + Drop>(rt: &impl Abort, bench: &Bench<S>, at: usize) -> u32
-    requires { Runs (S.memory bench.now.store) bench.now.rma bench.now.queue bench.now.lists.live.items }
+    requires { Runs (S.memory bench.now.store) bench.now.module_area bench.now.queue bench.now.lists.live.items }
 {
-    assert!(rt; at < 4092 && bench.store.len(bench.rma.area) >= 4096);
-    bench.store.word(bench.rma.area, at)
+    assert!(rt; at < 4092 && bench.store.len(bench.module_area.area) >= 4096);
+    bench.store.word(bench.module_area.area, at)
 }
 
 fn links_lead_to_the_next_block<S: Store + Drop>(
@@ -125,8 +125,8 @@ fn steps<S: Store + Drop>(
     bench: &mut Bench<S>,
     first: u32,
 ) -> Result<(), AllocError>
-    requires { Runs (S.memory bench.old.store) bench.old.rma bench.old.queue bench.old.lists.live.items }
-    ensures { Runs (S.memory bench.new.store) bench.new.rma bench.new.queue bench.new.lists.live.items }
+    requires { Runs (S.memory bench.old.store) bench.old.module_area bench.old.queue bench.old.lists.live.items }
+    ensures { Runs (S.memory bench.new.store) bench.new.module_area bench.new.queue bench.new.lists.live.items }
 {
     let mut number = first;
     for turn in 0..100u32 {

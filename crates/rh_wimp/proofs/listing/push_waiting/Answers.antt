@@ -23,8 +23,8 @@ at g c =
 
 -- its row
 row : (g : given.Over) (c : After-entry-item g) (rows : List SeatRow)
-    → RowsLie (module_heap_in (g.S.Words.memory c.args.store.now) c.args.rma) c.args.entries.now.items rows
-    → (c.loop-entry.entry-index < length rows) × RowLies (module_heap_in (g.S.Words.memory c.args.store.now) c.args.rma) c.entry-item.result
+    → RowsLie (module_heap_in (g.S.Words.memory c.args.store.now) c.args.module_area) c.args.entries.now.items rows
+    → (c.loop-entry.entry-index < length rows) × RowLies (module_heap_in (g.S.Words.memory c.args.store.now) c.args.module_area) c.entry-item.result
     (row_at rows c.loop-entry.entry-index)
 row g c rows s =
     let w = at g c in
@@ -32,7 +32,7 @@ row g c rows s =
     let len = s.len in
     let i : ℕ = c.loop-entry.entry-index in (
       omega arith,
-      subst (λ (e : Entry). RowLies (module_heap_in (g.S.Words.memory c.args.store.now) c.args.rma) e (row_at rows i)) (sym w.1)
+      subst (λ (e : Entry). RowLies (module_heap_in (g.S.Words.memory c.args.store.now) c.args.module_area) e (row_at rows i)) (sym w.1)
           (s.each i (omega arith)),
     )
 

@@ -7,24 +7,24 @@ use Rattle.rh_wimp.proofs.listing.read_item.Given as given
 
 pub read_word-action-requires-clause-block : goal.read_word-action-requires-clause-block
 read_word-action-requires-clause-block g c =
-    has-less c.args.block 36 28 (module_heap_in (g.S.Words.memory c.args.store.now) c.args.rma) (omega arith) (links-has c.requires.lies.1.1)
+    has-less c.args.block 36 28 (module_heap_in (g.S.Words.memory c.args.store.now) c.args.module_area) (omega arith) (links-has c.requires.lies.1.1)
 
 pub overflow_cast-result : goal.overflow_cast-result
 overflow_cast-result g c =
     let m = g.S.Words.memory c.args.store.now in
-    let in_area = block_within m c.args.rma c.args.block 36 c.requires.module (links-has c.requires.lies.1.1) in
-    omega (arith, in_area, g.met.S.Words.small c.args.store.now c.args.rma.area.0)
+    let in_area = block_within m c.args.module_area c.args.block 36 c.requires.module (links-has c.requires.lies.1.1) in
+    omega (arith, in_area, g.met.S.Words.small c.args.store.now c.args.module_area.area.0)
 
 pub read_word-requires-clause-block : goal.read_word-requires-clause-block
 read_word-requires-clause-block g c =
-    has-less c.args.block 36 16 (module_heap_in (g.S.Words.memory c.args.store.now) c.args.rma) (omega arith) (links-has c.requires.lies.1.1)
+    has-less c.args.block 36 16 (module_heap_in (g.S.Words.memory c.args.store.now) c.args.module_area) (omega arith) (links-has c.requires.lies.1.1)
 
 pub read_word-requires-2-clause-block : goal.read_word-requires-2-clause-block
 read_word-requires-2-clause-block g c =
-    has-less c.args.block 36 20 (module_heap_in (g.S.Words.memory c.args.store.now) c.args.rma) (omega arith) (links-has c.requires.lies.1.1)
+    has-less c.args.block 36 20 (module_heap_in (g.S.Words.memory c.args.store.now) c.args.module_area) (omega arith) (links-has c.requires.lies.1.1)
 
 -- the action that is read
-found : (g : given.Over) (c : After-from_number g) (link : ℕ) (p : Parcel) → LinksAt (g.S.Words.memory c.args.store.now) c.args.rma c.args.block link p
+found : (g : given.Over) (c : After-from_number g) (link : ℕ) (p : Parcel) → LinksAt (g.S.Words.memory c.args.store.now) c.args.module_area c.args.block link p
     → c.from_number.result ≡ Some (action_of p.message.body)
 found g c link p w =
     c.from_number.ensures ∙ ap action_at (c.read_word-action.ensures (padded link p) (links-bytes w) ∙ action_read link p w.small w.lies.fits)

@@ -10,8 +10,9 @@ use Rattle.rh_wimp.proofs.placing.place.Given as given
 use borrow.Rule.Slice.PartMut.{put_mid}
 
 took : (g : given.Over) (c : In_ok-block g)
-    → Claimed (g.S.Words.memory c.args.store.now) (g.S.Words.memory c.claim.new.store) c.args.rma (8 + c.encode_into-length.result) c.in_ok-block.block
-took g c = claimed (g.S.Words.memory c.args.store.now) (g.S.Words.memory c.claim.new.store) c.args.rma (8 + c.encode_into-length.result) c.in_ok-block.block
+    → Claimed (g.S.Words.memory c.args.store.now) (g.S.Words.memory c.claim.new.store) c.args.module_area (8 + c.encode_into-length.result) c.in_ok-block.block
+took g c = claimed (g.S.Words.memory c.args.store.now) (g.S.Words.memory c.claim.new.store) c.args.module_area
+    (8 + c.encode_into-length.result) c.in_ok-block.block
     c.in_ok-block.ensures
 
 pub write_bytes-requires-clause-block : goal.write_bytes-requires-clause-block
@@ -19,8 +20,8 @@ write_bytes-requires-clause-block g c =
     let n : ℕ = 8 + c.encode_into-length.result in
     let parcel : List ℕ = put_mid 8 LONGEST_MESSAGE c.put_word.new.out c.encode_into-length.new.out in
     let l = length-take n parcel in
-    has-less c.in_ok-block.block n (0 + length (take n parcel)) (module_heap_in (g.S.Words.memory c.claim.new.store) c.args.rma) (omega arith)
-    (claimed-block (g.S.Words.memory c.args.store.now) (g.S.Words.memory c.claim.new.store) c.args.rma n c.in_ok-block.block
+    has-less c.in_ok-block.block n (0 + length (take n parcel)) (module_heap_in (g.S.Words.memory c.claim.new.store) c.args.module_area) (omega arith)
+    (claimed-block (g.S.Words.memory c.args.store.now) (g.S.Words.memory c.claim.new.store) c.args.module_area n c.in_ok-block.block
     (took g (goal.at.write_bytes-requires-clause-block g c).In_ok-block))
 
 pub returns-clause-placed : goal.returns-clause-placed
@@ -42,10 +43,11 @@ returns-clause-placed g c =
     ∙ ap (λ h. h ++ encoded c.args.message.now) head
     ∙ append_assoc (word_bytes 0) (word_bytes code) (encoded c.args.message.now)
     ∙ ap (λ i. word_bytes 0 ++ (word_bytes i ++ encoded c.args.message.now)) c.number.ensures in
-    let done = placed-there (g.S.Words.memory c.args.store.now) (g.S.Words.memory c.claim.new.store) (g.S.Words.memory c.write_bytes.new.store) c.args.rma
+    let done = placed-there (g.S.Words.memory c.args.store.now) (g.S.Words.memory c.claim.new.store)
+    (g.S.Words.memory c.write_bytes.new.store) c.args.module_area
     (8 + n) c.in_ok-block.block parcel
     (took g (goal.at.returns-clause-placed g c).In_ok-block) c.write_bytes.ensures in
     λ h e.
-    subst (λ l. Turns (g.S.Words.memory c.args.store.now) (g.S.Words.memory c.write_bytes.new.store) c.args.rma (poked h.1 0 l h.0)) there
-    (done h (subst (λ k. module_claim (g.S.Words.memory c.args.store.now).free k (module_heap_in (g.S.Words.memory c.args.store.now) c.args.rma) ≡ Ok h)
+    subst (λ l. Turns (g.S.Words.memory c.args.store.now) (g.S.Words.memory c.write_bytes.new.store) c.args.module_area (poked h.1 0 l h.0)) there
+    (done h (subst (λ k. module_claim (g.S.Words.memory c.args.store.now).free k (module_heap_in (g.S.Words.memory c.args.store.now) c.args.module_area) ≡ Ok h)
     (sym size) e))

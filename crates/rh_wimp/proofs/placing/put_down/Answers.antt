@@ -7,7 +7,7 @@ free-requires-clause-block g c =
     let es = c.args.entries.now.items in
     let there : c.index-entry.result.now ≡ entry_at es c.args.at =
     c.index-entry.ensures ∙ get_or_default es c.args.at c.index-entry.result.now no_entry (omega arith) in
-    subst (λ (e : Entry). HasBlock e.held 4 (module_heap_in (g.S.Words.memory c.args.store.now) c.args.rma)) (sym there) c.requires.held
+    subst (λ (e : Entry). HasBlock e.held 4 (module_heap_in (g.S.Words.memory c.args.store.now) c.args.module_area)) (sym there) c.requires.held
 
 pub returns-clause-heap : goal.returns-clause-heap
 returns-clause-heap g c =
@@ -15,4 +15,5 @@ returns-clause-heap g c =
     let m = g.S.Words.memory c.args.store.now in
     let there : c.index-entry.result.now ≡ entry_at es c.args.at =
     c.index-entry.ensures ∙ get_or_default es c.args.at c.index-entry.result.now no_entry (omega arith) in
-    subst (λ (e : Entry). Turns m (g.S.Words.memory c.free.new.store) c.args.rma (release_block e.held (module_heap_in m c.args.rma))) there c.free.ensures
+    subst (λ (e : Entry). Turns m (g.S.Words.memory c.free.new.store) c.args.module_area
+    (release_block e.held (module_heap_in m c.args.module_area))) there c.free.ensures

@@ -10,7 +10,7 @@ use Rattle.rh_wimp.proofs.reading.code_in.Given as given
 pub read_word-requires-clause-block : goal.read_word-requires-clause-block
 read_word-requires-clause-block g c =
     let m = g.S.Words.memory c.args.store.now in
-    has-less c.args.block 36 8 (module_heap_in m c.args.rma) (omega arith) (links-has c.requires.lies.1.1)
+    has-less c.args.block 36 8 (module_heap_in m c.args.module_area) (omega arith) (links-has c.requires.lies.1.1)
 
 known : (code : EventCode) → code_at (code_number code) ≡ Some code
 known User = refl
@@ -18,7 +18,7 @@ known Recorded = refl
 known Acknowledge = refl
 
 -- the code that is read
-found : (g : given.Over) (c : After-from_number g) (link : ℕ) (p : Parcel) → LinksAt (g.S.Words.memory c.args.store.now) c.args.rma c.args.block link p
+found : (g : given.Over) (c : After-from_number g) (link : ℕ) (p : Parcel) → LinksAt (g.S.Words.memory c.args.store.now) c.args.module_area c.args.block link p
     → c.from_number.result ≡ Some p.code
 found g c link p w =
     c.from_number.ensures ∙ ap code_at (c.read_word.ensures (padded link p) (links-bytes w) ∙ code_read link p w.small w.lies.fits) ∙ known p.code

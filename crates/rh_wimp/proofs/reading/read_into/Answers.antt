@@ -13,15 +13,15 @@ pub read_word-length-requires-clause-block : goal.read_word-length-requires-clau
 read_word-length-requires-clause-block g c =
     let m = g.S.Words.memory c.args.store.now in
     let l = c.requires.lies in
-    has-less c.args.block 24 12 (module_heap_in m c.args.rma) (omega arith) (lies-has m c.args.rma c.args.block l.0 l.1)
+    has-less c.args.block 24 12 (module_heap_in m c.args.module_area) (omega arith) (lies-has m c.args.module_area c.args.block l.0 l.1)
 
 -- the length that is read
-measured : (g : given.Over) (c : After-read_word-length g) (p : Parcel) → LiesAt (g.S.Words.memory c.args.store.now) c.args.rma c.args.block p
+measured : (g : given.Over) (c : After-read_word-length g) (p : Parcel) → LiesAt (g.S.Words.memory c.args.store.now) c.args.module_area c.args.block p
     → (c.read_word-length.result ≡ encoded_length p.message) × (c.read_word-length.result ≤ LONGEST_MESSAGE)
 measured g c p w =
     let k = encoded-most p.message w.lies.fits.name in
     let most = k.1 in
-    let e = c.read_word-length.ensures (padded 0 p) (lies-bytes (g.S.Words.memory c.args.store.now) c.args.rma c.args.block p w)
+    let e = c.read_word-length.ensures (padded 0 p) (lies-bytes (g.S.Words.memory c.args.store.now) c.args.module_area c.args.block p w)
     ∙ length_read 0 p (omega arith) w.lies.fits in
     (e, omega arith)
 
@@ -49,13 +49,13 @@ read_bytes-requires-clause-block g c =
     let is = m.0 in
     let few = m.1 in
     let t = length-take c.read_word-length.result c.args.buffer.now in
-    let b = lies-bytes (g.S.Words.memory c.args.store.now) c.args.rma c.args.block l.0 l.1 in
+    let b = lies-bytes (g.S.Words.memory c.args.store.now) c.args.module_area c.args.block l.0 l.1 in
     record { bytes = padded 0 l.0; found = b; room = omega (arith, length-padded 0 l.0, room_enough (8 + encoded_length l.0.message)) }
 
 -- what is decoded
 answered : (g : given.Over) (c : After-read_word-length g) (to : List ℕ) (result : Result Message MessageFault) (p : Parcel)
-    → LiesAt (g.S.Words.memory c.args.store.now) c.args.rma c.args.block p
-    → ((bytes : List ℕ) → block_bytes c.args.block (module_heap_in (g.S.Words.memory c.args.store.now) c.args.rma) ≡ Some bytes
+    → LiesAt (g.S.Words.memory c.args.store.now) c.args.module_area c.args.block p
+    → ((bytes : List ℕ) → block_bytes c.args.block (module_heap_in (g.S.Words.memory c.args.store.now) c.args.module_area) ≡ Some bytes
     → to ≡ part bytes 8 (length (take c.read_word-length.result c.args.buffer.now))) → result ≡ decoded to → result ≡ Ok p.message
 answered g c to result p w r e =
     let m = measured g c p w in
@@ -63,7 +63,7 @@ answered g c to result p w r e =
     let few = m.1 in
     let n = c.requires.room in
     let t = length-take c.read_word-length.result c.args.buffer.now in
-    let b = r (padded 0 p) (lies-bytes (g.S.Words.memory c.args.store.now) c.args.rma c.args.block p w)
+    let b = r (padded 0 p) (lies-bytes (g.S.Words.memory c.args.store.now) c.args.module_area c.args.block p w)
     ∙ message_read 0 p (length (take c.read_word-length.result c.args.buffer.now)) (omega arith) in
     e ∙ ap decoded b ∙ decoded-encoded p.message w.lies.fits
 

@@ -28,7 +28,7 @@ entry_has-requires-clause-row g c =
     let i : ℕ = c.loop-entry.entry-index in (
       row_at r.0 i,
       (
-        subst (λ (e : Entry). RowLies (module_heap_in (g.S.Words.memory c.args.store.now) c.args.rma) e (row_at r.0 i)) (sym w.1) (r.1.0.each i (omega
+        subst (λ (e : Entry). RowLies (module_heap_in (g.S.Words.memory c.args.store.now) c.args.module_area) e (row_at r.0 i)) (sym w.1) (r.1.0.each i (omega
             arith)),
         r.1.1 i (omega arith),
       ),
@@ -41,7 +41,7 @@ returns-then-entry_has g c = λ rows s short.
     let l = w.0 in
     let len = s.len in
     let i : ℕ = c.loop-entry.entry-index in
-    let lies = subst (λ (e : Entry). RowLies (module_heap_in (g.S.Words.memory c.args.store.now) c.args.rma) e (row_at rows i)) (sym w.1)
+    let lies = subst (λ (e : Entry). RowLies (module_heap_in (g.S.Words.memory c.args.store.now) c.args.module_area) e (row_at rows i)) (sym w.1)
     (s.each i (omega arith)) in
     sym (one-has (wants c.args.wanted.now) rows i (omega arith) (sym (c.entry_has.ensures (row_at rows i) lies (short i (omega arith))) ∙ c.if-entry_has.true))
 
@@ -54,7 +54,7 @@ loop-entry-preserved g c = λ rows s short j b.
     let i : ℕ = c.loop-entry.entry-index in
     elim (cases_eq j i) [
       | inl z ↦
-          let lies = subst (λ (e : Entry). RowLies (module_heap_in (g.S.Words.memory c.args.store.now) c.args.rma) e (row_at rows i)) (sym w.1)
+          let lies = subst (λ (e : Entry). RowLies (module_heap_in (g.S.Words.memory c.args.store.now) c.args.module_area) e (row_at rows i)) (sym w.1)
           (s.each i (omega arith)) in
           ap (λ k. list_any (wants c.args.wanted.now) (row_parcels (row_at rows k))) z
           ∙ sym (c.entry_has.ensures (row_at rows i) lies (short i (omega arith))) ∙ c.if-entry_has.false

@@ -9,17 +9,17 @@ pub loop-turn-init : goal.loop-turn-init
 loop-turn-init g c = λ ps e l few. record { rest = ps; block_is = e; chain = l; few = omega arith; same = refl }
 
 pub returns-then-block-eq0 : goal.returns-then-block-eq0
-returns-then-block-eq0 g c = λ ps e l few. ahead-none (module_heap_in (g.S.Words.memory c.args.store.now) c.args.rma) c.loop-turn.block _
+returns-then-block-eq0 g c = λ ps e l few. ahead-none (module_heap_in (g.S.Words.memory c.args.store.now) c.args.module_area) c.loop-turn.block _
     (wants c.args.wanted.now)
     ps (c.loop-turn.invariant ps e l few) c.if-block-eq0.true
 
 -- the message whose block is the next one
 here : (g : given.Over) (c : Else-block-eq0 g) (ps : List Parcel) → c.args.first ≡ first_block ps 0
-    → Chain (module_heap_in (g.S.Words.memory c.args.store.now) c.args.rma) ps 0 → length ps ≤ most_messages
-    → Here (g.S.Words.memory c.args.store.now) c.args.rma c.loop-turn.block c.loop-turn._turn (wants c.args.wanted.now) ps
+    → Chain (module_heap_in (g.S.Words.memory c.args.store.now) c.args.module_area) ps 0 → length ps ≤ most_messages
+    → Here (g.S.Words.memory c.args.store.now) c.args.module_area c.loop-turn.block c.loop-turn._turn (wants c.args.wanted.now) ps
 here g c ps e l few =
-    ahead-some (g.S.Words.memory c.args.store.now) c.args.rma c.loop-turn.block c.loop-turn._turn (wants c.args.wanted.now) ps c.requires.module
-    (g.met.S.Words.small c.args.store.now c.args.rma.area.0)
+    ahead-some (g.S.Words.memory c.args.store.now) c.args.module_area c.loop-turn.block c.loop-turn._turn (wants c.args.wanted.now) ps c.requires.module
+    (g.met.S.Words.small c.args.store.now c.args.module_area.area.0)
     (c.loop-turn.invariant ps e l few) c.if-block-eq0.false
 
 pub matches_wanted-requires-clause-lies : goal.matches_wanted-requires-clause-lies
@@ -31,7 +31,7 @@ matches_wanted-requires-clause-lies g c =
 pub returns-then-matches_wanted : goal.returns-then-matches_wanted
 returns-then-matches_wanted g c = λ ps e l few.
     let w = here g (goal.at.returns-then-matches_wanted g c).Else-block-eq0 ps e l few in
-    found-here (g.S.Words.memory c.args.store.now) c.args.rma c.loop-turn.block c.loop-turn._turn (wants c.args.wanted.now) ps w c.matches_wanted.result
+    found-here (g.S.Words.memory c.args.store.now) c.args.module_area c.loop-turn.block c.loop-turn._turn (wants c.args.wanted.now) ps w c.matches_wanted.result
     (c.matches_wanted.ensures (first_block w.rest 0) w.parcel w.lies w.block_is w.small) c.if-matches_wanted.true
 
 pub read_word-block-requires-clause-block : goal.read_word-block-requires-clause-block
@@ -39,19 +39,19 @@ read_word-block-requires-clause-block g c =
     let m = g.S.Words.memory c.args.store.now in
     let r = c.requires.chain in
     let w = here g (goal.at.read_word-block-requires-clause-block g c).Else-block-eq0 r.0 r.1.0 r.1.1 r.1.2 in
-    has-less c.loop-turn.block 24 4 (module_heap_in m c.args.rma) (omega arith)
-    (here-has m c.args.rma c.loop-turn.block c.loop-turn._turn (wants c.args.wanted.now) r.0 w)
+    has-less c.loop-turn.block 24 4 (module_heap_in m c.args.module_area) (omega arith)
+    (here-has m c.args.module_area c.loop-turn.block c.loop-turn._turn (wants c.args.wanted.now) r.0 w)
 
 pub loop-turn-preserved : goal.loop-turn-preserved
 loop-turn-preserved g c = λ ps e l few.
     let m = g.S.Words.memory c.args.store.now in
     let w = here g (goal.at.loop-turn-preserved g c).Else-block-eq0 ps e l few in
-    subst (λ n. Ahead (module_heap_in m c.args.rma) c.read_word-block.result n (wants c.args.wanted.now) ps)
+    subst (λ n. Ahead (module_heap_in m c.args.module_area) c.read_word-block.result n (wants c.args.wanted.now) ps)
     (let z : suc c.loop-turn._turn ≡ c.loop-turn._turn + 1 = omega arith in z)
-    (one-on m c.args.rma c.loop-turn.block c.loop-turn._turn (wants c.args.wanted.now) ps w c.matches_wanted.result c.read_word-block.result
+    (one-on m c.args.module_area c.loop-turn.block c.loop-turn._turn (wants c.args.wanted.now) ps w c.matches_wanted.result c.read_word-block.result
     (c.matches_wanted.ensures (first_block w.rest 0) w.parcel w.lies w.block_is w.small) c.if-matches_wanted.false c.read_word-block.ensures)
 
 pub returns : goal.returns
-returns g c = λ ps e l few. ahead-past (module_heap_in (g.S.Words.memory c.args.store.now) c.args.rma) c.loop-turn.block c.loop-turn._turn
+returns g c = λ ps e l few. ahead-past (module_heap_in (g.S.Words.memory c.args.store.now) c.args.module_area) c.loop-turn.block c.loop-turn._turn
     (wants c.args.wanted.now)
     ps (c.loop-turn.invariant ps e l few) (omega arith)

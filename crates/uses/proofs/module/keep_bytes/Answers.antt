@@ -17,8 +17,8 @@ returns-in_err-address-clause-only g c = c.in_err-address.ensures.only
 
 pub write_bytes-requires-clause-block : goal.write_bytes-requires-clause-block
 write_bytes-requires-clause-block g c =
-    claimed-has _ (length c.args.bytes.now) _ _ (module_heap_in (g.S.Words.memory c.args.store.now) c.args.rma)
-    (module_heap_in (g.S.Words.memory c.claim.new.store) c.args.rma) c.in_ok-address.ensures.answer c.in_ok-address.ensures.heap (omega arith)
+    claimed-has _ (length c.args.bytes.now) _ _ (module_heap_in (g.S.Words.memory c.args.store.now) c.args.module_area)
+    (module_heap_in (g.S.Words.memory c.claim.new.store) c.args.module_area) c.in_ok-address.ensures.answer c.in_ok-address.ensures.heap (omega arith)
 
 pub returns-clause-heap : goal.returns-clause-heap
 returns-clause-heap g c = c.write_bytes.ensures.heap ∙ ap (λ (h : Heap). poked c.in_ok-address.address 0 c.args.bytes.now h) c.in_ok-address.ensures.heap
@@ -29,9 +29,9 @@ returns-clause-kept g c =
 
 pub returns-clause-block : goal.returns-clause-block
 returns-clause-block g c =
-    kept-has _ _ _ (module_heap_in (g.S.Words.memory c.claim.new.store) c.args.rma) _
-    (claimed-has _ (length c.args.bytes.now) _ _ (module_heap_in (g.S.Words.memory c.args.store.now) c.args.rma)
-    (module_heap_in (g.S.Words.memory c.claim.new.store) c.args.rma) c.in_ok-address.ensures.answer c.in_ok-address.ensures.heap (omega arith))
+    kept-has _ _ _ (module_heap_in (g.S.Words.memory c.claim.new.store) c.args.module_area) _
+    (claimed-has _ (length c.args.bytes.now) _ _ (module_heap_in (g.S.Words.memory c.args.store.now) c.args.module_area)
+    (module_heap_in (g.S.Words.memory c.claim.new.store) c.args.module_area) c.in_ok-address.ensures.answer c.in_ok-address.ensures.heap (omega arith))
     c.write_bytes.ensures.heap
 
 pub returns-clause-only : goal.returns-clause-only

@@ -41,9 +41,10 @@ There q i x = (i < length q.entries) × ((entry_at q.entries i).handle ≡ x)
 
 -- it stays over the bounce
 then_there : (g : given.Over) (c : After-end_held g) (post : Post) → There c.args.self.now c.in-Some.at c.args.handle
-    → SpellsPostIn (g.S.Words.memory c.args.store.now) c.args.rma c.args.self.now post → There c.end_held.new.self c.in-Some.at c.args.handle
+    → SpellsPostIn (g.S.Words.memory c.args.store.now) c.args.module_area c.args.self.now post → There c.end_held.new.self c.in-Some.at c.args.handle
 then_there g c post p s =
-    let t = settled-stays (module_heap_in (g.S.Words.memory c.args.store.now) c.args.rma) (module_heap_in (g.S.Words.memory c.end_held.new.store) c.args.rma)
+    let t = settled-stays (module_heap_in (g.S.Words.memory c.args.store.now) c.args.module_area)
+    (module_heap_in (g.S.Words.memory c.end_held.new.store) c.args.module_area)
     c.args.self.now c.end_held.new.self post c.args.handle c.in-Some.at
     (held_by c.args.handle post.seats) s (c.end_held.ensures.spells post s) p.0 in
     (t.within, t.handle ∙ p.1)
@@ -60,12 +61,13 @@ end_chain-requires-clause-handle g c =
 
 -- and until its chain is empty
 at_last : (g : given.Over) (c : After-end_chain g) (post : Post) → There c.end_held.new.self c.in-Some.at c.args.handle
-    → SpellsPostIn (g.S.Words.memory c.args.store.now) c.args.rma c.args.self.now post → There c.end_chain.new.self c.in-Some.at c.args.handle
+    → SpellsPostIn (g.S.Words.memory c.args.store.now) c.args.module_area c.args.self.now post → There c.end_chain.new.self c.in-Some.at c.args.handle
 at_last g c post p s =
     let s1 = c.end_held.ensures.spells post s in
     let d = c.end_chain.ensures.drains (settled c.args.handle post) s1 in
     let e = d.1.seats in
-    let t = place-stays (module_heap_in (g.S.Words.memory c.end_held.new.store) c.args.rma) (module_heap_in (g.S.Words.memory c.end_chain.new.store) c.args.rma)
+    let t = place-stays (module_heap_in (g.S.Words.memory c.end_held.new.store) c.args.module_area)
+    (module_heap_in (g.S.Words.memory c.end_chain.new.store) c.args.module_area)
     c.end_held.new.self c.end_chain.new.self (settled c.args.handle post) d.0 c.in-Some.at
     (ap length e) (ap (λ ss. (seat_at ss c.in-Some.at).handle) e) s1 d.1.spells p.0 in
     (t.within, t.handle ∙ p.1)
@@ -84,21 +86,21 @@ returns-clause-leaves g c = left c.requires.queue (λ post s.
     let n = g.S.Words.memory c.end_chain.new.store in
     let w = at_last g a.After-end_chain post (then_there g a.After-end_held post (place g a.In-Some) s) s in
     let d = c.end_chain.ensures.drains (settled c.args.handle post) (c.end_held.ensures.spells post s) in
-    let done = death-done n c.args.rma c.end_chain.new.self post c.args.handle c.in-Some.at w.0 w.1 d in
-    subst (λ es. ArePostChains (module_heap_in n c.args.rma) (record { entries = es; live = c.self-2.inside.live; next_ref = c.self-2.inside.next_ref })
+    let done = death-done n c.args.module_area c.end_chain.new.self post c.args.handle c.in-Some.at w.0 w.1 d in
+    subst (λ es. ArePostChains (module_heap_in n c.args.module_area) (record { entries = es; live = c.self-2.inside.live; next_ref = c.self-2.inside.next_ref })
     (post_death c.args.handle post)) (sym c.remove.ensures.items)
-    (subst (λ (q : Chains). ArePostChains (module_heap_in n c.args.rma)
+    (subst (λ (q : Chains). ArePostChains (module_heap_in n c.args.module_area)
     (record { entries = remove q.entries c.in-Some.at; live = q.live; next_ref = q.next_ref })
     (post_death c.args.handle post)) (sym c.self-2.view_is) done))
     c.end_chain.ensures.module (OnlyArea-both (g.S.Words.memory c.args.store.now) (g.S.Words.memory c.end_held.new.store)
-    (g.S.Words.memory c.end_chain.new.store) c.args.rma.area.0 c.end_held.ensures.only c.end_chain.ensures.only)
+    (g.S.Words.memory c.end_chain.new.store) c.args.module_area.area.0 c.end_held.ensures.only c.end_chain.ensures.only)
 
 pub returns-clause-handles : goal.returns-clause-handles
 returns-clause-handles g c =
     let x : ℕ = c.args.handle in
     let post = c.requires.queue.post in
-    let m = module_heap_in (g.S.Words.memory c.args.store.now) c.args.rma in
-    let n = module_heap_in (g.S.Words.memory c.end_chain.new.store) c.args.rma in
+    let m = module_heap_in (g.S.Words.memory c.args.store.now) c.args.module_area in
+    let n = module_heap_in (g.S.Words.memory c.end_chain.new.store) c.args.module_area in
     let l = (returns-clause-leaves g c).spells post c.requires.queue.spells in
     handles-are n _ (post_death x post) l ∙ post_death-handles x post
     ∙ ap (filter (λ h. not (h == x))) (sym (handles-are m c.args.self.now post c.requires.queue.spells))

@@ -16,10 +16,10 @@ loop-turn-init g c =
     let m = g.S.Words.memory c.args.store.now in
     record {
       still = c.requires.module;
-      only = OnlyArea-self m c.args.rma.area.0 c.requires.module.opened;
+      only = OnlyArea-self m c.args.module_area.area.0 c.requires.module.opened;
       within = c.requires.within;
       handle = c.requires.handle;
-      drains = λ post s. drained-start m c.args.rma c.args.self.now post c.args.dying s;
+      drains = λ post s. drained-start m c.args.module_area c.args.self.now post c.args.dying s;
     }
 
 pub lift_first-requires-clause-module : goal.lift_first-requires-clause-module
@@ -32,10 +32,11 @@ pub lift_first-requires-clause-post : goal.lift_first-requires-clause-post
 lift_first-requires-clause-post g c = let d = c.loop-turn.invariant.drains c.requires.post.0 c.requires.post.1 in (d.0, d.1.spells)
 
 -- what the call took off
-lifts : (g : given.Over) (c : After-lift_first g) (now : Post) → SpellsPostIn (g.S.Words.memory c.loop-turn.store) c.args.rma c.loop-turn.self now
-    → LiftsFirst (g.S.Words.memory c.lift_first.new.store) c.args.rma c.lift_first.new.self now c.args.dying c.lift_first.result
+lifts : (g : given.Over) (c : After-lift_first g) (now : Post) → SpellsPostIn (g.S.Words.memory c.loop-turn.store) c.args.module_area c.loop-turn.self now
+    → LiftsFirst (g.S.Words.memory c.lift_first.new.store) c.args.module_area c.lift_first.new.self now c.args.dying c.lift_first.result
 lifts g c now s =
-    subst (λ y. LiftsFirst (g.S.Words.memory c.lift_first.new.store) c.args.rma c.lift_first.new.self now y c.lift_first.result) c.loop-turn.invariant.handle
+    subst (λ y. LiftsFirst (g.S.Words.memory c.lift_first.new.store) c.args.module_area c.lift_first.new.self now y c.lift_first.result)
+    c.loop-turn.invariant.handle
     (c.lift_first.ensures.lifts now s)
 
 pub returns-in_default-clause-drains : goal.returns-in_default-clause-drains
@@ -44,22 +45,23 @@ returns-in_default-clause-drains g c = λ post s.
     let m = g.S.Words.memory c.loop-turn.store in
     let n = g.S.Words.memory c.lift_first.new.store in
     let d = c.loop-turn.invariant.drains post s in
-    let w : LiftsFirst n c.args.rma c.lift_first.new.self d.0 c.args.dying None =
-    subst (λ (r : Option ℕ). LiftsFirst n c.args.rma c.lift_first.new.self d.0 c.args.dying r) c.in_default.is (lifts g o d.0 d.1.spells) in
-    drained-end m n c.args.rma c.loop-turn.self c.lift_first.new.self post d.0 c.args.dying c.loop-turn._turn d.1 w
+    let w : LiftsFirst n c.args.module_area c.lift_first.new.self d.0 c.args.dying None =
+    subst (λ (r : Option ℕ). LiftsFirst n c.args.module_area c.lift_first.new.self d.0 c.args.dying r) c.in_default.is (lifts g o d.0 d.1.spells) in
+    drained-end m n c.args.module_area c.loop-turn.self c.lift_first.new.self post d.0 c.args.dying c.loop-turn._turn d.1 w
 
 pub returns-in_default-clause-only : goal.returns-in_default-clause-only
 returns-in_default-clause-only g c =
-    OnlyArea-both (g.S.Words.memory c.args.store.now) (g.S.Words.memory c.loop-turn.store) (g.S.Words.memory c.lift_first.new.store) c.args.rma.area.0
+    OnlyArea-both (g.S.Words.memory c.args.store.now) (g.S.Words.memory c.loop-turn.store) (g.S.Words.memory c.lift_first.new.store) c.args.module_area.area.0
     c.loop-turn.invariant.only c.lift_first.ensures.only
 
 -- the message that was taken off
-first : (g : given.Over) (c : In-Some g) (now : Post) → SpellsPostIn (g.S.Words.memory c.loop-turn.store) c.args.rma c.loop-turn.self now
-    → (t : Parcel × List Parcel) × Lifted (g.S.Words.memory c.lift_first.new.store) c.args.rma c.lift_first.new.self now c.args.dying c.in-Some.block t
+first : (g : given.Over) (c : In-Some g) (now : Post) → SpellsPostIn (g.S.Words.memory c.loop-turn.store) c.args.module_area c.loop-turn.self now
+    → (t : Parcel × List Parcel) × Lifted (g.S.Words.memory c.lift_first.new.store) c.args.module_area c.lift_first.new.self now c.args.dying c.in-Some.block t
 first g c now s =
-    let w : LiftsFirst (g.S.Words.memory c.lift_first.new.store) c.args.rma c.lift_first.new.self now (entry_at c.loop-turn.self.entries c.args.at).handle
+    let w : LiftsFirst (g.S.Words.memory c.lift_first.new.store) c.args.module_area c.lift_first.new.self now
+    (entry_at c.loop-turn.self.entries c.args.at).handle
     (Some c.in-Some.block) = c.in-Some.ensures.lifts now s in
-    subst (λ y. LiftsFirst (g.S.Words.memory c.lift_first.new.store) c.args.rma c.lift_first.new.self now y (Some c.in-Some.block))
+    subst (λ y. LiftsFirst (g.S.Words.memory c.lift_first.new.store) c.args.module_area c.lift_first.new.self now y (Some c.in-Some.block))
     c.loop-turn.invariant.handle w
 
 pub end_message-requires-clause-loose : goal.end_message-requires-clause-loose
@@ -81,19 +83,21 @@ loop-turn-preserved g c =
     let d = i.drains c.requires.post.0 c.requires.post.1 in
     let w = first g o d.0 d.1.spells in
     let e = seats-ended x w.0.0 (rest_of w.0.1 d.0) in
-    let t = place-stays (module_heap_in m c.args.rma) (module_heap_in k c.args.rma) c.loop-turn.self c.end_message.new.self d.0
+    let t = place-stays (module_heap_in m c.args.module_area) (module_heap_in k c.args.module_area) c.loop-turn.self c.end_message.new.self d.0
     (ended_from x w.0.0 (rest_of w.0.1 d.0))
     c.args.at (ap length e) (ap (λ ss. (seat_at ss c.args.at).handle) e)
     d.1.spells (c.end_message.ensures.spells (rest_of w.0.1 d.0) w.0.0 w.1.may) i.within in
     record {
       still = c.end_message.ensures.module;
-      only = OnlyArea-both a m k c.args.rma.area.0 i.only (OnlyArea-both m n k c.args.rma.area.0 c.lift_first.ensures.only c.end_message.ensures.only);
+      only = OnlyArea-both a m k c.args.module_area.area.0 i.only
+          (OnlyArea-both m n k c.args.module_area.area.0 c.lift_first.ensures.only c.end_message.ensures.only);
       within = t.within;
       handle = t.handle ∙ i.handle;
       drains = λ post s.
           let f = i.drains post s in
           let v = first g o f.0 f.1.spells in
-          drained-step m n k c.args.rma c.loop-turn.self c.lift_first.new.self c.end_message.new.self post f.0 x c.loop-turn._turn c.in-Some.block v.0 f.1
+          drained-step m n k c.args.module_area c.loop-turn.self c.lift_first.new.self c.end_message.new.self post f.0 x c.loop-turn._turn c.in-Some.block v.0
+          f.1
           v.1 (c.end_message.ensures.spells (rest_of v.0.1 f.0) v.0.0 v.1.may);
     }
 

@@ -9,13 +9,15 @@ any_entry-requires-clause-rows g c =
     let m = g.S.Words.memory c.args.store.now in
     let post = c.requires.post in
     let q : Chains = record { entries = c.self.inside.entries.items; live = c.self.inside.live; next_ref = c.self.inside.next_ref } in
-    let s : SpellsPostIn m c.args.rma q post = subst (λ (k : Chains). SpellsPostIn m c.args.rma k post) (sym c.self.view_is) c.requires.spells in
-    (rows_of post, (s.rows, short-rows (module_heap_in m c.args.rma) q post s))
+    let s : SpellsPostIn m c.args.module_area q post = subst (λ (k : Chains). SpellsPostIn m c.args.module_area k post)
+    (sym c.self.view_is) c.requires.spells in
+    (rows_of post, (s.rows, short-rows (module_heap_in m c.args.module_area) q post s))
 
 pub returns : goal.returns
 unfolding post_is_message
 returns g c = λ post s'.
     let m = g.S.Words.memory c.args.store.now in
     let q : Chains = record { entries = c.self.inside.entries.items; live = c.self.inside.live; next_ref = c.self.inside.next_ref } in
-    let s : SpellsPostIn m c.args.rma q post = subst (λ (k : Chains). SpellsPostIn m c.args.rma k post) (sym c.self.view_is) s' in
-    c.any_entry.ensures (rows_of post) s.rows (short-rows (module_heap_in m c.args.rma) q post s) ∙ rows-have (wants (At c.args.block)) post s.recipients
+    let s : SpellsPostIn m c.args.module_area q post = subst (λ (k : Chains). SpellsPostIn m c.args.module_area k post) (sym c.self.view_is) s' in
+    c.any_entry.ensures (rows_of post) s.rows (short-rows (module_heap_in m c.args.module_area) q post s) ∙ rows-have
+    (wants (At c.args.block)) post s.recipients

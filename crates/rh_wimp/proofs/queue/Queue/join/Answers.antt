@@ -12,4 +12,9 @@ returns-clause-spells c = λ h post s.
 
 pub returns-clause-still : goal.returns-clause-still
 returns-clause-still c =
-    λ m rma w. record { area = w.area; post = post_join c.args.handle w.post; spells = returns-clause-spells c (module_heap_in m rma) w.post w.spells }
+    λ m module_area w. record {
+      area = w.area;
+      post = post_join c.args.handle w.post;
+      spells = returns-clause-spells c
+          (module_heap_in m module_area) w.post w.spells;
+    }

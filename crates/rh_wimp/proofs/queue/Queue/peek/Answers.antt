@@ -34,33 +34,34 @@ place g c =
     let w = found-at (seen g c).entries c.args.handle c.in-Some.at (sym c.in-Some.ensures) in
     (w.0, w.1, read_entry (seen g c).entries c.in-Some.at c.index-entry.result.now w.0 c.index-entry.ensures)
 
-spelled : (g : given.Over) (c : After-index-entry g) (post : Post) → SpellsPostIn (g.S.Words.memory c.args.store.now) c.args.rma c.args.self.now post
-    → SpellsPostIn (g.S.Words.memory c.args.store.now) c.args.rma (seen g c) post
+spelled : (g : given.Over) (c : After-index-entry g) (post : Post) → SpellsPostIn (g.S.Words.memory c.args.store.now) c.args.module_area c.args.self.now post
+    → SpellsPostIn (g.S.Words.memory c.args.store.now) c.args.module_area (seen g c) post
 unfolding seen
-spelled g c post s = subst (λ (k : Chains). SpellsPostIn (g.S.Words.memory c.args.store.now) c.args.rma k post) (sym c.self.view_is) s
+spelled g c post s = subst (λ (k : Chains). SpellsPostIn (g.S.Words.memory c.args.store.now) c.args.module_area k post) (sym c.self.view_is) s
 
 -- ---- a message waits
-head : (g : given.Over) (c : After-index-entry g) (post : Post) → SpellsPostIn (g.S.Words.memory c.args.store.now) c.args.rma c.args.self.now post
+head : (g : given.Over) (c : After-index-entry g) (post : Post) → SpellsPostIn (g.S.Words.memory c.args.store.now) c.args.module_area c.args.self.now post
     → c.index-entry.result.now.first ≢ 0
-    → (t : Parcel × List Parcel) × Heads (g.S.Words.memory c.args.store.now) c.args.rma (seen g c) post c.args.handle c.in-Some.at t
+    → (t : Parcel × List Parcel) × Heads (g.S.Words.memory c.args.store.now) c.args.module_area (seen g c) post c.args.handle c.in-Some.at t
 head g c post s ne =
     let w = place g c in
-    heads (g.S.Words.memory c.args.store.now) c.args.rma (seen g c) post c.args.handle c.in-Some.at (spelled g c post s) w.0 w.1
+    heads (g.S.Words.memory c.args.store.now) c.args.module_area (seen g c) post c.args.handle c.in-Some.at (spelled g c post s) w.0 w.1
     (λ z. ne (ap (λ (e : Entry). e.first) w.2 ∙ z))
 
-links : (g : given.Over) (c : After-index-entry g) (post : Post) (s : SpellsPostIn (g.S.Words.memory c.args.store.now) c.args.rma c.args.self.now post)
+links : (g : given.Over) (c : After-index-entry g) (post : Post) (s : SpellsPostIn (g.S.Words.memory c.args.store.now) c.args.module_area c.args.self.now post)
     (ne : c.index-entry.result.now.first ≢ 0)
-    → LinksAt (g.S.Words.memory c.args.store.now) c.args.rma c.index-entry.result.now.first (head g c post s ne).1.next (head g c post s ne).0.0
+    → LinksAt (g.S.Words.memory c.args.store.now) c.args.module_area c.index-entry.result.now.first (head g c post s ne).1.next (head g c post s ne).0.0
 links g c post s ne =
     let w = (head g c post s ne).1 in
     record {
       lies = w.lies;
       block_is = ap (λ (e : Entry). e.first) (place g c).2 ∙ w.block_is;
-      small = next-small (g.S.Words.memory c.args.store.now) c.args.rma w.next c.requires.queue.area (g.met.S.Words.small c.args.store.now c.args.rma.area.0)
+      small = next-small (g.S.Words.memory c.args.store.now) c.args.module_area w.next c.requires.queue.area
+          (g.met.S.Words.small c.args.store.now c.args.module_area.area.0)
           w.next_there;
     }
 
-waits : (g : given.Over) (c : After-index-entry g) (post : Post) (s : SpellsPostIn (g.S.Words.memory c.args.store.now) c.args.rma c.args.self.now post)
+waits : (g : given.Over) (c : After-index-entry g) (post : Post) (s : SpellsPostIn (g.S.Words.memory c.args.store.now) c.args.module_area c.args.self.now post)
     (ne : c.index-entry.result.now.first ≢ 0)
     → (post_poll c.args.handle post).1 ≡ Some (head g c post s ne).0.0
 waits g c post s ne =
@@ -68,21 +69,21 @@ waits g c post s ne =
     poll-waiting c.args.handle post (head g c post s ne).0.0 (sym (front-is c.args.handle post.queued) ∙ ap first_of w.first)
 
 -- ---- none waits
-empty : (g : given.Over) (c : After-index-entry g) (post : Post) → SpellsPostIn (g.S.Words.memory c.args.store.now) c.args.rma c.args.self.now post
+empty : (g : given.Over) (c : After-index-entry g) (post : Post) → SpellsPostIn (g.S.Words.memory c.args.store.now) c.args.module_area c.args.self.now post
     → c.index-entry.result.now.first ≡ 0 → front c.args.handle post.queued ≡ None
 empty g c post s z =
     let w = place g c in
     sym (front-is c.args.handle post.queued)
-    ∙ ap first_of (no-head (module_heap_in (g.S.Words.memory c.args.store.now) c.args.rma) (seen g c) post c.args.handle c.in-Some.at
+    ∙ ap first_of (no-head (module_heap_in (g.S.Words.memory c.args.store.now) c.args.module_area) (seen g c) post c.args.handle c.in-Some.at
     (spelled g c post s) w.0 w.1
     (sym (ap (λ (e : Entry). e.first) w.2) ∙ z))
 
 -- what the task holds
-held : (g : given.Over) (c : After-index-entry g) (post : Post) → SpellsPostIn (g.S.Words.memory c.args.store.now) c.args.rma c.args.self.now post
-    → Holds (module_heap_in (g.S.Words.memory c.args.store.now) c.args.rma) c.index-entry.result.now.held (held_by c.args.handle post.seats) ×
+held : (g : given.Over) (c : After-index-entry g) (post : Post) → SpellsPostIn (g.S.Words.memory c.args.store.now) c.args.module_area c.args.self.now post
+    → Holds (module_heap_in (g.S.Words.memory c.args.store.now) c.args.module_area) c.index-entry.result.now.held (held_by c.args.handle post.seats) ×
     (has_seat c.args.handle post.seats ≡ true)
 held g c post s =
-    let h = module_heap_in (g.S.Words.memory c.args.store.now) c.args.rma in
+    let h = module_heap_in (g.S.Words.memory c.args.store.now) c.args.module_area in
     let w = place g c in
     let k = spelled g c post s in
     let t = seated h (seen g c) post c.in-Some.at k w.0 in (
@@ -123,8 +124,9 @@ holds_own-requires-clause-held g c =
     (held_by c.args.handle c.requires.queue.post.seats, (held g o c.requires.queue.post c.requires.queue.spells).0)
 
 -- whether the task holds a message of its own
-own : (g : given.Over) (c : After-index-entry g) (post : Post) (s : SpellsPostIn (g.S.Words.memory c.args.store.now) c.args.rma c.args.self.now post) (t : Bool)
-    → ((o : Option Parcel) → Holds (module_heap_in (g.S.Words.memory c.args.store.now) c.args.rma) c.index-entry.result.now.held o
+own : (g : given.Over) (c : After-index-entry g) (post : Post) (s : SpellsPostIn (g.S.Words.memory c.args.store.now) c.args.module_area c.args.self.now post)
+    (t : Bool)
+    → ((o : Option Parcel) → Holds (module_heap_in (g.S.Words.memory c.args.store.now) c.args.module_area) c.index-entry.result.now.held o
     → t ≡ holds_such (is_own c.args.handle) o) → t ≡ holds_such (is_own c.args.handle) (held_by c.args.handle post.seats)
 own g c post s t e = e (held_by c.args.handle post.seats) (held g c post s).0
 
@@ -143,11 +145,11 @@ returns-then-not-holds_own-clause-message g c = λ post s.
     sym (ap (λ m. with_message m c.args.block.now) none)
 
 -- the message that would come back
-back : (g : given.Over) (c : After-index-entry g) (post : Post) (s : SpellsPostIn (g.S.Words.memory c.args.store.now) c.args.rma c.args.self.now post)
+back : (g : given.Over) (c : After-index-entry g) (post : Post) (s : SpellsPostIn (g.S.Words.memory c.args.store.now) c.args.module_area c.args.self.now post)
     (w : HoldsOwn c.args.handle post.seats)
-    → LinksAt (g.S.Words.memory c.args.store.now) c.args.rma c.index-entry.result.now.held 0 w.parcel
+    → LinksAt (g.S.Words.memory c.args.store.now) c.args.module_area c.index-entry.result.now.held 0 w.parcel
 back g c post s w =
-    let h = module_heap_in (g.S.Words.memory c.args.store.now) c.args.rma in
+    let h = module_heap_in (g.S.Words.memory c.args.store.now) c.args.module_area in
     let there : Holds h c.index-entry.result.now.held (Some w.parcel) = subst (Holds h c.index-entry.result.now.held) w.held (held g c post s).0 in
     record { lies = there.1; block_is = there.0; small = omega arith }
 

@@ -38,17 +38,17 @@ place g c =
 abbrev between : (g : given.Over) (c : After-bounce_held g) → Post → Post
 between g c post = bounce_held c.args.handle (held_by c.args.handle post.seats) post
 
-spelled : (g : given.Over) (c : After-bounce_held g) (post : Post) → SpellsPostIn (g.S.Words.memory c.args.store.now) c.args.rma c.args.self.now post
-    → SpellsPostIn (g.S.Words.memory c.bounce_held.new.store) c.args.rma c.bounce_held.new.self (between g c post)
+spelled : (g : given.Over) (c : After-bounce_held g) (post : Post) → SpellsPostIn (g.S.Words.memory c.args.store.now) c.args.module_area c.args.self.now post
+    → SpellsPostIn (g.S.Words.memory c.bounce_held.new.store) c.args.module_area c.bounce_held.new.self (between g c post)
 spelled g c post s =
-    subst (λ x. SpellsPostIn (g.S.Words.memory c.bounce_held.new.store) c.args.rma c.bounce_held.new.self (bounce_held x (held_by x post.seats) post))
+    subst (λ x. SpellsPostIn (g.S.Words.memory c.bounce_held.new.store) c.args.module_area c.bounce_held.new.self (bounce_held x (held_by x post.seats) post))
     (place g c).1 (c.bounce_held.ensures.spells post s)
 
-there : (g : given.Over) (c : After-bounce_held g) (post : Post) → SpellsPostIn (g.S.Words.memory c.args.store.now) c.args.rma c.args.self.now post
+there : (g : given.Over) (c : After-bounce_held g) (post : Post) → SpellsPostIn (g.S.Words.memory c.args.store.now) c.args.module_area c.args.self.now post
     → (c.in-Some.at < length c.bounce_held.new.self.entries) × ((entry_at c.bounce_held.new.self.entries c.in-Some.at).handle ≡ c.args.handle)
 there g c post s =
-    let w = stays (module_heap_in (g.S.Words.memory c.args.store.now) c.args.rma)
-    (module_heap_in (g.S.Words.memory c.bounce_held.new.store) c.args.rma) c.args.self.now
+    let w = stays (module_heap_in (g.S.Words.memory c.args.store.now) c.args.module_area)
+    (module_heap_in (g.S.Words.memory c.bounce_held.new.store) c.args.module_area) c.args.self.now
     c.bounce_held.new.self post c.args.handle c.in-Some.at
     (held_by c.args.handle post.seats) s (spelled g c post s) (place g c).0 in
     (w.within, w.handle ∙ (place g c).1)
@@ -83,14 +83,15 @@ returns-clause-leaves g c = left c.requires.queue (λ post s.
     let w = there g o post s in
     let none = held-after c.args.handle (held_by c.args.handle post.seats) post refl in
     let before = between g o post in
-    subst (λ x. SpellsPostIn (g.S.Words.memory c.take.new.store) c.args.rma c.take.new.self (taken_from x (first_for x before.queued) before).0) w.1
+    subst (λ x. SpellsPostIn (g.S.Words.memory c.take.new.store) c.args.module_area c.take.new.self (taken_from x (first_for x before.queued) before).0) w.1
     (c.take.ensures.spells before (spelled g o post s) (subst (λ x. held_by x before.seats ≡ None) (sym w.1) none)))
     c.take.ensures.module (OnlyArea-both (g.S.Words.memory c.args.store.now) (g.S.Words.memory c.bounce_held.new.store) (g.S.Words.memory c.take.new.store)
-    c.args.rma.area.0 c.bounce_held.ensures.only c.take.ensures.only)
+    c.args.module_area.area.0 c.bounce_held.ensures.only c.take.ensures.only)
 
 pub returns-clause-handles : goal.returns-clause-handles
 returns-clause-handles g c =
     let post = c.requires.queue.post in
     let l = (returns-clause-leaves g c).spells post c.requires.queue.spells in
-    handles-stay (module_heap_in (g.S.Words.memory c.args.store.now) c.args.rma) (module_heap_in (g.S.Words.memory c.take.new.store) c.args.rma) c.args.self.now
+    handles-stay (module_heap_in (g.S.Words.memory c.args.store.now) c.args.module_area)
+    (module_heap_in (g.S.Words.memory c.take.new.store) c.args.module_area) c.args.self.now
     c.take.new.self post (post_poll c.args.handle post).0 c.requires.queue.spells l (post_poll-handles c.args.handle post)

@@ -18,21 +18,23 @@ pub returns-in_err-to-clause-answer : goal.returns-in_err-to-clause-answer
 returns-in_err-to-clause-answer g c = λ post p.
     let m = g.S.Words.memory c.args.store.now in
     let e = err_from_is_err_and c.from_residual.result c.from_residual.ensures.1 in
-    let refused = send-refused (module_heap_in m c.args.rma) c.args.self.now post m.free c.args.letter c.in_err-to.field-0.0 p c.in_err-to.ensures.refused in
+    let refused = send-refused
+    (module_heap_in m c.args.module_area) c.args.self.now post m.free c.args.letter c.in_err-to.field-0.0 p c.in_err-to.ensures.refused in
     rw (e.1, e.2) (sym (ap answer_of refused))
 
 pub returns-in_err-to-clause-leaves : goal.returns-in_err-to-clause-leaves
 returns-in_err-to-clause-leaves g c = left c.requires.queue (λ post p.
     let m = g.S.Words.memory c.args.store.now in
-    let refused = send-refused (module_heap_in m c.args.rma) c.args.self.now post m.free c.args.letter c.in_err-to.field-0.0 p c.in_err-to.ensures.refused in
-    subst (λ r. ArePostChains (module_heap_in m c.args.rma) c.args.self.now (left_of post r)) (sym refused) p) c.requires.queue.area (OnlyArea-self
-    (g.S.Words.memory c.args.store.now) c.args.rma.area.0 c.requires.queue.area.opened)
+    let refused = send-refused
+    (module_heap_in m c.args.module_area) c.args.self.now post m.free c.args.letter c.in_err-to.field-0.0 p c.in_err-to.ensures.refused in
+    subst (λ r. ArePostChains (module_heap_in m c.args.module_area) c.args.self.now (left_of post r)) (sym refused) p) c.requires.queue.area (OnlyArea-self
+    (g.S.Words.memory c.args.store.now) c.args.module_area.area.0 c.requires.queue.area.opened)
 
 pub returns-in_err-block-clause-answer : goal.returns-in_err-block-clause-answer
 returns-in_err-block-clause-answer g c = λ post p.
     let m = g.S.Words.memory c.args.store.now in
     let e = err_from_is_err_and c.from_residual-in_err-block.result c.from_residual-in_err-block.ensures.1 in
-    let refused = send-short (module_heap_in m c.args.rma) c.args.self.now post m.free c.args.letter c.in_err-block.field-0.0 p c.in_ok-to.ensures.ok
+    let refused = send-short (module_heap_in m c.args.module_area) c.args.self.now post m.free c.args.letter c.in_err-block.field-0.0 p c.in_ok-to.ensures.ok
     c.in_err-block.ensures.answer in
     rw (e.1, e.2) (sym (ap answer_of refused))
 
@@ -42,19 +44,19 @@ returns-in_err-block-clause-leaves g c =
     let same = sym c.in_err-block.ensures.err in
     left c.requires.queue (λ post p.
     let m = g.S.Words.memory c.args.store.now in
-    let refused = send-short (module_heap_in m c.args.rma) c.args.self.now post m.free c.args.letter c.in_err-block.field-0.0 p c.in_ok-to.ensures.ok
+    let refused = send-short (module_heap_in m c.args.module_area) c.args.self.now post m.free c.args.letter c.in_err-block.field-0.0 p c.in_ok-to.ensures.ok
     c.in_err-block.ensures.answer in
-    subst (λ (n : Memory). ArePostChains (module_heap_in n c.args.rma) c.args.self.now (left_of post (post_send m.free c.args.letter post)))
+    subst (λ (n : Memory). ArePostChains (module_heap_in n c.args.module_area) c.args.self.now (left_of post (post_send m.free c.args.letter post)))
     (sym c.in_err-block.ensures.err)
-    (subst (λ r. ArePostChains (module_heap_in m c.args.rma) c.args.self.now (left_of post r)) (sym refused) p))
-    (subst (λ (n : Memory). IsModule n c.args.rma) same c.requires.queue.area)
-    (subst (λ (n : Memory). OnlyArea m n c.args.rma.area.0) same (OnlyArea-self m c.args.rma.area.0 c.requires.queue.area.opened))
+    (subst (λ r. ArePostChains (module_heap_in m c.args.module_area) c.args.self.now (left_of post r)) (sym refused) p))
+    (subst (λ (n : Memory). IsModule n c.args.module_area) same c.requires.queue.area)
+    (subst (λ (n : Memory). OnlyArea m n c.args.module_area.area.0) same (OnlyArea-self m c.args.module_area.area.0 c.requires.queue.area.opened))
 
 -- ---- the block
-there : (g : given.Over) (c : In_ok-block g) → IsModule (g.S.Words.memory c.place.new.store) c.args.rma ×
-    (OnlyArea (g.S.Words.memory c.args.store.now) (g.S.Words.memory c.place.new.store) c.args.rma.area.0 × HasBlock c.in_ok-block.block 0
-    (module_heap_in (g.S.Words.memory c.place.new.store) c.args.rma))
-there g c = new-there (g.S.Words.memory c.args.store.now) (g.S.Words.memory c.place.new.store) c.args.rma _ c.in_ok-block.block _
+there : (g : given.Over) (c : In_ok-block g) → IsModule (g.S.Words.memory c.place.new.store) c.args.module_area ×
+    (OnlyArea (g.S.Words.memory c.args.store.now) (g.S.Words.memory c.place.new.store) c.args.module_area.area.0 × HasBlock c.in_ok-block.block 0
+    (module_heap_in (g.S.Words.memory c.place.new.store) c.args.module_area))
+there g c = new-there (g.S.Words.memory c.args.store.now) (g.S.Words.memory c.place.new.store) c.args.module_area _ c.in_ok-block.block _
     c.in_ok-block.ensures.answer c.in_ok-block.ensures.placed
 
 pub append-requires-clause-module : goal.append-requires-clause-module
@@ -66,10 +68,10 @@ seen g c = record { entries = c.self.inside.entries.items; live = c.self.inside.
 
 abbrev Asks : (g : given.Over) (c : In_ok-block g) → Chains → Post → Type 0
 Asks g c q post =
-    SpellsPostIn (g.S.Words.memory c.args.store.now) c.args.rma q post × (refusal_for c.args.letter.to q ≡ None) × (c.in_ok-to.to < length q.entries)
+    SpellsPostIn (g.S.Words.memory c.args.store.now) c.args.module_area q post × (refusal_for c.args.letter.to q ≡ None) × (c.in_ok-to.to < length q.entries)
     × ((entry_at q.entries c.in_ok-to.to).handle ≡ c.args.letter.to) × HasEntry c.args.letter.from q
 
-asks : (g : given.Over) (c : In_ok-block g) (post : Post) → SpellsPostIn (g.S.Words.memory c.args.store.now) c.args.rma c.args.self.now post
+asks : (g : given.Over) (c : In_ok-block g) (post : Post) → SpellsPostIn (g.S.Words.memory c.args.store.now) c.args.module_area c.args.self.now post
     → Asks g c (seen g c) post
 unfolding seen
 asks g c post p =
@@ -80,7 +82,8 @@ unfolding seen
 append-requires-clause-last g c =
     let o = (goal.at.append-requires-clause-last g c).In_ok-block in
     let a = asks g o c.requires.queue.post c.requires.queue.spells in
-    last-stays (g.S.Words.memory c.args.store.now) (g.S.Words.memory c.place.new.store) c.args.rma (seen g o) c.requires.queue.post _ c.in_ok-block.block
+    last-stays (g.S.Words.memory c.args.store.now) (g.S.Words.memory c.place.new.store) c.args.module_area
+    (seen g o) c.requires.queue.post _ c.in_ok-block.block
     c.in_ok-to.to _ a.0 a.2
     c.in_ok-block.ensures.answer c.in_ok-block.ensures.placed
 
@@ -88,17 +91,18 @@ pub append-requires-clause-small : goal.append-requires-clause-small
 append-requires-clause-small g c =
     let n = g.S.Words.memory c.place.new.store in
     let w = there g (goal.at.append-requires-clause-small g c).In_ok-block in
-    omega (arith, block_within n c.args.rma c.in_ok-block.block 0 w.0 w.1.1, g.met.S.Words.small c.place.new.store c.args.rma.area.0)
+    omega (arith, block_within n c.args.module_area c.in_ok-block.block 0 w.0 w.1.1, g.met.S.Words.small c.place.new.store c.args.module_area.area.0)
 
 -- ---- the letter, claimed, written and linked
-joined : (g : given.Over) (c : In_ok-block g) (k : Memory) (post : Post) → SpellsPostIn (g.S.Words.memory c.args.store.now) c.args.rma c.args.self.now post
-    → Relinks (g.S.Words.memory c.place.new.store) k c.args.rma (entry_at c.self.inside.entries.items c.in_ok-to.to).last c.in_ok-block.block
-    → Joined (g.S.Words.memory c.args.store.now) (g.S.Words.memory c.place.new.store) k c.args.rma (seen g c) post c.args.letter c.in_ok-to.to
+joined : (g : given.Over) (c : In_ok-block g) (k : Memory) (post : Post) → SpellsPostIn
+    (g.S.Words.memory c.args.store.now) c.args.module_area c.args.self.now post
+    → Relinks (g.S.Words.memory c.place.new.store) k c.args.module_area (entry_at c.self.inside.entries.items c.in_ok-to.to).last c.in_ok-block.block
+    → Joined (g.S.Words.memory c.args.store.now) (g.S.Words.memory c.place.new.store) k c.args.module_area (seen g c) post c.args.letter c.in_ok-to.to
     c.in_ok-block.block
 unfolding seen
 joined g c k post p r =
     let a = asks g c post p in
-    letter-joined (g.S.Words.memory c.args.store.now) (g.S.Words.memory c.place.new.store) k c.args.rma (seen g c) post c.args.letter c.in_ok-to.to
+    letter-joined (g.S.Words.memory c.args.store.now) (g.S.Words.memory c.place.new.store) k c.args.module_area (seen g c) post c.args.letter c.in_ok-to.to
     c.in_ok-block.block
     a.0 a.1 a.2 a.3 c.in_ok-block.ensures.fits c.in_ok-block.ensures.answer c.in_ok-block.ensures.placed r.heap
 
@@ -108,7 +112,7 @@ answer-freed-requires-clause-rows g c =
     let o = (goal.at.answer-freed-requires-clause-rows g c).In_ok-block in
     let j = joined g o (g.S.Words.memory c.append.new.store) c.requires.queue.post c.requires.queue.spells c.append.ensures.heap in (
       rows_of (queued_in c.args.letter (j.plain, c.in_ok-block.block) c.requires.queue.post),
-      subst (λ es. RowsLie (module_heap_in (g.S.Words.memory c.append.new.store) c.args.rma) es
+      subst (λ es. RowsLie (module_heap_in (g.S.Words.memory c.append.new.store) c.args.module_area) es
           (rows_of (queued_in c.args.letter (j.plain, c.in_ok-block.block) c.requires.queue.post))) (sym c.append.ensures.entries) j.spells.rows,
     )
 
@@ -127,7 +131,8 @@ returns-clause-answer g c = λ post p.
     let m = g.S.Words.memory c.args.store.now in
     let a = asks g o post p in
     let j = joined g o (g.S.Words.memory c.append.new.store) post p c.append.ensures.heap in
-    ap Ok a.0.next_ref ∙ sym (ap answer_of (send-granted (module_heap_in m c.args.rma) (seen g o) post m.free c.args.letter (j.plain, c.in_ok-block.block)
+    ap Ok a.0.next_ref ∙ sym (ap answer_of (send-granted (module_heap_in m c.args.module_area) (seen g o) post m.free c.args.letter
+    (j.plain, c.in_ok-block.block)
     j.admitted j.granted))
 
 pub returns-clause-leaves : goal.returns-clause-leaves
@@ -145,22 +150,25 @@ returns-clause-leaves g c = left c.requires.queue (λ post p.
     let j = joined g o n post p c.append.ensures.heap in
     let new : Post = queued_in l (j.plain, b) post in
     let i : ℕ = a.4.0 in
-    let w = owns-longer (module_heap_in m c.args.rma) (module_heap_in n c.args.rma) q post l to b i j.plain j.spells a.2 a.4.1.0 a.4.1.1 in
-    let rows = subst (λ es. RowsLie (module_heap_in n c.args.rma) es (rows_of new)) (sym c.append.ensures.entries) j.spells.rows in
+    let w = owns-longer (module_heap_in m c.args.module_area) (module_heap_in n c.args.module_area) q post l to b i j.plain j.spells a.2 a.4.1.0 a.4.1.1 in
+    let rows = subst (λ es. RowsLie (module_heap_in n c.args.module_area) es (rows_of new)) (sym c.append.ensures.entries) j.spells.rows in
     let settled = c.answer-freed.ensures.settles (rows_of new) i rows w.row w.named in
-    let settled' : Settled n k c.args.rma (longer_chains to b q).entries c.answer-freed.new.entries.items i l.your_ref (held_by l.from post.seats)
+    let settled' : Settled n k c.args.module_area (longer_chains to b q).entries c.answer-freed.new.entries.items i l.your_ref (held_by l.from post.seats)
     c.answer-freed.result =
-    subst (λ es. Settled n k c.args.rma es c.answer-freed.new.entries.items i l.your_ref (held_by l.from post.seats) c.answer-freed.result)
+    subst (λ es. Settled n k c.args.module_area es c.answer-freed.new.entries.items i l.your_ref (held_by l.from post.seats) c.answer-freed.result)
     c.append.ensures.entries
-    (subst (λ x. Settled n k c.args.rma c.append.new.entries.items c.answer-freed.new.entries.items i l.your_ref x c.answer-freed.result) w.held settled) in
-    let done = letter-settled n k c.args.rma q post l to b i c.answer-freed.result j.plain c.answer-freed.new.entries.items j.spells w.entry w.handle
+    (subst (λ x. Settled n k c.args.module_area c.append.new.entries.items c.answer-freed.new.entries.items i l.your_ref x c.answer-freed.result) w.held
+    settled) in
+    let done = letter-settled n k c.args.module_area q post l to b i c.answer-freed.result j.plain c.answer-freed.new.entries.items j.spells w.entry w.handle
     settled' in
-    subst (λ r. ArePostChains (module_heap_in k c.args.rma)
+    subst (λ r. ArePostChains (module_heap_in k c.args.module_area)
     (record { entries = c.answer-freed.new.entries.items; live = q.live + 1 - c.answer-freed.result; next_ref = q.next_ref + 1 }) (left_of post r))
-    (sym (send-granted (module_heap_in m c.args.rma) q post m.free l (j.plain, b) j.admitted j.granted)) done)
+    (sym (send-granted (module_heap_in m c.args.module_area) q post m.free l (j.plain, b) j.admitted j.granted)) done)
     c.answer-freed.ensures.module (let w = there g (goal.at.returns-clause-leaves g c).In_ok-block in
-    OnlyArea-both (g.S.Words.memory c.args.store.now) (g.S.Words.memory c.place.new.store) (g.S.Words.memory c.answer-freed.new.store) c.args.rma.area.0 w.1.0
-    (OnlyArea-both (g.S.Words.memory c.place.new.store) (g.S.Words.memory c.append.new.store) (g.S.Words.memory c.answer-freed.new.store) c.args.rma.area.0
+    OnlyArea-both (g.S.Words.memory c.args.store.now) (g.S.Words.memory c.place.new.store)
+    (g.S.Words.memory c.answer-freed.new.store) c.args.module_area.area.0 w.1.0
+    (OnlyArea-both (g.S.Words.memory c.place.new.store) (g.S.Words.memory c.append.new.store)
+    (g.S.Words.memory c.answer-freed.new.store) c.args.module_area.area.0
     c.append.ensures.heap.only c.answer-freed.ensures.only))
 
 pub returns-clause-handles : goal.returns-clause-handles
@@ -169,5 +177,6 @@ returns-clause-handles g c =
     let k = g.S.Words.memory c.answer-freed.new.store in
     let post = c.requires.queue.post in
     let l = (returns-clause-leaves g c).spells post c.requires.queue.spells in
-    handles-stay (module_heap_in m c.args.rma) (module_heap_in k c.args.rma) c.args.self.now _ post (left_of post (post_send m.free c.args.letter post))
+    handles-stay (module_heap_in m c.args.module_area) (module_heap_in k c.args.module_area) c.args.self.now _ post
+    (left_of post (post_send m.free c.args.letter post))
     c.requires.queue.spells l (post_send-handles m.free c.args.letter post)

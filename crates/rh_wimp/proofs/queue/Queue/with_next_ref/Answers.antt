@@ -3,8 +3,8 @@ use Rattle.rh_wimp.proofs.JoinLaws.{start-spells}
 use Rattle.rh_wimp.proofs.queue.Queue.with_next_ref.Goals as goal
 
 pub returns-clause-starts : goal.returns-clause-starts
-returns-clause-starts c = λ m rma w.
-    let h = module_heap_in m rma in
+returns-clause-starts c = λ m module_area w.
+    let h = module_heap_in m module_area in
     let p : Post = record { seats = []; queued = []; heap = h; next_ref = c.args.next_ref } in
     record {
       area = w;
