@@ -6,7 +6,7 @@ ghost use Rattle.area_tests.specs.declared.twin_heaps.TheConstants.{LENGTH};
 ghost use Rattle.rh_heap.specs.HeapSpans.{IsSpan, heap_in};
 ghost use Rattle.rh_store.specs.Starts.{IsIndex};
 
-use crate::images::Numbers;
+use crate::images::RandomNumbers;
 use crate::same::same;
 use rh_defs::HeapRefusal;
 use rh_heap::{
@@ -129,7 +129,13 @@ impl<S: WordsMut + Drop> Twins<S> {
     }
 
     /// Makes a call that is drawn: a claim, or a release or resize at an address. The block's address is kept.
-    fn draw<R: Abort>(&mut self, rt: &R, numbers: &mut Numbers, kept: &mut usize, address: usize)
+    fn draw<R: Abort>(
+        &mut self,
+        rt: &R,
+        numbers: &mut RandomNumbers,
+        kept: &mut usize,
+        address: usize,
+    )
         requires walked { IsSpan (S.memory self.old.walked) self.old.walked_at }
         requires mapped { IsSpan (S.memory self.old.mapped) self.old.mapped_at }
         requires starts { IsIndex self.old.starts (heap_in (S.memory self.old.mapped) self.old.mapped_at) }
@@ -186,7 +192,7 @@ fn a_map_finds_what_a_walk_finds(rt: HostRuntime) -> Result<(), Fail> {
         mapped_at,
         starts,
     };
-    let mut numbers = Numbers::new();
+    let mut numbers = RandomNumbers::new();
     let mut kept = [0usize; KEPT as usize];
     for _call in 0..CALLS {
         let at = numbers.below(KEPT) as usize;
