@@ -1,7 +1,14 @@
 -- Worked scripts, by computation: what each writes, in full.
 use Rattle.rh_defs.proofs.Common.{◌≡◌, ◌++◌, refl, [], codes, true, false, hex_on_literals}
-use Rattle.rh_defs.specs.Script.{text, has_bad_line}
+use Rattle.std.specs.Prelude.{ℕ, List}
+use Rattle.rh_defs.specs.Files.{FileList}
+use Rattle.rh_defs.specs.Runs.{start}
+use Rattle.rh_defs.specs.Script.{script_text, has_bad_line}
 use Rattle.rh_defs.specs.Script
+
+-- all that a script writes over a fresh desk of so many pages with these files
+abbrev text : List ℕ → ℕ → FileList → List ℕ
+text script pages files = script_text (start pages files) script
 
 -- a block is written and shown
 pub written_block : text (codes "task a 100\nalloc a 0 5\nput a 0 0 68656c6c6f\nblocks a\nshow a 0\n") 64 []

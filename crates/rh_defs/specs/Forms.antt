@@ -31,10 +31,6 @@ is_delta (negsuc n) = nat_lt n greatest
 abbrev pub longest_buffer : ℕ
 longest_buffer = LONGEST_BUFFER
 
--- the size of a receive buffer
-abbrev pub is_buffer : ℕ → Bool
-is_buffer n = nat_le 1 n && nat_le n longest_buffer
-
 -- a byte of a leafname
 abbrev pub is_graphic : ℕ → Bool
 is_graphic b = nat_le 0x21 b && nat_le b 0x7e

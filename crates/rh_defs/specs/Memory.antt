@@ -75,10 +75,6 @@ pages_below area (suc k) = length (unwrap_or (area k) []) / page_size + pages_be
 abbrev pub Ledger : Memory → ℕ → Type 0
 Ledger m limit = m.free + pages_below m.area limit ≡ m.pages
 
--- all areas but one stay
-abbrev pub OthersStay : Memory → Memory → ℕ → Type 0
-OthersStay m n id = (j : ℕ) → j ≢ id → n.area j ≡ m.area j
-
 -- one area's bytes change at most from lo up to hi
 pub record Edited (m n : Memory) (id lo hi : ℕ) : Type 0 where
   pub opened : IsOpen n id

@@ -3,11 +3,9 @@ use Rattle.std.specs.Prelude.{ℕ, Bool, ◌||◌, not, List, [], ◌∷◌, ◌
 use Rattle.std.specs.List.{list_any, filter_map}
 use Rattle.rh_defs.specs.declared.command.Command.{Command}
 use Rattle.rh_defs.specs.declared.fault.LineFault.TheVariants.{TooLong, Unended}
-use Rattle.rh_defs.specs.Files.{FileList}
 use Rattle.rh_defs.specs.Line.{Meaning, line_means, longest_line}
 use Rattle.rh_defs.specs.Desk.{Desk}
 use Rattle.rh_defs.specs.Commands.{step}
-use Rattle.rh_defs.specs.Runs.{start}
 use Rattle.rh_defs.specs.Text.{reply_text, fault_text}
 use Rattle.rh_defs.specs.Line
 use Rattle.rh_defs.specs.Runs
@@ -72,10 +70,6 @@ ended_text d script = lines_text d (ended script)
 -- all that a script writes, from a desk on
 abbrev pub script_text : Desk → List ℕ → List ℕ
 script_text d script = ended_text d script ++ rest_text (unended script)
-
--- all that a script writes over a fresh desk of so many pages with these files
-abbrev pub text : List ℕ → ℕ → FileList → List ℕ
-text script pages files = script_text (start pages files) script
 
 -- whether a complete line is bad
 abbrev pub is_bad : List ℕ → Bool

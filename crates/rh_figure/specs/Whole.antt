@@ -1,8 +1,7 @@
 -- A whole map, whichever page is whose.
 use Rattle.std.specs.Prelude.{◌≡◌, ℕ, Bool, List, [], ◌∷◌, map}
-use Rattle.rh_defs.specs.Files.{FileList}
 use Rattle.rh_figure.specs.Share.{IsShared}
-use Rattle.rh_figure.specs.Map.{Place, Read, Stage, after_read, map_start, map_lines, read_lines, written_lines}
+use Rattle.rh_figure.specs.Map.{Place, Read, Stage, after_read, map_lines, written_lines}
 
 abbrev pub read_of : Stage → Read
 read_of stage = stage.0
@@ -18,7 +17,3 @@ pub record IsMap (marked : Bool) (p : Place) (reads : List Read) (written : List
   pub lines : map read_of stages ≡ reads
   pub shared : AreShared p stages
   pub is : written ≡ written_lines (map_lines marked p stages)
-
--- a text is the map of a script over a fresh desk
-abbrev pub IsMapOf : Bool → List ℕ → ℕ → FileList → List ℕ → Type 0
-IsMapOf marked script pages files written = IsMap marked (map_start pages files) (read_lines script) written

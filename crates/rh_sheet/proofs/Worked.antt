@@ -4,8 +4,8 @@ use Rattle.std.specs.List.{flat_map, range_with_len}
 use Rattle.hex.proofs.OnLiterals.{hex_on_literals}
 use Rattle.rh_defs.specs.Line.{line_means}
 use Rattle.rh_figure.specs.Share.{Owner, AreaOf, SlotOf, Share}
-use Rattle.rh_figure.specs.Map.{Stage}
-use Rattle.rh_sheet.specs.Sheet.{first_walk, sheet_lines}
+use Rattle.rh_figure.specs.Map.{Stage, map_start}
+use Rattle.rh_sheet.specs.Sheet.{sheet_lines}
 use Rattle.rh_sheet.specs.Sheet as sheet
 
 -- lines with their line feeds
@@ -165,7 +165,7 @@ rest_of_sheet =
     ∷ []
 
 pub worked_sheet :
-    sheet_lines false (first_walk 8 []) stages
+    sheet_lines false (record { place = map_start 8 []; shown = 0; last = 0; left = 0; opened = false; notes = [] }) stages
     ≡ text_of (first_step ++ module_part ++ second_step ++ module_part ++ rest_of_sheet)
 unfolding sheet.computing hex_on_literals
 worked_sheet = refl

@@ -14,4 +14,3 @@ pub mod SheetRows
 pub mod SheetSteps
 pub mod Slides
 pub mod Tables
-pub mod WholeSheet

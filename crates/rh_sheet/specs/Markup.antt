@@ -1,5 +1,5 @@
 -- The elements of a sheet: HTML, and SVG inside it.
-use Rattle.std.specs.Prelude.{ℕ, ◌==◌, Bool, if◌then◌else◌, List, [], ◌∷◌, ◌++◌, length, codes}
+use Rattle.std.specs.Prelude.{ℕ, ◌==◌, Bool, if◌then◌else◌, [], ◌∷◌, ◌++◌, length, codes}
 use Rattle.std.specs.List.{flat_map, concat}
 use Rattle.std.specs.Fmt.{decimal}
 use Rattle.rh_figure.specs.Phrases.{Text, where_so}
@@ -57,10 +57,6 @@ box_begin class x y width height = concat (
 -- a rectangle
 abbrev pub box_text : Box → Text
 box_text b = box_begin b.class b.x b.y b.width b.height ++ box_end b.tip
-
--- rectangles, one after the other
-abbrev pub boxes_text : List Box → Text
-boxes_text boxes = flat_map box_text boxes
 
 -- ---- words and lines in a figure
 

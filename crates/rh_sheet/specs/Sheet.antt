@@ -1,12 +1,11 @@
 -- What `draw` writes: one sheet of HTML with a figure of memory after each command of a script.
-use Rattle.std.specs.Prelude.{ℕ, ◌+◌, ◌==◌, nat_lt, ◌&&◌, ◌||◌, not, Bool, true, false, if◌then◌else◌, List, [], ◌∷◌, ◌++◌, length, map, codes, Some, None, Ok, Err}
+use Rattle.std.specs.Prelude.{ℕ, ◌+◌, ◌==◌, nat_lt, ◌&&◌, ◌||◌, not, Bool, true, if◌then◌else◌, List, [], ◌∷◌, ◌++◌, length, map, codes, Some, None, Ok, Err}
 use Rattle.std.specs.List.{concat, flat_map, range_with_len}
 use Rattle.std.specs.Fmt.{decimal}
 use Rattle.rh_defs.specs.declared.command.Command.{Command}
 use Rattle.rh_defs.specs.declared.reply.Reply.{Reply}
 use Rattle.rh_defs.specs.declared.reply.Reply.TheVariants as reply
 use Rattle.rh_defs.specs.declared.fault.LineFault.{LineFault}
-use Rattle.rh_defs.specs.Files.{FileList}
 use Rattle.rh_defs.specs.Line.{words_of}
 use Rattle.rh_defs.specs.Desk.{Desk}
 use Rattle.rh_defs.specs.Commands.{step}
@@ -15,7 +14,7 @@ use Rattle.rh_figure.specs.Share.{Share}
 use Rattle.rh_figure.specs.Scene.{Scene, Before, before_of, marks_of, is_still, scene_of}
 use Rattle.rh_figure.specs.Phrases.{Text, where_so}
 use Rattle.rh_figure.specs.Map
-use Rattle.rh_figure.specs.Map.{Place, Read, Stage, after_read, map_start, is_mark}
+use Rattle.rh_figure.specs.Map.{Place, Read, Stage, after_read, is_mark}
 use Rattle.rh_sheet.specs.declared.sizes.TheConstants.{MOST_STEPS}
 use Rattle.rh_sheet.specs.Markup.{escape, step_link}
 use Rattle.rh_sheet.specs.Fixed.{style_text, signs_text, key_text}
@@ -177,16 +176,6 @@ sheet_end x = open_rest x ++ sheet_foot (steps_begun x) x.left
 abbrev pub sheet_lines : Bool → Walk → List Stage → Text
 sheet_lines marked x [] = sheet_end x
 sheet_lines marked x ((r, s) ∷ rest) = read_text marked s x r ++ sheet_lines marked (behind_read marked s x r) rest
-
--- before the first line
-abbrev pub first_walk : ℕ → FileList → Walk
-first_walk pages files =
-    record { place = map_start pages files; shown = 0; last = 0; left = 0; opened = false; notes = [] }
-
--- all that `draw` writes of the lines of a script with a name, each with the share behind it, over so many pages with
--- these files; of all commands, or of marked ones alone
-abbrev pub sheet_text : Bool → Text → List Stage → ℕ → FileList → Text
-sheet_text marked name stages pages files = sheet_head name pages ++ sheet_lines marked (first_walk pages files) stages
 
 -- opens all that a sheet computes with
 unfoldable pub computing : Unit {0}

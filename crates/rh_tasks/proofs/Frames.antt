@@ -6,7 +6,7 @@ use Rattle.std.proofs.lemmas.Bool.Decides.{nat_tests}
 use Rattle.std.proofs.Math.ListN.{set}
 use Rattle.std.specs.List.{AllByRecursion}
 use Rattle.rh_defs.specs.declared.sizes.TheConstants.{PAGE}
-use Rattle.rh_defs.specs.Memory.{Memory, IsOpen, OthersStay, bytes, open_below}
+use Rattle.rh_defs.specs.Memory.{Memory, IsOpen, bytes, open_below}
 use Rattle.rh_defs.proofs.MemoryLaws.{open_below-same}
 use Rattle.rh_defs.specs.Slot as plain
 use Rattle.rh_defs.specs.Desk.{Task, Made, Scrap, edit_task}
@@ -33,7 +33,7 @@ if_same a b x y h = grind (arith, nat_tests)
 
 -- every other area stays
 pub record Stay (m n : Memory) (id : ℕ) : Type 0 where
-  pub others : OthersStay m n id
+  pub others : (j : ℕ) → j ≢ id → n.area j ≡ m.area j
 
 -- the places behind the first one
 step : {A : Type 0} {y : A} {xs : List A} {i : ℕ} {x : A} → Sits (y ∷ xs) (suc i) x → Sits xs i x
