@@ -2,7 +2,7 @@
 use Rattle.rh_defs.proofs.Common.{◌≡◌, ℕ, zero, suc, ◌+◌, ◌%◌, ◌<◌, ◌≤◌, ◌≢◌, inl, inr, Bool, true, false, List, [], ◌∷◌, ◌++◌, length, leb, eqb, cond, refl}
 use Rattle.rh_defs.proofs.Common.{sym, ap, ◌∙◌, arith, ltb, nat_tests, eqb_tells, Option, Some, None, IfSome, option_map, total, Split, behind, first_at}
 use Rattle.rh_defs.proofs.Common.{Segment, Used, Hole, size_of, IsTidy, with_hole, joined, HasRoom}
-use Rattle.rh_defs.specs.Pieces.{NonePass}
+use Rattle.rh_defs.specs.Inner.NonePassing.{NonePass}
 
 -- ---- tests
 pub cond_true : {A : Type 0} (t : Bool) (x y : A) → t ≡ true → cond t x y ≡ x

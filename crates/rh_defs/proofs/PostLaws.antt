@@ -3,7 +3,7 @@ use Rattle.rh_defs.proofs.Common.{◌≡◌, ℕ, Bool, true, false, cond, eqb, 
 use Rattle.rh_defs.proofs.Common.{◌==◌, Granted, ◌>>=◌, ◌>>◌, left_of, poked, Heap, module_claim, Parcel, is_recorded, parcel_bytes, parcel_size, Seat, Post}
 use Rattle.rh_defs.proofs.Common.{has_seat, with_held, held_by, answers_held, put_down, queued_in, posted, sendable, message_of, post_send, as_returned}
 use Rattle.rh_defs.proofs.Common.{bounced, bounce_held, without_block, first_for, taken_from, post_poll, bounce_all, post_death, Letter}
-use Rattle.rh_defs.specs.Post.{post_handles}
+use Rattle.rh_defs.specs.Inner.PostHandles.{post_handles}
 
 abbrev seat_handles : List Seat → List ℕ
 seat_handles seats = map (λ (s : Seat). s.handle) seats

@@ -7,7 +7,8 @@ use Rattle.rh_defs.proofs.Common.{MovesToTop, size_of, bytes_of, place_after, wi
 use Rattle.rh_defs.proofs.Common.{segment_size, block_room, raised, release_block, release_found, fitted, way_to, way_to_grow, way_beyond, end_for, resize_need}
 use Rattle.rh_defs.proofs.Common.{resized_by, resize_growing}
 use Rattle.std.proofs.lemmas.List.{take_all}
-use Rattle.rh_defs.specs.Blocks.{blank, blanked, bytes_at, SameShape}
+use Rattle.rh_defs.specs.Blocks.{blank, bytes_at, SameShape}
+use Rattle.rh_defs.specs.Inner.BlankedBlocks.{blanked}
 use Rattle.rh_defs.proofs.BlockLaws.{in_front, behind, with_hole-blocks, joined-blocks, placed-puts, release-frees, block_cut}
 use Rattle.rh_defs.proofs.HeapLists.{IsCut, first_at-cuts, cond_true, cond_false, eqb_same, eqb_apart}
 use Rattle.rh_defs.proofs.ShapeLaws.{PutAlike, blank_cut, blank_one, blank-append, blank-joined, blank-with_hole, block-blank, heap_with, hole-blank, len0}

@@ -6,7 +6,8 @@ use Rattle.rh_defs.proofs.Common.{is_hole_for, block_at, is_block_at, placed_blo
 use Rattle.rh_defs.proofs.Common.{claim_growing}
 use Rattle.rh_defs.proofs.Common.{release_block, release_found, module_claim, module_need_pages, BadSize, NoRoom, length-put, poked}
 use Rattle.rh_defs.specs.Heap.{block_size}
-use Rattle.rh_defs.specs.Blocks.{blank, blanked, written_at, SameShape}
+use Rattle.rh_defs.specs.Blocks.{blank, written_at, SameShape}
+use Rattle.rh_defs.specs.Inner.BlankedBlocks.{blanked}
 
 pub len0 : (n : ℕ) → length (zeros n) ≡ n
 len0 n = length-replicate {A = ℕ} n 0

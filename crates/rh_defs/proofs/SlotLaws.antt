@@ -2,7 +2,7 @@
 use Rattle.rh_defs.proofs.Common.{◌≡◌, ℕ, ◌+◌, ◌*◌, ◌<◌, ◌≤◌, ◌≢◌, ◌⊎◌, inl, inr, List, [], ◌∷◌, ◌++◌, length, get_or, refl, sym, ap, subst, ◌∙◌, arith}
 use Rattle.rh_defs.proofs.Common.{cases_eq, ◌==◌, Some, None, part, SameIn, SameOutside, total, Split, first_at, Heap, Spells, Flex, Slot, weight}
 use Rattle.rh_defs.proofs.Common.{flex_weight, flex_start, IsFree, HaveAnchors, anchor_count, word_same, part_same}
-use Rattle.rh_defs.specs.Pieces.{NonePass}
+use Rattle.rh_defs.specs.Inner.NonePassing.{NonePass}
 use Rattle.rh_defs.specs.Slot.{block_of}
 use Rattle.rh_defs.specs.SlotImage.{Lie, Hang, heap_place}
 use Rattle.rh_defs.proofs.BytesLaws.{words_same, parts_same, SameOutside-wider, SameOutside-both}

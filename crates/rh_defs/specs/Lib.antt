@@ -36,3 +36,4 @@ pub mod Named
 pub mod Line
 pub mod Text
 pub mod Script
+pub mod Inner

@@ -1,5 +1,5 @@
 -- The post: messages queued and held, each in a block of the module area's heap.
-use Rattle.std.specs.Prelude.{ℕ, ◌+◌, ◌^◌, Bool, true, false, not, nat_le, ◌==◌, ◌||◌, if◌then◌else◌, List, [], ◌∷◌, ◌++◌, length, map, filter, Option, Some, None, Ok}
+use Rattle.std.specs.Prelude.{ℕ, ◌+◌, ◌^◌, Bool, true, false, not, nat_le, ◌==◌, ◌||◌, if◌then◌else◌, List, [], ◌∷◌, ◌++◌, length, filter, Option, Some, None, Ok}
 use Rattle.std.specs.List.{list_any}
 use Rattle.rh_defs.specs.declared.refusal.Refusal.TheVariants.{NoTask, NoRefs, QueueFull}
 use Rattle.rh_defs.specs.declared.sizes.TheConstants.{MOST_MESSAGES}
@@ -24,10 +24,6 @@ pub record Post : Type 0 where
   pub queued : List Parcel
   pub heap : Heap
   pub next_ref : ℕ
-
--- the live handles in order
-abbrev pub post_handles : Post → List ℕ
-post_handles post = map (λ (s : Seat). s.handle) post.seats
 
 -- at most so many messages are queued and held
 abbrev pub most_messages : ℕ

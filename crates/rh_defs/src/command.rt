@@ -4,7 +4,8 @@ ghost use Rattle.std.specs.Prelude.{◌≡◌, true};
 ghost use Rattle.std.specs.Option.{option_map};
 ghost use Rattle.rh_defs.specs.Forms.{is_delta as is_delta_of};
 ghost use Rattle.rh_defs.specs.Grammar.{Maybe, Ref as RefForm};
-ghost use Rattle.rh_defs.specs.Named.{name_in, names_anchor};
+ghost use Rattle.rh_defs.specs.Named.{name_in};
+ghost use Rattle.rh_defs.specs.Inner.NamedParts.{names_anchor};
 ghost use Rattle.rh_defs.specs.Range.{in_range as in_range_of, is_of};
 
 use crate::bytes::Bytes;

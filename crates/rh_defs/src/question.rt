@@ -2,7 +2,7 @@
 
 ghost use Rattle.std.specs.Prelude.{◌≡◌};
 ghost use Rattle.std.specs.Option.{option_map};
-ghost use Rattle.rh_defs.specs.Named.{name_asked};
+ghost use Rattle.rh_defs.specs.Inner.NamedParts.{name_asked};
 ghost use Rattle.rh_defs.specs.Questions.{each_of};
 ghost use Rattle.rh_defs.specs.Range.{can_be_asked};
 

@@ -12,7 +12,8 @@ use Rattle.std.specs.List.{AllPairs, Contains, list_any}
 use Rattle.std.specs.Result.{IfErr, IsErrAnd, is_err}
 use Rattle.std.specs.Str.{bytes_eq}
 use Rattle.rh_defs.specs.Files.{FileList, has_file}
-use Rattle.rh_desk.specs.FileWords.{AreGood, IsFirstBad, TellsBadFile, file_word, is_file_word, word_name, word_path}
+use Rattle.rh_desk.specs.FileWords.{AreGood, IsFirstBad, TellsBadFile, is_file_word, word_name, word_path}
+use Rattle.rh_desk.specs.Inner.WordOfFile.{file_word}
 use Rattle.rh_desk.specs.Telling.{Tells, lost_file_text, run_fault_text}
 use Rattle.rh_lines.specs.Flow.{Output}
 use Rattle.rh_session.specs.declared.status.RunFault.TheVariants.{NoMemory}

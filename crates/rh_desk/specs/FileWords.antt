@@ -1,5 +1,5 @@
 -- The NAME=PATH words.
-use Rattle.std.specs.Prelude.{◌≡◌, ◌≢◌, ◌⊎◌, ℕ, ◌==◌, ◌&&◌, not, Bool, false, if◌then◌else◌, List, ◌∷◌, ◌++◌, map, length, AllPairs, Contains, Option, Some, None}
+use Rattle.std.specs.Prelude.{◌≡◌, ◌≢◌, ◌⊎◌, ℕ, ◌==◌, ◌&&◌, not, Bool, false, List, ◌∷◌, ◌++◌, map, length, AllPairs, Contains}
 use Rattle.std.specs.List.{AllPass, before_first, after_first}
 use Rattle.rh_defs.specs.Forms.{is_name}
 use Rattle.rh_lines.specs.Flow.{Output}
@@ -18,10 +18,6 @@ word_path word = after_first (λ b. b == 61) word
 -- a name, `=` and a path of at least one byte
 abbrev pub is_file_word : List ℕ → Bool
 is_file_word word = is_name (word_name word) && not (length (word_path word) == 0)
-
--- the name and the path of a word
-abbrev pub file_word : List ℕ → Option (List ℕ × List ℕ)
-file_word word = if is_file_word word then Some (word_name word, word_path word) else None
 
 -- each word is a NAME=PATH word, and no two have one name
 pub record AreGood (words : List (List ℕ)) : Type 0 where

@@ -5,7 +5,8 @@ ghost use Rattle.std.specs.Option.{option_map};
 ghost use Rattle.rh_defs.specs.declared.sizes.TheConstants.{LONGEST_FILE};
 ghost use Rattle.rh_desk.specs.Done.{IsWhole};
 ghost use Rattle.rh_desk.specs.Ending.{exit_status};
-ghost use Rattle.rh_desk.specs.FileWords.{AreGood, IsFirstBad, TellsBadFile, TellsBadWord, file_word, word_name};
+ghost use Rattle.rh_desk.specs.FileWords.{AreGood, IsFirstBad, TellsBadFile, TellsBadWord, word_name};
+ghost use Rattle.rh_desk.specs.Inner.WordOfFile.{file_word};
 ghost use Rattle.rh_desk.specs.Telling.{Tells, lost_file_text, run_fault_text};
 
 use crate::ending::Ending;

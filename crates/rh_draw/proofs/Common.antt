@@ -14,5 +14,5 @@ pub use Rattle.rh_sheet.specs.Frames.{row_y}
 pub use Rattle.rh_sheet.specs.Markup.{escape, escaped_byte}
 pub use Rattle.rh_sheet.specs.SheetRows.{row_text}
 pub use Rattle.rh_sheet.specs.SheetSteps.{remark_byte}
-pub use Rattle.rh_draw.specs.DrawReplies.{behind_feeds}
+pub use Rattle.rh_draw.specs.Inner.DrawReplies.{behind_feeds}
 pub use Rattle.rh_draw.specs.DrawRows.{plot_of}

@@ -1,8 +1,7 @@
 pub mod Boxes
 pub mod DrawArrows
 pub mod DrawCards
-pub mod DrawLetters
 pub mod DrawPieces
-pub mod DrawReplies
 pub mod DrawRows
+pub mod Inner
 pub mod Tints

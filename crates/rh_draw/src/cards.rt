@@ -1,7 +1,8 @@
 //! Cards: what may be too small for its scale, written out.
 
 ghost use Rattle.std.specs.Prelude.{◌≡◌, ◌≤◌, ◌<◌, ◌+◌, length};
-ghost use Rattle.rh_draw.specs.DrawCards.{drawn_card, classes_of_card, kind_of};
+ghost use Rattle.rh_draw.specs.DrawCards.{drawn_card, kind_of};
+ghost use Rattle.rh_draw.specs.Inner.CardClasses.{classes_of_card};
 ghost use Rattle.rh_figure.specs.declared.limits.TheConstants.{MOST_CARDS};
 ghost use Rattle.rh_lines.specs.Flow.{Puts};
 ghost use Rattle.rh_sheet.specs.SheetCards.{card_box, card_line_text, card_text, card_x as x_of_card, high_card_text, high_card_y as y_of_high_card, low_card_text};

@@ -2,7 +2,7 @@
 
 ghost use Rattle.std.specs.Prelude.{◌≡◌, ◌≤◌, ◌-◌, List, ℕ, ◌++◌, codes, length};
 ghost use Rattle.std.specs.List.{flat_map, join_by};
-ghost use Rattle.rh_draw.specs.DrawReplies.{behind_feeds};
+ghost use Rattle.rh_draw.specs.Inner.DrawReplies.{behind_feeds};
 ghost use Rattle.rh_figure.specs.Map.{more_lines};
 ghost use Rattle.rh_figure.specs.Phrases.{cut};
 ghost use Rattle.rh_figure.specs.declared.limits.TheConstants.{MOST_REPLY_LINES, REPLY_COLUMNS};

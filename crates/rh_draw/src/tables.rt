@@ -6,7 +6,7 @@ ghost use Rattle.std.specs.List.{join_by};
 ghost use Rattle.std.specs.Option.{option_map};
 ghost use Rattle.rh_defs.specs.Text.{state_name as state_name_of};
 ghost use Rattle.rh_defs.specs.declared.sizes.TheConstants.{MAX_PAGES};
-ghost use Rattle.rh_draw.specs.DrawLetters.{behind_commas};
+ghost use Rattle.rh_draw.specs.Inner.DrawLetters.{behind_commas};
 ghost use Rattle.rh_figure.specs.Phrases.{and_more};
 ghost use Rattle.rh_lines.specs.Flow.{Puts};
 ghost use Rattle.rh_map.specs.MapMessages.{held_text, mapped_letterbox, message_entry_text, waits_text};

@@ -34,7 +34,7 @@ use Rattle.rh_map.specs.Replies.{excerpt_lines, lines_in, more_behind, rest_line
 use Rattle.rh_map.proofs.SeamLemmas.{whole-reply}
 use Rattle.rh_sight.proofs.Places.{front-none, front-some}
 use Rattle.rh_sight.proofs.SegmentWalks.{length-items}
-use Rattle.rh_drawn.specs.DrawnReplies.{AreSmall, IsSmallTask}
+use Rattle.rh_drawn.specs.Inner.SmallTasks.{AreSmall, IsSmallTask}
 use Rattle.rh_map.specs.Replies.{front_of}
 use Rattle.rh_drawn.proofs.ExcerptLemmas.{AreOpen, OneLine, address-open, decimal-open, first-one, line-one, one-kept, rest-one}
 use Rattle.rh_map.proofs.FrontLemmas.{onto-long}

@@ -54,18 +54,22 @@ pub use Rattle.rh_map.specs.Written.{shown_lines}
 pub use Rattle.rh_sight.proofs.Holders.{at-some}
 pub use Rattle.rh_sight.proofs.Places.{rest-none, rest-some}
 pub use Rattle.rh_sight.specs.SightMessages.{held_on, lies_in, message_items, waiting_on}
-pub use Rattle.rh_sight.specs.SightOwners.{made_holding, slot_holding}
+pub use Rattle.rh_sight.specs.Inner.Holdings.{made_holding, slot_holding}
 pub use Rattle.rh_sight.specs.SightPages.{share_in}
 pub use Rattle.rh_sight.specs.Seen.{SeesBlock, IsTaskSeen, heap_seen, heap_start_of}
 pub use Rattle.rh_sight.specs.Steps.{scene_at}
 pub use Rattle.rh_drawn.specs.Bands.{IsSurvey, band_cards, is_fresh_card, with_items}
-pub use Rattle.rh_drawn.specs.DrawnCards.{card_lines, cards_behind, count_shown, place_behind}
+pub use Rattle.rh_drawn.specs.DrawnCards.{card_lines, count_shown, place_behind}
+pub use Rattle.rh_drawn.specs.Inner.CardsBehind.{cards_behind}
 pub use Rattle.rh_drawn.specs.Deeds.{reply_to}
-pub use Rattle.rh_drawn.specs.DrawnLetters.{has_letters_in, letterboxes_in}
-pub use Rattle.rh_drawn.specs.Marked.{made_pages, marked, marked_all, slot_pages_from}
-pub use Rattle.rh_drawn.specs.Parts.{area_part, block_part, indented, page_part, panel_part, post_part, slide_part, slot_panels, slot_part, takes_part}
+pub use Rattle.rh_drawn.specs.DrawnLetters.{has_letters_in}
+pub use Rattle.rh_drawn.specs.Inner.LettersBehind.{letterboxes_in}
+pub use Rattle.rh_drawn.specs.Inner.Marked.{made_pages, marked, marked_all, slot_pages_from}
+pub use Rattle.rh_drawn.specs.Parts.{area_part, block_part, indented, page_part, panel_part, post_part, slide_part, slot_panels, slot_part}
+pub use Rattle.rh_drawn.specs.Inner.PartsBehind.{takes_part}
 pub use Rattle.rh_drawn.specs.DrawnPlaces.{Drew, TookLine, place_in}
 pub use Rattle.rh_drawn.specs.DrawnReplies.{Excerpts}
-pub use Rattle.rh_drawn.specs.DrawnSides.{comes_alone, goes_out, ins_of, outs_of}
+pub use Rattle.rh_drawn.specs.DrawnSides.{ins_of, outs_of}
+pub use Rattle.rh_drawn.specs.Inner.TransferWays.{comes_alone, goes_out}
 pub use Rattle.rh_drawn.specs.DrawnSlides.{summary_of}
 pub use Rattle.rh_drawn.specs.declared.mapper.Mapper.{Mapper}

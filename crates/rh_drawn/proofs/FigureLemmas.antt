@@ -8,7 +8,8 @@ use Rattle.rh_figure.specs.Changes.{block_changes, page_changes, post_changes, s
 use Rattle.rh_figure.specs.Map.{figure_lines, marked_heading, panel_lines, pool_heading, pool_line}
 use Rattle.rh_figure.specs.Rows.{marks_rows, pool_rows}
 use Rattle.rh_drawn.proofs.MarkLemmas.{map-twice}
-use Rattle.rh_drawn.specs.Parts.{change_part, letter_part, module_part, pool_part, transfer_part}
+use Rattle.rh_drawn.specs.Parts.{letter_part, module_part, pool_part, transfer_part}
+use Rattle.rh_drawn.specs.Inner.PartsBehind.{change_part}
 use Rattle.rh_drawn.proofs.Walks.{indented-append}
 
 -- what has changed

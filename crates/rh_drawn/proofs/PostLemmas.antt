@@ -22,8 +22,10 @@ use Rattle.rh_sight.specs.declared.message_list.Place.{Place}
 use Rattle.rh_sight.specs.declared.message_list.Place.TheVariants.{Held}
 use Rattle.rh_sight.specs.SightMessages.{before_next, items_behind, first_ref, held_ref, is_held_by, seen_item, message_place, waits_for}
 use Rattle.rh_sight.proofs.Posts.{held-is}
-use Rattle.rh_drawn.specs.Bands.{IsItemOf, place_seen}
-use Rattle.rh_drawn.specs.DrawnLetters.{entry_seen, letterbox_in}
+use Rattle.rh_drawn.specs.Bands.{place_seen}
+use Rattle.rh_drawn.specs.Inner.BandItems.{IsItemOf}
+use Rattle.rh_drawn.specs.DrawnLetters.{entry_seen}
+use Rattle.rh_drawn.specs.Inner.LettersBehind.{letterbox_in}
 
 -- ---- what waits for a task
 

@@ -9,7 +9,8 @@ use Rattle.rh_figure.specs.Scene.{Before, before_of, marks_of}
 use Rattle.rh_figure.specs.Map.{command_lines, step_lines}
 use Rattle.rh_figure.proofs.Alike.{marks-alike, scene-alike}
 use Rattle.rh_drawn.specs.Deeds.{IsLikeReply, rest_means}
-use Rattle.rh_drawn.specs.DrawnPlaces.{Broke, BrokeLine, BrokeRest, IsSamePlace, TookRest, shown_step}
+use Rattle.rh_drawn.specs.DrawnPlaces.{Broke, BrokeLine, BrokeRest, TookRest}
+use Rattle.rh_drawn.specs.Inner.StepsShown.{IsSamePlace, shown_step}
 use Rattle.rh_drawn.proofs.MapLemmas.{shared_alike}
 use Rattle.rh_drawn.proofs.ReadLemmas.{same_read}
 use Rattle.rh_drawn.proofs.RunLemmas.{kept_some, rest_bad, same_rest}

@@ -3,8 +3,8 @@ use Rattle.std.specs.Prelude.{◌≡◌, ℕ, ◌+◌, ◌-◌, ◌==◌, ◌&&�
 use Rattle.std.specs.Fmt.{decimal}
 use Rattle.rh_defs.specs.declared.question.SegmentItem.{SegmentItem}
 use Rattle.rh_defs.specs.declared.question.SegmentItem.TheVariants as segment
-use Rattle.rh_defs.specs.Messages.{Parcel, action_of}
-use Rattle.rh_defs.specs.Heap.{Segment, Heap, first_place, place_after}
+use Rattle.rh_defs.specs.Messages.{Parcel}
+use Rattle.rh_defs.specs.Heap.{Segment, Heap, first_place}
 use Rattle.rh_defs.specs.Desk.{Desk, Task, module_start}
 use Rattle.rh_defs.specs.Questions.{segment_items_from}
 use Rattle.rh_figure.specs.Phrases.{Text}
@@ -14,21 +14,11 @@ use Rattle.rh_figure.specs.Layout.{is_fresh_block, is_new_message}
 use Rattle.rh_figure.specs.declared.limits.TheConstants.{MOST_CARDS}
 use Rattle.rh_sight.specs.declared.sight.HeapOf.{HeapOf}
 use Rattle.rh_sight.specs.declared.sight.HeapOf.TheVariants as heap_of
-use Rattle.rh_defs.specs.declared.message.MessageItem.{MessageItem}
 use Rattle.rh_sight.specs.declared.message_list.Place.{Place}
 use Rattle.rh_sight.specs.declared.message_list.Place.TheVariants.{Held, Before, Last}
 use Rattle.rh_sight.specs.Seen.{heap_start_of}
 use Rattle.rh_drawn.specs.declared.heap_cards.Band.{Band}
 use Rattle.rh_drawn.specs.declared.heap_cards.Survey.{Survey}
-
--- a segment begins at the place of a heap that may be there
-pub record HasSegment (h : Option Heap) (place : ℕ) (segment : Segment) : Type 0 where
-  pub heap : Heap
-  pub is : h ≡ Some heap
-  pub below : List Segment
-  pub above : List Segment
-  pub whole : heap.segments ≡ below ++ segment ∷ above
-  pub at : place ≡ place_after below
 
 -- a band is of the task at the place, or of the module area
 abbrev pub IsBandFor : Desk → Band → HeapOf → Type 0
@@ -103,15 +93,6 @@ IsSurvey x b h s =
     (record { count = 0; fresh = None })
 
 -- ---- messages
-
--- a message as it is listed
-pub record IsItemOf (m : MessageItem) (p : Parcel) : Type 0 where
-  pub block : m.block ≡ p.block
-  pub to : m.to ≡ p.to
-  pub from : m.from ≡ p.message.from
-  pub my_ref : m.my_ref ≡ p.message.my_ref
-  pub action : m.action ≡ action_of p.message.body
-  pub code : m.code ≡ p.code
 
 -- where a message stands in its chain
 abbrev pub place_seen : Place → Text

@@ -1,7 +1,7 @@
 -- Cards as they are shown.
-use Rattle.std.specs.Prelude.{ℕ, suc, ◌-◌, nat_le, Bool, if◌then◌else◌, List, [], ◌∷◌, ◌++◌, length, filter, map, take, drop, Option, Some, None}
+use Rattle.std.specs.Prelude.{ℕ, suc, ◌-◌, nat_le, Bool, if◌then◌else◌, List, [], ◌∷◌, map, drop, Option, Some, None}
 use Rattle.rh_figure.specs.Phrases.{Text}
-use Rattle.rh_figure.specs.Cards.{Card, more_card}
+use Rattle.rh_figure.specs.Cards.{Card}
 use Rattle.rh_figure.specs.Map.{card_line}
 use Rattle.rh_figure.specs.declared.limits.TheConstants.{MOST_CARDS}
 
@@ -11,13 +11,6 @@ card_lines cards = map card_line cards
 -- how many of n cards are shown from the first on
 abbrev pub count_shown : ℕ → ℕ
 count_shown n = if nat_le n MOST_CARDS then n else MOST_CARDS - 2
-
--- the first changed card of those behind the first 22, and how many are left out
-abbrev pub cards_behind : List Card → List Card
-cards_behind cards = with_fresh (take 1 (filter (λ (c : Card). c.fresh) (drop (MOST_CARDS - 2) cards)))
-  where
-    with_fresh : List Card → List Card
-    with_fresh fresh = fresh ++ more_card (length cards - (MOST_CARDS - 2) - length fresh) ∷ []
 
 -- how many of those behind them are left out, where a changed one may be shown
 abbrev pub count_left : ℕ → Bool → ℕ

@@ -1,14 +1,12 @@
 -- What a map has done with a line of its script.
-use Rattle.std.specs.Prelude.{◌≡◌, ◌||◌, ◌&&◌, not, Bool, false, List, [], ◌∷◌, ℕ, Option, is_err}
+use Rattle.std.specs.Prelude.{◌≡◌, ◌||◌, Bool, false, List, [], ◌∷◌, ℕ, Option, is_err}
 use Rattle.rh_defs.specs.declared.command.Command.{Command}
-use Rattle.rh_defs.specs.declared.reply.Reply.{Reply}
 use Rattle.rh_defs.specs.Line.{Meaning, line_means}
 use Rattle.rh_defs.specs.Desk.{Desk}
 use Rattle.rh_defs.specs.Order.{IsReordered}
 use Rattle.rh_figure.specs.Share.{Share, IsShared}
 use Rattle.rh_figure.specs.Phrases.{Text}
-use Rattle.rh_figure.specs.Scene.{Before, is_still, marks_of, scene_of}
-use Rattle.rh_figure.specs.Map.{Place, Read, after_read, lines_of_read, place, step_lines, written_lines}
+use Rattle.rh_figure.specs.Map.{Place, Read, after_read, lines_of_read, place, written_lines}
 use Rattle.rh_lines.specs.Flow.{Output, Takes, Breaks}
 use Rattle.rh_drawn.specs.Deeds.{rest_means}
 use Rattle.rh_drawn.specs.declared.mapper.Mapper.{Mapper}
@@ -24,14 +22,6 @@ pub record IsFirst {D : Type 0} (m : Mapper D) (drawn : D) (marked : Bool) : Typ
   pub steps : m.steps ≡ 0
   pub wanted : m.wanted ≡ false
   pub well : m.has_bad_line ≡ false
-
--- two maps stand at one place, whatever they drew a step with
-pub record IsSamePlace {D : Type 0} (m n : Mapper D) : Type 0 where
-  pub drawn_is : n.drawn ≡ m.drawn
-  pub marked_is : n.marked ≡ m.marked
-  pub steps : n.steps ≡ m.steps
-  pub wanted : n.wanted ≡ m.wanted
-  pub bad : n.has_bad_line ≡ m.has_bad_line
 
 -- the second stands where the first does once a line was read, but for the order of messages to different tasks
 pub record Follows {D : Type 0} (desk : D → Desk) (m : Mapper D) (r : Read) (n : Mapper D) : Type 0 where
@@ -69,10 +59,3 @@ TookRest desk m o (b ∷ bs) n p = Drew desk m o (b ∷ bs) (rest_means (b ∷ b
 abbrev pub BrokeRest : {D : Type 0} → (D → Desk) → Mapper D → Output → List ℕ → Output → Type 0
 BrokeRest desk m o [] p = ⊥
 BrokeRest desk m o (b ∷ bs) p = Broke desk m o (b ∷ bs) (rest_means (b ∷ bs)) p
-
--- ---- steps
-
--- the lines of a step, on the desk behind it
-abbrev pub shown_step : Bool → ℕ → Text → Text → Desk → Share → Before → Option Command → Reply → List Text
-shown_step wanted number line reply d s b c r =
-    step_lines (is_still c r && not wanted) number line reply (scene_of d s b (marks_of d b c r))

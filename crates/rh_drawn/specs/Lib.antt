@@ -6,7 +6,7 @@ pub mod DrawnPlaces
 pub mod DrawnReplies
 pub mod DrawnSides
 pub mod DrawnSlides
+pub mod Inner
 pub mod Mapped
-pub mod Marked
 pub mod Parts
 pub mod Returns

@@ -2,12 +2,11 @@
 use Rattle.std.specs.Prelude.{List, [], ◌∷◌, ◌++◌, codes, map, Option}
 use Rattle.std.specs.List.{flat_map}
 use Rattle.rh_defs.specs.Desk.{Task}
-use Rattle.rh_figure.specs.Share.{Holding}
 use Rattle.rh_figure.specs.Phrases.{Text}
 use Rattle.rh_figure.specs.Scene.{Scene}
-use Rattle.rh_figure.specs.Changes.{changes, page_changes, takes_text, block_changes, slides, slide_change, post_changes}
+use Rattle.rh_figure.specs.Changes.{page_changes, block_changes, slides, slide_change, post_changes}
 use Rattle.rh_figure.specs.Figure.{Panel, figure, area_panels, slot_panel, panel_of_module, letterboxes, transfers}
-use Rattle.rh_figure.specs.Map.{heading_line, panel_lines, marked_heading, letterbox_line, transfer_line, under, pool_heading}
+use Rattle.rh_figure.specs.Map.{panel_lines, marked_heading, letterbox_line, transfer_line, under, pool_heading}
 use Rattle.rh_figure.specs.Rows.{pool_rows}
 
 -- lines behind two spaces
@@ -34,11 +33,6 @@ area_part x = panel_part (area_panels x)
 abbrev pub slot_lines : Scene → Task → List Text
 slot_lines x t = panel_lines (marked_heading (slot_panels x) (codes "Slot ") (slot_panel x t)) (slot_panel x t)
 
--- the heading of a slot alone
-abbrev pub slot_heading : Scene → Task → Text
-slot_heading x t =
-    heading_line (marked_heading (slot_panels x) (codes "Slot ") (slot_panel x t)) (slot_panel x t).note
-
 -- all slots
 abbrev pub slot_part : Scene → List Text
 slot_part x = flat_map (slot_lines x) x.desk.tasks
@@ -57,10 +51,6 @@ transfer_part x = under (codes "Transfers") (map transfer_line (transfers x))
 
 -- ---- what has changed
 
--- what an owner has taken
-abbrev pub takes_part : Scene → Holding → List Text
-takes_part x o = indented (takes_text x o)
-
 abbrev pub page_part : Scene → List Text
 page_part x = indented (page_changes x)
 
@@ -72,6 +62,3 @@ slide_part x = indented (slide_change (slides x))
 
 abbrev pub post_part : Scene → List Text
 post_part x = indented (post_changes x)
-
-abbrev pub change_part : Scene → List Text
-change_part x = indented (changes x)

@@ -5,7 +5,8 @@ ghost use Rattle.rh_defs.specs.Desk.{most_made};
 ghost use Rattle.rh_defs.specs.Questions.{Nothing, asked};
 ghost use Rattle.rh_defs.specs.Range.{can_be_asked};
 ghost use Rattle.rh_defs.specs.Text.{answer_text, fault_text, first_line};
-ghost use Rattle.rh_drawn.specs.DrawnReplies.{AreSmall, Excerpts};
+ghost use Rattle.rh_drawn.specs.DrawnReplies.{Excerpts};
+ghost use Rattle.rh_drawn.specs.Inner.SmallTasks.{AreSmall};
 ghost use Rattle.rh_map.specs.Replies.{front_of};
 
 use crate::drawn::Drawn;

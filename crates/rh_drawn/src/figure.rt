@@ -1,7 +1,7 @@
 //! A whole figure.
 
 ghost use Rattle.std.specs.Prelude.{◌≤◌, ◌++◌, ◌∷◌, [], length};
-ghost use Rattle.rh_drawn.specs.Parts.{change_part};
+ghost use Rattle.rh_drawn.specs.Inner.PartsBehind.{change_part};
 ghost use Rattle.rh_figure.specs.Figure.{figure};
 ghost use Rattle.rh_figure.specs.Map.{figure_lines};
 ghost use Rattle.rh_lines.specs.Flow.{Puts};

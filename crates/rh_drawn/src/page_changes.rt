@@ -3,12 +3,13 @@
 ghost use Rattle.std.specs.Prelude.{◌≡◌, map, slice_get, Some};
 ghost use Rattle.std.specs.List.{flat_map, enumerate_from};
 ghost use Rattle.rh_defs.specs.Desk.{Task};
-ghost use Rattle.rh_drawn.specs.Parts.{indented, page_part, takes_part};
+ghost use Rattle.rh_drawn.specs.Parts.{indented, page_part};
+ghost use Rattle.rh_drawn.specs.Inner.PartsBehind.{takes_part};
 ghost use Rattle.rh_figure.specs.Changes.{freed_pages, freed_text};
 ghost use Rattle.rh_figure.specs.Share.{AreaOf, count_of, fixed_holding, holdings};
 ghost use Rattle.rh_lines.specs.Flow.{Puts};
 ghost use Rattle.rh_map.specs.Written.{shown_lines};
-ghost use Rattle.rh_sight.specs.SightOwners.{made_holding, slot_holding};
+ghost use Rattle.rh_sight.specs.Inner.Holdings.{made_holding, slot_holding};
 ghost use Rattle.rh_sight.specs.Seen.{IsTaskSeen, owner_seen};
 ghost use Rattle.rh_sight.specs.Steps.{IsStepOf, scene_at};
 

@@ -3,7 +3,7 @@
 ghost use Rattle.std.specs.Prelude.{◌≡◌, ◌∷◌, [], length, map, replicate};
 ghost use Rattle.std.specs.List.{range_with_len};
 ghost use Rattle.rh_drawn.specs.Parts.{pool_part, slot_panels};
-ghost use Rattle.rh_drawn.specs.Marked.{made_pages, marked, marked_all, slot_pages_from};
+ghost use Rattle.rh_drawn.specs.Inner.Marked.{made_pages, marked, marked_all, slot_pages_from};
 ghost use Rattle.rh_figure.specs.Figure.{owner_of};
 ghost use Rattle.rh_figure.specs.Rows.{page_mark};
 ghost use Rattle.rh_lines.specs.Flow.{Puts};

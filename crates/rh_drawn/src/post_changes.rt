@@ -3,7 +3,8 @@
 ghost use Rattle.std.specs.Prelude.{◌≡◌, ◌==◌, ◌&&◌, filter, map, Some};
 ghost use Rattle.rh_defs.specs.Messages.{Parcel};
 ghost use Rattle.rh_drawn.specs.Parts.{indented, post_part};
-ghost use Rattle.rh_drawn.specs.Returns.{return_lines, returns};
+ghost use Rattle.rh_drawn.specs.Returns.{returns};
+ghost use Rattle.rh_drawn.specs.Inner.ReturnLines.{return_lines};
 ghost use Rattle.rh_figure.specs.Changes.{bytes_sent_text, returns_text, sent_text, taken_text};
 ghost use Rattle.rh_figure.specs.Phrases.{is_returned as is_returned_as};
 ghost use Rattle.rh_figure.specs.Scene.{Before, Marks, scene_of, waiting};

@@ -3,7 +3,8 @@
 ghost use Rattle.std.specs.Prelude.{◌≡◌, ◌<◌, ◌∷◌, [], length, slice_get, Some};
 ghost use Rattle.std.specs.List.{position};
 ghost use Rattle.rh_defs.specs.Desk.{Task, most_tasks};
-ghost use Rattle.rh_drawn.specs.Parts.{slot_heading, slot_lines, slot_panels, slot_part};
+ghost use Rattle.rh_drawn.specs.Parts.{slot_lines, slot_panels, slot_part};
+ghost use Rattle.rh_drawn.specs.Inner.PartsBehind.{slot_heading};
 ghost use Rattle.rh_figure.specs.Figure.{slot_drawing, Panel};
 ghost use Rattle.rh_figure.specs.Map.{drawing_lines};
 ghost use Rattle.rh_figure.specs.Scene.{Scene};

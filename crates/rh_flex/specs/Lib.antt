@@ -1,3 +1,4 @@
+pub mod Inner
 pub mod LentPages
 pub mod LentSlotChecks
 pub mod Slots

@@ -19,7 +19,8 @@ pub struct LentPages<'a> {
 }
 
 impl Words for LentPages<'_> {
-    ghost use Rattle.rh_flex.specs.LentPages.{pages_memory_shown, shown_pages_small_law};
+    ghost use Rattle.rh_flex.specs.LentPages.{pages_memory_shown};
+    ghost use Rattle.rh_flex.specs.Inner.LentPagesLaws.{shown_pages_small_law};
 
     ghost memory = { pages_memory_shown };
 
@@ -44,7 +45,7 @@ impl Words for LentPages<'_> {
 }
 
 impl Paged for LentPages<'_> {
-    ghost use Rattle.rh_flex.specs.LentPages.{shown_whole_law};
+    ghost use Rattle.rh_flex.specs.Inner.LentPagesLaws.{shown_whole_law};
 
     fn rest_of_page(&self, _id: AreaId, at: usize) -> &[u8] {
         part_of(self.bytes, at, PAGE - at % PAGE)

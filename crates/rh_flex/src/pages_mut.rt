@@ -20,7 +20,8 @@ pub struct LentPagesMut<'a> {
 }
 
 impl Words for LentPagesMut<'_> {
-    ghost use Rattle.rh_flex.specs.LentPages.{lent_pages_memory, lent_small_law};
+    ghost use Rattle.rh_flex.specs.LentPages.{lent_pages_memory};
+    ghost use Rattle.rh_flex.specs.Inner.LentPagesLaws.{lent_small_law};
 
     ghost memory = { lent_pages_memory };
 
@@ -69,7 +70,7 @@ impl WordsMut for LentPagesMut<'_> {
 }
 
 impl Paged for LentPagesMut<'_> {
-    ghost use Rattle.rh_flex.specs.LentPages.{lent_whole_law};
+    ghost use Rattle.rh_flex.specs.Inner.LentPagesLaws.{lent_whole_law};
 
     fn rest_of_page(&self, _id: AreaId, at: usize) -> &[u8] {
         part_of(self.bytes, at, PAGE - at % PAGE)
@@ -79,7 +80,7 @@ impl Paged for LentPagesMut<'_> {
 }
 
 impl Pages for LentPagesMut<'_> {
-    ghost use Rattle.rh_flex.specs.LentPages.{lent_ledger_law, lent_within_law, lent_few_law};
+    ghost use Rattle.rh_flex.specs.Inner.LentPagesLaws.{lent_ledger_law, lent_within_law, lent_few_law};
 
     fn grow(&mut self, _id: AreaId, pages: usize) -> Result<(), StoreFault> {
         if self.free_pages() < pages {

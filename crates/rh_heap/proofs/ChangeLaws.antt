@@ -8,7 +8,8 @@ use Rattle.rh_defs.specs.Heap as heap
 use Rattle.rh_defs.specs.declared.heap.HeapRefusal.TheVariants.{NotABlock, BadSize, NoRoom}
 use Rattle.rh_heap.specs.HeapCalls.{LeavesHeap}
 use Rattle.rh_heap.specs.HeapSpans.{OnlySpan}
-use Rattle.rh_heap.specs.HeapWays.{WayOf, SpellsResized, short_by, ShortBy, Changed, NotChanged, Moved}
+use Rattle.rh_heap.specs.HeapWays.{WayOf, SpellsResized, short_by, ShortBy}
+use Rattle.rh_heap.specs.Inner.WayEnds.{Changed, NotChanged, Moved}
 use Rattle.rh_heap.specs.declared.span.resize.Way.TheVariants as way
 use Rattle.rh_heap.proofs.CallLaws.{leaves, refuses}
 use Rattle.rh_heap.proofs.WayLaws.{cut_of, at_cut, from_cut, at_place}

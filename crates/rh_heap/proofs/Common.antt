@@ -24,7 +24,8 @@ pub use Rattle.rh_defs.specs.Heap.{released_at, resized_by, segment_at, segment_
 pub use Rattle.rh_defs.specs.HeapImage.{Spells, Stand}
 pub use Rattle.rh_defs.specs.HeapParts.{Await, HasRoom, HasStretch, LinksTo, last_link}
 pub use Rattle.rh_defs.specs.Memory.{Memory}
-pub use Rattle.rh_defs.specs.Pieces.{NonePass, Split, first_at, is_inside, moved, total, zeros}
+pub use Rattle.rh_defs.specs.Pieces.{Split, first_at, is_inside, moved, total, zeros}
+pub use Rattle.rh_defs.specs.Inner.NonePassing.{NonePass}
 pub use Rattle.rh_defs.specs.declared.heap.HeapFault.TheVariants.{BadLink}
 pub use Rattle.rh_defs.specs.declared.heap.HeapRefusal.{HeapRefusal}
 pub use Rattle.rh_store.specs.Starts.{IsIndex, bit, hole_at, once, used_at}

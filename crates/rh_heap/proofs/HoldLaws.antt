@@ -4,7 +4,7 @@ use Rattle.rh_heap.proofs.Common.{◌∙◌, arith, cases_lt, is_some, ◌&&◌,
 use Rattle.rh_heap.proofs.Common.{size_of, Spells, HasRoom-from_tidy, HasRoom-append, NonePass-append, first_at-none, first_at-found, leb_no, HereIs}
 use Rattle.rh_heap.proofs.Common.{used_here, hole_here, Spot, HasRoom, bit, used_at, IsIndex, USED, LastBit}
 use Rattle.rh_defs.specs.Heap.{is_around, block_around}
-use Rattle.rh_heap.specs.Segments.{Around}
+use Rattle.rh_heap.specs.Inner.SegmentsAround.{Around}
 use Rattle.rh_heap.proofs.WalkLaws.{parts_of}
 use Rattle.rh_heap.proofs.StartLaws.{once_same, used_at-append, used_at-low, HasUnits, units_of, units-append, units-total, UsedHere}
 

@@ -8,7 +8,7 @@ use Rattle.rh_heap.proofs.Common.{bit, once, used_at, hole_at, IsIndex, Became, 
 use Rattle.rh_defs.specs.Heap as heap
 use Rattle.rh_defs.proofs.HeapLists.{HasRoom-join}
 use Rattle.rh_heap.specs.declared.span.resize.Way.TheVariants as way
-use Rattle.rh_heap.specs.HeapStarts.{Noted}
+use Rattle.rh_heap.specs.Inner.StartNotes.{Noted}
 use Rattle.rh_heap.proofs.ReleaseLaws.{released_is}
 use Rattle.rh_heap.proofs.ClaimLaws.{placed_found, placed_none}
 use Rattle.rh_heap.proofs.ResizeLaws.{length-fitted, IntoOf, TopOf, shrunk_is, widened_is}

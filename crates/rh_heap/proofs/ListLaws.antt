@@ -6,7 +6,8 @@ use Rattle.rh_heap.proofs.Common.{total-append, listed, Reached, FoundSegment, a
 use Rattle.std.proofs.lemmas.List.{take-append-le, take_all, append_cancel_left}
 use Rattle.rh_defs.specs.Heap as heap
 use Rattle.rh_defs.proofs.HeapLaws.{link_ahead}
-use Rattle.rh_heap.specs.Listed.{from_cut, HasListed}
+use Rattle.rh_heap.specs.Listed.{from_cut}
+use Rattle.rh_heap.specs.Inner.ListedBefore.{HasListed}
 use Rattle.rh_heap.proofs.WalkLaws.{leads_here, stands}
 use Rattle.rh_heap.specs.declared.layout.Segment.{Segment}
 

@@ -2,7 +2,7 @@
 use Rattle.rh_heap.proofs.Common.{◌≡◌, ◌≢◌, ℕ, zero, suc, ◌+◌, ◌-◌, ◌*◌, ◌/◌, ◌%◌, ◌<◌, ◌≤◌, inl, inr, Bool, true, false, List, [], ◌∷◌, ◌++◌, length, refl}
 use Rattle.rh_heap.proofs.Common.{ap, subst, eqb, arith, cases_eq, cases_lt, total, NonePass, Segment, Used, Hole, IsTidy, size_of, is_block_at, with_hole}
 use Rattle.rh_heap.proofs.Common.{HasRoom, Await, cond_true, cond_false, eqb_same, eqb_apart, HasNone, once, used_at, hole_at}
-use Rattle.rh_heap.specs.HeapStarts.{Noted}
+use Rattle.rh_heap.specs.Inner.StartNotes.{Noted}
 
 pub once_same : (p q : ℕ) → p ≡ q → once p q ≡ 1
 once_same p q e = cond_true (eqb p q) 1 0 (eqb_same p q e)

@@ -5,7 +5,7 @@ use Rattle.rh_heap.proofs.Common.{link_place, closed, StretchBetween, IsStretch,
 use Rattle.rh_defs.proofs.BytesLaws.{word_same}
 use Rattle.rh_defs.proofs.HeapLists.{with_hole-nil, with_hole-used, with_hole-hole, tidy_join}
 use Rattle.rh_defs.proofs.HeapStretch.{SameBut, LinkPlace, absorbed, reaching, holed}
-use Rattle.rh_heap.specs.Stretches.{PutsHole}
+use Rattle.rh_heap.specs.Inner.HolePuts.{PutsHole}
 
 -- ---- writes that keep to the stretch
 pub but_link : {b c : List ℕ} {q : ℕ} → SameOutside b c q (q + 4) → (low edge w : ℕ) → SameBut b c q low edge w

@@ -8,7 +8,8 @@ use Rattle.rh_heap.proofs.Common.{Reached, HereIs, used_here, hole_here, FoundSe
 use Rattle.rh_defs.specs.Pieces.{behind}
 use Rattle.rh_defs.proofs.HeapLaws.{NextHole, next_hole}
 use Rattle.rh_defs.proofs.BytesLaws.{word-part}
-use Rattle.rh_heap.specs.Segments.{Met, Around, NoHole, hole_spot}
+use Rattle.rh_heap.specs.Segments.{Met, NoHole, hole_spot}
+use Rattle.rh_heap.specs.Inner.SegmentsAround.{Around}
 use Rattle.rh_heap.specs.declared.span.segments.Mark.{Mark}
 
 abbrev pub reached_start : (at : ℕ) (h : Heap) → Reached at h 4 16 4 16

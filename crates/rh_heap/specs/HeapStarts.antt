@@ -1,5 +1,5 @@
 -- How the bits of a map of where a heap's segments begin are read and changed.
-use Rattle.std.specs.Prelude.{◌≡◌, ◌≢◌, ℕ, ◌*◌, ◌/◌, ◌<◌, ◌≤◌, List}
+use Rattle.std.specs.Prelude.{◌≡◌, ◌≢◌, ℕ, ◌*◌, ◌/◌, ◌<◌, List}
 use Rattle.rh_defs.specs.declared.sizes.TheConstants.{HEAP_FREE, HEAP_UNIT}
 use Rattle.rh_store.specs.Starts.{bit}
 use Rattle.rh_store.specs.declared.starts.TheConstants.{HOLES}
@@ -20,11 +20,3 @@ pub record LastBit (lane : ℕ) (starts : List ℕ) (n k : ℕ) : Type 0 where
 pub data LinkBelow (starts : List ℕ) (place link : ℕ) : Type 0 where
   no_hole : link ≡ HEAP_FREE → ((j : ℕ) → j < place / HEAP_UNIT → bit HOLES starts j ≡ 0) → LinkBelow starts place link
   a_hole : (k : ℕ) → link ≡ HEAP_UNIT * k → LastBit HOLES starts (place / HEAP_UNIT) k → LinkBelow starts place link
-
--- What bytes from low up to upper that stood open make of the mark v at place p: w, which marks a hole at low where there are such bytes and low is not the base.
-pub record Noted (p low upper base v w : ℕ) : Type 0 where
-  pub begins : p ≡ low → low < upper → low < base → w ≡ 1
-  pub closed : p ≡ low → upper ≤ low → w ≡ 0
-  pub top : p ≡ low → base ≤ low → w ≡ 0
-  pub joins : p ≢ low → p ≡ upper → w ≡ 0
-  pub stays : p ≢ low → p ≢ upper → w ≡ v

@@ -5,6 +5,7 @@ pub mod HeapSpans
 pub mod HeapStarts
 pub mod HeapWays
 pub mod Holes
+pub mod Inner
 pub mod Listed
 pub mod Segments
 pub mod Stretches

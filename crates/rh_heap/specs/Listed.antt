@@ -1,10 +1,9 @@
 -- The segments of a heap from a place on.
-use Rattle.std.specs.Prelude.{◌≡◌, ℕ, List, [], ◌∷◌, ◌++◌, take, Option, Some, None}
+use Rattle.std.specs.Prelude.{ℕ, List, [], ◌∷◌, take, Option, Some, None}
 use Rattle.rh_defs.specs.Pieces.{Split}
 use Rattle.rh_defs.specs.Heap as heap
 use Rattle.rh_defs.specs.Heap.{Heap, segment_at}
 use Rattle.rh_heap.specs.HeapChecks.{listed}
-use Rattle.rh_heap.specs.Segments.{Reached}
 use Rattle.rh_heap.specs.declared.layout.Segment.{Segment}
 use Rattle.rh_defs.specs.declared.sizes.TheConstants.{SEGMENTS_AT_ONCE}
 
@@ -16,10 +15,3 @@ from_cut (Some s) = s.here ∷ s.after
 -- up to 64 segments from the one that begins at a place on
 abbrev pub segments_from : ℕ → Heap → List Segment
 segments_from place h = take SEGMENTS_AT_ONCE (listed place (from_cut (segment_at place h)))
-
--- A walk has come to a place: what it has listed, and the segments from there on, are all of these.
-pub record HasListed (at : ℕ) (h : Heap) (from place : ℕ) (items all : List Segment) : Type 0 where
-  pub link : ℕ
-  pub low : ℕ
-  pub reached : Reached at h link low from place
-  pub all_is : items ++ listed place reached.rest ≡ all

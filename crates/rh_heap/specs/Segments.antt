@@ -45,12 +45,6 @@ pub record Met (at : ℕ) (h : Heap) (spot : Spot) : Type 0 where
   pub size_fits : spot.place + spot.size ≤ base h
   pub least : HEAP_UNIT ≤ spot.size
 
--- the segment round a place
-pub record Around (at : ℕ) (h : Heap) (target : ℕ) (spot : Spot) : Type 0 where
-  pub met : Met at h spot
-  pub from_on : spot.place ≤ target
-  pub up_to : target < spot.place + spot.size
-
 -- the segment at a place
 pub record FoundSegment (at : ℕ) (h : Heap) (target : ℕ) (spot : Spot) : Type 0 where
   pub met : Met at h spot

@@ -1,8 +1,8 @@
 -- Stretches of a heap's bytes that stand open between its segments, and how they become holes.
-use Rattle.std.specs.Prelude.{◌≡◌, ◌≢◌, ℕ, ◌+◌, ◌-◌, ◌%◌, ◌≤◌, true, false, List, ◌∷◌, ◌++◌, length}
+use Rattle.std.specs.Prelude.{◌≡◌, ◌≢◌, ℕ, ◌+◌, ◌-◌, ◌%◌, ◌≤◌, false, List, ◌++◌, length}
 use Rattle.rh_defs.specs.Bytes.{word}
 use Rattle.rh_defs.specs.Pieces.{total}
-use Rattle.rh_defs.specs.Heap.{Segment, Hole, IsTidy, size_of, with_hole}
+use Rattle.rh_defs.specs.Heap.{Segment, IsTidy, size_of, with_hole}
 use Rattle.rh_defs.specs.HeapImage.{Spells}
 use Rattle.rh_defs.specs.HeapParts.{HasStretch}
 use Rattle.rh_heap.specs.declared.span.stretch.Stretch.{Stretch}
@@ -34,8 +34,3 @@ pub record IsStretch (b : List ℕ) (at : ℕ) (stretch : Stretch) : Type 0 wher
 abbrev pub Settles : List ℕ → List ℕ → ℕ → Stretch → Type 0
 Settles b c at stretch = (end : ℕ) (xs ys : List Segment) → StretchBetween b at end xs ys stretch
     → Spells c at (record { segments = xs ++ with_hole (stretch.upper - stretch.low) ys; end = end })
-
--- the same, where no hole follows
-abbrev pub PutsHole : List ℕ → List ℕ → ℕ → Stretch → Type 0
-PutsHole b c at stretch = (end : ℕ) (xs ys : List Segment) → StretchBetween b at end xs ys stretch → IsTidy true ys
-    → Spells c at (record { segments = xs ++ Hole (stretch.upper - stretch.low) ∷ ys; end = end })

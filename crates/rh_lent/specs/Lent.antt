@@ -1,10 +1,8 @@
 -- The memory of lent bytes.
-use Rattle.std.specs.Prelude.{ℕ, ◌≤◌, ◌==◌, cond, Bool, true, false, List, [], length, Some, None, unwrap_or}
-use Rattle.std.proofs.Common.{arith}
-use Rattle.rh_defs.specs.Memory.{Memory, area_set, bytes}
+use Rattle.std.specs.Prelude.{ℕ, List, Some, None}
+use Rattle.rh_defs.specs.Memory.{Memory, area_set}
 use Rattle.rh_lent.specs.declared.lent.Lent.{Lent}
 use Rattle.rh_lent.specs.declared.lent_mut.LentMut.{LentMut}
-use Rattle.rh_store.specs.Limits.{area_limit}
 
 -- one area of these bytes, under the name of the loan
 unfoldable pub memory_over : List ℕ → ℕ → Memory
@@ -17,15 +15,3 @@ lent_memory s = memory_over s.bytes.now s.bytes.ghost_name
 -- the memory of bytes that are lent to be read: no edit needs the loan's name
 unfoldable pub memory_shown : Lent → Memory
 memory_shown s = memory_over s.bytes.now 0
-
-one_small : (b : Bool) (bs : List ℕ) → length bs ≤ area_limit → length (unwrap_or (cond b (Some bs) None) []) ≤ area_limit
-one_small true bs h = h
-one_small false bs h = omega arith
-
-pub lent_heap_small_law : (s : LentMut) (id : ℕ) → length (bytes (lent_memory s) id) ≤ area_limit
-unfolding lent_memory memory_over area_set bytes
-lent_heap_small_law s id = one_small (id == 0) s.bytes.now s.few
-
-pub shown_small_law : (s : Lent) (id : ℕ) → length (bytes (memory_shown s) id) ≤ area_limit
-unfolding memory_shown memory_over area_set bytes
-shown_small_law s id = one_small (id == 0) s.bytes.now s.few

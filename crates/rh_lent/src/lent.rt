@@ -18,7 +18,8 @@ pub struct Lent<'a> {
 }
 
 impl Words for Lent<'_> {
-    ghost use Rattle.rh_lent.specs.Lent.{memory_shown, shown_small_law};
+    ghost use Rattle.rh_lent.specs.Lent.{memory_shown};
+    ghost use Rattle.rh_lent.specs.Inner.LentLaws.{shown_small_law};
 
     ghost memory = { memory_shown };
 

@@ -15,7 +15,8 @@ pub struct LentMut<'a> {
 }
 
 impl Words for LentMut<'_> {
-    ghost use Rattle.rh_lent.specs.Lent.{lent_memory, lent_heap_small_law};
+    ghost use Rattle.rh_lent.specs.Lent.{lent_memory};
+    ghost use Rattle.rh_lent.specs.Inner.LentLaws.{lent_heap_small_law};
 
     ghost memory = { lent_memory };
 

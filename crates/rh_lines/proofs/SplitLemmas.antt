@@ -7,7 +7,8 @@ use Rattle.std.specs.List.{slice_split, onto_first, filter}
 use Rattle.std.specs.Prelude.{slice_index}
 use Rattle.rh_defs.specs.Bytes.{space}
 use Rattle.rh_defs.specs.Line.{words_of}
-use Rattle.rh_lines.specs.Words.{piece_words, first_words}
+use Rattle.rh_lines.specs.Words.{first_words}
+use Rattle.rh_lines.specs.Inner.PieceWords.{piece_words}
 
 -- no element below n passes
 abbrev NoneBelow : (ℕ → Bool) → List ℕ → ℕ → Type 0

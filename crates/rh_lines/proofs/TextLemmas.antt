@@ -7,7 +7,8 @@ use Rattle.std.specs.Prelude.{nat_lt, ◌&&◌}
 use Rattle.std.proofs.lemmas.List.{drop-drop}
 use borrow.Author.Tests.{tests}
 use Rattle.rh_lines.specs.Flow.{Takes, Breaks}
-use Rattle.rh_lines.specs.WholeText.{output_of, before_of, whole_text, Wrote}
+use Rattle.rh_lines.specs.WholeText.{output_of, before_of, whole_text}
+use Rattle.rh_lines.specs.Inner.TextWrites.{Wrote}
 use Rattle.rh_lines.specs.declared.whole_text.WholeText.{WholeText}
 
 -- bytes that were put in place of others leave those behind them

@@ -4,3 +4,4 @@ pub mod Noted
 pub mod Words
 pub mod Readers
 pub mod WholeText
+pub mod Inner

@@ -1,5 +1,5 @@
 -- What a text in lent bytes has been offered.
-use Rattle.std.specs.Prelude.{◌≡◌, ℕ, List, ◌∷◌, ◌++◌, length, take, drop, None, Some, false}
+use Rattle.std.specs.Prelude.{ℕ, List, ◌∷◌, ◌++◌, length, take, drop, None, Some, false}
 use Rattle.std.specs.Borrow.{MutBor}
 use Rattle.rh_lines.specs.Flow.{Output}
 use Rattle.rh_lines.specs.declared.whole_text.WholeText.{WholeText}
@@ -28,9 +28,3 @@ output_of t = record {
   count = None;
   failed = false;
 }
-
--- these bytes were written behind the text, in the same lent bytes
-pub record Wrote (old new : WholeText) (bytes : List ℕ) : Type 0 where
-  pub same_reference : new.bytes.ghost_name ≡ old.bytes.ghost_name
-  pub before : before_of new ≡ before_of old
-  pub text : whole_text new ≡ whole_text old ++ bytes

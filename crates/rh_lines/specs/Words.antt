@@ -1,5 +1,5 @@
 -- The words of a line, as far as a command may read them.
-use Rattle.std.specs.Prelude.{ℕ, List, [], ◌∷◌, length, take, filter, not, ◌==◌}
+use Rattle.std.specs.Prelude.{ℕ, List, take}
 use Rattle.rh_defs.specs.Line.{words_of}
 
 -- no command has more than five words, so that a sixth one is a word too many
@@ -9,7 +9,3 @@ most_words = 6
 -- the words of a line, up to the sixth
 unfoldable pub first_words : List ℕ → List (List ℕ)
 first_words line = take most_words (words_of line)
-
--- the word between two spaces, if there is one
-abbrev pub piece_words : List ℕ → List (List ℕ)
-piece_words piece = filter (λ w. not (length w == 0)) (piece ∷ [])

@@ -4,7 +4,8 @@ ghost use Rattle.std.specs.Prelude.{◌≡◌, ◌<◌, ◌≤◌, ◌++◌, ◌
 ghost use Rattle.rh_defs.specs.Bytes.{space};
 ghost use Rattle.rh_defs.specs.Line.{words_of, nth_word};
 ghost use Rattle.memchr.specs.Find.{IsFirstByte, is_byte};
-ghost use Rattle.rh_lines.specs.Words.{first_words, piece_words};
+ghost use Rattle.rh_lines.specs.Words.{first_words};
+ghost use Rattle.rh_lines.specs.Inner.PieceWords.{piece_words};
 ghost use Rattle.rh_defs.specs.declared.sizes.TheConstants.{LONGEST_LINE};
 
 use arrayvec::ArrayVec;

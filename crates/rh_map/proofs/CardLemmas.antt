@@ -8,7 +8,8 @@ use Rattle.rh_defs.specs.Messages.{code_number}
 use Rattle.rh_defs.specs.Text.{address, action_name}
 use Rattle.rh_figure.specs.Cards.{Card, CardKind, FlexCard, PostCard, between_text, flex_card, message_card}
 use Rattle.rh_figure.specs.Map.{card_line}
-use Rattle.rh_map.specs.MapCards.{IsFrontOf, front_text, texts_line}
+use Rattle.rh_map.specs.MapCards.{IsFrontOf, front_text}
+use Rattle.rh_map.specs.Inner.TextLines.{texts_line}
 use Rattle.hex.specs.Hex.{encode_lower, lower_digits}
 use Rattle.hex.proofs.HexLemmas.{length-encode_with}
 

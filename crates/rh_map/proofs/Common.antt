@@ -13,4 +13,5 @@ pub use Rattle.rh_figure.specs.declared.limits.TheConstants.{MOST_REPLY_LINES}
 pub use Rattle.rh_lines.proofs.FlowLemmas.{puts_stops}
 pub use Rattle.rh_map.specs.MapMessages.{message_entry_text}
 pub use Rattle.rh_map.specs.Replies.{first_lines, lines_in}
-pub use Rattle.rh_map.specs.Written.{Fills, shown_lines}
+pub use Rattle.rh_map.specs.Written.{shown_lines}
+pub use Rattle.rh_map.specs.Inner.Filled.{Fills}

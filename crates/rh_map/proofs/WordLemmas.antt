@@ -3,9 +3,9 @@ use Rattle.rh_map.proofs.Common.{◌≡◌, ℕ, zero, suc, ◌<◌, ◌≤◌, 
 use Rattle.rh_map.proofs.Common.{arith, slice_index, ◌==◌, nat_tests, eqb_apart}
 use Rattle.rh_defs.specs.Bytes.{space}
 use Rattle.rh_defs.specs.Line.{words_of, nth_word}
-use Rattle.rh_lines.specs.Words.{piece_words}
+use Rattle.rh_lines.specs.Inner.PieceWords.{piece_words}
 use Rattle.rh_lines.proofs.SplitLemmas.{words_last, words_next}
-use Rattle.rh_map.specs.MapScript.{BeginsWord}
+use Rattle.rh_map.specs.Inner.MapScript.{BeginsWord}
 
 -- what stands between two spaces is a word, if it isn't empty
 piece-some : (b : ℕ) (bs : List ℕ) → piece_words (b ∷ bs) ≡ (b ∷ bs) ∷ []

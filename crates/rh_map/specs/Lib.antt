@@ -1,7 +1,7 @@
+pub mod Inner
 pub mod MapAreas
 pub mod MapCards
 pub mod MapMessages
-pub mod MapScript
 pub mod MapTasks
 pub mod Replies
 pub mod Sides

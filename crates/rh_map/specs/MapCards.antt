@@ -1,5 +1,5 @@
 -- The lines of cards, by what is read of a block.
-use Rattle.std.specs.Prelude.{◌≡◌, ℕ, ◌==◌, nat_lt, Bool, if◌then◌else◌, List, [], ◌++◌, length, take, codes}
+use Rattle.std.specs.Prelude.{◌≡◌, ℕ, nat_lt, List, [], ◌++◌, length, take, codes}
 use Rattle.std.specs.Fmt.{decimal}
 use Rattle.hex.specs.Hex.{encode_lower}
 use Rattle.rh_figure.specs.Phrases.{Text, where_so}
@@ -21,12 +21,3 @@ front_text size front = encode_lower front ++ where_so (nat_lt CARD_BYTES size) 
 pub record IsFrontOf (size : ℕ) (front bytes : List ℕ) : Type 0 where
   pub whole : length bytes ≡ size
   pub first : take CARD_BYTES bytes ≡ front
-
--- a text behind a comma, if it isn't empty
-abbrev pub behind_comma : Text → Text
-behind_comma t = if length t == 0 then [] else codes ", " ++ t
-
--- a card's three texts, with a star where it has changed
-abbrev pub texts_line : Text → Text → Text → Bool → Text
-texts_line first second third fresh =
-    (if fresh then codes "  * " else codes "    ") ++ first ++ behind_comma second ++ behind_comma third

@@ -1,11 +1,10 @@
 -- What is written of lines and areas.
-use Rattle.std.specs.Prelude.{◌≡◌, ℕ, ◌≤◌, List, [], ◌++◌, length, codes}
+use Rattle.std.specs.Prelude.{ℕ, List, [], ◌++◌, codes}
 use Rattle.std.specs.List.{flat_map}
 use Rattle.rh_figure.specs.Phrases.{Text}
 use Rattle.rh_figure.specs.declared.piece.Piece.{Piece}
 use Rattle.rh_figure.specs.Figure.{Drawing}
 use Rattle.rh_figure.specs.Map.{shown_line}
-use Rattle.rh_figure.specs.declared.limits.TheConstants.{MAP_COLUMNS}
 
 -- lines as they are written, each with its line feed
 abbrev pub shown_lines : List Text → Text
@@ -14,9 +13,3 @@ shown_lines lines = flat_map (λ line. shown_line line ++ codes "\n") lines
 -- an area with these pages and pieces, and no cards
 abbrev pub area_of : ℕ → List ℕ → List Piece → Drawing
 area_of start pages pieces = record { start = start; pages = pages; pieces = pieces; cards = [] }
-
--- a text that is written as far as a line shows it: all of it, or a front that is longer than a line
-pub record Fills (row text : Text) : Type 0 where
-  pub rest : Text
-  pub whole : text ≡ row ++ rest
-  pub full : length row ≤ MAP_COLUMNS → rest ≡ []

@@ -10,7 +10,8 @@ ghost use Rattle.rh_figure.specs.Phrases.{size_text};
 ghost use Rattle.rh_figure.specs.declared.limits.TheConstants.{CARD_BYTES};
 ghost use Rattle.rh_lines.specs.Flow.{Puts};
 ghost use Rattle.rh_lines.specs.declared.row.TheConstants.{ROW};
-ghost use Rattle.rh_map.specs.MapCards.{behind_comma, front_text, texts_line, use_text, IsFrontOf};
+ghost use Rattle.rh_map.specs.MapCards.{front_text, use_text, IsFrontOf};
+ghost use Rattle.rh_map.specs.Inner.TextLines.{behind_comma, texts_line};
 
 use crate::line::put_line;
 use crate::phrases::add_size;

@@ -8,7 +8,7 @@ ghost use Rattle.rh_figure.specs.declared.limits.TheConstants.{MAP_COLUMNS, MOST
 ghost use Rattle.rh_lines.specs.Flow.{Puts};
 ghost use Rattle.rh_lines.specs.declared.row.TheConstants.{ROW};
 ghost use Rattle.rh_map.specs.MapMessages.{held_text, mapped_letterbox, message_entry_text, waits_text};
-ghost use Rattle.rh_map.specs.Written.{Fills};
+ghost use Rattle.rh_map.specs.Inner.Filled.{Fills};
 ghost use Rattle.rh_defs.specs.Post.{most_messages};
 
 use crate::line::put_line;

@@ -6,7 +6,7 @@ ghost use Rattle.rh_figure.specs.Map.{is_mark as is_mark_of, remark_lines, shown
 ghost use Rattle.rh_figure.specs.Phrases.{cut};
 ghost use Rattle.rh_figure.specs.declared.limits.TheConstants.{LINE_COLUMNS};
 ghost use Rattle.rh_lines.specs.Flow.{Puts};
-ghost use Rattle.rh_map.specs.MapScript.{BeginsWord};
+ghost use Rattle.rh_map.specs.Inner.MapScript.{BeginsWord};
 ghost use Rattle.rh_map.specs.Written.{shown_lines};
 
 use crate::line::put_line;

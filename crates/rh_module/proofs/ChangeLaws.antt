@@ -9,7 +9,7 @@ use Rattle.rh_defs.specs.Heap.{base}
 use Rattle.rh_defs.specs.Module.{magnitude, changed_length, whole_pages, module_change}
 use Rattle.rh_defs.specs.declared.refusal.Refusal.TheVariants.{ExcessiveShrink, NoRoom}
 use Rattle.rh_defs.proofs.ModuleLaws.{module_change-low, module_change-short, module_change-done}
-use Rattle.rh_module.specs.Lengths.{shorter}
+use Rattle.rh_module.specs.Inner.Lengths.{shorter}
 
 magnitude_is : (z : ℤ) → nat_abs z ≡ magnitude z
 magnitude_is (pos n) = refl

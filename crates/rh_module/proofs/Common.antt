@@ -16,5 +16,5 @@ pub use Rattle.rh_defs.specs.declared.sizes.TheConstants.{PAGE}
 pub use Rattle.rh_heap.specs.declared.span.Span.{Span}
 pub use Rattle.rh_module.specs.ModuleArea.{IsModule, SpellsModuleIn, module_heap_in}
 pub use Rattle.rh_module.specs.ModuleCalls.{LeavesModule}
-pub use Rattle.rh_module.specs.Lengths.{longer}
+pub use Rattle.rh_module.specs.Inner.Lengths.{longer}
 pub use Rattle.rh_module.specs.declared.module.Module.{Module}

@@ -12,7 +12,7 @@ use Rattle.rh_defs.proofs.MemoryLaws.{IsOpen-grown, length-grown, length-shrunk,
 use Rattle.rh_defs.proofs.HeapCalls.{extend-done, extend-fits, extend-refused}
 use Rattle.rh_defs.proofs.ModuleLaws.{Spells-kept}
 use Rattle.rh_heap.specs.HeapSpans as spans
-use Rattle.rh_module.specs.Lengths.{shorter}
+use Rattle.rh_module.specs.Inner.Lengths.{shorter}
 use Rattle.rh_module.proofs.SpanLaws.{span_of, Begins, is_span, heap_there, old_heap, begins_there}
 use Rattle.rh_store.specs.Limits.{pool_limit}
 

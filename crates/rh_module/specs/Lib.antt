@@ -1,4 +1,4 @@
-pub mod Lengths
+pub mod Inner
 pub mod ModuleArea
 pub mod ModuleCalls
 pub mod Writes

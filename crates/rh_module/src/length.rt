@@ -5,7 +5,7 @@ ghost use Rattle.rh_defs.specs.Heap.{base, empty_heap, free_bytes, largest};
 ghost use Rattle.rh_defs.specs.Module.{module_change};
 ghost use Rattle.rh_module.specs.ModuleArea.{IsModule, SpellsModuleIn, module_heap_in};
 ghost use Rattle.rh_module.specs.ModuleCalls.{LeavesModule};
-ghost use Rattle.rh_module.specs.Lengths.{longer, shorter};
+ghost use Rattle.rh_module.specs.Inner.Lengths.{longer, shorter};
 
 use crate::module::Module;
 use rh_defs::Refusal;

@@ -5,7 +5,7 @@ use Rattle.rh_pages.proofs.Common.{paged_contents}
 use Rattle.std.proofs.Math.Path.{fun_ext}
 use Rattle.rh_defs.specs.Memory.{Ledger}
 use Rattle.rh_defs.proofs.MemoryLaws.{area_set-same, area_set-other, pages_below-set}
-use Rattle.rh_pages.specs.PagedKept.{open_flag}
+use Rattle.rh_pages.specs.Inner.PagedKept.{open_flag}
 
 -- an area by its mark
 pub contents_marked : (r : List ℕ) (lists : List (List ℕ)) (flags : List Bool) (id : ℕ) (b : Bool) → get_or flags id false ≡ b

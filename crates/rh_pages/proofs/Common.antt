@@ -13,8 +13,9 @@ pub use Rattle.rh_defs.specs.Memory.{IsOpen, Memory, area_set}
 unfoldable pub use Rattle.rh_defs.specs.Memory.{bytes, grown, shrunk, with_bytes}
 pub use Rattle.rh_defs.specs.declared.sizes.TheConstants.{MAX_AREAS, PAGE}
 pub use Rattle.rh_store.specs.Shares.{times, times_all}
-pub use Rattle.rh_pages.specs.PagedKept.{length-bytes}
-pub use Rattle.rh_pages.specs.Paged.{free_of, paged_numbered_law, pages_of, region_of, paged_small_law, paged_whole_law}
+pub use Rattle.rh_pages.specs.Inner.PagedKept.{length-bytes}
+pub use Rattle.rh_pages.specs.Paged.{free_of, pages_of, region_of}
+pub use Rattle.rh_pages.specs.Inner.PagedLaws.{paged_numbered_law, paged_small_law, paged_whole_law}
 unfoldable pub use Rattle.rh_pages.specs.Paged.{paged_memory}
 pub use Rattle.rh_pages.specs.Pages.{IsPagedStore, areas_in, paged_bytes, free_in, list_at, paged_memory_in}
 unfoldable pub use Rattle.rh_pages.specs.Pages.{paged_contents}

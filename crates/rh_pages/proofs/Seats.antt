@@ -4,7 +4,7 @@ use Rattle.rh_pages.proofs.Common.{MAX_AREAS, PAGE, part, with_part, IsOpen, byt
 use Rattle.rh_pages.proofs.Common.{paged_memory_in}
 use Rattle.rh_pages.proofs.Common.{IsPagedStore, paged_memory, region_of, pages_of, free_of, paged_numbered_law, LISTS, lists_of}
 use Rattle.rh_defs.specs.declared.sizes.TheConstants.{MAX_PAGES}
-use Rattle.rh_pages.specs.Pages.{spot_in}
+use Rattle.rh_pages.specs.Inner.Spots.{spot_in}
 use Rattle.rh_pages.specs.Paged.{place_of}
 use Rattle.rh_pages.proofs.Spots.{Spot, spot, length_are, page_below, bytes_are}
 use Rattle.rh_pages.proofs.Chunks.{bytes_read}

@@ -3,8 +3,8 @@ use Rattle.rh_pages.proofs.Common.{◌≡◌, ◌≢◌, ℕ, ◌+◌, ◌*◌, 
 use Rattle.rh_pages.proofs.Common.{IsSome, unwrap_or, cases_lt, PAGE, part, with_part, area_set, bytes, with_bytes, length-put, paged_bytes, list_at}
 use Rattle.rh_pages.proofs.Common.{paged_contents}
 use Rattle.rh_pages.proofs.Common.{paged_memory_in, IsPagedStore, times, length-bytes}
-use Rattle.rh_pages.specs.Pages.{spot_in}
-use Rattle.rh_pages.specs.PagedKept.{numbered_paged_areas}
+use Rattle.rh_pages.specs.Inner.Spots.{spot_in}
+use Rattle.rh_pages.specs.Inner.PagedKept.{numbered_paged_areas}
 use Rattle.rh_pages.proofs.Areas.{bytes_open, rewritten, ledger_set, memory_set}
 use Rattle.rh_pages.proofs.Chunks.{bytes_read, bytes_other, bytes_same, stands}
 use Rattle.rh_pages.proofs.Counts.{times_at, times_two}

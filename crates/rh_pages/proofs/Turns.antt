@@ -7,7 +7,7 @@ use Rattle.std.proofs.lemmas.List.{append-nil, take_at}
 use Rattle.rh_defs.proofs.BytesLaws.{part-put}
 use Rattle.rh_defs.proofs.MemoryLaws.{pages_below-one}
 use Rattle.rh_pages.specs.Pages.{page}
-use Rattle.rh_pages.specs.PagedKept.{open_flag, numbered_paged_areas}
+use Rattle.rh_pages.specs.Inner.PagedKept.{open_flag, numbered_paged_areas}
 use Rattle.rh_pages.proofs.Areas.{rewritten, ledger_set, memory_set}
 use Rattle.rh_pages.proofs.Chunks.{bytes_other}
 use Rattle.rh_pages.proofs.Counts.{times-push, one_self, times_all-set, times_at}

@@ -1,5 +1,4 @@
+pub mod Inner
 pub mod Paged
-pub mod PagedKept
 pub mod Pages
-pub mod Sited
 pub mod Table

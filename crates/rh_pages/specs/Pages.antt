@@ -1,5 +1,5 @@
 -- Areas that are made of pages of a region.
-use Rattle.std.specs.Prelude.{◌≡◌, ℕ, ◌+◌, ◌*◌, ◌/◌, ◌%◌, ◌≤◌, if◌then◌else◌, Bool, false, List, [], ◌∷◌, ◌++◌, length, get_or, take, Option, Some, None}
+use Rattle.std.specs.Prelude.{◌≡◌, ℕ, ◌+◌, ◌*◌, ◌≤◌, if◌then◌else◌, Bool, false, List, [], ◌∷◌, ◌++◌, length, get_or, take, Option, Some, None}
 use Rattle.rh_defs.specs.Bytes.{part}
 use Rattle.rh_defs.specs.declared.sizes.TheConstants.{MAX_AREAS, PAGE}
 use Rattle.rh_defs.specs.Memory.{Memory, Ledger}
@@ -32,10 +32,6 @@ paged_contents region lists opened id = if get_or opened id false then Some (pag
 -- the memory that these areas make up
 abbrev pub paged_memory_in : List ℕ → List (List ℕ) → List Bool → List ℕ → ℕ → Memory
 paged_memory_in region lists opened free pages = record { area = paged_contents region lists opened; free = length free; pages = pages; loan = 0 }
-
--- where the byte at an offset of an area stands in the region
-abbrev pub spot_in : List (List ℕ) → ℕ → ℕ → ℕ
-spot_in lists id at = PAGE * get_or (list_at lists id) (at / PAGE) 0 + at % PAGE
 
 -- page lists and a free list that share out the pages of a region
 pub record IsPagedStore (region : List ℕ) (lists : List (List ℕ)) (opened : List Bool) (free : List ℕ) (pages limit : ℕ) : Type 0 where

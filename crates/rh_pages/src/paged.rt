@@ -62,7 +62,7 @@ impl<G: Ground> PagedStore<G> {
     ghost use Rattle.std.specs.Prelude.{◌≡◌, ℕ, ◌+◌, ◌*◌, ◌%◌, ◌<◌, ◌≤◌, length};
     ghost use Rattle.rh_defs.specs.Bytes.{part};
     ghost use Rattle.rh_defs.specs.Memory.{IsOpen, bytes, fresh};
-    ghost use Rattle.rh_pages.specs.Pages.{spot_in};
+    ghost use Rattle.rh_pages.specs.Inner.Spots.{spot_in};
     ghost use Rattle.rh_pages.specs.Paged.{paged_memory, pages_of, place_of};
 
     /// A store of this many pages, at most 1,024, all of them free, on a ground of 4096 bytes for each page and `LISTS`

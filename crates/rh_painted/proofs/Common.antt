@@ -33,10 +33,10 @@ pub use Rattle.rh_drawn.proofs.HeapLemmas.{cards-long, from-first, if-heap}
 pub use Rattle.rh_drawn.proofs.PageLemmas.{owned, owned-few, seen-fixed, seen-slot}
 pub use Rattle.rh_drawn.proofs.Walks.{left_last, puts_none, puts_same}
 pub use Rattle.rh_drawn.specs.Bands.{band_cards}
-pub use Rattle.rh_drawn.specs.DrawnCards.{cards_behind}
+pub use Rattle.rh_drawn.specs.Inner.CardsBehind.{cards_behind}
 pub use Rattle.rh_drawn.specs.Deeds.{reply_to, rest_means}
-pub use Rattle.rh_drawn.specs.DrawnLetters.{letterboxes_in}
-pub use Rattle.rh_drawn.specs.Returns.{return_lines}
+pub use Rattle.rh_drawn.specs.Inner.LettersBehind.{letterboxes_in}
+pub use Rattle.rh_drawn.specs.Inner.ReturnLines.{return_lines}
 pub use Rattle.rh_drawn.specs.DrawnSides.{ins_of, outs_of}
 pub use Rattle.rh_feed.proofs.LineLemmas.{kept_means}
 unfoldable pub use Rattle.rh_feed.specs.Lines.{kept}
@@ -74,13 +74,14 @@ pub use Rattle.rh_sight.specs.Seen.{IsTaskSeen, heap_seen, heap_start_of}
 pub use Rattle.rh_sight.specs.Steps.{scene_at}
 pub use Rattle.rh_sight.specs.declared.walk.Census.{Census}
 pub use Rattle.rh_painted.specs.PaintedBands.{band_text_from, form_text}
-pub use Rattle.rh_painted.specs.Charts.{beat_in, path_in, words_in}
-pub use Rattle.rh_painted.specs.Figures.{IsSlotPlan}
-pub use Rattle.rh_painted.specs.Notes.{code_among}
+pub use Rattle.rh_painted.specs.Inner.Charts.{beat_in, path_in, words_in}
+pub use Rattle.rh_painted.specs.Inner.Figures.{IsSlotPlan}
+pub use Rattle.rh_painted.specs.Inner.Notes.{code_among}
 pub use Rattle.rh_painted.specs.PaintedOwners.{who_seen}
 pub use Rattle.rh_painted.specs.PaintedProgress.{PaintStand}
-pub use Rattle.rh_painted.specs.Transfers.{in_rows, ins_named, out_rows, outs_named}
-pub use Rattle.rh_painted.specs.PaintedWalks.{PaintedLine, TookPaintedLine, happened_at, walk_in}
+pub use Rattle.rh_painted.specs.Inner.Transfers.{in_rows, ins_named, out_rows, outs_named}
+pub use Rattle.rh_painted.specs.PaintedWalks.{PaintedLine, TookPaintedLine, walk_in}
+pub use Rattle.rh_painted.specs.Inner.PaintedSteps.{happened_at}
 pub use Rattle.rh_painted.specs.Ways.{arrow_of, arrows_seen}
 pub use Rattle.rh_painted.specs.declared.painter.Painter.{Painter}
 pub use Rattle.rh_painted.specs.declared.ways.Way.{Way}

@@ -15,8 +15,10 @@ use Rattle.rh_figure.proofs.Alike.{marks-alike, scene-alike}
 use Rattle.rh_sheet.specs.Sheet.{behind_happened, behind_step, command_happened, is_shown, is_shown_remark, opening, shown_step}
 use Rattle.rh_sheet.specs.SheetSteps.{remark_text}
 use Rattle.rh_sheet.specs.declared.sizes.TheConstants.{MOST_STEPS}
-use Rattle.rh_painted.specs.PaintedProgress.{stand_behind, stand_shown}
-use Rattle.rh_painted.specs.PaintedWalks.{BrokePainting, ComesTo, FollowsPainting, TookStep, WroteStep, scene_behind, step_written, walk_at}
+use Rattle.rh_painted.specs.PaintedProgress.{stand_shown}
+use Rattle.rh_painted.specs.Inner.PaintedSteps.{stand_behind}
+use Rattle.rh_painted.specs.PaintedWalks.{BrokePainting, FollowsPainting, walk_at}
+use Rattle.rh_painted.specs.Inner.PaintedSteps.{ComesTo, TookStep, WroteStep, scene_behind, step_written}
 
 -- ---- tests
 

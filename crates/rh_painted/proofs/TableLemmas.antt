@@ -16,11 +16,12 @@ use Rattle.rh_figure.specs.Figure.{Letterbox, Side, has_id, transfers_of}
 use Rattle.rh_figure.specs.Scene.{held_list}
 use Rattle.rh_sheet.specs.Tables.{rows_under}
 use Rattle.rh_sight.specs.SightMessages.{is_held_by, waits_for}
-use Rattle.rh_drawn.specs.DrawnLetters.{has_letters_in, letterbox_in}
-use Rattle.rh_drawn.specs.DrawnSides.{comes_alone, goes_out}
+use Rattle.rh_drawn.specs.DrawnLetters.{has_letters_in}
+use Rattle.rh_drawn.specs.Inner.LettersBehind.{letterbox_in}
+use Rattle.rh_drawn.specs.Inner.TransferWays.{comes_alone, goes_out}
 use Rattle.rh_drawn.proofs.PostLemmas.{held-are, letters-are, waits-are}
 use Rattle.rh_drawn.proofs.TransferLemmas.{are_some, filter-flat, in-id, ins, map-flat, outs}
-use Rattle.rh_painted.specs.Transfers.{alone_among}
+use Rattle.rh_painted.specs.Inner.Transfers.{alone_among}
 use Rattle.rh_painted.proofs.TextWalks.{text-flat}
 
 -- ---- tables

@@ -2,7 +2,7 @@
 use Rattle.rh_painted.proofs.Common.{◌≡◌, ℕ, Bool, true, false, refl, ap, sym, ◌∙◌, List, [], ◌∷◌, ◌++◌, ◌==◌, not, filter, flat_map, inserted, steps_in}
 use Rattle.rh_painted.proofs.Common.{tasks_in, Way, arrows_seen}
 use Rattle.rh_sheet.specs.Chart.{Arrow, ordered}
-use Rattle.rh_painted.specs.Ways.{with_step}
+use Rattle.rh_painted.specs.Inner.WaySteps.{with_step}
 
 -- ---- steps, from the last arrow on
 

@@ -1,10 +1,7 @@
-pub mod Charts
-pub mod Figures
-pub mod Notes
+pub mod Inner
 pub mod Painted
 pub mod PaintedBands
 pub mod PaintedOwners
 pub mod PaintedProgress
 pub mod PaintedWalks
-pub mod Transfers
 pub mod Ways

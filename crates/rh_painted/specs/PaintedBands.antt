@@ -1,5 +1,5 @@
 -- Cards as they are drawn, or read out.
-use Rattle.std.specs.Prelude.{ℕ, ◌≤◌, ◌==◌, ◌++◌, if◌then◌else◌, List, length, codes}
+use Rattle.std.specs.Prelude.{ℕ, ◌≤◌, List}
 use Rattle.std.specs.List.{flat_map, enumerate_from}
 use Rattle.rh_figure.specs.Phrases.{Text}
 use Rattle.rh_figure.specs.Cards.{Card}
@@ -26,8 +26,3 @@ band_text_from form k cards = flat_map (form_text form) (enumerate_from k cards)
 
 abbrev pub band_text : Form → List Card → Text
 band_text form cards = band_text_from form 0 cards
-
--- a text behind a comma where something stands before it
-abbrev pub with_comma : Text → Text → Text
-with_comma before t =
-    if length t == 0 then before else if length before == 0 then t else before ++ (codes ", " ++ t)

@@ -1,5 +1,5 @@
 -- How far a sheet has come.
-use Rattle.std.specs.Prelude.{ℕ, ◌+◌, Bool, true, false, ◌&&◌, not, if◌then◌else◌}
+use Rattle.std.specs.Prelude.{ℕ, ◌+◌, Bool, false, if◌then◌else◌}
 
 -- how many commands are behind it, and whether a mark was seen since; how many are shown, which of those has the last
 -- figure, and how many are left out; and whether the next step was begun
@@ -19,9 +19,3 @@ stand_first = record { steps = 0; wanted = false; shown = 0; last = 0; left = 0;
 abbrev pub stand_shown : Bool → PaintStand → PaintStand
 stand_shown still p =
     record p { shown = p.shown + 1; last = if still then p.last else p.shown + 1; opened = false }
-
--- behind a command that is shown or left out, and that leaves memory as it is or not
-abbrev pub stand_behind : Bool → Bool → PaintStand → PaintStand
-stand_behind true still p =
-    record (stand_shown (still && not p.wanted) p) { steps = p.steps + 1; wanted = false }
-stand_behind false still p = record p { steps = p.steps + 1; wanted = false; left = p.left + 1 }

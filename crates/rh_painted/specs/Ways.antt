@@ -1,10 +1,10 @@
 -- The arrows of a chart by what is kept of them.
-use Rattle.std.specs.Prelude.{ℕ, ◌==◌, if◌then◌else◌, List, [], ◌∷◌, codes, map}
+use Rattle.std.specs.Prelude.{List, [], ◌∷◌, codes, map}
 use Rattle.std.specs.List.{concat}
 use Rattle.std.specs.Fmt.{decimal}
 use Rattle.rh_defs.specs.Text.{action_name}
 use Rattle.rh_figure.specs.Phrases.{Text, where_so}
-use Rattle.rh_sheet.specs.Chart.{Arrow, inserted}
+use Rattle.rh_sheet.specs.Chart.{Arrow}
 use Rattle.rh_painted.specs.declared.ways.Way.{Way}
 
 -- the words of a message, on its way out or back
@@ -18,7 +18,3 @@ arrow_of w = record { start = w.start; stop = w.stop; from = w.from; to = w.to; 
 
 abbrev pub arrows_seen : List Way → List Arrow
 arrows_seen ways = map arrow_of ways
-
--- a step in its place among others, where it is one
-abbrev pub with_step : ℕ → List ℕ → List ℕ
-with_step step steps = if step == 0 then steps else inserted step steps

@@ -6,7 +6,8 @@ ghost use Rattle.rh_figure.specs.Cards.{more_card};
 ghost use Rattle.rh_figure.specs.declared.limits.TheConstants.{MOST_CARDS};
 ghost use Rattle.rh_lines.specs.Flow.{Puts};
 ghost use Rattle.rh_lines.specs.declared.row.TheConstants.{ROW};
-ghost use Rattle.rh_painted.specs.PaintedBands.{IsFit, form_text, with_comma};
+ghost use Rattle.rh_painted.specs.PaintedBands.{IsFit, form_text};
+ghost use Rattle.rh_painted.specs.Inner.BandNames.{with_comma};
 ghost use Rattle.rh_sheet.specs.SheetCards.{card_sentence};
 ghost use Rattle.rh_sheet.specs.Markup.{escape};
 

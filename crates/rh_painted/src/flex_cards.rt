@@ -4,7 +4,7 @@ ghost use Rattle.std.specs.Prelude.{◌≡◌, ◌≤◌, ◌<◌, ◌-◌, ℕ,
 ghost use Rattle.rh_defs.specs.Slot.{anchor_count};
 ghost use Rattle.rh_defs.specs.Desk.{Task};
 ghost use Rattle.rh_defs.specs.Questions.{block_items};
-ghost use Rattle.rh_drawn.specs.DrawnCards.{cards_behind};
+ghost use Rattle.rh_drawn.specs.Inner.CardsBehind.{cards_behind};
 ghost use Rattle.rh_figure.specs.Cards.{Card as FlexCard, flex_cards, shown_cards};
 ghost use Rattle.rh_figure.specs.declared.limits.TheConstants.{MOST_CARDS};
 ghost use Rattle.rh_lines.specs.Flow.{Puts};

@@ -2,7 +2,7 @@
 
 ghost use Rattle.std.specs.Prelude.{◌≡◌, ◌≤◌, length, map};
 ghost use Rattle.std.specs.List.{flat_map};
-ghost use Rattle.rh_drawn.specs.DrawnLetters.{letterboxes_in};
+ghost use Rattle.rh_drawn.specs.Inner.LettersBehind.{letterboxes_in};
 ghost use Rattle.rh_figure.specs.Figure.{letterboxes};
 ghost use Rattle.rh_lines.specs.Flow.{Puts};
 ghost use Rattle.rh_sheet.specs.Tables.{letterbox_row, messages_table};

@@ -1,7 +1,7 @@
 //! What is kept of the last messages, step by step.
 
 ghost use Rattle.std.specs.Prelude.{◌≡◌, ◌≤◌, ◌∷◌, ◌++◌, [], length, map};
-ghost use Rattle.rh_painted.specs.Notes.{code_among};
+ghost use Rattle.rh_painted.specs.Inner.Notes.{code_among};
 ghost use Rattle.rh_figure.specs.Scene.{Before, Marks, scene_of};
 ghost use Rattle.rh_figure.specs.Share.{Share};
 ghost use Rattle.rh_sheet.specs.Chart.{followed as note_after, last_of, note_of, noted};

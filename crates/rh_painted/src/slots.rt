@@ -9,7 +9,7 @@ ghost use Rattle.rh_draw.specs.DrawRows.{plot_of};
 ghost use Rattle.rh_figure.specs.Figure.{slot_note};
 ghost use Rattle.rh_figure.specs.Scene.{Scene};
 ghost use Rattle.rh_lines.specs.Flow.{Puts};
-ghost use Rattle.rh_painted.specs.Figures.{IsSlotPlan};
+ghost use Rattle.rh_painted.specs.Inner.Figures.{IsSlotPlan};
 ghost use Rattle.rh_sheet.specs.SheetAreas.{slot_body, slot_description, slot_figure, slot_lenses, slot_plot, ticks_text};
 ghost use Rattle.rh_sheet.specs.Markup.{escape, heading_text};
 ghost use Rattle.rh_sheet.specs.SheetSteps.{slot_part};

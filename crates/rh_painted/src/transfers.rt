@@ -2,10 +2,11 @@
 
 ghost use Rattle.std.specs.Prelude.{◌≡◌, [], ◌∷◌};
 ghost use Rattle.rh_defs.specs.Questions.{in_item as in_item_of, out_item as out_item_of};
-ghost use Rattle.rh_drawn.specs.DrawnSides.{goes_out, ins_of, outs_of};
+ghost use Rattle.rh_drawn.specs.DrawnSides.{ins_of, outs_of};
+ghost use Rattle.rh_drawn.specs.Inner.TransferWays.{goes_out};
 ghost use Rattle.rh_figure.specs.Figure.{transfers_of};
 ghost use Rattle.rh_lines.specs.Flow.{Puts};
-ghost use Rattle.rh_painted.specs.Transfers.{in_rows, ins_named, out_rows, outs_named};
+ghost use Rattle.rh_painted.specs.Inner.Transfers.{in_rows, ins_named, out_rows, outs_named};
 ghost use Rattle.rh_sheet.specs.Tables.{transfer_row, transfers_table};
 
 use rh_defs::{Incoming, Name, Outgoing};

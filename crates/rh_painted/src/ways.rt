@@ -1,7 +1,8 @@
 //! The arrows of a chart: of each message, and of its way back.
 
 ghost use Rattle.std.specs.Prelude.{◌≡◌, ◌≤◌, ◌<◌, ◌+◌, ◌∷◌, [], length};
-ghost use Rattle.rh_painted.specs.Ways.{arrow_of, arrows_seen, with_step, way_words};
+ghost use Rattle.rh_painted.specs.Ways.{arrow_of, arrows_seen, way_words};
+ghost use Rattle.rh_painted.specs.Inner.WaySteps.{with_step};
 ghost use Rattle.rh_painted.specs.declared.numbers.TheConstants.{MOST_IN_SET};
 ghost use Rattle.rh_painted.specs.declared.ways.TheConstants.{MOST_WAYS};
 ghost use Rattle.rh_sheet.specs.Chart.{arrows, steps_in as steps_of, tasks_in as tasks_of, way_back as arrow_back, way_out as arrow_out};

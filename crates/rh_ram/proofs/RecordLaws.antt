@@ -9,7 +9,7 @@ use Rattle.std.proofs.lemmas.List.Sums.{prefix_len-le-length}
 use Rattle.std.proofs.lemmas.List.Quantifiers.{position-Some}
 use borrow.Author.Tests.{ltb-false, leb-false, le-leb, lt-leb}
 use Rattle.rh_defs.specs.Records.{most_records, is_full, dropped, with_id}
-use Rattle.rh_ram.specs.Rooms.{roomy}
+use Rattle.rh_ram.specs.Inner.Rooms.{roomy}
 
 module _ {A : Type 0} (lasts : A → Bool) where
   -- the first that has ended, where its place is known

@@ -4,7 +4,7 @@ ghost use Rattle.std.specs.Prelude.{◌≡◌, ℕ, Bool, false, not, ◌<◌, O
 ghost use Rattle.std.specs.List.{position};
 ghost use Rattle.arrayvec.specs.ArrayVec.{array_vec_len};
 ghost use Rattle.rh_defs.specs.Records.{out_id, in_id, is_open, is_going, is_full as is_full_of, with_id, is_meant as is_meant_by};
-ghost use Rattle.rh_ram.specs.Rooms.{roomy};
+ghost use Rattle.rh_ram.specs.Inner.Rooms.{roomy};
 
 use arrayvec::ArrayVec;
 use rh_defs::sizes::MOST_RECORDS;

@@ -36,6 +36,7 @@ pub use types.Run.{and_then, blocks, enter, exec, first, fld, lit, no_more, of_o
 pub use Rattle.std.proofs.raw_atomic.Walks.{leaves, proved}
 pub use Rattle.std.specs.declared.alloc.Global.{Global}
 pub use Rattle.core.proofs.slots.Bodies.{after}
-pub use Rattle.rh_region.specs.Ownership.{block_owns, room_of, zeros_at}
+pub use Rattle.rh_region.specs.Ownership.{block_owns}
+pub use Rattle.rh_region.specs.Inner.OwnedRoom.{room_of, zeros_at}
 unfoldable pub use Rattle.rh_region.specs.Zeros.{zeros}
 pub use Rattle.rh_region.specs.declared.raw.Block.{Block}

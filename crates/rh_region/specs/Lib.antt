@@ -1,4 +1,4 @@
-pub mod BlockLends
+pub mod Inner
 pub mod Ownership
 pub mod Patched
 pub mod Region

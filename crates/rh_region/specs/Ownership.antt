@@ -4,21 +4,12 @@ use base.Fraction.{full_share}
 use base.Fml.{Lft, Fml, fsep, flt}
 use denote.Array.{Array}
 use denote.Builtin.{u8}
-use denote.RawPtr.{Ptr, lies_at, room_for}
+use denote.RawPtr.{Ptr, lies_at}
 use denote.Sharing.{said, beside}
 use denote.Struct.Lending.{lent_at}
 use Rattle.core.specs.Allocator.{array_of}
 use Rattle.std.specs.declared.alloc.Global.{Global}
 use Rattle.std.specs.contracts.impls.GlobalAllocator.TheImpl.{ghosts}
-use Rattle.rh_region.specs.Zeros.{zeros}
-
--- room for n bytes at p, whatever it holds
-abbrev pub room_of : Ptr → ℕ → Fml
-room_of p n = room_for (array_of u8 n) p
-
--- n zero bytes at p
-abbrev pub zeros_at : Ptr → ℕ → Fml
-zeros_at p n = lies_at (Array u8 n) full_share p (zeros n)
 
 -- the bytes xs, n in number, at p, and the right to free them; they are fewer than 2 ^ 63
 abbrev pub block_owns : Ptr → ℕ → Global → List ℕ → Fml

@@ -10,7 +10,8 @@
 ghost use Rattle.std.specs.Prelude.{◌≡◌, ℕ, ◌+◌, ◌<◌, ◌≤◌, ◌^◌, List, length, take, drop, IfOk};
 ghost use Rattle.std.specs.Borrow.{sem};
 ghost use Rattle.std.specs.declared.alloc.Global.{Global};
-ghost use Rattle.rh_region.specs.Ownership.{block_owns, block_lent, room_of, zeros_at};
+ghost use Rattle.rh_region.specs.Ownership.{block_owns, block_lent};
+ghost use Rattle.rh_region.specs.Inner.OwnedRoom.{room_of, zeros_at};
 ghost use Rattle.rh_region.specs.Zeros.{zeros};
 
 use std::alloc::{AllocError, Allocator, Global};
@@ -66,7 +67,7 @@ pub(crate) fn free(alloc: &Global, block: Block)
 }
 
 impl Block {
-    ghost use Rattle.rh_region.specs.BlockLends.{block_lends_run};
+    ghost use Rattle.rh_region.specs.Inner.BlockLends.{block_lends_run};
 
     /// All its bytes.
     pub(crate) fn as_slice(&self) -> &[u8]

@@ -3,7 +3,8 @@ use Rattle.std.proofs.Common.{◌≡◌, ℕ, ◌+◌, ◌<◌, Bool, true, fals
 use Rattle.std.specs.Prelude.{◌==◌}
 use Rattle.std.proofs.lemmas.Bool.{ne_eqb}
 use Rattle.std.proofs.lemmas.List.{append-nil}
-use Rattle.rh_defs.specs.Pieces.{NonePass, first_at, total}
+use Rattle.rh_defs.specs.Pieces.{first_at, total}
+use Rattle.rh_defs.specs.Inner.NonePassing.{NonePass}
 use Rattle.rh_defs.specs.Heap.{Heap, Hole, IsTidy, Segment, Used, place_after, segment_at, size_of}
 use Rattle.rh_defs.proofs.HeapLists.{first_at-found, first_at-none}
 use Rattle.rh_heap.specs.Listed.{from_cut}

@@ -5,7 +5,8 @@ use Rattle.rh_defs.specs.Heap.{Segment, Used, Hole, Heap, IsHeap, size_of, hole_
 use Rattle.rh_defs.specs.Slot.{Flex, Slot, weight, slot_length}
 use Rattle.rh_defs.specs.SlotImage.{slot_of}
 use Rattle.rh_heap.specs.HeapChecks.{used_size, summary_of}
-use Rattle.rh_run.specs.CheckedSlot.{AreSlotWords, heap_length}
+use Rattle.rh_run.specs.CheckedSlot.{heap_length}
+use Rattle.rh_run.specs.Inner.SlotWords.{AreSlotWords}
 use Rattle.rh_slot.specs.SlotChecks.{IsSlotImage, flex_size, slot_summary}
 use Rattle.rh_slot.specs.declared.image.SlotSummary.{SlotSummary}
 

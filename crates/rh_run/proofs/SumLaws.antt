@@ -6,7 +6,7 @@ use Rattle.rh_defs.specs.Heap.{Segment, Used, Hole, Heap, IsHeap, IsTidy, size_o
 use Rattle.rh_defs.specs.HeapImage.{IsImage, heap_of}
 use Rattle.rh_heap.specs.declared.image.Summary.{Summary}
 use Rattle.rh_heap.specs.HeapChecks.{used_count, used_size, hole_count, summary_of}
-use Rattle.rh_run.specs.Checked.{HasWordSums}
+use Rattle.rh_run.specs.Inner.WordSums.{HasWordSums}
 
 used_counted : (ss : List Segment) → total used_count ss ≤ total size_of ss
 used_counted [] = omega arith

@@ -17,7 +17,8 @@ use Rattle.rh_defs.specs.Desk.{module_start, Desk, Task, task_at}
 use Rattle.rh_defs.specs.Heap.{Heap, Hole, IsTidy, Segment, Used, block_at, bytes_of, is_block_at, place_after, size_of}
 use Rattle.rh_defs.specs.Laws.{IsDesk}
 use Rattle.rh_defs.specs.Questions.{block_items, block_items_from, segment_items_from}
-use Rattle.rh_defs.specs.Pieces.{NonePass, Split, first_at, total}
+use Rattle.rh_defs.specs.Pieces.{Split, first_at, total}
+use Rattle.rh_defs.specs.Inner.NonePassing.{NonePass}
 use Rattle.rh_defs.specs.Post.{post_is_message}
 use Rattle.rh_defs.specs.Slot.{Flex, Slot, flex_start, heap_start, weight}
 use Rattle.rh_defs.proofs.Cuts.{total-append}

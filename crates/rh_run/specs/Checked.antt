@@ -1,5 +1,5 @@
 -- What is printed of bytes that may be a heap.
-use Rattle.std.specs.Prelude.{ℕ, ◌<◌, ◌^◌, List, [], ◌∷◌, codes, Option, Some, None, is_some}
+use Rattle.std.specs.Prelude.{ℕ, List, [], ◌∷◌, codes, Option, Some, None, is_some}
 use Rattle.std.specs.Fmt.{decimal}
 use Rattle.rh_defs.specs.declared.heap.HeapFault.{HeapFault}
 use Rattle.rh_defs.specs.declared.heap.HeapFault.TheVariants.{BadDescriptor, BadLink, BadSize}
@@ -23,14 +23,6 @@ fault_line fault = line (codes "bad") (fault_name fault ∷ [])
 -- the line of a heap's sums: USED, USEDBYTES, HOLES, HOLEBYTES, TOP
 abbrev pub sums_line : Summary → List ℕ
 sums_line s = ok (decimal s.used ∷ decimal s.used_bytes ∷ decimal s.holes ∷ decimal s.hole_bytes ∷ decimal s.top ∷ [])
-
--- each of a heap's sums is less than 2^32
-pub record HasWordSums (s : Summary) : Type 0 where
-  pub used : s.used < 2 ^ 32
-  pub used_bytes : s.used_bytes < 2 ^ 32
-  pub holes : s.holes < 2 ^ 32
-  pub hole_bytes : s.hole_bytes < 2 ^ 32
-  pub top : s.top < 2 ^ 32
 
 -- the first fault, or else what a heap consists of
 abbrev pub checked_line : Option HeapFault → Summary → List ℕ

@@ -1,5 +1,5 @@
 -- What is printed of bytes that may be a slot.
-use Rattle.std.specs.Prelude.{ℕ, ◌+◌, ◌<◌, ◌^◌, true, List, [], ◌∷◌, ◌++◌, codes, length, Option, Some, None, is_some}
+use Rattle.std.specs.Prelude.{ℕ, ◌+◌, true, List, [], ◌∷◌, ◌++◌, codes, length, Option, Some, None, is_some}
 use Rattle.std.specs.Fmt.{decimal}
 use Rattle.rh_defs.specs.Heap.{first_place}
 use Rattle.rh_defs.specs.SlotImage.{slot_of}
@@ -33,13 +33,6 @@ heap_length s = first_place + s.used_bytes + s.hole_bytes + s.top
 abbrev pub slot_sums_line : SlotSummary → List ℕ
 slot_sums_line s =
     ok (decimal s.blocks ∷ decimal s.bytes ∷ decimal (heap_length s.heap) ∷ decimal s.unused ∷ [])
-
--- each number of that line is less than 2^32
-pub record AreSlotWords (s : SlotSummary) : Type 0 where
-  pub blocks : s.blocks < 2 ^ 32
-  pub bytes : s.bytes < 2 ^ 32
-  pub heap : heap_length s.heap < 2 ^ 32
-  pub unused : s.unused < 2 ^ 32
 
 -- the first fault, or else what a slot consists of
 abbrev pub checked_slot_line : Option SlotFault → SlotSummary → List ℕ

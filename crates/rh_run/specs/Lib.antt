@@ -1,3 +1,4 @@
 pub mod Checked
 pub mod CheckedSlot
+pub mod Inner
 pub mod Safely

@@ -7,7 +7,8 @@ ghost use Rattle.rh_defs.specs.Text.{line};
 ghost use Rattle.rh_defs.specs.declared.sizes.TheConstants.{HEAP_END, HEAP_FIRST};
 ghost use Rattle.rh_lines.specs.Flow.{Breaks, Takes};
 ghost use Rattle.rh_lines.specs.declared.row.TheConstants.{ROW};
-ghost use Rattle.rh_run.specs.Checked.{HasWordSums, image_line, image_status, fault_name, sums_line};
+ghost use Rattle.rh_run.specs.Checked.{image_line, image_status, fault_name, sums_line};
+ghost use Rattle.rh_run.specs.Inner.WordSums.{HasWordSums};
 
 use rh_defs::HeapFault;
 use rh_heap::{Summary, check};

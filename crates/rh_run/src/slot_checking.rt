@@ -2,7 +2,8 @@
 
 ghost use Rattle.std.specs.Prelude.{◌≡◌, ◌<◌, ◌≤◌, ◌^◌, length, IfOk, IfErr};
 ghost use Rattle.rh_lines.specs.Flow.{Breaks, Takes};
-ghost use Rattle.rh_run.specs.CheckedSlot.{AreSlotWords, heap_length, slot_image_line, slot_image_status, slot_fault_name, slot_sums_line};
+ghost use Rattle.rh_run.specs.CheckedSlot.{heap_length, slot_image_line, slot_image_status, slot_fault_name, slot_sums_line};
+ghost use Rattle.rh_run.specs.Inner.SlotWords.{AreSlotWords};
 
 use crate::checking::{add_sum, fault_row};
 use rh_defs::HeapFault;

@@ -12,7 +12,7 @@ use Rattle.rh_defs.specs.Slot.{heap_start}
 use Rattle.rh_defs.specs.Questions.{segment_item, segment_items_from}
 use Rattle.rh_defs.proofs.Cuts.{total-append}
 use Rattle.rh_heap.specs.Listed.{from_cut}
-use Rattle.rh_script.specs.NamedSlots.{item_end}
+use Rattle.rh_script.specs.Inner.SegmentsBehind.{item_end}
 
 -- ---- the segment at a place
 

@@ -1,12 +1,9 @@
 -- What the slot of a named task has, where a desk with no such task has a slot with nothing in it.
-use Rattle.std.specs.Prelude.{ℕ, ◌+◌, true, List, [], Option, Some, None, find}
-use Rattle.rh_defs.specs.declared.question.SegmentItem.{SegmentItem}
-use Rattle.rh_defs.specs.declared.question.SegmentItem.TheVariants as segment
+use Rattle.std.specs.Prelude.{ℕ, true, List, [], Option, Some, None, find}
 use Rattle.rh_defs.specs.Heap.{Heap, empty_heap, first_place}
 use Rattle.rh_defs.specs.Pieces.{Split}
-use Rattle.rh_defs.specs.Slot.{Slot, Flex, heap_start, block_of}
+use Rattle.rh_defs.specs.Slot.{Slot, Flex, block_of}
 use Rattle.rh_defs.specs.Desk.{Desk, Task, has_name}
-use Rattle.rh_defs.specs.Questions.{segment_items_from}
 
 -- the task's slot, or one with no block and an empty C heap
 abbrev pub slot_or_empty : Option Task → Slot
@@ -21,10 +18,6 @@ slot_named name d = slot_or_empty (find (has_name name) d.tasks)
 abbrev pub heap_of_named : List ℕ → Desk → Heap
 heap_of_named name d = (slot_named name d).heap
 
--- the C heap's segments from below
-abbrev pub segments_of_named : List ℕ → Desk → List SegmentItem
-segments_of_named name d = segment_items_from (heap_start + first_place) (heap_of_named name d).segments
-
 -- the bytes of a flex block, none where there is no block
 abbrev pub bytes_of_cut : Option (Split Flex) → List ℕ
 bytes_of_cut None = []
@@ -33,8 +26,3 @@ bytes_of_cut (Some b) = b.here.bytes
 -- the bytes of the slot's flex block at an anchor, none where there is no block
 abbrev pub bytes_of_named : List ℕ → ℕ → Desk → List ℕ
 bytes_of_named name k d = bytes_of_cut (block_of k (slot_named name d))
-
--- the address behind a segment
-abbrev pub item_end : SegmentItem → ℕ
-item_end (segment.Used address size) = address + size
-item_end (segment.Hole address size) = address + size

@@ -8,7 +8,7 @@ ghost use Rattle.rh_defs.specs.declared.sizes.TheConstants.{C_HEAP_START};
 ghost use Rattle.rh_lines.specs.Flow.{Puts};
 ghost use Rattle.rh_lines.specs.declared.row.TheConstants.{ROW};
 ghost use Rattle.rh_script.specs.declared.gathered.TheConstants.{LONGEST_ITEM};
-ghost use Rattle.rh_script.specs.NamedSlots.{item_end, segments_of_named};
+ghost use Rattle.rh_script.specs.Inner.SegmentsBehind.{item_end, segments_of_named};
 
 use crate::gathered::{Item, print_items};
 use crate::read::segments_of;

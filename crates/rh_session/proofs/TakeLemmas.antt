@@ -11,7 +11,7 @@ use Rattle.rh_lines.specs.Flow.{Output, Breaks}
 use Rattle.rh_lines.proofs.FlowLemmas.{breaks_before}
 use Rattle.rh_session.specs.declared.session.Session.{Session}
 use Rattle.rh_session.specs.Session.{State, state_after, text_after, state_of, text_of}
-use Rattle.rh_session.specs.SessionAnswer.{state_after_line}
+use Rattle.rh_session.specs.Inner.SessionStates.{state_after_line}
 use Rattle.rh_session.specs.SessionKept.{IsState}
 use Rattle.rh_session.specs.Holding.{Holds, Gathers}
 use Rattle.rh_feed.specs.Lines.{kept}

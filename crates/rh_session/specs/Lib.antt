@@ -1,4 +1,5 @@
 pub mod Holding
+pub mod Inner
 pub mod Outcome
 pub mod Session
 pub mod SessionAnswer

@@ -1,27 +1,13 @@
 -- What is written for a line.
-use Rattle.std.specs.Prelude.{ℕ, List, [], Option, is_err, ◌||◌, ◌++◌}
-use Rattle.rh_defs.specs.declared.command.Command.{Command}
+use Rattle.std.specs.Prelude.{ℕ, List}
 use Rattle.rh_defs.specs.Desk.{Desk}
-use Rattle.rh_defs.specs.Line.{Meaning}
-use Rattle.rh_defs.specs.Script.{meaning_desk, line_desk, is_bad}
 use Rattle.rh_defs.specs.Questions.{Nothing, asked}
 use Rattle.rh_defs.specs.Text.{answer_text, first_line, fault_text}
 use Rattle.rh_session.specs.declared.answer.Answer.{Answer}
 use Rattle.rh_session.specs.declared.answer.Answer.TheVariants.{Told, Reply, Fault}
-use Rattle.rh_session.specs.Session.{State}
 
 -- the bytes of an answer, on the desk after the line
 abbrev pub answer_bytes : Desk → Answer → List ℕ
 answer_bytes d (Told question) = answer_text (asked d question.now)
 answer_bytes d (Reply reply) = first_line reply.now Nothing
 answer_bytes d (Fault fault) = fault_text fault.now
-
--- the state after a line of this meaning
-abbrev pub state_after_meaning : State → Meaning (Option Command) → State
-state_after_meaning s meaning =
-    record { desk = meaning_desk s.desk meaning; line = s.line; bad = s.bad || is_err meaning }
-
--- the state after the line that ends with these bytes
-abbrev pub state_after_line : State → List ℕ → State
-state_after_line s piece =
-    record { desk = line_desk s.desk (s.line ++ piece); line = []; bad = s.bad || is_bad (s.line ++ piece) }

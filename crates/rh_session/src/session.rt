@@ -6,7 +6,7 @@ ghost use Rattle.rh_defs.specs.Range.{in_range};
 ghost use Rattle.rh_defs.specs.Script.{line_text, meaning_text, rest_text};
 ghost use Rattle.rh_lines.specs.Flow.{Puts};
 ghost use Rattle.rh_lines.specs.Placed.{if_placed, OnFound};
-ghost use Rattle.rh_session.specs.SessionAnswer.{state_after_meaning, state_after_line};
+ghost use Rattle.rh_session.specs.Inner.SessionStates.{state_after_meaning, state_after_line};
 ghost use Rattle.rh_session.specs.Holding.{Gathers};
 ghost use Rattle.rh_session.specs.Outcome.{status_of};
 ghost use Rattle.rh_session.specs.Session.{State, begin, state_of, text_of};

@@ -22,9 +22,11 @@ pub use Rattle.rh_figure.specs.Scene.{Scene}
 pub use Rattle.rh_figure.specs.Share.{Holding, count_of, fixed_holding, holdings}
 pub use Rattle.rh_figure.specs.declared.piece.Piece.{Piece}
 pub use Rattle.rh_sight.specs.SightMessages.{lies_in}
-pub use Rattle.rh_sight.specs.SightOwners.{holdings_of, made_holding, slot_holding}
+pub use Rattle.rh_sight.specs.SightOwners.{holdings_of}
+pub use Rattle.rh_sight.specs.Inner.Holdings.{made_holding, slot_holding}
 pub use Rattle.rh_sight.specs.Seen.{heap_seen, heap_start_of, owner_seen}
 pub use Rattle.rh_sight.specs.Steps.{scene_at}
-pub use Rattle.rh_sight.specs.Walks.{ComesToRest, area_start_of, item_end, item_pieces, item_weight, legend_of}
+pub use Rattle.rh_sight.specs.Walks.{ComesToRest, item_end}
+pub use Rattle.rh_sight.specs.Inner.WalkItems.{area_start_of, item_pieces, item_weight, legend_of}
 pub use Rattle.rh_sight.specs.declared.sight.HeapOf.{HeapOf}
 pub use Rattle.rh_sight.specs.declared.walk.Census.{Census}

@@ -16,7 +16,8 @@ use Rattle.rh_defs.specs.Laws.{Rise}
 use Rattle.rh_figure.specs.Share.{Owner, AreaOf, SlotOf, IsShared, is_owner}
 use Rattle.rh_sight.specs.declared.sight.PagesOf.{PagesOf}
 use Rattle.rh_sight.specs.declared.sight.PagesOf.TheVariants as pages
-use Rattle.rh_sight.specs.SightPages.{pages_among, pages_before, owner_place, share_in}
+use Rattle.rh_sight.specs.SightPages.{pages_among, share_in}
+use Rattle.rh_sight.specs.Inner.OwnerPlaces.{pages_before, owner_place}
 use Rattle.rh_sight.proofs.Places.{total-more}
 
 abbrev pub counted : Holding → ℕ

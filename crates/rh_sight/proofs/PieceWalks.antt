@@ -10,7 +10,7 @@ use Rattle.rh_defs.specs.Questions.{block_items_from}
 use Rattle.rh_figure.specs.declared.piece.Kind.TheVariants.{FlexBlock, MoreSegments}
 use Rattle.rh_figure.specs.Layout.{flex_piece, flex_pieces, is_fresh_flex, segment_piece}
 use Rattle.rh_sight.specs.declared.sight.HeapOf.TheVariants as heap_of
-use Rattle.rh_sight.specs.Walks.{IsInArea}
+use Rattle.rh_sight.specs.Inner.WalkItems.{IsInArea}
 use Rattle.rh_sight.proofs.Heaps.{IsSeen}
 use Rattle.rh_sight.proofs.Holders.{total-take}
 use Rattle.rh_sight.proofs.SegmentWalks.{last-ends, length-items, none-last, pieces-append, take-items}

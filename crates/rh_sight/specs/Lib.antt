@@ -1,3 +1,4 @@
+pub mod Inner
 pub mod Seen
 pub mod SightMessages
 pub mod SightOwners

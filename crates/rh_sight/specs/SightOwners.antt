@@ -1,6 +1,5 @@
 -- Owners of pages, and how many they had.
 use Rattle.std.specs.Prelude.{List, map}
-use Rattle.rh_defs.specs.Desk.{Made, Task, task_pages}
 use Rattle.rh_figure.specs.Share as share
 use Rattle.rh_sight.specs.declared.kept.Owner.{Owner}
 use Rattle.rh_sight.specs.declared.kept.Owner.TheVariants.{Area, Slot}
@@ -15,10 +14,3 @@ holding_of h = (shared_owner h.owner, h.pages)
 
 abbrev pub holdings_of : List Holding → List share.Holding
 holdings_of items = map holding_of items
-
--- a made area and a task's slot with their pages
-abbrev pub made_holding : Made → share.Holding
-made_holding m = (share.AreaOf m.number, m.pages)
-
-abbrev pub slot_holding : Task → share.Holding
-slot_holding t = (share.SlotOf t.handle, task_pages t)

@@ -8,7 +8,8 @@ ghost use Rattle.rh_figure.specs.Changes.{item_with_anchor};
 ghost use Rattle.rh_figure.specs.Scene.{before_of, before_task};
 ghost use Rattle.rh_figure.specs.Share.{count_of, holdings};
 ghost use Rattle.rh_sight.specs.SightMessages.{message_items};
-ghost use Rattle.rh_sight.specs.SightOwners.{holdings_of, made_holding, shared_owner, slot_holding};
+ghost use Rattle.rh_sight.specs.SightOwners.{holdings_of, shared_owner};
+ghost use Rattle.rh_sight.specs.Inner.Holdings.{made_holding, slot_holding};
 ghost use Rattle.rh_sight.specs.Steps.{IsSender};
 
 use crate::message_list::held_ref;

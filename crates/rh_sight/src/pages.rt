@@ -6,7 +6,8 @@ ghost use Rattle.rh_defs.specs.declared.sizes.TheConstants.{FIXED_AREAS};
 ghost use Rattle.rh_defs.specs.Desk.{Made, free_pages as free_pages_on, task_pages};
 ghost use Rattle.rh_defs.specs.Pieces.{total};
 ghost use Rattle.rh_figure.specs.Share.{Holding, IsShared, count_of, fixed_holding, holdings};
-ghost use Rattle.rh_sight.specs.SightPages.{pages_before, share_in};
+ghost use Rattle.rh_sight.specs.SightPages.{share_in};
+ghost use Rattle.rh_sight.specs.Inner.OwnerPlaces.{pages_before};
 ghost use Rattle.rh_sight.specs.Seen.{owner_seen};
 
 use crate::sight::{PagesOf, Sight};

@@ -10,7 +10,7 @@ ghost use Rattle.rh_figure.specs.Layout.{heap_pieces, module_legend, module_piec
 ghost use Rattle.rh_figure.specs.declared.limits.TheConstants.{MOST_SEGMENTS};
 ghost use Rattle.rh_sight.specs.Seen.{IsTaskSeen, heap_seen, heap_start_of};
 ghost use Rattle.rh_sight.specs.Steps.{IsStepOf, scene_at};
-ghost use Rattle.rh_sight.specs.Walks.{area_start_of, IsInArea, item_pieces, item_weight, kind_and_freshness, legend_of};
+ghost use Rattle.rh_sight.specs.Inner.WalkItems.{area_start_of, IsInArea, item_pieces, item_weight, kind_and_freshness, legend_of};
 ghost use Rattle.rh_sight.specs.declared.pieces.TheConstants.{MOST_PIECES};
 
 use crate::freshness::{is_fresh_block, is_fresh_flex, is_new_ref};

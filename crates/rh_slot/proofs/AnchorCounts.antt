@@ -3,7 +3,8 @@ use Rattle.rh_slot.proofs.Common.{◌≡◌, ℕ, zero, suc, ◌+◌, ◌*◌, �
 use Rattle.rh_slot.proofs.Common.{◌||◌, if◌then◌else◌, cases_eq, word, Flex, weight, slot_start, IsFree, HaveAnchors, anchor_count, Hang, flex_in, eqb_same}
 use Rattle.rh_slot.proofs.Common.{eqb_apart, are_hung}
 use Rattle.rh_defs.proofs.HeapFaults.{eq_from}
-use Rattle.rh_slot.specs.SlotChecks.{has_anchor, is_hung, words_in_use}
+use Rattle.rh_slot.specs.SlotChecks.{has_anchor, is_hung}
+use Rattle.rh_slot.specs.Inner.RowChecks.{words_in_use}
 use Rattle.rh_slot.proofs.ImageLaws.{and_left, and_right, and_both, no_anchor, rows}
 
 one_if : Bool → ℕ

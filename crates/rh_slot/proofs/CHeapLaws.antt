@@ -26,7 +26,7 @@ use Rattle.rh_defs.proofs.MemoryLaws.{OnlyArea-self}
 use Rattle.rh_defs.proofs.HeapGrowth.{claim-raised, resize-raised, resize_need-raised, raised-none, claim-granted, resize-granted}
 use Rattle.rh_heap.specs.HeapCalls as heap_calls
 use Rattle.rh_slot.specs.declared.slot.Slot.{Slot}
-use Rattle.rh_slot.specs.CHeap.{after_growth}
+use Rattle.rh_slot.specs.Inner.CHeap.{after_growth}
 use Rattle.rh_slot.proofs.SpanLaws.{span_of, heap_same, slot_now, budging_same}
 use Rattle.rh_slot.proofs.LeaveLaws.{leaves, refuses, then_edited}
 use Rattle.rh_slot.proofs.GrowLaws.{Gives, growth_none, growth_ok, growth_err, placed_there, slot_claim-growth, slot_claim-zero, end-claim_growing, need_ok}

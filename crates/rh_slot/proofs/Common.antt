@@ -39,9 +39,10 @@ pub use Rattle.rh_defs.specs.declared.sizes.TheConstants.{PAGE}
 pub use Rattle.rh_heap.specs.HeapSpans.{heap_in}
 pub use Rattle.rh_heap.specs.declared.span.Span.{Span}
 pub use Rattle.rh_slot.specs.SlotArea.{IsSlotIn, SpellsSlotIn, slot_in}
-pub use Rattle.rh_slot.specs.CHeap.{lengthened}
+pub use Rattle.rh_slot.specs.Inner.CHeap.{lengthened}
 pub use Rattle.rh_slot.specs.SlotCalls.{LeavesSlotIn}
-pub use Rattle.rh_slot.specs.Flex.{FoundFlex, FoundAt}
+pub use Rattle.rh_slot.specs.Inner.FoundBlocks.{FoundFlex, FoundAt}
 unfoldable pub use Rattle.rh_slot.specs.SlotChecks.{are_hung}
-pub use Rattle.rh_slot.specs.Row.{HangsApart, BlockRow, Shifted, Walked, WalksIn, row_item}
+pub use Rattle.rh_slot.specs.Row.{BlockRow, Shifted, WalksIn}
+pub use Rattle.rh_slot.specs.Inner.RowWalks.{HangsApart, Walked, row_item}
 pub use Rattle.rh_slot.specs.declared.image.SlotFault.TheVariants.{BadAnchor, BadSize, SparePage}

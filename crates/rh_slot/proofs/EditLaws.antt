@@ -15,7 +15,7 @@ use Rattle.rh_defs.specs.Slot.{opened_at, taken_out, slot_extend, slot_mid, slot
 use Rattle.rh_defs.proofs.Anchors.{anchors-here}
 use Rattle.rh_defs.proofs.BytesLaws.{parts_same, part_more, part-part, part-drop, part-put, part-put_below, part-put_above}
 use Rattle.rh_defs.proofs.SlotLaws.{Lie-unique}
-use Rattle.rh_slot.specs.Flex.{spliced, splice}
+use Rattle.rh_slot.specs.Inner.FoundBlocks.{spliced, splice}
 use Rattle.rh_slot.proofs.FlexLaws.{rebuilt, above, then_none, then_at, false-true}
 
 -- the slot's length with other bytes in a block

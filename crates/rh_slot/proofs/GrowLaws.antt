@@ -16,7 +16,7 @@ use Rattle.rh_defs.proofs.SlotImageLaws.{SlotWords-kept}
 use Rattle.rh_heap.specs.HeapSpans.{IsSpan, OnlySpan}
 use Rattle.rh_heap.proofs.SpanLaws.{is_span, heap_now}
 use Rattle.rh_slot.specs.declared.slot.Slot.{Slot}
-use Rattle.rh_slot.specs.CHeap.{after_growth}
+use Rattle.rh_slot.specs.Inner.CHeap.{after_growth}
 use Rattle.rh_slot.proofs.SpanLaws.{span_of, heap_same, slot_now}
 
 -- ---- the flex blocks slide up

@@ -7,7 +7,8 @@ use Rattle.rh_defs.specs.HeapImage.{IsImage, heap_of}
 use Rattle.rh_defs.proofs.HeapFaults.{image_clean}
 use Rattle.rh_heap.specs.HeapChecks.{summary_of}
 use Rattle.rh_heap.specs.declared.image.Summary.{Summary}
-use Rattle.rh_slot.specs.SlotChecks.{IsSlotImage, IsRow, flex_size, has_slot_length, heap_bytes, words_in_use, slot_fault_of, slot_summary}
+use Rattle.rh_slot.specs.SlotChecks.{IsSlotImage, flex_size, has_slot_length, heap_bytes, slot_fault_of, slot_summary}
+use Rattle.rh_slot.specs.Inner.RowChecks.{IsRow, words_in_use}
 use Rattle.rh_slot.specs.declared.image.BlockSums.{BlockSums}
 use Rattle.rh_slot.specs.declared.image.SlotSummary.{SlotSummary}
 use Rattle.rh_slot.proofs.ImageLaws.{block_at, after, flex_in-yes, flex_in-no, weight-block_at, Length, length_from, read, blocks_from, long, heap_is}

@@ -3,7 +3,7 @@ use Rattle.rh_slot.proofs.Common.{◌≡◌, ℕ, ◌+◌, ◌-◌, ◌/◌, ◌
 use Rattle.rh_slot.proofs.Common.{slot_start, SlotWords, heap_place, is_block, BlockItem, length-part, Walked, row_item}
 use Rattle.rh_defs.proofs.BytesLaws.{word-part}
 use Rattle.rh_defs.proofs.SlotImageLaws.{is_block-yes, is_block-is}
-use Rattle.rh_slot.specs.Row.{Headed}
+use Rattle.rh_slot.specs.Inner.RowWalks.{Headed}
 use Rattle.rh_slot.proofs.WalkLaws.{Turn, turn}
 
 -- the first page has all anchor words

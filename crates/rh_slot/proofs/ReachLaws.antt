@@ -6,7 +6,8 @@ use Rattle.rh_slot.proofs.Common.{Segment, Used, Hole, Heap, size_of, bytes_of, 
 use Rattle.rh_slot.proofs.Common.{heap_block_at, with_block_bytes, HaveAnchors, heap_start, SpellsSlot, flex_place, heap_place, word_same, put_outside}
 use Rattle.rh_slot.proofs.Common.{length-put}
 use Rattle.rh_slot.proofs.Common.{length-part, IsCut, first_at-cuts, SpellsSlot-with_heap, in_below, in_above, wider, HaveAnchors-cut}
-use Rattle.rh_defs.specs.Pieces.{first_at, with_here, is_inside, NonePass}
+use Rattle.rh_defs.specs.Pieces.{first_at, with_here, is_inside}
+use Rattle.rh_defs.specs.Inner.NonePassing.{NonePass}
 use Rattle.rh_defs.specs.Heap.{IsTidy, is_around, block_around}
 use Rattle.rh_defs.specs.HeapParts.{HasRoom, last_link}
 use Rattle.rh_defs.specs.Places.{with_heap_bytes, roomy_in, buffer_at, written_in, written_around, written_heap}

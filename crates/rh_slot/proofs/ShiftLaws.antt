@@ -7,7 +7,8 @@ use Rattle.rh_defs.specs.Bytes.{put_word}
 use Rattle.rh_defs.proofs.BytesLaws.{length-put_word, put_above, put_inside, put-part, put_word_outside, word-part, word-put_above, word-put_inside}
 use Rattle.rh_defs.proofs.BytesLaws.{word-put_word}
 use Rattle.rh_defs.proofs.SlotLaws.{Lie-carried, Lie-unique, Hang-join, IsFree-split, none_weigh}
-use Rattle.rh_slot.specs.Row.{Hung, Hanging}
+use Rattle.rh_slot.specs.Row.{Hung}
+use Rattle.rh_slot.specs.Inner.RowWalks.{Hanging}
 
 pub hanging_start : (b : List ℕ) (from n : ℕ) → BlockRow b from n → Hanging b b from n from
 hanging_start b from n r = record {

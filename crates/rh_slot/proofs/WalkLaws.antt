@@ -3,7 +3,8 @@ use Rattle.rh_slot.proofs.Common.{◌≡◌, ℕ, zero, suc, ◌+◌, ◌-◌, �
 use Rattle.rh_slot.proofs.Common.{append_assoc, arith, length-append, take, drop, Some, None, is_some, slice_get, PAGE, word, total, Flex, Slot, weight}
 use Rattle.rh_slot.proofs.Common.{flex_weight, slot_start, slot_length, flex_start, HaveAnchors, anchor_count, Lie, Hang, SlotWords, SpellsSlot, flex_place}
 use Rattle.rh_slot.proofs.Common.{is_block, block_items, BlockItem, Lie-split, Hang-split, HaveAnchors-cut, Walked, row_item, WalksIn, length-take-le}
-use Rattle.rh_defs.specs.Pieces.{first_at, is_inside, NonePass}
+use Rattle.rh_defs.specs.Pieces.{first_at, is_inside}
+use Rattle.rh_defs.specs.Inner.NonePassing.{NonePass}
 use Rattle.rh_defs.specs.Slot.{flex_around}
 use Rattle.rh_defs.specs.Questions.{block_items_from}
 use Rattle.rh_defs.proofs.Cuts.{total-append}

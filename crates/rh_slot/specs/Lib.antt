@@ -1,5 +1,5 @@
-pub mod CHeap
 pub mod Flex
+pub mod Inner
 pub mod Row
 pub mod SlotArea
 pub mod SlotCalls

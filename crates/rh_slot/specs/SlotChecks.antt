@@ -1,15 +1,14 @@
 -- Slots in bytes from anywhere: when bytes are a slot's and no more, a slot's sums, and the first fault of bytes that
 -- are no slot's.
-use Rattle.std.specs.Prelude.{◌≡◌, ℕ, zero, suc, ◌+◌, ◌-◌, ◌*◌, ◌%◌, ◌≤◌, ◌==◌, Bool, true, false, nat_le, ◌&&◌, ◌||◌, if◌then◌else◌, List, length, take, drop, Option, Some, None, Result, Ok, Err}
+use Rattle.std.specs.Prelude.{ℕ, zero, suc, ◌+◌, ◌-◌, ◌*◌, ◌%◌, ◌≤◌, ◌==◌, Bool, true, false, nat_le, ◌&&◌, ◌||◌, List, length, take, drop, Option, Some, None, Result, Ok, Err}
 use Rattle.std.specs.List.{list_any}
 use Rattle.rh_defs.specs.Bytes.{word}
 use Rattle.rh_defs.specs.Pieces.{page_size, total}
 use Rattle.rh_defs.specs.HeapImage.{fault_of}
-use Rattle.rh_defs.specs.Slot.{Flex, Slot, weight, slot_length, slot_pages, anchor_count}
-use Rattle.rh_defs.specs.SlotImage.{SpellsSlot, heap_place, flex_in, slot_of}
+use Rattle.rh_defs.specs.Slot.{Flex, Slot, slot_length, slot_pages, anchor_count}
+use Rattle.rh_defs.specs.SlotImage.{SpellsSlot, heap_place, slot_of}
 use Rattle.rh_defs.specs.declared.heap.HeapFault.{HeapFault}
 use Rattle.rh_heap.specs.HeapChecks.{summary_of}
-use Rattle.rh_slot.specs.declared.image.BlockSums.{BlockSums}
 use Rattle.rh_slot.specs.declared.image.SlotFault.{SlotFault}
 use Rattle.rh_slot.specs.declared.image.SlotFault.TheVariants.{BadLength, BadHeap, BadSize, BadAnchor, SparePage}
 use Rattle.rh_slot.specs.declared.image.SlotSummary.{SlotSummary}
@@ -35,13 +34,6 @@ slot_summary n s = record {
   unused = n - slot_length s;
 }
 
--- the sums of the blocks that stand one after the other from a place on; none of them goes past the end
-pub record IsRow (b : List ℕ) (from : ℕ) (sums : BlockSums) : Type 0 where
-  pub top : sums.top ≡ from + total weight (flex_in (length b) b from)
-  pub within : sums.top ≤ length b
-  pub blocks : sums.blocks ≡ length (flex_in (length b) b from)
-  pub bytes : sums.bytes ≡ total flex_size (flex_in (length b) b from)
-
 -- ---- faults
 
 -- whether there are whole pages of bytes, one at least, and no more than application space has
@@ -64,11 +56,6 @@ is_hung b blocks k = word b (4 * k) == 0 || has_anchor blocks k
 unfoldable pub are_hung : List ℕ → List Flex → ℕ → Bool
 are_hung b blocks zero = true
 are_hung b blocks (suc n) = are_hung b blocks n && is_hung b blocks n
-
--- how many of the first n anchor words aren't 0
-unfoldable pub words_in_use : List ℕ → ℕ → ℕ
-words_in_use b zero = 0
-words_in_use b (suc n) = words_in_use b n + (if word b (4 * n) == 0 then 0 else 1)
 
 -- The first fault by five tests, of which one counts only where those before it pass: that the length is right, the C
 -- heap's own first fault, that the blocks end inside, that each anchor word is 0 or has a block, that no page is spare.

@@ -10,7 +10,7 @@ ghost use Rattle.rh_heap.specs.Listed.{segments_from};
 ghost use Rattle.rh_heap.specs.Segments.{piece};
 ghost use Rattle.rh_slot.specs.SlotArea.{IsSlotIn, SpellsSlotIn, slot_in};
 ghost use Rattle.rh_slot.specs.SlotCalls.{LeavesSlotIn};
-ghost use Rattle.rh_slot.specs.CHeap.{after_growth, lengthened};
+ghost use Rattle.rh_slot.specs.Inner.CHeap.{after_growth, lengthened};
 
 use crate::area::grow_to;
 use crate::row::shift;

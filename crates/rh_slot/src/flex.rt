@@ -5,7 +5,7 @@ ghost use Rattle.rh_defs.specs.Pieces.{Split, moved};
 ghost use Rattle.rh_defs.specs.Slot.{Flex, slot_extend, slot_mid, slot_put, slot_read, taken_out, slot_alloc, slot_free, IsFree, slot_size, slot_address};
 ghost use Rattle.rh_slot.specs.SlotArea.{IsSlotIn, slot_in};
 ghost use Rattle.rh_slot.specs.SlotCalls.{LeavesSlotIn};
-ghost use Rattle.rh_slot.specs.Flex.{FoundFlex, FoundAt, splice};
+ghost use Rattle.rh_slot.specs.Inner.FoundBlocks.{FoundFlex, FoundAt, splice};
 
 use crate::area::{clear, grow_to, read, room_for, slide, trim, write, write_bytes};
 use crate::row::shift;

@@ -5,7 +5,8 @@ ghost use Rattle.rh_defs.specs.HeapImage.{IsImage, heap_of};
 ghost use Rattle.rh_defs.specs.Slot.{weight};
 ghost use Rattle.rh_defs.specs.SlotImage.{flex_in, is_block, slot_of};
 ghost use Rattle.rh_heap.specs.HeapChecks.{summary_of};
-ghost use Rattle.rh_slot.specs.SlotChecks.{IsSlotImage, IsRow, has_slot_length, heap_bytes, words_in_use, slot_summary, slot_fault_of, slot_fault_in};
+ghost use Rattle.rh_slot.specs.SlotChecks.{IsSlotImage, has_slot_length, heap_bytes, slot_summary, slot_fault_of, slot_fault_in};
+ghost use Rattle.rh_slot.specs.Inner.RowChecks.{IsRow, words_in_use};
 ghost use Rattle.rh_defs.specs.declared.sizes.TheConstants.{ANCHORS, C_HEAP_PLACE, PAGE, WORD};
 ghost use Rattle.rh_slot.specs.declared.image.TheConstants.{LONGEST_SLOT};
 

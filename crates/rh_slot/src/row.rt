@@ -8,7 +8,8 @@ ghost use Rattle.rh_defs.specs.Bytes.{word, part, put_word, SameIn};
 ghost use Rattle.rh_defs.specs.SlotImage.{Lie, is_block, flex_place};
 ghost use Rattle.rh_defs.specs.declared.question.BlockItem.{BlockItem};
 ghost use Rattle.rh_slot.specs.SlotArea.{IsSlotIn, slot_in};
-ghost use Rattle.rh_slot.specs.Row.{BlockRow, Hung, HangsApart, Shifted, Walked, WalksIn, Headed, row_item};
+ghost use Rattle.rh_slot.specs.Row.{BlockRow, Hung, Shifted, WalksIn};
+ghost use Rattle.rh_slot.specs.Inner.RowWalks.{HangsApart, Walked, Headed, row_item};
 ghost use Rattle.rh_defs.specs.declared.sizes.TheConstants.{ANCHORS, C_HEAP_PLACE, FLEX_HEADER, PAGE};
 
 use crate::area::{read, slide, write, write_bytes};

@@ -13,7 +13,7 @@ use Rattle.rh_store.specs.Areas.{shown, contents, room_at, memory_in, IsTidyArea
 use Rattle.rh_defs.specs.declared.sizes.TheConstants.{PAGE}
 use Rattle.rh_defs.specs.Memory.{Memory, area_set, bytes, with_bytes, opened, closed, grown, shrunk, fresh}
 use Rattle.rh_defs.proofs.MemoryLaws.{pages_below-set}
-use Rattle.rh_store.specs.Kept.{open_index, contents-past, whole_contents, numbered_areas}
+use Rattle.rh_store.specs.Inner.Kept.{open_index, contents-past, whole_contents, numbered_areas}
 
 other : (k i : ℕ) (x y : Option (List ℕ)) → k ≢ i → cond (k == i) x y ≡ y
 other k i x y ne = grind (arith, nat_tests)

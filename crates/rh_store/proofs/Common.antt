@@ -8,7 +8,7 @@ unfoldable pub use Rattle.rh_defs.specs.Memory.{bytes}
 pub use Rattle.rh_defs.specs.declared.sizes.TheConstants.{MAX_AREAS, PAGE}
 pub use Rattle.rh_store.specs.Areas.{ChangedAt}
 unfoldable pub use Rattle.rh_store.specs.Areas.{contents}
-pub use Rattle.rh_store.specs.Kept.{numbered_areas, open_index}
+pub use Rattle.rh_store.specs.Inner.Kept.{numbered_areas, open_index}
 unfoldable pub use Rattle.rh_store.specs.Plain.{memory_of}
 pub use Rattle.rh_store.specs.declared.area.Area.{Area}
 pub use Rattle.rh_store.proofs.AreasLaws.{changed, memory-rewritten, open_read, stays, written_slice}

@@ -2,5 +2,5 @@ pub mod Limits
 pub mod Shares
 pub mod Areas
 pub mod Plain
-pub mod Kept
 pub mod Starts
+pub mod Inner

@@ -59,7 +59,8 @@ impl PlainStore {
 }
 
 impl Words for PlainStore {
-    ghost use Rattle.rh_store.specs.Plain.{memory_of, small_law};
+    ghost use Rattle.rh_store.specs.Plain.{memory_of};
+    ghost use Rattle.rh_store.specs.Inner.PlainLaws.{small_law};
 
     ghost memory = { memory_of };
 
@@ -104,7 +105,7 @@ impl WordsMut for PlainStore {
 }
 
 impl Paged for PlainStore {
-    ghost use Rattle.rh_store.specs.Plain.{whole_law};
+    ghost use Rattle.rh_store.specs.Inner.PlainLaws.{whole_law};
 
     fn rest_of_page(&self, id: AreaId, at: usize) -> &[u8] {
         part_of(&self.areas[id.0 as usize].bytes, at, PAGE - at % PAGE)
@@ -114,7 +115,7 @@ impl Paged for PlainStore {
 }
 
 impl Pages for PlainStore {
-    ghost use Rattle.rh_store.specs.Plain.{ledger_law, within_law, few_law};
+    ghost use Rattle.rh_store.specs.Inner.PlainLaws.{ledger_law, within_law, few_law};
 
     fn grow(&mut self, id: AreaId, pages: usize) -> Result<(), StoreFault> {
         if self.free < pages {
@@ -148,7 +149,7 @@ impl Pages for PlainStore {
 }
 
 impl Store for PlainStore {
-    ghost use Rattle.rh_store.specs.Plain.{numbered_law};
+    ghost use Rattle.rh_store.specs.Inner.PlainLaws.{numbered_law};
 
     fn open(&mut self) -> Result<AreaId, StoreFault> {
         match first_closed(&self.areas) {

@@ -9,7 +9,7 @@ use Rattle.rh_defs.specs.declared.refusal.Refusal.TheVariants.{AnchorInUse}
 use Rattle.rh_defs.specs.declared.reply.Outcome.TheVariants as outcome
 use Rattle.rh_defs.specs.Places.{free_anchor}
 use Rattle.rh_defs.specs.Receiver as receiver
-use Rattle.rh_tasks.specs.WorldPolls.{Claims, with_document}
+use Rattle.rh_tasks.specs.Inner.PollSteps.{Claims, with_document}
 use Rattle.rh_tasks.proofs.Places.{edited-at, edited-is, one-at}
 use Rattle.rh_tasks.proofs.Buffers.{seat-task, seat-handle, seat-buffer, seat-there}
 use Rattle.rh_tasks.proofs.Accepts.{ok-begins, ok-ends, the_fetch, after_fetch, after_document, after_buffer, accept-is, sent_desk}

@@ -77,8 +77,9 @@ pub use Rattle.rh_wimp.specs.PostIn.{post_in}
 pub use Rattle.rh_tasks.specs.Finding.{FoundSeat, Owns, looked}
 pub use Rattle.rh_tasks.specs.WorldLetters.{with_last}
 pub use Rattle.rh_tasks.specs.WorldLists.{segment_items_at}
-pub use Rattle.rh_tasks.specs.WorldPolls.{Becomes, IsAt, IsFor, IsFreeAnchor, IsPortion, Sends}
-pub use Rattle.rh_tasks.specs.Saves.{source_block}
+pub use Rattle.rh_tasks.specs.WorldPolls.{Becomes}
+pub use Rattle.rh_tasks.specs.Inner.PollSteps.{IsAt, IsFor, IsFreeAnchor, IsPortion, Sends}
+pub use Rattle.rh_tasks.specs.Inner.Saves.{source_block}
 pub use Rattle.rh_tasks.specs.Shown.{Shown}
 pub use Rattle.rh_tasks.specs.TransferBlock.{bytes_held}
 pub use Rattle.rh_tasks.specs.View.{AreDistinct, Avoids, HasAreas, HasSlot, IsAbove, IsWorld, Kept, desk_of, fixed, is_named, kept_of, made_area, scrap_from}

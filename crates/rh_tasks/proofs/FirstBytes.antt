@@ -2,7 +2,8 @@
 use Rattle.rh_tasks.proofs.Common.{◌≡◌, ℕ, ◌+◌, ◌-◌, ◌<◌, ◌≤◌, Bool, true, false, List, [], ◌∷◌, ◌++◌, length, refl, ap, ◌∙◌, arith, nat_tests, ◌&&◌, ◌||◌}
 use Rattle.rh_tasks.proofs.Common.{Some, None, Ok, not, nat_le, is_some, take, drop, NoTask, BadRange, found_or, first_at, total, Hole, Segment, Used, base}
 use Rattle.rh_tasks.proofs.Common.{size_of, Flex, Slot, flex_address, flex_start, heap_start, holds, weight, Desk, Task, task_at, bytes_held, begins, past}
-use Rattle.rh_defs.specs.Pieces.{NonePass, is_inside}
+use Rattle.rh_defs.specs.Pieces.{is_inside}
+use Rattle.rh_defs.specs.Inner.NonePassing.{NonePass}
 use Rattle.rh_defs.specs.Heap.{block_around, is_around}
 use Rattle.rh_defs.specs.Slot.{flex_around}
 use Rattle.rh_defs.proofs.HeapLists.{first_at-found, first_at-none}

@@ -21,7 +21,8 @@ use Rattle.rh_wimp.proofs.PostCalls.{post_in-stays, spells-stays}
 use Rattle.rh_tasks.specs.declared.seat.Seat.{Seat}
 use Rattle.rh_tasks.specs.declared.made.MadeArea.{MadeArea}
 use Rattle.rh_tasks.specs.declared.scrap.ScrapFile.{ScrapFile}
-use Rattle.rh_tasks.specs.View.{the_module, fixed, pages_at, task_of, made_of, fixed_pages, scrap_size, scrap_of, slot_area, made_area, made_number, Avoids}
+use Rattle.rh_tasks.specs.View.{the_module, fixed, pages_at, task_of, made_of, fixed_pages, scrap_size, scrap_of, slot_area, made_area, Avoids}
+use Rattle.rh_tasks.specs.Inner.MadeNumbers.{made_number}
 use Rattle.rh_tasks.specs.View.{AreDistinct, HasSlot, IsAbove}
 use Rattle.rh_tasks.proofs.Lists.{Sits, cons, avoids-at}
 

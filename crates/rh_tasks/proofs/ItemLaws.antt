@@ -10,7 +10,7 @@ use Rattle.rh_defs.specs.Desk.{module_pages}
 use Rattle.rh_defs.specs.Questions.{area_items, area_item, areas_at}
 use Rattle.rh_defs.specs.declared.question.AreaItem.{AreaItem}
 use Rattle.rh_defs.specs.declared.question.AreaItem.TheVariants as item
-use Rattle.rh_tasks.specs.WorldItems.{fixed_items, made_items, slot_items, items_in}
+use Rattle.rh_tasks.specs.Inner.ItemsByOwner.{fixed_items, made_items, slot_items, items_in}
 use Rattle.rh_tasks.proofs.Posts.{module-length}
 
 -- ---- members of joined lists

@@ -5,7 +5,7 @@ use Rattle.rh_tasks.proofs.Common.{slot_area, made_area, Avoids, AreDistinct, Is
 use Rattle.rh_tasks.proofs.Common.{if_apart, tasks-stay, slots-stay, fixed-stay, fixed-opened, post-stays, queue-stays, scrap-stays, scrap-fits, module-stays}
 use Rattle.rh_tasks.proofs.Common.{count-stays, numbers, same-desk}
 use Rattle.rh_defs.specs.Commands.{with_pages, is_numbered}
-use Rattle.rh_tasks.specs.View.{made_number}
+use Rattle.rh_tasks.specs.Inner.MadeNumbers.{made_number}
 use Rattle.rh_tasks.proofs.Frames.{mades-edited, mades-opened-at}
 use Rattle.rh_tasks.proofs.Fixed.{pages-of}
 

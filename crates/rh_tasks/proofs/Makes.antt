@@ -9,7 +9,7 @@ use Rattle.std.proofs.lemmas.List.Edits.{length-remove}
 use Rattle.rh_defs.proofs.MemoryLaws.{open_below-closed, bytes-opened, free-opened, pages-opened, IsOpen-opened, free-closed, pages-closed}
 use Rattle.rh_defs.proofs.Cuts.{total-append}
 use Rattle.rh_defs.specs.Commands.{is_numbered}
-use Rattle.rh_tasks.specs.View.{made_number}
+use Rattle.rh_tasks.specs.Inner.MadeNumbers.{made_number}
 use Rattle.rh_tasks.proofs.Lists.{all-push, all-removed, avoids-push, avoids-fewer, avoids-removed, distinct-push, distinct-removed}
 use Rattle.rh_tasks.proofs.Mades.{area-sits}
 use Rattle.rh_tasks.proofs.Joins.{none-is, off-open, closed-above, closed-stay, fixed-opened-else, filter-others, total-removed, total-map}

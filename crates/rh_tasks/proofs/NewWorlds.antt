@@ -9,7 +9,7 @@ use Rattle.rh_defs.specs.Laws.{IsStart}
 use Rattle.rh_defs.proofs.Steps.{start-is}
 use Rattle.rh_tasks.specs.declared.next.Next.{Next}
 use Rattle.rh_wimp.proofs.PostCalls.{post_in-starts}
-use Rattle.rh_tasks.specs.Start.{IsFurnished}
+use Rattle.rh_tasks.specs.Inner.Start.{IsFurnished}
 
 same-next : {a a' b b' : ℕ} → a ≡ a' → b ≡ b' → (let x : Next = record { handle = a; area = b } in x) ≡ (let y : Next = record { handle = a'; area = b' } in y)
 same-next p q = cc

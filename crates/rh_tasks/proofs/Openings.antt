@@ -6,7 +6,7 @@ use Rattle.rh_tasks.proofs.Common.{module_heap_in}
 use Rattle.rh_tasks.proofs.Common.{the_module, pages_at, Stay, pages-stay, count-stays}
 use Rattle.rh_defs.specs.Memory.{fresh}
 use Rattle.rh_defs.proofs.MemoryLaws.{area-fresh, free-fresh, pages-fresh, open_below-fresh, area-opened_same, free-opened, pages-opened, OnlyArea-both}
-use Rattle.rh_tasks.specs.Start.{IsFurnished}
+use Rattle.rh_tasks.specs.Inner.Start.{IsFurnished}
 use Rattle.rh_tasks.proofs.Frames.{opened-stays}
 
 -- the areas below a number are open, with no page, and no other

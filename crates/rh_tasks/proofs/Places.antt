@@ -6,7 +6,7 @@ use Rattle.std.proofs.lemmas.Option.{slice_get_within}
 use Rattle.rh_defs.specs.Desk.{Desk, Task, task_at, edit_task, with_task}
 use Rattle.rh_defs.specs.Laws.{IsDesk, Rise, Ascend}
 use Rattle.rh_defs.specs.Order.{IsReordered}
-use Rattle.rh_tasks.specs.WorldPolls.{IsAt}
+use Rattle.rh_tasks.specs.Inner.PollSteps.{IsAt}
 use Rattle.rh_tasks.proofs.Lists.{Sits}
 use Rattle.rh_tasks.proofs.Frames.{if_apart, if_same}
 

@@ -19,7 +19,7 @@ use Rattle.rh_defs.specs.OutgoingEvents.{save_scrap, answer_ack}
 use Rattle.rh_defs.specs.IncomingEvents.{loaded, load_file, take_file}
 use Rattle.rh_defs.proofs.Desks.{send_letter-keeps}
 use Rattle.rh_defs.proofs.Transfers.{wider-keeps, wider-room}
-use Rattle.rh_tasks.specs.WorldPolls.{scrapped}
+use Rattle.rh_tasks.specs.Inner.PollSteps.{scrapped}
 use Rattle.rh_tasks.proofs.Fixed.{total-set}
 use Rattle.rh_tasks.proofs.Places.{edited-at, edited-is, same-at, one-at}
 use Rattle.rh_tasks.proofs.SendRooms.{send-fits, send-lacks}

@@ -7,7 +7,8 @@ use Rattle.rh_defs.specs.declared.reply.Reply.TheVariants as reply
 use Rattle.rh_defs.specs.Runs.{after}
 use Rattle.rh_defs.specs.Commands.{is_refused, step}
 use Rattle.rh_defs.proofs.Steps.{order-ignored, never-refused}
-use Rattle.rh_tasks.specs.Answer.{Does, Gives, GivesAlike, RunsOn, StaysIfRefused, StaysIfAsked, StepsTo, reply_of}
+use Rattle.rh_tasks.specs.Answer.{Gives, RunsOn, StaysIfRefused, StaysIfAsked, StepsTo}
+use Rattle.rh_tasks.specs.Inner.CommandAnswers.{Does, GivesAlike, reply_of}
 use Rattle.rh_tasks.proofs.Reorders.{reordered-trans}
 
 -- where the old desk itself goes, each like it goes

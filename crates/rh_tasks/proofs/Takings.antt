@@ -12,7 +12,7 @@ use Rattle.rh_defs.specs.Letters.{ack_letter}
 use Rattle.rh_defs.specs.Receiver as receiver
 use Rattle.rh_defs.specs.IncomingEvents.{without_buffer, taking_ended, end_failed, fetch_more, took, is_uncountable, ask}
 use Rattle.rh_defs.proofs.Chains.{granted, granted-then}
-use Rattle.rh_tasks.specs.WorldPolls.{Handles}
+use Rattle.rh_tasks.specs.Inner.PollSteps.{Handles}
 use Rattle.rh_tasks.proofs.Addresses.{grant-of}
 use Rattle.rh_tasks.proofs.Places.{some-same}
 

@@ -3,7 +3,8 @@ use Rattle.rh_tasks.proofs.Common.{◌≡◌, refl, ◌∙◌, ap, Ok, Err, Repl
 use Rattle.rh_defs.specs.declared.question.Numbers.{Numbers}
 use Rattle.rh_defs.specs.declared.reply.Reply.TheVariants as reply
 use Rattle.rh_defs.specs.Questions.{Told}
-use Rattle.rh_tasks.specs.Answer.{Gives, answered, first_told}
+use Rattle.rh_tasks.specs.Answer.{Gives, first_told}
+use Rattle.rh_tasks.specs.Inner.CommandAnswers.{answered}
 
 -- a question that was told gives its answer, and changes nothing
 pub told-gives : (g : Granted Told) (w : Shown) (told : Granted Numbers) (r : Granted Reply) → told ≡ first_told g → r ≡ answered told

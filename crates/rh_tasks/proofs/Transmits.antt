@@ -12,7 +12,7 @@ use Rattle.rh_defs.specs.Slot as plain
 use Rattle.rh_defs.specs.Letters.{transmit_letter}
 use Rattle.rh_defs.specs.OutgoingEvents.{portion, transmit}
 use Rattle.rh_defs.specs.Sender as sender
-use Rattle.rh_tasks.specs.WorldPolls.{transmitted}
+use Rattle.rh_tasks.specs.Inner.PollSteps.{transmitted}
 use Rattle.rh_tasks.proofs.Finding.{find-none, find-map}
 use Rattle.rh_tasks.proofs.Writes.{with_written, KeyAlike, alike-edited, alike-reordered, alike-both, alike-sent, seen}
 

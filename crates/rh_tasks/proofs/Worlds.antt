@@ -17,7 +17,8 @@ use Rattle.rh_defs.proofs.Steps.{step-keeps}
 use Rattle.rh_defs.specs.Forms.{first_made}
 use Rattle.rh_tasks.specs.declared.seat.Seat.{Seat}
 use Rattle.rh_tasks.specs.declared.made.MadeArea.{MadeArea}
-use Rattle.rh_tasks.specs.View.{Kept, task_of, made_of, made_number, desk_of, Avoids, AreDistinct, IsWorld}
+use Rattle.rh_tasks.specs.View.{Kept, task_of, made_of, desk_of, Avoids, AreDistinct, IsWorld}
+use Rattle.rh_tasks.specs.Inner.MadeNumbers.{made_number}
 
 above-avoids : {A B : Type 0} (number : B → ℕ) (f : A → B) (key : A → ℕ) → ((x : A) → number (f x) ≡ key x) → (least next k : ℕ) (xs : List A) → k < least
     → Rise number least next (map f xs) → Avoids k (map key xs)

@@ -20,11 +20,6 @@ use Rattle.rh_tasks.specs.Shown.{Shown}
 abbrev pub Gives : Granted Answer → Shown → Shown → Result Reply Refusal → Type 0
 Gives granted old new result = MatchResult result (λ said. granted ≡ Ok (new.desk, said)) (λ refusal. (granted ≡ Err refusal) × (new ≡ old))
 
--- the same, but for the order of messages to different tasks
-abbrev pub GivesAlike : Granted Answer → Shown → Shown → Result Reply Refusal → Type 0
-GivesAlike granted old new result =
-    MatchResult result (λ said. (d : Desk) × ((granted ≡ Ok (d, said)) × IsReordered d new.desk)) (λ refusal. (granted ≡ Err refusal) × (new ≡ old))
-
 -- Of each desk that differs from the old one in that order alone, the command gives the reply, and again such a desk.
 abbrev pub StepsTo : Command → Desk → Desk → Reply → Type 0
 StepsTo c old new said = (d : Desk) → IsReordered d old → ((step d c).1 ≡ said) × IsReordered (step d c).0 new
@@ -37,12 +32,6 @@ StaysIfRefused old new said = (refusal : Refusal) → said ≡ reply.Refused ref
 abbrev pub StaysIfAsked : Command → Shown → Shown → Type 0
 StaysIfAsked c old new = (q : Question) → c ≡ command.Ask q → new ≡ old
 
--- a command's step, and what it leaves as it was
-pub record Does (c : Command) (old new : Shown) (said : Reply) : Type 0 where
-  pub steps : StepsTo c old.desk new.desk said
-  pub refused : StaysIfRefused old new said
-  pub asked : StaysIfAsked c old new
-
 -- Where the old desk is that after some commands, but for that order, the new one is that after them and this command.
 abbrev pub RunsOn : Command → Desk → Desk → Type 0
 RunsOn c old new = (d : Desk) (commands : List Command) → IsReordered (after d commands) old → IsReordered (after d (commands ++ c ∷ [])) new
@@ -51,13 +40,3 @@ RunsOn c old new = (d : Desk) (commands : List Command) → IsReordered (after d
 abbrev pub first_told : Granted Told → Granted Numbers
 first_told (Ok told) = Ok told.0
 first_told (Err refusal) = Err refusal
-
--- the result of a question by its numbers
-abbrev pub answered : Granted Numbers → Granted Reply
-answered (Ok numbers) = Ok (reply.Answered numbers)
-answered (Err refusal) = Err refusal
-
--- the reply that a call's result is
-abbrev pub reply_of : Result Reply Refusal → Reply
-reply_of (Ok said) = said
-reply_of (Err refusal) = reply.Refused refusal

@@ -1,11 +1,9 @@
 pub mod Answer
 pub mod Finding
-pub mod Nouns
-pub mod Saves
+pub mod Inner
 pub mod Shown
 pub mod Sights
 pub mod Standing
-pub mod Start
 pub mod TransferBlock
 pub mod View
 pub mod WorldItems

@@ -158,10 +158,6 @@ pub record HasAreas (m : Memory) (seats : List Seat) (made : List MadeArea) : Ty
 abbrev pub is_named : List ℕ → Seat → Bool
 is_named name s = bytes_eq s.name name
 
--- the number of a made area
-abbrev pub made_number : MadeArea → ℕ
-made_number a = a.number
-
 -- what holds of every world
 pub record IsWorld (m : Memory) (seats : List Seat) (made : List MadeArea) (files : FileList) (kept : Kept) : Type 0 where
   pub desk : IsDesk (desk_of m seats made files kept)

@@ -9,7 +9,8 @@ ghost use Rattle.rh_defs.specs.Messages.{Parcel};
 ghost use Rattle.rh_defs.specs.Order.{IsReordered};
 ghost use Rattle.rh_defs.specs.Records.{is_going, is_full as is_full_of};
 ghost use Rattle.rh_defs.specs.Slot.{anchor_count, slot_claim};
-ghost use Rattle.rh_tasks.specs.WorldPolls.{IsAt, IsFor, IsFreeAnchor, Becomes, Claims, Handles, with_document};
+ghost use Rattle.rh_tasks.specs.WorldPolls.{Becomes};
+ghost use Rattle.rh_tasks.specs.Inner.PollSteps.{IsAt, IsFor, IsFreeAnchor, Claims, Handles, with_document};
 
 use crate::letters::fetch_letter;
 use crate::module_area::MODULE;

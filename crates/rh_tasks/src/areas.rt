@@ -7,7 +7,7 @@ ghost use Rattle.rh_defs.specs.declared.command.Command.TheVariants as Command;
 ghost use Rattle.rh_defs.specs.Range.{in_range};
 ghost use Rattle.rh_defs.specs.Commands.{least_length as least_length_on, pages_after as pages_after_on, change_area as change_area_on, change};
 ghost use Rattle.rh_tasks.specs.Answer.{Gives};
-ghost use Rattle.rh_tasks.specs.Nouns.{changes_areas};
+ghost use Rattle.rh_tasks.specs.Inner.Nouns.{changes_areas};
 ghost use Rattle.rh_tasks.specs.View.{pages_at};
 ghost use Rattle.rh_defs.specs.declared.sizes.TheConstants.{FIXED_AREAS, PAGE};
 

@@ -6,7 +6,7 @@ ghost use Rattle.rh_defs.specs.declared.command.Command.TheVariants as Command;
 ghost use Rattle.rh_defs.specs.Range.{in_range};
 ghost use Rattle.rh_defs.specs.Commands.{alloc as alloc_on, load as load_on, put as put_on, free as free_on, extend as extend_on, mid as mid_on, change};
 ghost use Rattle.rh_tasks.specs.Answer.{Gives};
-ghost use Rattle.rh_tasks.specs.Nouns.{changes_blocks};
+ghost use Rattle.rh_tasks.specs.Inner.Nouns.{changes_blocks};
 
 use crate::named_files::NamedFiles;
 use crate::seats::{idle_slot, slot_of};

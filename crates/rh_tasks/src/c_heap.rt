@@ -6,7 +6,7 @@ ghost use Rattle.rh_defs.specs.declared.command.Command.TheVariants as Command;
 ghost use Rattle.rh_defs.specs.Range.{in_range};
 ghost use Rattle.rh_defs.specs.Commands.{claim as claim_on, release as release_on, resize as resize_on, budge as budge_on, change};
 ghost use Rattle.rh_tasks.specs.Answer.{Gives};
-ghost use Rattle.rh_tasks.specs.Nouns.{changes_heap};
+ghost use Rattle.rh_tasks.specs.Inner.Nouns.{changes_heap};
 
 use crate::named_files::NamedFiles;
 use crate::seats::{find, idle_heap, slot_of};

@@ -14,7 +14,8 @@ ghost use Rattle.rh_defs.specs.Slot.{slot_size, heap_block_at};
 ghost use Rattle.rh_slot.specs.SlotArea.{IsSlotIn, slot_in};
 ghost use Rattle.rh_slot.specs.SlotCalls.{LeavesSlotIn};
 ghost use Rattle.rh_slot.specs.Flex.{slot_append};
-ghost use Rattle.rh_tasks.specs.WorldPolls.{IsAt, IsFor, Attempts, Becomes, Handles, AreFirst};
+ghost use Rattle.rh_tasks.specs.WorldPolls.{Becomes, AreFirst};
+ghost use Rattle.rh_tasks.specs.Inner.PollSteps.{IsAt, IsFor, Attempts, Handles};
 
 use crate::letters::{ack_letter, fetch_letter};
 use crate::named_files::NamedFiles;

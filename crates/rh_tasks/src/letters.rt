@@ -10,7 +10,7 @@ ghost use Rattle.rh_wimp.specs.Chains.{HasEntry};
 ghost use Rattle.rh_tasks.specs.View.{the_module};
 ghost use Rattle.rh_defs.specs.Desk.{Task};
 ghost use Rattle.rh_tasks.specs.WorldLetters.{again, with_last};
-ghost use Rattle.rh_tasks.specs.WorldPolls.{IsAt, Sends};
+ghost use Rattle.rh_tasks.specs.Inner.PollSteps.{IsAt, Sends};
 
 use crate::module_area::MODULE;
 use crate::named_files::NamedFiles;

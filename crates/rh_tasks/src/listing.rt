@@ -13,7 +13,8 @@ ghost use Rattle.rh_defs.specs.Questions.{asked, area_items, areas_at, blocks_at
 ghost use Rattle.rh_defs.specs.Desk.{free_pages as free_pages_on};
 ghost use Rattle.rh_tasks.specs.Answer.{first_told};
 ghost use Rattle.rh_tasks.specs.View.{pages_at, HasAreas};
-ghost use Rattle.rh_tasks.specs.WorldItems.{area_item_of, items_in, slot_items, segment_item_of, placed_item, IsSmallSegment};
+ghost use Rattle.rh_tasks.specs.WorldItems.{area_item_of, segment_item_of, placed_item, IsSmallSegment};
+ghost use Rattle.rh_tasks.specs.Inner.ItemsByOwner.{items_in, slot_items};
 ghost use Rattle.rh_tasks.specs.WorldLists.{blocks_of, segments_of};
 ghost use Rattle.rh_defs.specs.declared.sizes.TheConstants.{MAX_AREAS, SEGMENTS_AT_ONCE};
 

@@ -8,7 +8,7 @@ ghost use Rattle.rh_defs.specs.Commands.{own_block, rma_claim as rma_claim_on, r
 ghost use Rattle.rh_defs.specs.Desk.{module_start};
 ghost use Rattle.rh_defs.specs.Post.{post_is_message};
 ghost use Rattle.rh_tasks.specs.Answer.{Gives};
-ghost use Rattle.rh_tasks.specs.Nouns.{changes_module};
+ghost use Rattle.rh_tasks.specs.Inner.Nouns.{changes_module};
 
 use crate::module_area::MODULE;
 use crate::named_files::NamedFiles;

@@ -8,7 +8,7 @@ ghost use Rattle.rh_defs.specs.OutgoingEvents.{is_out_of_reach as is_out_of_reac
 ghost use Rattle.rh_defs.specs.Pieces.{Split};
 ghost use Rattle.rh_defs.specs.Places.{overlap, written_in, buffer_at};
 ghost use Rattle.rh_defs.specs.Slot.{Flex, slot_block};
-ghost use Rattle.rh_tasks.specs.WorldPolls.{IsAt, IsFor, IsPortion, Attempts, Handles, transmitted};
+ghost use Rattle.rh_tasks.specs.Inner.PollSteps.{IsAt, IsFor, IsPortion, Attempts, Handles, transmitted};
 
 use crate::documents::document_size;
 use crate::letters::transmit_letter;

@@ -11,8 +11,8 @@ ghost use Rattle.rh_defs.specs.Range.{in_range};
 ghost use Rattle.rh_defs.specs.Commands.{poll as poll_on};
 ghost use Rattle.rh_defs.specs.Transfer.{came as came_on, came_back as came_back_on, handled};
 ghost use Rattle.rh_wimp.specs.Chains.{event_of};
-ghost use Rattle.rh_tasks.specs.Answer.{GivesAlike};
-ghost use Rattle.rh_tasks.specs.WorldPolls.{IsAt, IsFor, Handles};
+ghost use Rattle.rh_tasks.specs.Inner.CommandAnswers.{GivesAlike};
+ghost use Rattle.rh_tasks.specs.Inner.PollSteps.{IsAt, IsFor, Handles};
 
 use crate::module_area::MODULE;
 use crate::named_files::NamedFiles;

@@ -5,7 +5,7 @@ ghost use Rattle.rh_defs.specs.Desk.{Task, with_sending, with_taking};
 ghost use Rattle.rh_defs.specs.Records.{is_going, is_full as is_full_of};
 ghost use Rattle.rh_defs.specs.Sender as sender;
 ghost use Rattle.rh_defs.specs.Receiver as receiver;
-ghost use Rattle.rh_tasks.specs.WorldPolls.{IsAt};
+ghost use Rattle.rh_tasks.specs.Inner.PollSteps.{IsAt};
 
 use crate::named_files::NamedFiles;
 use crate::world::World;

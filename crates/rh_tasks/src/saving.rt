@@ -9,9 +9,9 @@ ghost use Rattle.rh_defs.specs.Letters.{save_letter as save_letter_of};
 ghost use Rattle.rh_defs.specs.Memory.{Memory};
 ghost use Rattle.rh_defs.specs.Range.{in_range};
 ghost use Rattle.rh_defs.specs.Commands.{save as save_on};
-ghost use Rattle.rh_tasks.specs.Answer.{GivesAlike};
+ghost use Rattle.rh_tasks.specs.Inner.CommandAnswers.{GivesAlike};
 ghost use Rattle.rh_tasks.specs.Finding.{looked};
-ghost use Rattle.rh_tasks.specs.Saves.{CanOffer, HasHandle, source_block};
+ghost use Rattle.rh_tasks.specs.Inner.Saves.{CanOffer, HasHandle, source_block};
 ghost use Rattle.rh_tasks.specs.View.{is_named, HasSlot};
 
 use crate::letters::{DATA_TYPE, send};

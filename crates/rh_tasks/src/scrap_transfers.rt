@@ -7,7 +7,8 @@ ghost use Rattle.rh_defs.specs.IncomingEvents.{appended, loaded as loaded_on, ta
 ghost use Rattle.rh_defs.specs.Messages.{Parcel};
 ghost use Rattle.rh_defs.specs.OutgoingEvents.{wider, answer_ack as answer_ack_on};
 ghost use Rattle.rh_defs.specs.Slot.{Flex, slot_block, slot_size};
-ghost use Rattle.rh_tasks.specs.WorldPolls.{IsAt, IsFor, Attempts, Becomes, Handles, scrapped};
+ghost use Rattle.rh_tasks.specs.WorldPolls.{Becomes};
+ghost use Rattle.rh_tasks.specs.Inner.PollSteps.{IsAt, IsFor, Attempts, Handles, scrapped};
 
 use crate::documents::{append, document_size};
 use crate::letters::{load_ack_letter, load_letter};

@@ -4,7 +4,8 @@ ghost use Rattle.std.specs.Prelude.{◌≡◌, true, Ok, Err};
 ghost use Rattle.rh_defs.specs.declared.command.Command.TheVariants as Command;
 ghost use Rattle.rh_defs.specs.Range.{in_range};
 ghost use Rattle.rh_defs.specs.Commands.{start_task as start_on, kill as kill_on};
-ghost use Rattle.rh_tasks.specs.Answer.{Gives, GivesAlike};
+ghost use Rattle.rh_tasks.specs.Answer.{Gives};
+ghost use Rattle.rh_tasks.specs.Inner.CommandAnswers.{GivesAlike};
 
 use crate::module_area::MODULE;
 use crate::named_files::NamedFiles;

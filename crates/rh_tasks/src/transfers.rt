@@ -4,7 +4,8 @@ ghost use Rattle.std.specs.Prelude.{◌≡◌, true, Ok, Err};
 ghost use Rattle.rh_defs.specs.declared.command.Command.TheVariants as Command;
 ghost use Rattle.rh_defs.specs.Range.{in_range};
 ghost use Rattle.rh_defs.specs.Commands.{cancel_in as cancel_in_on, cancel_out as cancel_out_on, repeat as repeat_on};
-ghost use Rattle.rh_tasks.specs.Answer.{Gives, GivesAlike};
+ghost use Rattle.rh_tasks.specs.Answer.{Gives};
+ghost use Rattle.rh_tasks.specs.Inner.CommandAnswers.{GivesAlike};
 
 use crate::letters::{last_letter, send};
 use crate::named_files::NamedFiles;

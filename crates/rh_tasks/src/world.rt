@@ -7,9 +7,10 @@ ghost use Rattle.rh_defs.specs.Commands.{change};
 ghost use Rattle.rh_defs.specs.Runs.{start, start_with};
 ghost use Rattle.rh_defs.specs.Laws.{IsDesk};
 ghost use Rattle.rh_tasks.specs.Shown.{IsSpelled, ShowsBalance, ShowsApartBlocks};
-ghost use Rattle.rh_tasks.specs.Answer.{Does, Gives, RunsOn, StaysIfAsked, StaysIfRefused, StepsTo, answered as answered_of, reply_of};
-ghost use Rattle.rh_tasks.specs.Nouns.{changes_memory};
-ghost use Rattle.rh_tasks.specs.Start.{IsFurnished};
+ghost use Rattle.rh_tasks.specs.Answer.{Gives, RunsOn, StaysIfAsked, StaysIfRefused, StepsTo};
+ghost use Rattle.rh_tasks.specs.Inner.CommandAnswers.{Does, answered as answered_of, reply_of};
+ghost use Rattle.rh_tasks.specs.Inner.Nouns.{changes_memory};
+ghost use Rattle.rh_tasks.specs.Inner.Start.{IsFurnished};
 ghost use Rattle.rh_defs.specs.declared.sizes.TheConstants.{MAX_PAGES, MIN_PAGES};
 
 use crate::made::MadeAreas;

@@ -44,13 +44,15 @@ pub use Rattle.rh_module.specs.declared.module.Module.{Module}
 pub use Rattle.rh_store.proofs.Slices.{written}
 pub use Rattle.rh_store.specs.Limits.{area_limit}
 pub use Rattle.rh_wimp.specs.QueueCalls.{IsQueue}
-pub use Rattle.rh_wimp.specs.Chains.{AllLie, AllLive, Apart, Chain, Chains, Clear, HasEntry, Holds, IsLinked, ArePostChains, Lies, LiesAt, Lifted, Loose}
-pub use Rattle.rh_wimp.specs.Chains.{MayBounce}
-pub use Rattle.rh_wimp.specs.Chains.{Off, SeatRow, RowLies, RowsLie, SpellsPostIn, emptied, emptied_chains, entry_at, first_block, held_list, last_block}
+pub use Rattle.rh_wimp.specs.Chains.{AllLie, AllLive, Apart, Chain, Chains, Clear, HasEntry, Holds, IsLinked, ArePostChains, Lies, LiesAt}
+pub use Rattle.rh_wimp.specs.Inner.LooseMessages.{Lifted, Loose}
+pub use Rattle.rh_wimp.specs.Inner.LooseMessages.{MayBounce}
+pub use Rattle.rh_wimp.specs.Chains.{Off, SeatRow, RowLies, RowsLie, SpellsPostIn, emptied, entry_at, first_block, held_list, last_block}
+pub use Rattle.rh_wimp.specs.Inner.ChainEdits.{emptied_chains}
 pub use Rattle.rh_wimp.specs.Chains.{lengthened, no_entry, no_row, row_at, seat_row, row_parcels, rows_of}
-pub use Rattle.rh_wimp.specs.Deaths.{ended_from, lifted, queue_to, settled_from, without_seat}
+pub use Rattle.rh_wimp.specs.Inner.Deaths.{ended_from, lifted, queue_to, settled_from, without_seat}
 pub use Rattle.rh_wimp.specs.QueueItems.{LinksAt, held_items, message_item_of, waiting_items}
 pub use Rattle.rh_wimp.specs.Moves.{Turns, relinked}
 pub use Rattle.rh_wimp.specs.PostIn.{by_seats, in_order}
-pub use Rattle.rh_wimp.specs.Searches.{wants}
+pub use Rattle.rh_wimp.specs.Inner.Searches.{wants}
 pub use Rattle.rh_wimp.specs.declared.chain.Entry.{Entry}

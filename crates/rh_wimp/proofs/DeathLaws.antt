@@ -4,7 +4,7 @@ use Rattle.rh_wimp.proofs.Common.{filter-append, Option, Some, None, filter, not
 use Rattle.rh_wimp.proofs.Common.{held_by, with_held, as_returned, bounced, bounce_held, without_block, post_death, cond_true, cond_false, eqb_same}
 use Rattle.rh_wimp.proofs.Common.{eqb_apart, ended_from, lifted, queue_to, settled_from, without_seat}
 use Rattle.rh_defs.specs.Post.{bounce_all}
-use Rattle.rh_wimp.specs.Deaths.{bounced_from, rest_of_death}
+use Rattle.rh_wimp.specs.Inner.Deaths.{bounced_from, rest_of_death}
 use Rattle.rh_wimp.proofs.PollLaws.{bounced-seats}
 use Rattle.rh_wimp.proofs.TakeLaws.{FirstFor, rest_of}
 

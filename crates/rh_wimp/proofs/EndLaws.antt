@@ -6,8 +6,8 @@ use Rattle.rh_wimp.proofs.Common.{cond_false, eqb_same, eqb_apart, IsModule, mod
 use Rattle.rh_wimp.proofs.Common.{entry_at}
 use Rattle.rh_wimp.proofs.Common.{ended_from, lifted, queue_to, settled_from, without_seat}
 use Rattle.rh_defs.specs.Post.{bounce_all}
-use Rattle.rh_wimp.specs.Chains.{LiftsFirst}
-use Rattle.rh_wimp.specs.Deaths.{Drained, Drains, bounced_from}
+use Rattle.rh_wimp.specs.Inner.LooseMessages.{LiftsFirst}
+use Rattle.rh_wimp.specs.Inner.Deaths.{Drained, Drains, bounced_from}
 use Rattle.rh_wimp.proofs.BounceLaws.{vanished}
 use Rattle.rh_wimp.proofs.DeathLaws.{death-settled, death-step, queue-ended, seats-ended, seats-from}
 use Rattle.rh_wimp.proofs.LeaveLaws.{left_chains, seat-left}

@@ -2,7 +2,7 @@
 use Rattle.rh_wimp.proofs.Common.{◌≡◌, ℕ, suc, ◌<◌, true, false, Bool, List, [], ◌∷◌, length, map, refl, sym, ap, ◌∙◌, arith, ◌==◌, ◌||◌}
 use Rattle.rh_wimp.proofs.Common.{list_any, Heap, Memory, OnlyArea, Seat, Post, IsModule, Module, IsQueue, Chains, HasEntry, ArePostChains}
 use Rattle.rh_wimp.proofs.Common.{SpellsPostIn, entry_at, Entry}
-use Rattle.rh_defs.specs.Post.{post_handles}
+use Rattle.rh_defs.specs.Inner.PostHandles.{post_handles}
 use Rattle.rh_wimp.specs.QueueCalls.{LeavesChains, handles_of}
 use Rattle.rh_wimp.proofs.PostLaws.{eq_of, seat_at}
 use Rattle.rh_wimp.proofs.SendLaws.{as_many, seated}

@@ -9,7 +9,7 @@ use Rattle.rh_wimp.proofs.Common.{bounce_held, first_for, taken, taken_from, wit
 use Rattle.rh_wimp.proofs.Common.{Loose}
 use Rattle.rh_wimp.proofs.Common.{Holds, entry_at, row_at, rows_of, lengthened, emptied_chains, first_block, Entry, block_within, has-less, poked-other}
 use Rattle.rh_wimp.proofs.Common.{poked-pokes, lifted, from_read, link_read, code_read, padded-least, padded-relinked, poked-shape, area_limit}
-use Rattle.rh_wimp.specs.Chains.{shortened_chains, holding_chains}
+use Rattle.rh_wimp.specs.Inner.ChainEdits.{shortened_chains, holding_chains}
 use Rattle.rh_defs.proofs.BlockLaws.{has-poked}
 use Rattle.rh_wimp.proofs.BounceLaws.{lift, returned-queued, vanished}
 use Rattle.rh_wimp.proofs.PostLaws.{found-at, not-found, seat_at, live-yes, live-no, held-at, count-seat, seat_with}

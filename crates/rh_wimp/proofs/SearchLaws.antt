@@ -11,7 +11,7 @@ use Rattle.rh_defs.specs.Post.{has_message}
 use Rattle.rh_wimp.proofs.PollLaws.{next-small}
 use Rattle.rh_wimp.proofs.RowEdits.{lies-above}
 use Rattle.rh_wimp.proofs.TakeLaws.{next-there}
-use Rattle.rh_wimp.specs.Searches.{AreShortChains, rows_have}
+use Rattle.rh_wimp.specs.Inner.Searches.{AreShortChains, rows_have}
 use Rattle.rh_wimp.proofs.PostLaws.{row-at, seat_at}
 
 -- what is left of a chain, from a block on

@@ -15,12 +15,13 @@ use Rattle.rh_defs.specs.Chain.{◌>>=◌, ◌>>◌, refuse_if}
 use Rattle.rh_defs.specs.Module.{module_need_pages}
 use Rattle.rh_defs.specs.declared.refusal.Refusal.{Refusal}
 use Rattle.rh_defs.specs.declared.refusal.Refusal.TheVariants.{NoTask, NoRefs, QueueFull}
-use Rattle.rh_wimp.specs.Moves.{PutsDown, Settled}
+use Rattle.rh_wimp.specs.Inner.Settling.{PutsDown, Settled}
 use Rattle.rh_defs.specs.Blocks.{PutsBlock}
 use Rattle.rh_defs.proofs.ParcelLaws.{parcel-row}
 use Rattle.rh_defs.specs.Messages.{Fits}
 use Rattle.rh_defs.specs.Post.{put_down, queued_in, posted, post_send, post_send_pages, sendable, parcel_of, message_of, release_held}
-use Rattle.rh_wimp.specs.Chains.{longer_chains, refusal_at, refusal_for}
+use Rattle.rh_wimp.specs.Inner.ChainEdits.{longer_chains}
+use Rattle.rh_wimp.specs.Inner.LetterRefusals.{refusal_at, refusal_for}
 use Rattle.rh_defs.specs.declared.message.Letter.{Letter}
 use Rattle.rh_wimp.proofs.AnswerLaws.{answered-some}
 use Rattle.rh_defs.proofs.BlockLaws.{block-above}

@@ -6,7 +6,8 @@ use Rattle.rh_wimp.proofs.Common.{Post, held_by, with_held, count_held, live_cou
 use Rattle.rh_wimp.proofs.Common.{ArePostChains, AllLie, AllLive, Lies, Off, Apart, Clear, no_row, entry_at, row_at, seat_row, rows_of, row_parcels, held_list}
 use Rattle.rh_wimp.proofs.Common.{first_block, last_block, Entry, padded-least, shape-both}
 use Rattle.rh_defs.specs.Post.{behind_first}
-use Rattle.rh_wimp.specs.Chains.{shortened, shortened_chains, holding, holding_chains}
+use Rattle.rh_wimp.specs.Chains.{shortened}
+use Rattle.rh_wimp.specs.Inner.ChainEdits.{shortened_chains, holding, holding_chains}
 use Rattle.rh_wimp.proofs.LinkLaws.{AllLie-parts, AllLie-append}
 use Rattle.rh_wimp.proofs.PostLaws.{seat_at, Named, held-at, seat_with, with_held-at, rows-seat, count-seat}
 use Rattle.rh_wimp.proofs.RowEdits.{lies-above}

@@ -1,15 +1,12 @@
 -- The queue's entries and the module area's heap, and the post that they spell.
-use Rattle.std.specs.Prelude.{◌≡◌, ◌≢◌, ℕ, ◌+◌, ◌-◌, ◌<◌, ◌≤◌, ◌^◌, ◌==◌, nat_le, true, if◌then◌else◌, List, [], ◌∷◌, ◌++◌, length, map, filter, get_or, set, Option, Some, None}
-use Rattle.std.specs.List.{position}
-use Rattle.rh_defs.specs.declared.refusal.Refusal.{Refusal}
-use Rattle.rh_defs.specs.declared.refusal.Refusal.TheVariants.{NoTask, NoRefs, QueueFull}
+use Rattle.std.specs.Prelude.{◌≡◌, ◌≢◌, ℕ, ◌+◌, ◌<◌, ◌≤◌, ◌==◌, true, if◌then◌else◌, List, [], ◌∷◌, ◌++◌, length, map, filter, get_or, Option, Some, None}
 use Rattle.rh_defs.specs.Heap.{Heap}
 use Rattle.rh_defs.specs.Memory.{Memory}
 use Rattle.rh_module.specs.ModuleArea.{module_heap_in}
 use Rattle.rh_module.specs.declared.module.Module.{Module}
 use Rattle.rh_defs.specs.Blocks.{block_bytes, SameShape}
 use Rattle.rh_defs.specs.Messages.{Parcel, Fits, padded}
-use Rattle.rh_defs.specs.Post.{Seat, Post, has_seat, live_count, most_messages, first_for}
+use Rattle.rh_defs.specs.Post.{Seat, Post, has_seat, live_count, most_messages}
 use Rattle.rh_wimp.specs.declared.chain.Entry.{Entry}
 use Rattle.rh_defs.specs.declared.message.Event.{Event}
 
@@ -140,14 +137,6 @@ SpellsPostIn m module_area q post = ArePostChains (module_heap_in m module_area)
 abbrev pub HasEntry : ℕ → Chains → Type 0
 HasEntry h q = (i : ℕ) × ((i < length q.entries) × ((entry_at q.entries i).handle ≡ h))
 
--- why a letter is refused before its block is claimed, by the place of its recipient
-abbrev pub refusal_at : Option ℕ → Chains → Option Refusal
-refusal_at None q = Some NoTask
-refusal_at (Some i) q = if nat_le (2 ^ 32) q.next_ref then Some NoRefs else if nat_le most_messages q.live then Some QueueFull else None
-
-abbrev pub refusal_for : ℕ → Chains → Option Refusal
-refusal_for h q = refusal_at (position (λ (e : Entry). e.handle == h) q.entries) q
-
 -- a message lies in the block, and links to none
 pub record LiesAt (m : Memory) (module_area : Module) (block : ℕ) (p : Parcel) : Type 0 where
   pub lies : Lies (module_heap_in m module_area) 0 p
@@ -156,30 +145,6 @@ pub record LiesAt (m : Memory) (module_area : Module) (block : ℕ) (p : Parcel)
 -- what a poll hands out
 abbrev pub event_of : Parcel → Event
 event_of p = record { code = p.code; message = p.message }
-
--- ---- messages off the rows
--- a message that belongs to no row, and lies in both heaps
-pub record Loose (h : Heap) (post : Post) (p : Parcel) : Type 0 where
-  pub lies : Lies h 0 p
-  pub plain : block_bytes p.block post.heap ≡ Some (padded 0 p)
-  pub off : (j : ℕ) → j < length (rows_of post) → Off p.block (row_parcels (row_at (rows_of post) j))
-
--- a message that may bounce
-pub record MayBounce (m : Memory) (module_area : Module) (q : Chains) (post : Post) (p : Parcel) (block : ℕ) : Type 0 where
-  pub spells : SpellsPostIn m module_area q post
-  pub loose : Loose (module_heap_in m module_area) post p
-  pub block_is : block ≡ p.block
-  pub few : live_count post < most_messages
-
--- the post without the first message for a task, which belongs to no row, and the others queued
-pub record Lifted (m : Memory) (module_area : Module) (q : Chains) (post : Post) (h block : ℕ) (t : Parcel × List Parcel) : Type 0 where
-  pub first : first_for h post.queued ≡ Some t
-  pub may : MayBounce m module_area q (record post { queued = t.1 }) t.0 block
-
--- the first message for a task was taken off its chain, where there is one
-abbrev pub LiftsFirst : Memory → Module → Chains → Post → ℕ → Option ℕ → Type 0
-LiftsFirst m module_area q post h None = (first_for h post.queued ≡ None) × SpellsPostIn m module_area q post
-LiftsFirst m module_area q post h (Some block) = (t : Parcel × List Parcel) × Lifted m module_area q post h block t
 
 -- ---- edits of entries
 -- a block more at the end of the chain
@@ -190,10 +155,6 @@ lengthened block e = record e { first = if e.last == 0 then block else e.first; 
 abbrev pub shortened : ℕ → Entry → Entry
 shortened next e = record e { first = next; last = if next == 0 then 0 else e.last }
 
--- a block held
-abbrev pub holding : ℕ → Entry → Entry
-holding block e = record e { held = block }
-
 -- no block held
 abbrev pub emptied : Entry → Entry
 emptied e = record e { held = 0 }
@@ -202,19 +163,3 @@ emptied e = record e { held = 0 }
 -- a handle more, with no messages
 abbrev pub joined_chains : ℕ → Chains → Chains
 joined_chains h q = record q { entries = q.entries ++ record { handle = h; first = 0; last = 0; held = 0 } ∷ [] }
-
--- a new message at the end of a chain
-abbrev pub longer_chains : ℕ → ℕ → Chains → Chains
-longer_chains i block q = record { entries = set q.entries i (lengthened block (entry_at q.entries i)); live = q.live + 1; next_ref = q.next_ref + 1 }
-
--- the first message off a chain
-abbrev pub shortened_chains : ℕ → ℕ → Chains → Chains
-shortened_chains i next q = record { entries = set q.entries i (shortened next (entry_at q.entries i)); live = q.live - 1; next_ref = q.next_ref }
-
--- a message held
-abbrev pub holding_chains : ℕ → ℕ → Chains → Chains
-holding_chains i block q = record { entries = set q.entries i (holding block (entry_at q.entries i)); live = q.live + 1; next_ref = q.next_ref }
-
--- what was held is held no more
-abbrev pub emptied_chains : ℕ → Chains → Chains
-emptied_chains i q = record { entries = set q.entries i (emptied (entry_at q.entries i)); live = q.live - 1; next_ref = q.next_ref }

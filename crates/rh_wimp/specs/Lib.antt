@@ -1,8 +1,7 @@
 pub mod Chains
-pub mod Deaths
+pub mod Inner
 pub mod Moves
 pub mod PostIn
 pub mod QueueCalls
 pub mod QueueItems
 pub mod QueueLaws
-pub mod Searches

@@ -6,8 +6,9 @@ ghost use Rattle.rh_defs.specs.Messages.{Parcel};
 ghost use Rattle.rh_defs.specs.Post.{Post, held_by, post_death};
 ghost use Rattle.rh_module.specs.ModuleArea.{IsModule};
 ghost use Rattle.rh_wimp.specs.QueueCalls.{IsQueue, LeavesChains, handles_of};
-ghost use Rattle.rh_wimp.specs.Chains.{HasEntry, MayBounce, SpellsPostIn, entry_at};
-ghost use Rattle.rh_wimp.specs.Deaths.{Drains, bounced_from, ended_from, settled_from};
+ghost use Rattle.rh_wimp.specs.Chains.{HasEntry, SpellsPostIn, entry_at};
+ghost use Rattle.rh_wimp.specs.Inner.LooseMessages.{MayBounce};
+ghost use Rattle.rh_wimp.specs.Inner.Deaths.{Drains, bounced_from, ended_from, settled_from};
 
 use crate::chain::find;
 use crate::layout::{MESSAGE, SENDER};

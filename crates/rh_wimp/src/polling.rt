@@ -8,7 +8,9 @@ ghost use Rattle.rh_defs.specs.Messages.{Parcel};
 ghost use Rattle.rh_defs.specs.Post.{Post, bounce_held, bounced, held_by, post_poll, taken};
 ghost use Rattle.rh_module.specs.ModuleArea.{IsModule, module_heap_in};
 ghost use Rattle.rh_wimp.specs.QueueCalls.{Answers, IsQueue, LeavesChains, handles_of};
-ghost use Rattle.rh_wimp.specs.Chains.{HasEntry, ArePostChains, LiftsFirst, MayBounce, SpellsPostIn, emptied_chains, entry_at, event_of, holding_chains};
+ghost use Rattle.rh_wimp.specs.Chains.{HasEntry, ArePostChains, SpellsPostIn, entry_at, event_of};
+ghost use Rattle.rh_wimp.specs.Inner.LooseMessages.{LiftsFirst, MayBounce};
+ghost use Rattle.rh_wimp.specs.Inner.ChainEdits.{emptied_chains, holding_chains};
 
 use crate::chain::{Entry, append, find, shortened};
 use crate::layout::{CODE, LINK, MESSAGE, SENDER};

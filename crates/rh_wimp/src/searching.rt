@@ -7,7 +7,7 @@ ghost use Rattle.rh_defs.specs.Post.{holds_such, post_is_live, post_is_message};
 ghost use Rattle.rh_module.specs.ModuleArea.{IsModule, module_heap_in};
 ghost use Rattle.rh_wimp.specs.QueueCalls.{Answers, IsQueue};
 ghost use Rattle.rh_wimp.specs.Chains.{Chain, Holds, Lies, SeatRow, RowLies, RowsLie, first_block, row_parcels};
-ghost use Rattle.rh_wimp.specs.Searches.{AreShortChains, rows_have, wants};
+ghost use Rattle.rh_wimp.specs.Inner.Searches.{AreShortChains, rows_have, wants};
 
 use crate::chain::Entry;
 use crate::layout::{LINK, MESSAGE, MY_REF};

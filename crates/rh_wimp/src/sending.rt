@@ -5,8 +5,9 @@ ghost use Rattle.rh_defs.specs.Memory.{OnlyArea};
 ghost use Rattle.rh_defs.specs.Post.{post_send, post_send_pages};
 ghost use Rattle.rh_module.specs.ModuleArea.{IsModule, module_heap_in};
 ghost use Rattle.rh_wimp.specs.QueueCalls.{Answers, IsQueue, LeavesChains, handles_of};
-ghost use Rattle.rh_wimp.specs.Chains.{HasEntry, SeatRow, RowsLie, entry_at, refusal_for, row_at};
-ghost use Rattle.rh_wimp.specs.Moves.{Settled};
+ghost use Rattle.rh_wimp.specs.Chains.{HasEntry, SeatRow, RowsLie, entry_at, row_at};
+ghost use Rattle.rh_wimp.specs.Inner.LetterRefusals.{refusal_for};
+ghost use Rattle.rh_wimp.specs.Inner.Settling.{Settled};
 
 use crate::chain::{Entry, append, find};
 use crate::encoding::body_length;

@@ -43,7 +43,7 @@ pub use Rattle.rh_defs.specs.declared.question.Question.{Question}
 pub use Rattle.vf_desk.specs.Called.{IsAsked, called, desk_by, in_form, number_or, status_of}
 pub use Rattle.vf_desk.specs.DeskItems.{as_area, list_asked}
 pub use Rattle.vf_desk.specs.DeskLines.{TakesLine}
-pub use Rattle.vf_desk.specs.DeskLists.{filled_from}
+pub use Rattle.vf_desk.specs.Inner.DeskLists.{filled_from}
 pub use Rattle.vf_desk.specs.SeenDesk.{KeepsRest, SeenBy, console_in}
 pub use Rattle.vf_desk.specs.DeskStatus.{closed_status}
 pub use Rattle.vf_desk.specs.declared.called.Called.{Called}

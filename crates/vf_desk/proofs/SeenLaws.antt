@@ -4,10 +4,11 @@ use Rattle.vf_desk.proofs.Common.{IsAsked, called, desk_by, in_form, status_of, 
 use Rattle.rh_defs.specs.declared.command.Command.TheVariants as command
 use Rattle.rh_defs.specs.declared.reply.Reply.{Reply}
 use Rattle.rh_defs.specs.declared.reply.Reply.TheVariants as reply
-use Rattle.rh_tasks.specs.Answer.{Does, StaysIfAsked, StaysIfRefused, StepsTo}
+use Rattle.rh_tasks.specs.Answer.{StaysIfAsked, StaysIfRefused, StepsTo}
+use Rattle.rh_tasks.specs.Inner.CommandAnswers.{Does}
 use Rattle.rh_tasks.specs.Shown.{Shown}
 use Rattle.vf_desk.specs.declared.called.Called.TheVariants.{Closed, BadArgument, Said}
-use Rattle.vf_desk.specs.Called.{Steps}
+use Rattle.vf_desk.specs.Inner.DeskSteps.{Steps}
 use Rattle.vf_desk.proofs.FormLaws.{in-its-form, out-of-form}
 use Rattle.vf_desk.specs.SeenDesk.{said_in}
 

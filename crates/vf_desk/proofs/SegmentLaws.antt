@@ -18,7 +18,8 @@ use Rattle.rh_defs.specs.Questions.{Segments, segment_item, segment_items, segme
 use Rattle.rh_defs.proofs.Cuts.{total-append}
 use Rattle.rh_heap.specs.Listed.{from_cut}
 use Rattle.rh_tasks.specs.WorldLists.{segment_items_at}
-use Rattle.rh_script.specs.NamedSlots.{item_end, segments_of_named, slot_or_empty}
+use Rattle.rh_script.specs.NamedSlots.{slot_or_empty}
+use Rattle.rh_script.specs.Inner.SegmentsBehind.{item_end, segments_of_named}
 use Rattle.rh_script.proofs.SegmentLemmas.{AllSized, sized}
 use Rattle.vf_desk.specs.DeskItems.{listed_with, as_segment, segments_listed}
 use Rattle.vf_desk.specs.declared.items.VfSegment.{VfSegment}

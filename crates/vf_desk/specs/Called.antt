@@ -9,9 +9,7 @@ use Rattle.rh_defs.specs.declared.reply.Reply.TheVariants as reply
 use Rattle.rh_defs.specs.Questions.{each_of}
 use Rattle.rh_defs.specs.Range.{in_range}
 use Rattle.rh_defs.specs.Desk.{Desk}
-use Rattle.rh_defs.specs.Order.{IsReordered}
 use Rattle.rh_defs.specs.Commands.{step}
-use Rattle.rh_tasks.specs.Shown.{Shown}
 use Rattle.vf_desk.specs.declared.called.Called.{Called}
 use Rattle.vf_desk.specs.declared.called.Called.TheVariants.{Closed, BadArgument, Said}
 use Rattle.vf_desk.specs.declared.desk.VfDesk.{VfDesk}
@@ -59,14 +57,6 @@ abbrev pub IsAsked : Option Command → Type 0
 IsAsked None = Unit {0}
 IsAsked (Some (command.Ask q)) = Unit {0}
 IsAsked (Some _) = ⊥
-
--- What a command, or none, comes to on a world, of each desk that it may be seen as. With any status but 0 all of the
--- world stays, and where it is a question.
-pub record Steps (command : Option Command) (old new : Shown) (said : Called) : Type 0 where
-  pub said_is : (d : Desk) → IsReordered d old.desk → said ≡ called (Some d) command
-  pub desk : (d : Desk) → IsReordered d old.desk → IsReordered (desk_with command d) new.desk
-  pub refused : status_of said ≢ 0 → new ≡ old
-  pub asked : IsAsked command → new ≡ old
 
 -- A call asks a question: its status is that of the answer on each desk that the handle may be seen as, and all that
 -- the handle has stays.

@@ -2,10 +2,10 @@ pub mod Called
 pub mod DeskForms
 pub mod DeskItems
 pub mod DeskLines
-pub mod DeskLists
 pub mod DeskStatus
 pub mod Event
 pub mod HandleOwnership
+pub mod Inner
 pub mod Next
 pub mod Opening
 pub mod SeenDesk

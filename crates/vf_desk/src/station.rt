@@ -3,7 +3,8 @@ ghost use Rattle.std.specs.Prelude.{◌≡◌, ◌≢◌, true, Option, Some, No
 ghost use Rattle.rh_defs.specs.Desk.{Desk};
 ghost use Rattle.rh_defs.specs.Range.{in_range};
 ghost use Rattle.rh_defs.specs.declared.command.Command.TheVariants as Command;
-ghost use Rattle.vf_desk.specs.Called.{IsAsked, Steps, called, desk_by, in_form, status_of};
+ghost use Rattle.vf_desk.specs.Called.{IsAsked, called, desk_by, in_form, status_of};
+ghost use Rattle.vf_desk.specs.Inner.DeskSteps.{Steps};
 ghost use Rattle.vf_desk.specs.SeenDesk.{KeepsRest, SeenBy};
 
 use crate::called::Called;

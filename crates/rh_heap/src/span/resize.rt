@@ -6,7 +6,8 @@ ghost use Rattle.rh_defs.specs.Heap.{hole_for, shortage_in, block_at, base, resi
 ghost use Rattle.rh_heap.specs.HeapSpans.{IsSpan, OnlySpan, bytes_in, heap_in};
 ghost use Rattle.rh_heap.specs.HeapCalls.{LeavesHeap};
 ghost use Rattle.rh_heap.specs.Segments.{FoundBlock};
-ghost use Rattle.rh_heap.specs.HeapWays.{WayOf, ShortBy, Changed, NotChanged, WithBlock, SpellsResized, Moved};
+ghost use Rattle.rh_heap.specs.HeapWays.{WayOf, ShortBy, WithBlock, SpellsResized};
+ghost use Rattle.rh_heap.specs.Inner.WayEnds.{Changed, NotChanged, Moved};
 ghost use Rattle.rh_defs.specs.declared.sizes.TheConstants.{HEAP_UNIT};
 ghost use Rattle.rh_heap.specs.declared.layout.TheConstants.{BLOCK};
 

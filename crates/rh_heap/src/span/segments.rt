@@ -4,7 +4,8 @@ ghost use Rattle.std.specs.Option.{option_map};
 ghost use Rattle.rh_defs.specs.Memory.{Memory, IsOpen, bytes};
 ghost use Rattle.rh_defs.specs.Heap.{segment_at, block_at, block_around, block_size, base};
 ghost use Rattle.rh_heap.specs.HeapSpans.{IsSpan, bytes_in, heap_in};
-ghost use Rattle.rh_heap.specs.Segments.{Around, FoundSegment, FoundBlock, NoHole, Reached, piece};
+ghost use Rattle.rh_heap.specs.Segments.{FoundSegment, FoundBlock, NoHole, Reached, piece};
+ghost use Rattle.rh_heap.specs.Inner.SegmentsAround.{Around};
 ghost use Rattle.rh_defs.specs.declared.sizes.TheConstants.{HEAP_FIRST};
 
 use crate::layout::{BLOCK, Segment};

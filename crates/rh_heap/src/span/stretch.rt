@@ -3,7 +3,8 @@ ghost use Rattle.std.specs.Prelude.{◌≡◌, ◌≢◌, ℕ, ◌+◌, ◌<◌,
 ghost use Rattle.rh_defs.specs.Bytes.{word};
 ghost use Rattle.rh_defs.specs.Memory.{Memory, IsOpen, Edited, bytes};
 ghost use Rattle.rh_heap.specs.HeapSpans.{bytes_in};
-ghost use Rattle.rh_heap.specs.Stretches.{IsStretch, Settles, PutsHole};
+ghost use Rattle.rh_heap.specs.Stretches.{IsStretch, Settles};
+ghost use Rattle.rh_heap.specs.Inner.HolePuts.{PutsHole};
 ghost use Rattle.rh_defs.specs.declared.sizes.TheConstants.{HEAP_BASE};
 ghost use Rattle.rh_heap.specs.declared.layout.TheConstants.{HOLE_HEADER};
 

@@ -23,7 +23,8 @@ fn first_closed(opened: &[bool]) -> Option<usize>
 }
 
 impl<G: Ground> Words for PagedStore<G> {
-    ghost use Rattle.rh_pages.specs.Paged.{paged_memory, paged_small_law};
+    ghost use Rattle.rh_pages.specs.Paged.{paged_memory};
+    ghost use Rattle.rh_pages.specs.Inner.PagedLaws.{paged_small_law};
 
     ghost memory = { paged_memory };
 
@@ -106,7 +107,7 @@ impl<G: Ground> WordsMut for PagedStore<G> {
 }
 
 impl<G: Ground> Paged for PagedStore<G> {
-    ghost use Rattle.rh_pages.specs.Paged.{paged_whole_law};
+    ghost use Rattle.rh_pages.specs.Inner.PagedLaws.{paged_whole_law};
 
     fn rest_of_page(&self, id: AreaId, at: usize) -> &[u8] {
         let start = self.spot(id, at);
@@ -117,7 +118,7 @@ impl<G: Ground> Paged for PagedStore<G> {
 }
 
 impl<G: Ground> Pages for PagedStore<G> {
-    ghost use Rattle.rh_pages.specs.Paged.{paged_ledger_law, paged_within_law, paged_few_law};
+    ghost use Rattle.rh_pages.specs.Inner.PagedLaws.{paged_ledger_law, paged_within_law, paged_few_law};
 
     fn grow(&mut self, id: AreaId, pages: usize) -> Result<(), StoreFault> {
         if self.table.len(FREE) < pages {
@@ -151,7 +152,7 @@ impl<G: Ground> Pages for PagedStore<G> {
 }
 
 impl<G: Ground> Store for PagedStore<G> {
-    ghost use Rattle.rh_pages.specs.Paged.{paged_numbered_law};
+    ghost use Rattle.rh_pages.specs.Inner.PagedLaws.{paged_numbered_law};
 
     fn open(&mut self) -> Result<AreaId, StoreFault> {
         match first_closed(&self.opened) {
@@ -181,7 +182,8 @@ impl<G: Ground> Store for PagedStore<G> {
 }
 
 impl<G: Ground> Sited for PagedStore<G> {
-    ghost use Rattle.rh_pages.specs.Paged.{pages_of, free_of, shared_law};
+    ghost use Rattle.rh_pages.specs.Paged.{pages_of, free_of};
+    ghost use Rattle.rh_pages.specs.Inner.PagedLaws.{shared_law};
 
     ghost pages_of = { pages_of };
 

@@ -1,5 +1,5 @@
 use Rattle.rh_draw.proofs.Common.{codes, puts_before, puts_stops, puts_more, message_entry_text, escape, refl}
-use Rattle.rh_draw.specs.DrawLetters.{behind_commas}
+use Rattle.rh_draw.specs.Inner.DrawLetters.{behind_commas}
 use Rattle.rh_draw.proofs.EscapedItems.{escape-first}
 use Rattle.rh_draw.proofs.WriteLemmas.{puts-as}
 use Rattle.rh_draw.proofs.tables.put_entries.Goals as goal

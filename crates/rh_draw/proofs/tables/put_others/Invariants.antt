@@ -1,5 +1,5 @@
 use Rattle.rh_draw.proofs.Common.{length, escape, Left}
-use Rattle.rh_draw.specs.DrawLetters.{behind_commas}
+use Rattle.rh_draw.specs.Inner.DrawLetters.{behind_commas}
 use Rattle.rh_draw.proofs.tables.put_others.Given as goal
 
 -- the rest is left

@@ -1,6 +1,6 @@
 use Rattle.rh_drawn.proofs.Common.{◌≡◌, ℕ, ◌++◌, List, [], ◌∷◌, Some, ap, sym, refl, ◌∙◌, append-nil, arith, length-append, summary_of}
 use Rattle.rh_figure.specs.Changes.{Slide}
-use Rattle.rh_drawn.specs.DrawnSlides.{with_one}
+use Rattle.rh_drawn.specs.Inner.SlidesSeen.{with_one}
 use Rattle.rh_drawn.specs.declared.block_changes.Slid.{Slid}
 use Rattle.rh_drawn.proofs.block_changes.with_block.Goals as goal
 

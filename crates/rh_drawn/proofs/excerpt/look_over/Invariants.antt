@@ -1,6 +1,6 @@
 use Rattle.std.proofs.Common.{◌-◌, length, take}
 use Rattle.std.specs.List.{AllByRecursion}
-use Rattle.rh_drawn.specs.DrawnReplies.{IsSmallTask}
+use Rattle.rh_drawn.specs.Inner.SmallTasks.{IsSmallTask}
 use Rattle.rh_drawn.proofs.excerpt.look_over.Given as goal
 
 -- the tasks so far are small

@@ -1,5 +1,6 @@
 use Rattle.rh_drawn.proofs.Common.{[], ◌∷◌, ◌++◌, ap, sym, refl, shown_lines, scene_at, area_part, slot_part}
-use Rattle.rh_drawn.specs.Parts.{change_part, letter_part, module_part, pool_part, transfer_part}
+use Rattle.rh_drawn.specs.Parts.{letter_part, module_part, pool_part, transfer_part}
+use Rattle.rh_drawn.specs.Inner.PartsBehind.{change_part}
 use Rattle.rh_drawn.proofs.FigureLemmas.{behind_areas, behind_changes, behind_module, figure-parts}
 use Rattle.rh_drawn.proofs.Walks.{lines_stop, lines_then, puts_line, puts_same}
 use Rattle.rh_drawn.proofs.figure.print_figure.Goals as goal

@@ -3,7 +3,7 @@ use Rattle.rh_drawn.proofs.Common.{flat_map-append, Desk, Parcel, action_of, Tex
 use Rattle.rh_drawn.proofs.Common.{left_none, left_whole, MessageItem, held_on, message_items, waiting_on, indented}
 use Rattle.rh_figure.specs.Changes.{returns_line}
 use Rattle.rh_sight.specs.SightMessages.{seen_item}
-use Rattle.rh_drawn.specs.Returns.{return_lines}
+use Rattle.rh_drawn.specs.Inner.ReturnLines.{return_lines}
 use Rattle.rh_drawn.proofs.Walks.{indented-each, walk-at, walk-end}
 use Rattle.rh_drawn.proofs.post_changes.print_returned.Goals as goal
 

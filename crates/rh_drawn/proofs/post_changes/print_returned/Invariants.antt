@@ -1,7 +1,7 @@
 use Rattle.rh_drawn.proofs.Common.{drop, ◌==◌, ◌&&◌, filter, map, flat_map, Parcel, is_returned, shown_lines, Left, scene_at, indented}
 use Rattle.rh_figure.specs.Changes.{returns_text}
 use Rattle.rh_figure.specs.Scene.{waiting}
-use Rattle.rh_drawn.specs.Returns.{return_lines}
+use Rattle.rh_drawn.specs.Inner.ReturnLines.{return_lines}
 use Rattle.rh_drawn.proofs.post_changes.print_returned.Given as goal
 
 -- the messages from the place on are left

@@ -2,7 +2,7 @@ use Rattle.rh_drawn.proofs.Common.{◌≡◌, Bool, true, false, [], ◌∷◌, 
 use Rattle.rh_drawn.proofs.Common.{scene_at}
 use Rattle.rh_figure.specs.Figure.{is_drawn, slot_drawing}
 use Rattle.rh_figure.specs.Map.{drawing_lines}
-use Rattle.rh_drawn.specs.Parts.{slot_heading}
+use Rattle.rh_drawn.specs.Inner.PartsBehind.{slot_heading}
 use Rattle.rh_drawn.proofs.DrawingLemmas.{seen-same, slot-stands}
 use Rattle.rh_drawn.proofs.Walks.{lines_stop, lines_then, puts_same}
 use Rattle.rh_drawn.proofs.slots.print_one.Goals as goal

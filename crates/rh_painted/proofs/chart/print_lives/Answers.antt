@@ -1,5 +1,5 @@
 use Rattle.rh_painted.proofs.Common.{refl, flat_map, left_breaks, left_less, left_none}
-use Rattle.rh_painted.specs.Charts.{life_in}
+use Rattle.rh_painted.specs.Inner.Charts.{life_in}
 use Rattle.rh_painted.proofs.TextWalks.{text-nth, text-end}
 use Rattle.rh_painted.proofs.chart.print_lives.Goals as goal
 

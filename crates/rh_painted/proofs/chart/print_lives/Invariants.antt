@@ -1,5 +1,5 @@
 use Rattle.rh_painted.proofs.Common.{drop, flat_map, Left}
-use Rattle.rh_painted.specs.Charts.{life_in}
+use Rattle.rh_painted.specs.Inner.Charts.{life_in}
 use Rattle.rh_painted.proofs.chart.print_lives.Given as goal
 
 -- those from the place on are left

@@ -1,7 +1,7 @@
 use Rattle.rh_painted.proofs.Common.{◌+◌, ◌++◌, ap, refl, codes, flat_map, Text, arrow_sentence, escape, figure_open, puts_same, arrows_seen, puts_before}
 use Rattle.rh_painted.proofs.Common.{puts_more, puts_stops}
 use Rattle.rh_sheet.specs.declared.sizes.TheConstants.{CHART_EDGE, CHART_WIDTH}
-use Rattle.rh_painted.specs.Charts.{body_of_chart}
+use Rattle.rh_painted.specs.Inner.Charts.{body_of_chart}
 use Rattle.rh_painted.proofs.ChartLemmas.{chart-parts, title, ways-some}
 use Rattle.rh_painted.proofs.chart.print_whole.Goals as goal
 

@@ -1,7 +1,7 @@
 use Rattle.rh_painted.proofs.Common.{List, refl, ins_of, transfer_row, out_rows, outs_named, left_breaks, left_less, left_none}
 use Rattle.rh_defs.specs.declared.transfer.Outgoing.{Outgoing}
 use Rattle.rh_defs.specs.Questions.{out_item}
-use Rattle.rh_drawn.specs.DrawnSides.{goes_out}
+use Rattle.rh_drawn.specs.Inner.TransferWays.{goes_out}
 use Rattle.rh_painted.proofs.TextWalks.{text-at, text-end}
 use Rattle.rh_painted.proofs.transfers.print_task_outs.Goals as goal
 

@@ -1,6 +1,6 @@
 use Rattle.rh_painted.proofs.Common.{◌≡◌, ◌+◌, ◌∷◌, [], ◌++◌, List, ap, sym, ◌∙◌, arith, length, length-append, Way}
 use Rattle.std.proofs.lemmas.List.{nil_from_length}
-use Rattle.rh_painted.specs.Ways.{with_step}
+use Rattle.rh_painted.specs.Inner.WaySteps.{with_step}
 use Rattle.rh_painted.proofs.WayLemmas.{steps-are, with_steps, with_steps-last}
 use Rattle.rh_painted.proofs.ways.steps_in.Goals as goal
 

@@ -9,7 +9,8 @@ use Rattle.rh_defs.specs.Heap.{first_place, free_bytes, largest, segment_at}
 use Rattle.rh_defs.specs.Questions.{Nothing, Segments, heap, heap_at, segment_item, segment_items, segment_items_from}
 use Rattle.rh_defs.specs.Slot.{heap_start}
 use Rattle.rh_defs.specs.Text.{answer_text, first_line, later_lines}
-use Rattle.rh_script.specs.NamedSlots.{segments_of_named, slot_or_empty}
+use Rattle.rh_script.specs.NamedSlots.{slot_or_empty}
+use Rattle.rh_script.specs.Inner.SegmentsBehind.{segments_of_named}
 use Rattle.rh_script.proofs.PrintLemmas.{ok_same, refused_alike, refused_text}
 use Rattle.rh_script.proofs.segments.print_heap.Goals as goal
 

@@ -3,7 +3,7 @@ use Rattle.rh_figure.specs.declared.piece.Kind.{Kind}
 use Rattle.rh_figure.specs.declared.piece.Kind.TheVariants.{Claimed}
 use Rattle.rh_figure.specs.Layout.{is_fresh_block}
 use Rattle.rh_sight.specs.declared.sight.HeapOf.TheVariants as heap_of
-use Rattle.rh_sight.specs.Walks.{kind_and_freshness}
+use Rattle.rh_sight.specs.Inner.WalkItems.{kind_and_freshness}
 use Rattle.rh_sight.proofs.pieces.block_kind.Goals as goal
 
 -- a block of a C heap is claimed

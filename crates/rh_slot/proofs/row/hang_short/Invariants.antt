@@ -1,5 +1,5 @@
 use Rattle.std.proofs.Common.{◌-◌}
-use Rattle.rh_slot.specs.Row.{Hangs}
+use Rattle.rh_slot.specs.Inner.RowWalks.{Hangs}
 use Rattle.rh_slot.proofs.row.hang_short.Given as goal
 
 abbrev pub invariant-walk : goal.invariant-walk

@@ -1,5 +1,5 @@
 use Rattle.rh_tasks.proofs.Common.{ap, sym, ◌∙◌, arith, slice_get, IsOpen, Seat, HasSlot, all-map}
-use Rattle.rh_tasks.specs.WorldItems.{slot_items}
+use Rattle.rh_tasks.specs.Inner.ItemsByOwner.{slot_items}
 use Rattle.rh_tasks.proofs.ItemLaws.{item-made, item-slot}
 use Rattle.rh_tasks.proofs.listing.entry_at.Goals as goal
 

@@ -1,5 +1,5 @@
 use Rattle.rh_wimp.proofs.Common.{◌≡◌, ℕ, ◌<◌, false, List, list_any, module_heap_in, SeatRow, RowsLie, row_at, row_parcels, wants}
-use Rattle.rh_wimp.specs.Searches.{AreShortChains}
+use Rattle.rh_wimp.specs.Inner.Searches.{AreShortChains}
 use Rattle.rh_wimp.proofs.searching.any_entry.Given as goal
 
 -- no message of the rows before is the one

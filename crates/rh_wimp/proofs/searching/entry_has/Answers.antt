@@ -1,4 +1,4 @@
-use Rattle.rh_wimp.specs.Searches.{wants}
+use Rattle.rh_wimp.specs.Inner.Searches.{wants}
 use Rattle.rh_wimp.proofs.SearchLaws.{chain-decides, held-has_it}
 use Rattle.rh_wimp.proofs.searching.entry_has.Goals as goal
 

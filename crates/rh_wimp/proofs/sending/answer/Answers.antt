@@ -1,7 +1,7 @@
 use Rattle.rh_wimp.proofs.Common.{◌≡◌, ℕ, ◌<◌, ◌≢◌, Bool, true, false, List, length, refl, sym, ap, subst, ◌∙◌, arith, Some, ◌==◌, word, module_heap_in}
 use Rattle.rh_wimp.proofs.Common.{HasBlock}
 use Rattle.rh_wimp.proofs.Common.{block_bytes, SeatRow, RowsLie, Holds, entry_at, row_at, answers_held, Entry, has-less}
-use Rattle.rh_wimp.specs.Moves.{PutsDown}
+use Rattle.rh_wimp.specs.Inner.Settling.{PutsDown}
 use Rattle.rh_wimp.proofs.AnswerLaws.{read_entry, one_entry, some_entry, held-has, held-test}
 use Rattle.rh_wimp.proofs.PostLaws.{found-at}
 use Rattle.rh_wimp.proofs.sending.answer.Goals as goal

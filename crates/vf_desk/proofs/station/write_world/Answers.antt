@@ -1,7 +1,7 @@
 use Rattle.vf_desk.proofs.Common.{refl, sym, ap, arith, tests}
 use Rattle.rh_defs.specs.declared.command.Command.TheVariants as command
 use Rattle.rh_defs.specs.declared.reply.Reply.TheVariants as reply
-use Rattle.rh_tasks.specs.Answer.{reply_of}
+use Rattle.rh_tasks.specs.Inner.CommandAnswers.{reply_of}
 use Rattle.rh_tasks.proofs.Steps.{stepped}
 use Rattle.vf_desk.proofs.FormLaws.{a-name, an-anchor, no-anchor, no-name, put-anchor, put-bytes, put-good, put-name, put-number}
 use Rattle.vf_desk.proofs.SeenLaws.{steps-bad, steps-good}

@@ -1,6 +1,7 @@
 -- What was listed, 64 segments at most, and the segments from the place on are all from the target on.
 use Rattle.rh_heap.proofs.Common.{◌-◌, ◌≤◌, length, segment_at, heap_in, listed}
-use Rattle.rh_heap.specs.Listed.{from_cut, HasListed}
+use Rattle.rh_heap.specs.Listed.{from_cut}
+use Rattle.rh_heap.specs.Inner.ListedBefore.{HasListed}
 use Rattle.rh_defs.specs.declared.sizes.TheConstants.{SEGMENTS_AT_ONCE}
 use Rattle.rh_heap.proofs.span.list.segments_from.Given as goal
 

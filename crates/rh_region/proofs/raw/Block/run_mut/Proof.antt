@@ -24,7 +24,7 @@ use denote.Signature.{mut_ref_to}
 use denote.Slice.{MutSlice, Room, slice_val}
 use denote.Steps.{opens, peeks}
 use denote.Triple.Walked.{says, Goes-spent_ref}
-use Rattle.rh_region.specs.BlockLends.{patched_block}
+use Rattle.rh_region.specs.Inner.BlockLends.{patched_block}
 use Rattle.rh_region.specs.Patched.{with_run}
 use Rattle.rh_region.specs.contracts.raw.Block.run_mut as f
 use Rattle.rh_region.proofs.BlockFields.{R, Fields, fields}

@@ -5,7 +5,7 @@ use Rattle.rh_defs.specs.Line.{Meaning, line_means}
 use Rattle.rh_defs.specs.Script.{meaning_text}
 use Rattle.rh_lines.specs.Placed.{if_placed}
 use Rattle.rh_session.specs.Session.{State}
-use Rattle.rh_session.specs.SessionAnswer.{state_after_meaning}
+use Rattle.rh_session.specs.Inner.SessionStates.{state_after_meaning}
 use Rattle.rh_session.specs.Holding.{Gathers}
 use Rattle.rh_session.specs.SessionKept.{IsState}
 use Rattle.rh_feed.proofs.LineLemmas.{means_as_kept}

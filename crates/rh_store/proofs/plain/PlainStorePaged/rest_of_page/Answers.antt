@@ -1,5 +1,5 @@
 use Rattle.rh_store.proofs.Common.{◌-◌, ◌%◌, length, sym, ap, ◌∙◌, arith, PAGE, part, bytes, open_index, open_read, memory_of}
-use Rattle.rh_store.specs.Plain.{whole_law}
+use Rattle.rh_store.specs.Inner.PlainLaws.{whole_law}
 use Rattle.rh_store.proofs.plain.PlainStorePaged.rest_of_page.Goals as goal
 
 pub index-requires : goal.index-requires

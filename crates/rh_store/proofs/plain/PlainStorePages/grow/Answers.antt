@@ -2,7 +2,7 @@ use Rattle.rh_store.proofs.Common.{◌≡◌, ◌+◌, ◌-◌, ◌*◌, ◌++�
 use Rattle.rh_store.proofs.Common.{numbered_areas, memory_of, changed, open_index}
 use Rattle.std.proofs.lemmas.List.{length-replicate}
 use Rattle.std.proofs.Math.ListN.{length-append}
-use Rattle.rh_store.specs.Kept.{whole_areas, within_pool}
+use Rattle.rh_store.specs.Inner.Kept.{whole_areas, within_pool}
 use Rattle.rh_store.proofs.AreasLaws.{memory-grown, room_at-all}
 use Rattle.rh_store.proofs.plain.PlainStorePages.grow.Goals as goal
 

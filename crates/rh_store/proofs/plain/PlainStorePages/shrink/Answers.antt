@@ -1,6 +1,6 @@
 use Rattle.rh_store.proofs.Common.{◌+◌, ◌-◌, ◌*◌, length, take, subst, arith, Some, bytes, MAX_AREAS, PAGE, ChangedAt, numbered_areas, memory_of, changed}
 use Rattle.std.proofs.lemmas.List.{length-take-le}
-use Rattle.rh_store.specs.Kept.{whole_areas}
+use Rattle.rh_store.specs.Inner.Kept.{whole_areas}
 use Rattle.rh_store.proofs.AreasLaws.{memory-shrunk}
 use Rattle.rh_store.proofs.plain.PlainStorePages.shrink.Goals as goal
 

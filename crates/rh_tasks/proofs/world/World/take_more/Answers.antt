@@ -2,7 +2,7 @@ use Rattle.rh_tasks.proofs.Common.{◌+◌, ◌^◌, sym, ap, subst, ◌∙◌, 
 use Rattle.rh_tasks.proofs.Common.{le-true, le-false, member-at}
 use Rattle.rh_defs.specs.declared.reply.Outcome.TheVariants as outcome
 use Rattle.rh_defs.specs.declared.transfer.Incoming.TheVariants as incoming
-use Rattle.rh_tasks.specs.WorldPolls.{Handles}
+use Rattle.rh_tasks.specs.Inner.PollSteps.{Handles}
 use Rattle.rh_tasks.proofs.Takings.{inside, stands-appended, becomes-ok, becomes-err, was-refused, not-both, failed-as, counted, uncounted, taken-uncounted}
 use Rattle.rh_tasks.proofs.Takings.{taken-refused, taken-on}
 use Rattle.rh_tasks.proofs.world.World.take_more.Goals.{in-Some, in-None}

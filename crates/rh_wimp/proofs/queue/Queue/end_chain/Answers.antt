@@ -2,7 +2,7 @@ use Rattle.rh_wimp.proofs.Common.{ℕ, ◌+◌, ◌≤◌, length, List, ap, sub
 use Rattle.rh_wimp.proofs.Common.{module_heap_in}
 use Rattle.rh_wimp.proofs.Common.{Lifted, SpellsPostIn, entry_at, ended_from, queue_to}
 use Rattle.rh_defs.proofs.MemoryLaws.{OnlyArea-self}
-use Rattle.rh_wimp.specs.Chains.{LiftsFirst}
+use Rattle.rh_wimp.specs.Inner.LooseMessages.{LiftsFirst}
 use Rattle.rh_wimp.proofs.DeathLaws.{seats-ended}
 use Rattle.rh_wimp.proofs.EndLaws.{drained-end, drained-start, drained-step, place-stays}
 use Rattle.rh_wimp.proofs.PostLaws.{seat_at}

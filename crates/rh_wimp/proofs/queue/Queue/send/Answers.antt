@@ -5,8 +5,10 @@ use Rattle.rh_wimp.proofs.Common.{Post, held_by, block_within}
 use Rattle.rh_defs.proofs.MemoryLaws.{OnlyArea-self}
 use Rattle.rh_defs.proofs.PostLaws.{post_send-handles}
 use Rattle.rh_wimp.proofs.LeavesLaws.{handles-stay, left}
-use Rattle.rh_wimp.specs.Moves.{Relinks, Settled}
-use Rattle.rh_wimp.specs.Chains.{longer_chains, refusal_for}
+use Rattle.rh_wimp.specs.Moves.{Relinks}
+use Rattle.rh_wimp.specs.Inner.Settling.{Settled}
+use Rattle.rh_wimp.specs.Inner.ChainEdits.{longer_chains}
+use Rattle.rh_wimp.specs.Inner.LetterRefusals.{refusal_for}
 use Rattle.rh_defs.specs.Post.{post_send, queued_in}
 use Rattle.rh_wimp.proofs.SendLaws.{admitted-refs, owns-longer, send-refused, send-short, send-granted, Joined, letter-joined, letter-settled, last-stays}
 use Rattle.rh_wimp.proofs.SendLaws.{new-there}

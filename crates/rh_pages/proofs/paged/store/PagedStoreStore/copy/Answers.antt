@@ -1,4 +1,4 @@
-use Rattle.rh_pages.specs.Paged.{paged_small_law}
+use Rattle.rh_pages.specs.Inner.PagedLaws.{paged_small_law}
 use Rattle.rh_pages.proofs.paged.store.PagedStoreStore.copy.Goals as goal
 
 pub copy_across-requires-clause-small : goal.copy_across-requires-clause-small

@@ -1,4 +1,4 @@
-use Rattle.rh_pages.specs.Paged.{paged_small_law}
+use Rattle.rh_pages.specs.Inner.PagedLaws.{paged_small_law}
 use Rattle.rh_pages.proofs.paged.store.PagedStoreWordsMut.slide.Goals as goal
 
 pub slide_down-requires-clause-small : goal.slide_down-requires-clause-small

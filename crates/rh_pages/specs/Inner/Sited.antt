@@ -6,7 +6,7 @@ use Rattle.std.proofs.lemmas.Bool.Decides.{eqb_tells}
 use Rattle.rh_defs.specs.declared.sizes.TheConstants.{PAGE}
 use Rattle.rh_defs.specs.Memory.{bytes, pages_below}
 use Rattle.rh_defs.specs.Pieces.{total}
-use Rattle.rh_pages.specs.PagedKept.{length-bytes}
+use Rattle.rh_pages.specs.Inner.PagedKept.{length-bytes}
 use Rattle.rh_pages.specs.Pages.{paged_bytes, list_at, paged_contents, paged_memory_in, IsPagedStore}
 use Rattle.rh_store.specs.Shares.{times, times_all, SharesOut}
 

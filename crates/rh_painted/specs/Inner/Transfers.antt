@@ -4,7 +4,7 @@ use Rattle.std.specs.List.{flat_map, list_any}
 use Rattle.rh_defs.specs.declared.transfer.Incoming.{Incoming}
 use Rattle.rh_defs.specs.declared.transfer.Outgoing.{Outgoing}
 use Rattle.rh_defs.specs.Questions.{in_item, out_item}
-use Rattle.rh_drawn.specs.DrawnSides.{comes_alone, goes_out}
+use Rattle.rh_drawn.specs.Inner.TransferWays.{comes_alone, goes_out}
 use Rattle.rh_figure.specs.Figure.{Side, has_id}
 use Rattle.rh_figure.specs.Phrases.{Text}
 use Rattle.rh_sheet.specs.Tables.{transfer_row}

@@ -1,0 +1,5 @@
+-- Definitions that no clause of a public function stands on: those of private functions, loops and proofs.
+pub mod BlankedBlocks
+pub mod NamedParts
+pub mod NonePassing
+pub mod PostHandles

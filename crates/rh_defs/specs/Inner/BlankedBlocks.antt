@@ -1,0 +1,7 @@
+-- A heap with zeros in its blocks.
+use Rattle.rh_defs.specs.Heap.{Heap}
+use Rattle.rh_defs.specs.Blocks.{blank}
+
+-- the heap with zeros in all blocks
+abbrev pub blanked : Heap → Heap
+blanked h = record h { segments = blank h.segments }

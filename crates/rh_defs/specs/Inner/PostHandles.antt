@@ -1,0 +1,7 @@
+-- The live handles of a post.
+use Rattle.std.specs.Prelude.{ℕ, List, map}
+use Rattle.rh_defs.specs.Post.{Post, Seat}
+
+-- the live handles in order
+abbrev pub post_handles : Post → List ℕ
+post_handles post = map (λ (s : Seat). s.handle) post.seats

@@ -1,0 +1,23 @@
+-- How far a map has come, and the lines of its step.
+use Rattle.std.specs.Prelude.{◌≡◌, ◌&&◌, not, Bool, List, ℕ, Option}
+use Rattle.rh_defs.specs.declared.command.Command.{Command}
+use Rattle.rh_defs.specs.declared.reply.Reply.{Reply}
+use Rattle.rh_defs.specs.Desk.{Desk}
+use Rattle.rh_figure.specs.Share.{Share}
+use Rattle.rh_figure.specs.Phrases.{Text}
+use Rattle.rh_figure.specs.Scene.{Before, is_still, marks_of, scene_of}
+use Rattle.rh_figure.specs.Map.{step_lines}
+use Rattle.rh_drawn.specs.declared.mapper.Mapper.{Mapper}
+
+-- two maps stand at one place, whatever they drew a step with
+pub record IsSamePlace {D : Type 0} (m n : Mapper D) : Type 0 where
+  pub drawn_is : n.drawn ≡ m.drawn
+  pub marked_is : n.marked ≡ m.marked
+  pub steps : n.steps ≡ m.steps
+  pub wanted : n.wanted ≡ m.wanted
+  pub bad : n.has_bad_line ≡ m.has_bad_line
+
+-- the lines of a step, on the desk behind it
+abbrev pub shown_step : Bool → ℕ → Text → Text → Desk → Share → Before → Option Command → Reply → List Text
+shown_step wanted number line reply d s b c r =
+    step_lines (is_still c r && not wanted) number line reply (scene_of d s b (marks_of d b c r))

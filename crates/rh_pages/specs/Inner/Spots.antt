@@ -1,0 +1,8 @@
+-- Where the bytes of an area stand.
+use Rattle.std.specs.Prelude.{ℕ, ◌+◌, ◌*◌, ◌/◌, ◌%◌, List, get_or}
+use Rattle.rh_defs.specs.declared.sizes.TheConstants.{PAGE}
+use Rattle.rh_pages.specs.Pages.{list_at}
+
+-- where the byte at an offset of an area stands in the region
+abbrev pub spot_in : List (List ℕ) → ℕ → ℕ → ℕ
+spot_in lists id at = PAGE * get_or (list_at lists id) (at / PAGE) 0 + at % PAGE

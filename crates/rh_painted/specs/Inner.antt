@@ -1,0 +1,8 @@
+-- Definitions that no clause of a public function stands on: those of private functions, loops and proofs.
+pub mod BandNames
+pub mod Charts
+pub mod Figures
+pub mod Notes
+pub mod PaintedSteps
+pub mod Transfers
+pub mod WaySteps

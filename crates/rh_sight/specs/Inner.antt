@@ -1,0 +1,4 @@
+-- Definitions that no clause of a public function stands on: those of private functions, loops and proofs.
+pub mod Holdings
+pub mod OwnerPlaces
+pub mod WalkItems

@@ -1,0 +1,5 @@
+-- Definitions that no clause of a public function stands on: those of private functions, loops and proofs.
+pub mod CHeap
+pub mod FoundBlocks
+pub mod RowChecks
+pub mod RowWalks
