@@ -1,5 +1,5 @@
 -- Why the laws of `Store` hold of the pages of lent bytes.
-use Rattle.std.specs.Prelude.{◌≡◌, ℕ, ◌+◌, ◌-◌, ◌*◌, ◌%◌, ◌≤◌, ◌==◌, cond, Bool, true, false, List, [], length, Some, None, unwrap_or, refl}
+use Rattle.std.specs.Prelude.{◌≡◌, ℕ, ◌+◌, ◌-◌, ◌*◌, ◌%◌, ◌≤◌, ◌==◌, List, length}
 use Rattle.std.proofs.Common.{arith}
 use Rattle.std.proofs.lemmas.List.{length-take-le}
 use Rattle.rh_defs.specs.Memory.{Ledger, area_set, bytes, pages_below}
@@ -7,44 +7,36 @@ use Rattle.rh_defs.specs.declared.sizes.TheConstants.{MAX_AREAS, PAGE}
 use Rattle.rh_flex.specs.declared.pages.LentPages.{LentPages}
 use Rattle.rh_flex.specs.declared.pages_mut.LentPagesMut.{LentPagesMut}
 use Rattle.rh_store.specs.Limits.{area_limit, pool_limit}
+use Rattle.rh_store.specs.Inner.StoreLaws.{short_shown, whole_shown}
 use Rattle.rh_flex.specs.LentPages.{first_pages, lent_pages_memory, pages_memory_over, pages_memory_shown}
 
 long : (b : List ℕ) (n : ℕ) → PAGE * n ≤ length b → length (first_pages n b) ≡ PAGE * n
 long b n within = length-take-le (PAGE * n) b within
 
-one_short : (b : Bool) (bs : List ℕ) (n : ℕ) → length bs ≤ n → length (unwrap_or (cond b (Some bs) None) []) ≤ n
-one_short true bs n h = h
-one_short false bs n h = omega arith
-
-one_whole : (b : Bool) (bs : List ℕ) → length bs % PAGE ≡ 0
-    → length (unwrap_or (cond b (Some bs) None) []) % PAGE ≡ 0
-one_whole true bs h = h
-one_whole false bs h = refl
-
 pub lent_small_law : (s : LentPagesMut) (id : ℕ) → length (bytes (lent_pages_memory s) id) ≤ area_limit
 unfolding lent_pages_memory pages_memory_over area_set bytes
 lent_small_law s id =
-    one_short (id == 0) _ area_limit (let l = long s.bytes.now s.pages s.within in let w = s.within in let f = s.few in omega arith)
+    short_shown (id == 0) _ area_limit (let l = long s.bytes.now s.pages s.within in let w = s.within in let f = s.few in omega arith)
 
 pub lent_whole_law : (s : LentPagesMut) (id : ℕ) → length (bytes (lent_pages_memory s) id) % PAGE ≡ 0
 unfolding lent_pages_memory pages_memory_over area_set bytes
-lent_whole_law s id = one_whole (id == 0) _ (let l = long s.bytes.now s.pages s.within in omega arith)
+lent_whole_law s id = whole_shown (id == 0) _ (let l = long s.bytes.now s.pages s.within in omega arith)
 
 pub shown_pages_small_law : (s : LentPages) (id : ℕ) → length (bytes (pages_memory_shown s) id) ≤ area_limit
 unfolding pages_memory_shown pages_memory_over area_set bytes
 shown_pages_small_law s id =
-    one_short (id == 0) _ area_limit
+    short_shown (id == 0) _ area_limit
     (let l = long s.bytes.now s.pages s.within in let w = s.within in let f = s.few in omega arith)
 
 pub shown_whole_law : (s : LentPages) (id : ℕ) → length (bytes (pages_memory_shown s) id) % PAGE ≡ 0
 unfolding pages_memory_shown pages_memory_over area_set bytes
-shown_whole_law s id = one_whole (id == 0) _ (let l = long s.bytes.now s.pages s.within in omega arith)
+shown_whole_law s id = whole_shown (id == 0) _ (let l = long s.bytes.now s.pages s.within in omega arith)
 
 pub lent_within_law : (s : LentPagesMut) (id : ℕ)
     → PAGE * (lent_pages_memory s).free + length (bytes (lent_pages_memory s) id) ≤ PAGE * (lent_pages_memory s).pages
 unfolding lent_pages_memory pages_memory_over area_set bytes
 lent_within_law s id =
-    let h = one_short (id == 0) (first_pages s.pages s.bytes.now) (PAGE * s.pages) (let l = long s.bytes.now s.pages s.within in omega arith) in
+    let h = short_shown (id == 0) (first_pages s.pages s.bytes.now) (PAGE * s.pages) (let l = long s.bytes.now s.pages s.within in omega arith) in
     let w = s.within in
     omega arith
 

@@ -6,9 +6,9 @@ use Rattle.std.proofs.lemmas.List.{get_or_past}
 use Rattle.rh_defs.specs.declared.sizes.TheConstants.{MAX_PAGES, PAGE}
 use Rattle.rh_defs.specs.Memory.{IsOpen, bytes}
 use Rattle.rh_defs.proofs.BytesLaws.{length-part}
-use Rattle.rh_defs.proofs.MemoryLaws.{pages_below-one}
 use Rattle.rh_pages.specs.Pages.{page, paged_bytes, list_at, paged_contents, paged_memory_in, IsPagedStore}
-use Rattle.rh_store.specs.Limits.{area_limit, pool_limit}
+use Rattle.rh_store.specs.Limits.{area_limit}
+use Rattle.rh_store.specs.Inner.StoreLaws.{whole_shown, within_ledger, small_within}
 
 pub length-bytes : (region ks : List ℕ) → length (paged_bytes region ks) ≡ PAGE * length ks
 length-bytes region [] = refl
@@ -31,10 +31,6 @@ open_paged_index region lists opened id o = elim (cases_lt id (length opened)) [
   | inl h ↦ h
   | inr h ↦ absurd (let past : false ≡ true = sym (get_or_past opened id false h) ∙ open_flag region lists opened id o in cc)
 ]
-
-whole_shown : (b : Bool) (y : List ℕ) → length y % PAGE ≡ 0 → length (unwrap_or (cond b (Some y) None) []) % PAGE ≡ 0
-whole_shown true y h = h
-whole_shown false y h = refl
 
 pub whole_paged_contents : (region : List ℕ) (lists : List (List ℕ)) (opened : List Bool) (id : ℕ) → length (unwrap_or (paged_contents region lists opened id) []) % PAGE ≡ 0
 unfolding paged_contents
@@ -60,14 +56,11 @@ past region lists opened id h = past_shown (get_or opened id false) (paged_bytes
 pub within_paged_pool : (region : List ℕ) (lists : List (List ℕ)) (opened : List Bool) (free : List ℕ) (pages limit id : ℕ) → IsPagedStore region lists opened free pages limit
     → PAGE * length free + length (bytes (paged_memory_in region lists opened free pages) id) ≤ PAGE * pages
 unfolding bytes
-within_paged_pool region lists opened free pages limit id k = elim (cases_lt id limit) [
-  | inl h ↦ let one = pages_below-one (paged_contents region lists opened) id limit h in let whole = whole_paged_contents region lists opened id in let sum = k.ledger in omega arith
-  | inr h ↦ let none = past region lists opened id (let t = k.flags in omega arith) in let sum = k.ledger in omega arith
-]
-
-pub few_paged_pages : (pages : ℕ) → pages ≤ MAX_PAGES → pages ≤ pool_limit
-few_paged_pages pages few = omega arith
+within_paged_pool region lists opened free pages limit id k =
+    within_ledger (paged_memory_in region lists opened free pages) limit id k.ledger (whole_paged_contents region lists opened id)
+    (λ h. past region lists opened id (let t = k.flags in omega arith))
 
 pub small_paged_areas : (region : List ℕ) (lists : List (List ℕ)) (opened : List Bool) (free : List ℕ) (pages limit id : ℕ) → pages ≤ MAX_PAGES → IsPagedStore region lists opened free pages limit
     → length (bytes (paged_memory_in region lists opened free pages) id) ≤ area_limit
-small_paged_areas region lists opened free pages limit id few k = let h = within_paged_pool region lists opened free pages limit id k in omega arith
+small_paged_areas region lists opened free pages limit id few k =
+    small_within (paged_memory_in region lists opened free pages) id few (within_paged_pool region lists opened free pages limit id k)

@@ -3,7 +3,8 @@ use Rattle.std.specs.Prelude.{ℕ, ◌+◌, ◌*◌, ◌%◌, ◌<◌, ◌≤◌
 use Rattle.rh_defs.specs.declared.sizes.TheConstants.{MAX_AREAS, PAGE}
 use Rattle.rh_defs.specs.Memory.{IsOpen, Ledger, bytes}
 use Rattle.rh_pages.specs.declared.paged.PagedStore.{PagedStore}
-use Rattle.rh_pages.specs.Inner.PagedKept.{whole_paged_areas, within_paged_pool, few_paged_pages, small_paged_areas, numbered_paged_areas}
+use Rattle.rh_pages.specs.Inner.PagedKept.{whole_paged_areas, within_paged_pool, small_paged_areas, numbered_paged_areas}
+use Rattle.rh_store.specs.Inner.StoreLaws.{few_pages}
 use Rattle.rh_pages.specs.Inner.Sited.{shared_out}
 use Rattle.rh_store.specs.Limits.{area_limit, pool_limit}
 use Rattle.rh_store.specs.Shares.{SharesOut}
@@ -23,7 +24,7 @@ paged_within_law s id = within_paged_pool (region_of s) (pages_of s) s.opened (f
 
 pub paged_few_law : {G : _} {d : _} (s : PagedStore G d) → (paged_memory s).pages ≤ pool_limit
 unfolding paged_memory
-paged_few_law s = few_paged_pages s.table.room s.few
+paged_few_law s = few_pages s.table.room s.few
 
 pub paged_small_law : {G : _} {d : _} (s : PagedStore G d) (id : ℕ) → length (bytes (paged_memory s) id) ≤ area_limit
 unfolding paged_memory

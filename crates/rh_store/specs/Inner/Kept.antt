@@ -1,13 +1,12 @@
 -- Why the laws of `Store` hold of areas that are kept so.
-use Rattle.std.specs.Prelude.{◌≡◌, ℕ, zero, suc, ◌+◌, ◌*◌, ◌%◌, ◌<◌, ◌≤◌, Bool, true, false, List, [], ◌∷◌, length, Option, Some, None, IsSome, All, cond, unwrap_or, refl}
-use Rattle.std.proofs.Common.{inl, inr, ap, arith}
-use Rattle.std.proofs.lemmas.Bool.{cases_lt}
+use Rattle.std.specs.Prelude.{◌≡◌, ℕ, zero, suc, ◌+◌, ◌*◌, ◌%◌, ◌<◌, ◌≤◌, List, [], ◌∷◌, length, Option, None, IsSome, All, unwrap_or, refl}
+use Rattle.std.proofs.Common.{ap, arith}
 use Rattle.rh_store.specs.declared.area.Area.{Area}
 use Rattle.rh_defs.specs.declared.sizes.TheConstants.{MAX_PAGES, PAGE}
 use Rattle.rh_store.specs.Areas.{contents, memory_in, IsTidyArea, IsStore}
 use Rattle.rh_defs.specs.Memory.{IsOpen, bytes}
-use Rattle.rh_defs.proofs.MemoryLaws.{pages_below-one}
-use Rattle.rh_store.specs.Limits.{area_limit, pool_limit}
+use Rattle.rh_store.specs.Limits.{area_limit}
+use Rattle.rh_store.specs.Inner.StoreLaws.{whole_shown, within_ledger, small_within}
 
 -- past the list no area is open
 pub contents-past : (list : List Area) (i : ℕ) → length list ≤ i → contents list i ≡ None
@@ -22,10 +21,6 @@ unfolding contents
 open_index [] i o = absurd cc
 open_index (x ∷ list) zero o = omega arith
 open_index (x ∷ list) (suc i) o = let r = open_index list i o in omega arith
-
-whole_shown : (b : Bool) (y : List ℕ) → length y % PAGE ≡ 0 → length (unwrap_or (cond b (Some y) None) []) % PAGE ≡ 0
-whole_shown true y h = h
-whole_shown false y h = refl
 
 pub whole_contents : (list : List Area) (i : ℕ) → All IsTidyArea list → length (unwrap_or (contents list i) []) % PAGE ≡ 0
 unfolding contents
@@ -42,13 +37,9 @@ numbered_areas list free pages limit id k o = let h = open_index list id o in le
 
 pub within_pool : (list : List Area) (free pages limit id : ℕ) → IsStore list free pages limit → PAGE * free + length (bytes (memory_in list free pages) id) ≤ PAGE * pages
 unfolding bytes
-within_pool list free pages limit id k = elim (cases_lt id limit) [
-  | inl h ↦ let one = pages_below-one (contents list) id limit h in let whole = whole_contents list id k.tidy in let sum = k.ledger in omega arith
-  | inr h ↦ let past : length (unwrap_or (contents list id) []) ≡ 0 = ap (λ (o : Option (List ℕ)). length (unwrap_or o [])) (contents-past list id (let t = k.table in omega arith)) in let sum = k.ledger in omega arith
-]
-
-pub few_pages : (pages : ℕ) → pages ≤ MAX_PAGES → pages ≤ pool_limit
-few_pages pages few = omega arith
+within_pool list free pages limit id k =
+    within_ledger (memory_in list free pages) limit id k.ledger (whole_contents list id k.tidy)
+    (λ h. ap (λ (o : Option (List ℕ)). length (unwrap_or o [])) (contents-past list id (let t = k.table in omega arith)))
 
 pub small_areas : (list : List Area) (free pages limit id : ℕ) → pages ≤ MAX_PAGES → IsStore list free pages limit → length (bytes (memory_in list free pages) id) ≤ area_limit
-small_areas list free pages limit id few k = let h = within_pool list free pages limit id k in omega arith
+small_areas list free pages limit id few k = small_within (memory_in list free pages) id few (within_pool list free pages limit id k)

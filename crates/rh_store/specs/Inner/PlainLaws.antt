@@ -2,7 +2,8 @@
 use Rattle.std.specs.Prelude.{ℕ, ◌+◌, ◌*◌, ◌%◌, ◌<◌, ◌≤◌, ◌≡◌, length}
 use Rattle.rh_store.specs.declared.plain.PlainStore.{PlainStore}
 use Rattle.rh_defs.specs.declared.sizes.TheConstants.{MAX_AREAS, PAGE}
-use Rattle.rh_store.specs.Inner.Kept.{whole_areas, within_pool, few_pages, small_areas, numbered_areas}
+use Rattle.rh_store.specs.Inner.Kept.{whole_areas, within_pool, small_areas, numbered_areas}
+use Rattle.rh_store.specs.Inner.StoreLaws.{few_pages}
 use Rattle.rh_defs.specs.Memory.{IsOpen, Ledger, bytes}
 use Rattle.rh_store.specs.Limits.{area_limit, pool_limit}
 use Rattle.rh_store.specs.Plain.{memory_of}
