@@ -5,6 +5,7 @@ use Rattle.rh_painted.proofs.Common.{length-append, length-map, Desk, Task, modu
 use Rattle.rh_painted.proofs.Common.{IsShared, SlotOf, count_of, holdings, change_item, IsTaskSeen, at-some, owned-few, seen-fixed, seen-slot, who_seen}
 use Rattle.std.proofs.lemmas.List.FromFn.{length-enumerate_from}
 use Rattle.std.proofs.lemmas.Option.{slice_get_past}
+use Rattle.rh_defs.specs.declared.sizes.TheConstants.{MAX_AREAS}
 use Rattle.rh_defs.specs.Desk.{module_area, Made, task_pages}
 use Rattle.rh_defs.specs.Laws.{IsDesk}
 use Rattle.rh_figure.specs.Changes.{taken_pages}
@@ -41,7 +42,7 @@ holdings-length d =
     )
 
 module _ {d : Desk} (is : IsDesk d) where
-  pub holdings-few : length (holdings d) ≤ 70
+  pub holdings-few : length (holdings d) ≤ MAX_AREAS
   holdings-few = omega (arith, holdings-length d, is.areas.six, is.made.few, is.few)
 
   -- ---- each of them, as it is seen
