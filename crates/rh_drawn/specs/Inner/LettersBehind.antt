@@ -14,6 +14,6 @@ letterbox_in name h messages =
     let waits = map entry_seen (filter (waits_for h) messages) in
     mapped_letterbox name (option_map entry_seen (find (is_held_by h) messages)) (take MOST_LISTED waits) (length waits)
 
--- the same, where a message is for it
+-- the letterbox of the task with the name and the handle, where a message is for the task
 abbrev pub letterboxes_in : List ℕ → ℕ → List MessageItem → List Letterbox
 letterboxes_in name h messages = if has_letters_in h messages then letterbox_in name h messages ∷ [] else []

@@ -10,7 +10,7 @@ abbrev pub marked : List ℕ → ℕ → List ℕ → List ℕ
 marked pages mark marks =
     map (λ (at : ℕ × ℕ). if at.1 == 46 && list_any (λ n. n == at.0) pages then mark else at.1) (enumerate_from 0 marks)
 
--- the same of owners one after the other, each with its pages and its mark
+-- a row of characters, where the free pages of each of these owners have the owner's mark now
 abbrev pub marked_all : List (List ℕ × ℕ) → List ℕ → List ℕ
 marked_all [] marks = marks
 marked_all ((pages, mark) ∷ owners) marks = marked_all owners (marked pages mark marks)

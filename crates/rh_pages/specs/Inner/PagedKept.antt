@@ -25,7 +25,7 @@ pub open_flag : (region : List ℕ) (lists : List (List ℕ)) (opened : List Boo
 unfolding paged_contents
 open_flag region lists opened id o = some_of (get_or opened id false) (paged_bytes region (list_at lists id)) o
 
--- and its number is inside the table
+-- an open area's number is inside the table
 pub open_paged_index : (region : List ℕ) (lists : List (List ℕ)) (opened : List Bool) (id : ℕ) → IsSome (paged_contents region lists opened id) → id < length opened
 open_paged_index region lists opened id o = elim (cases_lt id (length opened)) [
   | inl h ↦ h

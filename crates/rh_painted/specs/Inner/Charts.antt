@@ -14,7 +14,7 @@ pub record IsSmallChart (c : Chart) : Type 0 where
   pub tasks : length c.tasks.now ≤ MOST_IN_SET
   pub steps : length c.steps.now ≤ MOST_IN_SET
 
--- it has arrows, and their tasks and steps
+-- a chart has arrows, and their tasks and steps
 pub record IsWholeChart (c : Chart) : Type 0 where
   pub some : 0 < length c.ways.now
   pub tasks : c.tasks.now ≡ tasks_in (arrows_seen c.ways.now)

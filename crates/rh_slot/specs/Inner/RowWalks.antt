@@ -22,12 +22,12 @@ pub record Hanging (b c : List ℕ) (from n p : ℕ) : Type 0 where
   pub hung : Hung b c from before
   pub outside : SameOutside b c 0 heap_place
 
--- the same where the anchor words stand apart, and are yet to be written over the bytes
+-- the walk has come to place p, where the anchor words stand apart and are yet to be written over the bytes
 pub record HangsApart (b anchors : List ℕ) (from n p : ℕ) : Type 0 where
   pub long : length anchors ≡ heap_place
   pub walk : Hanging b (with_part b 0 anchors) from n p
 
--- the same in memories
+-- the walk over an area of a memory has come to place p, and has changed nothing but anchor words
 pub record Hangs (m n : Memory) (id from size p : ℕ) : Type 0 where
   pub only : Edited m n id 0 heap_place
   pub walk : Hanging (bytes m id) (bytes n id) from size p

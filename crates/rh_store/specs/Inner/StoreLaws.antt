@@ -12,7 +12,7 @@ pub whole_shown : (b : Bool) (bs : List ℕ) → length bs % PAGE ≡ 0 → leng
 whole_shown true bs h = h
 whole_shown false bs h = refl
 
--- and no more than the bytes are
+-- bytes that are shown or not are no longer than the bytes are
 pub short_shown : (b : Bool) (bs : List ℕ) (n : ℕ) → length bs ≤ n → length (unwrap_or (cond b (Some bs) None) []) ≤ n
 short_shown true bs n h = h
 short_shown false bs n h = omega arith
@@ -29,6 +29,6 @@ within_ledger m limit id sum whole past = elim (cases_lt id limit) [
 pub few_pages : (pages : ℕ) → pages ≤ MAX_PAGES → pages ≤ pool_limit
 few_pages pages few = omega arith
 
--- an area within such a pool has no more bytes than an area may have
+-- an area within a pool of so few pages has no more bytes than an area may have
 pub small_within : (m : Memory) (id : ℕ) → m.pages ≤ MAX_PAGES → PAGE * m.free + length (bytes m id) ≤ PAGE * m.pages → length (bytes m id) ≤ area_limit
 small_within m id few within = omega arith

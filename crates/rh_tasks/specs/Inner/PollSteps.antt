@@ -40,7 +40,7 @@ Sends letter old new result =
 abbrev pub Handles : Handled → Shown → Outcome → Type 0
 Handles after new outcome = (outcome ≡ after.1) × IsReordered after.0 new.desk
 
--- the same where it may be refused, and then nothing changed
+-- a message was handled, but for the order of messages to different tasks, or was refused, and then nothing changed
 abbrev pub Attempts : Granted Handled → Shown → Shown → Result Outcome Refusal → Type 0
 Attempts granted old new result =
     MatchResult result

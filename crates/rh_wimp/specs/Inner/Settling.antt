@@ -16,6 +16,6 @@ PutsDown true m n module_area es new i freed =
     (freed ≡ 1) × (new ≡ set es i (emptied (entry_at es i))) × Turns m n module_area (release_block (entry_at es i).held (module_heap_in m module_area))
 PutsDown false m n module_area es new i freed = (freed ≡ 0) × (new ≡ es) × (n ≡ m)
 
--- the same, where a letter that answers this ref was sent
+-- what a task holds is put down where a letter that answers this ref was sent, and how many messages that were
 abbrev pub Settled : Memory → Memory → Module → List Entry → List Entry → ℕ → ℕ → Option Parcel → ℕ → Type 0
 Settled m n module_area es new i your_ref held freed = PutsDown (answers_held your_ref held) m n module_area es new i freed
