@@ -1,3 +1,4 @@
+pub mod Inner
 pub mod NewAreas
 pub mod UsedTasks
 pub mod Wimp
