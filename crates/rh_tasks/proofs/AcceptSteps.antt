@@ -238,8 +238,8 @@ module _ {v : Shown} {i : ℕ} {t : Task} {claim : Claim} {k h n : ℕ} (can : C
         pub sent-place : i < length v3.desk.tasks
         sent-place = slice_get_within v3.desk.tasks i sent-task.task sent-task.at
 
-        pub sent-due : {act : TakeAction} → is_take_due act t.taking ≡ true → CanTake i act v3.desk
-        sent-due {act} due x at-x =
+        pub sent-due : (act : TakeAction) → is_take_due act t.taking ≡ true → CanTake i act v3.desk
+        sent-due act due x at-x =
             ap (λ (y : Task). is_take_due act y.taking) (one-at v3.desk i x sent-task.task at-x sent-task.at) ∙ ap (is_take_due act) sent-task.taking ∙ due
 
         next-same : ref ≡ next_ref v.desk

@@ -21,16 +21,16 @@ edited-records {d} h edit keeps is = subst (KeyAlike records_of d) (sym is) (ali
 pub same-records : {d e : Desk} → e.tasks ≡ d.tasks → KeyAlike records_of d e
 same-records same = record { keys = ap (λ (tasks : List Task). map records_of tasks) same }
 
-module _ {d e : Desk} (k : KeyAlike records_of d e) {i : ℕ} where
+module _ {d e : Desk} (k : KeyAlike records_of d e) where
   back : KeyAlike records_of e d
   back = record { keys = sym k.keys }
 
-  pub still-sends : {a : SendAction} → CanSend i a d → CanSend i a e
-  still-sends {a} can u there =
+  pub still-sends : (i : ℕ) (a : SendAction) → CanSend i a d → CanSend i a e
+  still-sends i a can u there =
       let s = seen records_of back i u there in
       subst (λ records. is_send_due a records ≡ true) (ap (λ (r : ℕ × List Outgoing × List Incoming). r.1) s.alike) (can s.task s.at)
 
-  pub still-takes : {a : TakeAction} → CanTake i a d → CanTake i a e
-  still-takes {a} can u there =
+  pub still-takes : (i : ℕ) (a : TakeAction) → CanTake i a d → CanTake i a e
+  still-takes i a can u there =
       let s = seen records_of back i u there in
       subst (λ records. is_take_due a records ≡ true) (ap (λ (r : ℕ × List Outgoing × List Incoming). r.2) s.alike) (can s.task s.at)

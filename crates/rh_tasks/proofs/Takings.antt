@@ -129,7 +129,7 @@ none-kept d t a =
 
 -- ---- more bytes are asked for
 
-module _ (a : Append) (b : Fetch) {old : Desk} {i : ℕ} {t : Task} {letter : Letter} {h : ℕ} (at : IsAt i t old) (handle : h ≡ t.handle)
+module _ (a : Append) (b : Fetch) (old : Desk) (i : ℕ) {t : Task} {letter : Letter} {h : ℕ} (at : IsAt i t old) (handle : h ≡ t.handle)
     (letter-is : letter ≡ fetch_letter h b) where
   the-fetch : send_letter letter old ≡ send_letter (fetch_letter t.handle b) old
   the-fetch = ap (λ l. send_letter l old) (letter-is ∙ ap (λ k. fetch_letter k b) handle)

@@ -1,4 +1,5 @@
 use Rattle.rh_tasks.proofs.Common.{refl, ap, ◌∙◌, fetch_letter}
+use Rattle.rh_defs.specs.declared.transfer_action.TakeAction.TheVariants as take
 use Rattle.rh_tasks.proofs.Rooms.{anchor-low}
 use Rattle.rh_tasks.proofs.Slides.{seat-sits}
 use Rattle.rh_tasks.proofs.AcceptSteps.{accept-no_anchor, accept-no_room, can-accept, can-accept-own, buffer-must, buffer-got, buffer-at, buffer-place}
@@ -77,7 +78,7 @@ record_fetching-requires-clause-due g c =
     let two = document-got can one c.alloc_document.result (c.alloc_document.ensures _ (buffer-at can one)) c.unwrap.ensures in
     let letter = c.fetch_letter-letter.ensures ∙ ap (fetch_letter c.index-seat.result.now.handle) c.first_fetch.ensures in
     let three = fetch-got can one two letter c.send_from.result c.send_from.ensures c.unwrap-fetch.ensures in
-    sent-due can one two letter three (c.requires.due _ can.here)
+    sent-due can one two letter three (take.Claim c.args.a.now) (c.requires.due _ can.here)
 
 pub returns : goal.returns
 returns g c =

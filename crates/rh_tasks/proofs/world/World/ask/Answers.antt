@@ -1,6 +1,7 @@
 use Rattle.rh_tasks.proofs.Common.{ap, err_from_is_err_and, Letter, task_of, Sits}
 use Rattle.rh_tasks.proofs.Buffers.{sits-there, seat-there, seat-handle}
 use Rattle.rh_tasks.proofs.Writes.{alike-both}
+use Rattle.rh_defs.specs.declared.transfer_action.TakeAction.TheVariants as take
 use Rattle.rh_tasks.proofs.Dues.{records_of, sent-records, still-takes}
 use Rattle.rh_tasks.proofs.Takings.{inside, stands-sent, stands-dropped, dropped-records, ask-refused, ask-done}
 use Rattle.rh_tasks.proofs.world.World.ask.Goals as goal
@@ -55,7 +56,7 @@ record_asking-requires-clause-due g c =
     sent.1.0 sent.1.1
     (seat-there c.self.invariant c.self.view_is at) in
     still-takes (alike-both records_of (sent-records c.ack_letter-letter.result c.args.self.now.desk sent.0 sent.1.0 sent.1.1)
-    (dropped-records s.task.handle c.args.f.now.buffer (c.drop_buffer.ensures s.task s.at))) c.requires.due
+    (dropped-records s.task.handle c.args.f.now.buffer (c.drop_buffer.ensures s.task s.at))) c.args.i (take.AskForFile c.args.f.now) c.requires.due
 
 pub returns : goal.returns
 returns g c t there =

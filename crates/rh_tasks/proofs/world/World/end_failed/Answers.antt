@@ -1,5 +1,6 @@
 use Rattle.rh_ram.specs.Told.{after_failure}
 use Rattle.rh_tasks.proofs.Places.{member-at}
+use Rattle.rh_defs.specs.declared.transfer_action.TakeAction.TheVariants as c
 use Rattle.rh_tasks.proofs.Dues.{still-takes}
 use Rattle.rh_tasks.proofs.Takings.{inside, stands-dropped, dropped-records, ended-is}
 use Rattle.rh_tasks.proofs.world.World.end_failed.Goals as goal
@@ -12,7 +13,7 @@ record_failed_in-requires-clause-place g c =
 pub record_failed_in-requires-clause-due : goal.record_failed_in-requires-clause-due
 record_failed_in-requires-clause-due g c =
     let t = member-at c.args.self.now.desk.tasks c.args.i c.requires.place in
-    still-takes (dropped-records t.0.handle c.args.f.now.buffer (c.drop_buffer.ensures t.0 t.1)) c.requires.due
+    still-takes (dropped-records t.0.handle c.args.f.now.buffer (c.drop_buffer.ensures t.0 t.1)) c.args.i c.args.action.now c.requires.due
 
 pub returns : goal.returns
 returns g c t at =

@@ -1,5 +1,6 @@
 use Rattle.rh_tasks.proofs.Common.{refl, ap, err_from_is_err_and, Letter, task_of, Sits}
 use Rattle.rh_tasks.proofs.Buffers.{sits-there, seat-there, seat-handle}
+use Rattle.rh_defs.specs.declared.transfer_action.TakeAction.TheVariants as take
 use Rattle.rh_tasks.proofs.Dues.{sent-records, still-takes}
 use Rattle.rh_tasks.proofs.Takings.{inside, stands-sent, fetch-refused, fetch-done}
 use Rattle.rh_tasks.proofs.world.World.fetch_more.Goals as goal
@@ -20,7 +21,7 @@ returns-in_err-fetch g c t there =
     let handle = seat-handle c.self.invariant c.self.view_is at there in
     let p = err_from_is_err_and c.from_residual.result c.from_residual.ensures.1 in
     rw (p.1, p.2)
-    (fetch-refused c.args.a.now c.args.fetch.now there handle c.fetch_letter-letter.ensures c.in_err-fetch.ensures.0, c.in_err-fetch.ensures.1)
+    (fetch-refused c.args.a.now c.args.fetch.now c.args.self.now.desk c.args.i there handle c.fetch_letter-letter.ensures c.in_err-fetch.ensures.0, c.in_err-fetch.ensures.1)
 
 pub record_fetched-requires-clause-place : goal.record_fetched-requires-clause-place
 record_fetched-requires-clause-place g c =
@@ -33,7 +34,7 @@ record_fetched-requires-clause-place g c =
 pub record_fetched-requires-clause-due : goal.record_fetched-requires-clause-due
 record_fetched-requires-clause-due g c =
     let sent = c.in_ok-fetch.ensures.1 in
-    still-takes (sent-records c.fetch_letter-letter.result c.args.self.now.desk sent.0 sent.1.0 sent.1.1) c.requires.due
+    still-takes (sent-records c.fetch_letter-letter.result c.args.self.now.desk sent.0 sent.1.0 sent.1.1) c.args.i (take.Append c.args.a.now) c.requires.due
 
 pub record_fetched-requires-clause-next : goal.record_fetched-requires-clause-next
 record_fetched-requires-clause-next g c = rw c.requires.next refl
@@ -44,5 +45,5 @@ returns g c t there =
     sits-there c.self.invariant c.self.view_is c.requires.place c.index-seat.ensures in
     let handle = seat-handle c.self.invariant c.self.view_is at there in
     let sent = c.in_ok-fetch.ensures.1 in
-    fetch-done c.args.a.now c.args.fetch.now there handle c.fetch_letter-letter.ensures c.in_ok-fetch.fetch sent.0 c.send_from.new.self.desk
-    c.record_fetched.new.self.desk c.in_ok-fetch.ensures.0 sent.1.0 sent.1.1 c.record_fetched.ensures
+    fetch-done c.args.a.now c.args.fetch.now c.args.self.now.desk c.args.i there handle c.fetch_letter-letter.ensures c.in_ok-fetch.fetch sent.0
+    c.send_from.new.self.desk c.record_fetched.new.self.desk c.in_ok-fetch.ensures.0 sent.1.0 sent.1.1 c.record_fetched.ensures

@@ -2,6 +2,7 @@ use Rattle.rh_tasks.proofs.Common.{◌≡◌, refl, sym, ◌∙◌, arith, err_f
 use Rattle.rh_tasks.proofs.Scraps.{seen-busy, seen-free, seen-shortage}
 use Rattle.rh_tasks.proofs.ScrapTransfers.{save-missing, save-busy, save-unsendable, full-is, short-is, sends-ok, own, first-at, first-sends, second-inside}
 use Rattle.rh_tasks.proofs.ScrapTransfers.{second-room, second-block, third-inside, saved-records, save-all}
+use Rattle.rh_defs.specs.declared.transfer_action.SendAction.TheVariants as send
 use Rattle.rh_tasks.proofs.Dues.{still-sends}
 use Rattle.rh_tasks.proofs.SaveScenes.{own-there, size-is, pages-are, saves, widens}
 use Rattle.rh_tasks.proofs.world.World.save_scrap.Goals as goal
@@ -140,7 +141,7 @@ record_saved-requires-clause-due g c =
     omega (arith, c.saturating_sub-wider.ensures, c.pages_for.ensures, c.len.ensures, seen-shortage w c.self.view_is c.in_ok-size.size) in
     let b = widens w c.self.view_is short c.free_pages-free.ensures c.if-free-wider.false c.widen_scrap.ensures in
     let sent = rw c.unwrap-load.ensures at c.send_from.ensures in
-    still-sends (saved-records a b sent.1 c.unwrap-load.result c.fill_scrap.ensures) c.requires.due
+    still-sends (saved-records a b sent.1 c.unwrap-load.result c.fill_scrap.ensures) c.args.i (send.SaveFile c.args.a.now) c.requires.due
 
 pub returns : goal.returns
 returns g c = λ t at.

@@ -15,7 +15,7 @@ record_finished-requires-clause-place g c =
 pub record_finished-requires-clause-due : goal.record_finished-requires-clause-due
 record_finished-requires-clause-due g c =
     let t = member-at c.args.self.now.desk.tasks c.args.i c.requires.place in
-    still-takes (dropped-records t.0.handle c.args.a.now.transfer.buffer (c.drop_buffer.ensures t.0 t.1)) c.requires.due
+    still-takes (dropped-records t.0.handle c.args.a.now.transfer.buffer (c.drop_buffer.ensures t.0 t.1)) c.args.i (take.Append c.args.a.now) c.requires.due
 
 pub record_finished-requires-clause-next : goal.record_finished-requires-clause-next
 record_finished-requires-clause-next g c = rw c.in-Finish.is refl

@@ -5,6 +5,7 @@ use Rattle.rh_defs.specs.Sender as sender
 use Rattle.rh_tasks.proofs.SeatRecords.{sits-in}
 use Rattle.rh_tasks.proofs.Fetches.{seated, seat-is}
 use Rattle.rh_tasks.proofs.Writes.{alike-length, alike-at, seen}
+use Rattle.rh_defs.specs.declared.transfer_action.SendAction.TheVariants as send
 use Rattle.rh_tasks.proofs.Dues.{records_of, sent-records, still-sends}
 use Rattle.rh_tasks.proofs.Transmits.{Meant, nobody-with, somebody-with, pair_of, sent-pairs, portion-seen, reach-seen, wrote-is, wrote-records}
 use Rattle.rh_tasks.proofs.Transmits.{transmit-missing, transmit-nobody, transmit-far, transmit-refused, transmit-whole}
@@ -131,7 +132,7 @@ record_sent-requires-clause-due g c =
     let r : Meant d c.in-Some.seat c.args.a.now.transfer.recipient =
     rw (← c.self.view_is) (somebody-with c.self.invariant c.args.a.now.transfer.recipient c.in-Some.seat (sym c.in-Some.ensures)) in
     still-sends (wrote-records k c.args.i c.in-Some.seat t.1 r.at (c.in_ok-portion.ensures.ok t.0 t.1) c.args.a.now.buffer c.args.a.now.room
-    c.write_portion.ensures sent) c.requires.due
+    c.write_portion.ensures sent) c.args.i (send.Transmit c.args.a.now) c.requires.due
 
 pub returns : goal.returns
 unfolding task_of
