@@ -61,7 +61,6 @@ module _ {m : Memory} {seats : List Seat} {made : List MadeArea} {files : FileLi
 
       go : ((file : FileData) × (message.body ≡ DataSave file)) ⊎ (((file : FileData) × (message.body ≡ DataLoad file)) ⊎
           ((buffer : ℕ) × (n : ℕ) × (message.body ≡ RamTransmit buffer n))) → As (came_back d t p p.message.body) last outcome
-      unfolding came_back
       go (inl k) = back-as k.1 own
       go (inr (inl k)) = back-as k.1 own
       go (inr (inr (buffer, n, e))) = back-as e own
