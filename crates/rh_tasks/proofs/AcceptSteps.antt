@@ -90,7 +90,7 @@ module _ {o : Memory} {seats : List Seat} {made : List MadeArea} {files : FileLi
   accept-no_anchor t claim at-v e =
       ap is_err (ends _ (ap (λ x. found_or (free_anchor x) AnchorInUse) (sym (own-slot t at-v)) ∙ ap (λ (x : Option ℕ). found_or x AnchorInUse) (sym e)))
 
-  module _ {k : ℕ} {has : Bool} {claim : Claim} (anchor : Some k ≡ free_anchor (slot_in o s.slot))
+  module _ {k : ℕ} {has : Bool} (claim : Claim) (anchor : Some k ≡ free_anchor (slot_in o s.slot))
       (says : (t : Task) (k : ℕ) → IsAt i t v.desk → IsFreeAnchor k t.slot → has ≡ is_ok (accept v.desk t claim)) where
     pub accept-no_room : (t : Task) → IsAt i t v.desk → has ≡ false → IsErr (accept v.desk t claim)
     accept-no_room t here refused = not-ok (accept v.desk t claim) (sym (says t k here (own-anchor t here anchor)) ∙ refused)

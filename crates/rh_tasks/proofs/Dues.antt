@@ -18,8 +18,8 @@ pub edited-records : {d e : Desk} (h : ℕ) (edit : Task → Task) → ((t : Tas
     → KeyAlike records_of d e
 edited-records {d} h edit keeps is = subst (KeyAlike records_of d) (sym is) (alike-edited records_of h edit d keeps)
 
-pub same-records : {d e : Desk} → e.tasks ≡ d.tasks → KeyAlike records_of d e
-same-records same = record { keys = ap (λ (tasks : List Task). map records_of tasks) same }
+pub same-records : (d e : Desk) → e.tasks ≡ d.tasks → KeyAlike records_of d e
+same-records d e same = record { keys = ap (λ (tasks : List Task). map records_of tasks) same }
 
 module _ {d e : Desk} (k : KeyAlike records_of d e) where
   back : KeyAlike records_of e d

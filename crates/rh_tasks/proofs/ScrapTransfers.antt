@@ -380,8 +380,8 @@ module _ {d : Desk} {i : ℕ} {t : Task} {act : SaveFile} {n : ℕ} {l : Letter}
 
         pub saved-records : KeyAlike records_of d third
         saved-records =
-            alike-both records_of (same-records (ap (λ (x : Desk). x.tasks) b.widened))
-            (alike-both records_of (sent-records l first sent.0 sent.1.0 sent.1.1) (same-records (ap (λ (x : Desk). x.tasks) third-is)))
+            alike-both records_of (same-records d first (ap (λ (x : Desk). x.tasks) b.widened))
+            (alike-both records_of (sent-records l first sent.0 sent.1.0 sent.1.1) (same-records second third (ap (λ (x : Desk). x.tasks) third-is)))
 
         pub save-all : {new : Desk} → load ≡ next_ref first → ((v : Task) → IsAt i v third → new ≡ with_sending v.handle (sender.saved act load) third)
             → (e : Desk) × ((scrapped d t act ≡ Ok (e, outcome.Saved n load)) × IsReordered e new)

@@ -1,7 +1,7 @@
 -- What a poll does with its message, by its action.
 use Rattle.rh_tasks.proofs.Common.{◌≡◌, ◌⊎◌, inl, inr, ℕ, true, false, refl, ap, sym, subst, ◌∙◌, List, Option, if◌then◌else◌, get_or, Memory, FileList}
 use Rattle.rh_tasks.proofs.Common.{EventCode, User, Message, Outcome, Parcel, Desk, Task, IsReordered, Handled, ignored}
-use Rattle.rh_tasks.proofs.Common.{Bool, Seat, MadeArea, Kept, task_of, desk_of, IsFor, Sits, mapped-is}
+use Rattle.rh_tasks.proofs.Common.{Bool, Seat, MadeArea, Kept, task_of, desk_of, IsWorld, IsFor, Sits, mapped-is}
 use Rattle.rh_defs.specs.declared.message.Body.{Body}
 use Rattle.rh_defs.specs.declared.message.Body.TheVariants.{DataSave, DataSaveAck, DataLoad, DataLoadAck, RamFetch, RamTransmit}
 use Rattle.rh_defs.specs.declared.message.EventCode.TheVariants.{Recorded, Acknowledge}
@@ -34,11 +34,7 @@ acknowledged d t p code e last h = rw e h
 
 -- ---- by action
 
-module _ {m : Memory} {seats : List Seat} {made : List MadeArea} {files : FileList} {kept : Kept} {i : ℕ} {t : Task} {p : Parcel} {message : Message}
-    (for : IsFor i t (desk_of m seats made files kept) p message) where
-  abbrev d : Desk
-  d = desk_of m seats made files kept
-
+module _ {d : Desk} {i : ℕ} {t : Task} {p : Parcel} {message : Message} (for : IsFor i t d p message) where
   came-as : {last : Desk} {outcome : Outcome} {b : Body} → message.body ≡ b → As (came d t p b) last outcome → As (came d t p p.message.body) last outcome
   came-as {last} {outcome} e h = subst (λ b. As (came d t p b) last outcome) (sym (ap (λ (x : Message). x.body) for.message_is ∙ e)) h
 
@@ -76,82 +72,86 @@ module _ {m : Memory} {seats : List Seat} {made : List MadeArea} {files : FileLi
   unfolding came_back
   load-ack-back e h = back-as e h
 
-  -- ---- by the records of the seat that the task sits on
+-- ---- by the records of the seat that the task sits on
 
-  module _ {s : Seat} (is : get_or seats i s ≡ s) where
-    sits : Sits seats i s
-    sits = record { inside = mapped-inside (task_of m) seats i t for.at; is = is }
+module _ {m : Memory} {seats : List Seat} {made : List MadeArea} {files : FileList} {kept : Kept} {i : ℕ} {s : Seat} {t : Task} {p : Parcel} {message : Message}
+    (w : IsWorld m seats made files kept) (is : get_or seats i s ≡ s) (for : IsFor i t (desk_of m seats made files kept) p message) where
+  abbrev d : Desk
+  d = desk_of m seats made files kept
 
-    -- what the seat and the message say is what the task and the parcel say
-    meant : {B : Type 0} (f : Message → Task → B) → f message (task_of m s) ≡ f p.message t
-    meant f = ap (λ x. f x (task_of m s)) (sym for.message_is) ∙ ap (f p.message) (mapped-is (task_of m) seats i s t sits for.at)
+  sits : Sits seats i s
+  sits = record { inside = mapped-inside (task_of m) seats i t for.at; is = is }
 
-    -- an action by the seat's records is the task's
-    sends : {last : Desk} {outcome : Outcome} {a : Option SendAction} (f : Message → Task → Option SendAction) → a ≡ f message (task_of m s)
-        → As (perform_send d t a) last outcome → As (perform_send d t (f p.message t)) last outcome
-    sends {last} {outcome} f q h = subst (λ x. As (perform_send d t x) last outcome) (q ∙ meant f) h
+  -- what the seat and the message say is what the task and the parcel say
+  meant : {B : Type 0} (f : Message → Task → B) → f message (task_of m s) ≡ f p.message t
+  meant f = ap (λ x. f x (task_of m s)) (sym for.message_is) ∙ ap (f p.message) (mapped-is (task_of m) seats i s t sits for.at)
 
-    takes : {last : Desk} {outcome : Outcome} {a : Option TakeAction} (f : Message → Task → Option TakeAction) → a ≡ f message (task_of m s)
-        → As (perform_take d t a) last outcome → As (perform_take d t (f p.message t)) last outcome
-    takes {last} {outcome} f q h = subst (λ x. As (perform_take d t x) last outcome) (q ∙ meant f) h
+  -- an action by the seat's records is the task's
+  sends : {last : Desk} {outcome : Outcome} {a : Option SendAction} (f : Message → Task → Option SendAction) → a ≡ f message (task_of m s)
+      → As (perform_send d t a) last outcome → As (perform_send d t (f p.message t)) last outcome
+  sends {last} {outcome} f q h = subst (λ x. As (perform_send d t x) last outcome) (q ∙ meant f) h
 
-    -- ---- messages that came
+  takes : {last : Desk} {outcome : Outcome} {a : Option TakeAction} (f : Message → Task → Option TakeAction) → a ≡ f message (task_of m s)
+      → As (perform_take d t a) last outcome → As (perform_take d t (f p.message t)) last outcome
+  takes {last} {outcome} f q h = subst (λ x. As (perform_take d t x) last outcome) (q ∙ meant f) h
 
-    pub save-came : {last : Desk} {outcome : Outcome} {file : FileData} {deaf : Bool} {a : Option TakeAction} → message.body ≡ DataSave file
-        → deaf ≡ is_deaf s.manner → a ≡ receiver.on_save deaf message.from message.my_ref s.taking → As (perform_take d t a) last outcome
-        → As (came d t p p.message.body) last outcome
-    unfolding came task_of
-    save-came e k q h =
-        came-as e (takes (λ y z. receiver.on_save (is_deaf z.manner) y.from y.my_ref z.taking)
-        (q ∙ ap (λ b. receiver.on_save b message.from message.my_ref s.taking) k) h)
+  -- ---- messages that came
 
-    pub ack-came : {last : Desk} {outcome : Outcome} {file : FileData} {a : Option SendAction} → message.body ≡ DataSaveAck file
-        → a ≡ sender.on_ack message.from message.my_ref message.your_ref s.sending → As (perform_send d t a) last outcome
-        → As (came d t p p.message.body) last outcome
-    unfolding came task_of
-    ack-came e q h = came-as e (sends (λ y z. sender.on_ack y.from y.my_ref y.your_ref z.sending) q h)
+  pub save-came : {last : Desk} {outcome : Outcome} {file : FileData} {deaf : Bool} {a : Option TakeAction} → message.body ≡ DataSave file
+      → deaf ≡ is_deaf s.manner → a ≡ receiver.on_save deaf message.from message.my_ref s.taking → As (perform_take d t a) last outcome
+      → As (came d t p p.message.body) last outcome
+  unfolding came task_of
+  save-came e k q h =
+      came-as for e (takes (λ y z. receiver.on_save (is_deaf z.manner) y.from y.my_ref z.taking)
+      (q ∙ ap (λ b. receiver.on_save b message.from message.my_ref s.taking) k) h)
 
-    pub load-came : {last : Desk} {outcome : Outcome} {file : FileData} {a : Option TakeAction} → message.body ≡ DataLoad file
-        → a ≡ receiver.on_load message.from message.my_ref message.your_ref s.taking → As (perform_take d t a) last outcome
-        → As (came d t p p.message.body) last outcome
-    unfolding came task_of
-    load-came e q h = came-as e (takes (λ y z. receiver.on_load y.from y.my_ref y.your_ref z.taking) q h)
+  pub ack-came : {last : Desk} {outcome : Outcome} {file : FileData} {a : Option SendAction} → message.body ≡ DataSaveAck file
+      → a ≡ sender.on_ack message.from message.my_ref message.your_ref s.sending → As (perform_send d t a) last outcome
+      → As (came d t p p.message.body) last outcome
+  unfolding came task_of
+  ack-came e q h = came-as for e (sends (λ y z. sender.on_ack y.from y.my_ref y.your_ref z.sending) q h)
 
-    pub load-ack-came : {last : Desk} {outcome : Outcome} {file : FileData} {a : Option SendAction} → message.body ≡ DataLoadAck file
-        → a ≡ sender.on_load_ack message.from message.your_ref s.sending → As (perform_send d t a) last outcome → As (came d t p p.message.body) last outcome
-    unfolding came task_of
-    load-ack-came e q h = came-as e (sends (λ y z. sender.on_load_ack y.from y.your_ref z.sending) q h)
+  pub load-came : {last : Desk} {outcome : Outcome} {file : FileData} {a : Option TakeAction} → message.body ≡ DataLoad file
+      → a ≡ receiver.on_load message.from message.my_ref message.your_ref s.taking → As (perform_take d t a) last outcome
+      → As (came d t p p.message.body) last outcome
+  unfolding came task_of
+  load-came e q h = came-as for e (takes (λ y z. receiver.on_load y.from y.my_ref y.your_ref z.taking) q h)
 
-    abbrev fetch_of : ℕ → ℕ → Message → Task → Handled
-    fetch_of buffer amount y z =
-        if answers_none z.manner then ignored d else perform_send d t (sender.on_fetch y.from y.my_ref y.your_ref buffer amount z.sending)
+  pub load-ack-came : {last : Desk} {outcome : Outcome} {file : FileData} {a : Option SendAction} → message.body ≡ DataLoadAck file
+      → a ≡ sender.on_load_ack message.from message.your_ref s.sending → As (perform_send d t a) last outcome → As (came d t p p.message.body) last outcome
+  unfolding came task_of
+  load-ack-came e q h = came-as for e (sends (λ y z. sender.on_load_ack y.from y.your_ref z.sending) q h)
 
-    -- the fetch isn't answered by a task of files
-    pub fetch-ignored : {last : Desk} {outcome : Outcome} {buffer amount : ℕ} → message.body ≡ RamFetch buffer amount → answers_none s.manner ≡ true
-        → As (ignored d) last outcome → As (came d t p p.message.body) last outcome
-    unfolding came task_of
-    fetch-ignored {last} {outcome} {buffer} {amount} e q h =
-        let ignored_is : fetch_of buffer amount message (task_of m s) ≡ ignored d = rw q refl in
-        came-as e (subst (λ x. As x last outcome) (sym ignored_is ∙ meant (fetch_of buffer amount)) h)
+  abbrev fetch_of : ℕ → ℕ → Message → Task → Handled
+  fetch_of buffer amount y z =
+      if answers_none z.manner then ignored d else perform_send d t (sender.on_fetch y.from y.my_ref y.your_ref buffer amount z.sending)
 
-    pub fetch-came : {last : Desk} {outcome : Outcome} {buffer amount : ℕ} {a : Option SendAction} → message.body ≡ RamFetch buffer amount
-        → answers_none s.manner ≡ false → a ≡ sender.on_fetch message.from message.my_ref message.your_ref buffer amount s.sending
-        → As (perform_send d t a) last outcome → As (came d t p p.message.body) last outcome
-    unfolding came task_of
-    fetch-came {last} {outcome} {buffer} {amount} {a} e n q h =
-        let answered_is : fetch_of buffer amount message (task_of m s) ≡ perform_send d t a = rw (n, q) refl in
-        came-as e (subst (λ x. As x last outcome) (sym answered_is ∙ meant (fetch_of buffer amount)) h)
+  -- the fetch isn't answered by a task of files
+  pub fetch-ignored : {last : Desk} {outcome : Outcome} {buffer amount : ℕ} → message.body ≡ RamFetch buffer amount → answers_none s.manner ≡ true
+      → As (ignored d) last outcome → As (came d t p p.message.body) last outcome
+  unfolding came task_of
+  fetch-ignored {last} {outcome} {buffer} {amount} e q h =
+      let ignored_is : fetch_of buffer amount message (task_of m s) ≡ ignored d = rw q refl in
+      came-as for e (subst (λ x. As x last outcome) (sym ignored_is ∙ meant (fetch_of buffer amount)) h)
 
-    pub bytes-came : {last : Desk} {outcome : Outcome} {buffer n : ℕ} {a : Option TakeAction} → message.body ≡ RamTransmit buffer n
-        → a ≡ receiver.on_transmit s.buffer message.from message.my_ref message.your_ref buffer n s.taking
-        → As (perform_take d t a) last outcome → As (came d t p p.message.body) last outcome
-    unfolding came task_of
-    bytes-came {buffer = buffer} {n = n} e q h =
-        came-as e (takes (λ y z. receiver.on_transmit z.buffer y.from y.my_ref y.your_ref buffer n z.taking) q h)
+  pub fetch-came : {last : Desk} {outcome : Outcome} {buffer amount : ℕ} {a : Option SendAction} → message.body ≡ RamFetch buffer amount
+      → answers_none s.manner ≡ false → a ≡ sender.on_fetch message.from message.my_ref message.your_ref buffer amount s.sending
+      → As (perform_send d t a) last outcome → As (came d t p p.message.body) last outcome
+  unfolding came task_of
+  fetch-came {last} {outcome} {buffer} {amount} {a} e n q h =
+      let answered_is : fetch_of buffer amount message (task_of m s) ≡ perform_send d t a = rw (n, q) refl in
+      came-as for e (subst (λ x. As x last outcome) (sym answered_is ∙ meant (fetch_of buffer amount)) h)
 
-    -- ---- messages that came back
+  pub bytes-came : {last : Desk} {outcome : Outcome} {buffer n : ℕ} {a : Option TakeAction} → message.body ≡ RamTransmit buffer n
+      → a ≡ receiver.on_transmit s.buffer message.from message.my_ref message.your_ref buffer n s.taking
+      → As (perform_take d t a) last outcome → As (came d t p p.message.body) last outcome
+  unfolding came task_of
+  bytes-came {buffer = buffer} {n = n} e q h =
+      came-as for e (takes (λ y z. receiver.on_transmit z.buffer y.from y.my_ref y.your_ref buffer n z.taking) q h)
 
-    pub fetch-back : {last : Desk} {outcome : Outcome} {buffer amount : ℕ} {a : Option TakeAction} → message.body ≡ RamFetch buffer amount
-        → a ≡ receiver.on_taking_bounce message.my_ref s.taking → As (perform_take d t a) last outcome → As (came_back d t p p.message.body) last outcome
-    unfolding came_back task_of
-    fetch-back e q h = back-as e (takes (λ y z. receiver.on_taking_bounce y.my_ref z.taking) q h)
+  -- ---- messages that came back
+
+  pub fetch-back : {last : Desk} {outcome : Outcome} {buffer amount : ℕ} {a : Option TakeAction} → message.body ≡ RamFetch buffer amount
+      → a ≡ receiver.on_taking_bounce message.my_ref s.taking → As (perform_take d t a) last outcome → As (came_back d t p p.message.body) last outcome
+  unfolding came_back task_of
+  fetch-back e q h = back-as for e (takes (λ y z. receiver.on_taking_bounce y.my_ref z.taking) q h)

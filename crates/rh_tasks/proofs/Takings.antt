@@ -178,6 +178,11 @@ module _ (d : Desk) (t : Task) (a : Append) where
   unfolding took fetch_more
   took-like what u like = ap (λ h. took d (record t { handle = h }) a what) like.handle
 
+-- what follows on the bytes, once it is known
+pub as-next : (d : Desk) (t : Task) (a : Append) (new : Shown) {what : Next} {o : Outcome} → a.next ≡ what → Handles (took d t a what) new o
+    → Handles (took d t a a.next) new o
+as-next d t a new {what} {o} e h = subst (λ (x : Next). Handles (took d t a x) new o) (sym e) h
+
 pub took-ended : (old mid : Desk) (new : Shown) (i : ℕ) (t : Task) (a : Append) → IsAt i t old → mid ≡ dropped t.handle a.transfer.buffer old
     → ((u : Task) → IsAt i u mid → new.desk ≡ with_taking u.handle (receiver.finished a) mid) → Handles (took old t a next.Finish) new (outcome.TookLast a.n)
 took-ended old mid new i t a at is recorded =

@@ -14,38 +14,38 @@ returns-in_err-anchor g c =
 pub returns-then-not-has_room : goal.returns-then-not-has_room
 returns-then-not-has_room g c =
     let at = seat-sits _ _ _ _ _ c.self.view_is c.requires.place c.index-seat.ensures in
-    λ t here. (accept-no_room c.self.invariant at c.self.view_is c.in_ok-anchor.ensures c.has_room.ensures t here c.if-not-has_room.true, refl)
+    λ t here. (accept-no_room c.self.invariant at c.self.view_is c.args.a.now c.in_ok-anchor.ensures c.has_room.ensures t here c.if-not-has_room.true, refl)
 
 pub unwrap-buffer-requires : goal.unwrap-buffer-requires
 unwrap-buffer-requires g c =
     let at = seat-sits _ _ _ _ _ c.self.view_is c.requires.place c.index-seat.ensures in
-    let can = can-accept-own c.self.invariant at c.self.view_is c.in_ok-anchor.ensures c.has_room.ensures c.if-not-has_room.false in
+    let can = can-accept-own c.self.invariant at c.self.view_is c.args.a.now c.in_ok-anchor.ensures c.has_room.ensures c.if-not-has_room.false in
     buffer-must can _ c.claim_buffer.result (c.claim_buffer.ensures _ can.here)
 
 pub alloc_document-requires-clause-place : goal.alloc_document-requires-clause-place
 alloc_document-requires-clause-place g c =
     let at = seat-sits _ _ _ _ _ c.self.view_is c.requires.place c.index-seat.ensures in
-    let can = can-accept-own c.self.invariant at c.self.view_is c.in_ok-anchor.ensures c.has_room.ensures c.if-not-has_room.false in
+    let can = can-accept-own c.self.invariant at c.self.view_is c.args.a.now c.in_ok-anchor.ensures c.has_room.ensures c.if-not-has_room.false in
     let one = buffer-got can c.claim_buffer.result (c.claim_buffer.ensures _ can.here) c.unwrap-buffer.ensures in
     buffer-place can one
 
 pub alloc_document-requires-clause-anchor : goal.alloc_document-requires-clause-anchor
 alloc_document-requires-clause-anchor g c =
     let at = seat-sits _ _ _ _ _ c.self.view_is c.requires.place c.index-seat.ensures in
-    let can = can-accept-own c.self.invariant at c.self.view_is c.in_ok-anchor.ensures c.has_room.ensures c.if-not-has_room.false in
+    let can = can-accept-own c.self.invariant at c.self.view_is c.args.a.now c.in_ok-anchor.ensures c.has_room.ensures c.if-not-has_room.false in
     anchor-low _ _ can.free
 
 pub unwrap-requires : goal.unwrap-requires
 unwrap-requires g c =
     let at = seat-sits _ _ _ _ _ c.self.view_is c.requires.place c.index-seat.ensures in
-    let can = can-accept-own c.self.invariant at c.self.view_is c.in_ok-anchor.ensures c.has_room.ensures c.if-not-has_room.false in
+    let can = can-accept-own c.self.invariant at c.self.view_is c.args.a.now c.in_ok-anchor.ensures c.has_room.ensures c.if-not-has_room.false in
     let one = buffer-got can c.claim_buffer.result (c.claim_buffer.ensures _ can.here) c.unwrap-buffer.ensures in
     document-must can one _ c.alloc_document.result (c.alloc_document.ensures _ (buffer-at can one))
 
 pub send_from-requires : goal.send_from-requires
 send_from-requires g c =
     let at = seat-sits _ _ _ _ _ c.self.view_is c.requires.place c.index-seat.ensures in
-    let can = can-accept-own c.self.invariant at c.self.view_is c.in_ok-anchor.ensures c.has_room.ensures c.if-not-has_room.false in
+    let can = can-accept-own c.self.invariant at c.self.view_is c.args.a.now c.in_ok-anchor.ensures c.has_room.ensures c.if-not-has_room.false in
     let one = buffer-got can c.claim_buffer.result (c.claim_buffer.ensures _ can.here) c.unwrap-buffer.ensures in
     let two = document-got can one c.alloc_document.result (c.alloc_document.ensures _ (buffer-at can one)) c.unwrap.ensures in
     let letter = c.fetch_letter-letter.ensures ∙ ap (fetch_letter c.index-seat.result.now.handle) c.first_fetch.ensures in
@@ -54,7 +54,7 @@ send_from-requires g c =
 pub unwrap-fetch-requires : goal.unwrap-fetch-requires
 unwrap-fetch-requires g c =
     let at = seat-sits _ _ _ _ _ c.self.view_is c.requires.place c.index-seat.ensures in
-    let can = can-accept-own c.self.invariant at c.self.view_is c.in_ok-anchor.ensures c.has_room.ensures c.if-not-has_room.false in
+    let can = can-accept-own c.self.invariant at c.self.view_is c.args.a.now c.in_ok-anchor.ensures c.has_room.ensures c.if-not-has_room.false in
     let one = buffer-got can c.claim_buffer.result (c.claim_buffer.ensures _ can.here) c.unwrap-buffer.ensures in
     let two = document-got can one c.alloc_document.result (c.alloc_document.ensures _ (buffer-at can one)) c.unwrap.ensures in
     let letter = c.fetch_letter-letter.ensures ∙ ap (fetch_letter c.index-seat.result.now.handle) c.first_fetch.ensures in
@@ -63,7 +63,7 @@ unwrap-fetch-requires g c =
 pub record_fetching-requires-clause-place : goal.record_fetching-requires-clause-place
 record_fetching-requires-clause-place g c =
     let at = seat-sits _ _ _ _ _ c.self.view_is c.requires.place c.index-seat.ensures in
-    let can = can-accept-own c.self.invariant at c.self.view_is c.in_ok-anchor.ensures c.has_room.ensures c.if-not-has_room.false in
+    let can = can-accept-own c.self.invariant at c.self.view_is c.args.a.now c.in_ok-anchor.ensures c.has_room.ensures c.if-not-has_room.false in
     let one = buffer-got can c.claim_buffer.result (c.claim_buffer.ensures _ can.here) c.unwrap-buffer.ensures in
     let two = document-got can one c.alloc_document.result (c.alloc_document.ensures _ (buffer-at can one)) c.unwrap.ensures in
     let letter = c.fetch_letter-letter.ensures ∙ ap (fetch_letter c.index-seat.result.now.handle) c.first_fetch.ensures in
@@ -73,7 +73,7 @@ record_fetching-requires-clause-place g c =
 pub record_fetching-requires-clause-due : goal.record_fetching-requires-clause-due
 record_fetching-requires-clause-due g c =
     let at = seat-sits _ _ _ _ _ c.self.view_is c.requires.place c.index-seat.ensures in
-    let can = can-accept-own c.self.invariant at c.self.view_is c.in_ok-anchor.ensures c.has_room.ensures c.if-not-has_room.false in
+    let can = can-accept-own c.self.invariant at c.self.view_is c.args.a.now c.in_ok-anchor.ensures c.has_room.ensures c.if-not-has_room.false in
     let one = buffer-got can c.claim_buffer.result (c.claim_buffer.ensures _ can.here) c.unwrap-buffer.ensures in
     let two = document-got can one c.alloc_document.result (c.alloc_document.ensures _ (buffer-at can one)) c.unwrap.ensures in
     let letter = c.fetch_letter-letter.ensures ∙ ap (fetch_letter c.index-seat.result.now.handle) c.first_fetch.ensures in
@@ -84,7 +84,7 @@ pub returns : goal.returns
 returns g c =
     let at = seat-sits _ _ _ _ _ c.self.view_is c.requires.place c.index-seat.ensures in
     λ t here. (
-    let can = can-accept c.self.invariant at c.self.view_is c.in_ok-anchor.ensures c.has_room.ensures t here c.if-not-has_room.false in
+    let can = can-accept c.self.invariant at c.self.view_is c.args.a.now c.in_ok-anchor.ensures c.has_room.ensures t here c.if-not-has_room.false in
     let one = buffer-got can c.claim_buffer.result (c.claim_buffer.ensures _ can.here) c.unwrap-buffer.ensures in
     let two = document-got can one c.alloc_document.result (c.alloc_document.ensures _ (buffer-at can one)) c.unwrap.ensures in
     let letter = c.fetch_letter-letter.ensures ∙ ap (fetch_letter c.index-seat.result.now.handle) c.first_fetch.ensures in

@@ -4,21 +4,13 @@ use Rattle.rh_tasks.proofs.Tables.{sender-back, ack-back, load-ack-back, fetch-b
 use Rattle.rh_tasks.proofs.world.World.came_back.Goals as goal
 
 pub returns-in-DataSave : goal.returns-in-DataSave
-returns-in-DataSave g c = λ t m for.
-    let own = rw (← c.self.view_is) at for in
-    let h = rw (← c.self.view_is) at c.fail_sending.ensures in
-    rw (← c.self.view_is) (sender-back own c.in-DataSave.is (h t own.at))
+returns-in-DataSave g c = λ t m for. sender-back for c.in-DataSave.is (c.fail_sending.ensures t for.at)
 
 pub returns-in-DataSaveAck : goal.returns-in-DataSaveAck
-returns-in-DataSaveAck g c = λ t m for.
-    let own = rw (← c.self.view_is) at for in
-    let h = rw (← c.self.view_is) at c.ack_back.ensures in
-    rw (← c.self.view_is) (ack-back own c.in-DataSaveAck.is (h t own.at))
+returns-in-DataSaveAck g c = λ t m for. ack-back for c.in-DataSaveAck.is (c.ack_back.ensures t for.at)
 
 pub returns-in-DataLoadAck : goal.returns-in-DataLoadAck
-returns-in-DataLoadAck g c = λ t m for.
-    let own = rw (← c.self.view_is) at for in
-    rw (← c.self.view_is) (load-ack-back own c.in-DataLoadAck.is (refl, reordered-refl _))
+returns-in-DataLoadAck g c = λ t m for. load-ack-back for c.in-DataLoadAck.is (refl, reordered-refl _)
 
 pub perform_take-requires-clause-due : goal.perform_take-requires-clause-due
 perform_take-requires-clause-due g c =
@@ -29,4 +21,4 @@ pub returns-in-RamFetch : goal.returns-in-RamFetch
 returns-in-RamFetch g c = λ t m for.
     let own = rw (← c.self.view_is) at for in
     let h = rw (← c.self.view_is) at c.perform_take.ensures in
-    rw (← c.self.view_is) (fetch-back own (sym c.index-seat.ensures) c.in-RamFetch.is c.on_bounce-action.ensures.action (h t own.at))
+    rw (← c.self.view_is) (fetch-back c.self.invariant (sym c.index-seat.ensures) own c.in-RamFetch.is c.on_bounce-action.ensures.action (h t own.at))

@@ -46,7 +46,7 @@ loaded-requires-clause-due g c =
     let mid : Desk = c.append_scrap.new.self.desk in
     still-takes (alike-both records_of (appended-records c.args.self.now.desk mid there.0 c.args.a.now.transfer.anchor file.bytes
     (c.in-Ok.ensures there.0 file there.1 has))
-    (same-records (ap (λ (x : Desk). x.tasks) c.drop_scrap.ensures))) c.args.i (take.LoadFile c.args.a.now) c.requires.due
+    (same-records mid c.drop_scrap.new.self.desk (ap (λ (x : Desk). x.tasks) c.drop_scrap.ensures))) c.args.i (take.LoadFile c.args.a.now) c.requires.due
 
 pub record_failed_in-requires-clause-place : goal.record_failed_in-requires-clause-place
 record_failed_in-requires-clause-place g c =

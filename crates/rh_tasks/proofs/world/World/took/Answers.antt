@@ -3,7 +3,7 @@ use Rattle.rh_defs.specs.declared.transfer_action.TakeAction.TheVariants as take
 use Rattle.rh_defs.specs.Receiver as receiver
 use Rattle.rh_tasks.specs.Inner.PollSteps.{CanTake}
 use Rattle.rh_tasks.proofs.Dues.{still-takes}
-use Rattle.rh_tasks.proofs.Takings.{inside, stands-dropped, dropped-records, failed-as, handles-as, took-ended, took-more, took-failed}
+use Rattle.rh_tasks.proofs.Takings.{inside, stands-dropped, dropped-records, failed-as, handles-as, as-next, took-ended, took-more, took-failed}
 use Rattle.rh_tasks.proofs.world.World.took.Goals as goal
 
 pub record_finished-requires-clause-place : goal.record_finished-requires-clause-place
@@ -21,8 +21,9 @@ pub record_finished-requires-clause-next : goal.record_finished-requires-clause-
 record_finished-requires-clause-next g c = rw c.in-Finish.is refl
 
 pub returns-in-Finish : goal.returns-in-Finish
-returns-in-Finish g c = rw c.in-Finish.is (λ t at.
-    took-ended c.args.self.now.desk c.drop_buffer.new.self.desk c.record_finished.new.self c.args.i t c.args.a.now at (c.drop_buffer.ensures t at)
+returns-in-Finish g c t at =
+    as-next c.args.self.now.desk t c.args.a.now c.record_finished.new.self c.in-Finish.is
+    (took-ended c.args.self.now.desk c.drop_buffer.new.self.desk c.record_finished.new.self c.args.i t c.args.a.now at (c.drop_buffer.ensures t at)
     c.record_finished.ensures)
 
 pub end_failed-requires-clause-place : goal.end_failed-requires-clause-place
@@ -39,15 +40,17 @@ pub end_failed-requires-clause-kept : goal.end_failed-requires-clause-kept
 end_failed-requires-clause-kept g c = le-true c.args.a.now.n c.args.a.now.n (omega arith)
 
 pub returns-in-Ok : goal.returns-in-Ok
-returns-in-Ok g c = rw c.in-Fetch.is (λ t at.
+returns-in-Ok g c t at =
     let more = c.in-Ok.ensures t at in
-    handles-as c.fetch_more.new.self more.0
-    (took-more c.args.self.now.desk t c.args.a.now c.in-Fetch.fetch.now (more.0, c.in-Ok.outcome) more.1.0) more.1.1)
+    as-next c.args.self.now.desk t c.args.a.now c.fetch_more.new.self c.in-Fetch.is
+    (handles-as c.fetch_more.new.self more.0
+    (took-more c.args.self.now.desk t c.args.a.now c.in-Fetch.fetch (more.0, c.in-Ok.outcome) more.1.0) more.1.1)
 
 pub returns-in-Err : goal.returns-in-Err
-returns-in-Err g c = rw c.in-Fetch.is (λ t at.
+returns-in-Err g c t at =
     let refused = c.in-Err.ensures t at in
-    failed-as c.args.self.now.desk c.fetch_more.new.self c.end_failed.new.self c.args.i t c.args.a.now.transfer
+    as-next c.args.self.now.desk t c.args.a.now c.end_failed.new.self c.in-Fetch.is
+    (failed-as c.args.self.now.desk c.fetch_more.new.self c.end_failed.new.self c.args.i t c.args.a.now.transfer
     (receiver.failed_with c.args.a.now c.args.a.now.n)
-    (took-failed c.args.self.now.desk t c.args.a.now c.in-Fetch.fetch.now c.in-Err.refusal refused.0)
+    (took-failed c.args.self.now.desk t c.args.a.now c.in-Fetch.fetch c.in-Err.refusal refused.0)
     at (ap (λ (x : Shown). x.desk) refused.1) c.end_failed.ensures)
