@@ -152,7 +152,8 @@ module _ (d : Desk) (i : ℕ) (t : Task) (claim : Claim) (k : ℕ) (is : IsDesk 
     accept-fits room =
         ap is_ok accepted
         ∙ ok-begins (after_buffer d t claim k) (buffer-fits take (omega (arith, pages-are, room)))
-        (ok-begins (after_document d t claim k b) (document-unused ∙ free-given _ document_pages p (omega (arith, pages-are, room, free-with b.0, buffer-pages)))
+        (ok-begins (after_document d t claim k b) (document-unused ∙ free-given _ document_pages p
+        (omega (arith, pages-are, room, free-with b.0, buffer-pages)))
         (ok-begins (after_fetch d t claim k b) (fetch-fits t.handle p.0 fetch d needs (omega (arith, pages-are, room, free-with p.0, document-pages, both-are)))
         refl))
 

@@ -1,6 +1,6 @@
 -- Actions that are due stay so while slots, letters and the post change.
 use Rattle.rh_tasks.proofs.Common.{◌≡◌, ℕ, true, refl, ap, sym, subst, List, map, Ok, Letter, Outgoing, Incoming, Desk, Task, with_task, send_letter}
-use Rattle.rh_tasks.proofs.Common.{IsReordered, IsAt}
+use Rattle.rh_tasks.proofs.Common.{IsReordered}
 use Rattle.rh_defs.specs.declared.transfer_action.SendAction.{SendAction}
 use Rattle.rh_defs.specs.declared.transfer_action.TakeAction.{TakeAction}
 use Rattle.rh_ram.specs.Due.{is_send_due, is_take_due}

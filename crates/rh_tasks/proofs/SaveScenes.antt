@@ -1,5 +1,5 @@
 -- What a save to the scrap file knows of a world at each of its steps.
-use Rattle.rh_tasks.proofs.Common.{◌≡◌, ℕ, ◌<◌, ◌≤◌, false, refl, sym, ap, ◌∙◌, arith, List, length, Ok, is_some, get_or, Memory, FileList, Granted}
+use Rattle.rh_tasks.proofs.Common.{◌≡◌, ℕ, ◌<◌, ◌≤◌, false, sym, ap, ◌∙◌, arith, List, length, Ok, is_some, get_or, Memory, FileList, Granted}
 use Rattle.rh_tasks.proofs.Common.{Letter, slot_size, post_send_pages, Desk, Task, wider, scrap_shortage, slot_in}
 use Rattle.rh_tasks.proofs.Common.{Answers, Seat, MadeArea, Shown, Kept, the_module, task_of, shown_of, IsWorld, IsAt, Sits}
 use Rattle.rh_defs.specs.declared.transfer_action.SaveFile.{SaveFile}

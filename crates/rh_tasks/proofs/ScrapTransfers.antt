@@ -1,9 +1,9 @@
 -- Transfers by way of the scrap file, on desks.
 use Rattle.rh_tasks.proofs.Common.{◌≡◌, ℕ, ◌+◌, ◌-◌, ◌*◌, ◌<◌, ◌≤◌, Bool, true, false, refl, ap, sym, subst, ◌∙◌, arith, List, length, Option, Some, None}
 use Rattle.rh_tasks.proofs.Common.{Result, Ok, Err, IsOk, is_some, not, nat_lt, ◌==◌, slice_get, slice_index, nat_tests, slice_get_within, Letter, Refusal}
-use Rattle.rh_tasks.proofs.Common.{Busy, NoRoom, BadSize, Outcome, Sending, Granted, ◌>>=◌, ◌>>◌, refuse_if, or_else, Split, page_size, Slot, Flex, slot_block}
-use Rattle.rh_tasks.proofs.Common.{slot_size, slot_put, Parcel, Post, post_send, post_send_pages, Desk, Task, Scrap, next_ref, free_pages, with_task}
-use Rattle.rh_tasks.proofs.Common.{with_slot, with_sending, with_taking, with_post, send_letter, IsDesk, IsReordered, Handled, ignored, refused}
+use Rattle.rh_tasks.proofs.Common.{Busy, NoRoom, BadSize, Outcome, Granted, ◌>>=◌, ◌>>◌, refuse_if, or_else, Split, page_size, Slot, Flex, slot_block}
+use Rattle.rh_tasks.proofs.Common.{slot_size, slot_put, Post, post_send, post_send_pages, Desk, Task, Scrap, next_ref, free_pages, with_task}
+use Rattle.rh_tasks.proofs.Common.{with_slot, with_sending, with_taking, with_post, send_letter, IsDesk, IsReordered, Handled, ignored}
 use Rattle.rh_tasks.proofs.Common.{scrap_shortage, wider, appended, grant-holds, Shown, IsAt, Sends, begins, ends, past, stops, lt-true, lt-false}
 use Rattle.rh_tasks.proofs.Common.{reordered-at, reordered-refl, edit-alike}
 use Rattle.rh_defs.specs.declared.reply.Outcome.TheVariants as outcome
@@ -114,7 +114,8 @@ module _ (d : Desk) (i : ℕ) (t : Task) (is : IsDesk d) (at : IsAt i t d) (act 
   unfolding loaded ◌>>=◌ or_else
   told h = let g = ap (λ l. send_letter l d) (sym same) ∙ h in rw g refl
 
-  untold : {r : Refusal} → send_letter letter d ≡ Err r → loaded d t act n ≡ (with_taking t.handle (receiver.abandoned act.transfer n) d, outcome.LoadedFailed n r)
+  untold : {r : Refusal} → send_letter letter d ≡ Err r → loaded d t act n ≡
+      (with_taking t.handle (receiver.abandoned act.transfer n) d, outcome.LoadedFailed n r)
   unfolding loaded ◌>>=◌ or_else
   untold h = let g = ap (λ l. send_letter l d) (sym same) ∙ h in rw g refl
 
@@ -126,7 +127,11 @@ module _ (d : Desk) (i : ℕ) (t : Task) (is : IsDesk d) (at : IsAt i t d) (act 
       let s = sent-at d e i t letter is at (ap (λ (l : Letter). l.from) same) sent.1.0 in
       let u : Task = record t { last_sent = s.last } in
       let now : new ≡ with_taking t.handle (receiver.taking_loaded act.transfer n) mid = edited u (reordered-at e mid i u sent.1.1 s.at) in
-      as-after (told sent.1.0) (refl, subst (IsReordered (with_taking t.handle (receiver.taking_loaded act.transfer n) e)) (sym now) (edit-alike t.handle _ sent.1.1))
+      as-after (told sent.1.0) (
+        refl,
+        subst (IsReordered (with_taking t.handle (receiver.taking_loaded act.transfer n) e)) (sym now)
+            (edit-alike t.handle _ sent.1.1),
+      )
 
   pub loaded-failed : {r : Refusal} {mid new : Desk} → send_letter letter d ≡ Err r → mid ≡ d
       → ((u : Task) → IsAt i u mid → new ≡ with_taking u.handle (receiver.abandoned act.transfer n) mid)
@@ -135,7 +140,8 @@ module _ (d : Desk) (i : ℕ) (t : Task) (is : IsDesk d) (at : IsAt i t d) (act 
       let now : new ≡ with_taking t.handle (receiver.abandoned act.transfer n) mid = edited t (same-at d mid i t (ap (λ (x : Desk). x.tasks) stays) at) in
       as-after (untold h) (
         refl,
-        subst (IsReordered (with_taking t.handle (receiver.abandoned act.transfer n) d)) (ap (with_taking t.handle (receiver.abandoned act.transfer n)) (sym stays) ∙ sym
+        subst (IsReordered (with_taking t.handle (receiver.abandoned act.transfer n) d))
+            (ap (with_taking t.handle (receiver.abandoned act.transfer n)) (sym stays) ∙ sym
             now) (reordered-refl _),
       )
 

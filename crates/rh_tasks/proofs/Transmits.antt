@@ -1,8 +1,9 @@
 -- The actions of a transfer that goes out, on desks alone.
-use Rattle.rh_tasks.proofs.Common.{◌≡◌, ℕ, ◌+◌, Bool, true, false, refl, ap, sym, subst, ◌∙◌, List, [], ◌∷◌, length, Some, None, Ok, Err, is_some, not, map}
+use Rattle.rh_tasks.proofs.Common.{◌≡◌, ℕ, ◌+◌, Bool, true, false, refl, ap, sym, subst, ◌∙◌, List, [], ◌∷◌, length, Some, None, Ok, Err, is_some, not}
 use Rattle.rh_tasks.proofs.Common.{take, drop, ◌==◌, ◌&&◌, ◌||◌, position, get_or, eqb-true, slice_get-get_or, Refusal, NoTask, BadRange, Letter}
-use Rattle.rh_tasks.proofs.Common.{Outcome, Sending, Granted, ◌>>=◌, ◌>>◌, refuse_if, found_or, or_else, FileList, Memory, Split, Flex, flex_address, slot_block, holds}
-use Rattle.rh_tasks.proofs.Common.{buffer_at, overlap, Parcel, Desk, Task, next_ref, task_at, with_task, with_sending, send_letter, IsReordered, Handled}
+use Rattle.rh_tasks.proofs.Common.{Outcome, Sending, Granted, ◌>>=◌, ◌>>◌, refuse_if, found_or, or_else, FileList, Memory, Split, Flex, flex_address}
+use Rattle.rh_tasks.proofs.Common.{slot_block, holds}
+use Rattle.rh_tasks.proofs.Common.{buffer_at, overlap, Desk, Task, next_ref, task_at, with_task, with_sending, send_letter, IsReordered, Handled}
 use Rattle.rh_tasks.proofs.Common.{is_out_of_reach, refused, Seat, MadeArea, Kept, task_of, desk_of, IsWorld, IsAt, IsPortion}
 use Rattle.rh_tasks.proofs.Common.{begins, ends, past, stops, Sits, mapped-at, task-found, edit-alike}
 use Rattle.std.proofs.lemmas.List.Quantifiers.{position-Some}

@@ -1,6 +1,6 @@
 //! What a message does to a transfer that goes out.
 
-ghost use Rattle.std.specs.Prelude.{◌≡◌, ◌<◌, ◌≤◌, ◌+◌, ◌^◌, ◌==◌, ◌-◌, min, false, length, take, drop, Ok, Err, IfOk, IfErr, IfSome};
+ghost use Rattle.std.specs.Prelude.{◌≡◌, ◌<◌, ◌≤◌, ◌+◌, ◌^◌, ◌==◌, ◌-◌, false, length, take, drop, Ok, Err, IfOk, IfErr, IfSome};
 ghost use Rattle.std.specs.List.{position};
 ghost use Rattle.rh_defs.specs.Desk.{Task, with_task};
 ghost use Rattle.rh_defs.specs.declared.transfer_action.SendAction.TheVariants as send_action;

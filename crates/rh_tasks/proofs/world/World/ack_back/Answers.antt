@@ -8,13 +8,15 @@ pub invariant_of-self : goal.invariant_of-self
 invariant_of-self g c =
     let inside = rw (← c.self.view_is) at c.requires in
     let at = sits-in c.self.invariant inside (sym c.index_mut-seat.ensures.value) in
-    taking-world c.self.invariant at (receiver.ack_bounced (receiver.on_ack_bounce c.args.ack c.index_mut-seat.result.now.taking)) c.if-on_ack_bounce.ensures.records
+    taking-world c.self.invariant at (receiver.ack_bounced
+    (receiver.on_ack_bounce c.args.ack c.index_mut-seat.result.now.taking)) c.if-on_ack_bounce.ensures.records
 
 pub invariant_of-self-2 : goal.invariant_of-self-2
 invariant_of-self-2 g c =
     let inside = rw (← c.self.view_is) at c.requires in
     let at = sits-in c.self.invariant inside (sym c.index_mut-seat.ensures.value) in
-    taking-world c.self.invariant at (receiver.ack_bounced (receiver.on_ack_bounce c.args.ack c.index_mut-seat.result.now.taking)) c.if-on_ack_bounce.ensures.records
+    taking-world c.self.invariant at (receiver.ack_bounced
+    (receiver.on_ack_bounce c.args.ack c.index_mut-seat.result.now.taking)) c.if-on_ack_bounce.ensures.records
 
 pub returns-then-on_ack_bounce : goal.returns-then-on_ack_bounce
 returns-then-on_ack_bounce g c = λ t there.

@@ -12,7 +12,8 @@ pub returns-in-DataSave : goal.returns-in-DataSave
 returns-in-DataSave g c = λ t m for.
     let own = rw (← c.self.view_is) at for in
     let h = rw (← c.self.view_is) at c.perform_take.ensures in
-    rw (← c.self.view_is) (save-came c.self.invariant (sym c.index-seat.ensures) own c.in-DataSave.is c.is_deaf.ensures c.on_save-action.ensures.action (h t own.at))
+    rw (← c.self.view_is) (save-came c.self.invariant (sym c.index-seat.ensures) own c.in-DataSave.is c.is_deaf.ensures c.on_save-action.ensures.action
+    (h t own.at))
 
 pub perform_send-requires-clause-due : goal.perform_send-requires-clause-due
 perform_send-requires-clause-due g c =
@@ -56,7 +57,8 @@ pub returns-else-answers_none : goal.returns-else-answers_none
 returns-else-answers_none g c = λ t m for.
     let own = rw (← c.self.view_is) at for in
     let h = rw (← c.self.view_is) at c.perform_send-in-RamFetch.ensures in
-    rw (← c.self.view_is) (fetch-came c.self.invariant (sym c.index-seat.ensures) own c.in-RamFetch.is (sym c.if-answers_none.ensures) c.on_fetch-action.ensures.action (h t own.at))
+    rw (← c.self.view_is) (fetch-came c.self.invariant (sym c.index-seat.ensures) own c.in-RamFetch.is
+    (sym c.if-answers_none.ensures) c.on_fetch-action.ensures.action (h t own.at))
 
 pub perform_take-requires-in-RamTransmit-clause-due : goal.perform_take-requires-in-RamTransmit-clause-due
 perform_take-requires-in-RamTransmit-clause-due g c =

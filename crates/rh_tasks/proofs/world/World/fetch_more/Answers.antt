@@ -20,8 +20,11 @@ returns-in_err-fetch g c t there =
     sits-there c.self.invariant c.self.view_is c.requires.place c.index-seat.ensures in
     let handle = seat-handle c.self.invariant c.self.view_is at there in
     let p = err_from_is_err_and c.from_residual.result c.from_residual.ensures.1 in
-    rw (p.1, p.2)
-    (fetch-refused c.args.a.now c.args.fetch.now c.args.self.now.desk c.args.i there handle c.fetch_letter-letter.ensures c.in_err-fetch.ensures.0, c.in_err-fetch.ensures.1)
+    rw (p.1, p.2) (
+      fetch-refused c.args.a.now c.args.fetch.now c.args.self.now.desk c.args.i there handle c.fetch_letter-letter.ensures
+          c.in_err-fetch.ensures.0,
+      c.in_err-fetch.ensures.1,
+    )
 
 pub record_fetched-requires-clause-place : goal.record_fetched-requires-clause-place
 record_fetched-requires-clause-place g c =

@@ -1,4 +1,4 @@
-use Rattle.rh_tasks.proofs.Common.{refl, sym, ap, subst, ◌∙◌, ◌==◌, ◌<◌, length, bytes, Desk, Scrap, Shown, scrap_from, member-at, reordered-refl}
+use Rattle.rh_tasks.proofs.Common.{refl, sym, ap, subst, ◌∙◌, ◌<◌, length, bytes, Desk, Scrap, Shown, scrap_from, member-at, reordered-refl}
 use Rattle.rh_defs.specs.declared.transfer_action.TakeAction.TheVariants as take
 use Rattle.rh_tasks.specs.Inner.PollSteps.{CanTake}
 use Rattle.rh_tasks.proofs.Places.{same-at}

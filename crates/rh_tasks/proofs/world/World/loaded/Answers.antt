@@ -26,7 +26,8 @@ record_loaded_in-requires-clause-place g c =
 pub record_loaded_in-requires-clause-due : goal.record_loaded_in-requires-clause-due
 record_loaded_in-requires-clause-due g c =
     let sent = c.in-Ok.ensures.1 in
-    still-takes (sent-records c.load_ack_letter-letter.result c.args.self.now.desk sent.0 sent.1.0 sent.1.1) c.args.i (take.LoadFile c.args.a.now) c.requires.due
+    still-takes (sent-records c.load_ack_letter-letter.result c.args.self.now.desk sent.0 sent.1.0 sent.1.1) c.args.i
+    (take.LoadFile c.args.a.now) c.requires.due
 
 pub returns-in-Ok : goal.returns-in-Ok
 returns-in-Ok g c =

@@ -11,7 +11,7 @@ unwrap-requires g c =
     let at = sits-in c.self.invariant inside (sym c.index_mut-seat.ensures.value) in
     let due = takes-at c.self.invariant at (action.AskForFile c.args.f.now) (rw (← c.self.view_is) at c.requires.due) in
     let records = c.index_mut-seat.result.now.taking in
-    let done : tell_asking c.args.f.now c.args.ack records ≡ Ok (receiver.asking c.args.f.now c.args.ack records) = rw (due) refl in
+    let done : tell_asking c.args.f.now c.args.ack records ≡ Ok (receiver.asking c.args.f.now c.args.ack records) = rw due refl in
     is-taken done c.asking.ensures.answer
 
 pub invariant_of-self : goal.invariant_of-self
@@ -20,7 +20,7 @@ invariant_of-self g c =
     let at = sits-in c.self.invariant inside (sym c.index_mut-seat.ensures.value) in
     let due = takes-at c.self.invariant at (action.AskForFile c.args.f.now) (rw (← c.self.view_is) at c.requires.due) in
     let records = c.index_mut-seat.result.now.taking in
-    let done : tell_asking c.args.f.now c.args.ack records ≡ Ok (receiver.asking c.args.f.now c.args.ack records) = rw (due) refl in
+    let done : tell_asking c.args.f.now c.args.ack records ≡ Ok (receiver.asking c.args.f.now c.args.ack records) = rw due refl in
     taking-world c.self.invariant at (receiver.asking c.args.f.now c.args.ack) (was-taken records done c.asking.ensures.records)
 
 pub returns : goal.returns
@@ -29,6 +29,7 @@ returns g c = λ t there.
     let at = sits-in c.self.invariant inside (sym c.index_mut-seat.ensures.value) in
     let due = takes-at c.self.invariant at (action.AskForFile c.args.f.now) (rw (← c.self.view_is) at c.requires.due) in
     let records = c.index_mut-seat.result.now.taking in
-    let done : tell_asking c.args.f.now c.args.ack records ≡ Ok (receiver.asking c.args.f.now c.args.ack records) = rw (due) refl in
+    let done : tell_asking c.args.f.now c.args.ack records ≡ Ok (receiver.asking c.args.f.now c.args.ack records) = rw due refl in
     let where_is = rw (← c.self.view_is) at there in
-    rw (← c.self.view_is) (taking-done c.self.invariant at (receiver.asking c.args.f.now c.args.ack) (was-taken records done c.asking.ensures.records) t where_is)
+    rw (← c.self.view_is) (taking-done c.self.invariant at (receiver.asking c.args.f.now c.args.ack)
+    (was-taken records done c.asking.ensures.records) t where_is)

@@ -29,4 +29,5 @@ returns g c = λ t there.
     let records = c.index_mut-seat.result.now.taking in
     let done : tell_failed c.args.action.now c.args.kept records ≡ Ok (after_failure c.args.action.now c.args.kept records) = rw (due, c.requires.kept) refl in
     let where_is = rw (← c.self.view_is) at there in
-    rw (← c.self.view_is) (taking-done c.self.invariant at (after_failure c.args.action.now c.args.kept) (was-taken records done c.failed.ensures.records) t where_is)
+    rw (← c.self.view_is) (taking-done c.self.invariant at (after_failure c.args.action.now c.args.kept)
+    (was-taken records done c.failed.ensures.records) t where_is)

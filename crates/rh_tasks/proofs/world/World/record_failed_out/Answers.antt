@@ -10,7 +10,7 @@ unwrap-requires g c =
     let at = sits-in c.self.invariant inside (sym c.index_mut-seat.ensures.value) in
     let due = sends-at c.self.invariant at c.args.action.now (rw (← c.self.view_is) at c.requires.due) in
     let records = c.index_mut-seat.result.now.sending in
-    let done : tell_sending_failed c.args.action.now records ≡ Ok (sender.sending_failed (sender.transfer_of c.args.action.now) records) = rw (due) refl in
+    let done : tell_sending_failed c.args.action.now records ≡ Ok (sender.sending_failed (sender.transfer_of c.args.action.now) records) = rw due refl in
     is-taken done c.failed.ensures.answer
 
 pub invariant_of-self : goal.invariant_of-self
@@ -19,7 +19,7 @@ invariant_of-self g c =
     let at = sits-in c.self.invariant inside (sym c.index_mut-seat.ensures.value) in
     let due = sends-at c.self.invariant at c.args.action.now (rw (← c.self.view_is) at c.requires.due) in
     let records = c.index_mut-seat.result.now.sending in
-    let done : tell_sending_failed c.args.action.now records ≡ Ok (sender.sending_failed (sender.transfer_of c.args.action.now) records) = rw (due) refl in
+    let done : tell_sending_failed c.args.action.now records ≡ Ok (sender.sending_failed (sender.transfer_of c.args.action.now) records) = rw due refl in
     sending-world c.self.invariant at (sender.sending_failed (sender.transfer_of c.args.action.now)) (was-taken records done c.failed.ensures.records)
 
 pub returns : goal.returns
@@ -28,6 +28,7 @@ returns g c = λ t there.
     let at = sits-in c.self.invariant inside (sym c.index_mut-seat.ensures.value) in
     let due = sends-at c.self.invariant at c.args.action.now (rw (← c.self.view_is) at c.requires.due) in
     let records = c.index_mut-seat.result.now.sending in
-    let done : tell_sending_failed c.args.action.now records ≡ Ok (sender.sending_failed (sender.transfer_of c.args.action.now) records) = rw (due) refl in
+    let done : tell_sending_failed c.args.action.now records ≡ Ok (sender.sending_failed (sender.transfer_of c.args.action.now) records) = rw due refl in
     let where_is = rw (← c.self.view_is) at there in
-    rw (← c.self.view_is) (sending-done c.self.invariant at (sender.sending_failed (sender.transfer_of c.args.action.now)) (was-taken records done c.failed.ensures.records) t where_is)
+    rw (← c.self.view_is) (sending-done c.self.invariant at (sender.sending_failed (sender.transfer_of c.args.action.now))
+    (was-taken records done c.failed.ensures.records) t where_is)

@@ -31,4 +31,5 @@ returns g c = λ t there.
     let records = c.index_mut-seat.result.now.taking in
     let done : tell_fetched c.args.a.now c.args.fetch records ≡ Ok (receiver.fetched c.args.a.now c.args.fetch records) = rw (due, c.requires.next) refl in
     let where_is = rw (← c.self.view_is) at there in
-    rw (← c.self.view_is) (taking-done c.self.invariant at (receiver.fetched c.args.a.now c.args.fetch) (was-taken records done c.fetched.ensures.records) t where_is)
+    rw (← c.self.view_is) (taking-done c.self.invariant at (receiver.fetched c.args.a.now c.args.fetch)
+    (was-taken records done c.fetched.ensures.records) t where_is)

@@ -11,7 +11,8 @@ unwrap-requires g c =
     let at = sits-in c.self.invariant inside (sym c.index_mut-seat.ensures.value) in
     let due = takes-at c.self.invariant at (action.Claim c.args.a.now) (rw (← c.self.view_is) at c.requires.due) in
     let records = c.index_mut-seat.result.now.taking in
-    let done : tell_fetching c.args.a.now c.args.anchor c.args.buffer c.args.fetch records ≡ Ok (receiver.claimed c.args.a.now c.args.anchor c.args.buffer c.args.fetch records) = rw (due) refl in
+    let done : tell_fetching c.args.a.now c.args.anchor c.args.buffer c.args.fetch records ≡ Ok
+    (receiver.claimed c.args.a.now c.args.anchor c.args.buffer c.args.fetch records) = rw due refl in
     is-taken done c.fetching.ensures.answer
 
 pub invariant_of-self : goal.invariant_of-self
@@ -20,8 +21,10 @@ invariant_of-self g c =
     let at = sits-in c.self.invariant inside (sym c.index_mut-seat.ensures.value) in
     let due = takes-at c.self.invariant at (action.Claim c.args.a.now) (rw (← c.self.view_is) at c.requires.due) in
     let records = c.index_mut-seat.result.now.taking in
-    let done : tell_fetching c.args.a.now c.args.anchor c.args.buffer c.args.fetch records ≡ Ok (receiver.claimed c.args.a.now c.args.anchor c.args.buffer c.args.fetch records) = rw (due) refl in
-    taking-world c.self.invariant at (receiver.claimed c.args.a.now c.args.anchor c.args.buffer c.args.fetch) (was-taken records done c.fetching.ensures.records)
+    let done : tell_fetching c.args.a.now c.args.anchor c.args.buffer c.args.fetch records ≡ Ok
+    (receiver.claimed c.args.a.now c.args.anchor c.args.buffer c.args.fetch records) = rw due refl in
+    taking-world c.self.invariant at (receiver.claimed c.args.a.now c.args.anchor c.args.buffer c.args.fetch)
+    (was-taken records done c.fetching.ensures.records)
 
 pub returns : goal.returns
 returns g c = λ t there.
@@ -29,6 +32,8 @@ returns g c = λ t there.
     let at = sits-in c.self.invariant inside (sym c.index_mut-seat.ensures.value) in
     let due = takes-at c.self.invariant at (action.Claim c.args.a.now) (rw (← c.self.view_is) at c.requires.due) in
     let records = c.index_mut-seat.result.now.taking in
-    let done : tell_fetching c.args.a.now c.args.anchor c.args.buffer c.args.fetch records ≡ Ok (receiver.claimed c.args.a.now c.args.anchor c.args.buffer c.args.fetch records) = rw (due) refl in
+    let done : tell_fetching c.args.a.now c.args.anchor c.args.buffer c.args.fetch records ≡ Ok
+    (receiver.claimed c.args.a.now c.args.anchor c.args.buffer c.args.fetch records) = rw due refl in
     let where_is = rw (← c.self.view_is) at there in
-    rw (← c.self.view_is) (taking-done c.self.invariant at (receiver.claimed c.args.a.now c.args.anchor c.args.buffer c.args.fetch) (was-taken records done c.fetching.ensures.records) t where_is)
+    rw (← c.self.view_is) (taking-done c.self.invariant at (receiver.claimed c.args.a.now c.args.anchor c.args.buffer c.args.fetch)
+    (was-taken records done c.fetching.ensures.records) t where_is)

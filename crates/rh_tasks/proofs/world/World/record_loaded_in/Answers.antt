@@ -11,7 +11,7 @@ unwrap-requires g c =
     let at = sits-in c.self.invariant inside (sym c.index_mut-seat.ensures.value) in
     let due = takes-at c.self.invariant at (action.LoadFile c.args.a.now) (rw (← c.self.view_is) at c.requires.due) in
     let records = c.index_mut-seat.result.now.taking in
-    let done : tell_taking_loaded c.args.a.now c.args.n records ≡ Ok (receiver.taking_loaded c.args.a.now.transfer c.args.n records) = rw (due) refl in
+    let done : tell_taking_loaded c.args.a.now c.args.n records ≡ Ok (receiver.taking_loaded c.args.a.now.transfer c.args.n records) = rw due refl in
     is-taken done c.loaded.ensures.answer
 
 pub invariant_of-self : goal.invariant_of-self
@@ -20,7 +20,7 @@ invariant_of-self g c =
     let at = sits-in c.self.invariant inside (sym c.index_mut-seat.ensures.value) in
     let due = takes-at c.self.invariant at (action.LoadFile c.args.a.now) (rw (← c.self.view_is) at c.requires.due) in
     let records = c.index_mut-seat.result.now.taking in
-    let done : tell_taking_loaded c.args.a.now c.args.n records ≡ Ok (receiver.taking_loaded c.args.a.now.transfer c.args.n records) = rw (due) refl in
+    let done : tell_taking_loaded c.args.a.now c.args.n records ≡ Ok (receiver.taking_loaded c.args.a.now.transfer c.args.n records) = rw due refl in
     taking-world c.self.invariant at (receiver.taking_loaded c.args.a.now.transfer c.args.n) (was-taken records done c.loaded.ensures.records)
 
 pub returns : goal.returns
@@ -29,6 +29,7 @@ returns g c = λ t there.
     let at = sits-in c.self.invariant inside (sym c.index_mut-seat.ensures.value) in
     let due = takes-at c.self.invariant at (action.LoadFile c.args.a.now) (rw (← c.self.view_is) at c.requires.due) in
     let records = c.index_mut-seat.result.now.taking in
-    let done : tell_taking_loaded c.args.a.now c.args.n records ≡ Ok (receiver.taking_loaded c.args.a.now.transfer c.args.n records) = rw (due) refl in
+    let done : tell_taking_loaded c.args.a.now c.args.n records ≡ Ok (receiver.taking_loaded c.args.a.now.transfer c.args.n records) = rw due refl in
     let where_is = rw (← c.self.view_is) at there in
-    rw (← c.self.view_is) (taking-done c.self.invariant at (receiver.taking_loaded c.args.a.now.transfer c.args.n) (was-taken records done c.loaded.ensures.records) t where_is)
+    rw (← c.self.view_is) (taking-done c.self.invariant at (receiver.taking_loaded c.args.a.now.transfer c.args.n)
+    (was-taken records done c.loaded.ensures.records) t where_is)

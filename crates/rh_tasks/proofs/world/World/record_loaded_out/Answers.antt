@@ -11,7 +11,7 @@ unwrap-requires g c =
     let at = sits-in c.self.invariant inside (sym c.index_mut-seat.ensures.value) in
     let due = sends-at c.self.invariant at (action.Finish c.args.x.now) (rw (← c.self.view_is) at c.requires.due) in
     let records = c.index_mut-seat.result.now.sending in
-    let done : tell_sending_loaded c.args.x.now c.args.n records ≡ Ok (sender.sending_loaded c.args.x.now c.args.n records) = rw (due) refl in
+    let done : tell_sending_loaded c.args.x.now c.args.n records ≡ Ok (sender.sending_loaded c.args.x.now c.args.n records) = rw due refl in
     is-taken done c.loaded.ensures.answer
 
 pub invariant_of-self : goal.invariant_of-self
@@ -20,7 +20,7 @@ invariant_of-self g c =
     let at = sits-in c.self.invariant inside (sym c.index_mut-seat.ensures.value) in
     let due = sends-at c.self.invariant at (action.Finish c.args.x.now) (rw (← c.self.view_is) at c.requires.due) in
     let records = c.index_mut-seat.result.now.sending in
-    let done : tell_sending_loaded c.args.x.now c.args.n records ≡ Ok (sender.sending_loaded c.args.x.now c.args.n records) = rw (due) refl in
+    let done : tell_sending_loaded c.args.x.now c.args.n records ≡ Ok (sender.sending_loaded c.args.x.now c.args.n records) = rw due refl in
     sending-world c.self.invariant at (sender.sending_loaded c.args.x.now c.args.n) (was-taken records done c.loaded.ensures.records)
 
 pub returns : goal.returns
@@ -29,6 +29,7 @@ returns g c = λ t there.
     let at = sits-in c.self.invariant inside (sym c.index_mut-seat.ensures.value) in
     let due = sends-at c.self.invariant at (action.Finish c.args.x.now) (rw (← c.self.view_is) at c.requires.due) in
     let records = c.index_mut-seat.result.now.sending in
-    let done : tell_sending_loaded c.args.x.now c.args.n records ≡ Ok (sender.sending_loaded c.args.x.now c.args.n records) = rw (due) refl in
+    let done : tell_sending_loaded c.args.x.now c.args.n records ≡ Ok (sender.sending_loaded c.args.x.now c.args.n records) = rw due refl in
     let where_is = rw (← c.self.view_is) at there in
-    rw (← c.self.view_is) (sending-done c.self.invariant at (sender.sending_loaded c.args.x.now c.args.n) (was-taken records done c.loaded.ensures.records) t where_is)
+    rw (← c.self.view_is) (sending-done c.self.invariant at (sender.sending_loaded c.args.x.now c.args.n)
+    (was-taken records done c.loaded.ensures.records) t where_is)

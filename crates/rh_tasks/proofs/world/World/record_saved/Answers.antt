@@ -11,7 +11,7 @@ unwrap-requires g c =
     let at = sits-in c.self.invariant inside (sym c.index_mut-seat.ensures.value) in
     let due = sends-at c.self.invariant at (action.SaveFile c.args.a.now) (rw (← c.self.view_is) at c.requires.due) in
     let records = c.index_mut-seat.result.now.sending in
-    let done : tell_saved c.args.a.now c.args.last records ≡ Ok (sender.saved c.args.a.now c.args.last records) = rw (due) refl in
+    let done : tell_saved c.args.a.now c.args.last records ≡ Ok (sender.saved c.args.a.now c.args.last records) = rw due refl in
     is-taken done c.saved.ensures.answer
 
 pub invariant_of-self : goal.invariant_of-self
@@ -20,7 +20,7 @@ invariant_of-self g c =
     let at = sits-in c.self.invariant inside (sym c.index_mut-seat.ensures.value) in
     let due = sends-at c.self.invariant at (action.SaveFile c.args.a.now) (rw (← c.self.view_is) at c.requires.due) in
     let records = c.index_mut-seat.result.now.sending in
-    let done : tell_saved c.args.a.now c.args.last records ≡ Ok (sender.saved c.args.a.now c.args.last records) = rw (due) refl in
+    let done : tell_saved c.args.a.now c.args.last records ≡ Ok (sender.saved c.args.a.now c.args.last records) = rw due refl in
     sending-world c.self.invariant at (sender.saved c.args.a.now c.args.last) (was-taken records done c.saved.ensures.records)
 
 pub returns : goal.returns
@@ -29,6 +29,6 @@ returns g c = λ t there.
     let at = sits-in c.self.invariant inside (sym c.index_mut-seat.ensures.value) in
     let due = sends-at c.self.invariant at (action.SaveFile c.args.a.now) (rw (← c.self.view_is) at c.requires.due) in
     let records = c.index_mut-seat.result.now.sending in
-    let done : tell_saved c.args.a.now c.args.last records ≡ Ok (sender.saved c.args.a.now c.args.last records) = rw (due) refl in
+    let done : tell_saved c.args.a.now c.args.last records ≡ Ok (sender.saved c.args.a.now c.args.last records) = rw due refl in
     let where_is = rw (← c.self.view_is) at there in
     rw (← c.self.view_is) (sending-done c.self.invariant at (sender.saved c.args.a.now c.args.last) (was-taken records done c.saved.ensures.records) t where_is)

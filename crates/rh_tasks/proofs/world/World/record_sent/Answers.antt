@@ -11,7 +11,8 @@ unwrap-requires g c =
     let at = sits-in c.self.invariant inside (sym c.index_mut-seat.ensures.value) in
     let due = sends-at c.self.invariant at (action.Transmit c.args.a.now) (rw (← c.self.view_is) at c.requires.due) in
     let records = c.index_mut-seat.result.now.sending in
-    let done : tell_sent c.args.a.now c.args.size c.args.last records ≡ Ok (sender.sent c.args.a.now (sender.part c.args.a.now c.args.size) c.args.last records) = rw (due) refl in
+    let done : tell_sent c.args.a.now c.args.size c.args.last records ≡ Ok
+    (sender.sent c.args.a.now (sender.part c.args.a.now c.args.size) c.args.last records) = rw due refl in
     is-taken done c.sent.ensures.answer
 
 pub invariant_of-self : goal.invariant_of-self
@@ -20,8 +21,10 @@ invariant_of-self g c =
     let at = sits-in c.self.invariant inside (sym c.index_mut-seat.ensures.value) in
     let due = sends-at c.self.invariant at (action.Transmit c.args.a.now) (rw (← c.self.view_is) at c.requires.due) in
     let records = c.index_mut-seat.result.now.sending in
-    let done : tell_sent c.args.a.now c.args.size c.args.last records ≡ Ok (sender.sent c.args.a.now (sender.part c.args.a.now c.args.size) c.args.last records) = rw (due) refl in
-    sending-world c.self.invariant at (sender.sent c.args.a.now (sender.part c.args.a.now c.args.size) c.args.last) (was-taken records done c.sent.ensures.records)
+    let done : tell_sent c.args.a.now c.args.size c.args.last records ≡ Ok
+    (sender.sent c.args.a.now (sender.part c.args.a.now c.args.size) c.args.last records) = rw due refl in
+    sending-world c.self.invariant at (sender.sent c.args.a.now (sender.part c.args.a.now c.args.size) c.args.last)
+    (was-taken records done c.sent.ensures.records)
 
 pub returns : goal.returns
 returns g c = λ t there.
@@ -29,6 +32,8 @@ returns g c = λ t there.
     let at = sits-in c.self.invariant inside (sym c.index_mut-seat.ensures.value) in
     let due = sends-at c.self.invariant at (action.Transmit c.args.a.now) (rw (← c.self.view_is) at c.requires.due) in
     let records = c.index_mut-seat.result.now.sending in
-    let done : tell_sent c.args.a.now c.args.size c.args.last records ≡ Ok (sender.sent c.args.a.now (sender.part c.args.a.now c.args.size) c.args.last records) = rw (due) refl in
+    let done : tell_sent c.args.a.now c.args.size c.args.last records ≡ Ok
+    (sender.sent c.args.a.now (sender.part c.args.a.now c.args.size) c.args.last records) = rw due refl in
     let where_is = rw (← c.self.view_is) at there in
-    rw (← c.self.view_is) (sending-done c.self.invariant at (sender.sent c.args.a.now (sender.part c.args.a.now c.args.size) c.args.last) (was-taken records done c.sent.ensures.records) t where_is)
+    rw (← c.self.view_is) (sending-done c.self.invariant at (sender.sent c.args.a.now (sender.part c.args.a.now c.args.size) c.args.last)
+    (was-taken records done c.sent.ensures.records) t where_is)
