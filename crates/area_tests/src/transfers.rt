@@ -3,14 +3,19 @@
 ghost use Rattle.std.specs.Prelude.{◌≡◌};
 
 use crate::same::{is_true, same};
-use rh_defs::{Anchor, Asked, Handle, Incoming, Outgoing, Ref, Refusal, Sending, Taking};
-use rh_ram::{Receiver, Sender};
+use rh_defs::{
+    Anchor, Append, Asked, Claim, Ending, Fetch, Handle, Incoming, LoadFile, Next, Outgoing, Part,
+    Ref, Refusal, Release, SaveFile, SendAction, Sending, TakeAction, Taking, Transmit,
+};
+use rh_ram::{Receiver, Sender, first_fetch, part};
 
 const SENDER: Handle = Handle(1);
 
 const RECEIVER: Handle = Handle(2);
 
 const BUFFER: u32 = 0x8114;
+
+const ROOM: u32 = 100;
 
 /// The transfer with ref 1 as its sender keeps it.
 fn sending(count: u32, last: u32) -> Sending
@@ -22,6 +27,17 @@ fn sending(count: u32, last: u32) -> Sending
         anchor: Anchor(0),
         count,
         last: Ref(last),
+    }
+}
+
+/// The answer to the fetch with the ref.
+fn transmit(transfer: Sending, fetch: u32) -> Transmit {
+    Transmit {
+        transfer,
+        to: RECEIVER,
+        answers: Ref(fetch),
+        buffer: BUFFER,
+        room: ROOM,
     }
 }
 
@@ -39,39 +55,98 @@ fn taking(count: u32, fetch: u32) -> Taking
     }
 }
 
+/// The offer with ref 1.
+fn claim() -> Claim {
+    Claim {
+        id: Ref(1),
+        sender: SENDER,
+    }
+}
+
+/// A fetch that answers the message with the ref.
+fn fetch(answers: u32) -> Fetch {
+    Fetch {
+        to: SENDER,
+        answers: Ref(answers),
+        buffer: BUFFER,
+        room: ROOM,
+    }
+}
+
+/// The transfer with ref 1 as it waits for a file.
+fn asked() -> Asked {
+    Asked {
+        id: Ref(1),
+        sender: SENDER,
+        anchor: Anchor(0),
+        ack: Ref(3),
+    }
+}
+
+/// A task that offers its block at anchor 0 by a DataSave with ref 1.
+fn offering() -> Sender {
+    let mut sender = Sender::new();
+    let _ = sender.offer(Ref(1), RECEIVER, Anchor(0));
+    sender
+}
+
 /// A task that has sent its first fetch, with ref 2.
 fn receiving() -> Receiver {
     let mut receiver = Receiver::new();
-    receiver.fetching(taking(0, 2));
+    let _ = receiver.fetching(&claim(), Anchor(0), BUFFER, Ref(2));
     receiver
+}
+
+/// What the fetch of a full buffer with the ref asks for.
+fn on_fetch(sender: &Sender, my_ref: u32, your_ref: u32) -> Option<SendAction> {
+    sender.on_fetch(RECEIVER, Ref(my_ref), Ref(your_ref), BUFFER, ROOM)
+}
+
+/// What the transmit of n bytes asks for.
+fn on_transmit(receiver: &Receiver, my_ref: u32, your_ref: u32, n: u32) -> Option<TakeAction> {
+    receiver.on_transmit(ROOM, SENDER, Ref(my_ref), Ref(your_ref), BUFFER, n)
 }
 
 #[test]
 fn a_multiple_of_the_buffer_ends_by_an_empty_transmit(rt: HostRuntime) {
-    let mut sender = Sender::new();
-    same(&rt, sender.offer(Ref(1), RECEIVER, Anchor(0)), Ok(()));
+    let mut sender = offering();
     is_true(
         &rt,
         sender.is_source(Anchor(0)) && !sender.is_source(Anchor(1)),
     );
+    let first = transmit(sending(0, 1), 2);
     same(
         &rt,
-        sender.on_fetch(RECEIVER, Ref(1), 100),
-        Some(sending(0, 1)),
+        on_fetch(&sender, 2, 1),
+        Some(SendAction::Transmit(first)),
     );
-    sender.sent(&sending(0, 1), 100, 100, Ref(3));
+    let full = Part {
+        offset: 0,
+        n: 100,
+        is_last: false,
+    };
+    same(&rt, part(&first, 200), full);
+    same(&rt, sender.sent(&first, 200, Ref(3)), Ok(()));
+    let second = transmit(sending(100, 3), 4);
     same(
         &rt,
-        sender.on_fetch(RECEIVER, Ref(3), 100),
-        Some(sending(100, 3)),
+        on_fetch(&sender, 4, 3),
+        Some(SendAction::Transmit(second)),
     );
-    sender.sent(&sending(100, 3), 100, 100, Ref(5));
+    same(&rt, sender.sent(&second, 200, Ref(5)), Ok(()));
+    let third = transmit(sending(200, 5), 6);
     same(
         &rt,
-        sender.on_fetch(RECEIVER, Ref(5), 100),
-        Some(sending(200, 5)),
+        on_fetch(&sender, 6, 5),
+        Some(SendAction::Transmit(third)),
     );
-    sender.sent(&sending(200, 5), 0, 100, Ref(7));
+    let empty = Part {
+        offset: 200,
+        n: 0,
+        is_last: true,
+    };
+    same(&rt, part(&third, 200), empty);
+    same(&rt, sender.sent(&third, 200, Ref(7)), Ok(()));
     let done = Outgoing::Done {
         id: Ref(1),
         count: 200,
@@ -82,18 +157,42 @@ fn a_multiple_of_the_buffer_ends_by_an_empty_transmit(rt: HostRuntime) {
 
 #[test]
 fn full_transmits_are_taken_until_a_short_one(rt: HostRuntime) {
-    let mut receiver = receiving();
-    let found = receiver.on_transmit(100, SENDER, Ref(2), BUFFER, 100);
-    same(&rt, found, Some(Incoming::Fetching(taking(0, 2))));
-    receiver.fetched(&taking(0, 2), 100, Ref(4));
+    let mut receiver = Receiver::new();
+    same(&rt, receiver.on_save(true, SENDER, Ref(1)), None);
     same(
         &rt,
-        receiver.on_transmit(100, SENDER, Ref(4), BUFFER, 101),
-        None,
+        receiver.on_save(false, SENDER, Ref(1)),
+        Some(TakeAction::Claim(claim())),
     );
-    let found = receiver.on_transmit(100, SENDER, Ref(4), BUFFER, 50);
-    same(&rt, found, Some(Incoming::Fetching(taking(100, 4))));
-    receiver.finished(&taking(100, 4), 50);
+    same(&rt, first_fetch(&claim(), BUFFER, ROOM), fetch(1));
+    same(
+        &rt,
+        receiver.fetching(&claim(), Anchor(0), BUFFER, Ref(2)),
+        Ok(()),
+    );
+    let full = Append {
+        transfer: taking(0, 2),
+        n: 100,
+        next: Next::Fetch(fetch(3)),
+    };
+    same(
+        &rt,
+        on_transmit(&receiver, 3, 2, 100),
+        Some(TakeAction::Append(full)),
+    );
+    same(&rt, receiver.fetched(&full, Ref(4)), Ok(()));
+    same(&rt, on_transmit(&receiver, 5, 4, 101), None);
+    let last = Append {
+        transfer: taking(100, 4),
+        n: 50,
+        next: Next::Finish,
+    };
+    same(
+        &rt,
+        on_transmit(&receiver, 5, 4, 50),
+        Some(TakeAction::Append(last)),
+    );
+    same(&rt, receiver.finished(&last), Ok(()));
     let done = Incoming::Done {
         id: Ref(1),
         anchor: Anchor(0),
@@ -108,20 +207,72 @@ fn full_transmits_are_taken_until_a_short_one(rt: HostRuntime) {
 
 #[test]
 fn a_repeated_fetch_is_for_no_record(rt: HostRuntime) {
-    let mut sender = Sender::new();
-    same(&rt, sender.offer(Ref(1), RECEIVER, Anchor(0)), Ok(()));
-    sender.sent(&sending(0, 1), 100, 100, Ref(4));
-    same(&rt, sender.on_fetch(RECEIVER, Ref(1), 100), None);
-    same(&rt, sender.on_fetch(SENDER, Ref(4), 100), None);
-    same(&rt, sender.on_fetch(RECEIVER, Ref(4), 0), None);
-    same(&rt, sender.on_bounce(Ref(1)), None);
-    same(&rt, sender.on_bounce(Ref(4)), Some(sending(100, 4)));
-    sender.failed(&sending(100, 4));
+    let mut sender = offering();
+    let first = transmit(sending(0, 1), 2);
+    same(&rt, sender.sent(&first, 150, Ref(4)), Ok(()));
+    same(&rt, on_fetch(&sender, 3, 1), None);
+    let other = sender.on_fetch(SENDER, Ref(5), Ref(4), BUFFER, ROOM);
+    same(&rt, other, None);
+    let empty = sender.on_fetch(RECEIVER, Ref(5), Ref(4), BUFFER, 0);
+    same(&rt, empty, None);
+    is_true(&rt, !sender.on_bounce(Ref(1)));
+    is_true(&rt, sender.on_bounce(Ref(4)));
     let failed = Outgoing::Failed {
         id: Ref(1),
         count: 100,
     };
     same(&rt, sender.records(), [failed].as_slice());
+}
+
+#[test]
+fn an_outcome_is_taken_once(rt: HostRuntime) {
+    let mut sender = offering();
+    let action = transmit(sending(0, 1), 2);
+    same(&rt, sender.sent(&action, 150, Ref(3)), Ok(()));
+    same(
+        &rt,
+        sender.sent(&action, 150, Ref(3)),
+        Err(Refusal::NotOpen),
+    );
+    same(
+        &rt,
+        sender.failed(&SendAction::Transmit(action)),
+        Err(Refusal::NotOpen),
+    );
+    let went_on = Outgoing::Open(sending(100, 3));
+    same(&rt, sender.records(), [went_on].as_slice());
+    let mut receiver = receiving();
+    let full = Append {
+        transfer: taking(0, 2),
+        n: 100,
+        next: Next::Fetch(fetch(3)),
+    };
+    same(&rt, receiver.finished(&full), Err(Refusal::NotOpen));
+    same(&rt, receiver.cancel(None), Ok(()));
+    same(&rt, receiver.fetched(&full, Ref(4)), Err(Refusal::NotOpen));
+    let too_much = receiver.failed(&TakeAction::Append(full), 100);
+    same(&rt, too_much, Err(Refusal::NotOpen));
+    let draining = Incoming::Draining(taking(0, 2));
+    same(&rt, receiver.records(), [draining].as_slice());
+}
+
+#[test]
+fn a_refused_fetch_keeps_the_bytes_that_came(rt: HostRuntime) {
+    let mut receiver = receiving();
+    let full = TakeAction::Append(Append {
+        transfer: taking(0, 2),
+        n: 100,
+        next: Next::Fetch(fetch(3)),
+    });
+    same(&rt, on_transmit(&receiver, 3, 2, 100), Some(full));
+    same(&rt, receiver.failed(&full, 101), Err(Refusal::BadRange));
+    same(&rt, receiver.failed(&full, 100), Ok(()));
+    let failed = Incoming::Failed {
+        id: Ref(1),
+        anchor: Anchor(0),
+        count: 100,
+    };
+    same(&rt, receiver.records(), [failed].as_slice());
 }
 
 #[test]
@@ -134,21 +285,54 @@ fn a_cancelled_transfer_drains(rt: HostRuntime) {
         receiver.is_buffer_of(BUFFER) && !receiver.is_document(Anchor(0)),
     );
     same(&rt, receiver.cancel(Some(Ref(1))), Err(Refusal::NotOpen));
-    let draining = Some(Incoming::Draining(taking(0, 2)));
-    same(&rt, receiver.on_bounce(Ref(2)), draining);
-    same(
-        &rt,
-        receiver.on_transmit(100, SENDER, Ref(2), BUFFER, 5),
-        draining,
-    );
-    receiver.failed(&taking(0, 2), 0);
+    let drained = TakeAction::Release(Release {
+        transfer: taking(0, 2),
+        ending: Ending::Drained,
+    });
+    same(&rt, receiver.on_bounce(Ref(2)), Some(drained));
+    same(&rt, on_transmit(&receiver, 3, 2, 5), Some(drained));
+    same(&rt, receiver.failed(&drained, 5), Err(Refusal::BadRange));
+    same(&rt, receiver.failed(&drained, 0), Ok(()));
     let failed = Incoming::Failed {
         id: Ref(1),
         anchor: Anchor(0),
         count: 0,
     };
     same(&rt, receiver.records(), [failed].as_slice());
-    is_true(&rt, receiver.on_save(false) && !receiver.on_save(true));
+    is_true(&rt, receiver.on_save(false, SENDER, Ref(4)).is_some());
+}
+
+#[test]
+fn a_fetch_that_comes_back_after_bytes_ends_it(rt: HostRuntime) {
+    let mut receiver = receiving();
+    same(
+        &rt,
+        receiver.on_bounce(Ref(2)),
+        Some(TakeAction::AskForFile(taking(0, 2))),
+    );
+    let full = Append {
+        transfer: taking(0, 2),
+        n: 100,
+        next: Next::Fetch(fetch(3)),
+    };
+    same(&rt, receiver.fetched(&full, Ref(4)), Ok(()));
+    let unanswered = TakeAction::Release(Release {
+        transfer: taking(100, 4),
+        ending: Ending::Unanswered,
+    });
+    same(&rt, receiver.on_bounce(Ref(4)), Some(unanswered));
+    same(
+        &rt,
+        receiver.asking(&taking(100, 4), Ref(5)),
+        Err(Refusal::NotOpen),
+    );
+    same(&rt, receiver.failed(&unanswered, 0), Ok(()));
+    let failed = Incoming::Failed {
+        id: Ref(1),
+        anchor: Anchor(0),
+        count: 100,
+    };
+    same(&rt, receiver.records(), [failed].as_slice());
 }
 
 #[test]
@@ -185,33 +369,63 @@ fn eight_transfers_go_out_at_once(rt: HostRuntime) {
 }
 
 #[test]
+fn eight_transfers_come_in_at_once(rt: HostRuntime) {
+    let mut receiver = Receiver::new();
+    for i in 1..9u8 {
+        let offer = Claim {
+            id: Ref(u32::from(i)),
+            sender: SENDER,
+        };
+        same(
+            &rt,
+            receiver.fetching(&offer, Anchor(i), BUFFER, Ref(20)),
+            Ok(()),
+        );
+    }
+    same(&rt, receiver.on_save(false, SENDER, Ref(9)), None);
+    let late = receiver.fetching(&claim(), Anchor(9), BUFFER, Ref(21));
+    same(&rt, late, Err(Refusal::Busy));
+    assert_eq!(rt; receiver.records().len(), 8);
+}
+
+#[test]
 fn a_file_goes_over_by_a_scrap_file(rt: HostRuntime) {
-    let mut sender = Sender::new();
-    same(&rt, sender.offer(Ref(1), RECEIVER, Anchor(0)), Ok(()));
+    let mut sender = offering();
     let mut receiver = receiving();
-    receiver.asking(&taking(0, 2), Ref(3));
+    same(&rt, receiver.asking(&taking(0, 2), Ref(3)), Ok(()));
     is_true(
         &rt,
         receiver.is_document(Anchor(0)) && !receiver.is_buffer_of(BUFFER),
     );
-    same(&rt, sender.on_ack(RECEIVER, Ref(1)), Some(sending(0, 1)));
-    sender.saved(&sending(0, 1), Ref(4));
-    same(&rt, sender.on_ack(RECEIVER, Ref(1)), None);
-    let asked = Asked {
-        id: Ref(1),
-        sender: SENDER,
-        anchor: Anchor(0),
-        ack: Ref(3),
+    let save = SaveFile {
+        transfer: sending(0, 1),
+        to: RECEIVER,
+        answers: Ref(3),
     };
-    same(&rt, receiver.on_ack_bounce(Ref(3)), Some(asked));
-    same(&rt, receiver.on_load(SENDER, Ref(3)), Some(asked));
-    receiver.loaded(&asked, 5);
+    same(
+        &rt,
+        sender.on_ack(RECEIVER, Ref(3), Ref(1)),
+        Some(SendAction::SaveFile(save)),
+    );
+    same(&rt, sender.saved(&save, Ref(4)), Ok(()));
+    same(&rt, sender.on_ack(RECEIVER, Ref(3), Ref(1)), None);
+    let load = LoadFile {
+        transfer: asked(),
+        to: SENDER,
+        answers: Ref(4),
+    };
+    same(
+        &rt,
+        receiver.on_load(SENDER, Ref(4), Ref(3)),
+        Some(TakeAction::LoadFile(load)),
+    );
+    same(&rt, receiver.loaded(&load, 5), Ok(()));
     same(
         &rt,
         sender.on_load_ack(RECEIVER, Ref(4)),
-        Some(sending(0, 4)),
+        Some(SendAction::Finish(sending(0, 4))),
     );
-    sender.loaded(&sending(0, 4), 5);
+    same(&rt, sender.loaded(&sending(0, 4), 5), Ok(()));
     let went = Outgoing::Done {
         id: Ref(1),
         count: 5,
@@ -223,4 +437,32 @@ fn a_file_goes_over_by_a_scrap_file(rt: HostRuntime) {
     };
     same(&rt, sender.records(), [went].as_slice());
     same(&rt, receiver.records(), [came].as_slice());
+}
+
+#[test]
+fn a_file_that_never_comes_leaves_what_was_kept(rt: HostRuntime) {
+    let mut receiver = receiving();
+    same(&rt, receiver.asking(&taking(0, 2), Ref(3)), Ok(()));
+    is_true(&rt, !receiver.on_ack_bounce(Ref(2)));
+    is_true(&rt, receiver.on_ack_bounce(Ref(3)));
+    let failed = Incoming::Failed {
+        id: Ref(1),
+        anchor: Anchor(0),
+        count: 0,
+    };
+    same(&rt, receiver.records(), [failed].as_slice());
+    let mut other = receiving();
+    same(&rt, other.asking(&taking(0, 2), Ref(3)), Ok(()));
+    let load = TakeAction::LoadFile(LoadFile {
+        transfer: asked(),
+        to: SENDER,
+        answers: Ref(4),
+    });
+    same(&rt, other.failed(&load, 7), Ok(()));
+    let kept = Incoming::Failed {
+        id: Ref(1),
+        anchor: Anchor(0),
+        count: 7,
+    };
+    same(&rt, other.records(), [kept].as_slice());
 }

@@ -1,3 +1,5 @@
 pub mod CallLaws
+pub mod DueLaws
 pub mod FindingLaws
 pub mod RecordLaws
+pub mod ToldLaws

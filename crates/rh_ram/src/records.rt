@@ -1,14 +1,16 @@
 //! Lists of records, whichever way their transfers go: one more, one written anew.
 
-ghost use Rattle.std.specs.Prelude.{◌≡◌, ℕ, Bool, false, not, ◌<◌, Option, length, filter};
+ghost use Rattle.std.specs.Prelude.{◌≡◌, ℕ, Bool, false, not, ◌<◌, Option, Ok, length, filter};
 ghost use Rattle.std.specs.List.{position};
 ghost use Rattle.arrayvec.specs.ArrayVec.{array_vec_len};
 ghost use Rattle.rh_defs.specs.Records.{out_id, in_id, is_open, is_going, is_full as is_full_of, with_id, is_meant as is_meant_by};
+ghost use Rattle.rh_defs.specs.declared.refusal.Refusal.TheVariants as refusal;
 ghost use Rattle.rh_ram.specs.Inner.Rooms.{roomy};
+ghost use Rattle.rh_ram.specs.Told.{only_if};
 
 use arrayvec::ArrayVec;
 use rh_defs::sizes::MOST_RECORDS;
-use rh_defs::{Incoming, Outgoing, Ref};
+use rh_defs::{Incoming, Outgoing, Ref, Refusal};
 
 /// A record of a transfer, whichever way it goes.
 pub(crate) trait Record: Copy + Default {
@@ -117,4 +119,14 @@ pub(crate) fn is_meant(wanted: Option<Ref>, id: Ref) -> bool
         Some(wanted) => id == wanted,
         None => true,
     }
+}
+
+/// Goes on where a transfer is as it has to be. NotOpen where it isn't.
+pub(crate) fn open_if(holds: bool) -> Result<(), Refusal>
+    ensures { result ≡ only_if holds refusal.NotOpen (Ok tt) }
+{
+    if holds {
+        return Ok(());
+    }
+    Err(Refusal::NotOpen)
 }
