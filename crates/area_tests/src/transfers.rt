@@ -8,6 +8,7 @@ use rh_defs::{
     Ref, Refusal, Release, SaveFile, SendAction, Sending, TakeAction, Taking, Transmit,
 };
 use rh_ram::{Receiver, Sender, first_fetch, part};
+use std::process::Abort;
 
 const SENDER: Handle = Handle(1);
 
@@ -73,6 +74,11 @@ fn fetch(answers: u32) -> Fetch {
     }
 }
 
+/// What n bytes ask for.
+fn appended(transfer: Taking, n: u32, next: Next) -> Append {
+    Append { transfer, n, next }
+}
+
 /// The transfer with ref 1 as it waits for a file.
 fn asked() -> Asked {
     Asked {
@@ -107,6 +113,27 @@ fn on_transmit(receiver: &Receiver, my_ref: u32, your_ref: u32, n: u32) -> Optio
     receiver.on_transmit(ROOM, SENDER, Ref(my_ref), Ref(your_ref), BUFFER, n)
 }
 
+/// What the fetch with the ref asks for: the transfer's next part of a source of 200 bytes, which goes out by the next message.
+fn answers<R: Abort>(rt: &R, sender: &mut Sender, transfer: Sending, fetch: u32, wanted: Part) {
+    let action = transmit(transfer, fetch);
+    same(
+        rt,
+        on_fetch(sender, fetch, transfer.last.0),
+        Some(SendAction::Transmit(action)),
+    );
+    same(rt, part(&action, 200), wanted);
+    same(rt, sender.sent(&action, 200, Ref(fetch + 1)), Ok(()));
+}
+
+/// A part of 100 bytes.
+fn full(offset: u32) -> Part {
+    Part {
+        offset,
+        n: 100,
+        is_last: false,
+    }
+}
+
 #[test]
 fn a_multiple_of_the_buffer_ends_by_an_empty_transmit(rt: HostRuntime) {
     let mut sender = offering();
@@ -114,39 +141,14 @@ fn a_multiple_of_the_buffer_ends_by_an_empty_transmit(rt: HostRuntime) {
         &rt,
         sender.is_source(Anchor(0)) && !sender.is_source(Anchor(1)),
     );
-    let first = transmit(sending(0, 1), 2);
-    same(
-        &rt,
-        on_fetch(&sender, 2, 1),
-        Some(SendAction::Transmit(first)),
-    );
-    let full = Part {
-        offset: 0,
-        n: 100,
-        is_last: false,
-    };
-    same(&rt, part(&first, 200), full);
-    same(&rt, sender.sent(&first, 200, Ref(3)), Ok(()));
-    let second = transmit(sending(100, 3), 4);
-    same(
-        &rt,
-        on_fetch(&sender, 4, 3),
-        Some(SendAction::Transmit(second)),
-    );
-    same(&rt, sender.sent(&second, 200, Ref(5)), Ok(()));
-    let third = transmit(sending(200, 5), 6);
-    same(
-        &rt,
-        on_fetch(&sender, 6, 5),
-        Some(SendAction::Transmit(third)),
-    );
+    answers(&rt, &mut sender, sending(0, 1), 2, full(0));
+    answers(&rt, &mut sender, sending(100, 3), 4, full(100));
     let empty = Part {
         offset: 200,
         n: 0,
         is_last: true,
     };
-    same(&rt, part(&third, 200), empty);
-    same(&rt, sender.sent(&third, 200, Ref(7)), Ok(()));
+    answers(&rt, &mut sender, sending(200, 5), 6, empty);
     let done = Outgoing::Done {
         id: Ref(1),
         count: 200,
@@ -156,7 +158,7 @@ fn a_multiple_of_the_buffer_ends_by_an_empty_transmit(rt: HostRuntime) {
 }
 
 #[test]
-fn full_transmits_are_taken_until_a_short_one(rt: HostRuntime) {
+fn an_offer_is_taken_by_a_fetch(rt: HostRuntime) {
     let mut receiver = Receiver::new();
     same(&rt, receiver.on_save(true, SENDER, Ref(1)), None);
     same(
@@ -170,23 +172,22 @@ fn full_transmits_are_taken_until_a_short_one(rt: HostRuntime) {
         receiver.fetching(&claim(), Anchor(0), BUFFER, Ref(2)),
         Ok(()),
     );
-    let full = Append {
-        transfer: taking(0, 2),
-        n: 100,
-        next: Next::Fetch(fetch(3)),
-    };
+    let fetching = Incoming::Fetching(taking(0, 2));
+    same(&rt, receiver.records(), [fetching].as_slice());
+}
+
+#[test]
+fn full_transmits_are_taken_until_a_short_one(rt: HostRuntime) {
+    let mut receiver = receiving();
+    let first = appended(taking(0, 2), 100, Next::Fetch(fetch(3)));
     same(
         &rt,
         on_transmit(&receiver, 3, 2, 100),
-        Some(TakeAction::Append(full)),
+        Some(TakeAction::Append(first)),
     );
-    same(&rt, receiver.fetched(&full, Ref(4)), Ok(()));
+    same(&rt, receiver.fetched(&first, Ref(4)), Ok(()));
     same(&rt, on_transmit(&receiver, 5, 4, 101), None);
-    let last = Append {
-        transfer: taking(100, 4),
-        n: 50,
-        next: Next::Finish,
-    };
+    let last = appended(taking(100, 4), 50, Next::Finish);
     same(
         &rt,
         on_transmit(&receiver, 5, 4, 50),
@@ -242,11 +243,7 @@ fn an_outcome_is_taken_once(rt: HostRuntime) {
     let went_on = Outgoing::Open(sending(100, 3));
     same(&rt, sender.records(), [went_on].as_slice());
     let mut receiver = receiving();
-    let full = Append {
-        transfer: taking(0, 2),
-        n: 100,
-        next: Next::Fetch(fetch(3)),
-    };
+    let full = appended(taking(0, 2), 100, Next::Fetch(fetch(3)));
     same(&rt, receiver.finished(&full), Err(Refusal::NotOpen));
     same(&rt, receiver.cancel(None), Ok(()));
     same(&rt, receiver.fetched(&full, Ref(4)), Err(Refusal::NotOpen));
@@ -259,11 +256,7 @@ fn an_outcome_is_taken_once(rt: HostRuntime) {
 #[test]
 fn a_refused_fetch_keeps_the_bytes_that_came(rt: HostRuntime) {
     let mut receiver = receiving();
-    let full = TakeAction::Append(Append {
-        transfer: taking(0, 2),
-        n: 100,
-        next: Next::Fetch(fetch(3)),
-    });
+    let full = TakeAction::Append(appended(taking(0, 2), 100, Next::Fetch(fetch(3))));
     same(&rt, on_transmit(&receiver, 3, 2, 100), Some(full));
     same(&rt, receiver.failed(&full, 101), Err(Refusal::BadRange));
     same(&rt, receiver.failed(&full, 100), Ok(()));
@@ -310,11 +303,7 @@ fn a_fetch_that_comes_back_after_bytes_ends_it(rt: HostRuntime) {
         receiver.on_bounce(Ref(2)),
         Some(TakeAction::AskForFile(taking(0, 2))),
     );
-    let full = Append {
-        transfer: taking(0, 2),
-        n: 100,
-        next: Next::Fetch(fetch(3)),
-    };
+    let full = appended(taking(0, 2), 100, Next::Fetch(fetch(3)));
     same(&rt, receiver.fetched(&full, Ref(4)), Ok(()));
     let unanswered = TakeAction::Release(Release {
         transfer: taking(100, 4),
@@ -388,15 +377,18 @@ fn eight_transfers_come_in_at_once(rt: HostRuntime) {
     assert_eq!(rt; receiver.records().len(), 8);
 }
 
+/// What the DataLoad with ref 4 asks for.
+fn load() -> LoadFile {
+    LoadFile {
+        transfer: asked(),
+        to: SENDER,
+        answers: Ref(4),
+    }
+}
+
 #[test]
-fn a_file_goes_over_by_a_scrap_file(rt: HostRuntime) {
+fn a_source_goes_out_by_a_scrap_file(rt: HostRuntime) {
     let mut sender = offering();
-    let mut receiver = receiving();
-    same(&rt, receiver.asking(&taking(0, 2), Ref(3)), Ok(()));
-    is_true(
-        &rt,
-        receiver.is_document(Anchor(0)) && !receiver.is_buffer_of(BUFFER),
-    );
     let save = SaveFile {
         transfer: sending(0, 1),
         to: RECEIVER,
@@ -409,17 +401,6 @@ fn a_file_goes_over_by_a_scrap_file(rt: HostRuntime) {
     );
     same(&rt, sender.saved(&save, Ref(4)), Ok(()));
     same(&rt, sender.on_ack(RECEIVER, Ref(3), Ref(1)), None);
-    let load = LoadFile {
-        transfer: asked(),
-        to: SENDER,
-        answers: Ref(4),
-    };
-    same(
-        &rt,
-        receiver.on_load(SENDER, Ref(4), Ref(3)),
-        Some(TakeAction::LoadFile(load)),
-    );
-    same(&rt, receiver.loaded(&load, 5), Ok(()));
     same(
         &rt,
         sender.on_load_ack(RECEIVER, Ref(4)),
@@ -430,12 +411,28 @@ fn a_file_goes_over_by_a_scrap_file(rt: HostRuntime) {
         id: Ref(1),
         count: 5,
     };
+    same(&rt, sender.records(), [went].as_slice());
+}
+
+#[test]
+fn a_document_comes_in_by_a_scrap_file(rt: HostRuntime) {
+    let mut receiver = receiving();
+    same(&rt, receiver.asking(&taking(0, 2), Ref(3)), Ok(()));
+    is_true(
+        &rt,
+        receiver.is_document(Anchor(0)) && !receiver.is_buffer_of(BUFFER),
+    );
+    same(
+        &rt,
+        receiver.on_load(SENDER, Ref(4), Ref(3)),
+        Some(TakeAction::LoadFile(load())),
+    );
+    same(&rt, receiver.loaded(&load(), 5), Ok(()));
     let came = Incoming::Done {
         id: Ref(1),
         anchor: Anchor(0),
         count: 5,
     };
-    same(&rt, sender.records(), [went].as_slice());
     same(&rt, receiver.records(), [came].as_slice());
 }
 
@@ -453,11 +450,7 @@ fn a_file_that_never_comes_leaves_what_was_kept(rt: HostRuntime) {
     same(&rt, receiver.records(), [failed].as_slice());
     let mut other = receiving();
     same(&rt, other.asking(&taking(0, 2), Ref(3)), Ok(()));
-    let load = TakeAction::LoadFile(LoadFile {
-        transfer: asked(),
-        to: SENDER,
-        answers: Ref(4),
-    });
+    let load = TakeAction::LoadFile(load());
     same(&rt, other.failed(&load, 7), Ok(()));
     let kept = Incoming::Failed {
         id: Ref(1),

@@ -31,10 +31,11 @@ pub record IsFor (i : ℕ) (t : Task) (d : Desk) (m : Parcel) (message : Message
   pub at : IsAt i t d
   pub message_is : m.message ≡ message
 
--- the action is due by the records of the desk's task at a place
+-- a sender's action is due by the records of the desk's task at a place
 abbrev pub CanSend : ℕ → SendAction → Desk → Type 0
 CanSend i a d = (t : Task) → IsAt i t d → is_send_due a t.sending ≡ true
 
+-- a receiver's action is due by the records of the desk's task at a place
 abbrev pub CanTake : ℕ → TakeAction → Desk → Type 0
 CanTake i a d = (t : Task) → IsAt i t d → is_take_due a t.taking ≡ true
 
