@@ -41,16 +41,10 @@ same_asked q =
 pub open-due : (test : Sending → Bool) (records : List Outgoing) (x : Sending) → Some x ≡ open_of test records → list_any (is_open_as x) records ≡ true
 open-due test [] x found = absurd (none-some x (sym found))
 open-due test (outgoing.Open y ∷ records) x found =
-<<<<<<< HEAD
-    elim (test y) as (λ b. Some x ≡ cond b (Some y) (open_of test records) → (is_same_sending x y || list_any (is_open_as x) records) ≡ true)
-    [ true ↦ λ e. or_left (is_same_sending x y) _ (ap (is_same_sending x) (sym (same_Some x y e)) ∙ same_sending x) | false ↦ λ e. or_right
-        (is_same_sending x y) _ (open-due test records x e) ] found
-=======
     elim (test y) as (λ b. Some x ≡ cond b (Some y) (open_of test records) → (is_same_sending x y || list_any (is_open_as x) records) ≡ true) [
       | true ↦ λ e. or_left (is_same_sending x y) _ (ap (is_same_sending x) (sym (same_Some x y e)) ∙ same_sending x)
       | false ↦ λ e. or_right (is_same_sending x y) _ (open-due test records x e)
     ] found
->>>>>>> 73f0e18e6e0a097cc37dfaa714c5707495c92d12
 open-due test (outgoing.Done id count ∷ records) x found = open-due test records x found
 open-due test (outgoing.Failed id count ∷ records) x found = open-due test records x found
 
