@@ -1,15 +1,18 @@
 -- The steps by which a DataSave is taken, once all of them are known to be granted.
 use Rattle.rh_tasks.proofs.Common.{◌≡◌, ℕ, ◌<◌, Bool, true, false, refl, ap, sym, subst, ◌∙◌, inl, inr, List, [], ◌∷◌, length, Option, Some, None, Result, Ok}
-use Rattle.rh_tasks.proofs.Common.{Err, IsOk, IsErr, is_ok, is_err, slice_get, cases_eq, slice_get_within, Memory, FileList, User, Letter, Message, Refusal}
-use Rattle.rh_tasks.proofs.Common.{Granted, ◌>>=◌, found_or, Slot, slot_alloc, slot_claim, Parcel, fetch_letter, is_going, is_full, Desk, Task, next_ref}
+use Rattle.rh_tasks.proofs.Common.{Err, IsOk, IsErr, is_ok, is_err, slice_get, cases_eq, slice_get_within, Memory, FileList, Letter, Refusal}
+use Rattle.rh_tasks.proofs.Common.{Granted, ◌>>=◌, found_or, Slot, slot_alloc, slot_claim, fetch_letter, Desk, Task, next_ref}
 use Rattle.rh_tasks.proofs.Common.{free_pages, edit_task, with_task, with_slot, with_taking, send_letter, Handled, accept, IsDesk, IsReordered, slot_in, Seat}
-use Rattle.rh_tasks.proofs.Common.{MadeArea, Shown, Kept, task_of, shown_of, IsWorld, IsAt, IsFor, IsFreeAnchor, Becomes, Sends, Sits, begins, ends, if_same}
+use Rattle.rh_tasks.proofs.Common.{MadeArea, Shown, Kept, task_of, shown_of, IsWorld, IsAt, IsFreeAnchor, Becomes, Sends, Sits, begins, ends, if_same}
 use Rattle.rh_tasks.proofs.Common.{if_apart, reordered-at, edit-alike}
 use Rattle.rh_defs.specs.declared.refusal.Refusal.TheVariants.{AnchorInUse}
 use Rattle.rh_defs.specs.declared.reply.Outcome.TheVariants as outcome
+use Rattle.rh_defs.specs.declared.transfer_action.Claim.{Claim}
+use Rattle.rh_defs.specs.declared.transfer_action.TakeAction.{TakeAction}
 use Rattle.rh_defs.specs.Places.{free_anchor}
 use Rattle.rh_defs.specs.Receiver as receiver
-use Rattle.rh_tasks.specs.Inner.PollSteps.{Claims, with_document}
+use Rattle.rh_ram.specs.Due.{is_take_due}
+use Rattle.rh_tasks.specs.Inner.PollSteps.{CanTake, Claims, with_document}
 use Rattle.rh_tasks.proofs.Places.{edited-at, edited-is, one-at}
 use Rattle.rh_tasks.proofs.Buffers.{seat-task, seat-handle, seat-buffer, seat-there}
 use Rattle.rh_tasks.proofs.Accepts.{ok-begins, ok-ends, the_fetch, after_fetch, after_document, after_buffer, accept-is, sent_desk}
@@ -63,20 +66,16 @@ last-slot h s first d =
 -- ---- what is known before the first step
 
 -- the task's handle is h, its receive buffer n bytes long, k its lowest anchor without a block, and all is granted
-pub record CanAccept (v : Shown) (i : ℕ) (t : Task) (m : Parcel) (message : Message) (k h n : ℕ) : Type 0 where
+pub record CanAccept (v : Shown) (i : ℕ) (t : Task) (claim : Claim) (k h n : ℕ) : Type 0 where
   pub is : IsDesk v.desk
-  pub here : IsFor i t v.desk m message
+  pub here : IsAt i t v.desk
   pub free : IsFreeAnchor k t.slot
   pub own : h ≡ t.handle
   pub room : n ≡ t.buffer
-  pub ok : is_ok (accept v.desk t m) ≡ true
+  pub ok : is_ok (accept v.desk t claim) ≡ true
 
 module _ {o : Memory} {seats : List Seat} {made : List MadeArea} {files : FileList} {kept : Kept} {i : ℕ} {s : Seat} {v : Shown}
     (w : IsWorld o seats made files kept) (at : Sits seats i s) (view : shown_of o seats made files kept ≡ v) where
-  -- a message like any other
-  abbrev pub any-parcel : Message → Parcel
-  any-parcel message = record { code = User; to = 0; block = 0; message = message }
-
   module _ (t : Task) (at-v : IsAt i t v.desk) where
     own-slot : slot_in o s.slot ≡ t.slot
     unfolding task_of
@@ -86,32 +85,32 @@ module _ {o : Memory} {seats : List Seat} {made : List MadeArea} {files : FileLi
     own-anchor {k} e = subst (IsFreeAnchor k) own-slot (record { is = sym e })
 
   -- no anchor is free
-  pub accept-no_anchor : (t : Task) (m : Parcel) → IsAt i t v.desk → None ≡ free_anchor (slot_in o s.slot) → IsErr (accept v.desk t m)
+  pub accept-no_anchor : (t : Task) (claim : Claim) → IsAt i t v.desk → None ≡ free_anchor (slot_in o s.slot) → IsErr (accept v.desk t claim)
   unfolding accept found_or
-  accept-no_anchor t m at-v e =
+  accept-no_anchor t claim at-v e =
       ap is_err (ends _ (ap (λ x. found_or (free_anchor x) AnchorInUse) (sym (own-slot t at-v)) ∙ ap (λ (x : Option ℕ). found_or x AnchorInUse) (sym e)))
 
-  module _ {k : ℕ} {has : Bool} {message : Message} (anchor : Some k ≡ free_anchor (slot_in o s.slot))
-      (says : (t : Task) (m : Parcel) (k : ℕ) → IsFor i t v.desk m message → IsFreeAnchor k t.slot → has ≡ is_ok (accept v.desk t m)) where
-    pub accept-no_room : (t : Task) (m : Parcel) → IsFor i t v.desk m message → has ≡ false → IsErr (accept v.desk t m)
-    accept-no_room t m here refused = not-ok (accept v.desk t m) (sym (says t m k here (own-anchor t here.at anchor)) ∙ refused)
+  module _ {k : ℕ} {has : Bool} (claim : Claim) (anchor : Some k ≡ free_anchor (slot_in o s.slot))
+      (says : (t : Task) (k : ℕ) → IsAt i t v.desk → IsFreeAnchor k t.slot → has ≡ is_ok (accept v.desk t claim)) where
+    pub accept-no_room : (t : Task) → IsAt i t v.desk → has ≡ false → IsErr (accept v.desk t claim)
+    accept-no_room t here refused = not-ok (accept v.desk t claim) (sym (says t k here (own-anchor t here anchor)) ∙ refused)
       where
         not-ok : {A : Type 0} (g : Granted A) → is_ok g ≡ false → IsErr g
         not-ok (Ok a) e = absurd cc
         not-ok (Err r) e = refl
 
-    pub can-accept : (t : Task) (m : Parcel) → IsFor i t v.desk m message → has ≡ true → CanAccept v i t m message k s.handle s.buffer
-    can-accept t m here granted = record {
+    pub can-accept : (t : Task) → IsAt i t v.desk → has ≡ true → CanAccept v i t claim k s.handle s.buffer
+    can-accept t here granted = record {
       is = subst (λ (x : Shown). IsDesk x.desk) view w.desk;
       here = here;
-      free = own-anchor t here.at anchor;
-      own = seat-handle w view at here.at;
-      room = seat-buffer w view at here.at;
-      ok = sym (says t m k here (own-anchor t here.at anchor)) ∙ granted;
+      free = own-anchor t here anchor;
+      own = seat-handle w view at here;
+      room = seat-buffer w view at here;
+      ok = sym (says t k here (own-anchor t here anchor)) ∙ granted;
     }
 
-    pub can-accept-own : has ≡ true → CanAccept v i (task_of o s) (any-parcel message) message k s.handle s.buffer
-    can-accept-own granted = can-accept (task_of o s) (any-parcel message) (record { at = seat-there w view at; message_is = refl }) granted
+    pub can-accept-own : has ≡ true → CanAccept v i (task_of o s) claim k s.handle s.buffer
+    can-accept-own granted = can-accept (task_of o s) (seat-there w view at) granted
 
 -- ---- the steps
 
@@ -134,16 +133,16 @@ pub record HasFetch (v2 v3 : Shown) (l : Letter) (ref : ℕ) : Type 0 where
   pub granted : send_letter l v2.desk ≡ Ok sent
   pub alike : IsReordered sent v3.desk
 
-module _ {v : Shown} {i : ℕ} {t : Task} {m : Parcel} {message : Message} {k h n : ℕ} (can : CanAccept v i t m message k h n) where
-  all-ok : is_ok (slot_claim (free_pages v.desk) t.buffer t.slot >>= after_buffer v.desk t m k) ≡ true
-  all-ok = ap is_ok (sym (accept-is v.desk t m k can.free)) ∙ can.ok
+module _ {v : Shown} {i : ℕ} {t : Task} {claim : Claim} {k h n : ℕ} (can : CanAccept v i t claim k h n) where
+  all-ok : is_ok (slot_claim (free_pages v.desk) t.buffer t.slot >>= after_buffer v.desk t claim k) ≡ true
+  all-ok = ap is_ok (sym (accept-is v.desk t claim k can.free)) ∙ can.ok
 
   same-claim : {g : Granted (Slot × ℕ)} → slot_claim (free_pages v.desk) n t.slot ≡ g → slot_claim (free_pages v.desk) t.buffer t.slot ≡ g
   same-claim e = ap (λ x. slot_claim (free_pages v.desk) x t.slot) (sym can.room) ∙ e
 
   pub buffer-must : (v1 : Shown) (r : Result ℕ Refusal) → Claims t.handle (slot_claim (free_pages v.desk) n t.slot) v v1 r → IsOk r
   buffer-must v1 (Ok a) c = refl
-  buffer-must v1 (Err e) c = absurd (no-refusal (after_buffer v.desk t m k) all-ok (same-claim c.0))
+  buffer-must v1 (Err e) c = absurd (no-refusal (after_buffer v.desk t claim k) all-ok (same-claim c.0))
 
   pub buffer-got : {v1 : Shown} {a : ℕ} (r : Result ℕ Refusal) → Claims t.handle (slot_claim (free_pages v.desk) n t.slot) v v1 r → r ≡ Ok a
       → HasBuffer v v1 t a
@@ -156,11 +155,11 @@ module _ {v : Shown} {i : ℕ} {t : Task} {m : Parcel} {message : Message} {k h 
     abbrev pub with_buffer : Task
     with_buffer = record t { slot = one.slot }
 
-    document-ok : is_ok (after_buffer v.desk t m k (one.slot, a)) ≡ true
-    document-ok = still-ok (after_buffer v.desk t m k) all-ok one.granted
+    document-ok : is_ok (after_buffer v.desk t claim k (one.slot, a)) ≡ true
+    document-ok = still-ok (after_buffer v.desk t claim k) all-ok one.granted
 
     pub buffer-at : IsAt i with_buffer v1.desk
-    buffer-at = subst (IsAt i with_buffer) (sym one.desk) (edited-is v.desk i t (λ x. record x { slot = one.slot }) can.is can.here.at)
+    buffer-at = subst (IsAt i with_buffer) (sym one.desk) (edited-is v.desk i t (λ x. record x { slot = one.slot }) can.is can.here)
 
     pub buffer-place : i < length v1.desk.tasks
     buffer-place = slice_get_within v1.desk.tasks i with_buffer buffer-at
@@ -170,7 +169,7 @@ module _ {v : Shown} {i : ℕ} {t : Task} {m : Parcel} {message : Message} {k h 
 
     pub document-must : (v2 : Shown) (r : Result (Unit {0}) Refusal) → Becomes (with_document v1.desk with_buffer k) v1 v2 r → IsOk r
     document-must v2 (Ok u) c = refl
-    document-must v2 (Err e) c = absurd (no-refusal (after_document v.desk t m k (one.slot, a)) document-ok (map-refused _ _ (same-document c.0)))
+    document-must v2 (Err e) c = absurd (no-refusal (after_document v.desk t claim k (one.slot, a)) document-ok (map-refused _ _ (same-document c.0)))
 
     pub document-got : {v2 : Shown} {u : Unit {0}} (r : Result (Unit {0}) Refusal) → Becomes (with_document v1.desk with_buffer k) v1 v2 r → r ≡ Ok u
         → HasDocument v v2 t k one.slot
@@ -179,19 +178,19 @@ module _ {v : Shown} {i : ℕ} {t : Task} {m : Parcel} {message : Message} {k h 
         record { placed = made.from; granted = made.granted; desk = made.is ∙ last-slot t.handle made.from.0 one.slot v.desk }
     document-got (Err x) c e = absurd cc
 
-    module _ {v2 : Shown} (two : HasDocument v v2 t k one.slot) {l : Letter} (is : l ≡ fetch_letter h message.from message.my_ref a n) where
+    module _ {v2 : Shown} (two : HasDocument v v2 t k one.slot) {l : Letter} (is : l ≡ fetch_letter h (receiver.first_fetch claim a n)) where
       abbrev with_both : Task
       with_both = record t { slot = two.placed.0 }
 
-      same : l ≡ the_fetch v.desk t m a
-      same = is ∙ ap (λ x. fetch_letter x message.from message.my_ref a n) can.own ∙ ap (fetch_letter t.handle message.from message.my_ref a) can.room
-          ∙ ap (λ (x : Message). fetch_letter t.handle x.from x.my_ref a t.buffer) (sym can.here.message_is)
+      same : l ≡ the_fetch v.desk t claim a
+      same = is ∙ ap (λ x. fetch_letter x (receiver.first_fetch claim a n)) can.own
+          ∙ ap (λ x. fetch_letter t.handle (receiver.first_fetch claim a x)) can.room
 
-      fetch-ok : is_ok (after_document v.desk t m k (one.slot, a) two.placed) ≡ true
-      fetch-ok = still-ok (after_document v.desk t m k (one.slot, a)) document-ok two.granted
+      fetch-ok : is_ok (after_document v.desk t claim k (one.slot, a) two.placed) ≡ true
+      fetch-ok = still-ok (after_document v.desk t claim k (one.slot, a)) document-ok two.granted
 
       both-at : IsAt i with_both v2.desk
-      both-at = subst (IsAt i with_both) (sym two.desk) (edited-is v.desk i t (λ x. record x { slot = two.placed.0 }) can.is can.here.at)
+      both-at = subst (IsAt i with_both) (sym two.desk) (edited-is v.desk i t (λ x. record x { slot = two.placed.0 }) can.is can.here)
 
       from-own : l.from ≡ t.handle
       from-own = ap (λ (x : Letter). x.from) same
@@ -199,12 +198,12 @@ module _ {v : Shown} {i : ℕ} {t : Task} {m : Parcel} {message : Message} {k h 
       pub fetch-from : (x : Task) × (IsAt i x v2.desk × (l.from ≡ x.handle))
       fetch-from = (with_both, (both-at, from-own))
 
-      same-send : {g : Granted Desk} → send_letter l v2.desk ≡ g → send_letter (the_fetch v.desk t m a) (with_slot t.handle two.placed.0 v.desk) ≡ g
-      same-send e = ap (λ x. send_letter (the_fetch v.desk t m a) x) (sym two.desk) ∙ ap (λ x. send_letter x v2.desk) (sym same) ∙ e
+      same-send : {g : Granted Desk} → send_letter l v2.desk ≡ g → send_letter (the_fetch v.desk t claim a) (with_slot t.handle two.placed.0 v.desk) ≡ g
+      same-send e = ap (λ x. send_letter (the_fetch v.desk t claim a) x) (sym two.desk) ∙ ap (λ x. send_letter x v2.desk) (sym same) ∙ e
 
       pub fetch-must : (v3 : Shown) (r : Result ℕ Refusal) → Sends l v2 v3 r → IsOk r
       fetch-must v3 (Ok x) c = refl
-      fetch-must v3 (Err e) c = absurd (no-refusal (after_fetch v.desk t m k (one.slot, a)) fetch-ok (same-send c.0))
+      fetch-must v3 (Err e) c = absurd (no-refusal (after_fetch v.desk t claim k (one.slot, a)) fetch-ok (same-send c.0))
 
       pub fetch-got : {v3 : Shown} {ref : ℕ} (r : Result ℕ Refusal) → Sends l v2 v3 r → r ≡ Ok ref → HasFetch v2 v3 l ref
       fetch-got {ref} (Ok x) c e = let q : x ≡ ref = cc in record { sent = c.1.0; ref_is = sym q ∙ c.0; granted = c.1.1.0; alike = c.1.1.1 }
@@ -231,7 +230,7 @@ module _ {v : Shown} {i : ℕ} {t : Task} {m : Parcel} {message : Message} {k h 
             record {
               task = both t;
               at = reordered-at three.sent v3.desk i (both t) three.alike (ap (λ (l : List Task). slice_get l i) tasks
-                  ∙ edited-at t.handle both 0 v.desk.next_handle v.desk.tasks i t can.is.handles can.here.at refl);
+                  ∙ edited-at t.handle both 0 v.desk.next_handle v.desk.tasks i t can.is.handles can.here refl);
               handle = refl;
               taking = refl;
             }
@@ -239,30 +238,27 @@ module _ {v : Shown} {i : ℕ} {t : Task} {m : Parcel} {message : Message} {k h 
         pub sent-place : i < length v3.desk.tasks
         sent-place = slice_get_within v3.desk.tasks i sent-task.task sent-task.at
 
-        pub sent-room : is_full is_going t.taking ≡ false → (x : Task) → IsAt i x v3.desk → is_full is_going x.taking ≡ false
-        sent-room few x at-x =
-            ap (λ (y : Task). is_full is_going y.taking) (one-at v3.desk i x sent-task.task at-x sent-task.at) ∙ ap (is_full is_going) sent-task.taking ∙ few
+        pub sent-due : (act : TakeAction) → is_take_due act t.taking ≡ true → CanTake i act v3.desk
+        sent-due act due x at-x =
+            ap (λ (y : Task). is_take_due act y.taking) (one-at v3.desk i x sent-task.task at-x sent-task.at) ∙ ap (is_take_due act) sent-task.taking ∙ due
 
         next-same : ref ≡ next_ref v.desk
         unfolding with_task
         next-same = three.ref_is ∙ ap next_ref two.desk
 
-        pub accept-done : (v4 : Shown)
-            → ((x : Task) → IsAt i x v3.desk → v4.desk ≡ with_taking x.handle
-            (receiver.fetching (receiver.new_taking message.my_ref message.from k a ref)) v3.desk)
-            → (x : Desk) × ((accept v.desk t m ≡ Ok (x, outcome.Fetch ref)) × IsReordered x v4.desk)
+        pub accept-done : (v4 : Shown) → ((x : Task) → IsAt i x v3.desk → v4.desk ≡ with_taking x.handle (receiver.claimed claim k a ref) v3.desk)
+            → (x : Desk) × ((accept v.desk t claim ≡ Ok (x, outcome.Fetch ref)) × IsReordered x v4.desk)
         accept-done v4 recorded =
-            let begun : (x : Message) (r : ℕ) → Desk → Desk = λ x r. with_taking t.handle (receiver.fetching (receiver.new_taking x.my_ref x.from k a r)) in
-            let desk : v4.desk ≡ begun message ref v3.desk = recorded sent-task.task sent-task.at
-            ∙ ap (λ h. with_taking h (receiver.fetching (receiver.new_taking message.my_ref message.from k a ref)) v3.desk) sent-task.handle in
-            let granted : accept v.desk t m ≡ Ok (begun m.message (next_ref v.desk) three.sent, outcome.Fetch (next_ref v.desk)) =
-            accept-is v.desk t m k can.free
-            ∙ begins (after_buffer v.desk t m k) one.granted (begins (after_document v.desk t m k (one.slot, a)) two.granted
-            (begins (after_fetch v.desk t m k (one.slot, a)) (same-send three.granted) refl)) in (
-              begun message ref three.sent,
+            let begun : ℕ → Desk → Desk = λ r. with_taking t.handle (receiver.claimed claim k a r) in
+            let desk : v4.desk ≡ begun ref v3.desk =
+            recorded sent-task.task sent-task.at ∙ ap (λ h. with_taking h (receiver.claimed claim k a ref) v3.desk) sent-task.handle in
+            let granted : accept v.desk t claim ≡ Ok (begun (next_ref v.desk) three.sent, outcome.Fetch (next_ref v.desk)) =
+            accept-is v.desk t claim k can.free
+            ∙ begins (after_buffer v.desk t claim k) one.granted (begins (after_document v.desk t claim k (one.slot, a)) two.granted
+            (begins (after_fetch v.desk t claim k (one.slot, a)) (same-send three.granted) refl)) in (
+              begun ref three.sent,
               (
-                granted ∙ ap (λ r. let g : Granted Handled = Ok (begun m.message r three.sent, outcome.Fetch r) in g) (sym next-same)
-                    ∙ ap (λ x. let g : Granted Handled = Ok (begun x ref three.sent, outcome.Fetch ref) in g) can.here.message_is,
-                subst (IsReordered (begun message ref three.sent)) (sym desk) (edit-alike t.handle _ three.alike),
+                granted ∙ ap (λ r. let g : Granted Handled = Ok (begun r three.sent, outcome.Fetch r) in g) (sym next-same),
+                subst (IsReordered (begun ref three.sent)) (sym desk) (edit-alike t.handle _ three.alike),
               ),
             )

@@ -1,10 +1,11 @@
 -- A DataSave that is taken: a buffer, an empty document and a fetch, all granted or none.
 use Rattle.rh_tasks.proofs.Common.{◌≡◌, ℕ, ◌+◌, ◌-◌, ◌≤◌, ◌<◌, Bool, true, false, refl, ap, ◌∙◌, arith, inl, inr, Some, Ok, Err, is_ok, cases_lt, Letter}
 use Rattle.rh_tasks.proofs.Common.{Refusal, NoRoom, Granted, ◌>>=◌, found_or, pages_for, need, claim_growing, Slot, slot_length, slot_alloc, slot_claim}
-use Rattle.rh_tasks.proofs.Common.{slot_take_pages, Parcel, fetch_letter, Post, post_send, post_send_pages, Desk, Task, next_ref, free_pages, with_task}
+use Rattle.rh_tasks.proofs.Common.{slot_take_pages, fetch_letter, Post, post_send, post_send_pages, Desk, Task, next_ref, free_pages, with_task}
 use Rattle.rh_tasks.proofs.Common.{with_slot, with_taking, with_post, send_letter, Handled, accept, IsDesk, IsAt, IsFreeAnchor, begins, ends}
 use Rattle.rh_defs.specs.declared.refusal.Refusal.TheVariants.{AnchorInUse}
 use Rattle.rh_defs.specs.declared.reply.Outcome.TheVariants as outcome
+use Rattle.rh_defs.specs.declared.transfer_action.Claim.{Claim}
 use Rattle.rh_defs.specs.Slot.{flex_weight, slot_pages}
 use Rattle.rh_defs.specs.Receiver as receiver
 use Rattle.rh_defs.proofs.Desks.{with_slot-pages}
@@ -32,15 +33,15 @@ ok-never (Err r) next h = refl
 
 -- ---- the steps
 
-module _ (d : Desk) (t : Task) (m : Parcel) where
+module _ (d : Desk) (t : Task) (claim : Claim) where
   abbrev pub the_fetch : ℕ → Letter
-  the_fetch buffer = fetch_letter t.handle m.message.from m.message.my_ref buffer t.buffer
+  the_fetch buffer = fetch_letter t.handle (receiver.first_fetch claim buffer t.buffer)
 
   -- what is left to do once the letter is sent, once the document is there, and once the buffer is
   module _ (k : ℕ) where
     abbrev pub after_fetch : Slot × ℕ → Desk → Granted Handled
     after_fetch b sent =
-        Ok (with_taking t.handle (receiver.fetching (receiver.new_taking m.message.my_ref m.message.from k b.1 (next_ref d))) sent, outcome.Fetch (next_ref d))
+        Ok (with_taking t.handle (receiver.claimed claim k b.1 (next_ref d)) sent, outcome.Fetch (next_ref d))
 
     abbrev pub after_document : Slot × ℕ → Slot × ℕ → Granted Handled
     after_document b p = send_letter (the_fetch b.1) (with_slot t.handle p.0 d) >>= after_fetch b
@@ -49,7 +50,7 @@ module _ (d : Desk) (t : Task) (m : Parcel) where
     after_buffer b = slot_alloc (free_pages (with_slot t.handle b.0 d)) k 0 b.0 >>= after_document b
 
     module _ (free : IsFreeAnchor k t.slot) where
-      pub accept-is : accept d t m ≡ (slot_claim (free_pages d) t.buffer t.slot >>= after_buffer)
+      pub accept-is : accept d t claim ≡ (slot_claim (free_pages d) t.buffer t.slot >>= after_buffer)
       unfolding accept found_or
       accept-is = begins _ (ap (λ o. found_or o AnchorInUse) free.is) refl
 
@@ -88,7 +89,7 @@ module _ (h : ℕ) (s : Slot) (l : Letter) (d : Desk) where
 
 -- ---- the room
 
-module _ (d : Desk) (i : ℕ) (t : Task) (m : Parcel) (k : ℕ) (is : IsDesk d) (at : IsAt i t d) (free : IsFreeAnchor k t.slot) where
+module _ (d : Desk) (i : ℕ) (t : Task) (claim : Claim) (k : ℕ) (is : IsDesk d) (at : IsAt i t d) (free : IsFreeAnchor k t.slot) where
   abbrev b : Slot × ℕ
   b = claimed t.buffer t.slot
 
@@ -123,46 +124,47 @@ module _ (d : Desk) (i : ℕ) (t : Task) (m : Parcel) (k : ℕ) (is : IsDesk d) 
       (unused-above k (claim_growing t.buffer t.slot.heap).heap t.slot (anchor-unused k t.slot free))
 
   abbrev letter : Letter
-  letter = the_fetch d t m 0
+  letter = the_fetch d t claim 0
 
   abbrev fetch : Letter
-  fetch = the_fetch d t m b.1
+  fetch = the_fetch d t claim b.1
 
-  accepted : accept d t m ≡ (slot_claim (free_pages d) t.buffer t.slot >>= after_buffer d t m k)
-  accepted = accept-is d t m k free
+  accepted : accept d t claim ≡ (slot_claim (free_pages d) t.buffer t.slot >>= after_buffer d t claim k)
+  accepted = accept-is d t claim k free
 
-  pub accept-no_buffer : {r : Refusal} → slot_take_pages t.buffer t.slot ≡ Err r → is_ok (accept d t m) ≡ false
-  accept-no_buffer e = ap is_ok accepted ∙ ok-ends (after_buffer d t m k) (claim-by_pages (free_pages d) t.buffer t.slot ∙ ends _ e)
+  pub accept-no_buffer : {r : Refusal} → slot_take_pages t.buffer t.slot ≡ Err r → is_ok (accept d t claim) ≡ false
+  accept-no_buffer e = ap is_ok accepted ∙ ok-ends (after_buffer d t claim k) (claim-by_pages (free_pages d) t.buffer t.slot ∙ ends _ e)
 
-  pub accept-no_fetch : {r : Refusal} → post_send_pages letter d.post ≡ Err r → is_ok (accept d t m) ≡ false
+  pub accept-no_fetch : {r : Refusal} → post_send_pages letter d.post ≡ Err r → is_ok (accept d t claim) ≡ false
   accept-no_fetch e =
-      ap is_ok accepted ∙ ok-never _ (after_buffer d t m k) λ b1. ok-never _ (after_document d t m k b1) λ p1.
-      ok-ends (after_fetch d t m k b1)
-      (fetch-refused t.handle p1.0 (the_fetch d t m b1.1) d (fetch-pages t.handle m.message.from m.message.my_ref b1.1 0 t.buffer d.post ∙ e))
+      ap is_ok accepted ∙ ok-never _ (after_buffer d t claim k) λ b1. ok-never _ (after_document d t claim k b1) λ p1.
+      ok-ends (after_fetch d t claim k b1)
+      (fetch-refused t.handle p1.0 (the_fetch d t claim b1.1) d (fetch-pages t.handle claim b1.1 0 t.buffer d.post ∙ e))
 
   module _ {pages more : ℕ} (take : slot_take_pages t.buffer t.slot ≡ Ok pages) (send : post_send_pages letter d.post ≡ Ok more) where
     needs : post_send_pages fetch d.post ≡ Ok more
-    needs = fetch-pages t.handle m.message.from m.message.my_ref b.1 0 t.buffer d.post ∙ send
+    needs = fetch-pages t.handle claim b.1 0 t.buffer d.post ∙ send
 
     pages-are : pages ≡ pages_for shortage + document_pages
     pages-are = take-is t.buffer pages t.slot take ∙ both-are
 
-    pub accept-fits : pages + more ≤ free_pages d → is_ok (accept d t m) ≡ true
+    pub accept-fits : pages + more ≤ free_pages d → is_ok (accept d t claim) ≡ true
     accept-fits room =
         ap is_ok accepted
-        ∙ ok-begins (after_buffer d t m k) (buffer-fits take (omega (arith, pages-are, room)))
-        (ok-begins (after_document d t m k b) (document-unused ∙ free-given _ document_pages p (omega (arith, pages-are, room, free-with b.0, buffer-pages)))
-        (ok-begins (after_fetch d t m k b) (fetch-fits t.handle p.0 fetch d needs (omega (arith, pages-are, room, free-with p.0, document-pages, both-are)))
+        ∙ ok-begins (after_buffer d t claim k) (buffer-fits take (omega (arith, pages-are, room)))
+        (ok-begins (after_document d t claim k b) (document-unused ∙ free-given _ document_pages p
+        (omega (arith, pages-are, room, free-with b.0, buffer-pages)))
+        (ok-begins (after_fetch d t claim k b) (fetch-fits t.handle p.0 fetch d needs (omega (arith, pages-are, room, free-with p.0, document-pages, both-are)))
         refl))
 
-    pub accept-lacks : free_pages d < pages + more → is_ok (accept d t m) ≡ false
+    pub accept-lacks : free_pages d < pages + more → is_ok (accept d t claim) ≡ false
     accept-lacks short = ap is_ok accepted ∙ elim (cases_lt (free_pages d) (pages_for shortage)) [
-      | inl few ↦ ok-ends (after_buffer d t m k) (claim-by_pages (free_pages d) t.buffer t.slot
+      | inl few ↦ ok-ends (after_buffer d t claim k) (claim-by_pages (free_pages d) t.buffer t.slot
           ∙ begins _ take (free-lacking (free_pages d) (pages_for shortage) b few))
-      | inr some ↦ ok-begins (after_buffer d t m k) (buffer-fits take some) (elim (cases_lt (free_pages (with_slot t.handle b.0 d)) document_pages) [
-        | inl few ↦ ok-ends (after_document d t m k b) (document-unused ∙ free-lacking _ document_pages p few)
-        | inr more-are ↦ ok-begins (after_document d t m k b) (document-unused ∙ free-given _ document_pages p more-are)
-            (ok-ends (after_fetch d t m k b) (fetch-lacks t.handle p.0 fetch d needs
+      | inr some ↦ ok-begins (after_buffer d t claim k) (buffer-fits take some) (elim (cases_lt (free_pages (with_slot t.handle b.0 d)) document_pages) [
+        | inl few ↦ ok-ends (after_document d t claim k b) (document-unused ∙ free-lacking _ document_pages p few)
+        | inr more-are ↦ ok-begins (after_document d t claim k b) (document-unused ∙ free-given _ document_pages p more-are)
+            (ok-ends (after_fetch d t claim k b) (fetch-lacks t.handle p.0 fetch d needs
             (omega (arith, pages-are, short, some, more-are, free-with b.0, free-with p.0, buffer-pages, document-pages, both-are))))
       ])
     ]

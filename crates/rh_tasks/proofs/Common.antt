@@ -29,7 +29,7 @@ unfoldable pub use Rattle.rh_defs.specs.Desk.{idle_block, idle_buffer, named, se
 pub use Rattle.rh_defs.specs.Files.{FileList}
 pub use Rattle.rh_defs.specs.Heap.{Heap, Hole, Segment, Used, base, block_at, block_size, bytes_of, claim_growing, empty_heap, first_place, need, segment_at}
 pub use Rattle.rh_defs.specs.Heap.{size_of}
-unfoldable pub use Rattle.rh_defs.specs.IncomingEvents.{accept, appended, fetch_back, take_bytes}
+unfoldable pub use Rattle.rh_defs.specs.IncomingEvents.{accept, appended}
 pub use Rattle.rh_defs.specs.Laws.{IsDesk}
 pub use Rattle.rh_defs.specs.Letters.{fetch_letter}
 pub use Rattle.rh_defs.specs.Questions.{block_items, segment_item}
@@ -39,7 +39,6 @@ pub use Rattle.rh_defs.specs.Messages.{Parcel}
 unfoldable pub use Rattle.rh_defs.specs.Module.{module_change, module_claim, module_resize}
 pub use Rattle.rh_defs.specs.Order.{IsReordered, with_queue}
 pub use Rattle.rh_defs.specs.OutgoingEvents.{Handled, ignored, is_out_of_reach, refused, scrap_shortage, wider}
-unfoldable pub use Rattle.rh_defs.specs.OutgoingEvents.{answer_fetch, finish_load}
 pub use Rattle.rh_defs.specs.Pieces.{Split, first_at, page_size, pages_for, total, zeros}
 pub use Rattle.rh_defs.specs.Places.{buffer_at, first_bytes, overlap}
 pub use Rattle.rh_defs.specs.Post.{Post, post_poll}

@@ -23,6 +23,7 @@ pub mod Places
 pub mod Deaths
 pub mod Cancels
 pub mod SeatRecords
+pub mod Bounces
 pub mod Sends
 pub mod Repeats
 pub mod SentLetters
@@ -52,6 +53,7 @@ pub mod Portions
 pub mod Fetches
 pub mod Sources
 pub mod Writes
+pub mod Dues
 pub mod Transmits
 pub mod Appends
 pub mod Buffers

@@ -1,7 +1,8 @@
 -- What a save to the scrap file knows of a world at each of its steps.
-use Rattle.rh_tasks.proofs.Common.{◌≡◌, ℕ, ◌<◌, ◌≤◌, false, refl, sym, ap, ◌∙◌, arith, List, length, Ok, is_some, get_or, Memory, FileList, Granted, User}
-use Rattle.rh_tasks.proofs.Common.{Letter, Message, Sending, slot_size, Parcel, post_send_pages, Desk, Task, wider, scrap_shortage, slot_in}
-use Rattle.rh_tasks.proofs.Common.{Answers, Seat, MadeArea, Shown, Kept, the_module, task_of, shown_of, IsWorld, IsFor, Sits}
+use Rattle.rh_tasks.proofs.Common.{◌≡◌, ℕ, ◌<◌, ◌≤◌, false, sym, ap, ◌∙◌, arith, List, length, Ok, is_some, get_or, Memory, FileList, Granted}
+use Rattle.rh_tasks.proofs.Common.{Letter, slot_size, post_send_pages, Desk, Task, wider, scrap_shortage, slot_in}
+use Rattle.rh_tasks.proofs.Common.{Answers, Seat, MadeArea, Shown, Kept, the_module, task_of, shown_of, IsWorld, IsAt, Sits}
+use Rattle.rh_defs.specs.declared.transfer_action.SaveFile.{SaveFile}
 use Rattle.rh_defs.specs.Letters.{load_letter}
 use Rattle.rh_tasks.proofs.Buffers.{sits-there, seat-there, seat-handle}
 use Rattle.rh_tasks.proofs.Scraps.{seen-desk, seen-slot, seen-busy, seen-pages, seen-free}
@@ -20,30 +21,30 @@ module _ {m : Memory} {seats : List Seat} {made : List MadeArea} {files : FileLi
     sits : Sits seats i s
     sits = sits-there w view inside is
 
-    -- some task that the message is for
-    pub someone : (message : Message) → IsFor i (task_of m s) old.desk (record { code = User; to = 0; block = 0; message = message }) message
-    someone message = record { at = seat-there w view sits; message_is = refl }
-
-    module _ {message : Message} {t : Task} {p : Parcel} (for : IsFor i t old.desk p message) (x : Sending) where
+    module _ {t : Task} (there : IsAt i t old.desk) (act : SaveFile) where
       -- the source's size
-      pub size-is : {r : Granted ℕ} → r ≡ slot_size x.anchor (slot_in m s.slot) → slot_size x.anchor t.slot ≡ r
-      size-is e = ap (slot_size x.anchor) (sym (seen-slot w view sits for.at)) ∙ sym e
+      pub size-is : {r : Granted ℕ} → r ≡ slot_size act.transfer.anchor (slot_in m s.slot) → slot_size act.transfer.anchor t.slot ≡ r
+      size-is e = ap (slot_size act.transfer.anchor) (sym (seen-slot w view sits there)) ∙ sym e
 
-      module _ {n : ℕ} {l : Letter} (letter : (p : Parcel) → p.message ≡ message → l ≡ load_letter s.handle p n) where
-        letter-is : l ≡ load_letter t.handle p n
-        letter-is = letter p for.message_is ∙ ap (λ h. load_letter h p n) (seat-handle w view sits for.at)
+      module _ {n : ℕ} {l : Letter} (letter : l ≡ load_letter s.handle act n) where
+        letter-is : l ≡ load_letter t.handle act n
+        letter-is = letter ∙ ap (λ h. load_letter h act n) (seat-handle w view sits there)
 
         -- the pages that the letter takes
-        pub pages-are : {r : Granted ℕ} → Answers m the_module kept.queue (post_send_pages l) r → post_send_pages (load_letter t.handle p n) old.desk.post ≡ r
+        pub pages-are : {r : Granted ℕ} → Answers m the_module kept.queue (post_send_pages l) r → post_send_pages (load_letter t.handle act n) old.desk.post ≡ r
         pages-are e = ap (λ l. post_send_pages l old.desk.post) (sym letter-is) ∙ seen-pages w view l e
 
-        pub saves : Ok n ≡ slot_size x.anchor (slot_in m s.slot) → false ≡ is_some kept.scrap → {k : ℕ}
-            → Answers m the_module kept.queue (post_send_pages l) (Ok k) → Saves old.desk i t p x n l k
+        pub saves : Ok n ≡ slot_size act.transfer.anchor (slot_in m s.slot) → false ≡ is_some kept.scrap → {k : ℕ}
+            → Answers m the_module kept.queue (post_send_pages l) (Ok k) → Saves old.desk i t act n l k
         saves given idle needs = record {
           is = seen-desk w view;
-          at = for.at;
+          at = there;
           given = size-is given;
           same = letter-is;
           idle = seen-busy w view ∙ sym idle;
           needs = seen-pages w view l needs;
         }
+
+    -- the task there
+    pub own-there : IsAt i (task_of m s) old.desk
+    own-there = seat-there w view sits

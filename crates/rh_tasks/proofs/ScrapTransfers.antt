@@ -1,13 +1,14 @@
 -- Transfers by way of the scrap file, on desks.
 use Rattle.rh_tasks.proofs.Common.{◌≡◌, ℕ, ◌+◌, ◌-◌, ◌*◌, ◌<◌, ◌≤◌, Bool, true, false, refl, ap, sym, subst, ◌∙◌, arith, List, length, Option, Some, None}
 use Rattle.rh_tasks.proofs.Common.{Result, Ok, Err, IsOk, is_some, not, nat_lt, ◌==◌, slice_get, slice_index, nat_tests, slice_get_within, Letter, Refusal}
-use Rattle.rh_tasks.proofs.Common.{Busy, NoRoom, BadSize, Outcome, Sending, Granted, ◌>>=◌, ◌>>◌, refuse_if, or_else, Split, page_size, Slot, Flex, slot_block}
-use Rattle.rh_tasks.proofs.Common.{slot_size, slot_put, Parcel, Post, post_send, post_send_pages, Desk, Task, Scrap, next_ref, free_pages, with_task}
-use Rattle.rh_tasks.proofs.Common.{with_slot, with_sending, with_taking, with_post, send_letter, IsDesk, IsReordered, Handled, ignored, refused}
+use Rattle.rh_tasks.proofs.Common.{Busy, NoRoom, BadSize, Outcome, Granted, ◌>>=◌, ◌>>◌, refuse_if, or_else, Split, page_size, Slot, Flex, slot_block}
+use Rattle.rh_tasks.proofs.Common.{slot_size, slot_put, Post, post_send, post_send_pages, Desk, Task, Scrap, next_ref, free_pages, with_task}
+use Rattle.rh_tasks.proofs.Common.{with_slot, with_sending, with_taking, with_post, send_letter, IsDesk, IsReordered, Handled, ignored}
 use Rattle.rh_tasks.proofs.Common.{scrap_shortage, wider, appended, grant-holds, Shown, IsAt, Sends, begins, ends, past, stops, lt-true, lt-false}
 use Rattle.rh_tasks.proofs.Common.{reordered-at, reordered-refl, edit-alike}
 use Rattle.rh_defs.specs.declared.reply.Outcome.TheVariants as outcome
-use Rattle.rh_defs.specs.declared.transfer.Asked.{Asked}
+use Rattle.rh_defs.specs.declared.transfer_action.SaveFile.{SaveFile}
+use Rattle.rh_defs.specs.declared.transfer_action.LoadFile.{LoadFile}
 use Rattle.rh_defs.specs.Module.{module_need_pages}
 use Rattle.rh_defs.specs.Messages.{parcel_size}
 use Rattle.rh_defs.specs.Letters.{load_letter, load_ack_letter}
@@ -15,8 +16,8 @@ use Rattle.rh_defs.specs.Post.{message_of, sendable}
 use Rattle.rh_defs.specs.Sender as sender
 use Rattle.rh_defs.specs.Receiver as receiver
 use Rattle.rh_defs.specs.Desk.{scrap_area}
-use Rattle.rh_defs.specs.OutgoingEvents.{save_scrap, answer_ack}
-use Rattle.rh_defs.specs.IncomingEvents.{loaded, load_file, take_file}
+use Rattle.rh_defs.specs.OutgoingEvents.{save_scrap}
+use Rattle.rh_defs.specs.IncomingEvents.{loaded, load_file}
 use Rattle.rh_defs.proofs.Desks.{send_letter-keeps}
 use Rattle.rh_defs.proofs.Transfers.{wider-keeps, wider-room}
 use Rattle.rh_tasks.specs.Inner.PollSteps.{scrapped}
@@ -24,6 +25,8 @@ use Rattle.rh_tasks.proofs.Fixed.{total-set}
 use Rattle.rh_tasks.proofs.Places.{edited-at, edited-is, same-at, one-at}
 use Rattle.rh_tasks.proofs.SendRooms.{send-fits, send-lacks}
 use Rattle.rh_tasks.proofs.Portions.{Sized, sized, unsized}
+use Rattle.rh_tasks.proofs.Writes.{KeyAlike, alike-both}
+use Rattle.rh_tasks.proofs.Dues.{records_of, sent-records, same-records}
 
 -- ---- desks that differ in the order of messages alone
 
@@ -105,93 +108,95 @@ appended-at d e i t k xs is at given = go (slot_block k t.slot) _ given
 
 -- ---- the document is there
 
-module _ (d : Desk) (i : ℕ) (t : Task) (is : IsDesk d) (at : IsAt i t d) (m : Parcel) (q : Asked) (n : ℕ) (letter : Letter)
-    (same : letter ≡ load_ack_letter t.handle m n) where
-  told : {e : Desk} → send_letter letter d ≡ Ok e → loaded d t m q n ≡ (with_taking t.handle (receiver.taking_loaded q n) e, outcome.Loaded n)
+module _ (d : Desk) (i : ℕ) (t : Task) (is : IsDesk d) (at : IsAt i t d) (act : LoadFile) (n : ℕ) (letter : Letter)
+    (same : letter ≡ load_ack_letter t.handle act n) where
+  told : {e : Desk} → send_letter letter d ≡ Ok e → loaded d t act n ≡ (with_taking t.handle (receiver.taking_loaded act.transfer n) e, outcome.Loaded n)
   unfolding loaded ◌>>=◌ or_else
   told h = let g = ap (λ l. send_letter l d) (sym same) ∙ h in rw g refl
 
-  untold : {r : Refusal} → send_letter letter d ≡ Err r → loaded d t m q n ≡ (with_taking t.handle (receiver.abandoned q n) d, outcome.LoadedFailed n r)
+  untold : {r : Refusal} → send_letter letter d ≡ Err r → loaded d t act n ≡
+      (with_taking t.handle (receiver.abandoned act.transfer n) d, outcome.LoadedFailed n r)
   unfolding loaded ◌>>=◌ or_else
   untold h = let g = ap (λ l. send_letter l d) (sym same) ∙ h in rw g refl
 
   pub loaded-sent : {mid new : Desk} → ((e : Desk) × ((send_letter letter d ≡ Ok e) × IsReordered e mid))
-      → ((u : Task) → IsAt i u mid → new ≡ with_taking u.handle (receiver.taking_loaded q n) mid)
-      → (outcome.Loaded n ≡ (loaded d t m q n).1) × IsReordered (loaded d t m q n).0 new
+      → ((u : Task) → IsAt i u mid → new ≡ with_taking u.handle (receiver.taking_loaded act.transfer n) mid)
+      → (outcome.Loaded n ≡ (loaded d t act n).1) × IsReordered (loaded d t act n).0 new
   loaded-sent {mid} {new} sent edited =
       let e : Desk = sent.0 in
       let s = sent-at d e i t letter is at (ap (λ (l : Letter). l.from) same) sent.1.0 in
       let u : Task = record t { last_sent = s.last } in
-      let now : new ≡ with_taking t.handle (receiver.taking_loaded q n) mid = edited u (reordered-at e mid i u sent.1.1 s.at) in
-      as-after (told sent.1.0) (refl, subst (IsReordered (with_taking t.handle (receiver.taking_loaded q n) e)) (sym now) (edit-alike t.handle _ sent.1.1))
+      let now : new ≡ with_taking t.handle (receiver.taking_loaded act.transfer n) mid = edited u (reordered-at e mid i u sent.1.1 s.at) in
+      as-after (told sent.1.0) (
+        refl,
+        subst (IsReordered (with_taking t.handle (receiver.taking_loaded act.transfer n) e)) (sym now)
+            (edit-alike t.handle _ sent.1.1),
+      )
 
   pub loaded-failed : {r : Refusal} {mid new : Desk} → send_letter letter d ≡ Err r → mid ≡ d
-      → ((u : Task) → IsAt i u mid → new ≡ with_taking u.handle (receiver.abandoned q n) mid)
-      → (outcome.LoadedFailed n r ≡ (loaded d t m q n).1) × IsReordered (loaded d t m q n).0 new
+      → ((u : Task) → IsAt i u mid → new ≡ with_taking u.handle (receiver.abandoned act.transfer n) mid)
+      → (outcome.LoadedFailed n r ≡ (loaded d t act n).1) × IsReordered (loaded d t act n).0 new
   loaded-failed {r} {mid} {new} h stays edited =
-      let now : new ≡ with_taking t.handle (receiver.abandoned q n) mid = edited t (same-at d mid i t (ap (λ (x : Desk). x.tasks) stays) at) in
+      let now : new ≡ with_taking t.handle (receiver.abandoned act.transfer n) mid = edited t (same-at d mid i t (ap (λ (x : Desk). x.tasks) stays) at) in
       as-after (untold h) (
         refl,
-        subst (IsReordered (with_taking t.handle (receiver.abandoned q n) d)) (ap (with_taking t.handle (receiver.abandoned q n)) (sym stays) ∙ sym
+        subst (IsReordered (with_taking t.handle (receiver.abandoned act.transfer n) d))
+            (ap (with_taking t.handle (receiver.abandoned act.transfer n)) (sym stays) ∙ sym
             now) (reordered-refl _),
       )
 
 -- ---- the file becomes the document
 
-pub take-none : (d : Desk) (t : Task) (m : Parcel) → take_file d t m None ≡ ignored d
-unfolding take_file
-take-none d t m = refl
-
 -- what is told of a document doesn't look at its task's slot
-loaded-slid : (d : Desk) (t : Task) (slot : Slot) (m : Parcel) (q : Asked) (n : ℕ) → loaded d (record t { slot = slot }) m q n ≡ loaded d t m q n
+loaded-slid : (d : Desk) (t : Task) (slot : Slot) (act : LoadFile) (n : ℕ) → loaded d (record t { slot = slot }) act n ≡ loaded d t act n
 unfolding loaded
-loaded-slid d t slot m q n = refl
+loaded-slid d t slot act n = refl
 
-module _ (d : Desk) (t : Task) (m : Parcel) (q : Asked) where
-  pub take-nothing : d.scrap ≡ None → take_file d t m (Some q) ≡ ignored d
-  unfolding take_file load_file
-  take-nothing none = rw none refl
+module _ (d : Desk) (t : Task) (act : LoadFile) where
+  pub load-nothing : d.scrap ≡ None → load_file d t act d.scrap ≡ ignored d
+  unfolding load_file
+  load-nothing none = ap (load_file d t act) none
 
   module _ (file : Scrap) (has : d.scrap ≡ Some file) where
-    taken-is : take_file d t m (Some q) ≡ load_file d t m q (Some file)
-    unfolding take_file
-    taken-is = ap (load_file d t m q) has
+    file-is : load_file d t act d.scrap ≡ load_file d t act (Some file)
+    file-is = ap (load_file d t act) has
 
-    pub take-other : (file.load == m.message.my_ref) ≡ false → take_file d t m (Some q) ≡ ignored d
+    pub load-other : (file.load == act.answers) ≡ false → load_file d t act d.scrap ≡ ignored d
     unfolding load_file
-    take-other other = taken-is ∙ (rw other refl)
+    load-other other = file-is ∙ (rw other refl)
 
-    module _ (own : (file.load == m.message.my_ref) ≡ true) where
-      pub take-refused : {r : Refusal} → appended d t q.anchor file.bytes ≡ Err r
-          → take_file d t m (Some q) ≡ (with_taking t.handle (receiver.abandoned q 0) d, outcome.Refused r)
+    module _ (own : (file.load == act.answers) ≡ true) where
+      load-refused : {r : Refusal} → appended d t act.transfer.anchor file.bytes ≡ Err r
+          → load_file d t act d.scrap ≡ (with_taking t.handle (receiver.abandoned act.transfer 0) d, outcome.Refused r)
       unfolding load_file ◌>>=◌ or_else
-      take-refused h = taken-is ∙ (rw (own, h) refl)
+      load-refused h = file-is ∙ (rw (own, h) refl)
 
-      pub take-done : {e : Desk} → appended d t q.anchor file.bytes ≡ Ok e
-          → take_file d t m (Some q) ≡ loaded (record e { scrap = None }) t m q (length file.bytes)
+      load-done : {e : Desk} → appended d t act.transfer.anchor file.bytes ≡ Ok e
+          → load_file d t act d.scrap ≡ loaded (record e { scrap = None }) t act (length file.bytes)
       unfolding load_file ◌>>=◌ or_else
-      take-done h = taken-is ∙ (rw (own, h) refl)
+      load-done h = file-is ∙ (rw (own, h) refl)
 
-      pub take-loaded : {e mid new : Desk} {o : Outcome} (i size : ℕ) → IsDesk d → IsAt i t d → appended d t q.anchor file.bytes ≡ Ok e
+      pub load-loaded : {e mid new : Desk} {o : Outcome} (i size : ℕ) → IsDesk d → IsAt i t d → appended d t act.transfer.anchor file.bytes ≡ Ok e
           → mid ≡ (let x : Desk = record e { scrap = None } in x) → size ≡ length file.bytes
-          → ((u : Task) → IsAt i u mid → (o ≡ (loaded mid u m q size).1) × IsReordered (loaded mid u m q size).0 new)
-          → (o ≡ (take_file d t m (Some q)).1) × IsReordered (take_file d t m (Some q)).0 new
-      take-loaded {e} {mid} {new} {o} i size is at h dropped long told =
-          let s = appended-at d e i t q.anchor file.bytes is at h in
+          → ((u : Task) → IsAt i u mid → (o ≡ (loaded mid u act size).1) × IsReordered (loaded mid u act size).0 new)
+          → (o ≡ (load_file d t act d.scrap).1) × IsReordered (load_file d t act d.scrap).0 new
+      load-loaded {e} {mid} {new} {o} i size is at h dropped long told =
+          let s = appended-at d e i t act.transfer.anchor file.bytes is at h in
           let u : Task = record t { slot = s.slot } in
           let last : Desk = record e { scrap = None } in
-          as-after (take-done h ∙ ap (loaded last t m q) (sym long) ∙ sym (loaded-slid last t s.slot m q size) ∙ ap (λ x. loaded x u m q size) (sym dropped))
+          as-after (load-done h ∙ ap (loaded last t act) (sym long) ∙ sym (loaded-slid last t s.slot act size) ∙ ap (λ x. loaded x u act size) (sym dropped))
           (told u (same-at e mid i u (ap (λ (x : Desk). x.tasks) dropped) s.at))
 
-      pub take-failed : {r : Refusal} {mid new : Desk} (i : ℕ) → IsAt i t d → appended d t q.anchor file.bytes ≡ Err r → mid ≡ d
-          → ((u : Task) → IsAt i u mid → new ≡ with_taking u.handle (receiver.abandoned q 0) mid)
-          → (outcome.Refused r ≡ (take_file d t m (Some q)).1) × IsReordered (take_file d t m (Some q)).0 new
-      take-failed {r} {mid} {new} i at h stays edited =
-          let now : new ≡ with_taking t.handle (receiver.abandoned q 0) mid = edited t (same-at d mid i t (ap (λ (x : Desk). x.tasks) stays) at) in
-          as-after (take-refused h) (
+      pub load-failed : {r : Refusal} {mid new : Desk} (i : ℕ) → IsAt i t d → appended d t act.transfer.anchor file.bytes ≡ Err r → mid ≡ d
+          → ((u : Task) → IsAt i u mid → new ≡ with_taking u.handle (receiver.abandoned act.transfer 0) mid)
+          → (outcome.Refused r ≡ (load_file d t act d.scrap).1) × IsReordered (load_file d t act d.scrap).0 new
+      load-failed {r} {mid} {new} i at h stays edited =
+          let now : new ≡ with_taking t.handle (receiver.abandoned act.transfer 0) mid =
+          edited t (same-at d mid i t (ap (λ (x : Desk). x.tasks) stays) at) in
+          as-after (load-refused h) (
             refl,
-            subst (IsReordered (with_taking t.handle (receiver.abandoned q 0) d)) (ap (with_taking t.handle (receiver.abandoned q 0)) (sym stays) ∙
-                sym now) (reordered-refl _),
+            subst (IsReordered (with_taking t.handle (receiver.abandoned act.transfer 0) d))
+                (ap (with_taking t.handle (receiver.abandoned act.transfer 0)) (sym stays) ∙ sym now) (reordered-refl _),
           )
 
 -- ---- a block becomes the scrap file
@@ -231,16 +236,16 @@ pub free-wider : (more : ℕ) (d : Desk) → IsDesk d → free_pages (wider more
 free-wider more d is =
     omega (arith, is.pages, total-set d.areas scrap_area (slice_index d.areas scrap_area + more) (omega (arith, is.areas.six)))
 
-module _ (d : Desk) (t : Task) (m : Parcel) (x : Sending) where
-  pub save-missing : {r : Refusal} → slot_size x.anchor t.slot ≡ Err r → scrapped d t m x ≡ Err r
-  save-missing e = ends _ (unsized x.anchor t.slot (sym e))
+module _ (d : Desk) (t : Task) (act : SaveFile) where
+  pub save-missing : {r : Refusal} → slot_size act.transfer.anchor t.slot ≡ Err r → scrapped d t act ≡ Err r
+  save-missing e = ends _ (unsized act.transfer.anchor t.slot (sym e))
 
-  module _ (n : ℕ) (given : slot_size x.anchor t.slot ≡ Ok n) where
-    pub source : Sized x.anchor n t.slot
+  module _ (n : ℕ) (given : slot_size act.transfer.anchor t.slot ≡ Ok n) where
+    pub source : Sized act.transfer.anchor n t.slot
     source = sized (sym given)
 
     abbrev pub letter : Letter
-    letter = load_letter t.handle m n
+    letter = load_letter t.handle act n
 
     abbrev pub more : ℕ
     more = scrap_shortage n d
@@ -250,34 +255,34 @@ module _ (d : Desk) (t : Task) (m : Parcel) (x : Sending) where
 
     -- the desk once the letter was sent
     abbrev pub saved_desk : Desk → Desk
-    saved_desk e = with_sending t.handle (sender.saved x (next_ref d)) (record e { scrap = Some the_file })
+    saved_desk e = with_sending t.handle (sender.saved act (next_ref d)) (record e { scrap = Some the_file })
 
     -- the definition's steps, by the size
     abbrev steps : ℕ → Granted Handled
     steps k =
-        refuse_if (is_some d.scrap) Busy >> (sendable (load_letter t.handle m k) d.post >> (refuse_if (nat_lt (free_pages d) (scrap_shortage k d)) NoRoom
-        >> (send_letter (load_letter t.handle m k) (wider (scrap_shortage k d) d) >>= (λ sent. Ok (saved_desk sent, outcome.Saved k (next_ref d))))))
+        refuse_if (is_some d.scrap) Busy >> (sendable (load_letter t.handle act k) d.post >> (refuse_if (nat_lt (free_pages d) (scrap_shortage k d)) NoRoom
+        >> (send_letter (load_letter t.handle act k) (wider (scrap_shortage k d) d) >>= (λ sent. Ok (saved_desk sent, outcome.Saved k (next_ref d))))))
 
-    steps-are : scrapped d t m x ≡ steps n
+    steps-are : scrapped d t act ≡ steps n
     unfolding save_scrap
     steps-are = begins _ source.block (ap steps (sym source.long))
 
-    pub save-busy : is_some d.scrap ≡ true → scrapped d t m x ≡ Err Busy
+    pub save-busy : is_some d.scrap ≡ true → scrapped d t act ≡ Err Busy
     save-busy busy = steps-are ∙ stops _ _ _ busy
 
     module _ (idle : is_some d.scrap ≡ false) where
-      pub save-unsendable : {r : Refusal} → post_send_pages letter d.post ≡ Err r → scrapped d t m x ≡ Err r
+      pub save-unsendable : {r : Refusal} → post_send_pages letter d.post ≡ Err r → scrapped d t act ≡ Err r
       save-unsendable e = steps-are ∙ past _ _ _ idle (then-ends _ (unsendable letter d.post e))
 
       module _ (p : ℕ) (needs : post_send_pages letter d.post ≡ Ok p) where
-        pub save-full : free_pages d < more → scrapped d t m x ≡ Err NoRoom
+        pub save-full : free_pages d < more → scrapped d t act ≡ Err NoRoom
         save-full short = steps-are ∙ past _ _ _ idle (then-past _ (can-send letter d.post needs) (stops _ _ _ (lt-true _ _ short)))
 
         module _ (is : IsDesk d) (room : more ≤ free_pages d) where
           sends-from : {r : Granted (Post × ℕ)} → post_send (free_pages d - more) letter d.post ≡ r → post_send (free_pages (wider more d)) letter d.post ≡ r
           sends-from e = ap (λ free. post_send free letter d.post) (free-wider more d is) ∙ e
 
-          pub save-short : free_pages d - more < p → scrapped d t m x ≡ Err NoRoom
+          pub save-short : free_pages d - more < p → scrapped d t act ≡ Err NoRoom
           unfolding send_letter
           save-short short =
               steps-are ∙ past _ _ _ idle (then-past _ (can-send letter d.post needs) (past _ _ _ (lt-false _ _ room)
@@ -290,7 +295,7 @@ module _ (d : Desk) (t : Task) (m : Parcel) (x : Sending) where
               let P : Granted Desk → Type 0 = λ r. IsOk r in
               subst P (sym (begins _ e refl)) refl
 
-          pub save-done : {e : Desk} → send_letter letter (wider more d) ≡ Ok e → scrapped d t m x ≡ Ok (saved_desk e, outcome.Saved n (next_ref d))
+          pub save-done : {e : Desk} → send_letter letter (wider more d) ≡ Ok e → scrapped d t act ≡ Ok (saved_desk e, outcome.Saved n (next_ref d))
           save-done e =
               steps-are ∙ past _ _ _ idle (then-past _ (can-send letter d.post needs) (past _ _ _ (lt-false _ _ room) (begins _ e refl)))
 
@@ -301,11 +306,11 @@ sends-ok l old new (Ok ref) s is = refl
 sends-ok l old new (Err e) s is = absurd (let h : IsOk (let x : Granted Desk = Err e in x) = subst (λ (x : Granted Desk). IsOk x) s.0 is in cc)
 
 -- what is known once the letter has its size: n is the source's, p the pages that the letter l takes
-pub record Saves (d : Desk) (i : ℕ) (t : Task) (m : Parcel) (x : Sending) (n : ℕ) (l : Letter) (p : ℕ) : Type 0 where
+pub record Saves (d : Desk) (i : ℕ) (t : Task) (act : SaveFile) (n : ℕ) (l : Letter) (p : ℕ) : Type 0 where
   pub is : IsDesk d
   pub at : IsAt i t d
-  pub given : slot_size x.anchor t.slot ≡ Ok n
-  pub same : l ≡ load_letter t.handle m n
+  pub given : slot_size act.transfer.anchor t.slot ≡ Ok n
+  pub same : l ≡ load_letter t.handle act n
   pub idle : is_some d.scrap ≡ false
   pub needs : post_send_pages l d.post ≡ Ok p
 
@@ -314,21 +319,21 @@ pub record Widens (d first : Desk) (n : ℕ) : Type 0 where
   pub room : scrap_shortage n d ≤ free_pages d
   pub widened : first ≡ wider (scrap_shortage n d) d
 
-module _ {d : Desk} {i : ℕ} {t : Task} {m : Parcel} {x : Sending} {n : ℕ} {l : Letter} {p : ℕ} (a : Saves d i t m x n l p) where
-  abbrev there : Sized x.anchor n t.slot
-  there = source d t m x n a.given
+module _ {d : Desk} {i : ℕ} {t : Task} {act : SaveFile} {n : ℕ} {l : Letter} {p : ℕ} (a : Saves d i t act n l p) where
+  abbrev there : Sized act.transfer.anchor n t.slot
+  there = source d t act n a.given
 
   pub own : l.from ≡ t.handle
   own = ap (λ (l : Letter). l.from) a.same
 
-  letter-needs : post_send_pages (load_letter t.handle m n) d.post ≡ Ok p
+  letter-needs : post_send_pages (load_letter t.handle act n) d.post ≡ Ok p
   letter-needs = ap (λ l. post_send_pages l d.post) (sym a.same) ∙ a.needs
 
-  pub full-is : free_pages d < scrap_shortage n d → scrapped d t m x ≡ Err NoRoom
-  full-is = save-full d t m x n a.given a.idle p letter-needs
+  pub full-is : free_pages d < scrap_shortage n d → scrapped d t act ≡ Err NoRoom
+  full-is = save-full d t act n a.given a.idle p letter-needs
 
-  pub short-is : scrap_shortage n d ≤ free_pages d → free_pages d - scrap_shortage n d < p → scrapped d t m x ≡ Err NoRoom
-  short-is = save-short d t m x n a.given a.idle p letter-needs a.is
+  pub short-is : scrap_shortage n d ≤ free_pages d → free_pages d - scrap_shortage n d < p → scrapped d t act ≡ Err NoRoom
+  short-is = save-short d t act n a.given a.idle p letter-needs a.is
 
   module _ {first : Desk} (b : Widens d first n) where
     pub first-at : IsAt i t first
@@ -341,7 +346,7 @@ module _ {d : Desk} {i : ℕ} {t : Task} {m : Parcel} {x : Sending} {n : ℕ} {l
     first-sends fits =
         subst (λ (z : Desk). IsOk (send_letter l z)) (sym b.widened)
         (subst (λ (y : Letter). IsOk (send_letter y (wider (scrap_shortage n d) d))) (sym a.same)
-        (save-sends d t m x n a.given a.idle p letter-needs a.is b.room fits))
+        (save-sends d t act n a.given a.idle p letter-needs a.is b.room fits))
 
     module _ {second : Desk} (sent : (e : Desk) × ((send_letter l first ≡ Ok e) × IsReordered e second)) where
       has : HasSent i t sent.0
@@ -365,10 +370,10 @@ module _ {d : Desk} {i : ℕ} {t : Task} {m : Parcel} {x : Sending} {n : ℕ} {l
           ap (λ (x : Desk). x.areas) sent.1.1.rest ∙ sent-areas ∙ ap (λ (x : Desk). x.areas) b.widened in
           subst (λ (a : List ℕ). n ≤ page_size * slice_index a scrap_area) (sym areas) (wider-room n d a.is)
 
-      pub second-block : (v : Task) → IsAt i v second → slot_size x.anchor v.slot ≡ Ok n
-      second-block v h = ap (λ (y : Task). slot_size x.anchor y.slot) (one-at second i v u h second-at) ∙ a.given
+      pub second-block : (v : Task) → IsAt i v second → slot_size act.transfer.anchor v.slot ≡ Ok n
+      second-block v h = ap (λ (y : Task). slot_size act.transfer.anchor y.slot) (one-at second i v u h second-at) ∙ a.given
 
-      module _ {third : Desk} (load : ℕ) (filled : (v : Task) (b : Split Flex) → IsAt i v second → slot_block x.anchor v.slot ≡ Ok b
+      module _ {third : Desk} (load : ℕ) (filled : (v : Task) (b : Split Flex) → IsAt i v second → slot_block act.transfer.anchor v.slot ≡ Ok b
           → third ≡ (let y : Desk = record second { scrap = Some (record { load = load; bytes = b.here.bytes }) } in y)) where
         third-is : third ≡ (let y : Desk = record second { scrap = Some (record { load = load; bytes = there.cut.here.bytes }) } in y)
         third-is = filled u there.cut second-at there.block
@@ -379,33 +384,24 @@ module _ {d : Desk} {i : ℕ} {t : Task} {m : Parcel} {x : Sending} {n : ℕ} {l
         pub third-inside : i < length third.tasks
         third-inside = at-inside third i u third-at
 
-        pub save-all : {new : Desk} → load ≡ next_ref first → ((v : Task) → IsAt i v third → new ≡ with_sending v.handle (sender.saved x load) third)
-            → (e : Desk) × ((scrapped d t m x ≡ Ok (e, outcome.Saved n load)) × IsReordered e new)
+        pub saved-records : KeyAlike records_of d third
+        saved-records =
+            alike-both records_of (same-records d first (ap (λ (x : Desk). x.tasks) b.widened))
+            (alike-both records_of (sent-records l first sent.0 sent.1.0 sent.1.1) (same-records second third (ap (λ (x : Desk). x.tasks) third-is)))
+
+        pub save-all : {new : Desk} → load ≡ next_ref first → ((v : Task) → IsAt i v third → new ≡ with_sending v.handle (sender.saved act load) third)
+            → (e : Desk) × ((scrapped d t act ≡ Ok (e, outcome.Saved n load)) × IsReordered e new)
         save-all {new} ref edited =
             let r : load ≡ next_ref d = ref ∙ ap next_ref b.widened in
-            let g : send_letter (load_letter t.handle m n) (wider (scrap_shortage n d) d) ≡ Ok sent.0 =
+            let g : send_letter (load_letter t.handle act n) (wider (scrap_shortage n d) d) ≡ Ok sent.0 =
             ap (λ l. send_letter l (wider (scrap_shortage n d) d)) (sym a.same) ∙ ap (send_letter l) (sym b.widened) ∙ sent.1.0 in
-            let done = save-done d t m x n a.given a.idle p letter-needs a.is b.room g in
+            let done = save-done d t act n a.given a.idle p letter-needs a.is b.room g in
             let last : ℕ → Desk =
-            λ k. with_sending t.handle (sender.saved x k) (record second { scrap = Some (record { load = k; bytes = there.cut.here.bytes }) }) in
-            let now : new ≡ last (next_ref d) = edited u third-at ∙ ap (with_sending t.handle (sender.saved x load)) third-is ∙ ap last r in (
-              saved_desk d t m x n a.given sent.0,
+            λ k. with_sending t.handle (sender.saved act k) (record second { scrap = Some (record { load = k; bytes = there.cut.here.bytes }) }) in
+            let now : new ≡ last (next_ref d) = edited u third-at ∙ ap (with_sending t.handle (sender.saved act load)) third-is ∙ ap last r in (
+              saved_desk d t act n a.given sent.0,
               (
-                done ∙ ap (λ k. let y : Granted Handled = Ok (saved_desk d t m x n a.given sent.0, outcome.Saved n k) in y) (sym r),
-                subst (IsReordered (saved_desk d t m x n a.given sent.0)) (sym now) (edit-alike t.handle _ (scrap-alike _ sent.1.1)),
+                done ∙ ap (λ k. let y : Granted Handled = Ok (saved_desk d t act n a.given sent.0, outcome.Saved n k) in y) (sym r),
+                subst (IsReordered (saved_desk d t act n a.given sent.0)) (sym now) (edit-alike t.handle _ (scrap-alike _ sent.1.1)),
               ),
             )
-
--- ---- a DataSaveAck
-
-pub ack-none : (d : Desk) (t : Task) (m : Parcel) → answer_ack d t m None ≡ ignored d
-unfolding answer_ack
-ack-none d t m = refl
-
-pub ack-done : (d : Desk) (t : Task) (m : Parcel) (x : Sending) {h : Handled} → scrapped d t m x ≡ Ok h → answer_ack d t m (Some x) ≡ h
-unfolding answer_ack or_else
-ack-done d t m x e = rw e refl
-
-pub ack-refused : (d : Desk) (t : Task) (m : Parcel) (x : Sending) {r : Refusal} → scrapped d t m x ≡ Err r → answer_ack d t m (Some x) ≡ refused d t x r
-unfolding answer_ack or_else
-ack-refused d t m x e = rw e refl

@@ -1,8 +1,24 @@
 -- The records of the task at a place, edited.
-use Rattle.rh_tasks.proofs.Common.{◌≡◌, ℕ, ◌<◌, refl, ap, sym, subst, arith, false, ◌∙◌, List, length, map, get_or, set, length-map, Memory, OnlyArea-self}
-use Rattle.rh_tasks.proofs.Common.{FileList, Outgoing, Incoming, is_going, is_full, Desk, Task, with_sending, with_taking, IsDesk, IsSlotIn, Seat, MadeArea}
+use Rattle.rh_tasks.proofs.Common.{◌≡◌, ℕ, ◌<◌, refl, ap, sym, subst, arith, true, ◌∙◌, Result, Ok, IsOk, Option, None, Some, IfSome, List, length, map, get_or}
+use Rattle.rh_tasks.proofs.Common.{set, length-map, Memory, OnlyArea-self}
+use Rattle.rh_tasks.proofs.Common.{FileList, Outgoing, Incoming, Refusal, Granted, outcome_of, result_or, Desk, Task, with_sending, with_taking, IsDesk}
+use Rattle.rh_tasks.proofs.Common.{IsSlotIn, Seat, MadeArea}
 use Rattle.rh_tasks.proofs.Common.{Kept, HasSlot, task_of, desk_of, IsWorld, IsAt, Sits, all-at, mapped-at, mapped-is, Moves, moved-desk, moved-world}
+use Rattle.rh_defs.specs.declared.transfer_action.SendAction.{SendAction}
+use Rattle.rh_defs.specs.declared.transfer_action.TakeAction.{TakeAction}
 use Rattle.rh_defs.proofs.Desks.{with_sending-keeps, with_taking-keeps}
+use Rattle.rh_ram.specs.Due.{is_send_due, is_take_due}
+use Rattle.rh_tasks.specs.Inner.PollSteps.{CanSend, CanTake}
+
+-- ---- what is told of an action that is due
+
+pub is-taken : {A : Type 0} {g : Granted A} {x : A} {r : Result (Unit {0}) Refusal} → g ≡ Ok x → r ≡ outcome_of g → IsOk r
+is-taken e q = rw (q, e) refl
+
+pub was-taken : {A : Type 0} {g : Granted A} {x new : A} (old : A) → g ≡ Ok x → new ≡ result_or old g → new ≡ x
+was-taken old e q = q ∙ rw e refl
+
+-- ---- the task at a place
 
 module _ {m : Memory} {seats : List Seat} {made : List MadeArea} {files : FileList} {kept : Kept}
     (w : IsWorld m seats made files kept) where
@@ -22,10 +38,30 @@ module _ {m : Memory} {seats : List Seat} {made : List MadeArea} {files : FileLi
     unfolding task_of
     handle-at t there = ap (λ (x : Task). x.handle) (mapped-is (task_of m) seats i s t at there)
 
-    -- the seat may take one more
-    pub room-at : ((t : Task) → IsAt i t d → is_full is_going t.taking ≡ false) → is_full is_going s.taking ≡ false
+    -- an action that is due by the task's records is due by the seat's, and the other way round
+    pub sends-at : (a : SendAction) → CanSend i a d → is_send_due a s.sending ≡ true
     unfolding task_of
-    room-at room = room (task_of m s) (mapped-at (task_of m) seats i s at)
+    sends-at a can = can (task_of m s) (mapped-at (task_of m) seats i s at)
+
+    pub takes-at : (a : TakeAction) → CanTake i a d → is_take_due a s.taking ≡ true
+    unfolding task_of
+    takes-at a can = can (task_of m s) (mapped-at (task_of m) seats i s at)
+
+    pub can-send : (a : SendAction) → is_send_due a s.sending ≡ true → CanSend i a d
+    unfolding task_of
+    can-send a due t there = subst (λ (x : Task). is_send_due a x.sending ≡ true) (mapped-is (task_of m) seats i s t at there) due
+
+    pub can-take : (a : TakeAction) → is_take_due a s.taking ≡ true → CanTake i a d
+    unfolding task_of
+    can-take a due t there = subst (λ (x : Task). is_take_due a x.taking ≡ true) (mapped-is (task_of m) seats i s t at there) due
+
+    pub can-send-if : (o : Option SendAction) → IfSome o (λ a. is_send_due a s.sending ≡ true) → IfSome o (λ a. CanSend i a d)
+    can-send-if None h = tt
+    can-send-if (Some a) h = can-send a h
+
+    pub can-take-if : (o : Option TakeAction) → IfSome o (λ a. is_take_due a s.taking ≡ true) → IfSome o (λ a. CanTake i a d)
+    can-take-if None h = tt
+    can-take-if (Some a) h = can-take a h
 
     -- ---- transfers that go out
 

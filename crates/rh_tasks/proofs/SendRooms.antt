@@ -3,10 +3,12 @@ use Rattle.rh_tasks.proofs.Common.{◌≡◌, ℕ, ◌+◌, ◌≤◌, ◌<◌, 
 use Rattle.rh_tasks.proofs.Common.{Granted, ◌>>=◌, ◌>>◌, refuse_if, pages_for, Heap, need, claim_growing, module_claim, fetch_letter, Post, post_send}
 use Rattle.rh_tasks.proofs.Common.{post_send_pages, begins, ends, lt-true, lt-false}
 use Rattle.rh_defs.specs.declared.message.Body.TheVariants.{RamFetch}
+use Rattle.rh_defs.specs.declared.transfer_action.Claim.{Claim}
 use Rattle.rh_defs.specs.Heap.{as_granted}
 use Rattle.rh_defs.specs.Module.{module_need_pages}
 use Rattle.rh_defs.specs.Messages.{parcel_size}
 use Rattle.rh_defs.specs.Post.{message_of, sendable, posted}
+use Rattle.rh_defs.specs.Receiver.{first_fetch}
 use Rattle.rh_defs.proofs.MessageLaws.{length-body}
 
 -- the post after a send that has room, and the letter's ref
@@ -47,9 +49,9 @@ module _ (free : ℕ) (l : Letter) (post : Post) where
     send-lacks short = send-by_pages free l post ∙ begins _ needs (ap (λ b. refuse_if b NoRoom >>= (λ _. Ok (sent_post l post))) (lt-true free pages short))
 
 -- the pages of a fetch don't depend on its buffer's address
-pub fetch-pages : (from to your_ref x y room : ℕ) (post : Post)
-    → post_send_pages (fetch_letter from to your_ref x room) post ≡ post_send_pages (fetch_letter from to your_ref y room) post
+pub fetch-pages : (from : ℕ) (claim : Claim) (x y room : ℕ) (post : Post)
+    → post_send_pages (fetch_letter from (first_fetch claim x room)) post ≡ post_send_pages (fetch_letter from (first_fetch claim y room)) post
 unfolding post_send_pages sendable
-fetch-pages from to your_ref x y room post =
-    ap (λ n. sendable (fetch_letter from to your_ref x room) post >> module_need_pages (8 + (16 + n)) post.heap)
+fetch-pages from claim x y room post =
+    ap (λ n. sendable (fetch_letter from (first_fetch claim x room)) post >> module_need_pages (8 + (16 + n)) post.heap)
     (length-body (RamFetch x room) ∙ sym (length-body (RamFetch y room)))

@@ -2,9 +2,11 @@
 use Rattle.rh_tasks.proofs.Common.{◌≡◌, ◌⊎◌, inl, inr, ℕ, zero, suc, ◌+◌, ◌-◌, ◌<◌, ◌≤◌, Bool, true, false, refl, ap, sym, subst, ◌∙◌, arith, length, Option}
 use Rattle.rh_tasks.proofs.Common.{Some, None, Ok, IfSome, is_some, not, ◌&&◌, ◌||◌, nat_le, nat_lt, if◌then◌else◌, take, drop, part, Memory, bytes, total}
 use Rattle.rh_tasks.proofs.Common.{Split, Segment, bytes_of, Flex, weight, flex_start, flex_address, heap_start, heap_block_at, slot_block, holds, flex_place}
-use Rattle.rh_tasks.proofs.Common.{buffer_at, overlap, IsCut, first_at-cuts, IsSlotIn, slot_in, Standing, Sending, Task, IsPortion, lt-true}
+use Rattle.rh_tasks.proofs.Common.{buffer_at, overlap, IsCut, first_at-cuts, IsSlotIn, slot_in, Standing, Task, IsPortion, lt-true, min}
 use Rattle.std.proofs.lemmas.Bool.{leb-true}
 use borrow.Author.Tests.{ltb-false}
+use Rattle.rh_defs.specs.declared.transfer_action.Transmit.{Transmit}
+use Rattle.rh_defs.specs.declared.transfer_action.Part.{Part}
 use Rattle.rh_defs.specs.Pieces.{is_inside}
 use Rattle.rh_defs.specs.Heap.{block_around}
 use Rattle.rh_defs.specs.Slot as plain
@@ -26,14 +28,17 @@ pub record Portioned (m : Memory) (slot : Slot) (k count n place : ℕ) (source 
   pub some : 0 < n → place ≡ flex_address (slot_in m slot) source.before + count - 32768
   pub within : 0 < n → count + n ≤ length source.here.bytes
 
-pub portioned : {t : Task} {x : Sending} {amount address n : ℕ} (m : Memory) (slot : Slot) (p : IsPortion t x amount address n) → t.slot ≡ slot_in m slot
-    → (place : ℕ) → (n ≡ 0 → place ≡ 0) → (0 < n → place ≡ address - 32768) → Portioned m slot x.anchor x.count n place p.source
-portioned {t} {x} {amount} {address} {n} m slot p e place none some = record {
-  block = subst (λ s. slot_block x.anchor s ≡ Ok p.source) e p.block;
-  none = none;
-  some = λ h. some h ∙ ap (λ a. a - 32768) (p.address_is ∙ ap (λ s. flex_address s p.source.before + x.count) e);
-  within = λ h. omega (arith, h, p.length_is);
-}
+pub portioned : {t : Task} {a : Transmit} {address size : ℕ} {b : Part} (m : Memory) (slot : Slot) (p : IsPortion t a address size b) → t.slot ≡ slot_in m slot
+    → (place : ℕ) → (b.n ≡ 0 → place ≡ 0) → (0 < b.n → place ≡ address - 32768) → Portioned m slot a.transfer.anchor b.offset b.n place p.source
+portioned {t} {a} {address} {size} {b} m slot p e place none some =
+    let from : b.offset ≡ a.transfer.count = ap (λ (x : Part). x.offset) p.part_is in
+    let long : b.n ≡ min a.room (size - a.transfer.count) = ap (λ (x : Part). x.n) p.part_is in
+    record {
+      block = subst (λ s. slot_block a.transfer.anchor s ≡ Ok p.source) e p.block;
+      none = none;
+      some = λ h. some h ∙ ap (λ k. k - 32768) (p.address_is ∙ ap (λ s. flex_address s p.source.before + b.offset) e);
+      within = λ h. omega (arith, h, from, long, p.size_is);
+    }
 
 module _ {m : Memory} {slot : Slot} {k count n place : ℕ} {source : Split Flex} (is : IsSlotIn m slot) (p : Portioned m slot k count n place source) where
   range : 0 < n → Standing (bytes m slot.area.0) (take n (drop count source.here.bytes)) (flex_address (slot_in m slot) source.before + count - 32768) n

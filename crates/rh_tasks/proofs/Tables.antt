@@ -1,16 +1,17 @@
 -- What a poll does with its message, by its action.
 use Rattle.rh_tasks.proofs.Common.{◌≡◌, ◌⊎◌, inl, inr, ℕ, true, false, refl, ap, sym, subst, ◌∙◌, List, Option, if◌then◌else◌, get_or, Memory, FileList}
-use Rattle.rh_tasks.proofs.Common.{EventCode, User, Message, Outcome, Sending, Incoming, Parcel, Desk, Task, IsReordered, Handled, ignored, answer_fetch}
-use Rattle.rh_tasks.proofs.Common.{finish_load, take_bytes, fetch_back, Seat, MadeArea, Kept, task_of, desk_of, IsWorld, IsFor, Sits, mapped-is}
+use Rattle.rh_tasks.proofs.Common.{EventCode, User, Message, Outcome, Parcel, Desk, Task, IsReordered, Handled, ignored}
+use Rattle.rh_tasks.proofs.Common.{Bool, Seat, MadeArea, Kept, task_of, desk_of, IsWorld, IsFor, Sits, mapped-is}
 use Rattle.rh_defs.specs.declared.message.Body.{Body}
 use Rattle.rh_defs.specs.declared.message.Body.TheVariants.{DataSave, DataSaveAck, DataLoad, DataLoadAck, RamFetch, RamTransmit}
 use Rattle.rh_defs.specs.declared.message.EventCode.TheVariants.{Recorded, Acknowledge}
 use Rattle.rh_defs.specs.declared.message.FileData.{FileData}
-use Rattle.rh_defs.specs.declared.transfer.Asked.{Asked}
+use Rattle.rh_defs.specs.declared.transfer_action.SendAction.{SendAction}
+use Rattle.rh_defs.specs.declared.transfer_action.TakeAction.{TakeAction}
 use Rattle.rh_defs.specs.Sender as sender
 use Rattle.rh_defs.specs.Receiver as receiver
-use Rattle.rh_defs.specs.OutgoingEvents.{fail_sending, answer_ack}
-use Rattle.rh_defs.specs.IncomingEvents.{take_save, ack_back, take_file}
+use Rattle.rh_defs.specs.OutgoingEvents.{perform_send, fail_sending}
+use Rattle.rh_defs.specs.IncomingEvents.{is_deaf, perform_take, ack_back}
 use Rattle.rh_defs.specs.Transfer.{answers_none, came, came_back, handled}
 use Rattle.rh_tasks.proofs.Places.{mapped-inside}
 
@@ -33,6 +34,46 @@ acknowledged d t p code e last h = rw e h
 
 -- ---- by action
 
+module _ {d : Desk} {i : ℕ} {t : Task} {p : Parcel} {message : Message} (for : IsFor i t d p message) where
+  came-as : {last : Desk} {outcome : Outcome} {b : Body} → message.body ≡ b → As (came d t p b) last outcome → As (came d t p p.message.body) last outcome
+  came-as {last} {outcome} e h = subst (λ b. As (came d t p b) last outcome) (sym (ap (λ (x : Message). x.body) for.message_is ∙ e)) h
+
+  back-as : {last : Desk} {outcome : Outcome} {b : Body} → message.body ≡ b → As (came_back d t p b) last outcome
+      → As (came_back d t p p.message.body) last outcome
+  back-as {last} {outcome} e h = subst (λ b. As (came_back d t p b) last outcome) (sym (ap (λ (x : Message). x.body) for.message_is ∙ e)) h
+
+  -- ---- messages that came back
+
+  -- a message of the sender's came back
+  pub sender-back : {last : Desk} {outcome : Outcome}
+      → ((file : FileData) × (message.body ≡ DataSave file)) ⊎ (((file : FileData) × (message.body ≡ DataLoad file)) ⊎
+      ((buffer : ℕ) × (n : ℕ) × (message.body ≡ RamTransmit buffer n)))
+      → As (fail_sending d t (sender.on_sending_bounce message.my_ref t.sending)) last outcome → As (came_back d t p p.message.body) last outcome
+  unfolding came_back
+  sender-back {last} {outcome} k h = go k
+    where
+      own : As (fail_sending d t (sender.on_sending_bounce p.message.my_ref t.sending)) last outcome
+      own = subst (λ (y : Message). As (fail_sending d t (sender.on_sending_bounce y.my_ref t.sending)) last outcome) (sym for.message_is) h
+
+      go : ((file : FileData) × (message.body ≡ DataSave file)) ⊎ (((file : FileData) × (message.body ≡ DataLoad file)) ⊎
+          ((buffer : ℕ) × (n : ℕ) × (message.body ≡ RamTransmit buffer n))) → As (came_back d t p p.message.body) last outcome
+      go (inl k) = back-as k.1 own
+      go (inr (inl k)) = back-as k.1 own
+      go (inr (inr (buffer, n, e))) = back-as e own
+
+  pub ack-back : {last : Desk} {outcome : Outcome} {file : FileData} → message.body ≡ DataSaveAck file
+      → As (ack_back d t (receiver.on_ack_bounce message.my_ref t.taking)) last outcome → As (came_back d t p p.message.body) last outcome
+  unfolding came_back
+  ack-back {last} {outcome} e h =
+      back-as e (subst (λ (y : Message). As (ack_back d t (receiver.on_ack_bounce y.my_ref t.taking)) last outcome) (sym for.message_is) h)
+
+  pub load-ack-back : {last : Desk} {outcome : Outcome} {file : FileData} → message.body ≡ DataLoadAck file → As (ignored d) last outcome
+      → As (came_back d t p p.message.body) last outcome
+  unfolding came_back
+  load-ack-back e h = back-as e h
+
+-- ---- by the records of the seat that the task sits on
+
 module _ {m : Memory} {seats : List Seat} {made : List MadeArea} {files : FileList} {kept : Kept} {i : ℕ} {s : Seat} {t : Task} {p : Parcel} {message : Message}
     (w : IsWorld m seats made files kept) (is : get_or seats i s ≡ s) (for : IsFor i t (desk_of m seats made files kept) p message) where
   abbrev d : Desk
@@ -45,41 +86,45 @@ module _ {m : Memory} {seats : List Seat} {made : List MadeArea} {files : FileLi
   meant : {B : Type 0} (f : Message → Task → B) → f message (task_of m s) ≡ f p.message t
   meant f = ap (λ x. f x (task_of m s)) (sym for.message_is) ∙ ap (f p.message) (mapped-is (task_of m) seats i s t sits for.at)
 
-  came-as : {last : Desk} {outcome : Outcome} {b : Body} → message.body ≡ b → As (came d t p b) last outcome → As (came d t p p.message.body) last outcome
-  came-as {last} {outcome} e h = subst (λ b. As (came d t p b) last outcome) (sym (ap (λ (x : Message). x.body) for.message_is ∙ e)) h
+  -- an action by the seat's records is the task's
+  sends : {last : Desk} {outcome : Outcome} {a : Option SendAction} (f : Message → Task → Option SendAction) → a ≡ f message (task_of m s)
+      → As (perform_send d t a) last outcome → As (perform_send d t (f p.message t)) last outcome
+  sends {last} {outcome} f q h = subst (λ x. As (perform_send d t x) last outcome) (q ∙ meant f) h
 
-  back-as : {last : Desk} {outcome : Outcome} {b : Body} → message.body ≡ b → As (came_back d t p b) last outcome
-      → As (came_back d t p p.message.body) last outcome
-  back-as {last} {outcome} e h = subst (λ b. As (came_back d t p b) last outcome) (sym (ap (λ (x : Message). x.body) for.message_is ∙ e)) h
+  takes : {last : Desk} {outcome : Outcome} {a : Option TakeAction} (f : Message → Task → Option TakeAction) → a ≡ f message (task_of m s)
+      → As (perform_take d t a) last outcome → As (perform_take d t (f p.message t)) last outcome
+  takes {last} {outcome} f q h = subst (λ x. As (perform_take d t x) last outcome) (q ∙ meant f) h
 
   -- ---- messages that came
 
-  pub save-came : {last : Desk} {outcome : Outcome} {file : FileData} → message.body ≡ DataSave file → As (take_save d t p) last outcome
+  pub save-came : {last : Desk} {outcome : Outcome} {file : FileData} {deaf : Bool} {a : Option TakeAction} → message.body ≡ DataSave file
+      → deaf ≡ is_deaf s.manner → a ≡ receiver.on_save deaf message.from message.my_ref s.taking → As (perform_take d t a) last outcome
       → As (came d t p p.message.body) last outcome
-  unfolding came
-  save-came e h = came-as e h
-
-  pub ack-came : {last : Desk} {outcome : Outcome} {file : FileData} {x : Option Sending} → message.body ≡ DataSaveAck file
-      → x ≡ sender.on_ack message.from message.your_ref s.sending → As (answer_ack d t p x) last outcome → As (came d t p p.message.body) last outcome
   unfolding came task_of
-  ack-came {last} {outcome} e q h =
-      came-as e (subst (λ x. As (answer_ack d t p x) last outcome) (q ∙ meant (λ y z. sender.on_ack y.from y.your_ref z.sending)) h)
+  save-came e k q h =
+      came-as for e (takes (λ y z. receiver.on_save (is_deaf z.manner) y.from y.my_ref z.taking)
+      (q ∙ ap (λ b. receiver.on_save b message.from message.my_ref s.taking) k) h)
 
-  pub load-came : {last : Desk} {outcome : Outcome} {file : FileData} {q : Option Asked} → message.body ≡ DataLoad file
-      → q ≡ receiver.on_load message.from message.your_ref s.taking → As (take_file d t p q) last outcome → As (came d t p p.message.body) last outcome
+  pub ack-came : {last : Desk} {outcome : Outcome} {file : FileData} {a : Option SendAction} → message.body ≡ DataSaveAck file
+      → a ≡ sender.on_ack message.from message.my_ref message.your_ref s.sending → As (perform_send d t a) last outcome
+      → As (came d t p p.message.body) last outcome
   unfolding came task_of
-  load-came {last} {outcome} e q h =
-      came-as e (subst (λ x. As (take_file d t p x) last outcome) (q ∙ meant (λ y z. receiver.on_load y.from y.your_ref z.taking)) h)
+  ack-came e q h = came-as for e (sends (λ y z. sender.on_ack y.from y.my_ref y.your_ref z.sending) q h)
 
-  pub load-ack-came : {last : Desk} {outcome : Outcome} {file : FileData} {x : Option Sending} → message.body ≡ DataLoadAck file
-      → x ≡ sender.on_load_ack message.from message.your_ref s.sending → As (finish_load d t x) last outcome → As (came d t p p.message.body) last outcome
+  pub load-came : {last : Desk} {outcome : Outcome} {file : FileData} {a : Option TakeAction} → message.body ≡ DataLoad file
+      → a ≡ receiver.on_load message.from message.my_ref message.your_ref s.taking → As (perform_take d t a) last outcome
+      → As (came d t p p.message.body) last outcome
   unfolding came task_of
-  load-ack-came {last} {outcome} e q h =
-      came-as e (subst (λ x. As (finish_load d t x) last outcome) (q ∙ meant (λ y z. sender.on_load_ack y.from y.your_ref z.sending)) h)
+  load-came e q h = came-as for e (takes (λ y z. receiver.on_load y.from y.my_ref y.your_ref z.taking) q h)
+
+  pub load-ack-came : {last : Desk} {outcome : Outcome} {file : FileData} {a : Option SendAction} → message.body ≡ DataLoadAck file
+      → a ≡ sender.on_load_ack message.from message.your_ref s.sending → As (perform_send d t a) last outcome → As (came d t p p.message.body) last outcome
+  unfolding came task_of
+  load-ack-came e q h = came-as for e (sends (λ y z. sender.on_load_ack y.from y.your_ref z.sending) q h)
 
   abbrev fetch_of : ℕ → ℕ → Message → Task → Handled
   fetch_of buffer amount y z =
-      if answers_none z.manner then ignored d else answer_fetch d t p buffer amount (sender.on_fetch y.from y.your_ref amount z.sending)
+      if answers_none z.manner then ignored d else perform_send d t (sender.on_fetch y.from y.my_ref y.your_ref buffer amount z.sending)
 
   -- the fetch isn't answered by a task of files
   pub fetch-ignored : {last : Desk} {outcome : Outcome} {buffer amount : ℕ} → message.body ≡ RamFetch buffer amount → answers_none s.manner ≡ true
@@ -87,53 +132,26 @@ module _ {m : Memory} {seats : List Seat} {made : List MadeArea} {files : FileLi
   unfolding came task_of
   fetch-ignored {last} {outcome} {buffer} {amount} e q h =
       let ignored_is : fetch_of buffer amount message (task_of m s) ≡ ignored d = rw q refl in
-      came-as e (subst (λ x. As x last outcome) (sym ignored_is ∙ meant (fetch_of buffer amount)) h)
+      came-as for e (subst (λ x. As x last outcome) (sym ignored_is ∙ meant (fetch_of buffer amount)) h)
 
-  pub fetch-came : {last : Desk} {outcome : Outcome} {buffer amount : ℕ} {x : Option Sending} → message.body ≡ RamFetch buffer amount
-      → answers_none s.manner ≡ false → x ≡ sender.on_fetch message.from message.your_ref amount s.sending
-      → As (answer_fetch d t p buffer amount x) last outcome → As (came d t p p.message.body) last outcome
+  pub fetch-came : {last : Desk} {outcome : Outcome} {buffer amount : ℕ} {a : Option SendAction} → message.body ≡ RamFetch buffer amount
+      → answers_none s.manner ≡ false → a ≡ sender.on_fetch message.from message.my_ref message.your_ref buffer amount s.sending
+      → As (perform_send d t a) last outcome → As (came d t p p.message.body) last outcome
   unfolding came task_of
-  fetch-came {last} {outcome} {buffer} {amount} {x} e n q h =
-      let answered_is : fetch_of buffer amount message (task_of m s) ≡ answer_fetch d t p buffer amount x = rw (n, q) refl in
-      came-as e (subst (λ x. As x last outcome) (sym answered_is ∙ meant (fetch_of buffer amount)) h)
+  fetch-came {last} {outcome} {buffer} {amount} {a} e n q h =
+      let answered_is : fetch_of buffer amount message (task_of m s) ≡ perform_send d t a = rw (n, q) refl in
+      came-as for e (subst (λ x. As x last outcome) (sym answered_is ∙ meant (fetch_of buffer amount)) h)
 
-  pub bytes-came : {last : Desk} {outcome : Outcome} {buffer n : ℕ} {entry : Option Incoming} → message.body ≡ RamTransmit buffer n
-      → entry ≡ receiver.on_transmit s.buffer message.from message.your_ref buffer n s.taking
-      → As (take_bytes d t p n entry) last outcome → As (came d t p p.message.body) last outcome
+  pub bytes-came : {last : Desk} {outcome : Outcome} {buffer n : ℕ} {a : Option TakeAction} → message.body ≡ RamTransmit buffer n
+      → a ≡ receiver.on_transmit s.buffer message.from message.my_ref message.your_ref buffer n s.taking
+      → As (perform_take d t a) last outcome → As (came d t p p.message.body) last outcome
   unfolding came task_of
-  bytes-came {last} {outcome} {buffer} {n} e q h =
-      came-as e (subst (λ x. As (take_bytes d t p n x) last outcome) (q ∙ meant (λ y z. receiver.on_transmit z.buffer y.from y.your_ref buffer n z.taking)) h)
+  bytes-came {buffer = buffer} {n = n} e q h =
+      came-as for e (takes (λ y z. receiver.on_transmit z.buffer y.from y.my_ref y.your_ref buffer n z.taking) q h)
 
   -- ---- messages that came back
 
-  bounced : {last : Desk} {outcome : Outcome} {x : Option Sending} → x ≡ sender.on_sending_bounce message.my_ref s.sending → As
-      (fail_sending d t x) last outcome
-      → As (fail_sending d t (sender.on_sending_bounce p.message.my_ref t.sending)) last outcome
-  unfolding task_of
-  bounced {last} {outcome} q h = subst (λ x. As (fail_sending d t x) last outcome) (q ∙ meant (λ y z. sender.on_sending_bounce y.my_ref z.sending)) h
-
-  -- a message of the sender's came back
-  pub sender-back : {last : Desk} {outcome : Outcome} {x : Option Sending}
-      → ((file : FileData) × (message.body ≡ DataSave file)) ⊎ (((file : FileData) × (message.body ≡ DataLoad file)) ⊎
-      ((buffer : ℕ) × (n : ℕ) × (message.body ≡ RamTransmit buffer n)))
-      → x ≡ sender.on_sending_bounce message.my_ref s.sending → As (fail_sending d t x) last outcome → As (came_back d t p p.message.body) last outcome
-  unfolding came_back
-  sender-back (inl k) q h = back-as k.1 (bounced q h)
-  sender-back (inr (inl k)) q h = back-as k.1 (bounced q h)
-  sender-back (inr (inr (buffer, n, e))) q h = back-as e (bounced q h)
-
-  pub ack-back : {last : Desk} {outcome : Outcome} {file : FileData} {q : Option Asked} → message.body ≡ DataSaveAck file
-      → q ≡ receiver.on_ack_bounce message.my_ref s.taking → As (ack_back d t q) last outcome → As (came_back d t p p.message.body) last outcome
+  pub fetch-back : {last : Desk} {outcome : Outcome} {buffer amount : ℕ} {a : Option TakeAction} → message.body ≡ RamFetch buffer amount
+      → a ≡ receiver.on_taking_bounce message.my_ref s.taking → As (perform_take d t a) last outcome → As (came_back d t p p.message.body) last outcome
   unfolding came_back task_of
-  ack-back {last} {outcome} e q h = back-as e (subst (λ x. As (ack_back d t x) last outcome) (q ∙ meant (λ y z. receiver.on_ack_bounce y.my_ref z.taking)) h)
-
-  pub load-ack-back : {last : Desk} {outcome : Outcome} {file : FileData} → message.body ≡ DataLoadAck file → As (ignored d) last outcome
-      → As (came_back d t p p.message.body) last outcome
-  unfolding came_back
-  load-ack-back e h = back-as e h
-
-  pub fetch-back : {last : Desk} {outcome : Outcome} {buffer amount : ℕ} {entry : Option Incoming} → message.body ≡ RamFetch buffer amount
-      → entry ≡ receiver.on_taking_bounce message.my_ref s.taking → As (fetch_back d t entry) last outcome → As (came_back d t p p.message.body) last outcome
-  unfolding came_back task_of
-  fetch-back {last} {outcome} e q h = back-as e (subst (λ x. As (fetch_back d t x) last outcome)
-      (q ∙ meant (λ y z. receiver.on_taking_bounce y.my_ref z.taking)) h)
+  fetch-back e q h = back-as for e (takes (λ y z. receiver.on_taking_bounce y.my_ref z.taking) q h)

@@ -1,20 +1,28 @@
 -- What comes in: the desk after each step of a transfer.
-use Rattle.rh_tasks.proofs.Common.{◌≡◌, ◌≢◌, ℕ, zero, suc, ◌+◌, ◌^◌, ◌<◌, ◌≤◌, true, false, cond, refl, ap, sym, subst, ◌∙◌, arith, List, [], ◌∷◌, length}
-use Rattle.rh_tasks.proofs.Common.{Option, Some, None, Ok, Err, SomeIff, nat_lt, ◌==◌, slice_get, slice_get_within, nat_tests, User, Letter, Message, Refusal}
-use Rattle.rh_tasks.proofs.Common.{NoRoom, Outcome, Incoming, Granted, ◌>>=◌, refuse_if, or_else, fetch_letter, Parcel, first_bytes, Post, post_send, Slot}
+use Rattle.rh_tasks.proofs.Common.{◌≡◌, ℕ, zero, suc, ◌+◌, ◌<◌, true, false, cond, refl, ap, sym, subst, ◌∙◌, arith, List, [], ◌∷◌, length}
+use Rattle.rh_tasks.proofs.Common.{Some, Ok, Err, ◌==◌, slice_get, slice_get_within, Letter, Refusal}
+use Rattle.rh_tasks.proofs.Common.{Outcome, Incoming, Granted, ◌>>=◌, or_else, fetch_letter, first_bytes, Post, post_send, Slot}
 use Rattle.rh_tasks.proofs.Common.{heap_block_at, Desk, Task, next_ref, free_pages, edit_task, with_task, with_slot, with_taking, with_post, send_letter}
-use Rattle.rh_tasks.proofs.Common.{Handled, appended, take_bytes, fetch_back, IsReordered, OnGrant, Shown, IsAt, IsFor, Becomes, begins, ends, le-false}
+use Rattle.rh_tasks.proofs.Common.{Handled, appended, IsReordered, OnGrant, Shown, IsAt, begins, ends}
 use Rattle.rh_tasks.proofs.Common.{edit-alike, same-alike}
 use Rattle.rh_defs.specs.declared.reply.Outcome.TheVariants as outcome
 use Rattle.rh_defs.specs.declared.transfer.Taking.{Taking}
 use Rattle.rh_defs.specs.declared.transfer.Incoming.TheVariants as incoming
+use Rattle.rh_defs.specs.declared.transfer_action.Append.{Append}
+use Rattle.rh_defs.specs.declared.transfer_action.Fetch.{Fetch}
+use Rattle.rh_defs.specs.declared.transfer_action.Next.{Next}
+use Rattle.rh_defs.specs.declared.transfer_action.Next.TheVariants as next
+use Rattle.rh_defs.specs.declared.transfer_action.TakeAction.TheVariants as take
 use Rattle.rh_defs.specs.Letters.{ack_letter}
+use Rattle.rh_defs.specs.Records.{in_id, with_id}
 use Rattle.rh_defs.specs.Receiver as receiver
-use Rattle.rh_defs.specs.IncomingEvents.{without_buffer, taking_ended, end_failed, fetch_more, took, is_uncountable, ask}
+use Rattle.rh_defs.specs.IncomingEvents.{without_buffer, taking_ended, end_failed, fetch_more, took, append, ask, take_with}
 use Rattle.rh_defs.proofs.Chains.{granted, granted-then}
 use Rattle.rh_tasks.specs.Inner.PollSteps.{Handles}
 use Rattle.rh_tasks.proofs.Addresses.{grant-of}
 use Rattle.rh_tasks.proofs.Places.{some-same}
+use Rattle.rh_tasks.proofs.Writes.{KeyAlike}
+use Rattle.rh_tasks.proofs.Dues.{records_of, edited-records}
 
 -- ---- places
 
@@ -38,13 +46,12 @@ module _ (P : Task → Type 0) (h : ℕ) (edit : Task → Task) where
   unfolding with_task
   at-edited d i t at p q = after-edit d.tasks i t at p q
 
--- a task with the same handle and the same size of its buffer
+-- a task with the same handle
 pub record IsLike (t u : Task) : Type 0 where
   pub handle : u.handle ≡ t.handle
-  pub buffer : u.buffer ≡ t.buffer
 
 like-self : (t : Task) → IsLike t t
-like-self t = record { handle = refl; buffer = refl }
+like-self t = record { handle = refl }
 
 -- such a task stands at the place
 pub record Stands (i : ℕ) (t : Task) (d : Desk) : Type 0 where
@@ -73,7 +80,7 @@ unfolding ◌>>=◌
 sent-by l d e i t (Err r) q at = absurd cc
 sent-by l d e i t (Ok sent) q at =
     let is : e ≡ with_task l.from (λ t. record t { last_sent = Some (l, sent.1) }) (with_post sent.0 d) = cc in
-    stands-edited (with_post sent.0 d) e i l.from t (λ t. record t { last_sent = Some (l, sent.1) }) is (λ u. record { handle = refl; buffer = refl }) at
+    stands-edited (with_post sent.0 d) e i l.from t (λ t. record t { last_sent = Some (l, sent.1) }) is (λ u. record { handle = refl }) at
 
 -- the sender's place stays
 pub stands-sent : (l : Letter) (d e : Desk) {f : Desk} (i : ℕ) (t : Task) → send_letter l d ≡ Ok e → IsReordered e f → IsAt i t d → Stands i t f
@@ -87,7 +94,10 @@ dropped h buffer d = with_task h (λ t. record t { slot = without_buffer buffer 
 
 pub stands-dropped : (d e : Desk) (i h buffer : ℕ) (t : Task) → e ≡ dropped h buffer d → IsAt i t d → Stands i t e
 stands-dropped d e i h buffer t is at =
-    stands-edited d e i h t (λ t. record t { slot = without_buffer buffer t.slot }) is (λ u. record { handle = refl; buffer = refl }) at
+    stands-edited d e i h t (λ t. record t { slot = without_buffer buffer t.slot }) is (λ u. record { handle = refl }) at
+
+pub dropped-records : {d e : Desk} (h buffer : ℕ) → e ≡ dropped h buffer d → KeyAlike records_of d e
+dropped-records h buffer is = edited-records h (λ t. record t { slot = without_buffer buffer t.slot }) (λ t. refl) is
 
 -- its buffer goes, and then its records are others
 pub ended-is : (old mid new : Desk) (i : ℕ) (f : Taking) (edit : List Incoming → List Incoming) (t : Task) → IsAt i t old → mid ≡ dropped t.handle f.buffer old
@@ -103,104 +113,81 @@ pub handles-as : {after : Handled} {o : Outcome} (new : Shown) (d : Desk) → af
 handles-as {after} {o} new d q r = let P : Handled → Type 0 = λ a. Handles a new o in subst P (sym q) (refl, r)
 
 -- the transfer has failed, where nothing changed before
-pub failed-as : {after : Handled} {o : Outcome} (old : Desk) (mid new : Shown) (i : ℕ) (t : Task) (f : Taking) (count : ℕ)
-    → after ≡ (end_failed t.handle f count old, o) → IsAt i t old → mid.desk ≡ old
-    → ((u : Task) → IsAt i u mid.desk → new.desk ≡ end_failed u.handle f count mid.desk) → Handles after new o
-failed-as old mid new i t f count q at same taking_ended =
+pub failed-as : {after : Handled} {o : Outcome} (old : Desk) (mid new : Shown) (i : ℕ) (t : Task) (f : Taking) (edit : List Incoming → List Incoming)
+    → after ≡ (taking_ended t.handle f edit old, o) → IsAt i t old → mid.desk ≡ old
+    → ((u : Task) → IsAt i u mid.desk → new.desk ≡ taking_ended u.handle f edit mid.desk) → Handles after new o
+failed-as old mid new i t f edit q at same ended =
     let there : IsAt i t mid.desk = subst (IsAt i t) (sym same) at in
-    handles-as new (end_failed t.handle f count old) q (same-alike (sym (taking_ended t there ∙ ap (end_failed t.handle f count) same)))
+    handles-as new (taking_ended t.handle f edit old) q (same-alike (sym (ended t there ∙ ap (taking_ended t.handle f edit) same)))
 
-pub becomes-ok : {g : Granted Desk} {r : Granted (Unit {0})} (old new : Shown) → Becomes g old new r → r ≡ Ok tt → g ≡ Ok new.desk
-becomes-ok {g} old new b e = let P : Granted (Unit {0}) → Type 0 = λ x. Becomes g old new x in subst P e b
-
-pub becomes-err : {g : Granted Desk} {r : Granted (Unit {0})} (old new : Shown) (x : Refusal) → Becomes g old new r → r ≡ Err x → (g ≡ Err x) × (new ≡ old)
-becomes-err {g} old new x b e = let P : Granted (Unit {0}) → Type 0 = λ y. Becomes g old new y in subst P e b
-
-pub was-refused : {r : Granted (Unit {0})} (x y : Refusal) → r ≡ Err x → r ≡ Err y → x ≡ y
-was-refused x y p q = let e : ◌≡◌ {A = Granted (Unit {0})} (Err x) (Err y) = sym p ∙ q in cc
-
-pub not-both : {P : Type 0} {r : Granted (Unit {0})} (x : Refusal) → r ≡ Err x → r ≡ Ok tt → P
-not-both x p q = absurd (let e : ◌≡◌ {A = Granted (Unit {0})} (Err x) (Ok tt) = sym p ∙ q in cc)
-
--- a parcel with the message
-abbrev pub parcel_with : Message → Parcel
-parcel_with message = record { code = User; to = 0; block = 0; message = message }
-
-pub fetch-from : (l : Letter) (h to your_ref buffer room : ℕ) → l ≡ fetch_letter h to your_ref buffer room → l.from ≡ h
-fetch-from l h to your_ref buffer room e = ap (λ (x : Letter). x.from) e
-
-pub ack-from : (l : Letter) (h to your_ref : ℕ) → l ≡ ack_letter h to your_ref → l.from ≡ h
-ack-from l h to your_ref e = ap (λ (x : Letter). x.from) e
+-- none of the action's bytes are in the document
+pub none-kept : (d : Desk) (t : Task) (a : Append) → taking_ended t.handle a.transfer (receiver.failed_with a 0) d ≡ end_failed d t a.transfer
+none-kept d t a =
+    let edit : ℕ → List Incoming → List Incoming = λ n records. with_id in_id a.transfer.id (incoming.Failed a.transfer.id a.transfer.anchor n) records in
+    let same : a.transfer.count + 0 ≡ a.transfer.count = omega arith in
+    ap (λ n. taking_ended t.handle a.transfer (edit n) d) same
 
 -- ---- more bytes are asked for
 
-module _ (f : Taking) (n : ℕ) {old : Desk} {i : ℕ} {t : Task} {m : Parcel} {message : Message} {letter : Letter} {h room : ℕ}
-    (for : IsFor i t old m message) (handle : h ≡ t.handle) (buffer : room ≡ t.buffer)
-    (letter-is : letter ≡ fetch_letter h f.sender message.my_ref f.buffer room) where
-  the-fetch : send_letter letter old ≡ send_letter (fetch_letter t.handle f.sender m.message.my_ref f.buffer t.buffer) old
-  the-fetch =
-      ap (λ l. send_letter l old)
-      (letter-is ∙ ap (λ k. fetch_letter k f.sender message.my_ref f.buffer room) handle
-      ∙ ap (λ k. fetch_letter t.handle f.sender message.my_ref f.buffer k) buffer
-      ∙ ap (λ (x : Message). fetch_letter t.handle f.sender x.my_ref f.buffer t.buffer) (sym for.message_is))
+module _ (a : Append) (b : Fetch) (old : Desk) (i : ℕ) {t : Task} {letter : Letter} {h : ℕ} (at : IsAt i t old) (handle : h ≡ t.handle)
+    (letter-is : letter ≡ fetch_letter h b) where
+  the-fetch : send_letter letter old ≡ send_letter (fetch_letter t.handle b) old
+  the-fetch = ap (λ l. send_letter l old) (letter-is ∙ ap (λ k. fetch_letter k b) handle)
 
-  pub fetch-refused : {r : Refusal} → send_letter letter old ≡ Err r → fetch_more old t m f n ≡ Err r
+  pub fetch-refused : {r : Refusal} → send_letter letter old ≡ Err r → fetch_more old t a b ≡ Err r
   unfolding fetch_more
   fetch-refused q = ends _ (sym the-fetch ∙ q)
 
   pub fetch-done : (fetch : ℕ) (d mid new : Desk) → fetch ≡ next_ref old → send_letter letter old ≡ Ok d → IsReordered d mid
-      → ((u : Task) → IsAt i u mid → new ≡ with_taking u.handle (receiver.fetched f n fetch) mid)
-      → (x : Desk) × ((fetch_more old t m f n ≡ Ok (x, outcome.TookFull n fetch)) × IsReordered x new)
+      → ((u : Task) → IsAt i u mid → new ≡ with_taking u.handle (receiver.fetched a fetch) mid)
+      → (x : Desk) × ((fetch_more old t a b ≡ Ok (x, outcome.TookFull a.n fetch)) × IsReordered x new)
   unfolding fetch_more
   fetch-done fetch d mid new ref q r recorded =
-      let s = stands-sent letter old d i t q r for.at in
-      let then : ℕ → Granted Handled = λ k. Ok (with_taking t.handle (receiver.fetched f n k) d, outcome.TookFull n k) in
-      let is : new ≡ with_taking t.handle (receiver.fetched f n fetch) mid =
-      recorded s.task s.at ∙ ap (λ k. with_taking k (receiver.fetched f n fetch) mid) s.like.handle in (
-        with_taking t.handle (receiver.fetched f n fetch) d,
+      let s = stands-sent letter old d i t q r at in
+      let then : ℕ → Granted Handled = λ k. Ok (with_taking t.handle (receiver.fetched a k) d, outcome.TookFull a.n k) in
+      let is : new ≡ with_taking t.handle (receiver.fetched a fetch) mid =
+      recorded s.task s.at ∙ ap (λ k. with_taking k (receiver.fetched a fetch) mid) s.like.handle in (
+        with_taking t.handle (receiver.fetched a fetch) d,
         (
           begins _ (sym the-fetch ∙ q) (ap then (sym ref)),
-          subst (IsReordered _) (sym is) (edit-alike t.handle (λ t. record t { taking = receiver.fetched f n fetch t.taking }) r),
+          subst (IsReordered _) (sym is) (edit-alike t.handle (λ t. record t { taking = receiver.fetched a fetch t.taking }) r),
         ),
       )
 
 -- ---- bytes were taken
 
-module _ (d : Desk) (t : Task) (m : Parcel) (f : Taking) (n : ℕ) where
-  took-last : nat_lt n t.buffer ≡ true → took d t m f n ≡ (taking_ended t.handle f (receiver.finished f n) d, outcome.TookLast n)
+module _ (d : Desk) (t : Task) (a : Append) where
+  abbrev not_fetched : Refusal → Handled
+  not_fetched refusal = (taking_ended t.handle a.transfer (receiver.failed_with a a.n) d, outcome.TookFailed a.n refusal)
+
+  pub took-last : took d t a next.Finish ≡ (taking_ended t.handle a.transfer (receiver.finished a) d, outcome.TookLast a.n)
   unfolding took
-  took-last e =
-      ap (λ b. cond b (taking_ended t.handle f (receiver.finished f n) d, outcome.TookLast n)
-      (or_else (fetch_more d t m f n) (λ refusal. (end_failed t.handle f (f.count + n) d, outcome.TookFailed n refusal)))) e
+  took-last = refl
 
-  took-full : nat_lt n t.buffer ≡ false
-      → took d t m f n ≡ or_else (fetch_more d t m f n) (λ refusal. (end_failed t.handle f (f.count + n) d, outcome.TookFailed n refusal))
-  unfolding took
-  took-full e =
-      ap (λ b. cond b (taking_ended t.handle f (receiver.finished f n) d, outcome.TookLast n)
-      (or_else (fetch_more d t m f n) (λ refusal. (end_failed t.handle f (f.count + n) d, outcome.TookFailed n refusal)))) e
+  module _ (b : Fetch) where
+    pub took-more : (x : Handled) → fetch_more d t a b ≡ Ok x → took d t a (next.Fetch b) ≡ x
+    unfolding took or_else
+    took-more x q = ap (λ g. or_else g not_fetched) q
 
-  pub took-more : (x : Handled) → nat_lt n t.buffer ≡ false → fetch_more d t m f n ≡ Ok x → took d t m f n ≡ x
-  unfolding or_else
-  took-more x e q = took-full e ∙ ap (λ g. or_else g (λ refusal. (end_failed t.handle f (f.count + n) d, outcome.TookFailed n refusal))) q
+    pub took-failed : (r : Refusal) → fetch_more d t a b ≡ Err r → took d t a (next.Fetch b) ≡ not_fetched r
+    unfolding took or_else
+    took-failed r q = ap (λ g. or_else g not_fetched) q
 
-  pub took-failed : (r : Refusal) → nat_lt n t.buffer ≡ false → fetch_more d t m f n ≡ Err r
-      → took d t m f n ≡ (end_failed t.handle f (f.count + n) d, outcome.TookFailed n r)
-  unfolding or_else
-  took-failed r e q = took-full e ∙ ap (λ g. or_else g (λ refusal. (end_failed t.handle f (f.count + n) d, outcome.TookFailed n refusal))) q
-
-  -- the task's handle and the size of its buffer are all that counts
-  pub took-like : (u : Task) → IsLike t u → took d u m f n ≡ took d t m f n
+  -- the task's handle is all that counts
+  pub took-like : (what : Next) (u : Task) → IsLike t u → took d u a what ≡ took d t a what
   unfolding took fetch_more
-  took-like u like =
-      ap (λ h. took d (record t { handle = h; buffer = u.buffer }) m f n) like.handle ∙ ap (λ b. took d (record t { buffer = b }) m f n) like.buffer
+  took-like what u like = ap (λ h. took d (record t { handle = h }) a what) like.handle
 
-pub took-ended : (old mid : Desk) (new : Shown) (i : ℕ) (t : Task) (m : Parcel) (f : Taking) (n : ℕ) → nat_lt n t.buffer ≡ true → IsAt i t old
-    → mid ≡ dropped t.handle f.buffer old
-    → ((u : Task) → IsAt i u mid → new.desk ≡ with_taking u.handle (receiver.finished f n) mid) → Handles (took old t m f n) new (outcome.TookLast n)
-took-ended old mid new i t m f n e at is recorded =
-    handles-as new (taking_ended t.handle f (receiver.finished f n) old) (took-last old t m f n e)
-    (same-alike (sym (ended-is old mid new.desk i f (receiver.finished f n) t at is recorded)))
+-- what follows on the bytes, once it is known
+pub as-next : (d : Desk) (t : Task) (a : Append) (new : Shown) {what : Next} {o : Outcome} → a.next ≡ what → Handles (took d t a what) new o
+    → Handles (took d t a a.next) new o
+as-next d t a new {what} {o} e h = subst (λ (x : Next). Handles (took d t a x) new o) (sym e) h
+
+pub took-ended : (old mid : Desk) (new : Shown) (i : ℕ) (t : Task) (a : Append) → IsAt i t old → mid ≡ dropped t.handle a.transfer.buffer old
+    → ((u : Task) → IsAt i u mid → new.desk ≡ with_taking u.handle (receiver.finished a) mid) → Handles (took old t a next.Finish) new (outcome.TookLast a.n)
+took-ended old mid new i t a at is recorded =
+    handles-as new (taking_ended t.handle a.transfer (receiver.finished a) old) (took-last old t a)
+    (same-alike (sym (ended-is old mid new.desk i a.transfer (receiver.finished a) t at is recorded)))
 
 -- ---- a transmit
 
@@ -211,59 +198,42 @@ appended-edits d t k xs = granted-then _ _ λ document _. granted-then _ _ λ lo
 pub stands-appended : (d e : Desk) (i : ℕ) (t : Task) (k : ℕ) (xs : List ℕ) → appended d t k xs ≡ Ok e → IsAt i t d → Stands i t e
 stands-appended d e i t k xs q at =
     let s = grant-of (appended-edits d t k xs) q in
-    stands-edited d e i t.handle t (λ t. record t { slot = s.0 }) s.1 (λ u. record { handle = refl; buffer = refl }) at
+    stands-edited d e i t.handle t (λ t. record t { slot = s.0 }) s.1 (λ u. record { handle = refl }) at
 
-module _ (d : Desk) (t : Task) (m : Parcel) (f : Taking) (n : ℕ) where
+pub appended-records : (d e : Desk) (t : Task) (k : ℕ) (xs : List ℕ) → appended d t k xs ≡ Ok e → KeyAlike records_of d e
+appended-records d e t k xs q =
+    let s = grant-of (appended-edits d t k xs) q in
+    edited-records t.handle (λ u. record u { slot = s.0 }) (λ u. refl) s.1
+
+module _ (d : Desk) (t : Task) (a : Append) where
   abbrev xs : List ℕ
-  xs = first_bytes n (heap_block_at f.buffer t.slot)
+  xs = first_bytes a.n (heap_block_at a.transfer.buffer t.slot)
 
   abbrev failed : Refusal → Handled
-  failed refusal = (end_failed t.handle f f.count d, outcome.Refused refusal)
+  failed refusal = (end_failed d t a.transfer, outcome.Refused refusal)
 
-  pub taken-uncounted : is_uncountable f n ≡ true → take_bytes d t m n (Some (incoming.Fetching f)) ≡ failed NoRoom
-  unfolding take_bytes ◌>>=◌ refuse_if or_else
-  taken-uncounted e = ap (λ b. or_else (refuse_if b NoRoom >>= λ _. appended d t f.anchor xs >>= λ longer. Ok (took longer t m f n)) failed) e
+  pub taken-refused : (r : Refusal) → appended d t a.transfer.anchor xs ≡ Err r → append d t a ≡ failed r
+  unfolding append ◌>>=◌ or_else
+  taken-refused r q = ap (λ g. or_else (g >>= λ longer. Ok (took longer t a a.next)) failed) q
 
-  taken-counted : is_uncountable f n ≡ false
-      → take_bytes d t m n (Some (incoming.Fetching f)) ≡ or_else (appended d t f.anchor xs >>= λ longer. Ok (took longer t m f n)) failed
-  unfolding take_bytes ◌>>=◌ refuse_if
-  taken-counted e = ap (λ b. or_else (refuse_if b NoRoom >>= λ _. appended d t f.anchor xs >>= λ longer. Ok (took longer t m f n)) failed) e
+  pub taken-more : (longer : Desk) → appended d t a.transfer.anchor xs ≡ Ok longer → append d t a ≡ took longer t a a.next
+  unfolding append ◌>>=◌ or_else
+  taken-more longer q = ap (λ g. or_else (g >>= λ longer. Ok (took longer t a a.next)) failed) q
 
-  pub taken-refused : (r : Refusal) → is_uncountable f n ≡ false → appended d t f.anchor xs ≡ Err r → take_bytes d t m n (Some (incoming.Fetching f)) ≡ failed r
-  unfolding ◌>>=◌ or_else
-  taken-refused r e q = taken-counted e ∙ ap (λ g. or_else (g >>= λ longer. Ok (took longer t m f n)) failed) q
-
-  pub taken-more : (longer : Desk) → is_uncountable f n ≡ false → appended d t f.anchor xs ≡ Ok longer
-      → take_bytes d t m n (Some (incoming.Fetching f)) ≡ took longer t m f n
-  unfolding ◌>>=◌ or_else
-  taken-more longer e q = taken-counted e ∙ ap (λ g. or_else (g >>= λ longer. Ok (took longer t m f n)) failed) q
-
-pub taken-on : {o : Outcome} {message : Message} (old : Desk) (longer mid new : Shown) (i : ℕ) (t : Task) (m : Parcel) (f : Taking) (n : ℕ)
-    → IsFor i t old m message → f.count + n < 2 ^ 32
-    → appended old t f.anchor (first_bytes n (heap_block_at f.buffer t.slot)) ≡ Ok longer.desk → mid ≡ longer
-    → ((u : Task) (p : Parcel) → IsFor i u mid.desk p message → Handles (took mid.desk u p f n) new o)
-    → Handles (take_bytes old t m n (Some (incoming.Fetching f))) new o
-taken-on {o} old longer mid new i t m f n for small done same h =
-    let q : appended old t f.anchor (first_bytes n (heap_block_at f.buffer t.slot)) ≡ Ok mid.desk =
-    subst (λ (x : Shown). appended old t f.anchor (first_bytes n (heap_block_at f.buffer t.slot)) ≡ Ok x.desk) (sym same) done in
-    let s = stands-appended old mid.desk i t f.anchor (first_bytes n (heap_block_at f.buffer t.slot)) q for.at in
-    let P : Handled → Type 0 = λ a. Handles a new o in
-    let more = taken-more old t m f n mid.desk (le-false (2 ^ 32) (f.count + n) small) q in
-    subst P (took-like mid.desk t m f n s.task s.like ∙ sym more) (h s.task m (record { at = s.at; message_is = for.message_is }))
-
--- a sum that was told to fit a word, or not
-pub counted : {o : Option ℕ} {P : Type 0} {x : ℕ} (v : ℕ) → SomeIff o P v → o ≡ Some x → P
-counted {o} {P} v s e = (let Q : Option ℕ → Type 0 = λ y. SomeIff y P v in subst Q e s).0
-
-pub uncounted : {o : Option ℕ} (v a b : ℕ) → SomeIff o (a < b) v → o ≡ None → b ≤ a
-uncounted {o} v a b s e = let no : a < b → ⊥ = (let Q : Option ℕ → Type 0 = λ y. SomeIff y (a < b) v in subst Q e s) in omega (arith, no)
+pub taken-on : {o : Outcome} (old : Desk) (longer new : Shown) (i : ℕ) (t : Task) (a : Append) → IsAt i t old
+    → appended old t a.transfer.anchor (first_bytes a.n (heap_block_at a.transfer.buffer t.slot)) ≡ Ok longer.desk
+    → ((u : Task) → IsAt i u longer.desk → Handles (took longer.desk u a a.next) new o) → Handles (append old t a) new o
+taken-on {o} old longer new i t a at done h =
+    let s = stands-appended old longer.desk i t a.transfer.anchor (first_bytes a.n (heap_block_at a.transfer.buffer t.slot)) done at in
+    let P : Handled → Type 0 = λ x. Handles x new o in
+    subst P (took-like longer.desk t a a.next s.task s.like ∙ sym (taken-more old t a longer.desk done)) (h s.task s.at)
 
 -- ---- a file is asked for
 
 module _ (f : Taking) (old : Desk) (i : ℕ) {t : Task} {letter : Letter} {h : ℕ} (at : IsAt i t old) (handle : h ≡ t.handle)
-    (letter-is : letter ≡ ack_letter h f.sender f.id) where
-  the-ack : send_letter letter old ≡ send_letter (ack_letter t.handle f.sender f.id) old
-  the-ack = ap (λ l. send_letter l old) (letter-is ∙ ap (λ k. ack_letter k f.sender f.id) handle)
+    (letter-is : letter ≡ ack_letter h f) where
+  the-ack : send_letter letter old ≡ send_letter (ack_letter t.handle f) old
+  the-ack = ap (λ l. send_letter l old) (letter-is ∙ ap (λ k. ack_letter k f) handle)
 
   pub ask-refused : {r : Refusal} → send_letter letter old ≡ Err r → ask old t f ≡ Err r
   unfolding ask
@@ -289,34 +259,14 @@ module _ (f : Taking) (old : Desk) (i : ℕ) {t : Task} {letter : Letter} {h : �
         ),
       )
 
--- ---- a fetch came back
-
 module _ (d : Desk) (t : Task) (f : Taking) where
-  abbrev gave_up : Handled
-  gave_up = (end_failed t.handle f f.count d, outcome.Failed)
-
   abbrev not_asked : Refusal → Handled
-  not_asked refusal = (end_failed t.handle f f.count d, outcome.Refused refusal)
+  not_asked refusal = (end_failed d t f, outcome.Refused refusal)
 
-  first-back : (f.count == 0) ≡ true → fetch_back d t (Some (incoming.Fetching f)) ≡ or_else (ask d t f) not_asked
-  unfolding fetch_back
-  first-back e = ap (λ b. cond b (or_else (ask d t f) not_asked) gave_up) e
+  pub asked-done : (x : Handled) → ask d t f ≡ Ok x → take_with d t (take.AskForFile f) ≡ x
+  unfolding take_with or_else
+  asked-done x q = ap (λ g. or_else g not_asked) q
 
-  pub later-back : (f.count == 0) ≡ false → fetch_back d t (Some (incoming.Fetching f)) ≡ gave_up
-  unfolding fetch_back
-  later-back e = ap (λ b. cond b (or_else (ask d t f) not_asked) gave_up) e
-
-  pub back-asked : (x : Handled) → (f.count == 0) ≡ true → ask d t f ≡ Ok x → fetch_back d t (Some (incoming.Fetching f)) ≡ x
-  unfolding or_else
-  back-asked x e q = first-back e ∙ ap (λ g. or_else g not_asked) q
-
-  pub back-refused : (r : Refusal) → (f.count == 0) ≡ true → ask d t f ≡ Err r → fetch_back d t (Some (incoming.Fetching f)) ≡ not_asked r
-  unfolding or_else
-  back-refused r e q = first-back e ∙ ap (λ g. or_else g not_asked) q
-
--- whether nothing was taken before
-pub none-before : (n : ℕ) → n ≡ 0 → (n == 0) ≡ true
-none-before n e = grind (arith, nat_tests)
-
-pub some-before : (n : ℕ) → n ≢ 0 → (n == 0) ≡ false
-some-before n e = grind (arith, nat_tests)
+  pub asked-refused : (r : Refusal) → ask d t f ≡ Err r → take_with d t (take.AskForFile f) ≡ not_asked r
+  unfolding take_with or_else
+  asked-refused r q = ap (λ g. or_else g not_asked) q

@@ -1,20 +1,26 @@
--- The handlers of a transfer that goes out, on desks alone.
-use Rattle.rh_tasks.proofs.Common.{◌≡◌, ℕ, ◌+◌, Bool, true, false, refl, ap, sym, subst, ◌∙◌, List, [], ◌∷◌, length, Some, None, Ok, Err, is_some, not, map}
-use Rattle.rh_tasks.proofs.Common.{nat_lt, take, drop, ◌==◌, ◌&&◌, ◌||◌, position, get_or, eqb-true, slice_get-get_or, Refusal, NoTask, BadRange, Letter}
-use Rattle.rh_tasks.proofs.Common.{Outcome, Sending, Granted, ◌>>=◌, found_or, or_else, FileList, Memory, Split, Flex, flex_address, slot_block, holds}
-use Rattle.rh_tasks.proofs.Common.{buffer_at, overlap, Parcel, Desk, Task, next_ref, task_at, with_task, with_sending, send_letter, IsReordered, Handled}
-use Rattle.rh_tasks.proofs.Common.{is_out_of_reach, refused, answer_fetch, finish_load, Seat, MadeArea, Kept, task_of, desk_of, IsWorld, IsAt, IsPortion}
+-- The actions of a transfer that goes out, on desks alone.
+use Rattle.rh_tasks.proofs.Common.{◌≡◌, ℕ, ◌+◌, Bool, true, false, refl, ap, sym, subst, ◌∙◌, List, [], ◌∷◌, length, Some, None, Ok, Err, is_some, not}
+use Rattle.rh_tasks.proofs.Common.{take, drop, ◌==◌, ◌&&◌, ◌||◌, position, get_or, eqb-true, slice_get-get_or, Refusal, NoTask, BadRange, Letter}
+use Rattle.rh_tasks.proofs.Common.{Outcome, Sending, Granted, ◌>>=◌, ◌>>◌, refuse_if, found_or, or_else, FileList, Memory, Split, Flex, flex_address}
+use Rattle.rh_tasks.proofs.Common.{slot_block, holds}
+use Rattle.rh_tasks.proofs.Common.{buffer_at, overlap, Desk, Task, next_ref, task_at, with_task, with_sending, send_letter, IsReordered, Handled}
+use Rattle.rh_tasks.proofs.Common.{is_out_of_reach, refused, Seat, MadeArea, Kept, task_of, desk_of, IsWorld, IsAt, IsPortion}
 use Rattle.rh_tasks.proofs.Common.{begins, ends, past, stops, Sits, mapped-at, task-found, edit-alike}
 use Rattle.std.proofs.lemmas.List.Quantifiers.{position-Some}
 use Rattle.std.proofs.lemmas.Option.{get_or_from_slice_get}
 use Rattle.rh_defs.specs.declared.reply.Outcome.TheVariants as outcome
 use Rattle.rh_defs.specs.Slot as plain
 use Rattle.rh_defs.specs.Letters.{transmit_letter}
-use Rattle.rh_defs.specs.OutgoingEvents.{portion, transmit}
+use Rattle.rh_defs.specs.OutgoingEvents.{transmit, send_with, perform_send}
 use Rattle.rh_defs.specs.Sender as sender
-use Rattle.rh_tasks.specs.Inner.PollSteps.{transmitted}
+use Rattle.rh_defs.specs.declared.transfer_action.Transmit.{Transmit}
+use Rattle.rh_defs.specs.declared.transfer_action.Part.{Part}
+use Rattle.rh_defs.specs.declared.transfer_action.SendAction.{SendAction}
+use Rattle.rh_defs.specs.declared.transfer_action.SendAction.TheVariants as action
+use Rattle.rh_tasks.specs.Inner.PollSteps.{transmitted, sent_by}
 use Rattle.rh_tasks.proofs.Finding.{find-none, find-map}
-use Rattle.rh_tasks.proofs.Writes.{with_written, KeyAlike, alike-edited, alike-reordered, alike-both, alike-sent, seen}
+use Rattle.rh_tasks.proofs.Writes.{with_written, KeyAlike, alike-reordered, alike-both, alike-sent, seen}
+use Rattle.rh_tasks.proofs.Dues.{records_of, edited-records}
 
 -- ---- the task with a handle
 
@@ -61,10 +67,7 @@ module _ {m : Memory} {seats : List Seat} {made : List MadeArea} {files : FileLi
 pub handles-alike : {after : Handled} {d new : Desk} {o : Outcome} → after ≡ (d, o) → IsReordered d new → (o ≡ after.1) × IsReordered after.0 new
 handles-alike {after} {d} {new} {o} e r = (ap (λ (p : Handled). p.1) (sym e), subst (λ x. IsReordered x new) (ap (λ (p : Handled). p.0) (sym e)) r)
 
--- ---- what the next steps see of a task: its handle and its slot
-
-abbrev pub handle_of : Task → ℕ
-handle_of t = t.handle
+-- ---- what the next steps see of a task: its handle and its slot, and its records
 
 abbrev pub pair_of : Task → ℕ × plain.Slot
 pair_of t = (t.handle, t.slot)
@@ -72,26 +75,21 @@ pair_of t = (t.handle, t.slot)
 pub sent-pairs : (l : Letter) (d e new : Desk) → send_letter l d ≡ Ok e → IsReordered e new → KeyAlike pair_of d new
 sent-pairs l d e new q r = alike-both pair_of (alike-sent pair_of l d e (λ t x. refl) q) (alike-reordered pair_of r)
 
-handles-too : {a b : Desk} → KeyAlike pair_of a b → KeyAlike handle_of a b
-handles-too {a} {b} k = record { keys = sym (firsts b.tasks) ∙ ap (map (λ (p : ℕ × plain.Slot). p.0)) k.keys ∙ firsts a.tasks }
-  where
-    firsts : (tasks : List Task) → map (λ (p : ℕ × plain.Slot). p.0) (map pair_of tasks) ≡ map handle_of tasks
-    firsts [] = refl
-    firsts (t ∷ tasks) = ap (λ ks. t.handle ∷ ks) (firsts tasks)
-
-pub portion-seen : {t u : Task} {x : Sending} {amount address n : ℕ} → pair_of u ≡ pair_of t → IsPortion t x amount address n → IsPortion u x amount address n
-portion-seen {t} {u} {x} e p =
+pub portion-seen : {t u : Task} {a : Transmit} {address size : ℕ} {p : Part} → pair_of u ≡ pair_of t → IsPortion t a address size p
+    → IsPortion u a address size p
+portion-seen {t} {u} {a} {address} {size} {p} e b =
     let same : t.slot ≡ u.slot = ap (λ (q : ℕ × plain.Slot). q.1) (sym e) in
     record {
-      source = p.source;
-      block = subst (λ s. slot_block x.anchor s ≡ Ok p.source) same p.block;
-      address_is = p.address_is ∙ ap (λ s. flex_address s p.source.before + x.count) same;
-      length_is = p.length_is;
+      source = b.source;
+      block = subst (λ s. slot_block a.transfer.anchor s ≡ Ok b.source) same b.block;
+      size_is = b.size_is;
+      address_is = b.address_is ∙ ap (λ s. flex_address s b.source.before + p.offset) same;
+      part_is = b.part_is;
     }
 
-block-seen : (t u : Task) {x : Sending} {amount address n : ℕ} → pair_of u ≡ pair_of t → (p : IsPortion t x amount address n)
-    → slot_block x.anchor u.slot ≡ Ok p.source
-block-seen t u {x} e p = subst (λ s. slot_block x.anchor s ≡ Ok p.source) (ap (λ (q : ℕ × plain.Slot). q.1) (sym e)) p.block
+block-seen : (t u : Task) {a : Transmit} {address size : ℕ} {p : Part} → pair_of u ≡ pair_of t → (b : IsPortion t a address size p)
+    → slot_block a.transfer.anchor u.slot ≡ Ok b.source
+block-seen t u {a} e b = subst (λ s. slot_block a.transfer.anchor s ≡ Ok b.source) (ap (λ (q : ℕ × plain.Slot). q.1) (sym e)) b.block
 
 pub reach-seen : (t u r s : Task) (buffer amount address n : ℕ) → pair_of u ≡ pair_of t → pair_of s ≡ pair_of r
     → is_out_of_reach u s buffer amount address n ≡ is_out_of_reach t r buffer amount address n
@@ -100,108 +98,109 @@ reach-seen t u r s buffer amount address n e f =
     λ p q. not (is_some (buffer_at buffer amount q.1)) && (not (holds buffer amount q.1) || (p.0 == q.0 && overlap buffer amount address n)) in
     ap (λ p. F p (pair_of s)) e ∙ ap (F (pair_of t)) f
 
-module _ {d e f : Desk} (k : KeyAlike pair_of d e) (i j : ℕ) {t r : Task} (ti : IsAt i t d) (rj : IsAt j r d) {x : Sending} {amount address n : ℕ}
-    (p : IsPortion t x amount address n) (buffer room : ℕ)
-    (wrote : (t r : Task) (source : Split Flex) → IsAt i t e → IsAt j r e → slot_block x.anchor t.slot ≡ Ok source
-    → f ≡ with_task r.handle (with_written buffer room (take n (drop x.count source.here.bytes))) e) where
+module _ {d e f : Desk} (k : KeyAlike pair_of d e) (i j : ℕ) {t r : Task} (ti : IsAt i t d) (rj : IsAt j r d) {a : Transmit} {address size : ℕ}
+    {p : Part} (b : IsPortion t a address size p) (buffer room : ℕ)
+    (wrote : (t r : Task) (source : Split Flex) → IsAt i t e → IsAt j r e → slot_block a.transfer.anchor t.slot ≡ Ok source
+    → f ≡ with_task r.handle (with_written buffer room (take p.n (drop p.offset source.here.bytes))) e) where
   abbrev edit : Task → Task
-  edit u = with_written buffer room (take n (drop x.count p.source.here.bytes)) u
+  edit u = with_written buffer room (take p.n (drop p.offset b.source.here.bytes)) u
 
   pub wrote-is : f ≡ with_task r.handle edit e
   wrote-is =
-      let a = seen pair_of k i t ti in
-      let b = seen pair_of k j r rj in
-      wrote a.task b.task p.source a.at b.at (block-seen t a.task a.alike p) ∙ ap (λ (q : ℕ × plain.Slot). with_task q.0 edit e) b.alike
+      let x = seen pair_of k i t ti in
+      let y = seen pair_of k j r rj in
+      wrote x.task y.task b.source x.at y.at (block-seen t x.task x.alike b) ∙ ap (λ (q : ℕ × plain.Slot). with_task q.0 edit e) y.alike
 
-  pub wrote-handles : KeyAlike handle_of d f
-  wrote-handles = alike-both handle_of (handles-too k) (subst (KeyAlike handle_of e) (sym wrote-is) (alike-edited handle_of r.handle edit e (λ u. refl)))
+  pub wrote-records : KeyAlike records_of d e → KeyAlike records_of d f
+  wrote-records sent = alike-both records_of sent (edited-records r.handle edit (λ u. refl) wrote-is)
 
 -- ---- a transmit
 
-module _ (d : Desk) (t : Task) (m : Parcel) (buffer amount : ℕ) (x : Sending) where
+module _ (d : Desk) (t : Task) (a : Transmit) where
   abbrev given : Granted Handled
-  given = transmitted d t m buffer amount x
+  given = transmitted d t a
 
-  pub transmit-missing : {e : Refusal} → slot_block x.anchor t.slot ≡ Err e → given ≡ Err e
+  pub transmit-missing : {e : Refusal} → slot_block a.transfer.anchor t.slot ≡ Err e → given ≡ Err e
   transmit-missing q = ends _ q
 
-  module _ {address n : ℕ} (p : IsPortion t x amount address n) where
-    inside : given ≡ transmit d t m buffer amount x p.source
-    inside = begins _ p.block refl
+  module _ {address size : ℕ} {p : Part} (b : IsPortion t a address size p) where
+    -- the transmit is sent, and a part of the source is written
+    abbrev after_sent : Part → ℕ → Task → Desk → Handled
+    after_sent k ref r sent = (
+      with_sending t.handle (sender.sent a k ref)
+          (with_task r.handle (with_written a.buffer a.room (take k.n (drop k.offset b.source.here.bytes))) sent),
+      outcome.Sent k.n ref,
+    )
 
-    pub transmit-nobody : task_at x.recipient d ≡ None → given ≡ Err NoTask
-    unfolding transmit found_or
-    transmit-nobody q = inside ∙ ends _ (ap (λ o. found_or o NoTask) q)
+    -- the definition's steps, by the part
+    abbrev steps : Part → Granted Handled
+    steps k =
+        found_or (task_at a.transfer.recipient d) NoTask >>= λ r.
+        refuse_if (is_out_of_reach t r a.buffer a.room (flex_address t.slot b.source.before + k.offset) k.n) BadRange
+        >> (send_letter (transmit_letter t.handle a k) d >>= λ sent. Ok (after_sent k (next_ref d) r sent))
 
-    module _ (r : Task) (found : task_at x.recipient d ≡ Some r) where
-      there : found_or (task_at x.recipient d) NoTask ≡ Ok r
+    steps-are : given ≡ steps p
+    unfolding transmit
+    steps-are = begins _ b.block (ap (λ k. steps (sender.part a k)) (sym b.size_is) ∙ ap steps (sym b.part_is))
+
+    pub transmit-nobody : task_at a.transfer.recipient d ≡ None → given ≡ Err NoTask
+    unfolding found_or
+    transmit-nobody q = steps-are ∙ ends _ (ap (λ o. found_or o NoTask) q)
+
+    module _ (r : Task) (found : task_at a.transfer.recipient d ≡ Some r) where
+      there : found_or (task_at a.transfer.recipient d) NoTask ≡ Ok r
       unfolding found_or
       there = ap (λ o. found_or o NoTask) found
 
-      out-same : is_out_of_reach t r buffer amount (flex_address t.slot p.source.before + x.count) (portion x amount p.source) ≡ is_out_of_reach t r buffer
-          amount address n
-      out-same = ap (λ a. is_out_of_reach t r buffer amount a (portion x amount p.source)) (sym p.address_is)
-          ∙ ap (λ k. is_out_of_reach t r buffer amount address k) (sym p.length_is)
+      out-same : is_out_of_reach t r a.buffer a.room (flex_address t.slot b.source.before + p.offset) p.n ≡ is_out_of_reach t r a.buffer a.room address p.n
+      out-same = ap (λ k. is_out_of_reach t r a.buffer a.room k p.n) (sym b.address_is)
 
-      pub transmit-far : true ≡ is_out_of_reach t r buffer amount address n → given ≡ Err BadRange
-      unfolding transmit
-      transmit-far q = inside ∙ begins _ there (stops _ BadRange _ (out-same ∙ sym q))
+      pub transmit-far : true ≡ is_out_of_reach t r a.buffer a.room address p.n → given ≡ Err BadRange
+      transmit-far q = steps-are ∙ begins _ there (stops _ BadRange _ (out-same ∙ sym q))
 
-      module _ (near : false ≡ is_out_of_reach t r buffer amount address n) where
-        abbrev letter_of : ℕ → Letter
-        letter_of k = transmit_letter t.handle m (nat_lt k amount) buffer k
+      module _ (near : false ≡ is_out_of_reach t r a.buffer a.room address p.n) where
+        pub transmit-refused : {e : Refusal} → send_letter (transmit_letter t.handle a p) d ≡ Err e → given ≡ Err e
+        transmit-refused q = steps-are ∙ begins _ there (past _ BadRange _ (out-same ∙ sym near) (ends _ q))
 
-        abbrev pub after_sent : ℕ → ℕ → Desk → Handled
-        after_sent k ref sent = (
-          with_sending t.handle (sender.sent x k amount ref) (with_task r.handle (with_written buffer amount (take k (drop x.count p.source.here.bytes))) sent),
-          outcome.Sent k ref,
-        )
+        transmit-done : {sent : Desk} → send_letter (transmit_letter t.handle a p) d ≡ Ok sent → given ≡ Ok (after_sent p (next_ref d) r sent)
+        transmit-done q = steps-are ∙ begins _ there (past _ BadRange _ (out-same ∙ sym near) (begins _ q refl))
 
-        pub transmit-refused : {e : Refusal} → send_letter (letter_of n) d ≡ Err e → given ≡ Err e
-        unfolding transmit
-        transmit-refused q =
-            inside ∙ begins _ there (past _ BadRange _ (out-same ∙ sym near) (ends _ (ap (λ k. send_letter (letter_of k) d) (sym p.length_is) ∙ q)))
-
-        transmit-done : {sent : Desk} → send_letter (letter_of n) d ≡ Ok sent → given ≡ Ok (after_sent n (next_ref d) sent)
-        unfolding transmit
-        transmit-done {sent} q =
-            inside ∙ begins _ there (past _ BadRange _ (out-same ∙ sym near) (begins _ (ap (λ k. send_letter (letter_of k) d) (sym p.length_is) ∙ q)
-            (ap (λ k. let g : Granted Handled = Ok (after_sent k (next_ref d) sent) in g) (sym p.length_is))))
-
-        pub transmit-whole : {ref : ℕ} {sent e f new : Desk} → ref ≡ next_ref d → send_letter (letter_of n) d ≡ Ok sent → IsReordered sent e
-            → f ≡ with_task r.handle (with_written buffer amount (take n (drop x.count p.source.here.bytes))) e
-            → new ≡ with_sending t.handle (sender.sent x n amount ref) f
-            → (y : Desk) × ((given ≡ Ok (y, outcome.Sent n ref)) × IsReordered y new)
+        pub transmit-whole : {ref : ℕ} {sent e f new : Desk} → ref ≡ next_ref d → send_letter (transmit_letter t.handle a p) d ≡ Ok sent
+            → IsReordered sent e
+            → f ≡ with_task r.handle (with_written a.buffer a.room (take p.n (drop p.offset b.source.here.bytes))) e
+            → new ≡ with_sending t.handle (sender.sent a (sender.part a size) ref) f
+            → (y : Desk) × ((given ≡ Ok (y, outcome.Sent p.n ref)) × IsReordered y new)
         transmit-whole {ref} {sent} {e} {f} {new} is q alike wrote recorded =
-            let after = after_sent n ref sent in
-            let edits = edit-alike t.handle (λ u. record u { sending = sender.sent x n amount ref u.sending })
-            (edit-alike r.handle (with_written buffer amount (take n (drop x.count p.source.here.bytes))) alike) in
-            let same = recorded ∙ ap (λ y. with_sending t.handle (sender.sent x n amount ref) y) wrote in (
+            let after = after_sent p ref r sent in
+            let edits = edit-alike t.handle (λ u. record u { sending = sender.sent a p ref u.sending })
+            (edit-alike r.handle (with_written a.buffer a.room (take p.n (drop p.offset b.source.here.bytes))) alike) in
+            let same = recorded ∙ ap (λ k. with_sending t.handle (sender.sent a k ref) f) (sym b.part_is)
+            ∙ ap (λ y. with_sending t.handle (sender.sent a p ref) y) wrote in (
               after.0,
               (
-                transmit-done q ∙ ap (λ k. let g : Granted Handled = Ok (after_sent n k sent) in g) (sym is),
+                transmit-done q ∙ ap (λ k. let g : Granted Handled = Ok (after_sent p k r sent) in g) (sym is),
                 subst (IsReordered after.0) (sym same) edits,
               ),
             )
 
--- ---- the handlers
+-- ---- all was loaded
 
 module _ (d : Desk) (t : Task) (x : Sending) where
-  pub fetch-done : (m : Parcel) (buffer amount : ℕ) {after : Handled} → transmitted d t m buffer amount x ≡ Ok after
-      → answer_fetch d t m buffer amount (Some x) ≡ after
-  unfolding answer_fetch or_else
-  fetch-done m buffer amount e = rw e refl
-
-  pub fetch-refused : (m : Parcel) (buffer amount : ℕ) {r : Refusal} → transmitted d t m buffer amount x ≡ Err r
-      → answer_fetch d t m buffer amount (Some x) ≡ refused d t x r
-  unfolding answer_fetch or_else
-  fetch-refused m buffer amount e = rw e refl
-
   pub load-done : {source : Split Flex} → slot_block x.anchor t.slot ≡ Ok source
-      → finish_load d t (Some x) ≡ (with_sending t.handle (sender.sending_loaded x (length source.here.bytes)) d, outcome.Done)
-  unfolding finish_load or_else ◌>>=◌
-  load-done e = rw e refl
+      → sent_by d t (action.Finish x) ≡ Ok (with_sending t.handle (sender.sending_loaded x (length source.here.bytes)) d, outcome.Done)
+  unfolding send_with
+  load-done e = begins _ e refl
 
-  pub load-refused : {r : Refusal} → slot_block x.anchor t.slot ≡ Err r → finish_load d t (Some x) ≡ refused d t x r
-  unfolding finish_load or_else ◌>>=◌
-  load-refused e = rw e refl
+  pub load-refused : {r : Refusal} → slot_block x.anchor t.slot ≡ Err r → sent_by d t (action.Finish x) ≡ Err r
+  load-refused e = ends _ e
+
+-- ---- an action
+
+module _ (d : Desk) (t : Task) (a : SendAction) where
+  pub action-done : {after : Handled} → sent_by d t a ≡ Ok after → perform_send d t (Some a) ≡ after
+  unfolding perform_send or_else
+  action-done e = rw e refl
+
+  pub action-refused : {r : Refusal} → sent_by d t a ≡ Err r → perform_send d t (Some a) ≡ refused d t (sender.transfer_of a) r
+  unfolding perform_send or_else
+  action-refused e = rw e refl

@@ -1,12 +1,14 @@
 -- Bytes that are written into the slot of the task at a place, and tasks that are edited.
 use Rattle.rh_tasks.proofs.Common.{◌≡◌, ◌⊎◌, inl, inr, ℕ, ◌+◌, ◌-◌, ◌<◌, ◌≤◌, true, false, cond, refl, ap, sym, subst, ◌∙◌, arith, List, [], ◌∷◌, length}
 use Rattle.rh_tasks.proofs.Common.{Some, Ok, Err, is_some, slice_get, map, take, drop, ◌==◌, ◌&&◌, ◌||◌, option_map, get_or, set, cases_eq, length-map}
-use Rattle.rh_tasks.proofs.Common.{slice_get-map, slice_get-get_or, slice_get_within, Letter, Sending, part, Granted, ◌>>=◌, no_answer, FileList, Memory}
+use Rattle.rh_tasks.proofs.Common.{slice_get-map, slice_get-get_or, slice_get_within, Letter, part, Granted, ◌>>=◌, no_answer, FileList, Memory}
 use Rattle.rh_tasks.proofs.Common.{bytes, Split, Flex, slot_block, holds, buffer_at, overlap, Post, post_send, Desk, Task, free_pages}
 use Rattle.rh_tasks.proofs.Common.{edit_task, with_task, with_post, send_letter, IsDesk, IsReordered, is_out_of_reach, length-part, IsSlotIn, slot_in}
 use Rattle.rh_tasks.proofs.Common.{LeavesSlotIn}
 use Rattle.rh_tasks.proofs.Common.{Seat, MadeArea, Kept, HasSlot, slot_area, task_of, desk_of, IsWorld, IsAt, IsPortion, Sits, all-at, set_same, Moves}
 use Rattle.rh_tasks.proofs.Common.{moved-desk, moved-world, mapped-at, mapped-is}
+use Rattle.rh_defs.specs.declared.transfer_action.Transmit.{Transmit}
+use Rattle.rh_defs.specs.declared.transfer_action.Part.{Part}
 use Rattle.rh_defs.specs.Slot as plain
 use Rattle.rh_defs.specs.Places.{written_in}
 use Rattle.rh_defs.proofs.Desks.{with_task-keeps}
@@ -58,51 +60,51 @@ module _ {m n : Memory} {seats : List Seat} {made : List MadeArea} {files : File
 -- ---- a portion that is written into a buffer in reach
 
 module _ {m : Memory} {seats : List Seat} {made : List MadeArea} {files : FileList} {kept : Kept} {i j : ℕ} {a b : Seat}
-    (w : IsWorld m seats made files kept) (at : Sits seats i a) (bt : Sits seats j b) (x : Sending) (amount address n buffer room place : ℕ)
-    (given : (t : Task) → IsAt i t (desk_of m seats made files kept) → IsPortion t x amount address n)
+    (w : IsWorld m seats made files kept) (at : Sits seats i a) (bt : Sits seats j b) (x : Transmit) (p : Part) (address size buffer room place : ℕ)
+    (given : (t : Task) → IsAt i t (desk_of m seats made files kept) → IsPortion t x address size p)
     (near : (t r : Task) → IsAt i t (desk_of m seats made files kept) → IsAt j r (desk_of m seats made files kept)
-    → is_out_of_reach t r buffer room address n ≡ false)
-    (fits : n ≤ room) (none : n ≡ 0 → place ≡ 0) (some : 0 < n → place ≡ address - 32768) where
-  the-portion : IsPortion (task_of m a) x amount address n
+    → is_out_of_reach t r buffer room address p.n ≡ false)
+    (fits : p.n ≤ room) (none : p.n ≡ 0 → place ≡ 0) (some : 0 < p.n → place ≡ address - 32768) where
+  the-portion : IsPortion (task_of m a) x address size p
   the-portion = given (task_of m a) (mapped-at (task_of m) seats i a at)
 
-  ported : Portioned m a.slot x.anchor x.count n place the-portion.source
+  ported : Portioned m a.slot x.transfer.anchor p.offset p.n place the-portion.source
   unfolding task_of
   ported = portioned m a.slot the-portion refl place none some
 
   has : IsSlotIn m a.slot
   has = all-at (HasSlot m) seats i a w.areas.slots at
 
-  reached : is_out_of_reach (task_of m a) (task_of m b) buffer room address n ≡ false
+  reached : is_out_of_reach (task_of m a) (task_of m b) buffer room address p.n ≡ false
   reached = near (task_of m a) (task_of m b) (mapped-at (task_of m) seats i a at) (mapped-at (task_of m) seats j b bt)
 
-  pub from-inside : place + n ≤ length (bytes m a.slot.area.0)
+  pub from-inside : place + p.n ≤ length (bytes m a.slot.area.0)
   from-inside = portion-inside has ported
 
   pub to-reach : (is_some (buffer_at buffer room (slot_in m b.slot)) || holds buffer room (slot_in m b.slot)) ≡ true
   unfolding task_of
   to-reach =
       in-reach (is_some (buffer_at buffer room (slot_in m b.slot))) (holds buffer room (slot_in m b.slot))
-      (a.handle == b.handle && overlap buffer room address n) reached
+      (a.handle == b.handle && overlap buffer room address p.n) reached
 
-  own-apart : i ≡ j → (place + n ≤ buffer - 32768) ⊎ (buffer - 32768 + n ≤ place)
+  own-apart : i ≡ j → (place + p.n ≤ buffer - 32768) ⊎ (buffer - 32768 + p.n ≤ place)
   unfolding task_of
   own-apart e =
       let P : ℕ → Type 0 = λ k. get_or seats k b ≡ b in
       let one : a ≡ b = one-member seats i a b at (subst P (sym e) bt.is) in
-      let Q : Seat → Type 0 = λ y. is_out_of_reach (task_of m a) (task_of m y) buffer room address n ≡ false in
-      let R : ℕ → Type 0 = λ k. is_out_of_reach (task_of m a) (task_of m a) buffer room k n ≡ false in
+      let Q : Seat → Type 0 = λ y. is_out_of_reach (task_of m a) (task_of m y) buffer room address p.n ≡ false in
+      let R : ℕ → Type 0 = λ k. is_out_of_reach (task_of m a) (task_of m a) buffer room k p.n ≡ false in
       ranges-apart has ported buffer room fits (a.handle == a.handle) (test-same a.handle a.handle refl)
       (subst R the-portion.address_is (subst Q (sym one) reached))
 
-  pub from-apart : a.slot.area.0 ≡ b.slot.area.0 → (place + n ≤ buffer - 32768) ⊎ (buffer - 32768 + n ≤ place)
+  pub from-apart : a.slot.area.0 ≡ b.slot.area.0 → (place + p.n ≤ buffer - 32768) ⊎ (buffer - 32768 + p.n ≤ place)
   from-apart q = elim (cases_eq i j) [ inl e ↦ own-apart e | inr ne ↦ absurd (apart-at slot_area seats i j a b w.areas.slots_apart at bt ne q) ]
 
   abbrev written : List ℕ
-  written = part (bytes m a.slot.area.0) place n
+  written = part (bytes m a.slot.area.0) place p.n
 
   few : length written ≤ room
-  few = omega (arith, length-part (bytes m a.slot.area.0) place n, fits)
+  few = omega (arith, length-part (bytes m a.slot.area.0) place p.n, fits)
 
   module _ {o : Memory} (l : LeavesSlotIn m o b.slot (no_answer (Ok (written_in buffer written (buffer_at buffer room (slot_in m b.slot)) (slot_in m b.slot))))
       (Ok tt)) where
@@ -110,17 +112,17 @@ module _ {m : Memory} {seats : List Seat} {made : List MadeArea} {files : FileLi
     wrote-world = written-world w bt buffer room written few l
 
     pub wrote-desk : (t r : Task) (source : Split Flex) → IsAt i t (desk_of m seats made files kept) → IsAt j r (desk_of m seats made files kept)
-        → slot_block x.anchor t.slot ≡ Ok source
-        → desk_of o seats made files kept ≡ with_task r.handle (with_written buffer room (take n (drop x.count source.here.bytes)))
+        → slot_block x.transfer.anchor t.slot ≡ Ok source
+        → desk_of o seats made files kept ≡ with_task r.handle (with_written buffer room (take p.n (drop p.offset source.here.bytes)))
         (desk_of m seats made files kept)
     unfolding task_of
     wrote-desk t r source ti rj e =
-        let P : Task → Type 0 = λ u. slot_block x.anchor u.slot ≡ Ok the-portion.source in
-        let there : slot_block x.anchor t.slot ≡ Ok the-portion.source = subst P (mapped-is (task_of m) seats i a t at ti) the-portion.block in
+        let P : Task → Type 0 = λ u. slot_block x.transfer.anchor u.slot ≡ Ok the-portion.source in
+        let there : slot_block x.transfer.anchor t.slot ≡ Ok the-portion.source = subst P (mapped-is (task_of m) seats i a t at ti) the-portion.block in
         let one : source ≡ the-portion.source = (let both = sym e ∙ there in cc) in
         let own : b.handle ≡ r.handle = ap (λ (u : Task). u.handle) (mapped-is (task_of m) seats j b r bt rj) in
-        written-as w bt buffer room written few l r.handle (take n (drop x.count source.here.bytes)) own
-        (portion-bytes has ported ∙ ap (λ (c : Split Flex). take n (drop x.count c.here.bytes)) (sym one))
+        written-as w bt buffer room written few l r.handle (take p.n (drop p.offset source.here.bytes)) own
+        (portion-bytes has ported ∙ ap (λ (c : Split Flex). take p.n (drop p.offset c.here.bytes)) (sym one))
 
 -- ---- tasks that are edited
 

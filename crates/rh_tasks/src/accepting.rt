@@ -1,27 +1,26 @@
 //! DataSaves that are taken: a buffer, an empty document and a fetch, whole or not at all.
 
-ghost use Rattle.std.specs.Prelude.{◌≡◌, ◌<◌, ℕ, false, length, Ok, IsErr, is_ok};
+ghost use Rattle.std.specs.Prelude.{◌≡◌, ◌<◌, ℕ, length, Ok, IsErr, is_ok};
 ghost use Rattle.std.specs.Option.{MatchOption};
 ghost use Rattle.rh_defs.specs.Desk.{Desk, Task, free_pages};
 ghost use Rattle.rh_defs.specs.declared.reply.Outcome.TheVariants as outcome;
-ghost use Rattle.rh_defs.specs.IncomingEvents.{accept as accept_on, is_deaf as is_deaf_on, take_save as take_save_on};
-ghost use Rattle.rh_defs.specs.Messages.{Parcel};
+ghost use Rattle.rh_defs.specs.declared.transfer_action.TakeAction.TheVariants as take_action;
+ghost use Rattle.rh_defs.specs.IncomingEvents.{accept as accept_on, is_deaf as is_deaf_on, take_with};
 ghost use Rattle.rh_defs.specs.Order.{IsReordered};
-ghost use Rattle.rh_defs.specs.Records.{is_going, is_full as is_full_of};
 ghost use Rattle.rh_defs.specs.Slot.{anchor_count, slot_claim};
 ghost use Rattle.rh_tasks.specs.WorldPolls.{Becomes};
-ghost use Rattle.rh_tasks.specs.Inner.PollSteps.{IsAt, IsFor, IsFreeAnchor, Claims, Handles, with_document};
+ghost use Rattle.rh_tasks.specs.Inner.PollSteps.{IsAt, CanTake, IsFreeAnchor, Claims, Handles, with_document};
 
-use crate::letters::fetch_letter;
 use crate::module_area::MODULE;
 use crate::named_files::NamedFiles;
 use crate::world::World;
-use rh_defs::{Anchor, Manner, Message, Outcome, Ref, Refusal, Taking};
+use rh_defs::{Anchor, Claim, Manner, Outcome, Ref, Refusal};
+use rh_ram::{fetch_letter, first_fetch};
 use rh_slot::free_anchor;
 use rh_store::Store;
 
 /// Whether a task in this manner takes no DataSave.
-fn is_deaf(manner: Manner) -> bool
+pub(crate) fn is_deaf(manner: Manner) -> bool
     ensures { result ≡ is_deaf_on manner }
 {
     match manner {
@@ -57,13 +56,13 @@ impl<S: Store, F: NamedFiles> World<S, F> {
     }
 
     /// Whether a buffer, an empty document and the fetch are all granted, where an anchor is free.
-    fn has_room(&self, i: usize, message: &Message) -> bool
+    fn has_room(&self, i: usize, a: &Claim) -> bool
         requires { i < length self.now.desk.tasks }
-        ensures { (t : Task) (m : Parcel) (k : ℕ) → IsFor i t self.now.desk m message.now → IsFreeAnchor k t.slot
-            → result ≡ is_ok (accept_on self.now.desk t m) }
+        ensures { (t : Task) (k : ℕ) → IsAt i t self.now.desk → IsFreeAnchor k t.slot
+            → result ≡ is_ok (accept_on self.now.desk t a.now) }
     {
         let seat = &self.seats[i];
-        let letter = fetch_letter(seat.handle, message.from, message.my_ref, 0, seat.buffer);
+        let letter = fetch_letter(seat.handle, &first_fetch(a, 0, seat.buffer));
         let Ok(pages) = seat.slot.take_pages(&self.store, seat.buffer) else {
             return false;
         };
@@ -76,48 +75,37 @@ impl<S: Store, F: NamedFiles> World<S, F> {
 
     /// A buffer, an empty document and a fetch for a DataSave. None, and nothing changed, where one of them isn't
     /// granted.
-    fn accept(&mut self, i: usize, message: &Message) -> Option<Ref>
+    fn accept(&mut self, i: usize, a: &Claim) -> Option<Ref>
         requires place { i < length self.old.desk.tasks }
-        requires room { (t : Task) → IsAt i t self.old.desk → is_full_of is_going t.taking ≡ false }
-        ensures { (t : Task) (m : Parcel) → IsFor i t self.old.desk m message.now
+        requires due { CanTake i (take_action.Claim a.now) self.old.desk }
+        ensures { (t : Task) → IsAt i t self.old.desk
             → MatchOption result
-            (IsErr (accept_on self.old.desk t m) × (self.new ≡ self.old))
+            (IsErr (accept_on self.old.desk t a.now) × (self.new ≡ self.old))
             (λ fetch. (d : Desk)
-            × ((accept_on self.old.desk t m ≡ Ok (d, outcome.Fetch fetch)) × IsReordered d self.new.desk)) }
+            × ((accept_on self.old.desk t a.now ≡ Ok (d, outcome.Fetch fetch)) × IsReordered d self.new.desk)) }
     {
         let seat = &self.seats[i];
         let (handle, room) = (seat.handle, seat.buffer);
         let anchor = free_anchor(&self.store, seat.slot)?;
-        if !self.has_room(i, message) {
+        if !self.has_room(i, a) {
             return None;
         }
         let buffer = self.claim_buffer(i, room).unwrap();
         self.alloc_document(i, anchor).unwrap();
-        let letter = fetch_letter(handle, message.from, message.my_ref, buffer, room);
+        let letter = fetch_letter(handle, &first_fetch(a, buffer, room));
         let fetch = self.send_from(i, letter).unwrap();
-        let taking = Taking {
-            id: message.my_ref,
-            sender: message.from,
-            anchor,
-            buffer,
-            count: 0,
-            fetch,
-        };
-        self.record_fetching(i, taking);
+        self.record_fetching(i, a, anchor, buffer, fetch);
         Some(fetch)
     }
 
-    /// What a DataSave does.
-    pub(crate) fn take_save(&mut self, i: usize, message: &Message) -> Outcome
-        requires { i < length self.old.desk.tasks }
-        ensures { (t : Task) (m : Parcel) → IsFor i t self.old.desk m message.now
-            → Handles (take_save_on self.old.desk t m) self.new result }
+    /// Takes a DataSave, where all is granted.
+    pub(crate) fn take_offer(&mut self, i: usize, a: &Claim) -> Outcome
+        requires place { i < length self.old.desk.tasks }
+        requires due { CanTake i (take_action.Claim a.now) self.old.desk }
+        ensures { (t : Task) → IsAt i t self.old.desk
+            → Handles (take_with self.old.desk t (take_action.Claim a.now)) self.new result }
     {
-        let seat = &self.seats[i];
-        if !seat.taking.on_save(is_deaf(seat.manner)) {
-            return Outcome::Ignored;
-        }
-        match self.accept(i, message) {
+        match self.accept(i, a) {
             Some(fetch) => Outcome::Fetch(fetch),
             None => Outcome::Ignored,
         }

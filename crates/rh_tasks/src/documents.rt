@@ -1,27 +1,28 @@
 //! Documents that grow by what comes in, and the buffers through which it comes.
 
-ghost use Rattle.std.specs.Prelude.{◌≡◌, ◌≤◌, ◌<◌, ◌+◌, ◌^◌, length, Some};
-ghost use Rattle.rh_defs.specs.declared.transfer.Incoming.TheVariants as incoming;
+ghost use Rattle.std.specs.Prelude.{◌≡◌, ◌≤◌, ◌<◌, ◌+◌, true, length, IfSome};
+ghost use Rattle.rh_defs.specs.declared.transfer_action.Next.TheVariants as next;
+ghost use Rattle.rh_defs.specs.declared.transfer_action.TakeAction.TheVariants as take_action;
 ghost use Rattle.rh_defs.specs.Chain.{no_answer};
 ghost use Rattle.rh_defs.specs.Desk.{Task, with_task};
-ghost use Rattle.rh_defs.specs.IncomingEvents.{appended, without_buffer, end_failed as end_failed_on, taking_ended, fetch_more as fetch_more_on, took as took_on, take_bytes as take_bytes_on, ask as ask_on, fetch_back as fetch_back_on, ack_back as ack_back_on};
+ghost use Rattle.rh_defs.specs.IncomingEvents.{appended, without_buffer, taking_ended, fetch_more as fetch_more_on, took as took_on, append as append_on, told as told_of, ask as ask_on, take_with, perform_take as perform_take_on, ack_back as ack_back_on};
 ghost use Rattle.rh_defs.specs.Memory.{Memory, IsOpen, bytes};
 ghost use Rattle.rh_defs.specs.Bytes.{part};
-ghost use Rattle.rh_defs.specs.Messages.{Parcel};
 ghost use Rattle.rh_defs.specs.Places.{first_bytes};
 ghost use Rattle.rh_defs.specs.Receiver as receiver;
 ghost use Rattle.rh_defs.specs.Slot.{slot_size, heap_block_at};
+ghost use Rattle.rh_ram.specs.Told.{can_keep, after_failure};
 ghost use Rattle.rh_slot.specs.SlotArea.{IsSlotIn, slot_in};
 ghost use Rattle.rh_slot.specs.SlotCalls.{LeavesSlotIn};
 ghost use Rattle.rh_slot.specs.Flex.{slot_append};
 ghost use Rattle.rh_tasks.specs.WorldPolls.{Becomes, AreFirst};
-ghost use Rattle.rh_tasks.specs.Inner.PollSteps.{IsAt, IsFor, Attempts, Handles};
+ghost use Rattle.rh_tasks.specs.Inner.PollSteps.{IsAt, CanTake, Attempts, Handles};
 
-use crate::letters::{ack_letter, fetch_letter};
 use crate::named_files::NamedFiles;
 use crate::world::World;
 use rh_defs::sizes::{ANCHORS, SLOT_START};
-use rh_defs::{Anchor, Asked, Incoming, Message, Outcome, Refusal, Taking};
+use rh_defs::{Anchor, Append, Ending, Fetch, Next, Outcome, Ref, Refusal, TakeAction, Taking};
+use rh_ram::{ack_letter, fetch_letter};
 use rh_slot::{Slot, append_from};
 use rh_store::{AreaId, Store, Words};
 
@@ -106,160 +107,145 @@ impl<S: Store, F: NamedFiles> World<S, F> {
         slot.release(&mut self.store, buffer as usize).ok();
     }
 
-    /// A transfer fails with so many bytes, and its buffer goes.
-    fn end_failed(&mut self, i: usize, f: &Taking, count: u32)
-        requires { i < length self.old.desk.tasks }
-        ensures { (t : Task) → IsAt i t self.old.desk → self.new.desk ≡ end_failed_on t.handle f.now count self.old.desk }
+    /// An action of a transfer fails, with so many of its bytes in the document, and the transfer's buffer goes.
+    fn end_failed(&mut self, i: usize, f: &Taking, action: &TakeAction, kept: u32)
+        requires place { i < length self.old.desk.tasks }
+        requires due { CanTake i action.now self.old.desk }
+        requires kept { can_keep action.now kept ≡ true }
+        ensures { (t : Task) → IsAt i t self.old.desk
+            → self.new.desk ≡ taking_ended t.handle f.now (after_failure action.now kept) self.old.desk }
     {
         self.drop_buffer(i, f.buffer);
-        self.record_failed_in(i, f, count);
+        self.record_failed_in(i, action, kept);
     }
 
     /// Asks for the next bytes of a transfer: NoTask, NoRefs, QueueFull, NoRoom.
-    fn fetch_more(
-        &mut self,
-        i: usize,
-        message: &Message,
-        f: &Taking,
-        n: u32,
-    ) -> Result<Outcome, Refusal>
+    fn fetch_more(&mut self, i: usize, a: &Append, fetch: &Fetch) -> Result<Outcome, Refusal>
         requires place { i < length self.old.desk.tasks }
-        requires word { f.now.count + n < 2 ^ 32 }
-        ensures { (t : Task) (m : Parcel) → IsFor i t self.old.desk m message.now
-            → Attempts (fetch_more_on self.old.desk t m f.now n) self.old self.new result }
+        requires due { CanTake i (take_action.Append a.now) self.old.desk }
+        requires next { a.now.next ≡ next.Fetch fetch.now }
+        ensures { (t : Task) → IsAt i t self.old.desk
+            → Attempts (fetch_more_on self.old.desk t a.now fetch.now) self.old self.new result }
     {
         let seat = &self.seats[i];
-        let letter = fetch_letter(seat.handle, f.sender, message.my_ref, f.buffer, seat.buffer);
+        let letter = fetch_letter(seat.handle, fetch);
         let fetch = self.send_from(i, letter)?;
-        self.record_fetched(i, f, n, fetch);
-        Ok(Outcome::TookFull { count: n, fetch })
+        self.record_fetched(i, a, fetch);
+        Ok(Outcome::TookFull { count: a.n, fetch })
     }
 
-    /// The n bytes that came are in the document: fewer than the buffer has were the last.
-    fn took(&mut self, i: usize, message: &Message, f: &Taking, n: u32) -> Outcome
+    /// What follows on bytes that are in the document.
+    fn took(&mut self, i: usize, a: &Append) -> Outcome
         requires place { i < length self.old.desk.tasks }
-        requires word { f.now.count + n < 2 ^ 32 }
-        ensures { (t : Task) (m : Parcel) → IsFor i t self.old.desk m message.now
-            → Handles (took_on self.old.desk t m f.now n) self.new result }
+        requires due { CanTake i (take_action.Append a.now) self.old.desk }
+        ensures { (t : Task) → IsAt i t self.old.desk → Handles (took_on self.old.desk t a.now a.now.next) self.new result }
     {
-        let seat = &self.seats[i];
-        if n < seat.buffer {
-            self.drop_buffer(i, f.buffer);
-            self.record_finished(i, f, n);
-            return Outcome::TookLast { count: n };
-        }
-        match self.fetch_more(i, message, f, n) {
-            Ok(outcome) => outcome,
-            Err(refusal) => {
-                self.end_failed(i, f, f.count + n);
-                Outcome::TookFailed { count: n, refusal }
+        match &a.next {
+            Next::Finish => {
+                self.drop_buffer(i, a.transfer.buffer);
+                self.record_finished(i, a);
+                Outcome::TookLast { count: a.n }
             }
+            Next::Fetch(fetch) => match self.fetch_more(i, a, fetch) {
+                Ok(outcome) => outcome,
+                Err(refusal) => {
+                    self.end_failed(i, &a.transfer, &TakeAction::Append(*a), a.n);
+                    Outcome::TookFailed {
+                        count: a.n,
+                        refusal,
+                    }
+                }
+            },
         }
     }
 
-    /// A RAMTransmit of n bytes for a transfer that fetches.
-    fn take_more(&mut self, i: usize, message: &Message, n: u32, f: &Taking) -> Outcome
-        requires { i < length self.old.desk.tasks }
-        ensures { (t : Task) (m : Parcel) → IsFor i t self.old.desk m message.now
-            → Handles (take_bytes_on self.old.desk t m n (Some (incoming.Fetching f.now))) self.new result }
+    /// The buffer's first bytes go to the document's end.
+    fn take_more(&mut self, i: usize, a: &Append) -> Outcome
+        requires place { i < length self.old.desk.tasks }
+        requires due { CanTake i (take_action.Append a.now) self.old.desk }
+        ensures { (t : Task) → IsAt i t self.old.desk → Handles (append_on self.old.desk t a.now) self.new result }
     {
-        let given = match f.count.checked_add(n) {
-            Some(_) => self.append_buffer(i, f.anchor, f.buffer, n),
-            None => Err(Refusal::NoRoom),
-        };
-        match given {
-            Ok(()) => self.took(i, message, f, n),
+        match self.append_buffer(i, a.transfer.anchor, a.transfer.buffer, a.n) {
+            Ok(()) => self.took(i, a),
             Err(refusal) => {
-                self.end_failed(i, f, f.count);
+                self.end_failed(i, &a.transfer, &TakeAction::Append(*a), 0);
                 Outcome::Refused(refusal)
             }
         }
     }
 
-    /// What a RAMTransmit of n bytes does to the record that it is for.
-    pub(crate) fn take_bytes(
-        &mut self,
-        i: usize,
-        message: &Message,
-        n: u32,
-        entry: Option<Incoming>,
-    ) -> Outcome
-        requires { i < length self.old.desk.tasks }
-        ensures { (t : Task) (m : Parcel) → IsFor i t self.old.desk m message.now
-            → Handles (take_bytes_on self.old.desk t m n entry) self.new result }
-    {
-        match entry {
-            Some(Incoming::Fetching(f)) => self.take_more(i, message, n, &f),
-            Some(Incoming::Draining(f)) => {
-                self.end_failed(i, &f, f.count);
-                Outcome::Drained
-            }
-            Some(Incoming::Asking(_)) => Outcome::Ignored,
-            Some(Incoming::Done { .. }) => Outcome::Ignored,
-            Some(Incoming::Failed { .. }) => Outcome::Ignored,
-            None => Outcome::Ignored,
-        }
-    }
-
     /// Asks the sender for a file, and the buffer goes: NoTask, NoRefs, QueueFull, NoRoom.
     fn ask(&mut self, i: usize, f: &Taking) -> Result<Outcome, Refusal>
-        requires { i < length self.old.desk.tasks }
+        requires place { i < length self.old.desk.tasks }
+        requires due { CanTake i (take_action.AskForFile f.now) self.old.desk }
         ensures { (t : Task) → IsAt i t self.old.desk → Attempts (ask_on self.old.desk t f.now) self.old self.new result }
     {
         let seat = &self.seats[i];
-        let letter = ack_letter(seat.handle, f.sender, f.id);
+        let letter = ack_letter(seat.handle, f);
         let ack = self.send_from(i, letter)?;
         self.drop_buffer(i, f.buffer);
         self.record_asking(i, f, ack);
         Ok(Outcome::Asked(ack))
     }
 
-    /// The fetch of a transfer came back: where it was the first one, a file is asked for.
-    fn fetch_failed(&mut self, i: usize, f: &Taking) -> Outcome
-        requires { i < length self.old.desk.tasks }
+    /// Asks the sender for a file; where that is refused the transfer fails.
+    fn ask_for_file(&mut self, i: usize, f: &Taking) -> Outcome
+        requires place { i < length self.old.desk.tasks }
+        requires due { CanTake i (take_action.AskForFile f.now) self.old.desk }
         ensures { (t : Task) → IsAt i t self.old.desk
-            → Handles (fetch_back_on self.old.desk t (Some (incoming.Fetching f.now))) self.new result }
+            → Handles (take_with self.old.desk t (take_action.AskForFile f.now)) self.new result }
     {
-        if f.count != 0 {
-            self.end_failed(i, f, f.count);
-            return Outcome::Failed;
-        }
         match self.ask(i, f) {
             Ok(outcome) => outcome,
             Err(refusal) => {
-                self.end_failed(i, f, f.count);
+                self.end_failed(i, f, &TakeAction::AskForFile(*f), 0);
                 Outcome::Refused(refusal)
             }
         }
     }
 
-    /// What a RAMFetch that came back does to its record.
-    pub(crate) fn fetch_back(&mut self, i: usize, entry: Option<Incoming>) -> Outcome
-        requires { i < length self.old.desk.tasks }
-        ensures { (t : Task) → IsAt i t self.old.desk → Handles (fetch_back_on self.old.desk t entry) self.new result }
+    /// What a task that receives has to do, if anything.
+    pub(crate) fn perform_take(&mut self, i: usize, action: Option<TakeAction>) -> Outcome
+        requires place { i < length self.old.desk.tasks }
+        requires due { IfSome action (λ a. CanTake i a self.old.desk) }
+        ensures { (t : Task) → IsAt i t self.old.desk → Handles (perform_take_on self.old.desk t action) self.new result }
     {
-        match entry {
-            Some(Incoming::Fetching(f)) => self.fetch_failed(i, &f),
-            Some(Incoming::Draining(f)) => {
-                self.end_failed(i, &f, f.count);
-                Outcome::Drained
+        let Some(action) = action else {
+            return Outcome::Ignored;
+        };
+        match &action {
+            TakeAction::Claim(a) => self.take_offer(i, a),
+            TakeAction::Append(a) => self.take_more(i, a),
+            TakeAction::AskForFile(f) => self.ask_for_file(i, f),
+            TakeAction::LoadFile(a) => self.load_file(i, a),
+            TakeAction::Release(a) => {
+                self.end_failed(i, &a.transfer, &action, 0);
+                told(a.ending)
             }
-            Some(Incoming::Asking(_)) => Outcome::Ignored,
-            Some(Incoming::Done { .. }) => Outcome::Ignored,
-            Some(Incoming::Failed { .. }) => Outcome::Ignored,
-            None => Outcome::Ignored,
         }
     }
 
     /// What a DataSaveAck that came back does to its record.
-    pub(crate) fn ack_back(&mut self, i: usize, q: Option<Asked>) -> Outcome
+    pub(crate) fn ack_back(&mut self, i: usize, ack: Ref) -> Outcome
         requires { i < length self.old.desk.tasks }
-        ensures { (t : Task) → IsAt i t self.old.desk → Handles (ack_back_on self.old.desk t q) self.new result }
+        ensures { (t : Task) → IsAt i t self.old.desk
+            → Handles (ack_back_on self.old.desk t (receiver.on_ack_bounce ack t.taking)) self.new result }
     {
-        let Some(q) = q else {
-            return Outcome::Ignored;
-        };
-        self.record_abandoned(i, &q, 0);
-        Outcome::Failed
+        let seat = &mut self.seats[i];
+        if seat.taking.on_ack_bounce(ack) {
+            return Outcome::Failed;
+        }
+        Outcome::Ignored
+    }
+}
+
+/// What is told of a transfer that ends early.
+fn told(ending: Ending) -> Outcome
+    ensures { result ≡ told_of ending }
+{
+    match ending {
+        Ending::Drained => Outcome::Drained,
+        Ending::Unanswered => Outcome::Failed,
+        Ending::Uncountable => Outcome::Refused(Refusal::NoRoom),
     }
 }

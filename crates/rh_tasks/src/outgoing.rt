@@ -1,30 +1,32 @@
 //! What a message does to a transfer that goes out.
 
-ghost use Rattle.std.specs.Prelude.{◌≡◌, ◌<◌, ◌≤◌, ◌+◌, ◌^◌, ◌==◌, ◌-◌, min, false, length, take, drop, Ok, Err, IfOk, IfErr};
+ghost use Rattle.std.specs.Prelude.{◌≡◌, ◌<◌, ◌≤◌, ◌+◌, ◌^◌, ◌==◌, ◌-◌, false, length, take, drop, Ok, Err, IfOk, IfErr, IfSome};
 ghost use Rattle.std.specs.List.{position};
 ghost use Rattle.rh_defs.specs.Desk.{Task, with_task};
-ghost use Rattle.rh_defs.specs.Messages.{Parcel};
-ghost use Rattle.rh_defs.specs.OutgoingEvents.{is_out_of_reach as is_out_of_reach_on, refused as refused_on, answer_fetch as answer_fetch_on, fail_sending as fail_sending_on, finish_load as finish_load_on};
+ghost use Rattle.rh_defs.specs.declared.transfer_action.SendAction.TheVariants as send_action;
+ghost use Rattle.rh_defs.specs.OutgoingEvents.{is_out_of_reach as is_out_of_reach_on, fail_sending as fail_sending_on, perform_send as perform_send_on};
+ghost use Rattle.rh_defs.specs.Sender as sender;
 ghost use Rattle.rh_defs.specs.Pieces.{Split};
 ghost use Rattle.rh_defs.specs.Places.{overlap, written_in, buffer_at};
 ghost use Rattle.rh_defs.specs.Slot.{Flex, slot_block};
-ghost use Rattle.rh_tasks.specs.Inner.PollSteps.{IsAt, IsFor, IsPortion, Attempts, Handles, transmitted};
+ghost use Rattle.rh_tasks.specs.Inner.PollSteps.{IsAt, CanSend, IsPortion, Attempts, Handles, transmitted, sent_by};
 
 use crate::documents::document_size;
-use crate::letters::transmit_letter;
 use crate::named_files::NamedFiles;
 use crate::seat::{Seat, Seats};
 use crate::world::World;
 use rh_defs::sizes::SLOT_START;
-use rh_defs::{Handle, Message, Outcome, Refusal, Sending};
+use rh_defs::{Handle, Outcome, Part, Ref, Refusal, SendAction, Sending, Transmit};
+use rh_ram::{part, transmit_letter};
 use rh_slot::write_from;
 use rh_store::Store;
 
-/// The bytes of a source that go out: their address in its slot, and how many they are.
+/// The bytes of a source that go out: their address in its slot, its size, and which they are.
 #[derive(Clone, Copy, Debug, PartialEq, Eq)]
 struct Portion {
     address: usize,
-    length: u32,
+    size: u32,
+    part: Part,
 }
 
 /// A fetch's buffer: its task's place, its address, and how many bytes were asked for.
@@ -51,14 +53,6 @@ pub fn do_overlap(x: usize, n: usize, y: usize, m: usize) -> bool
     0 < n && 0 < m && x < y + m && y < x + n
 }
 
-/// How many of an amount of bytes a source of a size still has, of which some went out.
-fn bytes_left(size: u32, count: u32, amount: u32) -> u32
-    ensures least { result ≡ min amount (size - count) }
-    ensures word { count + result < 2 ^ 32 }
-{
-    amount.min(size.saturating_sub(count))
-}
-
 /// The address of a source's next byte.
 fn next_address(start: usize, count: u32) -> usize
     requires { start < 2 ^ 32 }
@@ -70,31 +64,34 @@ fn next_address(start: usize, count: u32) -> usize
 
 /// Where the bytes of a portion stand in their slot's area; 0 where there are none.
 fn place_of(portion: Portion) -> usize
-    ensures none { portion.length ≡ 0 → result ≡ 0 }
-    ensures some { 0 < portion.length → result ≡ portion.address - SLOT_START }
+    ensures none { portion.part.n ≡ 0 → result ≡ 0 }
+    ensures some { 0 < portion.part.n → result ≡ portion.address - SLOT_START }
 {
-    if portion.length == 0 {
+    if portion.part.n == 0 {
         return 0;
     }
     portion.address.saturating_sub(SLOT_START)
 }
 
 impl<S: Store, F: NamedFiles> World<S, F> {
-    /// The bytes for a fetch of an amount: NoBlock.
-    fn portion(&self, i: usize, x: &Sending, amount: u32) -> Result<Portion, Refusal>
+    /// The part of its source that an action sends: NoBlock.
+    fn portion(&self, i: usize, a: &Transmit) -> Result<Portion, Refusal>
         requires { i < length self.now.desk.tasks }
-        ensures ok { IfOk result (λ p. (t : Task) → IsAt i t self.now.desk → IsPortion t x.now amount p.address p.length) }
-        ensures err { IfErr result (λ e. (t : Task) → IsAt i t self.now.desk → slot_block x.now.anchor t.slot ≡ Err e) }
-        ensures most { IfOk result (λ p. p.length ≤ amount) }
+        ensures ok { IfOk result (λ p. (t : Task) → IsAt i t self.now.desk → IsPortion t a.now p.address p.size p.part) }
+        ensures err { IfErr result (λ e. (t : Task) → IsAt i t self.now.desk → slot_block a.now.transfer.anchor t.slot ≡ Err e) }
+        ensures most { IfOk result (λ p. p.part.n ≤ a.now.room) }
         ensures low { IfOk result (λ p. p.address < 2 ^ 33) }
-        ensures word { IfOk result (λ p. x.now.count + p.length < 2 ^ 32) }
     {
         let seat = &self.seats[i];
-        let size = document_size(&self.store, seat.slot, x.anchor)?;
-        let start = seat.slot.address(&self.store, x.anchor).unwrap();
-        let address = next_address(start, x.count);
-        let length = bytes_left(size, x.count, amount);
-        Ok(Portion { address, length })
+        let size = document_size(&self.store, seat.slot, a.transfer.anchor)?;
+        let start = seat.slot.address(&self.store, a.transfer.anchor).unwrap();
+        let part = part(a, size);
+        let address = next_address(start, part.offset);
+        Ok(Portion {
+            address,
+            size,
+            part,
+        })
     }
 
     /// Whether the fetch's range isn't one of the recipient's to write the bytes of a portion into.
@@ -103,7 +100,7 @@ impl<S: Store, F: NamedFiles> World<S, F> {
         requires target { target.seat < length self.now.desk.tasks }
         requires low { portion.address < 2 ^ 33 }
         ensures { (t r : Task) → IsAt i t self.now.desk → IsAt target.seat r self.now.desk
-            → result ≡ is_out_of_reach_on t r target.address target.room portion.address portion.length }
+            → result ≡ is_out_of_reach_on t r target.address target.room portion.address portion.part.n }
     {
         let seat = &self.seats[target.seat];
         let address = target.address as usize;
@@ -116,32 +113,25 @@ impl<S: Store, F: NamedFiles> World<S, F> {
         if !seat.slot.inside(&self.store, address, room) {
             return true;
         }
-        i == target.seat && do_overlap(address, room, portion.address, portion.length as usize)
+        i == target.seat && do_overlap(address, room, portion.address, portion.part.n as usize)
     }
 
     /// Writes the bytes of a portion into a fetch's buffer that is in reach.
-    fn write_portion(
-        &mut self,
-        i: usize,
-        x: &Sending,
-        amount: u32,
-        target: Target,
-        portion: Portion,
-    )
+    fn write_portion(&mut self, i: usize, a: &Transmit, target: Target, portion: Portion)
         requires source { i < length self.old.desk.tasks }
         requires target { target.seat < length self.old.desk.tasks }
-        requires portion { (t : Task) → IsAt i t self.old.desk → IsPortion t x.now amount portion.address portion.length }
+        requires portion { (t : Task) → IsAt i t self.old.desk → IsPortion t a.now portion.address portion.size portion.part }
         requires reach { (t r : Task) → IsAt i t self.old.desk → IsAt target.seat r self.old.desk
-            → is_out_of_reach_on t r target.address target.room portion.address portion.length ≡ false }
-        requires room { portion.length ≤ target.room }
-        ensures { (t r : Task) (source : Split Flex) → IsAt i t self.old.desk → IsAt target.seat r self.old.desk → slot_block x.now.anchor t.slot ≡ Ok source
+            → is_out_of_reach_on t r target.address target.room portion.address portion.part.n ≡ false }
+        requires room { portion.part.n ≤ target.room }
+        ensures { (t r : Task) (source : Split Flex) → IsAt i t self.old.desk → IsAt target.seat r self.old.desk → slot_block a.now.transfer.anchor t.slot ≡ Ok source
             → self.new.desk ≡ with_task r.handle (λ r. record r {
-              slot = written_in target.address (take portion.length (drop x.now.count source.here.bytes)) (buffer_at target.address target.room r.slot) r.slot;
+              slot = written_in target.address (take portion.part.n (drop portion.part.offset source.here.bytes)) (buffer_at target.address target.room r.slot) r.slot;
             }) self.old.desk }
     {
         let source = &self.seats[i];
         let seat = &self.seats[target.seat];
-        let n = portion.length as usize;
+        let n = portion.part.n as usize;
         let place = place_of(portion);
         let from = source.slot.area;
         let slot = seat.slot;
@@ -156,98 +146,88 @@ impl<S: Store, F: NamedFiles> World<S, F> {
         );
     }
 
-    /// Sends the bytes for a fetch: NoBlock, NoTask, BadRange, NoRefs, QueueFull, NoRoom.
-    fn transmit(
-        &mut self,
-        i: usize,
-        message: &Message,
-        buffer: u32,
-        amount: u32,
-        x: &Sending,
-    ) -> Result<Outcome, Refusal>
-        requires { i < length self.old.desk.tasks }
-        ensures { (t : Task) (m : Parcel) → IsFor i t self.old.desk m message.now
-            → Attempts (transmitted self.old.desk t m buffer amount x.now) self.old self.new result }
+    /// Sends a part of a source: NoBlock, NoTask, BadRange, NoRefs, QueueFull, NoRoom.
+    fn transmit(&mut self, i: usize, a: &Transmit) -> Result<Outcome, Refusal>
+        requires place { i < length self.old.desk.tasks }
+        requires due { CanSend i (send_action.Transmit a.now) self.old.desk }
+        ensures { (t : Task) → IsAt i t self.old.desk → Attempts (transmitted self.old.desk t a.now) self.old self.new result }
     {
-        let portion = self.portion(i, x, amount)?;
-        let Some(seat) = with_handle(&self.seats, x.recipient) else {
+        let portion = self.portion(i, a)?;
+        let Some(seat) = with_handle(&self.seats, a.transfer.recipient) else {
             return Err(Refusal::NoTask);
         };
         let target = Target {
             seat,
-            address: buffer,
-            room: amount,
+            address: a.buffer,
+            room: a.room,
         };
         if self.is_out_of_reach(i, target, portion) {
             return Err(Refusal::BadRange);
         }
-        let n = portion.length;
         let sender = &self.seats[i];
-        let letter = transmit_letter(sender.handle, message, n < amount, buffer, n);
+        let letter = transmit_letter(sender.handle, a, &portion.part);
         let transmit = self.send_from(i, letter)?;
-        self.write_portion(i, x, amount, target, portion);
-        self.record_sent(i, x, n, amount, transmit);
-        Ok(Outcome::Sent { count: n, transmit })
+        self.write_portion(i, a, target, portion);
+        self.record_sent(i, a, portion.size, transmit);
+        Ok(Outcome::Sent {
+            count: portion.part.n,
+            transmit,
+        })
     }
 
-    /// A transfer that goes out fails by a refusal.
-    pub(crate) fn refused_out(&mut self, i: usize, x: &Sending, refusal: Refusal) -> Outcome
-        requires { i < length self.old.desk.tasks }
-        ensures { (t : Task) → IsAt i t self.old.desk → Handles (refused_on self.old.desk t x.now refusal) self.new result }
+    /// All of the source was loaded: NoBlock.
+    fn finish(&mut self, i: usize, x: &Sending) -> Result<Outcome, Refusal>
+        requires place { i < length self.old.desk.tasks }
+        requires due { CanSend i (send_action.Finish x.now) self.old.desk }
+        ensures { (t : Task) → IsAt i t self.old.desk → Attempts (sent_by self.old.desk t (send_action.Finish x.now)) self.old self.new result }
     {
-        self.record_failed_out(i, x);
-        Outcome::Refused(refusal)
+        let seat = &self.seats[i];
+        let size = document_size(&self.store, seat.slot, x.anchor)?;
+        self.record_loaded_out(i, x, size);
+        Ok(Outcome::Done)
     }
 
-    /// What a RAMFetch does to the transfer that it is for.
-    pub(crate) fn answer_fetch(
-        &mut self,
-        i: usize,
-        message: &Message,
-        buffer: u32,
-        amount: u32,
-        x: Option<Sending>,
-    ) -> Outcome
-        requires { i < length self.old.desk.tasks }
-        ensures { (t : Task) (m : Parcel) → IsFor i t self.old.desk m message.now
-            → Handles (answer_fetch_on self.old.desk t m buffer amount x) self.new result }
+    /// An action of a task that sends; refused, and nothing changed: NoBlock and the refusals of each.
+    fn send_with(&mut self, i: usize, action: &SendAction) -> Result<Outcome, Refusal>
+        requires place { i < length self.old.desk.tasks }
+        requires due { CanSend i action.now self.old.desk }
+        ensures { (t : Task) → IsAt i t self.old.desk → Attempts (sent_by self.old.desk t action.now) self.old self.new result }
     {
-        let Some(x) = x else {
+        match action {
+            SendAction::Transmit(a) => self.transmit(i, a),
+            SendAction::SaveFile(a) => self.save_scrap(i, a),
+            SendAction::Finish(x) => self.finish(i, x),
+        }
+    }
+
+    /// What a task that sends has to do, if anything. Where that is refused its transfer fails.
+    pub(crate) fn perform_send(&mut self, i: usize, action: Option<SendAction>) -> Outcome
+        requires place { i < length self.old.desk.tasks }
+        requires due { IfSome action (λ a. CanSend i a self.old.desk) }
+        ensures { (t : Task) → IsAt i t self.old.desk → Handles (perform_send_on self.old.desk t action) self.new result }
+    {
+        let Some(action) = action else {
             return Outcome::Ignored;
         };
-        match self.transmit(i, message, buffer, amount, &x) {
+        match self.send_with(i, &action) {
             Ok(outcome) => outcome,
-            Err(refusal) => self.refused_out(i, &x, refusal),
+            Err(refusal) => {
+                self.record_failed_out(i, &action);
+                Outcome::Refused(refusal)
+            }
         }
     }
 
     /// What a message of a transfer that came back does to it.
-    pub(crate) fn fail_sending(&mut self, i: usize, x: Option<Sending>) -> Outcome
+    pub(crate) fn fail_sending(&mut self, i: usize, last: Ref) -> Outcome
         requires { i < length self.old.desk.tasks }
-        ensures { (t : Task) → IsAt i t self.old.desk → Handles (fail_sending_on self.old.desk t x) self.new result }
+        ensures { (t : Task) → IsAt i t self.old.desk
+            → Handles (fail_sending_on self.old.desk t (sender.on_sending_bounce last t.sending)) self.new result }
     {
-        let Some(x) = x else {
-            return Outcome::Ignored;
-        };
-        self.record_failed_out(i, &x);
-        Outcome::Failed
-    }
-
-    /// What a DataLoadAck does to the transfer that it is for: all of the source was loaded.
-    pub(crate) fn finish_load(&mut self, i: usize, x: Option<Sending>) -> Outcome
-        requires { i < length self.old.desk.tasks }
-        ensures { (t : Task) → IsAt i t self.old.desk → Handles (finish_load_on self.old.desk t x) self.new result }
-    {
-        let Some(x) = x else {
-            return Outcome::Ignored;
-        };
-        let seat = &self.seats[i];
-        match document_size(&self.store, seat.slot, x.anchor) {
-            Ok(size) => {
-                self.record_loaded_out(i, &x, size);
-                Outcome::Done
-            }
-            Err(refusal) => self.refused_out(i, &x, refusal),
+        let seat = &mut self.seats[i];
+        if seat.sending.on_bounce(last) {
+            return Outcome::Failed;
         }
+        Outcome::Ignored
     }
 }

@@ -14,6 +14,7 @@ ghost use Rattle.rh_wimp.specs.Chains.{event_of};
 ghost use Rattle.rh_tasks.specs.Inner.CommandAnswers.{GivesAlike};
 ghost use Rattle.rh_tasks.specs.Inner.PollSteps.{IsAt, IsFor, Handles};
 
+use crate::accepting::is_deaf;
 use crate::module_area::MODULE;
 use crate::named_files::NamedFiles;
 use crate::scrap::kept_scrap;
@@ -73,33 +74,38 @@ impl<S: Store, F: NamedFiles> World<S, F> {
             → Handles (came_on self.old.desk t m m.message.body) self.new result }
     {
         let seat = &self.seats[i];
-        let (from, your_ref) = (message.from, message.your_ref);
+        let (from, my_ref, your_ref) = (message.from, message.my_ref, message.your_ref);
         match &message.body {
-            Body::DataSave(_) => self.take_save(i, message),
+            Body::DataSave(_) => {
+                let action = seat.taking.on_save(is_deaf(seat.manner), from, my_ref);
+                self.perform_take(i, action)
+            }
             Body::DataSaveAck(_) => {
-                let x = seat.sending.on_ack(from, your_ref);
-                self.answer_ack(i, message, x)
+                let action = seat.sending.on_ack(from, my_ref, your_ref);
+                self.perform_send(i, action)
             }
             Body::DataLoad(_) => {
-                let q = seat.taking.on_load(from, your_ref);
-                self.take_file(i, message, q)
+                let action = seat.taking.on_load(from, my_ref, your_ref);
+                self.perform_take(i, action)
             }
             Body::DataLoadAck(_) => {
-                let x = seat.sending.on_load_ack(from, your_ref);
-                self.finish_load(i, x)
+                let action = seat.sending.on_load_ack(from, your_ref);
+                self.perform_send(i, action)
             }
             Body::RamFetch { buffer, length } => {
                 if seat.answers_none() {
                     return Outcome::Ignored;
                 }
-                let x = seat.sending.on_fetch(from, your_ref, *length);
-                self.answer_fetch(i, message, *buffer, *length, x)
+                let action = seat
+                    .sending
+                    .on_fetch(from, my_ref, your_ref, *buffer, *length);
+                self.perform_send(i, action)
             }
             Body::RamTransmit { buffer, written } => {
-                let entry = seat
+                let action = seat
                     .taking
-                    .on_transmit(seat.buffer, from, your_ref, *buffer, *written);
-                self.take_bytes(i, message, *written, entry)
+                    .on_transmit(seat.buffer, from, my_ref, your_ref, *buffer, *written);
+                self.perform_take(i, action)
             }
         }
     }
@@ -110,21 +116,17 @@ impl<S: Store, F: NamedFiles> World<S, F> {
         ensures { (t : Task) (m : Parcel) → IsFor i t self.old.desk m message.now
             → Handles (came_back_on self.old.desk t m m.message.body) self.new result }
     {
-        let seat = &self.seats[i];
         let my_ref = message.my_ref;
         match &message.body {
             Body::DataSave(_) | Body::DataLoad(_) | Body::RamTransmit { .. } => {
-                let x = seat.sending.on_bounce(my_ref);
-                self.fail_sending(i, x)
+                self.fail_sending(i, my_ref)
             }
-            Body::DataSaveAck(_) => {
-                let q = seat.taking.on_ack_bounce(my_ref);
-                self.ack_back(i, q)
-            }
+            Body::DataSaveAck(_) => self.ack_back(i, my_ref),
             Body::DataLoadAck(_) => Outcome::Ignored,
             Body::RamFetch { .. } => {
-                let entry = seat.taking.on_bounce(my_ref);
-                self.fetch_back(i, entry)
+                let seat = &self.seats[i];
+                let action = seat.taking.on_bounce(my_ref);
+                self.perform_take(i, action)
             }
         }
     }

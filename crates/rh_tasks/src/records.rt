@@ -1,118 +1,131 @@
-//! Records of the transfers of the task at a place: one step each.
+//! Records of the transfers of the task at a place: what is told of an action that is due.
 
-ghost use Rattle.std.specs.Prelude.{◌≡◌, ◌+◌, ◌^◌, ◌<◌, false, length};
+ghost use Rattle.std.specs.Prelude.{◌≡◌, ◌<◌, true, false, length};
 ghost use Rattle.rh_defs.specs.Desk.{Task, with_sending, with_taking};
-ghost use Rattle.rh_defs.specs.Records.{is_going, is_full as is_full_of};
 ghost use Rattle.rh_defs.specs.Sender as sender;
 ghost use Rattle.rh_defs.specs.Receiver as receiver;
-ghost use Rattle.rh_tasks.specs.Inner.PollSteps.{IsAt};
+ghost use Rattle.rh_defs.specs.declared.transfer_action.SendAction.TheVariants as send_action;
+ghost use Rattle.rh_defs.specs.declared.transfer_action.TakeAction.TheVariants as take_action;
+ghost use Rattle.rh_ram.specs.Told.{is_finish, can_keep, after_failure};
+ghost use Rattle.rh_tasks.specs.Inner.PollSteps.{IsAt, CanSend, CanTake};
 
 use crate::named_files::NamedFiles;
 use crate::world::World;
-use rh_defs::{Asked, Ref, Sending, Taking};
+use rh_defs::{
+    Anchor, Append, Claim, LoadFile, Ref, SaveFile, SendAction, Sending, TakeAction, Taking,
+    Transmit,
+};
 use rh_store::Store;
 
 impl<S: Store, F: NamedFiles> World<S, F> {
-    /// Of the amount of bytes that was asked for n went out.
-    pub(crate) fn record_sent(&mut self, i: usize, x: &Sending, n: u32, amount: u32, last: Ref)
+    /// The part of a source of a size went out.
+    pub(crate) fn record_sent(&mut self, i: usize, a: &Transmit, size: u32, last: Ref)
         requires place { i < length self.old.desk.tasks }
-        requires word { x.now.count + n < 2 ^ 32 }
-        ensures { (t : Task) → IsAt i t self.old.desk → self.new.desk ≡ with_sending t.handle (sender.sent x.now n amount last) self.old.desk }
+        requires due { CanSend i (send_action.Transmit a.now) self.old.desk }
+        ensures { (t : Task) → IsAt i t self.old.desk
+            → self.new.desk ≡ with_sending t.handle (sender.sent a.now (sender.part a.now size) last) self.old.desk }
     {
         let seat = &mut self.seats[i];
-        seat.sending.sent(x, n, amount, last);
+        seat.sending.sent(a, size, last).unwrap();
     }
 
-    /// A transfer that went out has failed.
-    pub(crate) fn record_failed_out(&mut self, i: usize, x: &Sending)
-        requires { i < length self.old.desk.tasks }
-        ensures { (t : Task) → IsAt i t self.old.desk → self.new.desk ≡ with_sending t.handle (sender.sending_failed x.now) self.old.desk }
+    /// An action of a transfer that goes out was refused.
+    pub(crate) fn record_failed_out(&mut self, i: usize, action: &SendAction)
+        requires place { i < length self.old.desk.tasks }
+        requires due { CanSend i action.now self.old.desk }
+        ensures { (t : Task) → IsAt i t self.old.desk → self.new.desk ≡ with_sending t.handle (sender.sending_failed (sender.transfer_of action.now)) self.old.desk }
     {
         let seat = &mut self.seats[i];
-        seat.sending.failed(x);
+        seat.sending.failed(action).unwrap();
     }
 
     /// The source became the scrap file.
-    pub(crate) fn record_saved(&mut self, i: usize, x: &Sending, last: Ref)
-        requires { i < length self.old.desk.tasks }
-        ensures { (t : Task) → IsAt i t self.old.desk → self.new.desk ≡ with_sending t.handle (sender.saved x.now last) self.old.desk }
+    pub(crate) fn record_saved(&mut self, i: usize, a: &SaveFile, last: Ref)
+        requires place { i < length self.old.desk.tasks }
+        requires due { CanSend i (send_action.SaveFile a.now) self.old.desk }
+        ensures { (t : Task) → IsAt i t self.old.desk → self.new.desk ≡ with_sending t.handle (sender.saved a.now last) self.old.desk }
     {
         let seat = &mut self.seats[i];
-        seat.sending.saved(x, last);
+        seat.sending.saved(a, last).unwrap();
     }
 
     /// The recipient has loaded all n bytes of the source.
     pub(crate) fn record_loaded_out(&mut self, i: usize, x: &Sending, n: u32)
-        requires { i < length self.old.desk.tasks }
+        requires place { i < length self.old.desk.tasks }
+        requires due { CanSend i (send_action.Finish x.now) self.old.desk }
         ensures { (t : Task) → IsAt i t self.old.desk → self.new.desk ≡ with_sending t.handle (sender.sending_loaded x.now n) self.old.desk }
     {
         let seat = &mut self.seats[i];
-        seat.sending.loaded(x, n);
+        seat.sending.loaded(x, n).unwrap();
     }
 
     /// A transfer begins to fetch.
-    pub(crate) fn record_fetching(&mut self, i: usize, f: Taking)
+    pub(crate) fn record_fetching(
+        &mut self,
+        i: usize,
+        a: &Claim,
+        anchor: Anchor,
+        buffer: u32,
+        fetch: Ref,
+    )
         requires place { i < length self.old.desk.tasks }
-        requires room { (t : Task) → IsAt i t self.old.desk → is_full_of is_going t.taking ≡ false }
-        ensures { (t : Task) → IsAt i t self.old.desk → self.new.desk ≡ with_taking t.handle (receiver.fetching f) self.old.desk }
+        requires due { CanTake i (take_action.Claim a.now) self.old.desk }
+        ensures { (t : Task) → IsAt i t self.old.desk → self.new.desk ≡ with_taking t.handle (receiver.claimed a.now anchor buffer fetch) self.old.desk }
     {
         let seat = &mut self.seats[i];
-        seat.taking.fetching(f);
+        seat.taking.fetching(a, anchor, buffer, fetch).unwrap();
     }
 
-    /// n more bytes were taken, and the next ones are asked for.
-    pub(crate) fn record_fetched(&mut self, i: usize, f: &Taking, n: u32, fetch: Ref)
+    /// The bytes were taken, and the next ones are asked for.
+    pub(crate) fn record_fetched(&mut self, i: usize, a: &Append, fetch: Ref)
         requires place { i < length self.old.desk.tasks }
-        requires word { f.now.count + n < 2 ^ 32 }
-        ensures { (t : Task) → IsAt i t self.old.desk → self.new.desk ≡ with_taking t.handle (receiver.fetched f.now n fetch) self.old.desk }
+        requires due { CanTake i (take_action.Append a.now) self.old.desk }
+        requires next { is_finish a.now.next ≡ false }
+        ensures { (t : Task) → IsAt i t self.old.desk → self.new.desk ≡ with_taking t.handle (receiver.fetched a.now fetch) self.old.desk }
     {
         let seat = &mut self.seats[i];
-        seat.taking.fetched(f, n, fetch);
+        seat.taking.fetched(a, fetch).unwrap();
     }
 
-    /// The last n bytes were taken.
-    pub(crate) fn record_finished(&mut self, i: usize, f: &Taking, n: u32)
+    /// The last bytes were taken.
+    pub(crate) fn record_finished(&mut self, i: usize, a: &Append)
         requires place { i < length self.old.desk.tasks }
-        requires word { f.now.count + n < 2 ^ 32 }
-        ensures { (t : Task) → IsAt i t self.old.desk → self.new.desk ≡ with_taking t.handle (receiver.finished f.now n) self.old.desk }
+        requires due { CanTake i (take_action.Append a.now) self.old.desk }
+        requires next { is_finish a.now.next ≡ true }
+        ensures { (t : Task) → IsAt i t self.old.desk → self.new.desk ≡ with_taking t.handle (receiver.finished a.now) self.old.desk }
     {
         let seat = &mut self.seats[i];
-        seat.taking.finished(f, n);
+        seat.taking.finished(a).unwrap();
     }
 
-    /// A transfer that came in has failed with so many bytes.
-    pub(crate) fn record_failed_in(&mut self, i: usize, f: &Taking, count: u32)
-        requires { i < length self.old.desk.tasks }
-        ensures { (t : Task) → IsAt i t self.old.desk → self.new.desk ≡ with_taking t.handle (receiver.taking_failed f.now count) self.old.desk }
+    /// An action of a transfer that comes in failed, with so many of its bytes in the document.
+    pub(crate) fn record_failed_in(&mut self, i: usize, action: &TakeAction, kept: u32)
+        requires place { i < length self.old.desk.tasks }
+        requires due { CanTake i action.now self.old.desk }
+        requires kept { can_keep action.now kept ≡ true }
+        ensures { (t : Task) → IsAt i t self.old.desk → self.new.desk ≡ with_taking t.handle (after_failure action.now kept) self.old.desk }
     {
         let seat = &mut self.seats[i];
-        seat.taking.failed(f, count);
+        seat.taking.failed(action, kept).unwrap();
     }
 
     /// A transfer that fetched waits for a file.
     pub(crate) fn record_asking(&mut self, i: usize, f: &Taking, ack: Ref)
-        requires { i < length self.old.desk.tasks }
+        requires place { i < length self.old.desk.tasks }
+        requires due { CanTake i (take_action.AskForFile f.now) self.old.desk }
         ensures { (t : Task) → IsAt i t self.old.desk → self.new.desk ≡ with_taking t.handle (receiver.asking f.now ack) self.old.desk }
     {
         let seat = &mut self.seats[i];
-        seat.taking.asking(f, ack);
+        seat.taking.asking(f, ack).unwrap();
     }
 
     /// The document has all n bytes of the file.
-    pub(crate) fn record_loaded_in(&mut self, i: usize, q: &Asked, n: u32)
-        requires { i < length self.old.desk.tasks }
-        ensures { (t : Task) → IsAt i t self.old.desk → self.new.desk ≡ with_taking t.handle (receiver.taking_loaded q.now n) self.old.desk }
+    pub(crate) fn record_loaded_in(&mut self, i: usize, a: &LoadFile, n: u32)
+        requires place { i < length self.old.desk.tasks }
+        requires due { CanTake i (take_action.LoadFile a.now) self.old.desk }
+        ensures { (t : Task) → IsAt i t self.old.desk → self.new.desk ≡ with_taking t.handle (receiver.taking_loaded a.now.transfer n) self.old.desk }
     {
         let seat = &mut self.seats[i];
-        seat.taking.loaded(q, n);
-    }
-
-    /// A transfer that waited for a file has failed with n bytes in its document.
-    pub(crate) fn record_abandoned(&mut self, i: usize, q: &Asked, n: u32)
-        requires { i < length self.old.desk.tasks }
-        ensures { (t : Task) → IsAt i t self.old.desk → self.new.desk ≡ with_taking t.handle (receiver.abandoned q.now n) self.old.desk }
-    {
-        let seat = &mut self.seats[i];
-        seat.taking.abandoned(q, n);
+        seat.taking.loaded(a, n).unwrap();
     }
 }

@@ -5,7 +5,6 @@ ghost use Rattle.std.specs.List.{AllByRecursion, position};
 ghost use Rattle.rh_defs.specs.Slot.{anchor_count};
 ghost use Rattle.rh_defs.specs.declared.command.Command.TheVariants as Command;
 ghost use Rattle.rh_defs.specs.Forms.{is_leaf};
-ghost use Rattle.rh_defs.specs.Letters.{save_letter as save_letter_of};
 ghost use Rattle.rh_defs.specs.Memory.{Memory};
 ghost use Rattle.rh_defs.specs.Range.{in_range};
 ghost use Rattle.rh_defs.specs.Commands.{save as save_on};
@@ -14,14 +13,13 @@ ghost use Rattle.rh_tasks.specs.Finding.{looked};
 ghost use Rattle.rh_tasks.specs.Inner.Saves.{CanOffer, HasHandle, source_block};
 ghost use Rattle.rh_tasks.specs.View.{is_named, HasSlot};
 
-use crate::letters::{DATA_TYPE, send};
+use crate::letters::send;
 use crate::named_files::NamedFiles;
 use crate::seat::Seats;
 use crate::seats::find;
 use crate::world::World;
-use rh_defs::{
-    Anchor, Body, EventCode, FileData, Handle, Leaf, Letter, Name, Pathname, Ref, Refusal, Reply,
-};
+use rh_defs::{Anchor, Handle, Leaf, Name, Pathname, Refusal, Reply};
+use rh_ram::save_letter;
 use rh_store::{Store, Words};
 
 /// A block that may be offered: its task's place, and its bytes.
@@ -68,27 +66,12 @@ fn recipient_of(seats: &Seats, name: &Name) -> Result<Handle, Refusal>
     Ok(seat.handle)
 }
 
-/// The DataSave that offers so many bytes under a leafname.
-fn save_letter(from: Handle, to: Handle, size: u32, leaf: &Leaf) -> Letter
+/// A leafname as the name in a message.
+fn pathname(leaf: &Leaf) -> Pathname
     requires { is_leaf leaf.now ≡ true }
-    ensures { result ≡ save_letter_of from to size leaf.now }
+    ensures { result ≡ leaf.now }
 {
-    let name = Pathname::new(leaf.as_slice()).unwrap();
-    Letter {
-        code: EventCode::Recorded,
-        from,
-        to,
-        your_ref: Ref(0),
-        body: Body::DataSave(FileData {
-            window: 0,
-            icon: 0,
-            x: 0,
-            y: 0,
-            size,
-            file_type: DATA_TYPE,
-            name,
-        }),
-    }
+    Pathname::new(leaf.as_slice()).unwrap()
 }
 
 impl<S: Store, F: NamedFiles> World<S, F> {
@@ -106,7 +89,7 @@ impl<S: Store, F: NamedFiles> World<S, F> {
         let source = idle_source(&self.store, &self.seats, name, anchor)?;
         let recipient = recipient_of(&self.seats, to)?;
         let seat = &mut self.seats[source.place];
-        let letter = save_letter(seat.handle, recipient, source.size, leaf);
+        let letter = save_letter(seat.handle, recipient, source.size, pathname(leaf));
         let my_ref = send(&mut self.store, &mut self.queue, seat, letter)?;
         seat.sending.offered(my_ref, recipient, anchor);
         Ok(Reply::Sent(my_ref))

@@ -1,39 +1,40 @@
 //! Transfers by way of the scrap file.
 
 ghost use Rattle.std.specs.Prelude.{◌≡◌, ◌<◌, ◌≤◌, ◌*◌, length, slice_index, Ok, Some, None};
+ghost use Rattle.rh_defs.specs.declared.transfer_action.SendAction.TheVariants as send_action;
+ghost use Rattle.rh_defs.specs.declared.transfer_action.TakeAction.TheVariants as take_action;
 ghost use Rattle.rh_defs.specs.Desk.{Task, Scrap, free_pages, scrap_area};
 ghost use Rattle.rh_defs.specs.Pieces.{Split, page_size};
-ghost use Rattle.rh_defs.specs.IncomingEvents.{appended, loaded as loaded_on, take_file as take_file_on};
-ghost use Rattle.rh_defs.specs.Messages.{Parcel};
-ghost use Rattle.rh_defs.specs.OutgoingEvents.{wider, answer_ack as answer_ack_on};
+ghost use Rattle.rh_defs.specs.IncomingEvents.{appended, loaded as loaded_on, load_file as load_file_on};
+ghost use Rattle.rh_defs.specs.OutgoingEvents.{wider};
 ghost use Rattle.rh_defs.specs.Slot.{Flex, slot_block, slot_size};
 ghost use Rattle.rh_tasks.specs.WorldPolls.{Becomes};
-ghost use Rattle.rh_tasks.specs.Inner.PollSteps.{IsAt, IsFor, Attempts, Handles, scrapped};
+ghost use Rattle.rh_tasks.specs.Inner.PollSteps.{IsAt, CanSend, CanTake, Attempts, Handles, scrapped};
 
 use crate::documents::{append, document_size};
-use crate::letters::{load_ack_letter, load_letter};
 use crate::module_area::MODULE;
 use crate::named_files::NamedFiles;
 use crate::scrap::{SCRAP, ScrapFile, scrap_size};
 use crate::world::World;
 use rh_defs::sizes::{PAGE, SLOT_START, pages_for};
-use rh_defs::{Anchor, Asked, Message, Outcome, Ref, Refusal, Sending};
+use rh_defs::{Anchor, LoadFile, Outcome, Ref, Refusal, SaveFile, TakeAction};
+use rh_ram::{load_ack_letter, load_letter};
 use rh_store::Store;
 
 impl<S: Store, F: NamedFiles> World<S, F> {
     /// The source becomes the scrap file, and the DataLoad is sent, whole or not at all: NoBlock, Busy, NoTask, NoRefs,
     /// QueueFull, NoRoom.
-    fn save_scrap(&mut self, i: usize, message: &Message, x: &Sending) -> Result<Outcome, Refusal>
-        requires { i < length self.old.desk.tasks }
-        ensures { (t : Task) (m : Parcel) → IsFor i t self.old.desk m message.now
-            → Attempts (scrapped self.old.desk t m x.now) self.old self.new result }
+    pub(crate) fn save_scrap(&mut self, i: usize, a: &SaveFile) -> Result<Outcome, Refusal>
+        requires place { i < length self.old.desk.tasks }
+        requires due { CanSend i (send_action.SaveFile a.now) self.old.desk }
+        ensures { (t : Task) → IsAt i t self.old.desk → Attempts (scrapped self.old.desk t a.now) self.old self.new result }
     {
         let seat = &self.seats[i];
-        let size = document_size(&self.store, seat.slot, x.anchor)?;
+        let size = document_size(&self.store, seat.slot, a.transfer.anchor)?;
         if self.scrap.is_some() {
             return Err(Refusal::Busy);
         }
-        let letter = load_letter(seat.handle, message, size);
+        let letter = load_letter(seat.handle, a, size);
         let more = self.queue.send_pages(&self.store, MODULE, &letter)?;
         let wider = pages_for(size as usize).saturating_sub(self.store.len(SCRAP) / PAGE);
         let free = self.store.free_pages();
@@ -45,24 +46,9 @@ impl<S: Store, F: NamedFiles> World<S, F> {
         }
         self.widen_scrap(wider);
         let load = self.send_from(i, letter).unwrap();
-        self.fill_scrap(i, x.anchor, size, load);
-        self.record_saved(i, x, load);
+        self.fill_scrap(i, a.transfer.anchor, size, load);
+        self.record_saved(i, a, load);
         Ok(Outcome::Saved { count: size, load })
-    }
-
-    /// What a DataSaveAck does to the transfer that it is for.
-    pub(crate) fn answer_ack(&mut self, i: usize, message: &Message, x: Option<Sending>) -> Outcome
-        requires { i < length self.old.desk.tasks }
-        ensures { (t : Task) (m : Parcel) → IsFor i t self.old.desk m message.now
-            → Handles (answer_ack_on self.old.desk t m x) self.new result }
-    {
-        let Some(x) = x else {
-            return Outcome::Ignored;
-        };
-        match self.save_scrap(i, message, &x) {
-            Ok(outcome) => outcome,
-            Err(refusal) => self.refused_out(i, &x, refusal),
-        }
     }
 
     /// Puts the scrap file's bytes at the end of a document: NoBlock, NoRoom.
@@ -78,47 +64,44 @@ impl<S: Store, F: NamedFiles> World<S, F> {
     }
 
     /// The document has all n bytes of the file, and the sender is told.
-    fn loaded(&mut self, i: usize, message: &Message, q: &Asked, n: u32) -> Outcome
-        requires { i < length self.old.desk.tasks }
-        ensures { (t : Task) (m : Parcel) → IsFor i t self.old.desk m message.now
-            → Handles (loaded_on self.old.desk t m q.now n) self.new result }
+    fn loaded(&mut self, i: usize, a: &LoadFile, n: u32) -> Outcome
+        requires place { i < length self.old.desk.tasks }
+        requires due { CanTake i (take_action.LoadFile a.now) self.old.desk }
+        ensures { (t : Task) → IsAt i t self.old.desk → Handles (loaded_on self.old.desk t a.now n) self.new result }
     {
         let seat = &self.seats[i];
-        let letter = load_ack_letter(seat.handle, message, n);
+        let letter = load_ack_letter(seat.handle, a, n);
         match self.send_from(i, letter) {
             Ok(_) => {
-                self.record_loaded_in(i, q, n);
+                self.record_loaded_in(i, a, n);
                 Outcome::Loaded { count: n }
             }
             Err(refusal) => {
-                self.record_abandoned(i, q, n);
+                self.record_failed_in(i, &TakeAction::LoadFile(*a), n);
                 Outcome::LoadedFailed { count: n, refusal }
             }
         }
     }
 
-    /// What a DataLoad does to the transfer that it is for: its file becomes the document, and is given up.
-    pub(crate) fn take_file(&mut self, i: usize, message: &Message, q: Option<Asked>) -> Outcome
-        requires { i < length self.old.desk.tasks }
-        ensures { (t : Task) (m : Parcel) → IsFor i t self.old.desk m message.now
-            → Handles (take_file_on self.old.desk t m q) self.new result }
+    /// The file of a DataLoad becomes the document, and is given up. Another file is none of this transfer's.
+    pub(crate) fn load_file(&mut self, i: usize, a: &LoadFile) -> Outcome
+        requires place { i < length self.old.desk.tasks }
+        requires due { CanTake i (take_action.LoadFile a.now) self.old.desk }
+        ensures { (t : Task) → IsAt i t self.old.desk → Handles (load_file_on self.old.desk t a.now self.old.desk.scrap) self.new result }
     {
-        let Some(q) = q else {
-            return Outcome::Ignored;
-        };
         let Some(file) = self.scrap else {
             return Outcome::Ignored;
         };
-        if file.load != message.my_ref {
+        if file.load != a.answers {
             return Outcome::Ignored;
         }
-        match self.append_scrap(i, q.anchor) {
+        match self.append_scrap(i, a.transfer.anchor) {
             Ok(()) => {
                 self.drop_scrap();
-                self.loaded(i, message, &q, file.size)
+                self.loaded(i, a, file.size)
             }
             Err(refusal) => {
-                self.record_abandoned(i, &q, 0);
+                self.record_failed_in(i, &TakeAction::LoadFile(*a), 0);
                 Outcome::Refused(refusal)
             }
         }

@@ -1,5 +1,5 @@
 -- What the steps of a poll do to the desk.
-use Rattle.std.specs.Prelude.{◌≡◌, ℕ, ◌+◌, slice_get, Some, Result, Ok, Err}
+use Rattle.std.specs.Prelude.{◌≡◌, ℕ, ◌+◌, true, length, slice_get, Some, Result, Ok, Err}
 use Rattle.std.specs.Result.{MatchResult}
 use Rattle.rh_defs.specs.declared.message.Letter.{Letter}
 use Rattle.rh_defs.specs.declared.message.Message.{Message}
@@ -11,9 +11,15 @@ use Rattle.rh_defs.specs.Places.{free_anchor}
 use Rattle.rh_defs.specs.Messages.{Parcel}
 use Rattle.rh_defs.specs.Desk.{Desk, Task, next_ref, free_pages, send_letter, with_slot}
 use Rattle.rh_defs.specs.Pieces.{Split}
-use Rattle.rh_defs.specs.declared.transfer.Sending.{Sending}
 use Rattle.rh_defs.specs.Order.{IsReordered}
-use Rattle.rh_defs.specs.OutgoingEvents.{Handled, portion, transmit, save_scrap}
+use Rattle.rh_defs.specs.OutgoingEvents.{Handled, transmit, save_scrap, send_with}
+use Rattle.rh_defs.specs.declared.transfer_action.Transmit.{Transmit}
+use Rattle.rh_defs.specs.declared.transfer_action.Part.{Part}
+use Rattle.rh_defs.specs.declared.transfer_action.SaveFile.{SaveFile}
+use Rattle.rh_defs.specs.declared.transfer_action.SendAction.{SendAction}
+use Rattle.rh_defs.specs.declared.transfer_action.TakeAction.{TakeAction}
+use Rattle.rh_defs.specs.Sender as sender
+use Rattle.rh_ram.specs.Due.{is_send_due, is_take_due}
 use Rattle.rh_tasks.specs.Shown.{Shown}
 
 -- the desk's task at a place
@@ -24,6 +30,14 @@ IsAt i t d = slice_get d.tasks i ≡ Some t
 pub record IsFor (i : ℕ) (t : Task) (d : Desk) (m : Parcel) (message : Message) : Type 0 where
   pub at : IsAt i t d
   pub message_is : m.message ≡ message
+
+-- a sender's action is due by the records of the desk's task at a place
+abbrev pub CanSend : ℕ → SendAction → Desk → Type 0
+CanSend i a d = (t : Task) → IsAt i t d → is_send_due a t.sending ≡ true
+
+-- a receiver's action is due by the records of the desk's task at a place
+abbrev pub CanTake : ℕ → TakeAction → Desk → Type 0
+CanTake i a d = (t : Task) → IsAt i t d → is_take_due a t.taking ≡ true
 
 -- the slot's lowest anchor without a block
 pub record IsFreeAnchor (k : ℕ) (s : Slot) : Type 0 where
@@ -54,20 +68,25 @@ Claims h granted old new result =
     (λ a. (s : Slot) × ((granted ≡ Ok (s, a)) × (new.desk ≡ with_slot h s old.desk)))
     (λ refusal. (granted ≡ Err refusal) × (new ≡ old))
 
--- so many bytes at the address are the next ones of a transfer's source, up to an amount
-pub record IsPortion (t : Task) (x : Sending) (amount address n : ℕ) : Type 0 where
+-- the part of a transfer's source, which has so many bytes, that goes out from the address on
+pub record IsPortion (t : Task) (a : Transmit) (address size : ℕ) (p : Part) : Type 0 where
   pub source : Split Flex
-  pub block : slot_block x.anchor t.slot ≡ Ok source
-  pub address_is : address ≡ flex_address t.slot source.before + x.count
-  pub length_is : n ≡ portion x amount source
+  pub block : slot_block a.transfer.anchor t.slot ≡ Ok source
+  pub size_is : size ≡ length source.here.bytes
+  pub address_is : address ≡ flex_address t.slot source.before + p.offset
+  pub part_is : p ≡ sender.part a size
 
--- the bytes of a transfer's source, for a fetch
-abbrev pub transmitted : Desk → Task → Parcel → ℕ → ℕ → Sending → Granted Handled
-transmitted d t m buffer amount x = slot_block x.anchor t.slot >>= transmit d t m buffer amount x
+-- an action of a task that sends, with its transfer's source
+abbrev pub sent_by : Desk → Task → SendAction → Granted Handled
+sent_by d t a = slot_block (sender.transfer_of a).anchor t.slot >>= send_with d t a
+
+-- a part of a transfer's source, for a fetch
+abbrev pub transmitted : Desk → Task → Transmit → Granted Handled
+transmitted d t a = slot_block a.transfer.anchor t.slot >>= transmit d t a
 
 -- a transfer's source as the scrap file
-abbrev pub scrapped : Desk → Task → Parcel → Sending → Granted Handled
-scrapped d t m x = slot_block x.anchor t.slot >>= save_scrap d t m x
+abbrev pub scrapped : Desk → Task → SaveFile → Granted Handled
+scrapped d t a = slot_block a.transfer.anchor t.slot >>= save_scrap d t a
 
 -- an empty document on top of the task's slot
 abbrev pub with_document : Desk → Task → ℕ → Granted Desk

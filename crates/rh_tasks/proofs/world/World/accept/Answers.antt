@@ -1,86 +1,92 @@
-use Rattle.std.proofs.Common.{refl}
+use Rattle.rh_tasks.proofs.Common.{refl, ap, ◌∙◌, fetch_letter}
+use Rattle.rh_defs.specs.declared.transfer_action.TakeAction.TheVariants as take
 use Rattle.rh_tasks.proofs.Rooms.{anchor-low}
 use Rattle.rh_tasks.proofs.Slides.{seat-sits}
 use Rattle.rh_tasks.proofs.AcceptSteps.{accept-no_anchor, accept-no_room, can-accept, can-accept-own, buffer-must, buffer-got, buffer-at, buffer-place}
-use Rattle.rh_tasks.proofs.AcceptSteps.{document-must, document-got, fetch-from, fetch-must, fetch-got, sent-place, sent-room, accept-done}
+use Rattle.rh_tasks.proofs.AcceptSteps.{document-must, document-got, fetch-from, fetch-must, fetch-got, sent-place, sent-due, accept-done}
 use Rattle.rh_tasks.proofs.world.World.accept.Goals as goal
 
 pub returns-in_err-anchor : goal.returns-in_err-anchor
 returns-in_err-anchor g c =
     let at = seat-sits _ _ _ _ _ c.self.view_is c.requires.place c.index-seat.ensures in
-    rw c.from_residual.ensures (λ t m here. (accept-no_anchor c.self.invariant at c.self.view_is t m here.at c.in_err-anchor.ensures, refl))
+    rw c.from_residual.ensures (λ t here. (accept-no_anchor c.self.invariant at c.self.view_is t c.args.a.now here c.in_err-anchor.ensures, refl))
 
 pub returns-then-not-has_room : goal.returns-then-not-has_room
 returns-then-not-has_room g c =
     let at = seat-sits _ _ _ _ _ c.self.view_is c.requires.place c.index-seat.ensures in
-    λ t m here. (accept-no_room c.self.invariant at c.self.view_is c.in_ok-anchor.ensures c.has_room.ensures t m here c.if-not-has_room.true, refl)
+    λ t here. (accept-no_room c.self.invariant at c.self.view_is c.args.a.now c.in_ok-anchor.ensures c.has_room.ensures t here c.if-not-has_room.true, refl)
 
 pub unwrap-buffer-requires : goal.unwrap-buffer-requires
 unwrap-buffer-requires g c =
     let at = seat-sits _ _ _ _ _ c.self.view_is c.requires.place c.index-seat.ensures in
-    let can = can-accept-own c.self.invariant at c.self.view_is c.in_ok-anchor.ensures c.has_room.ensures c.if-not-has_room.false in
-    buffer-must can _ c.claim_buffer.result (c.claim_buffer.ensures _ can.here.at)
+    let can = can-accept-own c.self.invariant at c.self.view_is c.args.a.now c.in_ok-anchor.ensures c.has_room.ensures c.if-not-has_room.false in
+    buffer-must can _ c.claim_buffer.result (c.claim_buffer.ensures _ can.here)
 
 pub alloc_document-requires-clause-place : goal.alloc_document-requires-clause-place
 alloc_document-requires-clause-place g c =
     let at = seat-sits _ _ _ _ _ c.self.view_is c.requires.place c.index-seat.ensures in
-    let can = can-accept-own c.self.invariant at c.self.view_is c.in_ok-anchor.ensures c.has_room.ensures c.if-not-has_room.false in
-    let one = buffer-got can c.claim_buffer.result (c.claim_buffer.ensures _ can.here.at) c.unwrap-buffer.ensures in
+    let can = can-accept-own c.self.invariant at c.self.view_is c.args.a.now c.in_ok-anchor.ensures c.has_room.ensures c.if-not-has_room.false in
+    let one = buffer-got can c.claim_buffer.result (c.claim_buffer.ensures _ can.here) c.unwrap-buffer.ensures in
     buffer-place can one
 
 pub alloc_document-requires-clause-anchor : goal.alloc_document-requires-clause-anchor
 alloc_document-requires-clause-anchor g c =
     let at = seat-sits _ _ _ _ _ c.self.view_is c.requires.place c.index-seat.ensures in
-    let can = can-accept-own c.self.invariant at c.self.view_is c.in_ok-anchor.ensures c.has_room.ensures c.if-not-has_room.false in
+    let can = can-accept-own c.self.invariant at c.self.view_is c.args.a.now c.in_ok-anchor.ensures c.has_room.ensures c.if-not-has_room.false in
     anchor-low _ _ can.free
 
 pub unwrap-requires : goal.unwrap-requires
 unwrap-requires g c =
     let at = seat-sits _ _ _ _ _ c.self.view_is c.requires.place c.index-seat.ensures in
-    let can = can-accept-own c.self.invariant at c.self.view_is c.in_ok-anchor.ensures c.has_room.ensures c.if-not-has_room.false in
-    let one = buffer-got can c.claim_buffer.result (c.claim_buffer.ensures _ can.here.at) c.unwrap-buffer.ensures in
+    let can = can-accept-own c.self.invariant at c.self.view_is c.args.a.now c.in_ok-anchor.ensures c.has_room.ensures c.if-not-has_room.false in
+    let one = buffer-got can c.claim_buffer.result (c.claim_buffer.ensures _ can.here) c.unwrap-buffer.ensures in
     document-must can one _ c.alloc_document.result (c.alloc_document.ensures _ (buffer-at can one))
 
 pub send_from-requires : goal.send_from-requires
 send_from-requires g c =
     let at = seat-sits _ _ _ _ _ c.self.view_is c.requires.place c.index-seat.ensures in
-    let can = can-accept-own c.self.invariant at c.self.view_is c.in_ok-anchor.ensures c.has_room.ensures c.if-not-has_room.false in
-    let one = buffer-got can c.claim_buffer.result (c.claim_buffer.ensures _ can.here.at) c.unwrap-buffer.ensures in
+    let can = can-accept-own c.self.invariant at c.self.view_is c.args.a.now c.in_ok-anchor.ensures c.has_room.ensures c.if-not-has_room.false in
+    let one = buffer-got can c.claim_buffer.result (c.claim_buffer.ensures _ can.here) c.unwrap-buffer.ensures in
     let two = document-got can one c.alloc_document.result (c.alloc_document.ensures _ (buffer-at can one)) c.unwrap.ensures in
-    fetch-from can one two c.fetch_letter-letter.ensures
+    let letter = c.fetch_letter-letter.ensures ∙ ap (fetch_letter c.index-seat.result.now.handle) c.first_fetch.ensures in
+    fetch-from can one two letter
 
 pub unwrap-fetch-requires : goal.unwrap-fetch-requires
 unwrap-fetch-requires g c =
     let at = seat-sits _ _ _ _ _ c.self.view_is c.requires.place c.index-seat.ensures in
-    let can = can-accept-own c.self.invariant at c.self.view_is c.in_ok-anchor.ensures c.has_room.ensures c.if-not-has_room.false in
-    let one = buffer-got can c.claim_buffer.result (c.claim_buffer.ensures _ can.here.at) c.unwrap-buffer.ensures in
+    let can = can-accept-own c.self.invariant at c.self.view_is c.args.a.now c.in_ok-anchor.ensures c.has_room.ensures c.if-not-has_room.false in
+    let one = buffer-got can c.claim_buffer.result (c.claim_buffer.ensures _ can.here) c.unwrap-buffer.ensures in
     let two = document-got can one c.alloc_document.result (c.alloc_document.ensures _ (buffer-at can one)) c.unwrap.ensures in
-    fetch-must can one two c.fetch_letter-letter.ensures _ c.send_from.result c.send_from.ensures
+    let letter = c.fetch_letter-letter.ensures ∙ ap (fetch_letter c.index-seat.result.now.handle) c.first_fetch.ensures in
+    fetch-must can one two letter _ c.send_from.result c.send_from.ensures
 
 pub record_fetching-requires-clause-place : goal.record_fetching-requires-clause-place
 record_fetching-requires-clause-place g c =
     let at = seat-sits _ _ _ _ _ c.self.view_is c.requires.place c.index-seat.ensures in
-    let can = can-accept-own c.self.invariant at c.self.view_is c.in_ok-anchor.ensures c.has_room.ensures c.if-not-has_room.false in
-    let one = buffer-got can c.claim_buffer.result (c.claim_buffer.ensures _ can.here.at) c.unwrap-buffer.ensures in
+    let can = can-accept-own c.self.invariant at c.self.view_is c.args.a.now c.in_ok-anchor.ensures c.has_room.ensures c.if-not-has_room.false in
+    let one = buffer-got can c.claim_buffer.result (c.claim_buffer.ensures _ can.here) c.unwrap-buffer.ensures in
     let two = document-got can one c.alloc_document.result (c.alloc_document.ensures _ (buffer-at can one)) c.unwrap.ensures in
-    let three = fetch-got can one two c.fetch_letter-letter.ensures c.send_from.result c.send_from.ensures c.unwrap-fetch.ensures in
-    sent-place can one two c.fetch_letter-letter.ensures three
+    let letter = c.fetch_letter-letter.ensures ∙ ap (fetch_letter c.index-seat.result.now.handle) c.first_fetch.ensures in
+    let three = fetch-got can one two letter c.send_from.result c.send_from.ensures c.unwrap-fetch.ensures in
+    sent-place can one two letter three
 
-pub record_fetching-requires-clause-room : goal.record_fetching-requires-clause-room
-record_fetching-requires-clause-room g c =
+pub record_fetching-requires-clause-due : goal.record_fetching-requires-clause-due
+record_fetching-requires-clause-due g c =
     let at = seat-sits _ _ _ _ _ c.self.view_is c.requires.place c.index-seat.ensures in
-    let can = can-accept-own c.self.invariant at c.self.view_is c.in_ok-anchor.ensures c.has_room.ensures c.if-not-has_room.false in
-    let one = buffer-got can c.claim_buffer.result (c.claim_buffer.ensures _ can.here.at) c.unwrap-buffer.ensures in
+    let can = can-accept-own c.self.invariant at c.self.view_is c.args.a.now c.in_ok-anchor.ensures c.has_room.ensures c.if-not-has_room.false in
+    let one = buffer-got can c.claim_buffer.result (c.claim_buffer.ensures _ can.here) c.unwrap-buffer.ensures in
     let two = document-got can one c.alloc_document.result (c.alloc_document.ensures _ (buffer-at can one)) c.unwrap.ensures in
-    let three = fetch-got can one two c.fetch_letter-letter.ensures c.send_from.result c.send_from.ensures c.unwrap-fetch.ensures in
-    sent-room can one two c.fetch_letter-letter.ensures three (c.requires.room _ can.here.at)
+    let letter = c.fetch_letter-letter.ensures ∙ ap (fetch_letter c.index-seat.result.now.handle) c.first_fetch.ensures in
+    let three = fetch-got can one two letter c.send_from.result c.send_from.ensures c.unwrap-fetch.ensures in
+    sent-due can one two letter three (take.Claim c.args.a.now) (c.requires.due _ can.here)
 
 pub returns : goal.returns
 returns g c =
     let at = seat-sits _ _ _ _ _ c.self.view_is c.requires.place c.index-seat.ensures in
-    λ t m here. (
-    let can = can-accept c.self.invariant at c.self.view_is c.in_ok-anchor.ensures c.has_room.ensures t m here c.if-not-has_room.false in
-    let one = buffer-got can c.claim_buffer.result (c.claim_buffer.ensures _ can.here.at) c.unwrap-buffer.ensures in
+    λ t here. (
+    let can = can-accept c.self.invariant at c.self.view_is c.args.a.now c.in_ok-anchor.ensures c.has_room.ensures t here c.if-not-has_room.false in
+    let one = buffer-got can c.claim_buffer.result (c.claim_buffer.ensures _ can.here) c.unwrap-buffer.ensures in
     let two = document-got can one c.alloc_document.result (c.alloc_document.ensures _ (buffer-at can one)) c.unwrap.ensures in
-    let three = fetch-got can one two c.fetch_letter-letter.ensures c.send_from.result c.send_from.ensures c.unwrap-fetch.ensures in
-    accept-done can one two c.fetch_letter-letter.ensures three c.record_fetching.new.self c.record_fetching.ensures)
+    let letter = c.fetch_letter-letter.ensures ∙ ap (fetch_letter c.index-seat.result.now.handle) c.first_fetch.ensures in
+    let three = fetch-got can one two letter c.send_from.result c.send_from.ensures c.unwrap-fetch.ensures in
+    accept-done can one two letter three c.record_fetching.new.self c.record_fetching.ensures)

@@ -1,22 +1,24 @@
-use Rattle.rh_tasks.proofs.Common.{err_from_is_err_and, task_of, Sits}
+use Rattle.rh_tasks.proofs.Common.{ap, err_from_is_err_and, Letter, task_of, Sits}
 use Rattle.rh_tasks.proofs.Buffers.{sits-there, seat-there, seat-handle}
-use Rattle.rh_tasks.proofs.Takings.{inside, stands-sent, ack-from, stands-dropped, ask-refused, ask-done}
+use Rattle.rh_tasks.proofs.Writes.{alike-both}
+use Rattle.rh_defs.specs.declared.transfer_action.TakeAction.TheVariants as take
+use Rattle.rh_tasks.proofs.Dues.{records_of, sent-records, still-takes}
+use Rattle.rh_tasks.proofs.Takings.{inside, stands-sent, stands-dropped, dropped-records, ask-refused, ask-done}
 use Rattle.rh_tasks.proofs.world.World.ask.Goals as goal
 
 pub send_from-requires : goal.send_from-requires
 unfolding task_of
 send_from-requires g c =
-    let at : Sits c.self.inside.seats.items c.args.i c.index-seat.result.now = sits-there c.self.invariant c.self.view_is c.requires c.index-seat.ensures in (
+    let at : Sits c.self.inside.seats.items c.args.i c.index-seat.result.now =
+    sits-there c.self.invariant c.self.view_is c.requires.place c.index-seat.ensures in (
       task_of (g.S.Words.memory c.self.inside.store) c.index-seat.result.now,
-      (
-        seat-there c.self.invariant c.self.view_is at,
-        ack-from c.ack_letter-letter.result c.index-seat.result.now.handle c.args.f.now.sender c.args.f.now.id c.ack_letter-letter.ensures,
-      ),
+      (seat-there c.self.invariant c.self.view_is at, ap (λ (l : Letter). l.from) c.ack_letter-letter.ensures),
     )
 
 pub returns-in_err-ack : goal.returns-in_err-ack
 returns-in_err-ack g c t there =
-    let at : Sits c.self.inside.seats.items c.args.i c.index-seat.result.now = sits-there c.self.invariant c.self.view_is c.requires c.index-seat.ensures in
+    let at : Sits c.self.inside.seats.items c.args.i c.index-seat.result.now =
+    sits-there c.self.invariant c.self.view_is c.requires.place c.index-seat.ensures in
     let handle = seat-handle c.self.invariant c.self.view_is at there in
     let p = err_from_is_err_and c.from_residual.result c.from_residual.ensures.1 in
     rw (p.1, p.2)
@@ -24,16 +26,18 @@ returns-in_err-ack g c t there =
 
 pub drop_buffer-requires : goal.drop_buffer-requires
 drop_buffer-requires g c =
-    let at : Sits c.self.inside.seats.items c.args.i c.index-seat.result.now = sits-there c.self.invariant c.self.view_is c.requires c.index-seat.ensures in
+    let at : Sits c.self.inside.seats.items c.args.i c.index-seat.result.now =
+    sits-there c.self.invariant c.self.view_is c.requires.place c.index-seat.ensures in
     let sent = c.in_ok-ack.ensures.1 in
     inside
     (stands-sent c.ack_letter-letter.result c.args.self.now.desk sent.0 c.args.i (task_of (g.S.Words.memory c.self.inside.store) c.index-seat.result.now)
     sent.1.0 sent.1.1
     (seat-there c.self.invariant c.self.view_is at))
 
-pub record_asking-requires : goal.record_asking-requires
-record_asking-requires g c =
-    let at : Sits c.self.inside.seats.items c.args.i c.index-seat.result.now = sits-there c.self.invariant c.self.view_is c.requires c.index-seat.ensures in
+pub record_asking-requires-clause-place : goal.record_asking-requires-clause-place
+record_asking-requires-clause-place g c =
+    let at : Sits c.self.inside.seats.items c.args.i c.index-seat.result.now =
+    sits-there c.self.invariant c.self.view_is c.requires.place c.index-seat.ensures in
     let sent = c.in_ok-ack.ensures.1 in
     let s =
     stands-sent c.ack_letter-letter.result c.args.self.now.desk sent.0 c.args.i (task_of (g.S.Words.memory c.self.inside.store) c.index-seat.result.now)
@@ -42,9 +46,22 @@ record_asking-requires g c =
     inside (stands-dropped c.send_from.new.self.desk c.drop_buffer.new.self.desk c.args.i s.task.handle c.args.f.now.buffer s.task
     (c.drop_buffer.ensures s.task s.at) s.at)
 
+pub record_asking-requires-clause-due : goal.record_asking-requires-clause-due
+record_asking-requires-clause-due g c =
+    let at : Sits c.self.inside.seats.items c.args.i c.index-seat.result.now =
+    sits-there c.self.invariant c.self.view_is c.requires.place c.index-seat.ensures in
+    let sent = c.in_ok-ack.ensures.1 in
+    let s =
+    stands-sent c.ack_letter-letter.result c.args.self.now.desk sent.0 c.args.i (task_of (g.S.Words.memory c.self.inside.store) c.index-seat.result.now)
+    sent.1.0 sent.1.1
+    (seat-there c.self.invariant c.self.view_is at) in
+    still-takes (alike-both records_of (sent-records c.ack_letter-letter.result c.args.self.now.desk sent.0 sent.1.0 sent.1.1)
+    (dropped-records s.task.handle c.args.f.now.buffer (c.drop_buffer.ensures s.task s.at))) c.args.i (take.AskForFile c.args.f.now) c.requires.due
+
 pub returns : goal.returns
 returns g c t there =
-    let at : Sits c.self.inside.seats.items c.args.i c.index-seat.result.now = sits-there c.self.invariant c.self.view_is c.requires c.index-seat.ensures in
+    let at : Sits c.self.inside.seats.items c.args.i c.index-seat.result.now =
+    sits-there c.self.invariant c.self.view_is c.requires.place c.index-seat.ensures in
     let handle = seat-handle c.self.invariant c.self.view_is at there in
     let sent = c.in_ok-ack.ensures.1 in
     ask-done c.args.f.now c.args.self.now.desk c.args.i there handle c.ack_letter-letter.ensures c.in_ok-ack.ack sent.0 c.send_from.new.self.desk

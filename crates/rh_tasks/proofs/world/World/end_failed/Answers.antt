@@ -1,14 +1,21 @@
-use Rattle.rh_defs.specs.Receiver as receiver
+use Rattle.rh_ram.specs.Told.{after_failure}
 use Rattle.rh_tasks.proofs.Places.{member-at}
-use Rattle.rh_tasks.proofs.Takings.{inside, stands-dropped, ended-is}
+use Rattle.rh_defs.specs.declared.transfer_action.TakeAction.TheVariants as c
+use Rattle.rh_tasks.proofs.Dues.{still-takes}
+use Rattle.rh_tasks.proofs.Takings.{inside, stands-dropped, dropped-records, ended-is}
 use Rattle.rh_tasks.proofs.world.World.end_failed.Goals as goal
 
-pub record_failed_in-requires : goal.record_failed_in-requires
-record_failed_in-requires g c =
-    let t = member-at c.args.self.now.desk.tasks c.args.i c.requires in
+pub record_failed_in-requires-clause-place : goal.record_failed_in-requires-clause-place
+record_failed_in-requires-clause-place g c =
+    let t = member-at c.args.self.now.desk.tasks c.args.i c.requires.place in
     inside (stands-dropped c.args.self.now.desk c.drop_buffer.new.self.desk c.args.i t.0.handle c.args.f.now.buffer t.0 (c.drop_buffer.ensures t.0 t.1) t.1)
+
+pub record_failed_in-requires-clause-due : goal.record_failed_in-requires-clause-due
+record_failed_in-requires-clause-due g c =
+    let t = member-at c.args.self.now.desk.tasks c.args.i c.requires.place in
+    still-takes (dropped-records t.0.handle c.args.f.now.buffer (c.drop_buffer.ensures t.0 t.1)) c.args.i c.args.action.now c.requires.due
 
 pub returns : goal.returns
 returns g c t at =
     ended-is c.args.self.now.desk c.drop_buffer.new.self.desk c.record_failed_in.new.self.desk c.args.i c.args.f.now
-    (receiver.taking_failed c.args.f.now c.args.count) t at (c.drop_buffer.ensures t at) c.record_failed_in.ensures
+    (after_failure c.args.action.now c.args.kept) t at (c.drop_buffer.ensures t at) c.record_failed_in.ensures

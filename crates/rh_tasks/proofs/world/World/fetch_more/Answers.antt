@@ -1,6 +1,8 @@
-use Rattle.rh_tasks.proofs.Common.{err_from_is_err_and, task_of, Sits}
-use Rattle.rh_tasks.proofs.Buffers.{sits-there, seat-there, seat-handle, seat-buffer}
-use Rattle.rh_tasks.proofs.Takings.{inside, stands-sent, fetch-from, fetch-refused, fetch-done}
+use Rattle.rh_tasks.proofs.Common.{refl, ap, err_from_is_err_and, Letter, task_of, Sits}
+use Rattle.rh_tasks.proofs.Buffers.{sits-there, seat-there, seat-handle}
+use Rattle.rh_defs.specs.declared.transfer_action.TakeAction.TheVariants as take
+use Rattle.rh_tasks.proofs.Dues.{sent-records, still-takes}
+use Rattle.rh_tasks.proofs.Takings.{inside, stands-sent, fetch-refused, fetch-done}
 use Rattle.rh_tasks.proofs.world.World.fetch_more.Goals as goal
 
 pub send_from-requires : goal.send_from-requires
@@ -9,22 +11,20 @@ send_from-requires g c =
     let at : Sits c.self.inside.seats.items c.args.i c.index-seat.result.now =
     sits-there c.self.invariant c.self.view_is c.requires.place c.index-seat.ensures in (
       task_of (g.S.Words.memory c.self.inside.store) c.index-seat.result.now,
-      (
-        seat-there c.self.invariant c.self.view_is at,
-        fetch-from c.fetch_letter-letter.result c.index-seat.result.now.handle c.args.f.now.sender c.args.message.now.my_ref c.args.f.now.buffer
-            c.index-seat.result.now.buffer
-            c.fetch_letter-letter.ensures,
-      ),
+      (seat-there c.self.invariant c.self.view_is at, ap (λ (l : Letter). l.from) c.fetch_letter-letter.ensures),
     )
 
 pub returns-in_err-fetch : goal.returns-in_err-fetch
-returns-in_err-fetch g c t m for =
+returns-in_err-fetch g c t there =
     let at : Sits c.self.inside.seats.items c.args.i c.index-seat.result.now =
     sits-there c.self.invariant c.self.view_is c.requires.place c.index-seat.ensures in
-    let handle = seat-handle c.self.invariant c.self.view_is at for.at in
-    let buffer = seat-buffer c.self.invariant c.self.view_is at for.at in
+    let handle = seat-handle c.self.invariant c.self.view_is at there in
     let p = err_from_is_err_and c.from_residual.result c.from_residual.ensures.1 in
-    rw (p.1, p.2) (fetch-refused c.args.f.now c.args.n for handle buffer c.fetch_letter-letter.ensures c.in_err-fetch.ensures.0, c.in_err-fetch.ensures.1)
+    rw (p.1, p.2) (
+      fetch-refused c.args.a.now c.args.fetch.now c.args.self.now.desk c.args.i there handle c.fetch_letter-letter.ensures
+          c.in_err-fetch.ensures.0,
+      c.in_err-fetch.ensures.1,
+    )
 
 pub record_fetched-requires-clause-place : goal.record_fetched-requires-clause-place
 record_fetched-requires-clause-place g c =
@@ -34,12 +34,19 @@ record_fetched-requires-clause-place g c =
     inside (stands-sent c.fetch_letter-letter.result c.args.self.now.desk sent.0 c.args.i
     (task_of (g.S.Words.memory c.self.inside.store) c.index-seat.result.now) sent.1.0 sent.1.1 (seat-there c.self.invariant c.self.view_is at))
 
+pub record_fetched-requires-clause-due : goal.record_fetched-requires-clause-due
+record_fetched-requires-clause-due g c =
+    let sent = c.in_ok-fetch.ensures.1 in
+    still-takes (sent-records c.fetch_letter-letter.result c.args.self.now.desk sent.0 sent.1.0 sent.1.1) c.args.i (take.Append c.args.a.now) c.requires.due
+
+pub record_fetched-requires-clause-next : goal.record_fetched-requires-clause-next
+record_fetched-requires-clause-next g c = rw c.requires.next refl
+
 pub returns : goal.returns
-returns g c t m for =
+returns g c t there =
     let at : Sits c.self.inside.seats.items c.args.i c.index-seat.result.now =
     sits-there c.self.invariant c.self.view_is c.requires.place c.index-seat.ensures in
-    let handle = seat-handle c.self.invariant c.self.view_is at for.at in
-    let buffer = seat-buffer c.self.invariant c.self.view_is at for.at in
+    let handle = seat-handle c.self.invariant c.self.view_is at there in
     let sent = c.in_ok-fetch.ensures.1 in
-    fetch-done c.args.f.now c.args.n for handle buffer c.fetch_letter-letter.ensures c.in_ok-fetch.fetch sent.0 c.send_from.new.self.desk
-    c.record_fetched.new.self.desk c.in_ok-fetch.ensures.0 sent.1.0 sent.1.1 c.record_fetched.ensures
+    fetch-done c.args.a.now c.args.fetch.now c.args.self.now.desk c.args.i there handle c.fetch_letter-letter.ensures c.in_ok-fetch.fetch sent.0
+    c.send_from.new.self.desk c.record_fetched.new.self.desk c.in_ok-fetch.ensures.0 sent.1.0 sent.1.1 c.record_fetched.ensures

@@ -1,44 +1,57 @@
-use Rattle.rh_tasks.proofs.Common.{refl, ap, ◌∙◌, User, Letter, Shown, Sits}
+use Rattle.rh_tasks.proofs.Common.{ap, subst, sym, ◌∙◌, ◌<◌, length, Letter, Shown, Sits}
 use Rattle.rh_defs.specs.Letters.{load_ack_letter}
+use Rattle.rh_defs.specs.declared.transfer_action.TakeAction.TheVariants as take
+use Rattle.rh_tasks.specs.Inner.PollSteps.{CanTake}
 use Rattle.rh_tasks.proofs.Buffers.{sits-there, seat-there, seat-handle}
 use Rattle.rh_tasks.proofs.Scraps.{seen-desk}
+use Rattle.rh_tasks.proofs.Dues.{sent-records, still-takes}
 use Rattle.rh_tasks.proofs.ScrapTransfers.{sent-inside, loaded-sent, loaded-failed}
 use Rattle.rh_tasks.proofs.world.World.loaded.Goals as goal
 
 pub send_from-requires : goal.send_from-requires
 send_from-requires g c =
     let w = c.self.invariant in
-    let sits : Sits c.self.inside.seats.items c.args.i c.index-seat.result.now = sits-there w c.self.view_is c.requires c.index-seat.ensures in
+    let sits : Sits c.self.inside.seats.items c.args.i c.index-seat.result.now = sits-there w c.self.view_is c.requires.place c.index-seat.ensures in
     let at = seat-there w c.self.view_is sits in
-    let letter = c.load_ack_letter-letter.ensures (record { code = User; to = 0; block = 0; message = c.args.message.now }) refl in
-    (_, (at, ap (λ (l : Letter). l.from) letter ∙ seat-handle w c.self.view_is sits at))
+    (_, (at, ap (λ (l : Letter). l.from) c.load_ack_letter-letter.ensures ∙ seat-handle w c.self.view_is sits at))
 
-pub record_loaded_in-requires : goal.record_loaded_in-requires
-record_loaded_in-requires g c =
+pub record_loaded_in-requires-clause-place : goal.record_loaded_in-requires-clause-place
+record_loaded_in-requires-clause-place g c =
     let w = c.self.invariant in
-    let sits : Sits c.self.inside.seats.items c.args.i c.index-seat.result.now = sits-there w c.self.view_is c.requires c.index-seat.ensures in
+    let sits : Sits c.self.inside.seats.items c.args.i c.index-seat.result.now = sits-there w c.self.view_is c.requires.place c.index-seat.ensures in
     let at = seat-there w c.self.view_is sits in
-    let letter = c.load_ack_letter-letter.ensures (record { code = User; to = 0; block = 0; message = c.args.message.now }) refl in
     sent-inside c.args.self.now.desk c.args.i _ c.load_ack_letter-letter.result (seen-desk w c.self.view_is) at
-    (ap (λ (l : Letter). l.from) letter ∙ seat-handle w c.self.view_is sits at) c.in-Ok.ensures.1
+    (ap (λ (l : Letter). l.from) c.load_ack_letter-letter.ensures ∙ seat-handle w c.self.view_is sits at) c.in-Ok.ensures.1
+
+pub record_loaded_in-requires-clause-due : goal.record_loaded_in-requires-clause-due
+record_loaded_in-requires-clause-due g c =
+    let sent = c.in-Ok.ensures.1 in
+    still-takes (sent-records c.load_ack_letter-letter.result c.args.self.now.desk sent.0 sent.1.0 sent.1.1) c.args.i
+    (take.LoadFile c.args.a.now) c.requires.due
 
 pub returns-in-Ok : goal.returns-in-Ok
 returns-in-Ok g c =
     let w = c.self.invariant in
-    let sits : Sits c.self.inside.seats.items c.args.i c.index-seat.result.now = sits-there w c.self.view_is c.requires c.index-seat.ensures in
-    λ t m for.
-    let own = seat-handle w c.self.view_is sits for.at in
-    let letter = c.load_ack_letter-letter.ensures m for.message_is ∙ ap (λ h. load_ack_letter h m c.args.n) own in
-    loaded-sent c.args.self.now.desk c.args.i t (seen-desk w c.self.view_is) for.at m c.args.q.now c.args.n c.load_ack_letter-letter.result letter
+    let sits : Sits c.self.inside.seats.items c.args.i c.index-seat.result.now = sits-there w c.self.view_is c.requires.place c.index-seat.ensures in
+    λ t at.
+    let letter = c.load_ack_letter-letter.ensures ∙ ap (λ h. load_ack_letter h c.args.a.now c.args.n) (seat-handle w c.self.view_is sits at) in
+    loaded-sent c.args.self.now.desk c.args.i t (seen-desk w c.self.view_is) at c.args.a.now c.args.n c.load_ack_letter-letter.result letter
     c.in-Ok.ensures.1 c.record_loaded_in.ensures
+
+pub record_failed_in-requires-clause-place : goal.record_failed_in-requires-clause-place
+record_failed_in-requires-clause-place g c =
+    subst (λ (x : Shown). c.args.i < length x.desk.tasks) (sym c.in-Err.ensures.1) c.requires.place
+
+pub record_failed_in-requires-clause-due : goal.record_failed_in-requires-clause-due
+record_failed_in-requires-clause-due g c =
+    subst (λ (x : Shown). CanTake c.args.i (take.LoadFile c.args.a.now) x.desk) (sym c.in-Err.ensures.1) c.requires.due
 
 pub returns-in-Err : goal.returns-in-Err
 returns-in-Err g c =
     let w = c.self.invariant in
-    let sits : Sits c.self.inside.seats.items c.args.i c.index-seat.result.now = sits-there w c.self.view_is c.requires c.index-seat.ensures in
-    λ t m for.
-    let own = seat-handle w c.self.view_is sits for.at in
-    let letter = c.load_ack_letter-letter.ensures m for.message_is ∙ ap (λ h. load_ack_letter h m c.args.n) own in
-    loaded-failed c.args.self.now.desk c.args.i t (seen-desk w c.self.view_is) for.at m c.args.q.now c.args.n c.load_ack_letter-letter.result letter
+    let sits : Sits c.self.inside.seats.items c.args.i c.index-seat.result.now = sits-there w c.self.view_is c.requires.place c.index-seat.ensures in
+    λ t at.
+    let letter = c.load_ack_letter-letter.ensures ∙ ap (λ h. load_ack_letter h c.args.a.now c.args.n) (seat-handle w c.self.view_is sits at) in
+    loaded-failed c.args.self.now.desk c.args.i t (seen-desk w c.self.view_is) at c.args.a.now c.args.n c.load_ack_letter-letter.result letter
     c.in-Err.ensures.0
-    (ap (λ (x : Shown). x.desk) c.in-Err.ensures.1) c.record_abandoned.ensures
+    (ap (λ (x : Shown). x.desk) c.in-Err.ensures.1) c.record_failed_in.ensures

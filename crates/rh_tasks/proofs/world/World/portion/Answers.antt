@@ -1,4 +1,4 @@
-use Rattle.rh_tasks.proofs.Common.{◌≡◌, ◌+◌, ◌-◌, refl, sym, ap, ◌∙◌, arith, min, err_from_is_err_and, flex_address, slot_in, HasSlot, task_of, all-at}
+use Rattle.rh_tasks.proofs.Common.{◌≡◌, ◌+◌, refl, sym, ap, ◌∙◌, arith, err_from_is_err_and, flex_address, slot_in, HasSlot, task_of, all-at}
 use Rattle.rh_tasks.proofs.SeatRecords.{sits-in}
 use Rattle.rh_tasks.proofs.Portions.{unsized, sized, addressed, stands}
 use Rattle.rh_tasks.proofs.Fetches.{seated, seat-is}
@@ -12,7 +12,7 @@ returns-in_err-size-clause-err g c =
     let seats = c.self.inside.seats.items in
     let s = c.index-seat.result.now in
     rw (p.1, p.2, ← c.self.view_is) (λ t ti. rw (seat-is (seated m seats c.args.i t ti) s (sym c.index-seat.ensures))
-    (unsized c.args.x.now.anchor (slot_in m s.slot) c.in_err-size.ensures))
+    (unsized c.args.a.now.transfer.anchor (slot_in m s.slot) c.in_err-size.ensures))
 
 pub address-requires-clause-anchor : goal.address-requires-clause-anchor
 address-requires-clause-anchor g c =
@@ -55,6 +55,7 @@ returns-clause-ok g c =
     rw (← c.self.view_is) (λ t ti. rw (seat-is (seated m seats c.args.i t ti) s (sym c.index-seat.ensures)) (record {
       source = z.cut;
       block = z.block;
-      address_is = c.next_address-address.ensures.next ∙ ap (λ k. k + c.args.x.now.count) same;
-      length_is = c.bytes_left-length.ensures.least ∙ ap (λ k. min c.args.amount (k - c.args.x.now.count)) z.long;
+      size_is = z.long;
+      address_is = c.next_address-address.ensures.next ∙ ap (λ k. k + c.part-part.result.offset) same;
+      part_is = c.part-part.ensures.part;
     }))

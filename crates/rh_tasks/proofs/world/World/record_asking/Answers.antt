@@ -1,19 +1,35 @@
-use Rattle.std.proofs.Common.{sym}
+use Rattle.rh_tasks.proofs.Common.{◌≡◌, refl, sym, Ok}
+use Rattle.rh_defs.specs.declared.transfer_action.TakeAction.TheVariants as action
 use Rattle.rh_defs.specs.Receiver as receiver
-use Rattle.rh_tasks.proofs.SeatRecords.{sits-in, taking-world, taking-done}
+use Rattle.rh_ram.specs.Told.{tell_asking}
+use Rattle.rh_tasks.proofs.SeatRecords.{is-taken, was-taken, sits-in, takes-at, taking-world, taking-done}
 use Rattle.rh_tasks.proofs.world.World.record_asking.Goals as goal
+
+pub unwrap-requires : goal.unwrap-requires
+unwrap-requires g c =
+    let inside = rw (← c.self.view_is) at c.requires.place in
+    let at = sits-in c.self.invariant inside (sym c.index_mut-seat.ensures.value) in
+    let due = takes-at c.self.invariant at (action.AskForFile c.args.f.now) (rw (← c.self.view_is) at c.requires.due) in
+    let records = c.index_mut-seat.result.now.taking in
+    let done : tell_asking c.args.f.now c.args.ack records ≡ Ok (receiver.asking c.args.f.now c.args.ack records) = rw due refl in
+    is-taken done c.asking.ensures.answer
 
 pub invariant_of-self : goal.invariant_of-self
 invariant_of-self g c =
-    let inside = rw (← c.self.view_is) at c.requires in
+    let inside = rw (← c.self.view_is) at c.requires.place in
     let at = sits-in c.self.invariant inside (sym c.index_mut-seat.ensures.value) in
-    let edit = receiver.asking c.args.f.now c.args.ack in
-    taking-world c.self.invariant at edit c.asking.ensures
+    let due = takes-at c.self.invariant at (action.AskForFile c.args.f.now) (rw (← c.self.view_is) at c.requires.due) in
+    let records = c.index_mut-seat.result.now.taking in
+    let done : tell_asking c.args.f.now c.args.ack records ≡ Ok (receiver.asking c.args.f.now c.args.ack records) = rw due refl in
+    taking-world c.self.invariant at (receiver.asking c.args.f.now c.args.ack) (was-taken records done c.asking.ensures.records)
 
 pub returns : goal.returns
 returns g c = λ t there.
-    let inside = rw (← c.self.view_is) at c.requires in
+    let inside = rw (← c.self.view_is) at c.requires.place in
     let at = sits-in c.self.invariant inside (sym c.index_mut-seat.ensures.value) in
-    let edit = receiver.asking c.args.f.now c.args.ack in
+    let due = takes-at c.self.invariant at (action.AskForFile c.args.f.now) (rw (← c.self.view_is) at c.requires.due) in
+    let records = c.index_mut-seat.result.now.taking in
+    let done : tell_asking c.args.f.now c.args.ack records ≡ Ok (receiver.asking c.args.f.now c.args.ack records) = rw due refl in
     let where_is = rw (← c.self.view_is) at there in
-    rw (← c.self.view_is) (taking-done c.self.invariant at edit c.asking.ensures t where_is)
+    rw (← c.self.view_is) (taking-done c.self.invariant at (receiver.asking c.args.f.now c.args.ack)
+    (was-taken records done c.asking.ensures.records) t where_is)

@@ -1,19 +1,34 @@
-use Rattle.std.proofs.Common.{sym}
+use Rattle.rh_tasks.proofs.Common.{◌≡◌, refl, sym, Ok}
 use Rattle.rh_defs.specs.Sender as sender
-use Rattle.rh_tasks.proofs.SeatRecords.{sits-in, sending-world, sending-done}
+use Rattle.rh_ram.specs.Told.{tell_sending_failed}
+use Rattle.rh_tasks.proofs.SeatRecords.{is-taken, was-taken, sits-in, sends-at, sending-world, sending-done}
 use Rattle.rh_tasks.proofs.world.World.record_failed_out.Goals as goal
+
+pub unwrap-requires : goal.unwrap-requires
+unwrap-requires g c =
+    let inside = rw (← c.self.view_is) at c.requires.place in
+    let at = sits-in c.self.invariant inside (sym c.index_mut-seat.ensures.value) in
+    let due = sends-at c.self.invariant at c.args.action.now (rw (← c.self.view_is) at c.requires.due) in
+    let records = c.index_mut-seat.result.now.sending in
+    let done : tell_sending_failed c.args.action.now records ≡ Ok (sender.sending_failed (sender.transfer_of c.args.action.now) records) = rw due refl in
+    is-taken done c.failed.ensures.answer
 
 pub invariant_of-self : goal.invariant_of-self
 invariant_of-self g c =
-    let inside = rw (← c.self.view_is) at c.requires in
+    let inside = rw (← c.self.view_is) at c.requires.place in
     let at = sits-in c.self.invariant inside (sym c.index_mut-seat.ensures.value) in
-    let edit = sender.sending_failed c.args.x.now in
-    sending-world c.self.invariant at edit c.failed.ensures
+    let due = sends-at c.self.invariant at c.args.action.now (rw (← c.self.view_is) at c.requires.due) in
+    let records = c.index_mut-seat.result.now.sending in
+    let done : tell_sending_failed c.args.action.now records ≡ Ok (sender.sending_failed (sender.transfer_of c.args.action.now) records) = rw due refl in
+    sending-world c.self.invariant at (sender.sending_failed (sender.transfer_of c.args.action.now)) (was-taken records done c.failed.ensures.records)
 
 pub returns : goal.returns
 returns g c = λ t there.
-    let inside = rw (← c.self.view_is) at c.requires in
+    let inside = rw (← c.self.view_is) at c.requires.place in
     let at = sits-in c.self.invariant inside (sym c.index_mut-seat.ensures.value) in
-    let edit = sender.sending_failed c.args.x.now in
+    let due = sends-at c.self.invariant at c.args.action.now (rw (← c.self.view_is) at c.requires.due) in
+    let records = c.index_mut-seat.result.now.sending in
+    let done : tell_sending_failed c.args.action.now records ≡ Ok (sender.sending_failed (sender.transfer_of c.args.action.now) records) = rw due refl in
     let where_is = rw (← c.self.view_is) at there in
-    rw (← c.self.view_is) (sending-done c.self.invariant at edit c.failed.ensures t where_is)
+    rw (← c.self.view_is) (sending-done c.self.invariant at (sender.sending_failed (sender.transfer_of c.args.action.now))
+    (was-taken records done c.failed.ensures.records) t where_is)

@@ -1,19 +1,35 @@
-use Rattle.std.proofs.Common.{sym}
+use Rattle.rh_tasks.proofs.Common.{◌≡◌, refl, sym, Ok}
+use Rattle.rh_defs.specs.declared.transfer_action.TakeAction.TheVariants as action
 use Rattle.rh_defs.specs.Receiver as receiver
-use Rattle.rh_tasks.proofs.SeatRecords.{sits-in, taking-world, taking-done}
+use Rattle.rh_ram.specs.Told.{tell_taking_loaded}
+use Rattle.rh_tasks.proofs.SeatRecords.{is-taken, was-taken, sits-in, takes-at, taking-world, taking-done}
 use Rattle.rh_tasks.proofs.world.World.record_loaded_in.Goals as goal
+
+pub unwrap-requires : goal.unwrap-requires
+unwrap-requires g c =
+    let inside = rw (← c.self.view_is) at c.requires.place in
+    let at = sits-in c.self.invariant inside (sym c.index_mut-seat.ensures.value) in
+    let due = takes-at c.self.invariant at (action.LoadFile c.args.a.now) (rw (← c.self.view_is) at c.requires.due) in
+    let records = c.index_mut-seat.result.now.taking in
+    let done : tell_taking_loaded c.args.a.now c.args.n records ≡ Ok (receiver.taking_loaded c.args.a.now.transfer c.args.n records) = rw due refl in
+    is-taken done c.loaded.ensures.answer
 
 pub invariant_of-self : goal.invariant_of-self
 invariant_of-self g c =
-    let inside = rw (← c.self.view_is) at c.requires in
+    let inside = rw (← c.self.view_is) at c.requires.place in
     let at = sits-in c.self.invariant inside (sym c.index_mut-seat.ensures.value) in
-    let edit = receiver.taking_loaded c.args.q.now c.args.n in
-    taking-world c.self.invariant at edit c.loaded.ensures
+    let due = takes-at c.self.invariant at (action.LoadFile c.args.a.now) (rw (← c.self.view_is) at c.requires.due) in
+    let records = c.index_mut-seat.result.now.taking in
+    let done : tell_taking_loaded c.args.a.now c.args.n records ≡ Ok (receiver.taking_loaded c.args.a.now.transfer c.args.n records) = rw due refl in
+    taking-world c.self.invariant at (receiver.taking_loaded c.args.a.now.transfer c.args.n) (was-taken records done c.loaded.ensures.records)
 
 pub returns : goal.returns
 returns g c = λ t there.
-    let inside = rw (← c.self.view_is) at c.requires in
+    let inside = rw (← c.self.view_is) at c.requires.place in
     let at = sits-in c.self.invariant inside (sym c.index_mut-seat.ensures.value) in
-    let edit = receiver.taking_loaded c.args.q.now c.args.n in
+    let due = takes-at c.self.invariant at (action.LoadFile c.args.a.now) (rw (← c.self.view_is) at c.requires.due) in
+    let records = c.index_mut-seat.result.now.taking in
+    let done : tell_taking_loaded c.args.a.now c.args.n records ≡ Ok (receiver.taking_loaded c.args.a.now.transfer c.args.n records) = rw due refl in
     let where_is = rw (← c.self.view_is) at there in
-    rw (← c.self.view_is) (taking-done c.self.invariant at edit c.loaded.ensures t where_is)
+    rw (← c.self.view_is) (taking-done c.self.invariant at (receiver.taking_loaded c.args.a.now.transfer c.args.n)
+    (was-taken records done c.loaded.ensures.records) t where_is)

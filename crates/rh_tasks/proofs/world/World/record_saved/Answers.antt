@@ -1,19 +1,34 @@
-use Rattle.std.proofs.Common.{sym}
+use Rattle.rh_tasks.proofs.Common.{◌≡◌, refl, sym, Ok}
+use Rattle.rh_defs.specs.declared.transfer_action.SendAction.TheVariants as action
 use Rattle.rh_defs.specs.Sender as sender
-use Rattle.rh_tasks.proofs.SeatRecords.{sits-in, sending-world, sending-done}
+use Rattle.rh_ram.specs.Told.{tell_saved}
+use Rattle.rh_tasks.proofs.SeatRecords.{is-taken, was-taken, sits-in, sends-at, sending-world, sending-done}
 use Rattle.rh_tasks.proofs.world.World.record_saved.Goals as goal
+
+pub unwrap-requires : goal.unwrap-requires
+unwrap-requires g c =
+    let inside = rw (← c.self.view_is) at c.requires.place in
+    let at = sits-in c.self.invariant inside (sym c.index_mut-seat.ensures.value) in
+    let due = sends-at c.self.invariant at (action.SaveFile c.args.a.now) (rw (← c.self.view_is) at c.requires.due) in
+    let records = c.index_mut-seat.result.now.sending in
+    let done : tell_saved c.args.a.now c.args.last records ≡ Ok (sender.saved c.args.a.now c.args.last records) = rw due refl in
+    is-taken done c.saved.ensures.answer
 
 pub invariant_of-self : goal.invariant_of-self
 invariant_of-self g c =
-    let inside = rw (← c.self.view_is) at c.requires in
+    let inside = rw (← c.self.view_is) at c.requires.place in
     let at = sits-in c.self.invariant inside (sym c.index_mut-seat.ensures.value) in
-    let edit = sender.saved c.args.x.now c.args.last in
-    sending-world c.self.invariant at edit c.saved.ensures
+    let due = sends-at c.self.invariant at (action.SaveFile c.args.a.now) (rw (← c.self.view_is) at c.requires.due) in
+    let records = c.index_mut-seat.result.now.sending in
+    let done : tell_saved c.args.a.now c.args.last records ≡ Ok (sender.saved c.args.a.now c.args.last records) = rw due refl in
+    sending-world c.self.invariant at (sender.saved c.args.a.now c.args.last) (was-taken records done c.saved.ensures.records)
 
 pub returns : goal.returns
 returns g c = λ t there.
-    let inside = rw (← c.self.view_is) at c.requires in
+    let inside = rw (← c.self.view_is) at c.requires.place in
     let at = sits-in c.self.invariant inside (sym c.index_mut-seat.ensures.value) in
-    let edit = sender.saved c.args.x.now c.args.last in
+    let due = sends-at c.self.invariant at (action.SaveFile c.args.a.now) (rw (← c.self.view_is) at c.requires.due) in
+    let records = c.index_mut-seat.result.now.sending in
+    let done : tell_saved c.args.a.now c.args.last records ≡ Ok (sender.saved c.args.a.now c.args.last records) = rw due refl in
     let where_is = rw (← c.self.view_is) at there in
-    rw (← c.self.view_is) (sending-done c.self.invariant at edit c.saved.ensures t where_is)
+    rw (← c.self.view_is) (sending-done c.self.invariant at (sender.saved c.args.a.now c.args.last) (was-taken records done c.saved.ensures.records) t where_is)

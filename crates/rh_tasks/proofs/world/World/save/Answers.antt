@@ -22,8 +22,8 @@ returns-in_err-recipient g c =
       refl,
     )
 
-pub save_letter-letter-requires : goal.save_letter-letter-requires
-save_letter-letter-requires g c = save-leaf c.args.name.now c.args.anchor c.args.to.now c.args.leaf.now c.requires
+pub pathname-requires : goal.pathname-requires
+pathname-requires g c = save-leaf c.args.name.now c.args.anchor c.args.to.now c.args.leaf.now c.requires
 
 pub send-requires-clause-from : goal.send-requires-clause-from
 send-requires-clause-from g c =
@@ -32,7 +32,8 @@ send-requires-clause-from g c =
     let f : FoundSeat c.args.name.now c.self.inside.seats.items c.in_ok-source.source.place s = again-found e.found (sym c.index_mut-seat.ensures.value) in
     let given = again-given (source_block c.args.anchor) (g.S.Words.memory c.self.inside.store) e.found f e.given in
     let r = c.in_ok-recipient.ensures.ok in
-    rw (c.save_letter-letter.ensures) (save-live c.self.invariant c.args.anchor c.args.to.now c.args.leaf.now f c.in_ok-source.source.size given r.found r.is)
+    rw (c.save_letter-letter.ensures, c.pathname.ensures)
+    (save-live c.self.invariant c.args.anchor c.args.to.now c.args.leaf.now f c.in_ok-source.source.size given r.found r.is)
 
 pub returns-in_err-my_ref : goal.returns-in_err-my_ref
 returns-in_err-my_ref g c =
@@ -42,7 +43,7 @@ returns-in_err-my_ref g c =
     let given = again-given (source_block c.args.anchor) (g.S.Words.memory c.self.inside.store) e.found f e.given in
     let r = c.in_ok-recipient.ensures.ok in
     let p = err_from_is_err_and c.from_residual-in_err-my_ref.result c.from_residual-in_err-my_ref.ensures.1 in
-    let x = rw (c.save_letter-letter.ensures) at c.in_err-my_ref.ensures in
+    let x = rw (c.save_letter-letter.ensures, c.pathname.ensures) at c.in_err-my_ref.ensures in
     rw (p.1, p.2, ← c.self.view_is) (
       save-refused c.self.invariant c.args.anchor c.args.to.now c.args.leaf.now f c.in_ok-source.source.size given r.found r.is x.answer,
       same-shown c.self.inside.made.items (g.F.NamedFiles.contents c.self.inside.files) c.self.inside.next c.self.inside.scrap x.err.0
@@ -65,7 +66,7 @@ invariant_of-self-2 g c =
     let f : FoundSeat c.args.name.now c.self.inside.seats.items c.in_ok-source.source.place s = again-found e.found (sym c.index_mut-seat.ensures.value) in
     let given = again-given (source_block c.args.anchor) (g.S.Words.memory c.self.inside.store) e.found f e.given in
     let r = c.in_ok-recipient.ensures.ok in
-    let x = rw (c.save_letter-letter.ensures) at c.in_ok-my_ref.ensures in
+    let x = rw (c.save_letter-letter.ensures, c.pathname.ensures) at c.in_ok-my_ref.ensures in
     rw (c.offered.ensures, x.ok) (save-world c.self.invariant c.args.anchor c.args.to.now c.args.leaf.now f c.in_ok-source.source.size given r.found r.is
     c.in_ok-my_ref.my_ref x.answer x.leaves c.requires)
 
@@ -76,6 +77,6 @@ returns g c =
     let f : FoundSeat c.args.name.now c.self.inside.seats.items c.in_ok-source.source.place s = again-found e.found (sym c.index_mut-seat.ensures.value) in
     let given = again-given (source_block c.args.anchor) (g.S.Words.memory c.self.inside.store) e.found f e.given in
     let r = c.in_ok-recipient.ensures.ok in
-    let x = rw (c.save_letter-letter.ensures) at c.in_ok-my_ref.ensures in
+    let x = rw (c.save_letter-letter.ensures, c.pathname.ensures) at c.in_ok-my_ref.ensures in
     rw (← c.self.view_is, c.offered.ensures, x.ok) (save-done c.self.invariant c.args.anchor c.args.to.now c.args.leaf.now f c.in_ok-source.source.size given
     r.found r.is c.in_ok-my_ref.my_ref x.answer x.leaves c.requires)

@@ -1,39 +1,41 @@
 use Rattle.rh_tasks.proofs.Common.{◌≡◌, refl, sym, ◌∙◌, arith, err_from_is_err_and, free_pages, scrap_shortage}
 use Rattle.rh_tasks.proofs.Scraps.{seen-busy, seen-free, seen-shortage}
 use Rattle.rh_tasks.proofs.ScrapTransfers.{save-missing, save-busy, save-unsendable, full-is, short-is, sends-ok, own, first-at, first-sends, second-inside}
-use Rattle.rh_tasks.proofs.ScrapTransfers.{second-room, second-block, third-inside, save-all}
-use Rattle.rh_tasks.proofs.SaveScenes.{someone, size-is, pages-are, saves, widens}
+use Rattle.rh_tasks.proofs.ScrapTransfers.{second-room, second-block, third-inside, saved-records, save-all}
+use Rattle.rh_defs.specs.declared.transfer_action.SendAction.TheVariants as send
+use Rattle.rh_tasks.proofs.Dues.{still-sends}
+use Rattle.rh_tasks.proofs.SaveScenes.{own-there, size-is, pages-are, saves, widens}
 use Rattle.rh_tasks.proofs.world.World.save_scrap.Goals as goal
 
 pub returns-in_err-size : goal.returns-in_err-size
 returns-in_err-size g c =
     let p = err_from_is_err_and c.from_residual.result c.from_residual.ensures.1 in
-    rw (p.1, p.2) (λ t m for. (
-      save-missing c.args.self.now.desk t m c.args.x.now (size-is c.self.invariant c.self.view_is c.requires c.index-seat.ensures for c.args.x.now
+    rw (p.1, p.2) (λ t at. (
+      save-missing c.args.self.now.desk t c.args.a.now (size-is c.self.invariant c.self.view_is c.requires.place c.index-seat.ensures at c.args.a.now
           c.in_err-size.ensures),
       refl,
     ))
 
 pub returns-then-is_some : goal.returns-then-is_some
-returns-then-is_some g c = λ t m for.
-    let given = size-is c.self.invariant c.self.view_is c.requires c.index-seat.ensures for c.args.x.now c.in_ok-size.ensures in
-    (save-busy c.args.self.now.desk t m c.args.x.now c.in_ok-size.size given (seen-busy c.self.invariant c.self.view_is ∙ sym c.if-is_some.ensures), refl)
+returns-then-is_some g c = λ t at.
+    let given = size-is c.self.invariant c.self.view_is c.requires.place c.index-seat.ensures at c.args.a.now c.in_ok-size.ensures in
+    (save-busy c.args.self.now.desk t c.args.a.now c.in_ok-size.size given (seen-busy c.self.invariant c.self.view_is ∙ sym c.if-is_some.ensures), refl)
 
 pub returns-in_err-more : goal.returns-in_err-more
 returns-in_err-more g c =
     let w = c.self.invariant in
     let p = err_from_is_err_and c.from_residual-in_err-more.result c.from_residual-in_err-more.ensures.1 in
-    rw (p.1, p.2) (λ t m for.
-    let given = size-is w c.self.view_is c.requires c.index-seat.ensures for c.args.x.now c.in_ok-size.ensures in (
-      save-unsendable c.args.self.now.desk t m c.args.x.now c.in_ok-size.size given (seen-busy w c.self.view_is ∙ sym c.if-is_some.ensures)
-          (pages-are w c.self.view_is c.requires c.index-seat.ensures for c.args.x.now c.load_letter-letter.ensures c.in_err-more.ensures),
+    rw (p.1, p.2) (λ t at.
+    let given = size-is w c.self.view_is c.requires.place c.index-seat.ensures at c.args.a.now c.in_ok-size.ensures in (
+      save-unsendable c.args.self.now.desk t c.args.a.now c.in_ok-size.size given (seen-busy w c.self.view_is ∙ sym c.if-is_some.ensures)
+          (pages-are w c.self.view_is c.requires.place c.index-seat.ensures at c.args.a.now c.load_letter-letter.ensures c.in_err-more.ensures),
       refl,
     ))
 
 pub returns-then-free-wider : goal.returns-then-free-wider
-returns-then-free-wider g c = λ t m for.
+returns-then-free-wider g c = λ t at.
     let w = c.self.invariant in
-    let a = saves w c.self.view_is c.requires c.index-seat.ensures for c.args.x.now c.load_letter-letter.ensures c.in_ok-size.ensures c.if-is_some.ensures
+    let a = saves w c.self.view_is c.requires.place c.index-seat.ensures at c.args.a.now c.load_letter-letter.ensures c.in_ok-size.ensures c.if-is_some.ensures
     c.in_ok-more.ensures in (
       full-is a (omega (
         arith,
@@ -49,9 +51,9 @@ returns-then-free-wider g c = λ t m for.
     )
 
 pub returns-then-free-wider-2 : goal.returns-then-free-wider-2
-returns-then-free-wider-2 g c = λ t m for.
+returns-then-free-wider-2 g c = λ t at.
     let w = c.self.invariant in
-    let a = saves w c.self.view_is c.requires c.index-seat.ensures for c.args.x.now c.load_letter-letter.ensures c.in_ok-size.ensures c.if-is_some.ensures
+    let a = saves w c.self.view_is c.requires.place c.index-seat.ensures at c.args.a.now c.load_letter-letter.ensures c.in_ok-size.ensures c.if-is_some.ensures
     c.in_ok-more.ensures in
     let short : c.saturating_sub-wider.result ≡ scrap_shortage c.in_ok-size.size c.args.self.now.desk =
     omega (arith, c.saturating_sub-wider.ensures, c.pages_for.ensures, c.len.ensures, seen-shortage w c.self.view_is c.in_ok-size.size) in
@@ -61,8 +63,8 @@ returns-then-free-wider-2 g c = λ t m for.
 pub send_from-requires : goal.send_from-requires
 send_from-requires g c =
     let w = c.self.invariant in
-    let for = someone w c.self.view_is c.requires c.index-seat.ensures c.args.message.now in
-    let a = saves w c.self.view_is c.requires c.index-seat.ensures for c.args.x.now c.load_letter-letter.ensures c.in_ok-size.ensures c.if-is_some.ensures
+    let at = own-there w c.self.view_is c.requires.place c.index-seat.ensures in
+    let a = saves w c.self.view_is c.requires.place c.index-seat.ensures at c.args.a.now c.load_letter-letter.ensures c.in_ok-size.ensures c.if-is_some.ensures
     c.in_ok-more.ensures in
     let short : c.saturating_sub-wider.result ≡ scrap_shortage c.in_ok-size.size c.args.self.now.desk =
     omega (arith, c.saturating_sub-wider.ensures, c.pages_for.ensures, c.len.ensures, seen-shortage w c.self.view_is c.in_ok-size.size) in
@@ -72,8 +74,8 @@ send_from-requires g c =
 pub unwrap-load-requires : goal.unwrap-load-requires
 unwrap-load-requires g c =
     let w = c.self.invariant in
-    let for = someone w c.self.view_is c.requires c.index-seat.ensures c.args.message.now in
-    let a = saves w c.self.view_is c.requires c.index-seat.ensures for c.args.x.now c.load_letter-letter.ensures c.in_ok-size.ensures c.if-is_some.ensures
+    let at = own-there w c.self.view_is c.requires.place c.index-seat.ensures in
+    let a = saves w c.self.view_is c.requires.place c.index-seat.ensures at c.args.a.now c.load_letter-letter.ensures c.in_ok-size.ensures c.if-is_some.ensures
     c.in_ok-more.ensures in
     let short : c.saturating_sub-wider.result ≡ scrap_shortage c.in_ok-size.size c.args.self.now.desk =
     omega (arith, c.saturating_sub-wider.ensures, c.pages_for.ensures, c.len.ensures, seen-shortage w c.self.view_is c.in_ok-size.size) in
@@ -84,8 +86,8 @@ unwrap-load-requires g c =
 pub fill_scrap-requires-clause-place : goal.fill_scrap-requires-clause-place
 fill_scrap-requires-clause-place g c =
     let w = c.self.invariant in
-    let for = someone w c.self.view_is c.requires c.index-seat.ensures c.args.message.now in
-    let a = saves w c.self.view_is c.requires c.index-seat.ensures for c.args.x.now c.load_letter-letter.ensures c.in_ok-size.ensures c.if-is_some.ensures
+    let at = own-there w c.self.view_is c.requires.place c.index-seat.ensures in
+    let a = saves w c.self.view_is c.requires.place c.index-seat.ensures at c.args.a.now c.load_letter-letter.ensures c.in_ok-size.ensures c.if-is_some.ensures
     c.in_ok-more.ensures in
     let short : c.saturating_sub-wider.result ≡ scrap_shortage c.in_ok-size.size c.args.self.now.desk =
     omega (arith, c.saturating_sub-wider.ensures, c.pages_for.ensures, c.len.ensures, seen-shortage w c.self.view_is c.in_ok-size.size) in
@@ -96,8 +98,8 @@ fill_scrap-requires-clause-place g c =
 pub fill_scrap-requires-clause-room : goal.fill_scrap-requires-clause-room
 fill_scrap-requires-clause-room g c =
     let w = c.self.invariant in
-    let for = someone w c.self.view_is c.requires c.index-seat.ensures c.args.message.now in
-    let a = saves w c.self.view_is c.requires c.index-seat.ensures for c.args.x.now c.load_letter-letter.ensures c.in_ok-size.ensures c.if-is_some.ensures
+    let at = own-there w c.self.view_is c.requires.place c.index-seat.ensures in
+    let a = saves w c.self.view_is c.requires.place c.index-seat.ensures at c.args.a.now c.load_letter-letter.ensures c.in_ok-size.ensures c.if-is_some.ensures
     c.in_ok-more.ensures in
     let short : c.saturating_sub-wider.result ≡ scrap_shortage c.in_ok-size.size c.args.self.now.desk =
     omega (arith, c.saturating_sub-wider.ensures, c.pages_for.ensures, c.len.ensures, seen-shortage w c.self.view_is c.in_ok-size.size) in
@@ -108,8 +110,8 @@ fill_scrap-requires-clause-room g c =
 pub fill_scrap-requires-clause-block : goal.fill_scrap-requires-clause-block
 fill_scrap-requires-clause-block g c =
     let w = c.self.invariant in
-    let for = someone w c.self.view_is c.requires c.index-seat.ensures c.args.message.now in
-    let a = saves w c.self.view_is c.requires c.index-seat.ensures for c.args.x.now c.load_letter-letter.ensures c.in_ok-size.ensures c.if-is_some.ensures
+    let at = own-there w c.self.view_is c.requires.place c.index-seat.ensures in
+    let a = saves w c.self.view_is c.requires.place c.index-seat.ensures at c.args.a.now c.load_letter-letter.ensures c.in_ok-size.ensures c.if-is_some.ensures
     c.in_ok-more.ensures in
     let short : c.saturating_sub-wider.result ≡ scrap_shortage c.in_ok-size.size c.args.self.now.desk =
     omega (arith, c.saturating_sub-wider.ensures, c.pages_for.ensures, c.len.ensures, seen-shortage w c.self.view_is c.in_ok-size.size) in
@@ -117,11 +119,11 @@ fill_scrap-requires-clause-block g c =
     let sent = rw c.unwrap-load.ensures at c.send_from.ensures in
     second-block a b sent.1
 
-pub record_saved-requires : goal.record_saved-requires
-record_saved-requires g c =
+pub record_saved-requires-clause-place : goal.record_saved-requires-clause-place
+record_saved-requires-clause-place g c =
     let w = c.self.invariant in
-    let for = someone w c.self.view_is c.requires c.index-seat.ensures c.args.message.now in
-    let a = saves w c.self.view_is c.requires c.index-seat.ensures for c.args.x.now c.load_letter-letter.ensures c.in_ok-size.ensures c.if-is_some.ensures
+    let at = own-there w c.self.view_is c.requires.place c.index-seat.ensures in
+    let a = saves w c.self.view_is c.requires.place c.index-seat.ensures at c.args.a.now c.load_letter-letter.ensures c.in_ok-size.ensures c.if-is_some.ensures
     c.in_ok-more.ensures in
     let short : c.saturating_sub-wider.result ≡ scrap_shortage c.in_ok-size.size c.args.self.now.desk =
     omega (arith, c.saturating_sub-wider.ensures, c.pages_for.ensures, c.len.ensures, seen-shortage w c.self.view_is c.in_ok-size.size) in
@@ -129,10 +131,22 @@ record_saved-requires g c =
     let sent = rw c.unwrap-load.ensures at c.send_from.ensures in
     third-inside a b sent.1 c.unwrap-load.result c.fill_scrap.ensures
 
-pub returns : goal.returns
-returns g c = λ t m for.
+pub record_saved-requires-clause-due : goal.record_saved-requires-clause-due
+record_saved-requires-clause-due g c =
     let w = c.self.invariant in
-    let a = saves w c.self.view_is c.requires c.index-seat.ensures for c.args.x.now c.load_letter-letter.ensures c.in_ok-size.ensures c.if-is_some.ensures
+    let at = own-there w c.self.view_is c.requires.place c.index-seat.ensures in
+    let a = saves w c.self.view_is c.requires.place c.index-seat.ensures at c.args.a.now c.load_letter-letter.ensures c.in_ok-size.ensures c.if-is_some.ensures
+    c.in_ok-more.ensures in
+    let short : c.saturating_sub-wider.result ≡ scrap_shortage c.in_ok-size.size c.args.self.now.desk =
+    omega (arith, c.saturating_sub-wider.ensures, c.pages_for.ensures, c.len.ensures, seen-shortage w c.self.view_is c.in_ok-size.size) in
+    let b = widens w c.self.view_is short c.free_pages-free.ensures c.if-free-wider.false c.widen_scrap.ensures in
+    let sent = rw c.unwrap-load.ensures at c.send_from.ensures in
+    still-sends (saved-records a b sent.1 c.unwrap-load.result c.fill_scrap.ensures) c.args.i (send.SaveFile c.args.a.now) c.requires.due
+
+pub returns : goal.returns
+returns g c = λ t at.
+    let w = c.self.invariant in
+    let a = saves w c.self.view_is c.requires.place c.index-seat.ensures at c.args.a.now c.load_letter-letter.ensures c.in_ok-size.ensures c.if-is_some.ensures
     c.in_ok-more.ensures in
     let short : c.saturating_sub-wider.result ≡ scrap_shortage c.in_ok-size.size c.args.self.now.desk =
     omega (arith, c.saturating_sub-wider.ensures, c.pages_for.ensures, c.len.ensures, seen-shortage w c.self.view_is c.in_ok-size.size) in

@@ -1,54 +1,46 @@
-use Rattle.rh_tasks.proofs.Common.{◌+◌, ◌^◌, sym, ap, subst, ◌∙◌, arith, length, Some, Refusal, NoRoom, take_bytes, first_bytes, heap_block_at, Shown}
-use Rattle.rh_tasks.proofs.Common.{le-true, le-false, member-at}
+use Rattle.rh_tasks.proofs.Common.{sym, ap, subst, ◌∙◌, arith, length, Desk, Handled, Shown, first_bytes, heap_block_at, le-true, member-at}
 use Rattle.rh_defs.specs.declared.reply.Outcome.TheVariants as outcome
-use Rattle.rh_defs.specs.declared.transfer.Incoming.TheVariants as incoming
-use Rattle.rh_tasks.specs.Inner.PollSteps.{Handles}
-use Rattle.rh_tasks.proofs.Takings.{inside, stands-appended, becomes-ok, becomes-err, was-refused, not-both, failed-as, counted, uncounted, taken-uncounted}
-use Rattle.rh_tasks.proofs.Takings.{taken-refused, taken-on}
-use Rattle.rh_tasks.proofs.world.World.take_more.Goals.{in-Some, in-None}
+use Rattle.rh_defs.specs.declared.transfer_action.TakeAction.TheVariants as take
+use Rattle.rh_defs.specs.Receiver as receiver
+use Rattle.rh_tasks.specs.Inner.PollSteps.{CanTake}
+use Rattle.rh_tasks.proofs.Dues.{still-takes}
+use Rattle.rh_tasks.proofs.Takings.{inside, stands-appended, appended-records, failed-as, none-kept, taken-refused, taken-on}
 use Rattle.rh_tasks.proofs.world.World.take_more.Goals as goal
 
 pub took-requires-clause-place : goal.took-requires-clause-place
-took-requires-clause-place g c = elim c.match-checked_add.branch [
-  | in-Some w ↦ (let t = member-at c.args.self.now.desk.tasks c.args.i c.requires in
-      let done = becomes-ok c.args.self.now w.append_buffer-given.new.self (w.append_buffer-given.ensures t.0 t.1) (sym w.given-is ∙ c.in-Ok.is) in
-      let there = inside (stands-appended c.args.self.now.desk w.append_buffer-given.new.self.desk c.args.i t.0 c.args.f.now.anchor
-      (first_bytes c.args.n (heap_block_at c.args.f.now.buffer t.0.slot)) done t.1) in
-      omega (arith, there, ap (λ (x : Shown). length x.desk.tasks) w.self-is))
-  | in-None w ↦ not-both NoRoom w.given-is c.in-Ok.is
-]
+took-requires-clause-place g c =
+    let t = member-at c.args.self.now.desk.tasks c.args.i c.requires.place in
+    inside (stands-appended c.args.self.now.desk c.append_buffer.new.self.desk c.args.i t.0 c.args.a.now.transfer.anchor
+    (first_bytes c.args.a.now.n (heap_block_at c.args.a.now.transfer.buffer t.0.slot)) (c.in-Ok.ensures t.0 t.1) t.1)
 
-pub end_failed-requires : goal.end_failed-requires
-end_failed-requires g c = elim c.match-checked_add.branch [
-  | in-Some w ↦ (let t = member-at c.args.self.now.desk.tasks c.args.i c.requires in
-      let not = becomes-err c.args.self.now w.append_buffer-given.new.self c.in-Err.refusal (w.append_buffer-given.ensures t.0 t.1)
-      (sym w.given-is ∙ c.in-Err.is) in
-      omega (arith, c.requires, ap (λ (x : Shown). length x.desk.tasks) (w.self-is ∙ not.1)))
-  | in-None w ↦ omega (arith, c.requires, ap (λ (x : Shown). length x.desk.tasks) w.self-is)
-]
+pub took-requires-clause-due : goal.took-requires-clause-due
+took-requires-clause-due g c =
+    let t = member-at c.args.self.now.desk.tasks c.args.i c.requires.place in
+    still-takes (appended-records c.args.self.now.desk c.append_buffer.new.self.desk t.0 c.args.a.now.transfer.anchor
+    (first_bytes c.args.a.now.n (heap_block_at c.args.a.now.transfer.buffer t.0.slot)) (c.in-Ok.ensures t.0 t.1)) c.args.i
+        (take.Append c.args.a.now) c.requires.due
+
+pub end_failed-requires-clause-place : goal.end_failed-requires-clause-place
+end_failed-requires-clause-place g c =
+    let t = member-at c.args.self.now.desk.tasks c.args.i c.requires.place in
+    omega (arith, c.requires.place, ap (λ (x : Shown). length x.desk.tasks) (c.in-Err.ensures t.0 t.1).1)
+
+pub end_failed-requires-clause-due : goal.end_failed-requires-clause-due
+end_failed-requires-clause-due g c =
+    let t = member-at c.args.self.now.desk.tasks c.args.i c.requires.place in
+    subst (λ (x : Shown). CanTake c.args.i (take.Append c.args.a.now) x.desk) (sym (c.in-Err.ensures t.0 t.1).1) c.requires.due
+
+pub end_failed-requires-clause-kept : goal.end_failed-requires-clause-kept
+end_failed-requires-clause-kept g c = le-true 0 c.args.a.now.n (omega arith)
 
 pub returns-in-Ok : goal.returns-in-Ok
-returns-in-Ok g c t m for = elim c.match-checked_add.branch [
-  | in-Some w ↦ (let done = becomes-ok c.args.self.now w.append_buffer-given.new.self (w.append_buffer-given.ensures t for.at) (sym w.given-is ∙ c.in-Ok.is) in
-      taken-on c.args.self.now.desk w.append_buffer-given.new.self c.match-checked_add.self c.took.new.self c.args.i t m c.args.f.now c.args.n for
-      (counted (c.args.f.now.count + c.args.n) c.checked_add.ensures w.in-Some.is)
-      done w.self-is c.took.ensures)
-  | in-None w ↦ not-both NoRoom w.given-is c.in-Ok.is
-]
+returns-in-Ok g c t at =
+    taken-on c.args.self.now.desk c.append_buffer.new.self c.took.new.self c.args.i t c.args.a.now at (c.in-Ok.ensures t at) c.took.ensures
 
 pub returns-in-Err : goal.returns-in-Err
-returns-in-Err g c t m for = elim c.match-checked_add.branch [
-  | in-Some w ↦ (let not = becomes-err c.args.self.now w.append_buffer-given.new.self c.in-Err.refusal (w.append_buffer-given.ensures t for.at)
-      (sym w.given-is ∙ c.in-Err.is) in
-      let small = counted (c.args.f.now.count + c.args.n) c.checked_add.ensures w.in-Some.is in
-      failed-as c.args.self.now.desk c.match-checked_add.self c.end_failed.new.self c.args.i t c.args.f.now c.args.f.now.count
-      (taken-refused c.args.self.now.desk t m c.args.f.now c.args.n c.in-Err.refusal (le-false (2 ^ 32) (c.args.f.now.count + c.args.n) small) not.0)
-      for.at (ap (λ (x : Shown). x.desk) (w.self-is ∙ not.1)) c.end_failed.ensures)
-  | in-None w ↦ (let large = uncounted (c.args.f.now.count + c.args.n) (c.args.f.now.count + c.args.n) (2 ^ 32) c.checked_add.ensures w.in-None.is in
-      let P : Refusal → Type 0 =
-      λ r. Handles (take_bytes c.args.self.now.desk t m c.args.n (Some (incoming.Fetching c.args.f.now))) c.end_failed.new.self (outcome.Refused r) in
-      subst P (was-refused NoRoom c.in-Err.refusal w.given-is c.in-Err.is)
-      (failed-as c.args.self.now.desk c.match-checked_add.self c.end_failed.new.self c.args.i t c.args.f.now c.args.f.now.count
-      (taken-uncounted c.args.self.now.desk t m c.args.f.now c.args.n (le-true (2 ^ 32) (c.args.f.now.count + c.args.n) large))
-      for.at (ap (λ (x : Shown). x.desk) w.self-is) c.end_failed.ensures))
-]
+returns-in-Err g c t at =
+    let refused = c.in-Err.ensures t at in
+    failed-as c.args.self.now.desk c.append_buffer.new.self c.end_failed.new.self c.args.i t c.args.a.now.transfer (receiver.failed_with c.args.a.now 0)
+    (taken-refused c.args.self.now.desk t c.args.a.now c.in-Err.refusal refused.0
+    ∙ ap (λ (d : Desk). let h : Handled = (d, outcome.Refused c.in-Err.refusal) in h) (sym (none-kept c.args.self.now.desk t c.args.a.now)))
+    at (ap (λ (x : Shown). x.desk) refused.1) c.end_failed.ensures
