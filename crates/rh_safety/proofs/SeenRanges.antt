@@ -2,20 +2,26 @@
 use Rattle.rh_safety.proofs.Common.{◌≡◌, ◌≢◌, ℕ, ◌+◌, ◌≤◌, Bool, true, false, not, ◌&&◌, ◌||◌, List, [], length, take, Option, Some, None, refl, sym, ap, ◌∙◌}
 use Rattle.rh_safety.proofs.Common.{subst, arith, nat_lt, nat_le, ◌==◌, ◌^◌, Ok, Err, is_some, option_map, leb_tells, Refusal, NoBlock, AnchorInUse, BadRange}
 use Rattle.rh_safety.proofs.Common.{NoTask, NoRoom, Busy, Body, EventCode, User, Recorded, Acknowledge, Outcome, Reply, Sending, Taking, Asked, Outgoing}
-use Rattle.rh_safety.proofs.Common.{Incoming, Granted, ◌>>=◌, ◌>>◌, refuse_if, found_or, Split, Heap, Segment, fitted, Parcel, Post, has_seat, post_send}
-use Rattle.rh_safety.proofs.Common.{post_poll, Slot, Flex, block_of, flex_address, heap_block_at, slot_block, slot_extend, slot_put, slot_claim, slot_alloc}
-use Rattle.rh_safety.proofs.Common.{fetch_letter, transmit_letter, load_letter, open_of, free_anchor, Desk, Task, Scrap, free_pages, named, task_at}
-use Rattle.rh_safety.proofs.Common.{with_slot, with_delivered, send_letter, Handled, ignored, portion, transmit, answer_fetch, fail_sending, scrap_shortage}
-use Rattle.rh_safety.proofs.Common.{wider, save_scrap, answer_ack, finish_load, is_deaf, accept, take_save, appended, fetch_more, took, is_uncountable}
-use Rattle.rh_safety.proofs.Common.{take_bytes, ask, fetch_back, ack_back, loaded, load_file, take_file, answers_none, Answer, poll, poll_taken, step}
-use Rattle.rh_safety.proofs.Common.{in_anchor, view, blocks_of, buffers_of, task_of, Has, either, put_same, open_is, FoundActive, fetches, drains, active_is}
-use Rattle.rh_safety.proofs.Common.{asking_is, Offered, Untouched, IsGood, Inv, Good, field_is, live_of, Fits, bind, done, is_found, instead_of, the_task}
+use Rattle.rh_safety.proofs.Common.{Incoming, Transmit, Part, SaveFile, SendAction, Claim, Append, Next, LoadFile, TakeAction, Granted, ◌>>=◌, ◌>>◌}
+use Rattle.rh_safety.proofs.Common.{refuse_if, found_or, Split, Heap, Segment, fitted, Parcel, Post, has_seat, post_send, post_poll, Slot, Flex, block_of}
+use Rattle.rh_safety.proofs.Common.{flex_address, heap_block_at, slot_block, slot_extend, slot_put, slot_claim, slot_alloc, fetch_letter, transmit_letter}
+use Rattle.rh_safety.proofs.Common.{load_letter, open_of, free_anchor, Desk, Task, Scrap, free_pages, named, task_at, with_slot, with_delivered, send_letter}
+use Rattle.rh_safety.proofs.Common.{Handled, ignored, transmit, fail_sending, scrap_shortage, wider, save_scrap, send_with, perform_send, accept, appended}
+use Rattle.rh_safety.proofs.Common.{fetch_more, took, append, ask, ack_back, loaded, load_file, take_with, perform_take, answers_none, Answer, poll}
+use Rattle.rh_safety.proofs.Common.{poll_taken, step, in_anchor, view, blocks_of, buffers_of, task_of, Has, either, put_same, open_is, FoundActive, fetches}
+use Rattle.rh_safety.proofs.Common.{drains, active_is, asking_is, Offered, Untouched, IsGood, Inv, Good, field_is, live_of, Fits, bind, done, is_found}
+use Rattle.rh_safety.proofs.Common.{instead_of, the_task, OnGrant, granted, granted-past, granted-then, or_else, or_else-keeps, chosen, IfSome, if◌then◌else◌}
 use Rattle.rh_defs.specs.declared.refusal.Refusal.TheVariants.{BadSize, NoRefs, QueueFull}
 use Rattle.rh_defs.specs.declared.message.Body.TheVariants as body
 use Rattle.rh_defs.specs.declared.message.Letter.{Letter}
 use Rattle.rh_defs.specs.declared.command.Command.TheVariants as command
 use Rattle.rh_defs.specs.declared.transfer.Outgoing.TheVariants as outgoing
 use Rattle.rh_defs.specs.declared.transfer.Incoming.TheVariants as incoming
+use Rattle.rh_defs.specs.declared.transfer_action.Next.TheVariants as next
+use Rattle.rh_defs.specs.declared.transfer_action.Ending.{Ending}
+use Rattle.rh_defs.specs.declared.transfer_action.Ending.TheVariants as ending
+use Rattle.rh_defs.specs.declared.transfer_action.TakeAction.TheVariants as take_action
+use Rattle.rh_defs.specs.declared.transfer_action.SendAction.TheVariants as send_action
 use Rattle.rh_defs.specs.Pieces.{lacks_pages}
 use Rattle.rh_defs.specs.Heap.{need}
 use Rattle.rh_defs.specs.Module.{module_claim}
@@ -27,7 +33,9 @@ use Rattle.rh_defs.specs.Sender as sender
 use Rattle.rh_defs.specs.Receiver as receiver
 use Rattle.rh_defs.specs.Places.{first_bytes, overlap}
 use Rattle.rh_defs.specs.OutgoingEvents.{is_out_of_reach}
+use Rattle.rh_defs.specs.IncomingEvents.{told}
 use Rattle.rh_defs.specs.Transfer as transfer
+use Rattle.rh_defs.proofs.Chains.{grant-holds, granted-both}
 use Rattle.rh_safety.specs.Buffers.{outcome_refusal, failed_by, HasGoodRanges}
 use Rattle.rh_safety.specs.Polls.{LosesNoBlock}
 use Rattle.rh_safety.proofs.Polls.{Taken}
@@ -37,8 +45,10 @@ use Rattle.rh_safety.proofs.SeenSends.{by_grant, with_step}
 use Rattle.rh_safety.proofs.SeenDocuments.{letter_of, block_there}
 use Rattle.rh_safety.proofs.SeenTaking.{poll_taken_is}
 use Rattle.rh_safety.proofs.SeenWrites.{buffer_found}
-use Rattle.rh_safety.proofs.KeptFetch.{Reaches, reaches}
+use Rattle.rh_safety.proofs.Sight as sight
+use Rattle.rh_safety.proofs.KeptFetch.{Reaches, fetch_in, reaches}
 use Rattle.rh_safety.proofs.KeptPolls.{Given, given}
+use Rattle.rh_safety.proofs.OwnEdits.{any-grant}
 use Rattle.rh_safety.proofs.SeenLaws.{block_is}
 
 -- ---- answers that name a bad range, or a missing block
@@ -174,154 +184,196 @@ appended_ok d t k bytes there =
 abbrev Fine : Handled → Type 0
 Fine x = is_bad_outcome x.1 ≡ false
 
-module _ (d : Desk) (t : Task) (m : Parcel) where
-  save_fine : Fine (take_save d t m)
-  unfolding take_save accept
-  save_fine =
-      either Fine (receiver.on_save (is_deaf t.manner) t.taking) _ (ignored d)
-      (λ e. by_grant Fine _ _ (λ x q.
-      with_step (found_or (free_anchor t.slot) AnchorInUse) _ x q (λ k e1 q1. with_step (slot_claim (free_pages d)
-      t.buffer t.slot) _ x q1 (λ c e2 q2.
-      with_step (slot_alloc (free_pages (with_slot t.handle c.0 d)) k 0 c.0) _ x q2 (λ p e3 q3.
-      with_step (send_letter (fetch_letter t.handle m.message.from m.message.my_ref c.1 t.buffer)
-      (with_slot t.handle p.0 d)) _ x q3 (λ sent e4 q4.
-      subst Fine (ok_is _ x q4) refl))))) (λ r e. refl)) (λ e. refl)
+-- a chain that names no fault, with what stands in its place
+fine_or : (g : Granted Handled) (instead : Refusal → Handled) → NoBad g → OnGrant Fine g →
+    ((r : Refusal) → is_fault r ≡ false → Fine (instead r)) → Fine (or_else g instead)
+fine_or g instead none fine told = by_grant Fine g instead (λ x q. grant-holds fine q) (λ r q. told r (none r q))
 
-  took_fine : (f : Taking) (n : ℕ) (after : Desk) → Fine (took after t m f n)
-  unfolding took fetch_more
-  took_fine f n after =
-      either Fine (nat_lt n t.buffer) _ _ (λ e. refl)
-      (λ e. by_grant Fine _ _
-      (λ x q. with_step (send_letter (fetch_letter t.handle f.sender m.message.my_ref f.buffer t.buffer) after) _ x q
-      (λ sent e1 q1. subst Fine (ok_is _ x q1) refl))
-      (λ r q. bind_ok (send_letter (fetch_letter t.handle f.sender m.message.my_ref f.buffer t.buffer)
-      after) _ (send_ok _ after) (λ sent e1. done_ok _) r q))
+-- what holds of the action for the record that is found
+if_mapped : {A B : Type 0} (P : B → Type 0) (f : A → B) (v : Option A) → ((x : A) → v ≡ Some x → P (f x)) → IfSome (option_map f v) P
+if_mapped P f None each = tt
+if_mapped P f (Some x) each = each x refl
 
-  bytes_fine : (n : ℕ) (v : Option Incoming) →
-      ((f : Taking) → v ≡ Some (incoming.Fetching f) → There t.slot f.anchor) → Fine (take_bytes d t m n v)
-  unfolding take_bytes
-  bytes_fine n None there = refl
-  bytes_fine n (Some (incoming.Fetching f)) there =
-      by_grant Fine _ _
-      (λ x q. with_step (refuse_if (is_uncountable f n) NoRoom) _ x q (λ _ e0 q0.
-      with_step (appended d t f.anchor (first_bytes n (heap_block_at f.buffer t.slot))) _ x q0 (λ after e q1.
-      subst Fine (ok_is _ x q1) (took_fine f n after))))
-      (λ r q. bind_ok (refuse_if (is_uncountable f n) NoRoom) _ (refuse_ok _ NoRoom refl) (λ _ e0.
-      bind_ok (appended d t f.anchor (first_bytes n (heap_block_at f.buffer t.slot))) _
-      (appended_ok d t f.anchor _ (there f refl)) (λ after e. done_ok _)) r q)
-  bytes_fine n (Some (incoming.Draining f)) there = refl
-  bytes_fine n (Some (incoming.Asking q)) there = refl
-  bytes_fine n (Some (incoming.Done i a k)) there = refl
-  bytes_fine n (Some (incoming.Failed i a k)) there = refl
+-- the source of an action is there, and the buffer that a fetch names
+abbrev HasSource : Desk → Task → SendAction → Type 0
+HasSource d t (send_action.Transmit a) = There t.slot a.transfer.anchor × ((view d).live a.transfer.recipient ≡ true → Reaches (view d) a)
+HasSource d t (send_action.SaveFile a) = There t.slot a.transfer.anchor × Unit {0}
+HasSource d t (send_action.Finish x) = There t.slot x.anchor × Unit {0}
 
-  back_fine : (v : Option Incoming) → Fine (fetch_back d t v)
-  unfolding fetch_back ask
-  back_fine None = refl
-  back_fine (Some (incoming.Fetching f)) =
-      either Fine (f.count == 0) _ _
-      (λ e. by_grant Fine _ _
-      (λ x q. with_step (send_letter (ack_letter t.handle f.sender f.id) d) _ x q (λ sent e1 q1.
-      subst Fine (ok_is _ x q1) refl))
-      (λ r q. bind_ok (send_letter (ack_letter t.handle f.sender f.id) d) _ (send_ok _ d) (λ sent e1.
-      done_ok _) r q)) (λ e. refl)
-  back_fine (Some (incoming.Draining f)) = refl
-  back_fine (Some (incoming.Asking q)) = refl
-  back_fine (Some (incoming.Done i a k)) = refl
-  back_fine (Some (incoming.Failed i a k)) = refl
+-- the document that an action makes longer is there
+abbrev HasDocument : Task → TakeAction → Type 0
+HasDocument t (take_action.Append a) = There t.slot a.transfer.anchor
+HasDocument t (take_action.LoadFile a) = There t.slot a.transfer.anchor
+HasDocument t _ = Unit {0}
 
-  ack_back_fine : (v : Option Asked) → Fine (ack_back d t v)
-  unfolding ack_back
-  ack_back_fine None = refl
-  ack_back_fine (Some q) = refl
-
-  loaded_fine : (q : Asked) (n : ℕ) (after : Desk) → Fine (loaded after t m q n)
-  unfolding loaded
-  loaded_fine q n after =
-      by_grant Fine _ _
-      (λ x z. with_step (send_letter (load_ack_letter t.handle m n) after) _ x z (λ sent e z1.
-      subst Fine (ok_is _ x z1) refl))
-      (λ r z. bind_ok (send_letter (load_ack_letter t.handle m n) after) _ (send_ok _ after) (λ sent e.
-      done_ok _) r z)
-
-  file_fine : (q : Asked) (o : Option Scrap) → There t.slot q.anchor → Fine (load_file d t m q o)
-  unfolding load_file
-  file_fine q None there = refl
-  file_fine q (Some file) there =
-      either Fine (file.load == m.message.my_ref) _ _
-      (λ e. by_grant Fine _ _
-      (λ x z. with_step (appended d t q.anchor file.bytes) _ x z (λ after e1 z1. subst Fine (ok_is _ x z1)
-      (loaded_fine q _ (record after { scrap = None }))))
-      (λ r z. bind_ok (appended d t q.anchor file.bytes) _ (appended_ok d t q.anchor file.bytes there)
-      (λ after e. done_ok _) r z)) (λ e. refl)
-
-  load_fine : (v : Option Asked) → ((q : Asked) → v ≡ Some q → There t.slot q.anchor) → Fine (take_file d t m v)
-  unfolding take_file
-  load_fine None there = refl
-  load_fine (Some q) there = file_fine q d.scrap (there q refl)
-
-  fetch_fine : (is : task_of t.handle d.tasks ≡ Some t) (buffer amount : ℕ) (v : Option Sending) →
-      ((x : Sending) → v ≡ Some x → (view d).live x.recipient ≡ true → Reaches d t m is buffer amount x) →
-      ((x : Sending) → v ≡ Some x → There t.slot x.anchor) → Fine (answer_fetch d t m buffer amount v)
-  unfolding answer_fetch transmit
-  fetch_fine is buffer amount None reach there = refl
-  fetch_fine is buffer amount (Some x) reach there =
-      by_grant Fine _ _
-      (λ y q. with_step (slot_block x.anchor t.slot) _ y q (λ b e1 q1. with_step (found_or (task_at x.recipient d)
-      NoTask) _ y q1 (λ r e2 q2.
-      with_step (send_letter (transmit_letter t.handle m (nat_lt (portion x amount b) amount) buffer (portion x amount
-      b)) d) _ y (from_test _ _ y q2) (λ sent e4 q4. subst Fine (ok_is _ y q4) refl))))
-      (λ s q. bind_ok (slot_block x.anchor t.slot) _ (block_ok x.anchor t.slot (there x refl)) (λ b e1.
-      bind_ok (found_or (task_at x.recipient d) NoTask) _ (found_ok _ NoTask refl) (λ r e2.
-      let to : task_of x.recipient d.tasks ≡ Some r = is_found (task_at x.recipient d) NoTask r e2 in
-      let range = reach x refl (live_of d x.recipient r to) in
-      let w = buffer_found buffer amount r.slot range.old (ap (λ (g : ℕ → Option (List ℕ)). g buffer)
-      (sym (field_is (λ y. buffers_of y.slot) (λ a. None) x.recipient d.tasks r to)) ∙ range.there) range.fits
-      (heap_block_at buffer r.slot) refl in
-      let place : ℕ = flex_address t.slot b.before + x.count in
-      then_ok (refuse_if (is_out_of_reach t r buffer amount place (portion x amount b)) BadRange) _
-      (unless_ok (is_out_of_reach t r buffer amount place (portion x amount b)) BadRange
-      (ap (λ (o : Option (Split Segment)). not (is_some o) && (not (holds buffer amount r.slot) || (t.handle ==
-      r.handle && overlap buffer amount place (portion x amount b)))) w.found))
-      (λ u e3. bind_ok (send_letter (transmit_letter t.handle m (nat_lt (portion x amount b) amount) buffer
-      (portion x amount b)) d) _ (send_ok _ d) (λ sent e4. done_ok _)))) s q)
+module _ (d : Desk) (t : Task) where
+  -- ---- the sender
 
   fail_fine : (v : Option Sending) → Fine (fail_sending d t v)
   unfolding fail_sending
   fail_fine None = refl
   fail_fine (Some x) = refl
 
-  ack_fine : (v : Option Sending) → ((x : Sending) → v ≡ Some x → There t.slot x.anchor) → Fine (answer_ack d t m v)
-  unfolding answer_ack save_scrap
-  ack_fine None there = refl
-  ack_fine (Some x) there =
-      by_grant Fine _ _
-      (λ y q. with_step (slot_block x.anchor t.slot) _ y q (λ s e1 q1.
-      with_step (send_letter (load_letter t.handle m _) (wider (scrap_shortage _ d) d)) _ y (from_test _ _ y
-      (from_test _ _ y (from_test _ _ y q1))) (λ sent e2 q2. subst Fine (ok_is _ y q2) refl)))
-      (λ r q. bind_ok (slot_block x.anchor t.slot) _ (block_ok x.anchor t.slot (there x refl)) (λ s e1.
+  transmit_sure : (a : Transmit) (source : Split Flex) → ((view d).live a.transfer.recipient ≡ true → Reaches (view d) a) →
+      NoBad (transmit d t a source)
+  unfolding transmit
+  transmit_sure a source reach =
+      let p : Part = sender.part a (length source.here.bytes) in
+      let place : ℕ = flex_address t.slot source.before + p.offset in
+      bind_ok (found_or (task_at a.transfer.recipient d) NoTask) _ (found_ok _ NoTask refl) (λ r e.
+      let to : task_of a.transfer.recipient d.tasks ≡ Some r = is_found (task_at a.transfer.recipient d) NoTask r e in
+      let range = reach (live_of d a.transfer.recipient r to) in
+      let w = buffer_found a.buffer a.room r.slot range.old (ap (λ (g : ℕ → Option (List ℕ)). g a.buffer)
+      (sym (field_is (λ y. buffers_of y.slot) (λ a. None) a.transfer.recipient d.tasks r to)) ∙ range.there) range.fits
+      (heap_block_at a.buffer r.slot) refl in
+      then_ok (refuse_if (is_out_of_reach t r a.buffer a.room place p.n) BadRange) _
+      (unless_ok (is_out_of_reach t r a.buffer a.room place p.n) BadRange
+      (ap (λ (o : Option (Split Segment)). not (is_some o) && (not (holds a.buffer a.room r.slot) || (t.handle ==
+      r.handle && overlap a.buffer a.room place p.n))) w.found))
+      (λ u e. bind_ok (send_letter (transmit_letter t.handle a p) d) _ (send_ok _ d) (λ sent e. done_ok _)))
+
+  transmit_fine : (a : Transmit) (source : Split Flex) → OnGrant Fine (transmit d t a source)
+  unfolding transmit
+  transmit_fine a source =
+      granted-then _ _ λ r live. granted-past _ _ _ λ reach. granted-then _ _ λ sent e. granted refl
+
+  save_sure : (a : SaveFile) (source : Split Flex) → NoBad (save_scrap d t a source)
+  unfolding save_scrap
+  save_sure a source =
       then_ok (refuse_if (is_some d.scrap) Busy) _ (refuse_ok _ Busy refl) (λ u e.
-      then_ok (sendable (load_letter t.handle m _) d.post) _ (sendable_ok _ d.post) (λ u e.
-      then_ok (refuse_if (nat_lt (free_pages d) (scrap_shortage (length s.here.bytes) d)) NoRoom) _
+      then_ok (sendable (load_letter t.handle a _) d.post) _ (sendable_ok _ d.post) (λ u e.
+      then_ok (refuse_if (nat_lt (free_pages d) (scrap_shortage (length source.here.bytes) d)) NoRoom) _
       (refuse_ok _ NoRoom refl) (λ u e.
-      bind_ok (send_letter (load_letter t.handle m _) (wider (scrap_shortage _ d) d)) _ (send_ok _ _) (λ sent e2.
-      done_ok _))))) r q)
+      bind_ok (send_letter (load_letter t.handle a _) (wider (scrap_shortage _ d) d)) _ (send_ok _ _) (λ sent e. done_ok _))))
 
-  finish_fine : (v : Option Sending) → ((x : Sending) → v ≡ Some x → There t.slot x.anchor) → Fine (finish_load d t v)
-  unfolding finish_load
-  finish_fine None there = refl
-  finish_fine (Some x) there =
-      by_grant Fine _ _ (λ y q. with_step (slot_block x.anchor t.slot) _ y q (λ s e1 q1. subst Fine (ok_is _ y q1)
-      refl))
-      (λ r q. bind_ok (slot_block x.anchor t.slot) _ (block_ok x.anchor t.slot (there x refl)) (λ s e. done_ok _) r q)
+  save_fine : (a : SaveFile) (source : Split Flex) → OnGrant Fine (save_scrap d t a source)
+  unfolding save_scrap
+  save_fine a source =
+      granted-past _ _ _ λ busy. granted-both _ (any-grant _) λ y u. granted-past _ _ _ λ room. granted-then _ _ λ sent e. granted refl
 
-  came_back_fine : (b : Body) → Fine (transfer.came_back d t m b)
+  send_sure : (a : SendAction) (source : Split Flex) → HasSource d t a → NoBad (send_with d t a source)
+  unfolding send_with
+  send_sure (send_action.Transmit a) source has = transmit_sure a source has.1
+  send_sure (send_action.SaveFile a) source has = save_sure a source
+  send_sure (send_action.Finish x) source has = done_ok _
+
+  send_fine : (a : SendAction) (source : Split Flex) → OnGrant Fine (send_with d t a source)
+  unfolding send_with
+  send_fine (send_action.Transmit a) source = transmit_fine a source
+  send_fine (send_action.SaveFile a) source = save_fine a source
+  send_fine (send_action.Finish x) source = granted refl
+
+  source_of : (a : SendAction) → HasSource d t a → There t.slot (sender.transfer_of a).anchor
+  source_of (send_action.Transmit a) has = has.0
+  source_of (send_action.SaveFile a) has = has.0
+  source_of (send_action.Finish x) has = has.0
+
+  perform_send_fine : (o : Option SendAction) → IfSome o (HasSource d t) → Fine (perform_send d t o)
+  unfolding perform_send
+  perform_send_fine None has = refl
+  perform_send_fine (Some a) has =
+      fine_or _ _
+      (bind_ok (slot_block (sender.transfer_of a).anchor t.slot) _ (block_ok _ t.slot (source_of a has)) (λ source e.
+      send_sure a source has))
+      (granted-then _ _ λ source e. send_fine a source) (λ r q. q)
+
+  -- ---- the receiver
+
+  accept_fine : (a : Claim) → OnGrant Fine (accept d t a)
+  unfolding accept
+  accept_fine a =
+      granted-then _ _ λ k e. granted-then _ _ λ b e. granted-then _ _ λ p e. granted-then _ _ λ sent e. granted refl
+
+  took_fine : (a : Append) (b : Next) (after : Desk) → Fine (took after t a b)
+  unfolding took fetch_more
+  took_fine a next.Finish after = refl
+  took_fine a (next.Fetch b) after =
+      fine_or _ _ (bind_ok (send_letter (fetch_letter t.handle b) after) _ (send_ok _ after) (λ sent e. done_ok _))
+      (granted-then _ _ λ sent e. granted refl) (λ r q. q)
+
+  append_fine : (a : Append) → There t.slot a.transfer.anchor → Fine (append d t a)
+  unfolding append
+  append_fine a there =
+      fine_or _ _
+      (bind_ok (appended d t a.transfer.anchor _) _ (appended_ok d t a.transfer.anchor _ there) (λ after e. done_ok _))
+      (granted-then _ _ λ after e. granted (took_fine a a.next after)) (λ r q. q)
+
+  ask_fine : (f : Taking) → Fine (take_with d t (take_action.AskForFile f))
+  unfolding take_with ask
+  ask_fine f =
+      fine_or _ _ (bind_ok (send_letter (ack_letter t.handle f) d) _ (send_ok _ d) (λ sent e. done_ok _))
+      (granted-then _ _ λ sent e. granted refl) (λ r q. q)
+
+  ack_back_fine : (v : Option Asked) → Fine (ack_back d t v)
+  unfolding ack_back
+  ack_back_fine None = refl
+  ack_back_fine (Some q) = refl
+
+  loaded_fine : (a : LoadFile) (n : ℕ) (after : Desk) → Fine (loaded after t a n)
+  unfolding loaded
+  loaded_fine a n after =
+      fine_or _ _ (bind_ok (send_letter (load_ack_letter t.handle a n) after) _ (send_ok _ after) (λ sent e. done_ok _))
+      (granted-then _ _ λ sent e. granted refl) (λ r q. q)
+
+  file_fine : (a : LoadFile) (o : Option Scrap) → There t.slot a.transfer.anchor → Fine (load_file d t a o)
+  unfolding load_file
+  file_fine a None there = refl
+  file_fine a (Some file) there =
+      chosen Fine (file.load == a.answers) _ _
+      (fine_or _ _
+      (bind_ok (appended d t a.transfer.anchor file.bytes) _ (appended_ok d t a.transfer.anchor file.bytes there) (λ after e. done_ok _))
+      (granted-then _ _ λ after e. granted (loaded_fine a _ (record after { scrap = None }))) (λ r q. q)) refl
+
+  ending_fine : (e : Ending) → is_bad_outcome (told e) ≡ false
+  ending_fine ending.Drained = refl
+  ending_fine ending.Unanswered = refl
+  ending_fine ending.Uncountable = refl
+
+  take_fine : (a : TakeAction) → HasDocument t a → Fine (take_with d t a)
+  unfolding take_with
+  take_fine (take_action.Claim a) has = or_else-keeps Fine _ (accept_fine a) (λ r. refl)
+  take_fine (take_action.Append a) has = append_fine a has
+  take_fine (take_action.AskForFile f) has = ask_fine f
+  take_fine (take_action.LoadFile a) has = file_fine a d.scrap has
+  take_fine (take_action.Release a) has = ending_fine a.ending
+
+  perform_take_fine : (o : Option TakeAction) → IfSome o (HasDocument t) → Fine (perform_take d t o)
+  unfolding perform_take
+  perform_take_fine None has = refl
+  perform_take_fine (Some a) has = take_fine a has
+
+  -- ---- what is to be done for a message
+
+  claim_has : (b : Bool) (a : Claim) → IfSome (if b then Some (take_action.Claim a) else None) (HasDocument t)
+  claim_has true a = tt
+  claim_has false a = tt
+
+  bytes_has : (room my_ref n : ℕ) (v : Option Incoming) → ((f : Taking) → v ≡ Some (incoming.Fetching f) → There t.slot f.anchor) →
+      IfSome (receiver.of_record (receiver.take_for room my_ref n) v) (HasDocument t)
+  bytes_has room my_ref n None there = tt
+  bytes_has room my_ref n (Some (incoming.Fetching f)) there =
+      either (HasDocument t) (nat_le (2 ^ 32) (f.count + n)) _ _ (λ many. tt) (λ few. there f refl)
+  bytes_has room my_ref n (Some (incoming.Draining f)) there = tt
+  bytes_has room my_ref n (Some (incoming.Asking q)) there = tt
+  bytes_has room my_ref n (Some (incoming.Done i a k)) there = tt
+  bytes_has room my_ref n (Some (incoming.Failed i a k)) there = tt
+
+  back_has : (v : Option Incoming) → IfSome (receiver.of_record receiver.back_for v) (HasDocument t)
+  back_has None = tt
+  back_has (Some (incoming.Fetching f)) = either (HasDocument t) (f.count == 0) _ _ (λ none. tt) (λ some. tt)
+  back_has (Some (incoming.Draining f)) = tt
+  back_has (Some (incoming.Asking q)) = tt
+  back_has (Some (incoming.Done i a k)) = tt
+  back_has (Some (incoming.Failed i a k)) = tt
+
+  came_back_fine : (m : Parcel) (b : Body) → Fine (transfer.came_back d t m b)
   unfolding transfer.came_back
-  came_back_fine (body.DataSave file) = fail_fine _
-  came_back_fine (body.DataSaveAck file) = ack_back_fine _
-  came_back_fine (body.DataLoad file) = fail_fine _
-  came_back_fine (body.DataLoadAck file) = refl
-  came_back_fine (body.RamFetch buffer amount) = back_fine _
-  came_back_fine (body.RamTransmit buffer n) = fail_fine _
+  came_back_fine m (body.DataSave file) = fail_fine _
+  came_back_fine m (body.DataSaveAck file) = ack_back_fine _
+  came_back_fine m (body.DataLoad file) = fail_fine _
+  came_back_fine m (body.DataLoadAck file) = refl
+  came_back_fine m (body.RamFetch buffer amount) = perform_take_fine _ (back_has _)
+  came_back_fine m (body.RamTransmit buffer n) = fail_fine _
 
 -- ---- a poll
 
@@ -367,18 +419,18 @@ module _ {o : Offered} {e : ℕ → ℕ → Bool} (d : Desk) (t : Task) (m : Par
   came_fine : (is : task_of t.handle d.tasks ≡ Some t) (b : Body) → Taken o e (view d) t.handle (letter_of m b) →
       Fine (transfer.came d t m b)
   unfolding transfer.came
-  came_fine is (body.DataSave file) tk = save_fine d t m
-  came_fine is (body.DataSaveAck file) tk = ack_fine d t m _ (source_there is tk.inv (sender.asks_for m.message.from
-      m.message.your_ref))
-  came_fine is (body.DataLoad file) tk = load_fine d t m _ (asking_there is tk.inv (receiver.is_load m.message.from
-      m.message.your_ref))
-  came_fine is (body.DataLoadAck file) tk = finish_fine d t m _ (source_there is tk.inv (sender.is_loaded m.message.from
-      m.message.your_ref))
+  came_fine is (body.DataSave file) tk = perform_take_fine d t _ (claim_has d t _ _)
+  came_fine is (body.DataSaveAck file) tk = perform_send_fine d t _ (if_mapped (HasSource d t) _ _ λ x q.
+      (source_there is tk.inv (sender.asks_for m.message.from m.message.your_ref) x q, tt))
+  came_fine is (body.DataLoad file) tk = perform_take_fine d t _ (if_mapped (HasDocument t) _ _
+      (asking_there is tk.inv (receiver.is_load m.message.from m.message.your_ref)))
+  came_fine is (body.DataLoadAck file) tk = perform_send_fine d t _ (if_mapped (HasSource d t) _ _ λ x q.
+      (source_there is tk.inv (sender.is_loaded m.message.from m.message.your_ref) x q, tt))
   came_fine is (body.RamFetch buffer amount) tk = either Fine (answers_none t.manner) (ignored d) _ (λ y. refl) (λ y.
-      fetch_fine d t m is buffer amount _ (reaches d t m is buffer amount tk y) (source_there is tk.inv (sender.would_answer m.message.from
-      m.message.your_ref amount)))
-  came_fine is (body.RamTransmit buffer n) tk = bytes_fine d t m n _ (fetching_there is tk.inv (receiver.is_answer t.buffer
-      m.message.from m.message.your_ref buffer n))
+      perform_send_fine d t _ (if_mapped (HasSource d t) _ _ λ x q.
+      (source_there is tk.inv (sight.would_answer (fetch_in m buffer amount)) x q, reaches d t m is buffer amount tk y x q)))
+  came_fine is (body.RamTransmit buffer n) tk = perform_take_fine d t _ (bytes_has d t t.buffer m.message.my_ref n _
+      (fetching_there is tk.inv (receiver.is_answer t.buffer m.message.from m.message.your_ref buffer n)))
 
   handled_fine : Given o e d t m → (c : EventCode) → m.code ≡ c → Fine (transfer.handled d t m c)
   unfolding transfer.handled
