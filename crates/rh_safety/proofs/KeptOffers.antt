@@ -31,9 +31,9 @@ free_is k (suc n) s j q =
     either (λ (z : Option ℕ). z ≡ Some j → is_used j s ≡ false) (is_used k s) (free_from (k + 1) n s) (Some k)
     (λ e z. free_is (k + 1) n s j z) (λ e z. let same : k ≡ j = cc in ap (λ i. is_used i s) (sym same) ∙ e) q
 
--- what is done for a DataSave
-abbrev pub taken_save : Desk → Task → Parcel → Handled
-taken_save d t m = perform_take d t (receiver.on_save (is_deaf t.manner) m.message.from m.message.my_ref t.taking)
+-- what a DataSave asks the task for
+abbrev pub for_save : Task → Parcel → Option TakeAction
+for_save t m = receiver.on_save (is_deaf t.manner) m.message.from m.message.my_ref t.taking
 
 module _ (d : Desk) (t : Task) (m : Parcel) (is : task_of t.handle d.tasks ≡ Some t) where
   abbrev h : ℕ
@@ -113,7 +113,8 @@ module _ (d : Desk) (t : Task) (m : Parcel) (is : task_of t.handle d.tasks ≡ S
       })))))
 
   -- a first fetch was sent, or nothing was done
-  pub save_does : (b : Body) → Began (view d) h (letter_of m b) (view (taken_save d t m).0) ⊎ (taken_save d t m ≡ ignored d)
+  pub save_does : (b : Body) →
+      Began (view d) h (letter_of m b) (view (perform_take d t (for_save t m)).0) ⊎ (perform_take d t (for_save t m) ≡ ignored d)
   unfolding perform_take take_with
   save_does b =
       let P : Handled → Type 0 = λ x. Began (view d) h (letter_of m b) (view x.0) ⊎ (x ≡ ignored d) in
@@ -125,7 +126,7 @@ module _ (d : Desk) (t : Task) (m : Parcel) (is : task_of t.handle d.tasks ≡ S
 
 pub save_keeps : {o : Offers} {e : Edits} (d : Desk) (t : Task) (m : Parcel) (b : Body) →
     task_of t.handle d.tasks ≡ Some t → Good o e (view d) → Read o (view d) t.handle (letter_of m b) →
-    action_of b ≡ action.DataSave → Good o e (view (taken_save d t m).0)
+    action_of b ≡ action.DataSave → Good o e (view (perform_take d t (for_save t m)).0)
 save_keeps {o} {e} d t m b is g rd kind = elim (save_does d t m is b) [
   | inl w ↦ began_good t.handle (letter_of m b) g rd kind _ w
   | inr w ↦ subst (λ (y : Handled). Good o e (view y.0)) (sym w) g

@@ -145,11 +145,7 @@ module _ (d : Desk) (t : Task) (m : Parcel) (is : task_of t.handle d.tasks ≡ S
       choose c q = ap (λ (x : Bool). if x then sight.ended (sight.longer (view d) h r n) h r (In_done r.id r.anchor
           (r.count + n)) else sight.fetched (sight.longer (view d) h r n) h r n l.me) (sym q)
 
-  -- what is done for a record that takes the transmit
-  abbrev pub transmitted : Incoming → Handled
-  transmitted w = perform_take d t (receiver.take_for t.buffer m.message.my_ref n w)
-
-  pub bytes_does : (r : Taking) → Does r (transmitted (incoming.Fetching r))
+  pub bytes_does : (r : Taking) → Does r (perform_take d t (receiver.take_for t.buffer m.message.my_ref n (incoming.Fetching r)))
   unfolding perform_take take_with append
   bytes_does r =
       let none = ended_view d h r (receiver.taking_failed r) (live_of d h t is) in
@@ -163,7 +159,7 @@ module _ (d : Desk) (t : Task) (m : Parcel) (is : task_of t.handle d.tasks ≡ S
   module _ {o : Offers} {e : Edits} (g : Good o e (view d)) (rd : Read o (view d) h l) where
     transmit_found : (w : Incoming) →
         FoundActive (receiver.is_answer ((view d).buf h) m.message.from m.message.your_ref buffer n) ((view d).taking h)
-        w → Good o e (view (transmitted w).0)
+        w → Good o e (view (perform_take d t (receiver.take_for t.buffer m.message.my_ref n w)).0)
     unfolding perform_take take_with
     transmit_found w (fetches r has q) = took_good h r l _ _ g rd refl has (matched (view d) h r l q) (bytes_does r)
     transmit_found w (drains r has q) =

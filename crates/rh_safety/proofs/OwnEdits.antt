@@ -82,20 +82,19 @@ module _ (R : Desk → Desk → Type 0) (t : Task) (own : OwnEdits t.handle R) (
   perform_send-own act (Some x) each =
       or_else-keeps (Did R d) _ (granted-then _ _ λ source found. each x source) (refused-own (sender.transfer_of (act x)))
 
-  on_fetch-own : OfAnySlot R → (from my_ref your_ref buffer amount : ℕ) (records : List Outgoing) →
-      Did R d (perform_send d t (sender.on_fetch from my_ref your_ref buffer amount records))
+  on_fetch-own : OfAnySlot R → (m : Parcel) (buffer amount : ℕ) →
+      Did R d (perform_send d t (sender.on_fetch m.message.from m.message.my_ref m.message.your_ref buffer amount t.sending))
   unfolding send_with
-  on_fetch-own any from my_ref your_ref buffer amount records =
-      perform_send-own (sender.transmit_for from my_ref buffer amount) _ (λ x source. transmit-own any _ source)
+  on_fetch-own any m buffer amount =
+      perform_send-own (sender.transmit_for m.message.from m.message.my_ref buffer amount) _ (λ x source. transmit-own any _ source)
 
-  pub on_ack-own : (from my_ref your_ref : ℕ) (records : List Outgoing) → Did R d (perform_send d t (sender.on_ack from my_ref your_ref records))
+  pub on_ack-own : (m : Parcel) → Did R d (perform_send d t (sender.on_ack m.message.from m.message.my_ref m.message.your_ref t.sending))
   unfolding send_with
-  on_ack-own from my_ref your_ref records = perform_send-own (sender.file_for from my_ref) _ (λ x source. save_scrap-own _ source)
+  on_ack-own m = perform_send-own (sender.file_for m.message.from m.message.my_ref) _ (λ x source. save_scrap-own _ source)
 
-  pub on_load_ack-own : (from your_ref : ℕ) (records : List Outgoing) → Did R d (perform_send d t (sender.on_load_ack from your_ref records))
+  pub on_load_ack-own : (m : Parcel) → Did R d (perform_send d t (sender.on_load_ack m.message.from m.message.your_ref t.sending))
   unfolding send_with
-  on_load_ack-own from your_ref records =
-      perform_send-own send_action.Finish _ (λ x source. granted (record { desk = own.outs _ d }))
+  on_load_ack-own m = perform_send-own send_action.Finish _ (λ x source. granted (record { desk = own.outs _ d }))
 
   accept-own : (a : Claim) → OnGrant (Did R d) (accept d t a)
   unfolding accept
@@ -176,11 +175,11 @@ module _ (R : Desk → Desk → Type 0) (t : Task) (own : OwnEdits t.handle R) (
   came-own : OfAnySlot R → (m : Parcel) (b : Body) → Did R d (came d t m b)
   unfolding came
   came-own any m (body.DataSave file) = perform_take-own _
-  came-own any m (body.DataSaveAck file) = on_ack-own R t own d _ _ _ _
+  came-own any m (body.DataSaveAck file) = on_ack-own R t own d m
   came-own any m (body.DataLoad file) = perform_take-own _
-  came-own any m (body.DataLoadAck file) = on_load_ack-own R t own d _ _ _
+  came-own any m (body.DataLoadAck file) = on_load_ack-own R t own d m
   came-own any m (body.RamFetch buffer amount) =
-      chosen (Did R d) (answers_none t.manner) _ _ (ignored-own R t own d) (on_fetch-own R t own d any _ _ _ _ _ _)
+      chosen (Did R d) (answers_none t.manner) _ _ (ignored-own R t own d) (on_fetch-own R t own d any m buffer amount)
   came-own any m (body.RamTransmit buffer n) = perform_take-own _
 
   pub came_back-own : (m : Parcel) (b : Body) → Did R d (came_back d t m b)

@@ -20,7 +20,7 @@ use Rattle.rh_safety.proofs.Turns.{first_one}
 use Rattle.rh_safety.proofs.SeenTaking.{IsTaken, lost_queue, picked_by}
 use Rattle.rh_safety.proofs.SeenDocuments.{letter_of}
 use Rattle.rh_safety.proofs.KeptFetch.{gone, transmit_does, transmit_goes}
-use Rattle.rh_safety.proofs.KeptOffers.{taken_save, save_does}
+use Rattle.rh_safety.proofs.KeptOffers.{for_save, save_does}
 use Rattle.rh_safety.proofs.KeptTransmits.{taken_desk, took_all, bytes_does}
 
 -- ---- the message that is taken
@@ -217,7 +217,7 @@ transmit_turn d h m a (takes d2 t p is taken) granted came kind r found =
 -- ---- a DataSave
 
 save_body : (d : Desk) (t : Task) (m : Parcel) (b : Body) → action_of b ≡ action.DataSave →
-    transfer.came d t m b ≡ taken_save d t m
+    transfer.came d t m b ≡ perform_take d t (for_save t m)
 unfolding transfer.came
 save_body d t m (body.DataSave x) q = refl
 save_body d t m (body.RamFetch a n) q = absurd (let z : action.RamFetch ≡ action.DataSave = q in (cc))
@@ -230,7 +230,7 @@ pub save_turn : (d : Desk) (h : ℕ) (m : Message) (a : Answer) → Turn d h m a
     (m.code ≡ Acknowledge → ⊥) → m.letter.kind ≡ action.DataSave →
     Began (sight.picked (sight.lost (view d)) h m m.code) h m.letter (sight.lost (view a.0))
 save_turn d h m a (takes d2 t p is taken) granted came kind =
-    let same : transfer.handled d2 t p p.code ≡ taken_save d2 t p = came_of d2 t p p.code came ∙ save_body d2 t p
+    let same : transfer.handled d2 t p p.code ≡ perform_take d2 t (for_save t p) = came_of d2 t p p.code came ∙ save_body d2 t p
     p.message.body kind in
     let l : Letter = (seen_parcel p).letter in
     elim (save_does d2 t p is p.message.body) [

@@ -372,7 +372,7 @@ module _ (d : Desk) (t : Task) where
   came_back_fine m (body.DataSaveAck file) = ack_back_fine _
   came_back_fine m (body.DataLoad file) = fail_fine _
   came_back_fine m (body.DataLoadAck file) = refl
-  came_back_fine m (body.RamFetch buffer amount) = perform_take_fine _ (back_has _)
+  came_back_fine m (body.RamFetch buffer amount) = perform_take_fine _ (back_has (active_of (λ f. f.fetch == m.message.my_ref) t.taking))
   came_back_fine m (body.RamTransmit buffer n) = fail_fine _
 
 -- ---- a poll
@@ -420,15 +420,21 @@ module _ {o : Offered} {e : ℕ → ℕ → Bool} (d : Desk) (t : Task) (m : Par
       Fine (transfer.came d t m b)
   unfolding transfer.came
   came_fine is (body.DataSave file) tk = perform_take_fine d t _ (claim_has d t _ _)
-  came_fine is (body.DataSaveAck file) tk = perform_send_fine d t _ (if_mapped (HasSource d t) _ _ λ x q.
-      (source_there is tk.inv (sender.asks_for m.message.from m.message.your_ref) x q, tt))
-  came_fine is (body.DataLoad file) tk = perform_take_fine d t _ (if_mapped (HasDocument t) _ _
-      (asking_there is tk.inv (receiver.is_load m.message.from m.message.your_ref)))
-  came_fine is (body.DataLoadAck file) tk = perform_send_fine d t _ (if_mapped (HasSource d t) _ _ λ x q.
-      (source_there is tk.inv (sender.is_loaded m.message.from m.message.your_ref) x q, tt))
-  came_fine is (body.RamFetch buffer amount) tk = either Fine (answers_none t.manner) (ignored d) _ (λ y. refl) (λ y.
-      perform_send_fine d t _ (if_mapped (HasSource d t) _ _ λ x q.
-      (source_there is tk.inv (sight.would_answer (fetch_in m buffer amount)) x q, reaches d t m is buffer amount tk y x q)))
+  came_fine is (body.DataSaveAck file) tk =
+      let test : Sending → Bool = sender.asks_for m.message.from m.message.your_ref in
+      perform_send_fine d t _ (if_mapped (HasSource d t) (sender.file_for m.message.from m.message.my_ref) (open_of test t.sending)
+      (λ x q. (source_there is tk.inv test x q, tt)))
+  came_fine is (body.DataLoad file) tk = perform_take_fine d t _ (if_mapped (HasDocument t) (receiver.load_for m.message.from
+      m.message.my_ref) _ (asking_there is tk.inv (receiver.is_load m.message.from m.message.your_ref)))
+  came_fine is (body.DataLoadAck file) tk =
+      let test : Sending → Bool = sender.is_loaded m.message.from m.message.your_ref in
+      perform_send_fine d t _ (if_mapped (HasSource d t) send_action.Finish (open_of test t.sending)
+      (λ x q. (source_there is tk.inv test x q, tt)))
+  came_fine is (body.RamFetch buffer amount) tk =
+      let test : Sending → Bool = sight.would_answer (fetch_in m buffer amount) in
+      either Fine (answers_none t.manner) (ignored d) _ (λ y. refl) (λ y.
+      perform_send_fine d t _ (if_mapped (HasSource d t) (sender.transmit_for m.message.from m.message.my_ref buffer amount)
+      (open_of test t.sending) (λ x q. (source_there is tk.inv test x q, reaches d t m is buffer amount tk y x q))))
   came_fine is (body.RamTransmit buffer n) tk = perform_take_fine d t _ (bytes_has d t t.buffer m.message.my_ref n _
       (fetching_there is tk.inv (receiver.is_answer t.buffer m.message.from m.message.your_ref buffer n)))
 
