@@ -1,7 +1,6 @@
 -- No document outgrows a count: it lies in one slot with its transfer's buffer.
-use Rattle.rh_safety.proofs.Common.{◌≡◌, ℕ, ◌+◌, ◌-◌, ◌≤◌, Bool, true, false, List, [], ◌∷◌, length, Some, sym, ap, ◌∙◌, inl, inr, arith, if◌then◌else◌, find}
-use Rattle.rh_safety.proofs.Common.{◌==◌, total, Heap, first_place, Flex, weight, heap_start, Desk, Task, task_at, IsDesk}
-use Rattle.rh_safety.proofs.Common.{view, flex_map, Offered, Good}
+use Rattle.rh_safety.proofs.Common.{◌≡◌, ℕ, ◌+◌, ◌-◌, ◌≤◌, Bool, true, false, List, [], ◌∷◌, length, Some, sym, ap, ◌∙◌, inl, arith, if◌then◌else◌, find}
+use Rattle.rh_safety.proofs.Common.{◌==◌, total, Heap, first_place, Flex, weight, heap_start, Desk, Task, task_at, IsDesk, view, flex_map, Offered, Good}
 use Rattle.rh_defs.specs.Heap.{IsHeap}
 use Rattle.rh_defs.specs.Blocks.{block_bytes}
 use Rattle.rh_defs.specs.Slot.{slot_length}

@@ -1,6 +1,6 @@
 -- A fetch that is answered keeps the invariant.
-use Rattle.rh_safety.proofs.Common.{◌≡◌, ℕ, ◌≤◌, true, false, List, [], length, take, drop, Option, Some, None, refl, sym, ap, ◌∙◌, subst, arith, length-drop}
-use Rattle.rh_safety.proofs.Common.{length-take, ◌-◌, ◌++◌, nat_eq, Ok, Refusal, NoTask, Outcome, Sending, option_map, open_of, Transmit, Part}
+use Rattle.rh_safety.proofs.Common.{◌≡◌, ℕ, ◌≤◌, true, false, List, [], length, take, drop, Option, Some, None, refl, sym, ap, ◌∙◌, subst, arith}
+use Rattle.rh_safety.proofs.Common.{length-drop, length-take, ◌++◌, nat_eq, Ok, Refusal, NoTask, Outcome, Sending, option_map, open_of, Transmit, Part}
 use Rattle.rh_safety.proofs.Common.{Outgoing, found_or, written, bytes_of, Slot, heap_block_at, slot_block, buffer_at, Parcel, transmit_letter, Desk, Task}
 use Rattle.rh_safety.proofs.Common.{next_ref, task_at, with_task, send_letter, Handled, transmit, send_with, perform_send, answers_none, view, seen_letter}
 use Rattle.rh_safety.proofs.Common.{blocks_of, buffers_of, task_of, Letter, Offers, Edits, put, same_value, open_is, first_is, is_equal, Good, field_is}

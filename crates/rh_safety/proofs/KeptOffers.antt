@@ -1,10 +1,10 @@
 -- A DataSave that came keeps the invariant.
 use Rattle.rh_safety.proofs.Common.{◌≡◌, ℕ, zero, suc, ◌+◌, ◌<◌, true, false, List, [], length, Option, Some, None, refl, sym, ap, ◌∙◌, subst, ◌⊎◌, inl, inr}
-use Rattle.rh_safety.proofs.Common.{arith, not, ◌&&◌, Ok, eqb_tells, leb_tells, length-replicate, AnchorInUse, Body, Incoming, found_or, zeros, Slot, slot_claim}
-use Rattle.rh_safety.proofs.Common.{slot_alloc, block_of, weight, flex_start, Parcel, action_of, fetch_letter, is_going, is_full, free_anchor, Desk, Task}
-use Rattle.rh_safety.proofs.Common.{next_ref, free_pages, with_task, with_slot, with_taking, send_letter, Handled, ignored, is_deaf, accept, take_with}
-use Rattle.rh_safety.proofs.Common.{perform_take, Claim, TakeAction, view, seen_letter, blocks_of, buffers_of, task_of, Offers, Edits, put, how_many, none_some}
-use Rattle.rh_safety.proofs.Common.{either, and_right, Good, Same, field_is, live_of, slot_is, ins_view, is_found}
+use Rattle.rh_safety.proofs.Common.{arith, not, ◌&&◌, Ok, eqb_tells, leb_tells, length-replicate, AnchorInUse, Body, Incoming, found_or, zeros, Slot}
+use Rattle.rh_safety.proofs.Common.{slot_claim, slot_alloc, block_of, weight, flex_start, Parcel, action_of, fetch_letter, is_going, is_full, free_anchor}
+use Rattle.rh_safety.proofs.Common.{Desk, Task, next_ref, free_pages, with_task, with_slot, with_taking, send_letter, Handled, ignored, is_deaf, accept}
+use Rattle.rh_safety.proofs.Common.{take_with, perform_take, Claim, TakeAction, view, seen_letter, blocks_of, buffers_of, task_of, Offers, Edits, put}
+use Rattle.rh_safety.proofs.Common.{how_many, none_some, either, and_right, Good, Same, field_is, live_of, slot_is, ins_view, is_found}
 use Rattle.rh_defs.specs.declared.message.Action.TheVariants as action
 use Rattle.rh_defs.specs.Heap.{block_room}
 use Rattle.rh_defs.specs.Slot.{is_used, anchor_count}

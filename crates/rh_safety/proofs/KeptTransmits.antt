@@ -1,15 +1,14 @@
 -- A transmit that came keeps the invariant.
-use Rattle.rh_safety.proofs.Common.{◌≡◌, ℕ, ◌+◌, Bool, true, false, List, [], ◌++◌, take, Option, Some, None, refl, sym, ap, ◌∙◌, subst, inl, inr, arith, suc}
-use Rattle.rh_safety.proofs.Common.{if◌then◌else◌, nat_lt, nat_le, ◌^◌, option_map, take_all, leb_tells, Refusal, NoRoom, Outcome, Taking, Incoming, Split}
-use Rattle.rh_safety.proofs.Common.{Segment, bytes_of, heap_block_at, Parcel, fetch_letter, Desk, Task, next_ref, send_letter, Handled, appended, fetch_more}
-use Rattle.rh_safety.proofs.Common.{took, append, take_with, perform_take, Append, Fetch, Next, TakeAction, view, seen_letter, blocks_of, buffers_of, task_of}
-use Rattle.rh_safety.proofs.Common.{Letter, Has, Offers, Edits, put, In_done, In_failed, either, FoundActive, fetches, drains, active_is, Good, field_is}
-use Rattle.rh_safety.proofs.Common.{live_of, ins_view, seen_good}
+use Rattle.rh_safety.proofs.Common.{◌≡◌, ℕ, ◌+◌, Bool, true, false, List, [], ◌++◌, take, Option, Some, None, refl, sym, ap, ◌∙◌, subst, inl, inr, arith}
+use Rattle.rh_safety.proofs.Common.{suc, if◌then◌else◌, nat_lt, nat_le, ◌^◌, option_map, take_all, leb_tells, Refusal, NoRoom, Outcome, Taking, Incoming}
+use Rattle.rh_safety.proofs.Common.{Split, Segment, bytes_of, heap_block_at, Parcel, fetch_letter, Desk, Task, next_ref, send_letter, Handled, appended}
+use Rattle.rh_safety.proofs.Common.{fetch_more, took, append, take_with, perform_take, Append, Fetch, Next, TakeAction, view, seen_letter, blocks_of}
+use Rattle.rh_safety.proofs.Common.{buffers_of, task_of, Letter, Has, Offers, Edits, put, In_done, In_failed, either, FoundActive, fetches, drains}
+use Rattle.rh_safety.proofs.Common.{active_is, Good, field_is, live_of, ins_view, seen_good}
 use Rattle.rh_defs.specs.declared.message.Action.TheVariants as action
 use Rattle.rh_defs.specs.declared.message.Body.TheVariants as body
 use Rattle.rh_defs.specs.declared.reply.Outcome.TheVariants as outcome
 use Rattle.rh_defs.specs.declared.transfer.Incoming.TheVariants as incoming
-use Rattle.rh_defs.specs.declared.transfer_action.Next.TheVariants as next
 use Rattle.rh_defs.specs.Records.{active_of}
 use Rattle.rh_defs.specs.Receiver as receiver
 use Rattle.rh_defs.specs.Places.{first_bytes}

@@ -1,14 +1,13 @@
 -- The numbers that are answered go up, since each is the desk's next one, and the next one goes up by one.
-use Rattle.rh_safety.proofs.Common.{◌≡◌, ℕ, ◌+◌, ◌≤◌, true, refl, sym, subst, ◌∙◌, arith, List, [], ◌∷◌, ◌++◌, length, Option, Some, None, Ok, ◌==◌}
-use Rattle.rh_safety.proofs.Common.{not, filter}
-use Rattle.rh_safety.proofs.Common.{Command, Manner, Body, EventCode, User, Recorded, Acknowledge, Refusal, Outcome, Reply, Asked, Incoming, Sending, Taking}
-use Rattle.rh_safety.proofs.Common.{Split, Heap, Flex, Slot, Parcel, is_recorded, Post, Seat, answers_held, held_by, has_seat, bounced, bounce_held}
+use Rattle.rh_safety.proofs.Common.{◌≡◌, ℕ, ◌+◌, ◌≤◌, true, refl, sym, subst, ◌∙◌, arith, List, [], ◌∷◌, ◌++◌, length, Option, Some, None, Ok, ◌==◌, not}
+use Rattle.rh_safety.proofs.Common.{filter, Command, Manner, Body, EventCode, User, Recorded, Acknowledge, Refusal, Outcome, Reply, Asked, Incoming, Sending}
+use Rattle.rh_safety.proofs.Common.{Taking, Split, Heap, Flex, Slot, Parcel, is_recorded, Post, Seat, answers_held, held_by, has_seat, bounced, bounce_held}
 use Rattle.rh_safety.proofs.Common.{bounce_all, without_block, taken_from, queued_in, put_down, post_join, post_send, post_poll, post_death, Desk, Task}
 use Rattle.rh_safety.proofs.Common.{Scrap, next_ref, free_pages, with_slot, with_task, with_delivered, send_letter, Handled, Transmit, SaveFile, SendAction}
-use Rattle.rh_safety.proofs.Common.{Claim, Append, Fetch, Next, LoadFile, TakeAction, transmit, save_scrap, send_with, perform_send, fail_sending, taking_ended}
-use Rattle.rh_safety.proofs.Common.{accept, appended, fetch_more, took, append, ask, ack_back, loaded, load_file, take_with, perform_take, came, came_back}
-use Rattle.rh_safety.proofs.Common.{handled, Answer, start_task, kill, make, save, repeat, poll, poll_taken, cancel_in, cancel_out, step, after, start_with}
-use Rattle.rh_safety.proofs.Common.{Always, OnGrant, granted, granted-then, granted-with, granted-past, or_else-keeps, chosen}
+use Rattle.rh_safety.proofs.Common.{Claim, Append, Fetch, Next, LoadFile, TakeAction, transmit, save_scrap, send_with, perform_send, fail_sending}
+use Rattle.rh_safety.proofs.Common.{taking_ended, accept, appended, fetch_more, took, append, ask, ack_back, loaded, load_file, take_with, perform_take}
+use Rattle.rh_safety.proofs.Common.{came, came_back, handled, Answer, start_task, kill, make, save, repeat, poll, poll_taken, cancel_in, cancel_out, step}
+use Rattle.rh_safety.proofs.Common.{after, start_with, Always, OnGrant, granted, granted-then, granted-with, granted-past, or_else-keeps, chosen}
 use Rattle.rh_defs.specs.declared.command.Command.TheVariants as command
 use Rattle.rh_defs.specs.declared.message.Body.TheVariants.{DataSave, DataSaveAck, DataLoad, DataLoadAck, RamFetch, RamTransmit}
 use Rattle.rh_defs.specs.declared.message.Letter.{Letter}

@@ -1,11 +1,11 @@
 -- What a message that was handled makes of a desk, told once: edits of the task's own slot and records, letters of its own,
 -- the scrap file and area 5, and bytes that a transmit writes into the recipient's slot.
 use Rattle.rh_safety.proofs.Common.{◌≡◌, ℕ, List, Option, Some, None, refl, Ok, Err, Refusal, Body, EventCode, User, Recorded, Acknowledge, Asked, Sending}
-use Rattle.rh_safety.proofs.Common.{Taking, Incoming, Outgoing, Granted, Split, Flex, Slot, Parcel, Desk, Scrap, Task, send_letter, with_sending, with_taking}
-use Rattle.rh_safety.proofs.Common.{with_task, option_map, Transmit, SaveFile, SendAction, Claim, Append, Fetch, Next, LoadFile, TakeAction, Handled, ignored}
-use Rattle.rh_safety.proofs.Common.{refused, fail_sending, transmit, save_scrap, send_with, perform_send, accept, ack_back, append, appended, ask, took}
-use Rattle.rh_safety.proofs.Common.{taking_ended, fetch_more, load_file, loaded, take_with, perform_take, answers_none, came, came_back, handled, OnGrant}
-use Rattle.rh_safety.proofs.Common.{granted, granted-past, granted-then, granted-with, chosen, or_else-keeps}
+use Rattle.rh_safety.proofs.Common.{Taking, Incoming, Outgoing, Granted, Split, Flex, Slot, Parcel, Desk, Scrap, Task, send_letter, with_sending}
+use Rattle.rh_safety.proofs.Common.{with_taking, with_task, option_map, Transmit, SaveFile, SendAction, Claim, Append, Fetch, Next, LoadFile, TakeAction}
+use Rattle.rh_safety.proofs.Common.{Handled, ignored, refused, fail_sending, transmit, save_scrap, send_with, perform_send, accept, ack_back, append}
+use Rattle.rh_safety.proofs.Common.{appended, ask, took, taking_ended, fetch_more, load_file, loaded, take_with, perform_take, answers_none, came, came_back}
+use Rattle.rh_safety.proofs.Common.{handled, OnGrant, granted, granted-past, granted-then, granted-with, chosen, or_else-keeps}
 use Rattle.rh_defs.specs.declared.message.Body.TheVariants as body
 use Rattle.rh_defs.specs.declared.message.Letter.{Letter}
 use Rattle.rh_defs.specs.declared.transfer_action.SendAction.TheVariants as send_action

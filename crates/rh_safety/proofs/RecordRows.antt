@@ -2,8 +2,9 @@
 use Rattle.rh_safety.proofs.Common.{◌≡◌, refl, ℕ, Bool, true, false, ◌==◌, if◌then◌else◌, List, [], ◌∷◌, ◌++◌, length, map, codes, Option, Some, None, Ok}
 use Rattle.rh_safety.proofs.Common.{filter_map, option_map, hex_on_literals, String, Refusal, AnchorInUse, NoBlock, Sending, Asked, Outgoing, Incoming}
 use Rattle.rh_safety.proofs.Common.{Granted, ◌>>=◌, found_or, or_else, Split, Flex, new_slot, slot_block, slot_claim, Parcel, post_is_live, post_poll}
-use Rattle.rh_safety.proofs.Common.{fetch_letter, load_letter, in_id, open_of, free_anchor, Desk, Task, Scrap, next_ref, free_pages, task_at, with_slot, with_sending}
-use Rattle.rh_safety.proofs.Common.{Claim, SaveFile, LoadFile, with_taking, send_letter, with_post, Handled, ignored, refused, scrap_shortage, wider, appended, loaded, after}
+use Rattle.rh_safety.proofs.Common.{fetch_letter, load_letter, in_id, open_of, free_anchor, Desk, Task, Scrap, next_ref, free_pages, task_at, with_slot}
+use Rattle.rh_safety.proofs.Common.{with_sending, Claim, SaveFile, LoadFile, with_taking, send_letter, with_post, Handled, ignored, refused, scrap_shortage}
+use Rattle.rh_safety.proofs.Common.{wider, appended, loaded, after}
 use Rattle.rh_defs.specs.declared.command.Manner.TheVariants as manner
 use Rattle.rh_defs.specs.declared.command.Command.TheVariants as command
 use Rattle.rh_defs.specs.declared.reply.Outcome.TheVariants as outcome

@@ -1,16 +1,16 @@
 -- No poll answers that a range was bad, or that a block was missing.
-use Rattle.rh_safety.proofs.Common.{◌≡◌, ◌≢◌, ℕ, ◌+◌, ◌≤◌, Bool, true, false, not, ◌&&◌, ◌||◌, List, [], length, take, Option, Some, None, refl, sym, ap, ◌∙◌}
-use Rattle.rh_safety.proofs.Common.{subst, arith, nat_lt, nat_le, ◌==◌, ◌^◌, Ok, Err, is_some, option_map, leb_tells, Refusal, NoBlock, AnchorInUse, BadRange}
+use Rattle.rh_safety.proofs.Common.{◌≡◌, ◌≢◌, ℕ, ◌+◌, ◌≤◌, Bool, true, false, not, ◌&&◌, ◌||◌, List, [], length, take, Option, Some, None, refl, sym, ap}
+use Rattle.rh_safety.proofs.Common.{◌∙◌, subst, arith, nat_lt, nat_le, ◌==◌, ◌^◌, Ok, Err, is_some, option_map, leb_tells, Refusal, NoBlock, BadRange}
 use Rattle.rh_safety.proofs.Common.{NoTask, NoRoom, Busy, Body, EventCode, User, Recorded, Acknowledge, Outcome, Reply, Sending, Taking, Asked, Outgoing}
 use Rattle.rh_safety.proofs.Common.{Incoming, Transmit, Part, SaveFile, SendAction, Claim, Append, Next, LoadFile, TakeAction, Granted, ◌>>=◌, ◌>>◌}
 use Rattle.rh_safety.proofs.Common.{refuse_if, found_or, Split, Heap, Segment, fitted, Parcel, Post, has_seat, post_send, post_poll, Slot, Flex, block_of}
-use Rattle.rh_safety.proofs.Common.{flex_address, heap_block_at, slot_block, slot_extend, slot_put, slot_claim, slot_alloc, fetch_letter, transmit_letter}
-use Rattle.rh_safety.proofs.Common.{load_letter, open_of, free_anchor, Desk, Task, Scrap, free_pages, named, task_at, with_slot, with_delivered, send_letter}
-use Rattle.rh_safety.proofs.Common.{Handled, ignored, transmit, fail_sending, scrap_shortage, wider, save_scrap, send_with, perform_send, accept, appended}
-use Rattle.rh_safety.proofs.Common.{fetch_more, took, append, ask, ack_back, loaded, load_file, take_with, perform_take, answers_none, Answer, poll}
-use Rattle.rh_safety.proofs.Common.{poll_taken, step, in_anchor, view, blocks_of, buffers_of, task_of, Has, either, put_same, open_is, FoundActive, fetches}
-use Rattle.rh_safety.proofs.Common.{drains, active_is, asking_is, Offered, Untouched, IsGood, Inv, Good, field_is, live_of, Fits, bind, done, is_found}
-use Rattle.rh_safety.proofs.Common.{instead_of, the_task, OnGrant, granted, granted-past, granted-then, or_else, or_else-keeps, chosen, IfSome, if◌then◌else◌}
+use Rattle.rh_safety.proofs.Common.{flex_address, heap_block_at, slot_block, slot_extend, slot_put, fetch_letter, transmit_letter, load_letter, open_of}
+use Rattle.rh_safety.proofs.Common.{Desk, Task, Scrap, free_pages, named, task_at, with_delivered, send_letter, Handled, ignored, transmit, fail_sending}
+use Rattle.rh_safety.proofs.Common.{scrap_shortage, wider, save_scrap, send_with, perform_send, accept, appended, fetch_more, took, append, ask, ack_back}
+use Rattle.rh_safety.proofs.Common.{loaded, load_file, take_with, perform_take, answers_none, Answer, poll, poll_taken, step, in_anchor, view, blocks_of}
+use Rattle.rh_safety.proofs.Common.{buffers_of, task_of, Has, either, put_same, open_is, FoundActive, fetches, drains, active_is, asking_is, Offered}
+use Rattle.rh_safety.proofs.Common.{Untouched, IsGood, Inv, Good, field_is, live_of, Fits, bind, done, is_found, instead_of, the_task, OnGrant, granted}
+use Rattle.rh_safety.proofs.Common.{granted-past, granted-then, or_else, or_else-keeps, chosen, IfSome, if◌then◌else◌}
 use Rattle.rh_defs.specs.declared.refusal.Refusal.TheVariants.{BadSize, NoRefs, QueueFull}
 use Rattle.rh_defs.specs.declared.message.Body.TheVariants as body
 use Rattle.rh_defs.specs.declared.message.Letter.{Letter}
@@ -31,7 +31,7 @@ use Rattle.rh_defs.specs.Letters.{ack_letter, load_ack_letter}
 use Rattle.rh_defs.specs.Records.{active_of, asking_of}
 use Rattle.rh_defs.specs.Sender as sender
 use Rattle.rh_defs.specs.Receiver as receiver
-use Rattle.rh_defs.specs.Places.{first_bytes, overlap}
+use Rattle.rh_defs.specs.Places.{overlap}
 use Rattle.rh_defs.specs.OutgoingEvents.{is_out_of_reach}
 use Rattle.rh_defs.specs.IncomingEvents.{told}
 use Rattle.rh_defs.specs.Transfer as transfer
@@ -39,9 +39,9 @@ use Rattle.rh_defs.proofs.Chains.{grant-holds, granted-both}
 use Rattle.rh_safety.specs.Buffers.{outcome_refusal, failed_by, HasGoodRanges}
 use Rattle.rh_safety.specs.Polls.{LosesNoBlock}
 use Rattle.rh_safety.proofs.Polls.{Taken}
-use Rattle.rh_safety.proofs.SeenBlocks.{from_test, ok_is, extend_is, changed_map}
+use Rattle.rh_safety.proofs.SeenBlocks.{extend_is, changed_map}
 use Rattle.rh_safety.proofs.SeenHeaps.{length_fitted}
-use Rattle.rh_safety.proofs.SeenSends.{by_grant, with_step}
+use Rattle.rh_safety.proofs.SeenSends.{by_grant}
 use Rattle.rh_safety.proofs.SeenDocuments.{letter_of, block_there}
 use Rattle.rh_safety.proofs.SeenTaking.{poll_taken_is}
 use Rattle.rh_safety.proofs.SeenWrites.{buffer_found}

@@ -6,8 +6,8 @@ use Rattle.rh_safety.proofs.Common.{◌>>◌, refuse_if, found_or, or_else, Spli
 use Rattle.rh_safety.proofs.Common.{fetch_letter, transmit_letter, load_letter, out_id, in_id, is_open, is_full, with_id, open_of, buffer_at, free_anchor}
 use Rattle.rh_safety.proofs.Common.{Desk, Task, Scrap, next_ref, free_pages, has_name, named, task_at, with_task, with_slot, with_sending, with_taking}
 use Rattle.rh_safety.proofs.Common.{with_delivered, send_letter, Answer, Handled, ignored, refused, scrap_shortage, wider, perform_send, perform_take}
-use Rattle.rh_safety.proofs.Common.{Transmit, Part, SaveFile, Claim, LoadFile, is_deaf, appended, loaded, answers_none, came, came_back, save, cancel_in, step}
-use Rattle.rh_safety.proofs.Common.{Offers, Edits}
+use Rattle.rh_safety.proofs.Common.{Transmit, Part, SaveFile, Claim, LoadFile, is_deaf, appended, loaded, answers_none, came, came_back, save, cancel_in}
+use Rattle.rh_safety.proofs.Common.{step, Offers, Edits}
 use Rattle.std.specs.List.{list_all}
 use Rattle.rh_defs.specs.declared.refusal.Refusal.TheVariants.{NotOpen}
 use Rattle.rh_defs.specs.declared.command.Command.TheVariants as command
