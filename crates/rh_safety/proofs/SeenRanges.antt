@@ -35,7 +35,6 @@ use Rattle.rh_defs.specs.Places.{overlap}
 use Rattle.rh_defs.specs.OutgoingEvents.{is_out_of_reach}
 use Rattle.rh_defs.specs.IncomingEvents.{told}
 use Rattle.rh_defs.specs.Transfer as transfer
-use Rattle.rh_defs.proofs.Chains.{grant-holds, granted-both}
 use Rattle.rh_safety.specs.Buffers.{outcome_refusal, failed_by, HasGoodRanges}
 use Rattle.rh_safety.specs.Polls.{LosesNoBlock}
 use Rattle.rh_safety.proofs.Polls.{Taken}
@@ -48,7 +47,6 @@ use Rattle.rh_safety.proofs.SeenWrites.{buffer_found}
 use Rattle.rh_safety.proofs.Sight as sight
 use Rattle.rh_safety.proofs.KeptFetch.{Reaches, fetch_in, reaches}
 use Rattle.rh_safety.proofs.KeptPolls.{Given, given}
-use Rattle.rh_safety.proofs.OwnEdits.{any-grant}
 use Rattle.rh_safety.proofs.SeenLaws.{block_is}
 
 -- ---- answers that name a bad range, or a missing block
@@ -70,91 +68,85 @@ is_bad_reply r = names_fault (failed_by r)
 
 -- ---- calls that don't answer so
 
-abbrev NoBad : {A : Type 0} → Granted A → Type 0
-NoBad g = (r : Refusal) → g ≡ Err r → is_fault r ≡ false
+-- a chain whose refusal is no fault, and P of what it grants. A data type, so that P is found from a goal
+data Sound {A : Type 0} (P : A → Type 0) : Granted A → Type 0 where
+  grants : {x : A} → P x → Sound P (Ok x)
+  refuses : {r : Refusal} → is_fault r ≡ false → Sound P (Err r)
 
--- a refusal that is passed on
-same_fault : {A : Type 0} (s r : Refusal) → ◌≡◌ {A = Granted A} (Err s) (Err r) → is_fault s ≡ false → is_fault r ≡ false
-same_fault s r q none = let y : s ≡ r = cc in subst (λ v. is_fault v ≡ false) y none
+-- the same, where nothing is said of what it grants
+abbrev NoFault : {A : Type 0} → Granted A → Type 0
+NoFault g = Sound (λ x. Unit {0}) g
 
-bind_ok : {A B : Type 0} (g : Granted A) (next : A → Granted B) → NoBad g → ((x : A) → g ≡ Ok x → NoBad (next x)) →
-    NoBad (g >>= next)
+bind_ok : {A B : Type 0} {P : B → Type 0} {first : Granted A} (next : A → Granted B) → NoFault first →
+    ((x : A) → first ≡ Ok x → Sound P (next x)) → Sound P (first >>= next)
 unfolding ◌>>=◌
-bind_ok (Ok x) next a b r q = b x refl r q
-bind_ok (Err s) next a b r q = same_fault s r q (a s refl)
+bind_ok next (grants {x = x} u) rest = rest x refl
+bind_ok next (refuses none) rest = refuses none
 
-then_ok : {A B : Type 0} (g : Granted A) (next : Granted B) → NoBad g → ((x : A) → g ≡ Ok x → NoBad next) →
-    NoBad (g >> next)
+then_ok : {A B : Type 0} {P : B → Type 0} {first : Granted A} (next : Granted B) → NoFault first → Sound P next → Sound P (first >> next)
 unfolding ◌>>=◌ ◌>>◌
-then_ok (Ok x) next a b r q = b x refl r q
-then_ok (Err s) next a b r q = same_fault s r q (a s refl)
+then_ok next (grants u) rest = rest
+then_ok next (refuses none) rest = refuses none
 
-done_ok : {A : Type 0} (x : A) → NoBad (Ok x)
-done_ok x r q = absurd (let z : Ok x ≡ Err r = q in cc)
-
-refuse_ok : (b : Bool) (s : Refusal) → is_fault s ≡ false → NoBad (refuse_if b s)
+refuse_ok : (b : Bool) (s : Refusal) → is_fault s ≡ false → NoFault (refuse_if b s)
 unfolding refuse_if
-refuse_ok true s none r q = same_fault s r q none
-refuse_ok false s none r q = absurd (let z : Ok tt ≡ Err r = q in cc)
+refuse_ok true s none = refuses none
+refuse_ok false s none = grants tt
 
-unless_ok : (b : Bool) (s : Refusal) → b ≡ false → NoBad (refuse_if b s)
+unless_ok : (b : Bool) (s : Refusal) → b ≡ false → NoFault (refuse_if b s)
 unfolding refuse_if
-unless_ok true s off r q = absurd (let z : Bool.true ≡ false = off in cc)
-unless_ok false s off r q = absurd (let z : Ok tt ≡ Err r = q in cc)
+unless_ok true s off = absurd (let z : Bool.true ≡ false = off in cc)
+unless_ok false s off = grants tt
 
-found_ok : {A : Type 0} (o : Option A) (s : Refusal) → is_fault s ≡ false → NoBad (found_or o s)
+found_ok : {A : Type 0} (o : Option A) (s : Refusal) → is_fault s ≡ false → NoFault (found_or o s)
 unfolding found_or
-found_ok None s none r q = same_fault s r q none
-found_ok (Some x) s none r q = absurd (let z : Ok x ≡ Err r = q in cc)
+found_ok None s none = refuses none
+found_ok (Some x) s none = grants tt
 
-claim_ok : (free n : ℕ) (h : Heap) → NoBad (module_claim free n h)
+claim_ok : (free n : ℕ) (h : Heap) → NoFault (module_claim free n h)
 unfolding module_claim
 claim_ok free n h =
-    bind_ok (refuse_if (n == 0) BadSize) _ (refuse_ok (n == 0) BadSize refl) (λ u e.
-    bind_ok (refuse_if (lacks_pages free (need n h)) NoRoom) _ (refuse_ok (lacks_pages free (need n h)) NoRoom refl) (λ u e. done_ok _))
+    bind_ok _ (refuse_ok (n == 0) BadSize refl) λ u e. bind_ok _ (refuse_ok (lacks_pages free (need n h)) NoRoom refl) λ u e. grants tt
 
-sendable_ok : (l : Letter) (p : Post) → NoBad (sendable l p)
+sendable_ok : (l : Letter) (p : Post) → NoFault (sendable l p)
 unfolding sendable
 sendable_ok l p =
-    then_ok (refuse_if (not (has_seat l.to p.seats)) NoTask) _ (refuse_ok _ NoTask refl) (λ u e.
-    then_ok (refuse_if (nat_le (2 ^ 32) p.next_ref) NoRefs) _ (refuse_ok _ NoRefs refl) (λ u e.
-    refuse_ok (nat_le most_messages (live_count p)) QueueFull refl))
+    then_ok _ (refuse_ok (not (has_seat l.to p.seats)) NoTask refl)
+    (then_ok _ (refuse_ok (nat_le (2 ^ 32) p.next_ref) NoRefs refl) (refuse_ok (nat_le most_messages (live_count p)) QueueFull refl))
 
-post_ok : (free : ℕ) (l : Letter) (p : Post) → NoBad (post_send free l p)
+post_ok : (free : ℕ) (l : Letter) (p : Post) → NoFault (post_send free l p)
 unfolding post_send
-post_ok free l p = then_ok (sendable l p) _ (sendable_ok l p) (λ u e. bind_ok (module_claim free _ p.heap) _
-    (claim_ok free _ p.heap) (λ x e. done_ok _))
+post_ok free l p = then_ok _ (sendable_ok l p) (bind_ok _ (claim_ok free _ p.heap) λ x e. grants tt)
 
-send_ok : (l : Letter) (d : Desk) → NoBad (send_letter l d)
+send_ok : (l : Letter) (d : Desk) → NoFault (send_letter l d)
 unfolding send_letter
-send_ok l d = bind_ok (post_send (free_pages d) l d.post) _ (post_ok (free_pages d) l d.post) (λ x e. done_ok _)
+send_ok l d = bind_ok _ (post_ok (free_pages d) l d.post) λ x e. grants tt
 
 -- the anchor has a block
 abbrev There : Slot → ℕ → Type 0
 There s k = (bytes : List ℕ) × (blocks_of s k ≡ Some bytes)
 
-block_ok : (k : ℕ) (s : Slot) → There s k → NoBad (slot_block k s)
+block_ok : (k : ℕ) (s : Slot) → There s k → NoFault (slot_block k s)
 unfolding slot_block found_or
 block_ok k s there = go (block_of k s) refl
   where
-    go : (o : Option (Split Flex)) → block_of k s ≡ o → NoBad (found_or o NoBlock)
-    go None e r q =
+    go : (o : Option (Split Flex)) → block_of k s ≡ o → NoFault (found_or o NoBlock)
+    go None e =
         let lost : None ≡ Some there.0 = ap (option_map (λ (b : Split Flex). b.here.bytes)) (sym e) ∙ sym (block_is s k) ∙ there.1 in
         absurd cc
-    go (Some b) e r q = absurd (let z : Ok b ≡ Err r = q in cc)
+    go (Some b) e = grants tt
 
-extend_ok : (free k n : ℕ) (s : Slot) → There s k → NoBad (slot_extend free k n s)
+extend_ok : (free k n : ℕ) (s : Slot) → There s k → NoFault (slot_extend free k n s)
 unfolding slot_extend
-extend_ok free k n s there = bind_ok (slot_block k s) _ (block_ok k s there) (λ b e.
-    bind_ok (refuse_if (lacks_room free (length_with b n s) s) NoRoom) _ (refuse_ok _ NoRoom refl) (λ u e.
-    done_ok _))
+extend_ok free k n s there =
+    bind_ok _ (block_ok k s there) λ b e. bind_ok _ (refuse_ok (lacks_room free (length_with b n s) s) NoRoom refl) λ u e. grants tt
 
 -- bytes that fit are put
 put_ok : (k offset : ℕ) (bytes document : List ℕ) (s : Slot) → blocks_of s k ≡ Some document →
-    offset + length bytes ≤ length document → NoBad (slot_put k offset bytes s)
+    offset + length bytes ≤ length document → NoFault (slot_put k offset bytes s)
 unfolding slot_put
 put_ok k offset bytes document s there fits =
-    bind_ok (slot_block k s) _ (block_ok k s (document, there)) (λ b e.
+    bind_ok _ (block_ok k s (document, there)) λ b e.
     let one : Some document ≡ Some b.here.bytes = sym there ∙ block_there k s b e in
     let same : document ≡ b.here.bytes = cc in
     let less : nat_lt (length b.here.bytes) (offset + length bytes) ≡ false = grind (
@@ -162,21 +154,16 @@ put_ok k offset bytes document s there fits =
       leb_tells,
       ap (λ (v : List ℕ). length v) same,
     ) in
-    bind_ok (refuse_if (nat_lt (length b.here.bytes) (offset + length bytes)) BadRange) _ (unless_ok _ BadRange less)
-    (λ u e. done_ok _))
+    bind_ok _ (unless_ok _ BadRange less) λ u e. grants tt
 
-appended_ok : (d : Desk) (t : Task) (k : ℕ) (bytes : List ℕ) → There t.slot k → NoBad (appended d t k bytes)
+appended_ok : (d : Desk) (t : Task) (k : ℕ) (bytes : List ℕ) → There t.slot k → NoFault (appended d t k bytes)
 unfolding appended
 appended_ok d t k bytes there =
-    bind_ok (slot_block k t.slot) _ (block_ok k t.slot there) (λ b e.
-    bind_ok (slot_extend (free_pages d) k (length b.here.bytes + length bytes) t.slot) _ (extend_ok (free_pages d) k _
-    t.slot there) (λ longer e1.
-    bind_ok (slot_put k (length b.here.bytes) bytes longer) _
-    (let w = extend_is (free_pages d) k (length b.here.bytes + length bytes) t.slot longer e1 in
+    bind_ok _ (block_ok k t.slot there) λ b e. bind_ok _ (extend_ok (free_pages d) k _ t.slot there) λ longer e1.
+    let w = extend_is (free_pages d) k (length b.here.bytes + length bytes) t.slot longer e1 in
     let new : List ℕ = fitted (length b.here.bytes + length bytes) w.cut.here.bytes in
-    put_ok k (length b.here.bytes) bytes new longer (changed_map w k ∙ put_same (blocks_of t.slot) k (Some new))
-    (let z = length_fitted (length b.here.bytes + length bytes) w.cut.here.bytes in omega arith))
-    (λ s e2. done_ok _)))
+    bind_ok _ (put_ok k (length b.here.bytes) bytes new longer (changed_map w k ∙ put_same (blocks_of t.slot) k (Some new))
+    (let z = length_fitted (length b.here.bytes + length bytes) w.cut.here.bytes in omega arith)) λ s e2. grants tt
 
 -- ---- handlers
 
@@ -184,10 +171,12 @@ appended_ok d t k bytes there =
 abbrev Fine : Handled → Type 0
 Fine x = is_bad_outcome x.1 ≡ false
 
--- a chain that names no fault, with what stands in its place
-fine_or : (g : Granted Handled) (instead : Refusal → Handled) → NoBad g → OnGrant Fine g →
-    ((r : Refusal) → is_fault r ≡ false → Fine (instead r)) → Fine (or_else g instead)
-fine_or g instead none fine told = by_grant Fine g instead (λ x q. grant-holds fine q) (λ r q. told r (none r q))
+-- a chain, with what stands in its place where it is refused
+fine_or : {g : Granted Handled} (instead : Refusal → Handled) → Sound Fine g → ((r : Refusal) → is_fault r ≡ false → Fine (instead r)) →
+    Fine (or_else g instead)
+unfolding or_else
+fine_or instead (grants fine) told = fine
+fine_or instead (refuses {r = r} none) told = told r none
 
 -- what holds of the action for the record that is found
 if_mapped : {A B : Type 0} (P : B → Type 0) (f : A → B) (v : Option A) → ((x : A) → v ≡ Some x → P (f x)) → IfSome (option_map f v) P
@@ -214,54 +203,34 @@ module _ (d : Desk) (t : Task) where
   fail_fine None = refl
   fail_fine (Some x) = refl
 
-  transmit_sure : (a : Transmit) (source : Split Flex) → ((view d).live a.transfer.recipient ≡ true → Reaches (view d) a) →
-      NoBad (transmit d t a source)
+  transmit_fine : (a : Transmit) (source : Split Flex) → ((view d).live a.transfer.recipient ≡ true → Reaches (view d) a) →
+      Sound Fine (transmit d t a source)
   unfolding transmit
-  transmit_sure a source reach =
+  transmit_fine a source reach =
       let p : Part = sender.part a (length source.here.bytes) in
       let place : ℕ = flex_address t.slot source.before + p.offset in
-      bind_ok (found_or (task_at a.transfer.recipient d) NoTask) _ (found_ok _ NoTask refl) (λ r e.
+      bind_ok _ (found_ok (task_at a.transfer.recipient d) NoTask refl) λ r e.
       let to : task_of a.transfer.recipient d.tasks ≡ Some r = is_found (task_at a.transfer.recipient d) NoTask r e in
       let range = reach (live_of d a.transfer.recipient r to) in
       let w = buffer_found a.buffer a.room r.slot range.old (ap (λ (g : ℕ → Option (List ℕ)). g a.buffer)
       (sym (field_is (λ y. buffers_of y.slot) (λ a. None) a.transfer.recipient d.tasks r to)) ∙ range.there) range.fits
       (heap_block_at a.buffer r.slot) refl in
-      then_ok (refuse_if (is_out_of_reach t r a.buffer a.room place p.n) BadRange) _
-      (unless_ok (is_out_of_reach t r a.buffer a.room place p.n) BadRange
+      then_ok _ (unless_ok (is_out_of_reach t r a.buffer a.room place p.n) BadRange
       (ap (λ (o : Option (Split Segment)). not (is_some o) && (not (holds a.buffer a.room r.slot) || (t.handle ==
       r.handle && overlap a.buffer a.room place p.n))) w.found))
-      (λ u e. bind_ok (send_letter (transmit_letter t.handle a p) d) _ (send_ok _ d) (λ sent e. done_ok _)))
+      (bind_ok _ (send_ok _ d) λ sent e. grants refl)
 
-  transmit_fine : (a : Transmit) (source : Split Flex) → OnGrant Fine (transmit d t a source)
-  unfolding transmit
-  transmit_fine a source =
-      granted-then _ _ λ r live. granted-past _ _ _ λ reach. granted-then _ _ λ sent e. granted refl
-
-  save_sure : (a : SaveFile) (source : Split Flex) → NoBad (save_scrap d t a source)
-  unfolding save_scrap
-  save_sure a source =
-      then_ok (refuse_if (is_some d.scrap) Busy) _ (refuse_ok _ Busy refl) (λ u e.
-      then_ok (sendable (load_letter t.handle a _) d.post) _ (sendable_ok _ d.post) (λ u e.
-      then_ok (refuse_if (nat_lt (free_pages d) (scrap_shortage (length source.here.bytes) d)) NoRoom) _
-      (refuse_ok _ NoRoom refl) (λ u e.
-      bind_ok (send_letter (load_letter t.handle a _) (wider (scrap_shortage _ d) d)) _ (send_ok _ _) (λ sent e. done_ok _))))
-
-  save_fine : (a : SaveFile) (source : Split Flex) → OnGrant Fine (save_scrap d t a source)
+  save_fine : (a : SaveFile) (source : Split Flex) → Sound Fine (save_scrap d t a source)
   unfolding save_scrap
   save_fine a source =
-      granted-past _ _ _ λ busy. granted-both _ (any-grant _) λ y u. granted-past _ _ _ λ room. granted-then _ _ λ sent e. granted refl
+      then_ok _ (refuse_ok (is_some d.scrap) Busy refl) (then_ok _ (sendable_ok _ d.post)
+      (then_ok _ (refuse_ok _ NoRoom refl) (bind_ok _ (send_ok _ _) λ sent e. grants refl)))
 
-  send_sure : (a : SendAction) (source : Split Flex) → HasSource d t a → NoBad (send_with d t a source)
+  send_fine : (a : SendAction) (source : Split Flex) → HasSource d t a → Sound Fine (send_with d t a source)
   unfolding send_with
-  send_sure (send_action.Transmit a) source has = transmit_sure a source has.1
-  send_sure (send_action.SaveFile a) source has = save_sure a source
-  send_sure (send_action.Finish x) source has = done_ok _
-
-  send_fine : (a : SendAction) (source : Split Flex) → OnGrant Fine (send_with d t a source)
-  unfolding send_with
-  send_fine (send_action.Transmit a) source = transmit_fine a source
-  send_fine (send_action.SaveFile a) source = save_fine a source
-  send_fine (send_action.Finish x) source = granted refl
+  send_fine (send_action.Transmit a) source has = transmit_fine a source has.1
+  send_fine (send_action.SaveFile a) source has = save_fine a source
+  send_fine (send_action.Finish x) source has = grants refl
 
   source_of : (a : SendAction) → HasSource d t a → There t.slot (sender.transfer_of a).anchor
   source_of (send_action.Transmit a) has = has.0
@@ -272,10 +241,7 @@ module _ (d : Desk) (t : Task) where
   unfolding perform_send
   perform_send_fine None has = refl
   perform_send_fine (Some a) has =
-      fine_or _ _
-      (bind_ok (slot_block (sender.transfer_of a).anchor t.slot) _ (block_ok _ t.slot (source_of a has)) (λ source e.
-      send_sure a source has))
-      (granted-then _ _ λ source e. send_fine a source) (λ r q. q)
+      fine_or _ (bind_ok _ (block_ok _ t.slot (source_of a has)) λ source e. send_fine a source has) (λ r q. q)
 
   -- ---- the receiver
 
@@ -284,45 +250,37 @@ module _ (d : Desk) (t : Task) where
   accept_fine a =
       granted-then _ _ λ k e. granted-then _ _ λ b e. granted-then _ _ λ p e. granted-then _ _ λ sent e. granted refl
 
-  took_fine : (a : Append) (b : Next) (after : Desk) → Fine (took after t a b)
+  took_fine : (a : Append) (b : Next) → Fine (took d t a b)
   unfolding took fetch_more
-  took_fine a next.Finish after = refl
-  took_fine a (next.Fetch b) after =
-      fine_or _ _ (bind_ok (send_letter (fetch_letter t.handle b) after) _ (send_ok _ after) (λ sent e. done_ok _))
-      (granted-then _ _ λ sent e. granted refl) (λ r q. q)
+  took_fine a next.Finish = refl
+  took_fine a (next.Fetch b) = fine_or _ (bind_ok _ (send_ok _ d) λ sent e. grants refl) (λ r q. q)
 
-  append_fine : (a : Append) → There t.slot a.transfer.anchor → Fine (append d t a)
-  unfolding append
-  append_fine a there =
-      fine_or _ _
-      (bind_ok (appended d t a.transfer.anchor _) _ (appended_ok d t a.transfer.anchor _ there) (λ after e. done_ok _))
-      (granted-then _ _ λ after e. granted (took_fine a a.next after)) (λ r q. q)
-
-  ask_fine : (f : Taking) → Fine (take_with d t (take_action.AskForFile f))
-  unfolding take_with ask
-  ask_fine f =
-      fine_or _ _ (bind_ok (send_letter (ack_letter t.handle f) d) _ (send_ok _ d) (λ sent e. done_ok _))
-      (granted-then _ _ λ sent e. granted refl) (λ r q. q)
+  ask_fine : (f : Taking) → Sound Fine (ask d t f)
+  unfolding ask
+  ask_fine f = bind_ok _ (send_ok _ d) λ sent e. grants refl
 
   ack_back_fine : (v : Option Asked) → Fine (ack_back d t v)
   unfolding ack_back
   ack_back_fine None = refl
   ack_back_fine (Some q) = refl
 
-  loaded_fine : (a : LoadFile) (n : ℕ) (after : Desk) → Fine (loaded after t a n)
+  loaded_fine : (a : LoadFile) (n : ℕ) → Fine (loaded d t a n)
   unfolding loaded
-  loaded_fine a n after =
-      fine_or _ _ (bind_ok (send_letter (load_ack_letter t.handle a n) after) _ (send_ok _ after) (λ sent e. done_ok _))
-      (granted-then _ _ λ sent e. granted refl) (λ r q. q)
+  loaded_fine a n = fine_or _ (bind_ok _ (send_ok _ d) λ sent e. grants refl) (λ r q. q)
+
+module _ (d : Desk) (t : Task) where
+  append_fine : (a : Append) → There t.slot a.transfer.anchor → Fine (append d t a)
+  unfolding append
+  append_fine a there =
+      fine_or _ (bind_ok _ (appended_ok d t a.transfer.anchor _ there) λ after e. grants (took_fine after t a a.next)) (λ r q. q)
 
   file_fine : (a : LoadFile) (o : Option Scrap) → There t.slot a.transfer.anchor → Fine (load_file d t a o)
   unfolding load_file
   file_fine a None there = refl
   file_fine a (Some file) there =
       chosen Fine (file.load == a.answers) _ _
-      (fine_or _ _
-      (bind_ok (appended d t a.transfer.anchor file.bytes) _ (appended_ok d t a.transfer.anchor file.bytes there) (λ after e. done_ok _))
-      (granted-then _ _ λ after e. granted (loaded_fine a _ (record after { scrap = None }))) (λ r q. q)) refl
+      (fine_or _ (bind_ok _ (appended_ok d t a.transfer.anchor file.bytes there) λ after e.
+      grants (loaded_fine (record after { scrap = None }) t a _)) (λ r q. q)) refl
 
   ending_fine : (e : Ending) → is_bad_outcome (told e) ≡ false
   ending_fine ending.Drained = refl
@@ -331,9 +289,9 @@ module _ (d : Desk) (t : Task) where
 
   take_fine : (a : TakeAction) → HasDocument t a → Fine (take_with d t a)
   unfolding take_with
-  take_fine (take_action.Claim a) has = or_else-keeps Fine _ (accept_fine a) (λ r. refl)
+  take_fine (take_action.Claim a) has = or_else-keeps Fine _ (accept_fine d t a) (λ r. refl)
   take_fine (take_action.Append a) has = append_fine a has
-  take_fine (take_action.AskForFile f) has = ask_fine f
+  take_fine (take_action.AskForFile f) has = fine_or _ (ask_fine d t f) (λ r q. q)
   take_fine (take_action.LoadFile a) has = file_fine a d.scrap has
   take_fine (take_action.Release a) has = ending_fine a.ending
 
@@ -368,12 +326,12 @@ module _ (d : Desk) (t : Task) where
 
   came_back_fine : (m : Parcel) (b : Body) → Fine (transfer.came_back d t m b)
   unfolding transfer.came_back
-  came_back_fine m (body.DataSave file) = fail_fine _
-  came_back_fine m (body.DataSaveAck file) = ack_back_fine _
-  came_back_fine m (body.DataLoad file) = fail_fine _
+  came_back_fine m (body.DataSave file) = fail_fine d t _
+  came_back_fine m (body.DataSaveAck file) = ack_back_fine d t _
+  came_back_fine m (body.DataLoad file) = fail_fine d t _
   came_back_fine m (body.DataLoadAck file) = refl
   came_back_fine m (body.RamFetch buffer amount) = perform_take_fine _ (back_has (active_of (λ f. f.fetch == m.message.my_ref) t.taking))
-  came_back_fine m (body.RamTransmit buffer n) = fail_fine _
+  came_back_fine m (body.RamTransmit buffer n) = fail_fine d t _
 
 -- ---- a poll
 
