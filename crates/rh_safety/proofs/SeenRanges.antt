@@ -4,13 +4,12 @@ use Rattle.rh_safety.proofs.Common.{◌∙◌, subst, arith, nat_lt, nat_le, ◌
 use Rattle.rh_safety.proofs.Common.{NoTask, NoRoom, Busy, Body, EventCode, User, Recorded, Acknowledge, Outcome, Reply, Sending, Taking, Asked, Outgoing}
 use Rattle.rh_safety.proofs.Common.{Incoming, Transmit, Part, SaveFile, SendAction, Claim, Append, Next, LoadFile, TakeAction, Granted, ◌>>=◌, ◌>>◌}
 use Rattle.rh_safety.proofs.Common.{refuse_if, found_or, Split, Heap, Segment, fitted, Parcel, Post, has_seat, post_send, post_poll, Slot, Flex, block_of}
-use Rattle.rh_safety.proofs.Common.{flex_address, heap_block_at, slot_block, slot_extend, slot_put, fetch_letter, transmit_letter, load_letter, open_of}
-use Rattle.rh_safety.proofs.Common.{Desk, Task, Scrap, free_pages, named, task_at, with_delivered, send_letter, Handled, ignored, transmit, fail_sending}
-use Rattle.rh_safety.proofs.Common.{scrap_shortage, wider, save_scrap, send_with, perform_send, accept, appended, fetch_more, took, append, ask, ack_back}
-use Rattle.rh_safety.proofs.Common.{loaded, load_file, take_with, perform_take, answers_none, Answer, poll, poll_taken, step, in_anchor, view, blocks_of}
-use Rattle.rh_safety.proofs.Common.{buffers_of, task_of, Has, either, put_same, open_is, FoundActive, fetches, drains, active_is, asking_is, Offered}
-use Rattle.rh_safety.proofs.Common.{Untouched, IsGood, Inv, Good, field_is, live_of, Fits, bind, done, is_found, instead_of, the_task, OnGrant, granted}
-use Rattle.rh_safety.proofs.Common.{granted-past, granted-then, or_else, or_else-keeps, chosen, IfSome, if◌then◌else◌}
+use Rattle.rh_safety.proofs.Common.{flex_address, heap_block_at, slot_block, slot_extend, slot_put, open_of, Desk, Task, Scrap, free_pages, named, task_at}
+use Rattle.rh_safety.proofs.Common.{with_delivered, send_letter, Handled, ignored, transmit, fail_sending, save_scrap, send_with, perform_send, accept}
+use Rattle.rh_safety.proofs.Common.{appended, fetch_more, took, append, ask, ack_back, loaded, load_file, take_with, perform_take, answers_none, Answer}
+use Rattle.rh_safety.proofs.Common.{poll, poll_taken, step, in_anchor, view, blocks_of, buffers_of, task_of, Has, either, put_same, open_is, FoundActive}
+use Rattle.rh_safety.proofs.Common.{fetches, drains, active_is, asking_is, Offered, Untouched, IsGood, Inv, Good, field_is, live_of, Fits, bind, done}
+use Rattle.rh_safety.proofs.Common.{is_found, instead_of, the_task, OnGrant, granted, granted-then, or_else, or_else-keeps, chosen, IfSome, if◌then◌else◌}
 use Rattle.rh_defs.specs.declared.refusal.Refusal.TheVariants.{BadSize, NoRefs, QueueFull}
 use Rattle.rh_defs.specs.declared.message.Body.TheVariants as body
 use Rattle.rh_defs.specs.declared.message.Letter.{Letter}
@@ -27,7 +26,6 @@ use Rattle.rh_defs.specs.Heap.{need}
 use Rattle.rh_defs.specs.Module.{module_claim}
 use Rattle.rh_defs.specs.Post.{most_messages, live_count, sendable}
 use Rattle.rh_defs.specs.Slot.{lacks_room, length_with, holds}
-use Rattle.rh_defs.specs.Letters.{ack_letter, load_ack_letter}
 use Rattle.rh_defs.specs.Records.{active_of, asking_of}
 use Rattle.rh_defs.specs.Sender as sender
 use Rattle.rh_defs.specs.Receiver as receiver
@@ -40,7 +38,6 @@ use Rattle.rh_safety.specs.Polls.{LosesNoBlock}
 use Rattle.rh_safety.proofs.Polls.{Taken}
 use Rattle.rh_safety.proofs.SeenBlocks.{extend_is, changed_map}
 use Rattle.rh_safety.proofs.SeenHeaps.{length_fitted}
-use Rattle.rh_safety.proofs.SeenSends.{by_grant}
 use Rattle.rh_safety.proofs.SeenDocuments.{letter_of, block_there}
 use Rattle.rh_safety.proofs.SeenTaking.{poll_taken_is}
 use Rattle.rh_safety.proofs.SeenWrites.{buffer_found}
