@@ -1,15 +1,15 @@
 -- No poll answers that a range was bad, or that a block was missing.
-use Rattle.rh_safety.proofs.Common.{◌≡◌, ◌≢◌, ℕ, ◌+◌, ◌≤◌, Bool, true, false, not, ◌&&◌, ◌||◌, List, [], length, take, Option, Some, None, refl, sym, ap}
-use Rattle.rh_safety.proofs.Common.{◌∙◌, subst, arith, nat_lt, nat_le, ◌==◌, ◌^◌, Ok, Err, is_some, option_map, leb_tells, Refusal, NoBlock, BadRange}
-use Rattle.rh_safety.proofs.Common.{NoTask, NoRoom, Busy, Body, EventCode, User, Recorded, Acknowledge, Outcome, Reply, Sending, Taking, Asked, Outgoing}
-use Rattle.rh_safety.proofs.Common.{Incoming, Transmit, Part, SaveFile, SendAction, Claim, Append, Next, LoadFile, TakeAction, Granted, ◌>>=◌, ◌>>◌}
-use Rattle.rh_safety.proofs.Common.{refuse_if, found_or, Split, Heap, Segment, fitted, Parcel, Post, has_seat, post_send, post_poll, Slot, Flex, block_of}
-use Rattle.rh_safety.proofs.Common.{flex_address, heap_block_at, slot_block, slot_extend, slot_put, open_of, Desk, Task, Scrap, free_pages, named, task_at}
-use Rattle.rh_safety.proofs.Common.{with_delivered, send_letter, Handled, ignored, transmit, fail_sending, save_scrap, send_with, perform_send, accept}
-use Rattle.rh_safety.proofs.Common.{appended, fetch_more, took, append, ask, ack_back, loaded, load_file, take_with, perform_take, answers_none, Answer}
-use Rattle.rh_safety.proofs.Common.{poll, poll_taken, step, in_anchor, view, blocks_of, buffers_of, task_of, Has, either, put_same, open_is, FoundActive}
-use Rattle.rh_safety.proofs.Common.{fetches, drains, active_is, asking_is, Offered, Untouched, IsGood, Inv, Good, field_is, live_of, Fits, bind, done}
-use Rattle.rh_safety.proofs.Common.{is_found, instead_of, the_task, OnGrant, granted, granted-then, or_else, or_else-keeps, chosen, IfSome, if◌then◌else◌}
+use Rattle.rh_safety.proofs.Common.{◌≡◌, ◌≢◌, ℕ, ◌+◌, ◌≤◌, Bool, true, false, not, ◌&&◌, ◌||◌, List, [], length, take, Option, Some, None, refl, sym}
+use Rattle.rh_safety.proofs.Common.{ap, ◌∙◌, subst, arith, nat_lt, nat_le, ◌==◌, ◌^◌, Ok, Err, is_some, option_map, leb_tells, Refusal, NoBlock}
+use Rattle.rh_safety.proofs.Common.{BadRange, NoTask, NoRoom, Busy, Body, EventCode, User, Recorded, Acknowledge, Outcome, Reply, Sending, Taking}
+use Rattle.rh_safety.proofs.Common.{Asked, Outgoing, Incoming, Transmit, Part, SaveFile, SendAction, Claim, Append, Next, LoadFile, TakeAction, Granted}
+use Rattle.rh_safety.proofs.Common.{◌>>=◌, ◌>>◌, refuse_if, found_or, Split, Heap, Segment, fitted, Parcel, Post, has_seat, post_send, post_poll, Slot}
+use Rattle.rh_safety.proofs.Common.{Flex, block_of, flex_address, heap_block_at, slot_block, slot_extend, slot_put, open_of, Desk, Task, Scrap}
+use Rattle.rh_safety.proofs.Common.{free_pages, named, task_at, with_delivered, send_letter, Handled, ignored, transmit, fail_sending, save_scrap}
+use Rattle.rh_safety.proofs.Common.{send_with, perform_send, accept, appended, fetch_more, took, append, ask, ack_back, loaded, load_file, take_with}
+use Rattle.rh_safety.proofs.Common.{perform_take, answers_none, Answer, poll, poll_taken, step, in_anchor, view, blocks_of, buffers_of, task_of, Has}
+use Rattle.rh_safety.proofs.Common.{either, put_same, open_is, Offered, Untouched, IsGood, Inv, Good, field_is, live_of, Fits, bind, done, is_found}
+use Rattle.rh_safety.proofs.Common.{instead_of, the_task, OnGrant, granted, granted-then, or_else, or_else-keeps, chosen, IfSome, if◌then◌else◌}
 use Rattle.rh_defs.specs.declared.refusal.Refusal.TheVariants.{BadSize, NoRefs, QueueFull}
 use Rattle.rh_defs.specs.declared.message.Body.TheVariants as body
 use Rattle.rh_defs.specs.declared.message.Letter.{Letter}
@@ -26,7 +26,6 @@ use Rattle.rh_defs.specs.Heap.{need}
 use Rattle.rh_defs.specs.Module.{module_claim}
 use Rattle.rh_defs.specs.Post.{most_messages, live_count, sendable}
 use Rattle.rh_defs.specs.Slot.{lacks_room, length_with, holds}
-use Rattle.rh_defs.specs.Records.{active_of, asking_of}
 use Rattle.rh_defs.specs.Sender as sender
 use Rattle.rh_defs.specs.Receiver as receiver
 use Rattle.rh_defs.specs.Places.{overlap}
@@ -35,6 +34,7 @@ use Rattle.rh_defs.specs.IncomingEvents.{told}
 use Rattle.rh_defs.specs.Transfer as transfer
 use Rattle.rh_safety.specs.Buffers.{outcome_refusal, failed_by, HasGoodRanges}
 use Rattle.rh_safety.specs.Polls.{LosesNoBlock}
+use Rattle.rh_safety.proofs.Actions.{bounce-does, if-mapped, load-does, open-does, save-does, transmit-does}
 use Rattle.rh_safety.proofs.Polls.{Taken}
 use Rattle.rh_safety.proofs.SeenBlocks.{extend_is, changed_map}
 use Rattle.rh_safety.proofs.SeenHeaps.{length_fitted}
@@ -175,11 +175,6 @@ unfolding or_else
 fine_or instead (grants fine) told = fine
 fine_or instead (refuses {r = r} none) told = told r none
 
--- what holds of the action for the record that is found
-if_mapped : {A B : Type 0} (P : B → Type 0) (f : A → B) (v : Option A) → ((x : A) → v ≡ Some x → P (f x)) → IfSome (option_map f v) P
-if_mapped P f None each = tt
-if_mapped P f (Some x) each = each x refl
-
 -- the source of an action is there, and the buffer that a fetch names
 abbrev HasSource : Desk → Task → SendAction → Type 0
 HasSource d t (send_action.Transmit a) = There t.slot a.transfer.anchor × ((view d).live a.transfer.recipient ≡ true → Reaches (view d) a)
@@ -297,29 +292,7 @@ module _ (d : Desk) (t : Task) where
   perform_take_fine None has = refl
   perform_take_fine (Some a) has = take_fine a has
 
-  -- ---- what is to be done for a message
-
-  claim_has : (b : Bool) (a : Claim) → IfSome (if b then Some (take_action.Claim a) else None) (HasDocument t)
-  claim_has true a = tt
-  claim_has false a = tt
-
-  bytes_has : (room my_ref n : ℕ) (v : Option Incoming) → ((f : Taking) → v ≡ Some (incoming.Fetching f) → There t.slot f.anchor) →
-      IfSome (receiver.of_record (receiver.take_for room my_ref n) v) (HasDocument t)
-  bytes_has room my_ref n None there = tt
-  bytes_has room my_ref n (Some (incoming.Fetching f)) there =
-      either (HasDocument t) (nat_le (2 ^ 32) (f.count + n)) _ _ (λ many. tt) (λ few. there f refl)
-  bytes_has room my_ref n (Some (incoming.Draining f)) there = tt
-  bytes_has room my_ref n (Some (incoming.Asking q)) there = tt
-  bytes_has room my_ref n (Some (incoming.Done i a k)) there = tt
-  bytes_has room my_ref n (Some (incoming.Failed i a k)) there = tt
-
-  back_has : (v : Option Incoming) → IfSome (receiver.of_record receiver.back_for v) (HasDocument t)
-  back_has None = tt
-  back_has (Some (incoming.Fetching f)) = either (HasDocument t) (f.count == 0) _ _ (λ none. tt) (λ some. tt)
-  back_has (Some (incoming.Draining f)) = tt
-  back_has (Some (incoming.Asking q)) = tt
-  back_has (Some (incoming.Done i a k)) = tt
-  back_has (Some (incoming.Failed i a k)) = tt
+  -- ---- a message that came back
 
   came_back_fine : (m : Parcel) (b : Body) → Fine (transfer.came_back d t m b)
   unfolding transfer.came_back
@@ -327,7 +300,8 @@ module _ (d : Desk) (t : Task) where
   came_back_fine m (body.DataSaveAck file) = ack_back_fine d t _
   came_back_fine m (body.DataLoad file) = fail_fine d t _
   came_back_fine m (body.DataLoadAck file) = refl
-  came_back_fine m (body.RamFetch buffer amount) = perform_take_fine _ (back_has (active_of (λ f. f.fetch == m.message.my_ref) t.taking))
+  came_back_fine m (body.RamFetch buffer amount) =
+      perform_take_fine _ (bounce-does (HasDocument t) t.taking _ (λ f has. tt) (λ f e has. tt))
   came_back_fine m (body.RamTransmit buffer n) = fail_fine d t _
 
 -- ---- a poll
@@ -341,12 +315,11 @@ block_there_in d t is k bytes q = (
 )
 
 module _ {o : Offered} {e : ℕ → ℕ → Bool} (d : Desk) (t : Task) (m : Parcel) where
-  source_there : (is : task_of t.handle d.tasks ≡ Some t) → Inv o e (view d) → (p : Sending → Bool) (x : Sending) →
-      open_of p t.sending ≡ Some x → There t.slot x.anchor
-  source_there is inv p x q =
-      let has = subst (λ (y : List Outgoing). Has (outgoing.Open x) y) (sym (field_is (λ y. y.sending) [] t.handle d.tasks t is))
-      (open_is p t.sending x q).0 in
-      let s = inv.outs.source t.handle x has in
+  source_there : (is : task_of t.handle d.tasks ≡ Some t) → Inv o e (view d) → (x : Sending) → Has (outgoing.Open x) t.sending →
+      There t.slot x.anchor
+  source_there is inv x has =
+      let s = inv.outs.source t.handle x
+      (subst (λ (y : List Outgoing). Has (outgoing.Open x) y) (sym (field_is (λ y. y.sending) [] t.handle d.tasks t is)) has) in
       block_there_in d t is x.anchor s.all s.there
 
   document_there : (is : task_of t.handle d.tasks ≡ Some t) → Inv o e (view d) → (w : Incoming) → Has w t.taking →
@@ -354,44 +327,38 @@ module _ {o : Offered} {e : ℕ → ℕ → Bool} (d : Desk) (t : Task) (m : Par
   document_there is inv w has un = inv.ins.good t.handle w (subst (λ (y : List Incoming). Has w y)
       (sym (field_is (λ y. y.taking) [] t.handle d.tasks t is)) has) un
 
-  fetching_there : (is : task_of t.handle d.tasks ≡ Some t) → Inv o e (view d) → (p : Taking → Bool) (f : Taking) →
-      active_of p t.taking ≡ Some (incoming.Fetching f) → There t.slot f.anchor
-  fetching_there is inv p f q = go (incoming.Fetching f) (active_is p t.taking (incoming.Fetching f) q) refl
-    where
-      go : (w : Incoming) → FoundActive p t.taking w → w ≡ incoming.Fetching f → There t.slot f.anchor
-      go w (fetches y has z) same =
-          let s = document_there is inv (incoming.Fetching y) has tt in
-          let one : y ≡ f = cc in
-          subst (λ (y : Taking). There t.slot y.anchor) one (block_there_in d t is y.anchor (take y.count s.all) s.there)
-      go w (drains y has z) same = absurd cc
+  fetching_there : (is : task_of t.handle d.tasks ≡ Some t) → Inv o e (view d) → (f : Taking) → Has (incoming.Fetching f) t.taking →
+      There t.slot f.anchor
+  fetching_there is inv f has =
+      let s = document_there is inv (incoming.Fetching f) has tt in
+      block_there_in d t is f.anchor (take f.count s.all) s.there
 
-  asking_there : (is : task_of t.handle d.tasks ≡ Some t) → Inv o e (view d) → (p : Asked → Bool) (x : Asked) →
-      asking_of p t.taking ≡ Some x → There t.slot x.anchor
-  asking_there is inv p x q =
-      let s = document_there is inv (incoming.Asking x) (asking_is p t.taking x q).0 tt in
+  asking_there : (is : task_of t.handle d.tasks ≡ Some t) → Inv o e (view d) → (x : Asked) → Has (incoming.Asking x) t.taking →
+      There t.slot x.anchor
+  asking_there is inv x has =
+      let s = document_there is inv (incoming.Asking x) has tt in
       block_there_in d t is x.anchor (take 0 s.all) s.there
 
   came_fine : (is : task_of t.handle d.tasks ≡ Some t) (b : Body) → Taken o e (view d) t.handle (letter_of m b) →
       Fine (transfer.came d t m b)
   unfolding transfer.came
-  came_fine is (body.DataSave file) tk = perform_take_fine d t _ (claim_has d t _ _)
+  came_fine is (body.DataSave file) tk = perform_take_fine d t _ (save-does (HasDocument t) t.taking _ _ _ tt)
   came_fine is (body.DataSaveAck file) tk =
-      let test : Sending → Bool = sender.asks_for m.message.from m.message.your_ref in
-      perform_send_fine d t _ (if_mapped (HasSource d t) (sender.file_for m.message.from m.message.my_ref) (open_of test t.sending)
-      (λ x q. (source_there is tk.inv test x q, tt)))
-  came_fine is (body.DataLoad file) tk = perform_take_fine d t _ (if_mapped (HasDocument t) (receiver.load_for m.message.from
-      m.message.my_ref) _ (asking_there is tk.inv (receiver.is_load m.message.from m.message.your_ref)))
+      perform_send_fine d t _
+      (open-does (HasSource d t) t.sending (sender.file_for m.message.from m.message.my_ref) _ (λ x has p. (source_there is tk.inv x has, tt)))
+  came_fine is (body.DataLoad file) tk =
+      perform_take_fine d t _ (load-does (HasDocument t) t.taking _ _ _ (λ x has p. asking_there is tk.inv x has))
   came_fine is (body.DataLoadAck file) tk =
-      let test : Sending → Bool = sender.is_loaded m.message.from m.message.your_ref in
-      perform_send_fine d t _ (if_mapped (HasSource d t) send_action.Finish (open_of test t.sending)
-      (λ x q. (source_there is tk.inv test x q, tt)))
+      perform_send_fine d t _ (open-does (HasSource d t) t.sending send_action.Finish _ (λ x has p. (source_there is tk.inv x has, tt)))
   came_fine is (body.RamFetch buffer amount) tk =
       let test : Sending → Bool = sight.would_answer (fetch_in m buffer amount) in
       either Fine (answers_none t.manner) (ignored d) _ (λ y. refl) (λ y.
-      perform_send_fine d t _ (if_mapped (HasSource d t) (sender.transmit_for m.message.from m.message.my_ref buffer amount)
-      (open_of test t.sending) (λ x q. (source_there is tk.inv test x q, reaches d t m is buffer amount tk y x q))))
-  came_fine is (body.RamTransmit buffer n) tk = perform_take_fine d t _ (bytes_has d t t.buffer m.message.my_ref n _
-      (fetching_there is tk.inv (receiver.is_answer t.buffer m.message.from m.message.your_ref buffer n)))
+      perform_send_fine d t _ (if-mapped (HasSource d t) (sender.transmit_for m.message.from m.message.my_ref buffer amount)
+      (open_of test t.sending)
+      (λ x q. (source_there is tk.inv x (open_is test t.sending x q).0, reaches d t m is buffer amount tk y x q))))
+  came_fine is (body.RamTransmit buffer n) tk =
+      perform_take_fine d t _
+      (transmit-does (HasDocument t) t.taking _ _ _ _ _ _ (λ f has. fetching_there is tk.inv f has) (λ f e has. tt))
 
   handled_fine : Given o e d t m → (c : EventCode) → m.code ≡ c → Fine (transfer.handled d t m c)
   unfolding transfer.handled
