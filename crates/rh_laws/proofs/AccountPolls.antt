@@ -1,17 +1,22 @@
 -- Each message that a poll handles leaves the blocks of the task that polls accounted for.
-use Rattle.rh_laws.proofs.Common.{◌≡◌, ◌≢◌, ℕ, ◌+◌, ◌-◌, ◌≤◌, Bool, List, length, take, drop, Option, Some, None, refl, sym, ap, ◌∙◌, subst, ◌⊎◌, inl, inr}
-use Rattle.rh_laws.proofs.Common.{arith, length-take, min, IfSome, eqb_tells, Body, EventCode, User, Recorded, Acknowledge, Letter, Outcome, Asked, Sending}
-use Rattle.rh_laws.proofs.Common.{Taking, Incoming, Outgoing, Granted, Rise, Split, Flex, Slot, Parcel, buffer_at, written_in, Post, active_of, asking_of}
-use Rattle.rh_laws.proofs.Common.{in_id, is_buffer_of, with_id, Desk, Task, Scrap, next_ref, send_letter, task_at, with_delivered, with_post, with_sending}
-use Rattle.rh_laws.proofs.Common.{with_slot, with_taking, with_task, Handled, answer_ack, answer_fetch, fail_sending, finish_load, ignored, portion}
-use Rattle.rh_laws.proofs.Common.{save_scrap, transmit, accept, ack_back, appended, ask, taking_ended, fetch_back, fetch_more, load_file, loaded, take_bytes}
-use Rattle.rh_laws.proofs.Common.{take_file, take_save, took, without_buffer, came, came_back, handled, OnGrant, chosen, granted, granted-both, granted-past}
-use Rattle.rh_laws.proofs.Common.{granted-then, granted-unless, granted-with, or_else-keeps, Has, FoundActive, active_is, asking_is, drains, fetches}
-use Rattle.rh_laws.proofs.Common.{buffers_of, task_of, any-grant}
+use Rattle.rh_laws.proofs.Common.{◌≡◌, ◌≢◌, ℕ, ◌+◌, ◌-◌, ◌≤◌, Bool, List, length, take, drop, Option, Some, None, refl, sym, ap, ◌∙◌, subst, ◌⊎◌, inl}
+use Rattle.rh_laws.proofs.Common.{inr, arith, length-take, min, IfSome, eqb_tells, Body, EventCode, User, Recorded, Acknowledge, Letter, Outcome, Asked}
+use Rattle.rh_laws.proofs.Common.{Sending, Taking, Incoming, Outgoing, Transmit, Part, SaveFile, SendAction, Claim, Append, Fetch, Next, LoadFile}
+use Rattle.rh_laws.proofs.Common.{TakeAction, Granted, Rise, Split, Flex, Slot, Parcel, buffer_at, written_in, Post, asking_of, in_id, is_buffer_of}
+use Rattle.rh_laws.proofs.Common.{with_id, Desk, Task, Scrap, next_ref, send_letter, task_at, with_delivered, with_post, with_sending, with_slot}
+use Rattle.rh_laws.proofs.Common.{with_taking, with_task, Handled, ignored, fail_sending, perform_send, save_scrap, send_with, transmit, accept}
+use Rattle.rh_laws.proofs.Common.{ack_back, append, appended, ask, taking_ended, fetch_more, load_file, loaded, perform_take, take_with, took}
+use Rattle.rh_laws.proofs.Common.{without_buffer, came, came_back, handled, OnGrant, chosen, granted, granted-both, granted-past, granted-then}
+use Rattle.rh_laws.proofs.Common.{granted-with, or_else-keeps, Has, asking_is, buffers_of, task_of, any-grant}
 use Rattle.rh_defs.specs.declared.message.Body.TheVariants as body
 use Rattle.rh_defs.specs.declared.transfer.Incoming.TheVariants as incoming
+use Rattle.rh_defs.specs.declared.transfer_action.SendAction.TheVariants as send_action
+use Rattle.rh_defs.specs.declared.transfer_action.TakeAction.TheVariants as take_action
+use Rattle.rh_defs.specs.declared.transfer_action.Next.TheVariants as next_action
+use Rattle.rh_defs.specs.Sender as sender
 use Rattle.rh_defs.specs.Receiver as receiver
 use Rattle.rh_defs.proofs.Chains.{refused}
+use Rattle.rh_safety.proofs.Actions.{bounce-does, load-does, save-does, transmit-does}
 use Rattle.rh_safety.proofs.SeenBlocks.{added_still, alloc_is, changed_still, extend_is, put_is}
 use Rattle.rh_safety.proofs.SeenHeaps.{claim_is, claimed_free, claimed_map}
 use Rattle.rh_laws.proofs.Frames.{edit-other, edit-own}
@@ -95,8 +100,8 @@ grant-mono f (granted {x = x} p) = granted (f x p)
 grant-mono f refused = refused
 
 -- no more bytes go out than were asked for
-portion-fits : (amount rest : ℕ) (bytes : List ℕ) → length (take (min amount rest) bytes) ≤ amount
-portion-fits amount rest bytes = simp length-take (omega arith)
+part-fits : (amount rest : ℕ) (bytes : List ℕ) → length (take (min amount rest) bytes) ≤ amount
+part-fits amount rest bytes = simp length-take (omega arith)
 
 -- ---- its account
 
@@ -150,10 +155,6 @@ module _ (c : ℕ → Option ℕ) (t : Task) (next : ℕ) (up : Rise in_id 0 nex
   letter-kept : {d : Desk} (l : Letter) → Kept c h d t.taking → OnGrant (λ e. Kept c h e t.taking) (send_letter l d)
   letter-kept {d} l g = grant-mono (λ e w. record { slot = g.slot; stands = w; all = g.all }) (stands-letter l g.stands)
 
-  -- a record that was found with a buffer
-  abbrev IsActive : Incoming → Type 0
-  IsActive w = Has w t.taking
-
   -- a record written anew, which keeps its buffer or has none
   renewed-after : (d : Desk) → Kept c h d t.taking → (w v : Incoming) → Has w t.taking →
       ((p : ℕ) → is_buffer_of p v ≡ is_buffer_of p w) → (o : Outcome) → K (with_taking h (λ ws. with_id in_id (in_id w) v ws) d, o)
@@ -199,59 +200,44 @@ module _ (c : ℕ → Option ℕ) (t : Task) (next : ℕ) (up : Rise in_id 0 nex
         K (taking_ended h f (λ ws. with_id in_id f.id v ws) d, o)
     ended-keeps f v has none o = ended-after d g f v has none o
 
-    failed-keeps : (f : Taking) → HasBuffer f → (n : ℕ) (o : Outcome) → K (taking_ended h f (receiver.taking_failed f n) d, o)
-    failed-keeps f has n o = ended-keeps f (incoming.Failed f.id f.anchor n) has (λ p. refl) o
+    failed-keeps : (f : Taking) → HasBuffer f → (o : Outcome) → K (taking_ended h f (receiver.taking_failed f) d, o)
+    failed-keeps f has o = ended-keeps f (incoming.Failed f.id f.anchor f.count) has (λ p. refl) o
 
-    transmit-keeps : (m : Parcel) (buffer amount : ℕ) (x : Sending) (source : Split Flex) → OnGrant K (transmit d t m buffer amount x source)
+    transmit-keeps : (a : Transmit) (source : Split Flex) → OnGrant K (transmit d t a source)
     unfolding transmit
-    transmit-keeps m buffer amount x source =
+    transmit-keeps a source =
         granted-then _ _ λ r live. granted-past _ _ _ λ reach. granted-with _ (letter-kept _ g) λ sent w.
-        let new : List ℕ = take (portion x amount source) (drop x.count source.here.bytes) in
-        let few : length new ≤ amount = portion-fits amount (length source.here.bytes - x.count) (drop x.count source.here.bytes) in
-        let k = written-kept r.handle (λ s. written_in buffer new (buffer_at buffer amount s) s)
-        (λ s p. written-sizes buffer amount s new few p) w in
+        let p : Part = sender.part a (length source.here.bytes) in
+        let new : List ℕ = take p.n (drop p.offset source.here.bytes) in
+        let few : length new ≤ a.room = part-fits a.room (length source.here.bytes - p.offset) (drop p.offset source.here.bytes) in
+        let k = written-kept r.handle (λ s. written_in a.buffer new (buffer_at a.buffer a.room s) s)
+        (λ s p. written-sizes a.buffer a.room s new few p) w in
         granted (record {
           records = t.taking;
           desk = record { slot = k.slot; stands = stands-sends _ k.stands; all = k.all };
         })
-
-    answer_fetch-keeps : (m : Parcel) (buffer amount : ℕ) (v : Option Sending) → K (answer_fetch d t m buffer amount v)
-    unfolding answer_fetch
-    answer_fetch-keeps m buffer amount None = ignored-keeps
-    answer_fetch-keeps m buffer amount (Some x) =
-        or_else-keeps K _ (granted-then _ _ λ source found. transmit-keeps m buffer amount x source) (λ refusal. outs-keep _ _)
 
     fail_sending-keeps : (v : Option Sending) → K (fail_sending d t v)
     unfolding fail_sending
     fail_sending-keeps None = ignored-keeps
     fail_sending-keeps (Some x) = outs-keep _ _
 
-    finish_load-keeps : (v : Option Sending) → K (finish_load d t v)
-    unfolding finish_load
-    finish_load-keeps None = ignored-keeps
-    finish_load-keeps (Some x) =
-        or_else-keeps K _ (granted-then _ _ λ source found. granted (outs-keep _ _)) (λ refusal. outs-keep _ _)
-
-    accept-keeps : (m : Parcel) → OnGrant K (accept d t m)
+    accept-keeps : (a : Claim) → OnGrant K (accept d t a)
     unfolding accept
-    accept-keeps m =
+    accept-keeps a =
         granted-then _ _ λ k free. granted-then _ _ λ b e. granted-then _ _ λ p f.
         let w = claim_is _ t.buffer t.slot b e in
-        let a = alloc_is _ k 0 b.0 p f in
-        let record_ : Taking = receiver.new_taking m.message.my_ref m.message.from k b.1 (next_ref d) in
+        let v = alloc_is _ k 0 b.0 p f in
         granted-with _ (stands-letter _ (stands-slot p.0 g.stands)) λ sent st.
         granted (record {
-          records = receiver.fetching record_ t.taking;
+          records = receiver.claimed a k b.1 (next_ref d) t.taking;
           desk = record {
             slot = p.0;
-            stands = stands-takes (receiver.fetching record_) st;
-            all = same-accounts (λ i. added_still k _ b.0 p.0 a i ∙ claimed_map w i) (begun-accounts record_ _ (claimed_free w) all);
+            stands = stands-takes (receiver.claimed a k b.1 (next_ref d)) st;
+            all = same-accounts (λ i. added_still k _ b.0 p.0 v i ∙ claimed_map w i)
+                (begun-accounts (receiver.new_taking a k b.1 (next_ref d)) _ (claimed_free w) all);
           };
         })
-
-    take_save-keeps : (m : Parcel) → K (take_save d t m)
-    unfolding take_save
-    take_save-keeps m = chosen K _ _ _ (or_else-keeps K _ (accept-keeps m) (λ refusal. ignored-keeps)) ignored-keeps
 
     appended-kept : (k : ℕ) (bytes : List ℕ) → OnGrant (λ e. Kept c h e t.taking) (appended d t k bytes)
     unfolding appended
@@ -263,25 +249,20 @@ module _ (c : ℕ → Option ℕ) (t : Task) (next : ℕ) (up : Rise in_id 0 nex
           all = same-accounts (λ i. changed_still (put_is k _ bytes longer s f) i ∙ changed_still (extend_is _ k _ t.slot longer e) i) all;
         })
 
-    fetch_more-keeps : (m : Parcel) (f : Taking) → Has (incoming.Fetching f) t.taking → (n : ℕ) → OnGrant K (fetch_more d t m f n)
+    fetch_more-keeps : (a : Append) → Has (incoming.Fetching a.transfer) t.taking → (b : Fetch) → OnGrant K (fetch_more d t a b)
     unfolding fetch_more
-    fetch_more-keeps m f has n =
-        granted-with _ (stands-letter _ g.stands) λ sent st.
-        let new : Incoming = incoming.Fetching (record f { count = f.count + n; fetch = next_ref d }) in
-        granted (record {
-          records = with_id in_id f.id new t.taking;
-          desk = record {
-            slot = g.slot;
-            stands = stands-takes (λ ws. with_id in_id f.id new ws) st;
-            all = renewed-accounts next up (incoming.Fetching f) new has (λ p. refl) g.all;
-          };
-        })
+    fetch_more-keeps a has b =
+        granted-with _ (letter-kept _ g) λ sent w.
+        granted (renewed-after sent w (incoming.Fetching a.transfer)
+        (incoming.Fetching (record a.transfer { count = a.transfer.count + a.n; fetch = next_ref d })) has (λ p. refl) _)
 
-    took-keeps : (m : Parcel) (f : Taking) → Has (incoming.Fetching f) t.taking → (n : ℕ) → K (took d t m f n)
+    took-keeps : (a : Append) → Has (incoming.Fetching a.transfer) t.taking → (b : Next) → K (took d t a b)
     unfolding took
-    took-keeps m f has n =
-        chosen K _ _ _ (ended-keeps f (incoming.Done f.id f.anchor (f.count + n)) (inl has) (λ p. refl) _)
-        (or_else-keeps K _ (fetch_more-keeps m f has n) (λ refusal. failed-keeps f (inl has) _ _))
+    took-keeps a has next_action.Finish =
+        ended-keeps a.transfer (incoming.Done a.transfer.id a.transfer.anchor (a.transfer.count + a.n)) (inl has) (λ p. refl) _
+    took-keeps a has (next_action.Fetch b) =
+        or_else-keeps K _ (fetch_more-keeps a has b)
+        (λ refusal. ended-keeps a.transfer (incoming.Failed a.transfer.id a.transfer.anchor (a.transfer.count + a.n)) (inl has) (λ p. refl) _)
 
     ask-keeps : (f : Taking) → HasBuffer f → OnGrant K (ask d t f)
     unfolding ask
@@ -289,95 +270,93 @@ module _ (c : ℕ → Option ℕ) (t : Task) (next : ℕ) (up : Rise in_id 0 nex
         granted-with _ (letter-kept _ g) λ sent w.
         granted (ended-after sent w f (incoming.Asking (receiver.asked_by f (next_ref d))) has (λ p. refl) _)
 
-    fetch_back-keeps : (v : Option Incoming) → IfSome v IsActive → K (fetch_back d t v)
-    unfolding fetch_back
-    fetch_back-keeps None is = ignored-keeps
-    fetch_back-keeps (Some (incoming.Fetching f)) is =
-        chosen K _ _ _ (or_else-keeps K _ (ask-keeps f (inl is)) (λ refusal. failed-keeps f (inl is) _ _)) (failed-keeps f (inl is) _ _)
-    fetch_back-keeps (Some (incoming.Draining f)) is = failed-keeps f (inr is) _ _
-    fetch_back-keeps (Some (incoming.Asking q)) is = ignored-keeps
-    fetch_back-keeps (Some (incoming.Done id anchor count)) is = ignored-keeps
-    fetch_back-keeps (Some (incoming.Failed id anchor count)) is = ignored-keeps
-
     ack_back-keeps : (v : Option Asked) → ((q : Asked) → v ≡ Some q → Has (incoming.Asking q) t.taking) → K (ack_back d t v)
     unfolding ack_back
     ack_back-keeps None asks = ignored-keeps
     ack_back-keeps (Some q) asks = renewed-keeps (incoming.Asking q) (incoming.Failed q.id q.anchor 0) (asks q refl) (λ p. refl) _
 
-    loaded-keeps : (m : Parcel) (q : Asked) → Has (incoming.Asking q) t.taking → (n : ℕ) → K (loaded d t m q n)
+    loaded-keeps : (a : LoadFile) → Has (incoming.Asking a.transfer) t.taking → (n : ℕ) → K (loaded d t a n)
     unfolding loaded
-    loaded-keeps m q has n =
+    loaded-keeps a has n =
+        let q : Asked = a.transfer in
         or_else-keeps K _
         (granted-with _ (letter-kept _ g) λ sent w.
         granted (renewed-after sent w (incoming.Asking q) (incoming.Done q.id q.anchor n) has (λ p. refl) _))
         (λ refusal. renewed-keeps (incoming.Asking q) (incoming.Failed q.id q.anchor n) has (λ p. refl) _)
 
-  module _ (d : Desk) (g : Kept c h d t.taking) where
-    take_bytes-keeps : (m : Parcel) (n : ℕ) (v : Option Incoming) → IfSome v IsActive → K (take_bytes d t m n v)
-    unfolding take_bytes
-    take_bytes-keeps m n None is = ignored-keeps d g
-    take_bytes-keeps m n (Some (incoming.Fetching f)) is =
-        or_else-keeps K _
-        (granted-unless _ _ _ λ small. granted-with _ (appended-kept d g f.anchor _) λ longer w.
-        granted (took-keeps longer w m f is n))
-        (λ refusal. failed-keeps d g f (inl is) _ _)
-    take_bytes-keeps m n (Some (incoming.Draining f)) is = failed-keeps d g f (inr is) _ _
-    take_bytes-keeps m n (Some (incoming.Asking q)) is = ignored-keeps d g
-    take_bytes-keeps m n (Some (incoming.Done id anchor count)) is = ignored-keeps d g
-    take_bytes-keeps m n (Some (incoming.Failed id anchor count)) is = ignored-keeps d g
+  -- the record of an action is one of the task's
+  abbrev IsOf : TakeAction → Type 0
+  IsOf (take_action.Claim a) = Unit {0}
+  IsOf (take_action.Append a) = Has (incoming.Fetching a.transfer) t.taking
+  IsOf (take_action.AskForFile f) = Has (incoming.Fetching f) t.taking
+  IsOf (take_action.LoadFile a) = Has (incoming.Asking a.transfer) t.taking
+  IsOf (take_action.Release a) = HasBuffer a.transfer
 
-    save_scrap-keeps : (m : Parcel) (x : Sending) (source : Split Flex) → OnGrant K (save_scrap d t m x source)
+  module _ (d : Desk) (g : Kept c h d t.taking) where
+    save_scrap-keeps : (a : SaveFile) (source : Split Flex) → OnGrant K (save_scrap d t a source)
     unfolding save_scrap
-    save_scrap-keeps m x source =
+    save_scrap-keeps a source =
         granted-past _ _ _ λ busy. granted-both _ (any-grant _) λ y u. granted-past _ _ _ λ room.
         granted-with _ (letter-kept _ (kept-as g _ refl)) λ sent w.
         granted (outs-keep (record sent { scrap = _ }) (kept-as w _ refl) _ _)
 
-    answer_ack-keeps : (m : Parcel) (v : Option Sending) → K (answer_ack d t m v)
-    unfolding answer_ack
-    answer_ack-keeps m None = ignored-keeps d g
-    answer_ack-keeps m (Some x) =
-        or_else-keeps K _ (granted-then _ _ λ source found. save_scrap-keeps m x source) (λ refusal. outs-keep d g _ _)
+    send_with-keeps : (a : SendAction) (source : Split Flex) → OnGrant K (send_with d t a source)
+    unfolding send_with
+    send_with-keeps (send_action.Transmit a) source = transmit-keeps d g a source
+    send_with-keeps (send_action.SaveFile a) source = save_scrap-keeps a source
+    send_with-keeps (send_action.Finish x) source = granted (outs-keep d g _ _)
 
-    load_file-keeps : (m : Parcel) (q : Asked) → Has (incoming.Asking q) t.taking → (v : Option Scrap) → K (load_file d t m q v)
+    perform_send-keeps : (v : Option SendAction) → K (perform_send d t v)
+    unfolding perform_send
+    perform_send-keeps None = ignored-keeps d g
+    perform_send-keeps (Some a) =
+        or_else-keeps K _ (granted-then _ _ λ source found. send_with-keeps a source) (λ refusal. outs-keep d g _ _)
+
+    append-keeps : (a : Append) → Has (incoming.Fetching a.transfer) t.taking → K (append d t a)
+    unfolding append
+    append-keeps a has =
+        or_else-keeps K _
+        (granted-with _ (appended-kept d g a.transfer.anchor _) λ longer w. granted (took-keeps longer w a has a.next))
+        (λ refusal. failed-keeps d g a.transfer (inl has) _)
+
+    load_file-keeps : (a : LoadFile) → Has (incoming.Asking a.transfer) t.taking → (v : Option Scrap) → K (load_file d t a v)
     unfolding load_file
-    load_file-keeps m q has None = ignored-keeps d g
-    load_file-keeps m q has (Some file) =
+    load_file-keeps a has None = ignored-keeps d g
+    load_file-keeps a has (Some file) =
+        let q : Asked = a.transfer in
         chosen K _ _ _
         (or_else-keeps K _
         (granted-with _ (appended-kept d g q.anchor file.bytes) λ longer w.
-        granted (loaded-keeps (record longer { scrap = None }) (kept-as w _ refl) m q has (length file.bytes)))
+        granted (loaded-keeps (record longer { scrap = None }) (kept-as w _ refl) a has (length file.bytes)))
         (λ refusal. renewed-keeps d g (incoming.Asking q) (incoming.Failed q.id q.anchor 0) has (λ p. refl) _))
         (ignored-keeps d g)
 
-    take_file-keeps : (m : Parcel) (v : Option Asked) → ((q : Asked) → v ≡ Some q → Has (incoming.Asking q) t.taking) → K (take_file d t m v)
-    unfolding take_file
-    take_file-keeps m None asks = ignored-keeps d g
-    take_file-keeps m (Some q) asks = load_file-keeps m q (asks q refl) d.scrap
+    take_with-keeps : (a : TakeAction) → IsOf a → K (take_with d t a)
+    unfolding take_with
+    take_with-keeps (take_action.Claim a) is = or_else-keeps K _ (accept-keeps d g a) (λ refusal. ignored-keeps d g)
+    take_with-keeps (take_action.Append a) is = append-keeps a is
+    take_with-keeps (take_action.AskForFile f) is =
+        or_else-keeps K _ (ask-keeps d g f (inl is)) (λ refusal. failed-keeps d g f (inl is) _)
+    take_with-keeps (take_action.LoadFile a) is = load_file-keeps a is d.scrap
+    take_with-keeps (take_action.Release a) is = failed-keeps d g a.transfer is _
 
-    -- the record that was found, where there is one
-    active-found : (test : Taking → Bool) → IfSome (active_of test t.taking) IsActive
-    active-found test = go (active_of test t.taking) (λ w q. active-is w (active_is test t.taking w q))
-      where
-        active-is : (w : Incoming) → FoundActive test t.taking w → Has w t.taking
-        active-is w (fetches f has p) = has
-        active-is w (drains f has p) = has
-
-        go : (v : Option Incoming) → ((w : Incoming) → v ≡ Some w → Has w t.taking) → IfSome v IsActive
-        go None f = tt
-        go (Some w) f = f w refl
+    perform_take-keeps : (v : Option TakeAction) → IfSome v IsOf → K (perform_take d t v)
+    unfolding perform_take
+    perform_take-keeps None is = ignored-keeps d g
+    perform_take-keeps (Some a) is = take_with-keeps a is
 
     asking-found : (test : Asked → Bool) (q : Asked) → asking_of test t.taking ≡ Some q → Has (incoming.Asking q) t.taking
     asking-found test q e = (asking_is test t.taking q e).0
 
     came-keeps : (m : Parcel) (b : Body) → K (came d t m b)
     unfolding came
-    came-keeps m (body.DataSave file) = take_save-keeps d g m
-    came-keeps m (body.DataSaveAck file) = answer_ack-keeps m _
-    came-keeps m (body.DataLoad file) = take_file-keeps m _ (asking-found _)
-    came-keeps m (body.DataLoadAck file) = finish_load-keeps d g _
-    came-keeps m (body.RamFetch buffer amount) = chosen K _ _ _ (ignored-keeps d g) (answer_fetch-keeps d g m buffer amount _)
-    came-keeps m (body.RamTransmit buffer n) = take_bytes-keeps m n _ (active-found _)
+    came-keeps m (body.DataSave file) = perform_take-keeps _ (save-does IsOf t.taking _ _ _ tt)
+    came-keeps m (body.DataSaveAck file) = perform_send-keeps _
+    came-keeps m (body.DataLoad file) = perform_take-keeps _ (load-does IsOf t.taking _ _ _ (λ q has p. has))
+    came-keeps m (body.DataLoadAck file) = perform_send-keeps _
+    came-keeps m (body.RamFetch buffer amount) = chosen K _ _ _ (ignored-keeps d g) (perform_send-keeps _)
+    came-keeps m (body.RamTransmit buffer n) =
+        perform_take-keeps _ (transmit-does IsOf t.taking _ _ _ _ _ _ (λ f has. has) (λ f e has. has))
 
     came_back-keeps : (m : Parcel) (b : Body) → K (came_back d t m b)
     unfolding came_back
@@ -385,7 +364,8 @@ module _ (c : ℕ → Option ℕ) (t : Task) (next : ℕ) (up : Rise in_id 0 nex
     came_back-keeps m (body.DataSaveAck file) = ack_back-keeps d g _ (asking-found _)
     came_back-keeps m (body.DataLoad file) = fail_sending-keeps d g _
     came_back-keeps m (body.DataLoadAck file) = ignored-keeps d g
-    came_back-keeps m (body.RamFetch buffer amount) = fetch_back-keeps d g _ (active-found _)
+    came_back-keeps m (body.RamFetch buffer amount) =
+        perform_take-keeps _ (bounce-does IsOf t.taking _ (λ f has. has) (λ f e has. has))
     came_back-keeps m (body.RamTransmit buffer n) = fail_sending-keeps d g _
 
     pub handled-keeps : (m : Parcel) (code : EventCode) → Keeps c t.handle (handled d t m code)

@@ -1,16 +1,21 @@
 -- Each message that a poll handles keeps what agrees with what was offered.
-use Rattle.rh_laws.proofs.Common.{◌≡◌, ℕ, Bool, List, length, Option, Some, None, refl, subst, ◌+◌, nat_lt, IfSome, Refusal, Body, EventCode, User, Recorded}
-use Rattle.rh_laws.proofs.Common.{Acknowledge, Asked, Sending, Taking, Incoming, Outgoing, Split, Flex, Parcel, active_of, asking_of, open_of, Desk, Task}
-use Rattle.rh_laws.proofs.Common.{Scrap, next_ref, Handled, answer_ack, answer_fetch, fail_sending, finish_load, ignored, refused, save_scrap, transmit}
-use Rattle.rh_laws.proofs.Common.{accept, ack_back, appended, ask, taking_ended, fetch_back, fetch_more, load_file, loaded, take_bytes, take_file, take_save}
-use Rattle.rh_laws.proofs.Common.{took}
-use Rattle.rh_laws.proofs.Common.{came, came_back, handled, OnGrant, chosen, granted, granted-both, granted-past, granted-then, granted-unless, granted-with}
-use Rattle.rh_laws.proofs.Common.{or_else-keeps, FoundActive, active_is, asking_is, drains, fetches, open_is, any-grant}
+use Rattle.rh_laws.proofs.Common.{◌≡◌, ℕ, Bool, List, length, Option, Some, None, refl, subst, ◌+◌, inl, inr, IfSome, Refusal, Body, EventCode, User}
+use Rattle.rh_laws.proofs.Common.{Recorded, Acknowledge, Asked, Sending, Taking, Incoming, Outgoing, Transmit, Part, SaveFile, SendAction, Claim}
+use Rattle.rh_laws.proofs.Common.{Append, Fetch, Next, LoadFile, TakeAction, Split, Flex, Parcel, asking_of, open_of, in_id, with_id, Desk, Task, Scrap}
+use Rattle.rh_laws.proofs.Common.{next_ref, Handled, fail_sending, ignored, perform_send, refused, save_scrap, send_with, transmit, accept, ack_back}
+use Rattle.rh_laws.proofs.Common.{append, appended, ask, taking_ended, fetch_more, load_file, loaded, perform_take, take_with, took, came, came_back}
+use Rattle.rh_laws.proofs.Common.{handled, OnGrant, chosen, granted, granted-both, granted-past, granted-then, granted-with, or_else-keeps, Active, Has}
+use Rattle.rh_laws.proofs.Common.{asking_is, open_is, any-grant}
 use Rattle.rh_defs.specs.declared.message.Body.TheVariants as body
 use Rattle.rh_defs.specs.declared.transfer.Incoming.TheVariants as incoming
 use Rattle.rh_defs.specs.declared.transfer.Outgoing.TheVariants as outgoing
+use Rattle.rh_defs.specs.declared.transfer_action.SendAction.TheVariants as send_action
+use Rattle.rh_defs.specs.declared.transfer_action.TakeAction.TheVariants as take_action
+use Rattle.rh_defs.specs.declared.transfer_action.Next.TheVariants as next_action
+use Rattle.rh_defs.specs.IncomingEvents.{end_failed}
 use Rattle.rh_defs.specs.Sender as sender
 use Rattle.rh_defs.specs.Receiver as receiver
+use Rattle.rh_safety.proofs.Actions.{bounce-does, load-does, open-does, save-does, transmit-does}
 use Rattle.rh_laws.specs.Addressed.{Addresses, From}
 use Rattle.rh_laws.proofs.Addresses.{Agrees, BodyAgrees, CodeAgrees, InAgrees, InsAgree, OutAgrees, OutsAgree, TaskAgrees, all-has, all-more, all-with}
 use Rattle.rh_laws.proofs.Addresses.{ended-agrees, ins-agree, outs-agree, plain-agrees, slot-agrees, task-agrees, ParcelAgrees, back-agrees}
@@ -36,19 +41,29 @@ module _ (a : Addresses) (t : Task) (own : TaskAgrees a t) where
   abbrev Asks : Asked → Type 0
   Asks q = From (a q.id) q.sender h
 
-  open-agrees : (test : Sending → Bool) (x : Sending) → open_of test t.sending ≡ Some x → Offers x
-  open-agrees test x q = all-has (OutAgrees a h) t.sending (outgoing.Open x) own.outs (open_is test t.sending x q).0
+  open-agrees : (x : Sending) → Has (outgoing.Open x) t.sending → Offers x
+  open-agrees x has = all-has (OutAgrees a h) t.sending (outgoing.Open x) own.outs has
 
-  asking-agrees : (test : Asked → Bool) (q : Asked) → asking_of test t.taking ≡ Some q → Asks q
-  asking-agrees test q e = all-has (InAgrees a h) t.taking (incoming.Asking q) own.ins (asking_is test t.taking q e).0
+  asking-agrees : (q : Asked) → Has (incoming.Asking q) t.taking → Asks q
+  asking-agrees q has = all-has (InAgrees a h) t.taking (incoming.Asking q) own.ins has
 
-  -- the record that was found is in the list
-  active-agrees : (test : Taking → Bool) (w : Incoming) → active_of test t.taking ≡ Some w → InAgrees a h w
-  active-agrees test w q = go w (active_is test t.taking w q)
-    where
-      go : (w : Incoming) → FoundActive test t.taking w → InAgrees a h w
-      go w (fetches f has p) = all-has (InAgrees a h) t.taking (incoming.Fetching f) own.ins has
-      go w (drains f has p) = all-has (InAgrees a h) t.taking (incoming.Draining f) own.ins has
+  fetching-agrees : (f : Taking) → Has (incoming.Fetching f) t.taking → Takes f
+  fetching-agrees f has = all-has (InAgrees a h) t.taking (incoming.Fetching f) own.ins has
+
+  active-agrees : (f : Taking) → Active t.taking f → Takes f
+  active-agrees f (inl has) = fetching-agrees f has
+  active-agrees f (inr has) = all-has (InAgrees a h) t.taking (incoming.Draining f) own.ins has
+
+  -- what an action is of was offered
+  abbrev ActionOffers : SendAction → Type 0
+  ActionOffers c = Offers (sender.transfer_of c)
+
+  abbrev ActionTakes : TakeAction → Type 0
+  ActionTakes (take_action.Claim c) = From (a c.id) c.sender h
+  ActionTakes (take_action.Append c) = Takes c.transfer
+  ActionTakes (take_action.AskForFile f) = Takes f
+  ActionTakes (take_action.LoadFile c) = Asks c.transfer
+  ActionTakes (take_action.Release c) = Takes c.transfer
 
   -- an outgoing record written anew
   module _ (x : Sending) (is : Offers x) where
@@ -58,28 +73,31 @@ module _ (a : Addresses) (t : Task) (own : TaskAgrees a t) where
     loaded-out : (n : ℕ) (vs : List Outgoing) → OutsAgree a h vs → OutsAgree a h (sender.sending_loaded x n vs)
     loaded-out n vs all = all-with (OutAgrees a h) _ x.id (outgoing.Done x.id n) vs (x.recipient, is) all
 
-    saved-out : (ref : ℕ) (vs : List Outgoing) → OutsAgree a h vs → OutsAgree a h (sender.saved x ref vs)
-    saved-out ref vs all = all-with (OutAgrees a h) _ x.id (outgoing.Open (record x { last = ref })) vs is all
+  saved-out : (c : SaveFile) → Offers c.transfer → (ref : ℕ) (vs : List Outgoing) → OutsAgree a h vs → OutsAgree a h (sender.saved c ref vs)
+  saved-out c is ref vs all = all-with (OutAgrees a h) _ c.transfer.id (outgoing.Open (record c.transfer { last = ref })) vs is all
 
-    sent-out : (n amount ref : ℕ) (vs : List Outgoing) → OutsAgree a h vs → OutsAgree a h (sender.sent x n amount ref vs)
-    sent-out n amount ref vs all =
-        all-with (OutAgrees a h) _ x.id (sender.after_sent x n amount ref) vs
-        (chosen (OutAgrees a h) (nat_lt n amount) _ _ (x.recipient, is) is) all
+  sent-out : (c : Transmit) → Offers c.transfer → (p : Part) (ref : ℕ) (vs : List Outgoing) → OutsAgree a h vs → OutsAgree a h (sender.sent c p ref vs)
+  sent-out c is p ref vs all =
+      all-with (OutAgrees a h) _ c.transfer.id (sender.after_sent c p ref) vs
+      (chosen (OutAgrees a h) p.is_last _ _ (c.transfer.recipient, is) is) all
 
   -- an incoming record written anew
-  module _ (f : Taking) (is : Takes f) where
-    failed-in : (n : ℕ) (ws : List Incoming) → InsAgree a h ws → InsAgree a h (receiver.taking_failed f n ws)
-    failed-in n ws all = all-with (InAgrees a h) _ f.id (incoming.Failed f.id f.anchor n) ws (f.sender, is) all
+  failed-in : (f : Taking) → Takes f → (n : ℕ) (ws : List Incoming) → InsAgree a h ws → InsAgree a h (with_id in_id f.id (incoming.Failed f.id f.anchor n) ws)
+  failed-in f is n ws all = all-with (InAgrees a h) _ f.id (incoming.Failed f.id f.anchor n) ws (f.sender, is) all
 
-    finished-in : (n : ℕ) (ws : List Incoming) → InsAgree a h ws → InsAgree a h (receiver.finished f n ws)
-    finished-in n ws all = all-with (InAgrees a h) _ f.id (incoming.Done f.id f.anchor (f.count + n)) ws (f.sender, is) all
+  asking-in : (f : Taking) → Takes f → (ref : ℕ) (ws : List Incoming) → InsAgree a h ws → InsAgree a h (receiver.asking f ref ws)
+  asking-in f is ref ws all = all-with (InAgrees a h) _ f.id (incoming.Asking (receiver.asked_by f ref)) ws is all
 
-    fetched-in : (n ref : ℕ) (ws : List Incoming) → InsAgree a h ws → InsAgree a h (receiver.fetched f n ref ws)
-    fetched-in n ref ws all =
-        all-with (InAgrees a h) _ f.id (incoming.Fetching (record f { count = f.count + n; fetch = ref })) ws is all
+  module _ (c : Append) (is : Takes c.transfer) where
+    finished-in : (ws : List Incoming) → InsAgree a h ws → InsAgree a h (receiver.finished c ws)
+    finished-in ws all =
+        all-with (InAgrees a h) _ c.transfer.id (incoming.Done c.transfer.id c.transfer.anchor (c.transfer.count + c.n)) ws
+        (c.transfer.sender, is) all
 
-    asking-in : (ref : ℕ) (ws : List Incoming) → InsAgree a h ws → InsAgree a h (receiver.asking f ref ws)
-    asking-in ref ws all = all-with (InAgrees a h) _ f.id (incoming.Asking (receiver.asked_by f ref)) ws is all
+    fetched-in : (ref : ℕ) (ws : List Incoming) → InsAgree a h ws → InsAgree a h (receiver.fetched c ref ws)
+    fetched-in ref ws all =
+        all-with (InAgrees a h) _ c.transfer.id
+        (incoming.Fetching (record c.transfer { count = c.transfer.count + c.n; fetch = ref })) ws is all
 
   module _ (q : Asked) (is : Asks q) where
     loaded-in : (n : ℕ) (ws : List Incoming) → InsAgree a h ws → InsAgree a h (receiver.taking_loaded q n ws)
@@ -97,80 +115,70 @@ module _ (a : Addresses) (t : Task) (own : TaskAgrees a t) where
     refused-keeps : (x : Sending) → Offers x → (refusal : Refusal) → Keeps a (refused d t x refusal)
     refused-keeps x is refusal = record { desk = outs-agree h _ (failed-out x is) d g }
 
-    failed-keeps : (f : Taking) → Takes f → (n : ℕ) (o : _) → Keeps a (taking_ended h f (receiver.taking_failed f n) d, o)
-    failed-keeps f is n o = record { desk = ended-agrees h f _ (failed-in f is n) d g }
+    failed_with-keeps : (f : Taking) → Takes f → (n : ℕ) (o : _) →
+        Keeps a (taking_ended h f (λ ws. with_id in_id f.id (incoming.Failed f.id f.anchor n) ws) d, o)
+    failed_with-keeps f is n o = record { desk = ended-agrees h f _ (failed-in f is n) d g }
 
-    transmit-keeps : (m : Parcel) (buffer amount : ℕ) (x : Sending) → Offers x → (source : Split Flex) →
-        OnGrant (Keeps a) (transmit d t m buffer amount x source)
+    failed-keeps : (f : Taking) → Takes f → (o : _) → Keeps a (end_failed d t f, o)
+    failed-keeps f is o = failed_with-keeps f is f.count o
+
+    transmit-keeps : (c : Transmit) → Offers c.transfer → (source : Split Flex) → OnGrant (Keeps a) (transmit d t c source)
     unfolding transmit
-    transmit-keeps m buffer amount x is source =
+    transmit-keeps c is source =
         granted-then _ _ λ r live. granted-past _ _ _ λ reach. granted-with _ (plain-agrees _ d tt g) λ sent all.
-        granted (record { desk = outs-agree h _ (sent-out x is _ amount (next_ref d)) _ (task-agrees r.handle _ (λ u same old. old) sent all) })
-
-    answer_fetch-keeps : (m : Parcel) (buffer amount : ℕ) (v : Option Sending) → ((x : Sending) → v ≡ Some x → Offers x) →
-        Keeps a (answer_fetch d t m buffer amount v)
-    unfolding answer_fetch
-    answer_fetch-keeps m buffer amount None offers = ignored-keeps
-    answer_fetch-keeps m buffer amount (Some x) offers =
-        or_else-keeps (Keeps a) _ (granted-then _ _ λ source found. transmit-keeps m buffer amount x (offers x refl) source)
-        (refused-keeps x (offers x refl))
+        granted (record {
+          desk = outs-agree h _ (sent-out c is (sender.part c (length source.here.bytes)) (next_ref d)) _ (task-agrees r.handle _
+              (λ u same old. old) sent all);
+        })
 
     fail_sending-keeps : (v : Option Sending) → ((x : Sending) → v ≡ Some x → Offers x) → Keeps a (fail_sending d t v)
     unfolding fail_sending
     fail_sending-keeps None offers = ignored-keeps
     fail_sending-keeps (Some x) offers = record { desk = outs-agree h _ (failed-out x (offers x refl)) d g }
 
-    save_scrap-keeps : (m : Parcel) (x : Sending) → Offers x → (source : Split Flex) → OnGrant (Keeps a) (save_scrap d t m x source)
+    save_scrap-keeps : (c : SaveFile) → Offers c.transfer → (source : Split Flex) → OnGrant (Keeps a) (save_scrap d t c source)
     unfolding save_scrap
-    save_scrap-keeps m x is source =
+    save_scrap-keeps c is source =
         granted-past _ _ _ λ busy. granted-both _ (any-grant _) λ y u. granted-past _ _ _ λ room.
         granted-with _ (plain-agrees _ _ tt g) λ sent all.
-        granted (record { desk = outs-agree h _ (saved-out x is (next_ref d)) _ all })
+        granted (record { desk = outs-agree h _ (saved-out c is (next_ref d)) _ all })
 
-    answer_ack-keeps : (m : Parcel) (v : Option Sending) → ((x : Sending) → v ≡ Some x → Offers x) → Keeps a (answer_ack d t m v)
-    unfolding answer_ack
-    answer_ack-keeps m None offers = ignored-keeps
-    answer_ack-keeps m (Some x) offers =
-        or_else-keeps (Keeps a) _ (granted-then _ _ λ source found. save_scrap-keeps m x (offers x refl) source)
-        (refused-keeps x (offers x refl))
+    send_with-keeps : (c : SendAction) → ActionOffers c → (source : Split Flex) → OnGrant (Keeps a) (send_with d t c source)
+    unfolding send_with
+    send_with-keeps (send_action.Transmit c) is source = transmit-keeps c is source
+    send_with-keeps (send_action.SaveFile c) is source = save_scrap-keeps c is source
+    send_with-keeps (send_action.Finish x) is source = granted (record { desk = outs-agree h _ (loaded-out x is _) d g })
 
-    finish_load-keeps : (v : Option Sending) → ((x : Sending) → v ≡ Some x → Offers x) → Keeps a (finish_load d t v)
-    unfolding finish_load
-    finish_load-keeps None offers = ignored-keeps
-    finish_load-keeps (Some x) offers =
-        or_else-keeps (Keeps a) _
-        (granted-then _ _ λ source found. granted (record { desk = outs-agree h _ (loaded-out x (offers x refl) _) d g }))
-        (refused-keeps x (offers x refl))
+    perform_send-keeps : (v : Option SendAction) → IfSome v ActionOffers → Keeps a (perform_send d t v)
+    unfolding perform_send
+    perform_send-keeps None offers = ignored-keeps
+    perform_send-keeps (Some c) offers =
+        or_else-keeps (Keeps a) _ (granted-then _ _ λ source found. send_with-keeps c offers source) (refused-keeps (sender.transfer_of c) offers)
 
     -- a DataSave that was offered to the task
-    accept-keeps : (m : Parcel) → From (a m.message.my_ref) m.message.from h → OnGrant (Keeps a) (accept d t m)
+    accept-keeps : (c : Claim) → From (a c.id) c.sender h → OnGrant (Keeps a) (accept d t c)
     unfolding accept
-    accept-keeps m is =
+    accept-keeps c is =
         granted-then _ _ λ k free. granted-then _ _ λ b claimed. granted-then _ _ λ p there.
         granted-with _ (plain-agrees _ _ tt (slot-agrees h _ d g)) λ sent all.
         granted (record { desk = ins-agree h _ (λ ws old. all-more (InAgrees a h) _ _ ws is old) sent all })
-
-    take_save-keeps : (m : Parcel) → From (a m.message.my_ref) m.message.from h → Keeps a (take_save d t m)
-    unfolding take_save
-    take_save-keeps m is =
-        chosen (Keeps a) _ _ _ (or_else-keeps (Keeps a) _ (accept-keeps m is) (λ refusal. ignored-keeps)) ignored-keeps
 
     appended-agrees : (k : ℕ) (bytes : List ℕ) → OnGrant (Agrees a) (appended d t k bytes)
     unfolding appended
     appended-agrees k bytes =
         granted-then _ _ λ document found. granted-then _ _ λ longer e. granted-then _ _ λ s e2. granted (slot-agrees h s d g)
 
-    fetch_more-keeps : (m : Parcel) (f : Taking) → Takes f → (n : ℕ) → OnGrant (Keeps a) (fetch_more d t m f n)
+    fetch_more-keeps : (c : Append) → Takes c.transfer → (b : Fetch) → OnGrant (Keeps a) (fetch_more d t c b)
     unfolding fetch_more
-    fetch_more-keeps m f is n =
+    fetch_more-keeps c is b =
         granted-with _ (plain-agrees _ d tt g) λ sent all.
-        granted (record { desk = ins-agree h _ (fetched-in f is n (next_ref d)) sent all })
+        granted (record { desk = ins-agree h _ (fetched-in c is (next_ref d)) sent all })
 
-    took-keeps : (m : Parcel) (f : Taking) → Takes f → (n : ℕ) → Keeps a (took d t m f n)
+    took-keeps : (c : Append) → Takes c.transfer → (b : Next) → Keeps a (took d t c b)
     unfolding took
-    took-keeps m f is n =
-        chosen (Keeps a) _ _ _ (record { desk = ended-agrees h f _ (finished-in f is n) d g })
-        (or_else-keeps (Keeps a) _ (fetch_more-keeps m f is n) (λ refusal. failed-keeps f is _ _))
+    took-keeps c is next_action.Finish = record { desk = ended-agrees h c.transfer _ (finished-in c is) d g }
+    took-keeps c is (next_action.Fetch b) =
+        or_else-keeps (Keeps a) _ (fetch_more-keeps c is b) (λ refusal. failed_with-keeps c.transfer is _ _)
 
     ask-keeps : (f : Taking) → Takes f → OnGrant (Keeps a) (ask d t f)
     unfolding ask
@@ -178,84 +186,84 @@ module _ (a : Addresses) (t : Task) (own : TaskAgrees a t) where
         granted-with _ (plain-agrees _ d tt g) λ sent all.
         granted (record { desk = ended-agrees h f _ (asking-in f is (next_ref d)) sent all })
 
-    fetch_back-keeps : (v : Option Incoming) → IfSome v (InAgrees a h) → Keeps a (fetch_back d t v)
-    unfolding fetch_back
-    fetch_back-keeps None is = ignored-keeps
-    fetch_back-keeps (Some (incoming.Fetching f)) is =
-        chosen (Keeps a) _ _ _ (or_else-keeps (Keeps a) _ (ask-keeps f is) (λ refusal. failed-keeps f is _ _)) (failed-keeps f is _ _)
-    fetch_back-keeps (Some (incoming.Draining f)) is = failed-keeps f is _ _
-    fetch_back-keeps (Some (incoming.Asking q)) is = ignored-keeps
-    fetch_back-keeps (Some (incoming.Done id anchor count)) is = ignored-keeps
-    fetch_back-keeps (Some (incoming.Failed id anchor count)) is = ignored-keeps
-
     ack_back-keeps : (v : Option Asked) → ((q : Asked) → v ≡ Some q → Asks q) → Keeps a (ack_back d t v)
     unfolding ack_back
     ack_back-keeps None asks = ignored-keeps
     ack_back-keeps (Some q) asks = record { desk = ins-agree h _ (abandoned-in q (asks q refl) 0) d g }
 
-    loaded-keeps : (m : Parcel) (q : Asked) → Asks q → (n : ℕ) → Keeps a (loaded d t m q n)
+    loaded-keeps : (c : LoadFile) → Asks c.transfer → (n : ℕ) → Keeps a (loaded d t c n)
     unfolding loaded
-    loaded-keeps m q is n =
+    loaded-keeps c is n =
         or_else-keeps (Keeps a) _
-        (granted-with _ (plain-agrees _ d tt g) λ sent all. granted (record { desk = ins-agree h _ (loaded-in q is n) sent all }))
-        (λ refusal. record { desk = ins-agree h _ (abandoned-in q is n) d g })
+        (granted-with _ (plain-agrees _ d tt g) λ sent all. granted (record { desk = ins-agree h _ (loaded-in c.transfer is n) sent all }))
+        (λ refusal. record { desk = ins-agree h _ (abandoned-in c.transfer is n) d g })
 
   module _ (d : Desk) (g : Agrees a d) where
-    take_bytes-keeps : (m : Parcel) (n : ℕ) (v : Option Incoming) → IfSome v (InAgrees a h) → Keeps a (take_bytes d t m n v)
-    unfolding take_bytes
-    take_bytes-keeps m n None is = ignored-keeps d g
-    take_bytes-keeps m n (Some (incoming.Fetching f)) is =
+    append-keeps : (c : Append) → Takes c.transfer → Keeps a (append d t c)
+    unfolding append
+    append-keeps c is =
         or_else-keeps (Keeps a) _
-        (granted-unless _ _ _ λ small. granted-with _ (appended-agrees d g f.anchor _) λ longer all.
-        granted (took-keeps longer all m f is n))
-        (λ refusal. failed-keeps d g f is _ _)
-    take_bytes-keeps m n (Some (incoming.Draining f)) is = failed-keeps d g f is _ _
-    take_bytes-keeps m n (Some (incoming.Asking q)) is = ignored-keeps d g
-    take_bytes-keeps m n (Some (incoming.Done id anchor count)) is = ignored-keeps d g
-    take_bytes-keeps m n (Some (incoming.Failed id anchor count)) is = ignored-keeps d g
+        (granted-with _ (appended-agrees d g c.transfer.anchor _) λ longer all. granted (took-keeps longer all c is c.next))
+        (λ refusal. failed-keeps d g c.transfer is _)
 
-    load_file-keeps : (m : Parcel) (q : Asked) → Asks q → (v : Option Scrap) → Keeps a (load_file d t m q v)
+    load_file-keeps : (c : LoadFile) → Asks c.transfer → (v : Option Scrap) → Keeps a (load_file d t c v)
     unfolding load_file
-    load_file-keeps m q is None = ignored-keeps d g
-    load_file-keeps m q is (Some file) =
+    load_file-keeps c is None = ignored-keeps d g
+    load_file-keeps c is (Some file) =
         chosen (Keeps a) _ _ _
         (or_else-keeps (Keeps a) _
-        (granted-with _ (appended-agrees d g q.anchor file.bytes) λ longer all.
-        granted (loaded-keeps (record longer { scrap = None }) all m q is (length file.bytes)))
-        (λ refusal. record { desk = ins-agree h _ (abandoned-in q is 0) d g }))
+        (granted-with _ (appended-agrees d g c.transfer.anchor file.bytes) λ longer all.
+        granted (loaded-keeps (record longer { scrap = None }) all c is (length file.bytes)))
+        (λ refusal. record { desk = ins-agree h _ (abandoned-in c.transfer is 0) d g }))
         (ignored-keeps d g)
 
-    take_file-keeps : (m : Parcel) (v : Option Asked) → ((q : Asked) → v ≡ Some q → Asks q) → Keeps a (take_file d t m v)
-    unfolding take_file
-    take_file-keeps m None asks = ignored-keeps d g
-    take_file-keeps m (Some q) asks = load_file-keeps m q (asks q refl) d.scrap
+    take_with-keeps : (c : TakeAction) → ActionTakes c → Keeps a (take_with d t c)
+    unfolding take_with
+    take_with-keeps (take_action.Claim c) is = or_else-keeps (Keeps a) _ (accept-keeps d g c is) (λ refusal. ignored-keeps d g)
+    take_with-keeps (take_action.Append c) is = append-keeps c is
+    take_with-keeps (take_action.AskForFile f) is =
+        or_else-keeps (Keeps a) _ (ask-keeps d g f is) (λ refusal. failed-keeps d g f is _)
+    take_with-keeps (take_action.LoadFile c) is = load_file-keeps c is d.scrap
+    take_with-keeps (take_action.Release c) is = failed-keeps d g c.transfer is _
 
-    -- the record that was found, where there is one
-    active-found : (test : Taking → Bool) → IfSome (active_of test t.taking) (InAgrees a h)
-    active-found test = go (active_of test t.taking) refl
-      where
-        go : (v : Option Incoming) → active_of test t.taking ≡ v → IfSome v (InAgrees a h)
-        go None q = tt
-        go (Some w) q = active-agrees test w q
+    perform_take-keeps : (v : Option TakeAction) → IfSome v ActionTakes → Keeps a (perform_take d t v)
+    unfolding perform_take
+    perform_take-keeps None takes = ignored-keeps d g
+    perform_take-keeps (Some c) takes = take_with-keeps c takes
 
     came-keeps : (m : Parcel) (b : Body) → BodyAgrees a m.message.from h m.message.my_ref b → Keeps a (came d t m b)
     unfolding came
-    came-keeps m (body.DataSave file) is = take_save-keeps d g m is
-    came-keeps m (body.DataSaveAck file) is = answer_ack-keeps d g m _ (open-agrees _)
-    came-keeps m (body.DataLoad file) is = take_file-keeps m _ (asking-agrees _)
-    came-keeps m (body.DataLoadAck file) is = finish_load-keeps d g _ (open-agrees _)
+    came-keeps m (body.DataSave file) is = perform_take-keeps _ (save-does ActionTakes t.taking _ _ _ is)
+    came-keeps m (body.DataSaveAck file) is =
+        perform_send-keeps d g _ (open-does ActionOffers t.sending _ _ (λ x has p. open-agrees x has))
+    came-keeps m (body.DataLoad file) is =
+        perform_take-keeps _ (load-does ActionTakes t.taking _ _ _ (λ q has p. asking-agrees q has))
+    came-keeps m (body.DataLoadAck file) is =
+        perform_send-keeps d g _ (open-does ActionOffers t.sending _ _ (λ x has p. open-agrees x has))
     came-keeps m (body.RamFetch buffer amount) is =
-        chosen (Keeps a) _ _ _ (ignored-keeps d g) (answer_fetch-keeps d g m buffer amount _ (open-agrees _))
-    came-keeps m (body.RamTransmit buffer n) is = take_bytes-keeps m n _ (active-found _)
+        chosen (Keeps a) _ _ _ (ignored-keeps d g)
+        (perform_send-keeps d g _ (open-does ActionOffers t.sending _ _ (λ x has p. open-agrees x has)))
+    came-keeps m (body.RamTransmit buffer n) is =
+        perform_take-keeps _
+        (transmit-does ActionTakes t.taking _ _ _ _ _ _ (λ f has. fetching-agrees f has) (λ f e has. active-agrees f has))
+
+    -- the record that was found
+    failed-found : (test : Sending → Bool) (x : Sending) → open_of test t.sending ≡ Some x → Offers x
+    failed-found test x q = open-agrees x (open_is test t.sending x q).0
+
+    asking-found : (test : Asked → Bool) (q : Asked) → asking_of test t.taking ≡ Some q → Asks q
+    asking-found test q e = asking-agrees q (asking_is test t.taking q e).0
 
     came_back-keeps : (m : Parcel) (b : Body) → Keeps a (came_back d t m b)
     unfolding came_back
-    came_back-keeps m (body.DataSave file) = fail_sending-keeps d g _ (open-agrees _)
-    came_back-keeps m (body.DataSaveAck file) = ack_back-keeps d g _ (asking-agrees _)
-    came_back-keeps m (body.DataLoad file) = fail_sending-keeps d g _ (open-agrees _)
+    came_back-keeps m (body.DataSave file) = fail_sending-keeps d g _ (failed-found _)
+    came_back-keeps m (body.DataSaveAck file) = ack_back-keeps d g _ (asking-found _)
+    came_back-keeps m (body.DataLoad file) = fail_sending-keeps d g _ (failed-found _)
     came_back-keeps m (body.DataLoadAck file) = ignored-keeps d g
-    came_back-keeps m (body.RamFetch buffer amount) = fetch_back-keeps d g _ (active-found _)
-    came_back-keeps m (body.RamTransmit buffer n) = fail_sending-keeps d g _ (open-agrees _)
+    came_back-keeps m (body.RamFetch buffer amount) =
+        perform_take-keeps _
+        (bounce-does ActionTakes t.taking _ (λ f has. fetching-agrees f has) (λ f e has. active-agrees f has))
+    came_back-keeps m (body.RamTransmit buffer n) = fail_sending-keeps d g _ (failed-found _)
 
     handled-keeps : (m : Parcel) (c : EventCode) → CodeAgrees c (BodyAgrees a m.message.from h m.message.my_ref m.message.body) →
         Keeps a (handled d t m c)

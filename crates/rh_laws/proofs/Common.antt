@@ -39,8 +39,8 @@ pub use Rattle.rh_defs.specs.Heap.{Heap, Hole, Placed, Segment, Used, base, bloc
 pub use Rattle.rh_defs.specs.Heap.{free_bytes, hole_for, hole_size, is_hole_for, largest, largest_hole, need, new_size, place_after, placed_in, raised}
 pub use Rattle.rh_defs.specs.Heap.{resize_growing, resize_need, segment_size, size_of, way_to}
 pub use Rattle.rh_defs.specs.IncomingEvents.{without_buffer}
-unfoldable pub use Rattle.rh_defs.specs.IncomingEvents.{accept, ack_back, appended, ask, taking_ended, fetch_back, fetch_more, load_file, loaded, take_bytes}
-unfoldable pub use Rattle.rh_defs.specs.IncomingEvents.{take_file, take_save, took}
+unfoldable pub use Rattle.rh_defs.specs.IncomingEvents.{accept, ack_back, append, appended, ask, taking_ended, fetch_more, load_file, loaded}
+unfoldable pub use Rattle.rh_defs.specs.IncomingEvents.{perform_take, take_with, took}
 pub use Rattle.rh_defs.specs.Laws.{IsDesk, Rise}
 pub use Rattle.rh_defs.specs.Letters.{load_ack_letter, save_letter}
 pub use Rattle.rh_defs.specs.Line.{command_of, hex_number, is_skipped, longest_line, grammar_row, nth_word}
@@ -48,8 +48,8 @@ unfoldable pub use Rattle.rh_defs.specs.Line.{line_means}
 pub use Rattle.rh_defs.specs.Questions.{Bytes, Told, asked}
 pub use Rattle.rh_defs.specs.Messages.{Parcel, action_of}
 unfoldable pub use Rattle.rh_defs.specs.Module.{module_claim}
-pub use Rattle.rh_defs.specs.OutgoingEvents.{Handled, ignored, portion, refused}
-unfoldable pub use Rattle.rh_defs.specs.OutgoingEvents.{answer_ack, answer_fetch, fail_sending, finish_load, save_scrap, transmit}
+pub use Rattle.rh_defs.specs.OutgoingEvents.{Handled, ignored, refused}
+unfoldable pub use Rattle.rh_defs.specs.OutgoingEvents.{fail_sending, perform_send, save_scrap, send_with, transmit}
 pub use Rattle.rh_defs.specs.Pieces.{Split, lacks_pages, moved, total, written, zeros}
 pub use Rattle.rh_defs.specs.Places.{buffer_at, with_heap_bytes, written_in}
 pub use Rattle.rh_defs.specs.Post.{Post, Seat, as_returned, bounce_held, first_for, has_seat, held_by, taken_from}
@@ -87,8 +87,18 @@ pub use Rattle.rh_defs.specs.declared.transfer.Incoming.{Incoming}
 pub use Rattle.rh_defs.specs.declared.transfer.Outgoing.{Outgoing}
 pub use Rattle.rh_defs.specs.declared.transfer.Sending.{Sending}
 pub use Rattle.rh_defs.specs.declared.transfer.Taking.{Taking}
-pub use Rattle.rh_safety.proofs.Basics.{Ascend, FoundActive, active_is, and_left, and_right, asking_is, contains_of, drains, either, fetches, first_is}
-pub use Rattle.rh_safety.proofs.Basics.{has_of, is_equal, none_some, open_is, put_other, put_same, same_value}
+pub use Rattle.rh_defs.specs.declared.transfer_action.Append.{Append}
+pub use Rattle.rh_defs.specs.declared.transfer_action.Claim.{Claim}
+pub use Rattle.rh_defs.specs.declared.transfer_action.Fetch.{Fetch}
+pub use Rattle.rh_defs.specs.declared.transfer_action.LoadFile.{LoadFile}
+pub use Rattle.rh_defs.specs.declared.transfer_action.Next.{Next}
+pub use Rattle.rh_defs.specs.declared.transfer_action.Part.{Part}
+pub use Rattle.rh_defs.specs.declared.transfer_action.SaveFile.{SaveFile}
+pub use Rattle.rh_defs.specs.declared.transfer_action.SendAction.{SendAction}
+pub use Rattle.rh_defs.specs.declared.transfer_action.TakeAction.{TakeAction}
+pub use Rattle.rh_defs.specs.declared.transfer_action.Transmit.{Transmit}
+pub use Rattle.rh_safety.proofs.Basics.{Ascend, and_left, and_right, asking_is, contains_of, either, first_is, has_of, is_equal, none_some, open_is, put_other}
+pub use Rattle.rh_safety.proofs.Basics.{put_same, same_value}
 pub use Rattle.rh_safety.proofs.Ends.{Active, Edits, Has, Message, Offers}
 pub use Rattle.rh_safety.proofs.Invariant.{Good}
 pub use Rattle.rh_defs.proofs.Changes.{Changed, IsOnMemory, in_areas, in_made, in_module, in_nothing, in_slot}

@@ -1,14 +1,15 @@
 -- A worked run of a sender that is told that its file was loaded, and one with a definition changed, on which delivered_law
 -- fails.
-use Rattle.rh_laws.proofs.Common.{◌≡◌, false, List, [], ◌∷◌, ◌++◌, Option, Some, None, map, refl, codes, Ok, hex_on_literals, String, User, Asked, Incoming}
-use Rattle.rh_laws.proofs.Common.{Outgoing, ◌>>=◌, or_else, load_ack_letter, Parcel, Desk, Task, send_letter, task_at, with_taking, Handled, ignored, after}
-use Rattle.rh_laws.proofs.Common.{step, held, fresh, script, Rules, landed, run_of}
+use Rattle.rh_laws.proofs.Common.{◌≡◌, false, List, [], ◌∷◌, ◌++◌, Option, Some, None, map, refl, codes, Ok, hex_on_literals, String, User, TakeAction}
+use Rattle.rh_laws.proofs.Common.{Incoming, Outgoing, ◌>>=◌, or_else, load_ack_letter, Desk, Task, send_letter, task_at, with_taking, Handled, ignored}
+use Rattle.rh_laws.proofs.Common.{after, step, held, fresh, script, Rules, landed, run_of}
 use Rattle.rh_defs.specs.declared.message.Action.TheVariants as action
 use Rattle.rh_defs.specs.declared.command.Command.TheVariants as command
 use Rattle.rh_defs.specs.declared.reply.Outcome.TheVariants as outcome
 use Rattle.rh_defs.specs.declared.reply.Reply.TheVariants as reply
 use Rattle.rh_defs.specs.declared.transfer.Incoming.TheVariants as incoming
 use Rattle.rh_defs.specs.declared.transfer.Outgoing.TheVariants as outgoing
+use Rattle.rh_defs.specs.declared.transfer_action.TakeAction.TheVariants as take_action
 use Rattle.rh_defs.specs.Receiver as receiver
 use Rattle.rh_defs.specs.Script
 use Rattle.rh_safety.specs.Counts.{is_done}
@@ -59,18 +60,18 @@ was_offered = refl
 
 -- ---- a receiver that tells its sender, and loads nothing
 
-abbrev tells_alone : Desk → Task → Parcel → Option Asked → Handled
-tells_alone d t m None = ignored d
-tells_alone d t m (Some q) =
-    or_else (send_letter (load_ack_letter t.handle m 0) d >>= λ sent. Ok (
-      with_taking t.handle (receiver.abandoned q 0) sent,
+abbrev tells_alone : Desk → Task → Option TakeAction → Handled
+tells_alone d t (Some (take_action.LoadFile a)) =
+    or_else (send_letter (load_ack_letter t.handle a 0) d >>= λ sent. Ok (
+      with_taking t.handle (receiver.abandoned a.transfer 0) sent,
       outcome.Failed,
     ))
     (λ refusal. ignored d)
+tells_alone d t _ = ignored d
 
 abbrev told_alone : Rules
 told_alone = record landed {
-  takes_file = λ d t m. tells_alone d t m (receiver.on_load m.message.from m.message.your_ref t.taking);
+  takes_file = λ d t m. tells_alone d t (receiver.on_load m.message.from m.message.my_ref m.message.your_ref t.taking);
 }
 
 -- a is told the same

@@ -1,14 +1,14 @@
 -- Each command keeps what holds of transfers and of the files that were loaded, and what a sender may rely on follows.
-use Rattle.rh_laws.proofs.Common.{◌≡◌, ℕ, ◌≤◌, ◌<◌, Bool, true, false, not, List, [], ◌∷◌, ◌++◌, length, map, Option, Some, None, refl, sym, ap, ◌∙◌, subst}
-use Rattle.rh_laws.proofs.Common.{inl, inr, arith, ◌==◌, if◌then◌else◌, nat_eq, filter, find, Ok, IfSome, AllByRecursion, option_map, eqb_tells, Command}
-use Rattle.rh_laws.proofs.Common.{Manner, Body, EventCode, User, Recorded, Acknowledge, Reply, Incoming, Outgoing, Sending, NothingSent, NotOpen, Granted}
-use Rattle.rh_laws.proofs.Common.{or_else, FileList, IsDesk, Parcel, action_of, Post, post_join, post_poll, all_in_range, in_range, in_id, is_open, out_id}
-use Rattle.rh_laws.proofs.Common.{Desk, Task, has_name, named, next_ref, task_at, with_delivered, Answer, start_task, kill, make, finish_load, came, handled}
-use Rattle.rh_laws.proofs.Common.{after, start_with, save, repeat, poll, poll_taken, cancel_in, cancel_out, change, step, OnGrant, chosen, granted}
-use Rattle.rh_laws.proofs.Common.{granted-past, granted-then, granted-with, or_else-keeps, after-is, start-is, step-keeps, Edits, held, Offers, Has, Ascend}
-use Rattle.rh_laws.proofs.Common.{and_left, and_right, contains_of, first_is, has_of, is_equal, none_some, open_is, same_value, Good, found_name, fits, Fits}
-use Rattle.rh_laws.proofs.Common.{is_found, the_task, keeps, field_is, seen_parcel, view, Changed, IsOnMemory, granted-on, in_areas, in_made, in_module}
-use Rattle.rh_laws.proofs.Common.{in_nothing, in_slot}
+use Rattle.rh_laws.proofs.Common.{◌≡◌, ℕ, ◌≤◌, ◌<◌, Bool, true, false, not, List, [], ◌∷◌, ◌++◌, length, map, Option, Some, None, refl, sym, ap, ◌∙◌}
+use Rattle.rh_laws.proofs.Common.{subst, inl, inr, arith, ◌==◌, if◌then◌else◌, nat_eq, filter, find, Ok, IfSome, AllByRecursion, option_map, eqb_tells}
+use Rattle.rh_laws.proofs.Common.{Command, Manner, Body, EventCode, User, Recorded, Acknowledge, Reply, Incoming, Outgoing, Sending, NothingSent}
+use Rattle.rh_laws.proofs.Common.{NotOpen, Granted, or_else, FileList, IsDesk, Parcel, action_of, Post, post_join, post_poll, all_in_range, in_range}
+use Rattle.rh_laws.proofs.Common.{in_id, is_open, out_id, Desk, Task, has_name, named, next_ref, task_at, with_delivered, Answer, start_task, kill}
+use Rattle.rh_laws.proofs.Common.{make, came, handled, after, start_with, save, repeat, poll, poll_taken, cancel_in, cancel_out, change, step, OnGrant}
+use Rattle.rh_laws.proofs.Common.{chosen, granted, granted-past, granted-then, granted-with, or_else-keeps, after-is, start-is, step-keeps, Edits, held}
+use Rattle.rh_laws.proofs.Common.{Offers, Has, Ascend, and_left, and_right, contains_of, first_is, has_of, is_equal, none_some, open_is, same_value}
+use Rattle.rh_laws.proofs.Common.{Good, found_name, fits, Fits, is_found, the_task, keeps, field_is, seen_parcel, view, Changed, IsOnMemory, granted-on}
+use Rattle.rh_laws.proofs.Common.{in_areas, in_made, in_module, in_nothing, in_slot, open_of, perform_send, send_with}
 use Rattle.rh_defs.specs.declared.command.Command.TheVariants as command
 use Rattle.rh_defs.specs.declared.message.Action.TheVariants as action
 use Rattle.rh_defs.specs.declared.message.Body.TheVariants as body
@@ -16,6 +16,7 @@ use Rattle.rh_defs.specs.declared.reply.Outcome.TheVariants as outcome
 use Rattle.rh_defs.specs.declared.reply.Reply.TheVariants as reply
 use Rattle.rh_defs.specs.declared.transfer.Incoming.TheVariants as incoming
 use Rattle.rh_defs.specs.declared.transfer.Outgoing.TheVariants as outgoing
+use Rattle.rh_defs.specs.declared.transfer_action.SendAction.TheVariants as send_action
 use Rattle.rh_defs.specs.Laws.{IsStart}
 use Rattle.rh_defs.specs.Records.{most_records}
 use Rattle.rh_defs.specs.Sender as sender
@@ -295,9 +296,9 @@ module _ (a : Marks) (d : Desk) (f : Fits d) (g : Agrees a d) where
 
       -- the record that the DataLoadAck is for
       told-record : (i : ℕ) → a.of_ref m.message.your_ref ≡ Some i → Loaded a m.message.from i → m.message.your_ref ≡ x.last →
-          (v : Option Sending) → sender.on_load_ack m.message.from m.message.your_ref t.sending ≡ v →
-          (finish_load y t v).1 ≡ outcome.Done → Loaded a x.recipient x.id
-      unfolding finish_load
+          (v : Option Sending) → open_of (sender.is_loaded m.message.from m.message.your_ref) t.sending ≡ v →
+          (perform_send y t (option_map send_action.Finish v)).1 ≡ outcome.Done → Loaded a x.recipient x.id
+      unfolding perform_send send_with
       told-record i of_i loaded answers None q other = absurd cc
       told-record i of_i loaded answers (Some z) q done =
           let w = open_is (sender.is_loaded m.message.from m.message.your_ref) t.sending z q in
@@ -322,9 +323,9 @@ module _ (a : Marks) (d : Desk) (f : Fits d) (g : Agrees a d) where
       told-body (body.DataSaveAck file) says q = absurd cc
       told-body (body.DataLoad file) says q = absurd cc
       told-body (body.DataLoadAck file) says q =
-          let v : Option Sending = sender.on_load_ack m.message.from m.message.your_ref t.sending in
+          let v : Option Sending = open_of (sender.is_loaded m.message.from m.message.your_ref) t.sending in
           let answers : m.message.your_ref ≡ x.last = cc in
-          let done : (finish_load y t v).1 ≡ outcome.Done = cc in
+          let done : (perform_send y t (option_map send_action.Finish v)).1 ≡ outcome.Done = cc in
           told-record says.0 says.1 says.2 answers v refl done
       told-body (body.RamFetch buffer n) says q = absurd cc
       told-body (body.RamTransmit buffer n) says q = absurd cc

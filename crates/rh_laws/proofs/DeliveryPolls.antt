@@ -1,17 +1,22 @@
 -- Each message that a poll handles keeps what holds of transfers and of the files that were loaded.
-use Rattle.rh_laws.proofs.Common.{◌≡◌, ℕ, ◌+◌, ◌<◌, Bool, List, [], ◌∷◌, length, Option, Some, None, refl, sym, ap, subst, ◌∙◌, inl, inr, arith, nat_lt}
-use Rattle.rh_laws.proofs.Common.{nat_eq, IfSome, AllByRecursion, eqb_tells, Refusal, Body, EventCode, User, Recorded, Acknowledge, Asked, Sending, Taking}
-use Rattle.rh_laws.proofs.Common.{Incoming, Outgoing, Split, Flex, Parcel, load_ack_letter, as_returned, active_of, asking_of, in_id, open_of, with_id, Desk}
-use Rattle.rh_laws.proofs.Common.{Task, Scrap, next_ref, with_slot, with_task, Handled, answer_ack, answer_fetch, fail_sending, finish_load, ignored, refused}
-use Rattle.rh_laws.proofs.Common.{save_scrap, transmit, accept, ack_back, appended, ask, taking_ended, fetch_back, fetch_more, load_file, loaded, take_bytes}
-use Rattle.rh_laws.proofs.Common.{take_file, take_save, took, came, came_back, handled, OnGrant, chosen, granted, granted-both, granted-past, granted-then}
-use Rattle.rh_laws.proofs.Common.{granted-unless, granted-with, or_else-keeps, Has, FoundActive, active_is, and_left, and_right, asking_is, drains, fetches}
-use Rattle.rh_laws.proofs.Common.{is_equal, open_is, same_value, any-grant}
+use Rattle.rh_laws.proofs.Common.{◌≡◌, ℕ, ◌+◌, ◌<◌, true, List, [], ◌∷◌, length, Option, Some, None, refl, sym, ap, subst, ◌∙◌, inl, inr, arith, nat_eq}
+use Rattle.rh_laws.proofs.Common.{IfSome, AllByRecursion, eqb_tells, Refusal, Body, EventCode, User, Recorded, Acknowledge, Asked, Sending, Taking}
+use Rattle.rh_laws.proofs.Common.{Incoming, Outgoing, Transmit, Part, SaveFile, SendAction, Claim, Append, Fetch, Next, LoadFile, TakeAction, Split}
+use Rattle.rh_laws.proofs.Common.{Flex, Parcel, load_ack_letter, as_returned, in_id, with_id, Desk, Task, Scrap, next_ref, with_slot, with_task}
+use Rattle.rh_laws.proofs.Common.{Handled, fail_sending, ignored, perform_send, refused, save_scrap, send_with, transmit, accept, ack_back, append}
+use Rattle.rh_laws.proofs.Common.{appended, ask, taking_ended, fetch_more, load_file, loaded, perform_take, take_with, took, came, came_back, handled}
+use Rattle.rh_laws.proofs.Common.{OnGrant, chosen, granted, granted-both, granted-past, granted-then, granted-with, or_else-keeps, Active, Has}
+use Rattle.rh_laws.proofs.Common.{and_left, and_right, asking_is, is_equal, same_value, any-grant}
 use Rattle.rh_defs.specs.declared.message.Body.TheVariants as body
 use Rattle.rh_defs.specs.declared.transfer.Incoming.TheVariants as incoming
 use Rattle.rh_defs.specs.declared.transfer.Outgoing.TheVariants as outgoing
+use Rattle.rh_defs.specs.declared.transfer_action.SendAction.TheVariants as send_action
+use Rattle.rh_defs.specs.declared.transfer_action.TakeAction.TheVariants as take_action
+use Rattle.rh_defs.specs.declared.transfer_action.Next.TheVariants as next_action
+use Rattle.rh_defs.specs.IncomingEvents.{end_failed}
 use Rattle.rh_defs.specs.Sender as sender
 use Rattle.rh_defs.specs.Receiver as receiver
+use Rattle.rh_safety.proofs.Actions.{bounce-does, load-does, open-does, save-does, transmit-does}
 use Rattle.rh_laws.proofs.Addresses.{CodeAgrees, all-has, all-more, all-with}
 use Rattle.rh_laws.proofs.Deliveries.{Agrees, Comes, Grows, HandleAgrees, InAgrees, Ins, Marks, OutAgrees, ParcelAgrees, Says, Unloaded, ended-agrees}
 use Rattle.rh_laws.proofs.Deliveries.{grows-same, ins-agree, letter-agrees, marked, ins-become, marked-agrees, marked-grows, marked-here, outs-agree}
@@ -96,20 +101,31 @@ module _ (a : Marks) (t : Task) (own : HandleAgrees a (InAgrees a) t.handle t) w
 
   -- ---- records of the task
 
-  open-agrees : (test : Sending → Bool) (x : Sending) → open_of test t.sending ≡ Some x → a.of_ref x.last ≡ Some x.id
-  open-agrees test x q = all-has (OutAgrees a) t.sending (outgoing.Open x) own.outs (open_is test t.sending x q).0
+  -- a record that has a buffer
+  fetching-agrees : (f : Taking) → Has (incoming.Fetching f) t.taking → Unloaded a h f.id
+  fetching-agrees f has = all-has (InAgrees a h) t.taking (incoming.Fetching f) own.ins has
 
-  -- the record that was found is in the list
-  active-agrees : (test : Taking → Bool) (w : Incoming) → active_of test t.taking ≡ Some w → InAgrees a h w
-  active-agrees test w q = go w (active_is test t.taking w q)
-    where
-      go : (w : Incoming) → FoundActive test t.taking w → InAgrees a h w
-      go w (fetches f has p) = all-has (InAgrees a h) t.taking (incoming.Fetching f) own.ins has
-      go w (drains f has p) = all-has (InAgrees a h) t.taking (incoming.Draining f) own.ins has
+  active-agrees : (f : Taking) → Active t.taking f → Unloaded a h f.id
+  active-agrees f (inl has) = fetching-agrees f has
+  active-agrees f (inr has) = all-has (InAgrees a h) t.taking (incoming.Draining f) own.ins has
 
   -- a record that waits for a file
   abbrev Waits : Asked → Type 0
   Waits q = Has (incoming.Asking q) t.taking × (a.of_ref q.ack ≡ Some q.id) × Unloaded a h q.id
+
+  -- the DataSaveAck of an action belongs to its transfer
+  abbrev ActionSays : SendAction → Type 0
+  ActionSays (send_action.Transmit c) = Unit {0}
+  ActionSays (send_action.SaveFile c) = a.of_ref c.answers ≡ Some c.transfer.id
+  ActionSays (send_action.Finish x) = Unit {0}
+
+  -- no file of an action's transfer was loaded, and the DataLoad of one belongs to its transfer
+  abbrev ActionComes : TakeAction → Type 0
+  ActionComes (take_action.Claim c) = Unloaded a h c.id
+  ActionComes (take_action.Append c) = Unloaded a h c.transfer.id
+  ActionComes (take_action.AskForFile f) = Unloaded a h f.id
+  ActionComes (take_action.LoadFile c) = Waits c.transfer × (a.of_ref c.answers ≡ Some c.transfer.id)
+  ActionComes (take_action.Release c) = Unloaded a h c.transfer.id
 
   -- records written anew
   abbrev AllOut : Marks → List Outgoing → Type 0
@@ -124,26 +140,28 @@ module _ (a : Marks) (t : Task) (own : HandleAgrees a (InAgrees a) t.handle t) w
   loaded-out : (b : Marks) (x : Sending) (n : ℕ) (vs : List Outgoing) → AllOut b vs → AllOut b (sender.sending_loaded x n vs)
   loaded-out b x n vs all = all-with (OutAgrees b) _ x.id (outgoing.Done x.id n) vs tt all
 
-  saved-out : (b : Marks) (x : Sending) (ref : ℕ) → b.of_ref ref ≡ Some x.id → (vs : List Outgoing) → AllOut b vs →
-      AllOut b (sender.saved x ref vs)
-  saved-out b x ref is vs all = all-with (OutAgrees b) _ x.id (outgoing.Open (record x { last = ref })) vs is all
+  saved-out : (b : Marks) (c : SaveFile) (ref : ℕ) → b.of_ref ref ≡ Some c.transfer.id → (vs : List Outgoing) → AllOut b vs →
+      AllOut b (sender.saved c ref vs)
+  saved-out b c ref is vs all = all-with (OutAgrees b) _ c.transfer.id (outgoing.Open (record c.transfer { last = ref })) vs is all
 
-  sent-out : (b : Marks) (x : Sending) (n amount ref : ℕ) → b.of_ref ref ≡ Some x.id → (vs : List Outgoing) → AllOut b vs →
-      AllOut b (sender.sent x n amount ref vs)
-  sent-out b x n amount ref is vs all =
-      all-with (OutAgrees b) _ x.id (sender.after_sent x n amount ref) vs
-      (chosen (OutAgrees b) (nat_lt n amount) _ _ tt is) all
+  sent-out : (b : Marks) (c : Transmit) (p : Part) (ref : ℕ) → b.of_ref ref ≡ Some c.transfer.id → (vs : List Outgoing) → AllOut b vs →
+      AllOut b (sender.sent c p ref vs)
+  sent-out b c p ref is vs all =
+      all-with (OutAgrees b) _ c.transfer.id (sender.after_sent c p ref) vs (chosen (OutAgrees b) p.is_last _ _ tt is) all
 
-  module _ (f : Taking) (is : Unloaded a h f.id) where
-    failed-in : (n : ℕ) (ws : List Incoming) → AllIn a ws → AllIn a (receiver.taking_failed f n ws)
-    failed-in n ws all = all-with (InAgrees a h) _ f.id (incoming.Failed f.id f.anchor n) ws is all
+  failed-in : (f : Taking) → Unloaded a h f.id → (n : ℕ) (ws : List Incoming) → AllIn a ws →
+      AllIn a (with_id in_id f.id (incoming.Failed f.id f.anchor n) ws)
+  failed-in f is n ws all = all-with (InAgrees a h) _ f.id (incoming.Failed f.id f.anchor n) ws is all
 
-    finished-in : (n : ℕ) (ws : List Incoming) → AllIn a ws → AllIn a (receiver.finished f n ws)
-    finished-in n ws all = all-with (InAgrees a h) _ f.id (incoming.Done f.id f.anchor (f.count + n)) ws tt all
+  module _ (c : Append) (is : Unloaded a h c.transfer.id) where
+    finished-in : (ws : List Incoming) → AllIn a ws → AllIn a (receiver.finished c ws)
+    finished-in ws all =
+        all-with (InAgrees a h) _ c.transfer.id (incoming.Done c.transfer.id c.transfer.anchor (c.transfer.count + c.n)) ws tt all
 
-    fetched-in : (n ref : ℕ) (ws : List Incoming) → AllIn a ws → AllIn a (receiver.fetched f n ref ws)
-    fetched-in n ref ws all =
-        all-with (InAgrees a h) _ f.id (incoming.Fetching (record f { count = f.count + n; fetch = ref })) ws is all
+    fetched-in : (ref : ℕ) (ws : List Incoming) → AllIn a ws → AllIn a (receiver.fetched c ref ws)
+    fetched-in ref ws all =
+        all-with (InAgrees a h) _ c.transfer.id
+        (incoming.Fetching (record c.transfer { count = c.transfer.count + c.n; fetch = ref })) ws is all
 
   asking-in : (b : Marks) (f : Taking) (ref : ℕ) → b.of_ref ref ≡ Some f.id → Unloaded b h f.id → (ws : List Incoming) →
       AllIn b ws → AllIn b (receiver.asking f ref ws)
@@ -178,66 +196,54 @@ module _ (a : Marks) (t : Task) (own : HandleAgrees a (InAgrees a) t.handle t) w
     refused-keeps : (x : Sending) (refusal : Refusal) → Keeps a (refused d t x refusal)
     refused-keeps x refusal = still (outs-agree h _ (failed-out a x) d g)
 
-    failed-keeps : (f : Taking) → Unloaded a h f.id → (n : ℕ) (o : _) → Keeps a (taking_ended h f (receiver.taking_failed f n) d, o)
-    failed-keeps f is n o = still (ended-agrees h f _ (failed-in f is n) d g)
+    failed_with-keeps : (f : Taking) → Unloaded a h f.id → (n : ℕ) (o : _) →
+        Keeps a (taking_ended h f (λ ws. with_id in_id f.id (incoming.Failed f.id f.anchor n) ws) d, o)
+    failed_with-keeps f is n o = still (ended-agrees h f _ (failed-in f is n) d g)
 
-    transmit-keeps : (m : Parcel) (buffer amount : ℕ) (x : Sending) (source : Split Flex) →
-        OnGrant (Keeps a) (transmit d t m buffer amount x source)
+    failed-keeps : (f : Taking) → Unloaded a h f.id → (o : _) → Keeps a (end_failed d t f, o)
+    failed-keeps f is o = failed_with-keeps f is f.count o
+
+    transmit-keeps : (c : Transmit) (source : Split Flex) → OnGrant (Keeps a) (transmit d t c source)
     unfolding transmit
-    transmit-keeps m buffer amount x source =
+    transmit-keeps c source =
+        let id : ℕ = c.transfer.id in
         granted-then _ _ λ r live. granted-past _ _ _ λ reach.
-        granted-with _ (marked-agrees a (Some x.id) _ d tt g) λ sent all.
-        granted (marks x.id (outs-agree h _ (sent-out (next_of x.id) x _ amount (next_ref d) (next-is x.id)) _
+        granted-with _ (marked-agrees a (Some id) _ d tt g) λ sent all.
+        granted (marks id (outs-agree h _ (sent-out (next_of id) c (sender.part c (length source.here.bytes)) (next_ref d) (next-is id)) _
         (task-agrees r.handle _ (λ u. refl) (λ u old. record { sent = old.sent; outs = old.outs; ins = old.ins }) sent all)))
-
-    answer_fetch-keeps : (m : Parcel) (buffer amount : ℕ) (v : Option Sending) → Keeps a (answer_fetch d t m buffer amount v)
-    unfolding answer_fetch
-    answer_fetch-keeps m buffer amount None = ignored-keeps
-    answer_fetch-keeps m buffer amount (Some x) =
-        or_else-keeps (Keeps a) _ (granted-then _ _ λ source found. transmit-keeps m buffer amount x source) (refused-keeps x)
 
     fail_sending-keeps : (v : Option Sending) → Keeps a (fail_sending d t v)
     unfolding fail_sending
     fail_sending-keeps None = ignored-keeps
     fail_sending-keeps (Some x) = still (outs-agree h _ (failed-out a x) d g)
 
-    save_scrap-keeps : (m : Parcel) (x : Sending) → a.of_ref m.message.my_ref ≡ Some x.id → (source : Split Flex) →
-        OnGrant (Keeps a) (save_scrap d t m x source)
+    save_scrap-keeps : (c : SaveFile) → a.of_ref c.answers ≡ Some c.transfer.id → (source : Split Flex) →
+        OnGrant (Keeps a) (save_scrap d t c source)
     unfolding save_scrap
-    save_scrap-keeps m x is source =
+    save_scrap-keeps c is source =
+        let id : ℕ = c.transfer.id in
         granted-past _ _ _ λ busy. granted-both _ (any-grant _) λ y u. granted-past _ _ _ λ room.
-        granted-with _ (marked-agrees a (Some x.id) _ _
-        (x.id, next-is x.id, (next-more x.id).refs m.message.my_ref x.id is) g) λ sent all.
-        granted (marks x.id (outs-agree h _ (saved-out (next_of x.id) x (next_ref d) (next-is x.id)) _ all))
+        granted-with _ (marked-agrees a (Some id) _ _ (id, next-is id, (next-more id).refs c.answers id is) g) λ sent all.
+        granted (marks id (outs-agree h _ (saved-out (next_of id) c (next_ref d) (next-is id)) _ all))
 
-    answer_ack-keeps : (m : Parcel) → a.of_ref m.message.my_ref ≡ Some m.message.your_ref → (v : Option Sending) →
-        ((x : Sending) → v ≡ Some x → m.message.your_ref ≡ x.id) → Keeps a (answer_ack d t m v)
-    unfolding answer_ack
-    answer_ack-keeps m is None same = ignored-keeps
-    answer_ack-keeps m is (Some x) same =
-        or_else-keeps (Keeps a) _
-        (granted-then _ _ λ source found. save_scrap-keeps m x (is ∙ ap (λ (i : ℕ). Option.Some i) (same x refl)) source)
-        (refused-keeps x)
+    send_with-keeps : (c : SendAction) → ActionSays c → (source : Split Flex) → OnGrant (Keeps a) (send_with d t c source)
+    unfolding send_with
+    send_with-keeps (send_action.Transmit c) is source = transmit-keeps c source
+    send_with-keeps (send_action.SaveFile c) is source = save_scrap-keeps c is source
+    send_with-keeps (send_action.Finish x) is source = granted (still (outs-agree h _ (loaded-out a x _) d g))
 
-    finish_load-keeps : (v : Option Sending) → Keeps a (finish_load d t v)
-    unfolding finish_load
-    finish_load-keeps None = ignored-keeps
-    finish_load-keeps (Some x) =
-        or_else-keeps (Keeps a) _
-        (granted-then _ _ λ source found. granted (still (outs-agree h _ (loaded-out a x _) d g)))
-        (refused-keeps x)
+    perform_send-keeps : (v : Option SendAction) → IfSome v ActionSays → Keeps a (perform_send d t v)
+    unfolding perform_send
+    perform_send-keeps None is = ignored-keeps
+    perform_send-keeps (Some c) is =
+        or_else-keeps (Keeps a) _ (granted-then _ _ λ source found. send_with-keeps c is source) (refused-keeps (sender.transfer_of c))
 
-    accept-keeps : (m : Parcel) → Unloaded a h m.message.my_ref → OnGrant (Keeps a) (accept d t m)
+    accept-keeps : (c : Claim) → Unloaded a h c.id → OnGrant (Keeps a) (accept d t c)
     unfolding accept
-    accept-keeps m is =
+    accept-keeps c is =
         granted-then _ _ λ k free. granted-then _ _ λ b claimed. granted-then _ _ λ p there.
         granted-with _ (plain-agrees a _ _ tt (slot-agrees h _ d g)) λ sent all.
         granted (still (ins-agree h _ (λ ws old. all-more (InAgrees a h) _ _ ws is old) sent all))
-
-    take_save-keeps : (m : Parcel) → Unloaded a h m.message.my_ref → Keeps a (take_save d t m)
-    unfolding take_save
-    take_save-keeps m is =
-        chosen (Keeps a) _ _ _ (or_else-keeps (Keeps a) _ (accept-keeps m is) (λ refusal. ignored-keeps)) ignored-keeps
 
     -- the document with more bytes, and the same post
     record IsLonger (e : Desk) : Type 0 where
@@ -254,17 +260,17 @@ module _ (a : Marks) (t : Task) (own : HandleAgrees a (InAgrees a) t.handle t) w
         granted-then _ _ λ document found. granted-then _ _ λ longer e. granted-then _ _ λ s e2.
         granted (record { desk = slot-agrees h s d g; post = slot-post s })
 
-    fetch_more-keeps : (m : Parcel) (f : Taking) → Unloaded a h f.id → (n : ℕ) → OnGrant (Keeps a) (fetch_more d t m f n)
+    fetch_more-keeps : (c : Append) → Unloaded a h c.transfer.id → (b : Fetch) → OnGrant (Keeps a) (fetch_more d t c b)
     unfolding fetch_more
-    fetch_more-keeps m f is n =
+    fetch_more-keeps c is b =
         granted-with _ (plain-agrees a _ d tt g) λ sent all.
-        granted (still (ins-agree h _ (fetched-in f is n (next_ref d)) sent all))
+        granted (still (ins-agree h _ (fetched-in c is (next_ref d)) sent all))
 
-    took-keeps : (m : Parcel) (f : Taking) → Unloaded a h f.id → (n : ℕ) → Keeps a (took d t m f n)
+    took-keeps : (c : Append) → Unloaded a h c.transfer.id → (b : Next) → Keeps a (took d t c b)
     unfolding took
-    took-keeps m f is n =
-        chosen (Keeps a) _ _ _ (still (ended-agrees h f _ (finished-in f is n) d g))
-        (or_else-keeps (Keeps a) _ (fetch_more-keeps m f is n) (λ refusal. failed-keeps f is _ _))
+    took-keeps c is next_action.Finish = still (ended-agrees h c.transfer _ (finished-in c is) d g)
+    took-keeps c is (next_action.Fetch b) =
+        or_else-keeps (Keeps a) _ (fetch_more-keeps c is b) (λ refusal. failed_with-keeps c.transfer is _ _)
 
     ask-keeps : (f : Taking) → Unloaded a h f.id → OnGrant (Keeps a) (ask d t f)
     unfolding ask
@@ -272,31 +278,22 @@ module _ (a : Marks) (t : Task) (own : HandleAgrees a (InAgrees a) t.handle t) w
         granted-with _ (marked-agrees a (Some f.id) _ d (next-is f.id) g) λ sent all.
         granted (marks f.id (ended-agrees h f _ (asking-in (next_of f.id) f (next_ref d) (next-is f.id) is) sent all))
 
-    fetch_back-keeps : (v : Option Incoming) → IfSome v (InAgrees a h) → Keeps a (fetch_back d t v)
-    unfolding fetch_back
-    fetch_back-keeps None is = ignored-keeps
-    fetch_back-keeps (Some (incoming.Fetching f)) is =
-        chosen (Keeps a) _ _ _ (or_else-keeps (Keeps a) _ (ask-keeps f is) (λ refusal. failed-keeps f is _ _)) (failed-keeps f is _ _)
-    fetch_back-keeps (Some (incoming.Draining f)) is = failed-keeps f is _ _
-    fetch_back-keeps (Some (incoming.Asking q)) is = ignored-keeps
-    fetch_back-keeps (Some (incoming.Done id anchor count)) is = ignored-keeps
-    fetch_back-keeps (Some (incoming.Failed id anchor count)) is = ignored-keeps
-
     ack_back-keeps : (v : Option Asked) → ((q : Asked) → v ≡ Some q → Unloaded a h q.id) → Keeps a (ack_back d t v)
     unfolding ack_back
     ack_back-keeps None apart = ignored-keeps
     ack_back-keeps (Some q) apart = still (ins-agree h _ (abandoned-in q (apart q refl) 0) d g)
 
-    -- the DataLoad m belongs to the transfer of the record
-    loaded-keeps : (m : Parcel) (q : Asked) → Has (incoming.Asking q) t.taking → Unloaded a h q.id →
-        a.of_ref m.message.my_ref ≡ Some q.id → IsPast d t → (n : ℕ) → Keeps a (loaded d t m q n)
+    -- the DataLoad that it answers belongs to the transfer of the record
+    loaded-keeps : (c : LoadFile) → Has (incoming.Asking c.transfer) t.taking → Unloaded a h c.transfer.id →
+        a.of_ref c.answers ≡ Some c.transfer.id → IsPast d t → (n : ℕ) → Keeps a (loaded d t c n)
     unfolding loaded
-    loaded-keeps m q has apart is past n =
+    loaded-keeps c has apart is past n =
+        let q : Asked = c.transfer in
         let b : Marks = now_loaded a h q.id in
         let more = loads-more a h q.id in
         let low = past.below (incoming.Asking q) has in
         or_else-keeps (Keeps a) _
-        (granted-with _ (letter-agrees b (ButOne a h q.id) (load_ack_letter h m n) d (record {
+        (granted-with _ (letter-agrees b (ButOne a h q.id) (load_ack_letter h c n) d (record {
           born = λ i up. g.born i (omega (arith, up));
           unloaded = λ r i up. others-apart a h q.id r i (λ here same. omega (arith, low, up, same)) (g.unloaded r i up);
           of_tasks = tasks-grow a b more (InAgrees a) (ButOne a h q.id) (but-one a h q.id) d.tasks g.of_tasks;
@@ -311,90 +308,90 @@ module _ (a : Marks) (t : Task) (own : HandleAgrees a (InAgrees a) t.handle t) w
         }))
         (λ refusal. still (ins-agree h _ (abandoned-in q apart n) d g))
 
-  -- the record that was found waits for a file
-  asking-waits : (test : Asked → Bool) (q : Asked) → asking_of test t.taking ≡ Some q → Waits q
-  asking-waits test q e =
-      let has = (asking_is test t.taking q e).0 in
-      let is = all-has (InAgrees a h) t.taking (incoming.Asking q) own.ins has in (has, is.0, is.1)
+  -- a record that waits for a file
+  waits-of : (q : Asked) → Has (incoming.Asking q) t.taking → Waits q
+  waits-of q has = let is = all-has (InAgrees a h) t.taking (incoming.Asking q) own.ins has in (has, is.0, is.1)
 
   module _ (d : Desk) (g : Agrees a d) (past : IsPast d t) where
-    take_bytes-keeps : (m : Parcel) (n : ℕ) (v : Option Incoming) → IfSome v (InAgrees a h) → Keeps a (take_bytes d t m n v)
-    unfolding take_bytes
-    take_bytes-keeps m n None is = ignored-keeps d g
-    take_bytes-keeps m n (Some (incoming.Fetching f)) is =
+    append-keeps : (c : Append) → Unloaded a h c.transfer.id → Keeps a (append d t c)
+    unfolding append
+    append-keeps c is =
         or_else-keeps (Keeps a) _
-        (granted-unless _ _ _ λ small. granted-with _ (appended-longer d g f.anchor _) λ longer all.
-        granted (took-keeps longer all.desk m f is n))
-        (λ refusal. failed-keeps d g f is _ _)
-    take_bytes-keeps m n (Some (incoming.Draining f)) is = failed-keeps d g f is _ _
-    take_bytes-keeps m n (Some (incoming.Asking q)) is = ignored-keeps d g
-    take_bytes-keeps m n (Some (incoming.Done id anchor count)) is = ignored-keeps d g
-    take_bytes-keeps m n (Some (incoming.Failed id anchor count)) is = ignored-keeps d g
+        (granted-with _ (appended-longer d g c.transfer.anchor _) λ longer all. granted (took-keeps longer all.desk c is c.next))
+        (λ refusal. failed-keeps d g c.transfer is _)
 
-    -- the message belongs to the record's transfer
-    load_file-keeps : (m : Parcel) (q : Asked) → Waits q → a.of_ref m.message.my_ref ≡ Some q.id → (v : Option Scrap) →
-        Keeps a (load_file d t m q v)
+    load_file-keeps : (c : LoadFile) → Waits c.transfer → a.of_ref c.answers ≡ Some c.transfer.id → (v : Option Scrap) →
+        Keeps a (load_file d t c v)
     unfolding load_file
-    load_file-keeps m q w is None = ignored-keeps d g
-    load_file-keeps m q w is (Some file) =
+    load_file-keeps c w is None = ignored-keeps d g
+    load_file-keeps c w is (Some file) =
         chosen (Keeps a) _ _ _
         (or_else-keeps (Keeps a) _
-        (granted-with _ (appended-longer d g q.anchor file.bytes) λ longer all.
-        granted (loaded-keeps (record longer { scrap = None }) all.desk m q w.0 w.2 is (record {
+        (granted-with _ (appended-longer d g c.transfer.anchor file.bytes) λ longer all.
+        granted (loaded-keeps (record longer { scrap = None }) all.desk c w.0 w.2 is (record {
           below = λ v has. subst (λ p. in_id v < p.next_ref) (sym all.post) (past.below v has);
           above = λ v has. subst (λ p. AllByRecursion (ParcelAbove h (in_id v)) p.queued) (sym all.post) (past.above v has);
         }) (length file.bytes)))
-        (λ refusal. still (ins-agree h _ (abandoned-in q w.2 0) d g)))
+        (λ refusal. still (ins-agree h _ (abandoned-in c.transfer w.2 0) d g)))
         (ignored-keeps d g)
 
-    take_file-keeps : (m : Parcel) → (i : ℕ) × (a.of_ref m.message.my_ref ≡ Some i) × (a.of_ref m.message.your_ref ≡ Some i) →
-        (v : Option Asked) → ((q : Asked) → v ≡ Some q → Waits q × (m.message.your_ref ≡ q.ack)) → Keeps a (take_file d t m v)
-    unfolding take_file
-    take_file-keeps m of None waits = ignored-keeps d g
-    take_file-keeps m of (Some q) waits =
-        let w = waits q refl in
-        let mine : a.of_ref m.message.your_ref ≡ Some q.id = ap a.of_ref w.1 ∙ w.0.1 in
+    take_with-keeps : (c : TakeAction) → ActionComes c → Keeps a (take_with d t c)
+    unfolding take_with
+    take_with-keeps (take_action.Claim c) is = or_else-keeps (Keeps a) _ (accept-keeps d g c is) (λ refusal. ignored-keeps d g)
+    take_with-keeps (take_action.Append c) is = append-keeps c is
+    take_with-keeps (take_action.AskForFile f) is =
+        or_else-keeps (Keeps a) _ (ask-keeps d g f is) (λ refusal. failed-keeps d g f is _)
+    take_with-keeps (take_action.LoadFile c) is = load_file-keeps c is.0 is.1 d.scrap
+    take_with-keeps (take_action.Release c) is = failed-keeps d g c.transfer is _
+
+    perform_take-keeps : (v : Option TakeAction) → IfSome v ActionComes → Keeps a (perform_take d t v)
+    unfolding perform_take
+    perform_take-keeps None is = ignored-keeps d g
+    perform_take-keeps (Some c) is = take_with-keeps c is
+
+    -- a DataSaveAck belongs to the transfer that it answers
+    ack-answers : (m : Parcel) → a.of_ref m.message.my_ref ≡ Some m.message.your_ref → (x : Sending) →
+        sender.asks_for m.message.from m.message.your_ref x ≡ true → a.of_ref m.message.my_ref ≡ Some x.id
+    ack-answers m is x p =
+        is ∙ ap (λ (i : ℕ). Option.Some i)
+        (is_equal _ _ (and_right _ (nat_eq m.message.your_ref x.id) (and_left _ (nat_eq x.id x.last) p)))
+
+    -- a DataLoad that answers a record's DataSaveAck belongs to the record's transfer
+    load-answers : (m : Parcel) → (i : ℕ) × (a.of_ref m.message.my_ref ≡ Some i) × (a.of_ref m.message.your_ref ≡ Some i) →
+        (q : Asked) → Waits q → receiver.is_load m.message.from m.message.your_ref q ≡ true → a.of_ref m.message.my_ref ≡ Some q.id
+    load-answers m of q w p =
+        let ack : m.message.your_ref ≡ q.ack = is_equal _ _ (and_right (nat_eq m.message.from q.sender) _ p) in
+        let mine : a.of_ref m.message.your_ref ≡ Some q.id = ap a.of_ref ack ∙ w.1 in
         let same : of.0 ≡ q.id = same_value (a.of_ref m.message.your_ref) of.2 mine in
-        load_file-keeps m q w.0 (of.1 ∙ ap (λ (i : ℕ). Option.Some i) same) d.scrap
-
-    -- the record that was found, where there is one
-    active-found : (test : Taking → Bool) → IfSome (active_of test t.taking) (InAgrees a h)
-    active-found test = go (active_of test t.taking) refl
-      where
-        go : (v : Option Incoming) → active_of test t.taking ≡ v → IfSome v (InAgrees a h)
-        go None q = tt
-        go (Some w) q = active-agrees test w q
-
-    ack-answers : (m : Parcel) (x : Sending) → sender.on_ack m.message.from m.message.your_ref t.sending ≡ Some x →
-        m.message.your_ref ≡ x.id
-    ack-answers m x q =
-        let w = open_is (sender.asks_for m.message.from m.message.your_ref) t.sending x q in
-        is_equal _ _ (and_right _ (nat_eq m.message.your_ref x.id) (and_left _ (nat_eq x.id x.last) w.1))
-
-    load-answers : (m : Parcel) (q : Asked) → receiver.on_load m.message.from m.message.your_ref t.taking ≡ Some q →
-        m.message.your_ref ≡ q.ack
-    load-answers m q e =
-        is_equal _ _ (and_right (nat_eq m.message.from q.sender) _
-        (asking_is (receiver.is_load m.message.from m.message.your_ref) t.taking q e).1)
+        of.1 ∙ ap (λ (i : ℕ). Option.Some i) same
 
     came-keeps : (m : Parcel) (b : Body) → Says a m.message.from m.message.my_ref m.message.your_ref b →
         Unloaded a h m.message.my_ref → Keeps a (came d t m b)
     unfolding came
-    came-keeps m (body.DataSave file) is apart = take_save-keeps d g m apart
-    came-keeps m (body.DataSaveAck file) is apart = answer_ack-keeps d g m is _ (ack-answers m)
-    came-keeps m (body.DataLoad file) is apart = take_file-keeps m is _ (λ q e. (asking-waits _ q e, load-answers m q e))
-    came-keeps m (body.DataLoadAck file) is apart = finish_load-keeps d g _
+    came-keeps m (body.DataSave file) is apart = perform_take-keeps _ (save-does ActionComes t.taking _ _ _ apart)
+    came-keeps m (body.DataSaveAck file) is apart =
+        perform_send-keeps d g _ (open-does ActionSays t.sending _ _ (λ x has p. ack-answers m is x p))
+    came-keeps m (body.DataLoad file) is apart =
+        perform_take-keeps _
+        (load-does ActionComes t.taking _ _ _ (λ q has p. let w = waits-of q has in (w, load-answers m is q w p)))
+    came-keeps m (body.DataLoadAck file) is apart = perform_send-keeps d g _ (open-does ActionSays t.sending _ _ (λ x has p. tt))
     came-keeps m (body.RamFetch buffer amount) is apart =
-        chosen (Keeps a) _ _ _ (ignored-keeps d g) (answer_fetch-keeps d g m buffer amount _)
-    came-keeps m (body.RamTransmit buffer n) is apart = take_bytes-keeps m n _ (active-found _)
+        chosen (Keeps a) _ _ _ (ignored-keeps d g)
+        (perform_send-keeps d g _ (open-does ActionSays t.sending _ _ (λ x has p. tt)))
+    came-keeps m (body.RamTransmit buffer n) is apart =
+        perform_take-keeps _
+        (transmit-does ActionComes t.taking _ _ _ _ _ _ (λ f has. fetching-agrees f has) (λ f e has. active-agrees f has))
 
     came_back-keeps : (m : Parcel) (b : Body) → Keeps a (came_back d t m b)
     unfolding came_back
     came_back-keeps m (body.DataSave file) = fail_sending-keeps d g _
-    came_back-keeps m (body.DataSaveAck file) = ack_back-keeps d g _ (λ q e. (asking-waits _ q e).2)
+    came_back-keeps m (body.DataSaveAck file) =
+        ack_back-keeps d g _ (λ q e. (waits-of q (asking_is _ t.taking q e).0).2)
     came_back-keeps m (body.DataLoad file) = fail_sending-keeps d g _
     came_back-keeps m (body.DataLoadAck file) = ignored-keeps d g
-    came_back-keeps m (body.RamFetch buffer amount) = fetch_back-keeps d g _ (active-found _)
+    came_back-keeps m (body.RamFetch buffer amount) =
+        perform_take-keeps _
+        (bounce-does ActionComes t.taking _ (λ f has. fetching-agrees f has) (λ f e has. active-agrees f has))
     came_back-keeps m (body.RamTransmit buffer n) = fail_sending-keeps d g _
 
     handled-keeps : (m : Parcel) → m.to ≡ h → (c : EventCode) → CodeAgrees c (Comes a m) → Keeps a (handled d t m c)

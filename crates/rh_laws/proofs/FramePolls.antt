@@ -1,11 +1,11 @@
 -- A poll leaves other tasks as they were, but for the first bytes of one buffer.
-use Rattle.rh_laws.proofs.Common.{◌≡◌, ◌≢◌, ℕ, Bool, true, false, List, [], length, take, drop, Option, Some, None, refl, sym, ap, ◌∙◌, subst, ◌⊎◌, inl, inr}
-use Rattle.rh_laws.proofs.Common.{arith, ◌-◌, ◌==◌, min, nat_lt, Ok, option_map, eqb_tells, Refusal, NoTask, Command, Body, EventCode, User, Recorded}
-use Rattle.rh_laws.proofs.Common.{Acknowledge, Sending, Taking, Incoming, Outgoing, found_or, Split, bytes_of, Flex, heap_block_at, slot_block, buffer_at}
-use Rattle.rh_laws.proofs.Common.{with_heap_bytes, written_in, Parcel, post_poll, Desk, Task, named, next_ref, send_letter, task_at, with_delivered}
-use Rattle.rh_laws.proofs.Common.{with_sending, with_task, Handled, answer_fetch, ignored, portion, transmit, answers_none, came, handled, Answer, event}
-use Rattle.rh_laws.proofs.Common.{poll, poll_taken, step, Active, Has, buffers_of, task_of, view, contains_of, either, first_is, is_equal, open_is, Good}
-use Rattle.rh_laws.proofs.Common.{found_name, ok_is, Fits, is_found, the_task, field_is, live_of}
+use Rattle.rh_laws.proofs.Common.{◌≡◌, ◌≢◌, ℕ, Bool, true, false, List, [], length, take, drop, Option, Some, None, refl, sym, ap, ◌∙◌, subst, ◌⊎◌, inl}
+use Rattle.rh_laws.proofs.Common.{inr, arith, ◌-◌, ◌==◌, min, Ok, option_map, eqb_tells, Refusal, NoTask, Command, Body, EventCode, User, Recorded}
+use Rattle.rh_laws.proofs.Common.{Acknowledge, Sending, Taking, Incoming, Outgoing, Part, found_or, Split, bytes_of, Flex, heap_block_at, slot_block}
+use Rattle.rh_laws.proofs.Common.{buffer_at, with_heap_bytes, written_in, Parcel, post_poll, open_of, Desk, Task, named, next_ref, send_letter, task_at}
+use Rattle.rh_laws.proofs.Common.{with_delivered, with_sending, with_task, Handled, ignored, perform_send, send_with, transmit, answers_none, came}
+use Rattle.rh_laws.proofs.Common.{handled, Answer, event, poll, poll_taken, step, Active, Has, buffers_of, task_of, view, contains_of, either, first_is}
+use Rattle.rh_laws.proofs.Common.{is_equal, open_is, Good, found_name, ok_is, Fits, is_found, the_task, field_is, live_of}
 use Rattle.rh_defs.specs.declared.command.Command.TheVariants as command
 use Rattle.rh_defs.specs.declared.message.Body.TheVariants as body
 use Rattle.rh_defs.specs.declared.reply.Outcome.TheVariants as outcome
@@ -14,11 +14,12 @@ use Rattle.rh_defs.specs.declared.transfer.Outgoing.TheVariants as outgoing
 use Rattle.rh_defs.specs.Letters.{transmit_letter}
 use Rattle.rh_defs.specs.Sender as sender
 use Rattle.rh_defs.proofs.Chains.{grant-holds}
+use Rattle.rh_safety.proofs.Ends.{Letter}
+use Rattle.rh_safety.proofs.Sight as sight
 use Rattle.rh_safety.proofs.Invariant.{Offered}
 use Rattle.rh_safety.proofs.KeptFetch.{Reaches, fetch_in, reaches}
 use Rattle.rh_safety.proofs.KeptPolls.{Given, given}
-use Rattle.rh_safety.proofs.OwnEdits.{Did, OwnEdits, answer_ack-own, came_back-own, finish_load-own, ignored-own, refused-own, take_bytes-own, take_file-own}
-use Rattle.rh_safety.proofs.OwnEdits.{take_save-own}
+use Rattle.rh_safety.proofs.OwnEdits.{Did, OwnEdits, came_back-own, ignored-own, on_ack-own, on_load_ack-own, perform_take-own, refused-own}
 use Rattle.rh_safety.proofs.Polls.{Taken, Waiter}
 use Rattle.rh_safety.proofs.SeenBlocks.{from_test, the_block}
 use Rattle.rh_safety.proofs.SeenDocuments.{letter_of}
@@ -67,39 +68,42 @@ module _ (k : ℕ) (t : Task) (ne : t.handle ≢ k) (d : Desk) (m : Parcel) wher
   calm : {x : Handled} → Did (Leaves k) d x → Fills x
   calm c = inl c.desk
 
-  module _ (is : task_of t.handle d.tasks ≡ Some t) (buffer amount : ℕ) where
+  module _ (is : task_of t.handle d.tasks ≡ Some t) (l : Letter) where
     -- what goes out for a record: the next bytes of the source
+    abbrev part_of : Sending → Split Flex → Part
+    part_of x source = sender.part (sight.answer_of l x) (length source.here.bytes)
+
     abbrev bytes_out : Sending → Split Flex → List ℕ
-    bytes_out x source = take (portion x amount source) (drop x.count source.here.bytes)
+    bytes_out x source = take (part_of x source).n (drop x.count source.here.bytes)
 
     -- the recipient with them in its buffer
     abbrev poured_in : List ℕ → Task → Task
-    poured_in bytes r = record r { slot = written_in buffer bytes (buffer_at buffer amount r.slot) r.slot }
+    poured_in bytes r = record r { slot = written_in l.address bytes (buffer_at l.address l.amount r.slot) r.slot }
 
     poured : (x : Sending) (source : Split Flex) (r : Task) (sent : Desk) → Has (outgoing.Open x) t.sending →
-        slot_block x.anchor t.slot ≡ Ok source → task_of x.recipient d.tasks ≡ Some r → Reaches d t m is buffer amount x →
-        Waiter (view d) t.handle x (fetch_in m buffer amount) → Leaves k d sent → Fills (
-          with_sending t.handle (sender.sent x (portion x amount source) amount (next_ref d))
+        slot_block x.anchor t.slot ≡ Ok source → task_of x.recipient d.tasks ≡ Some r → Reaches (view d) (sight.answer_of l x) →
+        Waiter (view d) t.handle x l → Leaves k d sent → Fills (
+          with_sending t.handle (sender.sent (sight.answer_of l x) (part_of x source) (next_ref d))
               (with_task r.handle (poured_in (bytes_out x source)) sent),
-          outcome.Sent (portion x amount source) (next_ref d),
+          outcome.Sent (part_of x source).n (next_ref d),
         )
     poured x source r sent has found to reach w leaves =
-        let n : ℕ = portion x amount source in
+        let p : Part = part_of x source in
         let out : List ℕ = bytes_out x source in
         let same : r.handle ≡ x.recipient = is_equal _ _ (first_is (λ (y : Task). y.handle == x.recipient) d.tasks r to).1 in
         let written : Desk = with_task r.handle (poured_in out) sent in
-        let records : Leaves k written (with_sending t.handle (sender.sent x n amount (next_ref d)) written) =
+        let records : Leaves k written (with_sending t.handle (sender.sent (sight.answer_of l x) p (next_ref d)) written) =
         outs-leave t.handle k ne _ written in
         elim (eqb_tells x.recipient k) [
           | inr away ↦ inl (both-leave leaves (both-leave (task-leaves r.handle k (λ e. away.1 (sym same ∙ e)) (poured_in out) (λ y.
               refl) sent) records))
           | inl here ↦
               let was : task_at k d ≡ Some r = subst (λ j. task_of j d.tasks ≡ Some r) here.1 to in
-              let c = buffer_found buffer amount r.slot reach.old (ap (λ (g : ℕ → Option (List ℕ)). g buffer)
+              let c = buffer_found l.address l.amount r.slot reach.old (ap (λ (g : ℕ → Option (List ℕ)). g l.address)
               (sym (field_is (λ y. buffers_of y.slot) (λ a. None) x.recipient d.tasks r to)) ∙ reach.there) reach.fits
-              (heap_block_at buffer r.slot) refl in
-              let now : written_in buffer out (buffer_at buffer amount r.slot) r.slot ≡ with_heap_bytes c.cut 0 out r.slot =
-              ap (λ o. written_in buffer out o r.slot) c.found in
+              (heap_block_at l.address r.slot) refl in
+              let now : written_in l.address out (buffer_at l.address l.amount r.slot) r.slot ≡ with_heap_bytes c.cut 0 out r.slot =
+              ap (λ o. written_in l.address out o r.slot) c.found in
               let own : task_at k written ≡ Some (poured_in out r) =
               own-task k (poured_in out) (λ y. refl) sent r (same ∙ here.1) (leaves.same ∙ was) in
               inr (record {
@@ -117,7 +121,7 @@ module _ (k : ℕ) (t : Task) (ne : t.handle ≢ k) (d : Desk) (m : Parcel) wher
                 from = w.sender;
                 buffer = c.cut;
                 buffer_is = ap (λ a. heap_block_at a r.slot) w.names ∙ c.is;
-                n = n;
+                n = p.n;
                 portion = ap (λ a. min a (length source.here.bytes - x.count))
                     (w.amount ∙ field_is (λ y. y.buffer) 1 x.recipient d.tasks r to);
                 room = let z = reach.fits in let y : length (bytes_of c.cut.here) ≡ length reach.old = ap (λ (v : List ℕ).
@@ -128,21 +132,20 @@ module _ (k : ℕ) (t : Task) (ne : t.handle ≢ k) (d : Desk) (m : Parcel) wher
         ]
 
     fetch-fills : (v : Option Sending) → ((x : Sending) → v ≡ Some x → Has (outgoing.Open x) t.sending) →
-        ((x : Sending) → v ≡ Some x → (view d).live x.recipient ≡ true → Reaches d t m is buffer amount x) →
-        ((x : Sending) → v ≡ Some x → (view d).live x.recipient ≡ true →
-        Waiter (view d) t.handle x (fetch_in m buffer amount)) → Fills (answer_fetch d t m buffer amount v)
-    unfolding answer_fetch transmit
+        ((x : Sending) → v ≡ Some x → (view d).live x.recipient ≡ true → Reaches (view d) (sight.answer_of l x)) →
+        ((x : Sending) → v ≡ Some x → (view d).live x.recipient ≡ true → Waiter (view d) t.handle x l) →
+        Fills (perform_send d t (option_map (sender.transmit_for l.from l.me l.address l.amount) v))
+    unfolding perform_send send_with transmit
     fetch-fills None has reach wait = calm (ignored-own (Leaves k) t (own-leaves t.handle k ne) d)
     fetch-fills (Some x) has reach wait =
         by_grant Fills _ _
         (λ y q. with_step (slot_block x.anchor t.slot) _ y q (λ source e1 q1.
+        let letter = transmit_letter t.handle (sight.answer_of l x) (part_of x source) in
         with_step (found_or (task_at x.recipient d) NoTask) _ y q1 (λ r e2 q2.
-        with_step (send_letter (transmit_letter t.handle m (nat_lt (portion x amount source) amount) buffer (portion x
-        amount source)) d) _ y (from_test _ _ y q2) (λ sent e3 q3.
+        with_step (send_letter letter d) _ y (from_test _ _ y q2) (λ sent e3 q3.
         let to : task_of x.recipient d.tasks ≡ Some r = is_found (task_at x.recipient d) NoTask r e2 in
         let lives = live_of d x.recipient r to in
-        let leaves : Leaves k d sent = grant-holds (letter-leaves k (transmit_letter t.handle m (nat_lt (portion x amount
-        source) amount) buffer (portion x amount source)) d ne) e3 in
+        let leaves : Leaves k d sent = grant-holds (letter-leaves k letter d ne) e3 in
         subst Fills (ok_is _ y q3) (poured x source r sent (has x refl) e1 to (reach x refl lives) (wait x refl lives)
         leaves)))))
         (λ refusal q. calm (refused-own (Leaves k) t (own-leaves t.handle k ne) d x refusal))
@@ -152,26 +155,26 @@ module _ (k : ℕ) (t : Task) (ne : t.handle ≢ k) (d : Desk) (m : Parcel) wher
   module _ {o : Offered} {e : ℕ → ℕ → Bool} (is : task_of t.handle d.tasks ≡ Some t) where
     -- a record that would answer a fetch has one that waits
     waits : (buffer amount : ℕ) → Taken o e (view d) t.handle (fetch_in m buffer amount) → answers_none t.manner ≡ false →
-        (x : Sending) → sender.on_fetch m.message.from m.message.your_ref amount t.sending ≡ Some x →
+        (x : Sending) → open_of (sight.would_answer (fetch_in m buffer amount)) t.sending ≡ Some x →
         (view d).live x.recipient ≡ true → Waiter (view d) t.handle x (fetch_in m buffer amount)
     waits buffer amount tk file x q lives =
-        let found = open_is (sender.would_answer m.message.from m.message.your_ref amount) t.sending x q in
+        let found = open_is (sight.would_answer (fetch_in m buffer amount)) t.sending x q in
         tk.waiter x (subst (λ (vs : List Outgoing). Has (outgoing.Open x) vs)
         (sym (field_is (λ y. y.sending) [] t.handle d.tasks t is)) found.0) refl found.1
         (field_is (λ y. answers_none y.manner) false t.handle d.tasks t is ∙ file) lives
 
     came-fills : (b : Body) → Taken o e (view d) t.handle (letter_of m b) → Fills (came d t m b)
     unfolding came
-    came-fills (body.DataSave file) tk = calm (take_save-own (Leaves k) t (own-leaves t.handle k ne) d m)
-    came-fills (body.DataSaveAck file) tk = calm (answer_ack-own (Leaves k) t (own-leaves t.handle k ne) d m _)
-    came-fills (body.DataLoad file) tk = calm (take_file-own (Leaves k) t (own-leaves t.handle k ne) d m _)
-    came-fills (body.DataLoadAck file) tk = calm (finish_load-own (Leaves k) t (own-leaves t.handle k ne) d _)
+    came-fills (body.DataSave file) tk = calm (perform_take-own (Leaves k) t (own-leaves t.handle k ne) d _)
+    came-fills (body.DataSaveAck file) tk = calm (on_ack-own (Leaves k) t (own-leaves t.handle k ne) d m)
+    came-fills (body.DataLoad file) tk = calm (perform_take-own (Leaves k) t (own-leaves t.handle k ne) d _)
+    came-fills (body.DataLoadAck file) tk = calm (on_load_ack-own (Leaves k) t (own-leaves t.handle k ne) d m)
     came-fills (body.RamFetch buffer amount) tk =
         either Fills (answers_none t.manner) (ignored d) _ (λ y. calm (ignored-own (Leaves k) t (own-leaves t.handle k ne) d)) (λ y.
-        fetch-fills is buffer amount _
-        (λ x q. (open_is (sender.would_answer m.message.from m.message.your_ref amount) t.sending x q).0)
+        fetch-fills is (fetch_in m buffer amount) (open_of (sight.would_answer (fetch_in m buffer amount)) t.sending)
+        (λ x q. (open_is (sight.would_answer (fetch_in m buffer amount)) t.sending x q).0)
         (reaches d t m is buffer amount tk y) (waits buffer amount tk y))
-    came-fills (body.RamTransmit buffer n) tk = calm (take_bytes-own (Leaves k) t (own-leaves t.handle k ne) d m n _)
+    came-fills (body.RamTransmit buffer n) tk = calm (perform_take-own (Leaves k) t (own-leaves t.handle k ne) d _)
 
     handled-fills : Given o e d t m → (c : EventCode) → m.code ≡ c → Fills (handled d t m c)
     unfolding handled

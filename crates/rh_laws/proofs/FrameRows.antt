@@ -1,8 +1,8 @@
 -- Worked runs of what commands leave of other tasks, and runs with one definition changed, on which frame_law fails.
-use Rattle.rh_laws.proofs.Common.{◌≡◌, ℕ, List, [], ◌∷◌, ◌++◌, Option, Some, None, map, refl, sym, ap, ◌∙◌, subst, inl, inr, nat_lt, codes, filter, find, Ok}
-use Rattle.rh_laws.proofs.Common.{option_map, hex_on_literals, String, NotOpen, Reply, Taking, Incoming, Granted, ◌>>=◌, found_or, or_else, Segment, Used}
-use Rattle.rh_laws.proofs.Common.{in_id, with_id, Desk, Task, named, task_at, with_taking, Answer, kill, after, step, Has, has_of, fresh, script, Rules}
-use Rattle.rh_laws.proofs.Common.{landed, run_of}
+use Rattle.rh_laws.proofs.Common.{◌≡◌, ℕ, List, [], ◌∷◌, ◌++◌, Option, Some, None, map, refl, sym, ap, ◌∙◌, subst, inl, inr, nat_lt, codes, filter}
+use Rattle.rh_laws.proofs.Common.{find, Ok, option_map, hex_on_literals, String, NotOpen, Reply, Taking, Incoming, Granted, ◌>>=◌, found_or, or_else}
+use Rattle.rh_laws.proofs.Common.{Segment, Used, in_id, with_id, Desk, Task, named, task_at, with_taking, Answer, kill, after, step, Has, has_of, fresh}
+use Rattle.rh_laws.proofs.Common.{script, Rules, landed, run_of}
 use Rattle.rh_defs.specs.declared.reply.Reply.TheVariants as reply
 use Rattle.rh_defs.specs.declared.command.Command.TheVariants as command
 use Rattle.rh_defs.specs.declared.transfer.Incoming.TheVariants as incoming
@@ -50,7 +50,7 @@ actors = refl
 -- ---- a cancel that frees the buffer at once
 
 abbrev freed : Incoming → Task → Desk → Desk
-freed (incoming.Fetching f) t d = end_failed t.handle f f.count d
+freed (incoming.Fetching f) t d = end_failed d t f
 freed r t d = with_taking t.handle (with_id in_id (in_id r) (receiver.cancelled r)) d
 
 abbrev cancels_at_once : Desk → List ℕ → Option ℕ → Granted Answer

@@ -1,17 +1,19 @@
 -- A poll does to a desk with its bytes renamed the same.
-use Rattle.rh_laws.proofs.Common.{◌≡◌, ℕ, ◌+◌, ◌-◌, List, length, map, refl, sym, ap, subst, ◌∙◌, length-map, take-map, drop-map, Option, Some, None, is_some}
-use Rattle.rh_laws.proofs.Common.{Ok, ◌==◌, ◌&&◌, ◌||◌, not, min, nat_lt, take, drop, option_map, Refusal, NoTask, BadRange, AnchorInUse, Busy, NoRoom}
-use Rattle.rh_laws.proofs.Common.{EventCode, User, Recorded, Acknowledge, Body, Letter, Outcome, Sending, Taking, Asked, Incoming, Granted, ◌>>=◌, ◌>>◌}
-use Rattle.rh_laws.proofs.Common.{refuse_if, found_or, Split, Slot, Flex, flex_address, heap_block_at, slot_alloc, slot_extend, slot_put, slot_claim, Parcel}
+use Rattle.rh_laws.proofs.Common.{◌≡◌, ℕ, ◌+◌, List, length, map, refl, sym, ap, subst, ◌∙◌, length-map, take-map, drop-map, Option, Some, None}
+use Rattle.rh_laws.proofs.Common.{is_some, Ok, ◌==◌, ◌&&◌, ◌||◌, not, nat_lt, take, drop, option_map, Refusal, NoTask, BadRange, AnchorInUse, Busy}
+use Rattle.rh_laws.proofs.Common.{NoRoom, EventCode, User, Recorded, Acknowledge, Body, Letter, Outcome, Sending, Taking, Asked, Incoming, Transmit}
+use Rattle.rh_laws.proofs.Common.{Part, SaveFile, SendAction, Claim, Append, Fetch, Next, LoadFile, TakeAction, Granted, ◌>>=◌, ◌>>◌, refuse_if}
+use Rattle.rh_laws.proofs.Common.{found_or, Split, Slot, Flex, flex_address, heap_block_at, slot_alloc, slot_extend, slot_put, slot_claim, Parcel}
 use Rattle.rh_laws.proofs.Common.{post_poll, Desk, Task, Scrap, next_ref, free_pages, task_at, with_task, with_slot, with_sending, with_taking}
-use Rattle.rh_laws.proofs.Common.{with_delivered, send_letter, buffer_at, written_in, Handled, portion, transmit, refused, answer_fetch, fail_sending}
-use Rattle.rh_laws.proofs.Common.{save_scrap, answer_ack, finish_load, without_buffer, taking_ended, accept, take_save, appended, fetch_more, took, take_bytes}
-use Rattle.rh_laws.proofs.Common.{ask}
-use Rattle.rh_laws.proofs.Common.{fetch_back, ack_back, loaded, load_file, take_file, answers_none, came, came_back, handled, event, poll_taken, poll}
-use Rattle.rh_laws.proofs.Common.{Follows, follows-then, follows-equal, follows-as}
+use Rattle.rh_laws.proofs.Common.{with_delivered, send_letter, buffer_at, written_in, Handled, transmit, refused, fail_sending, save_scrap, send_with}
+use Rattle.rh_laws.proofs.Common.{perform_send, without_buffer, taking_ended, accept, append, appended, fetch_more, took, ask, ack_back, loaded}
+use Rattle.rh_laws.proofs.Common.{load_file, take_with, perform_take, answers_none, came, came_back, handled, event, poll_taken, poll, Follows}
+use Rattle.rh_laws.proofs.Common.{follows-then, follows-equal, follows-as}
 use Rattle.rh_defs.specs.declared.message.Body.TheVariants.{DataSave, DataSaveAck, DataLoad, DataLoadAck, RamFetch, RamTransmit}
 use Rattle.rh_defs.specs.declared.reply.Outcome.TheVariants as outcome
-use Rattle.rh_defs.specs.declared.transfer.Incoming.TheVariants as incoming
+use Rattle.rh_defs.specs.declared.transfer_action.SendAction.TheVariants as send_action
+use Rattle.rh_defs.specs.declared.transfer_action.TakeAction.TheVariants as take_action
+use Rattle.rh_defs.specs.declared.transfer_action.Next.TheVariants as next_action
 use Rattle.rh_defs.specs.Slot.{holds, anchor_count}
 use Rattle.rh_defs.specs.Letters.{fetch_letter, transmit_letter, load_letter}
 use Rattle.rh_defs.specs.Post.{sendable}
@@ -19,8 +21,7 @@ use Rattle.rh_defs.specs.Sender as sender
 use Rattle.rh_defs.specs.Receiver as receiver
 use Rattle.rh_defs.specs.Places.{overlap, first_bytes}
 use Rattle.rh_defs.specs.OutgoingEvents.{is_out_of_reach, scrap_shortage, wider}
-use Rattle.rh_defs.specs.IncomingEvents.{is_deaf}
-use Rattle.rh_defs.proofs.Follows.{follows-same, or_else-follows, chosen-both}
+use Rattle.rh_defs.proofs.Follows.{or_else-follows, chosen-both}
 use Rattle.rh_laws.specs.Renaming.{renamed_slot, renamed_task, renamed_scrap, renamed}
 use Rattle.rh_laws.proofs.RenamedParts.{By, follows-by, found-by}
 use Rattle.rh_laws.proofs.RenamedHeaps.{renamed_cut}
@@ -30,27 +31,29 @@ use Rattle.rh_laws.proofs.RenamedSlots.{slot_release-renamed, slot_alloc-renamed
 use Rattle.rh_laws.proofs.RenamedDesks.{renamed_with, result-by, free-renamed, where-free, named-renamed, task_at-renamed, with_task-renamed}
 use Rattle.rh_laws.proofs.RenamedDesks.{with_slot-renamed, delivered-renamed, send_letter-renamed}
 
--- a transmit of n bytes from a place, of a source with these bytes
-abbrev transmit_of : Desk → Task → Parcel → ℕ → ℕ → Sending → ℕ → ℕ → List ℕ → Granted Handled
-transmit_of d t m buffer amount x n place bytes = do
-  r ← found_or (task_at x.recipient d) NoTask
-  refuse_if (is_out_of_reach t r buffer amount place n) BadRange
-  sent ← send_letter (transmit_letter t.handle m (nat_lt n amount) buffer n) d
+-- a transmit of a part from a place, of a source with these bytes
+abbrev transmit_of : Desk → Task → Transmit → Part → ℕ → List ℕ → Granted Handled
+transmit_of d t a p place bytes = do
+  r ← found_or (task_at a.transfer.recipient d) NoTask
+  refuse_if (is_out_of_reach t r a.buffer a.room place p.n) BadRange
+  sent ← send_letter (transmit_letter t.handle a p) d
   Ok (
-    with_sending t.handle (sender.sent x n amount (next_ref d))
-        (with_task r.handle (λ r. record r { slot = written_in buffer (take n (drop x.count bytes)) (buffer_at buffer amount r.slot) r.slot }) sent),
-    outcome.Sent n (next_ref d),
+    with_sending t.handle (sender.sent a p (next_ref d))
+        (with_task r.handle (λ r. record r {
+          slot = written_in a.buffer (take p.n (drop p.offset bytes)) (buffer_at a.buffer a.room r.slot) r.slot;
+        }) sent),
+    outcome.Sent p.n (next_ref d),
   )
 
 -- the scrap file of n bytes, which takes so many more pages
-abbrev save_scrap_of : Desk → Task → Parcel → Sending → ℕ → List ℕ → Granted Handled
-save_scrap_of d t m x n bytes = do
+abbrev save_scrap_of : Desk → Task → SaveFile → ℕ → List ℕ → Granted Handled
+save_scrap_of d t a n bytes = do
   refuse_if (is_some d.scrap) Busy
-  sendable (load_letter t.handle m n) d.post
+  sendable (load_letter t.handle a n) d.post
   refuse_if (nat_lt (free_pages d) (scrap_shortage n d)) NoRoom
-  sent ← send_letter (load_letter t.handle m n) (wider (scrap_shortage n d) d)
+  sent ← send_letter (load_letter t.handle a n) (wider (scrap_shortage n d) d)
   Ok (
-    with_sending t.handle (sender.saved x (next_ref d)) (record sent { scrap = Some (record { load = next_ref d; bytes = bytes }) }),
+    with_sending t.handle (sender.saved a (next_ref d)) (record sent { scrap = Some (record { load = next_ref d; bytes = bytes }) }),
     outcome.Saved n (next_ref d),
   )
 
@@ -95,85 +98,81 @@ module _ (f : ℕ → ℕ) (zero-is : f 0 ≡ 0) where
       with_it : Slot → Task
       with_it s = record t { slot = s }
 
-  transmit_of-renamed : (d : Desk) (t : Task) (m : Parcel) (buffer amount : ℕ) (x : Sending) (n place : ℕ) (bytes : List ℕ) →
-      After (transmit_of d t m buffer amount x n place bytes) (transmit_of (renamed f d) (renamed_task f t) m buffer amount x n place (map f bytes))
-  transmit_of-renamed d t m buffer amount x n place bytes =
-      follows-by _ _ (found-by (renamed_task f) (task_at x.recipient d) _ NoTask (task_at-renamed f x.recipient d)) λ r.
-      follows-as _ _ _ _ (ap (λ b. refuse_if b BadRange) (reach-renamed t r buffer amount place n))
-      (follows-by _ _ (send_letter-renamed f (transmit_letter t.handle m (nat_lt n amount) buffer n) d) λ sent.
+  transmit_of-renamed : (d : Desk) (t : Task) (a : Transmit) (p : Part) (place : ℕ) (bytes : List ℕ) →
+      After (transmit_of d t a p place bytes) (transmit_of (renamed f d) (renamed_task f t) a p place (map f bytes))
+  transmit_of-renamed d t a p place bytes =
+      follows-by _ _ (found-by (renamed_task f) (task_at a.transfer.recipient d) _ NoTask (task_at-renamed f a.transfer.recipient d)) λ r.
+      follows-as _ _ _ _ (ap (λ b. refuse_if b BadRange) (reach-renamed t r a.buffer a.room place p.n))
+      (follows-by _ _ (send_letter-renamed f (transmit_letter t.handle a p) d) λ sent.
       Follows.both (
-      ap (λ (e : Desk). (with_sending t.handle (sender.sent x n amount (next_ref d)) e, outcome.Sent n (next_ref d)))
-      (with_task-renamed f r.handle _ _ sent (written-renamed buffer amount n x.count bytes))
-      ∙ edited t.handle _ _ _ (outcome.Sent n (next_ref d)) (λ u. refl)
+      ap (λ (e : Desk). (with_sending t.handle (sender.sent a p (next_ref d)) e, outcome.Sent p.n (next_ref d)))
+      (with_task-renamed f r.handle _ _ sent (written-renamed a.buffer a.room p.n p.offset bytes))
+      ∙ edited t.handle _ _ _ (outcome.Sent p.n (next_ref d)) (λ u. refl)
       ))
 
-  transmit-renamed : (d : Desk) (t : Task) (m : Parcel) (buffer amount : ℕ) (x : Sending) (source : Split Flex) →
-      After (transmit d t m buffer amount x source) (transmit (renamed f d) (renamed_task f t) m buffer amount x (renamed_here f source))
+  transmit-renamed : (d : Desk) (t : Task) (a : Transmit) (source : Split Flex) →
+      After (transmit d t a source) (transmit (renamed f d) (renamed_task f t) a (renamed_here f source))
   unfolding transmit
-  transmit-renamed d t m buffer amount x source =
-      subst (λ k. After here (there (min amount (k - x.count)) (flex_address (renamed_slot f t.slot) (renamed_here f source).before + x.count)))
+  transmit-renamed d t a source =
+      subst (λ k. After here (there (sender.part a k) (flex_address (renamed_slot f t.slot) (renamed_here f source).before + a.transfer.count)))
       (sym (length-map source.here.bytes f))
-      (subst (λ a. After here (there (portion x amount source) (a + x.count))) (sym (address-renamed f t.slot source.before))
-      (transmit_of-renamed d t m buffer amount x (portion x amount source) (flex_address t.slot source.before + x.count) source.here.bytes))
+      (subst (λ y. After here (there part (y + a.transfer.count))) (sym (address-renamed f t.slot source.before))
+      (transmit_of-renamed d t a part (flex_address t.slot source.before + a.transfer.count) source.here.bytes))
     where
-      here : Granted Handled
-      here = transmit_of d t m buffer amount x (portion x amount source) (flex_address t.slot source.before + x.count) source.here.bytes
+      part : Part
+      part = sender.part a (length source.here.bytes)
 
-      there : ℕ → ℕ → Granted Handled
-      there n place = transmit_of (renamed f d) (renamed_task f t) m buffer amount x n place (map f source.here.bytes)
+      here : Granted Handled
+      here = transmit_of d t a part (flex_address t.slot source.before + a.transfer.count) source.here.bytes
+
+      there : Part → ℕ → Granted Handled
+      there p place = transmit_of (renamed f d) (renamed_task f t) a p place (map f source.here.bytes)
 
   refused-renamed : (d : Desk) (t : Task) (x : Sending) (refusal : Refusal) → Same (refused d t x refusal) (refused (renamed f d) (renamed_task f t) x refusal)
   refused-renamed d t x refusal = edited t.handle _ _ d (outcome.Refused refusal) (λ u. refl)
-
-  answer_fetch-renamed : (d : Desk) (t : Task) (m : Parcel) (buffer amount : ℕ) (o : Option Sending) →
-      Same (answer_fetch d t m buffer amount o) (answer_fetch (renamed f d) (renamed_task f t) m buffer amount o)
-  unfolding answer_fetch
-  answer_fetch-renamed d t m buffer amount None = refl
-  answer_fetch-renamed d t m buffer amount (Some x) =
-      or_else-follows (By (renamed_with f)) _ _ (follows-by _ _
-      (slot_block-renamed f x.anchor t.slot) λ source. transmit-renamed d t m buffer amount x source) (refused-renamed d t x)
 
   fail_sending-renamed : (d : Desk) (t : Task) (o : Option Sending) → Same (fail_sending d t o) (fail_sending (renamed f d) (renamed_task f t) o)
   unfolding fail_sending
   fail_sending-renamed d t None = refl
   fail_sending-renamed d t (Some x) = edited t.handle _ _ d outcome.Failed (λ u. refl)
 
-  save_scrap_of-renamed : (d : Desk) (t : Task) (m : Parcel) (x : Sending) (n : ℕ) (bytes : List ℕ) →
-      After (save_scrap_of d t m x n bytes) (save_scrap_of (renamed f d) (renamed_task f t) m x n (map f bytes))
-  save_scrap_of-renamed d t m x n bytes =
+  save_scrap_of-renamed : (d : Desk) (t : Task) (a : SaveFile) (n : ℕ) (bytes : List ℕ) →
+      After (save_scrap_of d t a n bytes) (save_scrap_of (renamed f d) (renamed_task f t) a n (map f bytes))
+  save_scrap_of-renamed d t a n bytes =
       follows-as _ _ _ _ (ap (λ b. refuse_if b Busy) (some_scrap d.scrap))
       (follows-then _ _ _ (follows-as _ _ _ _ (ap (λ k. refuse_if (nat_lt k (scrap_shortage n d)) NoRoom) (free-renamed f d))
-      (follows-by _ _ (send_letter-renamed f (load_letter t.handle m n) (wider (scrap_shortage n d) d)) λ sent.
+      (follows-by _ _ (send_letter-renamed f (load_letter t.handle a n) (wider (scrap_shortage n d) d)) λ sent.
       Follows.both (edited t.handle _ _ (record sent { scrap = Some (record { load = next_ref d; bytes = bytes }) }) (outcome.Saved n (next_ref d))
       (λ u. refl)))))
     where
       some_scrap : (o : Option Scrap) → is_some (option_map (renamed_scrap f) o) ≡ is_some o
       some_scrap o = some-map (renamed_scrap f) o
 
-  save_scrap-renamed : (d : Desk) (t : Task) (m : Parcel) (x : Sending) (source : Split Flex) → After (save_scrap d t m x source) (save_scrap
-      (renamed f d) (renamed_task f t) m x (renamed_here f source))
+  save_scrap-renamed : (d : Desk) (t : Task) (a : SaveFile) (source : Split Flex) → After (save_scrap d t a source) (save_scrap
+      (renamed f d) (renamed_task f t) a (renamed_here f source))
   unfolding save_scrap
-  save_scrap-renamed d t m x source =
-      subst (λ n. After (save_scrap_of d t m x (length source.here.bytes) source.here.bytes) (save_scrap_of (renamed f d) (renamed_task f t) m x n
+  save_scrap-renamed d t a source =
+      subst (λ n. After (save_scrap_of d t a (length source.here.bytes) source.here.bytes) (save_scrap_of (renamed f d) (renamed_task f t) a n
       (map f source.here.bytes))) (sym (length-map source.here.bytes f))
-      (save_scrap_of-renamed d t m x (length source.here.bytes) source.here.bytes)
+      (save_scrap_of-renamed d t a (length source.here.bytes) source.here.bytes)
 
-  answer_ack-renamed : (d : Desk) (t : Task) (m : Parcel) (o : Option Sending) → Same (answer_ack d t m o) (answer_ack (renamed f d) (renamed_task f t) m o)
-  unfolding answer_ack
-  answer_ack-renamed d t m None = refl
-  answer_ack-renamed d t m (Some x) =
-      or_else-follows (By (renamed_with f)) _ _ (follows-by _ _ (slot_block-renamed f x.anchor t.slot) λ source. save_scrap-renamed d t m x source)
-      (refused-renamed d t x)
-
-  finish_load-renamed : (d : Desk) (t : Task) (o : Option Sending) → Same (finish_load d t o) (finish_load (renamed f d) (renamed_task f t) o)
-  unfolding finish_load
-  finish_load-renamed d t None = refl
-  finish_load-renamed d t (Some x) =
-      or_else-follows (By (renamed_with f)) _ _ (follows-by _ _ (slot_block-renamed f x.anchor t.slot) λ source.
+  send_with-renamed : (d : Desk) (t : Task) (a : SendAction) (source : Split Flex) → After (send_with d t a source) (send_with
+      (renamed f d) (renamed_task f t) a (renamed_here f source))
+  unfolding send_with
+  send_with-renamed d t (send_action.Transmit a) source = transmit-renamed d t a source
+  send_with-renamed d t (send_action.SaveFile a) source = save_scrap-renamed d t a source
+  send_with-renamed d t (send_action.Finish x) source =
       Follows.both (
       ap (λ (n : ℕ). (with_sending t.handle (sender.sending_loaded x n) (renamed f d), outcome.Done)) (length-map source.here.bytes f)
       ∙ edited t.handle _ _ d outcome.Done (λ u. refl)
-      )) (refused-renamed d t x)
+      )
+
+  perform_send-renamed : (d : Desk) (t : Task) (o : Option SendAction) → Same (perform_send d t o) (perform_send (renamed f d) (renamed_task f t) o)
+  unfolding perform_send
+  perform_send-renamed d t None = refl
+  perform_send-renamed d t (Some a) =
+      or_else-follows (By (renamed_with f)) _ _ (follows-by _ _ (slot_block-renamed f (sender.transfer_of a).anchor t.slot) λ source.
+      send_with-renamed d t a source) (refused-renamed d t (sender.transfer_of a))
 
   -- ---- the receiver
 
@@ -194,9 +193,9 @@ module _ (f : ℕ → ℕ) (zero-is : f 0 ≡ 0) where
       Same (taking_ended h x edit d, o) (taking_ended h x edit (renamed f d), o)
   ended-same h x edit d o = ap (λ (e : Desk). (e, o)) (ended-renamed h x edit d)
 
-  accept-renamed : (d : Desk) (t : Task) (m : Parcel) → After (accept d t m) (accept (renamed f d) (renamed_task f t) m)
+  accept-renamed : (d : Desk) (t : Task) (a : Claim) → After (accept d t a) (accept (renamed f d) (renamed_task f t) a)
   unfolding accept
-  accept-renamed d t m =
+  accept-renamed d t a =
       follows-equal _ _ _ _ (ap (λ o. found_or o AnchorInUse) (free_from-renamed f 0 anchor_count t.slot)) λ k.
       follows-by _ _ (where-free f d (λ n. slot_claim n t.buffer (renamed_slot f t.slot)) (slot_claim-renamed f zero-is (free_pages d) t.buffer t.slot)) λ b.
       follows-by _ _ (alloc k b) λ p.
@@ -212,7 +211,7 @@ module _ (f : ℕ → ℕ) (zero-is : f 0 ≡ 0) where
           (with_slot t.handle b.0 d)) k 0 b.0))
 
       letter : Slot × ℕ → Letter
-      letter b = fetch_letter t.handle m.message.from m.message.my_ref b.1 t.buffer
+      letter b = fetch_letter t.handle (receiver.first_fetch a b.1 t.buffer)
 
       send : (k : ℕ) (b p : Slot × ℕ) → Follows (By (renamed f)) (send_letter (letter b) (with_slot t.handle p.0 d)) (send_letter (letter b)
           (with_slot t.handle (renamed_slot f p.0) (renamed f d)))
@@ -220,12 +219,6 @@ module _ (f : ℕ → ℕ) (zero-is : f 0 ≡ 0) where
           subst (λ (e : Desk). Follows (By (renamed f)) (send_letter (letter b) (with_slot t.handle p.0 d)) (send_letter (letter b) e)) (sym
           (with_slot-renamed f t.handle p.0 d))
           (send_letter-renamed f (letter b) (with_slot t.handle p.0 d))
-
-  take_save-renamed : (d : Desk) (t : Task) (m : Parcel) → Same (take_save d t m) (take_save (renamed f d) (renamed_task f t) m)
-  unfolding take_save
-  take_save-renamed d t m =
-      chosen-both (By (renamed_with f)) (receiver.on_save (is_deaf t.manner) t.taking) _ _ _ _
-      (or_else-follows (By (renamed_with f)) _ _ (accept-renamed d t m) (λ refusal. refl)) refl
 
   appended-renamed : (d : Desk) (t : Task) (k : ℕ) (bytes : List ℕ) → Follows (By (renamed f)) (appended d t k bytes) (appended (renamed f d)
       (renamed_task f t) k (map f bytes))
@@ -253,98 +246,91 @@ module _ (f : ℕ → ℕ) (zero-is : f 0 ≡ 0) where
           (renamed_slot f s))) (sym (length-map document.here.bytes f))
           (slot_put-renamed f k (length document.here.bytes) bytes s)
 
-  fetch_more-renamed : (d : Desk) (t : Task) (m : Parcel) (x : Taking) (n : ℕ) → After (fetch_more d t m x n) (fetch_more (renamed f d)
-      (renamed_task f t) m x n)
+  fetch_more-renamed : (d : Desk) (t : Task) (a : Append) (b : Fetch) → After (fetch_more d t a b) (fetch_more (renamed f d) (renamed_task f t) a b)
   unfolding fetch_more
-  fetch_more-renamed d t m x n = follows-by _ _ (send_letter-renamed f _ d) λ sent. Follows.both (edited t.handle _ _ sent _ (λ u. refl))
+  fetch_more-renamed d t a b = follows-by _ _ (send_letter-renamed f _ d) λ sent. Follows.both (edited t.handle _ _ sent _ (λ u. refl))
 
-  took-renamed : (d : Desk) (t : Task) (m : Parcel) (x : Taking) (n : ℕ) → Same (took d t m x n) (took (renamed f d) (renamed_task f t) m x n)
+  took-renamed : (d : Desk) (t : Task) (a : Append) (b : Next) → Same (took d t a b) (took (renamed f d) (renamed_task f t) a b)
   unfolding took
-  took-renamed d t m x n =
-      chosen-both (By (renamed_with f)) (nat_lt n t.buffer) _ _ _ _ (ended-same t.handle x _ d _)
-      (or_else-follows (By (renamed_with f)) _ _ (fetch_more-renamed d t m x n) (λ refusal. ended-same t.handle x _ d _))
+  took-renamed d t a next_action.Finish = ended-same t.handle a.transfer _ d _
+  took-renamed d t a (next_action.Fetch b) =
+      or_else-follows (By (renamed_with f)) _ _ (fetch_more-renamed d t a b) (λ refusal. ended-same t.handle a.transfer _ d _)
 
-  take_bytes-renamed : (d : Desk) (t : Task) (m : Parcel) (n : ℕ) (o : Option Incoming) → Same (take_bytes d t m n o) (take_bytes (renamed f d)
-      (renamed_task f t) m n o)
-  unfolding take_bytes
-  take_bytes-renamed d t m n (Some (incoming.Fetching x)) =
-      or_else-follows (By (renamed_with f)) _ _
-      (follows-same _ _ _ λ _. follows-by _ _ document λ longer. Follows.both (took-renamed longer t m x n))
+  append-renamed : (d : Desk) (t : Task) (a : Append) → Same (append d t a) (append (renamed f d) (renamed_task f t) a)
+  unfolding append
+  append-renamed d t a =
+      or_else-follows (By (renamed_with f)) _ _ (follows-by _ _ document λ longer. Follows.both (took-renamed longer t a a.next))
       (λ refusal. ended-same t.handle x _ d _)
     where
-      document : Follows (By (renamed f)) (appended d t x.anchor (first_bytes n (heap_block_at x.buffer t.slot))) (appended (renamed f d)
-          (renamed_task f t) x.anchor (first_bytes n (heap_block_at x.buffer (renamed_slot f t.slot))))
-      document =
-          subst (λ bytes. Follows (By (renamed f)) (appended d t x.anchor (first_bytes n (heap_block_at x.buffer t.slot))) (appended (renamed f d)
-          (renamed_task f t) x.anchor bytes))
-          (sym (ap (first_bytes n) (heap_block_at-renamed f x.buffer t.slot) ∙ first_bytes-renamed f n (heap_block_at x.buffer t.slot)))
-          (appended-renamed d t x.anchor (first_bytes n (heap_block_at x.buffer t.slot)))
-  take_bytes-renamed d t m n (Some (incoming.Draining x)) = ended-same t.handle x _ d _
-  take_bytes-renamed d t m n (Some (incoming.Asking q)) = refl
-  take_bytes-renamed d t m n (Some (incoming.Done id anchor count)) = refl
-  take_bytes-renamed d t m n (Some (incoming.Failed id anchor count)) = refl
-  take_bytes-renamed d t m n None = refl
+      x : Taking
+      x = a.transfer
 
-  -- ---- the scrap file
+      document : Follows (By (renamed f)) (appended d t x.anchor (first_bytes a.n (heap_block_at x.buffer t.slot))) (appended (renamed f d)
+          (renamed_task f t) x.anchor (first_bytes a.n (heap_block_at x.buffer (renamed_slot f t.slot))))
+      document =
+          subst (λ bytes. Follows (By (renamed f)) (appended d t x.anchor (first_bytes a.n (heap_block_at x.buffer t.slot))) (appended (renamed f d)
+          (renamed_task f t) x.anchor bytes))
+          (sym (ap (first_bytes a.n) (heap_block_at-renamed f x.buffer t.slot) ∙ first_bytes-renamed f a.n (heap_block_at x.buffer t.slot)))
+          (appended-renamed d t x.anchor (first_bytes a.n (heap_block_at x.buffer t.slot)))
+
+  -- ---- the receiver's side of the scrap file
 
   ask-renamed : (d : Desk) (t : Task) (x : Taking) → After (ask d t x) (ask (renamed f d) (renamed_task f t) x)
   unfolding ask
   ask-renamed d t x = follows-by _ _ (send_letter-renamed f _ d) λ sent. Follows.both (ended-same t.handle x _ sent _)
-
-  fetch_back-renamed : (d : Desk) (t : Task) (o : Option Incoming) → Same (fetch_back d t o) (fetch_back (renamed f d) (renamed_task f t) o)
-  unfolding fetch_back
-  fetch_back-renamed d t (Some (incoming.Fetching x)) =
-      chosen-both (By (renamed_with f)) (x.count == 0) _ _ _ _
-      (or_else-follows (By (renamed_with f)) _ _ (ask-renamed d t x) (λ refusal. ended-same t.handle x _ d _)) (ended-same t.handle x _ d _)
-  fetch_back-renamed d t (Some (incoming.Draining x)) = ended-same t.handle x _ d _
-  fetch_back-renamed d t (Some (incoming.Asking q)) = refl
-  fetch_back-renamed d t (Some (incoming.Done id anchor count)) = refl
-  fetch_back-renamed d t (Some (incoming.Failed id anchor count)) = refl
-  fetch_back-renamed d t None = refl
 
   ack_back-renamed : (d : Desk) (t : Task) (o : Option Asked) → Same (ack_back d t o) (ack_back (renamed f d) (renamed_task f t) o)
   unfolding ack_back
   ack_back-renamed d t None = refl
   ack_back-renamed d t (Some q) = edited t.handle _ _ d outcome.Failed (λ u. refl)
 
-  loaded-renamed : (d : Desk) (t : Task) (m : Parcel) (q : Asked) (n : ℕ) → Same (loaded d t m q n) (loaded (renamed f d) (renamed_task f t) m q n)
+  loaded-renamed : (d : Desk) (t : Task) (a : LoadFile) (n : ℕ) → Same (loaded d t a n) (loaded (renamed f d) (renamed_task f t) a n)
   unfolding loaded
-  loaded-renamed d t m q n =
+  loaded-renamed d t a n =
       or_else-follows (By (renamed_with f)) _ _
       (follows-by _ _ (send_letter-renamed f _ d) λ sent. Follows.both (edited t.handle _ _ sent _ (λ u. refl)))
       (λ refusal. edited t.handle _ _ d _ (λ u. refl))
 
-  load_file-renamed : (d : Desk) (t : Task) (m : Parcel) (q : Asked) (o : Option Scrap) → Same (load_file d t m q o) (load_file (renamed f d)
-      (renamed_task f t) m q (option_map (renamed_scrap f) o))
+  load_file-renamed : (d : Desk) (t : Task) (a : LoadFile) (o : Option Scrap) → Same (load_file d t a o) (load_file (renamed f d)
+      (renamed_task f t) a (option_map (renamed_scrap f) o))
   unfolding load_file
-  load_file-renamed d t m q None = refl
-  load_file-renamed d t m q (Some file) =
-      chosen-both (By (renamed_with f)) (file.load == m.message.my_ref) _ _ _ _
+  load_file-renamed d t a None = refl
+  load_file-renamed d t a (Some file) =
+      chosen-both (By (renamed_with f)) (file.load == a.answers) _ _ _ _
       (or_else-follows (By (renamed_with f)) _ _
-      (follows-by _ _ (appended-renamed d t q.anchor file.bytes) λ longer.
+      (follows-by _ _ (appended-renamed d t a.transfer.anchor file.bytes) λ longer.
       Follows.both (
-      ap (λ n. loaded (record (renamed f longer) { scrap = None }) (renamed_task f t) m q n) (length-map file.bytes f)
-      ∙ loaded-renamed (record longer { scrap = None }) t m q (length file.bytes)
+      ap (λ n. loaded (record (renamed f longer) { scrap = None }) (renamed_task f t) a n) (length-map file.bytes f)
+      ∙ loaded-renamed (record longer { scrap = None }) t a (length file.bytes)
       ))
       (λ refusal. edited t.handle _ _ d _ (λ u. refl)))
       refl
 
-  take_file-renamed : (d : Desk) (t : Task) (m : Parcel) (o : Option Asked) → Same (take_file d t m o) (take_file (renamed f d) (renamed_task f t) m o)
-  unfolding take_file
-  take_file-renamed d t m None = refl
-  take_file-renamed d t m (Some q) = load_file-renamed d t m q d.scrap
+  take_with-renamed : (d : Desk) (t : Task) (a : TakeAction) → Same (take_with d t a) (take_with (renamed f d) (renamed_task f t) a)
+  unfolding take_with
+  take_with-renamed d t (take_action.Claim a) = or_else-follows (By (renamed_with f)) _ _ (accept-renamed d t a) (λ refusal. refl)
+  take_with-renamed d t (take_action.Append a) = append-renamed d t a
+  take_with-renamed d t (take_action.AskForFile x) =
+      or_else-follows (By (renamed_with f)) _ _ (ask-renamed d t x) (λ refusal. ended-same t.handle x _ d _)
+  take_with-renamed d t (take_action.LoadFile a) = load_file-renamed d t a d.scrap
+  take_with-renamed d t (take_action.Release a) = ended-same t.handle a.transfer _ d _
+
+  perform_take-renamed : (d : Desk) (t : Task) (o : Option TakeAction) → Same (perform_take d t o) (perform_take (renamed f d) (renamed_task f t) o)
+  unfolding perform_take
+  perform_take-renamed d t None = refl
+  perform_take-renamed d t (Some a) = take_with-renamed d t a
 
   -- ---- one message
 
   came-renamed : (d : Desk) (t : Task) (m : Parcel) (body : Body) → Same (came d t m body) (came (renamed f d) (renamed_task f t) m body)
   unfolding came
-  came-renamed d t m (DataSave file) = take_save-renamed d t m
-  came-renamed d t m (DataSaveAck file) = answer_ack-renamed d t m _
-  came-renamed d t m (DataLoad file) = take_file-renamed d t m _
-  came-renamed d t m (DataLoadAck file) = finish_load-renamed d t _
+  came-renamed d t m (DataSave file) = perform_take-renamed d t _
+  came-renamed d t m (DataSaveAck file) = perform_send-renamed d t _
+  came-renamed d t m (DataLoad file) = perform_take-renamed d t _
+  came-renamed d t m (DataLoadAck file) = perform_send-renamed d t _
   came-renamed d t m (RamFetch buffer amount) =
-      chosen-both (By (renamed_with f)) (answers_none t.manner) _ _ _ _ refl (answer_fetch-renamed d t m buffer amount _)
-  came-renamed d t m (RamTransmit buffer n) = take_bytes-renamed d t m n _
+      chosen-both (By (renamed_with f)) (answers_none t.manner) _ _ _ _ refl (perform_send-renamed d t _)
+  came-renamed d t m (RamTransmit buffer n) = perform_take-renamed d t _
 
   came_back-renamed : (d : Desk) (t : Task) (m : Parcel) (body : Body) → Same (came_back d t m body) (came_back (renamed f d) (renamed_task f t) m body)
   unfolding came_back
@@ -352,7 +338,7 @@ module _ (f : ℕ → ℕ) (zero-is : f 0 ≡ 0) where
   came_back-renamed d t m (DataSaveAck file) = ack_back-renamed d t _
   came_back-renamed d t m (DataLoad file) = fail_sending-renamed d t _
   came_back-renamed d t m (DataLoadAck file) = refl
-  came_back-renamed d t m (RamFetch buffer amount) = fetch_back-renamed d t _
+  came_back-renamed d t m (RamFetch buffer amount) = perform_take-renamed d t _
   came_back-renamed d t m (RamTransmit buffer n) = fail_sending-renamed d t _
 
   handled-renamed : (d : Desk) (t : Task) (m : Parcel) (code : EventCode) → Same (handled d t m code) (handled (renamed f d) (renamed_task f t) m code)

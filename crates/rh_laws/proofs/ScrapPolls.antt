@@ -1,14 +1,17 @@
 -- A poll of a task by its name, where the post has one message at most: what is seen of the desk then.
 use Rattle.rh_laws.proofs.Common.{◌≡◌, ℕ, Bool, true, false, List, [], ◌∷◌, Option, Some, None, refl, sym, ap, ◌∙◌, subst, length, if◌then◌else◌, find}
-use Rattle.rh_laws.proofs.Common.{option_map, EventCode, User, Recorded, Acknowledge, Sending, Taking, Asked, is_name, IsDesk, Parcel, action_of, Post}
-use Rattle.rh_laws.proofs.Common.{post_poll, Desk, Task, Scrap, has_name, with_delivered, Handled, ignored, answer_ack, finish_load, fetch_back, take_file}
-use Rattle.rh_laws.proofs.Common.{answers_none, Answer, event, poll_taken, step, step-keeps, view, seen_parcel, task_of, Message, none_some, put_same}
-use Rattle.rh_laws.proofs.Common.{field_is, found_task, live_of, fits}
+use Rattle.rh_laws.proofs.Common.{option_map, ◌==◌, eq-eqb, EventCode, User, Recorded, Acknowledge, Sending, Taking, Asked, SendAction, TakeAction}
+use Rattle.rh_laws.proofs.Common.{is_name, IsDesk, Parcel, action_of, Post, active_of, asking_of, open_of, post_poll, Desk, Task, Scrap, has_name}
+use Rattle.rh_laws.proofs.Common.{with_delivered, Handled, ignored, perform_send, perform_take, answers_none, Answer, event, poll_taken, step}
+use Rattle.rh_laws.proofs.Common.{step-keeps, view, seen_parcel, task_of, Message, none_some, put_same, field_is, found_task, live_of, fits}
 use Rattle.rh_defs.specs.declared.command.Command.TheVariants as command
 use Rattle.rh_defs.specs.declared.message.Action.{Action}
 use Rattle.rh_defs.specs.declared.message.Action.TheVariants as action
 use Rattle.rh_defs.specs.declared.transfer.Outgoing.TheVariants as outgoing
 use Rattle.rh_defs.specs.declared.transfer.Incoming.TheVariants as incoming
+use Rattle.rh_defs.specs.declared.transfer_action.Ending.TheVariants as ending
+use Rattle.rh_defs.specs.declared.transfer_action.SendAction.TheVariants as send_action
+use Rattle.rh_defs.specs.declared.transfer_action.TakeAction.TheVariants as take_action
 use Rattle.rh_defs.specs.Post.{post_is_live}
 use Rattle.rh_defs.specs.Sender as sender
 use Rattle.rh_defs.specs.Receiver as receiver
@@ -106,7 +109,7 @@ module _ (e : Desk) (t : Task) (p : Parcel) where
 
   -- a fetch that came back
   back_handled : (c : EventCode) → c ≡ Acknowledge → action_of p.message.body ≡ action.RamFetch →
-      transfer.handled e t p c ≡ fetch_back e t (receiver.on_taking_bounce p.message.my_ref t.taking)
+      transfer.handled e t p c ≡ perform_take e t (receiver.on_taking_bounce p.message.my_ref t.taking)
   unfolding transfer.handled
   back_handled User q kind = absurd (let z : User ≡ Acknowledge = q in (cc))
   back_handled Recorded q kind = absurd (let z : Recorded ≡ Acknowledge = q in (cc))
@@ -137,19 +140,26 @@ ignored_turn d h m a (takes e t p is taken keeps) code kind file =
     ap (λ (b : Bool). if b then Some (ignored e) else None) none) in
     ap (λ (z : Handled). sight.lost (view z.0)) same ∙ seen
 
+-- what a first fetch that came back asks for
+back_asks : (f : Taking) → f.count ≡ 0 → receiver.back_for (incoming.Fetching f) ≡ Some (take_action.AskForFile f)
+back_asks f none = ap (λ (b : Bool). Option.Some (if b then take_action.AskForFile f else take_action.Release (record {
+  transfer = f;
+  ending = ending.Unanswered;
+}))) (eq-eqb f.count 0 none)
+
 -- a first fetch that came back
 pub asked_turn : (d : Desk) (h : ℕ) (m : Message) (a : Answer) → Turn d h m a → is_refused_poll a.1 ≡ false →
     m.code ≡ Acknowledge → m.letter.kind ≡ action.RamFetch → (f : Taking) → f.count ≡ 0 →
-    receiver.on_taking_bounce m.letter.me ((view d).taking h) ≡ Some (incoming.Fetching f) →
+    active_of (λ k. k.fetch == m.letter.me) ((view d).taking h) ≡ Some (incoming.Fetching f) →
     sight.lost (view a.0) ≡ sight.asked (sight.picked (sight.lost (view d)) h m Acknowledge) h f
 asked_turn d h m a (takes e t p is taken keeps) granted code kind f none found =
     let seen = taken ∙ ap (sight.picked (sight.lost (view d)) t.handle (seen_parcel p)) code in
     let records : t.taking ≡ (view d).taking t.handle = sym (field_is (λ y. y.taking) [] t.handle e.tasks t is) ∙
     ap (λ (y : sight.Desk). y.taking t.handle) seen in
-    let same = back_handled e t p p.code code kind ∙ ap (fetch_back e t) (ap (receiver.on_taking_bounce p.message.my_ref)
-    records ∙ found) in
+    let same = back_handled e t p p.code code kind ∙ ap (perform_take e t) (ap (receiver.on_taking_bounce p.message.my_ref)
+    records ∙ ap (receiver.of_record receiver.back_for) found ∙ back_asks f none) in
     ap (λ (z : Handled). sight.lost (view z.0)) same ∙
-    ap sight.lost (asked_view e t p p.message.body is f none (granted_by e t p _ action.RamFetch same kind granted)) ∙
+    ap sight.lost (asked_view e t p p.message.body is f (granted_by e t p _ action.RamFetch same kind granted)) ∙
     ap (λ (y : sight.Desk). sight.asked y t.handle f) seen
 
 -- a DataSaveAck
@@ -173,16 +183,17 @@ file_of (Some file) load bytes q =
 
 pub filed_turn : (d : Desk) (h : ℕ) (m : Message) (a : Answer) → Turn d h m a → is_refused_poll a.1 ≡ false →
     m.code ≡ Recorded → m.letter.kind ≡ action.DataSaveAck → (x : Sending) (bytes : List ℕ) →
-    sender.on_ack m.letter.from m.letter.answers ((view d).sending h) ≡ Some x → m.letter.from ≡ x.recipient →
+    open_of (sender.asks_for m.letter.from m.letter.answers) ((view d).sending h) ≡ Some x → m.letter.from ≡ x.recipient →
     (view d).block h x.anchor ≡ Some bytes → FileMade d h m x bytes a.0
 filed_turn d h m a (takes e t p is taken keeps) granted code kind x bytes found from there =
     let l : Letter = (seen_parcel p).letter in
     let seen = taken ∙ ap (sight.picked (sight.lost (view d)) t.handle (seen_parcel p)) code in
     let records : t.sending ≡ (view d).sending t.handle = sym (field_is (λ y. y.sending) [] t.handle e.tasks t is) ∙
     ap (λ (y : sight.Desk). y.sending t.handle) seen in
-    let same = came_handled e t p p.code (recorded_came p.code code) (answer_ack e t p (Some x)) (ap (came_as e t p)
-    kind ∙ ap (λ (o : Option Sending). Option.Some (answer_ack e t p o)) (ap (sender.on_ack p.message.from
-    p.message.your_ref) records ∙ found)) in
+    let act : Sending → SendAction = sender.file_for p.message.from p.message.my_ref in
+    let same = came_handled e t p p.code (recorded_came p.code code) (perform_send e t (Some (act x))) (ap (came_as e t p)
+    kind ∙ ap (λ (o : Option Sending). Option.Some (perform_send e t (option_map act o))) (ap (open_of (sender.asks_for
+    p.message.from p.message.your_ref)) records ∙ found)) in
     let block = ap (λ (y : sight.Desk). y.block t.handle x.anchor) seen ∙ there in
     let v = filed_view e t p p.message.body is x bytes from block (granted_by e t p _ action.DataSaveAck same kind
     granted) in
@@ -200,7 +211,7 @@ filed_turn d h m a (takes e t p is taken keeps) granted code kind x bytes found 
 -- a DataLoad of the scrap file
 pub told_turn : (d : Desk) (h : ℕ) (m : Message) (a : Answer) → Turn d h m a → is_refused_poll a.1 ≡ false →
     m.code ≡ Recorded → m.letter.kind ≡ action.DataLoad → (q : Asked) (file : Scrap) → d.scrap ≡ Some file →
-    file.load ≡ m.letter.me → receiver.on_load m.letter.from m.letter.answers ((view d).taking h) ≡ Some q →
+    file.load ≡ m.letter.me → asking_of (receiver.is_load m.letter.from m.letter.answers) ((view d).taking h) ≡ Some q →
     m.letter.from ≡ q.sender → sight.lost (view a.0) ≡ sight.lost (sight.told (sight.copied (sight.picked
     (sight.lost (view d)) h m Recorded) h q file.bytes) h m.letter q (length file.bytes))
 told_turn d h m a (takes e t p is taken keeps) granted code kind q file there load found from =
@@ -209,9 +220,10 @@ told_turn d h m a (takes e t p is taken keeps) granted code kind q file there lo
     let seen = taken ∙ ap (sight.picked (sight.lost (view d)) t.handle (seen_parcel p)) code in
     let records : t.taking ≡ (view d).taking t.handle = sym (field_is (λ y. y.taking) [] t.handle e.tasks t is) ∙
     ap (λ (y : sight.Desk). y.taking t.handle) seen in
-    let same = came_handled e t p p.code (recorded_came p.code code) (take_file e t p (Some q)) (ap (came_as e t p)
-    kind ∙ ap (λ (o : Option Asked). Option.Some (take_file e t p o)) (ap (receiver.on_load p.message.from
-    p.message.your_ref) records ∙ found)) in
+    let act : Asked → TakeAction = receiver.load_for p.message.from p.message.my_ref in
+    let same = came_handled e t p p.code (recorded_came p.code code) (perform_take e t (Some (act q))) (ap (came_as e t p)
+    kind ∙ ap (λ (o : Option Asked). Option.Some (perform_take e t (option_map act o))) (ap (asking_of (receiver.is_load
+    p.message.from p.message.your_ref)) records ∙ found)) in
     ap (λ (z : Handled). sight.lost (view z.0)) same ∙
     ap sight.lost (told_view e t p p.message.body is q file (keeps file there code load) load from (granted_by e t p _
     action.DataLoad same kind granted)) ∙
@@ -220,16 +232,16 @@ told_turn d h m a (takes e t p is taken keeps) granted code kind q file there lo
 -- a DataLoadAck
 pub done_turn : (d : Desk) (h : ℕ) (m : Message) (a : Answer) → Turn d h m a → is_refused_poll a.1 ≡ false →
     m.code ≡ User → m.letter.kind ≡ action.DataLoadAck → (x : Sending) (bytes : List ℕ) →
-    sender.on_load_ack m.letter.from m.letter.answers ((view d).sending h) ≡ Some x →
+    open_of (sender.is_loaded m.letter.from m.letter.answers) ((view d).sending h) ≡ Some x →
     (view d).block h x.anchor ≡ Some bytes → sight.lost (view a.0) ≡ sight.with_out (sight.picked (sight.lost
     (view d)) h m User) h x (outgoing.Done x.id (length bytes))
 done_turn d h m a (takes e t p is taken keeps) granted code kind x bytes found there =
     let seen = taken ∙ ap (sight.picked (sight.lost (view d)) t.handle (seen_parcel p)) code in
     let records : t.sending ≡ (view d).sending t.handle = sym (field_is (λ y. y.sending) [] t.handle e.tasks t is) ∙
     ap (λ (y : sight.Desk). y.sending t.handle) seen in
-    let same = came_handled e t p p.code (user_came p.code code) (finish_load e t (Some x)) (ap (came_as e t p) kind ∙
-    ap (λ (o : Option Sending). Option.Some (finish_load e t o)) (ap (sender.on_load_ack p.message.from
-    p.message.your_ref) records ∙ found)) in
+    let same = came_handled e t p p.code (user_came p.code code) (perform_send e t (Some (send_action.Finish x)))
+    (ap (came_as e t p) kind ∙ ap (λ (o : Option Sending). Option.Some (perform_send e t (option_map send_action.Finish o)))
+    (ap (open_of (sender.is_loaded p.message.from p.message.your_ref)) records ∙ found)) in
     let block = ap (λ (y : sight.Desk). y.block t.handle x.anchor) seen ∙ there in
     ap (λ (z : Handled). sight.lost (view z.0)) same ∙
     ap sight.lost (done_view e t p p.message.body is x bytes block (granted_by e t p _ action.DataLoadAck same kind

@@ -1,13 +1,14 @@
 -- Worked runs by way of the scrap file, and one with a definition changed, on which the alternation fails.
-use Rattle.rh_laws.proofs.Common.{◌≡◌, refl, ℕ, List, [], ◌∷◌, length, map, codes, true, Option, Some, None, Ok, String, Outcome, Reply, Command, Outgoing}
-use Rattle.rh_laws.proofs.Common.{Incoming, Asked, ◌>>=◌, or_else, Desk, Task, Scrap, task_at, with_taking, Handled, ignored, appended, after, replies, Rules}
-use Rattle.rh_laws.proofs.Common.{landed, run_of}
+use Rattle.rh_laws.proofs.Common.{◌≡◌, refl, ℕ, List, [], ◌∷◌, length, map, codes, true, Option, Some, None, Ok, String, Outcome, Reply, Command}
+use Rattle.rh_laws.proofs.Common.{Outgoing, Incoming, TakeAction, ◌>>=◌, or_else, Desk, Task, Scrap, task_at, with_taking, Handled, ignored, appended}
+use Rattle.rh_laws.proofs.Common.{after, replies, Rules, landed, run_of}
 use Rattle.rh_defs.specs.declared.reply.Outcome.TheVariants as outcome
 use Rattle.rh_defs.specs.declared.reply.Reply.TheVariants as reply
 use Rattle.rh_defs.specs.declared.command.Command.TheVariants as command
 use Rattle.rh_defs.specs.declared.command.Manner.TheVariants as manner
 use Rattle.rh_defs.specs.declared.transfer.Outgoing.TheVariants as outgoing
 use Rattle.rh_defs.specs.declared.transfer.Incoming.TheVariants as incoming
+use Rattle.rh_defs.specs.declared.transfer_action.TakeAction.TheVariants as take_action
 use Rattle.rh_defs.specs.Receiver as receiver
 use Rattle.rh_defs.specs.Script
 use Rattle.rh_defs.specs.Runs as runs
@@ -67,19 +68,19 @@ both_done = refl
 
 -- ---- a receiver that loads the file, and does not tell its sender
 
-abbrev loads_untold : Desk → Task → Option Asked → Option Scrap → Handled
-loads_untold d t None file = ignored d
-loads_untold d t (Some q) None = ignored d
-loads_untold d t (Some q) (Some file) =
-    or_else (appended d t q.anchor file.bytes >>= λ longer. Ok (
-      with_taking t.handle (receiver.taking_loaded q (length file.bytes)) (record longer { scrap = None }),
+abbrev loads_untold : Desk → Task → Option TakeAction → Option Scrap → Handled
+loads_untold d t (Some (take_action.LoadFile a)) (Some file) =
+    or_else (appended d t a.transfer.anchor file.bytes >>= λ longer. Ok (
+      with_taking t.handle (receiver.taking_loaded a.transfer (length file.bytes)) (record longer { scrap = None }),
       outcome.Loaded (length file.bytes),
     ))
-    (λ refusal. (with_taking t.handle (receiver.abandoned q 0) d, outcome.Refused refusal))
+    (λ refusal. (with_taking t.handle (receiver.abandoned a.transfer 0) d, outcome.Refused refusal))
+loads_untold d t _ _ = ignored d
 
 abbrev untold : Rules
 untold = record landed {
-  takes_file = λ d t m. loads_untold d t (receiver.on_load m.message.from m.message.your_ref t.taking) d.scrap;
+  takes_file = λ d t m. loads_untold d t (receiver.on_load m.message.from m.message.my_ref m.message.your_ref t.taking)
+      d.scrap;
 }
 
 -- after the save eight polls in turn, none of which is refused anything

@@ -1,14 +1,16 @@
 -- What the messages of a transfer by way of the scrap file make of what is seen of the desk, where nothing is refused.
-use Rattle.rh_laws.proofs.Common.{◌≡◌, ℕ, Bool, true, false, List, ◌++◌, length, Option, Some, None, refl, sym, ap, ◌∙◌, subst, nat_eq, if◌then◌else◌, eq-eqb}
-use Rattle.rh_laws.proofs.Common.{Body, Sending, Taking, Asked, slot_block, Parcel, action_of, load_ack_letter, Desk, Task, Scrap, next_ref, send_letter}
-use Rattle.rh_laws.proofs.Common.{Handled, ignored, save_scrap, answer_ack, finish_load, ask, fetch_back, appended, loaded, load_file, take_file}
-use Rattle.rh_laws.proofs.Common.{answers_none, view, blocks_of, task_of, either, none_some, same_value, field_is, live_of, ok_is}
+use Rattle.rh_laws.proofs.Common.{◌≡◌, ℕ, Bool, true, false, List, ◌++◌, length, Option, Some, None, refl, sym, ap, ◌∙◌, subst, nat_eq, if◌then◌else◌}
+use Rattle.rh_laws.proofs.Common.{eq-eqb, Body, Sending, Taking, Asked, SaveFile, LoadFile, slot_block, Parcel, action_of, load_ack_letter, Desk, Task}
+use Rattle.rh_laws.proofs.Common.{Scrap, next_ref, send_letter, Handled, ignored, save_scrap, send_with, perform_send, ask, appended, loaded, load_file}
+use Rattle.rh_laws.proofs.Common.{take_with, perform_take, answers_none, view, blocks_of, task_of, either, none_some, same_value, field_is, live_of}
+use Rattle.rh_laws.proofs.Common.{ok_is}
 use Rattle.rh_defs.specs.declared.message.Action.{Action}
 use Rattle.rh_defs.specs.declared.message.Action.TheVariants as action
 use Rattle.rh_defs.specs.declared.message.Body.TheVariants as body
 use Rattle.rh_defs.specs.declared.reply.Outcome.TheVariants as outcome
 use Rattle.rh_defs.specs.declared.transfer.Outgoing.TheVariants as outgoing
-use Rattle.rh_defs.specs.declared.transfer.Incoming.TheVariants as incoming
+use Rattle.rh_defs.specs.declared.transfer_action.SendAction.TheVariants as send_action
+use Rattle.rh_defs.specs.declared.transfer_action.TakeAction.TheVariants as take_action
 use Rattle.rh_defs.specs.Letters.{ack_letter, load_letter}
 use Rattle.rh_defs.specs.Sender as sender
 use Rattle.rh_defs.specs.Receiver as receiver
@@ -28,10 +30,11 @@ use Rattle.rh_safety.proofs.SeenDocuments.{letter_of, ended_view, IsLonger, long
 -- of a message that came, where the action alone tells it
 abbrev pub came_as : Desk → Task → Parcel → Action → Option Handled
 came_as d t m action.DataSaveAck =
-    Some (answer_ack d t m (sender.on_ack m.message.from m.message.your_ref t.sending))
-came_as d t m action.DataLoad = Some (take_file d t m (receiver.on_load m.message.from m.message.your_ref t.taking))
+    Some (perform_send d t (sender.on_ack m.message.from m.message.my_ref m.message.your_ref t.sending))
+came_as d t m action.DataLoad =
+    Some (perform_take d t (receiver.on_load m.message.from m.message.my_ref m.message.your_ref t.taking))
 came_as d t m action.DataLoadAck =
-    Some (finish_load d t (sender.on_load_ack m.message.from m.message.your_ref t.sending))
+    Some (perform_send d t (sender.on_load_ack m.message.from m.message.your_ref t.sending))
 came_as d t m action.RamFetch = if answers_none t.manner then Some (ignored d) else None
 came_as d t m _ = None
 
@@ -54,7 +57,7 @@ came_is d t m (body.RamFetch a n) x q = go (answers_none t.manner) refl q
     go false e s = absurd (none_some None refl s)
 
 pub back_is : (d : Desk) (t : Task) (m : Parcel) (b : Body) → action_of b ≡ action.RamFetch →
-    transfer.came_back d t m b ≡ fetch_back d t (receiver.on_taking_bounce m.message.my_ref t.taking)
+    transfer.came_back d t m b ≡ perform_take d t (receiver.on_taking_bounce m.message.my_ref t.taking)
 unfolding transfer.came_back
 back_is d t m (body.RamFetch a n) q = refl
 back_is d t m (body.DataSave f) q = absurd (let z : action.DataSave ≡ action.RamFetch = q in (cc))
@@ -88,15 +91,14 @@ module _ (d : Desk) (t : Task) (m : Parcel) (b : Body) (is : task_of t.handle d.
   Leaves a after x = is_refusal a x.1 ≡ false → view x.0 ≡ after
 
   -- a first fetch came back: the sender is asked for a file
-  pub asked_view : (f : Taking) → f.count ≡ 0 →
-      Leaves action.RamFetch (sight.asked (view d) h f) (fetch_back d t (Some (incoming.Fetching f)))
-  unfolding fetch_back ask
-  asked_view f none =
+  pub asked_view : (f : Taking) →
+      Leaves action.RamFetch (sight.asked (view d) h f) (perform_take d t (Some (take_action.AskForFile f)))
+  unfolding perform_take take_with ask
+  asked_view f =
       let P : Handled → Type 0 = Leaves action.RamFetch (sight.asked (view d) h f) in
-      either P (nat_eq f.count 0) _ _
-      (λ e. by_grant P _ _
-      (λ x z. with_step (send_letter (ack_letter h f.sender f.id) d) _ x z (λ sent e1 z1.
-      let v = sent_view d sent (ack_letter h f.sender f.id) e1 live in
+      by_grant P _ _
+      (λ x z. with_step (send_letter (ack_letter h f) d) _ x z (λ sent e1 z1.
+      let v = sent_view d sent (ack_letter h f) e1 live in
       let edit = receiver.asking f (next_ref d) in
       subst P (ok_is _ x z1) (λ granted.
       ended_view sent h f edit (ap (λ (y : sight.Desk). y.live h) v ∙ live) ∙
@@ -105,26 +107,27 @@ module _ (d : Desk) (t : Task) (m : Parcel) (b : Body) (is : task_of t.handle d.
         taking = put y.taking h (edit (y.taking h));
       }) v)))
       (λ refusal z granted. absurd (let y : is_refusal action.RamFetch (outcome.Refused refusal) ≡ false = granted in
-      (cc))))
-      (λ some. absurd (both_ways (nat_eq f.count 0) (eq-eqb _ _ none) some))
+      (cc)))
 
   -- a DataSaveAck: the source becomes the scrap file
   pub filed_view : (x : Sending) (bytes : List ℕ) → m.message.from ≡ x.recipient →
       (view d).block h x.anchor ≡ Some bytes →
-      Leaves action.DataSaveAck (sight.filed (view d) h l x bytes) (answer_ack d t m (Some x))
-  unfolding answer_ack save_scrap
+      Leaves action.DataSaveAck (sight.filed (view d) h l x bytes)
+      (perform_send d t (Some (sender.file_for m.message.from m.message.my_ref x)))
+  unfolding perform_send send_with save_scrap
   filed_view x bytes from there =
       let P : Handled → Type 0 = Leaves action.DataSaveAck (sight.filed (view d) h l x bytes) in
+      let file_action : SaveFile = record { transfer = x; to = m.message.from; answers = m.message.my_ref } in
       by_grant P _ _
       (λ y z. with_step (slot_block x.anchor t.slot) _ y z (λ s e1 z1.
       let n : ℕ = length s.here.bytes in
       let after : Desk = wider (scrap_shortage n d) d in
-      let letter = load_letter h m n in
+      let letter = load_letter h file_action n in
       with_step (send_letter letter after) _ y (from_test _ _ y (from_test _ _ y (from_test _ _ y z1)))
       (λ sent e2 z2.
       let v : view sent ≡ sight.sent (view d) h (seen_letter letter d.post.next_ref) = sent_view after sent letter e2
       live in
-      let edit = sender.saved x (next_ref d) in
+      let edit = sender.saved file_action (next_ref d) in
       let file : sight.Scrap = record { load = next_ref d; bytes = s.here.bytes } in
       let same : s.here.bytes ≡ bytes = same_value ((view d).block h x.anchor)
       (block_seen x.anchor ∙ block_there x.anchor t.slot s e1) there in
@@ -142,8 +145,8 @@ module _ (d : Desk) (t : Task) (m : Parcel) (b : Body) (is : task_of t.handle d.
   -- a DataLoadAck: all of the source was loaded
   pub done_view : (x : Sending) (bytes : List ℕ) → (view d).block h x.anchor ≡ Some bytes →
       Leaves action.DataLoadAck (sight.with_out (view d) h x (outgoing.Done x.id (length bytes)))
-      (finish_load d t (Some x))
-  unfolding finish_load
+      (perform_send d t (Some (send_action.Finish x)))
+  unfolding perform_send send_with
   done_view x bytes there =
       let P : Handled → Type 0 = Leaves action.DataLoadAck (sight.with_out (view d) h x
       (outgoing.Done x.id (length bytes))) in
@@ -156,10 +159,14 @@ module _ (d : Desk) (t : Task) (m : Parcel) (b : Body) (is : task_of t.handle d.
       (λ refusal z granted. absurd (let y : is_refusal action.DataLoadAck (outcome.Refused refusal) ≡ false = granted
       in (cc)))
 
+  -- the answer to the DataLoad
+  abbrev load_of : Asked → LoadFile
+  load_of q = record { transfer = q; to = m.message.from; answers = m.message.my_ref }
+
   -- the file is in the document, and the sender is told
   loaded_view : (q : Asked) (bytes : List ℕ) (after : Desk) → IsLonger d t q.anchor bytes after →
       m.message.from ≡ q.sender → Leaves action.DataLoad (sight.told (sight.copied (view d) h q bytes) h l q
-      (length bytes)) (loaded (record after { scrap = None }) t m q (length bytes))
+      (length bytes)) (loaded (record after { scrap = None }) t (load_of q) (length bytes))
   unfolding loaded
   loaded_view q bytes after w from =
       let n = length bytes in
@@ -172,8 +179,8 @@ module _ (d : Desk) (t : Task) (m : Parcel) (b : Body) (is : task_of t.handle d.
       ap (λ (z : List ℕ). record (sight.with_block (view d) h q.anchor (Some (z ++ bytes))) { scrap = None })
       document in
       by_grant P _ _
-      (λ x z. with_step (send_letter (load_ack_letter h m n) d1) _ x z (λ sent e1 z1.
-      let letter = load_ack_letter h m n in
+      (λ x z. with_step (send_letter (load_ack_letter h (load_of q) n) d1) _ x z (λ sent e1 z1.
+      let letter = load_ack_letter h (load_of q) n in
       let v2 : view sent ≡ sight.sent (view d1) h (seen_letter letter d1.post.next_ref) = sent_view d1 sent letter e1
       w.live in
       let edit = receiver.taking_loaded q n in
@@ -193,12 +200,12 @@ module _ (d : Desk) (t : Task) (m : Parcel) (b : Body) (is : task_of t.handle d.
   -- a DataLoad of the scrap file
   pub told_view : (q : Asked) (file : Scrap) → d.scrap ≡ Some file → file.load ≡ m.message.my_ref →
       m.message.from ≡ q.sender → Leaves action.DataLoad (sight.told (sight.copied (view d) h q file.bytes) h l q
-      (length file.bytes)) (take_file d t m (Some q))
-  unfolding take_file load_file
+      (length file.bytes)) (perform_take d t (Some (receiver.load_for m.message.from m.message.my_ref q)))
+  unfolding perform_take take_with load_file
   told_view q file there load from =
       let P : Handled → Type 0 = Leaves action.DataLoad (sight.told (sight.copied (view d) h q file.bytes) h l q
       (length file.bytes)) in
-      subst (λ (v : Option Scrap). P (load_file d t m q v)) (sym there)
+      subst (λ (v : Option Scrap). P (load_file d t (load_of q) v)) (sym there)
       (either P (nat_eq file.load m.message.my_ref) _ (ignored d)
       (λ same. by_grant P _ _
       (λ x z. with_step (appended d t q.anchor file.bytes) _ x z (λ after e1 z1.

@@ -21,14 +21,14 @@ unfoldable pub use Rattle.rh_defs.specs.Desk.{idle_block, named, send_letter, wi
 pub use Rattle.rh_defs.specs.Forms.{is_name}
 pub use Rattle.rh_defs.specs.Heap.{GrowsAtTop, GrowsIntoHole, Heap, Hole, MovesToHole, MovesToTop, Placed, Segment, Shrinks, Stays, Used, Way, bytes_of}
 pub use Rattle.rh_defs.specs.Heap.{first_place, fitted, is_block_at, place_after, released, size_of}
-pub use Rattle.rh_defs.specs.IncomingEvents.{is_deaf, is_uncountable}
-unfoldable pub use Rattle.rh_defs.specs.IncomingEvents.{accept, ack_back, appended, ask, taking_ended, fetch_back, fetch_more, load_file, loaded, take_bytes}
-unfoldable pub use Rattle.rh_defs.specs.IncomingEvents.{take_file, take_save, took}
+pub use Rattle.rh_defs.specs.IncomingEvents.{is_deaf}
+unfoldable pub use Rattle.rh_defs.specs.IncomingEvents.{accept, ack_back, append, appended, ask, fetch_more, load_file, loaded, perform_take, take_with}
+unfoldable pub use Rattle.rh_defs.specs.IncomingEvents.{taking_ended, took}
 pub use Rattle.rh_defs.specs.Laws.{Always, IsDesk}
 pub use Rattle.rh_defs.specs.Letters.{fetch_letter, load_letter, transmit_letter}
 pub use Rattle.rh_defs.specs.Messages.{Parcel, action_of, is_recorded}
-pub use Rattle.rh_defs.specs.OutgoingEvents.{Handled, ignored, portion, refused, scrap_shortage, wider}
-unfoldable pub use Rattle.rh_defs.specs.OutgoingEvents.{answer_ack, answer_fetch, fail_sending, finish_load, save_scrap, transmit}
+pub use Rattle.rh_defs.specs.OutgoingEvents.{Handled, ignored, refused, scrap_shortage, wider}
+unfoldable pub use Rattle.rh_defs.specs.OutgoingEvents.{fail_sending, perform_send, save_scrap, send_with, transmit}
 pub use Rattle.rh_defs.specs.Pieces.{Split, behind, first_at, total, with_here, written, zeros}
 pub use Rattle.rh_defs.specs.Places.{buffer_at, free_anchor}
 pub use Rattle.rh_defs.specs.Post.{Post, Seat, answers_held, bounce_all, bounce_held, bounced, has_seat, held_by, put_down, queued_in, taken_from, with_held}
@@ -57,6 +57,16 @@ pub use Rattle.rh_defs.specs.declared.transfer.Incoming.{Incoming}
 pub use Rattle.rh_defs.specs.declared.transfer.Outgoing.{Outgoing}
 pub use Rattle.rh_defs.specs.declared.transfer.Sending.{Sending}
 pub use Rattle.rh_defs.specs.declared.transfer.Taking.{Taking}
+pub use Rattle.rh_defs.specs.declared.transfer_action.Append.{Append}
+pub use Rattle.rh_defs.specs.declared.transfer_action.Claim.{Claim}
+pub use Rattle.rh_defs.specs.declared.transfer_action.Fetch.{Fetch}
+pub use Rattle.rh_defs.specs.declared.transfer_action.LoadFile.{LoadFile}
+pub use Rattle.rh_defs.specs.declared.transfer_action.Next.{Next}
+pub use Rattle.rh_defs.specs.declared.transfer_action.Part.{Part}
+pub use Rattle.rh_defs.specs.declared.transfer_action.SaveFile.{SaveFile}
+pub use Rattle.rh_defs.specs.declared.transfer_action.SendAction.{SendAction}
+pub use Rattle.rh_defs.specs.declared.transfer_action.TakeAction.{TakeAction}
+pub use Rattle.rh_defs.specs.declared.transfer_action.Transmit.{Transmit}
 pub use Rattle.rh_safety.proofs.Basics.{Ascend, FoundActive, active_is, and_left, and_right, asking_is, drains, either, fetches, first_is, has_of, is_equal}
 pub use Rattle.rh_safety.proofs.Basics.{length_take, none_some, one_of_id, open_is, put_all, put_other, put_same, same_value, with_ascends}
 pub use Rattle.rh_safety.proofs.Ends.{Active, Asking, Code, DataLoad, DataSave, Draining, Edits, Fetching, Has, In, In_done, In_failed, Letter, Message}

@@ -1,7 +1,6 @@
 -- No document outgrows a count: it lies in one slot with its transfer's buffer.
-use Rattle.rh_safety.proofs.Common.{◌≡◌, ℕ, ◌+◌, ◌-◌, ◌≤◌, Bool, true, false, List, [], ◌∷◌, length, Some, sym, ap, ◌∙◌, inl, inr, arith, if◌then◌else◌, find}
-use Rattle.rh_safety.proofs.Common.{◌==◌, ◌^◌, leb_tells, total, Heap, first_place, Flex, weight, heap_start, Desk, Task, task_at, is_uncountable, IsDesk}
-use Rattle.rh_safety.proofs.Common.{view, flex_map, Offered, Good}
+use Rattle.rh_safety.proofs.Common.{◌≡◌, ℕ, ◌+◌, ◌-◌, ◌≤◌, Bool, true, false, List, [], ◌∷◌, length, Some, sym, ap, ◌∙◌, inl, arith, if◌then◌else◌, find}
+use Rattle.rh_safety.proofs.Common.{◌==◌, total, Heap, first_place, Flex, weight, heap_start, Desk, Task, task_at, IsDesk, view, flex_map, Offered, Good}
 use Rattle.rh_defs.specs.Heap.{IsHeap}
 use Rattle.rh_defs.specs.Blocks.{block_bytes}
 use Rattle.rh_defs.specs.Slot.{slot_length}
@@ -57,7 +56,4 @@ counts_fit d is g h t f n at holds less =
     ((fits d is).slots h t at).heap (sym (buffer_is f.buffer t.slot) ∙ buffer.there) in
     let all = slot_within d h t is at in
     let low : f.count + n ≤ 4194304 = omega (arith, document.size, buffer.size, less, in_flex, in_heap, all) in
-    elim (leb_tells (2 ^ 32) (f.count + n)) as (λ _. is_uncountable f n ≡ false) [
-      | inl w ↦ absurd (let z = w.1 in omega (arith, z, low))
-      | inr w ↦ w.0
-    ]
+    omega (arith, low)

@@ -1,13 +1,15 @@
 -- The messages of a transfer by way of the scrap file keep the invariant.
 use Rattle.rh_safety.proofs.Common.{◌≡◌, ℕ, true, List, [], ◌++◌, length, Option, Some, None, refl, sym, ap, ◌∙◌, subst, nat_eq, option_map, Body, Sending}
-use Rattle.rh_safety.proofs.Common.{Asked, Outgoing, Incoming, slot_block, Parcel, action_of, load_letter, Desk, Task, Scrap, next_ref, send_letter, Handled}
-use Rattle.rh_safety.proofs.Common.{scrap_shortage, wider, save_scrap, answer_ack, finish_load, ignored, appended, loaded, load_file, take_file, view}
-use Rattle.rh_safety.proofs.Common.{seen_letter, seen_scrap, blocks_of, task_of, Letter, Has, Offers, Edits, put, either, and_left, and_right, is_equal}
-use Rattle.rh_safety.proofs.Common.{open_is, asking_is, Good, field_is, live_of, outs_view, ins_view, seen_good}
+use Rattle.rh_safety.proofs.Common.{Asked, Outgoing, Incoming, SaveFile, LoadFile, slot_block, Parcel, action_of, load_letter, Desk, Task, Scrap, next_ref}
+use Rattle.rh_safety.proofs.Common.{send_letter, Handled, scrap_shortage, wider, save_scrap, send_with, perform_send, ignored, appended, loaded, load_file}
+use Rattle.rh_safety.proofs.Common.{take_with, perform_take, view, open_of, seen_letter, seen_scrap, blocks_of, task_of, Letter, Has, Offers, Edits, put}
+use Rattle.rh_safety.proofs.Common.{either, and_left, and_right, is_equal, open_is, asking_is, Good, field_is, live_of, outs_view, ins_view, seen_good}
 use Rattle.rh_defs.specs.declared.message.Action.TheVariants as action
 use Rattle.rh_defs.specs.declared.transfer.Outgoing.TheVariants as outgoing
 use Rattle.rh_defs.specs.declared.transfer.Incoming.TheVariants as incoming
+use Rattle.rh_defs.specs.declared.transfer_action.SendAction.TheVariants as send_action
 use Rattle.rh_defs.specs.Letters.{load_ack_letter}
+use Rattle.rh_defs.specs.Records.{asking_of}
 use Rattle.rh_defs.specs.Sender as sender
 use Rattle.rh_defs.specs.Receiver as receiver
 use Rattle.rh_safety.proofs.Sight as sight
@@ -41,24 +43,26 @@ module _ {o : Offers} {e : Edits} (d : Desk) (t : Task) (m : Parcel) (b : Body) 
 
   -- a DataSaveAck: the source becomes the scrap file
   ack_by : action_of b ≡ action.DataSaveAck → (v : Option Sending) →
-      sender.on_ack m.message.from m.message.your_ref ((view d).sending h) ≡ v → IsKept (answer_ack d t m v)
-  unfolding answer_ack save_scrap
+      open_of (sender.asks_for m.message.from m.message.your_ref) ((view d).sending h) ≡ v →
+      IsKept (perform_send d t (option_map (sender.file_for m.message.from m.message.my_ref) v))
+  unfolding perform_send send_with save_scrap
   ack_by kind None q = g
   ack_by kind (Some x) q =
       let w = open_is (sender.asks_for m.message.from m.message.your_ref) ((view d).sending h) x q in
       let both = and_left _ (nat_eq x.id x.last) w.1 in
       let from : m.message.from ≡ x.recipient = is_equal _ _ (and_left (nat_eq m.message.from x.recipient) _ both) in
       let answers = is_equal _ _ (and_right _ (nat_eq m.message.your_ref x.id) both) in
+      let a : SaveFile = record { transfer = x; to = m.message.from; answers = m.message.my_ref } in
       by_grant IsKept _ _
       (λ y z. with_step (slot_block x.anchor t.slot) _ y z (λ s e1 z1.
       let n : ℕ = length s.here.bytes in
       let after : Desk = wider (scrap_shortage n d) d in
-      let letter = load_letter h m n in
+      let letter = load_letter h a n in
       with_step (send_letter letter after) _ y (from_test _ _ y (from_test _ _ y (from_test _ _ y z1)))
       (λ sent e2 z2.
       let v : view sent ≡ sight.sent (view d) h (seen_letter letter d.post.next_ref) = sent_view after sent letter e2
       live in
-      let edit = sender.saved x (next_ref d) in
+      let edit = sender.saved a (next_ref d) in
       let file : sight.Scrap = record { load = next_ref d; bytes = s.here.bytes } in
       subst IsKept (ok_is _ y z2) (seen_good (outs_view (record sent {
         scrap = Some (record { load = next_ref d; bytes = s.here.bytes });
@@ -72,14 +76,14 @@ module _ {o : Offers} {e : Edits} (d : Desk) (t : Task) (m : Parcel) (b : Body) 
       (λ refusal z. seen_good (outs_view d h (sender.sending_failed x) live) (fails x w.0))
 
   pub ack_keeps : action_of b ≡ action.DataSaveAck →
-      IsKept (answer_ack d t m (sender.on_ack m.message.from m.message.your_ref t.sending))
-  ack_keeps kind = subst (λ (xs : List Outgoing). IsKept (answer_ack d t m (sender.on_ack m.message.from
-      m.message.your_ref xs))) (field_is (λ y. y.sending) [] h d.tasks t is) (ack_by kind _ refl)
+      IsKept (perform_send d t (sender.on_ack m.message.from m.message.my_ref m.message.your_ref t.sending))
+  ack_keeps kind = subst (λ (xs : List Outgoing). IsKept (perform_send d t (sender.on_ack m.message.from
+      m.message.my_ref m.message.your_ref xs))) (field_is (λ y. y.sending) [] h d.tasks t is) (ack_by kind _ refl)
 
   -- a DataLoadAck: all of the source was loaded
-  load_ack_by : (v : Option Sending) → sender.on_load_ack m.message.from m.message.your_ref ((view d).sending h) ≡ v →
-      IsKept (finish_load d t v)
-  unfolding finish_load
+  load_ack_by : (v : Option Sending) → open_of (sender.is_loaded m.message.from m.message.your_ref) ((view d).sending h) ≡ v →
+      IsKept (perform_send d t (option_map send_action.Finish v))
+  unfolding perform_send send_with
   load_ack_by None q = g
   load_ack_by (Some x) q =
       let has = (open_is (sender.is_loaded m.message.from m.message.your_ref) ((view d).sending h) x q).0 in
@@ -89,16 +93,20 @@ module _ {o : Offers} {e : Edits} (d : Desk) (t : Task) (m : Parcel) (b : Body) 
       (loaded_good h x s.here.bytes g has (block_seen x.anchor ∙ block_there x.anchor t.slot s e1)))))
       (λ refusal z. seen_good (outs_view d h (sender.sending_failed x) live) (fails x has))
 
-  pub load_ack_keeps : IsKept (finish_load d t (sender.on_load_ack m.message.from m.message.your_ref t.sending))
-  load_ack_keeps = subst (λ (xs : List Outgoing). IsKept (finish_load d t (sender.on_load_ack m.message.from
+  pub load_ack_keeps : IsKept (perform_send d t (sender.on_load_ack m.message.from m.message.your_ref t.sending))
+  load_ack_keeps = subst (λ (xs : List Outgoing). IsKept (perform_send d t (sender.on_load_ack m.message.from
       m.message.your_ref xs))) (field_is (λ y. y.sending) [] h d.tasks t is) (load_ack_by _ refl)
 
   -- ---- the receiver
 
+  -- the answer to a DataLoad
+  abbrev load_of : Asked → LoadFile
+  load_of q = record { transfer = q; to = m.message.from; answers = m.message.my_ref }
+
   -- a DataLoad: the file is in the document
   loaded_keeps : (q : Asked) (bytes : List ℕ) (after : Desk) → IsLonger d t q.anchor bytes after →
       m.message.from ≡ q.sender → Has (incoming.Asking q) ((view d).taking h) → o q.id ≡ Some bytes →
-      IsKept (loaded (record after { scrap = None }) t m q (length bytes))
+      IsKept (loaded (record after { scrap = None }) t (load_of q) (length bytes))
   unfolding loaded
   loaded_keeps q bytes after w from has offered =
       let n = length bytes in
@@ -110,8 +118,8 @@ module _ {o : Offers} {e : Edits} (d : Desk) (t : Task) (m : Parcel) (b : Body) 
       ap (λ (z : List ℕ). record (sight.with_block (view d) h q.anchor (Some (z ++ bytes))) { scrap = None })
       document in
       by_grant IsKept _ _
-      (λ x z. with_step (send_letter (load_ack_letter h m n) d1) _ x z (λ sent e1 z1.
-      let letter = load_ack_letter h m n in
+      (λ x z. with_step (send_letter (load_ack_letter h (load_of q) n) d1) _ x z (λ sent e1 z1.
+      let letter = load_ack_letter h (load_of q) n in
       let v2 : view sent ≡ sight.sent (view d1) h (seen_letter letter d1.post.next_ref) = sent_view d1 sent letter e1
       w.live in
       let edit = receiver.taking_loaded q n in
@@ -132,7 +140,7 @@ module _ {o : Offers} {e : Edits} (d : Desk) (t : Task) (m : Parcel) (b : Body) 
 
   file_by : action_of b ≡ action.DataLoad → (q : Asked) → Has (incoming.Asking q) ((view d).taking h) →
       m.message.from ≡ q.sender → m.message.your_ref ≡ q.ack → (v : Option Scrap) → d.scrap ≡ v →
-      IsKept (load_file d t m q v)
+      IsKept (load_file d t (load_of q) v)
   unfolding load_file
   file_by kind q has from answers None s = g
   file_by kind q has from answers (Some file) s =
@@ -148,8 +156,9 @@ module _ {o : Offers} {e : Edits} (d : Desk) (t : Task) (m : Parcel) (b : Body) 
       (λ other. g)
 
   load_by : action_of b ≡ action.DataLoad → (v : Option Asked) →
-      receiver.on_load m.message.from m.message.your_ref ((view d).taking h) ≡ v → IsKept (take_file d t m v)
-  unfolding take_file
+      asking_of (receiver.is_load m.message.from m.message.your_ref) ((view d).taking h) ≡ v →
+      IsKept (perform_take d t (option_map (receiver.load_for m.message.from m.message.my_ref) v))
+  unfolding perform_take take_with
   load_by kind None q = g
   load_by kind (Some x) q =
       let w = asking_is (receiver.is_load m.message.from m.message.your_ref) ((view d).taking h) x q in
@@ -157,6 +166,6 @@ module _ {o : Offers} {e : Edits} (d : Desk) (t : Task) (m : Parcel) (b : Body) 
       (is_equal _ _ (and_right (nat_eq m.message.from x.sender) _ w.1)) d.scrap refl
 
   pub load_keeps : action_of b ≡ action.DataLoad →
-      IsKept (take_file d t m (receiver.on_load m.message.from m.message.your_ref t.taking))
-  load_keeps kind = subst (λ (xs : List Incoming). IsKept (take_file d t m (receiver.on_load m.message.from
-      m.message.your_ref xs))) (field_is (λ y. y.taking) [] h d.tasks t is) (load_by kind _ refl)
+      IsKept (perform_take d t (receiver.on_load m.message.from m.message.my_ref m.message.your_ref t.taking))
+  load_keeps kind = subst (λ (xs : List Incoming). IsKept (perform_take d t (receiver.on_load m.message.from
+      m.message.my_ref m.message.your_ref xs))) (field_is (λ y. y.taking) [] h d.tasks t is) (load_by kind _ refl)

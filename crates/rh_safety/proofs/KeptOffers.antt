@@ -1,10 +1,10 @@
 -- A DataSave that came keeps the invariant.
 use Rattle.rh_safety.proofs.Common.{◌≡◌, ℕ, zero, suc, ◌+◌, ◌<◌, true, false, List, [], length, Option, Some, None, refl, sym, ap, ◌∙◌, subst, ◌⊎◌, inl, inr}
-use Rattle.rh_safety.proofs.Common.{arith, not, Ok, eqb_tells, leb_tells, length-replicate, AnchorInUse, Body, Incoming, found_or, zeros, Slot, slot_claim}
-use Rattle.rh_safety.proofs.Common.{slot_alloc, block_of, weight, flex_start, Parcel, action_of, fetch_letter, is_going, is_full, free_anchor, Desk, Task}
-use Rattle.rh_safety.proofs.Common.{next_ref, free_pages, with_task, with_slot, with_taking, send_letter, Handled, ignored, is_deaf, accept, take_save, view}
-use Rattle.rh_safety.proofs.Common.{seen_letter, blocks_of, buffers_of, task_of, Offers, Edits, put, how_many, none_some, either, and_right, Good, Same}
-use Rattle.rh_safety.proofs.Common.{field_is, live_of, slot_is, ins_view, is_found}
+use Rattle.rh_safety.proofs.Common.{arith, not, ◌&&◌, Ok, eqb_tells, leb_tells, length-replicate, AnchorInUse, Body, Incoming, found_or, zeros, Slot}
+use Rattle.rh_safety.proofs.Common.{slot_claim, slot_alloc, block_of, weight, flex_start, Parcel, action_of, fetch_letter, is_going, is_full, free_anchor}
+use Rattle.rh_safety.proofs.Common.{Desk, Task, next_ref, free_pages, with_task, with_slot, with_taking, send_letter, Handled, ignored, is_deaf, accept}
+use Rattle.rh_safety.proofs.Common.{take_with, perform_take, Claim, TakeAction, view, seen_letter, blocks_of, buffers_of, task_of, Offers, Edits, put}
+use Rattle.rh_safety.proofs.Common.{how_many, none_some, either, and_right, Good, Same, field_is, live_of, slot_is, ins_view, is_found}
 use Rattle.rh_defs.specs.declared.message.Action.TheVariants as action
 use Rattle.rh_defs.specs.Heap.{block_room}
 use Rattle.rh_defs.specs.Slot.{is_used, anchor_count}
@@ -31,9 +31,17 @@ free_is k (suc n) s j q =
     either (λ (z : Option ℕ). z ≡ Some j → is_used j s ≡ false) (is_used k s) (free_from (k + 1) n s) (Some k)
     (λ e z. free_is (k + 1) n s j z) (λ e z. let same : k ≡ j = cc in ap (λ i. is_used i s) (sym same) ∙ e) q
 
+-- what a DataSave asks the task for
+abbrev pub for_save : Task → Parcel → Option TakeAction
+for_save t m = receiver.on_save (is_deaf t.manner) m.message.from m.message.my_ref t.taking
+
 module _ (d : Desk) (t : Task) (m : Parcel) (is : task_of t.handle d.tasks ≡ Some t) where
   abbrev h : ℕ
   h = t.handle
+
+  -- the answer to the DataSave
+  abbrev claim : Claim
+  claim = record { id = m.message.my_ref; sender = m.message.from }
 
   -- the desk with the anchor's empty block and the buffer at the address
   abbrev placed : ℕ → ℕ → List ℕ → sight.Desk
@@ -45,9 +53,9 @@ module _ (d : Desk) (t : Task) (m : Parcel) (is : task_of t.handle d.tasks ≡ S
   -- a first fetch of n bytes was sent
   abbrev fetching : ℕ → ℕ → List ℕ → ℕ → sight.Desk
   fetching k address bytes n =
-      let edit = receiver.fetching (receiver.new_taking m.message.my_ref m.message.from k address (next_ref d)) in
-      let y = sight.sent (placed k address bytes) h (seen_letter (fetch_letter h m.message.from m.message.my_ref
-      address n) d.post.next_ref) in
+      let edit = receiver.claimed claim k address (next_ref d) in
+      let y = sight.sent (placed k address bytes) h (seen_letter (fetch_letter h (receiver.first_fetch claim address n))
+      d.post.next_ref) in
       record y { taking = put y.taking h (edit (y.taking h)) }
 
   few : (xs : List Incoming) → is_full is_going xs ≡ false → how_many is_going xs < (view d).most
@@ -56,15 +64,15 @@ module _ (d : Desk) (t : Task) (m : Parcel) (is : task_of t.handle d.tasks ≡ S
     | inr w ↦ absurd (let a = w.0 in let b = not_full is_going xs q in (cc))
   ]
 
-  accepted : (b : Body) → is_full is_going t.taking ≡ false → (x : Handled) → accept d t m ≡ Ok x →
+  accepted : (b : Body) → is_full is_going t.taking ≡ false → (x : Handled) → accept d t claim ≡ Ok x →
       Began (view d) h (letter_of m b) (view x.0)
   unfolding accept with_task
   accepted b room x q =
       with_step (found_or (free_anchor t.slot) AnchorInUse) _ x q (λ k e1 q1.
       with_step (slot_claim (free_pages d) t.buffer t.slot) _ x q1 (λ c e2 q2.
       with_step (slot_alloc (free_pages (with_slot t.handle c.0 d)) k 0 c.0) _ x q2 (λ p e3 q3.
-      with_step (send_letter (fetch_letter t.handle m.message.from m.message.my_ref c.1 t.buffer) (with_slot t.handle
-      p.0 d)) _ x q3 (λ sent e4 q4.
+      with_step (send_letter (fetch_letter t.handle (receiver.first_fetch claim c.1 t.buffer)) (with_slot t.handle p.0 d))
+      _ x q3 (λ sent e4 q4.
       let live = live_of d h t is in
       let bytes : List ℕ = zeros (block_room t.buffer) in
       let claimed = claim_is (free_pages d) t.buffer t.slot c e2 in
@@ -79,10 +87,10 @@ module _ (d : Desk) (t : Task) (m : Parcel) (is : task_of t.handle d.tasks ≡ S
       (claimed_still claimed) a)
       (λ a. added_still k (zeros 0) c.0 p.0 added a ∙ claimed_map claimed a) in
       let live1 : (view d1).live h ≡ true = ap (λ (y : sight.Desk). y.live h) v1 ∙ live in
-      let letter = fetch_letter h m.message.from m.message.my_ref c.1 t.buffer in
+      let letter = fetch_letter h (receiver.first_fetch claim c.1 t.buffer) in
       let v2 : view sent ≡ sight.sent (view d1) h (seen_letter letter d.post.next_ref) = sent_view d1 sent letter
       e4 live1 in
-      let edit = receiver.fetching (receiver.new_taking m.message.my_ref m.message.from k c.1 (next_ref d)) in
+      let edit = receiver.claimed claim k c.1 (next_ref d) in
       let v3 : view (with_taking h edit sent) ≡ fetching k c.1 bytes t.buffer =
       ins_view sent h edit (ap (λ (y : sight.Desk). y.live h) v2 ∙ live1) ∙
       ap (λ (y : sight.Desk). record y { taking = put y.taking h (edit (y.taking h)) }) v2 ∙
@@ -105,20 +113,20 @@ module _ (d : Desk) (t : Task) (m : Parcel) (is : task_of t.handle d.tasks ≡ S
       })))))
 
   -- a first fetch was sent, or nothing was done
-  pub save_does : (b : Body) → Began (view d) h (letter_of m b)
-      (view (take_save d t m).0) ⊎ (take_save d t m ≡ ignored d)
-  unfolding take_save
+  pub save_does : (b : Body) →
+      Began (view d) h (letter_of m b) (view (perform_take d t (for_save t m)).0) ⊎ (perform_take d t (for_save t m) ≡ ignored d)
+  unfolding perform_take take_with
   save_does b =
       let P : Handled → Type 0 = λ x. Began (view d) h (letter_of m b) (view x.0) ⊎ (x ≡ ignored d) in
-      either P (receiver.on_save (is_deaf t.manner) t.taking) _ (ignored d)
-      (λ can. by_grant P (accept d t m) _
+      either (λ (o : Option TakeAction). P (perform_take d t o)) (not (is_deaf t.manner) && not (is_full is_going t.taking)) _ None
+      (λ can. by_grant P (accept d t claim) _
       (λ x q. inl (accepted b (not_true (is_full is_going t.taking) (and_right (not (is_deaf t.manner)) _ can)) x q))
       (λ r e. inr refl))
       (λ cannot. inr refl)
 
 pub save_keeps : {o : Offers} {e : Edits} (d : Desk) (t : Task) (m : Parcel) (b : Body) →
     task_of t.handle d.tasks ≡ Some t → Good o e (view d) → Read o (view d) t.handle (letter_of m b) →
-    action_of b ≡ action.DataSave → Good o e (view (take_save d t m).0)
+    action_of b ≡ action.DataSave → Good o e (view (perform_take d t (for_save t m)).0)
 save_keeps {o} {e} d t m b is g rd kind = elim (save_does d t m is b) [
   | inl w ↦ began_good t.handle (letter_of m b) g rd kind _ w
   | inr w ↦ subst (λ (y : Handled). Good o e (view y.0)) (sym w) g

@@ -1,13 +1,15 @@
 -- A transmit that came keeps the invariant.
-use Rattle.rh_safety.proofs.Common.{◌≡◌, ℕ, ◌+◌, Bool, true, false, List, [], ◌++◌, take, Option, Some, None, refl, sym, ap, ◌∙◌, subst, inl, inr, arith, suc}
-use Rattle.rh_safety.proofs.Common.{if◌then◌else◌, nat_lt, option_map, take_all, leb_tells, Refusal, NoRoom, Outcome, Taking, Incoming, refuse_if, Split}
-use Rattle.rh_safety.proofs.Common.{Segment, bytes_of, heap_block_at, Parcel, fetch_letter, Desk, Task, next_ref, send_letter, Handled, appended, fetch_more}
-use Rattle.rh_safety.proofs.Common.{took, is_uncountable, take_bytes, view, seen_letter, blocks_of, buffers_of, task_of, Letter, Has, Offers, Edits, put}
-use Rattle.rh_safety.proofs.Common.{In_done, In_failed, either, FoundActive, fetches, drains, active_is, Good, field_is, live_of, ins_view, seen_good}
+use Rattle.rh_safety.proofs.Common.{◌≡◌, ℕ, ◌+◌, Bool, true, false, List, [], ◌++◌, take, Option, Some, None, refl, sym, ap, ◌∙◌, subst, inl, inr, arith}
+use Rattle.rh_safety.proofs.Common.{suc, if◌then◌else◌, nat_lt, nat_le, ◌^◌, option_map, take_all, leb_tells, Refusal, NoRoom, Outcome, Taking, Incoming}
+use Rattle.rh_safety.proofs.Common.{Split, Segment, bytes_of, heap_block_at, Parcel, fetch_letter, Desk, Task, next_ref, send_letter, Handled, appended}
+use Rattle.rh_safety.proofs.Common.{fetch_more, took, append, take_with, perform_take, Append, Fetch, Next, TakeAction, view, seen_letter, blocks_of}
+use Rattle.rh_safety.proofs.Common.{buffers_of, task_of, Letter, Has, Offers, Edits, put, In_done, In_failed, either, FoundActive, fetches, drains}
+use Rattle.rh_safety.proofs.Common.{active_is, Good, field_is, live_of, ins_view, seen_good}
 use Rattle.rh_defs.specs.declared.message.Action.TheVariants as action
 use Rattle.rh_defs.specs.declared.message.Body.TheVariants as body
 use Rattle.rh_defs.specs.declared.reply.Outcome.TheVariants as outcome
 use Rattle.rh_defs.specs.declared.transfer.Incoming.TheVariants as incoming
+use Rattle.rh_defs.specs.Records.{active_of}
 use Rattle.rh_defs.specs.Receiver as receiver
 use Rattle.rh_defs.specs.Places.{first_bytes}
 use Rattle.rh_safety.specs.Alternation.{is_refusal}
@@ -92,40 +94,48 @@ module _ (d : Desk) (t : Task) (m : Parcel) (is : task_of t.handle d.tasks ≡ S
   abbrev Does : Taking → Handled → Type 0
   Does r y = Took (view d) h r l y.1 (view y.0)
 
+  -- the fetch after a full buffer, and the bytes that it comes after
+  abbrev fetch_after : Taking → Fetch
+  fetch_after r = receiver.next_fetch r m.message.my_ref t.buffer
+
+  abbrev bytes_for : Taking → Append
+  bytes_for r = record { transfer = r; n = n; next = receiver.next_of t.buffer m.message.my_ref n r }
+
   took_does : (r : Taking) (after : Desk) → IsLonger d t r.anchor (first_bytes n (heap_block_at r.buffer t.slot))
       after →
-      Does r (took after t m r n)
+      Does r (took after t (bytes_for r) (receiver.next_of t.buffer m.message.my_ref n r))
   unfolding took fetch_more
   took_does r after w =
       let v = longer_seen r after w in
       let D : sight.Desk = sight.longer (view d) h r n in
-      either (Does r) (nat_lt n t.buffer) _ _
-      (λ less. takes_all (ended_view after h r (receiver.finished r n) w.live ∙ ap (λ (y : sight.Desk). record y {
+      let a : Append = bytes_for r in
+      either (λ (b : Next). Does r (took after t a b)) (nat_lt n t.buffer) _ _
+      (λ less. takes_all (ended_view after h r (receiver.finished a) w.live ∙ ap (λ (y : sight.Desk). record y {
         heap = put y.heap h (put (y.heap h) r.buffer None);
-        taking = put y.taking h (receiver.finished r n (y.taking h));
+        taking = put y.taking h (receiver.finished a (y.taking h));
       }) v ∙ choose true (ap (nat_lt n) buffer_size ∙ less)))
       (λ full. by_grant (Does r) _ _
-      (λ x q. with_step (send_letter (fetch_letter h r.sender m.message.my_ref r.buffer t.buffer) after) _ x q
+      (λ x q. with_step (send_letter (fetch_letter h (fetch_after r)) after) _ x q
       (λ sent e1 q1.
-      let letter : ℕ → _ = λ size. fetch_letter h r.sender m.message.my_ref r.buffer size in
+      let letter : ℕ → _ = λ size. fetch_letter h (receiver.next_fetch r m.message.my_ref size) in
       let v2 : view sent ≡ sight.sent (view after) h (seen_letter (letter t.buffer) after.post.next_ref) =
       sent_view after sent (letter t.buffer) e1 w.live in
-      let edit = receiver.fetched r n (next_ref after) in
+      let edit = receiver.fetched a (next_ref after) in
       subst (Does r) (ok_is _ x q1)
       (takes_all (ins_view sent h edit (ap (λ (y : sight.Desk). y.live h) v2 ∙ w.live) ∙
       ap (λ (y : sight.Desk). record y { taking = put y.taking h (edit (y.taking h)) }) v2 ∙
       ap (λ (z : sight.Desk). let y = sight.sent z h (seen_letter (letter t.buffer) after.post.next_ref) in
       record y { taking = put y.taking h (edit (y.taking h)) }) v ∙
       ap (λ (k : ℕ). let y = sight.sent D h (seen_letter (letter t.buffer) k) in record y {
-        taking = put y.taking h (receiver.fetched r n k (y.taking h));
+        taking = put y.taking h (receiver.fetched a k (y.taking h));
       }) (ap (λ p. p.next_ref) w.post) ∙
       ap (λ (k : ℕ). let y = sight.sent D h (seen_letter (letter k) D.next_ref) in record y {
-        taking = put y.taking h (receiver.fetched r n D.next_ref (y.taking h));
+        taking = put y.taking h (receiver.fetched a D.next_ref (y.taking h));
       }) (sym buffer_size) ∙ choose false (ap (nat_lt n) buffer_size ∙ full)))))
-      (λ refusal q. stops refusal refl (ended_view after h r (receiver.taking_failed r (r.count + n)) w.live ∙
+      (λ refusal q. stops refusal refl (ended_view after h r (receiver.failed_with a n) w.live ∙
       ap (λ (y : sight.Desk). record y {
         heap = put y.heap h (put (y.heap h) r.buffer None);
-        taking = put y.taking h (receiver.taking_failed r (r.count + n) (y.taking h));
+        taking = put y.taking h (receiver.failed_with a n (y.taking h));
       }) v)))
     where
       choose : (c : Bool) → nat_lt n ((view d).buf h) ≡ c →
@@ -134,36 +144,39 @@ module _ (d : Desk) (t : Task) (m : Parcel) (is : task_of t.handle d.tasks ≡ S
       choose c q = ap (λ (x : Bool). if x then sight.ended (sight.longer (view d) h r n) h r (In_done r.id r.anchor
           (r.count + n)) else sight.fetched (sight.longer (view d) h r n) h r n l.me) (sym q)
 
-  pub transmit_does : (r : Taking) → Does r (take_bytes d t m n (Some (incoming.Fetching r)))
-  unfolding take_bytes
-  transmit_does r =
-      by_grant (Does r) _ _
-      (λ x q. with_step (refuse_if (is_uncountable r n) NoRoom) _ x q (λ _ e0 q0.
-      with_step (appended d t r.anchor (first_bytes n (heap_block_at r.buffer t.slot))) _ x q0 (λ after e q1.
-      subst (Does r) (ok_is _ x q1) (took_does r after (longer_is d t r.anchor _ after is e)))))
-      (λ refusal q. refuses refusal refl (ended_view d h r (receiver.taking_failed r r.count) (live_of d h t is)))
+  pub bytes_does : (r : Taking) → Does r (perform_take d t (receiver.take_for t.buffer m.message.my_ref n (incoming.Fetching r)))
+  unfolding perform_take take_with append
+  bytes_does r =
+      let none = ended_view d h r (receiver.taking_failed r) (live_of d h t is) in
+      either (λ (a : TakeAction). Does r (take_with d t a)) (nat_le (2 ^ 32) (r.count + n)) _ _
+      (λ many. refuses NoRoom refl none)
+      (λ few. by_grant (Does r) _ _
+      (λ x q. with_step (appended d t r.anchor (first_bytes n (heap_block_at r.buffer t.slot))) _ x q (λ after e q1.
+      subst (Does r) (ok_is _ x q1) (took_does r after (longer_is d t r.anchor _ after is e))))
+      (λ refusal q. refuses refusal refl none))
 
   module _ {o : Offers} {e : Edits} (g : Good o e (view d)) (rd : Read o (view d) h l) where
     transmit_found : (w : Incoming) →
         FoundActive (receiver.is_answer ((view d).buf h) m.message.from m.message.your_ref buffer n) ((view d).taking h)
-        w → Good o e (view (take_bytes d t m n (Some w)).0)
-    unfolding take_bytes
-    transmit_found w (fetches r has q) = took_good h r l _ _ g rd refl has (matched (view d) h r l q) (transmit_does r)
+        w → Good o e (view (perform_take d t (receiver.take_for t.buffer m.message.my_ref n w)).0)
+    unfolding perform_take take_with
+    transmit_found w (fetches r has q) = took_good h r l _ _ g rd refl has (matched (view d) h r l q) (bytes_does r)
     transmit_found w (drains r has q) =
         let a = matched (view d) h r l q in
-        seen_good (ended_view d h r (receiver.taking_failed r r.count) (live_of d h t is))
+        seen_good (ended_view d h r (receiver.taking_failed r) (live_of d h t is))
         (given_up_good h r g (inr has) (read_quiet h r l (inr has) refl a.from a.answers rd.ok g))
 
-    transmit_by : (v : Option Incoming) → receiver.on_transmit ((view d).buf h) m.message.from m.message.your_ref buffer
-        n ((view d).taking h) ≡ v → Good o e (view (take_bytes d t m n v).0)
-    unfolding take_bytes
+    transmit_by : (v : Option Incoming) → active_of (receiver.is_answer ((view d).buf h) m.message.from m.message.your_ref
+        buffer n) ((view d).taking h) ≡ v →
+        Good o e (view (perform_take d t (receiver.of_record (receiver.take_for t.buffer m.message.my_ref n) v)).0)
+    unfolding perform_take
     transmit_by None q = g
     transmit_by (Some w) q = transmit_found w (active_is (receiver.is_answer ((view d).buf h) m.message.from
         m.message.your_ref buffer n) ((view d).taking h) w q)
 
-    pub transmit_keeps : Good o e (view (take_bytes d t m n (receiver.on_transmit t.buffer m.message.from
+    pub transmit_keeps : Good o e (view (perform_take d t (receiver.on_transmit t.buffer m.message.from m.message.my_ref
         m.message.your_ref buffer n t.taking)).0)
     transmit_keeps = transmit_by _
-        (ap (λ k. receiver.on_transmit k m.message.from m.message.your_ref buffer n ((view d).taking h)) buffer_size ∙
-        ap (receiver.on_transmit t.buffer m.message.from m.message.your_ref buffer n) (field_is (λ y. y.taking) [] h
+        (ap (λ k. active_of (receiver.is_answer k m.message.from m.message.your_ref buffer n) ((view d).taking h)) buffer_size ∙
+        ap (active_of (receiver.is_answer t.buffer m.message.from m.message.your_ref buffer n)) (field_is (λ y. y.taking) [] h
         d.tasks t is))

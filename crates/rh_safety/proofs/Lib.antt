@@ -47,6 +47,7 @@ pub mod SeenLaws
 pub mod OwnEdits
 pub mod SeenKeys
 pub mod Alternations
+pub mod Actions
 pub mod SeenRanges
 pub mod SeenBuffers
 pub mod RecordLaws

@@ -1,26 +1,30 @@
 -- The numbers that are answered go up, since each is the desk's next one, and the next one goes up by one.
-use Rattle.rh_safety.proofs.Common.{◌≡◌, ℕ, ◌+◌, ◌≤◌, true, refl, sym, subst, ◌∙◌, arith, List, [], ◌∷◌, ◌++◌, length, Option, Some, None, Ok, ◌==◌}
-use Rattle.rh_safety.proofs.Common.{not, filter}
-use Rattle.rh_safety.proofs.Common.{Command, Manner, Body, EventCode, User, Recorded, Acknowledge, Refusal, Outcome, Reply, Asked, Incoming, Sending, Taking}
-use Rattle.rh_safety.proofs.Common.{Split, Heap, Flex, Slot, Parcel, is_recorded, Post, Seat, answers_held, held_by, has_seat, bounced, bounce_held}
+use Rattle.rh_safety.proofs.Common.{◌≡◌, ℕ, ◌+◌, ◌≤◌, true, refl, sym, subst, ◌∙◌, arith, List, [], ◌∷◌, ◌++◌, length, Option, Some, None, Ok, ◌==◌, not}
+use Rattle.rh_safety.proofs.Common.{filter, Command, Manner, Body, EventCode, User, Recorded, Acknowledge, Refusal, Outcome, Reply, Asked, Incoming, Sending}
+use Rattle.rh_safety.proofs.Common.{Taking, Split, Heap, Flex, Slot, Parcel, is_recorded, Post, Seat, answers_held, held_by, has_seat, bounced, bounce_held}
 use Rattle.rh_safety.proofs.Common.{bounce_all, without_block, taken_from, queued_in, put_down, post_join, post_send, post_poll, post_death, Desk, Task}
-use Rattle.rh_safety.proofs.Common.{Scrap, next_ref, free_pages, with_slot, with_task, with_delivered, send_letter, Handled, transmit, answer_fetch}
-use Rattle.rh_safety.proofs.Common.{fail_sending, save_scrap, answer_ack, finish_load, taking_ended, accept, take_save, appended, fetch_more, took, take_bytes}
-use Rattle.rh_safety.proofs.Common.{ask}
-use Rattle.rh_safety.proofs.Common.{fetch_back, ack_back, loaded, load_file, take_file, came, came_back, handled, Answer, start_task, kill, make, save}
-use Rattle.rh_safety.proofs.Common.{repeat, poll, poll_taken, cancel_in, cancel_out, step, after, start_with, Always, OnGrant, granted, granted-then}
-use Rattle.rh_safety.proofs.Common.{granted-with, granted-past, or_else-keeps, chosen}
+use Rattle.rh_safety.proofs.Common.{Scrap, next_ref, free_pages, with_slot, with_task, with_delivered, send_letter, Handled, Transmit, SaveFile, SendAction}
+use Rattle.rh_safety.proofs.Common.{Claim, Append, Fetch, Next, LoadFile, TakeAction, transmit, save_scrap, send_with, perform_send, fail_sending}
+use Rattle.rh_safety.proofs.Common.{taking_ended, accept, appended, fetch_more, took, append, ask, ack_back, loaded, load_file, take_with, perform_take}
+use Rattle.rh_safety.proofs.Common.{came, came_back, handled, Answer, start_task, kill, make, save, repeat, poll, poll_taken, cancel_in, cancel_out, step}
+use Rattle.rh_safety.proofs.Common.{after, start_with, Always, OnGrant, granted, granted-then, granted-with, granted-past, or_else-keeps, chosen}
 use Rattle.rh_defs.specs.declared.command.Command.TheVariants as command
 use Rattle.rh_defs.specs.declared.message.Body.TheVariants.{DataSave, DataSaveAck, DataLoad, DataLoadAck, RamFetch, RamTransmit}
 use Rattle.rh_defs.specs.declared.message.Letter.{Letter}
 use Rattle.rh_defs.specs.declared.reply.Outcome.TheVariants as outcome
 use Rattle.rh_defs.specs.declared.reply.Reply.TheVariants as reply
-use Rattle.rh_defs.specs.declared.transfer.Incoming.TheVariants as incoming
+use Rattle.rh_defs.specs.declared.transfer_action.SendAction.TheVariants as send_action
+use Rattle.rh_defs.specs.declared.transfer_action.TakeAction.TheVariants as take_action
+use Rattle.rh_defs.specs.declared.transfer_action.Next.TheVariants as next
+use Rattle.rh_defs.specs.declared.transfer_action.Ending.{Ending}
+use Rattle.rh_defs.specs.declared.transfer_action.Ending.TheVariants as ending
+use Rattle.rh_defs.specs.Sender.{transfer_of}
 use Rattle.rh_defs.specs.Post.{first_for}
 use Rattle.rh_defs.specs.Desk.{with_module}
 use Rattle.rh_defs.specs.OutgoingEvents.{refused as failed_by}
+use Rattle.rh_defs.specs.IncomingEvents.{told}
 use Rattle.rh_defs.specs.Commands.{change}
-use Rattle.rh_defs.proofs.Chains.{granted-both, granted-unless}
+use Rattle.rh_defs.proofs.Chains.{granted-both}
 use Rattle.rh_safety.proofs.LiveRefs.{OneEach, live_with, own-refs, no_more-one, posted-one, join-one, poll-fewer, death-fewer}
 use Rattle.rh_defs.proofs.Changes.{Changed, IsOnMemory, in_areas, in_made, in_module, in_nothing, in_slot}
 use Rattle.rh_defs.proofs.QuestionLaws.{is_quiet}
@@ -178,6 +182,12 @@ past {d} {e} {h} s m = record {
   mail = λ is. m.mail (s.mail is);
 }
 
+-- a transfer that ends early tells no ref
+ending-quiet : (e : Ending) → refs_of_outcome (told e) ≡ []
+ending-quiet ending.Drained = refl
+ending-quiet ending.Unanswered = refl
+ending-quiet ending.Uncountable = refl
+
 module _ (d : Desk) (t : Task) where
   ignored-marks : Marks d (d, outcome.Ignored)
   ignored-marks = quiet (stands refl refl refl same-mail) refl
@@ -186,50 +196,40 @@ module _ (d : Desk) (t : Task) where
   unfolding with_task
   failed-marks x refusal = quiet (stands refl refl refl same-mail) refl
 
-  transmit-marks : (m : Parcel) (buffer amount : ℕ) (x : Sending) (source : Split Flex) → OnGrant (Marks d) (transmit d t m buffer amount x source)
-  unfolding transmit with_task
-  transmit-marks m buffer amount x source =
-      granted-then _ _ λ r live. granted-past _ _ _ λ reach. granted-with _ (send_letter-one _ d) λ sent one.
-      granted (tells one (stands refl refl refl same-mail) refl)
-
-  answer_fetch-marks : (m : Parcel) (buffer amount : ℕ) (o : Option Sending) → Marks d (answer_fetch d t m buffer amount o)
-  unfolding answer_fetch
-  answer_fetch-marks m buffer amount None = ignored-marks
-  answer_fetch-marks m buffer amount (Some x) =
-      or_else-keeps (Marks d) _ (granted-then _ _ λ source found. transmit-marks m buffer amount x source) (failed-marks x)
-
   fail_sending-marks : (o : Option Sending) → Marks d (fail_sending d t o)
   unfolding fail_sending with_task
   fail_sending-marks None = ignored-marks
   fail_sending-marks (Some x) = quiet (stands refl refl refl same-mail) refl
 
-  save_scrap-marks : (m : Parcel) (x : Sending) (source : Split Flex) → OnGrant (Marks d) (save_scrap d t m x source)
+  transmit-marks : (a : Transmit) (source : Split Flex) → OnGrant (Marks d) (transmit d t a source)
+  unfolding transmit with_task
+  transmit-marks a source =
+      granted-then _ _ λ r live. granted-past _ _ _ λ reach. granted-with _ (send_letter-one _ d) λ sent one.
+      granted (tells one (stands refl refl refl same-mail) refl)
+
+  save_scrap-marks : (a : SaveFile) (source : Split Flex) → OnGrant (Marks d) (save_scrap d t a source)
   unfolding save_scrap with_task
-  save_scrap-marks m x source =
+  save_scrap-marks a source =
       granted-past _ _ _ λ busy. granted-both _ (any-grant _) λ y u. granted-past _ _ _ λ room. granted-with _ (send_letter-one _ _) λ sent one.
       granted (tells {sent = sent} (record { handle = one.handle; ref = one.ref; area = one.area; mail = one.mail }) (stands refl refl refl same-mail) refl)
 
-  answer_ack-marks : (m : Parcel) (o : Option Sending) → Marks d (answer_ack d t m o)
-  unfolding answer_ack
-  answer_ack-marks m None = ignored-marks
-  answer_ack-marks m (Some x) =
-      or_else-keeps (Marks d) _ (granted-then _ _ λ source found. save_scrap-marks m x source) (failed-marks x)
+  send_with-marks : (a : SendAction) (source : Split Flex) → OnGrant (Marks d) (send_with d t a source)
+  unfolding send_with with_task
+  send_with-marks (send_action.Transmit a) source = transmit-marks a source
+  send_with-marks (send_action.SaveFile a) source = save_scrap-marks a source
+  send_with-marks (send_action.Finish x) source = granted (quiet (stands refl refl refl same-mail) refl)
 
-  finish_load-marks : (o : Option Sending) → Marks d (finish_load d t o)
-  unfolding finish_load with_task
-  finish_load-marks None = ignored-marks
-  finish_load-marks (Some x) =
-      or_else-keeps (Marks d) _ (granted-then _ _ λ source found. granted (quiet (stands refl refl refl same-mail) refl)) (failed-marks x)
+  perform_send-marks : (o : Option SendAction) → Marks d (perform_send d t o)
+  unfolding perform_send
+  perform_send-marks None = ignored-marks
+  perform_send-marks (Some a) =
+      or_else-keeps (Marks d) _ (granted-then _ _ λ source found. send_with-marks a source) (failed-marks (transfer_of a))
 
-  accept-marks : (m : Parcel) → OnGrant (Marks d) (accept d t m)
+  accept-marks : (a : Claim) → OnGrant (Marks d) (accept d t a)
   unfolding accept with_task
-  accept-marks m =
+  accept-marks a =
       granted-then _ _ λ k free. granted-then _ _ λ b claimed. granted-then _ _ λ p there. granted-with _ (send_letter-one _ _) λ sent one.
       granted (tells {sent = sent} (record { handle = one.handle; ref = one.ref; area = one.area; mail = one.mail }) (stands refl refl refl same-mail) refl)
-
-  take_save-marks : (m : Parcel) → Marks d (take_save d t m)
-  unfolding take_save
-  take_save-marks m = chosen (Marks d) _ _ _ (or_else-keeps (Marks d) _ (accept-marks m) (λ refusal. ignored-marks)) ignored-marks
 
   appended-stands : (k : ℕ) (bytes : List ℕ) → OnGrant (Stands d) (appended d t k bytes)
   unfolding appended with_task
@@ -241,78 +241,70 @@ module _ (d : Desk) (t : Task) where
   unfolding taking_ended with_task
   ended-marks f edit o none = quiet (stands refl refl refl same-mail) none
 
-  fetch_more-marks : (m : Parcel) (f : Taking) (n : ℕ) → OnGrant (Marks d) (fetch_more d t m f n)
+  fetch_more-marks : (a : Append) (b : Fetch) → OnGrant (Marks d) (fetch_more d t a b)
   unfolding fetch_more with_task
-  fetch_more-marks m f n = granted-with _ (send_letter-one _ d) λ sent one. granted (tells one (stands refl refl refl same-mail) refl)
+  fetch_more-marks a b = granted-with _ (send_letter-one _ d) λ sent one. granted (tells one (stands refl refl refl same-mail) refl)
 
-  took-marks : (m : Parcel) (f : Taking) (n : ℕ) → Marks d (took d t m f n)
+  took-marks : (a : Append) (b : Next) → Marks d (took d t a b)
   unfolding took
-  took-marks m f n =
-      chosen (Marks d) _ _ _ (ended-marks f _ _ refl)
-      (or_else-keeps (Marks d) _ (fetch_more-marks m f n) (λ refusal. ended-marks f _ _ refl))
+  took-marks a next.Finish = ended-marks a.transfer _ _ refl
+  took-marks a (next.Fetch b) = or_else-keeps (Marks d) _ (fetch_more-marks a b) (λ refusal. ended-marks a.transfer _ _ refl)
 
   ask-marks : (f : Taking) → OnGrant (Marks d) (ask d t f)
   unfolding ask taking_ended with_task
   ask-marks f = granted-with _ (send_letter-one _ d) λ sent one. granted (tells one (stands refl refl refl same-mail) refl)
-
-  fetch_back-marks : (o : Option Incoming) → Marks d (fetch_back d t o)
-  unfolding fetch_back
-  fetch_back-marks None = ignored-marks
-  fetch_back-marks (Some (incoming.Fetching f)) =
-      chosen (Marks d) _ _ _ (or_else-keeps (Marks d) _ (ask-marks f) (λ refusal. ended-marks f _ _ refl)) (ended-marks f _ _ refl)
-  fetch_back-marks (Some (incoming.Draining f)) = ended-marks f _ _ refl
-  fetch_back-marks (Some (incoming.Asking q)) = ignored-marks
-  fetch_back-marks (Some (incoming.Done id anchor count)) = ignored-marks
-  fetch_back-marks (Some (incoming.Failed id anchor count)) = ignored-marks
 
   ack_back-marks : (o : Option Asked) → Marks d (ack_back d t o)
   unfolding ack_back with_task
   ack_back-marks None = ignored-marks
   ack_back-marks (Some q) = quiet (stands refl refl refl same-mail) refl
 
-  loaded-marks : (m : Parcel) (q : Asked) (n : ℕ) → Marks d (loaded d t m q n)
+  loaded-marks : (a : LoadFile) (n : ℕ) → Marks d (loaded d t a n)
   unfolding loaded with_task
-  loaded-marks m q n =
+  loaded-marks a n =
       or_else-keeps (Marks d) _ (granted-with _ (send_letter-one _ d) λ sent one. granted (hides one (stands refl refl refl same-mail) refl))
       (λ refusal. quiet (stands refl refl refl same-mail) refl)
 
 module _ (d : Desk) (t : Task) where
-  take_bytes-marks : (m : Parcel) (n : ℕ) (o : Option Incoming) → Marks d (take_bytes d t m n o)
-  unfolding take_bytes
-  take_bytes-marks m n None = ignored-marks d t
-  take_bytes-marks m n (Some (incoming.Fetching f)) =
+  append-marks : (a : Append) → Marks d (append d t a)
+  unfolding append
+  append-marks a =
       or_else-keeps (Marks d) _
-      (granted-unless _ _ _ λ small. granted-with _ (appended-stands d t f.anchor _) λ longer s. granted (past s (took-marks longer t m f n)))
-      (λ refusal. ended-marks d t f _ _ refl)
-  take_bytes-marks m n (Some (incoming.Draining f)) = ended-marks d t f _ _ refl
-  take_bytes-marks m n (Some (incoming.Asking q)) = ignored-marks d t
-  take_bytes-marks m n (Some (incoming.Done id anchor count)) = ignored-marks d t
-  take_bytes-marks m n (Some (incoming.Failed id anchor count)) = ignored-marks d t
+      (granted-with _ (appended-stands d t a.transfer.anchor _) λ longer s. granted (past s (took-marks longer t a a.next)))
+      (λ refusal. ended-marks d t a.transfer _ _ refl)
 
-  load_file-marks : (m : Parcel) (q : Asked) (o : Option Scrap) → Marks d (load_file d t m q o)
+  load_file-marks : (a : LoadFile) (o : Option Scrap) → Marks d (load_file d t a o)
   unfolding load_file with_task
-  load_file-marks m q None = ignored-marks d t
-  load_file-marks m q (Some file) =
+  load_file-marks a None = ignored-marks d t
+  load_file-marks a (Some file) =
       chosen (Marks d) _ _ _
       (or_else-keeps (Marks d) _
-      (granted-with _ (appended-stands d t q.anchor file.bytes) λ longer s.
-      granted (past (stands s.handle s.ref s.area s.mail) (loaded-marks (record longer { scrap = None }) t m q (length file.bytes))))
+      (granted-with _ (appended-stands d t a.transfer.anchor file.bytes) λ longer s.
+      granted (past (stands s.handle s.ref s.area s.mail) (loaded-marks (record longer { scrap = None }) t a (length file.bytes))))
       (λ refusal. quiet (stands refl refl refl same-mail) refl))
       (ignored-marks d t)
 
-  take_file-marks : (m : Parcel) (o : Option Asked) → Marks d (take_file d t m o)
-  unfolding take_file
-  take_file-marks m None = ignored-marks d t
-  take_file-marks m (Some q) = load_file-marks m q d.scrap
+  take_with-marks : (a : TakeAction) → Marks d (take_with d t a)
+  unfolding take_with
+  take_with-marks (take_action.Claim a) = or_else-keeps (Marks d) _ (accept-marks d t a) (λ refusal. ignored-marks d t)
+  take_with-marks (take_action.Append a) = append-marks a
+  take_with-marks (take_action.AskForFile f) = or_else-keeps (Marks d) _ (ask-marks d t f) (λ refusal. ended-marks d t f _ _ refl)
+  take_with-marks (take_action.LoadFile a) = load_file-marks a d.scrap
+  take_with-marks (take_action.Release a) = ended-marks d t a.transfer _ _ (ending-quiet a.ending)
+
+  perform_take-marks : (o : Option TakeAction) → Marks d (perform_take d t o)
+  unfolding perform_take
+  perform_take-marks None = ignored-marks d t
+  perform_take-marks (Some a) = take_with-marks a
 
   came-marks : (m : Parcel) (body : Body) → Marks d (came d t m body)
   unfolding came
-  came-marks m (DataSave file) = take_save-marks d t m
-  came-marks m (DataSaveAck file) = answer_ack-marks d t m _
-  came-marks m (DataLoad file) = take_file-marks m _
-  came-marks m (DataLoadAck file) = finish_load-marks d t _
-  came-marks m (RamFetch buffer amount) = chosen (Marks d) _ _ _ (ignored-marks d t) (answer_fetch-marks d t m buffer amount _)
-  came-marks m (RamTransmit buffer n) = take_bytes-marks m n _
+  came-marks m (DataSave file) = perform_take-marks _
+  came-marks m (DataSaveAck file) = perform_send-marks d t _
+  came-marks m (DataLoad file) = perform_take-marks _
+  came-marks m (DataLoadAck file) = perform_send-marks d t _
+  came-marks m (RamFetch buffer amount) = chosen (Marks d) _ _ _ (ignored-marks d t) (perform_send-marks d t _)
+  came-marks m (RamTransmit buffer n) = perform_take-marks _
 
   came_back-marks : (m : Parcel) (body : Body) → Marks d (came_back d t m body)
   unfolding came_back
@@ -320,7 +312,7 @@ module _ (d : Desk) (t : Task) where
   came_back-marks m (DataSaveAck file) = ack_back-marks d t _
   came_back-marks m (DataLoad file) = fail_sending-marks d t _
   came_back-marks m (DataLoadAck file) = ignored-marks d t
-  came_back-marks m (RamFetch buffer amount) = fetch_back-marks d t _
+  came_back-marks m (RamFetch buffer amount) = perform_take-marks _
   came_back-marks m (RamTransmit buffer n) = fail_sending-marks d t _
 
   handled-marks : (m : Parcel) (code : EventCode) → Marks d (handled d t m code)

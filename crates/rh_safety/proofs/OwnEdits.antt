@@ -1,14 +1,18 @@
 -- What a message that was handled makes of a desk, told once: edits of the task's own slot and records, letters of its own,
 -- the scrap file and area 5, and bytes that a transmit writes into the recipient's slot.
 use Rattle.rh_safety.proofs.Common.{◌≡◌, ℕ, List, Option, Some, None, refl, Ok, Err, Refusal, Body, EventCode, User, Recorded, Acknowledge, Asked, Sending}
-use Rattle.rh_safety.proofs.Common.{Taking, Incoming, Outgoing, Granted, Split, Flex, Slot, Parcel, Desk, Scrap, Task, send_letter, with_sending, with_taking}
-use Rattle.rh_safety.proofs.Common.{with_task, Handled, answer_ack, answer_fetch, fail_sending, finish_load, ignored, refused, save_scrap, transmit, accept}
-use Rattle.rh_safety.proofs.Common.{ack_back, appended, ask, taking_ended, fetch_back, fetch_more, load_file, loaded, take_bytes, take_file, take_save, took}
-use Rattle.rh_safety.proofs.Common.{answers_none, came, came_back, handled, OnGrant, granted, granted-past, granted-then, granted-with, chosen, or_else-keeps}
+use Rattle.rh_safety.proofs.Common.{Taking, Incoming, Outgoing, Granted, Split, Flex, Slot, Parcel, Desk, Scrap, Task, send_letter, with_sending}
+use Rattle.rh_safety.proofs.Common.{with_taking, with_task, option_map, Transmit, SaveFile, SendAction, Claim, Append, Fetch, Next, LoadFile, TakeAction}
+use Rattle.rh_safety.proofs.Common.{Handled, ignored, refused, fail_sending, transmit, save_scrap, send_with, perform_send, accept, ack_back, append}
+use Rattle.rh_safety.proofs.Common.{appended, ask, took, taking_ended, fetch_more, load_file, loaded, take_with, perform_take, answers_none, came, came_back}
+use Rattle.rh_safety.proofs.Common.{handled, OnGrant, granted, granted-past, granted-then, granted-with, chosen, or_else-keeps}
 use Rattle.rh_defs.specs.declared.message.Body.TheVariants as body
 use Rattle.rh_defs.specs.declared.message.Letter.{Letter}
-use Rattle.rh_defs.specs.declared.transfer.Incoming.TheVariants as incoming
-use Rattle.rh_defs.proofs.Chains.{granted-both, granted-unless}
+use Rattle.rh_defs.specs.declared.transfer_action.SendAction.TheVariants as send_action
+use Rattle.rh_defs.specs.declared.transfer_action.TakeAction.TheVariants as take_action
+use Rattle.rh_defs.specs.declared.transfer_action.Next.TheVariants as next
+use Rattle.rh_defs.specs.Sender as sender
+use Rattle.rh_defs.proofs.Chains.{granted-both}
 use Rattle.rh_defs.proofs.Chains as chains
 
 -- a relation of two desks that holds of each edit of what is a task's own, and of one after another
@@ -52,80 +56,77 @@ module _ (R : Desk → Desk → Type 0) (t : Task) (own : OwnEdits t.handle R) (
   ins-own : (edit : List Incoming → List Incoming) (o : _) → Did R d (with_taking t.handle edit d, o)
   ins-own edit o = record { desk = own.ins edit d }
 
-  transmit-own : OfAnySlot R → (m : Parcel) (buffer amount : ℕ) (x : Sending) (source : Split Flex) →
-      OnGrant (Did R d) (transmit d t m buffer amount x source)
-  unfolding transmit
-  transmit-own any m buffer amount x source =
-      granted-then _ _ λ r e. granted-past _ _ _ λ reach. granted-with _ (own.letter _ d refl) λ sent one.
-      granted (record { desk = own.after one (own.after (any r.handle _ sent) (own.outs _ _)) })
-
-  answer_fetch-own : OfAnySlot R → (m : Parcel) (buffer amount : ℕ) (v : Option Sending) → Did R d (answer_fetch d t m buffer amount v)
-  unfolding answer_fetch
-  answer_fetch-own any m buffer amount None = ignored-own
-  answer_fetch-own any m buffer amount (Some x) =
-      or_else-keeps (Did R d) _ (granted-then _ _ λ source found. transmit-own any m buffer amount x source) (refused-own x)
-
   fail_sending-own : (v : Option Sending) → Did R d (fail_sending d t v)
   unfolding fail_sending
   fail_sending-own None = ignored-own
   fail_sending-own (Some x) = record { desk = own.outs _ d }
 
-  save_scrap-own : (m : Parcel) (x : Sending) (source : Split Flex) → OnGrant (Did R d) (save_scrap d t m x source)
+  transmit-own : OfAnySlot R → (a : Transmit) (source : Split Flex) → OnGrant (Did R d) (transmit d t a source)
+  unfolding transmit
+  transmit-own any a source =
+      granted-then _ _ λ r e. granted-past _ _ _ λ reach. granted-with _ (own.letter _ d refl) λ sent one.
+      granted (record { desk = own.after one (own.after (any r.handle _ sent) (own.outs _ _)) })
+
+  save_scrap-own : (a : SaveFile) (source : Split Flex) → OnGrant (Did R d) (save_scrap d t a source)
   unfolding save_scrap
-  save_scrap-own m x source =
+  save_scrap-own a source =
       granted-past _ _ _ λ busy. granted-both _ (any-grant _) λ y u. granted-past _ _ _ λ room.
       granted-with _ (own.letter _ _ refl) λ sent one.
       granted (record { desk = own.after (own.areas _ d) (own.after one (own.after (own.scrap _ sent) (own.outs _ _))) })
 
-  pub answer_ack-own : (m : Parcel) (v : Option Sending) → Did R d (answer_ack d t m v)
-  unfolding answer_ack
-  answer_ack-own m None = ignored-own
-  answer_ack-own m (Some x) =
-      or_else-keeps (Did R d) _ (granted-then _ _ λ source found. save_scrap-own m x source) (refused-own x)
+  -- an action for the record that was found
+  perform_send-own : (act : Sending → SendAction) (v : Option Sending) →
+      ((x : Sending) (source : Split Flex) → OnGrant (Did R d) (send_with d t (act x) source)) → Did R d (perform_send d t (option_map act v))
+  unfolding perform_send
+  perform_send-own act None each = ignored-own
+  perform_send-own act (Some x) each =
+      or_else-keeps (Did R d) _ (granted-then _ _ λ source found. each x source) (refused-own (sender.transfer_of (act x)))
 
-  pub finish_load-own : (v : Option Sending) → Did R d (finish_load d t v)
-  unfolding finish_load
-  finish_load-own None = ignored-own
-  finish_load-own (Some x) =
-      or_else-keeps (Did R d) _ (granted-then _ _ λ source found. granted (record { desk = own.outs _ d })) (refused-own x)
+  on_fetch-own : OfAnySlot R → (m : Parcel) (buffer amount : ℕ) →
+      Did R d (perform_send d t (sender.on_fetch m.message.from m.message.my_ref m.message.your_ref buffer amount t.sending))
+  unfolding send_with
+  on_fetch-own any m buffer amount =
+      perform_send-own (sender.transmit_for m.message.from m.message.my_ref buffer amount) _ (λ x source. transmit-own any _ source)
 
-  accept-own : (m : Parcel) → OnGrant (Did R d) (accept d t m)
+  pub on_ack-own : (m : Parcel) → Did R d (perform_send d t (sender.on_ack m.message.from m.message.my_ref m.message.your_ref t.sending))
+  unfolding send_with
+  on_ack-own m = perform_send-own (sender.file_for m.message.from m.message.my_ref) _ (λ x source. save_scrap-own _ source)
+
+  pub on_load_ack-own : (m : Parcel) → Did R d (perform_send d t (sender.on_load_ack m.message.from m.message.your_ref t.sending))
+  unfolding send_with
+  on_load_ack-own m = perform_send-own send_action.Finish _ (λ x source. granted (record { desk = own.outs _ d }))
+
+  accept-own : (a : Claim) → OnGrant (Did R d) (accept d t a)
   unfolding accept
-  accept-own m =
-      granted-then _ _ λ a free. granted-then _ _ λ b claimed. granted-then _ _ λ p there.
+  accept-own a =
+      granted-then _ _ λ k free. granted-then _ _ λ b claimed. granted-then _ _ λ p there.
       granted-with _ (own.letter _ _ refl) λ sent one.
       granted (record { desk = own.after (own.slot (λ s. p.0) d) (own.after one (own.ins _ sent)) })
 
-  pub take_save-own : (m : Parcel) → Did R d (take_save d t m)
-  unfolding take_save
-  take_save-own m =
-      chosen (Did R d) _ _ _ (or_else-keeps (Did R d) _ (accept-own m) (λ refusal. ignored-own)) ignored-own
-
-  appended-edits : (a : ℕ) (bytes : List ℕ) → OnGrant (R d) (appended d t a bytes)
+  appended-edits : (k : ℕ) (bytes : List ℕ) → OnGrant (R d) (appended d t k bytes)
   unfolding appended
-  appended-edits a bytes =
+  appended-edits k bytes =
       granted-then _ _ λ document found. granted-then _ _ λ longer e. granted-then _ _ λ s f.
       granted (own.slot (λ old. s) d)
 
-  fetch_more-own : (m : Parcel) (f : Taking) (n : ℕ) → OnGrant (Did R d) (fetch_more d t m f n)
+  fetch_more-own : (a : Append) (b : Fetch) → OnGrant (Did R d) (fetch_more d t a b)
   unfolding fetch_more
-  fetch_more-own m f n =
+  fetch_more-own a b =
       granted-with _ (own.letter _ d refl) λ sent one. granted (record { desk = own.after one (own.ins _ sent) })
 
-  took-own : (m : Parcel) (f : Taking) (n : ℕ) → Did R d (took d t m f n)
+  took-own : (a : Append) (b : Next) → Did R d (took d t a b)
   unfolding took
-  took-own m f n =
-      chosen (Did R d) _ _ _ (ended-own f _ _)
-      (or_else-keeps (Did R d) _ (fetch_more-own m f n) (λ refusal. ended-own f _ _))
+  took-own a next.Finish = ended-own a.transfer _ _
+  took-own a (next.Fetch b) = or_else-keeps (Did R d) _ (fetch_more-own a b) (λ refusal. ended-own a.transfer _ _)
 
   ack_back-own : (v : Option Asked) → Did R d (ack_back d t v)
   unfolding ack_back
   ack_back-own None = ignored-own
   ack_back-own (Some q) = ins-own _ _
 
-  loaded-own : (m : Parcel) (q : Asked) (n : ℕ) → Did R d (loaded d t m q n)
+  loaded-own : (a : LoadFile) (n : ℕ) → Did R d (loaded d t a n)
   unfolding loaded
-  loaded-own m q n =
+  loaded-own a n =
       or_else-keeps (Did R d) _
       (granted-with _ (own.letter _ d refl) λ sent one. granted (record { desk = own.after one (own.ins _ sent) }))
       (λ refusal. ins-own _ _)
@@ -139,56 +140,53 @@ module _ (R : Desk → Desk → Type 0) (t : Task) (own : OwnEdits t.handle R) (
   ask-own f =
       granted-with _ (own.letter _ d refl) λ sent one. granted (behind one (ended-own R t own sent f _ _))
 
-  fetch_back-own : (v : Option Incoming) → Did R d (fetch_back d t v)
-  unfolding fetch_back
-  fetch_back-own None = ignored-own R t own d
-  fetch_back-own (Some (incoming.Fetching f)) =
-      chosen (Did R d) _ _ _ (or_else-keeps (Did R d) _ (ask-own f) (λ refusal. ended-own R t own d f _ _)) (ended-own R t own d f _ _)
-  fetch_back-own (Some (incoming.Draining f)) = ended-own R t own d f _ _
-  fetch_back-own (Some w) = ignored-own R t own d
-
-  pub take_bytes-own : (m : Parcel) (n : ℕ) (v : Option Incoming) → Did R d (take_bytes d t m n v)
-  unfolding take_bytes
-  take_bytes-own m n None = ignored-own R t own d
-  take_bytes-own m n (Some (incoming.Fetching f)) =
+  append-own : (a : Append) → Did R d (append d t a)
+  unfolding append
+  append-own a =
       or_else-keeps (Did R d) _
-      (granted-unless _ _ _ λ small. granted-with _ (appended-edits R t own d f.anchor _) λ longer one.
-      granted (behind one (took-own R t own longer m f n)))
-      (λ refusal. ended-own R t own d f _ _)
-  take_bytes-own m n (Some (incoming.Draining f)) = ended-own R t own d f _ _
-  take_bytes-own m n (Some w) = ignored-own R t own d
+      (granted-with _ (appended-edits R t own d a.transfer.anchor _) λ longer one. granted (behind one (took-own R t own longer a a.next)))
+      (λ refusal. ended-own R t own d a.transfer _ _)
 
-  load_file-own : (m : Parcel) (q : Asked) (v : Option Scrap) → Did R d (load_file d t m q v)
+  load_file-own : (a : LoadFile) (v : Option Scrap) → Did R d (load_file d t a v)
   unfolding load_file
-  load_file-own m q None = ignored-own R t own d
-  load_file-own m q (Some file) =
+  load_file-own a None = ignored-own R t own d
+  load_file-own a (Some file) =
       chosen (Did R d) _ _ _
       (or_else-keeps (Did R d) _
-      (granted-with _ (appended-edits R t own d q.anchor file.bytes) λ longer one.
-      granted (behind (own.after one (own.scrap None longer)) (loaded-own R t own (record longer { scrap = None }) m q _)))
+      (granted-with _ (appended-edits R t own d a.transfer.anchor file.bytes) λ longer one.
+      granted (behind (own.after one (own.scrap None longer)) (loaded-own R t own (record longer { scrap = None }) a _)))
       (λ refusal. ins-own R t own d _ _))
       (ignored-own R t own d)
 
-  pub take_file-own : (m : Parcel) (v : Option Asked) → Did R d (take_file d t m v)
-  unfolding take_file
-  take_file-own m None = ignored-own R t own d
-  take_file-own m (Some q) = load_file-own m q d.scrap
+  take_with-own : (a : TakeAction) → Did R d (take_with d t a)
+  unfolding take_with
+  take_with-own (take_action.Claim a) = or_else-keeps (Did R d) _ (accept-own R t own d a) (λ refusal. ignored-own R t own d)
+  take_with-own (take_action.Append a) = append-own a
+  take_with-own (take_action.AskForFile f) = or_else-keeps (Did R d) _ (ask-own f) (λ refusal. ended-own R t own d f _ _)
+  take_with-own (take_action.LoadFile a) = load_file-own a d.scrap
+  take_with-own (take_action.Release a) = ended-own R t own d a.transfer _ _
+
+  -- an action of a task that receives
+  pub perform_take-own : (v : Option TakeAction) → Did R d (perform_take d t v)
+  unfolding perform_take
+  perform_take-own None = ignored-own R t own d
+  perform_take-own (Some a) = take_with-own a
 
   came-own : OfAnySlot R → (m : Parcel) (b : Body) → Did R d (came d t m b)
   unfolding came
-  came-own any m (body.DataSave file) = take_save-own R t own d m
-  came-own any m (body.DataSaveAck file) = answer_ack-own R t own d m _
-  came-own any m (body.DataLoad file) = take_file-own m _
-  came-own any m (body.DataLoadAck file) = finish_load-own R t own d _
+  came-own any m (body.DataSave file) = perform_take-own _
+  came-own any m (body.DataSaveAck file) = on_ack-own R t own d m
+  came-own any m (body.DataLoad file) = perform_take-own _
+  came-own any m (body.DataLoadAck file) = on_load_ack-own R t own d m
   came-own any m (body.RamFetch buffer amount) =
-      chosen (Did R d) (answers_none t.manner) _ _ (ignored-own R t own d) (answer_fetch-own R t own d any m buffer amount _)
-  came-own any m (body.RamTransmit buffer n) = take_bytes-own m n _
+      chosen (Did R d) (answers_none t.manner) _ _ (ignored-own R t own d) (on_fetch-own R t own d any m buffer amount)
+  came-own any m (body.RamTransmit buffer n) = perform_take-own _
 
   pub came_back-own : (m : Parcel) (b : Body) → Did R d (came_back d t m b)
   unfolding came_back
   came_back-own m (body.DataSaveAck file) = ack_back-own R t own d _
   came_back-own m (body.DataLoadAck file) = ignored-own R t own d
-  came_back-own m (body.RamFetch buffer amount) = fetch_back-own _
+  came_back-own m (body.RamFetch buffer amount) = perform_take-own _
   came_back-own m b = fail_sending-own R t own d _
 
   -- a message of any kind

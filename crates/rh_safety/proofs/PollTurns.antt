@@ -1,14 +1,14 @@
 -- A poll that takes the one message of the post, and what is seen of the desk once it was dealt with.
-use Rattle.rh_safety.proofs.Common.{◌≡◌, ℕ, ◌-◌, ◌≤◌, Bool, true, false, List, [], ◌∷◌, length, Option, Some, None, refl, sym, ap, ◌∙◌, subst, inl, inr, ◌+◌}
-use Rattle.rh_safety.proofs.Common.{if◌then◌else◌, min, nat_lt, option_map, Body, EventCode, User, Recorded, Acknowledge, Sending, Taking, Incoming, Parcel}
-use Rattle.rh_safety.proofs.Common.{action_of, Post, Desk, Task, with_delivered, Handled, answer_fetch, take_bytes, take_save, answers_none, Answer}
-use Rattle.rh_safety.proofs.Common.{poll_taken, view, seen_parcel, address_in, amount_in, task_of, Letter, Message, first_for, none_some, open_is, is_equal}
-use Rattle.rh_safety.proofs.Common.{and_left, field_is}
+use Rattle.rh_safety.proofs.Common.{◌≡◌, ℕ, ◌≤◌, Bool, true, false, List, [], ◌∷◌, length, Option, Some, None, refl, sym, ap, ◌∙◌, subst, inl, inr, ◌+◌}
+use Rattle.rh_safety.proofs.Common.{if◌then◌else◌, nat_lt, option_map, Body, EventCode, User, Recorded, Acknowledge, Sending, Taking, Incoming, Parcel}
+use Rattle.rh_safety.proofs.Common.{action_of, Post, Desk, Task, with_delivered, Handled, perform_send, perform_take, open_of, answers_none, Answer}
+use Rattle.rh_safety.proofs.Common.{poll_taken, view, seen_parcel, address_in, amount_in, task_of, Letter, Message, first_for, none_some, field_is}
 use Rattle.rh_defs.specs.declared.message.Action.TheVariants as action
 use Rattle.rh_defs.specs.declared.message.Body.TheVariants as body
 use Rattle.rh_defs.specs.declared.reply.Outcome.TheVariants as outcome
 use Rattle.rh_defs.specs.declared.transfer.Incoming.TheVariants as incoming
-use Rattle.rh_defs.specs.Sender as sender
+use Rattle.rh_defs.specs.declared.transfer_action.SendAction.TheVariants as send_action
+use Rattle.rh_defs.specs.Records.{active_of}
 use Rattle.rh_defs.specs.Receiver as receiver
 use Rattle.rh_defs.specs.Transfer as transfer
 use Rattle.rh_defs.specs.Commands.{event}
@@ -18,9 +18,9 @@ use Rattle.rh_safety.proofs.Arrivals.{Began}
 use Rattle.rh_safety.proofs.Turns.{first_one}
 use Rattle.rh_safety.proofs.SeenTaking.{IsTaken, lost_queue, picked_by}
 use Rattle.rh_safety.proofs.SeenDocuments.{letter_of}
-use Rattle.rh_safety.proofs.KeptFetch.{gone, fetch_does, fetch_goes}
-use Rattle.rh_safety.proofs.KeptOffers.{save_does}
-use Rattle.rh_safety.proofs.KeptTransmits.{taken_desk, took_all, transmit_does}
+use Rattle.rh_safety.proofs.KeptFetch.{gone, transmit_does, transmit_goes}
+use Rattle.rh_safety.proofs.KeptOffers.{for_save, save_does}
+use Rattle.rh_safety.proofs.KeptTransmits.{taken_desk, took_all, bytes_does}
 
 -- ---- the message that is taken
 
@@ -96,7 +96,7 @@ fetch_body (body.RamTransmit a n) q = absurd (let z : action.RamTransmit ≡ act
 -- the record x of task h answers the fetch l from the source, into the buffer's old bytes
 pub record Answers (d : sight.Desk) (h : ℕ) (l : Letter) (x : Sending) (source old : List ℕ) : Type 0 where
   pub fetches : d.file h ≡ false
-  pub found : sender.on_fetch l.from l.answers l.amount (d.sending h) ≡ Some x
+  pub found : open_of (sight.would_answer l) (d.sending h) ≡ Some x
   pub there : d.block h x.anchor ≡ Some source
   pub buffer : d.heap x.recipient l.address ≡ Some old
   pub fits : l.amount ≤ length old
@@ -108,44 +108,41 @@ module _ (d : Desk) (t : Task) (m : Parcel) (is : task_of t.handle d.tasks ≡ S
   fetch_came : (a n : ℕ) (x : Sending) (source old : List ℕ) →
       Answers (sight.lost (view d)) h (letter_of m (body.RamFetch a n)) x source old →
       is_refusal action.RamFetch (transfer.came d t m (body.RamFetch a n)).1 ≡ false →
-      view (transfer.came d t m (body.RamFetch a n)).0 ≡ gone (view d) h (letter_of m (body.RamFetch a n)) x
-      m.message.from source old (min n (length source - x.count))
+      view (transfer.came d t m (body.RamFetch a n)).0 ≡
+      gone (view d) h (sight.answer_of (letter_of m (body.RamFetch a n)) x) source old
   unfolding transfer.came
   fetch_came a n x source old w granted =
-      let y : Handled = answer_fetch d t m a n (Some x) in
+      let l : Letter = letter_of m (body.RamFetch a n) in
+      let y : Handled = perform_send d t (Some (send_action.Transmit (sight.answer_of l x))) in
       let file : answers_none t.manner ≡ false = sym (field_is (λ y. answers_none y.manner) false h d.tasks t is) ∙
       w.fetches in
-      let found : sender.on_fetch m.message.from m.message.your_ref n t.sending ≡ Some x = ap (sender.on_fetch
-      m.message.from m.message.your_ref n) (sym (field_is (λ y. y.sending) [] h d.tasks t is)) ∙ w.found in
+      let found : open_of (sight.would_answer l) t.sending ≡ Some x = ap (open_of (sight.would_answer l))
+      (sym (field_is (λ y. y.sending) [] h d.tasks t is)) ∙ w.found in
       let same : transfer.came d t m (body.RamFetch a n) ≡ y = rw (file, found) refl in
-      let from = is_equal _ _ (and_left _ _ (and_left _ _ (open_is (sender.would_answer m.message.from
-      m.message.your_ref n) t.sending x found).1)) in
-      ap (λ (z : Handled). view z.0) same ∙ fetch_goes d t m is a n x source old y
-      (fetch_does d t m is a n x from (λ lives. record { old = old; there = w.buffer; fits = w.fits }))
+      ap (λ (z : Handled). view z.0) same ∙ transmit_goes d t is (sight.answer_of l x) source old y
+      (transmit_does d t is (sight.answer_of l x) (λ lives. record { old = old; there = w.buffer; fits = w.fits }))
       (ap (λ (z : Handled). is_refusal action.RamFetch z.1) (sym same) ∙ granted) w.there w.buffer
 
   fetch_handled : action_of m.message.body ≡ action.RamFetch → (x : Sending) (source old : List ℕ) →
       Answers (sight.lost (view d)) h (seen_parcel m).letter x source old →
       is_refusal (action_of m.message.body) (transfer.came d t m m.message.body).1 ≡ false →
-      view (transfer.came d t m m.message.body).0 ≡ gone (view d) h (seen_parcel m).letter x m.message.from source old
-      (min (amount_in m.message.body) (length source - x.count))
+      view (transfer.came d t m m.message.body).0 ≡ gone (view d) h (sight.answer_of (seen_parcel m).letter x) source old
   fetch_handled kind x source old = subst (λ (b : Body). Answers (sight.lost (view d)) h (letter_of m b) x source old →
       is_refusal (action_of b) (transfer.came d t m b).1 ≡ false → view (transfer.came d t m b).0 ≡ gone (view d) h
-      (letter_of m b) x m.message.from source old (min (amount_in b) (length source - x.count)))
+      (sight.answer_of (letter_of m b) x) source old)
       (fetch_body m.message.body kind) (fetch_came (address_in m.message.body) (amount_in m.message.body) x source old)
 
 pub fetch_turn : (d : Desk) (h : ℕ) (m : Message) (a : Answer) → Turn d h m a →
     is_refused_poll a.1 ≡ false → (m.code ≡ Acknowledge → ⊥) → m.letter.kind ≡ action.RamFetch → (x : Sending)
     (source old : List ℕ) → Answers (sight.picked (sight.lost (view d)) h m m.code) h m.letter x source old →
-    sight.lost (view a.0) ≡ gone (sight.picked (sight.lost (view d)) h m m.code) h m.letter x m.letter.from
-    source old (min m.letter.amount (length source - x.count))
+    sight.lost (view a.0) ≡ gone (sight.picked (sight.lost (view d)) h m m.code) h (sight.answer_of m.letter x) source old
 fetch_turn d h m a (takes d2 t p is taken) granted came kind x source old w =
     let same = came_of d2 t p p.code came in
     let l : Letter = (seen_parcel p).letter in
     let v = fetch_handled d2 t p is kind x source old (subst (λ (y : sight.Desk). Answers y t.handle l x source
     old) (sym taken) w) (ap (λ (z : Handled). is_refusal (action_of p.message.body) z.1) (sym same) ∙ granted) in
-    ap (λ (z : Handled). sight.lost (view z.0)) same ∙ ap sight.lost v ∙ ap (λ (y : sight.Desk). gone y t.handle l
-    x p.message.from source old (min l.amount (length source - x.count))) taken
+    ap (λ (z : Handled). sight.lost (view z.0)) same ∙ ap sight.lost v ∙
+    ap (λ (y : sight.Desk). gone y t.handle (sight.answer_of l x) source old) taken
 
 -- ---- a transmit
 
@@ -159,7 +156,7 @@ transmit_body (body.RamFetch a n) q = absurd (let z : action.RamFetch ≡ action
 
 -- the record of task h that takes the transmit
 abbrev pub taker : sight.Desk → ℕ → Letter → Option Incoming
-taker d h l = receiver.on_transmit (d.buf h) l.from l.answers l.address l.amount (d.taking h)
+taker d h l = active_of (receiver.is_answer (d.buf h) l.from l.answers l.address l.amount) (d.taking h)
 
 module _ (d : Desk) (t : Task) (m : Parcel) (is : task_of t.handle d.tasks ≡ Some t) where
   transmit_came : (a n : ℕ) (r : Taking) →
@@ -169,16 +166,17 @@ module _ (d : Desk) (t : Task) (m : Parcel) (is : task_of t.handle d.tasks ≡ S
       (letter_of m (body.RamTransmit a n))
   unfolding transfer.came
   transmit_came a n r found granted =
-      let y : Handled = take_bytes d t m n (Some (incoming.Fetching r)) in
-      let here : receiver.on_transmit t.buffer m.message.from m.message.your_ref a n t.taking ≡ Some (incoming.Fetching
-      r) = ap (λ k. receiver.on_transmit k m.message.from m.message.your_ref a n t.taking)
-      (sym (field_is (λ y. y.buffer)
-      1 t.handle d.tasks t is)) ∙ ap (receiver.on_transmit ((view d).buf t.handle) m.message.from m.message.your_ref a
-      n)
+      let y : Handled = perform_take d t (receiver.take_for t.buffer m.message.my_ref n (incoming.Fetching r)) in
+      let here : active_of (receiver.is_answer t.buffer m.message.from m.message.your_ref a n) t.taking ≡
+      Some (incoming.Fetching r) =
+      ap (λ k. active_of (receiver.is_answer k m.message.from m.message.your_ref a n) t.taking)
+      (sym (field_is (λ y. y.buffer) 1 t.handle d.tasks t is)) ∙
+      ap (active_of (receiver.is_answer ((view d).buf t.handle) m.message.from m.message.your_ref a n))
       (sym (field_is (λ y. y.taking) [] t.handle d.tasks t is)) ∙ found in
-      let same : transfer.came d t m (body.RamTransmit a n) ≡ y = ap (take_bytes d t m n) here in
+      let same : transfer.came d t m (body.RamTransmit a n) ≡ y =
+      ap (λ v. perform_take d t (receiver.of_record (receiver.take_for t.buffer m.message.my_ref n) v)) here in
       ap (λ (z : Handled). view z.0) same ∙ took_all (view d) t.handle r (letter_of m (body.RamTransmit a n)) y.1
-      (view y.0) (transmit_does d t m is a n r) (ap (λ (z : Handled). is_refusal action.RamTransmit z.1) (sym same) ∙
+      (view y.0) (bytes_does d t m is a n r) (ap (λ (z : Handled). is_refusal action.RamTransmit z.1) (sym same) ∙
       granted)
 
   transmit_handled : action_of m.message.body ≡ action.RamTransmit → (r : Taking) →
@@ -218,7 +216,7 @@ transmit_turn d h m a (takes d2 t p is taken) granted came kind r found =
 -- ---- a DataSave
 
 save_body : (d : Desk) (t : Task) (m : Parcel) (b : Body) → action_of b ≡ action.DataSave →
-    transfer.came d t m b ≡ take_save d t m
+    transfer.came d t m b ≡ perform_take d t (for_save t m)
 unfolding transfer.came
 save_body d t m (body.DataSave x) q = refl
 save_body d t m (body.RamFetch a n) q = absurd (let z : action.RamFetch ≡ action.DataSave = q in (cc))
@@ -231,7 +229,7 @@ pub save_turn : (d : Desk) (h : ℕ) (m : Message) (a : Answer) → Turn d h m a
     (m.code ≡ Acknowledge → ⊥) → m.letter.kind ≡ action.DataSave →
     Began (sight.picked (sight.lost (view d)) h m m.code) h m.letter (sight.lost (view a.0))
 save_turn d h m a (takes d2 t p is taken) granted came kind =
-    let same : transfer.handled d2 t p p.code ≡ take_save d2 t p = came_of d2 t p p.code came ∙ save_body d2 t p
+    let same : transfer.handled d2 t p p.code ≡ perform_take d2 t (for_save t p) = came_of d2 t p p.code came ∙ save_body d2 t p
     p.message.body kind in
     let l : Letter = (seen_parcel p).letter in
     elim (save_does d2 t p is p.message.body) [

@@ -7,7 +7,8 @@ use Rattle.rh_safety.proofs.Common.{is_equal, length_take, Ascend, with_ascends,
 use Rattle.rh_safety.proofs.Common.{rests, LiveFile, known_by}
 use Rattle.std.proofs.lemmas.Bool.Decides.{nat_tests}
 use Rattle.rh_safety.proofs.Ends.{Returned, find_open}
-use Rattle.rh_safety.proofs.Sight.{Desk, returned, picked, failed, portion, lost_if}
+use Rattle.rh_defs.specs.Sender as sender
+use Rattle.rh_safety.proofs.Sight.{Desk, returned, picked, failed, answer_of, lost_if}
 use Rattle.rh_safety.proofs.Basics.{first_has, without_has, front_written, length_written}
 use Rattle.rh_safety.proofs.Moves.{Move, move_with}
 use Rattle.rh_safety.proofs.Filings.{none_live}
@@ -45,7 +46,7 @@ pub record Portion (source : List ℕ) (x : Sending) (l : Letter) (n : ℕ) : Ty
   pub short : n < l.amount → x.count + n ≡ length source
 
 pub portion_ok : (source : List ℕ) (x : Sending) (l : Letter) → x.count ≤ length source →
-    Portion source x l (portion source x l)
+    Portion source x l (sender.part (answer_of l x) (length source)).n
 portion_ok source x l le = record { within = omega arith; fits = omega arith; short = λ s. omega arith }
 
 module _ {o : Offered} {e : ℕ → ℕ → Bool} {d : Desk} (h : ℕ) (l : Letter) (x : Sending) (g : Called o e d h x l) where

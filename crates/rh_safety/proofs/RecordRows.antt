@@ -2,13 +2,15 @@
 use Rattle.rh_safety.proofs.Common.{◌≡◌, refl, ℕ, Bool, true, false, ◌==◌, if◌then◌else◌, List, [], ◌∷◌, ◌++◌, length, map, codes, Option, Some, None, Ok}
 use Rattle.rh_safety.proofs.Common.{filter_map, option_map, hex_on_literals, String, Refusal, AnchorInUse, NoBlock, Sending, Asked, Outgoing, Incoming}
 use Rattle.rh_safety.proofs.Common.{Granted, ◌>>=◌, found_or, or_else, Split, Flex, new_slot, slot_block, slot_claim, Parcel, post_is_live, post_poll}
-use Rattle.rh_safety.proofs.Common.{fetch_letter, load_letter, in_id, free_anchor, Desk, Task, Scrap, next_ref, free_pages, task_at, with_slot, with_sending}
-use Rattle.rh_safety.proofs.Common.{with_taking, send_letter, with_post, Handled, ignored, refused, scrap_shortage, wider, appended, loaded, after}
+use Rattle.rh_safety.proofs.Common.{fetch_letter, load_letter, in_id, open_of, free_anchor, Desk, Task, Scrap, next_ref, free_pages, task_at, with_slot}
+use Rattle.rh_safety.proofs.Common.{with_sending, Claim, SaveFile, LoadFile, with_taking, send_letter, with_post, Handled, ignored, refused, scrap_shortage}
+use Rattle.rh_safety.proofs.Common.{wider, appended, loaded, after}
 use Rattle.rh_defs.specs.declared.command.Manner.TheVariants as manner
 use Rattle.rh_defs.specs.declared.command.Command.TheVariants as command
 use Rattle.rh_defs.specs.declared.reply.Outcome.TheVariants as outcome
 use Rattle.rh_defs.specs.declared.transfer.Outgoing.TheVariants as outgoing
 use Rattle.rh_defs.specs.declared.transfer.Incoming.TheVariants as incoming
+use Rattle.rh_defs.specs.Records.{asking_of}
 use Rattle.rh_defs.specs.Sender as sender
 use Rattle.rh_defs.specs.Receiver as receiver
 use Rattle.rh_defs.specs.Commands.{with_new_task}
@@ -52,18 +54,18 @@ unfolding Script.computing hex_on_literals
 right_measures = refl
 
 -- a receiver that makes no document
-abbrev accepts_bare : Desk → Task → Parcel → Granted Handled
-accepts_bare d t m = do
+abbrev accepts_bare : Desk → Task → Claim → Granted Handled
+accepts_bare d t a = do
   k ← found_or (free_anchor t.slot) AnchorInUse
   b ← slot_claim (free_pages d) t.buffer t.slot
-  sent ← send_letter (fetch_letter t.handle m.message.from m.message.my_ref b.1 t.buffer) (with_slot t.handle b.0 d)
-  Ok (
-    with_taking t.handle (receiver.fetching (receiver.new_taking m.message.my_ref m.message.from k b.1 (next_ref d))) sent,
-    outcome.Fetch (next_ref d),
-  )
+  sent ← send_letter (fetch_letter t.handle (receiver.first_fetch a b.1 t.buffer)) (with_slot t.handle b.0 d)
+  Ok (with_taking t.handle (receiver.claimed a k b.1 (next_ref d)) sent, outcome.Fetch (next_ref d))
 
 abbrev no_document : Rules
-no_document = record landed { takes_save = λ d t m. or_else (accepts_bare d t m) (λ refusal. ignored d) }
+no_document = record landed {
+  takes_save = λ d t m. or_else (accepts_bare d t (record { id = m.message.my_ref; sender = m.message.from })) (λ refusal.
+      ignored d);
+}
 
 abbrev answered : List String
 answered = "task a 4" ∷ "task b 4" ∷ "alloc a 0 6" ∷ "save a 0 b x" ∷ "poll b" ∷ "poll a" ∷ []
@@ -111,14 +113,15 @@ right_counts = refl
 -- a receiver that counts no byte of the file that it loads
 abbrev loads_uncounted : Desk → Task → Parcel → Option Asked → Option Scrap → Handled
 loads_uncounted d t m (Some q) (Some file) =
+    let a : LoadFile = record { transfer = q; to = m.message.from; answers = m.message.my_ref } in
     or_else
-    (appended d t q.anchor file.bytes >>= λ longer. Ok (loaded (record longer { scrap = None }) t m q 0))
+    (appended d t q.anchor file.bytes >>= λ longer. Ok (loaded (record longer { scrap = None }) t a 0))
     (λ refusal. ignored d)
 loads_uncounted d t m _ _ = ignored d
 
 abbrev uncounted : Rules
 uncounted = record landed {
-  takes_file = λ d t m. loads_uncounted d t m (receiver.on_load m.message.from m.message.your_ref t.taking) d.scrap;
+  takes_file = λ d t m. loads_uncounted d t m (asking_of (receiver.is_load m.message.from m.message.your_ref) t.taking) d.scrap;
 }
 
 abbrev by_file : List String
@@ -172,10 +175,10 @@ abbrev saved_as_last : ℕ → Outgoing → Outgoing
 saved_as_last ref (outgoing.Open x) = outgoing.Open (record x { last = ref })
 saved_as_last ref r = r
 
-abbrev saves_all : Desk → Task → Parcel → Sending → Split Flex → Granted Handled
-saves_all d t m x source =
+abbrev saves_all : Desk → Task → SaveFile → Split Flex → Granted Handled
+saves_all d t a source =
     let n : ℕ = length source.here.bytes in do
-      sent ← send_letter (load_letter t.handle m n) (wider (scrap_shortage n d) d)
+      sent ← send_letter (load_letter t.handle a n) (wider (scrap_shortage n d) d)
       Ok (
         with_sending t.handle (map (saved_as_last (next_ref d)))
             (record sent { scrap = Some (record { load = next_ref d; bytes = source.here.bytes }) }),
@@ -184,11 +187,13 @@ saves_all d t m x source =
 
 abbrev answers_all : Desk → Task → Parcel → Option Sending → Handled
 answers_all d t m None = ignored d
-answers_all d t m (Some x) = or_else (slot_block x.anchor t.slot >>= saves_all d t m x) (refused d t x)
+answers_all d t m (Some x) =
+    let a : SaveFile = record { transfer = x; to = m.message.from; answers = m.message.my_ref } in
+    or_else (slot_block x.anchor t.slot >>= saves_all d t a) (refused d t x)
 
 abbrev saved_for_all : Rules
 saved_for_all = record landed {
-  answers_ack = λ d t m. answers_all d t m (sender.on_ack m.message.from m.message.your_ref t.sending);
+  answers_ack = λ d t m. answers_all d t m (open_of (sender.asks_for m.message.from m.message.your_ref) t.sending);
 }
 
 -- two open transfers of one sender, the first of which is asked for a file

@@ -1,5 +1,6 @@
 -- What a transfer rests on, as it is seen of the desk, and the small edits that commands make to it.
-use Rattle.std.specs.Prelude.{ℕ, ◌+◌, ◌-◌, min, Bool, true, false, ◌||◌, ◌==◌, if◌then◌else◌, List, [], ◌∷◌, ◌++◌, length, take, Option, Some, None}
+use Rattle.std.specs.Prelude.{ℕ, ◌+◌, Bool, true, false, ◌||◌, ◌==◌, if◌then◌else◌, List, [], ◌∷◌, ◌++◌, length, take, Option, Some, None}
+use Rattle.rh_defs.specs.declared.transfer_action.Transmit.{Transmit}
 use Rattle.rh_defs.specs.Sender as sender
 use Rattle.rh_safety.proofs.Ends.{Code, Plain, Recorded, Returned, DataSave, RamFetch, DataSaveAck}
 use Rattle.rh_safety.proofs.Ends.{DataLoad, DataLoadAck, Asked, Letter, Message, Sending, Taking, Out, Open, first, without_first, source_at, document_at}
@@ -221,9 +222,9 @@ with_out d h x v = record d { sending = put d.sending h (with_id out_id x.id v (
 abbrev pub failed : Desk → ℕ → Sending → Desk
 failed d h x = with_out d h x (Out_failed x.id x.count)
 
--- how many bytes go out
-abbrev pub portion : List ℕ → Sending → Letter → ℕ
-portion source x l = min l.amount (length source - x.count)
+-- what answers a fetch
+abbrev pub answer_of : Letter → Sending → Transmit
+answer_of l x = record { transfer = x; to = l.from; answers = l.me; buffer = l.address; room = l.amount }
 
 -- the fetch is the record's
 abbrev pub would_answer : Letter → Sending → Bool

@@ -4,10 +4,11 @@ use Rattle.rh_safety.proofs.Common.{refl, sym, ap, ◌∙◌, subst, inl, inr, a
 use Rattle.rh_safety.proofs.Common.{leb_tells, Asking, Code, Plain, Recorded, DataSave, RamFetch, RamTransmit, Message, Sending, Taking, Out, Open, Out_done}
 use Rattle.rh_safety.proofs.Common.{Out_failed, In, Fetching, Draining, In_done, In_failed, out_id, in_id, is_open, is_going, Has, put, any, with_id}
 use Rattle.rh_safety.proofs.Common.{first_for, without_first, still_held, would_answer, put_all, put_same, put_other, length_take, none_some, either, Order}
+use Rattle.rh_safety.proofs.Common.{Transmit}
 use Rattle.rh_defs.specs.Sender as sender
 use Rattle.rh_defs.specs.Receiver as receiver
 use Rattle.rh_safety.proofs.Ends.{drop_first, find_open, find_active}
-use Rattle.rh_safety.proofs.Sight.{Desk, saved, picked, ended, bytes_of, longer, fetched}
+use Rattle.rh_safety.proofs.Sight.{Desk, saved, picked, ended, bytes_of, longer, fetched, answer_of}
 use Rattle.rh_safety.proofs.Basics.{take_more, front_written, length_written, or_left, or_right, drop_old, Has-right}
 use Rattle.rh_safety.proofs.Arrivals.{Began, take_whole}
 use Rattle.rh_safety.proofs.Polls.{would_true}
@@ -219,12 +220,16 @@ module _ (p : Pair) (d : Desk) (k : ℕ) (w : Waiting p d k) (within : k ≤ len
   answers_it = ap (find_open (would_answer asked.letter)) w.sends ∙ last_open (would_answer asked.letter) p.outs
       open_record w.alone.closed (would_true open_record asked.letter refl refl w.alone.some)
 
+  -- what it answers with
+  abbrev answer : Transmit
+  answer = answer_of asked.letter open_record
+
   -- the desk after it
   abbrev pub gone_desk : Desk
-  gone_desk = gone at_sender p.sender asked.letter open_record p.receiver p.source w.bytes now
+  gone_desk = gone at_sender p.sender answer p.source w.bytes
 
   abbrev next_out : Out
-  next_out = sender.after_sent open_record now p.room d.next_ref
+  next_out = sender.after_sent answer (sender.part answer (length p.source)) d.next_ref
 
   abbrev next_code : Code
   next_code = if nat_lt now p.room then Plain else Recorded

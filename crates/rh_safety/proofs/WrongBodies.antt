@@ -1,12 +1,13 @@
 -- Runs with one definition changed, on which a law fails: so the laws say something of each of these definitions.
 use Rattle.rh_safety.proofs.Common.{◌≡◌, refl, ℕ, ◌+◌, Bool, true, false, not, ◌&&◌, nat_le, nat_lt, ◌==◌, if◌then◌else◌, List, [], ◌∷◌, length, take, drop}
-use Rattle.rh_safety.proofs.Common.{find, Option, Some, None, Ok, list_any, filter_map, hex_on_literals, String, NoTask, BadRange, Busy, NoRoom, AnchorInUse}
-use Rattle.rh_safety.proofs.Common.{Command, EventCode, User, Recorded, Acknowledge, Body, Sending, Asked, Outgoing, Incoming, Granted, ◌>>=◌, ◌>>◌}
-use Rattle.rh_safety.proofs.Common.{refuse_if, found_or, or_else, Split, Flex, flex_address, slot_alloc, slot_block, slot_claim, Parcel, post_poll}
+use Rattle.rh_safety.proofs.Common.{find, Option, Some, None, Ok, list_any, filter_map, option_map, hex_on_literals, String, NoTask, BadRange, Busy, NoRoom}
+use Rattle.rh_safety.proofs.Common.{AnchorInUse, Command, EventCode, User, Recorded, Acknowledge, Body, Sending, Asked, Outgoing, Incoming, Granted, ◌>>=◌}
+use Rattle.rh_safety.proofs.Common.{◌>>◌, refuse_if, found_or, or_else, Split, Flex, flex_address, slot_alloc, slot_block, slot_claim, Parcel, post_poll}
 use Rattle.rh_safety.proofs.Common.{fetch_letter, transmit_letter, load_letter, out_id, in_id, is_open, is_full, with_id, open_of, buffer_at, free_anchor}
 use Rattle.rh_safety.proofs.Common.{Desk, Task, Scrap, next_ref, free_pages, has_name, named, task_at, with_task, with_slot, with_sending, with_taking}
-use Rattle.rh_safety.proofs.Common.{with_delivered, send_letter, Answer, Handled, ignored, portion, refused, answer_fetch, scrap_shortage, wider, answer_ack}
-use Rattle.rh_safety.proofs.Common.{is_deaf, take_save, appended, loaded, take_file, answers_none, came, came_back, save, cancel_in, step, Offers, Edits}
+use Rattle.rh_safety.proofs.Common.{with_delivered, send_letter, Answer, Handled, ignored, refused, scrap_shortage, wider, perform_send, perform_take}
+use Rattle.rh_safety.proofs.Common.{Transmit, Part, SaveFile, Claim, LoadFile, is_deaf, appended, loaded, answers_none, came, came_back, save, cancel_in}
+use Rattle.rh_safety.proofs.Common.{step, Offers, Edits}
 use Rattle.std.specs.List.{list_all}
 use Rattle.rh_defs.specs.declared.refusal.Refusal.TheVariants.{NotOpen}
 use Rattle.rh_defs.specs.declared.command.Command.TheVariants as command
@@ -16,7 +17,7 @@ use Rattle.rh_defs.specs.declared.reply.Outcome.TheVariants as outcome
 use Rattle.rh_defs.specs.declared.transfer.Outgoing.TheVariants as outgoing
 use Rattle.rh_defs.specs.declared.transfer.Incoming.TheVariants as incoming
 use Rattle.rh_defs.specs.Letters.{save_letter}
-use Rattle.rh_defs.specs.Records.{is_source, one_more}
+use Rattle.rh_defs.specs.Records.{is_source, one_more, asking_of}
 use Rattle.rh_defs.specs.Sender as sender
 use Rattle.rh_defs.specs.Receiver as receiver
 use Rattle.rh_defs.specs.Places.{written_in}
@@ -40,11 +41,11 @@ pub record Rules : Type 0 where
 
 abbrev pub landed : Rules
 landed = record {
-  answers_fetch = λ d t m buffer amount. answer_fetch d t m buffer amount (sender.on_fetch m.message.from
-      m.message.your_ref amount t.sending);
-  takes_save = take_save;
-  answers_ack = λ d t m. answer_ack d t m (sender.on_ack m.message.from m.message.your_ref t.sending);
-  takes_file = λ d t m. take_file d t m (receiver.on_load m.message.from m.message.your_ref t.taking);
+  answers_fetch = λ d t m buffer amount. perform_send d t (sender.on_fetch m.message.from m.message.my_ref
+      m.message.your_ref buffer amount t.sending);
+  takes_save = λ d t m. perform_take d t (receiver.on_save (is_deaf t.manner) m.message.from m.message.my_ref t.taking);
+  answers_ack = λ d t m. perform_send d t (sender.on_ack m.message.from m.message.my_ref m.message.your_ref t.sending);
+  takes_file = λ d t m. perform_take d t (receiver.on_load m.message.from m.message.my_ref m.message.your_ref t.taking);
   saves = save;
   cancels = cancel_in;
 }
@@ -117,8 +118,8 @@ sent_offered rules lines id h = let r = run_of rules lines in (sending_of (task_
 
 abbrev any_fetch : Rules
 any_fetch = record landed {
-  answers_fetch = λ d t m buffer amount. answer_fetch d t m buffer amount (open_of (λ x. m.message.from == x.recipient
-      && nat_le 1 amount) t.sending);
+  answers_fetch = λ d t m buffer amount. perform_send d t (option_map (sender.transmit_for m.message.from
+      m.message.my_ref buffer amount) (open_of (λ x. m.message.from == x.recipient && nat_le 1 amount) t.sending));
 }
 
 -- a fetch, and its copy
@@ -140,33 +141,36 @@ wrong_fetch = refl
 -- ---- a sender that counts itself done when it sends
 
 -- the transmit, with another record after it, by what goes out, the file's length and the transmit's ref
-abbrev transmits_to : (Sending → ℕ → ℕ → ℕ → Outgoing) → Desk → Task → Parcel → ℕ → ℕ → Sending → Split Flex →
-    Granted Handled
-transmits_to record_after d t m buffer amount x source =
-    let n : ℕ = portion x amount source in
-    let place : ℕ = flex_address t.slot source.before + x.count in do
-      r ← found_or (task_at x.recipient d) NoTask
-      refuse_if (is_out_of_reach t r buffer amount place n) BadRange
-      sent ← send_letter (transmit_letter t.handle m (nat_lt n amount) buffer n) d
+abbrev transmits_to : (Transmit → Part → ℕ → ℕ → Outgoing) → Desk → Task → Transmit → Split Flex → Granted Handled
+transmits_to record_after d t a source =
+    let p : Part = sender.part a (length source.here.bytes) in
+    let place : ℕ = flex_address t.slot source.before + p.offset in do
+      r ← found_or (task_at a.transfer.recipient d) NoTask
+      refuse_if (is_out_of_reach t r a.buffer a.room place p.n) BadRange
+      sent ← send_letter (transmit_letter t.handle a p) d
       Ok (
-        with_sending t.handle (with_id out_id x.id (record_after x n (length source.here.bytes) (next_ref d)))
+        with_sending t.handle (with_id out_id a.transfer.id (record_after a p (length source.here.bytes) (next_ref d)))
             (with_task r.handle (λ r. record r {
-              slot = written_in buffer (take n (drop x.count source.here.bytes)) (buffer_at buffer amount r.slot)
+              slot = written_in a.buffer (take p.n (drop p.offset source.here.bytes)) (buffer_at a.buffer a.room r.slot)
                   r.slot;
             }) sent),
-        outcome.Sent n (next_ref d),
+        outcome.Sent p.n (next_ref d),
       )
 
-abbrev answers_to : (Sending → ℕ → ℕ → ℕ → Outgoing) → Desk → Task → Parcel → ℕ → ℕ → Option Sending → Handled
+abbrev answers_to : (Transmit → Part → ℕ → ℕ → Outgoing) → Desk → Task → Parcel → ℕ → ℕ → Option Sending → Handled
 answers_to record_after d t m buffer amount None = ignored d
-answers_to record_after d t m buffer amount (Some x) = or_else (slot_block x.anchor t.slot >>= transmits_to
-    record_after d t m buffer amount x) (refused d t x)
+answers_to record_after d t m buffer amount (Some x) =
+    let a : Transmit = record { transfer = x; to = m.message.from; answers = m.message.my_ref; buffer = buffer; room = amount } in
+    or_else (slot_block x.anchor t.slot >>= transmits_to record_after d t a) (refused d t x)
+
+-- the record that a fetch is for
+abbrev asked : Parcel → ℕ → Task → Option Sending
+asked m amount t = open_of (sender.would_answer m.message.from m.message.your_ref amount) t.sending
 
 abbrev done_when_sent : Rules
 done_when_sent = record landed {
   answers_fetch = λ d t m buffer amount.
-      answers_to (λ x n size ref. outgoing.Done x.id (x.count + n)) d t m buffer amount (sender.on_fetch
-      m.message.from m.message.your_ref amount t.sending);
+      answers_to (λ a p size ref. outgoing.Done a.transfer.id (p.offset + p.n)) d t m buffer amount (asked m amount t);
 }
 
 abbrev first_buffer : List String
@@ -195,15 +199,14 @@ wrong_count = refl
 
 -- ---- a sender for which a full last buffer ends the transfer
 
-abbrev record_ended : Sending → ℕ → ℕ → ℕ → Outgoing
-record_ended x n size ref =
-    if x.count + n == size then outgoing.Done x.id (x.count + n)
-    else outgoing.Open (record x { count = x.count + n; last = ref })
+abbrev record_ended : Transmit → Part → ℕ → ℕ → Outgoing
+record_ended a p size ref =
+    if p.offset + p.n == size then outgoing.Done a.transfer.id (p.offset + p.n)
+    else outgoing.Open (record a.transfer { count = p.offset + p.n; last = ref })
 
 abbrev full_ends : Rules
 full_ends = record landed {
-  answers_fetch = λ d t m buffer amount.
-      answers_to record_ended d t m buffer amount (sender.on_fetch m.message.from m.message.your_ref amount t.sending);
+  answers_fetch = λ d t m buffer amount. answers_to record_ended d t m buffer amount (asked m amount t);
 }
 
 -- the records of sender and receiver
@@ -291,35 +294,38 @@ right_asked = refl
 
 -- ---- a scrap file of any transfer
 
-abbrev saves_over : Desk → Task → Parcel → Sending → Split Flex → Granted Handled
-saves_over d t m x source =
+abbrev saves_over : Desk → Task → SaveFile → Split Flex → Granted Handled
+saves_over d t a source =
     let n : ℕ = length source.here.bytes in
     let more : ℕ = scrap_shortage n d in
     let file : Scrap = record { load = next_ref d; bytes = source.here.bytes } in do
-      sent ← send_letter (load_letter t.handle m n) (wider more d)
+      sent ← send_letter (load_letter t.handle a n) (wider more d)
       refuse_if (nat_lt (free_pages d) more) NoRoom
       Ok (
-        with_sending t.handle (sender.saved x (next_ref d)) (record sent { scrap = Some file }),
+        with_sending t.handle (sender.saved a (next_ref d)) (record sent { scrap = Some file }),
         outcome.Saved n
             (next_ref d),
       )
 
 abbrev answers_over : Desk → Task → Parcel → Option Sending → Handled
 answers_over d t m None = ignored d
-answers_over d t m (Some x) = or_else (slot_block x.anchor t.slot >>= saves_over d t m x) (refused d t x)
+answers_over d t m (Some x) =
+    let a : SaveFile = record { transfer = x; to = m.message.from; answers = m.message.my_ref } in
+    or_else (slot_block x.anchor t.slot >>= saves_over d t a) (refused d t x)
 
 abbrev loads_any : Desk → Task → Parcel → Option Asked → Option Scrap → Handled
 loads_any d t m None file = ignored d
 loads_any d t m (Some q) None = ignored d
 loads_any d t m (Some q) (Some file) =
-    or_else (appended d t q.anchor file.bytes >>= λ longer. Ok (loaded (record longer { scrap = None }) t m q
+    let a : LoadFile = record { transfer = q; to = m.message.from; answers = m.message.my_ref } in
+    or_else (appended d t q.anchor file.bytes >>= λ longer. Ok (loaded (record longer { scrap = None }) t a
     (length file.bytes)))
     (λ refusal. (with_taking t.handle (receiver.abandoned q 0) d, outcome.Refused refusal))
 
 abbrev any_scrap_file : Rules
 any_scrap_file = record landed {
-  answers_ack = λ d t m. answers_over d t m (sender.on_ack m.message.from m.message.your_ref t.sending);
-  takes_file = λ d t m. loads_any d t m (receiver.on_load m.message.from m.message.your_ref t.taking) d.scrap;
+  answers_ack = λ d t m. answers_over d t m (open_of (sender.asks_for m.message.from m.message.your_ref) t.sending);
+  takes_file = λ d t m. loads_any d t m (asking_of (receiver.is_load m.message.from m.message.your_ref) t.taking) d.scrap;
 }
 
 -- two files for one task, by the scrap file
@@ -374,7 +380,7 @@ has_buffers d = list_all (λ (m : Parcel). names_held d m m.code m.message.body)
 
 -- a cancel that frees the buffer at once
 abbrev freed : Incoming → Task → Desk → Desk
-freed (incoming.Fetching f) t d = end_failed t.handle f f.count d
+freed (incoming.Fetching f) t d = end_failed d t f
 freed r t d = with_taking t.handle (with_id in_id (in_id r) (receiver.cancelled r)) d
 
 abbrev cancels_at_once : Desk → List ℕ → Option ℕ → Granted Answer
@@ -403,22 +409,22 @@ is_busy_record (incoming.Fetching f) = true
 is_busy_record (incoming.Asking q) = true
 is_busy_record _ = false
 
-abbrev accepts : Desk → Task → Parcel → Granted Handled
-accepts d t m = do
+abbrev accepts : Desk → Task → Claim → Granted Handled
+accepts d t a = do
   k ← found_or (free_anchor t.slot) AnchorInUse
   b ← slot_claim (free_pages d) t.buffer t.slot
   p ← slot_alloc (free_pages (with_slot t.handle b.0 d)) k 0 b.0
-  sent ← send_letter (fetch_letter t.handle m.message.from m.message.my_ref b.1 t.buffer) (with_slot t.handle p.0 d)
+  sent ← send_letter (fetch_letter t.handle (receiver.first_fetch a b.1 t.buffer)) (with_slot t.handle p.0 d)
   Ok (
     with_taking t.handle
-        (one_more is_busy_record (incoming.Fetching (receiver.new_taking m.message.my_ref m.message.from k b.1
-        (next_ref d)))) sent,
+        (one_more is_busy_record (incoming.Fetching (receiver.new_taking a k b.1 (next_ref d)))) sent,
     outcome.Fetch (next_ref d),
   )
 
 abbrev takes_while_draining : Desk → Task → Parcel → Handled
 takes_while_draining d t m =
-    if not (is_deaf t.manner) && not (is_full is_busy_record t.taking) then or_else (accepts d t m) (λ refusal.
+    let a : Claim = record { id = m.message.my_ref; sender = m.message.from } in
+    if not (is_deaf t.manner) && not (is_full is_busy_record t.taking) then or_else (accepts d t a) (λ refusal.
     ignored d)
     else ignored d
 

@@ -1,11 +1,10 @@
 -- What no poll answers.
-use Rattle.std.specs.Prelude.{◌≡◌, ◌≢◌, ℕ, ◌≤◌, false, List, Some}
+use Rattle.std.specs.Prelude.{◌≡◌, ◌≢◌, ℕ, ◌+◌, ◌^◌, ◌≤◌, ◌<◌, List, Some}
 use Rattle.std.specs.List.{Contains}
 use Rattle.rh_defs.specs.declared.refusal.Refusal.TheVariants.{NoBlock}
 use Rattle.rh_defs.specs.declared.command.Command.TheVariants as command
 use Rattle.rh_defs.specs.declared.transfer.Taking.{Taking}
 use Rattle.rh_defs.specs.declared.transfer.Incoming.TheVariants as incoming
-use Rattle.rh_defs.specs.IncomingEvents.{is_uncountable}
 use Rattle.rh_defs.specs.Desk.{Desk, Task, task_at}
 use Rattle.rh_defs.specs.Commands.{step}
 use Rattle.rh_safety.specs.Buffers.{failed_by}
@@ -19,4 +18,4 @@ LosesNoBlock d = (name : List ℕ) → failed_by (step d (command.Poll name)).1 
 abbrev pub CountsFit : Desk → Type 0
 CountsFit d =
     (h : ℕ) (t : Task) (f : Taking) (n : ℕ) → task_at h d ≡ Some t → Contains t.taking (incoming.Fetching f) →
-    n ≤ t.buffer → is_uncountable f n ≡ false
+    n ≤ t.buffer → f.count + n < 2 ^ 32
