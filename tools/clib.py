@@ -10,6 +10,7 @@ import sys
 import tempfile
 
 import header
+import kept
 import kit
 import libraries
 import page
@@ -19,6 +20,8 @@ FOLDER = "lib"
 NAME = "vervainfile"
 PREFIX = "vf_"
 LOG = "clib.log"
+# The tools by which an archive is built: what was built is kept under a sum of them too.
+BUILDERS = ("clib", "libraries")
 # What lib/ has, and what it is made of beside crates.
 FILES = (f"lib{NAME}.a", f"{NAME}.h", f"{NAME}.pc")
 SOURCES = (header.HEADER, f"c/{NAME}.pc.in")
@@ -148,12 +151,15 @@ def make_library(top):
         raise Fault(f"the header and the sources differ: {faults[0]}")
     os.makedirs(f"{top}/{FOLDER}", exist_ok=True)
     crates = exporters(kit.crates_of(top))
-    stale = [it for it in crates if not is_new(it)]
+    sums = {it: kept.of_code(it, BUILDERS) for it in crates if not is_new(it)}
+    stale = [it for it in sums if not kept.give_file(it.name, sums[it], archive_of(it))]
     if stale:
         names = ", ".join(it.name for it in stale)
         print(f"clib: proving {names}, and what below isn't proved; {FOLDER}/{LOG} has what is said", flush=True)
         with open(f"{top}/{FOLDER}/{LOG}", "w", encoding="utf-8", errors="replace") as log:
             prove(stale, log)
+    for it in stale:
+        kept.keep_file(it.name, sums[it], archive_of(it))
     archive(crates, f"{top}/{FOLDER}/lib{NAME}.a")
     write_files(top)
 

@@ -1,5 +1,6 @@
 """The kit's own scripts, loaded from where `rt` stands: its reading of crates.txt and of edits, and its checks."""
 
+import functools
 import importlib.machinery
 import importlib.util
 import os
@@ -36,6 +37,7 @@ def crates_of(top):
     return rtlib.crates_below(top)
 
 
+@functools.cache
 def version():
     """The kit's line, by which two of them are told apart."""
     return subprocess.run([RT, "version"], capture_output=True, text=True, check=True).stdout.strip()
