@@ -189,9 +189,26 @@ def check_newness(_bench):
         same(found, wanted | {"crates.txt"}, "the sources of the module")
 
 
+def kept_in(files):
+    """The tool that keeps files from run to run, and the kit beside it, with a dictionary in their place."""
+    def give_file(_name, total, path):
+        if total not in files:
+            return False
+        path.parent.mkdir(parents=True, exist_ok=True)
+        path.write_bytes(files[total])
+        return True
+
+    def keep_file(_name, total, path):
+        files[total] = path.read_bytes()
+
+    kept = types.SimpleNamespace(of_code=lambda *_: "sum", give_file=give_file, keep_file=keep_file)
+    kit = types.SimpleNamespace(crates_of=lambda top: [types.SimpleNamespace(name="vf_web")])
+    return unittest.mock.patch.dict(sys.modules, kept=kept, kit=kit)
+
+
 def check_building(_bench):
     """What is built is the module, if that went well and it imports nothing; it is kept, and not built twice."""
-    ran = []
+    ran, files = [], {}
 
     def built(content, status, said=""):
         def run(words, cwd, **_others):
@@ -203,7 +220,7 @@ def check_building(_bench):
         return unittest.mock.patch.object(module.subprocess, "run", run)
 
     with written(crates_txt=CRATES, HANDLES="handles", **{"crates__base__src__lib_rt": ""}) as top, \
-            unittest.mock.patch.object(module, "mark_as_proved") as marked:
+            unittest.mock.patch.object(module, "mark_as_proved") as marked, kept_in(files):
         (top / "crates/vf_web/src").mkdir(parents=True)
         with built(module.MAGIC, 1, "".join(f"{it}\n" for it in range(30))):
             told = fault_of(module.ModuleFault, lambda: module.built(top))
@@ -211,8 +228,11 @@ def check_building(_bench):
         with built(module.MAGIC + section(2, b"\x01\x01a\x01b\0\0"), 0):
             same(fault_of(module.ModuleFault, lambda: module.built(top)), "the module of vf_web has imports",
                  "what is told of a module with imports")
+        same(files, {}, "what is kept of modules that weren't built")
         with built(module.MAGIC, 0):
             same([module.built(top).read_bytes() for _ in range(2)], [module.MAGIC] * 2, "the module")
+            (top / module.MADE).unlink()
+            same(module.built(top).read_bytes(), module.MAGIC, "the module of an earlier run")
         same(ran, [["rt", "lib"]] * 3, "what was run")
         same([it.args[0] for it in marked.call_args_list], [top] * 3, "of which repository libraries are marked")
 
