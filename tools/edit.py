@@ -7,6 +7,7 @@ import glob
 import os
 import re
 
+import heads
 from kit import bodies, rt
 
 WRONG, MUST_FAIL = "wrong", "must-fail"
@@ -187,13 +188,11 @@ def _namers(folder, functions, names):
 
 def _definitions(folder):
     """The definitions in the crate's specs/, each with the words of its text."""
-    found = []
+    found = collections.defaultdict(set)
     for path in sorted(glob.glob(f"{folder}/specs/**/*.antt", recursive=True)):
-        text = _bytes_of(path).decode()
-        heads = list(DECLARED.finditer(text))
-        ends = [it.start() for it in heads[1:]] + [len(text)]
-        found += [(it[2], _words(text[it.end() : end])) for it, end in zip(heads, ends)]
-    return found
+        for name, line in heads.owned(_bytes_of(path).decode()):
+            found[path, name] |= _words(line)
+    return [(name, words) for (_, name), words in found.items()]
 
 
 def _text_of(folder, function):

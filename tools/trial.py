@@ -16,7 +16,7 @@ from said import Said
 
 PRINTING = threading.Lock()
 # The tools that judge: verdicts are kept under a sum of them too.
-JUDGES = ("edit", "libraries", "said", "trial")
+JUDGES = ("edit", "heads", "libraries", "said", "trial")
 ANEW = "--anew"
 # How a line that is kept begins, where an edit was refused, and what stands between its goals.
 REFUSED, BETWEEN = "refused at ", " "
