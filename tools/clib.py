@@ -14,7 +14,6 @@ import kept
 import kit
 import libraries
 import page
-from kit import rt, rtlib
 
 FOLDER = "lib"
 NAME = "vervainfile"
@@ -55,7 +54,7 @@ def archive_of(crate):
 def is_new(crate):
     """Whether the archive that was built last is newer than each source that it is built from."""
     made = archive_of(crate)
-    sources = [it for low in [*crate.below(), crate] for it in rtlib.files_of(low.folder)]
+    sources = [it for low in [*crate.below(), crate] for it in kit.files_of(low.folder)]
     return os.path.isfile(made) and os.path.getmtime(made) > max(map(os.path.getmtime, sources))
 
 
@@ -63,7 +62,7 @@ def prove(crates, log):
     """Proves each library below the crates that isn't yet, and then the crates, and builds their archives."""
     with libraries.locked([*libraries.below(crates), *crates]):
         left = libraries.unbuilt(libraries.below(crates))
-        given = rt.in_lanes(libraries.tasks(left, lambda it, jobs: libraries.build(it, jobs, log)))
+        given = kit.in_lanes(libraries.tasks(left, lambda it, jobs: libraries.build(it, jobs, log)))
         lost = [it.name for it in left if not given[it.name, "library"]]
         lost = lost or [it.name for it in crates if not compiled(it, log)]
     if lost:
@@ -80,7 +79,7 @@ def compiled(crate, log):
     crate.out = log
     os.makedirs(f"{crate.folder}/out", exist_ok=True)
     words = crate.words(["--jobs", "1"], keeps=False)
-    words += ["--toolchain", f"{rtlib.KIT}/toolchain", "--backend", "llvm"]
+    words += ["--toolchain", f"{kit.KIT}/toolchain", "--backend", "llvm"]
     if not crate.prove(["build", *words, "-o", f"out/lib{crate.name}.a"]):
         return True
     with contextlib.suppress(FileNotFoundError):
@@ -99,7 +98,7 @@ def archive(crates, made):
             for it in sorted(os.listdir(folder)):
                 objects.append(f"{work}/{crate.name}-{it}")
                 os.rename(f"{folder}/{it}", objects[-1])
-        subprocess.run(["ar", "x", f"{rtlib.KIT}/c/liblibc_c.a", ALLOCATION], cwd=work, check=True)
+        subprocess.run(["ar", "x", f"{kit.KIT}/c/liblibc_c.a", ALLOCATION], cwd=work, check=True)
         if os.path.exists(made):
             os.remove(made)
         subprocess.run(["ar", "rcsD", made, *objects, f"{work}/{ALLOCATION}"], check=True)

@@ -8,7 +8,7 @@ import os
 import re
 
 import heads
-from kit import bodies, rt
+import kit
 
 WRONG, MUST_FAIL = "wrong", "must-fail"
 ENDING = ".edit"
@@ -104,7 +104,7 @@ def _spelled(block):
 
 def functions_of(folder):
     """The functions of a crate's src/ that have a body."""
-    source = bodies.Source(folder)
+    source = kit.Source(folder)
     source.read("src/main.rt" if os.path.isfile(f"{folder}/src/main.rt") else "src/lib.rt")
     of_a_name = collections.Counter(it.name for it in source.functions)
     return [Function(it, source.declared, of_a_name[it.name] == 1) for it in source.functions if it.has_body]
@@ -132,7 +132,7 @@ def read_edits(crate, kind=WRONG):
 def _read(folder, functions, file):
     if not file.endswith(ENDING):
         raise BadEdit(f"the name of an edit ends in {ENDING}")
-    texts, why = rt.read_edit(f"{folder}/{file}", folder)
+    texts, why = kit.read_edit(f"{folder}/{file}", folder)
     if why:
         raise BadEdit(why)
     changes = [it for file, text in texts.items() for it in _changes(folder, file, text)]

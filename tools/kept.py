@@ -15,11 +15,10 @@ import tempfile
 
 import edit as edits_of
 import kit
-from kit import rtlib
 
 # Where things are kept: beside what the kit keeps, or where this word of the environment says.
 WORD = "VERVAINFILE_KEPT"
-FOLDER = f"{rtlib.KIT}-verdicts"
+FOLDER = f"{kit.KIT}-verdicts"
 TOOLS = os.path.dirname(os.path.realpath(__file__))
 # How many things of one name are kept: those of the last sums.
 MOST = 8
@@ -62,7 +61,7 @@ def begun(crate, judges):
 def of_verdicts(crate, judges):
     """The sum under which verdicts on a crate's edits are kept."""
     total = begun(crate, judges)
-    total.add_files(crate.folder, [*rtlib.files_of(crate.folder), *_edits_in(crate)])
+    total.add_files(crate.folder, [*kit.files_of(crate.folder), *_edits_in(crate)])
     for it in crate.below():
         total.add(it.name, statements(it.folder).encode())
     return total.text()
@@ -72,7 +71,7 @@ def of_code(crate, judges):
     """The sum under which what is compiled of a crate and all libraries below it is kept."""
     total = begun(crate, judges)
     for it in [*crate.below(), crate]:
-        total.add_files(it.folder, rtlib.files_of(it.folder))
+        total.add_files(it.folder, kit.files_of(it.folder))
     return total.text()
 
 
@@ -87,7 +86,7 @@ def statements(library):
     bodies = collections.defaultdict(list)
     for it in edits_of.functions_of(library):
         bodies[it.file].append((it.opens, it.end))
-    for path in rtlib.files_of(library):
+    for path in kit.files_of(library):
         if os.path.basename(path) not in PROOFS_OF_FUNCTIONS:
             name = os.path.relpath(path, library)
             total.add(name, _without(_bytes_of(path), bodies[name]))

@@ -11,7 +11,6 @@ import edit as edits_of
 import kept
 import kit
 import libraries
-from kit import rt, rtlib
 from said import Said
 
 PRINTING = threading.Lock()
@@ -51,10 +50,10 @@ class Trial:
         """Checks the crate with these edits, or only these functions of it."""
         texts = edits_of.applied(self.crate.folder, edits)
         only = [word for it in functions for word in ("--only", it.ending())]
-        ran = rt.checked(self.crate, texts, ["--allow-holes", *only, "--jobs", str(self.jobs)], self.kept)
+        ran = kit.checked(self.crate, texts, ["--allow-holes", *only, "--jobs", str(self.jobs)], self.kept)
         if ran.returncode < 0:
             # It was killed, most likely for memory.
-            ran = rt.checked(self.crate, texts, ["--allow-holes", *only, "--jobs", "1"], self.kept)
+            ran = kit.checked(self.crate, texts, ["--allow-holes", *only, "--jobs", "1"], self.kept)
         return Said(self.crate, ran, texts)
 
     def check_group(self, group, beside):
@@ -201,7 +200,7 @@ def tasks_of(crates):
     for it in crates:
         waits = [(dep.name, "library") for dep in it.below() if dep in left]
         call = lambda given, jobs, it=it, waits=waits: tried(it, jobs) if all(given[key] for key in waits) else None
-        tasks[it.name, "wrong"] = (waits, it.count(rb"\n"), rt.need(it), call)
+        tasks[it.name, "wrong"] = (waits, it.count(rb"\n"), kit.need(it), call)
     return tasks
 
 
@@ -218,8 +217,8 @@ def main(top, words):
     left = [it for it in chosen if it not in counts]
     for it in counts:
         print(f"{it.name}: {counts[it].edits} verdicts kept", flush=True)
-    held = rtlib.lock([*libraries.below(left), *left])
-    given = rt.in_lanes(tasks_of(left))
+    held = kit.lock([*libraries.below(left), *left])
+    given = kit.in_lanes(tasks_of(left))
     del held
     counts.update((it, given[it.name, "wrong"]) for it in left)
     for it in (it for it in left if not counts[it]):
