@@ -10,7 +10,7 @@ import re
 import heads
 import kit
 
-WRONG, MUST_FAIL = "wrong", "must-fail"
+WRONG = "wrong"
 ENDING = ".edit"
 TELLS = "# "
 # How a constant, a type or a definition begins: its word and its name.
@@ -110,20 +110,20 @@ def functions_of(folder):
     return [Function(it, source.declared, of_a_name[it.name] == 1) for it in source.functions if it.has_body]
 
 
-def names_of(crate, kind=WRONG):
-    """The files in one of the crate's folders of edits."""
-    folder = f"{crate.folder}/{kind}"
+def names_of(crate):
+    """The files in the crate's folder of edits."""
+    folder = f"{crate.folder}/{WRONG}"
     return sorted(os.listdir(folder)) if os.path.isdir(folder) else []
 
 
-def read_edits(crate, kind=WRONG):
-    """Reads the crate's edits of one folder, and gives (the edits, why each other one can't be applied)."""
-    names = names_of(crate, kind)
+def read_edits(crate):
+    """Reads the crate's edits, and gives (the edits, why each other one can't be applied)."""
+    names = names_of(crate)
     functions = functions_of(crate.folder) if names else []
     edits, bad = [], []
     for name in names:
         try:
-            edits.append(_read(crate.folder, functions, f"{kind}/{name}"))
+            edits.append(_read(crate.folder, functions, f"{WRONG}/{name}"))
         except BadEdit as why:
             bad.append(f"{name.removesuffix(ENDING)}: BAD EDIT: {why}")
     return edits, bad
