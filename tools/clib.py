@@ -14,31 +14,18 @@ import kept
 import kit
 import libraries
 import page
+from archive import NAME, PREFIX, Fault, look_at_symbols
 
 FOLDER = "lib"
-NAME = "vervainfile"
-PREFIX = "vf_"
 LOG = "clib.log"
 # The tools by which an archive is built: what was built is kept under a sum of them too.
-BUILDERS = ("clib", "libraries")
+BUILDERS = ("archive", "clib", "libraries")
 # What lib/ has, and what it is made of beside crates.
 FILES = (f"lib{NAME}.a", f"{NAME}.h", f"{NAME}.pc")
 SOURCES = (header.HEADER, f"c/{NAME}.pc.in")
-# What the archive may ask of the program that it is linked into.
-IMPORTS = {"free", "malloc", "memcmp", "memcpy", "memmove", "memset", "realloc"}
 # The kit's object with the functions by which the desk takes memory and gives it back. It lies in the archive as a
 # member of its own, so that a program which defines them itself is linked without it.
 ALLOCATION = "heap.pic.o"
-MEMORY_CALLS = {"rattle_alloc", "rattle_realloc", "rattle_dealloc"}
-
-
-class Fault(Exception):
-    """Why the library can't be made, or isn't as it should be."""
-
-
-def compiler():
-    """The words of the C compiler."""
-    return os.environ.get("CC", "cc").split()
 
 
 def exporters(crates):
@@ -104,30 +91,6 @@ def archive(crates, made):
         subprocess.run(["ar", "rcsD", made, *objects, f"{work}/{ALLOCATION}"], check=True)
 
 
-def symbols(made, *flags):
-    """The names that nm gives."""
-    ran = subprocess.run(["nm", "-P", *flags, made], capture_output=True, text=True, check=True)
-    return {line.split()[0] for line in ran.stdout.splitlines() if line.strip() and not line.endswith(":")}
-
-
-def look_at_symbols(top):
-    """Raises a fault where the archive gives or asks for anything but what it should."""
-    made = f"{top}/{FOLDER}/lib{NAME}.a"
-    given, wanted = symbols(made, "-g", "--defined-only"), set(header.exports(top))
-    if not MEMORY_CALLS <= given:
-        raise Fault(f"the archive lacks {sorted(MEMORY_CALLS - given)[0]}")
-    given -= MEMORY_CALLS
-    if given != wanted:
-        raise Fault(f"the archive gives {sorted(given ^ wanted)[0]}, or the sources do, but not both")
-    asked = symbols(made, "-u") - IMPORTS - MEMORY_CALLS
-    if asked:
-        raise Fault(f"the archive asks for {sorted(asked)[0]}")
-    alien = sorted(it for it in given if not it.startswith(PREFIX))
-    if alien:
-        raise Fault(f"the archive gives {alien[0]}, which doesn't begin with {PREFIX}")
-    return f"{len(given)} names are given, and {', '.join(sorted(symbols(made, '-u') - MEMORY_CALLS))} asked for"
-
-
 def version(top):
     """The version that the list of changes names last."""
     with open(f"{top}/CHANGELOG.md", encoding="utf-8") as it:
@@ -167,7 +130,7 @@ def make(top):
     """Makes lib/, and gives the exit status."""
     try:
         make_library(top)
-        print(f"clib: {FOLDER}/lib{NAME}.a: {look_at_symbols(top)}")
+        print(f"clib: {FOLDER}/lib{NAME}.a: {look_at_symbols(top, f'{top}/{FOLDER}')}")
     except Fault as why:
         print(f"clib: {why}", file=sys.stderr)
         return 1

@@ -2,6 +2,8 @@
 
 import re
 
+# The exit status of tests that this machine can't run, since it lacks a program. They say which.
+NOT_RUN = 77
 LINE = re.compile(r"(?P<what>.+): (?P<tests>\d+) tests, (?P<failed>\d+) failed")
 
 
