@@ -16,7 +16,8 @@ PROGRAMS = ("chromium", "chromium-browser", "google-chrome", "google-chrome-stab
 READS, WRITES = 3, 4
 # Numbers of files above those.
 FREE_NUMBER = 10
-SECONDS = 60
+# So long a browser may take for an answer, as the print of a long page where the machine has other work.
+SECONDS = 240
 MODIFIERS = {"Alt": 1, "Control": 2, "Meta": 4, "Shift": 8}
 KEY_CODES = {"Enter": 13, "Escape": 27, "Tab": 9, "Backspace": 8, "ArrowUp": 38, "ArrowDown": 40, "F8": 119, "F9": 120,
              "Delete": 46, "End": 35, "Home": 36}
@@ -50,14 +51,20 @@ class Browser:
     @staticmethod
     def _pipes():
         """The ends of two pipes: ours to read and write, and theirs."""
-        numbers = [fcntl.fcntl(it, fcntl.F_DUPFD, FREE_NUMBER) for it in (*os.pipe(), *os.pipe())]
+        low = (*os.pipe(), *os.pipe())
+        numbers = [fcntl.fcntl(it, fcntl.F_DUPFD, FREE_NUMBER) for it in low]
+        for number in low:
+            os.close(number)
         return (numbers[2], numbers[1]), (numbers[0], numbers[3])
 
     def call(self, method, session=None, **words):
         """What Chromium answers to a call."""
         self.count += 1
         message = {"id": self.count, "method": method, "params": words} | ({"sessionId": session} if session else {})
-        self.writer.write(json.dumps(message).encode() + b"\0")
+        try:
+            self.writer.write(json.dumps(message).encode() + b"\0")
+        except BrokenPipeError as fault:
+            raise BrowserFault("Chromium has ended") from fault
         mine, end = self.count, time.monotonic() + SECONDS
         while mine not in self.answers:
             self._take(method, end)
@@ -90,6 +97,8 @@ class Browser:
     def close(self):
         self.call("Browser.close")
         self.process.wait(SECONDS)
+        self.reader.close()
+        self.writer.close()
         self.folder.cleanup()
 
 
@@ -182,7 +191,7 @@ class Tab:
     def picture(self, path, is_whole=True):
         """Takes a picture of the page."""
         taken = self.call("Page.captureScreenshot", captureBeyondViewport=is_whole)
-        path.write_bytes(base64.b64decode(taken["data"]))
+        pathlib.Path(path).write_bytes(base64.b64decode(taken["data"]))
 
     def downloaded(self, name):
         """The bytes of a file that the page gave to the user."""
