@@ -18,6 +18,8 @@ READS, WRITES = 3, 4
 FREE_NUMBER = 10
 # So long a browser may take for an answer, as the print of a long page where the machine has other work.
 SECONDS = 240
+# So long a page may take until something holds.
+WAITED = 60
 MODIFIERS = {"Alt": 1, "Control": 2, "Meta": 4, "Shift": 8}
 KEY_CODES = {"Enter": 13, "Escape": 27, "Tab": 9, "Backspace": 8, "ArrowUp": 38, "ArrowDown": 40, "F8": 119, "F9": 120,
              "Delete": 46, "End": 35, "Home": 36}
@@ -143,7 +145,7 @@ class Tab:
 
     def wait(self, test, fault):
         """Waits until a test holds."""
-        end = time.monotonic() + SECONDS
+        end = time.monotonic() + WAITED
         while not test():
             if time.monotonic() > end:
                 raise BrowserFault(fault)
