@@ -26,8 +26,6 @@ class Build:
     program: str
     library: str
     page: str
-    # Whether the gate has built it, so that no part may be left out but for want of a browser.
-    is_gates: bool = False
 
 
 def laid_out(what, folder):
@@ -37,7 +35,7 @@ def laid_out(what, folder):
 
 def built_here(top):
     """What was built here last of the sources."""
-    return Build("what was built", f"{top}/crates/{NAME}/out/{NAME}", f"{top}/lib", f"{top}/web/out/{NAME}.html", True)
+    return Build("what was built", f"{top}/crates/{NAME}/out/{NAME}", f"{top}/lib", f"{top}/web/out/{NAME}.html")
 
 
 @dataclasses.dataclass(frozen=True)
@@ -105,8 +103,11 @@ def ran(words):
     return running.returncode, text.decode(errors="replace")
 
 
-def result_of(part, is_gates):
-    """Runs a part. It is well where its tests ran and passed, or where it says what the machine lacks."""
+def result_of(part, is_whole):
+    """Runs a part. It is well where its tests ran and passed, or where it says what the machine lacks.
+
+    Of the whole no part may be left out but for want of a browser.
+    """
     start = time.monotonic()
     try:
         status, said = ran(part.words)
@@ -115,7 +116,7 @@ def result_of(part, is_gates):
     lines = said.splitlines()
     left_out = tuple(it for it in lines if it.endswith(LEFT_OUT))
     tests, failed = outcome.read(lines[-1]) or (0, 0) if lines else (0, 0)
-    may_lack = part.needs_browser or not is_gates
+    may_lack = part.needs_browser or not is_whole
     is_well = bool(left_out) and may_lack if status == outcome.NOT_RUN else status == 0 and tests > 0 and not failed
     return Result(part, tests, failed, is_well, left_out, said, time.monotonic() - start)
 
@@ -129,11 +130,11 @@ def missing_of(results):
     return list(dict.fromkeys(found))
 
 
-def run(build, parts):
+def run(build, parts, is_whole):
     """Runs the parts, as many side by side as there are processors, tells each as it ends, and gives the exit status."""
     start, results = time.monotonic(), []
     with concurrent.futures.ThreadPoolExecutor(os.cpu_count()) as pool:
-        for it in concurrent.futures.as_completed([pool.submit(result_of, part, build.is_gates) for part in parts]):
+        for it in concurrent.futures.as_completed([pool.submit(result_of, part, is_whole) for part in parts]):
             results.append(it.result())
             print(results[-1].line(), end="", flush=True)
     missing, wrong = missing_of(results), sum(not it.is_well for it in results)
