@@ -1,6 +1,6 @@
 use Rattle.std.proofs.Common.{◌≡◌, ◌≤◌, ◌+◌, ◌^◌, take}
 use Rattle.rh_defs.specs.Line.{hex_number}
-use Rattle.rh_lines.proofs.hex_digits.hex_number.Given as goal
+use Rattle.rh_lines.proofs.hexadecimal.hex_number.Given as goal
 
 abbrev pub invariant-loop-b : goal.invariant-loop-b
 invariant-loop-b l = record {

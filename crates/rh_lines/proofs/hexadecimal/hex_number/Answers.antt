@@ -1,6 +1,6 @@
 use Rattle.std.proofs.Common.{◌+◌, ◌*◌, ◌^◌, ◌<◌, ◌≤◌, ℕ, arith, lit<}
 use Rattle.std.proofs.Math.Nat.{pow-le-pow_right}
-use Rattle.rh_lines.proofs.hex_digits.hex_number.Goals as goal
+use Rattle.rh_lines.proofs.hexadecimal.hex_number.Goals as goal
 
 -- one of eight digits more
 has_room : (number digit i : ℕ) → number + 1 ≤ 16 ^ i → i < 8 → digit < 16 → 16 * number + digit < 2 ^ 32
