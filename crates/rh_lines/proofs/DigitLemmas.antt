@@ -55,7 +55,7 @@ pub digit_before : (all : List ℕ) (rest at : ℕ) (bytes : List ℕ) (d : ℕ)
 digit_before all rest at bytes d so_far big small is some within =
     let next : at - 1 + 1 ≡ at = omega arith in
     let written : drop (at - 1) (slice_set bytes (at - 1) d) ≡ glyph rest ∷ drop at bytes =
-        drop-set bytes (at - 1) d (omega arith) ∙ rw (next, is) refl in
+    drop-set bytes (at - 1) d (omega arith) ∙ rw (next, is) refl in
     so_far ∙ ap (λ z. z ++ drop at bytes) (hex_step rest big small)
     ∙ append_assoc (digits 16 true (rest / 16)) (glyph rest ∷ []) (drop at bytes) ∙ ap (λ z. digits 16 true (rest / 16) ++ z) (sym written)
 
@@ -65,7 +65,7 @@ pub digit_first : (all : List ℕ) (rest at : ℕ) (bytes : List ℕ) (d : ℕ) 
 digit_first all rest at bytes d so_far small is some within =
     let next : at - 1 + 1 ≡ at = omega arith in
     let written : drop (at - 1) (slice_set bytes (at - 1) d) ≡ digit_glyph true rest ∷ drop at bytes =
-        drop-set bytes (at - 1) d (omega arith) ∙ rw (next, is) refl in
+    drop-set bytes (at - 1) d (omega arith) ∙ rw (next, is) refl in
     written ∙ sym (so_far ∙ ap (λ z. z ++ drop at bytes) (hex_one_digit true rest small))
 
 -- a number that has more than one digit has fewer without its last
