@@ -167,7 +167,7 @@ uint32_t vf_heap_indexed_block_size(const uint8_t *memory, size_t len, const uin
                                     size_t address, size_t *size);
 
 /* Tells by how many bytes the heap is too short for a resize by `delta`, 0 where it has room: as many more make it be
- * done. VF_NOT_A_BLOCK, VF_BAD_SIZE; VF_NO_ROOM where `delta` has more than 32 bits. */
+ * done. VF_NOT_A_BLOCK, VF_BAD_SIZE; VF_NO_ROOM where `delta` is above 2,147,483,647. */
 uint32_t vf_heap_indexed_resize_need(const uint8_t *memory, size_t len, const uint64_t *map, size_t map_len,
                                      size_t address, ptrdiff_t delta, size_t *need);
 
@@ -204,7 +204,8 @@ uint32_t vf_heap_checked_block_size(const uint8_t *memory, size_t len, size_t ad
  *
  * Each call tests first, and has changed nothing then: VF_NULL; VF_BAD_LENGTH where `len` is below 4,096 or above
  * 28 MiB; VF_NO_SLOT; VF_SHORT where the pages of the slot exceed `len`; VF_BAD_ANCHOR where there is an anchor. A
- * number of bytes that has more than 32 bits is refused as the greatest of 32 bits is.
+ * number of bytes above 4,294,967,295 is refused as that one is. An amount up or down is refused as the nearest one
+ * from -2,147,483,648 to 2,147,483,647 is.
  */
 
 /* What of a slot does not stand in its bytes. You keep it beside them, and read it at will; the calls write it. A copy

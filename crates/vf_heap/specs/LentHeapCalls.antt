@@ -24,7 +24,7 @@ size_at address h = ok_or (block_size address h) NotABlock
 abbrev pub RefusesImage : List ℕ → List ℕ → ℕ → Type 0
 RefusesImage b c status = image_status b ≢ 0 → (status ≡ image_status b) × (c ≡ b)
 
--- an amount for which 32 bits have no room: 2 GiB or more up, or more than 2 GiB down
+-- an amount for which 32 bits with a sign have no room: 2 GiB or more up, or more than 2 GiB down
 abbrev pub IsFar : ℤ → Type 0
 IsFar (pos k) = 2 ^ 31 ≤ k
 IsFar (negsuc k) = 2 ^ 31 ≤ k
