@@ -25,8 +25,12 @@ extern "C" {
 /* ---- Statuses ----------------------------------------------------------------------------------------------------
  *
  * Each call answers one. With any but VF_OK it has changed nothing: no byte of the memory, and none of the numbers that
- * it would have told. Refusals have the numbers that they have everywhere in vervainfile, 1 to 24: where several hold,
- * the first is answered. What is wrong with what a call was lent begins at 32.
+ * it would have told. Refusals have the numbers that they have everywhere in vervainfile, 1 to 24. What is wrong with
+ * what a call was lent begins at 32.
+ *
+ * Where several hold, the first is answered: VF_NULL before all others, then those that the head of the call's part
+ * says all its calls test, then those of the call's own comment. Each list names them in the order in which they are
+ * tested. Refusals are tested in the order of their numbers, and after what has a number from 32 on.
  */
 enum {
     VF_OK = 0,                 /* all was done */
@@ -130,7 +134,7 @@ uint32_t vf_heap_release(uint8_t *memory, size_t len, size_t address);
 uint32_t vf_heap_resize(uint8_t *memory, size_t len, size_t address, ptrdiff_t delta, size_t *moved_to);
 
 /* OS_Heap 5: moves the heap's end by `delta` bytes, up or down. No block moves. VF_SHORT where the heap's length would
- * exceed `len`, VF_BAD_LENGTH where it would be no multiple of 8, VF_EXCESSIVE_SHRINK. */
+ * exceed `len`, then VF_BAD_LENGTH where it would be no multiple of 8, then VF_EXCESSIVE_SHRINK. */
 uint32_t vf_heap_extend(uint8_t *memory, size_t len, ptrdiff_t delta);
 
 /* OS_Heap 6: tells how many bytes the block at an address has: what was asked for, or up to 7 more. VF_NOT_A_BLOCK. */
@@ -174,8 +178,9 @@ uint32_t vf_heap_indexed_resize_need(const uint8_t *memory, size_t len, const ui
 /* ---- The same on any bytes -----------------------------------------------------------------------------------------
  *
  * These look at all of the heap first, so they have no third duty, and may be given bytes that come from a file or from
- * somebody else. Where the bytes are no heap they answer what vf_heap_check answers, and else what the call of the same
- * name does. With VF_CHECKED defined before this header, the names above stand for these.
+ * somebody else. Where the bytes are no heap they answer what vf_heap_check answers, before all else but VF_NULL, and
+ * else what the call of the same name does. With VF_CHECKED defined before this header, the names above stand for
+ * these.
  */
 
 /* VF_OK where the first bytes are a heap, as many as its own length. Else what is wrong first: VF_BAD_LENGTH where
@@ -286,8 +291,8 @@ uint32_t vf_flex_block_size(const uint8_t *memory, size_t len, const struct vf_s
  *
  * These look at all of the slot first, so they have no fourth duty: `memory` may hold bytes that come from a file or
  * from somebody else, and `slot` any number of pages; its flag must be a bool, true or false. Where they are no slot
- * the calls answer what vf_flex_check answers, and else what the call of the same name does. With VF_CHECKED defined
- * before this header, the names above stand for these.
+ * the calls answer what vf_flex_check answers, before all else but VF_NULL, and else what the call of the same name
+ * does. With VF_CHECKED defined before this header, the names above stand for these.
  */
 
 /* VF_OK where the pages lie in the bytes and are a slot. Else what is wrong first: VF_BAD_LENGTH, VF_NO_SLOT and
@@ -545,7 +550,7 @@ uint32_t vf_desk_budge(struct vf_desk *desk, const uint8_t *name, size_t name_le
 /* -- areas, and the module area -- */
 
 /* OS_ChangeDynamicArea: moves the length of an area by `delta` bytes in whole pages, and tells how many bytes were
- * moved. VF_NO_AREA, VF_EXCESSIVE_SHRINK, VF_TOO_BIG, VF_NO_ROOM. */
+ * moved. VF_EXCESSIVE_SHRINK, VF_NO_ROOM, VF_NO_AREA, VF_TOO_BIG. */
 uint32_t vf_desk_area(struct vf_desk *desk, uint32_t number, int32_t delta, uint32_t *bytes);
 
 /* OS_DynamicArea 0: makes an area of no page, and of at most `most` pages, 1 to 1,024, and tells its number.

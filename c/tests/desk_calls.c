@@ -309,6 +309,7 @@ static void area_calls(void)
     REFUSES(VF_NO_ROOM, vf_desk_area(&desk, 2, PAGES * 4096, &number_told));
     GIVES(256, vf_desk_make(&desk, 1, &number_told));
     REFUSES(VF_TOO_BIG, vf_desk_area(&desk, 256, 4097, &number_told));
+    REFUSES(VF_NO_ROOM, vf_desk_area(&desk, 256, PAGES * 4096, &number_told));
     unset();
     DOES(vf_desk_areas(&desk, &number_told, areas, 2, &count));
     EXPECT(number_told == PAGES - 3 && count == 8);
