@@ -211,6 +211,10 @@ uint32_t vf_heap_checked_block_size(const uint8_t *memory, size_t len, size_t ad
  * 28 MiB; VF_NO_SLOT; VF_SHORT where the pages of the slot exceed `len`; VF_BAD_ANCHOR where there is an anchor. A
  * number of bytes above 4,294,967,295 is refused as that one is. An amount up or down is refused as the nearest one
  * from -2,147,483,648 to 2,147,483,647 is.
+ *
+ * A refused call leaves all `len` bytes. Where a refusal of the rules is answered, 1 to 24, it is proved that the slot's
+ * pages and the struct stay; that the bytes behind these pages stay is tested. Where any other status is answered, all
+ * of it is proved.
  */
 
 /* What of a slot does not stand in its bytes. You keep it beside them, and read it at will; the calls write it. A copy
