@@ -73,7 +73,7 @@ enum {
     VF_SPARE_PAGE = 42,        /* the last page of the slot holds nothing of it */
     VF_CLOSED = 43,            /* the desk is not open */
     VF_OPEN = 44,              /* the desk is open already */
-    VF_BAD_ARGUMENT = 45,      /* a name, an anchor, a number or a leafname is none that a line could have */
+    VF_BAD_ARGUMENT = 45,      /* a name, an anchor, a number or a leafname is none that a line has, or a put no byte */
     VF_NO_MEMORY = 46,         /* memory was refused */
     VF_FILE_EXISTS = 47        /* a file with the name was added before */
 };
@@ -212,9 +212,9 @@ uint32_t vf_heap_checked_block_size(const uint8_t *memory, size_t len, size_t ad
  * number of bytes above 4,294,967,295 is refused as that one is. An amount up or down is refused as the nearest one
  * from -2,147,483,648 to 2,147,483,647 is.
  *
- * A refused call leaves all `len` bytes. Where a refusal of the rules is answered, 1 to 24, it is proved that the slot's
- * pages and the struct stay; that the bytes behind these pages stay is tested. Where any other status is answered, all
- * of it is proved.
+ * A refused call leaves all `len` bytes. Where a refusal of the rules is answered, 1 to 24, it is proved that the
+ * slot's pages and the struct stay; that the bytes behind these pages stay is tested. Where any other status is
+ * answered, all of it is proved.
  */
 
 /* What of a slot does not stand in its bytes. You keep it beside them, and read it at will; the calls write it. A copy
@@ -516,8 +516,8 @@ uint32_t vf_desk_alloc(struct vf_desk *desk, const uint8_t *name, size_t name_le
 uint32_t vf_desk_load(struct vf_desk *desk, const uint8_t *name, size_t name_len, uint32_t anchor, const uint8_t *file,
                       size_t file_len, uint32_t *address);
 
-/* Writes bytes, one at least, into the anchor's block, from an offset on. VF_NO_NAME, VF_NO_BLOCK, VF_BUSY,
- * VF_BAD_RANGE. */
+/* Writes bytes into the anchor's block, from an offset on: one at least, and any number that the block has, also more
+ * than the 507 for which a line has room. VF_NO_NAME, VF_NO_BLOCK, VF_BUSY, VF_BAD_RANGE. */
 uint32_t vf_desk_put(struct vf_desk *desk, const uint8_t *name, size_t name_len, uint32_t anchor, uint32_t offset,
                      const uint8_t *from, size_t from_len);
 

@@ -229,6 +229,23 @@ static void opening(void)
     DOES(vf_desk_close(&desk));
 }
 
+/* A block takes as many bytes as it has in one call, and 507 of them in one line. */
+static void bytes_are_put(const uint8_t *from)
+{
+    static const size_t lengths[] = {1, 2, 506, 507, 508, 511, 512, 513, 1024};
+    for (size_t i = 0; i < sizeof lengths / sizeof *lengths; i++) {
+        char line[2 * 1024 + 16] = "put a 1 0 ", said[16];
+        for (size_t k = 0; k < lengths[i]; k++)
+            strcat(line, "09");
+        DOES(vf_desk_put(&desk, A, 1, 0, from, lengths[i]));
+        DOES(vf_desk_line(&desk, VF_TEXT(line)));
+        DOES(vf_desk_reply(&desk, (uint8_t *)said, sizeof said, &count));
+        said[count] = 0;
+        EXPECT(strcmp(said, lengths[i] <= 507 ? "ok\n" : "bad TooLong\n") == 0);
+    }
+    REFUSES(VF_BAD_ARGUMENT, vf_desk_put(&desk, A, 1, 0, from, 0));
+}
+
 static void flex_calls(void)
 {
     static uint8_t long_bytes[3000];
@@ -270,6 +287,8 @@ static void flex_calls(void)
     DOES(vf_desk_extend(&desk, A, 1, sizeof long_bytes + 1));
     DOES(vf_desk_put(&desk, A, 1, 1, long_bytes, sizeof long_bytes));
     REFUSES(VF_BAD_RANGE, vf_desk_put(&desk, A, 1, 2, long_bytes, sizeof long_bytes));
+    bytes_are_put(long_bytes);
+    DOES(vf_desk_put(&desk, A, 1, 0, (const uint8_t *)"a", 1));
     GIVES(sizeof long_bytes + 1, vf_desk_show(&desk, A, 1, bytes, 3, &number_told));
     EXPECT(memcmp(bytes, "a\x09\x09M", 4) == 0);
     DOES(vf_desk_free(&desk, A, 1));
