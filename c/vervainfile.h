@@ -91,7 +91,8 @@ enum {
  *    time.
  * 3. Of the calls on heaps without `checked` in their names, vf_heap_init aside: `memory` is a heap, so that
  *    vf_heap_check would answer VF_OK. It is one after vf_heap_init, and after each call, as long as you write to
- *    nothing but the bytes of your blocks. Where it is none they may read and write anywhere, as free() may.
+ *    nothing but the bytes of your blocks, and `len` is at most 1 GiB. Where it is none they may read and write
+ *    anywhere, as free() may. vf_heap_extend alone looks whether `len` is above 1 GiB.
  * 4. Of the calls on slots without `checked` in their names, vf_flex_start aside: `slot` and the bytes of its pages are
  *    a slot, so that vf_flex_check would answer VF_OK. They are one after vf_flex_start, and after each call, as long
  *    as you write to nothing but the bytes of your blocks. Where they are none the calls may read and write anywhere.
@@ -133,8 +134,9 @@ uint32_t vf_heap_release(uint8_t *memory, size_t len, size_t address);
  * than 1, VF_NO_ROOM. */
 uint32_t vf_heap_resize(uint8_t *memory, size_t len, size_t address, ptrdiff_t delta, size_t *moved_to);
 
-/* OS_Heap 5: moves the heap's end by `delta` bytes, up or down. No block moves. VF_SHORT where the heap's length would
- * exceed `len`, then VF_BAD_LENGTH where it would be no multiple of 8, then VF_EXCESSIVE_SHRINK. */
+/* OS_Heap 5: moves the heap's end by `delta` bytes, up or down. No block moves. VF_BAD_LENGTH where `len` is above
+ * 1 GiB, then VF_SHORT where the heap's length would exceed `len`, then VF_BAD_LENGTH where it would be no multiple of 8,
+ * then VF_EXCESSIVE_SHRINK. */
 uint32_t vf_heap_extend(uint8_t *memory, size_t len, ptrdiff_t delta);
 
 /* OS_Heap 6: tells how many bytes the block at an address has: what was asked for, or up to 7 more. VF_NOT_A_BLOCK. */

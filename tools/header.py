@@ -253,7 +253,7 @@ SLIPS = [
     ("VF_DID_SAVE = 10", "VF_DID_SAVE = 11"),
     ("desk && name && event,", "desk && event,"),
     ("VF_NO_ROOM, VF_NO_AREA, VF_TOO_BIG. */", "VF_NO_AREA, VF_TOO_BIG, VF_NO_ROOM. */"),
-    ("no multiple of 8, then VF_EXCESSIVE_SHRINK.", "no multiple of 8. VF_EXCESSIVE_SHRINK before VF_BAD_LENGTH."),
+    ("then VF_EXCESSIVE_SHRINK. */", "after VF_EXCESSIVE_SHRINK, VF_BAD_LENGTH. */"),
     ("#define vf_desk_poll vf_desk_poll_unless_null\n", ""),
 ]
 
