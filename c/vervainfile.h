@@ -609,9 +609,9 @@ uint32_t vf_desk_areas(struct vf_desk *desk, uint32_t *free, struct vf_area *are
  * answered in the reply too. */
 uint32_t vf_desk_line(struct vf_desk *desk, const uint8_t *line, size_t line_len);
 
-/* Puts the text of the last line's reply into `text` with zeros behind it, and tells how many bytes it has, as often
- * as it is asked; what a question lists is looked up anew. VF_SHORT where the text has more bytes than there is room
- * for: `text` and `length` stay then. */
+/* Puts the text of the last line's reply into `text`, and tells how many bytes it has, as often as it is asked; what a
+ * question lists is looked up anew. The bytes behind the text stay: no zero ends it. VF_SHORT where it has more bytes
+ * than there is room for: `text` and `length` stay then. */
 uint32_t vf_desk_reply(struct vf_desk *desk, uint8_t *text, size_t text_len, size_t *length);
 
 /* ---- Null pointers -------------------------------------------------------------------------------------------------

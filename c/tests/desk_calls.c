@@ -80,6 +80,14 @@ static bool is_set(const void *at, size_t n)
     return false;
 }
 
+static bool is_all(const uint8_t *at, size_t n, uint8_t value)
+{
+    for (size_t i = 0; i < n; i++)
+        if (at[i] != value)
+            return false;
+    return true;
+}
+
 static bool is_unset(void)
 {
     return number_told == UNSET && count == UNSET && other_count == UNSET && was && !is_set(&event, sizeof event) &&
@@ -466,7 +474,7 @@ static bool has_no_room(size_t room)
            memcmp(text, before, sizeof text) == 0;
 }
 
-/* A text that finds no room, and the whole of it once more, with zeros behind it. */
+/* A text that finds no room, and the whole of it once more; the bytes behind it stay. */
 static void short_texts(void)
 {
     uint8_t text[64];
@@ -479,10 +487,11 @@ static void short_texts(void)
     DOES(vf_desk_reply(&desk, text, 7, &count));
     EXPECT(count == 7 && memcmp(text, "ok 257\n", 7) == 0 && text[7] == UNSET);
     DOES(vf_desk_reply(&desk, text, 10, &count));
-    EXPECT(count == 7 && memcmp(text, "ok 257\n\0\0\0", 10) == 0);
+    EXPECT(count == 7 && memcmp(text, "ok 257\nMMM", 10) == 0);
     DOES(vf_desk_line(&desk, VF_TEXT("make 3")));
     DOES(vf_desk_reply(&desk, text, sizeof text, &count));
-    EXPECT(count == 7 && memcmp(text, "ok 258\n", 8) == 0);
+    EXPECT(count == 7 && memcmp(text, "ok 258\n", 7) == 0);
+    EXPECT(is_all(text + 7, sizeof text - 7, UNSET));
     DOES(vf_desk_remove(&desk, 257));
     DOES(vf_desk_remove(&desk, 258));
     DOES(vf_desk_reply(&desk, text, sizeof text, &count));
