@@ -1,6 +1,7 @@
 -- Which texts are documents: each element ends where it has to, and none is left open.
 use Rattle.std.specs.Prelude.{◌≡◌, ℕ, ◌==◌, Bool, false, if◌then◌else◌, List, [], ◌∷◌, ◌++◌}
 use Rattle.std.specs.Str.{bytes_eq}
+use Rattle.rh_defs.specs.Bytes.{space}
 use Rattle.rh_figure.specs.Phrases.{Text}
 use Rattle.rh_figure.specs.Map.{Stage}
 use Rattle.rh_sheet.specs.Sheet.{Walk, sheet_head, sheet_lines}
@@ -24,9 +25,9 @@ abbrev pub Reader : Type 0
 Reader = List Text × Spot
 
 -- an element with the name ends, which has to be the inner one of those that are open
-abbrev pub closed : Text → List Text → Reader
-closed name [] = ([], Lost)
-closed name (inner ∷ around) = if bytes_eq name inner then (around, Words) else (inner ∷ around, Lost)
+abbrev pub element_ends : Text → List Text → Reader
+element_ends name [] = ([], Lost)
+element_ends name (inner ∷ around) = if bytes_eq name inner then (around, Words) else (inner ∷ around, Lost)
 
 -- where the reader stands behind a byte: 34 is a quote, 47 a stroke, 60 `<`, 62 `>`
 abbrev pub read_byte : List Text → Spot → ℕ → Reader
@@ -34,8 +35,8 @@ read_byte around Words b = (around, if b == 60 then Sign else Words)
 read_byte around Sign b = (around, if b == 47 then Closing [] else if b == 33 then Declared else Beginning (b ∷ []))
 read_byte around (Beginning name) b =
     if b == 62 then (name ∷ around, Words)
-    else (around, if b == 47 then Stroke else if b == 32 then Within name else Beginning (b ∷ name))
-read_byte around (Closing name) b = if b == 62 then closed name around else (around, Closing (b ∷ name))
+    else (around, if b == 47 then Stroke else if b == space then Within name else Beginning (b ∷ name))
+read_byte around (Closing name) b = if b == 62 then element_ends name around else (around, Closing (b ∷ name))
 read_byte around (Within name) b =
     if b == 62 then (name ∷ around, Words)
     else (around, if b == 34 then Quoted name else if b == 47 then Stroke else if b == 60 then Lost else Within name)
