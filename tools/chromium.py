@@ -48,7 +48,7 @@ class Browser:
         for number in theirs:
             os.close(number)
         self.reader, self.writer = os.fdopen(ours[0], "rb", buffering=0), os.fdopen(ours[1], "wb", buffering=0)
-        self.count, self.rest, self.answers, self.tabs = 0, b"", {}, {}
+        self.count, self.parts, self.answers, self.tabs = 0, [], {}, {}
 
     @staticmethod
     def _pipes():
@@ -83,12 +83,19 @@ class Browser:
         part = self.reader.read(1 << 16)
         if not part:
             raise BrowserFault("Chromium has ended")
-        *messages, self.rest = (self.rest + part).split(b"\0")
-        for message in map(json.loads, messages):
+        for message in map(json.loads, self._ended(part)):
             if "id" in message:
                 self.answers[message["id"]] = message
             elif message.get("sessionId") in self.tabs:
                 self.tabs[message["sessionId"]].hears(message["method"], message["params"])
+
+    def _ended(self, part):
+        """The messages that end in a part of what is read. One may have many megabytes, in small parts."""
+        first, *others = part.split(b"\0")
+        self.parts.append(first)
+        for other in others:
+            yield b"".join(self.parts)
+            self.parts = [other]
 
     def open(self, address, before=""):
         """A new tab with a page, and a script that runs before the page's own."""
