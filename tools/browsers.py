@@ -97,6 +97,8 @@ class Browsers:
             tab.close()
             return told
         except (chromium.BrowserFault, OSError) as fault:
+            if self.chromium:
+                self.chromium.end()
             self.chromium = None
             return [f"Chromium: {fault}"]
 

@@ -103,6 +103,12 @@ class Browser:
         session = self.call("Target.attachToTarget", targetId=target, flatten=True)["sessionId"]
         return Tab(self, target, session, address, before)
 
+    def end(self):
+        """Ends it where it doesn't answer any more."""
+        self.process.kill()
+        self.process.wait()
+        self.folder.cleanup()
+
     def close(self):
         self.call("Browser.close")
         self.process.wait(SECONDS)
