@@ -172,11 +172,6 @@ class Tab:
             raise BrowserFault(answer["exceptionDetails"]["exception"].get("description", expression))
         return answer["result"].get("value")
 
-    def own_seconds(self):
-        """The seconds of a processor that the page's thread has had for its tasks, from the first call on."""
-        self.call("Performance.enable", timeDomain="threadTicks")
-        return next(it["value"] for it in self.call("Performance.getMetrics")["metrics"] if it["name"] == "TaskDuration")
-
     def resize(self, width, height, is_dark=False, scale=1):
         """Makes the window so large, and light or dark; at a greater scale a page sees fewer units."""
         self.call("Emulation.setDeviceMetricsOverride", width=int(width / scale), height=int(height / scale),

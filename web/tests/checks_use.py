@@ -11,8 +11,7 @@ STORY = ("task a 100", "alloc a 0 5", "put a 0 0 68656c6c6f", "show a 0")
 LONG = 100_000
 # How long a script of so many lines may take, until it is shown.
 LONG_SECONDS = 2
-# And how long where other work takes most of the processors.
-LONG_BESIDE_OTHERS = 20
+LONG_TRIES = 3
 STRANGE = (b"# caf\xe9 \xff\x80 </script><!-- <b>&amp;\ntask a 100\n\xff\xfe x\nalloc a 0 5\n"
            b"save a 0 a \xe2\x82\xac\n\nareas")
 
@@ -296,32 +295,27 @@ def check_paste(bench):
 def seconds_of(bench, name, script):
     """How long a long script takes to be shown, and to be run, whose lines all have their end."""
     with bench.page() as page:
-        own = page.tab.own_seconds()
         took = page.drop_bytes("long.desk", script, "document.title.startsWith('long')")
-        shown = page.tab.own_seconds() - own
         start = time.monotonic()
         page.click("run")
         ran = time.monotonic() - start
-        run = page.tab.own_seconds() - own - shown
         told = page.text("notice")
-        print(f"  {LONG} lines of {name}: {took:.2f} s, {shown:.2f} of them the page's own, then {ran:.2f} and {run:.2f} s "
-              f"to run them; {told or 'all have replies'}")
+        print(f"  {LONG} lines of {name}: {took:.2f} s, then {ran:.2f} s to run them; {told or 'all have replies'}")
         holds(told or page.text("progress") == f"{LONG} of {LONG} lines have run", "not all lines have run")
         holds("too long" in told or len(page.rows()) == 400, "there are no lines")
-    return max(took, ran), max(shown, run)
+    return took, ran
 
 
 def check_long_scripts(bench):
     """A script of 100,000 lines is shown within two seconds, with replies or with what is too long.
 
-    Where the machine has other work, that is two seconds of a processor for the page's own, and some more by the clock.
+    It is tried again where it wasn't, since the machine may have had other work.
     """
     scripts = {"remarks": b"# nothing to say\n" * LONG, "short replies": b"task a 9\n" + b"budge a on\n" * (LONG - 1),
                "long replies": b"heap nobody\n" * LONG}
     for name, script in scripts.items():
-        by_clock, own = seconds_of(bench, name, script)
-        is_soon = by_clock < LONG_SECONDS or own < LONG_SECONDS and by_clock < LONG_BESIDE_OTHERS
-        holds(is_soon, f"{name} took {by_clock:.2f} s, {own:.2f} of them the page's own")
+        tries = (seconds_of(bench, name, script) for _ in range(LONG_TRIES))
+        holds(any(max(them) < LONG_SECONDS for them in tries), f"{name} took more than {LONG_SECONDS} s each time")
 
 
 def check_list_of_many(bench):
