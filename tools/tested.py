@@ -40,11 +40,12 @@ def built_here(top):
 
 @dataclasses.dataclass(frozen=True)
 class Part:
-    """Tests that run by one command. Those that need a browser may be left out anywhere."""
+    """Tests that run by one command. Those that need a browser may be left out anywhere; some are timed, and run alone."""
 
     name: str
     words: list
     needs_browser: bool = False
+    is_timed: bool = False
 
 
 def parts_of(top, build, is_dist):
@@ -66,6 +67,7 @@ def parts_of(top, build, is_dist):
         Part("documents", [f"{tests}docs", build.program]),
         Part("command", [f"{tests}command"]),
         *([Part("sums", [f"{tests}sums"])] if is_dist else []),
+        Part("pace", [f"{top}/bin/web", "test", build.page, "--program", build.program, "long_scripts"], True, True),
     ]
 
 
@@ -131,12 +133,17 @@ def missing_of(results):
 
 
 def run(build, parts, is_whole):
-    """Runs the parts, as many side by side as there are processors, tells each as it ends, and gives the exit status."""
+    """Runs the parts, tells each as it ends, and gives the exit status.
+
+    As many run side by side as there are processors, and behind them those that are timed, one by one.
+    """
     start, results = time.monotonic(), []
-    with concurrent.futures.ThreadPoolExecutor(os.cpu_count()) as pool:
-        for it in concurrent.futures.as_completed([pool.submit(result_of, part, is_whole) for part in parts]):
-            results.append(it.result())
-            print(results[-1].line(), end="", flush=True)
+    for timed in (False, True):
+        wanted = [it for it in parts if it.is_timed == timed]
+        with concurrent.futures.ThreadPoolExecutor(1 if timed else os.cpu_count()) as pool:
+            for it in concurrent.futures.as_completed([pool.submit(result_of, part, is_whole) for part in wanted]):
+                results.append(it.result())
+                print(results[-1].line(), end="", flush=True)
     missing, wrong = missing_of(results), sum(not it.is_well for it in results)
     tests, failed = sum(it.tests for it in results), sum(it.failed for it in results)
     print(f"{build.what}: {len(parts)} parts, {wrong} of them FAILED; " if wrong else

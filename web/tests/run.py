@@ -23,6 +23,8 @@ CHECKS = (checks_replies, checks_use, checks_lines, checks_files, checks_kept, c
           checks_modules, checks_maker, checks_looks, checks_layout)
 # So many tests go wrong before the others are given up: each may wait long for a page that doesn't begin.
 MOST_WRONG = 5
+# Tests of how long something takes, which no share has: other work beside them would count.
+TIMED = ("long_scripts",)
 
 
 def checks():
@@ -47,8 +49,8 @@ def tried(bench, name, check):
 
 def chosen(wanted, share):
     """The tests that are wanted, or all; of these each that falls to a share, as `2/3`, where one is given."""
-    them = [it for it in checks() if not wanted or it[0] in wanted]
     number, shares = map(int, share.split("/"))
+    them = [it for it in checks() if (it[0] in wanted if wanted else shares == 1 or it[0] not in TIMED)]
     return them[number - 1 :: shares]
 
 
