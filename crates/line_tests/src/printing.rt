@@ -172,8 +172,10 @@ fn gathers_a_row(rt: HostRuntime) {
 fn gathers_digits(rt: HostRuntime) {
     let mut row = Row::new();
     row.hex_digits(b"\x01\x23\x45\x67\x89\xab\xcd\xef");
-    row.hex_digits(b"\x00~\xff");
-    same(&rt, row.as_slice(), b"0123456789abcdef007eff".as_slice());
+    same(&rt, row.as_slice(), b"0123456789abcdef".as_slice());
+    let mut short = Row::new();
+    short.hex_digits(b"\x00~\xff");
+    same(&rt, short.as_slice(), b"007eff".as_slice());
     let mut none = Row::new();
     none.hex_digits(b"");
     same(&rt, none.as_slice(), b"".as_slice());
