@@ -10,33 +10,22 @@ import sys
 import tempfile
 
 import header
+import kept
 import kit
 import libraries
 import page
-from kit import rt, rtlib
+from archive import NAME, PREFIX, Fault, look_at_symbols
 
 FOLDER = "lib"
-NAME = "vervainfile"
-PREFIX = "vf_"
 LOG = "clib.log"
+# The tools by which an archive is built: what was built is kept under a sum of them too.
+BUILDERS = ("archive", "clib", "libraries")
 # What lib/ has, and what it is made of beside crates.
 FILES = (f"lib{NAME}.a", f"{NAME}.h", f"{NAME}.pc")
 SOURCES = (header.HEADER, f"c/{NAME}.pc.in")
-# What the archive may ask of the program that it is linked into.
-IMPORTS = {"free", "malloc", "memcmp", "memcpy", "memmove", "memset", "realloc"}
 # The kit's object with the functions by which the desk takes memory and gives it back. It lies in the archive as a
 # member of its own, so that a program which defines them itself is linked without it.
 ALLOCATION = "heap.pic.o"
-MEMORY_CALLS = {"rattle_alloc", "rattle_realloc", "rattle_dealloc"}
-
-
-class Fault(Exception):
-    """Why the library can't be made, or isn't as it should be."""
-
-
-def compiler():
-    """The words of the C compiler."""
-    return os.environ.get("CC", "cc").split()
 
 
 def exporters(crates):
@@ -52,7 +41,7 @@ def archive_of(crate):
 def is_new(crate):
     """Whether the archive that was built last is newer than each source that it is built from."""
     made = archive_of(crate)
-    sources = [it for low in [*crate.below(), crate] for it in rtlib.files_of(low.folder)]
+    sources = [it for low in [*crate.below(), crate] for it in kit.files_of(low.folder)]
     return os.path.isfile(made) and os.path.getmtime(made) > max(map(os.path.getmtime, sources))
 
 
@@ -60,7 +49,7 @@ def prove(crates, log):
     """Proves each library below the crates that isn't yet, and then the crates, and builds their archives."""
     with libraries.locked([*libraries.below(crates), *crates]):
         left = libraries.unbuilt(libraries.below(crates))
-        given = rt.in_lanes(libraries.tasks(left, lambda it, jobs: libraries.build(it, jobs, log)))
+        given = kit.in_lanes(libraries.tasks(left, lambda it, jobs: libraries.build(it, jobs, log)))
         lost = [it.name for it in left if not given[it.name, "library"]]
         lost = lost or [it.name for it in crates if not compiled(it, log)]
     if lost:
@@ -77,7 +66,7 @@ def compiled(crate, log):
     crate.out = log
     os.makedirs(f"{crate.folder}/out", exist_ok=True)
     words = crate.words(["--jobs", "1"], keeps=False)
-    words += ["--toolchain", f"{rtlib.KIT}/toolchain", "--backend", "llvm"]
+    words += ["--toolchain", f"{kit.KIT}/toolchain", "--backend", "llvm"]
     if not crate.prove(["build", *words, "-o", f"out/lib{crate.name}.a"]):
         return True
     with contextlib.suppress(FileNotFoundError):
@@ -96,34 +85,10 @@ def archive(crates, made):
             for it in sorted(os.listdir(folder)):
                 objects.append(f"{work}/{crate.name}-{it}")
                 os.rename(f"{folder}/{it}", objects[-1])
-        subprocess.run(["ar", "x", f"{rtlib.KIT}/c/liblibc_c.a", ALLOCATION], cwd=work, check=True)
+        subprocess.run(["ar", "x", f"{kit.KIT}/c/liblibc_c.a", ALLOCATION], cwd=work, check=True)
         if os.path.exists(made):
             os.remove(made)
         subprocess.run(["ar", "rcsD", made, *objects, f"{work}/{ALLOCATION}"], check=True)
-
-
-def symbols(made, *flags):
-    """The names that nm gives."""
-    ran = subprocess.run(["nm", "-P", *flags, made], capture_output=True, text=True, check=True)
-    return {line.split()[0] for line in ran.stdout.splitlines() if line.strip() and not line.endswith(":")}
-
-
-def look_at_symbols(top):
-    """Raises a fault where the archive gives or asks for anything but what it should."""
-    made = f"{top}/{FOLDER}/lib{NAME}.a"
-    given, wanted = symbols(made, "-g", "--defined-only"), set(header.exports(top))
-    if not MEMORY_CALLS <= given:
-        raise Fault(f"the archive lacks {sorted(MEMORY_CALLS - given)[0]}")
-    given -= MEMORY_CALLS
-    if given != wanted:
-        raise Fault(f"the archive gives {sorted(given ^ wanted)[0]}, or the sources do, but not both")
-    asked = symbols(made, "-u") - IMPORTS - MEMORY_CALLS
-    if asked:
-        raise Fault(f"the archive asks for {sorted(asked)[0]}")
-    alien = sorted(it for it in given if not it.startswith(PREFIX))
-    if alien:
-        raise Fault(f"the archive gives {alien[0]}, which doesn't begin with {PREFIX}")
-    return f"{len(given)} names are given, and {', '.join(sorted(symbols(made, '-u') - MEMORY_CALLS))} asked for"
 
 
 def version(top):
@@ -148,12 +113,15 @@ def make_library(top):
         raise Fault(f"the header and the sources differ: {faults[0]}")
     os.makedirs(f"{top}/{FOLDER}", exist_ok=True)
     crates = exporters(kit.crates_of(top))
-    stale = [it for it in crates if not is_new(it)]
+    sums = {it: kept.of_code(it, BUILDERS) for it in crates if not is_new(it)}
+    stale = [it for it in sums if not kept.give_file(it.name, sums[it], archive_of(it))]
     if stale:
         names = ", ".join(it.name for it in stale)
         print(f"clib: proving {names}, and what below isn't proved; {FOLDER}/{LOG} has what is said", flush=True)
         with open(f"{top}/{FOLDER}/{LOG}", "w", encoding="utf-8", errors="replace") as log:
             prove(stale, log)
+    for it in stale:
+        kept.keep_file(it.name, sums[it], archive_of(it))
     archive(crates, f"{top}/{FOLDER}/lib{NAME}.a")
     write_files(top)
 
@@ -162,7 +130,7 @@ def make(top):
     """Makes lib/, and gives the exit status."""
     try:
         make_library(top)
-        print(f"clib: {FOLDER}/lib{NAME}.a: {look_at_symbols(top)}")
+        print(f"clib: {FOLDER}/lib{NAME}.a: {look_at_symbols(top, f'{top}/{FOLDER}')}")
     except Fault as why:
         print(f"clib: {why}", file=sys.stderr)
         return 1

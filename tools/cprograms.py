@@ -174,7 +174,7 @@ def run(top):
     there = [it for it in RUNS if installed(it.words[0])]
     missing = sorted({it.words[0] for it in RUNS} - {it.words[0] for it in there})
     with tempfile.TemporaryDirectory(prefix="programs-") as folder:
-        suite = ctests.Suite(top, folder)
+        suite = ctests.Suite(top, f"{top}/{clib.FOLDER}", folder)
         shims = {heap: f"{folder}/{heap.replace(' ', '-')}.so" if flags is not None else None
                  for heap, flags in HEAPS.items()}
         for heap, made in shims.items():

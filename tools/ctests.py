@@ -1,16 +1,18 @@
-"""The tests in C: compiled in several ways and run, the header by itself, the examples; and the bench."""
+"""The tests in C of a library that is built: compiled in several ways and run, the header by itself, the examples."""
 
 import concurrent.futures
+import filecmp
 import glob
 import os
 import re
 import shutil
 import subprocess
-import sys
 import tempfile
+import threading
 
-import clib
+import archive
 import header
+import outcome
 
 STRICT = ["-Wall", "-Wextra", "-Werror"]
 C11 = ["-std=c11", *STRICT]
@@ -26,19 +28,24 @@ LONGEST = 120
 # and the same test of an open desk.
 NO_MEMORY, LISTS, DESK_MEMORY = "c/tests/takes_no_memory.c", "c/tests/expect.h", "c/tests/desk_memory.c"
 GIVERS = ["malloc", "calloc", "realloc", "aligned_alloc"]
-BENCHES = ["heap_bench", "flex_bench"]
 SHIMMED = ["sort", "-r", "README.md"]
 
 
 class Suite:
-    """What was tried, and what of it was not as it should be."""
+    """A folder with the library, what was tried over it, and what of that was not as it should be."""
 
-    def __init__(self, top, work):
-        self.top, self.work, self.tried, self.wrong = top, work, 0, []
+    def __init__(self, top, folder, work):
+        self.top, self.folder, self.work, self.tried, self.wrong = top, folder, work, 0, []
+        self.lock = threading.Lock()
+
+    def count(self):
+        """Counts one more, where several calls may do so at once."""
+        with self.lock:
+            self.tried += 1
 
     def ran(self, what, words, **how):
         """Runs a command, counts it, and gives what it printed, or nothing where it failed."""
-        self.tried += 1
+        self.count()
         try:
             ran = subprocess.run(words, capture_output=True, timeout=LONGEST, cwd=self.top, check=False, **how)
         except (OSError, subprocess.TimeoutExpired) as why:
@@ -51,13 +58,13 @@ class Suite:
 
     def compiled(self, what, sources, flags, made):
         """Compiles sources over the library, and gives whether that went well."""
-        library = [f"{clib.FOLDER}/lib{clib.NAME}.a"] * ("-fsyntax-only" not in flags)
-        words = [*clib.compiler(), *flags, f"-I{clib.FOLDER}", "-Ic/plain", *sources, *library, "-o", made]
+        library = [archive.path(self.folder)] * (not {"-fsyntax-only", "-c"} & set(flags))
+        words = [*archive.compiler(), *flags, f"-I{self.folder}", "-Ic/plain", *sources, *library, "-o", made]
         return self.ran(f"compiling {what}", words) is not None
 
     def is_true(self, what, holds):
         """Counts something that was looked at."""
-        self.tried += 1
+        self.count()
         if not holds:
             self.wrong.append(what)
 
@@ -67,13 +74,40 @@ def plain(suite):
     return sorted(glob.glob("c/plain/*.c", root_dir=suite.top))
 
 
+def stem(path):
+    """The name of a file without its folder and ending."""
+    return os.path.splitext(os.path.basename(path))[0]
+
+
+def plain_object(suite, path, way):
+    """Where a source in plain C is compiled in one way."""
+    return f"{suite.work}/{stem(path)}-{way.replace(' ', '-')}.o"
+
+
+def compile_plain(suite, path, way):
+    """Compiles a source in plain C in one way, once for all tests."""
+    suite.compiled(f"{path}, {way}", [path], [*C11, *WAYS[way], "-c"], plain_object(suite, path, way))
+
+
 def try_test(suite, path, way):
     """Compiles one test in one way, and runs it."""
-    name = os.path.splitext(os.path.basename(path))[0]
-    what, made = f"{name}, {way}", f"{suite.work}/{name}-{way.replace(' ', '-')}"
+    what, made = f"{stem(path)}, {way}", f"{suite.work}/{stem(path)}-{way.replace(' ', '-')}"
     counted = [f"-Wl,--wrap={it}" for it in GIVERS] * (path == NO_MEMORY)
-    if suite.compiled(what, [path, *plain(suite)], [*C11, *WAYS[way], *counted], made):
+    objects = [plain_object(suite, it, way) for it in plain(suite)]
+    if suite.compiled(what, [path, *objects], [*C11, *WAYS[way], *counted], made):
         suite.ran(what, [made])
+
+
+def try_archive(suite):
+    """The archive gives and asks for what it should, and the header beside it is that of the sources."""
+    try:
+        archive.look_at_symbols(suite.top, suite.folder)
+        told = ""
+    except (archive.Fault, subprocess.CalledProcessError) as why:
+        told = str(why)
+    suite.is_true(told, not told)
+    files = [f"{suite.folder}/{archive.NAME}.h", f"{suite.top}/{header.HEADER}"]
+    suite.is_true("the header isn't that of the sources", filecmp.cmp(*files, shallow=False))
 
 
 def try_calls(suite):
@@ -90,11 +124,11 @@ def try_header(suite):
     """The header is C99 and, where there is a compiler for it, C++, with nothing before it."""
     alone = f"{suite.work}/alone.c"
     with open(alone, "w", encoding="utf-8") as it:
-        it.write(f'#include "{clib.NAME}.h"\n')
+        it.write(f'#include "{archive.NAME}.h"\n')
     suite.compiled("the header as C99", [alone], ["-std=c99", "-Wpedantic", *STRICT, "-fsyntax-only"], "/dev/null")
     cpp = shutil.which("c++")
     if cpp:
-        words = [cpp, *STRICT, "-fsyntax-only", "-x", "c++", f"-I{clib.FOLDER}", alone]
+        words = [cpp, *STRICT, "-fsyntax-only", "-x", "c++", f"-I{suite.folder}", alone]
         suite.ran("compiling the header as C++", words)
 
 
@@ -102,10 +136,10 @@ def try_examples(suite):
     """Each example prints what stands beside it, compiled as pkg-config says where that is there."""
     flags = []
     if shutil.which("pkg-config"):
-        where = dict(os.environ, PKG_CONFIG_PATH=f"{suite.top}/{clib.FOLDER}")
-        told = suite.ran("pkg-config", ["pkg-config", "--cflags", "--libs", clib.NAME], env=where)
+        where = dict(os.environ, PKG_CONFIG_PATH=suite.folder)
+        told = suite.ran("pkg-config", ["pkg-config", "--cflags", "--libs", archive.NAME], env=where)
         flags = (told or b"").decode().split()
-        suite.is_true("pkg-config names the library", f"-l{clib.NAME}" in flags)
+        suite.is_true("pkg-config names the library", f"-l{archive.NAME}" in flags)
     for said in sorted(glob.glob(f"{suite.top}/c/examples/*.out")):
         name = os.path.basename(said).removesuffix(".out")
         made = f"{suite.work}/{name}"
@@ -138,42 +172,31 @@ def try_shim(suite):
 
 
 def run_all(suite):
-    """All tests, as many side by side as there are processors."""
+    """All tests, as many side by side as there are processors; gives how many tests in C there are."""
     tests = sorted(glob.glob("c/tests/*.c", root_dir=suite.top))
+    # The way that costs most goes first.
+    ways = list(reversed(WAYS))
     with concurrent.futures.ThreadPoolExecutor(os.cpu_count()) as pool:
-        calls = [pool.submit(try_test, suite, path, way) for path in tests for way in WAYS]
-        calls += [pool.submit(it, suite) for it in (try_calls, try_header, try_examples, try_rows, try_shim)]
+        for made in [pool.submit(compile_plain, suite, path, way) for way in ways for path in plain(suite)]:
+            made.result()
+        calls = [pool.submit(try_test, suite, path, way) for way in ways for path in tests]
+        others = (try_archive, try_calls, try_header, try_examples, try_rows, try_shim)
+        calls += [pool.submit(it, suite) for it in others]
     for it in calls:
         it.result()
     return len(tests)
 
 
-def test(top):
-    """Builds the library and tests it, and gives the exit status."""
-    status = clib.make(top) or header.main(top)
-    if status:
-        return status
+def test(top, folder):
+    """Tests the library in a folder, and gives the exit status."""
+    missing = archive.missing()
+    if missing:
+        print(f"{missing[0]}: isn't installed, the library for C left out")
+        return outcome.NOT_RUN
     with tempfile.TemporaryDirectory(prefix="ctests-") as work:
-        suite = Suite(top, work)
+        suite = Suite(top, os.path.abspath(folder), work)
         tests = run_all(suite)
     for it in suite.wrong:
-        print(it, file=sys.stderr)
-    print(f"clib: {tests} tests in {len(WAYS)} ways, header, examples and shim: "
-          f"{suite.tried} steps, {len(suite.wrong)} not as they should be")
-    return 1 if suite.wrong else 0
-
-
-def bench(top):
-    """Builds the library, prints what its calls take beside those in plain C, and gives the exit status."""
-    status = clib.make(top)
-    if status:
-        return status
-    with tempfile.TemporaryDirectory(prefix="ctests-") as work:
-        suite, statuses = Suite(top, work), []
-        for name in BENCHES:
-            made = f"{work}/{name}"
-            if suite.compiled(name, [f"c/bench/{name}.c", *plain(suite)], [*C11, "-O2", "-Ic/bench"], made):
-                statuses.append(subprocess.run([made], check=False).returncode)
-    for it in suite.wrong:
-        print(it, file=sys.stderr)
-    return 1 if suite.wrong or any(statuses) else 0
+        print(it)
+    return outcome.told(f"{tests} programs in C in {len(WAYS)} ways, header, examples and shim", suite.tried * bool(tests),
+                        len(suite.wrong))

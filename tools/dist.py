@@ -10,7 +10,6 @@ import clib
 import kit
 import page
 import program
-from kit import rtlib
 
 FOLDER = "dist"
 # The sums of the sources, in the folder of what is built of them; those of the page beside those of the program.
@@ -34,7 +33,7 @@ class Part:
 
     def sources(self):
         """The paths of all sources, from the top."""
-        files = [file for it in self.crates for file in rtlib.files_of(it.folder)]
+        files = [file for it in self.crates for file in kit.files_of(it.folder)]
         return sorted({os.path.relpath(it, self.top) for it in files} | set(self.others))
 
     def sums(self):

@@ -7,9 +7,10 @@ import glob
 import os
 import re
 
-from kit import bodies, rt
+import heads
+import kit
 
-WRONG, MUST_FAIL = "wrong", "must-fail"
+WRONG = "wrong"
 ENDING = ".edit"
 TELLS = "# "
 # How a constant, a type or a definition begins: its word and its name.
@@ -103,26 +104,26 @@ def _spelled(block):
 
 def functions_of(folder):
     """The functions of a crate's src/ that have a body."""
-    source = bodies.Source(folder)
+    source = kit.Source(folder)
     source.read("src/main.rt" if os.path.isfile(f"{folder}/src/main.rt") else "src/lib.rt")
     of_a_name = collections.Counter(it.name for it in source.functions)
     return [Function(it, source.declared, of_a_name[it.name] == 1) for it in source.functions if it.has_body]
 
 
-def names_of(crate, kind=WRONG):
-    """The files in one of the crate's folders of edits."""
-    folder = f"{crate.folder}/{kind}"
+def names_of(crate):
+    """The files in the crate's folder of edits."""
+    folder = f"{crate.folder}/{WRONG}"
     return sorted(os.listdir(folder)) if os.path.isdir(folder) else []
 
 
-def read_edits(crate, kind=WRONG):
-    """Reads the crate's edits of one folder, and gives (the edits, why each other one can't be applied)."""
-    names = names_of(crate, kind)
+def read_edits(crate):
+    """Reads the crate's edits, and gives (the edits, why each other one can't be applied)."""
+    names = names_of(crate)
     functions = functions_of(crate.folder) if names else []
     edits, bad = [], []
     for name in names:
         try:
-            edits.append(_read(crate.folder, functions, f"{kind}/{name}"))
+            edits.append(_read(crate.folder, functions, f"{WRONG}/{name}"))
         except BadEdit as why:
             bad.append(f"{name.removesuffix(ENDING)}: BAD EDIT: {why}")
     return edits, bad
@@ -131,7 +132,7 @@ def read_edits(crate, kind=WRONG):
 def _read(folder, functions, file):
     if not file.endswith(ENDING):
         raise BadEdit(f"the name of an edit ends in {ENDING}")
-    texts, why = rt.read_edit(f"{folder}/{file}", folder)
+    texts, why = kit.read_edit(f"{folder}/{file}", folder)
     if why:
         raise BadEdit(why)
     changes = [it for file, text in texts.items() for it in _changes(folder, file, text)]
@@ -187,13 +188,11 @@ def _namers(folder, functions, names):
 
 def _definitions(folder):
     """The definitions in the crate's specs/, each with the words of its text."""
-    found = []
+    found = collections.defaultdict(set)
     for path in sorted(glob.glob(f"{folder}/specs/**/*.antt", recursive=True)):
-        text = _bytes_of(path).decode()
-        heads = list(DECLARED.finditer(text))
-        ends = [it.start() for it in heads[1:]] + [len(text)]
-        found += [(it[2], _words(text[it.end() : end])) for it, end in zip(heads, ends)]
-    return found
+        for name, line in heads.owned(_bytes_of(path).decode()):
+            found[path, name] |= _words(line)
+    return [(name, words) for (_, name), words in found.items()]
 
 
 def _text_of(folder, function):

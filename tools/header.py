@@ -4,6 +4,8 @@ import glob
 import re
 import sys
 
+import outcome
+
 HEADER = "c/vervainfile.h"
 SOURCES = ["crates/vf_heap/src/*.rt", "crates/vf_flex/src/*.rt", "crates/vf_desk/src/*.rt", "crates/rh_flex/src/slot.rt"]
 SUFFIX = "_unless_null"
@@ -28,6 +30,7 @@ STRUCT_IN_C = re.compile(r"^(struct \w+) \{([^}]*)\};", re.MULTILINE)
 COMMENT = re.compile(r"/\*.*?\*/", re.DOTALL)
 PROTOTYPE = re.compile(r"^(\w+) (vf_\w+)\(([^)]*)\);", re.MULTILINE)
 NUMBER = re.compile(r"^    (VF_\w+) = (\d+)", re.MULTILINE)
+NAME_OF_STATUS = re.compile(r"\bVF_[A-Z_]+\b")
 TESTED = re.compile(r"^VF_UNLESS_NULL\((\w+),\s+\(([^)]*)\),\s+([^,]+),\s+\(([^)]*)\)\)", re.MULTILINE)
 TESTED_TWICE = re.compile(
     r"^VF_BOTH_UNLESS_NULL\((\w+), (\w+),\s+\(([^)]*)\),\s+([^,]+),\s+\(([^)]*)\)\)", re.MULTILINE
@@ -78,6 +81,11 @@ def exports(top):
     return list(prototypes(sources(top)))
 
 
+def comment_above(header, name):
+    """The comment that stands last before a call's prototype."""
+    return re.split(rf"^\w+ {name}\(", header, maxsplit=1, flags=re.MULTILINE)[0].rpartition("/*")[2]
+
+
 def faults_of_prototypes(header, exported):
     """Which prototypes the header lacks, or has otherwise than the sources."""
     found = PROTOTYPE.findall(COMMENT.sub("", header))
@@ -87,8 +95,7 @@ def faults_of_prototypes(header, exported):
         if there != here:
             yield f"{name}: the sources have {there} and the header has {here}"
     for name, (_, calls) in exported.items():
-        before = re.split(rf"^\w+ {name}\(", header, maxsplit=1, flags=re.MULTILINE)[0].rpartition("/*")[2]
-        if calls and "_checked_" not in name and CALL_OF_SYSTEM.findall(before) != calls:
+        if calls and "_checked_" not in name and CALL_OF_SYSTEM.findall(comment_above(header, name)) != calls:
             yield f"{name}: the sources say that it is {calls[0]}, and the header doesn't"
 
 
@@ -129,6 +136,19 @@ def faults_of_statuses(header, texts):
     for name in sorted(there.keys() | here.keys()):
         if there.get(name) != here.get(name):
             yield f"{name}: the sources have {there.get(name)} and the header has {here.get(name)}"
+
+
+def faults_of_orders(header, exported):
+    """Which comments list refusals in another order than that of their numbers, or before what isn't one.
+
+    The refusals have the numbers below that of a null pointer. The order of what isn't a refusal is the call's own.
+    """
+    numbers = {name: int(number) for name, number in NUMBER.findall(header.partition("};")[0])}
+    first_other = numbers.get(NULL, 0)
+    for name in exported:
+        listed = [it for it in NAME_OF_STATUS.findall(comment_above(header, name)) if it in numbers]
+        if listed != sorted(listed, key=lambda it: numbers[it] if numbers[it] < first_other else 0):
+            yield f"{name}: its comment lists {', '.join(listed)}, which isn't the order in which they are tested"
 
 
 def tests_of_null(header):
@@ -174,7 +194,7 @@ def compared(header, texts):
     except Unknown as why:
         return [f"no header has the type {why}"]
     parts = (faults_of_prototypes(header, exported), faults_of_structs(header, texts),
-             faults_of_statuses(header, texts), faults_of_null(header, exported))
+             faults_of_statuses(header, texts), faults_of_orders(header, exported), faults_of_null(header, exported))
     return [it for part in parts for it in part]
 
 
@@ -232,6 +252,8 @@ SLIPS = [
     ("Wimp_Poll: takes", "Wimp_PollIdle: takes"),
     ("VF_DID_SAVE = 10", "VF_DID_SAVE = 11"),
     ("desk && name && event,", "desk && event,"),
+    ("VF_NO_ROOM, VF_NO_AREA, VF_TOO_BIG. */", "VF_NO_AREA, VF_TOO_BIG, VF_NO_ROOM. */"),
+    ("then VF_EXCESSIVE_SHRINK. */", "after VF_EXCESSIVE_SHRINK, VF_BAD_LENGTH. */"),
     ("#define vf_desk_poll vf_desk_poll_unless_null\n", ""),
 ]
 
@@ -251,9 +273,8 @@ def main(top):
     found, unseen = faults(top), list(unseen_slips(top))
     for it in [*found, *unseen]:
         print(it)
-    print(f"header: {len(exports(top))} calls compared with the sources, {len(found)} faults; "
-          f"{len(SLIPS)} slips tried, {len(unseen)} unseen")
-    return 1 if found or unseen else 0
+    print(f"{len(exports(top))} calls are compared with the sources, {len(SLIPS)} slips are tried")
+    return outcome.told("the header", len(exports(top)) + len(SLIPS), len(found) + len(unseen))
 
 
 if __name__ == "__main__":

@@ -5,7 +5,7 @@ import copy
 import os
 import shutil
 
-from kit import rt, rtlib
+import kit
 
 FOLDER = "out/statements"
 STAMP = "stamp"
@@ -19,7 +19,7 @@ def below(crates):
 @contextlib.contextmanager
 def locked(crates):
     """Keeps other calls of rt out of the crates' folders, and lets go of them at its end."""
-    held = rtlib.lock(crates)
+    held = kit.lock(crates)
     try:
         yield
     finally:
@@ -36,8 +36,8 @@ def _is_left(library):
     made = f"{library.rlib}/format"
     if not os.path.isfile(made):
         return False
-    sources = [it for crate in [library, *library.below()] for it in rtlib.files_of(crate.folder)]
-    sources.append(f"{rtlib.root_above(library.folder)}/crates.txt")
+    sources = [it for crate in [library, *library.below()] for it in kit.files_of(crate.folder)]
+    sources.append(f"{kit.root_above(library.folder)}/crates.txt")
     return os.path.getmtime(made) > max(map(os.path.getmtime, sources))
 
 
@@ -53,7 +53,7 @@ def unbuilt(libraries):
 def is_built(library):
     """Whether the library that `build` made is of the sources as they are."""
     stamp = f"{library.folder}/{FOLDER}/{STAMP}"
-    return os.path.isdir(library.rlib) and rtlib.text_of(stamp) == library.stamp()
+    return os.path.isdir(library.rlib) and kit.text_of(stamp) == library.stamp()
 
 
 def build(library, jobs, log):
@@ -72,7 +72,7 @@ def build(library, jobs, log):
 
 
 def tasks(libraries, call):
-    """The tasks of `rt.in_lanes` that build these: `call(library, jobs)` for each, once those below it are built."""
+    """The tasks of `kit.in_lanes` that build these: `call(library, jobs)` for each, once those below it are built."""
     keys = {it: (it.name, "library") for it in libraries}
 
     def work(library, given, jobs):
@@ -83,4 +83,4 @@ def tasks(libraries, call):
 
 def _task(library, keys, work):
     waits = [keys[it] for it in library.below() if it in keys]
-    return waits, library.count(rb"\n"), rt.need(library), lambda given, jobs: work(library, given, jobs)
+    return waits, library.count(rb"\n"), kit.need(library), lambda given, jobs: work(library, given, jobs)

@@ -7,7 +7,6 @@ import threading
 
 import kit
 import libraries
-from kit import rt, rtlib
 
 NAME = "vervainfile"
 LOG = "out/build.log"
@@ -55,7 +54,7 @@ def linked(program, jobs, log):
     program = copy.copy(program)
     program.out = log
     words = program.words(["--jobs", str(jobs)], keeps=False)
-    words += ["--toolchain", f"{rtlib.KIT}/toolchain", "--backend", "llvm"]
+    words += ["--toolchain", f"{kit.KIT}/toolchain", "--backend", "llvm"]
     made = f"out/{NAME}"
     if program.prove(["build", *words, "-o", f"{made}.o"]) or program.link(f"{made}.o", f"{made}.new"):
         return False
@@ -71,9 +70,9 @@ def failed(top, log):
         left = libraries.unbuilt(needed)
         progress = Progress(len(left) + 1)
         call = lambda it, jobs: progress.at(it.name, lambda: libraries.build(it, jobs, log))
-        given = rt.in_lanes(libraries.tasks(left, call))
+        given = kit.in_lanes(libraries.tasks(left, call))
         lost = next((it.name for it in left if not given[it.name, "library"]), None)
-        if not lost and not progress.at(NAME, lambda: linked(program, rt.processors(), log)):
+        if not lost and not progress.at(NAME, lambda: linked(program, kit.processors(), log)):
             lost = NAME
         progress.end()
         return lost

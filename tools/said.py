@@ -2,7 +2,7 @@
 
 import re
 
-from kit import rt, rtlib
+import kit
 
 ITEM = re.compile(r"(fn|struct|enum|trait|impl) (\S+): (.*)")
 NOTE = re.compile(r"note: src/\S+:\d+:\d+: .*?\(`(\S+)`\)")
@@ -27,10 +27,10 @@ class Said:
     def fault(self):
         """Why nothing can be told from this check, or an empty text."""
         lines = self.text.rstrip("\n").split("\n")
-        unread = next((it for it in lines if rt.unread(it, self.texts)), "")
+        unread = next((it for it in lines if kit.unread(it, self.texts)), "")
         if unread:
             return f"the prover can't read the edited text: {unread[:200]}"
-        if rtlib.STALE.search(self.text):
+        if kit.STALE.search(self.text):
             return "the kept work of a library can't be used"
         if self.status in (0, 1) and ENDED.search(self.text) and self.lines:
             return ""

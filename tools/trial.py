@@ -1,23 +1,41 @@
-"""The trial of wrong bodies: group by group, crate beside crate, with a line for each edit."""
+"""The trial of wrong bodies: group by group, crate beside crate, with a line for each edit.
+
+The verdicts on a crate whose edits were all refused are kept on this machine (`kept`), and aren't reached again.
+"""
 
 import sys
 import tempfile
 import threading
 
 import edit as edits_of
+import kept
 import kit
 import libraries
-from kit import rt, rtlib
 from said import Said
 
 PRINTING = threading.Lock()
+# The tools that judge: verdicts are kept under a sum of them too.
+JUDGES = ("edit", "heads", "libraries", "said", "trial")
+ANEW = "--anew"
+# How a line that is kept begins, where an edit was refused, and what stands between its goals.
+REFUSED, BETWEEN = "refused at ", " "
 
 
 class Verdict:
-    """What came of one edit, and whether it was refused at a goal of its own."""
+    """What came of one edit, and the goals of its own at which it was refused."""
 
-    def __init__(self, edit, text, is_well=False):
-        self.edit, self.text, self.is_well = edit, text, is_well
+    def __init__(self, edit, text, goals=()):
+        self.edit, self.text, self.goals = edit, text, goals
+
+    @property
+    def is_well(self):
+        """Whether the edit was refused at a goal of its own."""
+        return bool(self.goals)
+
+
+def refused(edit, goals):
+    """The verdict on an edit that was refused at these goals of its own."""
+    return Verdict(edit, f"{REFUSED}{goals[0]}", goals)
 
 
 class Trial:
@@ -32,10 +50,10 @@ class Trial:
         """Checks the crate with these edits, or only these functions of it."""
         texts = edits_of.applied(self.crate.folder, edits)
         only = [word for it in functions for word in ("--only", it.ending())]
-        ran = rt.checked(self.crate, texts, ["--allow-holes", *only, "--jobs", str(self.jobs)], self.kept)
+        ran = kit.checked(self.crate, texts, ["--allow-holes", *only, "--jobs", str(self.jobs)], self.kept)
         if ran.returncode < 0:
             # It was killed, most likely for memory.
-            ran = rt.checked(self.crate, texts, ["--allow-holes", *only, "--jobs", "1"], self.kept)
+            ran = kit.checked(self.crate, texts, ["--allow-holes", *only, "--jobs", "1"], self.kept)
         return Said(self.crate, ran, texts)
 
     def check_group(self, group, beside):
@@ -68,7 +86,7 @@ class Trial:
             said = self.check(group, ring)
             goals = [] if said.fault() else said.all_goals()
             if goals:
-                return [Verdict(group[0], f"refused at {goals[0]}", True)]
+                return [refused(group[0], goals)]
         return []
 
     def judge(self, group, beside=()):
@@ -95,7 +113,7 @@ class Trial:
         """What the check says of one edit of its group: the goals of others refuse no edit outside of functions."""
         own = refused_at(said, edit, others)
         if own:
-            return Verdict(edit, f"refused at {own[0]}", True)
+            return refused(edit, own)
         if not is_alone:
             return self.judge([edit])[0]
         elsewhere = said.all_goals()
@@ -121,17 +139,48 @@ def goals_of(said, edits):
     return [goal for it in functions for symbol in said.symbols(it) for goal in said.goals(symbol)]
 
 
+class Count:
+    """How many edits of a crate there are, how many were refused at goals of their own, and whether that was kept."""
+
+    def __init__(self, edits, well, is_kept=False):
+        self.edits, self.well, self.is_kept = edits, well, is_kept
+
+
 def tried(crate, jobs):
-    """Tries all edits of the crate, prints their lines, and gives (how many there are, how many were refused)."""
+    """Tries all edits of the crate, prints their lines, and keeps the verdicts where each was refused."""
+    total = kept.of_verdicts(crate, JUDGES)
     edits, bad = edits_of.read_edits(crate)
-    with tempfile.TemporaryDirectory(prefix="wrong-bodies-") as kept:
-        trial = Trial(crate, kept, jobs)
-        verdicts = trial.judge_all(edits_of.grouped(edits))
+    with tempfile.TemporaryDirectory(prefix="wrong-bodies-") as folder:
+        trial = Trial(crate, folder, jobs)
+        verdicts = sorted(trial.judge_all(edits_of.grouped(edits)), key=lambda it: it.edit.name)
     lines = [f"{crate.name}/{it}" for it in bad]
-    lines += [f"{crate.name}/{it.edit.name}: {it.text}" for it in sorted(verdicts, key=lambda it: it.edit.name)]
+    lines += [f"{crate.name}/{it.edit.name}: {it.text}" for it in verdicts]
     with PRINTING:
         print("\n".join(lines), flush=True)
-    return len(lines), sum(it.is_well for it in verdicts)
+    count = Count(len(lines), sum(it.is_well for it in verdicts))
+    # A crate that was changed while its edits were tried has another sum by now.
+    if count.edits == count.well and total == kept.of_verdicts(crate, JUDGES):
+        kept.keep_lines(crate.name, total, [*map(kept_line, verdicts), last_line(count.edits)])
+    return count
+
+
+def kept_line(verdict):
+    """The line that is kept of a verdict: all goals at which the edit was refused."""
+    return f"{verdict.edit.name}: {REFUSED}{BETWEEN.join(verdict.goals)}"
+
+
+def recalled(crate):
+    """The count of verdicts that are kept of the crate as it is, or None: the last line says that they are all."""
+    lines = kept.lines_of(crate.name, kept.of_verdicts(crate, JUDGES)) or [""]
+    names = sorted(it.removesuffix(edits_of.ENDING) for it in edits_of.names_of(crate))
+    told = [name for name, mark, goals in (it.partition(f": {REFUSED}") for it in lines[:-1]) if goals]
+    is_whole = told == names and lines[-1] == last_line(len(names))
+    return Count(len(names), len(names), is_kept=True) if is_whole else None
+
+
+def last_line(count):
+    """The last line of what is kept, by which a whole list of verdicts is known."""
+    return f"{count} verdicts"
 
 
 def built(library, jobs):
@@ -151,28 +200,36 @@ def tasks_of(crates):
     for it in crates:
         waits = [(dep.name, "library") for dep in it.below() if dep in left]
         call = lambda given, jobs, it=it, waits=waits: tried(it, jobs) if all(given[key] for key in waits) else None
-        tasks[it.name, "wrong"] = (waits, it.count(rb"\n"), rt.need(it), call)
+        tasks[it.name, "wrong"] = (waits, it.count(rb"\n"), kit.need(it), call)
     return tasks
 
 
-def main(top, names):
+def main(top, words):
     """Tries the edits of the crates with these names, or of all, and gives the exit status."""
+    names = [it for it in words if it != ANEW]
     crates = kit.crates_of(top)
     unknown = set(names) - {it.name for it in crates}
     if unknown:
         print(f"wrong-bodies: no such crate: {', '.join(sorted(unknown))}", file=sys.stderr)
         return 2
     chosen = [it for it in crates if edits_of.names_of(it) and (not names or it.name in names)]
-    held = rtlib.lock([*libraries.below(chosen), *chosen])
-    given = rt.in_lanes(tasks_of(chosen))
+    counts = {} if ANEW in words else {it: count for it in chosen if (count := recalled(it))}
+    left = [it for it in chosen if it not in counts]
+    for it in counts:
+        print(f"{it.name}: {counts[it].edits} verdicts kept", flush=True)
+    held = kit.lock([*libraries.below(left), *left])
+    given = kit.in_lanes(tasks_of(left))
     del held
-    return summed(chosen, [given[it.name, "wrong"] for it in chosen])
+    counts.update((it, given[it.name, "wrong"]) for it in left)
+    for it in (it for it in left if not counts[it]):
+        print(f"{it.name}: a library below it is not proved, and no edit was tried")
+    return summed(list(counts.values()))
 
 
-def summed(crates, counts):
+def summed(counts):
     """Prints what came of all, and gives the exit status: 0 only where there are edits and each was refused."""
-    for crate in (it for it, count in zip(crates, counts) if count is None):
-        print(f"{crate.name}: a library below it is not proved, and no edit was tried")
-    edits, refused = (sum(count[at] for count in counts if count) for at in (0, 1))
-    print(f"{edits} wrong bodies, {refused} refused at goals of their own")
-    return 0 if edits and edits == refused and None not in counts else 1
+    known = [it for it in counts if it]
+    edits, well = sum(it.edits for it in known), sum(it.well for it in known)
+    recalled = sum(it.edits for it in known if it.is_kept)
+    print(f"{edits} wrong bodies, {well} refused at goals of their own; {edits - recalled} tried, {recalled} kept")
+    return 0 if edits and edits == well and None not in counts else 1

@@ -136,9 +136,9 @@ def make(module):
     return length
 
 
-def module_of_dist():
-    """The module inside the page that was released."""
-    data = re.search(r'<script type="application/json" id="data">(.*?)</script>', RELEASED.read_text(), re.DOTALL)
+def module_of(page):
+    """The module inside a page."""
+    data = re.search(r'<script type="application/json" id="data">(.*?)</script>', page.read_text(), re.DOTALL)
     if not data:
-        raise PageFault(f"{RELEASED.relative_to(TOP)} holds no module")
+        raise PageFault(f"{page.name} holds no module")
     return gzip.decompress(base64.b64decode(json.loads(data[1])["module"]))

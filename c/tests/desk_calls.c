@@ -80,6 +80,14 @@ static bool is_set(const void *at, size_t n)
     return false;
 }
 
+static bool is_all(const uint8_t *at, size_t n, uint8_t value)
+{
+    for (size_t i = 0; i < n; i++)
+        if (at[i] != value)
+            return false;
+    return true;
+}
+
 static bool is_unset(void)
 {
     return number_told == UNSET && count == UNSET && other_count == UNSET && was && !is_set(&event, sizeof event) &&
@@ -229,6 +237,23 @@ static void opening(void)
     DOES(vf_desk_close(&desk));
 }
 
+/* A block takes as many bytes as it has in one call, and 507 of them in one line. */
+static void bytes_are_put(const uint8_t *from)
+{
+    static const size_t lengths[] = {1, 2, 506, 507, 508, 511, 512, 513, 1024};
+    for (size_t i = 0; i < sizeof lengths / sizeof *lengths; i++) {
+        char line[2 * 1024 + 16] = "put a 1 0 ", said[16];
+        for (size_t k = 0; k < lengths[i]; k++)
+            strcat(line, "09");
+        DOES(vf_desk_put(&desk, A, 1, 0, from, lengths[i]));
+        DOES(vf_desk_line(&desk, VF_TEXT(line)));
+        DOES(vf_desk_reply(&desk, (uint8_t *)said, sizeof said, &count));
+        said[count] = 0;
+        EXPECT(strcmp(said, lengths[i] <= 507 ? "ok\n" : "bad TooLong\n") == 0);
+    }
+    REFUSES(VF_BAD_ARGUMENT, vf_desk_put(&desk, A, 1, 0, from, 0));
+}
+
 static void flex_calls(void)
 {
     static uint8_t long_bytes[3000];
@@ -270,6 +295,8 @@ static void flex_calls(void)
     DOES(vf_desk_extend(&desk, A, 1, sizeof long_bytes + 1));
     DOES(vf_desk_put(&desk, A, 1, 1, long_bytes, sizeof long_bytes));
     REFUSES(VF_BAD_RANGE, vf_desk_put(&desk, A, 1, 2, long_bytes, sizeof long_bytes));
+    bytes_are_put(long_bytes);
+    DOES(vf_desk_put(&desk, A, 1, 0, (const uint8_t *)"a", 1));
     GIVES(sizeof long_bytes + 1, vf_desk_show(&desk, A, 1, bytes, 3, &number_told));
     EXPECT(memcmp(bytes, "a\x09\x09M", 4) == 0);
     DOES(vf_desk_free(&desk, A, 1));
@@ -309,6 +336,7 @@ static void area_calls(void)
     REFUSES(VF_NO_ROOM, vf_desk_area(&desk, 2, PAGES * 4096, &number_told));
     GIVES(256, vf_desk_make(&desk, 1, &number_told));
     REFUSES(VF_TOO_BIG, vf_desk_area(&desk, 256, 4097, &number_told));
+    REFUSES(VF_NO_ROOM, vf_desk_area(&desk, 256, PAGES * 4096, &number_told));
     unset();
     DOES(vf_desk_areas(&desk, &number_told, areas, 2, &count));
     EXPECT(number_told == PAGES - 3 && count == 8);
@@ -446,7 +474,7 @@ static bool has_no_room(size_t room)
            memcmp(text, before, sizeof text) == 0;
 }
 
-/* A text that finds no room, and the whole of it once more, with zeros behind it. */
+/* A text that finds no room, and the whole of it once more; the bytes behind it stay. */
 static void short_texts(void)
 {
     uint8_t text[64];
@@ -459,10 +487,11 @@ static void short_texts(void)
     DOES(vf_desk_reply(&desk, text, 7, &count));
     EXPECT(count == 7 && memcmp(text, "ok 257\n", 7) == 0 && text[7] == UNSET);
     DOES(vf_desk_reply(&desk, text, 10, &count));
-    EXPECT(count == 7 && memcmp(text, "ok 257\n\0\0\0", 10) == 0);
+    EXPECT(count == 7 && memcmp(text, "ok 257\nMMM", 10) == 0);
     DOES(vf_desk_line(&desk, VF_TEXT("make 3")));
     DOES(vf_desk_reply(&desk, text, sizeof text, &count));
-    EXPECT(count == 7 && memcmp(text, "ok 258\n", 8) == 0);
+    EXPECT(count == 7 && memcmp(text, "ok 258\n", 7) == 0);
+    EXPECT(is_all(text + 7, sizeof text - 7, UNSET));
     DOES(vf_desk_remove(&desk, 257));
     DOES(vf_desk_remove(&desk, 258));
     DOES(vf_desk_reply(&desk, text, sizeof text, &count));

@@ -141,6 +141,7 @@ static void the_end_is_moved(const struct heap_calls *heap)
     REFUSES(VF_NO_ROOM, heap->claim(memory, ROOM, 60, &number));
     REFUSES(VF_BAD_LENGTH, heap->extend(memory, ROOM, 7));
     REFUSES(VF_BAD_LENGTH, heap->extend(memory, ROOM, -4));
+    REFUSES(VF_BAD_LENGTH, heap->extend(memory, ROOM, -36));
     REFUSES(VF_SHORT, heap->extend(memory, ROOM, ROOM - 64 + 8));
     REFUSES(VF_SHORT, heap->extend(memory, ROOM, ROOM - 64 + 1));
     REFUSES(VF_SHORT, heap->extend(memory, ROOM, INT32_MAX));

@@ -1,6 +1,6 @@
 /*
  * heap_mapped.c: a heap in a file that is mapped, closed, and mapped again. Its blocks are where they were. A file that
- * was cut is seen to be too short, and one that somebody wrote over to be no heap. And a heap of 1 GiB.
+ * was cut is seen to be too short, and one that somebody wrote over to be no heap. And heaps in 1 GiB, and in more.
  */
 #define _DEFAULT_SOURCE
 #include "expect.h"
@@ -76,6 +76,33 @@ static void the_longest_heap(void)
     EXPECT(munmap(memory, len + 8) == 0);
 }
 
+/* A heap in more than 1 GiB of memory: its end isn't moved, and can't be moved past what its length word holds. */
+static void too_much_memory(void)
+{
+    size_t longest = (size_t)1 << 30, len = 6 * longest;
+    ptrdiff_t far = ((ptrdiff_t)1 << 31) - 8;
+    uint8_t before[16];
+    uint8_t *memory = mmap(NULL, len, PROT_READ | PROT_WRITE, MAP_PRIVATE | MAP_ANONYMOUS | MAP_NORESERVE, -1, 0);
+    EXPECT(memory != MAP_FAILED);
+    EXPECT(vf_heap_init(memory, 16) == VF_OK);
+    memcpy(before, memory, sizeof before);
+    const ptrdiff_t deltas[] = {0, 8, 7, -8, far, -far, (ptrdiff_t)1 << 32, PTRDIFF_MAX, PTRDIFF_MIN};
+    for (size_t i = 0; i < sizeof deltas / sizeof *deltas; i++) {
+        EXPECT(vf_heap_extend(memory, len, deltas[i]) == VF_BAD_LENGTH);
+        EXPECT(vf_heap_extend(memory, longest + 1, deltas[i]) == VF_BAD_LENGTH);
+        EXPECT(vf_heap_checked_extend(memory, len, deltas[i]) == VF_BAD_LENGTH);
+        EXPECT(memcmp(before, memory, sizeof before) == 0);
+    }
+    EXPECT(vf_heap_extend(memory, longest, far) == VF_SHORT);
+    EXPECT(vf_heap_extend(memory, longest, (ptrdiff_t)longest - 8) == VF_SHORT);
+    EXPECT(vf_heap_extend(memory, longest, (ptrdiff_t)longest - 16) == VF_OK);
+    EXPECT(vf_heap_check(memory, longest) == VF_OK);
+    EXPECT(vf_heap_extend(memory, longest, 8) == VF_SHORT);
+    EXPECT(vf_heap_extend(memory, longest, 16 - (ptrdiff_t)longest) == VF_OK);
+    EXPECT(memcmp(before, memory, sizeof before) == 0);
+    EXPECT(munmap(memory, len) == 0);
+}
+
 int main(void)
 {
     int file = mkstemp(path);
@@ -84,5 +111,6 @@ int main(void)
     read_file(path);
     EXPECT(unlink(path) == 0);
     the_longest_heap();
+    too_much_memory();
     return ended("heap_mapped");
 }

@@ -38,10 +38,10 @@ def shown(value):
 
 
 class Bench:
-    """A browser and a server, and the page with a module."""
+    """A browser and a server, and the page with a module; where a whole page is tested, its text as it was made."""
 
-    def __init__(self, content, pictures, replays):
-        self.content, self.pictures, self.replays = content, pictures, replays
+    def __init__(self, content, made, pictures, replays):
+        self.content, self.made, self.pictures, self.replays = content, made, pictures, replays
         self.text = make.page_of(self.content, STAND_IN, "'self'")
         self.server = native.Server()
         self.address = self.server.address("/page.html", self.text.encode())

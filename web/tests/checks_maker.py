@@ -77,8 +77,7 @@ def check_data(bench):
         (folder / "page.html").write_text(make.page_of(b"a module"))
         found = DATA.search((folder / "page.html").read_text())[1]
         same(["<" in found, json.loads(found)["examples"]], [False, ["</script><!--"]], "data with tags")
-        with unittest.mock.patch.object(make, "RELEASED", folder / "page.html"):
-            same(make.module_of_dist(), b"a module", "the module of a page")
+        same(make.module_of(folder / "page.html"), b"a module", "the module of a page")
 
 
 def check_making(bench):
@@ -119,13 +118,19 @@ def check_bundle(_bench):
         same(told, "two.js stands before one.js", "what is told of parts behind another in another order")
 
 
+def check_made(bench):
+    """A page that is tested is what its sources make of the module inside it."""
+    if bench.made:
+        holds(bench.made == make.page_of(bench.content), "the page isn't what its sources make of its module")
+
+
 def check_tables(_bench):
     """The maker tells where the documents don't have what it takes from them."""
     with written(docs__FORMATS_md="# Formats\n") as folder, unittest.mock.patch.object(make, "TOP", folder):
         same(fault_of(make.PageFault, make.forms), "docs/FORMATS.md has no forms of commands", "what is told")
-    with written(page_html="<p>nothing</p>") as folder, \
-            unittest.mock.patch.multiple(make, TOP=folder, RELEASED=folder / "page.html"):
-        same(fault_of(make.PageFault, make.module_of_dist), "page.html holds no module", "what is told of no module")
+    with written(page_html="<p>nothing</p>") as folder:
+        told = fault_of(make.PageFault, lambda: make.module_of(folder / "page.html"))
+        same(told, "page.html holds no module", "what is told of no module")
 
 
 def section(number, content):
@@ -134,7 +139,7 @@ def section(number, content):
     return bytes([number, low | 128, high]) + content if high else bytes([number, low]) + content
 
 
-def check_imports(_bench):
+def check_imports(bench):
     """A module that imports anything is found by its section of imports, wherever that stands."""
     types, none, one = section(1, bytes(300)), section(2, b"\0"), section(2, b"\x01\x01a\x01b\0\0")
     ends = section(7, b"\x02")
@@ -145,7 +150,7 @@ def check_imports(_bench):
          "what is told of other bytes")
     same([module.number_at(bytes.fromhex(it), 0) for it in ("00", "7f", "8001", "e58e26")],
          [(0, 1), (127, 1), (128, 2), (624485, 3)], "numbers in groups of seven bits")
-    holds(not module.has_imports(make.module_of_dist()), "the module that was released imports something")
+    holds(not bench.content or not module.has_imports(bench.content), "the page's module imports something")
 
 
 def check_layout(_bench):
@@ -189,9 +194,26 @@ def check_newness(_bench):
         same(found, wanted | {"crates.txt"}, "the sources of the module")
 
 
+def kept_in(files):
+    """The tool that keeps files from run to run, and the kit beside it, with a dictionary in their place."""
+    def give_file(_name, total, path):
+        if total not in files:
+            return False
+        path.parent.mkdir(parents=True, exist_ok=True)
+        path.write_bytes(files[total])
+        return True
+
+    def keep_file(_name, total, path):
+        files[total] = path.read_bytes()
+
+    kept = types.SimpleNamespace(of_code=lambda *_: "sum", give_file=give_file, keep_file=keep_file)
+    kit = types.SimpleNamespace(crates_of=lambda top: [types.SimpleNamespace(name="vf_web")])
+    return unittest.mock.patch.dict(sys.modules, kept=kept, kit=kit)
+
+
 def check_building(_bench):
     """What is built is the module, if that went well and it imports nothing; it is kept, and not built twice."""
-    ran = []
+    ran, files = [], {}
 
     def built(content, status, said=""):
         def run(words, cwd, **_others):
@@ -203,7 +225,7 @@ def check_building(_bench):
         return unittest.mock.patch.object(module.subprocess, "run", run)
 
     with written(crates_txt=CRATES, HANDLES="handles", **{"crates__base__src__lib_rt": ""}) as top, \
-            unittest.mock.patch.object(module, "mark_as_proved") as marked:
+            unittest.mock.patch.object(module, "mark_as_proved") as marked, kept_in(files):
         (top / "crates/vf_web/src").mkdir(parents=True)
         with built(module.MAGIC, 1, "".join(f"{it}\n" for it in range(30))):
             told = fault_of(module.ModuleFault, lambda: module.built(top))
@@ -211,8 +233,11 @@ def check_building(_bench):
         with built(module.MAGIC + section(2, b"\x01\x01a\x01b\0\0"), 0):
             same(fault_of(module.ModuleFault, lambda: module.built(top)), "the module of vf_web has imports",
                  "what is told of a module with imports")
+        same(files, {}, "what is kept of modules that weren't built")
         with built(module.MAGIC, 0):
             same([module.built(top).read_bytes() for _ in range(2)], [module.MAGIC] * 2, "the module")
+            (top / module.MADE).unlink()
+            same(module.built(top).read_bytes(), module.MAGIC, "the module of an earlier run")
         same(ran, [["rt", "lib"]] * 3, "what was run")
         same([it.args[0] for it in marked.call_args_list], [top] * 3, "of which repository libraries are marked")
 

@@ -4,6 +4,7 @@ import inspect
 import time
 
 import chromium
+import outcome
 from bench import Bench, Wrong
 
 import checks_files
@@ -20,6 +21,10 @@ import checks_use
 
 CHECKS = (checks_replies, checks_use, checks_lines, checks_files, checks_kept, checks_told, checks_picture,
           checks_modules, checks_maker, checks_looks, checks_layout)
+# So many tests go wrong before the others are given up: each may wait long for a page that doesn't begin.
+MOST_WRONG = 5
+# Tests of how long something takes, which no share has: other work beside them would count.
+TIMED = ("long_scripts",)
 
 
 def checks():
@@ -42,15 +47,32 @@ def tried(bench, name, check):
     return True
 
 
-def main(content, pictures, replays, wanted):
-    """Runs all tests, or those that are wanted, and gives the exit status."""
+def chosen(wanted, share):
+    """The tests that are wanted, or all; of these each that falls to a share, as `2/3`, where one is given."""
+    number, shares = map(int, share.split("/"))
+    them = [it for it in checks() if (it[0] in wanted if wanted else shares == 1 or it[0] not in TIMED)]
+    return them[number - 1 :: shares]
+
+
+def passed_of(bench, them):
+    """Whether each test passes. Where many don't, those behind them aren't tried, and count as such that don't."""
+    passed = []
+    for name, check in them:
+        if passed.count(False) == MOST_WRONG:
+            print(f"{name} and what is behind it: not tried, since {MOST_WRONG} tests went wrong")
+            return passed + [False] * (len(them) - len(passed))
+        passed.append(tried(bench, name, check))
+    return passed
+
+
+def main(bench_words, wanted, share):
+    """Runs tests over a bench of these words, and gives the exit status."""
     if not chromium.installed():
         print("Chromium: isn't installed, all tests of the page left out")
-        return 0
-    bench = Bench(content, pictures, replays)
+        return outcome.NOT_RUN
+    bench = Bench(*bench_words)
     try:
-        passed = [tried(bench, name, check) for name, check in checks() if not wanted or name in wanted]
+        passed = passed_of(bench, chosen(wanted, share))
     finally:
         bench.close()
-    print(f"tests of the page: {len(passed)}, {passed.count(False)} went wrong")
-    return 0 if passed and all(passed) else 1
+    return outcome.told("the page", len(passed), passed.count(False))

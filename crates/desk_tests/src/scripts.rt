@@ -6,7 +6,9 @@ use crate::same::{is_true, same};
 use rh_defs::Files;
 use rh_desk::{RunFault, Status, run};
 use rh_lines::Flagged;
-use std::alloc::Global;
+use rh_run::run_over;
+use rh_store::PlainStore;
+use std::alloc::{AllocError, Global};
 use std::process::Abort;
 use std::test::Fail;
 
@@ -25,7 +27,23 @@ pub(crate) fn outcome_of(
     (writer.into_inner(), outcome)
 }
 
-/// Runs a script, and asserts what it writes and how its run ends.
+/// The same over a plain store.
+fn plain_outcome_of(
+    alloc: Global,
+    script: &[u8],
+    pages: u32,
+) -> Result<(Vec<u8>, Result<Status, RunFault>), AllocError>
+    requires least { 8 ≤ pages }
+    requires most { pages ≤ 1024 }
+{
+    let store = PlainStore::new(alloc, pages as usize)?;
+    let mut reader = Flagged::new(script);
+    let mut writer = Flagged::new(Vec::<u8>::new(alloc));
+    let outcome = run_over(store, Files::new(alloc), &mut reader, &mut writer);
+    Ok((writer.into_inner(), outcome))
+}
+
+/// Runs a script over each kind of store, and asserts what it writes and how its run ends.
 pub(crate) fn expect<R: Abort + Alloc<A = Global>>(
     rt: &R,
     pages: u32,
@@ -37,6 +55,11 @@ pub(crate) fn expect<R: Abort + Alloc<A = Global>>(
     requires most { pages ≤ 1024 }
 {
     let (written, outcome) = outcome_of(rt.alloc(), script, pages);
+    same(rt, written.as_slice(), wanted);
+    is_true(rt, outcome == Ok(status));
+    let Ok((written, outcome)) = plain_outcome_of(rt.alloc(), script, pages) else {
+        return is_true(rt, false);
+    };
     same(rt, written.as_slice(), wanted);
     is_true(rt, outcome == Ok(status));
 }

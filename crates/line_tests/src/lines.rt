@@ -310,6 +310,22 @@ fn skips_lines(rt: HostRuntime) {
 }
 
 #[test]
+fn parses_the_longest_put(rt: HostRuntime) {
+    let mut line = [b'f'; 1024];
+    line[..10].copy_from_slice(b"put a 0 0 ");
+    let mut spelled = ArrayVec::new();
+    let _fits = spelled.try_extend_from_slice(&[0xff; 507]);
+    let put = Command::Put {
+        name: name(&rt, b"a"),
+        anchor: Anchor(0),
+        offset: 0,
+        bytes: Bytes::new(spelled),
+    };
+    expect(&rt, &line, put);
+    expect_fault(&rt, &line[..1023], LineFault::Word(5));
+}
+
+#[test]
 fn puts_a_command_in_a_place(rt: HostRuntime) {
     let mut place = Command::Ask(Question::Areas);
     same(&rt, read_line(b"make 7", &mut place), Ok(true));

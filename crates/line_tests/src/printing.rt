@@ -2,7 +2,7 @@
 
 use crate::same::same;
 use rh_defs::{Action, EventCode, Handle, LineFault, Numbers, Outcome, Ref, Refusal, Reply};
-use rh_lines::{Flagged, Row, add_number, print_fault, print_first_line, write_hex_digits};
+use rh_lines::{Flagged, Row, add_number, print_fault, print_first_line};
 use std::process::Abort;
 
 #[test]
@@ -159,16 +159,6 @@ fn prints_events_of_transfers_by_file(rt: HostRuntime) {
 }
 
 #[test]
-fn writes_hex_digits(rt: HostRuntime) {
-    let mut digits = [b'-'; 16];
-    write_hex_digits(b"\x01\x23\x45\x67\x89\xab\xcd\xef", &mut digits);
-    same(&rt, digits.as_slice(), b"0123456789abcdef".as_slice());
-    write_hex_digits(b"\x00\xff~/", &mut digits[4..12]);
-    same(&rt, digits.as_slice(), b"012300ff7e2fcdef".as_slice());
-    write_hex_digits(b"", &mut []);
-}
-
-#[test]
 fn gathers_a_row(rt: HostRuntime) {
     let mut row = Row::new();
     row.text(b"  slot ");
@@ -181,8 +171,11 @@ fn gathers_a_row(rt: HostRuntime) {
 #[test]
 fn gathers_digits(rt: HostRuntime) {
     let mut row = Row::new();
-    row.hex_digits(b"\x00~\xff");
-    same(&rt, row.as_slice(), b"007eff".as_slice());
+    row.hex_digits(b"\x01\x23\x45\x67\x89\xab\xcd\xef");
+    same(&rt, row.as_slice(), b"0123456789abcdef".as_slice());
+    let mut short = Row::new();
+    short.hex_digits(b"\x00~\xff");
+    same(&rt, short.as_slice(), b"007eff".as_slice());
     let mut none = Row::new();
     none.hex_digits(b"");
     same(&rt, none.as_slice(), b"".as_slice());

@@ -1,6 +1,5 @@
 -- What lent bytes have of a text that was printed into them.
-use Rattle.std.proofs.Common.{◌≡◌, ℕ, ◌-◌, ◌≤◌, List, [], ◌++◌, length, replicate, Some, None, Result, Ok, Err, sym, ap, ◌∙◌, arith, take_all}
-use Rattle.std.proofs.lemmas.List.{drop-replicate, length-replicate}
+use Rattle.std.proofs.Common.{◌≡◌, ℕ, ◌≤◌, List, [], ◌++◌, length, Some, None, Result, Ok, Err, sym, ap, ◌∙◌, arith, take_all}
 use Rattle.std.specs.Prelude.{nat_le, drop, take, true, if◌then◌else◌}
 use borrow.Author.Tests.{tests}
 use Rattle.rh_lines.proofs.TextLemmas.{writes_all, wrote}
@@ -23,20 +22,16 @@ printed old new (Ok u) text none puts =
     record { name = w.same_reference; before = w.before; text_is = w.text ∙ ap (λ l. l ++ text) none }
 printed old new (Err e) text none puts = absurd (writes_all old new puts.err)
 
--- a text in bytes that were 0, and have room for it
-pub filled-zeros : (text : List ℕ) (n : ℕ) → length text ≤ n → filled text (replicate n 0) ≡ text ++ replicate (n - length text) 0
-filled-zeros text n fit =
-    let zeros : List ℕ = replicate n 0 in
-    let all : take (length zeros) text ≡ text =
-    take_all (length zeros) text (let long = length-replicate {A = ℕ} n 0 in omega arith) in
-    ap (λ l. l ++ drop (length text) zeros) all ∙ ap (λ l. text ++ l) (drop-replicate (length text) n 0)
+-- a text in bytes that have room for it
+pub filled-whole : (text old : List ℕ) → length text ≤ length old → filled text old ≡ text ++ drop (length text) old
+filled-whole text old fit = ap (λ l. l ++ drop (length text) old) (take_all (length old) text fit)
 
 -- what is answered of a text that has room
-pub prints-some : {text lent now bytes : List ℕ} {n : ℕ} → length text ≤ length lent → bytes ≡ text ++ replicate (length lent - length text) 0
+pub prints-some : {text lent now bytes : List ℕ} {n : ℕ} → length text ≤ length lent → bytes ≡ text ++ drop (length text) lent
     → now ≡ bytes → n ≡ length text → Prints text lent now (Some n)
 prints-some {text} {lent} {now} {bytes} {n} fit are is told =
     let low : nat_le (length text) (length lent) ≡ true = grind (arith, tests) in
     record {
-      bytes = is ∙ are ∙ sym (ap (λ b. if b then text ++ replicate (length lent - length text) 0 else lent) low);
+      bytes = is ∙ are ∙ sym (ap (λ b. if b then text ++ drop (length text) lent else lent) low);
       told = ap Some told ∙ sym (ap (λ b. if b then Some (length text) else None) low);
     }

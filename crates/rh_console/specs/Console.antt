@@ -1,14 +1,14 @@
 -- Lists and texts that are put into lent ones.
-use Rattle.std.specs.Prelude.{◌≡◌, ℕ, ◌-◌, nat_le, if◌then◌else◌, List, ◌++◌, length, take, drop, replicate, Option, Some, None}
+use Rattle.std.specs.Prelude.{◌≡◌, ℕ, nat_le, if◌then◌else◌, List, ◌++◌, length, take, drop, Option, Some, None}
 
 -- the old list with the items in place of its first ones, as many as it has room for
 abbrev pub filled_front : {A : Type 0} → List A → List A → List A
 filled_front items old = take (length old) items ++ drop (length items) old
 
--- the lent bytes with a text and zeros behind it, or as they are where they have no room for it
+-- the lent bytes with a text in place of their first ones, or as they are where they have no room for it
 abbrev pub with_text : List ℕ → List ℕ → List ℕ
 with_text text lent =
-    if nat_le (length text) (length lent) then text ++ replicate (length lent - length text) 0 else lent
+    if nat_le (length text) (length lent) then text ++ drop (length text) lent else lent
 
 -- the length of a text, if so many bytes have room for it
 abbrev pub fitting : List ℕ → ℕ → Option ℕ

@@ -97,8 +97,8 @@ impl Console {
         text.length()
     }
 
-    /// Puts the text of what the last line was answered into lent bytes, over the desk as it is now, with zeros behind
-    /// it, and answers how many bytes it has. None where the text is longer, and then they stay as they were.
+    /// Puts the text of what the last line was answered into lent bytes, over the desk as it is now, and answers how
+    /// many bytes it has; those behind it stay. None where the text is longer, and then all stay as they were.
     pub fn print(&self, to: &mut [u8]) -> Option<usize>
         ensures { (d : Desk) → IsReordered d self.now.world.desk →
             Prints (said_text d self.now.said) to.old to.new result }
@@ -107,7 +107,6 @@ impl Console {
         if length > to.len() {
             return None;
         }
-        to.fill(0);
         let mut text = WholeText::new(to);
         let _done = self.said.print(&self.world, &mut text);
         Some(text.length())

@@ -88,7 +88,8 @@ pub const LONGEST_LEAF: usize = 10;
 /// The most bytes of a file.
 pub const LONGEST_FILE: usize = 1_048_576;
 
-/// The most bytes that a `put` writes: two digits stand for each.
+/// A command has room for so many bytes, two digits of a line for each. A line spells 507 at most: the other words of a
+/// `put` take ten of its bytes.
 pub const MOST_BYTES: usize = LONGEST_LINE / 2;
 
 /// The size in bytes of the longest receive buffer.

@@ -1,8 +1,9 @@
--- Digits, two at a time from the last ones on.
+-- Hexadecimal digits, one by one from the last one on.
 use Rattle.std.proofs.Common.{◌≡◌, ◌≢◌, ℕ, zero, suc, ◌+◌, ◌/◌, ◌%◌, ◌^◌, ◌<◌, ◌≤◌, inl, inr, Bool, true, false, cond, eqb, List, [], ◌∷◌, ◌++◌, append_assoc}
-use Rattle.std.proofs.Common.{refl, sym, ap, ◌∙◌, arith, rules}
-use Rattle.std.specs.Fmt.{decimal, digits, digits_onto, digit_glyph}
-use Rattle.std.proofs.lemmas.Fmt.{decimal_digit, decimal_step}
+use Rattle.std.proofs.Common.{refl, sym, ap, ◌∙◌, arith, rules, ◌-◌, length, drop, slice_set}
+use Rattle.std.specs.Fmt.{digits, digits_onto, digit_glyph}
+use Rattle.std.proofs.lemmas.Fmt.{hex_one_digit}
+use Rattle.std.proofs.lemmas.List.{drop-set}
 use Rattle.std.proofs.lemmas.Bool.{cases_lt}
 use borrow.Author.Tests.{tests}
 
@@ -48,45 +49,29 @@ pub hex_step : (n : ℕ) → 16 ≤ n → n < 2 ^ 32 → digits 16 true n ≡ di
 unfolding digits
 hex_step n h small = next 63 n [] h ∙ sym (onto_more 62 (n / 16) (glyph n ∷ []) (omega arith)) ∙ onto_append 64 (n / 16) (glyph n ∷ [])
 
--- the last two digits of a number that has more of them
-pub hex_pair : (n : ℕ) → 256 ≤ n → n < 2 ^ 32
-    → digits 16 true n ≡ digits 16 true (n / 256) ++ (digit_glyph true (n % 256 / 16) ∷ digit_glyph true (n % 256 % 16) ∷ [])
-hex_pair n h small =
-    let front : n / 16 / 16 ≡ n / 256 = omega arith in
-    let high : n / 16 % 16 ≡ n % 256 / 16 = omega arith in
-    let low : n % 16 ≡ n % 256 % 16 = omega arith in
-    hex_step n (omega arith) small ∙ ap (λ x. x ++ (glyph n ∷ [])) (hex_step (n / 16) (omega arith) (omega arith))
-    ∙ append_assoc (digits 16 true (n / 16 / 16)) (glyph (n / 16) ∷ []) (glyph n ∷ []) ∙ ap (λ m. digits 16 true m ++ (glyph (n / 16) ∷ glyph n ∷ [])) front
-    ∙ ap (λ d. digits 16 true (n / 256) ++ (digit_glyph true d ∷ glyph n ∷ [])) high
-    ∙ ap (λ d. digits 16 true (n / 256) ++ (digit_glyph true (n % 256 / 16) ∷ digit_glyph true d ∷ [])) low
+-- one digit more before the ones behind it
+pub digit_before : (all : List ℕ) (rest at : ℕ) (bytes : List ℕ) (d : ℕ) → all ≡ digits 16 true rest ++ drop at bytes → 16 ≤ rest → rest < 2 ^ 32
+    → d ≡ glyph rest → 0 < at → at ≤ length bytes → all ≡ digits 16 true (rest / 16) ++ drop (at - 1) (slice_set bytes (at - 1) d)
+digit_before all rest at bytes d so_far big small is some within =
+    let next : at - 1 + 1 ≡ at = omega arith in
+    let written : drop (at - 1) (slice_set bytes (at - 1) d) ≡ glyph rest ∷ drop at bytes =
+    drop-set bytes (at - 1) d (omega arith) ∙ rw (next, is) refl in
+    so_far ∙ ap (λ z. z ++ drop at bytes) (hex_step rest big small)
+    ∙ append_assoc (digits 16 true (rest / 16)) (glyph rest ∷ []) (drop at bytes) ∙ ap (λ z. digits 16 true (rest / 16) ++ z) (sym written)
 
--- two digits more, after those of the front q
-pub hex_next : (n q : ℕ) (old front new : List ℕ) → 256 ≤ n → n < 2 ^ 32 → n / 256 ≡ q → front ≡ old ++ digits 16 true q
-    → new ≡ front ++ (digit_glyph true (n % 256 / 16) ∷ digit_glyph true (n % 256 % 16) ∷ []) → new ≡ old ++ digits 16 true n
-hex_next n q old front new h small is before after =
-    let last : List ℕ = digit_glyph true (n % 256 / 16) ∷ digit_glyph true (n % 256 % 16) ∷ [] in
-    after ∙ ap (λ x. x ++ last) (before ∙ ap (λ m. old ++ digits 16 true m) (sym is)) ∙ append_assoc old (digits 16 true (n / 256)) last
-    ∙ ap (λ x. old ++ x) (sym (hex_pair n h small))
+-- the first digit before the ones behind it
+pub digit_first : (all : List ℕ) (rest at : ℕ) (bytes : List ℕ) (d : ℕ) → all ≡ digits 16 true rest ++ drop at bytes → rest < 16
+    → d ≡ digit_glyph true rest → 0 < at → at ≤ length bytes → drop (at - 1) (slice_set bytes (at - 1) d) ≡ all
+digit_first all rest at bytes d so_far small is some within =
+    let next : at - 1 + 1 ≡ at = omega arith in
+    let written : drop (at - 1) (slice_set bytes (at - 1) d) ≡ digit_glyph true rest ∷ drop at bytes =
+    drop-set bytes (at - 1) d (omega arith) ∙ rw (next, is) refl in
+    written ∙ sym (so_far ∙ ap (λ z. z ++ drop at bytes) (hex_one_digit true rest small))
 
--- the same in decimal
-pub decimal_two : (n : ℕ) → 10 ≤ n → n < 100 → decimal n ≡ (48 + n / 10) ∷ (48 + n % 10) ∷ []
-decimal_two n h small = decimal_step n h (omega arith) ∙ ap (λ x. x ++ ((48 + n % 10) ∷ [])) (decimal_digit (n / 10) (omega arith))
-
-pub decimal_pair : (n : ℕ) → 100 ≤ n → n < 2 ^ 32 → decimal n ≡ decimal (n / 100) ++ ((48 + n % 100 / 10) ∷ (48 + n % 100 % 10) ∷ [])
-decimal_pair n h small =
-    let front : n / 10 / 10 ≡ n / 100 = omega arith in
-    let tens : n / 10 % 10 ≡ n % 100 / 10 = omega arith in
-    let ones : n % 10 ≡ n % 100 % 10 = omega arith in
-    decimal_step n (omega arith) (omega arith) ∙ ap (λ x. x ++ ((48 + n % 10) ∷ [])) (decimal_step (n / 10) (omega arith) (omega arith))
-    ∙ append_assoc (decimal (n / 10 / 10)) ((48 + n / 10 % 10) ∷ []) ((48 + n % 10) ∷ [])
-    ∙ ap (λ m. decimal m ++ ((48 + n / 10 % 10) ∷ (48 + n % 10) ∷ [])) front
-    ∙ ap (λ d. decimal (n / 100) ++ ((48 + d) ∷ (48 + n % 10) ∷ [])) tens
-    ∙ ap (λ d. decimal (n / 100) ++ ((48 + n % 100 / 10) ∷ (48 + d) ∷ [])) ones
-
--- two digits more, after those of the front q
-pub decimal_next : (n q : ℕ) (old front new : List ℕ) → 100 ≤ n → n < 2 ^ 32 → n / 100 ≡ q → front ≡ old ++ decimal q
-    → new ≡ front ++ ((48 + n % 100 / 10) ∷ (48 + n % 100 % 10) ∷ []) → new ≡ old ++ decimal n
-decimal_next n q old front new h small is before after =
-    let last : List ℕ = (48 + n % 100 / 10) ∷ (48 + n % 100 % 10) ∷ [] in
-    after ∙ ap (λ x. x ++ last) (before ∙ ap (λ m. old ++ decimal m) (sym is)) ∙ append_assoc old (decimal (n / 100)) last
-    ∙ ap (λ x. old ++ x) (sym (decimal_pair n h small))
+-- a number that has more than one digit has fewer without its last
+pub fewer_digits : (rest at : ℕ) → 16 ≤ rest → rest < 16 ^ at → (1 < at) × (rest / 16 < 16 ^ (at - 1))
+fewer_digits rest zero big lt = absurd (omega arith)
+fewer_digits rest (suc zero) big lt = absurd (omega (arith, lt))
+fewer_digits rest (suc (suc k)) big lt =
+    let one_less : suc (suc k) - 1 ≡ suc k = omega arith in
+    let below : rest / 16 < 16 ^ suc k = omega (arith, lt) in (omega arith, rw one_less below)

@@ -11,7 +11,7 @@ ghost use Rattle.rh_defs.specs.declared.sizes.TheConstants.{ANCHORS, GREATEST_NU
 ghost use Rattle.rh_lines.specs.Placed.{when_placed};
 ghost use Rattle.rh_lines.specs.declared.forms.TheConstants.{MOST_DIGITS};
 
-use crate::hex_digits::{are_hex_digits, hex_bytes, hex_number};
+use crate::hexadecimal::{MOST_HEX_DIGITS, are_hex_digits, hex_number};
 use crate::words::Words;
 use arrayvec::ArrayVec;
 use rh_defs::sizes::{ANCHORS, GREATEST_NUMBER, MOST_BYTES};
@@ -19,9 +19,6 @@ use rh_defs::{Anchor, Leaf, LineFault, Name};
 
 /// A number has at most so many decimal digits.
 const MOST_DIGITS: usize = 10;
-
-/// An address has at most so many hexadecimal digits.
-const MOST_HEX_DIGITS: usize = 8;
 
 /// Word `n` as a name: an ASCII letter, and then up to 11 ASCII letters or digits.
 #[tactic(auto, unfolding(rh_defs::specs::Line::name_at))]
@@ -188,8 +185,11 @@ pub fn bytes_at(
     ensures form { OnOk result (1 ≤ length bytes.new.items) }
 {
     let word = words.word(n);
-    if word.is_empty() || !hex_bytes(word, bytes) {
+    let mut room = [0; MOST_BYTES];
+    let spelled = &mut room[..word.len() / 2];
+    if word.is_empty() || hex::decode_to_slice(word, spelled).is_err() {
         return Err(LineFault::Word(n));
     }
+    bytes.try_extend_from_slice(spelled).unwrap();
     Ok(())
 }

@@ -4,13 +4,12 @@
 
 mod areas;
 mod counts;
-mod digit_pairs;
 mod flagged;
 mod flex;
 mod forms;
 mod heaps;
 mod held;
-mod hex_digits;
+mod hexadecimal;
 mod parse;
 mod print;
 mod row;
@@ -23,7 +22,6 @@ mod words;
 
 pub use flagged::Flagged;
 pub use held::Held;
-pub use hex_digits::write_hex_digits;
 pub use parse::{parse_line, read_line};
 pub use print::{add_number, print_fault, print_first_line};
 pub use row::{ROW, Row};

@@ -13,7 +13,7 @@ ghost use Rattle.rh_script.specs.NamedSlots.{bytes_of_named};
 
 use crate::read::{read_block, read_whole, size_of_block};
 use rh_defs::{Anchor, Name, Reply};
-use rh_lines::{Row, Sink, WriteFailed, print_first_line, put, write_hex_digits};
+use rh_lines::{Row, Sink, WriteFailed, print_first_line, put};
 use rh_store::Store;
 use rh_tasks::{NamedFiles, World};
 
@@ -159,6 +159,6 @@ fn put_digits<W: Sink>(bytes: &[u8], writer: &mut W) -> Result<(), WriteFailed>
 {
     let mut digits = [0; 2 * PIECE];
     let text = &mut digits[..2 * bytes.len()];
-    write_hex_digits(bytes, text);
+    hex::encode_to_slice(bytes, &mut *text).unwrap();
     put(writer, text)
 }

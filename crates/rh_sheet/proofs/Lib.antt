@@ -3,3 +3,7 @@ mod Inside
 mod Slides
 mod Alike
 mod Worked
+mod Reading
+mod Elements
+mod Figures
+mod Ends

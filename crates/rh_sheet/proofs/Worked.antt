@@ -6,6 +6,7 @@ use Rattle.rh_defs.specs.Line.{line_means}
 use Rattle.rh_figure.specs.Share.{Owner, AreaOf, SlotOf, Share}
 use Rattle.rh_figure.specs.Map.{Stage, map_start}
 use Rattle.rh_sheet.specs.Sheet.{sheet_lines}
+use Rattle.rh_sheet.specs.WellFormed.{Words, Lost, read_on}
 use Rattle.rh_sheet.specs.Sheet as sheet
 
 -- lines with their line feeds
@@ -169,3 +170,20 @@ pub worked_sheet :
     ≡ text_of (first_step ++ module_part ++ second_step ++ module_part ++ rest_of_sheet)
 unfolding sheet.computing hex_on_literals
 worked_sheet = refl
+
+-- ---- what a reader makes of small documents
+
+nested : read_on ([], Words) (codes "<!DOCTYPE html>\n<p class=\"a\">x &lt; y <b>z</b><br/></p>") ≡ ([], Words)
+nested = refl
+
+-- the outer element ends before the inner one
+crossed : read_on ([], Words) (codes "<p><b>z</p></b>") ≡ (codes "b" ∷ codes "p" ∷ [], Lost)
+crossed = refl
+
+-- a remark that begins an element
+begun : read_on ([], Words) (codes "<p>a <b of</p>") ≡ (codes "p" ∷ [], Lost)
+begun = refl
+
+-- a quote that ends a value
+unquoted : read_on ([], Words) (codes "<p title=\"a\"<\">z</p>") ≡ ([], Lost)
+unquoted = refl

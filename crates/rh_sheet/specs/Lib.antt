@@ -14,3 +14,4 @@ pub mod SheetRows
 pub mod SheetSteps
 pub mod Slides
 pub mod Tables
+pub mod WellFormed

@@ -51,13 +51,13 @@ abbrev pub gap_text : ℕ → ℕ → Text
 gap_text n y = words_text
     (codes "gap") (LEFT + ROW_WIDTH / 2) (y + BASELINE) (pages_text (n - 2 * EDGE_ROWS) ++ codes " between")
 
--- row i from below
+-- row i from below, of a page or of none
+abbrev pub row_of : Frame → Plot → ℕ → Option ℕ → Text
+row_of f g i None = gap_text f.pages (row_y f i)
+row_of f g i (Some k) = addressed_text g (row_y f i) k
+
 abbrev pub row_text : Frame → Plot → ℕ → Text
-row_text f g i = of_page (page_in f.pages i)
-  where
-    of_page : Option ℕ → Text
-    of_page None = gap_text f.pages (row_y f i)
-    of_page (Some k) = addressed_text g (row_y f i) k
+row_text f g i = row_of f g i (page_in f.pages i)
 
 -- all rows
 abbrev pub rows_text : Frame → Plot → Text

@@ -2,11 +2,18 @@
 
 ghost use Rattle.rh_sheet.specs.SheetLaws.{DrawsNoOrder, EscapesAll, LiesInside};
 ghost use Rattle.rh_sheet.specs.Slides.{SlideInSlots};
+ghost use Rattle.rh_sheet.specs.WellFormed.{EndsAll};
 
 /// Whatever stands in a text or a tip: no `<`, `>` or `"` is in it, and `&` only before the name of a sign. So nothing
 /// that a script or a file says begins or ends an element.
 pub fn escape_law()
     ensures { EscapesAll }
+{}
+
+/// Whatever a script and its name say: the elements of its sheet lie in each other, each ends where it has to, and no byte
+/// of a remark, a command, a name, a reply or a tip begins or ends one.
+pub fn elements_law()
+    ensures { EndsAll }
 {}
 
 /// Each piece of an area lies within the row of its page, and rows, cards and squares within their figure.

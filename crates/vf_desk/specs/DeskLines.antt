@@ -33,8 +33,8 @@ pub record TakesLine (line : List ℕ) (old new : Option Station) (status : ℕ)
   pub files : files_in new ≡ files_in old
   pub refused : status ≢ 0 → new ≡ old
 
--- Lent bytes have a text with zeros behind it, and its length is told. Where they have no room for it the status says
--- so, and they and the number that was told before stay.
+-- Lent bytes have a text in place of their first ones, and its length is told. Where they have no room for it the status
+-- says so, and they and the number that was told before stay.
 pub record Fills (text before after : List ℕ) (was now status : ℕ) : Type 0 where
   pub bytes_are : after ≡ with_text text before
   pub length_is : now ≡ (if nat_le (length text) (length before) then length text else was)

@@ -24,8 +24,8 @@ pub extern "C" fn vf_desk_line(alloc: Global, desk: &mut VfDesk, line: &[u8]) ->
     status
 }
 
-/// Puts the text of the last line's reply into `text` with zeros behind it, and tells how many bytes it has. SHORT
-/// where it has more than there is room for, and then `text` and `length` stay.
+/// Puts the text of the last line's reply into `text`, and tells how many bytes it has; what stands behind it stays.
+/// SHORT where it has more than there is room for, and then `text` and `length` stay.
 #[unsafe(no_mangle)]
 pub extern "C" fn vf_desk_reply(
     alloc: Global,

@@ -24,7 +24,7 @@ RefusesInput b c s t wrong status = wrong ≢ 0 → (status ≡ wrong) × (c ≡
 abbrev pub nearest : ℕ → ℕ
 nearest n = if nat_lt n (2 ^ 32) then n else 2 ^ 32 - 1
 
--- the same of an amount up or down
+-- an amount up or down, or the nearest that 32 bits with a sign hold
 abbrev pub nearest_amount : ℤ → ℤ
 nearest_amount (pos n) = pos (if nat_lt n (2 ^ 31) then n else 2 ^ 31 - 1)
 nearest_amount (negsuc n) = negsuc (if nat_lt n (2 ^ 31) then n else 2 ^ 31 - 1)

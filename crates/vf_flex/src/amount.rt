@@ -12,7 +12,7 @@ pub fn nearest(n: usize) -> u32
     }
 }
 
-/// An amount up or down, or the greatest of 32 bits in its direction where it has more.
+/// An amount up or down, or the nearest that 32 bits with a sign hold.
 pub fn nearest_amount(delta: isize) -> i32
     ensures { result ≡ nearest_amount delta }
 {

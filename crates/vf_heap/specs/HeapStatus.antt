@@ -69,10 +69,12 @@ image_status b =
     (if nat_lt (length b) (word b 12) then short else found_status (fault_of (take (word b 12) b)))
     else fault_status fault.BadDescriptor
 
--- the status of moving a heap's end by delta bytes: it becomes a multiple of 8 that lies in n bytes, or it stays
+-- the status of moving a heap's end by delta bytes: it becomes a multiple of 8 that lies in n bytes, which are at most
+-- 1 GiB, or it stays
 unfoldable pub extend_status : ℕ → ℤ → Heap → ℕ
 extend_status n delta h =
-    if nat_lt n (moved h.end delta) then short
+    if nat_lt area_limit n then bad_length
+    else if nat_lt n (moved h.end delta) then short
     else if is_multiple (moved h.end delta) then answer_status (extend_by delta h)
     else bad_length
 

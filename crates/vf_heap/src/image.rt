@@ -8,7 +8,7 @@ use rh_defs::sizes::{HEAP_END, HEAP_FIRST, HEAP_SPECIAL, HEAP_UNIT, HEAP_WORD};
 use rh_store::bytes::word_in;
 
 /// The most bytes in which a heap may lie: 1 GiB.
-const LONGEST: usize = 0x4000_0000;
+pub const LONGEST: usize = 0x4000_0000;
 
 /// Whether so many bytes can be made a heap.
 pub fn length_status(len: usize) -> u32

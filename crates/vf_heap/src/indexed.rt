@@ -114,8 +114,8 @@ pub extern "C" fn vf_heap_indexed_block_size(
     told(indexed::block_size(memory, map, address), size)
 }
 
-/// Tells by how many bytes the heap is too short for a resize, 0 where it has room. An amount that 32 bits don't hold
-/// has the status of that resize, and nothing is told.
+/// Tells by how many bytes the heap is too short for a resize, 0 where it has room. An amount that 32 bits with a sign
+/// don't hold has the status of that resize, and nothing is told.
 #[unsafe(no_mangle)]
 pub extern "C" fn vf_heap_indexed_resize_need(
     memory: &[u8],

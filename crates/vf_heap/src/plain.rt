@@ -5,9 +5,9 @@ ghost use Rattle.rh_defs.specs.Heap.{claim_block, released_at, resize_block, lar
 ghost use Rattle.rh_defs.specs.HeapImage.{heap_of};
 ghost use Rattle.rh_lent.specs.Heaps.{IsHeapBytes};
 ghost use Rattle.vf_heap.specs.HeapStatus.{answer_or, answer_status, extend_status, length_status, number_or, status_of};
-ghost use Rattle.vf_heap.specs.LentHeapCalls.{LeavesLentHeap, Extends, IsFar, size_at};
+ghost use Rattle.vf_heap.specs.LentHeapCalls.{LeavesLentHeap, Extends, IsFar, IsLentHeap, size_at};
 
-use crate::image::length_status;
+use crate::image::{LONGEST, length_status};
 use crate::status::{
     BAD_LENGTH, EXCESSIVE_SHRINK, NO_ROOM, OK, SHORT, outcome_status, refusal_status, told,
 };
@@ -100,14 +100,18 @@ pub extern "C" fn vf_heap_resize(
     }
 }
 
-/// Moves the heap's end by `delta` bytes, to one that lies in the bytes. (OS_Heap 5.)
+/// Moves the heap's end by `delta` bytes, to one that lies in the bytes. More than 1 GiB of these are refused.
+/// (OS_Heap 5.)
 #[unsafe(no_mangle)]
 pub extern "C" fn vf_heap_extend(memory: &mut [u8], delta: isize) -> u32
-    requires { IsHeapBytes memory.old }
+    requires { IsLentHeap memory.old }
     ensures status { result ≡ extend_status (length memory.old) delta (heap_of memory.old 0) }
     ensures done { result ≡ 0 → Extends memory.old memory.new delta }
     ensures refused { result ≢ 0 → memory.new ≡ memory.old }
 {
+    if memory.len() > LONGEST {
+        return BAD_LENGTH;
+    }
     match i32::try_from(delta) {
         Ok(delta) => extend(memory, delta),
         Err(_) if delta < 0 => EXCESSIVE_SHRINK,

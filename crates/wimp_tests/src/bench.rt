@@ -85,6 +85,18 @@ fn expected(sent: &Sent, held: bool) -> Told {
     (sent.code, sent.from, sent.to, sent.my_ref, held)
 }
 
+/// An empty queue whose first ref is this one: that of a new queue is 1.
+fn queue_from(next_ref: u32) -> Queue
+    ensures empty { handles_of result ≡ [] }
+    ensures starts { (m : Memory) (module_area : SpecModule) → IsModule m module_area → IsQueue m module_area result }
+{
+    if next_ref == 1 {
+        Queue::new()
+    } else {
+        Queue::with_next_ref(Ref(next_ref))
+    }
+}
+
 /// Joins tasks 1, 2 and 3 to an empty queue.
 pub(crate) fn three(queue: &mut Queue)
     requires { handles_of queue.old ≡ [] }
@@ -149,7 +161,7 @@ impl<S: Store + Drop> Bench<S> {
     {
         let mut store = store;
         let module_area = started(&mut store)?;
-        let mut queue = Queue::with_next_ref(Ref(next_ref));
+        let mut queue = queue_from(next_ref);
         three(&mut queue);
         Ok(Bench {
             store,

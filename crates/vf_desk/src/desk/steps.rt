@@ -68,7 +68,7 @@ impl VfDesk {
         called
     }
 
-    /// Writes bytes into a flex block, as a `put` of as many bytes does: a line has room for 512 alone.
+    /// Writes bytes into a flex block, as a `put` of as many bytes does, whatever a line has room for.
     pub fn write(
         &mut self,
         alloc: Global,

@@ -14,7 +14,7 @@ returns-then-end-ne0-clause-status c =
     let back = to_z-of_z w32 d c.ranges.delta in
     let end : c.moved-end.result ≡ moved h.end d =
     c.moved-end.ensures.value ∙ ap (λ k. moved k (to_z w32 (of_z w32 d))) c.end.ensures.end ∙ ap (λ (x : ℤ). moved h.end x) back in
-    sym (misfit (length c.args.memory.now) _ d h end c.if-len-end.false c.if-end-ne0.true)
+    sym (misfit (length c.args.memory.now) _ d h c.requires.few end c.if-len-end.false c.if-end-ne0.true)
 
 pub returns-then-len-end-clause-status : goal.returns-then-len-end-clause-status
 returns-then-len-end-clause-status c =
@@ -23,7 +23,7 @@ returns-then-len-end-clause-status c =
     let back = to_z-of_z w32 d c.ranges.delta in
     let end : c.moved-end.result ≡ moved h.end d =
     c.moved-end.ensures.value ∙ ap (λ k. moved k (to_z w32 (of_z w32 d))) c.end.ensures.end ∙ ap (λ (x : ℤ). moved h.end x) back in
-    sym (beyond (length c.args.memory.now) _ d h end c.if-len-end.true)
+    sym (beyond (length c.args.memory.now) _ d h c.requires.few end c.if-len-end.true)
 
 pub returns-clause-status : goal.returns-clause-status
 returns-clause-status c =
@@ -34,4 +34,4 @@ returns-clause-status c =
     let end : c.moved-end.result ≡ moved h.end d =
     c.moved-end.ensures.value ∙ ap (λ k. moved k (to_z w32 (of_z w32 d))) c.end.ensures.end ∙ ap (λ (x : ℤ). moved h.end x) back in
     c.outcome_status.ensures ∙ answered (length b) _ d _ b c.extend_heap.new.memory c.extend_heap.result back
-    c.extend_heap.ensures end c.if-end-ne0.false c.if-len-end.false
+    c.extend_heap.ensures c.requires.few end c.if-end-ne0.false c.if-len-end.false

@@ -1,7 +1,7 @@
-use Rattle.std.proofs.Common.{◌≡◌, arith, sym, ◌∙◌, ap, rules, length, ◌≤◌, ◌-◌, ◌++◌, replicate}
+use Rattle.std.proofs.Common.{◌≡◌, arith, sym, ◌∙◌, ap, rules, length, ◌≤◌, ◌++◌, drop}
 use Rattle.rh_console.specs.Said.{said_text}
 use Rattle.rh_lines.specs.WholeText.{before_of, whole_bytes, filled}
-use Rattle.rh_console.proofs.PrintLaws.{filled-zeros, printed, prints-some}
+use Rattle.rh_console.proofs.PrintLaws.{filled-whole, printed, prints-some}
 use Rattle.rh_console.proofs.console.Console.print.Goals as goal
 
 pub returns : goal.returns
@@ -12,10 +12,9 @@ returns c = λ d seen.
     let same = sym (p.name ∙ c.new-text.ensures.same_reference) in
     let long = c.length-length.ensures d seen in
     let fit : length text ≤ length c.args.to.now = omega (arith, long, c.if-length-to.false) in
-    let clear : before_of c.print-done.new.writer ≡ replicate (length c.args.to.now) 0 =
-    p.before ∙ c.new-text.ensures.before ∙ c.fill.ensures.after (λ y e. e) in
-    let all : (whole_bytes c.print-done.new.writer).now ≡ text ++ replicate (length c.args.to.now - length text) 0 =
-    c.length.ensures.bytes ∙ ap (λ l. filled l (before_of c.print-done.new.writer)) p.text_is ∙ ap (filled text) clear
-    ∙ filled-zeros text (length c.args.to.now) fit in
+    let lent : before_of c.print-done.new.writer ≡ c.args.to.now = p.before ∙ c.new-text.ensures.before in
+    let all : (whole_bytes c.print-done.new.writer).now ≡ text ++ drop (length text) c.args.to.now =
+    c.length.ensures.bytes ∙ ap (λ l. filled l (before_of c.print-done.new.writer)) p.text_is ∙ ap (filled text) lent
+    ∙ filled-whole text c.args.to.now fit in
     let size = ap length p.text_is in
     prints-some fit all (search rules) (omega (arith, fit, size, c.length.ensures.value))

@@ -1,8 +1,0 @@
-use Rattle.std.proofs.Common.{◌≡◌, ◌*◌, ◌++◌, take, drop}
-use Rattle.hex.specs.Hex.{encode_lower}
-use Rattle.rh_lines.proofs.hex_digits.write_hex_digits.Given as goal
-
--- the digits so far, and those of the rest
-abbrev pub invariant-loop-i : goal.invariant-loop-i
-invariant-loop-i l =
-    take (2 * l.i) l.digits ++ encode_lower (drop l.i l.bytes) ≡ encode_lower l.bytes

@@ -1,0 +1,54 @@
+"""A built program that is run, and the count of what it did otherwise than it should."""
+
+import os
+import resource
+import signal
+import subprocess
+
+# The words of the program that take a script.
+SCRIPT_VERBS = ("run", "map", "draw")
+WRITE_FAILED = b"rh_desk: write failed\n"
+LONGEST_FILE = 1_048_576
+# Bytes of address space within which the program is run: from too few to be loaded to more than enough.
+MEMORY = range(5 << 19, 5 << 20, 1 << 16)
+KIB = 1024
+# The seconds after which a run that hangs is ended.
+SECONDS = 120
+
+
+class Suite:
+    """A program, and what it did otherwise than it should."""
+
+    def __init__(self, program):
+        self.program, self.wrong, self.tests = program, 0, 0
+
+    def run(self, words, stdin=b"", limit=None, longest=None, user=None, stdout=subprocess.PIPE):
+        """What the program printed, told, and ended with, within so many bytes of memory, where a file has at most
+        so many, and as this user."""
+
+        def before():
+            if longest is not None:
+                signal.signal(signal.SIGXFSZ, signal.SIG_IGN)
+                resource.setrlimit(resource.RLIMIT_FSIZE, (longest, longest))
+            if user:
+                os.setuid(user)
+
+        words = [self.program, *words]
+        if limit:
+            # A shell's limit costs half the time of one that is set between a fork and a call of the program.
+            words = ["sh", "-c", f'ulimit -v {limit // KIB} && exec "$0" "$@"', *words]
+        streams = {"input": stdin, "stdout": stdout, "stderr": subprocess.PIPE}
+        changed = before if user or longest is not None else None
+        given = subprocess.run(words, **streams, timeout=SECONDS, preexec_fn=changed)
+        return given.stdout or b"", given.stderr, given.returncode
+
+    def is_true(self, what, holds):
+        """Counts a test, and tells it where it fails."""
+        self.tests += 1
+        if not holds:
+            self.wrong += 1
+            print(f"{what}: not as it should be")
+
+    def ends(self, what, words, output, told, status, **how):
+        """The program prints and tells just this, and ends so."""
+        self.is_true(what, self.run(words, **how) == (output, told, status))
