@@ -25,8 +25,12 @@ extern "C" {
 /* ---- Statuses ----------------------------------------------------------------------------------------------------
  *
  * Each call answers one. With any but VF_OK it has changed nothing: no byte of the memory, and none of the numbers that
- * it would have told. Refusals have the numbers that they have everywhere in vervainfile, 1 to 24: where several hold,
- * the first is answered. What is wrong with what a call was lent begins at 32.
+ * it would have told. Refusals have the numbers that they have everywhere in vervainfile, 1 to 24. What is wrong with
+ * what a call was lent begins at 32.
+ *
+ * Where several hold, the first is answered: VF_NULL before all others, then those that the head of the call's part
+ * says all its calls test, then those of the call's own comment. Each list names them in the order in which they are
+ * tested. Refusals are tested in the order of their numbers, and after what has a number from 32 on.
  */
 enum {
     VF_OK = 0,                 /* all was done */
@@ -69,7 +73,7 @@ enum {
     VF_SPARE_PAGE = 42,        /* the last page of the slot holds nothing of it */
     VF_CLOSED = 43,            /* the desk is not open */
     VF_OPEN = 44,              /* the desk is open already */
-    VF_BAD_ARGUMENT = 45,      /* a name, an anchor, a number or a leafname is none that a line could have */
+    VF_BAD_ARGUMENT = 45,      /* a name, an anchor, a number or a leafname is none that a line has, or a put no byte */
     VF_NO_MEMORY = 46,         /* memory was refused */
     VF_FILE_EXISTS = 47        /* a file with the name was added before */
 };
@@ -87,7 +91,8 @@ enum {
  *    time.
  * 3. Of the calls on heaps without `checked` in their names, vf_heap_init aside: `memory` is a heap, so that
  *    vf_heap_check would answer VF_OK. It is one after vf_heap_init, and after each call, as long as you write to
- *    nothing but the bytes of your blocks. Where it is none they may read and write anywhere, as free() may.
+ *    nothing but the bytes of your blocks, and `len` is at most 1 GiB. Where it is none they may read and write
+ *    anywhere, as free() may. vf_heap_extend alone looks whether `len` is above 1 GiB.
  * 4. Of the calls on slots without `checked` in their names, vf_flex_start aside: `slot` and the bytes of its pages are
  *    a slot, so that vf_flex_check would answer VF_OK. They are one after vf_flex_start, and after each call, as long
  *    as you write to nothing but the bytes of your blocks. Where they are none the calls may read and write anywhere.
@@ -129,8 +134,9 @@ uint32_t vf_heap_release(uint8_t *memory, size_t len, size_t address);
  * than 1, VF_NO_ROOM. */
 uint32_t vf_heap_resize(uint8_t *memory, size_t len, size_t address, ptrdiff_t delta, size_t *moved_to);
 
-/* OS_Heap 5: moves the heap's end by `delta` bytes, up or down. No block moves. VF_SHORT where the heap's length would
- * exceed `len`, VF_BAD_LENGTH where it would be no multiple of 8, VF_EXCESSIVE_SHRINK. */
+/* OS_Heap 5: moves the heap's end by `delta` bytes, up or down. No block moves. VF_BAD_LENGTH where `len` is above
+ * 1 GiB, then VF_SHORT where the heap's length would exceed `len`, then VF_BAD_LENGTH where it would be no multiple of 8,
+ * then VF_EXCESSIVE_SHRINK. */
 uint32_t vf_heap_extend(uint8_t *memory, size_t len, ptrdiff_t delta);
 
 /* OS_Heap 6: tells how many bytes the block at an address has: what was asked for, or up to 7 more. VF_NOT_A_BLOCK. */
@@ -167,15 +173,16 @@ uint32_t vf_heap_indexed_block_size(const uint8_t *memory, size_t len, const uin
                                     size_t address, size_t *size);
 
 /* Tells by how many bytes the heap is too short for a resize by `delta`, 0 where it has room: as many more make it be
- * done. VF_NOT_A_BLOCK, VF_BAD_SIZE; VF_NO_ROOM where `delta` has more than 32 bits. */
+ * done. VF_NOT_A_BLOCK, VF_BAD_SIZE; VF_NO_ROOM where `delta` is above 2,147,483,647. */
 uint32_t vf_heap_indexed_resize_need(const uint8_t *memory, size_t len, const uint64_t *map, size_t map_len,
                                      size_t address, ptrdiff_t delta, size_t *need);
 
 /* ---- The same on any bytes -----------------------------------------------------------------------------------------
  *
  * These look at all of the heap first, so they have no third duty, and may be given bytes that come from a file or from
- * somebody else. Where the bytes are no heap they answer what vf_heap_check answers, and else what the call of the same
- * name does. With VF_CHECKED defined before this header, the names above stand for these.
+ * somebody else. Where the bytes are no heap they answer what vf_heap_check answers, before all else but VF_NULL, and
+ * else what the call of the same name does. With VF_CHECKED defined before this header, the names above stand for
+ * these.
  */
 
 /* VF_OK where the first bytes are a heap, as many as its own length. Else what is wrong first: VF_BAD_LENGTH where
@@ -204,7 +211,12 @@ uint32_t vf_heap_checked_block_size(const uint8_t *memory, size_t len, size_t ad
  *
  * Each call tests first, and has changed nothing then: VF_NULL; VF_BAD_LENGTH where `len` is below 4,096 or above
  * 28 MiB; VF_NO_SLOT; VF_SHORT where the pages of the slot exceed `len`; VF_BAD_ANCHOR where there is an anchor. A
- * number of bytes that has more than 32 bits is refused as the greatest of 32 bits is.
+ * number of bytes above 4,294,967,295 is refused as that one is. An amount up or down is refused as the nearest one
+ * from -2,147,483,648 to 2,147,483,647 is.
+ *
+ * A refused call leaves all `len` bytes. Where a refusal of the rules is answered, 1 to 24, it is proved that the
+ * slot's pages and the struct stay; that the bytes behind these pages stay is tested. Where any other status is
+ * answered, all of it is proved.
  */
 
 /* What of a slot does not stand in its bytes. You keep it beside them, and read it at will; the calls write it. A copy
@@ -285,8 +297,8 @@ uint32_t vf_flex_block_size(const uint8_t *memory, size_t len, const struct vf_s
  *
  * These look at all of the slot first, so they have no fourth duty: `memory` may hold bytes that come from a file or
  * from somebody else, and `slot` any number of pages; its flag must be a bool, true or false. Where they are no slot
- * the calls answer what vf_flex_check answers, and else what the call of the same name does. With VF_CHECKED defined
- * before this header, the names above stand for these.
+ * the calls answer what vf_flex_check answers, before all else but VF_NULL, and else what the call of the same name
+ * does. With VF_CHECKED defined before this header, the names above stand for these.
  */
 
 /* VF_OK where the pages lie in the bytes and are a slot. Else what is wrong first: VF_BAD_LENGTH, VF_NO_SLOT and
@@ -506,8 +518,8 @@ uint32_t vf_desk_alloc(struct vf_desk *desk, const uint8_t *name, size_t name_le
 uint32_t vf_desk_load(struct vf_desk *desk, const uint8_t *name, size_t name_len, uint32_t anchor, const uint8_t *file,
                       size_t file_len, uint32_t *address);
 
-/* Writes bytes, one at least, into the anchor's block, from an offset on. VF_NO_NAME, VF_NO_BLOCK, VF_BUSY,
- * VF_BAD_RANGE. */
+/* Writes bytes into the anchor's block, from an offset on: one at least, and any number that the block has, also more
+ * than the 507 for which a line has room. VF_NO_NAME, VF_NO_BLOCK, VF_BUSY, VF_BAD_RANGE. */
 uint32_t vf_desk_put(struct vf_desk *desk, const uint8_t *name, size_t name_len, uint32_t anchor, uint32_t offset,
                      const uint8_t *from, size_t from_len);
 
@@ -544,7 +556,7 @@ uint32_t vf_desk_budge(struct vf_desk *desk, const uint8_t *name, size_t name_le
 /* -- areas, and the module area -- */
 
 /* OS_ChangeDynamicArea: moves the length of an area by `delta` bytes in whole pages, and tells how many bytes were
- * moved. VF_NO_AREA, VF_EXCESSIVE_SHRINK, VF_TOO_BIG, VF_NO_ROOM. */
+ * moved. VF_EXCESSIVE_SHRINK, VF_NO_ROOM, VF_NO_AREA, VF_TOO_BIG. */
 uint32_t vf_desk_area(struct vf_desk *desk, uint32_t number, int32_t delta, uint32_t *bytes);
 
 /* OS_DynamicArea 0: makes an area of no page, and of at most `most` pages, 1 to 1,024, and tells its number.
@@ -597,9 +609,9 @@ uint32_t vf_desk_areas(struct vf_desk *desk, uint32_t *free, struct vf_area *are
  * answered in the reply too. */
 uint32_t vf_desk_line(struct vf_desk *desk, const uint8_t *line, size_t line_len);
 
-/* Puts the text of the last line's reply into `text` with zeros behind it, and tells how many bytes it has, as often
- * as it is asked; what a question lists is looked up anew. VF_SHORT where the text has more bytes than there is room
- * for: `text` and `length` stay then. */
+/* Puts the text of the last line's reply into `text`, and tells how many bytes it has, as often as it is asked; what a
+ * question lists is looked up anew. The bytes behind the text stay: no zero ends it. VF_SHORT where it has more bytes
+ * than there is room for: `text` and `length` stay then. */
 uint32_t vf_desk_reply(struct vf_desk *desk, uint8_t *text, size_t text_len, size_t *length);
 
 /* ---- Null pointers -------------------------------------------------------------------------------------------------

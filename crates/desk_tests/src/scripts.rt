@@ -1,6 +1,8 @@
 //! Worked scripts, whole.
 
-ghost use Rattle.std.specs.Prelude.{◌≤◌};
+ghost use Rattle.std.specs.Prelude.{◌≡◌, ◌≤◌, IfOk};
+ghost use Rattle.rh_defs.specs.Memory.{fresh};
+ghost use Rattle.rh_store.specs.Plain as plain;
 
 use crate::same::{is_true, same};
 use rh_defs::Files;
@@ -27,6 +29,17 @@ pub(crate) fn outcome_of(
     (writer.into_inner(), outcome)
 }
 
+/// A plain store of so many pages.
+fn plain_store(alloc: Global, pages: u32) -> Result<PlainStore, AllocError>
+    requires least { 8 ≤ pages }
+    requires most { pages ≤ 256 }
+    ensures fresh { IfOk result (λ s. plain.memory_of s ≡ fresh (plain.memory_of s).pages) }
+    ensures pages { IfOk result (λ s. (plain.memory_of s).pages ≡ pages) }
+{
+    let store = PlainStore::new(alloc, pages as usize)?;
+    Ok(store)
+}
+
 /// The same over a plain store.
 fn plain_outcome_of(
     alloc: Global,
@@ -34,9 +47,9 @@ fn plain_outcome_of(
     pages: u32,
 ) -> Result<(Vec<u8>, Result<Status, RunFault>), AllocError>
     requires least { 8 ≤ pages }
-    requires most { pages ≤ 1024 }
+    requires most { pages ≤ 256 }
 {
-    let store = PlainStore::new(alloc, pages as usize)?;
+    let store = plain_store(alloc, pages)?;
     let mut reader = Flagged::new(script);
     let mut writer = Flagged::new(Vec::<u8>::new(alloc));
     let outcome = run_over(store, Files::new(alloc), &mut reader, &mut writer);
@@ -52,7 +65,7 @@ pub(crate) fn expect<R: Abort + Alloc<A = Global>>(
     status: Status,
 )
     requires least { 8 ≤ pages }
-    requires most { pages ≤ 1024 }
+    requires most { pages ≤ 256 }
 {
     let (written, outcome) = outcome_of(rt.alloc(), script, pages);
     same(rt, written.as_slice(), wanted);

@@ -50,8 +50,8 @@ abbrev pub read_on : Reader → Text → Reader
 read_on r [] = r
 read_on r (b ∷ t) = read_on (read_byte r.0 r.1 b) t
 
--- Whatever a script and its name say, and however the pool is shared out: a sheet's elements lie in each other, each ends
--- where it has to, and no byte of a text begins or ends one.
+-- Whatever a script and its name say, and however the pool is shared out: a sheet's elements lie in each other, each
+-- ends where it has to, and none is left open.
 abbrev pub EndsAll : Type 0
 EndsAll = (name : Text) (pages : ℕ) (marked : Bool) (x : Walk) (stages : List Stage) → x.opened ≡ false →
     read_on ([], Words) (sheet_head name pages ++ sheet_lines marked x stages) ≡ ([], Words)

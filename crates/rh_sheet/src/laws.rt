@@ -10,8 +10,8 @@ pub fn escape_law()
     ensures { EscapesAll }
 {}
 
-/// Whatever a script and its name say: the elements of its sheet lie in each other, each ends where it has to, and no byte
-/// of a remark, a command, a name, a reply or a tip begins or ends one.
+/// Whatever a script and its name say: the elements of its sheet lie in each other, and each ends where it has to. A
+/// text of the script that were written as it is would break that, by a `<` alone.
 pub fn elements_law()
     ensures { EndsAll }
 {}
