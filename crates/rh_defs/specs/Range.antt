@@ -32,7 +32,7 @@ can_be_read (spelled_by row values) = all_of true row.forms values
 abbrev pub can_be_asked : Question → Bool
 can_be_asked q = can_be_read (question_spelling q)
 
--- whether a command is one that a line can spell
+-- whether a command is one that a line can spell, however long the line
 unfoldable pub in_range : Command → Bool
 in_range c = can_be_read (spelling c)
 

@@ -7,7 +7,7 @@ use crate::sizes::MOST_BYTES;
 use arrayvec::ArrayVec;
 use std::marker::Model;
 
-/// The bytes that a `put` writes: at most 512, as a script line has room for no more.
+/// The bytes that a `put` of a line writes: there is room for 512, of which a line spells 507 at most.
 #[derive(Debug, Drop, PartialEq, Eq)]
 pub struct Bytes {
     bytes: ArrayVec<u8, MOST_BYTES>,

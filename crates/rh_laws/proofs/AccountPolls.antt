@@ -207,7 +207,7 @@ module _ (c : ℕ → Option ℕ) (t : Task) (next : ℕ) (up : Rise in_id 0 nex
     unfolding transmit
     transmit-keeps a source =
         granted-then _ _ λ r live. granted-past _ _ _ λ reach. granted-with _ (letter-kept _ g) λ sent w.
-        let p : Part = sender.part a (length source.here.bytes) in
+        let p : Part = sender.next_part a (length source.here.bytes) in
         let new : List ℕ = take p.n (drop p.offset source.here.bytes) in
         let few : length new ≤ a.room = part-fits a.room (length source.here.bytes - p.offset) (drop p.offset source.here.bytes) in
         let k = written-kept r.handle (λ s. written_in a.buffer new (buffer_at a.buffer a.room s) s)
@@ -230,10 +230,10 @@ module _ (c : ℕ → Option ℕ) (t : Task) (next : ℕ) (up : Rise in_id 0 nex
         let v = alloc_is _ k 0 b.0 p f in
         granted-with _ (stands-letter _ (stands-slot p.0 g.stands)) λ sent st.
         granted (record {
-          records = receiver.claimed a k b.1 (next_ref d) t.taking;
+          records = receiver.taking_claimed a k b.1 (next_ref d) t.taking;
           desk = record {
             slot = p.0;
-            stands = stands-takes (receiver.claimed a k b.1 (next_ref d)) st;
+            stands = stands-takes (receiver.taking_claimed a k b.1 (next_ref d)) st;
             all = same-accounts (λ i. added_still k _ b.0 p.0 v i ∙ claimed_map w i)
                 (begun-accounts (receiver.new_taking a k b.1 (next_ref d)) _ (claimed_free w) all);
           };

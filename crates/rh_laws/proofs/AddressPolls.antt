@@ -127,7 +127,7 @@ module _ (a : Addresses) (t : Task) (own : TaskAgrees a t) where
     transmit-keeps c is source =
         granted-then _ _ λ r live. granted-past _ _ _ λ reach. granted-with _ (plain-agrees _ d tt g) λ sent all.
         granted (record {
-          desk = outs-agree h _ (sent-out c is (sender.part c (length source.here.bytes)) (next_ref d)) _ (task-agrees r.handle _
+          desk = outs-agree h _ (sent-out c is (sender.next_part c (length source.here.bytes)) (next_ref d)) _ (task-agrees r.handle _
               (λ u same old. old) sent all);
         })
 

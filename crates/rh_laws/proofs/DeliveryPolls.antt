@@ -209,7 +209,7 @@ module _ (a : Marks) (t : Task) (own : HandleAgrees a (InAgrees a) t.handle t) w
         let id : ℕ = c.transfer.id in
         granted-then _ _ λ r live. granted-past _ _ _ λ reach.
         granted-with _ (marked-agrees a (Some id) _ d tt g) λ sent all.
-        granted (marks id (outs-agree h _ (sent-out (next_of id) c (sender.part c (length source.here.bytes)) (next_ref d) (next-is id)) _
+        granted (marks id (outs-agree h _ (sent-out (next_of id) c (sender.next_part c (length source.here.bytes)) (next_ref d) (next-is id)) _
         (task-agrees r.handle _ (λ u. refl) (λ u old. record { sent = old.sent; outs = old.outs; ins = old.ins }) sent all)))
 
     fail_sending-keeps : (v : Option Sending) → Keeps a (fail_sending d t v)

@@ -71,7 +71,7 @@ module _ (k : ℕ) (t : Task) (ne : t.handle ≢ k) (d : Desk) (m : Parcel) wher
   module _ (is : task_of t.handle d.tasks ≡ Some t) (l : Letter) where
     -- what goes out for a record: the next bytes of the source
     abbrev part_of : Sending → Split Flex → Part
-    part_of x source = sender.part (sight.answer_of l x) (length source.here.bytes)
+    part_of x source = sender.next_part (sight.answer_of l x) (length source.here.bytes)
 
     abbrev bytes_out : Sending → Split Flex → List ℕ
     bytes_out x source = take (part_of x source).n (drop x.count source.here.bytes)

@@ -114,13 +114,13 @@ module _ (f : ℕ → ℕ) (zero-is : f 0 ≡ 0) where
       After (transmit d t a source) (transmit (renamed f d) (renamed_task f t) a (renamed_here f source))
   unfolding transmit
   transmit-renamed d t a source =
-      subst (λ k. After here (there (sender.part a k) (flex_address (renamed_slot f t.slot) (renamed_here f source).before + a.transfer.count)))
+      subst (λ k. After here (there (sender.next_part a k) (flex_address (renamed_slot f t.slot) (renamed_here f source).before + a.transfer.count)))
       (sym (length-map source.here.bytes f))
       (subst (λ y. After here (there part (y + a.transfer.count))) (sym (address-renamed f t.slot source.before))
       (transmit_of-renamed d t a part (flex_address t.slot source.before + a.transfer.count) source.here.bytes))
     where
       part : Part
-      part = sender.part a (length source.here.bytes)
+      part = sender.next_part a (length source.here.bytes)
 
       here : Granted Handled
       here = transmit_of d t a part (flex_address t.slot source.before + a.transfer.count) source.here.bytes

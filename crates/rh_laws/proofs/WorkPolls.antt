@@ -87,7 +87,7 @@ module _ (o : Offers) (t : Task) (own : Owns o t) (w n : ℕ) (held : Option Par
     x = a.transfer
 
     abbrev p : Part
-    p = sender.part a (length bytes)
+    p = sender.next_part a (length bytes)
 
     -- the bytes that went out are done with
     after-less : o x.id ≡ Some bytes → (b : Bool) → (b ≡ false → a.room ≤ p.n) →
@@ -170,7 +170,7 @@ module _ (o : Offers) (t : Task) (own : Owns o t) (w n : ℕ) (held : Option Par
     unfolding transmit
     transmit-falls a less source offers =
         granted-then _ _ λ r live. granted-past _ _ _ λ reach. granted-with _ (letter-here o _ refl less.3 d is) λ sent all.
-        let part : Part = sender.part a (length source.here.bytes) in
+        let part : Part = sender.next_part a (length source.here.bytes) in
         let bytes : List ℕ = take part.n (drop part.offset source.here.bytes) in
         let here = slots-here o r.handle (λ s. written_in a.buffer bytes (buffer_at a.buffer a.room s) s) sent all.1 in
         let y = outs-here o (sender.sent a part (next_ref d)) 2 0 (sent-outs a less.0 (next_ref d) source.here.bytes less.1 offers) _ here in

@@ -32,7 +32,7 @@ only_if false refusal granted = Err refusal
 -- its part of a source with so many bytes went out
 abbrev pub tell_sent : Transmit → ℕ → ℕ → List Outgoing → Granted (List Outgoing)
 tell_sent a size ref records =
-    only_if (is_send_due (send.Transmit a) records) NotOpen (Ok (sender.sent a (sender.part a size) ref records))
+    only_if (is_send_due (send.Transmit a) records) NotOpen (Ok (sender.sent a (sender.next_part a size) ref records))
 
 -- the file was saved
 abbrev pub tell_saved : SaveFile → ℕ → List Outgoing → Granted (List Outgoing)
@@ -50,7 +50,7 @@ tell_sending_failed a records = only_if (is_send_due a records) NotOpen (Ok (sen
 
 -- the buffer and the document are there, and the first fetch was sent
 abbrev pub tell_fetching : Claim → ℕ → ℕ → ℕ → List Incoming → Granted (List Incoming)
-tell_fetching a k buffer ref records = only_if (is_take_due (take.Claim a) records) Busy (Ok (receiver.claimed a k buffer ref records))
+tell_fetching a k buffer ref records = only_if (is_take_due (take.Claim a) records) Busy (Ok (receiver.taking_claimed a k buffer ref records))
 
 -- whether no fetch follows on the bytes
 abbrev pub is_finish : Next → Bool

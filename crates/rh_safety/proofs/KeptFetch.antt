@@ -24,7 +24,7 @@ use Rattle.rh_safety.proofs.SeenWrites.{front, written_map, buffer_found}
 abbrev pub gone : sight.Desk → ℕ → Transmit → List ℕ → List ℕ → sight.Desk
 gone D h a S old =
     let x : Sending = a.transfer in
-    let p : Part = sender.part a (length S) in
+    let p : Part = sender.next_part a (length S) in
     sight.sent (record D {
       heap = put D.heap x.recipient (put (D.heap x.recipient) a.buffer (Some (take p.n (drop p.offset S) ++ drop p.n old)));
       sending = put D.sending h (sender.sent a p D.next_ref (D.sending h));
@@ -49,15 +49,15 @@ module _ (d : Desk) (t : Task) (is : task_of t.handle d.tasks ≡ Some t) (a : T
 
   -- the bytes are in the buffer
   poured : (S : List ℕ) (r : Task) (sent : Desk) (w : Reaches (view d) a) → task_of a.transfer.recipient d.tasks ≡ Some r →
-      send_letter (transmit_letter h a (sender.part a (length S))) d ≡ Ok sent →
+      send_letter (transmit_letter h a (sender.next_part a (length S))) d ≡ Ok sent →
       view (with_task r.handle (λ r. record r {
-        slot = written_in a.buffer (take (sender.part a (length S)).n (drop a.transfer.count S)) (buffer_at a.buffer a.room r.slot) r.slot;
+        slot = written_in a.buffer (take (sender.next_part a (length S)).n (drop a.transfer.count S)) (buffer_at a.buffer a.room r.slot) r.slot;
       }) sent) ≡
-      sight.with_heap (sight.sent (view d) h (seen_letter (transmit_letter h a (sender.part a (length S)))
+      sight.with_heap (sight.sent (view d) h (seen_letter (transmit_letter h a (sender.next_part a (length S)))
       d.post.next_ref)) a.transfer.recipient a.buffer
-      (Some (take (sender.part a (length S)).n (drop a.transfer.count S) ++ drop (sender.part a (length S)).n w.old))
+      (Some (take (sender.next_part a (length S)).n (drop a.transfer.count S) ++ drop (sender.next_part a (length S)).n w.old))
   poured S r sent w to e =
-      let p : Part = sender.part a (length S) in
+      let p : Part = sender.next_part a (length S) in
       let out = take p.n (drop a.transfer.count S) in
       let new : List ℕ = out ++ drop p.n w.old in
       let same : r.handle ≡ a.transfer.recipient = is_equal _ _ (first_is (λ (k : Task). nat_eq k.handle a.transfer.recipient) d.tasks r
@@ -97,7 +97,7 @@ module _ (d : Desk) (t : Task) (is : task_of t.handle d.tasks ≡ Some t) (a : T
   transmit_does reach =
       by_grant Does _ _
       (λ y q. with_step (slot_block a.transfer.anchor t.slot) _ y q (λ b e1 q1.
-      let p : Part = sender.part a (length b.here.bytes) in
+      let p : Part = sender.next_part a (length b.here.bytes) in
       with_step (found_or (task_at a.transfer.recipient d) NoTask) _ y q1 (λ r e2 q2.
       with_step (send_letter (transmit_letter h a p) d) _ y (from_test _ _ y q2) (λ sent e4 q4.
       let to : task_of a.transfer.recipient d.tasks ≡ Some r = is_found (task_at a.transfer.recipient d) NoTask r e2 in
@@ -137,7 +137,7 @@ module _ (d : Desk) (t : Task) (m : Parcel) (is : task_of t.handle d.tasks ≡ S
         let source = g.inv.outs.source t.handle x g.is_open in
         let all : S ≡ source.all = same_value ((view d).block t.handle x.anchor) there source.there in
         seen_good v (answered_good t.handle l x g (a lives) m.message.from S w.old
-        (sender.part (sight.answer_of l x) (length S)).n all w.there w.fits (portion_ok S x l
+        (sender.next_part (sight.answer_of l x) (length S)).n all w.there w.fits (portion_ok S x l
         (subst (λ (z : List ℕ). x.count ≤ length z) (sym all) source.fits)) _ refl)
 
     -- the buffer of the record that waits

@@ -53,7 +53,7 @@ module _ (d : Desk) (t : Task) (m : Parcel) (is : task_of t.handle d.tasks ≡ S
   -- a first fetch of n bytes was sent
   abbrev fetching : ℕ → ℕ → List ℕ → ℕ → sight.Desk
   fetching k address bytes n =
-      let edit = receiver.claimed claim k address (next_ref d) in
+      let edit = receiver.taking_claimed claim k address (next_ref d) in
       let y = sight.sent (placed k address bytes) h (seen_letter (fetch_letter h (receiver.first_fetch claim address n))
       d.post.next_ref) in
       record y { taking = put y.taking h (edit (y.taking h)) }
@@ -90,7 +90,7 @@ module _ (d : Desk) (t : Task) (m : Parcel) (is : task_of t.handle d.tasks ≡ S
       let letter = fetch_letter h (receiver.first_fetch claim c.1 t.buffer) in
       let v2 : view sent ≡ sight.sent (view d1) h (seen_letter letter d.post.next_ref) = sent_view d1 sent letter
       e4 live1 in
-      let edit = receiver.claimed claim k c.1 (next_ref d) in
+      let edit = receiver.taking_claimed claim k c.1 (next_ref d) in
       let v3 : view (with_taking h edit sent) ≡ fetching k c.1 bytes t.buffer =
       ins_view sent h edit (ap (λ (y : sight.Desk). y.live h) v2 ∙ live1) ∙
       ap (λ (y : sight.Desk). record y { taking = put y.taking h (edit (y.taking h)) }) v2 ∙

@@ -46,7 +46,7 @@ pub record Portion (source : List ℕ) (x : Sending) (l : Letter) (n : ℕ) : Ty
   pub short : n < l.amount → x.count + n ≡ length source
 
 pub portion_ok : (source : List ℕ) (x : Sending) (l : Letter) → x.count ≤ length source →
-    Portion source x l (sender.part (answer_of l x) (length source)).n
+    Portion source x l (sender.next_part (answer_of l x) (length source)).n
 portion_ok source x l le = record { within = omega arith; fits = omega arith; short = λ s. omega arith }
 
 module _ {o : Offered} {e : ℕ → ℕ → Bool} {d : Desk} (h : ℕ) (l : Letter) (x : Sending) (g : Called o e d h x l) where

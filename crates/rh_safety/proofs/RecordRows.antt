@@ -59,7 +59,7 @@ accepts_bare d t a = do
   k ← found_or (free_anchor t.slot) AnchorInUse
   b ← slot_claim (free_pages d) t.buffer t.slot
   sent ← send_letter (fetch_letter t.handle (receiver.first_fetch a b.1 t.buffer)) (with_slot t.handle b.0 d)
-  Ok (with_taking t.handle (receiver.claimed a k b.1 (next_ref d)) sent, outcome.Fetch (next_ref d))
+  Ok (with_taking t.handle (receiver.taking_claimed a k b.1 (next_ref d)) sent, outcome.Fetch (next_ref d))
 
 abbrev no_document : Rules
 no_document = record landed {

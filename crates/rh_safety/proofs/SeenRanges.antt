@@ -199,7 +199,7 @@ module _ (d : Desk) (t : Task) where
       Sound Fine (transmit d t a source)
   unfolding transmit
   transmit_fine a source reach =
-      let p : Part = sender.part a (length source.here.bytes) in
+      let p : Part = sender.next_part a (length source.here.bytes) in
       let place : ℕ = flex_address t.slot source.before + p.offset in
       bind_ok _ (found_ok (task_at a.transfer.recipient d) NoTask refl) λ r e.
       let to : task_of a.transfer.recipient d.tasks ≡ Some r = is_found (task_at a.transfer.recipient d) NoTask r e in

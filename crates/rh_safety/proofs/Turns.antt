@@ -229,7 +229,7 @@ module _ (p : Pair) (d : Desk) (k : ℕ) (w : Waiting p d k) (within : k ≤ len
   gone_desk = gone at_sender p.sender answer p.source w.bytes
 
   abbrev next_out : Out
-  next_out = sender.after_sent answer (sender.part answer (length p.source)) d.next_ref
+  next_out = sender.after_sent answer (sender.next_part answer (length p.source)) d.next_ref
 
   abbrev next_code : Code
   next_code = if nat_lt now p.room then Plain else Recorded

@@ -143,7 +143,7 @@ wrong_fetch = refl
 -- the transmit, with another record after it, by what goes out, the file's length and the transmit's ref
 abbrev transmits_to : (Transmit → Part → ℕ → ℕ → Outgoing) → Desk → Task → Transmit → Split Flex → Granted Handled
 transmits_to record_after d t a source =
-    let p : Part = sender.part a (length source.here.bytes) in
+    let p : Part = sender.next_part a (length source.here.bytes) in
     let place : ℕ = flex_address t.slot source.before + p.offset in do
       r ← found_or (task_at a.transfer.recipient d) NoTask
       refuse_if (is_out_of_reach t r a.buffer a.room place p.n) BadRange

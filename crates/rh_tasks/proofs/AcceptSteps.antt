@@ -246,12 +246,12 @@ module _ {v : Shown} {i : ℕ} {t : Task} {claim : Claim} {k h n : ℕ} (can : C
         unfolding with_task
         next-same = three.ref_is ∙ ap next_ref two.desk
 
-        pub accept-done : (v4 : Shown) → ((x : Task) → IsAt i x v3.desk → v4.desk ≡ with_taking x.handle (receiver.claimed claim k a ref) v3.desk)
+        pub accept-done : (v4 : Shown) → ((x : Task) → IsAt i x v3.desk → v4.desk ≡ with_taking x.handle (receiver.taking_claimed claim k a ref) v3.desk)
             → (x : Desk) × ((accept v.desk t claim ≡ Ok (x, outcome.Fetch ref)) × IsReordered x v4.desk)
         accept-done v4 recorded =
-            let begun : ℕ → Desk → Desk = λ r. with_taking t.handle (receiver.claimed claim k a r) in
+            let begun : ℕ → Desk → Desk = λ r. with_taking t.handle (receiver.taking_claimed claim k a r) in
             let desk : v4.desk ≡ begun ref v3.desk =
-            recorded sent-task.task sent-task.at ∙ ap (λ h. with_taking h (receiver.claimed claim k a ref) v3.desk) sent-task.handle in
+            recorded sent-task.task sent-task.at ∙ ap (λ h. with_taking h (receiver.taking_claimed claim k a ref) v3.desk) sent-task.handle in
             let granted : accept v.desk t claim ≡ Ok (begun (next_ref v.desk) three.sent, outcome.Fetch (next_ref v.desk)) =
             accept-is v.desk t claim k can.free
             ∙ begins (after_buffer v.desk t claim k) one.granted (begins (after_document v.desk t claim k (one.slot, a)) two.granted

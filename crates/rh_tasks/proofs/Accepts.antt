@@ -41,7 +41,7 @@ module _ (d : Desk) (t : Task) (claim : Claim) where
   module _ (k : ℕ) where
     abbrev pub after_fetch : Slot × ℕ → Desk → Granted Handled
     after_fetch b sent =
-        Ok (with_taking t.handle (receiver.claimed claim k b.1 (next_ref d)) sent, outcome.Fetch (next_ref d))
+        Ok (with_taking t.handle (receiver.taking_claimed claim k b.1 (next_ref d)) sent, outcome.Fetch (next_ref d))
 
     abbrev pub after_document : Slot × ℕ → Slot × ℕ → Granted Handled
     after_document b p = send_letter (the_fetch b.1) (with_slot t.handle p.0 d) >>= after_fetch b

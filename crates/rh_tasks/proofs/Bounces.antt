@@ -27,7 +27,7 @@ module _ {m : Memory} {seats : List Seat} {made : List MadeArea} {files : FileLi
 
   -- ---- transfers that go out
 
-  module _ {records : List Outgoing} (is : records ≡ sender.bounced (sender.on_sending_bounce ref s.sending) s.sending) where
+  module _ {records : List Outgoing} (is : records ≡ sender.sending_bounced (sender.on_sending_bounce ref s.sending) s.sending) where
     abbrev sends : Seat
     sends = record s { sending = records }
 
@@ -35,13 +35,13 @@ module _ {m : Memory} {seats : List Seat} {made : List MadeArea} {files : FileLi
     unfolding task_of
     sending-found t there = ap (λ (x : Task). sender.on_sending_bounce ref x.sending) (mapped-is (task_of m) seats i s t at there)
 
-    sending-of : (o : Option Sending) (t : Task) → IsAt i t d → true ≡ is_some o → records ≡ sender.bounced o s.sending
+    sending-of : (o : Option Sending) (t : Task) → IsAt i t d → true ≡ is_some o → records ≡ sender.sending_bounced o s.sending
         → As (fail_sending d t o) (last sends) outcome.Failed
     unfolding fail_sending
     sending-of None t there e q = absurd cc
     sending-of (Some x) t there e q = (refl, same-alike (sym (sending-done w at (sender.sending_failed x) q t there)))
 
-    sending-none : (o : Option Sending) (t : Task) → false ≡ is_some o → records ≡ sender.bounced o s.sending
+    sending-none : (o : Option Sending) (t : Task) → false ≡ is_some o → records ≡ sender.sending_bounced o s.sending
         → As (fail_sending d t o) (last sends) outcome.Ignored
     unfolding fail_sending
     sending-none None t e q = (refl, same-alike (sym (ap (λ r. last (record s { sending = r })) q ∙ stays)))

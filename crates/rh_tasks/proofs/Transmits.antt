@@ -141,7 +141,7 @@ module _ (d : Desk) (t : Task) (a : Transmit) where
 
     steps-are : given ≡ steps p
     unfolding transmit
-    steps-are = begins _ b.block (ap (λ k. steps (sender.part a k)) (sym b.size_is) ∙ ap steps (sym b.part_is))
+    steps-are = begins _ b.block (ap (λ k. steps (sender.next_part a k)) (sym b.size_is) ∙ ap steps (sym b.part_is))
 
     pub transmit-nobody : task_at a.transfer.recipient d ≡ None → given ≡ Err NoTask
     unfolding found_or
@@ -168,7 +168,7 @@ module _ (d : Desk) (t : Task) (a : Transmit) where
         pub transmit-whole : {ref : ℕ} {sent e f new : Desk} → ref ≡ next_ref d → send_letter (transmit_letter t.handle a p) d ≡ Ok sent
             → IsReordered sent e
             → f ≡ with_task r.handle (with_written a.buffer a.room (take p.n (drop p.offset b.source.here.bytes))) e
-            → new ≡ with_sending t.handle (sender.sent a (sender.part a size) ref) f
+            → new ≡ with_sending t.handle (sender.sent a (sender.next_part a size) ref) f
             → (y : Desk) × ((given ≡ Ok (y, outcome.Sent p.n ref)) × IsReordered y new)
         transmit-whole {ref} {sent} {e} {f} {new} is q alike wrote recorded =
             let after = after_sent p ref r sent in

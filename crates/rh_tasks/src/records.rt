@@ -23,7 +23,7 @@ impl<S: Store, F: NamedFiles> World<S, F> {
         requires place { i < length self.old.desk.tasks }
         requires due { CanSend i (send_action.Transmit a.now) self.old.desk }
         ensures { (t : Task) → IsAt i t self.old.desk
-            → self.new.desk ≡ with_sending t.handle (sender.sent a.now (sender.part a.now size) last) self.old.desk }
+            → self.new.desk ≡ with_sending t.handle (sender.sent a.now (sender.next_part a.now size) last) self.old.desk }
     {
         let seat = &mut self.seats[i];
         seat.sending.sent(a, size, last).unwrap();
@@ -70,7 +70,7 @@ impl<S: Store, F: NamedFiles> World<S, F> {
     )
         requires place { i < length self.old.desk.tasks }
         requires due { CanTake i (take_action.Claim a.now) self.old.desk }
-        ensures { (t : Task) → IsAt i t self.old.desk → self.new.desk ≡ with_taking t.handle (receiver.claimed a.now anchor buffer fetch) self.old.desk }
+        ensures { (t : Task) → IsAt i t self.old.desk → self.new.desk ≡ with_taking t.handle (receiver.taking_claimed a.now anchor buffer fetch) self.old.desk }
     {
         let seat = &mut self.seats[i];
         seat.taking.fetching(a, anchor, buffer, fetch).unwrap();

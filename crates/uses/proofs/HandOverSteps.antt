@@ -10,7 +10,7 @@ use Rattle.rh_defs.specs.declared.transfer.Outgoing.{Outgoing}
 use Rattle.rh_defs.specs.declared.transfer.Outgoing.TheVariants as outgoing
 use Rattle.rh_defs.specs.declared.transfer.Incoming.{Incoming}
 use Rattle.rh_defs.specs.declared.transfer.Incoming.TheVariants as incoming
-use Rattle.uses.specs.Inner.HandOver.{IsOffered, IsAsked, IsAnswered, IsOver, open_at, went_at, fetching_at, taken_at, fetch_of, bytes_of, offer_of}
+use Rattle.uses.specs.Inner.HandOver.{IsOffered, IsAsked, IsAnswered, IsOver, open_at, went_at, fetching_at, taken_at, fetch_of, transmit_of, offer_of}
 
 -- one letter more is the next one
 slice_get-push : (mail : List Letter) (letter : Letter) (turn : ℕ) → length mail ≡ turn → slice_get (mail ++ letter ∷ []) turn ≡ Some letter
@@ -37,9 +37,9 @@ pub asked-next : (source document buffer : List ℕ) (room turn : ℕ) (mail : L
     (receiver : List Incoming) (c last : ℕ)
     → IsAsked source room turn mail sender receiver document c last
     → (let n = min room (length source - c) in take n buffer ≡ take n (drop c source)
-    → IsAnswered source room (turn + 1) (mail ++ bytes_of room (turn + 1) n ∷ []) (went_at room c n (turn + 2)) receiver document buffer c n (turn + 1))
+    → IsAnswered source room (turn + 1) (mail ++ transmit_of room (turn + 1) n ∷ []) (went_at room c n (turn + 2)) receiver document buffer c n (turn + 1))
 asked-next source document buffer room turn mail sender receiver c last h moved = record {
-  many = omega (arith, length-append mail (bytes_of room (turn + 1) (min room (length source - c)) ∷ []), h.many);
+  many = omega (arith, length-append mail (transmit_of room (turn + 1) (min room (length source - c)) ∷ []), h.many);
   next = slice_get-push mail _ (turn + 1) h.many;
   sends = ap (went_at room c (min room (length source - c))) (omega arith);
   takes = h.takes;

@@ -2,7 +2,7 @@
 ghost use Rattle.std.specs.Prelude.{◌≡◌, [], ◌∷◌, ◌++◌, ◌+◌, ◌-◌, ◌^◌, ◌<◌, ◌≤◌, ◌&&◌, ℕ, List, Some, None, true, false, min, nat_le, length, take, drop, IfOk, OnOk};
 ghost use Rattle.rh_defs.specs.declared.transfer.Outgoing.TheVariants as outgoing;
 ghost use Rattle.rh_defs.specs.declared.transfer.Incoming.TheVariants as incoming;
-ghost use Rattle.uses.specs.Inner.HandOver.{open_at, went_at, fetching_at, taken_at, appended_at, fetch_of, bytes_of, answer_to, heard};
+ghost use Rattle.uses.specs.Inner.HandOver.{open_at, went_at, fetching_at, taken_at, appended_at, fetch_of, transmit_of, answer_to, heard};
 
 use rh_defs::{
     Anchor, Append, Body, Handle, Letter, Message, Next, Pathname, Ref, SendAction, TakeAction,
@@ -60,7 +60,7 @@ fn send_part(
     requires { length source.now < 2 ^ 32 }
     ensures { (c last my : ℕ) → sender.old ≡ open_at c last → message.now ≡ heard my (fetch_of (length buffer.old) last)
         → c ≤ length source.now → 0 < length buffer.old → let n = min (length buffer.old) (length source.now - c) in
-        (result ≡ Some (bytes_of (length buffer.old) my n)) × (sender.new ≡ went_at (length buffer.old) c n next.0)
+        (result ≡ Some (transmit_of (length buffer.old) my n)) × (sender.new ≡ went_at (length buffer.old) c n next.0)
         × (take n buffer.new ≡ take n (drop c source.now)) }
 {
     let Body::RamFetch {
@@ -129,7 +129,7 @@ fn take_part(
     next: Ref,
 ) -> Option<Letter>
     requires { length buffer.now < 2 ^ 32 }
-    ensures { (c my fetch n : ℕ) → receiver.old ≡ fetching_at c fetch → message.now ≡ heard my (bytes_of (length buffer.now) fetch n)
+    ensures { (c my fetch n : ℕ) → receiver.old ≡ fetching_at c fetch → message.now ≡ heard my (transmit_of (length buffer.now) fetch n)
         → n ≤ length buffer.now → c + n ≤ length document.old → c + n < 2 ^ 32
         → (result ≡ answer_to (length buffer.now) my n) × (receiver.new ≡ taken_at (length buffer.now) c n next.0)
         × (take (c + n) document.new ≡ take c document.old ++ take n buffer.now) }

@@ -74,7 +74,7 @@ pub record IsPortion (t : Task) (a : Transmit) (address size : ℕ) (p : Part) :
   pub block : slot_block a.transfer.anchor t.slot ≡ Ok source
   pub size_is : size ≡ length source.here.bytes
   pub address_is : address ≡ flex_address t.slot source.before + p.offset
-  pub part_is : p ≡ sender.part a size
+  pub part_is : p ≡ sender.next_part a size
 
 -- an action of a task that sends, with its transfer's source
 abbrev pub sent_by : Desk → Task → SendAction → Granted Handled

@@ -28,8 +28,8 @@ abbrev pub fetch_of : ℕ → ℕ → Letter
 fetch_of room answers = record { code = Recorded; from = 2; to = 1; your_ref = answers; body = RamFetch the_buffer room }
 
 -- n bytes that went into it, in answer to a message
-abbrev pub bytes_of : ℕ → ℕ → ℕ → Letter
-bytes_of room answers n =
+abbrev pub transmit_of : ℕ → ℕ → ℕ → Letter
+transmit_of room answers n =
     record { code = if nat_lt n room then User else Recorded; from = 1; to = 2; your_ref = answers; body = RamTransmit the_buffer n }
 
 -- a letter as its task hears it
@@ -93,7 +93,7 @@ pub record IsAsked (source : List ℕ) (room turn : ℕ) (mail : List Letter) (s
 pub record IsAnswered (source : List ℕ) (room turn : ℕ) (mail : List Letter) (sender : List Outgoing) (receiver : List Incoming)
     (document buffer : List ℕ) (c n fetch : ℕ) : Type 0 where
   pub many : length mail ≡ turn + 1
-  pub next : slice_get mail turn ≡ Some (bytes_of room fetch n)
+  pub next : slice_get mail turn ≡ Some (transmit_of room fetch n)
   pub sends : sender ≡ went_at room c n (turn + 1)
   pub takes : receiver ≡ fetching_at c fetch
   pub front : take c document ≡ take c source

@@ -12,7 +12,7 @@ unwrap-requires g c =
     let due = takes-at c.self.invariant at (action.Claim c.args.a.now) (rw (← c.self.view_is) at c.requires.due) in
     let records = c.index_mut-seat.result.now.taking in
     let done : tell_fetching c.args.a.now c.args.anchor c.args.buffer c.args.fetch records ≡ Ok
-    (receiver.claimed c.args.a.now c.args.anchor c.args.buffer c.args.fetch records) = rw due refl in
+    (receiver.taking_claimed c.args.a.now c.args.anchor c.args.buffer c.args.fetch records) = rw due refl in
     is-taken done c.fetching.ensures.answer
 
 pub invariant_of-self : goal.invariant_of-self
@@ -22,8 +22,8 @@ invariant_of-self g c =
     let due = takes-at c.self.invariant at (action.Claim c.args.a.now) (rw (← c.self.view_is) at c.requires.due) in
     let records = c.index_mut-seat.result.now.taking in
     let done : tell_fetching c.args.a.now c.args.anchor c.args.buffer c.args.fetch records ≡ Ok
-    (receiver.claimed c.args.a.now c.args.anchor c.args.buffer c.args.fetch records) = rw due refl in
-    taking-world c.self.invariant at (receiver.claimed c.args.a.now c.args.anchor c.args.buffer c.args.fetch)
+    (receiver.taking_claimed c.args.a.now c.args.anchor c.args.buffer c.args.fetch records) = rw due refl in
+    taking-world c.self.invariant at (receiver.taking_claimed c.args.a.now c.args.anchor c.args.buffer c.args.fetch)
     (was-taken records done c.fetching.ensures.records)
 
 pub returns : goal.returns
@@ -33,7 +33,7 @@ returns g c = λ t there.
     let due = takes-at c.self.invariant at (action.Claim c.args.a.now) (rw (← c.self.view_is) at c.requires.due) in
     let records = c.index_mut-seat.result.now.taking in
     let done : tell_fetching c.args.a.now c.args.anchor c.args.buffer c.args.fetch records ≡ Ok
-    (receiver.claimed c.args.a.now c.args.anchor c.args.buffer c.args.fetch records) = rw due refl in
+    (receiver.taking_claimed c.args.a.now c.args.anchor c.args.buffer c.args.fetch records) = rw due refl in
     let where_is = rw (← c.self.view_is) at there in
-    rw (← c.self.view_is) (taking-done c.self.invariant at (receiver.claimed c.args.a.now c.args.anchor c.args.buffer c.args.fetch)
+    rw (← c.self.view_is) (taking-done c.self.invariant at (receiver.taking_claimed c.args.a.now c.args.anchor c.args.buffer c.args.fetch)
     (was-taken records done c.fetching.ensures.records) t where_is)

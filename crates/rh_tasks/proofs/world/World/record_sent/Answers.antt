@@ -12,7 +12,7 @@ unwrap-requires g c =
     let due = sends-at c.self.invariant at (action.Transmit c.args.a.now) (rw (← c.self.view_is) at c.requires.due) in
     let records = c.index_mut-seat.result.now.sending in
     let done : tell_sent c.args.a.now c.args.size c.args.last records ≡ Ok
-    (sender.sent c.args.a.now (sender.part c.args.a.now c.args.size) c.args.last records) = rw due refl in
+    (sender.sent c.args.a.now (sender.next_part c.args.a.now c.args.size) c.args.last records) = rw due refl in
     is-taken done c.sent.ensures.answer
 
 pub invariant_of-self : goal.invariant_of-self
@@ -22,8 +22,8 @@ invariant_of-self g c =
     let due = sends-at c.self.invariant at (action.Transmit c.args.a.now) (rw (← c.self.view_is) at c.requires.due) in
     let records = c.index_mut-seat.result.now.sending in
     let done : tell_sent c.args.a.now c.args.size c.args.last records ≡ Ok
-    (sender.sent c.args.a.now (sender.part c.args.a.now c.args.size) c.args.last records) = rw due refl in
-    sending-world c.self.invariant at (sender.sent c.args.a.now (sender.part c.args.a.now c.args.size) c.args.last)
+    (sender.sent c.args.a.now (sender.next_part c.args.a.now c.args.size) c.args.last records) = rw due refl in
+    sending-world c.self.invariant at (sender.sent c.args.a.now (sender.next_part c.args.a.now c.args.size) c.args.last)
     (was-taken records done c.sent.ensures.records)
 
 pub returns : goal.returns
@@ -33,7 +33,7 @@ returns g c = λ t there.
     let due = sends-at c.self.invariant at (action.Transmit c.args.a.now) (rw (← c.self.view_is) at c.requires.due) in
     let records = c.index_mut-seat.result.now.sending in
     let done : tell_sent c.args.a.now c.args.size c.args.last records ≡ Ok
-    (sender.sent c.args.a.now (sender.part c.args.a.now c.args.size) c.args.last records) = rw due refl in
+    (sender.sent c.args.a.now (sender.next_part c.args.a.now c.args.size) c.args.last records) = rw due refl in
     let where_is = rw (← c.self.view_is) at there in
-    rw (← c.self.view_is) (sending-done c.self.invariant at (sender.sent c.args.a.now (sender.part c.args.a.now c.args.size) c.args.last)
+    rw (← c.self.view_is) (sending-done c.self.invariant at (sender.sent c.args.a.now (sender.next_part c.args.a.now c.args.size) c.args.last)
     (was-taken records done c.sent.ensures.records) t where_is)
