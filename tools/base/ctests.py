@@ -152,7 +152,7 @@ def try_rows(suite):
     """The worked rows are answered as they must be, by the example that runs a script."""
     made = f"{suite.work}/run_desk"
     if suite.compiled("the example run_desk", ["c/examples/run_desk.c"], [*C11, "-O2"], made):
-        suite.ran("the worked rows by run_desk", ["tools/test-rows", made, "--scripts"])
+        suite.ran("the worked rows by run_desk", ["tools/tests/test-rows", made, "--scripts"])
 
 
 def shim(suite, made, flags=()):

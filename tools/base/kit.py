@@ -22,14 +22,14 @@ def _load(name, file):
     try:
         loader.exec_module(made)
     except OSError:
-        sys.exit(f"tools/kit.py: this kit has no {file}")
+        sys.exit(f"tools/base/kit.py: this kit has no {file}")
     return made
 
 
 def _taken(owner, name, file):
     """What the kit has under this name."""
     if not hasattr(owner, name):
-        sys.exit(f"tools/kit.py: {file} of this kit has no {name}, on which the tools stand")
+        sys.exit(f"tools/base/kit.py: {file} of this kit has no {name}, on which the tools stand")
     return getattr(owner, name)
 
 

@@ -50,7 +50,7 @@ class Part:
 
 def parts_of(top, build, is_dist):
     """All parts, those that take longest first."""
-    tests = f"{top}/tools/test-"
+    tests = f"{top}/tools/tests/test-"
     pages = [Part(f"page-{it}", [f"{top}/bin/web", "test", build.page, "--program", build.program, "--share",
                                  f"{it}/{SHARES}"], True) for it in range(1, SHARES + 1)]
     return [
@@ -60,7 +60,7 @@ def parts_of(top, build, is_dist):
         Part("memory", [f"{tests}program", build.program, "memory"]),
         Part("lessons", [f"{top}/bin/look", f"{top}/examples/lessons"]),
         Part("rows", [f"{tests}rows", build.program]),
-        Part("header", [sys.executable, f"{top}/tools/header.py", top]),
+        Part("header", [sys.executable, f"{top}/tools/base/header.py", top]),
         Part("examples", [f"{top}/examples/check", build.program]),
         Part("pictures", [f"{tests}program", build.program, "maps", "drawings", "figures"]),
         Part("words", [f"{tests}program", build.program, "words", "files", "images", "scripts", "outputs"]),

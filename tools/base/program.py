@@ -93,4 +93,4 @@ def main(top):
 
 
 if __name__ == "__main__":
-    sys.exit(main(os.path.dirname(os.path.dirname(os.path.realpath(__file__)))))
+    sys.exit(main(os.path.realpath(f"{os.path.dirname(os.path.realpath(__file__))}/../..")))
