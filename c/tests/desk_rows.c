@@ -1,7 +1,7 @@
 /*
  * desk_rows.c: each example and each worked row of the repository, line by line over two desks, one by lines and one by
  * typed calls. Both answer the same text, and of an example the text that stands beside it. What the rows must answer
- * `tools/test-rows` looks at, with the example run_desk.
+ * `tools/tests/test-rows` looks at, with the example run_desk.
  */
 #define _POSIX_C_SOURCE 200809L
 #include "desk_scripts.h"

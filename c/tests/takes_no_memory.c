@@ -1,7 +1,7 @@
 /*
  * takes_no_memory.c: no call takes memory of its own. The linker puts counters in the place of the functions that give
- * memory (tools/ctests.py names them), each call of the library is made again and again, done and refused, and nothing is
- * counted.
+ * memory (tools/base/ctests.py names them), each call of the library is made again and again, done and refused, and
+ * nothing is counted.
  */
 #include "expect.h"
 

@@ -3,7 +3,6 @@ use Rattle.rh_tasks.proofs.Common.{◌≡◌, ℕ, ◌<◌, true, arith, List, �
 use Rattle.rh_defs.specs.Forms.{is_leaf}
 use Rattle.rh_defs.specs.declared.command.Command.TheVariants as command
 use Rattle.rh_defs.specs.declared.question.Question.{Question}
-use Rattle.rh_defs.specs.declared.question.Question.TheVariants as question
 use Rattle.rh_defs.specs.Range.{can_be_asked}
 
 pub alloc-anchor : (name : List ℕ) (k n : ℕ) → in_range (command.Alloc name k n) ≡ true → k < anchor_count

@@ -1,5 +1,5 @@
 -- The items of a world's areas, owner by owner.
-use Rattle.std.specs.Prelude.{◌+◌, List, ◌++◌, map}
+use Rattle.std.specs.Prelude.{List, ◌++◌, map}
 use Rattle.rh_defs.specs.Memory.{Memory}
 use Rattle.rh_defs.specs.declared.question.AreaItem.{AreaItem}
 use Rattle.rh_defs.specs.declared.question.AreaItem.TheVariants as item

@@ -1,6 +1,5 @@
 use Rattle.rh_ram.specs.Told.{after_failure}
 use Rattle.rh_tasks.proofs.Places.{member-at}
-use Rattle.rh_defs.specs.declared.transfer_action.TakeAction.TheVariants as c
 use Rattle.rh_tasks.proofs.Dues.{still-takes}
 use Rattle.rh_tasks.proofs.Takings.{inside, stands-dropped, dropped-records, ended-is}
 use Rattle.rh_tasks.proofs.world.World.end_failed.Goals as goal

@@ -8,13 +8,15 @@ pub invariant_of-self : goal.invariant_of-self
 invariant_of-self g c =
     let inside = rw (← c.self.view_is) at c.requires in
     let at = sits-in c.self.invariant inside (sym c.index_mut-seat.ensures.value) in
-    sending-world c.self.invariant at (sender.sending_bounced (sender.on_sending_bounce c.args.last c.index_mut-seat.result.now.sending)) c.if-on_bounce.ensures.records
+    sending-world c.self.invariant at (sender.sending_bounced
+    (sender.on_sending_bounce c.args.last c.index_mut-seat.result.now.sending)) c.if-on_bounce.ensures.records
 
 pub invariant_of-self-2 : goal.invariant_of-self-2
 invariant_of-self-2 g c =
     let inside = rw (← c.self.view_is) at c.requires in
     let at = sits-in c.self.invariant inside (sym c.index_mut-seat.ensures.value) in
-    sending-world c.self.invariant at (sender.sending_bounced (sender.on_sending_bounce c.args.last c.index_mut-seat.result.now.sending)) c.if-on_bounce.ensures.records
+    sending-world c.self.invariant at (sender.sending_bounced
+    (sender.on_sending_bounce c.args.last c.index_mut-seat.result.now.sending)) c.if-on_bounce.ensures.records
 
 pub returns-then-on_bounce : goal.returns-then-on_bounce
 returns-then-on_bounce g c = λ t there.

@@ -32,7 +32,7 @@ send-requires-clause-from g c =
     let f : FoundSeat c.args.name.now c.self.inside.seats.items c.in_ok-source.source.place s = again-found e.found (sym c.index_mut-seat.ensures.value) in
     let given = again-given (source_block c.args.anchor) (g.S.Words.memory c.self.inside.store) e.found f e.given in
     let r = c.in_ok-recipient.ensures.ok in
-    rw (c.save_letter-letter.ensures, c.pathname.ensures)
+    rw (c.save_letter-letter.ensures)
     (save-live c.self.invariant c.args.anchor c.args.to.now c.args.leaf.now f c.in_ok-source.source.size given r.found r.is)
 
 pub returns-in_err-my_ref : goal.returns-in_err-my_ref

@@ -18,7 +18,7 @@ took-requires-clause-due g c =
     let t = member-at c.args.self.now.desk.tasks c.args.i c.requires.place in
     still-takes (appended-records c.args.self.now.desk c.append_buffer.new.self.desk t.0 c.args.a.now.transfer.anchor
     (first_bytes c.args.a.now.n (heap_block_at c.args.a.now.transfer.buffer t.0.slot)) (c.in-Ok.ensures t.0 t.1)) c.args.i
-        (take.Append c.args.a.now) c.requires.due
+    (take.Append c.args.a.now) c.requires.due
 
 pub end_failed-requires-clause-place : goal.end_failed-requires-clause-place
 end_failed-requires-clause-place g c =

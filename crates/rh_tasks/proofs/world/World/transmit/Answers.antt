@@ -155,8 +155,8 @@ returns g c =
     let wrote = wrote-records k c.args.i c.in-Some.seat at r.at p c.args.a.now.buffer c.args.a.now.room c.write_portion.ensures sent in
     let after = seen records_of wrote c.args.i t at in
     let last = c.in_ok-transmit.transmit in
+    let edit : List Outgoing → List Outgoing = sender.sent c.args.a.now (sender.next_part c.args.a.now c.in_ok-portion.portion.size) last in
     let recorded = c.record_sent.ensures after.task after.at
-    ∙ ap (λ (r : ℕ × List Outgoing × List Incoming). with_sending r.0 (sender.sent c.args.a.now (sender.next_part c.args.a.now c.in_ok-portion.portion.size) last)
-    c.write_portion.new.self.desk) after.alike in
+    ∙ ap (λ (r : ℕ × List Outgoing × List Incoming). with_sending r.0 edit c.write_portion.new.self.desk) after.alike in
     transmit-whole d t c.args.a.now p r.task r.found near e.0 (ap (λ l. send_letter l d) (sym letter) ∙ e.1.1.0) e.1.1.1
     (wrote-is k c.args.i c.in-Some.seat at r.at p c.args.a.now.buffer c.args.a.now.room c.write_portion.ensures) recorded

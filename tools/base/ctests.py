@@ -1,0 +1,202 @@
+"""The tests in C of a library that is built: compiled in several ways and run, the header by itself, the examples."""
+
+import concurrent.futures
+import filecmp
+import glob
+import os
+import re
+import shutil
+import subprocess
+import tempfile
+import threading
+
+import archive
+import header
+import outcome
+
+STRICT = ["-Wall", "-Wextra", "-Werror"]
+C11 = ["-std=c11", *STRICT]
+# Each way in which all tests are compiled and run. Fewer random calls are made where each costs more.
+WAYS = {
+    "as it is": ["-O2"],
+    "checked names": ["-O2", "-DVF_CHECKED", "-DCALLS=5000"],
+    "sanitizers": ["-O1", "-g", "-fsanitize=address,undefined", "-fno-sanitize-recover=all", "-DCALLS=4000"],
+}
+# A run that hangs is ended after so many seconds.
+LONGEST = 120
+# The test that no call takes memory, the functions that it counts, and where the calls that it makes by a list stand;
+# and the same test of an open desk.
+NO_MEMORY, LISTS, DESK_MEMORY = "c/tests/takes_no_memory.c", "c/tests/expect.h", "c/tests/desk_memory.c"
+GIVERS = ["malloc", "calloc", "realloc", "aligned_alloc"]
+SHIMMED = ["sort", "-r", "README.md"]
+
+
+class Suite:
+    """A folder with the library, what was tried over it, and what of that was not as it should be."""
+
+    def __init__(self, top, folder, work):
+        self.top, self.folder, self.work, self.tried, self.wrong = top, folder, work, 0, []
+        self.lock = threading.Lock()
+
+    def count(self):
+        """Counts one more, where several calls may do so at once."""
+        with self.lock:
+            self.tried += 1
+
+    def ran(self, what, words, **how):
+        """Runs a command, counts it, and gives what it printed, or nothing where it failed."""
+        self.count()
+        try:
+            ran = subprocess.run(words, capture_output=True, timeout=LONGEST, cwd=self.top, check=False, **how)
+        except (OSError, subprocess.TimeoutExpired) as why:
+            self.wrong.append(f"{what}: {why}")
+            return None
+        if ran.returncode:
+            self.wrong.append(f"{what}: status {ran.returncode}\n{(ran.stdout + ran.stderr).decode(errors='replace')}")
+            return None
+        return ran.stdout
+
+    def compiled(self, what, sources, flags, made):
+        """Compiles sources over the library, and gives whether that went well."""
+        library = [archive.path(self.folder)] * (not {"-fsyntax-only", "-c"} & set(flags))
+        words = [*archive.compiler(), *flags, f"-I{self.folder}", "-Ic/plain", *sources, *library, "-o", made]
+        return self.ran(f"compiling {what}", words) is not None
+
+    def is_true(self, what, holds):
+        """Counts something that was looked at."""
+        self.count()
+        if not holds:
+            self.wrong.append(what)
+
+
+def plain(suite):
+    """The sources in plain C that the tests and the benches compare with."""
+    return sorted(glob.glob("c/plain/*.c", root_dir=suite.top))
+
+
+def stem(path):
+    """The name of a file without its folder and ending."""
+    return os.path.splitext(os.path.basename(path))[0]
+
+
+def plain_object(suite, path, way):
+    """Where a source in plain C is compiled in one way."""
+    return f"{suite.work}/{stem(path)}-{way.replace(' ', '-')}.o"
+
+
+def compile_plain(suite, path, way):
+    """Compiles a source in plain C in one way, once for all tests."""
+    suite.compiled(f"{path}, {way}", [path], [*C11, *WAYS[way], "-c"], plain_object(suite, path, way))
+
+
+def try_test(suite, path, way):
+    """Compiles one test in one way, and runs it."""
+    what, made = f"{stem(path)}, {way}", f"{suite.work}/{stem(path)}-{way.replace(' ', '-')}"
+    counted = [f"-Wl,--wrap={it}" for it in GIVERS] * (path == NO_MEMORY)
+    objects = [plain_object(suite, it, way) for it in plain(suite)]
+    if suite.compiled(what, [path, *objects], [*C11, *WAYS[way], *counted], made):
+        suite.ran(what, [made])
+
+
+def try_archive(suite):
+    """The archive gives and asks for what it should, and the header beside it is that of the sources."""
+    try:
+        archive.look_at_symbols(suite.top, suite.folder)
+        told = ""
+    except (archive.Fault, subprocess.CalledProcessError) as why:
+        told = str(why)
+    suite.is_true(told, not told)
+    files = [f"{suite.folder}/{archive.NAME}.h", f"{suite.top}/{header.HEADER}"]
+    suite.is_true("the header isn't that of the sources", filecmp.cmp(*files, shallow=False))
+
+
+def try_calls(suite):
+    """Each call that the archive gives is one of those of which it is tested that they take no memory."""
+    made = set()
+    for path in (NO_MEMORY, LISTS, DESK_MEMORY):
+        with open(f"{suite.top}/{path}", encoding="utf-8") as it:
+            made |= set(re.findall(r"\bvf_\w+", it.read()))
+    left = sorted(set(header.exports(suite.top)) - made)
+    suite.is_true(f"{NO_MEMORY} and {DESK_MEMORY} don't call {', '.join(left)}", not left)
+
+
+def try_header(suite):
+    """The header is C99 and, where there is a compiler for it, C++, with nothing before it."""
+    alone = f"{suite.work}/alone.c"
+    with open(alone, "w", encoding="utf-8") as it:
+        it.write(f'#include "{archive.NAME}.h"\n')
+    suite.compiled("the header as C99", [alone], ["-std=c99", "-Wpedantic", *STRICT, "-fsyntax-only"], "/dev/null")
+    cpp = shutil.which("c++")
+    if cpp:
+        words = [cpp, *STRICT, "-fsyntax-only", "-x", "c++", f"-I{suite.folder}", alone]
+        suite.ran("compiling the header as C++", words)
+
+
+def try_examples(suite):
+    """Each example prints what stands beside it, compiled as pkg-config says where that is there."""
+    flags = []
+    if shutil.which("pkg-config"):
+        where = dict(os.environ, PKG_CONFIG_PATH=suite.folder)
+        told = suite.ran("pkg-config", ["pkg-config", "--cflags", "--libs", archive.NAME], env=where)
+        flags = (told or b"").decode().split()
+        suite.is_true("pkg-config names the library", f"-l{archive.NAME}" in flags)
+    for said in sorted(glob.glob(f"{suite.top}/c/examples/*.out")):
+        name = os.path.basename(said).removesuffix(".out")
+        made = f"{suite.work}/{name}"
+        if suite.compiled(f"the example {name}", [f"c/examples/{name}.c"], [*C11, "-O2", *flags[:1]], made):
+            with open(said, "rb") as it:
+                suite.is_true(f"{name} prints what stands beside it", suite.ran(name, [made]) == it.read())
+
+
+def try_rows(suite):
+    """The worked rows are answered as they must be, by the example that runs a script."""
+    made = f"{suite.work}/run_desk"
+    if suite.compiled("the example run_desk", ["c/examples/run_desk.c"], [*C11, "-O2"], made):
+        suite.ran("the worked rows by run_desk", ["tools/tests/test-rows", made, "--scripts"])
+
+
+def shim(suite, made, flags=()):
+    """Compiles the example that is a malloc; gives whether that went well."""
+    sources = ["c/examples/malloc_shim.c", "c/plain/os_heap.c"]
+    flags = ["-std=gnu11", *STRICT, "-O2", "-fPIC", "-shared", "-pthread", *flags]
+    return suite.compiled("the shim", sources, flags, made)
+
+
+def try_shim(suite):
+    """A program prints the same with the library as its malloc."""
+    made = f"{suite.work}/shim.so"
+    if shim(suite, made):
+        wanted = suite.ran("sort", SHIMMED)
+        given = suite.ran("sort over the shim", SHIMMED, env=dict(os.environ, LD_PRELOAD=made))
+        suite.is_true("sort prints the same over the shim", wanted and given == wanted)
+
+
+def run_all(suite):
+    """All tests, as many side by side as there are processors; gives how many tests in C there are."""
+    tests = sorted(glob.glob("c/tests/*.c", root_dir=suite.top))
+    # The way that costs most goes first.
+    ways = list(reversed(WAYS))
+    with concurrent.futures.ThreadPoolExecutor(os.cpu_count()) as pool:
+        for made in [pool.submit(compile_plain, suite, path, way) for way in ways for path in plain(suite)]:
+            made.result()
+        calls = [pool.submit(try_test, suite, path, way) for way in ways for path in tests]
+        others = (try_archive, try_calls, try_header, try_examples, try_rows, try_shim)
+        calls += [pool.submit(it, suite) for it in others]
+    for it in calls:
+        it.result()
+    return len(tests)
+
+
+def test(top, folder):
+    """Tests the library in a folder, and gives the exit status."""
+    missing = archive.missing()
+    if missing:
+        print(f"{missing[0]}: isn't installed, the library for C left out")
+        return outcome.NOT_RUN
+    with tempfile.TemporaryDirectory(prefix="ctests-") as work:
+        suite = Suite(top, os.path.abspath(folder), work)
+        tests = run_all(suite)
+    for it in suite.wrong:
+        print(it)
+    return outcome.told(f"{tests} programs in C in {len(WAYS)} ways, header, examples and shim", suite.tried * bool(tests),
+                        len(suite.wrong))
