@@ -155,8 +155,8 @@ impl<D: Drawn> Painter<D> {
         requires in_range { IsTrue (in_range command.now) }
         requires room { self.old.progress.steps + 1 < 2 ^ 32 }
         requires hidden { is_shown self.old.marked (walk_in D.desk self.old) self.old.progress.wanted ≡ false }
-        ensures left { (o : Output) (line : List ℕ) → PaintedLine D.desk self.old o line (Ok
-            (Some command.now)) self.new o }
+        ensures left { (o : Output) (line : List ℕ)
+            → PaintedLine D.desk self.old o line (Ok (Some command.now)) self.new o }
         ensures steps { self.new.progress.steps ≡ self.old.progress.steps + 1 }
     {
         let sender = Sender::new(&self.drawn, Some(command));
@@ -248,11 +248,8 @@ impl<D: Drawn> Painter<D> {
     /// Counts one more command, and notes what has become of the last messages behind it.
     fn begin_step(&mut self, sender: Sender)
         requires { self.old.progress.steps + 1 < 2 ^ 32 }
-        ensures next { self.new.progress ≡ record self.old.progress {
-          steps = self.old.progress.steps
-              + 1;
-          wanted = false;
-        } }
+        ensures next { let old = self.old.progress in
+            self.new.progress ≡ record old { steps = old.steps + 1; wanted = false } }
         ensures few { self.new.progress.left < self.new.progress.steps }
         ensures notes { (s : Share) (b : Before) (m : Marks) → IsSender sender b → self.new.notes.items
             ≡ noted (self.old.progress.steps + 1) (scene_of (D.desk self.old.drawn) s b m) self.old.notes.items }

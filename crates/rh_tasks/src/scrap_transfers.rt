@@ -132,8 +132,7 @@ impl<S: Store, F: NamedFiles> World<S, F> {
         requires block { (t : Task) → IsAt i t self.old.desk → slot_size anchor t.slot ≡ Ok size }
         ensures { (t : Task) (source : Split Flex) → IsAt i t self.old.desk → slot_block anchor t.slot ≡ Ok source
             → self.new.desk ≡ record self.old.desk {
-              scrap = Some
-                  (record { load = load; bytes = source.here.bytes });
+              scrap = Some (record { load = load; bytes = source.here.bytes });
             } }
     {
         let seat = &self.seats[i];
