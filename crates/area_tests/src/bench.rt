@@ -1,5 +1,5 @@
-//! A slot in a store of its own. Each of its calls is a slot's, by a contract that says no more than that the slot stays
-//! one, so that a test of many calls carries few facts.
+//! A slot in a store of its own. Each of its calls is a slot's, by a contract that says no more than that the slot
+//! stays one, so that a test of many calls carries few facts.
 
 ghost use Rattle.std.specs.Prelude.{◌<◌, IfOk};
 ghost use Rattle.rh_defs.specs.Memory.{open_below};

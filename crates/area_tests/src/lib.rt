@@ -1,5 +1,5 @@
-//! Tests that cross crates: heaps in a plain store and in lent bytes, slots over a plain store, over scattered pages and
-//! in lent bytes, the module area over both stores, and the records of transfers.
+//! Tests that cross crates: heaps in a plain store and in lent bytes, slots over a plain store, over scattered pages
+//! and in lent bytes, the module area over both stores, and the records of transfers.
 #![tactic(auto)]
 
 #[cfg(test)]

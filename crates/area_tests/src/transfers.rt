@@ -113,7 +113,8 @@ fn on_transmit(receiver: &Receiver, my_ref: u32, your_ref: u32, n: u32) -> Optio
     receiver.on_transmit(ROOM, SENDER, Ref(my_ref), Ref(your_ref), BUFFER, n)
 }
 
-/// What the fetch with the ref asks for: the transfer's next part of a source of 200 bytes, which goes out by the next message.
+/// What the fetch with the ref asks for: the transfer's next part of a source of 200 bytes, which goes out by the next
+/// message.
 fn answers<R: Abort>(rt: &R, sender: &mut Sender, transfer: Sending, fetch: u32, wanted: Part) {
     let action = transmit(transfer, fetch);
     same(

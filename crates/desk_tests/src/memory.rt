@@ -29,8 +29,8 @@ const STEP: usize = 64;
 /// The trials at most, for all of which there is room in the piece that is left.
 const TRIALS: usize = 65_536;
 
-/// So many calls further down all trials are made first, with all memory. That takes 100 KB more of the stack than a later
-/// trial, and the stack can't grow once memory beside it was taken.
+/// So many calls further down all trials are made first, with all memory. That takes 100 KB more of the stack than a
+/// later trial, and the stack can't grow once memory beside it was taken.
 const CALLS: u32 = 2_000;
 
 /// A call that takes memory.

@@ -85,8 +85,8 @@ impl Console {
         }
     }
 
-    /// How many bytes the text has of what the last line was answered, over the desk as it is now; 2^64 - 1 where it has
-    /// more.
+    /// How many bytes the text has of what the last line was answered, over the desk as it is now; 2^64 - 1 where it
+    /// has more.
     fn length(&self) -> usize
         ensures { (d : Desk) → IsReordered d self.now.world.desk →
             result ≡ min (length (said_text d self.now.said)) (2 ^ 64 - 1) }

@@ -1,6 +1,7 @@
 //! The named files.
 
-ghost use Rattle.std.specs.Prelude.{◌≡◌, ◌≤◌, [], ◌∷◌, ◌++◌, false, OnOk, OnErr, Some, None, MatchOption, IfSome, length, vec_len};
+ghost use Rattle.std.specs.Prelude.{◌≡◌, ◌≤◌, [], ◌∷◌, ◌++◌, false, OnOk, OnErr, Some, None, MatchOption, IfSome};
+ghost use Rattle.std.specs.Prelude.{length, vec_len};
 ghost use Rattle.rh_defs.specs.Files.{has_file, file_bytes};
 ghost use Rattle.rh_defs.specs.declared.sizes.TheConstants.{LONGEST_FILE};
 
@@ -56,7 +57,8 @@ impl Files {
 
     /// The bytes of the file with the name, None where there is none.
     pub fn get(&self, name: &Name) -> Option<&[u8]>
-        ensures value { MatchOption result (file_bytes name.now self.now ≡ None) (λ bytes. file_bytes name.now self.now ≡ Some bytes.now) }
+        ensures value { MatchOption result (file_bytes name.now self.now ≡ None)
+            (λ bytes. file_bytes name.now self.now ≡ Some bytes.now) }
         ensures short { IfSome result (λ bytes. length bytes.now ≤ LONGEST_FILE) }
     {
         let Some(bytes) = self.contents.get(name) else {

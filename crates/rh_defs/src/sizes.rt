@@ -4,7 +4,13 @@ ghost use Rattle.std.specs.Prelude.{◌≡◌, ℕ, ◌+◌, ◌*◌, ◌^◌, �
 ghost use Rattle.rh_defs.specs.Heap.{segment_size};
 ghost use Rattle.rh_defs.specs.Pieces.{is_inside, moved, pages_for};
 ghost use Rattle.rh_defs.specs.Slot.{flex_weight};
-ghost use Rattle.rh_defs.specs.declared.sizes.TheConstants.{ANCHORS, FIRST_MADE, FIXED_AREAS, FLEX_HEADER, GREATEST_NUMBER, HEAP_UNIT, LAST_AREA, LONGEST_BUFFER, LONGEST_FILE, LONGEST_LEAF, LONGEST_LINE, LONGEST_MESSAGE, LONGEST_NAME, MADE_AREAS, MAX_AREAS, MAX_PAGES, MAX_TASKS, MESSAGE_NAME, MIN_PAGES, MODULE_START, MOST_MESSAGES, MOST_READS, MOST_RECORDS, PAGE, SEGMENTS_AT_ONCE, SLOT_START, WORD};
+ghost use Rattle.rh_defs.specs.declared.sizes.TheConstants.{ANCHORS, FIRST_MADE, FIXED_AREAS, FLEX_HEADER};
+ghost use Rattle.rh_defs.specs.declared.sizes.TheConstants.{GREATEST_NUMBER, HEAP_UNIT, LAST_AREA, LONGEST_BUFFER};
+ghost use Rattle.rh_defs.specs.declared.sizes.TheConstants.{LONGEST_FILE, LONGEST_LEAF, LONGEST_LINE, LONGEST_MESSAGE};
+ghost use Rattle.rh_defs.specs.declared.sizes.TheConstants.{LONGEST_NAME, MADE_AREAS, MAX_AREAS, MAX_PAGES, MAX_TASKS};
+ghost use Rattle.rh_defs.specs.declared.sizes.TheConstants.{MESSAGE_NAME, MIN_PAGES, MODULE_START, MOST_MESSAGES};
+ghost use Rattle.rh_defs.specs.declared.sizes.TheConstants.{MOST_READS, MOST_RECORDS, PAGE, SEGMENTS_AT_ONCE};
+ghost use Rattle.rh_defs.specs.declared.sizes.TheConstants.{SLOT_START, WORD};
 
 /// The bytes of a word, the unit of all layouts.
 pub const WORD: usize = 4;

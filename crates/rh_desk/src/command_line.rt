@@ -1,8 +1,10 @@
 //! The program's words.
 
 ghost use Rattle.std.specs.Prelude.{◌≡◌, IfOk, IfSome, codes, false, map, string_bytes};
-ghost use Rattle.clap.specs.Words.{FailsBy, app_of, fault_of, found_of, one_of, rows_of, rule_of, subcommand_of, subcommand_rows_of};
-ghost use Rattle.rh_desk.specs.CommandLine.{check_words, files_rule, marked_rule, needed_rule, pages_rule, picture_words, program_words, run_words};
+ghost use Rattle.clap.specs.Words.{FailsBy, app_of, fault_of, found_of, one_of, rows_of, rule_of, subcommand_of};
+ghost use Rattle.clap.specs.Words.{subcommand_rows_of};
+ghost use Rattle.rh_desk.specs.CommandLine.{check_words, files_rule, marked_rule, needed_rule, pages_rule};
+ghost use Rattle.rh_desk.specs.CommandLine.{picture_words, program_words, run_words};
 ghost use Rattle.rh_desk.specs.Requests.{AsksFor, AsksKind, AsksMarked, AsksNothing, AsksShown};
 
 use crate::request::{ImageKind, Request, RunRequest, Shown};
@@ -102,7 +104,8 @@ fn is_marked(found: &ArgMatches<'_>) -> bool
 
 /// The words, as far as `clap` knows them.
 pub fn parsed<'a>(alloc: Global, words: &'a [String]) -> Result<ArgMatches<'a>, Error>
-    ensures found { IfOk result (λ matches. subcommand_rows_of matches ≡ subcommand_of program_words (map string_bytes words.entry.now)) }
+    ensures found { IfOk result (λ matches. subcommand_rows_of matches ≡ subcommand_of program_words
+        (map string_bytes words.entry.now)) }
     ensures fails { FailsBy (fault_of program_words (map string_bytes words.entry.now)) result }
 {
     Command::new(alloc, "vervainfile")

@@ -1,6 +1,7 @@
 //! The files that a run is given, and the one that is checked.
 
-ghost use Rattle.std.specs.Prelude.{◌≡◌, ◌⊎◌, ◌≤◌, ◌+◌, ◌++◌, ℕ, List, All, IfOk, IfErr, IfSome, map, take, vec_len, vec_items};
+ghost use Rattle.std.specs.Prelude.{◌≡◌, ◌⊎◌, ◌≤◌, ◌+◌, ◌++◌, ℕ, List, All, IfOk, IfErr, IfSome, map, take, vec_len};
+ghost use Rattle.std.specs.Prelude.{vec_items};
 ghost use Rattle.std.specs.Option.{option_map};
 ghost use Rattle.rh_defs.specs.declared.sizes.TheConstants.{LONGEST_FILE};
 ghost use Rattle.rh_desk.specs.Done.{IsWhole};
@@ -20,13 +21,14 @@ use std::fs::File;
 use std::io::{self, Read};
 use std::rt;
 
-/// Looks over all the NAME=PATH words before any file is read. The first bad one is told: one that isn't a name, `=` and
-/// a path of at least one byte, or whose name was given before.
+/// Looks over all the NAME=PATH words before any file is read. The first bad one is told: one that isn't a name, `=`
+/// and a path of at least one byte, or whose name was given before.
 pub fn check_words<E: Sink>(alloc: Global, words: &[&str], errors: &mut E) -> Result<(), Ending>
     ensures status { IfErr result (λ ending. 2 ≤ exit_status ending) }
     ensures good { IfOk result (λ _. AreGood (map (λ word. word.now) words.now)) }
     ensures quiet { IfOk result (λ _. E.output errors.new ≡ E.output errors.old) }
-    ensures told { IfErr result (TellsBadWord (E.output errors.old) (E.output errors.new) (map (λ word. word.now) words.now)) }
+    ensures told { IfErr result (TellsBadWord (E.output errors.old) (E.output errors.new)
+        (map (λ word. word.now) words.now)) }
 {
     let mut seen = Files::new(alloc);
     for word in words {
@@ -53,9 +55,11 @@ pub fn read_files<R: rt::Files, E: Sink>(
     ensures status { IfErr result (λ ending. 2 ≤ exit_status ending) }
     ensures named { IfOk result (λ files. map (λ file. file.0) files ≡ map (λ word. word_name word.now) words.now) }
     ensures whole { IfOk result (λ files. All (λ file. IsWhole R.File.remaining file.1) files) }
-    ensures wrong { IfErr result (λ ending. ending ≡ Ending.WrongWords → (word : List ℕ) × IsFirstBad (map (λ word. word.now) words.now) word) }
+    ensures wrong { IfErr result (λ ending. ending ≡ Ending.WrongWords → (word : List ℕ) × IsFirstBad
+        (map (λ word. word.now) words.now) word) }
     ensures quiet { IfOk result (λ _. E.output errors.new ≡ E.output errors.old) }
-    ensures told { IfErr result (TellsBadFile (E.output errors.old) (E.output errors.new) (map (λ word. word.now) words.now)) }
+    ensures told { IfErr result (TellsBadFile (E.output errors.old) (E.output errors.new)
+        (map (λ word. word.now) words.now)) }
 {
     let mut files = Files::new(alloc);
     for word in words {

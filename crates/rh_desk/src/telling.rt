@@ -18,7 +18,8 @@ use std::alloc::Global;
 pub fn ended<E: Sink>(outcome: Result<Status, RunFault>, errors: &mut E) -> Ending
     ensures ending { result ≡ ending_of outcome }
     ensures quiet { (status : Status) → outcome ≡ Ok status → E.output errors.new ≡ E.output errors.old }
-    ensures told { (fault : RunFault) → outcome ≡ Err fault → Tells (E.output errors.old) (E.output errors.new) (run_fault_text fault) }
+    ensures told { (fault : RunFault) → outcome ≡ Err fault
+        → Tells (E.output errors.old) (E.output errors.new) (run_fault_text fault) }
 {
     match outcome {
         Ok(Status::Clean) => Ending::Clean,
@@ -51,14 +52,18 @@ pub fn told<O: Sink, E: Sink>(
 ) -> Ending
     ensures not_run { result ≡ Ending.BadLines → ⊥ }
     ensures memory { kind_of error.now ≡ ErrorKind.OutOfMemory → result ≡ Ending.Fault }
-    ensures shown { result ≡ Ending.Clean → (kind_of error.now ≡ ErrorKind.DisplayHelp) ⊎ (kind_of error.now ≡ ErrorKind.DisplayVersion) }
-    ensures mistake { result ≡ Ending.WrongWords → (kind_of error.now ≢ ErrorKind.DisplayHelp) × (kind_of error.now ≢ ErrorKind.DisplayVersion) }
+    ensures shown { result ≡ Ending.Clean → (kind_of error.now ≡ ErrorKind.DisplayHelp)
+        ⊎ (kind_of error.now ≡ ErrorKind.DisplayVersion) }
+    ensures mistake { result ≡ Ending.WrongWords → (kind_of error.now ≢ ErrorKind.DisplayHelp)
+        × (kind_of error.now ≢ ErrorKind.DisplayVersion) }
     ensures well { exit_status result ≤ 1 → (O.output output.new).failed ≡ (O.output output.old).failed }
     ensures wrong { result ≡ Ending.WrongWords → O.output output.new ≡ O.output output.old }
     ensures quiet { result ≡ Ending.Clean → E.output errors.new ≡ E.output errors.old }
     ensures fault { result ≡ Ending.Fault →
-        (Tells (E.output errors.old) (E.output errors.new) (run_fault_text RunFault.NoMemory) × (O.output output.new ≡ O.output output.old))
-        ⊎ (Tells (E.output errors.old) (E.output errors.new) (run_fault_text RunFault.WriteFailed) × ((O.output output.new).failed ≡ true)
+        (Tells (E.output errors.old) (E.output errors.new) (run_fault_text RunFault.NoMemory)
+        × (O.output output.new ≡ O.output output.old))
+        ⊎ (Tells (E.output errors.old) (E.output errors.new) (run_fault_text RunFault.WriteFailed)
+        × ((O.output output.new).failed ≡ true)
         × ((kind_of error.now ≡ ErrorKind.DisplayHelp) ⊎ (kind_of error.now ≡ ErrorKind.DisplayVersion))) }
 {
     let text = match error.to_string(alloc) {

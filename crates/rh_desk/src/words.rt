@@ -3,7 +3,8 @@
 ghost use Rattle.std.specs.Prelude.{◌≡◌, ◌≢◌, ◌≤◌, ◌<◌, [], codes, length, map, string_bytes, IfOk, IfErr};
 ghost use Rattle.rh_defs.specs.Runs.{start};
 ghost use Rattle.rh_desk.specs.declared.command_line.TheConstants.{PAGES};
-ghost use Rattle.rh_desk.specs.Done.{CheckEnds, MapOver, RunEnds, RunOver, SheetOver, ShownOver, WordsEnd, line_as, sheet_name as name_of_sheet, status_as, streams};
+ghost use Rattle.rh_desk.specs.Done.{CheckEnds, MapOver, RunEnds, RunOver, SheetOver, ShownOver, WordsEnd, line_as};
+ghost use Rattle.rh_desk.specs.Done.{sheet_name as name_of_sheet, status_as, streams};
 ghost use Rattle.rh_desk.specs.Ending.{ending_of, exit_status};
 ghost use Rattle.rh_desk.specs.Telling.{Tells, run_fault_text};
 ghost use Rattle.rh_lines.specs.Flow.{Breaks, Input, Takes};
@@ -32,8 +33,8 @@ const INPUT: &str = "-";
 const INPUT_NAME: &[u8] = b"standard input";
 
 /// Runs the program on its words, of which the first is its own name, and answers its exit status:
-/// 0 for a clean run, a good heap or slot, help or the version, 1 for a bad line, heap or slot, 2 for wrong words, 3 for
-/// a file, read, write, length or memory fault.
+/// 0 for a clean run, a good heap or slot, help or the version, 1 for a bad line, heap or slot, 2 for wrong words, 3
+/// for a file, read, write, length or memory fault.
 pub fn program<R: rt::Files, I: Source, O: Sink, E: Sink>(
     runtime: &R,
     alloc: Global,
@@ -50,14 +51,19 @@ pub fn program<R: rt::Files, I: Source, O: Sink, E: Sink>(
     ensures wrong { result ≡ 2 → O.output output.new ≡ O.output output.old }
 
     // With no words but its name, a run of the input over 64 pages that came to its end; nothing is told of it.
-    ensures ran { length words.now ≤ 1 → (status : Status) → result ≡ exit_status (ending_of (Ok status)) → Finished (start PAGES []) (I.input input.old) (I.input input.new) (O.output output.old) (O.output output.new) status }
+    ensures ran { length words.now ≤ 1 → (status : Status) → result ≡ exit_status (ending_of (Ok status))
+        → Finished (start PAGES []) (I.input input.old) (I.input input.new) (O.output output.old)
+        (O.output output.new) status }
     ensures quiet { length words.now ≤ 1 → result ≤ 1 → E.output errors.new ≡ E.output errors.old }
 
     // It ends as a run over 64 pages without files does, and with more words as what they ask for does.
     ensures alone { length words.now ≤ 1 → (ending : Ending) × (result ≡ exit_status ending)
-        × RunOver (start PAGES []) (streams (I.input input.old) (I.input input.new) (O.output output.old) (O.output output.new) (E.output errors.old) (E.output errors.new)) ending }
+        × RunOver (start PAGES []) (streams (I.input input.old) (I.input input.new) (O.output output.old)
+        (O.output output.new) (E.output errors.old) (E.output errors.new)) ending }
     ensures asked { 1 < length words.now → (ending : Ending) × (result ≡ exit_status ending)
-        × WordsEnd R.File.remaining (map string_bytes words.now) (streams (I.input input.old) (I.input input.new) (O.output output.old) (O.output output.new) (E.output errors.old) (E.output errors.new)) ending }
+        × WordsEnd R.File.remaining (map string_bytes words.now)
+        (streams (I.input input.old) (I.input input.new) (O.output output.old) (O.output output.new)
+        (E.output errors.old) (E.output errors.new)) ending }
 {
     let ending = if words.len() <= 1 {
         run_told(alloc, Files::new(alloc), PAGES, input, output, errors)
@@ -75,8 +81,10 @@ pub fn words_unread<E: Sink>(error: &io::Error, errors: &mut E) -> u8
     ensures small { result ≤ 3 }
     ensures memory { error_kind error.now ≡ OutOfMemory → result ≡ 3 }
     ensures other { error_kind error.now ≢ OutOfMemory → result ≡ 2 }
-    ensures memory_told { error_kind error.now ≡ OutOfMemory → Tells (E.output errors.old) (E.output errors.new) (run_fault_text RunFault.NoMemory) }
-    ensures other_told { error_kind error.now ≢ OutOfMemory → Tells (E.output errors.old) (E.output errors.new) (codes "rh_desk: a word is not text\n") }
+    ensures memory_told { error_kind error.now ≡ OutOfMemory
+        → Tells (E.output errors.old) (E.output errors.new) (run_fault_text RunFault.NoMemory) }
+    ensures other_told { error_kind error.now ≢ OutOfMemory
+        → Tells (E.output errors.old) (E.output errors.new) (codes "rh_desk: a word is not text\n") }
 {
     let ending = if error.kind() == io::ErrorKind::OutOfMemory {
         ended(Err(RunFault::NoMemory), errors)
@@ -101,12 +109,15 @@ fn run_told<I: Source, O: Sink, E: Sink>(
     requires fresh { (I.input script.old).reads ≡ 0 }
 
     // A run that came to its end.
-    ensures ran { (status : Status) → result ≡ ending_of (Ok status) → Finished (start pages files) (I.input script.old) (I.input script.new) (O.output output.old) (O.output output.new) status }
+    ensures ran { (status : Status) → result ≡ ending_of (Ok status)
+        → Finished (start pages files) (I.input script.old) (I.input script.new) (O.output output.old)
+        (O.output output.new) status }
     ensures well { exit_status result ≤ 1 → (O.output output.new).failed ≡ (O.output output.old).failed }
     ensures run { result ≡ Ending.WrongWords → ⊥ }
     ensures quiet { exit_status result ≤ 1 → E.output errors.new ≡ E.output errors.old }
     ensures over { RunOver (start pages files)
-        (streams (I.input script.old) (I.input script.new) (O.output output.old) (O.output output.new) (E.output errors.old) (E.output errors.new)) result }
+        (streams (I.input script.old) (I.input script.new) (O.output output.old) (O.output output.new)
+        (E.output errors.old) (E.output errors.new)) result }
 {
     ended(run(alloc, files, script, output, pages), errors)
 }
@@ -127,7 +138,8 @@ fn map_told<I: Source, O: Sink, E: Sink>(
     ensures well { exit_status result ≤ 1 → (O.output output.new).failed ≡ (O.output output.old).failed }
     ensures run { result ≡ Ending.WrongWords → ⊥ }
     ensures over { MapOver marked (start pages files)
-        (streams (I.input script.old) (I.input script.new) (O.output output.old) (O.output output.new) (E.output errors.old) (E.output errors.new)) result }
+        (streams (I.input script.old) (I.input script.new) (O.output output.old) (O.output output.new)
+        (E.output errors.old) (E.output errors.new)) result }
 {
     ended(
         draw_map(alloc, files, script, output, pages, marked),
@@ -149,7 +161,8 @@ fn sheet_told<I: Source, O: Sink, E: Sink>(
     ensures well { exit_status result ≤ 1 → (O.output output.new).failed ≡ (O.output output.old).failed }
     ensures run { result ≡ Ending.WrongWords → ⊥ }
     ensures over { SheetOver marked (name_of_sheet request.now.script.now) (start request.now.pages files)
-        (streams (I.input script.old) (I.input script.new) (O.output output.old) (O.output output.new) (E.output errors.old) (E.output errors.new)) result }
+        (streams (I.input script.old) (I.input script.new) (O.output output.old) (O.output output.new)
+        (E.output errors.old) (E.output errors.new)) result }
 {
     let name = sheet_name(request.script);
     let pages = request.pages;
@@ -186,7 +199,8 @@ fn show_told<I: Source, O: Sink, E: Sink>(
     ensures well { exit_status result ≤ 1 → (O.output output.new).failed ≡ (O.output output.old).failed }
     ensures run { result ≡ Ending.WrongWords → ⊥ }
     ensures over { ShownOver request.now.shown request.now.script.now (start request.now.pages files)
-        (streams (I.input script.old) (I.input script.new) (O.output output.old) (O.output output.new) (E.output errors.old) (E.output errors.new)) result }
+        (streams (I.input script.old) (I.input script.new) (O.output output.old) (O.output output.new)
+        (E.output errors.old) (E.output errors.new)) result }
 {
     match request.shown {
         Shown::Replies => run_told(alloc, files, request.pages, script, output, errors),
@@ -211,7 +225,8 @@ fn run_words<R: rt::Files, I: Source, O: Sink, E: Sink>(
     ensures well { exit_status result ≤ 1 → (O.output output.new).failed ≡ (O.output output.old).failed }
     ensures wrong { result ≡ Ending.WrongWords → O.output output.new ≡ O.output output.old }
     ensures ends { WordsEnd R.File.remaining (map string_bytes words.now)
-        (streams (I.input input.old) (I.input input.new) (O.output output.old) (O.output output.new) (E.output errors.old) (E.output errors.new)) result }
+        (streams (I.input input.old) (I.input input.new) (O.output output.old) (O.output output.new)
+        (E.output errors.old) (E.output errors.new)) result }
 {
     let matches = match parsed(alloc, words) {
         Ok(matches) => matches,
@@ -228,8 +243,8 @@ fn run_words<R: rt::Files, I: Source, O: Sink, E: Sink>(
     }
 }
 
-/// Looks over the NAME=PATH words, reads their files, and runs the script from its file, or the input for `-`, or writes
-/// its map or its sheet.
+/// Looks over the NAME=PATH words, reads their files, and runs the script from its file, or the input for `-`, or
+/// writes its map or its sheet.
 fn run_request<R: rt::Files, I: Source, O: Sink, E: Sink>(
     runtime: &R,
     alloc: Global,
@@ -241,8 +256,10 @@ fn run_request<R: rt::Files, I: Source, O: Sink, E: Sink>(
     requires { (I.input input.old).reads ≡ 0 }
     ensures well { exit_status result ≤ 1 → (O.output output.new).failed ≡ (O.output output.old).failed }
     ensures wrong { result ≡ Ending.WrongWords → O.output output.new ≡ O.output output.old }
-    ensures ends { RunEnds R.File.remaining request.now.shown request.now.pages request.now.script.now (map (λ word. word.now) request.now.files.now)
-        (streams (I.input input.old) (I.input input.new) (O.output output.old) (O.output output.new) (E.output errors.old) (E.output errors.new)) result }
+    ensures ends { RunEnds R.File.remaining request.now.shown request.now.pages request.now.script.now
+        (map (λ word. word.now) request.now.files.now)
+        (streams (I.input input.old) (I.input input.new) (O.output output.old) (O.output output.new)
+        (E.output errors.old) (E.output errors.new)) result }
 {
     if let Err(ending) = check_words(alloc, request.files, errors) {
         return ending;
@@ -278,7 +295,8 @@ fn check_file<R: rt::Files, O: Sink, E: Sink>(
     ensures well { exit_status result ≤ 1 → (O.output output.new).failed ≡ (O.output output.old).failed }
     ensures run { result ≡ Ending.WrongWords → ⊥ }
     ensures ends { (before : Input) → CheckEnds R.File.remaining kind path.now
-        (streams before before (O.output output.old) (O.output output.new) (E.output errors.old) (E.output errors.new)) result }
+        (streams before before (O.output output.old) (O.output output.new) (E.output errors.old)
+        (E.output errors.new)) result }
 {
     match read_whole(runtime, alloc, path, errors) {
         Ok(bytes) => ended(check_bytes(kind, bytes.as_slice(), output), errors),
@@ -290,7 +308,8 @@ fn check_file<R: rt::Files, O: Sink, E: Sink>(
 fn check_bytes<O: Sink>(kind: ImageKind, bytes: &[u8], output: &mut O) -> Result<Status, RunFault>
     ensures ok { IfOk result (λ status. Takes (O.output output.old) (O.output output.new) (line_as kind bytes.now)) }
     ensures status { IfOk result (λ status. status ≡ status_as kind bytes.now) }
-    ensures err { IfErr result (λ fault. (fault ≡ RunFault.WriteFailed) × Breaks (O.output output.old) (O.output output.new) (line_as kind bytes.now)) }
+    ensures err { IfErr result (λ fault. (fault ≡ RunFault.WriteFailed) × Breaks (O.output output.old)
+        (O.output output.new) (line_as kind bytes.now)) }
 {
     match kind {
         ImageKind::Heap => check_image(bytes, output),

@@ -3,7 +3,9 @@
 ghost use Rattle.std.specs.Prelude.{◌≡◌, ◌≤◌, ◌<◌, ◌+◌, ◌/◌, ◌^◌, [], ◌∷◌, length};
 ghost use Rattle.rh_draw.specs.DrawArrows.{change_of};
 ghost use Rattle.rh_lines.specs.Flow.{Puts};
-ghost use Rattle.rh_sheet.specs.Arrows.{arc_way as way_of_arc, arrow_text, arrow_way as way_of_arrow, block_place as place_of_block, bow_way as way_of_bow, ghost_way as way_of_ghost, place_x as x_of_place, slide_arrow};
+ghost use Rattle.rh_sheet.specs.Arrows.{arc_way as way_of_arc, arrow_text, arrow_way as way_of_arrow};
+ghost use Rattle.rh_sheet.specs.Arrows.{block_place as place_of_block, bow_way as way_of_bow};
+ghost use Rattle.rh_sheet.specs.Arrows.{ghost_way as way_of_ghost, place_x as x_of_place, slide_arrow};
 
 use crate::frames::{row_of, row_y};
 use crate::markup::{add_point, add_stretch, print_path};

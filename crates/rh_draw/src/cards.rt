@@ -5,7 +5,8 @@ ghost use Rattle.rh_draw.specs.DrawCards.{drawn_card, kind_of};
 ghost use Rattle.rh_draw.specs.Inner.CardClasses.{classes_of_card};
 ghost use Rattle.rh_figure.specs.declared.limits.TheConstants.{MOST_CARDS};
 ghost use Rattle.rh_lines.specs.Flow.{Puts};
-ghost use Rattle.rh_sheet.specs.SheetCards.{card_box, card_line_text, card_text, card_x as x_of_card, high_card_text, high_card_y as y_of_high_card, low_card_text};
+ghost use Rattle.rh_sheet.specs.SheetCards.{card_box, card_line_text, card_text, card_x as x_of_card, high_card_text};
+ghost use Rattle.rh_sheet.specs.SheetCards.{high_card_y as y_of_high_card, low_card_text};
 ghost use Rattle.rh_sheet.specs.Markup.{box_text};
 
 use crate::boxes::{Extent, print_box, print_words};

@@ -3,7 +3,12 @@
 ghost use Rattle.std.specs.Prelude.{◌≡◌, ◌≤◌, ◌/◌, ◌++◌, codes, length, max, take};
 ghost use Rattle.rh_draw.specs.declared.chart.TheConstants.{FARTHEST};
 ghost use Rattle.rh_lines.specs.Flow.{Puts};
-ghost use Rattle.rh_sheet.specs.Chart.{beat_text, life_class as class_of_life, life_text, line_way as way_of_line, loop_way as way_of_loop, message_class as class_of_message, message_way as way_of_message, message_words, side_letters as letters_of_side, stub_way as way_of_stub, tip_x as x_of_tip, words_aside as aside_of_words, words_class as class_of_words, words_down as down_of_words, words_x as x_of_words};
+ghost use Rattle.rh_sheet.specs.Chart.{beat_text, life_class as class_of_life, life_text, line_way as way_of_line};
+ghost use Rattle.rh_sheet.specs.Chart.{loop_way as way_of_loop, message_class as class_of_message};
+ghost use Rattle.rh_sheet.specs.Chart.{message_way as way_of_message, message_words, side_letters as letters_of_side};
+ghost use Rattle.rh_sheet.specs.Chart.{stub_way as way_of_stub, tip_x as x_of_tip, words_aside as aside_of_words};
+ghost use Rattle.rh_sheet.specs.Chart.{words_class as class_of_words, words_down as down_of_words};
+ghost use Rattle.rh_sheet.specs.Chart.{words_x as x_of_words};
 ghost use Rattle.rh_sheet.specs.Markup.{path_text, point_text, stretch_text, words_text};
 ghost use Rattle.rh_sheet.specs.declared.sizes.TheConstants.{LETTER_UNITS, LIFE_TOP, NAME_Y, STUB_ASIDE, WORDS_DOWN};
 

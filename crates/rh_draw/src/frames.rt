@@ -2,7 +2,9 @@
 
 ghost use Rattle.std.specs.Prelude.{◌≡◌, ◌≤◌, ◌<◌, ◌^◌};
 ghost use Rattle.rh_figure.specs.declared.limits.TheConstants.{MOST_ROWS};
-ghost use Rattle.rh_sheet.specs.Frames.{band_height as band_height_of, frame_height as height_of, page_in as page_in_row, frame_row as row_of_page, row_y as row_y_of, rows_foot as foot_of, rows_top as top_of, shown_rows as shown_rows_of};
+ghost use Rattle.rh_sheet.specs.Frames.{band_height as band_height_of, frame_height as height_of};
+ghost use Rattle.rh_sheet.specs.Frames.{page_in as page_in_row, frame_row as row_of_page, row_y as row_y_of};
+ghost use Rattle.rh_sheet.specs.Frames.{rows_foot as foot_of, rows_top as top_of, shown_rows as shown_rows_of};
 
 use rh_figure::limits::{EDGE_ROWS, MOST_CARDS, MOST_ROWS};
 use rh_sheet::Frame;

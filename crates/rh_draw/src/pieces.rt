@@ -12,7 +12,11 @@ ghost use Rattle.rh_lines.specs.declared.row.TheConstants.{ROW};
 ghost use Rattle.rh_figure.specs.Phrases.{where_so};
 ghost use Rattle.rh_sheet.specs.declared.sizes.TheConstants.{ROW_WIDTH, SHORT_EDGE, UNIT_BYTES};
 ghost use Rattle.rh_sheet.specs.Markup.{box_text};
-ghost use Rattle.rh_sheet.specs.SheetPieces.{fitting as fitting_label, has_room as has_room_for, high_in as high_byte_in, is_tinted as is_tinted_kind, kind_class as class_of_kind, label_of, low_in as low_byte_in, piece_box, piece_classes, piece_label, piece_text, piece_width as width_of_piece, piece_x as x_of_piece, pieces_text, short_label_of, sized_at, tip_of};
+ghost use Rattle.rh_sheet.specs.SheetPieces.{fitting as fitting_label, has_room as has_room_for};
+ghost use Rattle.rh_sheet.specs.SheetPieces.{high_in as high_byte_in, is_tinted as is_tinted_kind};
+ghost use Rattle.rh_sheet.specs.SheetPieces.{kind_class as class_of_kind, label_of, low_in as low_byte_in, piece_box};
+ghost use Rattle.rh_sheet.specs.SheetPieces.{piece_classes, piece_label, piece_text, piece_width as width_of_piece};
+ghost use Rattle.rh_sheet.specs.SheetPieces.{piece_x as x_of_piece, pieces_text, short_label_of, sized_at, tip_of};
 
 use crate::boxes::{Extent, print_box, print_words};
 use crate::tints::{Tint, add_tint};

@@ -7,7 +7,9 @@ ghost use Rattle.rh_draw.specs.declared.boxes.TheConstants.{LONGEST_CLASS};
 ghost use Rattle.rh_lines.specs.Flow.{Puts};
 ghost use Rattle.rh_lines.specs.declared.row.TheConstants.{ROW};
 ghost use Rattle.rh_sheet.specs.Markup.{box_text, words_text};
-ghost use Rattle.rh_sheet.specs.Pool.{cell_x as x_of_cell, cell_y as y_of_cell, free_text, grid_box, grid_text, number_text, pool_side, rest_row_text, some_squares, square_way, squares_begin, squares_text, tag_text, whole_rows_text};
+ghost use Rattle.rh_sheet.specs.Pool.{cell_x as x_of_cell, cell_y as y_of_cell, free_text, grid_box, grid_text};
+ghost use Rattle.rh_sheet.specs.Pool.{number_text, pool_side, rest_row_text, some_squares, square_way, squares_begin};
+ghost use Rattle.rh_sheet.specs.Pool.{squares_text, tag_text, whole_rows_text};
 ghost use Rattle.rh_sheet.specs.declared.sizes.TheConstants.{POOL_NOTE_Y};
 
 use crate::attributes::add_text_attribute;

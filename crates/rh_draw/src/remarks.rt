@@ -3,7 +3,10 @@
 ghost use Rattle.std.specs.Prelude.{◌≡◌, ◌≤◌, length, map};
 ghost use Rattle.rh_lines.specs.Flow.{Puts};
 ghost use Rattle.rh_sheet.specs.Markup.{escape};
-ghost use Rattle.rh_sheet.specs.SheetSteps.{remark_byte as remark_byte_of, remark_class as remark_class_of, remark_of, remark_text, remark_words as remark_words_of, sign_length as length_of_sign, some_remark, stripped as stripped_of, without_indent};
+ghost use Rattle.rh_sheet.specs.SheetSteps.{remark_byte as remark_byte_of, remark_class as remark_class_of, remark_of};
+ghost use Rattle.rh_sheet.specs.SheetSteps.{remark_text, remark_words as remark_words_of};
+ghost use Rattle.rh_sheet.specs.SheetSteps.{sign_length as length_of_sign, some_remark, stripped as stripped_of};
+ghost use Rattle.rh_sheet.specs.SheetSteps.{without_indent};
 
 use crate::escape::put_escaped;
 use rh_lines::{Sink, WriteFailed, put};

@@ -11,7 +11,8 @@ ghost use Rattle.rh_draw.specs.Tints.{tint_class};
 ghost use Rattle.rh_lines.specs.Flow.{Puts};
 ghost use Rattle.rh_sheet.specs.Frames.{shown_rows as shown_rows_of};
 ghost use Rattle.rh_sheet.specs.Markup.{box_text, words_text};
-ghost use Rattle.rh_sheet.specs.SheetRows.{addressed_text, chip_box, chip_text, gap_text, page_box, page_row_text, row_text, rows_text};
+ghost use Rattle.rh_sheet.specs.SheetRows.{addressed_text, chip_box, chip_text, gap_text, page_box, page_row_text};
+ghost use Rattle.rh_sheet.specs.SheetRows.{row_text, rows_text};
 ghost use Rattle.rh_sheet.specs.declared.sizes.TheConstants.{BASELINE, CHIP_LEFT, CHIP_WIDTH};
 
 use crate::boxes::{Extent, print_box, print_words};

@@ -5,7 +5,8 @@ ghost use Rattle.std.specs.List.{flat_map, range_with_len};
 ghost use Rattle.rh_defs.specs.declared.sizes.TheConstants.{MAX_PAGES};
 ghost use Rattle.rh_lines.specs.Flow.{Puts};
 ghost use Rattle.rh_sheet.specs.Fixed.{key_text, signs_text, style_text};
-ghost use Rattle.rh_sheet.specs.Sheet.{left_text, links_begin, numbered_link, shared_text, sheet_foot, sheet_head, title_text};
+ghost use Rattle.rh_sheet.specs.Sheet.{left_text, links_begin, numbered_link, shared_text, sheet_foot, sheet_head};
+ghost use Rattle.rh_sheet.specs.Sheet.{title_text};
 ghost use Rattle.rh_sheet.specs.declared.sizes.TheConstants.{MOST_STEPS};
 
 use crate::links::print_numbered_link;

@@ -7,7 +7,8 @@ ghost use Rattle.rh_figure.specs.declared.limits.TheConstants.{LINE_COLUMNS};
 ghost use Rattle.rh_lines.specs.Flow.{Puts};
 ghost use Rattle.rh_lines.specs.declared.row.TheConstants.{ROW};
 ghost use Rattle.rh_map.specs.Replies.{excerpt_lines};
-ghost use Rattle.rh_sheet.specs.SheetSteps.{back_link, command_head, command_text, last_figure, said_text, step_open, still_text};
+ghost use Rattle.rh_sheet.specs.SheetSteps.{back_link, command_head, command_text, last_figure, said_text, step_open};
+ghost use Rattle.rh_sheet.specs.SheetSteps.{still_text};
 
 use crate::escape::put_between;
 use crate::links::add_step_link;

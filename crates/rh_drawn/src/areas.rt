@@ -42,7 +42,8 @@ fn print_fixed<S: Sight, W: Sink>(
     requires step { IsStepOf (S.desk sight.now) step.now }
     requires number { number < FIXED_AREAS }
     ensures { Puts (W.output writer.old) (W.output writer.new) result
-        (shown_lines (panel_part (fixed_panel (scene_at (S.desk sight.now) step.now) (number, slice_index (S.desk sight.now).areas number)))) }
+        (shown_lines (panel_part (fixed_panel (scene_at (S.desk sight.now) step.now)
+        (number, slice_index (S.desk sight.now).areas number)))) }
 {
     sight.spelled();
     if number == MODULE_AREA || sight.fixed_pages(number) == 0 {

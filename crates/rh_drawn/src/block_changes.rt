@@ -1,13 +1,15 @@
 //! What has changed of the flex blocks of the task that the command names.
 
-ghost use Rattle.std.specs.Prelude.{◌≡◌, ◌≤◌, ◌<◌, [], ◌∷◌, ◌++◌, IfSome, List, filter, flat_map, if◌then◌else◌, length, map, not};
+ghost use Rattle.std.specs.Prelude.{◌≡◌, ◌≤◌, ◌<◌, [], ◌∷◌, ◌++◌, IfSome, List, filter, flat_map, if◌then◌else◌};
+ghost use Rattle.std.specs.Prelude.{length, map, not};
 ghost use Rattle.rh_defs.specs.Desk.{task_at};
 ghost use Rattle.rh_defs.specs.declared.question.BlockItem.{BlockItem};
 ghost use Rattle.rh_defs.specs.declared.sizes.TheConstants.{ANCHORS};
 ghost use Rattle.rh_drawn.specs.Parts.{block_part, indented, slide_part};
 ghost use Rattle.rh_drawn.specs.DrawnSlides.{summary_of};
 ghost use Rattle.rh_drawn.specs.Inner.SlidesSeen.{from_seen, with_one};
-ghost use Rattle.rh_figure.specs.Changes.{Slide, block_change, gone_line, has_anchor as has_anchor_in, item_with_anchor, slide_change, slide_of};
+ghost use Rattle.rh_figure.specs.Changes.{Slide, block_change, gone_line, has_anchor as has_anchor_in};
+ghost use Rattle.rh_figure.specs.Changes.{item_with_anchor, slide_change, slide_of};
 ghost use Rattle.rh_lines.specs.Flow.{Puts};
 ghost use Rattle.rh_map.specs.Written.{shown_lines};
 ghost use Rattle.rh_sight.specs.Steps.{scene_at};
@@ -28,7 +30,8 @@ pub fn print_block_part<S: Sight, W: Sink>(
     writer: &mut W,
 ) -> Result<(), WriteFailed>
     ensures { let x = scene_at (S.desk sight.now) step.now in
-        Puts (W.output writer.old) (W.output writer.new) result (shown_lines (block_part x (task_at x.before.handle x.desk) ++ slide_part x)) }
+        Puts (W.output writer.old) (W.output writer.new) result
+        (shown_lines (block_part x (task_at x.before.handle x.desk) ++ slide_part x)) }
 {
     let Some(i) = task_with(sight, step.kept.handle()) else {
         return Ok(());
@@ -46,7 +49,8 @@ fn print_gone<W: Sink>(
     writer: &mut W,
 ) -> Result<(), WriteFailed>
     ensures { Puts (W.output writer.old) (W.output writer.new) result
-        (shown_lines (indented (map (λ (b : BlockItem). gone_line b.anchor) (filter (λ (b : BlockItem). not (has_anchor_in b.anchor now.now)) before.now)))) }
+        (shown_lines (indented (map (λ (b : BlockItem). gone_line b.anchor)
+        (filter (λ (b : BlockItem). not (has_anchor_in b.anchor now.now)) before.now)))) }
 {
     for block in before {
         print_if_gone(now, block, writer)?;
@@ -61,7 +65,8 @@ fn print_if_gone<W: Sink>(
     writer: &mut W,
 ) -> Result<(), WriteFailed>
     ensures { Puts (W.output writer.old) (W.output writer.new) result
-        (shown_lines (indented (if has_anchor_in block.now.anchor now.now then [] else gone_line block.now.anchor ∷ []))) }
+        (shown_lines (indented (if has_anchor_in block.now.anchor now.now then [] else gone_line block.now.anchor
+        ∷ []))) }
 {
     if has_anchor(now, block) {
         return Ok(());
@@ -79,7 +84,8 @@ pub fn has_anchor(blocks: &[BlockItem], block: &BlockItem) -> bool
 /// Writes which of the blocks are new, and which had another size.
 fn print_now<W: Sink>(kept: &Kept, blocks: &[BlockItem], writer: &mut W) -> Result<(), WriteFailed>
     ensures { Puts (W.output writer.old) (W.output writer.new) result
-        (shown_lines (indented (flat_map (λ (b : BlockItem). block_change b (item_with_anchor b.anchor kept.now.blocks)) blocks.now))) }
+        (shown_lines (indented (flat_map
+        (λ (b : BlockItem). block_change b (item_with_anchor b.anchor kept.now.blocks)) blocks.now))) }
 {
     for block in blocks {
         print_change(kept, block, writer)?;
@@ -117,7 +123,8 @@ fn print_slides<W: Sink>(
 ) -> Result<(), WriteFailed>
     requires { length blocks.now ≤ ANCHORS }
     ensures { Puts (W.output writer.old) (W.output writer.new) result
-        (shown_lines (indented (slide_change (flat_map (λ (b : BlockItem). slide_of b (item_with_anchor b.anchor kept.now.blocks)) blocks.now)))) }
+        (shown_lines (indented (slide_change
+        (flat_map (λ (b : BlockItem). slide_of b (item_with_anchor b.anchor kept.now.blocks)) blocks.now)))) }
 {
     match find_slid(kept, blocks) {
         Some(slid) => print_slide(slid.count, slid.from, slid.to, writer),
@@ -128,7 +135,8 @@ fn print_slides<W: Sink>(
 /// The blocks that lie elsewhere now, if there are some.
 pub fn find_slid(kept: &Kept, blocks: &[BlockItem]) -> Option<Slid>
     requires { length blocks.now ≤ ANCHORS }
-    ensures { result ≡ summary_of (flat_map (λ (b : BlockItem). slide_of b (item_with_anchor b.anchor kept.now.blocks)) blocks.now) }
+    ensures { result ≡ summary_of (flat_map
+        (λ (b : BlockItem). slide_of b (item_with_anchor b.anchor kept.now.blocks)) blocks.now) }
 {
     let mut found = None;
     for block in blocks {
@@ -140,7 +148,8 @@ pub fn find_slid(kept: &Kept, blocks: &[BlockItem]) -> Option<Slid>
 /// The same blocks, and this one if it lies elsewhere now.
 fn with_block(found: Option<Slid>, kept: &Kept, block: &BlockItem) -> Option<Slid>
     requires { IfSome found (λ slid. slid.count < ANCHORS) }
-    ensures { (slides : List Slide) → found ≡ summary_of slides → result ≡ summary_of (slides ++ slide_of block.now (item_with_anchor block.now.anchor kept.now.blocks)) }
+    ensures { (slides : List Slide) → found ≡ summary_of slides → result
+        ≡ summary_of (slides ++ slide_of block.now (item_with_anchor block.now.anchor kept.now.blocks)) }
 {
     match slid_from(kept, block) {
         Some(from) => Some(one_more(found, from, block.address)),

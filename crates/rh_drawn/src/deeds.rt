@@ -58,7 +58,8 @@ pub fn step_of<'a, S: Sight>(
     pages: &'a PageList,
 ) -> Step<'a>
     ensures kept { result.kept.now ≡ kept.now }
-    ensures marks { marks_seen result.marks ≡ marks_of (S.desk sight.now) kept.now (option_map (λ c. c.now) command.entry) reply.now }
+    ensures marks { marks_seen result.marks ≡ marks_of (S.desk sight.now) kept.now (option_map
+        (λ c. c.now) command.entry) reply.now }
     ensures messages { result.messages.now ≡ messages.now.items }
     ensures few { length result.messages.now ≤ most_messages }
     ensures pages { result.pages.now ≡ pages.now.items }

@@ -32,9 +32,11 @@ pub fn print_flex_cards<S: Sight, W: Sink>(
     blocks: &[BlockItem],
     writer: &mut W,
 ) -> Result<(), WriteFailed>
-    requires task { (t : Task) × (slice_get (S.desk sight.now).tasks i ≡ Some t) × IsTaskSeen task.now t × (blocks.now ≡ block_items t.slot) }
+    requires task { (t : Task) × (slice_get (S.desk sight.now).tasks i ≡ Some t) × IsTaskSeen task.now t
+        × (blocks.now ≡ block_items t.slot) }
     requires few { length blocks.now ≤ anchor_count }
-    ensures { (t : Task) → slice_get (S.desk sight.now).tasks i ≡ Some t → Puts (W.output writer.old) (W.output writer.new) result
+    ensures { (t : Task) → slice_get (S.desk sight.now).tasks i ≡ Some t
+        → Puts (W.output writer.old) (W.output writer.new) result
         (shown_lines (card_lines (shown_cards (flex_cards (scene_at (S.desk sight.now) step.now) t)))) }
 {
     let shown = shown_count(blocks.len());
@@ -55,9 +57,11 @@ fn print_first<S: Sight, W: Sink>(
     shown: usize,
     writer: &mut W,
 ) -> Result<(), WriteFailed>
-    requires task { (t : Task) × (slice_get (S.desk sight.now).tasks i ≡ Some t) × IsTaskSeen task.now t × (blocks.now ≡ block_items t.slot) }
+    requires task { (t : Task) × (slice_get (S.desk sight.now).tasks i ≡ Some t) × IsTaskSeen task.now t
+        × (blocks.now ≡ block_items t.slot) }
     requires few { shown ≤ length blocks.now }
-    ensures { (t : Task) → slice_get (S.desk sight.now).tasks i ≡ Some t → Puts (W.output writer.old) (W.output writer.new) result
+    ensures { (t : Task) → slice_get (S.desk sight.now).tasks i ≡ Some t
+        → Puts (W.output writer.old) (W.output writer.new) result
         (shown_lines (card_lines (take shown (flex_cards (scene_at (S.desk sight.now) step.now) t)))) }
 {
     for k in 0..shown {
@@ -75,10 +79,12 @@ fn print_behind<S: Sight, W: Sink>(
     blocks: &[BlockItem],
     writer: &mut W,
 ) -> Result<(), WriteFailed>
-    requires task { (t : Task) × (slice_get (S.desk sight.now).tasks i ≡ Some t) × IsTaskSeen task.now t × (blocks.now ≡ block_items t.slot) }
+    requires task { (t : Task) × (slice_get (S.desk sight.now).tasks i ≡ Some t) × IsTaskSeen task.now t
+        × (blocks.now ≡ block_items t.slot) }
     requires many { 24 < length blocks.now }
     requires few { length blocks.now ≤ anchor_count }
-    ensures { (t : Task) → slice_get (S.desk sight.now).tasks i ≡ Some t → Puts (W.output writer.old) (W.output writer.new) result
+    ensures { (t : Task) → slice_get (S.desk sight.now).tasks i ≡ Some t
+        → Puts (W.output writer.old) (W.output writer.new) result
         (shown_lines (card_lines (cards_behind (flex_cards (scene_at (S.desk sight.now) step.now) t)))) }
 {
     let shown = MOST_CARDS - 2;
@@ -99,7 +105,8 @@ pub fn next_fresh(
     from: usize,
 ) -> Option<usize>
     requires { from ≤ length blocks.now }
-    ensures { (d : Desk) → result ≡ place_behind (λ (b : BlockItem). is_fresh_flex_in (scene_at d step.now) task.now.handle b.anchor b.size) from blocks.now }
+    ensures { (d : Desk) → result ≡ place_behind (λ (b : BlockItem). is_fresh_flex_in
+        (scene_at d step.now) task.now.handle b.anchor b.size) from blocks.now }
 {
     for k in from..blocks.len() {
         let block = &blocks[k];
@@ -119,8 +126,11 @@ fn print_flex<S: Sight, W: Sink>(
     block: &BlockItem,
     writer: &mut W,
 ) -> Result<(), WriteFailed>
-    requires { (t : Task) × (k : ℕ) × (slice_get (S.desk sight.now).tasks i ≡ Some t) × IsTaskSeen task.now t × (slice_get (block_items t.slot) k ≡ Some block.now) }
-    ensures { (t : Task) (k : ℕ) (c : Card) → slice_get (S.desk sight.now).tasks i ≡ Some t → slice_get (block_items t.slot) k ≡ Some block.now → slice_get (flex_cards (scene_at (S.desk sight.now) step.now) t) k ≡ Some c →
+    requires { (t : Task) × (k : ℕ) × (slice_get (S.desk sight.now).tasks i ≡ Some t) × IsTaskSeen task.now t
+        × (slice_get (block_items t.slot) k ≡ Some block.now) }
+    ensures { (t : Task) (k : ℕ) (c : Card) → slice_get (S.desk sight.now).tasks i ≡ Some t
+        → slice_get (block_items t.slot) k ≡ Some block.now → slice_get (flex_cards
+        (scene_at (S.desk sight.now) step.now) t) k ≡ Some c →
         Puts (W.output writer.old) (W.output writer.new) result (shown_lines (card_lines (c ∷ []))) }
 {
     let mut front = [0; CARD_BYTES];

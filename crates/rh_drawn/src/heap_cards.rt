@@ -1,6 +1,7 @@
 //! The cards of a heap's blocks and holes, and of messages.
 
-ghost use Rattle.std.specs.Prelude.{◌≡◌, ◌≤◌, ◌<◌, ◌+◌, ◌-◌, ◌^◌, ◌==◌, ◌&&◌, ◌∷◌, [], ℕ, IfSome, List, find, if◌then◌else◌, length, nat_le, take, None, Some};
+ghost use Rattle.std.specs.Prelude.{◌≡◌, ◌≤◌, ◌<◌, ◌+◌, ◌-◌, ◌^◌, ◌==◌, ◌&&◌, ◌∷◌, [], ℕ, IfSome, List, find};
+ghost use Rattle.std.specs.Prelude.{if◌then◌else◌, length, nat_le, take, None, Some};
 ghost use Rattle.std.specs.List.{AllByRecursion};
 ghost use Rattle.rh_defs.specs.Desk.{Desk};
 ghost use Rattle.rh_defs.specs.Heap.{Segment};
@@ -8,7 +9,8 @@ ghost use Rattle.rh_defs.specs.Questions.{segment_item};
 ghost use Rattle.rh_defs.specs.Messages.{Parcel};
 ghost use Rattle.rh_defs.specs.Records.{is_buffer_of};
 ghost use Rattle.rh_defs.specs.declared.sizes.TheConstants.{MODULE_START};
-ghost use Rattle.rh_drawn.specs.Bands.{IsBandOf, IsSurvey, band_card, band_cards, is_fresh_card, is_fresh_used, place_seen, with_item, with_items};
+ghost use Rattle.rh_drawn.specs.Bands.{IsBandOf, IsSurvey, band_card, band_cards, is_fresh_card, is_fresh_used};
+ghost use Rattle.rh_drawn.specs.Bands.{place_seen, with_item, with_items};
 ghost use Rattle.rh_drawn.specs.Inner.BandItems.{HasSegment, IsItemOf};
 ghost use Rattle.rh_drawn.specs.DrawnCards.{card_lines};
 ghost use Rattle.rh_drawn.specs.Inner.CardsBehind.{cards_behind};
@@ -65,8 +67,10 @@ pub fn print_heap_cards<S: Sight, W: Sink>(
 ) -> Result<(), WriteFailed>
     requires step { IsStepOf (S.desk sight.now) step.now }
     requires band { IsBandOf (S.desk sight.now) band.now }
-    ensures { IfSome (heap_seen band.now.heap (S.desk sight.now)) (λ h. Puts (W.output writer.old) (W.output writer.new) result
-        (shown_lines (card_lines (shown_cards (band_cards (scene_at (S.desk sight.now) step.now) (S.desk sight.now) band.now h))))) }
+    ensures { IfSome (heap_seen band.now.heap (S.desk sight.now))
+        (λ h. Puts (W.output writer.old) (W.output writer.new) result
+        (shown_lines (card_lines (shown_cards
+        (band_cards (scene_at (S.desk sight.now) step.now) (S.desk sight.now) band.now h))))) }
 {
     sight.spelled();
     let survey = take_survey(sight, step, band);
@@ -90,8 +94,10 @@ fn print_first<S: Sight, W: Sink>(
     requires band { IsBandOf (S.desk sight.now) band.now }
     requires few { shown ≤ MOST_CARDS }
     requires there { IfSome (heap_seen band.now.heap (S.desk sight.now)) (λ h. shown ≤ length h.segments) }
-    ensures { IfSome (heap_seen band.now.heap (S.desk sight.now)) (λ h. Puts (W.output writer.old) (W.output writer.new) result
-        (shown_lines (card_lines (take shown (band_cards (scene_at (S.desk sight.now) step.now) (S.desk sight.now) band.now h))))) }
+    ensures { IfSome (heap_seen band.now.heap (S.desk sight.now))
+        (λ h. Puts (W.output writer.old) (W.output writer.new) result
+        (shown_lines (card_lines (take shown
+        (band_cards (scene_at (S.desk sight.now) step.now) (S.desk sight.now) band.now h))))) }
 {
     let items = sight.segments(band.heap, HEAP_FIRST as u32);
     let first = items.as_slice();
@@ -113,9 +119,12 @@ fn print_behind<S: Sight, W: Sink>(
     requires band { IsBandOf (S.desk sight.now) band.now }
     requires many { MOST_CARDS < survey.now.count }
     requires few { survey.now.count < 2 ^ 32 }
-    requires survey { IfSome (heap_seen band.now.heap (S.desk sight.now)) (λ h. IsSurvey (scene_at (S.desk sight.now) step.now) band.now h survey.now) }
-    ensures { IfSome (heap_seen band.now.heap (S.desk sight.now)) (λ h. Puts (W.output writer.old) (W.output writer.new) result
-        (shown_lines (card_lines (cards_behind (band_cards (scene_at (S.desk sight.now) step.now) (S.desk sight.now) band.now h))))) }
+    requires survey { IfSome (heap_seen band.now.heap (S.desk sight.now))
+        (λ h. IsSurvey (scene_at (S.desk sight.now) step.now) band.now h survey.now) }
+    ensures { IfSome (heap_seen band.now.heap (S.desk sight.now))
+        (λ h. Puts (W.output writer.old) (W.output writer.new) result
+        (shown_lines (card_lines (cards_behind
+        (band_cards (scene_at (S.desk sight.now) step.now) (S.desk sight.now) band.now h))))) }
 {
     let behind = survey.count as usize - (MOST_CARDS - 2);
     match survey.fresh {
@@ -131,7 +140,8 @@ fn print_behind<S: Sight, W: Sink>(
 pub fn take_survey<S: Sight>(sight: &S, step: &Step<'_>, band: &Band<'_>) -> Survey
     requires step { IsStepOf (S.desk sight.now) step.now }
     requires band { IsBandOf (S.desk sight.now) band.now }
-    ensures { IfSome (heap_seen band.now.heap (S.desk sight.now)) (λ h. IsSurvey (scene_at (S.desk sight.now) step.now) band.now h result) }
+    ensures { IfSome (heap_seen band.now.heap (S.desk sight.now))
+        (λ h. IsSurvey (scene_at (S.desk sight.now) step.now) band.now h result) }
 {
     sight.spelled();
     let mut place = HEAP_FIRST as u32;
@@ -152,7 +162,8 @@ pub fn take_survey<S: Sight>(sight: &S, step: &Step<'_>, band: &Band<'_>) -> Sur
 fn surveyed(step: &Step<'_>, band: &Band<'_>, items: &[SegmentItem], mut survey: Survey) -> Survey
     requires few { survey.count + length items.now < 2 ^ 32 }
     requires items { AllByRecursion (IsInArea band.now.heap) items.now }
-    ensures { (d : Desk) → IsStepOf d step.now → result ≡ with_items (is_fresh_card (scene_at d step.now) band.now) items.now survey }
+    ensures { (d : Desk) → IsStepOf d step.now → result ≡ with_items (is_fresh_card
+        (scene_at d step.now) band.now) items.now survey }
 {
     for item in items {
         survey = noted(step, band, item, survey);
@@ -165,7 +176,8 @@ fn noted(step: &Step<'_>, band: &Band<'_>, item: &SegmentItem, survey: Survey) -
     requires few { survey.count + 1 < 2 ^ 32 }
     requires item { IsInArea band.now.heap item.now }
     ensures count { result.count ≡ survey.count + 1 }
-    ensures survey { (d : Desk) → IsStepOf d step.now → result ≡ with_item item.now (is_fresh_card (scene_at d step.now) band.now item.now) survey }
+    ensures survey { (d : Desk) → IsStepOf d step.now → result
+        ≡ with_item item.now (is_fresh_card (scene_at d step.now) band.now item.now) survey }
 {
     let count = survey.count + 1;
     match survey.fresh {
@@ -188,7 +200,8 @@ fn first_fresh(
     below: u32,
 ) -> Option<SegmentItem>
     requires { IsInArea band.now.heap item.now }
-    ensures { (d : Desk) → IsStepOf d step.now → result ≡ (if nat_le (MOST_CARDS - 2) below && is_fresh_card (scene_at d step.now) band.now item.now then Some item.now else None) }
+    ensures { (d : Desk) → IsStepOf d step.now → result ≡ (if nat_le (MOST_CARDS - 2) below && is_fresh_card
+        (scene_at d step.now) band.now item.now then Some item.now else None) }
 {
     if (below as usize) < MOST_CARDS - 2 || !is_fresh(step, band, item) {
         return None;
@@ -231,10 +244,13 @@ fn print_segment<S: Sight, W: Sink>(
 ) -> Result<(), WriteFailed>
     requires step { IsStepOf (S.desk sight.now) step.now }
     requires band { IsBandOf (S.desk sight.now) band.now }
-    requires segment { (place : ℕ) × (segment : Segment) × HasSegment (heap_seen band.now.heap (S.desk sight.now)) place segment × (item.now ≡ segment_item (heap_start_of band.now.heap + place) segment) }
-    ensures { (place : ℕ) (segment : Segment) → HasSegment (heap_seen band.now.heap (S.desk sight.now)) place segment → item.now ≡ segment_item (heap_start_of band.now.heap + place) segment →
+    requires segment { (place : ℕ) × (segment : Segment) × HasSegment (heap_seen band.now.heap
+        (S.desk sight.now)) place segment × (item.now ≡ segment_item (heap_start_of band.now.heap + place) segment) }
+    ensures { (place : ℕ) (segment : Segment) → HasSegment (heap_seen band.now.heap (S.desk sight.now)) place segment
+        → item.now ≡ segment_item (heap_start_of band.now.heap + place) segment →
         Puts (W.output writer.old) (W.output writer.new) result
-        (shown_lines (card_lines (band_card (scene_at (S.desk sight.now) step.now) (S.desk sight.now) band.now (heap_start_of band.now.heap + place) segment ∷ []))) }
+        (shown_lines (card_lines (band_card (scene_at (S.desk sight.now) step.now) (S.desk sight.now) band.now
+        (heap_start_of band.now.heap + place) segment ∷ []))) }
 {
     sight.spelled();
     match item {
@@ -259,11 +275,16 @@ fn print_used<S: Sight, W: Sink>(
     writer: &mut W,
 ) -> Result<(), WriteFailed>
     requires start { heap_start_of band.now.heap + 4 ≤ address }
-    requires block { (bytes : List ℕ) × SeesBlock (heap_seen band.now.heap (S.desk sight.now)) (address - heap_start_of band.now.heap - 4) bytes × (length bytes ≡ size) }
+    requires block { (bytes : List ℕ) × SeesBlock (heap_seen band.now.heap (S.desk sight.now)) (address
+        - heap_start_of band.now.heap - 4) bytes × (length bytes ≡ size) }
     requires free { SeesFree band.now.heap (address - heap_start_of band.now.heap - 4) (S.desk sight.now) }
-    ensures { (d : Desk) (bytes : List ℕ) → IsStepOf d step.now → SeesBlock (heap_seen band.now.heap (S.desk sight.now)) (address - heap_start_of band.now.heap - 4) bytes → length bytes ≡ size →
+    ensures { (d : Desk) (bytes : List ℕ) → IsStepOf d step.now
+        → SeesBlock (heap_seen band.now.heap (S.desk sight.now)) (address - heap_start_of band.now.heap - 4) bytes
+        → length bytes ≡ size →
         Puts (W.output writer.old) (W.output writer.new) result
-        (shown_lines (card_lines (used_card address bytes (in_use_text (find (is_buffer_of address) band.now.taking.now)) (is_fresh_used (scene_at d step.now) band.now address) ∷ []))) }
+        (shown_lines (card_lines (used_card address bytes
+        (in_use_text (find (is_buffer_of address) band.now.taking.now))
+        (is_fresh_used (scene_at d step.now) band.now address) ∷ []))) }
 {
     let mut front = [0; CARD_BYTES];
     let bytes = &mut front[..front_length(size)];
@@ -297,7 +318,8 @@ fn print_message<S: Sight, W: Sink>(
     writer: &mut W,
 ) -> Result<(), WriteFailed>
     requires { IsStepOf (S.desk sight.now) step.now }
-    ensures { (p : Parcel) → find (λ (q : Parcel). q.block == p.block) (live (scene_at (S.desk sight.now) step.now)) ≡ Some p → IsItemOf message.now p →
+    ensures { (p : Parcel) → find (λ (q : Parcel). q.block == p.block) (live (scene_at (S.desk sight.now) step.now))
+        ≡ Some p → IsItemOf message.now p →
         Puts (W.output writer.old) (W.output writer.new) result
         (shown_lines (card_lines (post_card (scene_at (S.desk sight.now) step.now) p ∷ []))) }
 {

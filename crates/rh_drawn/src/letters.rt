@@ -132,7 +132,8 @@ pub fn held_entry(messages: &[MessageItem], handle: Handle) -> Option<MessageEnt
 pub fn waits_of(messages: &[MessageItem], handle: Handle) -> Waits
     requires { length messages.now ≤ most_messages }
     ensures count { result.count ≡ length (map entry_seen (filter (waits_for handle) messages.now)) }
-    ensures first { take (min result.count MOST_LISTED) result.first ≡ take MOST_LISTED (map entry_seen (filter (waits_for handle) messages.now)) }
+    ensures first { take (min result.count MOST_LISTED) result.first
+        ≡ take MOST_LISTED (map entry_seen (filter (waits_for handle) messages.now)) }
 {
     let mut waits = Waits {
         first: [NO_ENTRY; MOST_LISTED],
@@ -160,7 +161,8 @@ impl Waits {
         requires room { length self.old.first ≡ MOST_LISTED }
         ensures room { length self.new.first ≡ MOST_LISTED }
         ensures count { self.new.count ≡ self.old.count + 1 }
-        ensures first { (ws : List MessageEntry) → length ws ≡ self.old.count → take (min self.old.count MOST_LISTED) self.old.first ≡ take MOST_LISTED ws →
+        ensures first { (ws : List MessageEntry) → length ws ≡ self.old.count
+            → take (min self.old.count MOST_LISTED) self.old.first ≡ take MOST_LISTED ws →
             take (min self.new.count MOST_LISTED) self.new.first ≡ take MOST_LISTED (ws ++ entry ∷ []) }
     {
         let place = self.count;

@@ -1,6 +1,7 @@
 //! A map in the middle of its script.
 
-ghost use Rattle.std.specs.Prelude.{◌≡◌, ◌<◌, ◌≤◌, ◌+◌, ◌^◌, ◌||◌, ◌&&◌, not, ℕ, List, length, None, Some, Ok, Err, IsTrue, OnErr, OnOk, false};
+ghost use Rattle.std.specs.Prelude.{◌≡◌, ◌<◌, ◌≤◌, ◌+◌, ◌^◌, ◌||◌, ◌&&◌, not, ℕ, List, length, None, Some, Ok, Err};
+ghost use Rattle.std.specs.Prelude.{IsTrue, OnErr, OnOk, false};
 ghost use Rattle.std.specs.Option.{option_map};
 ghost use Rattle.rh_defs.specs.Order.{IsReordered};
 ghost use Rattle.rh_defs.specs.Range.{in_range};
@@ -63,8 +64,10 @@ impl<D: Drawn> Mapper<D> {
 
     /// Shows a line that asks for nothing, and notes whether it marks the next command.
     fn skip<W: Sink>(&mut self, line: &[u8], writer: &mut W) -> Result<(), WriteFailed>
-        ensures ok { OnOk result (Drew D.desk self.old (W.output writer.old) line.now (Ok None) self.new (W.output writer.new)) }
-        ensures err { OnErr result (Broke D.desk self.old (W.output writer.old) line.now (Ok None) (W.output writer.new)) }
+        ensures ok { OnOk result (Drew D.desk self.old (W.output writer.old) line.now (Ok None) self.new
+            (W.output writer.new)) }
+        ensures err { OnErr result (Broke D.desk self.old (W.output writer.old) line.now (Ok None)
+            (W.output writer.new)) }
         ensures same { self.new.steps ≡ self.old.steps }
     {
         self.drawn.spelled();
@@ -84,8 +87,10 @@ impl<D: Drawn> Mapper<D> {
     ) -> Result<(), WriteFailed>
         requires in_range { IsTrue (in_range command.now) }
         requires room { self.old.steps + 1 < 2 ^ 32 }
-        ensures ok { OnOk result (Drew D.desk self.old (W.output writer.old) line.now (Ok (Some command.now)) self.new (W.output writer.new)) }
-        ensures err { OnErr result (Broke D.desk self.old (W.output writer.old) line.now (Ok (Some command.now)) (W.output writer.new)) }
+        ensures ok { OnOk result (Drew D.desk self.old (W.output writer.old) line.now (Ok (Some command.now)) self.new
+            (W.output writer.new)) }
+        ensures err { OnErr result (Broke D.desk self.old (W.output writer.old) line.now (Ok (Some command.now))
+            (W.output writer.new)) }
         ensures steps { self.new.steps ≡ self.old.steps + 1 }
     {
         let wanted = self.begin_step();
@@ -115,8 +120,10 @@ impl<D: Drawn> Mapper<D> {
         writer: &mut W,
     ) -> Result<(), WriteFailed>
         requires { self.old.steps + 1 < 2 ^ 32 }
-        ensures ok { OnOk result (Drew D.desk self.old (W.output writer.old) line.now (Err fault.now) self.new (W.output writer.new)) }
-        ensures err { OnErr result (Broke D.desk self.old (W.output writer.old) line.now (Err fault.now) (W.output writer.new)) }
+        ensures ok { OnOk result (Drew D.desk self.old (W.output writer.old) line.now (Err fault.now) self.new
+            (W.output writer.new)) }
+        ensures err { OnErr result (Broke D.desk self.old (W.output writer.old) line.now (Err fault.now)
+            (W.output writer.new)) }
         ensures steps { self.new.steps ≡ self.old.steps + 1 }
     {
         self.has_bad_line = true;
@@ -171,8 +178,11 @@ impl<D: Drawn> Mapper<D> {
         deed: Deed<'_>,
         writer: &mut W,
     ) -> Result<(), WriteFailed>
-        ensures text { (text : List ℕ) → Excerpts (front_of self.old.front) deed.entry.count text → Puts (W.output writer.old) (W.output writer.new) result
-            (shown_lines (shown_step deed.entry.wanted self.old.steps line.now text (D.desk self.old.drawn) (share_in self.new.pages.items (D.desk self.old.drawn)) deed.entry.kept.now (option_map (λ c. c.now) deed.entry.command) deed.entry.reply.now)) }
+        ensures text { (text : List ℕ) → Excerpts (front_of self.old.front) deed.entry.count text
+            → Puts (W.output writer.old) (W.output writer.new) result
+            (shown_lines (shown_step deed.entry.wanted self.old.steps line.now text (D.desk self.old.drawn)
+            (share_in self.new.pages.items (D.desk self.old.drawn)) deed.entry.kept.now
+            (option_map (λ c. c.now) deed.entry.command) deed.entry.reply.now)) }
         ensures shared { IsShared (share_in self.new.pages.items (D.desk self.old.drawn)) (D.desk self.old.drawn) }
         ensures same { IsSamePlace self.old self.new }
     {

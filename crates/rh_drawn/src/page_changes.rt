@@ -43,7 +43,8 @@ fn print_fixed_takes<S: Sight, W: Sink>(
 ) -> Result<(), WriteFailed>
     requires { IsStepOf (S.desk sight.now) step.now }
     ensures { Puts (W.output writer.old) (W.output writer.new) result
-        (shown_lines (flat_map (takes_part (scene_at (S.desk sight.now) step.now)) (map (fixed_holding (S.desk sight.now)) (enumerate_from 0 (S.desk sight.now).areas)))) }
+        (shown_lines (flat_map (takes_part (scene_at (S.desk sight.now) step.now))
+        (map (fixed_holding (S.desk sight.now)) (enumerate_from 0 (S.desk sight.now).areas)))) }
 {
     sight.spelled();
     for number in 0..FIXED_AREAS as u32 {
@@ -61,7 +62,8 @@ fn print_made_takes<S: Sight, W: Sink>(
 ) -> Result<(), WriteFailed>
     requires { IsStepOf (S.desk sight.now) step.now }
     ensures { Puts (W.output writer.old) (W.output writer.new) result
-        (shown_lines (flat_map (takes_part (scene_at (S.desk sight.now) step.now)) (map made_holding (S.desk sight.now).made))) }
+        (shown_lines (flat_map (takes_part (scene_at (S.desk sight.now) step.now))
+        (map made_holding (S.desk sight.now).made))) }
 {
     sight.spelled();
     let mut i = 0;
@@ -109,7 +111,8 @@ fn print_slots_take<S: Sight, W: Sink>(
 ) -> Result<(), WriteFailed>
     requires { IsStepOf (S.desk sight.now) step.now }
     ensures { Puts (W.output writer.old) (W.output writer.new) result
-        (shown_lines (flat_map (takes_part (scene_at (S.desk sight.now) step.now)) (map slot_holding (S.desk sight.now).tasks))) }
+        (shown_lines (flat_map (takes_part (scene_at (S.desk sight.now) step.now))
+        (map slot_holding (S.desk sight.now).tasks))) }
 {
     let mut i = 0;
     'tasks: while let Some(task) = sight.task(i) {
@@ -129,7 +132,8 @@ fn print_slot_part<S: Sight, W: Sink>(
 ) -> Result<(), WriteFailed>
     requires step { IsStepOf (S.desk sight.now) step.now }
     requires task { (t : Task) × (slice_get (S.desk sight.now).tasks i ≡ Some t) × IsTaskSeen task.now t }
-    ensures { (t : Task) → slice_get (S.desk sight.now).tasks i ≡ Some t → Puts (W.output writer.old) (W.output writer.new) result
+    ensures { (t : Task) → slice_get (S.desk sight.now).tasks i ≡ Some t
+        → Puts (W.output writer.old) (W.output writer.new) result
         (shown_lines (takes_part (scene_at (S.desk sight.now) step.now) (slot_holding t))) }
 {
     sight.spelled();

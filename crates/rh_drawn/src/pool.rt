@@ -69,7 +69,8 @@ fn clear(marks: &mut [u8])
 /// Marks the pages of the made areas.
 fn mark_made<S: Sight>(sight: &S, step: &Step<'_>, marks: &mut [u8])
     requires { IsStepOf (S.desk sight.now) step.now }
-    ensures { marks.new ≡ marked_all (map (made_pages (share_in step.now.pages.now (S.desk sight.now))) (S.desk sight.now).made) marks.old }
+    ensures { marks.new ≡ marked_all (map (made_pages (share_in step.now.pages.now (S.desk sight.now)))
+        (S.desk sight.now).made) marks.old }
 {
     sight.spelled();
     let mut i = 0;
@@ -83,7 +84,8 @@ fn mark_made<S: Sight>(sight: &S, step: &Step<'_>, marks: &mut [u8])
 /// Marks the pages of the slots.
 fn mark_slots<S: Sight>(sight: &S, step: &Step<'_>, marks: &mut [u8])
     requires { IsStepOf (S.desk sight.now) step.now }
-    ensures { marks.new ≡ marked_all (slot_pages_from (share_in step.now.pages.now (S.desk sight.now)) 0 (S.desk sight.now).tasks) marks.old }
+    ensures { marks.new ≡ marked_all (slot_pages_from (share_in step.now.pages.now (S.desk sight.now)) 0
+        (S.desk sight.now).tasks) marks.old }
 {
     sight.spelled();
     let mut i = 0;

@@ -47,7 +47,8 @@ fn print_returned<S: Sight, W: Sink>(
     requires { IsStepOf (S.desk sight.now) step.now }
     ensures { let x = scene_at (S.desk sight.now) step.now in
         Puts (W.output writer.old) (W.output writer.new) result
-        (shown_lines (indented (map (returns_text x) (filter (λ (p : Parcel). p.message.my_ref == x.before.held && is_returned_as p.code) (waiting x))))) }
+        (shown_lines (indented (map (returns_text x)
+        (filter (λ (p : Parcel). p.message.my_ref == x.before.held && is_returned_as p.code) (waiting x))))) }
 {
     for message in step.messages {
         print_return(sight, step, message, writer)?;

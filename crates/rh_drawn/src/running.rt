@@ -25,19 +25,27 @@ pub fn map_script<D: Drawn, R: Source, W: Sink>(
     requires { (R.input reader.old).reads ≡ 0 }
 
     // The whole script was read, and its map was written.
-    ensures ok { IfOk result (λ status. (d : Desk) → D.spells drawn d → Mapped marked (place d 0 false) (R.input reader.old) (R.input reader.new) (W.output writer.old) (W.output writer.new) status) }
+    ensures ok { IfOk result (λ status. (d : Desk) → D.spells drawn d → Mapped marked (place d 0 false)
+        (R.input reader.old) (R.input reader.new) (W.output writer.old) (W.output writer.new) status) }
 
     // It takes no memory.
     ensures had_memory { IsErrOf result RunFault.NoMemory → ⊥ }
 
     // The map of the complete lines that were read has been written.
     ensures read_failed { IsErrOf result RunFault.ReadFailed → (R.input reader.new).failed ≡ true }
-    ensures read_mapped { IsErrOf result RunFault.ReadFailed → (d : Desk) → D.spells drawn d → MappedSoFar marked (place d 0 false) (R.input reader.old) (R.input reader.new) (W.output writer.old) (W.output writer.new) }
-    ensures too_long { IsErrOf result RunFault.TooLong → ((R.input reader.new).reads ≡ MOST_READS) × ((R.input reader.new).failed ≡ (R.input reader.old).failed) }
-    ensures long_mapped { IsErrOf result RunFault.TooLong → (d : Desk) → D.spells drawn d → MappedSoFar marked (place d 0 false) (R.input reader.old) (R.input reader.new) (W.output writer.old) (W.output writer.new) }
+    ensures read_mapped { IsErrOf result RunFault.ReadFailed → (d : Desk) → D.spells drawn d
+        → MappedSoFar marked (place d 0 false) (R.input reader.old) (R.input reader.new) (W.output writer.old)
+        (W.output writer.new) }
+    ensures too_long { IsErrOf result RunFault.TooLong → ((R.input reader.new).reads ≡ MOST_READS)
+        × ((R.input reader.new).failed ≡ (R.input reader.old).failed) }
+    ensures long_mapped { IsErrOf result RunFault.TooLong → (d : Desk) → D.spells drawn d
+        → MappedSoFar marked (place d 0 false) (R.input reader.old) (R.input reader.new) (W.output writer.old)
+        (W.output writer.new) }
 
     // The writer failed, and took a front of the map of some lines.
-    ensures write_failed { IsErrOf result RunFault.WriteFailed → (d : Desk) → D.spells drawn d → MappedUntil marked (place d 0 false) (R.input reader.old) (R.input reader.new) (W.output writer.old) (W.output writer.new) }
+    ensures write_failed { IsErrOf result RunFault.WriteFailed → (d : Desk) → D.spells drawn d
+        → MappedUntil marked (place d 0 false) (R.input reader.old) (R.input reader.new) (W.output writer.old)
+        (W.output writer.new) }
 
     // However it ends, at most so many reads gave bytes.
     ensures reads { (R.input reader.new).reads ≤ MOST_READS }
@@ -49,8 +57,8 @@ pub fn map_script<D: Drawn, R: Source, W: Sink>(
     }
 }
 
-/// Runs a script that lies in memory over what can be drawn, and writes its map: each step, or marked steps alone. Fails
-/// only where the writer failed or took none of what it was offered.
+/// Runs a script that lies in memory over what can be drawn, and writes its map: each step, or marked steps alone.
+/// Fails only where the writer failed or took none of what it was offered.
 pub fn map_whole<D: Drawn, W: Sink>(
     drawn: D,
     marked: bool,
@@ -60,10 +68,12 @@ pub fn map_whole<D: Drawn, W: Sink>(
     requires short { length script.now ≤ LONGEST_SCRIPT }
 
     // The script's map was written.
-    ensures ok { IfOk result (λ status. (d : Desk) → D.spells drawn d → Mapped marked (place d 0 false) (unread script.now) (unread []) (W.output writer.old) (W.output writer.new) status) }
+    ensures ok { IfOk result (λ status. (d : Desk) → D.spells drawn d → Mapped marked (place d 0 false)
+        (unread script.now) (unread []) (W.output writer.old) (W.output writer.new) status) }
 
     // The writer failed, and took a front of the map of some lines.
-    ensures write_failed { IfErr result (λ fault. (d : Desk) → D.spells drawn d → MappedUntil marked (place d 0 false) (unread script.now) (unread []) (W.output writer.old) (W.output writer.new)) }
+    ensures write_failed { IfErr result (λ fault. (d : Desk) → D.spells drawn d → MappedUntil marked (place d 0 false)
+        (unread script.now) (unread []) (W.output writer.old) (W.output writer.new)) }
 {
     let mut mapper = Mapper::new(drawn, marked);
     feed_whole(&mut mapper, script, writer)?;

@@ -57,7 +57,8 @@ fn print_one<S: Sight, W: Sink>(
     requires step { IsStepOf (S.desk sight.now) step.now }
     requires tasks { tasks ≡ length (S.desk sight.now).tasks }
     requires task { (t : Task) × (slice_get (S.desk sight.now).tasks i ≡ Some t) × IsTaskSeen task.now t }
-    ensures { (t : Task) → slice_get (S.desk sight.now).tasks i ≡ Some t → Puts (W.output writer.old) (W.output writer.new) result
+    ensures { (t : Task) → slice_get (S.desk sight.now).tasks i ≡ Some t
+        → Puts (W.output writer.old) (W.output writer.new) result
         (shown_lines (slot_lines (scene_at (S.desk sight.now) step.now) t)) }
 {
     sight.spelled();
@@ -82,7 +83,9 @@ pub fn count_tasks<S: Sight>(sight: &S) -> usize
 /// Writes the heading of the slot of a task, which stands at a place in order of handle.
 fn print_heading<W: Sink>(i: usize, task: &TaskSight<'_>, writer: &mut W) -> Result<(), WriteFailed>
     requires { i < most_tasks }
-    ensures { (x : Scene) (t : Task) → IsTaskSeen task.now t → slice_get x.desk.tasks i ≡ Some t → position (λ (p : Panel). is_owner p.owner (SlotOf t.handle)) (slot_panels x) ≡ Some i → Puts (W.output writer.old) (W.output writer.new) result
+    ensures { (x : Scene) (t : Task) → IsTaskSeen task.now t → slice_get x.desk.tasks i ≡ Some t
+        → position (λ (p : Panel). is_owner p.owner (SlotOf t.handle)) (slot_panels x) ≡ Some i
+        → Puts (W.output writer.old) (W.output writer.new) result
         (shown_lines (slot_heading x t ∷ [])) }
 {
     let heading = SlotHeading {
@@ -108,7 +111,8 @@ fn print_slot<S: Sight, W: Sink>(
 ) -> Result<(), WriteFailed>
     requires step { IsStepOf (S.desk sight.now) step.now }
     requires task { (t : Task) × (slice_get (S.desk sight.now).tasks i ≡ Some t) × IsTaskSeen task.now t }
-    ensures { (t : Task) → slice_get (S.desk sight.now).tasks i ≡ Some t → Puts (W.output writer.old) (W.output writer.new) result
+    ensures { (t : Task) → slice_get (S.desk sight.now).tasks i ≡ Some t
+        → Puts (W.output writer.old) (W.output writer.new) result
         (shown_lines (drawing_lines (Some (slot_drawing (scene_at (S.desk sight.now) step.now) t)))) }
 {
     sight.spelled();

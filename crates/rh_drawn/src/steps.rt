@@ -36,8 +36,10 @@ pub fn print_step<S: Sight, W: Sink>(
 ) -> Result<(), WriteFailed>
     requires step { IsStepOf (S.desk sight.now) step.now }
     requires few { length step.now.messages.now ≤ most_messages }
-    ensures { (reply : List ℕ) → Excerpts above.now.front.now above.now.count reply → Puts (W.output writer.old) (W.output writer.new) result
-        (shown_lines (step_lines above.now.is_still above.now.number above.now.line.now reply (scene_at (S.desk sight.now) step.now))) }
+    ensures { (reply : List ℕ) → Excerpts above.now.front.now above.now.count reply
+        → Puts (W.output writer.old) (W.output writer.new) result
+        (shown_lines (step_lines above.now.is_still above.now.number above.now.line.now reply
+        (scene_at (S.desk sight.now) step.now))) }
 {
     print_step_line(above.number, above.line, writer)?;
     print_reply_lines(above.front, above.count, writer)?;

@@ -38,7 +38,8 @@ pub fn print_transfer_part<S: Sight, W: Sink>(sight: &S, writer: &mut W) -> Resu
 
 /// Whether some task has a record of a transfer.
 pub fn has_transfers<S: Sight>(sight: &S) -> bool
-    ensures { result ≡ (not (length (outs_of (S.desk sight.now)) == 0) || not (length (ins_of (S.desk sight.now)) == 0)) }
+    ensures { result ≡ (not (length (outs_of (S.desk sight.now)) == 0) || not
+        (length (ins_of (S.desk sight.now)) == 0)) }
 {
     let mut i = 0;
     'tasks: while let Some(task) = sight.task(i) {
@@ -77,7 +78,8 @@ fn print_task_outs<S: Sight, W: Sink>(
     writer: &mut W,
 ) -> Result<(), WriteFailed>
     ensures { Puts (W.output writer.old) (W.output writer.new) result
-        (shown_lines (map transfer_line (map (goes_out (ins_of (S.desk sight.now))) (map (λ r. (task.now.name.now, out_item_of r)) task.now.sending.now)))) }
+        (shown_lines (map transfer_line (map (goes_out (ins_of (S.desk sight.now)))
+        (map (λ r. (task.now.name.now, out_item_of r)) task.now.sending.now)))) }
 {
     for record in task.sending {
         print_out(sight, task.name, record, writer)?;
@@ -136,7 +138,8 @@ fn in_record(taking: &[Incoming], id: Ref) -> Option<RecordItem>
 /// Writes the transfers that only come in, task by task.
 fn print_ins<S: Sight, W: Sink>(sight: &S, writer: &mut W) -> Result<(), WriteFailed>
     ensures { Puts (W.output writer.old) (W.output writer.new) result
-        (shown_lines (map transfer_line (map comes_alone (filter (λ s. not (list_any (has_id_of s.1.id) (outs_of (S.desk sight.now)))) (ins_of (S.desk sight.now)))))) }
+        (shown_lines (map transfer_line (map comes_alone
+        (filter (λ s. not (list_any (has_id_of s.1.id) (outs_of (S.desk sight.now)))) (ins_of (S.desk sight.now)))))) }
 {
     let mut i = 0;
     'tasks: while let Some(task) = sight.task(i) {
@@ -153,7 +156,9 @@ fn print_task_ins<S: Sight, W: Sink>(
     writer: &mut W,
 ) -> Result<(), WriteFailed>
     ensures { Puts (W.output writer.old) (W.output writer.new) result
-        (shown_lines (map transfer_line (map comes_alone (filter (λ s. not (list_any (has_id_of s.1.id) (outs_of (S.desk sight.now)))) (map (λ r. (task.now.name.now, in_item_of r)) task.now.taking.now))))) }
+        (shown_lines (map transfer_line (map comes_alone
+        (filter (λ s. not (list_any (has_id_of s.1.id) (outs_of (S.desk sight.now))))
+        (map (λ r. (task.now.name.now, in_item_of r)) task.now.taking.now))))) }
 {
     for record in task.taking {
         print_if_alone(sight, task.name, record, writer)?;
@@ -169,7 +174,8 @@ fn print_if_alone<S: Sight, W: Sink>(
     writer: &mut W,
 ) -> Result<(), WriteFailed>
     ensures { Puts (W.output writer.old) (W.output writer.new) result
-        (shown_lines (map transfer_line (if list_any (has_id_of (in_id_of record.now)) (outs_of (S.desk sight.now)) then [] else comes_alone (name.now, in_item_of record.now) ∷ []))) }
+        (shown_lines (map transfer_line (if list_any (has_id_of (in_id_of record.now)) (outs_of (S.desk sight.now))
+        then [] else comes_alone (name.now, in_item_of record.now) ∷ []))) }
 {
     let id = in_id(record);
     if has_out(sight, id) {

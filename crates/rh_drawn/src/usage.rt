@@ -2,7 +2,8 @@
 
 ghost use Rattle.std.specs.Prelude.{◌≡◌, find};
 ghost use Rattle.std.specs.Option.{option_map};
-ghost use Rattle.rh_defs.specs.Records.{in_id as in_id_of, is_buffer_of as is_buffer_at, is_document as is_document_of, is_source, out_id as out_id_of};
+ghost use Rattle.rh_defs.specs.Records.{in_id as in_id_of, is_buffer_of as is_buffer_at, is_document as is_document_of};
+ghost use Rattle.rh_defs.specs.Records.{is_source, out_id as out_id_of};
 ghost use Rattle.rh_figure.specs.Cards.{in_use_text, out_use_text};
 ghost use Rattle.rh_map.specs.MapCards.{use_text};
 
@@ -11,7 +12,8 @@ use rh_map::Usage;
 
 /// The transfer that uses the flex block at an anchor.
 pub fn use_of_block(sending: &[Outgoing], taking: &[Incoming], anchor: Anchor) -> Usage
-    ensures { use_text result ≡ out_use_text (find (is_source anchor) sending.now) (in_use_text (find (is_document_of anchor) taking.now)) }
+    ensures { use_text result ≡ out_use_text (find (is_source anchor) sending.now) (in_use_text
+        (find (is_document_of anchor) taking.now)) }
 {
     if let Some(id) = source_of(sending, anchor) {
         return Usage::Out(id);

@@ -29,16 +29,24 @@ pub fn feed_all<T: LineTaker, R: Source, W: Sink>(
     requires room { MOST_READS * PIECE < T.room taker.old }
 
     // The whole script was read, and each of its lines was taken.
-    ensures ok { OnOk result (FedAll T.took T.took_rest (R.input reader.old) (R.input reader.new) taker.old taker.new (W.output writer.old) (W.output writer.new)) }
+    ensures ok { OnOk result (FedAll T.took T.took_rest (R.input reader.old) (R.input reader.new) taker.old taker.new
+        (W.output writer.old) (W.output writer.new)) }
 
     // The complete lines that were read have been taken.
     ensures read_failed { IsErrOf result FeedFault.ReadFailed → (R.input reader.new).failed ≡ true }
-    ensures read_taken { IsErrOf result FeedFault.ReadFailed → Fed T.took (R.input reader.old) (R.input reader.new) taker.old taker.new (W.output writer.old) (W.output writer.new) }
-    ensures too_long { IsErrOf result FeedFault.TooLong → ((R.input reader.new).reads ≡ MOST_READS) × ((R.input reader.new).failed ≡ (R.input reader.old).failed) }
-    ensures long_taken { IsErrOf result FeedFault.TooLong → Fed T.took (R.input reader.old) (R.input reader.new) taker.old taker.new (W.output writer.old) (W.output writer.new) }
+    ensures read_taken { IsErrOf result FeedFault.ReadFailed
+        → Fed T.took (R.input reader.old) (R.input reader.new) taker.old taker.new (W.output writer.old)
+        (W.output writer.new) }
+    ensures too_long { IsErrOf result FeedFault.TooLong → ((R.input reader.new).reads ≡ MOST_READS)
+        × ((R.input reader.new).failed ≡ (R.input reader.old).failed) }
+    ensures long_taken { IsErrOf result FeedFault.TooLong
+        → Fed T.took (R.input reader.old) (R.input reader.new) taker.old taker.new (W.output writer.old)
+        (W.output writer.new) }
 
     // The writer failed at one of the lines.
-    ensures write_failed { IsErrOf result FeedFault.WriteFailed → FedUntil T.took T.broke T.broke_rest (R.input reader.old) (R.input reader.new) taker.old (W.output writer.old) (W.output writer.new) }
+    ensures write_failed { IsErrOf result FeedFault.WriteFailed
+        → FedUntil T.took T.broke T.broke_rest (R.input reader.old) (R.input reader.new) taker.old (W.output writer.old)
+        (W.output writer.new) }
 
     // However it ends, at most so many reads gave bytes.
     ensures reads { (R.input reader.new).reads ≤ MOST_READS }
@@ -67,8 +75,8 @@ pub fn feed_all<T: LineTaker, R: Source, W: Sink>(
 /// The most bytes of a script that lies in memory. It has as many lines at most, whose numbers have 32 bits.
 pub const LONGEST_SCRIPT: usize = u32::MAX as usize - 1;
 
-/// Hands each line of a script that lies in memory to the taker, and at last what stands behind the last line feed. Fails
-/// only where the writer failed or took none of what it was offered.
+/// Hands each line of a script that lies in memory to the taker, and at last what stands behind the last line feed.
+/// Fails only where the writer failed or took none of what it was offered.
 pub fn feed_whole<T: LineTaker, W: Sink>(
     taker: &mut T,
     script: &[u8],
@@ -77,10 +85,12 @@ pub fn feed_whole<T: LineTaker, W: Sink>(
     requires room { length script.now < T.room taker.old }
 
     // Each line of the script was taken.
-    ensures ok { OnOk result (FedAll T.took T.took_rest (unread script.now) (unread []) taker.old taker.new (W.output writer.old) (W.output writer.new)) }
+    ensures ok { OnOk result (FedAll T.took T.took_rest (unread script.now) (unread []) taker.old taker.new
+        (W.output writer.old) (W.output writer.new)) }
 
     // The writer failed at one of the lines.
-    ensures write_failed { OnErr result (FedUntil T.took T.broke T.broke_rest (unread script.now) (unread []) taker.old (W.output writer.old) (W.output writer.new)) }
+    ensures write_failed { OnErr result (FedUntil T.took T.broke T.broke_rest (unread script.now) (unread []) taker.old
+        (W.output writer.old) (W.output writer.new)) }
 {
     let mut line = LineBuffer::new();
     feed(taker, &mut line, script, writer)?;
@@ -97,11 +107,13 @@ fn feed<T: LineTaker, W: Sink>(
 ) -> Result<(), WriteFailed>
     requires { length bytes.now ≤ T.room taker.old }
     ensures taken { (front : List ℕ) → ended front ≡ [] → line.old ≡ kept front → OnOk result
-        (TookAll T.took taker.old (W.output writer.old) (kept_lines (front ++ bytes.now)) taker.new (W.output writer.new)) }
+        (TookAll T.took taker.old (W.output writer.old) (kept_lines (front ++ bytes.now)) taker.new
+        (W.output writer.new)) }
     ensures rest { (front : List ℕ) → ended front ≡ [] → line.old ≡ kept front → OnOk result
         (line.new ≡ kept_rest (front ++ bytes.now)) }
     ensures broken { (front : List ℕ) → ended front ≡ [] → line.old ≡ kept front → OnErr result
-        (BrokeAmong T.took T.broke taker.old (W.output writer.old) (kept_lines (front ++ bytes.now)) (W.output writer.new)) }
+        (BrokeAmong T.took T.broke taker.old (W.output writer.old) (kept_lines (front ++ bytes.now))
+        (W.output writer.new)) }
     ensures room { OnOk result (T.room taker.old ≤ T.room taker.new + length bytes.now) }
 {
     let mut rest = bytes;

@@ -35,6 +35,7 @@ pub trait LineTaker: Drop {
     /// none of what it was offered.
     fn take_rest<W: Sink>(&mut self, rest: &[u8], writer: &mut W) -> Result<(), WriteFailed>
         requires { 0 < room self.old }
-        ensures ok { OnOk result (took_rest self.old (W.output writer.old) (kept rest.now) self.new (W.output writer.new)) }
+        ensures ok { OnOk result (took_rest self.old (W.output writer.old) (kept rest.now) self.new
+            (W.output writer.new)) }
         ensures err { OnErr result (broke_rest self.old (W.output writer.old) (kept rest.now) (W.output writer.new)) };
 }

@@ -2,7 +2,8 @@
 ghost use Rattle.std.specs.Prelude.{◌≡◌, ◌%◌, ◌≤◌, length, is_some, ok_or};
 ghost use Rattle.std.specs.Option.{option_map};
 ghost use Rattle.rh_defs.specs.Chain.{no_answer};
-ghost use Rattle.rh_defs.specs.Heap.{empty_heap, claim_block, claim_need, released_at, resize_block, need_at, extend_by};
+ghost use Rattle.rh_defs.specs.Heap.{empty_heap, claim_block, claim_need, released_at, resize_block, need_at};
+ghost use Rattle.rh_defs.specs.Heap.{extend_by};
 ghost use Rattle.rh_defs.specs.Heap.{block_size, block_around, segment_at, largest, free_bytes};
 ghost use Rattle.rh_defs.specs.HeapImage.{heap_of};
 ghost use Rattle.rh_defs.specs.Pieces.{moved};

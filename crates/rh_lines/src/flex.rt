@@ -17,7 +17,9 @@ pub fn read_command(words: &Words<'_>, command: &mut Command) -> Option<Result<(
     ensures means { IfSome result (λ read. when_placed read command.new ≡ command_of words.now) }
     ensures in_range { IfSome result (λ read. OnOk read (IsTrue (in_range command.new))) }
     ensures kept { IfSome result (λ read. OnErr read (command.new ≡ command.old)) }
-    ensures other { IfNone result (IsNoneOf (nth_word words.now 1) (codes "alloc" ∷ codes "load" ∷ codes "put" ∷ codes "free" ∷ codes "extend" ∷ codes "mid" ∷ codes "show" ∷ codes "blocks" ∷ [])) }
+    ensures other { IfNone result (IsNoneOf (nth_word words.now 1)
+        (codes "alloc" ∷ codes "load" ∷ codes "put" ∷ codes "free" ∷ codes "extend" ∷ codes "mid" ∷ codes "show"
+        ∷ codes "blocks" ∷ [])) }
     ensures same { IfNone result (command.new ≡ command.old) }
 {
     match words.word(1) {

@@ -1,12 +1,14 @@
 //! The forms of a line's words: names, numbers, addresses and bytes.
 
-ghost use Rattle.std.specs.Prelude.{◌≡◌, ◌-◌, ◌<◌, ◌≤◌, length, drop, slice_index, Option, Some, None, if◌then◌else◌, [], IfOk, OnOk, IsTrue, unwrap_or, nat_le};
+ghost use Rattle.std.specs.Prelude.{◌≡◌, ◌-◌, ◌<◌, ◌≤◌, length, drop, slice_index, Option, Some, None, if◌then◌else◌};
+ghost use Rattle.std.specs.Prelude.{[], IfOk, OnOk, IsTrue, unwrap_or, nat_le};
 ghost use Rattle.std.specs.List.{list_all};
 ghost use Rattle.std.specs.Char.{is_ascii_digit};
 ghost use Rattle.std.specs.Result.{result_ok};
 ghost use Rattle.hex.specs.Hex.{decode_of, hex_digit_value, is_hex_digit};
 ghost use Rattle.rh_defs.specs.Forms.{is_name, is_anchor, is_number, is_delta, is_leaf, is_decimal, number_of};
-ghost use Rattle.rh_defs.specs.Line.{name_at, number_at, delta_at, is_address, hex_number, address_at, leaf_at, choice_at, bytes_read_at, signed};
+ghost use Rattle.rh_defs.specs.Line.{name_at, number_at, delta_at, is_address, hex_number, address_at, leaf_at};
+ghost use Rattle.rh_defs.specs.Line.{choice_at, bytes_read_at, signed};
 ghost use Rattle.rh_defs.specs.declared.sizes.TheConstants.{ANCHORS, GREATEST_NUMBER, LONGEST_LEAF};
 ghost use Rattle.rh_lines.specs.Placed.{when_placed};
 ghost use Rattle.rh_lines.specs.declared.forms.TheConstants.{MOST_DIGITS};

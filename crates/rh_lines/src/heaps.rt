@@ -11,12 +11,14 @@ use crate::forms::{address_at, choice_at, delta_at, name_at, size_at};
 use crate::words::Words;
 use rh_defs::{Command, LineFault, Question};
 
-/// Puts the command of a line about the blocks of heaps in its place; None where the line begins with none of their words.
+/// Puts the command of a line about the blocks of heaps in its place; None where the line begins with none of their
+/// words.
 pub fn read_command(words: &Words<'_>, command: &mut Command) -> Option<Result<(), LineFault>>
     ensures means { IfSome result (λ read. when_placed read command.new ≡ command_of words.now) }
     ensures in_range { IfSome result (λ read. OnOk read (IsTrue (in_range command.new))) }
     ensures kept { IfSome result (λ read. OnErr read (command.new ≡ command.old)) }
-    ensures other { IfNone result (IsNoneOf (nth_word words.now 1) (codes "claim" ∷ codes "release" ∷ codes "resize" ∷ codes "budge" ∷ codes "heap" ∷ codes "rma" ∷ [])) }
+    ensures other { IfNone result (IsNoneOf (nth_word words.now 1)
+        (codes "claim" ∷ codes "release" ∷ codes "resize" ∷ codes "budge" ∷ codes "heap" ∷ codes "rma" ∷ [])) }
     ensures same { IfNone result (command.new ≡ command.old) }
 {
     match words.word(1) {

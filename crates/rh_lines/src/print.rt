@@ -5,7 +5,8 @@ ghost use Rattle.std.specs.Fmt.{decimal};
 ghost use Rattle.rh_defs.specs.Questions.{Nothing, each_of};
 ghost use Rattle.rh_defs.specs.declared.question.TheConstants.{MOST_NUMBERS};
 ghost use Rattle.rh_defs.specs.Messages.{code_number};
-ghost use Rattle.rh_defs.specs.Text.{address, ok, action_name, fault_text, first_line, outcome_words, refusal_name, rest_of_line};
+ghost use Rattle.rh_defs.specs.Text.{address, ok, action_name, fault_text, first_line, outcome_words, refusal_name};
+ghost use Rattle.rh_defs.specs.Text.{rest_of_line};
 ghost use Rattle.rh_lines.specs.Flow.{Puts};
 ghost use Rattle.rh_lines.specs.declared.row.TheConstants.{ROW};
 
@@ -62,7 +63,8 @@ pub fn print_first_line<W: Sink>(reply: &Reply, writer: &mut W) -> Result<(), Wr
 }
 
 fn print_refusal<W: Sink>(refusal: Refusal, writer: &mut W) -> Result<(), WriteFailed>
-    ensures { Puts (W.output writer.old) (W.output writer.new) result (codes "refused " ++ (refusal_name refusal ++ codes "\n")) }
+    ensures { Puts (W.output writer.old) (W.output writer.new) result
+        (codes "refused " ++ (refusal_name refusal ++ codes "\n")) }
 {
     let mut row = Row::new();
     row.text(b"refused ");
@@ -132,7 +134,8 @@ fn print_event<W: Sink>(
     writer: &mut W,
 ) -> Result<(), WriteFailed>
     ensures { Puts (W.output writer.old) (W.output writer.new) result
-        (ok (decimal (code_number code) ∷ action_name action ∷ decimal my_ref ∷ decimal your_ref ∷ outcome_words outcome.now)) }
+        (ok (decimal (code_number code) ∷ action_name action ∷ decimal my_ref ∷ decimal your_ref
+        ∷ outcome_words outcome.now)) }
 {
     let mut row = Row::new();
     row.text(b"ok ");

@@ -23,7 +23,8 @@ pub trait Sink {
         ensures bound { WritesAtMost result bytes.now }
         ensures taken { WriteAppends (output self.old).taken (output self.new).taken result bytes.now }
         ensures counted { (output self.new).count ≡ count_after (output self.old).count (bytes_taken result) }
-        ensures failed { (output self.new).failed ≡ ((output self.old).failed || write_failed result (length bytes.now)) };
+        ensures failed { (output self.new).failed ≡ ((output self.old).failed || write_failed result
+            (length bytes.now)) };
 }
 
 /// Writes all of the bytes. Fails only where the writer failed or took none of what it was

@@ -13,12 +13,15 @@ use crate::words::Words;
 use rh_defs::sizes::LONGEST_BUFFER;
 use rh_defs::{Command, LineFault, Manner, Question, Ref};
 
-/// Puts the command of a line about tasks and their transfers in its place; None where the line begins with none of their words.
+/// Puts the command of a line about tasks and their transfers in its place; None where the line begins with none of
+/// their words.
 pub fn read_command(words: &Words<'_>, command: &mut Command) -> Option<Result<(), LineFault>>
     ensures means { IfSome result (λ read. when_placed read command.new ≡ command_of words.now) }
     ensures in_range { IfSome result (λ read. OnOk read (IsTrue (in_range command.new))) }
     ensures kept { IfSome result (λ read. OnErr read (command.new ≡ command.old)) }
-    ensures other { IfNone result (IsNoneOf (nth_word words.now 1) (codes "task" ∷ codes "kill" ∷ codes "save" ∷ codes "poll" ∷ codes "cancel" ∷ codes "repeat" ∷ codes "status" ∷ [])) }
+    ensures other { IfNone result (IsNoneOf (nth_word words.now 1)
+        (codes "task" ∷ codes "kill" ∷ codes "save" ∷ codes "poll" ∷ codes "cancel" ∷ codes "repeat" ∷ codes "status"
+        ∷ [])) }
     ensures same { IfNone result (command.new ≡ command.old) }
 {
     match words.word(1) {

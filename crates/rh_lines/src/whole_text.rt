@@ -5,7 +5,8 @@ ghost use Rattle.std.specs.Prelude.{◌≡◌, ◌≤◌, ◌+◌, ◌-◌, ◌^
 use crate::sink::{Sink, WriteFailed};
 use crate::unseen::Unseen;
 
-/// A text in lent bytes, from their first one on. No write of it fails: what finds no room is counted, and goes nowhere.
+/// A text in lent bytes, from their first one on. No write of it fails: what finds no room is counted, and goes
+/// nowhere.
 #[derive(Drop)]
 pub struct WholeText<'a> {
     bytes: &'a mut [u8],

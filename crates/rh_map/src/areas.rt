@@ -35,7 +35,8 @@ pub fn print_fixed_area<W: Sink>(
     requires number { number < FIXED_AREAS }
     requires few { length pages.now ≤ MAX_PAGES }
     ensures { Puts (W.output writer.old) (W.output writer.new) result
-        (shown_line (heading_line (area_name number) (fixed_note (length pages.now) (listed_pages (length pages.now) pages.now) (scrap_note_of scrap))) ++ codes "\n") }
+        (shown_line (heading_line (area_name number) (fixed_note (length pages.now)
+        (listed_pages (length pages.now) pages.now) (scrap_note_of scrap))) ++ codes "\n") }
 {
     let note = fixed_area_note(pages, scrap);
     let mut row = Row::new();
@@ -48,7 +49,8 @@ pub fn print_fixed_area<W: Sink>(
 /// What is said of one of areas 0 to 5 with these pages.
 pub fn fixed_area_note(pages: &[u16], scrap: Option<ScrapFile>) -> Row
     requires { length pages.now ≤ MAX_PAGES }
-    ensures value { result ≡ fixed_note (length pages.now) (listed_pages (length pages.now) pages.now) (scrap_note_of scrap) }
+    ensures value { result ≡ fixed_note (length pages.now) (listed_pages
+        (length pages.now) pages.now) (scrap_note_of scrap) }
     ensures few { length result ≤ 241 }
 {
     let mut note = Row::new();
@@ -69,7 +71,8 @@ pub fn print_made_area<W: Sink>(
     requires number { 5 < number }
     requires few { length pages.now ≤ MAX_PAGES }
     ensures { Puts (W.output writer.old) (W.output writer.new) result
-        (shown_line (heading_line (area_name number) (made_note (length pages.now) most (listed_pages (length pages.now) pages.now))) ++ codes "\n") }
+        (shown_line (heading_line (area_name number) (made_note (length pages.now) most
+        (listed_pages (length pages.now) pages.now))) ++ codes "\n") }
 {
     let note = made_area_note(most, pages);
     let mut row = Row::new();

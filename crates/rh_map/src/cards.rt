@@ -46,8 +46,10 @@ pub fn print_flex_card<W: Sink>(
     writer: &mut W,
 ) -> Result<(), WriteFailed>
     requires { length block.now.front.now ≤ CARD_BYTES }
-    ensures { (bytes : List ℕ) → IsFrontOf block.now.size block.now.front.now bytes → Puts (W.output writer.old) (W.output writer.new) result
-        (shown_line (card_line (flex_card block.now.address anchor bytes (use_text block.now.usage) block.now.fresh)) ++ codes "\n") }
+    ensures { (bytes : List ℕ) → IsFrontOf block.now.size block.now.front.now bytes
+        → Puts (W.output writer.old) (W.output writer.new) result
+        (shown_line (card_line (flex_card block.now.address anchor bytes (use_text block.now.usage) block.now.fresh))
+        ++ codes "\n") }
 {
     print_block(&flex_name(anchor, block.address), block, writer)
 }
@@ -70,15 +72,18 @@ pub fn flex_name(anchor: Anchor, address: u32) -> Row
 /// front of the line is then written.
 pub fn print_used_card<W: Sink>(block: &CardBlock<'_>, writer: &mut W) -> Result<(), WriteFailed>
     requires { length block.now.front.now ≤ CARD_BYTES }
-    ensures { (bytes : List ℕ) → IsFrontOf block.now.size block.now.front.now bytes → Puts (W.output writer.old) (W.output writer.new) result
-        (shown_line (card_line (used_card block.now.address bytes (use_text block.now.usage) block.now.fresh)) ++ codes "\n") }
+    ensures { (bytes : List ℕ) → IsFrontOf block.now.size block.now.front.now bytes
+        → Puts (W.output writer.old) (W.output writer.new) result
+        (shown_line (card_line (used_card block.now.address bytes (use_text block.now.usage) block.now.fresh))
+        ++ codes "\n") }
 {
     print_block(&used_name(block.usage, block.address), block, writer)
 }
 
 /// What a block of a heap is called, and its address.
 pub fn used_name(usage: Usage, address: u32) -> Row
-    ensures value { result ≡ (if length (use_text usage) == 0 then codes "used " else codes "buffer ") ++ address_of address }
+    ensures value { result ≡ (if length (use_text usage) == 0 then codes "used " else codes "buffer ")
+        ++ address_of address }
     ensures few { length result ≤ 40 }
     ensures some { 0 < length result }
 {
@@ -154,7 +159,8 @@ fn print_block<W: Sink>(
     requires short { length name.now ≤ 40 }
     requires front { length block.now.front.now ≤ CARD_BYTES }
     ensures { Puts (W.output writer.old) (W.output writer.new) result
-        (shown_line (texts_line name.now (size_text block.now.size ++ use_text block.now.usage) (front_text block.now.size block.now.front.now) block.now.fresh) ++ codes "\n") }
+        (shown_line (texts_line name.now (size_text block.now.size ++ use_text block.now.usage)
+        (front_text block.now.size block.now.front.now) block.now.fresh) ++ codes "\n") }
 {
     let size = block_size(block);
     let bytes = block_bytes(block);

@@ -25,7 +25,8 @@ pub fn cell_mark(pieces: &[Piece], at: usize) -> u8
 fn next_begun(pieces: &[Piece], at: usize) -> Option<(Piece, &[Piece])>
     requires { at < 2 ^ 40 }
     ensures none { IfNone result (filter (begins_in at) pieces.now ≡ []) }
-    ensures some { IfSome result (λ next. filter (begins_in at) pieces.now ≡ next.0 ∷ filter (begins_in at) next.1.now) }
+    ensures some { IfSome result (λ next. filter (begins_in at) pieces.now ≡ next.0 ∷ filter
+        (begins_in at) next.1.now) }
 {
     let mut rest = pieces;
     while let Some((piece, others)) = rest.split_first() {

@@ -102,7 +102,8 @@ pub fn print_slot_heading<W: Sink>(
 /// Adds what is said of a slot.
 pub fn add_slot_note(row: &mut Row, slot: &SlotHeading<'_>)
     requires { length row.old + 100 ≤ ROW }
-    ensures value { row.new ≡ row.old ++ note_of_slot slot.now.manner slot.now.handle slot.now.buffer slot.now.pages slot.now.budging }
+    ensures value { row.new ≡ row.old
+        ++ note_of_slot slot.now.manner slot.now.handle slot.now.buffer slot.now.pages slot.now.budging }
 {
     add_task(row, slot.manner, slot.handle);
     add_buffer(row, slot.buffer);

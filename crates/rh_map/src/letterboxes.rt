@@ -67,7 +67,8 @@ fn letterbox_row(
 /// Adds what the task holds, if that is a message.
 fn add_held(row: &mut Row, held: Option<MessageEntry>)
     requires { length row.old + 36 ≤ ROW }
-    ensures value { row.new ≡ row.old ++ where_so (not (length (held_text held) == 0)) (concat (codes " holds " ∷ held_text held ∷ codes ";" ∷ [])) }
+    ensures value { row.new ≡ row.old ++ where_so (not (length (held_text held) == 0)) (concat
+        (codes " holds " ∷ held_text held ∷ codes ";" ∷ [])) }
     ensures few { length row.new ≤ length row.old + 36 }
 {
     if let Some(entry) = held {
@@ -82,7 +83,8 @@ fn add_waits(row: &mut Row, waits: &[MessageEntry], count: usize)
     requires room { length row.old ≤ 60 }
     requires few { count ≤ most_messages }
     requires first { length waits.now ≡ min count MOST_LISTED }
-    ensures { Fills row.new (row.old ++ where_so (not (length (waits_text waits.now count) == 0)) (codes " waiting " ++ waits_text waits.now count)) }
+    ensures { Fills row.new (row.old ++ where_so (not (length (waits_text waits.now count) == 0))
+        (codes " waiting " ++ waits_text waits.now count)) }
 {
     if let Some((first, others)) = waits.split_first() {
         row.text(b" waiting ");
@@ -95,7 +97,8 @@ fn add_waits(row: &mut Row, waits: &[MessageEntry], count: usize)
 /// Adds messages behind commas, as far as a line shows them.
 fn add_others(row: &mut Row, others: &[MessageEntry])
     requires { length row.old ≤ 120 }
-    ensures value { (text : List ℕ) → Fills row.old text → Fills row.new (text ++ flat_map (λ e. codes ", " ++ message_entry_text e) others.now) }
+    ensures value { (text : List ℕ) → Fills row.old text → Fills row.new (text ++ flat_map
+        (λ e. codes ", " ++ message_entry_text e) others.now) }
     ensures few { length row.new ≤ 120 }
 {
     let mut rest = others;

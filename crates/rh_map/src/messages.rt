@@ -28,8 +28,8 @@ pub enum ChainPlace {
     Last,
 }
 
-/// A message as its card has it: its ref, action and event code, the tasks that it goes between, its place in the chain,
-/// and whether the command has sent it.
+/// A message as its card has it: its ref, action and event code, the tasks that it goes between, its place in the
+/// chain, and whether the command has sent it.
 #[derive(Clone, Copy)]
 pub struct CardMessage<'a> {
     pub my_ref: Ref,

@@ -30,7 +30,8 @@ pub fn print_pool<W: Sink>(marks: &[u8], writer: &mut W) -> Result<(), WriteFail
 fn print_marks<W: Sink>(marks: &[u8], i: usize, writer: &mut W) -> Result<(), WriteFailed>
     requires few { length marks.now ≤ MAX_PAGES }
     requires within { MAP_CELLS * i < length marks.now }
-    ensures { Puts (W.output writer.old) (W.output writer.new) result (shown_line (marks_row marks.now i) ++ codes "\n") }
+    ensures { Puts (W.output writer.old) (W.output writer.new) result
+        (shown_line (marks_row marks.now i) ++ codes "\n") }
 {
     let first = MAP_CELLS * i;
     let mut number = Row::new();

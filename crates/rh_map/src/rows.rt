@@ -32,7 +32,8 @@ pub struct Area<'a> {
 fn add_cells(row: &mut Row, pieces: &[Piece], at: usize)
     requires small { at < 2 ^ 32 }
     requires room { length row.old + MAP_CELLS ≤ ROW }
-    ensures { row.new ≡ row.old ++ map (λ c. cell_mark_of pieces.now (at + CELL_BYTES * c)) (range_with_len 0 MAP_CELLS) }
+    ensures { row.new ≡ row.old ++ map (λ c. cell_mark_of pieces.now
+        (at + CELL_BYTES * c)) (range_with_len 0 MAP_CELLS) }
 {
     for cell in 0..MAP_CELLS {
         row.byte(cell_mark(pieces, at + CELL_BYTES * cell));
@@ -89,7 +90,8 @@ fn print_row<W: Sink>(area: &Area<'_>, i: usize, writer: &mut W) -> Result<(), W
     requires few { length area.now.pages.now ≤ MAX_PAGES }
     requires within { i < min (length area.now.pages.now) MOST_ROWS }
     ensures { Puts (W.output writer.old) (W.output writer.new) result
-        (shown_line (area_row (area_of area.now.start area.now.pages.now area.now.pieces.now) (length area.now.pages.now) i) ++ codes "\n") }
+        (shown_line (area_row (area_of area.now.start area.now.pages.now area.now.pieces.now)
+        (length area.now.pages.now) i) ++ codes "\n") }
 {
     let count = area.pages.len();
     if count <= MOST_ROWS || i < EDGE_ROWS {

@@ -25,8 +25,8 @@ pub fn print_step_line<W: Sink>(number: u32, line: &[u8], writer: &mut W) -> Res
     put_line(row.as_slice(), writer)
 }
 
-/// Writes a line of a reply. Fails only where the writer failed or took none of what it was offered; a front of the line
-/// is then written.
+/// Writes a line of a reply. Fails only where the writer failed or took none of what it was offered; a front of the
+/// line is then written.
 pub fn print_reply_line<W: Sink>(line: &[u8], writer: &mut W) -> Result<(), WriteFailed>
     ensures { Puts (W.output writer.old) (W.output writer.new) result
         (shown_line (cut REPLY_COLUMNS line.now) ++ codes "\n") }
@@ -48,8 +48,8 @@ pub fn print_more_lines<W: Sink>(count: u32, writer: &mut W) -> Result<(), Write
     put_line(row.as_slice(), writer)
 }
 
-/// Writes that memory stays as it was, and an empty line. Fails only where the writer failed or took none of what it was
-/// offered; a front of the lines is then written.
+/// Writes that memory stays as it was, and an empty line. Fails only where the writer failed or took none of what it
+/// was offered; a front of the lines is then written.
 pub fn print_still<W: Sink>(writer: &mut W) -> Result<(), WriteFailed>
     ensures { Puts (W.output writer.old) (W.output writer.new) result
         (shown_lines (codes "  (memory stays)" ∷ [] ∷ [])) }

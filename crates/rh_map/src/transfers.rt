@@ -28,7 +28,9 @@ pub fn print_transfer<W: Sink>(
     writer: &mut W,
 ) -> Result<(), WriteFailed>
     ensures { Puts (W.output writer.old) (W.output writer.new) result
-        (shown_line (transfer_line (record { id = id; goes_out = option_map side_of goes_out.now; comes_in = option_map side_of comes_in.now })) ++ codes "\n") }
+        (shown_line (transfer_line
+        (record { id = id; goes_out = option_map side_of goes_out.now; comes_in = option_map side_of comes_in.now }))
+        ++ codes "\n") }
 {
     let mut row = Row::new();
     row.text(b"  ");

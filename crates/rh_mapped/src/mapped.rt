@@ -10,8 +10,8 @@ use std::alloc::{AllocError, Global};
 use std::marker::Model;
 
 /// A store, and for each area a map of its heap, with an offset above which that heap has no byte; seen as the store. A
-/// write that meets the heap makes the map stale; whoever changes a heap takes the map before, and gives it back as it is
-/// then.
+/// write that meets the heap makes the map stale; whoever changes a heap takes the map before, and gives it back as it
+/// is then.
 #[derive(Drop)]
 pub struct Mapped<S: Store> {
     store: S,

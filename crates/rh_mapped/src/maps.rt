@@ -42,8 +42,8 @@ fn forget_met(maps: &mut Vec<Option<Map>>, id: usize, low: usize, upper: usize)
     }
 }
 
-/// The map with as many words as an area has by now, or twice as many as it had where there is room. It isn't up to date
-/// then. None where there is no room for the area's words, which a map has from the start.
+/// The map with as many words as an area has by now, or twice as many as it had where there is room. It isn't up to
+/// date then. None where there is no room for the area's words, which a map has from the start.
 pub fn lengthened(starts: Map, words: usize) -> Option<Map>
     ensures long { IfSome result (λ starts. words ≤ length starts.lines.items) }
     ensures unknown { IfSome result (λ starts. starts.known ≡ false) }

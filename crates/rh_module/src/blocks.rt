@@ -30,8 +30,9 @@ impl Module {
         Ok(claim(store, span, n).unwrap())
     }
 
-    /// Claims a block of `n` bytes at least, all 0, and answers its address. The area grows where the heap is too short.
-    /// Refused, and nothing changed: `BadSize` for 0 bytes, `NoRoom` where too few pages are free. (OS_Module 6.)
+    /// Claims a block of `n` bytes at least, all 0, and answers its address. The area grows where the heap is too
+    /// short. Refused, and nothing changed: `BadSize` for 0 bytes, `NoRoom` where too few pages are free. (OS_Module
+    /// 6.)
     pub fn claim<S: Pages>(self, store: &mut S, n: u32) -> Result<usize, Refusal>
         requires { IsModule (S.memory store.old) self }
         ensures { LeavesModule (S.memory store.old) (S.memory store.new) self
@@ -73,8 +74,8 @@ impl Module {
     }
 
     /// Gives the block at an address `delta` bytes more, or fewer where `delta` is negative, and answers its address,
-    /// which may be another. Bytes past the old ones are 0, and the area grows where the heap is too short. Refused, and
-    /// nothing changed: `NotABlock`, `BadSize` where fewer than 1 byte would be left, `NoRoom`. (OS_Module 13.)
+    /// which may be another. Bytes past the old ones are 0, and the area grows where the heap is too short. Refused,
+    /// and nothing changed: `NotABlock`, `BadSize` where fewer than 1 byte would be left, `NoRoom`. (OS_Module 13.)
     pub fn resize<S: Pages>(
         self,
         store: &mut S,

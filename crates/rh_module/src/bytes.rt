@@ -14,7 +14,8 @@ impl Module {
     pub fn read_word<S: Words>(self, store: &S, address: usize, offset: usize) -> u32
         requires module { IsModule (S.memory store.now) self }
         requires block { HasBlock address (offset + 4) (module_heap_in (S.memory store.now) self) }
-        ensures { (bytes : List ℕ) → block_bytes address (module_heap_in (S.memory store.now) self) ≡ Some bytes → result ≡ word bytes offset }
+        ensures { (bytes : List ℕ) → block_bytes address (module_heap_in (S.memory store.now) self) ≡ Some bytes
+            → result ≡ word bytes offset }
     {
         store.word(self.area, address + offset)
     }
@@ -23,7 +24,8 @@ impl Module {
     pub fn read_bytes<S: Words>(self, store: &S, address: usize, offset: usize, to: &mut [u8])
         requires module { IsModule (S.memory store.now) self }
         requires block { HasBlock address (offset + length to.old) (module_heap_in (S.memory store.now) self) }
-        ensures { (bytes : List ℕ) → block_bytes address (module_heap_in (S.memory store.now) self) ≡ Some bytes → to.new ≡ part bytes offset (length to.old) }
+        ensures { (bytes : List ℕ) → block_bytes address (module_heap_in (S.memory store.now) self) ≡ Some bytes
+            → to.new ≡ part bytes offset (length to.old) }
     {
         store.copy_out(self.area, address + offset, to);
     }

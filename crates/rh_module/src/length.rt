@@ -21,7 +21,8 @@ impl Module {
         ensures area { result.area ≡ area }
         ensures heap { module_heap_in (S.memory store.new) result ≡ empty_heap
             (length (bytes (S.memory store.old) area.0)) }
-        ensures spells { SpellsModuleIn (S.memory store.new) result (empty_heap (length (bytes (S.memory store.old) area.0))) }
+        ensures spells { SpellsModuleIn (S.memory store.new) result
+            (empty_heap (length (bytes (S.memory store.old) area.0))) }
         ensures still { IsModule (S.memory store.new) result }
         ensures only { OnlyArea (S.memory store.old) (S.memory store.new) area.0 }
     {
@@ -52,7 +53,8 @@ impl Module {
     /// fewer are free.
     pub(crate) fn lengthen<S: Pages>(self, store: &mut S, pages: usize) -> Result<(), Refusal>
         requires { IsModule (S.memory store.old) self }
-        ensures spells { OnOk result (SpellsModuleIn (S.memory store.new) self (longer pages (module_heap_in (S.memory store.old) self))) }
+        ensures spells { OnOk result (SpellsModuleIn (S.memory store.new) self
+            (longer pages (module_heap_in (S.memory store.old) self))) }
         ensures room { OnOk result (pages ≤ (S.memory store.old).free) }
         ensures refused { OnErr result ((S.memory store.old).free < pages) }
         ensures reason { IfErr result (λ refusal. refusal ≡ Refusal.NoRoom) }
@@ -66,14 +68,17 @@ impl Module {
         Ok(())
     }
 
-    /// Makes the area and its heap shorter by this many pages. Refused (`ExcessiveShrink`), and nothing changed, exactly
-    /// where the heap's base would lie above the end.
+    /// Makes the area and its heap shorter by this many pages. Refused (`ExcessiveShrink`), and nothing changed,
+    /// exactly where the heap's base would lie above the end.
     fn shorten<S: Pages>(self, store: &mut S, pages: usize) -> Result<(), Refusal>
         requires module { IsModule (S.memory store.old) self }
         requires small { pages ≤ 2 ^ 19 }
-        ensures spells { OnOk result (SpellsModuleIn (S.memory store.new) self (shorter pages (module_heap_in (S.memory store.old) self))) }
-        ensures room { OnOk result (base (module_heap_in (S.memory store.old) self) ≤ (shorter pages (module_heap_in (S.memory store.old) self)).end) }
-        ensures refused { OnErr result ((shorter pages (module_heap_in (S.memory store.old) self)).end < base (module_heap_in (S.memory store.old) self)) }
+        ensures spells { OnOk result (SpellsModuleIn (S.memory store.new) self
+            (shorter pages (module_heap_in (S.memory store.old) self))) }
+        ensures room { OnOk result (base (module_heap_in (S.memory store.old) self) ≤
+            (shorter pages (module_heap_in (S.memory store.old) self)).end) }
+        ensures refused { OnErr result ((shorter pages (module_heap_in (S.memory store.old) self)).end < base
+            (module_heap_in (S.memory store.old) self)) }
         ensures reason { IfErr result (λ refusal. refusal ≡ Refusal.ExcessiveShrink) }
         ensures only { OnlyArea (S.memory store.old) (S.memory store.new) self.area.0 }
         ensures err { OnErr result (S.memory store.new ≡ S.memory store.old) }

@@ -26,7 +26,8 @@ pub fn print_arrow_of<W: Sink>(
 ) -> Result<(), WriteFailed>
     requires { length blocks.now ≤ ANCHORS }
     ensures { Puts (W.output writer.old) (W.output writer.new) result (where_so (handle == step.now.kept.now.handle)
-        (slide_arrow frame (flat_map (λ (b : BlockItem). slide_of b (item_with_anchor b.anchor step.now.kept.now.blocks)) blocks.now))) }
+        (slide_arrow frame (flat_map
+        (λ (b : BlockItem). slide_of b (item_with_anchor b.anchor step.now.kept.now.blocks)) blocks.now))) }
 {
     if handle != step.kept.handle() {
         return Ok(());

@@ -4,7 +4,8 @@ ghost use Rattle.std.specs.Prelude.{◌≡◌, ◌≤◌, ◌++◌, [], ◌∷�
 ghost use Rattle.rh_defs.specs.Desk.{task_at};
 ghost use Rattle.rh_defs.specs.declared.question.BlockItem.{BlockItem};
 ghost use Rattle.rh_defs.specs.declared.sizes.TheConstants.{ANCHORS};
-ghost use Rattle.rh_figure.specs.Changes.{block_change, block_changes, gone_line, has_anchor as has_anchor_in, item_with_anchor, slide_change, slide_of, slides};
+ghost use Rattle.rh_figure.specs.Changes.{block_change, block_changes, gone_line, has_anchor as has_anchor_in};
+ghost use Rattle.rh_figure.specs.Changes.{item_with_anchor, slide_change, slide_of, slides};
 ghost use Rattle.rh_lines.specs.Flow.{Puts};
 ghost use Rattle.rh_sheet.specs.Markup.{change_item};
 ghost use Rattle.rh_sight.specs.Steps.{scene_at};

@@ -4,10 +4,13 @@ ghost use Rattle.std.specs.Prelude.{◌≡◌, ◌≤◌, ◌+◌, ◌++◌, len
 ghost use Rattle.std.specs.List.{flat_map};
 ghost use Rattle.rh_lines.specs.Flow.{Puts};
 ghost use Rattle.rh_lines.specs.declared.row.TheConstants.{ROW};
-ghost use Rattle.rh_painted.specs.Inner.Charts.{AreNear, IsSmallChart, IsWholeChart, beat_in, body_of_chart, ends_of, life_in, path_in, words_in};
+ghost use Rattle.rh_painted.specs.Inner.Charts.{AreNear, IsSmallChart, IsWholeChart, beat_in, body_of_chart, ends_of};
+ghost use Rattle.rh_painted.specs.Inner.Charts.{life_in, path_in, words_in};
 ghost use Rattle.rh_painted.specs.Ways.{arrow_of, arrows_seen};
 ghost use Rattle.rh_painted.specs.declared.numbers.TheConstants.{MOST_IN_SET};
-ghost use Rattle.rh_sheet.specs.Chart.{arrow_sentence, chart_figure, chart_foot as foot_of, chart_of, is_now as is_now_of, step_y as step_y_of, stop_sentence, task_gap as gap_of, task_x as task_x_of};
+ghost use Rattle.rh_sheet.specs.Chart.{arrow_sentence, chart_figure, chart_foot as foot_of, chart_of};
+ghost use Rattle.rh_sheet.specs.Chart.{is_now as is_now_of, step_y as step_y_of, stop_sentence, task_gap as gap_of};
+ghost use Rattle.rh_sheet.specs.Chart.{task_x as task_x_of};
 ghost use Rattle.rh_sheet.specs.Markup.{escape};
 ghost use Rattle.rh_sheet.specs.declared.sizes.TheConstants.{MOST_NOTES};
 

@@ -83,7 +83,8 @@ fn made_owner<S: Sight>(sight: &S, i: usize) -> Option<OwnerSight<'_>>
 
 /// The slot of the task at a place in order of handle.
 fn slot_owner<S: Sight>(sight: &S, i: usize) -> Option<OwnerSight<'_>>
-    ensures some { IfSome result (λ o. IsOwnerSeen (S.desk sight.now) (FIXED_AREAS + length (S.desk sight.now).made + i) o) }
+    ensures some { IfSome result (λ o. IsOwnerSeen (S.desk sight.now)
+        (FIXED_AREAS + length (S.desk sight.now).made + i) o) }
     ensures none { IfNone result (slice_get (S.desk sight.now).tasks i ≡ None) }
 {
     sight.spelled();

@@ -1,6 +1,7 @@
 //! A sheet in the middle of its script.
 
-ghost use Rattle.std.specs.Prelude.{◌≡◌, ◌<◌, ◌+◌, ◌^◌, ◌==◌, ◌&&◌, ◌||◌, ◌++◌, not, nat_lt, ℕ, List, None, Some, Ok, Err, IsTrue, OnErr, OnOk, false, length, true};
+ghost use Rattle.std.specs.Prelude.{◌≡◌, ◌<◌, ◌+◌, ◌^◌, ◌==◌, ◌&&◌, ◌||◌, ◌++◌, not, nat_lt, ℕ, List, None, Some, Ok};
+ghost use Rattle.std.specs.Prelude.{Err, IsTrue, OnErr, OnOk, false, length, true};
 ghost use Rattle.std.specs.Bool.{OnTrue};
 ghost use Rattle.std.specs.Option.{option_map};
 ghost use Rattle.rh_defs.specs.Line.{words_of};
@@ -38,8 +39,8 @@ use rh_map::{Front, has_words};
 use rh_session::Status;
 use rh_sight::{Kept, Messages, PageList, Sender, is_still};
 
-/// A sheet in the middle of its script: what is drawn, whether marked steps alone are shown, whether a line was bad, how
-/// far it has come, and what is kept of the last messages; and what a step is drawn with.
+/// A sheet in the middle of its script: what is drawn, whether marked steps alone are shown, whether a line was bad,
+/// how far it has come, and what is kept of the last messages; and what a step is drawn with.
 #[derive(Drop)]
 pub struct Painter<D> {
     drawn: D,
@@ -154,7 +155,8 @@ impl<D: Drawn> Painter<D> {
         requires in_range { IsTrue (in_range command.now) }
         requires room { self.old.progress.steps + 1 < 2 ^ 32 }
         requires hidden { is_shown self.old.marked (walk_in D.desk self.old) self.old.progress.wanted ≡ false }
-        ensures left { (o : Output) (line : List ℕ) → PaintedLine D.desk self.old o line (Ok (Some command.now)) self.new o }
+        ensures left { (o : Output) (line : List ℕ)
+            → PaintedLine D.desk self.old o line (Ok (Some command.now)) self.new o }
         ensures steps { self.new.progress.steps ≡ self.old.progress.steps + 1 }
     {
         let sender = Sender::new(&self.drawn, Some(command));
@@ -246,11 +248,13 @@ impl<D: Drawn> Painter<D> {
     /// Counts one more command, and notes what has become of the last messages behind it.
     fn begin_step(&mut self, sender: Sender)
         requires { self.old.progress.steps + 1 < 2 ^ 32 }
-        ensures next { self.new.progress ≡ record self.old.progress { steps = self.old.progress.steps + 1; wanted = false } }
+        ensures next { let old = self.old.progress in
+            self.new.progress ≡ record old { steps = old.steps + 1; wanted = false } }
         ensures few { self.new.progress.left < self.new.progress.steps }
         ensures notes { (s : Share) (b : Before) (m : Marks) → IsSender sender b → self.new.notes.items
             ≡ noted (self.old.progress.steps + 1) (scene_of (D.desk self.old.drawn) s b m) self.old.notes.items }
-        ensures rest { self.new ≡ record self.old { progress = self.new.progress; messages = self.new.messages; notes = self.new.notes } }
+        ensures rest { self.new
+            ≡ record self.old { progress = self.new.progress; messages = self.new.messages; notes = self.new.notes } }
     {
         self.progress.begin_step();
         let number = self.progress.steps();
@@ -340,7 +344,8 @@ impl<D: Drawn> Painter<D> {
 
 impl<D: Drawn> LineTaker for Painter<D> {
     ghost use Rattle.std.specs.Prelude.{◌-◌, ◌^◌};
-    ghost use Rattle.rh_painted.specs.PaintedWalks.{BrokePaintedLine, BrokePaintedRest, TookPaintedLine, TookPaintedRest};
+    ghost use Rattle.rh_painted.specs.PaintedWalks.{BrokePaintedLine, BrokePaintedRest, TookPaintedLine};
+    ghost use Rattle.rh_painted.specs.PaintedWalks.{TookPaintedRest};
 
     ghost took = { TookPaintedLine D.desk };
 

@@ -9,7 +9,8 @@ ghost use Rattle.rh_figure.specs.Share.{holdings};
 ghost use Rattle.rh_lines.specs.Flow.{Puts};
 ghost use Rattle.rh_painted.specs.PaintedOwners.{IsOwnerOf, holding_seen, name_seen, who_seen};
 ghost use Rattle.rh_sheet.specs.Markup.{escape};
-ghost use Rattle.rh_sheet.specs.Pool.{freed_squares, owner_classes, owner_sentence, owner_squares, pool_body, pool_description, pool_figure, pool_height as height_of_pool, tags_text};
+ghost use Rattle.rh_sheet.specs.Pool.{freed_squares, owner_classes, owner_sentence, owner_squares, pool_body};
+ghost use Rattle.rh_sheet.specs.Pool.{pool_description, pool_figure, pool_height as height_of_pool, tags_text};
 ghost use Rattle.rh_sight.specs.Steps.{IsStepOf, scene_at};
 
 use crate::owners::{Named, OwnerSight, owner_at};

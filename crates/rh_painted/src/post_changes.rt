@@ -3,7 +3,8 @@
 ghost use Rattle.std.specs.Prelude.{◌≡◌, ◌==◌, ◌&&◌, ◌∷◌, [], filter, flat_map, if◌then◌else◌, map, Some};
 ghost use Rattle.rh_defs.specs.Messages.{Parcel};
 ghost use Rattle.rh_drawn.specs.Returns.{returns};
-ghost use Rattle.rh_figure.specs.Changes.{bytes_sent_text, post_changes, returns_line, returns_text, sent_text, taken_text};
+ghost use Rattle.rh_figure.specs.Changes.{bytes_sent_text, post_changes, returns_line, returns_text, sent_text};
+ghost use Rattle.rh_figure.specs.Changes.{taken_text};
 ghost use Rattle.rh_figure.specs.Phrases.{is_returned, task_name};
 ghost use Rattle.rh_figure.specs.Scene.{Before, Marks, scene_of, waiting};
 ghost use Rattle.rh_figure.specs.Share.{Share};

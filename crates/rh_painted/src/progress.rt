@@ -28,7 +28,14 @@ impl Model for Progress {
 
     ghost Value = { PaintStand };
 
-    ghost view = { λ s. record { steps = s.steps; wanted = s.wanted; shown = s.shown; last = s.last; left = s.left; opened = s.opened } };
+    ghost view = { λ s. record {
+      steps = s.steps;
+      wanted = s.wanted;
+      shown = s.shown;
+      last = s.last;
+      left = s.left;
+      opened = s.opened;
+    } };
 
     ghost invariant = { λ s. ((if s.opened then s.shown + 1 else s.shown) ≤ MOST_STEPS) × (s.left ≤ s.steps) };
 }

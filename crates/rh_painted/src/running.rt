@@ -13,8 +13,8 @@ use rh_feed::{feed_all, feed_whole};
 use rh_lines::{Sink, Source, WriteFailed};
 use rh_session::{RunFault, Status};
 
-/// Runs a script with a name over what can be drawn, and writes its sheet: its beginning, and each step, or marked steps
-/// alone, each before it reads on. It gives up after 1,000,000 reads that gave bytes.
+/// Runs a script with a name over what can be drawn, and writes its sheet: its beginning, and each step, or marked
+/// steps alone, each before it reads on. It gives up after 1,000,000 reads that gave bytes.
 pub fn paint_script<D: Drawn, R: Source, W: Sink>(
     drawn: D,
     marked: bool,

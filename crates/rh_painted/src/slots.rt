@@ -10,7 +10,8 @@ ghost use Rattle.rh_figure.specs.Figure.{slot_note};
 ghost use Rattle.rh_figure.specs.Scene.{Scene};
 ghost use Rattle.rh_lines.specs.Flow.{Puts};
 ghost use Rattle.rh_painted.specs.Inner.Figures.{IsSlotPlan};
-ghost use Rattle.rh_sheet.specs.SheetAreas.{slot_body, slot_description, slot_figure, slot_lenses, slot_plot, ticks_text};
+ghost use Rattle.rh_sheet.specs.SheetAreas.{slot_body, slot_description, slot_figure, slot_lenses, slot_plot};
+ghost use Rattle.rh_sheet.specs.SheetAreas.{ticks_text};
 ghost use Rattle.rh_sheet.specs.Markup.{escape, heading_text};
 ghost use Rattle.rh_sheet.specs.SheetSteps.{slot_part};
 ghost use Rattle.rh_sight.specs.Seen.{IsTaskSeen};
@@ -37,8 +38,8 @@ use rh_sight::{
     take_census,
 };
 
-/// What the figure of a task's slot is drawn from: the task's place in order of handle, its blocks, how the figure's parts
-/// stand, its rows, and how many segments its C heap has.
+/// What the figure of a task's slot is drawn from: the task's place in order of handle, its blocks, how the figure's
+/// parts stand, its rows, and how many segments its C heap has.
 #[derive(Clone, Copy)]
 struct Plan<'a> {
     i: usize,

@@ -39,8 +39,10 @@ pub fn print_step<S: Sight, W: Sink>(
 ) -> Result<(), WriteFailed>
     requires step { IsStepOf (S.desk sight.now) step.now }
     requires few { length step.now.messages.now ≤ most_messages }
-    ensures { (reply : List ℕ) → Excerpts above.now.front.now above.now.count reply → Puts (W.output writer.old) (W.output writer.new) result
-        (step_text above.now.is_still above.now.number above.now.line.now reply (scene_at (S.desk sight.now) step.now) notes.now.items last) }
+    ensures { (reply : List ℕ) → Excerpts above.now.front.now above.now.count reply
+        → Puts (W.output writer.old) (W.output writer.new) result
+        (step_text above.now.is_still above.now.number above.now.line.now reply
+        (scene_at (S.desk sight.now) step.now) notes.now.items last) }
 {
     print_said(above.number, above.line, above.front, above.count, writer)?;
     if above.is_still {
@@ -55,7 +57,8 @@ pub fn print_step<S: Sight, W: Sink>(
 
 /// Writes the end of a step that a remark has begun and no command has ended, if there is one.
 pub fn print_rest<W: Sink>(opened: bool, writer: &mut W) -> Result<(), WriteFailed>
-    ensures { Puts (W.output writer.old) (W.output writer.new) result (where_so opened (concat (said_end ∷ step_end ∷ []))) }
+    ensures { Puts (W.output writer.old) (W.output writer.new) result
+        (where_so opened (concat (said_end ∷ step_end ∷ []))) }
 {
     if !opened {
         return Ok(());

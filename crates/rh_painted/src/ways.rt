@@ -5,7 +5,8 @@ ghost use Rattle.rh_painted.specs.Ways.{arrow_of, arrows_seen, way_words};
 ghost use Rattle.rh_painted.specs.Inner.WaySteps.{with_step};
 ghost use Rattle.rh_painted.specs.declared.numbers.TheConstants.{MOST_IN_SET};
 ghost use Rattle.rh_painted.specs.declared.ways.TheConstants.{MOST_WAYS};
-ghost use Rattle.rh_sheet.specs.Chart.{arrows, steps_in as steps_of, tasks_in as tasks_of, way_back as arrow_back, way_out as arrow_out};
+ghost use Rattle.rh_sheet.specs.Chart.{arrows, steps_in as steps_of, tasks_in as tasks_of, way_back as arrow_back};
+ghost use Rattle.rh_sheet.specs.Chart.{way_out as arrow_out};
 ghost use Rattle.rh_sheet.specs.declared.sizes.TheConstants.{MOST_NOTES};
 
 use crate::numbers::{NumberSet, put_number};

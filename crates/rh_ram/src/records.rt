@@ -3,7 +3,8 @@
 ghost use Rattle.std.specs.Prelude.{◌≡◌, ℕ, Bool, false, not, ◌<◌, Option, Ok, length, filter};
 ghost use Rattle.std.specs.List.{position};
 ghost use Rattle.arrayvec.specs.ArrayVec.{array_vec_len};
-ghost use Rattle.rh_defs.specs.Records.{out_id, in_id, is_open, is_going, is_full as is_full_of, with_id, is_meant as is_meant_by};
+ghost use Rattle.rh_defs.specs.Records.{out_id, in_id, is_open, is_going, is_full as is_full_of, with_id};
+ghost use Rattle.rh_defs.specs.Records.{is_meant as is_meant_by};
 ghost use Rattle.rh_defs.specs.declared.refusal.Refusal.TheVariants as refusal;
 ghost use Rattle.rh_ram.specs.Inner.Rooms.{roomy};
 ghost use Rattle.rh_ram.specs.Told.{only_if};

@@ -47,7 +47,8 @@ unsafe fn fill_zero(start: *mut u8, len: usize)
 /// A block of `len` zero bytes.
 pub(crate) fn allocate(alloc: &Global, len: usize) -> Result<Block, AllocError>
     requires { len < 2 ^ 63 }
-    ensures { IfOk result (λ b. (b.len ≡ len) × (b.bytes ≡ zeros len) × (length b.bytes ≡ len) × (b.alloc ≡ alloc.now)) }
+    ensures { IfOk result (λ b. (b.len ≡ len) × (b.bytes ≡ zeros len) × (length b.bytes ≡ len) ×
+        (b.alloc ≡ alloc.now)) }
 {
     match alloc.allocate(len, 1) {
         Ok(start) => {

@@ -21,7 +21,8 @@ use rh_session::{RunFault, Status};
 pub fn check_image<W: Sink>(image: &[u8], writer: &mut W) -> Result<Status, RunFault>
     ensures ok { IfOk result (λ status. Takes (W.output writer.old) (W.output writer.new) (image_line image.now)) }
     ensures status { IfOk result (λ status. status ≡ image_status image.now) }
-    ensures err { IfErr result (λ fault. (fault ≡ RunFault.WriteFailed) × Breaks (W.output writer.old) (W.output writer.new) (image_line image.now)) }
+    ensures err { IfErr result (λ fault. (fault ≡ RunFault.WriteFailed) × Breaks (W.output writer.old)
+        (W.output writer.new) (image_line image.now)) }
 {
     let (status, row) = match check(image) {
         Ok(sums) => {

@@ -32,19 +32,26 @@ pub fn map_over<S: Sited + Drop, F: NamedFiles + Drop, R: Source, W: Sink>(
     requires unread { (R.input reader.old).reads ≡ 0 }
 
     // The whole script was read, and its map was written.
-    ensures ok { IfOk result (λ status. Mapped marked (map_start (S.memory store).pages (F.contents files)) (R.input reader.old) (R.input reader.new) (W.output writer.old) (W.output writer.new) status) }
+    ensures ok { IfOk result (λ status. Mapped marked (map_start (S.memory store).pages (F.contents files))
+        (R.input reader.old) (R.input reader.new) (W.output writer.old) (W.output writer.new) status) }
 
     // It takes no memory.
     ensures had_memory { IsErrOf result RunFault.NoMemory → ⊥ }
 
     // The map of the complete lines that were read has been written.
     ensures read_failed { IsErrOf result RunFault.ReadFailed → (R.input reader.new).failed ≡ true }
-    ensures read_mapped { IsErrOf result RunFault.ReadFailed → MappedSoFar marked (map_start (S.memory store).pages (F.contents files)) (R.input reader.old) (R.input reader.new) (W.output writer.old) (W.output writer.new) }
-    ensures too_long { IsErrOf result RunFault.TooLong → ((R.input reader.new).reads ≡ MOST_READS) × ((R.input reader.new).failed ≡ (R.input reader.old).failed) }
-    ensures long_mapped { IsErrOf result RunFault.TooLong → MappedSoFar marked (map_start (S.memory store).pages (F.contents files)) (R.input reader.old) (R.input reader.new) (W.output writer.old) (W.output writer.new) }
+    ensures read_mapped { IsErrOf result RunFault.ReadFailed
+        → MappedSoFar marked (map_start (S.memory store).pages (F.contents files)) (R.input reader.old)
+        (R.input reader.new) (W.output writer.old) (W.output writer.new) }
+    ensures too_long { IsErrOf result RunFault.TooLong → ((R.input reader.new).reads ≡ MOST_READS)
+        × ((R.input reader.new).failed ≡ (R.input reader.old).failed) }
+    ensures long_mapped { IsErrOf result RunFault.TooLong → MappedSoFar marked (map_start (S.memory store).pages
+        (F.contents files)) (R.input reader.old) (R.input reader.new) (W.output writer.old) (W.output writer.new) }
 
     // The writer failed, and took a front of the map of some lines.
-    ensures write_failed { IsErrOf result RunFault.WriteFailed → MappedUntil marked (map_start (S.memory store).pages (F.contents files)) (R.input reader.old) (R.input reader.new) (W.output writer.old) (W.output writer.new) }
+    ensures write_failed { IsErrOf result RunFault.WriteFailed
+        → MappedUntil marked (map_start (S.memory store).pages (F.contents files)) (R.input reader.old)
+        (R.input reader.new) (W.output writer.old) (W.output writer.new) }
 
     // However it ends, at most so many reads gave bytes.
     ensures reads { (R.input reader.new).reads ≤ MOST_READS }
@@ -67,19 +74,28 @@ pub fn draw_map<R: Source, W: Sink>(
     requires fresh { (R.input reader.old).reads ≡ 0 }
 
     // The whole script was read, and its map was written.
-    ensures ok { IfOk result (λ status. Mapped marked (map_start pages files) (R.input reader.old) (R.input reader.new) (W.output writer.old) (W.output writer.new) status) }
+    ensures ok { IfOk result (λ status. Mapped marked (map_start pages files) (R.input reader.old) (R.input reader.new)
+        (W.output writer.old) (W.output writer.new) status) }
 
     // Nothing was read or written.
-    ensures no_memory { IsErrOf result RunFault.NoMemory → (R.input reader.new ≡ R.input reader.old) × (W.output writer.new ≡ W.output writer.old) }
+    ensures no_memory { IsErrOf result RunFault.NoMemory → (R.input reader.new ≡ R.input reader.old)
+        × (W.output writer.new ≡ W.output writer.old) }
 
     // The map of the complete lines that were read has been written.
     ensures read_failed { IsErrOf result RunFault.ReadFailed → (R.input reader.new).failed ≡ true }
-    ensures read_mapped { IsErrOf result RunFault.ReadFailed → MappedSoFar marked (map_start pages files) (R.input reader.old) (R.input reader.new) (W.output writer.old) (W.output writer.new) }
-    ensures too_long { IsErrOf result RunFault.TooLong → ((R.input reader.new).reads ≡ MOST_READS) × ((R.input reader.new).failed ≡ (R.input reader.old).failed) }
-    ensures long_mapped { IsErrOf result RunFault.TooLong → MappedSoFar marked (map_start pages files) (R.input reader.old) (R.input reader.new) (W.output writer.old) (W.output writer.new) }
+    ensures read_mapped { IsErrOf result RunFault.ReadFailed
+        → MappedSoFar marked (map_start pages files) (R.input reader.old) (R.input reader.new) (W.output writer.old)
+        (W.output writer.new) }
+    ensures too_long { IsErrOf result RunFault.TooLong → ((R.input reader.new).reads ≡ MOST_READS)
+        × ((R.input reader.new).failed ≡ (R.input reader.old).failed) }
+    ensures long_mapped { IsErrOf result RunFault.TooLong
+        → MappedSoFar marked (map_start pages files) (R.input reader.old) (R.input reader.new) (W.output writer.old)
+        (W.output writer.new) }
 
     // The writer failed, and took a front of the map of some lines.
-    ensures write_failed { IsErrOf result RunFault.WriteFailed → MappedUntil marked (map_start pages files) (R.input reader.old) (R.input reader.new) (W.output writer.old) (W.output writer.new) }
+    ensures write_failed { IsErrOf result RunFault.WriteFailed
+        → MappedUntil marked (map_start pages files) (R.input reader.old) (R.input reader.new) (W.output writer.old)
+        (W.output writer.new) }
 
     // However it ends, at most so many reads gave bytes.
     ensures reads { (R.input reader.new).reads ≤ MOST_READS }

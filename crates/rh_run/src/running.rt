@@ -31,24 +31,34 @@ pub fn run_over<S: Store + Drop, F: NamedFiles + Drop, R: Source, W: Sink>(
     requires unread { (R.input reader.old).reads ≡ 0 }
 
     // The whole script was read, and its text was written.
-    ensures ok { IfOk result (λ status. Finished (start (S.memory store).pages (F.contents files)) (R.input reader.old) (R.input reader.new) (W.output writer.old) (W.output writer.new) status) }
+    ensures ok { IfOk result (λ status. Finished (start (S.memory store).pages (F.contents files)) (R.input reader.old)
+        (R.input reader.new) (W.output writer.old) (W.output writer.new) status) }
 
     // No schedule in the script that was read lost a byte, or gave a wrong one.
-    ensures safe { IfOk result (λ status. RanSafely script_text (start (S.memory store).pages (F.contents files)) (R.input reader.old) (R.input reader.new) (W.output writer.old) (W.output writer.new)) }
+    ensures safe { IfOk result (λ status. RanSafely script_text (start (S.memory store).pages (F.contents files))
+        (R.input reader.old) (R.input reader.new) (W.output writer.old) (W.output writer.new)) }
 
     // It takes no memory.
     ensures had_memory { IsErrOf result RunFault.NoMemory → ⊥ }
 
     // The complete lines that were read have been answered, and are as safe.
     ensures read_failed { IsErrOf result RunFault.ReadFailed → (R.input reader.new).failed ≡ true }
-    ensures read_answered { IsErrOf result RunFault.ReadFailed → Answered (start (S.memory store).pages (F.contents files)) (R.input reader.old) (R.input reader.new) (W.output writer.old) (W.output writer.new) }
-    ensures read_safe { IsErrOf result RunFault.ReadFailed → RanSafely ended_text (start (S.memory store).pages (F.contents files)) (R.input reader.old) (R.input reader.new) (W.output writer.old) (W.output writer.new) }
-    ensures too_long { IsErrOf result RunFault.TooLong → ((R.input reader.new).reads ≡ MOST_READS) × ((R.input reader.new).failed ≡ (R.input reader.old).failed) }
-    ensures long_answered { IsErrOf result RunFault.TooLong → Answered (start (S.memory store).pages (F.contents files)) (R.input reader.old) (R.input reader.new) (W.output writer.old) (W.output writer.new) }
-    ensures long_safe { IsErrOf result RunFault.TooLong → RanSafely ended_text (start (S.memory store).pages (F.contents files)) (R.input reader.old) (R.input reader.new) (W.output writer.old) (W.output writer.new) }
+    ensures read_answered { IsErrOf result RunFault.ReadFailed
+        → Answered (start (S.memory store).pages (F.contents files)) (R.input reader.old) (R.input reader.new)
+        (W.output writer.old) (W.output writer.new) }
+    ensures read_safe { IsErrOf result RunFault.ReadFailed → RanSafely ended_text (start (S.memory store).pages
+        (F.contents files)) (R.input reader.old) (R.input reader.new) (W.output writer.old) (W.output writer.new) }
+    ensures too_long { IsErrOf result RunFault.TooLong → ((R.input reader.new).reads ≡ MOST_READS)
+        × ((R.input reader.new).failed ≡ (R.input reader.old).failed) }
+    ensures long_answered { IsErrOf result RunFault.TooLong → Answered (start (S.memory store).pages
+        (F.contents files)) (R.input reader.old) (R.input reader.new) (W.output writer.old) (W.output writer.new) }
+    ensures long_safe { IsErrOf result RunFault.TooLong → RanSafely ended_text (start (S.memory store).pages
+        (F.contents files)) (R.input reader.old) (R.input reader.new) (W.output writer.old) (W.output writer.new) }
 
     // The writer failed, and took a front of the script's text.
-    ensures write_failed { IsErrOf result RunFault.WriteFailed → BrokeOff (start (S.memory store).pages (F.contents files)) (R.input reader.old) (W.output writer.old) (W.output writer.new) }
+    ensures write_failed { IsErrOf result RunFault.WriteFailed
+        → BrokeOff (start (S.memory store).pages (F.contents files)) (R.input reader.old) (W.output writer.old)
+        (W.output writer.new) }
 
     // However it ends, at most so many reads gave bytes.
     ensures reads { (R.input reader.new).reads ≤ MOST_READS }
@@ -70,24 +80,37 @@ pub fn run<R: Source, W: Sink>(
     requires fresh { (R.input reader.old).reads ≡ 0 }
 
     // The whole script was read, and its text was written.
-    ensures ok { IfOk result (λ status. Finished (start pages files) (R.input reader.old) (R.input reader.new) (W.output writer.old) (W.output writer.new) status) }
+    ensures ok { IfOk result (λ status. Finished (start pages files) (R.input reader.old) (R.input reader.new)
+        (W.output writer.old) (W.output writer.new) status) }
 
     // No schedule in the script that was read lost a byte, or gave a wrong one.
-    ensures safe { IfOk result (λ status. RanSafely script_text (start pages files) (R.input reader.old) (R.input reader.new) (W.output writer.old) (W.output writer.new)) }
+    ensures safe { IfOk result (λ status. RanSafely script_text (start pages files) (R.input reader.old)
+        (R.input reader.new) (W.output writer.old) (W.output writer.new)) }
 
     // Nothing was read or written.
-    ensures no_memory { IsErrOf result RunFault.NoMemory → (R.input reader.new ≡ R.input reader.old) × (W.output writer.new ≡ W.output writer.old) }
+    ensures no_memory { IsErrOf result RunFault.NoMemory → (R.input reader.new ≡ R.input reader.old)
+        × (W.output writer.new ≡ W.output writer.old) }
 
     // The complete lines that were read have been answered, and are as safe.
     ensures read_failed { IsErrOf result RunFault.ReadFailed → (R.input reader.new).failed ≡ true }
-    ensures read_answered { IsErrOf result RunFault.ReadFailed → Answered (start pages files) (R.input reader.old) (R.input reader.new) (W.output writer.old) (W.output writer.new) }
-    ensures read_safe { IsErrOf result RunFault.ReadFailed → RanSafely ended_text (start pages files) (R.input reader.old) (R.input reader.new) (W.output writer.old) (W.output writer.new) }
-    ensures too_long { IsErrOf result RunFault.TooLong → ((R.input reader.new).reads ≡ MOST_READS) × ((R.input reader.new).failed ≡ (R.input reader.old).failed) }
-    ensures long_answered { IsErrOf result RunFault.TooLong → Answered (start pages files) (R.input reader.old) (R.input reader.new) (W.output writer.old) (W.output writer.new) }
-    ensures long_safe { IsErrOf result RunFault.TooLong → RanSafely ended_text (start pages files) (R.input reader.old) (R.input reader.new) (W.output writer.old) (W.output writer.new) }
+    ensures read_answered { IsErrOf result RunFault.ReadFailed
+        → Answered (start pages files) (R.input reader.old) (R.input reader.new) (W.output writer.old)
+        (W.output writer.new) }
+    ensures read_safe { IsErrOf result RunFault.ReadFailed
+        → RanSafely ended_text (start pages files) (R.input reader.old) (R.input reader.new) (W.output writer.old)
+        (W.output writer.new) }
+    ensures too_long { IsErrOf result RunFault.TooLong → ((R.input reader.new).reads ≡ MOST_READS)
+        × ((R.input reader.new).failed ≡ (R.input reader.old).failed) }
+    ensures long_answered { IsErrOf result RunFault.TooLong
+        → Answered (start pages files) (R.input reader.old) (R.input reader.new) (W.output writer.old)
+        (W.output writer.new) }
+    ensures long_safe { IsErrOf result RunFault.TooLong
+        → RanSafely ended_text (start pages files) (R.input reader.old) (R.input reader.new) (W.output writer.old)
+        (W.output writer.new) }
 
     // The writer failed, and took a front of the script's text.
-    ensures write_failed { IsErrOf result RunFault.WriteFailed → BrokeOff (start pages files) (R.input reader.old) (W.output writer.old) (W.output writer.new) }
+    ensures write_failed { IsErrOf result RunFault.WriteFailed
+        → BrokeOff (start pages files) (R.input reader.old) (W.output writer.old) (W.output writer.new) }
 
     // However it ends, at most so many reads gave bytes.
     ensures reads { (R.input reader.new).reads ≤ MOST_READS }

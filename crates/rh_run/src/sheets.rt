@@ -17,8 +17,8 @@ use rh_tasks::NamedFiles;
 use std::alloc::Global;
 
 /// Runs a script with a name over a fresh desk on a store that nobody has used, of 8 to 1,024 pages, and writes its
-/// sheet: its beginning, and each step, or marked steps alone, each before it reads on. It takes no memory, and gives up
-/// after 1,000,000 reads that gave bytes.
+/// sheet: its beginning, and each step, or marked steps alone, each before it reads on. It takes no memory, and gives
+/// up after 1,000,000 reads that gave bytes.
 pub fn sheet_over<S: Sited + Drop, F: NamedFiles + Drop, R: Source, W: Sink>(
     store: S,
     files: F,
@@ -33,19 +33,26 @@ pub fn sheet_over<S: Sited + Drop, F: NamedFiles + Drop, R: Source, W: Sink>(
     requires unread { (R.input reader.old).reads ≡ 0 }
 
     // The whole script was read, and its sheet was written.
-    ensures ok { IfOk result (λ status. Painted marked name.now (start (S.memory store).pages (F.contents files)) (R.input reader.old) (R.input reader.new) (W.output writer.old) (W.output writer.new) status) }
+    ensures ok { IfOk result (λ status. Painted marked name.now (start (S.memory store).pages (F.contents files))
+        (R.input reader.old) (R.input reader.new) (W.output writer.old) (W.output writer.new) status) }
 
     // It takes no memory.
     ensures had_memory { IsErrOf result RunFault.NoMemory → ⊥ }
 
     // The sheet of the complete lines that were read has been written, without its end.
     ensures read_failed { IsErrOf result RunFault.ReadFailed → (R.input reader.new).failed ≡ true }
-    ensures read_painted { IsErrOf result RunFault.ReadFailed → PaintedSoFar marked name.now (start (S.memory store).pages (F.contents files)) (R.input reader.old) (R.input reader.new) (W.output writer.old) (W.output writer.new) }
-    ensures too_long { IsErrOf result RunFault.TooLong → ((R.input reader.new).reads ≡ MOST_READS) × ((R.input reader.new).failed ≡ (R.input reader.old).failed) }
-    ensures long_painted { IsErrOf result RunFault.TooLong → PaintedSoFar marked name.now (start (S.memory store).pages (F.contents files)) (R.input reader.old) (R.input reader.new) (W.output writer.old) (W.output writer.new) }
+    ensures read_painted { IsErrOf result RunFault.ReadFailed
+        → PaintedSoFar marked name.now (start (S.memory store).pages (F.contents files)) (R.input reader.old)
+        (R.input reader.new) (W.output writer.old) (W.output writer.new) }
+    ensures too_long { IsErrOf result RunFault.TooLong → ((R.input reader.new).reads ≡ MOST_READS)
+        × ((R.input reader.new).failed ≡ (R.input reader.old).failed) }
+    ensures long_painted { IsErrOf result RunFault.TooLong → PaintedSoFar marked name.now (start (S.memory store).pages
+        (F.contents files)) (R.input reader.old) (R.input reader.new) (W.output writer.old) (W.output writer.new) }
 
     // The writer failed, and took a front of the sheet of some lines.
-    ensures write_failed { IsErrOf result RunFault.WriteFailed → PaintedUntil marked name.now (start (S.memory store).pages (F.contents files)) (R.input reader.old) (R.input reader.new) (W.output writer.old) (W.output writer.new) }
+    ensures write_failed { IsErrOf result RunFault.WriteFailed
+        → PaintedUntil marked name.now (start (S.memory store).pages (F.contents files)) (R.input reader.old)
+        (R.input reader.new) (W.output writer.old) (W.output writer.new) }
 
     // However it ends, at most so many reads gave bytes.
     ensures reads { (R.input reader.new).reads ≤ MOST_READS }
@@ -70,19 +77,28 @@ pub fn draw_sheet<R: Source, W: Sink>(
     requires fresh { (R.input reader.old).reads ≡ 0 }
 
     // The whole script was read, and its sheet was written.
-    ensures ok { IfOk result (λ status. Painted marked name.now (start pages files) (R.input reader.old) (R.input reader.new) (W.output writer.old) (W.output writer.new) status) }
+    ensures ok { IfOk result (λ status. Painted marked name.now (start pages files) (R.input reader.old)
+        (R.input reader.new) (W.output writer.old) (W.output writer.new) status) }
 
     // Nothing was read or written.
-    ensures no_memory { IsErrOf result RunFault.NoMemory → (R.input reader.new ≡ R.input reader.old) × (W.output writer.new ≡ W.output writer.old) }
+    ensures no_memory { IsErrOf result RunFault.NoMemory → (R.input reader.new ≡ R.input reader.old)
+        × (W.output writer.new ≡ W.output writer.old) }
 
     // The sheet of the complete lines that were read has been written, without its end.
     ensures read_failed { IsErrOf result RunFault.ReadFailed → (R.input reader.new).failed ≡ true }
-    ensures read_painted { IsErrOf result RunFault.ReadFailed → PaintedSoFar marked name.now (start pages files) (R.input reader.old) (R.input reader.new) (W.output writer.old) (W.output writer.new) }
-    ensures too_long { IsErrOf result RunFault.TooLong → ((R.input reader.new).reads ≡ MOST_READS) × ((R.input reader.new).failed ≡ (R.input reader.old).failed) }
-    ensures long_painted { IsErrOf result RunFault.TooLong → PaintedSoFar marked name.now (start pages files) (R.input reader.old) (R.input reader.new) (W.output writer.old) (W.output writer.new) }
+    ensures read_painted { IsErrOf result RunFault.ReadFailed
+        → PaintedSoFar marked name.now (start pages files) (R.input reader.old) (R.input reader.new)
+        (W.output writer.old) (W.output writer.new) }
+    ensures too_long { IsErrOf result RunFault.TooLong → ((R.input reader.new).reads ≡ MOST_READS)
+        × ((R.input reader.new).failed ≡ (R.input reader.old).failed) }
+    ensures long_painted { IsErrOf result RunFault.TooLong
+        → PaintedSoFar marked name.now (start pages files) (R.input reader.old) (R.input reader.new)
+        (W.output writer.old) (W.output writer.new) }
 
     // The writer failed, and took a front of the sheet of some lines.
-    ensures write_failed { IsErrOf result RunFault.WriteFailed → PaintedUntil marked name.now (start pages files) (R.input reader.old) (R.input reader.new) (W.output writer.old) (W.output writer.new) }
+    ensures write_failed { IsErrOf result RunFault.WriteFailed
+        → PaintedUntil marked name.now (start pages files) (R.input reader.old) (R.input reader.new)
+        (W.output writer.old) (W.output writer.new) }
 
     // However it ends, at most so many reads gave bytes.
     ensures reads { (R.input reader.new).reads ≤ MOST_READS }

@@ -2,7 +2,8 @@
 
 ghost use Rattle.std.specs.Prelude.{◌≡◌, ◌<◌, ◌≤◌, ◌^◌, length, IfOk, IfErr};
 ghost use Rattle.rh_lines.specs.Flow.{Breaks, Takes};
-ghost use Rattle.rh_run.specs.CheckedSlot.{heap_length, slot_image_line, slot_image_status, slot_fault_name, slot_sums_line};
+ghost use Rattle.rh_run.specs.CheckedSlot.{heap_length, slot_image_line, slot_image_status, slot_fault_name};
+ghost use Rattle.rh_run.specs.CheckedSlot.{slot_sums_line};
 ghost use Rattle.rh_run.specs.Inner.SlotWords.{AreSlotWords};
 
 use crate::checking::{add_sum, fault_row};
@@ -19,7 +20,8 @@ use rh_slot::{SlotFault, SlotSummary, check};
 pub fn check_slot_image<W: Sink>(image: &[u8], writer: &mut W) -> Result<Status, RunFault>
     ensures ok { IfOk result (λ status. Takes (W.output writer.old) (W.output writer.new) (slot_image_line image.now)) }
     ensures status { IfOk result (λ status. status ≡ slot_image_status image.now) }
-    ensures err { IfErr result (λ fault. (fault ≡ RunFault.WriteFailed) × Breaks (W.output writer.old) (W.output writer.new) (slot_image_line image.now)) }
+    ensures err { IfErr result (λ fault. (fault ≡ RunFault.WriteFailed) × Breaks (W.output writer.old)
+        (W.output writer.new) (slot_image_line image.now)) }
 {
     let (status, row) = match check(image) {
         Ok(sums) => (Status::Clean, sums_row(&sums)),

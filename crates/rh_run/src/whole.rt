@@ -34,13 +34,16 @@ pub fn replies_of<S: Store + Drop, F: NamedFiles + Drop, W: Sink>(
     requires most { (S.memory store).pages ≤ MAX_PAGES }
 
     // The script's text was written.
-    ensures ok { IfOk result (λ status. Finished (start (S.memory store).pages (F.contents files)) (unread script.now) (unread []) (W.output writer.old) (W.output writer.new) status) }
+    ensures ok { IfOk result (λ status. Finished (start (S.memory store).pages (F.contents files)) (unread script.now)
+        (unread []) (W.output writer.old) (W.output writer.new) status) }
 
     // No schedule in the script lost a byte, or gave a wrong one.
-    ensures safe { IfOk result (λ status. RanSafely script_text (start (S.memory store).pages (F.contents files)) (unread script.now) (unread []) (W.output writer.old) (W.output writer.new)) }
+    ensures safe { IfOk result (λ status. RanSafely script_text (start (S.memory store).pages (F.contents files))
+        (unread script.now) (unread []) (W.output writer.old) (W.output writer.new)) }
 
     // The writer failed, and took a front of the script's text.
-    ensures write_failed { IfErr result (λ fault. BrokeOff (start (S.memory store).pages (F.contents files)) (unread script.now) (W.output writer.old) (W.output writer.new)) }
+    ensures write_failed { IfErr result (λ fault. BrokeOff (start (S.memory store).pages (F.contents files))
+        (unread script.now) (W.output writer.old) (W.output writer.new)) }
 {
     run_whole(ScriptWorld::new(store, files), script, writer)
 }
@@ -59,10 +62,13 @@ pub fn map_of<S: Sited + Drop, F: NamedFiles + Drop, W: Sink>(
     requires short { length script.now ≤ LONGEST_SCRIPT }
 
     // The script's map was written.
-    ensures ok { IfOk result (λ status. Mapped marked (map_start (S.memory store).pages (F.contents files)) (unread script.now) (unread []) (W.output writer.old) (W.output writer.new) status) }
+    ensures ok { IfOk result (λ status. Mapped marked (map_start (S.memory store).pages (F.contents files))
+        (unread script.now) (unread []) (W.output writer.old) (W.output writer.new) status) }
 
     // The writer failed, and took a front of the map of some lines.
-    ensures write_failed { IfErr result (λ fault. MappedUntil marked (map_start (S.memory store).pages (F.contents files)) (unread script.now) (unread []) (W.output writer.old) (W.output writer.new)) }
+    ensures write_failed { IfErr result (λ fault. MappedUntil marked
+        (map_start (S.memory store).pages (F.contents files)) (unread script.now) (unread []) (W.output writer.old)
+        (W.output writer.new)) }
 {
     map_whole(ScriptWorld::new(store, files), marked, script, writer)
 }
@@ -82,10 +88,13 @@ pub fn sheet_of<S: Sited + Drop, F: NamedFiles + Drop, W: Sink>(
     requires short { length script.now ≤ LONGEST_SCRIPT }
 
     // The script's sheet was written.
-    ensures ok { IfOk result (λ status. Painted marked name.now (start (S.memory store).pages (F.contents files)) (unread script.now) (unread []) (W.output writer.old) (W.output writer.new) status) }
+    ensures ok { IfOk result (λ status. Painted marked name.now (start (S.memory store).pages (F.contents files))
+        (unread script.now) (unread []) (W.output writer.old) (W.output writer.new) status) }
 
     // The writer failed, and took a front of the sheet of some lines.
-    ensures write_failed { IfErr result (λ fault. PaintedUntil marked name.now (start (S.memory store).pages (F.contents files)) (unread script.now) (unread []) (W.output writer.old) (W.output writer.new)) }
+    ensures write_failed { IfErr result (λ fault. PaintedUntil marked name.now
+        (start (S.memory store).pages (F.contents files)) (unread script.now) (unread []) (W.output writer.old)
+        (W.output writer.new)) }
 {
     paint_whole(ScriptWorld::new(store, files), marked, name, script, writer)
 }

@@ -27,7 +27,8 @@ pub fn print_items<T: Item, W: Sink>(
     items: &[T],
     writer: &mut W,
 ) -> Result<(), WriteFailed>
-    ensures { Puts (W.output writer.old) (W.output writer.new) result (first ++ flat_map (λ item. T.line item) items.now) }
+    ensures { Puts (W.output writer.old) (W.output writer.new) result
+        (first ++ flat_map (λ item. T.line item) items.now) }
 {
     let mut row = first;
     for item in items {

@@ -15,9 +15,9 @@ use rh_lines::{Sink, WriteFailed, print_first_line};
 use rh_store::Store;
 use rh_tasks::{NamedFiles, World};
 
-/// Writes the reply to a command that was just applied, all its lines, over the desk after it. Only a reply that is what
-/// the desk answers to a question has more than one. Fails only where the writer failed or took none of what it was
-/// offered; a front of the text is then written.
+/// Writes the reply to a command that was just applied, all its lines, over the desk after it. Only a reply that is
+/// what the desk answers to a question has more than one. Fails only where the writer failed or took none of what it
+/// was offered; a front of the text is then written.
 pub fn print_reply<S: Store, F: NamedFiles, W: Sink>(
     world: &World<S, F>,
     command: &Command,

@@ -34,7 +34,8 @@ fn print_records<W: Sink>(
 ) -> Result<(), WriteFailed>
     ensures { Puts (W.output writer.old) (W.output writer.new) result
         (first_line (Reply.Answered (Numbers.StatusOf handle)) Nothing
-        ++ (record_lines (codes "out") (map out_item_of outgoing.now) ++ record_lines (codes "in") (map in_item_of incoming.now))) }
+        ++ (record_lines (codes "out") (map out_item_of outgoing.now)
+        ++ record_lines (codes "in") (map in_item_of incoming.now))) }
 {
     print_first_line(&Reply::Answered(Numbers::StatusOf(handle)), writer)?;
     print_both(outgoing, incoming, writer)
@@ -46,7 +47,8 @@ fn print_both<W: Sink>(
     writer: &mut W,
 ) -> Result<(), WriteFailed>
     ensures { Puts (W.output writer.old) (W.output writer.new) result
-        (record_lines (codes "out") (map out_item_of outgoing.now) ++ record_lines (codes "in") (map in_item_of incoming.now)) }
+        (record_lines (codes "out") (map out_item_of outgoing.now)
+        ++ record_lines (codes "in") (map in_item_of incoming.now)) }
 {
     print_outgoing(outgoing, writer)?;
     print_incoming(incoming, writer)

@@ -44,7 +44,8 @@ impl<'a> Answer<'a> {
 
     /// Holds the answer, if there is room for it.
     fn hold<D: Desktop>(&self, desktop: &D, held: &mut Held) -> bool
-        ensures all { OnTrue result ((d : Desk) → D.spells desktop.now d → held.new.bytes ≡ held.old.bytes ++ answer_bytes d self.now) }
+        ensures all { OnTrue result ((d : Desk) → D.spells desktop.now d → held.new.bytes ≡ held.old.bytes
+            ++ answer_bytes d self.now) }
         ensures none { OnFalse result ((d : Desk) → D.spells desktop.now d → held.new.bytes ≡ held.old.bytes) }
     {
         let len = held.as_slice().len();

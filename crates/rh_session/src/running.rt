@@ -25,19 +25,24 @@ pub fn run_script<D: Desktop, R: Source, W: Sink>(
     requires { (R.input reader.old).reads ≡ 0 }
 
     // The whole script was read, and its text was written.
-    ensures ok { IfOk result (λ status. (d : Desk) → D.spells desktop d → Finished d (R.input reader.old) (R.input reader.new) (W.output writer.old) (W.output writer.new) status) }
+    ensures ok { IfOk result (λ status. (d : Desk) → D.spells desktop d → Finished d (R.input reader.old)
+        (R.input reader.new) (W.output writer.old) (W.output writer.new) status) }
 
     // It takes no memory.
     ensures had_memory { IsErrOf result RunFault.NoMemory → ⊥ }
 
     // The complete lines that were read have been answered.
     ensures read_failed { IsErrOf result RunFault.ReadFailed → (R.input reader.new).failed ≡ true }
-    ensures read_answered { IsErrOf result RunFault.ReadFailed → (d : Desk) → D.spells desktop d → Answered d (R.input reader.old) (R.input reader.new) (W.output writer.old) (W.output writer.new) }
-    ensures too_long { IsErrOf result RunFault.TooLong → ((R.input reader.new).reads ≡ MOST_READS) × ((R.input reader.new).failed ≡ (R.input reader.old).failed) }
-    ensures long_answered { IsErrOf result RunFault.TooLong → (d : Desk) → D.spells desktop d → Answered d (R.input reader.old) (R.input reader.new) (W.output writer.old) (W.output writer.new) }
+    ensures read_answered { IsErrOf result RunFault.ReadFailed → (d : Desk) → D.spells desktop d
+        → Answered d (R.input reader.old) (R.input reader.new) (W.output writer.old) (W.output writer.new) }
+    ensures too_long { IsErrOf result RunFault.TooLong → ((R.input reader.new).reads ≡ MOST_READS)
+        × ((R.input reader.new).failed ≡ (R.input reader.old).failed) }
+    ensures long_answered { IsErrOf result RunFault.TooLong → (d : Desk) → D.spells desktop d
+        → Answered d (R.input reader.old) (R.input reader.new) (W.output writer.old) (W.output writer.new) }
 
     // The writer failed, and took a front of the script's text.
-    ensures write_failed { IsErrOf result RunFault.WriteFailed → (d : Desk) → D.spells desktop d → BrokeOff d (R.input reader.old) (W.output writer.old) (W.output writer.new) }
+    ensures write_failed { IsErrOf result RunFault.WriteFailed → (d : Desk) → D.spells desktop d
+        → BrokeOff d (R.input reader.old) (W.output writer.old) (W.output writer.new) }
 
     // However it ends, at most so many reads gave bytes.
     ensures reads { (R.input reader.new).reads ≤ MOST_READS }
@@ -72,10 +77,12 @@ pub fn run_whole<D: Desktop, W: Sink>(
     writer: &mut W,
 ) -> Result<Status, WriteFailed>
     // The script's text was written.
-    ensures ok { IfOk result (λ status. (d : Desk) → D.spells desktop d → Finished d (unread script.now) (unread []) (W.output writer.old) (W.output writer.new) status) }
+    ensures ok { IfOk result (λ status. (d : Desk) → D.spells desktop d → Finished d (unread script.now) (unread [])
+        (W.output writer.old) (W.output writer.new) status) }
 
     // The writer failed, and took a front of the script's text.
-    ensures write_failed { IfErr result (λ fault. (d : Desk) → D.spells desktop d → BrokeOff d (unread script.now) (W.output writer.old) (W.output writer.new)) }
+    ensures write_failed { IfErr result (λ fault. (d : Desk) → D.spells desktop d → BrokeOff d (unread script.now)
+        (W.output writer.old) (W.output writer.new)) }
 {
     let mut session = Session::new(desktop);
     let mut held = Held::new();

@@ -50,8 +50,10 @@ impl<D: Desktop> Session<D> {
         writer: &mut W,
     ) -> Result<(), WriteFailed>
         requires { held.old.bytes ≡ [] }
-        ensures text { (s : State) → IsState D.spells self.old s → Puts (W.output writer.old) (W.output writer.new) result (text_of s bytes.now) }
-        ensures state { (s : State) → IsState D.spells self.old s → OnOk result (IsState D.spells self.new (state_of s bytes.now)) }
+        ensures text { (s : State) → IsState D.spells self.old s
+            → Puts (W.output writer.old) (W.output writer.new) result (text_of s bytes.now) }
+        ensures state { (s : State) → IsState D.spells self.old s
+            → OnOk result (IsState D.spells self.new (state_of s bytes.now)) }
         ensures none_held { OnOk result (held.new.bytes ≡ []) }
     {
         self.take(bytes, held, writer)?;
@@ -65,8 +67,11 @@ impl<D: Desktop> Session<D> {
         held: &mut Held,
         writer: &mut W,
     ) -> Result<(), WriteFailed>
-        ensures text { (s : State) → IsState D.spells self.old s → Gathers (W.output writer.old) (W.output writer.new) result held.old.bytes held.new.bytes (text_of s bytes.now) }
-        ensures state { (s : State) → IsState D.spells self.old s → OnOk result (IsState D.spells self.new (state_of s bytes.now)) }
+        ensures text { (s : State) → IsState D.spells self.old s
+            → Gathers (W.output writer.old) (W.output writer.new) result held.old.bytes held.new.bytes
+            (text_of s bytes.now) }
+        ensures state { (s : State) → IsState D.spells self.old s
+            → OnOk result (IsState D.spells self.new (state_of s bytes.now)) }
     {
         let mut command = Command::Ask(Question::Areas);
         let mut rest = bytes;
@@ -86,8 +91,11 @@ impl<D: Desktop> Session<D> {
         held: &mut Held,
         writer: &mut W,
     ) -> Result<(), WriteFailed>
-        ensures text { (s : State) → IsState D.spells self.old s → Gathers (W.output writer.old) (W.output writer.new) result held.old.bytes held.new.bytes (line_text s.desk (s.line ++ bytes.now)) }
-        ensures state { (s : State) → IsState D.spells self.old s → IsState D.spells self.new (state_after_line s bytes.now) }
+        ensures text { (s : State) → IsState D.spells self.old s
+            → Gathers (W.output writer.old) (W.output writer.new) result held.old.bytes held.new.bytes
+            (line_text s.desk (s.line ++ bytes.now)) }
+        ensures state { (s : State) → IsState D.spells self.old s
+            → IsState D.spells self.new (state_after_line s bytes.now) }
     {
         let found = read_line(self.line.whole(bytes), command);
         self.line.clear();
@@ -103,8 +111,11 @@ impl<D: Desktop> Session<D> {
         writer: &mut W,
     ) -> Result<(), WriteFailed>
         requires in_range { OnFound found (IsTrue (in_range command.now)) }
-        ensures text { (s : State) → IsState D.spells self.old s → Gathers (W.output writer.old) (W.output writer.new) result held.old.bytes held.new.bytes (meaning_text s.desk (if_placed found command.now)) }
-        ensures state { (s : State) → IsState D.spells self.old s → IsState D.spells self.new (state_after_meaning s (if_placed found command.now)) }
+        ensures text { (s : State) → IsState D.spells self.old s
+            → Gathers (W.output writer.old) (W.output writer.new) result held.old.bytes held.new.bytes
+            (meaning_text s.desk (if_placed found command.now)) }
+        ensures state { (s : State) → IsState D.spells self.old s
+            → IsState D.spells self.new (state_after_meaning s (if_placed found command.now)) }
     {
         match found {
             Ok(false) => Ok(()),
@@ -124,8 +135,11 @@ impl<D: Desktop> Session<D> {
         writer: &mut W,
     ) -> Result<(), WriteFailed>
         requires in_range { IsTrue (in_range command.now) }
-        ensures text { (s : State) → IsState D.spells self.old s → Gathers (W.output writer.old) (W.output writer.new) result held.old.bytes held.new.bytes (meaning_text s.desk (Ok (Some command.now))) }
-        ensures state { (s : State) → IsState D.spells self.old s → IsState D.spells self.new (state_after_meaning s (Ok (Some command.now))) }
+        ensures text { (s : State) → IsState D.spells self.old s
+            → Gathers (W.output writer.old) (W.output writer.new) result held.old.bytes held.new.bytes
+            (meaning_text s.desk (Ok (Some command.now))) }
+        ensures state { (s : State) → IsState D.spells self.old s
+            → IsState D.spells self.new (state_after_meaning s (Ok (Some command.now))) }
     {
         match command {
             Command::Ask(question) => Answer::Told(question).write(&self.desktop, held, writer),
@@ -138,8 +152,10 @@ impl<D: Desktop> Session<D> {
 
     /// Says what is wrong with a line that was cut. The script has ended.
     pub fn finish<W: Sink>(&mut self, writer: &mut W) -> Result<(), WriteFailed>
-        ensures text { (s : State) → IsState D.spells self.old s → Puts (W.output writer.old) (W.output writer.new) result (rest_text s.line) }
-        ensures bad { (s : State) → IsState D.spells self.old s → self.new.has_bad_line ≡ (s.bad || not (length s.line == 0)) }
+        ensures text { (s : State) → IsState D.spells self.old s
+            → Puts (W.output writer.old) (W.output writer.new) result (rest_text s.line) }
+        ensures bad { (s : State) → IsState D.spells self.old s → self.new.has_bad_line
+            ≡ (s.bad || not (length s.line == 0)) }
     {
         let len = self.line.as_slice().len();
         if len == 0 {

@@ -28,7 +28,7 @@ use Rattle.rh_sheet.specs.WellFormed.{Reader, Words, read_on, EndsAll}
 
 -- ---- fixed texts
 
-style-whole : Whole style_text
+pub style-whole : Whole style_text
 unfolding style_text
 style-whole = record { reads = λ around. refl }
 
@@ -36,13 +36,13 @@ signs-whole : Whole signs_text
 unfolding signs_text
 signs-whole = record { reads = λ around. refl }
 
-key-whole : Whole key_text
+pub key-whole : Whole key_text
 unfolding key_text
 key-whole = record { reads = λ around. refl }
 
 -- ---- tables
 
-abbrev In : Text → List Text → Reader
+abbrev pub In : Text → List Text → Reader
 In name around = (name ∷ around, Words)
 
 -- inside a table's body
@@ -139,20 +139,22 @@ figure-whole x notes step =
 
 -- ---- what is said
 
-said-whole : (step : ℕ) (line reply : Text) → Whole (steps.said_text step line reply)
+pub command-ends : (step : ℕ) (line : Text) (around : List Text)
+    → Same (read_on (around, Words) (steps.command_head step line)) (In (codes "erp") around)
+command-ends step line around = through
+    (around, Words)
+    (Fixed (codes "<h2><b>") ∷ Stays (decimal step) ∷ Fixed (codes "</b> <code>") ∷ Stays (escape (steps.command_text line))
+    ∷ Fixed (codes "</code></h2>\n<pre>") ∷ []) (
+      (decimal-whole step).reads (codes "b" ∷ codes "2h" ∷ around),
+      ((escape-whole (steps.command_text line)).reads (codes "edoc" ∷ codes "2h" ∷ around), tt),
+    )
+
+pub said-whole : (step : ℕ) (line reply : Text) → Whole (steps.said_text step line reply)
 said-whole step line reply = record {
   reads = λ around. through
       (around, Words)
-      (Goes (steps.command_head step line) (In (codes "erp") around) ∷ Stays (escape (steps.reply_shown reply)) ∷ Fixed (codes "</pre>\n") ∷ []) (
-        through
-            (around, Words)
-            (Fixed (codes "<h2><b>") ∷ Stays (decimal step) ∷ Fixed (codes "</b> <code>") ∷ Stays (escape (steps.command_text line))
-            ∷ Fixed (codes "</code></h2>\n<pre>") ∷ []) (
-              (decimal-whole step).reads (codes "b" ∷ codes "2h" ∷ around),
-              ((escape-whole (steps.command_text line)).reads (codes "edoc" ∷ codes "2h" ∷ around), tt),
-            ),
-        ((escape-whole (steps.reply_shown reply)).reads (codes "erp" ∷ around), tt),
-      );
+      (Goes (steps.command_head step line) (In (codes "erp") around) ∷ Stays (escape (steps.reply_shown reply)) ∷ Fixed (codes "</pre>\n") ∷ [])
+      (command-ends step line around, ((escape-whole (steps.reply_shown reply)).reads (codes "erp" ∷ around), tt));
 }
 
 last-whole : (last : ℕ) → Whole (steps.last_figure last)
@@ -173,10 +175,10 @@ still-whole last = record {
 -- ---- a step, from behind its beginning to its end
 
 -- inside of what is said at a step
-abbrev says : List Text → Reader
+abbrev pub says : List Text → Reader
 says around = In (codes "vid") (codes "noitces" ∷ around)
 
-step-opens : (n : ℕ) (around : List Text) → Same (read_on (around, Words) (steps.step_open n)) (says around)
+pub step-opens : (n : ℕ) (around : List Text) → Same (read_on (around, Words) (steps.step_open n)) (says around)
 step-opens n around = through
     (around, Words)
     (Fixed (codes "<section id=\"d") ∷ Stays (decimal n) ∷ Fixed (codes "\">\n<div class=\"says\">\n<nav>") ∷ Stays (steps.back_link n)
@@ -210,7 +212,7 @@ step-ends false step line reply x notes last around = through
       ),
     )
 
-remark-whole : (line : Text) → Whole (steps.remark_text line)
+pub remark-whole : (line : Text) → Whole (steps.remark_text line)
 remark-whole line = whole-if (length (steps.remark_words line) == 0) [] _ whole-none (record {
   reads = λ around. through
       (around, Words)
@@ -225,11 +227,11 @@ remark-whole line = whole-if (length (steps.remark_words line) == 0) [] _ whole-
 -- ---- from line to line
 
 -- where a reader stands between two lines, whether a step has begun or not
-abbrev between : Bool → List Text → Reader
+abbrev pub between : Bool → List Text → Reader
 between opened around = if opened then says around else (around, Words)
 
 -- a step's beginning, if no remark has written it
-begins : (opened : Bool) (n : ℕ) (around : List Text)
+pub begins : (opened : Bool) (n : ℕ) (around : List Text)
     → Same (read_on (between opened around) (if opened then [] else steps.step_open n)) (says around)
 begins true n around = refl
 begins false n around = step-opens n around
@@ -260,7 +262,7 @@ happens marked x r line h around = happened
     (step-ends (h.still && not x.place.wanted) (x.place.steps + 1) line h.reply h.scene (noted (x.place.steps + 1) h.scene x.notes) x.last around)
 
 -- one line
-line-ends : (marked : Bool) (s : Share) (x : Sheet.Walk) (r : Read) (around : List Text)
+pub line-ends : (marked : Bool) (s : Share) (x : Sheet.Walk) (r : Read) (around : List Text)
     → Same (read_on (between x.opened around) (Sheet.read_text marked s x r)) (between (Sheet.behind_read marked s x r).opened around)
 line-ends marked s x (line, Ok None) around = skipped (Sheet.is_shown_remark marked x line) x.opened (x.shown + 1) line around
 line-ends marked s x (line, Ok (Some c)) around = happens
@@ -271,7 +273,7 @@ line-ends marked s x (line, Err fault) around =
 -- ---- the foot
 
 -- inside of what all steps stand in
-abbrev outer : List Text
+abbrev pub outer : List Text
 outer = codes "niam" ∷ codes "ydob" ∷ codes "lmth" ∷ []
 
 left-whole : (left : ℕ) → Whole (Sheet.left_text left)
@@ -307,7 +309,7 @@ rest-ends : (opened : Bool) → Same (read_on (between opened outer) (where_so o
 rest-ends true = refl
 rest-ends false = refl
 
-lines-end : (marked : Bool) (x : Sheet.Walk) (stages : List Stage)
+pub lines-end : (marked : Bool) (x : Sheet.Walk) (stages : List Stage)
     → Same (read_on (between x.opened outer) (Sheet.sheet_lines marked x stages)) ([], Words)
 lines-end marked x [] = on (between x.opened outer) (Sheet.open_rest x) _ (rest-ends x.opened) (foot-ends (Sheet.steps_begun x) x.left)
 lines-end marked x ((r, s) ∷ rest) = on
@@ -316,7 +318,7 @@ lines-end marked x ((r, s) ∷ rest) = on
 
 -- ---- the head
 
-title-ends : (name : Text) → Same (read_on ([], Words) (Sheet.title_text name)) (codes "lmth" ∷ [], Words)
+pub title-ends : (name : Text) → Same (read_on ([], Words) (Sheet.title_text name)) (codes "lmth" ∷ [], Words)
 title-ends name = through
     ([], Words)
     (Fixed (codes "<!DOCTYPE html>\n<html lang=\"en\" xmlns=\"http://www.w3.org/1999/xhtml\">\n<head>\n<meta charset=\"utf-8\"/>\n")
@@ -327,7 +329,7 @@ title-ends name = through
       (style-whole.reads (codes "elyts" ∷ codes "daeh" ∷ codes "lmth" ∷ []), tt),
     )
 
-shared-whole : (pages : ℕ) → Whole (Sheet.shared_text pages)
+pub shared-whole : (pages : ℕ) → Whole (Sheet.shared_text pages)
 shared-whole pages = record {
   reads = λ around. through
       (around, Words)
@@ -336,7 +338,7 @@ shared-whole pages = record {
       (signs-whole.reads (codes "sfed" ∷ codes "gvs" ∷ around), ((grid-whole pages).reads (codes "sfed" ∷ codes "gvs" ∷ around), tt));
 }
 
-head-ends : (name : Text) (pages : ℕ) → Same (read_on ([], Words) (Sheet.sheet_head name pages)) (outer, Words)
+pub head-ends : (name : Text) (pages : ℕ) → Same (read_on ([], Words) (Sheet.sheet_head name pages)) (outer, Words)
 head-ends name pages = through
     ([], Words)
     (Goes (Sheet.title_text name) (codes "lmth" ∷ [], Words) ∷ Fixed (codes "<body id=\"all\">\n") ∷ Stays (Sheet.shared_text pages)

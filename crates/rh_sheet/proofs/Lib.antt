@@ -7,3 +7,4 @@ mod Reading
 mod Elements
 mod Figures
 mod Ends
+mod Retold

@@ -1,12 +1,14 @@
--- A worked sheet, by computation: three commands over 8 pages, of which each takes the last free one.
+-- A worked sheet, by computation: three commands over 8 pages, of which each takes the last free one. Small documents, and
+-- what of a sheet is markup.
 use Rattle.std.specs.Prelude.{◌≡◌, refl, ℕ, ◌==◌, if◌then◌else◌, List, [], ◌∷◌, ◌++◌, codes, false}
-use Rattle.std.specs.List.{flat_map, range_with_len}
+use Rattle.std.specs.List.{concat, flat_map, range_with_len}
 use Rattle.hex.proofs.OnLiterals.{hex_on_literals}
 use Rattle.rh_defs.specs.Line.{line_means}
 use Rattle.rh_figure.specs.Share.{Owner, AreaOf, SlotOf, Share}
 use Rattle.rh_figure.specs.Map.{Stage, map_start}
 use Rattle.rh_sheet.specs.Sheet.{sheet_lines}
 use Rattle.rh_sheet.specs.WellFormed.{Words, Lost, read_on}
+use Rattle.rh_sheet.specs.TextLaws.{markup, AreRetold}
 use Rattle.rh_sheet.specs.Sheet as sheet
 
 -- lines with their line feeds
@@ -187,3 +189,41 @@ begun = refl
 -- a quote that ends a value
 unquoted : read_on ([], Words) (codes "<p title=\"a\"<\">z</p>") ≡ ([], Lost)
 unquoted = refl
+
+-- ---- what is markup
+
+attributes : markup ([], Words) (codes "<p title=\"a &gt; b\">x &lt; y <b>z</b><br/></p>") ≡ codes "<p title=\"a &gt; b\"><b></b><br/></p>"
+attributes = refl
+
+-- an element that stands in a text as it is ends where it has to, and is found
+balanced : read_on ([], Words) (codes "<p>a<b></b></p>") ≡ ([], Words)
+balanced = refl
+
+found : markup ([], Words) (codes "<p>a<b></b></p>") ≡ codes "<p><b></b></p>"
+found = refl
+
+-- a remark and a bad line, and others in their places
+abbrev said : List Stage
+said = stage (codes "# A remark") (shared 7 []) ∷ stage (codes "no command") (shared 7 []) ∷ []
+
+abbrev said_with_signs : List Stage
+said_with_signs = stage (codes "#</p><b></b> \"&") (shared 7 []) ∷ stage (codes "<i>x</i>") (shared 7 []) ∷ []
+
+retold : AreRetold said said_with_signs
+unfolding sheet.computing
+retold = (
+  record { meaning = refl; share = refl; skipped = λ none. record { title = refl; words = refl; remark = refl } },
+  (record { meaning = refl; share = refl; skipped = λ none. record { title = refl; words = refl; remark = refl } }, tt),
+)
+
+-- the elements of both, from a sheet's head on
+marked_up :
+    markup (codes "niam" ∷ codes "ydob" ∷ codes "lmth" ∷ [], Words)
+    (sheet_lines false (record { place = map_start 8 []; shown = 0; last = 0; left = 0; opened = false; notes = [] }) said_with_signs)
+    ≡ concat (
+    codes "<section id=\"d1\"><div class=\"says\"><nav><span></span><a href=\"#d2\"></a><a href=\"#all\"></a></nav>"
+    ∷ codes "<p class=\"remark\"></p><h2><b></b><code></code></h2><pre></pre><p class=\"still\"></p></div></section>"
+    ∷ codes "</main><nav id=\"d2\"><a href=\"#d1\"></a></nav></body></html>" ∷ []
+    )
+unfolding sheet.computing hex_on_literals
+marked_up = refl

@@ -14,4 +14,5 @@ pub mod SheetRows
 pub mod SheetSteps
 pub mod Slides
 pub mod Tables
+pub mod TextLaws
 pub mod WellFormed

@@ -2,6 +2,7 @@
 
 ghost use Rattle.rh_sheet.specs.SheetLaws.{DrawsNoOrder, EscapesAll, LiesInside};
 ghost use Rattle.rh_sheet.specs.Slides.{SlideInSlots};
+ghost use Rattle.rh_sheet.specs.TextLaws.{SaysNoMarkup};
 ghost use Rattle.rh_sheet.specs.WellFormed.{EndsAll};
 
 /// Whatever stands in a text or a tip: no `<`, `>` or `"` is in it, and `&` only before the name of a sign. So nothing
@@ -14,6 +15,12 @@ pub fn escape_law()
 /// text of the script that were written as it is would break that, by a `<` alone.
 pub fn elements_law()
     ensures { EndsAll }
+{}
+
+/// Whatever a script and its name say: the elements of its sheet and their attributes are the same, byte for byte. Of a
+/// line that is skipped it counts whether it is a title and has words; of a command what it asks for.
+pub fn markup_law()
+    ensures { SaysNoMarkup }
 {}
 
 /// Each piece of an area lies within the row of its page, and rows, cards and squares within their figure.

@@ -11,5 +11,5 @@ pub mod sizes;
 pub mod style;
 
 pub use frame::Frame;
-pub use laws::{escape_law, inside_law, sheet_order_law, slide_law};
+pub use laws::{elements_law, escape_law, inside_law, markup_law, sheet_order_law, slide_law};
 pub use note::Note;

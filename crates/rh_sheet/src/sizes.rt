@@ -2,7 +2,8 @@
 
 ghost use Rattle.std.specs.Prelude.{◌≡◌, ◌≤◌, ◌+◌, ◌*◌};
 ghost use Rattle.rh_defs.specs.declared.sizes.TheConstants.{PAGE};
-ghost use Rattle.rh_sheet.specs.declared.sizes.TheConstants.{CARDS_ACROSS, CARD_PITCH, CELL, FIGURE_WIDTH, LEFT, POOL_COLUMNS, ROW_WIDTH, UNIT_BYTES};
+ghost use Rattle.rh_sheet.specs.declared.sizes.TheConstants.{CARDS_ACROSS, CARD_PITCH, CELL, FIGURE_WIDTH, LEFT};
+ghost use Rattle.rh_sheet.specs.declared.sizes.TheConstants.{POOL_COLUMNS, ROW_WIDTH, UNIT_BYTES};
 
 /// A unit is so many bytes of memory.
 pub const UNIT_BYTES: usize = 4;

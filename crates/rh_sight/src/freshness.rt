@@ -6,7 +6,8 @@ ghost use Rattle.std.specs.Option.{option_map};
 ghost use Rattle.rh_defs.specs.declared.question.BlockItem.{BlockItem};
 ghost use Rattle.rh_defs.specs.Desk.{Desk, Task};
 ghost use Rattle.rh_figure.specs.Figure.{is_drawn as is_drawn_in, is_recipient as is_recipient_of};
-ghost use Rattle.rh_figure.specs.Layout.{is_changed_block as is_changed_of, is_fresh_block as is_fresh_block_in, is_fresh_flex as is_fresh_flex_in, is_put as is_put_of};
+ghost use Rattle.rh_figure.specs.Layout.{is_changed_block as is_changed_of, is_fresh_block as is_fresh_block_in};
+ghost use Rattle.rh_figure.specs.Layout.{is_fresh_flex as is_fresh_flex_in, is_put as is_put_of};
 ghost use Rattle.rh_sight.specs.Seen.{letter_seen};
 ghost use Rattle.rh_sight.specs.Steps.{scene_at};
 
@@ -66,7 +67,8 @@ pub fn is_new_ref(step: &Step<'_>, my_ref: Ref) -> bool
 /// Whether the slot of a task is drawn, where so many tasks are live: all slots of few tasks are, and of many those
 /// that the command is about.
 pub fn is_drawn(step: &Step<'_>, tasks: usize, handle: Handle) -> bool
-    ensures { (d : Desk) (t : Task) → tasks ≡ length d.tasks → handle ≡ t.handle → result ≡ is_drawn_in (scene_at d step.now) t }
+    ensures { (d : Desk) (t : Task) → tasks ≡ length d.tasks → handle ≡ t.handle → result
+        ≡ is_drawn_in (scene_at d step.now) t }
 {
     tasks <= MOST_SLOTS
         || handle == step.marks.handle

@@ -100,7 +100,8 @@ impl Kept {
         requires task { i < length (S.desk sight.now).tasks }
         requires messages { messages.now ≡ message_items (S.desk sight.now) }
         requires before { self.old ≡ before_task (S.desk sight.now) None }
-        ensures { (t : Task) → slice_get (S.desk sight.now).tasks i ≡ Some t → self.new ≡ before_task (S.desk sight.now) (Some t) }
+        ensures { (t : Task) → slice_get (S.desk sight.now).tasks i ≡ Some t → self.new
+            ≡ before_task (S.desk sight.now) (Some t) }
     {
         sight.spelled();
         if let Some(task) = sight.task(i) {

@@ -4,7 +4,10 @@ ghost use Rattle.std.specs.Prelude.{◌≡◌, ℕ, Some};
 ghost use Rattle.std.specs.Option.{option_map};
 ghost use Rattle.rh_defs.specs.Desk.{task_at};
 ghost use Rattle.rh_defs.specs.Commands.{is_refused};
-ghost use Rattle.rh_figure.specs.Scene.{Before, buffer_of as buffer_of_sent, heap_mark as heap_mark_of, is_question as is_question_of, is_still as is_still_of, marks_for, marks_of as marks_of_desk, module_mark as module_mark_of, no_marks, put_mark as put_mark_of, sent_by as sent_by_task, taken_mark as taken_mark_of};
+ghost use Rattle.rh_figure.specs.Scene.{Before, buffer_of as buffer_of_sent, heap_mark as heap_mark_of};
+ghost use Rattle.rh_figure.specs.Scene.{is_question as is_question_of, is_still as is_still_of, marks_for};
+ghost use Rattle.rh_figure.specs.Scene.{marks_of as marks_of_desk, module_mark as module_mark_of, no_marks};
+ghost use Rattle.rh_figure.specs.Scene.{put_mark as put_mark_of, sent_by as sent_by_task, taken_mark as taken_mark_of};
 ghost use Rattle.rh_sight.specs.Seen.{letter_seen};
 ghost use Rattle.rh_sight.specs.Steps.{IsSender, block_seen, marks_seen};
 
@@ -48,7 +51,8 @@ impl<'a> Marks<'a> {
         command: Option<&Command>,
         reply: &Reply,
     ) -> Marks<'a>
-        ensures { marks_seen result ≡ marks_of_desk (S.desk sight.now) kept.now (option_map (λ c. c.now) command.entry) reply.now }
+        ensures { marks_seen result ≡ marks_of_desk (S.desk sight.now) kept.now (option_map
+            (λ c. c.now) command.entry) reply.now }
     {
         match command {
             Some(command) if !is_still(Some(command), reply) => {
@@ -117,7 +121,8 @@ fn is_refusal(reply: &Reply) -> bool
 
 /// The last letter of the task that may have sent one at a step, if it was sent at that step.
 pub fn sent_by<'a, S: Sight>(sight: &'a S, sender: Sender) -> Option<(&'a Letter, Ref)>
-    ensures { (b : Before) → IsSender sender b → option_map letter_seen result ≡ sent_by_task b (task_at b.handle (S.desk sight.now)) }
+    ensures { (b : Before) → IsSender sender b → option_map letter_seen result
+        ≡ sent_by_task b (task_at b.handle (S.desk sight.now)) }
 {
     let i = task_with(sight, sender.handle)?;
     let Some(task) = sight.task(i) else {

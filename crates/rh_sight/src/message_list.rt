@@ -1,7 +1,8 @@
 //! Looking through the list of all messages.
 
 ghost use Rattle.std.specs.Prelude.{◌≡◌, filter, find};
-ghost use Rattle.rh_sight.specs.SightMessages.{items_behind, first_ref, held_ref as held_ref_in, is_held_by, lies_in, message_place, waits_for};
+ghost use Rattle.rh_sight.specs.SightMessages.{items_behind, first_ref, held_ref as held_ref_in, is_held_by, lies_in};
+ghost use Rattle.rh_sight.specs.SightMessages.{message_place, waits_for};
 
 use rh_defs::{Handle, MessageItem, Ref};
 

@@ -26,7 +26,8 @@ pub fn free_of<'a, S: Sight>(sight: &S, pages: &'a [u16]) -> &'a [u16]
 pub fn pages_of<'a, S: Sight>(sight: &S, pages: &'a [u16], owner: PagesOf) -> &'a [u16]
     requires shared { IsShared (share_in pages.now (S.desk sight.now)) (S.desk sight.now) }
     requires owner { IsSome (owner_seen owner (S.desk sight.now)) }
-    ensures { IfSome (owner_seen owner (S.desk sight.now)) (λ o. result.now ≡ (share_in pages.now (S.desk sight.now)).pages_of o) }
+    ensures { IfSome (owner_seen owner (S.desk sight.now)) (λ o. result.now ≡
+        (share_in pages.now (S.desk sight.now)).pages_of o) }
 {
     sight.spelled();
     let first = first_page(sight, owner);
@@ -75,7 +76,8 @@ fn first_page<S: Sight>(sight: &S, owner: PagesOf) -> usize
 /// How many pages the areas below a number have, of areas 0 to 5.
 fn fixed_before<S: Sight>(sight: &S, number: u32) -> usize
     requires { number ≤ FIXED_AREAS }
-    ensures { result ≡ total (λ (h : Holding). h.1) (take number (map (fixed_holding (S.desk sight.now)) (enumerate_from 0 (S.desk sight.now).areas))) }
+    ensures { result ≡ total (λ (h : Holding). h.1) (take number
+        (map (fixed_holding (S.desk sight.now)) (enumerate_from 0 (S.desk sight.now).areas))) }
 {
     sight.spelled();
     let mut count = 0;

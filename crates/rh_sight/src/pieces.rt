@@ -1,16 +1,19 @@
 //! The pieces of an area, one after the other.
 
-ghost use Rattle.std.specs.Prelude.{◌≡◌, ◌≤◌, ◌<◌, ◌+◌, ◌-◌, ◌^◌, ◌++◌, ℕ, List, false, length, slice_get, take, IfSome, IsSome, Some};
+ghost use Rattle.std.specs.Prelude.{◌≡◌, ◌≤◌, ◌<◌, ◌+◌, ◌-◌, ◌^◌, ◌++◌, ℕ, List, false, length, slice_get, take};
+ghost use Rattle.std.specs.Prelude.{IfSome, IsSome, Some};
 ghost use Rattle.rh_defs.specs.Pieces.{total};
 ghost use Rattle.rh_defs.specs.Heap.{Segment, first_place, place_after};
 ghost use Rattle.rh_defs.specs.Desk.{Desk, Task};
 ghost use Rattle.rh_defs.specs.Questions.{block_items, segment_item, segment_items_from};
 ghost use Rattle.rh_defs.specs.declared.sizes.TheConstants.{MODULE_START};
-ghost use Rattle.rh_figure.specs.Layout.{heap_pieces, module_legend, module_pieces as module_pieces_of, segment_piece, segment_pieces, slot_pieces as slot_pieces_of};
+ghost use Rattle.rh_figure.specs.Layout.{heap_pieces, module_legend, module_pieces as module_pieces_of, segment_piece};
+ghost use Rattle.rh_figure.specs.Layout.{segment_pieces, slot_pieces as slot_pieces_of};
 ghost use Rattle.rh_figure.specs.declared.limits.TheConstants.{MOST_SEGMENTS};
 ghost use Rattle.rh_sight.specs.Seen.{IsTaskSeen, heap_seen, heap_start_of};
 ghost use Rattle.rh_sight.specs.Steps.{IsStepOf, scene_at};
-ghost use Rattle.rh_sight.specs.Inner.WalkItems.{area_start_of, IsInArea, item_pieces, item_weight, kind_and_freshness, legend_of};
+ghost use Rattle.rh_sight.specs.Inner.WalkItems.{area_start_of, IsInArea, item_pieces, item_weight, kind_and_freshness};
+ghost use Rattle.rh_sight.specs.Inner.WalkItems.{legend_of};
 ghost use Rattle.rh_sight.specs.declared.pieces.TheConstants.{MOST_PIECES};
 
 use crate::freshness::{is_fresh_block, is_fresh_flex, is_new_ref};
@@ -51,7 +54,8 @@ pub fn slot_pieces<S: Sight>(
     pieces: &mut Pieces,
 )
     requires step { IsStepOf (S.desk sight.now) step.now }
-    requires task { (t : Task) × (slice_get (S.desk sight.now).tasks i ≡ Some t) × IsTaskSeen task.now t × (blocks.now ≡ block_items t.slot) }
+    requires task { (t : Task) × (slice_get (S.desk sight.now).tasks i ≡ Some t) × IsTaskSeen task.now t
+        × (blocks.now ≡ block_items t.slot) }
     ensures { (t : Task) → slice_get (S.desk sight.now).tasks i ≡ Some t →
         pieces.new.items ≡ slot_pieces_of (scene_at (S.desk sight.now) step.now) t.handle t.slot }
 {
@@ -109,7 +113,8 @@ fn push_blocks(
 ) -> usize
     requires few { length pieces.old.items + length blocks.now ≤ MOST_PIECES }
     requires small { at + total item_weight blocks.now < 2 ^ 40 }
-    ensures pieces { (d : Desk) → pieces.new.items ≡ pieces.old.items ++ item_pieces (scene_at d step.now) handle at blocks.now }
+    ensures pieces { (d : Desk) → pieces.new.items ≡ pieces.old.items
+        ++ item_pieces (scene_at d step.now) handle at blocks.now }
     ensures end { result ≡ at + total item_weight blocks.now }
 {
     let mut end = at;
@@ -135,7 +140,8 @@ fn push_heap<S: Sight>(sight: &S, step: &Step<'_>, drawn: &DrawnHeap, pieces: &m
     requires few { length pieces.old.items + MOST_SEGMENTS + 3 ≤ MOST_PIECES }
     requires heap { IsSome (heap_seen drawn.now.heap (S.desk sight.now)) }
     ensures { IfSome (heap_seen drawn.now.heap (S.desk sight.now)) (λ h. pieces.new.items ≡ pieces.old.items
-        ++ heap_pieces (legend_of (scene_at (S.desk sight.now) step.now) drawn.now.heap drawn.now.handle) (heap_start_of drawn.now.heap - area_start_of drawn.now.heap) h) }
+        ++ heap_pieces (legend_of (scene_at (S.desk sight.now) step.now) drawn.now.heap drawn.now.handle)
+        (heap_start_of drawn.now.heap - area_start_of drawn.now.heap) h) }
 {
     sight.spelled();
     let at = (heap_address(drawn.heap) - area_address(drawn.heap)) as usize;
@@ -164,8 +170,10 @@ fn push_segments<S: Sight>(
     requires few { length pieces.old.items + MOST_SEGMENTS ≤ MOST_PIECES }
     requires heap { IsSome (heap_seen drawn.now.heap (S.desk sight.now)) }
     ensures pieces { IfSome (heap_seen drawn.now.heap (S.desk sight.now)) (λ h. pieces.new.items ≡ pieces.old.items
-        ++ segment_pieces (legend_of (scene_at (S.desk sight.now) step.now) drawn.now.heap drawn.now.handle) (heap_start_of drawn.now.heap - area_start_of drawn.now.heap + first_place) (take MOST_SEGMENTS h.segments)) }
-    ensures place { IfSome (heap_seen drawn.now.heap (S.desk sight.now)) (λ h. result ≡ place_after (take MOST_SEGMENTS h.segments)) }
+        ++ segment_pieces (legend_of (scene_at (S.desk sight.now) step.now) drawn.now.heap drawn.now.handle)
+        (heap_start_of drawn.now.heap - area_start_of drawn.now.heap + first_place) (take MOST_SEGMENTS h.segments)) }
+    ensures place { IfSome (heap_seen drawn.now.heap (S.desk sight.now))
+        (λ h. result ≡ place_after (take MOST_SEGMENTS h.segments)) }
 {
     sight.spelled();
     let mut place = HEAP_FIRST as u32;
@@ -182,9 +190,13 @@ fn push_segments<S: Sight>(
 /// Appends segments.
 fn push_items(step: &Step<'_>, drawn: &DrawnHeap, items: &[SegmentItem], pieces: &mut Pieces)
     requires few { length pieces.old.items + length items.now ≤ MOST_PIECES }
-    requires items { (place : ℕ) × (segments : List Segment) × (items.now ≡ segment_items_from (heap_start_of drawn.now.heap + place) segments) }
-    ensures { (d : Desk) (place : ℕ) (segments : List Segment) → IsStepOf d step.now → items.now ≡ segment_items_from (heap_start_of drawn.now.heap + place) segments →
-        pieces.new.items ≡ pieces.old.items ++ segment_pieces (legend_of (scene_at d step.now) drawn.now.heap drawn.now.handle) (heap_start_of drawn.now.heap - area_start_of drawn.now.heap + place) segments }
+    requires items { (place : ℕ) × (segments : List Segment)
+        × (items.now ≡ segment_items_from (heap_start_of drawn.now.heap + place) segments) }
+    ensures { (d : Desk) (place : ℕ) (segments : List Segment) → IsStepOf d step.now → items.now
+        ≡ segment_items_from (heap_start_of drawn.now.heap + place) segments →
+        pieces.new.items ≡ pieces.old.items ++ segment_pieces (legend_of
+        (scene_at d step.now) drawn.now.heap drawn.now.handle)
+        (heap_start_of drawn.now.heap - area_start_of drawn.now.heap + place) segments }
 {
     for item in items {
         pieces.push(piece_of(step, drawn, item));
@@ -194,8 +206,10 @@ fn push_items(step: &Step<'_>, drawn: &DrawnHeap, items: &[SegmentItem], pieces:
 /// The piece of a segment.
 fn piece_of(step: &Step<'_>, drawn: &DrawnHeap, item: &SegmentItem) -> Piece
     requires { IsInArea drawn.now.heap item.now }
-    ensures { (d : Desk) (place : ℕ) (segment : Segment) → IsStepOf d step.now → item.now ≡ segment_item (heap_start_of drawn.now.heap + place) segment →
-        result ≡ segment_piece (legend_of (scene_at d step.now) drawn.now.heap drawn.now.handle) (heap_start_of drawn.now.heap - area_start_of drawn.now.heap + place) segment }
+    ensures { (d : Desk) (place : ℕ) (segment : Segment) → IsStepOf d step.now → item.now
+        ≡ segment_item (heap_start_of drawn.now.heap + place) segment →
+        result ≡ segment_piece (legend_of (scene_at d step.now) drawn.now.heap drawn.now.handle)
+        (heap_start_of drawn.now.heap - area_start_of drawn.now.heap + place) segment }
 {
     let start = area_address(drawn.heap);
     match item {

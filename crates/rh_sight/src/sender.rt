@@ -10,7 +10,8 @@ use crate::sight::Sight;
 use crate::tasks::task_about;
 use rh_defs::{Command, Handle};
 
-/// Who may send a letter at a step: the task that the command names, 0 for none, and the ref that its letter would have.
+/// Who may send a letter at a step: the task that the command names, 0 for none, and the ref that its letter would
+/// have.
 #[derive(Clone, Copy, Debug, PartialEq, Eq)]
 pub struct Sender {
     pub handle: Handle,

@@ -1,8 +1,10 @@
 //! A desk that can be looked at.
 
-ghost use Rattle.std.specs.Prelude.{◌≡◌, ◌≤◌, ◌<◌, ◌+◌, ◌++◌, ℕ, List, IfNone, IfSome, IsSome, None, Some, length, slice_get, take};
+ghost use Rattle.std.specs.Prelude.{◌≡◌, ◌≤◌, ◌<◌, ◌+◌, ◌++◌, ℕ, List, IfNone, IfSome, IsSome, None, Some, length};
+ghost use Rattle.std.specs.Prelude.{slice_get, take};
 ghost use Rattle.std.specs.Option.{option_map};
-ghost use Rattle.rh_defs.specs.Desk.{most_made, Desk, Task, free_pages as free_pages_on, most_tasks, next_ref as next_ref_on};
+ghost use Rattle.rh_defs.specs.Desk.{most_made, Desk, Task, free_pages as free_pages_on, most_tasks};
+ghost use Rattle.rh_defs.specs.Desk.{next_ref as next_ref_on};
 ghost use Rattle.rh_defs.specs.declared.sizes.TheConstants.{FIXED_AREAS, SEGMENTS_AT_ONCE};
 ghost use Rattle.rh_defs.specs.Heap.{Segment, place_after};
 ghost use Rattle.rh_defs.specs.Laws.{IsDesk};
@@ -74,7 +76,8 @@ pub enum PagesOf {
 
 /// A desk that can be looked at. Nothing here changes it, or takes memory.
 pub trait Sight {
-    ghost use Rattle.rh_sight.specs.Seen.{SeesBlock, HasFlex, IsAreaSeen, SeesFree, IsTaskSeen, heap_seen, heap_start_of, scrap_seen};
+    ghost use Rattle.rh_sight.specs.Seen.{SeesBlock, HasFlex, IsAreaSeen, SeesFree, IsTaskSeen, heap_seen};
+    ghost use Rattle.rh_sight.specs.Seen.{heap_start_of, scrap_seen};
     ghost use Rattle.rh_sight.specs.SightMessages.{message_items};
     ghost use Rattle.rh_sight.specs.SightPages.{share_in};
 
@@ -100,27 +103,33 @@ pub trait Sight {
 
     /// Writes the first bytes of a flex block of a task, as many as there is room for.
     fn read_block(&self, i: usize, item: &BlockItem, to: &mut [u8])
-        requires { (bytes : List ℕ) × HasFlex (slice_get (desk self.now).tasks i) item.now bytes × (length to.old ≤ length bytes) }
-        ensures { (bytes : List ℕ) → HasFlex (slice_get (desk self.now).tasks i) item.now bytes → to.new ≡ take (length to.old) bytes };
+        requires { (bytes : List ℕ) × HasFlex (slice_get (desk self.now).tasks i) item.now bytes
+            × (length to.old ≤ length bytes) }
+        ensures { (bytes : List ℕ) → HasFlex (slice_get (desk self.now).tasks i) item.now bytes → to.new
+            ≡ take (length to.old) bytes };
 
     /// The length of a heap.
     fn heap_end(&self, heap: HeapOf) -> u32
         requires { IsSome (heap_seen heap (desk self.now)) }
         ensures { IfSome (heap_seen heap (desk self.now)) (λ h. result ≡ h.end) };
 
-    /// As many segments of a heap as are told at a time, of which the first begins at a place in bytes from the heap's first one; none at
-    /// the end of the last.
+    /// As many segments of a heap as are told at a time, of which the first begins at a place in bytes from the heap's
+    /// first one; none at the end of the last.
     fn segments(&self, heap: HeapOf, place: u32) -> Segments
-        requires { IfSome (heap_seen heap (desk self.now)) (λ h. (below : List Segment) × (rest : List Segment) × (h.segments ≡ below ++ rest) × (place ≡ place_after below)) }
-        ensures { IfSome (heap_seen heap (desk self.now)) (λ h. (below : List Segment) (rest : List Segment) → h.segments ≡ below ++ rest → place ≡ place_after below →
+        requires { IfSome (heap_seen heap (desk self.now)) (λ h. (below : List Segment) × (rest : List Segment) ×
+            (h.segments ≡ below ++ rest) × (place ≡ place_after below)) }
+        ensures { IfSome (heap_seen heap (desk self.now)) (λ h. (below : List Segment) (rest : List Segment)
+            → h.segments ≡ below ++ rest → place ≡ place_after below →
             result.items ≡ take SEGMENTS_AT_ONCE (segment_items_from (heap_start_of heap + place) rest)) };
 
     /// Writes the first bytes of the block of a heap whose segment begins at a place, as many as there is room for. No
     /// message lies in the block.
     fn read_heap(&self, heap: HeapOf, place: u32, to: &mut [u8])
-        requires block { (bytes : List ℕ) × SeesBlock (heap_seen heap (desk self.now)) place bytes × (length to.old ≤ length bytes) }
+        requires block { (bytes : List ℕ) × SeesBlock (heap_seen heap (desk self.now)) place bytes
+            × (length to.old ≤ length bytes) }
         requires free { SeesFree heap place (desk self.now) }
-        ensures { (bytes : List ℕ) → SeesBlock (heap_seen heap (desk self.now)) place bytes → to.new ≡ take (length to.old) bytes };
+        ensures { (bytes : List ℕ) → SeesBlock (heap_seen heap (desk self.now)) place bytes → to.new
+            ≡ take (length to.old) bytes };
 
     /// Puts all messages into a list, in place of what it held: those that wait, task by task in order of handle and
     /// as polls hand them out, and then those that are held.
@@ -134,7 +143,8 @@ pub trait Sight {
 
     /// The made area at a place in order of number; None past the last.
     fn made(&self, i: usize) -> Option<AreaSight>
-        ensures some { IfSome result (λ a. slice_get (desk self.now).made i ≡ Some (record { number = a.number; most = a.most; pages = a.pages })) }
+        ensures some { IfSome result (λ a. slice_get (desk self.now).made i ≡ Some
+            (record { number = a.number; most = a.most; pages = a.pages })) }
         ensures none { IfNone result (slice_get (desk self.now).made i ≡ None) }
         ensures few { length (desk self.now).made ≤ most_made };
 

@@ -10,7 +10,8 @@ use rh_defs::{Command, Handle, Name};
 
 /// Where the task with the name stands in order of handle.
 pub fn task_named<S: Sight>(sight: &S, name: &Name) -> Option<usize>
-    ensures some { IfSome result (λ i. (t : Task) × (slice_get (S.desk sight.now).tasks i ≡ Some t) × (find (has_name name.now) (S.desk sight.now).tasks ≡ Some t)) }
+    ensures some { IfSome result (λ i. (t : Task) × (slice_get (S.desk sight.now).tasks i ≡ Some t) ×
+        (find (has_name name.now) (S.desk sight.now).tasks ≡ Some t)) }
     ensures none { IfNone result (find (has_name name.now) (S.desk sight.now).tasks ≡ None) }
 {
     let mut i = 0;
@@ -25,7 +26,8 @@ pub fn task_named<S: Sight>(sight: &S, name: &Name) -> Option<usize>
 
 /// Where the task that a command is about stands in order of handle.
 pub(crate) fn task_about<S: Sight>(sight: &S, command: Option<&Command>) -> Option<usize>
-    ensures some { IfSome result (λ i. (t : Task) × (slice_get (S.desk sight.now).tasks i ≡ Some t) × (task_in (option_map (λ c. c.now) command.entry) (S.desk sight.now) ≡ Some t)) }
+    ensures some { IfSome result (λ i. (t : Task) × (slice_get (S.desk sight.now).tasks i ≡ Some t) ×
+        (task_in (option_map (λ c. c.now) command.entry) (S.desk sight.now) ≡ Some t)) }
     ensures none { IfNone result (task_in (option_map (λ c. c.now) command.entry) (S.desk sight.now) ≡ None) }
 {
     task_named(sight, command?.task_name()?)
@@ -33,7 +35,8 @@ pub(crate) fn task_about<S: Sight>(sight: &S, command: Option<&Command>) -> Opti
 
 /// Where the task with the handle stands in order of handle.
 pub fn task_with<S: Sight>(sight: &S, handle: Handle) -> Option<usize>
-    ensures some { IfSome result (λ i. (t : Task) × (slice_get (S.desk sight.now).tasks i ≡ Some t) × (task_at handle (S.desk sight.now) ≡ Some t)) }
+    ensures some { IfSome result (λ i. (t : Task) × (slice_get (S.desk sight.now).tasks i ≡ Some t) ×
+        (task_at handle (S.desk sight.now) ≡ Some t)) }
     ensures none { IfNone result (task_at handle (S.desk sight.now) ≡ None) }
 {
     let mut i = 0;

@@ -42,7 +42,8 @@ pub fn place_behind(heap: HeapOf, item: &SegmentItem) -> u32
 /// Counts the segments of a heap from the one that begins at a place on.
 pub fn take_census<S: Sight>(sight: &S, heap: HeapOf, place: u32) -> Census
     requires { (rest : List Segment) × ComesToRest (heap_seen heap (S.desk sight.now)) place rest }
-    ensures { (rest : List Segment) → ComesToRest (heap_seen heap (S.desk sight.now)) place rest → result ≡ census_of place rest }
+    ensures { (rest : List Segment) → ComesToRest (heap_seen heap (S.desk sight.now)) place rest → result
+        ≡ census_of place rest }
 {
     sight.spelled();
     let mut end = place;

@@ -1,5 +1,6 @@
 //! The area of a slot: its words and bytes, and its pages. Places are in bytes from the area's first one.
-ghost use Rattle.std.specs.Prelude.{◌≡◌, ◌+◌, ◌<◌, OnErr, ◌^◌, ◌≤◌, length, ◌↔◌, OnOk, IsErr, IsErrOf, ◌*◌, ◌-◌, ◌/◌, replicate};
+ghost use Rattle.std.specs.Prelude.{◌≡◌, ◌+◌, ◌<◌, OnErr, ◌^◌, ◌≤◌, length, ◌↔◌, OnOk, IsErr, IsErrOf, ◌*◌, ◌-◌, ◌/◌};
+ghost use Rattle.std.specs.Prelude.{replicate};
 ghost use Rattle.rh_defs.specs.Memory.{IsOpen, bytes, Resized, Edited};
 ghost use Rattle.rh_defs.specs.Pieces.{page_size, pages_for};
 ghost use Rattle.rh_defs.specs.Bytes.{word, part, with_part};
@@ -72,10 +73,13 @@ pub fn write_bytes<S: WordsMut>(store: &mut S, area: AreaId, place: usize, from:
 pub fn room_for<S: Pages>(store: &mut S, area: AreaId, top: usize) -> Result<(), StoreFault>
     requires opened { IsOpen (S.memory store.old) area.0 }
     requires small { top < 2 ^ 40 }
-    ensures ok { OnOk result (Resized (S.memory store.old) (S.memory store.new) area.0 (length (bytes (S.memory store.old) area.0))
-        (length (bytes (S.memory store.old) area.0) / page_size + (pages_for top - length (bytes (S.memory store.old) area.0) / page_size))) }
+    ensures ok { OnOk result (Resized (S.memory store.old) (S.memory store.new) area.0
+        (length (bytes (S.memory store.old) area.0))
+        (length (bytes (S.memory store.old) area.0) / page_size
+        + (pages_for top - length (bytes (S.memory store.old) area.0) / page_size))) }
     ensures err { OnErr result (S.memory store.new ≡ S.memory store.old) }
-    ensures refused { IsErr result ↔ ((S.memory store.old).free < pages_for top - length (bytes (S.memory store.old) area.0) / page_size) }
+    ensures refused { IsErr result ↔ ((S.memory store.old).free < pages_for top - length
+        (bytes (S.memory store.old) area.0) / page_size) }
     ensures reason { IsErr result → IsErrOf result StoreFault.NoPages }
 {
     let pages = store.len(area) / PAGE;
@@ -87,9 +91,11 @@ pub fn grow_to<S: Pages>(store: &mut S, area: AreaId, top: usize) -> Result<(), 
     requires opened { IsOpen (S.memory store.old) area.0 }
     requires more { length (bytes (S.memory store.old) area.0) ≤ page_size * pages_for top }
     requires small { top < 2 ^ 40 }
-    ensures ok { OnOk result (Resized (S.memory store.old) (S.memory store.new) area.0 (length (bytes (S.memory store.old) area.0)) (pages_for top)) }
+    ensures ok { OnOk result (Resized (S.memory store.old) (S.memory store.new) area.0
+        (length (bytes (S.memory store.old) area.0)) (pages_for top)) }
     ensures err { OnErr result (S.memory store.new ≡ S.memory store.old) }
-    ensures refused { IsErr result ↔ ((S.memory store.old).free < pages_for top - length (bytes (S.memory store.old) area.0) / page_size) }
+    ensures refused { IsErr result ↔ ((S.memory store.old).free < pages_for top - length
+        (bytes (S.memory store.old) area.0) / page_size) }
     ensures reason { IsErr result → IsErrOf result StoreFault.NoPages }
 {
     let pages = store.len(area) / PAGE;

@@ -52,7 +52,8 @@ pub fn put_from<S: Store>(
     requires source { place + n ≤ length (bytes (S.memory store.old) from.0) }
     requires below { from.0 ≡ slot.area.0 → place + n ≤ flex_place (slot_in (S.memory store.old) slot) }
     ensures { LeavesSlotIn (S.memory store.old) (S.memory store.new) slot
-        (no_answer (slot_put anchor offset (part (bytes (S.memory store.old) from.0) place n) (slot_in (S.memory store.old) slot))) result }
+        (no_answer (slot_put anchor offset (part (bytes (S.memory store.old) from.0) place n)
+        (slot_in (S.memory store.old) slot))) result }
 {
     let Some(spot) = slot.locate(store, anchor) else {
         return Err(Refusal::NoBlock);
@@ -64,8 +65,8 @@ pub fn put_from<S: Store>(
     Ok(())
 }
 
-/// Puts `n` bytes of an area at the end of the anchor's block, none of them among the slot's anchor words and flex blocks;
-/// those above it slide. Refused: `NoBlock` where the anchor has none, `NoRoom` where too few pages are free.
+/// Puts `n` bytes of an area at the end of the anchor's block, none of them among the slot's anchor words and flex
+/// blocks; those above it slide. Refused: `NoBlock` where the anchor has none, `NoRoom` where too few pages are free.
 pub fn append_from<S: Store>(
     store: &mut S,
     slot: Slot,
@@ -81,7 +82,8 @@ pub fn append_from<S: Store>(
     requires above { from.0 ≡ slot.area.0 → 0 < n → C_HEAP_PLACE ≤ place }
     requires below { from.0 ≡ slot.area.0 → place + n ≤ flex_place (slot_in (S.memory store.old) slot) }
     ensures { LeavesSlotIn (S.memory store.old) (S.memory store.new) slot
-        (no_answer (slot_append (S.memory store.old).free anchor (part (bytes (S.memory store.old) from.0) place n) (slot_in (S.memory store.old) slot))) result }
+        (no_answer (slot_append (S.memory store.old).free anchor (part (bytes (S.memory store.old) from.0) place n)
+        (slot_in (S.memory store.old) slot))) result }
 {
     let Some(spot) = slot.locate(store, anchor) else {
         return Err(Refusal::NoBlock);
@@ -114,7 +116,8 @@ pub fn write_from<S: Store>(
     requires slot { IsSlotIn (S.memory store.old) slot }
     requires opened { IsOpen (S.memory store.old) from.0 }
     requires source { place + n ≤ length (bytes (S.memory store.old) from.0) }
-    requires reach { (is_some (buffer_at address room (slot_in (S.memory store.old) slot)) || holds address room (slot_in (S.memory store.old) slot)) ≡ true }
+    requires reach { (is_some (buffer_at address room (slot_in (S.memory store.old) slot)) || holds address room
+        (slot_in (S.memory store.old) slot)) ≡ true }
     requires fits { n ≤ room }
     requires apart { from.0 ≡ slot.area.0 → (place + n ≤ address - slot_start) ⊎ (address - slot_start + n ≤ place) }
     ensures { LeavesSlotIn (S.memory store.old) (S.memory store.new) slot

@@ -1,5 +1,6 @@
 //! The C heap of a slot. Where it is too short it gets longer, and the flex blocks slide up.
-ghost use Rattle.std.specs.Prelude.{◌≡◌, ◌+◌, ◌-◌, ◌<◌, ok_or, OnErr, ◌^◌, ◌↔◌, ◌&&◌, not, nat_lt, OnOk, IsErr, IsErrOf};
+ghost use Rattle.std.specs.Prelude.{◌≡◌, ◌+◌, ◌-◌, ◌<◌, ok_or, OnErr, ◌^◌, ◌↔◌, ◌&&◌, not, nat_lt, OnOk, IsErr};
+ghost use Rattle.std.specs.Prelude.{IsErrOf};
 ghost use Rattle.std.specs.Option.{option_map};
 ghost use Rattle.rh_defs.specs.Memory.{OnlyArea};
 ghost use Rattle.rh_defs.specs.Chain.{no_answer};
@@ -39,12 +40,13 @@ impl Slot {
         0 < shortage && !self.budge
     }
 
-    /// Makes the C heap longer by a shortage, in whole pages. All flex blocks slide up. Refused (`NoRoom`) where too few
-    /// pages are free.
+    /// Makes the C heap longer by a shortage, in whole pages. All flex blocks slide up. Refused (`NoRoom`) where too
+    /// few pages are free.
     fn lengthen<S: Pages>(self, store: &mut S, shortage: usize) -> Result<(), Refusal>
         requires slot { IsSlotIn (S.memory store.old) self }
         requires small { shortage < 2 ^ 34 }
-        ensures spells { OnOk result (SpellsSlotIn (S.memory store.new) self (lengthened shortage (slot_in (S.memory store.old) self))) }
+        ensures spells { OnOk result (SpellsSlotIn (S.memory store.new) self
+            (lengthened shortage (slot_in (S.memory store.old) self))) }
         ensures only { OnOk result (OnlyArea (S.memory store.old) (S.memory store.new) self.area.0) }
         ensures refused { IsErr result ↔ ((S.memory store.old).free < pages_for shortage) }
         ensures reason { IsErr result → IsErrOf result Refusal.NoRoom }
@@ -66,8 +68,10 @@ impl Slot {
     fn make_room<S: Pages>(self, store: &mut S, shortage: usize) -> Result<(), Refusal>
         requires slot { IsSlotIn (S.memory store.old) self }
         requires small { shortage < 2 ^ 34 }
-        ensures answer { result ≡ after_growth (S.memory store.old).free shortage (slot_in (S.memory store.old) self) tt }
-        ensures spells { OnOk result (SpellsSlotIn (S.memory store.new) self (lengthened shortage (slot_in (S.memory store.old) self))) }
+        ensures answer { result ≡ after_growth (S.memory store.old).free shortage (slot_in
+            (S.memory store.old) self) tt }
+        ensures spells { OnOk result (SpellsSlotIn (S.memory store.new) self
+            (lengthened shortage (slot_in (S.memory store.old) self))) }
         ensures only { OnlyArea (S.memory store.old) (S.memory store.new) self.area.0 }
         ensures err { OnErr result (S.memory store.new ≡ S.memory store.old) }
     {
@@ -174,7 +178,8 @@ impl Slot {
     /// The bytes of the C heap's block at an address. Refused (`NotABlock`) where none begins there. (OS_Heap 6.)
     pub fn block_size<S: Words>(self, store: &S, address: usize) -> Result<usize, Refusal>
         requires slot { IsSlotIn (S.memory store.now) self }
-        ensures { result ≡ ok_or (block_size (address - heap_start) (slot_in (S.memory store.now) self).heap) Refusal.NotABlock }
+        ensures { result ≡ ok_or (block_size (address - heap_start)
+            (slot_in (S.memory store.now) self).heap) Refusal.NotABlock }
     {
         let size = rh_heap::block_size(store, self.span(), address.saturating_sub(C_HEAP_START))?;
         Ok(size)
@@ -188,8 +193,8 @@ impl Slot {
         rh_heap::segment(store, self.span(), place)
     }
 
-    /// Up to 64 segments of the C heap in order of place, from the one that begins at `place` on; none where none begins
-    /// there.
+    /// Up to 64 segments of the C heap in order of place, from the one that begins at `place` on; none where none
+    /// begins there.
     pub fn segments_from<S: Words>(
         self,
         store: &S,

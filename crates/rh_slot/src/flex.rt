@@ -2,7 +2,8 @@
 ghost use Rattle.std.specs.Prelude.{◌≡◌, ◌+◌, ◌<◌, ◌^◌, ◌≤◌, length, ◌↔◌, IsTrue, ◌*◌, MatchOption};
 ghost use Rattle.rh_defs.specs.Chain.{outcome_of, no_answer, result_or};
 ghost use Rattle.rh_defs.specs.Pieces.{Split, moved};
-ghost use Rattle.rh_defs.specs.Slot.{Flex, slot_extend, slot_mid, slot_put, slot_read, taken_out, slot_alloc, slot_free, IsFree, slot_size, slot_address};
+ghost use Rattle.rh_defs.specs.Slot.{Flex, slot_extend, slot_mid, slot_put, slot_read, taken_out, slot_alloc};
+ghost use Rattle.rh_defs.specs.Slot.{slot_free, IsFree, slot_size, slot_address};
 ghost use Rattle.rh_slot.specs.SlotArea.{IsSlotIn, slot_in};
 ghost use Rattle.rh_slot.specs.SlotCalls.{LeavesSlotIn};
 ghost use Rattle.rh_slot.specs.Inner.FoundBlocks.{FoundFlex, FoundAt, splice};
@@ -163,7 +164,8 @@ impl Slot {
         requires small { change.put < 2 ^ 32 }
         ensures { (cut : Split Flex) → FoundAt anchor (slot_in (S.memory store.old) self) spot.place spot.size cut
             → LeavesSlotIn (S.memory store.old) (S.memory store.new) self
-            (no_answer (splice (S.memory store.old).free change.offset change.out change.put cut (slot_in (S.memory store.old) self))) result }
+            (no_answer (splice (S.memory store.old).free change.offset change.out change.put cut
+            (slot_in (S.memory store.old) self))) result }
     {
         let from = spot.place + flex_weight(spot.size);
         let size = spot.size - change.out + change.put;
@@ -218,7 +220,8 @@ impl Slot {
         requires slot { IsSlotIn (S.memory store.old) self }
         requires anchor { anchor < ANCHORS }
         ensures { LeavesSlotIn (S.memory store.old) (S.memory store.new) self
-            (no_answer (slot_mid (S.memory store.old).free anchor offset by (slot_in (S.memory store.old) self))) result }
+            (no_answer (slot_mid (S.memory store.old).free anchor offset by
+            (slot_in (S.memory store.old) self))) result }
     {
         let Some(spot) = self.locate(store, anchor) else {
             return Err(Refusal::NoBlock);
@@ -273,8 +276,10 @@ impl Slot {
     ) -> Result<(), Refusal>
         requires slot { IsSlotIn (S.memory store.now) self }
         requires anchor { anchor < ANCHORS }
-        ensures answer { result ≡ outcome_of (slot_read anchor offset (length to.old) (slot_in (S.memory store.now) self)) }
-        ensures bytes { to.new ≡ result_or to.old (slot_read anchor offset (length to.old) (slot_in (S.memory store.now) self)) }
+        ensures answer { result ≡ outcome_of (slot_read anchor offset (length to.old)
+            (slot_in (S.memory store.now) self)) }
+        ensures bytes { to.new ≡ result_or to.old (slot_read anchor offset (length to.old)
+            (slot_in (S.memory store.now) self)) }
     {
         let Some(spot) = self.locate(store, anchor) else {
             return Err(Refusal::NoBlock);

@@ -1,5 +1,6 @@
 //! The row of flex blocks that lie one after the other above the C heap: walks over it, and how it slides.
-ghost use Rattle.std.specs.Prelude.{◌≡◌, ◌+◌, ◌-◌, ◌%◌, ◌<◌, true, ◌^◌, ◌≤◌, length, take, is_some, slice_get, MatchOption, List, OnSome, IfNone, false};
+ghost use Rattle.std.specs.Prelude.{◌≡◌, ◌+◌, ◌-◌, ◌%◌, ◌<◌, true, ◌^◌, ◌≤◌, length, take, is_some, slice_get};
+ghost use Rattle.std.specs.Prelude.{MatchOption, List, OnSome, IfNone, false};
 ghost use Rattle.rh_defs.specs.Memory.{IsOpen, bytes, Edited};
 ghost use Rattle.rh_defs.specs.Slot.{Flex, flex_around, flex_weight, weight, slot_length};
 ghost use Rattle.rh_defs.specs.Pieces.{total};
@@ -272,7 +273,8 @@ impl Slot {
         requires small { start.passed < 2 ^ 32 }
         ensures walked { Walked (slot_in (S.memory store.now) self) result.place }
         ensures on { start.place ≤ result.place }
-        ensures walk { WalksIn (slot_in (S.memory store.now) self) start → WalksIn (slot_in (S.memory store.now) self) result }
+        ensures walk { WalksIn (slot_in (S.memory store.now) self) start
+            → WalksIn (slot_in (S.memory store.now) self) result }
         ensures passed { start.passed ≤ result.passed }
         ensures all { is_block (bytes (S.memory store.now) self.area.0) result.place ≡ true
             → start.place + (PAGE - start.place % PAGE) < result.place + FLEX_HEADER }

@@ -1,5 +1,6 @@
 //! The areas of a plain store, and the edits of one of them.
-ghost use Rattle.std.specs.Prelude.{ℕ, ◌+◌, ◌-◌, ◌≤◌, ◌<◌, ◌≢◌, ◌++◌, [], All, take, replicate, length, vec_len, IfSome, IsSome, IsNone, unwrap_or};
+ghost use Rattle.std.specs.Prelude.{ℕ, ◌+◌, ◌-◌, ◌≤◌, ◌<◌, ◌≢◌, ◌++◌, [], All, take, replicate, length, vec_len};
+ghost use Rattle.std.specs.Prelude.{IfSome, IsSome, IsNone, unwrap_or};
 ghost use Rattle.rh_store.specs.Areas.{IsTidyArea, ChangedAt, area_bytes_at, contents, room_at};
 ghost use Rattle.rh_defs.specs.Bytes.{with_part, put_word, part};
 

@@ -1,7 +1,7 @@
 //! Memory that areas share in whole pages, as traits that stand on one another: [`Words`] reads areas that are there,
 //! [`WordsMut`] writes in them, [`Paged`] reads areas of whole pages, [`Pages`] makes them longer and shorter, and
-//! [`Store`] opens and closes them. [`Sited`] is a store whose pages have numbers, and [`PlainStore`] keeps a vector for
-//! each area.
+//! [`Store`] opens and closes them. [`Sited`] is a store whose pages have numbers, and [`PlainStore`] keeps a vector
+//! for each area.
 //!
 //! A caller over any store names the laws of bytes and memories, and then often needs no proof file:
 //!

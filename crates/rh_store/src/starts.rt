@@ -1,6 +1,6 @@
-//! Maps of where the segments of an area's heap begin, which a store may keep beside the area. A map consists of lines of
-//! two words, each for 512 bytes of the heap: a bit for each 8 bytes, in one word for used segments and in the other for
-//! holes.
+//! Maps of where the segments of an area's heap begin, which a store may keep beside the area. A map consists of lines
+//! of two words, each for 512 bytes of the heap: a bit for each 8 bytes, in one word for used segments and in the other
+//! for holes.
 ghost use Rattle.std.specs.Prelude.{◌≡◌, ℕ, List, [], length};
 ghost use Rattle.std.specs.Borrow.{Array, Lends, sem, u64 as word};
 ghost use Rattle.std.proofs.Common.{rules};

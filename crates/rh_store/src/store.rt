@@ -1,7 +1,9 @@
 //! Areas of bytes that are made of pages.
-ghost use Rattle.std.specs.Prelude.{◌≡◌, ℕ, ◌+◌, ◌-◌, ◌*◌, ◌/◌, ◌%◌, ◌<◌, ◌≤◌, ◌↔◌, ◌⊎◌, true, length, replicate, IsTrue, IsNone, IfOk, IfSome, OnErr, OnOk, IsErr, IsErrOf};
+ghost use Rattle.std.specs.Prelude.{◌≡◌, ℕ, ◌+◌, ◌-◌, ◌*◌, ◌/◌, ◌%◌, ◌<◌, ◌≤◌, ◌↔◌, ◌⊎◌, true, length, replicate};
+ghost use Rattle.std.specs.Prelude.{IsTrue, IsNone, IfOk, IfSome, OnErr, OnOk, IsErr, IsErrOf};
 ghost use Rattle.rh_defs.specs.Bytes.{word, with_part, put_word, part};
-ghost use Rattle.rh_defs.specs.Memory.{Memory, IsOpen, Ledger, bytes, with_bytes, opened, closed, grown, shrunk, open_below};
+ghost use Rattle.rh_defs.specs.Memory.{Memory, IsOpen, Ledger, bytes, with_bytes, opened, closed, grown, shrunk};
+ghost use Rattle.rh_defs.specs.Memory.{open_below};
 ghost use Rattle.rh_defs.specs.HeapImage.{heap_of};
 ghost use Rattle.rh_store.specs.Limits.{area_limit, pool_limit};
 ghost use Rattle.rh_store.specs.Starts.{IsIndex, IsKept, IsMapOf};
@@ -111,13 +113,14 @@ pub trait WordsMut: Words {
         requires opened { IsOpen (Self.memory self.old) _id.0 }
         ensures same { Self.memory self.new ≡ Self.memory self.old }
         ensures kept { IfSome result (IsKept Self.Lines.words (bytes (Self.memory self.old) _id.0)) }
-        ensures long { IfSome result (λ starts. length (bytes (Self.memory self.old) _id.0) ≤ LINE_BYTES * (length (Self.Lines.words starts.lines) / 2)) }
+        ensures long { IfSome result (λ starts. length (bytes (Self.memory self.old) _id.0) ≤ LINE_BYTES *
+            (length (Self.Lines.words starts.lines) / 2)) }
     {
         None
     }
 
-    /// Keeps the lines of a map of an area that was taken, whether they are up to date, and from which offset of the area
-    /// up to which the heap stands that they are of.
+    /// Keeps the lines of a map of an area that was taken, whether they are up to date, and from which offset of the
+    /// area up to which the heap stands that they are of.
     fn keep_starts(
         &mut self,
         _id: AreaId,

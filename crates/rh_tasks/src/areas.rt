@@ -5,7 +5,8 @@ ghost use Rattle.rh_defs.specs.Memory.{Memory, IsOpen, OnlyArea, bytes};
 ghost use Rattle.rh_defs.specs.Module.{whole_pages};
 ghost use Rattle.rh_defs.specs.declared.command.Command.TheVariants as Command;
 ghost use Rattle.rh_defs.specs.Range.{in_range};
-ghost use Rattle.rh_defs.specs.Commands.{least_length as least_length_on, pages_after as pages_after_on, change_area as change_area_on, change};
+ghost use Rattle.rh_defs.specs.Commands.{least_length as least_length_on, pages_after as pages_after_on};
+ghost use Rattle.rh_defs.specs.Commands.{change_area as change_area_on, change};
 ghost use Rattle.rh_tasks.specs.Answer.{Gives};
 ghost use Rattle.rh_tasks.specs.Inner.Nouns.{changes_areas};
 ghost use Rattle.rh_tasks.specs.View.{pages_at};
@@ -34,7 +35,8 @@ fn bytes_moved(delta: i32) -> u32
     (pages_of(delta) * PAGE) as u32
 }
 
-/// How many pages an area of pages only would have after a change by an amount of bytes: ExcessiveShrink where fewer than
+/// How many pages an area of pages only would have after a change by an amount of bytes: ExcessiveShrink where fewer
+/// than
 /// `least` bytes would be left, NoRoom where too few pages are free.
 fn pages_after<S: Pages>(store: &S, area: AreaId, least: u32, delta: i32) -> Result<usize, Refusal>
     requires { IsOpen (S.memory store.now) area.0 }

@@ -4,7 +4,8 @@ ghost use Rattle.std.specs.Prelude.{◌≡◌, true, false, Ok, Err};
 ghost use Rattle.std.specs.Option.{IfNone, IfSome};
 ghost use Rattle.rh_defs.specs.declared.command.Command.TheVariants as Command;
 ghost use Rattle.rh_defs.specs.Range.{in_range};
-ghost use Rattle.rh_defs.specs.Commands.{alloc as alloc_on, load as load_on, put as put_on, free as free_on, extend as extend_on, mid as mid_on, change};
+ghost use Rattle.rh_defs.specs.Commands.{alloc as alloc_on, load as load_on, put as put_on, free as free_on};
+ghost use Rattle.rh_defs.specs.Commands.{extend as extend_on, mid as mid_on, change};
 ghost use Rattle.rh_tasks.specs.Answer.{Gives};
 ghost use Rattle.rh_tasks.specs.Inner.Nouns.{changes_blocks};
 
@@ -76,8 +77,8 @@ impl<S: Store, F: NamedFiles> World<S, F> {
         })
     }
 
-    /// Writes one or more bytes into a block, from an offset on: NoName, NoBlock, Busy, BadRange. A `put` that comes as a
-    /// command has at most 512 bytes, this any number.
+    /// Writes one or more bytes into a block, from an offset on: NoName, NoBlock, Busy, BadRange. A `put` that comes as
+    /// a command has at most 512 bytes, this any number.
     pub fn put(
         &mut self,
         name: &Name,

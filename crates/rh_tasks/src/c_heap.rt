@@ -4,7 +4,8 @@ ghost use Rattle.std.specs.Prelude.{◌≡◌, true, false, Ok, Err};
 ghost use Rattle.std.specs.Option.{IfNone, IfSome};
 ghost use Rattle.rh_defs.specs.declared.command.Command.TheVariants as Command;
 ghost use Rattle.rh_defs.specs.Range.{in_range};
-ghost use Rattle.rh_defs.specs.Commands.{claim as claim_on, release as release_on, resize as resize_on, budge as budge_on, change};
+ghost use Rattle.rh_defs.specs.Commands.{claim as claim_on, release as release_on, resize as resize_on};
+ghost use Rattle.rh_defs.specs.Commands.{budge as budge_on, change};
 ghost use Rattle.rh_tasks.specs.Answer.{Gives};
 ghost use Rattle.rh_tasks.specs.Inner.Nouns.{changes_heap};
 

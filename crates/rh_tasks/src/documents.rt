@@ -5,7 +5,9 @@ ghost use Rattle.rh_defs.specs.declared.transfer_action.Next.TheVariants as next
 ghost use Rattle.rh_defs.specs.declared.transfer_action.TakeAction.TheVariants as take_action;
 ghost use Rattle.rh_defs.specs.Chain.{no_answer};
 ghost use Rattle.rh_defs.specs.Desk.{Task, with_task};
-ghost use Rattle.rh_defs.specs.IncomingEvents.{appended, without_buffer, taking_ended, fetch_more as fetch_more_on, took as took_on, append as append_on, told as told_of, ask as ask_on, take_with, perform_take as perform_take_on, ack_back as ack_back_on};
+ghost use Rattle.rh_defs.specs.IncomingEvents.{appended, without_buffer, taking_ended, fetch_more as fetch_more_on};
+ghost use Rattle.rh_defs.specs.IncomingEvents.{took as took_on, append as append_on, told as told_of, ask as ask_on};
+ghost use Rattle.rh_defs.specs.IncomingEvents.{take_with, perform_take as perform_take_on, ack_back as ack_back_on};
 ghost use Rattle.rh_defs.specs.Memory.{Memory, IsOpen, bytes};
 ghost use Rattle.rh_defs.specs.Bytes.{part};
 ghost use Rattle.rh_defs.specs.Places.{first_bytes};
@@ -38,8 +40,8 @@ pub fn document_size<S: Words>(store: &S, slot: Slot, anchor: Anchor) -> Result<
     Ok(size as u32)
 }
 
-/// Puts n bytes of an area at the end of the anchor's block: NoBlock, NoRoom. In the slot's own area they are the first ones
-/// of a block of its C heap, since the words before it change where blocks slide.
+/// Puts n bytes of an area at the end of the anchor's block: NoBlock, NoRoom. In the slot's own area they are the first
+/// ones of a block of its C heap, since the words before it change where blocks slide.
 pub fn append<S: Store>(
     store: &mut S,
     slot: Slot,
@@ -53,7 +55,8 @@ pub fn append<S: Store>(
     requires source { place + n ≤ length (bytes (S.memory store.old) from.0) }
     requires below { from.0 ≡ slot.area.0 → AreFirst place n (slot_in (S.memory store.old) slot) }
     ensures { LeavesSlotIn (S.memory store.old) (S.memory store.new) slot
-        (no_answer (slot_append (S.memory store.old).free anchor (part (bytes (S.memory store.old) from.0) place n) (slot_in (S.memory store.old) slot))) result }
+        (no_answer (slot_append (S.memory store.old).free anchor (part (bytes (S.memory store.old) from.0) place n)
+        (slot_in (S.memory store.old) slot))) result }
 {
     if usize::from(anchor.0) >= ANCHORS {
         return Err(Refusal::NoBlock);
@@ -61,11 +64,12 @@ pub fn append<S: Store>(
     append_from(store, slot, anchor, from, place, n)
 }
 
-/// The first bytes of a buffer, n of them where it has so many: where they stand in the slot's area, and how many there are.
-/// None where no block of the C heap begins at the address.
+/// The first bytes of a buffer, n of them where it has so many: where they stand in the slot's area, and how many there
+/// are. None where no block of the C heap begins at the address.
 fn held_in<S: Words>(store: &S, slot: Slot, buffer: u32, n: u32) -> (usize, usize)
     requires { IsSlotIn (S.memory store.now) slot }
-    ensures bytes { part (bytes (S.memory store.now) slot.area.0) result.0 result.1 ≡ first_bytes n (heap_block_at buffer (slot_in (S.memory store.now) slot)) }
+    ensures bytes { part (bytes (S.memory store.now) slot.area.0) result.0 result.1
+        ≡ first_bytes n (heap_block_at buffer (slot_in (S.memory store.now) slot)) }
     ensures first { AreFirst result.0 result.1 (slot_in (S.memory store.now) slot) }
 {
     let Ok(size) = slot.block_size(store, buffer as usize) else {
@@ -88,7 +92,8 @@ impl<S: Store, F: NamedFiles> World<S, F> {
     ) -> Result<(), Refusal>
         requires { i < length self.old.desk.tasks }
         ensures { (t : Task) → IsAt i t self.old.desk
-            → Becomes (appended self.old.desk t anchor (first_bytes n (heap_block_at buffer t.slot))) self.old self.new result }
+            → Becomes (appended self.old.desk t anchor (first_bytes n
+            (heap_block_at buffer t.slot))) self.old self.new result }
     {
         let seat = &self.seats[i];
         let slot = seat.slot;
@@ -138,7 +143,8 @@ impl<S: Store, F: NamedFiles> World<S, F> {
     fn took(&mut self, i: usize, a: &Append) -> Outcome
         requires place { i < length self.old.desk.tasks }
         requires due { CanTake i (take_action.Append a.now) self.old.desk }
-        ensures { (t : Task) → IsAt i t self.old.desk → Handles (took_on self.old.desk t a.now a.now.next) self.new result }
+        ensures { (t : Task) → IsAt i t self.old.desk
+            → Handles (took_on self.old.desk t a.now a.now.next) self.new result }
     {
         match &a.next {
             Next::Finish => {
@@ -178,7 +184,8 @@ impl<S: Store, F: NamedFiles> World<S, F> {
     fn ask(&mut self, i: usize, f: &Taking) -> Result<Outcome, Refusal>
         requires place { i < length self.old.desk.tasks }
         requires due { CanTake i (take_action.AskForFile f.now) self.old.desk }
-        ensures { (t : Task) → IsAt i t self.old.desk → Attempts (ask_on self.old.desk t f.now) self.old self.new result }
+        ensures { (t : Task) → IsAt i t self.old.desk
+            → Attempts (ask_on self.old.desk t f.now) self.old self.new result }
     {
         let seat = &self.seats[i];
         let letter = ack_letter(seat.handle, f);
@@ -208,7 +215,8 @@ impl<S: Store, F: NamedFiles> World<S, F> {
     pub(crate) fn perform_take(&mut self, i: usize, action: Option<TakeAction>) -> Outcome
         requires place { i < length self.old.desk.tasks }
         requires due { IfSome action (λ a. CanTake i a self.old.desk) }
-        ensures { (t : Task) → IsAt i t self.old.desk → Handles (perform_take_on self.old.desk t action) self.new result }
+        ensures { (t : Task) → IsAt i t self.old.desk
+            → Handles (perform_take_on self.old.desk t action) self.new result }
     {
         let Some(action) = action else {
             return Outcome::Ignored;

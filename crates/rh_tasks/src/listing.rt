@@ -226,7 +226,8 @@ impl<S: Store, F: NamedFiles> World<S, F> {
         to: &mut [u8],
     ) -> Result<u32, Refusal>
         requires { anchor < anchor_count }
-        ensures { MatchResult (shown_at self.now.desk name.now anchor offset (length to.old)) (λ p. (result ≡ Ok p.0) × (to.new ≡ p.1)) (λ e. (result ≡ Err e) × (to.new ≡ to.old)) }
+        ensures { MatchResult (shown_at self.now.desk name.now anchor offset (length to.old))
+            (λ p. (result ≡ Ok p.0) × (to.new ≡ p.1)) (λ e. (result ≡ Err e) × (to.new ≡ to.old)) }
     {
         let slot = slot_of(&self.seats, name)?;
         let size = slot.size(&self.store, anchor)?;

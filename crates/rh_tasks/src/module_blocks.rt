@@ -4,7 +4,8 @@ ghost use Rattle.std.specs.Prelude.{◌≡◌, ◌-◌, true, false, Ok, Err, If
 ghost use Rattle.std.specs.Option.{IfNone, IfSome};
 ghost use Rattle.rh_defs.specs.declared.command.Command.TheVariants as Command;
 ghost use Rattle.rh_defs.specs.Range.{in_range};
-ghost use Rattle.rh_defs.specs.Commands.{own_block, rma_claim as rma_claim_on, rma_free as rma_free_on, rma_resize as rma_resize_on, change};
+ghost use Rattle.rh_defs.specs.Commands.{own_block, rma_claim as rma_claim_on, rma_free as rma_free_on};
+ghost use Rattle.rh_defs.specs.Commands.{rma_resize as rma_resize_on, change};
 ghost use Rattle.rh_defs.specs.Desk.{module_start};
 ghost use Rattle.rh_defs.specs.Post.{post_is_message};
 ghost use Rattle.rh_tasks.specs.Answer.{Gives};
@@ -44,10 +45,11 @@ impl<S: Store, F: NamedFiles> World<S, F> {
         })
     }
 
-    /// The place of the address in the module area, where no message lies: NotABlock, NotYours. Whether a block is there,
-    /// the module area's own call finds out.
+    /// The place of the address in the module area, where no message lies: NotABlock, NotYours. Whether a block is
+    /// there, the module area's own call finds out.
     pub(crate) fn own_place(&self, address: u32) -> Result<usize, Refusal>
-        ensures ok { IfOk result (λ place. (place ≡ address - module_start) × (post_is_message (address - module_start) self.now.desk.post ≡ false)) }
+        ensures ok { IfOk result (λ place. (place ≡ address - module_start) ×
+            (post_is_message (address - module_start) self.now.desk.post ≡ false)) }
         ensures err { IfErr result (λ e. own_block address self.now.desk ≡ Err e) }
     {
         let place = (address as usize).saturating_sub(MODULE_START);

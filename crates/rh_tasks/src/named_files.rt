@@ -13,7 +13,8 @@ pub trait NamedFiles {
 
     /// The bytes of the file with the name, None where there is none.
     fn get(&self, name: &Name) -> Option<&[u8]>
-        ensures value { MatchOption result (file_bytes name.now (contents self.now) ≡ None) (λ bytes. file_bytes name.now (contents self.now) ≡ Some bytes.now) }
+        ensures value { MatchOption result (file_bytes name.now (contents self.now) ≡ None)
+            (λ bytes. file_bytes name.now (contents self.now) ≡ Some bytes.now) }
         ensures short { IfSome result (λ bytes. length bytes.now ≤ LONGEST_FILE) };
 }
 

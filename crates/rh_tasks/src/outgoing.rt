@@ -1,10 +1,12 @@
 //! What a message does to a transfer that goes out.
 
-ghost use Rattle.std.specs.Prelude.{◌≡◌, ◌<◌, ◌≤◌, ◌+◌, ◌^◌, ◌==◌, ◌-◌, false, length, take, drop, Ok, Err, IfOk, IfErr, IfSome};
+ghost use Rattle.std.specs.Prelude.{◌≡◌, ◌<◌, ◌≤◌, ◌+◌, ◌^◌, ◌==◌, ◌-◌, false, length, take, drop, Ok, Err, IfOk};
+ghost use Rattle.std.specs.Prelude.{IfErr, IfSome};
 ghost use Rattle.std.specs.List.{position};
 ghost use Rattle.rh_defs.specs.Desk.{Task, with_task};
 ghost use Rattle.rh_defs.specs.declared.transfer_action.SendAction.TheVariants as send_action;
-ghost use Rattle.rh_defs.specs.OutgoingEvents.{is_out_of_reach as is_out_of_reach_on, fail_sending as fail_sending_on, perform_send as perform_send_on};
+ghost use Rattle.rh_defs.specs.OutgoingEvents.{is_out_of_reach as is_out_of_reach_on, fail_sending as fail_sending_on};
+ghost use Rattle.rh_defs.specs.OutgoingEvents.{perform_send as perform_send_on};
 ghost use Rattle.rh_defs.specs.Sender as sender;
 ghost use Rattle.rh_defs.specs.Pieces.{Split};
 ghost use Rattle.rh_defs.specs.Places.{overlap, written_in, buffer_at};
@@ -77,8 +79,10 @@ impl<S: Store, F: NamedFiles> World<S, F> {
     /// The part of its source that an action sends: NoBlock.
     fn portion(&self, i: usize, a: &Transmit) -> Result<Portion, Refusal>
         requires { i < length self.now.desk.tasks }
-        ensures ok { IfOk result (λ p. (t : Task) → IsAt i t self.now.desk → IsPortion t a.now p.address p.size p.part) }
-        ensures err { IfErr result (λ e. (t : Task) → IsAt i t self.now.desk → slot_block a.now.transfer.anchor t.slot ≡ Err e) }
+        ensures ok { IfOk result (λ p. (t : Task) → IsAt i t self.now.desk
+            → IsPortion t a.now p.address p.size p.part) }
+        ensures err { IfErr result (λ e. (t : Task) → IsAt i t self.now.desk → slot_block a.now.transfer.anchor t.slot
+            ≡ Err e) }
         ensures most { IfOk result (λ p. p.part.n ≤ a.now.room) }
         ensures low { IfOk result (λ p. p.address < 2 ^ 33) }
     {
@@ -120,13 +124,16 @@ impl<S: Store, F: NamedFiles> World<S, F> {
     fn write_portion(&mut self, i: usize, a: &Transmit, target: Target, portion: Portion)
         requires source { i < length self.old.desk.tasks }
         requires target { target.seat < length self.old.desk.tasks }
-        requires portion { (t : Task) → IsAt i t self.old.desk → IsPortion t a.now portion.address portion.size portion.part }
+        requires portion { (t : Task) → IsAt i t self.old.desk
+            → IsPortion t a.now portion.address portion.size portion.part }
         requires reach { (t r : Task) → IsAt i t self.old.desk → IsAt target.seat r self.old.desk
             → is_out_of_reach_on t r target.address target.room portion.address portion.part.n ≡ false }
         requires room { portion.part.n ≤ target.room }
-        ensures { (t r : Task) (source : Split Flex) → IsAt i t self.old.desk → IsAt target.seat r self.old.desk → slot_block a.now.transfer.anchor t.slot ≡ Ok source
+        ensures { (t r : Task) (source : Split Flex) → IsAt i t self.old.desk → IsAt target.seat r self.old.desk
+            → slot_block a.now.transfer.anchor t.slot ≡ Ok source
             → self.new.desk ≡ with_task r.handle (λ r. record r {
-              slot = written_in target.address (take portion.part.n (drop portion.part.offset source.here.bytes)) (buffer_at target.address target.room r.slot) r.slot;
+              slot = written_in target.address (take portion.part.n (drop portion.part.offset source.here.bytes))
+                  (buffer_at target.address target.room r.slot) r.slot;
             }) self.old.desk }
     {
         let source = &self.seats[i];
@@ -150,7 +157,8 @@ impl<S: Store, F: NamedFiles> World<S, F> {
     fn transmit(&mut self, i: usize, a: &Transmit) -> Result<Outcome, Refusal>
         requires place { i < length self.old.desk.tasks }
         requires due { CanSend i (send_action.Transmit a.now) self.old.desk }
-        ensures { (t : Task) → IsAt i t self.old.desk → Attempts (transmitted self.old.desk t a.now) self.old self.new result }
+        ensures { (t : Task) → IsAt i t self.old.desk
+            → Attempts (transmitted self.old.desk t a.now) self.old self.new result }
     {
         let portion = self.portion(i, a)?;
         let Some(seat) = with_handle(&self.seats, a.transfer.recipient) else {
@@ -179,7 +187,8 @@ impl<S: Store, F: NamedFiles> World<S, F> {
     fn finish(&mut self, i: usize, x: &Sending) -> Result<Outcome, Refusal>
         requires place { i < length self.old.desk.tasks }
         requires due { CanSend i (send_action.Finish x.now) self.old.desk }
-        ensures { (t : Task) → IsAt i t self.old.desk → Attempts (sent_by self.old.desk t (send_action.Finish x.now)) self.old self.new result }
+        ensures { (t : Task) → IsAt i t self.old.desk → Attempts (sent_by self.old.desk t
+            (send_action.Finish x.now)) self.old self.new result }
     {
         let seat = &self.seats[i];
         let size = document_size(&self.store, seat.slot, x.anchor)?;
@@ -191,7 +200,8 @@ impl<S: Store, F: NamedFiles> World<S, F> {
     fn send_with(&mut self, i: usize, action: &SendAction) -> Result<Outcome, Refusal>
         requires place { i < length self.old.desk.tasks }
         requires due { CanSend i action.now self.old.desk }
-        ensures { (t : Task) → IsAt i t self.old.desk → Attempts (sent_by self.old.desk t action.now) self.old self.new result }
+        ensures { (t : Task) → IsAt i t self.old.desk
+            → Attempts (sent_by self.old.desk t action.now) self.old self.new result }
     {
         match action {
             SendAction::Transmit(a) => self.transmit(i, a),
@@ -204,7 +214,8 @@ impl<S: Store, F: NamedFiles> World<S, F> {
     pub(crate) fn perform_send(&mut self, i: usize, action: Option<SendAction>) -> Outcome
         requires place { i < length self.old.desk.tasks }
         requires due { IfSome action (λ a. CanSend i a self.old.desk) }
-        ensures { (t : Task) → IsAt i t self.old.desk → Handles (perform_send_on self.old.desk t action) self.new result }
+        ensures { (t : Task) → IsAt i t self.old.desk
+            → Handles (perform_send_on self.old.desk t action) self.new result }
     {
         let Some(action) = action else {
             return Outcome::Ignored;

@@ -43,10 +43,12 @@ impl<S: Store, F: NamedFiles> World<S, F> {
         })
     }
 
-    /// Bounces the message that the task holds, and takes the next one for it. A scrap file whose DataLoad is gone is given up.
+    /// Bounces the message that the task holds, and takes the next one for it. A scrap file whose DataLoad is gone is
+    /// given up.
     fn take_event(&mut self, i: usize) -> Option<Event>
         requires { i < length self.old.desk.tasks }
-        ensures event { (t : Task) → IsAt i t self.old.desk → result ≡ option_map event_of (post_poll t.handle self.old.desk.post).1 }
+        ensures event { (t : Task) → IsAt i t self.old.desk → result
+            ≡ option_map event_of (post_poll t.handle self.old.desk.post).1 }
         ensures desk { (t : Task) → IsAt i t self.old.desk
             → IsReordered (with_delivered (post_poll t.handle self.old.desk.post).0 self.old.desk) self.new.desk }
     {
@@ -59,7 +61,8 @@ impl<S: Store, F: NamedFiles> World<S, F> {
     /// What is done with a message, by its code.
     fn handle(&mut self, i: usize, code: EventCode, message: &Message) -> Outcome
         requires { i < length self.old.desk.tasks }
-        ensures { (t : Task) (m : Parcel) → IsFor i t self.old.desk m message.now → Handles (handled self.old.desk t m code) self.new result }
+        ensures { (t : Task) (m : Parcel) → IsFor i t self.old.desk m message.now
+            → Handles (handled self.old.desk t m code) self.new result }
     {
         match code {
             EventCode::User | EventCode::Recorded => self.came(i, message),

@@ -23,7 +23,8 @@ impl<S: Store, F: NamedFiles> World<S, F> {
         requires place { i < length self.old.desk.tasks }
         requires due { CanSend i (send_action.Transmit a.now) self.old.desk }
         ensures { (t : Task) → IsAt i t self.old.desk
-            → self.new.desk ≡ with_sending t.handle (sender.sent a.now (sender.next_part a.now size) last) self.old.desk }
+            → self.new.desk ≡ with_sending t.handle (sender.sent a.now
+            (sender.next_part a.now size) last) self.old.desk }
     {
         let seat = &mut self.seats[i];
         seat.sending.sent(a, size, last).unwrap();
@@ -33,7 +34,8 @@ impl<S: Store, F: NamedFiles> World<S, F> {
     pub(crate) fn record_failed_out(&mut self, i: usize, action: &SendAction)
         requires place { i < length self.old.desk.tasks }
         requires due { CanSend i action.now self.old.desk }
-        ensures { (t : Task) → IsAt i t self.old.desk → self.new.desk ≡ with_sending t.handle (sender.sending_failed (sender.transfer_of action.now)) self.old.desk }
+        ensures { (t : Task) → IsAt i t self.old.desk → self.new.desk
+            ≡ with_sending t.handle (sender.sending_failed (sender.transfer_of action.now)) self.old.desk }
     {
         let seat = &mut self.seats[i];
         seat.sending.failed(action).unwrap();
@@ -43,7 +45,8 @@ impl<S: Store, F: NamedFiles> World<S, F> {
     pub(crate) fn record_saved(&mut self, i: usize, a: &SaveFile, last: Ref)
         requires place { i < length self.old.desk.tasks }
         requires due { CanSend i (send_action.SaveFile a.now) self.old.desk }
-        ensures { (t : Task) → IsAt i t self.old.desk → self.new.desk ≡ with_sending t.handle (sender.saved a.now last) self.old.desk }
+        ensures { (t : Task) → IsAt i t self.old.desk → self.new.desk
+            ≡ with_sending t.handle (sender.saved a.now last) self.old.desk }
     {
         let seat = &mut self.seats[i];
         seat.sending.saved(a, last).unwrap();
@@ -53,7 +56,8 @@ impl<S: Store, F: NamedFiles> World<S, F> {
     pub(crate) fn record_loaded_out(&mut self, i: usize, x: &Sending, n: u32)
         requires place { i < length self.old.desk.tasks }
         requires due { CanSend i (send_action.Finish x.now) self.old.desk }
-        ensures { (t : Task) → IsAt i t self.old.desk → self.new.desk ≡ with_sending t.handle (sender.sending_loaded x.now n) self.old.desk }
+        ensures { (t : Task) → IsAt i t self.old.desk → self.new.desk
+            ≡ with_sending t.handle (sender.sending_loaded x.now n) self.old.desk }
     {
         let seat = &mut self.seats[i];
         seat.sending.loaded(x, n).unwrap();
@@ -70,7 +74,8 @@ impl<S: Store, F: NamedFiles> World<S, F> {
     )
         requires place { i < length self.old.desk.tasks }
         requires due { CanTake i (take_action.Claim a.now) self.old.desk }
-        ensures { (t : Task) → IsAt i t self.old.desk → self.new.desk ≡ with_taking t.handle (receiver.taking_claimed a.now anchor buffer fetch) self.old.desk }
+        ensures { (t : Task) → IsAt i t self.old.desk → self.new.desk
+            ≡ with_taking t.handle (receiver.taking_claimed a.now anchor buffer fetch) self.old.desk }
     {
         let seat = &mut self.seats[i];
         seat.taking.fetching(a, anchor, buffer, fetch).unwrap();
@@ -81,7 +86,8 @@ impl<S: Store, F: NamedFiles> World<S, F> {
         requires place { i < length self.old.desk.tasks }
         requires due { CanTake i (take_action.Append a.now) self.old.desk }
         requires next { is_finish a.now.next ≡ false }
-        ensures { (t : Task) → IsAt i t self.old.desk → self.new.desk ≡ with_taking t.handle (receiver.fetched a.now fetch) self.old.desk }
+        ensures { (t : Task) → IsAt i t self.old.desk → self.new.desk
+            ≡ with_taking t.handle (receiver.fetched a.now fetch) self.old.desk }
     {
         let seat = &mut self.seats[i];
         seat.taking.fetched(a, fetch).unwrap();
@@ -92,7 +98,8 @@ impl<S: Store, F: NamedFiles> World<S, F> {
         requires place { i < length self.old.desk.tasks }
         requires due { CanTake i (take_action.Append a.now) self.old.desk }
         requires next { is_finish a.now.next ≡ true }
-        ensures { (t : Task) → IsAt i t self.old.desk → self.new.desk ≡ with_taking t.handle (receiver.finished a.now) self.old.desk }
+        ensures { (t : Task) → IsAt i t self.old.desk → self.new.desk
+            ≡ with_taking t.handle (receiver.finished a.now) self.old.desk }
     {
         let seat = &mut self.seats[i];
         seat.taking.finished(a).unwrap();
@@ -103,7 +110,8 @@ impl<S: Store, F: NamedFiles> World<S, F> {
         requires place { i < length self.old.desk.tasks }
         requires due { CanTake i action.now self.old.desk }
         requires kept { can_keep action.now kept ≡ true }
-        ensures { (t : Task) → IsAt i t self.old.desk → self.new.desk ≡ with_taking t.handle (after_failure action.now kept) self.old.desk }
+        ensures { (t : Task) → IsAt i t self.old.desk → self.new.desk
+            ≡ with_taking t.handle (after_failure action.now kept) self.old.desk }
     {
         let seat = &mut self.seats[i];
         seat.taking.failed(action, kept).unwrap();
@@ -113,7 +121,8 @@ impl<S: Store, F: NamedFiles> World<S, F> {
     pub(crate) fn record_asking(&mut self, i: usize, f: &Taking, ack: Ref)
         requires place { i < length self.old.desk.tasks }
         requires due { CanTake i (take_action.AskForFile f.now) self.old.desk }
-        ensures { (t : Task) → IsAt i t self.old.desk → self.new.desk ≡ with_taking t.handle (receiver.asking f.now ack) self.old.desk }
+        ensures { (t : Task) → IsAt i t self.old.desk → self.new.desk
+            ≡ with_taking t.handle (receiver.asking f.now ack) self.old.desk }
     {
         let seat = &mut self.seats[i];
         seat.taking.asking(f, ack).unwrap();
@@ -123,7 +132,8 @@ impl<S: Store, F: NamedFiles> World<S, F> {
     pub(crate) fn record_loaded_in(&mut self, i: usize, a: &LoadFile, n: u32)
         requires place { i < length self.old.desk.tasks }
         requires due { CanTake i (take_action.LoadFile a.now) self.old.desk }
-        ensures { (t : Task) → IsAt i t self.old.desk → self.new.desk ≡ with_taking t.handle (receiver.taking_loaded a.now.transfer n) self.old.desk }
+        ensures { (t : Task) → IsAt i t self.old.desk → self.new.desk
+            ≡ with_taking t.handle (receiver.taking_loaded a.now.transfer n) self.old.desk }
     {
         let seat = &mut self.seats[i];
         seat.taking.loaded(a, n).unwrap();

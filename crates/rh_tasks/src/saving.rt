@@ -29,7 +29,8 @@ struct Source {
     size: u32,
 }
 
-/// The block at the anchor, which isn't busy, of the task with the name, which may offer one more: NoName, NoBlock, Busy.
+/// The block at the anchor, which isn't busy, of the task with the name, which may offer one more: NoName, NoBlock,
+/// Busy.
 fn idle_source<S: Words>(
     store: &S,
     seats: &Seats,
@@ -39,7 +40,8 @@ fn idle_source<S: Words>(
     requires anchor { anchor < anchor_count }
     requires slots { AllByRecursion (HasSlot (S.memory store.now)) seats.now.items }
     ensures ok { IfOk result (CanOffer anchor (S.memory store.now) name.now seats.now.items) }
-    ensures err { IfErr result (λ e. looked (source_block anchor) (S.memory store.now) name.now seats.now.items ≡ Err e) }
+    ensures err { IfErr result (λ e. looked (source_block anchor) (S.memory store.now) name.now seats.now.items
+        ≡ Err e) }
 {
     let i = find(seats, name)?;
     let seat = &seats[i];

@@ -37,7 +37,8 @@ pub fn scrap_size(scrap: Option<ScrapFile>) -> u32
 /// The scrap file, while its DataLoad is queued or held.
 pub fn kept_scrap<S: Words>(store: &S, queue: &Queue, scrap: Option<ScrapFile>) -> Option<ScrapFile>
     requires { IsQueue (S.memory store.now) the_module queue.now }
-    ensures { (post : Post) → SpellsPostIn (S.memory store.now) the_module queue.now post → result ≡ kept_file post scrap }
+    ensures { (post : Post) → SpellsPostIn (S.memory store.now) the_module queue.now post → result
+        ≡ kept_file post scrap }
 {
     let file = scrap?;
     if !queue.is_live(store, MODULE, file.load) {

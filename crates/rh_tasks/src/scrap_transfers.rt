@@ -27,7 +27,8 @@ impl<S: Store, F: NamedFiles> World<S, F> {
     pub(crate) fn save_scrap(&mut self, i: usize, a: &SaveFile) -> Result<Outcome, Refusal>
         requires place { i < length self.old.desk.tasks }
         requires due { CanSend i (send_action.SaveFile a.now) self.old.desk }
-        ensures { (t : Task) → IsAt i t self.old.desk → Attempts (scrapped self.old.desk t a.now) self.old self.new result }
+        ensures { (t : Task) → IsAt i t self.old.desk
+            → Attempts (scrapped self.old.desk t a.now) self.old self.new result }
     {
         let seat = &self.seats[i];
         let size = document_size(&self.store, seat.slot, a.transfer.anchor)?;
@@ -87,7 +88,8 @@ impl<S: Store, F: NamedFiles> World<S, F> {
     pub(crate) fn load_file(&mut self, i: usize, a: &LoadFile) -> Outcome
         requires place { i < length self.old.desk.tasks }
         requires due { CanTake i (take_action.LoadFile a.now) self.old.desk }
-        ensures { (t : Task) → IsAt i t self.old.desk → Handles (load_file_on self.old.desk t a.now self.old.desk.scrap) self.new result }
+        ensures { (t : Task) → IsAt i t self.old.desk
+            → Handles (load_file_on self.old.desk t a.now self.old.desk.scrap) self.new result }
     {
         let Some(file) = self.scrap else {
             return Outcome::Ignored;
@@ -122,13 +124,16 @@ impl<S: Store, F: NamedFiles> World<S, F> {
         self.store.grow(SCRAP, more).unwrap();
     }
 
-    /// The block at the anchor becomes the scrap file, for which area 5 has room and which the DataLoad with the ref tells.
+    /// The block at the anchor becomes the scrap file, for which area 5 has room and which the DataLoad with the ref
+    /// tells.
     fn fill_scrap(&mut self, i: usize, anchor: Anchor, size: u32, load: Ref)
         requires place { i < length self.old.desk.tasks }
         requires room { size ≤ page_size * slice_index self.old.desk.areas scrap_area }
         requires block { (t : Task) → IsAt i t self.old.desk → slot_size anchor t.slot ≡ Ok size }
         ensures { (t : Task) (source : Split Flex) → IsAt i t self.old.desk → slot_block anchor t.slot ≡ Ok source
-            → self.new.desk ≡ record self.old.desk { scrap = Some (record { load = load; bytes = source.here.bytes }) } }
+            → self.new.desk ≡ record self.old.desk {
+              scrap = Some (record { load = load; bytes = source.here.bytes });
+            } }
     {
         let seat = &self.seats[i];
         let slot = seat.slot;

@@ -69,7 +69,8 @@ impl Seat {
 
     /// Whether the anchor's block is the source of an open transfer, or a document that grows.
     pub fn is_busy_block(&self, anchor: Anchor) -> bool
-        ensures { result ≡ (list_any (is_source anchor) self.now.sending || list_any (is_document anchor) self.now.taking) }
+        ensures { result ≡ (list_any (is_source anchor) self.now.sending || list_any
+            (is_document anchor) self.now.taking) }
     {
         self.sending.is_source(anchor) || self.taking.is_document(anchor)
     }

@@ -78,7 +78,8 @@ pub fn idle_heap<S: Words>(
 ) -> Result<Slot, Refusal>
     requires { AllByRecursion (HasSlot (S.memory store.now)) seats.now.items }
     ensures ok { IfOk result (OwnsIdle address name.now seats.now.items) }
-    ensures err { IfErr result (λ e. looked (idle_buffer address) (S.memory store.now) name.now seats.now.items ≡ Err e) }
+    ensures err { IfErr result (λ e. looked (idle_buffer address) (S.memory store.now) name.now seats.now.items
+        ≡ Err e) }
 {
     let i = find(seats, name)?;
     let seat = &seats[i];

@@ -9,7 +9,8 @@ ghost use Rattle.rh_defs.specs.Messages.{Parcel};
 ghost use Rattle.rh_defs.specs.Records.{most_records};
 ghost use Rattle.rh_wimp.specs.QueueItems.{message_items, with_message};
 ghost use Rattle.rh_tasks.specs.WorldLists.{items_at};
-ghost use Rattle.rh_tasks.specs.Sights.{IsSeen, blocks_in, scrap_file_of, made_of_sight, module_shown, next_message as next_message_on, segments_in, slot_bytes};
+ghost use Rattle.rh_tasks.specs.Sights.{IsSeen, blocks_in, scrap_file_of, made_of_sight, module_shown};
+ghost use Rattle.rh_tasks.specs.Sights.{next_message as next_message_on, segments_in, slot_bytes};
 
 use crate::listing::{HeapSums, pages_in, segment_items};
 use crate::module_area::MODULE;
@@ -134,7 +135,8 @@ impl<S: Store, F: NamedFiles> World<S, F> {
     /// Fills a buffer that was lent with the bytes at an address of a live task's slot; NoTask, or BadRange where they
     /// aren't whole inside one live block of the C heap or one flex block. (Wimp_TransferBlock reads so.)
     pub fn read_slot(&self, handle: Handle, address: u32, to: &mut [u8]) -> Result<(), Refusal>
-        ensures { MatchResult (slot_bytes self.now.desk handle address (length to.old)) (λ bytes. (result ≡ Ok tt) × (to.new ≡ bytes)) (λ e. (result ≡ Err e) × (to.new ≡ to.old)) }
+        ensures { MatchResult (slot_bytes self.now.desk handle address (length to.old))
+            (λ bytes. (result ≡ Ok tt) × (to.new ≡ bytes)) (λ e. (result ≡ Err e) × (to.new ≡ to.old)) }
     {
         let i = with_handle(&self.seats, handle).ok_or(Refusal::NoTask)?;
         let slot = self.seats[i].slot;
@@ -166,7 +168,8 @@ impl<S: Store, F: NamedFiles> World<S, F> {
     /// The size in bytes of a block of the module area that a command claimed, and its bytes from an offset on;
     /// NotABlock, NotYours where a message lies in it, or BadRange where the bytes wanted don't lie in the block.
     pub fn read_module(&self, address: u32, offset: u32, to: &mut [u8]) -> Result<u32, Refusal>
-        ensures { MatchResult (module_shown self.now.desk address offset (length to.old)) (λ p. (result ≡ Ok p.0) × (to.new ≡ p.1)) (λ e. (result ≡ Err e) × (to.new ≡ to.old)) }
+        ensures { MatchResult (module_shown self.now.desk address offset (length to.old))
+            (λ p. (result ≡ Ok p.0) × (to.new ≡ p.1)) (λ e. (result ≡ Err e) × (to.new ≡ to.old)) }
     {
         let place = self.own_place(address)?;
         let size = MODULE.block_size(&self.store, place)?;
@@ -194,7 +197,9 @@ impl<S: Store, F: NamedFiles> World<S, F> {
         name: &Name,
         block: &mut [u8; LONGEST_MESSAGE],
     ) -> Result<Option<EventCode>, Refusal>
-        ensures { MatchResult (next_message_on self.now.desk name.now) (λ o. (result ≡ Ok (option_map (λ (p : Parcel). p.code) o)) × (block.new ≡ with_message o block.old)) (λ e. (result ≡ Err e) × (block.new ≡ block.old)) }
+        ensures { MatchResult (next_message_on self.now.desk name.now)
+            (λ o. (result ≡ Ok (option_map (λ (p : Parcel). p.code) o)) × (block.new ≡ with_message o block.old))
+            (λ e. (result ≡ Err e) × (block.new ≡ block.old)) }
     {
         let i = find(&self.seats, name)?;
         let seat = &self.seats[i];

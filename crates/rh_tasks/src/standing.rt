@@ -47,8 +47,8 @@ fn push_slots(seats: &Seats, areas: &mut ArrayVec<AreaId, MAX_AREAS>)
 }
 
 impl<S: Store, F: NamedFiles> World<S, F> {
-    /// Lends the store, and puts its open areas into a list, in place of what it held, in the order of `areas`: areas 0 to
-    /// 5, the made areas in order of number, and the slots in order of handle.
+    /// Lends the store, and puts its open areas into a list, in place of what it held, in the order of `areas`: areas 0
+    /// to 5, the made areas in order of number, and the slots in order of handle.
     pub fn store(&self, areas: &mut ArrayVec<AreaId, MAX_AREAS>) -> &S
         ensures { StandsIn (S.memory result.now) (numbers areas.new.items) self.now }
     {
@@ -60,10 +60,11 @@ impl<S: Store, F: NamedFiles> World<S, F> {
     }
 }
 
-/// Where the pages of a store have numbers, each page of the pool is a page of one of the areas that `World::store` lists,
-/// or free, just once. Nothing is done.
+/// Where the pages of a store have numbers, each page of the pool is a page of one of the areas that `World::store`
+/// lists, or free, just once. Nothing is done.
 pub fn share_law<S: Sited>(store: &S)
-    ensures { (ids : List ℕ) (s : Shown) → StandsIn (S.memory store.now) ids s → HaveEachPage (S.pages_of store.now) (S.free_of store.now) ids (S.memory store.now).pages }
+    ensures { (ids : List ℕ) (s : Shown) → StandsIn (S.memory store.now) ids s
+        → HaveEachPage (S.pages_of store.now) (S.free_of store.now) ids (S.memory store.now).pages }
 {
     let _ = store;
 }

@@ -14,8 +14,8 @@ use rh_slot::write_from;
 use rh_store::Store;
 
 impl<S: Store, F: NamedFiles> World<S, F> {
-    /// Moves n bytes from an address of one task's slot to an address of another's, or of its own. Refused: NoTask where
-    /// one of the tasks isn't live, BadRange where a range isn't whole inside one live block or the two overlap.
+    /// Moves n bytes from an address of one task's slot to an address of another's, or of its own. Refused: NoTask
+    /// where one of the tasks isn't live, BadRange where a range isn't whole inside one live block or the two overlap.
     /// (Wimp_TransferBlock.)
     pub fn transfer_block(
         &mut self,

@@ -15,7 +15,8 @@ use rh_defs::{Name, Ref, Refusal, Reply};
 use rh_store::Store;
 
 impl<S: Store, F: NamedFiles> World<S, F> {
-    /// Sends the task's last letter once more, under another ref: NoName, NothingSent, NoTask, NoRefs, QueueFull, NoRoom.
+    /// Sends the task's last letter once more, under another ref: NoName, NothingSent, NoTask, NoRefs, QueueFull,
+    /// NoRoom.
     pub(crate) fn repeat(&mut self, name: &Name) -> Result<Reply, Refusal>
         requires { in_range (Command.Repeat name.now) ≡ true }
         ensures { GivesAlike (repeat_on self.old.desk name.now) self.old self.new result }

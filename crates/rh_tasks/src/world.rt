@@ -27,8 +27,8 @@ use rh_tables::Table;
 use rh_wimp::Queue;
 use std::marker::Model;
 
-/// A desk over a store, whose areas hold the slots, the module area and the pages. Areas 0 to 5 are the store's areas of
-/// these numbers; each slot and each made area has an area of its own. No call takes memory.
+/// A desk over a store, whose areas hold the slots, the module area and the pages. Areas 0 to 5 are the store's areas
+/// of these numbers; each slot and each made area has an area of its own. No call takes memory.
 #[derive(Drop)]
 pub struct World<S: Store, F: NamedFiles = Files> {
     pub(crate) store: S,
@@ -48,9 +48,11 @@ impl<S: Store, F: NamedFiles> Model for World<S, F> {
 
     ghost use Rattle.rh_tasks.specs.View.{kept_of, shown_of, IsWorld};
 
-    ghost view = { λ w. shown_of (S.memory w.store) w.seats.items w.made.items (F.contents w.files) (kept_of w.next w.queue w.scrap) };
+    ghost view = { λ w. shown_of (S.memory w.store) w.seats.items w.made.items (F.contents w.files)
+        (kept_of w.next w.queue w.scrap) };
 
-    ghost invariant = { λ w. IsWorld (S.memory w.store) w.seats.items w.made.items (F.contents w.files) (kept_of w.next w.queue w.scrap) };
+    ghost invariant = { λ w. IsWorld (S.memory w.store) w.seats.items w.made.items (F.contents w.files)
+        (kept_of w.next w.queue w.scrap) };
 }
 
 /// Opens areas 0 to 5 of a fresh store, and makes area 1, the module area, an empty heap of one page.
@@ -67,8 +69,8 @@ fn furnish<S: Store>(store: &mut S)
 }
 
 impl<S: Store, F: NamedFiles> World<S, F> {
-    /// The first desk over a fresh store of 8 to 1,024 pages, with these files: no task, and one page in the module area.
-    /// Handles and refs count up from 1.
+    /// The first desk over a fresh store of 8 to 1,024 pages, with these files: no task, and one page in the module
+    /// area. Handles and refs count up from 1.
     pub fn new(store: S, files: F) -> World<S, F>
         requires fresh { S.memory store ≡ fresh (S.memory store).pages }
         requires least { MIN_PAGES ≤ (S.memory store).pages }
@@ -99,8 +101,8 @@ impl<S: Store, F: NamedFiles> World<S, F> {
         }
     }
 
-    /// The bytes and lengths of the store's areas spell the desk; the live blocks lie in them, no two of one area overlap,
-    /// and all pages add up.
+    /// The bytes and lengths of the store's areas spell the desk; the live blocks lie in them, no two of one area
+    /// overlap, and all pages add up.
     pub fn spelled(&self)
         ensures spelled { IsSpelled self.now }
         ensures apart { ShowsApartBlocks self.now }
@@ -110,9 +112,9 @@ impl<S: Store, F: NamedFiles> World<S, F> {
         let _ = &self.store;
     }
 
-    /// Does one command, or answers the first of its refusals and changes nothing; a question changes nothing in any case.
-    /// The order of messages to different tasks isn't kept, so what is said of the desk is said of each that differs in
-    /// that order alone. After any commands the desk is so the one after them and this one.
+    /// Does one command, or answers the first of its refusals and changes nothing; a question changes nothing in any
+    /// case. The order of messages to different tasks isn't kept, so what is said of the desk is said of each that
+    /// differs in that order alone. After any commands the desk is so the one after them and this one.
     pub fn apply(&mut self, command: &Command) -> Reply
         requires ranged { in_range command.now ≡ true }
         ensures steps { StepsTo command.now self.old.desk self.new.desk result }

@@ -64,7 +64,8 @@ pub fn append<S: WordsMut>(
 )
     requires module { IsModule (S.memory store.old) module_area }
     requires within { at < length entries.old.items }
-    requires last { (entry_at entries.old.items at).last ≢ 0 → HasBlock (entry_at entries.old.items at).last WORD (module_heap_in (S.memory store.old) module_area) }
+    requires last { (entry_at entries.old.items at).last ≢ 0
+        → HasBlock (entry_at entries.old.items at).last WORD (module_heap_in (S.memory store.old) module_area) }
     requires small { block < 2 ^ 32 }
     ensures entries { entries.new.items ≡ set entries.old.items at (lengthened block (entry_at entries.old.items at)) }
     ensures len { length entries.new.items ≡ length entries.old.items }

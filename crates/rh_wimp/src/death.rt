@@ -61,7 +61,8 @@ impl Queue {
         requires within { at < length self.old.entries }
         requires handle { (entry_at self.old.entries at).handle ≡ dying }
         requires post { (post : Post) × SpellsPostIn (S.memory store.old) module_area self.old post }
-        ensures drains { (post : Post) → SpellsPostIn (S.memory store.old) module_area self.old post → Drains (S.memory store.new) module_area self.new post dying MOST_MESSAGES }
+        ensures drains { (post : Post) → SpellsPostIn (S.memory store.old) module_area self.old post
+            → Drains (S.memory store.new) module_area self.new post dying MOST_MESSAGES }
         ensures module { IsModule (S.memory store.new) module_area }
         ensures only { OnlyArea (S.memory store.old) (S.memory store.new) module_area.area.0 }
     {

@@ -3,7 +3,8 @@ ghost use Rattle.std.specs.Prelude.{◌≡◌, ◌≤◌, ◌+◌, ◌==◌, len
 ghost use Rattle.std.specs.List.{position};
 ghost use Rattle.rh_defs.specs.declared.sizes.TheConstants.{LONGEST_MESSAGE, LONGEST_PATHNAME};
 ghost use Rattle.rh_defs.specs.Bytes.{part};
-ghost use Rattle.rh_defs.specs.MessageImage.{SpellsMessage, body_for, decoded, file_in, has_length as has_length_of, name_length};
+ghost use Rattle.rh_defs.specs.MessageImage.{SpellsMessage, body_for, decoded, file_in, has_length as has_length_of};
+ghost use Rattle.rh_defs.specs.MessageImage.{name_length};
 ghost use Rattle.rh_defs.specs.Pathnames.{is_plain};
 ghost use Rattle.rh_defs.specs.declared.message.Message.{Message as SpecMessage};
 ghost use Rattle.rh_wimp.specs.declared.layout.TheConstants.{LEAST_LENGTH, NAME};

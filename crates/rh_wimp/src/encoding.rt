@@ -2,7 +2,8 @@
 ghost use Rattle.std.specs.Prelude.{◌≡◌, ◌+◌, ◌^◌, ◌<◌, ◌≤◌, ◌++◌, [], ◌∷◌, true, length};
 ghost use Rattle.rh_defs.specs.declared.sizes.TheConstants.{LONGEST_MESSAGE};
 ghost use Rattle.rh_defs.specs.Bytes.{with_part};
-ghost use Rattle.rh_defs.specs.Messages.{AreWords, Fits, HasName, body_bytes, data_words, encoded, encoded_length, file_words, name_bytes, words};
+ghost use Rattle.rh_defs.specs.Messages.{AreWords, Fits, HasName, body_bytes, data_words, encoded, encoded_length};
+ghost use Rattle.rh_defs.specs.Messages.{file_words, name_bytes, words};
 ghost use Rattle.rh_defs.specs.Pathnames.{is_pathname};
 ghost use Rattle.rh_wimp.specs.declared.layout.TheConstants.{ACTION, DATA, FILE_LENGTH, NAME, RAM_LENGTH};
 
@@ -114,7 +115,8 @@ pub fn body_length(body: &Body) -> usize
 fn encode_parts(from: u32, my_ref: u32, your_ref: u32, body: &Body, out: &mut [u8]) -> usize
     requires { length out.old ≡ LONGEST_MESSAGE }
     ensures length { result ≡ ACTION + length (body_bytes body.now) }
-    ensures bytes { out.new ≡ with_part out.old 0 (encoded (record { from = from; my_ref = my_ref; your_ref = your_ref; body = body.now })) }
+    ensures bytes { out.new ≡ with_part out.old 0 (encoded
+        (record { from = from; my_ref = my_ref; your_ref = your_ref; body = body.now })) }
     ensures short { result ≤ LONGEST_MESSAGE }
     ensures fits { Fits (record { from = from; my_ref = my_ref; your_ref = your_ref; body = body.now }) }
 {
@@ -123,8 +125,8 @@ fn encode_parts(from: u32, my_ref: u32, your_ref: u32, body: &Body, out: &mut [u
     length
 }
 
-/// Writes a message block into the bytes that the longest one takes, and answers its length; the bytes beyond it stay as
-/// they were.
+/// Writes a message block into the bytes that the longest one takes, and answers its length; the bytes beyond it stay
+/// as they were.
 pub(crate) fn encode_into(message: &Message, out: &mut [u8]) -> usize
     requires { length out.old ≡ LONGEST_MESSAGE }
     ensures length { result ≡ encoded_length message.now }

@@ -6,8 +6,8 @@ ghost use Rattle.rh_defs.specs.Module.{module_change, module_claim, module_free,
 ghost use Rattle.rh_defs.specs.Post.{Post, post_is_message};
 ghost use Rattle.rh_wimp.specs.QueueLaws.{ComesBack, GoesBeside, HaveOnePost};
 
-/// What `encode` wrote, `decode` reads as the same message: from the whole block, whatever stood behind the message in it,
-/// and from each front of the block that has the message's length.
+/// What `encode` wrote, `decode` reads as the same message: from the whole block, whatever stood behind the message in
+/// it, and from each front of the block that has the message's length.
 pub fn codec_law()
     ensures { ComesBack }
 {}
@@ -22,7 +22,10 @@ pub fn post_law()
 /// shorter, as if the post's heap were the area's; each message stays.
 pub fn beside_law()
     ensures claim { (n : ℕ) → GoesBeside (λ (post : Post). Unit) (λ (free : ℕ) (h : Heap). module_claim free n h) }
-    ensures free { (a : ℕ) → GoesBeside (λ (post : Post). post_is_message a post ≡ false) (λ (free : ℕ) (h : Heap). no_answer (module_free a h)) }
-    ensures resize { (a : ℕ) (delta : ℤ) → GoesBeside (λ (post : Post). post_is_message a post ≡ false) (λ (free : ℕ) (h : Heap). module_resize free a delta h) }
-    ensures change { (delta : ℤ) → GoesBeside (λ (post : Post). Unit) (λ (free : ℕ) (h : Heap). module_change free delta h) }
+    ensures free { (a : ℕ) → GoesBeside (λ (post : Post). post_is_message a post ≡ false) (λ (free : ℕ)
+        (h : Heap). no_answer (module_free a h)) }
+    ensures resize { (a : ℕ) (delta : ℤ) → GoesBeside (λ (post : Post). post_is_message a post ≡ false) (λ (free : ℕ)
+        (h : Heap). module_resize free a delta h) }
+    ensures change { (delta : ℤ) → GoesBeside (λ (post : Post). Unit) (λ (free : ℕ)
+        (h : Heap). module_change free delta h) }
 {}

@@ -45,8 +45,11 @@ fn push_waiting<S: Words>(
     items: &mut ArrayVec<MessageItem, MOST_MESSAGES>,
 )
     requires module { IsModule (S.memory store.now) module_area }
-    requires rows { (rows : List SeatRow) × (RowsLie (module_heap_in (S.memory store.now) module_area) entries.now.items rows × (length items.old.items + length (waiting_items rows) ≤ MOST_MESSAGES)) }
-    ensures { (rows : List SeatRow) → RowsLie (module_heap_in (S.memory store.now) module_area) entries.now.items rows → length items.old.items + length (waiting_items rows) ≤ MOST_MESSAGES
+    requires rows { (rows : List SeatRow) × (RowsLie
+        (module_heap_in (S.memory store.now) module_area) entries.now.items rows
+        × (length items.old.items + length (waiting_items rows) ≤ MOST_MESSAGES)) }
+    ensures { (rows : List SeatRow) → RowsLie (module_heap_in (S.memory store.now) module_area) entries.now.items rows
+        → length items.old.items + length (waiting_items rows) ≤ MOST_MESSAGES
         → items.new.items ≡ items.old.items ++ waiting_items rows }
 {
     for entry in entries.as_slice() {
@@ -63,8 +66,10 @@ fn push_chain<S: Words>(
     items: &mut ArrayVec<MessageItem, MOST_MESSAGES>,
 )
     requires module { IsModule (S.memory store.now) module_area }
-    requires chain { (ps : List Parcel) × ((first ≡ first_block ps 0) × Chain (module_heap_in (S.memory store.now) module_area) ps 0 × (length items.old.items + length ps ≤ MOST_MESSAGES)) }
-    ensures { (ps : List Parcel) → first ≡ first_block ps 0 → Chain (module_heap_in (S.memory store.now) module_area) ps 0 → length items.old.items + length ps ≤ MOST_MESSAGES
+    requires chain { (ps : List Parcel) × ((first ≡ first_block ps 0) × Chain
+        (module_heap_in (S.memory store.now) module_area) ps 0 × (length items.old.items + length ps ≤ MOST_MESSAGES)) }
+    ensures { (ps : List Parcel) → first ≡ first_block ps 0 → Chain (module_heap_in
+        (S.memory store.now) module_area) ps 0 → length items.old.items + length ps ≤ MOST_MESSAGES
         → items.new.items ≡ items.old.items ++ map (message_item_of to false) ps }
 {
     let mut block = first;
@@ -85,8 +90,11 @@ fn push_held<S: Words>(
     items: &mut ArrayVec<MessageItem, MOST_MESSAGES>,
 )
     requires module { IsModule (S.memory store.now) module_area }
-    requires rows { (rows : List SeatRow) × (RowsLie (module_heap_in (S.memory store.now) module_area) entries.now.items rows × (length items.old.items + length (held_items rows) ≤ MOST_MESSAGES)) }
-    ensures { (rows : List SeatRow) → RowsLie (module_heap_in (S.memory store.now) module_area) entries.now.items rows → length items.old.items + length (held_items rows) ≤ MOST_MESSAGES
+    requires rows { (rows : List SeatRow) × (RowsLie
+        (module_heap_in (S.memory store.now) module_area) entries.now.items rows
+        × (length items.old.items + length (held_items rows) ≤ MOST_MESSAGES)) }
+    ensures { (rows : List SeatRow) → RowsLie (module_heap_in (S.memory store.now) module_area) entries.now.items rows
+        → length items.old.items + length (held_items rows) ≤ MOST_MESSAGES
         → items.new.items ≡ items.old.items ++ held_items rows }
 {
     for entry in entries.as_slice() {
@@ -103,8 +111,10 @@ fn push_block<S: Words>(
     items: &mut ArrayVec<MessageItem, MOST_MESSAGES>,
 )
     requires module { IsModule (S.memory store.now) module_area }
-    requires held { (o : Option Parcel) × (Holds (module_heap_in (S.memory store.now) module_area) held o × (length items.old.items + length (held_list o) ≤ MOST_MESSAGES)) }
-    ensures { (o : Option Parcel) → Holds (module_heap_in (S.memory store.now) module_area) held o → length items.old.items + length (held_list o) ≤ MOST_MESSAGES
+    requires held { (o : Option Parcel) × (Holds (module_heap_in (S.memory store.now) module_area) held o ×
+        (length items.old.items + length (held_list o) ≤ MOST_MESSAGES)) }
+    ensures { (o : Option Parcel) → Holds (module_heap_in (S.memory store.now) module_area) held o
+        → length items.old.items + length (held_list o) ≤ MOST_MESSAGES
         → items.new.items ≡ items.old.items ++ map (message_item_of to true) (held_list o) }
 {
     if held == 0 {

@@ -31,8 +31,10 @@ impl Queue {
     ) -> Option<EventCode>
         requires queue { IsQueue (S.memory store.now) module_area self.now }
         requires live { HasEntry handle self.now }
-        ensures code { Answers (S.memory store.now) module_area self.now (λ post. option_map (λ (p : Parcel). p.code) (post_poll handle post).1) result }
-        ensures message { Answers (S.memory store.now) module_area self.now (λ post. with_message (post_poll handle post).1 block.old) block.new }
+        ensures code { Answers (S.memory store.now) module_area self.now
+            (λ post. option_map (λ (p : Parcel). p.code) (post_poll handle post).1) result }
+        ensures message { Answers (S.memory store.now) module_area self.now
+            (λ post. with_message (post_poll handle post).1 block.old) block.new }
     {
         let Some(at) = find(&self.entries, handle) else {
             return None;
@@ -55,7 +57,8 @@ impl Queue {
 fn holds_own<S: Words>(store: &S, module_area: Module, held: usize, handle: Handle) -> bool
     requires module { IsModule (S.memory store.now) module_area }
     requires held { (o : Option Parcel) × Holds (module_heap_in (S.memory store.now) module_area) held o }
-    ensures { (o : Option Parcel) → Holds (module_heap_in (S.memory store.now) module_area) held o → result ≡ holds_such (λ (p : Parcel). p.message.from == handle) o }
+    ensures { (o : Option Parcel) → Holds (module_heap_in (S.memory store.now) module_area) held o → result
+        ≡ holds_such (λ (p : Parcel). p.message.from == handle) o }
 {
     if held == 0 {
         return false;

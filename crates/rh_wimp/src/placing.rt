@@ -1,5 +1,6 @@
 //! Messages into blocks of the module area, and blocks that go.
-ghost use Rattle.std.specs.Prelude.{◌≡◌, ◌≢◌, ◌+◌, ◌<◌, ◌==◌, ◌++◌, ℕ, List, Some, None, Ok, false, OnErr, IfOk, length, set};
+ghost use Rattle.std.specs.Prelude.{◌≡◌, ◌≢◌, ◌+◌, ◌<◌, ◌==◌, ◌++◌, ℕ, List, Some, None, Ok, false, OnErr, IfOk};
+ghost use Rattle.std.specs.Prelude.{length, set};
 ghost use Rattle.rh_defs.specs.Bytes.{word};
 ghost use Rattle.rh_defs.specs.Chain.{answer_of};
 ghost use Rattle.rh_defs.specs.Heap.{Heap, release_block};
@@ -33,9 +34,13 @@ pub fn place<S: Pages>(
     message: &Message,
 ) -> Result<usize, Refusal>
     requires { IsModule (S.memory store.old) module_area }
-    ensures answer { result ≡ answer_of (module_claim (S.memory store.old).free (parcel_size message.now) (module_heap_in (S.memory store.old) module_area)) }
-    ensures placed { (there : Heap × ℕ) → module_claim (S.memory store.old).free (parcel_size message.now) (module_heap_in (S.memory store.old) module_area) ≡ Ok there
-        → Turns (S.memory store.old) (S.memory store.new) module_area (poked there.1 0 (word_bytes 0 ++ (word_bytes (code_number code) ++ encoded message.now)) there.0) }
+    ensures answer { result ≡ answer_of (module_claim (S.memory store.old).free (parcel_size message.now)
+        (module_heap_in (S.memory store.old) module_area)) }
+    ensures placed { (there : Heap × ℕ)
+        → module_claim (S.memory store.old).free (parcel_size message.now)
+        (module_heap_in (S.memory store.old) module_area) ≡ Ok there
+        → Turns (S.memory store.old) (S.memory store.new) module_area
+        (poked there.1 0 (word_bytes 0 ++ (word_bytes (code_number code) ++ encoded message.now)) there.0) }
     ensures fits { Fits message.now }
     ensures err { OnErr result (S.memory store.new ≡ S.memory store.old) }
 {
@@ -53,7 +58,8 @@ pub fn holds_ref<S: Words>(store: &S, module_area: Module, entry: Entry, my_ref:
     requires held { entry.held ≢ 0 → HasBlock entry.held (MESSAGE + MY_REF + WORD)
         (module_heap_in (S.memory store.now) module_area) }
     ensures none { entry.held ≡ 0 → result ≡ false }
-    ensures some { entry.held ≢ 0 → (bytes : List ℕ) → block_bytes entry.held (module_heap_in (S.memory store.now) module_area) ≡ Some bytes → result ≡ (word bytes (MESSAGE + MY_REF) == my_ref) }
+    ensures some { entry.held ≢ 0 → (bytes : List ℕ) → block_bytes entry.held (module_heap_in
+        (S.memory store.now) module_area) ≡ Some bytes → result ≡ (word bytes (MESSAGE + MY_REF) == my_ref) }
 {
     if entry.held == 0 {
         return false;
@@ -84,7 +90,8 @@ pub fn put_down<S: Pages>(
         (module_heap_in (S.memory store.old) module_area) }
     ensures entries { entries.new.items ≡ set entries.old.items at (emptied (entry_at entries.old.items at)) }
     ensures len { length entries.new.items ≡ length entries.old.items }
-    ensures heap { Turns (S.memory store.old) (S.memory store.new) module_area (release_block (entry_at entries.old.items at).held (module_heap_in (S.memory store.old) module_area)) }
+    ensures heap { Turns (S.memory store.old) (S.memory store.new) module_area
+        (release_block (entry_at entries.old.items at).held (module_heap_in (S.memory store.old) module_area)) }
 {
     let entry = entries[at];
     free(store, module_area, entry.held);

@@ -53,7 +53,8 @@ impl Queue {
         requires post { (post : Post) × SpellsPostIn (S.memory store.old) module_area self.old post }
         ensures spells { (post : Post) → SpellsPostIn (S.memory store.old) module_area self.old post
             → SpellsPostIn (S.memory store.new) module_area self.new
-            (bounce_held (entry_at self.old.entries at).handle (held_by (entry_at self.old.entries at).handle post.seats) post) }
+            (bounce_held (entry_at self.old.entries at).handle
+            (held_by (entry_at self.old.entries at).handle post.seats) post) }
         ensures module { IsModule (S.memory store.new) module_area }
         ensures only { OnlyArea (S.memory store.old) (S.memory store.new) module_area.area.0 }
     {

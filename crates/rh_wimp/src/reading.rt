@@ -62,7 +62,8 @@ pub fn copy_block<S: Words>(store: &S, module_area: Module, block: usize, to: &m
     requires module { IsModule (S.memory store.now) module_area }
     requires room { length to.old ≡ LONGEST_MESSAGE }
     requires lies { (link : ℕ) × ((p : Parcel) × LinksAt (S.memory store.now) module_area block link p) }
-    ensures { (link : ℕ) (p : Parcel) → LinksAt (S.memory store.now) module_area block link p → to.new ≡ with_part to.old 0 (encoded p.message) }
+    ensures { (link : ℕ) (p : Parcel) → LinksAt (S.memory store.now) module_area block link p → to.new
+        ≡ with_part to.old 0 (encoded p.message) }
 {
     let length = module_area.read_word(store, block, MESSAGE) as usize;
     let bytes = &mut to[..length];

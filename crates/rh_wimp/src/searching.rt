@@ -53,8 +53,10 @@ fn any_entry<S: Words>(
     wanted: &Wanted,
 ) -> bool
     requires module { IsModule (S.memory store.now) module_area }
-    requires rows { (rows : List SeatRow) × (RowsLie (module_heap_in (S.memory store.now) module_area) entries.now.items rows × AreShortChains rows) }
-    ensures { (rows : List SeatRow) → RowsLie (module_heap_in (S.memory store.now) module_area) entries.now.items rows → AreShortChains rows → result ≡ rows_have (wants wanted.now) rows }
+    requires rows { (rows : List SeatRow) × (RowsLie
+        (module_heap_in (S.memory store.now) module_area) entries.now.items rows × AreShortChains rows) }
+    ensures { (rows : List SeatRow) → RowsLie (module_heap_in (S.memory store.now) module_area) entries.now.items rows
+        → AreShortChains rows → result ≡ rows_have (wants wanted.now) rows }
 {
     for entry in entries.as_slice() {
         if entry_has(store, module_area, *entry, wanted) {
@@ -69,7 +71,8 @@ fn entry_has<S: Words>(store: &S, module_area: Module, entry: Entry, wanted: &Wa
     requires module { IsModule (S.memory store.now) module_area }
     requires row { (r : SeatRow) × (RowLies (module_heap_in (S.memory store.now) module_area) entry r ×
         (length r.chain ≤ MOST_MESSAGES)) }
-    ensures { (r : SeatRow) → RowLies (module_heap_in (S.memory store.now) module_area) entry r → length r.chain ≤ MOST_MESSAGES → result ≡ list_any (wants wanted.now) (row_parcels r) }
+    ensures { (r : SeatRow) → RowLies (module_heap_in (S.memory store.now) module_area) entry r → length r.chain
+        ≤ MOST_MESSAGES → result ≡ list_any (wants wanted.now) (row_parcels r) }
 {
     if held_has(store, module_area, entry.held, wanted) {
         return true;
@@ -81,7 +84,8 @@ fn entry_has<S: Words>(store: &S, module_area: Module, entry: Entry, wanted: &Wa
 fn held_has<S: Words>(store: &S, module_area: Module, held: usize, wanted: &Wanted) -> bool
     requires module { IsModule (S.memory store.now) module_area }
     requires held { (o : Option Parcel) × Holds (module_heap_in (S.memory store.now) module_area) held o }
-    ensures { (o : Option Parcel) → Holds (module_heap_in (S.memory store.now) module_area) held o → result ≡ holds_such (wants wanted.now) o }
+    ensures { (o : Option Parcel) → Holds (module_heap_in (S.memory store.now) module_area) held o → result
+        ≡ holds_such (wants wanted.now) o }
 {
     if held == 0 {
         return false;
@@ -92,8 +96,10 @@ fn held_has<S: Words>(store: &S, module_area: Module, held: usize, wanted: &Want
 /// Whether a message of a chain is the one that is looked for.
 fn chain_has<S: Words>(store: &S, module_area: Module, first: usize, wanted: &Wanted) -> bool
     requires module { IsModule (S.memory store.now) module_area }
-    requires chain { (ps : List Parcel) × ((first ≡ first_block ps 0) × Chain (module_heap_in (S.memory store.now) module_area) ps 0 × (length ps ≤ MOST_MESSAGES)) }
-    ensures { (ps : List Parcel) → first ≡ first_block ps 0 → Chain (module_heap_in (S.memory store.now) module_area) ps 0 → length ps ≤ MOST_MESSAGES → result ≡ list_any (wants wanted.now) ps }
+    requires chain { (ps : List Parcel) × ((first ≡ first_block ps 0) × Chain
+        (module_heap_in (S.memory store.now) module_area) ps 0 × (length ps ≤ MOST_MESSAGES)) }
+    ensures { (ps : List Parcel) → first ≡ first_block ps 0 → Chain (module_heap_in
+        (S.memory store.now) module_area) ps 0 → length ps ≤ MOST_MESSAGES → result ≡ list_any (wants wanted.now) ps }
 {
     let mut block = first;
     for _turn in 0..MOST_MESSAGES {
@@ -111,8 +117,10 @@ fn chain_has<S: Words>(store: &S, module_area: Module, first: usize, wanted: &Wa
 /// Whether the message that lies in a block is the one that is looked for.
 fn matches_wanted<S: Words>(store: &S, module_area: Module, block: usize, wanted: &Wanted) -> bool
     requires module { IsModule (S.memory store.now) module_area }
-    requires lies { (link : ℕ) × ((p : Parcel) × (Lies (module_heap_in (S.memory store.now) module_area) link p × (block ≡ p.block) × (link < 2 ^ 32))) }
-    ensures { (link : ℕ) (p : Parcel) → Lies (module_heap_in (S.memory store.now) module_area) link p → block ≡ p.block → link < 2 ^ 32 → result ≡ wants wanted.now p }
+    requires lies { (link : ℕ) × ((p : Parcel) ×
+        (Lies (module_heap_in (S.memory store.now) module_area) link p × (block ≡ p.block) × (link < 2 ^ 32))) }
+    ensures { (link : ℕ) (p : Parcel) → Lies (module_heap_in (S.memory store.now) module_area) link p → block ≡ p.block
+        → link < 2 ^ 32 → result ≡ wants wanted.now p }
 {
     match wanted {
         Wanted::At(at) => block == *at,

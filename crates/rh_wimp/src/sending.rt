@@ -48,7 +48,8 @@ impl Queue {
     ) -> Result<Ref, Refusal>
         requires queue { IsQueue (S.memory store.old) module_area self.old }
         requires from { HasEntry letter.from self.old }
-        ensures answer { Answers (S.memory store.old) module_area self.old (λ post. answer_of (post_send (S.memory store.old).free letter post)) result }
+        ensures answer { Answers (S.memory store.old) module_area self.old
+            (λ post. answer_of (post_send (S.memory store.old).free letter post)) result }
         ensures leaves { LeavesChains (S.memory store.old) (S.memory store.new) module_area self.old self.new
             (λ post. left_of post (post_send (S.memory store.old).free letter post)) }
         ensures handles { handles_of self.new ≡ handles_of self.old }
@@ -107,8 +108,10 @@ fn answer<S: Pages>(
     ensures len { length entries.new.items ≡ length entries.old.items }
     ensures module { IsModule (S.memory store.new) module_area }
     ensures only { OnlyArea (S.memory store.old) (S.memory store.new) module_area.area.0 }
-    ensures settles { (rows : List SeatRow) (i : ℕ) → RowsLie (module_heap_in (S.memory store.old) module_area) entries.old.items rows → i < length rows → (row_at rows i).handle ≡ from
-        → Settled (S.memory store.old) (S.memory store.new) module_area entries.old.items entries.new.items i your_ref (row_at rows i).held result }
+    ensures settles { (rows : List SeatRow) (i : ℕ) → RowsLie (module_heap_in
+        (S.memory store.old) module_area) entries.old.items rows → i < length rows → (row_at rows i).handle ≡ from
+        → Settled (S.memory store.old) (S.memory store.new) module_area entries.old.items entries.new.items i your_ref
+        (row_at rows i).held result }
 {
     let Some(at) = find(entries, from) else {
         return 0;

@@ -50,7 +50,8 @@ pub(crate) fn stamp<S: Store>(store: &mut S, id: AreaId, id2: AreaId, w: u32) ->
 pub(crate) fn lengthen<S: Pages>(store: &mut S, id: AreaId) -> Result<(), StoreFault>
     requires opened { IsOpen (S.memory store.old) id.0 }
     ensures opened { IsOpen (S.memory store.new) id.0 }
-    ensures ok { OnOk result (length (bytes (S.memory store.new) id.0) ≡ length (bytes (S.memory store.old) id.0) + 4096) }
+    ensures ok { OnOk result (length (bytes (S.memory store.new) id.0) ≡ length (bytes (S.memory store.old) id.0)
+        + 4096) }
     ensures free { OnOk result ((S.memory store.new).free + 1 ≡ (S.memory store.old).free) }
     ensures err { OnErr result (S.memory store.new ≡ S.memory store.old) }
     ensures refused { IsErr result ↔ ((S.memory store.old).free ≡ 0) }

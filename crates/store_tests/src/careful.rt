@@ -1,4 +1,5 @@
-//! Calls of a store that test, when they run, that the bytes they name are there. A test that makes them is proved soon.
+//! Calls of a store that test, when they run, that the bytes they name are there. A test that makes them is proved
+//! soon.
 //!
 //! Each asks that its area is open, and says that the areas that were open are open still.
 #![tactic(auto, using(crate::proofs::Kept::kept_laws))]

@@ -1,8 +1,10 @@
 //! A file that one task hands to another: two byte arrays, a buffer that both tasks reach, and a list of messages.
-ghost use Rattle.std.specs.Prelude.{◌≡◌, [], ◌∷◌, ◌++◌, ◌+◌, ◌-◌, ◌^◌, ◌<◌, ◌≤◌, ◌&&◌, ℕ, List, Some, None, true, false, min, nat_le, length, take, drop, IfOk, OnOk};
+ghost use Rattle.std.specs.Prelude.{◌≡◌, [], ◌∷◌, ◌++◌, ◌+◌, ◌-◌, ◌^◌, ◌<◌, ◌≤◌, ◌&&◌, ℕ, List, Some, None, true};
+ghost use Rattle.std.specs.Prelude.{false, min, nat_le, length, take, drop, IfOk, OnOk};
 ghost use Rattle.rh_defs.specs.declared.transfer.Outgoing.TheVariants as outgoing;
 ghost use Rattle.rh_defs.specs.declared.transfer.Incoming.TheVariants as incoming;
-ghost use Rattle.uses.specs.Inner.HandOver.{open_at, went_at, fetching_at, taken_at, appended_at, fetch_of, transmit_of, answer_to, heard};
+ghost use Rattle.uses.specs.Inner.HandOver.{open_at, went_at, fetching_at, taken_at, appended_at, fetch_of};
+ghost use Rattle.uses.specs.Inner.HandOver.{transmit_of, answer_to, heard};
 
 use rh_defs::{
     Anchor, Append, Body, Handle, Letter, Message, Next, Pathname, Ref, SendAction, TakeAction,
@@ -22,7 +24,8 @@ const FILE: Anchor = Anchor(0);
 /// The buffer's address, by which messages name it.
 const BUFFER: u32 = 0x8114;
 
-/// Moves n bytes from a place of one array to a place of another. False, and nothing moved, where one of them is too short.
+/// Moves n bytes from a place of one array to a place of another. False, and nothing moved, where one of them is too
+/// short.
 fn moves(from: &[u8], at: u32, n: u32, to: &mut [u8], place: u32) -> bool
     ensures reach { result ≡ (nat_le (at + n) (length from.now) && nat_le (place + n) (length to.old)) }
     ensures moved { result ≡ true → take (place + n) to.new ≡ take place to.old ++ take n (drop at from.now) }
@@ -105,7 +108,8 @@ fn take_offer(receiver: &mut Receiver, room: u32, message: &Message, next: Ref) 
 
 /// What follows on bytes that were taken: the next RAMFetch, or nothing.
 fn go_on(receiver: &mut Receiver, action: &Append, next: Ref) -> Option<Letter>
-    ensures { (room c my fetch n : ℕ) → receiver.old ≡ fetching_at c fetch → action.now ≡ appended_at room c my fetch n → c + n < 2 ^ 32
+    ensures { (room c my fetch n : ℕ) → receiver.old ≡ fetching_at c fetch → action.now ≡ appended_at room c my fetch n
+        → c + n < 2 ^ 32
         → (result ≡ answer_to room my n) × (receiver.new ≡ taken_at room c n next.0) }
 {
     match action.next {
@@ -120,7 +124,8 @@ fn go_on(receiver: &mut Receiver, action: &Append, next: Ref) -> Option<Letter>
     }
 }
 
-/// What the task does with bytes in the buffer: it appends them to its document, and asks for more behind a full buffer.
+/// What the task does with bytes in the buffer: it appends them to its document, and asks for more behind a full
+/// buffer.
 fn take_part(
     receiver: &mut Receiver,
     document: &mut [u8],
@@ -129,7 +134,8 @@ fn take_part(
     next: Ref,
 ) -> Option<Letter>
     requires { length buffer.now < 2 ^ 32 }
-    ensures { (c my fetch n : ℕ) → receiver.old ≡ fetching_at c fetch → message.now ≡ heard my (transmit_of (length buffer.now) fetch n)
+    ensures { (c my fetch n : ℕ) → receiver.old ≡ fetching_at c fetch → message.now
+        ≡ heard my (transmit_of (length buffer.now) fetch n)
         → n ≤ length buffer.now → c + n ≤ length document.old → c + n < 2 ^ 32
         → (result ≡ answer_to (length buffer.now) my n) × (receiver.new ≡ taken_at (length buffer.now) c n next.0)
         × (take (c + n) document.new ≡ take c document.old ++ take n buffer.now) }
@@ -161,8 +167,8 @@ fn take_part(
     go_on(receiver, &a, next)
 }
 
-/// Hands a file over, through a buffer of at least one byte, into a document as long as the source. AllocError where memory
-/// for the list of messages is refused. (Message_DataSave, Message_RAMFetch, Message_RAMTransmit.)
+/// Hands a file over, through a buffer of at least one byte, into a document as long as the source. AllocError where
+/// memory for the list of messages is refused. (Message_DataSave, Message_RAMFetch, Message_RAMTransmit.)
 pub fn hand_over(
     alloc: Global,
     source: &[u8],

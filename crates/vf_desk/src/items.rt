@@ -2,7 +2,8 @@
 ghost use Rattle.std.specs.Prelude.{◌≡◌, ◌≤◌, length};
 ghost use Rattle.rh_defs.specs.Questions.{in_item, out_item};
 ghost use Rattle.rh_tasks.specs.WorldItems.{area_item_of};
-ghost use Rattle.vf_desk.specs.DeskItems.{as_area, as_block, padded_name, record_of, as_segment, state_number as state_number_of};
+ghost use Rattle.vf_desk.specs.DeskItems.{as_area, as_block, padded_name, record_of, as_segment};
+ghost use Rattle.vf_desk.specs.DeskItems.{state_number as state_number_of};
 
 use rh_defs::{BlockItem, Incoming, Name, Outgoing, SegmentItem, State};
 use rh_tasks::AreaEntry;

@@ -3,7 +3,8 @@ ghost use Rattle.std.specs.Prelude.{◌≡◌, Option, length, map};
 ghost use Rattle.rh_console.specs.Console.{filled_front};
 ghost use Rattle.rh_defs.specs.Desk.{Desk};
 ghost use Rattle.rh_defs.specs.declared.question.Question.TheVariants as Question;
-ghost use Rattle.vf_desk.specs.DeskItems.{as_area, areas_listed, as_block, blocks_listed, bytes_listed, incoming_in, list_asked, outgoing_in, record_of, as_segment, segments_listed};
+ghost use Rattle.vf_desk.specs.DeskItems.{as_area, areas_listed, as_block, blocks_listed, bytes_listed, incoming_in};
+ghost use Rattle.vf_desk.specs.DeskItems.{list_asked, outgoing_in, record_of, as_segment, segments_listed};
 ghost use Rattle.vf_desk.specs.SeenDesk.{SeenBy};
 
 use crate::forms::{anchor_of, name_of};

@@ -2,13 +2,15 @@
 ghost use Rattle.std.specs.Prelude.{◌≡◌, ◌+◌, ◌≤◌, ◌<◌, ◌^◌, ◌∷◌, [], length, map};
 ghost use Rattle.rh_console.specs.Console.{filled_front};
 ghost use Rattle.rh_defs.specs.Slot.{anchor_count};
-ghost use Rattle.rh_defs.specs.Questions.{area_items, blocks as blocks_on, heap as heap_on, show as show_on, status as status_on};
+ghost use Rattle.rh_defs.specs.Questions.{area_items, blocks as blocks_on, heap as heap_on, show as show_on};
+ghost use Rattle.rh_defs.specs.Questions.{status as status_on};
 ghost use Rattle.rh_defs.specs.declared.sizes.TheConstants.{C_HEAP_START};
 ghost use Rattle.rh_defs.specs.Heap.{IsHeap};
 ghost use Rattle.rh_script.specs.NamedSlots.{heap_of_named};
 ghost use Rattle.rh_script.specs.Inner.SegmentsBehind.{item_end};
 ghost use Rattle.rh_tasks.specs.WorldLists.{segment_items_at};
-ghost use Rattle.vf_desk.specs.DeskItems.{as_area, as_block, blocks_listed, bytes_listed, incoming_in, listed_with, outgoing_in, record_of, as_segment, segments_listed};
+ghost use Rattle.vf_desk.specs.DeskItems.{as_area, as_block, blocks_listed, bytes_listed, incoming_in, listed_with};
+ghost use Rattle.vf_desk.specs.DeskItems.{outgoing_in, record_of, as_segment, segments_listed};
 ghost use Rattle.vf_desk.specs.Inner.DeskLists.{filled_from};
 
 use crate::items::{Listed, VfArea, VfBlock, VfRecord, VfSegment, listed_area};

@@ -5,7 +5,8 @@ ghost use Rattle.rh_defs.specs.Desk.{Desk};
 ghost use Rattle.rh_defs.specs.declared.command.Command.TheVariants as Command;
 ghost use Rattle.rh_defs.specs.declared.question.Question.TheVariants as Question;
 ghost use Rattle.vf_desk.specs.Called.{Asks, called, done_or, in_form, number_or, sums_or};
-ghost use Rattle.vf_desk.specs.DeskItems.{as_area, areas_listed, as_block, blocks_listed, bytes_listed, incoming_in, list_asked, outgoing_in, record_of, as_segment, segments_listed};
+ghost use Rattle.vf_desk.specs.DeskItems.{as_area, areas_listed, as_block, blocks_listed, bytes_listed, incoming_in};
+ghost use Rattle.vf_desk.specs.DeskItems.{list_asked, outgoing_in, record_of, as_segment, segments_listed};
 ghost use Rattle.vf_desk.specs.SeenDesk.{IsSeenDesk};
 
 use crate::desk::VfDesk;

@@ -1,7 +1,8 @@
 //! Whether bytes from anywhere begin with the pages of a slot.
 ghost use Rattle.std.specs.Prelude.{◌≡◌, length};
 ghost use Rattle.rh_flex.specs.Slots.{IsSlotBytes};
-ghost use Rattle.vf_flex.specs.SlotStatus.{anchor_status, checked_anchor_status, checked_place_status, image_status, place_status, slot_status};
+ghost use Rattle.vf_flex.specs.SlotStatus.{anchor_status, checked_anchor_status, checked_place_status, image_status};
+ghost use Rattle.vf_flex.specs.SlotStatus.{place_status, slot_status};
 
 use crate::input::{anchor_status, place_status, slot_status};
 use crate::status::{OK, fault_status};

@@ -1,6 +1,7 @@
 //! Statuses: how a call ended, as a number. The header for C has the same numbers.
 ghost use Rattle.std.specs.Prelude.{◌≡◌};
-ghost use Rattle.vf_flex.specs.SlotStatus.{answer_or, answer_status, fault_status, heap_fault_status, place_or, refusal_status};
+ghost use Rattle.vf_flex.specs.SlotStatus.{answer_or, answer_status, fault_status, heap_fault_status, place_or};
+ghost use Rattle.vf_flex.specs.SlotStatus.{refusal_status};
 
 use rh_defs::sizes::SLOT_START;
 use rh_defs::{HeapFault, Refusal};

@@ -40,7 +40,8 @@ pub extern "C" fn vf_heap_checked_claim(memory: &mut [u8], n: usize, address: &m
     ensures refused { RefusesImage memory.old memory.new result }
     ensures kept { image_status memory.old ≢ 0 → address.new ≡ address.old }
     ensures status { image_status memory.old ≡ 0 → result ≡ status_of (claim_block n (heap_of memory.old 0)) }
-    ensures address { image_status memory.old ≡ 0 → address.new ≡ number_or (claim_block n (heap_of memory.old 0)) address.old }
+    ensures address { image_status memory.old ≡ 0 → address.new
+        ≡ number_or (claim_block n (heap_of memory.old 0)) address.old }
     ensures left { image_status memory.old ≡ 0 → LeavesLentHeap memory.old memory.new
         (claim_block n (heap_of memory.old 0)) }
 {
@@ -54,8 +55,10 @@ pub extern "C" fn vf_heap_checked_claim(memory: &mut [u8], n: usize, address: &m
 #[unsafe(no_mangle)]
 pub extern "C" fn vf_heap_checked_release(memory: &mut [u8], address: usize) -> u32
     ensures refused { RefusesImage memory.old memory.new result }
-    ensures status { image_status memory.old ≡ 0 → result ≡ status_of (no_answer (released_at address (heap_of memory.old 0))) }
-    ensures left { image_status memory.old ≡ 0 → LeavesLentHeap memory.old memory.new (no_answer (released_at address (heap_of memory.old 0))) }
+    ensures status { image_status memory.old ≡ 0 → result ≡ status_of (no_answer
+        (released_at address (heap_of memory.old 0))) }
+    ensures left { image_status memory.old ≡ 0 → LeavesLentHeap memory.old memory.new (no_answer
+        (released_at address (heap_of memory.old 0))) }
 {
     match image_status(memory) {
         OK => plain::vf_heap_release(memory, address),
@@ -75,8 +78,10 @@ pub extern "C" fn vf_heap_checked_resize(
     ensures kept { image_status memory.old ≢ 0 → moved_to.new ≡ moved_to.old }
     ensures status { image_status memory.old ≡ 0 → result ≡ status_of
         (resize_block address delta (heap_of memory.old 0)) }
-    ensures address { image_status memory.old ≡ 0 → moved_to.new ≡ number_or (resize_block address delta (heap_of memory.old 0)) moved_to.old }
-    ensures left { image_status memory.old ≡ 0 → LeavesLentHeap memory.old memory.new (resize_block address delta (heap_of memory.old 0)) }
+    ensures address { image_status memory.old ≡ 0 → moved_to.new
+        ≡ number_or (resize_block address delta (heap_of memory.old 0)) moved_to.old }
+    ensures left { image_status memory.old ≡ 0 → LeavesLentHeap memory.old memory.new (resize_block address delta
+        (heap_of memory.old 0)) }
 {
     match image_status(memory) {
         OK => plain::vf_heap_resize(memory, address, delta, moved_to),
@@ -88,7 +93,8 @@ pub extern "C" fn vf_heap_checked_resize(
 #[unsafe(no_mangle)]
 pub extern "C" fn vf_heap_checked_extend(memory: &mut [u8], delta: isize) -> u32
     ensures image { RefusesImage memory.old memory.new result }
-    ensures status { image_status memory.old ≡ 0 → result ≡ extend_status (length memory.old) delta (heap_of memory.old 0) }
+    ensures status { image_status memory.old ≡ 0 → result
+        ≡ extend_status (length memory.old) delta (heap_of memory.old 0) }
     ensures done { result ≡ 0 → Extends memory.old memory.new delta }
     ensures refused { result ≢ 0 → memory.new ≡ memory.old }
 {
@@ -104,7 +110,8 @@ pub extern "C" fn vf_heap_checked_block_size(memory: &[u8], address: usize, size
     ensures refused { image_status memory.now ≢ 0 → result ≡ image_status memory.now }
     ensures kept { image_status memory.now ≢ 0 → size.new ≡ size.old }
     ensures status { image_status memory.now ≡ 0 → result ≡ answer_status (size_at address (heap_of memory.now 0)) }
-    ensures size { image_status memory.now ≡ 0 → size.new ≡ answer_or (size_at address (heap_of memory.now 0)) size.old }
+    ensures size { image_status memory.now ≡ 0 → size.new ≡ answer_or (size_at address
+        (heap_of memory.now 0)) size.old }
 {
     match image_status(memory) {
         OK => plain::vf_heap_block_size(memory, address, size),

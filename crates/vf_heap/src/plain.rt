@@ -4,7 +4,8 @@ ghost use Rattle.rh_defs.specs.Chain.{no_answer};
 ghost use Rattle.rh_defs.specs.Heap.{claim_block, released_at, resize_block, largest, free_bytes, empty_heap};
 ghost use Rattle.rh_defs.specs.HeapImage.{heap_of};
 ghost use Rattle.rh_lent.specs.Heaps.{IsHeapBytes};
-ghost use Rattle.vf_heap.specs.HeapStatus.{answer_or, answer_status, extend_status, length_status, number_or, status_of};
+ghost use Rattle.vf_heap.specs.HeapStatus.{answer_or, answer_status, extend_status, length_status, number_or};
+ghost use Rattle.vf_heap.specs.HeapStatus.{status_of};
 ghost use Rattle.vf_heap.specs.LentHeapCalls.{LeavesLentHeap, Extends, IsFar, IsLentHeap, size_at};
 
 use crate::image::{LONGEST, length_status};

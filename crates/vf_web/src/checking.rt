@@ -23,7 +23,8 @@ pub fn heap(image: &[u8], text: &mut [u8], needed: &mut usize) -> u32
 
 /// What a slot of these bytes consists of, or what is wrong first.
 pub fn slot(image: &[u8], text: &mut [u8], needed: &mut usize) -> u32
-    ensures { ToldText (slot_image_line image.now) (is_some (slot_fault_of image.now)) result text.old text.new needed.new }
+    ensures { ToldText (slot_image_line image.now) (is_some
+        (slot_fault_of image.now)) result text.old text.new needed.new }
 {
     let room = text.len();
     let mut writer = WholeText::new(text);

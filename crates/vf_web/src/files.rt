@@ -1,6 +1,7 @@
 //! Named files in bytes that a caller lends.
 
-ghost use Rattle.std.specs.Prelude.{◌≡◌, ◌+◌, ◌<◌, ◌≤◌, length, is_none, is_some, MatchOption, IfSome, IsTrue, None, Some};
+ghost use Rattle.std.specs.Prelude.{◌≡◌, ◌+◌, ◌<◌, ◌≤◌, length, is_none, is_some, MatchOption, IfSome, IsTrue, None};
+ghost use Rattle.std.specs.Prelude.{Some};
 ghost use Rattle.std.specs.Option.{option_map};
 ghost use Rattle.rh_defs.specs.Files.{file_bytes};
 ghost use Rattle.rh_defs.specs.Forms.{is_name};
@@ -44,7 +45,8 @@ impl<'a> LentFiles<'a> {
 
     /// The bytes of the file with the name, None where there is none.
     pub fn get(&self, name: &Name) -> Option<&[u8]>
-        ensures value { MatchOption result (file_bytes name.now self.now ≡ None) (λ bytes. file_bytes name.now self.now ≡ Some bytes.now) }
+        ensures value { MatchOption result (file_bytes name.now self.now ≡ None)
+            (λ bytes. file_bytes name.now self.now ≡ Some bytes.now) }
         ensures short { IfSome result (λ bytes. length bytes.now ≤ LONGEST_FILE) }
     {
         find(self.bytes, name.as_bytes())
@@ -99,7 +101,8 @@ fn have_own_names(bytes: &[u8]) -> bool
 /// The bytes of the first of these files with the name, None where there is none.
 fn find<'a>(bytes: &'a [u8], name: &[u8]) -> Option<&'a [u8]>
     requires { IsTrue (is_some (packed_files bytes.now)) }
-    ensures value { IfSome (packed_files bytes.now) (λ files. MatchOption result (file_bytes name.now files ≡ None) (λ found. file_bytes name.now files ≡ Some found.now)) }
+    ensures value { IfSome (packed_files bytes.now) (λ files. MatchOption result (file_bytes name.now files ≡ None)
+        (λ found. file_bytes name.now files ≡ Some found.now)) }
     ensures short { IfSome result (λ found. length found.now ≤ LONGEST_FILE) }
 {
     let mut rest = bytes;
@@ -115,7 +118,8 @@ fn find<'a>(bytes: &'a [u8], name: &[u8]) -> Option<&'a [u8]>
 /// The file at the front of some bytes, and the bytes behind it, where a file stands there.
 #[tactic(auto, unfolding(crate::specs::Packed::front_file))]
 fn front_file(bytes: &[u8]) -> Option<FrontFile<'_>>
-    ensures value { option_map (λ front. ((front.name.now, front.bytes.now), front.behind.now)) result ≡ front_file bytes.now }
+    ensures value { option_map (λ front. ((front.name.now, front.bytes.now), front.behind.now)) result
+        ≡ front_file bytes.now }
     ensures short { IfSome result (λ front. length front.bytes.now ≤ LONGEST_FILE) }
     ensures fewer { IfSome result (λ front. length front.behind.now < length bytes.now) }
 {
@@ -133,7 +137,8 @@ fn front_file(bytes: &[u8]) -> Option<FrontFile<'_>>
 /// The file with this name, whose bytes are the first `size` of these, where it may be one.
 #[tactic(auto, unfolding(crate::specs::Packed::named_file))]
 fn named_file<'a>(name: &'a [u8], size: usize, rest: &'a [u8]) -> Option<FrontFile<'a>>
-    ensures value { option_map (λ front. ((front.name.now, front.bytes.now), front.behind.now)) result ≡ named_file name.now size rest.now }
+    ensures value { option_map (λ front. ((front.name.now, front.bytes.now), front.behind.now)) result
+        ≡ named_file name.now size rest.now }
     ensures short { IfSome result (λ front. length front.bytes.now ≤ LONGEST_FILE) }
     ensures fewer { IfSome result (λ front. length front.behind.now ≤ length rest.now) }
 {

@@ -40,10 +40,12 @@ pub extern "C" fn vf_run(
     text: &mut [u8],
     needed: &mut usize,
 ) -> u32
-    ensures refused { let refusal = lent_status pages (length pool.old) (length numbers.old) (length script.now) files.now in
+    ensures refused { let refusal = lent_status pages (length pool.old) (length numbers.old)
+        (length script.now) files.now in
         refusal ≢ 0 → Untouched result refusal text.old text.new needed.old needed.new }
     ensures told { lent_status pages (length pool.old) (length numbers.old) (length script.now) files.now ≡ 0 →
-        ToldText (script_text (start pages (files_of files.now)) script.now) (has_bad_line script.now) result text.old text.new needed.new }
+        ToldText (script_text (start pages (files_of files.now)) script.now)
+        (has_bad_line script.now) result text.old text.new needed.new }
 {
     let files = match lent_files(pages, pool.len(), numbers.len(), script.len(), files) {
         Ok(files) => files,
@@ -65,10 +67,12 @@ pub extern "C" fn vf_map(
     text: &mut [u8],
     needed: &mut usize,
 ) -> u32
-    ensures refused { let refusal = lent_status pages (length pool.old) (length numbers.old) (length script.now) files.now in
+    ensures refused { let refusal = lent_status pages (length pool.old) (length numbers.old)
+        (length script.now) files.now in
         refusal ≢ 0 → Untouched result refusal text.old text.new needed.old needed.new }
     ensures told { lent_status pages (length pool.old) (length numbers.old) (length script.now) files.now ≡ 0 →
-        MapTold (not (marked == 0)) (map_start pages (files_of files.now)) script.now result text.old text.new needed.new }
+        MapTold (not (marked == 0)) (map_start pages
+        (files_of files.now)) script.now result text.old text.new needed.new }
 {
     let files = match lent_files(pages, pool.len(), numbers.len(), script.len(), files) {
         Ok(files) => files,
@@ -92,10 +96,12 @@ pub extern "C" fn vf_draw(
     text: &mut [u8],
     needed: &mut usize,
 ) -> u32
-    ensures refused { let refusal = lent_status pages (length pool.old) (length numbers.old) (length script.now) files.now in
+    ensures refused { let refusal = lent_status pages (length pool.old) (length numbers.old)
+        (length script.now) files.now in
         refusal ≢ 0 → Untouched result refusal text.old text.new needed.old needed.new }
     ensures told { lent_status pages (length pool.old) (length numbers.old) (length script.now) files.now ≡ 0 →
-        SheetTold (not (marked == 0)) name.now (start pages (files_of files.now)) script.now result text.old text.new needed.new }
+        SheetTold (not (marked == 0)) name.now (start pages
+        (files_of files.now)) script.now result text.old text.new needed.new }
 {
     let files = match lent_files(pages, pool.len(), numbers.len(), script.len(), files) {
         Ok(files) => files,
@@ -105,11 +111,14 @@ pub extern "C" fn vf_draw(
     running::sheet(store, files, script, marked != 0, name, text, needed)
 }
 
-/// Writes what the heap (0) or the slot (1) of these bytes consists of, or what is wrong first with bytes that are none.
+/// Writes what the heap (0) or the slot (1) of these bytes consists of, or what is wrong first with bytes that are
+/// none.
 #[unsafe(no_mangle)]
 pub extern "C" fn vf_check(kind: u32, image: &[u8], text: &mut [u8], needed: &mut usize) -> u32
-    ensures heap { kind ≡ 0 → ToldText (image_line image.now) (is_some (fault_of image.now)) result text.old text.new needed.new }
-    ensures slot { kind ≡ 1 → ToldText (slot_image_line image.now) (is_some (slot_fault_of image.now)) result text.old text.new needed.new }
+    ensures heap { kind ≡ 0 → ToldText (image_line image.now) (is_some
+        (fault_of image.now)) result text.old text.new needed.new }
+    ensures slot { kind ≡ 1 → ToldText (slot_image_line image.now) (is_some
+        (slot_fault_of image.now)) result text.old text.new needed.new }
     ensures unknown { 1 < kind → Untouched result 2 text.old text.new needed.old needed.new }
 {
     match kind {

@@ -28,7 +28,8 @@ pub fn replies<S: Store + Drop, F: NamedFiles + Drop>(
     requires fresh { S.memory store ≡ fresh (S.memory store).pages }
     requires least { MIN_PAGES ≤ (S.memory store).pages }
     requires most { (S.memory store).pages ≤ MAX_PAGES }
-    ensures told { ToldText (script_text (start (S.memory store).pages (F.contents files)) script.now) (has_bad_line script.now) result text.old text.new needed.new }
+    ensures told { ToldText (script_text (start (S.memory store).pages (F.contents files)) script.now)
+        (has_bad_line script.now) result text.old text.new needed.new }
 {
     let room = text.len();
     let mut writer = WholeText::new(text);
@@ -49,7 +50,8 @@ pub fn map<S: Sited + Drop, F: NamedFiles + Drop>(
     requires least { MIN_PAGES ≤ (S.memory store).pages }
     requires most { (S.memory store).pages ≤ MAX_PAGES }
     requires short { length script.now ≤ LONGEST_SCRIPT }
-    ensures told { MapTold marked (map_start (S.memory store).pages (F.contents files)) script.now result text.old text.new needed.new }
+    ensures told { MapTold marked (map_start (S.memory store).pages
+        (F.contents files)) script.now result text.old text.new needed.new }
 {
     let room = text.len();
     let mut writer = WholeText::new(text);
@@ -71,7 +73,8 @@ pub fn sheet<S: Sited + Drop, F: NamedFiles + Drop>(
     requires least { MIN_PAGES ≤ (S.memory store).pages }
     requires most { (S.memory store).pages ≤ MAX_PAGES }
     requires short { length script.now ≤ LONGEST_SCRIPT }
-    ensures told { SheetTold marked name.now (start (S.memory store).pages (F.contents files)) script.now result text.old text.new needed.new }
+    ensures told { SheetTold marked name.now (start (S.memory store).pages
+        (F.contents files)) script.now result text.old text.new needed.new }
 {
     let room = text.len();
     let mut writer = WholeText::new(text);

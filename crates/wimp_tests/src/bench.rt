@@ -157,7 +157,8 @@ fn compare_task(
 impl<S: Store + Drop> Bench<S> {
     /// Tasks 1, 2 and 3 over a store, with no message.
     pub(crate) fn new(alloc: Global, store: S, next_ref: u32) -> Result<Bench<S>, Fail>
-        ensures { IfOk result (λ bench. Runs (S.memory bench.store) bench.module_area bench.queue bench.lists.live.items) }
+        ensures { IfOk result (λ bench. Runs
+            (S.memory bench.store) bench.module_area bench.queue bench.lists.live.items) }
     {
         let mut store = store;
         let module_area = started(&mut store)?;

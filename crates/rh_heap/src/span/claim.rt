@@ -26,8 +26,10 @@ fn put_zeros<S: WordsMut>(store: &mut S, span: Span, place: usize, size: usize)
     requires within { span.at + place + size ≤ length (bytes_in (S.memory store.old) span) }
     requires least { HEAP_UNIT ≤ size }
     ensures size { word (bytes_in (S.memory store.new) span) (span.at + place) ≡ size }
-    ensures zeros { part (bytes_in (S.memory store.new) span) (span.at + place + BLOCK) (size - BLOCK) ≡ replicate (size - BLOCK) 0 }
-    ensures only { Edited (S.memory store.old) (S.memory store.new) span.area.0 (span.at + place) (span.at + place + size) }
+    ensures zeros { part (bytes_in (S.memory store.new) span) (span.at + place + BLOCK) (size - BLOCK)
+        ≡ replicate (size - BLOCK) 0 }
+    ensures only { Edited (S.memory store.old) (S.memory store.new) span.area.0 (span.at + place)
+        (span.at + place + size) }
 {
     write(store, span, place, size);
     clear(store, span, place + BLOCK, size - BLOCK);
@@ -81,7 +83,8 @@ pub fn take<S: WordsMut>(store: &mut S, span: Span, size: usize) -> Option<usize
     requires multiple { size % HEAP_UNIT ≡ 0 }
     requires small { size < 2 ^ 40 }
     ensures took { MatchOption result
-        ((shortage_in size (heap_in (S.memory store.old) span) (hole_for size (heap_in (S.memory store.old) span).segments) ≢ 0)
+        ((shortage_in size (heap_in (S.memory store.old) span)
+        (hole_for size (heap_in (S.memory store.old) span).segments) ≢ 0)
         × (S.memory store.new ≡ S.memory store.old))
         (λ address. Took (S.memory store.old) (S.memory store.new) span size address) }
     ensures only { OnlySpan (S.memory store.old) (S.memory store.new) span }
@@ -106,7 +109,8 @@ pub fn take<S: WordsMut>(store: &mut S, span: Span, size: usize) -> Option<usize
 pub fn shortage<S: Words>(store: &S, span: Span, size: usize) -> usize
     requires span { IsSpan (S.memory store.now) span }
     requires small { size < 2 ^ 40 }
-    ensures { result ≡ shortage_in size (heap_in (S.memory store.now) span) (hole_for size (heap_in (S.memory store.now) span).segments) }
+    ensures { result ≡ shortage_in size (heap_in (S.memory store.now) span)
+        (hole_for size (heap_in (S.memory store.now) span).segments) }
 {
     match find(store, span, size) {
         Some(_) => 0,

@@ -1,10 +1,12 @@
 //! Calls on a heap beside which a map of its segments' beginnings is kept: a block is found by one bit, and the hole
 //! before it by the bits below. Their answers and what they leave in the heap's bytes are those of the calls that walk.
-ghost use Rattle.std.specs.Prelude.{◌≡◌, ◌≢◌, ℕ, ◌+◌, ◌*◌, ◌/◌, ◌%◌, ◌^◌, ◌<◌, ◌≤◌, length, true, false, None, MatchOption, MatchResult, OnErr, is_some, ok_or};
+ghost use Rattle.std.specs.Prelude.{◌≡◌, ◌≢◌, ℕ, ◌+◌, ◌*◌, ◌/◌, ◌%◌, ◌^◌, ◌<◌, ◌≤◌, length, true, false, None};
+ghost use Rattle.std.specs.Prelude.{MatchOption, MatchResult, OnErr, is_some, ok_or};
 ghost use Rattle.rh_defs.specs.Bytes.{word};
 ghost use Rattle.rh_defs.specs.Memory.{Memory, IsOpen, bytes};
 ghost use Rattle.rh_defs.specs.Chain.{no_answer};
-ghost use Rattle.rh_defs.specs.Heap.{hole_for, shortage_in, block_at, block_around, block_size, base, claim_block, released_at, resize_block, need_at};
+ghost use Rattle.rh_defs.specs.Heap.{hole_for, shortage_in, block_at, block_around, block_size, base, claim_block};
+ghost use Rattle.rh_defs.specs.Heap.{released_at, resize_block, need_at};
 ghost use Rattle.rh_heap.specs.HeapSpans.{IsSpan, OnlySpan, bytes_in, heap_in};
 ghost use Rattle.rh_heap.specs.HeapCalls.{LeavesHeap};
 ghost use Rattle.rh_heap.specs.Claims.{Took};
@@ -61,9 +63,12 @@ pub fn index<S: Words>(store: &S, span: Span, starts: &mut [u64])
 fn ends_at<S: Words>(store: &S, span: Span, from: usize, place: usize) -> bool
     requires opened { IsOpen (S.memory store.now) span.area.0 }
     requires within { span.at + (from + HOLE_SIZE) + WORD ≤ length (bytes_in (S.memory store.now) span) }
-    requires below { from ≢ HEAP_FREE → from + word (bytes_in (S.memory store.now) span) (span.at + (from + HOLE_SIZE)) ≤ place }
-    ensures touches { result ≡ true → (from ≢ HEAP_FREE) × (from + word (bytes_in (S.memory store.now) span) (span.at + (from + HOLE_SIZE)) ≡ place) }
-    ensures apart { result ≡ false → from ≢ HEAP_FREE → from + word (bytes_in (S.memory store.now) span) (span.at + (from + HOLE_SIZE)) ≢ place }
+    requires below { from ≢ HEAP_FREE → from + word (bytes_in (S.memory store.now) span) (span.at + (from + HOLE_SIZE))
+        ≤ place }
+    ensures touches { result ≡ true → (from ≢ HEAP_FREE) × (from + word (bytes_in (S.memory store.now) span)
+        (span.at + (from + HOLE_SIZE)) ≡ place) }
+    ensures apart { result ≡ false → from ≢ HEAP_FREE → from
+        + word (bytes_in (S.memory store.now) span) (span.at + (from + HOLE_SIZE)) ≢ place }
 {
     from != HEAP_FREE && from + read(store, span, from + HOLE_SIZE) == place
 }
@@ -218,7 +223,8 @@ fn take_in<S: WordsMut>(store: &mut S, span: Span, starts: &mut [u64], size: usi
     requires multiple { size % HEAP_UNIT ≡ 0 }
     requires small { size < 2 ^ 40 }
     ensures took { MatchOption result
-        ((shortage_in size (heap_in (S.memory store.old) span) (hole_for size (heap_in (S.memory store.old) span).segments) ≢ 0)
+        ((shortage_in size (heap_in (S.memory store.old) span)
+        (hole_for size (heap_in (S.memory store.old) span).segments) ≢ 0)
         × (S.memory store.new ≡ S.memory store.old) × (starts.new ≡ starts.old))
         (λ address. Took (S.memory store.old) (S.memory store.new) span size address) }
     ensures only { OnlySpan (S.memory store.old) (S.memory store.new) span }
@@ -286,9 +292,11 @@ fn move_in<S: WordsMut>(
     requires longer { spot.size < size }
     requires small { size < 2 ^ 40 }
     ensures moved { MatchOption result
-        ((shortage_in size (heap_in (S.memory store.old) span) (hole_for size (heap_in (S.memory store.old) span).segments) ≢ 0)
+        ((shortage_in size (heap_in (S.memory store.old) span)
+        (hole_for size (heap_in (S.memory store.old) span).segments) ≢ 0)
         × (S.memory store.new ≡ S.memory store.old) × (starts.new ≡ starts.old))
-        (λ address. WithBlock spot (heap_in (S.memory store.old) span) (Moved (S.memory store.old) (S.memory store.new) span size address (spot.place + BLOCK))) }
+        (λ address. WithBlock spot (heap_in (S.memory store.old) span)
+        (Moved (S.memory store.old) (S.memory store.new) span size address (spot.place + BLOCK))) }
     ensures only { OnlySpan (S.memory store.old) (S.memory store.new) span }
     ensures starts { IsIndex starts.new (heap_in (S.memory store.new) span) }
     ensures long { length starts.new ≡ length starts.old }
@@ -318,8 +326,10 @@ fn change_in<S: WordsMut>(
     requires multiple { size % HEAP_UNIT ≡ 0 }
     requires small { size < 2 ^ 40 }
     ensures changed { MatchResult result
-        (λ address. WithBlock spot (heap_in (S.memory store.old) span) (Changed (S.memory store.old) (S.memory store.new) span size address))
-        (λ refusal. WithBlock spot (heap_in (S.memory store.old) span) (NotChanged (S.memory store.old) (S.memory store.new) span size refusal)) }
+        (λ address. WithBlock spot (heap_in (S.memory store.old) span)
+        (Changed (S.memory store.old) (S.memory store.new) span size address))
+        (λ refusal. WithBlock spot (heap_in (S.memory store.old) span)
+        (NotChanged (S.memory store.old) (S.memory store.new) span size refusal)) }
     ensures only { OnlySpan (S.memory store.old) (S.memory store.new) span }
     ensures starts { IsIndex starts.new (heap_in (S.memory store.new) span) }
     ensures long { length starts.new ≡ length starts.old }

@@ -1,10 +1,11 @@
-//! Calls on a heap for callers: where the store keeps a map of the heap's beginnings, a block is found by it, and else by
-//! a walk. A map that isn't up to date is made anew by the first call that changes the heap.
+//! Calls on a heap for callers: where the store keeps a map of the heap's beginnings, a block is found by it, and else
+//! by a walk. A map that isn't up to date is made anew by the first call that changes the heap.
 ghost use Rattle.std.specs.Prelude.{◌≡◌, ◌+◌, ◌*◌, ◌/◌, ◌%◌, ◌≤◌, length, IfSome, is_some, ok_or};
 ghost use Rattle.rh_defs.specs.Memory.{Memory, bytes};
 ghost use Rattle.rh_defs.specs.Pieces.{moved};
 ghost use Rattle.rh_defs.specs.Chain.{no_answer};
-ghost use Rattle.rh_defs.specs.Heap.{block_around, block_size, claim_block, extend_by, need_at, released_at, resize_block};
+ghost use Rattle.rh_defs.specs.Heap.{block_around, block_size, claim_block, extend_by, need_at, released_at};
+ghost use Rattle.rh_defs.specs.Heap.{resize_block};
 ghost use Rattle.rh_heap.specs.HeapSpans.{IsSpan, bytes_in, heap_in};
 ghost use Rattle.rh_heap.specs.HeapCalls.{LeavesHeap};
 ghost use Rattle.rh_store.specs.Starts.{IsIndex};
@@ -29,7 +30,8 @@ pub fn take_map<S: WordsMut>(store: &mut S, span: Span) -> Option<S::Lines>
     requires { IsSpan (S.memory store.old) span }
     ensures same { S.memory store.new ≡ S.memory store.old }
     ensures index { IfSome result (λ lines. IsIndex (S.Lines.words lines) (heap_in (S.memory store.old) span)) }
-    ensures long { IfSome result (λ lines. length (bytes_in (S.memory store.old) span) ≤ LINE_BYTES * (length (S.Lines.words lines) / 2)) }
+    ensures long { IfSome result (λ lines. length (bytes_in (S.memory store.old) span) ≤ LINE_BYTES *
+        (length (S.Lines.words lines) / 2)) }
 {
     if store.starts(span.area, span.at).is_none() {
         return None;
@@ -43,7 +45,8 @@ fn take_lines<S: WordsMut>(store: &mut S, span: Span) -> Option<S::Lines>
     requires { IsSpan (S.memory store.old) span }
     ensures same { S.memory store.new ≡ S.memory store.old }
     ensures index { IfSome result (λ lines. IsIndex (S.Lines.words lines) (heap_in (S.memory store.old) span)) }
-    ensures long { IfSome result (λ lines. length (bytes_in (S.memory store.old) span) ≤ LINE_BYTES * (length (S.Lines.words lines) / 2)) }
+    ensures long { IfSome result (λ lines. length (bytes_in (S.memory store.old) span) ≤ LINE_BYTES *
+        (length (S.Lines.words lines) / 2)) }
 {
     let Some(starts) = store.take_starts(span.area) else {
         return None;
@@ -67,7 +70,8 @@ fn map_for_change<S: WordsMut>(store: &mut S, span: Span) -> Option<S::Lines>
     requires { IsSpan (S.memory store.old) span }
     ensures same { S.memory store.new ≡ S.memory store.old }
     ensures index { IfSome result (λ lines. IsIndex (S.Lines.words lines) (heap_in (S.memory store.old) span)) }
-    ensures long { IfSome result (λ lines. length (bytes_in (S.memory store.old) span) ≤ LINE_BYTES * (length (S.Lines.words lines) / 2)) }
+    ensures long { IfSome result (λ lines. length (bytes_in (S.memory store.old) span) ≤ LINE_BYTES *
+        (length (S.Lines.words lines) / 2)) }
 {
     if read(store, span, HEAP_BASE) < SHORT && store.starts(span.area, span.at).is_none() {
         return None;
@@ -145,7 +149,8 @@ pub fn resize<S: WordsMut>(
 pub fn extend_heap<S: WordsMut>(store: &mut S, span: Span, delta: i32) -> Result<(), HeapRefusal>
     requires span { IsSpan (S.memory store.old) span }
     requires multiple { moved (heap_in (S.memory store.old) span).end delta % HEAP_UNIT ≡ 0 }
-    requires within { span.at + moved (heap_in (S.memory store.old) span).end delta ≤ length (bytes_in (S.memory store.old) span) }
+    requires within { span.at + moved (heap_in (S.memory store.old) span).end delta
+        ≤ length (bytes_in (S.memory store.old) span) }
     ensures { LeavesHeap (S.memory store.old) (S.memory store.new) span
         (no_answer (extend_by delta (heap_in (S.memory store.old) span))) result }
 {

@@ -11,7 +11,8 @@ use arrayvec::ArrayVec;
 use rh_defs::sizes::{HEAP_BASE, SEGMENTS_AT_ONCE};
 use rh_store::Words;
 
-/// As many segments as are told at a time in order of place, from the one that begins at `place` on; none where none begins there.
+/// As many segments as are told at a time in order of place, from the one that begins at `place` on; none where none
+/// begins there.
 pub fn segments_from<S: Words>(
     store: &S,
     span: Span,

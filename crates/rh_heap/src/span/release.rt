@@ -20,7 +20,8 @@ use rh_store::WordsMut;
 pub fn free_segment<S: WordsMut>(store: &mut S, span: Span, spot: Spot)
     requires span { IsSpan (S.memory store.old) span }
     requires found { FoundBlock span.at (heap_in (S.memory store.old) span) (spot.place + BLOCK) spot }
-    ensures spells { SpellsHeapIn (S.memory store.new) span (release_block (spot.place + BLOCK) (heap_in (S.memory store.old) span)) }
+    ensures spells { SpellsHeapIn (S.memory store.new) span (release_block (spot.place + BLOCK)
+        (heap_in (S.memory store.old) span)) }
     ensures only { OnlySpan (S.memory store.old) (S.memory store.new) span }
 {
     let next = follow(store, span, spot.from);

@@ -1,5 +1,6 @@
 //! Resizes: blocks that get other sizes, and the ways to them.
-ghost use Rattle.std.specs.Prelude.{◌≡◌, ◌≢◌, ℕ, ℤ, ◌+◌, ◌-◌, ◌%◌, ◌^◌, ◌<◌, ◌≤◌, ◌++◌, length, replicate, MatchOption, MatchResult};
+ghost use Rattle.std.specs.Prelude.{◌≡◌, ◌≢◌, ℕ, ℤ, ◌+◌, ◌-◌, ◌%◌, ◌^◌, ◌<◌, ◌≤◌, ◌++◌, length, replicate, MatchOption};
+ghost use Rattle.std.specs.Prelude.{MatchResult};
 ghost use Rattle.rh_defs.specs.Bytes.{word, part};
 ghost use Rattle.rh_defs.specs.Memory.{Memory, IsOpen, Edited, bytes};
 ghost use Rattle.rh_defs.specs.Heap.{hole_for, shortage_in, block_at, base, resize_block, need_at};
@@ -75,8 +76,10 @@ fn lengthen<S: WordsMut>(store: &mut S, span: Span, spot: Spot, size: usize)
     requires longer { spot.size ≤ size }
     ensures size { word (bytes_in (S.memory store.new) span) (span.at + spot.place) ≡ size }
     ensures block { part (bytes_in (S.memory store.new) span) (span.at + spot.place + BLOCK) (size - BLOCK)
-        ≡ part (bytes_in (S.memory store.old) span) (span.at + spot.place + BLOCK) (spot.size - BLOCK) ++ replicate (size - spot.size) 0 }
-    ensures only { Edited (S.memory store.old) (S.memory store.new) span.area.0 (span.at + spot.place) (span.at + spot.place + size) }
+        ≡ part (bytes_in (S.memory store.old) span) (span.at + spot.place + BLOCK) (spot.size - BLOCK)
+        ++ replicate (size - spot.size) 0 }
+    ensures only { Edited (S.memory store.old) (S.memory store.new) span.area.0 (span.at + spot.place)
+        (span.at + spot.place + size) }
 {
     write(store, span, spot.place, size);
     clear(store, span, spot.place + spot.size, size - spot.size);
@@ -152,9 +155,11 @@ fn move_block<S: WordsMut>(store: &mut S, span: Span, spot: Spot, size: usize) -
     requires longer { spot.size < size }
     requires small { size < 2 ^ 40 }
     ensures moved { MatchOption result
-        ((shortage_in size (heap_in (S.memory store.old) span) (hole_for size (heap_in (S.memory store.old) span).segments) ≢ 0)
+        ((shortage_in size (heap_in (S.memory store.old) span)
+        (hole_for size (heap_in (S.memory store.old) span).segments) ≢ 0)
         × (S.memory store.new ≡ S.memory store.old))
-        (λ address. WithBlock spot (heap_in (S.memory store.old) span) (Moved (S.memory store.old) (S.memory store.new) span size address (spot.place + BLOCK))) }
+        (λ address. WithBlock spot (heap_in (S.memory store.old) span)
+        (Moved (S.memory store.old) (S.memory store.new) span size address (spot.place + BLOCK))) }
     ensures only { OnlySpan (S.memory store.old) (S.memory store.new) span }
 {
     match take(store, span, size) {
@@ -180,8 +185,10 @@ fn change<S: WordsMut>(
     requires multiple { size % HEAP_UNIT ≡ 0 }
     requires small { size < 2 ^ 40 }
     ensures changed { MatchResult result
-        (λ address. WithBlock spot (heap_in (S.memory store.old) span) (Changed (S.memory store.old) (S.memory store.new) span size address))
-        (λ refusal. WithBlock spot (heap_in (S.memory store.old) span) (NotChanged (S.memory store.old) (S.memory store.new) span size refusal)) }
+        (λ address. WithBlock spot (heap_in (S.memory store.old) span)
+        (Changed (S.memory store.old) (S.memory store.new) span size address))
+        (λ refusal. WithBlock spot (heap_in (S.memory store.old) span)
+        (NotChanged (S.memory store.old) (S.memory store.new) span size refusal)) }
     ensures only { OnlySpan (S.memory store.old) (S.memory store.new) span }
 {
     match way_to(store, span, spot, size) {
@@ -213,7 +220,8 @@ pub fn short_by<S: Words>(store: &S, span: Span, spot: Spot, size: usize) -> usi
     requires span { IsSpan (S.memory store.now) span }
     requires found { FoundBlock span.at (heap_in (S.memory store.now) span) (spot.place + BLOCK) spot }
     requires small { size < 2 ^ 40 }
-    ensures { WithBlock spot (heap_in (S.memory store.now) span) (ShortBy (heap_in (S.memory store.now) span) size result) }
+    ensures { WithBlock spot (heap_in (S.memory store.now) span)
+        (ShortBy (heap_in (S.memory store.now) span) size result) }
 {
     match way_to(store, span, spot, size) {
         Way::Stays => 0,

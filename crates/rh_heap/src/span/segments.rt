@@ -46,7 +46,8 @@ fn pass_in_run<S: Words>(store: &S, span: Span, mark: Mark, target: usize) -> Ma
     requires no_hole { NoHole (bytes_in (S.memory store.now) span) span.at mark.from target }
     requires above { mark.place ≤ target }
     requires below { target < base (heap_in (S.memory store.now) span) }
-    ensures reached { Reached span.at (heap_in (S.memory store.now) span) result.link result.low result.from result.place }
+    ensures reached { Reached span.at (heap_in
+        (S.memory store.now) span) result.link result.low result.from result.place }
     ensures from { result.from ≡ mark.from }
     ensures on { mark.place ≤ result.place }
     ensures above { result.place ≤ target }

@@ -1,6 +1,7 @@
-//! A map of where a heap's segments begin, beside the heap's bytes. It consists of lines of two words, each for 512 bytes
-//! of the heap: a bit for each 8 bytes, in one word for used segments and in the other for holes.
-ghost use Rattle.std.specs.Prelude.{◌≡◌, ℕ, ◌+◌, ◌*◌, ◌/◌, ◌%◌, ◌^◌, ◌<◌, ◌≤◌, ◌==◌, length, true, MatchOption, if◌then◌else◌};
+//! A map of where a heap's segments begin, beside the heap's bytes. It consists of lines of two words, each for 512
+//! bytes of the heap: a bit for each 8 bytes, in one word for used segments and in the other for holes.
+ghost use Rattle.std.specs.Prelude.{◌≡◌, ℕ, ◌+◌, ◌*◌, ◌/◌, ◌%◌, ◌^◌, ◌<◌, ◌≤◌, ◌==◌, length, true, MatchOption};
+ghost use Rattle.std.specs.Prelude.{if◌then◌else◌};
 ghost use Rattle.rh_store.specs.Starts.{bit};
 ghost use Rattle.rh_heap.specs.HeapStarts.{Became, LastBit, LinkBelow};
 ghost use Rattle.rh_defs.specs.declared.sizes.TheConstants.{HEAP_UNIT};

@@ -31,7 +31,8 @@ fn put_hole<S: WordsMut>(store: &mut S, span: Span, stretch: Stretch)
     requires stretch { IsStretch (bytes_in (S.memory store.old) span) span.at stretch }
     requires some { stretch.low + HOLE_HEADER ≤ stretch.upper }
     ensures puts { PutsHole (bytes_in (S.memory store.old) span) (bytes_in (S.memory store.new) span) span.at stretch }
-    ensures only { Edited (S.memory store.old) (S.memory store.new) span.area.0 span.at (span.at + stretch.low + HOLE_HEADER) }
+    ensures only { Edited (S.memory store.old) (S.memory store.new) span.area.0 span.at
+        (span.at + stretch.low + HOLE_HEADER) }
 {
     write_link(store, span, stretch.link, stretch.low);
     write_link(store, span, stretch.low, stretch.next);
@@ -50,7 +51,8 @@ pub fn settle_below_block<S: WordsMut>(store: &mut S, span: Span, stretch: Stret
     requires stretch { IsStretch (bytes_in (S.memory store.old) span) span.at stretch }
     requires below { stretch.upper ≢ word (bytes_in (S.memory store.old) span) (span.at + HEAP_BASE) }
     requires apart { stretch.next ≢ stretch.upper }
-    ensures settles { Settles (bytes_in (S.memory store.old) span) (bytes_in (S.memory store.new) span) span.at stretch }
+    ensures settles { Settles (bytes_in (S.memory store.old) span)
+        (bytes_in (S.memory store.new) span) span.at stretch }
     ensures only { Edited (S.memory store.old) (S.memory store.new) span.area.0 span.at (span.at + stretch.upper) }
 {
     if stretch.low == stretch.upper {
@@ -64,7 +66,8 @@ pub fn settle_below_block<S: WordsMut>(store: &mut S, span: Span, stretch: Stret
 pub fn settle<S: WordsMut>(store: &mut S, span: Span, stretch: Stretch)
     requires opened { IsOpen (S.memory store.old) span.area.0 }
     requires stretch { IsStretch (bytes_in (S.memory store.old) span) span.at stretch }
-    ensures settles { Settles (bytes_in (S.memory store.old) span) (bytes_in (S.memory store.new) span) span.at stretch }
+    ensures settles { Settles (bytes_in (S.memory store.old) span)
+        (bytes_in (S.memory store.new) span) span.at stretch }
     ensures only { Edited (S.memory store.old) (S.memory store.new) span.area.0 span.at (span.at + stretch.upper) }
 {
     if stretch.upper == read(store, span, HEAP_BASE) {

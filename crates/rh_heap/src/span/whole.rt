@@ -44,7 +44,8 @@ pub fn end<S: Words>(store: &S, span: Span) -> usize
 pub fn extend_heap<S: WordsMut>(store: &mut S, span: Span, delta: i32) -> Result<(), HeapRefusal>
     requires span { IsSpan (S.memory store.old) span }
     requires multiple { moved (heap_in (S.memory store.old) span).end delta % HEAP_UNIT ≡ 0 }
-    requires within { span.at + moved (heap_in (S.memory store.old) span).end delta ≤ length (bytes_in (S.memory store.old) span) }
+    requires within { span.at + moved (heap_in (S.memory store.old) span).end delta
+        ≤ length (bytes_in (S.memory store.old) span) }
     ensures { LeavesHeap (S.memory store.old) (S.memory store.new) span
         (no_answer (extend_by delta (heap_in (S.memory store.old) span))) result }
 {

@@ -26,7 +26,8 @@ pub fn write<S: WordsMut>(store: &mut S, span: Span, place: usize, w: usize)
     requires within { span.at + place + WORD ≤ length (bytes_in (S.memory store.old) span) }
     requires fits { w < 2 ^ 32 }
     ensures value { word (bytes_in (S.memory store.new) span) (span.at + place) ≡ w }
-    ensures only { Edited (S.memory store.old) (S.memory store.new) span.area.0 (span.at + place) (span.at + place + WORD) }
+    ensures only { Edited (S.memory store.old) (S.memory store.new) span.area.0 (span.at + place)
+        (span.at + place + WORD) }
 {
     store.set_word(span.area, span.at + place, w as u32);
 }
@@ -37,7 +38,8 @@ pub fn clear<S: WordsMut>(store: &mut S, span: Span, place: usize, n: usize)
     requires opened { IsOpen (S.memory store.old) span.area.0 }
     requires within { span.at + place + n ≤ length (bytes_in (S.memory store.old) span) }
     ensures zeros { part (bytes_in (S.memory store.new) span) (span.at + place) n ≡ replicate n 0 }
-    ensures only { Edited (S.memory store.old) (S.memory store.new) span.area.0 (span.at + place) (span.at + place + n) }
+    ensures only { Edited (S.memory store.old) (S.memory store.new) span.area.0 (span.at + place)
+        (span.at + place + n) }
 {
     store.zero(span.area, span.at + place, n);
 }
@@ -59,7 +61,8 @@ pub fn write_link<S: WordsMut>(store: &mut S, span: Span, from: usize, to: usize
     requires ahead { to ≢ 0 → from < to }
     requires fits { to < 2 ^ 32 }
     ensures links { LinksTo (bytes_in (S.memory store.new) span) span.at (span.at + from) to }
-    ensures only { Edited (S.memory store.old) (S.memory store.new) span.area.0 (span.at + from) (span.at + from + WORD) }
+    ensures only { Edited (S.memory store.old) (S.memory store.new) span.area.0 (span.at + from)
+        (span.at + from + WORD) }
 {
     write(store, span, from, if to == 0 { 0 } else { to - from });
 }
@@ -69,7 +72,8 @@ pub fn move_bytes<S: WordsMut>(store: &mut S, span: Span, from: usize, to: usize
     requires opened { IsOpen (S.memory store.old) span.area.0 }
     requires source { span.at + from + n ≤ length (bytes_in (S.memory store.old) span) }
     requires target { span.at + to + n ≤ length (bytes_in (S.memory store.old) span) }
-    ensures bytes { part (bytes_in (S.memory store.new) span) (span.at + to) n ≡ part (bytes_in (S.memory store.old) span) (span.at + from) n }
+    ensures bytes { part (bytes_in (S.memory store.new) span) (span.at + to) n
+        ≡ part (bytes_in (S.memory store.old) span) (span.at + from) n }
     ensures only { Edited (S.memory store.old) (S.memory store.new) span.area.0 (span.at + to) (span.at + to + n) }
 {
     store.slide(span.area, span.at + from, span.at + to, n);
