@@ -11,11 +11,12 @@ import edit as edits_of
 import kept
 import kit
 import libraries
+import twins
 from said import Said
 
 PRINTING = threading.Lock()
 # The tools that judge: verdicts are kept under a sum of them too.
-JUDGES = ("edit", "heads", "libraries", "said", "trial")
+JUDGES = ("edit", "heads", "libraries", "said", "trial", "twins")
 ANEW = "--anew"
 # How a line that is kept begins, where an edit was refused, and what stands between its goals.
 REFUSED, BETWEEN = "refused at ", " "
@@ -35,6 +36,7 @@ class Verdict:
 
 def refused(edit, goals):
     """The verdict on an edit that was refused at these goals of its own."""
+    goals = [twins.told(it) for it in goals]
     return Verdict(edit, f"{REFUSED}{goals[0]}", goals)
 
 
@@ -151,7 +153,8 @@ def tried(crate, jobs):
     total = kept.of_verdicts(crate, JUDGES)
     edits, bad = edits_of.read_edits(crate)
     with tempfile.TemporaryDirectory(prefix="wrong-bodies-") as folder:
-        trial = Trial(crate, folder, jobs)
+        laid, edits = twins.lay_out(crate, edits, f"{folder}/crate")
+        trial = Trial(laid, f"{folder}/kept", jobs)
         verdicts = sorted(trial.judge_all(edits_of.grouped(edits)), key=lambda it: it.edit.name)
     lines = [f"{crate.name}/{it}" for it in bad]
     lines += [f"{crate.name}/{it.edit.name}: {it.text}" for it in verdicts]
