@@ -1,4 +1,4 @@
-"""Twins: a copy of a crate in which a function stands once for each edit of its body, so that all are tried in one check.
+"""Twins: a copy of a crate in which a function stands once for each edit of its body. All are tried in one check then.
 
 A twin has the function's clauses, its body and its proof under another name, behind the function. A check refuses its
 wrong body at the goals at which it would refuse the function's own.
@@ -11,8 +11,8 @@ import re
 import shutil
 
 import edit as edits_of
+import kit
 
-PARTS = ("src", "specs", "proofs")
 # The files of a function's proof that a twin takes along. One with another file, as a whole proof by hand, has no twin.
 TAKEN = {"Answers.antt", "Invariants.antt"}
 # What a twin's name has behind the function's, with the twin's number.
@@ -26,12 +26,12 @@ def told(goal):
 
 
 def lay_out(crate, edits, folder):
-    """Makes a copy of the crate with twins in the folder; gives the crate there, and the edits as they apply to it.
+    """Makes a copy of the crate with twins in the folder; gives the crate there, and the edits as they lie in it.
 
     Of edits of one body the first changes the function, and each other one a twin. An edit whose function can't have one
     stays as it is.
     """
-    for part in PARTS:
+    for part in kit.PARTS:
         if os.path.isdir(f"{crate.folder}/{part}"):
             shutil.copytree(f"{crate.folder}/{part}", f"{folder}/{part}")
     made, taken = [], set()
