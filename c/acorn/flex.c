@@ -2,7 +2,7 @@
  * flex.c: flex for pointers. All blocks lie in one slot, in memory that is mapped once and never moves. Each block has
  * one of the slot's 64 anchors; beside it stands which variable of the program's is to hold its address.
  */
-#define _DEFAULT_SOURCE
+#define _DEFAULT_SOURCE 1
 #include "flex.h"
 #include "vervainfile.h"
 
@@ -15,7 +15,7 @@ static uint8_t *memory;
 static struct vf_slot slot;
 static flex_ptr anchors[ANCHORS]; /* null where the slot's anchor is free */
 
-/* The number of an anchor that has a block; for null that of a free one. ANCHORS, which no call takes, if none is it. */
+/* The number of an anchor that has a block; for null a free one. ANCHORS, which no call takes, where there is none. */
 static uint32_t number_of(flex_ptr anchor)
 {
     uint32_t number = 0;
@@ -38,7 +38,7 @@ void flex_init(void)
 {
     const int kind = MAP_PRIVATE | MAP_ANONYMOUS | MAP_NORESERVE;
     void *mapped = memory ? memory : mmap(NULL, ROOM, PROT_READ | PROT_WRITE, kind, -1, 0);
-    memory = mapped == MAP_FAILED ? NULL : mapped;
+    memory = mapped == MAP_FAILED ? NULL : (uint8_t *)mapped;
     memset(anchors, 0, sizeof anchors);
     vf_flex_start(memory, ROOM, &slot);
 }

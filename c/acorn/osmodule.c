@@ -1,7 +1,7 @@
 /*
  * osmodule.c: the module area. Its heap begins at its first byte, and has just the pages that its longest end needed.
  */
-#define _DEFAULT_SOURCE
+#define _DEFAULT_SOURCE 1
 #include "osmodule.h"
 #include "vervainfile.h"
 
@@ -21,7 +21,7 @@ static uint32_t start(void)
     mapped = mmap(NULL, ROOM, PROT_READ | PROT_WRITE, MAP_PRIVATE | MAP_ANONYMOUS | MAP_NORESERVE, -1, 0);
     if (mapped == MAP_FAILED)
         return VF_NO_MEMORY;
-    area = mapped;
+    area = (uint8_t *)mapped;
     return vf_heap_init(area, PAGE);
 }
 

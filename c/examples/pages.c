@@ -1,7 +1,7 @@
 /*
- * pages.c: a small editor on RISC_OSLib's flex (c/acorn/flex.h), as a program for RISC OS has it. The document is a flex
- * block for each of its pages, and a clipboard. Each text is found by its anchor alone, so that nothing has to be
- * fetched anew where blocks slide: flex has rewritten the anchors by then.
+ * pages.c: a small editor on RISC_OSLib's flex (c/acorn/flex.h), as a program for RISC OS has it. The document has a
+ * flex block for each of its pages, and there is one for the clipboard. Each text is found by its anchor alone: nothing
+ * has to be fetched anew where blocks slide, since flex has rewritten the anchors by then.
  */
 #include "flex.h"
 
@@ -72,7 +72,7 @@ int main(void)
     show("cut", cut(1, 20, 9));
 
     /* The C heap below the blocks must grow: with budging off it may not, and then all blocks slide up by a page. */
-    first = pages[0];
+    first = (char *)pages[0];
     flex_set_budge(0);
     show("no budge", flex_budge(5000, &kept));
     flex_set_budge(1);

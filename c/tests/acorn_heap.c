@@ -48,7 +48,8 @@ static bool is_zero(const uint8_t *bytes, size_t n)
 
 static void statuses_are_errors(void)
 {
-    static const uint32_t known[] = {VF_NAME_IN_USE, VF_NOT_A_BLOCK, VF_TOO_BIG, VF_NULL, VF_BAD_DESCRIPTOR, VF_FILE_EXISTS};
+    static const uint32_t known[] = {VF_NAME_IN_USE, VF_NOT_A_BLOCK, VF_TOO_BIG, VF_NULL, VF_BAD_DESCRIPTOR,
+                                     VF_FILE_EXISTS};
     EXPECT(!os_error_of(VF_OK));
     for (size_t i = 0; i < sizeof known / sizeof *known; i++)
         EXPECT(is_error(os_error_of(known[i]), known[i]) && os_error_of(known[i]) == os_error_of(known[i]));
@@ -95,7 +96,8 @@ static void blocks_change_in_size(void)
     IS_DONE(xosheap_realloc(heap, block, -9, &block)), EXPECT(is_at(FIRST));
     IS_DONE(xosheap_read_block_size(heap, block, &number)), EXPECT(number == 12);
     IS_DONE(xosheap_alloc(heap, 1, &block)), EXPECT(is_at(FIRST + 16));
-    IS_DONE(xosheap_realloc(heap, heap + FIRST, 1, &block)), EXPECT(is_at(FIRST + 24) && !memcmp(block, "first block", 12));
+    IS_DONE(xosheap_realloc(heap, heap + FIRST, 1, &block)), EXPECT(is_at(FIRST + 24));
+    EXPECT(!memcmp(block, "first block", 12));
     REFUSES(VF_BAD_SIZE, xosheap_realloc(heap, heap + FIRST + 24, -20, &block));
     REFUSES(VF_BAD_SIZE, xosheap_realloc(heap, heap + FIRST + 24, INT32_MIN, &block));
     REFUSES(VF_NO_ROOM, xosheap_realloc(heap, heap + FIRST + 24, INT32_MAX, &block));

@@ -55,7 +55,8 @@ def write_package(template, made, words):
 def symbols(made, *flags):
     """The names that nm gives, without the version that a shared library has behind each."""
     ran = subprocess.run([READER, "-P", *flags, made], capture_output=True, text=True, check=True)
-    return {line.split()[0].partition("@")[0] for line in ran.stdout.splitlines() if line.strip() and not line.endswith(":")}
+    lines = [line for line in ran.stdout.splitlines() if line.strip() and not line.endswith(":")]
+    return {line.split()[0].partition("@")[0] for line in lines}
 
 
 def look_at_symbols(top, folder):

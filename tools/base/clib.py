@@ -106,7 +106,8 @@ def hide(member):
 
 def link_shared(top, made, to):
     """Links all of the archive to a shared library, whose calls of its own names nobody can take over."""
-    words = ["-shared", "-soname", SHARED, "--version-script", f"{top}/{EXPORTS}", "-Bsymbolic", "-z", "text", "-z", "now"]
+    words = ["-shared", "-soname", SHARED, "--version-script", f"{top}/{EXPORTS}", "-Bsymbolic"]
+    words += ["-z", "text", "-z", "now"]
     subprocess.run([f"{TOOLCHAIN}/ld.lld", *words, "--whole-archive", made, "-o", to], check=True)
 
 

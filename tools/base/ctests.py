@@ -59,7 +59,8 @@ class Suite:
     def compiled(self, what, sources, flags, made):
         """Compiles sources over the library, and gives whether that went well."""
         library = [archive.path(self.folder)] * (not {"-fsyntax-only", "-c"} & set(flags))
-        words = [*archive.compiler(), *flags, f"-I{self.folder}", "-Ic/plain", "-Ic/acorn", *sources, *library, "-o", made]
+        folders = [f"-I{it}" for it in (self.folder, "c/plain", "c/acorn")]
+        words = [*archive.compiler(), *flags, *folders, *sources, *library, "-o", made]
         return self.ran(f"compiling {what}", words) is not None
 
     def is_true(self, what, holds):
@@ -204,5 +205,5 @@ def test(top, folder):
         tests = run_all(suite)
     for it in suite.wrong:
         print(it)
-    return outcome.told(f"{tests} programs in C in {len(WAYS)} ways, header, examples and shim", suite.tried * bool(tests),
-                        len(suite.wrong))
+    what = f"{tests} programs in C in {len(WAYS)} ways, header, examples and shim"
+    return outcome.told(what, suite.tried * bool(tests), len(suite.wrong))
