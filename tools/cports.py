@@ -11,6 +11,7 @@ import shutil
 import subprocess
 import sys
 import tempfile
+import textwrap
 
 import archive
 import cinstall
@@ -31,6 +32,9 @@ SAID = "c/tests/said.c"
 SHIMS = f"share/{archive.NAME}/acorn"
 PYTHON = f"share/{archive.NAME}/python/{archive.NAME}.py"
 PASSED = re.compile(r"^(\d+) passed and 0 failed\.$", re.MULTILINE)
+# The first program of the page for C, and what it prints.
+PAGE = "docs/C.md"
+PROGRAM = re.compile(r"^## A first program\n\n((?:(?: {4}.*)?\n)+)It prints:\n\n((?: {4}.*\n)+)", re.MULTILINE)
 CMAKE = """\
 cmake_minimum_required(VERSION 3.13)
 project(port C)
@@ -167,6 +171,18 @@ def try_standard(port, compiler, standard, compiling):
         port.ran(what, [made])
 
 
+def try_page(port, compiling):
+    """The program at the head of the page for C prints what stands behind it."""
+    with open(f"{port.top}/{PAGE}", encoding="utf-8") as it:
+        program, said = PROGRAM.search(it.read()).groups()
+    source, made = f"{port.work}/first.c", f"{port.work}/first"
+    with open(source, "w", encoding="utf-8") as it:
+        it.write(textwrap.dedent(program))
+    words = [*archive.compiler(), "-std=c99", *WARNED, *compiling, source, f"{port.root}/lib/lib{archive.NAME}.a"]
+    if port.ran("the program of the page", [*words, "-o", made]) is not None:
+        port.is_true("the page says what it prints", port.ran(made, [made]) == textwrap.dedent(said).encode())
+
+
 def try_cmake(port):
     """A project that finds the package builds over all three of its targets; no other version is found."""
     if not port.has("cmake", "a project of CMake"):
@@ -237,6 +253,7 @@ def run_all(port):
                  for it in there for name in examples(port.top)]
         calls += [pool.submit(try_standard, port, it, standard, compiling)
                   for it in there for standard in STANDARDS[COMPILERS[it]]]
+        calls.append(pool.submit(try_page, port, compiling))
         calls += [pool.submit(it, port) for it in (try_command, try_names, try_cmake, try_python)]
     for it in calls:
         it.result()
