@@ -40,8 +40,8 @@ static void print(uint8_t *heap, size_t first)
 int main(void)
 {
     /* An address is 4 more than a multiple of 8. So with the heap 4 bytes behind such a multiple blocks are aligned. */
-    static _Alignas(8) uint8_t room[4 + LEN], copy[4 + LEN];
-    uint8_t *heap = room + 4;
+    static uint64_t room[1 + LEN / 8], copy[1 + LEN / 8];
+    uint8_t *heap = (uint8_t *)room + 4, *other = (uint8_t *)copy + 4;
     size_t most, free, first = 0;
 
     if (vf_heap_init(heap, LEN) != VF_OK)
@@ -53,8 +53,8 @@ int main(void)
     if (vf_heap_describe(heap, LEN, &most, &free) == VF_OK)
         printf("%zu bytes free, %zu for one block\n", free, most);
 
-    memcpy(copy + 4, heap, LEN);
-    if (vf_heap_check(copy + 4, LEN) == VF_OK)
-        print(copy + 4, first);
+    memcpy(other, heap, LEN);
+    if (vf_heap_check(other, LEN) == VF_OK)
+        print(other, first);
     return 0;
 }

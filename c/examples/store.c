@@ -102,7 +102,7 @@ static void print(void)
     uint8_t line[LINE];
     uint32_t size;
     if (vf_desk_show(&desk, PRINTER, 0, line, sizeof line, &size) == VF_OK)
-        printf("printed: %.*s\n", (int)(size < LINE ? size : LINE), (const char *)line);
+        printf("printed: %.*s\n", (int)(size < LINE ? size : (uint32_t)LINE), (const char *)line);
 }
 
 static uint32_t told(const char *what, uint32_t status)

@@ -7,8 +7,10 @@
  *     if (vf_heap_init(memory, sizeof memory) == VF_OK && vf_heap_claim(memory, sizeof memory, 100, &address) == VF_OK)
  *         memory[address] = 1;
  *
- * Statuses, your duties, the calls of OS_Heap, the same with a map beside the heap, the same on any bytes, flex, the C
- * heap below flex, a slot in any bytes, the desk, and null pointers: in this order.
+ * It compiles as C99 or any later C, as C++, and as C89 where <stdint.h> and <stdbool.h> are there.
+ *
+ * Version, statuses, your duties, the calls of OS_Heap, the same with a map beside the heap, the same on any bytes,
+ * flex, the C heap below flex, a slot in any bytes, the desk, and null pointers: in this order.
  * docs/C.md says more: what each Acorn call becomes, what a call costs, and what of it is proved.
  */
 #ifndef VERVAINFILE_H
@@ -17,6 +19,22 @@
 #include <stdbool.h>
 #include <stddef.h>
 #include <stdint.h>
+
+/* The version as text and as a number, 10,000 for the first part and 100 for the second: what is written for one may
+ * be compiled with any later one that has the same first part. */
+#define VF_VERSION "1.0.0"
+#define VF_VERSION_NUMBER 10000
+
+/* What `inline` is called: C89 has no name for it. A function that isn't used is no fault then. */
+#ifndef VF_INLINE
+#if defined(__cplusplus) || (defined(__STDC_VERSION__) && __STDC_VERSION__ >= 199901L)
+#define VF_INLINE inline
+#elif defined(__GNUC__)
+#define VF_INLINE __inline__
+#else
+#define VF_INLINE
+#endif
+#endif
 
 #ifdef __cplusplus
 extern "C" {
@@ -77,6 +95,61 @@ enum {
     VF_NO_MEMORY = 46,         /* memory was refused */
     VF_FILE_EXISTS = 47        /* a file with the name was added before */
 };
+
+/* The text of each status, which is what stands beside it above: text(VF_OK, "all was done"), and so on. */
+#define VF_STATUS_TEXTS(text)                                                                                        \
+    text(VF_OK, "all was done")                                                                                      \
+    text(VF_NAME_IN_USE, "a live task has the name")                                                                 \
+    text(VF_NO_NAME, "no live task has the name")                                                                    \
+    text(VF_TOO_MANY_TASKS, "32 tasks are live")                                                                     \
+    text(VF_NO_HANDLES, "the last handle, 4294967295, was given")                                                    \
+    text(VF_NO_FILE, "no file has the name")                                                                         \
+    text(VF_NO_BLOCK, "the anchor has no block")                                                                     \
+    text(VF_ANCHOR_IN_USE, "the anchor has a block")                                                                 \
+    text(VF_NOT_A_BLOCK, "no block begins at the address")                                                           \
+    text(VF_NOT_YOURS, "the block of the module area holds a message")                                               \
+    text(VF_BUSY, "a transfer uses the block, eight that go out are open, or there is a scrap file")                 \
+    text(VF_NOT_OPEN, "no transfer that is meant can be given up")                                                   \
+    text(VF_NOTHING_SENT, "the task has sent no message")                                                            \
+    text(VF_BAD_RANGE, "bytes lie outside the block")                                                                \
+    text(VF_BAD_SIZE, "a block of a heap has at least 1 byte")                                                       \
+    text(VF_EXCESSIVE_SHRINK, "the heap would end below its last block, or an area lose more than it can")           \
+    text(VF_NO_TASK, "the task at the other end is not live")                                                        \
+    text(VF_NO_REFS, "the last ref, 4294967295, was given")                                                          \
+    text(VF_QUEUE_FULL, "256 messages are live")                                                                     \
+    text(VF_NO_BUDGE, "the C heap of a slot must grow, and budging is off")                                          \
+    text(VF_NO_ROOM, "no hole is large enough, nor the top; or too few pages are free")                              \
+    text(VF_NO_AREA, "no area has the number")                                                                       \
+    text(VF_TOO_MANY_AREAS, "32 made areas are live")                                                                \
+    text(VF_NO_NUMBERS, "the last number of a made area, 65535, was given")                                          \
+    text(VF_TOO_BIG, "a made area would have more pages than it may")                                                \
+    text(VF_NULL, "a pointer is null")                                                                               \
+    text(VF_BAD_LENGTH, "no heap has so many bytes: a multiple of 8, 16 to 1 GiB; or no slot; or no file")           \
+    text(VF_SHORT, "the memory is shorter than what is in it, or than heap, map or text would be")                   \
+    text(VF_BAD_DESCRIPTOR, "the first 16 bytes are not those of a heap")                                            \
+    text(VF_BAD_LINK, "a link does not lead to a hole ahead")                                                        \
+    text(VF_BAD_SEGMENT, "a size is not that of a segment")                                                          \
+    text(VF_BAD_ANCHOR, "a slot has the anchors 0 to 63")                                                            \
+    text(VF_NO_SLOT, "the slot has no page: it was never started")                                                   \
+    text(VF_BAD_FLEX_BLOCK, "a flex block goes past the end of the slot's pages")                                    \
+    text(VF_BAD_ANCHOR_WORD, "an anchor word is not 0, and leads to no flex block that names it")                    \
+    text(VF_SPARE_PAGE, "the last page of the slot holds nothing of it")                                             \
+    text(VF_CLOSED, "the desk is not open")                                                                          \
+    text(VF_OPEN, "the desk is open already")                                                                        \
+    text(VF_BAD_ARGUMENT, "a name, an anchor, a number or a leafname is none that a line has, or a put no byte")     \
+    text(VF_NO_MEMORY, "memory was refused")                                                                         \
+    text(VF_FILE_EXISTS, "a file with the name was added before")
+
+/* What a status says, for messages; of any other number that no status has it. */
+static VF_INLINE const char *vf_status_text(uint32_t status)
+{
+    switch (status) {
+#define VF_CASE(named, said) case named: return said;
+    VF_STATUS_TEXTS(VF_CASE)
+#undef VF_CASE
+    default: return "no status has this number";
+    }
+}
 
 /* ---- Duties of the caller -----------------------------------------------------------------------------------------
  *
@@ -364,7 +437,11 @@ struct vf_desk {
 #define VF_DESK_CLOSED { 0, false }
 
 /* A string as the two arguments that a name, a leafname or a line takes. It needs <string.h>. */
+#ifdef __cplusplus
+#define VF_TEXT(string) reinterpret_cast<const uint8_t *>(string), strlen(string)
+#else
 #define VF_TEXT(string) (const uint8_t *)(string), strlen(string)
+#endif
 
 /* How a task takes part in transfers. */
 enum {
@@ -620,7 +697,12 @@ uint32_t vf_desk_reply(struct vf_desk *desk, uint8_t *text, size_t text_len, siz
  * which answers VF_NULL where a pointer is null. Who calls the library from another language does the same there.
  */
 #define VF_UNLESS_NULL(call, parameters, pointers, arguments) \
-    static inline uint32_t call##_unless_null parameters { return (pointers) ? call arguments : (uint32_t)VF_NULL; }
+    static VF_INLINE uint32_t call##_unless_null parameters \
+    {                                                       \
+        if (!(pointers))                                    \
+            return VF_NULL;                                 \
+        return call arguments;                              \
+    }
 #define VF_BOTH_UNLESS_NULL(family, call, parameters, pointers, arguments) \
     VF_UNLESS_NULL(family##_##call, parameters, pointers, arguments) \
     VF_UNLESS_NULL(family##_checked_##call, parameters, pointers, arguments)

@@ -12,6 +12,8 @@ PREFIX = "vf_"
 IMPORTS = {"free", "malloc", "memcmp", "memcpy", "memmove", "memset", "realloc"}
 # The functions by which the desk takes memory and gives it back. A program may have its own.
 MEMORY_CALLS = {"rattle_alloc", "rattle_realloc", "rattle_dealloc"}
+# The name by which programs ask for the shared library: its number goes up where one that was linked before can't run.
+SHARED = f"lib{NAME}.so.1"
 COMPILER = "cc"
 READER = "nm"
 
@@ -35,10 +37,26 @@ def path(folder):
     return f"{folder}/lib{NAME}.a"
 
 
+def shared(folder):
+    """Where a folder has the shared library."""
+    return f"{folder}/{SHARED}"
+
+
+def write_package(template, made, words):
+    """Writes a file of its template, with the words that it names between two @."""
+    with open(template, encoding="utf-8") as it:
+        text = it.read()
+    for name, word in words.items():
+        text = text.replace(f"@{name}@", word)
+    with open(made, "w", encoding="utf-8") as it:
+        it.write(text)
+
+
 def symbols(made, *flags):
-    """The names that nm gives."""
+    """The names that nm gives, without the version that a shared library has behind each."""
     ran = subprocess.run([READER, "-P", *flags, made], capture_output=True, text=True, check=True)
-    return {line.split()[0] for line in ran.stdout.splitlines() if line.strip() and not line.endswith(":")}
+    lines = [line for line in ran.stdout.splitlines() if line.strip() and not line.endswith(":")]
+    return {line.split()[0].partition("@")[0] for line in lines}
 
 
 def look_at_symbols(top, folder):
@@ -56,4 +74,15 @@ def look_at_symbols(top, folder):
     alien = sorted(it for it in given if not it.startswith(PREFIX))
     if alien:
         raise Fault(f"the archive gives {alien[0]}, which doesn't begin with {PREFIX}")
+    look_at_shared(shared(folder), wanted)
     return f"{len(given)} names are given, and {', '.join(sorted(symbols(made, '-u') - MEMORY_CALLS))} asked for"
+
+
+def look_at_shared(made, wanted):
+    """Raises a fault where the shared library gives anything but the names of the header, or asks for more."""
+    given = symbols(made, "-D", "--defined-only")
+    if given != wanted:
+        raise Fault(f"{SHARED} gives {sorted(given ^ wanted)[0]}, or the sources do, but not both")
+    asked = symbols(made, "-D", "-u") - IMPORTS
+    if asked:
+        raise Fault(f"{SHARED} asks for {sorted(asked)[0]}")

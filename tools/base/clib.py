@@ -3,7 +3,6 @@
 import contextlib
 import copy
 import os
-import re
 import shutil
 import subprocess
 import sys
@@ -14,15 +13,19 @@ import kept
 import kit
 import libraries
 import page
-from archive import NAME, PREFIX, Fault, look_at_symbols
+from archive import MEMORY_CALLS, NAME, PREFIX, SHARED, Fault, look_at_symbols, write_package
 
 FOLDER = "lib"
 LOG = "clib.log"
 # The tools by which an archive is built: what was built is kept under a sum of them too.
 BUILDERS = ("archive", "clib", "libraries")
 # What lib/ has, and what it is made of beside crates.
-FILES = (f"lib{NAME}.a", f"{NAME}.h", f"{NAME}.pc")
-SOURCES = (header.HEADER, f"c/{NAME}.pc.in")
+FILES = (f"lib{NAME}.a", f"{NAME}.h", f"{NAME}.pc", SHARED)
+PACKAGE, EXPORTS = f"c/{NAME}.pc.in", f"c/{NAME}.map"
+SOURCES = (header.HEADER, PACKAGE, EXPORTS)
+# Where a program finds all of it, seen from the file that says so: beside it.
+BESIDE = {"PREFIX": "${pcfiledir}", "LIBDIR": "${prefix}", "INCLUDEDIR": "${prefix}"}
+TOOLCHAIN = f"{kit.KIT}/toolchain/bin"
 # The kit's object with the functions by which the desk takes memory and gives it back. It lies in the archive as a
 # member of its own, so that a program which defines them itself is linked without it.
 ALLOCATION = "heap.pic.o"
@@ -86,24 +89,32 @@ def archive(crates, made):
                 objects.append(f"{work}/{crate.name}-{it}")
                 os.rename(f"{folder}/{it}", objects[-1])
         subprocess.run(["ar", "x", f"{kit.KIT}/c/liblibc_c.a", ALLOCATION], cwd=work, check=True)
+        hide(f"{work}/{ALLOCATION}")
         if os.path.exists(made):
             os.remove(made)
         subprocess.run(["ar", "rcsD", made, *objects, f"{work}/{ALLOCATION}"], check=True)
 
 
-def version(top):
-    """The version that the list of changes names last."""
-    with open(f"{top}/CHANGELOG.md", encoding="utf-8") as it:
-        return re.search(r"^## (\d+\.\d+\.\d+)", it.read(), re.MULTILINE)[1]
+def hide(member):
+    """Hides the functions of the kit's object: what is linked with the archive gives the names of the header alone."""
+    lines = [*(f".hidden {it}" for it in sorted(MEMORY_CALLS)), '.section .note.GNU-stack,"",@progbits', ""]
+    subprocess.run([f"{TOOLCHAIN}/clang", "-c", "-x", "assembler", "-", "-o", f"{member}.hidden"],
+                   input="\n".join(lines).encode(), check=True)
+    subprocess.run([f"{TOOLCHAIN}/ld.lld", "-r", member, f"{member}.hidden", "-o", f"{member}.new"], check=True)
+    os.replace(f"{member}.new", member)
+
+
+def link_shared(top, made, to):
+    """Links all of the archive to a shared library, whose calls of its own names nobody can take over."""
+    words = ["-shared", "-soname", SHARED, "--version-script", f"{top}/{EXPORTS}", "-Bsymbolic"]
+    words += ["-z", "text", "-z", "now"]
+    subprocess.run([f"{TOOLCHAIN}/ld.lld", *words, "--whole-archive", made, "-o", to], check=True)
 
 
 def write_files(top):
     """The header, and what pkg-config reads, beside the archive."""
     shutil.copyfile(f"{top}/{header.HEADER}", f"{top}/{FOLDER}/{NAME}.h")
-    with open(f"{top}/c/{NAME}.pc.in", encoding="utf-8") as it:
-        text = it.read().replace("@VERSION@", version(top))
-    with open(f"{top}/{FOLDER}/{NAME}.pc", "w", encoding="utf-8") as it:
-        it.write(text)
+    write_package(f"{top}/{PACKAGE}", f"{top}/{FOLDER}/{NAME}.pc", dict(BESIDE, VERSION=header.version_of(top)))
 
 
 def make_library(top):
@@ -123,6 +134,7 @@ def make_library(top):
     for it in stale:
         kept.keep_file(it.name, sums[it], archive_of(it))
     archive(crates, f"{top}/{FOLDER}/lib{NAME}.a")
+    link_shared(top, f"{top}/{FOLDER}/lib{NAME}.a", f"{top}/{FOLDER}/{SHARED}")
     write_files(top)
 
 

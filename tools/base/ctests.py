@@ -59,7 +59,8 @@ class Suite:
     def compiled(self, what, sources, flags, made):
         """Compiles sources over the library, and gives whether that went well."""
         library = [archive.path(self.folder)] * (not {"-fsyntax-only", "-c"} & set(flags))
-        words = [*archive.compiler(), *flags, f"-I{self.folder}", "-Ic/plain", *sources, *library, "-o", made]
+        folders = [f"-I{it}" for it in (self.folder, "c/plain", "c/acorn")]
+        words = [*archive.compiler(), *flags, *folders, *sources, *library, "-o", made]
         return self.ran(f"compiling {what}", words) is not None
 
     def is_true(self, what, holds):
@@ -69,9 +70,14 @@ class Suite:
             self.wrong.append(what)
 
 
+def shims(suite):
+    """The sources with Acorn's names."""
+    return sorted(glob.glob("c/acorn/*.c", root_dir=suite.top))
+
+
 def plain(suite):
-    """The sources in plain C that the tests and the benches compare with."""
-    return sorted(glob.glob("c/plain/*.c", root_dir=suite.top))
+    """The sources in plain C that the tests and the benches compare with, and the shims."""
+    return [*sorted(glob.glob("c/plain/*.c", root_dir=suite.top)), *shims(suite)]
 
 
 def stem(path):
@@ -143,7 +149,8 @@ def try_examples(suite):
     for said in sorted(glob.glob(f"{suite.top}/c/examples/*.out")):
         name = os.path.basename(said).removesuffix(".out")
         made = f"{suite.work}/{name}"
-        if suite.compiled(f"the example {name}", [f"c/examples/{name}.c"], [*C11, "-O2", *flags[:1]], made):
+        sources = [f"c/examples/{name}.c", *shims(suite)]
+        if suite.compiled(f"the example {name}", sources, [*C11, "-O2", *flags[:1]], made):
             with open(said, "rb") as it:
                 suite.is_true(f"{name} prints what stands beside it", suite.ran(name, [made]) == it.read())
 
@@ -198,5 +205,5 @@ def test(top, folder):
         tests = run_all(suite)
     for it in suite.wrong:
         print(it)
-    return outcome.told(f"{tests} programs in C in {len(WAYS)} ways, header, examples and shim", suite.tried * bool(tests),
-                        len(suite.wrong))
+    what = f"{tests} programs in C in {len(WAYS)} ways, header, examples and shim"
+    return outcome.told(what, suite.tried * bool(tests), len(suite.wrong))

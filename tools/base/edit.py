@@ -70,7 +70,8 @@ class Function:
     def __init__(self, read, types, is_the_only):
         self.name, self.file, self.block, self.in_trait = read.name, read.file, read.block, read.in_trait
         self.is_the_only = is_the_only
-        self.first, self.opens, self.end = read.first, read.opens, read.end
+        self.first, self.named, self.opens, self.end = read.first, read.named, read.opens, read.end
+        self.in_cycle = read.in_cycle
         self.owner = read.owner if read.block else ""
         self.typed = _spelled(read.block) if read.block else ""
         self.trait = "".join(filter(str.isidentifier, read.block.trait)) if read.in_trait else ""
@@ -153,7 +154,7 @@ def _read(folder, functions, file):
 
 def _told(path):
     """What the first line of an edit says, without the mark of a comment; nothing where it has none."""
-    first = _bytes_of(path).decode(errors="replace").partition("\n")[0]
+    first = bytes_of(path).decode(errors="replace").partition("\n")[0]
     return first.removeprefix(TELLS) if first.startswith(TELLS) else ""
 
 
@@ -161,7 +162,7 @@ def _place(folder, function, change):
     """What is changed: the function that holds the change, or else the last thing declared above it."""
     if function:
         return Place("function", f"{function.owner}::{function.name}" if function.owner else function.name)
-    text = _bytes_of(f"{folder}/{change.file}")
+    text = bytes_of(f"{folder}/{change.file}")
     behind = text.find(b"\n", change.start)
     found = DECLARED.findall(text[: len(text) if behind < 0 else behind].decode())
     if not found:
@@ -190,14 +191,14 @@ def _definitions(folder):
     """The definitions in the crate's specs/, each with the words of its text."""
     found = collections.defaultdict(set)
     for path in sorted(glob.glob(f"{folder}/specs/**/*.antt", recursive=True)):
-        for name, line in heads.owned(_bytes_of(path).decode()):
+        for name, line in heads.owned(bytes_of(path).decode()):
             found[path, name] |= _words(line)
     return [(name, words) for (_, name), words in found.items()]
 
 
 def _text_of(folder, function):
     """A function's text, its clauses and its body."""
-    return _bytes_of(f"{folder}/{function.file}")[function.first : function.end].decode()
+    return bytes_of(f"{folder}/{function.file}")[function.first : function.end].decode()
 
 
 def _words(text):
@@ -264,11 +265,11 @@ def applied(folder, edits):
     changes = sorted((it for edit in edits for it in edit.changes), key=lambda it: it.start, reverse=True)
     texts = {}
     for it in changes:
-        text = texts[it.file] if it.file in texts else _bytes_of(f"{folder}/{it.file}")
+        text = texts[it.file] if it.file in texts else bytes_of(f"{folder}/{it.file}")
         texts[it.file] = text[: it.start] + it.new + text[it.end :]
     return {file: text.decode() for file, text in texts.items()}
 
 
-def _bytes_of(path):
+def bytes_of(path):
     with open(path, "rb") as it:
         return it.read()

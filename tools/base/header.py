@@ -1,13 +1,15 @@
 """The header for programs in C beside its sources: where the two differ, and a test that this is seen."""
 
 import glob
+import itertools
 import re
 import sys
 
 import outcome
 
 HEADER = "c/vervainfile.h"
-SOURCES = ["crates/vf_heap/src/*.rt", "crates/vf_flex/src/*.rt", "crates/vf_desk/src/*.rt", "crates/rh_flex/src/slot.rt"]
+SOURCES = ["crates/vf_heap/src/*.rt", "crates/vf_flex/src/*.rt", "crates/vf_desk/src/*.rt",
+           "crates/rh_flex/src/slot.rt"]
 SUFFIX = "_unless_null"
 NULL = "VF_NULL"
 TYPES = {"u8": "uint8_t", "u16": "uint16_t", "u32": "uint32_t", "u64": "uint64_t", "i32": "int32_t", "i64": "int64_t",
@@ -30,6 +32,13 @@ STRUCT_IN_C = re.compile(r"^(struct \w+) \{([^}]*)\};", re.MULTILINE)
 COMMENT = re.compile(r"/\*.*?\*/", re.DOTALL)
 PROTOTYPE = re.compile(r"^(\w+) (vf_\w+)\(([^)]*)\);", re.MULTILINE)
 NUMBER = re.compile(r"^    (VF_\w+) = (\d+)", re.MULTILINE)
+# A status with what stands beside it, and with its text.
+SAID = re.compile(r"^    (VF_\w+) = \d+,? +/\* (.*?) \*/$", re.MULTILINE)
+TEXT = re.compile(r'^    text\((VF_\w+), "(.*?)"\)', re.MULTILINE)
+# The version that the list of changes names last, and what the header says of it.
+CHANGES = "CHANGELOG.md"
+VERSION = re.compile(r"^## (\d+)\.(\d+)\.(\d+)", re.MULTILINE)
+VERSION_IN_C = re.compile(r'^#define VF_VERSION "(.*)"\n#define VF_VERSION_NUMBER (\d+)$', re.MULTILINE)
 NAME_OF_STATUS = re.compile(r"\bVF_[A-Z_]+\b")
 TESTED = re.compile(r"^VF_UNLESS_NULL\((\w+),\s+\(([^)]*)\),\s+([^,]+),\s+\(([^)]*)\)\)", re.MULTILINE)
 TESTED_TWICE = re.compile(
@@ -138,6 +147,23 @@ def faults_of_statuses(header, texts):
             yield f"{name}: the sources have {there.get(name)} and the header has {here.get(name)}"
 
 
+def faults_of_texts(header):
+    """Which statuses have another text than what stands beside them, in another order, or none."""
+    said, texts = SAID.findall(header.partition("};")[0]), TEXT.findall(header)
+    for there, here in itertools.zip_longest(said, texts):
+        if there != here:
+            yield f"{there} stands beside a number, and the text is {here}"
+            return
+
+
+def faults_of_version(header, version):
+    """Whether the header has another version than the list of changes."""
+    first, second, third = map(int, version.split("."))
+    wanted = [(version, str(10000 * first + 100 * second + third))]
+    if VERSION_IN_C.findall(header) != wanted:
+        yield f"the header has the version {VERSION_IN_C.findall(header)} in place of {wanted}"
+
+
 def faults_of_orders(header, exported):
     """Which comments list refusals in another order than that of their numbers, or before what isn't one.
 
@@ -187,14 +213,15 @@ def faults_of_null(header, exported):
             yield f"{name}: with VF_CHECKED the name doesn't lead to {twin}"
 
 
-def compared(header, texts):
-    """All that differs between the text of the header and those of the sources."""
+def compared(header, texts, version):
+    """All that differs between the text of the header and those of the sources, and what it says of the version."""
     try:
         exported = prototypes(texts)
     except Unknown as why:
         return [f"no header has the type {why}"]
     parts = (faults_of_prototypes(header, exported), faults_of_structs(header, texts),
-             faults_of_statuses(header, texts), faults_of_orders(header, exported), faults_of_null(header, exported))
+             faults_of_statuses(header, texts), faults_of_orders(header, exported), faults_of_null(header, exported),
+             faults_of_texts(header), faults_of_version(header, version))
     return [it for part in parts for it in part]
 
 
@@ -204,9 +231,15 @@ def text_of(top):
         return it.read()
 
 
+def version_of(top):
+    """The version that the list of changes names last."""
+    with open(f"{top}/{CHANGES}", encoding="utf-8") as it:
+        return ".".join(VERSION.search(it.read()).groups())
+
+
 def faults(top):
     """All that differs between the header and the sources."""
-    return compared(text_of(top), sources(top))
+    return compared(text_of(top), sources(top), version_of(top))
 
 
 # Slips of the header, each of which must be seen: what stands there, and what would stand there.
@@ -255,16 +288,21 @@ SLIPS = [
     ("VF_NO_ROOM, VF_NO_AREA, VF_TOO_BIG. */", "VF_NO_AREA, VF_TOO_BIG, VF_NO_ROOM. */"),
     ("then VF_EXCESSIVE_SHRINK. */", "after VF_EXCESSIVE_SHRINK, VF_BAD_LENGTH. */"),
     ("#define vf_desk_poll vf_desk_poll_unless_null\n", ""),
+    ('text(VF_BAD_LINK, "a link', 'text(VF_BAD_LINK, "no link'),
+    ('    text(VF_NO_AREA, "no area has the number")', ""),
+    ('text(VF_OPEN, "the desk is open already")', 'text(VF_CLOSED, "the desk is open already")'),
+    ('#define VF_VERSION "', '#define VF_VERSION "1'),
+    ("#define VF_VERSION_NUMBER 1", "#define VF_VERSION_NUMBER 2"),
 ]
 
 
 def unseen_slips(top):
     """The slips that the comparison doesn't see, and those that can't be made."""
-    header, texts = text_of(top), sources(top)
+    header, texts, version = text_of(top), sources(top), version_of(top)
     for old, new in SLIPS:
         if old not in header:
             yield f"no slip can be made of: {old}"
-        elif not compared(header.replace(old, new, 1), texts):
+        elif not compared(header.replace(old, new, 1), texts, version):
             yield f"unseen in place of '{old}': {new}"
 
 

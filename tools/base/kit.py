@@ -42,9 +42,7 @@ _RTLIB = _taken(_RT, "rtlib", "bin/rt")
 KIT = _taken(_RTLIB, "KIT", "bin/rtlib.py")
 _BODIES = _load("rt_plant_bodies", f"{KIT}/bin/rt-plant-bodies")
 
-# bin/rt: a check of a copy of a crate with edited texts, over a folder that keeps what was proved.
-checked = _taken(_RT, "checked", "bin/rt")
-# Runs tasks side by side, each once those that it waits for have ended; the gigabytes that a check takes.
+# bin/rt: runs tasks side by side, each once those that it waits for have ended; the gigabytes that a check takes.
 in_lanes = _taken(_RT, "in_lanes", "bin/rt")
 need = _taken(_RT, "need", "bin/rt")
 processors = _taken(_RT, "processors", "bin/rt")
@@ -53,7 +51,11 @@ read_edit = _taken(_RT, "read_edit", "bin/rt")
 unread = _taken(_RT, "unread", "bin/rt")
 _Crate = _taken(_RT, "Crate", "bin/rt")
 _handles_of = _taken(_RT, "handles_of", "bin/rt")
-# bin/rtlib.py: the files of a crate's src/, specs/ and proofs/; the text of a file, if it is there.
+# bin/rtlib.py: the prover; the folders that it reads of a crate; the words before a command that ends when we end.
+RATTLE = _taken(_RTLIB, "RATTLE", "bin/rtlib.py")
+PARTS = _taken(_RTLIB, "PARTS", "bin/rtlib.py")
+guarded = _taken(_RTLIB, "guarded", "bin/rtlib.py")
+# The files of a crate's src/, specs/ and proofs/; the text of a file, if it is there.
 files_of = _taken(_RTLIB, "files_of", "bin/rtlib.py")
 text_of = _taken(_RTLIB, "text_of", "bin/rtlib.py")
 # The folder of crates.txt above a crate; keeps other calls of rt out of the crates' folders.
@@ -62,7 +64,6 @@ lock = _taken(_RTLIB, "lock", "bin/rtlib.py")
 # What a check says where it can't use the kept work of a library.
 STALE = _taken(_RTLIB, "STALE", "bin/rtlib.py")
 _crates_below = _taken(_RTLIB, "crates_below", "bin/rtlib.py")
-_guarded = _taken(_RTLIB, "guarded", "bin/rtlib.py")
 # bin/rt-plant-bodies: reads the functions of a crate.
 Source = _taken(_BODIES, "Source", "bin/rt-plant-bodies")
 # What the tools ask of a crate.
@@ -76,7 +77,7 @@ def crates_of(top):
     _Crate.allowed = _handles_of(top)
     _RTLIB.Crate = _Crate
     # The first call sets a signal's handler, which only the main thread may.
-    _guarded()
+    guarded()
     return _crates_below(top)
 
 

@@ -20,7 +20,7 @@ class Said:
 
     def __init__(self, crate, ran, texts):
         self.crate, self.text, self.texts = crate, ran.stdout, texts
-        self.status = ran.returncode
+        self.status, self.seconds = ran.returncode, ran.seconds
         self.lines, self.notes = _functions(self.text)
         self.errors = [it for it in ERROR.findall(self.text) if not NAMES.search(it[2])]
 
@@ -53,6 +53,10 @@ class Said:
             return False
         # A closure's name has the function's behind a word `fn`, and then its own.
         return function.is_called(inner) or inner[:1] == ["fn"] and function.is_called(inner[1:-1])
+
+    def seconds_of(self, functions):
+        """The seconds of a processor that these functions and the closures in them took."""
+        return sum(self.seconds.get(symbol, 0) for it in functions for symbol in self.symbols(it))
 
     def goals(self, symbol):
         """The goals of this function's own that were refused: those of its proof's files, and those without a proof."""

@@ -57,6 +57,7 @@ def parts_of(top, build, is_dist):
         Part("sheets", [f"{top}/bin/look", f"{top}/examples"]),
         *pages,
         Part("library", [f"{tests}library", build.library]),
+        Part("ports", [f"{tests}ports", build.library]),
         Part("memory", [f"{tests}program", build.program, "memory"]),
         Part("lessons", [f"{top}/bin/look", f"{top}/examples/lessons"]),
         Part("rows", [f"{tests}rows", build.program]),

@@ -3,6 +3,7 @@
 The verdicts on a crate whose edits were all refused are kept on this machine (`kept`), and aren't reached again.
 """
 
+import re
 import sys
 import tempfile
 import threading
@@ -11,21 +12,27 @@ import edit as edits_of
 import kept
 import kit
 import libraries
+import timed
+import twins
 from said import Said
 
 PRINTING = threading.Lock()
 # The tools that judge: verdicts are kept under a sum of them too.
-JUDGES = ("edit", "heads", "libraries", "said", "trial")
+JUDGES = ("edit", "heads", "libraries", "said", "timed", "trial", "twins")
 ANEW = "--anew"
-# How a line that is kept begins, where an edit was refused, and what stands between its goals.
-REFUSED, BETWEEN = "refused at ", " "
+DEAREST = "--dearest"
+# How many of the dearest edits are told.
+MOST_TOLD = 20
+# How a verdict begins where an edit was refused, and the line that is kept of it: with all goals, and the seconds.
+REFUSED = "refused at "
+KEPT = re.compile(rf"(.+): {REFUSED}(\S.*) in ([\d.]+) s")
 
 
 class Verdict:
-    """What came of one edit, and the goals of its own at which it was refused."""
+    """What came of one edit, the goals of its own at which it was refused, and the seconds that its functions took."""
 
-    def __init__(self, edit, text, goals=()):
-        self.edit, self.text, self.goals = edit, text, goals
+    def __init__(self, edit, text, goals=(), seconds=0.0):
+        self.edit, self.text, self.goals, self.seconds = edit, text, goals, seconds
 
     @property
     def is_well(self):
@@ -33,9 +40,10 @@ class Verdict:
         return bool(self.goals)
 
 
-def refused(edit, goals):
-    """The verdict on an edit that was refused at these goals of its own."""
-    return Verdict(edit, f"{REFUSED}{goals[0]}", goals)
+def refused(edit, goals, seconds):
+    """The verdict on an edit that was refused at these goals of its own, by a check of so many seconds."""
+    goals = [twins.told(it) for it in goals]
+    return Verdict(edit, f"{REFUSED}{goals[0]}", goals, seconds)
 
 
 class Trial:
@@ -50,10 +58,10 @@ class Trial:
         """Checks the crate with these edits, or only these functions of it."""
         texts = edits_of.applied(self.crate.folder, edits)
         only = [word for it in functions for word in ("--only", it.ending())]
-        ran = kit.checked(self.crate, texts, ["--allow-holes", *only, "--jobs", str(self.jobs)], self.kept)
+        ran = timed.checked(self.crate, texts, ["--allow-holes", *only, "--jobs", str(self.jobs)], self.kept)
         if ran.returncode < 0:
             # It was killed, most likely for memory.
-            ran = kit.checked(self.crate, texts, ["--allow-holes", *only, "--jobs", "1"], self.kept)
+            ran = timed.checked(self.crate, texts, ["--allow-holes", *only, "--jobs", "1"], self.kept)
         return Said(self.crate, ran, texts)
 
     def check_group(self, group, beside):
@@ -86,7 +94,7 @@ class Trial:
             said = self.check(group, ring)
             goals = [] if said.fault() else said.all_goals()
             if goals:
-                return [refused(group[0], goals)]
+                return [refused(group[0], goals, said.seconds_of(ring))]
         return []
 
     def judge(self, group, beside=()):
@@ -113,7 +121,7 @@ class Trial:
         """What the check says of one edit of its group: the goals of others refuse no edit outside of functions."""
         own = refused_at(said, edit, others)
         if own:
-            return refused(edit, own)
+            return refused(edit, own, said.seconds_of(edit.functions))
         if not is_alone:
             return self.judge([edit])[0]
         elsewhere = said.all_goals()
@@ -151,7 +159,8 @@ def tried(crate, jobs):
     total = kept.of_verdicts(crate, JUDGES)
     edits, bad = edits_of.read_edits(crate)
     with tempfile.TemporaryDirectory(prefix="wrong-bodies-") as folder:
-        trial = Trial(crate, folder, jobs)
+        laid, edits = twins.lay_out(crate, edits, f"{folder}/crate")
+        trial = Trial(laid, f"{folder}/kept", jobs)
         verdicts = sorted(trial.judge_all(edits_of.grouped(edits)), key=lambda it: it.edit.name)
     lines = [f"{crate.name}/{it}" for it in bad]
     lines += [f"{crate.name}/{it.edit.name}: {it.text}" for it in verdicts]
@@ -165,17 +174,32 @@ def tried(crate, jobs):
 
 
 def kept_line(verdict):
-    """The line that is kept of a verdict: all goals at which the edit was refused."""
-    return f"{verdict.edit.name}: {REFUSED}{BETWEEN.join(verdict.goals)}"
+    """The line that is kept of a verdict."""
+    return f"{verdict.edit.name}: {REFUSED}{' '.join(verdict.goals)} in {verdict.seconds:.1f} s"
+
+
+def kept_of(crate):
+    """What is kept of the crate as it is: each edit with its goals and seconds, or nothing unless it is whole."""
+    lines = kept.lines_of(crate.name, kept.of_verdicts(crate, JUDGES)) or [""]
+    names = sorted(it.removesuffix(edits_of.ENDING) for it in edits_of.names_of(crate))
+    told = [it.groups() for it in map(KEPT.fullmatch, lines[:-1]) if it]
+    is_whole = [name for name, *_ in told] == names and lines[-1] == last_line(len(names))
+    return [(name, goals.split(), float(seconds)) for name, goals, seconds in told] if is_whole else []
 
 
 def recalled(crate):
-    """The count of verdicts that are kept of the crate as it is, or None: the last line says that they are all."""
-    lines = kept.lines_of(crate.name, kept.of_verdicts(crate, JUDGES)) or [""]
-    names = sorted(it.removesuffix(edits_of.ENDING) for it in edits_of.names_of(crate))
-    told = [name for name, mark, goals in (it.partition(f": {REFUSED}") for it in lines[:-1]) if goals]
-    is_whole = told == names and lines[-1] == last_line(len(names))
-    return Count(len(names), len(names), is_kept=True) if is_whole else None
+    """The count of verdicts that are kept of the crate as it is, or None."""
+    found = kept_of(crate)
+    return Count(len(found), len(found), is_kept=True) if found else None
+
+
+def tell_dearest(crates):
+    """Tells the edits whose functions took the most seconds, of all crates whose verdicts are kept."""
+    told = [(seconds, crate.name, name, goals) for crate in crates for name, goals, seconds in kept_of(crate)]
+    for seconds, crate, name, goals in sorted(told, reverse=True)[:MOST_TOLD]:
+        print(f"{seconds:6.1f} s {crate}/{name}: {' '.join(goals)}")
+    print(f"{sum(seconds for seconds, *_ in told):.0f} seconds in the functions of {len(told)} kept verdicts")
+    return 0
 
 
 def last_line(count):
@@ -206,13 +230,15 @@ def tasks_of(crates):
 
 def main(top, words):
     """Tries the edits of the crates with these names, or of all, and gives the exit status."""
-    names = [it for it in words if it != ANEW]
+    names = [it for it in words if it not in (ANEW, DEAREST)]
     crates = kit.crates_of(top)
     unknown = set(names) - {it.name for it in crates}
     if unknown:
         print(f"wrong-bodies: no such crate: {', '.join(sorted(unknown))}", file=sys.stderr)
         return 2
     chosen = [it for it in crates if edits_of.names_of(it) and (not names or it.name in names)]
+    if DEAREST in words:
+        return tell_dearest(chosen)
     counts = {} if ANEW in words else {it: count for it in chosen if (count := recalled(it))}
     left = [it for it in chosen if it not in counts]
     for it in counts:

@@ -1,0 +1,88 @@
+"""The library where programs look for it: header, archive, shared library, files for pkg-config and CMake, shims."""
+
+import glob
+import os
+import re
+import shutil
+import sys
+
+import archive
+
+# Where everything goes where no word says so.
+PREFIX = "/usr/local"
+WORDS = ("PREFIX", "DESTDIR")
+NAME = archive.NAME
+SHARE = f"share/{NAME}"
+CMAKE = f"lib/cmake/{NAME}"
+# What pkg-config and CMake read is made of these.
+PACKAGE, CONFIG, CONFIG_VERSION = f"c/{NAME}.pc.in", f"c/{NAME}-config.cmake", f"c/{NAME}-config-version.cmake.in"
+PLACES = {"LIBDIR": "${prefix}/lib", "INCLUDEDIR": "${prefix}/include"}
+VERSION = re.compile(r'^#define VF_VERSION "(.*)"$', re.MULTILINE)
+
+
+class Refused(Exception):
+    """Why nothing is installed."""
+
+
+def copies(top, folder):
+    """What is copied as it is: where it goes below the prefix, and where it stands."""
+    made = {
+        f"include/{NAME}.h": f"{folder}/{NAME}.h",
+        f"lib/lib{NAME}.a": archive.path(folder),
+        f"lib/{archive.SHARED}": archive.shared(folder),
+        f"{CMAKE}/{NAME}-config.cmake": f"{top}/{CONFIG}",
+        f"{SHARE}/python/{NAME}.py": f"{top}/python/{NAME}.py",
+    }
+    for it in glob.glob(f"{top}/c/acorn/*.[ch]"):
+        made[f"{SHARE}/acorn/{os.path.basename(it)}"] = it
+    for it in glob.glob(f"{top}/LICENSE*"):
+        made[f"share/doc/{NAME}/{os.path.basename(it)}"] = it
+    return made
+
+
+def version_in(folder):
+    """The version of the header in a folder."""
+    with open(f"{folder}/{NAME}.h", encoding="utf-8") as it:
+        return VERSION.search(it.read())[1]
+
+
+def install(top, folder, prefix, destdir=""):
+    """Puts all of it below the prefix, and that below another folder where one is named; gives the paths from there."""
+    if not os.path.isabs(prefix):
+        raise Refused(f"PREFIX is {prefix}, and has to begin with /")
+    made, to = copies(top, folder), f"{destdir}{prefix}"
+    lost = sorted(it for it in made.values() if not os.path.isfile(it))
+    if lost:
+        raise Refused(f"{lost[0]} isn't there")
+    for name, source in made.items():
+        os.makedirs(os.path.dirname(f"{to}/{name}"), exist_ok=True)
+        shutil.copyfile(source, f"{to}/{name}")
+        os.chmod(f"{to}/{name}", 0o755 if name.endswith(archive.SHARED) else 0o644)
+    words = dict(PLACES, PREFIX=prefix, VERSION=version_in(folder))
+    package, version = f"lib/pkgconfig/{NAME}.pc", f"{CMAKE}/{NAME}-config-version.cmake"
+    os.makedirs(f"{to}/lib/pkgconfig", exist_ok=True)
+    archive.write_package(f"{top}/{PACKAGE}", f"{to}/{package}", words)
+    archive.write_package(f"{top}/{CONFIG_VERSION}", f"{to}/{version}", words)
+    link = f"lib/lib{NAME}.so"
+    if os.path.lexists(f"{to}/{link}"):
+        os.remove(f"{to}/{link}")
+    os.symlink(archive.SHARED, f"{to}/{link}")
+    return sorted([*made, package, version, link])
+
+
+def main(top, words):
+    """Installs what dist/lib or, with `--built`, lib/ has, by words and the environment; gives the exit status."""
+    is_built = words[:1] == ["--built"]
+    folder = f"{top}/{'lib' if is_built else 'dist/lib'}"
+    given = dict(it.split("=", 1) for it in words if it.partition("=")[0] in WORDS)
+    if len(given) != len(words) - is_built:
+        print(f"clib: install takes --built, PREFIX=.. and DESTDIR=.., and not {' '.join(words)}", file=sys.stderr)
+        return 2
+    prefix, destdir = (given.get(it, os.environ.get(it, "")) for it in WORDS)
+    try:
+        paths = install(top, folder, (prefix or PREFIX).rstrip("/"), destdir)
+    except (OSError, Refused) as why:
+        print(f"clib: {why}", file=sys.stderr)
+        return 1
+    print(f"clib: {len(paths)} files below {destdir}{prefix or PREFIX}")
+    return 0

@@ -1,0 +1,273 @@
+"""Programs over the library as it is installed, in a folder of its own: in C and C++, by each compiler that is there,
+with the archive and with the shared library, by pkg-config and by CMake; and the calls from Python."""
+
+import concurrent.futures
+import filecmp
+import glob
+import importlib.util
+import os
+import re
+import shutil
+import subprocess
+import sys
+import tempfile
+import textwrap
+
+import archive
+import cinstall
+import ctests
+import header
+import outcome
+
+PREFIX = "/opt/of-a-port"
+# The compilers, and of each language the standards in which the header is tried.
+COMPILERS = {"gcc": "c", "clang": "c", "g++": "c++", "clang++": "c++"}
+STANDARDS = {"c": ["c89", "c99", "c11", "c17"], "c++": ["c++98", "c++11", "c++17", "c++20"]}
+# C89 has no bool: clang says that in pedantic words.
+STRICT = {"c": [*ctests.STRICT, "-pedantic", "-Wno-c99-extensions"],
+          "c++": [*ctests.STRICT, "-pedantic", "-Wold-style-cast"]}
+WARNED = ["-Wall", "-Wextra", "-Werror", "-O2"]
+SAID = "c/tests/said.c"
+# What a port adds to its own sources: the shims.
+SHIMS = f"share/{archive.NAME}/acorn"
+PYTHON = f"share/{archive.NAME}/python/{archive.NAME}.py"
+PASSED = re.compile(r"^(\d+) passed and 0 failed\.$", re.MULTILINE)
+# The first program of the page for C, and what it prints.
+PAGE = "docs/C.md"
+PROGRAM = re.compile(r"^## A first program\n\n((?:(?: {4}.*)?\n)+)It prints:\n\n((?: {4}.*\n)+)", re.MULTILINE)
+CMAKE = """\
+cmake_minimum_required(VERSION 3.13)
+project(port C)
+find_package(vervainfile {version} REQUIRED)
+add_executable(letter {top}/c/examples/letter.c)
+target_link_libraries(letter vervainfile::vervainfile)
+add_executable(names {top}/c/examples/names.c)
+target_link_libraries(names vervainfile::static)
+add_executable(pages {top}/c/examples/pages.c)
+target_link_libraries(pages vervainfile::acorn)
+"""
+IN_CMAKE = ("letter", "names", "pages")
+# Versions that find_package() must be given, and those that it must not.
+FITS, DIFFERS = ("1", "1.0.0"), ("0.9", "1.0.1", "1.2", "2")
+# The kinds of python's table by the types of C.
+KINDS = {"size_t": "z", "ptrdiff_t": "d", "uint32_t": "u", "int32_t": "i", "bool": "b"}
+NUMBERS = {"DID": "VF_DID_", "STATES": "VF_RECORD_"}
+
+
+class Port(ctests.Suite):
+    """A suite over an installed library: `root` is the prefix as it lies below another folder."""
+
+    def __init__(self, top, folder, work):
+        super().__init__(top, folder, work)
+        self.dest, self.root, self.lacking = f"{work}/dest", f"{work}/dest{PREFIX}", []
+
+    def has(self, program, what):
+        """Whether the machine has a program; else what is left out is noted."""
+        if not shutil.which(program):
+            self.lacking.append(f"{program}: isn't installed, {what} left out")
+        return bool(shutil.which(program))
+
+    def fails(self, what, words, **how):
+        """Counts a command that must not go well."""
+        ran = subprocess.run(words, capture_output=True, timeout=ctests.LONGEST, cwd=self.top, check=False, **how)
+        self.is_true(f"{what} goes well", ran.returncode != 0)
+
+
+def examples(top):
+    """The examples that print what stands beside them."""
+    return sorted(ctests.stem(it) for it in glob.glob(f"{top}/c/examples/*.out"))
+
+
+def prints(port, what, name, words, **how):
+    """Whether an example prints what stands beside it."""
+    with open(f"{port.top}/c/examples/{name}.out", "rb") as it:
+        port.is_true(f"{what} prints what stands beside it", port.ran(what, words, **how) == it.read())
+
+
+def try_install(port):
+    """All files are where they belong, twice over, and nothing else is; what can't be done is said."""
+    paths = cinstall.install(port.top, port.folder, PREFIX, port.dest)
+    port.is_true("a second install gives the same", cinstall.install(port.top, port.folder, PREFIX, port.dest) == paths)
+    found = [os.path.relpath(os.path.join(at, it), port.root) for at, _, files in os.walk(port.dest) for it in files]
+    port.is_true("other files are installed than are told", sorted(found) == paths)
+    port.is_true("a file is lacking", {"include/vervainfile.h", "lib/libvervainfile.a", "lib/libvervainfile.so.1",
+                                       "lib/libvervainfile.so", "lib/pkgconfig/vervainfile.pc", f"{SHIMS}/flex.c",
+                                       f"{SHIMS}/osheap.h", PYTHON, "share/doc/vervainfile/LICENSE"} <= set(paths))
+    for name in ("lib/libvervainfile.a", "lib/libvervainfile.so.1", "include/vervainfile.h"):
+        one, other = f"{port.root}/{name}", f"{port.folder}/{os.path.basename(name)}"
+        port.is_true(f"{name} is another", filecmp.cmp(one, other, shallow=False))
+    for prefix, folder in (("opt", port.folder), (PREFIX, port.work)):
+        try:
+            cinstall.install(port.top, folder, prefix, f"{port.work}/not")
+            port.is_true(f"{prefix} of {folder} is installed", False)
+        except cinstall.Refused:
+            port.is_true("a refused install leaves files", not os.path.exists(f"{port.work}/not"))
+
+
+def try_command(port):
+    """The command installs dist/lib without the kit, and says what it doesn't understand."""
+    command, plain = [sys.executable, f"{port.top}/bin/clib", "install"], dict(os.environ, PATH="/usr/bin:/bin")
+    port.ran("bin/clib install", [*command, "PREFIX=/usr", f"DESTDIR={port.work}/by-words"], env=plain)
+    port.is_true("bin/clib install by words", os.path.isfile(f"{port.work}/by-words/usr/include/vervainfile.h"))
+    port.ran("bin/clib install", command, env=dict(plain, DESTDIR=f"{port.work}/by-environment"))
+    there = f"{port.work}/by-environment/usr/local/lib/libvervainfile.so"
+    port.is_true("bin/clib install by the environment", os.path.isfile(there) and os.path.islink(there))
+    for words in (["PREFX=/usr"], ["PREFIX=usr"], ["--build"]):
+        port.fails(f"bin/clib install {words[0]}", [*command, *words], env=dict(plain, DESTDIR=f"{port.work}/no"))
+    port.is_true("a refused install leaves files", not os.path.exists(f"{port.work}/no"))
+
+
+def try_names(port):
+    """The archive and the shared library give the names of the header alone, also linked whole without a list."""
+    made, wanted = f"{port.work}/whole.so", set(header.exports(port.top))
+    whole = ["-Wl,--whole-archive", archive.path(port.folder), "-Wl,--no-whole-archive"]
+    port.ran("linking the archive whole", [*archive.compiler(), "-shared", *whole, "-o", made])
+    for it in (made, f"{port.root}/lib/{archive.SHARED}"):
+        given = {name for name in archive.symbols(it, "-D", "--defined-only") if not name.startswith("VERVAINFILE_")}
+        port.is_true(f"{os.path.basename(it)} gives {sorted(given ^ wanted)[:1]}", given == wanted)
+
+
+def flags_of(port):
+    """What pkg-config says of compiling and linking, seen below the other folder; by hand where it isn't there."""
+    by_hand = [f"-I{port.root}/include"], [f"-L{port.root}/lib", f"-l{archive.NAME}"]
+    if not port.has("pkg-config", "flags of pkg-config"):
+        return by_hand
+    how = {"env": dict(os.environ, PKG_CONFIG_PATH=f"{port.root}/lib/pkgconfig", PKG_CONFIG_SYSROOT_DIR=port.dest)}
+    told = [(port.ran("pkg-config", ["pkg-config", it, archive.NAME], **how) or b"").decode().split()
+            for it in ("--cflags", "--libs")]
+    port.is_true(f"pkg-config says {told}", told == list(by_hand))
+    asked = {"--modversion": header.version_of(port.top), "--variable=prefix": PREFIX,
+             "--variable=libdir": f"{PREFIX}/lib", "--variable=includedir": f"{PREFIX}/include"}
+    del how["env"]["PKG_CONFIG_SYSROOT_DIR"]
+    for word, wanted in asked.items():
+        said = port.ran("pkg-config", ["pkg-config", word, archive.NAME], **how) or b""
+        port.is_true(f"pkg-config {word} says {said}", said.decode().strip() == wanted)
+    return told
+
+
+def try_example(port, compiler, name, compiling, linking):
+    """An example by one compiler, over the archive and over the shared library."""
+    language, what = COMPILERS[compiler], f"{name} by {compiler}"
+    standard = {"c": "c99", "c++": "c++11"}[language]
+    shims = [it for it in sorted(glob.glob(f"{port.root}/{SHIMS}/*.c"))]
+    sources = ["-x", language, f"c/examples/{name}.c", *shims, "-x", "none"]
+    flags = [f"-std={standard}", *WARNED, *compiling, f"-I{port.root}/{SHIMS}"]
+    for kind, words in (("static", [f"{port.root}/lib/lib{archive.NAME}.a"]), ("shared", linking)):
+        made = f"{port.work}/{name}-{compiler}-{kind}"
+        if port.ran(f"{what}, {kind}", [compiler, *flags, *sources, *words, "-o", made]) is not None:
+            there = dict(os.environ, LD_LIBRARY_PATH=f"{port.root}/lib" if kind == "shared" else port.work)
+            prints(port, f"{what}, {kind}", name, [made], env=there)
+            if kind == "shared":
+                port.fails(f"{what} without the shared library", [made], env=dict(there, LD_LIBRARY_PATH=port.work))
+
+
+def try_standard(port, compiler, standard, compiling):
+    """What the header itself says, in one standard of a language."""
+    language = COMPILERS[compiler]
+    what, made = f"the header as {standard} by {compiler}", f"{port.work}/said-{compiler}-{standard}"
+    words = [compiler, f"-std={standard}", *STRICT[language], *compiling, "-x", language, SAID, "-x", "none",
+             f"{port.root}/lib/lib{archive.NAME}.a", "-o", made]
+    if port.ran(what, words) is not None:
+        port.ran(what, [made])
+
+
+def try_page(port, compiling):
+    """The program at the head of the page for C prints what stands behind it."""
+    with open(f"{port.top}/{PAGE}", encoding="utf-8") as it:
+        program, said = PROGRAM.search(it.read()).groups()
+    source, made = f"{port.work}/first.c", f"{port.work}/first"
+    with open(source, "w", encoding="utf-8") as it:
+        it.write(textwrap.dedent(program))
+    words = [*archive.compiler(), "-std=c99", *WARNED, *compiling, source, f"{port.root}/lib/lib{archive.NAME}.a"]
+    if port.ran("the program of the page", [*words, "-o", made]) is not None:
+        port.is_true("the page says what it prints", port.ran(made, [made]) == textwrap.dedent(said).encode())
+
+
+def try_cmake(port):
+    """A project that finds the package builds over all three of its targets; no other version is found."""
+    if not port.has("cmake", "a project of CMake"):
+        return
+    for version in (*FITS, *DIFFERS):
+        folder = f"{port.work}/cmake-{version}"
+        os.mkdir(folder)
+        with open(f"{folder}/CMakeLists.txt", "w", encoding="utf-8") as it:
+            it.write(CMAKE.format(version=version, top=port.top))
+        words = ["cmake", "-S", folder, "-B", f"{folder}/made", f"-DCMAKE_PREFIX_PATH={port.root}"]
+        if version in DIFFERS:
+            port.fails(f"finding version {version}", words)
+        else:
+            port.ran(f"finding version {version}", words)
+    folder = f"{port.work}/cmake-{FITS[0]}/made"
+    if port.ran("building by CMake", ["cmake", "--build", folder]) is not None:
+        for name in IN_CMAKE:
+            prints(port, f"{name} by CMake", name, [f"{folder}/{name}"])
+
+
+def kinds_of(prototype):
+    """What python's table has to say of a call."""
+    words = header.PROTOTYPE.match(prototype)[3].split(",")
+    return "".join("p" if "*" in it else KINDS[it.split()[0]] for it in words)
+
+
+def tables(port):
+    """The tables of the module for Python, as it stands over the installed library."""
+    os.environ["VERVAINFILE_LIBRARY"] = f"{port.root}/lib/{archive.SHARED}"
+    spec = importlib.util.spec_from_file_location(archive.NAME, f"{port.root}/{PYTHON}")
+    module = importlib.util.module_from_spec(spec)
+    spec.loader.exec_module(module)
+    del os.environ["VERVAINFILE_LIBRARY"]
+    return module
+
+
+def try_python(port):
+    """The examples in the module and in the lessons hold, and its tables are those of the header."""
+    how = {"env": dict(os.environ, PYTHONPATH=os.path.dirname(f"{port.root}/{PYTHON}"), PYTHONDONTWRITEBYTECODE="1")}
+    for path in (f"{port.root}/{PYTHON}", "docs/LESSONS.md"):
+        said = port.ran(path, [sys.executable, "-m", "doctest", "-v", path], **how) or b""
+        passed = PASSED.search(said.decode())
+        port.is_true(f"{path} has examples that hold", passed and int(passed[1]) > 1)
+    module, text = tables(port), header.text_of(port.top)
+    numbers = dict(header.NUMBER.findall(text))
+    statuses = header.SAID.findall(text.partition("};")[0])
+    said = {int(numbers[name]): (name.removeprefix("VF_"), text) for name, text in statuses}
+    port.is_true("the statuses for Python are others", said == module.STATUSES)
+    exported = header.prototypes(header.sources(port.top))
+    wanted = {name: kinds_of(exported[name][0]) for name in module.CALLS.keys() & exported.keys()}
+    wrong = sorted(dict(wanted.items() ^ module.CALLS.items()))
+    port.is_true(f"the calls for Python differ: {wrong}", not wrong)
+    left = {it for it in exported if it.startswith("vf_desk_")} - module.CALLS.keys()
+    port.is_true(f"calls on a desk are lacking for Python: {sorted(left)}", not left)
+    for table, prefix in NUMBERS.items():
+        wanted = sorted((int(number), name.removeprefix(prefix).lower()) for name, number in numbers.items()
+                        if name.startswith(prefix))
+        port.is_true(f"{table} for Python is another", list(enumerate(getattr(module, table))) == wanted)
+
+
+def run_all(port):
+    """All of it, as many side by side as there are processors."""
+    try_install(port)
+    compiling, linking = flags_of(port)
+    there = [it for it in COMPILERS if port.has(it, f"programs by {it}")]
+    with concurrent.futures.ThreadPoolExecutor(os.cpu_count()) as pool:
+        calls = [pool.submit(try_example, port, it, name, compiling, linking)
+                 for it in there for name in examples(port.top)]
+        calls += [pool.submit(try_standard, port, it, standard, compiling)
+                  for it in there for standard in STANDARDS[COMPILERS[it]]]
+        calls.append(pool.submit(try_page, port, compiling))
+        calls += [pool.submit(it, port) for it in (try_command, try_names, try_cmake, try_python)]
+    for it in calls:
+        it.result()
+
+
+def test(top, folder):
+    """Installs the library of a folder and tries programs over it; gives the exit status."""
+    missing = archive.missing()
+    if missing:
+        print(f"{missing[0]}: isn't installed, programs over the installed library left out")
+        return outcome.NOT_RUN
+    with tempfile.TemporaryDirectory(prefix="cports-") as work:
+        port = Port(top, os.path.abspath(folder), work)
+        run_all(port)
+    for it in [*port.wrong, *port.lacking]:
+        print(it)
+    return outcome.told("programs over the installed library", port.tried, len(port.wrong))
