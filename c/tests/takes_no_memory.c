@@ -197,6 +197,75 @@ static void slots_take_none(const struct flex_calls *flex)
     expect_both(0, FLEX_CALLS);
 }
 
+/* Events on a sender, each told how its action ended: done, and refused. */
+static void senders_take_none(void)
+{
+    struct vf_sender sender;
+    struct vf_send_action action;
+    struct vf_part part;
+    bool is_so;
+    EXPECT(vf_sender_start(&sender) == VF_OK);
+    for (uint32_t id = 1; id < 100; id += 10) {
+        EXPECT(vf_sender_offer(&sender, id, 2, 5) == VF_OK);
+        EXPECT(vf_sender_is_source(&sender, 5, &is_so) == VF_OK && is_so);
+        EXPECT(vf_sender_on_fetch(&sender, 2, id + 1, id, 0x8114, 8, &action) == VF_OK);
+        EXPECT(vf_sender_part(&action, 8, &part) == VF_OK);
+        EXPECT(vf_sender_sent(&sender, &action, 8, id + 2) == VF_OK);
+        EXPECT(vf_sender_sent(&sender, &action, 8, id + 2) == VF_NOT_OPEN);
+        EXPECT(vf_sender_on_bounce(&sender, id + 2, &is_so) == VF_OK && is_so);
+        EXPECT(vf_sender_offer(&sender, id + 3, 2, 5) == VF_OK);
+        EXPECT(vf_sender_on_ack(&sender, 2, id + 4, id + 3, &action) == VF_OK);
+        EXPECT(vf_sender_saved(&sender, &action, id + 5) == VF_OK);
+        EXPECT(vf_sender_on_load_ack(&sender, 2, id + 5, &action) == VF_OK);
+        EXPECT(vf_sender_loaded(&sender, &action, 8) == VF_OK);
+        EXPECT(vf_sender_failed(&sender, &action) == VF_NOT_OPEN);
+        EXPECT(vf_sender_cancel(&sender, 0) == VF_NOT_OPEN);
+    }
+}
+
+/* The same on a receiver. */
+static void receivers_take_none(void)
+{
+    struct vf_receiver receiver;
+    struct vf_take_action action;
+    struct vf_fetch fetch;
+    bool is_so;
+    EXPECT(vf_receiver_start(&receiver) == VF_OK);
+    for (uint32_t id = 1; id < 100; id += 10) {
+        EXPECT(vf_receiver_on_save(&receiver, false, 1, id, &action) == VF_OK);
+        EXPECT(vf_receiver_first_fetch(&action, 0x8114, 8, &fetch) == VF_OK);
+        EXPECT(vf_receiver_fetching(&receiver, &action, 7, 0x8114, id + 1) == VF_OK);
+        EXPECT(vf_receiver_is_document(&receiver, 7, &is_so) == VF_OK && is_so);
+        EXPECT(vf_receiver_is_buffer(&receiver, 0x8114, &is_so) == VF_OK && is_so);
+        EXPECT(vf_receiver_on_transmit(&receiver, 8, 1, id + 2, id + 1, 0x8114, 8, &action) == VF_OK);
+        EXPECT(vf_receiver_finished(&receiver, &action) == VF_NOT_OPEN);
+        EXPECT(vf_receiver_fetched(&receiver, &action, id + 3) == VF_OK);
+        EXPECT(vf_receiver_on_transmit(&receiver, 8, 1, id + 4, id + 3, 0x8114, 0, &action) == VF_OK);
+        EXPECT(vf_receiver_finished(&receiver, &action) == VF_OK);
+        EXPECT(vf_receiver_on_save(&receiver, false, 1, id + 5, &action) == VF_OK);
+        EXPECT(vf_receiver_fetching(&receiver, &action, 7, 0x8114, id + 6) == VF_OK);
+        EXPECT(vf_receiver_on_bounce(&receiver, id + 6, &action) == VF_OK);
+        EXPECT(vf_receiver_asking(&receiver, &action, id + 7) == VF_OK);
+        EXPECT(vf_receiver_on_load(&receiver, 1, id + 8, id + 7, &action) == VF_OK);
+        EXPECT(vf_receiver_loaded(&receiver, &action, 8) == VF_OK);
+        EXPECT(vf_receiver_failed(&receiver, &action, 0) == VF_NOT_OPEN);
+        EXPECT(vf_receiver_on_ack_bounce(&receiver, id + 7, &is_so) == VF_OK && !is_so);
+        EXPECT(vf_receiver_cancel(&receiver, 0) == VF_NOT_OPEN);
+    }
+}
+
+static void messages_take_none(void)
+{
+    struct vf_message_words words = {.action = 1, .name_length = 3, .name = "doc"};
+    struct vf_message message;
+    uint32_t length;
+    EXPECT(vf_message_encode(&words, &message, &length) == VF_OK);
+    EXPECT(vf_message_decode(message.bytes, length, &words) == VF_OK);
+    EXPECT(vf_message_decode(message.bytes, length - 1, &words) == VF_BAD_LENGTH);
+    words.action = 5;
+    EXPECT(vf_message_encode(&words, &message, &length) == VF_BAD_MESSAGE);
+}
+
 /* The counters count. */
 static void what_is_taken_is_counted(void)
 {
@@ -220,6 +289,9 @@ int main(void)
     mapped_heaps_take_none();
     slots_take_none(&TRUSTING_FLEX);
     slots_take_none(&CHECKED_FLEX);
+    senders_take_none();
+    receivers_take_none();
+    messages_take_none();
     EXPECT(taken == 0);
     taken = 0;
     what_is_taken_is_counted();

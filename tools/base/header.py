@@ -8,7 +8,11 @@ import sys
 import outcome
 
 HEADER = "c/vervainfile.h"
+<<<<<<< HEAD:tools/base/header.py
 SOURCES = ["crates/vf_heap/src/*.rt", "crates/vf_flex/src/*.rt", "crates/vf_desk/src/*.rt",
+=======
+SOURCES = ["crates/vf_heap/src/*.rt", "crates/vf_flex/src/*.rt", "crates/vf_desk/src/*.rt", "crates/vf_ram/src/*.rt",
+>>>>>>> da8bfe0c (Programs in C have the two sides of a transfer and messages as words):tools/header.py
            "crates/rh_flex/src/slot.rt"]
 SUFFIX = "_unless_null"
 NULL = "VF_NULL"
@@ -16,7 +20,10 @@ TYPES = {"u8": "uint8_t", "u16": "uint16_t", "u32": "uint32_t", "u64": "uint64_t
          "usize": "size_t", "isize": "ptrdiff_t", "bool": "bool", "LentSlot": "struct vf_slot",
          "VfDesk": "struct vf_desk", "VfEvent": "struct vf_event", "VfBlock": "struct vf_block",
          "VfSegment": "struct vf_segment", "VfHeapSums": "struct vf_heap_sums", "VfRecord": "struct vf_record",
-         "VfArea": "struct vf_area", "VfMessage": "struct vf_message"}
+         "VfArea": "struct vf_area", "VfMessage": "struct vf_message", "VfSender": "struct vf_sender",
+         "VfOutgoing": "struct vf_outgoing", "VfSendAction": "struct vf_send_action", "VfPart": "struct vf_part",
+         "VfReceiver": "struct vf_receiver", "VfIncoming": "struct vf_incoming", "VfFetch": "struct vf_fetch",
+         "VfTakeAction": "struct vf_take_action", "VfMessageWords": "struct vf_message_words"}
 # What takes no bytes, so that C neither hands it over nor has room for it.
 UNSEEN = "Global"
 # The slice that `len` counts; the length of any other has its name.

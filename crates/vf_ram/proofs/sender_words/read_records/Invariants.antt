@@ -1,0 +1,12 @@
+use Rattle.std.proofs.Common.{◌≡◌, drop}
+use Rattle.arrayvec.specs.ArrayVec.{array_vec_len}
+use Rattle.vf_ram.specs.Places.{all_or_none}
+use Rattle.vf_ram.specs.SenderWords.{outgoing_of}
+use Rattle.vf_ram.proofs.ReadLaws.{behind}
+use Rattle.vf_ram.proofs.sender_words.read_records.Given as goal
+
+-- the words so far were read, and what all of them spell is these and what the rest spells
+abbrev pub invariant-loop-entry : goal.invariant-loop-entry
+invariant-loop-entry l =
+    (array_vec_len l.entries ≡ l.entry-index)
+    × (all_or_none outgoing_of l.words ≡ behind l.entries.items (all_or_none outgoing_of (drop l.entry-index l.words)))
