@@ -8,11 +8,7 @@ import sys
 import outcome
 
 HEADER = "c/vervainfile.h"
-<<<<<<< HEAD:tools/base/header.py
-SOURCES = ["crates/vf_heap/src/*.rt", "crates/vf_flex/src/*.rt", "crates/vf_desk/src/*.rt",
-=======
 SOURCES = ["crates/vf_heap/src/*.rt", "crates/vf_flex/src/*.rt", "crates/vf_desk/src/*.rt", "crates/vf_ram/src/*.rt",
->>>>>>> da8bfe0c (Programs in C have the two sides of a transfer and messages as words):tools/header.py
            "crates/rh_flex/src/slot.rt"]
 SUFFIX = "_unless_null"
 NULL = "VF_NULL"
