@@ -1,7 +1,7 @@
 use Rattle.std.proofs.Common.{refl, arith}
 use Rattle.rh_defs.specs.Memory.{fresh}
 use Rattle.rh_defs.proofs.MemoryLaws.{open_below-fresh, pages-fresh}
-use Rattle.uses_tests.proofs.stores.paged_store.Goals as goal
+use Rattle.uses_rows.proofs.stores.paged_store.Goals as goal
 
 pub returns-clause-areas : goal.returns-clause-areas
 returns-clause-areas c = rw c.in_ok-store.ensures (omega (arith, open_below-fresh 8 70))
