@@ -1,7 +1,7 @@
 use Rattle.std.proofs.Common.{refl}
 use Rattle.rh_defs.specs.Memory.{fresh}
 use Rattle.rh_defs.proofs.MemoryLaws.{pages-fresh}
-use Rattle.desk_tests.proofs.scripts.plain_store.Goals as goal
+use Rattle.script_rows.proofs.forms.plain_store.Goals as goal
 
 pub returns-clause-fresh : goal.returns-clause-fresh
 unfolding fresh
