@@ -26,7 +26,7 @@ pub(crate) const LINES: [(&str, &str); 12] = [
 /// The whole script.
 pub(crate) fn script(alloc: Global) -> Result<Vec<u8>, AllocError> {
     let mut script = Vec::new(alloc);
-    for (line, _reply) in LINES {
+    for (line, _reply) in LINES.iter() {
         script.extend_from_slice(line.as_bytes())?;
     }
     Ok(script)
