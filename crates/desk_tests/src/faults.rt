@@ -1,13 +1,14 @@
-//! Faults of the program: streams that fail, memory that is refused, and words that aren't text.
+//! Faults that no machine gives when it is asked: an input without end, one that fails, files for which memory is refused,
+//! and words that can't be had.
 
+use crate::ends::{Trial, end_of};
 use crate::same::same;
-use crate::words::{all_words, ended_over, is_told};
-use rh_desk::{program, words_unread};
+use arrayvec::ArrayVec;
+use rh_desk::words_unread;
 use rh_lines::Flagged;
-use std::alloc::{AllocError, Allocator, Global};
-use std::fs::{self, File, Metadata, OpenOptions};
-use std::io::{self, Read, Write};
-use std::process::Abort;
+use std::alloc::Allocator;
+use std::fs::{File, Metadata, OpenOptions};
+use std::io::{self, Read};
 use std::rt;
 use std::test::Fail;
 
@@ -32,20 +33,6 @@ struct Broken;
 impl Read for Broken {
     fn read(&mut self, _buf: &mut [u8]) -> io::Result<usize> {
         Err(io::Error::from(io::ErrorKind::Other))
-    }
-}
-
-/// A writer that takes nothing.
-#[derive(Drop)]
-struct Full;
-
-impl Write for Full {
-    fn write(&mut self, _buf: &[u8]) -> io::Result<usize> {
-        Ok(0)
-    }
-
-    fn flush(&mut self) -> io::Result<()> {
-        Ok(())
     }
 }
 
@@ -103,6 +90,9 @@ impl rt::Files for NoMemory {
     }
 }
 
+/// What is told where memory is refused.
+const NO_MEMORY: &str = "rh_desk: no memory\n";
+
 #[test]
 fn want_of_memory_for_a_file_is_told(rt: HostRuntime) -> Result<(), Fail> {
     for words in [
@@ -111,111 +101,33 @@ fn want_of_memory_for_a_file_is_told(rt: HostRuntime) -> Result<(), Fail> {
         ["check", "a.bin"].as_slice(),
         ["check", "--slot", "a.bin"].as_slice(),
     ] {
-        let none = ended_over(&NoMemory, &rt, words, b"areas\n".as_slice())?;
-        is_told(&rt, &none, "rh_desk: no memory\n", 3);
+        let trial = Trial::new(words, "", NO_MEMORY, 3);
+        let all = trial.all_words(rt.alloc())?;
+        let input = b"areas\n".as_slice();
+        trial.meets(&rt, &end_of(&NoMemory, rt.alloc(), all.as_slice(), input));
     }
     Ok(())
 }
 
 #[test]
 fn faults_of_streams_are_told(rt: HostRuntime) -> Result<(), Fail> {
-    let long = "rh_desk: script too long\n";
-    is_told(&rt, &ended_over(&rt, &rt, &[], Endless)?, long, 3);
-    is_told(&rt, &ended_over(&rt, &rt, &["run", "-"], Endless)?, long, 3);
-    let broken = "rh_desk: read failed\n";
-    is_told(&rt, &ended_over(&rt, &rt, &[], Broken)?, broken, 3);
-    is_told(
-        &rt,
-        &ended_over(&rt, &rt, &["run", "-"], Broken)?,
-        broken,
-        3,
-    );
-    Ok(())
-}
-
-/// What the program tells, and its exit status, where its output takes nothing.
-fn told_of_full(rt: &HostRuntime, words: &[&str]) -> Result<(Vec<u8>, u8), AllocError> {
-    let alloc: Global = rt.alloc();
-    let all = all_words(alloc, words)?;
-    let mut errors = Flagged::new(Vec::<u8>::new(alloc));
-    let status = program(
-        rt,
-        alloc,
-        all.as_slice(),
-        &mut Flagged::new(b"areas\n".as_slice()),
-        &mut Flagged::new(Full),
-        &mut errors,
-    );
-    Ok((errors.into_inner(), status))
-}
-
-/// That the output failed was told of these words, and nothing else.
-fn write_failed(rt: &impl Abort, words: &[&str], told: &(Vec<u8>, u8)) {
-    let wanted = b"rh_desk: write failed\n".as_slice();
-    same(rt, (words, told.0.as_slice()), (words, wanted));
-    same(rt, (words, told.1), (words, 3));
-}
-
-#[test]
-fn a_full_output_is_a_fault(rt: HostRuntime) -> Result<(), Fail> {
-    fs::write(&rt, "full.desk", "areas\n")?;
-    for words in [
-        ["run", "-"].as_slice(),
-        ["run", "full.desk"].as_slice(),
-        ["check", "full.desk"].as_slice(),
-        ["check", "--slot", "full.desk"].as_slice(),
-        ["--help"].as_slice(),
-        ["run", "--help"].as_slice(),
-        ["--version"].as_slice(),
-    ] {
-        write_failed(&rt, words, &told_of_full(&rt, words)?);
-    }
-    write_failed(&rt, &[], &told_of_full(&rt, &[])?);
-    fs::remove_file(&rt, "full.desk")?;
-    Ok(())
-}
-
-/// The exit status where nothing can be told.
-fn status_untold(rt: &HostRuntime, words: &[&str], input: &[u8]) -> Result<u8, AllocError> {
-    let alloc: Global = rt.alloc();
-    let all = all_words(alloc, words)?;
-    let status = program(
-        rt,
-        alloc,
-        all.as_slice(),
-        &mut Flagged::new(input),
-        &mut Flagged::new(Vec::<u8>::new(alloc)),
-        &mut Flagged::new(Full),
-    );
-    Ok(status)
-}
-
-#[test]
-fn the_status_is_had_where_nothing_can_be_told(rt: HostRuntime) -> Result<(), Fail> {
-    for (words, wanted) in [
-        ([].as_slice(), 1),
-        (["walk"].as_slice(), 2),
-        (["run", "-", "logo"].as_slice(), 2),
-        (["run", "lost.desk"].as_slice(), 3),
-        (["run", "-", "a=lost.bin"].as_slice(), 3),
-        (["check", "lost.bin"].as_slice(), 3),
-    ] {
-        let status = status_untold(&rt, words, b"tsk\n")?;
-        same(&rt, (words, status), (words, wanted));
+    for words in [[].as_slice(), ["run", "-"].as_slice()] {
+        let long = Trial::new(words, "", "rh_desk: script too long\n", 3);
+        let all = long.all_words(rt.alloc())?;
+        long.meets(&rt, &end_of(&rt, rt.alloc(), all.as_slice(), Endless));
+        let broken = Trial::new(words, "", "rh_desk: read failed\n", 3);
+        broken.meets(&rt, &end_of(&rt, rt.alloc(), all.as_slice(), Broken));
     }
     Ok(())
 }
 
 #[test]
 fn words_that_are_not_text_are_told(rt: HostRuntime) {
-    let mut errors = Flagged::new(Vec::<u8>::new(rt.alloc()));
+    let mut errors = Flagged::new(ArrayVec::<u8, 64>::new());
     let odd = io::Error::from(io::ErrorKind::InvalidData);
     same(&rt, words_unread(&odd, &mut errors), 2);
     let none = io::Error::from(io::ErrorKind::OutOfMemory);
     same(&rt, words_unread(&none, &mut errors), 3);
-    same(
-        &rt,
-        errors.into_inner().as_slice(),
-        b"rh_desk: a word is not text\nrh_desk: no memory\n".as_slice(),
-    );
+    let told = b"rh_desk: a word is not text\nrh_desk: no memory\n";
+    same(&rt, errors.into_inner().as_slice(), told.as_slice());
 }

@@ -1,6 +1,7 @@
 //! A message as a struct of words, with its name as bytes, and back.
 ghost use Rattle.std.specs.Prelude.{◌≡◌, ◌≤◌, length};
-ghost use Rattle.vf_ram.specs.MessageWords.{as_file_words, as_words, as_name, body_in_words, file_in_words, words_about_file, message_of, name_in, no_file, words_about_bytes};
+ghost use Rattle.vf_ram.specs.MessageWords.{as_file_words, as_words, as_name, body_in_words, file_in_words};
+ghost use Rattle.vf_ram.specs.MessageWords.{words_about_file, message_of, name_in, no_file, words_about_bytes};
 ghost use Rattle.rh_defs.specs.Messages.{action_number};
 
 use crate::status::{BAD_ARGUMENT, BAD_MESSAGE};

@@ -23,7 +23,8 @@ pub extern "C" fn vf_message_encode(
     length: &mut u32,
 ) -> u32
     ensures status { result ≡ status_of (message_of words.now) }
-    ensures message { message.new.bytes ≡ shown_or (in_block message.old.bytes) (message_of words.now) message.old.bytes }
+    ensures message { message.new.bytes
+        ≡ shown_or (in_block message.old.bytes) (message_of words.now) message.old.bytes }
     ensures length { length.new ≡ shown_or encoded_length (message_of words.now) length.old }
 {
     match words.read() {

@@ -2,8 +2,12 @@
 ghost use Rattle.std.specs.Prelude.{◌≡◌, [], List};
 ghost use Rattle.rh_defs.specs.Chain.{Granted, outcome_of, result_or};
 ghost use Rattle.rh_defs.specs.declared.transfer.Incoming.{Incoming};
-ghost use Rattle.rh_ram.specs.Told.{tell_fetched as tell_fetched_of, tell_finished as tell_finished_of, tell_failed as tell_failed_of};
-ghost use Rattle.vf_ram.specs.ReceiverCalls.{ack_bounce_told, asking_told, buffer_told, cancel_taking_told, document_told, fetch_bounce_asks, fetched_told, fetching_told, finished_told, first_fetch_told, load_asks, save_asks, taking_failed_told, taking_loaded_told, transmit_asks};
+ghost use Rattle.rh_ram.specs.Told.{tell_fetched as tell_fetched_of, tell_finished as tell_finished_of};
+ghost use Rattle.rh_ram.specs.Told.{tell_failed as tell_failed_of};
+ghost use Rattle.vf_ram.specs.ReceiverCalls.{ack_bounce_told, asking_told, buffer_told, cancel_taking_told};
+ghost use Rattle.vf_ram.specs.ReceiverCalls.{document_told, fetch_bounce_asks, fetched_told, fetching_told};
+ghost use Rattle.vf_ram.specs.ReceiverCalls.{finished_told, first_fetch_told, load_asks, save_asks, taking_failed_told};
+ghost use Rattle.vf_ram.specs.ReceiverCalls.{taking_loaded_told, transmit_asks};
 ghost use Rattle.vf_ram.specs.ReceiverWords.{as_fetch, as_receiver, as_take_action};
 ghost use Rattle.vf_ram.specs.Told.{by_rules as by_rules_of, shown_or, status_of as status_of_told};
 
@@ -76,7 +80,8 @@ pub extern "C" fn vf_receiver_fetching(
     fetch: u32,
 ) -> u32
     ensures status { result ≡ status_of_told (fetching_told receiver.old action.now anchor buffer fetch) }
-    ensures receiver { receiver.new ≡ shown_or as_receiver (fetching_told receiver.old action.now anchor buffer fetch) receiver.old }
+    ensures receiver { receiver.new
+        ≡ shown_or as_receiver (fetching_told receiver.old action.now anchor buffer fetch) receiver.old }
 {
     let told = fetching(receiver, action, anchor, buffer, fetch);
     write(receiver, told)
@@ -111,7 +116,8 @@ pub extern "C" fn vf_receiver_on_transmit(
     action: &mut VfTakeAction,
 ) -> u32
     ensures status { result ≡ status_of_told (transmit_asks receiver.now room from my_ref your_ref buffer n) }
-    ensures action { action.new ≡ shown_or as_take_action (transmit_asks receiver.now room from my_ref your_ref buffer n) action.old }
+    ensures action { action.new
+        ≡ shown_or as_take_action (transmit_asks receiver.now room from my_ref your_ref buffer n) action.old }
 {
     match receiver.read() {
         Ok(known) => {
@@ -185,7 +191,8 @@ fn tell_finished(known: &mut Receiver, action: Append) -> Result<(), Refusal>
     known.finished(&action)
 }
 
-/// The action failed, or ended its transfer, with so many of its bytes kept in the document, and the buffer was released.
+/// The action failed, or ended its transfer, with so many of its bytes kept in the document, and the buffer was
+/// released.
 #[unsafe(no_mangle)]
 pub extern "C" fn vf_receiver_failed(
     receiver: &mut VfReceiver,
@@ -193,7 +200,8 @@ pub extern "C" fn vf_receiver_failed(
     kept: u32,
 ) -> u32
     ensures status { result ≡ status_of_told (taking_failed_told receiver.old action.now kept) }
-    ensures receiver { receiver.new ≡ shown_or as_receiver (taking_failed_told receiver.old action.now kept) receiver.old }
+    ensures receiver { receiver.new
+        ≡ shown_or as_receiver (taking_failed_told receiver.old action.now kept) receiver.old }
 {
     let told = failed(receiver, action, kept);
     write(receiver, told)
@@ -308,7 +316,8 @@ pub extern "C" fn vf_receiver_loaded(
     size: u32,
 ) -> u32
     ensures status { result ≡ status_of_told (taking_loaded_told receiver.old action.now size) }
-    ensures receiver { receiver.new ≡ shown_or as_receiver (taking_loaded_told receiver.old action.now size) receiver.old }
+    ensures receiver { receiver.new
+        ≡ shown_or as_receiver (taking_loaded_told receiver.old action.now size) receiver.old }
 {
     let told = loaded(receiver, action, size);
     write(receiver, told)
@@ -396,7 +405,8 @@ fn show(asked: Option<TakeAction>, action: &mut VfTakeAction) -> u32
 
 /// A receiver behind a call of rh_ram that was done or refused.
 fn told(known: Receiver, ended: Result<(), Refusal>) -> Result<Receiver, u32>
-    ensures { (granted : Granted (List Incoming)) (old : List Incoming) → ended ≡ outcome_of granted → known ≡ result_or old granted
+    ensures { (granted : Granted (List Incoming)) (old : List Incoming) → ended ≡ outcome_of granted → known
+        ≡ result_or old granted
         → result ≡ by_rules_of granted }
 {
     by_rules(ended)?;

@@ -2,7 +2,8 @@
 ghost use Rattle.std.specs.Prelude.{◌≡◌, [], List};
 ghost use Rattle.rh_defs.specs.Chain.{Granted, outcome_of, result_or};
 ghost use Rattle.rh_defs.specs.declared.transfer.Outgoing.{Outgoing};
-ghost use Rattle.vf_ram.specs.SenderCalls.{ack_asks, bounce_told, cancel_told, failed_told, fetch_asks, load_ack_asks, loaded_told, offer_told, part_told, saved_told, sent_told, source_told};
+ghost use Rattle.vf_ram.specs.SenderCalls.{ack_asks, bounce_told, cancel_told, failed_told, fetch_asks, load_ack_asks};
+ghost use Rattle.vf_ram.specs.SenderCalls.{loaded_told, offer_told, part_told, saved_told, sent_told, source_told};
 ghost use Rattle.vf_ram.specs.SenderWords.{as_part, as_send_action, as_sender};
 ghost use Rattle.vf_ram.specs.Told.{by_rules as by_rules_of, shown_or, status_of as status_of_told};
 
@@ -57,7 +58,8 @@ pub extern "C" fn vf_sender_on_fetch(
     action: &mut VfSendAction,
 ) -> u32
     ensures status { result ≡ status_of_told (fetch_asks sender.now from my_ref your_ref buffer length) }
-    ensures action { action.new ≡ shown_or as_send_action (fetch_asks sender.now from my_ref your_ref buffer length) action.old }
+    ensures action { action.new
+        ≡ shown_or as_send_action (fetch_asks sender.now from my_ref your_ref buffer length) action.old }
 {
     match sender.read() {
         Ok(known) => {
@@ -279,7 +281,8 @@ fn source(sender: &VfSender, anchor: u32) -> Result<bool, u32>
 
 /// A sender behind a call of rh_ram that was done or refused.
 fn told(known: Sender, ended: Result<(), Refusal>) -> Result<Sender, u32>
-    ensures { (granted : Granted (List Outgoing)) (old : List Outgoing) → ended ≡ outcome_of granted → known ≡ result_or old granted
+    ensures { (granted : Granted (List Outgoing)) (old : List Outgoing) → ended ≡ outcome_of granted → known
+        ≡ result_or old granted
         → result ≡ by_rules_of granted }
 {
     by_rules(ended)?;

@@ -1,6 +1,8 @@
 //! A sender, its records and its actions as structs of words, and back.
 ghost use Rattle.std.specs.Prelude.{◌≡◌, ◌≤◌, length, slice_get};
-ghost use Rattle.vf_ram.specs.SenderWords.{as_outgoing, as_part, as_send_action, as_sender, as_sending, as_word, ended_sending, finish_in, outgoing_of, outgoing_or_none, save_file_in, send_action_in, sender_in, sending_in, sending_of, transmit_in};
+ghost use Rattle.vf_ram.specs.SenderWords.{as_outgoing, as_part, as_send_action, as_sender, as_sending, as_word};
+ghost use Rattle.vf_ram.specs.SenderWords.{ended_sending, finish_in, outgoing_of, outgoing_or_none, save_file_in};
+ghost use Rattle.vf_ram.specs.SenderWords.{send_action_in, sender_in, sending_in, sending_of, transmit_in};
 ghost use Rattle.vf_ram.specs.Places.{all_or_none};
 ghost use Rattle.vf_ram.specs.Told.{bad_records, or_status};
 ghost use Rattle.rh_defs.specs.declared.sizes.TheConstants.{MOST_RECORDS};
@@ -32,7 +34,8 @@ pub const DO_SAVE_FILE: u32 = 2;
 /// To look how many bytes the source has: all of them were loaded.
 pub const DO_FINISH: u32 = 3;
 
-/// A transfer that goes out and hasn't ended. Of one that has, the id and the count are kept, and the other words are 0.
+/// A transfer that goes out and hasn't ended. Of one that has, the id and the count are kept, and the other words are
+/// 0.
 #[repr(C)]
 #[derive(Clone, Copy)]
 pub struct VfSending {
@@ -248,7 +251,8 @@ impl VfSendAction {
 
     /// An action without a buffer.
     fn with(what: u32, transfer: VfSending, to: u32, answers: u32) -> VfSendAction
-        ensures { result ≡ record { what = what; transfer = transfer; to = to; answers = answers; buffer = 0; room = 0 } }
+        ensures { result
+            ≡ record { what = what; transfer = transfer; to = to; answers = answers; buffer = 0; room = 0 } }
     {
         VfSendAction {
             what,

@@ -143,33 +143,33 @@ fn refuses<R: Abort>(rt: &R, ended: Ended, status: u32) {
     begins(rt, ended.1.as_slice(), b"");
 }
 
-#[test]
-fn scripts_are_run(rt: HostRuntime) -> Result<(), Fail> {
-    let alloc = rt.alloc();
-    writes(
-        &rt,
-        ended(alloc, Call::Run, &eight(HELLO, b""), 100)?,
-        DONE,
-        REPLIES,
-    );
-    writes(
-        &rt,
-        ended(alloc, Call::Run, &eight(LOADS, FILES), 100)?,
-        DONE,
-        LOADED,
-    );
-    writes(
-        &rt,
-        ended(alloc, Call::Run, &eight(b"", b""), 100)?,
-        DONE,
+/// Scripts with their files: how a run ends, and the text that it writes.
+const RUNS: [(&[u8], &[u8], u32, &[u8]); 7] = [
+    (HELLO, b"", DONE, REPLIES),
+    (LOADS, FILES, DONE, LOADED),
+    (b"", b"", DONE, b""),
+    (
+        b"fly\ntask a 100",
         b"",
-    );
-    writes(
-        &rt,
-        ended(alloc, Call::Run, &eight(b"fly\ntask a 100", b""), 100)?,
         SOME_BAD,
         b"bad Unknown\nbad Unended\n",
-    );
+    ),
+    (HELLO, b"\x0cabcdefghijkl\x00\x00\x00\x00", DONE, REPLIES),
+    (HELLO, b"\x02A1\x01\x00\x00\x00x", DONE, REPLIES),
+    (
+        HELLO,
+        b"\x01a\x00\x00\x00\x00\x01A\x00\x00\x00\x00",
+        DONE,
+        REPLIES,
+    ),
+];
+
+#[test]
+fn scripts_are_run(rt: HostRuntime) -> Result<(), Fail> {
+    for (script, files, status, text) in RUNS {
+        let job = eight(script, files);
+        writes(&rt, ended(rt.alloc(), Call::Run, &job, 100)?, status, text);
+    }
     Ok(())
 }
 
@@ -253,19 +253,6 @@ fn badly_packed_files_are_refused(rt: HostRuntime) -> Result<(), Fail> {
             );
         }
     }
-    let good: [&[u8]; 3] = [
-        b"\x0cabcdefghijkl\x00\x00\x00\x00",
-        b"\x02A1\x01\x00\x00\x00x",
-        b"\x01a\x00\x00\x00\x00\x01A\x00\x00\x00\x00",
-    ];
-    for files in good {
-        writes(
-            &rt,
-            ended(alloc, Call::Run, &eight(HELLO, files), 100)?,
-            DONE,
-            REPLIES,
-        );
-    }
     Ok(())
 }
 
@@ -296,52 +283,57 @@ fn native_files(alloc: Global) -> Result<Files, Fail> {
     Ok(files)
 }
 
-#[test]
-fn maps_and_sheets_are_those_of_the_program(rt: HostRuntime) -> Result<(), Fail> {
-    let alloc = rt.alloc();
-    let mut reader = Flagged::new(LOADS);
-    let mut map = Flagged::new(Vec::<u8>::new(alloc));
+/// What a native program draws of the script that reads a file: its sheet, or else its map.
+fn native_text(alloc: Global, is_sheet: bool) -> Result<Vec<u8>, Fail> {
     let files = native_files(alloc)?;
-    assert!(&rt; draw_map(alloc, files, &mut reader, &mut map, PAGES, false).is_ok());
-    let map = map.into_inner();
-    writes(
-        &rt,
-        ended(alloc, Call::Map, &eight(LOADS, FILES), 10_000)?,
-        DONE,
-        map.as_slice(),
-    );
     let mut reader = Flagged::new(LOADS);
-    let mut sheet = Flagged::new(Vec::<u8>::new(alloc));
-    let files = native_files(alloc)?;
-    assert!(&rt;
+    let mut writer = Flagged::new(Vec::<u8>::new(alloc));
+    let _status = if is_sheet {
         draw_sheet(
             alloc,
             files,
             &mut reader,
-            &mut sheet,
+            &mut writer,
             PAGES,
             false,
-            b"a name"
+            b"a name",
         )
-        .is_ok()
-    );
-    let sheet = sheet.into_inner();
-    writes(
-        &rt,
-        ended(alloc, Call::Draw, &eight(LOADS, FILES), 100_000)?,
-        DONE,
-        sheet.as_slice(),
-    );
-    let (status, front, needed) = ended(alloc, Call::Draw, &eight(LOADS, FILES), 1000)?;
-    same(&rt, (status, needed), (SHORT_TEXT, sheet.len()));
-    same(&rt, front.len(), 1000);
-    is_front(&rt, front.as_slice(), sheet.as_slice());
+    } else {
+        draw_map(alloc, files, &mut reader, &mut writer, PAGES, false)
+    };
+    Ok(writer.into_inner())
+}
+
+#[test]
+fn maps_and_sheets_are_those_of_the_program(rt: HostRuntime) -> Result<(), Fail> {
+    for (call, is_sheet) in [(Call::Map, false), (Call::Draw, true)] {
+        let text = native_text(rt.alloc(), is_sheet)?;
+        same(&rt, text.len() > 500, true);
+        let drawn = ended(rt.alloc(), call, &eight(LOADS, FILES), 100_000)?;
+        writes(&rt, drawn, DONE, text.as_slice());
+        let (status, front, needed) = ended(rt.alloc(), call, &eight(LOADS, FILES), 500)?;
+        same(&rt, (status, needed), (SHORT_TEXT, text.len()));
+        same(&rt, front.len(), 500);
+        is_front(&rt, front.as_slice(), text.as_slice());
+    }
     Ok(())
 }
 
 /// What a heap of 24 bytes begins with: a block of 8.
 const HEAP: &[u8] =
     b"Heap\x00\x00\x00\x00\x18\x00\x00\x00\x20\x00\x00\x00\x08\x00\x00\x00\x00\x00\x00\x00\x00\x00\x00\x00\x00\x00\x00\x00";
+
+/// The same without its last byte.
+const CUT_HEAP: &[u8] =
+    b"Heap\x00\x00\x00\x00\x18\x00\x00\x00\x20\x00\x00\x00\x08\x00\x00\x00\x00\x00\x00\x00\x00\x00\x00\x00\x00\x00\x00";
+
+/// What is checked, as a heap or a slot: its bytes, how that ends, and the line that is written.
+const IMAGES: [(u32, &[u8], u32, &[u8]); 4] = [
+    (0, HEAP, DONE, b"ok 1 8 0 0 8\n"),
+    (0, CUT_HEAP, SOME_BAD, b"bad BadDescriptor\n"),
+    (1, HEAP, SOME_BAD, b"bad BadLength\n"),
+    (2, HEAP, BAD_PAGES, b""),
+];
 
 /// Checks an image, with 40 bytes for the line.
 fn checked<R: Abort>(rt: &R, kind: u32, image: &[u8], status: u32, line: &[u8]) {
@@ -354,10 +346,13 @@ fn checked<R: Abort>(rt: &R, kind: u32, image: &[u8], status: u32, line: &[u8]) 
 
 #[test]
 fn images_are_checked(rt: HostRuntime) {
-    checked(&rt, 0, HEAP, DONE, b"ok 1 8 0 0 8\n");
-    checked(&rt, 0, &HEAP[..31], SOME_BAD, b"bad BadDescriptor\n");
-    checked(&rt, 1, HEAP, SOME_BAD, b"bad BadLength\n");
-    checked(&rt, 2, HEAP, BAD_PAGES, b"");
+    for (kind, image, status, line) in IMAGES {
+        checked(&rt, kind, image, status, line);
+    }
+}
+
+#[test]
+fn a_line_is_cut_where_its_bytes_end(rt: HostRuntime) {
     let mut text = [DIRT; 3];
     let mut needed = 0;
     same(&rt, vf_check(0, HEAP, &mut text, &mut needed), SHORT_TEXT);

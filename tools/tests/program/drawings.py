@@ -69,3 +69,57 @@ def test_sheets_of_examples(suite):
         output, page = page_of(suite, script.name, ["draw", *before, str(script), *files], status)
         suite.is_true(f"{script.name}: XML", is_xml(output))
         suite.is_true(f"{script.name}: steps", output.count(b"<h2>") == min(200, len(commands_of(script))))
+
+
+# Scripts by the words of their sheets, with what stands in a sheet one behind the other, and the status.
+SHEETS = [
+    (["draw", "-"], b"", [
+        "<!DOCTYPE html>\n",
+        "<title>standard input</title>\n",
+        "<h1>standard input</h1>\n",
+        "<main>\n</main>\n<nav id=\"d1\">\n</nav>\n</body>\n</html>\n",
+    ], 0),
+    (["draw", "-"], b"# A <task>\ntask a 100\nareas\ntsk\n", [
+        "<section id=\"d1\">\n<div class=\"says\">\n<nav><span>&#9664;</span> <a href=\"#d2\">&#9654;</a>",
+        "<p class=\"remark\">A &lt;task&gt;</p>\n<h2><b>1</b> <code>task a 100</code></h2>\n<pre>ok 1</pre>\n",
+        "<div class=\"memory\">\n<svg ",
+        "<section id=\"d2\">\n",
+        "<h2><b>2</b> <code>areas</code></h2>\n<pre>ok 62\n",
+        "Memory stays as it is: see <a href=\"#d1\">the last figure</a>.</p>\n</div>\n</section>\n",
+        "<h2><b>3</b> <code>tsk</code></h2>\n<pre>bad Unknown</pre>\n",
+        "</main>\n<nav id=\"d4\">\n<a href=\"#d1\">1</a>\n<a href=\"#d2\">2</a>\n<a href=\"#d3\">3</a>\n</nav>\n",
+    ], 1),
+    (["draw", "--marked", "--pages", "8", "-"],
+     b"# No remark\ntask a 100\n#picture One area\nmake 2\nareas\n#picture\nareas\n", [
+        "<main>\n<section id=\"d1\">\n",
+        "<p class=\"title\">One area</p>\n<h2><b>2</b> <code>make 2</code></h2>\n<pre>ok 256</pre>\n",
+        "<h3><b>Area 256</b> 0 of at most 2 pages</h3>\n",
+        "<section id=\"d2\">\n",
+        "<h2><b>4</b> <code>areas</code></h2>\n",
+        "<div class=\"memory\">\n",
+        "<p>Commands not drawn: 2.</p>\n</main>\n<nav id=\"d3\">\n",
+    ], 0),
+    (["draw", "-"], b"areas", ["<pre>bad Unended</pre>\n", "Memory stays as it is.</p>\n"], 1),
+    (["draw", "-"], b"\n  \n# The end\n", [
+        "<section id=\"d1\">\n",
+        "<p class=\"remark\">The end</p>\n</div>\n</section>\n</main>\n<nav id=\"d2\">\n<a href=\"#d1\">1</a>\n",
+    ], 0),
+]
+
+
+def has_in_turn(sheet, texts):
+    """Whether each text stands in a sheet, one behind the other."""
+    at = 0
+    for text in texts:
+        at = sheet.find(text, at)
+        if at < 0:
+            return False
+    return True
+
+
+def test_sheets_have_their_parts_in_turn(suite):
+    """The head and the end of a sheet, its steps, marked steps alone, a cut line, and a last remark."""
+    for words, script, texts, status in SHEETS:
+        sheet, told, ended = suite.run(words, stdin=script)
+        is_whole = has_in_turn(sheet.decode(), texts) and b"No remark" not in sheet
+        suite.is_true(f"the sheet of {script}", is_whole and (told, ended) == (b"", status))

@@ -65,3 +65,76 @@ def test_unreadable_scripts(suite):
     for verb in SCRIPT_VERBS:
         written = sheet[: -len(FOOT)] if verb == "draw" else b""
         suite.ends(f"{verb} of a folder", [verb, "nothing/folder"], written, b"rh_desk: read failed\n", 3)
+
+
+def test_bad_file_words_are_told_before_any_file(suite):
+    """A word that names no file is told before any file is opened."""
+    for first, second, bad in [
+        ("logo", "b=lost.bin", "logo"),
+        ("a=lost.bin", "=lost.bin", "=lost.bin"),
+        ("a=lost.bin", "b=", "b="),
+        ("a=lost.bin", "a=other.bin", "a=other.bin"),
+        ("1a=lost.bin", "b=", "1a=lost.bin"),
+        ("thirteenbytes=x", "b=lost.bin", "thirteenbytes=x"),
+    ]:
+        told = f"rh_desk: bad file word {bad}\n".encode()
+        suite.ends(f"bad file word {bad}", ["run", "lost.desk", first, second], b"", told, 2)
+    for verb in ("map", "draw"):
+        words = [verb, "--marked", "-", "a="]
+        suite.ends(f"bad file word of {verb}", words, b"", b"rh_desk: bad file word a=\n", 2, stdin=b"areas\n")
+
+
+def test_files_are_read_before_the_script(suite):
+    """A file that is lost is told before a script that is."""
+    pathlib.Path("here.bin").write_bytes(b"abc")
+    words = ["run", "lost.desk", "a=here.bin"]
+    suite.ends("a lost file and a lost script", [*words, "b=lost.bin"], b"", b"rh_desk: file lost.bin\n", 3)
+    suite.ends("a lost script", words, b"", b"rh_desk: file lost.desk\n", 3)
+
+
+def test_files_are_loaded_by_their_names(suite):
+    """The first equals sign ends a file's name, in which capitals count."""
+    pathlib.Path("logo=1.bin").write_bytes(b"hello")
+    script = b"task a 100\nload a 0 logo\nshow a 0\nload a 1 Logo\n"
+    shown = b"ok 1\nok &9008\nok 5 68656c6c6f\nrefused NoFile\n"
+    suite.ends("a file by its name", ["run", "-", "logo=logo=1.bin"], shown, b"", 0, stdin=script)
+
+
+def test_each_file_has_its_own_bytes(suite):
+    """Each of three files is loaded as it is, on both sides of `--pages`."""
+    for name, content in [("1.bin", b"one"), ("2.bin", b"two"), ("3.bin", b"six")]:
+        pathlib.Path(name).write_bytes(content)
+    script = b"task a 100\nload a 0 a\nload a 1 b\nload a 2 c\nshow a 0\nshow a 1\nshow a 2\n"
+    for between in [[], ["--pages", "9"]]:
+        words = ["run", "-", "a=1.bin", *between, "b=2.bin", "c=3.bin"]
+        output, _, status = suite.run(words, stdin=script)
+        shown = b"ok 3 6f6e65\nok 3 74776f\nok 3 736978\n"
+        suite.is_true(f"three files: {words}", output.endswith(shown) and status == 0)
+
+
+def test_a_file_that_cannot_be_read_is_told(suite):
+    """A folder is told as a file that can't be had."""
+    for words in [["check", "."], ["run", "-", "a=."]]:
+        suite.ends(f"a folder: {words}", words, b"", b"rh_desk: file .\n", 3, stdin=b"areas\n")
+
+
+def test_files_are_loaded_whole(suite):
+    """A file of 100,010 bytes is loaded whole, with zeros, line feeds and bytes that are no text."""
+    row = b"\x00\x1f\n\xff ruler\r\n"
+    content = row * 8334 + b"xy"
+    pathlib.Path("rows.bin").write_bytes(content)
+    shown = f"ok 1\nok &9008\nok 100010 {row.hex() * 8334}7879\n".encode()
+    script = b"task a 100\nload a 0 a\nshow a 0\n"
+    suite.ends("a file of 100,010 bytes", ["run", "-", "a=rows.bin"], shown, b"", 0, stdin=script)
+
+
+def test_a_file_has_a_limit(suite):
+    """A file of the most bytes is loaded and checked, and one of a byte more is not."""
+    pathlib.Path("most.bin").write_bytes(b"\x07" * LONGEST_FILE)
+    pathlib.Path("more.bin").write_bytes(b"\x07" * (LONGEST_FILE + 1))
+    words = ["run", "--pages", "300", "-", "a=most.bin"]
+    listed = b"ok 1\nok &9008\nok 1\n  0 &9008 1048576\n"
+    suite.ends("the most bytes", words, listed, b"", 0, stdin=b"task a 100\nload a 0 a\nblocks a\n")
+    suite.ends("check of the most bytes", ["check", "most.bin"], b"bad BadDescriptor\n", b"", 1)
+    for words in [["run", "-", "a=more.bin"], ["check", "more.bin"]]:
+        suite.ends(f"a byte more: {words}", words, b"", b"rh_desk: file more.bin\n", 3)

@@ -84,3 +84,88 @@ def test_slots(suite):
         suite.ends(f"check --slot {name}", ["check", "--slot", name], said, b"", status)
     suite.ends("check of a slot as a heap", ["check", "whole.slot"], b"bad BadDescriptor\n", b"", 1)
     suite.ends("check with --slot behind the file", ["check", "whole.slot", "--slot"], sums, b"", 0)
+
+
+# Files by the words that they begin with, in front of zeros, and by their lengths; what is said of each, and the status.
+HEAPS = [
+    ("", 0, b"bad BadDescriptor\n", 1),
+    ("486561700000000010000000", 12, b"bad BadDescriptor\n", 1),
+    ("68656170000000001000000010000000", 16, b"bad BadDescriptor\n", 1),
+    ("48656170000000001000000010000000", 16, b"ok 0 0 0 0 0\n", 0),
+    # two blocks and a hole between them
+    ("486561701c000000300000003800000010000000000000000000000000000000000000000800000008000000", 56,
+     b"ok 2 24 1 8 8\n", 0),
+    # a first link past the base
+    ("486561703c000000300000003800000010000000000000000000000000000000000000000800000008000000", 56,
+     b"bad BadLink\n", 1),
+    # a link backwards
+    ("486561701c000000300000003800000010000000000000000000000000000000f0ffffff0800000008000000", 56,
+     b"bad BadLink\n", 1),
+    # a first link into a block
+    ("4865617014000000300000003800000010000000000000000000000000000000000000000800000008000000", 56,
+     b"bad BadSize\n", 1),
+    # a hole that touches the next
+    ("4865617014000000300000003800000008000000000000000800000008000000000000000800000008000000", 56,
+     b"bad BadLink\n", 1),
+    # a hole that isn't linked
+    ("486561700c000000300000003800000000000000080000000800000000000000000000000800000008000000", 56,
+     b"bad BadSize\n", 1),
+]
+# The words of a slot that aren't 0, by their places: those of the anchors 0, 3 and 63; a C heap of 48 bytes with a hole
+# between two blocks; flex blocks of 5, 0 and 8 bytes at 304, 320 and 328 for the anchors 3, 0 and 63.
+SLOT_WORDS = {
+    0: 0x8148, 12: 0x8138, 252: 0x8150, 256: 0x70616548, 260: 20, 264: 40, 268: 48, 272: 8, 284: 8, 288: 8, 304: 0x800C,
+    308: 5, 312: 0x64636261, 316: 0x65, 320: 0x8000, 328: 0x80FC, 332: 8,
+}
+# A word of the slot that is another, and how many bytes there are; what is said of these, and the status.
+SLOTS = [
+    ((0, 0x8148), 4096, b"ok 3 13 48 3752\n", 0),
+    # a block up to the end of the first page, and one up to that of the second
+    ((332, 3760), 4096, b"ok 3 3765 48 0\n", 0),
+    ((332, 7856), 8192, b"ok 3 7861 48 0\n", 0),
+    ((0, 0x8148), 0, b"bad BadLength\n", 1),
+    ((0, 0x8148), 4095, b"bad BadLength\n", 1),
+    ((0, 0x8148), 4097, b"bad BadLength\n", 1),
+    ((268, 3848), 4096, b"bad BadHeap BadDescriptor\n", 1),
+    # a first link past the base
+    ((260, 36), 4096, b"bad BadHeap BadLink\n", 1),
+    ((272, 12), 4096, b"bad BadHeap BadSize\n", 1),
+    # a block that goes a byte past the end
+    ((332, 3761), 4096, b"bad BadSize\n", 1),
+    # an anchor that leads to another one's block
+    ((20, 0x8138), 4096, b"bad BadAnchor\n", 1),
+    # a header that names an anchor without a word
+    ((328, 0x80F8), 4096, b"bad BadAnchor\n", 1),
+    ((0, 0x8148), 8192, b"bad SparePage\n", 1),
+]
+
+
+def test_heaps_are_checked(suite):
+    """Heaps of some words, and bytes with one fault each."""
+    for front, length, said, status in HEAPS:
+        pathlib.Path("heap.bin").write_bytes(bytes.fromhex(front).ljust(56, b"\0")[:length])
+        suite.ends(f"check of {front} and zeros", ["check", "heap.bin"], said, b"", status)
+
+
+def test_slots_are_checked(suite):
+    """A slot of some words, and the same with one word changed."""
+    for change, length, said, status in SLOTS:
+        image = bytearray(8192)
+        for place, word in [*SLOT_WORDS.items(), change]:
+            struct.pack_into("<I", image, place, word)
+        pathlib.Path("slot.bin").write_bytes(image[:length])
+        suite.ends(f"check of a slot with {change}", ["check", "--slot", "slot.bin"], said, b"", status)
+
+
+def test_a_slot_is_no_heap(suite):
+    """A heap is no slot, wherever `--slot` stands."""
+    pathlib.Path("heap.bin").write_bytes(b"Heap" + struct.pack("<3I", 0, 16, 16))
+    suite.ends("a heap", ["check", "heap.bin"], b"ok 0 0 0 0 0\n", b"", 0)
+    for words in [["check", "--slot", "heap.bin"], ["check", "heap.bin", "--slot"]]:
+        suite.ends(f"a heap as a slot: {words}", words, b"bad BadLength\n", b"", 1)
+
+
+def test_a_lost_file_is_told(suite):
+    """Bytes that aren't there are told by their path."""
+    for words in [["check", "lost.bin"], ["check", "--slot", "lost.bin"]]:
+        suite.ends(f"a lost file: {words}", words, b"", b"rh_desk: file lost.bin\n", 3)

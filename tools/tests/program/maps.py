@@ -74,3 +74,64 @@ def test_maps_and_sheets(suite):
         mapped = [it.split(",")[0] for it in lines if re.match(r"  [ *] [a-z0-9]", it)]
         is_same = all(is_said(said_of(it), lines) for it in steps) and cards == mapped[: len(cards)]
         suite.is_true(f"map and sheet of {script.name}", is_same)
+
+
+# The map of the marked steps of a script over 8 pages.
+MARKED_MAP = """\
+#picture One area
+# of two pages
+2  make 2
+ok 256
+
+Pool: 6 of 8 pages free
+            0 |......a1
+Area 256: 0 of at most 2 pages
+Slot a (a): task 1, buffer of 100, 1 page
+   &8000    6 |::::=...........................................................
+Module area (1): 1 page
+&1800000    7 |=...............................................................
+
+#picture
+4  tsk
+bad Unknown
+
+Pool: 6 of 8 pages free
+            0 |......a1
+Area 256: 0 of at most 2 pages
+Slot a (a): task 1, buffer of 100, 1 page
+   &8000    6 |::::=...........................................................
+Module area (1): 1 page
+&1800000    7 |=...............................................................
+
+"""
+# The map of a script with a remark, a bad line and a line that is cut.
+CUT_MAP = """\
+# ? remark
+1  task a 0
+bad Word 3
+  (memory stays)
+
+2  areas
+bad Unended
+  (memory stays)
+
+"""
+
+
+def test_the_map_of_hello_is_the_worked_one(suite):
+    """The map of the first example is the worked one, which stands beside it."""
+    script, wanted = (EXAMPLES.joinpath(f"hello.{it}").read_bytes() for it in ("desk", "map"))
+    suite.ends("the map of hello", ["map", "-"], wanted, b"", 0, stdin=script)
+
+
+def test_marked_steps_alone_are_shown(suite):
+    """A mark asks for the next step, which is shown with the remarks before it."""
+    script = b"task a 100\n#picture One area\n# of two pages\nmake 2\nareas\n#picture\ntsk\n"
+    words = ["map", "--marked", "--pages", "8", "-"]
+    suite.ends("a map of marked steps", words, MARKED_MAP.encode(), b"", 1, stdin=script)
+
+
+def test_a_cut_line_is_a_step(suite):
+    """Lines without words are no steps, and a line that is cut is one."""
+    script = b"\n  \n# \x01 remark\ntask a 0\nareas"
+    suite.ends("a map of a cut script", ["map", "-"], CUT_MAP.encode(), b"", 1, stdin=script)

@@ -22,9 +22,10 @@ class Suite:
     def __init__(self, program):
         self.program, self.wrong, self.tests = program, 0, 0
 
-    def run(self, words, stdin=b"", limit=None, longest=None, user=None, stdout=subprocess.PIPE):
+    def run(self, words, stdin=b"", limit=None, longest=None, user=None, stdout=subprocess.PIPE,
+            stderr=subprocess.PIPE):
         """What the program printed, told, and ended with, within so many bytes of memory, where a file has at most
-        so many, and as this user."""
+        so many, and as this user. Its input is bytes, or a file that is open."""
 
         def before():
             if longest is not None:
@@ -37,10 +38,11 @@ class Suite:
         if limit:
             # A shell's limit costs half the time of one that is set between a fork and a call of the program.
             words = ["sh", "-c", f'ulimit -v {limit // KIB} && exec "$0" "$@"', *words]
-        streams = {"input": stdin, "stdout": stdout, "stderr": subprocess.PIPE}
+        source = {"input": stdin} if isinstance(stdin, bytes) else {"stdin": stdin}
+        streams = {**source, "stdout": stdout, "stderr": stderr}
         changed = before if user or longest is not None else None
         given = subprocess.run(words, **streams, timeout=SECONDS, preexec_fn=changed)
-        return given.stdout or b"", given.stderr, given.returncode
+        return given.stdout or b"", given.stderr or b"", given.returncode
 
     def is_true(self, what, holds):
         """Counts a test, and tells it where it fails."""

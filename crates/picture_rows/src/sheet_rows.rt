@@ -1,0 +1,86 @@
+//! Rows of areas on a sheet, cards and what leads to them, and arrows.
+
+use rh_draw::{
+    Card, Look, Plot, Slide, Tint, print_high_card, print_lens_above, print_row, print_slide_arrow,
+    print_tick,
+};
+use rh_figure::{Kind, Piece};
+use rh_lines::{Sink, WriteFailed};
+use rh_sheet::Frame;
+
+/// Rows of a slot and of a long area, a card with its lens, and two arrows.
+pub(crate) fn print_rows<W: Sink>(output: &mut W) -> Result<(), WriteFailed> {
+    print_slot(output)?;
+    print_tick(115, 0, output)?;
+    print_gap(output)?;
+    print_card(output)?;
+    print_lens_above(frame(2, 1), 4096, 4112, 1, output)?;
+    let up = Slide {
+        from: 0x9008,
+        to: 0xa008,
+    };
+    print_slide_arrow(frame(3, 1), up, output)?;
+    let within = Slide {
+        from: 0x9074,
+        to: 0x90d8,
+    };
+    print_slide_arrow(frame(2, 2), within, output)
+}
+
+fn frame(pages: usize, above: usize) -> Frame
+    ensures pages { result.pages ≡ pages }
+    ensures above { result.above ≡ above }
+    ensures below { result.below ≡ 0 }
+{
+    Frame {
+        pages,
+        above,
+        below: 0,
+    }
+}
+
+/// The rows of a slot with an empty C heap and a flex block.
+fn print_slot<W: Sink>(output: &mut W) -> Result<(), WriteFailed> {
+    let plot = Plot {
+        start: 0x8000,
+        pages: &[6, 5],
+        pieces: &[
+            Piece {
+                kind: Kind::FreeTop,
+                at: 272,
+                size: 3824,
+                fresh: false,
+            },
+            Piece {
+                kind: Kind::FlexBlock { anchor: 0, size: 5 },
+                at: 4096,
+                size: 16,
+                fresh: true,
+            },
+        ],
+        tint: Tint::Slot(1),
+    };
+    rh_draw::print_rows(frame(2, 1), &plot, output)
+}
+
+/// The row that stands for the pages between the ends of a long area.
+fn print_gap<W: Sink>(output: &mut W) -> Result<(), WriteFailed> {
+    let plot = Plot {
+        start: 0x180_0000,
+        pages: &[],
+        pieces: &[],
+        tint: Tint::Module,
+    };
+    print_row(frame(1024, 0), &plot, 8, output)
+}
+
+fn print_card<W: Sink>(output: &mut W) -> Result<(), WriteFailed> {
+    let card = Card {
+        look: Look::Flex,
+        fresh: true,
+        first: b"anchor 0 &9008",
+        second: b"1234567890 bytes, out 12",
+        third: b"",
+    };
+    print_high_card(66, 0, &card, output)
+}
