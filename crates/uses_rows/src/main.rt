@@ -1,5 +1,5 @@
-//! What the callers of `uses` answer, and a world after a list of commands: prints each answer, over a plain store and over
-//! one of scattered pages.
+//! What the callers of `uses` answer, and a world after a list of commands: prints each answer, over a plain store and
+//! over one of scattered pages.
 #![tactic(auto)]
 
 mod heaps;
