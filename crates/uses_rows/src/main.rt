@@ -2,6 +2,7 @@
 //! over one of scattered pages.
 #![tactic(auto)]
 
+mod handed_over;
 mod heaps;
 mod messages;
 mod module_blocks;
@@ -18,5 +19,6 @@ fn main(rt: HostRuntime) -> io::Result<()> {
     module_blocks::print_blocks(alloc, &mut output)?;
     slots::print_slots(alloc, &mut output)?;
     messages::print_messages(alloc, &mut output)?;
-    worlds::print_worlds(alloc, &mut output)
+    worlds::print_worlds(alloc, &mut output)?;
+    handed_over::print_handed_over(alloc, &mut output)
 }
