@@ -256,7 +256,10 @@ def run_all(port):
         calls.append(pool.submit(try_page, port, compiling))
         calls += [pool.submit(it, port) for it in (try_command, try_names, try_cmake, try_python)]
     for it in calls:
-        it.result()
+        try:
+            it.result()
+        except (OSError, subprocess.SubprocessError) as why:
+            port.is_true(str(why), False)
 
 
 def test(top, folder):
