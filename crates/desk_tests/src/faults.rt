@@ -1,5 +1,5 @@
-//! Faults that no machine gives when it is asked: an input without end, one that fails, files for which memory is refused,
-//! and words that can't be had.
+//! Faults that no machine gives when it is asked: an input without end, one that fails, files for which memory is
+//! refused, and words that can't be had.
 
 use crate::ends::{Trial, end_of};
 use crate::same::same;

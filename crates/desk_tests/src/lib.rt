@@ -1,4 +1,5 @@
-//! Tests of the program that need its own process: memory that runs out, and streams and files of which each call fails.
+//! Tests of the program that need its own process: memory that runs out, and streams and files of which each call
+//! fails.
 #![tactic(auto)]
 
 #[cfg(test)]

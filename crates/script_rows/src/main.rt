@@ -1,6 +1,6 @@
-//! Whole scripts: runs each that stands in its input, and prints its replies and how the run ended. It runs the same over
-//! other stores and as maps and sheets, and tells where what is written differs. Then it runs a script whose streams are
-//! slow, or fail.
+//! Whole scripts: runs each that stands in its input, and prints its replies and how the run ended. It runs the same
+//! over other stores and as maps and sheets, and tells where what is written differs. Then it runs a script whose
+//! streams are slow, or fail.
 #![tactic(auto)]
 
 mod cases;

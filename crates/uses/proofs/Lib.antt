@@ -2,6 +2,7 @@ pub mod AreaFacts
 pub mod BlockFacts
 pub mod HandOverFacts
 pub mod HandOverSteps
+pub mod HandOverWay
 pub mod HeapFacts
 pub mod PostFacts
 pub mod RunFacts

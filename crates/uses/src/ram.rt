@@ -1,13 +1,15 @@
 //! A file that one task hands to another: two byte arrays, a buffer that both tasks reach, and a list of messages.
 ghost use Rattle.std.specs.Prelude.{◌≡◌, [], ◌∷◌, ◌++◌, ◌+◌, ◌-◌, ◌^◌, ◌<◌, ◌≤◌, ◌&&◌, ℕ, List, Some, None, true};
-ghost use Rattle.std.specs.Prelude.{false, min, nat_le, length, take, drop, IfOk, OnOk};
+ghost use Rattle.std.specs.Prelude.{false, min, nat_le, length, take, drop, slice_get, option_to_list, IfOk, OnOk};
 ghost use Rattle.rh_defs.specs.declared.transfer.Outgoing.TheVariants as outgoing;
 ghost use Rattle.rh_defs.specs.declared.transfer.Incoming.TheVariants as incoming;
 ghost use Rattle.uses.specs.Inner.HandOver.{open_at, went_at, fetching_at, taken_at, appended_at, fetch_of};
-ghost use Rattle.uses.specs.Inner.HandOver.{transmit_of, answer_to, heard};
+ghost use Rattle.uses.specs.Inner.HandOver.{transmit_of, answer_to, heard, IsOnItsWay};
+ghost use Rattle.rh_defs.specs.declared.message.Letter.{Letter as SpecLetter};
 
 use rh_defs::{
-    Anchor, Append, Body, Handle, Letter, Message, Next, Pathname, Ref, SendAction, TakeAction,
+    Action, Anchor, Append, Body, Claim, Handle, Letter, Message, Next, Pathname, Ref, SendAction,
+    TakeAction,
 };
 use rh_ram::{Receiver, Sender, fetch_letter, first_fetch, part, save_letter, transmit_letter};
 use std::alloc::{AllocError, Global};
@@ -63,7 +65,7 @@ fn send_part(
     requires { length source.now < 2 ^ 32 }
     ensures { (c last my : ℕ) → sender.old ≡ open_at c last → message.now ≡ heard my (fetch_of (length buffer.old) last)
         → c ≤ length source.now → 0 < length buffer.old → let n = min (length buffer.old) (length source.now - c) in
-        (result ≡ Some (transmit_of (length buffer.old) my n)) × (sender.new ≡ went_at (length buffer.old) c n next.0)
+        (result ≡ Some (transmit_of (length buffer.old) my n)) × (sender.new ≡ went_at (length buffer.old) c n next)
         × (take n buffer.new ≡ take n (drop c source.now)) }
 {
     let Body::RamFetch {
@@ -86,7 +88,7 @@ fn send_part(
     let size = source.len() as u32;
     let part = part(&a, size);
     if !moves(source, part.offset, part.n, buffer, 0) {
-        sender.failed(&action).ok()?;
+        sender.failed(&SendAction::Transmit(a)).ok()?;
         return None;
     }
     sender.sent(&a, size, next).ok()?;
@@ -96,13 +98,21 @@ fn send_part(
 /// What the task does with an offer: it asks for as many bytes as the buffer has.
 fn take_offer(receiver: &mut Receiver, room: u32, message: &Message, next: Ref) -> Option<Letter>
     ensures { receiver.old ≡ [] → message.now.from ≡ 1 → message.now.my_ref ≡ 1
-        → (result ≡ Some (fetch_of room 1)) × (receiver.new ≡ fetching_at 0 next.0) }
+        → (result ≡ Some (fetch_of room 1)) × (receiver.new ≡ fetching_at 0 next) }
 {
-    let TakeAction::Claim(claim) = receiver.on_save(false, message.from, message.my_ref)? else {
-        return None;
-    };
-    receiver.fetching(&claim, FILE, BUFFER, next).ok()?;
-    let fetch = first_fetch(&claim, BUFFER, room);
+    match receiver.on_save(false, message.from, message.my_ref) {
+        Some(TakeAction::Claim(claim)) => begin(receiver, &claim, room, next),
+        _ => None,
+    }
+}
+
+/// A claim is granted: the buffer and the document are there, and their first RAMFetch goes out.
+fn begin(receiver: &mut Receiver, claim: &Claim, room: u32, next: Ref) -> Option<Letter>
+    ensures { receiver.old ≡ [] → claim.now ≡ record { id = 1; sender = 1 }
+        → (result ≡ Some (fetch_of room 1)) × (receiver.new ≡ fetching_at 0 next) }
+{
+    receiver.fetching(claim, FILE, BUFFER, next).ok()?;
+    let fetch = first_fetch(claim, BUFFER, room);
     Some(fetch_letter(TAKES, &fetch))
 }
 
@@ -110,7 +120,7 @@ fn take_offer(receiver: &mut Receiver, room: u32, message: &Message, next: Ref) 
 fn go_on(receiver: &mut Receiver, action: &Append, next: Ref) -> Option<Letter>
     ensures { (room c my fetch n : ℕ) → receiver.old ≡ fetching_at c fetch → action.now ≡ appended_at room c my fetch n
         → c + n < 2 ^ 32
-        → (result ≡ answer_to room my n) × (receiver.new ≡ taken_at room c n next.0) }
+        → (result ≡ answer_to room my n) × (receiver.new ≡ taken_at room c n next) }
 {
     match action.next {
         Next::Fetch(fetch) => {
@@ -137,7 +147,7 @@ fn take_part(
     ensures { (c my fetch n : ℕ) → receiver.old ≡ fetching_at c fetch → message.now
         ≡ heard my (transmit_of (length buffer.now) fetch n)
         → n ≤ length buffer.now → c + n ≤ length document.old → c + n < 2 ^ 32
-        → (result ≡ answer_to (length buffer.now) my n) × (receiver.new ≡ taken_at (length buffer.now) c n next.0)
+        → (result ≡ answer_to (length buffer.now) my n) × (receiver.new ≡ taken_at (length buffer.now) c n next)
         × (take (c + n) document.new ≡ take c document.old ++ take n buffer.now) }
 {
     let room = buffer.len() as u32;
@@ -161,10 +171,47 @@ fn take_part(
         return None;
     };
     if !moves(buffer, 0, a.n, document, a.transfer.count) {
-        receiver.failed(&action, 0).ok()?;
+        receiver.failed(&TakeAction::Append(a), 0).ok()?;
         return None;
     }
     go_on(receiver, &a, next)
+}
+
+/// One turn: the task that a message is for does what the message asks, and may answer it.
+fn take_turn(
+    sender: &mut Sender,
+    receiver: &mut Receiver,
+    source: &[u8],
+    buffer: &mut [u8],
+    document: &mut [u8],
+    message: &Message,
+    next: Ref,
+) -> Option<Letter>
+    requires size { length source.now < 2 ^ 30 }
+    requires room { 0 < length buffer.old }
+    requires small { length buffer.old < 2 ^ 32 }
+    requires same { length document.old ≡ length source.now }
+    ensures { (turn : ℕ) (mail : List SpecLetter) (letter : SpecLetter)
+        → IsOnItsWay source.now (length buffer.old) turn mail sender.old receiver.old document.old buffer.old
+        → slice_get mail turn ≡ Some letter → message.now ≡ heard (turn + 1) letter → next ≡ turn + 2
+        → IsOnItsWay source.now (length buffer.old) (turn + 1)
+        (mail ++ option_to_list result) sender.new receiver.new document.new buffer.new }
+{
+    match message.body.action() {
+        Action::RamFetch => send_part(sender, source, buffer, message, next),
+        Action::RamTransmit => take_part(receiver, document, buffer, message, next),
+        _ => take_offer(receiver, buffer.len() as u32, message, next),
+    }
+}
+
+/// Puts an answer behind the messages, if there is one.
+fn post(mail: &mut Vec<Letter>, answer: Option<Letter>) -> Result<(), AllocError>
+    ensures { OnOk result (mail.new.items ≡ mail.old.items ++ option_to_list answer) }
+{
+    if let Some(letter) = answer {
+        mail.push(letter)?;
+    }
+    Ok(())
 }
 
 /// Hands a file over, through a buffer of at least one byte, into a document as long as the source. AllocError where
@@ -195,14 +242,16 @@ pub fn hand_over(
         };
         let message = heard_at(letter, turn);
         let next = Ref(turn + 2);
-        let answer = match message.body {
-            Body::RamFetch { .. } => send_part(&mut sender, source, buffer, &message, next),
-            Body::RamTransmit { .. } => take_part(&mut receiver, document, buffer, &message, next),
-            _ => take_offer(&mut receiver, buffer.len() as u32, &message, next),
-        };
-        if let Some(letter) = answer {
-            mail.push(letter)?;
-        }
+        let answer = take_turn(
+            &mut sender,
+            &mut receiver,
+            source,
+            buffer,
+            document,
+            &message,
+            next,
+        );
+        post(&mut mail, answer)?;
     }
     Ok((sender, receiver))
 }

@@ -1,7 +1,8 @@
-//! What the callers of `uses` answer, and a world after a list of commands: prints each answer, over a plain store and over
-//! one of scattered pages.
+//! What the callers of `uses` answer, and a world after a list of commands: prints each answer, over a plain store and
+//! over one of scattered pages.
 #![tactic(auto)]
 
+mod handed_over;
 mod heaps;
 mod messages;
 mod module_blocks;
@@ -18,5 +19,6 @@ fn main(rt: HostRuntime) -> io::Result<()> {
     module_blocks::print_blocks(alloc, &mut output)?;
     slots::print_slots(alloc, &mut output)?;
     messages::print_messages(alloc, &mut output)?;
-    worlds::print_worlds(alloc, &mut output)
+    worlds::print_worlds(alloc, &mut output)?;
+    handed_over::print_handed_over(alloc, &mut output)
 }

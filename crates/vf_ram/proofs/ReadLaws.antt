@@ -1,7 +1,7 @@
 -- Words that are read one by one, until one spells nothing.
 use Rattle.std.proofs.Common.{◌≡◌, ℕ, ◌+◌, ◌<◌, ◌≤◌, zero, suc, refl, ap, sym, ◌∙◌, arith, List, [], ◌∷◌, ◌++◌, length, drop, get_or, append_assoc, append-nil}
 use Rattle.std.specs.Prelude.{Option, Some, None}
-use Rattle.vf_ram.specs.Places.{all_or_none, in_front}
+use Rattle.vf_ram.specs.RecordPlaces.{all_or_none, in_front}
 
 -- what was read before the rest
 abbrev pub behind : {B : Type 0} → List B → Option (List B) → Option (List B)

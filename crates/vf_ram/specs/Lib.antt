@@ -1,7 +1,7 @@
 pub mod MessageWords
-pub mod Places
+pub mod RecordPlaces
 pub mod ReceiverCalls
 pub mod ReceiverWords
 pub mod SenderCalls
 pub mod SenderWords
-pub mod Told
+pub mod WithStatus

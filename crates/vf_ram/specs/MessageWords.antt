@@ -11,7 +11,7 @@ use Rattle.rh_defs.specs.declared.message.Message.{Message}
 use Rattle.rh_defs.specs.declared.message.MessageFault.{MessageFault}
 use Rattle.vf_ram.specs.declared.message_words.VfFileWords.{VfFileWords}
 use Rattle.vf_ram.specs.declared.message_words.VfMessageWords.{VfMessageWords}
-use Rattle.vf_ram.specs.Told.{Told, and_then, bad_message, bad_name, fault_status}
+use Rattle.vf_ram.specs.WithStatus.{WithStatus, and_then, bad_message, bad_name, fault_status}
 
 -- ---- a message into words
 
@@ -67,14 +67,14 @@ as_words m = words_with m m.body
 -- ---- words into a message
 
 -- the name, where it is one that a message can carry
-abbrev pub name_in : VfMessageWords → Told (List ℕ)
-name_in w =
+abbrev pub name_in_words : VfMessageWords → WithStatus (List ℕ)
+name_in_words w =
     if nat_lt (length w.name) w.name_length then Err bad_name
     else if is_pathname (take w.name_length w.name) then Ok (take w.name_length w.name)
     else Err bad_name
 
-abbrev pub file_in_words : VfMessageWords → Told FileData
-file_in_words w = and_then (name_in w) (λ name. Ok (record {
+abbrev pub file_in_words : VfMessageWords → WithStatus FileData
+file_in_words w = and_then (name_in_words w) (λ name. Ok (record {
   window = w.file.window;
   icon = w.file.icon;
   x = w.file.x;
@@ -84,7 +84,7 @@ file_in_words w = and_then (name_in w) (λ name. Ok (record {
   name = name;
 }))
 
-abbrev pub body_in_words : VfMessageWords → Told Body
+abbrev pub body_in_words : VfMessageWords → WithStatus Body
 body_in_words w =
     if w.action == 1 then and_then (file_in_words w) (λ f. Ok (DataSave f))
     else if w.action == 2 then and_then (file_in_words w) (λ f. Ok (DataSaveAck f))
@@ -94,8 +94,8 @@ body_in_words w =
     else if w.action == 7 then Ok (RamTransmit w.buffer w.count)
     else Err bad_message
 
-abbrev pub message_of : VfMessageWords → Told Message
-message_of w = and_then (body_in_words w) (λ body. Ok (record { from = w.from; my_ref = w.my_ref; your_ref = w.your_ref; body = body }))
+abbrev pub message_in_words : VfMessageWords → WithStatus Message
+message_in_words w = and_then (body_in_words w) (λ body. Ok (record { from = w.from; my_ref = w.my_ref; your_ref = w.your_ref; body = body }))
 
 -- ---- messages and blocks
 
@@ -104,6 +104,6 @@ abbrev pub in_block : List ℕ → Message → List ℕ
 in_block old m = with_part old 0 (encoded m)
 
 -- what bytes spell, with a status in place of their fault
-abbrev pub decode_told : Result Message MessageFault → Told Message
+abbrev pub decode_told : Result Message MessageFault → WithStatus Message
 decode_told (Ok m) = Ok m
 decode_told (Err fault) = Err (fault_status fault)

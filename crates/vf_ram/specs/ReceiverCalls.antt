@@ -10,68 +10,68 @@ use Rattle.rh_ram.specs.Told.{tell_fetching, tell_fetched, tell_finished, tell_a
 use Rattle.vf_ram.specs.declared.receiver_words.VfReceiver.{VfReceiver}
 use Rattle.vf_ram.specs.declared.receiver_words.VfTakeAction.{VfTakeAction}
 use Rattle.vf_ram.specs.ReceiverWords.{receiver_in, claim_in, append_in, ask_in, load_file_in, take_action_in}
-use Rattle.vf_ram.specs.Told.{Told, and_then, by_rules, anchor_in, wanted}
+use Rattle.vf_ram.specs.WithStatus.{WithStatus, and_then, by_rules, anchor_in, wanted}
 
 -- ---- events
 
-abbrev pub save_asks : VfReceiver → Bool → ℕ → ℕ → Told (Option TakeAction)
+abbrev pub save_asks : VfReceiver → Bool → ℕ → ℕ → WithStatus (Option TakeAction)
 save_asks r is_deaf from my_ref = and_then (receiver_in r) (λ records. Ok (receiver.on_save is_deaf from my_ref records))
 
-abbrev pub transmit_asks : VfReceiver → ℕ → ℕ → ℕ → ℕ → ℕ → ℕ → Told (Option TakeAction)
+abbrev pub transmit_asks : VfReceiver → ℕ → ℕ → ℕ → ℕ → ℕ → ℕ → WithStatus (Option TakeAction)
 transmit_asks r room from my_ref your_ref buffer n =
     and_then (receiver_in r) (λ records. Ok (receiver.on_transmit room from my_ref your_ref buffer n records))
 
-abbrev pub fetch_bounce_asks : VfReceiver → ℕ → Told (Option TakeAction)
+abbrev pub fetch_bounce_asks : VfReceiver → ℕ → WithStatus (Option TakeAction)
 fetch_bounce_asks r ref = and_then (receiver_in r) (λ records. Ok (receiver.on_taking_bounce ref records))
 
-abbrev pub load_asks : VfReceiver → ℕ → ℕ → ℕ → Told (Option TakeAction)
+abbrev pub load_asks : VfReceiver → ℕ → ℕ → ℕ → WithStatus (Option TakeAction)
 load_asks r from my_ref your_ref = and_then (receiver_in r) (λ records. Ok (receiver.on_load from my_ref your_ref records))
 
 -- whether a transfer's DataSaveAck came back, and the records then
-abbrev pub ack_bounce_told : VfReceiver → ℕ → Told (Bool × List Incoming)
+abbrev pub ack_bounce_told : VfReceiver → ℕ → WithStatus (Bool × List Incoming)
 ack_bounce_told r ref =
     and_then (receiver_in r) (λ records.
     let found = receiver.on_ack_bounce ref records in Ok (is_some found, receiver.ack_bounced found records))
 
-abbrev pub cancel_taking_told : VfReceiver → ℕ → Told (List Incoming)
+abbrev pub cancel_taking_told : VfReceiver → ℕ → WithStatus (List Incoming)
 cancel_taking_told r id = and_then (receiver_in r) (λ records. by_rules (receiver.cancel_taking (wanted id) records))
 
 -- ---- how an action ended
 
-abbrev pub fetching_told : VfReceiver → VfTakeAction → ℕ → ℕ → ℕ → Told (List Incoming)
+abbrev pub fetching_told : VfReceiver → VfTakeAction → ℕ → ℕ → ℕ → WithStatus (List Incoming)
 fetching_told r w anchor buffer fetch =
     and_then (receiver_in r) (λ records. and_then (claim_in w) (λ a. and_then (anchor_in anchor) (λ k.
     by_rules (tell_fetching a k buffer fetch records))))
 
-abbrev pub fetched_told : VfReceiver → VfTakeAction → ℕ → Told (List Incoming)
+abbrev pub fetched_told : VfReceiver → VfTakeAction → ℕ → WithStatus (List Incoming)
 fetched_told r w fetch =
     and_then (receiver_in r) (λ records. and_then (append_in w) (λ a. by_rules (tell_fetched a fetch records)))
 
-abbrev pub finished_told : VfReceiver → VfTakeAction → Told (List Incoming)
+abbrev pub finished_told : VfReceiver → VfTakeAction → WithStatus (List Incoming)
 finished_told r w = and_then (receiver_in r) (λ records. and_then (append_in w) (λ a. by_rules (tell_finished a records)))
 
-abbrev pub asking_told : VfReceiver → VfTakeAction → ℕ → Told (List Incoming)
+abbrev pub asking_told : VfReceiver → VfTakeAction → ℕ → WithStatus (List Incoming)
 asking_told r w ack = and_then (receiver_in r) (λ records. and_then (ask_in w) (λ f. by_rules (tell_asking f ack records)))
 
-abbrev pub taking_loaded_told : VfReceiver → VfTakeAction → ℕ → Told (List Incoming)
+abbrev pub taking_loaded_told : VfReceiver → VfTakeAction → ℕ → WithStatus (List Incoming)
 taking_loaded_told r w size =
     and_then (receiver_in r) (λ records. and_then (load_file_in w) (λ a. by_rules (tell_taking_loaded a size records)))
 
-abbrev pub taking_failed_told : VfReceiver → VfTakeAction → ℕ → Told (List Incoming)
+abbrev pub taking_failed_told : VfReceiver → VfTakeAction → ℕ → WithStatus (List Incoming)
 taking_failed_told r w kept =
     and_then (receiver_in r) (λ records. and_then (take_action_in w) (λ a. by_rules (tell_failed a kept records)))
 
 -- ---- what else is asked
 
 -- the fetch of a buffer that was claimed
-abbrev pub first_fetch_told : VfTakeAction → ℕ → ℕ → Told Fetch
+abbrev pub first_fetch_told : VfTakeAction → ℕ → ℕ → WithStatus Fetch
 first_fetch_told w buffer room = and_then (claim_in w) (λ a. Ok (receiver.first_fetch a buffer room))
 
 -- whether the anchor's block is a document that grows
-abbrev pub document_told : VfReceiver → ℕ → Told Bool
+abbrev pub document_told : VfReceiver → ℕ → WithStatus Bool
 document_told r anchor =
     and_then (receiver_in r) (λ records. and_then (anchor_in anchor) (λ k. Ok (list_any (is_document k) records)))
 
 -- whether the block at the address is a transfer's buffer
-abbrev pub buffer_told : VfReceiver → ℕ → Told Bool
+abbrev pub buffer_told : VfReceiver → ℕ → WithStatus Bool
 buffer_told r address = and_then (receiver_in r) (λ records. Ok (list_any (is_buffer_of address) records))

@@ -21,8 +21,8 @@ use Rattle.vf_ram.specs.declared.receiver_words.VfIncoming.{VfIncoming}
 use Rattle.vf_ram.specs.declared.receiver_words.VfReceiver.{VfReceiver}
 use Rattle.vf_ram.specs.declared.receiver_words.VfTakeAction.{VfTakeAction}
 use Rattle.vf_ram.specs.declared.receiver_words.VfTaking.{VfTaking}
-use Rattle.vf_ram.specs.Places.{all_or_none, places}
-use Rattle.vf_ram.specs.Told.{Told, and_then, bad_action, bad_records, or_status}
+use Rattle.vf_ram.specs.RecordPlaces.{all_or_none, places}
+use Rattle.vf_ram.specs.WithStatus.{WithStatus, and_then, bad_action, bad_records, or_status}
 
 -- ---- records
 
@@ -85,7 +85,7 @@ abbrev pub as_receiver : List Incoming → VfReceiver
 as_receiver records = record { count = length records; records = map (λ i. incoming_or_none (slice_get records i)) places }
 
 -- the records that a receiver has, as far as it counts them
-abbrev pub receiver_in : VfReceiver → Told (List Incoming)
+abbrev pub receiver_in : VfReceiver → WithStatus (List Incoming)
 receiver_in r = if nat_le r.count 8 then or_status (all_or_none incoming_of (take r.count r.records)) bad_records else Err bad_records
 
 -- ---- actions
@@ -126,38 +126,38 @@ as_take_action (Some (action.LoadFile a)) = record (plain_action 7 (as_asked a.t
 as_take_action (Some (action.Release a)) = record (plain_action 8 (as_taking a.transfer)) { ending = ending_number a.ending }
 
 -- an action's transfer
-abbrev pub taking_in : VfTakeAction → Told Taking
+abbrev pub taking_in : VfTakeAction → WithStatus Taking
 taking_in w = or_status (taking_of w.transfer) bad_action
 
 -- an action's transfer that waits for a file
-abbrev pub asked_in : VfTakeAction → Told Asked
+abbrev pub asked_in : VfTakeAction → WithStatus Asked
 asked_in w = or_status (asked_of w.transfer) bad_action
 
 -- the action, where it is to claim
-abbrev pub claim_in : VfTakeAction → Told Claim
+abbrev pub claim_in : VfTakeAction → WithStatus Claim
 claim_in w = if w.what == 4 then Ok (record { id = w.transfer.id; sender = w.transfer.sender }) else Err bad_action
 
 -- what follows on bytes
-abbrev pub next_in : VfTakeAction → Told Next
+abbrev pub next_in : VfTakeAction → WithStatus Next
 next_in w =
     if w.next == 1 then Ok (next.Fetch (fetch_of w.next_fetch)) else if w.next == 2 then Ok next.Finish else Err bad_action
 
 -- the action, where it is to append
-abbrev pub append_in : VfTakeAction → Told Append
+abbrev pub append_in : VfTakeAction → WithStatus Append
 append_in w =
     if w.what == 5
     then and_then (taking_in w) (λ f. and_then (next_in w) (λ next. Ok (record { transfer = f; n = w.n; next = next }))) else Err bad_action
 
 -- the transfer, where the action is to ask for a file
-abbrev pub ask_in : VfTakeAction → Told Taking
+abbrev pub ask_in : VfTakeAction → WithStatus Taking
 ask_in w = if w.what == 6 then taking_in w else Err bad_action
 
 -- the action, where it is to load a file
-abbrev pub load_file_in : VfTakeAction → Told LoadFile
+abbrev pub load_file_in : VfTakeAction → WithStatus LoadFile
 load_file_in w =
     if w.what == 7 then and_then (asked_in w) (λ q. Ok (record { transfer = q; to = w.to; answers = w.answers })) else Err bad_action
 
-abbrev pub ending_in : VfTakeAction → Told Ending
+abbrev pub ending_in : VfTakeAction → WithStatus Ending
 ending_in w =
     if w.ending == 1 then Ok ending.Drained
     else if w.ending == 2 then Ok ending.Unanswered
@@ -165,13 +165,13 @@ ending_in w =
     else Err bad_action
 
 -- the action, where it is to release a buffer
-abbrev pub release_in : VfTakeAction → Told Release
+abbrev pub release_in : VfTakeAction → WithStatus Release
 release_in w =
     if w.what == 8
     then and_then (taking_in w) (λ f. and_then (ending_in w) (λ ending. Ok (record { transfer = f; ending = ending }))) else Err bad_action
 
 -- any of the five
-abbrev pub take_action_in : VfTakeAction → Told TakeAction
+abbrev pub take_action_in : VfTakeAction → WithStatus TakeAction
 take_action_in w =
     if w.what == 4 then and_then (claim_in w) (λ a. Ok (action.Claim a))
     else if w.what == 5 then and_then (append_in w) (λ a. Ok (action.Append a))

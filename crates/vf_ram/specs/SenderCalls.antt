@@ -10,58 +10,58 @@ use Rattle.rh_ram.specs.Told.{tell_sent, tell_saved, tell_sending_loaded, tell_s
 use Rattle.vf_ram.specs.declared.sender_words.VfSendAction.{VfSendAction}
 use Rattle.vf_ram.specs.declared.sender_words.VfSender.{VfSender}
 use Rattle.vf_ram.specs.SenderWords.{sender_in, transmit_in, save_file_in, finish_in, send_action_in}
-use Rattle.vf_ram.specs.Told.{Told, and_then, by_rules, anchor_in, wanted}
+use Rattle.vf_ram.specs.WithStatus.{WithStatus, and_then, by_rules, anchor_in, wanted}
 
-abbrev pub offer_told : VfSender → ℕ → ℕ → ℕ → Told (List Outgoing)
+abbrev pub offer_told : VfSender → ℕ → ℕ → ℕ → WithStatus (List Outgoing)
 offer_told s id recipient anchor =
     and_then (sender_in s) (λ records. and_then (anchor_in anchor) (λ k. by_rules (sender.offer id recipient k records)))
 
 -- ---- events
 
-abbrev pub fetch_asks : VfSender → ℕ → ℕ → ℕ → ℕ → ℕ → Told (Option SendAction)
+abbrev pub fetch_asks : VfSender → ℕ → ℕ → ℕ → ℕ → ℕ → WithStatus (Option SendAction)
 fetch_asks s from my_ref your_ref buffer amount =
     and_then (sender_in s) (λ records. Ok (sender.on_fetch from my_ref your_ref buffer amount records))
 
-abbrev pub ack_asks : VfSender → ℕ → ℕ → ℕ → Told (Option SendAction)
+abbrev pub ack_asks : VfSender → ℕ → ℕ → ℕ → WithStatus (Option SendAction)
 ack_asks s from my_ref your_ref = and_then (sender_in s) (λ records. Ok (sender.on_ack from my_ref your_ref records))
 
-abbrev pub load_ack_asks : VfSender → ℕ → ℕ → Told (Option SendAction)
+abbrev pub load_ack_asks : VfSender → ℕ → ℕ → WithStatus (Option SendAction)
 load_ack_asks s from your_ref = and_then (sender_in s) (λ records. Ok (sender.on_load_ack from your_ref records))
 
 -- whether a transfer's message came back, and the records then
-abbrev pub bounce_told : VfSender → ℕ → Told (Bool × List Outgoing)
+abbrev pub bounce_told : VfSender → ℕ → WithStatus (Bool × List Outgoing)
 bounce_told s ref =
     and_then (sender_in s) (λ records.
     let found = sender.on_sending_bounce ref records in Ok (is_some found, sender.sending_bounced found records))
 
-abbrev pub cancel_told : VfSender → ℕ → Told (List Outgoing)
+abbrev pub cancel_told : VfSender → ℕ → WithStatus (List Outgoing)
 cancel_told s id = and_then (sender_in s) (λ records. by_rules (sender.cancel_sending (wanted id) records))
 
 -- ---- how an action ended
 
-abbrev pub sent_told : VfSender → VfSendAction → ℕ → ℕ → Told (List Outgoing)
+abbrev pub sent_told : VfSender → VfSendAction → ℕ → ℕ → WithStatus (List Outgoing)
 sent_told s w size last =
     and_then (sender_in s) (λ records. and_then (transmit_in w) (λ a. by_rules (tell_sent a size last records)))
 
-abbrev pub saved_told : VfSender → VfSendAction → ℕ → Told (List Outgoing)
+abbrev pub saved_told : VfSender → VfSendAction → ℕ → WithStatus (List Outgoing)
 saved_told s w last =
     and_then (sender_in s) (λ records. and_then (save_file_in w) (λ a. by_rules (tell_saved a last records)))
 
-abbrev pub loaded_told : VfSender → VfSendAction → ℕ → Told (List Outgoing)
+abbrev pub loaded_told : VfSender → VfSendAction → ℕ → WithStatus (List Outgoing)
 loaded_told s w size =
     and_then (sender_in s) (λ records. and_then (finish_in w) (λ x. by_rules (tell_sending_loaded x size records)))
 
-abbrev pub failed_told : VfSender → VfSendAction → Told (List Outgoing)
+abbrev pub failed_told : VfSender → VfSendAction → WithStatus (List Outgoing)
 failed_told s w =
     and_then (sender_in s) (λ records. and_then (send_action_in w) (λ a. by_rules (tell_sending_failed a records)))
 
 -- ---- what else is asked
 
 -- the bytes that an action to transmit sends
-abbrev pub part_told : VfSendAction → ℕ → Told Part
+abbrev pub part_told : VfSendAction → ℕ → WithStatus Part
 part_told w size = and_then (transmit_in w) (λ a. Ok (sender.next_part a size))
 
 -- whether the anchor's block is the source of an open transfer
-abbrev pub source_told : VfSender → ℕ → Told Bool
+abbrev pub source_told : VfSender → ℕ → WithStatus Bool
 source_told s anchor =
     and_then (sender_in s) (λ records. and_then (anchor_in anchor) (λ k. Ok (list_any (is_source k) records)))

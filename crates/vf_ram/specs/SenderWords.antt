@@ -14,8 +14,8 @@ use Rattle.vf_ram.specs.declared.sender_words.VfPart.{VfPart}
 use Rattle.vf_ram.specs.declared.sender_words.VfSendAction.{VfSendAction}
 use Rattle.vf_ram.specs.declared.sender_words.VfSender.{VfSender}
 use Rattle.vf_ram.specs.declared.sender_words.VfSending.{VfSending}
-use Rattle.vf_ram.specs.Told.{Told, and_then, bad_action, bad_records, or_status}
-use Rattle.vf_ram.specs.Places.{all_or_none, places}
+use Rattle.vf_ram.specs.WithStatus.{WithStatus, and_then, bad_action, bad_records, or_status}
+use Rattle.vf_ram.specs.RecordPlaces.{all_or_none, places}
 
 -- ---- records
 
@@ -65,7 +65,7 @@ abbrev pub as_sender : List Outgoing → VfSender
 as_sender records = record { count = length records; records = map (λ i. outgoing_or_none (slice_get records i)) places }
 
 -- the records that a sender has, as far as it counts them
-abbrev pub sender_in : VfSender → Told (List Outgoing)
+abbrev pub sender_in : VfSender → WithStatus (List Outgoing)
 sender_in s = if nat_le s.count 8 then or_status (all_or_none outgoing_of (take s.count s.records)) bad_records else Err bad_records
 
 -- ---- actions
@@ -83,27 +83,27 @@ as_send_action (Some (action.Finish x)) =
     record { what = 3; transfer = as_sending x; to = 0; answers = 0; buffer = 0; room = 0 }
 
 -- an action's transfer
-abbrev pub sending_in : VfSendAction → Told Sending
+abbrev pub sending_in : VfSendAction → WithStatus Sending
 sending_in w = or_status (sending_of w.transfer) bad_action
 
 -- the action, where it is to transmit
-abbrev pub transmit_in : VfSendAction → Told Transmit
+abbrev pub transmit_in : VfSendAction → WithStatus Transmit
 transmit_in w =
     if w.what == 1
     then and_then (sending_in w) (λ x. Ok (record { transfer = x; to = w.to; answers = w.answers; buffer = w.buffer; room = w.room }))
     else Err bad_action
 
 -- the action, where it is to save a file
-abbrev pub save_file_in : VfSendAction → Told SaveFile
+abbrev pub save_file_in : VfSendAction → WithStatus SaveFile
 save_file_in w =
     if w.what == 2 then and_then (sending_in w) (λ x. Ok (record { transfer = x; to = w.to; answers = w.answers })) else Err bad_action
 
 -- the transfer, where the action is to look its source's size up
-abbrev pub finish_in : VfSendAction → Told Sending
+abbrev pub finish_in : VfSendAction → WithStatus Sending
 finish_in w = if w.what == 3 then sending_in w else Err bad_action
 
 -- any of the three
-abbrev pub send_action_in : VfSendAction → Told SendAction
+abbrev pub send_action_in : VfSendAction → WithStatus SendAction
 send_action_in w =
     if w.what == 1 then and_then (transmit_in w) (λ a. Ok (action.Transmit a))
     else if w.what == 2 then and_then (save_file_in w) (λ a. Ok (action.SaveFile a))

@@ -1,10 +1,12 @@
 //! A message as a struct of words, with its name as bytes, and back.
 ghost use Rattle.std.specs.Prelude.{◌≡◌, ◌≤◌, length};
 ghost use Rattle.vf_ram.specs.MessageWords.{as_file_words, as_words, as_name, body_in_words, file_in_words};
-ghost use Rattle.vf_ram.specs.MessageWords.{words_about_file, message_of, name_in, no_file, words_about_bytes};
+ghost use Rattle.vf_ram.specs.MessageWords.{words_about_file, message_in_words, name_in_words, no_file};
+ghost use Rattle.vf_ram.specs.MessageWords.{words_about_bytes};
 ghost use Rattle.rh_defs.specs.Messages.{action_number};
 
 use crate::status::{BAD_ARGUMENT, BAD_MESSAGE};
+use rh_defs::sizes::LONGEST_PATHNAME;
 use rh_defs::{Action, Body, FileData, Handle, Message, Pathname, Ref};
 
 /// The bytes of a name's array: one more than a name has at most, so that a zero ends it.
@@ -67,7 +69,7 @@ impl VfFileWords {
 
 /// A name in an array, with zeros behind it.
 fn name_array(name: &[u8]) -> [u8; 212]
-    requires { length name.now ≤ 211 }
+    requires { length name.now ≤ LONGEST_PATHNAME }
     ensures { result ≡ as_name name.now }
 {
     let mut bytes = [0; NAME_ROOM];
@@ -130,7 +132,7 @@ impl VfMessageWords {
 
     /// The message that the words are.
     pub fn read(&self) -> Result<Message, u32>
-        ensures { result ≡ message_of self.now }
+        ensures { result ≡ message_in_words self.now }
     {
         Ok(Message {
             from: Handle(self.from),
@@ -176,7 +178,7 @@ impl VfMessageWords {
     }
 
     fn name(&self) -> Result<Pathname, u32>
-        ensures { result ≡ name_in self.now }
+        ensures { result ≡ name_in_words self.now }
     {
         let length = self.name_length as usize;
         if length > self.name.len() {

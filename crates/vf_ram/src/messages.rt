@@ -2,8 +2,8 @@
 ghost use Rattle.std.specs.Prelude.{◌≡◌};
 ghost use Rattle.rh_defs.specs.MessageImage.{decoded};
 ghost use Rattle.rh_defs.specs.Messages.{encoded_length};
-ghost use Rattle.vf_ram.specs.MessageWords.{as_words, decode_told, in_block, message_of};
-ghost use Rattle.vf_ram.specs.Told.{shown_or, status_of};
+ghost use Rattle.vf_ram.specs.MessageWords.{as_words, decode_told, in_block, message_in_words};
+ghost use Rattle.vf_ram.specs.WithStatus.{shown_or, status_of};
 
 use crate::message_words::VfMessageWords;
 use crate::status::{OK, fault_status};
@@ -22,10 +22,10 @@ pub extern "C" fn vf_message_encode(
     message: &mut VfMessage,
     length: &mut u32,
 ) -> u32
-    ensures status { result ≡ status_of (message_of words.now) }
+    ensures status { result ≡ status_of (message_in_words words.now) }
     ensures message { message.new.bytes
-        ≡ shown_or (in_block message.old.bytes) (message_of words.now) message.old.bytes }
-    ensures length { length.new ≡ shown_or encoded_length (message_of words.now) length.old }
+        ≡ shown_or (in_block message.old.bytes) (message_in_words words.now) message.old.bytes }
+    ensures length { length.new ≡ shown_or encoded_length (message_in_words words.now) length.old }
 {
     match words.read() {
         Ok(known) => {

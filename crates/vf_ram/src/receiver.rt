@@ -9,7 +9,7 @@ ghost use Rattle.vf_ram.specs.ReceiverCalls.{document_told, fetch_bounce_asks, f
 ghost use Rattle.vf_ram.specs.ReceiverCalls.{finished_told, first_fetch_told, load_asks, save_asks, taking_failed_told};
 ghost use Rattle.vf_ram.specs.ReceiverCalls.{taking_loaded_told, transmit_asks};
 ghost use Rattle.vf_ram.specs.ReceiverWords.{as_fetch, as_receiver, as_take_action};
-ghost use Rattle.vf_ram.specs.Told.{by_rules as by_rules_of, shown_or, status_of as status_of_told};
+ghost use Rattle.vf_ram.specs.WithStatus.{by_rules as by_rules_of, shown_or, status_of as status_of_told};
 
 use crate::receiver_words::{VfFetch, VfReceiver, VfTakeAction};
 use crate::status::{OK, by_rules, read_anchor, wanted};

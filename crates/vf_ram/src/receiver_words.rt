@@ -2,13 +2,13 @@
 ghost use Rattle.std.specs.Prelude.{◌≡◌, ◌≤◌, length, slice_get, Some};
 ghost use Rattle.rh_defs.specs.declared.sizes.TheConstants.{MOST_RECORDS};
 ghost use Rattle.rh_defs.specs.declared.transfer_action.TakeAction.TheVariants as action;
-ghost use Rattle.vf_ram.specs.Places.{all_or_none};
+ghost use Rattle.vf_ram.specs.RecordPlaces.{all_or_none};
 ghost use Rattle.vf_ram.specs.ReceiverWords.{append_in, as_asked, as_fetch, as_incoming, as_receiver, as_take_action};
 ghost use Rattle.vf_ram.specs.ReceiverWords.{as_taking, ask_in, asked_in, asked_of, claim_in, ended_taking, ending_in};
 ghost use Rattle.vf_ram.specs.ReceiverWords.{ending_number, fetch_of, incoming_of, incoming_or_none, load_file_in};
 ghost use Rattle.vf_ram.specs.ReceiverWords.{next_in, next_number, next_words, no_fetch, plain_action, receiver_in};
 ghost use Rattle.vf_ram.specs.ReceiverWords.{release_in, take_action_in, taking_in, taking_of};
-ghost use Rattle.vf_ram.specs.Told.{bad_records, or_status};
+ghost use Rattle.vf_ram.specs.WithStatus.{bad_records, or_status};
 
 use crate::status::{BAD_ACTION, BAD_RECORDS, read_anchor};
 use arrayvec::ArrayVec;

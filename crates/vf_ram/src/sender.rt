@@ -5,7 +5,7 @@ ghost use Rattle.rh_defs.specs.declared.transfer.Outgoing.{Outgoing};
 ghost use Rattle.vf_ram.specs.SenderCalls.{ack_asks, bounce_told, cancel_told, failed_told, fetch_asks, load_ack_asks};
 ghost use Rattle.vf_ram.specs.SenderCalls.{loaded_told, offer_told, part_told, saved_told, sent_told, source_told};
 ghost use Rattle.vf_ram.specs.SenderWords.{as_part, as_send_action, as_sender};
-ghost use Rattle.vf_ram.specs.Told.{by_rules as by_rules_of, shown_or, status_of as status_of_told};
+ghost use Rattle.vf_ram.specs.WithStatus.{by_rules as by_rules_of, shown_or, status_of as status_of_told};
 
 use crate::sender_words::{VfPart, VfSendAction, VfSender};
 use crate::status::{OK, by_rules, read_anchor, wanted};

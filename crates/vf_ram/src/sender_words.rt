@@ -3,8 +3,8 @@ ghost use Rattle.std.specs.Prelude.{◌≡◌, ◌≤◌, length, slice_get};
 ghost use Rattle.vf_ram.specs.SenderWords.{as_outgoing, as_part, as_send_action, as_sender, as_sending, as_word};
 ghost use Rattle.vf_ram.specs.SenderWords.{ended_sending, finish_in, outgoing_of, outgoing_or_none, save_file_in};
 ghost use Rattle.vf_ram.specs.SenderWords.{send_action_in, sender_in, sending_in, sending_of, transmit_in};
-ghost use Rattle.vf_ram.specs.Places.{all_or_none};
-ghost use Rattle.vf_ram.specs.Told.{bad_records, or_status};
+ghost use Rattle.vf_ram.specs.RecordPlaces.{all_or_none};
+ghost use Rattle.vf_ram.specs.WithStatus.{bad_records, or_status};
 ghost use Rattle.rh_defs.specs.declared.sizes.TheConstants.{MOST_RECORDS};
 
 use crate::status::{BAD_ACTION, BAD_RECORDS, read_anchor};

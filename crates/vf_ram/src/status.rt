@@ -1,6 +1,6 @@
 //! Statuses: how a call ended, as a number. The header for C has the same numbers.
 ghost use Rattle.std.specs.Prelude.{◌≡◌};
-ghost use Rattle.vf_ram.specs.Told.{anchor_in, by_rules, fault_status, refusal_status, wanted};
+ghost use Rattle.vf_ram.specs.WithStatus.{anchor_in, by_rules, fault_status, refusal_status, wanted};
 
 use rh_defs::sizes::ANCHORS;
 use rh_defs::{Anchor, MessageFault, Ref, Refusal};

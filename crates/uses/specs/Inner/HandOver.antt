@@ -109,3 +109,13 @@ pub record IsOver (source : List ℕ) (turn : ℕ) (mail : List Letter) (sender 
   pub sends : sender ≡ outgoing.Done 1 (length source) ∷ []
   pub takes : receiver ≡ incoming.Done 1 0 (length source) ∷ []
   pub whole : document ≡ source
+
+-- one of these four
+pub data IsOnItsWay (source : List ℕ) (room turn : ℕ) (mail : List Letter) (sender : List Outgoing) (receiver : List Incoming)
+    (document buffer : List ℕ) : Type 0 where
+  Offered : IsOffered source turn mail sender receiver → IsOnItsWay source room turn mail sender receiver document buffer
+  Asked : (c last : ℕ) → IsAsked source room turn mail sender receiver document c last
+      → IsOnItsWay source room turn mail sender receiver document buffer
+  Answered : (c n fetch : ℕ) → IsAnswered source room turn mail sender receiver document buffer c n fetch
+      → IsOnItsWay source room turn mail sender receiver document buffer
+  Over : IsOver source turn mail sender receiver document → IsOnItsWay source room turn mail sender receiver document buffer

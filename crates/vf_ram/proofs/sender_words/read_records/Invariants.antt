@@ -1,6 +1,6 @@
 use Rattle.std.proofs.Common.{◌≡◌, drop}
 use Rattle.arrayvec.specs.ArrayVec.{array_vec_len}
-use Rattle.vf_ram.specs.Places.{all_or_none}
+use Rattle.vf_ram.specs.RecordPlaces.{all_or_none}
 use Rattle.vf_ram.specs.SenderWords.{outgoing_of}
 use Rattle.vf_ram.proofs.ReadLaws.{behind}
 use Rattle.vf_ram.proofs.sender_words.read_records.Given as goal

@@ -7,11 +7,11 @@ use Rattle.rh_defs.specs.declared.refusal.Refusal.{Refusal}
 use Rattle.rh_defs.specs.declared.refusal.Refusal.TheVariants.{Busy, NotOpen, BadRange}
 use Rattle.rh_defs.specs.declared.sizes.TheConstants.{ANCHORS}
 
-abbrev pub Told : Type 0 → Type 0
-Told A = Result A ℕ
+abbrev pub WithStatus : Type 0 → Type 0
+WithStatus A = Result A ℕ
 
 -- the first step, and with what it gives the next one
-abbrev pub and_then : {A B : Type 0} → Told A → (A → Told B) → Told B
+abbrev pub and_then : {A B : Type 0} → WithStatus A → (A → WithStatus B) → WithStatus B
 and_then (Ok x) next = next x
 and_then (Err status) next = Err status
 
@@ -23,7 +23,7 @@ refusal_status BadRange = 13
 refusal_status _ = 63
 
 -- what is granted by the rules, with a status in place of the refusal
-abbrev pub by_rules : {A : Type 0} → Granted A → Told A
+abbrev pub by_rules : {A : Type 0} → Granted A → WithStatus A
 by_rules (Ok x) = Ok x
 by_rules (Err refusal) = Err (refusal_status refusal)
 
@@ -53,22 +53,22 @@ fault_status fault.BadLength = 33
 fault_status fault.BadAction = bad_message
 
 -- the status of what a call came to
-abbrev pub status_of : {A : Type 0} → Told A → ℕ
+abbrev pub status_of : {A : Type 0} → WithStatus A → ℕ
 status_of (Ok x) = 0
 status_of (Err status) = status
 
 -- what is told, as a struct or number of C, or what stood there before
-abbrev pub shown_or : {A B : Type 0} → (A → B) → Told A → B → B
+abbrev pub shown_or : {A B : Type 0} → (A → B) → WithStatus A → B → B
 shown_or shown (Ok x) old = shown x
 shown_or shown (Err status) old = old
 
 -- what there is, or else a status
-abbrev pub or_status : {A : Type 0} → Option A → ℕ → Told A
+abbrev pub or_status : {A : Type 0} → Option A → ℕ → WithStatus A
 or_status (Some x) status = Ok x
 or_status None status = Err status
 
 -- the anchor with a number
-abbrev pub anchor_in : ℕ → Told ℕ
+abbrev pub anchor_in : ℕ → WithStatus ℕ
 anchor_in k = if nat_lt k ANCHORS then Ok k else Err bad_anchor
 
 -- the transfer that a cancel means: with 0 for its id the first
