@@ -1,5 +1,6 @@
 -- A file on its way: which message is the next one, and how far the file is behind it.
-use Rattle.std.proofs.Common.{◌≡◌, ℕ, ◌+◌, ◌-◌, ◌<◌, ◌≤◌, Bool, true, false, zero, suc, refl, ap, sym, ◌∙◌, arith, List, [], ◌∷◌, ◌++◌, length, take, drop, append-nil}
+use Rattle.std.proofs.Common.{◌≡◌, ℕ, ◌+◌, ◌-◌, ◌<◌, ◌≤◌, Bool, true, false, zero, suc, refl, ap, sym, ◌∙◌, arith, List, [], ◌∷◌, ◌++◌, length, take, drop}
+use Rattle.std.proofs.Common.{append-nil}
 use Rattle.std.specs.Prelude.{min, nat_lt, Option, Some, None, slice_get, option_to_list}
 use Rattle.std.proofs.Math.Seq.{take-add}
 use Rattle.rh_defs.specs.Messages.{action_of}
@@ -9,7 +10,8 @@ use Rattle.rh_defs.specs.declared.message.Letter.{Letter}
 use Rattle.rh_defs.specs.declared.transfer.Outgoing.{Outgoing}
 use Rattle.rh_defs.specs.declared.transfer.Incoming.{Incoming}
 use Rattle.rh_defs.specs.declared.transfer.Incoming.TheVariants as incoming
-use Rattle.uses.specs.Inner.HandOver.{IsOffered, IsAsked, IsAnswered, IsOver, IsOnItsWay, Offered, Asked, Answered, Over, offer_of, fetch_of, transmit_of, answer_to, went_at, fetching_at, taken_at}
+use Rattle.uses.specs.Inner.HandOver.{IsOffered, IsAsked, IsAnswered, IsOver, IsOnItsWay, Offered, Asked, Answered, Over, offer_of, fetch_of, transmit_of}
+use Rattle.uses.specs.Inner.HandOver.{answer_to, went_at, fetching_at, taken_at}
 use Rattle.uses.proofs.HandOverSteps.{offered-next, asked-next, answered-next, answered-over}
 
 -- what is there lies below the length
