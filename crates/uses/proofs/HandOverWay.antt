@@ -82,7 +82,7 @@ pub offered-way : (source document buffer : List ℕ) (room turn next : ℕ) (ma
     → IsOnItsWay source room (turn + 1) (mail ++ option_to_list answer) sender after document buffer
 offered-way source document buffer room turn next mail sender receiver after answer h later done =
     let way : IsOnItsWay source room (turn + 1) (mail ++ fetch_of room 1 ∷ []) sender (fetching_at 0 (turn + 2)) document buffer =
-        Asked 0 1 (offered-next source document room turn mail sender receiver h) in
+    Asked 0 1 (offered-next source document room turn mail sender receiver h) in
     rw (done.0, done.1, later) way
 
 pub asked-way : (source document buffer : List ℕ) (room turn next : ℕ) (mail : List Letter) (sender later : List Outgoing) (receiver : List Incoming)
@@ -93,7 +93,7 @@ pub asked-way : (source document buffer : List ℕ) (room turn next : ℕ) (mail
 asked-way source document buffer room turn next mail sender later receiver answer c last h then_next done =
     let n : ℕ = min room (length source - c) in
     let way : IsOnItsWay source room (turn + 1) (mail ++ transmit_of room (turn + 1) n ∷ []) (went_at room c n (turn + 2)) receiver document buffer =
-        Answered c n (turn + 1) (asked-next source document buffer room turn mail sender receiver c last h done.2) in
+    Answered c n (turn + 1) (asked-next source document buffer room turn mail sender receiver c last h done.2) in
     rw (done.0, done.1, then_next) way
 
 pub answered-way : (source document later buffer : List ℕ) (room turn next : ℕ) (mail : List Letter) (sender : List Outgoing)
