@@ -6,6 +6,7 @@ wrong body at the goals at which it would refuse the function's own.
 
 import copy
 import dataclasses
+import glob
 import os
 import re
 import shutil
@@ -52,13 +53,15 @@ def lay_out(crate, edits, folder):
 def _may_have_a_twin(crate, edit):
     """Whether a twin of the one function that the edit changes can stand beside it.
 
-    None can of a trait's method, of a call for C, and of a call in a cycle: these are known by their names.
+    None can of a trait's method, of a call for C, and of a call in a cycle, which are known by their names, and of a
+    function with closures that have proofs of their own.
     """
     function = edit.functions[0]
     head = edits_of.bytes_of(f"{crate.folder}/{function.file}")[function.first : function.opens]
     files = {name for folder in _proofs(crate, function) for name in os.listdir(f"{crate.folder}/{folder}")}
+    has_closures = glob.glob(f"{crate.folder}/proofs/**/fn/{function.name}", recursive=True)
     is_known_by_name = function.in_trait or function.in_cycle or b"extern" in head
-    return len(edit.functions) == 1 and not is_known_by_name and files <= TAKEN
+    return len(edit.functions) == 1 and not is_known_by_name and not has_closures and files <= TAKEN
 
 
 def _proofs(crate, function):

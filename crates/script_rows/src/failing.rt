@@ -58,8 +58,7 @@ fn wrong_read(alloc: Global, left: &[u8], by_line: bool) -> io::Result<u32> {
     Ok(wrong)
 }
 
-/// How many runs there are whose writer has less room than the replies, and how many of them have written another
-/// front.
+/// How many runs there are whose writer has less room than the replies, and how many have written another front.
 fn wrong_written(alloc: Global, all: &[u8], fails: bool) -> io::Result<(usize, u32)> {
     let mut wrong = 0u32;
     let wanted = replies(alloc, LINES.len())?;

@@ -1,5 +1,4 @@
-//! What is written of a script: over memory of its own, over lent memory, over a plain store, and of a script in
-//! memory.
+//! What is written of a script: over memory of its own, lent memory and a plain store, and of a script in memory.
 
 ghost use Rattle.std.specs.Prelude.{◌≡◌, ◌*◌, ◌≤◌, length, IfOk};
 ghost use Rattle.rh_defs.specs.Memory.{fresh};

@@ -122,7 +122,7 @@ pub(crate) fn narrowly(alloc: Global, script: &[u8], writer: Narrow) -> (Vec<u8>
     (taken, ended)
 }
 
-/// Prints whether a run of one byte a read and a write writes all, and how scripts end of so many reads, with the text
+/// Prints whether a run of one byte a read and a write writes all, and how scripts end of so many reads; and the text
 /// of each fault of a run.
 pub(crate) fn print_streams<W: Write>(alloc: Global, output: &mut W) -> io::Result<()> {
     let script = script(alloc)?;

@@ -1,5 +1,6 @@
 -- A file on its way: which message is the next one, and how far the file is behind it.
-use Rattle.std.proofs.Common.{◌≡◌, ℕ, ◌+◌, ◌-◌, ◌<◌, ◌≤◌, Bool, true, false, zero, suc, refl, ap, sym, ◌∙◌, arith, List, [], ◌∷◌, ◌++◌, length, take, drop, append-nil}
+use Rattle.std.proofs.Common.{◌≡◌, ℕ, ◌+◌, ◌-◌, ◌<◌, ◌≤◌, Bool, true, false, zero, suc, refl, ap, sym, ◌∙◌, arith, List, [], ◌∷◌, ◌++◌, length, take, drop}
+use Rattle.std.proofs.Common.{append-nil}
 use Rattle.std.specs.Prelude.{min, nat_lt, Option, Some, None, slice_get, option_to_list}
 use Rattle.std.proofs.Math.Seq.{take-add}
 use Rattle.rh_defs.specs.Messages.{action_of}
@@ -9,7 +10,8 @@ use Rattle.rh_defs.specs.declared.message.Letter.{Letter}
 use Rattle.rh_defs.specs.declared.transfer.Outgoing.{Outgoing}
 use Rattle.rh_defs.specs.declared.transfer.Incoming.{Incoming}
 use Rattle.rh_defs.specs.declared.transfer.Incoming.TheVariants as incoming
-use Rattle.uses.specs.Inner.HandOver.{IsOffered, IsAsked, IsAnswered, IsOver, IsOnItsWay, Offered, Asked, Answered, Over, offer_of, fetch_of, transmit_of, answer_to, went_at, fetching_at, taken_at}
+use Rattle.uses.specs.Inner.HandOver.{IsOffered, IsAsked, IsAnswered, IsOver, IsOnItsWay, Offered, Asked, Answered, Over, offer_of, fetch_of, transmit_of}
+use Rattle.uses.specs.Inner.HandOver.{answer_to, went_at, fetching_at, taken_at}
 use Rattle.uses.proofs.HandOverSteps.{offered-next, asked-next, answered-next, answered-over}
 
 -- what is there lies below the length
@@ -80,7 +82,7 @@ pub offered-way : (source document buffer : List ℕ) (room turn next : ℕ) (ma
     → IsOnItsWay source room (turn + 1) (mail ++ option_to_list answer) sender after document buffer
 offered-way source document buffer room turn next mail sender receiver after answer h later done =
     let way : IsOnItsWay source room (turn + 1) (mail ++ fetch_of room 1 ∷ []) sender (fetching_at 0 (turn + 2)) document buffer =
-        Asked 0 1 (offered-next source document room turn mail sender receiver h) in
+    Asked 0 1 (offered-next source document room turn mail sender receiver h) in
     rw (done.0, done.1, later) way
 
 pub asked-way : (source document buffer : List ℕ) (room turn next : ℕ) (mail : List Letter) (sender later : List Outgoing) (receiver : List Incoming)
@@ -91,7 +93,7 @@ pub asked-way : (source document buffer : List ℕ) (room turn next : ℕ) (mail
 asked-way source document buffer room turn next mail sender later receiver answer c last h then_next done =
     let n : ℕ = min room (length source - c) in
     let way : IsOnItsWay source room (turn + 1) (mail ++ transmit_of room (turn + 1) n ∷ []) (went_at room c n (turn + 2)) receiver document buffer =
-        Answered c n (turn + 1) (asked-next source document buffer room turn mail sender receiver c last h done.2) in
+    Answered c n (turn + 1) (asked-next source document buffer room turn mail sender receiver c last h done.2) in
     rw (done.0, done.1, then_next) way
 
 pub answered-way : (source document later buffer : List ℕ) (room turn next : ℕ) (mail : List Letter) (sender : List Outgoing)

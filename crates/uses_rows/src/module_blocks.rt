@@ -2,7 +2,7 @@
 
 use crate::stores::{paged_store, plain_store, started};
 use rh_defs::Refusal;
-use rh_store::Store;
+use rh_store::{Store, StoreFault};
 use std::alloc::Global;
 use std::io::{self, Write};
 use uses::{give_bytes, keep_bytes};
@@ -26,20 +26,22 @@ pub(crate) fn print_blocks<W: Write>(alloc: Global, output: &mut W) -> io::Resul
     writeln!(output, "{plain:?}\n{paged:?}")
 }
 
-fn kept<S: Store + Drop>(store: S) -> Option<Kept> {
+fn kept<S: Store + Drop>(store: S) -> Result<Kept, Refusal> {
     let mut store = store;
-    let module_area = started(&mut store).ok()?;
-    let address = keep_bytes(&mut store, module_area, b"hello").ok()?;
+    let Ok(module_area) = started(&mut store) else {
+        return Err(Refusal::NoArea);
+    };
+    let address = keep_bytes(&mut store, module_area, b"hello")?;
     let mut bytes = [0; 5];
     give_bytes(&mut store, module_area, address, &mut bytes);
-    let again = keep_bytes(&mut store, module_area, b"hello").ok()?;
-    Some((address, bytes, again))
+    let again = keep_bytes(&mut store, module_area, b"hello")?;
+    Ok((address, bytes, again))
 }
 
-fn refused<S: Store + Drop>(store: S) -> Option<Refused> {
+fn refused<S: Store + Drop>(store: S) -> Result<Refused, StoreFault> {
     let mut store = store;
-    let module_area = started(&mut store).ok()?;
+    let module_area = started(&mut store)?;
     let none = keep_bytes(&mut store, module_area, b"");
     let many = keep_bytes(&mut store, module_area, &[7; TOO_MANY]);
-    Some((none, many, store.free_pages()))
+    Ok((none, many, store.free_pages()))
 }

@@ -34,7 +34,7 @@ pub(crate) fn print_slots<W: Write>(alloc: Global, output: &mut W) -> io::Result
     Ok(())
 }
 
-/// Holds five bytes, and takes so many of them, twice. Answers the slot and the pages that are free, and both times.
+/// Holds five bytes, and takes so many, 6 at most, twice. Answers the slot and the pages that are free, and both times.
 fn taken<S: Store + Drop>(store: S, room: usize) -> Result<(Slot, usize, Taken, Taken), Refusal>
     requires { open_below (S.memory store).area MAX_AREAS < MAX_AREAS }
 {
@@ -42,6 +42,7 @@ fn taken<S: Store + Drop>(store: S, room: usize) -> Result<(Slot, usize, Taken, 
     let slot = hold_bytes(&mut store, b"hello")?;
     let free = store.free_pages();
     let mut bytes = [1; 6];
+    let room = room.min(bytes.len());
     let first = take_bytes(&mut store, slot, &mut bytes[..room]);
     let first = (first, bytes, store.free_pages());
     let second = take_bytes(&mut store, slot, &mut bytes[..room]);

@@ -7,11 +7,11 @@ from suite import WRITE_FAILED
 
 # Words of which each is told as wrong.
 WRONG_WORDS = [
-    ["walk", "x"], ["run"], ["run", "--pages", "7", "x"], ["run", "--pages", "1025", "x"], ["run", "--pages", "many", "x"],
-    ["check"], ["check", "x", "y"], ["check", "--slot"], ["check", "--slot", "x", "y"], ["check", "--slot", "--slot", "x"],
-    ["check", "--slot=x"], ["check", "--slots", "x"], ["run", "--slot", "x"], ["--"], ["ru", "-"], ["run", "-p", "9", "-"],
-    ["run", "--page", "9", "-"], ["run", "--pages", "8", "--pages", "9", "-"], ["run", "-x"], ["run", "-", "-x"],
-    ["check", "--pages", "8", "x"], ["run", "--marked", "x"],
+    ["walk", "x"], ["run"], ["run", "--pages", "7", "x"], ["run", "--pages", "1025", "x"],
+    ["run", "--pages", "many", "x"], ["check"], ["check", "x", "y"], ["check", "--slot"], ["check", "--slot", "x", "y"],
+    ["check", "--slot", "--slot", "x"], ["check", "--slot=x"], ["check", "--slots", "x"], ["run", "--slot", "x"], ["--"],
+    ["ru", "-"], ["run", "-p", "9", "-"], ["run", "--page", "9", "-"], ["run", "--pages", "8", "--pages", "9", "-"],
+    ["run", "-x"], ["run", "-", "-x"], ["check", "--pages", "8", "x"], ["run", "--marked", "x"],
     *([verb, *words] for verb in ("map", "draw")
       for words in ([], ["--pages", "7", "x"], ["--marked", "--marked", "x"], ["--mark", "x"])),
 ]
@@ -36,8 +36,8 @@ HELP = [
     (["run", "--help"], [PAGES, SCRIPT, FILES]),
     (["check", "--help"], [b"The bytes, 1048576 at most", b"Take the bytes for a slot, not for a heap"]),
     (["map", "--help"], [b"Run a script and print a map of memory after each step", PAGES, MARKED, SCRIPT, FILES]),
-    (["draw", "--help"], [b"Run a script and print a page of HTML with a figure of memory after each step", PAGES, MARKED,
-                          SCRIPT, FILES]),
+    (["draw", "--help"], [b"Run a script and print a page of HTML with a figure of memory after each step", PAGES,
+                          MARKED, SCRIPT, FILES]),
 ]
 # Numbers of pages, and how many are free where nothing has begun.
 NUMBERS = [("8", 7), ("64", 63), ("100", 99), ("129", 128), ("256", 255), ("1024", 1023)]

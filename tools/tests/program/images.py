@@ -86,7 +86,7 @@ def test_slots(suite):
     suite.ends("check with --slot behind the file", ["check", "whole.slot", "--slot"], sums, b"", 0)
 
 
-# Files by the words that they begin with, in front of zeros, and by their lengths; what is said of each, and the status.
+# Files by the words that they begin with, in front of zeros, and by their lengths; what is said, and the status.
 HEAPS = [
     ("", 0, b"bad BadDescriptor\n", 1),
     ("486561700000000010000000", 12, b"bad BadDescriptor\n", 1),

@@ -33,7 +33,10 @@ returns c = λ count my fetch n recv msg fits room small.
     let was : c.on_transmit.result ≡ Some (take_action.Append c.in-Append.a) = cc in
     let body : c.args.message.now.body ≡ RamTransmit c.in-RamTransmit.address c.in-RamTransmit.written = cc in
     let same = same-append (length c.args.buffer.now) count my fetch n c.in-RamTransmit.address c.in-RamTransmit.written c.args.message.now
-        c.args.receiver.now c.on_transmit.result c.in-Append.a recv msg body c.on_transmit.ensures.action was fits small in
-    let goes = c.go_on.ensures (length c.args.buffer.now) count my fetch n recv same small in
-    (goes.0, goes.1, appends (length c.args.buffer.now) count my fetch n c.in-Append.a c.moves.new.to c.args.document.now c.args.buffer.now same
-        (c.if-not-moves.ensures.moved refl))
+    c.args.receiver.now c.on_transmit.result c.in-Append.a recv msg body c.on_transmit.ensures.action was fits small in
+    let goes = c.go_on.ensures (length c.args.buffer.now) count my fetch n recv same small in (
+      goes.0,
+      goes.1,
+      appends (length c.args.buffer.now) count my fetch n c.in-Append.a c.moves.new.to c.args.document.now c.args.buffer.now same
+          (c.if-not-moves.ensures.moved refl),
+    )
