@@ -112,7 +112,7 @@ enum {
     text(VF_ANCHOR_IN_USE, "the anchor has a block")                                                                 \
     text(VF_NOT_A_BLOCK, "no block begins at the address")                                                           \
     text(VF_NOT_YOURS, "the block of the module area holds a message")                                               \
-    text(VF_BUSY, "a transfer uses the block, eight that go out are open, or there is a scrap file")                 \
+    text(VF_BUSY, "a transfer uses the block, eight are going that way, or there is a scrap file")                   \
     text(VF_NOT_OPEN, "no transfer that is meant can be given up")                                                   \
     text(VF_NOTHING_SENT, "the task has sent no message")                                                            \
     text(VF_BAD_RANGE, "bytes lie outside the block")                                                                \
