@@ -1,5 +1,7 @@
 //! Rows of areas on a sheet, cards and what leads to them, and arrows.
 
+ghost use Rattle.std.specs.Prelude.{◌≡◌};
+
 use rh_draw::{
     Card, Look, Plot, Slide, Tint, print_high_card, print_lens_above, print_row, print_slide_arrow,
     print_tick,
