@@ -4,15 +4,51 @@ ghost use Rattle.std.specs.Prelude.{◌<◌, IfOk};
 ghost use Rattle.rh_defs.specs.HeapImage.{IsImage, heap_of};
 ghost use Rattle.rh_heap.specs.HeapSpans.{IsSpan};
 
-use crate::heaps::IMAGE;
-use crate::same::{is_true, same};
-use rh_heap::{Span, Summary, check, claim, init, release, segments};
-use rh_store::{PlainStore, Store, StoreFault, Words, WordsMut};
-use std::process::Abort;
-use std::test::Fail;
+use crate::answer::shown;
+use crate::heaps::empty_heap;
+use crate::numbers::{RandomNumbers, put_word};
+use crate::row::Row;
+use rh_heap::{Span, Summary, check, claim, release, segments};
+use rh_store::{PlainStore, Words, WordsMut};
+use std::alloc::Global;
+
+/// A heap of 56 bytes with two blocks and a hole between them.
+const IMAGE: [u8; 56] = [
+    0x48, 0x65, 0x61, 0x70, 0x1c, 0, 0, 0, 0x30, 0, 0, 0, 0x38, 0, 0, 0, 0x10, 0, 0, 0, 0, 0, 0, 0,
+    0, 0, 0, 0, 0, 0, 0, 0, 0, 0, 0, 0, 0x08, 0, 0, 0, 0x08, 0, 0, 0, 0, 0, 0, 0, 0, 0, 0, 0, 0, 0,
+    0, 0,
+];
 
 /// The images that are made of each kind.
 const IMAGES: u32 = 100_000;
+
+/// What a row answers: what the checker says of the bytes that it spells, or whether more images than so many of a kind
+/// are taken for heaps, of which each has segments that add up to what was said of it.
+pub(crate) fn call(alloc: Global, row: &Row<'_>) -> Option<String> {
+    match row.word(0)? {
+        "image" => shown(
+            alloc,
+            check(spelled(alloc, row.word(1).unwrap_or(""))?.as_slice()),
+        ),
+        "each_byte_changed" => shown(alloc, each_byte_changed()? > row.number(1)?),
+        "random_words" => shown(alloc, random_images()? > row.number(1)?),
+        "one_word_changed" => {
+            let taken = heaps_with_one_word_changed(alloc)?;
+            shown(alloc, taken > row.number(1)? && taken < IMAGES)
+        }
+        _ => None,
+    }
+}
+
+/// The bytes that hexadecimal digits spell.
+fn spelled(alloc: Global, digits: &str) -> Option<Vec<u8>> {
+    let mut bytes = Vec::new(alloc);
+    for at in 0..digits.len() / 2 {
+        let pair = digits.get(2 * at..2 * at + 2)?;
+        bytes.push(u8::from_str_radix(pair, 16).ok()?).ok()?;
+    }
+    Some(bytes)
+}
 
 /// What the segments of an image add up to.
 fn added(image: &[u8]) -> Summary
@@ -41,76 +77,46 @@ fn added(image: &[u8]) -> Summary
     sums
 }
 
-/// Whether an image is taken for a heap. Then its segments add up to what was said of it.
-fn is_taken<R: Abort>(rt: &R, image: &[u8]) -> bool {
+/// How many heaps an image is taken for, 0 or 1; none where its segments don't add up to what was said of it.
+fn taken_for(image: &[u8]) -> Option<u32> {
     match check(image) {
         Ok(sums) => {
-            same(rt, (image, added(image)), (image, sums));
-            true
+            if added(image) != sums {
+                return None;
+            }
+            Some(1)
         }
-        Err(_fault) => false,
+        Err(_fault) => Some(0),
     }
 }
 
-#[test]
-fn each_byte_of_an_image_changed(rt: HostRuntime) {
+/// How many images are taken for heaps of which one byte is another.
+fn each_byte_changed() -> Option<u32> {
     let mut taken = 0u32;
     for place in 0..56usize {
         for value in 0..=255u8 {
             let mut image = IMAGE;
             image[place] = value;
-            taken = taken.wrapping_add(u32::from(is_taken(&rt, &image)));
+            taken = taken.wrapping_add(taken_for(&image)?);
         }
     }
-    is_true(&rt, taken > 56);
+    Some(taken)
 }
 
-/// Numbers that look random, the same in each run.
-#[derive(Drop)]
-pub(crate) struct RandomNumbers {
-    last: u32,
-}
-
-impl RandomNumbers {
-    /// The first of them is still to come.
-    pub(crate) fn new() -> RandomNumbers {
-        RandomNumbers { last: 1 }
-    }
-
-    /// One of the numbers below a limit.
-    pub(crate) fn below(&mut self, limit: u32) -> u32
-        requires { 0 < limit }
-        ensures { result < limit }
-    {
-        self.last = self
-            .last
-            .wrapping_mul(1_664_525)
-            .wrapping_add(1_013_904_223);
-        (self.last >> 8) % limit
-    }
-
-    /// A word as it may stand in a heap: a small multiple of 8, at times 0, and now and then anything.
-    fn word(&mut self) -> u32 {
-        match self.below(8) {
-            0 => self.below(0x0100_0000).wrapping_mul(257),
-            1 => self.below(256),
-            2..=4 => 0,
-            _ => self.below(12) * 8,
-        }
-    }
-}
-
-/// Writes a word at a place, so far as the image goes.
-pub(crate) fn put_word(image: &mut [u8], place: usize, word: u32) {
-    for (byte, new) in image.iter_mut().skip(place).zip(word.to_le_bytes()) {
-        *byte = new;
+/// A word as it may stand in a heap: a small multiple of 8, at times 0, and now and then anything.
+fn some_word(numbers: &mut RandomNumbers) -> u32 {
+    match numbers.below(8) {
+        0 => numbers.below(0x0100_0000).wrapping_mul(257),
+        1 => numbers.below(256),
+        2..=4 => 0,
+        _ => numbers.below(12) * 8,
     }
 }
 
 /// Fills an image with such words, behind a descriptor that is mostly right.
 fn scribble(numbers: &mut RandomNumbers, image: &mut [u8]) {
     for place in (0..image.len()).step_by(4) {
-        put_word(image, place, numbers.word());
+        put_word(image, place, some_word(numbers));
     }
     if numbers.below(16) > 0 {
         put_word(image, 0, 0x7061_6548);
@@ -119,8 +125,8 @@ fn scribble(numbers: &mut RandomNumbers, image: &mut [u8]) {
     }
 }
 
-#[test]
-fn random_images(rt: HostRuntime) {
+/// How many images of such words are taken for heaps.
+fn random_images() -> Option<u32> {
     let mut numbers = RandomNumbers::new();
     let mut taken = 0u32;
     for _image in 0..IMAGES {
@@ -128,21 +134,9 @@ fn random_images(rt: HostRuntime) {
         let length = 8 * numbers.below(17) as usize;
         let image = &mut image[..length];
         scribble(&mut numbers, image);
-        taken = taken.wrapping_add(u32::from(is_taken(&rt, image)));
+        taken = taken.wrapping_add(taken_for(image)?);
     }
-    is_true(&rt, taken > IMAGES / 100);
-}
-
-/// An empty heap of 512 bytes.
-#[tactic(auto, using(rh_defs::proofs::MemoryLaws::memory_laws, rh_defs::proofs::MemoryLaws::pool_laws))]
-fn empty_heap<S: Store>(store: &mut S) -> Result<Span, StoreFault>
-    ensures { IfOk result (IsSpan (S.memory store.new)) }
-{
-    let area = store.open()?;
-    store.grow(area, 1)?;
-    let span = Span { area, at: 8 };
-    init(store, span, 512);
-    Ok(span)
+    Some(taken)
 }
 
 /// Claims a block, or releases one if it is where a block may be.
@@ -170,7 +164,7 @@ fn bytes_of<S: Words>(store: &S, span: Span) -> [u8; 512]
 }
 
 /// How many images are taken for heaps that a heap spells, once one of their words is another.
-fn changed_words<R: Abort, S: WordsMut>(rt: &R, store: &mut S, span: Span) -> u32
+fn changed_words<S: WordsMut>(store: &mut S, span: Span) -> Option<u32>
     requires { IsSpan (S.memory store.old) span }
 {
     let mut numbers = RandomNumbers::new();
@@ -178,19 +172,19 @@ fn changed_words<R: Abort, S: WordsMut>(rt: &R, store: &mut S, span: Span) -> u3
     for _image in 0..IMAGES {
         change(store, span, &mut numbers);
         let mut image = bytes_of(store, span);
-        is_true(rt, is_taken(rt, &image));
+        if taken_for(&image)? != 1 {
+            return None;
+        }
         let place = 4 * numbers.below(128) as usize;
-        put_word(&mut image, place, numbers.word());
-        taken = taken.wrapping_add(u32::from(is_taken(rt, &image)));
+        put_word(&mut image, place, some_word(&mut numbers));
+        taken = taken.wrapping_add(taken_for(&image)?);
     }
-    taken
+    Some(taken)
 }
 
-#[test]
-fn heaps_with_one_word_changed(rt: HostRuntime) -> Result<(), Fail> {
-    let mut store = PlainStore::new(rt.alloc(), 8)?;
-    let span = empty_heap(&mut store)?;
-    let taken = changed_words(&rt, &mut store, span);
-    is_true(&rt, taken > IMAGES / 100 && taken < IMAGES);
-    Ok(())
+/// The same of a heap of 512 bytes.
+fn heaps_with_one_word_changed(alloc: Global) -> Option<u32> {
+    let mut store = PlainStore::new(alloc, 8).ok()?;
+    let span = empty_heap(&mut store, 8, 512)?;
+    changed_words(&mut store, span)
 }

@@ -1,31 +1,46 @@
 //! The checker of slots over bytes from anywhere: worked images and what is wrong with each, every byte of one image at
 //! every value, and random words in it, against a model that starts from the anchor words.
 
-use crate::images::{RandomNumbers, put_word};
-use crate::same::same;
+use crate::answer::shown;
+use crate::numbers::{RandomNumbers, put_word};
+use crate::row::Row;
 use rh_defs::HeapFault;
-use rh_heap::Summary;
 use rh_slot::{LONGEST_SLOT, SlotFault, SlotSummary, check};
-use std::process::Abort;
-use std::test::Fail;
+use std::alloc::Global;
 
 /// The bytes of a page.
 const PAGE: usize = 4096;
 
-/// Where the worked slot's last block ends.
-const TOP: usize = 344;
-
 /// The images of random words that are made.
 const IMAGES: u32 = 20_000;
 
-/// What the C heap of the worked slot consists of.
-const C_HEAP: Summary = Summary {
-    used: 2,
-    used_bytes: 16,
-    holes: 1,
-    hole_bytes: 8,
-    top: 8,
-};
+/// What a row answers of images: of the worked slot, with a word of it another, of some of its bytes, or of more after
+/// them; or how many of its images with one byte changed are slots, and whether random words are told as the model has it.
+pub(crate) fn call(alloc: Global, row: &Row<'_>) -> Option<String> {
+    match row.word(0)? {
+        "worked" => shown(alloc, check(&worked())),
+        "changed" => shown(alloc, check(&changed(row.size(1)?, row.number(2)?))),
+        "first" => first(alloc, row.size(1)?),
+        "without_first" => without_first(alloc, row.size(1)?),
+        "longer" => longer(alloc, row.size(1)?, row.number(2)?),
+        "slots_among" => shown(alloc, slots_among(row.size(1)?, row.size(2)?)?),
+        "random_words" => shown(alloc, random_words()?),
+        "text" => fault_text(alloc, row.word(1)?),
+        _ => None,
+    }
+}
+
+/// What the checker says of so many bytes of the worked slot.
+fn first(alloc: Global, n: usize) -> Option<String> {
+    let image = worked();
+    shown(alloc, check(image.get(..n)?))
+}
+
+/// The same of all but so many of its first bytes.
+fn without_first(alloc: Global, n: usize) -> Option<String> {
+    let image = worked();
+    shown(alloc, check(image.get(n..)?))
+}
 
 /// The words of the worked slot that aren't 0, by their places: those of the anchors 0, 3 and 63; a C heap of 48 bytes
 /// with a hole between two blocks; flex blocks of 5, 0 and 8 bytes at 304, 320 and 328 for the anchors 3, 0 and 63.
@@ -129,122 +144,35 @@ fn modelled(image: &[u8]) -> Option<SlotSummary> {
     None
 }
 
-#[test]
-fn a_worked_slot(rt: HostRuntime) {
-    let sums = SlotSummary {
-        blocks: 3,
-        bytes: 13,
-        heap: C_HEAP,
-        unused: 3752,
-    };
-    same(&rt, check(&worked()), Ok(sums));
-}
-
-/// The worked slot with one word changed, and what is wrong first.
-const FAULTS: [(usize, u32, SlotFault); 13] = [
-    // a C heap that would go past the end
-    (268, 3848, SlotFault::BadHeap(HeapFault::BadDescriptor)),
-    (
-        256,
-        0x7061_6568,
-        SlotFault::BadHeap(HeapFault::BadDescriptor),
-    ),
-    (260, 36, SlotFault::BadHeap(HeapFault::BadLink)),
-    (272, 12, SlotFault::BadHeap(HeapFault::BadSize)),
-    // one byte more than the page has room for, and as many as a word holds
-    (332, 3761, SlotFault::BadSize),
-    (332, u32::MAX, SlotFault::BadSize),
-    // an anchor without a block: its word leads to another one's, past the blocks, or nowhere
-    (20, 0x8138, SlotFault::BadAnchor),
-    (20, 0x8160, SlotFault::BadAnchor),
-    (20, 1, SlotFault::BadAnchor),
-    // a header that names an anchor without a word, one past the last, and one that isn't whole
-    (328, 0x80F8, SlotFault::BadAnchor),
-    (328, 0x8100, SlotFault::BadAnchor),
-    (328, 0x80FD, SlotFault::BadAnchor),
-    // an anchor word that was forgotten, so that the blocks end before its own
-    (12, 0, SlotFault::BadAnchor),
-];
-
-#[test]
-fn worked_slots_have_their_faults(rt: HostRuntime) {
-    for (place, word, fault) in FAULTS {
-        same(
-            &rt,
-            (place, word, check(&changed(place, word))),
-            (place, word, Err(fault)),
-        );
+/// What the checker says of the worked slot with zeros up to a length, and with a size of its last block, where that is
+/// less than the longest slot and a page.
+fn longer(alloc: Global, length: usize, last_size: u32) -> Option<String> {
+    if length > LONGEST_SLOT + PAGE {
+        return None;
     }
-}
-
-/// The first bytes of an image, so many, or all where it has fewer.
-fn first_bytes(image: &[u8], length: usize) -> &[u8] {
-    &image[..image.len().min(length)]
-}
-
-#[test]
-fn slots_are_whole_pages(rt: HostRuntime) {
-    same(&rt, check(&[]), Err(SlotFault::BadLength));
-    same(&rt, check(&worked()[1..]), Err(SlotFault::BadLength));
-    let mut two = [0; 8192];
-    for (byte, there) in two.iter_mut().zip(worked()) {
+    let mut image = vec![in alloc; 0; length].ok()?;
+    for (byte, there) in image.as_mut_slice().iter_mut().zip(changed(332, last_size)) {
         *byte = there;
     }
-    same(&rt, check(&two), Err(SlotFault::SparePage));
-    let cut = first_bytes(&two, PAGE + 1);
-    same(
-        &rt,
-        (cut.len(), check(cut)),
-        (PAGE + 1, Err(SlotFault::BadLength)),
-    );
+    shown(alloc, check(image.as_slice()))
 }
 
-#[test]
-fn the_longest_slot(rt: HostRuntime) -> Result<(), Fail> {
-    let mut image = Vec::new(rt.alloc());
-    image.resize(LONGEST_SLOT, 0)?;
-    for (byte, there) in image.as_mut_slice().iter_mut().zip(worked()) {
-        *byte = there;
-    }
-    // the last block goes up to the end: 28 MiB less 336
-    put_word(image.as_mut_slice(), 332, 29_359_792);
-    let sums = SlotSummary {
-        blocks: 3,
-        bytes: 29_359_797,
-        heap: C_HEAP,
-        unused: 0,
+/// A fault as a sentence.
+fn fault_text(alloc: Global, name: &str) -> Option<String> {
+    let fault = match name {
+        "length" => SlotFault::BadLength,
+        "heap" => SlotFault::BadHeap(HeapFault::BadLink),
+        "size" => SlotFault::BadSize,
+        "anchor" => SlotFault::BadAnchor,
+        "spare" => SlotFault::SparePage,
+        _ => return None,
     };
-    same(&rt, check(image.as_slice()), Ok(sums));
-    image.resize(LONGEST_SLOT + PAGE, 0)?;
-    same(&rt, check(image.as_slice()), Err(SlotFault::BadLength));
-    Ok(())
+    fault.to_string(alloc).ok()
 }
 
-#[test]
-fn faults_of_slots_read_as_sentences(rt: HostRuntime) -> Result<(), Fail> {
-    for (fault, text) in [
-        (SlotFault::BadLength, "the length is not that of a slot"),
-        (
-            SlotFault::BadHeap(HeapFault::BadLink),
-            "the C heap is no heap: a link does not lead to a hole ahead",
-        ),
-        (SlotFault::BadSize, "a flex block goes past the end"),
-        (
-            SlotFault::BadAnchor,
-            "an anchor word leads to no flex block",
-        ),
-        (
-            SlotFault::SparePage,
-            "the last page holds nothing of the slot",
-        ),
-    ] {
-        same(&rt, fault.to_string(rt.alloc())?.as_str(), text);
-    }
-    Ok(())
-}
-
-/// Gives the byte of the worked slot at a place every value, and counts the images that are slots.
-fn slots_at<R: Abort>(rt: &R, place: usize) -> u32 {
+/// Gives the byte of the worked slot at a place every value, and counts the images that are slots; none where the model
+/// has it otherwise.
+fn slots_at(place: usize) -> Option<u32> {
     let mut image = worked();
     let mut slots = 0u32;
     for value in 0..=255u8 {
@@ -252,48 +180,21 @@ fn slots_at<R: Abort>(rt: &R, place: usize) -> u32 {
             *byte = value;
         }
         let found = check(&image).ok();
-        same(rt, (place, value, found), (place, value, modelled(&image)));
+        if found != modelled(&image) {
+            return None;
+        }
         slots = slots.wrapping_add(u32::from(found.is_some()));
     }
-    slots
+    Some(slots)
 }
 
 /// The same of all places from one up to another.
-fn slots_among<R: Abort>(rt: &R, from: usize, to: usize) -> u32 {
+fn slots_among(from: usize, to: usize) -> Option<u32> {
     let mut slots = 0u32;
     for place in from..to {
-        slots = slots.wrapping_add(slots_at(rt, place));
+        slots = slots.wrapping_add(slots_at(place)?);
     }
-    slots
-}
-
-#[test]
-fn each_byte_of_the_lower_anchor_words_changed(rt: HostRuntime) {
-    same(&rt, slots_among(&rt, 0, 128), 128);
-}
-
-#[test]
-fn each_byte_of_the_upper_anchor_words_changed(rt: HostRuntime) {
-    same(&rt, slots_among(&rt, 128, 256), 128);
-}
-
-/// How many images with one byte of the C heap changed, or left, are slots: the bytes of its two blocks and of its top
-/// may have any value, each of the 32 others has one.
-const HEAP_SLOTS: u32 = 16 * 256 + 32;
-
-#[test]
-fn each_byte_of_the_c_heap_changed(rt: HostRuntime) {
-    same(&rt, slots_among(&rt, 256, 304), HEAP_SLOTS);
-}
-
-/// The same of the flex blocks. The bytes of the blocks, with what rounds the first one up, and the lowest of the last
-/// block's size may have any value. The size of the first may be 5 to 8, and the second byte of the last one's 0 to 14.
-/// Each of the 21 others has one value.
-const BLOCK_SLOTS: u32 = 17 * 256 + 4 + 15 + 21;
-
-#[test]
-fn each_byte_of_the_flex_blocks_changed(rt: HostRuntime) {
-    same(&rt, slots_among(&rt, 304, TOP), BLOCK_SLOTS);
+    Some(slots)
 }
 
 /// A word as it may stand in a slot: 0, an address, a small number, or anything.
@@ -306,14 +207,17 @@ fn some_word(numbers: &mut RandomNumbers) -> u32 {
     }
 }
 
-#[test]
-fn random_words_in_a_slot(rt: HostRuntime) {
+/// How many images with two random words are told as the model has it: all, or none.
+fn random_words() -> Option<u32> {
     let mut numbers = RandomNumbers::new();
     for _image in 0..IMAGES {
         let place = numbers.below(96) as usize * 4;
         let mut image = changed(place, some_word(&mut numbers));
         let place = numbers.below(96) as usize * 4;
         put_word(&mut image, place, some_word(&mut numbers));
-        same(&rt, check(&image).ok(), modelled(&image));
+        if check(&image).ok() != modelled(&image) {
+            return None;
+        }
     }
+    Some(IMAGES)
 }

@@ -1,4 +1,4 @@
-//! Fresh stores of 64 pages, in which an area can be opened.
+//! Fresh stores, in which an area can be opened: of 64 pages, and of 8.
 
 ghost use Rattle.std.specs.Prelude.{◌<◌, IfOk};
 ghost use Rattle.rh_defs.specs.Memory.{open_below};
@@ -24,4 +24,14 @@ pub(crate) fn paged_store(alloc: Global) -> Result<PagedStore, AllocError>
 {
     let store = PagedStore::new(alloc, 64)?;
     Ok(store)
+}
+
+/// A plain store of 8 pages.
+pub(crate) fn small_plain_store(alloc: Global) -> Result<PlainStore, AllocError> {
+    PlainStore::new(alloc, 8)
+}
+
+/// A store of 8 scattered pages.
+pub(crate) fn small_paged_store(alloc: Global) -> Result<PagedStore, AllocError> {
+    PagedStore::new(alloc, 8)
 }
