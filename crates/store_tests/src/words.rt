@@ -1,0 +1,123 @@
+//! Calls on the words of one area that is open.
+#![tactic(auto, using(crate::proofs::Kept::kept_laws))]
+
+ghost use Rattle.std.specs.Prelude.{ℕ};
+ghost use Rattle.rh_defs.specs.Memory.{IsOpen};
+
+use crate::answer::shown;
+use crate::careful;
+use crate::row::Row;
+use crate::sums::{pattern, sum};
+use rh_store::{AreaId, Paged, Pages, Words, WordsMut};
+use std::alloc::Global;
+
+/// What a question about an area answers.
+pub(crate) fn ask<S: Words>(alloc: Global, store: &S, id: AreaId, row: &Row<'_>) -> Option<String>
+    requires { IsOpen (S.memory store.now) id.0 }
+{
+    match row.word(0)? {
+        "len" => shown(alloc, store.len(id)),
+        "word" => {
+            let word = careful::word(store, id, row.size(2)?)?;
+            format!(in alloc; "&{word:x}").ok()
+        }
+        "bytes" => bytes(alloc, store, id, row.size(2)?, row.size(3)?),
+        "sum" => sum_of(alloc, store, id),
+        "run" => beginning(alloc, careful::run(store, id, row.size(2)?)?),
+        _ => None,
+    }
+}
+
+/// What is left of a page from an offset on.
+pub(crate) fn ask_page<S: Paged>(
+    alloc: Global,
+    store: &S,
+    id: AreaId,
+    row: &Row<'_>,
+) -> Option<String>
+    requires { IsOpen (S.memory store.now) id.0 }
+{
+    beginning(alloc, careful::rest_of_page(store, id, row.size(2)?)?)
+}
+
+/// How many bytes they are, and the first eight.
+fn beginning(alloc: Global, bytes: &[u8]) -> Option<String> {
+    let n = bytes.len();
+    let first = &bytes[..n.min(8)];
+    format!(in alloc; "{n} {first:?}").ok()
+}
+
+/// So many bytes from an offset on.
+fn bytes<S: Words>(alloc: Global, store: &S, id: AreaId, at: usize, n: usize) -> Option<String>
+    requires { IsOpen (S.memory store.now) id.0 }
+{
+    if n > 4096 {
+        return None;
+    }
+    let mut bytes = vec![in alloc; 9; n].ok()?;
+    careful::copy_out(store, id, at, &mut bytes)?;
+    format!(in alloc; "{bytes:?}").ok()
+}
+
+/// How many bytes an area has, and what they add up to.
+fn sum_of<S: Words>(alloc: Global, store: &S, id: AreaId) -> Option<String>
+    requires { IsOpen (S.memory store.now) id.0 }
+{
+    let n = store.len(id);
+    let mut bytes = vec![in alloc; 9; n].ok()?;
+    careful::copy_out(store, id, 0, &mut bytes)?;
+    let sum = sum(&bytes);
+    format!(in alloc; "{n} {sum}").ok()
+}
+
+/// What a call answers that writes into an area.
+pub(crate) fn change<S: WordsMut>(
+    alloc: Global,
+    store: &mut S,
+    id: AreaId,
+    row: &Row<'_>,
+) -> Option<String>
+    requires { IsOpen (S.memory store.old) id.0 }
+    ensures { (n : ℕ) → IsOpen (S.memory store.old) n → IsOpen (S.memory store.new) n }
+{
+    match row.word(0)? {
+        "set_word" => shown(
+            alloc,
+            careful::set_word(store, id, row.size(2)?, row.number(3)?)?,
+        ),
+        "zero" => shown(alloc, careful::zero(store, id, row.size(2)?, row.size(3)?)?),
+        "copy_in" => shown(
+            alloc,
+            careful::copy_in(store, id, row.size(2)?, row.bytes(3))?,
+        ),
+        "pattern" => {
+            let pattern = pattern(alloc, row.size(2)?)?;
+            shown(alloc, careful::copy_in(store, id, 0, &pattern)?)
+        }
+        "slide" => {
+            let (from, to, n) = (row.size(2)?, row.size(3)?, row.size(4)?);
+            shown(alloc, careful::slide(store, id, from, to, n)?)
+        }
+        _ => ask(alloc, store, id, row),
+    }
+}
+
+/// What a call answers that appends pages or cuts them off.
+pub(crate) fn change_pages<S: Pages>(
+    alloc: Global,
+    store: &mut S,
+    id: AreaId,
+    row: &Row<'_>,
+) -> Option<String>
+    requires { IsOpen (S.memory store.old) id.0 }
+    ensures { (n : ℕ) → IsOpen (S.memory store.old) n → IsOpen (S.memory store.new) n }
+{
+    match row.word(0)? {
+        "grow" => shown(alloc, careful::grow(store, id, row.size(2)?)),
+        "shrink" => shown(alloc, careful::shrink(store, id, row.size(2)?)?),
+        "grow_check" => shown(alloc, store.grow_check(id, row.size(2)?)),
+        "free_pages" => shown(alloc, store.free_pages()),
+        "rest" => ask_page(alloc, store, id, row),
+        _ => change(alloc, store, id, row),
+    }
+}
