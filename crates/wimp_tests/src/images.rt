@@ -1,89 +1,116 @@
-//! The bytes of messages, and what changed bytes spell.
+//! Rows about the bytes of messages, and what changed bytes spell.
 
-use crate::same::{is_true, same};
+use crate::answer::shown;
+use crate::row::Row;
 use rh_defs::{Body, FileData, Handle, Message, MessageFault, Pathname, Ref};
 use rh_wimp::{decode, encode};
-use std::process::Abort;
+use std::alloc::Global;
+
+/// The bytes of the longest message.
+const LONGEST: usize = 256;
+
+/// The DataSave of 48 bytes that task 1 sends under ref 1: 5 bytes of type &FFD, named `doc`.
+const DATA_SAVE: [u8; 48] = [
+    0x30, 0, 0, 0, 1, 0, 0, 0, 1, 0, 0, 0, 0, 0, 0, 0, 1, 0, 0, 0, 0, 0, 0, 0, 0, 0, 0, 0, 0, 0, 0,
+    0, 0, 0, 0, 0, 5, 0, 0, 0, 0xfd, 0x0f, 0, 0, 0x64, 0x6f, 0x63, 0,
+];
+
+/// What a row answers: the bytes of a message, or what bytes spell.
+pub(crate) fn call(alloc: Global, row: &Row<'_>) -> Option<String> {
+    match row.word(0)? {
+        "decode" => shown(
+            alloc,
+            decode(spelled(alloc, row.word(1).unwrap_or(""))?.as_slice()),
+        ),
+        "long" => named(alloc, row.size(1)?),
+        "holed" => shown(alloc, Pathname::new(b"a\0b").is_none()),
+        "each_byte_changed" => shown(alloc, each_byte_changed()?),
+        word => encoded(alloc, &message(word, row)?),
+    }
+}
 
 /// A file of this desk: no place, and type &FFD.
-fn file(rt: &impl Abort, size: u32, name: &[u8]) -> FileData {
-    FileData {
+fn file(size: u32, name: &[u8]) -> Option<FileData> {
+    Some(FileData {
         window: 0,
         icon: 0,
         x: 0,
         y: 0,
         size,
         file_type: 0xffd,
-        name: Pathname::new(name).expect(rt, "at most 211 bytes, none of them 0"),
-    }
+        name: Pathname::new(name)?,
+    })
 }
 
-fn message(from: u32, my_ref: u32, your_ref: u32, body: Body) -> Message {
-    Message {
-        from: Handle(from),
-        my_ref: Ref(my_ref),
-        your_ref: Ref(your_ref),
+/// The message of a row: its sender, its ref, the ref that it answers, and two numbers, or a size and a name.
+fn message(word: &str, row: &Row<'_>) -> Option<Message> {
+    let body = match word {
+        "DataSave" => Body::DataSave(file(row.number(4)?, row.word(5)?.as_bytes())?),
+        "DataSaveAck" => Body::DataSaveAck(file(row.number(4)?, row.word(5)?.as_bytes())?),
+        "RamFetch" => Body::RamFetch {
+            buffer: row.number(4)?,
+            length: row.number(5)?,
+        },
+        "RamTransmit" => Body::RamTransmit {
+            buffer: row.number(4)?,
+            written: row.number(5)?,
+        },
+        _ => return None,
+    };
+    Some(Message {
+        from: Handle(row.number(1)?),
+        my_ref: Ref(row.number(2)?),
+        your_ref: Ref(row.number(3)?),
         body,
-    }
+    })
 }
 
-const DATA_SAVE: [u8; 48] = [
-    0x30, 0, 0, 0, 1, 0, 0, 0, 1, 0, 0, 0, 0, 0, 0, 0, 1, 0, 0, 0, 0, 0, 0, 0, 0, 0, 0, 0, 0, 0, 0,
-    0, 0, 0, 0, 0, 5, 0, 0, 0, 0xfd, 0x0f, 0, 0, 0x64, 0x6f, 0x63, 0,
-];
-
-const RAM_FETCH: [u8; 28] = [
-    0x1c, 0, 0, 0, 1, 0, 0, 0, 2, 0, 0, 0, 1, 0, 0, 0, 6, 0, 0, 0, 0x14, 0x81, 0, 0, 0x64, 0, 0, 0,
-];
-
-const RAM_TRANSMIT: [u8; 28] = [
-    0x1c, 0, 0, 0, 1, 0, 0, 0, 3, 0, 0, 0, 2, 0, 0, 0, 7, 0, 0, 0, 0x14, 0x81, 0, 0, 5, 0, 0, 0,
-];
-
-const DATA_SAVE_ACK: [u8; 60] = [
-    0x3c, 0, 0, 0, 2, 0, 0, 0, 3, 0, 0, 0, 1, 0, 0, 0, 2, 0, 0, 0, 0, 0, 0, 0, 0, 0, 0, 0, 0, 0, 0,
-    0, 0, 0, 0, 0, 0xff, 0xff, 0xff, 0xff, 0xfd, 0x0f, 0, 0, 0x3c, 0x57, 0x69, 0x6d, 0x70, 0x24,
-    0x53, 0x63, 0x72, 0x61, 0x70, 0x3e, 0, 0, 0, 0,
-];
-
-fn is_spelled(rt: &impl Abort, message: &Message, bytes: &[u8]) {
-    let mut out = [255u8; 256];
+/// The bytes of a message as hexadecimal digits; none where a byte behind them was written, or where they spell another.
+fn encoded(alloc: Global, message: &Message) -> Option<String> {
+    let mut out = [255u8; LONGEST];
     let length = encode(message, &mut out);
-    same(rt, &out[..length], bytes);
-    is_true(rt, out[length..].iter().all(|b| *b == 255));
-    let Ok(again) = decode(bytes) else {
-        is_true(rt, false);
-        return;
-    };
-    same(rt, &again, message);
+    let (bytes, behind) = out.split_at(length);
+    if behind.iter().any(|byte| *byte != 255) || decode(bytes).as_ref() != Ok(message) {
+        return None;
+    }
+    let mut digits = String::new(alloc);
+    for byte in bytes {
+        let pair = format!(in alloc; "{byte:02x}").ok()?;
+        digits.push_str(&pair).ok()?;
+    }
+    Some(digits)
 }
 
-#[test]
-fn worked_messages(rt: HostRuntime) {
-    let save = message(1, 1, 0, Body::DataSave(file(&rt, 5, b"doc")));
-    is_spelled(&rt, &save, &DATA_SAVE);
-    let fetch = Body::RamFetch {
-        buffer: 0x8114,
-        length: 100,
-    };
-    is_spelled(&rt, &message(1, 2, 1, fetch), &RAM_FETCH);
-    let transmit = Body::RamTransmit {
-        buffer: 0x8114,
-        written: 5,
-    };
-    is_spelled(&rt, &message(1, 3, 2, transmit), &RAM_TRANSMIT);
-    let ack = Body::DataSaveAck(file(&rt, 0xffff_ffff, b"<Wimp$Scrap>"));
-    is_spelled(&rt, &message(2, 3, 1, ack), &DATA_SAVE_ACK);
+/// The bytes that hexadecimal digits spell.
+fn spelled(alloc: Global, digits: &str) -> Option<Vec<u8>> {
+    let mut bytes = Vec::new(alloc);
+    for at in 0..digits.len() / 2 {
+        let pair = digits.get(2 * at..2 * at + 2)?;
+        bytes.push(u8::from_str_radix(pair, 16).ok()?).ok()?;
+    }
+    Some(bytes)
 }
 
-#[test]
-fn a_prefix_spells_no_message(rt: HostRuntime) {
-    for n in 0..48 {
-        same(&rt, decode(&DATA_SAVE[..n]), Err(MessageFault::BadLength));
+/// The length of a DataLoad with a name of so many letters, and whether its bytes spell it; the name's refusal where it has
+/// too many.
+fn named(alloc: Global, letters: usize) -> Option<String> {
+    if letters > LONGEST {
+        return None;
     }
-    for n in 0..28 {
-        same(&rt, decode(&RAM_FETCH[..n]), Err(MessageFault::BadLength));
-    }
+    let name = [b'x'; LONGEST];
+    let Some(file) = file(5, &name[..letters]) else {
+        return shown(alloc, "no name");
+    };
+    let load = Message {
+        from: Handle(1),
+        my_ref: Ref(1),
+        your_ref: Ref(0),
+        body: Body::DataLoad(file),
+    };
+    let mut out = [255u8; LONGEST];
+    let length = encode(&load, &mut out);
+    let same = decode(out.get(..length)?).as_ref() == Ok(&load);
+    format!(in alloc; "{length} {same}").ok()
 }
 
 /// What a DataSave of 48 bytes gives where the byte at a place is this one: its length stands for no other message, a
@@ -99,38 +126,30 @@ fn fault_at(place: usize, byte: u8) -> Option<MessageFault> {
     }
 }
 
-#[test]
-fn each_byte_changed(rt: HostRuntime) {
-    for place in 0..48 {
+/// How many DataSaves with one byte changed are told as they should be: all, or none.
+fn each_byte_changed() -> Option<u32> {
+    let mut told = 0u32;
+    for place in 0..48usize {
         for byte in 0..=255u8 {
             let mut bytes = DATA_SAVE;
             bytes[place] = byte;
-            match decode(&bytes) {
-                Err(fault) => {
-                    assert_eq!(rt; Some(fault), fault_at(place, byte), "{place} {byte}");
-                }
-                Ok(message) => {
-                    assert_eq!(rt; None, fault_at(place, byte), "{place} {byte}");
-                    let mut out = [0u8; 256];
-                    let length = encode(&message, &mut out);
-                    assert!(rt; length <= 48, "{place} {byte}");
-                    assert_eq!(rt; decode(&out), Ok(message), "{place} {byte}");
-                }
+            if !is_told(&bytes, fault_at(place, byte)) {
+                return None;
             }
+            told = told.wrapping_add(1);
         }
     }
+    Some(told)
 }
 
-#[test]
-fn names_have_at_most_211_bytes(rt: HostRuntime) {
-    let longest = [b'x'; 211];
-    is_true(&rt, Pathname::new(&[b'x'; 212]).is_none());
-    is_true(&rt, Pathname::new(b"a\0b").is_none());
-    for name in [b"".as_slice(), &longest] {
-        let save = message(1, 1, 0, Body::DataLoad(file(&rt, 5, name)));
-        let mut out = [255u8; 256];
-        let length = encode(&save, &mut out);
-        same(&rt, length, 44 + (name.len() + 1).next_multiple_of(4));
-        same(&rt, decode(&out[..length]), Ok(save));
+/// Whether bytes have the fault, or else spell a message whose own bytes spell it too.
+fn is_told(bytes: &[u8], fault: Option<MessageFault>) -> bool {
+    match decode(bytes) {
+        Err(found) => Some(found) == fault,
+        Ok(message) => {
+            let mut out = [0u8; LONGEST];
+            let length = encode(&message, &mut out);
+            fault.is_none() && length <= 48 && decode(&out) == Ok(message)
+        }
     }
 }

@@ -1,70 +1,99 @@
-//! Tables: rows of a fixed length that are used as a `Vec` is.
+//! Rows about a table of four places.
 
-ghost use Rattle.std.specs.Prelude.{◌≡◌, [], ◌∷◌};
-
-use crate::same::same;
+use crate::answer::{shown, tell};
+use crate::row::Row;
 use rh_tables::Table;
-use std::process::Abort;
+use std::alloc::Global;
+use std::io;
 
-/// A table of four places with 3, 5 and 8 in it.
-fn some_numbers() -> Table<u32, 4>
-    ensures { result.items ≡ 3 ∷ 5 ∷ 8 ∷ [] }
-{
+/// The places of the table.
+const PLACES: usize = 4;
+
+/// Makes the calls of the rows on an empty table.
+pub(crate) fn rows<R: Print + AllocGlobal>(rt: &R, rows: &str) -> io::Result<()> {
     let mut numbers = Table::new();
-    numbers.push(3);
-    numbers.push(5);
-    numbers.push(8);
-    numbers
-}
-
-fn compare(rt: &impl Abort, numbers: &Table<u32, 4>, wanted: &[u32]) {
-    same(rt, numbers.len(), wanted.len());
-    same(rt, numbers.as_slice(), wanted);
-}
-
-#[test]
-fn a_table_begins_empty(rt: HostRuntime) {
-    let numbers = Table::new();
-    compare(&rt, &numbers, &[]);
-}
-
-#[test]
-fn elements_keep_their_order(rt: HostRuntime) {
-    let mut numbers = some_numbers();
-    compare(&rt, &numbers, &[3, 5, 8]);
-    numbers.push(13);
-    compare(&rt, &numbers, &[3, 5, 8, 13]);
-}
-
-#[test]
-fn what_is_removed_leaves_no_gap(rt: HostRuntime) {
-    let mut numbers = some_numbers();
-    same(&rt, numbers.remove(1), 5);
-    compare(&rt, &numbers, &[3, 8]);
-    same(&rt, numbers.remove(1), 8);
-    same(&rt, numbers.remove(0), 3);
-    compare(&rt, &numbers, &[]);
-}
-
-#[test]
-fn elements_are_written_by_index(rt: HostRuntime) {
-    let mut numbers = some_numbers();
-    numbers[0] = 2;
-    let last = &mut numbers[2];
-    *last += 1;
-    same(&rt, numbers[1], 5);
-    compare(&rt, &numbers, &[2, 5, 9]);
-}
-
-#[test]
-fn elements_are_looked_at_in_turn(rt: HostRuntime) {
-    let numbers = some_numbers();
-    same(&rt, numbers.iter().position(|number| *number == 8), Some(2));
-    same(&rt, numbers.iter().any(|number| *number == 13), false);
-    let mut last = 0;
-    for number in &numbers {
-        same(&rt, last < *number, true);
-        last = *number;
+    for line in rows.lines() {
+        let answer = call(rt.alloc(), &mut numbers, &Row::new(line));
+        tell(rt, line, answer)?;
     }
-    same(&rt, last, 8);
+    Ok(())
+}
+
+/// What the call of a row answers, none where the place isn't there.
+fn call(alloc: Global, numbers: &mut Table<u32, PLACES>, row: &Row<'_>) -> Option<String> {
+    match row.word(0)? {
+        "push" => shown(alloc, push(numbers, row.number(1)?)?),
+        "remove" => shown(alloc, remove(numbers, row.size(1)?)?),
+        "write" => shown(alloc, write(numbers, row.size(1)?, row.number(2)?)?),
+        "add_one" => shown(alloc, add_one(numbers, row.size(1)?)?),
+        "read" => shown(alloc, read(numbers, row.size(1)?)?),
+        _ => ask(alloc, numbers, row),
+    }
+}
+
+/// What a question about all numbers answers.
+fn ask(alloc: Global, numbers: &Table<u32, PLACES>, row: &Row<'_>) -> Option<String> {
+    match row.word(0)? {
+        "len" => shown(alloc, numbers.len()),
+        "all" => shown(alloc, numbers.as_slice()),
+        "position" => {
+            let wanted = row.number(1)?;
+            shown(alloc, numbers.iter().position(|number| *number == wanted))
+        }
+        "any" => {
+            let wanted = row.number(1)?;
+            shown(alloc, numbers.iter().any(|number| *number == wanted))
+        }
+        "in_turn" => in_turn(alloc, numbers),
+        _ => None,
+    }
+}
+
+fn push(numbers: &mut Table<u32, PLACES>, number: u32) -> Option<()> {
+    if numbers.len() >= PLACES {
+        return None;
+    }
+    numbers.push(number);
+    Some(())
+}
+
+fn remove(numbers: &mut Table<u32, PLACES>, at: usize) -> Option<u32> {
+    if at >= numbers.len() {
+        return None;
+    }
+    Some(numbers.remove(at))
+}
+
+fn write(numbers: &mut Table<u32, PLACES>, at: usize, number: u32) -> Option<()> {
+    if at >= numbers.len() {
+        return None;
+    }
+    numbers[at] = number;
+    Some(())
+}
+
+fn add_one(numbers: &mut Table<u32, PLACES>, at: usize) -> Option<()> {
+    if at >= numbers.len() {
+        return None;
+    }
+    let number = &mut numbers[at];
+    *number = number.wrapping_add(1);
+    Some(())
+}
+
+fn read(numbers: &Table<u32, PLACES>, at: usize) -> Option<u32> {
+    if at >= numbers.len() {
+        return None;
+    }
+    Some(numbers[at])
+}
+
+/// The numbers one after the other, as a loop has them.
+fn in_turn(alloc: Global, numbers: &Table<u32, PLACES>) -> Option<String> {
+    let mut seen = String::new(alloc);
+    for number in numbers {
+        let word = format!(in alloc; " {number}").ok()?;
+        seen.push_str(&word).ok()?;
+    }
+    Some(seen)
 }

@@ -2,7 +2,7 @@ use Rattle.std.proofs.Common.{◌≡◌, ◌==◌, sym, ap, subst, ◌∙◌}
 use Rattle.std.specs.List.{list_any}
 use Rattle.rh_wimp.specs.Chains.{HasEntry}
 use Rattle.rh_wimp.proofs.LeavesLaws.{HasEntry-from_handles}
-use Rattle.wimp_tests.proofs.bench.Bench.try_send.Goals as goal
+use Rattle.wimp_tests.proofs.queues.Bench.try_send.Goals as goal
 
 pub send-requires-clause-from : goal.send-requires-clause-from
 send-requires-clause-from g c =

@@ -1,7 +1,7 @@
 use Rattle.std.proofs.Common.{◌≡◌, ◌==◌, sym, ap, ◌∙◌}
 use Rattle.std.specs.List.{list_any}
 use Rattle.rh_wimp.proofs.LeavesLaws.{HasEntry-from_handles}
-use Rattle.wimp_tests.proofs.bench.Bench.end.Goals as goal
+use Rattle.wimp_tests.proofs.queues.Bench.end.Goals as goal
 
 pub bounce_for_death-requires-clause-live : goal.bounce_for_death-requires-clause-live
 bounce_for_death-requires-clause-live g c =

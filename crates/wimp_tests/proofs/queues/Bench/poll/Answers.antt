@@ -1,10 +1,10 @@
 use Rattle.std.proofs.Common.{◌≡◌, ◌==◌, sym, ap, ◌∙◌}
 use Rattle.std.specs.List.{list_any}
 use Rattle.rh_wimp.proofs.LeavesLaws.{HasEntry-from_handles}
-use Rattle.wimp_tests.proofs.bench.Bench.poll.Goals as goal
+use Rattle.wimp_tests.proofs.queues.Bench.poll.Goals as goal
 
-pub poll-requires-2-clause-live : goal.poll-requires-2-clause-live
-poll-requires-2-clause-live g c =
+pub poll-found-requires-clause-live : goal.poll-found-requires-clause-live
+poll-found-requires-clause-live g c =
     HasEntry-from_handles c.args.task c.args.self.now.queue (ap (list_any (λ h. h == c.args.task)) c.requires.handles ∙ sym c.if-not-is_live.ensures)
 
 pub peek-peeked-requires-clause-live : goal.peek-peeked-requires-clause-live
