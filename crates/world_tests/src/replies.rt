@@ -1,108 +1,79 @@
 //! Replies that are printed over a world.
 
-use crate::calls::{fill, name, said, task};
-use crate::same::{is_true, same};
-use crate::stores::paged_store;
-use rh_defs::{Anchor, Command, Files, Handle, Name, Numbers, Question, Refusal, Reply};
+use crate::answer::shown;
+use crate::row::Row;
+use crate::worlds::{command, said};
+use rh_defs::{Command, Numbers, Question, Refusal, Reply};
 use rh_lines::Held;
 use rh_script::{print_answer, print_reply};
 use rh_store::Store;
-use rh_tasks::World;
-use std::process::Abort;
-use std::test::Fail;
+use rh_tasks::{NamedFiles, World};
+use std::alloc::Global;
 
-/// How that refusal is printed.
-const REFUSED: &[u8] = b"refused NoBlock\n";
-
-fn show(name: &Name, anchor: u8) -> Question {
-    Question::Show {
-        name: name.copied(),
-        anchor: Anchor(anchor),
+/// The text of the answer to a question, which is that of its reply too; none where these differ.
+pub(crate) fn answer<S: Store, F: NamedFiles>(
+    alloc: Global,
+    world: &mut World<S, F>,
+    line: &str,
+) -> Option<String> {
+    let command = command(line)?;
+    let answered = printed_answer(alloc, world, &command)?;
+    let reply = said(world, &command)?;
+    if printed_reply(alloc, world, &command, &reply)? != answered {
+        return None;
     }
+    Some(answered)
 }
 
-fn blocks(name: &Name) -> Question {
-    Question::Blocks {
-        name: name.copied(),
-    }
+/// The text of a reply that the desk doesn't give to a question.
+pub(crate) fn print<S: Store, F: NamedFiles>(
+    alloc: Global,
+    world: &World<S, F>,
+    row: &Row<'_>,
+) -> Option<String> {
+    let reply = match row.word(1)? {
+        "count" => Reply::Answered(Numbers::BlockCount(7)),
+        "refused" => Reply::Refused(Refusal::NoBlock),
+        "done" => Reply::Done,
+        _ => return None,
+    };
+    let name = row.name(3)?;
+    let question = match row.word(2)? {
+        "blocks" => Question::Blocks { name },
+        "show" => Question::Show {
+            name,
+            anchor: row.anchor(4)?,
+        },
+        _ => return None,
+    };
+    printed_reply(alloc, world, &Command::Ask(question), &reply)
 }
 
-/// The refusal of a block that isn't there.
-fn no_block() -> Reply {
-    Reply::Refused(Refusal::NoBlock)
-}
-
-/// Prints the reply to a question, which is to be this text.
-fn prints<R: Abort, S: Store>(
-    rt: &R,
-    world: &World<S>,
-    held: &mut Held,
-    question: Question,
-    reply: Reply,
-    text: &[u8],
-) {
-    held.cut(0);
-    let command = Command::Ask(question);
-    is_true(rt, print_reply(world, &command, &reply, held).is_ok());
-    is_true(rt, held.as_slice() == text);
-}
-
-/// Asks a question: its answer is to be this text, and so is the print of its reply.
-fn answers<R: Abort, S: Store>(
-    rt: &R,
-    world: &mut World<S>,
-    held: &mut Held,
-    question: Question,
-    text: &[u8],
-) {
-    held.cut(0);
-    is_true(rt, print_answer(world, &question, held).is_ok());
-    is_true(rt, held.as_slice() == text);
-    held.cut(0);
-    let command = Command::Ask(question);
-    let reply = said(rt, world, &command);
-    is_true(rt, print_reply(world, &command, &reply, held).is_ok());
-    is_true(rt, held.as_slice() == text);
-}
-
-/// Replies of the desk come with what the desk lists.
-fn prints_answers<R: Abort, S: Store>(rt: &R, world: &mut World<S>, held: &mut Held, a: &Name) {
-    answers(rt, world, held, show(a, 0), b"ok 5 000aff0000\n");
-    answers(rt, world, held, show(a, 1), REFUSED);
-    answers(rt, world, held, blocks(a), b"ok 1\n  0 &9008 5\n");
-}
-
-/// Replies that the desk doesn't give stand alone.
-fn prints_others<R: Abort, S: Store>(rt: &R, world: &World<S>, held: &mut Held, a: &Name) {
-    prints(
-        rt,
-        world,
-        held,
-        blocks(a),
-        Reply::Answered(Numbers::BlockCount(7)),
-        b"ok 7\n",
-    );
-    prints(rt, world, held, show(a, 0), no_block(), REFUSED);
-    prints(rt, world, held, show(a, 64), no_block(), REFUSED);
-    prints(rt, world, held, show(a, 0), Reply::Done, b"ok\n");
-}
-
-/// Starts the task, and gives it a block.
-fn starts<R: Abort, S: Store>(rt: &R, world: &mut World<S>, a: &Name) {
-    same(rt, said(rt, world, &task(a)), Reply::Started(Handle(1)));
-    fill(rt, world, a);
-}
-
-#[test]
-fn prints_replies(rt: HostRuntime) -> Result<(), Fail> {
-    let store = paged_store(rt.alloc())?;
-    let mut world = World::new(store, Files::new(rt.alloc()));
+fn printed_answer<S: Store, F: NamedFiles>(
+    alloc: Global,
+    world: &World<S, F>,
+    command: &Command,
+) -> Option<String> {
+    let Command::Ask(question) = command else {
+        return None;
+    };
     let mut held = Held::new();
-    let a = name(b"a")?;
-    let nobody = blocks(&name(b"c")?);
-    starts(&rt, &mut world, &a);
-    prints_answers(&rt, &mut world, &mut held, &a);
-    answers(&rt, &mut world, &mut held, nobody, b"refused NoName\n");
-    prints_others(&rt, &world, &mut held, &a);
-    Ok(())
+    print_answer(world, question, &mut held).ok()?;
+    text(alloc, &held)
+}
+
+fn printed_reply<S: Store, F: NamedFiles>(
+    alloc: Global,
+    world: &World<S, F>,
+    command: &Command,
+    reply: &Reply,
+) -> Option<String> {
+    let mut held = Held::new();
+    print_reply(world, command, reply, &mut held).ok()?;
+    text(alloc, &held)
+}
+
+/// What was printed, in quotes.
+fn text(alloc: Global, held: &Held) -> Option<String> {
+    shown(alloc, str::from_utf8(held.as_slice()).ok()?)
 }

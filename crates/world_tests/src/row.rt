@@ -1,0 +1,52 @@
+//! A row of the data: words, some of which are numbers.
+
+use rh_defs::{Anchor, Handle, Name};
+
+/// A line, of which words and numbers are asked by their places.
+#[derive(Drop)]
+pub(crate) struct Row<'a> {
+    line: &'a str,
+}
+
+impl<'a> Row<'a> {
+    pub(crate) fn new(line: &'a str) -> Row<'a> {
+        Row { line }
+    }
+
+    /// The word at a place, from 0 on.
+    pub(crate) fn word(&self, at: usize) -> Option<&'a str> {
+        self.line.split_whitespace().nth(at)
+    }
+
+    /// What stands behind the first word.
+    pub(crate) fn rest(&self) -> Option<&'a str> {
+        let (_first, rest) = self.line.split_once(' ')?;
+        Some(rest)
+    }
+
+    /// The number at a place, in decimal, or behind `&` in hexadecimal.
+    pub(crate) fn size(&self, at: usize) -> Option<usize> {
+        let word = self.word(at)?;
+        match word.strip_prefix('&') {
+            Some(digits) => usize::from_str_radix(digits, 16).ok(),
+            None => word.parse().ok(),
+        }
+    }
+
+    /// The same, if a word of the memory holds it.
+    pub(crate) fn number(&self, at: usize) -> Option<u32> {
+        u32::try_from(self.size(at)?).ok()
+    }
+
+    pub(crate) fn handle(&self, at: usize) -> Option<Handle> {
+        Some(Handle(self.number(at)?))
+    }
+
+    pub(crate) fn anchor(&self, at: usize) -> Option<Anchor> {
+        Some(Anchor(u8::try_from(self.size(at)?).ok()?))
+    }
+
+    pub(crate) fn name(&self, at: usize) -> Option<Name> {
+        Name::new(self.word(at)?.as_bytes())
+    }
+}
