@@ -16,7 +16,8 @@ use std::io;
 /// The bytes of a page.
 const PAGE: usize = 4096;
 
-/// Makes the calls of the rows on a new slot in so many bytes, of which none was 0. `keep` keeps a copy of the bytes, and
+/// Makes the calls of the rows on a new slot in so many bytes, of which none was 0. `keep` keeps a copy of the bytes,
+/// and
 /// `same` tells whether they are as they were then.
 pub(crate) fn rows<R: Print + AllocGlobal>(rt: &R, length: usize, rows: &str) -> io::Result<()> {
     if length > LONGEST_SLOT {

@@ -1,6 +1,6 @@
 //! Calls on heaps, slots and the module area as rows of data. Standard input has sections, with an empty line between
-//! them: a first line that says what the calls are made on, and a call in each other line. Each section is run over each
-//! kind of store that it names, and each call is printed with its answer.
+//! them: a first line that says what the calls are made on, and a call in each other line. Each section is run over
+//! each kind of store that it names, and each call is printed with its answer.
 #![tactic(auto)]
 
 mod answer;

@@ -15,7 +15,8 @@ const PAGE: usize = 4096;
 const IMAGES: u32 = 20_000;
 
 /// What a row answers of images: of the worked slot, with a word of it another, of some of its bytes, or of more after
-/// them; or how many of its images with one byte changed are slots, and whether random words are told as the model has it.
+/// them; or how many of its images with one byte changed are slots, and whether random words are told as the model has
+/// it.
 pub(crate) fn call(alloc: Global, row: &Row<'_>) -> Option<String> {
     match row.word(0)? {
         "worked" => shown(alloc, check(&worked())),

@@ -1,5 +1,5 @@
-//! Calls of the records of transfers as rows of data: each line of standard input is a call of a sender or of a receiver,
-//! which is made, and printed with its answer. A line that begins with `#` begins anew, with no record.
+//! Calls of the records of transfers as rows of data: each line of standard input is a call of a sender or of a
+//! receiver, which is made, and printed with its answer. A line that begins with `#` begins anew, with no record.
 #![tactic(auto)]
 
 mod answer;

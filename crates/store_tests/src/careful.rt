@@ -1,6 +1,7 @@
 //! Calls of a store that look, when they run, whether the bytes they name are there, and answer none where they aren't.
 //!
-//! Each asks that its area is open, and says that the areas that were open are open still. What makes them is proved soon.
+//! Each asks that its area is open, and says that the areas that were open are open still. What makes them is proved
+//! soon.
 #![tactic(auto, using(crate::proofs::Kept::kept_laws))]
 
 ghost use Rattle.std.specs.Prelude.{ℕ, IfOk};

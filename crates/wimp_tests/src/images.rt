@@ -65,7 +65,8 @@ fn message(word: &str, row: &Row<'_>) -> Option<Message> {
     })
 }
 
-/// The bytes of a message as hexadecimal digits; none where a byte behind them was written, or where they spell another.
+/// The bytes of a message as hexadecimal digits; none where a byte behind them was written, or where they spell
+/// another.
 fn encoded(alloc: Global, message: &Message) -> Option<String> {
     let mut out = [255u8; LONGEST];
     let length = encode(message, &mut out);
@@ -91,8 +92,8 @@ fn spelled(alloc: Global, digits: &str) -> Option<Vec<u8>> {
     Some(bytes)
 }
 
-/// The length of a DataLoad with a name of so many letters, and whether its bytes spell it; the name's refusal where it has
-/// too many.
+/// The length of a DataLoad with a name of so many letters, and whether its bytes spell it; the name's refusal where it
+/// has too many.
 fn named(alloc: Global, letters: usize) -> Option<String> {
     if letters > LONGEST {
         return None;

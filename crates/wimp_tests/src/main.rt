@@ -1,5 +1,5 @@
-//! Calls on messages, on their queue and on the table that it keeps as rows of data. Standard input has sections, with an
-//! empty line between them: a first line that says what the calls are made on, and a call in each other line. Each
+//! Calls on messages, on their queue and on the table that it keeps as rows of data. Standard input has sections, with
+//! an empty line between them: a first line that says what the calls are made on, and a call in each other line. Each
 //! section about a queue is run over a plain store and over scattered pages, and each call is printed with its answer.
 #![tactic(auto)]
 

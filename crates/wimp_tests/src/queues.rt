@@ -135,7 +135,8 @@ fn started<S: Store>(store: &mut S) -> Option<Module>
 impl<S: Store + Drop> Bench<S> {
     /// Tasks 1, 2 and 3 over a store, with no message.
     fn new(alloc: Global, store: S, next_ref: u32) -> Option<Bench<S>>
-        ensures { IfSome result (λ bench. Runs (S.memory bench.store) bench.module_area bench.queue bench.live.handles.items) }
+        ensures { IfSome result (λ bench. Runs
+            (S.memory bench.store) bench.module_area bench.queue bench.live.handles.items) }
     {
         let mut store = store;
         let module_area = started(&mut store)?;

@@ -35,8 +35,8 @@ fn over_new_worlds<R: Print + AllocGlobal>(rt: &R, rows: &str) -> io::Result<()>
     worlds::rows(rt, &mut world, rows)
 }
 
-/// Runs rows over a world that has the file `doc` and gives these numbers next: one that keeps the file, and one that is
-/// lent it.
+/// Runs rows over a world that has the file `doc` and gives these numbers next: one that keeps the file, and one that
+/// is lent it.
 fn over_worlds<R: Print + AllocGlobal>(
     rt: &R,
     doc: &Name,
