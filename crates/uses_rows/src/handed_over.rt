@@ -1,5 +1,7 @@
 //! A file that one task hands to another by a sender and a receiver alone.
 
+ghost use Rattle.std.specs.Prelude.{◌<◌, ◌≤◌};
+
 use std::alloc::Global;
 use std::io::{self, Write};
 use uses::hand_over;
