@@ -205,6 +205,10 @@ int main(void)
         }
     while (count)
         EXPECT(frees(count - 1));
+    /* All of the area is one block. */
+    EXPECT(!xosmodule_alloc(PAGES * PAGE - FIRST, &block) && block == area + FIRST);
+    EXPECT(vf_desk_rma_claim(&desk, PAGES * PAGE - FIRST, &moved) == VF_OK && has_pages_of_desk());
+    REFUSES(VF_NO_ROOM, xosmodule_alloc(1, &block));
     EXPECT(vf_desk_close(&desk) == VF_OK);
     return ended("acorn_module");
 }
