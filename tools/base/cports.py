@@ -67,6 +67,14 @@ class Port(ctests.Suite):
             self.lacking.append(f"{program}: isn't installed, {what} left out")
         return bool(shutil.which(program))
 
+    def broken(self):
+        """A folder with a shared library that nothing can be linked with, which stands before any of the machine's."""
+        folder = f"{self.work}/broken"
+        os.makedirs(folder, exist_ok=True)
+        with open(f"{folder}/{archive.SHARED}", "wb"):
+            pass
+        return folder
+
     def fails(self, what, words, **how):
         """Counts a command that must not go well."""
         ran = subprocess.run(words, capture_output=True, timeout=ctests.LONGEST, cwd=self.top, check=False, **how)
@@ -109,9 +117,15 @@ def try_command(port):
     command, plain = [sys.executable, f"{port.top}/bin/clib", "install"], dict(os.environ, PATH="/usr/bin:/bin")
     port.ran("bin/clib install", [*command, "PREFIX=/usr", f"DESTDIR={port.work}/by-words"], env=plain)
     port.is_true("bin/clib install by words", os.path.isfile(f"{port.work}/by-words/usr/include/vervainfile.h"))
-    port.ran("bin/clib install", command, env=dict(plain, DESTDIR=f"{port.work}/by-environment"))
-    there = f"{port.work}/by-environment/usr/local/lib/libvervainfile.so"
-    port.is_true("bin/clib install by the environment", os.path.isfile(there) and os.path.islink(there))
+    # Where a word of the environment weren't heard, the files would still lie below the test's own folder.
+    words = [f"PREFIX={port.work}/prefix"], [f"DESTDIR={port.work}/dest-by-word"], [f"DESTDIR={port.work}/nothing-else"]
+    given = {"DESTDIR": f"{port.work}/by-environment"}, {"PREFIX": "/opt/it"}, {}
+    wanted = (f"{port.work}/by-environment{port.work}/prefix", f"{port.work}/dest-by-word/opt/it",
+              f"{port.work}/nothing-else{cinstall.PREFIX}")
+    for own, more, to in zip(words, given, wanted):
+        port.ran("bin/clib install", [*command, *own], env=dict(plain, **more))
+        there = f"{to}/lib/libvervainfile.so"
+        port.is_true(f"bin/clib install {own} {more}", os.path.isfile(there) and os.path.islink(there))
     for words in (["PREFX=/usr"], ["PREFIX=usr"], ["--build"]):
         port.fails(f"bin/clib install {words[0]}", [*command, *words], env=dict(plain, DESTDIR=f"{port.work}/no"))
     port.is_true("a refused install leaves files", not os.path.exists(f"{port.work}/no"))
@@ -158,7 +172,7 @@ def try_example(port, compiler, name, compiling, linking):
             there = dict(os.environ, LD_LIBRARY_PATH=f"{port.root}/lib" if kind == "shared" else port.work)
             prints(port, f"{what}, {kind}", name, [made], env=there)
             if kind == "shared":
-                port.fails(f"{what} without the shared library", [made], env=dict(there, LD_LIBRARY_PATH=port.work))
+                port.fails(f"{what} over a broken library", [made], env=dict(there, LD_LIBRARY_PATH=port.broken()))
 
 
 def try_standard(port, compiler, standard, compiling):
