@@ -68,10 +68,9 @@ fn draw<S: WordsMut>(
         }
         let size = format!(in alloc; "size {address}").ok()?;
         let _size = both(alloc, walked, walked_at, mapped, mapped_at, starts, &size)?;
-        let bytes = heaps::bytes(alloc, walked, walked_at)?;
-        if heaps::bytes(alloc, mapped, mapped_at)? != bytes
-            || !is_fresh(mapped, mapped_at, starts)
-        {
+        let wanted = heaps::image_of(alloc, walked, walked_at)?;
+        let found = heaps::image_of(alloc, mapped, mapped_at)?;
+        if found != wanted || !is_fresh(mapped, mapped_at, starts) {
             return None;
         }
     }

@@ -134,12 +134,20 @@ pub(crate) fn list<S: Words>(
 }
 
 /// The heap's bytes, and what the checker says of them.
-pub(crate) fn bytes<S: Words>(alloc: Global, store: &S, span: Span) -> Option<String>
+fn bytes<S: Words>(alloc: Global, store: &S, span: Span) -> Option<String>
+    requires { IsSpan (S.memory store.now) span }
+{
+    let image = image_of(alloc, store, span)?;
+    let found = check(image.as_slice());
+    format!(in alloc; "{image:?} {found:?}").ok()
+}
+
+/// The heap's bytes.
+pub(crate) fn image_of<S: Words>(alloc: Global, store: &S, span: Span) -> Option<Vec<u8>>
     requires { IsSpan (S.memory store.now) span }
 {
     let length = end(store, span);
     let mut image = vec![in alloc; 0; length].ok()?;
     store.copy_out(span.area, span.at, image.as_mut_slice());
-    let found = check(image.as_slice());
-    format!(in alloc; "{image:?} {found:?}").ok()
+    Some(image)
 }
