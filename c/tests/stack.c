@@ -1,6 +1,6 @@
 /*
  * stack.c: how much stack a call needs, on one that was filled with a byte before: less than 1 KiB on a heap or a slot,
- * and on a desk what docs/C.md says of it. With sanitizers nothing is measured, since these use the stack too.
+ * less than 2 KiB on a sender, a receiver or a message, and on a desk what docs/C.md says of it. With sanitizers nothing is measured, since these use the stack too.
  */
 #define _XOPEN_SOURCE 700
 #include "expect.h"
@@ -9,7 +9,7 @@
 #include <ucontext.h>
 
 enum { ROOM = 1 << 20, STACK = 1 << 20, FILL = 0xa5, KIB = 1024 };
-enum { FEW = KIB, QUESTION = 4 * KIB, COMMAND = 68 * KIB, OPENING = 272 * KIB };
+enum { FEW = KIB, TRANSFER = 2 * KIB, QUESTION = 4 * KIB, COMMAND = 68 * KIB, OPENING = 272 * KIB };
 
 static uint8_t memory[ROOM], bytes[8192];
 static uint64_t map[2 * ROOM / 512];
@@ -30,6 +30,45 @@ static bool was;
 #define B VF_TEXT("b")
 
 static void nothing(void) { number = 0; }
+
+static void senders(void)
+{
+    static struct vf_sender sender;
+    static struct vf_send_action action;
+    static struct vf_part part;
+    vf_sender_start(&sender);
+    for (uint32_t id = 1; id <= 9; id++)
+        vf_sender_offer(&sender, id, 2, 5);
+    vf_sender_on_fetch(&sender, 2, 10, 1, 0x8114, 8, &action);
+    vf_sender_part(&action, 20, &part);
+    vf_sender_sent(&sender, &action, 20, 11);
+    vf_sender_on_bounce(&sender, 11, &was);
+    vf_sender_cancel(&sender, 0);
+    vf_sender_is_source(&sender, 5, &was);
+}
+static void receivers(void)
+{
+    static struct vf_receiver receiver;
+    static struct vf_take_action action;
+    vf_receiver_start(&receiver);
+    for (uint32_t id = 1; id <= 8; id++) {
+        vf_receiver_on_save(&receiver, false, 1, id, &action);
+        vf_receiver_fetching(&receiver, &action, 7, 0x8114, 20 + id);
+    }
+    vf_receiver_on_transmit(&receiver, 8, 1, 30, 21, 0x8114, 8, &action);
+    vf_receiver_fetched(&receiver, &action, 31);
+    vf_receiver_on_bounce(&receiver, 22, &action);
+    vf_receiver_asking(&receiver, &action, 32);
+    vf_receiver_on_load(&receiver, 1, 33, 32, &action);
+    vf_receiver_loaded(&receiver, &action, 20);
+    vf_receiver_cancel(&receiver, 0);
+}
+static void messages(void)
+{
+    static struct vf_message_words words = {.action = 1, .name_length = 3, .name = "doc"};
+    vf_message_encode(&words, &message, &told);
+    vf_message_decode(message.bytes, sizeof message.bytes, &words);
+}
 
 static void heap_init(void) { vf_heap_init(memory, ROOM); }
 static void heap_claim(void) { vf_heap_claim(memory, ROOM, 100, &number); }
@@ -147,7 +186,9 @@ static const struct { const char *name; void (*call)(void); size_t most; } CALLS
     {"flex midextend", flex_midextend, FEW}, {"flex claim", flex_claim, FEW},
     {"flex resize", flex_resize, FEW},       {"flex release", flex_release, FEW},
     {"flex check", flex_check, FEW},         {"flex, checked", flex_checked, FEW},
-    {"flex put and read", flex_bytes, FEW},  {"desk file", desk_file, COMMAND},
+    {"flex put and read", flex_bytes, FEW},  {"senders", senders, TRANSFER},
+    {"receivers", receivers, TRANSFER},      {"messages", messages, TRANSFER},
+    {"desk file", desk_file, COMMAND},
     {"desk open", desk_open, OPENING},       {"desk tasks", desk_tasks, COMMAND},
     {"desk flex", desk_flex, COMMAND},       {"desk heaps", desk_heaps, COMMAND},
     {"desk areas", desk_areas, COMMAND},     {"desk transfer", desk_transfer, COMMAND},
