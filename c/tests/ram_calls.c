@@ -319,6 +319,16 @@ static void actions_that_are_not_due(void)
     REFUSES(VF_NOT_OPEN, vf_receiver_loaded(&receiver, &taken, 20));
 }
 
+/* An action that was refused ends its transfer, and no other. */
+static void failed_actions(void)
+{
+    begin();
+    EXPECT(vf_sender_offer(&sender, 9, 3, 6) == VF_OK);
+    EXPECT(vf_sender_failed(&sender, &out) == VF_OK);
+    EXPECT(sender.records[0].state == VF_RECORD_FAILED && sender.records[0].id == 1);
+    EXPECT(sender.records[1].state == VF_RECORD_OPEN && sender.records[1].id == 9);
+}
+
 /* How many bytes of an action can have been kept. */
 static void kept_bytes(void)
 {
@@ -428,6 +438,7 @@ int main(void)
     structs_that_are_none();
     actions_of_another_kind();
     actions_that_are_not_due();
+    failed_actions();
     kept_bytes();
     anchors();
     null_senders();

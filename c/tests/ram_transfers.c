@@ -374,7 +374,7 @@ static void nine_transfers(void)
     EXPECT(vf_receiver_on_save(&receiver, false, SENDER, 9, &action) == VF_OK && action.what == VF_DO_NOTHING);
     EXPECT(vf_sender_cancel(&sender, 3) == VF_OK);
     EXPECT(vf_sender_offer(&sender, 9, RECEIVER, 9) == VF_OK);
-    EXPECT(sender.count == 8 && sender.records[2].id == 4 && sender.records[7].id == 9);
+    EXPECT(sender.count == 8 && sender.records[0].id == 1 && sender.records[2].id == 4 && sender.records[7].id == 9);
     EXPECT(vf_receiver_on_bounce(&receiver, 105, &action) == VF_OK && action.what == VF_DO_ASK_FOR_FILE);
     EXPECT(vf_receiver_failed(&receiver, &action, 0) == VF_OK);
     EXPECT(vf_receiver_on_save(&receiver, false, SENDER, 9, &action) == VF_OK && action.what == VF_DO_CLAIM);
