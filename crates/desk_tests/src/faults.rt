@@ -110,13 +110,21 @@ fn want_of_memory_for_a_file_is_told(rt: HostRuntime) -> Result<(), Fail> {
 }
 
 #[test]
-fn faults_of_streams_are_told(rt: HostRuntime) -> Result<(), Fail> {
+fn a_script_without_end_is_told(rt: HostRuntime) -> Result<(), Fail> {
     for words in [[].as_slice(), ["run", "-"].as_slice()] {
-        let long = Trial::new(words, "", "rh_desk: script too long\n", 3);
-        let all = long.all_words(rt.alloc())?;
-        long.meets(&rt, &end_of(&rt, rt.alloc(), all.as_slice(), Endless));
-        let broken = Trial::new(words, "", "rh_desk: read failed\n", 3);
-        broken.meets(&rt, &end_of(&rt, rt.alloc(), all.as_slice(), Broken));
+        let trial = Trial::new(words, "", "rh_desk: script too long\n", 3);
+        let all = trial.all_words(rt.alloc())?;
+        trial.meets(&rt, &end_of(&rt, rt.alloc(), all.as_slice(), Endless));
+    }
+    Ok(())
+}
+
+#[test]
+fn an_input_that_fails_is_told(rt: HostRuntime) -> Result<(), Fail> {
+    for words in [[].as_slice(), ["run", "-"].as_slice()] {
+        let trial = Trial::new(words, "", "rh_desk: read failed\n", 3);
+        let all = trial.all_words(rt.alloc())?;
+        trial.meets(&rt, &end_of(&rt, rt.alloc(), all.as_slice(), Broken));
     }
     Ok(())
 }
