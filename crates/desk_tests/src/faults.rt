@@ -6,9 +6,10 @@ use crate::same::same;
 use arrayvec::ArrayVec;
 use rh_desk::words_unread;
 use rh_lines::Flagged;
-use std::alloc::Allocator;
+use std::alloc::{Allocator, Global};
 use std::fs::{File, Metadata, OpenOptions};
 use std::io::{self, Read};
+use std::process::Abort;
 use std::rt;
 use std::test::Fail;
 
@@ -109,24 +110,32 @@ fn want_of_memory_for_a_file_is_told(rt: HostRuntime) -> Result<(), Fail> {
     Ok(())
 }
 
-#[test]
-fn a_script_without_end_is_told(rt: HostRuntime) -> Result<(), Fail> {
-    for words in [[].as_slice(), ["run", "-"].as_slice()] {
-        let trial = Trial::new(words, "", "rh_desk: script too long\n", 3);
-        let all = trial.all_words(rt.alloc())?;
-        trial.meets(&rt, &end_of(&rt, rt.alloc(), all.as_slice(), Endless));
-    }
+/// Runs the program with these words on an input, and compares what it tells.
+fn is_told<R: Abort + rt::Files, I: Read + Drop>(
+    rt: &R,
+    alloc: Global,
+    words: &[&str],
+    input: I,
+    told: &str,
+) -> Result<(), Fail> {
+    let trial = Trial::new(words, "", told, 3);
+    let all = trial.all_words(alloc)?;
+    trial.meets(rt, &end_of(rt, alloc, all.as_slice(), input));
     Ok(())
 }
 
 #[test]
+fn a_script_without_end_is_told(rt: HostRuntime) -> Result<(), Fail> {
+    let told = "rh_desk: script too long\n";
+    is_told(&rt, rt.alloc(), &[], Endless, told)?;
+    is_told(&rt, rt.alloc(), &["run", "-"], Endless, told)
+}
+
+#[test]
 fn an_input_that_fails_is_told(rt: HostRuntime) -> Result<(), Fail> {
-    for words in [[].as_slice(), ["run", "-"].as_slice()] {
-        let trial = Trial::new(words, "", "rh_desk: read failed\n", 3);
-        let all = trial.all_words(rt.alloc())?;
-        trial.meets(&rt, &end_of(&rt, rt.alloc(), all.as_slice(), Broken));
-    }
-    Ok(())
+    let told = "rh_desk: read failed\n";
+    is_told(&rt, rt.alloc(), &[], Broken, told)?;
+    is_told(&rt, rt.alloc(), &["run", "-"], Broken, told)
 }
 
 #[test]
