@@ -16,9 +16,7 @@ use std::io;
 /// The bytes of a page.
 const PAGE: usize = 4096;
 
-/// Makes the calls of the rows on a new slot in so many bytes, of which none was 0. `keep` keeps a copy of the bytes,
-/// and
-/// `same` tells whether they are as they were then.
+/// Makes the calls of the rows on a new slot in so many bytes, of which none was 0.
 pub(crate) fn rows<R: Print + AllocGlobal>(rt: &R, length: usize, rows: &str) -> io::Result<()> {
     if length > LONGEST_SLOT {
         return tell(rt, "start", None);
@@ -31,14 +29,7 @@ pub(crate) fn rows<R: Print + AllocGlobal>(rt: &R, length: usize, rows: &str) ->
     };
     for line in rows.lines() {
         let row = Row::new(line);
-        let answer = match row.word(0) {
-            Some("keep") => {
-                kept = bytes.clone()?;
-                shown(rt.alloc(), ())
-            }
-            Some("same") => shown(rt.alloc(), bytes == kept),
-            _ => call(rt.alloc(), &mut bytes, &mut slot, &row),
-        };
+        let answer = call_or_compare(rt.alloc(), &mut bytes, &mut slot, &mut kept, &row);
         tell(rt, line, answer)?;
     }
     Ok(())
@@ -48,6 +39,31 @@ pub(crate) fn rows<R: Print + AllocGlobal>(rt: &R, length: usize, rows: &str) ->
 fn told_refusal<R: Print>(rt: &R, refusal: Refusal, bytes: &[u8], before: &[u8]) -> io::Result<()> {
     let same = bytes == before;
     println!(rt; "start = {refusal:?}, with the bytes as they were: {same}")
+}
+
+/// What a row answers: `keep` keeps a copy of the bytes, `same` tells whether they are as they were then, and the other
+/// rows are calls.
+fn call_or_compare(
+    alloc: Global,
+    bytes: &mut [u8],
+    slot: &mut LentSlot,
+    kept: &mut [u8],
+    row: &Row<'_>,
+) -> Option<String>
+    requires { IsSlotBytes bytes.old slot.old }
+    ensures { IsSlotBytes bytes.new slot.new }
+{
+    match row.word(0)? {
+        "keep" => {
+            if kept.len() != bytes.len() {
+                return None;
+            }
+            copy_from(bytes, 0, kept);
+            shown(alloc, ())
+        }
+        "same" => shown(alloc, *bytes == *kept),
+        _ => call(alloc, bytes, slot, row),
+    }
 }
 
 /// What the call of a row answers.
