@@ -250,13 +250,8 @@ impl<S: Store + Drop> Bench<S> {
                 let found = self.queue.is_message(&self.store, self.module_area, block);
                 shown(alloc, found)
             }
-            "live" => shown(alloc, self.live_refs(row.number(1)?)),
-            "list" => shown(alloc, self.listed()),
-            "sum" => {
-                let items = self.listed();
-                let (count, sum) = (items.len(), sum(&items));
-                format!(in alloc; "{count} {sum}").ok()
-            }
+            "live" => self.live_refs(alloc, row.number(1)?),
+            "list" => items(alloc, &self.listed()),
             _ => None,
         }
     }
@@ -271,20 +266,21 @@ impl<S: Store + Drop> Bench<S> {
         Some(self.store.word(self.module_area.area, at))
     }
 
-    /// What the refs below a limit add up to that are those of live messages.
-    fn live_refs(&self, limit: u32) -> u32
+    /// The refs below a limit that are those of live messages.
+    fn live_refs(&self, alloc: Global, limit: u32) -> Option<String>
         requires { Runs (S.memory self.now.store) self.now.module_area self.now.queue self.now.live.handles.items }
     {
-        let mut refs = 0u32;
+        let mut refs = String::new(alloc);
         for my_ref in 1..limit {
             if self
                 .queue
                 .is_live(&self.store, self.module_area, Ref(my_ref))
             {
-                refs = add(refs, my_ref);
+                let word = format!(in alloc; " {my_ref}").ok()?;
+                refs.push_str(&word).ok()?;
             }
         }
-        refs
+        Some(refs)
     }
 
     /// The list of all messages.
@@ -297,25 +293,14 @@ impl<S: Store + Drop> Bench<S> {
     }
 }
 
-/// A sum with one more number, by the order in which they come.
-fn add(sum: u32, number: u32) -> u32 {
-    (sum ^ number).wrapping_mul(16_777_619)
-}
-
-/// What messages add up to: of each the code, who sent it, whom it is for, its ref, and whether it is held.
-fn sum(items: &[MessageItem]) -> u32 {
-    let mut total = 0u32;
+/// Of each message in turn the code, who sent it, whom it is for, its ref, and whether it waits or is held.
+fn items(alloc: Global, items: &[MessageItem]) -> Option<String> {
+    let mut seen = String::new(alloc);
     for item in items {
-        let code = match item.code {
-            EventCode::User => 17,
-            EventCode::Recorded => 18,
-            EventCode::Acknowledge => 19,
-        };
-        total = add(total, code);
-        total = add(total, item.from.0);
-        total = add(total, item.to.0);
-        total = add(total, item.my_ref.0);
-        total = add(total, u32::from(item.held));
+        let (code, from, to, my_ref) = (item.code, item.from.0, item.to.0, item.my_ref.0);
+        let state = if item.held { "held" } else { "waits" };
+        let word = format!(in alloc; " {code:?} {from}>{to} ref {my_ref} {state};").ok()?;
+        seen.push_str(&word).ok()?;
     }
-    total
+    Some(seen)
 }
