@@ -251,7 +251,7 @@ impl<S: Store + Drop> Bench<S> {
                 shown(alloc, found)
             }
             "live" => self.live_refs(alloc, row.number(1)?),
-            "list" => items(alloc, &self.listed()),
+            "list" => as_text(alloc, &self.listed()),
             _ => None,
         }
     }
@@ -294,7 +294,7 @@ impl<S: Store + Drop> Bench<S> {
 }
 
 /// Of each message in turn the code, who sent it, whom it is for, its ref, and whether it waits or is held.
-fn items(alloc: Global, items: &[MessageItem]) -> Option<String> {
+fn as_text(alloc: Global, items: &[MessageItem]) -> Option<String> {
     let mut seen = String::new(alloc);
     for item in items {
         let (code, from, to, my_ref) = (item.code, item.from.0, item.to.0, item.my_ref.0);

@@ -1,4 +1,4 @@
-use Rattle.std.proofs.Common.{◌≡◌, ◌==◌, sym, ap, ◌∙◌}
+use Rattle.std.proofs.Common.{◌==◌, sym, ap, ◌∙◌}
 use Rattle.std.specs.List.{list_any}
 use Rattle.rh_wimp.proofs.LeavesLaws.{HasEntry-from_handles}
 use Rattle.wimp_tests.proofs.queues.Bench.poll.Goals as goal

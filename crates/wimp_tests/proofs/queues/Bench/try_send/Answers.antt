@@ -1,4 +1,4 @@
-use Rattle.std.proofs.Common.{◌≡◌, ◌==◌, sym, ap, subst, ◌∙◌}
+use Rattle.std.proofs.Common.{◌==◌, sym, ap, subst, ◌∙◌}
 use Rattle.std.specs.List.{list_any}
 use Rattle.rh_wimp.specs.Chains.{HasEntry}
 use Rattle.rh_wimp.proofs.LeavesLaws.{HasEntry-from_handles}
