@@ -108,7 +108,7 @@ fn ask<S: Store, F: NamedFiles>(
     match word {
         "show" => show(alloc, world, row),
         "blocks" => shown(alloc, world.blocks(&row.name(1)?, row.size(2)?)),
-        "status" => shown(alloc, world.status(&row.name(1)?)),
+        "status" => status(alloc, world, &row.name(1)?),
         "heap" => shown(alloc, world.heap(&row.name(1)?, row.number(2)?)),
         "areas" => shown(alloc, world.areas(row.size(1)?)),
         "area_entry" => shown(alloc, world.area_entry(row.size(1)?)),
@@ -116,6 +116,16 @@ fn ask<S: Store, F: NamedFiles>(
         "segments_of" => shown(alloc, world.segments_of(&row.name(1)?, row.number(2)?)),
         _ => sights::ask(alloc, world, word, row),
     }
+}
+
+/// What a task's status is.
+fn status<S: Store, F: NamedFiles>(
+    alloc: Global,
+    world: &World<S, F>,
+    name: &Name,
+) -> Option<String> {
+    let found = world.status(name);
+    format!(in alloc; "{found:?}").ok()
 }
 
 /// So many bytes of a block from an offset on, read into bytes that are 1, and those after the call.
