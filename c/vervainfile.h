@@ -470,7 +470,7 @@ enum {
     VF_DID_TAKE_AND_FAIL = 8,  /* `count` bytes were taken, and the next fetch failed by `refusal` */
     VF_DID_ASK = 9,            /* the sender was asked for a file: `sent` is the DataSaveAck */
     VF_DID_SAVE = 10,          /* the `count` bytes of the source became the scrap file: `sent` is the DataLoad */
-    VF_DID_LOAD = 11,          /* the scrap file of `count` bytes became the document, and the sender was told */
+    VF_DID_LOAD = 11,          /* the scrap file of `count` bytes became the document: `sent` is the DataLoadAck */
     VF_DID_LOAD_AND_FAIL = 12, /* the same, but the answer failed by `refusal` */
     VF_DID_FINISH = 13         /* the recipient has loaded the file */
 };

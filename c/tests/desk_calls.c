@@ -425,6 +425,54 @@ static void transfer(void)
     REFUSES(VF_NO_NAME, vf_desk_kill(&desk, B));
 }
 
+/* A file of 5 bytes goes from a to b as the scrap file, since a answers no fetch; each message's ref is told. */
+static void transfer_by_file(void)
+{
+    open_desk(PAGES, 1, 7);
+    DOES(vf_desk_task(&desk, A, 4, VF_TASK_FILE, &number_told));
+    DOES(vf_desk_task(&desk, B, 4, VF_TASK_PLAIN, &number_told));
+    DOES(vf_desk_alloc(&desk, A, 0, 5, &number_told));
+    GIVES(7, vf_desk_save(&desk, A, 0, B, VF_TEXT("Leaf"), &number_told));
+    DOES(vf_desk_poll(&desk, B, &event));
+    EXPECT(event.did == VF_DID_FETCH && event.sent == 8);
+    DOES(vf_desk_poll(&desk, A, &event));
+    EXPECT(event.action == 6 && event.my_ref == 8 && event.did == VF_DID_NOTHING && event.sent == 0);
+    DOES(vf_desk_poll(&desk, A, &event));
+    EXPECT(event.code == 0);
+    DOES(vf_desk_poll(&desk, B, &event));
+    EXPECT(event.code == 19 && event.did == VF_DID_ASK && event.sent == 9);
+    DOES(vf_desk_poll(&desk, A, &event));
+    EXPECT(event.action == 2 && event.my_ref == 9 && event.did == VF_DID_SAVE && event.count == 5 && event.sent == 10);
+    DOES(vf_desk_poll(&desk, B, &event));
+    EXPECT(event.action == 3 && event.my_ref == 10 && event.did == VF_DID_LOAD && event.count == 5 && event.sent == 11);
+    EXPECT(event.refusal == 0);
+    GIVES(17, vf_desk_next(&desk, A, &message, &number_told));
+    EXPECT(message.bytes[8] == 11 && message.bytes[12] == 10 && message.bytes[16] == 4);
+    DOES(vf_desk_poll(&desk, A, &event));
+    EXPECT(event.action == 4 && event.my_ref == 11 && event.your_ref == 10);
+    EXPECT(event.did == VF_DID_FINISH && event.count == 0 && event.sent == 0);
+    DOES(vf_desk_close(&desk));
+}
+
+/* A DataLoadAck for which no ref is left: the file was loaded, and the ref that is told is 0. */
+static void the_last_ref_loads(void)
+{
+    open_desk(PAGES, 1, LAST - 3);
+    DOES(vf_desk_task(&desk, A, 4, VF_TASK_FILE, &number_told));
+    DOES(vf_desk_task(&desk, B, 4, VF_TASK_PLAIN, &number_told));
+    DOES(vf_desk_alloc(&desk, A, 0, 5, &number_told));
+    GIVES(LAST - 3, vf_desk_save(&desk, A, 0, B, VF_TEXT("Leaf"), &number_told));
+    DOES(vf_desk_poll(&desk, B, &event));
+    DOES(vf_desk_poll(&desk, A, &event));
+    DOES(vf_desk_poll(&desk, A, &event));
+    DOES(vf_desk_poll(&desk, B, &event));
+    DOES(vf_desk_poll(&desk, A, &event));
+    EXPECT(event.did == VF_DID_SAVE && event.sent == LAST);
+    DOES(vf_desk_poll(&desk, B, &event));
+    EXPECT(event.did == VF_DID_LOAD_AND_FAIL && event.count == 5 && event.sent == 0 && event.refusal == VF_NO_REFS);
+    DOES(vf_desk_close(&desk));
+}
+
 /* What only a desk with many tasks, messages or numbers refuses. */
 static void limits(void)
 {
@@ -521,6 +569,8 @@ int main(void)
     transfer();
     DOES(vf_desk_close(&desk));
     closed_desks_answer_so();
+    transfer_by_file();
+    the_last_ref_loads();
     limits();
     return ended("desk_calls");
 }

@@ -11,6 +11,7 @@ use Rattle.rh_defs.specs.Post.{Post, post_poll}
 use Rattle.rh_defs.proofs.Orders.{AnswerAlike, post_poll-alike}
 use Rattle.rh_tasks.specs.Sights.{next_message}
 use Rattle.rh_wimp.specs.QueueItems.{with_message}
+use Rattle.vf_desk.specs.Event.{next_ref_in}
 use Rattle.vf_desk.specs.Next.{code_or, next_in, next_on, next_parcel, status_of_next}
 use Rattle.vf_desk.specs.DeskStatus.{bad_argument, refusal_number}
 
@@ -49,6 +50,15 @@ pub next-closed : {held : Option Console} → held ≡ None → (s : Option Desk
 next-closed {held} is s name seen = go s (subst (λ h. SeenBy h s) is seen)
   where
     go : (s : Option Desk) → SeenBy None s → next_in s name ≡ Err closed_status
+    go None seen = refl
+    go (Some d) seen = absurd seen
+
+-- ---- the ref of the message that is sent next
+
+pub closed-ref : {held : Option Console} → held ≡ None → (s : Option Desk) → SeenBy held s → 0 ≡ next_ref_in s
+closed-ref {held} is s seen = go s (subst (λ h. SeenBy h s) is seen)
+  where
+    go : (s : Option Desk) → SeenBy None s → 0 ≡ next_ref_in s
     go None seen = refl
     go (Some d) seen = absurd seen
 

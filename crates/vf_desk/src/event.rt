@@ -41,7 +41,7 @@ pub const DID_ASK: u32 = 9;
 /// The source became the scrap file, and the DataLoad was sent.
 pub const DID_SAVE: u32 = 10;
 
-/// The scrap file became the document, and the sender was told.
+/// The scrap file became the document, and the DataLoadAck was sent.
 pub const DID_LOAD: u32 = 11;
 
 /// The scrap file became the document, and the answer was refused.
@@ -114,9 +114,9 @@ impl Deed {
     }
 }
 
-/// An outcome's deed.
-fn done_with(outcome: &Outcome) -> Deed
-    ensures { result ≡ deed_of outcome.now }
+/// An outcome's deed. A DataLoadAck that was sent has the ref `ack`.
+fn done_with(outcome: &Outcome, ack: u32) -> Deed
+    ensures { result ≡ deed_of ack outcome.now }
 {
     match outcome {
         Outcome::Ignored => Deed::plain(DID_NOTHING),
@@ -132,7 +132,7 @@ fn done_with(outcome: &Outcome) -> Deed
         }
         Outcome::Asked(ack) => Deed::moved(DID_ASK, 0, ack.0),
         Outcome::Saved { count, load } => Deed::moved(DID_SAVE, *count, load.0),
-        Outcome::Loaded { count } => Deed::moved(DID_LOAD, *count, 0),
+        Outcome::Loaded { count } => Deed::moved(DID_LOAD, *count, ack),
         Outcome::LoadedFailed { count, refusal } => {
             Deed::refused(DID_LOAD_AND_FAIL, *count, *refusal)
         }
@@ -153,8 +153,8 @@ const NONE: VfEvent = VfEvent {
 };
 
 /// What a poll came to as an event, or the old one where it wasn't done.
-fn event(called: &Called, old: VfEvent) -> VfEvent
-    ensures { result ≡ event_or called.now old }
+fn event(called: &Called, ack: u32, old: VfEvent) -> VfEvent
+    ensures { result ≡ event_or ack called.now old }
 {
     match called {
         Called::Said(Reply::NoEvent) => NONE,
@@ -172,7 +172,7 @@ fn event(called: &Called, old: VfEvent) -> VfEvent
                 count,
                 sent,
                 refusal,
-            } = done_with(outcome);
+            } = done_with(outcome, ack);
             VfEvent {
                 code: code.number(),
                 action: action.number(),
@@ -188,11 +188,11 @@ fn event(called: &Called, old: VfEvent) -> VfEvent
     }
 }
 
-/// The status of a poll. What it took and did is told, if it was done.
-pub fn told_event(called: &Called, to: &mut VfEvent) -> u32
+/// The status of a poll. What it took and did is told, if it was done; `ack` is the ref of a DataLoadAck that it sent.
+pub fn told_event(called: &Called, ack: u32, to: &mut VfEvent) -> u32
     ensures status { result ≡ status_of called.now }
-    ensures event { to.new ≡ event_or called.now to.old }
+    ensures event { to.new ≡ event_or ack called.now to.old }
 {
-    *to = event(called, *to);
+    *to = event(called, ack, *to);
     called.status()
 }

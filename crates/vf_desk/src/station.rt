@@ -4,6 +4,7 @@ ghost use Rattle.rh_defs.specs.Desk.{Desk};
 ghost use Rattle.rh_defs.specs.Range.{in_range};
 ghost use Rattle.rh_defs.specs.declared.command.Command.TheVariants as Command;
 ghost use Rattle.vf_desk.specs.Called.{IsAsked, called, desk_by, in_form, status_of};
+ghost use Rattle.vf_desk.specs.Event.{next_ref_in};
 ghost use Rattle.vf_desk.specs.Inner.DeskSteps.{Steps};
 ghost use Rattle.vf_desk.specs.SeenDesk.{KeepsRest, SeenBy};
 
@@ -36,6 +37,20 @@ impl Station {
         let called = step_world(&mut console.world, command);
         self.console = Some(console);
         called
+    }
+
+    /// The ref of the message that is sent next: 0 where the desk isn't open, or no ref is left.
+    pub fn next_ref(&self) -> u32
+        ensures { (s : Option Desk) → SeenBy self.now.console s → result ≡ next_ref_in s }
+    {
+        let Some(console) = &self.console else {
+            return 0;
+        };
+        let my_ref = console.world.next_ref();
+        if my_ref > u64::from(u32::MAX) {
+            return 0;
+        }
+        my_ref as u32
     }
 
     /// Writes bytes into a flex block of the desk, if it is open and they can be written by a line that has room.

@@ -3,7 +3,7 @@ ghost use Rattle.std.specs.Prelude.{◌≡◌, Option};
 ghost use Rattle.rh_defs.specs.Desk.{Desk};
 ghost use Rattle.rh_defs.specs.declared.command.Command.TheVariants as Command;
 ghost use Rattle.vf_desk.specs.Called.{DoesCalled, called, in_form, number_or};
-ghost use Rattle.vf_desk.specs.Event.{event_or};
+ghost use Rattle.vf_desk.specs.Event.{event_or, next_ref_in};
 ghost use Rattle.vf_desk.specs.DeskForms.{id_in, manner_at, task_form};
 ghost use Rattle.vf_desk.specs.SeenDesk.{IsSeenDesk};
 
@@ -68,9 +68,10 @@ pub extern "C" fn vf_desk_poll(
 ) -> u32
     ensures does { DoesCalled (in_form (Command.Poll name.now)) desk.old desk.new result }
     ensures event { (s : Option Desk) → IsSeenDesk desk.old s →
-        event.new ≡ event_or (called s (in_form (Command.Poll name.now))) event.old }
+        event.new ≡ event_or (next_ref_in s) (called s (in_form (Command.Poll name.now))) event.old }
 {
-    told_event(&desk.step(alloc, forms::poll(name)), event)
+    let (called, ack) = desk.step_sending(alloc, forms::poll(name));
+    told_event(&called, ack, event)
 }
 
 /// Gives up the transfer with the id that comes in; with the id 0 the first one that can be given up.

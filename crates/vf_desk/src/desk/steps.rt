@@ -5,6 +5,7 @@ ghost use Rattle.rh_defs.specs.Desk.{Desk};
 ghost use Rattle.rh_defs.specs.Range.{in_range};
 ghost use Rattle.rh_defs.specs.declared.command.Command.TheVariants as Command;
 ghost use Rattle.vf_desk.specs.Called.{IsAsked, called, desk_by, in_form, status_of};
+ghost use Rattle.vf_desk.specs.Event.{next_ref_in};
 ghost use Rattle.vf_desk.specs.SeenDesk.{IsSeenDesk, KeepsRest};
 
 use crate::called::Called;
@@ -66,6 +67,25 @@ impl VfDesk {
         let called = station.step(command);
         self.put(station);
         called
+    }
+
+    /// The same, with the ref of the message that is sent next before the command is done: 0 on a closed desk, or where
+    /// no ref is left.
+    pub fn step_sending(&mut self, alloc: Global, command: Option<Command>) -> (Called, u32)
+        requires { IfSome command (λ c. in_range c ≡ true) }
+        ensures said { (s : Option Desk) → IsSeenDesk self.old s → result.0 ≡ called s command }
+        ensures next { (s : Option Desk) → IsSeenDesk self.old s → result.1 ≡ next_ref_in s }
+        ensures desk { (s : Option Desk) → IsSeenDesk self.old s → IsSeenDesk self.new (desk_by s command) }
+        ensures rest { KeepsRest self.old.handle.station self.new.handle.station }
+        ensures refused { status_of result.0 ≢ 0 → self.new.handle.station ≡ self.old.handle.station }
+    {
+        let Some(mut station) = self.take(alloc) else {
+            return (Called::Closed, 0);
+        };
+        let my_ref = station.next_ref();
+        let said = station.step(command);
+        self.put(station);
+        (said, my_ref)
     }
 
     /// Writes bytes into a flex block, as a `put` of as many bytes does, whatever a line has room for.

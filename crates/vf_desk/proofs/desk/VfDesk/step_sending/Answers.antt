@@ -1,0 +1,35 @@
+use Rattle.vf_desk.proofs.Common.{Some, None, sym, ap, ◌∙◌, desk_by, KeepsRest}
+use Rattle.vf_desk.proofs.NextLaws.{closed-ref}
+use Rattle.vf_desk.proofs.SeenLaws.{empty-seen, held-by, held-desk, held-same, in-handle, none-by, none-desk, none-said, stays-rest}
+use Rattle.vf_desk.proofs.desk.VfDesk.step_sending.Goals as goal
+
+pub returns-in_default-clause-said : goal.returns-in_default-clause-said
+returns-in_default-clause-said c = none-said c.in_default.ensures.taken c.in_default.ensures.left c.args.command
+
+pub returns-in_default-clause-desk : goal.returns-in_default-clause-desk
+returns-in_default-clause-desk c = none-desk c.in_default.ensures.taken c.in_default.ensures.left c.args.command
+
+pub returns-in_default-clause-rest : goal.returns-in_default-clause-rest
+returns-in_default-clause-rest c = none-by c.in_default.ensures.taken c.in_default.ensures.left KeepsRest (stays-rest None)
+
+pub returns-in_default-clause-refused : goal.returns-in_default-clause-refused
+returns-in_default-clause-refused c = λ _. c.in_default.ensures.left ∙ c.in_default.ensures.taken
+
+pub returns-in_default-clause-next : goal.returns-in_default-clause-next
+returns-in_default-clause-next c = λ s seen. closed-ref refl s (empty-seen (sym c.in_default.ensures.taken) s seen)
+
+pub returns-clause-said : goal.returns-clause-said
+returns-clause-said c = in-handle (ap Some c.deref_mut.ensures.value ∙ c.in-Some.ensures.taken) c.step-said.ensures.said
+
+pub returns-clause-desk : goal.returns-clause-desk
+returns-clause-desk c =
+    held-desk (ap Some c.deref_mut.ensures.value ∙ c.in-Some.ensures.taken) c.put.ensures (λ s. desk_by s c.args.command) c.step-said.ensures.desk
+
+pub returns-clause-rest : goal.returns-clause-rest
+returns-clause-rest c = held-by (ap Some c.deref_mut.ensures.value ∙ c.in-Some.ensures.taken) c.put.ensures KeepsRest c.step-said.ensures.rest
+
+pub returns-clause-refused : goal.returns-clause-refused
+returns-clause-refused c = λ bad. held-same (ap Some c.deref_mut.ensures.value ∙ c.in-Some.ensures.taken) c.put.ensures (c.step-said.ensures.refused bad)
+
+pub returns-clause-next : goal.returns-clause-next
+returns-clause-next c = in-handle (ap Some c.deref.ensures ∙ c.in-Some.ensures.taken) c.next_ref-my_ref.ensures
