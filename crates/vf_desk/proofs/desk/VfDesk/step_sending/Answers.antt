@@ -1,4 +1,4 @@
-use Rattle.vf_desk.proofs.Common.{Some, None, sym, ap, ◌∙◌, desk_by, KeepsRest}
+use Rattle.vf_desk.proofs.Common.{Some, None, refl, sym, ap, ◌∙◌, desk_by, KeepsRest}
 use Rattle.vf_desk.proofs.NextLaws.{closed-ref}
 use Rattle.vf_desk.proofs.SeenLaws.{empty-seen, held-by, held-desk, held-same, in-handle, none-by, none-desk, none-said, stays-rest}
 use Rattle.vf_desk.proofs.desk.VfDesk.step_sending.Goals as goal
