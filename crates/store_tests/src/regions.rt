@@ -2,7 +2,7 @@
 
 use crate::answer::{shown, tell};
 use crate::row::Row;
-use crate::sums::sum;
+use crate::sums::{are_zero, slide_in, sum};
 use rh_region::Region;
 use std::alloc::Global;
 use std::io;
@@ -31,7 +31,7 @@ fn call(alloc: Global, region: &mut Region, row: &Row<'_>) -> Option<String> {
         "set_word" => shown(alloc, set_word(region, row.size(1)?, row.number(2)?)?),
         "slide" => shown(
             alloc,
-            slide(region, row.size(1)?, row.size(2)?, row.size(3)?)?,
+            slide(alloc, region, row.size(1)?, row.size(2)?, row.size(3)?)?,
         ),
         "zero" => shown(alloc, zero(region, row.size(1)?, row.size(2)?)?),
         "count_up" => shown(alloc, count_up(region, row.size(1)?)?),
@@ -49,6 +49,10 @@ fn ask(alloc: Global, region: &Region, row: &Row<'_>) -> Option<String> {
             format!(in alloc; "&{word:x}").ok()
         }
         "bytes" => shown(alloc, some_bytes(region, row.size(1)?, row.size(2)?)?),
+        "zeros" => shown(
+            alloc,
+            are_zero(some_bytes(region, row.size(1)?, row.size(2)?)?),
+        ),
         "sum" => shown(alloc, sum(some_bytes(region, row.size(1)?, row.size(2)?)?)),
         _ => None,
     }
@@ -71,13 +75,16 @@ fn set_word(region: &mut Region, at: usize, word: u32) -> Option<()> {
     Some(())
 }
 
-fn slide(region: &mut Region, from: usize, to: usize, n: usize) -> Option<()> {
+/// Moves n bytes within the region, and tells whether all bytes are then as the same slide leaves them in a slice.
+fn slide(alloc: Global, region: &mut Region, from: usize, to: usize, n: usize) -> Option<bool> {
     let len = region.len();
     if n > len || from > len - n || to > len - n {
         return None;
     }
+    let mut model = Vec::from_slice(alloc, region.bytes(0, len)).ok()?;
+    slide_in(&mut model, from, to, n)?;
     region.slide(from, to, n);
-    Some(())
+    Some(some_bytes(region, 0, len)? == model.as_slice())
 }
 
 fn zero(region: &mut Region, at: usize, n: usize) -> Option<()> {

@@ -1,4 +1,4 @@
-//! Bytes that are easy to tell apart, and what bytes add up to.
+//! Bytes that are easy to tell apart, what bytes add up to, and a slide in a slice.
 
 use std::alloc::Global;
 
@@ -24,4 +24,24 @@ pub(crate) fn sum(bytes: &[u8]) -> u32 {
         sum = (sum ^ u32::from(*byte)).wrapping_mul(16_777_619);
     }
     sum
+}
+
+/// Whether all bytes are 0.
+pub(crate) fn are_zero(bytes: &[u8]) -> bool {
+    for byte in bytes {
+        if *byte != 0 {
+            return false;
+        }
+    }
+    true
+}
+
+/// Moves n bytes within a slice, none where it has fewer.
+pub(crate) fn slide_in(bytes: &mut [u8], from: usize, to: usize, n: usize) -> Option<()> {
+    let len = bytes.len();
+    if !(from <= len && n <= len - from && to <= len && n <= len - to) {
+        return None;
+    }
+    bytes.copy_within(from..from + n, to);
+    Some(())
 }

@@ -7,7 +7,7 @@ ghost use Rattle.rh_defs.specs.Memory.{IsOpen};
 use crate::answer::shown;
 use crate::careful;
 use crate::row::Row;
-use crate::sums::{pattern, sum};
+use crate::sums::{are_zero, pattern, slide_in, sum};
 use rh_store::{AreaId, Paged, Pages, Words, WordsMut};
 use std::alloc::Global;
 
@@ -23,6 +23,10 @@ pub(crate) fn ask<S: Words>(alloc: Global, store: &S, id: AreaId, row: &Row<'_>)
         }
         "bytes" => bytes(alloc, store, id, row.size(2)?, row.size(3)?),
         "sum" => sum_of(alloc, store, id),
+        "zeros" => shown(
+            alloc,
+            are_zero(contents(alloc, store, id)?.get(row.size(2)?..)?),
+        ),
         "run" => beginning(alloc, careful::run(store, id, row.size(2)?)?),
         _ => None,
     }
@@ -59,15 +63,53 @@ fn bytes<S: Words>(alloc: Global, store: &S, id: AreaId, at: usize, n: usize) ->
     format!(in alloc; "{bytes:?}").ok()
 }
 
-/// How many bytes an area has, and what they add up to.
-fn sum_of<S: Words>(alloc: Global, store: &S, id: AreaId) -> Option<String>
+/// All bytes of an area.
+fn contents<S: Words>(alloc: Global, store: &S, id: AreaId) -> Option<Vec<u8>>
     requires { IsOpen (S.memory store.now) id.0 }
 {
     let n = store.len(id);
     let mut bytes = vec![in alloc; 9; n].ok()?;
     careful::copy_out(store, id, 0, &mut bytes)?;
-    let sum = sum(&bytes);
+    Some(bytes)
+}
+
+/// How many bytes an area has, and what they add up to.
+fn sum_of<S: Words>(alloc: Global, store: &S, id: AreaId) -> Option<String>
+    requires { IsOpen (S.memory store.now) id.0 }
+{
+    let bytes = contents(alloc, store, id)?;
+    let (n, sum) = (bytes.len(), sum(&bytes));
     format!(in alloc; "{n} {sum}").ok()
+}
+
+/// Writes the pattern of n bytes, and tells whether the area begins with it then.
+fn put_pattern<S: WordsMut>(alloc: Global, store: &mut S, id: AreaId, n: usize) -> Option<bool>
+    requires { IsOpen (S.memory store.old) id.0 }
+    ensures { (n : ℕ) → IsOpen (S.memory store.old) n → IsOpen (S.memory store.new) n }
+{
+    let pattern = pattern(alloc, n)?;
+    careful::copy_in(store, id, 0, &pattern)?;
+    let bytes = contents(alloc, store, id)?;
+    Some(bytes.get(..n)? == pattern.as_slice())
+}
+
+/// Moves n bytes within an area, and tells whether all of its bytes are then as the same slide leaves them in a slice.
+fn slide<S: WordsMut>(
+    alloc: Global,
+    store: &mut S,
+    id: AreaId,
+    from: usize,
+    to: usize,
+    n: usize,
+) -> Option<bool>
+    requires { IsOpen (S.memory store.old) id.0 }
+    ensures { (n : ℕ) → IsOpen (S.memory store.old) n → IsOpen (S.memory store.new) n }
+{
+    let mut model = contents(alloc, store, id)?;
+    slide_in(&mut model, from, to, n)?;
+    careful::slide(store, id, from, to, n)?;
+    let bytes = contents(alloc, store, id)?;
+    Some(bytes == model)
 }
 
 /// What a call answers that writes into an area.
@@ -90,13 +132,10 @@ pub(crate) fn change<S: WordsMut>(
             alloc,
             careful::copy_in(store, id, row.size(2)?, row.bytes(3))?,
         ),
-        "pattern" => {
-            let pattern = pattern(alloc, row.size(2)?)?;
-            shown(alloc, careful::copy_in(store, id, 0, &pattern)?)
-        }
+        "pattern" => shown(alloc, put_pattern(alloc, store, id, row.size(2)?)?),
         "slide" => {
             let (from, to, n) = (row.size(2)?, row.size(3)?, row.size(4)?);
-            shown(alloc, careful::slide(store, id, from, to, n)?)
+            shown(alloc, slide(alloc, store, id, from, to, n)?)
         }
         _ => ask(alloc, store, id, row),
     }
