@@ -10,7 +10,8 @@
  * It compiles as C99 or any later C, as C++, and as C89 where <stdint.h> and <stdbool.h> are there.
  *
  * Version, statuses, your duties, the calls of OS_Heap, the same with a map beside the heap, the same on any bytes,
- * flex, the C heap below flex, a slot in any bytes, the desk, and null pointers: in this order.
+ * flex, the C heap below flex, a slot in any bytes, the desk, transfers of your own tasks, messages, and null pointers:
+ * in this order.
  * docs/C.md says more: what each Acorn call becomes, what a call costs, and what of it is proved.
  */
 #ifndef VERVAINFILE_H
@@ -62,7 +63,7 @@ enum {
     VF_ANCHOR_IN_USE = 7,      /* the anchor has a block */
     VF_NOT_A_BLOCK = 8,        /* no block begins at the address */
     VF_NOT_YOURS = 9,          /* the block of the module area holds a message */
-    VF_BUSY = 10,              /* a transfer uses the block, eight that go out are open, or there is a scrap file */
+    VF_BUSY = 10,              /* a transfer uses the block, eight are going that way, or there is a scrap file */
     VF_NOT_OPEN = 11,          /* no transfer that is meant can be given up */
     VF_NOTHING_SENT = 12,      /* the task has sent no message */
     VF_BAD_RANGE = 13,         /* bytes lie outside the block */
@@ -93,7 +94,10 @@ enum {
     VF_OPEN = 44,              /* the desk is open already */
     VF_BAD_ARGUMENT = 45,      /* a name, an anchor, a number or a leafname is none that a line has, or a put no byte */
     VF_NO_MEMORY = 46,         /* memory was refused */
-    VF_FILE_EXISTS = 47        /* a file with the name was added before */
+    VF_FILE_EXISTS = 47,       /* a file with the name was added before */
+    VF_BAD_RECORDS = 48,       /* the struct is no sender or receiver: a count above 8, a state or an anchor of none */
+    VF_BAD_ACTION = 49,        /* the struct has no action that the call is told of */
+    VF_BAD_MESSAGE = 50        /* the action of the message is none of a file or a RAM transfer */
 };
 
 /* The text of each status, which is what stands beside it above: text(VF_OK, "all was done"), and so on. */
@@ -108,7 +112,7 @@ enum {
     text(VF_ANCHOR_IN_USE, "the anchor has a block")                                                                 \
     text(VF_NOT_A_BLOCK, "no block begins at the address")                                                           \
     text(VF_NOT_YOURS, "the block of the module area holds a message")                                               \
-    text(VF_BUSY, "a transfer uses the block, eight that go out are open, or there is a scrap file")                 \
+    text(VF_BUSY, "a transfer uses the block, eight are going that way, or there is a scrap file")                   \
     text(VF_NOT_OPEN, "no transfer that is meant can be given up")                                                   \
     text(VF_NOTHING_SENT, "the task has sent no message")                                                            \
     text(VF_BAD_RANGE, "bytes lie outside the block")                                                                \
@@ -138,7 +142,10 @@ enum {
     text(VF_OPEN, "the desk is open already")                                                                        \
     text(VF_BAD_ARGUMENT, "a name, an anchor, a number or a leafname is none that a line has, or a put no byte")     \
     text(VF_NO_MEMORY, "memory was refused")                                                                         \
-    text(VF_FILE_EXISTS, "a file with the name was added before")
+    text(VF_FILE_EXISTS, "a file with the name was added before")                                                    \
+    text(VF_BAD_RECORDS, "the struct is no sender or receiver: a count above 8, a state or an anchor of none")       \
+    text(VF_BAD_ACTION, "the struct has no action that the call is told of")                                         \
+    text(VF_BAD_MESSAGE, "the action of the message is none of a file or a RAM transfer")
 
 /* What a status says, for messages; of any other number that no status has it. */
 static VF_INLINE const char *vf_status_text(uint32_t status)
@@ -463,7 +470,7 @@ enum {
     VF_DID_TAKE_AND_FAIL = 8,  /* `count` bytes were taken, and the next fetch failed by `refusal` */
     VF_DID_ASK = 9,            /* the sender was asked for a file: `sent` is the DataSaveAck */
     VF_DID_SAVE = 10,          /* the `count` bytes of the source became the scrap file: `sent` is the DataLoad */
-    VF_DID_LOAD = 11,          /* the scrap file of `count` bytes became the document, and the sender was told */
+    VF_DID_LOAD = 11,          /* the scrap file of `count` bytes became the document: `sent` is the DataLoadAck */
     VF_DID_LOAD_AND_FAIL = 12, /* the same, but the answer failed by `refusal` */
     VF_DID_FINISH = 13         /* the recipient has loaded the file */
 };
@@ -691,6 +698,282 @@ uint32_t vf_desk_line(struct vf_desk *desk, const uint8_t *line, size_t line_len
  * than there is room for: `text` and `length` stay then. */
 uint32_t vf_desk_reply(struct vf_desk *desk, uint8_t *text, size_t text_len, size_t *length);
 
+/* ---- Transfers of your own tasks -----------------------------------------------------------------------------------
+ *
+ * The two sides of a task's transfers, for a program that has memory and messages of its own. A sender and a receiver
+ * are structs of words: which transfers are going, and with that what a message asks for. Your program moves the bytes
+ * and sends the messages. The structs may be copied, saved and moved, as they have no pointers.
+ *
+ * An event is a call that changes nothing and tells at most one action, which the program does. A second call tells how
+ * the action ended, with the same struct. That call answers VF_NOT_OPEN, and changes nothing, where the transfer is no
+ * longer as the action says: it went on, was given up, or is another task's.
+ *
+ * | What comes         | The call                  | The action, and what it asks for        | Told by              |
+ * |--------------------|---------------------------|-----------------------------------------|----------------------|
+ * | DataSave was sent  | vf_sender_offer           |                                         |                      |
+ * | RAMFetch           | vf_sender_on_fetch        | VF_DO_TRANSMIT: a part, RAMTransmit     | vf_sender_sent       |
+ * | DataSaveAck        | vf_sender_on_ack          | VF_DO_SAVE_FILE: a file, DataLoad       | vf_sender_saved      |
+ * | DataLoadAck        | vf_sender_on_load_ack     | VF_DO_FINISH: the size of the source    | vf_sender_loaded     |
+ * | 19 of what it sent | vf_sender_on_bounce       |                                         |                      |
+ * | DataSave           | vf_receiver_on_save       | VF_DO_CLAIM: buffer, document, RAMFetch | vf_receiver_fetching |
+ * | RAMTransmit        | vf_receiver_on_transmit   | VF_DO_APPEND: bytes, then VF_NEXT_FETCH | vf_receiver_fetched  |
+ * |                    |                           | or then VF_NEXT_FINISH: the buffer goes | vf_receiver_finished |
+ * |                    |                           | VF_DO_RELEASE: the buffer goes          | vf_receiver_failed   |
+ * | 19 of RAMFetch     | vf_receiver_on_bounce     | VF_DO_ASK_FOR_FILE: DataSaveAck         | vf_receiver_asking   |
+ * |                    |                           | VF_DO_RELEASE: the buffer goes          | vf_receiver_failed   |
+ * | 19 of DataSaveAck  | vf_receiver_on_ack_bounce |                                         |                      |
+ * | DataLoad           | vf_receiver_on_load       | VF_DO_LOAD_FILE: the file, DataLoadAck  | vf_receiver_loaded   |
+ *
+ * An action that was refused is told by vf_sender_failed or vf_receiver_failed. Each message of a transfer needs a ref
+ * that no other has, as records are found by their refs. A handle, a ref and an address are numbers of yours, of 32
+ * bits; an anchor is a number from 0 to 63 by which you find a block.
+ *
+ * Each call tests first, and has changed nothing then: VF_NULL; VF_BAD_RECORDS where there is a sender or receiver;
+ * VF_BAD_ACTION where there is an action; VF_BAD_ANCHOR where there is an anchor. After vf_sender_start or
+ * vf_receiver_start, and after each call, the struct is one, as long as nothing else writes to it.
+ */
+
+/* What there is to do. */
+enum {
+    VF_DO_NOTHING = 0,      /* nothing: the message is for no transfer */
+    VF_DO_TRANSMIT = 1,     /* put a part into the fetch's buffer, and send a RAMTransmit: the last as 17, else 18 */
+    VF_DO_SAVE_FILE = 2,    /* make the source a file, and send a DataLoad as 18 */
+    VF_DO_FINISH = 3,       /* look how many bytes the source has: all of them were loaded */
+    VF_DO_CLAIM = 4,        /* have a buffer and an empty document, and send the first RAMFetch as 18 */
+    VF_DO_APPEND = 5,       /* put the first `n` bytes of the buffer at the document's end; then `next` */
+    VF_DO_ASK_FOR_FILE = 6, /* send a DataSaveAck as 18, and let the buffer go */
+    VF_DO_LOAD_FILE = 7,    /* put the file of the DataLoad at the document's end, and send a DataLoadAck as 17 */
+    VF_DO_RELEASE = 8       /* let the buffer go: the transfer ends */
+};
+
+/* What follows on bytes that were appended. */
+enum {
+    VF_NEXT_FETCH = 1, /* send the RAMFetch of `next_fetch` as 18: the buffer was full */
+    VF_NEXT_FINISH = 2 /* let the buffer go: the bytes were the last */
+};
+
+/* Why a transfer that comes in ends early. */
+enum {
+    VF_END_DRAINED = 1,    /* it had been given up, and its last fetch was answered or came back */
+    VF_END_UNANSWERED = 2, /* a fetch came back that was not its first one */
+    VF_END_UNCOUNTABLE = 3 /* more bytes came than 32 bits count */
+};
+
+/* A record of a transfer that goes out: VF_RECORD_OPEN, DONE or FAILED. Of one that has ended the id and the count are
+ * kept, and the other words are 0. */
+struct vf_outgoing {
+    uint32_t state;
+    uint32_t id;        /* the ref of its DataSave */
+    uint32_t recipient; /* the task that the data is for */
+    uint32_t anchor;    /* of the source */
+    uint32_t count;     /* the bytes sent so far */
+    uint32_t last;      /* the ref of the last message that it sent */
+};
+
+/* A record of a transfer that comes in: VF_RECORD_FETCHING, DRAINING, ASKING, DONE or FAILED. One that waits for a file
+ * has the ref of its DataSaveAck in `fetch`. Of one that has ended the id, the anchor and the count are kept. */
+struct vf_incoming {
+    uint32_t state;
+    uint32_t id;     /* the ref of its DataSave */
+    uint32_t sender; /* the task that sends */
+    uint32_t anchor; /* of the document */
+    uint32_t buffer; /* the buffer's address */
+    uint32_t count;  /* the bytes taken so far */
+    uint32_t fetch;  /* the ref of its last RAMFetch */
+};
+
+/* The transfers of a task that go out, and those that come in: as many records as `count` says, in the order made. */
+struct vf_sender {
+    uint32_t count;
+    struct vf_outgoing records[8];
+};
+struct vf_receiver {
+    uint32_t count;
+    struct vf_incoming records[8];
+};
+
+/* What a sender has to do: VF_DO_.. with the transfer as it stands. What does not apply is 0. */
+struct vf_send_action {
+    uint32_t what;
+    uint32_t id;
+    uint32_t recipient;
+    uint32_t anchor;
+    uint32_t count;
+    uint32_t last;
+    uint32_t to;      /* the task that the message goes to */
+    uint32_t answers; /* its your_ref */
+    uint32_t buffer;  /* the address of the fetch's buffer */
+    uint32_t room;    /* the bytes that were asked for */
+};
+
+/* The bytes of a source that a transmit sends: so many from an offset on. Behind the last ones no RAMFetch comes. */
+struct vf_part {
+    uint32_t offset;
+    uint32_t n;
+    uint32_t is_last; /* 1 or 0 */
+};
+
+/* A RAMFetch that is to be sent. */
+struct vf_fetch {
+    uint32_t to;
+    uint32_t answers;
+    uint32_t buffer;
+    uint32_t room;
+};
+
+/* What a receiver has to do. */
+struct vf_take_action {
+    uint32_t what;
+    uint32_t id;
+    uint32_t sender;
+    uint32_t anchor;
+    uint32_t buffer;
+    uint32_t count;
+    uint32_t fetch;
+    uint32_t n;                 /* VF_DO_APPEND: how many bytes */
+    uint32_t next;              /* VF_NEXT_.. */
+    struct vf_fetch next_fetch; /* VF_NEXT_FETCH */
+    uint32_t to;                /* VF_DO_LOAD_FILE: whom the DataLoadAck goes to, and its your_ref */
+    uint32_t answers;
+    uint32_t ending;            /* VF_DO_RELEASE: VF_END_.. */
+};
+
+/* Makes the struct a sender with no transfer, whatever was in it. Only VF_NULL. */
+uint32_t vf_sender_start(struct vf_sender *sender);
+
+/* Message_DataSave: opens a record for one that is sent with the ref `id`, about the block at an anchor. Of eight
+ * records the first that has ended goes. VF_BUSY where eight are open. */
+uint32_t vf_sender_offer(struct vf_sender *sender, uint32_t id, uint32_t recipient, uint32_t anchor);
+
+/* Message_RAMFetch: tells what one asks for, of its buffer's address and length. */
+uint32_t vf_sender_on_fetch(const struct vf_sender *sender, uint32_t from, uint32_t my_ref, uint32_t your_ref,
+                            uint32_t buffer, uint32_t length, struct vf_send_action *action);
+
+/* Message_DataSaveAck: tells what one asks for. */
+uint32_t vf_sender_on_ack(const struct vf_sender *sender, uint32_t from, uint32_t my_ref, uint32_t your_ref,
+                          struct vf_send_action *action);
+
+/* Message_DataLoadAck: tells what one asks for. */
+uint32_t vf_sender_on_load_ack(const struct vf_sender *sender, uint32_t from, uint32_t your_ref,
+                               struct vf_send_action *action);
+
+/* Tells which bytes of a source of `size` bytes an action to transmit sends. */
+uint32_t vf_sender_part(const struct vf_send_action *action, uint32_t size, struct vf_part *part);
+
+/* Message_RAMTransmit: the part went into the buffer, and the message with the ref `last` says so. The last part ends
+ * the transfer. VF_NOT_OPEN. */
+uint32_t vf_sender_sent(struct vf_sender *sender, const struct vf_send_action *action, uint32_t size, uint32_t last);
+
+/* Message_DataLoad: the source became a file, and the message with the ref `last` says so. VF_NOT_OPEN. */
+uint32_t vf_sender_saved(struct vf_sender *sender, const struct vf_send_action *action, uint32_t last);
+
+/* The source, which has `size` bytes, was loaded as a file: the transfer is done. VF_NOT_OPEN. */
+uint32_t vf_sender_loaded(struct vf_sender *sender, const struct vf_send_action *action, uint32_t size);
+
+/* The action was refused: its transfer failed. VF_NOT_OPEN. */
+uint32_t vf_sender_failed(struct vf_sender *sender, const struct vf_send_action *action);
+
+/* The message with the ref `last` came back: the transfer whose last one it was failed. Tells whether there is one. */
+uint32_t vf_sender_on_bounce(struct vf_sender *sender, uint32_t last, bool *known);
+
+/* Gives an open transfer up: the one with the id, and where `id` is 0 the first. VF_NOT_OPEN where there is none. */
+uint32_t vf_sender_cancel(struct vf_sender *sender, uint32_t id);
+
+/* Tells whether the anchor's block is the source of an open transfer: then it has to stay as it is. */
+uint32_t vf_sender_is_source(const struct vf_sender *sender, uint32_t anchor, bool *is_source);
+
+/* Makes the struct a receiver with no transfer, whatever was in it. Only VF_NULL. */
+uint32_t vf_receiver_start(struct vf_receiver *receiver);
+
+/* Message_DataSave: tells what one asks for: nothing of a deaf task, nor where eight transfers are coming in. */
+uint32_t vf_receiver_on_save(const struct vf_receiver *receiver, bool is_deaf, uint32_t from, uint32_t my_ref,
+                             struct vf_take_action *action);
+
+/* Message_RAMFetch: tells the first one of a claim, for a buffer of `room` bytes at an address. */
+uint32_t vf_receiver_first_fetch(const struct vf_take_action *action, uint32_t buffer, uint32_t room,
+                                 struct vf_fetch *fetch);
+
+/* The buffer and the document of a claim are there, and its RAMFetch went out with the ref `fetch`. Of eight records
+ * the first that has ended goes. VF_BUSY where eight transfers are coming in. */
+uint32_t vf_receiver_fetching(struct vf_receiver *receiver, const struct vf_take_action *action, uint32_t anchor,
+                              uint32_t buffer, uint32_t fetch);
+
+/* Message_RAMTransmit: tells what one of `n` bytes asks for, where the task's buffers have `room` bytes. */
+uint32_t vf_receiver_on_transmit(const struct vf_receiver *receiver, uint32_t room, uint32_t from, uint32_t my_ref,
+                                 uint32_t your_ref, uint32_t buffer, uint32_t n, struct vf_take_action *action);
+
+/* Message_RAMFetch: the bytes were appended, and the next one went out with the ref `fetch`. VF_NOT_OPEN, also where
+ * the bytes are the last. */
+uint32_t vf_receiver_fetched(struct vf_receiver *receiver, const struct vf_take_action *action, uint32_t fetch);
+
+/* The last bytes were appended, and the buffer is gone: the document is whole. VF_NOT_OPEN, also where the bytes are
+ * not the last. */
+uint32_t vf_receiver_finished(struct vf_receiver *receiver, const struct vf_take_action *action);
+
+/* The action failed, or ended its transfer, with `kept` of its bytes in the document, and the buffer is gone. A claim
+ * that failed leaves no record. VF_NOT_OPEN, VF_BAD_RANGE where the action has fewer bytes. */
+uint32_t vf_receiver_failed(struct vf_receiver *receiver, const struct vf_take_action *action, uint32_t kept);
+
+/* Tells what the RAMFetch with the ref `fetch` asks for that came back: a file where it was the first one. */
+uint32_t vf_receiver_on_bounce(const struct vf_receiver *receiver, uint32_t fetch, struct vf_take_action *action);
+
+/* Message_DataSaveAck: the sender was asked for a file by the one with the ref `ack`, and the buffer is gone.
+ * VF_NOT_OPEN. */
+uint32_t vf_receiver_asking(struct vf_receiver *receiver, const struct vf_take_action *action, uint32_t ack);
+
+/* The DataSaveAck with the ref `ack` came back: its transfer failed. Tells whether there is one. */
+uint32_t vf_receiver_on_ack_bounce(struct vf_receiver *receiver, uint32_t ack, bool *known);
+
+/* Message_DataLoad: tells what one asks for. */
+uint32_t vf_receiver_on_load(const struct vf_receiver *receiver, uint32_t from, uint32_t my_ref, uint32_t your_ref,
+                             struct vf_take_action *action);
+
+/* Message_DataLoadAck: the document has all `size` bytes of the file, and the message went out. VF_NOT_OPEN. */
+uint32_t vf_receiver_loaded(struct vf_receiver *receiver, const struct vf_take_action *action, uint32_t size);
+
+/* Gives a transfer up that fetches or waits for a file: the one with the id, and where `id` is 0 the first. One that
+ * fetches keeps its buffer until its fetch is answered or comes back. VF_NOT_OPEN where there is none. */
+uint32_t vf_receiver_cancel(struct vf_receiver *receiver, uint32_t id);
+
+/* Tells whether the anchor's block is a document that grows: then nothing else may change it. */
+uint32_t vf_receiver_is_document(const struct vf_receiver *receiver, uint32_t anchor, bool *is_document);
+
+/* Tells whether the block at the address is a transfer's buffer: then it has to stay. */
+uint32_t vf_receiver_is_buffer(const struct vf_receiver *receiver, uint32_t address, bool *is_buffer);
+
+/* ---- Messages ------------------------------------------------------------------------------------------------------
+ *
+ * The messages of these transfers as words, into the blocks that the Wimp has, and out of them.
+ */
+
+/* A message: DataSave 1, DataSaveAck 2, DataLoad 3, DataLoadAck 4, RAMFetch 6, RAMTransmit 7. What its action says
+ * nothing of is 0 in one that was read, and is not looked at in one that is written. */
+struct vf_message_words {
+    uint32_t from;
+    uint32_t my_ref;
+    uint32_t your_ref;
+    uint32_t action;
+    uint32_t buffer;      /* RAMFetch and RAMTransmit: the buffer's address */
+    uint32_t count;       /* its length, or the bytes that were written into it */
+    uint32_t window;      /* the others: where the file is dropped */
+    uint32_t icon;
+    uint32_t x;
+    uint32_t y;
+    uint32_t size;        /* in bytes; all ones in a DataSaveAck where the file is not safe */
+    uint32_t file_type;
+    uint32_t name_length; /* at most 211 */
+    uint8_t name[212];    /* the leafname, or the pathname of the file */
+};
+
+/* Wimp_SendMessage: writes a message into a block, and tells its length. The bytes behind it stay. VF_BAD_MESSAGE;
+ * VF_BAD_ARGUMENT where the name is longer, or one of its bytes is 0. */
+uint32_t vf_message_encode(const struct vf_message_words *words, struct vf_message *message, uint32_t *length);
+
+/* Wimp_Poll: reads the message that the bytes spell; there may be more bytes than its length says. VF_BAD_LENGTH where
+ * the first word is no length of a message, or the bytes are fewer; VF_BAD_MESSAGE; and VF_BAD_LENGTH too where the
+ * length is too short for the action, or no 0 ends the name. */
+uint32_t vf_message_decode(const uint8_t *bytes, size_t bytes_len, struct vf_message_words *words);
+
 /* ---- Null pointers -------------------------------------------------------------------------------------------------
  *
  * The functions of the library are never given one: each call goes by a function of the same name and `_unless_null`,
@@ -896,6 +1179,98 @@ VF_UNLESS_NULL(vf_desk_reply,
                (struct vf_desk *desk, uint8_t *text, size_t text_len, size_t *length),
                desk && text && length, (desk, text, text_len, length))
 
+VF_UNLESS_NULL(vf_sender_start, (struct vf_sender *sender), sender, (sender))
+VF_UNLESS_NULL(vf_sender_offer,
+               (struct vf_sender *sender, uint32_t id, uint32_t recipient, uint32_t anchor),
+               sender, (sender, id, recipient, anchor))
+VF_UNLESS_NULL(vf_sender_on_fetch,
+               (const struct vf_sender *sender, uint32_t from, uint32_t my_ref, uint32_t your_ref, uint32_t buffer,
+                uint32_t length, struct vf_send_action *action),
+               sender && action, (sender, from, my_ref, your_ref, buffer, length, action))
+VF_UNLESS_NULL(vf_sender_on_ack,
+               (const struct vf_sender *sender, uint32_t from, uint32_t my_ref, uint32_t your_ref, struct
+                vf_send_action *action),
+               sender && action, (sender, from, my_ref, your_ref, action))
+VF_UNLESS_NULL(vf_sender_on_load_ack,
+               (const struct vf_sender *sender, uint32_t from, uint32_t your_ref, struct vf_send_action *action),
+               sender && action, (sender, from, your_ref, action))
+VF_UNLESS_NULL(vf_sender_part,
+               (const struct vf_send_action *action, uint32_t size, struct vf_part *part),
+               action && part, (action, size, part))
+VF_UNLESS_NULL(vf_sender_sent,
+               (struct vf_sender *sender, const struct vf_send_action *action, uint32_t size, uint32_t last),
+               sender && action, (sender, action, size, last))
+VF_UNLESS_NULL(vf_sender_saved,
+               (struct vf_sender *sender, const struct vf_send_action *action, uint32_t last),
+               sender && action, (sender, action, last))
+VF_UNLESS_NULL(vf_sender_loaded,
+               (struct vf_sender *sender, const struct vf_send_action *action, uint32_t size),
+               sender && action, (sender, action, size))
+VF_UNLESS_NULL(vf_sender_failed,
+               (struct vf_sender *sender, const struct vf_send_action *action),
+               sender && action, (sender, action))
+VF_UNLESS_NULL(vf_sender_on_bounce,
+               (struct vf_sender *sender, uint32_t last, bool *known),
+               sender && known, (sender, last, known))
+VF_UNLESS_NULL(vf_sender_cancel, (struct vf_sender *sender, uint32_t id), sender, (sender, id))
+VF_UNLESS_NULL(vf_sender_is_source,
+               (const struct vf_sender *sender, uint32_t anchor, bool *is_source),
+               sender && is_source, (sender, anchor, is_source))
+VF_UNLESS_NULL(vf_receiver_start, (struct vf_receiver *receiver), receiver, (receiver))
+VF_UNLESS_NULL(vf_receiver_on_save,
+               (const struct vf_receiver *receiver, bool is_deaf, uint32_t from, uint32_t my_ref, struct
+                vf_take_action *action),
+               receiver && action, (receiver, is_deaf, from, my_ref, action))
+VF_UNLESS_NULL(vf_receiver_first_fetch,
+               (const struct vf_take_action *action, uint32_t buffer, uint32_t room, struct vf_fetch *fetch),
+               action && fetch, (action, buffer, room, fetch))
+VF_UNLESS_NULL(vf_receiver_fetching,
+               (struct vf_receiver *receiver, const struct vf_take_action *action, uint32_t anchor, uint32_t
+                buffer, uint32_t fetch),
+               receiver && action, (receiver, action, anchor, buffer, fetch))
+VF_UNLESS_NULL(vf_receiver_on_transmit,
+               (const struct vf_receiver *receiver, uint32_t room, uint32_t from, uint32_t my_ref, uint32_t
+                your_ref, uint32_t buffer, uint32_t n, struct vf_take_action *action),
+               receiver && action, (receiver, room, from, my_ref, your_ref, buffer, n, action))
+VF_UNLESS_NULL(vf_receiver_fetched,
+               (struct vf_receiver *receiver, const struct vf_take_action *action, uint32_t fetch),
+               receiver && action, (receiver, action, fetch))
+VF_UNLESS_NULL(vf_receiver_finished,
+               (struct vf_receiver *receiver, const struct vf_take_action *action),
+               receiver && action, (receiver, action))
+VF_UNLESS_NULL(vf_receiver_failed,
+               (struct vf_receiver *receiver, const struct vf_take_action *action, uint32_t kept),
+               receiver && action, (receiver, action, kept))
+VF_UNLESS_NULL(vf_receiver_on_bounce,
+               (const struct vf_receiver *receiver, uint32_t fetch, struct vf_take_action *action),
+               receiver && action, (receiver, fetch, action))
+VF_UNLESS_NULL(vf_receiver_asking,
+               (struct vf_receiver *receiver, const struct vf_take_action *action, uint32_t ack),
+               receiver && action, (receiver, action, ack))
+VF_UNLESS_NULL(vf_receiver_on_ack_bounce,
+               (struct vf_receiver *receiver, uint32_t ack, bool *known),
+               receiver && known, (receiver, ack, known))
+VF_UNLESS_NULL(vf_receiver_on_load,
+               (const struct vf_receiver *receiver, uint32_t from, uint32_t my_ref, uint32_t your_ref, struct
+                vf_take_action *action),
+               receiver && action, (receiver, from, my_ref, your_ref, action))
+VF_UNLESS_NULL(vf_receiver_loaded,
+               (struct vf_receiver *receiver, const struct vf_take_action *action, uint32_t size),
+               receiver && action, (receiver, action, size))
+VF_UNLESS_NULL(vf_receiver_cancel, (struct vf_receiver *receiver, uint32_t id), receiver, (receiver, id))
+VF_UNLESS_NULL(vf_receiver_is_document,
+               (const struct vf_receiver *receiver, uint32_t anchor, bool *is_document),
+               receiver && is_document, (receiver, anchor, is_document))
+VF_UNLESS_NULL(vf_receiver_is_buffer,
+               (const struct vf_receiver *receiver, uint32_t address, bool *is_buffer),
+               receiver && is_buffer, (receiver, address, is_buffer))
+VF_UNLESS_NULL(vf_message_encode,
+               (const struct vf_message_words *words, struct vf_message *message, uint32_t *length),
+               words && message && length, (words, message, length))
+VF_UNLESS_NULL(vf_message_decode,
+               (const uint8_t *bytes, size_t bytes_len, struct vf_message_words *words),
+               bytes && words, (bytes, bytes_len, words))
+
 #undef VF_BOTH_UNLESS_NULL
 #undef VF_UNLESS_NULL
 
@@ -963,6 +1338,37 @@ VF_UNLESS_NULL(vf_desk_reply,
 #define vf_desk_areas vf_desk_areas_unless_null
 #define vf_desk_line vf_desk_line_unless_null
 #define vf_desk_reply vf_desk_reply_unless_null
+#define vf_sender_start vf_sender_start_unless_null
+#define vf_sender_offer vf_sender_offer_unless_null
+#define vf_sender_on_fetch vf_sender_on_fetch_unless_null
+#define vf_sender_on_ack vf_sender_on_ack_unless_null
+#define vf_sender_on_load_ack vf_sender_on_load_ack_unless_null
+#define vf_sender_part vf_sender_part_unless_null
+#define vf_sender_sent vf_sender_sent_unless_null
+#define vf_sender_saved vf_sender_saved_unless_null
+#define vf_sender_loaded vf_sender_loaded_unless_null
+#define vf_sender_failed vf_sender_failed_unless_null
+#define vf_sender_on_bounce vf_sender_on_bounce_unless_null
+#define vf_sender_cancel vf_sender_cancel_unless_null
+#define vf_sender_is_source vf_sender_is_source_unless_null
+#define vf_receiver_start vf_receiver_start_unless_null
+#define vf_receiver_on_save vf_receiver_on_save_unless_null
+#define vf_receiver_first_fetch vf_receiver_first_fetch_unless_null
+#define vf_receiver_fetching vf_receiver_fetching_unless_null
+#define vf_receiver_on_transmit vf_receiver_on_transmit_unless_null
+#define vf_receiver_fetched vf_receiver_fetched_unless_null
+#define vf_receiver_finished vf_receiver_finished_unless_null
+#define vf_receiver_failed vf_receiver_failed_unless_null
+#define vf_receiver_on_bounce vf_receiver_on_bounce_unless_null
+#define vf_receiver_asking vf_receiver_asking_unless_null
+#define vf_receiver_on_ack_bounce vf_receiver_on_ack_bounce_unless_null
+#define vf_receiver_on_load vf_receiver_on_load_unless_null
+#define vf_receiver_loaded vf_receiver_loaded_unless_null
+#define vf_receiver_cancel vf_receiver_cancel_unless_null
+#define vf_receiver_is_document vf_receiver_is_document_unless_null
+#define vf_receiver_is_buffer vf_receiver_is_buffer_unless_null
+#define vf_message_encode vf_message_encode_unless_null
+#define vf_message_decode vf_message_decode_unless_null
 
 #ifdef VF_CHECKED
 #define vf_heap_describe vf_heap_checked_describe
