@@ -39,7 +39,7 @@ STATUSES = {
     7: ("ANCHOR_IN_USE", "the anchor has a block"),
     8: ("NOT_A_BLOCK", "no block begins at the address"),
     9: ("NOT_YOURS", "the block of the module area holds a message"),
-    10: ("BUSY", "a transfer uses the block, eight that go out are open, or there is a scrap file"),
+    10: ("BUSY", "a transfer uses the block, eight are going that way, or there is a scrap file"),
     11: ("NOT_OPEN", "no transfer that is meant can be given up"),
     12: ("NOTHING_SENT", "the task has sent no message"),
     13: ("BAD_RANGE", "bytes lie outside the block"),
@@ -70,6 +70,9 @@ STATUSES = {
     45: ("BAD_ARGUMENT", "a name, an anchor, a number or a leafname is none that a line has, or a put no byte"),
     46: ("NO_MEMORY", "memory was refused"),
     47: ("FILE_EXISTS", "a file with the name was added before"),
+    48: ("BAD_RECORDS", "the struct is no sender or receiver: a count above 8, a state or an anchor of none"),
+    49: ("BAD_ACTION", "the struct has no action that the call is told of"),
+    50: ("BAD_MESSAGE", "the action of the message is none of a file or a RAM transfer"),
 }
 
 # What each call takes: p a pointer, z a size_t, d a ptrdiff_t, u and i 32 bits without and with a sign, b a bool.

@@ -29,6 +29,17 @@ static struct vf_receiver printer;
 /* The printer's buffer, into which the editor writes. */
 static char buffer[ROOM];
 
+/* A message that says nothing yet. */
+static struct vf_message_words message(uint32_t from, uint32_t action, uint32_t answers)
+{
+    struct vf_message_words words;
+    memset(&words, 0, sizeof words);
+    words.from = from;
+    words.action = action;
+    words.your_ref = answers;
+    return words;
+}
+
 /* What Wimp_SendMessage does: gives the message a ref, and lays it down for its task. */
 static uint32_t send(uint32_t code, uint32_t to, struct vf_message_words words)
 {
@@ -44,8 +55,10 @@ static uint32_t send(uint32_t code, uint32_t to, struct vf_message_words words)
 
 static void offer(void)
 {
-    struct vf_message_words save = {
-        .from = EDITOR, .action = DATA_SAVE, .size = (uint32_t)strlen(document), .file_type = 0xfff, .name_length = 6};
+    struct vf_message_words save = message(EDITOR, DATA_SAVE, 0);
+    save.size = (uint32_t)strlen(document);
+    save.file_type = 0xfff;
+    save.name_length = 6;
     memcpy(save.name, "letter", save.name_length);
     vf_sender_offer(&editor, send(USER_MESSAGE_RECORDED, PRINTER, save), PRINTER, DOCUMENT);
 }
@@ -62,15 +75,16 @@ static void editor_hears(const struct vf_message_words *heard)
     if (action.what != VF_DO_TRANSMIT || vf_sender_part(&action, size, &part))
         return;
     memcpy(buffer, document + part.offset, part.n);
-    struct vf_message_words transmit = {
-        .from = EDITOR, .your_ref = action.answers, .action = RAM_TRANSMIT, .buffer = action.buffer, .count = part.n};
+    struct vf_message_words transmit = message(EDITOR, RAM_TRANSMIT, action.answers);
+    transmit.buffer = action.buffer;
+    transmit.count = part.n;
     uint32_t ref = send(part.is_last ? USER_MESSAGE : USER_MESSAGE_RECORDED, action.to, transmit);
     vf_sender_sent(&editor, &action, size, ref);
 }
 
 static uint32_t ask(const struct vf_fetch *fetch)
 {
-    struct vf_message_words words = {.from = PRINTER, .your_ref = fetch->answers, .action = RAM_FETCH};
+    struct vf_message_words words = message(PRINTER, RAM_FETCH, fetch->answers);
     words.buffer = fetch->buffer;
     words.count = fetch->room;
     return send(USER_MESSAGE_RECORDED, fetch->to, words);

@@ -55,7 +55,7 @@ static void statuses_are_errors(void)
         EXPECT(is_error(os_error_of(known[i]), known[i]) && os_error_of(known[i]) == os_error_of(known[i]));
     EXPECT(!strcmp(os_error_of(VF_NOT_A_BLOCK)->errmess, "no block begins at the address"));
     EXPECT(!strcmp(os_error_of(VF_FILE_EXISTS)->errmess, "a file with the name was added before"));
-    EXPECT(os_error_of(48) && !strcmp(os_error_of(48)->errmess, "no status has this number"));
+    EXPECT(os_error_of(51) && !strcmp(os_error_of(51)->errmess, "no status has this number"));
 }
 
 /* The block is at this offset. */
