@@ -4,3 +4,4 @@ pub mod DigitLemmas
 pub mod LineLemmas
 pub mod TextLemmas
 mod NumberLemmas
+pub mod PenLemmas

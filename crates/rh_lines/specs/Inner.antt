@@ -1,3 +1,4 @@
 -- Definitions that no clause of a public function stands on: those of private functions, loops and proofs.
 pub mod PieceWords
 pub mod TextWrites
+pub mod Fronts

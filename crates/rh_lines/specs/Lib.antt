@@ -4,4 +4,7 @@ pub mod Noted
 pub mod Words
 pub mod Readers
 pub mod WholeText
+pub mod Pens
+pub mod PenFacts
+pub mod HeldPens
 pub mod Inner

@@ -1,0 +1,18 @@
+-- What a pen holds that its writer wasn't offered yet.
+use Rattle.std.specs.Prelude.{ℕ, List, ◌++◌, take}
+use Rattle.rh_lines.specs.declared.sink.Sink.{Ghosts}
+use Rattle.rh_lines.specs.declared.writer_pen.WriterPen.{WriterPen}
+use Rattle.rh_lines.specs.declared.held_pen.HeldPen.{HeldPen}
+use Rattle.rh_lines.specs.Pens.{offered_of}
+
+-- the pen over the writer
+abbrev pub pen_of : {W : Type 0} {S : Ghosts W} → HeldPen W S → WriterPen W S
+pen_of p = p.pen
+
+-- what is held
+abbrev pub held_of : {W : Type 0} {S : Ghosts W} → HeldPen W S → List ℕ
+held_of p = take p.len p.bytes
+
+-- all that was offered
+abbrev pub gathered_of : {W : Type 0} {S : Ghosts W} → HeldPen W S → List ℕ
+gathered_of p = offered_of p.pen ++ held_of p

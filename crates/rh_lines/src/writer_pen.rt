@@ -1,0 +1,98 @@
+//! A pen over a writer.
+
+ghost use Rattle.std.specs.Prelude.{◌≡◌, ◌&&◌, ◌||◌, not, false, length, nat_lt};
+ghost use Rattle.std.specs.Io.KnownBytes.{Appends};
+ghost use Rattle.rh_lines.specs.PenFacts.{Appends-prop, Counted, Counted-prop};
+ghost use Rattle.rh_lines.specs.Inner.Fronts.{TakesFront};
+
+use crate::noted_output::NotedOutput;
+use crate::pen::Pen;
+use crate::sink::{Sink, WriteFailed};
+use crate::unseen::Unseen;
+
+/// A pen over a writer. Once the writer failed, the pen offers it nothing more.
+#[derive(Drop)]
+pub struct WriterPen<'a, W: Sink> {
+    writer: &'a mut W,
+    failed: bool,
+    // the writer as it was, what it has taken since, and what came in vain after it had failed
+    begun: NotedOutput,
+    front: Unseen,
+    back: Unseen,
+    ghost taken: { Appends begun.output.taken (W.output writer.now).taken front.bytes } by { Appends-prop _ _ _ },
+    ghost counted: { Counted begun.output (W.output writer.now) front.bytes } by { Counted-prop _ _ _ },
+    ghost noted: { (W.output writer.now).failed ≡ (begun.output.failed || failed) },
+    ghost none: { (not failed && nat_lt 0 (length back.bytes)) ≡ false },
+}
+
+impl<'a, W: Sink> WriterPen<'a, W> {
+    ghost use Rattle.rh_lines.specs.Pens.{begun_of, failed_of, text_of, writer_of};
+    ghost use Rattle.rh_lines.specs.Flow.{Puts};
+    ghost use Rattle.std.specs.Prelude.{[]};
+
+    /// A pen over this writer, which was offered nothing yet.
+    pub fn new(writer: &'a mut W) -> WriterPen<'a, W>
+        ensures same_reference { (writer_of result).ghost_name ≡ writer.entry.ghost_name }
+        ensures begun { begun_of result ≡ W.output writer.old }
+        ensures text { text_of result ≡ [] }
+    {
+        let begun = NotedOutput::of(writer);
+        WriterPen {
+            writer,
+            failed: false,
+            begun,
+            front: Unseen::new(),
+            back: Unseen::new(),
+        }
+    }
+
+    /// Whether the writer failed since the pen was made.
+    pub fn has_failed(&self) -> bool
+        ensures { result ≡ failed_of self.now }
+    {
+        self.failed
+    }
+
+    /// Fails where the writer failed since the pen was made. The writer has then taken a front of the text, else all.
+    pub fn done(&self) -> Result<(), WriteFailed>
+        ensures { Puts (begun_of self.now) (W.output (writer_of self.now).now) result (text_of self.now) }
+    {
+        if self.failed {
+            Err(WriteFailed)
+        } else {
+            Ok(())
+        }
+    }
+}
+
+impl<W: Sink> Pen for WriterPen<'_, W> {
+    ghost use Rattle.rh_lines.specs.Pens.{offered_of};
+
+    ghost offered = { offered_of };
+
+    fn put(&mut self, bytes: &[u8]) {
+        if self.failed {
+            self.back.note(bytes);
+            return;
+        }
+        let writer = &mut *self.writer;
+        let count = put_front(writer, bytes);
+        self.front.note(&bytes[..count]);
+        self.back.note(&bytes[count..]);
+        self.failed = count < bytes.len();
+    }
+}
+
+/// Writes the bytes until the writer fails, and says how many it took.
+fn put_front<W: Sink>(writer: &mut W, bytes: &[u8]) -> usize
+    ensures { TakesFront (W.output writer.old) (W.output writer.new) result bytes.now }
+{
+    let mut count = 0;
+    while count < bytes.len() {
+        match writer.write(&bytes[count..]) {
+            Ok(taken) if taken > 0 => count += taken,
+            _ => return count,
+        }
+    }
+    count
+}
