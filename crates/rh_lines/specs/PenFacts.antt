@@ -2,18 +2,18 @@
 use Rattle.std.specs.Prelude.{◌≡◌, ℕ, List, length, Option, Some, None}
 use Rattle.std.specs.Coded.{Unit-prop, Coded-set, coded_option, coded_ℕ, coded_list}
 use Rattle.std.specs.Io.KnownBytes.{Appends}
-use Rattle.rh_lines.specs.Flow.{Output, count_after}
+use Rattle.rh_lines.specs.Flow.{count_after}
 
--- the writer has counted these bytes more
-abbrev pub Counted : Output → Output → List ℕ → Type 0
-Counted old new bytes = new.count ≡ count_after old.count (length bytes)
+-- so many bytes more were counted, where they are
+abbrev pub Counts : Option ℕ → Option ℕ → List ℕ → Type 0
+Counts old new bytes = new ≡ count_after old (length bytes)
 
 -- one proof that a writer took some bytes is as good as another
-pub Appends-prop : (a b : Option (List ℕ)) (x : List ℕ) → IsProp (Appends a b x)
-Appends-prop None b x = Unit-prop
-Appends-prop (Some a) None x = λ p. absurd p
-Appends-prop (Some a) (Some b) x = Coded-set (coded_list coded_ℕ) b _
+pub one_taking : (a b : Option (List ℕ)) (x : List ℕ) → IsProp (Appends a b x)
+one_taking None b x = Unit-prop
+one_taking (Some a) None x = λ p. absurd p
+one_taking (Some a) (Some b) x = Coded-set (coded_list coded_ℕ) b _
 
 -- one proof that a writer has counted some bytes is as good as another
-pub Counted-prop : (old new : Output) (bytes : List ℕ) → IsProp (Counted old new bytes)
-Counted-prop old new bytes = Coded-set (coded_option coded_ℕ) new.count (count_after old.count (length bytes))
+pub one_count : (old new : Option ℕ) (bytes : List ℕ) → IsProp (Counts old new bytes)
+one_count old new bytes = Coded-set (coded_option coded_ℕ) new (count_after old (length bytes))

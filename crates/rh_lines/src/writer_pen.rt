@@ -2,7 +2,7 @@
 
 ghost use Rattle.std.specs.Prelude.{◌≡◌, ◌&&◌, ◌||◌, not, false, length, nat_lt};
 ghost use Rattle.std.specs.Io.KnownBytes.{Appends};
-ghost use Rattle.rh_lines.specs.PenFacts.{Appends-prop, Counted, Counted-prop};
+ghost use Rattle.rh_lines.specs.PenFacts.{Counts, one_count, one_taking};
 ghost use Rattle.rh_lines.specs.Inner.Fronts.{TakesFront};
 
 use crate::noted_output::NotedOutput;
@@ -19,8 +19,8 @@ pub struct WriterPen<'a, W: Sink> {
     begun: NotedOutput,
     front: Unseen,
     back: Unseen,
-    ghost taken: { Appends begun.output.taken (W.output writer.now).taken front.bytes } by { Appends-prop _ _ _ },
-    ghost counted: { Counted begun.output (W.output writer.now) front.bytes } by { Counted-prop _ _ _ },
+    ghost taken: { Appends begun.output.taken (W.output writer.now).taken front.bytes } by { one_taking _ _ _ },
+    ghost counts: { Counts begun.output.count (W.output writer.now).count front.bytes } by { one_count _ _ _ },
     ghost noted: { (W.output writer.now).failed ≡ (begun.output.failed || failed) },
     ghost none: { (not failed && nat_lt 0 (length back.bytes)) ≡ false },
 }
