@@ -19,6 +19,7 @@ use Rattle.vf_ram.specs.WithStatus.{WithStatus, and_then, bad_message, bad_name,
 abbrev pub no_file : VfFileWords
 no_file = record { window = 0; icon = 0; x = 0; y = 0; size = 0; file_type = 0 }
 
+-- what a message says of a file
 abbrev pub as_file_words : FileData → VfFileWords
 as_file_words f = record { window = f.window; icon = f.icon; x = f.x; y = f.y; size = f.size; file_type = f.file_type }
 
@@ -26,7 +27,7 @@ as_file_words f = record { window = f.window; icon = f.icon; x = f.x; y = f.y; s
 abbrev pub as_name : List ℕ → List ℕ
 as_name name = name ++ replicate (212 - length name) 0
 
--- the words of a message about a file, and of one about bytes in a buffer
+-- the words of a message about a file
 abbrev pub words_about_file : Message → ℕ → FileData → VfMessageWords
 words_about_file m action f = record {
   from = m.from;
@@ -40,6 +41,7 @@ words_about_file m action f = record {
   name = as_name f.name;
 }
 
+-- the words of a message about bytes in a buffer
 abbrev pub words_about_bytes : Message → ℕ → ℕ → ℕ → VfMessageWords
 words_about_bytes m action buffer count = record {
   from = m.from;
@@ -53,6 +55,7 @@ words_about_bytes m action buffer count = record {
   name = as_name [];
 }
 
+-- the words of a message, by what it has
 abbrev pub words_with : Message → Body → VfMessageWords
 words_with m (DataSave f) = words_about_file m 1 f
 words_with m (DataSaveAck f) = words_about_file m 2 f
@@ -61,6 +64,7 @@ words_with m (DataLoadAck f) = words_about_file m 4 f
 words_with m (RamFetch buffer n) = words_about_bytes m 6 buffer n
 words_with m (RamTransmit buffer n) = words_about_bytes m 7 buffer n
 
+-- a message as words
 abbrev pub as_words : Message → VfMessageWords
 as_words m = words_with m m.body
 
@@ -73,6 +77,7 @@ name_in_words w =
     else if is_pathname (take w.name_length w.name) then Ok (take w.name_length w.name)
     else Err bad_name
 
+-- the file, where its name is one that a message can carry
 abbrev pub file_in_words : VfMessageWords → WithStatus FileData
 file_in_words w = and_then (name_in_words w) (λ name. Ok (record {
   window = w.file.window;
@@ -84,6 +89,7 @@ file_in_words w = and_then (name_in_words w) (λ name. Ok (record {
   name = name;
 }))
 
+-- what a message has, by its action
 abbrev pub body_in_words : VfMessageWords → WithStatus Body
 body_in_words w =
     if w.action == 1 then and_then (file_in_words w) (λ f. Ok (DataSave f))
@@ -94,6 +100,7 @@ body_in_words w =
     else if w.action == 7 then Ok (RamTransmit w.buffer w.count)
     else Err bad_message
 
+-- the message that words tell of, or why they tell of none
 abbrev pub message_in_words : VfMessageWords → WithStatus Message
 message_in_words w = and_then (body_in_words w) (λ body. Ok (record { from = w.from; my_ref = w.my_ref; your_ref = w.your_ref; body = body }))
 

@@ -14,16 +14,20 @@ use Rattle.vf_ram.specs.WithStatus.{WithStatus, and_then, by_rules, anchor_in, w
 
 -- ---- events
 
+-- what a DataSave asks for
 abbrev pub save_asks : VfReceiver → Bool → ℕ → ℕ → WithStatus (Option TakeAction)
 save_asks r is_deaf from my_ref = and_then (receiver_in r) (λ records. Ok (receiver.on_save is_deaf from my_ref records))
 
+-- what a RAMTransmit asks for
 abbrev pub transmit_asks : VfReceiver → ℕ → ℕ → ℕ → ℕ → ℕ → ℕ → WithStatus (Option TakeAction)
 transmit_asks r room from my_ref your_ref buffer n =
     and_then (receiver_in r) (λ records. Ok (receiver.on_transmit room from my_ref your_ref buffer n records))
 
+-- what a fetch that came back asks for
 abbrev pub fetch_bounce_asks : VfReceiver → ℕ → WithStatus (Option TakeAction)
 fetch_bounce_asks r ref = and_then (receiver_in r) (λ records. Ok (receiver.on_taking_bounce ref records))
 
+-- what a DataLoad asks for
 abbrev pub load_asks : VfReceiver → ℕ → ℕ → ℕ → WithStatus (Option TakeAction)
 load_asks r from my_ref your_ref = and_then (receiver_in r) (λ records. Ok (receiver.on_load from my_ref your_ref records))
 
@@ -33,30 +37,37 @@ ack_bounce_told r ref =
     and_then (receiver_in r) (λ records.
     let found = receiver.on_ack_bounce ref records in Ok (is_some found, receiver.ack_bounced found records))
 
+-- the records when a transfer that comes in was given up
 abbrev pub cancel_taking_told : VfReceiver → ℕ → WithStatus (List Incoming)
 cancel_taking_told r id = and_then (receiver_in r) (λ records. by_rules (receiver.cancel_taking (wanted id) records))
 
 -- ---- how an action ended
 
+-- the records when a buffer was claimed and its fetch sent
 abbrev pub fetching_told : VfReceiver → VfTakeAction → ℕ → ℕ → ℕ → WithStatus (List Incoming)
 fetching_told r w anchor buffer fetch =
     and_then (receiver_in r) (λ records. and_then (claim_in w) (λ a. and_then (anchor_in anchor) (λ k.
     by_rules (tell_fetching a k buffer fetch records))))
 
+-- the records when bytes were taken and the next fetch was sent
 abbrev pub fetched_told : VfReceiver → VfTakeAction → ℕ → WithStatus (List Incoming)
 fetched_told r w fetch =
     and_then (receiver_in r) (λ records. and_then (append_in w) (λ a. by_rules (tell_fetched a fetch records)))
 
+-- the records when the last bytes were taken
 abbrev pub finished_told : VfReceiver → VfTakeAction → WithStatus (List Incoming)
 finished_told r w = and_then (receiver_in r) (λ records. and_then (append_in w) (λ a. by_rules (tell_finished a records)))
 
+-- the records when the sender was asked for a file
 abbrev pub asking_told : VfReceiver → VfTakeAction → ℕ → WithStatus (List Incoming)
 asking_told r w ack = and_then (receiver_in r) (λ records. and_then (ask_in w) (λ f. by_rules (tell_asking f ack records)))
 
+-- the records when the scrap file was loaded
 abbrev pub taking_loaded_told : VfReceiver → VfTakeAction → ℕ → WithStatus (List Incoming)
 taking_loaded_told r w size =
     and_then (receiver_in r) (λ records. and_then (load_file_in w) (λ a. by_rules (tell_taking_loaded a size records)))
 
+-- the records when an action failed, by how many of its bytes were kept
 abbrev pub taking_failed_told : VfReceiver → VfTakeAction → ℕ → WithStatus (List Incoming)
 taking_failed_told r w kept =
     and_then (receiver_in r) (λ records. and_then (take_action_in w) (λ a. by_rules (tell_failed a kept records)))

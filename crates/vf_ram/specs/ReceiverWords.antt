@@ -1,6 +1,6 @@
 -- A receiver, its records and its actions as structs of words.
 use Rattle.std.specs.Prelude.{ℕ, nat_lt, nat_le, ◌==◌, if◌then◌else◌, List, length, take, map, slice_get, Option, Some, None, Ok, Err}
-use Rattle.rh_defs.specs.declared.sizes.TheConstants.{ANCHORS}
+use Rattle.rh_defs.specs.declared.sizes.TheConstants.{ANCHORS, MOST_RECORDS}
 use Rattle.rh_defs.specs.declared.transfer.Asked.{Asked}
 use Rattle.rh_defs.specs.declared.transfer.Incoming.{Incoming}
 use Rattle.rh_defs.specs.declared.transfer.Incoming.TheVariants as incoming
@@ -26,6 +26,7 @@ use Rattle.vf_ram.specs.WithStatus.{WithStatus, and_then, bad_action, bad_record
 
 -- ---- records
 
+-- a transfer that comes in, as words
 abbrev pub as_taking : Taking → VfTaking
 as_taking f = record { id = f.id; sender = f.sender; anchor = f.anchor; buffer = f.buffer; count = f.count; fetch = f.fetch }
 
@@ -47,6 +48,7 @@ asked_of w = if nat_lt w.anchor ANCHORS then Some (record { id = w.id; sender = 
 abbrev pub ended_taking : ℕ → ℕ → ℕ → VfTaking
 ended_taking id anchor count = record { id = id; sender = 0; anchor = anchor; buffer = 0; count = count; fetch = 0 }
 
+-- a record, as its state's number and its transfer
 abbrev pub as_incoming : Incoming → VfIncoming
 as_incoming (incoming.Fetching f) = record { state = 1; transfer = as_taking f }
 as_incoming (incoming.Draining f) = record { state = 2; transfer = as_taking f }
@@ -80,22 +82,25 @@ abbrev pub incoming_or_none : Option Incoming → VfIncoming
 incoming_or_none (Some r) = as_incoming r
 incoming_or_none None = no_incoming
 
--- the records, at most eight, and zeros behind them
+-- the records, and zeros behind them
 abbrev pub as_receiver : List Incoming → VfReceiver
 as_receiver records = record { count = length records; records = map (λ i. incoming_or_none (slice_get records i)) places }
 
 -- the records that a receiver has, as far as it counts them
 abbrev pub receiver_in : VfReceiver → WithStatus (List Incoming)
-receiver_in r = if nat_le r.count 8 then or_status (all_or_none incoming_of (take r.count r.records)) bad_records else Err bad_records
+receiver_in r = if nat_le r.count MOST_RECORDS then or_status (all_or_none incoming_of (take r.count r.records)) bad_records else Err bad_records
 
 -- ---- actions
 
+-- a fetch to be sent, as words
 abbrev pub as_fetch : Fetch → VfFetch
 as_fetch a = record { to = a.to; answers = a.answers; buffer = a.buffer; room = a.room }
 
+-- the fetch that words tell of
 abbrev pub fetch_of : VfFetch → Fetch
 fetch_of w = record { to = w.to; answers = w.answers; buffer = w.buffer; room = w.room }
 
+-- zeros
 abbrev pub no_fetch : VfFetch
 no_fetch = record { to = 0; answers = 0; buffer = 0; room = 0 }
 
@@ -103,19 +108,23 @@ no_fetch = record { to = 0; answers = 0; buffer = 0; room = 0 }
 abbrev pub plain_action : ℕ → VfTaking → VfTakeAction
 plain_action what f = record { what = what; transfer = f; n = 0; next = 0; next_fetch = no_fetch; to = 0; answers = 0; ending = 0 }
 
+-- what follows on bytes, as a number
 abbrev pub next_number : Next → ℕ
 next_number (next.Fetch a) = 1
 next_number next.Finish = 2
 
+-- the fetch that follows on bytes, or zeros
 abbrev pub next_words : Next → VfFetch
 next_words (next.Fetch a) = as_fetch a
 next_words next.Finish = no_fetch
 
+-- why a buffer is released, as a number
 abbrev pub ending_number : Ending → ℕ
 ending_number ending.Drained = 1
 ending_number ending.Unanswered = 2
 ending_number ending.Uncountable = 3
 
+-- what there is to do, as words; zeros where it is nothing
 abbrev pub as_take_action : Option TakeAction → VfTakeAction
 as_take_action None = plain_action 0 (ended_taking 0 0 0)
 as_take_action (Some (action.Claim a)) = plain_action 4 (record (ended_taking a.id 0 0) { sender = a.sender })
@@ -157,6 +166,7 @@ abbrev pub load_file_in : VfTakeAction → WithStatus LoadFile
 load_file_in w =
     if w.what == 7 then and_then (asked_in w) (λ q. Ok (record { transfer = q; to = w.to; answers = w.answers })) else Err bad_action
 
+-- why a buffer is released
 abbrev pub ending_in : VfTakeAction → WithStatus Ending
 ending_in w =
     if w.ending == 1 then Ok ending.Drained

@@ -12,19 +12,23 @@ use Rattle.vf_ram.specs.declared.sender_words.VfSender.{VfSender}
 use Rattle.vf_ram.specs.SenderWords.{sender_in, transmit_in, save_file_in, finish_in, send_action_in}
 use Rattle.vf_ram.specs.WithStatus.{WithStatus, and_then, by_rules, anchor_in, wanted}
 
+-- the records with a new transfer
 abbrev pub offer_told : VfSender → ℕ → ℕ → ℕ → WithStatus (List Outgoing)
 offer_told s id recipient anchor =
     and_then (sender_in s) (λ records. and_then (anchor_in anchor) (λ k. by_rules (sender.offer id recipient k records)))
 
 -- ---- events
 
+-- what a RAMFetch asks for
 abbrev pub fetch_asks : VfSender → ℕ → ℕ → ℕ → ℕ → ℕ → WithStatus (Option SendAction)
 fetch_asks s from my_ref your_ref buffer amount =
     and_then (sender_in s) (λ records. Ok (sender.on_fetch from my_ref your_ref buffer amount records))
 
+-- what a DataSaveAck asks for
 abbrev pub ack_asks : VfSender → ℕ → ℕ → ℕ → WithStatus (Option SendAction)
 ack_asks s from my_ref your_ref = and_then (sender_in s) (λ records. Ok (sender.on_ack from my_ref your_ref records))
 
+-- what a DataLoadAck asks for
 abbrev pub load_ack_asks : VfSender → ℕ → ℕ → WithStatus (Option SendAction)
 load_ack_asks s from your_ref = and_then (sender_in s) (λ records. Ok (sender.on_load_ack from your_ref records))
 
@@ -34,23 +38,28 @@ bounce_told s ref =
     and_then (sender_in s) (λ records.
     let found = sender.on_sending_bounce ref records in Ok (is_some found, sender.sending_bounced found records))
 
+-- the records when a transfer that goes out was given up
 abbrev pub cancel_told : VfSender → ℕ → WithStatus (List Outgoing)
 cancel_told s id = and_then (sender_in s) (λ records. by_rules (sender.cancel_sending (wanted id) records))
 
 -- ---- how an action ended
 
+-- the records when bytes were sent
 abbrev pub sent_told : VfSender → VfSendAction → ℕ → ℕ → WithStatus (List Outgoing)
 sent_told s w size last =
     and_then (sender_in s) (λ records. and_then (transmit_in w) (λ a. by_rules (tell_sent a size last records)))
 
+-- the records when a file was saved
 abbrev pub saved_told : VfSender → VfSendAction → ℕ → WithStatus (List Outgoing)
 saved_told s w last =
     and_then (sender_in s) (λ records. and_then (save_file_in w) (λ a. by_rules (tell_saved a last records)))
 
+-- the records when the recipient has loaded the file
 abbrev pub loaded_told : VfSender → VfSendAction → ℕ → WithStatus (List Outgoing)
 loaded_told s w size =
     and_then (sender_in s) (λ records. and_then (finish_in w) (λ x. by_rules (tell_sending_loaded x size records)))
 
+-- the records when an action failed
 abbrev pub failed_told : VfSender → VfSendAction → WithStatus (List Outgoing)
 failed_told s w =
     and_then (sender_in s) (λ records. and_then (send_action_in w) (λ a. by_rules (tell_sending_failed a records)))

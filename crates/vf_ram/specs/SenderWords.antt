@@ -1,6 +1,6 @@
 -- A sender, its records and its actions as structs of words.
 use Rattle.std.specs.Prelude.{ℕ, Bool, true, false, nat_lt, nat_le, ◌==◌, if◌then◌else◌, List, [], ◌∷◌, length, take, map, slice_get, Option, Some, None, Ok, Err}
-use Rattle.rh_defs.specs.declared.sizes.TheConstants.{ANCHORS}
+use Rattle.rh_defs.specs.declared.sizes.TheConstants.{ANCHORS, MOST_RECORDS}
 use Rattle.rh_defs.specs.declared.transfer.Sending.{Sending}
 use Rattle.rh_defs.specs.declared.transfer.Outgoing.{Outgoing}
 use Rattle.rh_defs.specs.declared.transfer.Outgoing.TheVariants as outgoing
@@ -19,6 +19,7 @@ use Rattle.vf_ram.specs.RecordPlaces.{all_or_none, places}
 
 -- ---- records
 
+-- a transfer that goes out, as words
 abbrev pub as_sending : Sending → VfSending
 as_sending x = record { id = x.id; recipient = x.recipient; anchor = x.anchor; count = x.count; last = x.last }
 
@@ -32,11 +33,13 @@ sending_of w =
 abbrev pub ended_sending : ℕ → ℕ → VfSending
 ended_sending id count = record { id = id; recipient = 0; anchor = 0; count = count; last = 0 }
 
+-- a record, as its state's number and its transfer
 abbrev pub as_outgoing : Outgoing → VfOutgoing
 as_outgoing (outgoing.Open x) = record { state = 0; transfer = as_sending x }
 as_outgoing (outgoing.Done id count) = record { state = 4; transfer = ended_sending id count }
 as_outgoing (outgoing.Failed id count) = record { state = 5; transfer = ended_sending id count }
 
+-- the open record of a transfer, if there is one
 abbrev pub open_of_words : Option Sending → Option Outgoing
 open_of_words (Some x) = Some (outgoing.Open x)
 open_of_words None = None
@@ -60,19 +63,21 @@ abbrev pub outgoing_or_none : Option Outgoing → VfOutgoing
 outgoing_or_none (Some r) = as_outgoing r
 outgoing_or_none None = no_outgoing
 
--- the records, at most eight, and zeros behind them
+-- the records, and zeros behind them
 abbrev pub as_sender : List Outgoing → VfSender
 as_sender records = record { count = length records; records = map (λ i. outgoing_or_none (slice_get records i)) places }
 
 -- the records that a sender has, as far as it counts them
 abbrev pub sender_in : VfSender → WithStatus (List Outgoing)
-sender_in s = if nat_le s.count 8 then or_status (all_or_none outgoing_of (take s.count s.records)) bad_records else Err bad_records
+sender_in s = if nat_le s.count MOST_RECORDS then or_status (all_or_none outgoing_of (take s.count s.records)) bad_records else Err bad_records
 
 -- ---- actions
 
+-- nothing to do
 abbrev pub no_send_action : VfSendAction
 no_send_action = record { what = 0; transfer = ended_sending 0 0; to = 0; answers = 0; buffer = 0; room = 0 }
 
+-- what there is to do, as words; zeros where it is nothing
 abbrev pub as_send_action : Option SendAction → VfSendAction
 as_send_action None = no_send_action
 as_send_action (Some (action.Transmit a)) =
@@ -114,5 +119,6 @@ abbrev pub as_word : Bool → ℕ
 as_word true = 1
 as_word false = 0
 
+-- a part of a file, as words
 abbrev pub as_part : Part → VfPart
 as_part p = record { offset = p.offset; n = p.n; is_last = as_word p.is_last }

@@ -7,6 +7,7 @@ use Rattle.rh_defs.specs.declared.refusal.Refusal.{Refusal}
 use Rattle.rh_defs.specs.declared.refusal.Refusal.TheVariants.{Busy, NotOpen, BadRange}
 use Rattle.rh_defs.specs.declared.sizes.TheConstants.{ANCHORS}
 
+-- what a call gives, or its status
 abbrev pub WithStatus : Type 0 → Type 0
 WithStatus A = Result A ℕ
 
