@@ -1,46 +1,21 @@
--- A text of which a part was written, and the rest is left.
-use Rattle.rh_map.proofs.Common.{◌≡◌, ℕ, List, [], ◌++◌, Result, Err, refl, sym, ap, ◌∙◌, subst, append_assoc, append-nil, puts_stops}
-use Rattle.std.specs.Result.{IsErr}
-use Rattle.rh_lines.specs.Flow.{Output, Takes, Puts}
-use Rattle.rh_lines.proofs.FlowLemmas.{takes_none, takes_more, takes_breaks}
+-- A text of which a part was offered to a pen, and the rest is left.
+use Rattle.rh_map.proofs.Common.{◌≡◌, ℕ, List, [], ◌++◌, refl, sym, ap, ◌∙◌, append_assoc, append-nil}
 
--- what was written, and what is left
-pub record Left (old new : Output) (whole rest : List ℕ) : Type 0 where
-  pub written : List ℕ
-  pub takes : Takes old new written
-  pub is : whole ≡ written ++ rest
+-- what the pen was offered at first, what it was offered so far, the whole text, and what is left of it
+pub record Left (old new whole rest : List ℕ) : Type 0 where
+  pub is : new ++ rest ≡ old ++ whole
 
--- nothing was written yet
-pub left_whole : (s : Output) (whole : List ℕ) → Left s s whole whole
-left_whole s whole = record { written = []; takes = takes_none s; is = refl }
+-- nothing was offered yet
+pub left_whole : (old whole : List ℕ) → Left old old whole whole
+left_whole old whole = record { is = refl }
 
--- one more part was written
-pub left_less : {s t u : Output} {whole rest part behind : List ℕ} → Left s t whole rest → rest ≡ part ++ behind → Takes t u part → Left s u whole behind
-left_less {part = part} {behind = behind} p e q = record {
-  written = p.written ++ part;
-  takes = takes_more p.takes q;
-  is = p.is ∙ (ap (λ z. p.written ++ z) e ∙ sym (append_assoc p.written part behind));
+-- one more part was offered
+pub left_less : {old so_far new whole rest behind : List ℕ} (part : List ℕ) → Left old so_far whole rest → rest ≡ part ++ behind
+    → new ≡ so_far ++ part → Left old new whole behind
+left_less {so_far = so_far} {behind = behind} part p e q = record {
+  is = ap (λ z. z ++ behind) q ∙ (append_assoc so_far part behind ∙ (ap (λ z. so_far ++ z) (sym e) ∙ p.is));
 }
 
--- all was written
-pub left_none : {s t : Output} {whole rest : List ℕ} → Left s t whole rest → rest ≡ [] → Takes s t whole
-left_none {s} {t} {whole} p e =
-    subst (λ (z : List ℕ). Takes s t z) (sym (p.is ∙ (ap (λ z. p.written ++ z) e ∙ append-nil p.written))) p.takes
-
--- a part that is not written whole
-pub left_breaks : {E : Type 0} {s t u : Output} {whole rest part : List ℕ} {e : E} (behind : List ℕ) (r : Result Unit E) → Left s t whole rest
-    → rest ≡ part ++ behind → Puts t u (Err e) part → IsErr r → Puts s u r whole
-left_breaks {s = s} {u = u} {whole = whole} {part = part} {e = e} behind r p k q h =
-    let broken = takes_breaks p.takes q.err in
-    puts_stops {e = e} r (record {
-      ok = tt;
-      err = record {
-        front = broken.front;
-        back = broken.back ++ behind;
-        whole = p.is ∙ (ap (λ z. p.written ++ z) k ∙ (sym (append_assoc p.written part behind)
-            ∙ (ap (λ z. z ++ behind) broken.whole ∙ append_assoc broken.front broken.back behind)));
-        taken = broken.taken;
-        counted = broken.counted;
-        failed = broken.failed;
-      };
-    }) h
+-- all was offered
+pub left_none : {old new whole rest : List ℕ} → Left old new whole rest → rest ≡ [] → new ≡ old ++ whole
+left_none {new = new} p e = sym (append-nil new) ∙ (ap (λ z. new ++ z) (sym e) ∙ p.is)

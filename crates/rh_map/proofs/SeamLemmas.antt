@@ -94,13 +94,6 @@ pub first-next : (lines behind : List (List ℕ)) (line : List ℕ) (n m : ℕ) 
 first-next lines behind line n m e is =
     ap (λ k. shown_lines (first_lines k lines)) e ∙ ap (λ ls. shown_lines (first_lines (suc m) ls)) is
 
-no-first : (n : ℕ) → shown_lines (first_lines n []) ≡ []
-no-first zero = refl
-no-first (suc n) = refl
-
-pub first-none : (lines : List (List ℕ)) (n : ℕ) → lines ≡ [] → shown_lines (first_lines n lines) ≡ []
-first-none lines n is = ap (λ ls. shown_lines (first_lines n ls)) is ∙ no-first n
-
 -- ---- lines in two parts
 
 pub shown-append : (xs ys : List (List ℕ)) → shown_lines (xs ++ ys) ≡ shown_lines xs ++ shown_lines ys

@@ -6,7 +6,6 @@ ghost use Rattle.rh_defs.specs.declared.sizes.TheConstants.{FIXED_AREAS, MAX_PAG
 ghost use Rattle.rh_figure.specs.Figure.{fixed_note, listed_pages, made_note, scrap_note};
 ghost use Rattle.rh_figure.specs.Map.{heading_line, shown_line};
 ghost use Rattle.rh_figure.specs.Phrases.{area_name, pages_text};
-ghost use Rattle.rh_lines.specs.Flow.{Puts};
 ghost use Rattle.rh_lines.specs.declared.row.TheConstants.{ROW};
 ghost use Rattle.rh_map.specs.MapAreas.{scrap_note_of};
 
@@ -15,7 +14,7 @@ use crate::numbers::add_numbers;
 use crate::phrases::{add_pages, add_size};
 use rh_defs::Ref;
 use rh_defs::sizes::FIXED_AREAS;
-use rh_lines::{Row, Sink, WriteFailed};
+use rh_lines::{Pen, Row};
 
 /// A scrap file: how many bytes it has, and the ref of its DataLoad.
 #[derive(Clone, Copy)]
@@ -24,18 +23,12 @@ pub struct ScrapFile {
     pub load: Ref,
 }
 
-/// Writes the line of one of areas 0 to 5, with the numbers of its pages. Fails only where the writer failed or took
-/// none of what it was offered; a front of the line is then written.
-pub fn print_fixed_area<W: Sink>(
-    number: u32,
-    pages: &[u16],
-    scrap: Option<ScrapFile>,
-    writer: &mut W,
-) -> Result<(), WriteFailed>
+/// Writes the line of one of areas 0 to 5, with the numbers of its pages.
+pub fn print_fixed_area<P: Pen>(number: u32, pages: &[u16], scrap: Option<ScrapFile>, pen: &mut P)
     requires number { number < FIXED_AREAS }
     requires few { length pages.now ≤ MAX_PAGES }
-    ensures { Puts (W.output writer.old) (W.output writer.new) result
-        (shown_line (heading_line (area_name number) (fixed_note (length pages.now)
+    ensures { P.offered pen.new ≡ P.offered pen.old
+        ++ (shown_line (heading_line (area_name number) (fixed_note (length pages.now)
         (listed_pages (length pages.now) pages.now) (scrap_note_of scrap))) ++ codes "\n") }
 {
     let note = fixed_area_note(pages, scrap);
@@ -43,7 +36,7 @@ pub fn print_fixed_area<W: Sink>(
     row.text(fixed_name(number));
     row.text(b": ");
     row.text(note.as_slice());
-    put_line(row.as_slice(), writer)
+    put_line(row.as_slice(), pen);
 }
 
 /// What is said of one of areas 0 to 5 with these pages.
@@ -60,18 +53,12 @@ pub fn fixed_area_note(pages: &[u16], scrap: Option<ScrapFile>) -> Row
     note
 }
 
-/// Writes the line of a made area, with the numbers of its pages. Fails only where the writer failed or took none of
-/// what it was offered; a front of the line is then written.
-pub fn print_made_area<W: Sink>(
-    number: u32,
-    most: u32,
-    pages: &[u16],
-    writer: &mut W,
-) -> Result<(), WriteFailed>
+/// Writes the line of a made area, with the numbers of its pages.
+pub fn print_made_area<P: Pen>(number: u32, most: u32, pages: &[u16], pen: &mut P)
     requires number { 5 < number }
     requires few { length pages.now ≤ MAX_PAGES }
-    ensures { Puts (W.output writer.old) (W.output writer.new) result
-        (shown_line (heading_line (area_name number) (made_note (length pages.now) most
+    ensures { P.offered pen.new ≡ P.offered pen.old
+        ++ (shown_line (heading_line (area_name number) (made_note (length pages.now) most
         (listed_pages (length pages.now) pages.now))) ++ codes "\n") }
 {
     let note = made_area_note(most, pages);
@@ -79,7 +66,7 @@ pub fn print_made_area<W: Sink>(
     add_made_name(&mut row, number);
     row.text(b": ");
     row.text(note.as_slice());
-    put_line(row.as_slice(), writer)
+    put_line(row.as_slice(), pen);
 }
 
 /// What is said of a made area with these pages.

@@ -3,24 +3,21 @@
 ghost use Rattle.std.specs.Prelude.{◌≡◌, ◌≤◌, ◌≢◌, ◌+◌, ◌++◌, codes, length};
 ghost use Rattle.rh_figure.specs.Changes.{gone_line, new_line, resized_line, slide_line, way_text, who_slides};
 ghost use Rattle.rh_figure.specs.Map.{shown_line};
-ghost use Rattle.rh_lines.specs.Flow.{Puts};
 ghost use Rattle.rh_lines.specs.declared.row.TheConstants.{ROW};
 
 use crate::changes::print_change;
 use crate::phrases::add_size;
 use rh_defs::Anchor;
-use rh_lines::{Row, Sink, WriteFailed};
+use rh_lines::{Pen, Row};
 
 /// What a block is called.
 const BLOCK: &[u8; 11] = b"Flex block ";
 
-/// Writes that a flex block is gone. Fails only where the writer failed or took none of what it was offered; a front of
-/// the line is then written.
-pub fn print_block_gone<W: Sink>(anchor: Anchor, writer: &mut W) -> Result<(), WriteFailed>
-    ensures { Puts (W.output writer.old) (W.output writer.new) result
-        (shown_line (codes "  " ++ gone_line anchor) ++ codes "\n") }
+/// Writes that a flex block is gone.
+pub fn print_block_gone<P: Pen>(anchor: Anchor, pen: &mut P)
+    ensures { P.offered pen.new ≡ P.offered pen.old ++ (shown_line (codes "  " ++ gone_line anchor) ++ codes "\n") }
 {
-    print_change(&block_gone(anchor), writer)
+    print_change(&block_gone(anchor), pen);
 }
 
 /// That a flex block is gone.
@@ -35,13 +32,11 @@ pub fn block_gone(anchor: Anchor) -> Row
     row
 }
 
-/// Writes that a flex block is new. Fails only where the writer failed or took none of what it was offered; a front of
-/// the line is then written.
-pub fn print_block_new<W: Sink>(anchor: Anchor, writer: &mut W) -> Result<(), WriteFailed>
-    ensures { Puts (W.output writer.old) (W.output writer.new) result
-        (shown_line (codes "  " ++ new_line anchor) ++ codes "\n") }
+/// Writes that a flex block is new.
+pub fn print_block_new<P: Pen>(anchor: Anchor, pen: &mut P)
+    ensures { P.offered pen.new ≡ P.offered pen.old ++ (shown_line (codes "  " ++ new_line anchor) ++ codes "\n") }
 {
-    print_change(&block_new(anchor), writer)
+    print_change(&block_new(anchor), pen);
 }
 
 /// That a flex block is new.
@@ -56,18 +51,12 @@ pub fn block_new(anchor: Anchor) -> Row
     row
 }
 
-/// Writes that a flex block of so many bytes has another number of them now. Fails only where the writer failed or took
-/// none of what it was offered; a front of the line is then written.
-pub fn print_block_resized<W: Sink>(
-    anchor: Anchor,
-    had: u32,
-    has: u32,
-    writer: &mut W,
-) -> Result<(), WriteFailed>
-    ensures { Puts (W.output writer.old) (W.output writer.new) result
-        (shown_line (codes "  " ++ resized_line anchor had has) ++ codes "\n") }
+/// Writes that a flex block of so many bytes has another number of them now.
+pub fn print_block_resized<P: Pen>(anchor: Anchor, had: u32, has: u32, pen: &mut P)
+    ensures { P.offered pen.new ≡ P.offered pen.old
+        ++ (shown_line (codes "  " ++ resized_line anchor had has) ++ codes "\n") }
 {
-    print_change(&block_resized(anchor, had, has), writer)
+    print_change(&block_resized(anchor, had, has), pen);
 }
 
 /// That a flex block of so many bytes has another number of them now.
@@ -85,18 +74,12 @@ pub fn block_resized(anchor: Anchor, had: u32, has: u32) -> Row
     row
 }
 
-/// Writes that so many flex blocks slide, of which the lowest lay at one address, and lies at another. Fails only where
-/// the writer failed or took none of what it was offered; a front of the line is then written.
-pub fn print_slide<W: Sink>(
-    count: u32,
-    from: u32,
-    to: u32,
-    writer: &mut W,
-) -> Result<(), WriteFailed>
-    ensures { Puts (W.output writer.old) (W.output writer.new) result
-        (shown_line (codes "  " ++ slide_line count from to) ++ codes "\n") }
+/// Writes that so many flex blocks slide, of which the lowest lay at one address, and lies at another.
+pub fn print_slide<P: Pen>(count: u32, from: u32, to: u32, pen: &mut P)
+    ensures { P.offered pen.new ≡ P.offered pen.old
+        ++ (shown_line (codes "  " ++ slide_line count from to) ++ codes "\n") }
 {
-    print_change(&blocks_slide(count, from, to), writer)
+    print_change(&blocks_slide(count, from, to), pen);
 }
 
 /// That so many flex blocks slide, of which the lowest lay at one address, and lies at another.

@@ -8,7 +8,6 @@ ghost use Rattle.rh_figure.specs.Cards.{flex_card, hole_card, more_card, used_ca
 ghost use Rattle.rh_figure.specs.Map.{card_line, shown_line};
 ghost use Rattle.rh_figure.specs.Phrases.{size_text};
 ghost use Rattle.rh_figure.specs.declared.limits.TheConstants.{CARD_BYTES};
-ghost use Rattle.rh_lines.specs.Flow.{Puts};
 ghost use Rattle.rh_lines.specs.declared.row.TheConstants.{ROW};
 ghost use Rattle.rh_map.specs.MapCards.{front_text, use_text, IsFrontOf};
 ghost use Rattle.rh_map.specs.Inner.TextLines.{behind_comma, texts_line};
@@ -17,7 +16,7 @@ use crate::line::put_line;
 use crate::phrases::add_size;
 use rh_defs::{Anchor, Ref};
 use rh_figure::limits::CARD_BYTES;
-use rh_lines::{Row, Sink, WriteFailed};
+use rh_lines::{Pen, Row};
 
 /// The transfer that uses a block, if one does: it sends the block, or receives into it.
 #[derive(Clone, Copy)]
@@ -38,20 +37,15 @@ pub struct CardBlock<'a> {
     pub fresh: bool,
 }
 
-/// Writes the card of a flex block. Fails only where the writer failed or took none of what it was offered; a front of
-/// the line is then written.
-pub fn print_flex_card<W: Sink>(
-    anchor: Anchor,
-    block: &CardBlock<'_>,
-    writer: &mut W,
-) -> Result<(), WriteFailed>
+/// Writes the card of a flex block.
+pub fn print_flex_card<P: Pen>(anchor: Anchor, block: &CardBlock<'_>, pen: &mut P)
     requires { length block.now.front.now ≤ CARD_BYTES }
     ensures { (bytes : List ℕ) → IsFrontOf block.now.size block.now.front.now bytes
-        → Puts (W.output writer.old) (W.output writer.new) result
-        (shown_line (card_line (flex_card block.now.address anchor bytes (use_text block.now.usage) block.now.fresh))
+        → P.offered pen.new ≡ P.offered pen.old
+        ++ (shown_line (card_line (flex_card block.now.address anchor bytes (use_text block.now.usage) block.now.fresh))
         ++ codes "\n") }
 {
-    print_block(&flex_name(anchor, block.address), block, writer)
+    print_block(&flex_name(anchor, block.address), block, pen);
 }
 
 /// A flex block's anchor and address.
@@ -68,16 +62,15 @@ pub fn flex_name(anchor: Anchor, address: u32) -> Row
     name
 }
 
-/// Writes the card of a block of a heap. Fails only where the writer failed or took none of what it was offered; a
-/// front of the line is then written.
-pub fn print_used_card<W: Sink>(block: &CardBlock<'_>, writer: &mut W) -> Result<(), WriteFailed>
+/// Writes the card of a block of a heap.
+pub fn print_used_card<P: Pen>(block: &CardBlock<'_>, pen: &mut P)
     requires { length block.now.front.now ≤ CARD_BYTES }
     ensures { (bytes : List ℕ) → IsFrontOf block.now.size block.now.front.now bytes
-        → Puts (W.output writer.old) (W.output writer.new) result
-        (shown_line (card_line (used_card block.now.address bytes (use_text block.now.usage) block.now.fresh))
+        → P.offered pen.new ≡ P.offered pen.old
+        ++ (shown_line (card_line (used_card block.now.address bytes (use_text block.now.usage) block.now.fresh))
         ++ codes "\n") }
 {
-    print_block(&used_name(block.usage, block.address), block, writer)
+    print_block(&used_name(block.usage, block.address), block, pen);
 }
 
 /// What a block of a heap is called, and its address.
@@ -105,15 +98,13 @@ fn block_word(usage: Usage) -> &'static [u8]
     }
 }
 
-/// Writes the card of a hole. Fails only where the writer failed or took none of what it was offered; a front of the
-/// line is then written.
-pub fn print_hole_card<W: Sink>(address: u32, size: u32, writer: &mut W) -> Result<(), WriteFailed>
-    ensures { Puts (W.output writer.old) (W.output writer.new) result
-        (shown_line (card_line (hole_card address size)) ++ codes "\n") }
+/// Writes the card of a hole.
+pub fn print_hole_card<P: Pen>(address: u32, size: u32, pen: &mut P)
+    ensures { P.offered pen.new ≡ P.offered pen.old ++ (shown_line (card_line (hole_card address size)) ++ codes "\n") }
 {
     let mut bytes = Row::new();
     add_size(&mut bytes, size);
-    print_card(&hole_name(address), &bytes, &Row::new(), false, writer)
+    print_card(&hole_name(address), &bytes, &Row::new(), false, pen);
 }
 
 /// A hole's address.
@@ -128,13 +119,11 @@ pub fn hole_name(address: u32) -> Row
     name
 }
 
-/// Writes the card that counts those left out. Fails only where the writer failed or took none of what it was offered;
-/// a front of the line is then written.
-pub fn print_more_card<W: Sink>(count: u32, writer: &mut W) -> Result<(), WriteFailed>
-    ensures { Puts (W.output writer.old) (W.output writer.new) result
-        (shown_line (card_line (more_card count)) ++ codes "\n") }
+/// Writes the card that counts those left out.
+pub fn print_more_card<P: Pen>(count: u32, pen: &mut P)
+    ensures { P.offered pen.new ≡ P.offered pen.old ++ (shown_line (card_line (more_card count)) ++ codes "\n") }
 {
-    print_card(&others_name(count), &Row::new(), &Row::new(), false, writer)
+    print_card(&others_name(count), &Row::new(), &Row::new(), false, pen);
 }
 
 /// How many are left out.
@@ -150,21 +139,17 @@ pub fn others_name(count: u32) -> Row
 }
 
 /// Writes the line of a block's card behind its name.
-fn print_block<W: Sink>(
-    name: &Row,
-    block: &CardBlock<'_>,
-    writer: &mut W,
-) -> Result<(), WriteFailed>
+fn print_block<P: Pen>(name: &Row, block: &CardBlock<'_>, pen: &mut P)
     requires some { 0 < length name.now }
     requires short { length name.now ≤ 40 }
     requires front { length block.now.front.now ≤ CARD_BYTES }
-    ensures { Puts (W.output writer.old) (W.output writer.new) result
-        (shown_line (texts_line name.now (size_text block.now.size ++ use_text block.now.usage)
+    ensures { P.offered pen.new ≡ P.offered pen.old
+        ++ (shown_line (texts_line name.now (size_text block.now.size ++ use_text block.now.usage)
         (front_text block.now.size block.now.front.now) block.now.fresh) ++ codes "\n") }
 {
     let size = block_size(block);
     let bytes = block_bytes(block);
-    print_card(name, &size, &bytes, block.fresh, writer)
+    print_card(name, &size, &bytes, block.fresh, pen);
 }
 
 /// The size of a block, and the transfer that uses it.
@@ -222,23 +207,17 @@ fn add_front(row: &mut Row, size: u32, front: &[u8])
 }
 
 /// Writes the line of a card.
-pub(crate) fn print_card<W: Sink>(
-    first: &Row,
-    second: &Row,
-    third: &Row,
-    fresh: bool,
-    writer: &mut W,
-) -> Result<(), WriteFailed>
+pub(crate) fn print_card<P: Pen>(first: &Row, second: &Row, third: &Row, fresh: bool, pen: &mut P)
     requires short { length first.now + length second.now + length third.now ≤ 200 }
-    ensures { Puts (W.output writer.old) (W.output writer.new) result
-        (shown_line (texts_line first.now second.now third.now fresh) ++ codes "\n") }
+    ensures { P.offered pen.new ≡ P.offered pen.old
+        ++ (shown_line (texts_line first.now second.now third.now fresh) ++ codes "\n") }
 {
     let mut row = Row::new();
     row.text(if fresh { b"  * " } else { b"    " });
     row.text(first.as_slice());
     add_behind_comma(&mut row, second.as_slice());
     add_behind_comma(&mut row, third.as_slice());
-    put_line(row.as_slice(), writer)
+    put_line(row.as_slice(), pen);
 }
 
 /// Adds a text behind a comma, if it isn't empty.

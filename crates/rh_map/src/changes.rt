@@ -5,63 +5,49 @@ ghost use Rattle.rh_defs.specs.declared.sizes.TheConstants.{MAX_PAGES};
 ghost use Rattle.rh_figure.specs.Changes.{freed_line, taken_line};
 ghost use Rattle.rh_figure.specs.Map.{shown_line};
 ghost use Rattle.rh_figure.specs.Phrases.{area_name, listed_numbers};
-ghost use Rattle.rh_lines.specs.Flow.{Puts};
 ghost use Rattle.rh_lines.specs.declared.row.TheConstants.{ROW};
 
 use crate::areas::add_area_name;
 use crate::line::put_line;
 use crate::numbers::add_numbers;
 use rh_defs::Name;
-use rh_lines::{Row, Sink, WriteFailed};
+use rh_lines::{Pen, Row};
 
-/// Writes which pages an area has taken. Fails only where the writer failed or took none of what it was offered; a
-/// front of the line is then written.
-pub fn print_area_takes<W: Sink>(
-    number: u32,
-    pages: &[u16],
-    writer: &mut W,
-) -> Result<(), WriteFailed>
+/// Writes which pages an area has taken.
+pub fn print_area_takes<P: Pen>(number: u32, pages: &[u16], pen: &mut P)
     requires { length pages.now ≤ MAX_PAGES }
-    ensures { Puts (W.output writer.old) (W.output writer.new) result
-        (shown_line (codes "  " ++ taken_line (area_name number) pages.now) ++ codes "\n") }
+    ensures { P.offered pen.new ≡ P.offered pen.old
+        ++ (shown_line (codes "  " ++ taken_line (area_name number) pages.now) ++ codes "\n") }
 {
-    print_change(&area_takes(number, pages), writer)
+    print_change(&area_takes(number, pages), pen);
 }
 
-/// Writes which pages the slot of the task with the name has taken. Fails only where the writer failed or took none of
-/// what it was offered; a front of the line is then written.
-pub fn print_slot_takes<W: Sink>(
-    name: &Name,
-    pages: &[u16],
-    writer: &mut W,
-) -> Result<(), WriteFailed>
+/// Writes which pages the slot of the task with the name has taken.
+pub fn print_slot_takes<P: Pen>(name: &Name, pages: &[u16], pen: &mut P)
     requires { length pages.now ≤ MAX_PAGES }
-    ensures { Puts (W.output writer.old) (W.output writer.new) result
-        (shown_line (codes "  " ++ taken_line (codes "Slot " ++ name.now) pages.now) ++ codes "\n") }
+    ensures { P.offered pen.new ≡ P.offered pen.old
+        ++ (shown_line (codes "  " ++ taken_line (codes "Slot " ++ name.now) pages.now) ++ codes "\n") }
 {
-    print_change(&slot_takes(name, pages), writer)
+    print_change(&slot_takes(name, pages), pen);
 }
 
-/// Writes which pages were given back. Fails only where the writer failed or took none of what it was offered; a front
-/// of the line is then written.
-pub fn print_freed<W: Sink>(pages: &[u16], writer: &mut W) -> Result<(), WriteFailed>
+/// Writes which pages were given back.
+pub fn print_freed<P: Pen>(pages: &[u16], pen: &mut P)
     requires { length pages.now ≤ MAX_PAGES }
-    ensures { Puts (W.output writer.old) (W.output writer.new) result
-        (shown_line (codes "  " ++ freed_line pages.now) ++ codes "\n") }
+    ensures { P.offered pen.new ≡ P.offered pen.old ++ (shown_line (codes "  " ++ freed_line pages.now) ++ codes "\n") }
 {
-    print_change(&freed(pages), writer)
+    print_change(&freed(pages), pen);
 }
 
 /// Writes what has changed, behind two spaces.
-pub(crate) fn print_change<W: Sink>(change: &Row, writer: &mut W) -> Result<(), WriteFailed>
+pub(crate) fn print_change<P: Pen>(change: &Row, pen: &mut P)
     requires { length change.now ≤ 200 }
-    ensures { Puts (W.output writer.old) (W.output writer.new) result
-        (shown_line (codes "  " ++ change.now) ++ codes "\n") }
+    ensures { P.offered pen.new ≡ P.offered pen.old ++ (shown_line (codes "  " ++ change.now) ++ codes "\n") }
 {
     let mut row = Row::new();
     row.text(b"  ");
     row.text(change.as_slice());
-    put_line(row.as_slice(), writer)
+    put_line(row.as_slice(), pen);
 }
 
 /// That an area has taken these pages.

@@ -7,7 +7,6 @@ ghost use Rattle.rh_figure.specs.Map.{heading_line, name_with_mark, pool_line, s
 ghost use Rattle.rh_figure.specs.Phrases.{pages_text, where_so};
 ghost use Rattle.rh_figure.specs.Rows.{letter_at, owner_mark};
 ghost use Rattle.rh_figure.specs.Share.{AreaOf};
-ghost use Rattle.rh_lines.specs.Flow.{Puts};
 ghost use Rattle.rh_lines.specs.declared.row.TheConstants.{ROW};
 ghost use Rattle.rh_defs.specs.Desk.{most_tasks};
 
@@ -15,7 +14,7 @@ use crate::line::put_line;
 use crate::phrases::add_pages;
 use rh_defs::sizes::{FIXED_AREAS, MAX_TASKS};
 use rh_defs::{Handle, Manner, Name};
-use rh_lines::{Row, Sink, WriteFailed};
+use rh_lines::{Pen, Row};
 
 /// The characters of slots, in order of handle.
 const LETTERS: &[u8; MAX_TASKS] = b"abcdefghijklmnopqrstuvwxyzABCDEF";
@@ -52,11 +51,9 @@ pub fn slot_mark(i: usize) -> u8
     LETTERS[i]
 }
 
-/// Writes how many pages of the pool are free. Fails only where the writer failed or took none of what it was offered;
-/// a front of the line is then written.
-pub fn print_pool_heading<W: Sink>(free: u32, pages: u32, writer: &mut W) -> Result<(), WriteFailed>
-    ensures { Puts (W.output writer.old) (W.output writer.new) result
-        (shown_line (pool_line free pages) ++ codes "\n") }
+/// Writes how many pages of the pool are free.
+pub fn print_pool_heading<P: Pen>(free: u32, pages: u32, pen: &mut P)
+    ensures { P.offered pen.new ≡ P.offered pen.old ++ (shown_line (pool_line free pages) ++ codes "\n") }
 {
     let mut row = Row::new();
     row.text(b"Pool: ");
@@ -64,29 +61,24 @@ pub fn print_pool_heading<W: Sink>(free: u32, pages: u32, writer: &mut W) -> Res
     row.text(b" of ");
     row.decimal(pages);
     row.text(b" pages free");
-    put_line(row.as_slice(), writer)
+    put_line(row.as_slice(), pen);
 }
 
-/// Writes the heading of the module area. Fails only where the writer failed or took none of what it was offered; a
-/// front of the line is then written.
-pub fn print_module_heading<W: Sink>(pages: u32, writer: &mut W) -> Result<(), WriteFailed>
-    ensures { Puts (W.output writer.old) (W.output writer.new) result
-        (shown_line (heading_line (name_with_mark [] (codes "Module area") 49) (pages_text pages)) ++ codes "\n") }
+/// Writes the heading of the module area.
+pub fn print_module_heading<P: Pen>(pages: u32, pen: &mut P)
+    ensures { P.offered pen.new ≡ P.offered pen.old
+        ++ (shown_line (heading_line (name_with_mark [] (codes "Module area") 49) (pages_text pages)) ++ codes "\n") }
 {
     let mut row = Row::new();
     row.text(b"Module area (1): ");
     add_pages(&mut row, pages);
-    put_line(row.as_slice(), writer)
+    put_line(row.as_slice(), pen);
 }
 
-/// Writes the heading of a slot. Fails only where the writer failed or took none of what it was offered; a front of the
-/// line is then written.
-pub fn print_slot_heading<W: Sink>(
-    slot: &SlotHeading<'_>,
-    writer: &mut W,
-) -> Result<(), WriteFailed>
-    ensures { Puts (W.output writer.old) (W.output writer.new) result
-        (shown_line (heading_line (name_with_mark (codes "Slot ") slot.now.name.now slot.now.mark)
+/// Writes the heading of a slot.
+pub fn print_slot_heading<P: Pen>(slot: &SlotHeading<'_>, pen: &mut P)
+    ensures { P.offered pen.new ≡ P.offered pen.old
+        ++ (shown_line (heading_line (name_with_mark (codes "Slot ") slot.now.name.now slot.now.mark)
         (note_of_slot slot.now.manner slot.now.handle slot.now.buffer slot.now.pages slot.now.budging)) ++ codes "\n") }
 {
     let mut row = Row::new();
@@ -96,7 +88,7 @@ pub fn print_slot_heading<W: Sink>(
     row.byte(slot.mark);
     row.text(b"): ");
     add_slot_note(&mut row, slot);
-    put_line(row.as_slice(), writer)
+    put_line(row.as_slice(), pen);
 }
 
 /// Adds what is said of a slot.

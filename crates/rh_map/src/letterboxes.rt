@@ -5,7 +5,6 @@ ghost use Rattle.std.specs.List.{concat};
 ghost use Rattle.rh_figure.specs.Map.{letterbox_line, shown_line};
 ghost use Rattle.rh_figure.specs.Phrases.{and_more, is_returned, where_so};
 ghost use Rattle.rh_figure.specs.declared.limits.TheConstants.{MAP_COLUMNS, MOST_LISTED};
-ghost use Rattle.rh_lines.specs.Flow.{Puts};
 ghost use Rattle.rh_lines.specs.declared.row.TheConstants.{ROW};
 ghost use Rattle.rh_map.specs.MapMessages.{held_text, mapped_letterbox, message_entry_text, waits_text};
 ghost use Rattle.rh_map.specs.Inner.Filled.{Fills};
@@ -16,7 +15,7 @@ use crate::messages::action_name;
 use crate::numbers::add_more;
 use rh_defs::{Action, EventCode, Name, Ref};
 use rh_figure::limits::MAP_COLUMNS;
-use rh_lines::{Row, Sink, WriteFailed};
+use rh_lines::{Pen, Row};
 
 /// A message as a letterbox has it.
 #[derive(Clone, Copy)]
@@ -26,22 +25,21 @@ pub struct MessageEntry {
     pub code: EventCode,
 }
 
-/// Writes what the task with the name holds, and the first of `count` messages that wait for it. Fails only where the
-/// writer failed or took none of what it was offered; a front of the line is then written.
-pub fn print_letterbox<W: Sink>(
+/// Writes what the task with the name holds, and the first of `count` messages that wait for it.
+pub fn print_letterbox<P: Pen>(
     name: &Name,
     held: Option<MessageEntry>,
     waits: &[MessageEntry],
     count: usize,
-    writer: &mut W,
-) -> Result<(), WriteFailed>
+    pen: &mut P,
+)
     requires few { count ≤ most_messages }
     requires first { length waits.now ≡ min count MOST_LISTED }
-    ensures { Puts (W.output writer.old) (W.output writer.new) result
-        (shown_line (letterbox_line (mapped_letterbox name.now held waits.now count)) ++ codes "\n") }
+    ensures { P.offered pen.new ≡ P.offered pen.old
+        ++ (shown_line (letterbox_line (mapped_letterbox name.now held waits.now count)) ++ codes "\n") }
 {
     let row = letterbox_row(name, held, waits, count);
-    put_line(row.as_slice(), writer)
+    put_line(row.as_slice(), pen);
 }
 
 /// As much of a letterbox as a line shows.

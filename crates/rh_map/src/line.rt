@@ -3,21 +3,19 @@
 ghost use Rattle.std.specs.Prelude.{◌≡◌, ◌≤◌, ◌+◌, ◌++◌, codes, length, map};
 ghost use Rattle.rh_figure.specs.Map.{shown_byte, shown_line};
 ghost use Rattle.rh_figure.specs.declared.limits.TheConstants.{MAP_COLUMNS};
-ghost use Rattle.rh_lines.specs.Flow.{Puts};
 ghost use Rattle.rh_lines.specs.declared.row.TheConstants.{ROW};
 
 use rh_figure::limits::MAP_COLUMNS;
-use rh_lines::{Row, Sink, WriteFailed, put};
+use rh_lines::{Pen, Row};
 
-/// Writes a line of a map: at most 79 columns of the text, in bytes that a terminal shows, and a line feed. Fails only
-/// where the writer failed or took none of what it was offered; a front of the line is then written.
-pub fn put_line<W: Sink>(text: &[u8], writer: &mut W) -> Result<(), WriteFailed>
-    ensures { Puts (W.output writer.old) (W.output writer.new) result (shown_line text.now ++ codes "\n") }
+/// Writes a line of a map: at most 79 columns of the text, in bytes that a terminal shows, and a line feed.
+pub fn put_line<P: Pen>(text: &[u8], pen: &mut P)
+    ensures { P.offered pen.new ≡ P.offered pen.old ++ (shown_line text.now ++ codes "\n") }
 {
     let mut row = Row::new();
     add_line(&mut row, text);
     row.byte(b'\n');
-    put(writer, row.as_slice())
+    pen.put(row.as_slice());
 }
 
 /// Adds the text as it is shown.

@@ -7,7 +7,6 @@ ghost use Rattle.rh_defs.specs.Messages.{code_number};
 ghost use Rattle.rh_defs.specs.Text.{action_name as action_name_of};
 ghost use Rattle.rh_figure.specs.Cards.{between_text};
 ghost use Rattle.rh_figure.specs.Map.{card_line, shown_line};
-ghost use Rattle.rh_lines.specs.Flow.{Puts};
 ghost use Rattle.rh_lines.specs.declared.row.TheConstants.{ROW};
 ghost use Rattle.rh_map.specs.MapMessages.{card_of, place_text};
 ghost use Rattle.rh_map.specs.MapTasks.{who_text};
@@ -15,7 +14,7 @@ ghost use Rattle.rh_map.specs.MapTasks.{who_text};
 use crate::cards::print_card;
 use crate::who::{Who, add_who};
 use rh_defs::{Action, EventCode, Ref};
-use rh_lines::{Row, Sink, WriteFailed};
+use rh_lines::{Pen, Row};
 
 /// Where a message stands in the chain of its task.
 #[derive(Clone, Copy)]
@@ -41,19 +40,14 @@ pub struct CardMessage<'a> {
     pub fresh: bool,
 }
 
-/// Writes the card of a message. Fails only where the writer failed or took none of what it was offered; a front of the
-/// line is then written.
-pub fn print_message_card<W: Sink>(
-    message: &CardMessage<'_>,
-    writer: &mut W,
-) -> Result<(), WriteFailed>
-    ensures { Puts (W.output writer.old) (W.output writer.new) result
-        (shown_line (card_line (card_of message.now)) ++ codes "\n") }
+/// Writes the card of a message.
+pub fn print_message_card<P: Pen>(message: &CardMessage<'_>, pen: &mut P)
+    ensures { P.offered pen.new ≡ P.offered pen.old ++ (shown_line (card_line (card_of message.now)) ++ codes "\n") }
 {
     let name = message_name(message.my_ref, message.action);
     let way = message_way(message.code, &message.from, &message.to);
     let place = message_place(message.code, message.place);
-    print_card(&name, &way, &place, message.fresh, writer)
+    print_card(&name, &way, &place, message.fresh, pen);
 }
 
 /// A message's ref and action.

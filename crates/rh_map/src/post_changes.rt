@@ -6,7 +6,6 @@ ghost use Rattle.std.specs.Fmt.{decimal};
 ghost use Rattle.rh_defs.specs.Text.{action_name as action_name_of};
 ghost use Rattle.rh_figure.specs.Changes.{bytes_line, returns_line, sends_line, takes_line};
 ghost use Rattle.rh_figure.specs.Map.{shown_line};
-ghost use Rattle.rh_lines.specs.Flow.{Puts};
 ghost use Rattle.rh_lines.specs.declared.row.TheConstants.{ROW};
 ghost use Rattle.rh_map.specs.MapTasks.{who_text};
 
@@ -15,20 +14,14 @@ use crate::messages::action_name;
 use crate::phrases::add_size;
 use crate::who::{Who, add_who};
 use rh_defs::{Action, Ref};
-use rh_lines::{Row, Sink, WriteFailed};
+use rh_lines::{Pen, Row};
 
-/// Writes that a message goes back to a task. Fails only where the writer failed or took none of what it was offered; a
-/// front of the line is then written.
-pub fn print_returns<W: Sink>(
-    action: Action,
-    my_ref: Ref,
-    to: &Who<'_>,
-    writer: &mut W,
-) -> Result<(), WriteFailed>
-    ensures { Puts (W.output writer.old) (W.output writer.new) result
-        (shown_line (codes "  " ++ returns_line action my_ref (who_text to.now)) ++ codes "\n") }
+/// Writes that a message goes back to a task.
+pub fn print_returns<P: Pen>(action: Action, my_ref: Ref, to: &Who<'_>, pen: &mut P)
+    ensures { P.offered pen.new ≡ P.offered pen.old
+        ++ (shown_line (codes "  " ++ returns_line action my_ref (who_text to.now)) ++ codes "\n") }
 {
-    print_change(&message_returns(action, my_ref, to), writer)
+    print_change(&message_returns(action, my_ref, to), pen);
 }
 
 /// That a message goes back to a task.
@@ -43,18 +36,12 @@ pub fn message_returns(action: Action, my_ref: Ref, to: &Who<'_>) -> Row
     row
 }
 
-/// Writes that a task takes a message. Fails only where the writer failed or took none of what it was offered; a front
-/// of the line is then written.
-pub fn print_takes<W: Sink>(
-    who: &Who<'_>,
-    action: Action,
-    my_ref: Ref,
-    writer: &mut W,
-) -> Result<(), WriteFailed>
-    ensures { Puts (W.output writer.old) (W.output writer.new) result
-        (shown_line (codes "  " ++ takes_line (who_text who.now) action my_ref) ++ codes "\n") }
+/// Writes that a task takes a message.
+pub fn print_takes<P: Pen>(who: &Who<'_>, action: Action, my_ref: Ref, pen: &mut P)
+    ensures { P.offered pen.new ≡ P.offered pen.old
+        ++ (shown_line (codes "  " ++ takes_line (who_text who.now) action my_ref) ++ codes "\n") }
 {
-    print_change(&task_takes(who, action, my_ref), writer)
+    print_change(&task_takes(who, action, my_ref), pen);
 }
 
 /// That a task takes a message.
@@ -69,18 +56,12 @@ pub fn task_takes(who: &Who<'_>, action: Action, my_ref: Ref) -> Row
     row
 }
 
-/// Writes that so many bytes went into the buffer of a task at an address. Fails only where the writer failed or took
-/// none of what it was offered; a front of the line is then written.
-pub fn print_bytes_sent<W: Sink>(
-    count: u32,
-    to: &Who<'_>,
-    buffer: u32,
-    writer: &mut W,
-) -> Result<(), WriteFailed>
-    ensures { Puts (W.output writer.old) (W.output writer.new) result
-        (shown_line (codes "  " ++ bytes_line count (who_text to.now) buffer) ++ codes "\n") }
+/// Writes that so many bytes went into the buffer of a task at an address.
+pub fn print_bytes_sent<P: Pen>(count: u32, to: &Who<'_>, buffer: u32, pen: &mut P)
+    ensures { P.offered pen.new ≡ P.offered pen.old
+        ++ (shown_line (codes "  " ++ bytes_line count (who_text to.now) buffer) ++ codes "\n") }
 {
-    print_change(&bytes_sent(count, to, buffer), writer)
+    print_change(&bytes_sent(count, to, buffer), pen);
 }
 
 /// That so many bytes went into the buffer of a task at an address.
@@ -97,19 +78,12 @@ pub fn bytes_sent(count: u32, to: &Who<'_>, buffer: u32) -> Row
     row
 }
 
-/// Writes that a task sends a message to another. Fails only where the writer failed or took none of what it was
-/// offered; a front of the line is then written.
-pub fn print_sends<W: Sink>(
-    from: &Who<'_>,
-    action: Action,
-    my_ref: Ref,
-    to: &Who<'_>,
-    writer: &mut W,
-) -> Result<(), WriteFailed>
-    ensures { Puts (W.output writer.old) (W.output writer.new) result
-        (shown_line (codes "  " ++ sends_line (who_text from.now) action my_ref (who_text to.now)) ++ codes "\n") }
+/// Writes that a task sends a message to another.
+pub fn print_sends<P: Pen>(from: &Who<'_>, action: Action, my_ref: Ref, to: &Who<'_>, pen: &mut P)
+    ensures { P.offered pen.new ≡ P.offered pen.old
+        ++ (shown_line (codes "  " ++ sends_line (who_text from.now) action my_ref (who_text to.now)) ++ codes "\n") }
 {
-    print_change(&task_sends(from, action, my_ref, to), writer)
+    print_change(&task_sends(from, action, my_ref, to), pen);
 }
 
 /// That a task sends a message to another.

@@ -7,7 +7,6 @@ ghost use Rattle.rh_figure.specs.Map.{shown_line};
 ghost use Rattle.rh_figure.specs.Phrases.{pages_text};
 ghost use Rattle.rh_figure.specs.declared.limits.TheConstants.{CELL_BYTES, MAP_CELLS, MOST_ROWS};
 ghost use Rattle.rh_defs.specs.declared.sizes.TheConstants.{MAX_PAGES};
-ghost use Rattle.rh_lines.specs.Flow.{Puts};
 ghost use Rattle.rh_lines.specs.declared.row.TheConstants.{ROW};
 ghost use Rattle.rh_map.specs.Written.{area_of, shown_lines};
 
@@ -18,7 +17,7 @@ use crate::text::{add_to_right, trimmed};
 use rh_defs::sizes::PAGE;
 use rh_figure::Piece;
 use rh_figure::limits::{CELL_BYTES, EDGE_ROWS, MAP_CELLS, MOST_ROWS};
-use rh_lines::{Row, Sink, WriteFailed};
+use rh_lines::{Pen, Row};
 
 /// The bytes of an area: its first address, the numbers of its pages in the pool from below, and what lies in it.
 #[derive(Clone, Copy)]
@@ -56,12 +55,12 @@ pub(crate) fn row_front(at: &[u8], number: &[u8]) -> Row
 }
 
 /// Writes the row of page k of an area.
-fn print_page<W: Sink>(area: &Area<'_>, k: usize, writer: &mut W) -> Result<(), WriteFailed>
+fn print_page<P: Pen>(area: &Area<'_>, k: usize, pen: &mut P)
     requires start { area.now.start < 2 ^ 31 }
     requires few { length area.now.pages.now ≤ MAX_PAGES }
     requires within { k < length area.now.pages.now }
-    ensures { Puts (W.output writer.old) (W.output writer.new) result
-        (shown_line (page_row (area_of area.now.start area.now.pages.now area.now.pieces.now) k) ++ codes "\n") }
+    ensures { P.offered pen.new ≡ P.offered pen.old
+        ++ (shown_line (page_row (area_of area.now.start area.now.pages.now area.now.pieces.now) k) ++ codes "\n") }
 {
     let at = PAGE * k;
     let mut address = Row::new();
@@ -70,51 +69,49 @@ fn print_page<W: Sink>(area: &Area<'_>, k: usize, writer: &mut W) -> Result<(), 
     number.decimal(u32::from(area.pages[k]));
     let mut row = row_front(address.as_slice(), number.as_slice());
     add_cells(&mut row, area.pieces, at);
-    put_line(trimmed(row.as_slice()), writer)
+    put_line(trimmed(row.as_slice()), pen);
 }
 
 /// Writes the row that counts the pages between those shown.
-fn print_between<W: Sink>(pages: u32, writer: &mut W) -> Result<(), WriteFailed>
-    ensures { Puts (W.output writer.old) (W.output writer.new) result
-        (shown_line (map_row [] [] (pages_text pages ++ codes " between")) ++ codes "\n") }
+fn print_between<P: Pen>(pages: u32, pen: &mut P)
+    ensures { P.offered pen.new ≡ P.offered pen.old
+        ++ (shown_line (map_row [] [] (pages_text pages ++ codes " between")) ++ codes "\n") }
 {
     let mut row = row_front(b"", b"");
     add_pages(&mut row, pages);
     row.text(b" between");
-    put_line(trimmed(row.as_slice()), writer)
+    put_line(trimmed(row.as_slice()), pen);
 }
 
 /// Writes row i from below of an area, of which the rows between may be left out.
-fn print_row<W: Sink>(area: &Area<'_>, i: usize, writer: &mut W) -> Result<(), WriteFailed>
+fn print_row<P: Pen>(area: &Area<'_>, i: usize, pen: &mut P)
     requires start { area.now.start < 2 ^ 31 }
     requires few { length area.now.pages.now ≤ MAX_PAGES }
     requires within { i < min (length area.now.pages.now) MOST_ROWS }
-    ensures { Puts (W.output writer.old) (W.output writer.new) result
-        (shown_line (area_row (area_of area.now.start area.now.pages.now area.now.pieces.now)
+    ensures { P.offered pen.new ≡ P.offered pen.old
+        ++ (shown_line (area_row (area_of area.now.start area.now.pages.now area.now.pieces.now)
         (length area.now.pages.now) i) ++ codes "\n") }
 {
     let count = area.pages.len();
     if count <= MOST_ROWS || i < EDGE_ROWS {
-        return print_page(area, i, writer);
+        print_page(area, i, pen);
+    } else if i == EDGE_ROWS {
+        print_between((count - 2 * EDGE_ROWS) as u32, pen);
+    } else {
+        print_page(area, count + i - MOST_ROWS, pen);
     }
-    if i == EDGE_ROWS {
-        return print_between((count - 2 * EDGE_ROWS) as u32, writer);
-    }
-    print_page(area, count + i - MOST_ROWS, writer)
 }
 
-/// Writes the rows of an area, the highest first. Fails only where the writer failed or took none of what it was
-/// offered; a front of the rows is then written.
-pub fn print_area<W: Sink>(area: &Area<'_>, writer: &mut W) -> Result<(), WriteFailed>
+/// Writes the rows of an area, the highest first.
+pub fn print_area<P: Pen>(area: &Area<'_>, pen: &mut P)
     requires start { area.now.start < 2 ^ 31 }
     requires few { length area.now.pages.now ≤ MAX_PAGES }
-    ensures { Puts (W.output writer.old) (W.output writer.new) result
-        (shown_lines (area_rows (area_of area.now.start area.now.pages.now area.now.pieces.now))) }
+    ensures { P.offered pen.new ≡ P.offered pen.old
+        ++ shown_lines (area_rows (area_of area.now.start area.now.pages.now area.now.pieces.now)) }
 {
     let mut i = area.pages.len().min(MOST_ROWS);
     while i > 0 {
         i -= 1;
-        print_row(area, i, writer)?;
+        print_row(area, i, pen);
     }
-    Ok(())
 }

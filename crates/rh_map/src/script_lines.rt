@@ -5,7 +5,6 @@ ghost use Rattle.rh_defs.specs.Line.{nth_word, words_of};
 ghost use Rattle.rh_figure.specs.Map.{is_mark as is_mark_of, remark_lines, shown_line};
 ghost use Rattle.rh_figure.specs.Phrases.{cut};
 ghost use Rattle.rh_figure.specs.declared.limits.TheConstants.{LINE_COLUMNS};
-ghost use Rattle.rh_lines.specs.Flow.{Puts};
 ghost use Rattle.rh_map.specs.Inner.MapScript.{BeginsWord};
 ghost use Rattle.rh_map.specs.Written.{shown_lines};
 
@@ -13,7 +12,7 @@ use crate::line::put_line;
 use crate::steps::add_cut;
 use memchr::memchr;
 use rh_figure::limits::LINE_COLUMNS;
-use rh_lines::{Row, Sink, WriteFailed};
+use rh_lines::{Pen, Row};
 
 /// The first word of a mark.
 const MARK: &[u8] = b"#picture";
@@ -32,25 +31,22 @@ pub fn has_words(line: &[u8]) -> bool
     !first_word(line).is_empty()
 }
 
-/// Writes a line that is skipped, if it has words. Fails only where the writer failed or took none of what it was
-/// offered; a front of the line is then written.
-pub fn print_remark<W: Sink>(line: &[u8], writer: &mut W) -> Result<(), WriteFailed>
-    ensures { Puts (W.output writer.old) (W.output writer.new) result (shown_lines (remark_lines line.now)) }
+/// Writes a line that is skipped, if it has words.
+pub fn print_remark<P: Pen>(line: &[u8], pen: &mut P)
+    ensures { P.offered pen.new ≡ P.offered pen.old ++ shown_lines (remark_lines line.now) }
 {
-    if first_word(line).is_empty() {
-        return Ok(());
+    if has_words(line) {
+        print_cut(line, pen);
     }
-    print_cut(line, writer)
 }
 
 /// Writes a line of a script.
-fn print_cut<W: Sink>(line: &[u8], writer: &mut W) -> Result<(), WriteFailed>
-    ensures { Puts (W.output writer.old) (W.output writer.new) result
-        (shown_line (cut LINE_COLUMNS line.now) ++ codes "\n") }
+fn print_cut<P: Pen>(line: &[u8], pen: &mut P)
+    ensures { P.offered pen.new ≡ P.offered pen.old ++ (shown_line (cut LINE_COLUMNS line.now) ++ codes "\n") }
 {
     let mut row = Row::new();
     add_cut(&mut row, LINE_COLUMNS, line);
-    put_line(row.as_slice(), writer)
+    put_line(row.as_slice(), pen);
 }
 
 /// The first word of a line, or no bytes where it has no words.

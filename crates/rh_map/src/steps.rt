@@ -4,58 +4,50 @@ ghost use Rattle.std.specs.Prelude.{◌≡◌, ◌≤◌, ◌+◌, [], ◌∷◌
 ghost use Rattle.rh_figure.specs.Map.{more_lines, shown_line, step_line};
 ghost use Rattle.rh_figure.specs.Phrases.{cut};
 ghost use Rattle.rh_figure.specs.declared.limits.TheConstants.{REPLY_COLUMNS};
-ghost use Rattle.rh_lines.specs.Flow.{Puts};
 ghost use Rattle.rh_lines.specs.declared.row.TheConstants.{ROW};
 ghost use Rattle.rh_map.specs.Written.{shown_lines};
 
 use crate::line::put_line;
 use rh_figure::limits::{LINE_COLUMNS, REPLY_COLUMNS};
-use rh_lines::{Row, Sink, WriteFailed};
+use rh_lines::{Pen, Row};
 
-/// Writes the number of a step and its line of the script. Fails only where the writer failed or took none of what it
-/// was offered; a front of the line is then written.
-pub fn print_step_line<W: Sink>(number: u32, line: &[u8], writer: &mut W) -> Result<(), WriteFailed>
-    ensures { Puts (W.output writer.old) (W.output writer.new) result
-        (shown_line (step_line number line.now) ++ codes "\n") }
+/// Writes the number of a step and its line of the script.
+pub fn print_step_line<P: Pen>(number: u32, line: &[u8], pen: &mut P)
+    ensures { P.offered pen.new ≡ P.offered pen.old ++ (shown_line (step_line number line.now) ++ codes "\n") }
 {
     let mut row = Row::new();
     row.decimal(number);
     row.text(b"  ");
     add_cut(&mut row, LINE_COLUMNS, line);
-    put_line(row.as_slice(), writer)
+    put_line(row.as_slice(), pen);
 }
 
-/// Writes a line of a reply. Fails only where the writer failed or took none of what it was offered; a front of the
-/// line is then written.
-pub fn print_reply_line<W: Sink>(line: &[u8], writer: &mut W) -> Result<(), WriteFailed>
-    ensures { Puts (W.output writer.old) (W.output writer.new) result
-        (shown_line (cut REPLY_COLUMNS line.now) ++ codes "\n") }
+/// Writes a line of a reply.
+pub fn print_reply_line<P: Pen>(line: &[u8], pen: &mut P)
+    ensures { P.offered pen.new ≡ P.offered pen.old ++ (shown_line (cut REPLY_COLUMNS line.now) ++ codes "\n") }
 {
     let mut row = Row::new();
     add_cut(&mut row, REPLY_COLUMNS, line);
-    put_line(row.as_slice(), writer)
+    put_line(row.as_slice(), pen);
 }
 
-/// Writes how many lines of a reply are left out. Fails only where the writer failed or took none of what it was
-/// offered; a front of the line is then written.
-pub fn print_more_lines<W: Sink>(count: u32, writer: &mut W) -> Result<(), WriteFailed>
-    ensures { Puts (W.output writer.old) (W.output writer.new) result (shown_line (more_lines count) ++ codes "\n") }
+/// Writes how many lines of a reply are left out.
+pub fn print_more_lines<P: Pen>(count: u32, pen: &mut P)
+    ensures { P.offered pen.new ≡ P.offered pen.old ++ (shown_line (more_lines count) ++ codes "\n") }
 {
     let mut row = Row::new();
     row.text(b"  and ");
     row.decimal(count);
     row.text(b" lines more");
-    put_line(row.as_slice(), writer)
+    put_line(row.as_slice(), pen);
 }
 
-/// Writes that memory stays as it was, and an empty line. Fails only where the writer failed or took none of what it
-/// was offered; a front of the lines is then written.
-pub fn print_still<W: Sink>(writer: &mut W) -> Result<(), WriteFailed>
-    ensures { Puts (W.output writer.old) (W.output writer.new) result
-        (shown_lines (codes "  (memory stays)" ∷ [] ∷ [])) }
+/// Writes that memory stays as it was, and an empty line.
+pub fn print_still<P: Pen>(pen: &mut P)
+    ensures { P.offered pen.new ≡ P.offered pen.old ++ shown_lines (codes "  (memory stays)" ∷ [] ∷ []) }
 {
-    put_line(b"  (memory stays)", writer)?;
-    put_line(b"", writer)
+    put_line(b"  (memory stays)", pen);
+    put_line(b"", pen);
 }
 
 /// Adds a text, cut with two dots behind it where it is longer than `most` bytes.

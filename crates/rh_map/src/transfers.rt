@@ -4,13 +4,12 @@ ghost use Rattle.std.specs.Prelude.{◌≡◌, ◌≤◌, ◌+◌, ◌++◌, cod
 ghost use Rattle.std.specs.Option.{option_map};
 ghost use Rattle.rh_defs.specs.Text.{state_name as state_name_of};
 ghost use Rattle.rh_figure.specs.Map.{shown_line, side_text, transfer_line};
-ghost use Rattle.rh_lines.specs.Flow.{Puts};
 ghost use Rattle.rh_lines.specs.declared.row.TheConstants.{ROW};
 ghost use Rattle.rh_map.specs.Sides.{side_of};
 
 use crate::line::put_line;
 use rh_defs::{Name, RecordItem, Ref, State};
-use rh_lines::{Row, Sink, WriteFailed};
+use rh_lines::{Pen, Row};
 
 /// A side of a transfer: the name of its task, and its record.
 #[derive(Clone, Copy)]
@@ -19,16 +18,14 @@ pub struct Side<'a> {
     pub record: RecordItem,
 }
 
-/// Writes the line of a transfer, of which either side may be gone. Fails only where the writer failed or took none of
-/// what it was offered; a front of the line is then written.
-pub fn print_transfer<W: Sink>(
+/// Writes the line of a transfer, of which either side may be gone.
+pub fn print_transfer<P: Pen>(
     id: Ref,
     goes_out: &Option<Side<'_>>,
     comes_in: &Option<Side<'_>>,
-    writer: &mut W,
-) -> Result<(), WriteFailed>
-    ensures { Puts (W.output writer.old) (W.output writer.new) result
-        (shown_line (transfer_line
+    pen: &mut P,
+)
+    ensures { P.offered pen.new ≡ P.offered pen.old ++ (shown_line (transfer_line
         (record { id = id; goes_out = option_map side_of goes_out.now; comes_in = option_map side_of comes_in.now }))
         ++ codes "\n") }
 {
@@ -41,7 +38,7 @@ pub fn print_transfer<W: Sink>(
         row.text(b"; ");
     }
     add_side(&mut row, b"in ", comes_in);
-    put_line(row.as_slice(), writer)
+    put_line(row.as_slice(), pen);
 }
 
 /// Adds a side of a transfer, if there is one.

@@ -6,5 +6,5 @@ use Rattle.rh_map.proofs.pool.print_pool.Given as goal
 -- the rows from the index on are left
 abbrev pub invariant-loop-i : goal.invariant-loop-i
 invariant-loop-i g l =
-    Left (g.W.Sink.output l.initial.writer) (g.W.Sink.output l.writer) (shown_lines (marks_rows l.marks))
+    Left (g.P.Pen.offered l.initial.pen) (g.P.Pen.offered l.pen) (shown_lines (marks_rows l.marks))
     (shown_lines (map (marks_row l.marks) (range_with_len l.i ((length l.marks + 63) / 64 - l.i))))

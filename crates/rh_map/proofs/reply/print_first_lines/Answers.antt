@@ -1,18 +1,11 @@
 use Rattle.rh_map.proofs.Common.{◌-◌, arith, lines_in}
-use Rattle.rh_map.proofs.Left.{left_less, left_breaks}
+use Rattle.rh_map.proofs.Left.{left_less}
 use Rattle.rh_map.proofs.SeamLemmas.{first-next}
 use Rattle.rh_map.proofs.reply.print_first_lines.Goals as goal
 
 pub loop-left-preserved : goal.loop-left-preserved
 loop-left-preserved g c =
-    left_less c.loop-left.invariant
+    left_less _ c.loop-left.invariant
     (first-next (lines_in c.loop-left.rest.now) (lines_in c.in-Some.behind.now) c.in-Some.line.now c.loop-left.left
     (c.loop-left.left - 1) (omega arith) c.in-Some.ensures.some)
-    c.in_ok-print_reply_line.ensures.ok
-
-pub returns-in_err-print_reply_line : goal.returns-in_err-print_reply_line
-returns-in_err-print_reply_line g c =
-    left_breaks _ _ c.loop-left.invariant
-    (first-next (lines_in c.loop-left.rest.now) (lines_in c.in-Some.behind.now) c.in-Some.line.now c.loop-left.left
-    (c.loop-left.left - 1) (omega arith) c.in-Some.ensures.some)
-    c.in_err-print_reply_line.ensures c.from_residual.ensures.0
+    c.print_reply_line.ensures

@@ -9,7 +9,7 @@ use Rattle.rh_map.proofs.rows.print_area.Given as goal
 abbrev pub invariant-loop-i : goal.invariant-loop-i
 invariant-loop-i g l = record {
   within : l.i ≤ min (length l.area.pages.now) MOST_ROWS;
-  left : Left (g.W.Sink.output l.initial.writer) (g.W.Sink.output l.writer)
+  left : Left (g.P.Pen.offered l.initial.pen) (g.P.Pen.offered l.pen)
       (shown_lines (area_rows (area_of l.area.start l.area.pages.now l.area.pieces.now)))
       (shown_lines (rows_down (area_of l.area.start l.area.pages.now l.area.pieces.now) (length l.area.pages.now) l.i));
 }
