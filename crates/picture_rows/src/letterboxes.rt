@@ -1,7 +1,7 @@
 //! Letterboxes of a task on a map: what it holds, and what waits for it.
 
 use rh_defs::{Action, EventCode, Name, Ref};
-use rh_lines::{Sink, WriteFailed};
+use rh_lines::Pen;
 use rh_map::{MessageEntry, print_letterbox};
 
 /// A message that the task may hold, or that waits for it.
@@ -22,8 +22,8 @@ const BACK: MessageEntry = MessageEntry {
 const WAITING: [MessageEntry; 12] = [SAVE; 12];
 
 /// A letterbox that holds a message, one in which two wait as well, and one in which fourteen wait.
-pub(crate) fn print_letterboxes<W: Sink>(b: &Name, output: &mut W) -> Result<(), WriteFailed> {
-    print_letterbox(b, Some(SAVE), &[], 0, output)?;
-    print_letterbox(b, Some(SAVE), &[BACK, SAVE], 2, output)?;
-    print_letterbox(b, None, &WAITING, 14, output)
+pub(crate) fn print_letterboxes<P: Pen>(b: &Name, pen: &mut P) {
+    print_letterbox(b, Some(SAVE), &[], 0, pen);
+    print_letterbox(b, Some(SAVE), &[BACK, SAVE], 2, pen);
+    print_letterbox(b, None, &WAITING, 14, pen);
 }

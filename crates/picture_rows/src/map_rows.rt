@@ -1,20 +1,20 @@
 //! Rows of areas and of the pool on a map, and the characters of their bytes.
 
 use rh_figure::{Kind, Piece};
-use rh_lines::{Sink, WriteFailed, put};
+use rh_lines::Pen;
 use rh_map::{Area, area_mark, cell_mark, print_area, print_pool, put_line, slot_mark};
 
 /// Rows of a slot, of a long area and of the pool, and then characters.
-pub(crate) fn print_rows<W: Sink>(output: &mut W) -> Result<(), WriteFailed> {
-    print_slot(output)?;
-    print_long_area(output)?;
+pub(crate) fn print_rows<P: Pen>(pen: &mut P) {
+    print_slot(pen);
+    print_long_area(pen);
     let marks = b"................................................................a1";
-    print_pool(marks, output)?;
-    put(output, &marks_of_cells())?;
-    put(output, &[area_mark(5), area_mark(256)])?;
-    put(output, &[slot_mark(0), slot_mark(31), b'\n'])?;
-    put_line(&[b'a'; 79], output)?;
-    put_line(&[9; 80], output)
+    print_pool(marks, pen);
+    pen.put(&marks_of_cells());
+    pen.put(&[area_mark(5), area_mark(256)]);
+    pen.put(&[slot_mark(0), slot_mark(31), b'\n']);
+    put_line(&[b'a'; 79], pen);
+    put_line(&[9; 80], pen);
 }
 
 fn piece(kind: Kind, at: usize, size: usize) -> Piece {
@@ -27,7 +27,7 @@ fn piece(kind: Kind, at: usize, size: usize) -> Piece {
 }
 
 /// A slot with anchor words, an empty C heap and a flex block.
-fn print_slot<W: Sink>(output: &mut W) -> Result<(), WriteFailed> {
+fn print_slot<P: Pen>(pen: &mut P) {
     let block = Kind::FlexBlock { anchor: 0, size: 5 };
     let area = Area {
         start: 0x8000,
@@ -40,11 +40,11 @@ fn print_slot<W: Sink>(output: &mut W) -> Result<(), WriteFailed> {
             piece(Kind::Unused, 4112, 4080),
         ],
     };
-    print_area(&area, output)
+    print_area(&area, pen);
 }
 
 /// An area of 18 pages, of which two are left out.
-fn print_long_area<W: Sink>(output: &mut W) -> Result<(), WriteFailed> {
+fn print_long_area<P: Pen>(pen: &mut P) {
     let area = Area {
         start: 0x180_0000,
         pages: &[
@@ -52,7 +52,7 @@ fn print_long_area<W: Sink>(output: &mut W) -> Result<(), WriteFailed> {
         ],
         pieces: &[],
     };
-    print_area(&area, output)
+    print_area(&area, pen);
 }
 
 /// The characters of a block, of a block and a message in one, of a hole, and of no piece.

@@ -1,15 +1,11 @@
 //! Cards of messages on a map: of the last one, of one before another, and of one that is back.
 
 use rh_defs::{Action, EventCode, Handle, Name, Ref};
-use rh_lines::{Sink, WriteFailed};
+use rh_lines::Pen;
 use rh_map::{CardMessage, ChainPlace, Who, print_message_card};
 
 /// A card of each kind, of messages between two tasks.
-pub(crate) fn print_messages<W: Sink>(
-    a: &Name,
-    b: &Name,
-    output: &mut W,
-) -> Result<(), WriteFailed> {
+pub(crate) fn print_messages<P: Pen>(a: &Name, b: &Name, pen: &mut P) {
     let save = CardMessage {
         my_ref: Ref(1),
         action: Action::DataSave,
@@ -19,7 +15,7 @@ pub(crate) fn print_messages<W: Sink>(
         place: ChainPlace::Last,
         fresh: true,
     };
-    print_message_card(&save, output)?;
+    print_message_card(&save, pen);
     let fetch = CardMessage {
         my_ref: Ref(9),
         action: Action::RamFetch,
@@ -29,7 +25,7 @@ pub(crate) fn print_messages<W: Sink>(
         place: ChainPlace::Before(Ref(10)),
         fresh: false,
     };
-    print_message_card(&fetch, output)?;
+    print_message_card(&fetch, pen);
     let back = CardMessage {
         my_ref: Ref(3),
         action: Action::DataSave,
@@ -39,5 +35,5 @@ pub(crate) fn print_messages<W: Sink>(
         place: ChainPlace::Held,
         fresh: false,
     };
-    print_message_card(&back, output)
+    print_message_card(&back, pen);
 }
