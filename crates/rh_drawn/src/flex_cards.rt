@@ -1,6 +1,6 @@
 //! The cards of a task's flex blocks.
 
-ghost use Rattle.std.specs.Prelude.{◌≡◌, ◌≤◌, ◌<◌, ◌∷◌, [], ℕ, length, slice_get, take, Some};
+ghost use Rattle.std.specs.Prelude.{◌≡◌, ◌≤◌, ◌<◌, ◌∷◌, ◌++◌, [], ℕ, length, slice_get, take, Some};
 ghost use Rattle.rh_defs.specs.Slot.{anchor_count};
 ghost use Rattle.rh_defs.specs.Desk.{Desk, Task};
 ghost use Rattle.rh_defs.specs.Questions.{block_items};
@@ -9,7 +9,6 @@ ghost use Rattle.rh_drawn.specs.DrawnCards.{card_lines, place_behind};
 ghost use Rattle.rh_drawn.specs.Inner.CardsBehind.{cards_behind};
 ghost use Rattle.rh_figure.specs.Cards.{Card, flex_cards, shown_cards};
 ghost use Rattle.rh_figure.specs.Layout.{is_fresh_flex as is_fresh_flex_in};
-ghost use Rattle.rh_lines.specs.Flow.{Puts};
 ghost use Rattle.rh_map.specs.Written.{shown_lines};
 ghost use Rattle.rh_sight.specs.Seen.{IsTaskSeen};
 ghost use Rattle.rh_sight.specs.Steps.{scene_at};
@@ -18,82 +17,77 @@ use crate::cards::{front_length, print_others, shown_count};
 use crate::usage::use_of_block;
 use rh_defs::BlockItem;
 use rh_figure::limits::{CARD_BYTES, MOST_CARDS};
-use rh_lines::{Sink, WriteFailed};
+use rh_lines::Pen;
 use rh_map::{CardBlock, print_flex_card};
 use rh_sight::{Sight, Step, TaskSight, is_fresh_flex};
 
-/// Writes the cards of a task's flex blocks, from below. Fails only where the writer failed or took none of what it
-/// was offered; a front of the lines is then written.
-pub fn print_flex_cards<S: Sight, W: Sink>(
+/// Writes the cards of a task's flex blocks, from below.
+pub fn print_flex_cards<S: Sight, P: Pen>(
     sight: &S,
     step: &Step<'_>,
     i: usize,
     task: &TaskSight<'_>,
     blocks: &[BlockItem],
-    writer: &mut W,
-) -> Result<(), WriteFailed>
+    pen: &mut P,
+)
     requires task { (t : Task) × (slice_get (S.desk sight.now).tasks i ≡ Some t) × IsTaskSeen task.now t
         × (blocks.now ≡ block_items t.slot) }
     requires few { length blocks.now ≤ anchor_count }
-    ensures { (t : Task) → slice_get (S.desk sight.now).tasks i ≡ Some t
-        → Puts (W.output writer.old) (W.output writer.new) result
-        (shown_lines (card_lines (shown_cards (flex_cards (scene_at (S.desk sight.now) step.now) t)))) }
+    ensures { (t : Task) → slice_get (S.desk sight.now).tasks i ≡ Some t → P.offered pen.new ≡ P.offered pen.old
+        ++ shown_lines (card_lines (shown_cards (flex_cards (scene_at (S.desk sight.now) step.now) t))) }
 {
     let shown = shown_count(blocks.len());
-    print_first(sight, step, i, task, blocks, shown, writer)?;
+    print_first(sight, step, i, task, blocks, shown, pen);
     if shown == blocks.len() {
-        return Ok(());
+        return;
     }
-    print_behind(sight, step, i, task, blocks, writer)
+    print_behind(sight, step, i, task, blocks, pen);
 }
 
 /// Writes the cards of the first blocks.
-fn print_first<S: Sight, W: Sink>(
+fn print_first<S: Sight, P: Pen>(
     sight: &S,
     step: &Step<'_>,
     i: usize,
     task: &TaskSight<'_>,
     blocks: &[BlockItem],
     shown: usize,
-    writer: &mut W,
-) -> Result<(), WriteFailed>
+    pen: &mut P,
+)
     requires task { (t : Task) × (slice_get (S.desk sight.now).tasks i ≡ Some t) × IsTaskSeen task.now t
         × (blocks.now ≡ block_items t.slot) }
     requires few { shown ≤ length blocks.now }
-    ensures { (t : Task) → slice_get (S.desk sight.now).tasks i ≡ Some t
-        → Puts (W.output writer.old) (W.output writer.new) result
-        (shown_lines (card_lines (take shown (flex_cards (scene_at (S.desk sight.now) step.now) t)))) }
+    ensures { (t : Task) → slice_get (S.desk sight.now).tasks i ≡ Some t → P.offered pen.new ≡ P.offered pen.old
+        ++ shown_lines (card_lines (take shown (flex_cards (scene_at (S.desk sight.now) step.now) t))) }
 {
     for k in 0..shown {
-        print_flex(sight, step, i, task, &blocks[k], writer)?;
+        print_flex(sight, step, i, task, &blocks[k], pen);
     }
-    Ok(())
 }
 
 /// Writes the card of the first changed block of those behind the first 22, and how many are left out.
-fn print_behind<S: Sight, W: Sink>(
+fn print_behind<S: Sight, P: Pen>(
     sight: &S,
     step: &Step<'_>,
     i: usize,
     task: &TaskSight<'_>,
     blocks: &[BlockItem],
-    writer: &mut W,
-) -> Result<(), WriteFailed>
+    pen: &mut P,
+)
     requires task { (t : Task) × (slice_get (S.desk sight.now).tasks i ≡ Some t) × IsTaskSeen task.now t
         × (blocks.now ≡ block_items t.slot) }
     requires many { 24 < length blocks.now }
     requires few { length blocks.now ≤ anchor_count }
-    ensures { (t : Task) → slice_get (S.desk sight.now).tasks i ≡ Some t
-        → Puts (W.output writer.old) (W.output writer.new) result
-        (shown_lines (card_lines (cards_behind (flex_cards (scene_at (S.desk sight.now) step.now) t)))) }
+    ensures { (t : Task) → slice_get (S.desk sight.now).tasks i ≡ Some t → P.offered pen.new ≡ P.offered pen.old
+        ++ shown_lines (card_lines (cards_behind (flex_cards (scene_at (S.desk sight.now) step.now) t))) }
 {
     let shown = MOST_CARDS - 2;
     match next_fresh(step, task, blocks, shown) {
         Some(k) => {
-            print_flex(sight, step, i, task, &blocks[k], writer)?;
-            print_others(blocks.len() - shown, true, writer)
+            print_flex(sight, step, i, task, &blocks[k], pen);
+            print_others(blocks.len() - shown, true, pen);
         }
-        None => print_others(blocks.len() - shown, false, writer),
+        None => print_others(blocks.len() - shown, false, pen),
     }
 }
 
@@ -118,20 +112,20 @@ pub fn next_fresh(
 }
 
 /// Writes the card of a block of a task.
-fn print_flex<S: Sight, W: Sink>(
+fn print_flex<S: Sight, P: Pen>(
     sight: &S,
     step: &Step<'_>,
     i: usize,
     task: &TaskSight<'_>,
     block: &BlockItem,
-    writer: &mut W,
-) -> Result<(), WriteFailed>
+    pen: &mut P,
+)
     requires { (t : Task) × (k : ℕ) × (slice_get (S.desk sight.now).tasks i ≡ Some t) × IsTaskSeen task.now t
         × (slice_get (block_items t.slot) k ≡ Some block.now) }
     ensures { (t : Task) (k : ℕ) (c : Card) → slice_get (S.desk sight.now).tasks i ≡ Some t
-        → slice_get (block_items t.slot) k ≡ Some block.now → slice_get (flex_cards
-        (scene_at (S.desk sight.now) step.now) t) k ≡ Some c →
-        Puts (W.output writer.old) (W.output writer.new) result (shown_lines (card_lines (c ∷ []))) }
+        → slice_get (block_items t.slot) k ≡ Some block.now
+        → slice_get (flex_cards (scene_at (S.desk sight.now) step.now) t) k ≡ Some c
+        → P.offered pen.new ≡ P.offered pen.old ++ shown_lines (card_lines (c ∷ [])) }
 {
     let mut front = [0; CARD_BYTES];
     let bytes = &mut front[..front_length(block.size)];
@@ -143,5 +137,5 @@ fn print_flex<S: Sight, W: Sink>(
         usage: use_of_block(task.sending, task.taking, block.anchor),
         fresh: is_fresh_flex(step, task.handle, block.anchor, block.size),
     };
-    print_flex_card(block.anchor, &card, writer)
+    print_flex_card(block.anchor, &card, pen);
 }

@@ -1,6 +1,6 @@
 //! The cards of a heap's blocks and holes, and of messages.
 
-ghost use Rattle.std.specs.Prelude.{◌≡◌, ◌≤◌, ◌<◌, ◌+◌, ◌-◌, ◌^◌, ◌==◌, ◌&&◌, ◌∷◌, [], ℕ, IfSome, List, find};
+ghost use Rattle.std.specs.Prelude.{◌≡◌, ◌≤◌, ◌<◌, ◌+◌, ◌-◌, ◌^◌, ◌==◌, ◌&&◌, ◌∷◌, ◌++◌, [], ℕ, IfSome, List, find};
 ghost use Rattle.std.specs.Prelude.{if◌then◌else◌, length, nat_le, take, None, Some};
 ghost use Rattle.std.specs.List.{AllByRecursion};
 ghost use Rattle.rh_defs.specs.Desk.{Desk};
@@ -17,7 +17,6 @@ ghost use Rattle.rh_drawn.specs.Inner.CardsBehind.{cards_behind};
 ghost use Rattle.rh_figure.specs.Cards.{in_use_text, post_card, shown_cards, used_card};
 ghost use Rattle.rh_figure.specs.Scene.{live};
 ghost use Rattle.rh_figure.specs.declared.limits.TheConstants.{MOST_CARDS};
-ghost use Rattle.rh_lines.specs.Flow.{Puts};
 ghost use Rattle.rh_map.specs.MapMessages.{place_text};
 ghost use Rattle.rh_map.specs.Written.{shown_lines};
 ghost use Rattle.rh_sight.specs.SightMessages.{lies_in};
@@ -31,7 +30,7 @@ use crate::who::who_of;
 use rh_defs::sizes::{HEAP_FIRST, MODULE_START, WORD};
 use rh_defs::{Handle, Incoming, MessageItem, SegmentItem};
 use rh_figure::limits::{CARD_BYTES, MOST_CARDS};
-use rh_lines::{Sink, WriteFailed};
+use rh_lines::Pen;
 use rh_map::{
     CardBlock, CardMessage, ChainPlace, print_hole_card, print_message_card, print_used_card,
 };
@@ -57,82 +56,72 @@ pub struct Survey {
     pub fresh: Option<SegmentItem>,
 }
 
-/// Writes the cards of a heap's segments, from below. Fails only where the writer failed or took none of what it was
-/// offered; a front of the lines is then written.
-pub fn print_heap_cards<S: Sight, W: Sink>(
-    sight: &S,
-    step: &Step<'_>,
-    band: &Band<'_>,
-    writer: &mut W,
-) -> Result<(), WriteFailed>
+/// Writes the cards of a heap's segments, from below.
+pub fn print_heap_cards<S: Sight, P: Pen>(sight: &S, step: &Step<'_>, band: &Band<'_>, pen: &mut P)
     requires step { IsStepOf (S.desk sight.now) step.now }
     requires band { IsBandOf (S.desk sight.now) band.now }
-    ensures { IfSome (heap_seen band.now.heap (S.desk sight.now))
-        (λ h. Puts (W.output writer.old) (W.output writer.new) result
-        (shown_lines (card_lines (shown_cards
-        (band_cards (scene_at (S.desk sight.now) step.now) (S.desk sight.now) band.now h))))) }
+    ensures { IfSome (heap_seen band.now.heap (S.desk sight.now)) (λ h. P.offered pen.new ≡ P.offered pen.old
+        ++ shown_lines (card_lines (shown_cards (band_cards (scene_at (S.desk sight.now) step.now) (S.desk sight.now)
+        band.now h)))) }
 {
     sight.spelled();
     let survey = take_survey(sight, step, band);
     let shown = shown_count(survey.count as usize);
-    print_first(sight, step, band, shown, writer)?;
+    print_first(sight, step, band, shown, pen);
     if shown == survey.count as usize {
-        return Ok(());
+        return;
     }
-    print_behind(sight, step, band, &survey, writer)
+    print_behind(sight, step, band, &survey, pen);
 }
 
 /// Writes the cards of the first segments.
-fn print_first<S: Sight, W: Sink>(
+fn print_first<S: Sight, P: Pen>(
     sight: &S,
     step: &Step<'_>,
     band: &Band<'_>,
     shown: usize,
-    writer: &mut W,
-) -> Result<(), WriteFailed>
+    pen: &mut P,
+)
     requires step { IsStepOf (S.desk sight.now) step.now }
     requires band { IsBandOf (S.desk sight.now) band.now }
     requires few { shown ≤ MOST_CARDS }
     requires there { IfSome (heap_seen band.now.heap (S.desk sight.now)) (λ h. shown ≤ length h.segments) }
-    ensures { IfSome (heap_seen band.now.heap (S.desk sight.now))
-        (λ h. Puts (W.output writer.old) (W.output writer.new) result
-        (shown_lines (card_lines (take shown
-        (band_cards (scene_at (S.desk sight.now) step.now) (S.desk sight.now) band.now h))))) }
+    ensures { IfSome (heap_seen band.now.heap (S.desk sight.now)) (λ h. P.offered pen.new ≡ P.offered pen.old
+        ++ shown_lines (card_lines (take shown (band_cards (scene_at (S.desk sight.now) step.now) (S.desk sight.now)
+        band.now h)))) }
 {
     let items = sight.segments(band.heap, HEAP_FIRST as u32);
     let first = items.as_slice();
     for k in 0..shown {
-        print_segment(sight, step, band, &first[k], writer)?;
+        print_segment(sight, step, band, &first[k], pen);
     }
-    Ok(())
 }
 
 /// Writes the card of the first changed segment of those behind the first 22, and how many are left out.
-fn print_behind<S: Sight, W: Sink>(
+fn print_behind<S: Sight, P: Pen>(
     sight: &S,
     step: &Step<'_>,
     band: &Band<'_>,
     survey: &Survey,
-    writer: &mut W,
-) -> Result<(), WriteFailed>
+    pen: &mut P,
+)
     requires step { IsStepOf (S.desk sight.now) step.now }
     requires band { IsBandOf (S.desk sight.now) band.now }
     requires many { MOST_CARDS < survey.now.count }
     requires few { survey.now.count < 2 ^ 32 }
     requires survey { IfSome (heap_seen band.now.heap (S.desk sight.now))
         (λ h. IsSurvey (scene_at (S.desk sight.now) step.now) band.now h survey.now) }
-    ensures { IfSome (heap_seen band.now.heap (S.desk sight.now))
-        (λ h. Puts (W.output writer.old) (W.output writer.new) result
-        (shown_lines (card_lines (cards_behind
-        (band_cards (scene_at (S.desk sight.now) step.now) (S.desk sight.now) band.now h))))) }
+    ensures { IfSome (heap_seen band.now.heap (S.desk sight.now)) (λ h. P.offered pen.new ≡ P.offered pen.old
+        ++ shown_lines (card_lines (cards_behind (band_cards (scene_at (S.desk sight.now) step.now) (S.desk sight.now)
+        band.now h)))) }
 {
     let behind = survey.count as usize - (MOST_CARDS - 2);
     match survey.fresh {
         Some(item) => {
-            print_segment(sight, step, band, &item, writer)?;
-            print_others(behind, true, writer)
+            print_segment(sight, step, band, &item, pen);
+            print_others(behind, true, pen);
         }
-        None => print_others(behind, false, writer),
+        None => print_others(behind, false, pen),
     }
 }
 
@@ -235,56 +224,53 @@ pub fn message_at(step: &Step<'_>, address: u32) -> Option<MessageItem>
 }
 
 /// Writes the card of a segment.
-fn print_segment<S: Sight, W: Sink>(
+fn print_segment<S: Sight, P: Pen>(
     sight: &S,
     step: &Step<'_>,
     band: &Band<'_>,
     item: &SegmentItem,
-    writer: &mut W,
-) -> Result<(), WriteFailed>
+    pen: &mut P,
+)
     requires step { IsStepOf (S.desk sight.now) step.now }
     requires band { IsBandOf (S.desk sight.now) band.now }
     requires segment { (place : ℕ) × (segment : Segment) × HasSegment (heap_seen band.now.heap
         (S.desk sight.now)) place segment × (item.now ≡ segment_item (heap_start_of band.now.heap + place) segment) }
     ensures { (place : ℕ) (segment : Segment) → HasSegment (heap_seen band.now.heap (S.desk sight.now)) place segment
-        → item.now ≡ segment_item (heap_start_of band.now.heap + place) segment →
-        Puts (W.output writer.old) (W.output writer.new) result
-        (shown_lines (card_lines (band_card (scene_at (S.desk sight.now) step.now) (S.desk sight.now) band.now
-        (heap_start_of band.now.heap + place) segment ∷ []))) }
+        → item.now ≡ segment_item (heap_start_of band.now.heap + place) segment → P.offered pen.new ≡ P.offered pen.old
+        ++ shown_lines (card_lines (band_card (scene_at (S.desk sight.now) step.now) (S.desk sight.now) band.now
+        (heap_start_of band.now.heap + place) segment ∷ [])) }
 {
     sight.spelled();
     match item {
-        SegmentItem::Hole { address, size } => print_hole_card(*address, *size, writer),
+        SegmentItem::Hole { address, size } => print_hole_card(*address, *size, pen),
         SegmentItem::Used { address, size } => match band.heap {
-            HeapOf::Task(_) => print_used(sight, step, band, *address, *size, writer),
+            HeapOf::Task(_) => print_used(sight, step, band, *address, *size, pen),
             HeapOf::Module => match message_at(step, *address) {
-                Some(message) => print_message(sight, step, &message, writer),
-                None => print_used(sight, step, band, *address, *size, writer),
+                Some(message) => print_message(sight, step, &message, pen),
+                None => print_used(sight, step, band, *address, *size, pen),
             },
         },
     }
 }
 
 /// Writes the card of a block that is no message.
-fn print_used<S: Sight, W: Sink>(
+fn print_used<S: Sight, P: Pen>(
     sight: &S,
     step: &Step<'_>,
     band: &Band<'_>,
     address: u32,
     size: u32,
-    writer: &mut W,
-) -> Result<(), WriteFailed>
+    pen: &mut P,
+)
     requires start { heap_start_of band.now.heap + 4 ≤ address }
     requires block { (bytes : List ℕ) × SeesBlock (heap_seen band.now.heap (S.desk sight.now)) (address
         - heap_start_of band.now.heap - 4) bytes × (length bytes ≡ size) }
     requires free { SeesFree band.now.heap (address - heap_start_of band.now.heap - 4) (S.desk sight.now) }
-    ensures { (d : Desk) (bytes : List ℕ) → IsStepOf d step.now
-        → SeesBlock (heap_seen band.now.heap (S.desk sight.now)) (address - heap_start_of band.now.heap - 4) bytes
-        → length bytes ≡ size →
-        Puts (W.output writer.old) (W.output writer.new) result
-        (shown_lines (card_lines (used_card address bytes
-        (in_use_text (find (is_buffer_of address) band.now.taking.now))
-        (is_fresh_used (scene_at d step.now) band.now address) ∷ []))) }
+    ensures { (d : Desk) (bytes : List ℕ) → IsStepOf d step.now → SeesBlock (heap_seen band.now.heap (S.desk sight.now))
+        (address - heap_start_of band.now.heap - 4) bytes → length bytes ≡ size → P.offered pen.new ≡ P.offered pen.old
+        ++ shown_lines (card_lines (used_card address bytes
+        (in_use_text (find (is_buffer_of address) band.now.taking.now)) (is_fresh_used (scene_at d step.now) band.now
+        address) ∷ [])) }
 {
     let mut front = [0; CARD_BYTES];
     let bytes = &mut front[..front_length(size)];
@@ -297,7 +283,7 @@ fn print_used<S: Sight, W: Sink>(
         usage: use_of_buffer(band.taking, address),
         fresh: is_changed(step, band, address),
     };
-    print_used_card(&card, writer)
+    print_used_card(&card, pen);
 }
 
 /// Whether the command has changed a block that is no message.
@@ -311,17 +297,11 @@ pub fn is_changed(step: &Step<'_>, band: &Band<'_>, address: u32) -> bool
 }
 
 /// Writes the card of a message.
-fn print_message<S: Sight, W: Sink>(
-    sight: &S,
-    step: &Step<'_>,
-    message: &MessageItem,
-    writer: &mut W,
-) -> Result<(), WriteFailed>
+fn print_message<S: Sight, P: Pen>(sight: &S, step: &Step<'_>, message: &MessageItem, pen: &mut P)
     requires { IsStepOf (S.desk sight.now) step.now }
     ensures { (p : Parcel) → find (λ (q : Parcel). q.block == p.block) (live (scene_at (S.desk sight.now) step.now))
-        ≡ Some p → IsItemOf message.now p →
-        Puts (W.output writer.old) (W.output writer.new) result
-        (shown_lines (card_lines (post_card (scene_at (S.desk sight.now) step.now) p ∷ []))) }
+        ≡ Some p → IsItemOf message.now p → P.offered pen.new ≡ P.offered pen.old
+        ++ shown_lines (card_lines (post_card (scene_at (S.desk sight.now) step.now) p ∷ [])) }
 {
     sight.spelled();
     let place = chain_place(place_of(step.messages, *message));
@@ -337,7 +317,7 @@ fn print_message<S: Sight, W: Sink>(
         place,
         fresh,
     };
-    print_message_card(&card, writer)
+    print_message_card(&card, pen);
 }
 
 /// The same place, as a card has it.

@@ -11,7 +11,6 @@ ghost use Rattle.rh_drawn.specs.Parts.{letter_part};
 ghost use Rattle.rh_figure.specs.Figure.{letterboxes};
 ghost use Rattle.rh_figure.specs.Map.{letterbox_line};
 ghost use Rattle.rh_figure.specs.declared.limits.TheConstants.{MOST_LISTED};
-ghost use Rattle.rh_lines.specs.Flow.{Puts};
 ghost use Rattle.rh_map.specs.Written.{shown_lines};
 ghost use Rattle.rh_map.specs.declared.letterboxes.MessageEntry.{MessageEntry};
 ghost use Rattle.rh_sight.specs.SightMessages.{is_held_by, waits_for};
@@ -19,7 +18,7 @@ ghost use Rattle.rh_sight.specs.Steps.{IsStepOf, scene_at};
 
 use rh_defs::{Action, EventCode, Handle, MessageItem, Name, Ref};
 use rh_figure::limits::MOST_LISTED;
-use rh_lines::{Sink, WriteFailed};
+use rh_lines::Pen;
 use rh_map::{MessageEntry, print_letterbox, put_line};
 use rh_sight::{Sight, Step, held_by};
 
@@ -37,24 +36,19 @@ pub struct Waits {
     pub count: usize,
 }
 
-/// Writes the messages of each task that has some, below a heading. Fails only where the writer failed or took none of
-/// what it was offered; a front of the lines is then written.
-pub fn print_letter_part<S: Sight, W: Sink>(
-    sight: &S,
-    step: &Step<'_>,
-    writer: &mut W,
-) -> Result<(), WriteFailed>
+/// Writes the messages of each task that has some, below a heading.
+pub fn print_letter_part<S: Sight, P: Pen>(sight: &S, step: &Step<'_>, pen: &mut P)
     requires step { IsStepOf (S.desk sight.now) step.now }
     requires few { length step.now.messages.now ≤ most_messages }
-    ensures { Puts (W.output writer.old) (W.output writer.new) result
-        (shown_lines (letter_part (scene_at (S.desk sight.now) step.now))) }
+    ensures { P.offered pen.new ≡ P.offered pen.old
+        ++ shown_lines (letter_part (scene_at (S.desk sight.now) step.now)) }
 {
     sight.spelled();
     if !has_letterboxes(sight, step.messages) {
-        return Ok(());
+        return;
     }
-    put_line(b"Messages", writer)?;
-    print_letterboxes(sight, step, writer)
+    put_line(b"Messages", pen);
+    print_letterboxes(sight, step, pen);
 }
 
 /// Whether some task has a message.
@@ -79,43 +73,33 @@ pub fn has_letters(messages: &[MessageItem], handle: Handle) -> bool
 }
 
 /// Writes the messages of each task that has some.
-fn print_letterboxes<S: Sight, W: Sink>(
-    sight: &S,
-    step: &Step<'_>,
-    writer: &mut W,
-) -> Result<(), WriteFailed>
+fn print_letterboxes<S: Sight, P: Pen>(sight: &S, step: &Step<'_>, pen: &mut P)
     requires step { IsStepOf (S.desk sight.now) step.now }
     requires few { length step.now.messages.now ≤ most_messages }
-    ensures { Puts (W.output writer.old) (W.output writer.new) result
-        (shown_lines (map letterbox_line (letterboxes (scene_at (S.desk sight.now) step.now)))) }
+    ensures { P.offered pen.new ≡ P.offered pen.old
+        ++ shown_lines (map letterbox_line (letterboxes (scene_at (S.desk sight.now) step.now))) }
 {
     sight.spelled();
     let mut i = 0;
     'tasks: while let Some(task) = sight.task(i) {
-        print_letters(task.name, task.handle, step.messages, writer)?;
+        print_letters(task.name, task.handle, step.messages, pen);
         i += 1;
     }
-    Ok(())
 }
 
 /// Writes what a task holds, and what waits for it, if a message is for it.
-fn print_letters<W: Sink>(
-    name: &Name,
-    handle: Handle,
-    messages: &[MessageItem],
-    writer: &mut W,
-) -> Result<(), WriteFailed>
+fn print_letters<P: Pen>(name: &Name, handle: Handle, messages: &[MessageItem], pen: &mut P)
     requires { length messages.now ≤ most_messages }
-    ensures { Puts (W.output writer.old) (W.output writer.new) result
-        (shown_lines (map letterbox_line (letterboxes_in name.now handle messages.now))) }
+    ensures { P.offered pen.new ≡ P.offered pen.old
+        ++ shown_lines (map letterbox_line (letterboxes_in name.now handle messages.now)) }
 {
     if !has_letters(messages, handle) {
-        return Ok(());
+        return;
     }
     let held = held_entry(messages, handle);
     let waits = waits_of(messages, handle);
     let first = &waits.first[..waits.count.min(MOST_LISTED)];
-    print_letterbox(name, held, first, waits.count, writer)
+    print_letterbox(name, held, first, waits.count, pen);
 }
 
 /// The message that a task holds.

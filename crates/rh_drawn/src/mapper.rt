@@ -1,16 +1,16 @@
 //! A map in the middle of its script.
 
-ghost use Rattle.std.specs.Prelude.{◌≡◌, ◌<◌, ◌≤◌, ◌+◌, ◌^◌, ◌||◌, ◌&&◌, not, ℕ, List, length, None, Some, Ok, Err};
-ghost use Rattle.std.specs.Prelude.{IsTrue, OnErr, OnOk, false};
+ghost use Rattle.std.specs.Prelude.{◌≡◌, ◌<◌, ◌≤◌, ◌+◌, ◌++◌, ◌^◌, ◌||◌, ◌&&◌, not, ℕ, List, length, None, Some, Ok};
+ghost use Rattle.std.specs.Prelude.{Err, IsTrue, false};
 ghost use Rattle.std.specs.Option.{option_map};
 ghost use Rattle.rh_defs.specs.Order.{IsReordered};
 ghost use Rattle.rh_defs.specs.Range.{in_range};
 ghost use Rattle.rh_defs.specs.Commands.{step};
-ghost use Rattle.rh_drawn.specs.DrawnPlaces.{Broke, Drew, IsFirst};
-ghost use Rattle.rh_drawn.specs.Inner.StepsShown.{IsSamePlace, shown_step};
+ghost use Rattle.rh_defs.specs.Line.{line_means};
+ghost use Rattle.rh_drawn.specs.DrawnPlaces.{IsFirst};
+ghost use Rattle.rh_drawn.specs.Inner.StepsShown.{IsSamePlace, Offers, shown_step};
 ghost use Rattle.rh_drawn.specs.DrawnReplies.{Excerpts};
 ghost use Rattle.rh_map.specs.Replies.{front_of};
-ghost use Rattle.rh_lines.specs.Flow.{Puts};
 ghost use Rattle.rh_figure.specs.Share.{IsShared};
 ghost use Rattle.rh_map.specs.Written.{shown_lines};
 ghost use Rattle.rh_session.specs.Outcome.{status_of};
@@ -24,7 +24,7 @@ use crate::steps::{Above, print_step};
 use arrayvec::ArrayVec;
 use rh_defs::{Command, LineFault, Question, Reply};
 use rh_feed::LineTaker;
-use rh_lines::{Sink, WriteFailed, read_line};
+use rh_lines::{Pen, Sink, WriteFailed, WriterPen, read_line};
 use rh_map::{Front, print_remark};
 use rh_session::Status;
 use rh_sight::{Kept, Messages, PageList, is_still};
@@ -62,42 +62,47 @@ impl<D: Drawn> Mapper<D> {
         }
     }
 
+    /// Does what a line asks for, and shows it where it is to be shown.
+    fn take<P: Pen>(&mut self, line: &[u8], pen: &mut P)
+        requires { self.old.steps + 1 < 2 ^ 32 }
+        ensures told { Offers D.desk self.old line.now (line_means line.now) self.new (P.offered pen.old)
+            (P.offered pen.new) }
+        ensures few { self.new.steps ≤ self.old.steps + 1 }
+    {
+        let mut command = Command::Ask(Question::Areas);
+        match read_line(line, &mut command) {
+            Ok(false) => self.skip(line, pen),
+            Ok(true) => self.carry_out(line, &command, pen),
+            Err(fault) => self.refuse(line, &fault, pen),
+        }
+    }
+
     /// Shows a line that asks for nothing, and notes whether it marks the next command.
-    fn skip<W: Sink>(&mut self, line: &[u8], writer: &mut W) -> Result<(), WriteFailed>
-        ensures ok { OnOk result (Drew D.desk self.old (W.output writer.old) line.now (Ok None) self.new
-            (W.output writer.new)) }
-        ensures err { OnErr result (Broke D.desk self.old (W.output writer.old) line.now (Ok None)
-            (W.output writer.new)) }
+    fn skip<P: Pen>(&mut self, line: &[u8], pen: &mut P)
+        ensures told { Offers D.desk self.old line.now (Ok None) self.new (P.offered pen.old) (P.offered pen.new) }
         ensures same { self.new.steps ≡ self.old.steps }
     {
         self.drawn.spelled();
         self.wanted = is_wanted(self.wanted, line);
         if holds_unless(self.marked, self.wanted) {
-            return Ok(());
+            return;
         }
-        print_remark(line, writer)
+        print_remark(line, pen);
     }
 
     /// Does the command of a line, and shows the step where it is to be shown.
-    fn carry_out<W: Sink>(
-        &mut self,
-        line: &[u8],
-        command: &Command,
-        writer: &mut W,
-    ) -> Result<(), WriteFailed>
+    fn carry_out<P: Pen>(&mut self, line: &[u8], command: &Command, pen: &mut P)
         requires in_range { IsTrue (in_range command.now) }
         requires room { self.old.steps + 1 < 2 ^ 32 }
-        ensures ok { OnOk result (Drew D.desk self.old (W.output writer.old) line.now (Ok (Some command.now)) self.new
-            (W.output writer.new)) }
-        ensures err { OnErr result (Broke D.desk self.old (W.output writer.old) line.now (Ok (Some command.now))
-            (W.output writer.new)) }
+        ensures told { Offers D.desk self.old line.now (Ok (Some command.now)) self.new (P.offered pen.old)
+            (P.offered pen.new) }
         ensures steps { self.new.steps ≡ self.old.steps + 1 }
     {
         let wanted = self.begin_step();
         if holds_unless(self.marked, wanted) {
             self.change(command);
             self.drawn.spelled();
-            return Ok(());
+            return;
         }
         self.drawn.messages(&mut self.messages);
         let kept = Kept::new(&self.drawn, Some(command), &self.messages);
@@ -109,28 +114,21 @@ impl<D: Drawn> Mapper<D> {
             count,
             wanted,
         };
-        self.show(line, deed, writer)
+        self.show(line, deed, pen);
     }
 
     /// Shows a line that is bad, where it is to be shown.
-    fn refuse<W: Sink>(
-        &mut self,
-        line: &[u8],
-        fault: &LineFault,
-        writer: &mut W,
-    ) -> Result<(), WriteFailed>
+    fn refuse<P: Pen>(&mut self, line: &[u8], fault: &LineFault, pen: &mut P)
         requires { self.old.steps + 1 < 2 ^ 32 }
-        ensures ok { OnOk result (Drew D.desk self.old (W.output writer.old) line.now (Err fault.now) self.new
-            (W.output writer.new)) }
-        ensures err { OnErr result (Broke D.desk self.old (W.output writer.old) line.now (Err fault.now)
-            (W.output writer.new)) }
+        ensures told { Offers D.desk self.old line.now (Err fault.now) self.new (P.offered pen.old)
+            (P.offered pen.new) }
         ensures steps { self.new.steps ≡ self.old.steps + 1 }
     {
         self.has_bad_line = true;
         let wanted = self.begin_step();
         if holds_unless(self.marked, wanted) {
             self.drawn.spelled();
-            return Ok(());
+            return;
         }
         self.drawn.messages(&mut self.messages);
         let kept = Kept::new(&self.drawn, None, &self.messages);
@@ -144,7 +142,7 @@ impl<D: Drawn> Mapper<D> {
             count,
             wanted,
         };
-        self.show(line, deed, writer)
+        self.show(line, deed, pen);
     }
 
     /// Counts one more step, and answers whether a mark asked for it.
@@ -172,17 +170,11 @@ impl<D: Drawn> Mapper<D> {
     }
 
     /// Writes a step, of which the reply's front stands in its place.
-    fn show<W: Sink>(
-        &mut self,
-        line: &[u8],
-        deed: Deed<'_>,
-        writer: &mut W,
-    ) -> Result<(), WriteFailed>
+    fn show<P: Pen>(&mut self, line: &[u8], deed: Deed<'_>, pen: &mut P)
         ensures text { (text : List ℕ) → Excerpts (front_of self.old.front) deed.entry.count text
-            → Puts (W.output writer.old) (W.output writer.new) result
-            (shown_lines (shown_step deed.entry.wanted self.old.steps line.now text (D.desk self.old.drawn)
-            (share_in self.new.pages.items (D.desk self.old.drawn)) deed.entry.kept.now
-            (option_map (λ c. c.now) deed.entry.command) deed.entry.reply.now)) }
+            → P.offered pen.new ≡ P.offered pen.old ++ shown_lines (shown_step deed.entry.wanted self.old.steps
+            line.now text (D.desk self.old.drawn) (share_in self.new.pages.items (D.desk self.old.drawn))
+            deed.entry.kept.now (option_map (λ c. c.now) deed.entry.command) deed.entry.reply.now) }
         ensures shared { IsShared (share_in self.new.pages.items (D.desk self.old.drawn)) (D.desk self.old.drawn) }
         ensures same { IsSamePlace self.old self.new }
     {
@@ -203,7 +195,7 @@ impl<D: Drawn> Mapper<D> {
             count: deed.count,
             is_still: holds_unless(is_still(deed.command, deed.reply), deed.wanted),
         };
-        print_step(&self.drawn, &step, &above, &mut self.lists, writer)
+        print_step(&self.drawn, &step, &above, &mut self.lists, pen);
     }
 
     /// How the map went so far.
@@ -233,12 +225,9 @@ impl<D: Drawn> LineTaker for Mapper<D> {
     ghost room = { λ m. 2 ^ 32 - 1 - m.steps };
 
     fn take_line<W: Sink>(&mut self, line: &[u8], writer: &mut W) -> Result<(), WriteFailed> {
-        let mut command = Command::Ask(Question::Areas);
-        match read_line(line, &mut command) {
-            Ok(false) => self.skip(line, writer),
-            Ok(true) => self.carry_out(line, &command, writer),
-            Err(fault) => self.refuse(line, &fault, writer),
-        }
+        let mut pen = WriterPen::new(writer);
+        self.take(line, &mut pen);
+        pen.done()
     }
 
     fn take_rest<W: Sink>(&mut self, rest: &[u8], writer: &mut W) -> Result<(), WriteFailed> {
@@ -246,6 +235,8 @@ impl<D: Drawn> LineTaker for Mapper<D> {
             return Ok(());
         }
         let fault = rest_fault(rest);
-        self.refuse(rest, &fault, writer)
+        let mut pen = WriterPen::new(writer);
+        self.refuse(rest, &fault, &mut pen);
+        pen.done()
     }
 }

@@ -1,8 +1,7 @@
 //! The module area: its heading, rows and cards.
 
-ghost use Rattle.std.specs.Prelude.{◌≡◌};
+ghost use Rattle.std.specs.Prelude.{◌≡◌, ◌++◌};
 ghost use Rattle.rh_drawn.specs.Parts.{module_part};
-ghost use Rattle.rh_lines.specs.Flow.{Puts};
 ghost use Rattle.rh_map.specs.Written.{shown_lines};
 ghost use Rattle.rh_sight.specs.Steps.{IsStepOf, scene_at};
 
@@ -10,35 +9,34 @@ use crate::heap_cards::{Band, print_heap_cards};
 use crate::lists::Lists;
 use rh_defs::Handle;
 use rh_defs::sizes::{MODULE_AREA, MODULE_START};
-use rh_lines::{Sink, WriteFailed};
+use rh_lines::Pen;
 use rh_map::{Area, print_area, print_module_heading};
 use rh_sight::{HeapOf, PagesOf, Sight, Step, module_pieces, pages_of};
 
-/// Writes the module area. Fails only where the writer failed or took none of what it was offered; a front of the
-/// lines is then written.
-pub fn print_module_part<S: Sight, W: Sink>(
+/// Writes the module area.
+pub fn print_module_part<S: Sight, P: Pen>(
     sight: &S,
     step: &Step<'_>,
     lists: &mut Lists,
-    writer: &mut W,
-) -> Result<(), WriteFailed>
+    pen: &mut P,
+)
     requires { IsStepOf (S.desk sight.now) step.now }
-    ensures { Puts (W.output writer.old) (W.output writer.new) result
-        (shown_lines (module_part (scene_at (S.desk sight.now) step.now))) }
+    ensures { P.offered pen.new ≡ P.offered pen.old
+        ++ shown_lines (module_part (scene_at (S.desk sight.now) step.now)) }
 {
     sight.spelled();
-    print_module_heading(sight.fixed_pages(MODULE_AREA), writer)?;
+    print_module_heading(sight.fixed_pages(MODULE_AREA), pen);
     module_pieces(sight, step, &mut lists.pieces);
     let area = Area {
         start: MODULE_START as u32,
         pages: pages_of(sight, step.pages, PagesOf::Fixed(MODULE_AREA)),
         pieces: &lists.pieces,
     };
-    print_area(&area, writer)?;
+    print_area(&area, pen);
     let band = Band {
         heap: HeapOf::Module,
         handle: Handle(0),
         taking: &[],
     };
-    print_heap_cards(sight, step, &band, writer)
+    print_heap_cards(sight, step, &band, pen);
 }

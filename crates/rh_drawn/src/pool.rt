@@ -1,43 +1,35 @@
 //! The pool: a character for each page, that of its owner.
 
-ghost use Rattle.std.specs.Prelude.{◌≡◌, ◌∷◌, [], length, map, replicate};
+ghost use Rattle.std.specs.Prelude.{◌≡◌, ◌∷◌, ◌++◌, [], length, map, replicate};
 ghost use Rattle.std.specs.List.{range_with_len};
 ghost use Rattle.rh_drawn.specs.Parts.{pool_part, slot_panels};
 ghost use Rattle.rh_drawn.specs.Inner.Marked.{made_pages, marked, marked_all, slot_pages_from};
 ghost use Rattle.rh_figure.specs.Figure.{owner_of};
 ghost use Rattle.rh_figure.specs.Rows.{page_mark};
-ghost use Rattle.rh_lines.specs.Flow.{Puts};
 ghost use Rattle.rh_map.specs.Written.{shown_lines};
 ghost use Rattle.rh_sight.specs.SightPages.{share_in};
 ghost use Rattle.rh_sight.specs.Steps.{IsStepOf, scene_at};
 
 use crate::lists::Lists;
 use rh_defs::sizes::FIXED_AREAS;
-use rh_lines::{Sink, WriteFailed};
+use rh_lines::Pen;
 use rh_map::{area_mark, print_pool, print_pool_heading, slot_mark};
 use rh_sight::{PagesOf, Sight, Step, pages_of};
 
 /// The character of a free page.
 const FREE: u8 = b'.';
 
-/// Writes how many pages are free, and the rows of the pool. Fails only where the writer failed or took none of what
-/// it was offered; a front of the lines is then written.
-pub fn print_pool_part<S: Sight, W: Sink>(
-    sight: &S,
-    step: &Step<'_>,
-    lists: &mut Lists,
-    writer: &mut W,
-) -> Result<(), WriteFailed>
+/// Writes how many pages are free, and the rows of the pool.
+pub fn print_pool_part<S: Sight, P: Pen>(sight: &S, step: &Step<'_>, lists: &mut Lists, pen: &mut P)
     requires { IsStepOf (S.desk sight.now) step.now }
-    ensures { Puts (W.output writer.old) (W.output writer.new) result
-        (shown_lines (pool_part (scene_at (S.desk sight.now) step.now))) }
+    ensures { P.offered pen.new ≡ P.offered pen.old ++ shown_lines (pool_part (scene_at (S.desk sight.now) step.now)) }
 {
     sight.spelled();
     let pool = step.pages.len();
-    print_pool_heading(sight.free_pages(), pool as u32, writer)?;
+    print_pool_heading(sight.free_pages(), pool as u32, pen);
     let marks = &mut lists.marks[..pool];
     mark_pool(sight, step, marks);
-    print_pool(marks, writer)
+    print_pool(marks, pen);
 }
 
 /// Writes the character of each page's owner over a row of as many characters as the pool has pages.

@@ -1,16 +1,15 @@
 //! A step of a map: its line, its reply, and its figure.
 
-ghost use Rattle.std.specs.Prelude.{◌≤◌, ℕ, List, length};
+ghost use Rattle.std.specs.Prelude.{◌≡◌, ◌≤◌, ◌++◌, ℕ, List, length};
 ghost use Rattle.rh_drawn.specs.DrawnReplies.{Excerpts};
 ghost use Rattle.rh_figure.specs.Map.{step_lines};
-ghost use Rattle.rh_lines.specs.Flow.{Puts};
 ghost use Rattle.rh_map.specs.Written.{shown_lines};
 ghost use Rattle.rh_sight.specs.Steps.{IsStepOf, scene_at};
 ghost use Rattle.rh_defs.specs.Post.{most_messages};
 
 use crate::figure::print_figure;
 use crate::lists::Lists;
-use rh_lines::{Sink, WriteFailed};
+use rh_lines::Pen;
 use rh_map::{print_reply_lines, print_step_line, print_still};
 use rh_sight::{Sight, Step};
 
@@ -25,26 +24,25 @@ pub struct Above<'a> {
     pub is_still: bool,
 }
 
-/// Writes a step. Fails only where the writer failed or took none of what it was offered; a front of the lines is then
-/// written.
-pub fn print_step<S: Sight, W: Sink>(
+/// Writes a step.
+pub fn print_step<S: Sight, P: Pen>(
     sight: &S,
     step: &Step<'_>,
     above: &Above<'_>,
     lists: &mut Lists,
-    writer: &mut W,
-) -> Result<(), WriteFailed>
+    pen: &mut P,
+)
     requires step { IsStepOf (S.desk sight.now) step.now }
     requires few { length step.now.messages.now ≤ most_messages }
     ensures { (reply : List ℕ) → Excerpts above.now.front.now above.now.count reply
-        → Puts (W.output writer.old) (W.output writer.new) result
-        (shown_lines (step_lines above.now.is_still above.now.number above.now.line.now reply
-        (scene_at (S.desk sight.now) step.now))) }
+        → P.offered pen.new ≡ P.offered pen.old ++ shown_lines (step_lines above.now.is_still above.now.number
+        above.now.line.now reply (scene_at (S.desk sight.now) step.now)) }
 {
-    print_step_line(above.number, above.line, writer)?;
-    print_reply_lines(above.front, above.count, writer)?;
+    print_step_line(above.number, above.line, pen);
+    print_reply_lines(above.front, above.count, pen);
     if above.is_still {
-        return print_still(writer);
+        print_still(pen);
+        return;
     }
-    print_figure(sight, step, lists, writer)
+    print_figure(sight, step, lists, pen);
 }

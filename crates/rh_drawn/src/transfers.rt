@@ -1,6 +1,6 @@
 //! Transfers: a line for each, with the record of either side.
 
-ghost use Rattle.std.specs.Prelude.{◌≡◌, ◌==◌, ◌||◌, [], ◌∷◌, filter, find, if◌then◌else◌, length, map, not};
+ghost use Rattle.std.specs.Prelude.{◌≡◌, ◌==◌, ◌||◌, ◌∷◌, ◌++◌, [], filter, find, if◌then◌else◌, length, map, not};
 ghost use Rattle.std.specs.List.{list_any};
 ghost use Rattle.std.specs.Option.{option_map};
 ghost use Rattle.rh_defs.specs.Questions.{in_item as in_item_of, out_item as out_item_of};
@@ -12,28 +12,27 @@ ghost use Rattle.rh_figure.specs.Figure.{has_id as has_id_of};
 ghost use Rattle.rh_figure.specs.Map.{transfer_line};
 ghost use Rattle.rh_figure.specs.Scene.{Before, Marks, scene_of};
 ghost use Rattle.rh_figure.specs.Share.{Share};
-ghost use Rattle.rh_lines.specs.Flow.{Puts};
 ghost use Rattle.rh_map.specs.Sides.{side_of};
 ghost use Rattle.rh_map.specs.Written.{shown_lines};
 
 use crate::usage::{in_id, out_id};
 use rh_defs::{Incoming, Name, Outgoing, RecordItem, Ref, State};
-use rh_lines::{Sink, WriteFailed};
+use rh_lines::Pen;
 use rh_map::{Side, print_transfer, put_line};
 use rh_sight::{Sight, TaskSight};
 
 /// Writes the transfers that go out, each with the side that comes in, and those that only come in, below a heading.
-/// Fails only where the writer failed or took none of what it was offered; a front of the lines is then written.
-pub fn print_transfer_part<S: Sight, W: Sink>(sight: &S, writer: &mut W) -> Result<(), WriteFailed>
-    ensures { (s : Share) (b : Before) (m : Marks) → Puts (W.output writer.old) (W.output writer.new) result
-        (shown_lines (transfer_part (scene_of (S.desk sight.now) s b m))) }
+///
+pub fn print_transfer_part<S: Sight, P: Pen>(sight: &S, pen: &mut P)
+    ensures { (s : Share) (b : Before) (m : Marks) → P.offered pen.new ≡ P.offered pen.old
+        ++ shown_lines (transfer_part (scene_of (S.desk sight.now) s b m)) }
 {
     if !has_transfers(sight) {
-        return Ok(());
+        return;
     }
-    put_line(b"Transfers", writer)?;
-    print_outs(sight, writer)?;
-    print_ins(sight, writer)
+    put_line(b"Transfers", pen);
+    print_outs(sight, pen);
+    print_ins(sight, pen);
 }
 
 /// Whether some task has a record of a transfer.
@@ -59,43 +58,32 @@ fn has_records(task: &TaskSight<'_>) -> bool
 }
 
 /// Writes the transfers that go out, task by task.
-fn print_outs<S: Sight, W: Sink>(sight: &S, writer: &mut W) -> Result<(), WriteFailed>
-    ensures { Puts (W.output writer.old) (W.output writer.new) result
-        (shown_lines (map transfer_line (map (goes_out (ins_of (S.desk sight.now))) (outs_of (S.desk sight.now))))) }
+fn print_outs<S: Sight, P: Pen>(sight: &S, pen: &mut P)
+    ensures { P.offered pen.new ≡ P.offered pen.old
+        ++ shown_lines (map transfer_line (map (goes_out (ins_of (S.desk sight.now))) (outs_of (S.desk sight.now)))) }
 {
     let mut i = 0;
     'tasks: while let Some(task) = sight.task(i) {
-        print_task_outs(sight, &task, writer)?;
+        print_task_outs(sight, &task, pen);
         i += 1;
     }
-    Ok(())
 }
 
 /// Writes the transfers that go out of a task.
-fn print_task_outs<S: Sight, W: Sink>(
-    sight: &S,
-    task: &TaskSight<'_>,
-    writer: &mut W,
-) -> Result<(), WriteFailed>
-    ensures { Puts (W.output writer.old) (W.output writer.new) result
-        (shown_lines (map transfer_line (map (goes_out (ins_of (S.desk sight.now)))
-        (map (λ r. (task.now.name.now, out_item_of r)) task.now.sending.now)))) }
+fn print_task_outs<S: Sight, P: Pen>(sight: &S, task: &TaskSight<'_>, pen: &mut P)
+    ensures { P.offered pen.new ≡ P.offered pen.old
+        ++ shown_lines (map transfer_line (map (goes_out (ins_of (S.desk sight.now)))
+        (map (λ r. (task.now.name.now, out_item_of r)) task.now.sending.now))) }
 {
     for record in task.sending {
-        print_out(sight, task.name, record, writer)?;
+        print_out(sight, task.name, record, pen);
     }
-    Ok(())
 }
 
 /// Writes the transfer of a record of one that goes out.
-fn print_out<S: Sight, W: Sink>(
-    sight: &S,
-    name: &Name,
-    record: &Outgoing,
-    writer: &mut W,
-) -> Result<(), WriteFailed>
-    ensures { Puts (W.output writer.old) (W.output writer.new) result
-        (shown_lines (transfer_line (goes_out (ins_of (S.desk sight.now)) (name.now, out_item_of record.now)) ∷ [])) }
+fn print_out<S: Sight, P: Pen>(sight: &S, name: &Name, record: &Outgoing, pen: &mut P)
+    ensures { P.offered pen.new ≡ P.offered pen.old
+        ++ shown_lines (transfer_line (goes_out (ins_of (S.desk sight.now)) (name.now, out_item_of record.now)) ∷ []) }
 {
     let id = out_id(record);
     let side = Some(Side {
@@ -103,7 +91,7 @@ fn print_out<S: Sight, W: Sink>(
         record: out_item(record),
     });
     let other = in_side(sight, id);
-    print_transfer(id, &side, &other, writer)
+    print_transfer(id, &side, &other, pen);
 }
 
 /// The first side with the id that comes in.
@@ -136,56 +124,45 @@ fn in_record(taking: &[Incoming], id: Ref) -> Option<RecordItem>
 }
 
 /// Writes the transfers that only come in, task by task.
-fn print_ins<S: Sight, W: Sink>(sight: &S, writer: &mut W) -> Result<(), WriteFailed>
-    ensures { Puts (W.output writer.old) (W.output writer.new) result
-        (shown_lines (map transfer_line (map comes_alone
-        (filter (λ s. not (list_any (has_id_of s.1.id) (outs_of (S.desk sight.now)))) (ins_of (S.desk sight.now)))))) }
+fn print_ins<S: Sight, P: Pen>(sight: &S, pen: &mut P)
+    ensures { P.offered pen.new ≡ P.offered pen.old
+        ++ shown_lines (map transfer_line (map comes_alone
+        (filter (λ s. not (list_any (has_id_of s.1.id) (outs_of (S.desk sight.now)))) (ins_of (S.desk sight.now))))) }
 {
     let mut i = 0;
     'tasks: while let Some(task) = sight.task(i) {
-        print_task_ins(sight, &task, writer)?;
+        print_task_ins(sight, &task, pen);
         i += 1;
     }
-    Ok(())
 }
 
 /// Writes the transfers that only come in, of a task.
-fn print_task_ins<S: Sight, W: Sink>(
-    sight: &S,
-    task: &TaskSight<'_>,
-    writer: &mut W,
-) -> Result<(), WriteFailed>
-    ensures { Puts (W.output writer.old) (W.output writer.new) result
-        (shown_lines (map transfer_line (map comes_alone
+fn print_task_ins<S: Sight, P: Pen>(sight: &S, task: &TaskSight<'_>, pen: &mut P)
+    ensures { P.offered pen.new ≡ P.offered pen.old
+        ++ shown_lines (map transfer_line (map comes_alone
         (filter (λ s. not (list_any (has_id_of s.1.id) (outs_of (S.desk sight.now))))
-        (map (λ r. (task.now.name.now, in_item_of r)) task.now.taking.now))))) }
+        (map (λ r. (task.now.name.now, in_item_of r)) task.now.taking.now)))) }
 {
     for record in task.taking {
-        print_if_alone(sight, task.name, record, writer)?;
+        print_if_alone(sight, task.name, record, pen);
     }
-    Ok(())
 }
 
 /// Writes the transfer of a record of one that comes in, if it only comes in.
-fn print_if_alone<S: Sight, W: Sink>(
-    sight: &S,
-    name: &Name,
-    record: &Incoming,
-    writer: &mut W,
-) -> Result<(), WriteFailed>
-    ensures { Puts (W.output writer.old) (W.output writer.new) result
-        (shown_lines (map transfer_line (if list_any (has_id_of (in_id_of record.now)) (outs_of (S.desk sight.now))
-        then [] else comes_alone (name.now, in_item_of record.now) ∷ []))) }
+fn print_if_alone<S: Sight, P: Pen>(sight: &S, name: &Name, record: &Incoming, pen: &mut P)
+    ensures { P.offered pen.new ≡ P.offered pen.old
+        ++ shown_lines (map transfer_line (if list_any (has_id_of (in_id_of record.now)) (outs_of (S.desk sight.now))
+        then [] else comes_alone (name.now, in_item_of record.now) ∷ [])) }
 {
     let id = in_id(record);
     if has_out(sight, id) {
-        return Ok(());
+        return;
     }
     let side = Some(Side {
         name,
         record: in_item(record),
     });
-    print_transfer(id, &None, &side, writer)
+    print_transfer(id, &None, &side, pen);
 }
 
 /// Whether a transfer with the id goes out.
