@@ -16,37 +16,39 @@ mod steps;
 mod transfers;
 
 use rh_defs::Name;
-use rh_lines::{Flagged, Sink, WriteFailed};
+use rh_lines::{Flagged, Pen, WriteFailed, WriterPen};
 
 fn main(rt: HostRuntime) -> Result<(), WriteFailed> {
     let mut output = Flagged::new(rt.stdout());
-    print_lines(&mut output)?;
-    print_elements(&mut output)
+    let mut pen = WriterPen::new(&mut output);
+    print_lines(&mut pen);
+    print_elements(&mut pen);
+    pen.done()
 }
 
 /// Prints the lines of maps.
-fn print_lines<W: Sink>(output: &mut W) -> Result<(), WriteFailed> {
+fn print_lines<P: Pen>(pen: &mut P) {
     let (Some(a), Some(b)) = (Name::new(b"a"), Name::new(b"b")) else {
-        return Ok(());
+        return;
     };
-    map_rows::print_rows(output)?;
-    areas::print_areas(&a, output)?;
-    cards::print_cards(output)?;
-    changes::print_changes(&a, &b, output)?;
-    messages::print_messages(&a, &b, output)?;
-    letterboxes::print_letterboxes(&b, output)?;
-    transfers::print_transfers(&a, &b, output)?;
-    steps::print_steps(output)
+    map_rows::print_rows(pen);
+    areas::print_areas(&a, pen);
+    cards::print_cards(pen);
+    changes::print_changes(&a, &b, pen);
+    messages::print_messages(&a, &b, pen);
+    letterboxes::print_letterboxes(&b, pen);
+    transfers::print_transfers(&a, &b, pen);
+    steps::print_steps(pen);
 }
 
 /// Prints the elements of sheets.
-fn print_elements<W: Sink>(output: &mut W) -> Result<(), WriteFailed> {
+fn print_elements<P: Pen>(pen: &mut P) {
     let Some(a) = Name::new(b"a") else {
-        return Ok(());
+        return;
     };
-    elements::print_texts(output)?;
-    sheet_rows::print_rows(output)?;
-    pool::print_pool(output)?;
-    charts::print_charts(&a, output)?;
-    sheet_steps::print_steps(output)
+    elements::print_texts(pen);
+    sheet_rows::print_rows(pen);
+    pool::print_pool(pen);
+    charts::print_charts(&a, pen);
+    sheet_steps::print_steps(pen);
 }

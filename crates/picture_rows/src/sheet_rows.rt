@@ -7,26 +7,26 @@ use rh_draw::{
     print_tick,
 };
 use rh_figure::{Kind, Piece};
-use rh_lines::{Sink, WriteFailed};
+use rh_lines::Pen;
 use rh_sheet::Frame;
 
 /// Rows of a slot and of a long area, a card with its lens, and two arrows.
-pub(crate) fn print_rows<W: Sink>(output: &mut W) -> Result<(), WriteFailed> {
-    print_slot(output)?;
-    print_tick(115, 0, output)?;
-    print_gap(output)?;
-    print_card(output)?;
-    print_lens_above(frame(2, 1), 4096, 4112, 1, output)?;
+pub(crate) fn print_rows<P: Pen>(pen: &mut P) {
+    print_slot(pen);
+    print_tick(115, 0, pen);
+    print_gap(pen);
+    print_card(pen);
+    print_lens_above(frame(2, 1), 4096, 4112, 1, pen);
     let up = Slide {
         from: 0x9008,
         to: 0xa008,
     };
-    print_slide_arrow(frame(3, 1), up, output)?;
+    print_slide_arrow(frame(3, 1), up, pen);
     let within = Slide {
         from: 0x9074,
         to: 0x90d8,
     };
-    print_slide_arrow(frame(2, 2), within, output)
+    print_slide_arrow(frame(2, 2), within, pen);
 }
 
 fn frame(pages: usize, above: usize) -> Frame
@@ -42,7 +42,7 @@ fn frame(pages: usize, above: usize) -> Frame
 }
 
 /// The rows of a slot with an empty C heap and a flex block.
-fn print_slot<W: Sink>(output: &mut W) -> Result<(), WriteFailed> {
+fn print_slot<P: Pen>(pen: &mut P) {
     let plot = Plot {
         start: 0x8000,
         pages: &[6, 5],
@@ -62,21 +62,21 @@ fn print_slot<W: Sink>(output: &mut W) -> Result<(), WriteFailed> {
         ],
         tint: Tint::Slot(1),
     };
-    rh_draw::print_rows(frame(2, 1), &plot, output)
+    rh_draw::print_rows(frame(2, 1), &plot, pen);
 }
 
 /// The row that stands for the pages between the ends of a long area.
-fn print_gap<W: Sink>(output: &mut W) -> Result<(), WriteFailed> {
+fn print_gap<P: Pen>(pen: &mut P) {
     let plot = Plot {
         start: 0x180_0000,
         pages: &[],
         pieces: &[],
         tint: Tint::Module,
     };
-    print_row(frame(1024, 0), &plot, 8, output)
+    print_row(frame(1024, 0), &plot, 8, pen);
 }
 
-fn print_card<W: Sink>(output: &mut W) -> Result<(), WriteFailed> {
+fn print_card<P: Pen>(pen: &mut P) {
     let card = Card {
         look: Look::Flex,
         fresh: true,
@@ -84,5 +84,5 @@ fn print_card<W: Sink>(output: &mut W) -> Result<(), WriteFailed> {
         second: b"1234567890 bytes, out 12",
         third: b"",
     };
-    print_high_card(66, 0, &card, output)
+    print_high_card(66, 0, &card, pen);
 }

@@ -6,7 +6,6 @@ pub mod FigureLemmas
 pub mod ListLemmas
 pub mod LoopLemmas
 pub mod PageLemmas
-pub mod PutLemmas
 pub mod ReplyLemmas
 pub mod RowLemmas
 pub mod WriteLemmas

@@ -1,5 +1,5 @@
 -- The lines of a reply, one by one.
-use Rattle.rh_draw.proofs.Common.{◌≡◌, ℕ, suc, ◌-◌, Bool, true, false, List, [], ◌∷◌, ◌++◌, refl, sym, ap, ◌∙◌, codes, if◌then◌else◌, flat_map}
+use Rattle.rh_draw.proofs.Common.{◌≡◌, ℕ, suc, Bool, true, false, List, [], ◌∷◌, ◌++◌, refl, sym, ap, ◌∙◌, codes, if◌then◌else◌, flat_map}
 use Rattle.rh_draw.proofs.Common.{join_by, flat_map-append, cut, lines_in, escape, escaped_byte, behind_feeds}
 use Rattle.rh_figure.specs.declared.limits.TheConstants.{REPLY_COLUMNS, MOST_REPLY_LINES}
 use Rattle.rh_map.specs.Replies.{excerpt_lines, first_lines, more_behind}

@@ -1,8 +1,7 @@
 //! The arrow of a slide.
 
-ghost use Rattle.std.specs.Prelude.{◌≡◌, ◌≤◌, ◌<◌, ◌+◌, ◌/◌, ◌^◌, [], ◌∷◌, length};
+ghost use Rattle.std.specs.Prelude.{◌≡◌, ◌≤◌, ◌<◌, ◌+◌, ◌/◌, ◌^◌, [], ◌∷◌, ◌++◌, length};
 ghost use Rattle.rh_draw.specs.DrawArrows.{change_of};
-ghost use Rattle.rh_lines.specs.Flow.{Puts};
 ghost use Rattle.rh_sheet.specs.Arrows.{arc_way as way_of_arc, arrow_text, arrow_way as way_of_arrow};
 ghost use Rattle.rh_sheet.specs.Arrows.{block_place as place_of_block, bow_way as way_of_bow};
 ghost use Rattle.rh_sheet.specs.Arrows.{ghost_way as way_of_ghost, place_x as x_of_place, slide_arrow};
@@ -10,7 +9,7 @@ ghost use Rattle.rh_sheet.specs.Arrows.{ghost_way as way_of_ghost, place_x as x_
 use crate::frames::{row_of, row_y};
 use crate::markup::{add_point, add_stretch, print_path};
 use rh_defs::sizes::{PAGE, SLOT_START};
-use rh_lines::{Row, Sink, WriteFailed};
+use rh_lines::{Pen, Row};
 use rh_sheet::Frame;
 use rh_sheet::sizes::{
     ARC_RISE, ARROW_INDENT, BOW, GHOST_EDGE, GHOST_WIDTH, HEADER_BYTES, LEFT, ROW_HEIGHT,
@@ -110,34 +109,29 @@ fn arrow_way(frame: Frame, r: usize, x0: u32, s: usize, x1: u32) -> Row
 }
 
 /// Writes the frame and the arrow, each upon an edge of its own.
-fn print_arrow<W: Sink>(frame: &Row, way: &Row, writer: &mut W) -> Result<(), WriteFailed>
+fn print_arrow<P: Pen>(frame: &Row, way: &Row, pen: &mut P)
     requires frame { length frame.now ≤ 100 }
     requires way { length way.now ≤ 100 }
-    ensures { Puts (W.output writer.old) (W.output writer.new) result (arrow_text frame.now way.now) }
+    ensures { P.offered pen.new ≡ P.offered pen.old ++ arrow_text frame.now way.now }
 {
-    print_path(b"casing", frame, writer)?;
-    print_path(b"ghost", frame, writer)?;
-    print_path(b"casing", way, writer)?;
-    print_path(b"slide", way, writer)
+    print_path(b"casing", frame, pen);
+    print_path(b"ghost", frame, pen);
+    print_path(b"casing", way, pen);
+    print_path(b"slide", way, pen);
 }
 
-/// Writes the arrow of the first of some slides, where both its places have a row. Fails only where the writer failed
-/// or took none of what it was offered; a front of the elements is then written.
-pub fn print_slide_arrow<W: Sink>(
-    frame: Frame,
-    first: Slide,
-    writer: &mut W,
-) -> Result<(), WriteFailed>
-    ensures { Puts (W.output writer.old) (W.output writer.new) result (slide_arrow frame (change_of first ∷ [])) }
+/// Writes the arrow of the first of some slides, where both its places have a row.
+pub fn print_slide_arrow<P: Pen>(frame: Frame, first: Slide, pen: &mut P)
+    ensures { P.offered pen.new ≡ P.offered pen.old ++ slide_arrow frame (change_of first ∷ []) }
 {
     let (from, to) = (block_place(first.from), block_place(first.to));
     let Some(r) = row_of(frame.pages, from / PAGE) else {
-        return Ok(());
+        return;
     };
     let Some(s) = row_of(frame.pages, to / PAGE) else {
-        return Ok(());
+        return;
     };
     let (x0, x1) = (place_x(from), place_x(to));
     let way = arrow_way(frame, r, x0, s, x1);
-    print_arrow(&ghost_way(x0, row_y(frame, r)), &way, writer)
+    print_arrow(&ghost_way(x0, row_y(frame, r)), &way, pen);
 }

@@ -3,13 +3,12 @@
 ghost use Rattle.std.specs.Prelude.{◌≡◌, ◌≤◌, ◌+◌, ◌++◌, length};
 ghost use Rattle.rh_draw.specs.Boxes.{box_at};
 ghost use Rattle.rh_draw.specs.declared.boxes.TheConstants.{LONGEST_CLASS};
-ghost use Rattle.rh_lines.specs.Flow.{Puts};
 ghost use Rattle.rh_lines.specs.declared.row.TheConstants.{ROW};
 ghost use Rattle.rh_sheet.specs.Markup.{box_begin, box_text, words_begin, words_text};
 
 use crate::attributes::{add_number_attribute, add_text_attribute};
 use crate::escape::put_between;
-use rh_lines::{Row, Sink, WriteFailed, put};
+use rh_lines::{Pen, Row};
 
 /// The class of an element has at most so many bytes.
 pub const LONGEST_CLASS: usize = 40;
@@ -38,25 +37,20 @@ fn add_box_begin(row: &mut Row, class: &[u8], at: Extent)
     add_number_attribute(row, b"height", at.height);
 }
 
-/// Writes a rectangle, with a tip where that isn't empty. Fails only where the writer failed or took none of what it
-/// was offered; a front of the element is then written.
-pub fn print_box<W: Sink>(
-    class: &[u8],
-    at: Extent,
-    tip: &[u8],
-    writer: &mut W,
-) -> Result<(), WriteFailed>
+/// Writes a rectangle, with a tip where that isn't empty.
+pub fn print_box<P: Pen>(class: &[u8], at: Extent, tip: &[u8], pen: &mut P)
     requires { length class.now ≤ LONGEST_CLASS }
-    ensures { Puts (W.output writer.old) (W.output writer.new) result (box_text (box_at class.now at tip.now)) }
+    ensures { P.offered pen.new ≡ P.offered pen.old ++ box_text (box_at class.now at tip.now) }
 {
     let mut row = Row::new();
     add_box_begin(&mut row, class, at);
     if tip.is_empty() {
         row.text(b"/>\n");
-        return put(writer, row.as_slice());
+        pen.put(row.as_slice());
+        return;
     }
     row.text(b"><title>");
-    put_between(row.as_slice(), tip, b"</title></rect>\n", writer)
+    put_between(row.as_slice(), tip, b"</title></rect>\n", pen);
 }
 
 /// Adds the beginning of words.
@@ -73,22 +67,15 @@ fn add_words_begin(row: &mut Row, class: &[u8], x: u32, y: u32)
     row.byte(b'>');
 }
 
-/// Writes words at a place of a figure, where there are some. Fails only where the writer failed or took none of what
-/// it was offered; a front of the element is then written.
-pub fn print_words<W: Sink>(
-    class: &[u8],
-    x: u32,
-    y: u32,
-    text: &[u8],
-    writer: &mut W,
-) -> Result<(), WriteFailed>
+/// Writes words at a place of a figure, where there are some.
+pub fn print_words<P: Pen>(class: &[u8], x: u32, y: u32, text: &[u8], pen: &mut P)
     requires { length class.now ≤ LONGEST_CLASS }
-    ensures { Puts (W.output writer.old) (W.output writer.new) result (words_text class.now x y text.now) }
+    ensures { P.offered pen.new ≡ P.offered pen.old ++ words_text class.now x y text.now }
 {
     if text.is_empty() {
-        return Ok(());
+        return;
     }
     let mut row = Row::new();
     add_words_begin(&mut row, class, x, y);
-    put_between(row.as_slice(), text, b"</text>\n", writer)
+    put_between(row.as_slice(), text, b"</text>\n", pen);
 }

@@ -1,16 +1,15 @@
 //! Cards: what may be too small for its scale, written out.
 
-ghost use Rattle.std.specs.Prelude.{◌≡◌, ◌≤◌, ◌<◌, ◌+◌, length};
+ghost use Rattle.std.specs.Prelude.{◌≡◌, ◌≤◌, ◌<◌, ◌+◌, ◌++◌, length};
 ghost use Rattle.rh_draw.specs.DrawCards.{drawn_card, kind_of};
 ghost use Rattle.rh_draw.specs.Inner.CardClasses.{classes_of_card};
 ghost use Rattle.rh_figure.specs.declared.limits.TheConstants.{MOST_CARDS};
-ghost use Rattle.rh_lines.specs.Flow.{Puts};
 ghost use Rattle.rh_sheet.specs.SheetCards.{card_box, card_line_text, card_text, card_x as x_of_card, high_card_text};
 ghost use Rattle.rh_sheet.specs.SheetCards.{high_card_y as y_of_high_card, low_card_text};
 ghost use Rattle.rh_sheet.specs.Markup.{box_text};
 
 use crate::boxes::{Extent, print_box, print_words};
-use rh_lines::{Row, Sink, WriteFailed};
+use rh_lines::{Pen, Row};
 use rh_map::add_cut;
 use rh_sheet::sizes::{
     CARD_BASELINE, CARD_COLUMNS, CARD_GAP, CARD_INDENT, CARD_LINE, CARD_PITCH, CARD_RISE,
@@ -57,35 +56,22 @@ fn card_class(look: Look, fresh: bool) -> &'static [u8]
 }
 
 /// Writes line i of a card whose room begins at a point, cut to the card's width.
-fn print_card_line<W: Sink>(
-    class: &[u8],
-    i: u32,
-    x: u32,
-    y: u32,
-    text: &[u8],
-    writer: &mut W,
-) -> Result<(), WriteFailed>
+fn print_card_line<P: Pen>(class: &[u8], i: u32, x: u32, y: u32, text: &[u8], pen: &mut P)
     requires class { length class.now ≤ 8 }
     requires line { i ≤ 2 }
     requires corner { x + y ≤ 4000 }
-    ensures { Puts (W.output writer.old) (W.output writer.new) result (card_line_text class.now i x y text.now) }
+    ensures { P.offered pen.new ≡ P.offered pen.old ++ card_line_text class.now i x y text.now }
 {
     let mut row = Row::new();
     add_cut(&mut row, CARD_COLUMNS, text);
     let down = y + 1 + CARD_BASELINE + CARD_LINE * i;
-    print_words(class, x + 1 + CARD_INDENT, down, row.as_slice(), writer)
+    print_words(class, x + 1 + CARD_INDENT, down, row.as_slice(), pen);
 }
 
 /// Writes the rectangle of a card whose room begins at a point.
-fn print_card_box<W: Sink>(
-    look: Look,
-    fresh: bool,
-    x: u32,
-    y: u32,
-    writer: &mut W,
-) -> Result<(), WriteFailed>
+fn print_card_box<P: Pen>(look: Look, fresh: bool, x: u32, y: u32, pen: &mut P)
     requires { x + y ≤ 4000 }
-    ensures { Puts (W.output writer.old) (W.output writer.new) result (box_text (card_box (kind_of look) fresh x y)) }
+    ensures { P.offered pen.new ≡ P.offered pen.old ++ box_text (card_box (kind_of look) fresh x y) }
 {
     let at = Extent {
         x: x + 1,
@@ -93,18 +79,18 @@ fn print_card_box<W: Sink>(
         width: CARD_PITCH - CARD_GAP,
         height: CARD_RISE - CARD_SPACE,
     };
-    print_box(card_class(look, fresh), at, b"", writer)
+    print_box(card_class(look, fresh), at, b"", pen);
 }
 
 /// Writes a card whose room begins at a point.
-fn print_card<W: Sink>(card: &Card<'_>, x: u32, y: u32, writer: &mut W) -> Result<(), WriteFailed>
+fn print_card<P: Pen>(card: &Card<'_>, x: u32, y: u32, pen: &mut P)
     requires { x + y ≤ 4000 }
-    ensures { Puts (W.output writer.old) (W.output writer.new) result (card_text (drawn_card card.now) x y) }
+    ensures { P.offered pen.new ≡ P.offered pen.old ++ card_text (drawn_card card.now) x y }
 {
-    print_card_box(card.look, card.fresh, x, y, writer)?;
-    print_card_line(b"first", 0, x, y, card.first, writer)?;
-    print_card_line(b"line", 1, x, y, card.second, writer)?;
-    print_card_line(b"line", 2, x, y, card.third, writer)
+    print_card_box(card.look, card.fresh, x, y, pen);
+    print_card_line(b"first", 0, x, y, card.first, pen);
+    print_card_line(b"line", 1, x, y, card.second, pen);
+    print_card_line(b"line", 2, x, y, card.third, pen);
 }
 
 /// Where the room of card i begins, from the left.
@@ -115,19 +101,13 @@ fn card_x(i: u32) -> u32
     LEFT + CARD_PITCH * (i % CARDS_ACROSS)
 }
 
-/// Writes card i of those that are shown below a height. Fails only where the writer failed or took none of what it was
-/// offered; a front of the card is then written.
-pub fn print_low_card<W: Sink>(
-    y0: u32,
-    i: u32,
-    card: &Card<'_>,
-    writer: &mut W,
-) -> Result<(), WriteFailed>
+/// Writes card i of those that are shown below a height.
+pub fn print_low_card<P: Pen>(y0: u32, i: u32, card: &Card<'_>, pen: &mut P)
     requires few { i < MOST_CARDS }
     requires height { y0 ≤ 1000 }
-    ensures { Puts (W.output writer.old) (W.output writer.new) result (low_card_text y0 (i, drawn_card card.now)) }
+    ensures { P.offered pen.new ≡ P.offered pen.old ++ low_card_text y0 (i, drawn_card card.now) }
 {
-    print_card(card, card_x(i), y0 + CARD_RISE * (i / CARDS_ACROSS), writer)
+    print_card(card, card_x(i), y0 + CARD_RISE * (i / CARDS_ACROSS), pen);
 }
 
 /// Where the room of card i above a height begins, from above.
@@ -139,17 +119,11 @@ fn high_card_y(y0: u32, i: u32) -> u32
     y0.saturating_sub(CARD_RISE * (i / CARDS_ACROSS + 1))
 }
 
-/// Writes card i of those that are shown above a height. Fails only where the writer failed or took none of what it was
-/// offered; a front of the card is then written.
-pub fn print_high_card<W: Sink>(
-    y0: u32,
-    i: u32,
-    card: &Card<'_>,
-    writer: &mut W,
-) -> Result<(), WriteFailed>
+/// Writes card i of those that are shown above a height.
+pub fn print_high_card<P: Pen>(y0: u32, i: u32, card: &Card<'_>, pen: &mut P)
     requires few { i < MOST_CARDS }
     requires height { y0 ≤ 1000 }
-    ensures { Puts (W.output writer.old) (W.output writer.new) result (high_card_text y0 (i, drawn_card card.now)) }
+    ensures { P.offered pen.new ≡ P.offered pen.old ++ high_card_text y0 (i, drawn_card card.now) }
 {
-    print_card(card, card_x(i), high_card_y(y0, i), writer)
+    print_card(card, card_x(i), high_card_y(y0, i), pen);
 }

@@ -2,7 +2,6 @@
 
 ghost use Rattle.std.specs.Prelude.{◌≡◌, ◌≤◌, ◌/◌, ◌++◌, codes, length, max, take};
 ghost use Rattle.rh_draw.specs.declared.chart.TheConstants.{FARTHEST};
-ghost use Rattle.rh_lines.specs.Flow.{Puts};
 ghost use Rattle.rh_sheet.specs.Chart.{beat_text, life_class as class_of_life, life_text, line_way as way_of_line};
 ghost use Rattle.rh_sheet.specs.Chart.{loop_way as way_of_loop, message_class as class_of_message};
 ghost use Rattle.rh_sheet.specs.Chart.{message_way as way_of_message, message_words, side_letters as letters_of_side};
@@ -14,7 +13,7 @@ ghost use Rattle.rh_sheet.specs.declared.sizes.TheConstants.{LETTER_UNITS, LIFE_
 
 use crate::boxes::print_words;
 use crate::markup::{add_point, add_stretch, print_path};
-use rh_lines::{Row, Sink, WriteFailed};
+use rh_lines::{Pen, Row};
 use rh_sheet::sizes::{
     ARROW_RISE, ARROW_STUB, LETTER_UNITS, LIFE_TOP, LOOP_BOW, NAME_Y, STUB_ASIDE, STUB_DOWN,
     TIP_GAP, WORDS_ASIDE, WORDS_DOWN,
@@ -32,44 +31,30 @@ pub struct Ends {
     pub y1: u32,
 }
 
-/// Writes a task's name above its line, as far as the gap to the next has room, and the line. Fails only where the
-/// writer failed or took none of what it was offered; a front of the elements is then written.
-pub fn print_life<W: Sink>(
-    alive: bool,
-    name: &[u8],
-    gap: u32,
-    x: u32,
-    foot: u32,
-    writer: &mut W,
-) -> Result<(), WriteFailed>
-    ensures { Puts (W.output writer.old) (W.output writer.new) result (life_text alive name.now gap x foot) }
+/// Writes a task's name above its line, as far as the gap to the next has room, and the line.
+pub fn print_life<P: Pen>(alive: bool, name: &[u8], gap: u32, x: u32, foot: u32, pen: &mut P)
+    ensures { P.offered pen.new ≡ P.offered pen.old ++ life_text alive name.now gap x foot }
 {
-    print_life_name(alive, name, gap, x, writer)?;
-    print_life_line(x, foot, writer)
+    print_life_name(alive, name, gap, x, pen);
+    print_life_line(x, foot, pen);
 }
 
 /// Writes a task's name above its line.
-fn print_life_name<W: Sink>(
-    alive: bool,
-    name: &[u8],
-    gap: u32,
-    x: u32,
-    writer: &mut W,
-) -> Result<(), WriteFailed>
-    ensures { Puts (W.output writer.old) (W.output writer.new) result
-        (words_text (class_of_life alive) x NAME_Y (take (max 1 (gap / LETTER_UNITS)) name.now)) }
+fn print_life_name<P: Pen>(alive: bool, name: &[u8], gap: u32, x: u32, pen: &mut P)
+    ensures { P.offered pen.new ≡ P.offered pen.old
+        ++ words_text (class_of_life alive) x NAME_Y (take (max 1 (gap / LETTER_UNITS)) name.now) }
 {
     let front = life_name(name, gap);
-    print_words(life_class(alive), x, NAME_Y, front, writer)
+    print_words(life_class(alive), x, NAME_Y, front, pen);
 }
 
 /// Writes the line of a task.
-fn print_life_line<W: Sink>(x: u32, foot: u32, writer: &mut W) -> Result<(), WriteFailed>
-    ensures { Puts (W.output writer.old) (W.output writer.new) result
-        (path_text (codes "life") (point_text (codes "M") x LIFE_TOP ++ stretch_text (codes "V") foot)) }
+fn print_life_line<P: Pen>(x: u32, foot: u32, pen: &mut P)
+    ensures { P.offered pen.new ≡ P.offered pen.old
+        ++ path_text (codes "life") (point_text (codes "M") x LIFE_TOP ++ stretch_text (codes "V") foot) }
 {
     let way = life_way(x, foot);
-    print_path(b"life", &way, writer)
+    print_path(b"life", &way, pen);
 }
 
 /// As much of a task's name as the gap has room for.
@@ -99,15 +84,14 @@ fn life_class(alive: bool) -> &'static [u8]
     if alive { b"who" } else { b"who dead" }
 }
 
-/// Writes a step's number at the left. Fails only where the writer failed or took none of what it was offered; a front
-/// of the element is then written.
-pub fn print_beat<W: Sink>(y: u32, step: u32, writer: &mut W) -> Result<(), WriteFailed>
+/// Writes a step's number at the left.
+pub fn print_beat<P: Pen>(y: u32, step: u32, pen: &mut P)
     requires { y ≤ FARTHEST }
-    ensures { Puts (W.output writer.old) (W.output writer.new) result (beat_text y step) }
+    ensures { P.offered pen.new ≡ P.offered pen.old ++ beat_text y step }
 {
     let mut text = Row::new();
     text.decimal(step);
-    print_words(b"beat", 0, y + ARROW_RISE, text.as_slice(), writer)
+    print_words(b"beat", 0, y + ARROW_RISE, text.as_slice(), pen);
 }
 
 /// The letters of a way to the left or to the right.
@@ -200,22 +184,16 @@ fn message_class(waits: bool, now: bool) -> &'static [u8]
     }
 }
 
-/// Writes the arrow of a message, which waits or not, and began or ended at this step or not. Fails only where the
-/// writer failed or took none of what it was offered; a front of the element is then written.
-pub fn print_message_arrow<W: Sink>(
-    waits: bool,
-    now: bool,
-    ends: Ends,
-    writer: &mut W,
-) -> Result<(), WriteFailed>
+/// Writes the arrow of a message, which waits or not, and began or ended at this step or not.
+pub fn print_message_arrow<P: Pen>(waits: bool, now: bool, ends: Ends, pen: &mut P)
     requires x0 { ends.x0 ≤ FARTHEST }
     requires x1 { ends.x1 ≤ FARTHEST }
     requires y { ends.y0 ≤ FARTHEST }
-    ensures { Puts (W.output writer.old) (W.output writer.new) result
-        (path_text (class_of_message waits now) (way_of_message waits ends.x0 ends.y0 ends.x1 ends.y1)) }
+    ensures { P.offered pen.new ≡ P.offered pen.old
+        ++ path_text (class_of_message waits now) (way_of_message waits ends.x0 ends.y0 ends.x1 ends.y1) }
 {
     let way = message_way(waits, ends);
-    print_path(message_class(waits, now), &way, writer)
+    print_path(message_class(waits, now), &way, pen);
 }
 
 /// The classes of an arrow's words.
@@ -259,19 +237,11 @@ fn words_x(waits: bool, ends: Ends) -> u32
     }
 }
 
-/// Writes the words of an arrow. Fails only where the writer failed or took none of what it was offered; a front of the
-/// element is then written.
-pub fn print_message_words<W: Sink>(
-    waits: bool,
-    now: bool,
-    ends: Ends,
-    text: &[u8],
-    writer: &mut W,
-) -> Result<(), WriteFailed>
+/// Writes the words of an arrow.
+pub fn print_message_words<P: Pen>(waits: bool, now: bool, ends: Ends, text: &[u8], pen: &mut P)
     requires x { ends.x0 ≤ FARTHEST }
     requires y { ends.y0 ≤ FARTHEST }
-    ensures { Puts (W.output writer.old) (W.output writer.new) result
-        (message_words waits now ends.x0 ends.y0 ends.x1 text.now) }
+    ensures { P.offered pen.new ≡ P.offered pen.old ++ message_words waits now ends.x0 ends.y0 ends.x1 text.now }
 {
     let class = words_class(ends.x1 < ends.x0, now);
     print_words(
@@ -279,6 +249,6 @@ pub fn print_message_words<W: Sink>(
         words_x(waits, ends),
         ends.y0 + words_down(waits),
         text,
-        writer,
-    )
+        pen,
+    );
 }

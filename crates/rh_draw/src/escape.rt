@@ -2,11 +2,10 @@
 
 ghost use Rattle.std.specs.Prelude.{◌≡◌, ◌≤◌, ◌+◌, ◌*◌, ◌++◌, length};
 ghost use Rattle.rh_draw.specs.declared.escape.TheConstants.{CHUNK, LONGEST_SIGN};
-ghost use Rattle.rh_lines.specs.Flow.{Puts};
 ghost use Rattle.rh_lines.specs.declared.row.TheConstants.{ROW};
 ghost use Rattle.rh_sheet.specs.Markup.{escape, escaped_byte};
 
-use rh_lines::{Row, Sink, WriteFailed, put};
+use rh_lines::{Pen, Row};
 
 /// So many bytes of a text are escaped at once.
 const CHUNK: usize = 32;
@@ -41,41 +40,32 @@ pub fn add_escaped(row: &mut Row, text: &[u8])
 }
 
 /// Writes a short text.
-fn put_chunk<W: Sink>(text: &[u8], writer: &mut W) -> Result<(), WriteFailed>
+fn put_chunk<P: Pen>(text: &[u8], pen: &mut P)
     requires { length text.now ≤ CHUNK }
-    ensures { Puts (W.output writer.old) (W.output writer.new) result (escape text.now) }
+    ensures { P.offered pen.new ≡ P.offered pen.old ++ escape text.now }
 {
     let mut row = Row::new();
     add_escaped(&mut row, text);
-    put(writer, row.as_slice())
+    pen.put(row.as_slice());
 }
 
-/// Writes a text in which no byte begins or ends an element. Fails only where the writer failed or took none of what it
-/// was offered; a front of the text is then written.
-pub fn put_escaped<W: Sink>(text: &[u8], writer: &mut W) -> Result<(), WriteFailed>
-    ensures { Puts (W.output writer.old) (W.output writer.new) result (escape text.now) }
+/// Writes a text in which no byte begins or ends an element.
+pub fn put_escaped<P: Pen>(text: &[u8], pen: &mut P)
+    ensures { P.offered pen.new ≡ P.offered pen.old ++ escape text.now }
 {
     let mut rest = text;
     while !rest.is_empty() {
         let count = rest.len().min(CHUNK);
-        put_chunk(&rest[..count], writer)?;
+        put_chunk(&rest[..count], pen);
         rest = &rest[count..];
     }
-    Ok(())
 }
 
-/// Writes a text between two others that stand as they are. Fails only where the writer failed or took none of what it
-/// was offered; a front of the three is then written.
-pub fn put_between<W: Sink>(
-    before: &[u8],
-    text: &[u8],
-    behind: &[u8],
-    writer: &mut W,
-) -> Result<(), WriteFailed>
-    ensures { Puts (W.output writer.old) (W.output writer.new) result
-        (before.now ++ (escape text.now ++ behind.now)) }
+/// Writes a text between two others that stand as they are.
+pub fn put_between<P: Pen>(before: &[u8], text: &[u8], behind: &[u8], pen: &mut P)
+    ensures { P.offered pen.new ≡ P.offered pen.old ++ (before.now ++ (escape text.now ++ behind.now)) }
 {
-    put(writer, before)?;
-    put_escaped(text, writer)?;
-    put(writer, behind)
+    pen.put(before);
+    put_escaped(text, pen);
+    pen.put(behind);
 }

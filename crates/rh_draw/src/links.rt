@@ -1,12 +1,11 @@
 //! Links from step to step.
 
 ghost use Rattle.std.specs.Prelude.{◌≡◌, ◌≤◌, ◌+◌, ◌++◌, length};
-ghost use Rattle.rh_lines.specs.Flow.{Puts};
 ghost use Rattle.rh_lines.specs.declared.row.TheConstants.{ROW};
 ghost use Rattle.rh_sheet.specs.Markup.{step_link};
 ghost use Rattle.rh_sheet.specs.Sheet.{numbered_link};
 
-use rh_lines::{Row, Sink, WriteFailed, put};
+use rh_lines::{Pen, Row};
 
 /// Adds a link to step n, with what stands in it.
 pub fn add_step_link(row: &mut Row, n: u32, inside: &[u8])
@@ -21,15 +20,14 @@ pub fn add_step_link(row: &mut Row, n: u32, inside: &[u8])
     row.text(b"</a>");
 }
 
-/// Writes a link to step n by its number. Fails only where the writer failed or took none of what it was offered; a
-/// front of it is then written.
-pub fn print_numbered_link<W: Sink>(n: u32, writer: &mut W) -> Result<(), WriteFailed>
-    ensures { Puts (W.output writer.old) (W.output writer.new) result (numbered_link n) }
+/// Writes a link to step n by its number.
+pub fn print_numbered_link<P: Pen>(n: u32, pen: &mut P)
+    ensures { P.offered pen.new ≡ P.offered pen.old ++ numbered_link n }
 {
     let mut number = Row::new();
     number.decimal(n);
     let mut row = Row::new();
     add_step_link(&mut row, n, number.as_slice());
     row.byte(b'\n');
-    put(writer, row.as_slice())
+    pen.put(row.as_slice());
 }

@@ -7,7 +7,6 @@ ghost use Rattle.rh_defs.specs.Text.{address as address_of};
 ghost use Rattle.rh_defs.specs.declared.sizes.TheConstants.{PAGE};
 ghost use Rattle.rh_draw.specs.DrawPieces.{AreDrawable, IsDrawable};
 ghost use Rattle.rh_draw.specs.Tints.{tint_class};
-ghost use Rattle.rh_lines.specs.Flow.{Puts};
 ghost use Rattle.rh_lines.specs.declared.row.TheConstants.{ROW};
 ghost use Rattle.rh_figure.specs.Phrases.{where_so};
 ghost use Rattle.rh_sheet.specs.declared.sizes.TheConstants.{ROW_WIDTH, SHORT_EDGE, UNIT_BYTES};
@@ -22,7 +21,7 @@ use crate::boxes::{Extent, print_box, print_words};
 use crate::tints::{Tint, add_tint};
 use rh_defs::sizes::PAGE;
 use rh_figure::{Kind, Piece};
-use rh_lines::{Row, Sink, WriteFailed};
+use rh_lines::{Pen, Row};
 use rh_map::add_size;
 use rh_sheet::sizes::{
     BASELINE, LABEL_EDGE, LABEL_UNITS, LEFT, ROW_HEIGHT, SHORT_EDGE, UNIT_BYTES,
@@ -263,20 +262,12 @@ fn piece_width(k: usize, piece: &Piece) -> u32
 }
 
 /// Writes the rectangle of a piece that has bytes in page k.
-fn print_piece_box<W: Sink>(
-    start: u32,
-    tint: Tint,
-    y: u32,
-    k: usize,
-    piece: &Piece,
-    writer: &mut W,
-) -> Result<(), WriteFailed>
+fn print_piece_box<P: Pen>(start: u32, tint: Tint, y: u32, k: usize, piece: &Piece, pen: &mut P)
     requires start { start < 2 ^ 30 }
     requires page { k < 2 ^ 20 }
     requires piece { IsDrawable piece.now }
     requires there { low_byte_in k piece.now < high_byte_in k piece.now }
-    ensures { Puts (W.output writer.old) (W.output writer.new) result
-        (box_text (piece_box start (tint_class tint) y k piece.now)) }
+    ensures { P.offered pen.new ≡ P.offered pen.old ++ box_text (piece_box start (tint_class tint) y k piece.now) }
 {
     let class = classes_of(tint, piece.kind, piece.fresh);
     let mut tip = Row::new();
@@ -292,16 +283,16 @@ fn print_piece_box<W: Sink>(
         width: piece_width(k, piece),
         height: ROW_HEIGHT,
     };
-    print_box(class.as_slice(), at, tip.as_slice(), writer)
+    print_box(class.as_slice(), at, tip.as_slice(), pen);
 }
 
 /// Writes the label that the part of a piece in the row of page k has room for.
-fn print_label<W: Sink>(y: u32, k: usize, piece: &Piece, writer: &mut W) -> Result<(), WriteFailed>
+fn print_label<P: Pen>(y: u32, k: usize, piece: &Piece, pen: &mut P)
     requires height { y ≤ 800 }
     requires page { k < 2 ^ 20 }
     requires piece { IsDrawable piece.now }
     requires there { low_byte_in k piece.now < high_byte_in k piece.now }
-    ensures { Puts (W.output writer.old) (W.output writer.new) result (piece_label y k piece.now) }
+    ensures { P.offered pen.new ≡ P.offered pen.old ++ piece_label y k piece.now }
 {
     let mut class = Row::new();
     class.text(b"lab ");
@@ -309,76 +300,46 @@ fn print_label<W: Sink>(y: u32, k: usize, piece: &Piece, writer: &mut W) -> Resu
     let width = piece_width(k, piece);
     let label = fitting(piece.kind, piece.size as u32, width);
     let x = LEFT + piece_x(k, piece) + width / 2;
-    print_words(class.as_slice(), x, y + BASELINE, label.as_slice(), writer)
+    print_words(class.as_slice(), x, y + BASELINE, label.as_slice(), pen);
 }
 
 /// Writes the part of a piece in the row of page k.
-fn print_part<W: Sink>(
-    start: u32,
-    tint: Tint,
-    y: u32,
-    k: usize,
-    piece: &Piece,
-    writer: &mut W,
-) -> Result<(), WriteFailed>
+fn print_part<P: Pen>(start: u32, tint: Tint, y: u32, k: usize, piece: &Piece, pen: &mut P)
     requires start { start < 2 ^ 30 }
     requires height { y ≤ 800 }
     requires page { k < 2 ^ 20 }
     requires piece { IsDrawable piece.now }
     requires there { low_byte_in k piece.now < high_byte_in k piece.now }
-    ensures { Puts (W.output writer.old) (W.output writer.new) result
-        (box_text (piece_box start (tint_class tint) y k piece.now) ++ piece_label y k piece.now) }
+    ensures { P.offered pen.new ≡ P.offered pen.old
+        ++ (box_text (piece_box start (tint_class tint) y k piece.now) ++ piece_label y k piece.now) }
 {
-    print_piece_box(start, tint, y, k, piece, writer)?;
-    print_label(y, k, piece, writer)
+    print_piece_box(start, tint, y, k, piece, pen);
+    print_label(y, k, piece, pen);
 }
 
 /// Writes a piece in the row of page k of an area that begins at an address, at a height of the figure, if it has bytes
-/// there. Fails only where the writer failed or took none of what it was offered; a front of the elements is then
-/// written.
-pub fn print_piece<W: Sink>(
-    start: u32,
-    tint: Tint,
-    y: u32,
-    k: usize,
-    piece: &Piece,
-    writer: &mut W,
-) -> Result<(), WriteFailed>
+/// there.
+pub fn print_piece<P: Pen>(start: u32, tint: Tint, y: u32, k: usize, piece: &Piece, pen: &mut P)
     requires start { start < 2 ^ 30 }
     requires height { y ≤ 800 }
     requires page { k < 2 ^ 17 }
     requires piece { IsDrawable piece.now }
-    ensures { Puts (W.output writer.old) (W.output writer.new) result
-        (piece_text start (tint_class tint) y k piece.now) }
+    ensures { P.offered pen.new ≡ P.offered pen.old ++ piece_text start (tint_class tint) y k piece.now }
 {
     if low_in(k, piece) < high_in(k, piece) {
-        print_part(start, tint, y, k, piece, writer)
-    } else {
-        Ok(())
+        print_part(start, tint, y, k, piece, pen);
     }
 }
 
-/// Writes all pieces that have bytes in page k. Fails only where the writer failed or took none of what it was offered;
-/// a front of the elements is then written.
-pub fn print_pieces<W: Sink>(
-    start: u32,
-    tint: Tint,
-    y: u32,
-    k: usize,
-    pieces: &[Piece],
-    writer: &mut W,
-) -> Result<(), WriteFailed>
+/// Writes all pieces that have bytes in page k.
+pub fn print_pieces<P: Pen>(start: u32, tint: Tint, y: u32, k: usize, pieces: &[Piece], pen: &mut P)
     requires start { start < 2 ^ 30 }
     requires height { y ≤ 800 }
     requires page { k < 2 ^ 17 }
     requires pieces { AreDrawable pieces.now }
-    ensures { Puts (W.output writer.old) (W.output writer.new) result
-        (pieces_text start (tint_class tint) y k pieces.now) }
+    ensures { P.offered pen.new ≡ P.offered pen.old ++ pieces_text start (tint_class tint) y k pieces.now }
 {
-    let mut rest = pieces;
-    while let Some((piece, others)) = rest.split_first() {
-        print_piece(start, tint, y, k, piece, writer)?;
-        rest = others;
+    for piece in pieces {
+        print_piece(start, tint, y, k, piece, pen);
     }
-    Ok(())
 }

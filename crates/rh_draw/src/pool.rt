@@ -4,7 +4,6 @@ ghost use Rattle.std.specs.Prelude.{◌≡◌, ◌≤◌, ◌<◌, ◌+◌, ◌^
 ghost use Rattle.std.specs.List.{flat_map, range_with_len};
 ghost use Rattle.rh_defs.specs.declared.sizes.TheConstants.{MAX_PAGES};
 ghost use Rattle.rh_draw.specs.declared.boxes.TheConstants.{LONGEST_CLASS};
-ghost use Rattle.rh_lines.specs.Flow.{Puts};
 ghost use Rattle.rh_lines.specs.declared.row.TheConstants.{ROW};
 ghost use Rattle.rh_sheet.specs.Markup.{box_text, words_text};
 ghost use Rattle.rh_sheet.specs.Pool.{cell_x as x_of_cell, cell_y as y_of_cell, free_text, grid_box, grid_text};
@@ -16,7 +15,7 @@ use crate::attributes::add_text_attribute;
 use crate::boxes::{Extent, print_box, print_words};
 use crate::escape::put_between;
 use crate::markup::add_point;
-use rh_lines::{Row, Sink, WriteFailed, put};
+use rh_lines::{Pen, Row};
 use rh_sheet::sizes::{
     CELL, LEFT, NUMBER_BASELINE, NUMBER_INDENT, POOL_COLUMNS, POOL_NAME_Y, POOL_NOTE_Y, ROW_WIDTH,
     TAG_BASELINE,
@@ -53,78 +52,59 @@ fn square_row(k: u32) -> Row
 }
 
 /// Writes the way round the square of page k.
-fn print_square<W: Sink>(k: u16, writer: &mut W) -> Result<(), WriteFailed>
-    ensures { Puts (W.output writer.old) (W.output writer.new) result (square_way k) }
+fn print_square<P: Pen>(k: u16, pen: &mut P)
+    ensures { P.offered pen.new ≡ P.offered pen.old ++ square_way k }
 {
-    put(writer, square_row(u32::from(k)).as_slice())
+    pen.put(square_row(u32::from(k)).as_slice());
 }
 
 /// Writes the ways round the squares of some pages.
-fn print_ways<W: Sink>(pages: &[u16], writer: &mut W) -> Result<(), WriteFailed>
-    ensures { Puts (W.output writer.old) (W.output writer.new) result (flat_map square_way pages.now) }
+fn print_ways<P: Pen>(pages: &[u16], pen: &mut P)
+    ensures { P.offered pen.new ≡ P.offered pen.old ++ flat_map square_way pages.now }
 {
-    let mut rest = pages;
-    while let Some((page, others)) = rest.split_first() {
-        print_square(*page, writer)?;
-        rest = others;
+    for page in pages {
+        print_square(*page, pen);
     }
-    Ok(())
 }
 
 /// Writes the beginning of squares.
-fn print_squares_begin<W: Sink>(class: &[u8], writer: &mut W) -> Result<(), WriteFailed>
+fn print_squares_begin<P: Pen>(class: &[u8], pen: &mut P)
     requires { length class.now ≤ LONGEST_CLASS }
-    ensures { Puts (W.output writer.old) (W.output writer.new) result (squares_begin class.now) }
+    ensures { P.offered pen.new ≡ P.offered pen.old ++ squares_begin class.now }
 {
     let mut row = Row::new();
     row.text(b"<path");
     add_text_attribute(&mut row, b"class", class);
     row.text(b" d=\"");
-    put(writer, row.as_slice())
+    pen.put(row.as_slice());
 }
 
-/// Writes the squares of some pages, if there are any, with a tip. Fails only where the writer failed or took none of
-/// what it was offered; a front of the element is then written.
-pub fn print_squares<W: Sink>(
-    class: &[u8],
-    pages: &[u16],
-    tip: &[u8],
-    writer: &mut W,
-) -> Result<(), WriteFailed>
+/// Writes the squares of some pages, if there are any, with a tip.
+pub fn print_squares<P: Pen>(class: &[u8], pages: &[u16], tip: &[u8], pen: &mut P)
     requires { length class.now ≤ LONGEST_CLASS }
-    ensures { Puts (W.output writer.old) (W.output writer.new) result (squares_text class.now pages.now tip.now) }
+    ensures { P.offered pen.new ≡ P.offered pen.old ++ squares_text class.now pages.now tip.now }
 {
     if pages.is_empty() {
-        return Ok(());
+        return;
     }
-    print_some_squares(class, pages, tip, writer)
+    print_some_squares(class, pages, tip, pen);
 }
 
 /// Writes the squares of some pages, with a tip.
-fn print_some_squares<W: Sink>(
-    class: &[u8],
-    pages: &[u16],
-    tip: &[u8],
-    writer: &mut W,
-) -> Result<(), WriteFailed>
+fn print_some_squares<P: Pen>(class: &[u8], pages: &[u16], tip: &[u8], pen: &mut P)
     requires { length class.now ≤ LONGEST_CLASS }
-    ensures { Puts (W.output writer.old) (W.output writer.new) result (some_squares class.now pages.now tip.now) }
+    ensures { P.offered pen.new ≡ P.offered pen.old ++ some_squares class.now pages.now tip.now }
 {
-    print_squares_begin(class, writer)?;
-    print_ways(pages, writer)?;
-    put_between(b"\"><title>", tip, b"</title></path>\n", writer)
+    print_squares_begin(class, pen);
+    print_ways(pages, pen);
+    put_between(b"\"><title>", tip, b"</title></path>\n", pen);
 }
 
 // ---- the grid
 
 /// Writes a part of the grid.
-fn print_grid_box<W: Sink>(
-    y: u32,
-    width: u32,
-    height: u32,
-    writer: &mut W,
-) -> Result<(), WriteFailed>
-    ensures { Puts (W.output writer.old) (W.output writer.new) result (box_text (grid_box y width height)) }
+fn print_grid_box<P: Pen>(y: u32, width: u32, height: u32, pen: &mut P)
+    ensures { P.offered pen.new ≡ P.offered pen.old ++ box_text (grid_box y width height) }
 {
     print_box(
         b"cells",
@@ -135,43 +115,39 @@ fn print_grid_box<W: Sink>(
             height,
         },
         b"",
-        writer,
-    )
+        pen,
+    );
 }
 
 /// Writes the whole rows of n pages, if there are any.
-fn print_whole_rows<W: Sink>(n: u32, writer: &mut W) -> Result<(), WriteFailed>
+fn print_whole_rows<P: Pen>(n: u32, pen: &mut P)
     requires { n ≤ MAX_PAGES }
-    ensures { Puts (W.output writer.old) (W.output writer.new) result (whole_rows_text n) }
+    ensures { P.offered pen.new ≡ P.offered pen.old ++ whole_rows_text n }
 {
     if n >= POOL_COLUMNS {
-        print_grid_box(0, ROW_WIDTH, CELL * (n / POOL_COLUMNS), writer)
-    } else {
-        Ok(())
+        print_grid_box(0, ROW_WIDTH, CELL * (n / POOL_COLUMNS), pen);
     }
 }
 
 /// Writes the rest of n pages, if there is one.
-fn print_rest_row<W: Sink>(n: u32, writer: &mut W) -> Result<(), WriteFailed>
+fn print_rest_row<P: Pen>(n: u32, pen: &mut P)
     requires { n ≤ MAX_PAGES }
-    ensures { Puts (W.output writer.old) (W.output writer.new) result (rest_row_text n) }
+    ensures { P.offered pen.new ≡ P.offered pen.old ++ rest_row_text n }
 {
     if n % POOL_COLUMNS != 0 {
         print_grid_box(
             CELL * (n / POOL_COLUMNS),
             CELL * (n % POOL_COLUMNS),
             CELL,
-            writer,
-        )
-    } else {
-        Ok(())
+            pen,
+        );
     }
 }
 
 /// Writes the number of page k in its square.
-fn print_number<W: Sink>(k: u32, writer: &mut W) -> Result<(), WriteFailed>
+fn print_number<P: Pen>(k: u32, pen: &mut P)
     requires { k ≤ MAX_PAGES }
-    ensures { Puts (W.output writer.old) (W.output writer.new) result (number_text k) }
+    ensures { P.offered pen.new ≡ P.offered pen.old ++ number_text k }
 {
     let mut text = Row::new();
     text.decimal(k);
@@ -180,52 +156,46 @@ fn print_number<W: Sink>(k: u32, writer: &mut W) -> Result<(), WriteFailed>
         cell_x(k) + NUMBER_INDENT,
         cell_y(k) + NUMBER_BASELINE,
         text.as_slice(),
-        writer,
-    )
+        pen,
+    );
 }
 
-/// Writes n squares with their numbers. Fails only where the writer failed or took none of what it was offered; a front
-/// of the elements is then written.
-pub fn print_grid<W: Sink>(n: u32, writer: &mut W) -> Result<(), WriteFailed>
+/// Writes n squares with their numbers.
+pub fn print_grid<P: Pen>(n: u32, pen: &mut P)
     requires { n ≤ MAX_PAGES }
-    ensures { Puts (W.output writer.old) (W.output writer.new) result (grid_text n) }
+    ensures { P.offered pen.new ≡ P.offered pen.old ++ grid_text n }
 {
-    put(writer, b"<g id=\"grid\">\n")?;
-    print_whole_rows(n, writer)?;
-    print_rest_row(n, writer)?;
-    print_numbers(n, writer)?;
-    put(writer, b"</g>\n")
+    pen.put(b"<g id=\"grid\">\n");
+    print_whole_rows(n, pen);
+    print_rest_row(n, pen);
+    print_numbers(n, pen);
+    pen.put(b"</g>\n");
 }
 
 /// Writes the numbers of n pages.
-fn print_numbers<W: Sink>(n: u32, writer: &mut W) -> Result<(), WriteFailed>
+fn print_numbers<P: Pen>(n: u32, pen: &mut P)
     requires { n ≤ MAX_PAGES }
-    ensures { Puts (W.output writer.old) (W.output writer.new) result (flat_map number_text (range_with_len 0 n)) }
+    ensures { P.offered pen.new ≡ P.offered pen.old ++ flat_map number_text (range_with_len 0 n) }
 {
     for k in 0..n {
-        print_number(k, writer)?;
+        print_number(k, pen);
     }
-    Ok(())
 }
 
 // ---- tags, and what stands at the left
 
-/// Writes a tag in the squares of some pages. Fails only where the writer failed or took none of what it was offered; a
-/// front of the elements is then written.
-pub fn print_tags<W: Sink>(tag: &[u8], pages: &[u16], writer: &mut W) -> Result<(), WriteFailed>
-    ensures { Puts (W.output writer.old) (W.output writer.new) result (flat_map (tag_text tag.now) pages.now) }
+/// Writes a tag in the squares of some pages.
+pub fn print_tags<P: Pen>(tag: &[u8], pages: &[u16], pen: &mut P)
+    ensures { P.offered pen.new ≡ P.offered pen.old ++ flat_map (tag_text tag.now) pages.now }
 {
-    let mut rest = pages;
-    while let Some((page, others)) = rest.split_first() {
-        print_tag(tag, *page, writer)?;
-        rest = others;
+    for page in pages {
+        print_tag(tag, *page, pen);
     }
-    Ok(())
 }
 
 /// Writes a tag in the square of page k.
-fn print_tag<W: Sink>(tag: &[u8], k: u16, writer: &mut W) -> Result<(), WriteFailed>
-    ensures { Puts (W.output writer.old) (W.output writer.new) result (tag_text tag.now k) }
+fn print_tag<P: Pen>(tag: &[u8], k: u16, pen: &mut P)
+    ensures { P.offered pen.new ≡ P.offered pen.old ++ tag_text tag.now k }
 {
     let page = u32::from(k);
     print_words(
@@ -233,8 +203,8 @@ fn print_tag<W: Sink>(tag: &[u8], k: u16, writer: &mut W) -> Result<(), WriteFai
         cell_x(page) + CELL / 2,
         cell_y(page) + TAG_BASELINE,
         tag,
-        writer,
-    )
+        pen,
+    );
 }
 
 /// Adds how many pages of so many are free.
@@ -249,21 +219,19 @@ fn add_free(row: &mut Row, free: u32, pages: u32)
     row.text(b" free");
 }
 
-/// Writes the name of the pool and how much of it is free. Fails only where the writer failed or took none of what it
-/// was offered; a front of the elements is then written.
-pub fn print_pool_side<W: Sink>(free: u32, pages: u32, writer: &mut W) -> Result<(), WriteFailed>
-    ensures { Puts (W.output writer.old) (W.output writer.new) result (pool_side free pages) }
+/// Writes the name of the pool and how much of it is free.
+pub fn print_pool_side<P: Pen>(free: u32, pages: u32, pen: &mut P)
+    ensures { P.offered pen.new ≡ P.offered pen.old ++ pool_side free pages }
 {
-    print_words(b"side", 0, POOL_NAME_Y, b"Pool", writer)?;
-    print_free(free, pages, writer)
+    print_words(b"side", 0, POOL_NAME_Y, b"Pool", pen);
+    print_free(free, pages, pen);
 }
 
 /// Writes how many pages of so many are free.
-fn print_free<W: Sink>(free: u32, pages: u32, writer: &mut W) -> Result<(), WriteFailed>
-    ensures { Puts (W.output writer.old) (W.output writer.new) result
-        (words_text (codes "small") 0 POOL_NOTE_Y (free_text free pages)) }
+fn print_free<P: Pen>(free: u32, pages: u32, pen: &mut P)
+    ensures { P.offered pen.new ≡ P.offered pen.old ++ words_text (codes "small") 0 POOL_NOTE_Y (free_text free pages) }
 {
     let mut note = Row::new();
     add_free(&mut note, free, pages);
-    print_words(b"small", 0, POOL_NOTE_Y, note.as_slice(), writer)
+    print_words(b"small", 0, POOL_NOTE_Y, note.as_slice(), pen);
 }

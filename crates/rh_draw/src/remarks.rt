@@ -1,7 +1,6 @@
 //! Remarks of a script.
 
-ghost use Rattle.std.specs.Prelude.{◌≡◌, ◌≤◌, length, map};
-ghost use Rattle.rh_lines.specs.Flow.{Puts};
+ghost use Rattle.std.specs.Prelude.{◌≡◌, ◌≤◌, ◌++◌, length, map};
 ghost use Rattle.rh_sheet.specs.Markup.{escape};
 ghost use Rattle.rh_sheet.specs.SheetSteps.{remark_byte as remark_byte_of, remark_class as remark_class_of, remark_of};
 ghost use Rattle.rh_sheet.specs.SheetSteps.{remark_text, remark_words as remark_words_of};
@@ -9,7 +8,7 @@ ghost use Rattle.rh_sheet.specs.SheetSteps.{sign_length as length_of_sign, some_
 ghost use Rattle.rh_sheet.specs.SheetSteps.{without_indent};
 
 use crate::escape::put_escaped;
-use rh_lines::{Sink, WriteFailed, put};
+use rh_lines::Pen;
 use rh_map::is_mark;
 
 /// A byte of a remark as it is shown: a space in place of one below 32, and of 127.
@@ -23,35 +22,32 @@ fn remark_byte(byte: u8) -> u8
     }
 }
 
-/// Writes a remark, if it has words. Fails only where the writer failed or took none of what it was offered; a front of
-/// it is then written.
-pub fn print_remark<W: Sink>(line: &[u8], writer: &mut W) -> Result<(), WriteFailed>
-    ensures { Puts (W.output writer.old) (W.output writer.new) result (remark_text line.now) }
+/// Writes a remark, if it has words.
+pub fn print_remark<P: Pen>(line: &[u8], pen: &mut P)
+    ensures { P.offered pen.new ≡ P.offered pen.old ++ remark_text line.now }
 {
-    print_shown(remark_class(line), remark_words(line), writer)
+    print_shown(remark_class(line), remark_words(line), pen);
 }
 
 /// Writes the bytes of a remark as they are shown, if there are some.
-fn print_shown<W: Sink>(class: &[u8], words: &[u8], writer: &mut W) -> Result<(), WriteFailed>
-    ensures { Puts (W.output writer.old) (W.output writer.new) result
-        (remark_of class.now (map remark_byte_of words.now)) }
+fn print_shown<P: Pen>(class: &[u8], words: &[u8], pen: &mut P)
+    ensures { P.offered pen.new ≡ P.offered pen.old ++ remark_of class.now (map remark_byte_of words.now) }
 {
     if words.is_empty() {
-        return Ok(());
+        return;
     }
-    print_some(class, words, writer)
+    print_some(class, words, pen);
 }
 
 /// Writes the bytes of a remark as they are shown.
-fn print_some<W: Sink>(class: &[u8], words: &[u8], writer: &mut W) -> Result<(), WriteFailed>
-    ensures { Puts (W.output writer.old) (W.output writer.new) result
-        (some_remark class.now (map remark_byte_of words.now)) }
+fn print_some<P: Pen>(class: &[u8], words: &[u8], pen: &mut P)
+    ensures { P.offered pen.new ≡ P.offered pen.old ++ some_remark class.now (map remark_byte_of words.now) }
 {
-    put(writer, b"<p class=\"")?;
-    put(writer, class)?;
-    put(writer, b"\">")?;
-    put_remark(words, writer)?;
-    put(writer, b"</p>\n")
+    pen.put(b"<p class=\"");
+    pen.put(class);
+    pen.put(b"\">");
+    put_remark(words, pen);
+    pen.put(b"</p>\n");
 }
 
 /// The class of a remark.
@@ -107,13 +103,10 @@ fn stripped(text: &[u8]) -> &[u8]
 }
 
 /// Writes the words of a remark, or the name of a script: text from outside, with spaces in place of control bytes.
-pub(crate) fn put_remark<W: Sink>(words: &[u8], writer: &mut W) -> Result<(), WriteFailed>
-    ensures { Puts (W.output writer.old) (W.output writer.new) result (escape (map remark_byte_of words.now)) }
+pub(crate) fn put_remark<P: Pen>(words: &[u8], pen: &mut P)
+    ensures { P.offered pen.new ≡ P.offered pen.old ++ escape (map remark_byte_of words.now) }
 {
-    let mut rest = words;
-    while let Some((first, others)) = rest.split_first() {
-        put_escaped(&[remark_byte(*first)], writer)?;
-        rest = others;
+    for byte in words {
+        put_escaped(&[remark_byte(*byte)], pen);
     }
-    Ok(())
 }

@@ -1,6 +1,6 @@
 //! The rows of an area: a page each.
 
-ghost use Rattle.std.specs.Prelude.{◌≤◌, ◌<◌, ◌+◌, ◌*◌, ◌/◌, ◌^◌, nat_lt, if◌then◌else◌, length, codes};
+ghost use Rattle.std.specs.Prelude.{◌≡◌, ◌≤◌, ◌<◌, ◌+◌, ◌*◌, ◌/◌, ◌^◌, nat_lt, if◌then◌else◌, ◌++◌, length, codes};
 ghost use Rattle.std.specs.Fmt.{decimal};
 ghost use Rattle.rh_defs.specs.Pieces.{page_size};
 ghost use Rattle.rh_defs.specs.Text.{address};
@@ -8,7 +8,6 @@ ghost use Rattle.rh_defs.specs.declared.sizes.TheConstants.{MAX_PAGES};
 ghost use Rattle.rh_draw.specs.DrawPieces.{AreDrawable};
 ghost use Rattle.rh_draw.specs.DrawRows.{plot_of};
 ghost use Rattle.rh_draw.specs.Tints.{tint_class};
-ghost use Rattle.rh_lines.specs.Flow.{Puts};
 ghost use Rattle.rh_sheet.specs.Frames.{shown_rows as shown_rows_of};
 ghost use Rattle.rh_sheet.specs.Markup.{box_text, words_text};
 ghost use Rattle.rh_sheet.specs.SheetRows.{addressed_text, chip_box, chip_text, gap_text, page_box, page_row_text};
@@ -22,7 +21,7 @@ use crate::tints::{Tint, add_tint};
 use rh_defs::sizes::PAGE;
 use rh_figure::Piece;
 use rh_figure::limits::EDGE_ROWS;
-use rh_lines::{Row, Sink, WriteFailed};
+use rh_lines::{Pen, Row};
 use rh_map::add_pages;
 use rh_sheet::Frame;
 use rh_sheet::sizes::{BASELINE, CHIP_LEFT, CHIP_WIDTH, LEFT, ROW_HEIGHT, ROW_WIDTH};
@@ -38,9 +37,9 @@ pub struct Plot<'a> {
 }
 
 /// Writes a rectangle as wide as a page.
-fn print_page_box<W: Sink>(class: &[u8], y: u32, writer: &mut W) -> Result<(), WriteFailed>
+fn print_page_box<P: Pen>(class: &[u8], y: u32, pen: &mut P)
     requires { length class.now ≤ 8 }
-    ensures { Puts (W.output writer.old) (W.output writer.new) result (box_text (page_box class.now y)) }
+    ensures { P.offered pen.new ≡ P.offered pen.old ++ box_text (page_box class.now y) }
 {
     let at = Extent {
         x: LEFT,
@@ -48,12 +47,12 @@ fn print_page_box<W: Sink>(class: &[u8], y: u32, writer: &mut W) -> Result<(), W
         width: ROW_WIDTH,
         height: ROW_HEIGHT,
     };
-    print_box(class, at, b"", writer)
+    print_box(class, at, b"", pen);
 }
 
 /// Writes where the number of a page stands, in its owner's tint.
-fn print_chip_box<W: Sink>(tint: Tint, y: u32, writer: &mut W) -> Result<(), WriteFailed>
-    ensures { Puts (W.output writer.old) (W.output writer.new) result (box_text (chip_box (tint_class tint) y)) }
+fn print_chip_box<P: Pen>(tint: Tint, y: u32, pen: &mut P)
+    ensures { P.offered pen.new ≡ P.offered pen.old ++ box_text (chip_box (tint_class tint) y) }
 {
     let mut class = Row::new();
     class.text(b"chip ");
@@ -64,14 +63,14 @@ fn print_chip_box<W: Sink>(tint: Tint, y: u32, writer: &mut W) -> Result<(), Wri
         width: CHIP_WIDTH,
         height: ROW_HEIGHT,
     };
-    print_box(class.as_slice(), at, b"", writer)
+    print_box(class.as_slice(), at, b"", pen);
 }
 
 /// Writes the number of a page.
-fn print_chip_number<W: Sink>(y: u32, number: u16, writer: &mut W) -> Result<(), WriteFailed>
+fn print_chip_number<P: Pen>(y: u32, number: u16, pen: &mut P)
     requires { y ≤ 800 }
-    ensures { Puts (W.output writer.old) (W.output writer.new) result
-        (words_text (codes "chipn") (CHIP_LEFT + CHIP_WIDTH / 2) (y + BASELINE) (decimal number)) }
+    ensures { P.offered pen.new ≡ P.offered pen.old
+        ++ words_text (codes "chipn") (CHIP_LEFT + CHIP_WIDTH / 2) (y + BASELINE) (decimal number) }
 {
     let mut text = Row::new();
     text.decimal(u32::from(number));
@@ -80,91 +79,81 @@ fn print_chip_number<W: Sink>(y: u32, number: u16, writer: &mut W) -> Result<(),
         CHIP_LEFT + CHIP_WIDTH / 2,
         y + BASELINE,
         text.as_slice(),
-        writer,
-    )
+        pen,
+    );
 }
 
 /// Writes the number of a page in the pool, in its owner's tint.
-fn print_chip<W: Sink>(tint: Tint, y: u32, number: u16, writer: &mut W) -> Result<(), WriteFailed>
+fn print_chip<P: Pen>(tint: Tint, y: u32, number: u16, pen: &mut P)
     requires { y ≤ 800 }
-    ensures { Puts (W.output writer.old) (W.output writer.new) result (chip_text (tint_class tint) y number) }
+    ensures { P.offered pen.new ≡ P.offered pen.old ++ chip_text (tint_class tint) y number }
 {
-    print_chip_box(tint, y, writer)?;
-    print_chip_number(y, number, writer)
+    print_chip_box(tint, y, pen);
+    print_chip_number(y, number, pen);
 }
 
 /// Writes page k of an area, which it has, with all that lies in it.
-fn print_page_row<W: Sink>(
-    plot: &Plot<'_>,
-    y: u32,
-    k: usize,
-    writer: &mut W,
-) -> Result<(), WriteFailed>
+fn print_page_row<P: Pen>(plot: &Plot<'_>, y: u32, k: usize, pen: &mut P)
     requires start { plot.now.start < 2 ^ 30 }
     requires height { y ≤ 800 }
     requires few { length plot.now.pages.now ≤ MAX_PAGES }
     requires within { k < length plot.now.pages.now }
     requires pieces { AreDrawable plot.now.pieces.now }
-    ensures { Puts (W.output writer.old) (W.output writer.new) result (page_row_text (plot_of plot.now) y k) }
+    ensures { P.offered pen.new ≡ P.offered pen.old ++ page_row_text (plot_of plot.now) y k }
 {
-    print_chip(plot.tint, y, plot.pages[k], writer)?;
-    print_page_box(b"row", y, writer)?;
-    print_pieces(plot.start, plot.tint, y, k, plot.pieces, writer)
+    print_chip(plot.tint, y, plot.pages[k], pen);
+    print_page_box(b"row", y, pen);
+    print_pieces(plot.start, plot.tint, y, k, plot.pieces, pen);
 }
 
 /// Writes the address of page k of an area.
-fn print_address<W: Sink>(start: u32, y: u32, k: usize, writer: &mut W) -> Result<(), WriteFailed>
+fn print_address<P: Pen>(start: u32, y: u32, k: usize, pen: &mut P)
     requires start { start < 2 ^ 30 }
     requires height { y ≤ 800 }
     requires page { k < MAX_PAGES }
-    ensures { Puts (W.output writer.old) (W.output writer.new) result
-        (words_text (codes "addr") 0 (y + BASELINE) (address (start + page_size * k))) }
+    ensures { P.offered pen.new ≡ P.offered pen.old
+        ++ words_text (codes "addr") 0 (y + BASELINE) (address (start + page_size * k)) }
 {
     let mut text = Row::new();
     text.address(start + (PAGE * k) as u32);
-    print_words(b"addr", 0, y + BASELINE, text.as_slice(), writer)
+    print_words(b"addr", 0, y + BASELINE, text.as_slice(), pen);
 }
 
 /// Writes page k of an area, or an empty row where it was given back.
-fn print_page<W: Sink>(plot: &Plot<'_>, y: u32, k: usize, writer: &mut W) -> Result<(), WriteFailed>
+fn print_page<P: Pen>(plot: &Plot<'_>, y: u32, k: usize, pen: &mut P)
     requires start { plot.now.start < 2 ^ 30 }
     requires height { y ≤ 800 }
     requires few { length plot.now.pages.now ≤ MAX_PAGES }
     requires pieces { AreDrawable plot.now.pieces.now }
-    ensures { Puts (W.output writer.old) (W.output writer.new) result
-        (if nat_lt k (length plot.now.pages.now) then page_row_text (plot_of plot.now) y k
+    ensures { P.offered pen.new ≡ P.offered pen.old
+        ++ (if nat_lt k (length plot.now.pages.now) then page_row_text (plot_of plot.now) y k
         else box_text (page_box (codes "gone") y)) }
 {
     if k < plot.pages.len() {
-        print_page_row(plot, y, k, writer)
+        print_page_row(plot, y, k, pen);
     } else {
-        print_page_box(b"gone", y, writer)
+        print_page_box(b"gone", y, pen);
     }
 }
 
 /// Writes page k of an area by its address; one that was given back is an empty row.
-fn print_addressed<W: Sink>(
-    plot: &Plot<'_>,
-    y: u32,
-    k: usize,
-    writer: &mut W,
-) -> Result<(), WriteFailed>
+fn print_addressed<P: Pen>(plot: &Plot<'_>, y: u32, k: usize, pen: &mut P)
     requires start { plot.now.start < 2 ^ 30 }
     requires height { y ≤ 800 }
     requires few { length plot.now.pages.now ≤ MAX_PAGES }
     requires page { k < MAX_PAGES }
     requires pieces { AreDrawable plot.now.pieces.now }
-    ensures { Puts (W.output writer.old) (W.output writer.new) result (addressed_text (plot_of plot.now) y k) }
+    ensures { P.offered pen.new ≡ P.offered pen.old ++ addressed_text (plot_of plot.now) y k }
 {
-    print_address(plot.start, y, k, writer)?;
-    print_page(plot, y, k, writer)
+    print_address(plot.start, y, k, pen);
+    print_page(plot, y, k, pen);
 }
 
 /// Writes the row that counts the pages between the ends of n.
-fn print_gap<W: Sink>(n: usize, y: u32, writer: &mut W) -> Result<(), WriteFailed>
+fn print_gap<P: Pen>(n: usize, y: u32, pen: &mut P)
     requires pages { n ≤ MAX_PAGES }
     requires height { y ≤ 800 }
-    ensures { Puts (W.output writer.old) (W.output writer.new) result (gap_text n y) }
+    ensures { P.offered pen.new ≡ P.offered pen.old ++ gap_text n y }
 {
     let mut text = Row::new();
     add_pages(&mut text, n.saturating_sub(2 * EDGE_ROWS) as u32);
@@ -174,43 +163,35 @@ fn print_gap<W: Sink>(n: usize, y: u32, writer: &mut W) -> Result<(), WriteFaile
         LEFT + ROW_WIDTH / 2,
         y + BASELINE,
         text.as_slice(),
-        writer,
-    )
+        pen,
+    );
 }
 
-/// Writes row i from below of an area. Fails only where the writer failed or took none of what it was offered; a front
-/// of the row is then written.
-pub fn print_row<W: Sink>(
-    frame: Frame,
-    plot: &Plot<'_>,
-    i: usize,
-    writer: &mut W,
-) -> Result<(), WriteFailed>
+/// Writes row i from below of an area.
+pub fn print_row<P: Pen>(frame: Frame, plot: &Plot<'_>, i: usize, pen: &mut P)
     requires start { plot.now.start < 2 ^ 30 }
     requires few { length plot.now.pages.now ≤ MAX_PAGES }
     requires frame { frame.pages ≤ MAX_PAGES }
     requires within { i < shown_rows_of frame.pages }
     requires pieces { AreDrawable plot.now.pieces.now }
-    ensures { Puts (W.output writer.old) (W.output writer.new) result (row_text frame (plot_of plot.now) i) }
+    ensures { P.offered pen.new ≡ P.offered pen.old ++ row_text frame (plot_of plot.now) i }
 {
     let y = row_y(frame, i);
     match page_in(frame.pages, i) {
-        None => print_gap(frame.pages, y, writer),
-        Some(k) => print_addressed(plot, y, k, writer),
+        None => print_gap(frame.pages, y, pen),
+        Some(k) => print_addressed(plot, y, k, pen),
     }
 }
 
-/// Writes all rows of an area. Fails only where the writer failed or took none of what it was offered; a front of the
-/// rows is then written.
-pub fn print_rows<W: Sink>(frame: Frame, plot: &Plot<'_>, writer: &mut W) -> Result<(), WriteFailed>
+/// Writes all rows of an area.
+pub fn print_rows<P: Pen>(frame: Frame, plot: &Plot<'_>, pen: &mut P)
     requires start { plot.now.start < 2 ^ 30 }
     requires few { length plot.now.pages.now ≤ MAX_PAGES }
     requires frame { frame.pages ≤ MAX_PAGES }
     requires pieces { AreDrawable plot.now.pieces.now }
-    ensures { Puts (W.output writer.old) (W.output writer.new) result (rows_text frame (plot_of plot.now)) }
+    ensures { P.offered pen.new ≡ P.offered pen.old ++ rows_text frame (plot_of plot.now) }
 {
     for i in 0..shown_rows(frame.pages) {
-        print_row(frame, plot, i, writer)?;
+        print_row(frame, plot, i, pen);
     }
-    Ok(())
 }

@@ -4,7 +4,6 @@ ghost use Rattle.std.specs.Prelude.{◌≡◌, ◌≤◌, ◌<◌, ◌+◌, ◌^
 ghost use Rattle.rh_defs.specs.Script.{ended};
 ghost use Rattle.rh_figure.specs.Map.{reply_lines, shown_byte as shown_byte_of};
 ghost use Rattle.rh_figure.specs.declared.limits.TheConstants.{LINE_COLUMNS};
-ghost use Rattle.rh_lines.specs.Flow.{Puts};
 ghost use Rattle.rh_lines.specs.declared.row.TheConstants.{ROW};
 ghost use Rattle.rh_map.specs.Replies.{excerpt_lines};
 ghost use Rattle.rh_sheet.specs.SheetSteps.{back_link, command_head, command_text, last_figure, said_text, step_open};
@@ -14,7 +13,7 @@ use crate::escape::put_between;
 use crate::links::add_step_link;
 use crate::reply::put_reply;
 use rh_figure::limits::LINE_COLUMNS;
-use rh_lines::{Row, Sink, WriteFailed, put};
+use rh_lines::{Pen, Row};
 use rh_map::{add_cut, shown_byte};
 
 /// Adds a link to the step before step n, where there is one.
@@ -30,13 +29,12 @@ fn add_back_link(row: &mut Row, n: u32)
     }
 }
 
-/// Writes the beginning of step n of those that are shown. Fails only where the writer failed or took none of what it
-/// was offered; a front of it is then written.
-pub fn print_step_open<W: Sink>(n: u32, writer: &mut W) -> Result<(), WriteFailed>
+/// Writes the beginning of step n of those that are shown.
+pub fn print_step_open<P: Pen>(n: u32, pen: &mut P)
     requires { n < 2 ^ 31 }
-    ensures { Puts (W.output writer.old) (W.output writer.new) result (step_open n) }
+    ensures { P.offered pen.new ≡ P.offered pen.old ++ step_open n }
 {
-    put(writer, step_row(n).as_slice())
+    pen.put(step_row(n).as_slice());
 }
 
 /// The beginning of step n.
@@ -79,25 +77,19 @@ fn add_shown(row: &mut Row, text: &[u8])
 }
 
 /// Writes the number of a step, its line of the script, and its reply, by the front of it and the number of lines that
-/// it has. Fails only where the writer failed or took none of what it was offered; a front of it is then written.
-pub fn print_said<W: Sink>(
-    step: u32,
-    line: &[u8],
-    front: &[u8],
-    count: u32,
-    writer: &mut W,
-) -> Result<(), WriteFailed>
+/// it has.
+pub fn print_said<P: Pen>(step: u32, line: &[u8], front: &[u8], count: u32, pen: &mut P)
     ensures { (reply : List ℕ) → excerpt_lines front.now count ≡ reply_lines (ended reply)
-        → Puts (W.output writer.old) (W.output writer.new) result (said_text step line.now reply) }
+        → P.offered pen.new ≡ P.offered pen.old ++ said_text step line.now reply }
 {
-    print_command(step, line, writer)?;
-    put_reply(front, count, writer)?;
-    put(writer, b"</pre>\n")
+    print_command(step, line, pen);
+    put_reply(front, count, pen);
+    pen.put(b"</pre>\n");
 }
 
 /// Writes the number of a step and its line of the script.
-fn print_command<W: Sink>(step: u32, line: &[u8], writer: &mut W) -> Result<(), WriteFailed>
-    ensures { Puts (W.output writer.old) (W.output writer.new) result (command_head step line.now) }
+fn print_command<P: Pen>(step: u32, line: &[u8], pen: &mut P)
+    ensures { P.offered pen.new ≡ P.offered pen.old ++ command_head step line.now }
 {
     let command = command_row(line);
     let mut row = Row::new();
@@ -108,8 +100,8 @@ fn print_command<W: Sink>(step: u32, line: &[u8], writer: &mut W) -> Result<(), 
         row.as_slice(),
         command.as_slice(),
         b"</code></h2>\n<pre>",
-        writer,
-    )
+        pen,
+    );
 }
 
 /// Adds where the last figure is, if there is one.
@@ -124,14 +116,13 @@ fn add_last_figure(row: &mut Row, last: u32)
     }
 }
 
-/// Writes that there is no figure, and where the last one is, 0 for none. Fails only where the writer failed or took
-/// none of what it was offered; a front of it is then written.
-pub fn print_still<W: Sink>(last: u32, writer: &mut W) -> Result<(), WriteFailed>
-    ensures { Puts (W.output writer.old) (W.output writer.new) result (still_text last) }
+/// Writes that there is no figure, and where the last one is, 0 for none.
+pub fn print_still<P: Pen>(last: u32, pen: &mut P)
+    ensures { P.offered pen.new ≡ P.offered pen.old ++ still_text last }
 {
     let mut row = Row::new();
     row.text(b"<p class=\"still\">Memory stays as it is");
     add_last_figure(&mut row, last);
     row.text(b".</p>\n");
-    put(writer, row.as_slice())
+    pen.put(row.as_slice());
 }

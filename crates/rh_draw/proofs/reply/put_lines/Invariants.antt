@@ -1,12 +1,13 @@
-use Rattle.rh_draw.proofs.Common.{◌-◌, lines_in, Left, escape, behind_feeds}
+use Rattle.rh_draw.proofs.Common.{◌-◌, lines_in, escape, behind_feeds}
 use Rattle.rh_figure.specs.declared.limits.TheConstants.{MOST_REPLY_LINES}
 use Rattle.rh_map.specs.Replies.{first_lines}
+use Rattle.rh_map.proofs.Left.{Left}
 use Rattle.rh_draw.proofs.reply.put_lines.Given as goal
 
 -- the first lines of the rest are left
 abbrev pub invariant-loop-left : goal.invariant-loop-left
 invariant-loop-left g l =
-    Left (g.W.Sink.output l.initial.writer) (g.W.Sink.output l.writer)
+    Left (g.P.Pen.offered l.initial.pen) (g.P.Pen.offered l.pen)
     (escape (behind_feeds (first_lines (MOST_REPLY_LINES - 1) (lines_in l.front))))
     (escape (behind_feeds (first_lines l.left (lines_in l.rest))))
 

@@ -1,20 +1,13 @@
-use Rattle.rh_draw.proofs.Common.{◌+◌, ◌-◌, arith, row_text, left_less, left_breaks, plot_of}
+use Rattle.rh_draw.proofs.Common.{◌+◌, ◌-◌, arith, row_text, plot_of}
 use Rattle.rh_sheet.specs.Frames.{shown_rows}
+use Rattle.rh_map.proofs.Left.{left_less}
 use Rattle.rh_draw.proofs.LoopLemmas.{numbers-behind}
 use Rattle.rh_draw.proofs.rows.print_rows.Goals as goal
 
 pub loop-i-preserved : goal.loop-i-preserved
 loop-i-preserved g c =
     let rows = shown_rows c.args.frame.pages in
-    left_less c.loop-i.invariant
+    left_less _ c.loop-i.invariant
     (numbers-behind (row_text c.args.frame (plot_of c.args.plot.now)) c.loop-i.i (rows - (c.loop-i.i + 1))
     (rows - c.loop-i.i) (omega arith))
-    c.in_ok-print_row.ensures.ok
-
-pub returns-in_err-print_row : goal.returns-in_err-print_row
-returns-in_err-print_row g c =
-    let rows = shown_rows c.args.frame.pages in
-    left_breaks _ _ c.loop-i.invariant
-    (numbers-behind (row_text c.args.frame (plot_of c.args.plot.now)) c.loop-i.i (rows - (c.loop-i.i + 1))
-    (rows - c.loop-i.i) (omega arith))
-    c.in_err-print_row.ensures c.from_residual.ensures.0
+    c.print_row.ensures

@@ -1,34 +1,5 @@
-use Rattle.rh_draw.proofs.Common.{refl, puts_before, puts_stops, puts_more}
+use Rattle.rh_draw.proofs.Common.{append_assoc, append-nil}
 use Rattle.rh_draw.proofs.sheet.print_title.Goals as goal
 
-pub returns-in_err-put : goal.returns-in_err-put
-returns-in_err-put g c =
-    puts_stops _ (puts_before _ c.in_err-put.ensures refl) c.from_residual.ensures.0
-
-pub returns-in_err-put_remark : goal.returns-in_err-put_remark
-returns-in_err-put_remark g c =
-    puts_stops _ (puts_more _ _ _ c.in_ok-put.ensures (puts_before _ c.in_err-put_remark.ensures refl)) c.from_residual-in_err-put_remark.ensures.0
-
-pub returns-in_err-put-2 : goal.returns-in_err-put-2
-returns-in_err-put-2 g c =
-    puts_stops _
-    (puts_more _ _ _ c.in_ok-put.ensures
-    (puts_more _ _ _ c.in_ok-put_remark.ensures
-    (puts_before _ c.in_err-put-2.ensures refl)))
-    c.from_residual-in_err-put-2.ensures.0
-
-pub returns-in_err-put_style : goal.returns-in_err-put_style
-returns-in_err-put_style g c =
-    puts_stops _
-    (puts_more _ _ _ c.in_ok-put.ensures
-    (puts_more _ _ _ c.in_ok-put_remark.ensures
-    (puts_more _ _ _ c.in_ok-put-2.ensures
-    (puts_before _ c.in_err-put_style.ensures refl))))
-    c.from_residual-in_err-put_style.ensures.0
-
 pub returns : goal.returns
-returns g c =
-    puts_more _ _ _ c.in_ok-put.ensures
-    (puts_more _ _ _ c.in_ok-put_remark.ensures
-    (puts_more _ _ _ c.in_ok-put-2.ensures
-    (puts_more _ _ _ c.in_ok-put_style.ensures c.put-3.ensures)))
+returns g c = simp (c.put.ensures, c.put_remark.ensures, c.put-2.ensures, c.put_style.ensures, c.put-3.ensures, append_assoc, append-nil)

@@ -1,12 +1,8 @@
-use Rattle.rh_draw.proofs.Common.{length, escape, Left}
+use Rattle.rh_draw.proofs.Common.{◌≡◌, ◌++◌, take, escape}
 use Rattle.rh_draw.specs.Inner.DrawLetters.{behind_commas}
 use Rattle.rh_draw.proofs.tables.put_others.Given as goal
 
--- the rest is left
+-- the messages so far were written
 abbrev pub invariant-loop-entry : goal.invariant-loop-entry
 invariant-loop-entry g l =
-    Left (g.W.Sink.output l.initial.writer) (g.W.Sink.output l.writer) (escape (behind_commas l.others))
-    (escape (behind_commas l.rest))
-
-abbrev pub decreases-loop-entry : goal.decreases-loop-entry
-decreases-loop-entry g l = length l.rest
+    g.P.Pen.offered l.pen ≡ g.P.Pen.offered l.initial.pen ++ escape (behind_commas (take l.entry-index l.others))

@@ -1,9 +1,0 @@
-use Rattle.rh_draw.proofs.Common.{refl, puts_before, puts_stops, puts_more}
-use Rattle.rh_draw.proofs.rows.print_addressed.Goals as goal
-
-pub returns-in_err-print_address : goal.returns-in_err-print_address
-returns-in_err-print_address g c =
-    puts_stops _ (puts_before _ c.in_err-print_address.ensures refl) c.from_residual.ensures.0
-
-pub returns : goal.returns
-returns g c = puts_more _ _ _ c.in_ok-print_address.ensures c.print_page.ensures
