@@ -1,7 +1,6 @@
 //! What stands beside the memory: the chart of the last messages, the table of messages, and that of transfers.
 
-ghost use Rattle.std.specs.Prelude.{◌≡◌, ◌≤◌, length};
-ghost use Rattle.rh_lines.specs.Flow.{Puts};
+ghost use Rattle.std.specs.Prelude.{◌≡◌, ◌≤◌, ◌++◌, length};
 ghost use Rattle.rh_sheet.specs.SheetSteps.{aside_text, has_aside as has_aside_at};
 ghost use Rattle.rh_sheet.specs.declared.sizes.TheConstants.{MOST_NOTES};
 ghost use Rattle.rh_sight.specs.Steps.{IsStepOf, scene_at};
@@ -11,33 +10,32 @@ use crate::chart::print_chart;
 use crate::letters::print_messages;
 use crate::transfers::print_transfers;
 use rh_drawn::{has_letterboxes, has_transfers};
-use rh_lines::{Sink, WriteFailed, put};
+use rh_lines::Pen;
 use rh_sheet::Note;
 use rh_sight::{Sight, Step};
 
-/// Writes what stands beside the memory at a step with a number, if something does. Fails only where the writer failed
-/// or took none of what it was offered; a front of it is then written.
-pub fn print_aside<S: Sight, W: Sink>(
+/// Writes what stands beside the memory at a step with a number, if something does.
+pub fn print_aside<S: Sight, P: Pen>(
     sight: &S,
     step: &Step<'_>,
     notes: &[Note],
     number: u32,
-    writer: &mut W,
-) -> Result<(), WriteFailed>
+    pen: &mut P,
+)
     requires step { IsStepOf (S.desk sight.now) step.now }
     requires few { length step.now.messages.now ≤ most_messages }
     requires notes { length notes.now ≤ MOST_NOTES }
-    ensures { Puts (W.output writer.old) (W.output writer.new) result
-        (aside_text (scene_at (S.desk sight.now) step.now) notes.now number) }
+    ensures { P.offered pen.new ≡ P.offered pen.old
+        ++ aside_text (scene_at (S.desk sight.now) step.now) notes.now number }
 {
     if !has_aside(sight, step, notes) {
-        return Ok(());
+        return;
     }
-    put(writer, b"<aside>\n")?;
-    print_chart(sight, notes, number, writer)?;
-    print_messages(sight, step, writer)?;
-    print_transfers(sight, writer)?;
-    put(writer, b"</aside>\n")
+    pen.put(b"<aside>\n");
+    print_chart(sight, notes, number, pen);
+    print_messages(sight, step, pen);
+    print_transfers(sight, pen);
+    pen.put(b"</aside>\n");
 }
 
 /// Whether something stands beside the memory.

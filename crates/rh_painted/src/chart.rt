@@ -2,7 +2,6 @@
 
 ghost use Rattle.std.specs.Prelude.{◌≡◌, ◌≤◌, ◌+◌, ◌++◌, length};
 ghost use Rattle.std.specs.List.{flat_map};
-ghost use Rattle.rh_lines.specs.Flow.{Puts};
 ghost use Rattle.rh_lines.specs.declared.row.TheConstants.{ROW};
 ghost use Rattle.rh_painted.specs.Inner.Charts.{AreNear, IsSmallChart, IsWholeChart, beat_in, body_of_chart, ends_of};
 ghost use Rattle.rh_painted.specs.Inner.Charts.{life_in, path_in, words_in};
@@ -21,7 +20,7 @@ use rh_draw::{
     print_life, print_message_arrow, print_message_words, put_escaped,
 };
 use rh_drawn::who_of;
-use rh_lines::{Row, Sink, WriteFailed};
+use rh_lines::{Pen, Row};
 use rh_map::add_who;
 use rh_sheet::Note;
 use rh_sheet::sizes::{BEAT, CHART_EDGE, CHART_LEFT, CHART_SPREAD, CHART_TOP, CHART_WIDTH};
@@ -37,20 +36,13 @@ struct Chart<'a> {
     step: u32,
 }
 
-/// Writes the chart of the last messages as it stands at a step with a number, if there are some. Fails only where the
-/// writer failed or took none of what it was offered; a front of the chart is then written.
-pub fn print_chart<S: Sight, W: Sink>(
-    sight: &S,
-    notes: &[Note],
-    number: u32,
-    writer: &mut W,
-) -> Result<(), WriteFailed>
+/// Writes the chart of the last messages as it stands at a step with a number, if there are some.
+pub fn print_chart<S: Sight, P: Pen>(sight: &S, notes: &[Note], number: u32, pen: &mut P)
     requires { length notes.now ≤ MOST_NOTES }
-    ensures { Puts (W.output writer.old) (W.output writer.new) result
-        (chart_figure (S.desk sight.now) notes.now number) }
+    ensures { P.offered pen.new ≡ P.offered pen.old ++ chart_figure (S.desk sight.now) notes.now number }
 {
     if notes.is_empty() {
-        return Ok(());
+        return;
     }
     let ways = ways_of(notes);
     let tasks = tasks_in(&ways);
@@ -61,51 +53,37 @@ pub fn print_chart<S: Sight, W: Sink>(
         steps: &steps,
         step: number,
     };
-    print_whole(sight, &chart, writer)
+    print_whole(sight, &chart, pen);
 }
 
 /// Writes a chart that has arrows.
-fn print_whole<S: Sight, W: Sink>(
-    sight: &S,
-    chart: &Chart<'_>,
-    writer: &mut W,
-) -> Result<(), WriteFailed>
+fn print_whole<S: Sight, P: Pen>(sight: &S, chart: &Chart<'_>, pen: &mut P)
     requires small { IsSmallChart chart.now }
     requires whole { IsWholeChart chart.now }
-    ensures { Puts (W.output writer.old) (W.output writer.new) result
-        (chart_of (S.desk sight.now) (arrows_seen chart.now.ways.now) chart.now.step) }
+    ensures { P.offered pen.new ≡ P.offered pen.old
+        ++ chart_of (S.desk sight.now) (arrows_seen chart.now.ways.now) chart.now.step }
 {
     let height = chart.foot() + CHART_EDGE;
-    print_figure_open(CHART_WIDTH, height, b"Messages between the tasks", writer)?;
-    print_sentences(sight, chart.ways, writer)?;
-    print_described(writer)?;
-    print_chart_body(sight, chart, writer)?;
-    print_figure_end(writer)
+    print_figure_open(CHART_WIDTH, height, b"Messages between the tasks", pen);
+    print_sentences(sight, chart.ways, pen);
+    print_described(pen);
+    print_chart_body(sight, chart, pen);
+    print_figure_end(pen);
 }
 
 /// Writes the arrows as they are read out.
-fn print_sentences<S: Sight, W: Sink>(
-    sight: &S,
-    ways: &[Way],
-    writer: &mut W,
-) -> Result<(), WriteFailed>
-    ensures { Puts (W.output writer.old) (W.output writer.new) result
-        (escape (flat_map (arrow_sentence (S.desk sight.now)) (arrows_seen ways.now))) }
+fn print_sentences<S: Sight, P: Pen>(sight: &S, ways: &[Way], pen: &mut P)
+    ensures { P.offered pen.new ≡ P.offered pen.old
+        ++ escape (flat_map (arrow_sentence (S.desk sight.now)) (arrows_seen ways.now)) }
 {
     for way in ways {
-        print_sentence(sight, way, writer)?;
+        print_sentence(sight, way, pen);
     }
-    Ok(())
 }
 
 /// Writes an arrow as it is read out.
-fn print_sentence<S: Sight, W: Sink>(
-    sight: &S,
-    way: &Way,
-    writer: &mut W,
-) -> Result<(), WriteFailed>
-    ensures { Puts (W.output writer.old) (W.output writer.new) result
-        (escape (arrow_sentence (S.desk sight.now) (arrow_of way.now))) }
+fn print_sentence<S: Sight, P: Pen>(sight: &S, way: &Way, pen: &mut P)
+    ensures { P.offered pen.new ≡ P.offered pen.old ++ escape (arrow_sentence (S.desk sight.now) (arrow_of way.now)) }
 {
     let mut row = way.words();
     row.text(b" from ");
@@ -116,7 +94,7 @@ fn print_sentence<S: Sight, W: Sink>(
     row.decimal(way.start);
     row.text(b", ");
     add_stop(&mut row, way.stop);
-    put_escaped(row.as_slice(), writer)
+    put_escaped(row.as_slice(), pen);
 }
 
 /// Adds when a message was taken, or that it waits.
@@ -134,106 +112,82 @@ fn add_stop(row: &mut Row, stop: u32)
 }
 
 /// Writes lines, steps, arrows, and their words upon all of it.
-fn print_chart_body<S: Sight, W: Sink>(
-    sight: &S,
-    chart: &Chart<'_>,
-    writer: &mut W,
-) -> Result<(), WriteFailed>
+fn print_chart_body<S: Sight, P: Pen>(sight: &S, chart: &Chart<'_>, pen: &mut P)
     requires { IsSmallChart chart.now }
-    ensures { Puts (W.output writer.old) (W.output writer.new) result
-        (body_of_chart (S.desk sight.now) chart.now) }
+    ensures { P.offered pen.new ≡ P.offered pen.old ++ body_of_chart (S.desk sight.now) chart.now }
 {
-    print_lives(sight, chart, writer)?;
-    print_beats(chart, writer)?;
-    print_arrows(chart, writer)?;
-    print_all_words(chart, writer)
+    print_lives(sight, chart, pen);
+    print_beats(chart, pen);
+    print_arrows(chart, pen);
+    print_all_words(chart, pen);
 }
 
 /// Writes the tasks' names and lines.
-fn print_lives<S: Sight, W: Sink>(
-    sight: &S,
-    chart: &Chart<'_>,
-    writer: &mut W,
-) -> Result<(), WriteFailed>
+fn print_lives<S: Sight, P: Pen>(sight: &S, chart: &Chart<'_>, pen: &mut P)
     requires { IsSmallChart chart.now }
-    ensures { Puts (W.output writer.old) (W.output writer.new) result
-        (flat_map (life_in (S.desk sight.now) chart.now) chart.now.tasks.now) }
+    ensures { P.offered pen.new ≡ P.offered pen.old
+        ++ flat_map (life_in (S.desk sight.now) chart.now) chart.now.tasks.now }
 {
     for task in chart.tasks {
-        print_task(sight, chart, *task, writer)?;
+        print_task(sight, chart, *task, pen);
     }
-    Ok(())
 }
 
 /// Writes a task's name and line.
-fn print_task<S: Sight, W: Sink>(
-    sight: &S,
-    chart: &Chart<'_>,
-    task: u32,
-    writer: &mut W,
-) -> Result<(), WriteFailed>
+fn print_task<S: Sight, P: Pen>(sight: &S, chart: &Chart<'_>, task: u32, pen: &mut P)
     requires { IsSmallChart chart.now }
-    ensures { Puts (W.output writer.old) (W.output writer.new) result
-        (life_in (S.desk sight.now) chart.now task) }
+    ensures { P.offered pen.new ≡ P.offered pen.old ++ life_in (S.desk sight.now) chart.now task }
 {
     let handle = Handle(task);
     let alive = task_with(sight, handle).is_some();
     let mut name = Row::new();
     add_who(&mut name, &who_of(sight, handle));
     let x = chart.task_x(task);
-    print_life(alive, name.as_slice(), chart.gap(), x, chart.foot(), writer)
+    print_life(alive, name.as_slice(), chart.gap(), x, chart.foot(), pen);
 }
 
 /// Writes the numbers of the steps.
-fn print_beats<W: Sink>(chart: &Chart<'_>, writer: &mut W) -> Result<(), WriteFailed>
+fn print_beats<P: Pen>(chart: &Chart<'_>, pen: &mut P)
     requires { IsSmallChart chart.now }
-    ensures { Puts (W.output writer.old) (W.output writer.new) result
-        (flat_map (beat_in chart.now) chart.now.steps.now) }
+    ensures { P.offered pen.new ≡ P.offered pen.old ++ flat_map (beat_in chart.now) chart.now.steps.now }
 {
     for step in chart.steps {
-        print_beat(chart.step_y(*step), *step, writer)?;
+        print_beat(chart.step_y(*step), *step, pen);
     }
-    Ok(())
 }
 
 /// Writes the arrows without their words.
-fn print_arrows<W: Sink>(chart: &Chart<'_>, writer: &mut W) -> Result<(), WriteFailed>
+fn print_arrows<P: Pen>(chart: &Chart<'_>, pen: &mut P)
     requires { IsSmallChart chart.now }
-    ensures { Puts (W.output writer.old) (W.output writer.new) result
-        (flat_map (path_in chart.now) (arrows_seen chart.now.ways.now)) }
+    ensures { P.offered pen.new ≡ P.offered pen.old ++ flat_map (path_in chart.now) (arrows_seen chart.now.ways.now) }
 {
     for way in chart.ways {
-        print_arrow(chart, way, writer)?;
+        print_arrow(chart, way, pen);
     }
-    Ok(())
 }
 
 /// Writes an arrow without its words.
-fn print_arrow<W: Sink>(chart: &Chart<'_>, way: &Way, writer: &mut W) -> Result<(), WriteFailed>
+fn print_arrow<P: Pen>(chart: &Chart<'_>, way: &Way, pen: &mut P)
     requires { IsSmallChart chart.now }
-    ensures { Puts (W.output writer.old) (W.output writer.new) result
-        (path_in chart.now (arrow_of way.now)) }
+    ensures { P.offered pen.new ≡ P.offered pen.old ++ path_in chart.now (arrow_of way.now) }
 {
-    print_message_arrow(way.stop == 0, chart.is_now(way), chart.ends(way), writer)
+    print_message_arrow(way.stop == 0, chart.is_now(way), chart.ends(way), pen);
 }
 
 /// Writes the words of all arrows.
-fn print_all_words<W: Sink>(chart: &Chart<'_>, writer: &mut W) -> Result<(), WriteFailed>
+fn print_all_words<P: Pen>(chart: &Chart<'_>, pen: &mut P)
     requires { IsSmallChart chart.now }
-    ensures { Puts (W.output writer.old) (W.output writer.new) result
-        (flat_map (words_in chart.now) (arrows_seen chart.now.ways.now)) }
+    ensures { P.offered pen.new ≡ P.offered pen.old ++ flat_map (words_in chart.now) (arrows_seen chart.now.ways.now) }
 {
     for way in chart.ways {
-        print_words_of(chart, way, writer)?;
+        print_words_of(chart, way, pen);
     }
-    Ok(())
 }
 
 /// Writes the words of an arrow.
-fn print_words_of<W: Sink>(chart: &Chart<'_>, way: &Way, writer: &mut W) -> Result<(), WriteFailed>
+fn print_words_of<P: Pen>(chart: &Chart<'_>, way: &Way, pen: &mut P)
     requires { IsSmallChart chart.now }
-    ensures { Puts (W.output writer.old) (W.output writer.new) result
-        (words_in chart.now (arrow_of way.now)) }
+    ensures { P.offered pen.new ≡ P.offered pen.old ++ words_in chart.now (arrow_of way.now) }
 {
     let words = way.words();
     print_message_words(
@@ -241,8 +195,8 @@ fn print_words_of<W: Sink>(chart: &Chart<'_>, way: &Way, writer: &mut W) -> Resu
         chart.is_now(way),
         chart.ends(way),
         words.as_slice(),
-        writer,
-    )
+        pen,
+    );
 }
 
 impl<'a> Chart<'a> {

@@ -1,6 +1,7 @@
 //! The cards of a heap's blocks and holes, and of messages.
 
-ghost use Rattle.std.specs.Prelude.{◌≡◌, ◌≤◌, ◌<◌, ◌+◌, ◌-◌, ◌^◌, ◌==◌, ℕ, IfSome, List, find, length, take, Some};
+ghost use Rattle.std.specs.Prelude.{◌≡◌, ◌≤◌, ◌<◌, ◌+◌, ◌-◌, ◌^◌, ◌==◌, ◌++◌, ℕ, IfSome, List, find, length, take};
+ghost use Rattle.std.specs.Prelude.{Some};
 ghost use Rattle.rh_defs.specs.Desk.{Desk};
 ghost use Rattle.rh_defs.specs.Heap.{Segment};
 ghost use Rattle.rh_defs.specs.Questions.{segment_item};
@@ -12,7 +13,6 @@ ghost use Rattle.rh_drawn.specs.Inner.CardsBehind.{cards_behind};
 ghost use Rattle.rh_figure.specs.Cards.{hole_card, in_use_text, post_card, shown_cards, used_card};
 ghost use Rattle.rh_figure.specs.Scene.{live};
 ghost use Rattle.rh_figure.specs.declared.limits.TheConstants.{MOST_CARDS};
-ghost use Rattle.rh_lines.specs.Flow.{Puts};
 ghost use Rattle.rh_painted.specs.PaintedBands.{IsFit, band_text, band_text_from, form_text};
 ghost use Rattle.rh_sight.specs.Seen.{SeesBlock, SeesFree, heap_seen, heap_start_of};
 ghost use Rattle.rh_sight.specs.Steps.{IsStepOf, scene_at};
@@ -26,76 +26,72 @@ use rh_drawn::{
     use_of_buffer, who_of,
 };
 use rh_figure::limits::{CARD_BYTES, MOST_CARDS};
-use rh_lines::{Row, Sink, WriteFailed};
+use rh_lines::{Pen, Row};
 use rh_map::{
     CardBlock, add_size, block_bytes, block_size, hole_name, message_name, message_place,
     message_way, used_name,
 };
 use rh_sight::{HeapOf, Sight, Step, heap_address, is_new_ref, place_of};
 
-/// Writes the cards of a heap's segments, from below. Fails only where the writer failed or took none of what it was
-/// offered; a front of them is then written.
-pub fn put_heap_cards<S: Sight, W: Sink>(
+/// Writes the cards of a heap's segments, from below.
+pub fn put_heap_cards<S: Sight, P: Pen>(
     sight: &S,
     step: &Step<'_>,
     band: &Band<'_>,
     form: Form,
-    writer: &mut W,
-) -> Result<(), WriteFailed>
+    pen: &mut P,
+)
     requires step { IsStepOf (S.desk sight.now) step.now }
     requires band { IsBandOf (S.desk sight.now) band.now }
     requires height { IsFit form }
-    ensures { IfSome (heap_seen band.now.heap (S.desk sight.now)) (λ h. Puts (W.output writer.old)
-        (W.output writer.new) result
-        (band_text form (shown_cards (band_cards (scene_at (S.desk sight.now) step.now)
-        (S.desk sight.now) band.now h)))) }
+    ensures { IfSome (heap_seen band.now.heap (S.desk sight.now)) (λ h. P.offered pen.new ≡ P.offered pen.old
+        ++ band_text form (shown_cards (band_cards (scene_at (S.desk sight.now) step.now)
+        (S.desk sight.now) band.now h))) }
 {
     sight.spelled();
     let survey = take_survey(sight, step, band);
     let shown = shown_count(survey.count as usize);
-    put_first(sight, step, band, shown, form, writer)?;
+    put_first(sight, step, band, shown, form, pen);
     if shown == survey.count as usize {
-        return Ok(());
+        return;
     }
-    put_behind(sight, step, band, &survey, form, writer)
+    put_behind(sight, step, band, &survey, form, pen);
 }
 
 /// Writes the cards of the first segments.
-fn put_first<S: Sight, W: Sink>(
+fn put_first<S: Sight, P: Pen>(
     sight: &S,
     step: &Step<'_>,
     band: &Band<'_>,
     shown: usize,
     form: Form,
-    writer: &mut W,
-) -> Result<(), WriteFailed>
+    pen: &mut P,
+)
     requires step { IsStepOf (S.desk sight.now) step.now }
     requires band { IsBandOf (S.desk sight.now) band.now }
     requires few { shown ≤ MOST_CARDS }
     requires there { IfSome (heap_seen band.now.heap (S.desk sight.now)) (λ h. shown ≤ length h.segments) }
     requires height { IsFit form }
-    ensures { IfSome (heap_seen band.now.heap (S.desk sight.now)) (λ h. Puts (W.output writer.old)
-        (W.output writer.new) result
-        (band_text form (take shown (band_cards (scene_at (S.desk sight.now) step.now)
-        (S.desk sight.now) band.now h)))) }
+    ensures { IfSome (heap_seen band.now.heap (S.desk sight.now)) (λ h. P.offered pen.new ≡ P.offered pen.old
+        ++ band_text form (take shown (band_cards (scene_at (S.desk sight.now) step.now)
+        (S.desk sight.now) band.now h))) }
 {
     let items = sight.segments(band.heap, HEAP_FIRST as u32);
     let first = items.as_slice();
     for k in 0..shown {
-        put_segment(sight, step, band, &first[k], form, k as u32, writer)?;
+        put_segment(sight, step, band, &first[k], form, k as u32, pen);
     }
-    Ok(())
 }
 
 /// Writes the card of the first changed segment of those behind the first 22, and how many are left out.
-fn put_behind<S: Sight, W: Sink>(
+fn put_behind<S: Sight, P: Pen>(
     sight: &S,
     step: &Step<'_>,
     band: &Band<'_>,
     survey: &Survey,
     form: Form,
-    writer: &mut W,
-) -> Result<(), WriteFailed>
+    pen: &mut P,
+)
     requires step { IsStepOf (S.desk sight.now) step.now }
     requires band { IsBandOf (S.desk sight.now) band.now }
     requires many { MOST_CARDS < survey.now.count }
@@ -103,32 +99,31 @@ fn put_behind<S: Sight, W: Sink>(
     requires survey { IfSome (heap_seen band.now.heap (S.desk sight.now)) (λ h. IsSurvey (scene_at
         (S.desk sight.now) step.now) band.now h survey.now) }
     requires height { IsFit form }
-    ensures { IfSome (heap_seen band.now.heap (S.desk sight.now)) (λ h. Puts (W.output writer.old)
-        (W.output writer.new) result
-        (band_text_from form (MOST_CARDS - 2) (cards_behind (band_cards (scene_at (S.desk sight.now) step.now)
-        (S.desk sight.now) band.now h)))) }
+    ensures { IfSome (heap_seen band.now.heap (S.desk sight.now)) (λ h. P.offered pen.new ≡ P.offered pen.old
+        ++ band_text_from form (MOST_CARDS - 2) (cards_behind (band_cards (scene_at (S.desk sight.now) step.now)
+        (S.desk sight.now) band.now h))) }
 {
     let at = MOST_CARDS as u32 - 2;
     let behind = survey.count - at;
     match survey.fresh {
         Some(item) => {
-            put_segment(sight, step, band, &item, form, at, writer)?;
-            put_others(form, at + 1, behind - 1, writer)
+            put_segment(sight, step, band, &item, form, at, pen);
+            put_others(form, at + 1, behind - 1, pen);
         }
-        None => put_others(form, at, behind, writer),
+        None => put_others(form, at, behind, pen),
     }
 }
 
 /// Writes the card of a segment, as card `at` of those that are shown.
-fn put_segment<S: Sight, W: Sink>(
+fn put_segment<S: Sight, P: Pen>(
     sight: &S,
     step: &Step<'_>,
     band: &Band<'_>,
     item: &SegmentItem,
     form: Form,
     at: u32,
-    writer: &mut W,
-) -> Result<(), WriteFailed>
+    pen: &mut P,
+)
     requires step { IsStepOf (S.desk sight.now) step.now }
     requires band { IsBandOf (S.desk sight.now) band.now }
     requires segment { (place : ℕ) × (segment : Segment)
@@ -139,37 +134,30 @@ fn put_segment<S: Sight, W: Sink>(
     ensures { (place : ℕ) (segment : Segment) →
         HasSegment (heap_seen band.now.heap (S.desk sight.now)) place segment →
         item.now ≡ segment_item (heap_start_of band.now.heap + place) segment →
-        Puts (W.output writer.old) (W.output writer.new) result
-        (form_text form (
+        P.offered pen.new ≡ P.offered pen.old ++ form_text form (
           at,
           band_card (scene_at (S.desk sight.now) step.now) (S.desk sight.now) band.now
               (heap_start_of band.now.heap + place) segment,
-        )) }
+        ) }
 {
     sight.spelled();
     match item {
-        SegmentItem::Hole { address, size } => put_hole(*address, *size, form, at, writer),
+        SegmentItem::Hole { address, size } => put_hole(*address, *size, form, at, pen),
         SegmentItem::Used { address, size } => match band.heap {
-            HeapOf::Task(_) => put_used(sight, step, band, *address, *size, form, at, writer),
+            HeapOf::Task(_) => put_used(sight, step, band, *address, *size, form, at, pen),
             HeapOf::Module => match message_at(step, *address) {
-                Some(message) => put_message(sight, step, &message, form, at, writer),
-                None => put_used(sight, step, band, *address, *size, form, at, writer),
+                Some(message) => put_message(sight, step, &message, form, at, pen),
+                None => put_used(sight, step, band, *address, *size, form, at, pen),
             },
         },
     }
 }
 
 /// Writes the card of a hole.
-fn put_hole<W: Sink>(
-    address: u32,
-    size: u32,
-    form: Form,
-    at: u32,
-    writer: &mut W,
-) -> Result<(), WriteFailed>
+fn put_hole<P: Pen>(address: u32, size: u32, form: Form, at: u32, pen: &mut P)
     requires few { at < MOST_CARDS }
     requires height { IsFit form }
-    ensures { Puts (W.output writer.old) (W.output writer.new) result (form_text form (at, hole_card address size)) }
+    ensures { P.offered pen.new ≡ P.offered pen.old ++ form_text form (at, hole_card address size) }
 {
     let name = hole_name(address);
     let mut bytes = Row::new();
@@ -181,11 +169,11 @@ fn put_hole<W: Sink>(
         second: bytes.as_slice(),
         third: b"",
     };
-    put_card(form, at, &card, writer)
+    put_card(form, at, &card, pen);
 }
 
 /// Writes the card of a block that is no message.
-fn put_used<S: Sight, W: Sink>(
+fn put_used<S: Sight, P: Pen>(
     sight: &S,
     step: &Step<'_>,
     band: &Band<'_>,
@@ -193,8 +181,8 @@ fn put_used<S: Sight, W: Sink>(
     size: u32,
     form: Form,
     at: u32,
-    writer: &mut W,
-) -> Result<(), WriteFailed>
+    pen: &mut P,
+)
     requires start { heap_start_of band.now.heap + 4 ≤ address }
     requires block { (bytes : List ℕ)
         × SeesBlock (heap_seen band.now.heap (S.desk sight.now)) (address - heap_start_of band.now.heap - 4) bytes
@@ -205,12 +193,11 @@ fn put_used<S: Sight, W: Sink>(
     ensures { (d : Desk) (bytes : List ℕ) → IsStepOf d step.now →
         SeesBlock (heap_seen band.now.heap (S.desk sight.now)) (address - heap_start_of band.now.heap - 4) bytes →
         length bytes ≡ size →
-        Puts (W.output writer.old) (W.output writer.new) result
-        (form_text form (
+        P.offered pen.new ≡ P.offered pen.old ++ form_text form (
           at,
           used_card address bytes (in_use_text (find (is_buffer_of address) band.now.taking.now))
               (is_fresh_used (scene_at d step.now) band.now address),
-        )) }
+        ) }
 {
     let mut front = [0; CARD_BYTES];
     let bytes = &mut front[..front_length(size)];
@@ -233,26 +220,26 @@ fn put_used<S: Sight, W: Sink>(
         second: size.as_slice(),
         third: first.as_slice(),
     };
-    put_card(form, at, &card, writer)
+    put_card(form, at, &card, pen);
 }
 
 /// Writes the card of a message.
-fn put_message<S: Sight, W: Sink>(
+fn put_message<S: Sight, P: Pen>(
     sight: &S,
     step: &Step<'_>,
     message: &MessageItem,
     form: Form,
     at: u32,
-    writer: &mut W,
-) -> Result<(), WriteFailed>
+    pen: &mut P,
+)
     requires step { IsStepOf (S.desk sight.now) step.now }
     requires few { at < MOST_CARDS }
     requires height { IsFit form }
     ensures { (p : Parcel) →
         find (λ (q : Parcel). q.block == p.block) (live (scene_at (S.desk sight.now) step.now)) ≡ Some p →
         IsItemOf message.now p →
-        Puts (W.output writer.old) (W.output writer.new) result
-        (form_text form (at, post_card (scene_at (S.desk sight.now) step.now) p)) }
+        P.offered pen.new ≡ P.offered pen.old
+        ++ form_text form (at, post_card (scene_at (S.desk sight.now) step.now) p) }
 {
     sight.spelled();
     let place = chain_place(place_of(step.messages, *message));
@@ -269,5 +256,5 @@ fn put_message<S: Sight, W: Sink>(
         second: way.as_slice(),
         third: chain.as_slice(),
     };
-    put_card(form, at, &card, writer)
+    put_card(form, at, &card, pen);
 }

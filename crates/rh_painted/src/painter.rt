@@ -1,10 +1,10 @@
 //! A sheet in the middle of its script.
 
-ghost use Rattle.std.specs.Prelude.{◌≡◌, ◌<◌, ◌+◌, ◌^◌, ◌==◌, ◌&&◌, ◌||◌, ◌++◌, not, nat_lt, ℕ, List, None, Some, Ok};
-ghost use Rattle.std.specs.Prelude.{Err, IsTrue, OnErr, OnOk, false, length, true};
+ghost use Rattle.std.specs.Prelude.{◌≡◌, ◌≤◌, ◌<◌, ◌+◌, ◌^◌, ◌==◌, ◌&&◌, ◌||◌, ◌++◌, not, nat_lt, ℕ, List, None, Some};
+ghost use Rattle.std.specs.Prelude.{Err, IsTrue, Ok, false, length, true};
 ghost use Rattle.std.specs.Bool.{OnTrue};
 ghost use Rattle.std.specs.Option.{option_map};
-ghost use Rattle.rh_defs.specs.Line.{words_of};
+ghost use Rattle.rh_defs.specs.Line.{line_means, words_of};
 ghost use Rattle.rh_defs.specs.Order.{IsReordered};
 ghost use Rattle.rh_defs.specs.Range.{in_range};
 ghost use Rattle.rh_defs.specs.Commands.{step};
@@ -12,9 +12,9 @@ ghost use Rattle.rh_drawn.specs.DrawnReplies.{Excerpts};
 ghost use Rattle.rh_map.specs.Replies.{front_of};
 ghost use Rattle.rh_figure.specs.Scene.{Before, Marks, is_still as is_still_of, scene_of};
 ghost use Rattle.rh_figure.specs.Share.{Share};
-ghost use Rattle.rh_lines.specs.Flow.{Output, Puts};
-ghost use Rattle.rh_painted.specs.PaintedWalks.{BrokePainting, IsFirstPainted, PaintedLine, walk_in};
-ghost use Rattle.rh_painted.specs.Inner.PaintedSteps.{LeftStep, TookStep, WroteStep, happened_at};
+ghost use Rattle.rh_lines.specs.Flow.{Puts};
+ghost use Rattle.rh_painted.specs.PaintedWalks.{IsFirstPainted, walk_in};
+ghost use Rattle.rh_painted.specs.Inner.PaintedSteps.{DrewLine, DrewRest, LeftStep, TookStep, WroteStep, happened_at};
 ghost use Rattle.rh_session.specs.Outcome.{status_of};
 ghost use Rattle.rh_sheet.specs.Chart.{noted};
 ghost use Rattle.rh_sheet.specs.Sheet.{is_shown, opening, sheet_end, sheet_head};
@@ -34,7 +34,7 @@ use rh_drawn::{
     Above, Deed, Drawn, Lists, answer, excerpt_fault, holds_unless, is_wanted, rest_fault, step_of,
 };
 use rh_feed::LineTaker;
-use rh_lines::{Sink, WriteFailed, read_line};
+use rh_lines::{Pen, Sink, WriteFailed, WriterPen, read_line};
 use rh_map::{Front, has_words};
 use rh_session::Status;
 use rh_sight::{Kept, Messages, PageList, Sender, is_still};
@@ -79,26 +79,25 @@ impl<D: Drawn> Painter<D> {
         ensures rest { self.new ≡ record self.old { pages = self.new.pages } }
     {
         self.drawn.page_list(&mut self.pages);
-        print_head(name, self.pages.len() as u32, writer)
+        let mut pen = WriterPen::new(writer);
+        print_head(name, self.pages.len() as u32, &mut pen);
+        pen.done()
     }
 
     /// Shows a line that asks for nothing, and notes whether it marks the next command.
-    fn skip<W: Sink>(&mut self, line: &[u8], writer: &mut W) -> Result<(), WriteFailed>
-        ensures ok { OnOk result (PaintedLine D.desk self.old (W.output writer.old) line.now (Ok None) self.new
-            (W.output writer.new)) }
-        ensures err { OnErr result (BrokePainting D.desk self.old (W.output writer.old) line.now (Ok None)
-            (W.output writer.new)) }
+    fn skip<P: Pen>(&mut self, line: &[u8], pen: &mut P)
+        ensures drew { DrewLine D.desk self.old (P.offered pen.old) line.now (Ok None) self.new (P.offered pen.new) }
         ensures steps { self.new.progress.steps ≡ self.old.progress.steps }
     {
         self.drawn.spelled();
         let wanted = is_wanted(self.progress.wanted(), line);
         self.progress.want(wanted);
-        if self.shows(line, wanted) {
-            self.open_step(writer)?;
-            self.progress.open();
-            return print_remark(line, writer);
+        if !self.shows(line, wanted) {
+            return;
         }
-        Ok(())
+        self.open_step(pen);
+        self.progress.open();
+        print_remark(line, pen);
     }
 
     /// Whether a line that asks for nothing is shown: it has words, and the next command would be shown.
@@ -119,23 +118,16 @@ impl<D: Drawn> Painter<D> {
     }
 
     /// Does the command of a line, and shows the step where it is to be shown.
-    fn carry_out<W: Sink>(
-        &mut self,
-        line: &[u8],
-        command: &Command,
-        writer: &mut W,
-    ) -> Result<(), WriteFailed>
+    fn carry_out<P: Pen>(&mut self, line: &[u8], command: &Command, pen: &mut P)
         requires in_range { IsTrue (in_range command.now) }
         requires room { self.old.progress.steps + 1 < 2 ^ 32 }
-        ensures ok { OnOk result (PaintedLine D.desk self.old (W.output writer.old) line.now (Ok
-            (Some command.now)) self.new (W.output writer.new)) }
-        ensures err { OnErr result (BrokePainting D.desk self.old (W.output writer.old) line.now (Ok (Some command.now))
-            (W.output writer.new)) }
+        ensures drew { DrewLine D.desk self.old (P.offered pen.old) line.now (Ok (Some command.now)) self.new
+            (P.offered pen.new) }
         ensures steps { self.new.progress.steps ≡ self.old.progress.steps + 1 }
     {
         if !self.shows_next() {
             self.pass(command);
-            return Ok(());
+            return;
         }
         self.drawn.messages(&mut self.messages);
         let kept = Kept::new(&self.drawn, Some(command), &self.messages);
@@ -147,7 +139,7 @@ impl<D: Drawn> Painter<D> {
             count,
             wanted: self.progress.wanted(),
         };
-        self.take_step(line, deed, writer)
+        self.take_step(line, deed, pen);
     }
 
     /// Does a command whose step is left out.
@@ -155,8 +147,8 @@ impl<D: Drawn> Painter<D> {
         requires in_range { IsTrue (in_range command.now) }
         requires room { self.old.progress.steps + 1 < 2 ^ 32 }
         requires hidden { is_shown self.old.marked (walk_in D.desk self.old) self.old.progress.wanted ≡ false }
-        ensures left { (o : Output) (line : List ℕ)
-            → PaintedLine D.desk self.old o line (Ok (Some command.now)) self.new o }
+        ensures left { (o : List ℕ) (line : List ℕ)
+            → DrewLine D.desk self.old o line (Ok (Some command.now)) self.new o }
         ensures steps { self.new.progress.steps ≡ self.old.progress.steps + 1 }
     {
         let sender = Sender::new(&self.drawn, Some(command));
@@ -189,24 +181,17 @@ impl<D: Drawn> Painter<D> {
     }
 
     /// Shows a line that is bad, where it is to be shown.
-    fn refuse<W: Sink>(
-        &mut self,
-        line: &[u8],
-        fault: &LineFault,
-        writer: &mut W,
-    ) -> Result<(), WriteFailed>
+    fn refuse<P: Pen>(&mut self, line: &[u8], fault: &LineFault, pen: &mut P)
         requires room { self.old.progress.steps + 1 < 2 ^ 32 }
-        ensures ok { OnOk result (PaintedLine D.desk self.old (W.output writer.old) line.now (Err fault.now) self.new
-            (W.output writer.new)) }
-        ensures err { OnErr result (BrokePainting D.desk self.old (W.output writer.old) line.now (Err fault.now)
-            (W.output writer.new)) }
+        ensures drew { DrewLine D.desk self.old (P.offered pen.old) line.now (Err fault.now) self.new
+            (P.offered pen.new) }
         ensures steps { self.new.progress.steps ≡ self.old.progress.steps + 1 }
     {
         self.has_bad_line = true;
         if !self.shows_next() {
             let sender = Sender::new(&self.drawn, None);
             self.leave_out(sender);
-            return Ok(());
+            return;
         }
         self.drawn.messages(&mut self.messages);
         let kept = Kept::new(&self.drawn, None, &self.messages);
@@ -220,29 +205,24 @@ impl<D: Drawn> Painter<D> {
             count,
             wanted: self.progress.wanted(),
         };
-        self.take_step(line, deed, writer)
+        self.take_step(line, deed, pen);
     }
 
     /// Notes what has become of the last messages, and writes the step.
-    fn take_step<W: Sink>(
-        &mut self,
-        line: &[u8],
-        deed: Deed<'_>,
-        writer: &mut W,
-    ) -> Result<(), WriteFailed>
+    fn take_step<P: Pen>(&mut self, line: &[u8], deed: Deed<'_>, pen: &mut P)
         requires room { self.old.progress.steps + 1 < 2 ^ 32 }
         requires few { self.old.progress.shown < MOST_STEPS }
         requires shown { is_shown self.old.marked (walk_in D.desk self.old) self.old.progress.wanted ≡ true }
         requires wanted { deed.wanted ≡ self.old.progress.wanted }
         ensures text { (text : List ℕ) → Excerpts (front_of self.old.front) deed.entry.count text →
-            TookStep D.desk self.old (W.output writer.old) (W.output writer.new) result line.now
+            TookStep D.desk self.old (P.offered pen.old) (P.offered pen.new) line.now
             (λ s. happened_at (D.desk self.old.drawn) s deed.entry.kept.now (option_map
             (λ c. c.now) deed.entry.command) deed.entry.reply.now text) self.new }
         ensures steps { self.new.progress.steps ≡ self.old.progress.steps + 1 }
     {
         self.begin_step(deed.kept.sender());
         self.drawn.messages(&mut self.messages);
-        self.show(line, deed, writer)
+        self.show(line, deed, pen);
     }
 
     /// Counts one more command, and notes what has become of the last messages behind it.
@@ -268,32 +248,27 @@ impl<D: Drawn> Painter<D> {
     }
 
     /// Writes the beginning of the next step, if no remark has begun it.
-    fn open_step<W: Sink>(&self, writer: &mut W) -> Result<(), WriteFailed>
-        ensures { Puts (W.output writer.old) (W.output writer.new) result (opening (walk_in D.desk self.now)) }
+    fn open_step<P: Pen>(&self, pen: &mut P)
+        ensures { P.offered pen.new ≡ P.offered pen.old ++ opening (walk_in D.desk self.now) }
     {
         if self.progress.is_open() {
-            return Ok(());
+            return;
         }
-        print_step_open(self.progress.next(), writer)
+        print_step_open(self.progress.next(), pen);
     }
 
     /// Writes a step, of which the reply's front stands in its place.
-    fn show<W: Sink>(
-        &mut self,
-        line: &[u8],
-        deed: Deed<'_>,
-        writer: &mut W,
-    ) -> Result<(), WriteFailed>
+    fn show<P: Pen>(&mut self, line: &[u8], deed: Deed<'_>, pen: &mut P)
         requires room { self.old.progress.shown < MOST_STEPS }
         requires messages { self.old.messages.items ≡ message_items (D.desk self.old.drawn) }
         ensures text { (text : List ℕ) → Excerpts (front_of self.old.front) deed.entry.count text →
-            WroteStep D.desk self.old (W.output writer.old) (W.output writer.new) result line.now deed.entry.wanted
+            WroteStep D.desk self.old (P.offered pen.old) (P.offered pen.new) line.now deed.entry.wanted
             (λ s. happened_at (D.desk self.old.drawn) s deed.entry.kept.now (option_map
             (λ c. c.now) deed.entry.command) deed.entry.reply.now text) self.new }
         ensures steps { self.new.progress.steps ≡ self.old.progress.steps }
     {
         self.drawn.page_list(&mut self.pages);
-        self.open_step(writer)?;
+        self.open_step(pen);
         let step = step_of(
             &self.drawn,
             deed.kept,
@@ -316,18 +291,46 @@ impl<D: Drawn> Painter<D> {
             &self.notes,
             self.progress.last(),
             &mut self.lists,
-            writer,
-        )?;
+            pen,
+        );
         self.progress.end_step(above.is_still);
-        Ok(())
     }
 
     /// Writes the end of the sheet.
-    fn end<W: Sink>(&self, writer: &mut W) -> Result<(), WriteFailed>
-        ensures { Puts (W.output writer.old) (W.output writer.new) result (sheet_end (walk_in D.desk self.now)) }
+    fn end<P: Pen>(&self, pen: &mut P)
+        ensures { P.offered pen.new ≡ P.offered pen.old ++ sheet_end (walk_in D.desk self.now) }
     {
-        print_rest(self.progress.is_open(), writer)?;
-        print_foot(self.progress.begun(), self.progress.left(), writer)
+        print_rest(self.progress.is_open(), pen);
+        print_foot(self.progress.begun(), self.progress.left(), pen);
+    }
+
+    /// Shows a whole line, and does what it asks for.
+    fn paint_line<P: Pen>(&mut self, line: &[u8], pen: &mut P)
+        requires { self.old.progress.steps + 1 < 2 ^ 32 }
+        ensures drew { DrewLine D.desk self.old (P.offered pen.old) line.now (line_means line.now) self.new
+            (P.offered pen.new) }
+        ensures steps { self.new.progress.steps ≤ self.old.progress.steps + 1 }
+    {
+        let mut command = Command::Ask(Question::Areas);
+        match read_line(line, &mut command) {
+            Ok(false) => self.skip(line, pen),
+            Ok(true) => self.carry_out(line, &command, pen),
+            Err(fault) => self.refuse(line, &fault, pen),
+        }
+    }
+
+    /// Shows what stands behind the last line feed, if something does, and writes the end of the sheet.
+    fn paint_rest<P: Pen>(&mut self, rest: &[u8], pen: &mut P)
+        requires { self.old.progress.steps + 1 < 2 ^ 32 }
+        ensures { DrewRest D.desk self.old (P.offered pen.old) rest.now self.new (P.offered pen.new) }
+    {
+        if rest.is_empty() {
+            self.end(pen);
+            return;
+        }
+        let fault = rest_fault(rest);
+        self.refuse(rest, &fault, pen);
+        self.end(pen);
     }
 
     /// How the sheet went so far.
@@ -358,20 +361,14 @@ impl<D: Drawn> LineTaker for Painter<D> {
     ghost room = { λ m. 2 ^ 32 - 1 - m.progress.steps };
 
     fn take_line<W: Sink>(&mut self, line: &[u8], writer: &mut W) -> Result<(), WriteFailed> {
-        let mut command = Command::Ask(Question::Areas);
-        match read_line(line, &mut command) {
-            Ok(false) => self.skip(line, writer),
-            Ok(true) => self.carry_out(line, &command, writer),
-            Err(fault) => self.refuse(line, &fault, writer),
-        }
+        let mut pen = WriterPen::new(writer);
+        self.paint_line(line, &mut pen);
+        pen.done()
     }
 
     fn take_rest<W: Sink>(&mut self, rest: &[u8], writer: &mut W) -> Result<(), WriteFailed> {
-        if rest.is_empty() {
-            return self.end(writer);
-        }
-        let fault = rest_fault(rest);
-        self.refuse(rest, &fault, writer)?;
-        self.end(writer)
+        let mut pen = WriterPen::new(writer);
+        self.paint_rest(rest, &mut pen);
+        pen.done()
     }
 }

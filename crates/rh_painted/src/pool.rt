@@ -6,7 +6,6 @@ ghost use Rattle.rh_defs.specs.Forms.{most_pages};
 ghost use Rattle.rh_defs.specs.declared.sizes.TheConstants.{MAX_PAGES};
 ghost use Rattle.rh_figure.specs.Phrases.{listed_numbers};
 ghost use Rattle.rh_figure.specs.Share.{holdings};
-ghost use Rattle.rh_lines.specs.Flow.{Puts};
 ghost use Rattle.rh_painted.specs.PaintedOwners.{IsOwnerOf, holding_seen, name_seen, who_seen};
 ghost use Rattle.rh_sheet.specs.Markup.{escape};
 ghost use Rattle.rh_sheet.specs.Pool.{freed_squares, owner_classes, owner_sentence, owner_squares, pool_body};
@@ -19,30 +18,24 @@ use rh_draw::{
     add_tint, print_described, print_figure_end, print_figure_open, print_pool_side, print_squares,
     print_tags, put_escaped,
 };
-use rh_lines::{Row, Sink, WriteFailed, put};
+use rh_lines::{Pen, Row};
 use rh_map::{add_numbers, freed};
 use rh_sheet::sizes::{CELL, FIGURE_WIDTH, FRAME_EDGE, POOL_COLUMNS};
 use rh_sight::{Sight, Step, pages_of};
 
-/// Writes the figure of the pool. Fails only where the writer failed or took none of what it was offered; a front of
-/// the figure is then written.
-pub fn print_pool_figure<S: Sight, W: Sink>(
-    sight: &S,
-    step: &Step<'_>,
-    writer: &mut W,
-) -> Result<(), WriteFailed>
+/// Writes the figure of the pool.
+pub fn print_pool_figure<S: Sight, P: Pen>(sight: &S, step: &Step<'_>, pen: &mut P)
     requires { IsStepOf (S.desk sight.now) step.now }
-    ensures { Puts (W.output writer.old) (W.output writer.new) result
-        (pool_figure (scene_at (S.desk sight.now) step.now)) }
+    ensures { P.offered pen.new ≡ P.offered pen.old ++ pool_figure (scene_at (S.desk sight.now) step.now) }
 {
     sight.spelled();
     let pages = step.pages.len() as u32;
     let height = pool_height(pages) + FRAME_EDGE;
-    print_figure_open(FIGURE_WIDTH, height, b"The pool of pages", writer)?;
-    print_description(sight, step, writer)?;
-    print_described(writer)?;
-    print_body(sight, step, writer)?;
-    print_figure_end(writer)
+    print_figure_open(FIGURE_WIDTH, height, b"The pool of pages", pen);
+    print_description(sight, step, pen);
+    print_described(pen);
+    print_body(sight, step, pen);
+    print_figure_end(pen);
 }
 
 /// The height of so many pages.
@@ -55,19 +48,15 @@ fn pool_height(pages: u32) -> u32
 }
 
 /// Writes the pool as it is read out.
-fn print_description<S: Sight, W: Sink>(
-    sight: &S,
-    step: &Step<'_>,
-    writer: &mut W,
-) -> Result<(), WriteFailed>
+fn print_description<S: Sight, P: Pen>(sight: &S, step: &Step<'_>, pen: &mut P)
     requires { IsStepOf (S.desk sight.now) step.now }
-    ensures { Puts (W.output writer.old) (W.output writer.new) result
-        (escape (pool_description (scene_at (S.desk sight.now) step.now))) }
+    ensures { P.offered pen.new ≡ P.offered pen.old
+        ++ escape (pool_description (scene_at (S.desk sight.now) step.now)) }
 {
     sight.spelled();
     let mut k = 0;
     'owners: while let Some(owner) = owner_at(sight, k) {
-        print_sentence(sight, step, &owner, writer)?;
+        print_sentence(sight, step, &owner, pen);
         k += 1;
     }
     let mut row = Row::new();
@@ -75,30 +64,24 @@ fn print_description<S: Sight, W: Sink>(
     row.text(b" of ");
     row.decimal(step.pages.len() as u32);
     row.text(b" free.");
-    put_escaped(row.as_slice(), writer)
+    put_escaped(row.as_slice(), pen);
 }
 
 /// Writes the pages of an owner as they are read out, where it has some.
-fn print_sentence<S: Sight, W: Sink>(
-    sight: &S,
-    step: &Step<'_>,
-    owner: &OwnerSight<'_>,
-    writer: &mut W,
-) -> Result<(), WriteFailed>
+fn print_sentence<S: Sight, P: Pen>(sight: &S, step: &Step<'_>, owner: &OwnerSight<'_>, pen: &mut P)
     requires step { IsStepOf (S.desk sight.now) step.now }
     requires owner { IsOwnerOf (S.desk sight.now) owner.now }
-    ensures { Puts (W.output writer.old) (W.output writer.new) result
-        (escape (owner_sentence (name_seen owner.now.named)
-        ((scene_at (S.desk sight.now) step.now).share.pages_of (who_seen owner.now.named)))) }
+    ensures { P.offered pen.new ≡ P.offered pen.old ++ escape (owner_sentence (name_seen owner.now.named)
+        ((scene_at (S.desk sight.now) step.now).share.pages_of (who_seen owner.now.named))) }
 {
     sight.spelled();
     let pages = pages_of(sight, step.pages, owner.place);
     if pages.is_empty() {
-        return Ok(());
+        return;
     }
     let mut row = pages_told(&owner.named, pages);
     row.text(b". ");
-    put_escaped(row.as_slice(), writer)
+    put_escaped(row.as_slice(), pen);
 }
 
 /// An owner's pages.
@@ -115,53 +98,42 @@ fn pages_told(named: &Named<'_>, pages: &[u16]) -> Row
 }
 
 /// Writes all squares, the grid upon them, tags, and what stands at the left.
-fn print_body<S: Sight, W: Sink>(
-    sight: &S,
-    step: &Step<'_>,
-    writer: &mut W,
-) -> Result<(), WriteFailed>
+fn print_body<S: Sight, P: Pen>(sight: &S, step: &Step<'_>, pen: &mut P)
     requires { IsStepOf (S.desk sight.now) step.now }
-    ensures { Puts (W.output writer.old) (W.output writer.new) result
-        (pool_body (scene_at (S.desk sight.now) step.now)) }
+    ensures { P.offered pen.new ≡ P.offered pen.old ++ pool_body (scene_at (S.desk sight.now) step.now) }
 {
     sight.spelled();
-    print_all_squares(sight, step, writer)?;
-    print_freed_squares(sight, step, writer)?;
-    put(writer, b"<use href=\"#grid\"/>\n")?;
-    print_all_tags(sight, step, writer)?;
-    print_pool_side(sight.free_pages(), step.pages.len() as u32, writer)
+    print_all_squares(sight, step, pen);
+    print_freed_squares(sight, step, pen);
+    pen.put(b"<use href=\"#grid\"/>\n");
+    print_all_tags(sight, step, pen);
+    print_pool_side(sight.free_pages(), step.pages.len() as u32, pen);
 }
 
 /// Writes the squares of all owners.
-fn print_all_squares<S: Sight, W: Sink>(
-    sight: &S,
-    step: &Step<'_>,
-    writer: &mut W,
-) -> Result<(), WriteFailed>
+fn print_all_squares<S: Sight, P: Pen>(sight: &S, step: &Step<'_>, pen: &mut P)
     requires { IsStepOf (S.desk sight.now) step.now }
     ensures { let x = scene_at (S.desk sight.now) step.now in
-        Puts (W.output writer.old) (W.output writer.new) result
-        (flat_map (owner_squares x) (holdings (S.desk sight.now))) }
+        P.offered pen.new ≡ P.offered pen.old ++ flat_map (owner_squares x) (holdings (S.desk sight.now)) }
 {
     let mut k = 0;
     'owners: while let Some(owner) = owner_at(sight, k) {
-        print_owner_squares(sight, step, &owner, writer)?;
+        print_owner_squares(sight, step, &owner, pen);
         k += 1;
     }
-    Ok(())
 }
 
 /// Writes the squares of an owner: of the pages that it had, and of those that it has taken.
-fn print_owner_squares<S: Sight, W: Sink>(
+fn print_owner_squares<S: Sight, P: Pen>(
     sight: &S,
     step: &Step<'_>,
     owner: &OwnerSight<'_>,
-    writer: &mut W,
-) -> Result<(), WriteFailed>
+    pen: &mut P,
+)
     requires step { IsStepOf (S.desk sight.now) step.now }
     requires owner { IsOwnerOf (S.desk sight.now) owner.now }
-    ensures { Puts (W.output writer.old) (W.output writer.new) result
-        (owner_squares (scene_at (S.desk sight.now) step.now) (holding_seen owner.now)) }
+    ensures { P.offered pen.new ≡ P.offered pen.old
+        ++ owner_squares (scene_at (S.desk sight.now) step.now) (holding_seen owner.now) }
 {
     sight.spelled();
     let pages = pages_of(sight, step.pages, owner.place);
@@ -172,15 +144,15 @@ fn print_owner_squares<S: Sight, W: Sink>(
         square_class(&owner.named, false).as_slice(),
         kept,
         tip.as_slice(),
-        writer,
-    )?;
+        pen,
+    );
     let tip = takes_told(&owner.named, taken);
     print_squares(
         square_class(&owner.named, true).as_slice(),
         taken,
         tip.as_slice(),
-        writer,
-    )
+        pen,
+    );
 }
 
 /// The classes of an owner's squares.
@@ -198,35 +170,24 @@ fn square_class(named: &Named<'_>, fresh: bool) -> Row
 }
 
 /// Writes the squares of the pages that were given back.
-fn print_freed_squares<S: Sight, W: Sink>(
-    sight: &S,
-    step: &Step<'_>,
-    writer: &mut W,
-) -> Result<(), WriteFailed>
+fn print_freed_squares<S: Sight, P: Pen>(sight: &S, step: &Step<'_>, pen: &mut P)
     requires { IsStepOf (S.desk sight.now) step.now }
-    ensures { Puts (W.output writer.old) (W.output writer.new) result
-        (freed_squares (scene_at (S.desk sight.now) step.now)) }
+    ensures { P.offered pen.new ≡ P.offered pen.old ++ freed_squares (scene_at (S.desk sight.now) step.now) }
 {
     let pages = freed_of(sight, step);
-    print_squares(b"freed", pages, freed(pages).as_slice(), writer)
+    print_squares(b"freed", pages, freed(pages).as_slice(), pen);
 }
 
 /// Writes the tags of all owners' pages.
-fn print_all_tags<S: Sight, W: Sink>(
-    sight: &S,
-    step: &Step<'_>,
-    writer: &mut W,
-) -> Result<(), WriteFailed>
+fn print_all_tags<S: Sight, P: Pen>(sight: &S, step: &Step<'_>, pen: &mut P)
     requires { IsStepOf (S.desk sight.now) step.now }
     ensures { let x = scene_at (S.desk sight.now) step.now in
-        Puts (W.output writer.old) (W.output writer.new) result
-        (flat_map (tags_text x) (holdings (S.desk sight.now))) }
+        P.offered pen.new ≡ P.offered pen.old ++ flat_map (tags_text x) (holdings (S.desk sight.now)) }
 {
     let mut k = 0;
     'owners: while let Some(owner) = owner_at(sight, k) {
         let pages = pages_of(sight, step.pages, owner.place);
-        print_tags(owner.named.tag().as_slice(), pages, writer)?;
+        print_tags(owner.named.tag().as_slice(), pages, pen);
         k += 1;
     }
-    Ok(())
 }

@@ -1,16 +1,15 @@
 //! The rows of an owner's pages.
 
-ghost use Rattle.std.specs.Prelude.{◌≡◌, ◌≤◌, length, max, min};
+ghost use Rattle.std.specs.Prelude.{◌≡◌, ◌≤◌, ◌++◌, length, max, min};
 ghost use Rattle.rh_defs.specs.declared.sizes.TheConstants.{MAX_PAGES};
 ghost use Rattle.rh_figure.specs.Share.{count_of};
-ghost use Rattle.rh_lines.specs.Flow.{Puts};
 ghost use Rattle.rh_sheet.specs.SheetAreas.{pages_sentence};
 ghost use Rattle.rh_sheet.specs.Markup.{escape};
 ghost use Rattle.rh_sight.specs.SightOwners.{shared_owner};
 
 use rh_defs::sizes::MAX_PAGES;
 use rh_draw::put_escaped;
-use rh_lines::{Row, Sink, WriteFailed};
+use rh_lines::{Pen, Row};
 use rh_map::add_numbers;
 use rh_sight::{Owner, Step};
 
@@ -24,13 +23,13 @@ pub fn rows_for(step: &Step<'_>, owner: Owner, pages: &[u16]) -> usize
 }
 
 /// Writes which pages an area has, as it is read out.
-pub fn put_pages<W: Sink>(pages: &[u16], writer: &mut W) -> Result<(), WriteFailed>
+pub fn put_pages<P: Pen>(pages: &[u16], pen: &mut P)
     requires { length pages.now ≤ MAX_PAGES }
-    ensures { Puts (W.output writer.old) (W.output writer.new) result (escape (pages_sentence pages.now)) }
+    ensures { P.offered pen.new ≡ P.offered pen.old ++ escape (pages_sentence pages.now) }
 {
     let mut row = Row::new();
     row.text(b"Page ");
     add_numbers(&mut row, pages);
     row.text(b". ");
-    put_escaped(row.as_slice(), writer)
+    put_escaped(row.as_slice(), pen);
 }

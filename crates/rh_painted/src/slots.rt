@@ -1,6 +1,6 @@
 //! The figures of slots.
 
-ghost use Rattle.std.specs.Prelude.{◌≡◌, ◌<◌, length, slice_get, Some};
+ghost use Rattle.std.specs.Prelude.{◌≡◌, ◌<◌, ◌++◌, length, slice_get, Some};
 ghost use Rattle.std.specs.List.{AllByRecursion, flat_map};
 ghost use Rattle.rh_defs.specs.Desk.{Task};
 ghost use Rattle.rh_defs.specs.Slot.{anchor_count, slot_length};
@@ -8,7 +8,6 @@ ghost use Rattle.rh_defs.specs.declared.question.BlockItem.{BlockItem};
 ghost use Rattle.rh_draw.specs.DrawRows.{plot_of};
 ghost use Rattle.rh_figure.specs.Figure.{slot_note};
 ghost use Rattle.rh_figure.specs.Scene.{Scene};
-ghost use Rattle.rh_lines.specs.Flow.{Puts};
 ghost use Rattle.rh_painted.specs.Inner.Figures.{IsSlotPlan};
 ghost use Rattle.rh_sheet.specs.SheetAreas.{slot_body, slot_description, slot_figure, slot_lenses, slot_plot};
 ghost use Rattle.rh_sheet.specs.SheetAreas.{ticks_text};
@@ -29,7 +28,7 @@ use rh_draw::{
     print_lens_above, print_lens_below, print_rows, print_tick, put_escaped, row_y, top,
 };
 use rh_drawn::{Band, Lists, count_tasks};
-use rh_lines::{Row, Sink, WriteFailed};
+use rh_lines::{Pen, Row};
 use rh_map::{SlotHeading, add_size, add_slot_note};
 use rh_sheet::Frame;
 use rh_sheet::sizes::{FIGURE_WIDTH, LENS_HEIGHT};
@@ -49,57 +48,49 @@ struct Plan<'a> {
     census: Census,
 }
 
-/// Writes the heading of each slot, in order of handle, and its figure where it is drawn. Fails only where the writer
-/// failed or took none of what it was offered; a front of them is then written.
-pub fn print_slots<S: Sight, W: Sink>(
-    sight: &S,
-    step: &Step<'_>,
-    lists: &mut Lists,
-    writer: &mut W,
-) -> Result<(), WriteFailed>
+/// Writes the heading of each slot, in order of handle, and its figure where it is drawn.
+pub fn print_slots<S: Sight, P: Pen>(sight: &S, step: &Step<'_>, lists: &mut Lists, pen: &mut P)
     requires { IsStepOf (S.desk sight.now) step.now }
     ensures { let x = scene_at (S.desk sight.now) step.now in
-        Puts (W.output writer.old) (W.output writer.new) result (flat_map (slot_part x) x.desk.tasks) }
+        P.offered pen.new ≡ P.offered pen.old ++ flat_map (slot_part x) x.desk.tasks }
 {
     sight.spelled();
     let tasks = count_tasks(sight);
     let mut i = 0;
     'tasks: while let Some(task) = sight.task(i) {
-        print_slot(sight, step, tasks, i, &task, lists, writer)?;
+        print_slot(sight, step, tasks, i, &task, lists, pen);
         i += 1;
     }
-    Ok(())
 }
 
 /// Writes the slot of a task, where so many tasks are live.
-fn print_slot<S: Sight, W: Sink>(
+fn print_slot<S: Sight, P: Pen>(
     sight: &S,
     step: &Step<'_>,
     tasks: usize,
     i: usize,
     task: &TaskSight<'_>,
     lists: &mut Lists,
-    writer: &mut W,
-) -> Result<(), WriteFailed>
+    pen: &mut P,
+)
     requires step { IsStepOf (S.desk sight.now) step.now }
     requires tasks { tasks ≡ length (S.desk sight.now).tasks }
     requires task { (t : Task) × (slice_get (S.desk sight.now).tasks i ≡ Some t) × IsTaskSeen task.now t }
     ensures { (t : Task) → slice_get (S.desk sight.now).tasks i ≡ Some t →
-        Puts (W.output writer.old) (W.output writer.new) result
-        (slot_part (scene_at (S.desk sight.now) step.now) t) }
+        P.offered pen.new ≡ P.offered pen.old ++ slot_part (scene_at (S.desk sight.now) step.now) t }
 {
     sight.spelled();
-    print_slot_heading(task, writer)?;
+    print_slot_heading(task, pen);
     if !is_drawn(step, tasks, task.handle) {
-        return Ok(());
+        return;
     }
-    print_figure(sight, step, i, task, lists, writer)
+    print_figure(sight, step, i, task, lists, pen);
 }
 
 /// Writes the heading of a task's slot.
-fn print_slot_heading<W: Sink>(task: &TaskSight<'_>, writer: &mut W) -> Result<(), WriteFailed>
+fn print_slot_heading<P: Pen>(task: &TaskSight<'_>, pen: &mut P)
     ensures { (t : Task) → IsTaskSeen task.now t →
-        Puts (W.output writer.old) (W.output writer.new) result (heading_text t.name (slot_note t)) }
+        P.offered pen.new ≡ P.offered pen.old ++ heading_text t.name (slot_note t) }
 {
     let heading = SlotHeading {
         name: task.name,
@@ -112,23 +103,22 @@ fn print_slot_heading<W: Sink>(task: &TaskSight<'_>, writer: &mut W) -> Result<(
     };
     let mut note = Row::new();
     add_slot_note(&mut note, &heading);
-    print_heading(task.name.as_bytes(), note.as_slice(), writer)
+    print_heading(task.name.as_bytes(), note.as_slice(), pen);
 }
 
 /// Writes the figure of the slot of a task.
-fn print_figure<S: Sight, W: Sink>(
+fn print_figure<S: Sight, P: Pen>(
     sight: &S,
     step: &Step<'_>,
     i: usize,
     task: &TaskSight<'_>,
     lists: &mut Lists,
-    writer: &mut W,
-) -> Result<(), WriteFailed>
+    pen: &mut P,
+)
     requires step { IsStepOf (S.desk sight.now) step.now }
     requires task { (t : Task) × (slice_get (S.desk sight.now).tasks i ≡ Some t) × IsTaskSeen task.now t }
     ensures { (t : Task) → slice_get (S.desk sight.now).tasks i ≡ Some t →
-        Puts (W.output writer.old) (W.output writer.new) result
-        (slot_figure (scene_at (S.desk sight.now) step.now) t) }
+        P.offered pen.new ≡ P.offered pen.old ++ slot_figure (scene_at (S.desk sight.now) step.now) t }
 {
     sight.spelled();
     sight.blocks(i, &mut lists.blocks);
@@ -153,120 +143,116 @@ fn print_figure<S: Sight, W: Sink>(
         plot,
         census,
     };
-    print_plan(sight, step, task, &plan, writer)
+    print_plan(sight, step, task, &plan, pen);
 }
 
 /// Writes a figure as it is planned.
-fn print_plan<S: Sight, W: Sink>(
+fn print_plan<S: Sight, P: Pen>(
     sight: &S,
     step: &Step<'_>,
     task: &TaskSight<'_>,
     plan: &Plan<'_>,
-    writer: &mut W,
-) -> Result<(), WriteFailed>
+    pen: &mut P,
+)
     requires step { IsStepOf (S.desk sight.now) step.now }
     requires task { (t : Task) × (slice_get (S.desk sight.now).tasks plan.now.i ≡ Some t) × IsTaskSeen task.now t
         × IsSlotPlan (scene_at (S.desk sight.now) step.now) t plan.now }
     ensures { (t : Task) → slice_get (S.desk sight.now).tasks plan.now.i ≡ Some t →
-        Puts (W.output writer.old) (W.output writer.new) result
-        (slot_figure (scene_at (S.desk sight.now) step.now) t) }
+        P.offered pen.new ≡ P.offered pen.old ++ slot_figure (scene_at (S.desk sight.now) step.now) t }
 {
     let mut title = Row::new();
     title.text(b"The slot of ");
     title.text(task.name.as_bytes());
-    print_figure_open(FIGURE_WIDTH, height(plan.frame), title.as_slice(), writer)?;
-    print_description(sight, step, task, plan, writer)?;
-    print_described(writer)?;
-    print_body(sight, step, task, plan, writer)?;
-    print_figure_end(writer)
+    print_figure_open(FIGURE_WIDTH, height(plan.frame), title.as_slice(), pen);
+    print_description(sight, step, task, plan, pen);
+    print_described(pen);
+    print_body(sight, step, task, plan, pen);
+    print_figure_end(pen);
 }
 
 /// Writes a slot as it is read out.
-fn print_description<S: Sight, W: Sink>(
+fn print_description<S: Sight, P: Pen>(
     sight: &S,
     step: &Step<'_>,
     task: &TaskSight<'_>,
     plan: &Plan<'_>,
-    writer: &mut W,
-) -> Result<(), WriteFailed>
+    pen: &mut P,
+)
     requires step { IsStepOf (S.desk sight.now) step.now }
     requires task { (t : Task) × (slice_get (S.desk sight.now).tasks plan.now.i ≡ Some t) × IsTaskSeen task.now t
         × IsSlotPlan (scene_at (S.desk sight.now) step.now) t plan.now }
     ensures { (t : Task) → slice_get (S.desk sight.now).tasks plan.now.i ≡ Some t →
-        Puts (W.output writer.old) (W.output writer.new) result
-        (escape (slot_description (scene_at (S.desk sight.now) step.now) t)) }
+        P.offered pen.new ≡ P.offered pen.old ++ escape (slot_description (scene_at (S.desk sight.now) step.now) t) }
 {
     sight.spelled();
-    put_pages(plan.plot.pages, writer)?;
+    put_pages(plan.plot.pages, pen);
     let mut row = Row::new();
     row.text(b"C heap of ");
     add_size(&mut row, task.heap_end);
     row.text(b". ");
-    put_escaped(row.as_slice(), writer)?;
+    put_escaped(row.as_slice(), pen);
     let band = Band {
         heap: HeapOf::Task(plan.i),
         handle: task.handle,
         taking: task.taking,
     };
-    put_heap_cards(sight, step, &band, Form::Told, writer)?;
-    put_flex_cards(sight, step, plan.i, task, plan.blocks, Form::Told, writer)
+    put_heap_cards(sight, step, &band, Form::Told, pen);
+    put_flex_cards(sight, step, plan.i, task, plan.blocks, Form::Told, pen);
 }
 
 /// Writes what leads to the cards, cards of flex blocks, rows, ticks, the arrow of a slide, and cards of the C heap.
-fn print_body<S: Sight, W: Sink>(
+fn print_body<S: Sight, P: Pen>(
     sight: &S,
     step: &Step<'_>,
     task: &TaskSight<'_>,
     plan: &Plan<'_>,
-    writer: &mut W,
-) -> Result<(), WriteFailed>
+    pen: &mut P,
+)
     requires step { IsStepOf (S.desk sight.now) step.now }
     requires task { (t : Task) × (slice_get (S.desk sight.now).tasks plan.now.i ≡ Some t) × IsTaskSeen task.now t
         × IsSlotPlan (scene_at (S.desk sight.now) step.now) t plan.now }
     ensures { (t : Task) → slice_get (S.desk sight.now).tasks plan.now.i ≡ Some t →
-        Puts (W.output writer.old) (W.output writer.new) result
-        (slot_body (scene_at (S.desk sight.now) step.now) t) }
+        P.offered pen.new ≡ P.offered pen.old ++ slot_body (scene_at (S.desk sight.now) step.now) t }
 {
     sight.spelled();
     let frame = plan.frame;
-    print_lenses(sight, step, task, plan, writer)?;
+    print_lenses(sight, step, task, plan, pen);
     let above = Form::Above(top(frame).saturating_sub(LENS_HEIGHT));
-    put_flex_cards(sight, step, plan.i, task, plan.blocks, above, writer)?;
-    print_rows(frame, &plan.plot, writer)?;
-    print_ticks(row_y(frame, 0), plan.blocks, writer)?;
-    print_arrow_of(step, frame, task.handle, plan.blocks, writer)?;
+    put_flex_cards(sight, step, plan.i, task, plan.blocks, above, pen);
+    print_rows(frame, &plan.plot, pen);
+    print_ticks(row_y(frame, 0), plan.blocks, pen);
+    print_arrow_of(step, frame, task.handle, plan.blocks, pen);
     let below = Form::Below(foot(frame) + LENS_HEIGHT);
     let band = Band {
         heap: HeapOf::Task(plan.i),
         handle: task.handle,
         taking: task.taking,
     };
-    put_heap_cards(sight, step, &band, below, writer)
+    put_heap_cards(sight, step, &band, below, pen);
 }
 
 /// Writes what leads from the rows to the cards.
-fn print_lenses<S: Sight, W: Sink>(
+fn print_lenses<S: Sight, P: Pen>(
     sight: &S,
     step: &Step<'_>,
     task: &TaskSight<'_>,
     plan: &Plan<'_>,
-    writer: &mut W,
-) -> Result<(), WriteFailed>
+    pen: &mut P,
+)
     requires step { IsStepOf (S.desk sight.now) step.now }
     requires task { (t : Task) × (slice_get (S.desk sight.now).tasks plan.now.i ≡ Some t) × IsTaskSeen task.now t
         × IsSlotPlan (scene_at (S.desk sight.now) step.now) t plan.now }
     ensures { (t : Task) → slice_get (S.desk sight.now).tasks plan.now.i ≡ Some t →
-        Puts (W.output writer.old) (W.output writer.new) result
-        (slot_lenses plan.now.frame t.slot) }
+        P.offered pen.new ≡ P.offered pen.old ++ slot_lenses plan.now.frame t.slot }
 {
     sight.spelled();
     let low = C_HEAP_PLACE + task.heap_end as usize;
     let high = flex_end(&plan.plot);
     let count = plan.blocks.len() as u32;
-    print_lens_above(plan.frame, low, high, count, writer)?;
+    print_lens_above(plan.frame, low, high, count, pen);
     let low = C_HEAP_PLACE + HEAP_FIRST;
     let high = C_HEAP_PLACE + plan.census.end as usize;
-    print_lens_below(plan.frame, low, high, plan.census.count, writer)
+    print_lens_below(plan.frame, low, high, plan.census.count, pen);
 }
 
 /// Where the flex blocks of a slot end, from its first byte: there its last piece begins, what is unused.
@@ -280,12 +266,11 @@ fn flex_end(plot: &Plot<'_>) -> usize
 }
 
 /// Writes ticks in the anchor words of blocks, in a row at a height.
-fn print_ticks<W: Sink>(y: u32, blocks: &[BlockItem], writer: &mut W) -> Result<(), WriteFailed>
+fn print_ticks<P: Pen>(y: u32, blocks: &[BlockItem], pen: &mut P)
     requires { AllByRecursion (λ (b : BlockItem). b.anchor < anchor_count) blocks.now }
-    ensures { Puts (W.output writer.old) (W.output writer.new) result (ticks_text y blocks.now) }
+    ensures { P.offered pen.new ≡ P.offered pen.old ++ ticks_text y blocks.now }
 {
     for block in blocks {
-        print_tick(y, u32::from(block.anchor.0), writer)?;
+        print_tick(y, u32::from(block.anchor.0), pen);
     }
-    Ok(())
 }

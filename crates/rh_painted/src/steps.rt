@@ -1,11 +1,10 @@
 //! A step of a sheet behind its remarks: its command, its reply, what has changed, and its figure.
 
-ghost use Rattle.std.specs.Prelude.{◌≤◌, ◌∷◌, ℕ, List, [], length};
+ghost use Rattle.std.specs.Prelude.{◌≡◌, ◌≤◌, ◌++◌, ◌∷◌, ℕ, List, [], length};
 ghost use Rattle.std.specs.List.{concat};
 ghost use Rattle.rh_drawn.specs.DrawnReplies.{Excerpts};
 ghost use Rattle.rh_figure.specs.Changes.{changes};
 ghost use Rattle.rh_figure.specs.Phrases.{where_so};
-ghost use Rattle.rh_lines.specs.Flow.{Puts};
 ghost use Rattle.rh_sheet.specs.SheetSteps.{changes_text, said_end, step_end, step_text};
 ghost use Rattle.rh_sight.specs.Steps.{IsStepOf, scene_at};
 ghost use Rattle.rh_defs.specs.Post.{most_messages};
@@ -17,7 +16,7 @@ use crate::page_changes::print_page_changes;
 use crate::post_changes::print_post_changes;
 use rh_draw::{print_said, print_still};
 use rh_drawn::{Above, Lists};
-use rh_lines::{Sink, WriteFailed, put};
+use rh_lines::Pen;
 use rh_sight::{Sight, Step};
 
 /// The end of what is said at a step.
@@ -26,66 +25,59 @@ const SAID_END: &[u8] = b"</div>\n";
 /// The end of a step.
 const STEP_END: &[u8] = b"</section>\n";
 
-/// Writes a step, where the last figure is that of step `last`, 0 for none. Fails only where the writer failed or took
-/// none of what it was offered; a front of the step is then written.
-pub fn print_step<S: Sight, W: Sink>(
+/// Writes a step, where the last figure is that of step `last`, 0 for none.
+pub fn print_step<S: Sight, P: Pen>(
     sight: &S,
     step: &Step<'_>,
     above: &Above<'_>,
     notes: &Notes,
     last: u32,
     lists: &mut Lists,
-    writer: &mut W,
-) -> Result<(), WriteFailed>
+    pen: &mut P,
+)
     requires step { IsStepOf (S.desk sight.now) step.now }
     requires few { length step.now.messages.now ≤ most_messages }
     ensures { (reply : List ℕ) → Excerpts above.now.front.now above.now.count reply
-        → Puts (W.output writer.old) (W.output writer.new) result
-        (step_text above.now.is_still above.now.number above.now.line.now reply
-        (scene_at (S.desk sight.now) step.now) notes.now.items last) }
+        → P.offered pen.new ≡ P.offered pen.old
+        ++ step_text above.now.is_still above.now.number above.now.line.now reply
+        (scene_at (S.desk sight.now) step.now) notes.now.items last }
 {
-    print_said(above.number, above.line, above.front, above.count, writer)?;
+    print_said(above.number, above.line, above.front, above.count, pen);
     if above.is_still {
-        print_still(last, writer)?;
-        return print_end(writer);
+        print_still(last, pen);
+        print_end(pen);
+        return;
     }
-    print_changes(sight, step, lists, writer)?;
-    put(writer, SAID_END)?;
-    print_figure(sight, step, notes, above.number, lists, writer)?;
-    put(writer, STEP_END)
+    print_changes(sight, step, lists, pen);
+    pen.put(SAID_END);
+    print_figure(sight, step, notes, above.number, lists, pen);
+    pen.put(STEP_END);
 }
 
 /// Writes the end of a step that a remark has begun and no command has ended, if there is one.
-pub fn print_rest<W: Sink>(opened: bool, writer: &mut W) -> Result<(), WriteFailed>
-    ensures { Puts (W.output writer.old) (W.output writer.new) result
-        (where_so opened (concat (said_end ∷ step_end ∷ []))) }
+pub fn print_rest<P: Pen>(opened: bool, pen: &mut P)
+    ensures { P.offered pen.new ≡ P.offered pen.old ++ where_so opened (concat (said_end ∷ step_end ∷ [])) }
 {
     if !opened {
-        return Ok(());
+        return;
     }
-    print_end(writer)
+    print_end(pen);
 }
 
 /// Writes the end of a step without a figure.
-fn print_end<W: Sink>(writer: &mut W) -> Result<(), WriteFailed>
-    ensures { Puts (W.output writer.old) (W.output writer.new) result (concat (said_end ∷ step_end ∷ [])) }
+fn print_end<P: Pen>(pen: &mut P)
+    ensures { P.offered pen.new ≡ P.offered pen.old ++ concat (said_end ∷ step_end ∷ []) }
 {
-    put(writer, SAID_END)?;
-    put(writer, STEP_END)
+    pen.put(SAID_END);
+    pen.put(STEP_END);
 }
 
 /// Writes what a step has changed: of the pool, of the named task's flex blocks, and of the messages.
-fn print_changes<S: Sight, W: Sink>(
-    sight: &S,
-    step: &Step<'_>,
-    lists: &mut Lists,
-    writer: &mut W,
-) -> Result<(), WriteFailed>
+fn print_changes<S: Sight, P: Pen>(sight: &S, step: &Step<'_>, lists: &mut Lists, pen: &mut P)
     requires { IsStepOf (S.desk sight.now) step.now }
-    ensures { Puts (W.output writer.old) (W.output writer.new) result
-        (changes_text (changes (scene_at (S.desk sight.now) step.now))) }
+    ensures { P.offered pen.new ≡ P.offered pen.old ++ changes_text (changes (scene_at (S.desk sight.now) step.now)) }
 {
-    print_page_changes(sight, step, writer)?;
-    print_block_changes(sight, step, &mut lists.blocks, writer)?;
-    print_post_changes(sight, step, writer)
+    print_page_changes(sight, step, pen);
+    print_block_changes(sight, step, &mut lists.blocks, pen);
+    print_post_changes(sight, step, pen);
 }

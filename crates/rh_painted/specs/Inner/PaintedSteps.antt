@@ -1,19 +1,21 @@
 -- How a sheet takes a step.
-use Rattle.std.specs.Prelude.{◌+◌, Bool, true, false, ◌&&◌, not, ◌≡◌, ◌++◌, List, Option, Result, Ok, OnErr, OnOk}
+use Rattle.std.specs.Prelude.{◌+◌, Bool, true, false, ◌&&◌, ◌||◌, ◌==◌, not, ◌≡◌, ◌++◌, ℕ, List, length, map, Option}
 use Rattle.rh_painted.specs.PaintedProgress.{PaintStand, stand_shown}
 use Rattle.rh_defs.specs.declared.command.Command.{Command}
 use Rattle.rh_defs.specs.declared.reply.Reply.{Reply}
 use Rattle.rh_defs.specs.Desk.{Desk}
+use Rattle.rh_defs.specs.Line.{Meaning}
+use Rattle.rh_figure.specs.Map.{Stage, after_read, read_rest}
+use Rattle.rh_figure.specs.Whole.{AreShared, read_of}
 use Rattle.rh_figure.specs.Share.{Share, IsShared}
 use Rattle.rh_figure.specs.Phrases.{Text}
 use Rattle.rh_figure.specs.Scene.{Before, Scene, is_still, marks_of, scene_of}
-use Rattle.rh_lines.specs.Flow.{Output, Takes, Breaks, Puts}
 use Rattle.rh_sheet.specs.Chart.{noted}
 use Rattle.rh_sheet.specs.declared.note.Note.{Note}
-use Rattle.rh_sheet.specs.Sheet.{Happened, Walk, happened_text, is_shown, opening}
+use Rattle.rh_sheet.specs.Sheet.{Happened, Walk, happened_text, is_shown, opening, read_text, sheet_lines}
 use Rattle.rh_sheet.specs.SheetSteps.{step_text}
 use Rattle.rh_painted.specs.declared.painter.Painter.{Painter}
-use Rattle.rh_painted.specs.PaintedWalks.{walk_in}
+use Rattle.rh_painted.specs.PaintedWalks.{FollowsPainting, walk_in}
 
 -- behind a command that is shown or left out, and that leaves memory as it is or not
 abbrev pub stand_behind : Bool → Bool → PaintStand → PaintStand
@@ -42,27 +44,39 @@ abbrev pub step_written : Walk → Text → Bool → Happened → Text
 step_written x line wanted h =
     opening x ++ step_text (h.still && not wanted) x.place.steps line h.reply h.scene x.notes x.last
 
--- a step was written or left out, over the desk behind it, with some share of the pool; or the writer failed, and took
--- a front of it
-pub record TookStep {D E : Type 0} (desk : D → Desk) (m : Painter D) (o p : Output) (r : Result Unit E) (line : Text) (happened : Share → Happened) (n : Painter D) : Type 0 where
+-- what a sheet has of one line of a script was offered to a pen, with some share of the pool behind it
+pub record DrewLine {D : Type 0} (desk : D → Desk) (m : Painter D) (old : List ℕ) (line : Text) (meaning : Meaning (Option Command)) (n : Painter D) (new : List ℕ) : Type 0 where
+  pub share : Share
+  pub shared : IsShared share (after_read (walk_in desk m).place (line, meaning)).desk
+  pub offered : new ≡ old ++ read_text m.marked share (walk_in desk m) (line, meaning)
+  pub follows : FollowsPainting desk m share (line, meaning) n
+
+-- the rest of the sheet was, of what stands behind the last line feed
+pub record DrewRest {D : Type 0} (desk : D → Desk) (m : Painter D) (old : List ℕ) (rest : List ℕ) (n : Painter D) (new : List ℕ) : Type 0 where
+  pub stages : List Stage
+  pub lines : map read_of stages ≡ read_rest rest
+  pub shared : AreShared (walk_in desk m).place stages
+  pub offered : new ≡ old ++ sheet_lines m.marked (walk_in desk m) stages
+  pub bad : n.has_bad_line ≡ (m.has_bad_line || not (length rest == 0))
+
+-- a step was offered or left out, over the desk behind it, with some share of the pool
+pub record TookStep {D : Type 0} (desk : D → Desk) (m : Painter D) (old new : List ℕ) (line : Text) (happened : Share → Happened) (n : Painter D) : Type 0 where
   pub share : Share
   pub shared : IsShared share (desk m.drawn)
-  pub ok :
-      OnOk r (Takes o p (happened_text m.marked (walk_in desk m) line (happened share))
-      × ComesTo m (stand_behind (is_shown m.marked (walk_in desk m) m.progress.wanted) (happened share).still m.progress)
-      (noted (m.progress.steps + 1) (happened share).scene m.notes.items) n)
-  pub err : OnErr r (Breaks o p (happened_text m.marked (walk_in desk m) line (happened share)))
+  pub offered : new ≡ old ++ happened_text m.marked (walk_in desk m) line (happened share)
+  pub comes :
+      ComesTo m (stand_behind (is_shown m.marked (walk_in desk m) m.progress.wanted) (happened share).still m.progress)
+      (noted (m.progress.steps + 1) (happened share).scene m.notes.items) n
 
--- a step was left out, whatever its line, command and reply, and nothing of it was written
+-- a step was left out, whatever its line, command and reply, and nothing of it was offered
 abbrev pub LeftStep : {D : Type 0} → (D → Desk) → Painter D → Before → Painter D → Type 0
 LeftStep desk m b n =
-    (o : Output) (line : Text) (c : Option Command) (r : Reply) (reply : Text)
-    → TookStep {E = Unit} desk m o o (Ok tt) line (λ s. happened_at (desk m.drawn) s b c r reply) n
+    (o : List ℕ) (line : Text) (c : Option Command) (r : Reply) (reply : Text)
+    → TookStep desk m o o line (λ s. happened_at (desk m.drawn) s b c r reply) n
 
--- a step was written, with some share of the pool, where the painter counts it and has noted the messages behind it; or
--- the writer failed, and took a front of it
-pub record WroteStep {D E : Type 0} (desk : D → Desk) (m : Painter D) (o p : Output) (r : Result Unit E) (line : Text) (wanted : Bool) (happened : Share → Happened) (n : Painter D) : Type 0 where
+-- a step was offered, with some share of the pool, where the painter counts it and has noted the messages behind it
+pub record WroteStep {D : Type 0} (desk : D → Desk) (m : Painter D) (old new : List ℕ) (line : Text) (wanted : Bool) (happened : Share → Happened) (n : Painter D) : Type 0 where
   pub share : Share
   pub shared : IsShared share (desk m.drawn)
-  pub puts : Puts o p r (step_written (walk_in desk m) line wanted (happened share))
-  pub next : OnOk r (ComesTo m (stand_shown ((happened share).still && not wanted) m.progress) m.notes.items n)
+  pub offered : new ≡ old ++ step_written (walk_in desk m) line wanted (happened share)
+  pub next : ComesTo m (stand_shown ((happened share).still && not wanted) m.progress) m.notes.items n
