@@ -82,9 +82,10 @@ CALLS = {
     "vf_heap_checked_block_size": "pzzp",
     "vf_flex_start": "pzp", "vf_flex_check": "pzp", "vf_flex_set_budge": "pbp", "vf_flex_checked_alloc": "pzpuzp",
     "vf_flex_checked_free": "pzpu", "vf_flex_checked_size": "pzpup", "vf_flex_checked_extend": "pzpuz",
-    "vf_flex_checked_midextend": "pzpuzd", "vf_flex_checked_place": "pzpup", "vf_flex_checked_put": "pzpuzpz",
-    "vf_flex_checked_read": "pzpuzpz", "vf_flex_checked_describe": "pzppp", "vf_flex_checked_claim": "pzpzp",
-    "vf_flex_checked_release": "pzpz", "vf_flex_checked_resize": "pzpzdp", "vf_flex_checked_block_size": "pzpzp",
+    "vf_flex_checked_midextend": "pzpuzd", "vf_flex_checked_place": "pzpup", "vf_flex_checked_places": "pzppz",
+    "vf_flex_checked_put": "pzpuzpz", "vf_flex_checked_read": "pzpuzpz", "vf_flex_checked_describe": "pzppp",
+    "vf_flex_checked_claim": "pzpzp", "vf_flex_checked_release": "pzpz", "vf_flex_checked_resize": "pzpzdp",
+    "vf_flex_checked_block_size": "pzpzp",
     "vf_desk_file": "ppzpz", "vf_desk_open": "puuu", "vf_desk_close": "p", "vf_desk_task": "ppzuup",
     "vf_desk_kill": "ppz", "vf_desk_save": "ppzupzpzp", "vf_desk_poll": "ppzp", "vf_desk_next": "ppzpp",
     "vf_desk_cancel_in": "ppzu", "vf_desk_cancel_out": "ppzu", "vf_desk_repeat": "ppzp", "vf_desk_alloc": "ppzuup",
@@ -98,6 +99,7 @@ CALLS = {
 KINDS = {"p": ctypes.c_void_p, "z": ctypes.c_size_t, "d": ctypes.c_ssize_t, "u": ctypes.c_uint32,
          "i": ctypes.c_int32, "b": ctypes.c_bool}
 
+ANCHORS = 64
 PLAIN, DEAF, FILE = range(3)
 DID = ("nothing", "fetch", "send", "refuse", "fail", "drain", "take_last", "take", "take_and_fail", "ask", "save",
        "load", "load_and_fail", "finish")
@@ -316,6 +318,12 @@ class Slot(_Memory):
     def place(self, anchor):
         """Where the anchor's block stands now."""
         return _told(ctypes.c_size_t, "vf_flex_checked_place", *self._lent(), anchor)
+
+    def places(self):
+        """Where the block of each anchor that has one stands now."""
+        places = (ctypes.c_size_t * ANCHORS)()
+        _done("vf_flex_checked_places", *self._lent(), places, ANCHORS)
+        return {anchor: place for anchor, place in enumerate(places) if place}
 
     def put(self, anchor, offset, data):
         """Writes bytes into the anchor's block."""

@@ -27,11 +27,13 @@ static uint32_t number_of(flex_ptr anchor)
 /* Whether a call was done. Then each anchor is rewritten, since its block may have moved. */
 static int is_done(uint32_t status)
 {
-    size_t place;
-    for (uint32_t number = 0; status == VF_OK && number < ANCHORS; number++)
-        if (anchors[number] && vf_flex_place(memory, ROOM, &slot, number, &place) == VF_OK)
-            *anchors[number] = memory + place;
-    return status == VF_OK;
+    size_t places[ANCHORS];
+    if (status != VF_OK || vf_flex_places(memory, ROOM, &slot, places, ANCHORS) != VF_OK)
+        return 0;
+    for (uint32_t number = 0; number < ANCHORS; number++)
+        if (anchors[number] && places[number])
+            *anchors[number] = memory + places[number];
+    return 1;
 }
 
 void flex_init(void)

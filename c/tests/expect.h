@@ -93,6 +93,8 @@ struct flex_calls {
     uint32_t (*midextend)(uint8_t *memory, size_t len, struct vf_slot *slot, uint32_t anchor, size_t offset,
                           ptrdiff_t by);
     uint32_t (*place)(const uint8_t *memory, size_t len, const struct vf_slot *slot, uint32_t anchor, size_t *place);
+    uint32_t (*places)(const uint8_t *memory, size_t len, const struct vf_slot *slot, size_t *places,
+                       size_t places_len);
     uint32_t (*put)(uint8_t *memory, size_t len, struct vf_slot *slot, uint32_t anchor, size_t offset,
                     const uint8_t *from, size_t from_len);
     uint32_t (*read)(const uint8_t *memory, size_t len, const struct vf_slot *slot, uint32_t anchor, size_t offset,
@@ -112,6 +114,7 @@ static const struct flex_calls TRUSTING_FLEX = {
     vf_flex_extend,
     vf_flex_midextend,
     vf_flex_place,
+    vf_flex_places,
     vf_flex_put,
     vf_flex_read,
     vf_flex_describe,
@@ -128,6 +131,7 @@ static const struct flex_calls CHECKED_FLEX = {
     vf_flex_checked_extend,
     vf_flex_checked_midextend,
     vf_flex_checked_place,
+    vf_flex_checked_places,
     vf_flex_checked_put,
     vf_flex_checked_read,
     vf_flex_checked_describe,

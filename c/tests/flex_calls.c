@@ -28,6 +28,7 @@ static size_t number, other;
 #define ALL_REFUSE(status, at, len, it)                                                \
     do {                                                                               \
         ANCHOR_CALLS_REFUSE(status, at, len, it, 0);                                   \
+        REFUSES(status, vf_flex_places(at, len, it, &number, 1));                      \
         REFUSES(status, vf_flex_describe(at, len, it, &number, &other));               \
         REFUSES(status, vf_flex_claim(at, len, it, 1, &number));                       \
         REFUSES(status, vf_flex_release(at, len, it, HEAP_FIRST));                     \
@@ -138,6 +139,33 @@ static void blocks_come_and_go(void)
     REFUSES(VF_NO_ROOM, vf_flex_alloc(memory, ROOM, &slot, 1, ROOM - PAGE - 7, &number));
     TELLS(FIRST, vf_flex_alloc(memory, ROOM, &slot, 1, ROOM - PAGE - 8, &number));
     EXPECT(slot.pages == 16);
+}
+
+/* Whether the anchors have their blocks at these places, and those beyond the last one none. */
+static bool stand_at(size_t first, size_t third, size_t last)
+{
+    size_t places[66], ones[2] = {UNSET, UNSET};
+    for (size_t i = 0; i < 66; i++)
+        places[i] = UNSET;
+    if (vf_flex_places(memory, ROOM, &slot, places, 66) != VF_OK || vf_flex_places(memory, ROOM, &slot, ones, 1) != VF_OK)
+        return false;
+    for (size_t i = 0; i < 66; i++)
+        if (places[i] != (i == 0 ? first : i == 2 ? third : i == 63 ? last : 0))
+            return false;
+    return ones[0] == first && ones[1] == UNSET;
+}
+
+static void all_places_are_told(void)
+{
+    start(ROOM);
+    EXPECT(stand_at(0, 0, 0));
+    TELLS(FIRST, vf_flex_alloc(memory, ROOM, &slot, 63, 5, &number));
+    TELLS(FIRST + 16, vf_flex_alloc(memory, ROOM, &slot, 0, 3, &number));
+    TELLS(FIRST + 28, vf_flex_alloc(memory, ROOM, &slot, 2, 0, &number));
+    EXPECT(stand_at(FIRST + 16, FIRST + 28, FIRST));
+    EXPECT(vf_flex_free(memory, ROOM, &slot, 63) == VF_OK && stand_at(FIRST, FIRST + 12, 0));
+    number = UNSET;
+    EXPECT(vf_flex_places(memory, ROOM, &slot, &number, 0) == VF_OK && number == UNSET);
 }
 
 static void blocks_change_in_length(void)
@@ -293,6 +321,7 @@ static void questions_take_constant_bytes(const struct flex_calls *flex)
     EXPECT(vf_flex_check(constant, sizeof constant, &constant_slot) == VF_OK);
     TELLS(5, flex->size(constant, sizeof constant, &constant_slot, 0, &number));
     TELLS(FIRST, flex->place(constant, sizeof constant, &constant_slot, 0, &number));
+    TELLS(FIRST, flex->places(constant, sizeof constant, &constant_slot, &number, 1));
     EXPECT(flex->read(constant, sizeof constant, &constant_slot, 0, 0, read, 5) == VF_OK);
     EXPECT(memcmp(read, "hello", 5) == 0);
     TELLS(3820, flex->describe(constant, sizeof constant, &constant_slot, &number, &other));
@@ -307,6 +336,7 @@ int main(void)
     lengths_have_slots_or_not();
     slots_and_anchors_are_looked_at();
     blocks_come_and_go();
+    all_places_are_told();
     blocks_change_in_length();
     blocks_open_and_close();
     bytes_are_put_and_read();

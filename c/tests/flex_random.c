@@ -106,6 +106,22 @@ static bool reads(void)
            (status != VF_OK || place == size);
 }
 
+/* All places are those of the row, and 0 where an anchor has no block. */
+static bool tells_places(void)
+{
+    size_t told[80], wanted = below(80);
+    if (!answers(vf_flex_places(memory, len, &slot, told, wanted), VF_OK))
+        return false;
+    for (uint32_t anchor = 0; anchor < wanted; anchor++) {
+        size_t place = 0;
+        if (anchor < ROW_ANCHORS && flex_row_place(&row, anchor, &place) != VF_OK)
+            place = 0;
+        if (told[anchor] != place)
+            return false;
+    }
+    return true;
+}
+
 static bool budges(void)
 {
     bool on = below(4) != 0, was = !row.budge, wanted = row.budge;
@@ -160,7 +176,8 @@ static bool sizes(void)
 static bool is_alike(void)
 {
     static bool (*const calls[])(void) = {allocs, allocs, frees,  extends, midextends, puts_bytes, reads,
-                                          budges, claims, claims, claims,  releases,   resizes,    sizes};
+                                          budges, claims, claims, claims,  releases,   resizes,    sizes,
+                                          tells_places};
     memcpy(before, memory, ROOM);
     return calls[below(sizeof calls / sizeof *calls)]() && flex_row_is(&row, memory, &slot) &&
            (last == VF_OK || memcmp(before, memory, ROOM) == 0);

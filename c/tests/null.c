@@ -69,6 +69,7 @@ static void calls_on_slots_see_null(const struct flex_calls *flex, size_t len)
         IS_NULL(flex->free(at, len, slot_or_null, 0));
         IS_NULL(flex->size(at, len, slot_or_null, 0, &number));
         IS_NULL(flex->place(at, len, slot_or_null, 0, &number));
+        IS_NULL(flex->places(at, len, slot_or_null, &number, 1));
         IS_NULL(flex->extend(at, len, slot_or_null, 0, 1));
         IS_NULL(flex->midextend(at, len, slot_or_null, 0, 0, 1));
         IS_NULL(flex->put(at, len, slot_or_null, 0, 0, &byte, 1));
@@ -83,6 +84,7 @@ static void calls_on_slots_see_null(const struct flex_calls *flex, size_t len)
     IS_NULL(flex->size(memory, len, it, 0, NULL));
     IS_NULL(flex->place(memory, len, it, 0, NULL));
     for (size_t n = 0; n < 2; n++) {
+        IS_NULL(flex->places(memory, len, it, NULL, n));
         IS_NULL(flex->put(memory, len, it, 0, 0, NULL, n));
         IS_NULL(flex->read(memory, len, it, 0, 0, NULL, n));
     }

@@ -8,7 +8,7 @@
 #include <stdlib.h>
 
 enum { PAGE = 4096, LEN = 8 * PAGE, FIRST_LEN = LEN / 2, TURNS = 4000, ANCHORS = 8, NO_ANCHOR = 64 };
-enum { HEAP_CALLS = 6, MAPPED_CALLS = 6, FLEX_CALLS = 13, WORDS = 2 * LEN / 512 };
+enum { HEAP_CALLS = 6, MAPPED_CALLS = 6, FLEX_CALLS = 14, WORDS = 2 * LEN / 512 };
 
 _Static_assert(sizeof(struct heap_calls) == (1 + HEAP_CALLS) * sizeof(void *), "each call on a heap is made");
 _Static_assert(sizeof(struct flex_calls) == FLEX_CALLS * sizeof(void *), "each call on a slot is made");
@@ -127,6 +127,8 @@ static uint32_t call_flex(const struct flex_calls *flex, size_t len, uint32_t an
         return flex->release(memory, len, &slot, some_block());
     case 11:
         return claimed(flex->resize(memory, len, &slot, some_block(), some_amount(900), &number));
+    case 12:
+        return flex->places(memory, below(2) ? len : 1, &slot, &number, 1);
     default:
         return flex->block_size(memory, len, &slot, some_block(), &number);
     }

@@ -1,2 +1,3 @@
 pub mod LentSlotCalls
 pub mod SlotStatus
+pub mod SlotPlaces

@@ -16,5 +16,6 @@ mod checked;
 mod flex;
 mod image;
 mod input;
+mod places;
 mod slot;
 mod status;
