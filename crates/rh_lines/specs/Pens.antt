@@ -1,5 +1,5 @@
 -- What a pen has offered to its writer.
-use Rattle.std.specs.Prelude.{◌≡◌, ℕ, Bool, true, false, List, [], ◌∷◌, ◌++◌, length, Option, Some, None}
+use Rattle.std.specs.Prelude.{ℕ, Bool, true, false, List, [], ◌∷◌, ◌++◌, length, Option, Some, None}
 use Rattle.std.specs.Borrow.{MutBor}
 use Rattle.rh_lines.specs.Flow.{Output}
 use Rattle.rh_lines.specs.declared.sink.Sink.{Ghosts}

@@ -18,7 +18,7 @@ pub struct HeldPen<'a, W: Sink> {
 }
 
 impl<'a, W: Sink> HeldPen<'a, W> {
-    ghost use Rattle.rh_lines.specs.HeldPens.{held_of, pen_of};
+    ghost use Rattle.rh_lines.specs.HeldPens.{gathered_of, held_of, pen_of, whole_of};
     ghost use Rattle.rh_lines.specs.Pens.{begun_of, failed_of, text_of, writer_of, offered_of};
     ghost use Rattle.rh_lines.specs.Flow.{Puts};
     ghost use Rattle.std.specs.Prelude.{◌≡◌, ◌++◌, []};
@@ -27,6 +27,7 @@ impl<'a, W: Sink> HeldPen<'a, W> {
     pub fn new(writer: &'a mut W) -> HeldPen<'a, W>
         ensures same_reference { (writer_of (pen_of result)).ghost_name ≡ writer.entry.ghost_name }
         ensures begun { begun_of (pen_of result) ≡ W.output writer.old }
+        ensures same { W.output (writer_of (pen_of result)).now ≡ W.output writer.old }
         ensures text { text_of (pen_of result) ≡ [] }
         ensures held { held_of result ≡ [] }
     {
@@ -53,16 +54,25 @@ impl<'a, W: Sink> HeldPen<'a, W> {
         self.pen.has_failed()
     }
 
+    /// Fails where the writer failed since the pen was made. The writer has then taken a front of what it was offered,
+    /// else all. It isn't offered what is held.
+    pub fn done(&self) -> Result<(), WriteFailed>
+        ensures { Puts (begun_of (pen_of self.now)) (W.output (writer_of (pen_of self.now)).now) result
+            (text_of (pen_of self.now)) }
+    {
+        self.pen.done()
+    }
+
     /// Offers the writer what is held. Fails where the writer failed since the pen was made, and has then taken a
     /// front of the text, else all.
     pub fn finish(&mut self) -> Result<(), WriteFailed>
         ensures text { Puts (begun_of (pen_of self.new)) (W.output (writer_of (pen_of self.new)).now) result
-            (text_of (pen_of self.new)) }
-        ensures offered { offered_of (pen_of self.new) ≡ offered_of (pen_of self.old) ++ held_of self.old }
+            (whole_of self.new) }
+        ensures gathered { gathered_of self.new ≡ gathered_of self.old }
         ensures none { held_of self.new ≡ [] }
     {
         self.flush();
-        self.pen.done()
+        self.done()
     }
 }
 

@@ -10,75 +10,94 @@ ghost use Rattle.rh_defs.specs.Text.{rest_of_line};
 ghost use Rattle.rh_lines.specs.Flow.{Puts};
 ghost use Rattle.rh_lines.specs.declared.row.TheConstants.{ROW};
 
+use crate::pen::Pen;
 use crate::row::Row;
-use crate::sink::{Sink, WriteFailed, put};
+use crate::sink::{Sink, WriteFailed};
+use crate::writer_pen::WriterPen;
 use rh_defs::{Action, EventCode, LineFault, Numbers, Outcome, Ref, Refusal, Reply};
 
 /// Writes the reply of a bad line, `bad FAULT`. Fails only where the writer failed or took none
 /// of what it was offered; a front of the text is then written.
-#[tactic(auto, unfolding(rh_defs::specs::Text::fault_text))]
 pub fn print_fault<W: Sink>(fault: &LineFault, writer: &mut W) -> Result<(), WriteFailed>
     ensures { Puts (W.output writer.old) (W.output writer.new) result (fault_text fault.now) }
 {
+    let mut pen = WriterPen::new(writer);
+    put_fault(fault, &mut pen);
+    pen.done()
+}
+
+/// Writes the reply of a bad line, `bad FAULT`.
+#[tactic(auto, unfolding(rh_defs::specs::Text::fault_text))]
+pub fn put_fault<P: Pen>(fault: &LineFault, pen: &mut P)
+    ensures { P.offered pen.new ≡ P.offered pen.old ++ fault_text fault.now }
+{
     match fault {
-        LineFault::TooLong => put(writer, b"bad TooLong\n"),
-        LineFault::Unended => put(writer, b"bad Unended\n"),
-        LineFault::Unknown => put(writer, b"bad Unknown\n"),
-        LineFault::Count => put(writer, b"bad Count\n"),
+        LineFault::TooLong => pen.put(b"bad TooLong\n"),
+        LineFault::Unended => pen.put(b"bad Unended\n"),
+        LineFault::Unknown => pen.put(b"bad Unknown\n"),
+        LineFault::Count => pen.put(b"bad Count\n"),
         LineFault::Word(n) => {
             let mut row = Row::new();
             row.text(b"bad Word ");
             row.decimal(u32::from(*n));
             row.byte(b'\n');
-            put(writer, row.as_slice())
+            pen.put(row.as_slice());
         }
     }
 }
 
 /// Writes the first line of a reply, without the bytes that a block shows. Fails only where the writer failed or took
 /// none of what it was offered; a front of the line is then written.
-#[tactic(auto, unfolding(rh_defs::specs::Text::first_line))]
 pub fn print_first_line<W: Sink>(reply: &Reply, writer: &mut W) -> Result<(), WriteFailed>
     ensures { Puts (W.output writer.old) (W.output writer.new) result (first_line reply.now Nothing) }
 {
+    let mut pen = WriterPen::new(writer);
+    put_first_line(reply, &mut pen);
+    pen.done()
+}
+
+/// Writes the first line of a reply, without the bytes that a block shows.
+#[tactic(auto, unfolding(rh_defs::specs::Text::first_line))]
+pub fn put_first_line<P: Pen>(reply: &Reply, pen: &mut P)
+    ensures { P.offered pen.new ≡ P.offered pen.old ++ first_line reply.now Nothing }
+{
     match reply {
-        Reply::Refused(refusal) => print_refusal(*refusal, writer),
-        Reply::Done => put(writer, b"ok\n"),
-        Reply::Block { address } => print_address(*address, writer),
-        Reply::WasBudging(true) => put(writer, b"ok on\n"),
-        Reply::WasBudging(false) => put(writer, b"ok off\n"),
-        Reply::Answered(numbers) => print_numbers(numbers, writer),
-        Reply::NoEvent => put(writer, b"ok 0\n"),
+        Reply::Refused(refusal) => print_refusal(*refusal, pen),
+        Reply::Done => pen.put(b"ok\n"),
+        Reply::Block { address } => print_address(*address, pen),
+        Reply::WasBudging(true) => pen.put(b"ok on\n"),
+        Reply::WasBudging(false) => pen.put(b"ok off\n"),
+        Reply::Answered(numbers) => print_numbers(numbers, pen),
+        Reply::NoEvent => pen.put(b"ok 0\n"),
         Reply::Event {
             code,
             action,
             my_ref,
             your_ref,
             outcome,
-        } => print_event(*code, *action, *my_ref, *your_ref, outcome, writer),
-        Reply::Started(handle) => print_number(handle.0, writer),
-        Reply::Sent(number) => print_number(number.0, writer),
-        Reply::Moved { bytes: number } | Reply::Made { number } => print_number(*number, writer),
+        } => print_event(*code, *action, *my_ref, *your_ref, outcome, pen),
+        Reply::Started(handle) => print_number(handle.0, pen),
+        Reply::Sent(number) => print_number(number.0, pen),
+        Reply::Moved { bytes: number } | Reply::Made { number } => print_number(*number, pen),
     }
 }
 
-fn print_refusal<W: Sink>(refusal: Refusal, writer: &mut W) -> Result<(), WriteFailed>
-    ensures { Puts (W.output writer.old) (W.output writer.new) result
-        (codes "refused " ++ (refusal_name refusal ++ codes "\n")) }
+fn print_refusal<P: Pen>(refusal: Refusal, pen: &mut P)
+    ensures { P.offered pen.new ≡ P.offered pen.old ++ (codes "refused " ++ (refusal_name refusal ++ codes "\n")) }
 {
     let mut row = Row::new();
     row.text(b"refused ");
     row.text(refusal_name(refusal));
     row.byte(b'\n');
-    put(writer, row.as_slice())
+    pen.put(row.as_slice());
 }
 
-fn print_number<W: Sink>(number: u32, writer: &mut W) -> Result<(), WriteFailed>
-    ensures { Puts (W.output writer.old) (W.output writer.new) result (ok (decimal number ∷ [])) }
+fn print_number<P: Pen>(number: u32, pen: &mut P)
+    ensures { P.offered pen.new ≡ P.offered pen.old ++ ok (decimal number ∷ []) }
 {
     let mut row = Row::new();
     add_number(number, &mut row);
-    put(writer, row.as_slice())
+    pen.put(row.as_slice());
 }
 
 /// Adds the first line of a reply that is one number.
@@ -91,24 +110,24 @@ pub fn add_number(number: u32, row: &mut Row)
     row.byte(b'\n');
 }
 
-fn print_address<W: Sink>(number: u32, writer: &mut W) -> Result<(), WriteFailed>
-    ensures { Puts (W.output writer.old) (W.output writer.new) result (ok (address number ∷ [])) }
+fn print_address<P: Pen>(number: u32, pen: &mut P)
+    ensures { P.offered pen.new ≡ P.offered pen.old ++ ok (address number ∷ []) }
 {
     let mut row = Row::new();
     row.text(b"ok ");
     row.address(number);
     row.byte(b'\n');
-    put(writer, row.as_slice())
+    pen.put(row.as_slice());
 }
 
 /// The first line of an answer.
-fn print_numbers<W: Sink>(numbers: &Numbers, writer: &mut W) -> Result<(), WriteFailed>
-    ensures { Puts (W.output writer.old) (W.output writer.new) result (ok (map decimal (each_of numbers.now))) }
+fn print_numbers<P: Pen>(numbers: &Numbers, pen: &mut P)
+    ensures { P.offered pen.new ≡ P.offered pen.old ++ ok (map decimal (each_of numbers.now)) }
 {
     let mut row = Row::new();
     row.text(b"ok");
     add_numbers(&numbers.each(), &mut row);
-    put(writer, row.as_slice())
+    pen.put(row.as_slice());
 }
 
 /// Ends the line with these numbers.
@@ -125,17 +144,17 @@ fn add_numbers(numbers: &[u32], row: &mut Row)
 }
 
 /// What a poll took, and what it did with it.
-fn print_event<W: Sink>(
+fn print_event<P: Pen>(
     code: EventCode,
     action: Action,
     my_ref: Ref,
     your_ref: Ref,
     outcome: &Outcome,
-    writer: &mut W,
-) -> Result<(), WriteFailed>
-    ensures { Puts (W.output writer.old) (W.output writer.new) result
-        (ok (decimal (code_number code) ∷ action_name action ∷ decimal my_ref ∷ decimal your_ref
-        ∷ outcome_words outcome.now)) }
+    pen: &mut P,
+)
+    ensures { P.offered pen.new ≡ P.offered pen.old
+        ++ ok (decimal (code_number code) ∷ action_name action ∷ decimal my_ref ∷ decimal your_ref
+        ∷ outcome_words outcome.now) }
 {
     let mut row = Row::new();
     row.text(b"ok ");
@@ -147,7 +166,7 @@ fn print_event<W: Sink>(
     row.byte(b' ');
     row.decimal(your_ref.0);
     add_outcome(outcome, &mut row);
-    put(writer, row.as_slice())
+    pen.put(row.as_slice());
 }
 
 /// Ends the line with the words of an outcome.

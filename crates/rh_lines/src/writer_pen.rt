@@ -34,6 +34,7 @@ impl<'a, W: Sink> WriterPen<'a, W> {
     pub fn new(writer: &'a mut W) -> WriterPen<'a, W>
         ensures same_reference { (writer_of result).ghost_name ≡ writer.entry.ghost_name }
         ensures begun { begun_of result ≡ W.output writer.old }
+        ensures same { W.output (writer_of result).now ≡ W.output writer.old }
         ensures text { text_of result ≡ [] }
     {
         let begun = NotedOutput::of(writer);

@@ -1,5 +1,5 @@
 -- A write that may stop within the bytes.
-use Rattle.std.specs.Prelude.{◌≡◌, ℕ, ◌≤◌, Bool, ◌||◌, List, length, take, nat_lt}
+use Rattle.std.specs.Prelude.{◌≡◌, ℕ, ◌≤◌, ◌||◌, List, length, take, nat_lt}
 use Rattle.std.specs.Io.KnownBytes.{Appends}
 use Rattle.rh_lines.specs.Flow.{Output, count_after}
 
