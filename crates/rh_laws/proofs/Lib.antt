@@ -39,6 +39,13 @@ pub mod WorkPosts
 pub mod WorkTasks
 pub mod WorkPolls
 pub mod WorkTurns
+pub mod Wants
+pub mod WantEdits
+pub mod WantDeeds
+pub mod WantPolls
+pub mod WantTurns
+pub mod RestLaws
+pub mod RestRows
 pub mod ProgressLaws
 pub mod ProgressRows
 pub mod RenamedParts

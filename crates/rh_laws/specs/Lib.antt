@@ -10,3 +10,4 @@ pub mod ScrapTurns
 pub mod Progress
 pub mod Renaming
 pub mod Claimed
+pub mod Rest

@@ -10,6 +10,7 @@ mod lines;
 mod order;
 mod progress;
 mod renaming;
+mod rest;
 mod scrap;
 
 pub use addressed::addressed_law;
@@ -21,4 +22,5 @@ pub use lines::line_law;
 pub use order::refusal_order_law;
 pub use progress::progress_law;
 pub use renaming::renaming_law;
+pub use rest::rest_law;
 pub use scrap::scrap_alternation_law;

@@ -22,7 +22,7 @@ held_on (Some y) m answers is ne =
       | inr w ↦ rw w.0 is
     ]
 
-live_sent : {q : List Message} {held : ℕ → Option Message} {ref : ℕ} (h : ℕ) (m : Message) → m.letter.answers ≢ ref →
+pub live_sent : {q : List Message} {held : ℕ → Option Message} {ref : ℕ} (h : ℕ) (m : Message) → m.letter.answers ≢ ref →
     IsLive q held ref → IsLive (q ++ m ∷ []) (put held h (still_held (held h) m.letter.answers)) ref
 live_sent {q} h m ne (waits y has same) = waits y (Has-left y q (m ∷ []) has) same
 live_sent {held = held} h m ne (rests k y is same) =

@@ -237,7 +237,7 @@ would_tells x l q =
 
 -- ---- polls
 
-put_one : (d : Desk) (h : ℕ) (m : Message) → OneMore d.held (put d.held h (Some m)) m
+pub put_one : (d : Desk) (h : ℕ) (m : Message) → OneMore d.held (put d.held h (Some m)) m
 put_one d h m k y r = put_all (λ j z. z ≡ Some y → (d.held j ≡ Some y) ⊎ (m ≡ y)) d.held h (Some m)
     (λ a. inr (let z : m ≡ y = cc in z)) (λ j ne a. inl a) k r
 

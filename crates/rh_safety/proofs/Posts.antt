@@ -187,11 +187,11 @@ back_has true m y (inl a) = (ap (λ (z : Message). z.code) (sym a), ap (λ (z : 
 back_has true m y (inr a) = absurd a
 back_has false m y a = absurd a
 
-unheld : (d : Desk) (h k : ℕ) (y : Message) → put d.held h None k ≡ Some y → d.held k ≡ Some y
+pub unheld : (d : Desk) (h k : ℕ) (y : Message) → put d.held h None k ≡ Some y → d.held k ≡ Some y
 unheld d h k y = put_all (λ j z. z ≡ Some y → d.held j ≡ Some y) d.held h None (λ q. absurd (none_some None refl q))
     (λ j ne q. q) k
 
-returned_known : (d : Desk) (h : ℕ) (m : Message) → d.held h ≡ Some m → (l : Letter) →
+pub returned_known : (d : Desk) (h : ℕ) (m : Message) → d.held h ≡ Some m → (l : Letter) →
     Knows (returned d h (Some m)) l → Knows d l
 returned_known d h m is l (queued y has eq) =
     elim (Has-append y d.queue (back d.live m) has) [
@@ -303,7 +303,7 @@ picked_pending {o} {e} {d} h m hd here one i s x not_for p l k =
 
 -- ---- deaths
 
-for_others_has : (h : ℕ) (q : List Message) (y : Message) → Has y (for_others h q) → Has y q
+pub for_others_has : (h : ℕ) (q : List Message) (y : Message) → Has y (for_others h q) → Has y q
 for_others_has h [] y a = a
 for_others_has h (x ∷ q) y a =
     elim (eqb_tells x.to h) [
@@ -315,7 +315,7 @@ for_others_has h (x ∷ q) y a =
       ]
     ]
 
-record Bounced (h : ℕ) (q : List Message) (y : Message) : Type 0 where
+pub record Bounced (h : ℕ) (q : List Message) (y : Message) : Type 0 where
   pub old : Message
   pub there : Has old q
   pub to : old.to ≡ h
@@ -330,7 +330,7 @@ recorded_has live m Returned y a = absurd a
 later : (h : ℕ) (x : Message) (q : List Message) (y : Message) → Bounced h q y → Bounced h (x ∷ q) y
 later h x q y b = record { old = b.old; there = inr b.there; to = b.to; letter = b.letter }
 
-bounced_has : (live : ℕ → Bool) (h : ℕ) (q : List Message) (y : Message) → Has y (bounced_for live h q) → Bounced h q y
+pub bounced_has : (live : ℕ → Bool) (h : ℕ) (q : List Message) (y : Message) → Has y (bounced_for live h q) → Bounced h q y
 bounced_has live h [] y a = absurd a
 bounced_has live h (x ∷ q) y a =
     elim (eqb_tells x.to h) [
@@ -341,16 +341,16 @@ bounced_has live h (x ∷ q) y a =
       | inr w ↦ later h x q y (bounced_has live h q y (rw w.0 at a))
     ]
 
-back_held_has : (live : ℕ → Bool) (o : Option Message) (y : Message) → Has y (back_held live o) →
+pub back_held_has : (live : ℕ → Bool) (o : Option Message) (y : Message) → Has y (back_held live o) →
     (m : Message) × (o ≡ Some m) × (m.letter ≡ y.letter)
 back_held_has live None y a = absurd a
 back_held_has live (Some m) y a = (m, refl, sym (back_has (live m.letter.from) m y a).1)
 
-unlast : (d : Desk) (h k : ℕ) (y : Message) → put d.last h None k ≡ Some y → d.last k ≡ Some y
+pub unlast : (d : Desk) (h k : ℕ) (y : Message) → put d.last h None k ≡ Some y → d.last k ≡ Some y
 unlast d h k y = put_all (λ j z. z ≡ Some y → d.last j ≡ Some y) d.last h None (λ q. absurd (none_some None refl q))
     (λ j ne q. q) k
 
-bounced_codes : (live : ℕ → Bool) (h : ℕ) (q : List Message) (y : Message) → Has y (bounced_for live h q) →
+pub bounced_codes : (live : ℕ → Bool) (h : ℕ) (q : List Message) (y : Message) → Has y (bounced_for live h q) →
     y.code ≡ Returned
 bounced_codes live h [] y a = absurd a
 bounced_codes live h (x ∷ q) y a =
@@ -367,7 +367,7 @@ bounced_codes live h (x ∷ q) y a =
     recorded_codes Recorded b = (back_has (live x.letter.from) x y b).0
     recorded_codes Returned b = absurd b
 
-back_held_codes : (live : ℕ → Bool) (o : Option Message) (y : Message) → Has y (back_held live o) → y.code ≡ Returned
+pub back_held_codes : (live : ℕ → Bool) (o : Option Message) (y : Message) → Has y (back_held live o) → y.code ≡ Returned
 back_held_codes live None y a = absurd a
 back_held_codes live (Some m) y a = (back_has (live m.letter.from) m y a).0
 
@@ -382,7 +382,7 @@ rises_others h (x ∷ q) up = elim (eqb_tells x.to h) [
   )
 ]
 
-killed_known : (d : Desk) (h : ℕ) (l : Letter) → Knows (killed d h) l → Knows d l
+pub killed_known : (d : Desk) (h : ℕ) (l : Letter) → Knows (killed d h) l → Knows d l
 killed_known d h l (queued y has eq) =
     let others = put d.live h false in
     elim (Has-append y (for_others h d.queue) (back_held others (d.held h) ++ bounced_for others h d.queue) has) [
@@ -525,7 +525,7 @@ killed_pending d h p s x q l k =
 
 -- ---- new tasks
 
-started_known : (d : Desk) (buf : ℕ) (deaf file : Bool) (l : Letter) → Knows (started d buf deaf file) l → Knows d l
+pub started_known : (d : Desk) (buf : ℕ) (deaf file : Bool) (l : Letter) → Knows (started d buf deaf file) l → Knows d l
 started_known d buf deaf file l (queued y has eq) = queued y has eq
 started_known d buf deaf file l (kept k y q eq) = kept k y q eq
 started_known d buf deaf file l (latest k y q eq) = latest k y (unlast d d.next_handle k y q) eq

@@ -9,7 +9,7 @@ use Rattle.rh_safety.proofs.Common.{free_pages, named, task_at, with_delivered, 
 use Rattle.rh_safety.proofs.Common.{send_with, perform_send, accept, appended, fetch_more, took, append, ask, ack_back, loaded, load_file, take_with}
 use Rattle.rh_safety.proofs.Common.{perform_take, answers_none, Answer, poll, poll_taken, step, in_anchor, view, blocks_of, buffers_of, task_of, Has}
 use Rattle.rh_safety.proofs.Common.{either, put_same, open_is, Offered, Untouched, IsGood, Inv, Good, field_is, live_of, Fits, bind, done, is_found}
-use Rattle.rh_safety.proofs.Common.{instead_of, the_task, OnGrant, granted, granted-then, or_else, or_else-keeps, chosen, IfSome, if◌then◌else◌}
+use Rattle.rh_safety.proofs.Common.{instead_of, the_task, OnGrant, granted, granted-then, or_else, or_else-keeps, chosen, IfSome}
 use Rattle.rh_defs.specs.declared.refusal.Refusal.TheVariants.{BadSize, NoRefs, QueueFull}
 use Rattle.rh_defs.specs.declared.message.Body.TheVariants as body
 use Rattle.rh_defs.specs.declared.message.Letter.{Letter}
@@ -27,7 +27,6 @@ use Rattle.rh_defs.specs.Module.{module_claim}
 use Rattle.rh_defs.specs.Post.{most_messages, live_count, sendable}
 use Rattle.rh_defs.specs.Slot.{lacks_room, length_with, holds}
 use Rattle.rh_defs.specs.Sender as sender
-use Rattle.rh_defs.specs.Receiver as receiver
 use Rattle.rh_defs.specs.Places.{overlap}
 use Rattle.rh_defs.specs.OutgoingEvents.{is_out_of_reach}
 use Rattle.rh_defs.specs.IncomingEvents.{told}

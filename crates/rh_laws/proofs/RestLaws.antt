@@ -1,0 +1,622 @@
+-- After any commands each record waits for a message that is live, or for an answer that is queued; so at rest none waits.
+use Rattle.rh_laws.proofs.Common.{Acknowledge, AllByRecursion, Answer, Bool, Changed, Command, Desk, EventCode, Fits, Good, Has, IsDesk, List, Manner, None}
+use Rattle.rh_laws.proofs.Common.{NotOpen, NothingSent, Ok, OnGrant, Option, Parcel, Post, Recorded, Scrap, Seat, Sending, Some, Task, [], after, after-is}
+use Rattle.rh_laws.proofs.Common.{all_in_range, and_left, and_right, answers_none, ap, arith, cancel_in, cancel_out, change, eq-eqb, eqb_tells, false, field_is}
+use Rattle.rh_laws.proofs.Common.{find, first_is, fits, found_or, free_pages, granted, granted-on, granted-past, granted-then, handled, has_of, held_by}
+use Rattle.rh_laws.proofs.Common.{if◌then◌else◌, in_areas, in_id, in_made, in_module, in_nothing, in_range, in_slot, inl, inr, is_equal, is_found, is_open}
+use Rattle.rh_laws.proofs.Common.{keeps, kill, length, live_of, make, map, named, next_ref, none_some, not, open_of, option_map, or_else-keeps, out_id, poll}
+use Rattle.rh_laws.proofs.Common.{poll_taken, post_poll, put_other, put_same, refl, repeat, save, send_letter, start-is, start_task, start_with, step}
+use Rattle.rh_laws.proofs.Common.{step-keeps, subst, sym, task_of, the_task, true, view, with_delivered, with_id, with_sending, with_taking, ℕ, ◌&&◌, ◌<◌, ◌==◌}
+use Rattle.rh_laws.proofs.Common.{◌∙◌, ◌∷◌, ◌≡◌, ◌≢◌}
+use Rattle.rh_defs.specs.declared.command.Command.TheVariants as command
+use Rattle.rh_defs.specs.declared.message.Action.TheVariants as action
+use Rattle.rh_defs.specs.Records.{is_going, is_meant, most_records}
+use Rattle.rh_defs.specs.Commands.{with_new_task}
+use Rattle.rh_defs.specs.Desk.{idle_block, kept_scrap}
+use Rattle.rh_defs.specs.IncomingEvents.{is_deaf}
+use Rattle.rh_defs.specs.Letters.{save_letter}
+use Rattle.rh_defs.specs.Pieces.{Split}
+use Rattle.rh_defs.specs.Post.{post_death}
+use Rattle.rh_defs.specs.Receiver as receiver
+use Rattle.rh_defs.specs.Sender as sender
+use Rattle.rh_defs.specs.declared.message.Letter.{Letter as Letter_}
+use Rattle.rh_defs.specs.Slot.{Flex, Slot, flex_start, new_slot, weight}
+use Rattle.rh_safety.proofs.Basics.{first_has}
+use Rattle.rh_safety.proofs.Ends.{Asking, Code, Draining, Edits, Fetching, In, In_done, In_failed, Message, Offers, Open, Out, Out_failed, Plain, Returned}
+use Rattle.rh_safety.proofs.Ends.{first_for, put, without_first}
+use Rattle.rh_safety.proofs.Invariant.{Inv, IsLive, Known, Knows, LiveFile, Rises, Unread}
+use Rattle.rh_safety.proofs.KeptPolls.{Given, given}
+use Rattle.rh_safety.proofs.FlexMaps as flex
+use Rattle.rh_safety.proofs.Keeps.{from_found}
+use Rattle.rh_safety.proofs.Moves.{at_put, move_more, move_with}
+use Rattle.rh_safety.proofs.Polls.{left_good, unpicked_live}
+use Rattle.rh_safety.proofs.Runs.{start_good}
+use Rattle.rh_safety.proofs.SeenFrames.{HaveOwnSeats}
+use Rattle.rh_safety.proofs.SeenFiles.{delivered_live, seen_live}
+use Rattle.rh_safety.proofs.SeenBlocks.{the_idle}
+use Rattle.rh_safety.proofs.SeenLaws.{good_after, kept_good}
+use Rattle.rh_safety.proofs.SeenPosts.{after_kill, killed_view, with_scrap}
+use Rattle.rh_safety.proofs.SeenSaves.{after_save}
+use Rattle.rh_safety.proofs.SeenSends.{sent_view}
+use Rattle.rh_safety.proofs.SeenStarts.{begin_is, no_task_of, started_view}
+use Rattle.rh_safety.proofs.SeenTaking.{IsTaken, lost_queue, picked_by, poll_taken_is}
+use Rattle.rh_safety.proofs.SeenTasks.{ins_view, outs_view, slot_is, slot_view}
+use Rattle.rh_safety.proofs.Sight as sight
+use Rattle.rh_safety.proofs.Sight.{owned}
+use Rattle.rh_safety.proofs.View.{blocks_of, buffers_of, flex_map, of, seen_last, seen_letter, seen_parcel, seen_scrap}
+use Rattle.rh_laws.specs.Progress.{IsAtRest, rounds_of}
+use Rattle.rh_laws.specs.Rest.{AlwaysSettles, IsOffered, IsSettled}
+use Rattle.rh_laws.proofs.ProgressLaws.{always-progresses}
+use Rattle.rh_laws.proofs.Wants.{AllWait, HasWant, InWants, OutWants, Unanswered, WaitsFor, Want, Wants, is_sent, ref_of, reply, want_in, want_out}
+use Rattle.rh_laws.proofs.WantEdits.{For, KeepsFile, OldIds, Picks, Then, answer, killed-waits, left_by, own_back, picked-waits, picks, quiet-asks, quiet-told}
+use Rattle.rh_laws.proofs.WantEdits.{returned-waits, started-waits}
+use Rattle.rh_laws.proofs.WantDeeds.{Before, Sends}
+use Rattle.rh_laws.proofs.WantPolls.{Anew, InWant, OutsOf, asks-fits, by_ask, by_drain, by_fetch, deed, ids-stay, in-want, ins-stay, out-want, outs-moved}
+use Rattle.rh_laws.proofs.WantPolls.{outs-stay, un}
+use Rattle.rh_laws.proofs.WantTurns.{handled-waits}
+
+-- ---- a desk whose records are some of another one's
+
+-- the records, and what they wait for
+pub record Leads (d e : sight.Desk) : Type 0 where
+  pub ins : (h : ℕ) (w : Want) (i : ℕ) → InWants (e.taking h) w i → InWants (d.taking h) w i
+  pub outs : (h : ℕ) (w : Want) → OutWants (e.sending h) (e.file h) w → OutWants (d.sending h) (d.file h) w
+  pub waits : (h : ℕ) (w : Want) → Wants e h w → WaitsFor d h w → WaitsFor e h w
+
+leads : {d e : sight.Desk} → Leads d e → AllWait d → AllWait e
+leads {d} {e} l all = record {
+  waits = λ h w x. l.waits h w x (all.waits h w (old h w x));
+  apart = λ h w x i j p q r. all.apart h w x i j (l.ins h w i p) (l.ins h x j q) r;
+}
+  where
+    old : (h : ℕ) (w : Want) → Wants e h w → Wants d h w
+    old h w (HasWant.comes {i} x) = HasWant.comes (l.ins h w i x)
+    old h w (HasWant.goes x) = HasWant.goes (l.outs h w x)
+
+-- a record is of a live task
+home : (d : Desk) (h : ℕ) (w : Want) → Wants (view d) h w → (view d).live h ≡ true
+home d h w x = go (task_of h d.tasks) x
+  where
+    some_of : {A : Type 0} (f : Task → List A) (v : Option Task) (y : A) → Has y (of f [] v) → of (λ t. true) false v ≡ true
+    some_of f None y has = absurd has
+    some_of f (Some t) y has = refl
+
+    go : (v : Option Task) → Wants (view d) h w → (view d).live h ≡ true
+    go v (HasWant.comes x) = some_of (λ t. t.taking) (task_of h d.tasks) x.one x.has
+    go v (HasWant.goes x) = some_of (λ t. t.sending) (task_of h d.tasks) x.one x.has
+
+-- records and blocks are others, and no message
+calm : {h : ℕ} {w : Want} (d : sight.Desk) (sd : ℕ → List Out) (tk : ℕ → List In) (bl hp : ℕ → ℕ → Option (List ℕ)) (sc : Option sight.Scrap) →
+    OldIds d tk None →
+    KeepsFile d (record d { sending = sd; taking = tk; block = bl; heap = hp; scrap = sc }) → WaitsFor d h w →
+    WaitsFor (record d { sending = sd; taking = tk; block = bl; heap = hp; scrap = sc }) h w
+calm d sd tk bl hp sc ids keeps (inl u) = inl (quiet-asks d 0 sd tk bl hp sc ids u)
+calm d sd tk bl hp sc ids keeps (inr a) = inr (quiet-told d 0 sd tk bl hp sc a (λ f s load. keeps f s (IsLive.waits a.answer a.queued (sym load))))
+
+-- the same records
+frame-all : (d : sight.Desk) (bl hp : ℕ → ℕ → Option (List ℕ)) (sc : Option sight.Scrap) → KeepsFile d (record d { block = bl; heap = hp; scrap = sc }) →
+    AllWait d →
+    AllWait (record d { block = bl; heap = hp; scrap = sc })
+frame-all d bl hp sc keeps = leads (record {
+  ins = λ h w i x. x;
+  outs = λ h w x. x;
+  waits = λ h w x. calm d d.sending d.taking bl hp sc (λ r v has. inl (r, (v, (has, refl)))) keeps;
+})
+
+-- the refs that records wait by are given
+refs-below : {o : Offers} {e : Edits} {d : sight.Desk} → Inv o e d → (h : ℕ) (w : Want) → Wants d h w → ref_of w < d.next_ref
+refs-below {d = d} inv h w (HasWant.comes x) = by (in-want x.one w x.wants)
+  where
+    by : InWant x.one w → ref_of w < d.next_ref
+    by (by_fetch f same is) = let z = (inv.ins.buffer h f (inl (subst (λ v. Has v (d.taking h)) same x.has))).below in let r =
+        ap ref_of is in omega (arith, z, r)
+    by (by_drain f same is) = let z = (inv.ins.buffer h f (inr (subst (λ v. Has v (d.taking h)) same x.has))).below in let r =
+        ap ref_of is in omega (arith, z, r)
+    by (by_ask q same is) = let z = inv.loads.ack_below h q (subst (λ v. Has v (d.taking h)) same x.has) in let r = ap ref_of is in omega (arith, z, r)
+refs-below {d = d} inv h w (HasWant.goes x) =
+    let y = out-want (d.file h) x.one w x.wants in
+    let z = (inv.outs.source h y.0 (subst (λ v. Has v (d.sending h)) y.1.0 x.has)).below in
+    let r = ap ref_of y.1.1 in
+    omega (arith, z, r)
+
+-- ---- the taking of a message
+
+-- what is left of the queue has another ref
+first-apart : (k : ℕ) (q : List Message) (m : Message) → first_for k q ≡ Some m → Rises q → (y : Message) → Has y (without_first k q) → Unread y → Unread m →
+    y.letter.me ≢ m.letter.me
+first-apart k [] m e up y has u v = absurd has
+first-apart k (x ∷ q) m e up y has u v = elim (eqb_tells x.to k) [
+  | inl z ↦
+      let one : x ≡ m = let s = rw z.0 at e in cc in
+      let r = up.0 y (rw z.0 at has) (subst Unread (sym one) v) u in
+      λ same. let me = ap (λ (n : Message). n.letter.me) one in omega (arith, r, same, me)
+  | inr z ↦ elim (let s : Has y (x ∷ without_first k q) = rw z.0 at has in s) [
+    | inl s ↦
+        let r = up.0 m (first_has k q m (rw z.0 at e)).0 (subst Unread (sym s) u) v in
+        λ same. let me = ap (λ (n : Message). n.letter.me) s in omega (arith, r, same, me)
+    | inr s ↦ first-apart k q m (rw z.0 at e) up.1 y s u v
+  ]
+]
+
+-- a scrap file is kept whose DataLoad is there
+file-kept : (d : Desk) (p : Post) (f : sight.Scrap) → (view d).scrap ≡ Some f →
+    IsLive (view (with_delivered p d)).queue (view (with_delivered p d)).held f.load → (view (with_delivered p d)).scrap ≡ Some f
+unfolding with_delivered
+file-kept d p f e live = go d.scrap e
+  where
+    go : (v : Option Scrap) → option_map seen_scrap v ≡ Some f → option_map seen_scrap (kept_scrap p v) ≡ Some f
+    go None q = absurd (none_some None refl q)
+    go (Some file) q =
+        let same : seen_scrap file ≡ f = cc in
+        let there = seen_live p file.load (subst (IsLive (view (with_delivered p d)).queue (view (with_delivered p d)).held)
+        (ap (λ (y : sight.Scrap). y.load) (sym same)) live) in
+        rw there q
+
+module _ {o : Offers} {e : Edits} (d : Desk) (t : Task) (fit : Fits d) (is : task_of t.handle d.tasks ≡ Some t) (good : Good o e (view d))
+    (all : AllWait (view d)) where
+  abbrev k : ℕ
+  k = t.handle
+
+  abbrev D : sight.Desk
+  D = view d
+
+  abbrev R : sight.Desk
+  R = sight.returned D k (D.held k)
+
+  -- what it held went back
+  returned-all : (v : Option Message) → D.held k ≡ v → AllWait (sight.returned D k v)
+  returned-all None q = all
+  returned-all (Some m) q = leads (record {
+    ins = λ h w i x. x;
+    outs = λ h w x. x;
+    waits = λ h w x. returned-waits D k (Some m) q (home d h w x);
+  }) all
+
+  bare : (v : Option Message) → D.held k ≡ v → (sight.returned D k v).held k ≡ None
+  bare None q = q
+  bare (Some m) q = put_same D.held k None
+
+  scrap-same : (v : Option Message) → (sight.returned D k v).scrap ≡ D.scrap
+  scrap-same None = refl
+  scrap-same (Some m) = refl
+
+  -- the scrap file goes before the taking or after it
+  lost-is : (b : Bool) (S : sight.Desk) → (sc : Option sight.Scrap) × (sight.lost_if b S ≡ with_scrap sc S)
+  lost-is true S = (None, refl)
+  lost-is false S = (S.scrap, refl)
+
+  picked-lost : (S : sight.Desk) (m : Message) (sc : Option sight.Scrap) (c : Code) →
+      sight.picked (with_scrap sc S) k m c ≡ with_scrap sc (sight.picked S k m c)
+  picked-lost S m sc Plain = refl
+  picked-lost S m sc Recorded = refl
+  picked-lost S m sc Returned = refl
+
+  module _ (p : Post × Option Parcel) (own : HaveOwnSeats p.0) (w : IsTaken d k p) where
+    abbrev d1 : Desk
+    d1 = with_delivered p.0 d
+
+    abbrev L : sight.Desk
+    L = sight.lost_if w.lost R
+
+    all-returned : AllWait R
+    all-returned = returned-all (D.held k) refl
+
+    kept-by : (S : sight.Desk) → view d1 ≡ S → KeepsFile R S
+    kept-by S seen = subst (KeepsFile R) seen (λ f s live. file-kept d p.0 f (sym (scrap-same (D.held k)) ∙ s) live)
+
+    none-taken : p.1 ≡ None → AllWait (view d1)
+    none-taken q =
+        let l = lost-is w.lost R in
+        let seen : view d1 ≡ with_scrap l.0 R = w.seen ∙ ap (λ (v : Option Parcel). picked_by k (option_map seen_parcel v) L) q ∙ l.1 in
+        subst AllWait (sym seen) (frame-all R R.block R.heap l.0 (kept-by _ seen) all-returned)
+
+    module _ (m : Parcel) (q : p.1 ≡ Some m) where
+      abbrev M : Message
+      M = seen_parcel m
+
+      g : Given o e d1 t m
+      g = given d t fit is good p own w m q
+
+      first-left : first_for k L.queue ≡ Some M
+      first-left = w.first ∙ ap (option_map seen_parcel) q
+
+      first : first_for k R.queue ≡ Some M
+      first = ap (first_for k) (sym (lost_queue w.lost R)) ∙ first-left
+
+      seen-left : view d1 ≡ sight.picked L k M m.code
+      seen-left = w.seen ∙ ap (λ (v : Option Parcel). picked_by k (option_map seen_parcel v) L) q
+
+      good-left : Good o e L
+      good-left = left_good w.lost k (D.held k) refl (unpicked_live L k M m.code first-left (subst LiveFile seen-left (delivered_live d p.0 own))) good
+
+      inv : Inv o e (view d1)
+      inv = by m.code refl
+        where
+          by : (c : EventCode) → m.code ≡ c → Inv o e (view d1)
+          by Acknowledge c = (g.back c).inv
+          by Recorded c = (g.came (λ r. let z : Recorded ≡ Acknowledge = sym c ∙ r in (cc))).inv
+          by Plain c = (g.came (λ r. let z : Plain ≡ Acknowledge = sym c ∙ r in (cc))).inv
+
+      before : Before (view d1) k M
+      before =
+          let l = lost-is w.lost R in
+          let z = picks R k M m.code refl (bare (D.held k) refl) in
+          let seen : view d1 ≡ left_by R k z.0 l.0 =
+          seen-left ∙ ap (λ (S : sight.Desk). sight.picked S k M m.code) l.1 ∙ picked-lost R M l.0 m.code ∙ z.1.1 l.0 in
+          subst (λ (S : sight.Desk). Before S k M) (sym seen)
+          (here l.0 z.0 z.1.0 (kept-by _ seen) (subst (Inv o e) seen inv) (ap (λ (S : sight.Desk). S.next_ref) l.1))
+        where
+          here : (sc : Option sight.Scrap) (hd : ℕ → Option Message) → Picks R M hd → KeepsFile R (left_by R k hd sc) → Inv o e (left_by R k hd sc) →
+              L.next_ref ≡ R.next_ref → Before (left_by R k hd sc) k M
+          here sc hd x keeps i next = record {
+            waits = λ h v y. picked-waits R k M first hd sc x keeps (all-returned.waits h v y);
+            apart = all-returned.apart;
+            to = (first_has k R.queue M first).1;
+            letters = λ l kn. let b = i.letters.below l kn in (b.me, b.answers);
+            mine =
+                let b = (good-left.inv.letters.below M.letter (Known.queued M (first_has k L.queue M first-left).0 refl)).me in
+                omega (arith, b, next);
+            refs = refs-below i;
+            ids = i.order.in_below;
+            positive = i.positive;
+            alone = first-apart k R.queue M first (subst Rises (lost_queue w.lost R) good-left.inv.order.rises);
+          }
+
+      some-taken : AllWait (view (handled d1 t m m.code).0)
+      some-taken = handled-waits d1 t m g.is inv before (λ u. g.came u)
+
+    by-taken : (v : Option Parcel) → p.1 ≡ v → AllWait (view (poll_taken d1 t v).0)
+    unfolding poll_taken
+    by-taken None q = none-taken q
+    by-taken (Some m) q = some-taken m q
+
+-- ---- the other commands
+
+-- where one task has no records, the others' are as they were
+blank-in : (d : sight.Desk) (k h : ℕ) (w : Want) (i : ℕ) → InWants (put d.taking k [] h) w i → (h ≢ k) × InWants (d.taking h) w i
+blank-in d k h w i x = elim (at_put d.taking k [] h x.one x.has) [
+  | inl z ↦ absurd z.1
+  | inr z ↦ (z.0, record { one = x.one; has = z.1; wants = x.wants; id = x.id })
+]
+
+blank-out : (d : sight.Desk) (k h : ℕ) (b : Bool) (w : Want) → OutWants (put d.sending k [] h) (put d.file k b h) w →
+    (h ≢ k) × OutWants (d.sending h) (d.file h) w
+blank-out d k h b w x = elim (at_put d.sending k [] h x.one x.has) [
+  | inl z ↦ absurd z.1
+  | inr z ↦ (z.0, record { one = x.one; has = z.1; wants = ap (λ c. want_out c x.one) (sym (put_other d.file k b h z.0)) ∙ x.wants })
+]
+
+blank-wants : (d : sight.Desk) (k h : ℕ) (b : Bool) (w : Want) → HasWant (put d.taking k [] h) (put d.sending k [] h) (put d.file k b h) w →
+    (h ≢ k) × Wants d h w
+blank-wants d k h b w (HasWant.comes {i} x) = let z = blank-in d k h w i x in (z.0, HasWant.comes z.1)
+blank-wants d k h b w (HasWant.goes x) = let z = blank-out d k h b w x in (z.0, HasWant.goes z.1)
+
+module _ {o : Offers} {e : Edits} (d : Desk) (fit : Fits d) (good : Good o e (view d)) (all : AllWait (view d)) where
+  abbrev V : sight.Desk
+  V = view d
+
+  record Stays (a : Answer) : Type 0 where
+    desk : AllWait (view a.0)
+
+  kill-stays : (name : List ℕ) → OnGrant Stays (kill d name)
+  unfolding kill with_delivered
+  kill-stays name = granted-then _ _ λ t q. granted (record { desk = gone t.handle })
+    where
+      gone : (k : ℕ) → AllWait (view (after_kill d k))
+      gone k =
+          let sc = option_map seen_scrap (kept_scrap (post_death k d.post) d.scrap) in
+          let seen : view (after_kill d k) ≡ with_scrap sc (sight.killed V k) = killed_view d k fit in
+          let keeps : KeepsFile V (with_scrap sc (sight.killed V k)) = subst (KeepsFile V) seen (λ f s live. file-kept d (post_death k d.post) f s live) in
+          subst AllWait (sym seen) (leads (record {
+            ins = λ h w i x. (blank-in V k h w i x).1;
+            outs = λ h w x. (blank-out V k h false w x).1;
+            waits = λ h w x. let z = blank-wants V k h false w x in killed-waits V k sc z.0 (home d h w z.1) keeps;
+          }) all)
+
+  start-stays : (name : List ℕ) (buffer : ℕ) (manner : Manner) → OnGrant Stays (start_task d name buffer manner)
+  unfolding start_task
+  start-stays name buffer manner =
+      granted-past _ _ _ λ a. granted-past _ _ _ λ b. granted-past _ _ _ λ c. granted-then _ _ λ s q.
+      granted (record { desk = subst (λ (z : Slot). AllWait (view (with_new_task name buffer manner z d))) (begin_is (free_pages d) s q) begun })
+    where
+      begun : AllWait (view (with_new_task name buffer manner new_slot d))
+      begun =
+          let none = no_task_of d d.next_handle (λ l. let z = good.inv.alive d.next_handle l in omega (arith, z)) in
+          subst AllWait (sym (started_view d name buffer manner none)) (leads (record {
+            ins = λ h w i x. (blank-in V V.next_handle h w i x).1;
+            outs = λ h w x. (blank-out V V.next_handle h (answers_none manner) w x).1;
+            waits = λ h w x. started-waits V buffer (is_deaf manner) (answers_none manner) (blank-wants V V.next_handle h (answers_none manner) w x).0;
+          }) all)
+
+  -- ---- letters that answer nothing
+
+  -- as if a message had come back that is for no record
+  abbrev idler : ℕ → Message
+  idler k = record { code = Returned; to = k; letter = record { from = k; me = 0; answers = 0; kind = action.DataLoadAck; address = 0; amount = 0 } }
+
+  never-for : {h k : ℕ} {w : Want} → For V (idler k) h w → ⊥
+  never-for {k = k} {w = w} (answer u from answers tells) = u refl
+  never-for {k = k} {w = w} (own_back c r a) = un (asks-fits w _ _ (idler k).letter a)
+
+  before-idler : (k : ℕ) → Before V k (idler k)
+  before-idler k = record {
+    waits = λ h w x. by h w (all.waits h w x);
+    apart = all.apart;
+    to = refl;
+    letters = λ l kn. let b = good.inv.letters.below l kn in (b.me, b.answers);
+    mine = good.inv.positive;
+    refs = refs-below good.inv;
+    ids = good.inv.order.in_below;
+    positive = good.inv.positive;
+    alone = λ y has u v. absurd (v refl);
+  }
+    where
+      by : (h : ℕ) (w : Want) → WaitsFor V h w → Then V (idler k) h w
+      by h w (inl u) = Then.asking u (λ e. absurd (let z = u.some in omega (arith, z, e)))
+      by h w (inr a) = Then.told a
+
+  sent-all : (k : ℕ) (n : Message) (sd : ℕ → List Out) → n.letter.from ≡ k → n.letter.me ≡ V.next_ref → n.letter.answers < V.next_ref →
+      ((h : ℕ) (w : Want) → Unanswered V h w → n.letter.answers ≢ ref_of w) → OutsOf V k (idler k) (before-idler k) (Some n) sd →
+      {y : sight.Desk} → y ≡ sight.sent (record V { sending = sd }) k n → AllWait y
+  sent-all k n sd from me below never outs q = deed V k (idler k) (before-idler k) (Some n) sd V.taking V.block V.heap V.scrap q (record {
+    fresh = 0;
+    ins = ins-stay V k (idler k) (before-idler k) (Some n) 0 (λ w j x f. never-for f);
+    outs = outs;
+    ids = ids-stay V k (idler k) (before-idler k) (Some n);
+    sends = λ l e. let same : n ≡ l = cc in subst (Sends V k (idler k) V.scrap) same (record { from = from; me = me; below = below; answers = inl never });
+    scrap = λ f s. inl s;
+  })
+
+  repeat-stays : (name : List ℕ) → OnGrant Stays (repeat d name)
+  unfolding repeat
+  repeat-stays name = granted-then _ _ λ t q. granted-then _ _ λ last z. granted-then _ _ λ sent y. granted (record { desk = again t last sent q z y })
+    where
+      again : (t : Task) (last : Letter_ × ℕ) (sent : Desk) → named name d ≡ Ok t → found_or t.last_sent NothingSent ≡ Ok last →
+          send_letter (record last.0 { from = t.handle }) d ≡ Ok sent → AllWait (view sent)
+      again t last sent q z y =
+          let is = the_task d name t fit q in
+          let l : Letter_ = record last.0 { from = t.handle } in
+          let there : V.last t.handle ≡ Some (seen_last last) =
+          field_is (λ x. option_map seen_last x.last_sent) _ t.handle d.tasks t is ∙ ap (option_map seen_last) (is_found t.last_sent NothingSent last z) in
+          let kn : Knows V (owned t.handle (seen_last last)).letter = Known.latest t.handle (seen_last last) there refl in
+          sent-all t.handle (seen_letter l d.post.next_ref) V.sending refl refl (good.inv.letters.below _ kn).answers (λ h w u e. u.letters _ kn e)
+          (outs-stay V t.handle (idler t.handle) (before-idler t.handle) (Some (seen_letter l d.post.next_ref)) (λ w x f. never-for f))
+          (sent_view d sent l y (live_of d t.handle t is))
+
+  save-stays : (name : List ℕ) (k : ℕ) (to leaf : List ℕ) → OnGrant Stays (save d name k to leaf)
+  unfolding save
+  save-stays name k to leaf =
+      granted-then _ _ λ t q. granted-then _ _ λ b i. granted-past _ _ _ λ full. granted-then _ _ λ r z. granted-then _ _ λ sent y.
+      granted (record { desk = saved t b r sent q i y })
+    where
+      saved : (t : Task) (b : Split Flex) (r : Task) (sent : Desk) → named name d ≡ Ok t → idle_block k t ≡ Ok b →
+          send_letter (save_letter t.handle r.handle (length b.here.bytes) leaf) d ≡ Ok sent →
+          AllWait (view (with_sending t.handle (sender.sending_offered (next_ref d) r.handle k) sent))
+      saved t b r sent q i y =
+          let h : ℕ = t.handle in
+          let is = the_task d name t fit q in
+          let there : flex_map t.slot.blocks k ≡ Some b.here.bytes = (flex.edits weight (flex_start t.slot) k t.slot.blocks).found b (the_idle k t b i).block in
+          let n : Message = record {
+            code = Recorded;
+            to = r.handle;
+            letter = record { from = h; me = V.next_ref; answers = 0; kind = action.DataSave; address = 0; amount = length (sight.bytes_of (V.block h k)) };
+          } in
+          let x : Sending = record { id = V.next_ref; recipient = r.handle; anchor = k; count = 0; last = V.next_ref } in
+          sent-all h n _ refl refl good.inv.positive (λ j w u e. let z = u.some in omega (arith, z, e))
+          (outs-moved V h (idler h) (before-idler h) (Some n) _ (Open x)
+          (move_more out_id V.sending h V.most is_open (Open x) (λ v has e. let z = good.inv.order.out_below h v has in omega (arith, z, e)))
+          (λ w u has wants f. absurd (never-for f)) (λ w wants. anew h n x refl refl refl refl refl w (V.file h) refl wants))
+          (after_save d sent t r k leaf b.here.bytes is there y)
+        where
+          anew : (h : ℕ) (n : Message) (x : Sending) → x.last ≡ V.next_ref → x.id ≡ x.last → n.to ≡ x.recipient → n.letter.kind ≡ action.DataSave →
+              n.code ≡ Recorded →
+              (w : Want) (c : Bool) → V.file h ≡ c → want_out c (Open x) ≡ Some w → Anew V h (idler h) (before-idler h) (Some n) w
+          anew h n x last id to kind code w true c wants =
+              absurd (none_some None refl (rw (eq-eqb x.last x.id (sym id)) at wants))
+          anew h n x last id to kind code w false c wants =
+              let same : reply x.last x.recipient ≡ w = let z : Some (reply x.last x.recipient) ≡ Some w = wants in cc in
+              subst (Anew V h (idler h) (before-idler h) (Some n)) same (record {
+                n = n;
+                is = refl;
+                ref = last;
+                asks = ap (is_sent (V.file h)) kind ∙ ap not c;
+                to = to;
+                code = code;
+              })
+
+  -- ---- cancels
+
+  cancel_out-stays : (name : List ℕ) (id : Option ℕ) → OnGrant Stays (cancel_out d name id)
+  unfolding cancel_out sender.cancel_sending
+  cancel_out-stays name id =
+      granted-then _ _ λ t q. granted-then _ _ λ records z.
+      granted (record {
+        desk = from_found (open_of (λ x. is_meant id x.id) t.sending) NotOpen (λ x. sender.sending_failed x t.sending) records z (λ x found same.
+            failed t x records q same);
+      })
+    where
+      failed : (t : Task) (x : Sending) (records : List Out) → named name d ≡ Ok t → sender.sending_failed x t.sending ≡ records →
+          AllWait (view (with_sending t.handle (λ _. records) d))
+      failed t x records q same =
+          let is = the_task d name t fit q in
+          let k : ℕ = t.handle in
+          let sd = put V.sending k (with_id out_id x.id (Out_failed x.id x.count) (V.sending k)) in
+          let move = move_with out_id V.sending k x.id (Out_failed x.id x.count) refl in
+          let seen : view (with_sending k (λ _. records) d) ≡ record V { sending = sd } = outs_view d k (λ _. records) (live_of d k t is)
+          ∙ ap (λ (y : List Out). record V { sending = put V.sending k y })
+          (sym same ∙ ap (sender.sending_failed x) (sym (field_is (λ y. y.sending) [] k d.tasks t is))) in
+          subst AllWait (sym seen) (leads (record {
+            ins = λ h w i y. y;
+            outs = λ h w y. elim (move h y.one y.has) [
+              | inl z ↦ record { one = y.one; has = z.0; wants = y.wants }
+              | inr z ↦ absurd (none_some None refl (ap (want_out (V.file h)) (sym z.1) ∙ y.wants))
+            ];
+            waits = λ h w y. calm V sd V.taking V.block V.heap V.scrap (λ r v has. inl (r, (v, (has, refl)))) (λ f s l. s);
+          }) all)
+
+  cancel_in-stays : (name : List ℕ) (id : Option ℕ) → OnGrant Stays (cancel_in d name id)
+  unfolding cancel_in receiver.cancel_taking
+  cancel_in-stays name id =
+      granted-then _ _ λ t q. granted-then _ _ λ records z.
+      granted (record {
+        desk = from_found (find (receiver.is_wanted id) t.taking) NotOpen (λ x. with_id in_id (in_id x) (receiver.cancelled x) t.taking) records z
+            (λ x found same. given_up t x records q (first_is (receiver.is_wanted id) t.taking x found).0 same);
+      })
+    where
+      cancelled-wants : (x : In) (w : Want) → want_in (receiver.cancelled x) ≡ Some w → want_in x ≡ Some w
+      cancelled-wants (Fetching f) w e = e
+      cancelled-wants (Draining f) w e = e
+      cancelled-wants (Asking q) w e = absurd (none_some None refl e)
+      cancelled-wants (In_done i a n) w e = e
+      cancelled-wants (In_failed i a n) w e = e
+
+      cancelled-id : (x : In) → in_id (receiver.cancelled x) ≡ in_id x
+      cancelled-id (Fetching f) = refl
+      cancelled-id (Draining f) = refl
+      cancelled-id (Asking q) = refl
+      cancelled-id (In_done i a n) = refl
+      cancelled-id (In_failed i a n) = refl
+
+      given_up : (t : Task) (x : In) (records : List In) → named name d ≡ Ok t → Has x t.taking →
+          with_id in_id (in_id x) (receiver.cancelled x) t.taking ≡ records → AllWait (view (with_taking t.handle (λ _. records) d))
+      given_up t x records q has same =
+          let is = the_task d name t fit q in
+          let k : ℕ = t.handle in
+          let own = field_is (λ y. y.taking) [] k d.tasks t is in
+          let here : Has x (V.taking k) = subst (Has x) (sym own) has in
+          let tk = put V.taking k (with_id in_id (in_id x) (receiver.cancelled x) (V.taking k)) in
+          let move = move_with in_id V.taking k (in_id x) (receiver.cancelled x) (cancelled-id x) in
+          let seen : view (with_taking k (λ _. records) d) ≡ record V { taking = tk } = ins_view d k (λ _. records) (live_of d k t is)
+          ∙ ap (λ (y : List In). record V { taking = put V.taking k y }) (sym same ∙ ap (with_id in_id (in_id x) (receiver.cancelled x)) (sym own)) in
+          subst AllWait (sym seen) (leads (record {
+            ins = λ h w i y. elim (move h y.one y.has) [
+              | inl z ↦ record { one = y.one; has = z.0; wants = y.wants; id = y.id }
+              | inr z ↦ record {
+                one = x;
+                has = subst (λ j. Has x (V.taking j)) (sym z.0) here;
+                wants = cancelled-wants x w (ap want_in (sym z.1) ∙ y.wants);
+                id = sym (cancelled-id x) ∙ ap in_id (sym z.1) ∙ y.id;
+              }
+            ];
+            outs = λ h w y. y;
+            waits = λ h w y. calm V V.sending tk V.block V.heap V.scrap (λ r v there. elim (move r v there) [
+              | inl z ↦ inl (r, (v, (z.0, refl)))
+              | inr z ↦ inl (k, (x, (here, sym (cancelled-id x) ∙ ap in_id (sym z.1))))
+            ]) (λ f s l. s);
+          }) all)
+
+  -- ---- commands on memory, and polls
+
+  memory-stays : {c : Command} (a : Answer) → Changed c d a → Stays a
+  memory-stays _ (in_slot name t s about q quiet) =
+      let is = the_task d name t fit q in
+      record {
+        desk = subst AllWait (sym (slot_view d t.handle (λ _. s) t.slot (live_of d t.handle t is) (slot_is d t.handle t is)))
+            (frame-all V (put V.block t.handle (blocks_of s)) (put V.heap t.handle (buffers_of s)) V.scrap (λ f z l. z) all);
+      }
+  memory-stays _ (in_module h quiet) = record { desk = all }
+  memory-stays _ (in_areas areas quiet) = record { desk = all }
+  memory-stays _ (in_made areas quiet) = record { desk = all }
+  memory-stays _ (in_nothing quiet) = record { desk = all }
+
+  make-stays : (most : ℕ) → OnGrant Stays (make d most)
+  unfolding make
+  make-stays most = granted-past _ _ _ λ x. granted-past _ _ _ λ y. granted (record { desk = all })
+
+  poll-stays : (name : List ℕ) → OnGrant Stays (poll d name)
+  unfolding poll
+  poll-stays name = granted-then _ _ λ t q.
+      let is = the_task d name t fit q in
+      let h : ℕ = t.handle in
+      granted (record {
+        desk = by-taken d t fit is good all (post_poll h d.post) (fit.polled h) (poll_taken_is d h fit (live_of d h t is))
+            (post_poll h d.post).1 refl;
+      })
+
+  change-stays : (c : Command) → OnGrant Stays (change d c)
+  change-stays (command.Task name buffer manner) = start-stays name buffer manner
+  change-stays (command.Kill name) = kill-stays name
+  change-stays (command.Save name k to leaf) = save-stays name k to leaf
+  change-stays (command.Poll name) = poll-stays name
+  change-stays (command.CancelIn name id) = cancel_in-stays name id
+  change-stays (command.CancelOut name id) = cancel_out-stays name id
+  change-stays (command.Repeat name) = repeat-stays name
+  change-stays (command.Make most) = make-stays most
+  change-stays c = granted-on d c tt memory-stays
+
+  pub step-waits : (c : Command) → AllWait (view (step d c).0)
+  step-waits c = (or_else-keeps Stays _ (change-stays c) (λ refusal. record { desk = all })).desk
+
+-- ---- runs
+
+after-waits : (cs : List Command) → all_in_range cs ≡ true → (d : Desk) {o : Offers} {e : Edits} → Good o e (view d) → IsDesk d → AllWait (view d) →
+    AllWait (view (after d cs))
+after-waits [] p d good is all = all
+after-waits (c ∷ cs) p d good is all =
+    let in_c : in_range c ≡ true = and_left (in_range c) _ p in
+    after-waits cs (and_right (in_range c) _ p) (step d c).0 (keeps c in_c d good (fits d is)) (step-keeps d c in_c is) (step-waits d (fits d is) good all c)
+
+-- ---- at rest
+
+rest-held : (h : ℕ) (seats : List Seat) → AllByRecursion (λ (s : Seat). s.holds ≡ None) seats → held_by h seats ≡ None
+rest-held h [] all = refl
+rest-held h (s ∷ seats) all = elim (eqb_tells s.handle h) [ inl z ↦ rw z.0 all.0 | inr z ↦ rw z.0 (rest-held h seats all.1) ]
+
+none-waits : (d : Desk) → IsAtRest d.post → (h : ℕ) (w : Want) → WaitsFor (view d) h w → ⊥
+none-waits d rest h w (inr a) = subst (Has a.answer) (ap (map seen_parcel) rest.queue) a.queued
+none-waits d rest h w (inl u) = by u.live
+  where
+    by : IsLive (view d).queue (view d).held (ref_of w) → ⊥
+    by (IsLive.waits m has e) = subst (Has m) (ap (map seen_parcel) rest.queue) has
+    by (IsLive.rests k m is e) = none_some ((view d).held k) (ap (option_map seen_parcel) (rest-held k d.post.seats rest.held)) is
+
+settled : {o : Offers} {e : Edits} (d : Desk) → Good o e (view d) → AllWait (view d) → IsAtRest d.post → IsSettled d
+settled d good all rest = record {
+  comes = λ h t w at has. comes h w (subst (Has w) (sym (field_is (λ y. y.taking) [] h d.tasks t at)) (has_of t.taking w has));
+  goes = λ h t x at has. goes h t at x (subst (Has (Open x)) (sym (field_is (λ y. y.sending) [] h d.tasks t at)) (has_of t.sending (Open x) has));
+}
+  where
+    none : (h : ℕ) (v : In) (w : Want) → Has v ((view d).taking h) → want_in v ≡ Some w → ⊥
+    none h v w has wants = none-waits d rest h w (all.waits h w (HasWant.comes (record { one = v; has = has; wants = wants; id = refl })))
+
+    comes : (h : ℕ) (v : In) → Has v ((view d).taking h) → is_going v ≡ false
+    comes h (Fetching f) has = absurd (none h (Fetching f) _ has refl)
+    comes h (Draining f) has = absurd (none h (Draining f) _ has refl)
+    comes h (Asking q) has = absurd (none h (Asking q) _ has refl)
+    comes h (In_done i a n) has = refl
+    comes h (In_failed i a n) has = refl
+
+    goes : (h : ℕ) (t : Task) → task_of h d.tasks ≡ Some t → (x : Sending) → Has (Open x) ((view d).sending h) → IsOffered t x
+    goes h t at x has = by ((view d).file h && x.last == x.id) refl
+      where
+        by : (c : Bool) → ((view d).file h && x.last == x.id) ≡ c → IsOffered t x
+        by true e =
+            let last : x.last ≡ x.id = is_equal _ _ (and_right ((view d).file h) _ e) in
+            record {
+              manner = sym (field_is (λ y. answers_none y.manner) false h d.tasks t at) ∙ and_left ((view d).file h) _ e;
+              last = last;
+              count = (good.inv.outs.source h x has).unread last;
+            }
+        by false e = absurd (none-waits d rest h (reply x.last x.recipient) (all.waits h _ (HasWant.goes (record {
+          one = Open x;
+          has = has;
+          wants = ap (λ c. if c then None else Some (reply x.last x.recipient)) e;
+        }))))
+
+pub always-settles : AlwaysSettles
+always-settles pool handle ref files commands from ranged rounds in_rounds names few =
+    let d : Desk = start_with pool files handle ref in
+    let positive : 0 < ref = omega (arith, from.first_ref) in
+    let start : AllWait (view d) = record { waits = λ h w x. nothing_ h w x; apart = λ h w x i j a b e. absurd a.has } in
+    let is = start-is pool handle ref files from in
+    let here = after-waits commands ranged d (start_good most_records handle ref positive) is start in
+    let good = good_after pool handle ref files commands from ranged in
+    let kept = after-is d commands ranged is in
+    let rest = (always-progresses pool handle ref files commands from ranged).rests rounds in_rounds names few in
+    let end : Desk = after d commands in
+    settled (after end (rounds_of rounds)) (kept_good (rounds_of rounds) in_rounds end good kept)
+    (after-waits (rounds_of rounds) in_rounds end good kept here) rest
+  where
+    nothing_ : (h : ℕ) (w : Want) → Wants (view (start_with pool files handle ref)) h w → WaitsFor (view (start_with pool files handle ref)) h w
+    nothing_ h w (HasWant.comes x) = absurd x.has
+    nothing_ h w (HasWant.goes x) = absurd x.has

@@ -1,0 +1,160 @@
+-- What a message that a task handles may make of the records, the post and the scrap file, and that each record waits after it.
+use Rattle.rh_laws.proofs.Common.{Bool, Has, List, None, Option, Some, [], ap, arith, eqb_tells, inl, inr, refl, subst, sym, ℕ, ◌<◌, ◌∙◌, ◌∷◌, ◌≡◌, ◌≢◌, ◌⊎◌}
+use Rattle.rh_safety.proofs.Basics.{Has-append, Has-right}
+use Rattle.rh_safety.proofs.Ends.{In, Letter, Message, Out, Recorded, in_id}
+use Rattle.rh_safety.proofs.Invariant.{IsLive, Known, Knows, Unread}
+use Rattle.rh_safety.proofs.Sends.{sent_knows, still_is}
+use Rattle.rh_safety.proofs.Sight.{Desk, Scrap}
+use Rattle.rh_laws.proofs.Wants.{AllWait, Answered, Asks, HasWant, InWants, Ours, OutWants, Tells, Unanswered, WaitsFor, Want, Wants, peer_of, ref_of, want_in}
+use Rattle.rh_laws.proofs.Wants.{want_out}
+use Rattle.rh_laws.proofs.WantEdits.{For, OldIds, Then, after, quiet-asks, quiet-told, sent-asks, sent-told}
+
+-- a record that was there, which the message isn't for, or a new one that the letter asks for
+pub data Origin (d : Desk) (k : ℕ) (m : Message) (l : Option Message) (h : ℕ) (w : Want) (old now : Type 0) : Type 0 where
+  was : old → (h ≡ k → For d m h w → ⊥) → Origin d k m l h w old now
+  new : (n : Message) → l ≡ Some n → h ≡ k → ref_of w ≡ d.next_ref → Asks w (d.buf k) (d.file k) n.letter → n.to ≡ peer_of w → n.code ≡ Recorded → now
+      → Origin d k m l h w old now
+
+-- a letter that answers the message
+pub record Replies (d : Desk) (m : Message) (sc : Option Scrap) (l : Message) : Type 0 where
+  pub answers : l.letter.answers ≡ m.letter.me
+  pub unread : Unread l
+  pub to : l.to ≡ m.letter.from
+  pub tells : (w : Want) (room : ℕ) (no_fetch : Bool) → Asks w room no_fetch m.letter → Tells w room no_fetch sc l
+
+-- the letter is the task's, and answers the message, or nothing that a record waits by
+pub record Sends (d : Desk) (k : ℕ) (m : Message) (sc : Option Scrap) (l : Message) : Type 0 where
+  pub from : l.letter.from ≡ k
+  pub me : l.letter.me ≡ d.next_ref
+  pub below : l.letter.answers < d.next_ref
+  pub answers : ((h : ℕ) (w : Want) → Unanswered d h w → l.letter.answers ≢ ref_of w) ⊎ Replies d m sc l
+
+pub record Deed (d : Desk) (k : ℕ) (m : Message) (l : Option Message) (sd : ℕ → List Out) (tk : ℕ → List In) (sc : Option Scrap) : Type 0 where
+  pub fresh : ℕ
+  pub ins : (h : ℕ) (v : In) (w : Want) → Has v (tk h) → want_in v ≡ Some w → Origin d k m l h w (InWants (d.taking h) w (in_id v)) (in_id v ≡ fresh)
+  pub outs : (h : ℕ) (v : Out) (w : Want) → Has v (sd h) → want_out (d.file h) v ≡ Some w → Origin d k m l h w (OutWants (d.sending h) (d.file h) w) (Unit {0})
+  pub ids : OldIds d tk l
+  pub sends : (n : Message) → l ≡ Some n → Sends d k m sc n
+  pub scrap : (f : Scrap) → d.scrap ≡ Some f → (sc ≡ Some f) ⊎ ((f.load ≡ m.letter.me) × Unread m)
+
+-- what is known once task k has taken the message
+pub record Before (d : Desk) (k : ℕ) (m : Message) : Type 0 where
+  pub waits : (h : ℕ) (w : Want) → Wants d h w → Then d m h w
+  pub apart : (h : ℕ) (w x : Want) (i j : ℕ) → InWants (d.taking h) w i → InWants (d.taking h) x j → ref_of w ≡ ref_of x → i ≡ j
+  pub to : m.to ≡ k
+  pub letters : (l : Letter) → Knows d l → (l.me < d.next_ref) × (l.answers < d.next_ref)
+  pub mine : m.letter.me < d.next_ref
+  pub refs : (h : ℕ) (w : Want) → Wants d h w → ref_of w < d.next_ref
+  pub ids : (h : ℕ) (v : In) → Has v (d.taking h) → in_id v < d.next_ref
+  pub positive : 0 < d.next_ref
+  pub alone : (y : Message) → Has y d.queue → Unread y → Unread m → y.letter.me ≢ m.letter.me
+
+module _ (d : Desk) (k : ℕ) (m : Message) (b : Before d k m) (sd : ℕ → List Out) (tk : ℕ → List In) (bl hp : ℕ → ℕ → Option (List ℕ)) (sc : Option Scrap) where
+  abbrev E : Option Message → Desk
+  E l = after d k sd tk bl hp sc l
+
+  kept-file : {h : ℕ} {w : Want} (l : Option Message) → Deed d k m l sd tk sc → (a : Answered d h w) → (f : Scrap) → d.scrap ≡ Some f →
+      f.load ≡ a.answer.letter.me → sc ≡ Some f
+  kept-file l x a f s load = elim (x.scrap f s) [ inl z ↦ z | inr z ↦ absurd (b.alone a.answer a.queued a.unread z.1 (sym load ∙ z.0)) ]
+
+  old-waits : (l : Option Message) → Deed d k m l sd tk sc → (h : ℕ) (w : Want) → Wants d h w → (h ≡ k → For d m h w → ⊥) → WaitsFor (E l) h w
+  old-waits None x h w is other = by (b.waits h w is)
+    where
+      by : Then d m h w → WaitsFor (E None) h w
+      by (Then.asking u own) = inl (quiet-asks d k sd tk bl hp sc x.ids u)
+      by (Then.told a) = inr (quiet-told d k sd tk bl hp sc a (kept-file None x a))
+      by (Then.due to f) = absurd (other (sym to ∙ b.to) f)
+  old-waits (Some n) x h w is other = by (b.waits h w is)
+    where
+      s : Sends d k m sc n
+      s = x.sends n refl
+
+      by : Then d m h w → WaitsFor (E (Some n)) h w
+      by (Then.told a) = inr (sent-told d k sd tk bl hp sc n s.from a (kept-file (Some n) x a))
+      by (Then.due to f) = absurd (other (sym to ∙ b.to) f)
+      by (Then.asking u own) = elim s.answers [
+        | inl z ↦ inl (other-asks (z h w u))
+        | inr r ↦ elim (eqb_tells n.letter.answers (ref_of w)) [
+          | inl e ↦
+              let o = own (sym r.answers ∙ e.1) in
+              inr (record {
+                answer = n;
+                queued = Has-right n d.queue (n ∷ []) (inl refl);
+                to = r.to ∙ o.1.0;
+                from = s.from ∙ sym b.to ∙ o.1.1.0;
+                answers = e.1;
+                unread = r.unread;
+                tells = r.tells w (d.buf h) (d.file h) o.1.1.1;
+              })
+          | inr e ↦ inl (other-asks e.1)
+        ]
+      ]
+        where
+          other-asks : n.letter.answers ≢ ref_of w → Unanswered (E (Some n)) h w
+          other-asks ne = sent-asks d k sd tk bl hp sc n s.from s.me (b.refs h w is) ne x.ids u
+
+  new-waits : (l : Option Message) → Deed d k m l sd tk sc → (n : Message) → l ≡ Some n → (h : ℕ) (w : Want) → h ≡ k → ref_of w ≡ d.next_ref →
+      Asks w (d.buf k) (d.file k) n.letter → n.to ≡ peer_of w → n.code ≡ Recorded → WaitsFor (E l) h w
+  new-waits l x n same h w own now asks to code =
+      subst (λ (o : Option Message). WaitsFor (E o) h w) (sym same) (subst (λ j. WaitsFor (E (Some n)) j w) (sym own) (inl here))
+    where
+      s : Sends d k m sc n
+      s = x.sends n same
+
+      mine : (y : Message) → n ≡ y → Ours (E (Some n)) k w y
+      mine y e = subst (Ours (E (Some n)) k w) e (record { from = s.from; asks = asks; way = inl (code, to) })
+
+      never : {A : Type 0} (y : Message) → Knows d y.letter → y.letter.me ≡ ref_of w → A
+      never y kn e = absurd (let z = (b.letters y.letter kn).0 in omega (arith, z, e, now))
+
+      answered : (a : ℕ) → a ≡ n.letter.answers → a ≡ ref_of w → ⊥
+      answered a same_a e = let u = s.below in omega (arith, u, e, now, same_a)
+
+      here : Unanswered (E (Some n)) k w
+      here = record {
+        live = IsLive.waits n (Has-right n d.queue (n ∷ []) (inl refl)) (s.me ∙ sym now);
+        queue = λ y has e. elim (Has-append y d.queue (n ∷ []) has) [
+          | inl a ↦ never y (Known.queued y a refl) e
+          | inr a ↦ elim a [ inl c ↦ mine y c | inr c ↦ absurd c ]
+        ];
+        held = λ j y is e. never y (Known.kept j y (still_is d k n.letter.answers j y is) refl) e;
+        some = let p = b.positive in omega (arith, p, now);
+        letters = λ a kn e. elim (sent_knows d k n s.from a kn) [
+          | inl c ↦ let z = (b.letters a c).1 in omega (arith, z, e, now)
+          | inr c ↦ answered a.answers (ap (λ (z : Letter). z.answers) c) e
+        ];
+        ids = λ r v has e. elim (x.ids r v has) [
+          | inl z ↦ let u = b.ids z.0 z.1.0 z.1.1.0 in let i = z.1.1.1 in omega (arith, u, i, e, now)
+          | inr z ↦ let one : Some n ≡ Some z.0 = sym same ∙ z.1.0 in let two : n ≡ z.0 = cc in
+              answered (in_id v) (z.1.1 ∙ ap (λ (y : Message). y.letter.answers) (sym two)) e
+        ];
+      }
+
+  same-file : (l : Option Message) → (E l).file ≡ d.file
+  same-file None = refl
+  same-file (Some n) = refl
+
+  pub deed-waits : (l : Option Message) → Deed d k m l sd tk sc → AllWait (E l)
+  deed-waits l x = record { waits = each; apart = apart }
+    where
+      each : (h : ℕ) (w : Want) → Wants (E l) h w → WaitsFor (E l) h w
+      each h w (HasWant.comes z) = by (x.ins h z.one w z.has z.wants)
+        where
+          by : {j : ℕ} {P : Type 0} → Origin d k m l h w (InWants (d.taking h) w j) P → WaitsFor (E l) h w
+          by (was o other) = old-waits l x h w (HasWant.comes o) other
+          by (new n same own now asks to code p) = new-waits l x n same h w own now asks to code
+      each h w (HasWant.goes z) = by (x.outs h z.one w z.has (ap (λ (f : ℕ → Bool). want_out (f h) z.one) (sym (same-file l)) ∙ z.wants))
+        where
+          by : Origin d k m l h w (OutWants (d.sending h) (d.file h) w) (Unit {0}) → WaitsFor (E l) h w
+          by (was o other) = old-waits l x h w (HasWant.goes o) other
+          by (new n same own now asks to code p) = new-waits l x n same h w own now asks to code
+
+      apart : (h : ℕ) (w y : Want) (i j : ℕ) → InWants ((E l).taking h) w i → InWants ((E l).taking h) y j → ref_of w ≡ ref_of y → i ≡ j
+      apart h w y i j p q e =
+          sym p.id ∙ by (x.ins h p.one w p.has p.wants) (x.ins h q.one y q.has q.wants) ∙ q.id
+        where
+          by : {a c : ℕ} → Origin d k m l h w (InWants (d.taking h) w a) (a ≡ x.fresh) → Origin d k m l h y (InWants (d.taking h) y c) (c ≡ x.fresh) → a ≡ c
+          by {a} {c} (was o f) (was r g) = b.apart h w y a c o r e
+          by (was o f) (new n s own now asks to code is) = absurd (let z = b.refs h w (HasWant.comes o) in omega (arith, z, e, now))
+          by (new n s own now asks to code is) (was r g) = absurd (let z = b.refs h y (HasWant.comes r) in omega (arith, z, e, now))
+          by (new n s own now asks to code is) (new n2 s2 own2 now2 asks2 to2 code2 is2) = is ∙ sym is2
