@@ -1,7 +1,8 @@
 -- What keeps a map that of its area's heap.
-use Rattle.std.proofs.Common.{◌≡◌, ◌≢◌, ℕ, ◌+◌, ◌-◌, ◌*◌, ◌≤◌, inl, inr, true, false, List, length, refl, sym, ap, subst, ◌∙◌, arith}
+use Rattle.std.proofs.Common.{◌≡◌, ◌≢◌, ℕ, ◌+◌, ◌-◌, ◌*◌, ◌<◌, ◌≤◌, get_or, inl, inr, true, false, List, length, refl, sym, ap, subst, ◌∙◌, arith}
 use Rattle.std.specs.Prelude.{slice_index, Option, Some, None, IfSome, Result, Ok, Err, IfOk, OnOk, OnErr, IsNone}
 use Rattle.std.proofs.lemmas.Bool.{cases_eq}
+use Rattle.std.proofs.lemmas.List.{get_or_read}
 use Rattle.rh_defs.specs.declared.sizes.TheConstants.{PAGE}
 use Rattle.rh_defs.specs.Bytes.{SameIn, SameOutside}
 use Rattle.rh_defs.specs.Memory.{Memory, bytes, with_bytes, opened, closed, grown, shrunk}
@@ -135,6 +136,12 @@ kept_closed m old new reach id t s = record {
   kept = each m (closed m id) old new id t.kept s.others (bytes-closed_other m id) (kept_unknown (bytes (closed m id) id) (map_of new id) s.off);
   reached = reached_spoilt old new reach id t.reached s;
 }
+
+-- a map that was taken out of its place is kept as it was there
+pub kept_taken : (maps : List (Option Map)) (id : ℕ) (b : List ℕ) (found : Option Map) (s : Map) → id < length maps → found ≡ get_or maps id found
+    → Some s ≡ found → IfSome (map_of maps id) (IsKeptMap b) → IsKeptMap b s
+kept_taken maps id b found s there read is kept =
+    subst (λ o. IfSome o (IsKeptMap b)) (sym (is ∙ get_or_read maps id found there read None)) kept
 
 -- ---- calls that may be refused
 pub kept_grow : (m n : Memory) (maps : List (Option Map)) (id pages : ℕ) (result : Result (Unit {0}) StoreFault) → AreKept m maps

@@ -49,3 +49,7 @@ pub record Forgot (old new : List (Option Map)) (id low upper : ℕ) : Type 0 wh
 pub record Spoilt (old new : List (Option Map)) (id : ℕ) : Type 0 where
   pub off : IfSome (map_of new id) (λ s. s.known ≡ false)
   pub others : (j : ℕ) → j ≢ id → map_of new j ≡ map_of old j
+
+-- each map is as it was, or isn't said to be up to date
+abbrev pub Loosened : List (Option Map) → List (Option Map) → Type 0
+Loosened old new = (j : ℕ) → (map_of new j ≡ map_of old j) ⊎ IfSome (map_of new j) (λ s. s.known ≡ false)

@@ -3,5 +3,6 @@
 
 mod mapped;
 mod maps;
+mod needs;
 
 pub use mapped::Mapped;

@@ -1,7 +1,8 @@
 //! The store with its maps.
 ghost use Rattle.std.specs.Prelude.{◌≡◌, false, IfOk};
 
-use crate::maps::{AREA_NUMBERS, Map, forget, lengthened, spoil};
+use crate::maps::{AREA_NUMBERS, Map, PAGE_WORDS, forget, spoil, unknown, widened};
+use crate::needs::Needs;
 use rh_defs::sizes::{MAX_AREAS, PAGE, WORD};
 use rh_store::{
     AreaId, LINE_BYTES, Paged, Pages, Sited, Starts, Store, StoreFault, Words, WordsMut,
@@ -9,13 +10,14 @@ use rh_store::{
 use std::alloc::{AllocError, Global};
 use std::marker::Model;
 
-/// A store, and for each area a map of its heap, with an offset above which that heap has no byte; seen as the store. A
-/// write that meets the heap makes the map stale; whoever changes a heap takes the map before, and gives it back as it
-/// is then.
+/// A store, and for each area a map of its heap, with an offset above which that heap has no byte, and its pages. It is
+/// seen as the store. A write that meets the heap makes the map stale; whoever changes a heap takes the map before, and
+/// gives it back as it is then.
 #[derive(Drop)]
 pub struct Mapped<S: Store> {
     store: S,
     maps: Vec<Option<Map>>,
+    needs: Needs,
     reach: [usize; AREA_NUMBERS],
 }
 
@@ -34,31 +36,29 @@ fn blank(alloc: Global, words: usize) -> Result<Map, AllocError>
     ensures { IfOk result (λ starts. starts.known ≡ false) }
 {
     let lines = Vec::with_capacity(alloc, words)?;
-    Ok(Starts {
-        lines,
-        known: false,
-        at: 0,
-        upper: 0,
-    })
+    Ok(unknown(lines))
 }
 
 impl<S: Store + Drop> Mapped<S> {
     ghost use Rattle.std.specs.Prelude.{◌≡◌, IfOk};
 
-    /// A store with room for a map of each area. All memory is taken here: AllocError where it is refused, and then the
-    /// store is dropped.
+    /// A store with a map for each area. The nth map has room for an area of the nth part of the pool, since the nth
+    /// longest area has no more. All memory is taken here: AllocError where it is refused, and then the store is
+    /// dropped.
     pub fn new(alloc: Global, store: S) -> Result<Mapped<S>, AllocError>
         ensures { IfOk result (λ mapped. mapped ≡ store) }
     {
-        let words = 2 * (PAGE / LINE_BYTES) * store.free_pages();
+        let pages = store.free_pages();
         let mut maps = Vec::with_capacity(alloc, MAX_AREAS)?;
-        for _area in 0..MAX_AREAS {
-            let starts = blank(alloc, words)?;
+        let needs = Needs::new(alloc)?;
+        for rank in 1..=MAX_AREAS {
+            let starts = blank(alloc, PAGE_WORDS * (pages / rank))?;
             maps.push(Some(starts))?;
         }
         Ok(Mapped {
             store,
             maps,
+            needs,
             reach: [0; AREA_NUMBERS],
         })
     }
@@ -145,7 +145,7 @@ impl<S: Store> WordsMut for Mapped<S> {
         if words <= starts.lines.len() {
             return Some(starts);
         }
-        lengthened(starts, words)
+        widened(&mut self.maps, &self.needs, k, starts.lines, words)
     }
 
     #[inline(always)]
@@ -174,7 +174,9 @@ impl<S: Store> Paged for Mapped<S> {
 
 impl<S: Store> Pages for Mapped<S> {
     fn grow(&mut self, id: AreaId, pages: usize) -> Result<(), StoreFault> {
-        self.store.grow(id, pages)
+        self.store.grow(id, pages)?;
+        self.needs.add(id.0 as usize, pages);
+        Ok(())
     }
 
     fn grow_check(&self, id: AreaId, pages: usize) -> bool {
@@ -185,6 +187,7 @@ impl<S: Store> Pages for Mapped<S> {
         let end = self.store.len(id);
         forget(&mut self.maps, &self.reach, id, end - PAGE * pages, end);
         self.store.shrink(id, pages);
+        self.needs.subtract(id.0 as usize, pages);
     }
 
     fn free_pages(&self) -> usize {
@@ -206,6 +209,7 @@ impl<S: Store> Store for Mapped<S> {
     fn close(&mut self, id: AreaId) {
         spoil(&mut self.maps, id.0 as usize);
         self.store.close(id);
+        self.needs.clear(id.0 as usize);
     }
 
     fn copy(&mut self, id: AreaId, at: usize, id2: AreaId, at2: usize, n: usize) {
