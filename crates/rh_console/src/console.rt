@@ -11,8 +11,8 @@ ghost use Rattle.rh_console.specs.Said.{said_text};
 ghost use Rattle.rh_console.specs.Console.{Prints};
 
 use crate::said::Said;
-use rh_defs::{Command, Files, Handle, Ref};
-use rh_lines::{WholeText, parse_line};
+use rh_defs::{Command, Files, Handle, Question, Ref};
+use rh_lines::{WholeText, read_line};
 use rh_mapped::Mapped;
 use rh_pages::PagedStore;
 use rh_tasks::World;
@@ -64,9 +64,10 @@ impl Console {
         ensures said { (d : Desk) → IsReordered d self.old.world.desk →
             said_text (line_desk d line.now) self.new.said ≡ line_text d line.now }
     {
-        self.said = match parse_line(line) {
-            Ok(None) => Said::Nothing,
-            Ok(Some(command)) => self.carry_out(command),
+        let mut command = Command::Ask(Question::Areas);
+        self.said = match read_line(line, &mut command) {
+            Ok(false) => Said::Nothing,
+            Ok(true) => self.carry_out(command),
             Err(fault) => Said::Fault(fault),
         };
     }
