@@ -48,7 +48,6 @@ pub use Rattle.rh_figure.specs.Scene.{Scene, message_of_scene, scene_of}
 pub use Rattle.rh_figure.specs.Share.{AreaOf, Holding, IsShared, Owner, Share, SlotOf, count_of, fixed_holding, holdings}
 pub use Rattle.rh_lines.proofs.FlowLemmas.{takes_more, takes_none}
 pub use Rattle.rh_lines.specs.Flow.{Breaks, Output, Puts, Takes}
-pub use Rattle.rh_map.proofs.Left.{Left, left_breaks, left_less, left_none, left_whole}
 pub use Rattle.rh_map.proofs.SeamLemmas.{shown-append}
 pub use Rattle.rh_map.specs.Written.{shown_lines}
 pub use Rattle.rh_sight.proofs.Holders.{at-some}

@@ -1,33 +1,12 @@
--- Lists that are written through, place by place.
-use Rattle.rh_drawn.proofs.Common.{◌≡◌, ℕ, ◌+◌, ◌<◌, ◌≤◌, refl, ap, sym, subst, ◌∙◌, List, [], ◌∷◌, ◌++◌, length, drop, get_or, Some, None, Result, Ok, Err}
-use Rattle.rh_drawn.proofs.Common.{codes, slice_get, flat_map, drop_all, drop_more, map-append, Text, Output, Takes, Breaks, Puts, takes_more, takes_none}
-use Rattle.rh_drawn.proofs.Common.{shown_lines, Left, shown-append, rest-none, rest-some, indented}
-use Rattle.std.specs.Result.{IsErr}
+-- Lists that are shown or looked through, place by place.
+use Rattle.rh_drawn.proofs.Common.{◌≡◌, ℕ, ◌+◌, ◌<◌, ap, sym, ◌∙◌, List, [], ◌∷◌, ◌++◌, length, drop, get_or, Some, None, append_assoc, append-nil}
+use Rattle.rh_drawn.proofs.Common.{codes, slice_get, flat_map, drop_more, map-append, Text, shown_lines, shown-append, rest-none, rest-some, indented}
 use Rattle.rh_figure.specs.Map.{shown_line}
-use Rattle.rh_lines.proofs.FlowLemmas.{puts_before, puts_more, puts_stops, takes_breaks}
 use Rattle.rh_map.proofs.SeamLemmas.{shown-one}
 
--- lines that are made member by member
-module _ {A : Type 0} (lines : List A → List Text) (of_one : A → List Text) (each : (x : A) (rest : List A) → lines (x ∷ rest) ≡ of_one x ++ lines rest)
-    (xs : List A) (i : ℕ) where
-  -- the member at a place, told by a call
-  pub walk-some : (x : A) → slice_get xs i ≡ Some x → shown_lines (lines (drop i xs)) ≡ shown_lines (of_one x) ++ shown_lines (lines (drop (i + 1) xs))
-  walk-some x e =
-      ap (λ z. shown_lines (lines z)) (rest-some xs i x e)
-      ∙ (ap shown_lines (each x (drop (i + 1) xs)) ∙ shown-append (of_one x) (lines (drop (i + 1) xs)))
-
-  -- the same of a slice
-  pub walk-at : (x : A) → i < length xs → x ≡ get_or xs i x → shown_lines (lines (drop i xs)) ≡ shown_lines (of_one x) ++ shown_lines (lines (drop (i + 1) xs))
-  walk-at x inside e =
-      ap (λ z. shown_lines (lines z)) (drop_more xs i x inside ∙ ap (λ y. y ∷ drop (i + 1) xs) (sym e))
-      ∙ (ap shown_lines (each x (drop (i + 1) xs)) ∙ shown-append (of_one x) (lines (drop (i + 1) xs)))
-
-module _ {A : Type 0} (lines : List A → List Text) (none : lines [] ≡ []) (xs : List A) (i : ℕ) where
-  pub walk-none : slice_get xs i ≡ None → shown_lines (lines (drop i xs)) ≡ []
-  walk-none e = ap (λ z. shown_lines (lines z)) (rest-none xs i e) ∙ ap shown_lines none
-
-  pub walk-end : length xs ≤ i → shown_lines (lines (drop i xs)) ≡ []
-  walk-end e = ap (λ z. shown_lines (lines z)) (drop_all i xs e) ∙ ap shown_lines none
+-- the place of a slice that a loop is at
+pub rest-at : {A : Type 0} (xs : List A) (i : ℕ) (x : A) → i < length xs → x ≡ get_or xs i x → drop i xs ≡ x ∷ drop (i + 1) xs
+rest-at xs i x inside e = drop_more xs i x inside ∙ ap (λ y. y ∷ drop (i + 1) xs) (sym e)
 
 -- ---- what is found first
 
@@ -50,35 +29,47 @@ indented-append xs ys = map-append (λ line. codes "  " ++ line) xs ys
 pub indented-each : {A : Type 0} (f : A → List Text) (x : A) (rest : List A) → indented (flat_map f (x ∷ rest)) ≡ indented (f x) ++ indented (flat_map f rest)
 indented-each f x rest = indented-append (f x) (flat_map f rest)
 
--- ---- what is put, line by line
+-- ---- what a pen is offered
 
-pub puts_same : {E : Type 0} {s t : Output} {r : Result Unit E} {x y : List ℕ} → x ≡ y → Puts s t r x → Puts s t r y
-puts_same {E} {s} {t} {r} e p = let P : List ℕ → Type 0 = λ z. Puts s t r z in subst P e p
+-- a text, told in another way
+pub offered_as : {new x y : List ℕ} (old : List ℕ) → x ≡ y → new ≡ old ++ x → new ≡ old ++ y
+offered_as old e p = p ∙ ap (λ z. old ++ z) e
 
--- a single line
-pub puts_line : {E : Type 0} {s t : Output} {r : Result Unit E} {x y : Text} → x ≡ y → Puts s t r (shown_line x ++ codes "\n")
-    → Puts s t r (shown_lines (y ∷ []))
-puts_line {y = y} e p = puts_same (ap (λ l. shown_line l ++ codes "\n") e ∙ sym (shown-one y)) p
+-- no line, a single one, and lines behind lines
+pub offered_none : (old : List ℕ) → old ≡ old ++ []
+offered_none old = sym (append-nil old)
 
--- no line
-pub puts_none : {E : Type 0} (s : Output) → Puts {E = E} s s (Ok tt) []
-puts_none s = record { ok = takes_none s; err = tt }
+pub offered_line : {new : List ℕ} {x y : Text} (old : List ℕ) → x ≡ y → new ≡ old ++ (shown_line x ++ codes "\n") → new ≡ old ++ shown_lines (y ∷ [])
+offered_line {y = y} old e p = offered_as old (ap (λ l. shown_line l ++ codes "\n") e ∙ sym (shown-one y)) p
 
--- lines behind lines
-pub lines_then : {E : Type 0} {s t u : Output} {v : Unit {0}} {r : Result Unit E} (xs ys : List Text) → Puts {E = E} s t (Ok v) (shown_lines xs)
-    → Puts t u r (shown_lines ys) → Puts s u r (shown_lines (xs ++ ys))
-lines_then {u = u} {r = r} xs ys p q = puts_same (sym (shown-append xs ys)) (puts_more u r (shown_lines ys) p q)
+pub lines_then : {mid new : List ℕ} (old : List ℕ) (xs ys : List Text) → mid ≡ old ++ shown_lines xs → new ≡ mid ++ shown_lines ys
+    → new ≡ old ++ shown_lines (xs ++ ys)
+lines_then old xs ys p q =
+    q ∙ (ap (λ z. z ++ shown_lines ys) p
+    ∙ (append_assoc old (shown_lines xs) (shown_lines ys) ∙ ap (λ z. old ++ z) (sym (shown-append xs ys))))
 
--- the writer failed in the first of them
-pub lines_stop : {E : Type 0} {s t : Output} {e : E} (r : Result Unit E) (xs ys : List Text) → Puts s t (Err e) (shown_lines xs) → IsErr r
-    → Puts s t r (shown_lines (xs ++ ys))
-lines_stop r xs ys p h = puts_same (sym (shown-append xs ys)) (puts_stops r (puts_before (shown_lines ys) p refl) h)
+-- ---- lines that are shown one after the other
 
--- what was left is written at last
-pub left_last : {E : Type 0} {s t u : Output} {whole rest : List ℕ} (r : Result Unit E) → Left s t whole rest → Puts t u r rest → Puts s u r whole
-left_last {E} {s} {t} {u} {whole} {rest} (Ok v) p q =
-    let P : List ℕ → Type 0 = λ z. Takes s u z in
-    record { ok = subst P (sym p.is) (takes_more p.takes q.ok); err = tt }
-left_last {E} {s} {t} {u} {whole} {rest} (Err e) p q =
-    let P : List ℕ → Type 0 = λ z. Breaks s u z in
-    record { ok = tt; err = subst P (sym p.is) (takes_breaks p.takes q.err) }
+-- of the lines some were offered, and the rest is left
+pub record Left (old new : List ℕ) (whole rest : List Text) : Type 0 where
+  pub is : new ++ shown_lines rest ≡ old ++ shown_lines whole
+
+-- none was offered yet
+pub left_whole : {whole rest : List Text} (old : List ℕ) → whole ≡ rest → Left old old whole rest
+left_whole old e = record { is = ap (λ z. old ++ shown_lines z) (sym e) }
+
+-- some more were offered
+pub left_less : {s t u : List ℕ} {whole rest behind : List Text} (part : List Text) → Left s t whole rest → rest ≡ part ++ behind
+    → u ≡ t ++ shown_lines part → Left s u whole behind
+left_less {t = t} {behind = behind} part p e q = record {
+  is = ap (λ z. z ++ shown_lines behind) q
+      ∙ (append_assoc t (shown_lines part) (shown_lines behind)
+      ∙ (ap (λ z. t ++ z) (sym (shown-append part behind) ∙ ap shown_lines (sym e)) ∙ p.is));
+}
+
+-- the last of them were, or none is left
+pub left_last : {s t u : List ℕ} {whole rest : List Text} → Left s t whole rest → u ≡ t ++ shown_lines rest → u ≡ s ++ shown_lines whole
+left_last p q = q ∙ p.is
+
+pub left_none : {s t : List ℕ} {whole rest : List Text} → Left s t whole rest → rest ≡ [] → t ≡ s ++ shown_lines whole
+left_none {t = t} p e = left_last p (sym (ap (λ z. t ++ shown_lines z) e ∙ append-nil t))

@@ -1,49 +1,31 @@
 use Rattle.rh_drawn.proofs.Common.{◌≡◌, ℕ, ◌+◌, ◌<◌, ◌≤◌, List, ◌++◌, length, drop, map, ap, sym, ◌∙◌, append_assoc, arith, slice_index, enumerate_from}
-use Rattle.rh_drawn.proofs.Common.{flat_map, flat_map-append, drop_all, Panel, fixed_panel, made_panel, shown_lines, left_breaks, left_less, left_whole}
-use Rattle.rh_drawn.proofs.Common.{shown-append, scene_at, panel_part}
+use Rattle.rh_drawn.proofs.Common.{flat_map, flat_map-append, drop_all, Panel, fixed_panel, made_panel, shown_lines, scene_at, panel_part}
 use Rattle.rh_figure.specs.Map.{panel_lines}
 use Rattle.rh_drawn.proofs.PageLemmas.{numbered-next}
-use Rattle.rh_drawn.proofs.Walks.{left_last, puts_same}
+use Rattle.rh_drawn.proofs.Walks.{left_last, left_less, offered_as}
 use Rattle.rh_drawn.proofs.areas.print_area_part.Goals as goal
 
 -- the panels of one area more, and of those behind it
 panels-next : (f : ℕ × ℕ → List Panel) (i : ℕ) (xs : List ℕ) (behind : List Panel) → i < length xs
-    → shown_lines (panel_part (flat_map f (enumerate_from i (drop i xs)) ++ behind))
-    ≡ shown_lines (panel_part (f (i, slice_index xs i))) ++ shown_lines (panel_part (flat_map f (enumerate_from (i + 1) (drop (i + 1) xs)) ++ behind))
+    → panel_part (flat_map f (enumerate_from i (drop i xs)) ++ behind)
+    ≡ panel_part (f (i, slice_index xs i)) ++ panel_part (flat_map f (enumerate_from (i + 1) (drop (i + 1) xs)) ++ behind)
 panels-next f i xs behind low =
     let first = f (i, slice_index xs i) in
     let rest = flat_map f (enumerate_from (i + 1) (drop (i + 1) xs)) in
-    ap (λ ys. shown_lines (panel_part (flat_map f ys ++ behind))) (numbered-next i xs low)
-    ∙ (ap (λ ys. shown_lines (panel_part ys)) (append_assoc first rest behind)
-    ∙ (ap shown_lines (flat_map-append (λ (p : Panel). panel_lines p.name p) first (rest ++ behind))
-    ∙ shown-append (panel_part first) (panel_part (rest ++ behind))))
-
-panels-end : (f : ℕ × ℕ → List Panel) (i : ℕ) (xs : List ℕ) (behind : List Panel) → length xs ≤ i
-    → shown_lines (panel_part (flat_map f (enumerate_from i (drop i xs)) ++ behind)) ≡ shown_lines (panel_part behind)
-panels-end f i xs behind past = ap (λ ys. shown_lines (panel_part (flat_map f (enumerate_from i ys) ++ behind))) (drop_all i xs past)
-
-pub loop-number-init : goal.loop-number-init
-loop-number-init g c = left_whole _ _
+    ap (λ ys. panel_part (flat_map f ys ++ behind)) (numbered-next i xs low)
+    ∙ (ap panel_part (append_assoc first rest behind) ∙ flat_map-append (λ (p : Panel). panel_lines p.name p) first (rest ++ behind))
 
 pub loop-number-preserved : goal.loop-number-preserved
 loop-number-preserved g c =
     let d = g.S.Sight.desk c.args.sight.now in
     let x = scene_at d c.args.step.now in
     let low : c.loop-number.number < length d.areas = omega (arith, c.spelled.ensures.areas.six) in
-    left_less c.loop-number.invariant (panels-next (fixed_panel x) c.loop-number.number d.areas (map (made_panel x) d.made) low) c.in_ok-print_fixed.ensures.ok
-
-pub returns-in_err-print_fixed : goal.returns-in_err-print_fixed
-returns-in_err-print_fixed g c =
-    let d = g.S.Sight.desk c.args.sight.now in
-    let x = scene_at d c.args.step.now in
-    let low : c.loop-number.number < length d.areas = omega (arith, c.spelled.ensures.areas.six) in
-    left_breaks _ _ c.loop-number.invariant (panels-next (fixed_panel x) c.loop-number.number d.areas (map (made_panel x) d.made) low)
-    c.in_err-print_fixed.ensures c.from_residual.ensures.0
+    left_less _ c.loop-number.invariant (panels-next (fixed_panel x) c.loop-number.number d.areas (map (made_panel x) d.made) low) c.print_fixed.ensures
 
 pub returns : goal.returns
 returns g c =
     let d = g.S.Sight.desk c.args.sight.now in
     let x = scene_at d c.args.step.now in
     let past : length d.areas ≤ c.loop-number.number = omega (arith, c.spelled.ensures.areas.six) in
-    left_last _ c.loop-number.invariant (puts_same (sym (panels-end (fixed_panel x) c.loop-number.number d.areas (map (made_panel x) d.made) past))
-    c.print_made.ensures)
+    left_last c.loop-number.invariant (offered_as _ (ap (λ ys. shown_lines (panel_part (flat_map (fixed_panel x) (enumerate_from c.loop-number.number ys)
+    ++ map (made_panel x) d.made))) (sym (drop_all c.loop-number.number d.areas past))) c.print_made.ensures)

@@ -3,7 +3,7 @@ use Rattle.rh_drawn.proofs.Common.{module_pages, fixed_panel, heading_line, Text
 use Rattle.rh_figure.specs.Figure.{area_panel, fixed_note, listed_pages, numbers_text, scrap_text}
 use Rattle.rh_sight.specs.declared.sight.PagesOf.TheVariants as pages
 use Rattle.rh_drawn.proofs.PageLemmas.{owned, owned-few, owned-fixed, seen-fixed}
-use Rattle.rh_drawn.proofs.Walks.{puts_line, puts_same}
+use Rattle.rh_drawn.proofs.Walks.{offered_line, offered_as}
 use Rattle.rh_drawn.proofs.areas.print_fixed.Goals as goal
 
 -- the line of an area that has pages, and isn't the module area
@@ -44,6 +44,6 @@ returns g c =
     let count : c.fixed_pages.result ≡ slice_index d.areas c.args.number =
     c.fixed_pages.ensures ∙ ap (λ b. if b then module_pages d else slice_index d.areas c.args.number) other in
     let some : (slice_index d.areas c.args.number == 0) ≡ false = ap (λ n. n == 0) (sym count) ∙ ne_eqb _ _ c.if-fixed_pages-eq0.false in
-    puts_same (ap shown_lines (sym (fixed-line x c.args.number (slice_index d.areas c.args.number) other some)))
-    (puts_line (fixed-text c.args.number c.fixed_pages.result (slice_index d.areas c.args.number) c.pages_of-pages.result.now _ _ _ (ap length is ∙ long)
+    offered_as _ (ap shown_lines (sym (fixed-line x c.args.number (slice_index d.areas c.args.number) other some)))
+    (offered_line _ (fixed-text c.args.number c.fixed_pages.result (slice_index d.areas c.args.number) c.pages_of-pages.result.now _ _ _ (ap length is ∙ long)
     (sym count) is c.scrap_in.ensures) c.print_fixed_area.ensures)

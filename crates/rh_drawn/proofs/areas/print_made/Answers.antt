@@ -1,9 +1,9 @@
-use Rattle.rh_drawn.proofs.Common.{◌≡◌, ℕ, ◌<◌, List, [], ◌∷◌, length, map, ap, refl, ◌∙◌, arith, slice_get_within, Made, made_panel, heading_line, area_name}
-use Rattle.rh_drawn.proofs.Common.{AreaOf, left_breaks, left_less, left_none, scene_at, panel_part}
+use Rattle.rh_drawn.proofs.Common.{◌≡◌, ℕ, ◌<◌, List, [], ◌∷◌, length, map, ap, ◌∙◌, arith, slice_get_within, Made, made_panel, heading_line, area_name}
+use Rattle.rh_drawn.proofs.Common.{AreaOf, rest-none, rest-some, scene_at, panel_part}
 use Rattle.rh_figure.specs.Figure.{listed_pages, made_note}
 use Rattle.rh_sight.specs.declared.sight.PagesOf.TheVariants as pages
 use Rattle.rh_drawn.proofs.PageLemmas.{made-above, owned, owned-few, owned-made, seen-made}
-use Rattle.rh_drawn.proofs.Walks.{puts_line, walk-none, walk-some}
+use Rattle.rh_drawn.proofs.Walks.{left_less, left_none, offered_line}
 use Rattle.rh_drawn.proofs.areas.print_made.Goals as goal
 
 made-text : (number most n : ℕ) (found kept : List ℕ) → length found ≡ n → found ≡ kept
@@ -43,30 +43,12 @@ areas-preserved g c =
     let is = owned c.spelled.ensures c.args.step.now.pages.now c.requires.shared (pages.Made c.areas.i) (AreaOf c.in-Some.area.number)
     c.pages_of-pages.result.now seen c.pages_of-pages.ensures in
     let long = owned-made c.spelled.ensures c.args.step.now.pages.now c.requires.shared c.areas.i _ c.in-Some.ensures.some in
-    left_less c.areas.invariant (walk-some (λ (ms : List Made). panel_part (map (made_panel x) ms)) (λ (m : Made). panel_part (made_panel x m ∷ []))
-    (λ m rest. refl) d.made c.areas.i _ c.in-Some.ensures.some)
-    (puts_line (made-text c.in-Some.area.number c.in-Some.area.most c.in-Some.area.pages c.pages_of-pages.result.now _ (ap length is ∙ long) is)
-    c.in_ok-print_made_area.ensures).ok
-
-pub returns-in_err-print_made_area : goal.returns-in_err-print_made_area
-returns-in_err-print_made_area g c =
-    let d = g.S.Sight.desk c.args.sight.now in
-    let x = scene_at d c.args.step.now in
-    let seen = seen-made c.spelled.ensures c.areas.i _ c.in-Some.ensures.some in
-    let is = owned c.spelled.ensures c.args.step.now.pages.now c.requires.shared (pages.Made c.areas.i) (AreaOf c.in-Some.area.number)
-    c.pages_of-pages.result.now seen c.pages_of-pages.ensures in
-    let long = owned-made c.spelled.ensures c.args.step.now.pages.now c.requires.shared c.areas.i _ c.in-Some.ensures.some in
-    left_breaks _ _ c.areas.invariant (walk-some (λ (ms : List Made). panel_part (map (made_panel x) ms)) (λ (m : Made). panel_part (made_panel x m ∷ []))
-    (λ m rest. refl) d.made c.areas.i _ c.in-Some.ensures.some)
-    (puts_line (made-text c.in-Some.area.number c.in-Some.area.most c.in-Some.area.pages c.pages_of-pages.result.now _ (ap length is ∙ long) is)
-    c.in_err-print_made_area.ensures) c.from_residual.ensures.0
+    left_less _ c.areas.invariant (ap (λ (ms : List Made). panel_part (map (made_panel x) ms)) (rest-some d.made c.areas.i _ c.in-Some.ensures.some))
+    (offered_line _ (made-text c.in-Some.area.number c.in-Some.area.most c.in-Some.area.pages c.pages_of-pages.result.now _ (ap length is ∙ long) is)
+    c.print_made_area.ensures)
 
 pub returns : goal.returns
 returns g c =
     let d = g.S.Sight.desk c.args.sight.now in
     let x = scene_at d c.args.step.now in
-    record {
-      ok = left_none c.areas.invariant (walk-none (λ (ms : List Made). panel_part (map (made_panel x) ms)) refl d.made c.areas.i
-          c.in_default.ensures.none);
-      err = tt;
-    }
+    left_none c.areas.invariant (ap (λ (ms : List Made). panel_part (map (made_panel x) ms)) (rest-none d.made c.areas.i c.in_default.ensures.none))

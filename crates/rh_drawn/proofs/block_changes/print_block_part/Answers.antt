@@ -2,7 +2,7 @@ use Rattle.rh_drawn.proofs.Common.{◌≡◌, ◌++◌, List, Some, map, ap, ap�
 use Rattle.rh_drawn.proofs.Common.{block_change, gone_line, has_anchor, item_with_anchor, slide_of, Text, Scene, shown_lines, scene_at, block_part, indented}
 use Rattle.rh_drawn.proofs.Common.{slide_part}
 use Rattle.rh_figure.specs.Changes.{block_changes, blocks_now, slide_change}
-use Rattle.rh_drawn.proofs.Walks.{indented-append, lines_stop, lines_then, puts_same}
+use Rattle.rh_drawn.proofs.Walks.{indented-append, lines_then, offered_as}
 use Rattle.rh_drawn.proofs.block_changes.print_block_part.Goals as goal
 
 abbrev gone : List BlockItem → List BlockItem → List Text
@@ -27,31 +27,6 @@ block-parts x t e =
     (filter (λ (b : BlockItem). not (has_anchor b.anchor now)) before)) (flat_map (λ (b : BlockItem). block_change b (item_with_anchor b.anchor before)) now))
     ∙ append_assoc (gone before now) (changed before now) (slid before now))
 
-pub returns-in_err-print_gone : goal.returns-in_err-print_gone
-returns-in_err-print_gone g c =
-    let x = scene_at (g.S.Sight.desk c.args.sight.now) c.args.step.now in
-    let r = c.in-Some.ensures.some in
-    let at : task_at x.before.handle x.desk ≡ Some r.0 = ap (λ h. task_at h (g.S.Sight.desk c.args.sight.now)) (sym c.handle.ensures) ∙ r.2 in
-    let now = block_items r.0.slot in
-    let before = x.before.blocks in
-    puts_same (ap shown_lines (sym (block-parts x r.0 at)))
-    (lines_stop _ (gone before now) (changed before now ++ slid before now)
-    (puts_same (ap₂ (λ b n. shown_lines (gone b n)) c.blocks-3.ensures (c.deref.ensures.0 ∙ c.blocks-2.ensures r.0 r.1)) c.in_err-print_gone.ensures)
-    c.from_residual.ensures.0)
-
-pub returns-in_err-print_now : goal.returns-in_err-print_now
-returns-in_err-print_now g c =
-    let x = scene_at (g.S.Sight.desk c.args.sight.now) c.args.step.now in
-    let r = c.in-Some.ensures.some in
-    let at : task_at x.before.handle x.desk ≡ Some r.0 = ap (λ h. task_at h (g.S.Sight.desk c.args.sight.now)) (sym c.handle.ensures) ∙ r.2 in
-    let now = block_items r.0.slot in
-    let before = x.before.blocks in
-    puts_same (ap shown_lines (sym (block-parts x r.0 at)))
-    (lines_then (gone before now) (changed before now ++ slid before now)
-    (puts_same (ap₂ (λ b n. shown_lines (gone b n)) c.blocks-3.ensures (c.deref.ensures.0 ∙ c.blocks-2.ensures r.0 r.1)) c.in_ok-print_gone.ensures)
-    (lines_stop _ (changed before now) (slid before now) (puts_same (ap (λ n. shown_lines (changed before n))
-    (c.deref-2.ensures.0 ∙ c.blocks-2.ensures r.0 r.1)) c.in_err-print_now.ensures) c.from_residual-in_err-print_now.ensures.0))
-
 pub returns : goal.returns
 returns g c =
     let x = scene_at (g.S.Sight.desk c.args.sight.now) c.args.step.now in
@@ -59,9 +34,9 @@ returns g c =
     let at : task_at x.before.handle x.desk ≡ Some r.0 = ap (λ h. task_at h (g.S.Sight.desk c.args.sight.now)) (sym c.handle.ensures) ∙ r.2 in
     let now = block_items r.0.slot in
     let before = x.before.blocks in
-    puts_same (ap shown_lines (sym (block-parts x r.0 at)))
-    (lines_then (gone before now) (changed before now ++ slid before now)
-    (puts_same (ap₂ (λ b n. shown_lines (gone b n)) c.blocks-3.ensures (c.deref.ensures.0 ∙ c.blocks-2.ensures r.0 r.1)) c.in_ok-print_gone.ensures)
-    (lines_then (changed before now) (slid before now) (puts_same (ap (λ n. shown_lines (changed before n))
-    (c.deref-2.ensures.0 ∙ c.blocks-2.ensures r.0 r.1)) c.in_ok-print_now.ensures) (puts_same (ap (λ n. shown_lines (slid before n))
+    offered_as _ (ap shown_lines (sym (block-parts x r.0 at)))
+    (lines_then _ (gone before now) (changed before now ++ slid before now)
+    (offered_as _ (ap₂ (λ b n. shown_lines (gone b n)) c.blocks-3.ensures (c.deref.ensures.0 ∙ c.blocks-2.ensures r.0 r.1)) c.print_gone.ensures)
+    (lines_then _ (changed before now) (slid before now) (offered_as _ (ap (λ n. shown_lines (changed before n))
+    (c.deref-2.ensures.0 ∙ c.blocks-2.ensures r.0 r.1)) c.print_now.ensures) (offered_as _ (ap (λ n. shown_lines (slid before n))
     (c.deref-3.ensures.0 ∙ c.blocks-2.ensures r.0 r.1)) c.print_slides.ensures)))

@@ -1,6 +1,6 @@
-use Rattle.rh_drawn.proofs.Common.{◌≡◌, ◌++◌, Bool, true, false, List, [], ◌∷◌, map, refl, filter, if◌then◌else◌, not, BlockItem, gone_line, has_anchor, Text}
-use Rattle.rh_drawn.proofs.Common.{left_breaks, left_less, left_none, indented}
-use Rattle.rh_drawn.proofs.Walks.{walk-at, walk-end}
+use Rattle.rh_drawn.proofs.Common.{◌≡◌, ◌++◌, Bool, true, false, List, [], ◌∷◌, map, ap, refl, ◌∙◌, filter, if◌then◌else◌, not, BlockItem, gone_line, has_anchor, Text}
+use Rattle.rh_drawn.proofs.Common.{drop_all, indented}
+use Rattle.rh_drawn.proofs.Walks.{left_less, left_none, rest-at}
 use Rattle.rh_drawn.proofs.block_changes.print_gone.Goals as goal
 
 abbrev lines_of : List BlockItem → List BlockItem → List Text
@@ -19,19 +19,9 @@ each now b rest = go (has_anchor b.anchor now) refl
 pub loop-block-preserved : goal.loop-block-preserved
 loop-block-preserved g c =
     let now = c.args.now.now in
-    left_less c.loop-block.invariant (walk-at (lines_of now) (line_of now) (each now) c.args.before.now c.loop-block.block-index c.block-item.result
-    c.loop-block-test.true c.block-item.is) c.in_ok-print_if_gone.ensures.ok
-
-pub returns-in_err-print_if_gone : goal.returns-in_err-print_if_gone
-returns-in_err-print_if_gone g c =
-    let now = c.args.now.now in
-    left_breaks _ _ c.loop-block.invariant (walk-at (lines_of now) (line_of now) (each now) c.args.before.now c.loop-block.block-index c.block-item.result
-    c.loop-block-test.true c.block-item.is) c.in_err-print_if_gone.ensures c.from_residual.ensures.0
+    let here = rest-at c.args.before.now c.loop-block.block-index c.block-item.result c.loop-block-test.true c.block-item.is in
+    left_less _ c.loop-block.invariant (ap (lines_of now) here ∙ each now c.block-item.result _) c.print_if_gone.ensures
 
 pub returns : goal.returns
 returns g c =
-    record {
-      ok = left_none c.loop-block.invariant (walk-end (lines_of c.args.now.now) refl c.args.before.now c.loop-block.block-index
-          c.loop-block-test.false);
-      err = tt;
-    }
+    left_none c.loop-block.invariant (ap (lines_of c.args.now.now) (drop_all c.loop-block.block-index c.args.before.now c.loop-block-test.false))

@@ -1,5 +1,5 @@
-use Rattle.rh_drawn.proofs.Common.{List, refl, flat_map, BlockItem, block_change, item_with_anchor, Text, left_breaks, left_less, left_none, indented}
-use Rattle.rh_drawn.proofs.Walks.{indented-each, walk-at, walk-end}
+use Rattle.rh_drawn.proofs.Common.{List, ap, ◌∙◌, drop_all, flat_map, BlockItem, block_change, item_with_anchor, Text, indented}
+use Rattle.rh_drawn.proofs.Walks.{indented-each, left_less, left_none, rest-at}
 use Rattle.rh_drawn.proofs.block_changes.print_now.Goals as goal
 
 abbrev change : List BlockItem → BlockItem → List Text
@@ -8,19 +8,10 @@ change before b = block_change b (item_with_anchor b.anchor before)
 pub loop-block-preserved : goal.loop-block-preserved
 loop-block-preserved g c =
     let of = change c.args.kept.now.blocks in
-    left_less c.loop-block.invariant (walk-at (λ bs. indented (flat_map of bs)) (λ b. indented (of b)) (indented-each of) c.args.blocks.now
-    c.loop-block.block-index c.block-item.result c.loop-block-test.true c.block-item.is) c.in_ok-print_change.ensures.ok
-
-pub returns-in_err-print_change : goal.returns-in_err-print_change
-returns-in_err-print_change g c =
-    let of = change c.args.kept.now.blocks in
-    left_breaks _ _ c.loop-block.invariant (walk-at (λ bs. indented (flat_map of bs)) (λ b. indented (of b)) (indented-each of) c.args.blocks.now
-    c.loop-block.block-index c.block-item.result c.loop-block-test.true c.block-item.is) c.in_err-print_change.ensures c.from_residual.ensures.0
+    let here = rest-at c.args.blocks.now c.loop-block.block-index c.block-item.result c.loop-block-test.true c.block-item.is in
+    left_less _ c.loop-block.invariant (ap (λ bs. indented (flat_map of bs)) here ∙ indented-each of c.block-item.result _) c.print_change.ensures
 
 pub returns : goal.returns
 returns g c =
-    record {
-      ok = left_none c.loop-block.invariant (walk-end (λ bs. indented (flat_map (change c.args.kept.now.blocks) bs)) refl c.args.blocks.now
-          c.loop-block.block-index c.loop-block-test.false);
-      err = tt;
-    }
+    left_none c.loop-block.invariant (ap (λ bs. indented (flat_map (change c.args.kept.now.blocks) bs))
+    (drop_all c.loop-block.block-index c.args.blocks.now c.loop-block-test.false))

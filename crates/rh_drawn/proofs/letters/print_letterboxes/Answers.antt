@@ -1,17 +1,11 @@
-use Rattle.rh_drawn.proofs.Common.{◌<◌, List, length, map, ap₂, subst, refl, arith, flat_map, slice_get_within, letterbox_line, Text, shown_lines, Left}
-use Rattle.rh_drawn.proofs.Common.{left_breaks, left_less, left_none, left_whole, scene_at, letterboxes_in}
-use Rattle.rh_figure.specs.Figure.{letterboxes}
+use Rattle.rh_drawn.proofs.Common.{◌<◌, length, map, ap, ap₂, arith, flat_map, rest-none, rest-some, slice_get_within, letterbox_line, shown_lines, letterboxes_in}
 use Rattle.rh_drawn.proofs.PostLemmas.{boxes, boxes-are}
-use Rattle.rh_drawn.proofs.Walks.{puts_same, walk-none, walk-some}
+use Rattle.rh_drawn.proofs.Walks.{left_less, left_none, left_whole, offered_as}
 use Rattle.rh_drawn.proofs.letters.print_letterboxes.Goals as goal
 
 pub tasks-init : goal.tasks-init
 tasks-init g c =
-    let d = g.S.Sight.desk c.args.sight.now in
-    let s = g.W.Sink.output c.args.writer.now in
-    let whole = shown_lines (map letterbox_line (letterboxes (scene_at d c.args.step.now))) in
-    let P : List Text → Type 0 = λ z. Left s s whole (shown_lines z) in
-    subst P (boxes-are c.spelled.ensures c.args.step.now.messages.now c.requires.step.messages d.tasks) (left_whole s whole)
+    left_whole _ (boxes-are c.spelled.ensures c.args.step.now.messages.now c.requires.step.messages (g.S.Sight.desk c.args.sight.now).tasks)
 
 pub tasks-preserved : goal.tasks-preserved
 tasks-preserved g c =
@@ -19,25 +13,12 @@ tasks-preserved g c =
     let ms = c.args.step.now.messages.now in
     let s = c.in-Some.ensures.some in
     let e = ap₂ (λ n h. shown_lines (map letterbox_line (letterboxes_in n h ms))) s.2.name s.2.handle in
-    left_less c.tasks.invariant (walk-some (flat_map (boxes ms)) (boxes ms) (λ t rest. refl) d.tasks c.tasks.i s.0 s.1)
-    (puts_same e c.in_ok-print_letters.ensures).ok
-
-pub returns-in_err-print_letters : goal.returns-in_err-print_letters
-returns-in_err-print_letters g c =
-    let d = g.S.Sight.desk c.args.sight.now in
-    let ms = c.args.step.now.messages.now in
-    let s = c.in-Some.ensures.some in
-    let e = ap₂ (λ n h. shown_lines (map letterbox_line (letterboxes_in n h ms))) s.2.name s.2.handle in
-    left_breaks _ _ c.tasks.invariant (walk-some (flat_map (boxes ms)) (boxes ms) (λ t rest. refl) d.tasks c.tasks.i s.0 s.1)
-    (puts_same e c.in_err-print_letters.ensures) c.from_residual.ensures.0
+    left_less _ c.tasks.invariant (ap (flat_map (boxes ms)) (rest-some d.tasks c.tasks.i s.0 s.1)) (offered_as _ e c.print_letters.ensures)
 
 pub returns : goal.returns
 returns g c =
     let d = g.S.Sight.desk c.args.sight.now in
-    record {
-      ok = left_none c.tasks.invariant (walk-none (flat_map (boxes c.args.step.now.messages.now)) refl d.tasks c.tasks.i c.in_default.ensures.none);
-      err = tt;
-    }
+    left_none c.tasks.invariant (ap (flat_map (boxes c.args.step.now.messages.now)) (rest-none d.tasks c.tasks.i c.in_default.ensures.none))
 
 pub overflow_add-i : goal.overflow_add-i
 overflow_add-i g c =

@@ -2,7 +2,7 @@ use Rattle.rh_drawn.proofs.Common.{◌<◌, ◌≤◌, ◌-◌, ◌++◌, length
 use Rattle.rh_drawn.proofs.Common.{AreaOf, count_of, shown_lines, scene_at}
 use Rattle.std.proofs.lemmas.List.{take_rest}
 use Rattle.rh_drawn.proofs.PageLemmas.{owned, owned-few, takes-some}
-use Rattle.rh_drawn.proofs.Walks.{puts_line, puts_same}
+use Rattle.rh_drawn.proofs.Walks.{offered_line, offered_as}
 use Rattle.rh_drawn.proofs.page_changes.print_area_part.Goals as goal
 
 pub slice_bounds-print_area_takes-count : goal.slice_bounds-print_area_takes-count
@@ -35,6 +35,6 @@ returns g c =
     let is = owned c.spelled.ensures c.args.step.now.pages.now c.requires.step.shared c.args.owner (AreaOf c.args.number) found c.requires.owner
     c.pages_of-pages.ensures in
     let low : count_of (AreaOf c.args.number) x.before.holdings < c.args.has = omega (arith, c.count-had.ensures, c.if-had-has.false) in
-    puts_same (ap shown_lines (sym (takes-some x (AreaOf c.args.number) c.args.has low)))
-    (puts_line (ap (λ z. codes "  " ++ taken_line (area_name c.args.number) z)
+    offered_as _ (ap shown_lines (sym (takes-some x (AreaOf c.args.number) c.args.has low)))
+    (offered_line _ (ap (λ z. codes "  " ++ taken_line (area_name c.args.number) z)
     (take_rest found c.count-had.result ∙ ap₂ (λ n ns. drop n ns) c.count-had.ensures is)) c.print_area_takes.ensures)

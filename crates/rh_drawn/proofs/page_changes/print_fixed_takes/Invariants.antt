@@ -1,4 +1,5 @@
-use Rattle.rh_drawn.proofs.Common.{drop, map, enumerate_from, flat_map, fixed_holding, shown_lines, Left, scene_at, takes_part}
+use Rattle.rh_drawn.proofs.Common.{drop, map, enumerate_from, flat_map, fixed_holding, scene_at, takes_part}
+use Rattle.rh_drawn.proofs.Walks.{Left}
 use Rattle.rh_drawn.proofs.page_changes.print_fixed_takes.Given as goal
 
 -- the areas from the number on are left
@@ -6,6 +7,5 @@ abbrev pub invariant-loop-number : goal.invariant-loop-number
 invariant-loop-number g l =
     let d = g.S.Sight.desk l.sight in
     let x = scene_at d l.step in
-    Left (g.W.Sink.output l.initial.writer) (g.W.Sink.output l.writer) (shown_lines
-    (flat_map (takes_part x) (map (fixed_holding d) (enumerate_from 0 d.areas))))
-    (shown_lines (flat_map (takes_part x) (map (fixed_holding d) (enumerate_from l.number (drop l.number d.areas)))))
+    Left (g.P.Pen.offered l.initial.pen) (g.P.Pen.offered l.pen) (flat_map (takes_part x) (map (fixed_holding d) (enumerate_from 0 d.areas)))
+    (flat_map (takes_part x) (map (fixed_holding d) (enumerate_from l.number (drop l.number d.areas))))

@@ -1,8 +1,8 @@
-use Rattle.rh_drawn.proofs.Common.{◌<◌, List, length, ap, map, refl, arith, flat_map, option_map, slice_get_within, Made, AreaOf, left_breaks, left_less}
-use Rattle.rh_drawn.proofs.Common.{left_none, made_holding, scene_at, takes_part}
+use Rattle.rh_drawn.proofs.Common.{◌<◌, length, ap, map, refl, arith, flat_map, option_map, rest-none, rest-some, slice_get_within, Made, AreaOf}
+use Rattle.rh_drawn.proofs.Common.{made_holding, scene_at, takes_part}
 use Rattle.rh_sight.specs.declared.sight.PagesOf.TheVariants as pages
 use Rattle.rh_sight.proofs.Holders.{count-made}
-use Rattle.rh_drawn.proofs.Walks.{walk-none, walk-some}
+use Rattle.rh_drawn.proofs.Walks.{left_less, left_none}
 use Rattle.rh_drawn.proofs.page_changes.print_made_takes.Goals as goal
 
 pub print_area_part-requires-clause-owner : goal.print_area_part-requires-clause-owner
@@ -17,27 +17,14 @@ pub areas-preserved : goal.areas-preserved
 areas-preserved g c =
     let d = g.S.Sight.desk c.args.sight.now in
     let x = scene_at d c.args.step.now in
-    left_less c.areas.invariant (walk-some (λ (ms : List Made). flat_map (takes_part x) (map made_holding ms)) (λ (m : Made). takes_part x (made_holding m))
-    (λ m rest. refl) d.made c.areas.i _ c.in-Some.ensures.some)
-    c.in_ok-print_area_part.ensures.ok
-
-pub returns-in_err-print_area_part : goal.returns-in_err-print_area_part
-returns-in_err-print_area_part g c =
-    let d = g.S.Sight.desk c.args.sight.now in
-    let x = scene_at d c.args.step.now in
-    left_breaks _ _ c.areas.invariant (walk-some (λ (ms : List Made). flat_map (takes_part x) (map made_holding ms))
-    (λ (m : Made). takes_part x (made_holding m)) (λ m rest. refl) d.made c.areas.i _ c.in-Some.ensures.some)
-    c.in_err-print_area_part.ensures c.from_residual.ensures.0
+    left_less _ c.areas.invariant (ap (λ ms. flat_map (takes_part x) (map made_holding ms)) (rest-some d.made c.areas.i _ c.in-Some.ensures.some))
+    c.print_area_part.ensures
 
 pub returns : goal.returns
 returns g c =
     let d = g.S.Sight.desk c.args.sight.now in
     let x = scene_at d c.args.step.now in
-    record {
-      ok = left_none c.areas.invariant (walk-none (λ (ms : List Made). flat_map (takes_part x) (map made_holding ms)) refl d.made c.areas.i
-          c.in_default.ensures.none);
-      err = tt;
-    }
+    left_none c.areas.invariant (ap (λ ms. flat_map (takes_part x) (map made_holding ms)) (rest-none d.made c.areas.i c.in_default.ensures.none))
 
 pub overflow_add-i : goal.overflow_add-i
 overflow_add-i g c =

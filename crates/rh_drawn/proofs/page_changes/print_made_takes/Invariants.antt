@@ -1,12 +1,13 @@
-use Rattle.rh_drawn.proofs.Common.{◌-◌, length, drop, map, flat_map, takes_part, made_holding, scene_at, shown_lines, Left}
+use Rattle.rh_drawn.proofs.Common.{◌-◌, length, drop, map, flat_map, takes_part, made_holding, scene_at}
+use Rattle.rh_drawn.proofs.Walks.{Left}
 use Rattle.rh_drawn.proofs.page_changes.print_made_takes.Given as goal
 
 -- the areas from the place on are left
 abbrev pub invariant-areas : goal.invariant-areas
 invariant-areas g l =
     let d = g.S.Sight.desk l.sight in
-    Left (g.W.Sink.output l.initial.writer) (g.W.Sink.output l.writer) (shown_lines (flat_map (takes_part (scene_at d l.step)) (map made_holding d.made)))
-    (shown_lines (flat_map (takes_part (scene_at d l.step)) (map made_holding (drop l.i d.made))))
+    Left (g.P.Pen.offered l.initial.pen) (g.P.Pen.offered l.pen) (flat_map (takes_part (scene_at d l.step)) (map made_holding d.made))
+    (flat_map (takes_part (scene_at d l.step)) (map made_holding (drop l.i d.made)))
 
 abbrev pub decreases-areas : goal.decreases-areas
 decreases-areas g l = length (g.S.Sight.desk l.sight).made - l.i

@@ -3,7 +3,7 @@ use Rattle.rh_drawn.proofs.Common.{Desk, Made, Task, task_pages, Text, Scene, Ar
 use Rattle.rh_drawn.proofs.Common.{slot_holding, scene_at, indented, page_part, takes_part}
 use Rattle.rh_figure.specs.Changes.{freed_pages, freed_text, takes_text}
 use Rattle.rh_drawn.proofs.TransferLemmas.{map-flat}
-use Rattle.rh_drawn.proofs.Walks.{indented-append, lines_stop, lines_then, puts_same}
+use Rattle.rh_drawn.proofs.Walks.{indented-append, lines_then, offered_as}
 use Rattle.rh_drawn.proofs.page_changes.print_page_part.Goals as goal
 
 abbrev fixed : Scene → Desk → List Text
@@ -42,35 +42,11 @@ page-parts x =
     ∙ (append_assoc (fixed x x.desk) (made x x.desk ++ slots x x.desk) (freed x)
     ∙ ap (λ z. fixed x x.desk ++ z) (append_assoc (made x x.desk) (slots x x.desk) (freed x))))
 
-pub returns-in_err-print_fixed_takes : goal.returns-in_err-print_fixed_takes
-returns-in_err-print_fixed_takes g c =
-    let x = scene_at (g.S.Sight.desk c.args.sight.now) c.args.step.now in
-    let d = g.S.Sight.desk c.args.sight.now in
-    puts_same (ap shown_lines (sym (page-parts x)))
-    (lines_stop _ (fixed x d) (made x d ++ (slots x d ++ freed x)) c.in_err-print_fixed_takes.ensures c.from_residual.ensures.0)
-
-pub returns-in_err-print_made_takes : goal.returns-in_err-print_made_takes
-returns-in_err-print_made_takes g c =
-    let x = scene_at (g.S.Sight.desk c.args.sight.now) c.args.step.now in
-    let d = g.S.Sight.desk c.args.sight.now in
-    puts_same (ap shown_lines (sym (page-parts x)))
-    (lines_then (fixed x d) (made x d ++ (slots x d ++ freed x)) c.in_ok-print_fixed_takes.ensures
-    (lines_stop _ (made x d) (slots x d ++ freed x) c.in_err-print_made_takes.ensures c.from_residual-in_err-print_made_takes.ensures.0))
-
-pub returns-in_err-print_slots_take : goal.returns-in_err-print_slots_take
-returns-in_err-print_slots_take g c =
-    let x = scene_at (g.S.Sight.desk c.args.sight.now) c.args.step.now in
-    let d = g.S.Sight.desk c.args.sight.now in
-    puts_same (ap shown_lines (sym (page-parts x)))
-    (lines_then (fixed x d) (made x d ++ (slots x d ++ freed x)) c.in_ok-print_fixed_takes.ensures
-    (lines_then (made x d) (slots x d ++ freed x) c.in_ok-print_made_takes.ensures
-    (lines_stop _ (slots x d) (freed x) c.in_err-print_slots_take.ensures c.from_residual-in_err-print_slots_take.ensures.0)))
-
 pub returns : goal.returns
 returns g c =
     let x = scene_at (g.S.Sight.desk c.args.sight.now) c.args.step.now in
     let d = g.S.Sight.desk c.args.sight.now in
-    puts_same (ap shown_lines (sym (page-parts x)))
-    (lines_then (fixed x d) (made x d ++ (slots x d ++ freed x)) c.in_ok-print_fixed_takes.ensures
-    (lines_then (made x d) (slots x d ++ freed x) c.in_ok-print_made_takes.ensures
-    (lines_then (slots x d) (freed x) c.in_ok-print_slots_take.ensures c.print_freed_part.ensures)))
+    offered_as _ (ap shown_lines (sym (page-parts x)))
+    (lines_then _ (fixed x d) (made x d ++ (slots x d ++ freed x)) c.print_fixed_takes.ensures
+    (lines_then _ (made x d) (slots x d ++ freed x) c.print_made_takes.ensures
+    (lines_then _ (slots x d) (freed x) c.print_slots_take.ensures c.print_freed_part.ensures)))

@@ -5,7 +5,7 @@ use Rattle.rh_figure.specs.Phrases.{name_or}
 use Rattle.rh_sight.specs.declared.sight.PagesOf.TheVariants as pages
 use Rattle.rh_drawn.proofs.DrawingLemmas.{seen-same, task-stands}
 use Rattle.rh_drawn.proofs.PageLemmas.{owned, owned-few, owned-slot, seen-slot, takes-some}
-use Rattle.rh_drawn.proofs.Walks.{puts_line, puts_same}
+use Rattle.rh_drawn.proofs.Walks.{offered_line, offered_as}
 use Rattle.rh_drawn.proofs.page_changes.print_slot_part.Goals as goal
 
 pub slice_bounds-print_slot_takes-count : goal.slice_bounds-print_slot_takes-count
@@ -50,6 +50,6 @@ returns g c = λ t e.
     let low : count_of (SlotOf t.handle) x.before.holdings < task_pages t = omega (arith, had, seen.pages, c.if-had-task.false) in
     let name : c.args.task.now.name.now ≡ name_or t.handle (task_at t.handle d) =
     seen.name ∙ ap (name_or t.handle) (sym (task-stands c.spelled.ensures c.args.i t e)) in
-    puts_same (ap shown_lines (sym (takes-some x (SlotOf t.handle) (task_pages t) low)))
-    (puts_line (ap₂ (λ n z. codes "  " ++ taken_line (codes "Slot " ++ n) z) name (take_rest found c.count-had.result ∙ ap₂ (λ n ns. drop n ns) had is))
+    offered_as _ (ap shown_lines (sym (takes-some x (SlotOf t.handle) (task_pages t) low)))
+    (offered_line _ (ap₂ (λ n z. codes "  " ++ taken_line (codes "Slot " ++ n) z) name (take_rest found c.count-had.result ∙ ap₂ (λ n ns. drop n ns) had is))
     c.print_slot_takes.ensures)

@@ -1,6 +1,5 @@
-use Rattle.rh_drawn.proofs.Common.{◌<◌, List, length, map, refl, arith, flat_map, slice_get_within, Task, left_breaks, left_less, left_none, slot_holding}
-use Rattle.rh_drawn.proofs.Common.{scene_at, takes_part}
-use Rattle.rh_drawn.proofs.Walks.{walk-none, walk-some}
+use Rattle.rh_drawn.proofs.Common.{◌<◌, length, map, ap, arith, flat_map, rest-none, rest-some, slice_get_within, slot_holding, scene_at, takes_part}
+use Rattle.rh_drawn.proofs.Walks.{left_less, left_none}
 use Rattle.rh_drawn.proofs.page_changes.print_slots_take.Goals as goal
 
 pub tasks-preserved : goal.tasks-preserved
@@ -8,28 +7,14 @@ tasks-preserved g c =
     let d = g.S.Sight.desk c.args.sight.now in
     let x = scene_at d c.args.step.now in
     let r = c.in-Some.ensures.some in
-    left_less c.tasks.invariant (walk-some (λ (ts : List Task). flat_map (takes_part x) (map slot_holding ts)) (λ (t : Task). takes_part x (slot_holding t))
-    (λ t rest. refl) d.tasks c.tasks.i r.0 r.1)
-    (c.in_ok-print_slot_part.ensures r.0 r.1).ok
-
-pub returns-in_err-print_slot_part : goal.returns-in_err-print_slot_part
-returns-in_err-print_slot_part g c =
-    let d = g.S.Sight.desk c.args.sight.now in
-    let x = scene_at d c.args.step.now in
-    let r = c.in-Some.ensures.some in
-    left_breaks _ _ c.tasks.invariant (walk-some (λ (ts : List Task). flat_map (takes_part x) (map slot_holding ts))
-    (λ (t : Task). takes_part x (slot_holding t)) (λ t rest. refl) d.tasks c.tasks.i r.0 r.1)
-    (c.in_err-print_slot_part.ensures r.0 r.1) c.from_residual.ensures.0
+    left_less _ c.tasks.invariant (ap (λ ts. flat_map (takes_part x) (map slot_holding ts)) (rest-some d.tasks c.tasks.i r.0 r.1))
+    (c.print_slot_part.ensures r.0 r.1)
 
 pub returns : goal.returns
 returns g c =
     let d = g.S.Sight.desk c.args.sight.now in
     let x = scene_at d c.args.step.now in
-    record {
-      ok = left_none c.tasks.invariant (walk-none (λ (ts : List Task). flat_map (takes_part x) (map slot_holding ts)) refl d.tasks c.tasks.i
-          c.in_default.ensures.none);
-      err = tt;
-    }
+    left_none c.tasks.invariant (ap (λ ts. flat_map (takes_part x) (map slot_holding ts)) (rest-none d.tasks c.tasks.i c.in_default.ensures.none))
 
 pub overflow_add-i : goal.overflow_add-i
 overflow_add-i g c =

@@ -1,12 +1,13 @@
-use Rattle.rh_drawn.proofs.Common.{◌-◌, length, drop, map, flat_map, takes_part, slot_holding, scene_at, shown_lines, Left}
+use Rattle.rh_drawn.proofs.Common.{◌-◌, length, drop, map, flat_map, takes_part, slot_holding, scene_at}
+use Rattle.rh_drawn.proofs.Walks.{Left}
 use Rattle.rh_drawn.proofs.page_changes.print_slots_take.Given as goal
 
 -- the slots from the place on are left
 abbrev pub invariant-tasks : goal.invariant-tasks
 invariant-tasks g l =
     let d = g.S.Sight.desk l.sight in
-    Left (g.W.Sink.output l.initial.writer) (g.W.Sink.output l.writer) (shown_lines (flat_map (takes_part (scene_at d l.step)) (map slot_holding d.tasks)))
-    (shown_lines (flat_map (takes_part (scene_at d l.step)) (map slot_holding (drop l.i d.tasks))))
+    Left (g.P.Pen.offered l.initial.pen) (g.P.Pen.offered l.pen) (flat_map (takes_part (scene_at d l.step)) (map slot_holding d.tasks))
+    (flat_map (takes_part (scene_at d l.step)) (map slot_holding (drop l.i d.tasks)))
 
 abbrev pub decreases-tasks : goal.decreases-tasks
 decreases-tasks g l = length (g.S.Sight.desk l.sight).tasks - l.i

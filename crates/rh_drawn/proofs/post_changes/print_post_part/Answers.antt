@@ -3,7 +3,7 @@ use Rattle.rh_drawn.proofs.Common.{shown_lines, scene_at, indented, post_part}
 use Rattle.rh_figure.specs.Changes.{returns_text, sent_text, taken_text}
 use Rattle.rh_figure.specs.Scene.{waiting}
 use Rattle.rh_sight.specs.Seen.{letter_seen}
-use Rattle.rh_drawn.proofs.Walks.{indented-append, lines_stop, lines_then, puts_none, puts_same}
+use Rattle.rh_drawn.proofs.Walks.{indented-append, lines_then, offered_none, offered_as}
 use Rattle.rh_drawn.proofs.post_changes.print_post_part.Goals as goal
 
 abbrev returned : Scene → List Text
@@ -15,33 +15,18 @@ post-parts x =
     ∙ (ap (λ z. z ++ indented (sent_text x x.marks.sent)) (indented-append (returned x) (taken_text x x.marks.taken))
     ∙ append_assoc (indented (returned x)) (indented (taken_text x x.marks.taken)) (indented (sent_text x x.marks.sent)))
 
-pub returns-in_err-print_returned : goal.returns-in_err-print_returned
-returns-in_err-print_returned g c =
-    let x = scene_at (g.S.Sight.desk c.args.sight.now) c.args.step.now in
-    puts_same (ap shown_lines (sym (post-parts x)))
-    (lines_stop _ (indented (returned x)) (indented (taken_text x x.marks.taken) ++ indented (sent_text x x.marks.sent)) c.in_err-print_returned.ensures
-    c.from_residual.ensures.0)
-
-pub returns-in_err-print_taken : goal.returns-in_err-print_taken
-returns-in_err-print_taken g c =
-    let x = scene_at (g.S.Sight.desk c.args.sight.now) c.args.step.now in
-    puts_same (ap shown_lines (sym (post-parts x)))
-    (lines_then (indented (returned x)) (indented (taken_text x x.marks.taken) ++ indented (sent_text x x.marks.sent)) c.in_ok-print_returned.ensures
-    (lines_stop _ (indented (taken_text x x.marks.taken)) (indented (sent_text x x.marks.sent)) c.in_err-print_taken.ensures
-    c.from_residual-in_err-print_taken.ensures.0))
-
 pub returns-in-Some : goal.returns-in-Some
 returns-in-Some g c =
     let x = scene_at (g.S.Sight.desk c.args.sight.now) c.args.step.now in
-    puts_same (ap shown_lines (sym (post-parts x)))
-    (lines_then (indented (returned x)) (indented (taken_text x x.marks.taken) ++ indented (sent_text x x.marks.sent)) c.in_ok-print_returned.ensures
-    (lines_then (indented (taken_text x x.marks.taken)) (indented (sent_text x x.marks.sent)) c.in_ok-print_taken.ensures
-    (puts_same (ap (λ o. shown_lines (indented (sent_text x (option_map letter_seen o)))) (sym c.in-Some.is)) (c.print_sent.ensures x.share x.before x.marks))))
+    offered_as _ (ap shown_lines (sym (post-parts x)))
+    (lines_then _ (indented (returned x)) (indented (taken_text x x.marks.taken) ++ indented (sent_text x x.marks.sent)) c.print_returned.ensures
+    (lines_then _ (indented (taken_text x x.marks.taken)) (indented (sent_text x x.marks.sent)) c.print_taken.ensures
+    (offered_as _ (ap (λ o. shown_lines (indented (sent_text x (option_map letter_seen o)))) (sym c.in-Some.is)) (c.print_sent.ensures x.share x.before x.marks))))
 
 pub returns-in-None : goal.returns-in-None
 returns-in-None g c =
     let x = scene_at (g.S.Sight.desk c.args.sight.now) c.args.step.now in
-    puts_same (ap shown_lines (sym (post-parts x)))
-    (lines_then (indented (returned x)) (indented (taken_text x x.marks.taken) ++ indented (sent_text x x.marks.sent)) c.in_ok-print_returned.ensures
-    (lines_then (indented (taken_text x x.marks.taken)) (indented (sent_text x x.marks.sent)) c.in_ok-print_taken.ensures
-    (puts_same (ap (λ o. shown_lines (indented (sent_text x (option_map letter_seen o)))) (sym c.in-None.is)) (puts_none _))))
+    offered_as _ (ap shown_lines (sym (post-parts x)))
+    (lines_then _ (indented (returned x)) (indented (taken_text x x.marks.taken) ++ indented (sent_text x x.marks.sent)) c.print_returned.ensures
+    (lines_then _ (indented (taken_text x x.marks.taken)) (indented (sent_text x x.marks.sent)) c.print_taken.ensures
+    (offered_as _ (ap (λ o. shown_lines (indented (sent_text x (option_map letter_seen o)))) (sym c.in-None.is)) (offered_none _))))

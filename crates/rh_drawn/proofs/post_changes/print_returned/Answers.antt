@@ -1,10 +1,10 @@
-use Rattle.rh_drawn.proofs.Common.{◌≡◌, ℕ, ◌++◌, Bool, true, false, List, [], ◌∷◌, map, ap, sym, subst, refl, ◌∙◌, append-nil, ◌==◌, ◌&&◌, filter, flat_map}
-use Rattle.rh_drawn.proofs.Common.{flat_map-append, Desk, Parcel, action_of, Text, is_returned, task_name, shown_lines, Left, left_breaks, left_less}
-use Rattle.rh_drawn.proofs.Common.{left_none, left_whole, MessageItem, held_on, message_items, waiting_on, indented}
+use Rattle.rh_drawn.proofs.Common.{◌≡◌, ℕ, ◌++◌, Bool, true, false, List, [], ◌∷◌, map, ap, sym, refl, ◌∙◌, append-nil, drop_all, ◌==◌, ◌&&◌, filter, flat_map}
+use Rattle.rh_drawn.proofs.Common.{flat_map-append, Desk, Parcel, action_of, Text, is_returned, task_name}
+use Rattle.rh_drawn.proofs.Common.{MessageItem, held_on, message_items, waiting_on, indented}
 use Rattle.rh_figure.specs.Changes.{returns_line}
 use Rattle.rh_sight.specs.SightMessages.{seen_item}
 use Rattle.rh_drawn.specs.Inner.ReturnLines.{return_lines}
-use Rattle.rh_drawn.proofs.Walks.{indented-each, walk-at, walk-end}
+use Rattle.rh_drawn.proofs.Walks.{indented-each, left_less, left_none, left_whole, rest-at}
 use Rattle.rh_drawn.proofs.post_changes.print_returned.Goals as goal
 
 abbrev goes_back : ℕ → Parcel → Bool
@@ -40,28 +40,16 @@ pub loop-message-init : goal.loop-message-init
 loop-message-init g c =
     let d = g.S.Sight.desk c.args.sight.now in
     let held = c.args.step.now.kept.now.held in
-    let s = g.W.Sink.output c.args.writer.now in
-    let P : List Text → Type 0 = λ z. Left s s (shown_lines (indented (map (line_of d) (filter (goes_back held) (waiting_on d))))) (shown_lines (indented z)) in
-    subst P (returns-are d held c.args.step.now.messages.now c.requires.messages) (left_whole s _)
+    left_whole _ (ap indented (returns-are d held c.args.step.now.messages.now c.requires.messages))
 
 pub loop-message-preserved : goal.loop-message-preserved
 loop-message-preserved g c =
     let of = return_lines (g.S.Sight.desk c.args.sight.now) c.args.step.now.kept.now.held in
-    left_less c.loop-message.invariant (walk-at (λ ms. indented (flat_map of ms)) (λ m. indented (of m)) (indented-each of) c.args.step.now.messages.now
-    c.loop-message.message-index c.message-item.result c.loop-message-test.true c.message-item.is) c.in_ok-print_return.ensures.ok
-
-pub returns-in_err-print_return : goal.returns-in_err-print_return
-returns-in_err-print_return g c =
-    let of = return_lines (g.S.Sight.desk c.args.sight.now) c.args.step.now.kept.now.held in
-    left_breaks _ _ c.loop-message.invariant (walk-at (λ ms. indented (flat_map of ms)) (λ m. indented (of m)) (indented-each of)
-    c.args.step.now.messages.now c.loop-message.message-index c.message-item.result c.loop-message-test.true
-    c.message-item.is) c.in_err-print_return.ensures c.from_residual.ensures.0
+    let here = rest-at c.args.step.now.messages.now c.loop-message.message-index c.message-item.result c.loop-message-test.true c.message-item.is in
+    left_less _ c.loop-message.invariant (ap (λ ms. indented (flat_map of ms)) here ∙ indented-each of c.message-item.result _) c.print_return.ensures
 
 pub returns : goal.returns
 returns g c =
     let of = return_lines (g.S.Sight.desk c.args.sight.now) c.args.step.now.kept.now.held in
-    record {
-      ok = left_none c.loop-message.invariant (walk-end (λ ms. indented (flat_map of ms)) refl c.args.step.now.messages.now
-          c.loop-message.message-index c.loop-message-test.false);
-      err = tt;
-    }
+    left_none c.loop-message.invariant (ap (λ ms. indented (flat_map of ms))
+    (drop_all c.loop-message.message-index c.args.step.now.messages.now c.loop-message-test.false))

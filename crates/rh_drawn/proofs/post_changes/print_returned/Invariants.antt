@@ -1,4 +1,5 @@
-use Rattle.rh_drawn.proofs.Common.{drop, ◌==◌, ◌&&◌, filter, map, flat_map, Parcel, is_returned, shown_lines, Left, scene_at, indented}
+use Rattle.rh_drawn.proofs.Common.{drop, ◌==◌, ◌&&◌, filter, map, flat_map, Parcel, is_returned, scene_at, indented}
+use Rattle.rh_drawn.proofs.Walks.{Left}
 use Rattle.rh_figure.specs.Changes.{returns_text}
 use Rattle.rh_figure.specs.Scene.{waiting}
 use Rattle.rh_drawn.specs.Inner.ReturnLines.{return_lines}
@@ -9,6 +10,6 @@ abbrev pub invariant-loop-message : goal.invariant-loop-message
 invariant-loop-message g l =
     let d = g.S.Sight.desk l.sight in
     let x = scene_at d l.step in
-    Left (g.W.Sink.output l.initial.writer) (g.W.Sink.output l.writer)
-    (shown_lines (indented (map (returns_text x) (filter (λ (p : Parcel). p.message.my_ref == x.before.held && is_returned p.code) (waiting x)))))
-    (shown_lines (indented (flat_map (return_lines d l.step.kept.now.held) (drop l.message-index l.step.messages.now))))
+    Left (g.P.Pen.offered l.initial.pen) (g.P.Pen.offered l.pen)
+    (indented (map (returns_text x) (filter (λ (p : Parcel). p.message.my_ref == x.before.held && is_returned p.code) (waiting x))))
+    (indented (flat_map (return_lines d l.step.kept.now.held) (drop l.message-index l.step.messages.now)))

@@ -1,8 +1,7 @@
-use Rattle.rh_drawn.proofs.Common.{◌<◌, Bool, List, length, map, ap, ap₂, subst, refl, ◌∙◌, arith, slice_get_within, filter, not, flat_map, list_any, Task}
-use Rattle.rh_drawn.proofs.Common.{in_item, Side, has_id, transfer_line, Text, shown_lines, Left, left_breaks, left_less, left_none, left_whole, comes_alone}
-use Rattle.rh_drawn.proofs.Common.{ins_of, outs_of}
+use Rattle.rh_drawn.proofs.Common.{◌<◌, Bool, List, length, map, ap, ap₂, ◌∙◌, arith, rest-none, rest-some, slice_get_within, filter, not, flat_map, list_any, Task}
+use Rattle.rh_drawn.proofs.Common.{in_item, Side, has_id, transfer_line, Text, shown_lines, comes_alone, outs_of}
 use Rattle.rh_drawn.proofs.TransferLemmas.{filter-flat, ins, map-flat}
-use Rattle.rh_drawn.proofs.Walks.{puts_same, walk-none, walk-some}
+use Rattle.rh_drawn.proofs.Walks.{left_less, left_none, left_whole, offered_as}
 use Rattle.rh_drawn.proofs.transfers.print_ins.Goals as goal
 
 -- whether a side comes in alone
@@ -15,12 +14,10 @@ of_task out t = map transfer_line (map comes_alone (filter (is_alone out) (ins t
 pub tasks-init : goal.tasks-init
 tasks-init g c =
     let d = g.S.Sight.desk c.args.sight.now in
-    let s = g.W.Sink.output c.args.writer.now in
     let out = outs_of d in
-    let P : List Text → Type 0 = λ z. Left s s (shown_lines (map transfer_line (map comes_alone (filter (is_alone out) (ins_of d))))) (shown_lines z) in
-    subst P (ap (λ z. map transfer_line (map comes_alone z)) (filter-flat (is_alone out) ins d.tasks)
+    left_whole _ (ap (λ z. map transfer_line (map comes_alone z)) (filter-flat (is_alone out) ins d.tasks)
     ∙ (ap (map transfer_line) (map-flat comes_alone (λ (t : Task). filter (is_alone out) (ins t)) d.tasks)
-    ∙ map-flat transfer_line (λ (t : Task). map comes_alone (filter (is_alone out) (ins t))) d.tasks)) (left_whole s _)
+    ∙ map-flat transfer_line (λ (t : Task). map comes_alone (filter (is_alone out) (ins t))) d.tasks))
 
 pub overflow_add-i : goal.overflow_add-i
 overflow_add-i g c =
@@ -40,19 +37,9 @@ tasks-preserved g c =
     let of = of_task (outs_of d) in
     let e = ap₂ (λ n rs. shown_lines (map transfer_line (map comes_alone (filter (is_alone (outs_of d)) (map (λ r. (n, in_item r)) rs))))) s.2.name
     s.2.taking in
-    left_less c.tasks.invariant (walk-some (flat_map of) of (λ t rest. refl) d.tasks c.tasks.i s.0 s.1) (puts_same e c.in_ok-print_task_ins.ensures).ok
-
-pub returns-in_err-print_task_ins : goal.returns-in_err-print_task_ins
-returns-in_err-print_task_ins g c =
-    let d = g.S.Sight.desk c.args.sight.now in
-    let s = c.in-Some.ensures.some in
-    let of = of_task (outs_of d) in
-    let e = ap₂ (λ n rs. shown_lines (map transfer_line (map comes_alone (filter (is_alone (outs_of d)) (map (λ r. (n, in_item r)) rs))))) s.2.name
-    s.2.taking in
-    left_breaks _ _ c.tasks.invariant (walk-some (flat_map of) of (λ t rest. refl) d.tasks c.tasks.i s.0 s.1) (puts_same e c.in_err-print_task_ins.ensures)
-    c.from_residual.ensures.0
+    left_less _ c.tasks.invariant (ap (flat_map of) (rest-some d.tasks c.tasks.i s.0 s.1)) (offered_as _ e c.print_task_ins.ensures)
 
 pub returns : goal.returns
 returns g c =
     let d = g.S.Sight.desk c.args.sight.now in
-    record { ok = left_none c.tasks.invariant (walk-none (flat_map (of_task (outs_of d))) refl d.tasks c.tasks.i c.in_default.ensures.none); err = tt }
+    left_none c.tasks.invariant (ap (flat_map (of_task (outs_of d))) (rest-none d.tasks c.tasks.i c.in_default.ensures.none))
