@@ -27,14 +27,3 @@ print_area_takes-requires g c =
     let few = owned-few c.spelled.ensures c.args.step.now.pages.now c.requires.step.shared c.args.owner (AreaOf c.args.number) c.requires.owner
     c.requires.step.all in
     omega (arith, ap length is, length-take (length found - c.count-had.result) (drop c.count-had.result found), length-drop c.count-had.result found)
-
-pub returns : goal.returns
-returns g c =
-    let x = scene_at (g.S.Sight.desk c.args.sight.now) c.args.step.now in
-    let found = c.pages_of-pages.result.now in
-    let is = owned c.spelled.ensures c.args.step.now.pages.now c.requires.step.shared c.args.owner (AreaOf c.args.number) found c.requires.owner
-    c.pages_of-pages.ensures in
-    let low : count_of (AreaOf c.args.number) x.before.holdings < c.args.has = omega (arith, c.count-had.ensures, c.if-had-has.false) in
-    offered_as _ (ap shown_lines (sym (takes-some x (AreaOf c.args.number) c.args.has low)))
-    (offered_line _ (ap (λ z. codes "  " ++ taken_line (area_name c.args.number) z)
-    (take_rest found c.count-had.result ∙ ap₂ (λ n ns. drop n ns) c.count-had.ensures is)) c.print_area_takes.ensures)

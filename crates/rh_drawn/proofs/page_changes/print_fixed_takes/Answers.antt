@@ -13,20 +13,3 @@ pub print_area_part-requires-clause-count : goal.print_area_part-requires-clause
 print_area_part-requires-clause-count g c =
     count-fixed c.spelled.ensures (pages.Fixed c.loop-number.number) (AreaOf c.loop-number.number) c.loop-number.number c.fixed_pages-has.result refl
     (seen-fixed c.spelled.ensures c.loop-number.number c.loop-number-test.true) c.fixed_pages-has.ensures
-
-pub loop-number-preserved : goal.loop-number-preserved
-loop-number-preserved g c =
-    let d = g.S.Sight.desk c.args.sight.now in
-    let x = scene_at d c.args.step.now in
-    let i = c.loop-number.number in
-    let low : i < length d.areas = omega (arith, c.spelled.ensures.areas.six, c.loop-number-test.true) in
-    left_less _ c.loop-number.invariant (ap (λ ys. flat_map (takes_part x) (map (fixed_holding d) ys)) (numbered-next i d.areas low))
-    (offered_as _ (ap (λ k. shown_lines (takes_part x (AreaOf i, k))) c.fixed_pages-has.ensures) c.print_area_part.ensures)
-
-pub returns : goal.returns
-returns g c =
-    let d = g.S.Sight.desk c.args.sight.now in
-    let x = scene_at d c.args.step.now in
-    let past : length d.areas ≤ c.loop-number.number = omega (arith, c.spelled.ensures.areas.six) in
-    left_none c.loop-number.invariant (ap (λ ys. flat_map (takes_part x) (map (fixed_holding d) (enumerate_from c.loop-number.number ys)))
-    (drop_all c.loop-number.number d.areas past))

@@ -22,11 +22,3 @@ returns-in-Some g c =
     (lines_then _ (indented (returned x)) (indented (taken_text x x.marks.taken) ++ indented (sent_text x x.marks.sent)) c.print_returned.ensures
     (lines_then _ (indented (taken_text x x.marks.taken)) (indented (sent_text x x.marks.sent)) c.print_taken.ensures
     (offered_as _ (ap (λ o. shown_lines (indented (sent_text x (option_map letter_seen o)))) (sym c.in-Some.is)) (c.print_sent.ensures x.share x.before x.marks))))
-
-pub returns-in-None : goal.returns-in-None
-returns-in-None g c =
-    let x = scene_at (g.S.Sight.desk c.args.sight.now) c.args.step.now in
-    offered_as _ (ap shown_lines (sym (post-parts x)))
-    (lines_then _ (indented (returned x)) (indented (taken_text x x.marks.taken) ++ indented (sent_text x x.marks.sent)) c.print_returned.ensures
-    (lines_then _ (indented (taken_text x x.marks.taken)) (indented (sent_text x x.marks.sent)) c.print_taken.ensures
-    (offered_as _ (ap (λ o. shown_lines (indented (sent_text x (option_map letter_seen o)))) (sym c.in-None.is)) (offered_none _))))

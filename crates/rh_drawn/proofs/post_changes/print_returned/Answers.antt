@@ -1,4 +1,4 @@
-use Rattle.rh_drawn.proofs.Common.{◌≡◌, ℕ, ◌++◌, Bool, true, false, List, [], ◌∷◌, map, ap, sym, refl, ◌∙◌, append-nil, drop_all, ◌==◌, ◌&&◌, filter, flat_map}
+use Rattle.rh_drawn.proofs.Common.{◌≡◌, ℕ, ◌+◌, ◌++◌, drop, Bool, true, false, List, [], ◌∷◌, map, ap, sym, refl, ◌∙◌, append-nil, drop_all, ◌==◌, ◌&&◌, filter, flat_map}
 use Rattle.rh_drawn.proofs.Common.{flat_map-append, Desk, Parcel, action_of, Text, is_returned, task_name}
 use Rattle.rh_drawn.proofs.Common.{MessageItem, held_on, message_items, waiting_on, indented}
 use Rattle.rh_figure.specs.Changes.{returns_line}
@@ -46,7 +46,8 @@ pub loop-message-preserved : goal.loop-message-preserved
 loop-message-preserved g c =
     let of = return_lines (g.S.Sight.desk c.args.sight.now) c.args.step.now.kept.now.held in
     let here = rest-at c.args.step.now.messages.now c.loop-message.message-index c.message-item.result c.loop-message-test.true c.message-item.is in
-    left_less _ c.loop-message.invariant (ap (λ ms. indented (flat_map of ms)) here ∙ indented-each of c.message-item.result _) c.print_return.ensures
+    left_less _ c.loop-message.invariant (ap (λ ms. indented (flat_map of ms)) here ∙ indented-each of c.message-item.result
+    (drop (c.loop-message.message-index + 1) c.args.step.now.messages.now)) c.print_return.ensures
 
 pub returns : goal.returns
 returns g c =
