@@ -25,16 +25,6 @@ print_made_area-requires-clause-few g c =
     c.requires.all in
     omega (arith, ap length is)
 
-pub overflow_add-i : goal.overflow_add-i
-overflow_add-i g c =
-    omega (arith, c.in-Some.ensures.few, slice_get_within (g.S.Sight.desk c.args.sight.now).made c.areas.i _ c.in-Some.ensures.some)
-
-pub areas-smaller : goal.areas-smaller
-areas-smaller g c =
-    let inside : c.areas.i < length (g.S.Sight.desk c.args.sight.now).made =
-    slice_get_within (g.S.Sight.desk c.args.sight.now).made c.areas.i _ c.in-Some.ensures.some in
-    omega arith
-
 pub areas-preserved : goal.areas-preserved
 areas-preserved g c =
     let d = g.S.Sight.desk c.args.sight.now in

@@ -11,17 +11,6 @@ returns-then-has_letters g c =
     let e : P s.0 ≡ true = ap (λ n. has_letters_in n ms) (sym s.2.handle) ∙ (sym c.has_letters.ensures ∙ c.if-has_letters.true) in
     walk-to (list_any P) xs c.tasks.i c.tasks.invariant s.0 true s.1 (ap (λ b. b || list_any P (drop (c.tasks.i + 1) xs)) e)
 
-pub overflow_add-i : goal.overflow_add-i
-overflow_add-i g c =
-    let s = c.in-Some.ensures.some in
-    omega (arith, c.in-Some.ensures.few, slice_get_within (g.S.Sight.desk c.args.sight.now).tasks c.tasks.i s.0 s.1)
-
-pub tasks-smaller : goal.tasks-smaller
-tasks-smaller g c =
-    let s = c.in-Some.ensures.some in
-    let inside : c.tasks.i < length (g.S.Sight.desk c.args.sight.now).tasks = slice_get_within (g.S.Sight.desk c.args.sight.now).tasks c.tasks.i s.0 s.1 in
-    omega arith
-
 pub tasks-preserved : goal.tasks-preserved
 tasks-preserved g c =
     let s = c.in-Some.ensures.some in

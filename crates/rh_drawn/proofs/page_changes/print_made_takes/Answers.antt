@@ -25,13 +25,3 @@ returns g c =
     let d = g.S.Sight.desk c.args.sight.now in
     let x = scene_at d c.args.step.now in
     left_none c.areas.invariant (ap (λ ms. flat_map (takes_part x) (map made_holding ms)) (rest-none d.made c.areas.i c.in_default.ensures.none))
-
-pub overflow_add-i : goal.overflow_add-i
-overflow_add-i g c =
-    omega (arith, c.in-Some.ensures.few, slice_get_within (g.S.Sight.desk c.args.sight.now).made c.areas.i _ c.in-Some.ensures.some)
-
-pub areas-smaller : goal.areas-smaller
-areas-smaller g c =
-    let inside : c.areas.i < length (g.S.Sight.desk c.args.sight.now).made =
-    slice_get_within (g.S.Sight.desk c.args.sight.now).made c.areas.i _ c.in-Some.ensures.some in
-    omega arith

@@ -15,14 +15,3 @@ returns g c =
     let d = g.S.Sight.desk c.args.sight.now in
     let x = scene_at d c.args.step.now in
     left_none c.tasks.invariant (ap (λ ts. flat_map (takes_part x) (map slot_holding ts)) (rest-none d.tasks c.tasks.i c.in_default.ensures.none))
-
-pub overflow_add-i : goal.overflow_add-i
-overflow_add-i g c =
-    let s = c.in-Some.ensures.some in
-    omega (arith, c.in-Some.ensures.few, slice_get_within (g.S.Sight.desk c.args.sight.now).tasks c.tasks.i s.0 s.1)
-
-pub tasks-smaller : goal.tasks-smaller
-tasks-smaller g c =
-    let s = c.in-Some.ensures.some in
-    let inside : c.tasks.i < length (g.S.Sight.desk c.args.sight.now).tasks = slice_get_within (g.S.Sight.desk c.args.sight.now).tasks c.tasks.i s.0 s.1 in
-    omega arith

@@ -16,17 +16,6 @@ returns-then-has_id g c =
     ap (list_any (λ q. out_id q == c.args.id)) (sym s.2.sending) ∙ (sym c.has_id.ensures ∙ c.if-has_id.true) in
     walk-to (out_of c.args.id) xs c.tasks.i c.tasks.invariant s.0 true s.1 (out-step c.args.id s.0 (drop (c.tasks.i + 1) xs) true e)
 
-pub overflow_add-i : goal.overflow_add-i
-overflow_add-i g c =
-    let s = c.in-Some.ensures.some in
-    omega (arith, c.in-Some.ensures.few, slice_get_within (g.S.Sight.desk c.args.sight.now).tasks c.tasks.i s.0 s.1)
-
-pub tasks-smaller : goal.tasks-smaller
-tasks-smaller g c =
-    let s = c.in-Some.ensures.some in
-    let inside : c.tasks.i < length (g.S.Sight.desk c.args.sight.now).tasks = slice_get_within (g.S.Sight.desk c.args.sight.now).tasks c.tasks.i s.0 s.1 in
-    omega arith
-
 pub tasks-preserved : goal.tasks-preserved
 tasks-preserved g c =
     let s = c.in-Some.ensures.some in

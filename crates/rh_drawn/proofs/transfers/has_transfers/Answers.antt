@@ -17,17 +17,6 @@ returns-then-has_records g c =
     let e : has s.0.sending s.0.taking ≡ true = ap₂ has (sym s.2.sending) (sym s.2.taking) ∙ (sym c.has_records.ensures ∙ c.if-has_records.true) in
     walk-to some_of xs c.tasks.i c.tasks.invariant s.0 true s.1 (some-here s.0 (drop (c.tasks.i + 1) xs) e)
 
-pub overflow_add-i : goal.overflow_add-i
-overflow_add-i g c =
-    let s = c.in-Some.ensures.some in
-    omega (arith, c.in-Some.ensures.few, slice_get_within (g.S.Sight.desk c.args.sight.now).tasks c.tasks.i s.0 s.1)
-
-pub tasks-smaller : goal.tasks-smaller
-tasks-smaller g c =
-    let s = c.in-Some.ensures.some in
-    let inside : c.tasks.i < length (g.S.Sight.desk c.args.sight.now).tasks = slice_get_within (g.S.Sight.desk c.args.sight.now).tasks c.tasks.i s.0 s.1 in
-    omega arith
-
 pub tasks-preserved : goal.tasks-preserved
 tasks-preserved g c =
     let s = c.in-Some.ensures.some in

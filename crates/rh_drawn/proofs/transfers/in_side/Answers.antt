@@ -7,17 +7,6 @@ use Rattle.rh_drawn.proofs.transfers.in_side.Goals as goal
 abbrev in_of : ℕ → List Task → Option Side
 in_of id ts = find (has_id id) (flat_map ins ts)
 
-pub overflow_add-i : goal.overflow_add-i
-overflow_add-i g c =
-    let s = c.in-Some.ensures.some in
-    omega (arith, c.in-Some.ensures.few, slice_get_within (g.S.Sight.desk c.args.sight.now).tasks c.tasks.i s.0 s.1)
-
-pub tasks-smaller : goal.tasks-smaller
-tasks-smaller g c =
-    let s = c.in-Some.ensures.some in
-    let inside : c.tasks.i < length (g.S.Sight.desk c.args.sight.now).tasks = slice_get_within (g.S.Sight.desk c.args.sight.now).tasks c.tasks.i s.0 s.1 in
-    omega arith
-
 pub returns-in-Some-in_record : goal.returns-in-Some-in_record
 returns-in-Some-in_record g c =
     let s = c.in-Some.ensures.some in

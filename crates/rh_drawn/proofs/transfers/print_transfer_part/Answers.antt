@@ -4,12 +4,6 @@ use Rattle.rh_drawn.proofs.TransferLemmas.{transfers-none, transfers-some}
 use Rattle.rh_drawn.proofs.Walks.{lines_then, offered_line, offered_none, offered_as}
 use Rattle.rh_drawn.proofs.transfers.print_transfer_part.Goals as goal
 
-pub returns-then-not-has_transfers : goal.returns-then-not-has_transfers
-returns-then-not-has_transfers g c = λ s b m.
-    let d = g.S.Sight.desk c.args.sight.now in
-    offered_as _ (ap shown_lines (sym (transfers-none (codes "Transfers") (outs_of d) (ins_of d) (sym c.has_transfers.ensures ∙ c.if-not-has_transfers.true))))
-    (offered_none _)
-
 pub returns : goal.returns
 returns g c = λ s b m.
     let d = g.S.Sight.desk c.args.sight.now in
