@@ -2,7 +2,7 @@ use Rattle.rh_drawn.proofs.Common.{◌≡◌, ◌<◌, ◌-◌, [], ◌∷◌, S
 use Rattle.rh_drawn.proofs.Common.{flex_start, flex_cards, more_card, is_fresh_flex, shown_lines, IsTaskSeen, scene_at, card_lines, place_behind}
 use Rattle.rh_drawn.proofs.CardLemmas.{behind-are, flex-long, flex-picked, flex-unpicked}
 use Rattle.rh_drawn.proofs.DrawingLemmas.{seen-same}
-use Rattle.rh_drawn.proofs.Walks.{lines_stop, lines_then, puts_same}
+use Rattle.rh_drawn.proofs.Walks.{lines_then, offered_as}
 use Rattle.rh_drawn.proofs.flex_cards.print_behind.Goals as goal
 
 pub offset_bounds-blocks-k : goal.offset_bounds-blocks-k
@@ -58,8 +58,8 @@ print_flex-requires g c =
       ap (λ bs. slice_get bs k) (sym are) ∙ (slice_get-get_or c.args.blocks.now k c.index-blocks-k.result low ∙ ap (λ z. Some z) (sym c.index-blocks-k.is)),
     )
 
-pub returns-in_err-print_flex-in-Some : goal.returns-in_err-print_flex-in-Some
-returns-in_err-print_flex-in-Some g c = λ t e.
+pub returns-in-Some : goal.returns-in-Some
+returns-in-Some g c = λ t e.
     let d = g.S.Sight.desk c.args.sight.now in
     let x = scene_at d c.args.step.now in
     let r = c.requires.task in
@@ -75,29 +75,9 @@ returns-in_err-print_flex-in-Some g c = λ t e.
     let listed = ap (λ bs. slice_get bs k) (sym are)
     ∙ (slice_get-get_or c.args.blocks.now k c.index-blocks-k.result low ∙ ap (λ z. Some z) (sym c.index-blocks-k.is)) in
     let more = more_card (length cs - 22 - 1) ∷ [] in
-    puts_same (ap (λ z. shown_lines (card_lines z)) (sym (behind-are cs (p.card ∷ []) p.first)))
-    (lines_stop _ (card_lines (p.card ∷ [])) (card_lines more) (c.in_err-print_flex-in-Some.ensures t k p.card e listed p.at) c.from_residual.ensures.0)
-
-pub returns-in_ok-print_flex-in-Some : goal.returns-in_ok-print_flex-in-Some
-returns-in_ok-print_flex-in-Some g c = λ t e.
-    let d = g.S.Sight.desk c.args.sight.now in
-    let x = scene_at d c.args.step.now in
-    let r = c.requires.task in
-    let are : c.args.blocks.now ≡ block_items t.slot = seen-same (λ u. c.args.blocks.now ≡ block_items u.slot) d.tasks c.args.i r.0 t r.1 e r.3 in
-    let seen = seen-same (IsTaskSeen c.args.task.now) d.tasks c.args.i r.0 t r.1 e r.2 in
-    let cs = flex_cards x t in
-    let long : length cs ≡ length c.args.blocks.now = flex-long x t (flex_start t.slot) t.slot.blocks ∙ ap length (sym are) in
-    let found = ap₂ (λ h bs. place_behind (λ (b : BlockItem). is_fresh_flex x h b.anchor b.size) 22 bs) (sym seen.handle) (sym are)
-    ∙ (sym (c.next_fresh.ensures d) ∙ c.in-Some.is) in
-    let k = c.in-Some.k in
-    let p = flex-picked x t k found in
-    let low : k < length c.args.blocks.now = omega (arith, p.low, long) in
-    let listed = ap (λ bs. slice_get bs k) (sym are)
-    ∙ (slice_get-get_or c.args.blocks.now k c.index-blocks-k.result low ∙ ap (λ z. Some z) (sym c.index-blocks-k.is)) in
-    let more = more_card (length cs - 22 - 1) ∷ [] in
-    puts_same (ap (λ z. shown_lines (card_lines z)) (sym (behind-are cs (p.card ∷ []) p.first)))
-    (lines_then (card_lines (p.card ∷ [])) (card_lines more) (c.in_ok-print_flex-in-Some.ensures t k p.card e listed p.at)
-    (puts_same (ap (λ m. shown_lines (card_lines (more_card (m - 22 - 1) ∷ []))) (sym long)) c.print_others.ensures))
+    offered_as _ (ap (λ z. shown_lines (card_lines z)) (sym (behind-are cs (p.card ∷ []) p.first)))
+    (lines_then _ (card_lines (p.card ∷ [])) (card_lines more) (c.print_flex.ensures t k p.card e listed p.at)
+    (offered_as _ (ap (λ m. shown_lines (card_lines (more_card (m - 22 - 1) ∷ []))) (sym long)) c.print_others.ensures))
 
 pub returns-in-None : goal.returns-in-None
 returns-in-None g c = λ t e.
@@ -112,5 +92,5 @@ returns-in-None g c = λ t e.
     ∙ (sym (c.next_fresh.ensures d) ∙ c.in-None.is) in
     let none = flex-unpicked x t found in
     let all : length cs - 22 ≡ length cs - 22 - 0 = omega arith in
-    puts_same (ap (λ z. shown_lines (card_lines z)) (ap (λ m. more_card (m - 22) ∷ []) (sym long)
+    offered_as _ (ap (λ z. shown_lines (card_lines z)) (ap (λ m. more_card (m - 22) ∷ []) (sym long)
     ∙ (ap (λ m. more_card m ∷ []) all ∙ sym (behind-are cs [] none)))) c.print_others-in-None.ensures

@@ -1,4 +1,5 @@
-use Rattle.rh_drawn.proofs.Common.{◌≡◌, drop, take, Some, slice_get, Task, flex_cards, shown_lines, Left, scene_at, card_lines}
+use Rattle.rh_drawn.proofs.Common.{◌≡◌, drop, take, Some, slice_get, Task, flex_cards, scene_at, card_lines}
+use Rattle.rh_drawn.proofs.Walks.{Left}
 use Rattle.rh_drawn.proofs.flex_cards.print_first.Given as goal
 
 -- the cards from the place on are left
@@ -6,4 +7,4 @@ abbrev pub invariant-loop-k : goal.invariant-loop-k
 invariant-loop-k g l =
     (t : Task) → slice_get (g.S.Sight.desk l.sight).tasks l.i ≡ Some t →
     let cards = take l.shown (flex_cards (scene_at (g.S.Sight.desk l.sight) l.step) t) in
-    Left (g.W.Sink.output l.initial.writer) (g.W.Sink.output l.writer) (shown_lines (card_lines cards)) (shown_lines (card_lines (drop l.k cards)))
+    Left (g.P.Pen.offered l.initial.pen) (g.P.Pen.offered l.pen) (card_lines cards) (card_lines (drop l.k cards))

@@ -4,7 +4,7 @@ use Rattle.rh_defs.specs.Records.{is_document, is_source}
 use Rattle.rh_figure.specs.Cards.{flex_card, in_use_text, out_use_text}
 use Rattle.rh_drawn.proofs.CardLemmas.{flex-here, front-is, item-block}
 use Rattle.rh_drawn.proofs.DrawingLemmas.{seen-same}
-use Rattle.rh_drawn.proofs.Walks.{puts_line}
+use Rattle.rh_drawn.proofs.Walks.{offered_line}
 use Rattle.rh_drawn.proofs.flex_cards.print_flex.Goals as goal
 
 pub read_block-requires : goal.read_block-requires
@@ -33,5 +33,5 @@ returns g c = λ t k card e listed shown.
     let fresh = c.is_fresh_flex.ensures d ∙ ap (λ h. is_fresh_flex x h b.anchor b.size) seen.handle in
     let used = c.use_of_block.ensures
     ∙ ap₂ (λ out in_. out_use_text (find (is_source b.anchor) out) (in_use_text (find (is_document b.anchor) in_))) seen.sending seen.taking in
-    puts_line (ap₂ (λ u f. card_line (flex_card b.address b.anchor bytes u f)) used fresh ∙ ap card_line (sym here.card_is))
+    offered_line _ (ap₂ (λ u f. card_line (flex_card b.address b.anchor bytes u f)) used fresh ∙ ap card_line (sym here.card_is))
     (c.print_flex_card.ensures bytes (record { whole = here.size; first = first }))

@@ -2,26 +2,11 @@ use Rattle.rh_drawn.proofs.Common.{◌≡◌, length, take, ap, sym, ◌∙◌, 
 use Rattle.rh_drawn.proofs.Common.{cards_behind, count_shown}
 use Rattle.rh_drawn.proofs.CardLemmas.{cards-append, count-few, count-many, count-within, flex-long, shown-few, shown-parts, shown-split, some-count}
 use Rattle.rh_drawn.proofs.DrawingLemmas.{seen-same}
-use Rattle.rh_drawn.proofs.Walks.{lines_stop, lines_then, puts_same}
+use Rattle.rh_drawn.proofs.Walks.{lines_then, offered_as}
 use Rattle.rh_drawn.proofs.flex_cards.print_flex_cards.Goals as goal
 
 pub print_first-requires-clause-few : goal.print_first-requires-clause-few
 print_first-requires-clause-few g c = omega (arith, c.shown_count-shown.ensures, count-within (length c.args.blocks.now))
-
-pub returns-in_err-print_first : goal.returns-in_err-print_first
-returns-in_err-print_first g c = λ t e.
-    let d = g.S.Sight.desk c.args.sight.now in
-    let x = scene_at d c.args.step.now in
-    let cs = flex_cards x t in
-    let r = c.requires.task in
-    let are : c.args.blocks.now ≡ block_items t.slot = seen-same (λ u. c.args.blocks.now ≡ block_items u.slot) d.tasks c.args.i r.0 t r.1 e r.3 in
-    let long : length cs ≡ length c.args.blocks.now = flex-long x t (flex_start t.slot) t.slot.blocks ∙ ap length (sym are) in
-    let n : c.shown_count-shown.result ≡ count_shown (length cs) = c.shown_count-shown.ensures ∙ ap count_shown (sym long) in
-    let split = shown-split cs in
-    let front = take (count_shown (length cs)) cs in
-    puts_same (ap shown_lines (sym (ap card_lines split.is ∙ cards-append front split.behind)))
-    (lines_stop _ (card_lines front) (card_lines split.behind) (puts_same (ap (λ m. shown_lines (card_lines (take m cs))) n)
-    (c.in_err-print_first.ensures t e)) c.from_residual.ensures.0)
 
 pub returns-then-shown-blocks : goal.returns-then-shown-blocks
 returns-then-shown-blocks g c = λ t e.
@@ -33,8 +18,8 @@ returns-then-shown-blocks g c = λ t e.
     let long : length cs ≡ length c.args.blocks.now = flex-long x t (flex_start t.slot) t.slot.blocks ∙ ap length (sym are) in
     let n : c.shown_count-shown.result ≡ count_shown (length cs) = c.shown_count-shown.ensures ∙ ap count_shown (sym long) in
     let few = count-few (length cs) (sym n ∙ (c.if-shown-blocks.true ∙ sym long)) in
-    puts_same (ap (λ z. shown_lines (card_lines z)) (take_all c.shown_count-shown.result cs (omega (arith, c.if-shown-blocks.true, long))
-    ∙ sym (shown-few cs few))) (c.in_ok-print_first.ensures t e)
+    offered_as _ (ap (λ z. shown_lines (card_lines z)) (take_all c.shown_count-shown.result cs (omega (arith, c.if-shown-blocks.true, long))
+    ∙ sym (shown-few cs few))) (c.print_first.ensures t e)
 
 pub print_behind-requires-clause-many : goal.print_behind-requires-clause-many
 print_behind-requires-clause-many g c = count-many (length c.args.blocks.now) (λ q. c.if-shown-blocks.false (c.shown_count-shown.ensures ∙ q))
@@ -49,7 +34,7 @@ returns g c = λ t e.
     let long : length cs ≡ length c.args.blocks.now = flex-long x t (flex_start t.slot) t.slot.blocks ∙ ap length (sym are) in
     let n : c.shown_count-shown.result ≡ count_shown (length cs) = c.shown_count-shown.ensures ∙ ap count_shown (sym long) in
     let many = count-many (length cs) (λ q. c.if-shown-blocks.false (n ∙ (q ∙ long))) in
-    puts_same (ap shown_lines (sym (ap card_lines (shown-parts cs many) ∙ cards-append (take 22 cs) (cards_behind cs))))
-    (lines_then (card_lines (take 22 cs)) (card_lines (cards_behind cs))
-    (puts_same (ap (λ m. shown_lines (card_lines (take m cs))) (n ∙ some-count (length cs) many)) (c.in_ok-print_first.ensures t e))
+    offered_as _ (ap shown_lines (sym (ap card_lines (shown-parts cs many) ∙ cards-append (take 22 cs) (cards_behind cs))))
+    (lines_then _ (card_lines (take 22 cs)) (card_lines (cards_behind cs))
+    (offered_as _ (ap (λ m. shown_lines (card_lines (take m cs))) (n ∙ some-count (length cs) many)) (c.print_first.ensures t e))
     (c.print_behind.ensures t e))

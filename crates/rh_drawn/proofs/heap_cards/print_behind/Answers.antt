@@ -3,7 +3,7 @@ use Rattle.rh_drawn.proofs.Common.{IsSurvey, band_cards, card_lines}
 use Rattle.rh_drawn.specs.Bands.{band_card}
 use Rattle.rh_drawn.proofs.CardLemmas.{behind-are}
 use Rattle.rh_drawn.proofs.HeapLemmas.{band-heap, band-long, band-none, band-some, if-heap}
-use Rattle.rh_drawn.proofs.Walks.{lines_stop, lines_then, puts_same}
+use Rattle.rh_drawn.proofs.Walks.{lines_then, offered_as}
 use Rattle.rh_drawn.proofs.heap_cards.print_behind.Goals as goal
 
 pub print_segment-requires-clause-segment : goal.print_segment-requires-clause-segment
@@ -17,24 +17,8 @@ print_segment-requires-clause-segment g c =
     let p = band-some x d b there.heap c.requires.band s is c.in-Some.item c.in-Some.is there.is in
     (p.place, p.segment, p.has, p.item_is)
 
-pub returns-in_err-print_segment-in-Some : goal.returns-in_err-print_segment-in-Some
-returns-in_err-print_segment-in-Some g c =
-    let d = g.S.Sight.desk c.args.sight.now in
-    let x = scene_at d c.args.step.now in
-    let b = c.args.band.now in
-    let s = c.args.survey.now in
-    if-heap (heap_seen b.heap d) _ (λ h e.
-    let cs = band_cards x d b h in
-    let is = at-some (heap_seen b.heap d) (λ z. IsSurvey x b z s) h e c.requires.survey in
-    let p = band-some x d b h c.requires.band s is c.in-Some.item c.in-Some.is e in
-    let card = band_card x d b (heap_start_of b.heap + p.place) p.segment in
-    let more = more_card (length cs - 22 - 1) ∷ [] in
-    puts_same (ap (λ z. shown_lines (card_lines z)) (sym (behind-are cs (card ∷ []) p.first)))
-    (lines_stop _ (card_lines (card ∷ [])) (card_lines more) (c.in_err-print_segment-in-Some.ensures p.place p.segment p.has p.item_is)
-    c.from_residual.ensures.0))
-
-pub returns-in_ok-print_segment-in-Some : goal.returns-in_ok-print_segment-in-Some
-returns-in_ok-print_segment-in-Some g c =
+pub returns-in-Some : goal.returns-in-Some
+returns-in-Some g c =
     let d = g.S.Sight.desk c.args.sight.now in
     let x = scene_at d c.args.step.now in
     let b = c.args.band.now in
@@ -46,9 +30,9 @@ returns-in_ok-print_segment-in-Some g c =
     let long = band-long x d b h c.requires.band s is in
     let card = band_card x d b (heap_start_of b.heap + p.place) p.segment in
     let more = more_card (length cs - 22 - 1) ∷ [] in
-    puts_same (ap (λ z. shown_lines (card_lines z)) (sym (behind-are cs (card ∷ []) p.first)))
-    (lines_then (card_lines (card ∷ [])) (card_lines more) (c.in_ok-print_segment-in-Some.ensures p.place p.segment p.has p.item_is)
-    (puts_same (ap (λ m. shown_lines (card_lines (more_card (m - 22 - 1) ∷ []))) long) c.print_others.ensures)))
+    offered_as _ (ap (λ z. shown_lines (card_lines z)) (sym (behind-are cs (card ∷ []) p.first)))
+    (lines_then _ (card_lines (card ∷ [])) (card_lines more) (c.print_segment.ensures p.place p.segment p.has p.item_is)
+    (offered_as _ (ap (λ m. shown_lines (card_lines (more_card (m - 22 - 1) ∷ []))) long) c.print_others.ensures)))
 
 pub returns-in-None : goal.returns-in-None
 returns-in-None g c =
@@ -62,5 +46,5 @@ returns-in-None g c =
     let none = band-none x d b h c.requires.band s is c.in-None.is in
     let long = band-long x d b h c.requires.band s is in
     let all : length cs - 22 ≡ length cs - 22 - 0 = omega arith in
-    puts_same (ap (λ z. shown_lines (card_lines z)) (ap (λ m. more_card (m - 22) ∷ []) long
+    offered_as _ (ap (λ z. shown_lines (card_lines z)) (ap (λ m. more_card (m - 22) ∷ []) long
     ∙ (ap (λ m. more_card m ∷ []) all ∙ sym (behind-are cs [] none)))) c.print_others-in-None.ensures)

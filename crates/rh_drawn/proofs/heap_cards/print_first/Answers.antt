@@ -1,9 +1,10 @@
-use Rattle.rh_drawn.proofs.Common.{◌∙◌, ◌≤◌, [], ◌∷◌, length, take, ap, refl, arith, slice_get, length-take, slice_get_within, Card, left_breaks, left_less}
-use Rattle.rh_drawn.proofs.Common.{left_none, left_whole, heap_seen, heap_start_of, scene_at, at-some, band_cards, card_lines}
+use Rattle.rh_drawn.proofs.Common.{◌∙◌, ◌≤◌, ◌+◌, [], ◌∷◌, length, take, ap, refl, arith, slice_get, length-take, slice_get_within}
+use Rattle.rh_drawn.proofs.Common.{drop_all, rest-some, heap_seen, heap_start_of, scene_at, at-some, band_cards, card_lines}
 use Rattle.rh_sight.proofs.Heaps.{comes-parts}
+use Rattle.rh_drawn.specs.Bands.{band_card}
 use Rattle.rh_drawn.proofs.CardLemmas.{get-front}
 use Rattle.rh_drawn.proofs.HeapLemmas.{band-heap, from-first, got-is, if-heap, in-band, told-here}
-use Rattle.rh_drawn.proofs.Walks.{walk-end, walk-some}
+use Rattle.rh_drawn.proofs.Walks.{left_less, left_none}
 use Rattle.rh_drawn.proofs.heap_cards.print_first.Goals as goal
 
 pub segments-items-requires : goal.segments-items-requires
@@ -12,7 +13,7 @@ segments-items-requires g c =
     comes-parts (from-first there.heap there.is)
 
 pub loop-k-init : goal.loop-k-init
-loop-k-init g c = λ h e. left_whole _ _
+loop-k-init g c = λ h e. record { is = refl }
 
 pub bounds-first-k : goal.bounds-first-k
 bounds-first-k g c =
@@ -46,25 +47,10 @@ loop-k-preserved g c = λ h e.
     let few = at-some (heap_seen b.heap d) (λ z. c.args.shown ≤ length z.segments) h e c.requires.there in
     let q = in-band x d b h k e (omega (arith, few, c.loop-k-test.true)) in
     let here = told-here (heap_start_of b.heap) h _ k e c.segments-items.ensures (omega (arith, c.requires.few, c.loop-k-test.true)) in
+    let card = band_card x d b (heap_start_of b.heap + q.place) q.segment in
     let at = get-front c.args.shown k cs c.loop-k-test.true ∙ q.card_at in
-    left_less (c.loop-k.invariant h e) (walk-some card_lines (λ (z : Card). card_lines (z ∷ [])) (λ z rest. refl) (take c.args.shown cs) k _ at)
-    (c.in_ok-print_segment.ensures q.place q.segment q.has (got-is _ k _ _ (ap (λ xs. slice_get xs k) c.as_slice-first.ensures.value ∙ (here ∙ q.item_at)))).ok
-
-pub returns-in_err-print_segment : goal.returns-in_err-print_segment
-returns-in_err-print_segment g c =
-    let d = g.S.Sight.desk c.args.sight.now in
-    let x = scene_at d c.args.step.now in
-    let b = c.args.band.now in
-    let k = c.loop-k.k in
-    if-heap (heap_seen b.heap d) _ (λ h e.
-    let cs = band_cards x d b h in
-    let few = at-some (heap_seen b.heap d) (λ z. c.args.shown ≤ length z.segments) h e c.requires.there in
-    let q = in-band x d b h k e (omega (arith, few, c.loop-k-test.true)) in
-    let here = told-here (heap_start_of b.heap) h _ k e c.segments-items.ensures (omega (arith, c.requires.few, c.loop-k-test.true)) in
-    let at = get-front c.args.shown k cs c.loop-k-test.true ∙ q.card_at in
-    left_breaks _ _ (c.loop-k.invariant h e) (walk-some card_lines (λ (z : Card). card_lines (z ∷ [])) (λ z rest. refl) (take c.args.shown cs) k _ at)
-    (c.in_err-print_segment.ensures q.place q.segment q.has (got-is _ k _ _ (ap (λ xs. slice_get xs k) c.as_slice-first.ensures.value ∙ (here ∙ q.item_at))))
-    c.from_residual.ensures.0)
+    left_less (card_lines (card ∷ [])) (c.loop-k.invariant h e) (ap card_lines (rest-some (take c.args.shown cs) k card at))
+    (c.print_segment.ensures q.place q.segment q.has (got-is _ k _ _ (ap (λ xs. slice_get xs k) c.as_slice-first.ensures.value ∙ (here ∙ q.item_at))))
 
 pub returns : goal.returns
 returns g c =
@@ -73,11 +59,8 @@ returns g c =
     let b = c.args.band.now in
     if-heap (heap_seen b.heap d) _ (λ h e.
     let cs = take c.args.shown (band_cards x d b h) in
-    record {
-      ok = left_none (c.loop-k.invariant h e) (walk-end card_lines refl cs c.loop-k.k (omega (
-        arith,
-        length-take c.args.shown (band_cards x d b h),
-        c.loop-k-test.false,
-      )));
-      err = tt;
-    })
+    left_none (c.loop-k.invariant h e) (ap card_lines (drop_all c.loop-k.k cs (omega (
+      arith,
+      length-take c.args.shown (band_cards x d b h),
+      c.loop-k-test.false,
+    )))))

@@ -2,7 +2,7 @@ use Rattle.rh_drawn.proofs.Common.{◌≡◌, ◌∙◌, length, take, ap, sym, 
 use Rattle.rh_drawn.proofs.Common.{card_lines, cards_behind, count_shown}
 use Rattle.rh_drawn.proofs.CardLemmas.{cards-append, count-few, count-many, count-most, count-within, shown-few, shown-parts, shown-split, some-count}
 use Rattle.rh_drawn.proofs.HeapLemmas.{band-long, band-many, if-heap}
-use Rattle.rh_drawn.proofs.Walks.{lines_stop, lines_then, puts_same}
+use Rattle.rh_drawn.proofs.Walks.{lines_then, offered_as}
 use Rattle.rh_drawn.proofs.heap_cards.print_heap_cards.Goals as goal
 
 pub print_first-requires-clause-few : goal.print_first-requires-clause-few
@@ -18,22 +18,6 @@ print_first-requires-clause-there g c =
     let is = at-some (heap_seen b.heap d) (λ z. IsSurvey x b z s) h e c.take_survey-survey.ensures in
     omega (arith, c.shown_count-shown.ensures, count-within s.count, band-many x d b h c.requires.band s is))
 
-pub returns-in_err-print_first : goal.returns-in_err-print_first
-returns-in_err-print_first g c =
-    let d = g.S.Sight.desk c.args.sight.now in
-    let x = scene_at d c.args.step.now in
-    let b = c.args.band.now in
-    let s = c.take_survey-survey.result in
-    if-heap (heap_seen b.heap d) _ (λ h e.
-    let cs = band_cards x d b h in
-    let is = at-some (heap_seen b.heap d) (λ z. IsSurvey x b z s) h e c.take_survey-survey.ensures in
-    let n : c.shown_count-shown.result ≡ count_shown (length cs) = c.shown_count-shown.ensures ∙ ap count_shown (band-long x d b h c.requires.band s is) in
-    let first = at-some (heap_seen b.heap d) _ h e c.in_err-print_first.ensures in
-    let split = shown-split cs in
-    let front = take (count_shown (length cs)) cs in
-    puts_same (ap shown_lines (sym (ap card_lines split.is ∙ cards-append front split.behind)))
-    (lines_stop _ (card_lines front) (card_lines split.behind) (puts_same (ap (λ m. shown_lines (card_lines (take m cs))) n) first) c.from_residual.ensures.0))
-
 pub returns-then-shown-survey : goal.returns-then-shown-survey
 returns-then-shown-survey g c =
     let d = g.S.Sight.desk c.args.sight.now in
@@ -45,9 +29,9 @@ returns-then-shown-survey g c =
     let is = at-some (heap_seen b.heap d) (λ z. IsSurvey x b z s) h e c.take_survey-survey.ensures in
     let long = band-long x d b h c.requires.band s is in
     let n : c.shown_count-shown.result ≡ count_shown (length cs) = c.shown_count-shown.ensures ∙ ap count_shown long in
-    let first = at-some (heap_seen b.heap d) _ h e c.in_ok-print_first.ensures in
+    let first = at-some (heap_seen b.heap d) _ h e c.print_first.ensures in
     let few = count-few (length cs) (sym n ∙ (c.if-shown-survey.true ∙ long)) in
-    puts_same (ap (λ z. shown_lines (card_lines z)) (take_all c.shown_count-shown.result cs (omega (arith, c.if-shown-survey.true, long))
+    offered_as _ (ap (λ z. shown_lines (card_lines z)) (take_all c.shown_count-shown.result cs (omega (arith, c.if-shown-survey.true, long))
     ∙ sym (shown-few cs few))) first)
 
 pub print_behind-requires-clause-many : goal.print_behind-requires-clause-many
@@ -64,9 +48,9 @@ returns g c =
     let is = at-some (heap_seen b.heap d) (λ z. IsSurvey x b z s) h e c.take_survey-survey.ensures in
     let long = band-long x d b h c.requires.band s is in
     let n : c.shown_count-shown.result ≡ count_shown (length cs) = c.shown_count-shown.ensures ∙ ap count_shown long in
-    let first = at-some (heap_seen b.heap d) _ h e c.in_ok-print_first.ensures in
+    let first = at-some (heap_seen b.heap d) _ h e c.print_first.ensures in
     let behind = at-some (heap_seen b.heap d) _ h e c.print_behind.ensures in
     let many = count-many (length cs) (λ q. c.if-shown-survey.false (n ∙ (q ∙ sym long))) in
-    puts_same (ap shown_lines (sym (ap card_lines (shown-parts cs many) ∙ cards-append (take 22 cs) (cards_behind cs))))
-    (lines_then (card_lines (take 22 cs)) (card_lines (cards_behind cs))
-    (puts_same (ap (λ m. shown_lines (card_lines (take m cs))) (n ∙ some-count (length cs) many)) first) behind))
+    offered_as _ (ap shown_lines (sym (ap card_lines (shown-parts cs many) ∙ cards-append (take 22 cs) (cards_behind cs))))
+    (lines_then _ (card_lines (take 22 cs)) (card_lines (cards_behind cs))
+    (offered_as _ (ap (λ m. shown_lines (card_lines (take m cs))) (n ∙ some-count (length cs) many)) first) behind))

@@ -6,7 +6,7 @@ use Rattle.rh_figure.specs.Layout.{is_new_message}
 use Rattle.rh_sight.specs.SightMessages.{message_place}
 use Rattle.rh_drawn.specs.Bands.{place_seen}
 use Rattle.rh_drawn.proofs.PostLemmas.{chain-is}
-use Rattle.rh_drawn.proofs.Walks.{puts_line}
+use Rattle.rh_drawn.proofs.Walks.{offered_line}
 use Rattle.rh_drawn.proofs.heap_cards.print_message.Goals as goal
 
 -- the line of a card, by its parts
@@ -28,7 +28,7 @@ returns g c = λ p found is.
     let x = scene_at d c.args.step.now in
     let place = c.chain_place-place.ensures ∙ (ap place_seen (c.place_of.ensures ∙ ap (λ ms. message_place ms c.args.message.now) c.requires.messages)
     ∙ chain-is c.spelled.ensures p.to p.message.my_ref c.args.message.now is.to is.my_ref) in
-    puts_line
+    offered_line _
     (line-same _ p.message.my_ref _ (action_of p.message.body) _ p.code _ (task_name x.desk p.message.from) _ (task_name x.desk p.to) _ (chain_text x p) _
     (is_new_message x (Some p))
     is.my_ref is.action is.code (c.who_of-sender.ensures ∙ ap (task_name d) is.from) (c.who_of-receiver.ensures ∙ ap (task_name d) is.to) place

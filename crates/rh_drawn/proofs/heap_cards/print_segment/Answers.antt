@@ -7,7 +7,7 @@ use Rattle.rh_sight.specs.declared.sight.HeapOf.{HeapOf}
 use Rattle.rh_sight.specs.Seen.{SeesFree}
 use Rattle.rh_drawn.proofs.HeapLemmas.{block-free, has-block, module-is, posted-is, task-is, told-none, told-some, used-here}
 use Rattle.rh_drawn.proofs.PostLemmas.{Told, message-told, stands_in}
-use Rattle.rh_drawn.proofs.Walks.{puts_same}
+use Rattle.rh_drawn.proofs.Walks.{offered_as}
 use Rattle.rh_drawn.proofs.heap_cards.print_segment.Goals as goal
 
 pub print_used-requires-in-None-clause-free : goal.print_used-requires-in-None-clause-free
@@ -35,7 +35,7 @@ returns-in-Task g c = λ place segment has is.
     let q = used-here (start + place) a c.in-Used.size segment (sym is ∙ c.in-Used.is) in
     let at : place ≡ a - start - 4 = omega (arith, q.at) in
     let P : ℕ → Type 0 = λ z. SeesBlock (heap_seen b.heap d) z q.bytes in
-    puts_same (ap (λ z. shown_lines (card_lines (z ∷ []))) (task-is x d b c.in-Task.field-0 (start + place) a c.in-Used.size segment c.in-Task.is
+    offered_as _ (ap (λ z. shown_lines (card_lines (z ∷ []))) (task-is x d b c.in-Task.field-0 (start + place) a c.in-Used.size segment c.in-Task.is
     c.requires.band q))
     (c.print_used.ensures d q.bytes c.requires.step (subst P at (has-block q.bytes has q.is)) q.size)
 
@@ -52,7 +52,7 @@ returns-in-Some g c = λ place segment has is.
     ap (find (lies_in at)) (sym c.requires.step.messages) ∙ (sym c.message_at.ensures ∙ c.in-Some.is) in
     let T : Option MessageItem → Type 0 = λ z. Told at z (message_of_scene x at) in
     let w = told-some at c.in-Some.message (message_of_scene x at) (subst T here (message-told at d)) in
-    puts_same (ap (λ z. shown_lines (card_lines (z ∷ []))) (posted-is x d b (start + place) a c.in-Used.size segment w.parcel c.in-Module.is w.is q))
+    offered_as _ (ap (λ z. shown_lines (card_lines (z ∷ []))) (posted-is x d b (start + place) a c.in-Used.size segment w.parcel c.in-Module.is w.is q))
     (c.print_message.ensures w.parcel (ap (λ n. find (λ (z : Parcel). z.block == n) (live x)) w.at ∙ w.is) w.item)
 
 pub returns-in-None : goal.returns-in-None
@@ -69,5 +69,5 @@ returns-in-None g c = λ place segment has is.
     let none = told-none at (message_of_scene x at) (subst T here (message-told at d)) in
     let there : place ≡ a - start - 4 = omega (arith, q.at) in
     let P : ℕ → Type 0 = λ z. SeesBlock (heap_seen b.heap d) z q.bytes in
-    puts_same (ap (λ z. shown_lines (card_lines (z ∷ []))) (module-is x d b (start + place) a c.in-Used.size segment c.in-Module.is c.requires.band none q))
+    offered_as _ (ap (λ z. shown_lines (card_lines (z ∷ []))) (module-is x d b (start + place) a c.in-Used.size segment c.in-Module.is c.requires.band none q))
     (c.print_used-in-None.ensures d q.bytes c.requires.step (subst P there (has-block q.bytes has q.is)) q.size)

@@ -2,7 +2,7 @@ use Rattle.rh_drawn.proofs.Common.{◌≡◌, ℕ, ◌-◌, List, [], ◌∷◌,
 use Rattle.rh_drawn.proofs.Common.{heap_start_of}
 use Rattle.rh_figure.specs.Cards.{used_card}
 use Rattle.rh_drawn.proofs.CardLemmas.{front-is}
-use Rattle.rh_drawn.proofs.Walks.{puts_line}
+use Rattle.rh_drawn.proofs.Walks.{offered_line}
 use Rattle.rh_drawn.proofs.heap_cards.print_used.Goals as goal
 
 pub returns : goal.returns
@@ -15,5 +15,5 @@ returns g c = λ d bytes step block size.
     let P : ℕ → Type 0 = λ z. SeesBlock (heap_seen heap (g.S.Sight.desk c.args.sight.now)) z bytes in
     let first = front-is c.args.size (length (take n zeros)) bytes size (omega (arith, c.front_length.ensures, length-take n zeros))
     ∙ sym (c.read_heap.ensures bytes (subst P here block)) in
-    puts_line (ap₂ (λ u f. card_line (used_card a bytes u f)) c.use_of_buffer.ensures (c.is_changed.ensures d))
+    offered_line _ (ap₂ (λ u f. card_line (used_card a bytes u f)) c.use_of_buffer.ensures (c.is_changed.ensures d))
     (c.print_used_card.ensures bytes (record { whole = size; first = first }))

@@ -7,7 +7,7 @@ use Rattle.rh_figure.specs.Phrases.{pages_text}
 use Rattle.rh_sight.specs.declared.sight.PagesOf.TheVariants as pages
 use Rattle.rh_drawn.proofs.DrawingLemmas.{rows-are}
 use Rattle.rh_drawn.proofs.PageLemmas.{owned, owned-few, seen-fixed}
-use Rattle.rh_drawn.proofs.Walks.{lines_stop, lines_then, puts_line, puts_same}
+use Rattle.rh_drawn.proofs.Walks.{lines_then, offered_line, offered_as}
 use Rattle.rh_drawn.proofs.modules.print_module_part.Goals as goal
 
 abbrev heading : ℕ → Text
@@ -20,33 +20,14 @@ print_area-requires-clause-few g c =
     let is = owned c.spelled.ensures ps c.requires.shared (pages.Fixed 1) (AreaOf 1) c.pages_of.result.now seen c.pages_of.ensures in
     omega (arith, ap length is, owned-few c.spelled.ensures ps c.requires.shared (pages.Fixed 1) (AreaOf 1) seen c.requires.all)
 
-pub returns-in_err-print_module_heading : goal.returns-in_err-print_module_heading
-returns-in_err-print_module_heading g c =
-    let d = g.S.Sight.desk c.args.sight.now in
-    let x = scene_at d c.args.step.now in
-    lines_stop _ (heading (module_pages d) ∷ []) (area_rows (module_drawing x) ++ card_lines (shown_cards (module_cards x)))
-    (puts_line (ap heading c.fixed_pages.ensures) c.in_err-print_module_heading.ensures) c.from_residual.ensures.0
-
-pub returns-in_err-print_area : goal.returns-in_err-print_area
-returns-in_err-print_area g c =
-    let d = g.S.Sight.desk c.args.sight.now in
-    let x = scene_at d c.args.step.now in
-    let is = owned c.spelled.ensures c.args.step.now.pages.now c.requires.shared (pages.Fixed 1) (AreaOf 1) c.pages_of.result.now
-    (seen-fixed c.spelled.ensures 1 (omega arith)) c.pages_of.ensures in
-    lines_then (heading (module_pages d) ∷ []) (area_rows (module_drawing x) ++ card_lines (shown_cards (module_cards x)))
-    (puts_line (ap heading c.fixed_pages.ensures) c.in_ok-print_module_heading.ensures)
-    (lines_stop _ (area_rows (module_drawing x)) (card_lines (shown_cards (module_cards x)))
-    (puts_same (ap shown_lines (rows-are (module_drawing x) _ _ _ refl is (c.deref.ensures.0 ∙ c.module_pieces.ensures))) c.in_err-print_area.ensures)
-    c.from_residual-in_err-print_area.ensures.0)
-
 pub returns : goal.returns
 returns g c =
     let d = g.S.Sight.desk c.args.sight.now in
     let x = scene_at d c.args.step.now in
     let is = owned c.spelled.ensures c.args.step.now.pages.now c.requires.shared (pages.Fixed 1) (AreaOf 1) c.pages_of.result.now
     (seen-fixed c.spelled.ensures 1 (omega arith)) c.pages_of.ensures in
-    lines_then (heading (module_pages d) ∷ []) (area_rows (module_drawing x) ++ card_lines (shown_cards (module_cards x)))
-    (puts_line (ap heading c.fixed_pages.ensures) c.in_ok-print_module_heading.ensures)
-    (lines_then (area_rows (module_drawing x)) (card_lines (shown_cards (module_cards x)))
-    (puts_same (ap shown_lines (rows-are (module_drawing x) _ _ _ refl is (c.deref.ensures.0 ∙ c.module_pieces.ensures))) c.in_ok-print_area.ensures)
+    lines_then _ (heading (module_pages d) ∷ []) (area_rows (module_drawing x) ++ card_lines (shown_cards (module_cards x)))
+    (offered_line _ (ap heading c.fixed_pages.ensures) c.print_module_heading.ensures)
+    (lines_then _ (area_rows (module_drawing x)) (card_lines (shown_cards (module_cards x)))
+    (offered_as _ (ap shown_lines (rows-are (module_drawing x) _ _ _ refl is (c.deref.ensures.0 ∙ c.module_pieces.ensures))) c.print_area.ensures)
     c.print_heap_cards.ensures)

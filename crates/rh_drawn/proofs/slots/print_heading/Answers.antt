@@ -4,7 +4,7 @@ use Rattle.rh_figure.specs.Figure.{note_of_slot}
 use Rattle.rh_figure.specs.Map.{name_with_mark}
 use Rattle.rh_figure.specs.Rows.{letter_at}
 use Rattle.rh_drawn.proofs.DrawingLemmas.{is_slot_of}
-use Rattle.rh_drawn.proofs.Walks.{puts_line}
+use Rattle.rh_drawn.proofs.Walks.{offered_line}
 use Rattle.rh_drawn.proofs.slots.print_heading.Goals as goal
 
 abbrev text : Text → ℕ → Manner → ℕ → ℕ → ℕ → Bool → Text
@@ -14,7 +14,7 @@ pub returns : goal.returns
 returns g c = λ x t seen stands at.
     let s = c.args.task.now in
     let mark = letter_at (position (is_slot_of t.handle) (slot_panels x)) in
-    puts_line
+    offered_line _
     (ap (λ z. text z c.slot_mark.result s.manner s.handle s.buffer s.pages s.budging) seen.name
     ∙ (ap (λ z. text t.name z s.manner s.handle s.buffer s.pages s.budging) (c.slot_mark.ensures ∙ ap letter_at (sym at))
     ∙ (ap (λ z. text t.name mark z s.handle s.buffer s.pages s.budging) seen.manner

@@ -13,7 +13,7 @@ use Rattle.rh_sight.proofs.SlotPieces.{few-blocks}
 use Rattle.rh_drawn.specs.Bands.{card_of_task}
 use Rattle.rh_drawn.proofs.DrawingLemmas.{rows-are}
 use Rattle.rh_drawn.proofs.PageLemmas.{owned, owned-few, seen-slot}
-use Rattle.rh_drawn.proofs.Walks.{lines_stop, lines_then, puts_same}
+use Rattle.rh_drawn.proofs.Walks.{lines_then, offered_as}
 use Rattle.rh_drawn.proofs.slots.print_slot.Goals as goal
 
 pub blocks-requires : goal.blocks-requires
@@ -47,31 +47,6 @@ slot-parts : (x : Scene) (t : Task)
     (card_lines (shown_cards (flex_cards x t)) ++ card_lines (shown_cards (heap_cards x t)))
 slot-parts x t = ap (λ z. area_rows (slot_drawing x t) ++ z) (map-append card_line (shown_cards (flex_cards x t)) (shown_cards (heap_cards x t)))
 
-pub returns-in_err-print_area : goal.returns-in_err-print_area
-returns-in_err-print_area g c = λ t e.
-    let d = g.S.Sight.desk c.args.sight.now in
-    let x = scene_at d c.args.step.now in
-    let seen = seen-slot c.spelled.ensures c.args.i t e in
-    let is = owned c.spelled.ensures c.args.step.now.pages.now c.requires.step.shared (pages.Slot c.args.i) (SlotOf t.handle) c.pages_of.result.now seen
-    c.pages_of.ensures in
-    puts_same (ap shown_lines (sym (slot-parts x t)))
-    (lines_stop _ (area_rows (slot_drawing x t)) (card_lines (shown_cards (flex_cards x t)) ++ card_lines (shown_cards (heap_cards x t)))
-    (puts_same (ap shown_lines (rows-are (slot_drawing x t) _ _ _ refl is (c.deref-2.ensures.0 ∙ c.slot_pieces.ensures t e))) c.in_err-print_area.ensures)
-    c.from_residual.ensures.0)
-
-pub returns-in_err-print_flex_cards : goal.returns-in_err-print_flex_cards
-returns-in_err-print_flex_cards g c = λ t e.
-    let d = g.S.Sight.desk c.args.sight.now in
-    let x = scene_at d c.args.step.now in
-    let seen = seen-slot c.spelled.ensures c.args.i t e in
-    let is = owned c.spelled.ensures c.args.step.now.pages.now c.requires.step.shared (pages.Slot c.args.i) (SlotOf t.handle) c.pages_of.result.now seen
-    c.pages_of.ensures in
-    puts_same (ap shown_lines (sym (slot-parts x t)))
-    (lines_then (area_rows (slot_drawing x t)) (card_lines (shown_cards (flex_cards x t)) ++ card_lines (shown_cards (heap_cards x t)))
-    (puts_same (ap shown_lines (rows-are (slot_drawing x t) _ _ _ refl is (c.deref-2.ensures.0 ∙ c.slot_pieces.ensures t e))) c.in_ok-print_area.ensures)
-    (lines_stop _ (card_lines (shown_cards (flex_cards x t))) (card_lines (shown_cards (heap_cards x t))) (c.in_err-print_flex_cards.ensures t e)
-    c.from_residual-in_err-print_flex_cards.ensures.0))
-
 pub returns : goal.returns
 returns g c = λ t e.
     let d = g.S.Sight.desk c.args.sight.now in
@@ -80,8 +55,8 @@ returns g c = λ t e.
     let is = owned c.spelled.ensures c.args.step.now.pages.now c.requires.step.shared (pages.Slot c.args.i) (SlotOf t.handle) c.pages_of.result.now seen
     c.pages_of.ensures in
     let heap = at-some (heap_seen (heap_of.Task c.args.i) d) _ t.slot.heap (ap (option_map (λ (u : Task). u.slot.heap)) e) c.print_heap_cards.ensures in
-    puts_same (ap shown_lines (sym (slot-parts x t)))
-    (lines_then (area_rows (slot_drawing x t)) (card_lines (shown_cards (flex_cards x t)) ++ card_lines (shown_cards (heap_cards x t)))
-    (puts_same (ap shown_lines (rows-are (slot_drawing x t) _ _ _ refl is (c.deref-2.ensures.0 ∙ c.slot_pieces.ensures t e))) c.in_ok-print_area.ensures)
-    (lines_then (card_lines (shown_cards (flex_cards x t))) (card_lines (shown_cards (heap_cards x t))) (c.in_ok-print_flex_cards.ensures t e)
-    (puts_same (ap (λ o. shown_lines (card_lines (shown_cards (cards_from (card_of_task x o) (heap_start + first_place) t.slot.heap.segments)))) e) heap)))
+    offered_as _ (ap shown_lines (sym (slot-parts x t)))
+    (lines_then _ (area_rows (slot_drawing x t)) (card_lines (shown_cards (flex_cards x t)) ++ card_lines (shown_cards (heap_cards x t)))
+    (offered_as _ (ap shown_lines (rows-are (slot_drawing x t) _ _ _ refl is (c.deref-2.ensures.0 ∙ c.slot_pieces.ensures t e))) c.print_area.ensures)
+    (lines_then _ (card_lines (shown_cards (flex_cards x t))) (card_lines (shown_cards (heap_cards x t))) (c.print_flex_cards.ensures t e)
+    (offered_as _ (ap (λ o. shown_lines (card_lines (shown_cards (cards_from (card_of_task x o) (heap_start + first_place) t.slot.heap.segments)))) e) heap)))

@@ -1,6 +1,6 @@
-use Rattle.rh_drawn.proofs.Common.{◌<◌, length, refl, arith, flat_map, slice_get_within, left_breaks, left_less, left_none, scene_at}
+use Rattle.rh_drawn.proofs.Common.{◌<◌, length, ap, arith, flat_map, slice_get_within, rest-none, rest-some, scene_at}
 use Rattle.rh_drawn.specs.Parts.{slot_lines}
-use Rattle.rh_drawn.proofs.Walks.{walk-none, walk-some}
+use Rattle.rh_drawn.proofs.Walks.{left_less, left_none}
 use Rattle.rh_drawn.proofs.slots.print_slot_part.Goals as goal
 
 pub tasks-preserved : goal.tasks-preserved
@@ -8,22 +8,13 @@ tasks-preserved g c =
     let d = g.S.Sight.desk c.args.sight.now in
     let x = scene_at d c.args.step.now in
     let r = c.in-Some.ensures.some in
-    left_less c.tasks.invariant (walk-some (flat_map (slot_lines x)) (slot_lines x) (λ t rest. refl) d.tasks c.tasks.i r.0 r.1)
-    (c.in_ok-print_one.ensures r.0 r.1).ok
-
-pub returns-in_err-print_one : goal.returns-in_err-print_one
-returns-in_err-print_one g c =
-    let d = g.S.Sight.desk c.args.sight.now in
-    let x = scene_at d c.args.step.now in
-    let r = c.in-Some.ensures.some in
-    left_breaks _ _ c.tasks.invariant (walk-some (flat_map (slot_lines x)) (slot_lines x) (λ t rest. refl) d.tasks c.tasks.i r.0 r.1)
-    (c.in_err-print_one.ensures r.0 r.1) c.from_residual.ensures.0
+    left_less (slot_lines x r.0) c.tasks.invariant (ap (flat_map (slot_lines x)) (rest-some d.tasks c.tasks.i r.0 r.1)) (c.print_one.ensures r.0 r.1)
 
 pub returns : goal.returns
 returns g c =
     let d = g.S.Sight.desk c.args.sight.now in
     let x = scene_at d c.args.step.now in
-    record { ok = left_none c.tasks.invariant (walk-none (flat_map (slot_lines x)) refl d.tasks c.tasks.i c.in_default.ensures.none); err = tt }
+    left_none c.tasks.invariant (ap (flat_map (slot_lines x)) (rest-none d.tasks c.tasks.i c.in_default.ensures.none))
 
 pub overflow_add-i : goal.overflow_add-i
 overflow_add-i g c =

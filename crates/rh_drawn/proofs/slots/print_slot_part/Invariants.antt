@@ -1,13 +1,14 @@
-use Rattle.rh_drawn.proofs.Common.{◌-◌, length, drop, flat_map, slot_part, scene_at, shown_lines, Left}
+use Rattle.rh_drawn.proofs.Common.{◌-◌, length, drop, flat_map, slot_part, scene_at}
 use Rattle.rh_drawn.specs.Parts.{slot_lines}
+use Rattle.rh_drawn.proofs.Walks.{Left}
 use Rattle.rh_drawn.proofs.slots.print_slot_part.Given as goal
 
 -- the slots from the place on are left
 abbrev pub invariant-tasks : goal.invariant-tasks
 invariant-tasks g l =
     let d = g.S.Sight.desk l.sight in
-    Left (g.W.Sink.output l.initial.writer) (g.W.Sink.output l.writer) (shown_lines (slot_part (scene_at d l.step)))
-    (shown_lines (flat_map (slot_lines (scene_at d l.step)) (drop l.i d.tasks)))
+    Left (g.P.Pen.offered l.initial.pen) (g.P.Pen.offered l.pen) (slot_part (scene_at d l.step))
+    (flat_map (slot_lines (scene_at d l.step)) (drop l.i d.tasks))
 
 abbrev pub decreases-tasks : goal.decreases-tasks
 decreases-tasks g l = length (g.S.Sight.desk l.sight).tasks - l.i
