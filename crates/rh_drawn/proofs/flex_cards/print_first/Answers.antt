@@ -5,9 +5,6 @@ use Rattle.rh_drawn.proofs.DrawingLemmas.{seen-same}
 use Rattle.rh_drawn.proofs.Walks.{left_less, left_none}
 use Rattle.rh_drawn.proofs.flex_cards.print_first.Goals as goal
 
-pub loop-k-init : goal.loop-k-init
-loop-k-init g c = λ t e. record { is = refl }
-
 pub loop-k-preserved : goal.loop-k-preserved
 loop-k-preserved g c = λ t e.
     let d = g.S.Sight.desk c.args.sight.now in
@@ -23,12 +20,3 @@ loop-k-preserved g c = λ t e.
     (c.print_flex.ensures t k q.card e (ap (λ bs. slice_get bs k) (sym are)
     ∙ (slice_get-get_or c.args.blocks.now k c.index-blocks-k.result (omega (arith, c.requires.few, c.loop-k-test.true))
     ∙ ap (λ z. Some z) (sym c.index-blocks-k.is))) q.is)
-
-pub returns : goal.returns
-returns g c = λ t e.
-    let cs = take c.args.shown (flex_cards (scene_at (g.S.Sight.desk c.args.sight.now) c.args.step.now) t) in
-    left_none (c.loop-k.invariant t e) (ap card_lines (drop_all c.loop-k.k cs (omega (
-      arith,
-      length-take c.args.shown (flex_cards (scene_at (g.S.Sight.desk c.args.sight.now) c.args.step.now) t),
-      c.loop-k-test.false,
-    ))))

@@ -12,9 +12,6 @@ segments-items-requires g c =
     let there = band-heap (g.S.Sight.desk c.args.sight.now) c.args.band.now c.requires.band in
     comes-parts (from-first there.heap there.is)
 
-pub loop-k-init : goal.loop-k-init
-loop-k-init g c = λ h e. record { is = refl }
-
 pub bounds-first-k : goal.bounds-first-k
 bounds-first-k g c =
     let d = g.S.Sight.desk c.args.sight.now in
@@ -51,16 +48,3 @@ loop-k-preserved g c = λ h e.
     let at = get-front c.args.shown k cs c.loop-k-test.true ∙ q.card_at in
     left_less (card_lines (card ∷ [])) (c.loop-k.invariant h e) (ap card_lines (rest-some (take c.args.shown cs) k card at))
     (c.print_segment.ensures q.place q.segment q.has (got-is _ k _ _ (ap (λ xs. slice_get xs k) c.as_slice-first.ensures.value ∙ (here ∙ q.item_at))))
-
-pub returns : goal.returns
-returns g c =
-    let d = g.S.Sight.desk c.args.sight.now in
-    let x = scene_at d c.args.step.now in
-    let b = c.args.band.now in
-    if-heap (heap_seen b.heap d) _ (λ h e.
-    let cs = take c.args.shown (band_cards x d b h) in
-    left_none (c.loop-k.invariant h e) (ap card_lines (drop_all c.loop-k.k cs (omega (
-      arith,
-      length-take c.args.shown (band_cards x d b h),
-      c.loop-k-test.false,
-    )))))
