@@ -1,16 +1,16 @@
--- A map behind one line: what was written, and where it stands.
-use Rattle.rh_drawn.proofs.Common.{◌≡◌, ℕ, ◌+◌, ◌<◌, Bool, true, false, ◌||◌, List, [], ◌∷◌, refl, sym, ap, ap₂, ◌∙◌, subst, length, arith, eq-eqb, Option}
-use Rattle.rh_drawn.proofs.Common.{Some, None, Ok, Err, ◌&&◌, if◌then◌else◌, is_err, not, ◌==◌, OnErr, OnOk, Result, eqb-true, Command, LineFault, Reply}
-use Rattle.rh_drawn.proofs.Common.{Desk, Meaning, line_means, IsReordered, step, fault_text, kept, kept_means, Share, IsShared, Text, scene_of, Place}
-use Rattle.rh_drawn.proofs.Common.{is_mark, lines_of_read, written_lines, Breaks, Output, Puts, Takes, takes_none, Mapper, reply_to, Drew, TookLine, place_in}
+-- A map behind one line: what its pen was offered, and where it stands.
+use Rattle.rh_drawn.proofs.Common.{◌≡◌, ℕ, ◌+◌, ◌<◌, Bool, true, false, ◌||◌, List, [], ◌∷◌, ◌++◌, append-nil, refl, sym, ap, ap₂, ◌∙◌, subst, length, arith, eq-eqb}
+use Rattle.rh_drawn.proofs.Common.{Option, Some, None, Ok, Err, ◌&&◌, if◌then◌else◌, is_err, not, ◌==◌, OnErr, OnOk, Result, eqb-true, Command, LineFault, Reply}
+use Rattle.rh_drawn.proofs.Common.{Desk, Meaning, line_means, IsReordered, step, fault_text, kept, kept_means, Share, IsShared, Text, scene_of, Place, after_read}
+use Rattle.rh_drawn.proofs.Common.{is_mark, lines_of_read, written_lines, Output, Puts, Mapper, reply_to, Drew, place_in}
 use Rattle.rh_defs.specs.declared.reply.Reply.TheVariants.{Done}
 use Rattle.rh_feed.proofs.LineLemmas.{kept_nil}
 use Rattle.rh_figure.specs.Scene.{Before, before_of, marks_of}
 use Rattle.rh_figure.specs.Map.{command_lines, step_lines}
 use Rattle.rh_figure.proofs.Alike.{marks-alike, scene-alike}
 use Rattle.rh_drawn.specs.Deeds.{IsLikeReply, rest_means}
-use Rattle.rh_drawn.specs.DrawnPlaces.{Broke, BrokeLine, BrokeRest, TookRest}
-use Rattle.rh_drawn.specs.Inner.StepsShown.{IsSamePlace, shown_step}
+use Rattle.rh_drawn.specs.DrawnPlaces.{Broke, BrokeRest, TookRest}
+use Rattle.rh_drawn.specs.Inner.StepsShown.{IsSamePlace, Offers, shown_step}
 use Rattle.rh_drawn.proofs.MapLemmas.{shared_alike}
 use Rattle.rh_drawn.proofs.ReadLemmas.{same_read}
 use Rattle.rh_drawn.proofs.RunLemmas.{kept_some, rest_bad, same_rest}
@@ -85,17 +85,17 @@ step-shown wanted n line d e s c r is like =
     ap₂ (λ still x. step_lines (still && not wanted) n line (reply_to d c) x) like.still
     (ap (scene_of e s b) (like.marks e b ∙ marks-alike is b (Some c) said) ∙ scene-alike is s b (marks_of (step d c).0 b (Some c) said))
 
--- ---- what a mapper has done with a line
+-- ---- what a mapper has offered of a line
 
-module _ {D : Type 0} (desk : D → Desk) (m : Mapper D) (o : Output) (line : Text) where
+module _ {D : Type 0} (desk : D → Desk) (m : Mapper D) (line : Text) (old : List ℕ) where
   -- a line that asks for nothing
-  pub drew-none : (n : Mapper D) (p : Output) (s : Share) → IsShared s (desk n.drawn) → n.drawn ≡ m.drawn → n.marked ≡ m.marked → n.steps ≡ m.steps
+  pub offers-none : (n : Mapper D) (new : List ℕ) (s : Share) → IsShared s (desk n.drawn) → n.drawn ≡ m.drawn → n.marked ≡ m.marked → n.steps ≡ m.steps
       → n.wanted ≡ (m.wanted || is_mark line) → n.has_bad_line ≡ m.has_bad_line
-      → Takes o p (written_lines (lines_of_read m.marked s (place_in desk m) (line, Ok None))) → Drew desk m o line (Ok None) n p
-  drew-none n p s shared drawn marked steps wanted bad written = record {
+      → new ≡ old ++ written_lines (lines_of_read m.marked s (place_in desk m) (line, Ok None)) → Offers desk m line (Ok None) n old new
+  offers-none n new s shared drawn marked steps wanted bad offered = record {
     share = s;
     shared = shared-as desk s m.drawn n.drawn drawn shared;
-    written = written;
+    offered = offered;
     follows = record {
       desk_is = reordered-as desk m.drawn n.drawn drawn;
       marked_is = marked;
@@ -105,18 +105,14 @@ module _ {D : Type 0} (desk : D → Desk) (m : Mapper D) (o : Output) (line : Te
     };
   }
 
-  pub broke-none : (n : Mapper D) (p : Output) (s : Share) → IsShared s (desk n.drawn) → n.drawn ≡ m.drawn
-      → Breaks o p (written_lines (lines_of_read m.marked s (place_in desk m) (line, Ok None))) → Broke desk m o line (Ok None) p
-  broke-none n p s shared drawn broken = record { share = s; shared = shared-as desk s m.drawn n.drawn drawn shared; broken = broken }
-
   -- a command
-  pub drew-command : (c : Command) (n : Mapper D) (p : Output) (s : Share) → IsReordered (step (desk m.drawn) c).0 (desk n.drawn) → IsShared s (desk n.drawn)
+  offers-command : (c : Command) (n : Mapper D) (new : List ℕ) (s : Share) → IsReordered (step (desk m.drawn) c).0 (desk n.drawn) → IsShared s (desk n.drawn)
       → n.marked ≡ m.marked → n.steps ≡ m.steps + 1 → n.wanted ≡ false → n.has_bad_line ≡ m.has_bad_line
-      → Takes o p (written_lines (lines_of_read m.marked s (place_in desk m) (line, Ok (Some c)))) → Drew desk m o line (Ok (Some c)) n p
-  drew-command c n p s is shared marked steps wanted bad written = record {
+      → new ≡ old ++ written_lines (lines_of_read m.marked s (place_in desk m) (line, Ok (Some c))) → Offers desk m line (Ok (Some c)) n old new
+  offers-command c n new s is shared marked steps wanted bad offered = record {
     share = s;
     shared = shared_alike s is shared;
-    written = written;
+    offered = offered;
     follows = record {
       desk_is = is;
       marked_is = marked;
@@ -126,19 +122,14 @@ module _ {D : Type 0} (desk : D → Desk) (m : Mapper D) (o : Output) (line : Te
     };
   }
 
-  pub broke-command : (c : Command) (n : Mapper D) (p : Output) (s : Share) → IsReordered (step (desk m.drawn) c).0 (desk n.drawn) → IsShared s (desk n.drawn)
-      → Breaks o p (written_lines (lines_of_read m.marked s (place_in desk m) (line, Ok (Some c)))) → Broke desk m o line (Ok (Some c)) p
-  broke-command c n p s is shared broken = record { share = s; shared = shared_alike s is shared; broken = broken }
-
   -- a bad line
-  pub drew-fault : (f : LineFault) (n : Mapper D) (p : Output) (s : Share) → IsShared s (desk n.drawn) → n.drawn ≡ m.drawn → n.marked ≡ m.marked
+  offers-fault : (f : LineFault) (n : Mapper D) (new : List ℕ) (s : Share) → IsShared s (desk n.drawn) → n.drawn ≡ m.drawn → n.marked ≡ m.marked
       → n.steps ≡ m.steps + 1 → n.wanted ≡ false → n.has_bad_line ≡ true
-      → Takes o p (written_lines (lines_of_read m.marked s (place_in desk m) (line, Err f)))
-      → Drew desk m o line (Err f) n p
-  drew-fault f n p s shared drawn marked steps wanted bad written = record {
+      → new ≡ old ++ written_lines (lines_of_read m.marked s (place_in desk m) (line, Err f)) → Offers desk m line (Err f) n old new
+  offers-fault f n new s shared drawn marked steps wanted bad offered = record {
     share = s;
     shared = shared-as desk s m.drawn n.drawn drawn shared;
-    written = written;
+    offered = offered;
     follows = record {
       desk_is = reordered-as desk m.drawn n.drawn drawn;
       marked_is = marked;
@@ -148,104 +139,64 @@ module _ {D : Type 0} (desk : D → Desk) (m : Mapper D) (o : Output) (line : Te
     };
   }
 
-  pub broke-fault : (f : LineFault) (n : Mapper D) (p : Output) (s : Share) → IsShared s (desk n.drawn) → n.drawn ≡ m.drawn
-      → Breaks o p (written_lines (lines_of_read m.marked s (place_in desk m) (line, Err f)))
-      → Broke desk m o line (Err f) p
-  broke-fault f n p s shared drawn broken = record { share = s; shared = shared-as desk s m.drawn n.drawn drawn shared; broken = broken }
-
 -- ---- a line as far as it is kept
 
-module _ {D : Type 0} {desk : D → Desk} {m n : Mapper D} {o p : Output} where
-  pub drew-kept : (line : Text) → Drew desk m o line (line_means line) n p → TookLine desk m o (kept line) n p
-  drew-kept line drew =
-      let same = same_read line in
-      let at = place_in desk m in
-      let S : Place → Type 0 = λ z. IsShared drew.share z.desk in
-      let W : List Text → Type 0 = λ z. Takes o p (written_lines z) in
+module _ {D : Type 0} {desk : D → Desk} {m n : Mapper D} {old new : List ℕ} where
+  -- the same of another line, of which the same is shown
+  offers-as : {a b : Text} {of_a of_b : Meaning (Option Command)}
+      → ((s : Share) → lines_of_read m.marked s (place_in desk m) (b, of_b) ≡ lines_of_read m.marked s (place_in desk m) (a, of_a))
+      → after_read (place_in desk m) (b, of_b) ≡ after_read (place_in desk m) (a, of_a) → is_err of_b ≡ is_err of_a
+      → Offers desk m a of_a n old new → Offers desk m b of_b n old new
+  offers-as lines after bad offers =
+      let S : Place → Type 0 = λ z. IsShared offers.share z.desk in
       let R : Place → Type 0 = λ z. IsReordered z.desk (desk n.drawn) in
       record {
-        share = drew.share;
-        shared = subst S (sym (same.after at)) drew.shared;
-        written = subst W (sym (same.lines m.marked drew.share at)) drew.written;
+        share = offers.share;
+        shared = subst S (sym after) offers.shared;
+        offered = offers.offered ∙ ap (λ z. old ++ written_lines z) (sym (lines offers.share));
         follows = record {
-          desk_is = subst R (sym (same.after at)) drew.follows.desk_is;
-          marked_is = drew.follows.marked_is;
-          steps = drew.follows.steps ∙ ap (λ (z : Place). z.steps) (sym (same.after at));
-          wanted = drew.follows.wanted ∙ ap (λ (z : Place). z.wanted) (sym (same.after at));
-          bad = drew.follows.bad ∙ ap (λ z. m.has_bad_line || is_err z) (sym (kept_means line));
+          desk_is = subst R (sym after) offers.follows.desk_is;
+          marked_is = offers.follows.marked_is;
+          steps = offers.follows.steps ∙ ap (λ (z : Place). z.steps) (sym after);
+          wanted = offers.follows.wanted ∙ ap (λ (z : Place). z.wanted) (sym after);
+          bad = offers.follows.bad ∙ ap (λ z. m.has_bad_line || z) (sym bad);
         };
       }
 
-  pub drew-rest : (rest : Text) → 0 < length rest → Drew desk m o rest (rest_means rest) n p → TookRest desk m o (kept rest) n p
+  pub offers-kept : (line : Text) → Offers desk m line (line_means line) n old new → Offers desk m (kept line) (line_means (kept line)) n old new
+  offers-kept line =
+      let same = same_read line in
+      offers-as (λ s. same.lines m.marked s (place_in desk m)) (same.after (place_in desk m)) (ap is_err (kept_means line))
+
+  pub offers-rest : (rest : Text) → Offers desk m rest (rest_means rest) n old new → Offers desk m (kept rest) (rest_means (kept rest)) n old new
+  offers-rest rest =
+      let same = same_rest rest in
+      offers-as (λ s. same.lines m.marked s (place_in desk m)) (same.after (place_in desk m)) (same.bad ∙ sym (rest_bad rest))
+
+  -- a writer took what was offered, or failed before the end of it
+  module _ {E : Type 0} {o p : Output} {line : Text} {means : Meaning (Option Command)} (r : Result Unit E) (offers : Offers desk m line means n old new)
+      (puts : Puts o p r (written_lines (lines_of_read m.marked offers.share (place_in desk m) (line, means)))) where
+    pub drew-line : OnOk r (Drew desk m o line means n p)
+    drew-line = on-ok r (λ takes. record { share = offers.share; shared = offers.shared; written = takes; follows = offers.follows }) puts.ok
+
+    pub broke-line : OnErr r (Broke desk m o line means p)
+    broke-line = on-err r (λ breaks. record { share = offers.share; shared = offers.shared; broken = breaks }) puts.err
+
+-- the same of what stands behind the last line feed, if that is something
+module _ {D : Type 0} {desk : D → Desk} {m : Mapper D} {o p : Output} where
+  pub drew-rest : {n : Mapper D} (rest : Text) → 0 < length rest → Drew desk m o (kept rest) (rest_means (kept rest)) n p → TookRest desk m o (kept rest) n p
   drew-rest [] some drew = absurd (omega arith)
-  drew-rest (b ∷ bs) some drew =
-      let line : Text = b ∷ bs in
-      let same = same_rest line in
-      let at = place_in desk m in
-      let S : Place → Type 0 = λ z. IsShared drew.share z.desk in
-      let W : List Text → Type 0 = λ z. Takes o p (written_lines z) in
-      let R : Place → Type 0 = λ z. IsReordered z.desk (desk n.drawn) in
-      let here : Drew desk m o (kept line) (rest_means (kept line)) n p = record {
-        share = drew.share;
-        shared = subst S (sym (same.after at)) drew.shared;
-        written = subst W (sym (same.lines m.marked drew.share at)) drew.written;
-        follows = record {
-          desk_is = subst R (sym (same.after at)) drew.follows.desk_is;
-          marked_is = drew.follows.marked_is;
-          steps = drew.follows.steps ∙ ap (λ (z : Place). z.steps) (sym (same.after at));
-          wanted = drew.follows.wanted ∙ ap (λ (z : Place). z.wanted) (sym (same.after at));
-          bad = drew.follows.bad ∙ ap (λ z. m.has_bad_line || z) (rest_bad line ∙ sym same.bad);
-        };
-      } in
+  drew-rest {n} (b ∷ bs) some drew =
       let K : Text → Type 0 = λ z. Drew desk m o z (rest_means z) n p in
       let T : Text → Type 0 = λ z. TookRest desk m o z n p in
-      subst T (sym (kept_some b bs)) (subst K (kept_some b bs) here)
+      subst T (sym (kept_some b bs)) (subst K (kept_some b bs) drew)
 
--- the same where the writer failed
-module _ {D : Type 0} {desk : D → Desk} {m : Mapper D} {o p : Output} where
-  pub broke-kept : (line : Text) → Broke desk m o line (line_means line) p → BrokeLine desk m o (kept line) p
-  broke-kept line broke =
-      let same = same_read line in
-      let at = place_in desk m in
-      let S : Place → Type 0 = λ z. IsShared broke.share z.desk in
-      let W : List Text → Type 0 = λ z. Breaks o p (written_lines z) in
-      record {
-        share = broke.share;
-        shared = subst S (sym (same.after at)) broke.shared;
-        broken = subst W (sym (same.lines m.marked broke.share at)) broke.broken;
-      }
-
-  pub broke-rest : (rest : Text) → 0 < length rest → Broke desk m o rest (rest_means rest) p → BrokeRest desk m o (kept rest) p
+  pub broke-rest : (rest : Text) → 0 < length rest → Broke desk m o (kept rest) (rest_means (kept rest)) p → BrokeRest desk m o (kept rest) p
   broke-rest [] some broke = absurd (omega arith)
   broke-rest (b ∷ bs) some broke =
-      let line : Text = b ∷ bs in
-      let same = same_rest line in
-      let at = place_in desk m in
-      let S : Place → Type 0 = λ z. IsShared broke.share z.desk in
-      let W : List Text → Type 0 = λ z. Breaks o p (written_lines z) in
-      let here : Broke desk m o (kept line) (rest_means (kept line)) p = record {
-        share = broke.share;
-        shared = subst S (sym (same.after at)) broke.shared;
-        broken = subst W (sym (same.lines m.marked broke.share at)) broke.broken;
-      } in
       let K : Text → Type 0 = λ z. Broke desk m o z (rest_means z) p in
       let T : Text → Type 0 = λ z. BrokeRest desk m o z p in
-      subst T (sym (kept_some b bs)) (subst K (kept_some b bs) here)
-
--- the same by what was found of the line
-module _ {D : Type 0} (desk : D → Desk) (m : Mapper D) (o p : Output) {E : Type 0} (r : Result Unit E) (line : Text) (found : Meaning (Option Command)) where
-  pub line-took : (n : Mapper D) → found ≡ line_means line → OnOk r (Drew desk m o line found n p) → OnOk r (TookLine desk m o (kept line) n p)
-  line-took n e = let W : Meaning (Option Command) → Type 0 = λ z. Drew desk m o line z n p in on-ok r (λ drew. drew-kept line (subst W e drew))
-
-  pub line-broke : found ≡ line_means line → OnErr r (Broke desk m o line found p) → OnErr r (BrokeLine desk m o (kept line) p)
-  line-broke e = let W : Meaning (Option Command) → Type 0 = λ z. Broke desk m o line z p in on-err r (λ broke. broke-kept line (subst W e broke))
-
-  pub rest-took : (n : Mapper D) → 0 < length line → found ≡ rest_means line → OnOk r (Drew desk m o line found n p)
-      → OnOk r (TookRest desk m o (kept line) n p)
-  rest-took n some e = let W : Meaning (Option Command) → Type 0 = λ z. Drew desk m o line z n p in on-ok r (λ drew. drew-rest line some (subst W e drew))
-
-  pub rest-broke : 0 < length line → found ≡ rest_means line → OnErr r (Broke desk m o line found p) → OnErr r (BrokeRest desk m o (kept line) p)
-  rest-broke some e = let W : Meaning (Option Command) → Type 0 = λ z. Broke desk m o line z p in on-err r (λ broke. broke-rest line some (subst W e broke))
+      subst T (sym (kept_some b bs)) (subst K (kept_some b bs) broke)
 
 -- something or nothing stands behind the last line feed
 pub has-rest : (rest : Text) → false ≡ (length rest == 0) → 0 < length rest
@@ -280,30 +231,31 @@ rest-as {D} k e = record {
   bad = ap (λ (z : Mapper D). z.has_bad_line) e;
 }
 
-module _ {D : Type 0} (desk : D → Desk) (m b : Mapper D) (o : Output) (line : Text) (w : Bool) (was : w ≡ m.wanted) (counts : Counts m b) where
+module _ {D : Type 0} (desk : D → Desk) (m b : Mapper D) (line : Text) (old : List ℕ) (w : Bool) (was : w ≡ m.wanted) (counts : Counts m b) where
   hidden-test : (b.marked && not w) ≡ true → (not m.marked || m.wanted) ≡ false
   hidden-test e = is-hidden m.marked m.wanted (ap₂ (λ x y. x && not y) (sym (ap (λ (z : Mapper D). z.marked) counts)) (sym was) ∙ e)
 
   shown-test : (b.marked && not w) ≡ false → (not m.marked || m.wanted) ≡ true
   shown-test e = is-shown m.marked m.wanted (ap₂ (λ x y. x && not y) (sym (ap (λ (z : Mapper D). z.marked) counts)) (sym was) ∙ e)
 
+  nothing-offered : (xs : List Text) → (b.marked && not w) ≡ true → old ≡ old ++ written_lines (if not m.marked || m.wanted then xs else [])
+  nothing-offered xs test = sym (append-nil old) ∙ ap (λ z. old ++ written_lines z) (sym (when-off xs (hidden-test test)))
+
   pub hidden-command : (c : Command) (n : Mapper D) (s : Share) → (b.marked && not w) ≡ true → IsReordered (step (desk b.drawn) c).0 (desk n.drawn)
-      → IsRest b n → IsShared s (desk n.drawn) → Drew desk m o line (Ok (Some c)) n o
+      → IsRest b n → IsShared s (desk n.drawn) → Offers desk m line (Ok (Some c)) n old old
   hidden-command c n s test is rest shared =
       let P : D → Type 0 = λ z. IsReordered (step (desk z) c).0 (desk n.drawn) in
-      let W : List Text → Type 0 = λ z. Takes o o (written_lines z) in
-      drew-command desk m o line c n o s (subst P (ap (λ (z : Mapper D). z.drawn) counts) is) shared
+      offers-command desk m line old c n old s (subst P (ap (λ (z : Mapper D). z.drawn) counts) is) shared
       (rest.marked ∙ ap (λ (z : Mapper D). z.marked) counts) (rest.steps ∙ ap (λ (z : Mapper D). z.steps) counts)
       (rest.wanted ∙ ap (λ (z : Mapper D). z.wanted) counts) (rest.bad ∙ ap (λ (z : Mapper D). z.has_bad_line) counts)
-      (subst W (sym (when-off _ (hidden-test test))) (takes_none o))
+      (nothing-offered _ test)
 
   pub hidden-fault : (f : LineFault) (n : Mapper D) (s : Share) → (b.marked && not w) ≡ true → n.drawn ≡ b.drawn → n.marked ≡ b.marked → n.steps ≡ b.steps
-      → n.wanted ≡ b.wanted → n.has_bad_line ≡ true → IsShared s (desk n.drawn) → Drew desk m o line (Err f) n o
+      → n.wanted ≡ b.wanted → n.has_bad_line ≡ true → IsShared s (desk n.drawn) → Offers desk m line (Err f) n old old
   hidden-fault f n s test drawn marked steps wanted bad shared =
-      let W : List Text → Type 0 = λ z. Takes o o (written_lines z) in
-      drew-fault desk m o line f n o s shared (drawn ∙ ap (λ (z : Mapper D). z.drawn) counts)
+      offers-fault desk m line old f n old s shared (drawn ∙ ap (λ (z : Mapper D). z.drawn) counts)
       (marked ∙ ap (λ (z : Mapper D). z.marked) counts) (steps ∙ ap (λ (z : Mapper D). z.steps) counts) (wanted ∙ ap (λ (z : Mapper D). z.wanted) counts) bad
-      (subst W (sym (when-off _ (hidden-test test))) (takes_none o))
+      (nothing-offered _ test)
 
   -- the lines of a command that is shown
   pub command-text : (c : Command) (s : Share) (a : Mapper D) (k : Before) (r : Reply) → (b.marked && not w) ≡ false
@@ -330,56 +282,46 @@ module _ {D : Type 0} (desk : D → Desk) (m b : Mapper D) (o : Output) (line : 
       (steps ∙ ap (λ (z : Mapper D). z.steps) counts) same
       ∙ sym (when-on (shown-test test)))
 
-  module _ {E : Type 0} (a n : Mapper D) (p : Output) (r : Result Unit E) (s : Share) (same : IsSamePlace a n) (shared : IsShared s (desk a.drawn)) where
+  module _ (a n : Mapper D) (new : List ℕ) (s : Share) (same : IsSamePlace a n) (shared : IsShared s (desk a.drawn)) where
     there : IsShared s (desk n.drawn)
     there = let S : D → Type 0 = λ z. IsShared s (desk z) in subst S (sym same.drawn_is) shared
 
-    -- a command was shown, or the writer failed
+    -- a command was shown
     pub told-command : (c : Command) → IsReordered (step (desk b.drawn) c).0 (desk a.drawn) → IsRest b a
-        → Puts o p r (written_lines (lines_of_read m.marked s (place_in desk m) (line, Ok (Some c))))
-        → OnOk r (Drew desk m o line (Ok (Some c)) n p) × OnErr r (Broke desk m o line (Ok (Some c)) p)
-    told-command c is rest puts =
+        → new ≡ old ++ written_lines (lines_of_read m.marked s (place_in desk m) (line, Ok (Some c))) → Offers desk m line (Ok (Some c)) n old new
+    told-command c is rest =
         let P : D → Type 0 = λ z. IsReordered (step (desk z) c).0 (desk a.drawn) in
         let Q : D → Type 0 = λ z. IsReordered (step (desk m.drawn) c).0 (desk z) in
-        let now = subst Q (sym same.drawn_is) (subst P (ap (λ (z : Mapper D). z.drawn) counts) is) in (
-          on-ok r (λ takes. drew-command desk m o line c n p s now there
-              (same.marked_is ∙ (rest.marked ∙ ap (λ (z : Mapper D). z.marked) counts))
-              (same.steps ∙ (rest.steps ∙ ap (λ (z : Mapper D). z.steps) counts))
-              (same.wanted ∙ (rest.wanted ∙ ap (λ (z : Mapper D). z.wanted) counts))
-              (same.bad ∙ (rest.bad ∙ ap (λ (z : Mapper D). z.has_bad_line) counts)) takes) puts.ok,
-          on-err r (λ breaks. broke-command desk m o line c n p s now there breaks) puts.err,
-        )
+        let now = subst Q (sym same.drawn_is) (subst P (ap (λ (z : Mapper D). z.drawn) counts) is) in
+        offers-command desk m line old c n new s now there
+        (same.marked_is ∙ (rest.marked ∙ ap (λ (z : Mapper D). z.marked) counts))
+        (same.steps ∙ (rest.steps ∙ ap (λ (z : Mapper D). z.steps) counts))
+        (same.wanted ∙ (rest.wanted ∙ ap (λ (z : Mapper D). z.wanted) counts))
+        (same.bad ∙ (rest.bad ∙ ap (λ (z : Mapper D). z.has_bad_line) counts))
 
-    -- a bad line was shown, or the writer failed
+    -- a bad line was shown
     pub told-fault : (f : LineFault) → a.drawn ≡ b.drawn → a.marked ≡ b.marked → a.steps ≡ b.steps → a.wanted ≡ b.wanted → a.has_bad_line ≡ true
-        → Puts o p r (written_lines (lines_of_read m.marked s (place_in desk m) (line, Err f)))
-        → OnOk r (Drew desk m o line (Err f) n p) × OnErr r (Broke desk m o line (Err f) p)
-    told-fault f drawn marked steps wanted bad puts =
-        let now = same.drawn_is ∙ (drawn ∙ ap (λ (z : Mapper D). z.drawn) counts) in (
-          on-ok r (λ takes. drew-fault desk m o line f n p s there now
-              (same.marked_is ∙ (marked ∙ ap (λ (z : Mapper D). z.marked) counts))
-              (same.steps ∙ (steps ∙ ap (λ (z : Mapper D). z.steps) counts))
-              (same.wanted ∙ (wanted ∙ ap (λ (z : Mapper D). z.wanted) counts))
-              (same.bad ∙ bad) takes) puts.ok,
-          on-err r (λ breaks. broke-fault desk m o line f n p s there now breaks) puts.err,
-        )
+        → new ≡ old ++ written_lines (lines_of_read m.marked s (place_in desk m) (line, Err f)) → Offers desk m line (Err f) n old new
+    told-fault f drawn marked steps wanted bad =
+        let now = same.drawn_is ∙ (drawn ∙ ap (λ (z : Mapper D). z.drawn) counts) in
+        offers-fault desk m line old f n new s there now
+        (same.marked_is ∙ (marked ∙ ap (λ (z : Mapper D). z.marked) counts))
+        (same.steps ∙ (steps ∙ ap (λ (z : Mapper D). z.steps) counts))
+        (same.wanted ∙ (wanted ∙ ap (λ (z : Mapper D). z.wanted) counts))
+        (same.bad ∙ bad)
 
 -- a line is bad, whatever was before it
-pub fault-from : {D : Type 0} {desk : D → Desk} {m n : Mapper D} {o p : Output} {line : Text} {f : LineFault}
-    → Drew desk (record m { has_bad_line = true }) o line (Err f) n p → Drew desk m o line (Err f) n p
-fault-from {m = m} drew = record {
-  share = drew.share;
-  shared = drew.shared;
-  written = drew.written;
+pub fault-from : {D : Type 0} {desk : D → Desk} {m n : Mapper D} {line : Text} {f : LineFault} {old new : List ℕ}
+    → Offers desk (record m { has_bad_line = true }) line (Err f) n old new → Offers desk m line (Err f) n old new
+fault-from {m = m} offers = record {
+  share = offers.share;
+  shared = offers.shared;
+  offered = offers.offered;
   follows = record {
-    desk_is = drew.follows.desk_is;
-    marked_is = drew.follows.marked_is;
-    steps = drew.follows.steps;
-    wanted = drew.follows.wanted;
-    bad = drew.follows.bad ∙ or-on m.has_bad_line;
+    desk_is = offers.follows.desk_is;
+    marked_is = offers.follows.marked_is;
+    steps = offers.follows.steps;
+    wanted = offers.follows.wanted;
+    bad = offers.follows.bad ∙ or-on m.has_bad_line;
   };
 }
-
-pub fault-stops : {D : Type 0} {desk : D → Desk} {m : Mapper D} {o p : Output} {line : Text} {f : LineFault}
-    → Broke desk (record m { has_bad_line = true }) o line (Err f) p → Broke desk m o line (Err f) p
-fault-stops broke = record { share = broke.share; shared = broke.shared; broken = broke.broken }

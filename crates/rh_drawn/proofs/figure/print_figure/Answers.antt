@@ -2,97 +2,19 @@ use Rattle.rh_drawn.proofs.Common.{[], ◌∷◌, ◌++◌, ap, sym, refl, shown
 use Rattle.rh_drawn.specs.Parts.{letter_part, module_part, pool_part, transfer_part}
 use Rattle.rh_drawn.specs.Inner.PartsBehind.{change_part}
 use Rattle.rh_drawn.proofs.FigureLemmas.{behind_areas, behind_changes, behind_module, figure-parts}
-use Rattle.rh_drawn.proofs.Walks.{lines_stop, lines_then, puts_line, puts_same}
+use Rattle.rh_drawn.proofs.Walks.{lines_then, offered_line, offered_as}
 use Rattle.rh_drawn.proofs.figure.print_figure.Goals as goal
-
-pub returns-in_err-print_changes : goal.returns-in_err-print_changes
-returns-in_err-print_changes g c =
-    let x = scene_at (g.S.Sight.desk c.args.sight.now) c.args.step.now in
-    puts_same (ap shown_lines (sym (figure-parts x)))
-    (lines_stop _ (change_part x) (behind_changes x) c.in_err-print_changes.ensures c.from_residual.ensures.0)
-
-pub returns-in_err-put_line : goal.returns-in_err-put_line
-returns-in_err-put_line g c =
-    let x = scene_at (g.S.Sight.desk c.args.sight.now) c.args.step.now in
-    puts_same (ap shown_lines (sym (figure-parts x)))
-    (lines_then (change_part x) (behind_changes x) c.in_ok-print_changes.ensures
-    (lines_stop _ ([] ∷ []) (pool_part x ++ (area_part x ++ behind_areas x)) (puts_line {x = []} refl c.in_err-put_line.ensures)
-    c.from_residual-in_err-put_line.ensures.0))
-
-pub returns-in_err-print_pool_part : goal.returns-in_err-print_pool_part
-returns-in_err-print_pool_part g c =
-    let x = scene_at (g.S.Sight.desk c.args.sight.now) c.args.step.now in
-    puts_same (ap shown_lines (sym (figure-parts x)))
-    (lines_then (change_part x) (behind_changes x) c.in_ok-print_changes.ensures
-    (lines_then ([] ∷ []) (pool_part x ++ (area_part x ++ behind_areas x)) (puts_line {x = []} refl c.in_ok-put_line.ensures)
-    (lines_stop _ (pool_part x) (area_part x ++ behind_areas x) c.in_err-print_pool_part.ensures c.from_residual-in_err-print_pool_part.ensures.0)))
-
-pub returns-in_err-print_area_part : goal.returns-in_err-print_area_part
-returns-in_err-print_area_part g c =
-    let x = scene_at (g.S.Sight.desk c.args.sight.now) c.args.step.now in
-    puts_same (ap shown_lines (sym (figure-parts x)))
-    (lines_then (change_part x) (behind_changes x) c.in_ok-print_changes.ensures
-    (lines_then ([] ∷ []) (pool_part x ++ (area_part x ++ behind_areas x)) (puts_line {x = []} refl c.in_ok-put_line.ensures)
-    (lines_then (pool_part x) (area_part x ++ behind_areas x) c.in_ok-print_pool_part.ensures
-    (lines_stop _ (area_part x) (behind_areas x) c.in_err-print_area_part.ensures c.from_residual-in_err-print_area_part.ensures.0))))
-
-pub returns-in_err-print_slot_part : goal.returns-in_err-print_slot_part
-returns-in_err-print_slot_part g c =
-    let x = scene_at (g.S.Sight.desk c.args.sight.now) c.args.step.now in
-    puts_same (ap shown_lines (sym (figure-parts x)))
-    (lines_then (change_part x) (behind_changes x) c.in_ok-print_changes.ensures
-    (lines_then ([] ∷ []) (pool_part x ++ (area_part x ++ behind_areas x)) (puts_line {x = []} refl c.in_ok-put_line.ensures)
-    (lines_then (pool_part x) (area_part x ++ behind_areas x) c.in_ok-print_pool_part.ensures
-    (lines_then (area_part x) (behind_areas x) c.in_ok-print_area_part.ensures
-    (lines_stop _ (slot_part x) (module_part x ++ behind_module x) c.in_err-print_slot_part.ensures c.from_residual-in_err-print_slot_part.ensures.0)))))
-
-pub returns-in_err-print_module_part : goal.returns-in_err-print_module_part
-returns-in_err-print_module_part g c =
-    let x = scene_at (g.S.Sight.desk c.args.sight.now) c.args.step.now in
-    puts_same (ap shown_lines (sym (figure-parts x)))
-    (lines_then (change_part x) (behind_changes x) c.in_ok-print_changes.ensures
-    (lines_then ([] ∷ []) (pool_part x ++ (area_part x ++ behind_areas x)) (puts_line {x = []} refl c.in_ok-put_line.ensures)
-    (lines_then (pool_part x) (area_part x ++ behind_areas x) c.in_ok-print_pool_part.ensures
-    (lines_then (area_part x) (behind_areas x) c.in_ok-print_area_part.ensures
-    (lines_then (slot_part x) (module_part x ++ behind_module x) c.in_ok-print_slot_part.ensures
-    (lines_stop _ (module_part x) (behind_module x) c.in_err-print_module_part.ensures c.from_residual-in_err-print_module_part.ensures.0))))))
-
-pub returns-in_err-print_letter_part : goal.returns-in_err-print_letter_part
-returns-in_err-print_letter_part g c =
-    let x = scene_at (g.S.Sight.desk c.args.sight.now) c.args.step.now in
-    puts_same (ap shown_lines (sym (figure-parts x)))
-    (lines_then (change_part x) (behind_changes x) c.in_ok-print_changes.ensures
-    (lines_then ([] ∷ []) (pool_part x ++ (area_part x ++ behind_areas x)) (puts_line {x = []} refl c.in_ok-put_line.ensures)
-    (lines_then (pool_part x) (area_part x ++ behind_areas x) c.in_ok-print_pool_part.ensures
-    (lines_then (area_part x) (behind_areas x) c.in_ok-print_area_part.ensures
-    (lines_then (slot_part x) (module_part x ++ behind_module x) c.in_ok-print_slot_part.ensures
-    (lines_then (module_part x) (behind_module x) c.in_ok-print_module_part.ensures
-    (lines_stop _ (letter_part x) (transfer_part x ++ [] ∷ []) c.in_err-print_letter_part.ensures c.from_residual-in_err-print_letter_part.ensures.0)))))))
-
-pub returns-in_err-print_transfer_part : goal.returns-in_err-print_transfer_part
-returns-in_err-print_transfer_part g c =
-    let x = scene_at (g.S.Sight.desk c.args.sight.now) c.args.step.now in
-    puts_same (ap shown_lines (sym (figure-parts x)))
-    (lines_then (change_part x) (behind_changes x) c.in_ok-print_changes.ensures
-    (lines_then ([] ∷ []) (pool_part x ++ (area_part x ++ behind_areas x)) (puts_line {x = []} refl c.in_ok-put_line.ensures)
-    (lines_then (pool_part x) (area_part x ++ behind_areas x) c.in_ok-print_pool_part.ensures
-    (lines_then (area_part x) (behind_areas x) c.in_ok-print_area_part.ensures
-    (lines_then (slot_part x) (module_part x ++ behind_module x) c.in_ok-print_slot_part.ensures
-    (lines_then (module_part x) (behind_module x) c.in_ok-print_module_part.ensures
-    (lines_then (letter_part x) (transfer_part x ++ [] ∷ []) c.in_ok-print_letter_part.ensures
-    (lines_stop _ (transfer_part x) ([] ∷ []) (c.in_err-print_transfer_part.ensures x.share x.before x.marks)
-    c.from_residual-in_err-print_transfer_part.ensures.0))))))))
 
 pub returns : goal.returns
 returns g c =
     let x = scene_at (g.S.Sight.desk c.args.sight.now) c.args.step.now in
-    puts_same (ap shown_lines (sym (figure-parts x)))
-    (lines_then (change_part x) (behind_changes x) c.in_ok-print_changes.ensures
-    (lines_then ([] ∷ []) (pool_part x ++ (area_part x ++ behind_areas x)) (puts_line {x = []} refl c.in_ok-put_line.ensures)
-    (lines_then (pool_part x) (area_part x ++ behind_areas x) c.in_ok-print_pool_part.ensures
-    (lines_then (area_part x) (behind_areas x) c.in_ok-print_area_part.ensures
-    (lines_then (slot_part x) (module_part x ++ behind_module x) c.in_ok-print_slot_part.ensures
-    (lines_then (module_part x) (behind_module x) c.in_ok-print_module_part.ensures
-    (lines_then (letter_part x) (transfer_part x ++ [] ∷ []) c.in_ok-print_letter_part.ensures
-    (lines_then (transfer_part x) ([] ∷ []) (c.in_ok-print_transfer_part.ensures x.share x.before x.marks)
-    (puts_line {x = []} refl c.put_line-2.ensures)))))))))
+    offered_as _ (ap shown_lines (sym (figure-parts x)))
+    (lines_then _ (change_part x) (behind_changes x) c.print_changes.ensures
+    (lines_then _ ([] ∷ []) (pool_part x ++ (area_part x ++ behind_areas x)) (offered_line {x = []} _ refl c.put_line.ensures)
+    (lines_then _ (pool_part x) (area_part x ++ behind_areas x) c.print_pool_part.ensures
+    (lines_then _ (area_part x) (behind_areas x) c.print_area_part.ensures
+    (lines_then _ (slot_part x) (module_part x ++ behind_module x) c.print_slot_part.ensures
+    (lines_then _ (module_part x) (behind_module x) c.print_module_part.ensures
+    (lines_then _ (letter_part x) (transfer_part x ++ [] ∷ []) c.print_letter_part.ensures
+    (lines_then _ (transfer_part x) ([] ∷ []) (c.print_transfer_part.ensures x.share x.before x.marks)
+    (offered_line {x = []} _ refl c.put_line-2.ensures)))))))))

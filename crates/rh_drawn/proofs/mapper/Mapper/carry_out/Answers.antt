@@ -1,15 +1,15 @@
 use Rattle.rh_drawn.proofs.Common.{◌∙◌, ap, refl, sym, shown_lines, share_in, Mapper, reply_to}
 use Rattle.rh_drawn.proofs.ShareLemmas.{is_shared}
 use Rattle.rh_drawn.proofs.StepLemmas.{command-text, hidden-command, rest-as, told-command}
-use Rattle.rh_drawn.proofs.Walks.{puts_same}
+use Rattle.rh_drawn.proofs.Walks.{offered_as}
 use Rattle.rh_drawn.proofs.mapper.Mapper.carry_out.Goals as goal
 
-pub returns-then-holds_unless-clause-ok : goal.returns-then-holds_unless-clause-ok
-returns-then-holds_unless-clause-ok g c =
+pub returns-then-holds_unless-clause-told : goal.returns-then-holds_unless-clause-told
+returns-then-holds_unless-clause-told g c =
     let desk = g.D.Sight.desk in
     let b = c.begin_step-wanted.new.self in
     let e = c.change.ensures.rest in
-    hidden-command desk c.args.self.now b (g.W.Sink.output c.args.writer.now) c.args.line.now c.begin_step-wanted.result c.begin_step-wanted.ensures.wanted
+    hidden-command desk c.args.self.now b c.args.line.now (g.P.Pen.offered c.args.pen.now) c.begin_step-wanted.result c.begin_step-wanted.ensures.wanted
     c.begin_step-wanted.ensures.next
     c.args.command.now _ _ (sym c.holds_unless.ensures ∙ c.if-holds_unless.true) c.change.ensures.desk
     (rest-as {b = b} (record b { drawn = c.change.new.self.drawn }) e) (is_shared (desk c.change.new.self.drawn) c.spelled.ensures)
@@ -20,20 +20,18 @@ returns g c =
     let m = c.args.self.now in
     let b = c.begin_step-wanted.new.self in
     let a = record b { drawn = c.answer-reply.new.drawn; messages = c.messages.new.list; front = c.answer-reply.new.front } in
-    let o = g.W.Sink.output c.args.writer.now in
+    let o = g.P.Pen.offered c.args.pen.now in
     let w = c.begin_step-wanted.result in
     let was = c.begin_step-wanted.ensures.wanted in
     let next = c.begin_step-wanted.ensures.next in
     let s = share_in c.show.new.self.pages.items (desk a.drawn) in
     let test = sym c.holds_unless.ensures ∙ c.if-holds_unless.false in
-    let text = command-text desk m b o c.args.line.now w was next c.args.command.now s a _ _ test c.answer-reply.ensures.desk c.answer-reply.ensures.reply
+    let text = command-text desk m b c.args.line.now o w was next c.args.command.now s a _ _ test c.answer-reply.ensures.desk c.answer-reply.ensures.reply
     c.new-kept.ensures refl in
-    let told = told-command desk m b o c.args.line.now w was next a _ (g.W.Sink.output c.show.new.writer) c.show.result s c.show.ensures.same
-    c.show.ensures.shared c.args.command.now c.answer-reply.ensures.desk
-    (rest-as {b = b} a refl)
-    (puts_same (ap shown_lines text) (c.show.ensures.text (reply_to (desk b.drawn) c.args.command.now) c.answer-reply.ensures.excerpt)) in
     record {
-      ok = told.0;
-      err = told.1;
+      told = told-command desk m b c.args.line.now o w was next a _ _ s c.show.ensures.same c.show.ensures.shared c.args.command.now
+          c.answer-reply.ensures.desk
+          (rest-as {b = b} a refl)
+          (offered_as o (ap shown_lines text) (c.show.ensures.text (reply_to (desk b.drawn) c.args.command.now) c.answer-reply.ensures.excerpt));
       steps = c.show.ensures.same.steps ∙ ap (λ (z : Mapper g.row.D.Denot). z.steps) next;
     }

@@ -1,15 +1,15 @@
 use Rattle.rh_drawn.proofs.Common.{◌∙◌, true, ap, refl, sym, fault_text, shown_lines, share_in, Mapper}
 use Rattle.rh_drawn.proofs.ShareLemmas.{is_shared}
-use Rattle.rh_drawn.proofs.StepLemmas.{fault-from, fault-stops, fault-text, hidden-fault, on-err, on-ok, told-fault}
-use Rattle.rh_drawn.proofs.Walks.{puts_same}
+use Rattle.rh_drawn.proofs.StepLemmas.{fault-from, fault-text, hidden-fault, told-fault}
+use Rattle.rh_drawn.proofs.Walks.{offered_as}
 use Rattle.rh_drawn.proofs.mapper.Mapper.refuse.Goals as goal
 
-pub returns-then-holds_unless-clause-ok : goal.returns-then-holds_unless-clause-ok
-returns-then-holds_unless-clause-ok g c =
+pub returns-then-holds_unless-clause-told : goal.returns-then-holds_unless-clause-told
+returns-then-holds_unless-clause-told g c =
     let desk = g.D.Sight.desk in
     let m = record c.args.self.now { has_bad_line = true } in
     let b = c.begin_step-wanted.new.self in
-    fault-from (hidden-fault desk m b (g.W.Sink.output c.args.writer.now) c.args.line.now c.begin_step-wanted.result c.begin_step-wanted.ensures.wanted
+    fault-from (hidden-fault desk m b c.args.line.now (g.P.Pen.offered c.args.pen.now) c.begin_step-wanted.result c.begin_step-wanted.ensures.wanted
     c.begin_step-wanted.ensures.next
     c.args.fault.now _ _ (sym c.holds_unless.ensures ∙ c.if-holds_unless.true) refl refl refl refl
     (ap (λ (z : Mapper g.row.D.Denot). z.has_bad_line) c.begin_step-wanted.ensures.next) (is_shared (desk b.drawn) c.spelled.ensures))
@@ -19,19 +19,16 @@ returns g c =
     let desk = g.D.Sight.desk in
     let m = record c.args.self.now { has_bad_line = true } in
     let b = c.begin_step-wanted.new.self in
-    let o = g.W.Sink.output c.args.writer.now in
+    let o = g.P.Pen.offered c.args.pen.now in
     let w = c.begin_step-wanted.result in
     let was = c.begin_step-wanted.ensures.wanted in
     let next = c.begin_step-wanted.ensures.next in
     let s = share_in c.show.new.self.pages.items (desk b.drawn) in
     let test = sym c.holds_unless.ensures ∙ c.if-holds_unless.false in
-    let text = fault-text desk m b o c.args.line.now w was next c.args.fault.now s b c.new-kept.result test refl c.new-kept.ensures refl in
-    let told = told-fault desk m b o c.args.line.now w was next _ _ (g.W.Sink.output c.show.new.writer) c.show.result s c.show.ensures.same
-    c.show.ensures.shared c.args.fault.now refl refl refl refl
-    (ap (λ (z : Mapper g.row.D.Denot). z.has_bad_line) next)
-    (puts_same (ap shown_lines text) (c.show.ensures.text (fault_text c.args.fault.now) c.excerpt_fault-count.ensures)) in
+    let text = fault-text desk m b c.args.line.now o w was next c.args.fault.now s b c.new-kept.result test refl c.new-kept.ensures refl in
     record {
-      ok = on-ok c.show.result fault-from told.0;
-      err = on-err c.show.result fault-stops told.1;
+      told = fault-from (told-fault desk m b c.args.line.now o w was next _ _ _ s c.show.ensures.same c.show.ensures.shared c.args.fault.now refl refl refl refl
+          (ap (λ (z : Mapper g.row.D.Denot). z.has_bad_line) next)
+          (offered_as o (ap shown_lines text) (c.show.ensures.text (fault_text c.args.fault.now) c.excerpt_fault-count.ensures)));
       steps = c.show.ensures.same.steps ∙ ap (λ (z : Mapper g.row.D.Denot). z.steps) next;
     }

@@ -1,7 +1,7 @@
 use Rattle.rh_drawn.proofs.Common.{◌∙◌, List, ℕ, ap, ap₂, subst, sym, ◌&&◌, not, scene_of, shown_lines, share_in, Excerpts}
 use Rattle.rh_figure.specs.Map.{step_lines}
 use Rattle.rh_sight.specs.Steps.{marks_seen}
-use Rattle.rh_drawn.proofs.Walks.{puts_same}
+use Rattle.rh_drawn.proofs.Walks.{offered_as}
 use Rattle.rh_drawn.proofs.mapper.Mapper.show.Goals as goal
 
 pub returns-clause-text : goal.returns-clause-text
@@ -14,6 +14,6 @@ returns-clause-text g c = λ text excerpt.
     let P : List ℕ → Type 0 = λ z. Excerpts z deed.count text in
     let scene = ap₂ (λ pages kept. scene_of d (share_in pages d) kept (marks_seen step.marks)) is.pages is.kept
     ∙ ap (scene_of d (share_in c.page_list.new.list.items d) deed.kept.now) is.marks in
-    puts_same (ap₂ (λ still x. shown_lines (step_lines still m.steps c.args.line.now text x))
+    offered_as _ (ap₂ (λ still x. shown_lines (step_lines still m.steps c.args.line.now text x))
     (c.holds_unless.ensures ∙ ap (λ z. z && not deed.wanted) c.is_still.ensures) scene)
     (c.print_step.ensures text (subst P (sym c.as_slice.ensures) excerpt))
