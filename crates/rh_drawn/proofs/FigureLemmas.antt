@@ -12,19 +12,6 @@ use Rattle.rh_drawn.specs.Parts.{letter_part, module_part, pool_part, transfer_p
 use Rattle.rh_drawn.specs.Inner.PartsBehind.{change_part}
 use Rattle.rh_drawn.proofs.Walks.{indented-append}
 
--- what has changed
-pub change-parts : (x : Scene) → change_part x ≡ page_part x ++ ((block_part x (task_at x.before.handle x.desk) ++ slide_part x) ++ post_part x)
-change-parts x =
-    let p = page_changes x in
-    let b = block_changes x (task_at x.before.handle x.desk) in
-    let s = slide_change (slides x) in
-    let q = post_changes x in
-    let blocks = block_part x (task_at x.before.handle x.desk) in
-    indented-append ((p ++ b) ++ s) q
-    ∙ (ap (λ z. z ++ post_part x) (indented-append (p ++ b) s
-    ∙ (ap (λ z. z ++ slide_part x) (indented-append p b) ∙ append_assoc (page_part x) blocks (slide_part x)))
-    ∙ append_assoc (page_part x) (blocks ++ slide_part x) (post_part x))
-
 abbrev pub behind_module : Scene → List Text
 behind_module x = letter_part x ++ (transfer_part x ++ [] ∷ [])
 

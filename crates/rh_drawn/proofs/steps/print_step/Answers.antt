@@ -15,12 +15,3 @@ returns-then-above g c = λ reply front.
     (offered_line {x = step_line a.number a.line.now} _ refl c.print_step_line.ensures)
     (lines_then _ (reply_lines (ended reply)) (below a.is_still x) (offered_as _ (ap shown_lines front) c.print_reply_lines.ensures)
     (offered_as _ (ap (λ b. shown_lines (below b x)) (sym c.if-above.true)) c.print_still.ensures))
-
-pub returns : goal.returns
-returns g c = λ reply front.
-    let x = scene_at (g.S.Sight.desk c.args.sight.now) c.args.step.now in
-    let a = c.args.above.now in
-    lines_then _ (step_line a.number a.line.now ∷ []) (reply_lines (ended reply) ++ below a.is_still x)
-    (offered_line {x = step_line a.number a.line.now} _ refl c.print_step_line.ensures)
-    (lines_then _ (reply_lines (ended reply)) (below a.is_still x) (offered_as _ (ap shown_lines front) c.print_reply_lines.ensures)
-    (offered_as _ (ap (λ b. shown_lines (below b x)) (sym c.if-above.false)) c.print_figure.ensures))
