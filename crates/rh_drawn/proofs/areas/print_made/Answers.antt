@@ -1,4 +1,4 @@
-use Rattle.rh_drawn.proofs.Common.{◌≡◌, ℕ, ◌<◌, List, [], ◌∷◌, length, map, ap, ◌∙◌, arith, slice_get_within, Made, made_panel, heading_line, area_name}
+use Rattle.rh_drawn.proofs.Common.{◌≡◌, ℕ, List, [], ◌∷◌, length, map, ap, ◌∙◌, arith, Made, made_panel, heading_line, area_name}
 use Rattle.rh_drawn.proofs.Common.{AreaOf, rest-none, rest-some, scene_at, panel_part}
 use Rattle.rh_figure.specs.Figure.{listed_pages, made_note}
 use Rattle.rh_sight.specs.declared.sight.PagesOf.TheVariants as pages

@@ -1,8 +1,8 @@
-use Rattle.rh_drawn.proofs.Common.{◌≡◌, ◌<◌, [], ◌∷◌, Some, length, take, ap, sym, refl, ◌∙◌, arith, drop_all, slice_get, length-take, slice_get-get_or, block_items}
-use Rattle.rh_drawn.proofs.Common.{flex_start, Card, flex_cards, rest-some, scene_at, card_lines}
+use Rattle.rh_drawn.proofs.Common.{◌≡◌, ◌<◌, [], ◌∷◌, Some, length, take, ap, sym, ◌∙◌, arith, slice_get, slice_get-get_or, block_items}
+use Rattle.rh_drawn.proofs.Common.{flex_start, flex_cards, rest-some, scene_at, card_lines}
 use Rattle.rh_drawn.proofs.CardLemmas.{card-at, flex-long, get-front}
 use Rattle.rh_drawn.proofs.DrawingLemmas.{seen-same}
-use Rattle.rh_drawn.proofs.Walks.{left_less, left_none}
+use Rattle.rh_drawn.proofs.Walks.{left_less}
 use Rattle.rh_drawn.proofs.flex_cards.print_first.Goals as goal
 
 pub loop-k-preserved : goal.loop-k-preserved

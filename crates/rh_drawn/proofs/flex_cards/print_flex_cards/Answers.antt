@@ -1,6 +1,6 @@
 use Rattle.rh_drawn.proofs.Common.{◌≡◌, length, take, ap, sym, ◌∙◌, arith, take_all, block_items, flex_start, flex_cards, shown_lines, scene_at, card_lines}
 use Rattle.rh_drawn.proofs.Common.{cards_behind, count_shown}
-use Rattle.rh_drawn.proofs.CardLemmas.{cards-append, count-few, count-many, count-within, flex-long, shown-few, shown-parts, shown-split, some-count}
+use Rattle.rh_drawn.proofs.CardLemmas.{cards-append, count-few, count-many, count-within, flex-long, shown-few, shown-parts, some-count}
 use Rattle.rh_drawn.proofs.DrawingLemmas.{seen-same}
 use Rattle.rh_drawn.proofs.Walks.{lines_then, offered_as}
 use Rattle.rh_drawn.proofs.flex_cards.print_flex_cards.Goals as goal

@@ -1,10 +1,10 @@
-use Rattle.rh_drawn.proofs.Common.{◌∙◌, ◌≤◌, ◌+◌, [], ◌∷◌, length, take, ap, refl, arith, slice_get, length-take, slice_get_within}
-use Rattle.rh_drawn.proofs.Common.{drop_all, rest-some, heap_seen, heap_start_of, scene_at, at-some, band_cards, card_lines}
+use Rattle.rh_drawn.proofs.Common.{◌∙◌, ◌≤◌, ◌+◌, [], ◌∷◌, length, take, ap, arith, slice_get, slice_get_within}
+use Rattle.rh_drawn.proofs.Common.{rest-some, heap_seen, heap_start_of, scene_at, at-some, band_cards, card_lines}
 use Rattle.rh_sight.proofs.Heaps.{comes-parts}
 use Rattle.rh_drawn.specs.Bands.{band_card}
 use Rattle.rh_drawn.proofs.CardLemmas.{get-front}
-use Rattle.rh_drawn.proofs.HeapLemmas.{band-heap, from-first, got-is, if-heap, in-band, told-here}
-use Rattle.rh_drawn.proofs.Walks.{left_less, left_none}
+use Rattle.rh_drawn.proofs.HeapLemmas.{band-heap, from-first, got-is, in-band, told-here}
+use Rattle.rh_drawn.proofs.Walks.{left_less}
 use Rattle.rh_drawn.proofs.heap_cards.print_first.Goals as goal
 
 pub segments-items-requires : goal.segments-items-requires

@@ -1,6 +1,6 @@
 use Rattle.rh_drawn.proofs.Common.{◌≡◌, ◌∙◌, length, take, ap, sym, arith, take_all, shown_lines, heap_seen, scene_at, at-some, IsSurvey, band_cards}
 use Rattle.rh_drawn.proofs.Common.{card_lines, cards_behind, count_shown}
-use Rattle.rh_drawn.proofs.CardLemmas.{cards-append, count-few, count-many, count-most, count-within, shown-few, shown-parts, shown-split, some-count}
+use Rattle.rh_drawn.proofs.CardLemmas.{cards-append, count-few, count-many, count-most, count-within, shown-few, shown-parts, some-count}
 use Rattle.rh_drawn.proofs.HeapLemmas.{band-long, band-many, if-heap}
 use Rattle.rh_drawn.proofs.Walks.{lines_then, offered_as}
 use Rattle.rh_drawn.proofs.heap_cards.print_heap_cards.Goals as goal

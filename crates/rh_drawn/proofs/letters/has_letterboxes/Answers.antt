@@ -1,4 +1,4 @@
-use Rattle.rh_drawn.proofs.Common.{◌≡◌, ◌<◌, ◌+◌, true, false, length, drop, ap, sym, refl, ◌∙◌, arith, ◌||◌, list_any, slice_get_within, Task, has_letters_in}
+use Rattle.rh_drawn.proofs.Common.{◌≡◌, ◌+◌, true, false, drop, ap, sym, refl, ◌∙◌, ◌||◌, list_any, Task, has_letters_in}
 use Rattle.rh_drawn.proofs.Walks.{walk-off, walk-on, walk-to}
 use Rattle.rh_drawn.proofs.letters.has_letterboxes.Goals as goal
 

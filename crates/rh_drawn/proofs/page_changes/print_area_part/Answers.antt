@@ -1,8 +1,6 @@
-use Rattle.rh_drawn.proofs.Common.{◌<◌, ◌≤◌, ◌-◌, ◌++◌, length, drop, ap, ap₂, sym, ◌∙◌, arith, rules, codes, length-drop, length-take, taken_line, area_name}
-use Rattle.rh_drawn.proofs.Common.{AreaOf, count_of, shown_lines, scene_at}
-use Rattle.std.proofs.lemmas.List.{take_rest}
-use Rattle.rh_drawn.proofs.PageLemmas.{owned, owned-few, takes-some}
-use Rattle.rh_drawn.proofs.Walks.{offered_line, offered_as}
+use Rattle.rh_drawn.proofs.Common.{◌≤◌, ◌-◌, length, drop, ap, arith, rules, length-drop, length-take}
+use Rattle.rh_drawn.proofs.Common.{AreaOf}
+use Rattle.rh_drawn.proofs.PageLemmas.{owned, owned-few}
 use Rattle.rh_drawn.proofs.page_changes.print_area_part.Goals as goal
 
 pub slice_bounds-print_area_takes-count : goal.slice_bounds-print_area_takes-count

@@ -1,9 +1,8 @@
-use Rattle.rh_drawn.proofs.Common.{◌<◌, ◌≤◌, length, map, ap, refl, arith, enumerate_from, flat_map, drop_all}
-use Rattle.rh_drawn.proofs.Common.{AreaOf, fixed_holding, shown_lines, scene_at, takes_part}
+use Rattle.rh_drawn.proofs.Common.{refl}
+use Rattle.rh_drawn.proofs.Common.{AreaOf}
 use Rattle.rh_sight.specs.declared.sight.PagesOf.TheVariants as pages
 use Rattle.rh_sight.proofs.Holders.{count-fixed}
-use Rattle.rh_drawn.proofs.PageLemmas.{numbered-next, seen-fixed}
-use Rattle.rh_drawn.proofs.Walks.{left_less, left_none, offered_as}
+use Rattle.rh_drawn.proofs.PageLemmas.{seen-fixed}
 use Rattle.rh_drawn.proofs.page_changes.print_fixed_takes.Goals as goal
 
 pub print_area_part-requires-clause-owner : goal.print_area_part-requires-clause-owner

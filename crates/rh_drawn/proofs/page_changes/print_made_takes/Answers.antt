@@ -1,4 +1,4 @@
-use Rattle.rh_drawn.proofs.Common.{◌<◌, length, ap, map, refl, arith, flat_map, option_map, rest-none, rest-some, slice_get_within, Made, AreaOf}
+use Rattle.rh_drawn.proofs.Common.{ap, map, refl, flat_map, option_map, rest-none, rest-some, Made, AreaOf}
 use Rattle.rh_drawn.proofs.Common.{made_holding, scene_at, takes_part}
 use Rattle.rh_sight.specs.declared.sight.PagesOf.TheVariants as pages
 use Rattle.rh_sight.proofs.Holders.{count-made}

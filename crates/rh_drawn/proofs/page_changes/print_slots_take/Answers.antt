@@ -1,4 +1,4 @@
-use Rattle.rh_drawn.proofs.Common.{◌<◌, length, map, ap, arith, flat_map, rest-none, rest-some, slice_get_within, slot_holding, scene_at, takes_part}
+use Rattle.rh_drawn.proofs.Common.{map, ap, flat_map, rest-none, rest-some, slot_holding, scene_at, takes_part}
 use Rattle.rh_drawn.proofs.Walks.{left_less, left_none}
 use Rattle.rh_drawn.proofs.page_changes.print_slots_take.Goals as goal
 

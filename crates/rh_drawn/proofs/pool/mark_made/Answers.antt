@@ -1,4 +1,4 @@
-use Rattle.rh_drawn.proofs.Common.{[], ◌<◌, ◌+◌, length, drop, map, ap, ap₂, sym, ◌∙◌, arith, slice_get_within, AreaOf, share_in, rest-none, rest-some}
+use Rattle.rh_drawn.proofs.Common.{[], ◌+◌, drop, map, ap, ap₂, sym, ◌∙◌, AreaOf, share_in, rest-none, rest-some}
 use Rattle.rh_drawn.proofs.Common.{made_pages, marked, marked_all}
 use Rattle.rh_sight.specs.declared.sight.PagesOf.TheVariants as pages
 use Rattle.rh_drawn.proofs.PageLemmas.{owned, seen-made}

@@ -1,4 +1,4 @@
-use Rattle.rh_drawn.proofs.Common.{◌≡◌, ℕ, ◌<◌, ◌+◌, Bool, true, false, List, length, drop, ap, sym, refl, ◌∙◌, arith, slice_get_within, ◌==◌, flat_map}
+use Rattle.rh_drawn.proofs.Common.{◌≡◌, ℕ, ◌+◌, Bool, true, false, List, drop, ap, sym, refl, ◌∙◌, ◌==◌, flat_map}
 use Rattle.rh_drawn.proofs.Common.{list_any, Task, has_id}
 use Rattle.rh_defs.specs.Records.{out_id}
 use Rattle.rh_drawn.proofs.TransferLemmas.{out-step, outs}

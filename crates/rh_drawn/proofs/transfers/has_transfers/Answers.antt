@@ -1,4 +1,4 @@
-use Rattle.rh_drawn.proofs.Common.{◌≡◌, ◌<◌, ◌+◌, Bool, true, false, List, length, drop, ap₂, sym, refl, ◌∙◌, arith, slice_get_within, ◌==◌, ◌||◌, not}
+use Rattle.rh_drawn.proofs.Common.{◌≡◌, ◌+◌, Bool, true, false, List, length, drop, ap₂, sym, refl, ◌∙◌, ◌==◌, ◌||◌, not}
 use Rattle.rh_drawn.proofs.Common.{flat_map, Task, Incoming, Outgoing}
 use Rattle.rh_drawn.proofs.TransferLemmas.{are_some, ins, outs, some-here, some-past}
 use Rattle.rh_drawn.proofs.Walks.{walk-off, walk-on, walk-to}

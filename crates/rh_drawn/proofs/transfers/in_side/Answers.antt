@@ -1,4 +1,4 @@
-use Rattle.rh_drawn.proofs.Common.{◌≡◌, ℕ, ◌<◌, ◌+◌, List, Option, Some, None, length, drop, ap, sym, refl, ◌∙◌, arith, slice_get_within, ◌==◌, find}
+use Rattle.rh_drawn.proofs.Common.{◌≡◌, ℕ, ◌+◌, List, Option, Some, None, drop, ap, sym, refl, ◌∙◌, ◌==◌, find}
 use Rattle.rh_drawn.proofs.Common.{flat_map, option_map, Task, in_item, in_id, Side, has_id}
 use Rattle.rh_drawn.proofs.TransferLemmas.{ins, side-told, side-untold}
 use Rattle.rh_drawn.proofs.Walks.{walk-off, walk-on, walk-to}

@@ -1,7 +1,7 @@
 use Rattle.rh_drawn.proofs.Common.{◌++◌, [], ◌∷◌, map, ap, sym, refl, ◌∙◌, codes, filter, not, list_any, Side, has_id, transfer_line, shown_lines}
 use Rattle.rh_drawn.proofs.Common.{comes_alone, goes_out, ins_of, outs_of}
-use Rattle.rh_drawn.proofs.TransferLemmas.{transfers-none, transfers-some}
-use Rattle.rh_drawn.proofs.Walks.{lines_then, offered_line, offered_none, offered_as}
+use Rattle.rh_drawn.proofs.TransferLemmas.{transfers-some}
+use Rattle.rh_drawn.proofs.Walks.{lines_then, offered_line, offered_as}
 use Rattle.rh_drawn.proofs.transfers.print_transfer_part.Goals as goal
 
 pub returns : goal.returns
