@@ -50,9 +50,9 @@ use Rattle.rh_laws.proofs.ProgressLaws.{always-progresses}
 use Rattle.rh_laws.proofs.Wants.{AllWait, HasWant, InWants, OutWants, Unanswered, WaitsFor, Want, Wants, is_sent, ref_of, reply, want_in, want_out}
 use Rattle.rh_laws.proofs.WantEdits.{For, KeepsFile, OldIds, Picks, Then, answer, killed-waits, left_by, own_back, picked-waits, picks, quiet-asks, quiet-told}
 use Rattle.rh_laws.proofs.WantEdits.{returned-waits, started-waits}
-use Rattle.rh_laws.proofs.WantDeeds.{Before, Sends}
-use Rattle.rh_laws.proofs.WantPolls.{Anew, InWant, OutsOf, asks-fits, by_ask, by_drain, by_fetch, deed, ids-stay, in-want, ins-stay, out-want, outs-moved}
-use Rattle.rh_laws.proofs.WantPolls.{outs-stay, un}
+use Rattle.rh_laws.proofs.WantDeeds.{Anew, Before, Sends}
+use Rattle.rh_laws.proofs.WantPolls.{InWant, OutsOf, asks-fits, by_ask, by_drain, by_fetch, deed, ids-stay, in-want, ins-stay, out-want, outs-moved, outs-stay}
+use Rattle.rh_laws.proofs.WantPolls.{un}
 use Rattle.rh_laws.proofs.WantTurns.{handled-waits}
 
 -- ---- a desk whose records are some of another one's
@@ -87,16 +87,14 @@ home d h w x = go (task_of h d.tasks) x
 
 -- records and blocks are others, and no message
 calm : {h : ℕ} {w : Want} (d : sight.Desk) (sd : ℕ → List Out) (tk : ℕ → List In) (bl hp : ℕ → ℕ → Option (List ℕ)) (sc : Option sight.Scrap) →
-    OldIds d tk None →
-    KeepsFile d (record d { sending = sd; taking = tk; block = bl; heap = hp; scrap = sc }) → WaitsFor d h w →
+    OldIds d tk None → KeepsFile d (record d { sending = sd; taking = tk; block = bl; heap = hp; scrap = sc }) → WaitsFor d h w →
     WaitsFor (record d { sending = sd; taking = tk; block = bl; heap = hp; scrap = sc }) h w
 calm d sd tk bl hp sc ids keeps (inl u) = inl (quiet-asks d 0 sd tk bl hp sc ids u)
 calm d sd tk bl hp sc ids keeps (inr a) = inr (quiet-told d 0 sd tk bl hp sc a (λ f s load. keeps f s (IsLive.waits a.answer a.queued (sym load))))
 
 -- the same records
 frame-all : (d : sight.Desk) (bl hp : ℕ → ℕ → Option (List ℕ)) (sc : Option sight.Scrap) → KeepsFile d (record d { block = bl; heap = hp; scrap = sc }) →
-    AllWait d →
-    AllWait (record d { block = bl; heap = hp; scrap = sc })
+    AllWait d → AllWait (record d { block = bl; heap = hp; scrap = sc })
 frame-all d bl hp sc keeps = leads (record {
   ins = λ h w i x. x;
   outs = λ h w x. x;
@@ -356,13 +354,13 @@ module _ {o : Offers} {e : Edits} (d : Desk) (fit : Fits d) (good : Good o e (vi
       by h w (inr a) = Then.told a
 
   sent-all : (k : ℕ) (n : Message) (sd : ℕ → List Out) → n.letter.from ≡ k → n.letter.me ≡ V.next_ref → n.letter.answers < V.next_ref →
-      ((h : ℕ) (w : Want) → Unanswered V h w → n.letter.answers ≢ ref_of w) → OutsOf V k (idler k) (before-idler k) (Some n) sd →
+      ((h : ℕ) (w : Want) → Unanswered V h w → n.letter.answers ≢ ref_of w) → OutsOf V k (idler k) (Some n) sd →
       {y : sight.Desk} → y ≡ sight.sent (record V { sending = sd }) k n → AllWait y
   sent-all k n sd from me below never outs q = deed V k (idler k) (before-idler k) (Some n) sd V.taking V.block V.heap V.scrap q (record {
     fresh = 0;
-    ins = ins-stay V k (idler k) (before-idler k) (Some n) 0 (λ w j x f. never-for f);
+    ins = ins-stay V k (idler k) (Some n) 0 (λ w j x f. never-for f);
     outs = outs;
-    ids = ids-stay V k (idler k) (before-idler k) (Some n);
+    ids = ids-stay V k (idler k) (Some n);
     sends = λ l e. let same : n ≡ l = cc in subst (Sends V k (idler k) V.scrap) same (record { from = from; me = me; below = below; answers = inl never });
     scrap = λ f s. inl s;
   })
@@ -380,7 +378,7 @@ module _ {o : Offers} {e : Edits} (d : Desk) (fit : Fits d) (good : Good o e (vi
           field_is (λ x. option_map seen_last x.last_sent) _ t.handle d.tasks t is ∙ ap (option_map seen_last) (is_found t.last_sent NothingSent last z) in
           let kn : Knows V (owned t.handle (seen_last last)).letter = Known.latest t.handle (seen_last last) there refl in
           sent-all t.handle (seen_letter l d.post.next_ref) V.sending refl refl (good.inv.letters.below _ kn).answers (λ h w u e. u.letters _ kn e)
-          (outs-stay V t.handle (idler t.handle) (before-idler t.handle) (Some (seen_letter l d.post.next_ref)) (λ w x f. never-for f))
+          (outs-stay V t.handle (idler t.handle) (Some (seen_letter l d.post.next_ref)) (λ w x f. never-for f))
           (sent_view d sent l y (live_of d t.handle t is))
 
   save-stays : (name : List ℕ) (k : ℕ) (to leaf : List ℕ) → OnGrant Stays (save d name k to leaf)
@@ -403,19 +401,18 @@ module _ {o : Offers} {e : Edits} (d : Desk) (fit : Fits d) (good : Good o e (vi
           } in
           let x : Sending = record { id = V.next_ref; recipient = r.handle; anchor = k; count = 0; last = V.next_ref } in
           sent-all h n _ refl refl good.inv.positive (λ j w u e. let z = u.some in omega (arith, z, e))
-          (outs-moved V h (idler h) (before-idler h) (Some n) _ (Open x)
+          (outs-moved V h (idler h) (Some n) _ (Open x)
           (move_more out_id V.sending h V.most is_open (Open x) (λ v has e. let z = good.inv.order.out_below h v has in omega (arith, z, e)))
           (λ w u has wants f. absurd (never-for f)) (λ w wants. anew h n x refl refl refl refl refl w (V.file h) refl wants))
           (after_save d sent t r k leaf b.here.bytes is there y)
         where
           anew : (h : ℕ) (n : Message) (x : Sending) → x.last ≡ V.next_ref → x.id ≡ x.last → n.to ≡ x.recipient → n.letter.kind ≡ action.DataSave →
-              n.code ≡ Recorded →
-              (w : Want) (c : Bool) → V.file h ≡ c → want_out c (Open x) ≡ Some w → Anew V h (idler h) (before-idler h) (Some n) w
+              n.code ≡ Recorded → (w : Want) (c : Bool) → V.file h ≡ c → want_out c (Open x) ≡ Some w → Anew V h (Some n) w
           anew h n x last id to kind code w true c wants =
               absurd (none_some None refl (rw (eq-eqb x.last x.id (sym id)) at wants))
           anew h n x last id to kind code w false c wants =
               let same : reply x.last x.recipient ≡ w = let z : Some (reply x.last x.recipient) ≡ Some w = wants in cc in
-              subst (Anew V h (idler h) (before-idler h) (Some n)) same (record {
+              subst (Anew V h (Some n)) same (record {
                 n = n;
                 is = refl;
                 ref = last;

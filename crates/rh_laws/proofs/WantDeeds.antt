@@ -9,11 +9,19 @@ use Rattle.rh_laws.proofs.Wants.{AllWait, Answered, Asks, HasWant, InWants, Ours
 use Rattle.rh_laws.proofs.Wants.{want_out}
 use Rattle.rh_laws.proofs.WantEdits.{For, OldIds, Then, after, quiet-asks, quiet-told, sent-asks, sent-told}
 
--- a record that was there, which the message isn't for, or a new one that the letter asks for
+-- a new record of task k, which the letter asks for
+pub record Anew (d : Desk) (k : ℕ) (l : Option Message) (w : Want) : Type 0 where
+  pub n : Message
+  pub is : l ≡ Some n
+  pub ref : ref_of w ≡ d.next_ref
+  pub asks : Asks w (d.buf k) (d.file k) n.letter
+  pub to : n.to ≡ peer_of w
+  pub code : n.code ≡ Recorded
+
+-- a record that was there, which the message isn't for, or a new one
 pub data Origin (d : Desk) (k : ℕ) (m : Message) (l : Option Message) (h : ℕ) (w : Want) (old now : Type 0) : Type 0 where
   was : old → (h ≡ k → For d m h w → ⊥) → Origin d k m l h w old now
-  new : (n : Message) → l ≡ Some n → h ≡ k → ref_of w ≡ d.next_ref → Asks w (d.buf k) (d.file k) n.letter → n.to ≡ peer_of w → n.code ≡ Recorded → now
-      → Origin d k m l h w old now
+  new : Anew d k l w → h ≡ k → now → Origin d k m l h w old now
 
 -- a letter that answers the message
 pub record Replies (d : Desk) (m : Message) (sc : Option Scrap) (l : Message) : Type 0 where
@@ -93,16 +101,21 @@ module _ (d : Desk) (k : ℕ) (m : Message) (b : Before d k m) (sd : ℕ → Lis
           other-asks : n.letter.answers ≢ ref_of w → Unanswered (E (Some n)) h w
           other-asks ne = sent-asks d k sd tk bl hp sc n s.from s.me (b.refs h w is) ne x.ids u
 
-  new-waits : (l : Option Message) → Deed d k m l sd tk sc → (n : Message) → l ≡ Some n → (h : ℕ) (w : Want) → h ≡ k → ref_of w ≡ d.next_ref →
-      Asks w (d.buf k) (d.file k) n.letter → n.to ≡ peer_of w → n.code ≡ Recorded → WaitsFor (E l) h w
-  new-waits l x n same h w own now asks to code =
-      subst (λ (o : Option Message). WaitsFor (E o) h w) (sym same) (subst (λ j. WaitsFor (E (Some n)) j w) (sym own) (inl here))
+  new-waits : (l : Option Message) → Deed d k m l sd tk sc → (h : ℕ) (w : Want) → h ≡ k → Anew d k l w → WaitsFor (E l) h w
+  new-waits l x h w own a =
+      subst (λ (o : Option Message). WaitsFor (E o) h w) (sym a.is) (subst (λ j. WaitsFor (E (Some n)) j w) (sym own) (inl here))
     where
+      n : Message
+      n = a.n
+
+      now : ref_of w ≡ d.next_ref
+      now = a.ref
+
       s : Sends d k m sc n
-      s = x.sends n same
+      s = x.sends n a.is
 
       mine : (y : Message) → n ≡ y → Ours (E (Some n)) k w y
-      mine y e = subst (Ours (E (Some n)) k w) e (record { from = s.from; asks = asks; way = inl (code, to) })
+      mine y e = subst (Ours (E (Some n)) k w) e (record { from = s.from; asks = a.asks; way = inl (a.code, a.to) })
 
       never : {A : Type 0} (y : Message) → Knows d y.letter → y.letter.me ≡ ref_of w → A
       never y kn e = absurd (let z = (b.letters y.letter kn).0 in omega (arith, z, e, now))
@@ -125,7 +138,7 @@ module _ (d : Desk) (k : ℕ) (m : Message) (b : Before d k m) (sd : ℕ → Lis
         ];
         ids = λ r v has e. elim (x.ids r v has) [
           | inl z ↦ let u = b.ids z.0 z.1.0 z.1.1.0 in let i = z.1.1.1 in omega (arith, u, i, e, now)
-          | inr z ↦ let one : Some n ≡ Some z.0 = sym same ∙ z.1.0 in let two : n ≡ z.0 = cc in
+          | inr z ↦ let one : Some n ≡ Some z.0 = sym a.is ∙ z.1.0 in let two : n ≡ z.0 = cc in
               answered (in_id v) (z.1.1 ∙ ap (λ (y : Message). y.letter.answers) (sym two)) e
         ];
       }
@@ -142,12 +155,12 @@ module _ (d : Desk) (k : ℕ) (m : Message) (b : Before d k m) (sd : ℕ → Lis
         where
           by : {j : ℕ} {P : Type 0} → Origin d k m l h w (InWants (d.taking h) w j) P → WaitsFor (E l) h w
           by (was o other) = old-waits l x h w (HasWant.comes o) other
-          by (new n same own now asks to code p) = new-waits l x n same h w own now asks to code
+          by (new a own p) = new-waits l x h w own a
       each h w (HasWant.goes z) = by (x.outs h z.one w z.has (ap (λ (f : ℕ → Bool). want_out (f h) z.one) (sym (same-file l)) ∙ z.wants))
         where
           by : Origin d k m l h w (OutWants (d.sending h) (d.file h) w) (Unit {0}) → WaitsFor (E l) h w
           by (was o other) = old-waits l x h w (HasWant.goes o) other
-          by (new n same own now asks to code p) = new-waits l x n same h w own now asks to code
+          by (new a own p) = new-waits l x h w own a
 
       apart : (h : ℕ) (w y : Want) (i j : ℕ) → InWants ((E l).taking h) w i → InWants ((E l).taking h) y j → ref_of w ≡ ref_of y → i ≡ j
       apart h w y i j p q e =
@@ -155,6 +168,6 @@ module _ (d : Desk) (k : ℕ) (m : Message) (b : Before d k m) (sd : ℕ → Lis
         where
           by : {a c : ℕ} → Origin d k m l h w (InWants (d.taking h) w a) (a ≡ x.fresh) → Origin d k m l h y (InWants (d.taking h) y c) (c ≡ x.fresh) → a ≡ c
           by {a} {c} (was o f) (was r g) = b.apart h w y a c o r e
-          by (was o f) (new n s own now asks to code is) = absurd (let z = b.refs h w (HasWant.comes o) in omega (arith, z, e, now))
-          by (new n s own now asks to code is) (was r g) = absurd (let z = b.refs h y (HasWant.comes r) in omega (arith, z, e, now))
-          by (new n s own now asks to code is) (new n2 s2 own2 now2 asks2 to2 code2 is2) = is ∙ sym is2
+          by (was o f) (new n own is) = absurd (let z = b.refs h w (HasWant.comes o) in let r = n.ref in omega (arith, z, e, r))
+          by (new n own is) (was r g) = absurd (let z = b.refs h y (HasWant.comes r) in let q = n.ref in omega (arith, z, e, q))
+          by (new n own is) (new n2 own2 is2) = is ∙ sym is2

@@ -24,8 +24,7 @@ same r f = record { room = r; no_fetch = f }
 
 -- ---- what goes back goes to its sender
 
-back-to : (b : Bool) (m y : Message) → Has y (if b then record { code = Returned; to = m.letter.from; letter = m.letter } ∷ [] else []) →
-    y.to ≡ y.letter.from
+back-to : (b : Bool) (m y : Message) → Has y (if b then record { code = Returned; to = m.letter.from; letter = m.letter } ∷ [] else []) → y.to ≡ y.letter.from
 back-to true m y (inl e) = ap (λ (z : Message). z.to) (sym e) ∙ ap (λ (z : Message). z.letter.from) e
 back-to true m y (inr never) = absurd never
 back-to false m y never = absurd never
@@ -318,10 +317,13 @@ abbrev pub posted : Desk → ℕ → Option Message → Desk
 posted d k None = d
 posted d k (Some l) = sent d k l
 
--- each id is an old one, or the one that the letter answers
+-- the id is an old one, or the one that the letter answers
+abbrev pub OldId : Desk → Option Message → ℕ → Type 0
+OldId d l i =
+    ((s : ℕ) × ((u : In) × (Has u (d.taking s) × (in_id u ≡ i)))) ⊎ ((m : Message) × ((l ≡ Some m) × (i ≡ m.letter.answers)))
+
 abbrev pub OldIds : Desk → (ℕ → List In) → Option Message → Type 0
-OldIds d tk l = (r : ℕ) (v : In) → Has v (tk r) →
-    ((s : ℕ) × ((u : In) × (Has u (d.taking s) × (in_id u ≡ in_id v)))) ⊎ ((m : Message) × ((l ≡ Some m) × (in_id v ≡ m.letter.answers)))
+OldIds d tk l = (r : ℕ) (v : In) → Has v (tk r) → OldId d l (in_id v)
 
 module _ (d : Desk) (k : ℕ) (sd : ℕ → List Out) (tk : ℕ → List In) (bl hp : ℕ → ℕ → Option (List ℕ)) (sc : Option Scrap) where
   abbrev pub after : Option Message → Desk

@@ -1,15 +1,15 @@
--- What each message that a poll handles makes of records and post, so that each record waits after it.
-use Rattle.rh_laws.proofs.Common.{Asked, Bool, Has, List, None, Option, Sending, Some, Taking, [], active_of, ap, asking_of, either, false, find, if◌then◌else◌}
-use Rattle.rh_laws.proofs.Common.{in_id, inl, inr, none_some, out_id, refl, subst, sym, true, ℕ, ◌&&◌, ◌==◌, ◌∙◌, ◌∷◌, ◌≡◌, ◌⊎◌}
+-- Deeds on one record, which is written anew or comes to its end; and which records a message can be for.
+use Rattle.rh_laws.proofs.Common.{Active, Asked, Bool, Has, List, None, Option, Sending, Some, Taking, [], active_of, ap, asking_of, either, false, find}
+use Rattle.rh_laws.proofs.Common.{if◌then◌else◌, in_id, inl, inr, none_some, out_id, refl, subst, sym, true, ℕ, ◌&&◌, ◌==◌, ◌∙◌, ◌∷◌, ◌≡◌, ◌⊎◌}
 use Rattle.rh_defs.specs.declared.message.Action.TheVariants as action
-use Rattle.rh_safety.proofs.Ends.{Asking, Code, Draining, Fetching, In, In_done, In_failed, Kind, Letter, Message, Open, Out, Out_done, Out_failed, put}
+use Rattle.rh_safety.proofs.Ends.{Asking, Draining, Fetching, In, In_done, In_failed, Kind, Letter, Message, Open, Out, Out_done, Out_failed, put}
 use Rattle.rh_safety.proofs.Ends.{with_id}
 use Rattle.rh_safety.proofs.Invariant.{Unread}
 use Rattle.rh_safety.proofs.Moves.{Move, move_with}
 use Rattle.rh_safety.proofs.Sight as sight
-use Rattle.rh_laws.proofs.Wants.{AllWait, Asks, InWants, OutWants, Tells, Want, file, is_sent, part, peer_of, ref_of, reply, want_in, want_out}
-use Rattle.rh_laws.proofs.WantEdits.{For, OldIds, after}
-use Rattle.rh_laws.proofs.WantDeeds.{Before, Deed, Origin, Sends, deed-waits, new, was}
+use Rattle.rh_laws.proofs.Wants.{AllWait, Asks, InWants, OutWants, Tells, Want, file, is_sent, part, reply, want_in, want_out}
+use Rattle.rh_laws.proofs.WantEdits.{For, OldId, OldIds, after}
+use Rattle.rh_laws.proofs.WantDeeds.{Anew, Before, Deed, Origin, Sends, deed-waits, new, was}
 
 -- ---- who wants what
 
@@ -36,22 +36,22 @@ out-want b (Out_failed i n) w e = absurd (none_some None refl e)
 
 -- ---- what is not found isn't there
 
-pub find-none : {A : Type 0} (p : A → Bool) (xs : List A) (x : A) → find p xs ≡ None → Has x xs → p x ≡ false
+find-none : {A : Type 0} (p : A → Bool) (xs : List A) (x : A) → find p xs ≡ None → Has x xs → p x ≡ false
 find-none p [] x q has = absurd has
 find-none p (y ∷ xs) x q has =
     either (λ z. z ≡ None → p x ≡ false) (p y) (Some y) (find p xs) (λ r s. absurd (none_some None refl (sym s)))
     (λ r s. elim has as (λ _. p x ≡ false) [ inl e ↦ ap p (sym e) ∙ r | inr k ↦ find-none p xs x s k ]) q
 
-abbrev pub has_buffer : (Taking → Bool) → In → Bool
+abbrev has_buffer : (Taking → Bool) → In → Bool
 has_buffer p (Fetching f) = p f
 has_buffer p (Draining f) = p f
 has_buffer p v = false
 
-abbrev pub wants_file : (Asked → Bool) → In → Bool
+abbrev wants_file : (Asked → Bool) → In → Bool
 wants_file p (Asking q) = p q
 wants_file p v = false
 
-pub active-find : (p : Taking → Bool) (ws : List In) → active_of p ws ≡ find (has_buffer p) ws
+active-find : (p : Taking → Bool) (ws : List In) → active_of p ws ≡ find (has_buffer p) ws
 active-find p [] = refl
 active-find p (Fetching g ∷ ws) = ap (λ (o : Option In). if p g then Some (Fetching g) else o) (active-find p ws)
 active-find p (Draining g ∷ ws) = ap (λ (o : Option In). if p g then Some (Draining g) else o) (active-find p ws)
@@ -59,7 +59,7 @@ active-find p (Asking g ∷ ws) = active-find p ws
 active-find p (In_done i a n ∷ ws) = active-find p ws
 active-find p (In_failed i a n ∷ ws) = active-find p ws
 
-pub asking-find : (p : Asked → Bool) (ws : List In) → asking_of p ws ≡ None → find (wants_file p) ws ≡ None
+asking-find : (p : Asked → Bool) (ws : List In) → asking_of p ws ≡ None → find (wants_file p) ws ≡ None
 asking-find p [] q = refl
 asking-find p (Asking g ∷ ws) q =
     either (λ (o : Option Asked). o ≡ None → (if p g then Some (Asking g) else find (wants_file p) ws) ≡ None) (p g) (Some g) (asking_of p ws)
@@ -68,6 +68,13 @@ asking-find p (Fetching g ∷ ws) q = asking-find p ws q
 asking-find p (Draining g ∷ ws) q = asking-find p ws q
 asking-find p (In_done i a n ∷ ws) q = asking-find p ws q
 asking-find p (In_failed i a n ∷ ws) q = asking-find p ws q
+
+pub active-none : (p : Taking → Bool) (ws : List In) (f : Taking) → active_of p ws ≡ None → Active ws f → p f ≡ false
+active-none p ws f q (inl has) = find-none (has_buffer p) ws (Fetching f) (sym (active-find p ws) ∙ q) has
+active-none p ws f q (inr has) = find-none (has_buffer p) ws (Draining f) (sym (active-find p ws) ∙ q) has
+
+pub asking-none : (p : Asked → Bool) (ws : List In) (x : Asked) → asking_of p ws ≡ None → Has (Asking x) ws → p x ≡ false
+asking-none p ws x q has = find-none (wants_file p) ws (Asking x) (asking-find p ws q) has
 
 -- ---- which kinds of message are for which wants
 
@@ -119,16 +126,20 @@ asks-fits (reply ref peer) room b l t = go l.kind t
 
 -- ---- deeds
 
-module _ (D : sight.Desk) (k : ℕ) (m : Message) (b : Before D k m) where
-  -- a record of the letter's ref
-  pub record Anew (l : Option Message) (w : Want) : Type 0 where
-    pub n : Message
-    pub is : l ≡ Some n
-    pub ref : ref_of w ≡ D.next_ref
-    pub asks : Asks w (D.buf k) (D.file k) n.letter
-    pub to : n.to ≡ peer_of w
-    pub code : n.code ≡ Code.Recorded
+-- the message is for none of a task's records, or for those of one id alone
+abbrev pub NoneIn : sight.Desk → ℕ → Message → Type 0
+NoneIn D k m = (w : Want) (j : ℕ) → InWants (D.taking k) w j → For D m k w → ⊥
 
+abbrev pub NoneOut : sight.Desk → ℕ → Message → Type 0
+NoneOut D k m = (w : Want) → OutWants (D.sending k) (D.file k) w → For D m k w → ⊥
+
+abbrev pub OnlyIn : sight.Desk → ℕ → Message → ℕ → Type 0
+OnlyIn D k m i = (w : Want) (j : ℕ) → InWants (D.taking k) w j → For D m k w → j ≡ i
+
+abbrev pub OnlyOut : sight.Desk → ℕ → Message → ℕ → Type 0
+OnlyOut D k m i = (w : Want) (u : Out) → Has u (D.sending k) → want_out (D.file k) u ≡ Some w → For D m k w → out_id u ≡ i
+
+module _ (D : sight.Desk) (k : ℕ) (m : Message) where
   -- records that come in: one is written anew, for which alone the message may be
   abbrev pub InsOf : Option Message → (ℕ → List In) → ℕ → Type 0
   InsOf l tk i =
@@ -139,33 +150,32 @@ module _ (D : sight.Desk) (k : ℕ) (m : Message) (b : Before D k m) where
       Origin D k m l h w (OutWants (D.sending h) (D.file h) w) (Unit {0})
 
   pub ins-moved : (l : Option Message) (tk : ℕ → List In) (v : In) → Move in_id D.taking tk k v →
-      ((w : Want) (j : ℕ) → InWants (D.taking k) w j → For D m k w → j ≡ in_id v) → ((w : Want) → want_in v ≡ Some w → Anew l w) → InsOf l tk (in_id v)
+      OnlyIn D k m (in_id v) → ((w : Want) → want_in v ≡ Some w → Anew D k l w) → InsOf l tk (in_id v)
   ins-moved l tk v move own anew h u w has wants = elim (move h u has) [
     | inl z ↦
         let x : InWants (D.taking h) w (in_id u) = record { one = u; has = z.0; wants = wants; id = refl } in
         was x (λ e f. z.1 e (own w (in_id u) (subst (λ j. InWants (D.taking j) w (in_id u)) e x) (subst (λ j. For D m j w) e f)))
     | inr z ↦
         let a = anew w (ap want_in (sym z.1) ∙ wants) in
-        new a.n a.is z.0 a.ref a.asks a.to a.code (ap in_id z.1)
+        new a z.0 (ap in_id z.1)
   ]
 
-  pub outs-moved : (l : Option Message) (sd : ℕ → List Out) (v : Out) → Move out_id D.sending sd k v →
-      ((w : Want) (u : Out) → Has u (D.sending k) → want_out (D.file k) u ≡ Some w → For D m k w → out_id u ≡ out_id v) →
-      ((w : Want) → want_out (D.file k) v ≡ Some w → Anew l w) → OutsOf l sd
+  pub outs-moved : (l : Option Message) (sd : ℕ → List Out) (v : Out) → Move out_id D.sending sd k v → OnlyOut D k m (out_id v) →
+      ((w : Want) → want_out (D.file k) v ≡ Some w → Anew D k l w) → OutsOf l sd
   outs-moved l sd v move own anew h u w has wants = elim (move h u has) [
     | inl z ↦ was (record { one = u; has = z.0; wants = wants }) (λ e f. z.1 e (own w u (subst (λ j. Has u (D.sending j)) e z.0)
         (ap (λ j. want_out (D.file j) u) (sym e) ∙ wants) (subst (λ j. For D m j w) e f)))
     | inr z ↦
         let a = anew w (ap (λ y. want_out (D.file k) y) (sym z.1) ∙ ap (λ j. want_out (D.file j) u) (sym z.0) ∙ wants) in
-        new a.n a.is z.0 a.ref a.asks a.to a.code tt
+        new a z.0 tt
   ]
 
-  pub ins-stay : (l : Option Message) (i : ℕ) → ((w : Want) (j : ℕ) → InWants (D.taking k) w j → For D m k w → ⊥) → InsOf l D.taking i
+  pub ins-stay : (l : Option Message) (i : ℕ) → NoneIn D k m → InsOf l D.taking i
   ins-stay l i none h u w has wants =
       let x : InWants (D.taking h) w (in_id u) = record { one = u; has = has; wants = wants; id = refl } in
       was x (λ e f. none w (in_id u) (subst (λ j. InWants (D.taking j) w (in_id u)) e x) (subst (λ j. For D m j w) e f))
 
-  pub outs-stay : (l : Option Message) → ((w : Want) → OutWants (D.sending k) (D.file k) w → For D m k w → ⊥) → OutsOf l D.sending
+  pub outs-stay : (l : Option Message) → NoneOut D k m → OutsOf l D.sending
   outs-stay l none h u w has wants =
       let x : OutWants (D.sending h) (D.file h) w = record { one = u; has = has; wants = wants } in
       was x (λ e f. none w (subst (λ j. OutWants (D.sending j) (D.file j) w) e x) (subst (λ j. For D m j w) e f))
@@ -173,49 +183,42 @@ module _ (D : sight.Desk) (k : ℕ) (m : Message) (b : Before D k m) where
   pub ids-stay : (l : Option Message) → OldIds D D.taking l
   ids-stay l r v has = inl (r, (v, (has, refl)))
 
-  pub ids-moved : (l : Option Message) (tk : ℕ → List In) (v : In) → Move in_id D.taking tk k v →
-      ((s : ℕ) × ((u : In) × (Has u (D.taking s) × (in_id u ≡ in_id v)))) ⊎ ((n : Message) × ((l ≡ Some n) × (in_id v ≡ n.letter.answers))) → OldIds D tk l
+  pub ids-moved : (l : Option Message) (tk : ℕ → List In) (v : In) → Move in_id D.taking tk k v → OldId D l (in_id v) → OldIds D tk l
   ids-moved l tk v move of_v r u has = elim (move r u has) [
     | inl z ↦ inl (r, (u, (z.0, refl)))
-    | inr z ↦ subst (λ y. ((s : ℕ) × ((x : In) × (Has x (D.taking s) × (in_id x ≡ in_id y)))) ⊎ ((n : Message) × ((l ≡ Some n) × (in_id y ≡ n.letter.answers))))
-        (sym z.1) of_v
+    | inr z ↦ subst (λ y. OldId D l (in_id y)) (sym z.1) of_v
   ]
 
   -- no letter, and the same scrap file
   pub none-sent : (sc : Option sight.Scrap) (n : Message) → None ≡ Some n → Sends D k m sc n
   none-sent sc n e = absurd (none_some None refl e)
 
-  pub nothing : (w : Want) → None ≡ Some w → (l : Option Message) → Anew l w
-  nothing w e l = absurd (none_some None refl e)
-
+module _ (D : sight.Desk) (k : ℕ) (m : Message) (b : Before D k m) where
   pub deed : {e : sight.Desk} (l : Option Message) (sd : ℕ → List Out) (tk : ℕ → List In) (bl hp : ℕ → ℕ → Option (List ℕ)) (sc : Option sight.Scrap) →
       e ≡ after D k sd tk bl hp sc l → Deed D k m l sd tk sc → AllWait e
   deed l sd tk bl hp sc e x = subst AllWait (sym e) (deed-waits D k m b sd tk bl hp sc l x)
 
   -- nothing was done
-  pub idle : {e : sight.Desk} → e ≡ D → ((w : Want) (j : ℕ) → InWants (D.taking k) w j → For D m k w → ⊥) →
-      ((w : Want) → OutWants (D.sending k) (D.file k) w → For D m k w → ⊥) → AllWait e
+  pub idle : {e : sight.Desk} → e ≡ D → NoneIn D k m → NoneOut D k m → AllWait e
   idle e none_in none_out = deed None D.sending D.taking D.block D.heap D.scrap e (record {
     fresh = 0;
-    ins = ins-stay None 0 none_in;
-    outs = outs-stay None none_out;
-    ids = ids-stay None;
-    sends = none-sent D.scrap;
+    ins = ins-stay D k m None 0 none_in;
+    outs = outs-stay D k m None none_out;
+    ids = ids-stay D k m None;
+    sends = none-sent D k m D.scrap;
     scrap = λ f s. inl s;
   })
 
   -- a record that goes out is written anew
   pub out-deed : {e : sight.Desk} (l : Option Message) (i : ℕ) (v : Out) (bl hp : ℕ → ℕ → Option (List ℕ)) (sc : Option sight.Scrap) → out_id v ≡ i →
-      e ≡ after D k (put D.sending k (with_id out_id i v (D.sending k))) D.taking bl hp sc l →
-      ((w : Want) (j : ℕ) → InWants (D.taking k) w j → For D m k w → ⊥) →
-      ((w : Want) (u : Out) → Has u (D.sending k) → want_out (D.file k) u ≡ Some w → For D m k w → out_id u ≡ i) →
-      ((w : Want) → want_out (D.file k) v ≡ Some w → Anew l w) → ((n : Message) → l ≡ Some n → Sends D k m sc n) →
+      e ≡ after D k (put D.sending k (with_id out_id i v (D.sending k))) D.taking bl hp sc l → NoneIn D k m → OnlyOut D k m i →
+      ((w : Want) → want_out (D.file k) v ≡ Some w → Anew D k l w) → ((n : Message) → l ≡ Some n → Sends D k m sc n) →
       ((f : sight.Scrap) → D.scrap ≡ Some f → sc ≡ Some f) → AllWait e
   out-deed l i v bl hp sc id e none own anew sends scrap = deed l _ D.taking bl hp sc e (record {
     fresh = 0;
-    ins = ins-stay l 0 none;
-    outs = outs-moved l _ v (move_with out_id D.sending k i v id) (λ w u has wants f. own w u has wants f ∙ sym id) anew;
-    ids = ids-stay l;
+    ins = ins-stay D k m l 0 none;
+    outs = outs-moved D k m l _ v (move_with out_id D.sending k i v id) (λ w u has wants f. own w u has wants f ∙ sym id) anew;
+    ids = ids-stay D k m l;
     sends = sends;
     scrap = λ f s. inl (scrap f s);
   })
@@ -223,16 +226,15 @@ module _ (D : sight.Desk) (k : ℕ) (m : Message) (b : Before D k m) where
   -- a record that comes in is written anew
   pub in-deed : {e : sight.Desk} (l : Option Message) (v u : In) (bl hp : ℕ → ℕ → Option (List ℕ)) (sc : Option sight.Scrap) →
       e ≡ after D k D.sending (put D.taking k (with_id in_id (in_id v) v (D.taking k))) bl hp sc l → Has u (D.taking k) → in_id u ≡ in_id v →
-      ((w : Want) (j : ℕ) → InWants (D.taking k) w j → For D m k w → j ≡ in_id v) → ((w : Want) → OutWants (D.sending k) (D.file k) w → For D m k w → ⊥) →
-      ((w : Want) → want_in v ≡ Some w → Anew l w) → ((n : Message) → l ≡ Some n → Sends D k m sc n) →
+      OnlyIn D k m (in_id v) → NoneOut D k m → ((w : Want) → want_in v ≡ Some w → Anew D k l w) → ((n : Message) → l ≡ Some n → Sends D k m sc n) →
       ((f : sight.Scrap) → D.scrap ≡ Some f → (sc ≡ Some f) ⊎ ((f.load ≡ m.letter.me) × Unread m)) → AllWait e
   in-deed l v u bl hp sc e has id own none anew sends scrap =
       let move = move_with in_id D.taking k (in_id v) v refl in
       deed l D.sending _ bl hp sc e (record {
         fresh = in_id v;
-        ins = ins-moved l _ v move own anew;
-        outs = outs-stay l none;
-        ids = ids-moved l _ v move (inl (k, (u, (has, id))));
+        ins = ins-moved D k m l _ v move own anew;
+        outs = outs-stay D k m l none;
+        ids = ids-moved D k m l _ v move (inl (k, (u, (has, id))));
         sends = sends;
         scrap = scrap;
       })

@@ -1,10 +1,10 @@
 -- Each message that a poll handles, so that each record waits after it.
-use Rattle.rh_laws.proofs.Common.{Acknowledge, Asked, Body, Bool, Desk, EventCode, Handled, Has, List, None, Option, Parcel, Recorded, Scrap, Sending, Some}
-use Rattle.rh_laws.proofs.Common.{TakeAction, Taking, Task, Transmit, User, [], ack_back, action_of, active_of, and_left, and_right, answers_none, ap, arith}
-use Rattle.rh_laws.proofs.Common.{asking_is, asking_of, came, came_back, either, eq-eqb, eqb_tells, fail_sending, false, field_is, find, handled, if◌then◌else◌}
-use Rattle.rh_laws.proofs.Common.{ignored, in_id, inl, inr, is_equal, leb_yes, length, live_of, nat_eq, nat_le, nat_lt, none_some, not, open_is, open_of}
-use Rattle.rh_laws.proofs.Common.{option_map, out_id, perform_send, perform_take, refl, same_value, subst, sym, take_with, task_of, true, view, ℕ, ◌&&◌, ◌++◌}
-use Rattle.rh_laws.proofs.Common.{◌+◌, ◌<◌, ◌∙◌, ◌≡◌, ◌≢◌, ◌≤◌, ◌⊎◌}
+use Rattle.rh_laws.proofs.Common.{Acknowledge, Active, Asked, Body, Bool, Desk, EventCode, Handled, Has, List, None, Option, Parcel, Recorded, Scrap, Sending}
+use Rattle.rh_laws.proofs.Common.{Some, TakeAction, Taking, Task, Transmit, User, [], ack_back, action_of, active_of, and_left, and_right, answers_none, ap}
+use Rattle.rh_laws.proofs.Common.{arith, asking_is, asking_of, came, came_back, either, eq-eqb, eqb_tells, fail_sending, false, field_is, handled}
+use Rattle.rh_laws.proofs.Common.{if◌then◌else◌, ignored, in_id, inl, inr, is_equal, leb_yes, length, live_of, nat_eq, nat_le, nat_lt, none_some, not, open_is}
+use Rattle.rh_laws.proofs.Common.{open_of, option_map, out_id, perform_send, perform_take, refl, same_value, subst, sym, take_with, task_of, true, view, ℕ}
+use Rattle.rh_laws.proofs.Common.{◌&&◌, ◌++◌, ◌+◌, ◌<◌, ◌∙◌, ◌≡◌, ◌≢◌, ◌≤◌, ◌⊎◌}
 use Rattle.rh_defs.specs.declared.message.Action.TheVariants as action
 use Rattle.rh_defs.specs.declared.message.Body.TheVariants as body
 use Rattle.rh_defs.specs.declared.transfer_action.SendAction.TheVariants as send_action
@@ -28,12 +28,12 @@ use Rattle.rh_safety.proofs.SeenDocuments.{ended_view, letter_of}
 use Rattle.rh_safety.proofs.SeenTasks.{ins_view, outs_view}
 use Rattle.rh_safety.proofs.Sight as sight
 use Rattle.rh_safety.proofs.View.{seen_letter, seen_scrap}
-use Rattle.rh_laws.proofs.Wants.{AllWait, Asks, InWants, OutWants, Tells, Want, file, is_sent, part, peer_of, ref_of, reply, want_in, want_out}
+use Rattle.rh_laws.proofs.Wants.{AllWait, Asks, InWants, Tells, Want, file, is_sent, part, peer_of, ref_of, reply, want_in, want_out}
 use Rattle.rh_laws.proofs.WantEdits.{For, answer, own_back}
-use Rattle.rh_laws.proofs.WantDeeds.{Before, Sends}
-use Rattle.rh_laws.proofs.WantPolls.{Anew, InWant, active-find, asking-find, asks-fits, by_ask, by_drain, by_fetch, deed, files, find-none, fits, has_buffer}
-use Rattle.rh_laws.proofs.WantPolls.{idle, ids-moved, in-deed, in-want, ins-moved, none-sent, out-deed, out-want, outs-stay, parts, replies, sort_of}
-use Rattle.rh_laws.proofs.WantPolls.{tells-fits, un, wants_file}
+use Rattle.rh_laws.proofs.WantDeeds.{Anew, Before, Sends}
+use Rattle.rh_laws.proofs.WantPolls.{InWant, NoneIn, NoneOut, OnlyIn, OnlyOut, active-none, asking-none, asks-fits, by_ask, by_drain, by_fetch, deed, files}
+use Rattle.rh_laws.proofs.WantPolls.{fits, idle, ids-moved, in-deed, in-want, ins-moved, none-sent, out-deed, out-want, outs-stay, parts, replies, sort_of}
+use Rattle.rh_laws.proofs.WantPolls.{tells-fits, un}
 
 module _ {o : Offers} {e : Edits} (d : Desk) (t : Task) (m : Parcel) (is : task_of t.handle d.tasks ≡ Some t) (inv : Inv o e (view d)) where
   abbrev D : sight.Desk
@@ -63,10 +63,10 @@ module _ {o : Offers} {e : Edits} (d : Desk) (t : Task) (m : Parcel) (is : task_
     sends-one sc n s q e = let same : n ≡ q = cc in subst (Sends D k (M b) sc) same s
 
     anew-one : (n : Message) (x : Want) → ref_of x ≡ D.next_ref → Asks x (D.buf k) (D.file k) n.letter → n.to ≡ peer_of x → n.code ≡ Recorded →
-        (w : Want) → Some x ≡ Some w → Anew D k (M b) bf (Some n) w
+        (w : Want) → Some x ≡ Some w → Anew D k (Some n) w
     anew-one n x ref asks to code w e =
         let same : x ≡ w = cc in
-        subst (Anew D k (M b) bf (Some n)) same (record { n = n; is = refl; ref = ref; asks = asks; to = to; code = code })
+        subst (Anew D k (Some n)) same (record { n = n; is = refl; ref = ref; asks = asks; to = to; code = code })
 
     reply-sent : (sc : Option sight.Scrap) (n : Message) → n.letter.from ≡ k → n.letter.me ≡ D.next_ref → n.letter.answers ≡ m.message.my_ref →
         (n.code ≡ Acknowledge → ⊥) → n.to ≡ m.message.from →
@@ -79,27 +79,25 @@ module _ {o : Offers} {e : Edits} (d : Desk) (t : Task) (m : Parcel) (is : task_
     }
 
     anew-open : (n : Message) (y : Sending) → y.last ≡ D.next_ref → is_sent (D.file k) n.letter.kind ≡ true → n.to ≡ y.recipient → n.code ≡ Recorded →
-        (w : Want) → want_out (D.file k) (Open y) ≡ Some w → Anew D k (M b) bf (Some n) w
+        (w : Want) → want_out (D.file k) (Open y) ≡ Some w → Anew D k (Some n) w
     anew-open n y last kind to code w e =
         let z = out-want (D.file k) (Open y) w e in
         let same : y ≡ z.0 = let q = z.1.0 in cc in
         anew-one n (reply y.last y.recipient) last kind to code w (ap (λ (x : Sending). Some (reply x.last x.recipient)) same ∙ ap Some (sym z.1.1))
 
     -- a record that goes out and comes to its end
-    shut-out : {y : sight.Desk} (x : Sending) (v : Out) → out_id v ≡ x.id → want_out (D.file k) v ≡ None →
-        y ≡ sight.with_out D k x v → ((w : Want) (j : ℕ) → InWants (D.taking k) w j → For D (M b) k w → ⊥) →
-        ((w : Want) (u : Out) → Has u (D.sending k) → want_out (D.file k) u ≡ Some w → For D (M b) k w → out_id u ≡ x.id) → AllWait y
+    shut-out : {y : sight.Desk} (x : Sending) (v : Out) → out_id v ≡ x.id → want_out (D.file k) v ≡ None → y ≡ sight.with_out D k x v → NoneIn D k (M b) →
+        OnlyOut D k (M b) x.id → AllWait y
     shut-out x v id ended q none own =
-        out-deed D k (M b) bf None x.id v D.block D.heap D.scrap id q none own (λ w r. absurd (none_some _ ended r)) (none-sent D k (M b) bf D.scrap) (λ f s. s)
+        out-deed D k (M b) bf None x.id v D.block D.heap D.scrap id q none own (λ w r. absurd (none_some _ ended r)) (none-sent D k (M b) D.scrap) (λ f s. s)
 
     -- one that comes in
     shut-in : {y : sight.Desk} (v u : In) (bl hp : ℕ → ℕ → Option (List ℕ)) (sc : Option sight.Scrap) → want_in v ≡ None →
         y ≡ record D { taking = put D.taking k (with_id in_id (in_id v) v (D.taking k)); block = bl; heap = hp; scrap = sc } →
-        Has u (D.taking k) → in_id u ≡ in_id v → ((w : Want) (j : ℕ) → InWants (D.taking k) w j → For D (M b) k w → j ≡ in_id v) →
-        ((w : Want) → OutWants (D.sending k) (D.file k) w → For D (M b) k w → ⊥) →
+        Has u (D.taking k) → in_id u ≡ in_id v → OnlyIn D k (M b) (in_id v) → NoneOut D k (M b) →
         ((f : sight.Scrap) → D.scrap ≡ Some f → (sc ≡ Some f) ⊎ ((f.load ≡ m.message.my_ref) × Unread (M b))) → AllWait y
     shut-in v u bl hp sc ended q has id own none scrap =
-        in-deed D k (M b) bf None v u bl hp sc q has id own none (λ w r. absurd (none_some _ ended r)) (none-sent D k (M b) bf sc) scrap
+        in-deed D k (M b) bf None v u bl hp sc q has id own none (λ w r. absurd (none_some _ ended r)) (none-sent D k (M b) sc) scrap
 
   -- ---- which records a message is for
 
@@ -110,65 +108,50 @@ module _ {o : Offers} {e : Edits} (d : Desk) (t : Task) (m : Parcel) (is : task_
 
   module _ {back : Bool} {aim : ℕ} (b : Body) (bf : Before D k (M b)) (a : Aim back aim b) where
     -- the records whose ref it names have one id
-    pub same-in : (v : In) (x : Want) → Has v (D.taking k) → want_in v ≡ Some x → aim ≡ ref_of x → (w : Want) (j : ℕ) → InWants (D.taking k) w j →
-        For D (M b) k w →
-        j ≡ in_id v
+    pub same-in : (v : In) (x : Want) → Has v (D.taking k) → want_in v ≡ Some x → aim ≡ ref_of x → OnlyIn D k (M b) (in_id v)
     same-in v x has wants r w j z f = bf.apart k w x j (in_id v) z (record { one = v; has = has; wants = wants; id = refl }) (sym (a.refs w f) ∙ r)
 
-    same-out : (x : Sending) → Has (Open x) (D.sending k) → aim ≡ x.last →
-        (w : Want) (u : Out) → Has u (D.sending k) → want_out (D.file k) u ≡ Some w → For D (M b) k w → out_id u ≡ x.id
+    same-out : (x : Sending) → Has (Open x) (D.sending k) → aim ≡ x.last → OnlyOut D k (M b) x.id
     same-out x has r w u there wants f =
         let z = out-want (D.file k) u w wants in
         ap out_id z.1.0 ∙ inv.outs.lasts k z.0 x (subst (λ y. Has y (D.sending k)) z.1.0 there) has (ap ref_of (sym z.1.1) ∙ sym (a.refs w f) ∙ r)
 
-    no-in : fits back (action_of b) parts ≡ false → fits back (action_of b) files ≡ false → (w : Want) (j : ℕ) → InWants (D.taking k) w j → For D (M b) k w → ⊥
-    no-in p q w j z f = by (in-want z.one w z.wants)
+    -- one that comes in is none of these
+    no-such : ((f : Taking) → Active (D.taking k) f → For D (M b) k (part f.fetch f.sender f.buffer) → ⊥) →
+        ((q : Asked) → Has (Asking q) (D.taking k) → For D (M b) k (file q.ack q.sender) → ⊥) → NoneIn D k (M b)
+    no-such parts_ files_ w j z f = by (in-want z.one w z.wants)
       where
         by : InWant z.one w → ⊥
-        by (by_fetch g same is_w) = un (sym p ∙ subst (λ x. fits back (action_of b) (sort_of x) ≡ true) is_w (a.sorts w f))
-        by (by_drain g same is_w) = un (sym p ∙ subst (λ x. fits back (action_of b) (sort_of x) ≡ true) is_w (a.sorts w f))
-        by (by_ask g same is_w) = un (sym q ∙ subst (λ x. fits back (action_of b) (sort_of x) ≡ true) is_w (a.sorts w f))
+        by (by_fetch g same is_w) = parts_ g (inl (subst (λ v. Has v (D.taking k)) same z.has)) (subst (For D (M b) k) is_w f)
+        by (by_drain g same is_w) = parts_ g (inr (subst (λ v. Has v (D.taking k)) same z.has)) (subst (For D (M b) k) is_w f)
+        by (by_ask g same is_w) = files_ g (subst (λ v. Has v (D.taking k)) same z.has) (subst (For D (M b) k) is_w f)
 
-    no-out : fits back (action_of b) replies ≡ false → (w : Want) → OutWants (D.sending k) (D.file k) w → For D (M b) k w → ⊥
+    no-in : fits back (action_of b) parts ≡ false → fits back (action_of b) files ≡ false → NoneIn D k (M b)
+    no-in p q = no-such (λ f act g. un (sym p ∙ a.sorts _ g)) (λ x has g. un (sym q ∙ a.sorts _ g))
+
+    no-out : fits back (action_of b) replies ≡ false → NoneOut D k (M b)
     no-out p w z f =
         let y = out-want (D.file k) z.one w z.wants in
         un (sym p ∙ subst (λ x. fits back (action_of b) (sort_of x) ≡ true) y.1.1 (a.sorts w f))
 
     -- none that goes out, where none was found
     none-open : (test : Sending → Bool) → open_of test (D.sending k) ≡ None → ((x : Sending) → For D (M b) k (reply x.last x.recipient) → test x ≡ true) →
-        (w : Want) → OutWants (D.sending k) (D.file k) w → For D (M b) k w → ⊥
+        NoneOut D k (M b)
     none-open test q would w z f =
         let y = out-want (D.file k) z.one w z.wants in
         un (sym (open_none test (D.sending k) y.0 q (subst (λ v. Has v (D.sending k)) y.1.0 z.has)) ∙ would y.0 (subst (For D (M b) k) y.1.1 f))
 
     -- none that has a buffer
     none-active : fits back (action_of b) files ≡ false → (test : Taking → Bool) → active_of test (D.taking k) ≡ None →
-        ((f : Taking) → For D (M b) k (part f.fetch f.sender f.buffer) → test f ≡ true) → (w : Want) (j : ℕ) → InWants (D.taking k) w j → For D (M b) k w → ⊥
-    none-active p test q would w j z f = by (in-want z.one w z.wants)
-      where
-        found : find (has_buffer test) (D.taking k) ≡ None
-        found = sym (active-find test (D.taking k)) ∙ q
-
-        by : InWant z.one w → ⊥
-        by (by_fetch g same is_w) =
-            un (sym (find-none (has_buffer test) (D.taking k) (Fetching g) found (subst (λ v. Has v (D.taking k)) same z.has))
-            ∙ would g (subst (For D (M b) k) is_w f))
-        by (by_drain g same is_w) =
-            un (sym (find-none (has_buffer test) (D.taking k) (Draining g) found (subst (λ v. Has v (D.taking k)) same z.has))
-            ∙ would g (subst (For D (M b) k) is_w f))
-        by (by_ask g same is_w) = un (sym p ∙ subst (λ x. fits back (action_of b) (sort_of x) ≡ true) is_w (a.sorts w f))
+        ((f : Taking) → For D (M b) k (part f.fetch f.sender f.buffer) → test f ≡ true) → NoneIn D k (M b)
+    none-active p test q would =
+        no-such (λ f act g. un (sym (active-none test (D.taking k) f q act) ∙ would f g)) (λ x has g. un (sym p ∙ a.sorts _ g))
 
     -- none that waits for a file
     none-asking : fits back (action_of b) parts ≡ false → (test : Asked → Bool) → asking_of test (D.taking k) ≡ None →
-        ((q : Asked) → For D (M b) k (file q.ack q.sender) → test q ≡ true) → (w : Want) (j : ℕ) → InWants (D.taking k) w j → For D (M b) k w → ⊥
-    none-asking p test q would w j z f = by (in-want z.one w z.wants)
-      where
-        by : InWant z.one w → ⊥
-        by (by_fetch g same is_w) = un (sym p ∙ subst (λ x. fits back (action_of b) (sort_of x) ≡ true) is_w (a.sorts w f))
-        by (by_drain g same is_w) = un (sym p ∙ subst (λ x. fits back (action_of b) (sort_of x) ≡ true) is_w (a.sorts w f))
-        by (by_ask g same is_w) =
-            un (sym (find-none (wants_file test) (D.taking k) (Asking g) (asking-find test (D.taking k) q) (subst (λ v. Has v (D.taking k)) same z.has))
-            ∙ would g (subst (For D (M b) k) is_w f))
+        ((q : Asked) → For D (M b) k (file q.ack q.sender) → test q ≡ true) → NoneIn D k (M b)
+    none-asking p test q would =
+        no-such (λ f act g. un (sym p ∙ a.sorts _ g)) (λ x has g. un (sym (asking-none test (D.taking k) x q has) ∙ would x g))
 
   -- ---- messages that came back
 
@@ -194,7 +177,7 @@ module _ {o : Offers} {e : Edits} (d : Desk) (t : Task) (m : Parcel) (is : task_
       unfolding fail_sending
       sending-back p q = subst (λ xs. P (fail_sending d t (sender.on_sending_bounce ref xs))) sendings (by (sender.on_sending_bounce ref (D.sending k)) refl)
         where
-          none-in : (w : Want) (j : ℕ) → InWants (D.taking k) w j → For D (M b) k w → ⊥
+          none-in : NoneIn D k (M b)
           none-in = no-in b bf (back-aim b) p q
 
           by : (v : Option Sending) → sender.on_sending_bounce ref (D.sending k) ≡ v → P (fail_sending d t v)
@@ -210,7 +193,7 @@ module _ {o : Offers} {e : Edits} (d : Desk) (t : Task) (m : Parcel) (is : task_
       unfolding ack_back
       ack-back p q = subst (λ xs. P (ack_back d t (receiver.on_ack_bounce ref xs))) takings (by (receiver.on_ack_bounce ref (D.taking k)) refl)
         where
-          none-out : (w : Want) → OutWants (D.sending k) (D.file k) w → For D (M b) k w → ⊥
+          none-out : NoneOut D k (M b)
           none-out = no-out b bf (back-aim b) q
 
           by : (v : Option Asked) → receiver.on_ack_bounce ref (D.taking k) ≡ v → P (ack_back d t v)
@@ -228,7 +211,7 @@ module _ {o : Offers} {e : Edits} (d : Desk) (t : Task) (m : Parcel) (is : task_
       fetch-back p q = subst (λ xs. P (perform_take d t (receiver.on_taking_bounce ref xs))) takings
           (by (active_of (λ f. nat_eq f.fetch ref) (D.taking k)) refl)
         where
-          none-out : (w : Want) → OutWants (D.sending k) (D.file k) w → For D (M b) k w → ⊥
+          none-out : NoneOut D k (M b)
           none-out = no-out b bf (back-aim b) q
 
           ends : (f : Taking) (u : In) → Has u (D.taking k) → in_id u ≡ f.id → want_in u ≡ Some (part f.fetch f.sender f.buffer) → f.fetch ≡ ref →
@@ -310,6 +293,15 @@ module _ {o : Offers} {e : Edits} (d : Desk) (t : Task) (m : Parcel) (is : task_
     not-back : Recorded ≡ Acknowledge → ⊥
     not-back e = let z : Recorded ≡ Acknowledge = e in (cc)
 
+    -- a fetch answers what was sent before
+    tells-fetch : (b : Body) → fits true (action_of b) parts ≡ false → fits true (action_of b) files ≡ false → ((c : Bool) → is_sent c (action_of b) ≡ not c) →
+        (n : Message) → n.letter.kind ≡ action.RamFetch → n.letter.amount ≡ D.buf k → (w : Want) (room : ℕ) (c : Bool) → Asks w room c (letter_of m b) →
+        Tells w room c D.scrap n
+    tells-fetch b p q r n kind amount (part x y u) room c a = un (sym p ∙ asks-fits (part x y u) room c (letter_of m b) a)
+    tells-fetch b p q r n kind amount (file x y) room c a = un (sym q ∙ asks-fits (file x y) room c (letter_of m b) a)
+    tells-fetch b p q r n kind amount (reply x y) room c a =
+        inr (not_true c (sym (r c) ∙ a), (kind, let z = inv.ins.room k in omega (arith, z, amount)))
+
     -- an offer: its fetch is sent, or nothing is done
     save-waits : (x : _) → Before D k (M (body.DataSave x)) → ((v : In) → Has v (D.taking k) → in_id v < m.message.my_ref) → P (perform_take d t (for_save t m))
     save-waits x bf past =
@@ -320,12 +312,6 @@ module _ {o : Offers} {e : Edits} (d : Desk) (t : Task) (m : Parcel) (is : task_
       where
         b : Body
         b = body.DataSave x
-
-        tells : (n : Message) → n.letter.kind ≡ action.RamFetch → n.letter.amount ≡ D.buf k → (w : Want) (room : ℕ) (c : Bool) → Asks w room c (letter_of m b) →
-            Tells w room c D.scrap n
-        tells n kind amount (part r p u) room c a = un (asks-fits (part r p u) room c (letter_of m b) a)
-        tells n kind amount (file r p) room c a = un (asks-fits (file r p) room c (letter_of m b) a)
-        tells n kind amount (reply r p) room c a = inr (not_true c a, (kind, let z = inv.ins.room k in omega (arith, z, amount)))
 
         begun : Began D k (letter_of m b) (view (perform_take d t (for_save t m)).0) → P (perform_take d t (for_save t m))
         begun w =
@@ -340,11 +326,11 @@ module _ {o : Offers} {e : Edits} (d : Desk) (t : Task) (m : Parcel) (is : task_
             (put D.heap k (put (D.heap k) w.address (Some w.bytes))) D.scrap
             w.seen (record {
               fresh = f.id;
-              ins = ins-moved D k (M b) bf (Some n) _ (Fetching f) move (λ v j z g. absurd (no-in b bf (came-aim b) refl refl v j z g))
+              ins = ins-moved D k (M b) (Some n) _ (Fetching f) move (λ v j z g. absurd (no-in b bf (came-aim b) refl refl v j z g))
                   (anew-one b bf n (part D.next_ref m.message.from w.address) refl (refl, (refl, omega arith)) refl refl);
-              outs = outs-stay D k (M b) bf (Some n) (no-out b bf (came-aim b) refl);
-              ids = ids-moved D k (M b) bf (Some n) _ (Fetching f) move (inr (n, (refl, refl)));
-              sends = sends-one b bf D.scrap n (reply-sent b bf D.scrap n refl refl refl not-back refl (tells n refl refl));
+              outs = outs-stay D k (M b) (Some n) (no-out b bf (came-aim b) refl);
+              ids = ids-moved D k (M b) (Some n) _ (Fetching f) move (inr (n, (refl, refl)));
+              sends = sends-one b bf D.scrap n (reply-sent b bf D.scrap n refl refl refl not-back refl (tells-fetch b refl refl (λ c. refl) n refl refl));
               scrap = λ g s. inl s;
             })
 
@@ -357,10 +343,10 @@ module _ {o : Offers} {e : Edits} (d : Desk) (t : Task) (m : Parcel) (is : task_
         b : Body
         b = body.DataSaveAck x
 
-        none-in : (w : Want) (j : ℕ) → InWants (D.taking k) w j → For D (M b) k w → ⊥
+        none-in : NoneIn D k (M b)
         none-in = no-in b bf (came-aim b) refl refl
 
-        own : (y : Sending) (w : Want) (u : Out) → Has u (D.sending k) → want_out (D.file k) u ≡ Some w → For D (M b) k w → out_id u ≡ y.id
+        own : (y : Sending) → OnlyOut D k (M b) y.id
         own y w u has wants f = absurd (no-out b bf (came-aim b) refl w (record { one = u; has = has; wants = wants }) f)
 
         tells : (file_ : sight.Scrap) (n : Message) → n.letter.kind ≡ action.DataLoad → n.code ≡ Recorded → file_.load ≡ n.letter.me →
@@ -400,7 +386,7 @@ module _ {o : Offers} {e : Edits} (d : Desk) (t : Task) (m : Parcel) (is : task_
         b : Body
         b = body.DataLoadAck x
 
-        none-in : (w : Want) (j : ℕ) → InWants (D.taking k) w j → For D (M b) k w → ⊥
+        none-in : NoneIn D k (M b)
         none-in = no-in b bf (came-aim b) refl refl
 
         by : (v : Option Sending) → open_of (sender.is_loaded m.message.from your) (D.sending k) ≡ v → P (perform_send d t (option_map send_action.Finish v))
@@ -411,7 +397,7 @@ module _ {o : Offers} {e : Edits} (d : Desk) (t : Task) (m : Parcel) (is : task_
             w : Has (Open y) (D.sending k) × (sender.is_loaded m.message.from your y ≡ true)
             w = open_is (sender.is_loaded m.message.from your) (D.sending k) y s
 
-            own : (v : Want) (u : Out) → Has u (D.sending k) → want_out (D.file k) u ≡ Some v → For D (M b) k v → out_id u ≡ y.id
+            own : OnlyOut D k (M b) y.id
             own = same-out b bf (came-aim b) y w.0 (is_equal _ _ (and_right (nat_eq m.message.from y.recipient) _ w.1))
 
             go : (z : Handled) → file_turns.Finishes d t m b is y z → P z
@@ -427,7 +413,7 @@ module _ {o : Offers} {e : Edits} (d : Desk) (t : Task) (m : Parcel) (is : task_
         b : Body
         b = body.DataLoad x
 
-        none-out : (w : Want) → OutWants (D.sending k) (D.file k) w → For D (M b) k w → ⊥
+        none-out : NoneOut D k (M b)
         none-out = no-out b bf (came-aim b) refl
 
         by : (v : Option Asked) → asking_of (receiver.is_load m.message.from your) (D.taking k) ≡ v →
@@ -442,7 +428,7 @@ module _ {o : Offers} {e : Edits} (d : Desk) (t : Task) (m : Parcel) (is : task_
             from : m.message.from ≡ q.sender
             from = is_equal _ _ (and_left (nat_eq m.message.from q.sender) _ w.1)
 
-            own : (v : Want) (j : ℕ) → InWants (D.taking k) v j → For D (M b) k v → j ≡ q.id
+            own : OnlyIn D k (M b) q.id
             own = same-in b bf (came-aim b) (Asking q) (file q.ack q.sender) w.0 refl (is_equal _ _ (and_right (nat_eq m.message.from q.sender) _ w.1))
 
             -- a record that the message is for waits for the scrap file
@@ -514,8 +500,7 @@ module _ {o : Offers} {e : Edits} (d : Desk) (t : Task) (m : Parcel) (is : task_
 
     -- a fetch: it is answered where its record is found, by a task that answers fetches
     fetch-waits : (buffer amount : ℕ) → Before D k (M (body.RamFetch buffer amount)) → Taken o e D k (letter_of m (body.RamFetch buffer amount)) →
-        answers_none t.manner ≡ false →
-        P (perform_send d t (sender.on_fetch m.message.from m.message.my_ref your buffer amount t.sending))
+        answers_none t.manner ≡ false → P (perform_send d t (sender.on_fetch m.message.from m.message.my_ref your buffer amount t.sending))
     unfolding perform_send
     fetch-waits buffer amount bf tk manner = subst (λ xs. P (perform_send d t (sender.on_fetch m.message.from m.message.my_ref your buffer amount xs))) sendings
         (by (open_of (sender.would_answer m.message.from your amount) (D.sending k)) refl)
@@ -526,7 +511,7 @@ module _ {o : Offers} {e : Edits} (d : Desk) (t : Task) (m : Parcel) (is : task_
         no_fetch : D.file k ≡ false
         no_fetch = field_is (λ y. answers_none y.manner) false k d.tasks t is ∙ manner
 
-        none-in : (w : Want) (j : ℕ) → InWants (D.taking k) w j → For D (M b) k w → ⊥
+        none-in : NoneIn D k (M b)
         none-in = no-in b bf (came-aim b) refl refl
 
         would : (y : Sending) → For D (M b) k (reply y.last y.recipient) → sender.would_answer m.message.from your amount y ≡ true
@@ -554,7 +539,7 @@ module _ {o : Offers} {e : Edits} (d : Desk) (t : Task) (m : Parcel) (is : task_
             w : Has (Open y) (D.sending k) × (sender.would_answer m.message.from your amount y ≡ true)
             w = open_is (sender.would_answer m.message.from your amount) (D.sending k) y s
 
-            own : (v : Want) (u : Out) → Has u (D.sending k) → want_out (D.file k) u ≡ Some v → For D (M b) k v → out_id u ≡ y.id
+            own : OnlyOut D k (M b) y.id
             own = same-out b bf (came-aim b) y w.0 (is_equal _ _ (and_right (nat_eq m.message.from y.recipient) _ (and_left _ (nat_le 1 amount) w.1)))
 
             from : m.message.from ≡ y.recipient
@@ -582,7 +567,7 @@ module _ {o : Offers} {e : Edits} (d : Desk) (t : Task) (m : Parcel) (is : task_
                 anew : (p : Part) (n : Message) → n.letter.kind ≡ action.RamTransmit → n.to ≡ m.message.from → n.code ≡ (if p.is_last then User else Recorded) →
                     (c : Bool) → p.is_last ≡ c → (v : Want) →
                     want_out (D.file k) (if c then Out_done y.id (p.offset + p.n) else Open (record y { count = p.offset + p.n; last = D.next_ref })) ≡ Some v →
-                    Anew D k (M b) bf (Some n) v
+                    Anew D k (Some n) v
                 anew p n kind to coded true last v e = absurd (none_some None refl e)
                 anew p n kind to coded false last v e =
                     anew-open b bf n (record y { count = p.offset + p.n; last = D.next_ref }) refl
@@ -604,7 +589,7 @@ module _ {o : Offers} {e : Edits} (d : Desk) (t : Task) (m : Parcel) (is : task_
         size : D.buf k ≡ t.buffer
         size = field_is (λ y. y.buffer) 1 k d.tasks t is
 
-        none-out : (w : Want) → OutWants (D.sending k) (D.file k) w → For D (M b) k w → ⊥
+        none-out : NoneOut D k (M b)
         none-out = no-out b bf (came-aim b) refl
 
         would : (f : Taking) → For D (M b) k (part f.fetch f.sender f.buffer) → test f ≡ true
@@ -613,12 +598,6 @@ module _ {o : Offers} {e : Edits} (d : Desk) (t : Task) (m : Parcel) (is : task_
             both _ _ (both _ _ (both _ _ (eq-eqb _ _ (from-of b _ g)) (eq-eqb _ _ ((came-aim b).refs _ g))) (eq-eqb _ _ x.1.0))
             (leb_yes n t.buffer (let z = x.1.1 in omega (arith, z, size)))
 
-        tells : (q : Message) → q.letter.kind ≡ action.RamFetch → q.letter.amount ≡ D.buf k → (w : Want) (room : ℕ) (c : Bool) → Asks w room c (letter_of m b) →
-            Tells w room c D.scrap q
-        tells q kind amount (part r p u) room c a = un (asks-fits (part r p u) room c (letter_of m b) a)
-        tells q kind amount (file r p) room c a = un (asks-fits (file r p) room c (letter_of m b) a)
-        tells q kind amount (reply r p) room c a = inr (not_true c a, (kind, let z = inv.ins.room k in omega (arith, z, amount)))
-
         answers : (f : Taking) → test f ≡ true → your ≡ f.fetch
         answers f q = is_equal _ _ (and_right (nat_eq m.message.from f.sender) _ (and_left _ (nat_eq buffer f.buffer) (and_left _ (nat_le n t.buffer) q)))
 
@@ -626,8 +605,7 @@ module _ {o : Offers} {e : Edits} (d : Desk) (t : Task) (m : Parcel) (is : task_
         from_of f q = is_equal _ _ (and_left (nat_eq m.message.from f.sender) _ (and_left _ (nat_eq buffer f.buffer) (and_left _ (nat_le n t.buffer) q)))
 
         ends : (f : Taking) (u : In) → Has u (D.taking k) → in_id u ≡ f.id → want_in u ≡ Some (part f.fetch f.sender f.buffer) → test f ≡ true →
-            (v : In) (bl : ℕ → ℕ → Option (List ℕ)) → want_in v ≡ None → in_id v ≡ f.id → {y : sight.Desk} →
-            y ≡ record D {
+            (v : In) (bl : ℕ → ℕ → Option (List ℕ)) → want_in v ≡ None → in_id v ≡ f.id → {y : sight.Desk} → y ≡ record D {
               taking = put D.taking k (with_id in_id (in_id v) v (D.taking k));
               block = bl;
               heap =
@@ -656,7 +634,8 @@ module _ {o : Offers} {e : Edits} (d : Desk) (t : Task) (m : Parcel) (is : task_
                 in-deed D k (M b) bf (Some l) (Fetching g) (Fetching f) longer D.heap D.scrap v has refl
                 (same-in b bf (came-aim b) (Fetching f) (part f.fetch f.sender f.buffer) has refl (answers f q)) none-out
                 (anew-one b bf l (part D.next_ref f.sender f.buffer) refl (refl, (refl, omega arith)) refl refl)
-                (sends-one b bf D.scrap l (reply-sent b bf D.scrap l refl refl refl not-back (sym (from_of f q)) (tells l refl refl))) (λ g s. inl s)
+                (sends-one b bf D.scrap l (reply-sent b bf D.scrap l refl refl refl not-back (sym (from_of f q))
+                (tells-fetch b refl refl (λ c. refl) l refl refl))) (λ g s. inl s)
 
             by_case : transmits.Took D k f (letter_of m b) z.1 (view z.0) → P z
             by_case (transmits.refuses r is_r v) = ends f (Fetching f) has refl refl q (In_failed f.id f.anchor f.count) D.block refl refl v
