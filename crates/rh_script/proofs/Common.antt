@@ -7,12 +7,8 @@ pub use Rattle.std.specs.Fmt.{decimal}
 pub use Rattle.std.specs.List.{flat_map}
 pub use Rattle.std.specs.Option.{option_map}
 pub use Rattle.std.specs.Prelude.{IfErr, IfOk, MatchResult, find, if◌then◌else◌, map, nat_lt, slice_get, ◌==◌}
-pub use Rattle.std.specs.Result.{IsErr}
 pub use Rattle.rh_defs.specs.Questions.{area_items, in_item, out_item}
 pub use Rattle.rh_defs.specs.Text.{area_line, block_line, ok, record_line, segment_line}
 pub use Rattle.rh_defs.specs.declared.question.SegmentItem.{SegmentItem}
-pub use Rattle.rh_lines.proofs.FlowLemmas.{breaks_before, puts_before, puts_more, puts_stops, takes_breaks, takes_more, takes_none}
-pub use Rattle.rh_lines.specs.Flow.{Breaks, Output, Puts, Takes}
 pub use Rattle.rh_tasks.specs.WorldLists.{segment_items_at}
-pub use Rattle.rh_script.specs.Gathered.{Gathered}
 pub use Rattle.rh_script.specs.NamedSlots.{bytes_of_named, heap_of_named}

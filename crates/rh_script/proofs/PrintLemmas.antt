@@ -1,8 +1,6 @@
--- Bytes that are written part by part, records, and replies.
-use Rattle.rh_script.proofs.Common.{◌≡◌, ◌≢◌, ℕ, true, false, ◌+◌, List, [], ◌∷◌, ◌++◌, length, take, drop, Result, Ok, Err, get_or}
-use Rattle.rh_script.proofs.Common.{◌<◌, ◌≤◌, refl, sym, ◌∙◌, ap, subst, arith, map, if◌then◌else◌}
-use Rattle.rh_script.proofs.Common.{flat_map, IsErr, take-append-drop, take_all}
-use Rattle.rh_script.proofs.Common.{record_line, Output, Takes, Breaks, Puts, takes_none, takes_more, takes_breaks, breaks_before, puts_stops}
+-- Bytes as digits part by part, records, and replies.
+use Rattle.rh_script.proofs.Common.{◌≡◌, ◌≢◌, ℕ, true, false, ◌+◌, List, [], ◌∷◌, ◌++◌, length, take, drop, Ok, Err, refl, sym, ◌∙◌, ap, map}
+use Rattle.rh_script.proofs.Common.{append_assoc, append-nil, flat_map, if◌then◌else◌, record_line}
 use Rattle.rh_defs.specs.declared.question.RecordItem.{RecordItem}
 use Rattle.rh_defs.specs.declared.refusal.Refusal.{Refusal}
 use Rattle.rh_defs.specs.declared.reply.Reply.TheVariants as reply
@@ -18,7 +16,6 @@ use Rattle.rh_defs.specs.Range.{can_be_asked, in_range}
 use Rattle.std.proofs.Math.Seq.{take-add}
 use Rattle.hex.specs.Hex.{encode_with, encode_lower, lower_digits}
 use Rattle.rh_defs.specs.Text.{answer_text, reply_text, first_line, hex_words, rest_of_line, record_lines}
-use Rattle.rh_lines.proofs.FlowLemmas.{takes_each, puts_each}
 
 -- ---- bytes as digits, part by part
 
@@ -27,45 +24,35 @@ unfolding encode_with
 encode_with-append t [] ys = refl
 encode_with-append t (x ∷ xs) ys = let rest = encode_with-append t xs ys in cc
 
--- the digits of the first i bytes, of n more, and of the rest
+-- the digits of the first i bytes and of n more
 part_more : (bytes : List ℕ) (i n : ℕ) → encode_lower (take (i + n) bytes) ≡ encode_lower (take i bytes) ++ encode_lower (take n (drop i bytes))
 part_more bytes i n =
     ap encode_lower (take-add i n bytes) ∙ encode_with-append lower_digits (take i bytes) (take n (drop i bytes))
 
-part_splits : (bytes : List ℕ) (i n : ℕ)
-    → encode_lower bytes ≡ (encode_lower (take i bytes) ++ encode_lower (take n (drop i bytes))) ++ encode_lower (drop (i + n) bytes)
-part_splits bytes i n =
-    ap encode_lower (sym (take-append-drop (i + n) bytes))
-    ∙ (encode_with-append lower_digits (take (i + n) bytes) (drop (i + n) bytes)
-    ∙ ap (λ z. z ++ encode_lower (drop (i + n) bytes)) (part_more bytes i n))
+pub no_digits : (o : List ℕ) → o ≡ o ++ encode_lower []
+unfolding encode_with
+no_digits o = sym (append-nil o)
 
 -- n more bytes
-pub takes_part : {s t u : Output} (bytes : List ℕ) (i n : ℕ) → Takes s t (encode_lower (take i bytes)) → Takes t u (encode_lower (take n (drop i bytes)))
-    → Takes s u (encode_lower (take (i + n) bytes))
-takes_part {s} {t} {u} bytes i n p q =
-    let P : List ℕ → Type 0 = λ z. Takes s u z in
-    subst P (sym (part_more bytes i n)) (takes_more p q)
-
--- the part that is not written whole
-pub puts_part : {E : Type 0} {s t u : Output} (bytes : List ℕ) (i n : ℕ) (e : E) (r : Result Unit E) → IsErr r → Takes s t (encode_lower (take i bytes))
-    → Puts t u (Err e) (encode_lower (take n (drop i bytes))) → Puts s u r (encode_lower bytes)
-puts_part {E} {s} {t} {u} bytes i n e r z p q =
-    let P : List ℕ → Type 0 = λ x. Breaks s u x in
-    puts_stops {e = e} r (record {
-      ok = tt;
-      err = subst P (sym (part_splits bytes i n)) (breaks_before (encode_lower (drop (i + n) bytes)) (takes_breaks p q.err));
-    }) z
-
-pub takes_no_part : (s : Output) → Takes s s (encode_lower [])
-unfolding encode_with
-takes_no_part s = takes_none s
+pub digits_more : (bytes : List ℕ) (i n : ℕ) (o p q : List ℕ) → p ≡ o ++ encode_lower (take i bytes) → q ≡ p ++ encode_lower (take n (drop i bytes))
+    → q ≡ o ++ encode_lower (take (i + n) bytes)
+digits_more bytes i n o p q so_far more =
+    more ∙ (ap (λ z. z ++ encode_lower (take n (drop i bytes))) so_far
+    ∙ (append_assoc o (encode_lower (take i bytes)) (encode_lower (take n (drop i bytes))) ∙ ap (λ z. o ++ z) (sym (part_more bytes i n))))
 
 -- ---- a block's bytes, behind a space
 
 -- the space, the digits and the line feed
-pub spaced : (bytes : List ℕ) → length bytes ≢ 0 → rest_of_line (hex_words bytes) ≡ 32 ∷ (encode_lower bytes ++ 10 ∷ [])
+spaced : (bytes : List ℕ) → length bytes ≢ 0 → rest_of_line (hex_words bytes) ≡ 32 ∷ (encode_lower bytes ++ 10 ∷ [])
 spaced [] some = absurd (some refl)
 spaced (b ∷ bytes) some = refl
+
+-- the same, one after the other
+pub spaced_put : (bytes o p q r : List ℕ) → length bytes ≢ 0 → p ≡ o ++ 32 ∷ [] → q ≡ p ++ encode_lower bytes → r ≡ q ++ 10 ∷ []
+    → r ≡ o ++ rest_of_line (hex_words bytes)
+spaced_put bytes o p q r some space digits end =
+    end ∙ (ap (λ z. z ++ 10 ∷ []) (digits ∙ ap (λ z. z ++ encode_lower bytes) space) ∙ (append_assoc (o ++ 32 ∷ []) (encode_lower bytes) (10 ∷ [])
+    ∙ (append_assoc o (32 ∷ []) (encode_lower bytes ++ 10 ∷ []) ∙ ap (λ z. o ++ z) (sym (spaced bytes some)))))
 
 -- ---- the records of transfers
 
@@ -73,35 +60,11 @@ each_map : {X : Type 0} (f : X → RecordItem) (way : List ℕ) (xs : List X) �
 each_map f way [] = refl
 each_map f way (x ∷ xs) = ap (λ z. record_line way (f x) ++ z) (each_map f way xs)
 
-some_records : {X : Type 0} (f : X → RecordItem) (way : List ℕ) (xs : List X) → length xs ≢ 0
+-- the lines of some records
+pub some_records : {X : Type 0} (f : X → RecordItem) (way : List ℕ) (xs : List X) → length xs ≢ 0
     → flat_map (λ x. record_line way (f x)) xs ≡ record_lines way (map f xs)
 some_records f way [] some = absurd (some refl)
 some_records f way (x ∷ xs) some = each_map f way (x ∷ xs)
-
--- one more record
-pub takes_record : {X : Type 0} (f : X → RecordItem) (way : List ℕ) {s t u : Output} (xs : List X) (i : ℕ) (x : X) (item : RecordItem) → item ≡ f x
-    → x ≡ get_or xs i x → i < length xs → Takes s t (flat_map (λ y. record_line way (f y)) (take i xs)) → Takes t u (record_line way item)
-    → Takes s u (flat_map (λ y. record_line way (f y)) (take (i + 1) xs))
-takes_record f way {s} {t} {u} xs i x item e at within p q =
-    let P : RecordItem → Type 0 = λ y. Takes t u (record_line way y) in
-    takes_each (λ y. record_line way (f y)) xs i x x at within p (subst P e q)
-
--- the record that is not written whole
-pub puts_record : {E X : Type 0} (f : X → RecordItem) (way : List ℕ) {s t u : Output} (xs : List X) (i : ℕ) (x : X) (item : RecordItem) (e : E)
-    (r : Result Unit E) → item ≡ f x → x ≡ get_or xs i x → IsErr r → i < length xs → Takes s t (flat_map (λ y. record_line way (f y)) (take i xs))
-    → Puts t u (Err e) (record_line way item) → Puts s u r (record_lines way (map f xs))
-puts_record {E} f way {s} {t} {u} xs i x item e r is at z within p q =
-    let P : RecordItem → Type 0 = λ y. Puts {E = E} t u (Err e) (record_line way y) in
-    let Q : List ℕ → Type 0 = λ y. Puts {E = E} s u r y in
-    let some : length xs ≢ 0 = omega arith in
-    subst Q (some_records f way xs some) (puts_each (λ y. record_line way (f y)) xs i x x e r at z within p (subst P is q))
-
--- all records, of which there are some
-pub takes_records : {X : Type 0} (f : X → RecordItem) (way : List ℕ) {s t : Output} (xs : List X) (i : ℕ) → length xs ≢ 0 → length xs ≤ i
-    → Takes s t (flat_map (λ y. record_line way (f y)) (take i xs)) → Takes s t (record_lines way (map f xs))
-takes_records f way {s} {t} xs i some past p =
-    let P : List ℕ → Type 0 = λ y. Takes s t y in
-    subst P (ap (flat_map (λ y. record_line way (f y))) (take_all i xs past) ∙ some_records f way xs some) p
 
 -- ---- whole answers
 

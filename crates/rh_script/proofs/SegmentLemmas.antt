@@ -1,8 +1,7 @@
 -- The segments of a heap, place by place.
 use Rattle.rh_script.proofs.Common.{◌≡◌, ℕ, zero, suc, ◌+◌, ◌-◌, ◌≤◌, ◌<◌, Bool, true, false, cond, List, [], ◌∷◌, ◌++◌, length, take, drop, Option, Some}
-use Rattle.rh_script.proofs.Common.{None, refl, sym, ap, subst, ◌∙◌, arith, append_assoc, append-nil, ◌==◌, Result, Err, slice_get, IsErr, take-append-drop}
-use Rattle.rh_script.proofs.Common.{flat_map, option_map, tests, SegmentItem, segment_line, Output, Takes, Breaks, Puts, takes_none, takes_more, takes_breaks}
-use Rattle.rh_script.proofs.Common.{breaks_before, puts_stops, segment_items_at}
+use Rattle.rh_script.proofs.Common.{None, refl, sym, ap, subst, ◌∙◌, arith, append_assoc, append-nil, ◌==◌, slice_get, take-append-drop, flat_map, option_map}
+use Rattle.rh_script.proofs.Common.{tests, SegmentItem, segment_line, segment_items_at}
 use Rattle.std.proofs.lemmas.Grind.{flat_map-append}
 use Rattle.std.specs.List.{AllByRecursion}
 use Rattle.rh_defs.specs.declared.sizes.TheConstants.{SEGMENTS_AT_ONCE}
@@ -97,18 +96,18 @@ abbrev pub lines : List Segment → List ℕ
 lines segments = flat_map segment_line (segment_items_from (heap_start + first_place) segments)
 
 -- the segments below a place were written
-pub record Walked (segments : List Segment) (place : ℕ) (old new : Output) : Type 0 where
+pub record Walked (segments : List Segment) (place : ℕ) (old new : List ℕ) : Type 0 where
   pub before : List Segment
   pub after : List Segment
   pub whole : before ++ after ≡ segments
   pub stands : place ≡ place_after before
-  pub written : Takes old new (lines before)
+  pub written : new ≡ old ++ lines before
 
-pub walk_none : (segments : List Segment) (o : Output) → Walked segments 16 o o
-walk_none segments o = record { before = []; after = segments; whole = refl; stands = refl; written = takes_none o }
+pub walk_none : (segments : List Segment) (o : List ℕ) → Walked segments 16 o o
+walk_none segments o = record { before = []; after = segments; whole = refl; stands = refl; written = sym (append-nil o) }
 
 -- what is read at the place
-there : (h : Heap) (place : ℕ) {o n : Output} (items : List SegmentItem) → IsHeap h → (w : Walked h.segments place o n) → items ≡ segment_items_at place h
+there : (h : Heap) (place : ℕ) {o n : List ℕ} (items : List SegmentItem) → IsHeap h → (w : Walked h.segments place o n) → items ≡ segment_items_at place h
     → items ≡ segment_items_from (heap_start + place) (take SEGMENTS_AT_ONCE w.after)
 there h place items is w e =
     let all : AllSized (w.before ++ w.after) = (let P : List Segment → Type 0 = AllSized in subst P (sym w.whole) (sized false h.segments is.tidy)) in
@@ -125,20 +124,6 @@ lines_more place before front e =
     ∙ ap (λ n. segment_items_from (heap_start + first_place) before ++ segment_items_from n front) same)
     ∙ flat_map-append segment_line (segment_items_from (heap_start + first_place) before) (segment_items_from (heap_start + place) front)
 
--- the same, and those behind
-lines_split : (place : ℕ) (before after : List Segment) → place ≡ place_after before
-    → lines (before ++ after) ≡ (lines before ++ flat_map segment_line (segment_items_from (heap_start + place) (take SEGMENTS_AT_ONCE after)))
-    ++ flat_map segment_line (segment_items_from (heap_start + place + total size_of (take SEGMENTS_AT_ONCE after)) (drop SEGMENTS_AT_ONCE after))
-lines_split place before after e =
-    let front = take SEGMENTS_AT_ONCE after in
-    let back = drop SEGMENTS_AT_ONCE after in
-    ap (λ l. lines (before ++ l)) (sym (take-append-drop SEGMENTS_AT_ONCE after))
-    ∙ (lines_more place before (front ++ back) e
-    ∙ (ap (λ l. lines before ++ l) (ap (flat_map segment_line) (items_append (heap_start + place) front back)
-    ∙ flat_map-append segment_line (segment_items_from (heap_start + place) front) (segment_items_from (heap_start + place + total size_of front) back))
-    ∙ sym (append_assoc (lines before) (flat_map segment_line (segment_items_from (heap_start + place) front))
-    (flat_map segment_line (segment_items_from (heap_start + place + total size_of front) back)))))
-
 -- where these segments end
 pub record Ends (h : Heap) (place : ℕ) (last : SegmentItem) : Type 0 where
   pub low : place + heap_start < item_end last
@@ -153,7 +138,7 @@ sized-back : (xs ys : List Segment) → AllSized (xs ++ ys) → AllSized ys
 sized-back [] ys all = all
 sized-back (x ∷ xs) ys all = sized-back xs ys all.1
 
-pub batch_ends : (h : Heap) (place : ℕ) {o n : Output} (items : List SegmentItem) (last : SegmentItem) → IsHeap h → Walked h.segments place o n
+pub batch_ends : (h : Heap) (place : ℕ) {o n : List ℕ} (items : List SegmentItem) (last : SegmentItem) → IsHeap h → Walked h.segments place o n
     → items ≡ segment_items_at place h → Some last ≡ slice_get items (length items - 1) → Ends h place last
 batch_ends h place items last is w e l =
     let front = take SEGMENTS_AT_ONCE w.after in
@@ -172,9 +157,9 @@ batch_ends h place items last is w e l =
     record { low = omega (arith, ends, some); within = omega (arith, ends, sum1, sum2, sum3, sum4, w.stands, is.fits) }
 
 -- the segments below the next place were written
-pub batch_more : (h : Heap) (place next : ℕ) {o n u : Output} (items : List SegmentItem) (last : SegmentItem) → IsHeap h → Walked h.segments place o n
+pub batch_more : (h : Heap) (place next : ℕ) {o n u : List ℕ} (items : List SegmentItem) (last : SegmentItem) → IsHeap h → Walked h.segments place o n
     → items ≡ segment_items_at place h → Some last ≡ slice_get items (length items - 1)
-    → next + heap_start ≡ item_end last → Takes n u (flat_map segment_line items) → Walked h.segments next o u
+    → next + heap_start ≡ item_end last → u ≡ n ++ flat_map segment_line items → Walked h.segments next o u
 batch_more h place next {o} {n} {u} items last is w e l q t =
     let front = take SEGMENTS_AT_ONCE w.after in
     let back = drop SEGMENTS_AT_ONCE w.after in
@@ -182,38 +167,22 @@ batch_more h place next {o} {n} {u} items last is w e l q t =
     let here : Some last ≡ slice_get (segment_items_from (heap_start + place) front) (length (segment_items_from (heap_start + place) front) - 1) =
     l ∙ ap (λ xs. slice_get xs (length xs - 1)) these in
     let ends = last_ends (heap_start + place) front last here in
-    let P : List SegmentItem → Type 0 = λ xs. Takes n u (flat_map segment_line xs) in
-    let Q : List ℕ → Type 0 = λ z. Takes o u z in
     record {
       before = w.before ++ front;
       after = back;
       whole = append_assoc w.before front back ∙ (ap (λ gs. w.before ++ gs) (take-append-drop SEGMENTS_AT_ONCE w.after) ∙ w.whole);
       stands = omega (arith, ends, q, w.stands, total-append size_of w.before front);
-      written = subst Q (sym (lines_more place w.before front w.stands)) (takes_more w.written (subst P these t));
+      written = t ∙ (ap (λ z. z ++ flat_map segment_line items) w.written ∙ (append_assoc o (lines w.before) (flat_map segment_line items)
+          ∙ ap (λ z. o ++ z) (ap (λ xs. lines w.before ++ flat_map segment_line xs) these ∙ sym (lines_more place w.before front w.stands))));
     }
 
--- some segments that are not written whole
-pub batch_breaks : {E : Type 0} (h : Heap) (place : ℕ) {o n u : Output} (items : List SegmentItem) (e : E) (r : Result Unit E) → IsHeap h
-    → Walked h.segments place o n → items ≡ segment_items_at place h → IsErr r
-    → Puts n u (Err e) (flat_map segment_line items) → Puts o u r (lines h.segments)
-batch_breaks h place {o} {n} {u} items e r is w k z p =
-    let front = take SEGMENTS_AT_ONCE w.after in
-    let these = there h place items is w k in
-    let behind_it : List ℕ = flat_map segment_line (segment_items_from (heap_start + place + total size_of front) (drop SEGMENTS_AT_ONCE w.after)) in
-    let P : List ℕ → Type 0 = λ x. Breaks o u x in
-    let same : (lines w.before ++ flat_map segment_line items) ++ behind_it ≡ lines h.segments =
-    ap (λ i. (lines w.before ++ flat_map segment_line i) ++ behind_it) these ∙ (sym (lines_split place w.before w.after w.stands) ∙ ap lines w.whole) in
-    puts_stops {e = e} r (record { ok = tt; err = subst P same (breaks_before behind_it (takes_breaks w.written p.err)) }) z
-
-all_walked : (segments : List Segment) (p : ℕ) {o n : Output} (before after : List Segment) → before ++ after ≡ segments → Takes o n (lines before)
-    → segment_items_from p (take SEGMENTS_AT_ONCE after) ≡ [] → Takes o n (lines segments)
-all_walked segments p {o} {n} before [] whole written e =
-    let P : List Segment → Type 0 = λ gs. Takes o n (lines gs) in
-    subst P (sym (append-nil before) ∙ whole) written
-all_walked segments p before (g ∷ rest) whole written e = absurd (cc)
+all_walked : (segments : List Segment) (p : ℕ) (o n : List ℕ) (before after : List Segment) → before ++ after ≡ segments → n ≡ o ++ lines before
+    → segment_items_from p (take SEGMENTS_AT_ONCE after) ≡ [] → n ≡ o ++ lines segments
+all_walked segments p o n before [] whole written e = written ∙ ap (λ gs. o ++ lines gs) (sym (append-nil before) ∙ whole)
+all_walked segments p o n before (g ∷ rest) whole written e = absurd (cc)
 
 -- all were written where none stands at the place
-pub batch_none : (h : Heap) (place : ℕ) {o n : Output} (items : List SegmentItem) → IsHeap h → Walked h.segments place o n → items ≡ segment_items_at place h
-    → None ≡ slice_get items (length items - 1) → Takes o n (lines h.segments)
-batch_none h place items is w e none =
-    all_walked h.segments (heap_start + place) w.before w.after w.whole w.written (sym (there h place items is w e) ∙ none_last items none)
+pub batch_none : (h : Heap) (place : ℕ) {o n : List ℕ} (items : List SegmentItem) → IsHeap h → Walked h.segments place o n → items ≡ segment_items_at place h
+    → None ≡ slice_get items (length items - 1) → n ≡ o ++ lines h.segments
+batch_none h place {o} {n} items is w e none =
+    all_walked h.segments (heap_start + place) o n w.before w.after w.whole w.written (sym (there h place items is w e) ∙ none_last items none)

@@ -1,3 +1,2 @@
-pub mod Gathered
 pub mod Inner
 pub mod NamedSlots

@@ -1,12 +1,10 @@
 //! Items of a list as lines, several at a time in a row of bytes.
 
-ghost use Rattle.std.specs.Prelude.{◌≡◌, ◌≤◌, ◌+◌, ◌++◌, ℕ, List, [], flat_map, length, OnOk, OnErr};
-ghost use Rattle.rh_lines.specs.Flow.{Breaks, Puts};
+ghost use Rattle.std.specs.Prelude.{◌≡◌, ◌≤◌, ◌+◌, ◌++◌, ℕ, List, [], flat_map, length};
 ghost use Rattle.rh_lines.specs.declared.row.TheConstants.{ROW};
 ghost use Rattle.rh_script.specs.declared.gathered.TheConstants.{LONGEST_ITEM};
-ghost use Rattle.rh_script.specs.Gathered.{Gathered};
 
-use rh_lines::{ROW, Row, Sink, WriteFailed, put};
+use rh_lines::{Pen, ROW, Row};
 
 /// The line of an item has so many bytes at most.
 const LONGEST_ITEM: usize = 38;
@@ -22,33 +20,25 @@ pub trait Item {
 }
 
 /// Writes what waits in the row, and a line for each of these items.
-pub fn print_items<T: Item, W: Sink>(
-    first: Row,
-    items: &[T],
-    writer: &mut W,
-) -> Result<(), WriteFailed>
-    ensures { Puts (W.output writer.old) (W.output writer.new) result
-        (first ++ flat_map (λ item. T.line item) items.now) }
+pub fn print_items<T: Item, P: Pen>(first: Row, items: &[T], pen: &mut P)
+    ensures { P.offered pen.new ≡ P.offered pen.old ++ (first ++ flat_map (λ item. T.line item) items.now) }
 {
     let mut row = first;
     for item in items {
-        make_room(&mut row, writer)?;
+        make_room(&mut row, pen);
         item.add(&mut row);
     }
-    put(writer, row.as_slice())
+    pen.put(row.as_slice());
 }
 
 /// Writes the row, and empties it, where it has no room for one more line.
 #[inline(always)]
-pub fn make_room<W: Sink>(row: &mut Row, writer: &mut W) -> Result<(), WriteFailed>
-    ensures ok { OnOk result (Gathered (W.output writer.old) (W.output writer.new) row.new row.old) }
-    ensures room { OnOk result (length row.new + LONGEST_ITEM ≤ ROW) }
-    ensures err { OnErr result (Breaks (W.output writer.old) (W.output writer.new) row.old) }
+pub fn make_room<P: Pen>(row: &mut Row, pen: &mut P)
+    ensures text { P.offered pen.new ++ row.new ≡ P.offered pen.old ++ row.old }
+    ensures room { length row.new + LONGEST_ITEM ≤ ROW }
 {
-    if row.as_slice().len() <= ROW - LONGEST_ITEM {
-        return Ok(());
+    if row.as_slice().len() > ROW - LONGEST_ITEM {
+        pen.put(row.as_slice());
+        *row = Row::new();
     }
-    put(writer, row.as_slice())?;
-    *row = Row::new();
-    Ok(())
 }

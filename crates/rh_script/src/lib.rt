@@ -10,7 +10,8 @@ mod records;
 mod segments;
 mod shown;
 
-pub use print::{print_answer, print_reply};
+pub use print::{print_answer, print_reply, put_answer, put_reply};
 pub use rh_lines::{
-    Flagged, ReadFailed, Sink, Source, WriteFailed, parse_line, print_fault, print_first_line, put,
+    Flagged, Pen, ReadFailed, Sink, Source, WriteFailed, parse_line, print_fault, print_first_line,
+    put,
 };

@@ -4,7 +4,6 @@ ghost use Rattle.std.specs.Prelude.{◌≡◌, ◌≤◌, ◌+◌, ◌∷◌, �
 ghost use Rattle.std.specs.Fmt.{decimal};
 ghost use Rattle.rh_defs.specs.Questions.{area_items, areas, blocks};
 ghost use Rattle.rh_defs.specs.Text.{answer_text, area_line, block_line, later, ok};
-ghost use Rattle.rh_lines.specs.Flow.{Puts};
 ghost use Rattle.rh_lines.specs.declared.row.TheConstants.{ROW};
 ghost use Rattle.rh_tasks.specs.WorldItems.{area_item_of};
 ghost use Rattle.rh_script.specs.declared.gathered.TheConstants.{LONGEST_ITEM};
@@ -12,38 +11,29 @@ ghost use Rattle.rh_script.specs.declared.gathered.TheConstants.{LONGEST_ITEM};
 use crate::gathered::{Item, make_room, print_items};
 use arrayvec::ArrayVec;
 use rh_defs::{BlockItem, Name, Reply};
-use rh_lines::{Row, Sink, WriteFailed, add_number, print_first_line, put};
+use rh_lines::{Pen, Row, add_number, put_first_line};
 use rh_store::Store;
 use rh_tasks::{AreaEntry, NamedFiles, World};
 
 /// Writes how many flex blocks the task has, and a line for each, from below.
-pub fn print_blocks<S: Store, F: NamedFiles, W: Sink>(
-    world: &World<S, F>,
-    name: &Name,
-    writer: &mut W,
-) -> Result<(), WriteFailed>
-    ensures { Puts (W.output writer.old) (W.output writer.new) result
-        (answer_text (blocks world.now.desk name.now)) }
+pub fn print_blocks<S: Store, F: NamedFiles, P: Pen>(world: &World<S, F>, name: &Name, pen: &mut P)
+    ensures { P.offered pen.new ≡ P.offered pen.old ++ answer_text (blocks world.now.desk name.now) }
 {
     let mut items = ArrayVec::new();
     match world.blocks_of(name, &mut items) {
-        Ok(()) => print_counted(items.len() as u32, &items, writer),
-        Err(refusal) => print_first_line(&Reply::Refused(refusal), writer),
+        Ok(()) => print_counted(items.len() as u32, &items, pen),
+        Err(refusal) => put_first_line(&Reply::Refused(refusal), pen),
     }
 }
 
 /// Writes a number, and a line for each of these items.
-fn print_counted<T: Item, W: Sink>(
-    count: u32,
-    items: &[T],
-    writer: &mut W,
-) -> Result<(), WriteFailed>
-    ensures { Puts (W.output writer.old) (W.output writer.new) result
-        (ok (decimal count ∷ []) ++ flat_map (λ item. T.line item) items.now) }
+fn print_counted<T: Item, P: Pen>(count: u32, items: &[T], pen: &mut P)
+    ensures { P.offered pen.new ≡ P.offered pen.old
+        ++ (ok (decimal count ∷ []) ++ flat_map (λ item. T.line item) items.now) }
 {
     let mut row = Row::new();
     add_number(count, &mut row);
-    print_items(row, items, writer)
+    print_items(row, items, pen)
 }
 
 impl Item for BlockItem {
@@ -62,34 +52,27 @@ impl Item for BlockItem {
 }
 
 /// Writes how many pages are free, and a line for each area, and then for each slot in order of handle.
-pub fn print_areas<S: Store, F: NamedFiles, W: Sink>(
-    world: &World<S, F>,
-    writer: &mut W,
-) -> Result<(), WriteFailed>
-    ensures { Puts (W.output writer.old) (W.output writer.new) result (answer_text (Ok (areas world.now.desk))) }
+pub fn print_areas<S: Store, F: NamedFiles, P: Pen>(world: &World<S, F>, pen: &mut P)
+    ensures { P.offered pen.new ≡ P.offered pen.old ++ answer_text (Ok (areas world.now.desk)) }
 {
     let (free, _) = world.areas(0);
-    print_entries(world, free, writer)
+    print_entries(world, free, pen)
 }
 
 /// Writes a number, and a line for each area, and then for each slot.
-fn print_entries<S: Store, F: NamedFiles, W: Sink>(
-    world: &World<S, F>,
-    free: u32,
-    writer: &mut W,
-) -> Result<(), WriteFailed>
-    ensures { Puts (W.output writer.old) (W.output writer.new) result
-        (ok (decimal free ∷ []) ++ flat_map area_line (area_items world.now.desk)) }
+fn print_entries<S: Store, F: NamedFiles, P: Pen>(world: &World<S, F>, free: u32, pen: &mut P)
+    ensures { P.offered pen.new ≡ P.offered pen.old
+        ++ (ok (decimal free ∷ []) ++ flat_map area_line (area_items world.now.desk)) }
 {
     let mut row = Row::new();
     add_number(free, &mut row);
     let mut i = 0;
     'items: while let Some(item) = world.area_entry(i) {
-        make_room(&mut row, writer)?;
+        make_room(&mut row, pen);
         add_area(&mut row, item);
         i += 1;
     }
-    put(writer, row.as_slice())
+    pen.put(row.as_slice());
 }
 
 #[inline(always)]

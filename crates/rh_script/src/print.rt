@@ -1,6 +1,6 @@
 //! Replies as text.
 
-ghost use Rattle.std.specs.Prelude.{◌≡◌, true, if◌then◌else◌};
+ghost use Rattle.std.specs.Prelude.{◌≡◌, ◌++◌, true, if◌then◌else◌};
 ghost use Rattle.rh_defs.specs.Questions.{Nothing, asked, begins, is_same as is_same_as};
 ghost use Rattle.rh_defs.specs.Range.{can_be_asked};
 ghost use Rattle.rh_defs.specs.Text.{answer_text, first_line, reply_text};
@@ -11,7 +11,7 @@ use crate::records::print_status;
 use crate::segments::print_heap;
 use crate::shown::print_shown;
 use rh_defs::{Command, Numbers, Question, Reply};
-use rh_lines::{Sink, WriteFailed, print_first_line};
+use rh_lines::{Pen, Sink, WriteFailed, WriterPen, put_first_line};
 use rh_store::Store;
 use rh_tasks::{NamedFiles, World};
 
@@ -27,31 +27,46 @@ pub fn print_reply<S: Store, F: NamedFiles, W: Sink>(
     ensures { Puts (W.output writer.old) (W.output writer.new) result
         (reply_text world.now.desk command.now reply.now) }
 {
+    let mut pen = WriterPen::new(writer);
+    put_reply(world, command, reply, &mut pen);
+    pen.done()
+}
+
+/// Writes the reply to a command that was just applied, all its lines, over the desk after it. Only a reply that is
+/// what the desk answers to a question has more than one.
+pub fn put_reply<S: Store, F: NamedFiles, P: Pen>(
+    world: &World<S, F>,
+    command: &Command,
+    reply: &Reply,
+    pen: &mut P,
+)
+    ensures { P.offered pen.new ≡ P.offered pen.old ++ reply_text world.now.desk command.now reply.now }
+{
     if !command.in_range() {
-        return print_first_line(reply, writer);
+        return put_first_line(reply, pen);
     }
     match command {
-        Command::Ask(question) => print_told(world, question, reply, writer),
-        _ => print_first_line(reply, writer),
+        Command::Ask(question) => print_told(world, question, reply, pen),
+        _ => put_first_line(reply, pen),
     }
 }
 
 /// Writes the reply to a question: with all that the desk answers, where the reply is the first line of that.
-fn print_told<S: Store, F: NamedFiles, W: Sink>(
+fn print_told<S: Store, F: NamedFiles, P: Pen>(
     world: &World<S, F>,
     question: &Question,
     reply: &Reply,
-    writer: &mut W,
-) -> Result<(), WriteFailed>
+    pen: &mut P,
+)
     requires { can_be_asked question.now ≡ true }
-    ensures { Puts (W.output writer.old) (W.output writer.new) result
-        (if begins (asked world.now.desk question.now) reply.now then answer_text (asked world.now.desk question.now)
+    ensures { P.offered pen.new ≡ P.offered pen.old
+        ++ (if begins (asked world.now.desk question.now) reply.now then answer_text (asked world.now.desk question.now)
         else first_line reply.now Nothing) }
 {
     if is_told(world, question, reply) {
-        print_answer(world, question, writer)
+        put_answer(world, question, pen)
     } else {
-        print_first_line(reply, writer)
+        put_first_line(reply, pen)
     }
 }
 
@@ -83,11 +98,24 @@ pub fn print_answer<S: Store, F: NamedFiles, W: Sink>(
     ensures { Puts (W.output writer.old) (W.output writer.new) result
         (answer_text (asked world.now.desk question.now)) }
 {
+    let mut pen = WriterPen::new(writer);
+    put_answer(world, question, &mut pen);
+    pen.done()
+}
+
+/// Writes what the desk answers to a question, all its lines, or why it is refused.
+pub fn put_answer<S: Store, F: NamedFiles, P: Pen>(
+    world: &World<S, F>,
+    question: &Question,
+    pen: &mut P,
+)
+    ensures { P.offered pen.new ≡ P.offered pen.old ++ answer_text (asked world.now.desk question.now) }
+{
     match question {
-        Question::Show { name, anchor } => print_shown(world, name, *anchor, writer),
-        Question::Blocks { name } => print_blocks(world, name, writer),
-        Question::Heap { name } => print_heap(world, name, writer),
-        Question::Status { name } => print_status(world, name, writer),
-        Question::Areas => print_areas(world, writer),
+        Question::Show { name, anchor } => print_shown(world, name, *anchor, pen),
+        Question::Blocks { name } => print_blocks(world, name, pen),
+        Question::Heap { name } => print_heap(world, name, pen),
+        Question::Status { name } => print_status(world, name, pen),
+        Question::Areas => print_areas(world, pen),
     }
 }

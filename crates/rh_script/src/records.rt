@@ -4,80 +4,55 @@ ghost use Rattle.std.specs.Prelude.{◌≡◌, ◌≤◌, ◌++◌, ◌∷◌, [
 ghost use Rattle.std.specs.Fmt.{decimal};
 ghost use Rattle.rh_defs.specs.Questions.{Nothing, in_item as in_item_of, out_item as out_item_of, status};
 ghost use Rattle.rh_defs.specs.Text.{answer_text, first_line, record_line, record_lines, state_name as state_name_of};
-ghost use Rattle.rh_lines.specs.Flow.{Puts};
 
 use rh_defs::{Handle, Incoming, Name, Numbers, Outgoing, RecordItem, Reply, State};
-use rh_lines::{Row, Sink, WriteFailed, print_first_line, put};
+use rh_lines::{Pen, Row, put_first_line};
 use rh_store::Store;
 use rh_tasks::{NamedFiles, World};
 
 /// Writes the task's handle, and a line for each record of its transfers, those that go out before those that come in.
-pub fn print_status<S: Store, F: NamedFiles, W: Sink>(
-    world: &World<S, F>,
-    name: &Name,
-    writer: &mut W,
-) -> Result<(), WriteFailed>
-    ensures { Puts (W.output writer.old) (W.output writer.new) result
-        (answer_text (status world.now.desk name.now)) }
+pub fn print_status<S: Store, F: NamedFiles, P: Pen>(world: &World<S, F>, name: &Name, pen: &mut P)
+    ensures { P.offered pen.new ≡ P.offered pen.old ++ answer_text (status world.now.desk name.now) }
 {
     match world.status(name) {
-        Ok(records) => print_records(records.0, records.1, records.2, writer),
-        Err(refusal) => print_first_line(&Reply::Refused(refusal), writer),
+        Ok(records) => print_records(records.0, records.1, records.2, pen),
+        Err(refusal) => put_first_line(&Reply::Refused(refusal), pen),
     }
 }
 
-fn print_records<W: Sink>(
-    handle: Handle,
-    outgoing: &[Outgoing],
-    incoming: &[Incoming],
-    writer: &mut W,
-) -> Result<(), WriteFailed>
-    ensures { Puts (W.output writer.old) (W.output writer.new) result
-        (first_line (Reply.Answered (Numbers.StatusOf handle)) Nothing
+fn print_records<P: Pen>(handle: Handle, outgoing: &[Outgoing], incoming: &[Incoming], pen: &mut P)
+    ensures { P.offered pen.new ≡ P.offered pen.old
+        ++ (first_line (Reply.Answered (Numbers.StatusOf handle)) Nothing
         ++ (record_lines (codes "out") (map out_item_of outgoing.now)
         ++ record_lines (codes "in") (map in_item_of incoming.now))) }
 {
-    print_first_line(&Reply::Answered(Numbers::StatusOf(handle)), writer)?;
-    print_both(outgoing, incoming, writer)
+    put_first_line(&Reply::Answered(Numbers::StatusOf(handle)), pen);
+    print_outgoing(outgoing, pen);
+    print_incoming(incoming, pen);
 }
 
-fn print_both<W: Sink>(
-    outgoing: &[Outgoing],
-    incoming: &[Incoming],
-    writer: &mut W,
-) -> Result<(), WriteFailed>
-    ensures { Puts (W.output writer.old) (W.output writer.new) result
-        (record_lines (codes "out") (map out_item_of outgoing.now)
-        ++ record_lines (codes "in") (map in_item_of incoming.now)) }
-{
-    print_outgoing(outgoing, writer)?;
-    print_incoming(incoming, writer)
-}
-
-fn print_outgoing<W: Sink>(records: &[Outgoing], writer: &mut W) -> Result<(), WriteFailed>
-    ensures { Puts (W.output writer.old) (W.output writer.new) result
-        (record_lines (codes "out") (map out_item_of records.now)) }
+fn print_outgoing<P: Pen>(records: &[Outgoing], pen: &mut P)
+    ensures { P.offered pen.new ≡ P.offered pen.old ++ record_lines (codes "out") (map out_item_of records.now) }
 {
     if records.is_empty() {
-        return put(writer, b"  out idle\n");
+        pen.put(b"  out idle\n");
+        return;
     }
     for each in records {
-        print_record(b"out", &out_item(each), writer)?;
+        print_record(b"out", &out_item(each), pen);
     }
-    Ok(())
 }
 
-fn print_incoming<W: Sink>(records: &[Incoming], writer: &mut W) -> Result<(), WriteFailed>
-    ensures { Puts (W.output writer.old) (W.output writer.new) result
-        (record_lines (codes "in") (map in_item_of records.now)) }
+fn print_incoming<P: Pen>(records: &[Incoming], pen: &mut P)
+    ensures { P.offered pen.new ≡ P.offered pen.old ++ record_lines (codes "in") (map in_item_of records.now) }
 {
     if records.is_empty() {
-        return put(writer, b"  in idle\n");
+        pen.put(b"  in idle\n");
+        return;
     }
     for each in records {
-        print_record(b"in", &in_item(each), writer)?;
+        print_record(b"in", &in_item(each), pen);
     }
-    Ok(())
 }
 
 fn out_item(each: &Outgoing) -> RecordItem
@@ -112,9 +87,9 @@ fn in_item(each: &Incoming) -> RecordItem
     RecordItem { state, id, count }
 }
 
-fn print_record<W: Sink>(way: &[u8], item: &RecordItem, writer: &mut W) -> Result<(), WriteFailed>
+fn print_record<P: Pen>(way: &[u8], item: &RecordItem, pen: &mut P)
     requires { length way.now ≤ 3 }
-    ensures { Puts (W.output writer.old) (W.output writer.new) result (record_line way.now item.now) }
+    ensures { P.offered pen.new ≡ P.offered pen.old ++ record_line way.now item.now }
 {
     let mut row = Row::new();
     row.text(b"  ");
@@ -126,7 +101,7 @@ fn print_record<W: Sink>(way: &[u8], item: &RecordItem, writer: &mut W) -> Resul
     row.byte(b' ');
     row.decimal(item.count);
     row.byte(b'\n');
-    put(writer, row.as_slice())
+    pen.put(row.as_slice());
 }
 
 fn state_name(state: State) -> &'static [u8]

@@ -5,7 +5,6 @@ ghost use Rattle.std.specs.Fmt.{decimal};
 ghost use Rattle.rh_defs.specs.Questions.{Nothing, heap};
 ghost use Rattle.rh_defs.specs.Text.{address, answer_text, first_line, segment_line};
 ghost use Rattle.rh_defs.specs.declared.sizes.TheConstants.{C_HEAP_START};
-ghost use Rattle.rh_lines.specs.Flow.{Puts};
 ghost use Rattle.rh_lines.specs.declared.row.TheConstants.{ROW};
 ghost use Rattle.rh_script.specs.declared.gathered.TheConstants.{LONGEST_ITEM};
 ghost use Rattle.rh_script.specs.Inner.SegmentsBehind.{item_end, segments_of_named};
@@ -14,33 +13,28 @@ use crate::gathered::{Item, print_items};
 use crate::read::segments_of;
 use rh_defs::sizes::{C_HEAP_START, HEAP_FIRST};
 use rh_defs::{Name, Numbers, Reply, SegmentItem};
-use rh_lines::{Row, Sink, WriteFailed, print_first_line};
+use rh_lines::{Pen, Row, put_first_line};
 use rh_store::Store;
 use rh_tasks::{HeapSums, NamedFiles, World};
 
 /// Writes the sums over the task's C heap, and a line for each of its segments, from below.
-pub fn print_heap<S: Store, F: NamedFiles, W: Sink>(
-    world: &World<S, F>,
-    name: &Name,
-    writer: &mut W,
-) -> Result<(), WriteFailed>
-    ensures { Puts (W.output writer.old) (W.output writer.new) result
-        (answer_text (heap world.now.desk name.now)) }
+pub fn print_heap<S: Store, F: NamedFiles, P: Pen>(world: &World<S, F>, name: &Name, pen: &mut P)
+    ensures { P.offered pen.new ≡ P.offered pen.old ++ answer_text (heap world.now.desk name.now) }
 {
     match world.heap(name, HEAP_FIRST as u32) {
-        Ok((sums, _)) => print_sums(world, name, sums, writer),
-        Err(refusal) => print_first_line(&Reply::Refused(refusal), writer),
+        Ok((sums, _)) => print_sums(world, name, sums, pen),
+        Err(refusal) => put_first_line(&Reply::Refused(refusal), pen),
     }
 }
 
-fn print_sums<S: Store, F: NamedFiles, W: Sink>(
+fn print_sums<S: Store, F: NamedFiles, P: Pen>(
     world: &World<S, F>,
     name: &Name,
     sums: HeapSums,
-    writer: &mut W,
-) -> Result<(), WriteFailed>
-    ensures { Puts (W.output writer.old) (W.output writer.new) result
-        (first_line (Reply.Answered (Numbers.HeapSums sums.0 sums.1 sums.2)) Nothing
+    pen: &mut P,
+)
+    ensures { P.offered pen.new ≡ P.offered pen.old
+        ++ (first_line (Reply.Answered (Numbers.HeapSums sums.0 sums.1 sums.2)) Nothing
         ++ flat_map segment_line (segments_of_named name.now world.now.desk)) }
 {
     let (length, largest, free) = sums;
@@ -49,27 +43,22 @@ fn print_sums<S: Store, F: NamedFiles, W: Sink>(
         largest,
         free,
     };
-    print_first_line(&Reply::Answered(numbers), writer)?;
-    print_segments(world, name, writer)
+    put_first_line(&Reply::Answered(numbers), pen);
+    print_segments(world, name, pen);
 }
 
 /// Writes a line for each segment of the task's C heap, from below.
-fn print_segments<S: Store, F: NamedFiles, W: Sink>(
-    world: &World<S, F>,
-    name: &Name,
-    writer: &mut W,
-) -> Result<(), WriteFailed>
-    ensures { Puts (W.output writer.old) (W.output writer.new) result
-        (flat_map segment_line (segments_of_named name.now world.now.desk)) }
+fn print_segments<S: Store, F: NamedFiles, P: Pen>(world: &World<S, F>, name: &Name, pen: &mut P)
+    ensures { P.offered pen.new ≡ P.offered pen.old
+        ++ flat_map segment_line (segments_of_named name.now world.now.desk) }
 {
     let mut place = HEAP_FIRST as u32;
     let mut items = segments_of(world, name, place);
     'places: while let Some(last) = items.last() {
-        print_items(Row::new(), &items, writer)?;
+        print_items(Row::new(), &items, pen);
         place = place_behind(last);
         items = segments_of(world, name, place);
     }
-    Ok(())
 }
 
 /// Where a segment ends, in bytes from the heap's first one.

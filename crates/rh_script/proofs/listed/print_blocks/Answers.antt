@@ -41,4 +41,4 @@ returns-in-Ok g c =
 
 pub returns-in-Err : goal.returns-in-Err
 returns-in-Err g c =
-    rw (← refused_text _ _ (blocks_refused c.args.world.now.desk c.args.name.now _ c.in-Err.ensures.err.0)) c.print_first_line.ensures
+    rw (← refused_text _ _ (blocks_refused c.args.world.now.desk c.args.name.now _ c.in-Err.ensures.err.0)) c.put_first_line.ensures

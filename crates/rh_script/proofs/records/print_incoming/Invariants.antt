@@ -1,7 +1,8 @@
-use Rattle.rh_script.proofs.Common.{take, codes, flat_map, in_item, record_line, Takes}
+use Rattle.rh_script.proofs.Common.{◌≡◌, ◌++◌, take, codes, flat_map, in_item, record_line}
 use Rattle.rh_script.proofs.records.print_incoming.Given as goal
 
 -- the records so far were written
 abbrev pub invariant-loop-each : goal.invariant-loop-each
 invariant-loop-each g l =
-    Takes (g.W.Sink.output l.initial.writer) (g.W.Sink.output l.writer) (flat_map (λ r. record_line (codes "in") (in_item r)) (take l.each-index l.records))
+    g.P.Pen.offered l.pen
+    ≡ g.P.Pen.offered l.initial.pen ++ flat_map (λ r. record_line (codes "in") (in_item r)) (take l.each-index l.records)

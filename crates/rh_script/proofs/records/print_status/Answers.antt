@@ -43,4 +43,4 @@ returns-in-Ok g c =
 
 pub returns-in-Err : goal.returns-in-Err
 returns-in-Err g c =
-    rw (← refused_text _ _ (status_refused c.args.world.now.desk c.args.name.now _ c.in-Err.ensures.err)) c.print_first_line.ensures
+    rw (← refused_text _ _ (status_refused c.args.world.now.desk c.args.name.now _ c.in-Err.ensures.err)) c.put_first_line.ensures

@@ -48,4 +48,4 @@ returns-in-Ok g c =
 
 pub returns-in-Err : goal.returns-in-Err
 returns-in-Err g c =
-    rw (← refused_text _ _ (heap_refused c.args.world.now.desk c.args.name.now _ _ (sym c.in-Err.ensures))) c.print_first_line.ensures
+    rw (← refused_text _ _ (heap_refused c.args.world.now.desk c.args.name.now _ _ (sym c.in-Err.ensures))) c.put_first_line.ensures

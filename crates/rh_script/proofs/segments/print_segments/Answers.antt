@@ -1,15 +1,9 @@
 use Rattle.rh_script.proofs.Common.{◌∙◌, arith, heap_of_named}
-use Rattle.rh_script.proofs.SegmentLemmas.{walk_none, batch_ends, batch_more, batch_breaks, batch_none}
+use Rattle.rh_script.proofs.SegmentLemmas.{walk_none, batch_ends, batch_more, batch_none}
 use Rattle.rh_script.proofs.segments.print_segments.Goals as goal
 
 pub places-init : goal.places-init
 places-init g c = record { walked = walk_none _ _; items_are = c.segments_of-items.ensures.items }
-
-pub returns-in_err-print_items : goal.returns-in_err-print_items
-returns-in_err-print_items g c =
-    batch_breaks (heap_of_named c.args.name.now c.args.world.now.desk) c.places.place c.deref-in-Some.result.now _ _ c.segments_of-items.ensures.heap
-    c.places.invariant.walked (c.deref-in-Some.ensures.0 ∙ c.places.invariant.items_are) c.from_residual.ensures.0
-    (rw c.new.ensures at c.in_err-print_items.ensures)
 
 pub place_behind-place-requires-clause-low : goal.place_behind-place-requires-clause-low
 place_behind-place-requires-clause-low g c =
@@ -33,14 +27,11 @@ pub places-preserved : goal.places-preserved
 places-preserved g c = record {
   walked = batch_more (heap_of_named c.args.name.now c.args.world.now.desk) c.places.place _ c.deref.result.now c.in-Some.last.now
       c.segments_of-items.ensures.heap c.places.invariant.walked (c.deref.ensures.0 ∙ c.places.invariant.items_are) c.in-Some.ensures.value
-      c.place_behind-place.ensures (rw (c.deref.ensures.0, ← c.deref-in-Some.ensures.0) (rw c.new.ensures at c.in_ok-print_items.ensures.ok));
+      c.place_behind-place.ensures (rw (c.deref.ensures.0, ← c.deref-in-Some.ensures.0) (rw c.new.ensures at c.print_items.ensures));
   items_are = c.segments_of-items-in-Some.ensures.items;
 }
 
 pub returns : goal.returns
 returns g c =
-    record {
-      ok = batch_none (heap_of_named c.args.name.now c.args.world.now.desk) c.places.place c.deref.result.now c.segments_of-items.ensures.heap
-          c.places.invariant.walked (c.deref.ensures.0 ∙ c.places.invariant.items_are) c.in_default.ensures.value;
-      err = tt;
-    }
+    batch_none (heap_of_named c.args.name.now c.args.world.now.desk) c.places.place c.deref.result.now c.segments_of-items.ensures.heap
+    c.places.invariant.walked (c.deref.ensures.0 ∙ c.places.invariant.items_are) c.in_default.ensures.value

@@ -7,7 +7,7 @@ abbrev pub invariant-places : goal.invariant-places
 invariant-places g l =
     let h = heap_of_named l.name l.world.desk in
     record {
-      walked : Walked h.segments l.place (g.W.Sink.output l.initial.writer) (g.W.Sink.output l.writer);
+      walked : Walked h.segments l.place (g.P.Pen.offered l.initial.pen) (g.P.Pen.offered l.pen);
       items_are : l.items.items ≡ segment_items_at l.place h;
     }
 

@@ -1,4 +1,4 @@
-use Rattle.rh_script.proofs.Common.{◌-◌, ◌≤◌, take, Takes, bytes_of_named}
+use Rattle.rh_script.proofs.Common.{◌≡◌, ◌++◌, ◌-◌, ◌≤◌, take, bytes_of_named}
 use Rattle.hex.specs.Hex.{encode_lower}
 use Rattle.rh_script.proofs.shown.print_hex.Given as goal
 
@@ -6,7 +6,7 @@ use Rattle.rh_script.proofs.shown.print_hex.Given as goal
 abbrev pub invariant-loop-offset : goal.invariant-loop-offset
 invariant-loop-offset g l = record {
   within : l.offset ≤ l.size;
-  so_far : Takes (g.W.Sink.output l.initial.writer) (g.W.Sink.output l.writer) (encode_lower (take l.offset (bytes_of_named l.name l.anchor l.world.desk)));
+  so_far : g.P.Pen.offered l.pen ≡ g.P.Pen.offered l.initial.pen ++ encode_lower (take l.offset (bytes_of_named l.name l.anchor l.world.desk));
 }
 
 abbrev pub decreases-loop-offset : goal.decreases-loop-offset

@@ -15,4 +15,4 @@ pub returns-in-Ok : goal.returns-in-Ok
 returns-in-Ok g c = rw (← show_text _ _ _ c.in-Ok.ensures.told) c.print_block.ensures
 
 pub returns-in-Err : goal.returns-in-Err
-returns-in-Err g c = rw (← refused_text _ _ c.in-Err.ensures.refused) c.print_first_line.ensures
+returns-in-Err g c = rw (← refused_text _ _ c.in-Err.ensures.refused) c.put_first_line.ensures
