@@ -12,7 +12,6 @@ pub use Rattle.std.specs.List.{AllByRecursion, concat, enumerate_from, flat_map,
 pub use Rattle.std.specs.Option.{option_map}
 pub use Rattle.std.specs.Prelude.{Err, IfNone, IfSome, Ok, OnErr, OnOk, Option, Result, codes, filter, find, if◌then◌else◌, insert, is_err, max, min, nat_le}
 pub use Rattle.std.specs.Prelude.{nat_lt, not, slice_get, slice_index, ◌&&◌, ◌==◌, ◌^◌}
-pub use Rattle.std.specs.Result.{IsErr}
 pub use Rattle.rh_defs.specs.Desk.{Desk, Task, module_pages, task_at}
 pub use Rattle.rh_defs.specs.Heap.{base}
 pub use Rattle.rh_defs.specs.Line.{Meaning}
@@ -31,7 +30,6 @@ pub use Rattle.rh_drawn.proofs.CardLemmas.{flex-long}
 pub use Rattle.rh_drawn.proofs.DrawingLemmas.{seen-same}
 pub use Rattle.rh_drawn.proofs.HeapLemmas.{cards-long, from-first, if-heap}
 pub use Rattle.rh_drawn.proofs.PageLemmas.{owned, owned-few, seen-fixed, seen-slot}
-pub use Rattle.rh_drawn.proofs.Walks.{left_last, puts_none, puts_same}
 pub use Rattle.rh_drawn.specs.Bands.{band_cards}
 pub use Rattle.rh_drawn.specs.Inner.CardsBehind.{cards_behind}
 pub use Rattle.rh_drawn.specs.Deeds.{reply_to, rest_means}
@@ -50,9 +48,10 @@ pub use Rattle.rh_figure.specs.Scene.{Before, Scene, marks_of, scene_of}
 pub use Rattle.rh_figure.specs.Share.{AreaOf, Holding, IsShared, Share, SlotOf, count_of, holdings}
 pub use Rattle.rh_figure.specs.Whole.{AreShared}
 pub use Rattle.rh_figure.specs.declared.piece.Piece.{Piece}
-pub use Rattle.rh_lines.proofs.FlowLemmas.{puts_before, puts_more, puts_stops, takes_more, takes_none}
+pub use Rattle.rh_lines.proofs.FlowLemmas.{takes_more, takes_none}
 pub use Rattle.rh_lines.specs.Flow.{Breaks, Output, Puts, Takes}
-pub use Rattle.rh_map.proofs.Left.{Left, left_breaks, left_less, left_none, left_whole}
+pub use Rattle.rh_map.proofs.Left.{Left, left_less, left_none, left_whole}
+pub use Rattle.rh_draw.proofs.WriteLemmas.{offered_as}
 pub use Rattle.rh_sheet.specs.SheetAreas.{lens_below, ticks_text}
 pub use Rattle.rh_sheet.specs.Chart.{arrow_sentence, arrows, followed, inserted, noted, steps_in, tasks_in}
 pub use Rattle.rh_sheet.specs.SheetLaws.{at_desk}
@@ -85,3 +84,4 @@ pub use Rattle.rh_painted.specs.Inner.PaintedSteps.{happened_at}
 pub use Rattle.rh_painted.specs.Ways.{arrow_of, arrows_seen}
 pub use Rattle.rh_painted.specs.declared.painter.Painter.{Painter}
 pub use Rattle.rh_painted.specs.declared.ways.Way.{Way}
+pub use Rattle.rh_painted.proofs.TextPuts.{left_from, left_last, offered_none}

@@ -108,9 +108,6 @@ module _ {d : Desk} (numbers : List ℕ) (shared : IsShared (share_in numbers d)
   owner-pages found told =
       at-some (owner_seen o.place d) (λ q. found ≡ (share_in numbers d).pages_of q) (who_seen o.named) own.place told
 
-  pub owner-count : length ((share_in numbers d).pages_of (who_seen o.named)) ≡ o.count
-  owner-count = shared.each (who_seen o.named) ∙ sym own.count
-
   pub owner-few : IsDesk d → length numbers ≡ d.pool → length ((share_in numbers d).pages_of (who_seen o.named)) ≤ 1024
   owner-few is all = owned-few is numbers shared o.place (who_seen o.named) own.place all
 

@@ -1,14 +1,14 @@
--- A sheet behind one line: what was written, and where it stands.
-use Rattle.rh_painted.proofs.Common.{◌≡◌, ℕ, ◌+◌, Bool, true, false, ◌||◌, List, ◌++◌, refl, sym, ap, ap₂, ◌∙◌, subst, Option, Some, None, Ok, Err, ◌&&◌}
-use Rattle.rh_painted.proofs.Common.{if◌then◌else◌, is_err, not, nat_lt, OnErr, OnOk, Result, IsErr, Command, LineFault, Desk, Meaning, IsReordered, step}
-use Rattle.rh_painted.proofs.Common.{fault_text, reply_to, Share, IsShared, Text, where_so, Before, marks_of, scene_of, Read, after_read, Breaks, Output}
-use Rattle.rh_painted.proofs.Common.{Puts, Takes, takes_none, noted, Note, at_desk, Happened, behind_read, fault_happened, happened_text, read_text}
-use Rattle.rh_painted.proofs.Common.{step_text, Painter, PaintStand, PaintedLine, happened_at, walk_in}
+-- A sheet behind one line: what was offered, and where it stands.
+use Rattle.rh_painted.proofs.Common.{◌≡◌, ℕ, ◌+◌, Bool, true, false, ◌||◌, List, ◌++◌, refl, sym, ap, ap₂, ◌∙◌, subst, append-nil, Option, Some, None, Ok}
+use Rattle.rh_painted.proofs.Common.{Err, ◌&&◌, if◌then◌else◌, is_err, not, nat_lt, Command, LineFault, Desk, Meaning, IsReordered, step}
+use Rattle.rh_painted.proofs.Common.{fault_text, reply_to, Share, IsShared, Text, where_so, Before, marks_of, scene_of, Read, after_read}
+use Rattle.rh_painted.proofs.Common.{offered_as, noted, Note, at_desk, Happened, behind_read, fault_happened, happened_text, read_text}
+use Rattle.rh_painted.proofs.Common.{step_text, Painter, PaintStand, happened_at, walk_in}
 use Rattle.rh_defs.specs.declared.reply.Reply.{Reply}
 use Rattle.rh_defs.specs.declared.reply.Reply.TheVariants.{Done}
 use Rattle.rh_drawn.specs.Deeds.{IsLikeReply}
 use Rattle.rh_drawn.proofs.MapLemmas.{shared_alike}
-use Rattle.rh_drawn.proofs.StepLemmas.{on-err, on-ok, reordered-same}
+use Rattle.rh_drawn.proofs.StepLemmas.{reordered-same}
 use Rattle.rh_figure.specs.Scene.{before_of}
 use Rattle.rh_figure.specs.Map.{is_mark, place}
 use Rattle.rh_figure.proofs.Alike.{marks-alike, scene-alike}
@@ -17,8 +17,8 @@ use Rattle.rh_sheet.specs.SheetSteps.{remark_text}
 use Rattle.rh_sheet.specs.declared.sizes.TheConstants.{MOST_STEPS}
 use Rattle.rh_painted.specs.PaintedProgress.{stand_shown}
 use Rattle.rh_painted.specs.Inner.PaintedSteps.{stand_behind}
-use Rattle.rh_painted.specs.PaintedWalks.{BrokePainting, FollowsPainting, walk_at}
-use Rattle.rh_painted.specs.Inner.PaintedSteps.{ComesTo, TookStep, WroteStep, scene_behind, step_written}
+use Rattle.rh_painted.specs.PaintedWalks.{FollowsPainting, walk_at}
+use Rattle.rh_painted.specs.Inner.PaintedSteps.{ComesTo, DrewLine, TookStep, WroteStep, scene_behind, step_written}
 
 -- ---- tests
 
@@ -44,15 +44,6 @@ either-way false m n = refl
 
 reordered-as : {D : Type 0} (desk : D → Desk) (a b : D) → b ≡ a → IsReordered (desk a) (desk b)
 reordered-as desk a b e = let P : Desk → Type 0 = λ z. IsReordered (desk a) z in subst P (ap desk (sym e)) (reordered-same (desk a))
-
-on-both : {E A B C : Type 0} (r : Result Unit E) → (A → B → C) → OnOk r A → OnOk r B → OnOk r C
-on-both (Ok v) f a b = f a b
-on-both (Err e) f a b = tt
-
--- nothing is asked of where a painter has come that failed
-pub err-comes : {E : Type 0} (A : Type 0) (r : Result Unit E) → IsErr r → OnOk r A
-err-comes A (Ok v) h = absurd (cc)
-err-comes A (Err e) h = tt
 
 -- ---- where a sheet stands behind a step
 
@@ -84,7 +75,7 @@ pub record IsRest {D : Type 0} (m n : Painter D) : Type 0 where
   pub progress : n.progress ≡ m.progress
   pub notes : n.notes.items ≡ m.notes.items
 
-module _ {D E : Type 0} (desk : D → Desk) (m b n : Painter D) (o p : Output) (r : Result Unit E) (line : Text) (rest : IsRest m b) where
+module _ {D : Type 0} (desk : D → Desk) (m b n : Painter D) (o p : List ℕ) (line : Text) (rest : IsRest m b) where
   walk-moved : walk_in desk b ≡ at_desk (desk b.drawn) (walk_in desk m)
   walk-moved = ap₂ (λ q notes. walk_at (desk b.drawn) q notes) rest.progress rest.notes
 
@@ -100,7 +91,7 @@ module _ {D E : Type 0} (desk : D → Desk) (m b n : Painter D) (o p : Output) (
       (bad : b.has_bad_line ≡ (m.has_bad_line || is_err meaning))
       (text-is : (s : Share) → read_text m.marked s (walk_in desk m) (line, meaning) ≡ happened_text m.marked (walk_in desk m) line (now s))
       (walk-is : (s : Share) → behind_read m.marked s (walk_in desk m) (line, meaning) ≡ behind_happened m.marked (walk_in desk m) (line, meaning) (now s))
-      (took : TookStep desk b o p r line happened n) where
+      (took : TookStep desk b o p line happened n) where
     follows : ComesTo b (stand_behind (is_shown b.marked (walk_in desk b) b.progress.wanted) (happened took.share).still b.progress)
         (noted (b.progress.steps + 1) (happened took.share).scene b.notes.items) n
         → FollowsPainting desk m took.share (line, meaning) n
@@ -126,15 +117,8 @@ module _ {D E : Type 0} (desk : D → Desk) (m b n : Painter D) (o p : Output) (
     whole : happened_text b.marked (walk_in desk b) line (happened took.share) ≡ read_text m.marked took.share (walk_in desk m) (line, meaning)
     whole = text-moved (happened took.share) (now took.share) (same took.share) ∙ sym (text-is took.share)
 
-    pub took-line : OnOk r (PaintedLine desk m o line meaning n p)
-    took-line = on-ok r (λ both.
-        let T : Text → Type 0 = λ z. Takes o p z in
-        record { share = took.share; shared = shared; written = subst T whole both.0; follows = follows both.1 }) took.ok
-
-    pub broke-line : OnErr r (BrokePainting desk m o line meaning p)
-    broke-line = on-err r (λ broken.
-        let B : Text → Type 0 = λ z. Breaks o p z in
-        record { share = took.share; shared = shared; broken = subst B whole broken }) took.err
+    pub took-line : DrewLine desk m o line meaning n p
+    took-line = record { share = took.share; shared = shared; offered = offered_as o whole took.offered; follows = follows took.comes }
 
   -- what a command did, by a desk and a reply that show what those of the command do
   module _ (c : Command) (reply : Reply) (kept : Before) (moved : IsReordered (step (desk m.drawn) c).0 (desk b.drawn)) (like : IsLikeReply
@@ -150,31 +134,23 @@ module _ {D E : Type 0} (desk : D → Desk) (m b n : Painter D) (o p : Output) (
         ∙ (ap (scene_of (desk b.drawn) s f) (like.marks (desk b.drawn) f ∙ marks-alike moved f (Some c) said)
         ∙ scene-alike moved s f (marks_of (step (desk m.drawn) c).0 f (Some c) said)))
 
-    module _ (bad : b.has_bad_line ≡ m.has_bad_line)
-        (took : TookStep desk b o p r line (λ s. happened_at (desk b.drawn) s kept (Some c) reply (reply_to (desk m.drawn) c)) n) where
-      pub took-command : OnOk r (PaintedLine desk m o line (Ok (Some c)) n p)
-      took-command = took-line (Ok (Some c)) _ _ same-command refl refl moved (bad ∙ or-off m.has_bad_line) (λ s. refl) (λ s. refl) took
-
-      pub broke-command : OnErr r (BrokePainting desk m o line (Ok (Some c)) p)
-      broke-command = broke-line (Ok (Some c)) _ _ same-command refl refl moved (bad ∙ or-off m.has_bad_line) (λ s. refl) (λ s. refl) took
+    pub took-command : b.has_bad_line ≡ m.has_bad_line
+        → TookStep desk b o p line (λ s. happened_at (desk b.drawn) s kept (Some c) reply (reply_to (desk m.drawn) c)) n
+        → DrewLine desk m o line (Ok (Some c)) n p
+    took-command bad took = took-line (Ok (Some c)) _ _ same-command refl refl moved (bad ∙ or-off m.has_bad_line) (λ s. refl) (λ s. refl) took
 
   -- a bad line
   module _ (fault : LineFault) (kept : Before) (stays : b.drawn ≡ m.drawn) (kept-is : kept ≡ before_of (desk m.drawn) None) (bad : b.has_bad_line ≡ true) where
     same-fault : (s : Share) → happened_at (desk b.drawn) s kept None Done (fault_text fault) ≡ fault_happened s fault (desk m.drawn)
     same-fault s = ap₂ (λ z f. happened_at (desk z) s f None Done (fault_text fault)) stays kept-is
 
-    module _ (took : TookStep desk b o p r line (λ s. happened_at (desk b.drawn) s kept None Done (fault_text fault)) n) where
-      pub took-fault : OnOk r (PaintedLine desk m o line (Err fault) n p)
-      took-fault = took-line (Err fault) _ _ same-fault refl refl (reordered-as desk m.drawn b.drawn stays) (bad
-          ∙ or-on m.has_bad_line) (λ s. refl) (λ s. refl) took
-
-      pub broke-fault : OnErr r (BrokePainting desk m o line (Err fault) p)
-      broke-fault = broke-line (Err fault) _ _ same-fault refl refl (reordered-as desk m.drawn b.drawn stays) (bad
-          ∙ or-on m.has_bad_line) (λ s. refl) (λ s. refl) took
+    pub took-fault : TookStep desk b o p line (λ s. happened_at (desk b.drawn) s kept None Done (fault_text fault)) n → DrewLine desk m o line (Err fault) n p
+    took-fault took =
+        took-line (Err fault) _ _ same-fault refl refl (reordered-as desk m.drawn b.drawn stays) (bad ∙ or-on m.has_bad_line) (λ s. refl) (λ s. refl) took
 
 -- ---- a line that is skipped
 
-module _ {D : Type 0} (desk : D → Desk) (m n : Painter D) (o : Output) (line : Text) (drawn : n.drawn ≡ m.drawn) (marked : n.marked ≡ m.marked)
+module _ {D : Type 0} (desk : D → Desk) (m n : Painter D) (o : List ℕ) (line : Text) (drawn : n.drawn ≡ m.drawn) (marked : n.marked ≡ m.marked)
     (notes : n.notes.items ≡ m.notes.items) (bad : n.has_bad_line ≡ m.has_bad_line) where
   -- behind it
   skipped-behind : (opened : Bool) → n.progress ≡ record m.progress { wanted = m.progress.wanted || is_mark line; opened = opened }
@@ -188,43 +164,32 @@ module _ {D : Type 0} (desk : D → Desk) (m n : Painter D) (o : Output) (line :
     bad = bad ∙ or-off m.has_bad_line;
   }
 
-  -- it isn't shown
+  -- what is offered of it, where it is shown and where it isn't
+  remark-text : (b : Bool) → is_shown_remark m.marked (walk_in desk m) line ≡ b
+      → where_so b (opening (walk_in desk m) ++ remark_text line)
+      ≡ where_so (is_shown_remark m.marked (walk_in desk m) line) (opening (walk_in desk m) ++ remark_text line)
+  remark-text b test = ap (λ z. where_so z (opening (walk_in desk m) ++ remark_text line)) (sym test)
+
   pub skip-hidden : n.progress ≡ record m.progress { wanted = m.progress.wanted || is_mark line } → is_shown_remark m.marked (walk_in desk m) line ≡ false
-      → (s : Share) → IsShared s (desk m.drawn) → PaintedLine desk m o line (Ok None) n o
-  skip-hidden progress test s shared =
-      let T : Text → Type 0 = λ z. Takes o o z in
-      record {
-        share = s;
-        shared = shared;
-        written = subst T (sym (ap (λ b. where_so b (opening (walk_in desk m) ++ remark_text line)) test)) (takes_none o);
-        follows = skipped-behind m.progress.opened progress (or-off m.progress.opened ∙ ap (λ b. m.progress.opened || b) (sym test)) s;
-      }
+      → (s : Share) → IsShared s (desk m.drawn) → DrewLine desk m o line (Ok None) n o
+  skip-hidden progress test s shared = record {
+    share = s;
+    shared = shared;
+    offered = offered_as o (remark-text false test) (sym (append-nil o));
+    follows = skipped-behind m.progress.opened progress (or-off m.progress.opened ∙ ap (λ b. m.progress.opened || b) (sym test)) s;
+  }
 
-  -- it is, or the writer failed
-  module _ {E : Type 0} (p : Output) (r : Result Unit E) (test : is_shown_remark m.marked (walk_in desk m) line ≡ true) (s : Share) (shared : IsShared s
-      (desk m.drawn))
-      (puts : Puts o p r (opening (walk_in desk m) ++ remark_text line)) where
-    shown-text : opening (walk_in desk m) ++ remark_text line ≡ where_so (is_shown_remark m.marked (walk_in desk m) line) (opening
-        (walk_in desk m) ++ remark_text line)
-    shown-text = sym (ap (λ b. where_so b (opening (walk_in desk m) ++ remark_text line)) test)
+  pub skip-shown : {p : List ℕ} → n.progress ≡ record m.progress { wanted = m.progress.wanted || is_mark line; opened = true }
+      → is_shown_remark m.marked (walk_in desk m) line ≡ true → (s : Share) → IsShared s (desk m.drawn)
+      → p ≡ o ++ (opening (walk_in desk m) ++ remark_text line) → DrewLine desk m o line (Ok None) n p
+  skip-shown progress test s shared offered = record {
+    share = s;
+    shared = shared;
+    offered = offered_as o (remark-text true test) offered;
+    follows = skipped-behind true progress (or-on m.progress.opened ∙ ap (λ b. m.progress.opened || b) (sym test)) s;
+  }
 
-    pub skip-shown : n.progress ≡ record m.progress { wanted = m.progress.wanted || is_mark line; opened = true } → OnOk r
-        (PaintedLine desk m o line (Ok None) n p)
-    skip-shown progress = on-ok r (λ takes.
-        let T : Text → Type 0 = λ z. Takes o p z in
-        record {
-          share = s;
-          shared = shared;
-          written = subst T shown-text takes;
-          follows = skipped-behind true progress (or-on m.progress.opened ∙ ap (λ b. m.progress.opened || b) (sym test)) s;
-        }) puts.ok
-
-    pub skip-broken : OnErr r (BrokePainting desk m o line (Ok None) p)
-    skip-broken = on-err r (λ breaks.
-        let B : Text → Type 0 = λ z. Breaks o p z in
-        record { share = s; shared = shared; broken = subst B shown-text breaks }) puts.err
-
--- ---- a step, written or left out
+-- ---- a step, offered or left out
 
 -- the second painter has counted one more command than the first, and noted the messages behind it
 pub record IsNoted {D : Type 0} (m b : Painter D) (happened : Share → Happened) : Type 0 where
@@ -234,7 +199,7 @@ pub record IsNoted {D : Type 0} (m b : Painter D) (happened : Share → Happened
   pub progress : b.progress ≡ record m.progress { steps = m.progress.steps + 1; wanted = false }
   pub notes : (s : Share) → b.notes.items ≡ noted (m.progress.steps + 1) (happened s).scene m.notes.items
 
-module _ {D E : Type 0} (desk : D → Desk) (m b n : Painter D) (o p : Output) (r : Result Unit E) (line : Text) (happened : Share → Happened) (w : Bool)
+module _ {D : Type 0} (desk : D → Desk) (m b n : Painter D) (o p : List ℕ) (line : Text) (happened : Share → Happened) (w : Bool)
     (wanted : w ≡ m.progress.wanted) (is : IsNoted m b happened) where
   written-moved : (s : Share) → step_written (walk_in desk b) line w (happened s) ≡ shown_step (walk_in desk m) line (happened s)
   written-moved s =
@@ -242,63 +207,55 @@ module _ {D E : Type 0} (desk : D → Desk) (m b n : Painter D) (o p : Output) (
       ∙ ap (λ v. opening (walk_in desk m) ++ step_text ((happened s).still && not v) (m.progress.steps + 1) line (happened s).reply (happened s).scene
       (noted (m.progress.steps + 1) (happened s).scene m.notes.items) m.progress.last) wanted
 
-  pub took-shown : is_shown m.marked (walk_in desk m) m.progress.wanted ≡ true → WroteStep desk b o p r line w happened n
-      → TookStep desk m o p r line happened n
+  pub took-shown : is_shown m.marked (walk_in desk m) m.progress.wanted ≡ true → WroteStep desk b o p line w happened n
+      → TookStep desk m o p line happened n
   took-shown here wrote =
       let s = wrote.share in
       let h = happened s in
+      let comes = wrote.next in
       let whole : step_written (walk_in desk b) line w h ≡ happened_text m.marked (walk_in desk m) line h =
       written-moved s ∙ sym (ap (λ z. where_so z (shown_step (walk_in desk m) line h)) here) in
-      let T : Text → Type 0 = λ z. Takes o p z in
-      let B : Text → Type 0 = λ z. Breaks o p z in
       let S : D → Type 0 = λ z. IsShared s (desk z) in
       record {
         share = s;
         shared = subst S is.drawn wrote.shared;
-        ok = on-both r (λ takes comes. (
-          subst T whole takes,
-          record {
-            drawn_is = comes.drawn_is ∙ is.drawn;
-            marked_is = comes.marked_is ∙ is.marked;
-            progress_is = comes.progress_is ∙ (ap₂ (λ v q. stand_shown (h.still && not v) q) wanted is.progress
-                ∙ sym (ap (λ z. stand_behind z h.still m.progress) here));
-            notes_are = comes.notes_are ∙ is.notes s;
-            bad = comes.bad ∙ is.bad;
-          },
-        )) wrote.puts.ok wrote.next;
-        err = on-err r (λ breaks. subst B whole breaks) wrote.puts.err;
+        offered = offered_as o whole wrote.offered;
+        comes = record {
+          drawn_is = comes.drawn_is ∙ is.drawn;
+          marked_is = comes.marked_is ∙ is.marked;
+          progress_is = comes.progress_is ∙ (ap₂ (λ v q. stand_shown (h.still && not v) q) wanted is.progress
+              ∙ sym (ap (λ z. stand_behind z h.still m.progress) here));
+          notes_are = comes.notes_are ∙ is.notes s;
+          bad = comes.bad ∙ is.bad;
+        };
       }
 
--- a step that was written of what is drawn was written of what is equal to it
-module _ {D E : Type 0} (desk : D → Desk) (b n : Painter D) (o p : Output) (r : Result Unit E) (line : Text) (w : Bool) (kept : Before)
+-- a step that was offered of what is drawn was offered of what is equal to it
+module _ {D : Type 0} (desk : D → Desk) (b n : Painter D) (o p : List ℕ) (line : Text) (w : Bool) (kept : Before)
     (c : Option Command) (reply : Reply) (text : Text) {drawn same : D} where
-  pub wrote-over : drawn ≡ same → WroteStep desk b o p r line w (λ s. happened_at (desk drawn) s kept c reply text) n
-      → WroteStep desk b o p r line w (λ s. happened_at (desk same) s kept c reply text) n
+  pub wrote-over : drawn ≡ same → WroteStep desk b o p line w (λ s. happened_at (desk drawn) s kept c reply text) n
+      → WroteStep desk b o p line w (λ s. happened_at (desk same) s kept c reply text) n
   wrote-over is wrote =
-      let W : D → Type 0 = λ z. WroteStep desk b o p r line w (λ s. happened_at (desk z) s kept c reply text) n in
+      let W : D → Type 0 = λ z. WroteStep desk b o p line w (λ s. happened_at (desk z) s kept c reply text) n in
       subst W is wrote
 
 -- it is left out
-module _ {D E : Type 0} (desk : D → Desk) (m b n : Painter D) (o : Output) (line : Text) (happened : Share → Happened) (is : IsNoted m b happened) where
+module _ {D : Type 0} (desk : D → Desk) (m b n : Painter D) (o : List ℕ) (line : Text) (happened : Share → Happened) (is : IsNoted m b happened) where
   pub took-left : is_shown m.marked (walk_in desk m) m.progress.wanted ≡ false → (s : Share) → IsShared s (desk b.drawn)
-      → n ≡ record b { progress = record b.progress { left = b.progress.left + 1 } } → TookStep {E = E} desk m o o (Ok tt) line happened n
+      → n ≡ record b { progress = record b.progress { left = b.progress.left + 1 } } → TookStep desk m o o line happened n
   took-left here s shared n-is =
       let h = happened s in
-      let T : Text → Type 0 = λ z. Takes o o z in
       let S : D → Type 0 = λ z. IsShared s (desk z) in
       record {
         share = s;
         shared = subst S is.drawn shared;
-        ok = (
-          subst T (sym (ap (λ z. where_so z (shown_step (walk_in desk m) line h)) here)) (takes_none o),
-          record {
-            drawn_is = ap (λ (z : Painter D). z.drawn) n-is ∙ is.drawn;
-            marked_is = ap (λ (z : Painter D). z.marked) n-is ∙ is.marked;
-            progress_is = ap (λ (z : Painter D). z.progress) n-is ∙ (ap (λ (q : PaintStand). record q { left = q.left + 1 }) is.progress
-                ∙ sym (ap (λ z. stand_behind z h.still m.progress) here));
-            notes_are = ap (λ (z : Painter D). z.notes.items) n-is ∙ is.notes s;
-            bad = ap (λ (z : Painter D). z.has_bad_line) n-is ∙ is.bad;
-          },
-        );
-        err = tt;
+        offered = offered_as o (sym (ap (λ z. where_so z (shown_step (walk_in desk m) line h)) here)) (sym (append-nil o));
+        comes = record {
+          drawn_is = ap (λ (z : Painter D). z.drawn) n-is ∙ is.drawn;
+          marked_is = ap (λ (z : Painter D). z.marked) n-is ∙ is.marked;
+          progress_is = ap (λ (z : Painter D). z.progress) n-is ∙ (ap (λ (q : PaintStand). record q { left = q.left + 1 }) is.progress
+              ∙ sym (ap (λ z. stand_behind z h.still m.progress) here));
+          notes_are = ap (λ (z : Painter D). z.notes.items) n-is ∙ is.notes s;
+          bad = ap (λ (z : Painter D). z.has_bad_line) n-is ∙ is.bad;
+        };
       }

@@ -2,8 +2,6 @@
 use Rattle.rh_painted.proofs.Common.{◌≡◌, Bool, true, false, refl, ap, ap₂, sym, ◌∙◌, append-nil, arith, List, [], ◌∷◌, ◌++◌, length, map, ◌==◌, ◌||◌, not}
 use Rattle.rh_painted.proofs.Common.{codes, filter, find, flat_map, list_any, ne_eqb, flat_map-append, Desk, Task, Text, transfer_row, MessageItem}
 use Rattle.rh_painted.proofs.Common.{message_items, letterboxes_in, in_rows, ins_named, out_rows, outs_named}
-use Rattle.std.proofs.lemmas.List.{map-append}
-use Rattle.std.proofs.lemmas.List.Elements.{filter-append}
 use Rattle.std.proofs.lemmas.List.Folds.{flat_map-map}
 use Rattle.rh_defs.specs.declared.transfer.Incoming.{Incoming}
 use Rattle.rh_defs.specs.Laws.{IsDesk}
@@ -91,13 +89,6 @@ sides-some (s ∷ out) in_ =
     ∙ sym (some-more (goes_out in_ s) (map (goes_out in_) out ++ map comes_alone (alone_among (s ∷ out) in_)))
 sides-some [] (s ∷ in_) =
     some-more s in_ ∙ sym (some-more (comes_alone s) (map comes_alone (alone_among [] in_)))
-
--- a side that comes in, and others
-pub in_rows-each : (outs : List Side) (s : Side) (ins : List Side) → in_rows outs (s ∷ ins) ≡ in_rows outs (s ∷ []) ++ in_rows outs ins
-in_rows-each outs s ins =
-    ap (λ z. flat_map transfer_row (map comes_alone z)) (filter-append (λ (u : Side). not (list_any (has_id u.1.id) outs)) (s ∷ []) ins)
-    ∙ (ap (flat_map transfer_row) (map-append comes_alone (alone_among outs (s ∷ [])) (alone_among outs ins))
-    ∙ flat_map-append transfer_row (map comes_alone (alone_among outs (s ∷ []))) (map comes_alone (alone_among outs ins)))
 
 -- one whose transfer goes out has no row of its own
 module _ (outs : List Side) (name : Text) (r : Incoming) where

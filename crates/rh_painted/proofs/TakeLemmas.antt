@@ -1,18 +1,19 @@
 -- What a painter has done with a line as far as it is kept, and with what stands behind the last line feed.
-use Rattle.rh_painted.proofs.Common.{◌≡◌, Bool, true, false, ◌||◌, [], ◌∷◌, ◌++◌, length, refl, sym, ap, ap₂, ◌∙◌, subst, arith, Option, Ok, Err, is_err, not}
-use Rattle.rh_painted.proofs.Common.{◌==◌, OnErr, OnOk, Result, Command, LineFault, Desk, Meaning, line_means, IsReordered, rest_means, kept, kept_means}
-use Rattle.rh_painted.proofs.Common.{Share, IsShared, Text, Place, Read, after_read, Breaks, Output, Puts, Takes, takes_more, at_desk, Walk, behind_read}
-use Rattle.rh_painted.proofs.Common.{read_text, Painter, PaintedLine, TookPaintedLine, walk_in}
+use Rattle.rh_painted.proofs.Common.{◌≡◌, ℕ, List, Bool, true, false, ◌||◌, [], ◌∷◌, ◌++◌, length, refl, sym, ap, ap₂, ◌∙◌, subst, arith, Option, Err, is_err}
+use Rattle.rh_painted.proofs.Common.{not, ◌==◌, OnErr, OnOk, Result, Command, LineFault, Desk, Meaning, line_means, IsReordered, rest_means, kept, kept_means}
+use Rattle.rh_painted.proofs.Common.{Share, IsShared, Text, Place, Read, after_read, Output, Puts, at_desk, Walk, behind_read}
+use Rattle.rh_painted.proofs.Common.{read_text, sheet_lines, Painter, PaintedLine, offered_as, walk_in}
 use Rattle.std.proofs.lemmas.Bool.{eqb-true}
 use Rattle.rh_drawn.proofs.RunLemmas.{kept_some}
 use Rattle.rh_drawn.proofs.StepLemmas.{on-err, on-ok}
 use Rattle.rh_feed.proofs.LineLemmas.{kept_nil}
 use Rattle.rh_figure.specs.Map.{read_rest}
-use Rattle.rh_lines.proofs.FlowLemmas.{breaks_before, takes_breaks}
 use Rattle.rh_sheet.specs.Sheet.{sheet_end}
-use Rattle.rh_painted.specs.PaintedWalks.{BrokePainting, BrokePaintedLine, BrokePaintedRest, TookPaintedRest}
+use Rattle.rh_painted.specs.Inner.PaintedSteps.{DrewLine, DrewRest}
+use Rattle.rh_painted.specs.PaintedWalks.{BrokePainting, BrokePaintedRest, TookPaintedRest}
 use Rattle.rh_painted.proofs.LineLemmas.{SameRead, same-line, same-rest}
 use Rattle.rh_painted.proofs.RunLemmas.{kept-some}
+use Rattle.rh_painted.proofs.TextPuts.{text_then}
 use Rattle.rh_painted.proofs.WalkLemmas.{place-behind}
 
 -- ---- a line as far as it is kept
@@ -28,79 +29,56 @@ module _ {D : Type 0} (desk : D → Desk) (m : Painter D) (means : Text → Mean
       → IsShared s (after_read (walk_in desk m).place (kept line, means (kept line))).desk
   shared-kept shared = let P : Place → Type 0 = λ z. IsShared s z.desk in subst P place-kept shared
 
-module _ {D : Type 0} {desk : D → Desk} {m n : Painter D} {o p : Output} where
-  painted-kept : (line : Text) → PaintedLine desk m o line (line_means line) n p → TookPaintedLine desk m o (kept line) n p
-  painted-kept line painted =
-      let same = same-line line in
-      let x = walk_in desk m in
-      let T : Text → Type 0 = λ z. Takes o p z in
-      let R : Place → Type 0 = λ z. IsReordered z.desk (desk n.drawn) in
-      record {
-        share = painted.share;
-        shared = shared-kept desk m line_means line same painted.share painted.shared;
-        written = subst T (sym (same.text m.marked painted.share x)) painted.written;
-        follows = record {
-          desk_is = subst R (place-kept desk m line_means line same painted.share) painted.follows.desk_is;
-          walk_is = painted.follows.walk_is ∙ ap (at_desk (desk n.drawn)) (sym (same.behind m.marked painted.share x));
-          marked_is = painted.follows.marked_is;
-          bad = painted.follows.bad ∙ ap (λ z. m.has_bad_line || is_err z) (sym (kept_means line));
-        };
-      }
-
-broke-kept : {D : Type 0} {desk : D → Desk} {m : Painter D} {o p : Output} (line : Text) → BrokePainting desk m o line (line_means line) p
-    → BrokePaintedLine desk m o (kept line) p
-broke-kept {D} {desk} {m} {o} {p} line broke =
+-- what was offered of a line was offered of what is kept of it
+drew-kept : {D : Type 0} {desk : D → Desk} {m n : Painter D} {o p : List ℕ} (line : Text) → DrewLine desk m o line (line_means line) n p
+    → DrewLine desk m o (kept line) (line_means (kept line)) n p
+drew-kept {desk = desk} {m = m} {n = n} {o = o} line drew =
     let same = same-line line in
-    let B : Text → Type 0 = λ z. Breaks o p z in
+    let x = walk_in desk m in
+    let R : Place → Type 0 = λ z. IsReordered z.desk (desk n.drawn) in
     record {
-      share = broke.share;
-      shared = shared-kept desk m line_means line same broke.share broke.shared;
-      broken = subst B (sym (same.text m.marked broke.share (walk_in desk m))) broke.broken;
+      share = drew.share;
+      shared = shared-kept desk m line_means line same drew.share drew.shared;
+      offered = offered_as o (sym (same.text m.marked drew.share x)) drew.offered;
+      follows = record {
+        desk_is = subst R (place-kept desk m line_means line same drew.share) drew.follows.desk_is;
+        walk_is = drew.follows.walk_is ∙ ap (at_desk (desk n.drawn)) (sym (same.behind m.marked drew.share x));
+        marked_is = drew.follows.marked_is;
+        bad = drew.follows.bad ∙ ap (λ z. m.has_bad_line || is_err z) (sym (kept_means line));
+      };
     }
 
 -- the same by what was found of the line
-module _ {D E : Type 0} (desk : D → Desk) (m : Painter D) (o p : Output) (r : Result Unit E) (line : Text) (found : Meaning (Option Command))
-    (means : found ≡ line_means line) where
-  pub line-took : (n : Painter D) → OnOk r (PaintedLine desk m o line found n p) → OnOk r (TookPaintedLine desk m o (kept line) n p)
-  line-took n =
-      let P : Meaning (Option Command) → Type 0 = λ z. PaintedLine desk m o line z n p in
-      on-ok r (λ painted. painted-kept line (subst P means painted))
-
-  pub line-broke : OnErr r (BrokePainting desk m o line found p) → OnErr r (BrokePaintedLine desk m o (kept line) p)
-  line-broke =
-      let P : Meaning (Option Command) → Type 0 = λ z. BrokePainting desk m o line z p in
-      on-err r (λ broke. broke-kept line (subst P means broke))
-
--- it holds where the writer failed
-pub err-only : {E A : Type 0} (r : Result Unit E) → A → OnErr r A
-err-only (Ok v) a = tt
-err-only (Err e) a = a
+pub line-drew : {D : Type 0} {desk : D → Desk} {m n : Painter D} {o p : List ℕ} (line : Text) (found : Meaning (Option Command)) → found ≡ line_means line
+    → DrewLine desk m o line found n p → DrewLine desk m o (kept line) (line_means (kept line)) n p
+line-drew {desk = desk} {m = m} {n = n} {o = o} {p = p} line found means drew =
+    let P : Meaning (Option Command) → Type 0 = λ z. DrewLine desk m o line z n p in
+    drew-kept line (subst P means drew)
 
 -- ---- what stands behind the last line feed
 
+or-off : (b : Bool) → b ≡ (b || false)
+or-off true = refl
+or-off false = refl
+
 -- nothing stands there
-module _ {D E : Type 0} (desk : D → Desk) (m : Painter D) (o p : Output) (r : Result Unit E) (puts : Puts o p r (sheet_end (walk_in desk m))) where
-  empty-bad : m.has_bad_line ≡ (m.has_bad_line || not (length (kept []) == 0))
-  empty-bad = or-off m.has_bad_line ∙ ap (λ b. m.has_bad_line || not b) (sym (kept-some []))
-    where
-      or-off : (b : Bool) → b ≡ (b || false)
-      or-off true = refl
-      or-off false = refl
-
-  pub empty-took : (rest : Text) → true ≡ (length rest == 0) → OnOk r (TookPaintedRest desk m o (kept rest) m p)
-  empty-took [] none = on-ok r (λ takes. record { stages = []; lines = sym (ap read_rest kept_nil); shared = tt; written = takes; bad = empty-bad }) puts.ok
-  empty-took (b ∷ bs) none = let no : length (b ∷ bs) ≡ 0 = eqb-true (length (b ∷ bs)) 0 (sym none) in absurd (omega arith)
-
-  pub empty-broke : (rest : Text) → true ≡ (length rest == 0) → OnErr r (BrokePaintedRest desk m o (kept rest) p)
-  empty-broke [] none = on-err r (λ breaks. record { stages = []; lines = sym (ap read_rest kept_nil); shared = tt; broken = breaks }) puts.err
-  empty-broke (b ∷ bs) none = let no : length (b ∷ bs) ≡ 0 = eqb-true (length (b ∷ bs)) 0 (sym none) in absurd (omega arith)
+pub empty-drew : {D : Type 0} (desk : D → Desk) (m : Painter D) {o p : List ℕ} (rest : Text) → true ≡ (length rest == 0)
+    → p ≡ o ++ sheet_end (walk_in desk m) → DrewRest desk m o (kept rest) m p
+empty-drew desk m [] none offered = record {
+  stages = [];
+  lines = sym (ap read_rest kept_nil);
+  shared = tt;
+  offered = offered;
+  bad = or-off m.has_bad_line ∙ ap (λ b. m.has_bad_line || not b) (sym (kept-some []));
+}
+empty-drew desk m (b ∷ bs) none offered = let no : length (b ∷ bs) ≡ 0 = eqb-true (length (b ∷ bs)) 0 (sym none) in absurd (omega arith)
 
 one-read : (rest : Text) → false ≡ (length rest == 0) → (kept rest, rest_means (kept rest)) ∷ [] ≡ read_rest (kept rest)
 one-read [] some = absurd (cc)
 one-read (b ∷ bs) some = ap (λ l. (l, rest_means l) ∷ []) (kept_some b bs) ∙ sym (ap read_rest (kept_some b bs))
 
 -- something does
-module _ {D : Type 0} (desk : D → Desk) (m : Painter D) (o : Output) (rest : Text) (some : false ≡ (length rest == 0)) (fault : LineFault)
+module _ {D : Type 0} (desk : D → Desk) (m : Painter D) (rest : Text) (some : false ≡ (length rest == 0)) (fault : LineFault)
     (means : rest_means rest ≡ Err fault) where
   abbrev read-kept : Read
   read-kept = (kept rest, rest_means (kept rest))
@@ -119,45 +97,33 @@ module _ {D : Type 0} (desk : D → Desk) (m : Painter D) (o : Output) (rest : T
       let P : Meaning (Option Command) → Type 0 = λ z. IsShared s (after_read (walk_in desk m).place (rest, z)).desk in
       shared-kept desk m rest_means rest (same-rest rest) s (subst P (sym means) shared)
 
-  -- the writer failed at it
-  pub some-stops : {p : Output} → BrokePainting desk m o rest (Err fault) p → BrokePaintedRest desk m o (kept rest) p
-  some-stops {p} broke =
-      let x = walk_in desk m in
-      let B : Text → Type 0 = λ z. Breaks o p z in
-      record {
-        stages = (read-kept, broke.share) ∷ [];
-        lines = one-read rest some;
-        shared = (shared-rest broke.share broke.shared, tt);
-        broken = subst B (end-kept broke.share) (breaks_before (sheet_end (behind_read m.marked broke.share x (rest, Err fault))) broke.broken);
-      }
+  pub some-drew : {n : Painter D} {o q p : List ℕ} → DrewLine desk m o rest (Err fault) n q → p ≡ q ++ sheet_end (walk_in desk n)
+      → DrewRest desk m o (kept rest) n p
+  some-drew {o = o} {q = q} drew end = record {
+    stages = (read-kept, drew.share) ∷ [];
+    lines = one-read rest some;
+    shared = (shared-rest drew.share drew.shared, tt);
+    offered = offered_as o (end-kept drew.share) (text_then o _ _ drew.offered (offered_as q (ap sheet_end drew.follows.walk_is) end));
+    bad = drew.follows.bad ∙ ap (λ b. m.has_bad_line || not b) (some ∙ sym (kept-some rest));
+  }
 
-  module _ {E : Type 0} (n : Painter D) (q p : Output) (r : Result Unit E) (painted : PaintedLine desk m o rest (Err fault) n q) (puts : Puts q p r (sheet_end
-      (walk_in desk n))) where
-    end-is : sheet_end (walk_in desk n) ≡ sheet_end (behind_read m.marked painted.share (walk_in desk m) (rest, Err fault))
-    end-is = ap sheet_end painted.follows.walk_is
+-- ---- what the writer took of it
 
-    some-bad : n.has_bad_line ≡ (m.has_bad_line || not (length (kept rest) == 0))
-    some-bad = painted.follows.bad ∙ ap (λ b. m.has_bad_line || not b) (some ∙ sym (kept-some rest))
+module _ {D E : Type 0} {desk : D → Desk} {m n : Painter D} {o p : List ℕ} (first last : Output) (r : Result Unit E) where
+  pub line-took : {line : Text} {meaning : Meaning (Option Command)} (drew : DrewLine desk m o line meaning n p)
+      → Puts first last r (read_text m.marked drew.share (walk_in desk m) (line, meaning)) → OnOk r (PaintedLine desk m first line meaning n last)
+  line-took drew puts =
+      on-ok r (λ takes. record { share = drew.share; shared = drew.shared; written = takes; follows = drew.follows }) puts.ok
 
-    pub some-took : OnOk r (TookPaintedRest desk m o (kept rest) n p)
-    some-took = on-ok r (λ takes.
-        let T : Text → Type 0 = λ z. Takes q p z in
-        let U : Text → Type 0 = λ z. Takes o p z in
-        record {
-          stages = (read-kept, painted.share) ∷ [];
-          lines = one-read rest some;
-          shared = (shared-rest painted.share painted.shared, tt);
-          written = subst U (end-kept painted.share) (takes_more painted.written (subst T end-is takes));
-          bad = some-bad;
-        }) puts.ok
+  pub line-broke : {line : Text} {meaning : Meaning (Option Command)} (drew : DrewLine desk m o line meaning n p)
+      → Puts first last r (read_text m.marked drew.share (walk_in desk m) (line, meaning)) → OnErr r (BrokePainting desk m first line meaning last)
+  line-broke drew puts = on-err r (λ breaks. record { share = drew.share; shared = drew.shared; broken = breaks }) puts.err
 
-    pub some-broke : OnErr r (BrokePaintedRest desk m o (kept rest) p)
-    some-broke = on-err r (λ breaks.
-        let T : Text → Type 0 = λ z. Breaks q p z in
-        let U : Text → Type 0 = λ z. Breaks o p z in
-        record {
-          stages = (read-kept, painted.share) ∷ [];
-          lines = one-read rest some;
-          shared = (shared-rest painted.share painted.shared, tt);
-          broken = subst U (end-kept painted.share) (takes_breaks painted.written (subst T end-is breaks));
-        }) puts.err
+  pub rest-took : {rest : List ℕ} (drew : DrewRest desk m o rest n p)
+      → Puts first last r (sheet_lines m.marked (walk_in desk m) drew.stages) → OnOk r (TookPaintedRest desk m first rest n last)
+  rest-took drew puts =
+      on-ok r (λ takes. record { stages = drew.stages; lines = drew.lines; shared = drew.shared; written = takes; bad = drew.bad }) puts.ok
+
+  pub rest-broke : {rest : List ℕ} (drew : DrewRest desk m o rest n p)
+      → Puts first last r (sheet_lines m.marked (walk_in desk m) drew.stages) → OnErr r (BrokePaintedRest desk m first rest last)
+  rest-broke drew puts = on-err r (λ breaks. record { stages = drew.stages; lines = drew.lines; shared = drew.shared; broken = breaks }) puts.err

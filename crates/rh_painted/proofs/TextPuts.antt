@@ -1,16 +1,23 @@
--- Texts that are written one behind the other.
-use Rattle.rh_painted.proofs.Common.{ℕ, refl, List, [], ◌++◌, Result, Ok, Err, append-nil, sym, IsErr, Output, Puts, puts_before, puts_more, puts_stops}
-use Rattle.rh_painted.proofs.Common.{puts_same}
+-- Texts that are offered one behind the other, and what is left of them.
+use Rattle.std.proofs.Common.{◌≡◌, ℕ, List, [], ◌++◌, ap, sym, ◌∙◌, append_assoc, append-nil}
+use Rattle.rh_map.proofs.Left.{Left}
 
 -- a text behind a text
-pub text_then : {E : Type 0} {s t u : Output} {v : Unit {0}} {r : Result Unit E} (xs ys : List ℕ) → Puts {E = E} s t (Ok v) xs → Puts t u r ys
-    → Puts s u r (xs ++ ys)
-text_then {u = u} {r = r} xs ys p q = puts_more u r ys p q
-
--- the writer failed in the first of them
-pub text_stop : {E : Type 0} {s t : Output} {e : E} (r : Result Unit E) (xs ys : List ℕ) → Puts s t (Err e) xs → IsErr r → Puts s t r (xs ++ ys)
-text_stop r xs ys p h = puts_stops r (puts_before ys p refl) h
+pub text_then : {mid new : List ℕ} (old xs ys : List ℕ) → mid ≡ old ++ xs → new ≡ mid ++ ys → new ≡ old ++ (xs ++ ys)
+text_then old xs ys p q = q ∙ (ap (λ z. z ++ ys) p ∙ append_assoc old xs ys)
 
 -- nothing stands behind it
-pub text_last : {E : Type 0} {s t : Output} {r : Result Unit E} {xs : List ℕ} → Puts s t r xs → Puts s t r (xs ++ [])
-text_last {xs = xs} p = puts_same (sym (append-nil xs)) p
+pub text_last : {new : List ℕ} (old xs : List ℕ) → new ≡ old ++ xs → new ≡ old ++ (xs ++ [])
+text_last old xs p = p ∙ ap (λ z. old ++ z) (sym (append-nil xs))
+
+-- nothing at all
+pub offered_none : (old : List ℕ) → old ≡ old ++ []
+offered_none old = sym (append-nil old)
+
+-- before the first part of a text that is told in another way
+pub left_from : {whole rest : List ℕ} (old : List ℕ) → whole ≡ rest → Left old old whole rest
+left_from old e = record { is = ap (λ z. old ++ z) (sym e) }
+
+-- behind the last part
+pub left_last : {old so_far new whole : List ℕ} (rest : List ℕ) → Left old so_far whole rest → new ≡ so_far ++ rest → new ≡ old ++ whole
+left_last rest p q = q ∙ p.is

@@ -18,10 +18,6 @@ module _ {A B : Type 0} (text : List A → List B) (of_one : A → List B) (each
   text-at x inside e =
       ap text (drop_more xs i x inside ∙ ap (λ y. y ∷ drop (i + 1) xs) (sym e)) ∙ each x (drop (i + 1) xs)
 
-  -- the same of a slice of numbers
-  pub text-nth : (d : A) → i < length xs → text (drop i xs) ≡ of_one (get_or xs i d) ++ text (drop (i + 1) xs)
-  text-nth d inside = ap text (drop_more xs i d inside) ∙ each (get_or xs i d) (drop (i + 1) xs)
-
 -- behind the last
 module _ {A B : Type 0} (text : List A → List B) (none : text [] ≡ []) (xs : List A) (i : ℕ) where
   pub text-none : slice_get xs i ≡ None → text (drop i xs) ≡ []

@@ -9,6 +9,7 @@ ghost use Rattle.rh_defs.specs.Order.{IsReordered};
 ghost use Rattle.rh_defs.specs.Range.{in_range};
 ghost use Rattle.rh_defs.specs.Commands.{step};
 ghost use Rattle.rh_drawn.specs.DrawnReplies.{Excerpts};
+ghost use Rattle.rh_feed.specs.Lines.{kept};
 ghost use Rattle.rh_map.specs.Replies.{front_of};
 ghost use Rattle.rh_figure.specs.Scene.{Before, Marks, is_still as is_still_of, scene_of};
 ghost use Rattle.rh_figure.specs.Share.{Share};
@@ -307,8 +308,8 @@ impl<D: Drawn> Painter<D> {
     /// Shows a whole line, and does what it asks for.
     fn paint_line<P: Pen>(&mut self, line: &[u8], pen: &mut P)
         requires { self.old.progress.steps + 1 < 2 ^ 32 }
-        ensures drew { DrewLine D.desk self.old (P.offered pen.old) line.now (line_means line.now) self.new
-            (P.offered pen.new) }
+        ensures drew { DrewLine D.desk self.old (P.offered pen.old) (kept line.now) (line_means (kept line.now))
+            self.new (P.offered pen.new) }
         ensures steps { self.new.progress.steps ≤ self.old.progress.steps + 1 }
     {
         let mut command = Command::Ask(Question::Areas);
@@ -322,7 +323,7 @@ impl<D: Drawn> Painter<D> {
     /// Shows what stands behind the last line feed, if something does, and writes the end of the sheet.
     fn paint_rest<P: Pen>(&mut self, rest: &[u8], pen: &mut P)
         requires { self.old.progress.steps + 1 < 2 ^ 32 }
-        ensures { DrewRest D.desk self.old (P.offered pen.old) rest.now self.new (P.offered pen.new) }
+        ensures { DrewRest D.desk self.old (P.offered pen.old) (kept rest.now) self.new (P.offered pen.new) }
     {
         if rest.is_empty() {
             self.end(pen);

@@ -1,6 +1,6 @@
 use Rattle.rh_painted.proofs.Common.{◌≡◌, ℕ, ◌+◌, ◌<◌, ◌≤◌, List, ◌++◌, length, drop, map, ap, sym, ◌∙◌, append_assoc, arith, slice_index, enumerate_from}
-use Rattle.rh_painted.proofs.Common.{flat_map, flat_map-append, drop_all, fixed_panel, made_panel, left_breaks, left_less, left_whole, area_heading, scene_at}
-use Rattle.rh_painted.proofs.Common.{left_last, puts_same}
+use Rattle.rh_painted.proofs.Common.{flat_map, flat_map-append, drop_all, fixed_panel, made_panel, left_less, left_whole, area_heading, scene_at}
+use Rattle.rh_painted.proofs.Common.{left_last, offered_as}
 use Rattle.rh_figure.specs.Figure.{Panel}
 use Rattle.rh_drawn.proofs.PageLemmas.{numbered-next}
 use Rattle.rh_painted.proofs.areas.print_area_headings.Goals as goal
@@ -27,20 +27,12 @@ loop-number-preserved g c =
     let d = g.S.Sight.desk c.args.sight.now in
     let x = scene_at d c.args.step.now in
     let low : c.loop-number.number < length d.areas = omega (arith, c.spelled.ensures.areas.six) in
-    left_less c.loop-number.invariant (panels-next (fixed_panel x) c.loop-number.number d.areas (map (made_panel x) d.made) low) c.in_ok-print_fixed.ensures.ok
-
-pub returns-in_err-print_fixed : goal.returns-in_err-print_fixed
-returns-in_err-print_fixed g c =
-    let d = g.S.Sight.desk c.args.sight.now in
-    let x = scene_at d c.args.step.now in
-    let low : c.loop-number.number < length d.areas = omega (arith, c.spelled.ensures.areas.six) in
-    left_breaks _ _ c.loop-number.invariant (panels-next (fixed_panel x) c.loop-number.number d.areas (map
-    (made_panel x) d.made) low) c.in_err-print_fixed.ensures c.from_residual.ensures.0
+    left_less _ c.loop-number.invariant (panels-next (fixed_panel x) c.loop-number.number d.areas (map (made_panel x) d.made) low) c.print_fixed.ensures
 
 pub returns : goal.returns
 returns g c =
     let d = g.S.Sight.desk c.args.sight.now in
     let x = scene_at d c.args.step.now in
     let past : length d.areas ≤ c.loop-number.number = omega (arith, c.spelled.ensures.areas.six) in
-    left_last _ c.loop-number.invariant (puts_same (sym (panels-end (fixed_panel x) c.loop-number.number d.areas (map
+    left_last _ c.loop-number.invariant (offered_as _ (sym (panels-end (fixed_panel x) c.loop-number.number d.areas (map
     (made_panel x) d.made) past)) c.print_made.ensures)

@@ -7,5 +7,5 @@ abbrev pub invariant-loop-number : goal.invariant-loop-number
 invariant-loop-number g l =
     let d = g.S.Sight.desk l.sight in
     let x = scene_at d l.step in
-    Left (g.W.Sink.output l.initial.writer) (g.W.Sink.output l.writer) (flat_map area_heading (area_panels x))
+    Left (g.P.Pen.offered l.initial.pen) (g.P.Pen.offered l.pen) (flat_map area_heading (area_panels x))
     (flat_map area_heading (flat_map (fixed_panel x) (enumerate_from l.number (drop l.number d.areas)) ++ map (made_panel x) d.made))

@@ -1,6 +1,6 @@
 use Rattle.rh_painted.proofs.Common.{◌≡◌, ℕ, false, List, [], ◌∷◌, ◌++◌, length, ap, ap₂, sym, ◌∙◌, arith, if◌then◌else◌, ◌==◌, ◌||◌, slice_index, flat_map}
 use Rattle.rh_painted.proofs.Common.{ne_eqb, module_pages, fixed_panel, Text, area_name, Scene, AreaOf, heading_text, area_heading, scene_at, owned}
-use Rattle.rh_painted.proofs.Common.{owned-few, seen-fixed, puts_same}
+use Rattle.rh_painted.proofs.Common.{owned-few, seen-fixed, offered_as}
 use Rattle.rh_figure.specs.Figure.{area_panel, fixed_note, listed_pages, numbers_text, scrap_text}
 use Rattle.rh_sight.specs.declared.sight.PagesOf.TheVariants as pages
 use Rattle.rh_drawn.proofs.PageLemmas.{owned-fixed}
@@ -44,7 +44,7 @@ returns g c =
     let count : c.fixed_pages.result ≡ slice_index d.areas c.args.number =
     c.fixed_pages.ensures ∙ ap (λ b. if b then module_pages d else slice_index d.areas c.args.number) other in
     let some : (slice_index d.areas c.args.number == 0) ≡ false = ap (λ n. n == 0) (sym count) ∙ ne_eqb _ _ c.if-fixed_pages-eq0.false in
-    puts_same (sym (fixed-heading x c.args.number (slice_index d.areas c.args.number) other some))
-    (text_last (puts_same (ap (heading_text (area_name c.args.number)) (c.fixed_area_note-note.ensures.value
+    offered_as _ (sym (fixed-heading x c.args.number (slice_index d.areas c.args.number) other some))
+    (text_last _ _ (offered_as _ (ap (heading_text (area_name c.args.number)) (c.fixed_area_note-note.ensures.value
     ∙ note-same c.fixed_pages.result (slice_index d.areas c.args.number) c.pages_of-pages.result.now _ _ _ (ap length is ∙ long)
     (sym count) is c.scrap_in.ensures)) c.print_area_heading.ensures))

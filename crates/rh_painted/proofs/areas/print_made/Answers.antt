@@ -1,5 +1,5 @@
 use Rattle.rh_painted.proofs.Common.{◌≡◌, ℕ, ◌<◌, List, length, map, ap, refl, ◌∙◌, arith, flat_map, slice_get_within, made_panel, area_name, AreaOf}
-use Rattle.rh_painted.proofs.Common.{left_breaks, left_less, left_none, heading_text, area_heading, scene_at, owned, owned-few, puts_same}
+use Rattle.rh_painted.proofs.Common.{left_less, left_none, heading_text, area_heading, scene_at, owned, owned-few, offered_as}
 use Rattle.rh_defs.specs.Desk.{Made}
 use Rattle.rh_figure.specs.Figure.{listed_pages, made_note}
 use Rattle.rh_sight.specs.declared.sight.PagesOf.TheVariants as pages
@@ -40,31 +40,14 @@ areas-preserved g c =
     let is = owned c.spelled.ensures c.args.step.now.pages.now c.requires.shared (pages.Made c.areas.i)
     (AreaOf c.in-Some.area.number) c.pages_of-pages.result.now seen c.pages_of-pages.ensures in
     let long = owned-made c.spelled.ensures c.args.step.now.pages.now c.requires.shared c.areas.i _ c.in-Some.ensures.some in
-    left_less c.areas.invariant (text-some (λ (ms : List Made). flat_map area_heading (map (made_panel x) ms)) (λ (m : Made). area_heading (made_panel x m))
+    left_less _ c.areas.invariant (text-some (λ (ms : List Made). flat_map area_heading (map (made_panel x) ms)) (λ (m : Made). area_heading (made_panel x m))
     (λ m rest. refl) d.made c.areas.i _ c.in-Some.ensures.some)
-    (puts_same (ap (heading_text (area_name c.in-Some.area.number)) (c.made_area_note-note.ensures.value
-    ∙ note-same c.in-Some.area.most c.in-Some.area.pages c.pages_of-pages.result.now _ (ap length is ∙ long) is)) c.in_ok-print_area_heading.ensures).ok
-
-pub returns-in_err-print_area_heading : goal.returns-in_err-print_area_heading
-returns-in_err-print_area_heading g c =
-    let d = g.S.Sight.desk c.args.sight.now in
-    let x = scene_at d c.args.step.now in
-    let seen = seen-made c.spelled.ensures c.areas.i _ c.in-Some.ensures.some in
-    let is = owned c.spelled.ensures c.args.step.now.pages.now c.requires.shared (pages.Made c.areas.i)
-    (AreaOf c.in-Some.area.number) c.pages_of-pages.result.now seen c.pages_of-pages.ensures in
-    let long = owned-made c.spelled.ensures c.args.step.now.pages.now c.requires.shared c.areas.i _ c.in-Some.ensures.some in
-    left_breaks _ _ c.areas.invariant (text-some (λ (ms : List Made). flat_map area_heading (map (made_panel x) ms)) (λ (m : Made). area_heading
-    (made_panel x m)) (λ m rest. refl) d.made c.areas.i _ c.in-Some.ensures.some)
-    (puts_same (ap (heading_text (area_name c.in-Some.area.number)) (c.made_area_note-note.ensures.value
-    ∙ note-same c.in-Some.area.most c.in-Some.area.pages c.pages_of-pages.result.now _ (ap length is
-    ∙ long) is)) c.in_err-print_area_heading.ensures) c.from_residual.ensures.0
+    (offered_as _ (ap (heading_text (area_name c.in-Some.area.number)) (c.made_area_note-note.ensures.value
+    ∙ note-same c.in-Some.area.most c.in-Some.area.pages c.pages_of-pages.result.now _ (ap length is ∙ long) is)) c.print_area_heading.ensures)
 
 pub returns : goal.returns
 returns g c =
     let d = g.S.Sight.desk c.args.sight.now in
     let x = scene_at d c.args.step.now in
-    record {
-      ok = left_none c.areas.invariant (text-none (λ (ms : List Made). flat_map area_heading (map
-          (made_panel x) ms)) refl d.made c.areas.i c.in_default.ensures.none);
-      err = tt;
-    }
+    left_none c.areas.invariant (text-none (λ (ms : List Made). flat_map area_heading (map
+    (made_panel x) ms)) refl d.made c.areas.i c.in_default.ensures.none)

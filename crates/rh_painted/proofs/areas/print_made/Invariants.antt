@@ -5,7 +5,7 @@ use Rattle.rh_painted.proofs.areas.print_made.Given as goal
 abbrev pub invariant-areas : goal.invariant-areas
 invariant-areas g l =
     let d = g.S.Sight.desk l.sight in
-    Left (g.W.Sink.output l.initial.writer) (g.W.Sink.output l.writer) (flat_map area_heading (map (made_panel (scene_at d l.step)) d.made))
+    Left (g.P.Pen.offered l.initial.pen) (g.P.Pen.offered l.pen) (flat_map area_heading (map (made_panel (scene_at d l.step)) d.made))
     (flat_map area_heading (map (made_panel (scene_at d l.step)) (drop l.i d.made)))
 
 abbrev pub decreases-areas : goal.decreases-areas

@@ -1,5 +1,5 @@
 use Rattle.rh_painted.proofs.Common.{◌≡◌, List, [], ◌∷◌, length, ap, sym, ◌∙◌, Some, flat_map, BlockItem, item_with_anchor, slide_change, slide_of, change_item}
-use Rattle.rh_painted.proofs.Common.{puts_same}
+use Rattle.rh_painted.proofs.Common.{offered_as}
 use Rattle.rh_drawn.specs.declared.block_changes.Slid.{Slid}
 use Rattle.rh_drawn.specs.DrawnSlides.{summary_of}
 use Rattle.rh_figure.specs.Changes.{Slide, slide_line}
@@ -17,6 +17,6 @@ pub returns-in-Some : goal.returns-in-Some
 returns-in-Some g c =
     let slides = flat_map (λ (b : BlockItem). slide_of b (item_with_anchor b.anchor c.args.kept.now.blocks)) c.args.blocks.now in
     let slid = c.in-Some.slid in
-    puts_same (ap change_item (c.as_slice.ensures ∙ c.blocks_slide-change.ensures.value)
+    offered_as _ (ap change_item (c.as_slice.ensures ∙ c.blocks_slide-change.ensures.value)
     ∙ (sym (parts-one change_item (slide_line slid.count slid.from slid.to))
     ∙ ap (flat_map change_item) (slid-line slides slid (sym c.in-Some.is ∙ c.find_slid.ensures)))) c.print_change.ensures

@@ -1,9 +1,7 @@
-use Rattle.rh_painted.proofs.Common.{drop, flat_map, words_in, arrows_seen, Left}
+use Rattle.rh_painted.proofs.Common.{◌≡◌, ◌++◌, take, flat_map, words_in, arrows_seen}
 use Rattle.rh_painted.proofs.chart.print_all_words.Given as goal
 
--- those from the place on are left
+-- those before the place were offered
 abbrev pub invariant-loop-way : goal.invariant-loop-way
 invariant-loop-way g l =
-    Left (g.W.Sink.output l.initial.writer) (g.W.Sink.output l.writer)
-    (flat_map (words_in l.chart) (arrows_seen l.chart.ways.now))
-    (flat_map (words_in l.chart) (arrows_seen (drop l.way-index l.chart.ways.now)))
+    g.P.Pen.offered l.pen ≡ g.P.Pen.offered l.initial.pen ++ flat_map (words_in l.chart) (arrows_seen (take l.way-index l.chart.ways.now))

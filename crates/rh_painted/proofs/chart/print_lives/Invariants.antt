@@ -1,10 +1,9 @@
-use Rattle.rh_painted.proofs.Common.{drop, flat_map, Left}
+use Rattle.rh_painted.proofs.Common.{◌≡◌, ◌++◌, take, flat_map}
 use Rattle.rh_painted.specs.Inner.Charts.{life_in}
 use Rattle.rh_painted.proofs.chart.print_lives.Given as goal
 
--- those from the place on are left
+-- those before the place were offered
 abbrev pub invariant-loop-task : goal.invariant-loop-task
 invariant-loop-task g l =
-    Left (g.W.Sink.output l.initial.writer) (g.W.Sink.output l.writer)
-    (flat_map (life_in (g.S.Sight.desk l.sight) l.chart) l.chart.tasks.now)
-    (flat_map (life_in (g.S.Sight.desk l.sight) l.chart) (drop l.task-index l.chart.tasks.now))
+    g.P.Pen.offered l.pen
+    ≡ g.P.Pen.offered l.initial.pen ++ flat_map (life_in (g.S.Sight.desk l.sight) l.chart) (take l.task-index l.chart.tasks.now)

@@ -1,4 +1,4 @@
-use Rattle.rh_painted.proofs.Common.{◌≡◌, ◌++◌, ap, ap₂, ◌∙◌, codes, decimal, Text, task_name, escape, puts_same}
+use Rattle.rh_painted.proofs.Common.{◌≡◌, ◌++◌, ap, ap₂, ◌∙◌, codes, decimal, Text, task_name, escape, offered_as}
 use Rattle.rh_sheet.specs.Chart.{stop_sentence}
 use Rattle.rh_painted.specs.Ways.{way_words}
 use Rattle.rh_painted.proofs.ChartLemmas.{nine-parts}
@@ -28,4 +28,4 @@ returns g c =
     let e8 : c.add_stop.new.row ≡ t7 ++ stop_sentence w.stop = c.add_stop.ensures ∙ ap (λ z. z ++ stop_sentence w.stop) e7 in
     let parts =
     nine-parts words (codes " from ") from (codes " to ") to (codes ", sent at ") (decimal w.start) (codes ", ") (stop_sentence w.stop) in
-    puts_same (ap escape (c.as_slice.ensures ∙ (e8 ∙ parts))) c.put_escaped.ensures
+    offered_as _ (ap escape (c.as_slice.ensures ∙ (e8 ∙ parts))) c.put_escaped.ensures

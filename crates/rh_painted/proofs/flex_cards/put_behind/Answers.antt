@@ -1,11 +1,11 @@
-use Rattle.rh_painted.proofs.Common.{◌≡◌, ◌<◌, ◌-◌, ◌++◌, [], ◌∷◌, Some, length, ap, ap₂, sym, ◌∙◌, arith, slice_get, BlockItem, block_items, flex_start}
-use Rattle.rh_painted.proofs.Common.{flex_cards, IsTaskSeen, scene_at, flex-long, seen-same, puts_same, band_text_from, form_text}
+use Rattle.rh_painted.proofs.Common.{◌≡◌, ◌<◌, ◌-◌, [], ◌∷◌, Some, length, ap, ap₂, sym, ◌∙◌, arith, slice_get, BlockItem, block_items, flex_start}
+use Rattle.rh_painted.proofs.Common.{flex_cards, IsTaskSeen, scene_at, flex-long, seen-same, offered_as, band_text_from, form_text}
 use Rattle.std.proofs.lemmas.Option.{slice_get-get_or}
 use Rattle.rh_figure.specs.Cards.{more_card}
 use Rattle.rh_figure.specs.Layout.{is_fresh_flex}
 use Rattle.rh_drawn.specs.DrawnCards.{place_behind}
 use Rattle.rh_drawn.proofs.CardLemmas.{behind-are, flex-picked, flex-unpicked}
-use Rattle.rh_painted.proofs.TextPuts.{text_last, text_stop, text_then}
+use Rattle.rh_painted.proofs.TextPuts.{text_last, text_then}
 use Rattle.rh_painted.proofs.flex_cards.put_behind.Goals as goal
 
 pub offset_bounds-blocks-k : goal.offset_bounds-blocks-k
@@ -62,8 +62,8 @@ put_flex-requires-clause-block g c =
           (sym c.index-blocks-k.is)),
     )
 
-pub returns-in_err-put_flex-in-Some : goal.returns-in_err-put_flex-in-Some
-returns-in_err-put_flex-in-Some g c = λ t e.
+pub returns-in-Some : goal.returns-in-Some
+returns-in-Some g c = λ t e.
     let d = g.S.Sight.desk c.args.sight.now in
     let x = scene_at d c.args.step.now in
     let r = c.requires.task in
@@ -78,31 +78,10 @@ returns-in_err-put_flex-in-Some g c = λ t e.
     let low : k < length c.args.blocks.now = omega (arith, p.low, long) in
     let listed = ap (λ bs. slice_get bs k) (sym are) ∙ (slice_get-get_or c.args.blocks.now k c.index-blocks-k.result low ∙ ap (λ z. Some z)
     (sym c.index-blocks-k.is)) in
-    let more = more_card (length cs - 22 - 1) in
-    puts_same (ap (band_text_from c.args.form 22) (sym (behind-are cs (p.card ∷ []) p.first)))
-    (text_stop _ (form_text c.args.form (22, p.card)) (form_text c.args.form (23, more) ++ [])
-    (c.in_err-put_flex-in-Some.ensures t k p.card e listed p.at) c.from_residual.ensures.0)
-
-pub returns-in_ok-put_flex-in-Some : goal.returns-in_ok-put_flex-in-Some
-returns-in_ok-put_flex-in-Some g c = λ t e.
-    let d = g.S.Sight.desk c.args.sight.now in
-    let x = scene_at d c.args.step.now in
-    let r = c.requires.task in
-    let are : c.args.blocks.now ≡ block_items t.slot = seen-same (λ u. c.args.blocks.now ≡ block_items u.slot) d.tasks c.args.i r.0 t r.1 e r.3 in
-    let seen = seen-same (IsTaskSeen c.args.task.now) d.tasks c.args.i r.0 t r.1 e r.2 in
-    let cs = flex_cards x t in
-    let long : length cs ≡ length c.args.blocks.now = flex-long x t (flex_start t.slot) t.slot.blocks ∙ ap length (sym are) in
-    let found = ap₂ (λ h bs. place_behind (λ (b : BlockItem). is_fresh_flex x h b.anchor b.size) 22 bs) (sym seen.handle) (sym are) ∙ (sym
-    (c.next_fresh.ensures d) ∙ c.in-Some.is) in
-    let k = c.in-Some.k in
-    let p = flex-picked x t k found in
-    let low : k < length c.args.blocks.now = omega (arith, p.low, long) in
-    let listed = ap (λ bs. slice_get bs k) (sym are) ∙ (slice_get-get_or c.args.blocks.now k c.index-blocks-k.result low ∙ ap (λ z. Some z)
-    (sym c.index-blocks-k.is)) in
-    let more = more_card (length cs - 22 - 1) in
-    puts_same (ap (band_text_from c.args.form 22) (sym (behind-are cs (p.card ∷ []) p.first)))
-    (text_then (form_text c.args.form (22, p.card)) (form_text c.args.form (23, more) ++ []) (c.in_ok-put_flex-in-Some.ensures t k p.card e listed p.at)
-    (text_last (puts_same (ap (λ m. form_text c.args.form (23, more_card (m - 22 - 1))) (sym long)) c.put_others.ensures)))
+    offered_as _ (ap (band_text_from c.args.form 22) (sym (behind-are cs (p.card ∷ []) p.first)))
+    (text_then (g.P.Pen.offered c.args.pen.now) _ _ (c.put_flex.ensures t k p.card e listed p.at)
+    (text_last (g.P.Pen.offered c.put_flex.new.pen) _
+    (offered_as _ (ap (λ m. form_text c.args.form (23, more_card (m - 22 - 1))) (sym long)) c.put_others.ensures)))
 
 pub returns-in-None : goal.returns-in-None
 returns-in-None g c = λ t e.
@@ -117,5 +96,5 @@ returns-in-None g c = λ t e.
     (c.next_fresh.ensures d) ∙ c.in-None.is) in
     let none = flex-unpicked x t found in
     let all : length cs - 22 ≡ length cs - 22 - 0 = omega arith in
-    puts_same (ap (band_text_from c.args.form 22) (ap (λ m. more_card (m - 22) ∷ []) (sym long) ∙ (ap (λ m. more_card m ∷ []) all ∙ sym
-    (behind-are cs [] none)))) (text_last c.put_others-in-None.ensures)
+    offered_as _ (ap (band_text_from c.args.form 22) (ap (λ m. more_card (m - 22) ∷ []) (sym long) ∙ (ap (λ m. more_card m ∷ []) all ∙ sym
+    (behind-are cs [] none)))) (text_last _ _ c.put_others-in-None.ensures)

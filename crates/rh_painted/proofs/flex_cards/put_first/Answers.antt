@@ -1,5 +1,5 @@
 use Rattle.rh_painted.proofs.Common.{◌≡◌, ◌<◌, Some, length, take, ap, sym, ◌∙◌, arith, slice_get, length-take, block_items, flex_start, flex_cards}
-use Rattle.rh_painted.proofs.Common.{left_breaks, left_less, left_none, left_whole, scene_at, flex-long, seen-same}
+use Rattle.rh_painted.proofs.Common.{left_less, left_none, left_whole, scene_at, flex-long, seen-same}
 use Rattle.std.proofs.lemmas.Option.{slice_get-get_or}
 use Rattle.rh_drawn.proofs.CardLemmas.{card-at, get-front}
 use Rattle.rh_painted.proofs.BandLemmas.{band-end, band-some}
@@ -19,34 +19,16 @@ loop-k-preserved g c = λ t e.
     let low : k < length cs = omega (arith, flex-long x t (flex_start t.slot) t.slot.blocks, ap length are, c.requires.few, c.loop-k-test.true) in
     let q = card-at k cs low in
     let at : slice_get (take c.args.shown cs) k ≡ Some q.card = get-front c.args.shown k cs c.loop-k-test.true ∙ q.is in
-    left_less (c.loop-k.invariant t e) (band-some c.args.form (take c.args.shown cs) k q.card at) (c.in_ok-put_flex.ensures t k q.card e (ap
+    left_less _ (c.loop-k.invariant t e) (band-some c.args.form (take c.args.shown cs) k q.card at) (c.put_flex.ensures t k q.card e (ap
     (λ bs. slice_get bs k) (sym are) ∙ (slice_get-get_or c.args.blocks.now k c.index-blocks-k.result (omega (arith, c.requires.few, c.loop-k-test.true)) ∙ ap
-    (λ z. Some z) (sym c.index-blocks-k.is))) q.is).ok
-
-pub returns-in_err-put_flex : goal.returns-in_err-put_flex
-returns-in_err-put_flex g c = λ t e.
-    let d = g.S.Sight.desk c.args.sight.now in
-    let x = scene_at d c.args.step.now in
-    let k = c.loop-k.k in
-    let cs = flex_cards x t in
-    let r = c.requires.task in
-    let are : c.args.blocks.now ≡ block_items t.slot = seen-same (λ u. c.args.blocks.now ≡ block_items u.slot) d.tasks c.args.i r.0 t r.1 e r.3 in
-    let low : k < length cs = omega (arith, flex-long x t (flex_start t.slot) t.slot.blocks, ap length are, c.requires.few, c.loop-k-test.true) in
-    let q = card-at k cs low in
-    let at : slice_get (take c.args.shown cs) k ≡ Some q.card = get-front c.args.shown k cs c.loop-k-test.true ∙ q.is in
-    left_breaks _ _ (c.loop-k.invariant t e) (band-some c.args.form (take c.args.shown cs) k q.card at) (c.in_err-put_flex.ensures t k q.card e (ap
-    (λ bs. slice_get bs k) (sym are) ∙ (slice_get-get_or c.args.blocks.now k c.index-blocks-k.result (omega (arith, c.requires.few, c.loop-k-test.true)) ∙ ap
-    (λ z. Some z) (sym c.index-blocks-k.is))) q.is) c.from_residual.ensures.0
+    (λ z. Some z) (sym c.index-blocks-k.is))) q.is)
 
 pub returns : goal.returns
 returns g c = λ t e.
     let cs = take c.args.shown (flex_cards (scene_at (g.S.Sight.desk c.args.sight.now) c.args.step.now) t) in
-    record {
-      ok = left_none (c.loop-k.invariant t e) (band-end c.args.form cs c.loop-k.k (omega (
-        arith,
-        length-take c.args.shown (flex_cards (scene_at
-            (g.S.Sight.desk c.args.sight.now) c.args.step.now) t),
-        c.loop-k-test.false,
-      )));
-      err = tt;
-    }
+    left_none (c.loop-k.invariant t e) (band-end c.args.form cs c.loop-k.k (omega (
+      arith,
+      length-take c.args.shown (flex_cards (scene_at
+          (g.S.Sight.desk c.args.sight.now) c.args.step.now) t),
+      c.loop-k-test.false,
+    )))

@@ -6,4 +6,4 @@ abbrev pub invariant-loop-k : goal.invariant-loop-k
 invariant-loop-k g l =
     (t : Task) → slice_get (g.S.Sight.desk l.sight).tasks l.i ≡ Some t →
     let cards = take l.shown (flex_cards (scene_at (g.S.Sight.desk l.sight) l.step) t) in
-    Left (g.W.Sink.output l.initial.writer) (g.W.Sink.output l.writer) (band_text_from l.form 0 cards) (band_text_from l.form l.k (drop l.k cards))
+    Left (g.P.Pen.offered l.initial.pen) (g.P.Pen.offered l.pen) (band_text_from l.form 0 cards) (band_text_from l.form l.k (drop l.k cards))

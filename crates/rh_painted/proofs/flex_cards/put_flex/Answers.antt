@@ -1,5 +1,5 @@
 use Rattle.rh_painted.proofs.Common.{ℕ, ◌++◌, List, [], ◌∷◌, length, take, ap, ap₂, refl, sym, ◌∙◌, arith, find, length-take, flex_start, size_text}
-use Rattle.rh_painted.proofs.Common.{IsTaskSeen, scene_at, seen-same, puts_same, form_text}
+use Rattle.rh_painted.proofs.Common.{IsTaskSeen, scene_at, seen-same, offered_as, form_text}
 use Rattle.rh_defs.specs.Records.{is_document, is_source}
 use Rattle.rh_figure.specs.Cards.{FlexCard, in_use_text, out_use_text}
 use Rattle.rh_figure.specs.Layout.{is_fresh_flex}
@@ -35,5 +35,5 @@ returns g c = λ t k card e listed shown.
     (is_document b.anchor) in_))) seen.sending seen.taking in
     let second = c.as_slice-2.ensures ∙ (c.block_size-size.ensures.value ∙ ap₂ (λ m u. size_text m ++ u) (sym here.size) used) in
     let third = c.as_slice-3.ensures ∙ (c.block_bytes-first.ensures.value ∙ front-bytes b.size _ bytes (record { whole = here.size; first = first })) in
-    puts_same (ap (λ z. form_text c.args.form (c.args.at, z)) (card-same FlexCard (c.as_slice.ensures ∙ c.flex_name-name.ensures.value) second third fresh
+    offered_as _ (ap (λ z. form_text c.args.form (c.args.at, z)) (card-same FlexCard (c.as_slice.ensures ∙ c.flex_name-name.ensures.value) second third fresh
     ∙ sym here.card_is)) c.put_card.ensures

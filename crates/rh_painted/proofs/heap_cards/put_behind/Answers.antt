@@ -1,10 +1,10 @@
-use Rattle.rh_painted.proofs.Common.{◌++◌, ◌≡◌, ◌∙◌, ◌+◌, ◌-◌, [], ◌∷◌, length, ap, sym, arith, heap_seen, heap_start_of, scene_at, at-some, band_cards}
-use Rattle.rh_painted.proofs.Common.{if-heap, puts_same, band_text_from, form_text}
+use Rattle.rh_painted.proofs.Common.{◌≡◌, ◌∙◌, ◌+◌, ◌-◌, [], ◌∷◌, length, ap, sym, arith, heap_seen, heap_start_of, scene_at, at-some, band_cards}
+use Rattle.rh_painted.proofs.Common.{if-heap, offered_as, band_text_from, form_text}
 use Rattle.rh_figure.specs.Cards.{more_card}
 use Rattle.rh_drawn.specs.Bands.{IsSurvey, band_card}
 use Rattle.rh_drawn.proofs.CardLemmas.{behind-are}
 use Rattle.rh_drawn.proofs.HeapLemmas.{band-heap, band-long, band-none, band-some}
-use Rattle.rh_painted.proofs.TextPuts.{text_last, text_stop, text_then}
+use Rattle.rh_painted.proofs.TextPuts.{text_last, text_then}
 use Rattle.rh_painted.proofs.heap_cards.put_behind.Goals as goal
 
 pub put_segment-requires-clause-segment : goal.put_segment-requires-clause-segment
@@ -18,24 +18,8 @@ put_segment-requires-clause-segment g c =
     let p = band-some x d b there.heap c.requires.band s is c.in-Some.item c.in-Some.is there.is in
     (p.place, p.segment, p.has, p.item_is)
 
-pub returns-in_err-put_segment-in-Some : goal.returns-in_err-put_segment-in-Some
-returns-in_err-put_segment-in-Some g c =
-    let d = g.S.Sight.desk c.args.sight.now in
-    let x = scene_at d c.args.step.now in
-    let b = c.args.band.now in
-    let s = c.args.survey.now in
-    if-heap (heap_seen b.heap d) _ (λ h e.
-    let cs = band_cards x d b h in
-    let is = at-some (heap_seen b.heap d) (λ z. IsSurvey x b z s) h e c.requires.survey in
-    let p = band-some x d b h c.requires.band s is c.in-Some.item c.in-Some.is e in
-    let card = band_card x d b (heap_start_of b.heap + p.place) p.segment in
-    let more = more_card (length cs - 22 - 1) in
-    puts_same (ap (band_text_from c.args.form 22) (sym (behind-are cs (card ∷ []) p.first)))
-    (text_stop _ (form_text c.args.form (22, card)) (form_text c.args.form (23, more) ++ [])
-    (c.in_err-put_segment-in-Some.ensures p.place p.segment p.has p.item_is) c.from_residual.ensures.0))
-
-pub returns-in_ok-put_segment-in-Some : goal.returns-in_ok-put_segment-in-Some
-returns-in_ok-put_segment-in-Some g c =
+pub returns-in-Some : goal.returns-in-Some
+returns-in-Some g c =
     let d = g.S.Sight.desk c.args.sight.now in
     let x = scene_at d c.args.step.now in
     let b = c.args.band.now in
@@ -46,11 +30,10 @@ returns-in_ok-put_segment-in-Some g c =
     let p = band-some x d b h c.requires.band s is c.in-Some.item c.in-Some.is e in
     let long = band-long x d b h c.requires.band s is in
     let card = band_card x d b (heap_start_of b.heap + p.place) p.segment in
-    let more = more_card (length cs - 22 - 1) in
-    puts_same (ap (band_text_from c.args.form 22) (sym (behind-are cs (card ∷ []) p.first)))
-    (text_then (form_text c.args.form (22, card)) (form_text c.args.form (23, more) ++ [])
-    (c.in_ok-put_segment-in-Some.ensures p.place p.segment p.has p.item_is)
-    (text_last (puts_same (ap (λ m. form_text c.args.form (23, more_card (m - 22 - 1))) long) c.put_others.ensures))))
+    offered_as _ (ap (band_text_from c.args.form 22) (sym (behind-are cs (card ∷ []) p.first)))
+    (text_then (g.P.Pen.offered c.args.pen.now) _ _ (c.put_segment.ensures p.place p.segment p.has p.item_is)
+    (text_last (g.P.Pen.offered c.put_segment.new.pen) _
+    (offered_as _ (ap (λ m. form_text c.args.form (23, more_card (m - 22 - 1))) long) c.put_others.ensures))))
 
 pub returns-in-None : goal.returns-in-None
 returns-in-None g c =
@@ -64,5 +47,5 @@ returns-in-None g c =
     let none = band-none x d b h c.requires.band s is c.in-None.is in
     let long = band-long x d b h c.requires.band s is in
     let all : length cs - 22 ≡ length cs - 22 - 0 = omega arith in
-    puts_same (ap (band_text_from c.args.form 22) (ap (λ m. more_card (m - 22) ∷ []) long ∙ (ap (λ m. more_card m ∷ []) all ∙ sym (behind-are cs [] none))))
-    (text_last c.put_others-in-None.ensures))
+    offered_as _ (ap (band_text_from c.args.form 22) (ap (λ m. more_card (m - 22) ∷ []) long ∙ (ap (λ m. more_card m ∷ []) all ∙ sym (behind-are cs [] none))))
+    (text_last _ _ c.put_others-in-None.ensures))

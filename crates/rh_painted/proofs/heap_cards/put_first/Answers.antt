@@ -1,4 +1,4 @@
-use Rattle.rh_painted.proofs.Common.{◌∙◌, ◌≤◌, length, take, ap, arith, slice_get, length-take, slice_get_within, left_breaks, left_less, left_none}
+use Rattle.rh_painted.proofs.Common.{◌∙◌, ◌≤◌, length, take, ap, arith, slice_get, length-take, slice_get_within, left_less, left_none}
 use Rattle.rh_painted.proofs.Common.{left_whole, heap_seen, heap_start_of, scene_at, at-some, band_cards, from-first, if-heap}
 use Rattle.rh_sight.proofs.Heaps.{comes-parts}
 use Rattle.rh_drawn.proofs.CardLemmas.{get-front}
@@ -47,24 +47,8 @@ loop-k-preserved g c = λ h e.
     let q = in-band x d b h k e (omega (arith, few, c.loop-k-test.true)) in
     let here = told-here (heap_start_of b.heap) h _ k e c.segments-items.ensures (omega (arith, c.requires.few, c.loop-k-test.true)) in
     let at = get-front c.args.shown k cs c.loop-k-test.true ∙ q.card_at in
-    left_less (c.loop-k.invariant h e) (band-some c.args.form (take c.args.shown cs) k _ at)
-    (c.in_ok-put_segment.ensures q.place q.segment q.has (got-is _ k _ _ (ap (λ xs. slice_get xs k) c.as_slice-first.ensures.value ∙ (here ∙ q.item_at)))).ok
-
-pub returns-in_err-put_segment : goal.returns-in_err-put_segment
-returns-in_err-put_segment g c =
-    let d = g.S.Sight.desk c.args.sight.now in
-    let x = scene_at d c.args.step.now in
-    let b = c.args.band.now in
-    let k = c.loop-k.k in
-    if-heap (heap_seen b.heap d) _ (λ h e.
-    let cs = band_cards x d b h in
-    let few = at-some (heap_seen b.heap d) (λ z. c.args.shown ≤ length z.segments) h e c.requires.there in
-    let q = in-band x d b h k e (omega (arith, few, c.loop-k-test.true)) in
-    let here = told-here (heap_start_of b.heap) h _ k e c.segments-items.ensures (omega (arith, c.requires.few, c.loop-k-test.true)) in
-    let at = get-front c.args.shown k cs c.loop-k-test.true ∙ q.card_at in
-    left_breaks _ _ (c.loop-k.invariant h e) (band-some c.args.form (take c.args.shown cs) k _ at)
-    (c.in_err-put_segment.ensures q.place q.segment q.has (got-is _ k _ _ (ap (λ xs. slice_get xs k) c.as_slice-first.ensures.value ∙ (here
-    ∙ q.item_at)))) c.from_residual.ensures.0)
+    left_less _ (c.loop-k.invariant h e) (band-some c.args.form (take c.args.shown cs) k _ at)
+    (c.put_segment.ensures q.place q.segment q.has (got-is _ k _ _ (ap (λ xs. slice_get xs k) c.as_slice-first.ensures.value ∙ (here ∙ q.item_at))))
 
 pub returns : goal.returns
 returns g c =
@@ -73,12 +57,9 @@ returns g c =
     let b = c.args.band.now in
     if-heap (heap_seen b.heap d) _ (λ h e.
     let cs = take c.args.shown (band_cards x d b h) in
-    record {
-      ok = left_none (c.loop-k.invariant h e) (band-end c.args.form cs c.loop-k.k (omega (
-        arith,
-        length-take c.args.shown
-            (band_cards x d b h),
-        c.loop-k-test.false,
-      )));
-      err = tt;
-    })
+    left_none (c.loop-k.invariant h e) (band-end c.args.form cs c.loop-k.k (omega (
+      arith,
+      length-take c.args.shown
+          (band_cards x d b h),
+      c.loop-k-test.false,
+    ))))

@@ -7,6 +7,6 @@ abbrev pub invariant-loop-k : goal.invariant-loop-k
 invariant-loop-k g l =
     let d = g.S.Sight.desk l.sight in
     (h : Heap) → heap_seen l.band.heap d ≡ Some h →
-    Left (g.W.Sink.output l.initial.writer) (g.W.Sink.output l.writer)
+    Left (g.P.Pen.offered l.initial.pen) (g.P.Pen.offered l.pen)
     (band_text_from l.form 0 (take l.shown (band_cards (scene_at d l.step) d l.band h)))
     (band_text_from l.form l.k (drop l.k (take l.shown (band_cards (scene_at d l.step) d l.band h))))

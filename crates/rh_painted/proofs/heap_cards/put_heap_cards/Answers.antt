@@ -1,11 +1,11 @@
-use Rattle.rh_painted.proofs.Common.{◌≡◌, ◌+◌, ◌∙◌, length, take, ap, sym, arith, take_all, heap_seen, scene_at, at-some, band_cards, cards_behind, if-heap}
-use Rattle.rh_painted.proofs.Common.{puts_same, band_text_from}
+use Rattle.rh_painted.proofs.Common.{◌≡◌, ◌∙◌, length, take, ap, sym, arith, take_all, heap_seen, scene_at, at-some, band_cards, if-heap}
+use Rattle.rh_painted.proofs.Common.{offered_as, band_text_from}
 use Rattle.rh_drawn.specs.Bands.{IsSurvey}
 use Rattle.rh_drawn.specs.DrawnCards.{count_shown}
-use Rattle.rh_drawn.proofs.CardLemmas.{count-few, count-many, count-most, count-within, shown-few, shown-parts, shown-split, some-count}
+use Rattle.rh_drawn.proofs.CardLemmas.{count-few, count-many, count-most, count-within, shown-few, shown-parts, some-count}
 use Rattle.rh_drawn.proofs.HeapLemmas.{band-long, band-many}
-use Rattle.rh_painted.proofs.TextPuts.{text_stop, text_then}
-use Rattle.rh_painted.proofs.BandLemmas.{band-append, shown-behind}
+use Rattle.rh_painted.proofs.BandLemmas.{shown-behind}
+use Rattle.rh_painted.proofs.TextPuts.{text_then}
 use Rattle.rh_painted.proofs.heap_cards.put_heap_cards.Goals as goal
 
 pub put_first-requires-clause-few : goal.put_first-requires-clause-few
@@ -21,23 +21,6 @@ put_first-requires-clause-there g c =
     let is = at-some (heap_seen b.heap d) (λ z. IsSurvey x b z s) h e c.take_survey-survey.ensures in
     omega (arith, c.shown_count-shown.ensures, count-within s.count, band-many x d b h c.requires.band s is))
 
-pub returns-in_err-put_first : goal.returns-in_err-put_first
-returns-in_err-put_first g c =
-    let d = g.S.Sight.desk c.args.sight.now in
-    let x = scene_at d c.args.step.now in
-    let b = c.args.band.now in
-    let s = c.take_survey-survey.result in
-    if-heap (heap_seen b.heap d) _ (λ h e.
-    let cs = band_cards x d b h in
-    let is = at-some (heap_seen b.heap d) (λ z. IsSurvey x b z s) h e c.take_survey-survey.ensures in
-    let n : c.shown_count-shown.result ≡ count_shown (length cs) = c.shown_count-shown.ensures ∙ ap count_shown (band-long x d b h c.requires.band s is) in
-    let first = at-some (heap_seen b.heap d) _ h e c.in_err-put_first.ensures in
-    let split = shown-split cs in
-    let front = take (count_shown (length cs)) cs in
-    puts_same (sym (ap (band_text_from c.args.form 0) split.is ∙ band-append c.args.form 0 front split.behind))
-    (text_stop _ (band_text_from c.args.form 0 front) (band_text_from c.args.form (0 + length front) split.behind) (puts_same (ap
-    (λ m. band_text_from c.args.form 0 (take m cs)) n) first) c.from_residual.ensures.0))
-
 pub returns-then-shown-survey : goal.returns-then-shown-survey
 returns-then-shown-survey g c =
     let d = g.S.Sight.desk c.args.sight.now in
@@ -49,9 +32,9 @@ returns-then-shown-survey g c =
     let is = at-some (heap_seen b.heap d) (λ z. IsSurvey x b z s) h e c.take_survey-survey.ensures in
     let long = band-long x d b h c.requires.band s is in
     let n : c.shown_count-shown.result ≡ count_shown (length cs) = c.shown_count-shown.ensures ∙ ap count_shown long in
-    let first = at-some (heap_seen b.heap d) _ h e c.in_ok-put_first.ensures in
+    let first = at-some (heap_seen b.heap d) _ h e c.put_first.ensures in
     let few = count-few (length cs) (sym n ∙ (c.if-shown-survey.true ∙ long)) in
-    puts_same (ap (band_text_from c.args.form 0) (take_all c.shown_count-shown.result cs (omega (arith, c.if-shown-survey.true, long)) ∙ sym
+    offered_as _ (ap (band_text_from c.args.form 0) (take_all c.shown_count-shown.result cs (omega (arith, c.if-shown-survey.true, long)) ∙ sym
     (shown-few cs few))) first)
 
 pub put_behind-requires-clause-many : goal.put_behind-requires-clause-many
@@ -68,9 +51,9 @@ returns g c =
     let is = at-some (heap_seen b.heap d) (λ z. IsSurvey x b z s) h e c.take_survey-survey.ensures in
     let long = band-long x d b h c.requires.band s is in
     let n : c.shown_count-shown.result ≡ count_shown (length cs) = c.shown_count-shown.ensures ∙ ap count_shown long in
-    let first = at-some (heap_seen b.heap d) _ h e c.in_ok-put_first.ensures in
+    let first = at-some (heap_seen b.heap d) _ h e c.put_first.ensures in
     let behind = at-some (heap_seen b.heap d) _ h e c.put_behind.ensures in
     let many = count-many (length cs) (λ q. c.if-shown-survey.false (n ∙ (q ∙ sym long))) in
-    puts_same (sym (ap (band_text_from c.args.form 0) (shown-parts cs many) ∙ shown-behind c.args.form cs many))
-    (text_then (band_text_from c.args.form 0 (take 22 cs)) (band_text_from c.args.form 22 (cards_behind cs)) (puts_same (ap
+    offered_as _ (sym (ap (band_text_from c.args.form 0) (shown-parts cs many) ∙ shown-behind c.args.form cs many))
+    (text_then _ _ _ (offered_as _ (ap
     (λ m. band_text_from c.args.form 0 (take m cs)) (n ∙ some-count (length cs) many)) first) behind))

@@ -1,4 +1,4 @@
-use Rattle.rh_painted.proofs.Common.{[], ◌∷◌, ap, ap₂, ◌∙◌, codes, ◌==◌, decimal, concat, task_name, scene_at, puts_same, form_text}
+use Rattle.rh_painted.proofs.Common.{[], ◌∷◌, ap, ap₂, ◌∙◌, codes, ◌==◌, decimal, concat, task_name, scene_at, offered_as, form_text}
 use Rattle.rh_defs.specs.Messages.{code_number}
 use Rattle.rh_defs.specs.Text.{action_name}
 use Rattle.rh_figure.specs.Cards.{PostCard, between_text}
@@ -23,4 +23,4 @@ returns g c = λ p found is.
     let third = c.as_slice-3.ensures ∙ (c.message_place-chain.ensures.value ∙ ap₂ (λ z w. concat (decimal
     (code_number z) ∷ codes ", " ∷ w ∷ [])) is.code place) in
     let fresh = c.is_new_ref-fresh.ensures ∙ ap (λ n. n == x.before.next_ref) is.my_ref in
-    puts_same (ap (λ z. form_text c.args.form (c.args.at, z)) (card-same PostCard first second third fresh)) c.put_card.ensures
+    offered_as _ (ap (λ z. form_text c.args.form (c.args.at, z)) (card-same PostCard first second third fresh)) c.put_card.ensures

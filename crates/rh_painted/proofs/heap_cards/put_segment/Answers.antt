@@ -1,5 +1,5 @@
 use Rattle.rh_painted.proofs.Common.{◌≡◌, ◌∙◌, ℕ, ◌+◌, ◌-◌, ◌++◌, Option, Some, None, ap, sym, subst, arith, ◌==◌, find, Parcel, MessageItem, held_on}
-use Rattle.rh_painted.proofs.Common.{message_items, waiting_on, heap_seen, heap_start_of, scene_at, puts_same, form_text}
+use Rattle.rh_painted.proofs.Common.{message_items, waiting_on, heap_seen, heap_start_of, scene_at, offered_as, form_text}
 use Rattle.rh_defs.specs.Post.{post_is_message}
 use Rattle.rh_figure.specs.Scene.{live, message_of_scene}
 use Rattle.rh_sight.specs.declared.sight.HeapOf.{HeapOf}
@@ -34,7 +34,7 @@ returns-in-Task g c = λ place segment has is.
     let q = used-here (start + place) a c.in-Used.size segment (sym is ∙ c.in-Used.is) in
     let at : place ≡ a - start - 4 = omega (arith, q.at) in
     let P : ℕ → Type 0 = λ z. SeesBlock (heap_seen b.heap d) z q.bytes in
-    puts_same (ap (λ z. form_text c.args.form (c.args.at, z)) (task-is x d b c.in-Task.field-0
+    offered_as _ (ap (λ z. form_text c.args.form (c.args.at, z)) (task-is x d b c.in-Task.field-0
     (start + place) a c.in-Used.size segment c.in-Task.is c.requires.band q))
     (c.put_used.ensures d q.bytes c.requires.step (subst P at (has-block q.bytes has q.is)) q.size)
 
@@ -51,7 +51,7 @@ returns-in-Some g c = λ place segment has is.
     (sym c.message_at.ensures ∙ c.in-Some.is) in
     let T : Option MessageItem → Type 0 = λ z. Told at z (message_of_scene x at) in
     let w = told-some at c.in-Some.message (message_of_scene x at) (subst T here (message-told at d)) in
-    puts_same (ap (λ z. form_text c.args.form (c.args.at, z)) (posted-is x d b (start + place) a c.in-Used.size segment w.parcel c.in-Module.is w.is q))
+    offered_as _ (ap (λ z. form_text c.args.form (c.args.at, z)) (posted-is x d b (start + place) a c.in-Used.size segment w.parcel c.in-Module.is w.is q))
     (c.put_message.ensures w.parcel (ap (λ n. find (λ (z : Parcel). z.block == n) (live x)) w.at ∙ w.is) w.item)
 
 pub returns-in-None : goal.returns-in-None
@@ -68,5 +68,6 @@ returns-in-None g c = λ place segment has is.
     let none = told-none at (message_of_scene x at) (subst T here (message-told at d)) in
     let there : place ≡ a - start - 4 = omega (arith, q.at) in
     let P : ℕ → Type 0 = λ z. SeesBlock (heap_seen b.heap d) z q.bytes in
-    puts_same (ap (λ z. form_text c.args.form (c.args.at, z)) (module-is x d b (start + place) a c.in-Used.size segment c.in-Module.is c.requires.band none q))
+    offered_as _
+    (ap (λ z. form_text c.args.form (c.args.at, z)) (module-is x d b (start + place) a c.in-Used.size segment c.in-Module.is c.requires.band none q))
     (c.put_used-in-None.ensures d q.bytes c.requires.step (subst P there (has-block q.bytes has q.is)) q.size)

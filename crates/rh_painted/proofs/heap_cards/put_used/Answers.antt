@@ -1,5 +1,5 @@
 use Rattle.rh_painted.proofs.Common.{◌≡◌, ℕ, ◌-◌, ◌++◌, List, [], ◌∷◌, length, take, ap, ap₂, sym, subst, ◌∙◌, arith, codes, if◌then◌else◌, ◌==◌, length-take}
-use Rattle.rh_painted.proofs.Common.{Text, size_text, heap_seen, heap_start_of, puts_same, form_text}
+use Rattle.rh_painted.proofs.Common.{Text, size_text, heap_seen, heap_start_of, offered_as, form_text}
 use Rattle.rh_defs.specs.Text.{address}
 use Rattle.rh_figure.specs.Cards.{UsedCard}
 use Rattle.rh_sight.specs.Seen.{SeesBlock}
@@ -22,4 +22,4 @@ returns g c = λ d bytes step block size.
     (if length u == 0 then codes "used " else codes "buffer ") ++ address a) used) in
     let second = c.as_slice-2.ensures ∙ (c.block_size-size.ensures.value ∙ ap₂ (λ m u. size_text m ++ u) (sym size) used) in
     let third = c.as_slice-3.ensures ∙ (c.block_bytes-first.ensures.value ∙ front-bytes c.args.size _ bytes (record { whole = size; first = front })) in
-    puts_same (ap (λ z. form_text c.args.form (c.args.at, z)) (card-same UsedCard first second third (c.is_changed.ensures d))) c.put_card.ensures
+    offered_as _ (ap (λ z. form_text c.args.form (c.args.at, z)) (card-same UsedCard first second third (c.is_changed.ensures d))) c.put_card.ensures

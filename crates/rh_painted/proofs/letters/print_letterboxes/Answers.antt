@@ -1,5 +1,5 @@
-use Rattle.rh_painted.proofs.Common.{◌≡◌, ◌<◌, ◌∙◌, List, ℕ, length, ap, ap₂, subst, refl, arith, flat_map, slice_get_within, Task, letterboxes_in}
-use Rattle.rh_painted.proofs.Common.{letterboxes, letterbox_row, scene_at, Left, left_breaks, left_less, left_none, left_whole, puts_same}
+use Rattle.rh_painted.proofs.Common.{◌≡◌, ◌<◌, ◌∙◌, length, ap, ap₂, refl, arith, flat_map, slice_get_within, Task, letterboxes_in}
+use Rattle.rh_painted.proofs.Common.{letterboxes, letterbox_row, scene_at, left_less, left_none, left_from, offered_as}
 use Rattle.rh_painted.proofs.TableLemmas.{boxes, boxes-are}
 use Rattle.rh_painted.proofs.TextWalks.{text-flat, text-none, text-some}
 use Rattle.rh_painted.proofs.letters.print_letterboxes.Goals as goal
@@ -8,13 +8,11 @@ pub tasks-init : goal.tasks-init
 tasks-init g c =
     let d = g.S.Sight.desk c.args.sight.now in
     let ms = c.args.step.now.messages.now in
-    let s = g.W.Sink.output c.args.writer.now in
     let whole = flat_map letterbox_row (letterboxes (scene_at d c.args.step.now)) in
     let are : whole ≡ flat_map (λ (t : Task). flat_map letterbox_row (letterboxes_in t.name t.handle ms)) d.tasks =
     ap (flat_map letterbox_row) (boxes-are c.spelled.ensures ms c.requires.step.messages d.tasks)
     ∙ text-flat letterbox_row (boxes ms) d.tasks in
-    let P : List ℕ → Type 0 = λ z. Left s s whole z in
-    subst P are (left_whole s whole)
+    left_from _ are
 
 pub tasks-preserved : goal.tasks-preserved
 tasks-preserved g c =
@@ -24,17 +22,7 @@ tasks-preserved g c =
     let of_one = λ (t : Task). flat_map letterbox_row (letterboxes_in t.name t.handle ms) in
     let next = text-some (flat_map of_one) of_one (λ t rest. refl) d.tasks c.tasks.i s.0 s.1 in
     let same = ap₂ (λ n h. flat_map letterbox_row (letterboxes_in n h ms)) s.2.name s.2.handle in
-    left_less c.tasks.invariant next (puts_same same c.in_ok-print_letters.ensures).ok
-
-pub returns-in_err-print_letters : goal.returns-in_err-print_letters
-returns-in_err-print_letters g c =
-    let d = g.S.Sight.desk c.args.sight.now in
-    let ms = c.args.step.now.messages.now in
-    let s = c.in-Some.ensures.some in
-    let of_one = λ (t : Task). flat_map letterbox_row (letterboxes_in t.name t.handle ms) in
-    let next = text-some (flat_map of_one) of_one (λ t rest. refl) d.tasks c.tasks.i s.0 s.1 in
-    let same = ap₂ (λ n h. flat_map letterbox_row (letterboxes_in n h ms)) s.2.name s.2.handle in
-    left_breaks _ _ c.tasks.invariant next (puts_same same c.in_err-print_letters.ensures) c.from_residual.ensures.0
+    left_less _ c.tasks.invariant next (offered_as _ same c.print_letters.ensures)
 
 pub returns : goal.returns
 returns g c =
@@ -42,7 +30,7 @@ returns g c =
     let ms = c.args.step.now.messages.now in
     let of_one = λ (t : Task). flat_map letterbox_row (letterboxes_in t.name t.handle ms) in
     let none = text-none (flat_map of_one) refl d.tasks c.tasks.i c.in_default.ensures.none in
-    record { ok = left_none c.tasks.invariant none; err = tt }
+    left_none c.tasks.invariant none
 
 pub overflow_add-i : goal.overflow_add-i
 overflow_add-i g c =

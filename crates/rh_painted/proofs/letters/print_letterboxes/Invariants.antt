@@ -5,7 +5,7 @@ use Rattle.rh_painted.proofs.letters.print_letterboxes.Given as goal
 abbrev pub invariant-tasks : goal.invariant-tasks
 invariant-tasks g l =
     let d = g.S.Sight.desk l.sight in
-    Left (g.W.Sink.output l.initial.writer) (g.W.Sink.output l.writer)
+    Left (g.P.Pen.offered l.initial.pen) (g.P.Pen.offered l.pen)
     (flat_map letterbox_row (letterboxes (scene_at d l.step)))
     (flat_map (λ (t : Task). flat_map letterbox_row (letterboxes_in t.name t.handle l.step.messages.now)) (drop l.i d.tasks))
 

@@ -1,15 +1,15 @@
-use Rattle.rh_painted.proofs.Common.{◌≡◌, ◌+◌, ◌++◌, [], length, ap, ap₂, refl, subst, sym, ◌∙◌, arith, ◌^◌, AllByRecursion, module_pages, base, module_cards}
-use Rattle.rh_painted.proofs.Common.{AreaOf, lens_below, Frame, Plot, Census, scene_at, cards-long, owned-few, seen-fixed, puts_same}
+use Rattle.rh_painted.proofs.Common.{◌≡◌, ◌+◌, length, ap, ap₂, refl, subst, sym, ◌∙◌, arith, ◌^◌, AllByRecursion, module_pages, base, module_cards}
+use Rattle.rh_painted.proofs.Common.{AreaOf, lens_below, Frame, Plot, Census, scene_at, cards-long, owned-few, seen-fixed, offered_as}
 use Rattle.rh_figure.specs.Cards.{module_card}
 use Rattle.rh_figure.specs.Layout.{module_legend}
-use Rattle.rh_sheet.specs.SheetAreas.{module_frame, module_plot}
+use Rattle.rh_sheet.specs.SheetAreas.{module_frame}
 use Rattle.rh_sheet.specs.SheetCards.{cards_below}
 use Rattle.rh_sheet.specs.Frames.{rows_foot}
 use Rattle.rh_sheet.specs.SheetRows.{rows_text}
 use Rattle.rh_sight.specs.declared.sight.PagesOf.TheVariants as pages
 use Rattle.rh_drawn.proofs.PageLemmas.{owned-fixed}
 use Rattle.rh_painted.proofs.SlotLemmas.{EndsBy, heap-ends}
-use Rattle.rh_painted.proofs.TextPuts.{text_last, text_stop, text_then}
+use Rattle.rh_painted.proofs.TextPuts.{text_last, text_then}
 use Rattle.rh_painted.proofs.modules.print_body.Goals as goal
 
 pub print_lens_below-requires : goal.print_lens_below-requires
@@ -39,32 +39,6 @@ print_rows-requires-clause-pieces g c =
     (arith, few, long, c.spelled.ensures.post.heap.whole)) in
     subst (AllByRecursion (EndsBy (2 ^ 30))) (sym (ap (λ (p : Plot). p.pieces) c.requires.plot)) ends
 
-pub returns-in_err-print_lens_below : goal.returns-in_err-print_lens_below
-returns-in_err-print_lens_below g c =
-    let d = g.S.Sight.desk c.args.sight.now in
-    let x = scene_at d c.args.step.now in
-    let same = c.requires.frame in
-    let end : c.args.census.end ≡ base d.post.heap = ap (λ (z : Census). z.end) c.requires.census in
-    let count : c.args.census.count ≡ length (module_cards x) = ap (λ (z : Census). z.count) c.requires.census ∙ sym (cards-long (module_card x)
-    (25165824 + 16) d.post.heap.segments) in
-    text_stop _ (lens_below (module_frame x) 16 (base d.post.heap) (length (module_cards x))) ((rows_text (module_frame x) (module_plot x) ++ (cards_below
-    (rows_foot (module_frame x) + 16) (module_cards x) ++ []))) (puts_same (ap (λ z. lens_below z 16 c.args.census.end c.args.census.count) same ∙ ap₂
-    (lens_below (module_frame x) 16) end count) c.in_err-print_lens_below.ensures) c.from_residual.ensures.0
-
-pub returns-in_err-print_rows : goal.returns-in_err-print_rows
-returns-in_err-print_rows g c =
-    let d = g.S.Sight.desk c.args.sight.now in
-    let x = scene_at d c.args.step.now in
-    let same = c.requires.frame in
-    let end : c.args.census.end ≡ base d.post.heap = ap (λ (z : Census). z.end) c.requires.census in
-    let count : c.args.census.count ≡ length (module_cards x) = ap (λ (z : Census). z.count) c.requires.census ∙ sym (cards-long (module_card x)
-    (25165824 + 16) d.post.heap.segments) in
-    text_then (lens_below (module_frame x) 16 (base d.post.heap) (length (module_cards x))) ((rows_text (module_frame x) (module_plot x) ++ (cards_below
-    (rows_foot (module_frame x) + 16) (module_cards x) ++ []))) (puts_same (ap (λ z. lens_below z 16 c.args.census.end c.args.census.count) same ∙ ap₂
-    (lens_below (module_frame x) 16) end count) c.in_ok-print_lens_below.ensures)
-    (text_stop _ (rows_text (module_frame x) (module_plot x)) ((cards_below (rows_foot (module_frame x) + 16) (module_cards x) ++ [])) (puts_same
-    (ap₂ rows_text same c.requires.plot) c.in_err-print_rows.ensures) c.from_residual-in_err-print_rows.ensures.0)
-
 pub returns : goal.returns
 returns g c =
     let d = g.S.Sight.desk c.args.sight.now in
@@ -73,9 +47,7 @@ returns g c =
     let end : c.args.census.end ≡ base d.post.heap = ap (λ (z : Census). z.end) c.requires.census in
     let count : c.args.census.count ≡ length (module_cards x) = ap (λ (z : Census). z.count) c.requires.census ∙ sym (cards-long (module_card x)
     (25165824 + 16) d.post.heap.segments) in
-    text_then (lens_below (module_frame x) 16 (base d.post.heap) (length (module_cards x))) ((rows_text (module_frame x) (module_plot x) ++ (cards_below
-    (rows_foot (module_frame x) + 16) (module_cards x) ++ []))) (puts_same (ap (λ z. lens_below z 16 c.args.census.end c.args.census.count) same ∙ ap₂
-    (lens_below (module_frame x) 16) end count) c.in_ok-print_lens_below.ensures)
-    (text_then (rows_text (module_frame x) (module_plot x)) ((cards_below (rows_foot (module_frame x) + 16) (module_cards x) ++ [])) (puts_same
-    (ap₂ rows_text same c.requires.plot) c.in_ok-print_rows.ensures)
-    (text_last (puts_same (ap (λ n. cards_below (n + 16) (module_cards x)) (c.foot.ensures.value ∙ ap rows_foot same)) c.put_heap_cards.ensures)))
+    let lens = ap (λ z. lens_below z 16 c.args.census.end c.args.census.count) same ∙ ap₂ (lens_below (module_frame x) 16) end count in
+    text_then (g.P.Pen.offered c.args.pen.now) _ _ (offered_as _ lens c.print_lens_below.ensures)
+    (text_then (g.P.Pen.offered c.print_lens_below.new.pen) _ _ (offered_as _ (ap₂ rows_text same c.requires.plot) c.print_rows.ensures)
+    (text_last _ _ (offered_as _ (ap (λ n. cards_below (n + 16) (module_cards x)) (c.foot.ensures.value ∙ ap rows_foot same)) c.put_heap_cards.ensures)))

@@ -1,5 +1,5 @@
 use Rattle.rh_painted.proofs.Common.{◌≡◌, ◌<◌, ◌-◌, length, drop, ap, ap₂, sym, ◌∙◌, arith, length-take, taken_line, owner_name, count_of, change_item}
-use Rattle.rh_painted.proofs.Common.{scene_at, puts_same, who_seen}
+use Rattle.rh_painted.proofs.Common.{scene_at, offered_as, who_seen}
 use Rattle.std.proofs.lemmas.List.{length-drop, take_rest}
 use Rattle.rh_painted.specs.PaintedOwners.{holding_seen, name_seen}
 use Rattle.rh_painted.proofs.OwnerLemmas.{owner-few, owner-pages, takes-one}
@@ -22,6 +22,6 @@ returns g c =
     c.count-had.ensures ∙ ap (λ o. count_of o x.before.holdings) c.owner.ensures in
     let low : count_of (who_seen named) x.before.holdings < c.args.owner.now.count = omega (arith, had, c.if-had-owner.false) in
     let name : name_seen named ≡ owner_name x.desk (who_seen named) = c.requires.owner.name in
-    puts_same (ap change_item (c.as_slice.ensures ∙ (c.takes_told-taken.ensures.value
+    offered_as _ (ap change_item (c.as_slice.ensures ∙ (c.takes_told-taken.ensures.value
     ∙ ap₂ taken_line name (take_rest found c.count-had.result ∙ ap₂ drop had is))) ∙ sym (takes-one x (holding_seen c.args.owner.now) low))
     c.print_change.ensures

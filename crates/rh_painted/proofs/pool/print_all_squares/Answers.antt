@@ -1,15 +1,7 @@
-use Rattle.rh_painted.proofs.Common.{◌<◌, length, refl, arith, flat_map, slice_get_within, holdings, left_breaks, left_less, left_none, scene_at}
+use Rattle.rh_painted.proofs.Common.{◌<◌, length, refl, arith, flat_map, slice_get_within, holdings, left_less, left_none, scene_at}
 use Rattle.rh_sheet.specs.Pool.{owner_squares}
 use Rattle.rh_painted.proofs.TextWalks.{text-none, text-some}
 use Rattle.rh_painted.proofs.pool.print_all_squares.Goals as goal
-
-pub returns-in_err-print_owner_squares : goal.returns-in_err-print_owner_squares
-returns-in_err-print_owner_squares g c =
-    let d = g.S.Sight.desk c.args.sight.now in
-    let x = scene_at d c.args.step.now in
-    left_breaks _ _ c.owners.invariant (text-some (flat_map (owner_squares x)) (owner_squares x) (λ o rest. refl) (holdings d) c.owners.k _
-    c.in-Some.ensures.some.stands)
-    c.in_err-print_owner_squares.ensures c.from_residual.ensures.0
 
 pub overflow_add-k : goal.overflow_add-k
 overflow_add-k g c =
@@ -25,12 +17,12 @@ pub owners-preserved : goal.owners-preserved
 owners-preserved g c =
     let d = g.S.Sight.desk c.args.sight.now in
     let x = scene_at d c.args.step.now in
-    left_less c.owners.invariant (text-some (flat_map (owner_squares x)) (owner_squares x) (λ o rest. refl) (holdings d) c.owners.k _
+    left_less _ c.owners.invariant (text-some (flat_map (owner_squares x)) (owner_squares x) (λ o rest. refl) (holdings d) c.owners.k _
     c.in-Some.ensures.some.stands)
-    c.in_ok-print_owner_squares.ensures.ok
+    c.print_owner_squares.ensures
 
 pub returns : goal.returns
 returns g c =
     let d = g.S.Sight.desk c.args.sight.now in
     let x = scene_at d c.args.step.now in
-    record { ok = left_none c.owners.invariant (text-none (flat_map (owner_squares x)) refl (holdings d) c.owners.k c.in_default.ensures.none); err = tt }
+    left_none c.owners.invariant (text-none (flat_map (owner_squares x)) refl (holdings d) c.owners.k c.in_default.ensures.none)

@@ -7,7 +7,7 @@ abbrev pub invariant-owners : goal.invariant-owners
 invariant-owners g l =
     let d = g.S.Sight.desk l.sight in
     let x = scene_at d l.step in
-    Left (g.W.Sink.output l.initial.writer) (g.W.Sink.output l.writer) (flat_map (owner_squares x) (holdings d))
+    Left (g.P.Pen.offered l.initial.pen) (g.P.Pen.offered l.pen) (flat_map (owner_squares x) (holdings d))
     (flat_map (owner_squares x) (drop l.k (holdings d)))
 
 abbrev pub decreases-owners : goal.decreases-owners

@@ -1,6 +1,6 @@
 use Rattle.rh_painted.proofs.Common.{◌≡◌, ◌<◌, ◌++◌, [], ◌∷◌, length, ap, ap₂, sym, ◌∙◌, arith, append_assoc, codes, decimal, concat, flat_map}
-use Rattle.rh_painted.proofs.Common.{slice_get_within, Desk, Text, owner_name, Scene, Holding, holdings, takes_none, left_breaks, left_less, escape}
-use Rattle.rh_painted.proofs.Common.{escaped_byte, scene_at, left_last, puts_same, who_seen}
+use Rattle.rh_painted.proofs.Common.{slice_get_within, Desk, Text, owner_name, Scene, Holding, holdings, left_from, left_less, escape}
+use Rattle.rh_painted.proofs.Common.{escaped_byte, scene_at, left_last, offered_as, who_seen}
 use Rattle.rh_defs.specs.Desk.{free_pages}
 use Rattle.rh_sheet.specs.Pool.{free_text, owner_sentence}
 use Rattle.rh_painted.proofs.ElementLemmas.{elements-none, elements-some}
@@ -24,20 +24,7 @@ pub owners-init : goal.owners-init
 owners-init g c =
     let d = g.S.Sight.desk c.args.sight.now in
     let x = scene_at d c.args.step.now in
-    record {
-      written = [];
-      takes = takes_none _;
-      is = ap escape (append_assoc (flat_map (sentence x) (holdings d)) (free_text (free_pages d) d.pool) (codes "."));
-    }
-
-pub returns-in_err-print_sentence : goal.returns-in_err-print_sentence
-returns-in_err-print_sentence g c =
-    let d = g.S.Sight.desk c.args.sight.now in
-    let x = scene_at d c.args.step.now in
-    let own = c.in-Some.ensures.some in
-    left_breaks _ _ c.owners.invariant (elements-some escaped_byte (sentence x) (free d) (holdings d) c.owners.k _ own.stands)
-    (puts_same (ap (λ n. escape (owner_sentence n (x.share.pages_of (who_seen c.in-Some.owner.named)))) own.owner.name) c.in_err-print_sentence.ensures)
-    c.from_residual.ensures.0
+    left_from _ (ap escape (append_assoc (flat_map (sentence x) (holdings d)) (free_text (free_pages d) d.pool) (codes ".")))
 
 pub overflow_add-k : goal.overflow_add-k
 overflow_add-k g c =
@@ -54,8 +41,8 @@ owners-preserved g c =
     let d = g.S.Sight.desk c.args.sight.now in
     let x = scene_at d c.args.step.now in
     let own = c.in-Some.ensures.some in
-    left_less c.owners.invariant (elements-some escaped_byte (sentence x) (free d) (holdings d) c.owners.k _ own.stands)
-    (puts_same (ap (λ n. escape (owner_sentence n (x.share.pages_of (who_seen c.in-Some.owner.named)))) own.owner.name) c.in_ok-print_sentence.ensures).ok
+    left_less _ c.owners.invariant (elements-some escaped_byte (sentence x) (free d) (holdings d) c.owners.k _ own.stands)
+    (offered_as _ (ap (λ n. escape (owner_sentence n (x.share.pages_of (who_seen c.in-Some.owner.named)))) own.owner.name) c.print_sentence.ensures)
 
 pub returns : goal.returns
 returns g c =
@@ -72,5 +59,5 @@ returns g c =
     row ∙ (free-row (decimal c.free_pages.result) (decimal (length c.args.step.now.pages.now))
     ∙ ap₂ (λ f p. free_text f p ++ codes ".") c.free_pages.ensures c.requires.all) in
     left_last _ c.owners.invariant
-    (puts_same (ap escape told ∙ sym (elements-none escaped_byte (sentence x) (free d) (holdings d) c.owners.k c.in_default.ensures.none))
+    (offered_as _ (ap escape told ∙ sym (elements-none escaped_byte (sentence x) (free d) (holdings d) c.owners.k c.in_default.ensures.none))
     c.put_escaped.ensures)

@@ -9,7 +9,7 @@ abbrev pub invariant-owners : goal.invariant-owners
 invariant-owners g l =
     let d = g.S.Sight.desk l.sight in
     let x = scene_at d l.step in
-    Left (g.W.Sink.output l.initial.writer) (g.W.Sink.output l.writer) (escape (pool_description x))
+    Left (g.P.Pen.offered l.initial.pen) (g.P.Pen.offered l.pen) (escape (pool_description x))
     (elements escaped_byte (λ (o : Holding). owner_sentence (owner_name x.desk o.0) (x.share.pages_of o.0))
     (free_text (free_pages d) d.pool ++ codes ".") (drop l.k (holdings d)))
 

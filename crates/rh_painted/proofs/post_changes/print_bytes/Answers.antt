@@ -1,4 +1,4 @@
-use Rattle.rh_painted.proofs.Common.{ap, sym, ◌∙◌, flat_map, task_name, scene_of, change_item, puts_same}
+use Rattle.rh_painted.proofs.Common.{ap, sym, ◌∙◌, flat_map, task_name, scene_of, change_item, offered_as}
 use Rattle.rh_figure.specs.Changes.{bytes_line, bytes_sent_text}
 use Rattle.rh_painted.proofs.ElementLemmas.{parts-one}
 use Rattle.rh_painted.proofs.post_changes.print_bytes.Goals as goal
@@ -8,7 +8,7 @@ returns-in-RamTransmit g c = λ s b m.
     let d = g.S.Sight.desk c.args.sight.now in
     let x = scene_of d s b m in
     let line = bytes_line c.in-RamTransmit.written (task_name d c.args.letter.now.to) c.in-RamTransmit.buffer in
-    puts_same (ap change_item (c.as_slice.ensures ∙
+    offered_as _ (ap change_item (c.as_slice.ensures ∙
     (c.bytes_sent.ensures.value ∙ ap (λ w. bytes_line c.in-RamTransmit.written w c.in-RamTransmit.buffer) c.who_of-to.ensures))
     ∙ (sym (parts-one change_item line) ∙ ap (λ body. flat_map change_item (bytes_sent_text x c.args.letter.now body)) (sym c.in-RamTransmit.is)))
     c.print_change.ensures

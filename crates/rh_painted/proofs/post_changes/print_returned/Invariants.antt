@@ -9,6 +9,6 @@ abbrev pub invariant-loop-message : goal.invariant-loop-message
 invariant-loop-message g l =
     let d = g.S.Sight.desk l.sight in
     let x = scene_at d l.step in
-    Left (g.W.Sink.output l.initial.writer) (g.W.Sink.output l.writer)
+    Left (g.P.Pen.offered l.initial.pen) (g.P.Pen.offered l.pen)
     (flat_map change_item (map (returns_text x) (filter (λ (p : Parcel). p.message.my_ref == x.before.held && is_returned p.code) (waiting x))))
     (flat_map change_item (flat_map (return_lines d l.step.kept.now.held) (drop l.message-index l.step.messages.now)))

@@ -1,11 +1,11 @@
-use Rattle.rh_painted.proofs.Common.{◌≡◌, ℕ, ◌+◌, ◌-◌, ◌++◌, List, [], length, ap, ap₂, subst, sym, ◌∙◌, arith, ◌==◌, ◌^◌, ◌<◌, AllByRecursion, flat_map}
-use Rattle.rh_painted.proofs.Common.{option_map, Task, task_at, block_items, BlockItem, flex_start, heap_start, flex_cards, heap_cards, shown_cards}
+use Rattle.rh_painted.proofs.Common.{◌≡◌, ℕ, ◌+◌, ◌-◌, List, length, ap, ap₂, subst, sym, ◌∙◌, arith, ◌==◌, ◌^◌, ◌<◌, AllByRecursion, flat_map}
+use Rattle.rh_painted.proofs.Common.{option_map, Task, task_at, BlockItem, flex_start, heap_start, flex_cards, heap_cards, shown_cards}
 use Rattle.rh_painted.proofs.Common.{item_with_anchor}
 use Rattle.rh_painted.proofs.Common.{slide_of, Text, where_so, Scene, SlotOf, ticks_text, Frame, Plot, IsTaskSeen, heap_seen, scene_at, task-slot, at-some}
-use Rattle.rh_painted.proofs.Common.{items-long, few-blocks, seen-same, owned-few, seen-slot, puts_same, IsSlotPlan}
+use Rattle.rh_painted.proofs.Common.{items-long, few-blocks, seen-same, owned-few, seen-slot, offered_as, IsSlotPlan}
 use Rattle.rh_defs.specs.Heap.{first_place}
 use Rattle.rh_figure.specs.Cards.{cards_from}
-use Rattle.rh_sheet.specs.SheetAreas.{slot_arrow, slot_frame, slot_lenses, slot_plot}
+use Rattle.rh_sheet.specs.SheetAreas.{slot_frame, slot_lenses}
 use Rattle.rh_sheet.specs.Arrows.{slide_arrow}
 use Rattle.rh_sheet.specs.SheetCards.{cards_above, cards_below}
 use Rattle.rh_sheet.specs.Frames.{row_y, rows_foot, rows_top}
@@ -19,7 +19,7 @@ use Rattle.rh_painted.specs.PaintedBands.{band_text}
 use Rattle.rh_painted.specs.declared.bands.Form.TheVariants.{Below}
 use Rattle.rh_painted.proofs.LensLemmas.{arrow-same}
 use Rattle.rh_painted.proofs.SlotLemmas.{EndsBy, anchors-small, slot-ends}
-use Rattle.rh_painted.proofs.TextPuts.{text_last, text_stop, text_then}
+use Rattle.rh_painted.proofs.TextPuts.{text_last, text_then}
 use Rattle.rh_painted.proofs.slots.print_body.Goals as goal
 
 -- the arrow of a task's slide, by its parts
@@ -68,98 +68,6 @@ print_ticks-requires g c =
     let small = anchors-small (flex_start r.0.slot) r.0.slot.blocks (task-slot c.spelled.ensures c.args.plan.now.i r.0 r.1).anchors in
     subst (AllByRecursion (λ (b : BlockItem). b.anchor < 64)) (sym r.3.blocks) small
 
-pub returns-in_err-print_lenses : goal.returns-in_err-print_lenses
-returns-in_err-print_lenses g c = λ t e.
-    let d = g.S.Sight.desk c.args.sight.now in
-    let x = scene_at d c.args.step.now in
-    let r = c.requires.task in
-    let i = c.args.plan.now.i in
-    let seen = seen-same (IsTaskSeen c.args.task.now) d.tasks i r.0 t r.1 e r.2 in
-    let p = seen-same (λ u. IsSlotPlan x u c.args.plan.now) d.tasks i r.0 t r.1 e r.3 in
-    let f = slot_frame x t in
-    (text_stop _ (slot_lenses f t.slot) ((cards_above (rows_top f - 16) (flex_cards x t) ++ (rows_text f (slot_plot x t) ++ (ticks_text (row_y f 0)
-    (block_items t.slot) ++ (slot_arrow x t ++ (cards_below (rows_foot f + 16) (heap_cards x t) ++ [])))))) (puts_same (ap
-    (λ z. slot_lenses z t.slot) p.frame) (c.in_err-print_lenses.ensures t e)) c.from_residual.ensures.0)
-
-pub returns-in_err-put_flex_cards : goal.returns-in_err-put_flex_cards
-returns-in_err-put_flex_cards g c = λ t e.
-    let d = g.S.Sight.desk c.args.sight.now in
-    let x = scene_at d c.args.step.now in
-    let r = c.requires.task in
-    let i = c.args.plan.now.i in
-    let seen = seen-same (IsTaskSeen c.args.task.now) d.tasks i r.0 t r.1 e r.2 in
-    let p = seen-same (λ u. IsSlotPlan x u c.args.plan.now) d.tasks i r.0 t r.1 e r.3 in
-    let f = slot_frame x t in
-    (text_then (slot_lenses f t.slot) ((cards_above (rows_top f - 16) (flex_cards x t) ++ (rows_text f (slot_plot x t) ++ (ticks_text (row_y f 0)
-    (block_items t.slot) ++ (slot_arrow x t ++ (cards_below (rows_foot f + 16) (heap_cards x t) ++ [])))))) (puts_same (ap
-    (λ z. slot_lenses z t.slot) p.frame) (c.in_ok-print_lenses.ensures t e))
-    (text_stop _ (cards_above (rows_top f - 16) (flex_cards x t)) ((rows_text f (slot_plot x t) ++ (ticks_text (row_y f 0) (block_items t.slot) ++
-    (slot_arrow x t ++ (cards_below (rows_foot f + 16) (heap_cards x t) ++ []))))) (puts_same (ap (λ n. cards_above n (flex_cards x t))
-    (c.saturating_sub.ensures ∙ ap (λ n. n - 16) (c.top.ensures.value ∙ ap rows_top p.frame)))
-    (c.in_err-put_flex_cards.ensures t e)) c.from_residual-in_err-put_flex_cards.ensures.0))
-
-pub returns-in_err-print_rows : goal.returns-in_err-print_rows
-returns-in_err-print_rows g c = λ t e.
-    let d = g.S.Sight.desk c.args.sight.now in
-    let x = scene_at d c.args.step.now in
-    let r = c.requires.task in
-    let i = c.args.plan.now.i in
-    let seen = seen-same (IsTaskSeen c.args.task.now) d.tasks i r.0 t r.1 e r.2 in
-    let p = seen-same (λ u. IsSlotPlan x u c.args.plan.now) d.tasks i r.0 t r.1 e r.3 in
-    let f = slot_frame x t in
-    (text_then (slot_lenses f t.slot) ((cards_above (rows_top f - 16) (flex_cards x t) ++ (rows_text f (slot_plot x t) ++ (ticks_text (row_y f 0)
-    (block_items t.slot) ++ (slot_arrow x t ++ (cards_below (rows_foot f + 16) (heap_cards x t) ++ [])))))) (puts_same (ap
-    (λ z. slot_lenses z t.slot) p.frame) (c.in_ok-print_lenses.ensures t e))
-    (text_then (cards_above (rows_top f - 16) (flex_cards x t)) ((rows_text f (slot_plot x t) ++ (ticks_text (row_y f 0) (block_items t.slot) ++
-    (slot_arrow x t ++ (cards_below (rows_foot f + 16) (heap_cards x t) ++ []))))) (puts_same (ap (λ n. cards_above n (flex_cards x t))
-    (c.saturating_sub.ensures ∙ ap (λ n. n - 16) (c.top.ensures.value ∙ ap rows_top p.frame))) (c.in_ok-put_flex_cards.ensures t e))
-    (text_stop _ (rows_text f (slot_plot x t)) ((ticks_text (row_y f 0) (block_items t.slot) ++ (slot_arrow x t ++ (cards_below (rows_foot f + 16)
-    (heap_cards x t) ++ [])))) (puts_same (ap₂ rows_text p.frame p.plot) (c.in_err-print_rows.ensures)) c.from_residual-in_err-print_rows.ensures.0)))
-
-pub returns-in_err-print_ticks : goal.returns-in_err-print_ticks
-returns-in_err-print_ticks g c = λ t e.
-    let d = g.S.Sight.desk c.args.sight.now in
-    let x = scene_at d c.args.step.now in
-    let r = c.requires.task in
-    let i = c.args.plan.now.i in
-    let seen = seen-same (IsTaskSeen c.args.task.now) d.tasks i r.0 t r.1 e r.2 in
-    let p = seen-same (λ u. IsSlotPlan x u c.args.plan.now) d.tasks i r.0 t r.1 e r.3 in
-    let f = slot_frame x t in
-    (text_then (slot_lenses f t.slot) ((cards_above (rows_top f - 16) (flex_cards x t) ++ (rows_text f (slot_plot x t) ++ (ticks_text (row_y f 0)
-    (block_items t.slot) ++ (slot_arrow x t ++ (cards_below (rows_foot f + 16) (heap_cards x t) ++ [])))))) (puts_same (ap
-    (λ z. slot_lenses z t.slot) p.frame) (c.in_ok-print_lenses.ensures t e))
-    (text_then (cards_above (rows_top f - 16) (flex_cards x t)) ((rows_text f (slot_plot x t) ++ (ticks_text (row_y f 0) (block_items t.slot) ++
-    (slot_arrow x t ++ (cards_below (rows_foot f + 16) (heap_cards x t) ++ []))))) (puts_same (ap (λ n. cards_above n (flex_cards x t))
-    (c.saturating_sub.ensures ∙ ap (λ n. n - 16) (c.top.ensures.value ∙ ap rows_top p.frame))) (c.in_ok-put_flex_cards.ensures t e))
-    (text_then (rows_text f (slot_plot x t)) ((ticks_text (row_y f 0) (block_items t.slot) ++ (slot_arrow x t ++ (cards_below (rows_foot f + 16)
-    (heap_cards x t) ++ [])))) (puts_same (ap₂ rows_text p.frame p.plot) (c.in_ok-print_rows.ensures))
-    (text_stop _ (ticks_text (row_y f 0) (block_items t.slot)) ((slot_arrow x t ++ (cards_below (rows_foot f + 16) (heap_cards x t) ++ []))) (puts_same
-    (ap₂ ticks_text (c.row_y.ensures.value ∙ ap (λ z. row_y z 0) p.frame) p.blocks)
-    (c.in_err-print_ticks.ensures)) c.from_residual-in_err-print_ticks.ensures.0))))
-
-pub returns-in_err-print_arrow_of : goal.returns-in_err-print_arrow_of
-returns-in_err-print_arrow_of g c = λ t e.
-    let d = g.S.Sight.desk c.args.sight.now in
-    let x = scene_at d c.args.step.now in
-    let r = c.requires.task in
-    let i = c.args.plan.now.i in
-    let seen = seen-same (IsTaskSeen c.args.task.now) d.tasks i r.0 t r.1 e r.2 in
-    let p = seen-same (λ u. IsSlotPlan x u c.args.plan.now) d.tasks i r.0 t r.1 e r.3 in
-    let f = slot_frame x t in
-    (text_then (slot_lenses f t.slot) ((cards_above (rows_top f - 16) (flex_cards x t) ++ (rows_text f (slot_plot x t) ++ (ticks_text (row_y f 0)
-    (block_items t.slot) ++ (slot_arrow x t ++ (cards_below (rows_foot f + 16) (heap_cards x t) ++ [])))))) (puts_same (ap
-    (λ z. slot_lenses z t.slot) p.frame) (c.in_ok-print_lenses.ensures t e))
-    (text_then (cards_above (rows_top f - 16) (flex_cards x t)) ((rows_text f (slot_plot x t) ++ (ticks_text (row_y f 0) (block_items t.slot) ++
-    (slot_arrow x t ++ (cards_below (rows_foot f + 16) (heap_cards x t) ++ []))))) (puts_same (ap (λ n. cards_above n (flex_cards x t))
-    (c.saturating_sub.ensures ∙ ap (λ n. n - 16) (c.top.ensures.value ∙ ap rows_top p.frame))) (c.in_ok-put_flex_cards.ensures t e))
-    (text_then (rows_text f (slot_plot x t)) ((ticks_text (row_y f 0) (block_items t.slot) ++ (slot_arrow x t ++ (cards_below (rows_foot f + 16)
-    (heap_cards x t) ++ [])))) (puts_same (ap₂ rows_text p.frame p.plot) (c.in_ok-print_rows.ensures))
-    (text_then (ticks_text (row_y f 0) (block_items t.slot)) ((slot_arrow x t ++ (cards_below (rows_foot f + 16) (heap_cards x t) ++ []))) (puts_same
-    (ap₂ ticks_text (c.row_y.ensures.value ∙ ap (λ z. row_y z 0) p.frame) p.blocks) (c.in_ok-print_ticks.ensures))
-    (text_stop _ (slot_arrow x t) ((cards_below (rows_foot f + 16) (heap_cards x t) ++ [])) (puts_same (parts-same x seen.handle p.frame p.blocks
-    ∙ arrow-same x f t (λ q. ap (λ h. task_at h d) (sym q) ∙ task-stands c.spelled.ensures i t e))
-    (c.in_err-print_arrow_of.ensures)) c.from_residual-in_err-print_arrow_of.ensures.0)))))
-
 pub returns : goal.returns
 returns g c = λ t e.
     let d = g.S.Sight.desk c.args.sight.now in
@@ -170,18 +78,14 @@ returns g c = λ t e.
     let p = seen-same (λ u. IsSlotPlan x u c.args.plan.now) d.tasks i r.0 t r.1 e r.3 in
     let f = slot_frame x t in
     let heap = at-some (heap_seen (heap_of.Task i) d) _ t.slot.heap (ap (option_map (λ (u : Task). u.slot.heap)) e) c.put_heap_cards.ensures in
-    (text_then (slot_lenses f t.slot) ((cards_above (rows_top f - 16) (flex_cards x t) ++ (rows_text f (slot_plot x t) ++ (ticks_text (row_y f 0)
-    (block_items t.slot) ++ (slot_arrow x t ++ (cards_below (rows_foot f + 16) (heap_cards x t) ++ [])))))) (puts_same (ap
-    (λ z. slot_lenses z t.slot) p.frame) (c.in_ok-print_lenses.ensures t e))
-    (text_then (cards_above (rows_top f - 16) (flex_cards x t)) ((rows_text f (slot_plot x t) ++ (ticks_text (row_y f 0) (block_items t.slot) ++
-    (slot_arrow x t ++ (cards_below (rows_foot f + 16) (heap_cards x t) ++ []))))) (puts_same (ap (λ n. cards_above n (flex_cards x t))
-    (c.saturating_sub.ensures ∙ ap (λ n. n - 16) (c.top.ensures.value ∙ ap rows_top p.frame))) (c.in_ok-put_flex_cards.ensures t e))
-    (text_then (rows_text f (slot_plot x t)) ((ticks_text (row_y f 0) (block_items t.slot) ++ (slot_arrow x t ++ (cards_below (rows_foot f + 16)
-    (heap_cards x t) ++ [])))) (puts_same (ap₂ rows_text p.frame p.plot) (c.in_ok-print_rows.ensures))
-    (text_then (ticks_text (row_y f 0) (block_items t.slot)) ((slot_arrow x t ++ (cards_below (rows_foot f + 16) (heap_cards x t) ++ []))) (puts_same
-    (ap₂ ticks_text (c.row_y.ensures.value ∙ ap (λ z. row_y z 0) p.frame) p.blocks) (c.in_ok-print_ticks.ensures))
-    (text_then (slot_arrow x t) ((cards_below (rows_foot f + 16) (heap_cards x t) ++ [])) (puts_same (parts-same x seen.handle p.frame p.blocks
-    ∙ arrow-same x f t (λ q. ap (λ h. task_at h d) (sym q) ∙ task-stands c.spelled.ensures i t e)) (c.in_ok-print_arrow_of.ensures))
-    (text_last (puts_same (ap (λ o. band_text (Below (c.foot.result + 16)) (shown_cards (cards_from (card_of_task x o)
+    text_then (g.P.Pen.offered c.args.pen.now) _ _ (offered_as _ (ap (λ z. slot_lenses z t.slot) p.frame) (c.print_lenses.ensures t e))
+    (text_then (g.P.Pen.offered c.print_lenses.new.pen) _ _ (offered_as _ (ap (λ n. cards_above n (flex_cards x t))
+    (c.saturating_sub.ensures ∙ ap (λ n. n - 16) (c.top.ensures.value ∙ ap rows_top p.frame))) (c.put_flex_cards.ensures t e))
+    (text_then (g.P.Pen.offered c.put_flex_cards.new.pen) _ _ (offered_as _ (ap₂ rows_text p.frame p.plot) c.print_rows.ensures)
+    (text_then (g.P.Pen.offered c.print_rows.new.pen) _ _
+    (offered_as _ (ap₂ ticks_text (c.row_y.ensures.value ∙ ap (λ z. row_y z 0) p.frame) p.blocks) c.print_ticks.ensures)
+    (text_then (g.P.Pen.offered c.print_ticks.new.pen) _ _ (offered_as _ (parts-same x seen.handle p.frame p.blocks
+    ∙ arrow-same x f t (λ q. ap (λ h. task_at h d) (sym q) ∙ task-stands c.spelled.ensures i t e)) c.print_arrow_of.ensures)
+    (text_last _ _ (offered_as _ (ap (λ o. band_text (Below (c.foot.result + 16)) (shown_cards (cards_from (card_of_task x o)
     (heap_start + first_place) t.slot.heap.segments))) e ∙ ap (λ n. cards_below (n + 16) (heap_cards x t)) (c.foot.ensures.value ∙ ap rows_foot p.frame))
-    (heap))))))))
+    heap))))))

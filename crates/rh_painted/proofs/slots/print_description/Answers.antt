@@ -1,7 +1,7 @@
 use Rattle.rh_painted.proofs.Common.{◌≡◌, ◌+◌, ◌++◌, [], ◌∷◌, length, ap, ap₂, append-nil, append_assoc, sym, ◌∙◌, arith, codes, concat, option_map}
 use Rattle.rh_painted.proofs.Common.{flat_map-append, Task, flex_start, heap_start, flex_cards, heap_cards, shown_cards, Text, size_text, SlotOf, escape}
 use Rattle.rh_painted.proofs.Common.{escaped_byte, Plot, IsTaskSeen, heap_seen, scene_at, task-slot, at-some, items-long, few-blocks, seen-same, owned-few}
-use Rattle.rh_painted.proofs.Common.{seen-slot, puts_same, IsSlotPlan}
+use Rattle.rh_painted.proofs.Common.{seen-slot, offered_as, IsSlotPlan}
 use Rattle.rh_defs.specs.Heap.{first_place}
 use Rattle.rh_figure.specs.Cards.{cards_from}
 use Rattle.rh_sheet.specs.SheetAreas.{pages_sentence}
@@ -12,7 +12,7 @@ use Rattle.rh_drawn.specs.Bands.{card_of_task}
 use Rattle.rh_painted.specs.PaintedBands.{band_text}
 use Rattle.rh_painted.specs.declared.bands.Form.TheVariants.{Told}
 use Rattle.rh_painted.proofs.BandLemmas.{told-all}
-use Rattle.rh_painted.proofs.TextPuts.{text_stop, text_then}
+use Rattle.rh_painted.proofs.TextPuts.{text_then}
 use Rattle.rh_painted.proofs.slots.print_description.Goals as goal
 
 -- the parts of what is read out, as they are written
@@ -42,58 +42,6 @@ put_flex_cards-requires-clause-few g c =
     let few = few-blocks r.0.slot.blocks (task-slot c.spelled.ensures c.args.plan.now.i r.0 r.1).anchors in
     omega (arith, few, items-long (flex_start r.0.slot) r.0.slot.blocks, ap length r.3.blocks)
 
-pub returns-in_err-put_pages : goal.returns-in_err-put_pages
-returns-in_err-put_pages g c = λ t e.
-    let d = g.S.Sight.desk c.args.sight.now in
-    let x = scene_at d c.args.step.now in
-    let r = c.requires.task in
-    let i = c.args.plan.now.i in
-    let seen = seen-same (IsTaskSeen c.args.task.now) d.tasks i r.0 t r.1 e r.2 in
-    let p = seen-same (λ u. IsSlotPlan x u c.args.plan.now) d.tasks i r.0 t r.1 e r.3 in
-    puts_same (parts (pages_sentence (x.share.pages_of (SlotOf t.handle))) (codes "C heap of ") (size_text t.slot.heap.end) (codes ". ") (cards_sentences
-    (heap_cards x t)) (cards_sentences (flex_cards x t))) ((text_stop _ (escape (pages_sentence (x.share.pages_of (SlotOf t.handle)))) ((escape
-    (codes "C heap of " ++ (size_text t.slot.heap.end ++ codes ". ")) ++ (escape (cards_sentences (heap_cards x t)) ++ escape (cards_sentences
-    (flex_cards x t))))) (puts_same (ap (λ (z : Plot). escape (pages_sentence z.pages)) p.plot) (c.in_err-put_pages.ensures)) c.from_residual.ensures.0))
-
-pub returns-in_err-put_escaped : goal.returns-in_err-put_escaped
-returns-in_err-put_escaped g c = λ t e.
-    let d = g.S.Sight.desk c.args.sight.now in
-    let x = scene_at d c.args.step.now in
-    let r = c.requires.task in
-    let i = c.args.plan.now.i in
-    let seen = seen-same (IsTaskSeen c.args.task.now) d.tasks i r.0 t r.1 e r.2 in
-    let p = seen-same (λ u. IsSlotPlan x u c.args.plan.now) d.tasks i r.0 t r.1 e r.3 in
-    puts_same (parts (pages_sentence (x.share.pages_of (SlotOf t.handle))) (codes "C heap of ") (size_text t.slot.heap.end) (codes ". ") (cards_sentences
-    (heap_cards x t)) (cards_sentences (flex_cards x t))) ((text_then (escape (pages_sentence (x.share.pages_of (SlotOf t.handle)))) ((escape
-    (codes "C heap of " ++ (size_text t.slot.heap.end ++ codes ". ")) ++ (escape (cards_sentences (heap_cards x t)) ++ escape (cards_sentences
-    (flex_cards x t))))) (puts_same (ap (λ (z : Plot). escape (pages_sentence z.pages)) p.plot) (c.in_ok-put_pages.ensures))
-    (text_stop _ (escape (codes "C heap of " ++ (size_text t.slot.heap.end ++ codes ". "))) ((escape (cards_sentences (heap_cards x t)) ++ escape
-    (cards_sentences (flex_cards x t)))) (puts_same (ap escape (c.as_slice.ensures ∙ (c.text-2.ensures ∙ (ap (λ z. z ++ codes ". ")
-    (c.add_size.ensures.value ∙ ap₂ (λ z n. z ++ size_text n) (c.text.ensures ∙ ap (λ z. z ++ codes "C heap of ") c.new-row.ensures) seen.heap_end)
-    ∙ append_assoc (codes "C heap of ") (size_text t.slot.heap.end) (codes ". ")))))
-    (c.in_err-put_escaped.ensures)) c.from_residual-in_err-put_escaped.ensures.0)))
-
-pub returns-in_err-put_heap_cards : goal.returns-in_err-put_heap_cards
-returns-in_err-put_heap_cards g c = λ t e.
-    let d = g.S.Sight.desk c.args.sight.now in
-    let x = scene_at d c.args.step.now in
-    let r = c.requires.task in
-    let i = c.args.plan.now.i in
-    let seen = seen-same (IsTaskSeen c.args.task.now) d.tasks i r.0 t r.1 e r.2 in
-    let p = seen-same (λ u. IsSlotPlan x u c.args.plan.now) d.tasks i r.0 t r.1 e r.3 in
-    puts_same (parts (pages_sentence (x.share.pages_of (SlotOf t.handle))) (codes "C heap of ") (size_text t.slot.heap.end) (codes ". ") (cards_sentences
-    (heap_cards x t)) (cards_sentences (flex_cards x t))) ((text_then (escape (pages_sentence (x.share.pages_of (SlotOf t.handle)))) ((escape
-    (codes "C heap of " ++ (size_text t.slot.heap.end ++ codes ". ")) ++ (escape (cards_sentences (heap_cards x t)) ++ escape (cards_sentences
-    (flex_cards x t))))) (puts_same (ap (λ (z : Plot). escape (pages_sentence z.pages)) p.plot) (c.in_ok-put_pages.ensures))
-    (text_then (escape (codes "C heap of " ++ (size_text t.slot.heap.end ++ codes ". "))) ((escape (cards_sentences (heap_cards x t)) ++ escape
-    (cards_sentences (flex_cards x t)))) (puts_same (ap escape (c.as_slice.ensures ∙ (c.text-2.ensures ∙ (ap (λ z. z ++ codes ". ")
-    (c.add_size.ensures.value ∙ ap₂ (λ z n. z ++ size_text n) (c.text.ensures ∙ ap (λ z. z ++ codes "C heap of ") c.new-row.ensures) seen.heap_end)
-    ∙ append_assoc (codes "C heap of ") (size_text t.slot.heap.end) (codes ". "))))) (c.in_ok-put_escaped.ensures))
-    (text_stop _ (escape (cards_sentences (heap_cards x t))) (escape (cards_sentences (flex_cards x t))) (puts_same (ap (λ o. band_text Told (shown_cards
-    (cards_from (card_of_task x o) (heap_start + first_place) t.slot.heap.segments))) e ∙ told-all 0 (shown_cards (heap_cards x t))) (at-some (heap_seen
-    (heap_of.Task i) d) _ t.slot.heap (ap (option_map (λ
-    (u : Task). u.slot.heap)) e) c.in_err-put_heap_cards.ensures)) c.from_residual-in_err-put_heap_cards.ensures.0))))
-
 pub returns : goal.returns
 returns g c = λ t e.
     let d = g.S.Sight.desk c.args.sight.now in
@@ -102,15 +50,16 @@ returns g c = λ t e.
     let i = c.args.plan.now.i in
     let seen = seen-same (IsTaskSeen c.args.task.now) d.tasks i r.0 t r.1 e r.2 in
     let p = seen-same (λ u. IsSlotPlan x u c.args.plan.now) d.tasks i r.0 t r.1 e r.3 in
-    puts_same (parts (pages_sentence (x.share.pages_of (SlotOf t.handle))) (codes "C heap of ") (size_text t.slot.heap.end) (codes ". ") (cards_sentences
-    (heap_cards x t)) (cards_sentences (flex_cards x t))) ((text_then (escape (pages_sentence (x.share.pages_of (SlotOf t.handle)))) ((escape
-    (codes "C heap of " ++ (size_text t.slot.heap.end ++ codes ". ")) ++ (escape (cards_sentences (heap_cards x t)) ++ escape (cards_sentences
-    (flex_cards x t))))) (puts_same (ap (λ (z : Plot). escape (pages_sentence z.pages)) p.plot) (c.in_ok-put_pages.ensures))
-    (text_then (escape (codes "C heap of " ++ (size_text t.slot.heap.end ++ codes ". "))) ((escape (cards_sentences (heap_cards x t)) ++ escape
-    (cards_sentences (flex_cards x t)))) (puts_same (ap escape (c.as_slice.ensures ∙ (c.text-2.ensures ∙ (ap (λ z. z ++ codes ". ")
+    let heap = cards_sentences (heap_cards x t) in
+    let words : c.as_slice.result.now ≡ codes "C heap of " ++ (size_text t.slot.heap.end ++ codes ". ") =
+    c.as_slice.ensures ∙ (c.text-2.ensures ∙ (ap (λ z. z ++ codes ". ")
     (c.add_size.ensures.value ∙ ap₂ (λ z n. z ++ size_text n) (c.text.ensures ∙ ap (λ z. z ++ codes "C heap of ") c.new-row.ensures) seen.heap_end)
-    ∙ append_assoc (codes "C heap of ") (size_text t.slot.heap.end) (codes ". "))))) (c.in_ok-put_escaped.ensures))
-    (text_then (escape (cards_sentences (heap_cards x t))) (escape (cards_sentences (flex_cards x t))) (puts_same (ap (λ o. band_text Told (shown_cards
+    ∙ append_assoc (codes "C heap of ") (size_text t.slot.heap.end) (codes ". "))) in
+    offered_as _ (parts (pages_sentence (x.share.pages_of (SlotOf t.handle))) (codes "C heap of ") (size_text t.slot.heap.end) (codes ". ") heap
+    (cards_sentences (flex_cards x t)))
+    (text_then (g.P.Pen.offered c.args.pen.now) _ _ (offered_as _ (ap (λ (z : Plot). escape (pages_sentence z.pages)) p.plot) c.put_pages.ensures)
+    (text_then (g.P.Pen.offered c.put_pages.new.pen) _ _ (offered_as _ (ap escape words) c.put_escaped.ensures)
+    (text_then (g.P.Pen.offered c.put_escaped.new.pen) _ _ (offered_as _ (ap (λ o. band_text Told (shown_cards
     (cards_from (card_of_task x o) (heap_start + first_place) t.slot.heap.segments))) e ∙ told-all 0 (shown_cards (heap_cards x t))) (at-some (heap_seen
-    (heap_of.Task i) d) _ t.slot.heap (ap (option_map (λ (u : Task). u.slot.heap)) e) c.in_ok-put_heap_cards.ensures))
-    (puts_same (told-all 0 (shown_cards (flex_cards x t))) (c.put_flex_cards.ensures t e))))))
+    (heap_of.Task i) d) _ t.slot.heap (ap (option_map (λ (u : Task). u.slot.heap)) e) c.put_heap_cards.ensures))
+    (offered_as _ (told-all 0 (shown_cards (flex_cards x t))) (c.put_flex_cards.ensures t e)))))

@@ -1,13 +1,11 @@
-use Rattle.rh_painted.proofs.Common.{◌≡◌, ◌+◌, length, ap, refl, sym, ◌∙◌, arith, base, flex_start, heap_start, flex_cards, heap_cards, SlotOf, lens_below}
+use Rattle.rh_painted.proofs.Common.{◌≡◌, ◌+◌, length, ap, refl, sym, ◌∙◌, arith, base, flex_start, heap_start, flex_cards, heap_cards, SlotOf}
 use Rattle.rh_painted.proofs.Common.{Frame, Census, IsTaskSeen, scene_at, task-slot, items-long, few-blocks, flex-long, seen-same, cards-long, owned-few}
-use Rattle.rh_painted.proofs.Common.{seen-slot, puts_same, IsSlotPlan}
-use Rattle.rh_defs.specs.Slot.{slot_length}
+use Rattle.rh_painted.proofs.Common.{seen-slot, offered_as, IsSlotPlan}
 use Rattle.rh_figure.specs.Cards.{heap_card}
-use Rattle.rh_sheet.specs.SheetAreas.{lens_above}
 use Rattle.rh_sight.specs.declared.sight.PagesOf.TheVariants as pages
 use Rattle.rh_drawn.proofs.PageLemmas.{owned-slot}
 use Rattle.rh_painted.proofs.LensLemmas.{above-same, below-same}
-use Rattle.rh_painted.proofs.TextPuts.{text_stop, text_then}
+use Rattle.rh_painted.proofs.TextPuts.{text_then}
 use Rattle.rh_painted.proofs.slots.print_lenses.Goals as goal
 
 pub overflow_cast-count : goal.overflow_cast-count
@@ -39,24 +37,6 @@ print_lens_above-requires-clause-within g c =
       c.flex_end-high.ensures x r.0 r.3.plot,
     )
 
-pub returns-in_err-print_lens_above : goal.returns-in_err-print_lens_above
-returns-in_err-print_lens_above g c = λ t e.
-    let d = g.S.Sight.desk c.args.sight.now in
-    let x = scene_at d c.args.step.now in
-    let r = c.requires.task in
-    let i = c.args.plan.now.i in
-    let seen = seen-same (IsTaskSeen c.args.task.now) d.tasks i r.0 t r.1 e r.2 in
-    let p = seen-same (λ u. IsSlotPlan x u c.args.plan.now) d.tasks i r.0 t r.1 e r.3 in
-    let f = c.args.plan.now.frame in
-    let flex : f.above ≡ length (flex_cards x t) = ap (λ (z : Frame). z.above) p.frame in
-    let heap : f.below ≡ length (heap_cards x t) = ap (λ (z : Frame). z.below) p.frame in
-    let blocks : length c.args.plan.now.blocks.now ≡ f.above = ap length p.blocks ∙ (sym (flex-long x t (flex_start t.slot) t.slot.blocks) ∙ sym flex) in
-    let count : c.args.plan.now.census.count ≡ f.below = ap (λ (z : Census). z.count) p.census ∙ (sym (cards-long (heap_card x t)
-    (heap_start + 16) t.slot.heap.segments) ∙ sym heap) in
-    let end : c.args.plan.now.census.end ≡ base t.slot.heap = ap (λ (z : Census). z.end) p.census in
-    text_stop _ (lens_above f (256 + t.slot.heap.end) (slot_length t.slot) f.above) (lens_below f (256 + 16) (256 + base t.slot.heap) f.below) (puts_same
-    (above-same f (ap (λ n. 256 + n) seen.heap_end) (c.flex_end-high.ensures x t p.plot) blocks) c.in_err-print_lens_above.ensures) c.from_residual.ensures.0
-
 pub returns : goal.returns
 returns g c = λ t e.
     let d = g.S.Sight.desk c.args.sight.now in
@@ -72,6 +52,6 @@ returns g c = λ t e.
     let count : c.args.plan.now.census.count ≡ f.below = ap (λ (z : Census). z.count) p.census ∙ (sym (cards-long (heap_card x t)
     (heap_start + 16) t.slot.heap.segments) ∙ sym heap) in
     let end : c.args.plan.now.census.end ≡ base t.slot.heap = ap (λ (z : Census). z.end) p.census in
-    text_then (lens_above f (256 + t.slot.heap.end) (slot_length t.slot) f.above) (lens_below f (256 + 16) (256 + base t.slot.heap) f.below) (puts_same
-    (above-same f (ap (λ n. 256 + n) seen.heap_end) (c.flex_end-high.ensures x t p.plot) blocks) c.in_ok-print_lens_above.ensures)
-    (puts_same (below-same f {a = 272} refl (ap (λ n. 256 + n) end) count) c.print_lens_below.ensures)
+    text_then _ _ _
+    (offered_as _ (above-same f (ap (λ n. 256 + n) seen.heap_end) (c.flex_end-high.ensures x t p.plot) blocks) c.print_lens_above.ensures)
+    (offered_as _ (below-same f {a = 272} refl (ap (λ n. 256 + n) end) count) c.print_lens_below.ensures)

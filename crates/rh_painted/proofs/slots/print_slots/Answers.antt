@@ -1,4 +1,4 @@
-use Rattle.rh_painted.proofs.Common.{◌<◌, length, refl, arith, flat_map, slice_get_within, left_breaks, left_less, left_none, slot_part, scene_at}
+use Rattle.rh_painted.proofs.Common.{◌<◌, length, refl, arith, flat_map, slice_get_within, left_less, left_none, slot_part, scene_at}
 use Rattle.rh_painted.proofs.TextWalks.{text-none, text-some}
 use Rattle.rh_painted.proofs.slots.print_slots.Goals as goal
 
@@ -7,22 +7,14 @@ tasks-preserved g c =
     let d = g.S.Sight.desk c.args.sight.now in
     let x = scene_at d c.args.step.now in
     let r = c.in-Some.ensures.some in
-    left_less c.tasks.invariant (text-some (flat_map (slot_part x)) (slot_part x) (λ t rest. refl) d.tasks c.tasks.i r.0 r.1)
-    (c.in_ok-print_slot.ensures r.0 r.1).ok
-
-pub returns-in_err-print_slot : goal.returns-in_err-print_slot
-returns-in_err-print_slot g c =
-    let d = g.S.Sight.desk c.args.sight.now in
-    let x = scene_at d c.args.step.now in
-    let r = c.in-Some.ensures.some in
-    left_breaks _ _ c.tasks.invariant (text-some (flat_map (slot_part x)) (slot_part x) (λ t rest. refl) d.tasks c.tasks.i r.0 r.1)
-    (c.in_err-print_slot.ensures r.0 r.1) c.from_residual.ensures.0
+    left_less _ c.tasks.invariant (text-some (flat_map (slot_part x)) (slot_part x) (λ t rest. refl) d.tasks c.tasks.i r.0 r.1)
+    (c.print_slot.ensures r.0 r.1)
 
 pub returns : goal.returns
 returns g c =
     let d = g.S.Sight.desk c.args.sight.now in
     let x = scene_at d c.args.step.now in
-    record { ok = left_none c.tasks.invariant (text-none (flat_map (slot_part x)) refl d.tasks c.tasks.i c.in_default.ensures.none); err = tt }
+    left_none c.tasks.invariant (text-none (flat_map (slot_part x)) refl d.tasks c.tasks.i c.in_default.ensures.none)
 
 pub overflow_add-i : goal.overflow_add-i
 overflow_add-i g c =

@@ -5,7 +5,7 @@ use Rattle.rh_painted.proofs.slots.print_slots.Given as goal
 abbrev pub invariant-tasks : goal.invariant-tasks
 invariant-tasks g l =
     let d = g.S.Sight.desk l.sight in
-    Left (g.W.Sink.output l.initial.writer) (g.W.Sink.output l.writer) (flat_map (slot_part (scene_at d l.step)) d.tasks)
+    Left (g.P.Pen.offered l.initial.pen) (g.P.Pen.offered l.pen) (flat_map (slot_part (scene_at d l.step)) d.tasks)
     (flat_map (slot_part (scene_at d l.step)) (drop l.i d.tasks))
 
 abbrev pub decreases-tasks : goal.decreases-tasks

@@ -4,4 +4,4 @@ use Rattle.rh_painted.proofs.slots.print_ticks.Given as goal
 -- the blocks from the place on are left
 abbrev pub invariant-loop-block : goal.invariant-loop-block
 invariant-loop-block g l =
-    Left (g.W.Sink.output l.initial.writer) (g.W.Sink.output l.writer) (ticks_text l.y l.blocks) (ticks_text l.y (drop l.block-index l.blocks))
+    Left (g.P.Pen.offered l.initial.pen) (g.P.Pen.offered l.pen) (ticks_text l.y l.blocks) (ticks_text l.y (drop l.block-index l.blocks))

@@ -1,4 +1,4 @@
-use Rattle.rh_painted.proofs.Common.{ℕ, None, Some, ap, ap₂, sym, ◌∙◌, list_any, transfer_row, outs_of, puts_none, puts_same}
+use Rattle.rh_painted.proofs.Common.{ℕ, None, Some, ap, ap₂, sym, ◌∙◌, list_any, transfer_row, outs_of, offered_as, offered_none}
 use Rattle.rh_defs.specs.declared.question.RecordItem.{RecordItem}
 use Rattle.rh_figure.specs.Figure.{Transfer, has_id}
 use Rattle.rh_drawn.proofs.TransferLemmas.{in-id}
@@ -10,7 +10,7 @@ returns-then-has_out g c =
     let outs = outs_of (g.S.Sight.desk c.args.sight.now) in
     let r = c.args.record.now in
     let known = ap (λ n. list_any (has_id n) outs) (sym c.in_id-id.ensures) ∙ (sym c.has_out.ensures ∙ c.if-has_out.true) in
-    puts_same (sym (in_rows-none outs c.args.name.now r known)) (puts_none _)
+    offered_as _ (sym (in_rows-none outs c.args.name.now r known)) (offered_none _)
 
 pub returns : goal.returns
 returns g c =
@@ -20,4 +20,4 @@ returns g c =
     let alone : ℕ → RecordItem → Transfer =
     λ id item. record { id = id; goes_out = None; comes_in = Some (c.args.name.now, item) } in
     let row = ap₂ (λ id item. transfer_row (alone id item)) (c.in_id-id.ensures ∙ sym (in-id r)) c.in_item.ensures in
-    puts_same (row ∙ sym (in_rows-one outs c.args.name.now r unknown)) c.print_transfer_row.ensures
+    offered_as _ (row ∙ sym (in_rows-one outs c.args.name.now r unknown)) c.print_transfer_row.ensures

@@ -1,5 +1,5 @@
-use Rattle.rh_painted.proofs.Common.{◌≡◌, ◌<◌, List, ℕ, length, ap₂, subst, refl, arith, flat_map, slice_get_within, Task, ins_of, outs_of, in_rows}
-use Rattle.rh_painted.proofs.Common.{ins_named, Left, left_breaks, left_less, left_none, left_whole, puts_same}
+use Rattle.rh_painted.proofs.Common.{◌≡◌, ◌<◌, length, ap₂, refl, arith, flat_map, slice_get_within, Task, ins_of, outs_of, in_rows}
+use Rattle.rh_painted.proofs.Common.{ins_named, left_less, left_none, left_from, offered_as}
 use Rattle.rh_painted.proofs.TableLemmas.{in_rows-flat}
 use Rattle.rh_painted.proofs.TextWalks.{text-none, text-some}
 use Rattle.rh_painted.proofs.transfers.print_ins.Goals as goal
@@ -7,12 +7,10 @@ use Rattle.rh_painted.proofs.transfers.print_ins.Goals as goal
 pub tasks-init : goal.tasks-init
 tasks-init g c =
     let d = g.S.Sight.desk c.args.sight.now in
-    let s = g.W.Sink.output c.args.writer.now in
     let whole = in_rows (outs_of d) (ins_of d) in
     let are : whole ≡ flat_map (λ (t : Task). in_rows (outs_of d) (ins_named t.name t.taking)) d.tasks =
     in_rows-flat (outs_of d) d.tasks in
-    let P : List ℕ → Type 0 = λ z. Left s s whole z in
-    subst P are (left_whole s whole)
+    left_from _ are
 
 pub tasks-preserved : goal.tasks-preserved
 tasks-preserved g c =
@@ -21,23 +19,14 @@ tasks-preserved g c =
     let of_one = λ (t : Task). in_rows (outs_of d) (ins_named t.name t.taking) in
     let next = text-some (flat_map of_one) of_one (λ t rest. refl) d.tasks c.tasks.i s.0 s.1 in
     let same = ap₂ (λ n rs. in_rows (outs_of d) (ins_named n rs)) s.2.name s.2.taking in
-    left_less c.tasks.invariant next (puts_same same c.in_ok-print_task_ins.ensures).ok
-
-pub returns-in_err-print_task_ins : goal.returns-in_err-print_task_ins
-returns-in_err-print_task_ins g c =
-    let d = g.S.Sight.desk c.args.sight.now in
-    let s = c.in-Some.ensures.some in
-    let of_one = λ (t : Task). in_rows (outs_of d) (ins_named t.name t.taking) in
-    let next = text-some (flat_map of_one) of_one (λ t rest. refl) d.tasks c.tasks.i s.0 s.1 in
-    let same = ap₂ (λ n rs. in_rows (outs_of d) (ins_named n rs)) s.2.name s.2.taking in
-    left_breaks _ _ c.tasks.invariant next (puts_same same c.in_err-print_task_ins.ensures) c.from_residual.ensures.0
+    left_less _ c.tasks.invariant next (offered_as _ same c.print_task_ins.ensures)
 
 pub returns : goal.returns
 returns g c =
     let d = g.S.Sight.desk c.args.sight.now in
     let of_one = λ (t : Task). in_rows (outs_of d) (ins_named t.name t.taking) in
     let none = text-none (flat_map of_one) refl d.tasks c.tasks.i c.in_default.ensures.none in
-    record { ok = left_none c.tasks.invariant none; err = tt }
+    left_none c.tasks.invariant none
 
 pub overflow_add-i : goal.overflow_add-i
 overflow_add-i g c =

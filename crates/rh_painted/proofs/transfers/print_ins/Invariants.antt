@@ -5,7 +5,7 @@ use Rattle.rh_painted.proofs.transfers.print_ins.Given as goal
 abbrev pub invariant-tasks : goal.invariant-tasks
 invariant-tasks g l =
     let d = g.S.Sight.desk l.sight in
-    Left (g.W.Sink.output l.initial.writer) (g.W.Sink.output l.writer)
+    Left (g.P.Pen.offered l.initial.pen) (g.P.Pen.offered l.pen)
     (in_rows (outs_of d) (ins_of d))
     (flat_map (λ (t : Task). in_rows (outs_of d) (ins_named t.name t.taking)) (drop l.i d.tasks))
 

@@ -1,5 +1,5 @@
-use Rattle.rh_painted.proofs.Common.{◌≡◌, ◌<◌, List, ℕ, length, ap₂, subst, refl, arith, flat_map, slice_get_within, Task, ins_of, outs_of, out_rows}
-use Rattle.rh_painted.proofs.Common.{outs_named, Left, left_breaks, left_less, left_none, left_whole, puts_same}
+use Rattle.rh_painted.proofs.Common.{◌≡◌, ◌<◌, length, ap₂, refl, arith, flat_map, slice_get_within, Task, ins_of, outs_of, out_rows}
+use Rattle.rh_painted.proofs.Common.{outs_named, left_less, left_none, left_from, offered_as}
 use Rattle.rh_painted.proofs.TableLemmas.{out_rows-flat}
 use Rattle.rh_painted.proofs.TextWalks.{text-none, text-some}
 use Rattle.rh_painted.proofs.transfers.print_outs.Goals as goal
@@ -7,12 +7,10 @@ use Rattle.rh_painted.proofs.transfers.print_outs.Goals as goal
 pub tasks-init : goal.tasks-init
 tasks-init g c =
     let d = g.S.Sight.desk c.args.sight.now in
-    let s = g.W.Sink.output c.args.writer.now in
     let whole = out_rows (ins_of d) (outs_of d) in
     let are : whole ≡ flat_map (λ (t : Task). out_rows (ins_of d) (outs_named t.name t.sending)) d.tasks =
     out_rows-flat (ins_of d) d.tasks in
-    let P : List ℕ → Type 0 = λ z. Left s s whole z in
-    subst P are (left_whole s whole)
+    left_from _ are
 
 pub tasks-preserved : goal.tasks-preserved
 tasks-preserved g c =
@@ -21,23 +19,14 @@ tasks-preserved g c =
     let of_one = λ (t : Task). out_rows (ins_of d) (outs_named t.name t.sending) in
     let next = text-some (flat_map of_one) of_one (λ t rest. refl) d.tasks c.tasks.i s.0 s.1 in
     let same = ap₂ (λ n rs. out_rows (ins_of d) (outs_named n rs)) s.2.name s.2.sending in
-    left_less c.tasks.invariant next (puts_same same c.in_ok-print_task_outs.ensures).ok
-
-pub returns-in_err-print_task_outs : goal.returns-in_err-print_task_outs
-returns-in_err-print_task_outs g c =
-    let d = g.S.Sight.desk c.args.sight.now in
-    let s = c.in-Some.ensures.some in
-    let of_one = λ (t : Task). out_rows (ins_of d) (outs_named t.name t.sending) in
-    let next = text-some (flat_map of_one) of_one (λ t rest. refl) d.tasks c.tasks.i s.0 s.1 in
-    let same = ap₂ (λ n rs. out_rows (ins_of d) (outs_named n rs)) s.2.name s.2.sending in
-    left_breaks _ _ c.tasks.invariant next (puts_same same c.in_err-print_task_outs.ensures) c.from_residual.ensures.0
+    left_less _ c.tasks.invariant next (offered_as _ same c.print_task_outs.ensures)
 
 pub returns : goal.returns
 returns g c =
     let d = g.S.Sight.desk c.args.sight.now in
     let of_one = λ (t : Task). out_rows (ins_of d) (outs_named t.name t.sending) in
     let none = text-none (flat_map of_one) refl d.tasks c.tasks.i c.in_default.ensures.none in
-    record { ok = left_none c.tasks.invariant none; err = tt }
+    left_none c.tasks.invariant none
 
 pub overflow_add-i : goal.overflow_add-i
 overflow_add-i g c =

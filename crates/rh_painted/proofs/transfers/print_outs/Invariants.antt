@@ -5,7 +5,7 @@ use Rattle.rh_painted.proofs.transfers.print_outs.Given as goal
 abbrev pub invariant-tasks : goal.invariant-tasks
 invariant-tasks g l =
     let d = g.S.Sight.desk l.sight in
-    Left (g.W.Sink.output l.initial.writer) (g.W.Sink.output l.writer)
+    Left (g.P.Pen.offered l.initial.pen) (g.P.Pen.offered l.pen)
     (out_rows (ins_of d) (outs_of d))
     (flat_map (λ (t : Task). out_rows (ins_of d) (outs_named t.name t.sending)) (drop l.i d.tasks))
 

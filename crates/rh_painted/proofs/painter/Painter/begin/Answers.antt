@@ -1,7 +1,13 @@
-use Rattle.rh_painted.proofs.Common.{◌∙◌, ap, puts_same}
+use Rattle.rh_painted.proofs.Common.{◌∙◌, ap, offered_as, rules, sym}
+use Rattle.rh_lines.proofs.PenLemmas.{done_as, wrote}
 use Rattle.rh_sheet.specs.Sheet.{sheet_head}
 use Rattle.rh_painted.proofs.painter.Painter.begin.Goals as goal
 
 pub returns-clause-text : goal.returns-clause-text
 returns-clause-text g c =
-    puts_same (ap (λ n. sheet_head c.args.name.now n) (c.len.ensures.value ∙ c.page_list.ensures.all)) c.print_head.ensures
+    let text = sheet_head c.args.name.now (g.D.Sight.desk c.args.self.now.drawn).pool in
+    let head = offered_as _ (ap (λ n. sheet_head c.args.name.now n) (c.len.ensures.value ∙ c.page_list.ensures.all)) c.print_head.ensures in
+    let w = wrote c.new-pen.result c.print_head.new.pen text head in
+    let same = sym (w.same_reference ∙ c.new-pen.ensures.same_reference) in
+    let p = done_as c.new-pen.result c.print_head.new.pen _ _ text c.done.result head c.new-pen.ensures.begun c.new-pen.ensures.text c.done.ensures in
+    search rules

@@ -1,4 +1,4 @@
-use Rattle.rh_painted.proofs.Common.{ap, refl, Ok, Some, step, reply_to}
+use Rattle.rh_painted.proofs.Common.{ap, refl, Some, step, reply_to}
 use Rattle.rh_painted.proofs.StepLemmas.{took-command}
 use Rattle.rh_painted.proofs.painter.Painter.pass.Goals as goal
 
@@ -9,7 +9,7 @@ returns-clause-left g c = λ o line.
     let b = c.change.new.self in
     let command = c.args.command.now in
     let reply = (step (desk m.drawn) command).1 in
-    took-command desk m b c.leave_out.new.self o o (Ok tt) line (record {
+    took-command desk m b c.leave_out.new.self o o line (record {
       marked = ap (λ z. z.marked) c.change.ensures.rest;
       progress = ap (λ z. z.progress) c.change.ensures.rest;
       notes = ap (λ z. z.notes.items) c.change.ensures.rest;

@@ -1,51 +1,10 @@
-use Rattle.rh_painted.proofs.Common.{◌∙◌, List, ℕ, ap, ap₂, refl, subst, sym, ◌&&◌, not, option_map, puts_same, scene_of, puts_stops, step_text, scene_at}
-use Rattle.rh_painted.proofs.Common.{happened_at}
+use Rattle.rh_painted.proofs.Common.{◌∙◌, List, ℕ, ap, ap₂, refl, subst, sym, ◌&&◌, not, offered_as, scene_of, step_text, scene_at}
 use Rattle.rh_drawn.specs.DrawnReplies.{Excerpts}
 use Rattle.rh_sight.specs.SightPages.{share_in}
 use Rattle.rh_sight.specs.Steps.{marks_seen}
 use Rattle.rh_painted.specs.PaintedProgress.{stand_shown}
-use Rattle.rh_painted.proofs.PrintLemmas.{puts-stop, puts-then}
-use Rattle.rh_painted.proofs.StepLemmas.{err-comes}
+use Rattle.rh_painted.proofs.TextPuts.{text_then}
 use Rattle.rh_painted.proofs.painter.Painter.show.Goals as goal
-
-pub returns-in_err-open_step-clause-text : goal.returns-in_err-open_step-clause-text
-returns-in_err-open_step-clause-text g c = λ text excerpt.
-    let desk = g.D.Sight.desk in
-    let m = c.args.self.now in
-    let deed = c.args.deed in
-    let h = happened_at (desk m.drawn) (share_in c.page_list.new.list.items (desk m.drawn)) deed.kept.now (option_map
-    (λ z. z.now) deed.command) deed.reply.now text in
-    record {
-      share = share_in c.page_list.new.list.items (desk m.drawn);
-      shared = c.page_list.ensures.shared;
-      puts = puts-stop (step_text (h.still && not deed.wanted) m.progress.steps c.args.line.now text h.scene m.notes.items m.progress.last)
-          c.in_err-open_step.ensures c.from_residual.ensures.0;
-      next = err-comes _ c.from_residual.result c.from_residual.ensures.0;
-    }
-
-pub returns-in_err-print_step-clause-text : goal.returns-in_err-print_step-clause-text
-returns-in_err-print_step-clause-text g c = λ text excerpt.
-    let desk = g.D.Sight.desk in
-    let m = c.args.self.now in
-    let d = desk m.drawn in
-    let deed = c.args.deed in
-    let step = c.step_of-step.result in
-    let is = c.step_of-step.ensures in
-    let still = c.holds_unless.ensures ∙ ap (λ z. z && not deed.wanted) c.is_still.ensures in
-    let P : List ℕ → Type 0 = λ z. Excerpts z deed.count text in
-    let scene = ap₂ (λ pages kept. scene_of d (share_in pages d) kept (marks_seen step.marks)) is.pages is.kept
-    ∙ ap (scene_of d (share_in c.page_list.new.list.items d) deed.kept.now) is.marks in
-    let words = ap₂ (λ n last. step_text c.holds_unless.result n c.args.line.now text (scene_at d step) m.notes.items last) c.steps.ensures c.last.ensures
-    ∙ ap₂ (λ b x. step_text b m.progress.steps c.args.line.now text x m.notes.items m.progress.last) still scene in
-    record {
-      share = share_in c.page_list.new.list.items d;
-      shared = c.page_list.ensures.shared;
-      puts = puts-then c.in_ok-open_step.ensures
-          (puts_stops c.from_residual-in_err-print_step.result (puts_same words (c.in_err-print_step.ensures text (subst P
-          (sym c.as_slice.ensures) excerpt)))
-          c.from_residual-in_err-print_step.ensures.0);
-      next = err-comes _ c.from_residual-in_err-print_step.result c.from_residual-in_err-print_step.ensures.0;
-    }
 
 pub returns-clause-text : goal.returns-clause-text
 returns-clause-text g c = λ text excerpt.
@@ -64,7 +23,7 @@ returns-clause-text g c = λ text excerpt.
     record {
       share = share_in c.page_list.new.list.items d;
       shared = c.page_list.ensures.shared;
-      puts = puts-then c.in_ok-open_step.ensures (puts_same words (c.in_ok-print_step.ensures text (subst P (sym c.as_slice.ensures) excerpt)));
+      offered = text_then _ _ _ c.open_step.ensures (offered_as _ words (c.print_step.ensures text (subst P (sym c.as_slice.ensures) excerpt)));
       next = record {
         drawn_is = refl;
         marked_is = refl;

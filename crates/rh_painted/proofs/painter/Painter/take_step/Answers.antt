@@ -21,8 +21,9 @@ returns-clause-text g c = λ text excerpt.
       progress = c.begin_step.ensures.next;
       notes = λ s. c.begin_step.ensures.notes s deed.kept.now (marks_of (desk m.drawn) deed.kept.now command deed.reply.now) c.sender.ensures;
     } in
-    took-shown desk m b c.show.new.self (g.W.Sink.output c.args.writer.now) (g.W.Sink.output c.show.new.writer) c.show.result c.args.line.now h deed.wanted
-    c.requires.wanted is c.requires.shown
-    (wrote-over desk b c.show.new.self (g.W.Sink.output c.args.writer.now) (g.W.Sink.output c.show.new.writer) c.show.result c.args.line.now deed.wanted
+    let o = g.P.Pen.offered c.args.pen.now in
+    let p = g.P.Pen.offered c.show.new.pen in
+    took-shown desk m b c.show.new.self o p c.args.line.now h deed.wanted c.requires.wanted is c.requires.shown
+    (wrote-over desk b c.show.new.self o p c.args.line.now deed.wanted
     deed.kept.now command deed.reply.now text is.drawn
     (c.show.ensures.text text (subst P (sym (ap (λ z. front_of z.front) c.begin_step.ensures.rest)) excerpt)))

@@ -1,31 +1,26 @@
-use Rattle.rh_painted.proofs.TakeLemmas.{empty-broke, empty-took, err-only, some-broke, some-stops, some-took}
+use Rattle.rh_painted.proofs.Common.{rules, sheet_lines, sym, walk_in, ◌∙◌}
+use Rattle.rh_lines.proofs.PenLemmas.{done_as, wrote}
+use Rattle.rh_painted.proofs.TakeLemmas.{rest-broke, rest-took}
 use Rattle.rh_painted.proofs.painter.PainterLineTaker.take_rest.Goals as goal
-
-pub returns-then-is_empty-clause-ok : goal.returns-then-is_empty-clause-ok
-returns-then-is_empty-clause-ok g c =
-    empty-took g.D.Sight.desk c.args.self.now (g.W.Sink.output c.args.writer.now) (g.W.Sink.output c.end.new.writer) c.end.result c.end.ensures c.args.rest.now
-    c.if-is_empty.ensures
-
-pub returns-then-is_empty-clause-err : goal.returns-then-is_empty-clause-err
-returns-then-is_empty-clause-err g c =
-    empty-broke g.D.Sight.desk c.args.self.now (g.W.Sink.output c.args.writer.now) (g.W.Sink.output c.end.new.writer) c.end.result c.end.ensures c.args.rest.now
-    c.if-is_empty.ensures
-
-pub returns-in_err-refuse-clause-err : goal.returns-in_err-refuse-clause-err
-returns-in_err-refuse-clause-err g c =
-    err-only c.from_residual.result (some-stops g.D.Sight.desk c.args.self.now (g.W.Sink.output c.args.writer.now) c.args.rest.now c.if-is_empty.ensures
-    c.rest_fault-fault.result c.rest_fault-fault.ensures c.in_err-refuse.ensures.err)
 
 pub returns-clause-ok : goal.returns-clause-ok
 returns-clause-ok g c =
-    some-took g.D.Sight.desk c.args.self.now (g.W.Sink.output c.args.writer.now) c.args.rest.now c.if-is_empty.ensures
-    c.rest_fault-fault.result c.rest_fault-fault.ensures c.refuse.new.self (g.W.Sink.output c.refuse.new.writer)
-    (g.W.Sink.output c.end-2.new.writer) c.end-2.result
-    c.in_ok-refuse.ensures.ok c.end-2.ensures
+    let m = c.args.self.now in
+    let drew = c.paint_rest.ensures in
+    let text = sheet_lines m.marked (walk_in g.D.Sight.desk m) drew.stages in
+    let w = wrote c.new-pen.result c.paint_rest.new.pen text drew.offered in
+    let same = sym (w.same_reference ∙ c.new-pen.ensures.same_reference) in
+    let p = done_as c.new-pen.result c.paint_rest.new.pen _ _ text c.done.result drew.offered c.new-pen.ensures.begun c.new-pen.ensures.text c.done.ensures in
+    let is = rest-took _ _ c.done.result drew p in
+    search rules
 
 pub returns-clause-err : goal.returns-clause-err
 returns-clause-err g c =
-    some-broke g.D.Sight.desk c.args.self.now (g.W.Sink.output c.args.writer.now) c.args.rest.now c.if-is_empty.ensures
-    c.rest_fault-fault.result c.rest_fault-fault.ensures c.refuse.new.self (g.W.Sink.output c.refuse.new.writer)
-    (g.W.Sink.output c.end-2.new.writer) c.end-2.result
-    c.in_ok-refuse.ensures.ok c.end-2.ensures
+    let m = c.args.self.now in
+    let drew = c.paint_rest.ensures in
+    let text = sheet_lines m.marked (walk_in g.D.Sight.desk m) drew.stages in
+    let w = wrote c.new-pen.result c.paint_rest.new.pen text drew.offered in
+    let same = sym (w.same_reference ∙ c.new-pen.ensures.same_reference) in
+    let p = done_as c.new-pen.result c.paint_rest.new.pen _ _ text c.done.result drew.offered c.new-pen.ensures.begun c.new-pen.ensures.text c.done.ensures in
+    let is = rest-broke _ _ c.done.result drew p in
+    search rules
