@@ -42,7 +42,7 @@ pub mod WorkTurns
 pub mod Wants
 pub mod WantEdits
 pub mod WantDeeds
-pub mod WantPolls
+pub mod WantRecords
 pub mod WantTurns
 pub mod RestLaws
 pub mod RestRows

@@ -51,8 +51,8 @@ use Rattle.rh_laws.proofs.Wants.{AllWait, HasWant, InWants, OutWants, Unanswered
 use Rattle.rh_laws.proofs.WantEdits.{For, KeepsFile, OldIds, Picks, Then, answer, killed-waits, left_by, own_back, picked-waits, picks, quiet-asks, quiet-told}
 use Rattle.rh_laws.proofs.WantEdits.{returned-waits, started-waits}
 use Rattle.rh_laws.proofs.WantDeeds.{Anew, Before, Sends}
-use Rattle.rh_laws.proofs.WantPolls.{InWant, OutsOf, asks-fits, by_ask, by_drain, by_fetch, deed, ids-stay, in-want, ins-stay, out-want, outs-moved, outs-stay}
-use Rattle.rh_laws.proofs.WantPolls.{un}
+use Rattle.rh_laws.proofs.WantRecords.{InWant, OutsOf, asks-fits, by_ask, by_drain, by_fetch, deed, ids-stay, in-want, ins-stay, out-want, outs-moved}
+use Rattle.rh_laws.proofs.WantRecords.{outs-stay, un}
 use Rattle.rh_laws.proofs.WantTurns.{handled-waits}
 
 -- ---- a desk whose records are some of another one's
@@ -105,12 +105,13 @@ frame-all d bl hp sc keeps = leads (record {
 refs-below : {o : Offers} {e : Edits} {d : sight.Desk} → Inv o e d → (h : ℕ) (w : Want) → Wants d h w → ref_of w < d.next_ref
 refs-below {d = d} inv h w (HasWant.comes x) = by (in-want x.one w x.wants)
   where
+    here : {v : In} → x.one ≡ v → Has v (d.taking h)
+    here same = subst (λ v. Has v (d.taking h)) same x.has
+
     by : InWant x.one w → ref_of w < d.next_ref
-    by (by_fetch f same is) = let z = (inv.ins.buffer h f (inl (subst (λ v. Has v (d.taking h)) same x.has))).below in let r =
-        ap ref_of is in omega (arith, z, r)
-    by (by_drain f same is) = let z = (inv.ins.buffer h f (inr (subst (λ v. Has v (d.taking h)) same x.has))).below in let r =
-        ap ref_of is in omega (arith, z, r)
-    by (by_ask q same is) = let z = inv.loads.ack_below h q (subst (λ v. Has v (d.taking h)) same x.has) in let r = ap ref_of is in omega (arith, z, r)
+    by (by_fetch f same is) = let z = (inv.ins.buffer h f (inl (here same))).below in let r = ap ref_of is in omega (arith, z, r)
+    by (by_drain f same is) = let z = (inv.ins.buffer h f (inr (here same))).below in let r = ap ref_of is in omega (arith, z, r)
+    by (by_ask q same is) = let z = inv.loads.ack_below h q (here same) in let r = ap ref_of is in omega (arith, z, r)
 refs-below {d = d} inv h w (HasWant.goes x) =
     let y = out-want (d.file h) x.one w x.wants in
     let z = (inv.outs.source h y.0 (subst (λ v. Has v (d.sending h)) y.1.0 x.has)).below in

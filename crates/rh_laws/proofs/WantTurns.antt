@@ -31,9 +31,9 @@ use Rattle.rh_safety.proofs.View.{seen_letter, seen_scrap}
 use Rattle.rh_laws.proofs.Wants.{AllWait, Asks, InWants, Tells, Want, file, is_sent, part, peer_of, ref_of, reply, want_in, want_out}
 use Rattle.rh_laws.proofs.WantEdits.{For, answer, own_back}
 use Rattle.rh_laws.proofs.WantDeeds.{Anew, Before, Sends}
-use Rattle.rh_laws.proofs.WantPolls.{InWant, NoneIn, NoneOut, OnlyIn, OnlyOut, active-none, asking-none, asks-fits, by_ask, by_drain, by_fetch, deed, files}
-use Rattle.rh_laws.proofs.WantPolls.{fits, idle, ids-moved, in-deed, in-want, ins-moved, none-sent, out-deed, out-want, outs-stay, parts, replies, sort_of}
-use Rattle.rh_laws.proofs.WantPolls.{tells-fits, un}
+use Rattle.rh_laws.proofs.WantRecords.{InWant, NoneIn, NoneOut, OnlyIn, OnlyOut, active-none, asking-none, asks-fits, by_ask, by_drain, by_fetch, deed, files}
+use Rattle.rh_laws.proofs.WantRecords.{fits, idle, ids-moved, in-deed, in-want, ins-moved, none-sent, out-deed, out-want, outs-stay, parts, replies, sort_of}
+use Rattle.rh_laws.proofs.WantRecords.{tells-fits, un}
 
 module _ {o : Offers} {e : Edits} (d : Desk) (t : Task) (m : Parcel) (is : task_of t.handle d.tasks ≡ Some t) (inv : Inv o e (view d)) where
   abbrev D : sight.Desk
