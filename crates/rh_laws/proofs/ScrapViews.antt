@@ -55,11 +55,7 @@ pub back_is : (d : Desk) (t : Task) (m : Parcel) (b : Body) → action_of b ≡ 
     transfer.came_back d t m b ≡ perform_take d t (receiver.on_taking_bounce m.message.my_ref t.taking)
 unfolding transfer.came_back
 back_is d t m (body.RamFetch a n) q = refl
-back_is d t m (body.DataSave f) q = absurd (let z : action.DataSave ≡ action.RamFetch = q in (cc))
-back_is d t m (body.DataSaveAck f) q = absurd (let z : action.DataSaveAck ≡ action.RamFetch = q in (cc))
-back_is d t m (body.DataLoad f) q = absurd (let z : action.DataLoad ≡ action.RamFetch = q in (cc))
-back_is d t m (body.DataLoadAck f) q = absurd (let z : action.DataLoadAck ≡ action.RamFetch = q in (cc))
-back_is d t m (body.RamTransmit a n) q = absurd (let z : action.RamTransmit ≡ action.RamFetch = q in (cc))
+back_is d t m b q = absurd cc
 
 -- ---- what is seen then
 

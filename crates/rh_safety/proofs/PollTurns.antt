@@ -87,11 +87,7 @@ came_of e t p Acknowledge ne = absurd (ne refl)
 
 fetch_body : (b : Body) → action_of b ≡ action.RamFetch → body.RamFetch (address_in b) (amount_in b) ≡ b
 fetch_body (body.RamFetch a n) q = refl
-fetch_body (body.DataSave x) q = absurd (let z : action.DataSave ≡ action.RamFetch = q in (cc))
-fetch_body (body.DataSaveAck x) q = absurd (let z : action.DataSaveAck ≡ action.RamFetch = q in (cc))
-fetch_body (body.DataLoad x) q = absurd (let z : action.DataLoad ≡ action.RamFetch = q in (cc))
-fetch_body (body.DataLoadAck x) q = absurd (let z : action.DataLoadAck ≡ action.RamFetch = q in (cc))
-fetch_body (body.RamTransmit a n) q = absurd (let z : action.RamTransmit ≡ action.RamFetch = q in (cc))
+fetch_body b q = absurd cc
 
 -- the record x of task h answers the fetch l from the source, into the buffer's old bytes
 pub record Answers (d : sight.Desk) (h : ℕ) (l : Letter) (x : Sending) (source old : List ℕ) : Type 0 where
@@ -148,11 +144,7 @@ fetch_turn d h m a (takes d2 t p is taken) granted came kind x source old w =
 
 transmit_body : (b : Body) → action_of b ≡ action.RamTransmit → body.RamTransmit (address_in b) (amount_in b) ≡ b
 transmit_body (body.RamTransmit a n) q = refl
-transmit_body (body.DataSave x) q = absurd (let z : action.DataSave ≡ action.RamTransmit = q in (cc))
-transmit_body (body.DataSaveAck x) q = absurd (let z : action.DataSaveAck ≡ action.RamTransmit = q in (cc))
-transmit_body (body.DataLoad x) q = absurd (let z : action.DataLoad ≡ action.RamTransmit = q in (cc))
-transmit_body (body.DataLoadAck x) q = absurd (let z : action.DataLoadAck ≡ action.RamTransmit = q in (cc))
-transmit_body (body.RamFetch a n) q = absurd (let z : action.RamFetch ≡ action.RamTransmit = q in (cc))
+transmit_body b q = absurd cc
 
 -- the record of task h that takes the transmit
 abbrev pub taker : sight.Desk → ℕ → Letter → Option Incoming
@@ -219,11 +211,7 @@ save_body : (d : Desk) (t : Task) (m : Parcel) (b : Body) → action_of b ≡ ac
     transfer.came d t m b ≡ perform_take d t (for_save t m)
 unfolding transfer.came
 save_body d t m (body.DataSave x) q = refl
-save_body d t m (body.RamFetch a n) q = absurd (let z : action.RamFetch ≡ action.DataSave = q in (cc))
-save_body d t m (body.DataSaveAck x) q = absurd (let z : action.DataSaveAck ≡ action.DataSave = q in (cc))
-save_body d t m (body.DataLoad x) q = absurd (let z : action.DataLoad ≡ action.DataSave = q in (cc))
-save_body d t m (body.DataLoadAck x) q = absurd (let z : action.DataLoadAck ≡ action.DataSave = q in (cc))
-save_body d t m (body.RamTransmit a n) q = absurd (let z : action.RamTransmit ≡ action.DataSave = q in (cc))
+save_body d t m b q = absurd cc
 
 pub save_turn : (d : Desk) (h : ℕ) (m : Message) (a : Answer) → Turn d h m a → is_refused_poll a.1 ≡ false →
     (m.code ≡ Acknowledge → ⊥) → m.letter.kind ≡ action.DataSave →
