@@ -315,10 +315,7 @@ module _ (c : Claims) (d : Desk) {o : Offers} {e : Edits} (g : Good o e (view d)
     where
       same-buffer : (p : ℕ) (v : Incoming) → is_buffer_of p (receiver.cancelled v) ≡ is_buffer_of p v
       same-buffer p (incoming.Fetching x) = refl
-      same-buffer p (incoming.Draining x) = refl
-      same-buffer p (incoming.Asking x) = refl
-      same-buffer p (incoming.Done i k n) = refl
-      same-buffer p (incoming.Failed i k n) = refl
+      same-buffer p _ = refl
 
   cancel_out-own : (name : List ℕ) (id : Option ℕ) → OnGrant (Still name) (cancel_out d name id)
   unfolding cancel_out

@@ -67,10 +67,7 @@ module _ (a : Addresses) (d : Desk) (g : Agrees a d) where
 
   changed-agrees : {c : Command} (x : Answer) → Changed c d x → Keeps x
   changed-agrees _ (in_slot name t s same_name e is) = record { desk = slot-agrees t.handle s d g }
-  changed-agrees _ (in_module h is) = record { desk = g }
-  changed-agrees _ (in_areas areas is) = record { desk = g }
-  changed-agrees _ (in_made areas is) = record { desk = g }
-  changed-agrees _ (in_nothing is) = record { desk = g }
+  changed-agrees _ _ = record { desk = g }
 
   memory-keeps : (c : Command) → IsOnMemory c → OnGrant Keeps (change d c)
   memory-keeps c is = granted-on d c is changed-agrees
@@ -159,11 +156,7 @@ module _ (a : Addresses) (d : Desk) (g : Agrees a d) where
       Extends a (addressed_again a (next_ref d) old b) × ((i : ℕ) → next_ref d + 1 ≤ i → addressed_again a (next_ref d) old b i ≡ None)
       × BodyAgrees (addressed_again a (next_ref d) old b) h r (next_ref d) b
   again-agrees h r old (body.DataSave file) is = (more (a old), later (a old), new-here a (next_ref d) (a old) ∙ is)
-  again-agrees h r old (body.DataSaveAck file) is = (λ i p q. q, λ i low. g.born i (omega (arith, low)), tt)
-  again-agrees h r old (body.DataLoad file) is = (λ i p q. q, λ i low. g.born i (omega (arith, low)), tt)
-  again-agrees h r old (body.DataLoadAck file) is = (λ i p q. q, λ i low. g.born i (omega (arith, low)), tt)
-  again-agrees h r old (body.RamFetch buffer n) is = (λ i p q. q, λ i low. g.born i (omega (arith, low)), tt)
-  again-agrees h r old (body.RamTransmit buffer n) is = (λ i p q. q, λ i low. g.born i (omega (arith, low)), tt)
+  again-agrees h r old _ is = (λ i p q. q, λ i low. g.born i (omega (arith, low)), tt)
 
   repeat-follows : (name : List ℕ) → OnGrant (Follows (command.Repeat name)) (repeat d name)
   unfolding repeat

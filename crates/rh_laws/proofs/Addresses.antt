@@ -89,11 +89,7 @@ new-here a ref v = elim (eqb_tells ref ref) [ inl w ↦ rw w.0 refl | inr w ↦ 
 module _ (a b : Addresses) (more : Extends a b) where
   body-extends : (s r ref : ℕ) (c : Body) → BodyAgrees a s r ref c → BodyAgrees b s r ref c
   body-extends s r ref (body.DataSave file) is = more ref _ is
-  body-extends s r ref (body.DataSaveAck file) is = tt
-  body-extends s r ref (body.DataLoad file) is = tt
-  body-extends s r ref (body.DataLoadAck file) is = tt
-  body-extends s r ref (body.RamFetch buffer n) is = tt
-  body-extends s r ref (body.RamTransmit buffer n) is = tt
+  body-extends s r ref _ is = tt
 
   code-extends : (c : EventCode) {P Q : Type 0} → (P → Q) → CodeAgrees c P → CodeAgrees c Q
   code-extends User f is = f is

@@ -161,10 +161,7 @@ module _ (a : Marks) (d : Desk) (f : Fits d) (g : Agrees a d) where
 
   changed-agrees : {c : Command} (x : Answer) → Changed c d x → Keeps a x
   changed-agrees _ (in_slot name t s is e quiet) = agreed (slot-agrees t.handle s d g)
-  changed-agrees _ (in_module h quiet) = agreed g
-  changed-agrees _ (in_areas areas quiet) = agreed g
-  changed-agrees _ (in_made areas quiet) = agreed g
-  changed-agrees _ (in_nothing quiet) = agreed g
+  changed-agrees _ _ = agreed g
 
   memory-keeps : (c : Command) → IsOnMemory c → OnGrant (Keeps a) (change d c)
   memory-keeps c is = granted-on d c is changed-agrees
@@ -199,9 +196,7 @@ module _ (a : Marks) (d : Desk) (f : Fits d) (g : Agrees a d) where
   belongs from my your (body.DataSave file) is = None
   belongs from my your (body.DataSaveAck file) is = Some your
   belongs from my your (body.DataLoad file) is = Some is.0
-  belongs from my your (body.DataLoadAck file) is = None
-  belongs from my your (body.RamFetch buffer n) is = None
-  belongs from my your (body.RamTransmit buffer n) is = None
+  belongs from my your _ is = None
 
   -- a message once more says the same under the next ref
   says-again : (from my your : ℕ) (b : Body) (is : Says a from my your b) →

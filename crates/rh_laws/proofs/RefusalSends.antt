@@ -62,10 +62,7 @@ none-coming id (r ∷ records) =
   where
     same : (r : Incoming) → receiver.is_wanted id r ≡ is_coming_one id r
     same (incoming.Fetching f) = refl
-    same (incoming.Draining f) = refl
-    same (incoming.Asking q) = refl
-    same (incoming.Done i k n) = refl
-    same (incoming.Failed i k n) = refl
+    same _ = refl
 
     go : (b c : Bool) → b ≡ c
         → is_none (find (receiver.is_wanted id) records) ≡ not (list_any (is_coming_one id) records)

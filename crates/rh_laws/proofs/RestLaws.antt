@@ -187,8 +187,7 @@ module _ {o : Offers} {e : Edits} (d : Desk) (t : Task) (fit : Fits d) (is : tas
   picked-lost : (S : sight.Desk) (m : Message) (sc : Option sight.Scrap) (c : Code) →
       sight.picked (with_scrap sc S) k m c ≡ with_scrap sc (sight.picked S k m c)
   picked-lost S m sc Plain = refl
-  picked-lost S m sc Recorded = refl
-  picked-lost S m sc Returned = refl
+  picked-lost S m sc _ = refl
 
   module _ (p : Post × Option Parcel) (own : HaveOwnSeats p.0) (w : IsTaken d k p) where
     abbrev d1 : Desk
@@ -470,10 +469,7 @@ module _ {o : Offers} {e : Edits} (d : Desk) (fit : Fits d) (good : Good o e (vi
 
       cancelled-id : (x : In) → in_id (receiver.cancelled x) ≡ in_id x
       cancelled-id (Fetching f) = refl
-      cancelled-id (Draining f) = refl
-      cancelled-id (Asking q) = refl
-      cancelled-id (In_done i a n) = refl
-      cancelled-id (In_failed i a n) = refl
+      cancelled-id _ = refl
 
       given_up : (t : Task) (x : In) (records : List In) → named name d ≡ Ok t → Has x t.taking →
           with_id in_id (in_id x) (receiver.cancelled x) t.taking ≡ records → AllWait (view (with_taking t.handle (λ _. records) d))
@@ -512,10 +508,7 @@ module _ {o : Offers} {e : Edits} (d : Desk) (fit : Fits d) (good : Good o e (vi
         desk = subst AllWait (sym (slot_view d t.handle (λ _. s) t.slot (live_of d t.handle t is) (slot_is d t.handle t is)))
             (frame-all V (put V.block t.handle (blocks_of s)) (put V.heap t.handle (buffers_of s)) V.scrap (λ f z l. z) all);
       }
-  memory-stays _ (in_module h quiet) = record { desk = all }
-  memory-stays _ (in_areas areas quiet) = record { desk = all }
-  memory-stays _ (in_made areas quiet) = record { desk = all }
-  memory-stays _ (in_nothing quiet) = record { desk = all }
+  memory-stays _ _ = record { desk = all }
 
   make-stays : (most : ℕ) → OnGrant Stays (make d most)
   unfolding make

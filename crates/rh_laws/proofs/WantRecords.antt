@@ -120,9 +120,7 @@ asks-fits (reply ref peer) room b l t = go l.kind t
     go action.DataSave e = refl
     go action.RamTransmit e = refl
     go action.DataLoad e = refl
-    go action.DataSaveAck e = e
-    go action.DataLoadAck e = e
-    go action.RamFetch e = e
+    go _ e = e
 
 -- ---- deeds
 

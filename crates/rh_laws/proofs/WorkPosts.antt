@@ -14,19 +14,11 @@ use Rattle.rh_laws.specs.Progress.{held_work, parcel_work, post_work, work_ahead
 -- a message that is held leaves less than one on its way
 pub back-less : (b : Body) → work_back b + 2 ≤ work_ahead b
 back-less (body.DataSave file) = omega arith
-back-less (body.DataSaveAck file) = omega arith
-back-less (body.DataLoad file) = omega arith
-back-less (body.DataLoadAck file) = omega arith
-back-less (body.RamFetch buffer n) = omega arith
-back-less (body.RamTransmit buffer n) = omega arith
+back-less _ = omega arith
 
 pub back-some : (b : Body) → 1 ≤ work_back b
 back-some (body.DataSave file) = omega arith
-back-some (body.DataSaveAck file) = omega arith
-back-some (body.DataLoad file) = omega arith
-back-some (body.DataLoadAck file) = omega arith
-back-some (body.RamFetch buffer n) = omega arith
-back-some (body.RamTransmit buffer n) = omega arith
+back-some _ = omega arith
 
 queued-most : (c : EventCode) (b : Body) → work_queued c b ≤ work_ahead b
 queued-most User b = omega arith

@@ -168,8 +168,7 @@ module _ (o : Offered) (e : Edits) (s r : List ℕ) (p : Pair) where
           taker (sight.picked (sight.lost (view d)) p.receiver (sent_back p (sight.lost (view d)) k n me v c w)
           c2) p.receiver (sent_back p (sight.lost (view d)) k n me v c w).letter ≡ Some (Fetching x)
       same_taker User x q = q
-      same_taker Recorded x q = q
-      same_taker Acknowledge x q = q
+      same_taker _ x q = q
 
   last_turn : (d : Desk) (k : ℕ) → AtFetch d k → k ≤ length p.source → length p.source < k + p.room →
       all_granted d (command.Poll s ∷ turns r s zero) ≡ true →

@@ -71,10 +71,7 @@ read_quiet {o} {e} {d} h t n act kind from answers ok g =
 
 pub has_block : (o : Offered) (w : In) (b : Option (List ℕ)) → IsGood o w b → (bytes : List ℕ) × (b ≡ Some bytes)
 has_block o (Fetching t) b z = (_, z.there)
-has_block o (Draining t) b z = (_, z.there)
-has_block o (Asking q) b z = (_, z.there)
-has_block o (In_done i a n) b z = (_, z.there)
-has_block o (In_failed i a n) b z = (_, z.there)
+has_block o _ b z = (_, z.there)
 
 keeps_more : (old : ℕ → List In) (h most i : ℕ) (v : In) →
     KeepsActive old (put old h (one_more most is_going (old h) v)) h i

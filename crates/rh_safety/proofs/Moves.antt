@@ -344,9 +344,7 @@ pub record FetchOk (K : Lets) (o : Offered) (ins : List In) (heap : ℕ → Opti
 abbrev pub HoldOk : Lets → Offered → (ℕ → List In) → (ℕ → ℕ → Option (List ℕ)) → (ℕ → ℕ) → ℕ → ℕ → In → Type 0
 HoldOk K o taking heap buf next h (Fetching t) = FetchOk K o (taking h) (heap h) (buf h) next h t
 HoldOk K o taking heap buf next h (Draining t) = ActiveOk K (taking h) (heap h) (buf h) next h t
-HoldOk K o taking heap buf next h (Asking q) = Unit {0}
-HoldOk K o taking heap buf next h (In_done i a n) = Unit {0}
-HoldOk K o taking heap buf next h (In_failed i a n) = Unit {0}
+HoldOk K o taking heap buf next h _ = Unit {0}
 
 pub record InOk (K : Lets) (o : Offered) (e : ℕ → ℕ → Bool) (taking : ℕ → List In) (block heap : ℕ → ℕ →
     Option (List ℕ)) (buf : ℕ → ℕ) (next h : ℕ) (v : In) : Type 0 where
@@ -521,9 +519,7 @@ pub record BothFetchOk (K : Lets) (sending : ℕ → List Out) (h : ℕ) (t : Ta
 abbrev pub BothInOk : Lets → (ℕ → List Out) → ℕ → In → Type 0
 BothInOk K sending h (Fetching t) = BothFetchOk K sending h t
 BothInOk K sending h (Draining t) = BothActiveOk K sending t
-BothInOk K sending h (Asking q) = Unit {0}
-BothInOk K sending h (In_done i a n) = Unit {0}
-BothInOk K sending h (In_failed i a n) = Unit {0}
+BothInOk K sending h _ = Unit {0}
 
 pub boths_in : {K : Lets} {sending : ℕ → List Out} {taking : ℕ → List In} (new : ℕ → List In) (h : ℕ) (v : In) →
     Move in_id taking new h v → BothInOk K sending h v →

@@ -98,10 +98,7 @@ module _ (d : Desk) where
 
   changed_stays : {c : Command} (a : Answer) → Changed c d a → Stays a
   changed_stays _ (in_slot name t s same e is) = slot_keys t.handle (λ _. s) d
-  changed_stays _ (in_module h is) = refl
-  changed_stays _ (in_areas areas is) = refl
-  changed_stays _ (in_made areas is) = refl
-  changed_stays _ (in_nothing is) = refl
+  changed_stays _ _ = refl
 
   memory_stays : (c : Command) → IsOnMemory c → Stays (step d c)
   memory_stays c is = or_else-keeps Stays _ (granted-on d c is changed_stays) no

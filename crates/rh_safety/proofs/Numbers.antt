@@ -185,8 +185,7 @@ past {d} {e} {h} s m = record {
 -- a transfer that ends early tells no ref
 ending-quiet : (e : Ending) → refs_of_outcome (told e) ≡ []
 ending-quiet ending.Drained = refl
-ending-quiet ending.Unanswered = refl
-ending-quiet ending.Uncountable = refl
+ending-quiet _ = refl
 
 module _ (d : Desk) (t : Task) where
   ignored-marks : Marks d (d, outcome.Ignored)

@@ -48,8 +48,7 @@ lost_twice false d = refl
 pub lost_picked : (d : sight.Desk) (h : ℕ) (m : Message) (c : EventCode) →
     sight.lost (sight.picked d h m c) ≡ sight.picked (sight.lost d) h m c
 lost_picked d h m User = refl
-lost_picked d h m Recorded = refl
-lost_picked d h m Acknowledge = refl
+lost_picked d h m _ = refl
 
 -- the poll of a task that holds nothing, where the post has one message for it
 pub turn_is : (d : Desk) (t : Task) (m : Message) (p : Post × Option Parcel) → IsTaken d t.handle p →

@@ -98,9 +98,7 @@ module _ {o : Offered} {e : ℕ → ℕ → Bool} (d : Desk) (g : Good o e (view
   of_document : (k : ℕ) (w : Incoming) → Has w t.taking → is_document k w ≡ true → HasFlexBlock t k 0
   of_document k (incoming.Fetching f) has is = subst (λ a. HasFlexBlock t a 0) (is_equal f.anchor k is) (measured f.anchor f.count (fetched f has))
   of_document k (incoming.Asking q) has is = subst (λ a. HasFlexBlock t a 0) (is_equal q.anchor k is) (measured q.anchor 0 (asked q has))
-  of_document k (incoming.Draining f) has is = absurd cc
-  of_document k (incoming.Done i a n) has is = absurd cc
-  of_document k (incoming.Failed i a n) has is = absurd cc
+  of_document k _ has is = absurd cc
 
   busy_block : (k : ℕ) → is_busy_block k t ≡ true → HasFlexBlock t k 0
   busy_block k is = elim (one_of (list_any (is_source k) t.sending) (list_any (is_document k) t.taking) is) [
@@ -116,9 +114,7 @@ module _ {o : Offered} {e : ℕ → ℕ → Bool} (d : Desk) (g : Good o e (view
   of_buffer : (address : ℕ) (w : Incoming) → Has w t.taking → is_buffer_of address w ≡ true → HasBuffer t address 0
   of_buffer address (incoming.Fetching f) has is = held_buffer address f (inl (into (incoming.Fetching f) has)) (is_equal f.buffer address is)
   of_buffer address (incoming.Draining f) has is = held_buffer address f (inr (into (incoming.Draining f) has)) (is_equal f.buffer address is)
-  of_buffer address (incoming.Asking q) has is = absurd cc
-  of_buffer address (incoming.Done i a n) has is = absurd cc
-  of_buffer address (incoming.Failed i a n) has is = absurd cc
+  of_buffer address _ has is = absurd cc
 
   busy_buffer : (address : ℕ) → is_busy_buffer address t ≡ true → HasBuffer t address 0
   busy_buffer address is = let r = passes (is_buffer_of address) t.taking is in of_buffer address r.0 r.1.0 r.1.1

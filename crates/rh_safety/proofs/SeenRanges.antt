@@ -225,8 +225,7 @@ module _ (d : Desk) (t : Task) where
 
   source_of : (a : SendAction) → HasSource d t a → There t.slot (sender.transfer_of a).anchor
   source_of (send_action.Transmit a) has = has.0
-  source_of (send_action.SaveFile a) has = has.0
-  source_of (send_action.Finish x) has = has.0
+  source_of _ has = has.0
 
   perform_send_fine : (o : Option SendAction) → IfSome o (HasSource d t) → Fine (perform_send d t o)
   unfolding perform_send
@@ -275,8 +274,7 @@ module _ (d : Desk) (t : Task) where
 
   ending_fine : (e : Ending) → is_bad_outcome (told e) ≡ false
   ending_fine ending.Drained = refl
-  ending_fine ending.Unanswered = refl
-  ending_fine ending.Uncountable = refl
+  ending_fine _ = refl
 
   take_fine : (a : TakeAction) → HasDocument t a → Fine (take_with d t a)
   unfolding take_with

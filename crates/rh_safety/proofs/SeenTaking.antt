@@ -115,8 +115,7 @@ lost_before h (Some m) d = go m.code
   where
     go : (c : EventCode) → with_scrap None (sight.picked d h m c) ≡ sight.picked (sight.lost d) h m c
     go User = refl
-    go Recorded = refl
-    go Acknowledge = refl
+    go _ = refl
 
 module _ (d : Desk) (h : ℕ) (f : Fits d) (live : (view d).live h ≡ true) where
   abbrev before : Post
