@@ -10,7 +10,7 @@ pub use Rattle.std.proofs.lemmas.Option.{slice_get-get_or, slice_get_within}
 pub use Rattle.std.specs.Fmt.{decimal}
 pub use Rattle.std.specs.List.{AllByRecursion, enumerate_from, flat_map, list_any, position, range_with_len}
 pub use Rattle.std.specs.Option.{option_map}
-pub use Rattle.std.specs.Prelude.{IfSome, IsErrOf, IsSome, IsTrue, OnErr, OnOk, codes, filter, find, if◌then◌else◌, is_err, max, min, nat_le, nat_lt, not}
+pub use Rattle.std.specs.Prelude.{IfSome, IsErrOf, IsTrue, OnErr, OnOk, codes, filter, find, if◌then◌else◌, is_err, max, min, nat_le, nat_lt, not}
 pub use Rattle.std.specs.Prelude.{replicate, slice_get, slice_index, ◌&&◌, ◌==◌, ◌||◌}
 pub use Rattle.rh_defs.specs.Desk.{Desk, Made, Task, module_pages, task_at, task_pages}
 pub use Rattle.rh_defs.specs.Heap.{Heap}
@@ -64,7 +64,7 @@ pub use Rattle.rh_drawn.specs.Deeds.{reply_to}
 pub use Rattle.rh_drawn.specs.DrawnLetters.{has_letters_in}
 pub use Rattle.rh_drawn.specs.Inner.LettersBehind.{letterboxes_in}
 pub use Rattle.rh_drawn.specs.Inner.Marked.{made_pages, marked, marked_all, slot_pages_from}
-pub use Rattle.rh_drawn.specs.Parts.{area_part, block_part, indented, page_part, panel_part, post_part, slide_part, slot_panels, slot_part}
+pub use Rattle.rh_drawn.specs.Parts.{area_part, block_part, indented, page_part, panel_part, slide_part, slot_panels, slot_part}
 pub use Rattle.rh_drawn.specs.Inner.PartsBehind.{takes_part}
 pub use Rattle.rh_drawn.specs.DrawnPlaces.{Drew, TookLine, place_in}
 pub use Rattle.rh_drawn.specs.DrawnReplies.{Excerpts}

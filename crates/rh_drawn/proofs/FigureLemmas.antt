@@ -1,16 +1,14 @@
 -- The parts of a figure, one after the other.
-use Rattle.rh_drawn.proofs.Common.{◌≡◌, ap, ◌∙◌, List, [], ◌∷◌, ◌++◌, map, append_assoc, codes, range_with_len, task_at, Panel, figure, owner_of, slot_panel}
-use Rattle.rh_drawn.proofs.Common.{Text, page_mark, Scene, area_part, block_part, page_part, post_part, slide_part, slot_panels, slot_part}
+use Rattle.rh_drawn.proofs.Common.{◌≡◌, ap, ◌∙◌, List, [], ◌∷◌, ◌++◌, map, append_assoc, codes, range_with_len, Panel, figure, owner_of, slot_panel}
+use Rattle.rh_drawn.proofs.Common.{Text, page_mark, Scene, area_part, slot_panels, slot_part}
 use Rattle.std.proofs.lemmas.List.FromFn.{length-map-range_with_len}
 use Rattle.std.proofs.lemmas.List.Folds.{flat_map-map}
 use Rattle.rh_defs.specs.Desk.{free_pages}
-use Rattle.rh_figure.specs.Changes.{block_changes, page_changes, post_changes, slide_change, slides}
 use Rattle.rh_figure.specs.Map.{figure_lines, marked_heading, panel_lines, pool_heading, pool_line}
 use Rattle.rh_figure.specs.Rows.{marks_rows, pool_rows}
 use Rattle.rh_drawn.proofs.MarkLemmas.{map-twice}
 use Rattle.rh_drawn.specs.Parts.{letter_part, module_part, pool_part, transfer_part}
 use Rattle.rh_drawn.specs.Inner.PartsBehind.{change_part}
-use Rattle.rh_drawn.proofs.Walks.{indented-append}
 
 abbrev pub behind_module : Scene → List Text
 behind_module x = letter_part x ++ (transfer_part x ++ [] ∷ [])

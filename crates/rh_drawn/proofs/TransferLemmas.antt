@@ -1,6 +1,6 @@
 -- The sides of transfers, task by task.
 use Rattle.rh_drawn.proofs.Common.{◌≡◌, ℕ, Bool, true, false, arith, refl, ap, ap₂, sym, ◌∙◌, List, [], ◌∷◌, ◌++◌, length, map, Option, Some, None, ◌==◌}
-use Rattle.rh_drawn.proofs.Common.{◌||◌, not, filter, find, if◌then◌else◌, flat_map, list_any, option_map, ne_eqb, map-append, Incoming, Outgoing, Task}
+use Rattle.rh_drawn.proofs.Common.{◌||◌, not, filter, find, flat_map, list_any, option_map, ne_eqb, map-append, Incoming, Outgoing, Task}
 use Rattle.rh_drawn.proofs.Common.{in_item, out_item, in_id, Side, has_id, transfer_line, under, Text, comes_alone, goes_out}
 use Rattle.std.proofs.lemmas.List.Elements.{filter-append}
 use Rattle.std.proofs.lemmas.List.Folds.{find-append, list_any-append}
@@ -97,22 +97,6 @@ module _ (id : ℕ) (t : Task) (ts : List Task) where
       list_any-append (has_id id) (outs t) (flat_map outs ts)
       ∙ ap (λ z. z || list_any (has_id id) (flat_map outs ts)) (any-out t.name id t.sending ∙ e)
 
--- a side that comes in, if it comes alone
-pub alone-each : (name : Text) (out : List Side) (r : Incoming) (rs : List Incoming)
-    → map transfer_line (map comes_alone (filter (λ (s : Side). not (list_any (has_id s.1.id) out))
-    (map (λ q. let s : Side = (name, in_item q) in s) (r ∷ rs))))
-    ≡ map transfer_line (if list_any (has_id (in_id r)) out then [] else comes_alone (name, in_item r) ∷ [])
-    ++ map transfer_line (map comes_alone (filter (λ (s : Side). not (list_any (has_id s.1.id) out)) (map (λ q. let s : Side = (name, in_item q) in s) rs)))
-alone-each name out r rs = go (list_any (has_id (in_id r)) out) refl
-  where
-    go : (b : Bool) → list_any (has_id (in_id r)) out ≡ b
-        → map transfer_line (map comes_alone (filter (λ (s : Side). not (list_any (has_id s.1.id) out))
-        (map (λ q. let s : Side = (name, in_item q) in s) (r ∷ rs))))
-        ≡ map transfer_line (if b then [] else comes_alone (name, in_item r) ∷ [])
-        ++ map transfer_line (map comes_alone (filter (λ (s : Side). not (list_any (has_id s.1.id) out)) (map (λ q. let s : Side = (name, in_item q) in s) rs)))
-    go true e = let k : list_any (has_id (in_item r).id) out ≡ true = ap (λ n. list_any (has_id n) out) (in-id r) ∙ e in rw k refl
-    go false e = let k : list_any (has_id (in_item r).id) out ≡ false = ap (λ n. list_any (has_id n) out) (in-id r) ∙ e in rw k refl
-
 -- ---- whether there are any
 
 abbrev pub are_some : {A B : Type 0} → List A → List B → Bool
@@ -151,11 +135,6 @@ some-past t ts e = go t.sending t.taking e
     go [] [] e = refl
     go (r ∷ rs) b e = let k : false ≡ true = sym e ∙ some-left r rs b in absurd (cc)
     go [] (r ∷ rs) e = let k : false ≡ true = sym e ∙ some-right (let no : List Outgoing = [] in no) r rs in absurd (cc)
-
-pub transfers-none : (heading : Text) (out in_ : List Side) → are_some out in_ ≡ false → under heading (map transfer_line (transfers_of out in_)) ≡ []
-transfers-none heading [] [] e = refl
-transfers-none heading (s ∷ out) in_ e = let k : false ≡ true = sym e ∙ some-left s out in_ in absurd (cc)
-transfers-none heading [] (s ∷ in_) e = let k : false ≡ true = sym e ∙ some-right (let no : List Side = [] in no) s in_ in absurd (cc)
 
 pub transfers-some : (heading : Text) (out in_ : List Side) → are_some out in_ ≡ true
     → under heading (map transfer_line (transfers_of out in_)) ≡ heading ∷

@@ -1,5 +1,5 @@
 -- Items of lists, by the heap or the post that has them.
-use Rattle.std.specs.Prelude.{◌≡◌, ℕ, ◌+◌, List, ◌∷◌, ◌++◌, Option, Some}
+use Rattle.std.specs.Prelude.{◌≡◌, ℕ, List, ◌∷◌, ◌++◌, Option, Some}
 use Rattle.rh_defs.specs.Messages.{Parcel, action_of}
 use Rattle.rh_defs.specs.Heap.{Segment, Heap, place_after}
 use Rattle.rh_defs.specs.declared.message.MessageItem.{MessageItem}

@@ -34,7 +34,8 @@ areas-preserved g c =
     c.pages_of-pages.result.now seen c.pages_of-pages.ensures in
     let long = owned-made c.spelled.ensures c.args.step.now.pages.now c.requires.shared c.areas.i _ c.in-Some.ensures.some in
     let m : Made = record { number = c.in-Some.area.number; most = c.in-Some.area.most; pages = c.in-Some.area.pages } in
-    left_less (panel_part (made_panel x m ∷ [])) c.areas.invariant (ap (λ (ms : List Made). panel_part (map (made_panel x) ms)) (rest-some d.made c.areas.i _ c.in-Some.ensures.some))
+    left_less (panel_part (made_panel x m ∷ [])) c.areas.invariant
+    (ap (λ (ms : List Made). panel_part (map (made_panel x) ms)) (rest-some d.made c.areas.i _ c.in-Some.ensures.some))
     (offered_line _ (made-text c.in-Some.area.number c.in-Some.area.most c.in-Some.area.pages c.pages_of-pages.result.now _ (ap length is ∙ long) is)
     c.print_made_area.ensures)
 

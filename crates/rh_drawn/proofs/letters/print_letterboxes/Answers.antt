@@ -1,4 +1,5 @@
-use Rattle.rh_drawn.proofs.Common.{◌<◌, length, map, ap, ap₂, arith, flat_map, rest-none, rest-some, slice_get_within, letterbox_line, shown_lines, letterboxes_in}
+use Rattle.rh_drawn.proofs.Common.{◌<◌, length, map, ap, ap₂, arith, flat_map, rest-none, rest-some, slice_get_within}
+use Rattle.rh_drawn.proofs.Common.{letterbox_line, shown_lines, letterboxes_in}
 use Rattle.rh_drawn.proofs.PostLemmas.{boxes, boxes-are}
 use Rattle.rh_drawn.proofs.Walks.{left_less, left_none, left_whole, offered_as}
 use Rattle.rh_drawn.proofs.letters.print_letterboxes.Goals as goal

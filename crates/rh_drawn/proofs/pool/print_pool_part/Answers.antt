@@ -8,6 +8,6 @@ use Rattle.rh_drawn.proofs.pool.print_pool_part.Goals as goal
 pub returns : goal.returns
 returns g c =
     let x = scene_at (g.S.Sight.desk c.args.sight.now) c.args.step.now in
-    lines_then _ (pool_heading (figure x) ∷ []) (pool_rows (figure x)) (offered_line _ (ap₂ pool_line c.free_pages.ensures c.requires.all ∙ sym (pool-heading x))
-    c.print_pool_heading.ensures)
+    lines_then _ (pool_heading (figure x) ∷ []) (pool_rows (figure x))
+    (offered_line _ (ap₂ pool_line c.free_pages.ensures c.requires.all ∙ sym (pool-heading x)) c.print_pool_heading.ensures)
     (offered_as _ (ap (λ z. shown_lines (marks_rows z)) c.mark_pool.ensures ∙ ap shown_lines (sym (pool-rows x))) c.print_pool.ensures)

@@ -1,4 +1,5 @@
-use Rattle.rh_drawn.proofs.Common.{◌≡◌, ℕ, ◌+◌, ◌++◌, drop, Bool, true, false, List, [], ◌∷◌, map, ap, sym, refl, ◌∙◌, append-nil, drop_all, ◌==◌, ◌&&◌, filter, flat_map}
+use Rattle.rh_drawn.proofs.Common.{◌≡◌, ℕ, ◌+◌, ◌++◌, drop, Bool, true, false, List, [], ◌∷◌, map, ap, sym, refl, ◌∙◌, append-nil, drop_all, ◌==◌, ◌&&◌}
+use Rattle.rh_drawn.proofs.Common.{filter, flat_map}
 use Rattle.rh_drawn.proofs.Common.{flat_map-append, Desk, Parcel, action_of, Text, is_returned, task_name}
 use Rattle.rh_drawn.proofs.Common.{MessageItem, held_on, message_items, waiting_on, indented}
 use Rattle.rh_figure.specs.Changes.{returns_line}

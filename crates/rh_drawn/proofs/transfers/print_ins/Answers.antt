@@ -1,5 +1,5 @@
-use Rattle.rh_drawn.proofs.Common.{◌<◌, Bool, List, length, map, ap, ap₂, ◌∙◌, arith, rest-none, rest-some, slice_get_within, filter, not, flat_map, list_any, Task}
-use Rattle.rh_drawn.proofs.Common.{in_item, Side, has_id, transfer_line, Text, shown_lines, comes_alone, outs_of}
+use Rattle.rh_drawn.proofs.Common.{◌<◌, Bool, List, length, map, ap, ap₂, ◌∙◌, arith, rest-none, rest-some, slice_get_within, filter, not, flat_map, list_any}
+use Rattle.rh_drawn.proofs.Common.{Task, in_item, Side, has_id, transfer_line, Text, shown_lines, comes_alone, outs_of}
 use Rattle.rh_drawn.proofs.TransferLemmas.{filter-flat, ins, map-flat}
 use Rattle.rh_drawn.proofs.Walks.{left_less, left_none, left_whole, offered_as}
 use Rattle.rh_drawn.proofs.transfers.print_ins.Goals as goal
