@@ -1,8 +1,8 @@
 -- A map behind one line: what its pen was offered, and where it stands.
-use Rattle.rh_drawn.proofs.Common.{◌≡◌, ℕ, ◌+◌, ◌<◌, Bool, true, false, ◌||◌, List, [], ◌∷◌, ◌++◌, append-nil, refl, sym, ap, ap₂, ◌∙◌, subst, length, arith, eq-eqb}
+use Rattle.rh_drawn.proofs.Common.{◌≡◌, ℕ, ◌+◌, ◌<◌, Bool, true, false, ◌||◌, List, [], ◌∷◌, ◌++◌, append-nil, refl, sym, ap, ap₂, ◌∙◌, subst, length}
 use Rattle.rh_drawn.proofs.Common.{Option, Some, None, Ok, Err, ◌&&◌, if◌then◌else◌, is_err, not, ◌==◌, OnErr, OnOk, Result, eqb-true, Command, LineFault}
 use Rattle.rh_drawn.proofs.Common.{Desk, Meaning, line_means, IsReordered, step, fault_text, kept, kept_means, Share, IsShared, Text, scene_of, Place}
-use Rattle.rh_drawn.proofs.Common.{Reply, after_read}
+use Rattle.rh_drawn.proofs.Common.{Reply, after_read, arith, eq-eqb}
 use Rattle.rh_drawn.proofs.Common.{is_mark, lines_of_read, written_lines, Output, Puts, Mapper, reply_to, Drew, place_in}
 use Rattle.rh_defs.specs.declared.reply.Reply.TheVariants.{Done}
 use Rattle.rh_feed.proofs.LineLemmas.{kept_nil}
