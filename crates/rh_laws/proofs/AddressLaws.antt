@@ -4,8 +4,8 @@ use Rattle.rh_laws.proofs.Common.{Command, Manner, Body, Incoming, Outgoing, NoT
 use Rattle.rh_laws.proofs.Common.{post_poll, in_id, is_open, out_id, Desk, Task, has_name, named, next_ref, task_at, with_delivered, with_sending, Answer}
 use Rattle.rh_laws.proofs.Common.{start_task, kill, make, after, start_with, save, repeat, poll, poll_taken, cancel_in, cancel_out, change, step, OnGrant}
 use Rattle.rh_laws.proofs.Common.{granted, granted-past, granted-then, granted-with, or_else-keeps, append-all, held, at_place, Has, first_is, has_of}
-use Rattle.rh_laws.proofs.Common.{is_equal, none_some, open_is, found_name, is_found, Changed, IsOnMemory, granted-on, in_areas, in_made, in_module}
-use Rattle.rh_laws.proofs.Common.{in_nothing, in_slot}
+use Rattle.rh_laws.proofs.Common.{is_equal, none_some, open_is, found_name, is_found, Changed, IsOnMemory, granted-on}
+use Rattle.rh_laws.proofs.Common.{in_slot}
 use Rattle.rh_defs.specs.declared.command.Command.TheVariants as command
 use Rattle.rh_defs.specs.declared.message.Body.TheVariants as body
 use Rattle.rh_defs.specs.declared.reply.Reply.TheVariants as reply

@@ -8,7 +8,7 @@ use Rattle.rh_laws.proofs.Common.{make, came, handled, after, start_with, save, 
 use Rattle.rh_laws.proofs.Common.{chosen, granted, granted-past, granted-then, granted-with, or_else-keeps, after-is, start-is, step-keeps, Edits, held}
 use Rattle.rh_laws.proofs.Common.{Offers, Has, Ascend, and_left, and_right, contains_of, first_is, has_of, is_equal, none_some, open_is, same_value}
 use Rattle.rh_laws.proofs.Common.{Good, found_name, fits, Fits, is_found, the_task, keeps, field_is, seen_parcel, view, Changed, IsOnMemory, granted-on}
-use Rattle.rh_laws.proofs.Common.{in_areas, in_made, in_module, in_nothing, in_slot, open_of, perform_send, send_with}
+use Rattle.rh_laws.proofs.Common.{in_slot, open_of, perform_send, send_with}
 use Rattle.rh_defs.specs.declared.command.Command.TheVariants as command
 use Rattle.rh_defs.specs.declared.message.Action.TheVariants as action
 use Rattle.rh_defs.specs.declared.message.Body.TheVariants as body

@@ -3,7 +3,7 @@ use Rattle.rh_laws.proofs.Common.{Acknowledge, AllByRecursion, Answer, Bool, Cha
 use Rattle.rh_laws.proofs.Common.{NotOpen, NothingSent, Ok, OnGrant, Option, Parcel, Post, Recorded, Scrap, Seat, Sending, Some, Task, [], after, after-is}
 use Rattle.rh_laws.proofs.Common.{all_in_range, and_left, and_right, answers_none, ap, arith, cancel_in, cancel_out, change, eq-eqb, eqb_tells, false, field_is}
 use Rattle.rh_laws.proofs.Common.{find, first_is, fits, found_or, free_pages, granted, granted-on, granted-past, granted-then, handled, has_of, held_by}
-use Rattle.rh_laws.proofs.Common.{if◌then◌else◌, in_areas, in_id, in_made, in_module, in_nothing, in_range, in_slot, inl, inr, is_equal, is_found, is_open}
+use Rattle.rh_laws.proofs.Common.{if◌then◌else◌, in_id, in_range, in_slot, inl, inr, is_equal, is_found, is_open}
 use Rattle.rh_laws.proofs.Common.{keeps, kill, length, live_of, make, map, named, next_ref, none_some, not, open_of, option_map, or_else-keeps, out_id, poll}
 use Rattle.rh_laws.proofs.Common.{poll_taken, post_poll, put_other, put_same, refl, repeat, save, send_letter, start-is, start_task, start_with, step}
 use Rattle.rh_laws.proofs.Common.{step-keeps, subst, sym, task_of, the_task, true, view, with_delivered, with_id, with_sending, with_taking, ℕ, ◌&&◌, ◌<◌, ◌==◌}

@@ -10,7 +10,7 @@ use Rattle.rh_safety.specs.Names.{HaveOwnNames}
 use Rattle.rh_safety.proofs.SeenBlocks.{not_refused}
 use Rattle.rh_safety.proofs.SeenKeys.{keys_of, SameKeys, slot_keys, outs_keys, ins_keys, sent_keys}
 use Rattle.rh_safety.proofs.Alternations.{taken_keys, delivered_keys}
-use Rattle.rh_defs.proofs.Changes.{Changed, IsOnMemory, in_areas, in_made, in_module, in_nothing, in_slot}
+use Rattle.rh_defs.proofs.Changes.{Changed, IsOnMemory, in_slot}
 use Rattle.rh_defs.proofs.Steps.{granted-on}
 
 -- ---- keys of different names
