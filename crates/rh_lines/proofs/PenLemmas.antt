@@ -10,9 +10,7 @@ use Rattle.std.proofs.lemmas.Bool.Decides.{nat_tests}
 use Rattle.rh_lines.specs.Flow.{Output, count_after, Puts}
 use Rattle.rh_lines.specs.Pens.{bool_code, count_code, taken_code, output_code, writer_of, begun_of, text_of, offered_of}
 use Rattle.rh_lines.specs.declared.sink.Sink.{Ghosts}
-use Rattle.rh_lines.specs.HeldPens.{gathered_of, held_of, pen_of, whole_of}
 use Rattle.rh_lines.specs.declared.writer_pen.WriterPen.{WriterPen}
-use Rattle.rh_lines.specs.declared.held_pen.HeldPen.{HeldPen}
 use Rattle.rh_lines.proofs.FlowLemmas.{Appends-more, count_after-more}
 
 -- the first bytes, and then the first of the rest
@@ -121,29 +119,3 @@ done_as old new first last text r e begun none p =
     let w = wrote old new text e in
     subst (λ (o : Output). Puts o last r text) (w.begun ∙ begun)
     (subst (λ (t : List ℕ). Puts (begun_of new) last r t) (w.text_is ∙ ap (λ z. z ++ text) none) p)
-
--- what a pen that holds some knows behind some writes
-pub record HeldWrote {W : Type 0} {S : Ghosts W} (old new : HeldPen W S) (text : List ℕ) : Type 0 where
-  pub same_reference : (writer_of (pen_of new)).ghost_name ≡ (writer_of (pen_of old)).ghost_name
-  pub begun : begun_of (pen_of new) ≡ begun_of (pen_of old)
-  pub whole : whole_of new ≡ whole_of old ++ text
-
-pub held_wrote : {W : Type 0} {S : Ghosts W} (old new : HeldPen W S) (text : List ℕ) → gathered_of new ≡ gathered_of old ++ text → HeldWrote old new text
-unfolding offered_of
-held_wrote old new text e =
-    let p = pen_of old in
-    let q = pen_of new in
-    let joined = ap (λ z. q.writer.ghost_name ∷ length (output_code q.begun.output) ∷ z)
-    (sym (append_assoc (output_code q.begun.output) (text_of q) (held_of new)))
-    ∙ (e ∙ ap (λ z. p.writer.ghost_name ∷ length (output_code p.begun.output) ∷ (z ++ text))
-    (append_assoc (output_code p.begun.output) (text_of p) (held_of old))) in
-    let w = wrote_lists p.writer.ghost_name q.writer.ghost_name p.begun.output q.begun.output (whole_of old) (whole_of new) text joined in
-    record { same_reference = w.0; begun = w.1.0; whole = w.1.1 }
-
--- what holds of all that was written with a new pen holds of this text
-pub held_as : {W : Type 0} {S : Ghosts W} (P : Output → List ℕ → Type 0) (old new : HeldPen W S) (first : Output) (text : List ℕ)
-    → gathered_of new ≡ gathered_of old ++ text → begun_of (pen_of old) ≡ first → whole_of old ≡ [] → P (begun_of (pen_of new)) (whole_of new) → P first text
-held_as P old new first text e begun none p =
-    let w = held_wrote old new text e in
-    subst (λ (o : Output). P o text) (w.begun ∙ begun)
-    (subst (λ (t : List ℕ). P (begun_of (pen_of new)) t) (w.whole ∙ ap (λ z. z ++ text) none) p)

@@ -2,3 +2,4 @@
 pub mod PieceWords
 pub mod TextWrites
 pub mod Fronts
+pub mod OneProof

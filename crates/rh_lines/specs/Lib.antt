@@ -6,5 +6,4 @@ pub mod Readers
 pub mod WholeText
 pub mod Pens
 pub mod PenFacts
-pub mod HeldPens
 pub mod Inner

@@ -7,7 +7,7 @@ use crate::sink::{Sink, WriteFailed};
 use std::marker::Model;
 
 /// So many bytes are held at most.
-pub(crate) const ROOM: usize = 65_536;
+const ROOM: usize = 65_536;
 
 /// Bytes that wait to be written, up to 64 KiB, which lie in the value itself. It counts as failed from when some bytes
 /// found no room until it is cut.

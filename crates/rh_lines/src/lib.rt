@@ -9,7 +9,6 @@ mod flex;
 mod forms;
 mod heaps;
 mod held;
-mod held_pen;
 mod hexadecimal;
 mod noted_output;
 mod parse;
@@ -26,7 +25,6 @@ mod writer_pen;
 
 pub use flagged::Flagged;
 pub use held::Held;
-pub use held_pen::HeldPen;
 pub use parse::{parse_line, read_line};
 pub use pen::Pen;
 pub use print::{add_number, print_fault, print_first_line, put_fault, put_first_line};

@@ -2,8 +2,9 @@
 
 ghost use Rattle.std.specs.Prelude.{◌≡◌, ◌&&◌, ◌||◌, not, false, length, nat_lt};
 ghost use Rattle.std.specs.Io.KnownBytes.{Appends};
-ghost use Rattle.rh_lines.specs.PenFacts.{Counts, one_count, one_taking};
+ghost use Rattle.rh_lines.specs.PenFacts.{Counts};
 ghost use Rattle.rh_lines.specs.Inner.Fronts.{TakesFront};
+ghost use Rattle.rh_lines.specs.Inner.OneProof.{one_count, one_taking};
 
 use crate::noted_output::NotedOutput;
 use crate::pen::Pen;

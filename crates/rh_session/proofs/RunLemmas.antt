@@ -12,7 +12,7 @@ use Rattle.rh_session.specs.declared.session.Session.{Session}
 use Rattle.rh_session.specs.SessionKept.{IsState}
 use Rattle.rh_feed.specs.Lines.{kept}
 use Rattle.rh_feed.proofs.FeedLemmas.{Consumes-keeps, Consumes-more, Consumes-none, keeps_same}
-use Rattle.rh_session.specs.Session.{State, begin, state_of, text_of}
+use Rattle.rh_session.specs.Session.{State, begin, state_of, answers_of}
 use Rattle.std.specs.List.{list_any}
 use borrow.Author.Tests.{tests}
 use Rattle.std.proofs.lemmas.List.{take_all}
@@ -21,7 +21,7 @@ use Rattle.rh_defs.specs.declared.fault.LineFault.TheVariants.{TooLong}
 use Rattle.rh_session.specs.declared.status.Status.{Status}
 use Rattle.rh_session.specs.Outcome.{Answered, Finished, BrokeOff, status_of}
 use Rattle.rh_feed.proofs.LineLemmas.{is_above, split_at, still_long}
-use Rattle.rh_session.proofs.SessionLemmas.{reached, state_of-append, text_of-append}
+use Rattle.rh_session.proofs.SessionLemmas.{reached, state_of-append, answers_of-append}
 
 -- what holds anyway holds where a result is an error
 pub if_err : {A E : Type 0} {P : E → Type 0} (r : Result A E) → ((e : E) → P e) → IfErr r P
@@ -33,7 +33,7 @@ pub record Going {D : Type 0} (spells : D → Desk → Type 0) (d : Desk) (befor
   pub bytes : List ℕ
   pub read : Consumes before.left now.left bytes
   pub state_is : IsState spells session (state_of (begin d) bytes)
-  pub written : Takes old new (text_of (begin d) bytes)
+  pub written : Takes old new (answers_of (begin d) bytes)
 
 pub going_starts : {D : Type 0} {spells : D → Desk → Type 0} {session : Session D} (d : Desk) (i : Input) (o : Output) → IsState spells session (begin d)
     → Going spells d i i o o session
@@ -43,7 +43,7 @@ going_starts d i o h = record { bytes = []; read = Consumes-none i.left; state_i
 pub going_on : {D : Type 0} {spells : D → Desk → Type 0} {session next : Session D} {d : Desk} {before now : Input} {old new : Output} (after : Input)
     (last : Output) (more : List ℕ) → Going spells d before now old new session → Consumes now.left after.left more
     → ((s : State) → IsState spells session s → IsState spells next (state_of s more))
-    → ((s : State) → IsState spells session s → Takes new last (text_of s more)) → Going spells d before after old last next
+    → ((s : State) → IsState spells session s → Takes new last (answers_of s more)) → Going spells d before after old last next
 going_on {D} {spells} {session} {next} {d} {before} {now} {old} {new} after last more g c s t =
     let P : List ℕ → Type 0 = λ z. Takes old last z in
     let Q : State → Type 0 = λ z. IsState spells next z in
@@ -51,7 +51,7 @@ going_on {D} {spells} {session} {next} {d} {before} {now} {old} {new} after last
       bytes = g.bytes ++ more;
       read = Consumes-more before.left now.left after.left g.bytes more g.read c;
       state_is = subst Q (sym (state_of-append (begin d) g.bytes more)) (s (state_of (begin d) g.bytes) g.state_is);
-      written = subst P (sym (text_of-append (begin d) g.bytes more)) (takes_more g.written (t (state_of (begin d) g.bytes) g.state_is));
+      written = subst P (sym (answers_of-append (begin d) g.bytes more)) (takes_more g.written (t (state_of (begin d) g.bytes) g.state_is));
     }
 
 -- a read failed, or there were too many
@@ -106,29 +106,29 @@ finished {d = d} {before = before} {now = now} {old = old} {new = new} after las
       read = subst Q (append-nil g.bytes) (Consumes-more before.left now.left after.left g.bytes [] g.read c);
       at_end = e;
       well = f;
-      written = subst P (ap (λ z. text_of (begin d) g.bytes ++ rest_text z) line
-          ∙ (ap (λ z. text_of (begin d) g.bytes ++ z) (rest_kept (unended g.bytes)) ∙ ap (λ z. z ++ rest_text (unended g.bytes)) r.text)) (takes_more
+      written = subst P (ap (λ z. answers_of (begin d) g.bytes ++ rest_text z) line
+          ∙ (ap (λ z. answers_of (begin d) g.bytes ++ z) (rest_kept (unended g.bytes)) ∙ ap (λ z. z ++ rest_text (unended g.bytes)) r.text)) (takes_more
           g.written (t state g.state_is));
       status_is = s ∙ ap status_of (b state g.state_is ∙ (ap (λ z. z || not (length state.line == 0)) said
           ∙ ap (λ z. list_any is_bad (ended g.bytes) || not z) (ap (λ z. length z == 0) line ∙ nothing_kept (unended g.bytes))));
     }
 
 broke_known : (d : Desk) {old new last : Output} {state : State} (bytes more rest script : List ℕ) → state ≡ state_of (begin d) bytes
-    → Takes old new (text_of (begin d) bytes) → Breaks new last (text_of state more) → script ≡ bytes ++ (more ++ rest)
+    → Takes old new (answers_of (begin d) bytes) → Breaks new last (answers_of state more) → script ≡ bytes ++ (more ++ rest)
     → Breaks old last (script_text d script)
 broke_known d {old} {new} {last} {state} bytes more rest script s t w e =
     let P : List ℕ → Type 0 = λ z. Breaks old last z in
-    let later = text_of (state_of (state_of (begin d) bytes) more) rest in
-    let parts : text_of (begin d) script ≡ (text_of (begin d) bytes ++ text_of state more) ++ later =
-    ap (text_of (begin d)) e ∙ (text_of-append (begin d) bytes (more ++ rest)
-    ∙ (ap (λ z. text_of (begin d) bytes ++ z) (text_of-append (state_of (begin d) bytes) more rest)
-    ∙ (sym (append_assoc (text_of (begin d) bytes) (text_of (state_of (begin d) bytes) more) later)
-    ∙ ap (λ z. (text_of (begin d) bytes ++ text_of z more) ++ later) (sym s)))) in
+    let later = answers_of (state_of (state_of (begin d) bytes) more) rest in
+    let parts : answers_of (begin d) script ≡ (answers_of (begin d) bytes ++ answers_of state more) ++ later =
+    ap (answers_of (begin d)) e ∙ (answers_of-append (begin d) bytes (more ++ rest)
+    ∙ (ap (λ z. answers_of (begin d) bytes ++ z) (answers_of-append (state_of (begin d) bytes) more rest)
+    ∙ (sym (append_assoc (answers_of (begin d) bytes) (answers_of (state_of (begin d) bytes) more) later)
+    ∙ ap (λ z. (answers_of (begin d) bytes ++ answers_of z more) ++ later) (sym s)))) in
     subst P (ap (λ z. z ++ rest_text (unended script)) (sym parts ∙ (reached d script).text))
     (breaks_before (rest_text (unended script)) (breaks_before later (takes_breaks t w)))
 
 broke_left : (d : Desk) {old new last : Output} {state : State} (a b c : Option (List ℕ)) (bytes more : List ℕ) → state ≡ state_of (begin d) bytes
-    → Takes old new (text_of (begin d) bytes) → Breaks new last (text_of state more) → Consumes a b bytes → Consumes b c more
+    → Takes old new (answers_of (begin d) bytes) → Breaks new last (answers_of state more) → Consumes a b bytes → Consumes b c more
     → IfSome a (λ script. Breaks old last (script_text d script))
 broke_left d None b c bytes more s t w p q = tt
 broke_left d (Some a) None c bytes more s t w p q = absurd p
@@ -138,7 +138,7 @@ broke_left d (Some a) (Some b) (Some c) bytes more s t w p q = broke_known d byt
 -- the writer failed while lines were answered
 pub broke : {D : Type 0} {spells : D → Desk → Type 0} {session : Session D} {d : Desk} {before now : Input} {old new : Output} (after : Input)
     (last : Output) (more : List ℕ) → Going spells d before now old new session → Consumes now.left after.left more
-    → ((s : State) → IsState spells session s → Breaks new last (text_of s more)) → BrokeOff d before old last
+    → ((s : State) → IsState spells session s → Breaks new last (answers_of s more)) → BrokeOff d before old last
 broke {d = d} {before = before} {now = now} after last more g c w = record {
   failed = (w (state_of (begin d) g.bytes) g.state_is).failed;
   written = broke_left d before.left now.left after.left g.bytes more refl g.written (w (state_of (begin d) g.bytes) g.state_is) g.read c;
@@ -149,7 +149,7 @@ pub answered_here : {D : Type 0} {spells : D → Desk → Type 0} {session : Ses
 answered_here {now = now} g = answered now g (keeps_same now.left)
 
 broke_end : (d : Desk) {old new last : Output} {state : State} (a b c : Option (List ℕ)) (bytes : List ℕ) → state ≡ state_of (begin d) bytes
-    → Takes old new (text_of (begin d) bytes) → Breaks new last (rest_text state.line) → Consumes a b bytes → Consumes b c [] → IsAtEnd c
+    → Takes old new (answers_of (begin d) bytes) → Breaks new last (rest_text state.line) → Consumes a b bytes → Consumes b c [] → IsAtEnd c
     → IfSome a (λ script. Breaks old last (script_text d script))
 broke_end d None b c bytes s t w p q e = tt
 broke_end d (Some a) None c bytes s t w p q e = absurd p
@@ -159,7 +159,7 @@ broke_end d {old} {new} {last} {state} (Some a) (Some b) (Some c) bytes s t w p 
     let P : List ℕ → Type 0 = λ z. Breaks old last z in
     let all : bytes ≡ a = sym (append-nil bytes) ∙ (ap (λ z. bytes ++ z) (sym (q ∙ e)) ∙ sym p) in
     let line : state.line ≡ kept (unended bytes) = ap (λ z. z.line) (s ∙ r.state) in
-    subst P (ap (λ z. text_of (begin d) bytes ++ rest_text z) line ∙ (ap (λ z. text_of (begin d) bytes ++ z) (rest_kept (unended bytes))
+    subst P (ap (λ z. answers_of (begin d) bytes ++ rest_text z) line ∙ (ap (λ z. answers_of (begin d) bytes ++ z) (rest_kept (unended bytes))
     ∙ (ap (λ z. z ++ rest_text (unended bytes)) r.text ∙ ap (script_text d) all))) (takes_breaks t w)
 
 -- the writer failed while the cut line was answered

@@ -7,17 +7,17 @@ use Rattle.rh_defs.specs.Desk.{Desk}
 use Rattle.rh_defs.specs.Script.{ended, unended, meaning_text, line_text, line_desk, lines_text, lines_desk, is_bad}
 use Rattle.rh_feed.specs.Lines.{kept}
 use Rattle.rh_feed.proofs.LineLemmas.{NoFeed, bool_cases, ended_first, ended_none, kept_front, kept_means, kept_nil, no_feed_more, unended_all, unended_first}
-use Rattle.rh_session.specs.Session.{State, state_after, text_after, state_of, text_of, begin}
+use Rattle.rh_session.specs.Session.{State, state_after, text_after, state_of, answers_of, begin}
 
 pub state_of-append : (s : State) (xs ys : List ℕ) → state_of s (xs ++ ys) ≡ state_of (state_of s xs) ys
 state_of-append s [] ys = refl
 state_of-append s (x ∷ xs) ys = state_of-append (state_after s x) xs ys
 
-pub text_of-append : (s : State) (xs ys : List ℕ) → text_of s (xs ++ ys) ≡ text_of s xs ++ text_of (state_of s xs) ys
-text_of-append s [] ys = refl
-text_of-append s (x ∷ xs) ys =
-    ap (λ z. text_after s x ++ z) (text_of-append (state_after s x) xs ys)
-    ∙ sym (append_assoc (text_after s x) (text_of (state_after s x) xs) (text_of (state_of (state_after s x) xs) ys))
+pub answers_of-append : (s : State) (xs ys : List ℕ) → answers_of s (xs ++ ys) ≡ answers_of s xs ++ answers_of (state_of s xs) ys
+answers_of-append s [] ys = refl
+answers_of-append s (x ∷ xs) ys =
+    ap (λ z. text_after s x ++ z) (answers_of-append (state_after s x) xs ys)
+    ∙ sym (append_assoc (text_after s x) (answers_of (state_after s x) xs) (answers_of (state_of (state_after s x) xs) ys))
 
 -- the state and the text, by lines
 abbrev pub at_line : Desk → List ℕ → Bool → State
@@ -37,7 +37,7 @@ one_bool false c d = refl
 -- where a session stands after these bytes
 pub record Reaches (desk : Desk) (bad : Bool) (all bs : List ℕ) (s : State) : Type 0 where
   pub state : state_of s bs ≡ at_line (lines_desk desk (ended all)) (unended all) (bad || list_any is_bad (ended all))
-  pub text : text_of s bs ≡ lines_text desk (ended all)
+  pub text : answers_of s bs ≡ lines_text desk (ended all)
 
 -- one more byte: a line feed, or one that goes on with the line
 reach_feed : (desk : Desk) (bad : Bool) (line bs : List ℕ) → NoFeed line
@@ -51,8 +51,8 @@ reach_feed desk bad line bs h k =
     rw (ended_first line bs h, unended_first line bs h, one_bool bad (is_bad line) (list_any is_bad (ended bs))) refl in
     record {
       state = ap (λ s. state_of s bs) next ∙ (k.state ∙ lines);
-      text = ap (λ z. line_text desk (kept line) ++ text_of z bs) next ∙ (ap
-          (λ m. meaning_text desk m ++ text_of (at_line (line_desk desk line) [] (bad || is_bad line)) bs) (kept_means line)
+      text = ap (λ z. line_text desk (kept line) ++ answers_of z bs) next ∙ (ap
+          (λ m. meaning_text desk m ++ answers_of (at_line (line_desk desk line) [] (bad || is_bad line)) bs) (kept_means line)
           ∙ (ap (λ z. line_text desk line ++ z) k.text ∙ sym (ap (lines_text desk) (ended_first line bs h))));
     }
 
@@ -67,7 +67,7 @@ reach_byte desk bad line bs b e k =
     let j = subst P all k in
     record {
       state = ap (λ s. state_of s bs) next ∙ j.state;
-      text = ap (λ z. z ++ text_of (state_after (at_line desk line bad) b) bs) none ∙ (ap (λ s. text_of s bs) next ∙ j.text);
+      text = ap (λ z. z ++ answers_of (state_after (at_line desk line bad) b) bs) none ∙ (ap (λ s. answers_of s bs) next ∙ j.text);
     }
 
 is_ten : (b : ℕ) → eqb b 10 ≡ true → 10 ≡ b

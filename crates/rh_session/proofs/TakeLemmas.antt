@@ -10,13 +10,13 @@ use Rattle.rh_lines.specs.declared.sink.WriteFailed.{WriteFailed}
 use Rattle.rh_lines.specs.Flow.{Output, Breaks}
 use Rattle.rh_lines.proofs.FlowLemmas.{breaks_before}
 use Rattle.rh_session.specs.declared.session.Session.{Session}
-use Rattle.rh_session.specs.Session.{State, state_after, text_after, state_of, text_of}
+use Rattle.rh_session.specs.Session.{State, state_after, text_after, state_of, answers_of}
 use Rattle.rh_session.specs.Inner.SessionStates.{state_after_line}
 use Rattle.rh_session.specs.SessionKept.{IsState}
 use Rattle.rh_session.specs.Holding.{Holds, Gathers}
 use Rattle.rh_feed.specs.Lines.{kept}
 use Rattle.rh_feed.proofs.LineLemmas.{NoFeed, NoneBelow, behind, behind_is, cut_at, kept_front, kept_short, means_front, no_feed_all, no_feed_below, short_kept}
-use Rattle.rh_session.proofs.SessionLemmas.{state_of-append, text_of-append}
+use Rattle.rh_session.proofs.SessionLemmas.{state_of-append, answers_of-append}
 use Rattle.rh_session.proofs.HoldLemmas.{holds_none, holds_more, holds_breaks}
 
 -- ---- lines, byte by byte
@@ -33,14 +33,14 @@ unfolding text_after
 no_text s b e = rw e refl
 
 -- the text of a line and its line feed
-line_text_of : (xs : List ℕ) (s : State) → NoFeed xs → text_of s (xs ++ 10 ∷ []) ≡ line_text s.desk (s.line ++ xs)
+line_text_of : (xs : List ℕ) (s : State) → NoFeed xs → answers_of s (xs ++ 10 ∷ []) ≡ line_text s.desk (s.line ++ xs)
 unfolding text_after
 line_text_of [] s h =
     append-nil (line_text s.desk s.line) ∙ ap (line_text s.desk) (sym (append-nil s.line))
 line_text_of (x ∷ xs) s h =
     let next : State = record { desk = s.desk; line = kept (s.line ++ x ∷ []); bad = s.bad } in
-    ap (λ z. z ++ text_of (state_after s x) (xs ++ 10 ∷ [])) (no_text s x h.0)
-    ∙ (ap (λ z. text_of z (xs ++ 10 ∷ [])) (after_byte s x h.0) ∙ (line_text_of xs next h.1
+    ap (λ z. z ++ answers_of (state_after s x) (xs ++ 10 ∷ [])) (no_text s x h.0)
+    ∙ (ap (λ z. answers_of z (xs ++ 10 ∷ [])) (after_byte s x h.0) ∙ (line_text_of xs next h.1
     ∙ (line_same s (s.line ++ x ∷ []) xs ∙ ap (line_text s.desk) (append_assoc s.line (x ∷ []) xs))))
 
 line_state : (s : State) (a b : List ℕ) → line_means a ≡ line_means b
@@ -59,9 +59,9 @@ line_state_of (x ∷ xs) s h =
     ∙ ap line_means (append_assoc s.line (x ∷ []) xs)))
 
 -- bytes that end no line
-rest_text_of : (xs : List ℕ) (s : State) → NoFeed xs → text_of s xs ≡ []
+rest_text_of : (xs : List ℕ) (s : State) → NoFeed xs → answers_of s xs ≡ []
 rest_text_of [] s h = refl
-rest_text_of (x ∷ xs) s h = ap (λ z. z ++ text_of (state_after s x) xs) (no_text s x h.0) ∙ rest_text_of xs (state_after s x) h.1
+rest_text_of (x ∷ xs) s h = ap (λ z. z ++ answers_of (state_after s x) xs) (no_text s x h.0) ∙ rest_text_of xs (state_after s x) h.1
 
 rest_state_of : (xs : List ℕ) (s : State) → NoFeed xs → length s.line ≤ 1025 → state_of s xs ≡ record { desk = s.desk; line = kept (s.line ++ xs); bad = s.bad }
 rest_state_of [] s h few =
@@ -80,7 +80,7 @@ pub record Went {D : Type 0} (spells : D → Desk → Type 0) (bytes : List ℕ)
   pub front : List ℕ
   pub whole : bytes ≡ front ++ rest
   pub state : (s : State) → IsState spells first s → IsState spells now (state_of s front)
-  pub text : (s : State) → IsState spells first s → Holds old new before after (text_of s front)
+  pub text : (s : State) → IsState spells first s → Holds old new before after (answers_of s front)
 
 pub went_nowhere : {D : Type 0} (spells : D → Desk → Type 0) (bytes : List ℕ) (first : Session D) (o : Output) (held : List ℕ)
     → Went spells bytes first first o o held held bytes
@@ -95,9 +95,9 @@ Answers spells now new last r after held line =
 
 -- the text of a line, behind the text so far
 text_more : (s : State) (front line : List ℕ) → NoFeed line
-    → text_of s (front ++ (line ++ 10 ∷ [])) ≡ text_of s front ++ line_text (state_of s front).desk ((state_of s front).line ++ line)
+    → answers_of s (front ++ (line ++ 10 ∷ [])) ≡ answers_of s front ++ line_text (state_of s front).desk ((state_of s front).line ++ line)
 text_more s front line h =
-    text_of-append s front (line ++ 10 ∷ []) ∙ ap (λ z. text_of s front ++ z) (line_text_of line (state_of s front) h)
+    answers_of-append s front (line ++ 10 ∷ []) ∙ ap (λ z. answers_of s front ++ z) (line_text_of line (state_of s front) h)
 
 state_more : (s : State) (front line : List ℕ) → NoFeed line → state_of s (front ++ (line ++ 10 ∷ [])) ≡ state_after_line (state_of s front) line
 state_more s front line h = state_of-append s front (line ++ 10 ∷ []) ∙ line_state_of line (state_of s front) h
@@ -131,23 +131,23 @@ went_on {D} {spells} {bytes} {first} {now} {old} {new} {before} {after} {rest} n
 pub went_wrong : {D : Type 0} {spells : D → Desk → Type 0} {bytes : List ℕ} {first now : Session D} {old new : Output} {before after rest : List ℕ}
     {e : WriteFailed} (last : Output) (held : List ℕ) (n : ℕ) (r : Result Unit WriteFailed) → IsErr r → Went spells bytes first now old new before after rest
     → n < length rest → NoneBelow rest n → eqb (slice_index rest n) 10 ≡ true → Answers spells now new last (Err e) after held (take n rest) → (s : State)
-    → IsState spells first s → Gathers old last r before held (text_of s bytes)
+    → IsState spells first s → Gathers old last r before held (answers_of s bytes)
 went_wrong {D} {spells} {bytes} {first} {now} {old} {new} {before} {after} {rest} {e} last held n (Ok v) z w lt none at text s h = absurd (cc)
 went_wrong {D} {spells} {bytes} {first} {now} {old} {new} {before} {after} {rest} {e} last held n (Err f) z w lt none at text s h =
     let line = take n rest in
     let no_feed : NoFeed line = no_feed_below rest n (omega arith) none in
     let here : State = state_of s w.front in
     let answer = line_text here.desk (here.line ++ line) in
-    let later = text_of (state_of s (w.front ++ (line ++ 10 ∷ []))) (behind rest n) in
-    let all : text_of s bytes ≡ (text_of s w.front ++ answer) ++ later =
-    ap (text_of s) (next_whole bytes w.front rest n w.whole lt at)
-    ∙ (text_of-append s (w.front ++ (line ++ 10 ∷ [])) (behind rest n) ∙ ap (λ z. z ++ later) (text_more s w.front line no_feed)) in
+    let later = answers_of (state_of s (w.front ++ (line ++ 10 ∷ []))) (behind rest n) in
+    let all : answers_of s bytes ≡ (answers_of s w.front ++ answer) ++ later =
+    ap (answers_of s) (next_whole bytes w.front rest n w.whole lt at)
+    ∙ (answers_of-append s (w.front ++ (line ++ 10 ∷ [])) (behind rest n) ∙ ap (λ z. z ++ later) (text_more s w.front line no_feed)) in
     let P : List ℕ → Type 0 = λ z. Breaks old last (before ++ z) in
     let Q : List ℕ → Type 0 = λ z. Breaks old last z in
     let broken = holds_breaks answer (w.text s h) (text here (w.state s h)).err in
     record {
       ok = tt;
-      err = subst P (sym all) (subst Q (append_assoc before (text_of s w.front ++ answer) later) (breaks_before later broken));
+      err = subst P (sym all) (subst Q (append_assoc before (answers_of s w.front ++ answer) later) (breaks_before later broken));
     }
 
 -- what is left ends no line
@@ -171,10 +171,10 @@ went_to_end {D} {spells} {bytes} {first} {now} {old} {new} {before} {after} {res
 
 pub went_through : {D : Type 0} {spells : D → Desk → Type 0} {bytes : List ℕ} {first now : Session D} {old new : Output} {before after rest : List ℕ}
     {v : Unit {0}} → Went spells bytes first now old new before after rest → NoneBelow rest (length rest) → (s : State) → IsState spells first s
-    → Gathers {E = WriteFailed} old new (Ok v) before after (text_of s bytes)
+    → Gathers {E = WriteFailed} old new (Ok v) before after (answers_of s bytes)
 went_through {D} {spells} {bytes} {first} {now} {old} {new} {before} {after} {rest} w none s h =
-    let all : text_of s bytes ≡ text_of s w.front =
-    ap (text_of s) w.whole ∙ (text_of-append s w.front rest ∙ (ap (λ z. text_of s w.front ++ z)
-    (rest_text_of rest (state_of s w.front) (no_feed_all rest none)) ∙ append-nil (text_of s w.front))) in
+    let all : answers_of s bytes ≡ answers_of s w.front =
+    ap (answers_of s) w.whole ∙ (answers_of-append s w.front rest ∙ (ap (λ z. answers_of s w.front ++ z)
+    (rest_text_of rest (state_of s w.front) (no_feed_all rest none)) ∙ append-nil (answers_of s w.front))) in
     let P : List ℕ → Type 0 = λ z. Holds old new before after z in
     record { ok = subst P (sym all) (w.text s h); err = tt }

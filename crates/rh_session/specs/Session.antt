@@ -25,6 +25,6 @@ abbrev pub state_of : State → List ℕ → State
 state_of s [] = s
 state_of s (b ∷ bs) = state_of (state_after s b) bs
 
-abbrev pub text_of : State → List ℕ → List ℕ
-text_of s [] = []
-text_of s (b ∷ bs) = text_after s b ++ text_of (state_after s b) bs
+abbrev pub answers_of : State → List ℕ → List ℕ
+answers_of s [] = []
+answers_of s (b ∷ bs) = text_after s b ++ answers_of (state_after s b) bs

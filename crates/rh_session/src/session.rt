@@ -9,7 +9,7 @@ ghost use Rattle.rh_lines.specs.Placed.{if_placed, OnFound};
 ghost use Rattle.rh_session.specs.Inner.SessionStates.{state_after_meaning, state_after_line};
 ghost use Rattle.rh_session.specs.Holding.{Gathers};
 ghost use Rattle.rh_session.specs.Outcome.{status_of};
-ghost use Rattle.rh_session.specs.Session.{State, begin, state_of, text_of};
+ghost use Rattle.rh_session.specs.Session.{State, begin, state_of, answers_of};
 
 use crate::answer::{Answer, flush};
 use crate::desktop::Desktop;
@@ -51,7 +51,7 @@ impl<D: Desktop> Session<D> {
     ) -> Result<(), WriteFailed>
         requires { held.old.bytes ≡ [] }
         ensures text { (s : State) → IsState D.spells self.old s
-            → Puts (W.output writer.old) (W.output writer.new) result (text_of s bytes.now) }
+            → Puts (W.output writer.old) (W.output writer.new) result (answers_of s bytes.now) }
         ensures state { (s : State) → IsState D.spells self.old s
             → OnOk result (IsState D.spells self.new (state_of s bytes.now)) }
         ensures none_held { OnOk result (held.new.bytes ≡ []) }
@@ -69,7 +69,7 @@ impl<D: Desktop> Session<D> {
     ) -> Result<(), WriteFailed>
         ensures text { (s : State) → IsState D.spells self.old s
             → Gathers (W.output writer.old) (W.output writer.new) result held.old.bytes held.new.bytes
-            (text_of s bytes.now) }
+            (answers_of s bytes.now) }
         ensures state { (s : State) → IsState D.spells self.old s
             → OnOk result (IsState D.spells self.new (state_of s bytes.now)) }
     {
