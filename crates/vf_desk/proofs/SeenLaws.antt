@@ -70,9 +70,9 @@ steps-good c {old} {new} {r} good does =
 pub stays-rest : (held : Option Station) → KeepsRest held held
 stays-rest held = record { files = refl; said = refl }
 
--- ---- a station whose desk was taken out, changed, and put back
+-- ---- a station on whose desk a command was done
 
-module _ (station : Station) {old : Console} (is : Some old ≡ station.console) {command : Option Command} {world : Shown} {said : Called}
+module _ (station : Station) {old : Console} (is : station.console ≡ Some old) {command : Option Command} {world : Shown} {said : Called}
     (steps : Steps command old.world world said) where
   abbrev pub console_now : Console
   console_now = record { world = world; said = old.said }
@@ -81,27 +81,27 @@ module _ (station : Station) {old : Console} (is : Some old ≡ station.console)
   station_now = record { files = station.files; console = Some console_now }
 
   pub done-said : (s : Option Desk) → SeenBy station.console s → said ≡ called s command
-  done-said s seen = go s (subst (λ h. SeenBy h s) (sym is) seen)
+  done-said s seen = go s (subst (λ h. SeenBy h s) is seen)
     where
       go : (s : Option Desk) → SeenBy (Some old) s → said ≡ called s command
       go None seen = absurd seen
       go (Some d) seen = steps.said_is d seen
 
   pub done-desk : (s : Option Desk) → SeenBy station.console s → SeenBy (Some console_now) (desk_by s command)
-  done-desk s seen = go s (subst (λ h. SeenBy h s) (sym is) seen)
+  done-desk s seen = go s (subst (λ h. SeenBy h s) is seen)
     where
       go : (s : Option Desk) → SeenBy (Some old) s → SeenBy (Some console_now) (desk_by s command)
       go None seen = absurd seen
       go (Some d) seen = steps.desk d seen
 
   pub done-rest : KeepsRest (Some station) (Some station_now)
-  done-rest = record { files = refl; said = ap said_in is }
+  done-rest = record { files = refl; said = ap said_in (sym is) }
 
   done-same : world ≡ old.world → station_now ≡ station
   done-same same =
       let with_world : Shown → Station = λ w. record { files = station.files; console = Some (record { world = w; said = old.said }) } in
       let with_console : Option Console → Station = λ h. record { files = station.files; console = h } in
-      ap with_world same ∙ ap with_console is
+      ap with_world same ∙ ap with_console (sym is)
 
   pub done-refused : status_of said ≢ 0 → station_now ≡ station
   done-refused bad = done-same (steps.refused bad)
@@ -109,25 +109,14 @@ module _ (station : Station) {old : Console} (is : Some old ≡ station.console)
   pub done-asked : IsAsked command → station_now ≡ station
   done-asked asked = done-same (steps.asked asked)
 
--- one that had none
-module _ (station : Station) {now : Option Console} (is : None ≡ station.console) (after : now ≡ None) where
-  abbrev pub station_shut : Station
-  station_shut = record { files = station.files; console = now }
+-- one whose desk isn't open
+module _ {held : Option Console} (is : held ≡ None) where
+  pub shut-said : (command : Option Command) (s : Option Desk) → SeenBy held s → Closed ≡ called s command
+  shut-said command s seen = closed-said s command (subst (λ h. SeenBy h s) is seen)
 
-  pub shut-said : (command : Option Command) (s : Option Desk) → SeenBy station.console s → Closed ≡ called s command
-  shut-said command s seen = closed-said s command (subst (λ h. SeenBy h s) (sym is) seen)
-
-  pub shut-desk : (command : Option Command) (s : Option Desk) → SeenBy station.console s → SeenBy now (desk_by s command)
+  pub shut-desk : (command : Option Command) (s : Option Desk) → SeenBy held s → SeenBy held (desk_by s command)
   shut-desk command s seen =
-      subst (λ h. SeenBy h (desk_by s command)) (sym after) (closed-desk s command (subst (λ h. SeenBy h s) (sym is) seen))
-
-  pub shut-rest : KeepsRest (Some station) (Some station_shut)
-  shut-rest = record { files = refl; said = ap said_in (after ∙ is) }
-
-  pub shut-same : station_shut ≡ station
-  shut-same =
-      let with_console : Option Console → Station = λ h. record { files = station.files; console = h } in
-      ap with_console (after ∙ is)
+      subst (λ h. SeenBy h (desk_by s command)) (sym is) (closed-desk s command (subst (λ h. SeenBy h s) is seen))
 
 -- ---- a handle whose station was taken out, changed, and put back
 

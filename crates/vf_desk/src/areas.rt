@@ -24,7 +24,7 @@ pub extern "C" fn vf_desk_area(
         bytes.new ≡ number_or (called s (in_form (Command.Area number delta))) bytes.old }
 {
     let command = checked(Command::Area { number, delta });
-    desk.step(alloc, command).told(bytes)
+    desk.step(alloc, &command).told(bytes)
 }
 
 /// Makes an area of no page, and of at most `most` pages, and tells its number. (OS_DynamicArea 0.)
@@ -35,7 +35,7 @@ pub extern "C" fn vf_desk_make(alloc: Global, desk: &mut VfDesk, most: u32, numb
         number.new ≡ number_or (called s (in_form (Command.Make most))) number.old }
 {
     let command = checked(Command::Make { most });
-    desk.step(alloc, command).told(number)
+    desk.step(alloc, &command).told(number)
 }
 
 /// Takes a made area away; its pages are free then. (OS_DynamicArea 1.)
@@ -44,7 +44,7 @@ pub extern "C" fn vf_desk_remove(alloc: Global, desk: &mut VfDesk, number: u32) 
     ensures { DoesCalled (in_form (Command.Remove number)) desk.old desk.new result }
 {
     let command = checked(Command::Remove { number });
-    desk.step(alloc, command).status()
+    desk.step(alloc, &command).status()
 }
 
 /// Claims a block of `size` bytes at least of the module area, all 0, and tells its address. (OS_Module 6.)
@@ -60,7 +60,7 @@ pub extern "C" fn vf_desk_rma_claim(
         address.new ≡ number_or (called s (in_form (Command.RmaClaim size))) address.old }
 {
     let command = checked(Command::RmaClaim { size });
-    desk.step(alloc, command).told(address)
+    desk.step(alloc, &command).told(address)
 }
 
 /// Frees the block at an address of the module area. (OS_Module 7.)
@@ -69,7 +69,7 @@ pub extern "C" fn vf_desk_rma_free(alloc: Global, desk: &mut VfDesk, address: u3
     ensures { DoesCalled (in_form (Command.RmaFree address)) desk.old desk.new result }
 {
     let command = checked(Command::RmaFree { address });
-    desk.step(alloc, command).status()
+    desk.step(alloc, &command).status()
 }
 
 /// Gives the block at an address of the module area `delta` bytes more, and tells where it is then. (OS_Module 13.)
@@ -86,5 +86,5 @@ pub extern "C" fn vf_desk_rma_resize(
         moved_to.new ≡ number_or (called s (in_form (Command.RmaResize address delta))) moved_to.old }
 {
     let command = checked(Command::RmaResize { address, delta });
-    desk.step(alloc, command).told(moved_to)
+    desk.step(alloc, &command).told(moved_to)
 }

@@ -22,7 +22,7 @@ pub extern "C" fn vf_desk_claim(
     ensures address { (s : Option Desk) → IsSeenDesk desk.old s →
         address.new ≡ number_or (called s (in_form (Command.Claim name.now size))) address.old }
 {
-    desk.step(alloc, forms::claim(name, size)).told(address)
+    desk.step(alloc, &forms::claim(name, size)).told(address)
 }
 
 /// Releases the block at an address. (OS_Heap 3.)
@@ -35,7 +35,7 @@ pub extern "C" fn vf_desk_release(
 ) -> u32
     ensures { DoesCalled (in_form (Command.Release name.now address)) desk.old desk.new result }
 {
-    desk.step(alloc, forms::release(name, address)).status()
+    desk.step(alloc, &forms::release(name, address)).status()
 }
 
 /// Gives the block at an address `delta` bytes more, and tells where it is then. (OS_Heap 4.)
@@ -52,7 +52,7 @@ pub extern "C" fn vf_desk_resize(
     ensures address { (s : Option Desk) → IsSeenDesk desk.old s →
         moved_to.new ≡ number_or (called s (in_form (Command.Resize name.now address delta))) moved_to.old }
 {
-    desk.step(alloc, forms::resize(name, address, delta))
+    desk.step(alloc, &forms::resize(name, address, delta))
         .told(moved_to)
 }
 
@@ -69,5 +69,5 @@ pub extern "C" fn vf_desk_budge(
     ensures was { (s : Option Desk) → IsSeenDesk desk.old s →
         was.new ≡ was_or (called s (in_form (Command.Budge name.now on))) was.old }
 {
-    desk.step(alloc, forms::budge(name, on)).told_was(was)
+    desk.step(alloc, &forms::budge(name, on)).told_was(was)
 }

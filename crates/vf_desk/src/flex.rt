@@ -23,7 +23,7 @@ pub extern "C" fn vf_desk_alloc(
     ensures address { (s : Option Desk) → IsSeenDesk desk.old s →
         address.new ≡ number_or (called s (in_form (Command.Alloc name.now anchor size))) address.old }
 {
-    desk.step(alloc, forms::alloc(name, anchor, size))
+    desk.step(alloc, &forms::alloc(name, anchor, size))
         .told(address)
 }
 
@@ -41,7 +41,7 @@ pub extern "C" fn vf_desk_load(
     ensures address { (s : Option Desk) → IsSeenDesk desk.old s →
         address.new ≡ number_or (called s (in_form (Command.Load name.now anchor file.now))) address.old }
 {
-    desk.step(alloc, forms::load(name, anchor, file))
+    desk.step(alloc, &forms::load(name, anchor, file))
         .told(address)
 }
 
@@ -65,7 +65,7 @@ pub extern "C" fn vf_desk_put(
 pub extern "C" fn vf_desk_free(alloc: Global, desk: &mut VfDesk, name: &[u8], anchor: u32) -> u32
     ensures { DoesCalled (in_form (Command.Free name.now anchor)) desk.old desk.new result }
 {
-    desk.step(alloc, forms::free(name, anchor)).status()
+    desk.step(alloc, &forms::free(name, anchor)).status()
 }
 
 /// Cuts the anchor's block to `size` bytes, or lengthens it by zeros; those above it slide. (flex_extend.)
@@ -79,7 +79,8 @@ pub extern "C" fn vf_desk_extend(
 ) -> u32
     ensures { DoesCalled (in_form (Command.Extend name.now anchor size)) desk.old desk.new result }
 {
-    desk.step(alloc, forms::extend(name, anchor, size)).status()
+    desk.step(alloc, &forms::extend(name, anchor, size))
+        .status()
 }
 
 /// Puts `by` zeros into the anchor's block at an offset, or takes as many bytes before it out. (flex_midextend.)
@@ -94,6 +95,6 @@ pub extern "C" fn vf_desk_mid(
 ) -> u32
     ensures { DoesCalled (in_form (Command.Mid name.now anchor offset by)) desk.old desk.new result }
 {
-    desk.step(alloc, forms::mid(name, anchor, offset, by))
+    desk.step(alloc, &forms::mid(name, anchor, offset, by))
         .status()
 }

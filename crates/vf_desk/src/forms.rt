@@ -58,7 +58,9 @@ fn id_of(id: u32) -> Option<Ref>
     if id == 0 { None } else { Some(Ref(id)) }
 }
 
-/// The command, if it is in range.
+/// The command, if it is in range. It is inlined, so that the command isn't handed on: it has room for the longest
+/// `put`.
+#[inline(always)]
 pub fn checked(command: Command) -> Option<Command>
     ensures form { result ≡ in_form command }
     ensures ranged { IfSome result (λ c. in_range c ≡ true) }

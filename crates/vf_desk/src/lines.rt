@@ -49,12 +49,13 @@ impl Station {
     fn take_line(&mut self, line: &[u8]) -> u32
         ensures { TakesLine line.now (Some self.old) (Some self.new) result }
     {
-        let Some(mut console) = self.console.take() else {
-            return CLOSED;
-        };
-        console.take_line(line);
-        self.console = Some(console);
-        OK
+        match &mut self.console {
+            Some(console) => {
+                console.take_line(line);
+                OK
+            }
+            None => CLOSED,
+        }
     }
 
     /// Puts the text of the reply that is kept into lent bytes, and tells its length: CLOSED, SHORT.

@@ -31,7 +31,7 @@ pub extern "C" fn vf_desk_show(
     ensures bytes { (s : Option Desk) → IsSeenDesk desk.old s →
         to.new ≡ filled_front (bytes_listed (list_asked s (Question.Show name.now anchor))) to.old }
 {
-    let called = desk.step(alloc, forms::show(name, anchor));
+    let called = desk.step(alloc, &forms::show(name, anchor));
     let Some(station) = desk.take(alloc) else {
         return called.status();
     };
@@ -56,7 +56,7 @@ pub extern "C" fn vf_desk_blocks(
         count.new ≡ done_or (called s (in_form (Command.Ask (Question.Blocks name.now))))
         (length (blocks_listed (list_asked s (Question.Blocks name.now)))) count.old }
 {
-    let called = desk.step(alloc, forms::blocks(name));
+    let called = desk.step(alloc, &forms::blocks(name));
     let Some(station) = desk.take(alloc) else {
         return called.status();
     };
@@ -85,7 +85,7 @@ pub extern "C" fn vf_desk_heap(
         count.new ≡ done_or (called s (in_form (Command.Ask (Question.Heap name.now))))
         (length (segments_listed (list_asked s (Question.Heap name.now)))) count.old }
 {
-    let called = desk.step(alloc, forms::heap(name));
+    let called = desk.step(alloc, &forms::heap(name));
     let Some(station) = desk.take(alloc) else {
         return called.status();
     };
@@ -123,7 +123,7 @@ pub extern "C" fn vf_desk_status(
         ins.new ≡ done_or (called s (in_form (Command.Ask (Question.Status name.now))))
         (length (incoming_in (list_asked s (Question.Status name.now)))) ins.old }
 {
-    let called = desk.step(alloc, forms::status(name));
+    let called = desk.step(alloc, &forms::status(name));
     let Some(station) = desk.take(alloc) else {
         return called.status();
     };
@@ -153,7 +153,7 @@ pub extern "C" fn vf_desk_areas(
         count.new ≡ done_or (called s (in_form (Command.Ask Question.Areas)))
         (length (areas_listed (list_asked s Question.Areas))) count.old }
 {
-    let called = desk.step(alloc, forms::asked(Question::Areas));
+    let called = desk.step(alloc, &forms::asked(Question::Areas));
     let Some(station) = desk.take(alloc) else {
         return called.status();
     };

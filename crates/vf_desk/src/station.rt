@@ -23,20 +23,18 @@ pub struct Station {
 
 impl Station {
     /// Does a command on the desk, if it is open and there is one; else nothing changes.
-    pub fn step(&mut self, command: Option<Command>) -> Called
-        requires { IfSome command (λ c. in_range c ≡ true) }
-        ensures said { (s : Option Desk) → SeenBy self.old.console s → result ≡ called s command }
-        ensures desk { (s : Option Desk) → SeenBy self.old.console s → SeenBy self.new.console (desk_by s command) }
+    pub fn step(&mut self, command: &Option<Command>) -> Called
+        requires { IfSome command.now (λ c. in_range c ≡ true) }
+        ensures said { (s : Option Desk) → SeenBy self.old.console s → result ≡ called s command.now }
+        ensures desk { (s : Option Desk) → SeenBy self.old.console s → SeenBy self.new.console (desk_by s command.now) }
         ensures rest { KeepsRest (Some self.old) (Some self.new) }
         ensures refused { status_of result ≢ 0 → self.new ≡ self.old }
-        ensures asked { IsAsked command → self.new ≡ self.old }
+        ensures asked { IsAsked command.now → self.new ≡ self.old }
     {
-        let Some(mut console) = self.console.take() else {
-            return Called::Closed;
-        };
-        let called = step_world(&mut console.world, command);
-        self.console = Some(console);
-        called
+        match &mut self.console {
+            Some(console) => step_world(&mut console.world, command),
+            None => Called::Closed,
+        }
     }
 
     /// The ref of the message that is sent next: 0 where the desk isn't open, or no ref is left.
@@ -62,22 +60,20 @@ impl Station {
         ensures rest { KeepsRest (Some self.old) (Some self.new) }
         ensures refused { status_of result ≢ 0 → self.new ≡ self.old }
     {
-        let Some(mut console) = self.console.take() else {
-            return Called::Closed;
-        };
-        let called = write_world(&mut console.world, name, anchor, offset, from);
-        self.console = Some(console);
-        called
+        match &mut self.console {
+            Some(console) => write_world(&mut console.world, name, anchor, offset, from),
+            None => Called::Closed,
+        }
     }
 }
 
 /// Does a command on a world, if there is one.
-fn step_world(world: &mut PagedWorld, command: Option<Command>) -> Called
-    requires { IfSome command (λ c. in_range c ≡ true) }
-    ensures { Steps command world.old world.new result }
+fn step_world(world: &mut PagedWorld, command: &Option<Command>) -> Called
+    requires { IfSome command.now (λ c. in_range c ≡ true) }
+    ensures { Steps command.now world.old world.new result }
 {
     match command {
-        Some(command) => Called::Said(world.apply(&command)),
+        Some(command) => Called::Said(world.apply(command)),
         None => Called::BadArgument,
     }
 }

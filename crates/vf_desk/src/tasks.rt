@@ -26,7 +26,7 @@ pub extern "C" fn vf_desk_task(
     ensures handle { (s : Option Desk) → IsSeenDesk desk.old s →
         handle.new ≡ number_or (called s (task_form name.now buffer (manner_at manner))) handle.old }
 {
-    desk.step(alloc, forms::task(name, buffer, manner))
+    desk.step(alloc, &forms::task(name, buffer, manner))
         .told(handle)
 }
 
@@ -35,7 +35,7 @@ pub extern "C" fn vf_desk_task(
 pub extern "C" fn vf_desk_kill(alloc: Global, desk: &mut VfDesk, name: &[u8]) -> u32
     ensures { DoesCalled (in_form (Command.Kill name.now)) desk.old desk.new result }
 {
-    desk.step(alloc, forms::kill(name)).status()
+    desk.step(alloc, &forms::kill(name)).status()
 }
 
 /// Offers the anchor's block to another task under a leafname, and tells the message's ref. (Wimp_SendMessage,
@@ -54,7 +54,7 @@ pub extern "C" fn vf_desk_save(
     ensures my_ref { (s : Option Desk) → IsSeenDesk desk.old s →
         my_ref.new ≡ number_or (called s (in_form (Command.Save name.now anchor to.now leaf.now))) my_ref.old }
 {
-    desk.step(alloc, forms::save(name, anchor, to, leaf))
+    desk.step(alloc, &forms::save(name, anchor, to, leaf))
         .told(my_ref)
 }
 
@@ -70,7 +70,7 @@ pub extern "C" fn vf_desk_poll(
     ensures event { (s : Option Desk) → IsSeenDesk desk.old s →
         event.new ≡ event_or (next_ref_in s) (called s (in_form (Command.Poll name.now))) event.old }
 {
-    let (called, ack) = desk.step_sending(alloc, forms::poll(name));
+    let (called, ack) = desk.step_sending(alloc, &forms::poll(name));
     told_event(&called, ack, event)
 }
 
@@ -79,7 +79,7 @@ pub extern "C" fn vf_desk_poll(
 pub extern "C" fn vf_desk_cancel_in(alloc: Global, desk: &mut VfDesk, name: &[u8], id: u32) -> u32
     ensures { DoesCalled (in_form (Command.CancelIn name.now (id_in id))) desk.old desk.new result }
 {
-    desk.step(alloc, forms::cancel_in(name, id)).status()
+    desk.step(alloc, &forms::cancel_in(name, id)).status()
 }
 
 /// Gives up the open transfer with the id that goes out; with the id 0 the first one.
@@ -87,7 +87,7 @@ pub extern "C" fn vf_desk_cancel_in(alloc: Global, desk: &mut VfDesk, name: &[u8
 pub extern "C" fn vf_desk_cancel_out(alloc: Global, desk: &mut VfDesk, name: &[u8], id: u32) -> u32
     ensures { DoesCalled (in_form (Command.CancelOut name.now (id_in id))) desk.old desk.new result }
 {
-    desk.step(alloc, forms::cancel_out(name, id)).status()
+    desk.step(alloc, &forms::cancel_out(name, id)).status()
 }
 
 /// Sends the message that the task sent last once more, and tells its new ref. (Wimp_SendMessage.)
@@ -102,5 +102,5 @@ pub extern "C" fn vf_desk_repeat(
     ensures my_ref { (s : Option Desk) → IsSeenDesk desk.old s →
         my_ref.new ≡ number_or (called s (in_form (Command.Repeat name.now))) my_ref.old }
 {
-    desk.step(alloc, forms::repeat(name)).told(my_ref)
+    desk.step(alloc, &forms::repeat(name)).told(my_ref)
 }

@@ -53,13 +53,13 @@ impl VfDesk {
     }
 
     /// Does a command on the desk, if it is open and there is one; else nothing changes.
-    pub fn step(&mut self, alloc: Global, command: Option<Command>) -> Called
-        requires { IfSome command (λ c. in_range c ≡ true) }
-        ensures said { (s : Option Desk) → IsSeenDesk self.old s → result ≡ called s command }
-        ensures desk { (s : Option Desk) → IsSeenDesk self.old s → IsSeenDesk self.new (desk_by s command) }
+    pub fn step(&mut self, alloc: Global, command: &Option<Command>) -> Called
+        requires { IfSome command.now (λ c. in_range c ≡ true) }
+        ensures said { (s : Option Desk) → IsSeenDesk self.old s → result ≡ called s command.now }
+        ensures desk { (s : Option Desk) → IsSeenDesk self.old s → IsSeenDesk self.new (desk_by s command.now) }
         ensures rest { KeepsRest self.old.handle.station self.new.handle.station }
         ensures refused { status_of result ≢ 0 → self.new.handle.station ≡ self.old.handle.station }
-        ensures asked { IsAsked command → self.new.handle.station ≡ self.old.handle.station }
+        ensures asked { IsAsked command.now → self.new.handle.station ≡ self.old.handle.station }
     {
         let Some(mut station) = self.take(alloc) else {
             return Called::Closed;
@@ -71,11 +71,11 @@ impl VfDesk {
 
     /// The same, with the ref of the message that is sent next before the command is done: 0 on a closed desk, or where
     /// no ref is left.
-    pub fn step_sending(&mut self, alloc: Global, command: Option<Command>) -> (Called, u32)
-        requires { IfSome command (λ c. in_range c ≡ true) }
-        ensures said { (s : Option Desk) → IsSeenDesk self.old s → result.0 ≡ called s command }
+    pub fn step_sending(&mut self, alloc: Global, command: &Option<Command>) -> (Called, u32)
+        requires { IfSome command.now (λ c. in_range c ≡ true) }
+        ensures said { (s : Option Desk) → IsSeenDesk self.old s → result.0 ≡ called s command.now }
         ensures next { (s : Option Desk) → IsSeenDesk self.old s → result.1 ≡ next_ref_in s }
-        ensures desk { (s : Option Desk) → IsSeenDesk self.old s → IsSeenDesk self.new (desk_by s command) }
+        ensures desk { (s : Option Desk) → IsSeenDesk self.old s → IsSeenDesk self.new (desk_by s command.now) }
         ensures rest { KeepsRest self.old.handle.station self.new.handle.station }
         ensures refused { status_of result.0 ≢ 0 → self.new.handle.station ≡ self.old.handle.station }
     {
