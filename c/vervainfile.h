@@ -555,6 +555,10 @@ uint32_t vf_desk_file(struct vf_desk *desk, const uint8_t *name, size_t name_len
  * files stay added. */
 uint32_t vf_desk_open(struct vf_desk *desk, uint32_t pages, uint32_t first_handle, uint32_t first_ref);
 
+/* How many bytes a desk of so many pages takes at most, each request rounded up to 16 bytes, if no file was added: a
+ * bound for an arena of your own (c/examples/arena.h). */
+#define VF_DESK_ROOM(pages) ((size_t)(pages) * 4857 + 32768)
+
 /* Closes the desk, and gives back all memory that it took. The struct is all zeros then, and may be opened again. A
  * desk that is closed already stays so. */
 uint32_t vf_desk_close(struct vf_desk *desk);

@@ -1,15 +1,19 @@
 /*
  * stack.c: how much stack a call needs, on one that was filled with a byte before: less than 1 KiB on a heap or a slot,
- * less than 2 KiB on a sender, a receiver or a message, and on a desk what docs/C.md says of it. With sanitizers nothing is measured, since these use the stack too.
+ * less than 2 KiB on a sender, a receiver or a message, and on a desk what docs/C.md says of it. Then all calls on an
+ * open desk in a row, on a stack of 24 KiB below which no byte may be touched. With sanitizers nothing is measured,
+ * since these use the stack too.
  */
-#define _XOPEN_SOURCE 700
+#define _DEFAULT_SOURCE
 #include "expect.h"
 
 #include <stdlib.h>
+#include <sys/mman.h>
 #include <ucontext.h>
 
-enum { ROOM = 1 << 20, STACK = 1 << 20, FILL = 0xa5, KIB = 1024 };
-enum { FEW = KIB, TRANSFER = 2 * KIB, QUESTION = 4 * KIB, COMMAND = 68 * KIB, OPENING = 272 * KIB };
+enum { ROOM = 1 << 20, STACK = 1 << 20, FILL = 0xa5, KIB = 1024, SMALL_STACK = 24 * KIB, GUARD = 64 * KIB };
+enum { FEW = KIB, TRANSFER = 2 * KIB, QUESTION = 4 * KIB, COMMAND = 8 * KIB };
+enum { LISTS = 10 * KIB, ADDING = 60 * KIB, OPENING = 272 * KIB };
 
 static uint8_t memory[ROOM], bytes[8192];
 static uint64_t map[2 * ROOM / 512];
@@ -188,31 +192,64 @@ static const struct { const char *name; void (*call)(void); size_t most; } CALLS
     {"flex check", flex_check, FEW},         {"flex, checked", flex_checked, FEW},
     {"flex put and read", flex_bytes, FEW},  {"senders", senders, TRANSFER},
     {"receivers", receivers, TRANSFER},      {"messages", messages, TRANSFER},
-    {"desk file", desk_file, COMMAND},
+    {"desk file", desk_file, ADDING},
     {"desk open", desk_open, OPENING},       {"desk tasks", desk_tasks, COMMAND},
     {"desk flex", desk_flex, COMMAND},       {"desk heaps", desk_heaps, COMMAND},
     {"desk areas", desk_areas, COMMAND},     {"desk transfer", desk_transfer, COMMAND},
-    {"desk questions", desk_questions, COMMAND}, {"desk line", desk_line, COMMAND},
+    {"desk questions", desk_questions, LISTS}, {"desk line", desk_line, COMMAND},
     {"desk next", desk_next, QUESTION},      {"desk reply", desk_reply, QUESTION},
     {"desk kill", desk_kill, COMMAND},       {"desk close", desk_close, QUESTION},
 };
+
+/* Makes the call on a stack of these bytes. */
+static void call_on(void (*call)(void), uint8_t *stack, size_t length)
+{
+    static ucontext_t here, there;
+    EXPECT(getcontext(&there) == 0);
+    there.uc_stack.ss_sp = stack;
+    there.uc_stack.ss_size = length;
+    there.uc_link = &here;
+    makecontext(&there, call, 0);
+    EXPECT(swapcontext(&here, &there) == 0);
+}
 
 /* How many bytes of a stack the call wrote to, with what the change of stacks itself needs. */
 static size_t used_by(void (*call)(void))
 {
     static uint8_t stack[STACK];
-    static ucontext_t here, there;
     memset(stack, FILL, STACK);
-    EXPECT(getcontext(&there) == 0);
-    there.uc_stack.ss_sp = stack;
-    there.uc_stack.ss_size = STACK;
-    there.uc_link = &here;
-    makecontext(&there, call, 0);
-    EXPECT(swapcontext(&here, &there) == 0);
+    call_on(call, stack, STACK);
     size_t i = 0;
     while (i < STACK && stack[i] == FILL)
         i++;
     return STACK - i;
+}
+
+/* Each call on an open desk. */
+static void desk_calls(void)
+{
+    desk_tasks();
+    desk_flex();
+    desk_heaps();
+    desk_areas();
+    desk_transfer();
+    desk_questions();
+    desk_line();
+    desk_next();
+    desk_reply();
+    desk_kill();
+}
+
+/* They need no more than a small stack, whatever came before. The pages below it end the program where one does. */
+static void try_small_stack(void)
+{
+    uint8_t *pages = mmap(NULL, GUARD + SMALL_STACK, PROT_NONE, MAP_PRIVATE | MAP_ANONYMOUS, -1, 0);
+    EXPECT(pages != MAP_FAILED && mprotect(pages + GUARD, SMALL_STACK, PROT_READ | PROT_WRITE) == 0);
+    desk_file();
+    desk_open();
+    call_on(desk_calls, pages + GUARD, SMALL_STACK);
+    desk_close();
+    EXPECT(munmap(pages, GUARD + SMALL_STACK) == 0);
 }
 
 /* What the program links to at the first call is linked before, since the linker needs stack for that. */
@@ -236,9 +273,10 @@ int main(void)
             fprintf(stderr, "%s: %zu bytes of stack\n", CALLS_IN_TURN[i].name, used);
         EXPECT(used < CALLS_IN_TURN[i].most);
     }
+    try_small_stack();
     EXPECT(!desk.live);
 #else
-    (void)CALLS_IN_TURN, (void)used_by, (void)link_all, (void)nothing;
+    (void)CALLS_IN_TURN, (void)used_by, (void)link_all, (void)nothing, (void)try_small_stack;
 #endif
     return ended("stack");
 }
