@@ -286,8 +286,8 @@ uint32_t vf_heap_checked_block_size(const uint8_t *memory, size_t len, size_t ad
  *
  * A block is told by its anchor, a number that you choose. Where it stands is a place: an index, so that memory[place]
  * is its first byte, and `memory + place` a pointer to it. A place is a multiple of 4. It holds until the next call of
- * vf_flex_free, extend, midextend, claim or resize that is done: ask vf_flex_place then, or go by vf_flex_put and
- * vf_flex_read, which take the anchor. The words of the slot hold addresses from &8000 on: 0x8000 more than the place.
+ * vf_flex_free, extend, midextend, claim or resize that is done: ask vf_flex_place or vf_flex_places then, or go by
+ * vf_flex_put and vf_flex_read, which take the anchor. The words of the slot hold addresses from &8000 on: 0x8000 more than the place.
  *
  * Each call tests first, and has changed nothing then: VF_NULL; VF_BAD_LENGTH where `len` is below 4,096 or above
  * 28 MiB; VF_NO_SLOT; VF_SHORT where the pages of the slot exceed `len`; VF_BAD_ANCHOR where there is an anchor. A
@@ -335,6 +335,11 @@ uint32_t vf_flex_set_budge(struct vf_slot *slot, bool on, bool *was);
 
 /* Tells where the anchor's block stands, as what a flex_ptr pointed to did. VF_NO_BLOCK. */
 uint32_t vf_flex_place(const uint8_t *memory, size_t len, const struct vf_slot *slot, uint32_t anchor, size_t *place);
+
+/* Tells where the blocks of the first `places_len` anchors stand, 0 for one that has none: what to ask behind a call
+ * that may have slid blocks. A slot has 64 anchors; what is told beyond them is 0. No refusal but those of all calls. */
+uint32_t vf_flex_places(const uint8_t *memory, size_t len, const struct vf_slot *slot, size_t *places,
+                        size_t places_len);
 
 /* Writes `from_len` bytes into the anchor's block, from an offset on. VF_NO_BLOCK, VF_BAD_RANGE where they would go
  * beyond its end. */
@@ -396,6 +401,8 @@ uint32_t vf_flex_checked_midextend(uint8_t *memory, size_t len, struct vf_slot *
                                    ptrdiff_t by);
 uint32_t vf_flex_checked_place(const uint8_t *memory, size_t len, const struct vf_slot *slot, uint32_t anchor,
                                size_t *place);
+uint32_t vf_flex_checked_places(const uint8_t *memory, size_t len, const struct vf_slot *slot, size_t *places,
+                                size_t places_len);
 uint32_t vf_flex_checked_put(uint8_t *memory, size_t len, struct vf_slot *slot, uint32_t anchor, size_t offset,
                              const uint8_t *from, size_t from_len);
 uint32_t vf_flex_checked_read(const uint8_t *memory, size_t len, const struct vf_slot *slot, uint32_t anchor,
@@ -547,6 +554,10 @@ uint32_t vf_desk_file(struct vf_desk *desk, const uint8_t *name, size_t name_len
  * message `first_ref`; both count up from there, and may not be 0. VF_OPEN, VF_BAD_ARGUMENT, VF_NO_MEMORY: then the
  * files stay added. */
 uint32_t vf_desk_open(struct vf_desk *desk, uint32_t pages, uint32_t first_handle, uint32_t first_ref);
+
+/* How many bytes a desk of so many pages takes at most, each request rounded up to 16 bytes, if no file was added: a
+ * bound for an arena of your own (c/examples/arena.h). */
+#define VF_DESK_ROOM(pages) ((size_t)(pages) * 4857 + 32768)
 
 /* Closes the desk, and gives back all memory that it took. The struct is all zeros then, and may be opened again. A
  * desk that is closed already stays so. */
@@ -1045,6 +1056,9 @@ VF_BOTH_UNLESS_NULL(vf_flex, midextend,
 VF_BOTH_UNLESS_NULL(vf_flex, place,
                     (const uint8_t *memory, size_t len, const struct vf_slot *slot, uint32_t anchor, size_t *place),
                     memory && slot && place, (memory, len, slot, anchor, place))
+VF_BOTH_UNLESS_NULL(vf_flex, places,
+                    (const uint8_t *memory, size_t len, const struct vf_slot *slot, size_t *places, size_t places_len),
+                    memory && slot && places, (memory, len, slot, places, places_len))
 VF_BOTH_UNLESS_NULL(vf_flex, put,
                     (uint8_t *memory, size_t len, struct vf_slot *slot, uint32_t anchor, size_t offset,
                      const uint8_t *from, size_t from_len),
@@ -1297,6 +1311,7 @@ VF_UNLESS_NULL(vf_message_decode,
 #define vf_flex_checked_extend vf_flex_checked_extend_unless_null
 #define vf_flex_checked_midextend vf_flex_checked_midextend_unless_null
 #define vf_flex_checked_place vf_flex_checked_place_unless_null
+#define vf_flex_checked_places vf_flex_checked_places_unless_null
 #define vf_flex_checked_put vf_flex_checked_put_unless_null
 #define vf_flex_checked_read vf_flex_checked_read_unless_null
 #define vf_flex_checked_describe vf_flex_checked_describe_unless_null
@@ -1383,6 +1398,7 @@ VF_UNLESS_NULL(vf_message_decode,
 #define vf_flex_extend vf_flex_checked_extend
 #define vf_flex_midextend vf_flex_checked_midextend
 #define vf_flex_place vf_flex_checked_place
+#define vf_flex_places vf_flex_checked_places
 #define vf_flex_put vf_flex_checked_put
 #define vf_flex_read vf_flex_checked_read
 #define vf_flex_describe vf_flex_checked_describe
@@ -1403,6 +1419,7 @@ VF_UNLESS_NULL(vf_message_decode,
 #define vf_flex_extend vf_flex_extend_unless_null
 #define vf_flex_midextend vf_flex_midextend_unless_null
 #define vf_flex_place vf_flex_place_unless_null
+#define vf_flex_places vf_flex_places_unless_null
 #define vf_flex_put vf_flex_put_unless_null
 #define vf_flex_read vf_flex_read_unless_null
 #define vf_flex_describe vf_flex_describe_unless_null
