@@ -147,7 +147,8 @@ static bool stand_at(size_t first, size_t third, size_t last)
     size_t places[66], ones[2] = {UNSET, UNSET};
     for (size_t i = 0; i < 66; i++)
         places[i] = UNSET;
-    if (vf_flex_places(memory, ROOM, &slot, places, 66) != VF_OK || vf_flex_places(memory, ROOM, &slot, ones, 1) != VF_OK)
+    if (vf_flex_places(memory, ROOM, &slot, places, 66) != VF_OK ||
+        vf_flex_places(memory, ROOM, &slot, ones, 1) != VF_OK)
         return false;
     for (size_t i = 0; i < 66; i++)
         if (places[i] != (i == 0 ? first : i == 2 ? third : i == 63 ? last : 0))
