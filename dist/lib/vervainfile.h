@@ -287,7 +287,8 @@ uint32_t vf_heap_checked_block_size(const uint8_t *memory, size_t len, size_t ad
  * A block is told by its anchor, a number that you choose. Where it stands is a place: an index, so that memory[place]
  * is its first byte, and `memory + place` a pointer to it. A place is a multiple of 4. It holds until the next call of
  * vf_flex_free, extend, midextend, claim or resize that is done: ask vf_flex_place or vf_flex_places then, or go by
- * vf_flex_put and vf_flex_read, which take the anchor. The words of the slot hold addresses from &8000 on: 0x8000 more than the place.
+ * vf_flex_put and vf_flex_read, which take the anchor. The words of the slot hold addresses from &8000 on: 0x8000 more
+ * than the place.
  *
  * Each call tests first, and has changed nothing then: VF_NULL; VF_BAD_LENGTH where `len` is below 4,096 or above
  * 28 MiB; VF_NO_SLOT; VF_SHORT where the pages of the slot exceed `len`; VF_BAD_ANCHOR where there is an anchor. A
