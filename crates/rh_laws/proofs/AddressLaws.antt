@@ -28,7 +28,7 @@ use Rattle.rh_laws.proofs.Queues.{IsMine, death-left, poll-taken}
 
 module _ {a : Addresses} (d : Desk) (g : Agrees a d) where
   -- what the first task that passes a test has
-  found-agrees : (test : Task → Bool) (t : Task) → find test d.tasks ≡ Some t → TaskAgrees a t
+  pub found-agrees : (test : Task → Bool) (t : Task) → find test d.tasks ≡ Some t → TaskAgrees a t
   found-agrees test t q = subst (λ (o : Option Task). IfSome o (TaskAgrees a)) q (find-all (TaskAgrees a) test d.tasks g.of_tasks)
 
   named-agrees : (name : List ℕ) (t : Task) → named name d ≡ Ok t → TaskAgrees a t
@@ -177,7 +177,7 @@ module _ (a : Addresses) (d : Desk) (g : Agrees a d) where
   kept : {r : Granted Answer} → OnGrant (Keeps a d g) r → Agrees a (or_else r (λ refusal. (d, reply.Refused refusal))).0
   kept all = (or_else-keeps (Keeps a d g) _ all (λ refusal. record { desk = g })).desk
 
-  step-agrees : (c : Command) → Agrees (addresses_next a d c (step d c).1) (step d c).0
+  pub step-agrees : (c : Command) → Agrees (addresses_next a d c (step d c).1) (step d c).0
   step-agrees (command.Task name buffer manner) = kept (start_task-keeps a d g name buffer manner)
   step-agrees (command.Kill name) = kept (kill-keeps a d g name)
   step-agrees (command.Save name k to leaf) =
@@ -197,7 +197,7 @@ after-agrees a d (c ∷ cs) g = after-agrees (addresses_next a d c (step d c).1)
 -- ---- the law
 
 -- a record that agrees was offered by some task
-some-sender : (v : Option Parties) (h : ℕ) (w : Incoming) → AgreesIn v h w → (s : ℕ) × From v s h
+pub some-sender : (v : Option Parties) (h : ℕ) (w : Incoming) → AgreesIn v h w → (s : ℕ) × From v s h
 some-sender v h (incoming.Fetching f) is = (f.sender, is)
 some-sender v h (incoming.Draining f) is = (f.sender, is)
 some-sender v h (incoming.Asking q) is = (q.sender, is)

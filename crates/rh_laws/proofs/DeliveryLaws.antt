@@ -88,14 +88,14 @@ module _ (P : ℕ → Task → Type 0) (h : ℕ) where
   ]
 
 -- the task of a handle
-own-of : {a : Marks} (d : Desk) → Agrees a d → (h : ℕ) (t : Task) → task_at h d ≡ Some t → HandleAgrees a (InAgrees a) h t
+pub own-of : {a : Marks} (d : Desk) → Agrees a d → (h : ℕ) (t : Task) → task_at h d ≡ Some t → HandleAgrees a (InAgrees a) h t
 own-of {a} d g h t is = subst (λ (o : Option Task). IfSome o (HandleAgrees a (InAgrees a) h)) is (g.of_tasks h)
 
 -- after an answer all agree with what is then known
-record Keeps (a : Marks) (x : Answer) : Type 0 where
-  marks : Marks
+pub record Keeps (a : Marks) (x : Answer) : Type 0 where
+  pub marks : Marks
   more : Grows a marks
-  desk : Agrees marks x.0
+  pub desk : Agrees marks x.0
 
 module _ (a : Marks) (d : Desk) (f : Fits d) (g : Agrees a d) where
   agreed : {x : Answer} → Agrees a x.0 → Keeps a x
@@ -271,7 +271,7 @@ module _ (a : Marks) (d : Desk) (f : Fits d) (g : Agrees a d) where
     kept : {r : Granted Answer} → OnGrant (Keeps a) r → Keeps a (or_else r (λ refusal. (d, reply.Refused refusal)))
     kept all = or_else-keeps (Keeps a) _ all (λ refusal. record { marks = a; more = grows-same a; desk = g })
 
-    step-agrees : (c : Command) → Keeps a (step d c)
+    pub step-agrees : (c : Command) → Keeps a (step d c)
     step-agrees (command.Task name buffer manner) = kept (start_task-keeps name buffer manner)
     step-agrees (command.Kill name) = kept (kill-keeps name)
     step-agrees (command.Save name k to leaf) = kept (save-keeps name k to leaf)
@@ -398,7 +398,7 @@ after-joined (c ∷ cs) ds d = after-joined cs ds (step d c).0
 -- ---- the law
 
 -- a record of a loaded transfer says Done
-loaded-done : (a : Marks) (h id : ℕ) (w : Incoming) → InAgrees a h w → in_id w ≡ id → Loaded a h id → is_done w ≡ true
+pub loaded-done : (a : Marks) (h id : ℕ) (w : Incoming) → InAgrees a h w → in_id w ≡ id → Loaded a h id → is_done w ≡ true
 loaded-done a h id (incoming.Fetching f) is q has = absurd (is (subst (λ i. Loaded a h i) (sym q) has))
 loaded-done a h id (incoming.Draining f) is q has = absurd (is (subst (λ i. Loaded a h i) (sym q) has))
 loaded-done a h id (incoming.Asking r) is q has = absurd (is.1 (subst (λ i. Loaded a h i) (sym q) has))

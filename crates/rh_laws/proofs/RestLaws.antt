@@ -44,16 +44,29 @@ use Rattle.rh_safety.proofs.SeenTasks.{ins_view, outs_view, slot_is, slot_view}
 use Rattle.rh_safety.proofs.Sight as sight
 use Rattle.rh_safety.proofs.Sight.{owned}
 use Rattle.rh_safety.proofs.View.{blocks_of, buffers_of, flex_map, of, seen_last, seen_letter, seen_parcel, seen_scrap}
+use Rattle.rh_defs.specs.Files.{FileList}
+use Rattle.rh_defs.specs.Laws.{IsStart}
 use Rattle.rh_laws.specs.Progress.{IsAtRest, rounds_of}
 use Rattle.rh_laws.specs.Rest.{AlwaysSettles, IsOffered, IsSettled}
 use Rattle.rh_laws.proofs.ProgressLaws.{always-progresses}
 use Rattle.rh_laws.proofs.Wants.{AllWait, HasWant, InWants, OutWants, Unanswered, WaitsFor, Want, Wants, is_sent, ref_of, reply, want_in, want_out}
 use Rattle.rh_laws.proofs.WantEdits.{For, KeepsFile, OldIds, Picks, Then, answer, killed-waits, left_by, own_back, picked-waits, picks, quiet-asks, quiet-told}
 use Rattle.rh_laws.proofs.WantEdits.{returned-waits, started-waits}
-use Rattle.rh_laws.proofs.WantDeeds.{Anew, Before, Sends}
-use Rattle.rh_laws.proofs.WantRecords.{InWant, OutsOf, asks-fits, by_ask, by_drain, by_fetch, deed, ids-stay, in-want, ins-stay, out-want, outs-moved}
-use Rattle.rh_laws.proofs.WantRecords.{outs-stay, un}
+use Rattle.rh_laws.proofs.DoneDeeds.{Taken, deed-matched}
+use Rattle.rh_laws.proofs.DoneEdits.{cancelled-matched, failed-matched, framed-matched, killed-matched, returned-matched, started-matched}
+use Rattle.rh_laws.proofs.DonePairs.{Agreed, pairs, step-agreed}
+use Rattle.rh_laws.proofs.DonePolls.{Pairs, returned-pairs, taken-matched}
+use Rattle.rh_laws.proofs.Dones.{Matched, Silent, ends-map}
+use Rattle.rh_laws.proofs.RefsApart.{rest-apart}
+use Rattle.rh_laws.proofs.WantDeeds.{Anew, Before, IsSpent, Sends, deed-waits}
+use Rattle.rh_laws.proofs.WantRecords.{InWant, OutsOf, Ready, TurnsOf, asks-fits, by_ask, by_drain, by_fetch, deed, ids-stay, in-want, ins-stay, out-want, outs-moved}
+use Rattle.rh_laws.proofs.WantRecords.{outs-stay, turns-moved, un}
 use Rattle.rh_laws.proofs.WantTurns.{handled-waits}
+
+-- each record waits, and those of transfers whose sender says Done end
+pub record Goes_on (d : sight.Desk) : Type 0 where
+  pub waits : AllWait d
+  pub matched : Matched d
 
 -- ---- a desk whose records are some of another one's
 
@@ -120,23 +133,6 @@ refs-below {d = d} inv h w (HasWant.goes x) =
 
 -- ---- the taking of a message
 
--- what is left of the queue has another ref
-first-apart : (k : ℕ) (q : List Message) (m : Message) → first_for k q ≡ Some m → Rises q → (y : Message) → Has y (without_first k q) → Unread y → Unread m →
-    y.letter.me ≢ m.letter.me
-first-apart k [] m e up y has u v = absurd has
-first-apart k (x ∷ q) m e up y has u v = elim (eqb_tells x.to k) [
-  | inl z ↦
-      let one : x ≡ m = let s = rw z.0 at e in cc in
-      let r = up.0 y (rw z.0 at has) (subst Unread (sym one) v) u in
-      λ same. let me = ap (λ (n : Message). n.letter.me) one in omega (arith, r, same, me)
-  | inr z ↦ elim (let s : Has y (x ∷ without_first k q) = rw z.0 at has in s) [
-    | inl s ↦
-        let r = up.0 m (first_has k q m (rw z.0 at e)).0 (subst Unread (sym s) u) v in
-        λ same. let me = ap (λ (n : Message). n.letter.me) s in omega (arith, r, same, me)
-    | inr s ↦ first-apart k q m (rw z.0 at e) up.1 y s u v
-  ]
-]
-
 -- a scrap file is kept whose DataLoad is there
 file-kept : (d : Desk) (p : Post) (f : sight.Scrap) → (view d).scrap ≡ Some f →
     IsLive (view (with_delivered p d)).queue (view (with_delivered p d)).held f.load → (view (with_delivered p d)).scrap ≡ Some f
@@ -151,8 +147,18 @@ file-kept d p f e live = go d.scrap e
         (ap (λ (y : sight.Scrap). y.load) (sym same)) live) in
         rw there q
 
+-- what a message that was taken leaves
+ready : (d : sight.Desk) (k : ℕ) (m : Message) → Taken d k m → Ready Goes_on d k m
+ready d k m taken = record {
+  before = taken.before;
+  closes = λ sd tk bl hp sc l x. record {
+    waits = deed-waits d k m taken.before sd tk bl hp sc l x;
+    matched = deed-matched d k m taken sd tk bl hp sc l x;
+  };
+}
+
 module _ {o : Offers} {e : Edits} (d : Desk) (t : Task) (fit : Fits d) (is : task_of t.handle d.tasks ≡ Some t) (good : Good o e (view d))
-    (all : AllWait (view d)) where
+    (goes : Goes_on (view d)) (pairs : Pairs (view d)) where
   abbrev k : ℕ
   k = t.handle
 
@@ -164,12 +170,12 @@ module _ {o : Offers} {e : Edits} (d : Desk) (t : Task) (fit : Fits d) (is : tas
 
   -- what it held went back
   returned-all : (v : Option Message) → D.held k ≡ v → AllWait (sight.returned D k v)
-  returned-all None q = all
+  returned-all None q = goes.waits
   returned-all (Some m) q = leads (record {
     ins = λ h w i x. x;
     outs = λ h w x. x;
     waits = λ h w x. returned-waits D k (Some m) q (home d h w x);
-  }) all
+  }) goes.waits
 
   bare : (v : Option Message) → D.held k ≡ v → (sight.returned D k v).held k ≡ None
   bare None q = q
@@ -202,11 +208,17 @@ module _ {o : Offers} {e : Edits} (d : Desk) (t : Task) (fit : Fits d) (is : tas
     kept-by : (S : sight.Desk) → view d1 ≡ S → KeepsFile R S
     kept-by S seen = subst (KeepsFile R) seen (λ f s live. file-kept d p.0 f (sym (scrap-same (D.held k)) ∙ s) live)
 
-    none-taken : p.1 ≡ None → AllWait (view d1)
+    matched : Matched R
+    matched = returned-matched D k (D.held k) refl goes.matched
+
+    none-taken : p.1 ≡ None → Goes_on (view d1)
     none-taken q =
         let l = lost-is w.lost R in
         let seen : view d1 ≡ with_scrap l.0 R = w.seen ∙ ap (λ (v : Option Parcel). picked_by k (option_map seen_parcel v) L) q ∙ l.1 in
-        subst AllWait (sym seen) (frame-all R R.block R.heap l.0 (kept-by _ seen) all-returned)
+        subst Goes_on (sym seen) (record {
+          waits = frame-all R R.block R.heap l.0 (kept-by _ seen) all-returned;
+          matched = framed-matched R R.block R.heap l.0 matched;
+        })
 
     module _ (m : Parcel) (q : p.1 ≡ Some m) where
       abbrev M : Message
@@ -235,16 +247,17 @@ module _ {o : Offers} {e : Edits} (d : Desk) (t : Task) (fit : Fits d) (is : tas
           by Recorded c = (g.came (λ r. let z : Recorded ≡ Acknowledge = sym c ∙ r in (cc))).inv
           by Plain c = (g.came (λ r. let z : Plain ≡ Acknowledge = sym c ∙ r in (cc))).inv
 
-      before : Before (view d1) k M
-      before =
+      taken : Taken (view d1) k M
+      taken =
           let l = lost-is w.lost R in
           let z = picks R k M m.code refl (bare (D.held k) refl) in
           let seen : view d1 ≡ left_by R k z.0 l.0 =
           seen-left ∙ ap (λ (S : sight.Desk). sight.picked S k M m.code) l.1 ∙ picked-lost R M l.0 m.code ∙ z.1.1 l.0 in
-          subst (λ (S : sight.Desk). Before S k M) (sym seen)
-          (here l.0 z.0 z.1.0 (kept-by _ seen) (subst (Inv o e) seen inv) (ap (λ (S : sight.Desk). S.next_ref) l.1))
+          subst (λ (S : sight.Desk). Taken S k M) (sym seen)
+          (taken-matched R k M first z.0 l.0 z.1.0 matched all-returned (subst (Good o e) l.1 good-left) (returned-pairs D k (D.held k) pairs)
+          (here l.0 z.0 z.1.0 (kept-by _ seen) (subst (Inv o e) seen inv) (ap (λ (S : sight.Desk). S.next_ref) l.1)))
         where
-          here : (sc : Option sight.Scrap) (hd : ℕ → Option Message) → Picks R M hd → KeepsFile R (left_by R k hd sc) → Inv o e (left_by R k hd sc) →
+          here : (sc : Option sight.Scrap) (hd : ℕ → Option Message) → Picks R k M hd → KeepsFile R (left_by R k hd sc) → Inv o e (left_by R k hd sc) →
               L.next_ref ≡ R.next_ref → Before (left_by R k hd sc) k M
           here sc hd x keeps i next = record {
             waits = λ h v y. picked-waits R k M first hd sc x keeps (all-returned.waits h v y);
@@ -257,13 +270,13 @@ module _ {o : Offers} {e : Edits} (d : Desk) (t : Task) (fit : Fits d) (is : tas
             refs = refs-below i;
             ids = i.order.in_below;
             positive = i.positive;
-            alone = first-apart k R.queue M first (subst Rises (lost_queue w.lost R) good-left.inv.order.rises);
+            alone = λ y has u v. rest-apart k R.queue M y first (subst Rises (lost_queue w.lost R) good-left.inv.order.rises) has u v;
           }
 
-      some-taken : AllWait (view (handled d1 t m m.code).0)
-      some-taken = handled-waits d1 t m g.is inv before (λ u. g.came u)
+      some-taken : Goes_on (view (handled d1 t m m.code).0)
+      some-taken = handled-waits Goes_on d1 t m g.is inv (ready (view d1) k M taken) (λ u. g.came u)
 
-    by-taken : (v : Option Parcel) → p.1 ≡ v → AllWait (view (poll_taken d1 t v).0)
+    by-taken : (v : Option Parcel) → p.1 ≡ v → Goes_on (view (poll_taken d1 t v).0)
     unfolding poll_taken
     by-taken None q = none-taken q
     by-taken (Some m) q = some-taken m q
@@ -289,42 +302,42 @@ blank-wants : (d : sight.Desk) (k h : ℕ) (b : Bool) (w : Want) → HasWant (pu
 blank-wants d k h b w (HasWant.comes {i} x) = let z = blank-in d k h w i x in (z.0, HasWant.comes z.1)
 blank-wants d k h b w (HasWant.goes x) = let z = blank-out d k h b w x in (z.0, HasWant.goes z.1)
 
-module _ {o : Offers} {e : Edits} (d : Desk) (fit : Fits d) (good : Good o e (view d)) (all : AllWait (view d)) where
+module _ {o : Offers} {e : Edits} (d : Desk) (fit : Fits d) (good : Good o e (view d)) (goes : Goes_on (view d)) (pairs : Pairs (view d)) where
   abbrev V : sight.Desk
   V = view d
 
   record Stays (a : Answer) : Type 0 where
-    desk : AllWait (view a.0)
+    desk : Goes_on (view a.0)
 
   kill-stays : (name : List ℕ) → OnGrant Stays (kill d name)
   unfolding kill with_delivered
   kill-stays name = granted-then _ _ λ t q. granted (record { desk = gone t.handle })
     where
-      gone : (k : ℕ) → AllWait (view (after_kill d k))
+      gone : (k : ℕ) → Goes_on (view (after_kill d k))
       gone k =
           let sc = option_map seen_scrap (kept_scrap (post_death k d.post) d.scrap) in
           let seen : view (after_kill d k) ≡ with_scrap sc (sight.killed V k) = killed_view d k fit in
           let keeps : KeepsFile V (with_scrap sc (sight.killed V k)) = subst (KeepsFile V) seen (λ f s live. file-kept d (post_death k d.post) f s live) in
-          subst AllWait (sym seen) (leads (record {
+          subst Goes_on (sym seen) (record { matched = killed-matched V k sc good.inv.order.rises goes.matched; waits = leads (record {
             ins = λ h w i x. (blank-in V k h w i x).1;
             outs = λ h w x. (blank-out V k h false w x).1;
             waits = λ h w x. let z = blank-wants V k h false w x in killed-waits V k sc z.0 (home d h w z.1) keeps;
-          }) all)
+          }) goes.waits })
 
   start-stays : (name : List ℕ) (buffer : ℕ) (manner : Manner) → OnGrant Stays (start_task d name buffer manner)
   unfolding start_task
   start-stays name buffer manner =
       granted-past _ _ _ λ a. granted-past _ _ _ λ b. granted-past _ _ _ λ c. granted-then _ _ λ s q.
-      granted (record { desk = subst (λ (z : Slot). AllWait (view (with_new_task name buffer manner z d))) (begin_is (free_pages d) s q) begun })
+      granted (record { desk = subst (λ (z : Slot). Goes_on (view (with_new_task name buffer manner z d))) (begin_is (free_pages d) s q) begun })
     where
-      begun : AllWait (view (with_new_task name buffer manner new_slot d))
+      begun : Goes_on (view (with_new_task name buffer manner new_slot d))
       begun =
           let none = no_task_of d d.next_handle (λ l. let z = good.inv.alive d.next_handle l in omega (arith, z)) in
-          subst AllWait (sym (started_view d name buffer manner none)) (leads (record {
+          subst Goes_on (sym (started_view d name buffer manner none)) (record { matched = started-matched V buffer (is_deaf manner) (answers_none manner) goes.matched; waits = leads (record {
             ins = λ h w i x. (blank-in V V.next_handle h w i x).1;
             outs = λ h w x. (blank-out V V.next_handle h (answers_none manner) w x).1;
             waits = λ h w x. started-waits V buffer (is_deaf manner) (answers_none manner) (blank-wants V V.next_handle h (answers_none manner) w x).0;
-          }) all)
+          }) goes.waits })
 
   -- ---- letters that answer nothing
 
@@ -338,8 +351,8 @@ module _ {o : Offers} {e : Edits} (d : Desk) (fit : Fits d) (good : Good o e (vi
 
   before-idler : (k : ℕ) → Before V k (idler k)
   before-idler k = record {
-    waits = λ h w x. by h w (all.waits h w x);
-    apart = all.apart;
+    waits = λ h w x. by h w (goes.waits.waits h w x);
+    apart = goes.waits.apart;
     to = refl;
     letters = λ l kn. let b = good.inv.letters.below l kn in (b.me, b.answers);
     mine = good.inv.positive;
@@ -353,13 +366,36 @@ module _ {o : Offers} {e : Edits} (d : Desk) (fit : Fits d) (good : Good o e (vi
       by h w (inl u) = Then.asking u (λ e. absurd (let z = u.some in omega (arith, z, e)))
       by h w (inr a) = Then.told a
 
+  -- it answers nothing, and no record goes on by it
+  taken-idler : (k : ℕ) → Taken V k (idler k)
+  taken-idler k = record {
+    alone = goes.matched.alone;
+    silent = goes.matched.silent;
+    first = goes.matched.first;
+    ends = λ s i n r w done has id. ends-map w refl (λ t is y fin there. inl there) (goes.matched.ends s i n r w done has id);
+    heard = record {
+      mute = λ other. absurd (other refl);
+      queue = λ un. absurd (un refl);
+      hand = λ un. absurd (un refl);
+      answers = λ un. absurd (un refl);
+      waiter = λ x has kind would fetches lives un. absurd (un refl);
+      told = λ un. absurd (un refl);
+      home = λ x r w has. pairs.home k x r w has;
+      carried = λ f has kind un. absurd (un refl);
+    };
+    before = before-idler k;
+    outs = good.inv.order.out_below;
+    ascends = good.inv.order.ins;
+  }
+
   sent-all : (k : ℕ) (n : Message) (sd : ℕ → List Out) → n.letter.from ≡ k → n.letter.me ≡ V.next_ref → n.letter.answers < V.next_ref →
-      ((h : ℕ) (w : Want) → Unanswered V h w → n.letter.answers ≢ ref_of w) → OutsOf V k (idler k) (Some n) sd →
-      {y : sight.Desk} → y ≡ sight.sent (record V { sending = sd }) k n → AllWait y
-  sent-all k n sd from me below never outs q = deed V k (idler k) (before-idler k) (Some n) sd V.taking V.block V.heap V.scrap q (record {
+      IsSpent V n.letter.answers → OutsOf V k (idler k) (Some n) sd → TurnsOf V k (idler k) (Some n) sd →
+      {y : sight.Desk} → y ≡ sight.sent (record V { sending = sd }) k n → Goes_on y
+  sent-all k n sd from me below never outs turns q = deed V k (idler k) (ready V k (idler k) (taken-idler k)) (Some n) sd V.taking V.block V.heap V.scrap q (record {
     fresh = 0;
     ins = ins-stay V k (idler k) (Some n) 0 (λ w j x f. never-for f);
     outs = outs;
+    turns = turns;
     ids = ids-stay V k (idler k) (Some n);
     sends = λ l e. let same : n ≡ l = cc in subst (Sends V k (idler k) V.scrap) same (record { from = from; me = me; below = below; answers = inl never });
     scrap = λ f s. inl s;
@@ -370,15 +406,15 @@ module _ {o : Offers} {e : Edits} (d : Desk) (fit : Fits d) (good : Good o e (vi
   repeat-stays name = granted-then _ _ λ t q. granted-then _ _ λ last z. granted-then _ _ λ sent y. granted (record { desk = again t last sent q z y })
     where
       again : (t : Task) (last : Letter_ × ℕ) (sent : Desk) → named name d ≡ Ok t → found_or t.last_sent NothingSent ≡ Ok last →
-          send_letter (record last.0 { from = t.handle }) d ≡ Ok sent → AllWait (view sent)
+          send_letter (record last.0 { from = t.handle }) d ≡ Ok sent → Goes_on (view sent)
       again t last sent q z y =
           let is = the_task d name t fit q in
           let l : Letter_ = record last.0 { from = t.handle } in
           let there : V.last t.handle ≡ Some (seen_last last) =
           field_is (λ x. option_map seen_last x.last_sent) _ t.handle d.tasks t is ∙ ap (option_map seen_last) (is_found t.last_sent NothingSent last z) in
           let kn : Knows V (owned t.handle (seen_last last)).letter = Known.latest t.handle (seen_last last) there refl in
-          sent-all t.handle (seen_letter l d.post.next_ref) V.sending refl refl (good.inv.letters.below _ kn).answers (λ h w u e. u.letters _ kn e)
-          (outs-stay V t.handle (idler t.handle) (Some (seen_letter l d.post.next_ref)) (λ w x f. never-for f))
+          sent-all t.handle (seen_letter l d.post.next_ref) V.sending refl refl (good.inv.letters.below _ kn).answers (IsSpent.answered _ kn refl)
+          (outs-stay V t.handle (idler t.handle) (Some (seen_letter l d.post.next_ref)) (λ w x f. never-for f)) (λ h v has. inl has)
           (sent_view d sent l y (live_of d t.handle t is))
 
   save-stays : (name : List ℕ) (k : ℕ) (to leaf : List ℕ) → OnGrant Stays (save d name k to leaf)
@@ -389,7 +425,7 @@ module _ {o : Offers} {e : Edits} (d : Desk) (fit : Fits d) (good : Good o e (vi
     where
       saved : (t : Task) (b : Split Flex) (r : Task) (sent : Desk) → named name d ≡ Ok t → idle_block k t ≡ Ok b →
           send_letter (save_letter t.handle r.handle (length b.here.bytes) leaf) d ≡ Ok sent →
-          AllWait (view (with_sending t.handle (sender.sending_offered (next_ref d) r.handle k) sent))
+          Goes_on (view (with_sending t.handle (sender.sending_offered (next_ref d) r.handle k) sent))
       saved t b r sent q i y =
           let h : ℕ = t.handle in
           let is = the_task d name t fit q in
@@ -400,10 +436,10 @@ module _ {o : Offers} {e : Edits} (d : Desk) (fit : Fits d) (good : Good o e (vi
             letter = record { from = h; me = V.next_ref; answers = 0; kind = action.DataSave; address = 0; amount = length (sight.bytes_of (V.block h k)) };
           } in
           let x : Sending = record { id = V.next_ref; recipient = r.handle; anchor = k; count = 0; last = V.next_ref } in
-          sent-all h n _ refl refl good.inv.positive (λ j w u e. let z = u.some in omega (arith, z, e))
-          (outs-moved V h (idler h) (Some n) _ (Open x)
-          (move_more out_id V.sending h V.most is_open (Open x) (λ v has e. let z = good.inv.order.out_below h v has in omega (arith, z, e)))
-          (λ w u has wants f. absurd (never-for f)) (λ w wants. anew h n x refl refl refl refl refl w (V.file h) refl wants))
+          let move = move_more out_id V.sending h V.most is_open (Open x) (λ v has e. let z = good.inv.order.out_below h v has in omega (arith, z, e)) in
+          sent-all h n _ refl refl good.inv.positive (IsSpent.none refl)
+          (outs-moved V h (idler h) (Some n) _ (Open x) move
+          (λ w u has wants f. absurd (never-for f)) (λ w wants. anew h n x refl refl refl refl refl w (V.file h) refl wants)) (turns-moved V h (idler h) (Some n) _ (Open x) move (inl refl))
           (after_save d sent t r k leaf b.here.bytes is there y)
         where
           anew : (h : ℕ) (n : Message) (x : Sending) → x.last ≡ V.next_ref → x.id ≡ x.last → n.to ≡ x.recipient → n.letter.kind ≡ action.DataSave →
@@ -433,7 +469,7 @@ module _ {o : Offers} {e : Edits} (d : Desk) (fit : Fits d) (good : Good o e (vi
       })
     where
       failed : (t : Task) (x : Sending) (records : List Out) → named name d ≡ Ok t → sender.sending_failed x t.sending ≡ records →
-          AllWait (view (with_sending t.handle (λ _. records) d))
+          Goes_on (view (with_sending t.handle (λ _. records) d))
       failed t x records q same =
           let is = the_task d name t fit q in
           let k : ℕ = t.handle in
@@ -442,14 +478,14 @@ module _ {o : Offers} {e : Edits} (d : Desk) (fit : Fits d) (good : Good o e (vi
           let seen : view (with_sending k (λ _. records) d) ≡ record V { sending = sd } = outs_view d k (λ _. records) (live_of d k t is)
           ∙ ap (λ (y : List Out). record V { sending = put V.sending k y })
           (sym same ∙ ap (sender.sending_failed x) (sym (field_is (λ y. y.sending) [] k d.tasks t is))) in
-          subst AllWait (sym seen) (leads (record {
+          subst Goes_on (sym seen) (record { matched = failed-matched V sd (λ h v has. elim (move h v has) [ inl z ↦ inl z.0 | inr z ↦ inr (x.id, (x.count, z.1)) ]) goes.matched; waits = leads (record {
             ins = λ h w i y. y;
             outs = λ h w y. elim (move h y.one y.has) [
               | inl z ↦ record { one = y.one; has = z.0; wants = y.wants }
               | inr z ↦ absurd (none_some None refl (ap (want_out (V.file h)) (sym z.1) ∙ y.wants))
             ];
             waits = λ h w y. calm V sd V.taking V.block V.heap V.scrap (λ r v has. inl (r, (v, (has, refl)))) (λ f s l. s);
-          }) all)
+          }) goes.waits })
 
   cancel_in-stays : (name : List ℕ) (id : Option ℕ) → OnGrant Stays (cancel_in d name id)
   unfolding cancel_in receiver.cancel_taking
@@ -472,7 +508,7 @@ module _ {o : Offers} {e : Edits} (d : Desk) (fit : Fits d) (good : Good o e (vi
       cancelled-id _ = refl
 
       given_up : (t : Task) (x : In) (records : List In) → named name d ≡ Ok t → Has x t.taking →
-          with_id in_id (in_id x) (receiver.cancelled x) t.taking ≡ records → AllWait (view (with_taking t.handle (λ _. records) d))
+          with_id in_id (in_id x) (receiver.cancelled x) t.taking ≡ records → Goes_on (view (with_taking t.handle (λ _. records) d))
       given_up t x records q has same =
           let is = the_task d name t fit q in
           let k : ℕ = t.handle in
@@ -482,7 +518,7 @@ module _ {o : Offers} {e : Edits} (d : Desk) (fit : Fits d) (good : Good o e (vi
           let move = move_with in_id V.taking k (in_id x) (receiver.cancelled x) (cancelled-id x) in
           let seen : view (with_taking k (λ _. records) d) ≡ record V { taking = tk } = ins_view d k (λ _. records) (live_of d k t is)
           ∙ ap (λ (y : List In). record V { taking = put V.taking k y }) (sym same ∙ ap (with_id in_id (in_id x) (receiver.cancelled x)) (sym own)) in
-          subst AllWait (sym seen) (leads (record {
+          subst Goes_on (sym seen) (record { matched = cancelled-matched V k x tk here move goes.matched; waits = leads (record {
             ins = λ h w i y. elim (move h y.one y.has) [
               | inl z ↦ record { one = y.one; has = z.0; wants = y.wants; id = y.id }
               | inr z ↦ record {
@@ -497,7 +533,7 @@ module _ {o : Offers} {e : Edits} (d : Desk) (fit : Fits d) (good : Good o e (vi
               | inl z ↦ inl (r, (v, (z.0, refl)))
               | inr z ↦ inl (k, (x, (here, sym (cancelled-id x) ∙ ap in_id (sym z.1))))
             ]) (λ f s l. s);
-          }) all)
+          }) goes.waits })
 
   -- ---- commands on memory, and polls
 
@@ -505,14 +541,17 @@ module _ {o : Offers} {e : Edits} (d : Desk) (fit : Fits d) (good : Good o e (vi
   memory-stays _ (in_slot name t s about q quiet) =
       let is = the_task d name t fit q in
       record {
-        desk = subst AllWait (sym (slot_view d t.handle (λ _. s) t.slot (live_of d t.handle t is) (slot_is d t.handle t is)))
-            (frame-all V (put V.block t.handle (blocks_of s)) (put V.heap t.handle (buffers_of s)) V.scrap (λ f z l. z) all);
+        desk = subst Goes_on (sym (slot_view d t.handle (λ _. s) t.slot (live_of d t.handle t is) (slot_is d t.handle t is)))
+            (record {
+              waits = frame-all V (put V.block t.handle (blocks_of s)) (put V.heap t.handle (buffers_of s)) V.scrap (λ f z l. z) goes.waits;
+              matched = framed-matched V (put V.block t.handle (blocks_of s)) (put V.heap t.handle (buffers_of s)) V.scrap goes.matched;
+            });
       }
-  memory-stays _ _ = record { desk = all }
+  memory-stays _ _ = record { desk = goes }
 
   make-stays : (most : ℕ) → OnGrant Stays (make d most)
   unfolding make
-  make-stays most = granted-past _ _ _ λ x. granted-past _ _ _ λ y. granted (record { desk = all })
+  make-stays most = granted-past _ _ _ λ x. granted-past _ _ _ λ y. granted (record { desk = goes })
 
   poll-stays : (name : List ℕ) → OnGrant Stays (poll d name)
   unfolding poll
@@ -520,7 +559,7 @@ module _ {o : Offers} {e : Edits} (d : Desk) (fit : Fits d) (good : Good o e (vi
       let is = the_task d name t fit q in
       let h : ℕ = t.handle in
       granted (record {
-        desk = by-taken d t fit is good all (post_poll h d.post) (fit.polled h) (poll_taken_is d h fit (live_of d h t is))
+        desk = by-taken d t fit is good goes pairs (post_poll h d.post) (fit.polled h) (poll_taken_is d h fit (live_of d h t is))
             (post_poll h d.post).1 refl;
       })
 
@@ -535,17 +574,52 @@ module _ {o : Offers} {e : Edits} (d : Desk) (fit : Fits d) (good : Good o e (vi
   change-stays (command.Make most) = make-stays most
   change-stays c = granted-on d c tt memory-stays
 
-  pub step-waits : (c : Command) → AllWait (view (step d c).0)
-  step-waits c = (or_else-keeps Stays _ (change-stays c) (λ refusal. record { desk = all })).desk
+  pub step-goes_on : (c : Command) → Goes_on (view (step d c).0)
+  step-goes_on c = (or_else-keeps Stays _ (change-stays c) (λ refusal. record { desk = goes })).desk
 
 -- ---- runs
 
-after-waits : (cs : List Command) → all_in_range cs ≡ true → (d : Desk) {o : Offers} {e : Edits} → Good o e (view d) → IsDesk d → AllWait (view d) →
-    AllWait (view (after d cs))
-after-waits [] p d good is all = all
-after-waits (c ∷ cs) p d good is all =
+pub after-goes_on : (cs : List Command) → all_in_range cs ≡ true → (d : Desk) {o : Offers} {e : Edits} → Good o e (view d) → IsDesk d → Agreed d →
+    Goes_on (view d) → Agreed (after d cs) × Goes_on (view (after d cs))
+after-goes_on [] p d good is agreed goes = (agreed, goes)
+after-goes_on (c ∷ cs) p d good is agreed goes =
     let in_c : in_range c ≡ true = and_left (in_range c) _ p in
-    after-waits cs (and_right (in_range c) _ p) (step d c).0 (keeps c in_c d good (fits d is)) (step-keeps d c in_c is) (step-waits d (fits d is) good all c)
+    let fit = fits d is in
+    after-goes_on cs (and_right (in_range c) _ p) (step d c).0 (keeps c in_c d good fit) (step-keeps d c in_c is) (step-agreed d fit good agreed c)
+    (step-goes_on d fit good goes (pairs d agreed) c)
+
+-- the first desk has no task and no message
+start-agreed : (pool handle ref : ℕ) (files : FileList) → Agreed (start_with pool files handle ref)
+start-agreed pool handle ref files = record {
+  addresses = λ i. None;
+  addressed = record { born = λ i low. refl; of_tasks = tt; mail = tt };
+  marks = record { of_ref = λ i. None; loaded = [] };
+  loaded = record { born = λ i low. refl; unloaded = λ r i low has. has; of_tasks = λ h. tt; mail = tt };
+}
+
+start-goes_on : (pool handle ref : ℕ) (files : FileList) → Goes_on (view (start_with pool files handle ref))
+start-goes_on pool handle ref files = record {
+  waits = record { waits = λ h w x. nothing h w x; apart = λ h w x i j a b e. absurd a.has };
+  matched = record {
+    alone = record {
+      hand = λ j m y e has. absurd has;
+      hands = λ i j m y e f same. absurd (none_some None refl e);
+      back = λ m y has. absurd has;
+    };
+    silent = silent;
+    first = λ r t act l k kn kl me from same. elim act [ inl z ↦ absurd z | inr z ↦ absurd z ];
+    ends = λ s i n r w done. absurd done;
+  };
+}
+  where
+    nothing : (h : ℕ) (w : Want) → Wants (view (start_with pool files handle ref)) h w → WaitsFor (view (start_with pool files handle ref)) h w
+    nothing h w (HasWant.comes x) = absurd x.has
+    nothing h w (HasWant.goes x) = absurd x.has
+
+    silent : (i : ℕ) → IsLive (view (start_with pool files handle ref)).queue (view (start_with pool files handle ref)).held i →
+        Silent (view (start_with pool files handle ref)) i
+    silent i (IsLive.waits m has e) = absurd has
+    silent i (IsLive.rests j m is e) = absurd (none_some None refl is)
 
 -- ---- at rest
 
@@ -594,20 +668,22 @@ settled d good all rest = record {
           wants = ap (λ c. if c then None else Some (reply x.last x.recipient)) e;
         }))))
 
+-- each desk that a run reaches
+pub always-goes_on : (pool handle ref : ℕ) (files : FileList) (commands : List Command) → IsStart pool handle ref → all_in_range commands ≡ true →
+    Agreed (after (start_with pool files handle ref) commands) × Goes_on (view (after (start_with pool files handle ref) commands))
+always-goes_on pool handle ref files commands from ranged =
+    let positive : 0 < ref = omega (arith, from.first_ref) in
+    after-goes_on commands ranged (start_with pool files handle ref) (start_good most_records handle ref positive) (start-is pool handle ref files from)
+    (start-agreed pool handle ref files) (start-goes_on pool handle ref files)
+
 pub always-settles : AlwaysSettles
 always-settles pool handle ref files commands from ranged rounds in_rounds names few =
     let d : Desk = start_with pool files handle ref in
-    let positive : 0 < ref = omega (arith, from.first_ref) in
-    let start : AllWait (view d) = record { waits = λ h w x. nothing_ h w x; apart = λ h w x i j a b e. absurd a.has } in
     let is = start-is pool handle ref files from in
-    let here = after-waits commands ranged d (start_good most_records handle ref positive) is start in
+    let here = always-goes_on pool handle ref files commands from ranged in
     let good = good_after pool handle ref files commands from ranged in
     let kept = after-is d commands ranged is in
     let rest = (always-progresses pool handle ref files commands from ranged).rests rounds in_rounds names few in
     let end : Desk = after d commands in
     settled (after end (rounds_of rounds)) (kept_good (rounds_of rounds) in_rounds end good kept)
-    (after-waits (rounds_of rounds) in_rounds end good kept here) rest
-  where
-    nothing_ : (h : ℕ) (w : Want) → Wants (view (start_with pool files handle ref)) h w → WaitsFor (view (start_with pool files handle ref)) h w
-    nothing_ h w (HasWant.comes x) = absurd x.has
-    nothing_ h w (HasWant.goes x) = absurd x.has
+    (after-goes_on (rounds_of rounds) in_rounds end good kept here.0 here.1).1.waits rest

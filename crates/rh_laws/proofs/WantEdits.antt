@@ -12,6 +12,7 @@ use Rattle.rh_safety.proofs.Posts.{returned_known, started_known, unheld}
 use Rattle.rh_safety.proofs.SeenPosts.{with_scrap}
 use Rattle.rh_safety.proofs.Sends.{sent_knows, still_is}
 use Rattle.rh_safety.proofs.Sight.{Desk, Scrap, back, back_held, back_if_recorded, bounced_for, for_others, killed, picked, returned, sent, started}
+use Rattle.rh_laws.proofs.RefsApart.{Holds}
 use Rattle.rh_laws.proofs.Wants.{Answered, Asks, Onward, Same, Tells, Unanswered, WaitsFor, Want, Was, file, part, peer_of, ref_of, reply, still-asks}
 use Rattle.rh_laws.proofs.Wants.{still-told}
 
@@ -50,25 +51,25 @@ bounced-to live k (x ∷ q) y has = elim (eqb_tells x.to k) [
 
 -- ---- a task lets go of what it holds
 
+pub returned-on : (d : Desk) (k : ℕ) (m : Message) → d.held k ≡ Some m → (w : Want) → Onward d (returned d k (Some m)) w
+returned-on d k m is w = record {
+  queue = λ y has me. elim (Has-append y d.queue (back d.live m) has) [
+    | inl a ↦ Was.in_queue y a refl
+    | inr a ↦ let z = back_has (d.live m.letter.from) m y a in Was.back_hand k m is z.1 z.0 (back-to (d.live m.letter.from) m y a)
+  ];
+  held = λ j y e me. Was.in_hand j (unheld d k j y e);
+  letters = λ l kn a. returned_known d k m is l kn;
+  ids = λ r v has i. (r, (v, (has, i)));
+}
+
 pub returned-waits : {h : ℕ} {w : Want} (d : Desk) (k : ℕ) (o : Option Message) → d.held k ≡ o → d.live h ≡ true → WaitsFor d h w →
     WaitsFor (returned d k o) h w
 returned-waits d k None is live x = x
 returned-waits {h} {w} d k (Some m) is live x = elim x [
-  | inl u ↦ inl (still-asks (same refl refl) on (now u u.live) u)
+  | inl u ↦ inl (still-asks (same refl refl) (returned-on d k m is w) (now u u.live) u)
   | inr a ↦ inr (still-told (same refl refl) a (λ f s l. s) (Has-left a.answer d.queue (back d.live m) a.queued))
 ]
   where
-    on : Onward d (returned d k (Some m)) w
-    on = record {
-      queue = λ y has me. elim (Has-append y d.queue (back d.live m) has) [
-        | inl a ↦ Was.in_queue y a refl
-        | inr a ↦ let z = back_has (d.live m.letter.from) m y a in Was.back_hand k m is z.1 z.0 (back-to (d.live m.letter.from) m y a)
-      ];
-      held = λ j y e me. Was.in_hand j (unheld d k j y e);
-      letters = λ l kn a. returned_known d k m is l kn;
-      ids = λ r v has i. (r, (v, (has, i)));
-    }
-
     now : Unanswered d h w → IsLive d.queue d.held (ref_of w) → IsLive (d.queue ++ back d.live m) (put d.held k None) (ref_of w)
     now u (IsLive.waits y has s) = IsLive.waits y (Has-left y d.queue (back d.live m) has) s
     now u (IsLive.rests j y e s) = elim (eqb_tells j k) [
@@ -97,7 +98,7 @@ pub data Then (d : Desk) (m : Message) (h : ℕ) (w : Want) : Type 0 where
   told : Answered d h w → Then d m h w
   due : m.to ≡ h → For d m h w → Then d m h w
 
-has-without : (k : ℕ) (q : List Message) (m y : Message) → first_for k q ≡ Some m → Has y q → Has y (without_first k q) ⊎ (y ≡ m)
+pub has-without : (k : ℕ) (q : List Message) (m y : Message) → first_for k q ≡ Some m → Has y q → Has y (without_first k q) ⊎ (y ≡ m)
 has-without k [] m y e never = absurd never
 has-without k (x ∷ q) m y e has = elim (eqb_tells x.to k) [
   | inl z ↦
@@ -113,8 +114,9 @@ has-without k (x ∷ q) m y e has = elim (eqb_tells x.to k) [
 ]
 
 -- what is held once the message was taken: one more at most
-pub record Picks (d : Desk) (m : Message) (hd : ℕ → Option Message) : Type 0 where
+pub record Picks (d : Desk) (k : ℕ) (m : Message) (hd : ℕ → Option Message) : Type 0 where
   pub one : OneMore d.held hd m
+  pub mine : Holds d k m hd
   pub kept : (j : ℕ) (y : Message) → d.held j ≡ Some y → hd j ≡ Some y
   pub got : m.code ≡ Recorded → (j : ℕ) × (hd j ≡ Some m)
 
@@ -123,12 +125,13 @@ abbrev pub left_by : Desk → ℕ → (ℕ → Option Message) → Option Scrap 
 left_by d k hd sc = record d { queue = without_first k d.queue; held = hd; scrap = sc }
 
 pub picks : (d : Desk) (k : ℕ) (m : Message) (c : Code) → m.code ≡ c → d.held k ≡ None →
-    (hd : ℕ → Option Message) × (Picks d m hd × ((sc : Option Scrap) → with_scrap sc (picked d k m c) ≡ left_by d k hd sc))
+    (hd : ℕ → Option Message) × (Picks d k m hd × ((sc : Option Scrap) → with_scrap sc (picked d k m c) ≡ left_by d k hd sc))
 picks d k m Plain code bare = (
   d.held,
   (
     record {
       one = λ j y is. inl is;
+      mine = λ j y is. inl is;
       kept = λ j y is. is;
       got = λ r. absurd (let z : Plain ≡ Recorded = sym code ∙ r in (cc));
     },
@@ -140,6 +143,7 @@ picks d k m Returned code bare = (
   (
     record {
       one = λ j y is. inl is;
+      mine = λ j y is. inl is;
       kept = λ j y is. is;
       got = λ r. absurd (let z : Returned ≡ Recorded = sym code ∙ r in (cc));
     },
@@ -151,6 +155,12 @@ picks d k m Recorded code bare = (
   (
     record {
       one = put_one d k m;
+      mine = λ j y is. elim (eqb_tells j k) [
+        | inl z ↦
+            let one : Some m ≡ Some y = sym (put_same d.held k (Some m)) ∙ subst (λ i. put d.held k (Some m) i ≡ Some y) z.1 is in
+            let same : m ≡ y = cc in inr (z.1, (same, λ r. let c : Recorded ≡ Returned = sym code ∙ r in (cc)))
+        | inr z ↦ inl (sym (put_other d.held k (Some m) j z.1) ∙ is)
+      ];
       kept = λ j y is. elim (eqb_tells j k) [
         | inl z ↦ absurd (none_some (d.held k) bare (ap d.held (sym z.1) ∙ is))
         | inr z ↦ put_other d.held k (Some m) j z.1 ∙ is
@@ -161,7 +171,7 @@ picks d k m Recorded code bare = (
   ),
 )
 
-module _ (d : Desk) (k : ℕ) (m : Message) (first : first_for k d.queue ≡ Some m) (hd : ℕ → Option Message) (sc : Option Scrap) (x : Picks d m hd) where
+module _ (d : Desk) (k : ℕ) (m : Message) (first : first_for k d.queue ≡ Some m) (hd : ℕ → Option Message) (sc : Option Scrap) (x : Picks d k m hd) where
   here : Has m d.queue
   here = (first_has k d.queue m first).0
 
@@ -171,8 +181,8 @@ module _ (d : Desk) (k : ℕ) (m : Message) (first : first_for k d.queue ≡ Som
   pub picked-letters : (l : Letter) → Knows e l → Knows d l
   picked-letters l kn = picked_known d k m hd here x.one l kn
 
-  on : (w : Want) → Onward d e w
-  on w = record {
+  pub picked-on : (w : Want) → Onward d e w
+  picked-on w = record {
     queue = λ y has me. Was.in_queue y (without_has k d.queue y has) refl;
     held = λ j y is me. elim (x.one j y is) [ inl a ↦ Was.in_hand j a | inr a ↦ Was.in_queue m here (sym a) ];
     letters = λ l kn a. picked-letters l kn;
@@ -184,11 +194,11 @@ module _ (d : Desk) (k : ℕ) (m : Message) (first : first_for k d.queue ≡ Som
     | inl me ↦ let o = u.queue m here me.1 in elim o.way [
       | inl way ↦
           let j = x.got way.0 in
-          let v = still-asks (same refl refl) (on w) (IsLive.rests j.0 m j.1 me.1) u in
+          let v = still-asks (same refl refl) (picked-on w) (IsLive.rests j.0 m j.1 me.1) u in
           asking v (λ s. (way.0, (o.from, (way.1, o.asks))))
       | inr way ↦ due way.1 (own_back way.0 me.1 o.asks)
     ]
-    | inr me ↦ asking (still-asks (same refl refl) (on w) (now me.1 u.live) u) (λ s. absurd (me.1 s))
+    | inr me ↦ asking (still-asks (same refl refl) (picked-on w) (now me.1 u.live) u) (λ s. absurd (me.1 s))
   ]
     where
       now : m.letter.me ≢ ref_of w → IsLive d.queue d.held (ref_of w) → IsLive e.queue e.held (ref_of w)
@@ -214,7 +224,7 @@ module _ (d : Desk) (k : ℕ) (m : Message) (first : first_for k d.queue ≡ Som
 
 -- ---- a task ends
 
-has-others : (k : ℕ) (q : List Message) (y : Message) → Has y q → y.to ≢ k → Has y (for_others k q)
+pub has-others : (k : ℕ) (q : List Message) (y : Message) → Has y q → y.to ≢ k → Has y (for_others k q)
 has-others k [] y never ne = absurd never
 has-others k (x ∷ q) y has ne = elim (eqb_tells x.to k) [
   | inl z ↦ elim has as (λ _. Has y (for_others k (x ∷ q))) [
@@ -236,10 +246,28 @@ has-bounced live k (x ∷ q) y (inr has) to code from =
     let z = has-bounced live k q y has to code from in
     elim (eqb_tells x.to k) [ inl s ↦ rw s.0 (Has-right _ (back_if_recorded live x x.code) _ z) | inr s ↦ rw s.0 z ]
 
+pub killed-on : (d : Desk) (k : ℕ) (sc : Option Scrap) (w : Want) → Onward d (with_scrap sc (killed d k)) w
+killed-on d k sc w = record {
+  queue = λ y has me. elim (Has-append y (for_others k d.queue) (back_held (put d.live k false) (d.held k) ++ bounced_for (put d.live k false) k d.queue) has) [
+    | inl a ↦ Was.in_queue y (for_others_has k d.queue y a) refl
+    | inr a ↦ elim (Has-append y (back_held (put d.live k false) (d.held k)) (bounced_for (put d.live k false) k d.queue) a) [
+      | inl b ↦
+          let z = back_held_has (put d.live k false) (d.held k) y b in
+          Was.back_hand k z.0 z.1 (sym z.2) (back_held_codes (put d.live k false) (d.held k) y b) (held-to (put d.live k false) (d.held k) y b)
+      | inr b ↦
+          let z = bounced_has (put d.live k false) k d.queue y b in
+          Was.back_queue z.old z.there (sym z.letter) (bounced_codes (put d.live k false) k d.queue y b) (bounced-to (put d.live k false) k d.queue y b)
+    ]
+  ];
+  held = λ j y e me. Was.in_hand j (unheld d k j y e);
+  letters = λ l kn a. killed_known d k l kn;
+  ids = λ r v has i. (r, (v, (none_left d.taking k r v has, i)));
+}
+
 pub killed-waits : {h : ℕ} {w : Want} (d : Desk) (k : ℕ) (sc : Option Scrap) → h ≢ k → d.live h ≡ true → KeepsFile d (with_scrap sc (killed d k)) →
     WaitsFor d h w → WaitsFor (with_scrap sc (killed d k)) h w
 killed-waits {h} {w} d k sc ne live keeps x = elim x [
-  | inl u ↦ inl (still-asks s on (now u u.live) u)
+  | inl u ↦ inl (still-asks s (killed-on d k sc w) (now u u.live) u)
   | inr a ↦
       let has = Has-left a.answer (for_others k d.queue) (back_held others (d.held k) ++ bounced_for others k d.queue)
       (has-others k d.queue a.answer a.queued (λ to. ne (sym a.to ∙ to))) in
@@ -251,24 +279,6 @@ killed-waits {h} {w} d k sc ne live keeps x = elim x [
 
     s : Same d (with_scrap sc (killed d k)) h
     s = same (put_other d.buf k 1 h ne) (put_other d.file k false h ne)
-
-    on : Onward d (with_scrap sc (killed d k)) w
-    on = record {
-      queue = λ y has me. elim (Has-append y (for_others k d.queue) (back_held others (d.held k) ++ bounced_for others k d.queue) has) [
-        | inl a ↦ Was.in_queue y (for_others_has k d.queue y a) refl
-        | inr a ↦ elim (Has-append y (back_held others (d.held k)) (bounced_for others k d.queue) a) [
-          | inl b ↦
-              let z = back_held_has others (d.held k) y b in
-              Was.back_hand k z.0 z.1 (sym z.2) (back_held_codes others (d.held k) y b) (held-to others (d.held k) y b)
-          | inr b ↦
-              let z = bounced_has others k d.queue y b in
-              Was.back_queue z.old z.there (sym z.letter) (bounced_codes others k d.queue y b) (bounced-to others k d.queue y b)
-        ]
-      ];
-      held = λ j y e me. Was.in_hand j (unheld d k j y e);
-      letters = λ l kn a. killed_known d k l kn;
-      ids = λ r v has i. (r, (v, (none_left d.taking k r v has, i)));
-    }
 
     -- its sender is another task, which is live
     from-live : (y : Message) → y.letter.from ≡ h → others y.letter.from ≡ true
@@ -295,15 +305,18 @@ killed-waits {h} {w} d k sc ne live keeps x = elim x [
 
 -- ---- a task begins
 
+pub started-on : (d : Desk) (buf : ℕ) (deaf no_fetch : Bool) (w : Want) → Onward d (started d buf deaf no_fetch) w
+started-on d buf deaf no_fetch w = record {
+  queue = λ y has me. Was.in_queue y has refl;
+  held = λ j y is me. Was.in_hand j is;
+  letters = λ l kn a. started_known d buf deaf no_fetch l kn;
+  ids = λ r v has i. (r, (v, (none_left d.taking d.next_handle r v has, i)));
+}
+
 pub started-waits : {h : ℕ} {w : Want} (d : Desk) (buf : ℕ) (deaf no_fetch : Bool) → h ≢ d.next_handle → WaitsFor d h w →
     WaitsFor (started d buf deaf no_fetch) h w
 started-waits {h} {w} d buf deaf no_fetch ne x = elim x [
-  | inl u ↦ inl (still-asks s (record {
-    queue = λ y has me. Was.in_queue y has refl;
-    held = λ j y is me. Was.in_hand j is;
-    letters = λ l kn a. started_known d buf deaf no_fetch l kn;
-    ids = λ r v has i. (r, (v, (none_left d.taking d.next_handle r v has, i)));
-  }) u.live u)
+  | inl u ↦ inl (still-asks s (started-on d buf deaf no_fetch w) u.live u)
   | inr a ↦ inr (still-told s a (λ f e l. e) a.queued)
 ]
   where

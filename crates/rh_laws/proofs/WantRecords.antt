@@ -7,9 +7,9 @@ use Rattle.rh_safety.proofs.Ends.{with_id}
 use Rattle.rh_safety.proofs.Invariant.{Unread}
 use Rattle.rh_safety.proofs.Moves.{Move, move_with}
 use Rattle.rh_safety.proofs.Sight as sight
-use Rattle.rh_laws.proofs.Wants.{AllWait, Asks, InWants, OutWants, Tells, Want, file, is_sent, part, reply, want_in, want_out}
+use Rattle.rh_laws.proofs.Wants.{Asks, InWants, OutWants, Tells, Want, file, is_sent, part, reply, want_in, want_out}
 use Rattle.rh_laws.proofs.WantEdits.{For, OldId, OldIds, after}
-use Rattle.rh_laws.proofs.WantDeeds.{Anew, Before, Deed, Origin, Sends, deed-waits, new, was}
+use Rattle.rh_laws.proofs.WantDeeds.{Anew, Before, Deed, Goes, Origin, Sends, Turns, new, was}
 
 -- ---- who wants what
 
@@ -141,21 +141,21 @@ module _ (D : sight.Desk) (k : ℕ) (m : Message) where
   -- records that come in: one is written anew, for which alone the message may be
   abbrev pub InsOf : Option Message → (ℕ → List In) → ℕ → Type 0
   InsOf l tk i =
-      (h : ℕ) (v : In) (w : Want) → Has v (tk h) → want_in v ≡ Some w → Origin D k m l h w (InWants (D.taking h) w (in_id v)) (in_id v ≡ i)
+      (h : ℕ) (v : In) (w : Want) → Has v (tk h) → want_in v ≡ Some w → Origin D k m l h w (Has v (D.taking h)) ((in_id v ≡ i) × Goes D k m l v)
 
   abbrev pub OutsOf : Option Message → (ℕ → List Out) → Type 0
   OutsOf l sd = (h : ℕ) (v : Out) (w : Want) → Has v (sd h) → want_out (D.file h) v ≡ Some w →
       Origin D k m l h w (OutWants (D.sending h) (D.file h) w) (Unit {0})
 
   pub ins-moved : (l : Option Message) (tk : ℕ → List In) (v : In) → Move in_id D.taking tk k v →
-      OnlyIn D k m (in_id v) → ((w : Want) → want_in v ≡ Some w → Anew D k l w) → InsOf l tk (in_id v)
+      OnlyIn D k m (in_id v) → ((w : Want) → want_in v ≡ Some w → Anew D k l w × Goes D k m l v) → InsOf l tk (in_id v)
   ins-moved l tk v move own anew h u w has wants = elim (move h u has) [
     | inl z ↦
         let x : InWants (D.taking h) w (in_id u) = record { one = u; has = z.0; wants = wants; id = refl } in
-        was x (λ e f. z.1 e (own w (in_id u) (subst (λ j. InWants (D.taking j) w (in_id u)) e x) (subst (λ j. For D m j w) e f)))
+        was z.0 (λ e f. z.1 e (own w (in_id u) (subst (λ j. InWants (D.taking j) w (in_id u)) e x) (subst (λ j. For D m j w) e f)))
     | inr z ↦
         let a = anew w (ap want_in (sym z.1) ∙ wants) in
-        new a z.0 (ap in_id z.1)
+        new a.0 z.0 (ap in_id z.1, subst (Goes D k m l) (sym z.1) a.1)
   ]
 
   pub outs-moved : (l : Option Message) (sd : ℕ → List Out) (v : Out) → Move out_id D.sending sd k v → OnlyOut D k m (out_id v) →
@@ -171,12 +171,22 @@ module _ (D : sight.Desk) (k : ℕ) (m : Message) where
   pub ins-stay : (l : Option Message) (i : ℕ) → NoneIn D k m → InsOf l D.taking i
   ins-stay l i none h u w has wants =
       let x : InWants (D.taking h) w (in_id u) = record { one = u; has = has; wants = wants; id = refl } in
-      was x (λ e f. none w (in_id u) (subst (λ j. InWants (D.taking j) w (in_id u)) e x) (subst (λ j. For D m j w) e f))
+      was has (λ e f. none w (in_id u) (subst (λ j. InWants (D.taking j) w (in_id u)) e x) (subst (λ j. For D m j w) e f))
 
   pub outs-stay : (l : Option Message) → NoneOut D k m → OutsOf l D.sending
   outs-stay l none h u w has wants =
       let x : OutWants (D.sending h) (D.file h) w = record { one = u; has = has; wants = wants } in
       was x (λ e f. none w (subst (λ j. OutWants (D.sending j) (D.file j) w) e x) (subst (λ j. For D m j w) e f))
+
+  -- what became of the records that go out
+  abbrev pub TurnsOf : Option Message → (ℕ → List Out) → Type 0
+  TurnsOf l sd = (h : ℕ) (v : Out) → Has v (sd h) → Has v (D.sending h) ⊎ ((h ≡ k) × Turns D k m l v)
+
+  pub turns-moved : (l : Option Message) (sd : ℕ → List Out) (v : Out) → Move out_id D.sending sd k v → Turns D k m l v → TurnsOf l sd
+  turns-moved l sd v move turn h u has = elim (move h u has) [
+    | inl z ↦ inl z.0
+    | inr z ↦ inr (z.0, subst (Turns D k m l) (sym z.1) turn)
+  ]
 
   pub ids-stay : (l : Option Message) → OldIds D D.taking l
   ids-stay l r v has = inl (r, (v, (has, refl)))
@@ -191,17 +201,24 @@ module _ (D : sight.Desk) (k : ℕ) (m : Message) where
   pub none-sent : (sc : Option sight.Scrap) (n : Message) → None ≡ Some n → Sends D k m sc n
   none-sent sc n e = absurd (none_some None refl e)
 
-module _ (D : sight.Desk) (k : ℕ) (m : Message) (b : Before D k m) where
+-- what is known of the message, and that what such a deed leaves is so
+pub record Ready (Q : sight.Desk → Type 0) (D : sight.Desk) (k : ℕ) (m : Message) : Type 0 where
+  pub before : Before D k m
+  pub closes : (sd : ℕ → List Out) (tk : ℕ → List In) (bl hp : ℕ → ℕ → Option (List ℕ)) (sc : Option sight.Scrap) (l : Option Message) →
+      Deed D k m l sd tk sc → Q (after D k sd tk bl hp sc l)
+
+module _ {Q : sight.Desk → Type 0} (D : sight.Desk) (k : ℕ) (m : Message) (b : Ready Q D k m) where
   pub deed : {e : sight.Desk} (l : Option Message) (sd : ℕ → List Out) (tk : ℕ → List In) (bl hp : ℕ → ℕ → Option (List ℕ)) (sc : Option sight.Scrap) →
-      e ≡ after D k sd tk bl hp sc l → Deed D k m l sd tk sc → AllWait e
-  deed l sd tk bl hp sc e x = subst AllWait (sym e) (deed-waits D k m b sd tk bl hp sc l x)
+      e ≡ after D k sd tk bl hp sc l → Deed D k m l sd tk sc → Q e
+  deed l sd tk bl hp sc e x = subst Q (sym e) (b.closes sd tk bl hp sc l x)
 
   -- nothing was done
-  pub idle : {e : sight.Desk} → e ≡ D → NoneIn D k m → NoneOut D k m → AllWait e
+  pub idle : {e : sight.Desk} → e ≡ D → NoneIn D k m → NoneOut D k m → Q e
   idle e none_in none_out = deed None D.sending D.taking D.block D.heap D.scrap e (record {
     fresh = 0;
     ins = ins-stay D k m None 0 none_in;
     outs = outs-stay D k m None none_out;
+    turns = λ h v has. inl has;
     ids = ids-stay D k m None;
     sends = none-sent D k m D.scrap;
     scrap = λ f s. inl s;
@@ -210,12 +227,13 @@ module _ (D : sight.Desk) (k : ℕ) (m : Message) (b : Before D k m) where
   -- a record that goes out is written anew
   pub out-deed : {e : sight.Desk} (l : Option Message) (i : ℕ) (v : Out) (bl hp : ℕ → ℕ → Option (List ℕ)) (sc : Option sight.Scrap) → out_id v ≡ i →
       e ≡ after D k (put D.sending k (with_id out_id i v (D.sending k))) D.taking bl hp sc l → NoneIn D k m → OnlyOut D k m i →
-      ((w : Want) → want_out (D.file k) v ≡ Some w → Anew D k l w) → ((n : Message) → l ≡ Some n → Sends D k m sc n) →
-      ((f : sight.Scrap) → D.scrap ≡ Some f → sc ≡ Some f) → AllWait e
-  out-deed l i v bl hp sc id e none own anew sends scrap = deed l _ D.taking bl hp sc e (record {
+      ((w : Want) → want_out (D.file k) v ≡ Some w → Anew D k l w) → ((n : Message) → l ≡ Some n → Sends D k m sc n) → Turns D k m l v →
+      ((f : sight.Scrap) → D.scrap ≡ Some f → sc ≡ Some f) → Q e
+  out-deed l i v bl hp sc id e none own anew sends turn scrap = deed l _ D.taking bl hp sc e (record {
     fresh = 0;
     ins = ins-stay D k m l 0 none;
     outs = outs-moved D k m l _ v (move_with out_id D.sending k i v id) (λ w u has wants f. own w u has wants f ∙ sym id) anew;
+    turns = turns-moved D k m l _ v (move_with out_id D.sending k i v id) turn;
     ids = ids-stay D k m l;
     sends = sends;
     scrap = λ f s. inl (scrap f s);
@@ -224,14 +242,15 @@ module _ (D : sight.Desk) (k : ℕ) (m : Message) (b : Before D k m) where
   -- a record that comes in is written anew
   pub in-deed : {e : sight.Desk} (l : Option Message) (v u : In) (bl hp : ℕ → ℕ → Option (List ℕ)) (sc : Option sight.Scrap) →
       e ≡ after D k D.sending (put D.taking k (with_id in_id (in_id v) v (D.taking k))) bl hp sc l → Has u (D.taking k) → in_id u ≡ in_id v →
-      OnlyIn D k m (in_id v) → NoneOut D k m → ((w : Want) → want_in v ≡ Some w → Anew D k l w) → ((n : Message) → l ≡ Some n → Sends D k m sc n) →
-      ((f : sight.Scrap) → D.scrap ≡ Some f → (sc ≡ Some f) ⊎ ((f.load ≡ m.letter.me) × Unread m)) → AllWait e
+      OnlyIn D k m (in_id v) → NoneOut D k m → ((w : Want) → want_in v ≡ Some w → Anew D k l w × Goes D k m l v) → ((n : Message) → l ≡ Some n → Sends D k m sc n) →
+      ((f : sight.Scrap) → D.scrap ≡ Some f → (sc ≡ Some f) ⊎ ((f.load ≡ m.letter.me) × Unread m)) → Q e
   in-deed l v u bl hp sc e has id own none anew sends scrap =
       let move = move_with in_id D.taking k (in_id v) v refl in
       deed l D.sending _ bl hp sc e (record {
         fresh = in_id v;
         ins = ins-moved D k m l _ v move own anew;
         outs = outs-stay D k m l none;
+        turns = λ h y there. inl there;
         ids = ids-moved D k m l _ v move (inl (k, (u, (has, id))));
         sends = sends;
         scrap = scrap;

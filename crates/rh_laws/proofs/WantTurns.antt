@@ -4,7 +4,7 @@ use Rattle.rh_laws.proofs.Common.{Some, TakeAction, Taking, Task, Transmit, User
 use Rattle.rh_laws.proofs.Common.{arith, asking_is, asking_of, came, came_back, either, eq-eqb, eqb_tells, fail_sending, false, field_is, handled}
 use Rattle.rh_laws.proofs.Common.{if◌then◌else◌, ignored, in_id, inl, inr, is_equal, leb_yes, length, live_of, nat_eq, nat_le, nat_lt, none_some, not, open_is}
 use Rattle.rh_laws.proofs.Common.{open_of, option_map, out_id, perform_send, perform_take, refl, same_value, subst, sym, take_with, task_of, true, view, ℕ}
-use Rattle.rh_laws.proofs.Common.{◌&&◌, ◌++◌, ◌+◌, ◌<◌, ◌∙◌, ◌≡◌, ◌≢◌, ◌≤◌, ◌⊎◌}
+use Rattle.rh_laws.proofs.Common.{leb_tells, suc, ◌&&◌, ◌++◌, ◌+◌, ◌<◌, ◌∙◌, ◌≡◌, ◌≢◌, ◌≤◌, ◌⊎◌}
 use Rattle.rh_defs.specs.declared.message.Action.TheVariants as action
 use Rattle.rh_defs.specs.declared.message.Body.TheVariants as body
 use Rattle.rh_defs.specs.declared.transfer_action.SendAction.TheVariants as send_action
@@ -28,14 +28,20 @@ use Rattle.rh_safety.proofs.SeenDocuments.{ended_view, letter_of}
 use Rattle.rh_safety.proofs.SeenTasks.{ins_view, outs_view}
 use Rattle.rh_safety.proofs.Sight as sight
 use Rattle.rh_safety.proofs.View.{seen_letter, seen_scrap}
-use Rattle.rh_laws.proofs.Wants.{AllWait, Asks, InWants, Tells, Want, file, is_sent, part, peer_of, ref_of, reply, want_in, want_out}
+use Rattle.rh_laws.proofs.Wants.{Asks, InWants, Tells, Want, file, is_sent, part, peer_of, ref_of, reply, want_in, want_out}
 use Rattle.rh_laws.proofs.WantEdits.{For, answer, own_back}
-use Rattle.rh_laws.proofs.WantDeeds.{Anew, Before, Sends}
-use Rattle.rh_laws.proofs.WantRecords.{InWant, NoneIn, NoneOut, OnlyIn, OnlyOut, active-none, asking-none, asks-fits, by_ask, by_drain, by_fetch, deed, files}
+use Rattle.rh_laws.proofs.WantDeeds.{Anew, Goes, IsSpent, Meets, Replying, Sends, Turns}
+use Rattle.rh_laws.proofs.WantRecords.{InWant, NoneIn, NoneOut, OnlyIn, OnlyOut, Ready, active-none, asking-none, asks-fits, by_ask, by_drain, by_fetch, deed, files}
 use Rattle.rh_laws.proofs.WantRecords.{fits, idle, ids-moved, in-deed, in-want, ins-moved, none-sent, out-deed, out-want, outs-stay, parts, replies, sort_of}
 use Rattle.rh_laws.proofs.WantRecords.{tells-fits, un}
 
-module _ {o : Offers} {e : Edits} (d : Desk) (t : Task) (m : Parcel) (is : task_of t.handle d.tasks ≡ Some t) (inv : Inv o e (view d)) where
+less-of : (a b : ℕ) → nat_lt a b ≡ true → a < b
+less-of a b e = elim (leb_tells (suc a) b) [ inl w ↦ w.1 | inr w ↦ absurd (let z = w.0 in (cc)) ]
+
+not-less : (a b : ℕ) → nat_lt a b ≡ false → b ≤ a
+not-less a b e = elim (leb_tells (suc a) b) [ inl w ↦ absurd (let z = w.0 in (cc)) | inr w ↦ let z = w.1 in omega (arith, z) ]
+
+module _ (Q : sight.Desk → Type 0) {o : Offers} {e : Edits} (d : Desk) (t : Task) (m : Parcel) (is : task_of t.handle d.tasks ≡ Some t) (inv : Inv o e (view d)) where
   abbrev D : sight.Desk
   D = view d
 
@@ -55,10 +61,10 @@ module _ {o : Offers} {e : Edits} (d : Desk) (t : Task) (m : Parcel) (is : task_
   sendings = field_is (λ y. y.sending) [] k d.tasks t is
 
   abbrev P : Handled → Type 0
-  P x = AllWait (view x.0)
+  P x = Q (view x.0)
 
   -- one letter, and what a new record wants
-  module _ (b : Body) (bf : Before D k (M b)) where
+  module _ (b : Body) (bf : Ready Q D k (M b)) where
     sends-one : (sc : Option sight.Scrap) (n : Message) → Sends D k (M b) sc n → (q : Message) → Some n ≡ Some q → Sends D k (M b) sc q
     sends-one sc n s q e = let same : n ≡ q = cc in subst (Sends D k (M b) sc) same s
 
@@ -69,14 +75,17 @@ module _ {o : Offers} {e : Edits} (d : Desk) (t : Task) (m : Parcel) (is : task_
         subst (Anew D k (Some n)) same (record { n = n; is = refl; ref = ref; asks = asks; to = to; code = code })
 
     reply-sent : (sc : Option sight.Scrap) (n : Message) → n.letter.from ≡ k → n.letter.me ≡ D.next_ref → n.letter.answers ≡ m.message.my_ref →
-        (n.code ≡ Acknowledge → ⊥) → n.to ≡ m.message.from →
+        Unread (M b) → (n.code ≡ Acknowledge → ⊥) → n.to ≡ m.message.from →
         ((w : Want) (room : ℕ) (no_fetch : Bool) → Asks w room no_fetch (letter_of m b) → Tells w room no_fetch sc n) → Sends D k (M b) sc n
-    reply-sent sc n from me answers unread to tells = record {
+    reply-sent sc n from me answers came unread to tells = record {
       from = from;
       me = me;
-      below = let z = bf.mine in omega (arith, z, answers);
-      answers = inr (record { answers = answers; unread = unread; to = to; tells = tells });
+      below = let z = bf.before.mine in omega (arith, z, answers);
+      answers = inr (record { came = came; answers = answers; unread = unread; to = to; tells = tells });
     }
+
+    replying-one : (n : Message) → n.letter.answers ≡ m.message.my_ref → Replying (M b) (Some n)
+    replying-one n answers q e = let same : n ≡ q = cc in ap (λ (y : Message). y.letter.answers) (sym same) ∙ answers
 
     anew-open : (n : Message) (y : Sending) → y.last ≡ D.next_ref → is_sent (D.file k) n.letter.kind ≡ true → n.to ≡ y.recipient → n.code ≡ Recorded →
         (w : Want) → want_out (D.file k) (Open y) ≡ Some w → Anew D k (Some n) w
@@ -87,15 +96,15 @@ module _ {o : Offers} {e : Edits} (d : Desk) (t : Task) (m : Parcel) (is : task_
 
     -- a record that goes out and comes to its end
     shut-out : {y : sight.Desk} (x : Sending) (v : Out) → out_id v ≡ x.id → want_out (D.file k) v ≡ None → y ≡ sight.with_out D k x v → NoneIn D k (M b) →
-        OnlyOut D k (M b) x.id → AllWait y
-    shut-out x v id ended q none own =
-        out-deed D k (M b) bf None x.id v D.block D.heap D.scrap id q none own (λ w r. absurd (none_some _ ended r)) (none-sent D k (M b) D.scrap) (λ f s. s)
+        OnlyOut D k (M b) x.id → Turns D k (M b) None v → Q y
+    shut-out x v id ended q none own turn =
+        out-deed D k (M b) bf None x.id v D.block D.heap D.scrap id q none own (λ w r. absurd (none_some _ ended r)) (none-sent D k (M b) D.scrap) turn (λ f s. s)
 
     -- one that comes in
     shut-in : {y : sight.Desk} (v u : In) (bl hp : ℕ → ℕ → Option (List ℕ)) (sc : Option sight.Scrap) → want_in v ≡ None →
         y ≡ record D { taking = put D.taking k (with_id in_id (in_id v) v (D.taking k)); block = bl; heap = hp; scrap = sc } →
         Has u (D.taking k) → in_id u ≡ in_id v → OnlyIn D k (M b) (in_id v) → NoneOut D k (M b) →
-        ((f : sight.Scrap) → D.scrap ≡ Some f → (sc ≡ Some f) ⊎ ((f.load ≡ m.message.my_ref) × Unread (M b))) → AllWait y
+        ((f : sight.Scrap) → D.scrap ≡ Some f → (sc ≡ Some f) ⊎ ((f.load ≡ m.message.my_ref) × Unread (M b))) → Q y
     shut-in v u bl hp sc ended q has id own none scrap =
         in-deed D k (M b) bf None v u bl hp sc q has id own none (λ w r. absurd (none_some _ ended r)) (none-sent D k (M b) sc) scrap
 
@@ -106,10 +115,10 @@ module _ {o : Offers} {e : Edits} (d : Desk) (t : Task) (m : Parcel) (is : task_
     pub sorts : (w : Want) → For D (M b) k w → fits back (action_of b) (sort_of w) ≡ true
     pub refs : (w : Want) → For D (M b) k w → aim ≡ ref_of w
 
-  module _ {back : Bool} {aim : ℕ} (b : Body) (bf : Before D k (M b)) (a : Aim back aim b) where
+  module _ {back : Bool} {aim : ℕ} (b : Body) (bf : Ready Q D k (M b)) (a : Aim back aim b) where
     -- the records whose ref it names have one id
     pub same-in : (v : In) (x : Want) → Has v (D.taking k) → want_in v ≡ Some x → aim ≡ ref_of x → OnlyIn D k (M b) (in_id v)
-    same-in v x has wants r w j z f = bf.apart k w x j (in_id v) z (record { one = v; has = has; wants = wants; id = refl }) (sym (a.refs w f) ∙ r)
+    same-in v x has wants r w j z f = bf.before.apart k w x j (in_id v) z (record { one = v; has = has; wants = wants; id = refl }) (sym (a.refs w f) ∙ r)
 
     same-out : (x : Sending) → Has (Open x) (D.sending k) → aim ≡ x.last → OnlyOut D k (M b) x.id
     same-out x has r w u there wants f =
@@ -167,7 +176,7 @@ module _ {o : Offers} {e : Edits} (d : Desk) (t : Task) (m : Parcel) (is : task_
         refs w (answer u from answers tells) = absurd (u code)
         refs w (own_back c r a) = r
 
-    module _ (b : Body) (bf : Before D k (M b)) where
+    module _ (b : Body) (bf : Ready Q D k (M b)) where
       abbrev ref : ℕ
       ref = m.message.my_ref
 
@@ -186,7 +195,7 @@ module _ {o : Offers} {e : Edits} (d : Desk) (t : Task) (m : Parcel) (is : task_
           by (Some x) s =
               let w = open_is (λ y. nat_eq y.last ref) (D.sending k) x s in
               shut-out b bf x (Out_failed x.id x.count) refl refl (outs_view d k (sender.sending_failed x) live) none-in
-              (same-out b bf (back-aim b) x w.0 (sym (is_equal _ _ w.1)))
+              (same-out b bf (back-aim b) x w.0 (sym (is_equal _ _ w.1))) tt
 
       -- the DataSaveAck of one that comes in
       ack-back : fits true (action_of b) parts ≡ false → fits true (action_of b) replies ≡ false → P (ack_back d t (receiver.on_ack_bounce ref t.taking))
@@ -205,17 +214,17 @@ module _ {o : Offers} {e : Edits} (d : Desk) (t : Task) (m : Parcel) (is : task_
               (same-in b bf (back-aim b) (Asking x) (file x.ack x.sender) w.0 refl (sym (is_equal _ _ w.1))) none-out (λ f z. inl z)
 
       -- its fetch
-      fetch-back : fits true (action_of b) files ≡ false → fits true (action_of b) replies ≡ false →
+      fetch-back : action_of b ≡ action.RamFetch → fits true (action_of b) files ≡ false → fits true (action_of b) replies ≡ false →
           P (perform_take d t (receiver.on_taking_bounce ref t.taking))
       unfolding perform_take take_with
-      fetch-back p q = subst (λ xs. P (perform_take d t (receiver.on_taking_bounce ref xs))) takings
+      fetch-back kind p q = subst (λ xs. P (perform_take d t (receiver.on_taking_bounce ref xs))) takings
           (by (active_of (λ f. nat_eq f.fetch ref) (D.taking k)) refl)
         where
           none-out : NoneOut D k (M b)
           none-out = no-out b bf (back-aim b) q
 
           ends : (f : Taking) (u : In) → Has u (D.taking k) → in_id u ≡ f.id → want_in u ≡ Some (part f.fetch f.sender f.buffer) → f.fetch ≡ ref →
-              {y : sight.Desk} → y ≡ sight.given_up D k f → AllWait y
+              {y : sight.Desk} → y ≡ sight.given_up D k f → Q y
           ends f u has id wants same v =
               shut-in b bf (In_failed f.id f.anchor f.count) u D.block (put D.heap k (put (D.heap k) f.buffer None)) D.scrap refl v has id
               (λ w j z g. same-in b bf (back-aim b) u (part f.fetch f.sender f.buffer) has wants (sym same) w j z g ∙ id) none-out (λ g z. inl z)
@@ -228,15 +237,16 @@ module _ {o : Offers} {e : Edits} (d : Desk) (t : Task) (m : Parcel) (is : task_
                 to = f.sender;
                 letter = record { from = k; me = D.next_ref; answers = f.id; kind = action.DataSaveAck; address = 0; amount = 0 };
               } in
-              in-deed D k (M b) bf (Some n) (Asking (record { id = f.id; sender = f.sender; anchor = f.anchor; ack = D.next_ref })) (Fetching f)
+              let q : Asked = record { id = f.id; sender = f.sender; anchor = f.anchor; ack = D.next_ref } in
+              in-deed D k (M b) bf (Some n) (Asking q) (Fetching f)
               D.block (put D.heap k (put (D.heap k) f.buffer None)) D.scrap v has refl
               (same-in b bf (back-aim b) (Fetching f) (part f.fetch f.sender f.buffer) has refl (sym same)) none-out
-              (anew-one b bf n (file D.next_ref f.sender) refl refl refl refl)
+              (λ w e. (anew-one b bf n (file D.next_ref f.sender) refl refl refl refl w e, Goes.asks_file f q refl has refl kind code (sym same)))
               (sends-one b bf D.scrap n (record {
                 from = refl;
                 me = refl;
-                below = bf.ids k (Fetching f) has;
-                answers = inl (λ h w u. u.ids k (Fetching f) has);
+                below = bf.before.ids k (Fetching f) has;
+                answers = inl (IsSpent.named k (Fetching f) has refl);
               })) (λ g z. inl z)
 
           found : (w : In) → FoundActive (λ f. nat_eq f.fetch ref) (D.taking k) w → P (perform_take d t (receiver.back_for w))
@@ -250,7 +260,7 @@ module _ {o : Offers} {e : Edits} (d : Desk) (t : Task) (m : Parcel) (is : task_
               (none-active b bf (back-aim b) p (λ f. nat_eq f.fetch ref) s (λ f g. eq-eqb _ _ (sym ((back-aim b).refs _ g)))) none-out
           by (Some w) s = found w (active_is (λ f. nat_eq f.fetch ref) (D.taking k) w s)
 
-    back-waits : (b : Body) → Before D k (M b) → P (came_back d t m b)
+    back-waits : (b : Body) → Ready Q D k (M b) → P (came_back d t m b)
     unfolding came_back
     back-waits (body.DataSave x) bf = sending-back (body.DataSave x) bf refl refl
     back-waits (body.DataSaveAck x) bf = ack-back (body.DataSaveAck x) bf refl refl
@@ -258,7 +268,7 @@ module _ {o : Offers} {e : Edits} (d : Desk) (t : Task) (m : Parcel) (is : task_
     back-waits (body.DataLoadAck x) bf =
         let b : Body = body.DataLoadAck x in
         idle D k (M b) bf refl (no-in b bf (back-aim b) refl refl) (no-out b bf (back-aim b) refl)
-    back-waits (body.RamFetch x n) bf = fetch-back (body.RamFetch x n) bf refl refl
+    back-waits (body.RamFetch x n) bf = fetch-back (body.RamFetch x n) bf refl refl refl
     back-waits (body.RamTransmit x n) bf = sending-back (body.RamTransmit x n) bf refl refl
 
   -- ---- messages that came
@@ -293,6 +303,9 @@ module _ {o : Offers} {e : Edits} (d : Desk) (t : Task) (m : Parcel) (is : task_
     not-back : Recorded ≡ Acknowledge → ⊥
     not-back e = let z : Recorded ≡ Acknowledge = e in (cc)
 
+    meets-one : (b : Body) (y : Sending) → Has (Open y) (D.sending k) → your ≡ y.last → m.message.from ≡ y.recipient → Meets D k (M b) y.id
+    meets-one b y has answers from = record { one = y; has = has; id = refl; unread = unread; answers = answers; from = from }
+
     -- a fetch answers what was sent before
     tells-fetch : (b : Body) → fits true (action_of b) parts ≡ false → fits true (action_of b) files ≡ false → ((c : Bool) → is_sent c (action_of b) ≡ not c) →
         (n : Message) → n.letter.kind ≡ action.RamFetch → n.letter.amount ≡ D.buf k → (w : Want) (room : ℕ) (c : Bool) → Asks w room c (letter_of m b) →
@@ -303,7 +316,7 @@ module _ {o : Offers} {e : Edits} (d : Desk) (t : Task) (m : Parcel) (is : task_
         inr (not_true c (sym (r c) ∙ a), (kind, let z = inv.ins.room k in omega (arith, z, amount)))
 
     -- an offer: its fetch is sent, or nothing is done
-    save-waits : (x : _) → Before D k (M (body.DataSave x)) → ((v : In) → Has v (D.taking k) → in_id v < m.message.my_ref) → P (perform_take d t (for_save t m))
+    save-waits : (x : _) → Ready Q D k (M (body.DataSave x)) → ((v : In) → Has v (D.taking k) → in_id v < m.message.my_ref) → P (perform_take d t (for_save t m))
     save-waits x bf past =
         elim (save_does d t m is b) as (λ _. P (perform_take d t (for_save t m))) [
           | inl w ↦ begun w
@@ -327,15 +340,17 @@ module _ {o : Offers} {e : Edits} (d : Desk) (t : Task) (m : Parcel) (is : task_
             w.seen (record {
               fresh = f.id;
               ins = ins-moved D k (M b) (Some n) _ (Fetching f) move (λ v j z g. absurd (no-in b bf (came-aim b) refl refl v j z g))
-                  (anew-one b bf n (part D.next_ref m.message.from w.address) refl (refl, (refl, omega arith)) refl refl);
+                  (λ v e. (anew-one b bf n (part D.next_ref m.message.from w.address) refl (refl, (refl, omega arith)) refl refl v e,
+                  Goes.begins refl (replying-one b bf n refl) refl));
               outs = outs-stay D k (M b) (Some n) (no-out b bf (came-aim b) refl);
+              turns = λ h v has. inl has;
               ids = ids-moved D k (M b) (Some n) _ (Fetching f) move (inr (n, (refl, refl)));
-              sends = sends-one b bf D.scrap n (reply-sent b bf D.scrap n refl refl refl not-back refl (tells-fetch b refl refl (λ c. refl) n refl refl));
+              sends = sends-one b bf D.scrap n (reply-sent b bf D.scrap n refl refl refl unread not-back refl (tells-fetch b refl refl (λ c. refl) n refl refl));
               scrap = λ g s. inl s;
             })
 
     -- a DataSaveAck: the source becomes the scrap file
-    ack-waits : (x : _) → Before D k (M (body.DataSaveAck x)) → P (perform_send d t (sender.on_ack m.message.from m.message.my_ref your t.sending))
+    ack-waits : (x : _) → Ready Q D k (M (body.DataSaveAck x)) → P (perform_send d t (sender.on_ack m.message.from m.message.my_ref your t.sending))
     unfolding perform_send
     ack-waits x bf = subst (λ xs. P (perform_send d t (sender.on_ack m.message.from m.message.my_ref your xs))) sendings
         (by (open_of (sender.asks_for m.message.from your) (D.sending k)) refl)
@@ -355,9 +370,9 @@ module _ {o : Offers} {e : Edits} (d : Desk) (t : Task) (m : Parcel) (is : task_
         tells g n kind code load (file r p) room c a = (kind, (code, (g, (refl, load))))
         tells g n kind code load (reply r p) room c a = un (asks-fits (reply r p) room c (letter_of m b) a)
 
-        go : (y : Sending) → m.message.from ≡ y.recipient → (z : Handled) → file_turns.Files d t m b is y z → P z
-        go y from z (file_turns.refuses r is_r v) = shut-out b bf y (Out_failed y.id y.count) refl refl v none-in (own y)
-        go y from z (file_turns.files bytes there none v) =
+        go : (y : Sending) → Meets D k (M b) y.id → m.message.from ≡ y.recipient → (z : Handled) → file_turns.Files d t m b is y z → P z
+        go y meets from z (file_turns.refuses r is_r v) = shut-out b bf y (Out_failed y.id y.count) refl refl v none-in (own y) tt
+        go y meets from z (file_turns.files bytes there none v) =
             let n : Message = record {
               code = Recorded;
               to = y.recipient;
@@ -366,8 +381,8 @@ module _ {o : Offers} {e : Edits} (d : Desk) (t : Task) (m : Parcel) (is : task_
             let g : sight.Scrap = record { load = D.next_ref; bytes = bytes } in
             out-deed D k (M b) bf (Some n) y.id (Open (record y { last = D.next_ref })) D.block D.heap (Some g) refl v none-in (own y)
             (anew-open b bf n (record y { last = D.next_ref }) refl refl refl refl)
-            (sends-one b bf (Some g) n (reply-sent b bf (Some g) n refl refl refl not-back (sym from) (tells g n refl refl refl)))
-            (λ f s. absurd (none_some D.scrap none s))
+            (sends-one b bf (Some g) n (reply-sent b bf (Some g) n refl refl refl unread not-back (sym from) (tells g n refl refl refl)))
+            (inr meets) (λ f s. absurd (none_some D.scrap none s))
 
         by : (v : Option Sending) → open_of (sender.asks_for m.message.from your) (D.sending k) ≡ v →
             P (perform_send d t (option_map (sender.file_for m.message.from m.message.my_ref) v))
@@ -375,10 +390,12 @@ module _ {o : Offers} {e : Edits} (d : Desk) (t : Task) (m : Parcel) (is : task_
         by (Some y) s =
             let w = open_is (sender.asks_for m.message.from your) (D.sending k) y s in
             let from : m.message.from ≡ y.recipient = is_equal _ _ (and_left (nat_eq m.message.from y.recipient) _ (and_left _ (nat_eq y.id y.last) w.1)) in
-            go y from _ (file_turns.file_does d t m b is y from)
+            let answers : your ≡ y.last = is_equal _ _ (and_right (nat_eq m.message.from y.recipient) _ (and_left _ (nat_eq y.id y.last) w.1))
+            ∙ is_equal _ _ (and_right _ (nat_eq y.id y.last) w.1) in
+            go y (meets-one b y w.0 answers from) from _ (file_turns.file_does d t m b is y from)
 
     -- a DataLoadAck: the transfer is done
-    load_ack-waits : (x : _) → Before D k (M (body.DataLoadAck x)) → P (perform_send d t (sender.on_load_ack m.message.from your t.sending))
+    load_ack-waits : (x : _) → Ready Q D k (M (body.DataLoadAck x)) → P (perform_send d t (sender.on_load_ack m.message.from your t.sending))
     unfolding perform_send
     load_ack-waits x bf = subst (λ xs. P (perform_send d t (sender.on_load_ack m.message.from your xs))) sendings
         (by (open_of (sender.is_loaded m.message.from your) (D.sending k)) refl)
@@ -397,15 +414,19 @@ module _ {o : Offers} {e : Edits} (d : Desk) (t : Task) (m : Parcel) (is : task_
             w : Has (Open y) (D.sending k) × (sender.is_loaded m.message.from your y ≡ true)
             w = open_is (sender.is_loaded m.message.from your) (D.sending k) y s
 
+            answers : your ≡ y.last
+            answers = is_equal _ _ (and_right (nat_eq m.message.from y.recipient) _ w.1)
+
             own : OnlyOut D k (M b) y.id
-            own = same-out b bf (came-aim b) y w.0 (is_equal _ _ (and_right (nat_eq m.message.from y.recipient) _ w.1))
+            own = same-out b bf (came-aim b) y w.0 answers
 
             go : (z : Handled) → file_turns.Finishes d t m b is y z → P z
-            go z (file_turns.refuses_end r is_r v) = shut-out b bf y (Out_failed y.id y.count) refl refl v none-in own
+            go z (file_turns.refuses_end r is_r v) = shut-out b bf y (Out_failed y.id y.count) refl refl v none-in own tt
             go z (file_turns.finishes bytes there v) = shut-out b bf y (Out_done y.id (length bytes)) refl refl v none-in own
+                (meets-one b y w.0 answers (is_equal _ _ (and_left (nat_eq m.message.from y.recipient) _ w.1)), inl refl)
 
     -- a DataLoad: where it is the scrap file's, that is loaded
-    load-waits : (x : _) → Before D k (M (body.DataLoad x)) → P (perform_take d t (receiver.on_load m.message.from m.message.my_ref your t.taking))
+    load-waits : (x : _) → Ready Q D k (M (body.DataLoad x)) → P (perform_take d t (receiver.on_load m.message.from m.message.my_ref your t.taking))
     unfolding perform_take
     load-waits x bf = subst (λ xs. P (perform_take d t (receiver.on_load m.message.from m.message.my_ref your xs))) takings
         (by (asking_of (receiver.is_load m.message.from your) (D.taking k)) refl)
@@ -489,7 +510,7 @@ module _ {o : Offers} {e : Edits} (d : Desk) (t : Task) (m : Parcel) (is : task_
                     } in
                     in-deed D k (M b) bf (Some n) (In_done q.id q.anchor (length g.bytes)) (Asking q) longer D.heap None v w.0 refl own none-out
                     (λ u e. absurd (none_some None refl e))
-                    (sends-one b bf None n (reply-sent b bf None n refl refl refl (λ e. let y : User ≡ Acknowledge = e in (cc)) (sym from) (tells n refl))) gone
+                    (sends-one b bf None n (reply-sent b bf None n refl refl refl unread (λ e. let y : User ≡ Acknowledge = e in (cc)) (sym from) (tells n refl))) gone
 
             by_file : (v : Option Scrap) → d.scrap ≡ v → P (perform_take d t (Some (receiver.load_for m.message.from m.message.my_ref q)))
             by_file None e = idles (λ g z. absurd (none_some d.scrap e z))
@@ -499,9 +520,9 @@ module _ {o : Offers} {e : Edits} (d : Desk) (t : Task) (m : Parcel) (is : task_
             ]
 
     -- a fetch: it is answered where its record is found, by a task that answers fetches
-    fetch-waits : (buffer amount : ℕ) → Before D k (M (body.RamFetch buffer amount)) → Taken o e D k (letter_of m (body.RamFetch buffer amount)) →
+    fetch-waits : (buffer amount : ℕ) → Ready Q D k (M (body.RamFetch buffer amount)) → Taken o e D k (letter_of m (body.RamFetch buffer amount)) →
         answers_none t.manner ≡ false → P (perform_send d t (sender.on_fetch m.message.from m.message.my_ref your buffer amount t.sending))
-    unfolding perform_send
+    unfolding perform_send meets-one
     fetch-waits buffer amount bf tk manner = subst (λ xs. P (perform_send d t (sender.on_fetch m.message.from m.message.my_ref your buffer amount xs))) sendings
         (by (open_of (sender.would_answer m.message.from your amount) (D.sending k)) refl)
       where
@@ -539,22 +560,48 @@ module _ {o : Offers} {e : Edits} (d : Desk) (t : Task) (m : Parcel) (is : task_
             w : Has (Open y) (D.sending k) × (sender.would_answer m.message.from your amount y ≡ true)
             w = open_is (sender.would_answer m.message.from your amount) (D.sending k) y s
 
+            answers : your ≡ y.last
+            answers = is_equal _ _ (and_right (nat_eq m.message.from y.recipient) _ (and_left _ (nat_le 1 amount) w.1))
+
             own : OnlyOut D k (M b) y.id
-            own = same-out b bf (came-aim b) y w.0 (is_equal _ _ (and_right (nat_eq m.message.from y.recipient) _ (and_left _ (nat_le 1 amount) w.1)))
+            own = same-out b bf (came-aim b) y w.0 answers
 
             from : m.message.from ≡ y.recipient
             from = is_equal _ _ (and_left (nat_eq m.message.from y.recipient) _ (and_left _ (nat_le 1 amount) w.1))
 
             go : (z : Handled) → fetch.Does d t is a z → P z
-            go z (fetch.fails r is_r v) = shut-out b bf y (Out_failed y.id y.count) refl refl v none-in own
+            go z (fetch.fails r is_r v) = shut-out b bf y (Out_failed y.id y.count) refl refl v none-in own tt
             go z (fetch.sends S there lives reach v) =
                 let p : Part = sender.next_part a (length S) in
                 let n : Message = seen_letter (transmit_letter k a p) D.next_ref in
                 out-deed D k (M b) bf (Some n) y.id (sender.after_sent a p D.next_ref) D.block _ D.scrap (id_of p.is_last p) v none-in own
                 (anew p n refl refl refl p.is_last refl)
-                (sends-one b bf D.scrap n (reply-sent b bf D.scrap n refl refl refl (code p.is_last) refl (tells a n refl refl refl refl (omega arith))))
-                (λ f e. e)
+                (sends-one b bf D.scrap n (reply-sent b bf D.scrap n refl refl refl unread (code p.is_last) refl (tells a n refl refl refl refl (omega arith))))
+                (turn p.is_last refl) (λ f e. e)
               where
+                meets : Meets D k (M b) y.id
+                meets = meets-one b y w.0 answers from
+
+                turn : (c : Bool) → (sender.next_part a (length S)).is_last ≡ c → Turns D k (M b) (Some (seen_letter (transmit_letter k a (sender.next_part a (length S))) D.next_ref))
+                    (if c then Out_done y.id (y.count + (sender.next_part a (length S)).n)
+                    else Open (record y { count = y.count + (sender.next_part a (length S)).n; last = D.next_ref }))
+                turn false last = inr meets
+                turn true last = (meets, inr (record {
+                  fetch = refl;
+                  would = w.1;
+                  fetches = no_fetch;
+                  lives = lives;
+                  letter = seen_letter (transmit_letter k a (sender.next_part a (length S))) D.next_ref;
+                  is = refl;
+                  code = ap (λ c. if c then User else Recorded) last;
+                  kind = refl;
+                  to = refl;
+                  answers = refl;
+                  address = refl;
+                  short = less-of (sender.next_part a (length S)).n amount last;
+                  whole = refl;
+                }))
+
                 id_of : (c : Bool) (p : Part) → out_id (if c then Out_done y.id (p.offset + p.n) else Open
                     (record y { count = p.offset + p.n; last = D.next_ref })) ≡ y.id
                 id_of true p = refl
@@ -574,7 +621,7 @@ module _ {o : Offers} {e : Edits} (d : Desk) (t : Task) (m : Parcel) (is : task_
                     (ap (is_sent (D.file k)) kind ∙ ap not no_fetch) (to ∙ from) (coded ∙ ap (λ c. if c then User else Recorded) last) v e
 
     -- a transmit: its bytes are taken where its record is found
-    transmit-waits : (buffer n : ℕ) → Before D k (M (body.RamTransmit buffer n)) →
+    transmit-waits : (buffer n : ℕ) → Ready Q D k (M (body.RamTransmit buffer n)) →
         P (perform_take d t (receiver.on_transmit t.buffer m.message.from m.message.my_ref your buffer n t.taking))
     unfolding perform_take take_with
     transmit-waits buffer n bf = subst (λ xs. P (perform_take d t (receiver.on_transmit t.buffer m.message.from m.message.my_ref your buffer n xs))) takings
@@ -610,7 +657,7 @@ module _ {o : Offers} {e : Edits} (d : Desk) (t : Task) (m : Parcel) (is : task_
               block = bl;
               heap =
                   put D.heap k (put (D.heap k) f.buffer None);
-            } → AllWait y
+            } → Q y
         ends f u has id wants q v bl ended same e =
             shut-in b bf v u bl (put D.heap k (put (D.heap k) f.buffer None)) D.scrap ended e has (id ∙ sym same)
             (λ w j z g. same-in b bf (came-aim b) u (part f.fetch f.sender f.buffer) has wants (answers f q) w j z g ∙ id ∙ sym same) none-out (λ g s. inl s)
@@ -621,10 +668,10 @@ module _ {o : Offers} {e : Edits} (d : Desk) (t : Task) (m : Parcel) (is : task_
             longer : ℕ → ℕ → Option (List ℕ)
             longer = (sight.longer D k f n).block
 
-            last : (c : Bool) → view z.0 ≡ (if c then sight.ended (sight.longer D k f n) k f (In_done f.id f.anchor (f.count + n))
+            last : (c : Bool) → nat_lt n (D.buf k) ≡ c → view z.0 ≡ (if c then sight.ended (sight.longer D k f n) k f (In_done f.id f.anchor (f.count + n))
                 else sight.fetched (sight.longer D k f n) k f n m.message.my_ref) → P z
-            last true v = ends f (Fetching f) has refl refl q (In_done f.id f.anchor (f.count + n)) longer refl refl v
-            last false v =
+            last true less v = ends f (Fetching f) has refl refl q (In_done f.id f.anchor (f.count + n)) longer refl refl v
+            last false less v =
                 let g : Taking = record { id = f.id; sender = f.sender; anchor = f.anchor; buffer = f.buffer; count = f.count + n; fetch = D.next_ref } in
                 let l : Message = record {
                   code = Recorded;
@@ -633,14 +680,15 @@ module _ {o : Offers} {e : Edits} (d : Desk) (t : Task) (m : Parcel) (is : task_
                 } in
                 in-deed D k (M b) bf (Some l) (Fetching g) (Fetching f) longer D.heap D.scrap v has refl
                 (same-in b bf (came-aim b) (Fetching f) (part f.fetch f.sender f.buffer) has refl (answers f q)) none-out
-                (anew-one b bf l (part D.next_ref f.sender f.buffer) refl (refl, (refl, omega arith)) refl refl)
-                (sends-one b bf D.scrap l (reply-sent b bf D.scrap l refl refl refl not-back (sym (from_of f q))
+                (λ w e. (anew-one b bf l (part D.next_ref f.sender f.buffer) refl (refl, (refl, omega arith)) refl refl w e,
+                Goes.fills f has refl refl unread (from_of f q) (answers f q) (not-less n (D.buf k) less) (replying-one b bf l refl)))
+                (sends-one b bf D.scrap l (reply-sent b bf D.scrap l refl refl refl unread not-back (sym (from_of f q))
                 (tells-fetch b refl refl (λ c. refl) l refl refl))) (λ g s. inl s)
 
             by_case : transmits.Took D k f (letter_of m b) z.1 (view z.0) → P z
             by_case (transmits.refuses r is_r v) = ends f (Fetching f) has refl refl q (In_failed f.id f.anchor f.count) D.block refl refl v
             by_case (transmits.stops r is_r v) = ends f (Fetching f) has refl refl q (In_failed f.id f.anchor (f.count + n)) longer refl refl v
-            by_case (transmits.takes_all v) = last (nat_lt n (D.buf k)) v
+            by_case (transmits.takes_all v) = last (nat_lt n (D.buf k)) refl v
 
         found : (w : In) → FoundActive test (D.taking k) w → P (perform_take d t (receiver.take_for t.buffer m.message.my_ref n w))
         found w (drains f has q) =
@@ -653,7 +701,7 @@ module _ {o : Offers} {e : Edits} (d : Desk) (t : Task) (m : Parcel) (is : task_
         by (Some w) s = found w (active_is test (D.taking k) w s)
 
     -- any message that came
-    came-waits : (b : Body) → Before D k (M b) → Taken o e D k (letter_of m b) → P (came d t m b)
+    came-waits : (b : Body) → Ready Q D k (M b) → Taken o e D k (letter_of m b) → P (came d t m b)
     unfolding came
     came-waits (body.DataSave x) bf tk = save-waits x bf tk.read.past
     came-waits (body.DataSaveAck x) bf tk = ack-waits x bf
@@ -674,7 +722,7 @@ module _ {o : Offers} {e : Edits} (d : Desk) (t : Task) (m : Parcel) (is : task_
         by_reply x none (inr z) = un (sym z.0 ∙ field_is (λ y. answers_none y.manner) false k d.tasks t is ∙ none)
 
   -- a message that was taken
-  pub handled-waits : Before D k (M m.message.body) → ((m.code ≡ Acknowledge → ⊥) → Taken o e D k (letter_of m m.message.body)) → P (handled d t m m.code)
+  pub handled-waits : Ready Q D k (M m.message.body) → ((m.code ≡ Acknowledge → ⊥) → Taken o e D k (letter_of m m.message.body)) → P (handled d t m m.code)
   unfolding handled
   handled-waits bf tk = by m.code refl
     where

@@ -4,6 +4,7 @@
 mod addressed;
 mod claimed;
 mod delivered;
+mod done;
 mod frame;
 mod heaps;
 mod lines;
@@ -16,6 +17,7 @@ mod scrap;
 pub use addressed::addressed_law;
 pub use claimed::claimed_law;
 pub use delivered::delivered_law;
+pub use done::done_law;
 pub use frame::frame_law;
 pub use heaps::describe_law;
 pub use lines::line_law;

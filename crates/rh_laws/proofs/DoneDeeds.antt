@@ -1,0 +1,373 @@
+-- What a message that was handled leaves of transfers whose sender's record says Done.
+use Rattle.rh_laws.proofs.Common.{Active, Ascend, Bool, Has, List, None, Option, Sending, Some, Taking, [], ap, arith, eqb_tells, false, if◌then◌else◌, inl, inr}
+use Rattle.rh_laws.proofs.Common.{leb_tells, none_some, out_id, put_same, refl, subst, sym, true, ℕ, ◌++◌, ◌+◌, ◌<◌, ◌==◌, ◌∙◌, ◌∷◌, ◌≡◌, ◌≢◌, ◌≤◌, ◌⊎◌}
+use Rattle.rh_safety.proofs.Basics.{Has-append, Has-left, Has-right, one_of_id}
+use Rattle.rh_safety.proofs.Ends.{Asking, DataLoadAck, DataSave, Draining, Fetching, In, In_done, In_failed, Letter, Message, Open, Out, Out_done, Out_failed, Plain}
+use Rattle.rh_safety.proofs.Ends.{RamFetch, RamTransmit, Returned, in_id, is_going, put}
+use Rattle.rh_safety.proofs.Invariant.{IsLive, Known, Knows, Unread}
+use Rattle.rh_safety.proofs.Polls.{Waiter}
+use Rattle.rh_safety.proofs.Sends.{sent_knows, still_is}
+use Rattle.rh_safety.proofs.Sight.{Desk, Scrap, sent, still_held, would_answer}
+use Rattle.rh_laws.proofs.Dones.{AllEnd, Begun, Ends, Final, Matched, IsActive, IsFirst, IsQueued, Silent, ends-map}
+use Rattle.rh_laws.proofs.RefsApart.{Alone, sent-alone}
+use Rattle.rh_laws.proofs.WantDeeds.{Before, Deed, Goes, IsSpent, Last, Meets, Origin, Sends, Turns, new, was}
+use Rattle.rh_laws.proofs.WantEdits.{For, after, answer}
+use Rattle.rh_laws.proofs.Wants.{HasWant, Want, part, want_in}
+
+-- what is known of the message that task k took: nothing answers it, and no live message has its ref but what the task holds
+pub record Heard (d : Desk) (k : ℕ) (m : Message) : Type 0 where
+  pub mute : (m.letter.kind ≡ DataLoadAck → ⊥) → Silent d m.letter.me
+  pub queue : Unread m → (y : Message) → Has y d.queue → y.letter.me ≢ m.letter.me
+  pub hand : Unread m → (j : ℕ) (y : Message) → d.held j ≡ Some y → y.letter.me ≡ m.letter.me → j ≡ k
+  pub answers : Unread m → IsLive d.queue d.held m.letter.answers → ⊥
+  -- a fetch that a record answers is its receiver's own
+  pub waiter : (x : Sending) → Has (Open x) (d.sending k) → m.letter.kind ≡ RamFetch → would_answer m.letter x ≡ true → d.file k ≡ false →
+      d.live x.recipient ≡ true → Unread m → (a : Waiter d k x m.letter) × (m.letter.me ≡ a.taking.fetch)
+  -- where it tells that a file was loaded, the records of the transfer have ended
+  pub told : Unread m → m.letter.kind ≡ DataLoadAck → (x : Sending) → Has (Open x) (d.sending k) → m.letter.answers ≡ x.last →
+      m.letter.from ≡ x.recipient → (r : ℕ) (w : In) → Has w (d.taking r) → in_id w ≡ x.id → is_going w ≡ false
+  pub home : (x : Sending) (r : ℕ) (w : In) → Has (Open x) (d.sending k) → Has w (d.taking r) → in_id w ≡ x.id → r ≡ x.recipient
+  -- its bytes are no more than what a sender that says Done has sent
+  pub carried : (f : Taking) → Has (Fetching f) (d.taking k) → m.letter.kind ≡ RamTransmit → Unread m → m.letter.from ≡ f.sender →
+      m.letter.answers ≡ f.fetch → (s n : ℕ) → Has (Out_done f.id n) (d.sending s) → f.count + m.letter.amount ≤ n
+
+-- what holds once the message was taken
+pub record Taken (d : Desk) (k : ℕ) (m : Message) : Type 0 where
+  pub alone : Alone d.queue d.held
+  pub silent : (ref : ℕ) → IsLive d.queue d.held ref → Silent d ref
+  pub first : IsFirst d
+  pub ends : AllEnd (λ y. Has y d.queue ⊎ (m ≡ y)) d
+  pub heard : Heard d k m
+  pub before : Before d k m
+  pub outs : (s : ℕ) (v : Out) → Has v (d.sending s) → out_id v < d.next_ref
+  pub ascends : (r : ℕ) → Ascend in_id (d.taking r)
+
+-- a message that is answered is held no more
+still-gone : (o : Option Message) (a : ℕ) (y : Message) → still_held o a ≡ Some y → y.letter.me ≢ a
+still-gone None a y e = absurd (none_some None refl e)
+still-gone (Some m) a y e = elim (eqb_tells m.letter.me a) [
+  | inl w ↦ absurd (none_some None refl (rw w.0 at e))
+  | inr w ↦ let same : m ≡ y = let z : Some m ≡ Some y = rw w.0 at e in cc in
+      λ q. w.1 (ap (λ (z : Message). z.letter.me) same ∙ q)
+]
+
+want-going : (w : In) (v : Want) → want_in w ≡ Some v → is_going w ≡ true
+want-going (Fetching f) v e = refl
+want-going (Draining f) v e = refl
+want-going (Asking q) v e = refl
+want-going (In_done i a n) v e = absurd (none_some None refl e)
+want-going (In_failed i a n) v e = absurd (none_some None refl e)
+
+active-want : (w : In) (t : Taking) → IsActive w t → want_in w ≡ Some (part t.fetch t.sender t.buffer)
+active-want w t (inl e) = ap want_in e
+active-want w t (inr e) = ap want_in e
+
+module _ (d : Desk) (k : ℕ) (m : Message) (p : Taken d k m) (sd : ℕ → List Out) (tk : ℕ → List In) (bl hp : ℕ → ℕ → Option (List ℕ)) (sc : Option Scrap) where
+  abbrev E : Option Message → Desk
+  E l = after d k sd tk bl hp sc l
+
+  h : Heard d k m
+  h = p.heard
+
+  old-below : (ref : ℕ) → IsLive d.queue d.held ref → ref < d.next_ref
+  old-below ref (IsLive.waits y has me) = let z = (p.before.letters y.letter (Known.queued y has refl)).0 in omega (arith, z, me)
+  old-below ref (IsLive.rests j y is me) = let z = (p.before.letters y.letter (Known.kept j y is refl)).0 in omega (arith, z, me)
+
+  -- an id that the message makes known as answered
+  meets-spent : (i ref : ℕ) → Meets d k m i → i ≡ ref → (ref < d.next_ref) × (IsLive d.queue d.held ref → ⊥)
+  meets-spent i ref x same = (let z = p.outs k (Open x.one) x.has in let e = x.id in omega (arith, z, e, same), none)
+    where
+      none : IsLive d.queue d.held ref → ⊥
+      none live = elim (eqb_tells x.one.last x.one.id) [
+        | inl w ↦ h.answers x.unread (subst (IsLive d.queue d.held) (sym same ∙ sym x.id ∙ sym w.1 ∙ sym x.answers) live)
+        | inr w ↦ (p.silent ref live).outs k (Open x.one) x.has (x.id ∙ same, w.1)
+      ]
+
+  begun-below : (ref s : ℕ) (v : Out) → Has v (d.sending s) → Begun ref v → ref < d.next_ref
+  begun-below ref s (Open x) has b = let z = p.outs s (Open x) has in let e = b.0 in omega (arith, z, e)
+  begun-below ref s (Out_done i n) has b = let z = p.outs s (Out_done i n) has in omega (arith, z, b)
+  begun-below ref s (Out_failed i n) has b = absurd b
+
+  begun : (l : Option Message) → Deed d k m l sd tk sc → (ref s : ℕ) (v : Out) → Has v (sd s) → Begun ref v →
+      (ref < d.next_ref) × (IsLive d.queue d.held ref → ⊥)
+  begun l x ref s v has b = elim (x.turns s v has) [
+    | inl old ↦ (begun-below ref s v old b, λ live. (p.silent ref live).outs s v old b)
+    | inr z ↦ by v z.1 b
+  ]
+    where
+      by : (u : Out) → Turns d k m l u → Begun ref u → (ref < d.next_ref) × (IsLive d.queue d.held ref → ⊥)
+      by (Open y) (inl offered) b = absurd (b.1 offered)
+      by (Open y) (inr meets) b = meets-spent y.id ref meets b.0
+      by (Out_done i n) turn b = meets-spent i ref turn.0 b
+      by (Out_failed i n) turn b = absurd b
+
+  -- ---- no live message is answered
+
+  silent-none : Deed d k m None sd tk sc → (ref : ℕ) → IsLive d.queue d.held ref → Silent (E None) ref
+  silent-none x ref live = let s = p.silent ref live in record {
+    some = s.some;
+    letters = s.letters;
+    ids = λ r v has i. elim (x.ids r v has) [
+      | inl z ↦ s.ids z.0 z.1.0 z.1.1.0 (z.1.1.1 ∙ i)
+      | inr z ↦ absurd (none_some None refl z.1.0)
+    ];
+    outs = λ j v has b. (begun None x ref j v has b).1 live;
+  }
+
+  module _ (n : Message) (x : Deed d k m (Some n) sd tk sc) where
+    s : Sends d k m sc n
+    s = x.sends n refl
+
+    sent-old : (ref : ℕ) → ref < d.next_ref → IsLive (sent d k n).queue (sent d k n).held ref → IsLive d.queue d.held ref
+    sent-old ref less (IsLive.waits y has me) = elim (Has-append y d.queue (n ∷ []) has) [
+      | inl a ↦ IsLive.waits y a me
+      | inr a ↦ elim a [ inl e ↦ absurd (let z = ap (λ (z : Message). z.letter.me) e in let w = s.me in omega (arith, z, w, me, less)) | inr never ↦ absurd never ]
+    ]
+    sent-old ref less (IsLive.rests j y is me) = IsLive.rests j y (still_is d k n.letter.answers j y is) me
+
+    spent : IsSpent d n.letter.answers → IsLive d.queue d.held n.letter.answers → ⊥
+    spent (IsSpent.none z) live = let q = (p.silent n.letter.answers live).some in omega (arith, q, z)
+    spent (IsSpent.named r v has i) live = (p.silent n.letter.answers live).ids r v has i
+    spent (IsSpent.answered l kn a) live = (p.silent n.letter.answers live).letters l kn a
+
+    replied : Unread m → n.letter.answers ≡ m.letter.me → IsLive (sent d k n).queue (sent d k n).held n.letter.answers → ⊥
+    replied un a (IsLive.waits y has me) = elim (Has-append y d.queue (n ∷ []) has) [
+      | inl g ↦ h.queue un y g (me ∙ a)
+      | inr g ↦ elim g [ inl e ↦ (let z = ap (λ (z : Message). z.letter.me) e in let w = s.me in let b = s.below in omega (arith, z, w, me, b)) | inr never ↦ never ]
+    ]
+    replied un a (IsLive.rests j y is me) =
+        let here : j ≡ k = h.hand un j y (still_is d k n.letter.answers j y is) (me ∙ a) in
+        still-gone (d.held k) n.letter.answers y (sym (put_same d.held k (still_held (d.held k) n.letter.answers)) ∙
+        subst (λ i. put d.held k (still_held (d.held k) n.letter.answers) i ≡ Some y) here is) me
+
+    -- the message that the letter answers is live no more
+    quiet : IsLive (sent d k n).queue (sent d k n).held n.letter.answers → ⊥
+    quiet live = elim s.answers [
+      | inl z ↦ spent z (sent-old n.letter.answers s.below live)
+      | inr r ↦ replied r.came r.answers live
+    ]
+
+    silent-some : (ref : ℕ) → IsLive (E (Some n)).queue (E (Some n)).held ref → Silent (E (Some n)) ref
+    silent-some ref live = elim (leb_tells d.next_ref ref) [
+      | inl w ↦ record {
+        some = let z = p.before.positive in let q = w.1 in omega (arith, z, q);
+        letters = λ l kn e. elim (sent_knows d k n s.from l kn) [
+          | inl c ↦ let z = (p.before.letters l c).1 in let q = w.1 in omega (arith, z, q, e)
+          | inr c ↦ let z = s.below in let q = w.1 in let a = ap (λ (z : Letter). z.answers) c in omega (arith, z, q, e, a)
+        ];
+        ids = λ r v has e. elim (x.ids r v has) [
+          | inl z ↦ let b = p.before.ids z.0 z.1.0 z.1.1.0 in let i = z.1.1.1 in let q = w.1 in omega (arith, b, i, q, e)
+          | inr z ↦ let b = s.below in let i = named_by z.0 z.1.0 (in_id v) z.1.1 in let q = w.1 in omega (arith, b, i, q, e)
+        ];
+        outs = λ j v has b. let z = (begun (Some n) x ref j v has b).0 in let q = w.1 in omega (arith, z, q);
+      }
+      | inr w ↦ let old = sent-old ref w.1 live in let z = p.silent ref old in record {
+        some = z.some;
+        letters = λ l kn e. elim (sent_knows d k n s.from l kn) [
+          | inl c ↦ z.letters l c e
+          | inr c ↦ quiet (subst (IsLive (sent d k n).queue (sent d k n).held) (sym e ∙ ap (λ (z : Letter). z.answers) c) live)
+        ];
+        ids = λ r v has e. elim (x.ids r v has) [
+          | inl y ↦ z.ids y.0 y.1.0 y.1.1.0 (y.1.1.1 ∙ e)
+          | inr y ↦ quiet (subst (IsLive (sent d k n).queue (sent d k n).held) (sym e ∙ named_by y.0 y.1.0 (in_id v) y.1.1) live)
+        ];
+        outs = λ j v has b. (begun (Some n) x ref j v has b).1 old;
+      }
+    ]
+      where
+        named_by : (y : Message) → Some n ≡ Some y → (i : ℕ) → i ≡ y.letter.answers → i ≡ n.letter.answers
+        named_by y e i q = let same : n ≡ y = cc in q ∙ ap (λ (z : Message). z.letter.answers) (sym same)
+
+  -- ---- a record's fetch is its task's first answer
+
+  old-first : (l : Option Message) → Deed d k m l sd tk sc → (r : ℕ) (t : Taking) → Active (d.taking r) t → t.fetch < d.next_ref → (a b : Letter) →
+      Knows (E l) a → Knows (E l) b → b.me ≡ t.fetch → a.from ≡ r → a.answers ≡ b.answers → t.fetch ≤ a.me
+  old-first None x r t act less a b ka kb me from same = p.first r t act a b ka kb me from same
+  old-first (Some n) x r t act less a b ka kb me from same =
+      let s = x.sends n refl in
+      elim (sent_knows d k n s.from a ka) [
+        | inr c ↦ let z = ap (λ (z : Letter). z.me) c in let w = s.me in omega (arith, z, w, less)
+        | inl ca ↦ elim (sent_knows d k n s.from b kb) [
+          | inl cb ↦ p.first r t act a b ca cb me from same
+          | inr c ↦ absurd (let z = ap (λ (z : Letter). z.me) c in let w = s.me in omega (arith, z, w, me, less))
+        ]
+      ]
+
+  new-first : (l : Option Message) → Deed d k m l sd tk sc → (n : Message) → l ≡ Some n → (t : Taking) → t.fetch ≡ d.next_ref → Silent d m.letter.me →
+      n.letter.answers ≡ m.letter.me → (a b : Letter) → Knows (E l) a → Knows (E l) b → b.me ≡ t.fetch → a.answers ≡ b.answers → t.fetch ≤ a.me
+  new-first None x n is t ref mute rep a b ka kb me same = absurd (none_some None refl is)
+  new-first (Some o) x n is t ref mute rep a b ka kb me same =
+      let s = x.sends o refl in
+      let one : o ≡ n = cc in
+      elim (sent_knows d k o s.from a ka) [
+        | inr c ↦ let z = ap (λ (z : Letter). z.me) c in let w = s.me in omega (arith, z, w, ref)
+        | inl ca ↦ elim (sent_knows d k o s.from b kb) [
+          | inl cb ↦ absurd (let z = (p.before.letters b cb).0 in omega (arith, z, me, ref))
+          | inr c ↦ absurd (mute.letters a ca (same ∙ ap (λ (z : Letter). z.answers) c ∙ ap (λ (z : Message). z.letter.answers) one ∙ rep))
+        ]
+      ]
+
+  first-after : (l : Option Message) → Deed d k m l sd tk sc → IsFirst (E l)
+  first-after l x r t act a b ka kb me from same = by act
+    where
+      of : (w : In) → IsActive w t → Has w (tk r) → (Has w (d.taking r) → Active (d.taking r) t) → t.fetch ≤ a.me
+      of w is has back = go (x.ins r w (part t.fetch t.sender t.buffer) has (active-want w t is))
+        where
+          go : Origin d k m l r (part t.fetch t.sender t.buffer) (Has w (d.taking r)) ((in_id w ≡ x.fresh) × Goes d k m l w) → t.fetch ≤ a.me
+          go (was old other) =
+              old-first l x r t (back old) (p.before.refs r (part t.fetch t.sender t.buffer)
+              (HasWant.comes (record { one = w; has = old; wants = active-want w t is; id = refl }))) a b ka kb me from same
+          go (new z own now) = goes now.1
+            where
+              now-first : Silent d m.letter.me → z.n.letter.answers ≡ m.letter.me → t.fetch ≤ a.me
+              now-first mute rep = new-first l x z.n z.is t z.ref mute rep a b ka kb me same
+
+              goes : Goes d k m l w → t.fetch ≤ a.me
+              goes (Goes.begins kind rep same) = now-first (h.mute (λ q. let y : DataSave ≡ DataLoadAck = sym kind ∙ q in (cc))) (rep z.n z.is)
+              goes (Goes.fills f has_f same kind un from answers le rep) =
+                  now-first (h.mute (λ q. let y : RamTransmit ≡ DataLoadAck = sym kind ∙ q in (cc))) (rep z.n z.is)
+              goes (Goes.asks_file f q asks has_f same kind code own_ref) = absurd (no_ask is)
+                where
+                  no_ask : IsActive w t → ⊥
+                  no_ask (inl e) = let y : Fetching t ≡ Asking q = sym e ∙ asks in (cc)
+                  no_ask (inr e) = let y : Draining t ≡ Asking q = sym e ∙ asks in (cc)
+
+      by : Active (tk r) t → t.fetch ≤ a.me
+      by (inl has) = of (Fetching t) (inl refl) has (λ o. inl o)
+      by (inr has) = of (Draining t) (inr refl) has (λ o. inr o)
+
+  -- ---- records of transfers whose sender says Done
+
+  -- such a record doesn't go on
+  never-goes : (l : Option Message) → Deed d k m l sd tk sc → (s i n : ℕ) (v : In) → Goes d k m l v → in_id v ≡ i → Has (Out_done i n) (sd s) → ⊥
+  never-goes l x s i n v goes id done = elim (x.turns s (Out_done i n) done) [
+    | inl old ↦ of_old old goes
+    | inr z ↦ elim z.1.1 [
+      | inl kind ↦ of_new z.1.0.unread goes (λ q. let y : DataSave ≡ DataLoadAck = sym q ∙ kind in (cc)) (λ q. let y : RamTransmit ≡ DataLoadAck = sym q ∙ kind in (cc))
+      | inr la ↦ let kind = la.fetch in
+          of_new z.1.0.unread goes (λ q. let y : DataSave ≡ RamFetch = sym q ∙ kind in (cc)) (λ q. let y : RamTransmit ≡ RamFetch = sym q ∙ kind in (cc))
+    ]
+  ]
+    where
+      of_new : Unread m → Goes d k m l v → (m.letter.kind ≡ DataSave → ⊥) → (m.letter.kind ≡ RamTransmit → ⊥) → ⊥
+      of_new un (Goes.begins kind rep same) a b = a kind
+      of_new un (Goes.fills f has same kind u from answers le rep) a b = b kind
+      of_new un (Goes.asks_file f q asks has same kind code me) a b = un code
+
+      of_old : Has (Out_done i n) (d.sending s) → Goes d k m l v → ⊥
+      of_old old (Goes.begins kind rep same) =
+          (h.mute (λ q. let y : DataSave ≡ DataLoadAck = sym kind ∙ q in (cc))).outs s (Out_done i n) old (sym id ∙ same)
+      of_old old (Goes.fills f has same kind un from answers le rep) =
+          let e = p.ends s i n k (Fetching f) old has (sym same ∙ id) in
+          let c = h.carried f has kind un from answers s n (subst (λ j. Has (Out_done j n) (d.sending s)) (sym id ∙ same) old) in
+          let short = e.1.1.short in
+          let whole = e.1.1.whole in
+          omega (arith, c, short, whole, le)
+      of_old old (Goes.asks_file f q asks has same kind code me) =
+          let e = p.ends s i n k (Fetching f) old has (sym same ∙ id) in
+          elim e.1.0 [
+            | inl there ↦ (h.mute (λ q. let y : RamFetch ≡ DataLoadAck = sym kind ∙ q in (cc))).letters e.0.letter (Known.queued e.0 there refl)
+                (e.1.1.answers ∙ sym me)
+            | inr one ↦ let y : Plain ≡ Returned = sym e.1.1.code ∙ ap (λ (z : Message). z.code) (sym one) ∙ code in (cc)
+          ]
+
+  room-same : (l : Option Message) (r : ℕ) → (E l).buf r ≡ d.buf r
+  room-same None r = refl
+  room-same (Some n) r = refl
+
+  still-queued : (l : Option Message) (y : Message) → Has y d.queue → Has y (E l).queue
+  still-queued None y has = has
+  still-queued (Some n) y has = Has-left y d.queue (n ∷ []) has
+
+  now-queued : (l : Option Message) (n : Message) → l ≡ Some n → Has n (E l).queue
+  now-queued None n e = absurd (none_some None refl e)
+  now-queued (Some o) n e = let one : o ≡ n = cc in subst (λ y. Has y (d.queue ++ o ∷ [])) one (Has-right o d.queue (o ∷ []) (inl refl))
+
+  -- the last transmit of a record that waits for it
+  last-ends : (l : Option Message) → Deed d k m l sd tk sc → (s i n r : ℕ) (w : In) → s ≡ k → (x : Meets d k m i) → Last d k m l x.one n →
+      Has w (d.taking r) → in_id w ≡ i → Ends (IsQueued (E l)) ((E l).buf r) s r n w
+  last-ends l x s i n r w own meets la has id = by a.is_active
+    where
+      y : Sending
+      y = meets.one
+
+      found : (a : Waiter d k y m.letter) × (m.letter.me ≡ a.taking.fetch)
+      found = h.waiter y meets.has la.fetch la.would la.fetches la.lives meets.unread
+
+      a : Waiter d k y m.letter
+      a = found.0
+
+      here : r ≡ y.recipient
+      here = h.home y r w meets.has has (id ∙ sym meets.id)
+
+      z : Message
+      z = la.letter
+
+      final : Final ((E l).buf r) s r n a.taking z
+      final = record {
+        sender = a.sender ∙ sym own;
+        code = la.code;
+        to = la.to ∙ meets.from ∙ sym here;
+        from = (x.sends z la.is).from ∙ sym own;
+        kind = la.kind;
+        answers = la.answers ∙ found.1;
+        address = la.address ∙ sym a.names;
+        short = let less = la.short in let size = a.amount ∙ ap d.buf (sym here) ∙ sym (room-same l r) in omega (arith, less, size);
+        whole = ap (λ c. c + z.letter.amount) (sym a.level) ∙ la.whole;
+      }
+
+      there : (m : Message) × (IsQueued (E l) m × Final ((E l).buf r) s r n a.taking m)
+      there = (z, (now-queued l z la.is, final))
+
+      same : (v : In) → Has v (d.taking y.recipient) → in_id v ≡ a.taking.id → v ≡ w
+      same v q e = one_of_id in_id (d.taking r) v w (p.ascends r) (subst (λ j. Has v (d.taking j)) (sym here) q) has (e ∙ a.same_id ∙ meets.id ∙ sym id)
+
+      by : Active (d.taking y.recipient) a.taking → Ends (IsQueued (E l)) ((E l).buf r) s r n w
+      by (inl q) = subst (Ends (IsQueued (E l)) ((E l).buf r) s r n) (same (Fetching a.taking) q refl) there
+      by (inr q) = subst (Ends (IsQueued (E l)) ((E l).buf r) s r n) (same (Draining a.taking) q refl) there
+
+  -- one that waits
+  waiting-ends : (l : Option Message) → Deed d k m l sd tk sc → (s i n r : ℕ) (w : In) → Has (Out_done i n) (sd s) → Has w (tk r) → in_id w ≡ i →
+      (v : Want) → want_in w ≡ Some v → Ends (IsQueued (E l)) ((E l).buf r) s r n w
+  waiting-ends l x s i n r w done has id v wants = go (x.ins r w v has wants)
+    where
+      go : Origin d k m l r v (Has w (d.taking r)) ((in_id w ≡ x.fresh) × Goes d k m l w) → Ends (IsQueued (E l)) ((E l).buf r) s r n w
+      go (new z own now) = absurd (never-goes l x s i n w now.1 id done)
+      go (was old other) = elim (x.turns s (Out_done i n) done) [
+        | inl o ↦ ends-map w (room-same l r) kept (p.ends s i n r w o old id)
+        | inr z ↦ elim z.1.1 [
+          | inl kind ↦
+              let c = z.1.0 in
+              let ended = h.told c.unread kind c.one c.has c.answers c.from r w old (id ∙ sym c.id) in
+              absurd (let q : false ≡ true = sym ended ∙ want-going w v wants in (cc))
+          | inr la ↦ last-ends l x s i n r w z.0 z.1.0 la old id
+        ]
+      ]
+        where
+          kept : (t : Taking) → IsActive w t → (y : Message) → Final (d.buf r) s r n t y → Has y d.queue ⊎ (m ≡ y) → IsQueued (E l) y
+          kept t is y fin (inl there) = still-queued l y there
+          kept t is y fin (inr one) =
+              let mine : part t.fetch t.sender t.buffer ≡ v = let q : Some (part t.fetch t.sender t.buffer) ≡ Some v = sym (active-want w t is) ∙ wants in cc in
+              let to : r ≡ k = sym fin.to ∙ ap (λ (z : Message). z.to) (sym one) ∙ p.before.to in
+              let final : Final (d.buf r) s r n t m = subst (Final (d.buf r) s r n t) (sym one) fin in
+              absurd (other to (subst (For d m r) mine (answer (λ c. let q : Plain ≡ Returned = sym final.code ∙ c in (cc))
+              (final.from ∙ sym final.sender) final.answers (final.kind, (final.address, let z = final.short in omega (arith, z))))))
+
+  ends-after : (l : Option Message) → Deed d k m l sd tk sc → AllEnd (IsQueued (E l)) (E l)
+  ends-after l x s i n r w done has id = by w refl
+    where
+      by : (v : In) → w ≡ v → Ends (IsQueued (E l)) ((E l).buf r) s r n w
+      by (Fetching t) e = waiting-ends l x s i n r w done has id (part t.fetch t.sender t.buffer) (ap want_in e)
+      by (Draining t) e = waiting-ends l x s i n r w done has id (part t.fetch t.sender t.buffer) (ap want_in e)
+      by (Asking q) e = waiting-ends l x s i n r w done has id _ (ap want_in e)
+      by (In_done j a c) e = subst (Ends (IsQueued (E l)) ((E l).buf r) s r n) (sym e) tt
+      by (In_failed j a c) e = subst (Ends (IsQueued (E l)) ((E l).buf r) s r n) (sym e) tt
+
+  pub deed-matched : (l : Option Message) → Deed d k m l sd tk sc → Matched (E l)
+  deed-matched None x = record { alone = p.alone; silent = silent-none x; first = first-after None x; ends = ends-after None x }
+  deed-matched (Some n) x = record {
+    alone = sent-alone d k n (x.sends n refl).me old-below p.alone;
+    silent = silent-some n x;
+    first = first-after (Some n) x;
+    ends = ends-after (Some n) x;
+  }
