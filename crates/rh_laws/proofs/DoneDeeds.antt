@@ -1,8 +1,10 @@
 -- What a message that was handled leaves of transfers whose sender's record says Done.
-use Rattle.rh_laws.proofs.Common.{Active, Ascend, Bool, Has, List, None, Option, Sending, Some, Taking, [], ap, arith, eqb_tells, false, if◌then◌else◌, inl, inr}
-use Rattle.rh_laws.proofs.Common.{leb_tells, none_some, out_id, put_same, refl, subst, sym, true, ℕ, ◌++◌, ◌+◌, ◌<◌, ◌==◌, ◌∙◌, ◌∷◌, ◌≡◌, ◌≢◌, ◌≤◌, ◌⊎◌}
+use Rattle.rh_laws.proofs.Common.{Active, Ascend, Has, List, None, Option, Sending, Some, Taking, [], ap, arith, eqb_tells, false}
+use Rattle.rh_laws.proofs.Common.{inl, inr}
+use Rattle.rh_laws.proofs.Common.{leb_tells, none_some, out_id, put_same, refl, subst, sym, true, ℕ, ◌++◌, ◌+◌, ◌<◌, ◌∙◌, ◌∷◌, ◌≡◌, ◌≢◌, ◌≤◌, ◌⊎◌}
 use Rattle.rh_safety.proofs.Basics.{Has-append, Has-left, Has-right, one_of_id}
-use Rattle.rh_safety.proofs.Ends.{Asking, DataLoadAck, DataSave, Draining, Fetching, In, In_done, In_failed, Letter, Message, Open, Out, Out_done, Out_failed, Plain}
+use Rattle.rh_safety.proofs.Ends.{Asking, Kind, DataLoadAck, DataSave, Draining, Fetching, In, In_done, In_failed, Letter, Message, Open, Out, Out_done}
+use Rattle.rh_safety.proofs.Ends.{Out_failed, Plain}
 use Rattle.rh_safety.proofs.Ends.{RamFetch, RamTransmit, Returned, in_id, is_going, put}
 use Rattle.rh_safety.proofs.Invariant.{IsLive, Known, Knows, Unread}
 use Rattle.rh_safety.proofs.Polls.{Waiter}
@@ -118,10 +120,14 @@ module _ (d : Desk) (k : ℕ) (m : Message) (p : Taken d k m) (sd : ℕ → List
     s : Sends d k m sc n
     s = x.sends n refl
 
+    new-ref : (y : Message) → Has y (n ∷ []) → y.letter.me ≡ d.next_ref
+    new-ref y (inl e) = ap (λ (z : Message). z.letter.me) (sym e) ∙ s.me
+    new-ref y (inr never) = absurd never
+
     sent-old : (ref : ℕ) → ref < d.next_ref → IsLive (sent d k n).queue (sent d k n).held ref → IsLive d.queue d.held ref
     sent-old ref less (IsLive.waits y has me) = elim (Has-append y d.queue (n ∷ []) has) [
       | inl a ↦ IsLive.waits y a me
-      | inr a ↦ elim a [ inl e ↦ absurd (let z = ap (λ (z : Message). z.letter.me) e in let w = s.me in omega (arith, z, w, me, less)) | inr never ↦ absurd never ]
+      | inr a ↦ absurd (let z = new-ref y a in omega (arith, z, me, less))
     ]
     sent-old ref less (IsLive.rests j y is me) = IsLive.rests j y (still_is d k n.letter.answers j y is) me
 
@@ -133,7 +139,7 @@ module _ (d : Desk) (k : ℕ) (m : Message) (p : Taken d k m) (sd : ℕ → List
     replied : Unread m → n.letter.answers ≡ m.letter.me → IsLive (sent d k n).queue (sent d k n).held n.letter.answers → ⊥
     replied un a (IsLive.waits y has me) = elim (Has-append y d.queue (n ∷ []) has) [
       | inl g ↦ h.queue un y g (me ∙ a)
-      | inr g ↦ elim g [ inl e ↦ (let z = ap (λ (z : Message). z.letter.me) e in let w = s.me in let b = s.below in omega (arith, z, w, me, b)) | inr never ↦ never ]
+      | inr g ↦ let z = new-ref y g in let b = s.below in omega (arith, z, me, b)
     ]
     replied un a (IsLive.rests j y is me) =
         let here : j ≡ k = h.hand un j y (still_is d k n.letter.answers j y is) (me ∙ a) in
@@ -243,16 +249,15 @@ module _ (d : Desk) (k : ℕ) (m : Message) (p : Taken d k m) (sd : ℕ → List
   never-goes l x s i n v goes id done = elim (x.turns s (Out_done i n) done) [
     | inl old ↦ of_old old goes
     | inr z ↦ elim z.1.1 [
-      | inl kind ↦ of_new z.1.0.unread goes (λ q. let y : DataSave ≡ DataLoadAck = sym q ∙ kind in (cc)) (λ q. let y : RamTransmit ≡ DataLoadAck = sym q ∙ kind in (cc))
-      | inr la ↦ let kind = la.fetch in
-          of_new z.1.0.unread goes (λ q. let y : DataSave ≡ RamFetch = sym q ∙ kind in (cc)) (λ q. let y : RamTransmit ≡ RamFetch = sym q ∙ kind in (cc))
+      | inl kind ↦ of_new DataLoadAck kind (λ y. absurd (cc)) (λ y. absurd (cc)) z.1.0.unread goes
+      | inr la ↦ of_new RamFetch la.fetch (λ y. absurd (cc)) (λ y. absurd (cc)) z.1.0.unread goes
     ]
   ]
     where
-      of_new : Unread m → Goes d k m l v → (m.letter.kind ≡ DataSave → ⊥) → (m.letter.kind ≡ RamTransmit → ⊥) → ⊥
-      of_new un (Goes.begins kind rep same) a b = a kind
-      of_new un (Goes.fills f has same kind u from answers le rep) a b = b kind
-      of_new un (Goes.asks_file f q asks has same kind code me) a b = un code
+      of_new : (j : Kind) → m.letter.kind ≡ j → (DataSave ≡ j → ⊥) → (RamTransmit ≡ j → ⊥) → Unread m → Goes d k m l v → ⊥
+      of_new j is a b un (Goes.begins kind rep same) = a (sym kind ∙ is)
+      of_new j is a b un (Goes.fills f has same kind u from answers le rep) = b (sym kind ∙ is)
+      of_new j is a b un (Goes.asks_file f q asks has same kind code me) = un code
 
       of_old : Has (Out_done i n) (d.sending s) → Goes d k m l v → ⊥
       of_old old (Goes.begins kind rep same) =

@@ -1,5 +1,5 @@
 -- What holds of transfers whose sender says Done while messages go back, tasks begin and end, and transfers are given up.
-use Rattle.rh_laws.proofs.Common.{Bool, Has, List, None, Option, Some, Taking, [], ap, inl, inr, put_other, refl, subst, sym, ℕ, ◌++◌, ◌∙◌, ◌∷◌, ◌≡◌, ◌⊎◌}
+use Rattle.rh_laws.proofs.Common.{Bool, Has, List, None, Option, Some, [], inl, inr, put_other, refl, subst, sym, ℕ, ◌∙◌, ◌≡◌, ◌⊎◌}
 use Rattle.rh_safety.proofs.Basics.{Has-append, Has-left}
 use Rattle.rh_safety.proofs.Ends.{Asking, Draining, Fetching, In, In_done, In_failed, Message, Out, Out_failed, cancelled, in_id}
 use Rattle.rh_safety.proofs.Invariant.{Rises, Unread}

@@ -1,24 +1,24 @@
 -- Where a sender's record says Done, each record of the transfer has ended or its last transmit is queued, of each desk that a
 -- run reaches.
-use Rattle.rh_laws.proofs.Common.{Acknowledge, Body, Desk, Edits, FileList, Good, Has, Incoming, List, None, Offers, Option, Parcel, Some, Taking, Task, User, [], action_of, after, after-is}
-use Rattle.rh_laws.proofs.Common.{all_in_range, ap, arith, contains_of, field_is, first_is, has_of, in_id, is_equal, length, refl, same_value, seen_parcel, start-is}
-use Rattle.rh_laws.proofs.Common.{start_with, subst, sym, task_at, true, false, view, ℕ, ◌+◌, ◌==◌, ◌∙◌, ◌≡◌, ◌≤◌}
+use Rattle.rh_laws.proofs.Common.{Body, Desk, Edits, Good, Has, Incoming, List, Offers, Parcel, Some, Taking, Task}
+use Rattle.rh_laws.proofs.Common.{[], action_of, after, after-is}
+use Rattle.rh_laws.proofs.Common.{ap, arith, contains_of, field_is, first_is, has_of, in_id, is_equal, length, refl, same_value, seen_parcel}
+use Rattle.rh_laws.proofs.Common.{start-is}
+use Rattle.rh_laws.proofs.Common.{start_with, subst, sym, task_at, false, view, ℕ, ◌+◌, ◌==◌, ◌∙◌, ◌≡◌}
 use Rattle.std.specs.List.{Contains}
 use Rattle.rh_defs.specs.declared.message.Action.TheVariants as action
 use Rattle.rh_defs.specs.declared.message.Body.TheVariants as body
 use Rattle.rh_defs.specs.declared.transfer.Incoming.TheVariants as incoming
 use Rattle.rh_defs.specs.declared.transfer.Outgoing.TheVariants as outgoing
-use Rattle.rh_defs.specs.Laws.{IsStart}
 use Rattle.rh_defs.specs.Records.{is_going}
 use Rattle.rh_safety.proofs.Ends.{Message, Out_done, RamTransmit}
 use Rattle.rh_safety.proofs.Invariant.{Counted}
 use Rattle.rh_safety.proofs.SeenLaws.{good_after, kept_good}
 use Rattle.rh_safety.proofs.View.{address_in, amount_in}
-use Rattle.rh_laws.specs.Done.{AlwaysMatches, DoneMatches, HasEnded, IsLast, Matches, WhereDone}
+use Rattle.rh_laws.specs.SendersDone.{AlwaysMatches, HasEnded, IsFinal, Matches}
 use Rattle.rh_laws.specs.Progress.{rounds_of}
-use Rattle.rh_laws.specs.Rest.{IsSettled}
-use Rattle.rh_laws.proofs.DonePairs.{Agreed, has-map}
-use Rattle.rh_laws.proofs.Dones.{Ends, Final, IsQueued, Matched}
+use Rattle.rh_laws.proofs.DonePairs.{has-map}
+use Rattle.rh_laws.proofs.Dones.{Ends, Final, IsQueued}
 use Rattle.rh_laws.proofs.RestLaws.{Goes_on, after-goes_on, always-goes_on, always-settles}
 
 -- the bytes and the buffer of a transmit
@@ -31,8 +31,8 @@ transmit-of (body.DataLoadAck f) e = absurd cc
 transmit-of (body.RamFetch buffer n) e = absurd cc
 
 module _ {o : Offers} {e : Edits} (d : Desk) (good : Good o e (view d)) (goes : Goes_on (view d)) where
-  module _ (s r id n : ℕ) (t u : Task) (w : Incoming) (at_s : task_at s d ≡ Some t) (done : Contains t.sending (outgoing.Done id n)) (at_r : task_at r d ≡ Some u)
-      (has : Contains u.taking w) (same : in_id w ≡ id) where
+  module _ (s r id n : ℕ) (t u : Task) (w : Incoming) (at_s : task_at s d ≡ Some t) (done : Contains t.sending (outgoing.Done id n))
+      (at_r : task_at r d ≡ Some u) (has : Contains u.taking w) (same : in_id w ≡ id) where
     sent : Has (Out_done id n) ((view d).sending s)
     sent = subst (Has (Out_done id n)) (sym (field_is (λ y. y.sending) [] s d.tasks t at_s)) (has_of t.sending (Out_done id n) done)
 
@@ -47,7 +47,8 @@ module _ {o : Offers} {e : Edits} (d : Desk) (good : Good o e (view d)) (goes : 
         mine.whole ∙ ap (λ (bytes : List ℕ). length bytes) one ∙ sym theirs.whole
 
     -- a message that is seen of the queue
-    last : (f : Taking) → (m : Message) × (IsQueued (view d) m × Final ((view d).buf r) s r n f m) → (p : Parcel) × (Contains d.post.queued p × IsLast s u n f p)
+    last : (f : Taking) → (m : Message) × (IsQueued (view d) m × Final ((view d).buf r) s r n f m) →
+        (p : Parcel) × (Contains d.post.queued p × IsFinal s u n f p)
     last f (m, (there, final)) =
         let z = has-map seen_parcel d.post.queued m there in
         let p : Parcel = z.0 in

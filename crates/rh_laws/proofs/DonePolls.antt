@@ -1,14 +1,16 @@
 -- What holds of transfers whose sender says Done once a poll took a message: the fetch that a record answers is its receiver's own.
-use Rattle.rh_laws.proofs.Common.{Active, Has, None, Option, Sending, Some, Taking, ap, arith, inl, inr, length, none_some, put_same, refl, same_value, subst, sym, true, false}
-use Rattle.rh_laws.proofs.Common.{Edits, Good, Offers, List, ℕ, ◌+◌, ◌<◌, ◌++◌, ◌∙◌, ◌≡◌, ◌≤◌, ◌⊎◌}
+use Rattle.rh_laws.proofs.Common.{Active, Has, None, Option, Sending, Some, Taking, ap, arith, inl, inr, length, refl, same_value}
+use Rattle.rh_laws.proofs.Common.{subst, sym, true, false}
+use Rattle.rh_laws.proofs.Common.{Edits, Good, Offers, List, ℕ, ◌+◌, ◌∙◌, ◌≡◌, ◌≤◌, ◌⊎◌}
 use Rattle.rh_safety.proofs.Basics.{first_has}
-use Rattle.rh_safety.proofs.Ends.{DataLoadAck, Draining, Fetching, In, Message, Open, Out, Out_done, Out_failed, RamFetch, RamTransmit, Recorded, Returned, first_for, in_id, is_going}
+use Rattle.rh_safety.proofs.Ends.{DataLoadAck, Draining, Fetching, In, Message, Open, Out, Out_done, Out_failed, RamFetch, RamTransmit, Recorded, Returned}
+use Rattle.rh_safety.proofs.Ends.{first_for, in_id, is_going}
 use Rattle.rh_safety.proofs.Invariant.{IsLive, Known, Unread, Waits}
 use Rattle.rh_safety.proofs.Polls.{Waiter, would_tells}
 use Rattle.rh_safety.proofs.Posts.{first_below}
 use Rattle.rh_safety.proofs.SeenPosts.{with_scrap}
 use Rattle.rh_safety.proofs.Sight.{Desk, Scrap, returned, would_answer}
-use Rattle.rh_laws.proofs.DoneDeeds.{Heard, Taken}
+use Rattle.rh_laws.proofs.DoneDeeds.{Taken}
 use Rattle.rh_laws.proofs.DoneEdits.{returned-queue}
 use Rattle.rh_laws.proofs.Dones.{Matched, Like, edit-first, edit-mute, edit-silent, ends-map, unchanged, was-live}
 use Rattle.rh_laws.proofs.RefsApart.{left-apart, picked-alone, picked-hand}
@@ -87,7 +89,8 @@ module _ {o : Offers} {e : Edits} (d : Desk) (k : ℕ) (m : Message) (first : fi
           | inl left ↦
               let unread : Unread z = λ c. let q : Recorded ≡ Returned = sym w.code ∙ c in (cc) in
               let below = first_below k d.queue m first g.inv.order.rises z left w.to un unread in
-              let least = f.first m.letter.from t v.is_active m.letter z.letter (Known.queued m here refl) (Known.queued z there refl) me refl (sym w.answers) in
+              let least = f.first m.letter.from t v.is_active m.letter z.letter (Known.queued m here refl) (Known.queued z there refl)
+              me refl (sym w.answers) in
               absurd (omega (arith, below, least, me))
         ]
 

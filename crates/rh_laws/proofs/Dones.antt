@@ -1,6 +1,7 @@
 -- What becomes of a transfer whose sender's record says Done: no live message is answered, a record's fetch is the first that
 -- its task sent in answer, and each record of the transfer has ended or has its last transmit in the queue.
-use Rattle.rh_laws.proofs.Common.{Active, Bool, Has, List, None, Option, Some, Taking, ap, arith, eqb_tells, inl, inr, refl, subst, sym, ℕ, ◌+◌, ◌<◌, ◌∙◌, ◌≡◌, ◌≢◌, ◌≤◌}
+use Rattle.rh_laws.proofs.Common.{Active, Has, Taking, ap, inl, inr, refl, subst, sym, ℕ, ◌+◌, ◌<◌, ◌∙◌}
+use Rattle.rh_laws.proofs.Common.{◌≡◌, ◌≢◌, ◌≤◌}
 use Rattle.rh_laws.proofs.Common.{◌⊎◌}
 use Rattle.rh_safety.proofs.Ends.{Asking, Draining, Fetching, In, In_done, In_failed, Letter, Message, Open, Out, Out_done, Out_failed, Plain, RamTransmit}
 use Rattle.rh_safety.proofs.Ends.{in_id}
@@ -169,6 +170,8 @@ edit-matched {d} {e} x f = record {
     ends s i n r w done has id = elim (x.sending s (Out_done i n) done) [
       | inl old ↦
           let u = x.taking r w has in
-          ends-map w (x.room r w has) (λ t is m fin there. x.stays r w has m fin.code fin.to there) (like-ends (Ends (IsQueued d) (d.buf r) s r n) (λ f e. e) (λ i a c. tt) u.1.1 (f.ends s i n r u.0 old u.1.0 (sym (like-id u.1.1) ∙ id)))
+          let before = f.ends s i n r u.0 old u.1.0 (sym (like-id u.1.1) ∙ id) in
+          ends-map w (x.room r w has) (λ t is m fin there. x.stays r w has m fin.code fin.to there)
+          (like-ends (Ends (IsQueued d) (d.buf r) s r n) (λ f e. e) (λ i a c. tt) u.1.1 before)
       | inr z ↦ absurd (let e : Out_done i n ≡ Out_failed z.0 z.1.0 = z.1.1 in (cc))
     ]

@@ -1,13 +1,14 @@
 -- No two live messages have one ref, as it is seen: what is held differs from what is queued and from what other tasks hold,
 -- and what came back differs from what is unread. (Unread messages that are queued have rising refs.)
-use Rattle.rh_laws.proofs.Common.{Bool, Has, List, None, Option, Some, [], ap, arith, eqb_tells, false, if◌then◌else◌, inl, inr, none_some, put_other, put_same, refl, subst, sym}
-use Rattle.rh_laws.proofs.Common.{ℕ, ◌++◌, ◌<◌, ◌==◌, ◌∙◌, ◌∷◌, ◌≡◌, ◌≢◌, ◌⊎◌}
+use Rattle.rh_laws.proofs.Common.{Bool, Has, List, None, Option, Some, [], ap, arith, eqb_tells, false, inl, inr, none_some}
+use Rattle.rh_laws.proofs.Common.{put_same, refl, subst, sym}
+use Rattle.rh_laws.proofs.Common.{ℕ, ◌++◌, ◌<◌, ◌∙◌, ◌∷◌, ◌≡◌, ◌≢◌, ◌⊎◌}
 use Rattle.rh_safety.proofs.Basics.{Has-append, first_has, without_has}
 use Rattle.rh_safety.proofs.Ends.{Code, Letter, Message, Plain, Recorded, Returned, first_for, put, without_first}
 use Rattle.rh_safety.proofs.Invariant.{IsLive, Rises, Unread}
 use Rattle.rh_safety.proofs.Posts.{back_has, back_held_codes, back_held_has, bounced_codes, for_others_has, unheld}
 use Rattle.rh_safety.proofs.Sends.{still_is}
-use Rattle.rh_safety.proofs.Sight.{Desk, back, back_held, back_if_recorded, bounced_for, for_others, killed, returned, sent, still_held}
+use Rattle.rh_safety.proofs.Sight.{Desk, back, back_held, back_if_recorded, bounced_for, for_others, killed, returned, sent}
 
 pub record Alone (q : List Message) (held : ℕ → Option Message) : Type 0 where
   pub hand : (j : ℕ) (m y : Message) → held j ≡ Some m → Has y q → y.letter.me ≢ m.letter.me

@@ -23,8 +23,8 @@ use Rattle.rh_defs.specs.declared.message.Letter.{Letter as Letter_}
 use Rattle.rh_defs.specs.Slot.{Flex, Slot, flex_start, new_slot, weight}
 use Rattle.rh_safety.proofs.Basics.{first_has}
 use Rattle.rh_safety.proofs.Ends.{Asking, Code, Draining, Edits, Fetching, In, In_done, In_failed, Message, Offers, Open, Out, Out_failed, Plain, Returned}
-use Rattle.rh_safety.proofs.Ends.{first_for, put, without_first}
-use Rattle.rh_safety.proofs.Invariant.{Inv, IsLive, Known, Knows, LiveFile, Rises, Unread}
+use Rattle.rh_safety.proofs.Ends.{first_for, put}
+use Rattle.rh_safety.proofs.Invariant.{Inv, IsLive, Known, Knows, LiveFile, Rises}
 use Rattle.rh_safety.proofs.KeptPolls.{Given, given}
 use Rattle.rh_safety.proofs.FlexMaps as flex
 use Rattle.rh_safety.proofs.Keeps.{from_found}
@@ -49,7 +49,7 @@ use Rattle.rh_defs.specs.Laws.{IsStart}
 use Rattle.rh_laws.specs.Progress.{IsAtRest, rounds_of}
 use Rattle.rh_laws.specs.Rest.{AlwaysSettles, IsOffered, IsSettled}
 use Rattle.rh_laws.proofs.ProgressLaws.{always-progresses}
-use Rattle.rh_laws.proofs.Wants.{AllWait, HasWant, InWants, OutWants, Unanswered, WaitsFor, Want, Wants, is_sent, ref_of, reply, want_in, want_out}
+use Rattle.rh_laws.proofs.Wants.{AllWait, HasWant, InWants, OutWants, WaitsFor, Want, Wants, is_sent, ref_of, reply, want_in, want_out}
 use Rattle.rh_laws.proofs.WantEdits.{For, KeepsFile, OldIds, Picks, Then, answer, killed-waits, left_by, own_back, picked-waits, picks, quiet-asks, quiet-told}
 use Rattle.rh_laws.proofs.WantEdits.{returned-waits, started-waits}
 use Rattle.rh_laws.proofs.DoneDeeds.{Taken, deed-matched}
@@ -59,7 +59,8 @@ use Rattle.rh_laws.proofs.DonePolls.{Pairs, returned-pairs, taken-matched}
 use Rattle.rh_laws.proofs.Dones.{Matched, Silent, ends-map}
 use Rattle.rh_laws.proofs.RefsApart.{rest-apart}
 use Rattle.rh_laws.proofs.WantDeeds.{Anew, Before, IsSpent, Sends, deed-waits}
-use Rattle.rh_laws.proofs.WantRecords.{InWant, OutsOf, Ready, TurnsOf, asks-fits, by_ask, by_drain, by_fetch, deed, ids-stay, in-want, ins-stay, out-want, outs-moved}
+use Rattle.rh_laws.proofs.WantRecords.{InWant, OutsOf, Ready, TurnsOf, asks-fits, by_ask, by_drain, by_fetch, deed, ids-stay, in-want, ins-stay, out-want}
+use Rattle.rh_laws.proofs.WantRecords.{outs-moved}
 use Rattle.rh_laws.proofs.WantRecords.{outs-stay, turns-moved, un}
 use Rattle.rh_laws.proofs.WantTurns.{handled-waits}
 
@@ -318,11 +319,14 @@ module _ {o : Offers} {e : Edits} (d : Desk) (fit : Fits d) (good : Good o e (vi
           let sc = option_map seen_scrap (kept_scrap (post_death k d.post) d.scrap) in
           let seen : view (after_kill d k) ≡ with_scrap sc (sight.killed V k) = killed_view d k fit in
           let keeps : KeepsFile V (with_scrap sc (sight.killed V k)) = subst (KeepsFile V) seen (λ f s live. file-kept d (post_death k d.post) f s live) in
-          subst Goes_on (sym seen) (record { matched = killed-matched V k sc good.inv.order.rises goes.matched; waits = leads (record {
-            ins = λ h w i x. (blank-in V k h w i x).1;
-            outs = λ h w x. (blank-out V k h false w x).1;
-            waits = λ h w x. let z = blank-wants V k h false w x in killed-waits V k sc z.0 (home d h w z.1) keeps;
-          }) goes.waits })
+          subst Goes_on (sym seen) (record {
+            matched = killed-matched V k sc good.inv.order.rises goes.matched;
+            waits = leads (record {
+              ins = λ h w i x. (blank-in V k h w i x).1;
+              outs = λ h w x. (blank-out V k h false w x).1;
+              waits = λ h w x. let z = blank-wants V k h false w x in killed-waits V k sc z.0 (home d h w z.1) keeps;
+            }) goes.waits;
+          })
 
   start-stays : (name : List ℕ) (buffer : ℕ) (manner : Manner) → OnGrant Stays (start_task d name buffer manner)
   unfolding start_task
@@ -333,11 +337,14 @@ module _ {o : Offers} {e : Edits} (d : Desk) (fit : Fits d) (good : Good o e (vi
       begun : Goes_on (view (with_new_task name buffer manner new_slot d))
       begun =
           let none = no_task_of d d.next_handle (λ l. let z = good.inv.alive d.next_handle l in omega (arith, z)) in
-          subst Goes_on (sym (started_view d name buffer manner none)) (record { matched = started-matched V buffer (is_deaf manner) (answers_none manner) goes.matched; waits = leads (record {
-            ins = λ h w i x. (blank-in V V.next_handle h w i x).1;
-            outs = λ h w x. (blank-out V V.next_handle h (answers_none manner) w x).1;
-            waits = λ h w x. started-waits V buffer (is_deaf manner) (answers_none manner) (blank-wants V V.next_handle h (answers_none manner) w x).0;
-          }) goes.waits })
+          subst Goes_on (sym (started_view d name buffer manner none)) (record {
+            matched = started-matched V buffer (is_deaf manner) (answers_none manner) goes.matched;
+            waits = leads (record {
+              ins = λ h w i x. (blank-in V V.next_handle h w i x).1;
+              outs = λ h w x. (blank-out V V.next_handle h (answers_none manner) w x).1;
+              waits = λ h w x. started-waits V buffer (is_deaf manner) (answers_none manner) (blank-wants V V.next_handle h (answers_none manner) w x).0;
+            }) goes.waits;
+          })
 
   -- ---- letters that answer nothing
 
@@ -391,7 +398,8 @@ module _ {o : Offers} {e : Edits} (d : Desk) (fit : Fits d) (good : Good o e (vi
   sent-all : (k : ℕ) (n : Message) (sd : ℕ → List Out) → n.letter.from ≡ k → n.letter.me ≡ V.next_ref → n.letter.answers < V.next_ref →
       IsSpent V n.letter.answers → OutsOf V k (idler k) (Some n) sd → TurnsOf V k (idler k) (Some n) sd →
       {y : sight.Desk} → y ≡ sight.sent (record V { sending = sd }) k n → Goes_on y
-  sent-all k n sd from me below never outs turns q = deed V k (idler k) (ready V k (idler k) (taken-idler k)) (Some n) sd V.taking V.block V.heap V.scrap q (record {
+  sent-all k n sd from me below never outs turns q =
+      deed V k (idler k) (ready V k (idler k) (taken-idler k)) (Some n) sd V.taking V.block V.heap V.scrap q (record {
     fresh = 0;
     ins = ins-stay V k (idler k) (Some n) 0 (λ w j x f. never-for f);
     outs = outs;
@@ -439,7 +447,8 @@ module _ {o : Offers} {e : Edits} (d : Desk) (fit : Fits d) (good : Good o e (vi
           let move = move_more out_id V.sending h V.most is_open (Open x) (λ v has e. let z = good.inv.order.out_below h v has in omega (arith, z, e)) in
           sent-all h n _ refl refl good.inv.positive (IsSpent.none refl)
           (outs-moved V h (idler h) (Some n) _ (Open x) move
-          (λ w u has wants f. absurd (never-for f)) (λ w wants. anew h n x refl refl refl refl refl w (V.file h) refl wants)) (turns-moved V h (idler h) (Some n) _ (Open x) move (inl refl))
+          (λ w u has wants f. absurd (never-for f)) (λ w wants. anew h n x refl refl refl refl refl w (V.file h) refl wants))
+          (turns-moved V h (idler h) (Some n) _ (Open x) move (inl refl))
           (after_save d sent t r k leaf b.here.bytes is there y)
         where
           anew : (h : ℕ) (n : Message) (x : Sending) → x.last ≡ V.next_ref → x.id ≡ x.last → n.to ≡ x.recipient → n.letter.kind ≡ action.DataSave →
@@ -478,14 +487,17 @@ module _ {o : Offers} {e : Edits} (d : Desk) (fit : Fits d) (good : Good o e (vi
           let seen : view (with_sending k (λ _. records) d) ≡ record V { sending = sd } = outs_view d k (λ _. records) (live_of d k t is)
           ∙ ap (λ (y : List Out). record V { sending = put V.sending k y })
           (sym same ∙ ap (sender.sending_failed x) (sym (field_is (λ y. y.sending) [] k d.tasks t is))) in
-          subst Goes_on (sym seen) (record { matched = failed-matched V sd (λ h v has. elim (move h v has) [ inl z ↦ inl z.0 | inr z ↦ inr (x.id, (x.count, z.1)) ]) goes.matched; waits = leads (record {
-            ins = λ h w i y. y;
-            outs = λ h w y. elim (move h y.one y.has) [
-              | inl z ↦ record { one = y.one; has = z.0; wants = y.wants }
-              | inr z ↦ absurd (none_some None refl (ap (want_out (V.file h)) (sym z.1) ∙ y.wants))
-            ];
-            waits = λ h w y. calm V sd V.taking V.block V.heap V.scrap (λ r v has. inl (r, (v, (has, refl)))) (λ f s l. s);
-          }) goes.waits })
+          subst Goes_on (sym seen) (record {
+            matched = failed-matched V sd (λ h v has. elim (move h v has) [ inl z ↦ inl z.0 | inr z ↦ inr (x.id, (x.count, z.1)) ]) goes.matched;
+            waits = leads (record {
+              ins = λ h w i y. y;
+              outs = λ h w y. elim (move h y.one y.has) [
+                | inl z ↦ record { one = y.one; has = z.0; wants = y.wants }
+                | inr z ↦ absurd (none_some None refl (ap (want_out (V.file h)) (sym z.1) ∙ y.wants))
+              ];
+              waits = λ h w y. calm V sd V.taking V.block V.heap V.scrap (λ r v has. inl (r, (v, (has, refl)))) (λ f s l. s);
+            }) goes.waits;
+          })
 
   cancel_in-stays : (name : List ℕ) (id : Option ℕ) → OnGrant Stays (cancel_in d name id)
   unfolding cancel_in receiver.cancel_taking
@@ -518,22 +530,25 @@ module _ {o : Offers} {e : Edits} (d : Desk) (fit : Fits d) (good : Good o e (vi
           let move = move_with in_id V.taking k (in_id x) (receiver.cancelled x) (cancelled-id x) in
           let seen : view (with_taking k (λ _. records) d) ≡ record V { taking = tk } = ins_view d k (λ _. records) (live_of d k t is)
           ∙ ap (λ (y : List In). record V { taking = put V.taking k y }) (sym same ∙ ap (with_id in_id (in_id x) (receiver.cancelled x)) (sym own)) in
-          subst Goes_on (sym seen) (record { matched = cancelled-matched V k x tk here move goes.matched; waits = leads (record {
-            ins = λ h w i y. elim (move h y.one y.has) [
-              | inl z ↦ record { one = y.one; has = z.0; wants = y.wants; id = y.id }
-              | inr z ↦ record {
-                one = x;
-                has = subst (λ j. Has x (V.taking j)) (sym z.0) here;
-                wants = cancelled-wants x w (ap want_in (sym z.1) ∙ y.wants);
-                id = sym (cancelled-id x) ∙ ap in_id (sym z.1) ∙ y.id;
-              }
-            ];
-            outs = λ h w y. y;
-            waits = λ h w y. calm V V.sending tk V.block V.heap V.scrap (λ r v there. elim (move r v there) [
-              | inl z ↦ inl (r, (v, (z.0, refl)))
-              | inr z ↦ inl (k, (x, (here, sym (cancelled-id x) ∙ ap in_id (sym z.1))))
-            ]) (λ f s l. s);
-          }) goes.waits })
+          subst Goes_on (sym seen) (record {
+            matched = cancelled-matched V k x tk here move goes.matched;
+            waits = leads (record {
+              ins = λ h w i y. elim (move h y.one y.has) [
+                | inl z ↦ record { one = y.one; has = z.0; wants = y.wants; id = y.id }
+                | inr z ↦ record {
+                  one = x;
+                  has = subst (λ j. Has x (V.taking j)) (sym z.0) here;
+                  wants = cancelled-wants x w (ap want_in (sym z.1) ∙ y.wants);
+                  id = sym (cancelled-id x) ∙ ap in_id (sym z.1) ∙ y.id;
+                }
+              ];
+              outs = λ h w y. y;
+              waits = λ h w y. calm V V.sending tk V.block V.heap V.scrap (λ r v there. elim (move r v there) [
+                | inl z ↦ inl (r, (v, (z.0, refl)))
+                | inr z ↦ inl (k, (x, (here, sym (cancelled-id x) ∙ ap in_id (sym z.1))))
+              ]) (λ f s l. s);
+            }) goes.waits;
+          })
 
   -- ---- commands on memory, and polls
 

@@ -1,5 +1,6 @@
 -- What records wait for while messages are sent, go back and are taken, and while tasks begin and end.
-use Rattle.rh_laws.proofs.Common.{Bool, Has, List, None, Option, Some, [], ap, arith, eqb_tells, false, if◌then◌else◌, inl, inr, none_some, put_other, put_same}
+use Rattle.rh_laws.proofs.Common.{Bool, Has, List, None, Option, Some, [], ap, arith, eqb_tells, false, if◌then◌else◌, inl, inr, none_some, put_other}
+use Rattle.rh_laws.proofs.Common.{put_same}
 use Rattle.rh_laws.proofs.Common.{refl, subst, sym, true, ℕ, ◌++◌, ◌<◌, ◌==◌, ◌∙◌, ◌∷◌, ◌≡◌, ◌≢◌, ◌⊎◌}
 use Rattle.rh_safety.proofs.Basics.{Has-append, Has-left, Has-right, first_has, without_has}
 use Rattle.rh_safety.proofs.Ends.{Code, In, Letter, Message, Out, Plain, Recorded, Returned, first_for, in_id, put, without_first}

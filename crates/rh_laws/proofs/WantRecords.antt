@@ -242,7 +242,8 @@ module _ {Q : sight.Desk → Type 0} (D : sight.Desk) (k : ℕ) (m : Message) (b
   -- a record that comes in is written anew
   pub in-deed : {e : sight.Desk} (l : Option Message) (v u : In) (bl hp : ℕ → ℕ → Option (List ℕ)) (sc : Option sight.Scrap) →
       e ≡ after D k D.sending (put D.taking k (with_id in_id (in_id v) v (D.taking k))) bl hp sc l → Has u (D.taking k) → in_id u ≡ in_id v →
-      OnlyIn D k m (in_id v) → NoneOut D k m → ((w : Want) → want_in v ≡ Some w → Anew D k l w × Goes D k m l v) → ((n : Message) → l ≡ Some n → Sends D k m sc n) →
+      OnlyIn D k m (in_id v) → NoneOut D k m → ((w : Want) → want_in v ≡ Some w → Anew D k l w × Goes D k m l v) →
+      ((n : Message) → l ≡ Some n → Sends D k m sc n) →
       ((f : sight.Scrap) → D.scrap ≡ Some f → (sc ≡ Some f) ⊎ ((f.load ≡ m.letter.me) × Unread m)) → Q e
   in-deed l v u bl hp sc e has id own none anew sends scrap =
       let move = move_with in_id D.taking k (in_id v) v refl in

@@ -2,7 +2,8 @@
 use Rattle.rh_laws.proofs.Common.{Acknowledge, Active, Asked, Body, Bool, Desk, EventCode, Handled, Has, List, None, Option, Parcel, Recorded, Scrap, Sending}
 use Rattle.rh_laws.proofs.Common.{Some, TakeAction, Taking, Task, Transmit, User, [], ack_back, action_of, active_of, and_left, and_right, answers_none, ap}
 use Rattle.rh_laws.proofs.Common.{arith, asking_is, asking_of, came, came_back, either, eq-eqb, eqb_tells, fail_sending, false, field_is, handled}
-use Rattle.rh_laws.proofs.Common.{if◌then◌else◌, ignored, in_id, inl, inr, is_equal, leb_yes, length, live_of, nat_eq, nat_le, nat_lt, none_some, not, open_is}
+use Rattle.rh_laws.proofs.Common.{if◌then◌else◌, ignored, in_id, inl, inr, is_equal, leb_yes, length, live_of, nat_eq, nat_le, nat_lt, none_some, not}
+use Rattle.rh_laws.proofs.Common.{open_is}
 use Rattle.rh_laws.proofs.Common.{open_of, option_map, out_id, perform_send, perform_take, refl, same_value, subst, sym, take_with, task_of, true, view, ℕ}
 use Rattle.rh_laws.proofs.Common.{leb_tells, suc, ◌&&◌, ◌++◌, ◌+◌, ◌<◌, ◌∙◌, ◌≡◌, ◌≢◌, ◌≤◌, ◌⊎◌}
 use Rattle.rh_defs.specs.declared.message.Action.TheVariants as action
@@ -31,7 +32,8 @@ use Rattle.rh_safety.proofs.View.{seen_letter, seen_scrap}
 use Rattle.rh_laws.proofs.Wants.{Asks, InWants, Tells, Want, file, is_sent, part, peer_of, ref_of, reply, want_in, want_out}
 use Rattle.rh_laws.proofs.WantEdits.{For, answer, own_back}
 use Rattle.rh_laws.proofs.WantDeeds.{Anew, Goes, IsSpent, Meets, Replying, Sends, Turns}
-use Rattle.rh_laws.proofs.WantRecords.{InWant, NoneIn, NoneOut, OnlyIn, OnlyOut, Ready, active-none, asking-none, asks-fits, by_ask, by_drain, by_fetch, deed, files}
+use Rattle.rh_laws.proofs.WantRecords.{InWant, NoneIn, NoneOut, OnlyIn, OnlyOut, Ready, active-none, asking-none, asks-fits, by_ask, by_drain, by_fetch}
+use Rattle.rh_laws.proofs.WantRecords.{deed, files}
 use Rattle.rh_laws.proofs.WantRecords.{fits, idle, ids-moved, in-deed, in-want, ins-moved, none-sent, out-deed, out-want, outs-stay, parts, replies, sort_of}
 use Rattle.rh_laws.proofs.WantRecords.{tells-fits, un}
 
@@ -41,7 +43,8 @@ less-of a b e = elim (leb_tells (suc a) b) [ inl w ↦ w.1 | inr w ↦ absurd (l
 not-less : (a b : ℕ) → nat_lt a b ≡ false → b ≤ a
 not-less a b e = elim (leb_tells (suc a) b) [ inl w ↦ absurd (let z = w.0 in (cc)) | inr w ↦ let z = w.1 in omega (arith, z) ]
 
-module _ (Q : sight.Desk → Type 0) {o : Offers} {e : Edits} (d : Desk) (t : Task) (m : Parcel) (is : task_of t.handle d.tasks ≡ Some t) (inv : Inv o e (view d)) where
+module _ (Q : sight.Desk → Type 0) {o : Offers} {e : Edits} (d : Desk) (t : Task) (m : Parcel) (is : task_of t.handle d.tasks ≡ Some t)
+    (inv : Inv o e (view d)) where
   abbrev D : sight.Desk
   D = view d
 
@@ -98,7 +101,8 @@ module _ (Q : sight.Desk → Type 0) {o : Offers} {e : Edits} (d : Desk) (t : Ta
     shut-out : {y : sight.Desk} (x : Sending) (v : Out) → out_id v ≡ x.id → want_out (D.file k) v ≡ None → y ≡ sight.with_out D k x v → NoneIn D k (M b) →
         OnlyOut D k (M b) x.id → Turns D k (M b) None v → Q y
     shut-out x v id ended q none own turn =
-        out-deed D k (M b) bf None x.id v D.block D.heap D.scrap id q none own (λ w r. absurd (none_some _ ended r)) (none-sent D k (M b) D.scrap) turn (λ f s. s)
+        out-deed D k (M b) bf None x.id v D.block D.heap D.scrap id q none own (λ w r. absurd (none_some _ ended r))
+        (none-sent D k (M b) D.scrap) turn (λ f s. s)
 
     -- one that comes in
     shut-in : {y : sight.Desk} (v u : In) (bl hp : ℕ → ℕ → Option (List ℕ)) (sc : Option sight.Scrap) → want_in v ≡ None →
@@ -316,7 +320,8 @@ module _ (Q : sight.Desk → Type 0) {o : Offers} {e : Edits} (d : Desk) (t : Ta
         inr (not_true c (sym (r c) ∙ a), (kind, let z = inv.ins.room k in omega (arith, z, amount)))
 
     -- an offer: its fetch is sent, or nothing is done
-    save-waits : (x : _) → Ready Q D k (M (body.DataSave x)) → ((v : In) → Has v (D.taking k) → in_id v < m.message.my_ref) → P (perform_take d t (for_save t m))
+    save-waits : (x : _) → Ready Q D k (M (body.DataSave x)) →
+        ((v : In) → Has v (D.taking k) → in_id v < m.message.my_ref) → P (perform_take d t (for_save t m))
     save-waits x bf past =
         elim (save_does d t m is b) as (λ _. P (perform_take d t (for_save t m))) [
           | inl w ↦ begun w
@@ -345,7 +350,8 @@ module _ (Q : sight.Desk → Type 0) {o : Offers} {e : Edits} (d : Desk) (t : Ta
               outs = outs-stay D k (M b) (Some n) (no-out b bf (came-aim b) refl);
               turns = λ h v has. inl has;
               ids = ids-moved D k (M b) (Some n) _ (Fetching f) move (inr (n, (refl, refl)));
-              sends = sends-one b bf D.scrap n (reply-sent b bf D.scrap n refl refl refl unread not-back refl (tells-fetch b refl refl (λ c. refl) n refl refl));
+              sends = sends-one b bf D.scrap n (reply-sent b bf D.scrap n refl refl refl unread not-back refl
+                  (tells-fetch b refl refl (λ c. refl) n refl refl));
               scrap = λ g s. inl s;
             })
 
@@ -510,7 +516,8 @@ module _ (Q : sight.Desk → Type 0) {o : Offers} {e : Edits} (d : Desk) (t : Ta
                     } in
                     in-deed D k (M b) bf (Some n) (In_done q.id q.anchor (length g.bytes)) (Asking q) longer D.heap None v w.0 refl own none-out
                     (λ u e. absurd (none_some None refl e))
-                    (sends-one b bf None n (reply-sent b bf None n refl refl refl unread (λ e. let y : User ≡ Acknowledge = e in (cc)) (sym from) (tells n refl))) gone
+                    (sends-one b bf None n (reply-sent b bf None n refl refl refl unread
+                    (λ e. let y : User ≡ Acknowledge = e in (cc)) (sym from) (tells n refl))) gone
 
             by_file : (v : Option Scrap) → d.scrap ≡ v → P (perform_take d t (Some (receiver.load_for m.message.from m.message.my_ref q)))
             by_file None e = idles (λ g z. absurd (none_some d.scrap e z))
@@ -582,7 +589,8 @@ module _ (Q : sight.Desk → Type 0) {o : Offers} {e : Edits} (d : Desk) (t : Ta
                 meets : Meets D k (M b) y.id
                 meets = meets-one b y w.0 answers from
 
-                turn : (c : Bool) → (sender.next_part a (length S)).is_last ≡ c → Turns D k (M b) (Some (seen_letter (transmit_letter k a (sender.next_part a (length S))) D.next_ref))
+                turn : (c : Bool) → (sender.next_part a (length S)).is_last ≡ c →
+                    Turns D k (M b) (Some (seen_letter (transmit_letter k a (sender.next_part a (length S))) D.next_ref))
                     (if c then Out_done y.id (y.count + (sender.next_part a (length S)).n)
                     else Open (record y { count = y.count + (sender.next_part a (length S)).n; last = D.next_ref }))
                 turn false last = inr meets

@@ -11,4 +11,4 @@ pub mod Progress
 pub mod Renaming
 pub mod Claimed
 pub mod Rest
-pub mod Done
+pub mod SendersDone

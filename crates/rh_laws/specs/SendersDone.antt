@@ -18,7 +18,7 @@ use Rattle.rh_laws.specs.Progress.{NamesAll, rounds_of, work}
 
 -- the last transmit for a record of task r that has a buffer: from task s, in answer to the record's fetch, of fewer bytes than
 -- the buffer has, with which the record counts n
-pub record IsLast (s : ℕ) (r : Task) (n : ℕ) (f : Taking) (p : Parcel) : Type 0 where
+pub record IsFinal (s : ℕ) (r : Task) (n : ℕ) (f : Taking) (p : Parcel) : Type 0 where
   pub code : p.code ≡ User
   pub to : p.to ≡ r.handle
   pub from : p.message.from ≡ s
@@ -32,8 +32,8 @@ pub record IsLast (s : ℕ) (r : Task) (n : ℕ) (f : Taking) (p : Parcel) : Typ
 abbrev pub Matches : Desk → ℕ → Task → ℕ → Incoming → Type 0
 Matches d s r n (incoming.Done id k count) = count ≡ n
 Matches d s r n (incoming.Failed id k count) = Unit {0}
-Matches d s r n (incoming.Fetching f) = (p : Parcel) × (Contains d.post.queued p × IsLast s r n f p)
-Matches d s r n (incoming.Draining f) = (p : Parcel) × (Contains d.post.queued p × IsLast s r n f p)
+Matches d s r n (incoming.Fetching f) = (p : Parcel) × (Contains d.post.queued p × IsFinal s r n f p)
+Matches d s r n (incoming.Draining f) = (p : Parcel) × (Contains d.post.queued p × IsFinal s r n f p)
 Matches d s r n (incoming.Asking q) = ⊥
 
 -- the record says Done with n bytes, or Failed
