@@ -12,8 +12,8 @@ use Rattle.rh_safety.proofs.Sends.{sent_knows, still_is}
 use Rattle.rh_safety.proofs.Sight.{Desk, Scrap, sent, still_held, would_answer}
 use Rattle.rh_laws.proofs.Dones.{AllEnd, Begun, Ends, Final, Matched, IsActive, IsFirst, IsQueued, Silent, ends-map}
 use Rattle.rh_laws.proofs.RefsApart.{Alone, sent-alone}
-use Rattle.rh_laws.proofs.WantDeeds.{Before, Deed, Goes, IsSpent, Last, Meets, Origin, Sends, Turns, new, was}
-use Rattle.rh_laws.proofs.WantEdits.{For, after, answer}
+use Rattle.rh_laws.proofs.WantDeeds.{Before, Deed, Goes, Last, Meets, Origin, Replying, Sends, Turns, new, spent, was}
+use Rattle.rh_laws.proofs.WantEdits.{For, OldId, after, answer}
 use Rattle.rh_laws.proofs.Wants.{HasWant, Want, part, want_in}
 
 -- what is known of the message that task k took: nothing answers it, and no live message has its ref but what the task holds
@@ -36,7 +36,6 @@ pub record Heard (d : Desk) (k : ℕ) (m : Message) : Type 0 where
 -- what holds once the message was taken
 pub record Taken (d : Desk) (k : ℕ) (m : Message) : Type 0 where
   pub alone : Alone d.queue d.held
-  pub silent : (ref : ℕ) → IsLive d.queue d.held ref → Silent d ref
   pub first : IsFirst d
   pub ends : AllEnd (λ y. Has y d.queue ⊎ (m ≡ y)) d
   pub heard : Heard d k m
@@ -82,7 +81,7 @@ module _ (d : Desk) (k : ℕ) (m : Message) (p : Taken d k m) (sd : ℕ → List
       none : IsLive d.queue d.held ref → ⊥
       none live = elim (eqb_tells x.one.last x.one.id) [
         | inl w ↦ h.answers x.unread (subst (IsLive d.queue d.held) (sym same ∙ sym x.id ∙ sym w.1 ∙ sym x.answers) live)
-        | inr w ↦ (p.silent ref live).outs k (Open x.one) x.has (x.id ∙ same, w.1)
+        | inr w ↦ (p.before.silent ref live).outs k (Open x.one) x.has (x.id ∙ same, w.1)
       ]
 
   begun-below : (ref s : ℕ) (v : Out) → Has v (d.sending s) → Begun ref v → ref < d.next_ref
@@ -93,7 +92,7 @@ module _ (d : Desk) (k : ℕ) (m : Message) (p : Taken d k m) (sd : ℕ → List
   begun : (l : Option Message) → Deed d k m l sd tk sc → (ref s : ℕ) (v : Out) → Has v (sd s) → Begun ref v →
       (ref < d.next_ref) × (IsLive d.queue d.held ref → ⊥)
   begun l x ref s v has b = elim (x.turns s v has) [
-    | inl old ↦ (begun-below ref s v old b, λ live. (p.silent ref live).outs s v old b)
+    | inl old ↦ (begun-below ref s v old b, λ live. (p.before.silent ref live).outs s v old b)
     | inr z ↦ by v z.1 b
   ]
     where
@@ -105,36 +104,17 @@ module _ (d : Desk) (k : ℕ) (m : Message) (p : Taken d k m) (sd : ℕ → List
 
   -- ---- no live message is answered
 
-  silent-none : Deed d k m None sd tk sc → (ref : ℕ) → IsLive d.queue d.held ref → Silent (E None) ref
-  silent-none x ref live = let s = p.silent ref live in record {
-    some = s.some;
-    letters = s.letters;
-    ids = λ r v has i. elim (x.ids r v has) [
-      | inl z ↦ s.ids z.0 z.1.0 z.1.1.0 (z.1.1.1 ∙ i)
-      | inr z ↦ absurd (none_some None refl z.1.0)
-    ];
-    outs = λ j v has b. (begun None x ref j v has b).1 live;
-  }
-
-  module _ (n : Message) (x : Deed d k m (Some n) sd tk sc) where
-    s : Sends d k m sc n
-    s = x.sends n refl
-
+  module _ (n : Message) (s : Sends d k m sc n) where
     new-ref : (y : Message) → Has y (n ∷ []) → y.letter.me ≡ d.next_ref
     new-ref y (inl e) = ap (λ (z : Message). z.letter.me) (sym e) ∙ s.me
     new-ref y (inr never) = absurd never
 
-    sent-old : (ref : ℕ) → ref < d.next_ref → IsLive (sent d k n).queue (sent d k n).held ref → IsLive d.queue d.held ref
-    sent-old ref less (IsLive.waits y has me) = elim (Has-append y d.queue (n ∷ []) has) [
-      | inl a ↦ IsLive.waits y a me
-      | inr a ↦ absurd (let z = new-ref y a in omega (arith, z, me, less))
+    sent-live : (ref : ℕ) → IsLive (sent d k n).queue (sent d k n).held ref → (ref ≡ d.next_ref) ⊎ IsLive d.queue d.held ref
+    sent-live ref (IsLive.waits y has me) = elim (Has-append y d.queue (n ∷ []) has) [
+      | inl a ↦ inr (IsLive.waits y a me)
+      | inr a ↦ inl (sym me ∙ new-ref y a)
     ]
-    sent-old ref less (IsLive.rests j y is me) = IsLive.rests j y (still_is d k n.letter.answers j y is) me
-
-    spent : IsSpent d n.letter.answers → IsLive d.queue d.held n.letter.answers → ⊥
-    spent (IsSpent.none z) live = let q = (p.silent n.letter.answers live).some in omega (arith, q, z)
-    spent (IsSpent.named r v has i) live = (p.silent n.letter.answers live).ids r v has i
-    spent (IsSpent.answered l kn a) live = (p.silent n.letter.answers live).letters l kn a
+    sent-live ref (IsLive.rests j y is me) = inr (IsLive.rests j y (still_is d k n.letter.answers j y is) me)
 
     replied : Unread m → n.letter.answers ≡ m.letter.me → IsLive (sent d k n).queue (sent d k n).held n.letter.answers → ⊥
     replied un a (IsLive.waits y has me) = elim (Has-append y d.queue (n ∷ []) has) [
@@ -149,69 +129,87 @@ module _ (d : Desk) (k : ℕ) (m : Message) (p : Taken d k m) (sd : ℕ → List
     -- the message that the letter answers is live no more
     quiet : IsLive (sent d k n).queue (sent d k n).held n.letter.answers → ⊥
     quiet live = elim s.answers [
-      | inl z ↦ spent z (sent-old n.letter.answers s.below live)
+      | inl z ↦ elim (sent-live n.letter.answers live) [
+        | inl now ↦ let b = s.below in omega (arith, now, b)
+        | inr old ↦ spent d n.letter.answers z (p.before.silent n.letter.answers old)
+      ]
       | inr r ↦ replied r.came r.answers live
     ]
 
-    silent-some : (ref : ℕ) → IsLive (E (Some n)).queue (E (Some n)).held ref → Silent (E (Some n)) ref
-    silent-some ref live = elim (leb_tells d.next_ref ref) [
-      | inl w ↦ record {
-        some = let z = p.before.positive in let q = w.1 in omega (arith, z, q);
-        letters = λ l kn e. elim (sent_knows d k n s.from l kn) [
-          | inl c ↦ let z = (p.before.letters l c).1 in let q = w.1 in omega (arith, z, q, e)
-          | inr c ↦ let z = s.below in let q = w.1 in let a = ap (λ (z : Letter). z.answers) c in omega (arith, z, q, e, a)
+  module _ (l : Option Message) (x : Deed d k m l sd tk sc) where
+    -- a letter that is known then
+    knows-after : (a : Letter) → Knows (E l) a → Knows d a ⊎ ((n : Message) × ((l ≡ Some n) × (a ≡ n.letter)))
+    knows-after = by l x
+      where
+        by : (l : Option Message) → Deed d k m l sd tk sc → (a : Letter) → Knows (E l) a → Knows d a ⊎ ((n : Message) × ((l ≡ Some n) × (a ≡ n.letter)))
+        by None x a kn = inl kn
+        by (Some n) x a kn = elim (sent_knows d k n (x.sends n refl).from a kn) [ inl c ↦ inl c | inr c ↦ inr (n, (refl, c)) ]
+
+    -- a ref that is live then is new, or was live and isn't answered
+    live-after : (ref : ℕ) → IsLive (E l).queue (E l).held ref →
+        (ref ≡ d.next_ref) ⊎ (IsLive d.queue d.held ref × ((n : Message) → l ≡ Some n → n.letter.answers ≢ ref))
+    live-after = by l x
+      where
+        by : (l : Option Message) → Deed d k m l sd tk sc → (ref : ℕ) → IsLive (E l).queue (E l).held ref →
+            (ref ≡ d.next_ref) ⊎ (IsLive d.queue d.held ref × ((n : Message) → l ≡ Some n → n.letter.answers ≢ ref))
+        by None x ref live = inr (live, λ n e. absurd (none_some None refl e))
+        by (Some o) x ref live = elim (sent-live o (x.sends o refl) ref live) [
+          | inl now ↦ inl now
+          | inr old ↦ inr (old, λ n e same. let one : o ≡ n = cc in quiet o (x.sends o refl)
+              (subst (IsLive (sent d k o).queue (sent d k o).held) (sym same ∙ ap (λ (z : Message). z.letter.answers) (sym one)) live))
+        ]
+
+    silent-after : (ref : ℕ) → IsLive (E l).queue (E l).held ref → Silent (E l) ref
+    silent-after ref live = elim (live-after ref live) [
+      | inl now ↦ record {
+        some = let z = p.before.positive in omega (arith, z, now);
+        letters = λ a kn e. elim (knows-after a kn) [
+          | inl c ↦ let z = (p.before.letters a c).1 in omega (arith, z, now, e)
+          | inr c ↦ let z = (x.sends c.0 c.1.0).below in let q = ap (λ (y : Letter). y.answers) c.1.1 in omega (arith, z, now, e, q)
         ];
-        ids = λ r v has e. elim (x.ids r v has) [
-          | inl z ↦ let b = p.before.ids z.0 z.1.0 z.1.1.0 in let i = z.1.1.1 in let q = w.1 in omega (arith, b, i, q, e)
-          | inr z ↦ let b = s.below in let i = named_by z.0 z.1.0 (in_id v) z.1.1 in let q = w.1 in omega (arith, b, i, q, e)
+        ids = λ r v has e. elim (ids-after r v has) [
+          | inl z ↦ let b = p.before.ids z.0 z.1.0 z.1.1.0 in let i = z.1.1.1 in omega (arith, b, i, now, e)
+          | inr z ↦ let b = (x.sends z.0 z.1.0).below in let i = z.1.1 in omega (arith, b, i, now, e)
         ];
-        outs = λ j v has b. let z = (begun (Some n) x ref j v has b).0 in let q = w.1 in omega (arith, z, q);
+        outs = λ j v has b. let z = (begun l x ref j v has b).0 in omega (arith, z, now);
       }
-      | inr w ↦ let old = sent-old ref w.1 live in let z = p.silent ref old in record {
-        some = z.some;
-        letters = λ l kn e. elim (sent_knows d k n s.from l kn) [
-          | inl c ↦ z.letters l c e
-          | inr c ↦ quiet (subst (IsLive (sent d k n).queue (sent d k n).held) (sym e ∙ ap (λ (z : Letter). z.answers) c) live)
+      | inr old ↦ let s = p.before.silent ref old.0 in record {
+        some = s.some;
+        letters = λ a kn e. elim (knows-after a kn) [
+          | inl c ↦ s.letters a c e
+          | inr c ↦ old.1 c.0 c.1.0 (ap (λ (y : Letter). y.answers) (sym c.1.1) ∙ e)
         ];
-        ids = λ r v has e. elim (x.ids r v has) [
-          | inl y ↦ z.ids y.0 y.1.0 y.1.1.0 (y.1.1.1 ∙ e)
-          | inr y ↦ quiet (subst (IsLive (sent d k n).queue (sent d k n).held) (sym e ∙ named_by y.0 y.1.0 (in_id v) y.1.1) live)
-        ];
-        outs = λ j v has b. (begun (Some n) x ref j v has b).1 old;
+        ids = λ r v has e. elim (ids-after r v has) [ inl z ↦ s.ids z.0 z.1.0 z.1.1.0 (z.1.1.1 ∙ e) | inr z ↦ old.1 z.0 z.1.0 (sym z.1.1 ∙ e) ];
+        outs = λ j v has b. (begun l x ref j v has b).1 old.0;
       }
     ]
       where
-        named_by : (y : Message) → Some n ≡ Some y → (i : ℕ) → i ≡ y.letter.answers → i ≡ n.letter.answers
-        named_by y e i q = let same : n ≡ y = cc in q ∙ ap (λ (z : Message). z.letter.answers) (sym same)
+        ids-after : (r : ℕ) (v : In) → Has v (tk r) → OldId d l (in_id v)
+        ids-after r v has = x.ids r v has
 
-  -- ---- a record's fetch is its task's first answer
+    -- ---- a record's fetch is its task's first answer
 
-  old-first : (l : Option Message) → Deed d k m l sd tk sc → (r : ℕ) (t : Taking) → Active (d.taking r) t → t.fetch < d.next_ref → (a b : Letter) →
-      Knows (E l) a → Knows (E l) b → b.me ≡ t.fetch → a.from ≡ r → a.answers ≡ b.answers → t.fetch ≤ a.me
-  old-first None x r t act less a b ka kb me from same = p.first r t act a b ka kb me from same
-  old-first (Some n) x r t act less a b ka kb me from same =
-      let s = x.sends n refl in
-      elim (sent_knows d k n s.from a ka) [
-        | inr c ↦ let z = ap (λ (z : Letter). z.me) c in let w = s.me in omega (arith, z, w, less)
-        | inl ca ↦ elim (sent_knows d k n s.from b kb) [
-          | inl cb ↦ p.first r t act a b ca cb me from same
-          | inr c ↦ absurd (let z = ap (λ (z : Letter). z.me) c in let w = s.me in omega (arith, z, w, me, less))
-        ]
+    old-first : (r : ℕ) (t : Taking) → Active (d.taking r) t → t.fetch < d.next_ref → (a b : Letter) → Knows (E l) a → Knows (E l) b → b.me ≡ t.fetch →
+        a.from ≡ r → a.answers ≡ b.answers → t.fetch ≤ a.me
+    old-first r t act less a b ka kb me from same = elim (knows-after a ka) [
+      | inr z ↦ let q = new-letter z in omega (arith, q, less)
+      | inl ca ↦ elim (knows-after b kb) [
+        | inl cb ↦ p.first r t act a b ca cb me from same
+        | inr z ↦ absurd (let q = new-letter z in omega (arith, q, me, less))
       ]
+    ]
+      where
+        new-letter : {c : Letter} → (n : Message) × ((l ≡ Some n) × (c ≡ n.letter)) → c.me ≡ d.next_ref
+        new-letter z = ap (λ (y : Letter). y.me) z.1.1 ∙ (x.sends z.0 z.1.0).me
 
-  new-first : (l : Option Message) → Deed d k m l sd tk sc → (n : Message) → l ≡ Some n → (t : Taking) → t.fetch ≡ d.next_ref → Silent d m.letter.me →
-      n.letter.answers ≡ m.letter.me → (a b : Letter) → Knows (E l) a → Knows (E l) b → b.me ≡ t.fetch → a.answers ≡ b.answers → t.fetch ≤ a.me
-  new-first None x n is t ref mute rep a b ka kb me same = absurd (none_some None refl is)
-  new-first (Some o) x n is t ref mute rep a b ka kb me same =
-      let s = x.sends o refl in
-      let one : o ≡ n = cc in
-      elim (sent_knows d k o s.from a ka) [
-        | inr c ↦ let z = ap (λ (z : Letter). z.me) c in let w = s.me in omega (arith, z, w, ref)
-        | inl ca ↦ elim (sent_knows d k o s.from b kb) [
-          | inl cb ↦ absurd (let z = (p.before.letters b cb).0 in omega (arith, z, me, ref))
-          | inr c ↦ absurd (mute.letters a ca (same ∙ ap (λ (z : Letter). z.answers) c ∙ ap (λ (z : Message). z.letter.answers) one ∙ rep))
-        ]
+    new-first : (t : Taking) → t.fetch ≡ d.next_ref → Silent d m.letter.me → Replying m l → (a b : Letter) → Knows (E l) a → Knows (E l) b → b.me ≡ t.fetch → a.answers ≡ b.answers → t.fetch ≤ a.me
+    new-first t ref mute rep a b ka kb me same = elim (knows-after a ka) [
+      | inr z ↦ let q = ap (λ (y : Letter). y.me) z.1.1 ∙ (x.sends z.0 z.1.0).me in omega (arith, q, ref)
+      | inl ca ↦ elim (knows-after b kb) [
+        | inl cb ↦ absurd (let z = (p.before.letters b cb).0 in omega (arith, z, me, ref))
+        | inr z ↦ absurd (mute.letters a ca (same ∙ ap (λ (y : Letter). y.answers) z.1.1 ∙ rep z.0 z.1.0))
       ]
+    ]
 
   first-after : (l : Option Message) → Deed d k m l sd tk sc → IsFirst (E l)
   first-after l x r t act a b ka kb me from same = by act
@@ -225,13 +223,13 @@ module _ (d : Desk) (k : ℕ) (m : Message) (p : Taken d k m) (sd : ℕ → List
               (HasWant.comes (record { one = w; has = old; wants = active-want w t is; id = refl }))) a b ka kb me from same
           go (new z own now) = goes now.1
             where
-              now-first : Silent d m.letter.me → z.n.letter.answers ≡ m.letter.me → t.fetch ≤ a.me
-              now-first mute rep = new-first l x z.n z.is t z.ref mute rep a b ka kb me same
+              now-first : Silent d m.letter.me → Replying m l → t.fetch ≤ a.me
+              now-first mute rep = new-first l x t z.ref mute rep a b ka kb me same
 
               goes : Goes d k m l w → t.fetch ≤ a.me
-              goes (Goes.begins kind rep same) = now-first (h.mute (λ q. let y : DataSave ≡ DataLoadAck = sym kind ∙ q in (cc))) (rep z.n z.is)
+              goes (Goes.begins kind rep same) = now-first (h.mute (λ q. let y : DataSave ≡ DataLoadAck = sym kind ∙ q in (cc))) rep
               goes (Goes.fills f has_f same kind un from answers le rep) =
-                  now-first (h.mute (λ q. let y : RamTransmit ≡ DataLoadAck = sym kind ∙ q in (cc))) (rep z.n z.is)
+                  now-first (h.mute (λ q. let y : RamTransmit ≡ DataLoadAck = sym kind ∙ q in (cc))) rep
               goes (Goes.asks_file f q asks has_f same kind code own_ref) = absurd (no_ask is)
                 where
                   no_ask : IsActive w t → ⊥
@@ -369,10 +367,8 @@ module _ (d : Desk) (k : ℕ) (m : Message) (p : Taken d k m) (sd : ℕ → List
       by (In_failed j a c) e = subst (Ends (IsQueued (E l)) ((E l).buf r) s r n) (sym e) tt
 
   pub deed-matched : (l : Option Message) → Deed d k m l sd tk sc → Matched (E l)
-  deed-matched None x = record { alone = p.alone; silent = silent-none x; first = first-after None x; ends = ends-after None x }
-  deed-matched (Some n) x = record {
-    alone = sent-alone d k n (x.sends n refl).me old-below p.alone;
-    silent = silent-some n x;
-    first = first-after (Some n) x;
-    ends = ends-after (Some n) x;
-  }
+  deed-matched l x = record { alone = alone-after l x; silent = silent-after l x; first = first-after l x; ends = ends-after l x }
+    where
+      alone-after : (o : Option Message) → Deed d k m o sd tk sc → Alone (E o).queue (E o).held
+      alone-after None y = p.alone
+      alone-after (Some n) y = sent-alone d k n (y.sends n refl).me old-below p.alone

@@ -4,7 +4,7 @@ use Rattle.rh_safety.proofs.Basics.{Has-append, Has-left}
 use Rattle.rh_safety.proofs.Ends.{Asking, Draining, Fetching, In, In_done, In_failed, Message, Out, Out_failed, cancelled, in_id}
 use Rattle.rh_safety.proofs.Invariant.{Rises, Unread}
 use Rattle.rh_safety.proofs.Moves.{Move, at_put, none_left}
-use Rattle.rh_safety.proofs.Posts.{back_has}
+use Rattle.rh_safety.proofs.Posts.{back_has, killed_known, returned_known, started_known}
 use Rattle.rh_safety.proofs.SeenPosts.{with_scrap}
 use Rattle.rh_safety.proofs.Sight.{Desk, Scrap, back, for_others, killed, returned, started}
 use Rattle.rh_laws.proofs.Dones.{Matched, Like, drains, edit-matched, fails, like-id, unchanged}
@@ -26,6 +26,7 @@ pub returned-matched : (d : Desk) (k : ℕ) (o : Option Message) → d.held k �
 returned-matched d k None is f = f
 returned-matched d k (Some m) is f = edit-matched (record {
   on = λ ref. returned-on d k m is (part ref 0 0);
+  knows = returned_known d k m is;
   alone = returned-alone d k (Some m) is f.alone;
   taking = λ r v has. (v, (has, unchanged refl));
   sending = λ s v has. inl has;
@@ -43,6 +44,7 @@ returned-queue d k (Some y) m un has = elim (Has-append m d.queue (back d.live y
 pub killed-matched : (d : Desk) (k : ℕ) (sc : Option Scrap) → Rises d.queue → Matched d → Matched (with_scrap sc (killed d k))
 killed-matched d k sc up f = edit-matched (record {
   on = λ ref. killed-on d k sc (part ref 0 0);
+  knows = killed_known d k;
   alone = killed-alone d k up f.alone;
   taking = λ r v has. (v, (none_left d.taking k r v has, unchanged refl));
   sending = λ s v has. inl (none_left d.sending k s v has);
@@ -56,6 +58,7 @@ killed-matched d k sc up f = edit-matched (record {
 pub started-matched : (d : Desk) (buf : ℕ) (deaf no_fetch : Bool) → Matched d → Matched (started d buf deaf no_fetch)
 started-matched d buf deaf no_fetch f = edit-matched (record {
   on = λ ref. started-on d buf deaf no_fetch (part ref 0 0);
+  knows = started_known d buf deaf no_fetch;
   alone = f.alone;
   taking = λ r v has. (v, (none_left d.taking d.next_handle r v has, unchanged refl));
   sending = λ s v has. inl (none_left d.sending d.next_handle s v has);
@@ -70,12 +73,8 @@ module _ (d : Desk) (sd : ℕ → List Out) (tk : ℕ → List In) where
       ((s : ℕ) (v : Out) → Has v (sd s) → Has v (d.sending s) ⊎ ((i : ℕ) × ((n : ℕ) × (v ≡ Out_failed i n)))) → Matched d →
       Matched (record d { sending = sd; taking = tk })
   records-matched ins outs f = edit-matched (record {
-    on = λ ref. record {
-      queue = λ y has me. Was.in_queue y has refl;
-      held = λ j y is me. Was.in_hand j is;
-      letters = λ l kn a. kn;
-      ids = λ r v has i. let u = ins r v has in (r, (u.0, (u.1.0, sym (like-id u.1.1) ∙ i)));
-    };
+    on = λ ref. record { queue = λ y has me. Was.in_queue y has refl; held = λ j y is me. Was.in_hand j is };
+    knows = λ l kn. kn;
     alone = f.alone;
     taking = ins;
     sending = outs;

@@ -53,22 +53,27 @@ module _ {o : Offers} {e : Edits} (d : Desk) (good : Good o e (view d)) (goes : 
         let z = has-map seen_parcel d.post.queued m there in
         let p : Parcel = z.0 in
         let seen : seen_parcel p ≡ m = z.1.1 in
-        let address : address_in p.message.body ≡ f.buffer = ap (λ (q : Message). q.letter.address) seen ∙ final.address in
-        (p, (contains_of d.post.queued p z.1.0, record {
-          code = ap (λ (q : Message). q.code) seen ∙ final.code;
-          to = ap (λ (q : Message). q.to) seen ∙ final.to ∙ sym (is_equal _ _ (first_is (λ (y : Task). y.handle == r) d.tasks u at_r).1);
-          from = ap (λ (q : Message). q.letter.from) seen ∙ final.from;
-          answers = ap (λ (q : Message). q.letter.answers) seen ∙ final.answers;
-          written = amount_in p.message.body;
-          body = transmit-of p.message.body (ap (λ (q : Message). q.letter.kind) seen ∙ final.kind) ∙
-              ap (λ a. body.RamTransmit a (amount_in p.message.body)) address;
-          short =
-              let less = final.short in
-              let room = field_is (λ y. y.buffer) 1 r d.tasks u at_r in
-              let amount = ap (λ (q : Message). q.letter.amount) seen in
-              omega (arith, less, room, amount);
-          whole = ap (λ (q : Message). f.count + q.letter.amount) seen ∙ final.whole;
-        }))
+        let address : address_in p.message.body ≡ f.buffer = ap (λ (q : Message). q.letter.address) seen ∙ final.address in (
+          p,
+          (
+            contains_of d.post.queued p z.1.0,
+            record {
+              code = ap (λ (q : Message). q.code) seen ∙ final.code;
+              to = ap (λ (q : Message). q.to) seen ∙ final.to ∙ sym (is_equal _ _ (first_is (λ (y : Task). y.handle == r) d.tasks u at_r).1);
+              from = ap (λ (q : Message). q.letter.from) seen ∙ final.from;
+              answers = ap (λ (q : Message). q.letter.answers) seen ∙ final.answers;
+              written = amount_in p.message.body;
+              body = transmit-of p.message.body (ap (λ (q : Message). q.letter.kind) seen ∙ final.kind) ∙
+                  ap (λ a. body.RamTransmit a (amount_in p.message.body)) address;
+              short =
+                  let less = final.short in
+                  let room = field_is (λ y. y.buffer) 1 r d.tasks u at_r in
+                  let amount = ap (λ (q : Message). q.letter.amount) seen in
+                  omega (arith, less, room, amount);
+              whole = ap (λ (q : Message). f.count + q.letter.amount) seen ∙ final.whole;
+            },
+          ),
+        )
 
     matches : Matches d s u n w
     matches = by w refl (goes.matched.ends s id n r w sent taken same)

@@ -3,19 +3,19 @@ use Rattle.rh_laws.proofs.Common.{Active, Has, None, Option, Sending, Some, Taki
 use Rattle.rh_laws.proofs.Common.{subst, sym, true, false}
 use Rattle.rh_laws.proofs.Common.{Edits, Good, Offers, List, ℕ, ◌+◌, ◌∙◌, ◌≡◌, ◌≤◌, ◌⊎◌}
 use Rattle.rh_safety.proofs.Basics.{first_has}
-use Rattle.rh_safety.proofs.Ends.{DataLoadAck, Draining, Fetching, In, Message, Open, Out, Out_done, Out_failed, RamFetch, RamTransmit, Recorded, Returned}
+use Rattle.rh_safety.proofs.Ends.{DataLoadAck, Draining, Fetching, In, Letter, Message, Open, Out, Out_done, Out_failed, RamFetch, RamTransmit, Recorded, Returned}
 use Rattle.rh_safety.proofs.Ends.{first_for, in_id, is_going}
-use Rattle.rh_safety.proofs.Invariant.{IsLive, Known, Unread, Waits}
+use Rattle.rh_safety.proofs.Invariant.{IsLive, Known, Knows, Unread, Waits}
 use Rattle.rh_safety.proofs.Polls.{Waiter, would_tells}
 use Rattle.rh_safety.proofs.Posts.{first_below}
 use Rattle.rh_safety.proofs.SeenPosts.{with_scrap}
 use Rattle.rh_safety.proofs.Sight.{Desk, Scrap, returned, would_answer}
 use Rattle.rh_laws.proofs.DoneDeeds.{Taken}
 use Rattle.rh_laws.proofs.DoneEdits.{returned-queue}
-use Rattle.rh_laws.proofs.Dones.{Matched, Like, edit-first, edit-mute, edit-silent, ends-map, unchanged, was-live}
+use Rattle.rh_laws.proofs.Dones.{Silent, Matched, Like, edit-first, edit-mute, edit-silent, ends-map, unchanged, was-live}
 use Rattle.rh_laws.proofs.RefsApart.{left-apart, picked-alone, picked-hand}
 use Rattle.rh_laws.proofs.WantDeeds.{Before}
-use Rattle.rh_laws.proofs.WantEdits.{Picks, has-without, left_by, picked-on}
+use Rattle.rh_laws.proofs.WantEdits.{Picks, has-without, left_by, picked-letters, picked-on}
 use Rattle.rh_laws.proofs.Wants.{AllWait, Answered, HasWant, Onward, WaitsFor, part}
 
 -- what is known of both ends: a record that comes in is of the recipient, and where that task tells that it loaded the file the
@@ -31,11 +31,28 @@ returned-pairs d k (Some y) p = record { home = p.home; told = λ m has un. p.to
 
 -- ---- the message
 
-module _ {o : Offers} {e : Edits} (d : Desk) (k : ℕ) (m : Message) (first : first_for k d.queue ≡ Some m) (hd : ℕ → Option Message) (sc : Option Scrap)
-    (x : Picks d k m hd) (f : Matched d) (all : AllWait d) (g : Good o e (with_scrap sc d)) (p : Pairs d) where
+module _ (d : Desk) (k : ℕ) (m : Message) (first : first_for k d.queue ≡ Some m) (hd : ℕ → Option Message) (sc : Option Scrap) (x : Picks d k m hd)
+    (f : Matched d) where
   abbrev after_it : Desk
   after_it = left_by d k hd sc
 
+  on : (ref : ℕ) → Onward d after_it (part ref 0 0)
+  on ref = picked-on d k m first hd sc x (part ref 0 0)
+
+  letters : (l : Letter) → Knows after_it l → Knows d l
+  letters = picked-letters d k m first hd sc x
+
+  same_in : (r : ℕ) (v : In) → Has v (d.taking r) → (u : In) × (Has u (d.taking r) × Like u v)
+  same_in r v has = (v, (has, unchanged refl))
+
+  same_out : (s : ℕ) (v : Out) → Has v (d.sending s) → Has v (d.sending s) ⊎ ((i : ℕ) × ((n : ℕ) × (v ≡ Out_failed i n)))
+  same_out s v has = inl has
+
+  pub taken-silent : (ref : ℕ) → IsLive after_it.queue after_it.held ref → Silent after_it ref
+  taken-silent = edit-silent on letters same_in same_out f.silent
+
+module _ {o : Offers} {e : Edits} (d : Desk) (k : ℕ) (m : Message) (first : first_for k d.queue ≡ Some m) (hd : ℕ → Option Message) (sc : Option Scrap)
+    (x : Picks d k m hd) (f : Matched d) (all : AllWait d) (g : Good o e (with_scrap sc d)) (p : Pairs d) where
   here : Has m d.queue
   here = (first_has k d.queue m first).0
 
@@ -101,18 +118,21 @@ module _ {o : Offers} {e : Edits} (d : Desk) (k : ℕ) (m : Message) (first : fi
         by (inl u) = own-live u.live
         by (inr a) = unanswered a
 
-    waiter : (a : Waiter after_it k y m.letter) × (m.letter.me ≡ a.taking.fetch)
+    waiter : (a : Waiter (left_by d k hd sc) k y m.letter) × (m.letter.me ≡ a.taking.fetch)
     unfolding t v
-    waiter = (record {
-      taking = t;
-      is_active = subst (λ j. Active (d.taking j) t) from v.is_active;
-      same_id = v.same_id;
-      sender = v.sender;
-      names = v.names;
-      amount = v.amount ∙ ap d.buf from;
-      newer = v.newer;
-      level = v.level;
-    }, own)
+    waiter = (
+      record {
+        taking = t;
+        is_active = subst (λ j. Active (d.taking j) t) from v.is_active;
+        same_id = v.same_id;
+        sender = v.sender;
+        names = v.names;
+        amount = v.amount ∙ ap d.buf from;
+        newer = v.newer;
+        level = v.level;
+      },
+      own,
+    )
 
   carried : (c : Taking) → Has (Fetching c) (d.taking k) → m.letter.kind ≡ RamTransmit → Unread m → m.letter.from ≡ c.sender → m.letter.answers ≡ c.fetch →
       (s n : ℕ) → Has (Out_done c.id n) (d.sending s) → c.count + m.letter.amount ≤ n
@@ -124,27 +144,17 @@ module _ {o : Offers} {e : Edits} (d : Desk) (k : ℕ) (m : Message) (first : fi
       let whole = b.whole in
       omega (arith, same, fits, whole)
 
-  on : (ref : ℕ) → Onward d after_it (part ref 0 0)
-  on ref = picked-on d k m first hd sc x (part ref 0 0)
-
-  same_in : (r : ℕ) (v : In) → Has v (d.taking r) → (u : In) × (Has u (d.taking r) × Like u v)
-  same_in r v has = (v, (has, unchanged refl))
-
-  same_out : (s : ℕ) (v : Out) → Has v (d.sending s) → Has v (d.sending s) ⊎ ((i : ℕ) × ((n : ℕ) × (v ≡ Out_failed i n)))
-  same_out s v has = inl has
-
-  pub taken-matched : Before after_it k m → Taken after_it k m
+  pub taken-matched : Before (left_by d k hd sc) k m → Taken (left_by d k hd sc) k m
   taken-matched before = record {
     alone = picked-alone d k m first g.inv.order.rises f.alone hd x.mine;
-    silent = edit-silent on same_in same_out f.silent;
-    first = edit-first on same_in same_out f.first;
+    first = edit-first (on d k m first hd sc x f) (letters d k m first hd sc x f) (same_in d k m first hd sc x f) (same_out d k m first hd sc x f) f.first;
     ends = λ s i n r w done has id. ends-map w refl (λ t is y fin q. elim (has-without k d.queue m y first q) [ inl a ↦ inl a | inr a ↦ inr (sym a) ])
         (f.ends s i n r w done has id);
     heard = record {
-      mute = λ kind. edit-mute on same_in same_out (f.silent m.letter.me (IsLive.waits m here refl));
+      mute = λ kind. edit-mute (on d k m first hd sc x f) (letters d k m first hd sc x f) (same_in d k m first hd sc x f) (same_out d k m first hd sc x f) (f.silent m.letter.me (IsLive.waits m here refl));
       queue = left-apart d k m first g.inv.order.rises f.alone;
       hand = λ un. picked-hand d k m first g.inv.order.rises f.alone hd x.mine;
-      answers = λ un live. (f.silent m.letter.answers (was-live (on m.letter.answers) live)).letters m.letter (Known.queued m here refl) refl;
+      answers = λ un live. (f.silent m.letter.answers (was-live (on d k m first hd sc x f m.letter.answers) live)).letters m.letter (Known.queued m here refl) refl;
       waiter = waiter;
       told = λ un kind y has. p.told m here un kind k y has;
       home = λ y r w has. p.home k y r w has;

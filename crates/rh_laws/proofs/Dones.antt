@@ -110,6 +110,7 @@ like-ends P drain fail (Like.fails i a c e g) x = subst P (sym g) (fail i a c)
 -- the messages were there, or came back since; records are as before, or given up
 pub record Edit (d e : Desk) : Type 0 where
   pub on : (ref : ℕ) → Onward d e (part ref 0 0)
+  pub knows : (l : Letter) → Knows e l → Knows d l
   pub alone : Alone e.queue e.held
   pub taking : (r : ℕ) (v : In) → Has v (e.taking r) → (u : In) × (Has u (d.taking r) × Like u v)
   pub sending : (s : ℕ) (v : Out) → Has v (e.sending s) → Has v (d.sending s) ⊎ ((i : ℕ) × ((n : ℕ) × (v ≡ Out_failed i n)))
@@ -127,15 +128,13 @@ pub was-live : {d e : Desk} {ref : ℕ} → Onward d e (part ref 0 0) → IsLive
 was-live on (IsLive.waits m has me) = was-one m me (on.queue m has me)
 was-live on (IsLive.rests j m is me) = was-one m me (on.held j m is me)
 
-module _ {d e : Desk} (on : (ref : ℕ) → Onward d e (part ref 0 0)) (taking : (r : ℕ) (v : In) → Has v (e.taking r) → (u : In) × (Has u (d.taking r) × Like u v))
+module _ {d e : Desk} (on : (ref : ℕ) → Onward d e (part ref 0 0)) (knows : (l : Letter) → Knows e l → Knows d l)
+    (taking : (r : ℕ) (v : In) → Has v (e.taking r) → (u : In) × (Has u (d.taking r) × Like u v))
     (sending : (s : ℕ) (v : Out) → Has v (e.sending s) → Has v (d.sending s) ⊎ ((i : ℕ) × ((n : ℕ) × (v ≡ Out_failed i n)))) where
-  pub was-known : (l : Letter) → Knows e l → Knows d l
-  was-known l kn = (on l.answers).letters l kn refl
-
   pub edit-mute : {ref : ℕ} → Silent d ref → Silent e ref
   edit-mute {ref} x = record {
     some = x.some;
-    letters = λ l kn. x.letters l (was-known l kn);
+    letters = λ l kn. x.letters l (knows l kn);
     ids = λ r v has i. let u = taking r v has in x.ids r u.0 u.1.0 (sym (like-id u.1.1) ∙ i);
     outs = λ s v has b. elim (sending s v has) [ inl z ↦ x.outs s v z b | inr z ↦ subst (Begun ref) z.1.1 b ];
   }
@@ -144,7 +143,7 @@ module _ {d e : Desk} (on : (ref : ℕ) → Onward d e (part ref 0 0)) (taking :
   edit-silent silent ref live = edit-mute (silent ref (was-live (on ref) live))
 
   pub edit-first : IsFirst d → IsFirst e
-  edit-first first r t act l k kn_l kn_k me from same = first r t (old act) l k (was-known l kn_l) (was-known k kn_k) me from same
+  edit-first first r t act l k kn_l kn_k me from same = first r t (old act) l k (knows l kn_l) (knows k kn_k) me from same
     where
       here : (v : In) → Has v (e.taking r) → IsActive v t → Active (d.taking r) t
       here v has is =
@@ -161,8 +160,8 @@ module _ {d e : Desk} (on : (ref : ℕ) → Onward d e (part ref 0 0)) (taking :
 pub edit-matched : {d e : Desk} → Edit d e → Matched d → Matched e
 edit-matched {d} {e} x f = record {
   alone = x.alone;
-  silent = edit-silent x.on x.taking x.sending f.silent;
-  first = edit-first x.on x.taking x.sending f.first;
+  silent = edit-silent x.on x.knows x.taking x.sending f.silent;
+  first = edit-first x.on x.knows x.taking x.sending f.first;
   ends = ends;
 }
   where

@@ -41,11 +41,11 @@ pub mod WorkPolls
 pub mod WorkTurns
 pub mod Wants
 pub mod RefsApart
+pub mod Dones
 pub mod WantEdits
 pub mod WantDeeds
 pub mod WantRecords
 pub mod WantTurns
-pub mod Dones
 pub mod DoneEdits
 pub mod DoneDeeds
 pub mod DonePolls

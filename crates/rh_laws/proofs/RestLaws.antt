@@ -55,7 +55,7 @@ use Rattle.rh_laws.proofs.WantEdits.{returned-waits, started-waits}
 use Rattle.rh_laws.proofs.DoneDeeds.{Taken, deed-matched}
 use Rattle.rh_laws.proofs.DoneEdits.{cancelled-matched, failed-matched, framed-matched, killed-matched, returned-matched, started-matched}
 use Rattle.rh_laws.proofs.DonePairs.{Agreed, pairs, step-agreed}
-use Rattle.rh_laws.proofs.DonePolls.{Pairs, returned-pairs, taken-matched}
+use Rattle.rh_laws.proofs.DonePolls.{Pairs, returned-pairs, taken-matched, taken-silent}
 use Rattle.rh_laws.proofs.Dones.{Matched, Silent, ends-map}
 use Rattle.rh_laws.proofs.RefsApart.{rest-apart}
 use Rattle.rh_laws.proofs.WantDeeds.{Anew, Before, IsSpent, Sends, deed-waits}
@@ -101,10 +101,10 @@ home d h w x = go (task_of h d.tasks) x
 
 -- records and blocks are others, and no message
 calm : {h : ℕ} {w : Want} (d : sight.Desk) (sd : ℕ → List Out) (tk : ℕ → List In) (bl hp : ℕ → ℕ → Option (List ℕ)) (sc : Option sight.Scrap) →
-    OldIds d tk None → KeepsFile d (record d { sending = sd; taking = tk; block = bl; heap = hp; scrap = sc }) → WaitsFor d h w →
+    KeepsFile d (record d { sending = sd; taking = tk; block = bl; heap = hp; scrap = sc }) → WaitsFor d h w →
     WaitsFor (record d { sending = sd; taking = tk; block = bl; heap = hp; scrap = sc }) h w
-calm d sd tk bl hp sc ids keeps (inl u) = inl (quiet-asks d 0 sd tk bl hp sc ids u)
-calm d sd tk bl hp sc ids keeps (inr a) = inr (quiet-told d 0 sd tk bl hp sc a (λ f s load. keeps f s (IsLive.waits a.answer a.queued (sym load))))
+calm d sd tk bl hp sc keeps (inl u) = inl (quiet-asks d 0 sd tk bl hp sc u)
+calm d sd tk bl hp sc keeps (inr a) = inr (quiet-told d 0 sd tk bl hp sc a (λ f s load. keeps f s (IsLive.waits a.answer a.queued (sym load))))
 
 -- the same records
 frame-all : (d : sight.Desk) (bl hp : ℕ → ℕ → Option (List ℕ)) (sc : Option sight.Scrap) → KeepsFile d (record d { block = bl; heap = hp; scrap = sc }) →
@@ -112,7 +112,7 @@ frame-all : (d : sight.Desk) (bl hp : ℕ → ℕ → Option (List ℕ)) (sc : O
 frame-all d bl hp sc keeps = leads (record {
   ins = λ h w i x. x;
   outs = λ h w x. x;
-  waits = λ h w x. calm d d.sending d.taking bl hp sc (λ r v has. inl (r, (v, (has, refl)))) keeps;
+  waits = λ h w x. calm d d.sending d.taking bl hp sc keeps;
 })
 
 -- the refs that records wait by are given
@@ -271,6 +271,7 @@ module _ {o : Offers} {e : Edits} (d : Desk) (t : Task) (fit : Fits d) (is : tas
             refs = refs-below i;
             ids = i.order.in_below;
             positive = i.positive;
+            silent = taken-silent R k M first hd sc x matched;
             alone = λ y has u v. rest-apart k R.queue M y first (subst Rises (lost_queue w.lost R) good-left.inv.order.rises) has u v;
           }
 
@@ -366,18 +367,18 @@ module _ {o : Offers} {e : Edits} (d : Desk) (fit : Fits d) (good : Good o e (vi
     refs = refs-below good.inv;
     ids = good.inv.order.in_below;
     positive = good.inv.positive;
+    silent = goes.matched.silent;
     alone = λ y has u v. absurd (v refl);
   }
     where
       by : (h : ℕ) (w : Want) → WaitsFor V h w → Then V (idler k) h w
-      by h w (inl u) = Then.asking u (λ e. absurd (let z = u.some in omega (arith, z, e)))
+      by h w (inl u) = Then.asking u (λ e. absurd (let z = (goes.matched.silent (ref_of w) u.live).some in omega (arith, z, e)))
       by h w (inr a) = Then.told a
 
   -- it answers nothing, and no record goes on by it
   taken-idler : (k : ℕ) → Taken V k (idler k)
   taken-idler k = record {
     alone = goes.matched.alone;
-    silent = goes.matched.silent;
     first = goes.matched.first;
     ends = λ s i n r w done has id. ends-map w refl (λ t is y fin there. inl there) (goes.matched.ends s i n r w done has id);
     heard = record {
@@ -400,14 +401,14 @@ module _ {o : Offers} {e : Edits} (d : Desk) (fit : Fits d) (good : Good o e (vi
       {y : sight.Desk} → y ≡ sight.sent (record V { sending = sd }) k n → Goes_on y
   sent-all k n sd from me below never outs turns q =
       deed V k (idler k) (ready V k (idler k) (taken-idler k)) (Some n) sd V.taking V.block V.heap V.scrap q (record {
-    fresh = 0;
-    ins = ins-stay V k (idler k) (Some n) 0 (λ w j x f. never-for f);
-    outs = outs;
-    turns = turns;
-    ids = ids-stay V k (idler k) (Some n);
-    sends = λ l e. let same : n ≡ l = cc in subst (Sends V k (idler k) V.scrap) same (record { from = from; me = me; below = below; answers = inl never });
-    scrap = λ f s. inl s;
-  })
+        fresh = 0;
+        ins = ins-stay V k (idler k) (Some n) 0 (λ w j x f. never-for f);
+        outs = outs;
+        turns = turns;
+        ids = ids-stay V k (idler k) (Some n);
+        sends = λ l e. let same : n ≡ l = cc in subst (Sends V k (idler k) V.scrap) same (record { from = from; me = me; below = below; answers = inl never });
+        scrap = λ f s. inl s;
+      })
 
   repeat-stays : (name : List ℕ) → OnGrant Stays (repeat d name)
   unfolding repeat
@@ -495,7 +496,7 @@ module _ {o : Offers} {e : Edits} (d : Desk) (fit : Fits d) (good : Good o e (vi
                 | inl z ↦ record { one = y.one; has = z.0; wants = y.wants }
                 | inr z ↦ absurd (none_some None refl (ap (want_out (V.file h)) (sym z.1) ∙ y.wants))
               ];
-              waits = λ h w y. calm V sd V.taking V.block V.heap V.scrap (λ r v has. inl (r, (v, (has, refl)))) (λ f s l. s);
+              waits = λ h w y. calm V sd V.taking V.block V.heap V.scrap (λ f s l. s);
             }) goes.waits;
           })
 
@@ -543,10 +544,7 @@ module _ {o : Offers} {e : Edits} (d : Desk) (fit : Fits d) (good : Good o e (vi
                 }
               ];
               outs = λ h w y. y;
-              waits = λ h w y. calm V V.sending tk V.block V.heap V.scrap (λ r v there. elim (move r v there) [
-                | inl z ↦ inl (r, (v, (z.0, refl)))
-                | inr z ↦ inl (k, (x, (here, sym (cancelled-id x) ∙ ap in_id (sym z.1))))
-              ]) (λ f s l. s);
+              waits = λ h w y. calm V V.sending tk V.block V.heap V.scrap (λ f s l. s);
             }) goes.waits;
           })
 

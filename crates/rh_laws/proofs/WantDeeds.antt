@@ -7,6 +7,7 @@ use Rattle.rh_safety.proofs.Ends.{Recorded, Returned, Sending, Taking, Asked, in
 use Rattle.rh_safety.proofs.Invariant.{IsLive, Known, Knows, Unread}
 use Rattle.rh_safety.proofs.Sends.{sent_knows, still_is}
 use Rattle.rh_safety.proofs.Sight.{Desk, Scrap, would_answer}
+use Rattle.rh_laws.proofs.Dones.{Silent}
 use Rattle.rh_laws.proofs.Wants.{AllWait, Answered, Asks, HasWant, InWants, Ours, OutWants, Tells, Unanswered, WaitsFor, Want, Wants, peer_of, ref_of}
 use Rattle.rh_laws.proofs.Wants.{want_in}
 use Rattle.rh_laws.proofs.Wants.{want_out}
@@ -83,10 +84,10 @@ pub data IsSpent (d : Desk) (ref : ℕ) : Type 0 where
   named : (r : ℕ) (v : In) → Has v (d.taking r) → in_id v ≡ ref → IsSpent d ref
   answered : (l : Letter) → Knows d l → l.answers ≡ ref → IsSpent d ref
 
-pub spent-apart : (d : Desk) (ref : ℕ) → IsSpent d ref → (h : ℕ) (w : Want) → Unanswered d h w → ref ≢ ref_of w
-spent-apart d ref (none z) h w u e = let s = u.some in omega (arith, s, z, e)
-spent-apart d ref (named r v has i) h w u e = u.ids r v has (i ∙ e)
-spent-apart d ref (answered l kn a) h w u e = u.letters l kn (a ∙ e)
+pub spent : (d : Desk) (ref : ℕ) → IsSpent d ref → Silent d ref → ⊥
+spent d ref (none z) s = let q = s.some in omega (arith, q, z)
+spent d ref (named r v has i) s = s.ids r v has i
+spent d ref (answered l kn a) s = s.letters l kn a
 
 -- the letter is the task's, and answers the message, or a ref that is spent
 pub record Sends (d : Desk) (k : ℕ) (m : Message) (sc : Option Scrap) (l : Message) : Type 0 where
@@ -115,6 +116,7 @@ pub record Before (d : Desk) (k : ℕ) (m : Message) : Type 0 where
   pub refs : (h : ℕ) (w : Want) → Wants d h w → ref_of w < d.next_ref
   pub ids : (h : ℕ) (v : In) → Has v (d.taking h) → in_id v < d.next_ref
   pub positive : 0 < d.next_ref
+  pub silent : (ref : ℕ) → IsLive d.queue d.held ref → Silent d ref
   pub alone : (y : Message) → Has y d.queue → Unread y → Unread m → y.letter.me ≢ m.letter.me
 
 module _ (d : Desk) (k : ℕ) (m : Message) (b : Before d k m) (sd : ℕ → List Out) (tk : ℕ → List In) (bl hp : ℕ → ℕ → Option (List ℕ)) (sc : Option Scrap) where
@@ -129,7 +131,7 @@ module _ (d : Desk) (k : ℕ) (m : Message) (b : Before d k m) (sd : ℕ → Lis
   old-waits None x h w is other = by (b.waits h w is)
     where
       by : Then d m h w → WaitsFor (E None) h w
-      by (Then.asking u own) = inl (quiet-asks d k sd tk bl hp sc x.ids u)
+      by (Then.asking u own) = inl (quiet-asks d k sd tk bl hp sc u)
       by (Then.told a) = inr (quiet-told d k sd tk bl hp sc a (kept-file None x a))
       by (Then.due to f) = absurd (other (sym to ∙ b.to) f)
   old-waits (Some n) x h w is other = by (b.waits h w is)
@@ -141,7 +143,7 @@ module _ (d : Desk) (k : ℕ) (m : Message) (b : Before d k m) (sd : ℕ → Lis
       by (Then.told a) = inr (sent-told d k sd tk bl hp sc n s.from a (kept-file (Some n) x a))
       by (Then.due to f) = absurd (other (sym to ∙ b.to) f)
       by (Then.asking u own) = elim s.answers [
-        | inl z ↦ inl (other-asks (spent-apart d n.letter.answers z h w u))
+        | inl z ↦ inl (other-asks (λ e. spent d n.letter.answers z (subst (Silent d) (sym e) (b.silent (ref_of w) u.live))))
         | inr r ↦ elim (eqb_tells n.letter.answers (ref_of w)) [
           | inl e ↦
               let o = own (sym r.answers ∙ e.1) in
@@ -159,7 +161,7 @@ module _ (d : Desk) (k : ℕ) (m : Message) (b : Before d k m) (sd : ℕ → Lis
       ]
         where
           other-asks : n.letter.answers ≢ ref_of w → Unanswered (E (Some n)) h w
-          other-asks ne = sent-asks d k sd tk bl hp sc n s.from s.me (b.refs h w is) ne x.ids u
+          other-asks ne = sent-asks d k sd tk bl hp sc n s.from s.me (b.refs h w is) ne u
 
   new-waits : (l : Option Message) → Deed d k m l sd tk sc → (h : ℕ) (w : Want) → h ≡ k → Anew d k l w → WaitsFor (E l) h w
   new-waits l x h w own a =
@@ -180,9 +182,6 @@ module _ (d : Desk) (k : ℕ) (m : Message) (b : Before d k m) (sd : ℕ → Lis
       never : {A : Type 0} (y : Message) → Knows d y.letter → y.letter.me ≡ ref_of w → A
       never y kn e = absurd (let z = (b.letters y.letter kn).0 in omega (arith, z, e, now))
 
-      answered : (a : ℕ) → a ≡ n.letter.answers → a ≡ ref_of w → ⊥
-      answered a same_a e = let u = s.below in omega (arith, u, e, now, same_a)
-
       here : Unanswered (E (Some n)) k w
       here = record {
         live = IsLive.waits n (Has-right n d.queue (n ∷ []) (inl refl)) (s.me ∙ sym now);
@@ -191,16 +190,6 @@ module _ (d : Desk) (k : ℕ) (m : Message) (b : Before d k m) (sd : ℕ → Lis
           | inr a ↦ elim a [ inl c ↦ mine y c | inr c ↦ absurd c ]
         ];
         held = λ j y is e. never y (Known.kept j y (still_is d k n.letter.answers j y is) refl) e;
-        some = let p = b.positive in omega (arith, p, now);
-        letters = λ a kn e. elim (sent_knows d k n s.from a kn) [
-          | inl c ↦ let z = (b.letters a c).1 in omega (arith, z, e, now)
-          | inr c ↦ answered a.answers (ap (λ (z : Letter). z.answers) c) e
-        ];
-        ids = λ r v has e. elim (x.ids r v has) [
-          | inl z ↦ let u = b.ids z.0 z.1.0 z.1.1.0 in let i = z.1.1.1 in omega (arith, u, i, e, now)
-          | inr z ↦ let one : Some n ≡ Some z.0 = sym a.is ∙ z.1.0 in let two : n ≡ z.0 = cc in
-              answered (in_id v) (z.1.1 ∙ ap (λ (y : Message). y.letter.answers) (sym two)) e
-        ];
       }
 
   same-file : (l : Option Message) → (E l).file ≡ d.file

@@ -59,8 +59,6 @@ returned-on d k m is w = record {
     | inr a ↦ let z = back_has (d.live m.letter.from) m y a in Was.back_hand k m is z.1 z.0 (back-to (d.live m.letter.from) m y a)
   ];
   held = λ j y e me. Was.in_hand j (unheld d k j y e);
-  letters = λ l kn a. returned_known d k m is l kn;
-  ids = λ r v has i. (r, (v, (has, i)));
 }
 
 pub returned-waits : {h : ℕ} {w : Want} (d : Desk) (k : ℕ) (o : Option Message) → d.held k ≡ o → d.live h ≡ true → WaitsFor d h w →
@@ -186,8 +184,6 @@ module _ (d : Desk) (k : ℕ) (m : Message) (first : first_for k d.queue ≡ Som
   picked-on w = record {
     queue = λ y has me. Was.in_queue y (without_has k d.queue y has) refl;
     held = λ j y is me. elim (x.one j y is) [ inl a ↦ Was.in_hand j a | inr a ↦ Was.in_queue m here (sym a) ];
-    letters = λ l kn a. picked-letters l kn;
-    ids = λ r v has i. (r, (v, (has, i)));
   }
 
   pub picked-waits : {h : ℕ} {w : Want} → KeepsFile d e → WaitsFor d h w → Then e m h w
@@ -261,8 +257,6 @@ killed-on d k sc w = record {
     ]
   ];
   held = λ j y e me. Was.in_hand j (unheld d k j y e);
-  letters = λ l kn a. killed_known d k l kn;
-  ids = λ r v has i. (r, (v, (none_left d.taking k r v has, i)));
 }
 
 pub killed-waits : {h : ℕ} {w : Want} (d : Desk) (k : ℕ) (sc : Option Scrap) → h ≢ k → d.live h ≡ true → KeepsFile d (with_scrap sc (killed d k)) →
@@ -310,8 +304,6 @@ pub started-on : (d : Desk) (buf : ℕ) (deaf no_fetch : Bool) (w : Want) → On
 started-on d buf deaf no_fetch w = record {
   queue = λ y has me. Was.in_queue y has refl;
   held = λ j y is me. Was.in_hand j is;
-  letters = λ l kn a. started_known d buf deaf no_fetch l kn;
-  ids = λ r v has i. (r, (v, (none_left d.taking d.next_handle r v has, i)));
 }
 
 pub started-waits : {h : ℕ} {w : Want} (d : Desk) (buf : ℕ) (deaf no_fetch : Bool) → h ≢ d.next_handle → WaitsFor d h w →
@@ -343,15 +335,10 @@ module _ (d : Desk) (k : ℕ) (sd : ℕ → List Out) (tk : ℕ → List In) (bl
   abbrev pub after : Option Message → Desk
   after l = record (posted d k l) { sending = sd; taking = tk; block = bl; heap = hp; scrap = sc }
 
-  pub quiet-asks : {h : ℕ} {w : Want} → OldIds d tk None → Unanswered d h w → Unanswered (after None) h w
-  quiet-asks ids u = still-asks (same refl refl) (record {
+  pub quiet-asks : {h : ℕ} {w : Want} → Unanswered d h w → Unanswered (after None) h w
+  quiet-asks u = still-asks (same refl refl) (record {
     queue = λ y has me. Was.in_queue y has refl;
     held = λ j y is me. Was.in_hand j is;
-    letters = λ l kn a. kn;
-    ids = λ r v has i. elim (ids r v has) [
-      | inl z ↦ (z.0, (z.1.0, (z.1.1.0, z.1.1.1 ∙ i)))
-      | inr z ↦ absurd (none_some None refl z.1.0)
-    ];
   }) u.live u
 
   pub quiet-told : {h : ℕ} {w : Want} → (a : Answered d h w) → ((f : Scrap) → d.scrap ≡ Some f → f.load ≡ a.answer.letter.me → sc ≡ Some f) →
@@ -364,20 +351,12 @@ module _ (d : Desk) (k : ℕ) (sd : ℕ → List Out) (tk : ℕ → List In) (bl
     sent-told a keeps = still-told (same refl refl) a keeps (Has-left a.answer d.queue (l ∷ []) a.queued)
 
     -- the letter is new, and answers another ref
-    pub sent-asks : {h : ℕ} {w : Want} → l.letter.me ≡ d.next_ref → ref_of w < d.next_ref → l.letter.answers ≢ ref_of w → OldIds d tk (Some l) →
+    pub sent-asks : {h : ℕ} {w : Want} → l.letter.me ≡ d.next_ref → ref_of w < d.next_ref → l.letter.answers ≢ ref_of w →
         Unanswered d h w → Unanswered (after (Some l)) h w
-    sent-asks me below ne ids u = still-asks (same refl refl) (record {
+    sent-asks me below ne u = still-asks (same refl refl) (record {
       queue = λ y has e. elim (Has-append y d.queue (l ∷ []) has) [
         | inl a ↦ Was.in_queue y a refl
         | inr a ↦ elim a [ inl b ↦ absurd (let z = ap (λ (n : Message). n.letter.me) b in omega (arith, z, e, me, below)) | inr b ↦ absurd b ]
       ];
       held = λ j y is e. Was.in_hand j (still_is d k l.letter.answers j y is);
-      letters = λ n kn a. elim (sent_knows d k l from n kn) [
-        | inl b ↦ b
-        | inr b ↦ absurd (ne (ap (λ (z : Letter). z.answers) (sym b) ∙ a))
-      ];
-      ids = λ r v has i. elim (ids r v has) [
-        | inl z ↦ (z.0, (z.1.0, (z.1.1.0, z.1.1.1 ∙ i)))
-        | inr z ↦ absurd (let one : Some l ≡ Some z.0 = z.1.0 in let same : l ≡ z.0 = cc in ne (ap (λ (n : Message). n.letter.answers) same ∙ sym z.1.1 ∙ i))
-      ];
     }) (live_sent k l ne u.live) u

@@ -345,8 +345,10 @@ module _ (Q : sight.Desk → Type 0) {o : Offers} {e : Edits} (d : Desk) (t : Ta
             w.seen (record {
               fresh = f.id;
               ins = ins-moved D k (M b) (Some n) _ (Fetching f) move (λ v j z g. absurd (no-in b bf (came-aim b) refl refl v j z g))
-                  (λ v e. (anew-one b bf n (part D.next_ref m.message.from w.address) refl (refl, (refl, omega arith)) refl refl v e,
-                  Goes.begins refl (replying-one b bf n refl) refl));
+                  (λ v e. (
+                    anew-one b bf n (part D.next_ref m.message.from w.address) refl (refl, (refl, omega arith)) refl refl v e,
+                    Goes.begins refl (replying-one b bf n refl) refl,
+                  ));
               outs = outs-stay D k (M b) (Some n) (no-out b bf (came-aim b) refl);
               turns = λ h v has. inl has;
               ids = ids-moved D k (M b) (Some n) _ (Fetching f) move (inr (n, (refl, refl)));
@@ -594,21 +596,24 @@ module _ (Q : sight.Desk → Type 0) {o : Offers} {e : Edits} (d : Desk) (t : Ta
                     (if c then Out_done y.id (y.count + (sender.next_part a (length S)).n)
                     else Open (record y { count = y.count + (sender.next_part a (length S)).n; last = D.next_ref }))
                 turn false last = inr meets
-                turn true last = (meets, inr (record {
-                  fetch = refl;
-                  would = w.1;
-                  fetches = no_fetch;
-                  lives = lives;
-                  letter = seen_letter (transmit_letter k a (sender.next_part a (length S))) D.next_ref;
-                  is = refl;
-                  code = ap (λ c. if c then User else Recorded) last;
-                  kind = refl;
-                  to = refl;
-                  answers = refl;
-                  address = refl;
-                  short = less-of (sender.next_part a (length S)).n amount last;
-                  whole = refl;
-                }))
+                turn true last = (
+                  meets,
+                  inr (record {
+                    fetch = refl;
+                    would = w.1;
+                    fetches = no_fetch;
+                    lives = lives;
+                    letter = seen_letter (transmit_letter k a (sender.next_part a (length S))) D.next_ref;
+                    is = refl;
+                    code = ap (λ c. if c then User else Recorded) last;
+                    kind = refl;
+                    to = refl;
+                    answers = refl;
+                    address = refl;
+                    short = less-of (sender.next_part a (length S)).n amount last;
+                    whole = refl;
+                  }),
+                )
 
                 id_of : (c : Bool) (p : Part) → out_id (if c then Out_done y.id (p.offset + p.n) else Open
                     (record y { count = p.offset + p.n; last = D.next_ref })) ≡ y.id
@@ -688,8 +693,10 @@ module _ (Q : sight.Desk → Type 0) {o : Offers} {e : Edits} (d : Desk) (t : Ta
                 } in
                 in-deed D k (M b) bf (Some l) (Fetching g) (Fetching f) longer D.heap D.scrap v has refl
                 (same-in b bf (came-aim b) (Fetching f) (part f.fetch f.sender f.buffer) has refl (answers f q)) none-out
-                (λ w e. (anew-one b bf l (part D.next_ref f.sender f.buffer) refl (refl, (refl, omega arith)) refl refl w e,
-                Goes.fills f has refl refl unread (from_of f q) (answers f q) (not-less n (D.buf k) less) (replying-one b bf l refl)))
+                (λ w e. (
+                  anew-one b bf l (part D.next_ref f.sender f.buffer) refl (refl, (refl, omega arith)) refl refl w e,
+                  Goes.fills f has refl refl unread (from_of f q) (answers f q) (not-less n (D.buf k) less) (replying-one b bf l refl),
+                ))
                 (sends-one b bf D.scrap l (reply-sent b bf D.scrap l refl refl refl unread not-back (sym (from_of f q))
                 (tells-fetch b refl refl (λ c. refl) l refl refl))) (λ g s. inl s)
 

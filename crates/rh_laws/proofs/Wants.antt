@@ -86,14 +86,11 @@ pub record Ours (d : Desk) (h : ℕ) (w : Want) (m : Message) : Type 0 where
   pub asks : Asks w (d.buf h) (d.file h) m.letter
   pub way : ((m.code ≡ Recorded) × (m.to ≡ peer_of w)) ⊎ ((m.code ≡ Returned) × (m.to ≡ h))
 
--- each live message of the ref asks for it, there is one, and nothing answers
+-- each live message of the ref asks for it, and there is one: so nothing answers
 pub record Unanswered (d : Desk) (h : ℕ) (w : Want) : Type 0 where
   pub live : IsLive d.queue d.held (ref_of w)
   pub queue : (m : Message) → Has m d.queue → m.letter.me ≡ ref_of w → Ours d h w m
   pub held : (k : ℕ) (m : Message) → d.held k ≡ Some m → m.letter.me ≡ ref_of w → Ours d h w m
-  pub some : 0 < ref_of w
-  pub letters : (l : Letter) → Knows d l → l.answers ≢ ref_of w
-  pub ids : (r : ℕ) (v : In) → Has v (d.taking r) → in_id v ≢ ref_of w
 
 -- an answer is queued
 pub record Answered (d : Desk) (h : ℕ) (w : Want) : Type 0 where
@@ -131,8 +128,6 @@ pub record Same (d e : Desk) (h : ℕ) : Type 0 where
 pub record Onward (d e : Desk) (w : Want) : Type 0 where
   pub queue : (m : Message) → Has m e.queue → m.letter.me ≡ ref_of w → Was d m
   pub held : (k : ℕ) (m : Message) → e.held k ≡ Some m → m.letter.me ≡ ref_of w → Was d m
-  pub letters : (l : Letter) → Knows e l → l.answers ≡ ref_of w → Knows d l
-  pub ids : (r : ℕ) (v : In) → Has v (e.taking r) → in_id v ≡ ref_of w → (s : ℕ) × ((u : In) × (Has u (d.taking s) × (in_id u ≡ ref_of w)))
 
 module _ {d e : Desk} {h : ℕ} {w : Want} (same : Same d e h) where
   ours : (m : Message) → m.letter.me ≡ ref_of w → Unanswered d h w → Was d m → Ours e h w m
@@ -162,9 +157,6 @@ module _ {d e : Desk} {h : ℕ} {w : Want} (same : Same d e h) where
     live = live;
     queue = λ m has me. ours m me u (on.queue m has me);
     held = λ k m is me. ours m me u (on.held k m is me);
-    some = u.some;
-    letters = λ l k a. u.letters l (on.letters l k a) a;
-    ids = λ r v has i. let z = on.ids r v has i in u.ids z.0 z.1.0 z.1.1.0 z.1.1.1;
   }
 
   -- the scrap file stays whose DataLoad is the answer
