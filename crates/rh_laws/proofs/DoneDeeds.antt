@@ -1,19 +1,17 @@
 -- What a message that was handled leaves of transfers whose sender's record says Done.
-use Rattle.rh_laws.proofs.Common.{Active, Ascend, Has, List, None, Option, Sending, Some, Taking, [], ap, arith, eqb_tells, false}
-use Rattle.rh_laws.proofs.Common.{inl, inr}
-use Rattle.rh_laws.proofs.Common.{leb_tells, none_some, out_id, put_same, refl, subst, sym, true, ℕ, ◌++◌, ◌+◌, ◌<◌, ◌∙◌, ◌∷◌, ◌≡◌, ◌≢◌, ◌≤◌, ◌⊎◌}
+use Rattle.rh_laws.proofs.Common.{Active, Ascend, Has, List, None, Option, Sending, Some, Taking, [], ap, arith, eqb_tells, false, inl, inr, none_some, out_id}
+use Rattle.rh_laws.proofs.Common.{put_same, refl, subst, sym, true, ℕ, ◌++◌, ◌+◌, ◌<◌, ◌∙◌, ◌∷◌, ◌≡◌, ◌≢◌, ◌≤◌, ◌⊎◌}
 use Rattle.rh_safety.proofs.Basics.{Has-append, Has-left, Has-right, one_of_id}
-use Rattle.rh_safety.proofs.Ends.{Asking, Kind, DataLoadAck, DataSave, Draining, Fetching, In, In_done, In_failed, Letter, Message, Open, Out, Out_done}
-use Rattle.rh_safety.proofs.Ends.{Out_failed, Plain}
-use Rattle.rh_safety.proofs.Ends.{RamFetch, RamTransmit, Returned, in_id, is_going, put}
+use Rattle.rh_safety.proofs.Ends.{Asking, DataLoadAck, DataSave, Draining, Fetching, In, In_done, In_failed, Kind, Letter, Message, Open, Out, Out_done}
+use Rattle.rh_safety.proofs.Ends.{Out_failed, Plain, RamFetch, RamTransmit, Returned, in_id, is_going, put}
 use Rattle.rh_safety.proofs.Invariant.{IsLive, Known, Knows, Unread}
 use Rattle.rh_safety.proofs.Polls.{Waiter}
 use Rattle.rh_safety.proofs.Sends.{sent_knows, still_is}
 use Rattle.rh_safety.proofs.Sight.{Desk, Scrap, sent, still_held, would_answer}
-use Rattle.rh_laws.proofs.Dones.{AllEnd, Begun, Ends, Final, Matched, IsActive, IsFirst, IsQueued, Silent, ends-map}
+use Rattle.rh_laws.proofs.Dones.{AllEnd, Begun, Ends, Final, IsActive, IsFirst, IsQueued, Matched, Silent, ends-map}
 use Rattle.rh_laws.proofs.RefsApart.{Alone, sent-alone}
 use Rattle.rh_laws.proofs.WantDeeds.{Before, Deed, Goes, Last, Meets, Origin, Replying, Sends, Turns, new, spent, was}
-use Rattle.rh_laws.proofs.WantEdits.{For, OldId, after, answer}
+use Rattle.rh_laws.proofs.WantEdits.{For, after, answer}
 use Rattle.rh_laws.proofs.Wants.{HasWant, Want, part, want_in}
 
 -- what is known of the message that task k took: nothing answers it, and no live message has its ref but what the task holds
@@ -155,8 +153,11 @@ module _ (d : Desk) (k : ℕ) (m : Message) (p : Taken d k m) (sd : ℕ → List
         by None x ref live = inr (live, λ n e. absurd (none_some None refl e))
         by (Some o) x ref live = elim (sent-live o (x.sends o refl) ref live) [
           | inl now ↦ inl now
-          | inr old ↦ inr (old, λ n e same. let one : o ≡ n = cc in quiet o (x.sends o refl)
-              (subst (IsLive (sent d k o).queue (sent d k o).held) (sym same ∙ ap (λ (z : Message). z.letter.answers) (sym one)) live))
+          | inr old ↦ inr (
+            old,
+            λ n e same. let one : o ≡ n = cc in quiet o (x.sends o refl)
+                (subst (IsLive (sent d k o).queue (sent d k o).held) (sym same ∙ ap (λ (z : Message). z.letter.answers) (sym one)) live),
+          )
         ]
 
     silent-after : (ref : ℕ) → IsLive (E l).queue (E l).held ref → Silent (E l) ref
@@ -167,7 +168,7 @@ module _ (d : Desk) (k : ℕ) (m : Message) (p : Taken d k m) (sd : ℕ → List
           | inl c ↦ let z = (p.before.letters a c).1 in omega (arith, z, now, e)
           | inr c ↦ let z = (x.sends c.0 c.1.0).below in let q = ap (λ (y : Letter). y.answers) c.1.1 in omega (arith, z, now, e, q)
         ];
-        ids = λ r v has e. elim (ids-after r v has) [
+        ids = λ r v has e. elim (x.ids r v has) [
           | inl z ↦ let b = p.before.ids z.0 z.1.0 z.1.1.0 in let i = z.1.1.1 in omega (arith, b, i, now, e)
           | inr z ↦ let b = (x.sends z.0 z.1.0).below in let i = z.1.1 in omega (arith, b, i, now, e)
         ];
@@ -179,13 +180,10 @@ module _ (d : Desk) (k : ℕ) (m : Message) (p : Taken d k m) (sd : ℕ → List
           | inl c ↦ s.letters a c e
           | inr c ↦ old.1 c.0 c.1.0 (ap (λ (y : Letter). y.answers) (sym c.1.1) ∙ e)
         ];
-        ids = λ r v has e. elim (ids-after r v has) [ inl z ↦ s.ids z.0 z.1.0 z.1.1.0 (z.1.1.1 ∙ e) | inr z ↦ old.1 z.0 z.1.0 (sym z.1.1 ∙ e) ];
+        ids = λ r v has e. elim (x.ids r v has) [ inl z ↦ s.ids z.0 z.1.0 z.1.1.0 (z.1.1.1 ∙ e) | inr z ↦ old.1 z.0 z.1.0 (sym z.1.1 ∙ e) ];
         outs = λ j v has b. (begun l x ref j v has b).1 old.0;
       }
     ]
-      where
-        ids-after : (r : ℕ) (v : In) → Has v (tk r) → OldId d l (in_id v)
-        ids-after r v has = x.ids r v has
 
     -- ---- a record's fetch is its task's first answer
 
@@ -202,7 +200,8 @@ module _ (d : Desk) (k : ℕ) (m : Message) (p : Taken d k m) (sd : ℕ → List
         new-letter : {c : Letter} → (n : Message) × ((l ≡ Some n) × (c ≡ n.letter)) → c.me ≡ d.next_ref
         new-letter z = ap (λ (y : Letter). y.me) z.1.1 ∙ (x.sends z.0 z.1.0).me
 
-    new-first : (t : Taking) → t.fetch ≡ d.next_ref → Silent d m.letter.me → Replying m l → (a b : Letter) → Knows (E l) a → Knows (E l) b → b.me ≡ t.fetch → a.answers ≡ b.answers → t.fetch ≤ a.me
+    new-first : (t : Taking) → t.fetch ≡ d.next_ref → Silent d m.letter.me → Replying m l → (a b : Letter) → Knows (E l) a → Knows (E l) b →
+        b.me ≡ t.fetch → a.answers ≡ b.answers → t.fetch ≤ a.me
     new-first t ref mute rep a b ka kb me same = elim (knows-after a ka) [
       | inr z ↦ let q = ap (λ (y : Letter). y.me) z.1.1 ∙ (x.sends z.0 z.1.0).me in omega (arith, q, ref)
       | inl ca ↦ elim (knows-after b kb) [

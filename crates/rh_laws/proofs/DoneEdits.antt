@@ -7,7 +7,7 @@ use Rattle.rh_safety.proofs.Moves.{Move, at_put, none_left}
 use Rattle.rh_safety.proofs.Posts.{back_has, killed_known, returned_known, started_known}
 use Rattle.rh_safety.proofs.SeenPosts.{with_scrap}
 use Rattle.rh_safety.proofs.Sight.{Desk, Scrap, back, for_others, killed, returned, started}
-use Rattle.rh_laws.proofs.Dones.{Matched, Like, drains, edit-matched, fails, like-id, unchanged}
+use Rattle.rh_laws.proofs.Dones.{Like, Matched, drains, edit-matched, fails, unchanged}
 use Rattle.rh_laws.proofs.RefsApart.{killed-alone, returned-alone}
 use Rattle.rh_laws.proofs.WantEdits.{has-others, killed-on, returned-on, started-on}
 use Rattle.rh_laws.proofs.Wants.{Was, part}

@@ -1,10 +1,8 @@
 -- Where a sender's record says Done, each record of the transfer has ended or its last transmit is queued, of each desk that a
 -- run reaches.
-use Rattle.rh_laws.proofs.Common.{Body, Desk, Edits, Good, Has, Incoming, List, Offers, Parcel, Some, Taking, Task}
-use Rattle.rh_laws.proofs.Common.{[], action_of, after, after-is}
-use Rattle.rh_laws.proofs.Common.{ap, arith, contains_of, field_is, first_is, has_of, in_id, is_equal, length, refl, same_value, seen_parcel}
-use Rattle.rh_laws.proofs.Common.{start-is}
-use Rattle.rh_laws.proofs.Common.{start_with, subst, sym, task_at, false, view, ℕ, ◌+◌, ◌==◌, ◌∙◌, ◌≡◌}
+use Rattle.rh_laws.proofs.Common.{Body, Desk, Edits, Good, Has, Incoming, List, Offers, Parcel, Some, Taking, Task, [], action_of, after, after-is, ap, arith}
+use Rattle.rh_laws.proofs.Common.{contains_of, false, field_is, first_is, has_of, in_id, is_equal, length, refl, same_value, seen_parcel, start-is, start_with}
+use Rattle.rh_laws.proofs.Common.{subst, sym, task_at, view, ℕ, ◌+◌, ◌==◌, ◌∙◌, ◌≡◌}
 use Rattle.std.specs.List.{Contains}
 use Rattle.rh_defs.specs.declared.message.Action.TheVariants as action
 use Rattle.rh_defs.specs.declared.message.Body.TheVariants as body

@@ -1,9 +1,7 @@
 -- Both ends of a transfer, of each desk that agrees with what was offered and with what was loaded.
-use Rattle.rh_laws.proofs.Common.{Acknowledge, Body, Command, Desk, Edits, EventCode, Fits, Good, Has, Incoming, List, None, Offers, Option}
-use Rattle.rh_laws.proofs.Common.{Parcel, Recorded, Sending, Some}
-use Rattle.rh_laws.proofs.Common.{Task, User, [], action_of, ap, first_is, in_id, is_equal, map, refl, same_value, seen_parcel, step, subst}
-use Rattle.rh_laws.proofs.Common.{sym, task_of, true, view, ◌∷◌}
-use Rattle.rh_laws.proofs.Common.{false, inl, inr, ℕ, ◌==◌, ◌∙◌, ◌≡◌}
+use Rattle.rh_laws.proofs.Common.{Acknowledge, Body, Command, Desk, Edits, EventCode, Fits, Good, Has, Incoming, List, None, Offers, Option, Parcel, Recorded}
+use Rattle.rh_laws.proofs.Common.{Sending, Some, Task, User, [], action_of, ap, false, first_is, in_id, inl, inr, is_equal, map, refl, same_value, seen_parcel}
+use Rattle.rh_laws.proofs.Common.{step, subst, sym, task_of, true, view, ℕ, ◌==◌, ◌∙◌, ◌∷◌, ◌≡◌}
 use Rattle.rh_defs.specs.Records.{is_going}
 use Rattle.rh_defs.specs.declared.message.Action.TheVariants as action
 use Rattle.rh_defs.specs.declared.message.Body.TheVariants as body

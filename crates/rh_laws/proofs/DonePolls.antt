@@ -1,10 +1,9 @@
 -- What holds of transfers whose sender says Done once a poll took a message: the fetch that a record answers is its receiver's own.
-use Rattle.rh_laws.proofs.Common.{Active, Has, None, Option, Sending, Some, Taking, ap, arith, inl, inr, length, refl, same_value}
-use Rattle.rh_laws.proofs.Common.{subst, sym, true, false}
-use Rattle.rh_laws.proofs.Common.{Edits, Good, Offers, List, ℕ, ◌+◌, ◌∙◌, ◌≡◌, ◌≤◌, ◌⊎◌}
+use Rattle.rh_laws.proofs.Common.{Active, Edits, Good, Has, List, None, Offers, Option, Sending, Some, Taking, ap, arith, false, inl, inr, length, refl}
+use Rattle.rh_laws.proofs.Common.{same_value, subst, sym, true, ℕ, ◌+◌, ◌∙◌, ◌≡◌, ◌≢◌, ◌≤◌, ◌⊎◌}
 use Rattle.rh_safety.proofs.Basics.{first_has}
-use Rattle.rh_safety.proofs.Ends.{DataLoadAck, Draining, Fetching, In, Letter, Message, Open, Out, Out_done, Out_failed, RamFetch, RamTransmit, Recorded, Returned}
-use Rattle.rh_safety.proofs.Ends.{first_for, in_id, is_going}
+use Rattle.rh_safety.proofs.Ends.{DataLoadAck, Draining, Fetching, In, Letter, Message, Open, Out, Out_done, Out_failed, RamFetch, RamTransmit, Recorded}
+use Rattle.rh_safety.proofs.Ends.{Returned, first_for, in_id, is_going}
 use Rattle.rh_safety.proofs.Invariant.{IsLive, Known, Knows, Unread, Waits}
 use Rattle.rh_safety.proofs.Polls.{Waiter, would_tells}
 use Rattle.rh_safety.proofs.Posts.{first_below}
@@ -12,7 +11,7 @@ use Rattle.rh_safety.proofs.SeenPosts.{with_scrap}
 use Rattle.rh_safety.proofs.Sight.{Desk, Scrap, returned, would_answer}
 use Rattle.rh_laws.proofs.DoneDeeds.{Taken}
 use Rattle.rh_laws.proofs.DoneEdits.{returned-queue}
-use Rattle.rh_laws.proofs.Dones.{Silent, Matched, Like, edit-first, edit-mute, edit-silent, ends-map, unchanged, was-live}
+use Rattle.rh_laws.proofs.Dones.{IsFirst, Like, Matched, Silent, edit-first, edit-mute, edit-silent, ends-map, unchanged, was-live}
 use Rattle.rh_laws.proofs.RefsApart.{left-apart, picked-alone, picked-hand}
 use Rattle.rh_laws.proofs.WantDeeds.{Before}
 use Rattle.rh_laws.proofs.WantEdits.{Picks, has-without, left_by, picked-letters, picked-on}
@@ -47,6 +46,15 @@ module _ (d : Desk) (k : ℕ) (m : Message) (first : first_for k d.queue ≡ Som
 
   same_out : (s : ℕ) (v : Out) → Has v (d.sending s) → Has v (d.sending s) ⊎ ((i : ℕ) × ((n : ℕ) × (v ≡ Out_failed i n)))
   same_out s v has = inl has
+
+  mute : {ref : ℕ} → Silent d ref → Silent after_it ref
+  mute s = edit-mute on letters same_in same_out s
+
+  first-after : IsFirst after_it
+  first-after = edit-first on letters same_in same_out f.first
+
+  unread-answer : (ref : ℕ) → IsLive after_it.queue after_it.held ref → m.letter.answers ≢ ref
+  unread-answer ref live = (f.silent ref (was-live (on ref) live)).letters m.letter (Known.queued m (first_has k d.queue m first).0 refl)
 
   pub taken-silent : (ref : ℕ) → IsLive after_it.queue after_it.held ref → Silent after_it ref
   taken-silent = edit-silent on letters same_in same_out f.silent
@@ -147,14 +155,14 @@ module _ {o : Offers} {e : Edits} (d : Desk) (k : ℕ) (m : Message) (first : fi
   pub taken-matched : Before (left_by d k hd sc) k m → Taken (left_by d k hd sc) k m
   taken-matched before = record {
     alone = picked-alone d k m first g.inv.order.rises f.alone hd x.mine;
-    first = edit-first (on d k m first hd sc x f) (letters d k m first hd sc x f) (same_in d k m first hd sc x f) (same_out d k m first hd sc x f) f.first;
+    first = first-after d k m first hd sc x f;
     ends = λ s i n r w done has id. ends-map w refl (λ t is y fin q. elim (has-without k d.queue m y first q) [ inl a ↦ inl a | inr a ↦ inr (sym a) ])
         (f.ends s i n r w done has id);
     heard = record {
-      mute = λ kind. edit-mute (on d k m first hd sc x f) (letters d k m first hd sc x f) (same_in d k m first hd sc x f) (same_out d k m first hd sc x f) (f.silent m.letter.me (IsLive.waits m here refl));
+      mute = λ kind. mute d k m first hd sc x f (f.silent m.letter.me (IsLive.waits m here refl));
       queue = left-apart d k m first g.inv.order.rises f.alone;
       hand = λ un. picked-hand d k m first g.inv.order.rises f.alone hd x.mine;
-      answers = λ un live. (f.silent m.letter.answers (was-live (on d k m first hd sc x f m.letter.answers) live)).letters m.letter (Known.queued m here refl) refl;
+      answers = λ un live. unread-answer d k m first hd sc x f m.letter.answers live refl;
       waiter = waiter;
       told = λ un kind y has. p.told m here un kind k y has;
       home = λ y r w has. p.home k y r w has;

@@ -1,7 +1,6 @@
 -- A worked run whose sender says Done before its receiver does, and a sender that says so too soon, of which done_law fails.
 use Rattle.rh_laws.proofs.Common.{Desk, EventCode, Has, Incoming, List, None, Option, Outgoing, Parcel, Recorded, Some, String, Task, User, [], after, ap}
-use Rattle.rh_laws.proofs.Common.{contains_of, fresh}
-use Rattle.rh_laws.proofs.Common.{hex_on_literals, inl, inr, map, refl, script, subst, sym, task_at, with_sending, ◌++◌, ◌∙◌, ◌∷◌, ◌≡◌}
+use Rattle.rh_laws.proofs.Common.{contains_of, fresh, hex_on_literals, inl, inr, map, refl, script, subst, sym, task_at, with_sending, ◌++◌, ◌∙◌, ◌∷◌, ◌≡◌}
 use Rattle.rh_safety.proofs.Basics.{has_of}
 use Rattle.rh_defs.specs.Script
 use Rattle.rh_defs.specs.declared.transfer.Incoming.TheVariants as incoming

@@ -1,8 +1,6 @@
 -- What becomes of a transfer whose sender's record says Done: no live message is answered, a record's fetch is the first that
 -- its task sent in answer, and each record of the transfer has ended or has its last transmit in the queue.
-use Rattle.rh_laws.proofs.Common.{Active, Has, Taking, ap, inl, inr, refl, subst, sym, ℕ, ◌+◌, ◌<◌, ◌∙◌}
-use Rattle.rh_laws.proofs.Common.{◌≡◌, ◌≢◌, ◌≤◌}
-use Rattle.rh_laws.proofs.Common.{◌⊎◌}
+use Rattle.rh_laws.proofs.Common.{Active, Has, Taking, ap, inl, inr, refl, subst, sym, ℕ, ◌+◌, ◌<◌, ◌∙◌, ◌≡◌, ◌≢◌, ◌≤◌, ◌⊎◌}
 use Rattle.rh_safety.proofs.Ends.{Asking, Draining, Fetching, In, In_done, In_failed, Letter, Message, Open, Out, Out_done, Out_failed, Plain, RamTransmit}
 use Rattle.rh_safety.proofs.Ends.{in_id}
 use Rattle.rh_safety.proofs.Invariant.{IsLive, Knows}

@@ -1,8 +1,7 @@
 -- No two live messages have one ref, as it is seen: what is held differs from what is queued and from what other tasks hold,
 -- and what came back differs from what is unread. (Unread messages that are queued have rising refs.)
-use Rattle.rh_laws.proofs.Common.{Bool, Has, List, None, Option, Some, [], ap, arith, eqb_tells, false, inl, inr, none_some}
-use Rattle.rh_laws.proofs.Common.{put_same, refl, subst, sym}
-use Rattle.rh_laws.proofs.Common.{ℕ, ◌++◌, ◌<◌, ◌∙◌, ◌∷◌, ◌≡◌, ◌≢◌, ◌⊎◌}
+use Rattle.rh_laws.proofs.Common.{Bool, Has, List, None, Option, Some, [], ap, arith, eqb_tells, false, inl, inr, none_some, put_same, refl, subst, sym, ℕ}
+use Rattle.rh_laws.proofs.Common.{◌++◌, ◌<◌, ◌∙◌, ◌∷◌, ◌≡◌, ◌≢◌, ◌⊎◌}
 use Rattle.rh_safety.proofs.Basics.{Has-append, first_has, without_has}
 use Rattle.rh_safety.proofs.Ends.{Code, Letter, Message, Plain, Recorded, Returned, first_for, put, without_first}
 use Rattle.rh_safety.proofs.Invariant.{IsLive, Rises, Unread}

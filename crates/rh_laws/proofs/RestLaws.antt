@@ -3,11 +3,10 @@ use Rattle.rh_laws.proofs.Common.{Acknowledge, AllByRecursion, Answer, Bool, Cha
 use Rattle.rh_laws.proofs.Common.{NotOpen, NothingSent, Ok, OnGrant, Option, Parcel, Post, Recorded, Scrap, Seat, Sending, Some, Task, [], after, after-is}
 use Rattle.rh_laws.proofs.Common.{all_in_range, and_left, and_right, answers_none, ap, arith, cancel_in, cancel_out, change, eq-eqb, eqb_tells, false, field_is}
 use Rattle.rh_laws.proofs.Common.{find, first_is, fits, found_or, free_pages, granted, granted-on, granted-past, granted-then, handled, has_of, held_by}
-use Rattle.rh_laws.proofs.Common.{if◌then◌else◌, in_id, in_range, in_slot, inl, inr, is_equal, is_found, is_open}
-use Rattle.rh_laws.proofs.Common.{keeps, kill, length, live_of, make, map, named, next_ref, none_some, not, open_of, option_map, or_else-keeps, out_id, poll}
-use Rattle.rh_laws.proofs.Common.{poll_taken, post_poll, put_other, put_same, refl, repeat, save, send_letter, start-is, start_task, start_with, step}
-use Rattle.rh_laws.proofs.Common.{step-keeps, subst, sym, task_of, the_task, true, view, with_delivered, with_id, with_sending, with_taking, ℕ, ◌&&◌, ◌<◌, ◌==◌}
-use Rattle.rh_laws.proofs.Common.{◌∙◌, ◌∷◌, ◌≡◌, ◌≢◌}
+use Rattle.rh_laws.proofs.Common.{if◌then◌else◌, in_id, in_range, in_slot, inl, inr, is_equal, is_found, is_open, keeps, kill, length, live_of, make, map}
+use Rattle.rh_laws.proofs.Common.{named, next_ref, none_some, not, open_of, option_map, or_else-keeps, out_id, poll, poll_taken, post_poll, put_other, put_same}
+use Rattle.rh_laws.proofs.Common.{refl, repeat, save, send_letter, start-is, start_task, start_with, step, step-keeps, subst, sym, task_of, the_task, true}
+use Rattle.rh_laws.proofs.Common.{view, with_delivered, with_id, with_sending, with_taking, ℕ, ◌&&◌, ◌<◌, ◌==◌, ◌∙◌, ◌∷◌, ◌≡◌, ◌≢◌}
 use Rattle.rh_defs.specs.declared.command.Command.TheVariants as command
 use Rattle.rh_defs.specs.declared.message.Action.TheVariants as action
 use Rattle.rh_defs.specs.Records.{is_going, is_meant, most_records}
@@ -50,7 +49,7 @@ use Rattle.rh_laws.specs.Progress.{IsAtRest, rounds_of}
 use Rattle.rh_laws.specs.Rest.{AlwaysSettles, IsOffered, IsSettled}
 use Rattle.rh_laws.proofs.ProgressLaws.{always-progresses}
 use Rattle.rh_laws.proofs.Wants.{AllWait, HasWant, InWants, OutWants, WaitsFor, Want, Wants, is_sent, ref_of, reply, want_in, want_out}
-use Rattle.rh_laws.proofs.WantEdits.{For, KeepsFile, OldIds, Picks, Then, answer, killed-waits, left_by, own_back, picked-waits, picks, quiet-asks, quiet-told}
+use Rattle.rh_laws.proofs.WantEdits.{For, KeepsFile, Picks, Then, answer, killed-waits, left_by, own_back, picked-waits, picks, quiet-asks, quiet-told}
 use Rattle.rh_laws.proofs.WantEdits.{returned-waits, started-waits}
 use Rattle.rh_laws.proofs.DoneDeeds.{Taken, deed-matched}
 use Rattle.rh_laws.proofs.DoneEdits.{cancelled-matched, failed-matched, framed-matched, killed-matched, returned-matched, started-matched}
@@ -60,8 +59,7 @@ use Rattle.rh_laws.proofs.Dones.{Matched, Silent, ends-map}
 use Rattle.rh_laws.proofs.RefsApart.{rest-apart}
 use Rattle.rh_laws.proofs.WantDeeds.{Anew, Before, IsSpent, Sends, deed-waits}
 use Rattle.rh_laws.proofs.WantRecords.{InWant, OutsOf, Ready, TurnsOf, asks-fits, by_ask, by_drain, by_fetch, deed, ids-stay, in-want, ins-stay, out-want}
-use Rattle.rh_laws.proofs.WantRecords.{outs-moved}
-use Rattle.rh_laws.proofs.WantRecords.{outs-stay, turns-moved, un}
+use Rattle.rh_laws.proofs.WantRecords.{outs-moved, outs-stay, turns-moved, un}
 use Rattle.rh_laws.proofs.WantTurns.{handled-waits}
 
 -- each record waits, and those of transfers whose sender says Done end

@@ -1,15 +1,14 @@
 -- What a message that a task handles may make of the records, the post and the scrap file, and that each record waits after it.
-use Rattle.rh_laws.proofs.Common.{Bool, Has, List, None, Option, Some, [], ap, arith, eqb_tells, inl, inr, refl, subst, sym, true, false, ℕ, ◌+◌, ◌<◌, ◌∙◌}
-use Rattle.rh_laws.proofs.Common.{◌∷◌, ◌≡◌, ◌≢◌, ◌≤◌, ◌⊎◌}
+use Rattle.rh_laws.proofs.Common.{Bool, Has, List, None, Option, Some, [], ap, arith, eqb_tells, false, inl, inr, refl, subst, sym, true, ℕ, ◌+◌, ◌<◌, ◌∙◌, ◌∷◌}
+use Rattle.rh_laws.proofs.Common.{◌≡◌, ◌≢◌, ◌≤◌, ◌⊎◌}
 use Rattle.rh_safety.proofs.Basics.{Has-append, Has-right}
-use Rattle.rh_safety.proofs.Ends.{Asking, DataLoadAck, DataSave, Fetching, In, Letter, Message, Open, Out, Out_done, Out_failed, Plain, RamFetch, RamTransmit}
-use Rattle.rh_safety.proofs.Ends.{Recorded, Returned, Sending, Taking, Asked, in_id}
+use Rattle.rh_safety.proofs.Ends.{Asked, Asking, DataLoadAck, DataSave, Fetching, In, Letter, Message, Open, Out, Out_done, Out_failed, Plain, RamFetch}
+use Rattle.rh_safety.proofs.Ends.{RamTransmit, Recorded, Returned, Sending, Taking, in_id}
 use Rattle.rh_safety.proofs.Invariant.{IsLive, Known, Knows, Unread}
-use Rattle.rh_safety.proofs.Sends.{sent_knows, still_is}
+use Rattle.rh_safety.proofs.Sends.{still_is}
 use Rattle.rh_safety.proofs.Sight.{Desk, Scrap, would_answer}
 use Rattle.rh_laws.proofs.Dones.{Silent}
-use Rattle.rh_laws.proofs.Wants.{AllWait, Answered, Asks, HasWant, InWants, Ours, OutWants, Tells, Unanswered, WaitsFor, Want, Wants, peer_of, ref_of}
-use Rattle.rh_laws.proofs.Wants.{want_in}
+use Rattle.rh_laws.proofs.Wants.{AllWait, Answered, Asks, HasWant, InWants, Ours, OutWants, Tells, Unanswered, WaitsFor, Want, Wants, peer_of, ref_of, want_in}
 use Rattle.rh_laws.proofs.Wants.{want_out}
 use Rattle.rh_laws.proofs.WantEdits.{For, OldIds, Then, after, quiet-asks, quiet-told, sent-asks, sent-told}
 

@@ -1,17 +1,14 @@
 -- What records wait for while messages are sent, go back and are taken, and while tasks begin and end.
-use Rattle.rh_laws.proofs.Common.{Bool, Has, List, None, Option, Some, [], ap, arith, eqb_tells, false, if◌then◌else◌, inl, inr, none_some, put_other}
-use Rattle.rh_laws.proofs.Common.{put_same}
+use Rattle.rh_laws.proofs.Common.{Bool, Has, List, None, Option, Some, [], ap, arith, eqb_tells, false, if◌then◌else◌, inl, inr, none_some, put_other, put_same}
 use Rattle.rh_laws.proofs.Common.{refl, subst, sym, true, ℕ, ◌++◌, ◌<◌, ◌==◌, ◌∙◌, ◌∷◌, ◌≡◌, ◌≢◌, ◌⊎◌}
 use Rattle.rh_safety.proofs.Basics.{Has-append, Has-left, Has-right, first_has, without_has}
 use Rattle.rh_safety.proofs.Ends.{Code, In, Letter, Message, Out, Plain, Recorded, Returned, first_for, in_id, put, without_first}
 use Rattle.rh_safety.proofs.Filings.{live_sent}
 use Rattle.rh_safety.proofs.Invariant.{IsLive, Knows, Unread}
-use Rattle.rh_safety.proofs.Moves.{none_left}
 use Rattle.rh_safety.proofs.Polls.{put_one}
-use Rattle.rh_safety.proofs.Posts.{OneMore, back_has, back_held_codes, back_held_has, bounced_codes, bounced_has, for_others_has, killed_known, picked_known}
-use Rattle.rh_safety.proofs.Posts.{returned_known, started_known, unheld}
+use Rattle.rh_safety.proofs.Posts.{OneMore, back_has, back_held_codes, back_held_has, bounced_codes, bounced_has, for_others_has, picked_known, unheld}
 use Rattle.rh_safety.proofs.SeenPosts.{with_scrap}
-use Rattle.rh_safety.proofs.Sends.{sent_knows, still_is}
+use Rattle.rh_safety.proofs.Sends.{still_is}
 use Rattle.rh_safety.proofs.Sight.{Desk, Scrap, back, back_held, back_if_recorded, bounced_for, for_others, killed, picked, returned, sent, started}
 use Rattle.rh_laws.proofs.RefsApart.{Holds}
 use Rattle.rh_laws.proofs.Wants.{Answered, Asks, Onward, Same, Tells, Unanswered, WaitsFor, Want, Was, file, part, peer_of, ref_of, reply, still-asks}

@@ -2,10 +2,9 @@
 use Rattle.rh_laws.proofs.Common.{Acknowledge, Active, Asked, Body, Bool, Desk, EventCode, Handled, Has, List, None, Option, Parcel, Recorded, Scrap, Sending}
 use Rattle.rh_laws.proofs.Common.{Some, TakeAction, Taking, Task, Transmit, User, [], ack_back, action_of, active_of, and_left, and_right, answers_none, ap}
 use Rattle.rh_laws.proofs.Common.{arith, asking_is, asking_of, came, came_back, either, eq-eqb, eqb_tells, fail_sending, false, field_is, handled}
-use Rattle.rh_laws.proofs.Common.{if◌then◌else◌, ignored, in_id, inl, inr, is_equal, leb_yes, length, live_of, nat_eq, nat_le, nat_lt, none_some, not}
-use Rattle.rh_laws.proofs.Common.{open_is}
-use Rattle.rh_laws.proofs.Common.{open_of, option_map, out_id, perform_send, perform_take, refl, same_value, subst, sym, take_with, task_of, true, view, ℕ}
-use Rattle.rh_laws.proofs.Common.{leb_tells, suc, ◌&&◌, ◌++◌, ◌+◌, ◌<◌, ◌∙◌, ◌≡◌, ◌≢◌, ◌≤◌, ◌⊎◌}
+use Rattle.rh_laws.proofs.Common.{if◌then◌else◌, ignored, in_id, inl, inr, is_equal, leb_tells, leb_yes, length, live_of, nat_eq, nat_le, nat_lt, none_some}
+use Rattle.rh_laws.proofs.Common.{not, open_is, open_of, option_map, out_id, perform_send, perform_take, refl, same_value, subst, suc, sym, take_with, task_of}
+use Rattle.rh_laws.proofs.Common.{true, view, ℕ, ◌&&◌, ◌++◌, ◌+◌, ◌<◌, ◌∙◌, ◌≡◌, ◌≢◌, ◌≤◌, ◌⊎◌}
 use Rattle.rh_defs.specs.declared.message.Action.TheVariants as action
 use Rattle.rh_defs.specs.declared.message.Body.TheVariants as body
 use Rattle.rh_defs.specs.declared.transfer_action.SendAction.TheVariants as send_action
@@ -32,10 +31,9 @@ use Rattle.rh_safety.proofs.View.{seen_letter, seen_scrap}
 use Rattle.rh_laws.proofs.Wants.{Asks, InWants, Tells, Want, file, is_sent, part, peer_of, ref_of, reply, want_in, want_out}
 use Rattle.rh_laws.proofs.WantEdits.{For, answer, own_back}
 use Rattle.rh_laws.proofs.WantDeeds.{Anew, Goes, IsSpent, Meets, Replying, Sends, Turns}
-use Rattle.rh_laws.proofs.WantRecords.{InWant, NoneIn, NoneOut, OnlyIn, OnlyOut, Ready, active-none, asking-none, asks-fits, by_ask, by_drain, by_fetch}
-use Rattle.rh_laws.proofs.WantRecords.{deed, files}
-use Rattle.rh_laws.proofs.WantRecords.{fits, idle, ids-moved, in-deed, in-want, ins-moved, none-sent, out-deed, out-want, outs-stay, parts, replies, sort_of}
-use Rattle.rh_laws.proofs.WantRecords.{tells-fits, un}
+use Rattle.rh_laws.proofs.WantRecords.{InWant, NoneIn, NoneOut, OnlyIn, OnlyOut, Ready, active-none, asking-none, asks-fits, by_ask, by_drain, by_fetch, deed}
+use Rattle.rh_laws.proofs.WantRecords.{files, fits, idle, ids-moved, in-deed, in-want, ins-moved, none-sent, out-deed, out-want, outs-stay, parts, replies}
+use Rattle.rh_laws.proofs.WantRecords.{sort_of, tells-fits, un}
 
 less-of : (a b : ℕ) → nat_lt a b ≡ true → a < b
 less-of a b e = elim (leb_tells (suc a) b) [ inl w ↦ w.1 | inr w ↦ absurd (let z = w.0 in (cc)) ]

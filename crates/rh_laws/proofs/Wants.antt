@@ -1,10 +1,9 @@
 -- What a record waits for: a message of its task that is live and unanswered, or the answer to it, which is queued.
-use Rattle.rh_laws.proofs.Common.{Bool, Has, List, None, Option, Some, ap, false, if◌then◌else◌, inr, not, refl, subst, sym, true, ℕ, ◌&&◌, ◌<◌, ◌==◌, ◌∙◌}
-use Rattle.rh_laws.proofs.Common.{◌≡◌}
-use Rattle.rh_laws.proofs.Common.{◌≢◌, ◌≤◌, ◌⊎◌}
+use Rattle.rh_laws.proofs.Common.{Bool, Has, List, None, Option, Some, ap, false, if◌then◌else◌, inr, not, refl, subst, sym, true, ℕ, ◌&&◌, ◌==◌, ◌∙◌, ◌≡◌, ◌≤◌}
+use Rattle.rh_laws.proofs.Common.{◌⊎◌}
 use Rattle.rh_safety.proofs.Ends.{Asking, DataLoad, DataLoadAck, DataSave, DataSaveAck, Draining, Fetching, In, Kind, Letter, Message, Open, Out, RamFetch}
 use Rattle.rh_safety.proofs.Ends.{RamTransmit, Recorded, Returned, in_id}
-use Rattle.rh_safety.proofs.Invariant.{IsLive, Knows, Unread}
+use Rattle.rh_safety.proofs.Invariant.{IsLive, Unread}
 use Rattle.rh_safety.proofs.Sight.{Desk, Scrap}
 
 -- bytes in a buffer, a file, or what follows on an open record's last message: by the ref of the record's own message, and
