@@ -9,7 +9,6 @@ use Rattle.rh_safety.proofs.Polls.{Waiter}
 use Rattle.rh_safety.proofs.Sends.{sent_knows, still_is}
 use Rattle.rh_safety.proofs.Sight.{Desk, Scrap, sent, still_held, would_answer}
 use Rattle.rh_laws.proofs.Dones.{AllEnd, Begun, Ends, Final, IsActive, IsFirst, IsQueued, Matched, Silent, ends-map}
-use Rattle.rh_laws.proofs.RefsApart.{Alone, sent-alone}
 use Rattle.rh_laws.proofs.WantDeeds.{Before, Deed, Goes, Last, Meets, Origin, Replying, Sends, Turns, new, spent, was}
 use Rattle.rh_laws.proofs.WantEdits.{For, after, answer}
 use Rattle.rh_laws.proofs.Wants.{HasWant, Want, part, want_in}
@@ -33,7 +32,6 @@ pub record Heard (d : Desk) (k : ℕ) (m : Message) : Type 0 where
 
 -- what holds once the message was taken
 pub record Taken (d : Desk) (k : ℕ) (m : Message) : Type 0 where
-  pub alone : Alone d.queue d.held
   pub first : IsFirst d
   pub ends : AllEnd (λ y. Has y d.queue ⊎ (m ≡ y)) d
   pub heard : Heard d k m
@@ -67,10 +65,6 @@ module _ (d : Desk) (k : ℕ) (m : Message) (p : Taken d k m) (sd : ℕ → List
 
   h : Heard d k m
   h = p.heard
-
-  old-below : (ref : ℕ) → IsLive d.queue d.held ref → ref < d.next_ref
-  old-below ref (IsLive.waits y has me) = let z = (p.before.letters y.letter (Known.queued y has refl)).0 in omega (arith, z, me)
-  old-below ref (IsLive.rests j y is me) = let z = (p.before.letters y.letter (Known.kept j y is refl)).0 in omega (arith, z, me)
 
   -- an id that the message makes known as answered
   meets-spent : (i ref : ℕ) → Meets d k m i → i ≡ ref → (ref < d.next_ref) × (IsLive d.queue d.held ref → ⊥)
@@ -366,8 +360,4 @@ module _ (d : Desk) (k : ℕ) (m : Message) (p : Taken d k m) (sd : ℕ → List
       by (In_failed j a c) e = subst (Ends (IsQueued (E l)) ((E l).buf r) s r n) (sym e) tt
 
   pub deed-matched : (l : Option Message) → Deed d k m l sd tk sc → Matched (E l)
-  deed-matched l x = record { alone = alone-after l x; silent = silent-after l x; first = first-after l x; ends = ends-after l x }
-    where
-      alone-after : (o : Option Message) → Deed d k m o sd tk sc → Alone (E o).queue (E o).held
-      alone-after None y = p.alone
-      alone-after (Some n) y = sent-alone d k n (y.sends n refl).me old-below p.alone
+  deed-matched l x = record { silent = silent-after l x; first = first-after l x; ends = ends-after l x }

@@ -2,20 +2,18 @@
 use Rattle.rh_laws.proofs.Common.{Bool, Has, List, None, Option, Some, [], inl, inr, put_other, refl, subst, sym, ℕ, ◌∙◌, ◌≡◌, ◌⊎◌}
 use Rattle.rh_safety.proofs.Basics.{Has-append, Has-left}
 use Rattle.rh_safety.proofs.Ends.{Asking, Draining, Fetching, In, In_done, In_failed, Message, Out, Out_failed, cancelled, in_id}
-use Rattle.rh_safety.proofs.Invariant.{Rises, Unread}
+use Rattle.rh_safety.proofs.Invariant.{Unread}
 use Rattle.rh_safety.proofs.Moves.{Move, at_put, none_left}
 use Rattle.rh_safety.proofs.Posts.{back_has, killed_known, returned_known, started_known}
 use Rattle.rh_safety.proofs.SeenPosts.{with_scrap}
 use Rattle.rh_safety.proofs.Sight.{Desk, Scrap, back, for_others, killed, returned, started}
 use Rattle.rh_laws.proofs.Dones.{Like, Matched, drains, edit-matched, fails, unchanged}
-use Rattle.rh_laws.proofs.RefsApart.{killed-alone, returned-alone}
 use Rattle.rh_laws.proofs.WantEdits.{has-others, killed-on, returned-on, started-on}
 use Rattle.rh_laws.proofs.Wants.{Was, part}
 
 -- blocks and the scrap file are others
 pub framed-matched : (d : Desk) (bl hp : ℕ → ℕ → Option (List ℕ)) (sc : Option Scrap) → Matched d → Matched (record d { block = bl; heap = hp; scrap = sc })
 framed-matched d bl hp sc f = record {
-  alone = f.alone;
   silent = λ ref live. let s = f.silent ref live in record { some = s.some; letters = s.letters; ids = s.ids; outs = s.outs };
   first = f.first;
   ends = f.ends;
@@ -27,7 +25,6 @@ returned-matched d k None is f = f
 returned-matched d k (Some m) is f = edit-matched (record {
   on = λ ref. returned-on d k m is (part ref 0 0);
   knows = returned_known d k m is;
-  alone = returned-alone d k (Some m) is f.alone;
   taking = λ r v has. (v, (has, unchanged refl));
   sending = λ s v has. inl has;
   room = λ r v has. refl;
@@ -41,11 +38,10 @@ returned-queue d k (Some y) m un has = elim (Has-append m d.queue (back d.live y
   | inr a ↦ absurd (un (back_has (d.live y.letter.from) y m a).0)
 ]
 
-pub killed-matched : (d : Desk) (k : ℕ) (sc : Option Scrap) → Rises d.queue → Matched d → Matched (with_scrap sc (killed d k))
-killed-matched d k sc up f = edit-matched (record {
+pub killed-matched : (d : Desk) (k : ℕ) (sc : Option Scrap) → Matched d → Matched (with_scrap sc (killed d k))
+killed-matched d k sc f = edit-matched (record {
   on = λ ref. killed-on d k sc (part ref 0 0);
   knows = killed_known d k;
-  alone = killed-alone d k up f.alone;
   taking = λ r v has. (v, (none_left d.taking k r v has, unchanged refl));
   sending = λ s v has. inl (none_left d.sending k s v has);
   room = λ r v has. elim (at_put d.taking k [] r v has) [ inl z ↦ absurd z.1 | inr z ↦ put_other d.buf k 1 r z.0 ];
@@ -59,7 +55,6 @@ pub started-matched : (d : Desk) (buf : ℕ) (deaf no_fetch : Bool) → Matched 
 started-matched d buf deaf no_fetch f = edit-matched (record {
   on = λ ref. started-on d buf deaf no_fetch (part ref 0 0);
   knows = started_known d buf deaf no_fetch;
-  alone = f.alone;
   taking = λ r v has. (v, (none_left d.taking d.next_handle r v has, unchanged refl));
   sending = λ s v has. inl (none_left d.sending d.next_handle s v has);
   room = λ r v has. elim (at_put d.taking d.next_handle [] r v has) [ inl z ↦ absurd z.1 | inr z ↦ put_other d.buf d.next_handle buf r z.0 ];
@@ -75,7 +70,6 @@ module _ (d : Desk) (sd : ℕ → List Out) (tk : ℕ → List In) where
   records-matched ins outs f = edit-matched (record {
     on = λ ref. record { queue = λ y has me. Was.in_queue y has refl; held = λ j y is me. Was.in_hand j is };
     knows = λ l kn. kn;
-    alone = f.alone;
     taking = ins;
     sending = outs;
     room = λ r v has. refl;

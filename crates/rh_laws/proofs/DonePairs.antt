@@ -1,12 +1,13 @@
 -- Both ends of a transfer, of each desk that agrees with what was offered and with what was loaded.
 use Rattle.rh_laws.proofs.Common.{Acknowledge, Body, Command, Desk, Edits, EventCode, Fits, Good, Has, Incoming, List, None, Offers, Option, Parcel, Recorded}
-use Rattle.rh_laws.proofs.Common.{Sending, Some, Task, User, [], action_of, ap, false, first_is, in_id, inl, inr, is_equal, map, refl, same_value, seen_parcel}
-use Rattle.rh_laws.proofs.Common.{step, subst, sym, task_of, true, view, ℕ, ◌==◌, ◌∙◌, ◌∷◌, ◌≡◌}
+use Rattle.rh_laws.proofs.Common.{Sending, Some, Task, User, [], action_of, after, all_in_range, ap, false, first_is, in_id, in_range, inl, inr, is_equal, map}
+use Rattle.rh_laws.proofs.Common.{refl, same_value, seen_parcel, step, subst, sym, task_of, true, view, ℕ, ◌==◌, ◌∙◌, ◌∷◌, ◌≡◌}
 use Rattle.rh_defs.specs.Records.{is_going}
 use Rattle.rh_defs.specs.declared.message.Action.TheVariants as action
 use Rattle.rh_defs.specs.declared.message.Body.TheVariants as body
 use Rattle.rh_defs.specs.declared.transfer.Incoming.TheVariants as incoming
 use Rattle.rh_safety.specs.Counts.{is_done}
+use Rattle.rh_safety.specs.Refs.{HaveOwnRefs}
 use Rattle.rh_safety.proofs.Ends.{Message, Open}
 use Rattle.rh_safety.proofs.Invariant.{Unread}
 use Rattle.rh_safety.proofs.View.{field, of}
@@ -19,19 +20,22 @@ use Rattle.rh_laws.proofs.Deliveries.{Comes, Loaded, Marks, Says}
 use Rattle.rh_laws.proofs.DeliveryLaws as delivery_laws
 use Rattle.rh_laws.proofs.DonePolls.{Pairs}
 
--- the desk agrees with some run
+-- the desk agrees with some run, and live refs differ from then on
 pub record Agreed (d : Desk) : Type 0 where
   pub addresses : Addresses
   pub addressed : addressing.Agrees addresses d
   pub marks : Marks
   pub loaded : deliveries.Agrees marks d
+  pub refs : (commands : List Command) → all_in_range commands ≡ true → HaveOwnRefs (after d commands)
 
-pub step-agreed : {o : Offers} {e : Edits} (d : Desk) → Fits d → Good o e (view d) → Agreed d → (c : Command) → Agreed (step d c).0
-step-agreed d fit good a c = let x = delivery_laws.step-agrees a.marks d fit a.loaded good c in record {
+pub step-agreed : {o : Offers} {e : Edits} (d : Desk) → Fits d → Good o e (view d) → Agreed d → (c : Command) →
+    in_range c ≡ true → Agreed (step d c).0
+step-agreed d fit good a c in_c = let x = delivery_laws.step-agrees a.marks d fit a.loaded good c in record {
   addresses = addresses_next a.addresses d c (step d c).1;
   addressed = address_laws.step-agrees a.addresses d a.addressed c;
   marks = x.marks;
   loaded = x.desk;
+  refs = λ cs in_cs. a.refs (c ∷ cs) (rw (in_c, in_cs) refl);
 }
 
 -- the task that has a record

@@ -12,7 +12,7 @@ use Rattle.rh_safety.proofs.Sight.{Desk, Scrap, returned, would_answer}
 use Rattle.rh_laws.proofs.DoneDeeds.{Taken}
 use Rattle.rh_laws.proofs.DoneEdits.{returned-queue}
 use Rattle.rh_laws.proofs.Dones.{IsFirst, Like, Matched, Silent, edit-first, edit-mute, edit-silent, ends-map, unchanged, was-live}
-use Rattle.rh_laws.proofs.RefsApart.{left-apart, picked-alone, picked-hand}
+use Rattle.rh_laws.proofs.RefsApart.{Alone, left-apart, picked-hand}
 use Rattle.rh_laws.proofs.WantDeeds.{Before}
 use Rattle.rh_laws.proofs.WantEdits.{Picks, has-without, left_by, picked-letters, picked-on}
 use Rattle.rh_laws.proofs.Wants.{AllWait, Answered, HasWant, Onward, WaitsFor, part}
@@ -60,7 +60,8 @@ module _ (d : Desk) (k : ℕ) (m : Message) (first : first_for k d.queue ≡ Som
   taken-silent = edit-silent on letters same_in same_out f.silent
 
 module _ {o : Offers} {e : Edits} (d : Desk) (k : ℕ) (m : Message) (first : first_for k d.queue ≡ Some m) (hd : ℕ → Option Message) (sc : Option Scrap)
-    (x : Picks d k m hd) (f : Matched d) (all : AllWait d) (g : Good o e (with_scrap sc d)) (p : Pairs d) where
+    (x : Picks d k m hd) (f : Matched d) (all : AllWait d) (g : Good o e (with_scrap sc d)) (p : Pairs d)
+    (alone : Alone d.queue d.held) where
   here : Has m d.queue
   here = (first_has k d.queue m first).0
 
@@ -154,14 +155,13 @@ module _ {o : Offers} {e : Edits} (d : Desk) (k : ℕ) (m : Message) (first : fi
 
   pub taken-matched : Before (left_by d k hd sc) k m → Taken (left_by d k hd sc) k m
   taken-matched before = record {
-    alone = picked-alone d k m first g.inv.order.rises f.alone hd x.mine;
     first = first-after d k m first hd sc x f;
     ends = λ s i n r w done has id. ends-map w refl (λ t is y fin q. elim (has-without k d.queue m y first q) [ inl a ↦ inl a | inr a ↦ inr (sym a) ])
         (f.ends s i n r w done has id);
     heard = record {
       mute = λ kind. mute d k m first hd sc x f (f.silent m.letter.me (IsLive.waits m here refl));
-      queue = left-apart d k m first g.inv.order.rises f.alone;
-      hand = λ un. picked-hand d k m first g.inv.order.rises f.alone hd x.mine;
+      queue = left-apart d k m first g.inv.order.rises alone;
+      hand = λ un. picked-hand d k m first g.inv.order.rises alone hd x.mine;
       answers = λ un live. unread-answer d k m first hd sc x f m.letter.answers live refl;
       waiter = waiter;
       told = λ un kind y has. p.told m here un kind k y has;

@@ -5,7 +5,6 @@ use Rattle.rh_safety.proofs.Ends.{Asking, Draining, Fetching, In, In_done, In_fa
 use Rattle.rh_safety.proofs.Ends.{in_id}
 use Rattle.rh_safety.proofs.Invariant.{IsLive, Knows}
 use Rattle.rh_safety.proofs.Sight.{Desk}
-use Rattle.rh_laws.proofs.RefsApart.{Alone}
 use Rattle.rh_laws.proofs.Wants.{Onward, Was, part}
 
 -- ---- what holds
@@ -56,7 +55,6 @@ abbrev pub IsQueued : Desk → Message → Type 0
 IsQueued d m = Has m d.queue
 
 pub record Matched (d : Desk) : Type 0 where
-  pub alone : Alone d.queue d.held
   pub silent : (ref : ℕ) → IsLive d.queue d.held ref → Silent d ref
   pub first : IsFirst d
   pub ends : AllEnd (IsQueued d) d
@@ -109,7 +107,6 @@ like-ends P drain fail (Like.fails i a c e g) x = subst P (sym g) (fail i a c)
 pub record Edit (d e : Desk) : Type 0 where
   pub on : (ref : ℕ) → Onward d e (part ref 0 0)
   pub knows : (l : Letter) → Knows e l → Knows d l
-  pub alone : Alone e.queue e.held
   pub taking : (r : ℕ) (v : In) → Has v (e.taking r) → (u : In) × (Has u (d.taking r) × Like u v)
   pub sending : (s : ℕ) (v : Out) → Has v (e.sending s) → Has v (d.sending s) ⊎ ((i : ℕ) × ((n : ℕ) × (v ≡ Out_failed i n)))
   pub room : (r : ℕ) (v : In) → Has v (e.taking r) → e.buf r ≡ d.buf r
@@ -157,7 +154,6 @@ module _ {d e : Desk} (on : (ref : ℕ) → Onward d e (part ref 0 0)) (knows : 
 
 pub edit-matched : {d e : Desk} → Edit d e → Matched d → Matched e
 edit-matched {d} {e} x f = record {
-  alone = x.alone;
   silent = edit-silent x.on x.knows x.taking x.sending f.silent;
   first = edit-first x.on x.knows x.taking x.sending f.first;
   ends = ends;

@@ -1,13 +1,15 @@
--- No two live messages have one ref, as it is seen: what is held differs from what is queued and from what other tasks hold,
--- and what came back differs from what is unread. (Unread messages that are queued have rising refs.)
-use Rattle.rh_laws.proofs.Common.{Bool, Has, List, None, Option, Some, [], ap, arith, eqb_tells, false, inl, inr, none_some, put_same, refl, subst, sym, ℕ}
-use Rattle.rh_laws.proofs.Common.{◌++◌, ◌<◌, ◌∙◌, ◌∷◌, ◌≡◌, ◌≢◌, ◌⊎◌}
-use Rattle.rh_safety.proofs.Basics.{Has-append, first_has, without_has}
+-- No two live messages have one ref, as it is seen of a desk, and once a task let go of what it held and took a message: what is
+-- held differs from what is queued and from what other tasks hold, and what came back from what is unread.
+use Rattle.rh_laws.proofs.Common.{Desk, Has, List, None, Option, Parcel, Seat, Some, [], ap, arith, eqb_tells, held_by, inl, inr, map, none_some, option_map}
+use Rattle.rh_laws.proofs.Common.{put_same, refl, seen_parcel, subst, sym, view, ℕ, ◌++◌, ◌∙◌, ◌∷◌, ◌≡◌, ◌≢◌, ◌⊎◌}
+use Rattle.std.specs.List.{AllByRecursion, flat_map}
+use Rattle.rh_safety.specs.Refs.{AllDiffer, HaveOwnRefs, held_refs, ref_of}
+use Rattle.rh_safety.proofs.Basics.{Has-append, Has-left, Has-right, first_has, without_has}
 use Rattle.rh_safety.proofs.Ends.{Code, Letter, Message, Plain, Recorded, Returned, first_for, put, without_first}
-use Rattle.rh_safety.proofs.Invariant.{IsLive, Rises, Unread}
-use Rattle.rh_safety.proofs.Posts.{back_has, back_held_codes, back_held_has, bounced_codes, for_others_has, unheld}
-use Rattle.rh_safety.proofs.Sends.{still_is}
-use Rattle.rh_safety.proofs.Sight.{Desk, back, back_held, back_if_recorded, bounced_for, for_others, killed, returned, sent}
+use Rattle.rh_safety.proofs.Invariant.{Rises, Unread}
+use Rattle.rh_safety.proofs.Posts.{back_has, unheld}
+use Rattle.rh_safety.proofs.Sight as sight
+use Rattle.rh_safety.proofs.Sight.{back, returned}
 
 pub record Alone (q : List Message) (held : ℕ → Option Message) : Type 0 where
   pub hand : (j : ℕ) (m y : Message) → held j ≡ Some m → Has y q → y.letter.me ≢ m.letter.me
@@ -17,16 +19,84 @@ pub record Alone (q : List Message) (held : ℕ → Option Message) : Type 0 whe
 me_of : {l k : Letter} → l ≡ k → l.me ≡ k.me
 me_of e = ap (λ (l : Letter). l.me) e
 
--- a member of a list that has rising refs, behind or before another one
-rises-apart : (k : ℕ) (q : List Message) (m y : Message) → Rises q → Has m q → Has y q → Unread m → Unread y → m.to ≢ k → y.to ≡ k →
-    y.letter.me ≢ m.letter.me
-rises-apart k [] m y up a b u v ne to = absurd a
-rises-apart k (x ∷ q) m y up (inl a) (inl b) u v ne to = absurd (ne (ap (λ (z : Message). z.to) (sym a ∙ b) ∙ to))
-rises-apart k (x ∷ q) m y up (inl a) (inr b) u v ne to =
-    let r = up.0 y b (subst Unread (sym a) u) v in let e = ap (λ (z : Message). z.letter.me) a in λ s. omega (arith, r, e, s)
-rises-apart k (x ∷ q) m y up (inr a) (inl b) u v ne to =
-    let r = up.0 m a (subst Unread (sym b) v) u in let e = ap (λ (z : Message). z.letter.me) b in λ s. omega (arith, r, e, s)
-rises-apart k (x ∷ q) m y up (inr a) (inr b) u v ne to = rises-apart k q m y up.1 a b u v ne to
+-- ---- of a desk whose live refs differ
+
+differ-has : (n : ℕ) (ns : List ℕ) → AllByRecursion (λ m. m ≢ n) ns → Has n ns → ⊥
+differ-has n [] all has = has
+differ-has n (m ∷ ns) all (inl e) = all.0 e
+differ-has n (m ∷ ns) all (inr has) = differ-has n ns all.1 has
+
+differ-parts : (xs ys : List ℕ) → AllDiffer (xs ++ ys) → (n : ℕ) → Has n xs → Has n ys → ⊥
+differ-parts [] ys d n has there = has
+differ-parts (x ∷ xs) ys d n (inl e) there = differ-has x (xs ++ ys) d.0 (Has-right x xs ys (subst (λ k. Has k ys) (sym e) there))
+differ-parts (x ∷ xs) ys d n (inr has) there = differ-parts xs ys d.1 n has there
+
+differ-right : (xs ys : List ℕ) → AllDiffer (xs ++ ys) → AllDiffer ys
+differ-right [] ys d = d
+differ-right (x ∷ xs) ys d = differ-right xs ys d.1
+
+ref-in : (ps : List Parcel) (y : Message) → Has y (map seen_parcel ps) → Has y.letter.me (map ref_of ps)
+ref-in [] y has = absurd has
+ref-in (p ∷ ps) y (inl e) = inl (ap (λ (z : Message). z.letter.me) e)
+ref-in (p ∷ ps) y (inr has) = inr (ref-in ps y has)
+
+-- two messages in a queue, of which one alone came back
+queue-differs : (ps : List Parcel) (ys : List ℕ) (m y : Message) → AllDiffer (map ref_of ps ++ ys) → Has m (map seen_parcel ps) → Has y (map seen_parcel ps) →
+    Unread m → y.code ≡ Returned → y.letter.me ≢ m.letter.me
+queue-differs [] ys m y d a b un code = absurd a
+queue-differs (p ∷ ps) ys m y d (inl a) (inl b) un code = absurd (un (ap (λ (z : Message). z.code) (sym a ∙ b) ∙ code))
+queue-differs (p ∷ ps) ys m y d (inl a) (inr b) un code = λ same. differ-has (ref_of p) (map ref_of ps ++ ys) d.0
+    (Has-left (ref_of p) (map ref_of ps) ys (subst (λ n. Has n (map ref_of ps)) (same ∙ ap (λ (z : Message). z.letter.me) (sym a)) (ref-in ps y b)))
+queue-differs (p ∷ ps) ys m y d (inr a) (inl b) un code = λ same. differ-has (ref_of p) (map ref_of ps ++ ys) d.0
+    (Has-left (ref_of p) (map ref_of ps) ys (subst (λ n. Has n (map ref_of ps)) (sym same ∙ ap (λ (z : Message). z.letter.me) (sym b)) (ref-in ps m a)))
+queue-differs (p ∷ ps) ys m y d (inr a) (inr b) un code = queue-differs ps ys m y d.1 a b un code
+
+abbrev held_all : List Seat → List ℕ
+held_all seats = flat_map (λ (s : Seat). held_refs s.holds) seats
+
+hold-in : (o : Option Parcel) (p : Parcel) → o ≡ Some p → Has (ref_of p) (held_refs o)
+hold-in o p e = subst (λ v. Has (ref_of p) (held_refs v)) (sym e) (inl refl)
+
+held-in : (j : ℕ) (seats : List Seat) (p : Parcel) → held_by j seats ≡ Some p → Has (ref_of p) (held_all seats)
+held-in j [] p e = absurd (none_some None refl e)
+held-in j (s ∷ seats) p e = elim (eqb_tells s.handle j) [
+  | inl z ↦ Has-left (ref_of p) (held_refs s.holds) (held_all seats) (hold-in s.holds p (rw z.0 at e))
+  | inr z ↦ Has-right (ref_of p) (held_refs s.holds) (held_all seats) (held-in j seats p (rw z.0 at e))
+]
+
+held-one : (i j : ℕ) (seats : List Seat) (p q : Parcel) → AllDiffer (held_all seats) → held_by i seats ≡ Some p → held_by j seats ≡ Some q →
+    ref_of p ≡ ref_of q → i ≡ j
+held-one i j [] p q d e f same = absurd (none_some None refl e)
+held-one i j (s ∷ seats) p q d e f same = elim (eqb_tells s.handle i) [
+  | inl a ↦ elim (eqb_tells s.handle j) [
+    | inl b ↦ sym a.1 ∙ b.1
+    | inr b ↦ absurd (differ-parts (held_refs s.holds) (held_all seats) d (ref_of q)
+        (subst (λ n. Has n (held_refs s.holds)) same (hold-in s.holds p (rw a.0 at e))) (held-in j seats q (rw b.0 at f)))
+  ]
+  | inr a ↦ elim (eqb_tells s.handle j) [
+    | inl b ↦ absurd (differ-parts (held_refs s.holds) (held_all seats) d (ref_of q) (hold-in s.holds q (rw b.0 at f))
+        (subst (λ n. Has n (held_all seats)) same (held-in i seats p (rw a.0 at e))))
+    | inr b ↦ held-one i j seats p q (differ-right (held_refs s.holds) (held_all seats) d) (rw a.0 at e) (rw b.0 at f) same
+  ]
+]
+
+-- the message that is seen to be held
+held-parcel : (o : Option Parcel) (m : Message) → option_map seen_parcel o ≡ Some m → (p : Parcel) × ((o ≡ Some p) × (ref_of p ≡ m.letter.me))
+held-parcel None m e = absurd (none_some None refl e)
+held-parcel (Some p) m e = let same : seen_parcel p ≡ m = cc in (p, (refl, ap (λ (z : Message). z.letter.me) same))
+
+pub alone-of : (d : Desk) → HaveOwnRefs d → Alone (view d).queue (view d).held
+alone-of d own = record {
+  hand = λ j m y e has.
+      let p = held-parcel (held_by j d.post.seats) m e in
+      λ same. differ-parts (map ref_of d.post.queued) (held_all d.post.seats) own.differ y.letter.me (ref-in d.post.queued y has)
+      (subst (λ n. Has n (held_all d.post.seats)) (p.1.1 ∙ sym same) (held-in j d.post.seats p.0 p.1.0));
+  hands = λ i j m y e f same.
+      let p = held-parcel (held_by i d.post.seats) m e in
+      let q = held-parcel (held_by j d.post.seats) y f in
+      held-one i j d.post.seats p.0 q.0 (differ-right (map ref_of d.post.queued) (held_all d.post.seats) own.differ) p.1.0 q.1.0 (p.1.1 ∙ same ∙ sym q.1.1);
+  back = λ m y has_m has_y un code. queue-differs d.post.queued (held_all d.post.seats) m y own.differ has_m has_y un code;
+}
 
 -- the rest of the queue, once the first message for a task was taken
 pub rest-apart : (k : ℕ) (q : List Message) (m y : Message) → first_for k q ≡ Some m → Rises q → Has y (without_first k q) → Unread y → Unread m →
@@ -55,7 +125,7 @@ unread_or_back y = by y.code refl
 
 -- ---- a task lets go of what it holds
 
-pub returned-alone : (d : Desk) (k : ℕ) (o : Option Message) → d.held k ≡ o → Alone d.queue d.held → Alone (returned d k o).queue (returned d k o).held
+pub returned-alone : (d : sight.Desk) (k : ℕ) (o : Option Message) → d.held k ≡ o → Alone d.queue d.held → Alone (returned d k o).queue (returned d k o).held
 returned-alone d k None is a = a
 returned-alone d k (Some m) is a = record {
   hand = λ j x y e has. elim (Has-append y d.queue (back d.live m) has) [
@@ -78,10 +148,10 @@ returned-alone d k (Some m) is a = record {
 -- ---- a message is taken
 
 -- what is held then: as before, or the task has the message
-abbrev pub Holds : Desk → ℕ → Message → (ℕ → Option Message) → Type 0
+abbrev pub Holds : sight.Desk → ℕ → Message → (ℕ → Option Message) → Type 0
 Holds d k m hd = (j : ℕ) (y : Message) → hd j ≡ Some y → (d.held j ≡ Some y) ⊎ ((j ≡ k) × ((m ≡ y) × Unread m))
 
-module _ (d : Desk) (k : ℕ) (m : Message) (first : first_for k d.queue ≡ Some m) (up : Rises d.queue) (a : Alone d.queue d.held) where
+module _ (d : sight.Desk) (k : ℕ) (m : Message) (first : first_for k d.queue ≡ Some m) (up : Rises d.queue) (a : Alone d.queue d.held) where
   here : Has m d.queue
   here = (first_has k d.queue m first).0
 
@@ -93,141 +163,6 @@ module _ (d : Desk) (k : ℕ) (m : Message) (first : first_for k d.queue ≡ Som
   ]
 
   module _ (hd : ℕ → Option Message) (h : Holds d k m hd) where
-    pub picked-alone : Alone (without_first k d.queue) hd
-    picked-alone = record {
-      hand = λ j x y e has. elim (h j x e) [
-        | inl o ↦ a.hand j x y o (without_has k d.queue y has)
-        | inr o ↦ λ same. left-apart o.1.1 y has (same ∙ ap (λ (z : Message). z.letter.me) (sym o.1.0))
-      ];
-      hands = λ i j x y e f same. elim (h i x e) [
-        | inl o ↦ elim (h j y f) [
-          | inl p ↦ a.hands i j x y o p same
-          | inr p ↦ absurd (a.hand i x m o here (ap (λ (z : Message). z.letter.me) p.1.0 ∙ sym same))
-        ]
-        | inr o ↦ elim (h j y f) [
-          | inl p ↦ absurd (a.hand j y m p here (ap (λ (z : Message). z.letter.me) o.1.0 ∙ same))
-          | inr p ↦ o.0 ∙ sym p.0
-        ]
-      ];
-      back = λ x y has_x has_y un code. a.back x y (without_has k d.queue x has_x) (without_has k d.queue y has_y) un code;
-    }
-
     -- only the task may hold a message of that ref
     pub picked-hand : (j : ℕ) (y : Message) → hd j ≡ Some y → y.letter.me ≡ m.letter.me → j ≡ k
     picked-hand j y e same = elim (h j y e) [ inl o ↦ absurd (a.hand j y m o here (sym same)) | inr o ↦ o.0 ]
-
--- ---- a letter is sent
-
-pub sent-alone : (d : Desk) (k : ℕ) (n : Message) → n.letter.me ≡ d.next_ref → ((ref : ℕ) → IsLive d.queue d.held ref → ref < d.next_ref) →
-    Alone d.queue d.held → Alone (sent d k n).queue (sent d k n).held
-sent-alone d k n me below a = record {
-  hand = λ j x y e has. let old = still_is d k n.letter.answers j x e in elim (Has-append y d.queue (n ∷ []) has) [
-    | inl h ↦ a.hand j x y old h
-    | inr h ↦ λ same. let z = below x.letter.me (IsLive.rests j x old refl) in let w = new y h in omega (arith, z, w, same)
-  ];
-  hands = λ i j x y e f same. a.hands i j x y (still_is d k n.letter.answers i x e) (still_is d k n.letter.answers j y f) same;
-  back = λ x y has_x has_y un code. elim (Has-append x d.queue (n ∷ []) has_x) [
-    | inl h ↦ elim (Has-append y d.queue (n ∷ []) has_y) [
-      | inl g ↦ a.back x y h g un code
-      | inr g ↦ λ same. let z = below x.letter.me (IsLive.waits x h refl) in let w = new y g in omega (arith, z, w, same)
-    ]
-    | inr h ↦ elim (Has-append y d.queue (n ∷ []) has_y) [
-      | inl g ↦ λ same. let z = below y.letter.me (IsLive.waits y g refl) in let w = new x h in omega (arith, z, w, same)
-      | inr g ↦ absurd (un (subst (λ (z : Message). z.code ≡ Returned) (sym (same_one y g) ∙ same_one x h) code))
-    ]
-  ];
-}
-  where
-    same_one : (y : Message) → Has y (n ∷ []) → n ≡ y
-    same_one y (inl e) = e
-    same_one y (inr never) = absurd never
-
-    new : (y : Message) → Has y (n ∷ []) → y.letter.me ≡ d.next_ref
-    new y has = ap (λ (z : Message). z.letter.me) (sym (same_one y has)) ∙ me
-
--- ---- a task ends
-
--- what goes back of the queue was a recorded message for the task
-record Gone (k : ℕ) (q : List Message) (y : Message) : Type 0 where
-  old : Message
-  there : Has old q
-  to : old.to ≡ k
-  unread : Unread old
-  me : old.letter.me ≡ y.letter.me
-
-gone : (live : ℕ → Bool) (k : ℕ) (q : List Message) (y : Message) → Has y (bounced_for live k q) → Gone k q y
-gone live k [] y has = absurd has
-gone live k (x ∷ q) y has = elim (eqb_tells x.to k) [
-  | inl z ↦ elim (Has-append y (back_if_recorded live x x.code) (bounced_for live k q) (rw z.0 at has)) [
-    | inl h ↦ one z.1 x.code refl h
-    | inr h ↦ more (gone live k q y h)
-  ]
-  | inr z ↦ more (gone live k q y (rw z.0 at has))
-]
-  where
-    more : Gone k q y → Gone k (x ∷ q) y
-    more g = record { old = g.old; there = inr g.there; to = g.to; unread = g.unread; me = g.me }
-
-    one : x.to ≡ k → (c : Code) → x.code ≡ c → Has y (back_if_recorded live x c) → Gone k (x ∷ q) y
-    one to Plain e h = absurd h
-    one to Returned e h = absurd h
-    one to Recorded e h = record {
-      old = x;
-      there = inl refl;
-      to = to;
-      unread = λ r. let z : Recorded ≡ Returned = sym e ∙ r in (cc);
-      me = me_of (sym (back_has (live x.letter.from) x y h).1);
-    }
-
-others-to : (k : ℕ) (q : List Message) (y : Message) → Has y (for_others k q) → y.to ≢ k
-others-to k [] y has = absurd has
-others-to k (x ∷ q) y has = elim (eqb_tells x.to k) [
-  | inl z ↦ others-to k q y (rw z.0 at has)
-  | inr z ↦ elim (let s : Has y (x ∷ for_others k q) = rw z.0 at has in s) [
-    | inl e ↦ λ to. z.1 (ap (λ (n : Message). n.to) e ∙ to)
-    | inr h ↦ others-to k q y h
-  ]
-]
-
--- where a message that is queued after it was
-data Whence (d : Desk) (k : ℕ) (y : Message) : Type 0 where
-  in_rest : Has y d.queue → y.to ≢ k → Whence d k y
-  in_hand : (m : Message) → d.held k ≡ Some m → m.letter.me ≡ y.letter.me → Whence d k y
-  in_queue : Gone k d.queue y → Whence d k y
-
-pub killed-alone : (d : Desk) (k : ℕ) → Rises d.queue → Alone d.queue d.held → Alone (killed d k).queue (killed d k).held
-killed-alone d k up a = record {
-  hand = λ j x y e has. elim (whence y has) [
-    | in_rest h to ↦ a.hand j x y (unheld d k j x e) h
-    | in_hand m is me ↦ λ same. none_some _ (put_same d.held k None)
-        (subst (λ i. put d.held k None i ≡ Some x) (a.hands j k x m (unheld d k j x e) is (sym same ∙ sym me)) e)
-    | in_queue g ↦ λ same. a.hand j x g.old (unheld d k j x e) g.there (g.me ∙ same)
-  ];
-  hands = λ i j x y e f same. a.hands i j x y (unheld d k i x e) (unheld d k j y f) same;
-  back = λ x y has_x has_y un code. elim (Has-append x (for_others k d.queue) _ has_x) [
-    | inr h ↦ absurd (un (codes x h))
-    | inl h ↦ elim (whence y has_y) [
-      | in_rest g to ↦ a.back x y (for_others_has k d.queue x h) g un code
-      | in_hand m is me ↦ λ same. a.hand k m x is (for_others_has k d.queue x h) (sym same ∙ sym me)
-      | in_queue g ↦ λ same. rises-apart k d.queue x g.old up (for_others_has k d.queue x h) g.there un g.unread (others-to k d.queue x h) g.to (g.me ∙ same)
-    ]
-  ];
-}
-  where
-    live : ℕ → Bool
-    live = put d.live k false
-
-    whence : (y : Message) → Has y (killed d k).queue → Whence d k y
-    whence y has = elim (Has-append y (for_others k d.queue) _ has) [
-      | inl h ↦ in_rest (for_others_has k d.queue y h) (others-to k d.queue y h)
-      | inr h ↦ elim (Has-append y (back_held live (d.held k)) (bounced_for live k d.queue) h) [
-        | inl g ↦ let z = back_held_has live (d.held k) y g in in_hand z.0 z.1 (me_of z.2)
-        | inr g ↦ in_queue (gone live k d.queue y g)
-      ]
-    ]
-
-    codes : (y : Message) → Has y (back_held live (d.held k) ++ bounced_for live k d.queue) → y.code ≡ Returned
-    codes y has = elim (Has-append y (back_held live (d.held k)) (bounced_for live k d.queue) has) [
-      | inl h ↦ back_held_codes live (d.held k) y h
-      | inr h ↦ bounced_codes live k d.queue y h
-    ]

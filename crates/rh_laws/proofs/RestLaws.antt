@@ -29,7 +29,9 @@ use Rattle.rh_safety.proofs.FlexMaps as flex
 use Rattle.rh_safety.proofs.Keeps.{from_found}
 use Rattle.rh_safety.proofs.Moves.{at_put, move_more, move_with}
 use Rattle.rh_safety.proofs.Polls.{left_good, unpicked_live}
+use Rattle.rh_safety.proofs.Numbers.{always-own-refs}
 use Rattle.rh_safety.proofs.Runs.{start_good}
+use Rattle.rh_safety.specs.Refs.{HaveOwnRefs}
 use Rattle.rh_safety.proofs.SeenFrames.{HaveOwnSeats}
 use Rattle.rh_safety.proofs.SeenFiles.{delivered_live, seen_live}
 use Rattle.rh_safety.proofs.SeenBlocks.{the_idle}
@@ -56,7 +58,7 @@ use Rattle.rh_laws.proofs.DoneEdits.{cancelled-matched, failed-matched, framed-m
 use Rattle.rh_laws.proofs.DonePairs.{Agreed, pairs, step-agreed}
 use Rattle.rh_laws.proofs.DonePolls.{Pairs, returned-pairs, taken-matched, taken-silent}
 use Rattle.rh_laws.proofs.Dones.{Matched, Silent, ends-map}
-use Rattle.rh_laws.proofs.RefsApart.{rest-apart}
+use Rattle.rh_laws.proofs.RefsApart.{alone-of, rest-apart, returned-alone}
 use Rattle.rh_laws.proofs.WantDeeds.{Anew, Before, IsSpent, Sends, deed-waits}
 use Rattle.rh_laws.proofs.WantRecords.{InWant, OutsOf, Ready, TurnsOf, asks-fits, by_ask, by_drain, by_fetch, deed, ids-stay, in-want, ins-stay, out-want}
 use Rattle.rh_laws.proofs.WantRecords.{outs-moved, outs-stay, turns-moved, un}
@@ -157,7 +159,7 @@ ready d k m taken = record {
 }
 
 module _ {o : Offers} {e : Edits} (d : Desk) (t : Task) (fit : Fits d) (is : task_of t.handle d.tasks ≡ Some t) (good : Good o e (view d))
-    (goes : Goes_on (view d)) (pairs : Pairs (view d)) where
+    (goes : Goes_on (view d)) (pairs : Pairs (view d)) (refs : HaveOwnRefs d) where
   abbrev k : ℕ
   k = t.handle
 
@@ -254,6 +256,7 @@ module _ {o : Offers} {e : Edits} (d : Desk) (t : Task) (fit : Fits d) (is : tas
           seen-left ∙ ap (λ (S : sight.Desk). sight.picked S k M m.code) l.1 ∙ picked-lost R M l.0 m.code ∙ z.1.1 l.0 in
           subst (λ (S : sight.Desk). Taken S k M) (sym seen)
           (taken-matched R k M first z.0 l.0 z.1.0 matched all-returned (subst (Good o e) l.1 good-left) (returned-pairs D k (D.held k) pairs)
+          (returned-alone D k (D.held k) refl (alone-of d refs))
           (here l.0 z.0 z.1.0 (kept-by _ seen) (subst (Inv o e) seen inv) (ap (λ (S : sight.Desk). S.next_ref) l.1)))
         where
           here : (sc : Option sight.Scrap) (hd : ℕ → Option Message) → Picks R k M hd → KeepsFile R (left_by R k hd sc) → Inv o e (left_by R k hd sc) →
@@ -302,7 +305,8 @@ blank-wants : (d : sight.Desk) (k h : ℕ) (b : Bool) (w : Want) → HasWant (pu
 blank-wants d k h b w (HasWant.comes {i} x) = let z = blank-in d k h w i x in (z.0, HasWant.comes z.1)
 blank-wants d k h b w (HasWant.goes x) = let z = blank-out d k h b w x in (z.0, HasWant.goes z.1)
 
-module _ {o : Offers} {e : Edits} (d : Desk) (fit : Fits d) (good : Good o e (view d)) (goes : Goes_on (view d)) (pairs : Pairs (view d)) where
+module _ {o : Offers} {e : Edits} (d : Desk) (fit : Fits d) (good : Good o e (view d)) (goes : Goes_on (view d)) (pairs : Pairs (view d))
+    (refs : HaveOwnRefs d) where
   abbrev V : sight.Desk
   V = view d
 
@@ -319,7 +323,7 @@ module _ {o : Offers} {e : Edits} (d : Desk) (fit : Fits d) (good : Good o e (vi
           let seen : view (after_kill d k) ≡ with_scrap sc (sight.killed V k) = killed_view d k fit in
           let keeps : KeepsFile V (with_scrap sc (sight.killed V k)) = subst (KeepsFile V) seen (λ f s live. file-kept d (post_death k d.post) f s live) in
           subst Goes_on (sym seen) (record {
-            matched = killed-matched V k sc good.inv.order.rises goes.matched;
+            matched = killed-matched V k sc goes.matched;
             waits = leads (record {
               ins = λ h w i x. (blank-in V k h w i x).1;
               outs = λ h w x. (blank-out V k h false w x).1;
@@ -376,7 +380,6 @@ module _ {o : Offers} {e : Edits} (d : Desk) (fit : Fits d) (good : Good o e (vi
   -- it answers nothing, and no record goes on by it
   taken-idler : (k : ℕ) → Taken V k (idler k)
   taken-idler k = record {
-    alone = goes.matched.alone;
     first = goes.matched.first;
     ends = λ s i n r w done has id. ends-map w refl (λ t is y fin there. inl there) (goes.matched.ends s i n r w done has id);
     heard = record {
@@ -570,7 +573,7 @@ module _ {o : Offers} {e : Edits} (d : Desk) (fit : Fits d) (good : Good o e (vi
       let is = the_task d name t fit q in
       let h : ℕ = t.handle in
       granted (record {
-        desk = by-taken d t fit is good goes pairs (post_poll h d.post) (fit.polled h) (poll_taken_is d h fit (live_of d h t is))
+        desk = by-taken d t fit is good goes pairs refs (post_poll h d.post) (fit.polled h) (poll_taken_is d h fit (live_of d h t is))
             (post_poll h d.post).1 refl;
       })
 
@@ -596,27 +599,23 @@ after-goes_on [] p d good is agreed goes = (agreed, goes)
 after-goes_on (c ∷ cs) p d good is agreed goes =
     let in_c : in_range c ≡ true = and_left (in_range c) _ p in
     let fit = fits d is in
-    after-goes_on cs (and_right (in_range c) _ p) (step d c).0 (keeps c in_c d good fit) (step-keeps d c in_c is) (step-agreed d fit good agreed c)
-    (step-goes_on d fit good goes (pairs d agreed) c)
+    after-goes_on cs (and_right (in_range c) _ p) (step d c).0 (keeps c in_c d good fit) (step-keeps d c in_c is) (step-agreed d fit good agreed c in_c)
+    (step-goes_on d fit good goes (pairs d agreed) (agreed.refs [] refl) c)
 
 -- the first desk has no task and no message
-start-agreed : (pool handle ref : ℕ) (files : FileList) → Agreed (start_with pool files handle ref)
-start-agreed pool handle ref files = record {
+start-agreed : (pool handle ref : ℕ) (files : FileList) → IsStart pool handle ref → Agreed (start_with pool files handle ref)
+start-agreed pool handle ref files from = record {
   addresses = λ i. None;
   addressed = record { born = λ i low. refl; of_tasks = tt; mail = tt };
   marks = record { of_ref = λ i. None; loaded = [] };
   loaded = record { born = λ i low. refl; unloaded = λ r i low has. has; of_tasks = λ h. tt; mail = tt };
+  refs = λ commands ranged. always-own-refs pool handle ref files commands from ranged;
 }
 
 start-goes_on : (pool handle ref : ℕ) (files : FileList) → Goes_on (view (start_with pool files handle ref))
 start-goes_on pool handle ref files = record {
   waits = record { waits = λ h w x. nothing h w x; apart = λ h w x i j a b e. absurd a.has };
   matched = record {
-    alone = record {
-      hand = λ j m y e has. absurd has;
-      hands = λ i j m y e f same. absurd (none_some None refl e);
-      back = λ m y has. absurd has;
-    };
     silent = silent;
     first = λ r t act l k kn kl me from same. elim act [ inl z ↦ absurd z | inr z ↦ absurd z ];
     ends = λ s i n r w done. absurd done;
@@ -685,7 +684,7 @@ pub always-goes_on : (pool handle ref : ℕ) (files : FileList) (commands : List
 always-goes_on pool handle ref files commands from ranged =
     let positive : 0 < ref = omega (arith, from.first_ref) in
     after-goes_on commands ranged (start_with pool files handle ref) (start_good most_records handle ref positive) (start-is pool handle ref files from)
-    (start-agreed pool handle ref files) (start-goes_on pool handle ref files)
+    (start-agreed pool handle ref files from) (start-goes_on pool handle ref files)
 
 pub always-settles : AlwaysSettles
 always-settles pool handle ref files commands from ranged rounds in_rounds names few =
