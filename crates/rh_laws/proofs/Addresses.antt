@@ -137,7 +137,7 @@ all-has P (y ∷ xs) x all (inl same) = subst P same all.0
 all-has P (y ∷ xs) x all (inr has) = all-has P xs x all.1 has
 
 -- the task that is edited, and the others
-all-edit : (P : Task → Type 0) (h : ℕ) (f : Task → Task) → ((t : Task) → t.handle ≡ h → P t → P (f t)) → (ts : List Task) →
+pub all-edit : (P : Task → Type 0) (h : ℕ) (f : Task → Task) → ((t : Task) → t.handle ≡ h → P t → P (f t)) → (ts : List Task) →
     AllByRecursion P ts → AllByRecursion P (edit_task h f ts)
 all-edit P h f keeps [] all = tt
 all-edit P h f keeps (t ∷ ts) all = elim (eqb_tells t.handle h) [

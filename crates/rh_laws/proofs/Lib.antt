@@ -69,4 +69,8 @@ pub mod AccountSlots
 pub mod AccountPolls
 pub mod AccountLaws
 pub mod AccountRows
+pub mod ShownSlots
+pub mod ShownPolls
+pub mod ShownLaws
+pub mod ShownRows
 pub mod Common

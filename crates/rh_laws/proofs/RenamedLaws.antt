@@ -66,22 +66,22 @@ always-renamed f e pool handle ref files commands = record {
 -- ---- where shown bytes come from
 
 -- 0 stays 0, whether it passes a test or not
-zero-stays : (b : Bool) → ◌≡◌ {A = ℕ} (cond b 0 0) 0
+pub zero-stays : (b : Bool) → ◌≡◌ {A = ℕ} (cond b 0 0) 0
 zero-stays true = refl
 zero-stays false = refl
 
 any-here : {A : Type 0} (test : A → Bool) (x : A) (xs : List A) → test x ≡ true → list_any test (x ∷ xs) ≡ true
 any-here test x xs e = ap (λ b. b || list_any test xs) e
 
-or-right : (a b : Bool) → b ≡ true → (a || b) ≡ true
+pub or-right : (a b : Bool) → b ≡ true → (a || b) ≡ true
 or-right true b e = refl
 or-right false b e = e
 
-or-left : (a b : Bool) → a ≡ true → (a || b) ≡ true
+pub or-left : (a b : Bool) → a ≡ true → (a || b) ≡ true
 or-left a b e = ap (λ c. c || b) e
 
 -- bytes that all pass a test, and by it stay
-stay : (test : ℕ → Bool) (bytes : List ℕ) → ((b : ℕ) → has_byte b bytes ≡ true → test b ≡ true) → map (λ b. cond (test b) b 0) bytes ≡ bytes
+pub stay : (test : ℕ → Bool) (bytes : List ℕ) → ((b : ℕ) → has_byte b bytes ≡ true → test b ≡ true) → map (λ b. cond (test b) b 0) bytes ≡ bytes
 stay test [] all = refl
 stay test (x ∷ xs) all =
     ap (λ t. cond t x 0 ∷ map (λ b. cond (test b) b 0) xs) (all x (or-left (x == x) (has_byte x xs) (same x)))
@@ -111,7 +111,7 @@ files-stay test (file ∷ files) all =
     ∙ ap (λ l. file ∷ l) (files-stay test files (λ b e. all b (or-right (has_byte b file.1) (list_any (λ other. has_byte b other.1) files) e)))
 
 -- bytes that stay pass the test, which 0 passes
-pass : (test : ℕ → Bool) → test 0 ≡ true → (bytes : List ℕ) → map (λ b. cond (test b) b 0) bytes ≡ bytes → AllByRecursion (λ b. test b ≡ true) bytes
+pub pass : (test : ℕ → Bool) → test 0 ≡ true → (bytes : List ℕ) → map (λ b. cond (test b) b 0) bytes ≡ bytes → AllByRecursion (λ b. test b ≡ true) bytes
 pass test zero-is [] e = tt
 pass test zero-is (x ∷ xs) e = (one (test x) refl (heads e), pass test zero-is xs (tails e))
   where

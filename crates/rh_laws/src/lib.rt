@@ -13,6 +13,7 @@ mod progress;
 mod renaming;
 mod rest;
 mod scrap;
+mod shown;
 
 pub use addressed::addressed_law;
 pub use claimed::claimed_law;
@@ -26,3 +27,4 @@ pub use progress::progress_law;
 pub use renaming::renaming_law;
 pub use rest::rest_law;
 pub use scrap::scrap_alternation_law;
+pub use shown::shown_law;

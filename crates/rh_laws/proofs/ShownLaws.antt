@@ -1,0 +1,521 @@
+-- Each command leaves tasks with no bytes but those that they may show, and so does every list of commands.
+use Rattle.rh_laws.proofs.Common.{◌≡◌, ◌≢◌, ℕ, ◌≤◌, ◌<◌, ◌++◌, Bool, true, List, [], ◌∷◌, Option, Some, None, refl, sym, ap, subst, ◌∙◌, inl, inr, arith}
+use Rattle.rh_laws.proofs.Common.{map, ℤ, ◌==◌, not, find, option_map, Ok, IfSome, AllByRecursion, eqb_tells, bytes_eq, Granted, OnGrant, granted, granted-past}
+use Rattle.rh_laws.proofs.Common.{granted-then, granted-with, or_else, or_else-keeps, append-all, found_or, NoTask, Command, Manner, Body, EventCode}
+use Rattle.rh_laws.proofs.Common.{Acknowledge, Asked, Sending, Incoming, Outgoing, Letter, Reply, Parcel, Post, post_join, post_poll, Segment, bytes_of}
+use Rattle.rh_laws.proofs.Common.{Split, Flex, Slot, slot_block, slot_begin, Desk, Task, Scrap, FileList, free_pages, has_name, named, task_at, with_delivered}
+use Rattle.rh_laws.proofs.Common.{Answer, after, start_with, alloc, budge, claim, extend, free, kill, load, make, mid, put, release, resize, start_task}
+use Rattle.rh_laws.proofs.Common.{save, repeat, poll, poll_taken, cancel_in, cancel_out, change, step, Bytes, Told, asked, IsDesk, all_in_range, in_range}
+use Rattle.rh_laws.proofs.Common.{Follows, after-is, start-is, step-keeps, at_place, Offers, Has, Good, view, task_of, and_left, and_right, is_equal, with_slot, action_of, false}
+use Rattle.rh_laws.proofs.Common.{contains_of, first_is, found_name, is_found, the_task, Fits, fits, field_is, live_of, keeps, ok_is}
+use Rattle.rh_laws.proofs.Common.{Changed, IsOnMemory, granted-on, in_areas, in_made, in_module, in_nothing, in_slot}
+use Rattle.rh_defs.specs.declared.command.Command.TheVariants as command
+use Rattle.rh_defs.specs.declared.message.Body.TheVariants as body
+use Rattle.rh_defs.specs.declared.message.FileData.{FileData}
+use Rattle.rh_defs.specs.declared.question.Question.TheVariants as question
+use Rattle.rh_defs.specs.declared.refusal.Refusal.TheVariants.{NoFile}
+use Rattle.rh_defs.specs.declared.reply.Reply.TheVariants as reply
+use Rattle.rh_defs.specs.declared.transfer.Incoming.TheVariants as incoming
+use Rattle.rh_defs.specs.declared.transfer.Outgoing.TheVariants as outgoing
+use Rattle.rh_defs.specs.Files.{file_bytes}
+use Rattle.rh_defs.specs.Questions.{Listed, show}
+use Rattle.rh_defs.specs.Receiver as receiver
+use Rattle.rh_defs.specs.Laws.{IsStart}
+use Rattle.rh_defs.specs.Records.{most_records}
+use Rattle.rh_defs.proofs.Chains.{grant-holds}
+use Rattle.rh_defs.proofs.Changes.{slot_name}
+use Rattle.rh_defs.proofs.Lists.{filter-all, find-all, rise-below}
+use Rattle.rh_safety.specs.Held.{Edits, edits_next, edits_from}
+use Rattle.rh_safety.specs.Offered.{bytes_of_block, last_of, offered_again, offered_last, offers_from, offers_next, source_of}
+use Rattle.rh_safety.proofs.KeptPolls.{Given, given}
+use Rattle.rh_safety.proofs.Numbers.{numbers-go-up}
+use Rattle.rh_safety.proofs.Runs.{start_good}
+use Rattle.rh_safety.proofs.SeenBlocks.{the_block}
+use Rattle.rh_safety.proofs.SeenLaws.{block_is}
+use Rattle.rh_safety.proofs.SeenTaking.{poll_taken_is}
+use Rattle.rh_safety.proofs.SeenTasks.{found_task}
+use Rattle.rh_safety.proofs.View.{blocks_of, seen_scrap}
+use Rattle.rh_laws.specs.Addressed.{Addresses, From, Parties, addressed_again, addressed_last, addresses_from, addresses_next, parties_of}
+use Rattle.rh_laws.specs.Renaming.{has_byte, renamed_block, renamed_segment, renamed_slot}
+use Rattle.rh_laws.specs.Shown.{AlwaysShowsOwn, AreAmong, MayShow, ShowsOwn, may_show_from, may_show_next, shows_too}
+use Rattle.rh_laws.proofs.Addresses.{Agrees, InAgrees, OutAgrees, TaskAgrees, all-has}
+use Rattle.rh_laws.proofs.AddressLaws.{step-agrees}
+use Rattle.rh_laws.proofs.RenamedHeaps.{bytes-renamed}
+use Rattle.rh_laws.proofs.RenamedLaws.{pass, stay}
+use Rattle.rh_laws.proofs.RenamedParts.{follows-test}
+use Rattle.rh_laws.proofs.ShownSlots.{BytesStay, SlotStays, Within, alloc-stays, before-within, behind-within, block-stays, bytes-wider, claim-stays}
+use Rattle.rh_laws.proofs.ShownSlots.{extend-stays, fixed-by, free-stays, keeping, keeping-zero, mid-stays, put-stays, release-stays, resize-stays, slot-wider}
+use Rattle.rh_laws.proofs.ShownPolls.{HasOwn, HaveOwn, delivered-own, handled-own, ins-own, letter-own, outs-own, slot-own}
+
+-- ---- what a task may show grows
+
+abbrev Grows : MayShow → MayShow → Type 0
+Grows may more = (h : ℕ) → Within (may h) (more h)
+
+-- the bytes of the handle itself, and those of another
+too-here : (may : MayShow) (t : Task) (bytes : List ℕ) → shows_too may (Some t) (Some bytes) t.handle ≡ may t.handle ++ bytes
+too-here may t bytes = elim (eqb_tells t.handle t.handle) [ inl w ↦ rw w.0 refl | inr w ↦ absurd (w.1 refl) ]
+
+too-grows : (may : MayShow) (o : Option Task) (b : Option (List ℕ)) → Grows may (shows_too may o b)
+too-grows may None b h x e = e
+too-grows may (Some t) None h x e = e
+too-grows may (Some t) (Some bytes) h x e = elim (eqb_tells h t.handle) [
+  | inl w ↦ rw w.0 (before-within (may t.handle) bytes x (subst (λ j. has_byte x (may j) ≡ true) w.1 e))
+  | inr w ↦ rw w.0 e
+]
+
+too-stays : (may : MayShow) (t : Task) (bytes : List ℕ) → BytesStay (keeping (shows_too may (Some t) (Some bytes) t.handle)) bytes
+too-stays may t bytes =
+    subst (λ l. BytesStay (keeping l) bytes) (sym (too-here may t bytes))
+    (stay (λ b. has_byte b (may t.handle ++ bytes)) bytes (behind-within (may t.handle) bytes))
+
+-- a task that isn't found may show what it could
+too-other : (may : MayShow) (o : Option Task) (b : Option (List ℕ)) (h : ℕ) → ((t : Task) → o ≡ Some t → t.handle ≢ h) →
+    shows_too may o b h ≡ may h
+too-other may None b h ne = refl
+too-other may (Some t) None h ne = refl
+too-other may (Some t) (Some bytes) h ne = elim (eqb_tells h t.handle) [ inl w ↦ absurd (ne t refl (sym w.1)) | inr w ↦ rw w.0 refl ]
+
+own-wider : (may more : MayShow) → Grows may more → (d : Desk) → HaveOwn may d → HaveOwn more d
+own-wider may more grows d g = record { all = go d.tasks g.all }
+  where
+    go : (ts : List Task) → AllByRecursion (HasOwn may) ts → AllByRecursion (HasOwn more) ts
+    go [] all = tt
+    go (t ∷ ts) all = (slot-wider (may t.handle) (more t.handle) (grows t.handle) t.slot all.0, go ts all.1)
+
+-- what a command makes of it: nothing, or some task may show some bytes too
+data Next (may : MayShow) (d : Desk) : MayShow → Type 0 where
+  alike : Next may d may
+  given_more : (name : List ℕ) (b : Option (List ℕ)) → Next may d (shows_too may (find (has_name name) d.tasks) b)
+
+next-is : (may : MayShow) (d : Desk) (c : Command) (r : Reply) → Next may d (may_show_next may d c r)
+next-is may d (command.Put name k offset bytes) reply.Done = given_more name (Some bytes)
+next-is may d (command.Put name k offset bytes) r = alike
+next-is may d (command.Load name k file) (reply.Block address) = given_more name (file_bytes file d.files)
+next-is may d (command.Load name k file) r = alike
+next-is may d (command.Save name k to leaf) (reply.Sent ref) = given_more to (source_of (find (has_name name) d.tasks) k)
+next-is may d (command.Save name k to leaf) r = alike
+next-is may d c r = alike
+
+next-grows : (may : MayShow) (d : Desk) (c : Command) (r : Reply) → Grows may (may_show_next may d c r)
+next-grows may d c r = go (next-is may d c r)
+  where
+    go : {new : MayShow} → Next may d new → Grows may new
+    go alike = λ h b e. e
+    go (given_more name b) = too-grows may (find (has_name name) d.tasks) b
+
+-- ---- what was offered to a task it may show
+
+abbrev Covers : Offers → Addresses → MayShow → Type 0
+Covers o a may = (id s r : ℕ) (file : List ℕ) → From (a id) s r → o id ≡ Some file → BytesStay (keeping (may r)) file
+
+covers-wider : {o : Offers} {a : Addresses} (may more : MayShow) → Grows may more → Covers o a may → Covers o a more
+covers-wider may more grows covers id s r file from is = bytes-wider (may r) (more r) (grows r) file (covers id s r file from is)
+
+-- one more id that offers something
+covers-at : (o : Offers) (a : Addresses) (may : MayShow) (ref : ℕ) (p : Option Parties) (v : Option (List ℕ)) → Covers o a may →
+    ((s r : ℕ) (file : List ℕ) → From p s r → v ≡ Some file → BytesStay (keeping (may r)) file) →
+    Covers (at_place o ref v) (at_place a ref p) may
+covers-at o a may ref p v covers new id s r file = elim (eqb_tells id ref) [
+  | inl w ↦ rw w.0 (new s r file)
+  | inr w ↦ rw w.0 (covers id s r file)
+]
+
+-- a save
+saved-stays : (may : MayShow) (o p : Option Task) (b : Option (List ℕ)) (s r : ℕ) (file : List ℕ) → From (parties_of o p) s r → b ≡ Some file →
+    BytesStay (keeping (shows_too may p b r)) file
+saved-stays may (Some x) (Some y) (Some bytes) s r file from is =
+    let same : y.handle ≡ r = ap receiver_in from in
+    let one : bytes ≡ file = cc in
+    subst (λ j. BytesStay (keeping (shows_too may (Some y) (Some bytes) j)) file) same
+    (subst (λ l. BytesStay (keeping (shows_too may (Some y) (Some bytes) y.handle)) l) one (too-stays may y bytes))
+  where
+    receiver_in : Option Parties → ℕ
+    receiver_in None = 0
+    receiver_in (Some p) = p.receiver
+saved-stays may None p b s r file from is = absurd cc
+saved-stays may (Some x) None b s r file from is = absurd cc
+saved-stays may (Some x) (Some y) None s r file from is = absurd cc
+
+again-covers : (o : Offers) (a : Addresses) (may : MayShow) (ref : ℕ) (last : Option (Letter × ℕ)) → Covers o a may →
+    Covers (offered_last o ref last) (addressed_last a ref last) may
+again-covers o a may ref None covers = covers
+again-covers o a may ref (Some last) covers = go last.0.body
+  where
+    go : (b : Body) → Covers (offered_again o ref last.1 b) (addressed_again a ref last.1 b) may
+    go (body.DataSave file) = covers-at o a may ref (a last.1) (o last.1) covers (λ s r bytes from is. covers last.1 s r bytes from is)
+    go b = covers
+
+next-covers : (o : Offers) (a : Addresses) (may : MayShow) (d : Desk) (c : Command) (r : Reply) → Covers o a may →
+    Covers (offers_next o d c r) (addresses_next a d c r) (may_show_next may d c r)
+next-covers o a may d (command.Save name k to leaf) (reply.Sent ref) covers =
+    let more : MayShow = shows_too may (find (has_name to) d.tasks) (source_of (find (has_name name) d.tasks) k) in
+    covers-at o a more ref _ _ (covers-wider may more (too-grows may (find (has_name to) d.tasks) _) covers)
+    (saved-stays may (find (has_name name) d.tasks) (find (has_name to) d.tasks) (source_of (find (has_name name) d.tasks) k))
+next-covers o a may d (command.Save name k to leaf) r covers = covers
+next-covers o a may d (command.Repeat name) (reply.Sent ref) covers = again-covers o a may ref (last_of (find (has_name name) d.tasks)) covers
+next-covers o a may d (command.Repeat name) r covers = covers
+next-covers o a may d (command.Put name k offset bytes) r covers =
+    covers-wider may _ (next-grows may d (command.Put name k offset bytes) r) covers
+next-covers o a may d (command.Load name k file) r covers = covers-wider may _ (next-grows may d (command.Load name k file) r) covers
+next-covers o a may d c r covers = covers
+
+-- ---- commands
+
+module _ (may : MayShow) (d : Desk) (g : HaveOwn may d) where
+  named-own : (name : List ℕ) (t : Task) → named name d ≡ Ok t → HasOwn may t
+  named-own name t q =
+      subst (λ (o : Option Task). IfSome o (HasOwn may)) (found_name d name t q) (find-all (HasOwn may) (has_name name) d.tasks g.all)
+
+  -- after an answer
+  record Leaves (x : Answer) : Type 0 where
+    desk : HaveOwn may x.0
+
+  leaves : {x : Answer} → HaveOwn may x.0 → OnGrant Leaves (Ok x)
+  leaves is = granted (record { desk = is })
+
+  -- another slot for the task that was found
+  slot-leaves : (t : Task) (s : Slot) → SlotStays (keeping (may t.handle)) s → {said : Reply} → OnGrant Leaves (Ok (with_slot t.handle s d, said))
+  slot-leaves t s stays = leaves (slot-own t.handle s stays d g)
+
+  alloc-leaves : (name : List ℕ) (k n : ℕ) → OnGrant Leaves (alloc d name k n)
+  unfolding alloc
+  alloc-leaves name k n =
+      granted-then _ _ λ t e.
+      granted-with _ (alloc-stays (keeping (may t.handle)) (keeping-zero (may t.handle)) t.slot (named-own name t e) (free_pages d) k n) λ p stays.
+      slot-leaves t p.0 stays
+
+  free-leaves : (name : List ℕ) (k : ℕ) → OnGrant Leaves (free d name k)
+  unfolding free
+  free-leaves name k =
+      granted-then _ _ λ t e. granted-then _ _ λ b idle.
+      granted-with _ (free-stays (keeping (may t.handle)) t.slot (named-own name t e) k) λ s stays. slot-leaves t s stays
+
+  extend-leaves : (name : List ℕ) (k n : ℕ) → OnGrant Leaves (extend d name k n)
+  unfolding extend
+  extend-leaves name k n =
+      granted-then _ _ λ t e. granted-then _ _ λ b idle.
+      granted-with _ (extend-stays (keeping (may t.handle)) (keeping-zero (may t.handle)) t.slot (named-own name t e) (free_pages d) k n) λ s stays.
+      slot-leaves t s stays
+
+  mid-leaves : (name : List ℕ) (k offset : ℕ) (by : ℤ) → OnGrant Leaves (mid d name k offset by)
+  unfolding mid
+  mid-leaves name k offset by =
+      granted-then _ _ λ t e. granted-then _ _ λ b idle.
+      granted-with _ (mid-stays (keeping (may t.handle)) (keeping-zero (may t.handle)) t.slot (named-own name t e) (free_pages d) k offset by) λ s stays.
+      slot-leaves t s stays
+
+  claim-leaves : (name : List ℕ) (n : ℕ) → OnGrant Leaves (claim d name n)
+  unfolding claim
+  claim-leaves name n =
+      granted-then _ _ λ t e.
+      granted-with _ (claim-stays (keeping (may t.handle)) (keeping-zero (may t.handle)) t.slot (named-own name t e) (free_pages d) n) λ p stays.
+      slot-leaves t p.0 stays
+
+  release-leaves : (name : List ℕ) (address : ℕ) → OnGrant Leaves (release d name address)
+  unfolding release
+  release-leaves name address =
+      granted-then _ _ λ t e. granted-then _ _ λ b idle.
+      granted-with _ (release-stays (keeping (may t.handle)) t.slot (named-own name t e) address) λ s stays. slot-leaves t s stays
+
+  resize-leaves : (name : List ℕ) (address : ℕ) (delta : ℤ) → OnGrant Leaves (resize d name address delta)
+  unfolding resize
+  resize-leaves name address delta =
+      granted-then _ _ λ t e. granted-then _ _ λ b idle.
+      granted-with _ (resize-stays (keeping (may t.handle)) (keeping-zero (may t.handle)) t.slot (named-own name t e) (free_pages d) address delta)
+      λ p stays. slot-leaves t p.0 stays
+
+  budge-leaves : (name : List ℕ) (on : Bool) → OnGrant Leaves (budge d name on)
+  unfolding budge
+  budge-leaves name on =
+      granted-then _ _ λ t e.
+      slot-leaves t _ (ap (λ (s : Slot). record s { budging = on }) (named-own name t e))
+
+  start_task-leaves : (name : List ℕ) (buffer : ℕ) (manner : Manner) → OnGrant Leaves (start_task d name buffer manner)
+  unfolding start_task slot_begin
+  start_task-leaves name buffer manner =
+      granted-past _ _ _ λ x. granted-past _ _ _ λ y. granted-past _ _ _ λ z.
+      granted-with _ (fixed-by {g = renamed_slot (keeping (may d.next_handle))} (follows-test _ _ _ _ _ refl (Follows.both refl)) refl) λ s stays.
+      leaves (record { all = append-all (HasOwn may) d.tasks _ g.all stays })
+
+  kill-leaves : (name : List ℕ) → OnGrant Leaves (kill d name)
+  unfolding kill with_delivered
+  kill-leaves name =
+      granted-then _ _ λ t e.
+      leaves (record { all = filter-all (HasOwn may) (λ (other : Task). not (other.handle == t.handle)) d.tasks g.all })
+
+  save-leaves : (name : List ℕ) (k : ℕ) (to leaf : List ℕ) → OnGrant Leaves (save d name k to leaf)
+  unfolding save
+  save-leaves name k to leaf =
+      granted-then _ _ λ t e. granted-then _ _ λ b idle. granted-past _ _ _ λ full. granted-then _ _ λ r i.
+      granted-with _ (letter-own _ d g) λ sent all. leaves (outs-own t.handle _ sent all)
+
+  repeat-leaves : (name : List ℕ) → OnGrant Leaves (repeat d name)
+  unfolding repeat
+  repeat-leaves name =
+      granted-then _ _ λ t e. granted-then _ _ λ last f. granted-with _ (letter-own _ d g) λ sent all. leaves all
+
+  cancel_in-leaves : (name : List ℕ) (id : Option ℕ) → OnGrant Leaves (cancel_in d name id)
+  unfolding cancel_in
+  cancel_in-leaves name id = granted-then _ _ λ t e. granted-then _ _ λ records f. leaves (ins-own t.handle _ d g)
+
+  cancel_out-leaves : (name : List ℕ) (id : Option ℕ) → OnGrant Leaves (cancel_out d name id)
+  unfolding cancel_out
+  cancel_out-leaves name id = granted-then _ _ λ t e. granted-then _ _ λ records f. leaves (outs-own t.handle _ d g)
+
+  make-leaves : (most : ℕ) → OnGrant Leaves (make d most)
+  unfolding make
+  make-leaves most = granted-past _ _ _ λ x. granted-past _ _ _ λ y. leaves (record { all = g.all })
+
+  -- a command on memory that is no task's
+  changed-leaves : {c : Command} → slot_name c ≡ None → (x : Answer) → Changed c d x → Leaves x
+  changed-leaves none _ (in_slot name t s own e is) = absurd (let z : None ≡ Some name = sym none ∙ own in cc)
+  changed-leaves none _ (in_module h is) = record { desk = record { all = g.all } }
+  changed-leaves none _ (in_areas areas is) = record { desk = record { all = g.all } }
+  changed-leaves none _ (in_made areas is) = record { desk = record { all = g.all } }
+  changed-leaves none _ (in_nothing is) = record { desk = g }
+
+  memory-leaves : (c : Command) → IsOnMemory c → slot_name c ≡ None → OnGrant Leaves (change d c)
+  memory-leaves c is none = granted-on d c is (changed-leaves none)
+
+-- ---- commands that give a task bytes of its own
+
+module _ (may : MayShow) (d : Desk) (g : HaveOwn may d) where
+  -- after an answer, by what tasks may show then
+  record Gives (c : Command) (x : Answer) : Type 0 where
+    desk : HaveOwn (may_show_next may d c x.1) x.0
+
+  -- the task may show the bytes too
+  module _ (t : Task) (bytes : List ℕ) where
+    all-wider : HaveOwn (shows_too may (Some t) (Some bytes)) d
+    all-wider = own-wider may _ (too-grows may (Some t) (Some bytes)) d g
+
+    task-wider : HasOwn may t → SlotStays (keeping (shows_too may (Some t) (Some bytes) t.handle)) t.slot
+    task-wider own = slot-wider (may t.handle) _ (too-grows may (Some t) (Some bytes) t.handle) t.slot own
+
+  put-gives : (name : List ℕ) (k offset : ℕ) (bytes : List ℕ) → OnGrant (Gives (command.Put name k offset bytes)) (put d name k offset bytes)
+  unfolding put
+  put-gives name k offset bytes =
+      granted-then _ _ λ t e. granted-then _ _ λ b idle.
+      granted-with _ (put-stays _ t.slot (task-wider t bytes (named-own may d g name t e)) k offset bytes (too-stays may t bytes)) λ s stays.
+      granted (record {
+        desk = subst (λ o. HaveOwn (shows_too may o (Some bytes)) (with_slot t.handle s d)) (sym (found_name d name t e))
+            (slot-own t.handle s stays d (all-wider t bytes));
+      })
+
+  load-gives : (name : List ℕ) (k : ℕ) (file : List ℕ) → OnGrant (Gives (command.Load name k file)) (load d name k file)
+  unfolding load
+  load-gives name k file =
+      granted-then _ _ λ t e. granted-then _ _ λ entry i.
+      let bytes : List ℕ = entry.1 in
+      let list : List ℕ = shows_too may (Some t) (Some bytes) t.handle in
+      granted-with _ (alloc-stays (keeping list) (keeping-zero list) t.slot (task-wider t bytes (named-own may d g name t e)) (free_pages d) k _) λ p there.
+      granted-with _ (put-stays (keeping list) p.0 there k 0 bytes (too-stays may t bytes)) λ s stays.
+      granted (record {
+        desk = subst (λ o. HaveOwn (shows_too may o (file_bytes file d.files)) (with_slot t.handle s d)) (sym (found_name d name t e))
+            (subst (λ v. HaveOwn (shows_too may (Some t) v) (with_slot t.handle s d))
+            (sym (ap (option_map (λ (z : List ℕ × List ℕ). z.1)) (is_found _ NoFile entry i)))
+            (slot-own t.handle s stays d (all-wider t bytes)));
+      })
+
+-- ---- a poll
+
+module _ {o : Offers} {e : Edits} {a : Addresses} {may : MayShow} (d : Desk) (f : Fits d) (good : Good o e (view d)) (agrees : Agrees a d)
+    (covers : Covers o a may) (g : HaveOwn may d) where
+  module _ (name : List ℕ) (t : Task) (q : named name d ≡ Ok t) where
+    abbrev h : ℕ
+    h = t.handle
+
+    abbrev polled : Post × Option Parcel
+    polled = post_poll h d.post
+
+    abbrev now : Desk
+    now = with_delivered polled.0 d
+
+    is : task_of h d.tasks ≡ Some t
+    is = the_task d name t f q
+
+    has-agreed : TaskAgrees a t
+    has-agreed =
+        subst (λ (v : Option Task). IfSome v (TaskAgrees a)) (found_name d name t q) (find-all (TaskAgrees a) (has_name name) d.tasks agrees.of_tasks)
+
+    source-shown : (x : Sending) → Has (outgoing.Open x) t.sending → (source : Split Flex) → slot_block x.anchor t.slot ≡ Ok source →
+        BytesStay (keeping (may x.recipient)) source.here.bytes
+    source-shown x has source found =
+        let w = good.inv.outs.source h x (subst (λ (vs : List Outgoing). Has (outgoing.Open x) vs)
+        (sym (field_is (λ y. y.sending) [] h d.tasks t is)) has) in
+        let here : (view d).block h x.anchor ≡ Some source.here.bytes =
+        ap (λ (m : ℕ → Option (List ℕ)). m x.anchor) (field_is (λ y. blocks_of y.slot) (λ k. None) h d.tasks t is)
+        ∙ block_is t.slot x.anchor ∙ ap (option_map (λ (b : Split Flex). b.here.bytes)) (the_block x.anchor t.slot source found) in
+        covers x.id h x.recipient source.here.bytes (all-has (OutAgrees a h) t.sending (outgoing.Open x) has-agreed.outs has)
+        (w.offered ∙ sym w.there ∙ here)
+
+    file-shown : (m : Parcel) → polled.1 ≡ Some m → (m.code ≡ Acknowledge → ⊥) → (file : FileData) → m.message.body ≡ body.DataLoad file →
+        (x : Asked) → Has (incoming.Asking x) t.taking → receiver.is_load m.message.from m.message.your_ref x ≡ true →
+        (scrap : Scrap) → now.scrap ≡ Some scrap → scrap.load ≡ m.message.my_ref → BytesStay (keeping (may h)) scrap.bytes
+    file-shown m taken ne file kind x has passes scrap there load =
+        let w = given d t f is good polled (f.polled h) (poll_taken_is d h f (live_of d h t is)) m taken in
+        let seen : Has (incoming.Asking x) ((view now).taking h) =
+        subst (λ (ws : List Incoming). Has (incoming.Asking x) ws) (sym (field_is (λ y. y.taking) [] h now.tasks t w.is)) has in
+        covers x.id x.sender h scrap.bytes (all-has (InAgrees a h) t.taking (incoming.Asking x) has-agreed.ins has)
+        (((w.came ne).read.ok.file h x seen).whole (seen_scrap scrap) (ap (option_map seen_scrap) there) (ap action_of kind) (sym load)
+        (is_equal _ _ (and_right (m.message.from == x.sender) _ passes)))
+
+    polled-own : (v : Option Parcel) → polled.1 ≡ v → HaveOwn may (poll_taken now t v).0
+    unfolding poll_taken
+    polled-own None taken = delivered-own polled.0 d g
+    polled-own (Some m) taken =
+        handled-own may t (named-own may d g name t q) now (delivered-own polled.0 d g) m source-shown m.code
+        (λ ne file kind x has passes. file-shown m taken ne file kind x has passes)
+
+  poll-leaves : (name : List ℕ) → OnGrant (Leaves may d g) (poll d name)
+  unfolding poll
+  poll-leaves name = granted-then _ _ λ t q. granted (record { desk = polled-own name t q (post_poll t.handle d.post).1 refl })
+
+-- ---- all commands
+
+-- what holds of a desk that is reached, and of what tasks may show there
+record Reached (may : MayShow) (d : Desk) : Type 0 where
+  offers : Offers
+  edits : Edits
+  addresses : Addresses
+  good : Good offers edits (view d)
+  kept : IsDesk d
+  agrees : Agrees addresses d
+  covers : Covers offers addresses may
+  own : HaveOwn may d
+  zero : (h : ℕ) → has_byte 0 (may h) ≡ true
+  new : (h : ℕ) → d.next_handle ≤ h → may h ≡ 0 ∷ []
+
+module _ (may : MayShow) (d : Desk) (w : Reached may d) where
+  -- what tasks may show after a command
+  abbrev then : Command → MayShow
+  then c = may_show_next may d c (step d c).1
+
+  own-then : (c : Command) → HaveOwn (then c) d
+  own-then c = own-wider may (then c) (next-grows may d c (step d c).1) d w.own
+
+  -- a command that gives no task a byte, or is refused
+  kept-own : {r : Granted Answer} → OnGrant (Leaves may d w.own) r → HaveOwn may (or_else r (λ refusal. (d, reply.Refused refusal))).0
+  kept-own all = (or_else-keeps (Leaves may d w.own) _ all (λ refusal. record { desk = w.own })).desk
+
+  step-own : (c : Command) → HaveOwn (then c) (step d c).0
+  step-own (command.Task name buffer manner) = kept-own (start_task-leaves may d w.own name buffer manner)
+  step-own (command.Kill name) = kept-own (kill-leaves may d w.own name)
+  step-own (command.Alloc name k n) = kept-own (alloc-leaves may d w.own name k n)
+  step-own (command.Load name k file) =
+      (or_else-keeps (Gives may d w.own (command.Load name k file)) _ (load-gives may d w.own name k file) (λ refusal. record { desk = w.own })).desk
+  step-own (command.Put name k offset bytes) =
+      (or_else-keeps (Gives may d w.own (command.Put name k offset bytes)) _ (put-gives may d w.own name k offset bytes)
+      (λ refusal. record { desk = w.own })).desk
+  step-own (command.Free name k) = kept-own (free-leaves may d w.own name k)
+  step-own (command.Extend name k n) = kept-own (extend-leaves may d w.own name k n)
+  step-own (command.Mid name k offset by) = kept-own (mid-leaves may d w.own name k offset by)
+  step-own (command.Claim name n) = kept-own (claim-leaves may d w.own name n)
+  step-own (command.Release name address) = kept-own (release-leaves may d w.own name address)
+  step-own (command.Resize name address delta) = kept-own (resize-leaves may d w.own name address delta)
+  step-own (command.Budge name on) = kept-own (budge-leaves may d w.own name on)
+  step-own (command.Save name k to leaf) =
+      let own = own-then (command.Save name k to leaf) in
+      (or_else-keeps (Leaves (then (command.Save name k to leaf)) d own) _ (save-leaves _ d own name k to leaf) (λ refusal. record { desk = own })).desk
+  step-own (command.Poll name) = kept-own (poll-leaves d (fits d w.kept) w.good w.agrees w.covers w.own name)
+  step-own (command.CancelIn name id) = kept-own (cancel_in-leaves may d w.own name id)
+  step-own (command.CancelOut name id) = kept-own (cancel_out-leaves may d w.own name id)
+  step-own (command.Repeat name) = kept-own (repeat-leaves may d w.own name)
+  step-own (command.Make most) = kept-own (make-leaves may d w.own most)
+  step-own c = kept-own (memory-leaves may d w.own c tt refl)
+
+  -- a live task's handle was given
+  below : (name : List ℕ) (t : Task) → find (has_name name) d.tasks ≡ Some t → t.handle < d.next_handle
+  below name t q = w.good.inv.alive t.handle (live_of d t.handle t (found_task (has_name name) d.tasks t (fits d w.kept).handles q))
+
+  new-then : (c : Command) (h : ℕ) → d.next_handle ≤ h → then c h ≡ 0 ∷ []
+  new-then c h low = go (next-is may d c (step d c).1) ∙ w.new h low
+    where
+      go : {more : MayShow} → Next may d more → more h ≡ may h
+      go alike = refl
+      go (given_more name b) = too-other may (find (has_name name) d.tasks) b h (λ t q same. let x = below name t q in omega (arith, x, low, same))
+
+  step-reached : (c : Command) → in_range c ≡ true → Reached (then c) (step d c).0
+  step-reached c ranged =
+      let grows = next-grows may d c (step d c).1 in
+      record {
+        offers = offers_next w.offers d c (step d c).1;
+        edits = edits_next w.edits d c (step d c).1;
+        addresses = addresses_next w.addresses d c (step d c).1;
+        good = keeps c ranged d w.good (fits d w.kept);
+        kept = step-keeps d c ranged w.kept;
+        agrees = step-agrees w.addresses d w.agrees c;
+        covers = next-covers w.offers w.addresses may d c (step d c).1 w.covers;
+        own = step-own c;
+        zero = λ h. grows h 0 (w.zero h);
+        new = λ h low. new-then c h (let up = rise-below (λ n. n) d.next_handle (step d c).0.next_handle _ (numbers-go-up d (c ∷ [])).handles in
+            omega (arith, up, low));
+      }
+
+after-reached : (cs : List Command) → all_in_range cs ≡ true → (may : MayShow) (d : Desk) → Reached may d →
+    Reached (may_show_from may d cs) (after d cs)
+after-reached [] ranged may d w = w
+after-reached (c ∷ cs) ranged may d w =
+    after-reached cs (and_right (in_range c) _ ranged) _ _ (step-reached may d w c (and_left (in_range c) _ ranged))
+
+-- ---- the law
+
+-- a list that a function leaves, each of whose members it leaves
+each-stays : {A : Type 0} (g : A → A) (P : A → Type 0) → ((x : A) → g x ≡ x → P x) → (xs : List A) → map g xs ≡ xs → AllByRecursion P xs
+each-stays g P one [] e = tt
+each-stays {A} g P one (x ∷ xs) e = (one x (heads e), each-stays g P one xs (tails e))
+  where
+    heads : {y z : A} {ys zs : List A} → ◌≡◌ {A = List A} (y ∷ ys) (z ∷ zs) → y ≡ z
+    heads e = cc
+
+    tails : {y z : A} {ys zs : List A} → ◌≡◌ {A = List A} (y ∷ ys) (z ∷ zs) → ys ≡ zs
+    tails e = cc
+
+abbrev listed_bytes : Listed → List ℕ
+listed_bytes (Bytes bytes) = bytes
+listed_bytes _ = []
+
+module _ (may : MayShow) (d : Desk) (w : Reached may d) where
+  among : (h : ℕ) (bytes : List ℕ) → BytesStay (keeping (may h)) bytes → AreAmong (may h) bytes
+  among h bytes e = pass (λ b. has_byte b (may h)) (w.zero h) bytes e
+
+  at-own : (h : ℕ) (t : Task) → task_at h d ≡ Some t → SlotStays (keeping (may h)) t.slot
+  at-own h t at =
+      let own : HasOwn may t = subst (λ (v : Option Task). IfSome v (HasOwn may)) at (find-all (HasOwn may) (λ (y : Task). y.handle == h) d.tasks w.own.all) in
+      subst (λ j. SlotStays (keeping (may j)) t.slot) (is_equal _ _ (first_is (λ (y : Task). y.handle == h) d.tasks t at).1) own
+
+  show-own : (name : List ℕ) (k : ℕ) → OnGrant (λ (told : Told). (t : Task) → find (has_name name) d.tasks ≡ Some t →
+      AreAmong (may t.handle) (listed_bytes told.1)) (show d name k)
+  unfolding show
+  show-own name k =
+      granted-then _ _ λ u e. granted-with _ (block-stays (keeping (may u.handle)) u.slot (named-own may d w.own name u e) k) λ b stays.
+      granted (λ t q. let one : Some u ≡ Some t = sym (found_name d name u e) ∙ q in let same : u ≡ t = cc in
+      subst (λ (y : Task). AreAmong (may y.handle) b.here.bytes) same (among u.handle b.here.bytes stays))
+
+  shows-own : ShowsOwn d may
+  shows-own = record {
+    blocks = λ h t at. each-stays (renamed_block (keeping (may h))) _ (λ (b : Flex) e. among h b.bytes (ap (λ (c : Flex). c.bytes) e)) t.slot.blocks
+        (ap (λ (s : Slot). s.blocks) (at-own h t at));
+    heap = λ h t at. each-stays (renamed_segment (keeping (may h))) _ (λ (s : Segment) e.
+        among h (bytes_of s) (sym (bytes-renamed (keeping (may h)) s) ∙ ap bytes_of e)) t.slot.heap.segments
+        (ap (λ (s : Slot). s.heap.segments) (at-own h t at));
+    shown = λ name k t size bytes q is. grant-holds (show-own name k) is t q;
+    new = w.new;
+  }
+
+pub always-shows-own : AlwaysShowsOwn
+always-shows-own pool handle ref files cs from ranged =
+    let positive : 0 < ref = omega (arith, from.first_ref) in
+    shows-own _ _ (after-reached cs ranged (λ h. 0 ∷ []) (start_with pool files handle ref) (record {
+      offers = λ i. None;
+      edits = λ h i. false;
+      addresses = λ i. None;
+      good = start_good most_records handle ref positive;
+      kept = start-is pool handle ref files from;
+      agrees = record { born = λ i low. refl; of_tasks = tt; mail = tt };
+      covers = λ id s r file from is. absurd cc;
+      own = record { all = tt };
+      zero = λ h. refl;
+      new = λ h low. refl;
+    }))

@@ -1,0 +1,259 @@
+-- Each message that a poll handles leaves all slots with no bytes but those that their tasks may show.
+use Rattle.rh_laws.proofs.Common.{◌≡◌, ℕ, Bool, true, List, length, Option, Some, None, refl, sym, ap, ◌∙◌, subst, ◌+◌, inl, inr, ◌==◌, IfSome, Ok}
+use Rattle.rh_laws.proofs.Common.{take, drop, eqb_tells, NoTask, Body, EventCode, User, Recorded, Acknowledge, Asked, Sending, Taking, Incoming, Outgoing}
+use Rattle.rh_laws.proofs.Common.{Letter, Outcome, Transmit, Part, SaveFile, SendAction, Claim, Append, Fetch, Next, LoadFile, TakeAction, Granted}
+use Rattle.rh_laws.proofs.Common.{Split, Flex, Slot, slot_block, slot_extend, slot_put, heap_block_at, Parcel, Post, Desk, Task, Scrap, task_at}
+use Rattle.rh_laws.proofs.Common.{free_pages, next_ref, send_letter, with_delivered, with_post, with_sending, with_slot, with_taking, with_task}
+use Rattle.rh_laws.proofs.Common.{Handled, fail_sending, ignored, perform_send, refused, save_scrap, send_with, transmit, accept, ack_back, append}
+use Rattle.rh_laws.proofs.Common.{appended, ask, taking_ended, fetch_more, load_file, loaded, perform_take, take_with, took, came, came_back, handled}
+use Rattle.rh_laws.proofs.Common.{AllByRecursion, OnGrant, chosen, granted, granted-both, granted-past, granted-then, granted-with, or_else-keeps, Has}
+use Rattle.rh_laws.proofs.Common.{any-grant, first_is, is_equal, is_found}
+use Rattle.rh_defs.specs.declared.message.Body.TheVariants as body
+use Rattle.rh_defs.specs.declared.message.FileData.{FileData}
+use Rattle.rh_defs.specs.declared.transfer.Incoming.TheVariants as incoming
+use Rattle.rh_defs.specs.declared.transfer.Outgoing.TheVariants as outgoing
+use Rattle.rh_defs.specs.declared.transfer_action.SendAction.TheVariants as send_action
+use Rattle.rh_defs.specs.declared.transfer_action.TakeAction.TheVariants as take_action
+use Rattle.rh_defs.specs.declared.transfer_action.Next.TheVariants as next_action
+use Rattle.rh_defs.specs.IncomingEvents.{end_failed}
+use Rattle.rh_defs.specs.Places.{first_bytes}
+use Rattle.rh_defs.specs.Sender as sender
+use Rattle.rh_defs.specs.Receiver as receiver
+use Rattle.rh_safety.proofs.Actions.{bounce-does, load-does, open-does, save-does, transmit-does}
+use Rattle.rh_laws.specs.Shown.{MayShow}
+use Rattle.rh_laws.proofs.Addresses.{all-edit}
+use Rattle.rh_laws.proofs.ShownSlots.{BytesStay, SlotStays, alloc-stays, claim-stays, extend-stays, first-stays, keeping, keeping-zero, part-stays}
+use Rattle.rh_laws.proofs.ShownSlots.{put-stays, without-stays, written-stays}
+
+-- ---- desks
+
+-- a task has no bytes but those that it may show
+abbrev pub HasOwn : MayShow → Task → Type 0
+HasOwn may t = SlotStays (keeping (may t.handle)) t.slot
+
+-- so it is of each task
+pub record HaveOwn (may : MayShow) (d : Desk) : Type 0 where
+  pub all : AllByRecursion (HasOwn may) d.tasks
+
+module _ {may : MayShow} where
+  pub task-own : (h : ℕ) (edit : Task → Task) → ((t : Task) → t.handle ≡ h → HasOwn may t → HasOwn may (edit t)) → (d : Desk) →
+      HaveOwn may d → HaveOwn may (with_task h edit d)
+  unfolding with_task
+  task-own h edit keeps d g = record { all = all-edit (HasOwn may) h edit keeps d.tasks g.all }
+
+  pub slot-own : (h : ℕ) (s : Slot) → SlotStays (keeping (may h)) s → (d : Desk) → HaveOwn may d → HaveOwn may (with_slot h s d)
+  slot-own h s stays d g =
+      task-own h (λ (t : Task). record t { slot = s }) (λ t same is. subst (λ j. SlotStays (keeping (may j)) s) (sym same) stays) d g
+
+  pub outs-own : (h : ℕ) (edit : List Outgoing → List Outgoing) (d : Desk) → HaveOwn may d → HaveOwn may (with_sending h edit d)
+  outs-own h edit d g = task-own h (λ (t : Task). record t { sending = edit t.sending }) (λ t same is. is) d g
+
+  pub ins-own : (h : ℕ) (edit : List Incoming → List Incoming) (d : Desk) → HaveOwn may d → HaveOwn may (with_taking h edit d)
+  ins-own h edit d g = task-own h (λ (t : Task). record t { taking = edit t.taking }) (λ t same is. is) d g
+
+  ended-own : (h : ℕ) (x : Taking) (edit : List Incoming → List Incoming) (d : Desk) → HaveOwn may d → HaveOwn may (taking_ended h x edit d)
+  unfolding taking_ended
+  ended-own h x edit d g =
+      ins-own h edit _ (task-own h _ (λ t same is. without-stays (keeping (may t.handle)) t.slot is x.buffer) d g)
+
+  pub letter-own : (l : Letter) (d : Desk) → HaveOwn may d → OnGrant (HaveOwn may) (send_letter l d)
+  unfolding send_letter
+  letter-own l d g =
+      granted-then _ _ λ sent e.
+      granted (task-own l.from (λ (t : Task). record t { last_sent = Some (l, sent.1) }) (λ t same is. is) (with_post sent.0 d)
+      (record { all = g.all }))
+
+  pub delivered-own : (p : Post) (d : Desk) → HaveOwn may d → HaveOwn may (with_delivered p d)
+  unfolding with_delivered
+  delivered-own p d g = record { all = g.all }
+
+-- ---- what is done with a message
+
+-- after a message was handled
+record Leaves (may : MayShow) (x : Handled) : Type 0 where
+  desk : HaveOwn may x.0
+
+module _ (may : MayShow) (t : Task) (own : HasOwn may t) where
+  abbrev h : ℕ
+  h = t.handle
+
+  abbrev f : ℕ → ℕ
+  f = keeping (may h)
+
+  -- the recipient may show the bytes of the source
+  abbrev Sends : SendAction → Type 0
+  Sends c =
+      (source : Split Flex) → slot_block (sender.transfer_of c).anchor t.slot ≡ Ok source →
+      BytesStay (keeping (may (sender.transfer_of c).recipient)) source.here.bytes
+
+  -- the task may show the bytes of its scrap file
+  abbrev Takes : Desk → TakeAction → Type 0
+  Takes d (take_action.LoadFile c) = (file : Scrap) → d.scrap ≡ Some file → file.load ≡ c.answers → BytesStay f file.bytes
+  Takes d c = Unit {0}
+
+  module _ (d : Desk) (g : HaveOwn may d) where
+    ignored-own : Leaves may (ignored d)
+    ignored-own = record { desk = g }
+
+    ended-with : (x : Taking) (edit : List Incoming → List Incoming) (o : Outcome) → Leaves may (taking_ended h x edit d, o)
+    ended-with x edit o = record { desk = ended-own h x edit d g }
+
+    ins-with : (edit : List Incoming → List Incoming) (o : Outcome) → Leaves may (with_taking h edit d, o)
+    ins-with edit o = record { desk = ins-own h edit d g }
+
+    outs-with : (edit : List Outgoing → List Outgoing) (o : Outcome) → Leaves may (with_sending h edit d, o)
+    outs-with edit o = record { desk = outs-own h edit d g }
+
+    transmit-own : (c : Transmit) (source : Split Flex) → BytesStay (keeping (may c.transfer.recipient)) source.here.bytes →
+        OnGrant (Leaves may) (transmit d t c source)
+    unfolding transmit
+    transmit-own c source e =
+        granted-then _ _ λ r live. granted-past _ _ _ λ reach. granted-with _ (letter-own _ d g) λ sent all.
+        let p : Part = sender.next_part c (length source.here.bytes) in
+        let found : task_at c.transfer.recipient d ≡ Some r = is_found _ NoTask r live in
+        let same : r.handle ≡ c.transfer.recipient =
+        is_equal _ _ (first_is (λ (y : Task). y.handle == c.transfer.recipient) d.tasks r found).1 in
+        granted (record {
+          desk = outs-own h _ _ (task-own r.handle _ (λ u here is.
+              written-stays (keeping (may u.handle)) u.slot is c.buffer c.room (take p.n (drop p.offset source.here.bytes))
+              (part-stays (keeping (may u.handle)) p.n p.offset source.here.bytes
+              (subst (λ j. BytesStay (keeping (may j)) source.here.bytes) (sym (here ∙ same)) e))) sent all);
+        })
+
+    save_scrap-own : (c : SaveFile) (source : Split Flex) → OnGrant (Leaves may) (save_scrap d t c source)
+    unfolding save_scrap
+    save_scrap-own c source =
+        granted-past _ _ _ λ busy. granted-both _ (any-grant _) λ y u. granted-past _ _ _ λ room.
+        granted-with _ (letter-own _ _ (record { all = g.all })) λ sent all.
+        granted (record { desk = outs-own h _ _ (record { all = all.all }) })
+
+    send_with-own : (c : SendAction) (source : Split Flex) → BytesStay (keeping (may (sender.transfer_of c).recipient)) source.here.bytes →
+        OnGrant (Leaves may) (send_with d t c source)
+    unfolding send_with
+    send_with-own (send_action.Transmit c) source e = transmit-own c source e
+    send_with-own (send_action.SaveFile c) source e = save_scrap-own c source
+    send_with-own (send_action.Finish x) source e = granted (outs-with _ _)
+
+    perform_send-own : (v : Option SendAction) → IfSome v Sends → Leaves may (perform_send d t v)
+    unfolding perform_send
+    perform_send-own None sends = ignored-own
+    perform_send-own (Some c) sends =
+        or_else-keeps (Leaves may) _ (granted-then _ _ λ source found. send_with-own c source (sends source found)) (λ refusal. outs-with _ _)
+
+    fail_sending-own : (v : Option Sending) → Leaves may (fail_sending d t v)
+    unfolding fail_sending
+    fail_sending-own None = ignored-own
+    fail_sending-own (Some x) = outs-with _ _
+
+    accept-own : (c : Claim) → OnGrant (Leaves may) (accept d t c)
+    unfolding accept
+    accept-own c =
+        granted-then _ _ λ k free. granted-with _ (claim-stays f (keeping-zero (may h)) t.slot own (free_pages d) t.buffer) λ b claimed.
+        granted-with _ (alloc-stays f (keeping-zero (may h)) b.0 claimed _ k 0) λ p there.
+        granted-with _ (letter-own _ _ (slot-own h p.0 there d g)) λ sent all.
+        granted (record { desk = ins-own h _ _ all })
+
+    appended-own : (k : ℕ) (bytes : List ℕ) → BytesStay f bytes → OnGrant (HaveOwn may) (appended d t k bytes)
+    unfolding appended
+    appended-own k bytes e =
+        granted-then _ _ λ document found.
+        granted-with _ (extend-stays f (keeping-zero (may h)) t.slot own (free_pages d) k _) λ longer stays.
+        granted-with _ (put-stays f longer stays k _ bytes e) λ s filled.
+        granted (slot-own h s filled d g)
+
+    fetch_more-own : (c : Append) (b : Fetch) → OnGrant (Leaves may) (fetch_more d t c b)
+    unfolding fetch_more
+    fetch_more-own c b = granted-with _ (letter-own _ d g) λ sent all. granted (record { desk = ins-own h _ _ all })
+
+    took-own : (c : Append) (b : Next) → Leaves may (took d t c b)
+    unfolding took
+    took-own c next_action.Finish = ended-with c.transfer _ _
+    took-own c (next_action.Fetch b) = or_else-keeps (Leaves may) _ (fetch_more-own c b) (λ refusal. ended-with c.transfer _ _)
+
+    ask-own : (x : Taking) → OnGrant (Leaves may) (ask d t x)
+    unfolding ask
+    ask-own x = granted-with _ (letter-own _ d g) λ sent all. granted (record { desk = ended-own h x _ sent all })
+
+    ack_back-own : (v : Option Asked) → Leaves may (ack_back d t v)
+    unfolding ack_back
+    ack_back-own None = ignored-own
+    ack_back-own (Some q) = ins-with _ _
+
+    loaded-own : (c : LoadFile) (n : ℕ) → Leaves may (loaded d t c n)
+    unfolding loaded
+    loaded-own c n =
+        or_else-keeps (Leaves may) _
+        (granted-with _ (letter-own _ d g) λ sent all. granted (record { desk = ins-own h _ _ all }))
+        (λ refusal. ins-with _ _)
+
+  module _ (d : Desk) (g : HaveOwn may d) where
+    append-own : (c : Append) → Leaves may (append d t c)
+    unfolding append
+    append-own c =
+        or_else-keeps (Leaves may) _
+        (granted-with _ (appended-own d g c.transfer.anchor _ (first-stays f t.slot own c.n c.transfer.buffer)) λ longer all.
+        granted (took-own longer all c c.next))
+        (λ refusal. ended-with d g c.transfer _ _)
+
+    load_file-own : (c : LoadFile) (v : Option Scrap) → ((file : Scrap) → v ≡ Some file → file.load ≡ c.answers → BytesStay f file.bytes) →
+        Leaves may (load_file d t c v)
+    unfolding load_file
+    load_file-own c None stays = ignored-own d g
+    load_file-own c (Some file) stays = elim (eqb_tells file.load c.answers) [
+      | inl w ↦ rw w.0 (or_else-keeps (Leaves may) _
+          (granted-with _ (appended-own d g c.transfer.anchor file.bytes (stays file refl w.1)) λ longer all.
+          granted (loaded-own (record longer { scrap = None }) (record { all = all.all }) c (length file.bytes)))
+          (λ refusal. ins-with d g _ _))
+      | inr w ↦ rw w.0 (ignored-own d g)
+    ]
+
+    take_with-own : (c : TakeAction) → Takes d c → Leaves may (take_with d t c)
+    unfolding take_with
+    take_with-own (take_action.Claim c) takes = or_else-keeps (Leaves may) _ (accept-own d g c) (λ refusal. ignored-own d g)
+    take_with-own (take_action.Append c) takes = append-own c
+    take_with-own (take_action.AskForFile x) takes = or_else-keeps (Leaves may) _ (ask-own d g x) (λ refusal. ended-with d g x _ _)
+    take_with-own (take_action.LoadFile c) takes = load_file-own c d.scrap takes
+    take_with-own (take_action.Release c) takes = ended-with d g c.transfer _ _
+
+    perform_take-own : (v : Option TakeAction) → IfSome v (Takes d) → Leaves may (perform_take d t v)
+    unfolding perform_take
+    perform_take-own None takes = ignored-own d g
+    perform_take-own (Some c) takes = take_with-own c takes
+
+    -- ---- one message
+
+    -- of each open transfer of the task, the recipient may show the bytes of the source
+    abbrev pub Offered : Type 0
+    Offered = (x : Sending) → Has (outgoing.Open x) t.sending → Sends (send_action.Finish x)
+
+    -- the task may show the bytes of the scrap file whose DataLoad the message is
+    abbrev pub Filed : Parcel → Body → Type 0
+    Filed m b =
+        (file : FileData) → b ≡ body.DataLoad file → (q : Asked) → Has (incoming.Asking q) t.taking →
+        receiver.is_load m.message.from m.message.your_ref q ≡ true → Takes d (receiver.load_for m.message.from m.message.my_ref q)
+
+    module _ (m : Parcel) (offered : Offered) where
+      came-own : (b : Body) → Filed m b → Leaves may (came d t m b)
+      unfolding came
+      came-own (body.DataSave file) filed = perform_take-own _ (save-does (Takes d) t.taking _ _ _ tt)
+      came-own (body.DataSaveAck file) filed = perform_send-own d g _ (open-does Sends t.sending _ _ (λ x has p. offered x has))
+      came-own (body.DataLoad file) filed = perform_take-own _ (load-does (Takes d) t.taking _ _ _ (filed file refl))
+      came-own (body.DataLoadAck file) filed = perform_send-own d g _ (open-does Sends t.sending _ _ (λ x has p. offered x has))
+      came-own (body.RamFetch buffer amount) filed =
+          chosen (Leaves may) _ _ _ (ignored-own d g) (perform_send-own d g _ (open-does Sends t.sending _ _ (λ x has p. offered x has)))
+      came-own (body.RamTransmit buffer n) filed =
+          perform_take-own _ (transmit-does (Takes d) t.taking _ _ _ _ _ _ (λ x has. tt) (λ x e has. tt))
+
+      came_back-own : (b : Body) → Leaves may (came_back d t m b)
+      unfolding came_back
+      came_back-own (body.DataSaveAck file) = ack_back-own d g _
+      came_back-own (body.DataLoadAck file) = ignored-own d g
+      came_back-own (body.RamFetch buffer amount) =
+          perform_take-own _ (bounce-does (Takes d) t.taking _ (λ x has. tt) (λ x e has. tt))
+      came_back-own b = fail_sending-own d g _
+
+      pub handled-own : (c : EventCode) → ((c ≡ Acknowledge → ⊥) → Filed m m.message.body) → HaveOwn may (handled d t m c).0
+      unfolding handled
+      handled-own User filed = (came-own m.message.body (filed (λ z. cc))).desk
+      handled-own Recorded filed = (came-own m.message.body (filed (λ z. cc))).desk
+      handled-own Acknowledge filed = (came_back-own m.message.body).desk

@@ -1,0 +1,155 @@
+-- Slots that stay under a renaming: each call leaves such a slot. A renaming that keeps the bytes of a list and makes all
+-- others 0 leaves just the bytes of that list, and 0.
+use Rattle.rh_laws.proofs.Common.{◌≡◌, ℕ, Bool, true, false, cond, List, [], ◌∷◌, ◌++◌, map, refl, sym, ap, ◌∙◌, Option, Ok, Err, ℤ, ◌==◌, ◌||◌, take, drop}
+use Rattle.rh_laws.proofs.Common.{take-map, drop-map, list_any, Granted, Follows, OnGrant, Split, Segment, Used, Hole, Flex, Slot, heap_block_at}
+use Rattle.rh_laws.proofs.Common.{slot_alloc, slot_block, slot_claim, slot_extend, slot_free, slot_mid, slot_put, slot_release, slot_resize}
+use Rattle.rh_laws.proofs.Common.{buffer_at, written_in, without_buffer}
+use Rattle.rh_defs.specs.Places.{first_bytes}
+use Rattle.rh_defs.proofs.Chains as chains
+use Rattle.rh_laws.specs.Renaming.{has_byte, renamed_block, renamed_segment, renamed_slot}
+use Rattle.rh_laws.proofs.RenamedParts.{By}
+use Rattle.rh_laws.proofs.RenamedDesks.{result-by}
+use Rattle.rh_laws.proofs.RenamedLaws.{or-left, or-right, zero-stays}
+use Rattle.rh_laws.proofs.RenamedSlots.{renamed_given, renamed_here, buffer_at-renamed, first_bytes-renamed, heap_block_at-renamed, slot_alloc-renamed}
+use Rattle.rh_laws.proofs.RenamedSlots.{slot_block-renamed, slot_claim-renamed, slot_extend-renamed, slot_free-renamed, slot_mid-renamed}
+use Rattle.rh_laws.proofs.RenamedSlots.{slot_put-renamed, slot_release-renamed, slot_resize-renamed, written_in-renamed}
+
+-- ---- what stays
+
+abbrev pub SlotStays : (ℕ → ℕ) → Slot → Type 0
+SlotStays f s = renamed_slot f s ≡ s
+
+abbrev pub BytesStay : (ℕ → ℕ) → List ℕ → Type 0
+BytesStay f bytes = map f bytes ≡ bytes
+
+-- what a chain gives that does the same to the renamed thing, which is that thing
+pub fixed-by : {A : Type 0} {g : A → A} {x y : Granted A} → Follows (By g) x y → y ≡ x → OnGrant (λ z. g z ≡ z) x
+fixed-by (Follows.both {x = x} {y = y} e) same = let e' : y ≡ x = cc in chains.granted (sym e ∙ e')
+fixed-by Follows.neither same = chains.refused
+
+-- the same, told otherwise
+pub granted-as : {A : Type 0} {P Q : A → Type 0} {r : Granted A} → ((x : A) → P x → Q x) → OnGrant P r → OnGrant Q r
+granted-as f (chains.granted {x = x} p) = chains.granted (f x p)
+granted-as f chains.refused = chains.refused
+
+-- some of the bytes
+pub part-stays : (f : ℕ → ℕ) (n from : ℕ) (bytes : List ℕ) → BytesStay f bytes → BytesStay f (take n (drop from bytes))
+part-stays f n from bytes e =
+    sym (take-map f n (drop from bytes)) ∙ ap (take n) (sym (drop-map f from bytes)) ∙ ap (λ l. take n (drop from l)) e
+
+-- ---- calls
+
+module _ (f : ℕ → ℕ) (s : Slot) (stays : SlotStays f s) where
+  pub block-stays : (k : ℕ) → OnGrant (λ (b : Split Flex). BytesStay f b.here.bytes) (slot_block k s)
+  block-stays k =
+      granted-as (λ (b : Split Flex) e. ap (λ (c : Split Flex). c.here.bytes) e)
+      (fixed-by {g = renamed_here f} (slot_block-renamed f k s) (ap (slot_block k) stays))
+
+  pub free-stays : (k : ℕ) → OnGrant (SlotStays f) (slot_free k s)
+  free-stays k = fixed-by (slot_free-renamed f k s) (ap (slot_free k) stays)
+
+  pub put-stays : (k offset : ℕ) (bytes : List ℕ) → BytesStay f bytes → OnGrant (SlotStays f) (slot_put k offset bytes s)
+  put-stays k offset bytes e =
+      fixed-by (slot_put-renamed f k offset bytes s)
+      (ap (λ l. slot_put k offset l (renamed_slot f s)) e ∙ ap (slot_put k offset bytes) stays)
+
+  pub release-stays : (address : ℕ) → OnGrant (SlotStays f) (slot_release address s)
+  release-stays address = fixed-by (slot_release-renamed f address s) (ap (slot_release address) stays)
+
+  pub without-stays : (address : ℕ) → SlotStays f (without_buffer address s)
+  without-stays address = sym (result-by s (slot_release-renamed f address s)) ∙ ap (without_buffer address) stays
+
+  pub first-stays : (n address : ℕ) → BytesStay f (first_bytes n (heap_block_at address s))
+  first-stays n address =
+      sym (first_bytes-renamed f n (heap_block_at address s)) ∙ ap (first_bytes n) (sym (heap_block_at-renamed f address s))
+      ∙ ap (λ u. first_bytes n (heap_block_at address u)) stays
+
+  pub written-stays : (address room : ℕ) (bytes : List ℕ) → BytesStay f bytes → SlotStays f (written_in address bytes (buffer_at address room s) s)
+  written-stays address room bytes e =
+      sym (written_in-renamed f address bytes (buffer_at address room s) s)
+      ∙ ap (λ o. written_in address (map f bytes) o (renamed_slot f s)) (sym (buffer_at-renamed f address room s))
+      ∙ ap (λ u. written_in address (map f bytes) (buffer_at address room u) u) stays
+      ∙ ap (λ l. written_in address l (buffer_at address room s) s) e
+
+module _ (f : ℕ → ℕ) (zero-is : f 0 ≡ 0) (s : Slot) (stays : SlotStays f s) where
+  -- a slot with an address
+  given : {r : Granted (Slot × ℕ)} → OnGrant (λ p. renamed_given f p ≡ p) r → OnGrant (λ (p : Slot × ℕ). SlotStays f p.0) r
+  given all = granted-as (λ (p : Slot × ℕ) e. ap (λ (q : Slot × ℕ). q.0) e) all
+
+  pub alloc-stays : (free k n : ℕ) → OnGrant (λ (p : Slot × ℕ). SlotStays f p.0) (slot_alloc free k n s)
+  alloc-stays free k n = given (fixed-by (slot_alloc-renamed f zero-is free k n s) (ap (slot_alloc free k n) stays))
+
+  pub extend-stays : (free k n : ℕ) → OnGrant (SlotStays f) (slot_extend free k n s)
+  extend-stays free k n = fixed-by (slot_extend-renamed f zero-is free k n s) (ap (slot_extend free k n) stays)
+
+  pub mid-stays : (free k offset : ℕ) (by : ℤ) → OnGrant (SlotStays f) (slot_mid free k offset by s)
+  mid-stays free k offset by = fixed-by (slot_mid-renamed f zero-is free k offset by s) (ap (slot_mid free k offset by) stays)
+
+  pub claim-stays : (free n : ℕ) → OnGrant (λ (p : Slot × ℕ). SlotStays f p.0) (slot_claim free n s)
+  claim-stays free n = given (fixed-by (slot_claim-renamed f zero-is free n s) (ap (slot_claim free n) stays))
+
+  pub resize-stays : (free address : ℕ) (delta : ℤ) → OnGrant (λ (p : Slot × ℕ). SlotStays f p.0) (slot_resize free address delta s)
+  resize-stays free address delta =
+      given (fixed-by (slot_resize-renamed f zero-is free address delta s) (ap (slot_resize free address delta) stays))
+
+-- ---- bytes of a list
+
+-- the bytes of the list, and 0 for each other
+abbrev pub keeping : List ℕ → ℕ → ℕ
+keeping list b = cond (has_byte b list) b 0
+
+pub keeping-zero : (list : List ℕ) → keeping list 0 ≡ 0
+keeping-zero list = zero-stays (has_byte 0 list)
+
+-- each byte of the first is one of the second
+abbrev pub Within : List ℕ → List ℕ → Type 0
+Within small large = (b : ℕ) → has_byte b small ≡ true → has_byte b large ≡ true
+
+pub before-within : (xs ys : List ℕ) → Within xs (xs ++ ys)
+before-within [] ys b e = absurd cc
+before-within (x ∷ xs) ys b e =
+    elim (x == b) as (λ t. (t || has_byte b xs) ≡ true → (t || has_byte b (xs ++ ys)) ≡ true)
+    [ true ↦ λ q. refl | false ↦ λ q. before-within xs ys b q ] e
+
+pub behind-within : (xs ys : List ℕ) → Within ys (xs ++ ys)
+behind-within [] ys b e = e
+behind-within (x ∷ xs) ys b e = or-right (x == b) _ (behind-within xs ys b e)
+
+-- what stays where fewer bytes are kept
+module _ (small large : List ℕ) (within : Within small large) where
+  twice : (b : ℕ) → keeping large (keeping small b) ≡ keeping small b
+  twice b = go (has_byte b small) refl
+    where
+      go : (t : Bool) → has_byte b small ≡ t → keeping large (cond t b 0) ≡ cond t b 0
+      go true e = ap (λ u. cond u b 0) (within b e)
+      go false e = keeping-zero large
+
+  map-twice : {A : Type 0} (f g : A → A) → ((x : A) → g (f x) ≡ f x) → (xs : List A) → map g (map f xs) ≡ map f xs
+  map-twice f g same [] = refl
+  map-twice f g same (x ∷ xs) = ap (λ y. y ∷ map g (map f xs)) (same x) ∙ ap (λ l. f x ∷ l) (map-twice f g same xs)
+
+  pub bytes-wider : (bytes : List ℕ) → BytesStay (keeping small) bytes → BytesStay (keeping large) bytes
+  bytes-wider bytes e = ap (map (keeping large)) (sym e) ∙ map-twice (keeping small) (keeping large) twice bytes ∙ e
+
+  pub slot-wider : (s : Slot) → SlotStays (keeping small) s → SlotStays (keeping large) s
+  slot-wider s e = ap (renamed_slot (keeping large)) (sym e) ∙ both ∙ e
+    where
+      block : (b : Flex) → renamed_block (keeping large) (renamed_block (keeping small) b) ≡ renamed_block (keeping small) b
+      block b = ap (with_bytes b.anchor) (map-twice (keeping small) (keeping large) twice b.bytes)
+        where
+          with_bytes : ℕ → List ℕ → Flex
+          with_bytes k bytes = record { anchor = k; bytes = bytes }
+
+      segment : (g : Segment) → renamed_segment (keeping large) (renamed_segment (keeping small) g) ≡ renamed_segment (keeping small) g
+      segment (Used bytes) = ap Used (map-twice (keeping small) (keeping large) twice bytes)
+      segment (Hole size) = refl
+
+      slot : List Segment → List Flex → Slot
+      slot segments blocks = record { heap = record { segments = segments; end = s.heap.end }; blocks = blocks; budging = s.budging }
+
+      both : renamed_slot (keeping large) (renamed_slot (keeping small) s) ≡ renamed_slot (keeping small) s
+      both =
+          ap (λ l. slot l (map (renamed_block (keeping large)) (map (renamed_block (keeping small)) s.blocks)))
+          (map-twice (renamed_segment (keeping small)) (renamed_segment (keeping large)) segment s.heap.segments)
+          ∙ ap (slot (map (renamed_segment (keeping small)) s.heap.segments))
+          (map-twice (renamed_block (keeping small)) (renamed_block (keeping large)) block s.blocks)

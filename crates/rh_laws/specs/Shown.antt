@@ -1,0 +1,89 @@
+-- Whose the bytes are that a task shows: it put or loaded them, or they stood in a block when that was offered to it.
+use Rattle.std.specs.Prelude.{◌≡◌, ◌≤◌, ℕ, ◌++◌, true, List, [], ◌∷◌, find, Option, Some, Ok}
+use Rattle.std.specs.List.{AllByRecursion}
+use Rattle.rh_defs.specs.declared.command.Command.{Command}
+use Rattle.rh_defs.specs.declared.command.Command.TheVariants as command
+use Rattle.rh_defs.specs.declared.question.Numbers.{Numbers}
+use Rattle.rh_defs.specs.declared.question.Question.TheVariants as question
+use Rattle.rh_defs.specs.declared.reply.Reply.{Reply}
+use Rattle.rh_defs.specs.declared.reply.Reply.TheVariants as reply
+use Rattle.rh_defs.specs.Heap.{Segment, bytes_of}
+use Rattle.rh_defs.specs.Slot.{Flex}
+use Rattle.rh_defs.specs.Files.{FileList, file_bytes}
+use Rattle.rh_defs.specs.Range.{all_in_range}
+use Rattle.rh_defs.specs.Desk.{Desk, Task, has_name, task_at}
+use Rattle.rh_defs.specs.Questions.{Bytes, asked}
+use Rattle.rh_defs.specs.Commands.{step}
+use Rattle.rh_defs.specs.Runs.{after, start_with}
+use Rattle.rh_defs.specs.Laws.{IsStart}
+use Rattle.rh_safety.specs.Offered.{at_place, source_of}
+use Rattle.rh_laws.specs.Renaming.{has_byte}
+
+-- ---- what a task may show, told by each reply of a run
+
+-- by handle, the bytes that a task may show
+abbrev pub MayShow : Type 0
+MayShow = ℕ → List ℕ
+
+-- the task may show these bytes too
+abbrev pub shows_too : MayShow → Option Task → Option (List ℕ) → MayShow
+shows_too may (Some t) (Some bytes) = at_place may t.handle (may t.handle ++ bytes)
+shows_too may _ _ = may
+
+-- a put that was done: its task may show its bytes
+abbrev pub put_shows : MayShow → Desk → List ℕ → List ℕ → Reply → MayShow
+put_shows may d name bytes reply.Done = shows_too may (find (has_name name) d.tasks) (Some bytes)
+put_shows may d name bytes _ = may
+
+-- a load that was done: its task may show the file's bytes
+abbrev pub load_shows : MayShow → Desk → List ℕ → List ℕ → Reply → MayShow
+load_shows may d name file (reply.Block address) = shows_too may (find (has_name name) d.tasks) (file_bytes file d.files)
+load_shows may d name file _ = may
+
+-- a save that was accepted: the task that it is to may show the bytes that the block has then
+abbrev pub save_shows : MayShow → Desk → List ℕ → ℕ → List ℕ → Reply → MayShow
+save_shows may d name k to (reply.Sent ref) =
+    shows_too may (find (has_name to) d.tasks) (source_of (find (has_name name) d.tasks) k)
+save_shows may d name k to _ = may
+
+-- what each task may show after one more command, by the command's reply
+abbrev pub may_show_next : MayShow → Desk → Command → Reply → MayShow
+may_show_next may d (command.Put name k offset bytes) r = put_shows may d name bytes r
+may_show_next may d (command.Load name k file) r = load_shows may d name file r
+may_show_next may d (command.Save name k to leaf) r = save_shows may d name k to r
+may_show_next may d _ r = may
+
+-- what each task may show after commands
+abbrev pub may_show_from : MayShow → Desk → List Command → MayShow
+may_show_from may d [] = may
+may_show_from may d (c ∷ commands) = may_show_from (may_show_next may d c (step d c).1) (step d c).0 commands
+
+-- the same in a run of the commands from the desk: at first 0 alone
+abbrev pub may_show : Desk → List Command → MayShow
+may_show d commands = may_show_from (λ h. 0 ∷ []) d commands
+
+-- ---- what tasks have, and show
+
+-- each of the bytes is one of the list
+abbrev pub AreAmong : List ℕ → List ℕ → Type 0
+AreAmong list bytes = AllByRecursion (λ b. has_byte b list ≡ true) bytes
+
+-- On a desk that each task may show these bytes on: a live task's flex blocks and the blocks of its C heap have no others,
+-- and `show` answers no others. No task that begins later may show any but 0.
+pub record ShowsOwn (d : Desk) (may : MayShow) : Type 0 where
+  pub blocks :
+      (h : ℕ) (t : Task) → task_at h d ≡ Some t → AllByRecursion (λ (b : Flex). AreAmong (may h) b.bytes) t.slot.blocks
+  pub heap :
+      (h : ℕ) (t : Task) → task_at h d ≡ Some t →
+      AllByRecursion (λ (g : Segment). AreAmong (may h) (bytes_of g)) t.slot.heap.segments
+  pub shown :
+      (name : List ℕ) (k : ℕ) (t : Task) (size : Numbers) (bytes : List ℕ) → find (has_name name) d.tasks ≡ Some t →
+      asked d (question.Show name k) ≡ Ok (size, Bytes bytes) → AreAmong (may t.handle) bytes
+  pub new : (h : ℕ) → d.next_handle ≤ h → may h ≡ 0 ∷ []
+
+-- so it is after each list of commands in range, from each start
+abbrev pub AlwaysShowsOwn : Type 0
+AlwaysShowsOwn =
+    (pool handle ref : ℕ) (files : FileList) (commands : List Command) → IsStart pool handle ref →
+    all_in_range commands ≡ true →
+    ShowsOwn (after (start_with pool files handle ref) commands) (may_show (start_with pool files handle ref) commands)
