@@ -36,12 +36,14 @@ use Rattle.rh_safety.proofs.SeenTaking.{poll_taken_is}
 use Rattle.rh_safety.proofs.SeenTasks.{found_task}
 use Rattle.rh_safety.proofs.View.{blocks_of, seen_scrap}
 use Rattle.rh_laws.specs.Addressed.{Addresses, From, Parties, addressed_again, addressed_last, addresses_from, addresses_next, parties_of}
-use Rattle.rh_laws.specs.Renaming.{has_byte, renamed_block, renamed_segment, renamed_slot}
-use Rattle.rh_laws.specs.Shown.{AlwaysShowsOwn, AreAmong, MayShow, ShowsOwn, may_show_from, may_show_next, shows_too}
+use Rattle.rh_laws.specs.Renaming.{has_byte, renamed, renamed_block, renamed_segment, renamed_slot, renamed_task}
+use Rattle.rh_laws.specs.Shown.{AlwaysShowsOwn, AlwaysShowsOwnMarks, AreAmong, AreOfMarks, MayShow, ShowsOwn, ShowsOwnMarks, may_show, may_show_from}
+use Rattle.rh_laws.specs.Shown.{may_show_next, shows_too}
 use Rattle.rh_laws.proofs.Addresses.{Agrees, InAgrees, OutAgrees, TaskAgrees, all-has}
 use Rattle.rh_laws.proofs.AddressLaws.{step-agrees}
 use Rattle.rh_laws.proofs.RenamedHeaps.{bytes-renamed}
-use Rattle.rh_laws.proofs.RenamedLaws.{pass, stay}
+use Rattle.rh_laws.proofs.RenamedDesks.{task_at-renamed}
+use Rattle.rh_laws.proofs.RenamedLaws.{always-renamed, pass, stay}
 use Rattle.rh_laws.proofs.RenamedParts.{follows-test}
 use Rattle.rh_laws.proofs.ShownSlots.{BytesStay, SlotStays, Within, alloc-stays, before-within, behind-within, block-stays, bytes-wider, claim-stays}
 use Rattle.rh_laws.proofs.ShownSlots.{extend-stays, fixed-by, free-stays, keeping, keeping-zero, mid-stays, put-stays, release-stays, resize-stays, slot-wider}
@@ -519,3 +521,41 @@ always-shows-own pool handle ref files cs from ranged =
       zero = λ h. refl;
       new = λ h low. refl;
     }))
+
+-- ---- marks
+
+all-mapped : {A : Type 0} (P Q : A → Type 0) (g : A → A) → ((x : A) → P x → Q (g x)) → (xs : List A) → AllByRecursion P xs → AllByRecursion Q (map g xs)
+all-mapped P Q g each [] all = tt
+all-mapped P Q g each (x ∷ xs) all = (each x all.0, all-mapped P Q g each xs all.1)
+
+module _ (f : ℕ → ℕ) (may : MayShow) (d : Desk) (w : ShowsOwn d may) where
+  -- a task of the renamed desk is a renamed task
+  of-marked : (h : ℕ) (t : Task) → task_at h (renamed f d) ≡ Some t → (u : Task) × (task_at h d ≡ Some u) × (renamed_task f u ≡ t)
+  of-marked h t at = go (task_at h d) refl (sym (task_at-renamed f h d) ∙ at)
+    where
+      go : (v : Option Task) → task_at h d ≡ v → option_map (renamed_task f) v ≡ Some t → (u : Task) × (task_at h d ≡ Some u) × (renamed_task f u ≡ t)
+      go None e q = absurd cc
+      go (Some u) e q = (u, e, cc)
+
+  -- bytes of marks of the handle
+  abbrev Marked : ℕ → List ℕ → Type 0
+  Marked h bytes = AreOfMarks f (may h) bytes
+
+  shows-own-marks : ShowsOwnMarks f (renamed f d) may
+  shows-own-marks = record {
+    blocks = λ h t at. let m = of-marked h t at in
+        subst (λ (u : Task). AllByRecursion (λ (b : Flex). Marked h b.bytes) u.slot.blocks) m.2
+        (all-mapped (λ (b : Flex). AreAmong (may h) b.bytes) (λ (b : Flex). Marked h b.bytes) (renamed_block f)
+        (λ b all. record { own = b.bytes; bytes_are = refl; among = all }) m.0.slot.blocks (w.blocks h m.0 m.1));
+    heap = λ h t at. let m = of-marked h t at in
+        subst (λ (u : Task). AllByRecursion (λ (g : Segment). Marked h (bytes_of g)) u.slot.heap.segments) m.2
+        (all-mapped (λ (g : Segment). AreAmong (may h) (bytes_of g)) (λ (g : Segment). Marked h (bytes_of g)) (renamed_segment f)
+        (λ g all. record { own = bytes_of g; bytes_are = bytes-renamed f g; among = all }) m.0.slot.heap.segments (w.heap h m.0 m.1));
+  }
+
+pub always-shows-own-marks : AlwaysShowsOwnMarks
+always-shows-own-marks f zero-is pool handle ref files cs from ranged =
+    let d : Desk = start_with pool files handle ref in
+    let may : MayShow = may_show d cs in
+    subst (λ (e : Desk). ShowsOwnMarks f e may) (sym (always-renamed f zero-is pool handle ref files cs).desk)
+    (shows-own-marks f may (after d cs) (always-shows-own pool handle ref files cs from ranged))

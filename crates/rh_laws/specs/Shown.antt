@@ -1,5 +1,5 @@
 -- Whose the bytes are that a task shows: it put or loaded them, or they stood in a block when that was offered to it.
-use Rattle.std.specs.Prelude.{◌≡◌, ◌≤◌, ℕ, ◌++◌, true, List, [], ◌∷◌, find, Option, Some, Ok}
+use Rattle.std.specs.Prelude.{◌≡◌, ◌≤◌, ℕ, ◌++◌, true, List, [], ◌∷◌, map, find, Option, Some, Ok}
 use Rattle.std.specs.List.{AllByRecursion}
 use Rattle.rh_defs.specs.declared.command.Command.{Command}
 use Rattle.rh_defs.specs.declared.command.Command.TheVariants as command
@@ -17,7 +17,7 @@ use Rattle.rh_defs.specs.Commands.{step}
 use Rattle.rh_defs.specs.Runs.{after, start_with}
 use Rattle.rh_defs.specs.Laws.{IsStart}
 use Rattle.rh_safety.specs.Offered.{at_place, source_of}
-use Rattle.rh_laws.specs.Renaming.{has_byte}
+use Rattle.rh_laws.specs.Renaming.{has_byte, renamed_command, renamed_files}
 
 -- ---- what a task may show, told by each reply of a run
 
@@ -87,3 +87,29 @@ AlwaysShowsOwn =
     (pool handle ref : ℕ) (files : FileList) (commands : List Command) → IsStart pool handle ref →
     all_in_range commands ≡ true →
     ShowsOwn (after (start_with pool files handle ref) commands) (may_show (start_with pool files handle ref) commands)
+
+-- ---- one byte told from another of the same value
+
+-- the bytes of some of the marks
+pub record AreOfMarks (f : ℕ → ℕ) (marks bytes : List ℕ) : Type 0 where
+  pub own : List ℕ
+  pub bytes_are : bytes ≡ map f own
+  pub among : AreAmong marks own
+
+-- each block of a live task has bytes of marks that the task may show
+pub record ShowsOwnMarks (f : ℕ → ℕ) (d : Desk) (may : MayShow) : Type 0 where
+  pub blocks :
+      (h : ℕ) (t : Task) → task_at h d ≡ Some t →
+      AllByRecursion (λ (b : Flex). AreOfMarks f (may h) b.bytes) t.slot.blocks
+  pub heap :
+      (h : ℕ) (t : Task) → task_at h d ≡ Some t →
+      AllByRecursion (λ (g : Segment). AreOfMarks f (may h) (bytes_of g)) t.slot.heap.segments
+
+-- Let puts and files have marks in place of bytes, any numbers, and let f give the byte of each, and 0 for 0. Then the run
+-- with these bytes leaves each block with bytes of marks that its task may show in the run with the marks.
+abbrev pub AlwaysShowsOwnMarks : Type 0
+AlwaysShowsOwnMarks =
+    (f : ℕ → ℕ) → f 0 ≡ 0 → (pool handle ref : ℕ) (files : FileList) (commands : List Command) → IsStart pool handle ref →
+    all_in_range commands ≡ true →
+    ShowsOwnMarks f (after (start_with pool (renamed_files f files) handle ref) (map (renamed_command f) commands))
+        (may_show (start_with pool files handle ref) commands)

@@ -1,9 +1,11 @@
 //! Whose the bytes are that a task shows.
 
-ghost use Rattle.rh_laws.specs.Shown.{AlwaysShowsOwn};
+ghost use Rattle.rh_laws.specs.Shown.{AlwaysShowsOwn, AlwaysShowsOwnMarks};
 
 /// After any commands: each byte of a live task's blocks, and each that `show` answers, is 0, or was put or loaded by
-/// that task, or stood in a block when that was offered to it. A task that begins has none of another's.
+/// that task, or stood in a block when that was offered to it. So a task that begins has no other's bytes. Marks tell
+/// one byte from another of the same value.
 pub fn shown_law()
-    ensures { AlwaysShowsOwn }
+    ensures bytes { AlwaysShowsOwn }
+    ensures marks { AlwaysShowsOwnMarks }
 {}
