@@ -1,18 +1,17 @@
 -- Each command leaves tasks with no bytes but those that they may show, and so does every list of commands.
 use Rattle.rh_laws.proofs.Common.{◌≡◌, ◌≢◌, ℕ, ◌≤◌, ◌<◌, ◌++◌, Bool, true, List, [], ◌∷◌, Option, Some, None, refl, sym, ap, subst, ◌∙◌, inl, inr, arith}
-use Rattle.rh_laws.proofs.Common.{map, ℤ, ◌==◌, not, find, option_map, Ok, IfSome, AllByRecursion, eqb_tells, bytes_eq, Granted, OnGrant, granted, granted-past}
-use Rattle.rh_laws.proofs.Common.{granted-then, granted-with, or_else, or_else-keeps, append-all, found_or, NoTask, Command, Manner, Body, EventCode}
-use Rattle.rh_laws.proofs.Common.{Acknowledge, Asked, Sending, Incoming, Outgoing, Letter, Reply, Parcel, Post, post_join, post_poll, Segment, bytes_of}
-use Rattle.rh_laws.proofs.Common.{Split, Flex, Slot, slot_block, slot_begin, Desk, Task, Scrap, FileList, free_pages, has_name, named, task_at, with_delivered}
+use Rattle.rh_laws.proofs.Common.{map, ℤ, ◌==◌, not, find, option_map, Ok, IfSome, AllByRecursion, eqb_tells, Granted, OnGrant, granted, granted-past}
+use Rattle.rh_laws.proofs.Common.{granted-then, granted-with, or_else, or_else-keeps, append-all, Command, Manner, Body}
+use Rattle.rh_laws.proofs.Common.{Acknowledge, Asked, Sending, Incoming, Outgoing, Letter, Reply, Parcel, Post, post_poll, Segment, bytes_of}
+use Rattle.rh_laws.proofs.Common.{Split, Flex, Slot, slot_block, slot_begin, Desk, Task, Scrap, free_pages, has_name, named, task_at, with_delivered}
 use Rattle.rh_laws.proofs.Common.{Answer, after, start_with, alloc, budge, claim, extend, free, kill, load, make, mid, put, release, resize, start_task}
-use Rattle.rh_laws.proofs.Common.{save, repeat, poll, poll_taken, cancel_in, cancel_out, change, step, Bytes, Told, asked, IsDesk, all_in_range, in_range}
-use Rattle.rh_laws.proofs.Common.{Follows, after-is, start-is, step-keeps, at_place, Offers, Has, Good, view, task_of, and_left, and_right, is_equal, with_slot, action_of, false}
-use Rattle.rh_laws.proofs.Common.{contains_of, first_is, found_name, is_found, the_task, Fits, fits, field_is, live_of, keeps, ok_is}
+use Rattle.rh_laws.proofs.Common.{save, repeat, poll, poll_taken, cancel_in, cancel_out, change, step, Bytes, Told, IsDesk, all_in_range, in_range}
+use Rattle.rh_laws.proofs.Common.{Follows, start-is, step-keeps, at_place, Offers, Has, Good, view, task_of, and_left, and_right, is_equal, with_slot, action_of, false}
+use Rattle.rh_laws.proofs.Common.{first_is, found_name, is_found, the_task, Fits, fits, field_is, live_of, keeps}
 use Rattle.rh_laws.proofs.Common.{Changed, IsOnMemory, granted-on, in_areas, in_made, in_module, in_nothing, in_slot}
 use Rattle.rh_defs.specs.declared.command.Command.TheVariants as command
 use Rattle.rh_defs.specs.declared.message.Body.TheVariants as body
 use Rattle.rh_defs.specs.declared.message.FileData.{FileData}
-use Rattle.rh_defs.specs.declared.question.Question.TheVariants as question
 use Rattle.rh_defs.specs.declared.refusal.Refusal.TheVariants.{NoFile}
 use Rattle.rh_defs.specs.declared.reply.Reply.TheVariants as reply
 use Rattle.rh_defs.specs.declared.transfer.Incoming.TheVariants as incoming
@@ -20,14 +19,13 @@ use Rattle.rh_defs.specs.declared.transfer.Outgoing.TheVariants as outgoing
 use Rattle.rh_defs.specs.Files.{file_bytes}
 use Rattle.rh_defs.specs.Questions.{Listed, show}
 use Rattle.rh_defs.specs.Receiver as receiver
-use Rattle.rh_defs.specs.Laws.{IsStart}
 use Rattle.rh_defs.specs.Records.{most_records}
 use Rattle.rh_defs.proofs.Chains.{grant-holds}
 use Rattle.rh_defs.proofs.Changes.{slot_name}
 use Rattle.rh_defs.proofs.Lists.{filter-all, find-all, rise-below}
-use Rattle.rh_safety.specs.Held.{Edits, edits_next, edits_from}
-use Rattle.rh_safety.specs.Offered.{bytes_of_block, last_of, offered_again, offered_last, offers_from, offers_next, source_of}
-use Rattle.rh_safety.proofs.KeptPolls.{Given, given}
+use Rattle.rh_safety.specs.Held.{Edits, edits_next}
+use Rattle.rh_safety.specs.Offered.{last_of, offered_again, offered_last, offers_next, source_of}
+use Rattle.rh_safety.proofs.KeptPolls.{given}
 use Rattle.rh_safety.proofs.Numbers.{numbers-go-up}
 use Rattle.rh_safety.proofs.Runs.{start_good}
 use Rattle.rh_safety.proofs.SeenBlocks.{the_block}
@@ -35,7 +33,7 @@ use Rattle.rh_safety.proofs.SeenLaws.{block_is}
 use Rattle.rh_safety.proofs.SeenTaking.{poll_taken_is}
 use Rattle.rh_safety.proofs.SeenTasks.{found_task}
 use Rattle.rh_safety.proofs.View.{blocks_of, seen_scrap}
-use Rattle.rh_laws.specs.Addressed.{Addresses, From, Parties, addressed_again, addressed_last, addresses_from, addresses_next, parties_of}
+use Rattle.rh_laws.specs.Addressed.{Addresses, From, Parties, addressed_again, addressed_last, addresses_next, parties_of}
 use Rattle.rh_laws.specs.Renaming.{has_byte, renamed, renamed_block, renamed_segment, renamed_slot, renamed_task}
 use Rattle.rh_laws.specs.Shown.{AlwaysShowsOwn, AlwaysShowsOwnMarks, AreAmong, AreOfMarks, MayShow, ShowsOwn, ShowsOwnMarks, may_show, may_show_from}
 use Rattle.rh_laws.specs.Shown.{may_show_next, shows_too}

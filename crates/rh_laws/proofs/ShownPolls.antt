@@ -1,10 +1,10 @@
 -- Each message that a poll handles leaves all slots with no bytes but those that their tasks may show.
-use Rattle.rh_laws.proofs.Common.{◌≡◌, ℕ, Bool, true, List, length, Option, Some, None, refl, sym, ap, ◌∙◌, subst, ◌+◌, inl, inr, ◌==◌, IfSome, Ok}
+use Rattle.rh_laws.proofs.Common.{◌≡◌, ℕ, true, List, length, Option, Some, None, refl, sym, ◌∙◌, subst, inl, inr, ◌==◌, IfSome, Ok}
 use Rattle.rh_laws.proofs.Common.{take, drop, eqb_tells, NoTask, Body, EventCode, User, Recorded, Acknowledge, Asked, Sending, Taking, Incoming, Outgoing}
-use Rattle.rh_laws.proofs.Common.{Letter, Outcome, Transmit, Part, SaveFile, SendAction, Claim, Append, Fetch, Next, LoadFile, TakeAction, Granted}
-use Rattle.rh_laws.proofs.Common.{Split, Flex, Slot, slot_block, slot_extend, slot_put, heap_block_at, Parcel, Post, Desk, Task, Scrap, task_at}
-use Rattle.rh_laws.proofs.Common.{free_pages, next_ref, send_letter, with_delivered, with_post, with_sending, with_slot, with_taking, with_task}
-use Rattle.rh_laws.proofs.Common.{Handled, fail_sending, ignored, perform_send, refused, save_scrap, send_with, transmit, accept, ack_back, append}
+use Rattle.rh_laws.proofs.Common.{Letter, Outcome, Transmit, Part, SaveFile, SendAction, Claim, Append, Fetch, Next, LoadFile, TakeAction}
+use Rattle.rh_laws.proofs.Common.{Split, Flex, Slot, slot_block, Parcel, Post, Desk, Task, Scrap, task_at}
+use Rattle.rh_laws.proofs.Common.{free_pages, send_letter, with_delivered, with_post, with_sending, with_slot, with_taking, with_task}
+use Rattle.rh_laws.proofs.Common.{Handled, fail_sending, ignored, perform_send, save_scrap, send_with, transmit, accept, ack_back, append}
 use Rattle.rh_laws.proofs.Common.{appended, ask, taking_ended, fetch_more, load_file, loaded, perform_take, take_with, took, came, came_back, handled}
 use Rattle.rh_laws.proofs.Common.{AllByRecursion, OnGrant, chosen, granted, granted-both, granted-past, granted-then, granted-with, or_else-keeps, Has}
 use Rattle.rh_laws.proofs.Common.{any-grant, first_is, is_equal, is_found}
@@ -15,8 +15,6 @@ use Rattle.rh_defs.specs.declared.transfer.Outgoing.TheVariants as outgoing
 use Rattle.rh_defs.specs.declared.transfer_action.SendAction.TheVariants as send_action
 use Rattle.rh_defs.specs.declared.transfer_action.TakeAction.TheVariants as take_action
 use Rattle.rh_defs.specs.declared.transfer_action.Next.TheVariants as next_action
-use Rattle.rh_defs.specs.IncomingEvents.{end_failed}
-use Rattle.rh_defs.specs.Places.{first_bytes}
 use Rattle.rh_defs.specs.Sender as sender
 use Rattle.rh_defs.specs.Receiver as receiver
 use Rattle.rh_safety.proofs.Actions.{bounce-does, load-does, open-does, save-does, transmit-does}

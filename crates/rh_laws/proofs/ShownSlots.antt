@@ -1,7 +1,7 @@
 -- Slots that stay under a renaming: each call leaves such a slot. A renaming that keeps the bytes of a list and makes all
 -- others 0 leaves just the bytes of that list, and 0.
-use Rattle.rh_laws.proofs.Common.{◌≡◌, ℕ, Bool, true, false, cond, List, [], ◌∷◌, ◌++◌, map, refl, sym, ap, ◌∙◌, Option, Ok, Err, ℤ, ◌==◌, ◌||◌, take, drop}
-use Rattle.rh_laws.proofs.Common.{take-map, drop-map, list_any, Granted, Follows, OnGrant, Split, Segment, Used, Hole, Flex, Slot, heap_block_at}
+use Rattle.rh_laws.proofs.Common.{◌≡◌, ℕ, Bool, true, false, cond, List, [], ◌∷◌, ◌++◌, map, refl, sym, ap, ◌∙◌, ℤ, ◌==◌, ◌||◌, take, drop}
+use Rattle.rh_laws.proofs.Common.{take-map, drop-map, Granted, Follows, OnGrant, Split, Segment, Used, Hole, Flex, Slot, heap_block_at}
 use Rattle.rh_laws.proofs.Common.{slot_alloc, slot_block, slot_claim, slot_extend, slot_free, slot_mid, slot_put, slot_release, slot_resize}
 use Rattle.rh_laws.proofs.Common.{buffer_at, written_in, without_buffer}
 use Rattle.rh_defs.specs.Places.{first_bytes}
@@ -9,7 +9,7 @@ use Rattle.rh_defs.proofs.Chains as chains
 use Rattle.rh_laws.specs.Renaming.{has_byte, renamed_block, renamed_segment, renamed_slot}
 use Rattle.rh_laws.proofs.RenamedParts.{By}
 use Rattle.rh_laws.proofs.RenamedDesks.{result-by}
-use Rattle.rh_laws.proofs.RenamedLaws.{or-left, or-right, zero-stays}
+use Rattle.rh_laws.proofs.RenamedLaws.{or-right, zero-stays}
 use Rattle.rh_laws.proofs.RenamedSlots.{renamed_given, renamed_here, buffer_at-renamed, first_bytes-renamed, heap_block_at-renamed, slot_alloc-renamed}
 use Rattle.rh_laws.proofs.RenamedSlots.{slot_block-renamed, slot_claim-renamed, slot_extend-renamed, slot_free-renamed, slot_mid-renamed}
 use Rattle.rh_laws.proofs.RenamedSlots.{slot_put-renamed, slot_release-renamed, slot_resize-renamed, written_in-renamed}
