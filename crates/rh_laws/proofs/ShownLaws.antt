@@ -6,7 +6,7 @@ use Rattle.rh_laws.proofs.Common.{Acknowledge, Asked, Sending, Incoming, Outgoin
 use Rattle.rh_laws.proofs.Common.{Split, Flex, Slot, slot_block, slot_begin, Desk, Task, Scrap, free_pages, has_name, named, task_at, with_delivered}
 use Rattle.rh_laws.proofs.Common.{Answer, after, start_with, alloc, budge, claim, extend, free, kill, load, make, mid, put, release, resize, start_task}
 use Rattle.rh_laws.proofs.Common.{save, repeat, poll, poll_taken, cancel_in, cancel_out, change, step, Bytes, Told, IsDesk, all_in_range, in_range}
-use Rattle.rh_laws.proofs.Common.{Follows, start-is, step-keeps, at_place, Offers, Has, Good, view, task_of, and_left, and_right, is_equal, with_slot, action_of, false}
+use Rattle.rh_laws.proofs.Common.{Follows, start-is, step-keeps, at_place, Offers, Has, Good, view, task_of, and_left, and_right, is_equal, with_slot, action_of, false, all-mono, has_of, post_join}
 use Rattle.rh_laws.proofs.Common.{first_is, found_name, is_found, the_task, Fits, fits, field_is, live_of, keeps}
 use Rattle.rh_laws.proofs.Common.{Changed, IsOnMemory, granted-on, in_areas, in_made, in_module, in_nothing, in_slot}
 use Rattle.rh_defs.specs.declared.command.Command.TheVariants as command
@@ -22,6 +22,7 @@ use Rattle.rh_defs.specs.Receiver as receiver
 use Rattle.rh_defs.specs.Records.{most_records}
 use Rattle.rh_defs.proofs.Chains.{grant-holds}
 use Rattle.rh_defs.proofs.Changes.{slot_name}
+use Rattle.rh_defs.proofs.PostKeeps.{post_poll-kept}
 use Rattle.rh_defs.proofs.Lists.{filter-all, find-all, rise-below}
 use Rattle.rh_safety.specs.Held.{Edits, edits_next}
 use Rattle.rh_safety.specs.Offered.{last_of, offered_again, offered_last, offers_next, source_of}
@@ -45,7 +46,7 @@ use Rattle.rh_laws.proofs.RenamedLaws.{always-renamed, pass, stay}
 use Rattle.rh_laws.proofs.RenamedParts.{follows-test}
 use Rattle.rh_laws.proofs.ShownSlots.{BytesStay, SlotStays, Within, alloc-stays, before-within, behind-within, block-stays, bytes-wider, claim-stays}
 use Rattle.rh_laws.proofs.ShownSlots.{extend-stays, fixed-by, free-stays, keeping, keeping-zero, mid-stays, put-stays, release-stays, resize-stays, slot-wider}
-use Rattle.rh_laws.proofs.ShownPolls.{HasOwn, HaveOwn, delivered-own, handled-own, ins-own, letter-own, outs-own, slot-own}
+use Rattle.rh_laws.proofs.ShownPolls.{HasOwn, HasRefs, HaveOwn, IsFor, death-own, handled-own, polled-own, same-own, ins-own, letter-own, outs-own, slot-own}
 
 -- ---- what a task may show grows
 
@@ -77,7 +78,12 @@ too-other may (Some t) None h ne = refl
 too-other may (Some t) (Some bytes) h ne = elim (eqb_tells h t.handle) [ inl w ↦ absurd (ne t refl (sym w.1)) | inr w ↦ rw w.0 refl ]
 
 own-wider : (may more : MayShow) → Grows may more → (d : Desk) → HaveOwn may d → HaveOwn more d
-own-wider may more grows d g = record { all = go d.tasks g.all }
+own-wider may more grows d g = record {
+  all = go d.tasks g.all;
+  file = λ file q. all-mono {Q = IsFor more file} (λ (p : Parcel) is code same. bytes-wider (may p.to) (more p.to) (grows p.to) file.bytes (is code same)) d.post.queued
+      (g.file file q);
+  given = g.given;
+}
   where
     go : (ts : List Task) → AllByRecursion (HasOwn may) ts → AllByRecursion (HasOwn more) ts
     go [] all = tt
@@ -232,17 +238,21 @@ module _ (may : MayShow) (d : Desk) (g : HaveOwn may d) where
       slot-leaves t _ (ap (λ (s : Slot). record s { budging = on }) (named-own name t e))
 
   start_task-leaves : (name : List ℕ) (buffer : ℕ) (manner : Manner) → OnGrant Leaves (start_task d name buffer manner)
-  unfolding start_task slot_begin
+  unfolding start_task slot_begin post_join
   start_task-leaves name buffer manner =
       granted-past _ _ _ λ x. granted-past _ _ _ λ y. granted-past _ _ _ λ z.
       granted-with _ (fixed-by {g = renamed_slot (keeping (may d.next_handle))} (follows-test _ _ _ _ _ refl (Follows.both refl)) refl) λ s stays.
-      leaves (record { all = append-all (HasOwn may) d.tasks _ g.all stays })
+      leaves (record { all = append-all (HasOwn may) d.tasks _ g.all stays; file = g.file; given = g.given })
 
   kill-leaves : (name : List ℕ) → OnGrant Leaves (kill d name)
-  unfolding kill with_delivered
+  unfolding kill
   kill-leaves name =
-      granted-then _ _ λ t e.
-      leaves (record { all = filter-all (HasOwn may) (λ (other : Task). not (other.handle == t.handle)) d.tasks g.all })
+      granted-then _ _ λ t e. let dead = death-own t.handle d g in
+      leaves (record {
+        all = filter-all (HasOwn may) (λ (other : Task). not (other.handle == t.handle)) d.tasks g.all;
+        file = dead.file;
+        given = dead.given;
+      })
 
   save-leaves : (name : List ℕ) (k : ℕ) (to leaf : List ℕ) → OnGrant Leaves (save d name k to leaf)
   unfolding save
@@ -265,14 +275,14 @@ module _ (may : MayShow) (d : Desk) (g : HaveOwn may d) where
 
   make-leaves : (most : ℕ) → OnGrant Leaves (make d most)
   unfolding make
-  make-leaves most = granted-past _ _ _ λ x. granted-past _ _ _ λ y. leaves (record { all = g.all })
+  make-leaves most = granted-past _ _ _ λ x. granted-past _ _ _ λ y. leaves (same-own _ refl refl refl refl g)
 
   -- a command on memory that is no task's
   changed-leaves : {c : Command} → slot_name c ≡ None → (x : Answer) → Changed c d x → Leaves x
   changed-leaves none _ (in_slot name t s own e is) = absurd (let z : None ≡ Some name = sym none ∙ own in cc)
-  changed-leaves none _ (in_module h is) = record { desk = record { all = g.all } }
-  changed-leaves none _ (in_areas areas is) = record { desk = record { all = g.all } }
-  changed-leaves none _ (in_made areas is) = record { desk = record { all = g.all } }
+  changed-leaves none _ (in_module h is) = record { desk = same-own _ refl refl refl refl g }
+  changed-leaves none _ (in_areas areas is) = record { desk = same-own _ refl refl refl refl g }
+  changed-leaves none _ (in_made areas is) = record { desk = same-own _ refl refl refl refl g }
   changed-leaves none _ (in_nothing is) = record { desk = g }
 
   memory-leaves : (c : Command) → IsOnMemory c → slot_name c ≡ None → OnGrant Leaves (change d c)
@@ -320,7 +330,7 @@ module _ (may : MayShow) (d : Desk) (g : HaveOwn may d) where
 
 -- ---- a poll
 
-module _ {o : Offers} {e : Edits} {a : Addresses} {may : MayShow} (d : Desk) (f : Fits d) (good : Good o e (view d)) (agrees : Agrees a d)
+module _ {o : Offers} {e : Edits} {a : Addresses} {may : MayShow} (d : Desk) (kept : IsDesk d) (f : Fits d) (good : Good o e (view d)) (agrees : Agrees a d)
     (covers : Covers o a may) (g : HaveOwn may d) where
   module _ (name : List ℕ) (t : Task) (q : named name d ≡ Ok t) where
     abbrev h : ℕ
@@ -361,16 +371,21 @@ module _ {o : Offers} {e : Edits} {a : Addresses} {may : MayShow} (d : Desk) (f 
         (((w.came ne).read.ok.file h x seen).whole (seen_scrap scrap) (ap (option_map seen_scrap) there) (ap action_of kind) (sym load)
         (is_equal _ _ (and_right (m.message.from == x.sender) _ passes)))
 
-    polled-own : (v : Option Parcel) → polled.1 ≡ v → HaveOwn may (poll_taken now t v).0
+    -- refs of the messages that are left
+    refs-left : HasRefs now
+    unfolding with_delivered
+    refs-left = all-mono (λ (p : Parcel) is. is.given) polled.0.queued (post_poll-kept h d.post kept.post).post.is.queued
+
+    taken-own : (v : Option Parcel) → polled.1 ≡ v → HaveOwn may (poll_taken now t v).0
     unfolding poll_taken
-    polled-own None taken = delivered-own polled.0 d g
-    polled-own (Some m) taken =
-        handled-own may t (named-own may d g name t q) now (delivered-own polled.0 d g) m source-shown m.code
+    taken-own None taken = polled-own h d g
+    taken-own (Some m) taken =
+        handled-own may t (named-own may d g name t q) now (polled-own h d g) m source-shown refs-left m.code
         (λ ne file kind x has passes. file-shown m taken ne file kind x has passes)
 
   poll-leaves : (name : List ℕ) → OnGrant (Leaves may d g) (poll d name)
   unfolding poll
-  poll-leaves name = granted-then _ _ λ t q. granted (record { desk = polled-own name t q (post_poll t.handle d.post).1 refl })
+  poll-leaves name = granted-then _ _ λ t q. granted (record { desk = taken-own name t q (post_poll t.handle d.post).1 refl })
 
 -- ---- all commands
 
@@ -418,7 +433,7 @@ module _ (may : MayShow) (d : Desk) (w : Reached may d) where
   step-own (command.Save name k to leaf) =
       let own = own-then (command.Save name k to leaf) in
       (or_else-keeps (Leaves (then (command.Save name k to leaf)) d own) _ (save-leaves _ d own name k to leaf) (λ refusal. record { desk = own })).desk
-  step-own (command.Poll name) = kept-own (poll-leaves d (fits d w.kept) w.good w.agrees w.covers w.own name)
+  step-own (command.Poll name) = kept-own (poll-leaves d w.kept (fits d w.kept) w.good w.agrees w.covers w.own name)
   step-own (command.CancelIn name id) = kept-own (cancel_in-leaves may d w.own name id)
   step-own (command.CancelOut name id) = kept-own (cancel_out-leaves may d w.own name id)
   step-own (command.Repeat name) = kept-own (repeat-leaves may d w.own name)
@@ -501,6 +516,8 @@ module _ (may : MayShow) (d : Desk) (w : Reached may d) where
         among h (bytes_of s) (sym (bytes-renamed (keeping (may h)) s) ∙ ap bytes_of e)) t.slot.heap.segments
         (ap (λ (s : Slot). s.heap.segments) (at-own h t at));
     shown = λ name k t size bytes q is. grant-holds (show-own name k) is t q;
+    file = λ file p q has code same.
+        among p.to file.bytes (all-has _ d.post.queued p (w.own.file file q) (has_of d.post.queued p has) code same);
     new = w.new;
   }
 
@@ -515,7 +532,7 @@ always-shows-own pool handle ref files cs from ranged =
       kept = start-is pool handle ref files from;
       agrees = record { born = λ i low. refl; of_tasks = tt; mail = tt };
       covers = λ id s r file from is. absurd cc;
-      own = record { all = tt };
+      own = record { all = tt; file = λ file q. absurd cc; given = λ file q. absurd cc };
       zero = λ h. refl;
       new = λ h low. refl;
     }))

@@ -21,7 +21,12 @@ use Rattle.rh_safety.proofs.Actions.{bounce-does, load-does, open-does, save-doe
 use Rattle.rh_laws.specs.Shown.{MayShow}
 use Rattle.rh_laws.proofs.Addresses.{all-edit}
 use Rattle.rh_laws.proofs.ShownSlots.{BytesStay, SlotStays, alloc-stays, claim-stays, extend-stays, first-stays, keeping, keeping-zero, part-stays}
-use Rattle.rh_laws.proofs.ShownSlots.{put-stays, without-stays, written-stays}
+use Rattle.rh_laws.proofs.Queues.{Left, death-left, poll-taken, sent-is}
+use Rattle.rh_defs.specs.Post.{parcel_of, post_death, post_is_live}
+use Rattle.rh_defs.specs.Desk.{kept_scrap}
+use Rattle.rh_defs.specs.OutgoingEvents.{wider}
+use Rattle.rh_laws.proofs.Common.{next_ref, ◌++◌, ◌<◌, [], ◌∷◌, cond, false, arith, all-mono, append-all, and_left, as_returned, post_poll, ◌+◌}
+use Rattle.rh_laws.proofs.ShownSlots.{granted-as, put-stays, without-stays, written-stays}
 
 -- ---- desks
 
@@ -29,15 +34,45 @@ use Rattle.rh_laws.proofs.ShownSlots.{put-stays, without-stays, written-stays}
 abbrev pub HasOwn : MayShow → Task → Type 0
 HasOwn may t = SlotStays (keeping (may t.handle)) t.slot
 
--- so it is of each task
+-- a queued message, if it is the DataLoad of the scrap file: whom it is for may show the file's bytes
+abbrev pub IsFor : MayShow → Scrap → Parcel → Type 0
+IsFor may file p = p.code ≡ Recorded → p.message.my_ref ≡ file.load → BytesStay (keeping (may p.to)) file.bytes
+
+-- so it is of each task, and of the scrap file, where there is one
 pub record HaveOwn (may : MayShow) (d : Desk) : Type 0 where
   pub all : AllByRecursion (HasOwn may) d.tasks
+  pub file : (file : Scrap) → d.scrap ≡ Some file → AllByRecursion (IsFor may file) d.post.queued
+  pub given : (file : Scrap) → d.scrap ≡ Some file → file.load < d.post.next_ref
+
+-- the refs of queued messages were given
+abbrev pub HasRefs : Desk → Type 0
+HasRefs d = AllByRecursion (λ (p : Parcel). p.message.my_ref < next_ref d) d.post.queued
+
+-- a desk with the same tasks, messages and scrap file
+pub same-own : {may : MayShow} {d : Desk} (e : Desk) → e.tasks ≡ d.tasks → e.scrap ≡ d.scrap → e.post.queued ≡ d.post.queued → e.post.next_ref ≡ d.post.next_ref →
+    HaveOwn may d → HaveOwn may e
+same-own {may} e tasks scrap queued next g = record {
+  all = subst (AllByRecursion (HasOwn may)) (sym tasks) g.all;
+  file = λ file q. subst (AllByRecursion (IsFor may file)) (sym queued) (g.file file (sym scrap ∙ q));
+  given = λ file q. subst (λ n. file.load < n) (sym next) (g.given file (sym scrap ∙ q));
+}
+
+-- a message that goes back is no DataLoad that waits
+back-for : (may : MayShow) (file : Scrap) (p : Parcel) → IsFor may file (as_returned p)
+back-for may file p code = absurd (let z : Acknowledge ≡ Recorded = code in cc)
+
+-- after a letter was sent
+record Sent (may : MayShow) (l : Letter) (d e : Desk) : Type 0 where
+  own : HaveOwn may e
+  block : ℕ
+  queued : e.post.queued ≡ d.post.queued ++ parcel_of l d.post.next_ref block ∷ []
+  next : e.post.next_ref ≡ d.post.next_ref + 1
 
 module _ {may : MayShow} where
   pub task-own : (h : ℕ) (edit : Task → Task) → ((t : Task) → t.handle ≡ h → HasOwn may t → HasOwn may (edit t)) → (d : Desk) →
       HaveOwn may d → HaveOwn may (with_task h edit d)
   unfolding with_task
-  task-own h edit keeps d g = record { all = all-edit (HasOwn may) h edit keeps d.tasks g.all }
+  task-own h edit keeps d g = record { all = all-edit (HasOwn may) h edit keeps d.tasks g.all; file = g.file; given = g.given }
 
   pub slot-own : (h : ℕ) (s : Slot) → SlotStays (keeping (may h)) s → (d : Desk) → HaveOwn may d → HaveOwn may (with_slot h s d)
   slot-own h s stays d g =
@@ -54,16 +89,46 @@ module _ {may : MayShow} where
   ended-own h x edit d g =
       ins-own h edit _ (task-own h _ (λ t same is. without-stays (keeping (may t.handle)) t.slot is x.buffer) d g)
 
-  pub letter-own : (l : Letter) (d : Desk) → HaveOwn may d → OnGrant (HaveOwn may) (send_letter l d)
-  unfolding send_letter
-  letter-own l d g =
-      granted-then _ _ λ sent e.
-      granted (task-own l.from (λ (t : Task). record t { last_sent = Some (l, sent.1) }) (λ t same is. is) (with_post sent.0 d)
-      (record { all = g.all }))
+  letter-sent : (l : Letter) (d : Desk) → HaveOwn may d → OnGrant (Sent may l d) (send_letter l d)
+  unfolding send_letter with_task
+  letter-sent l d g =
+      granted-with _ (sent-is (free_pages d) l d.post) λ sent w.
+      granted (record {
+        own = record {
+          all = all-edit (HasOwn may) l.from (λ (t : Task). record t { last_sent = Some (l, sent.1) }) (λ t same is. is) d.tasks g.all;
+          file = λ file q. subst (AllByRecursion (IsFor may file)) (sym w.queued) (append-all (IsFor may file) d.post.queued _
+              (g.file file q) (λ code same. absurd (let low = g.given file q in omega (arith, low, same))));
+          given = λ file q. let low = g.given file q in let next = w.next in omega (arith, low, next);
+        };
+        block = w.block;
+        queued = w.queued;
+        next = w.next;
+      })
 
-  pub delivered-own : (p : Post) (d : Desk) → HaveOwn may d → HaveOwn may (with_delivered p d)
+  pub letter-own : (l : Letter) (d : Desk) → HaveOwn may d → OnGrant (HaveOwn may) (send_letter l d)
+  letter-own l d g = granted-as (λ e (w : Sent may l d e). w.own) (letter-sent l d g)
+
+  -- a post that messages went out of
+  delivered-own : (p : Post) (d : Desk) → ((file : Scrap) → Left (IsFor may file) (back-for may file) d.post p) → HaveOwn may d →
+      HaveOwn may (with_delivered p d)
   unfolding with_delivered
-  delivered-own p d g = record { all = g.all }
+  delivered-own p d left g = record {
+    all = g.all;
+    file = λ file q. (left file).mail (g.file file (was file d.scrap q));
+    given = λ file q. subst (λ n. file.load < n) (sym (left file).next) (g.given file (was file d.scrap q));
+  }
+    where
+      was : (file : Scrap) (o : Option Scrap) → kept_scrap p o ≡ Some file → o ≡ Some file
+      was file None q = q
+      was file (Some other) q =
+          elim (post_is_live other.load p) as (λ b. cond b (Some other) None ≡ Some file → Some other ≡ Some file)
+          [ true ↦ λ q. q | false ↦ λ q. absurd cc ] q
+
+  pub polled-own : (h : ℕ) (d : Desk) → HaveOwn may d → HaveOwn may (with_delivered (post_poll h d.post).0 d)
+  polled-own h d g = delivered-own _ d (λ file. (poll-taken (IsFor may file) (back-for may file) h d.post).left) g
+
+  pub death-own : (h : ℕ) (d : Desk) → HaveOwn may d → HaveOwn may (with_delivered (post_death h d.post) d)
+  death-own h d g = delivered-own _ d (λ file. death-left (IsFor may file) (back-for may file) h d.post) g
 
 -- ---- what is done with a message
 
@@ -79,10 +144,16 @@ module _ (may : MayShow) (t : Task) (own : HasOwn may t) where
   f = keeping (may h)
 
   -- the recipient may show the bytes of the source
-  abbrev Sends : SendAction → Type 0
-  Sends c =
-      (source : Split Flex) → slot_block (sender.transfer_of c).anchor t.slot ≡ Ok source →
-      BytesStay (keeping (may (sender.transfer_of c).recipient)) source.here.bytes
+  abbrev pub Sourced : Sending → Type 0
+  Sourced x = (source : Split Flex) → slot_block x.anchor t.slot ≡ Ok source → BytesStay (keeping (may x.recipient)) source.here.bytes
+
+  -- a file is for the recipient, who asked for it, and no queued message has the ref that its DataLoad gets
+  abbrev IsAsked : Desk → SendAction → Type 0
+  IsAsked d (send_action.SaveFile c) = (c.to ≡ c.transfer.recipient) × HasRefs d
+  IsAsked d c = Unit {0}
+
+  abbrev Sends : Desk → SendAction → Type 0
+  Sends d c = Sourced (sender.transfer_of c) × IsAsked d c
 
   -- the task may show the bytes of its scrap file
   abbrev Takes : Desk → TakeAction → Type 0
@@ -118,25 +189,38 @@ module _ (may : MayShow) (t : Task) (own : HasOwn may t) where
               (subst (λ j. BytesStay (keeping (may j)) source.here.bytes) (sym (here ∙ same)) e))) sent all);
         })
 
-    save_scrap-own : (c : SaveFile) (source : Split Flex) → OnGrant (Leaves may) (save_scrap d t c source)
+    save_scrap-own : (c : SaveFile) (source : Split Flex) → BytesStay (keeping (may c.transfer.recipient)) source.here.bytes → IsAsked d (send_action.SaveFile c) →
+        OnGrant (Leaves may) (save_scrap d t c source)
     unfolding save_scrap
-    save_scrap-own c source =
+    save_scrap-own c source e asked =
+        let file : Scrap = record { load = next_ref d; bytes = source.here.bytes } in
         granted-past _ _ _ λ busy. granted-both _ (any-grant _) λ y u. granted-past _ _ _ λ room.
-        granted-with _ (letter-own _ _ (record { all = g.all })) λ sent all.
-        granted (record { desk = outs-own h _ _ (record { all = all.all }) })
+        granted-with _ (letter-sent _ _ (same-own (wider _ d) refl refl refl refl g)) λ sent w.
+        granted (record {
+          desk = outs-own h _ _ (record {
+            all = w.own.all;
+            file = λ other q. let one : file ≡ other = cc in
+                subst (λ (z : Scrap). AllByRecursion (IsFor may z) sent.post.queued) one
+                (subst (AllByRecursion (IsFor may file)) (sym w.queued) (append-all (IsFor may file) d.post.queued _
+                (all-mono {Q = IsFor may file} (λ (p : Parcel) (low : p.message.my_ref < next_ref d) code same. absurd (omega (arith, low, same))) d.post.queued asked.1)
+                (λ code same. subst (λ j. BytesStay (keeping (may j)) source.here.bytes) (sym asked.0) e)));
+            given = λ other q. let one : file ≡ other = cc in
+                subst (λ (z : Scrap). z.load < sent.post.next_ref) one (let next = w.next in omega (arith, next));
+          });
+        })
 
-    send_with-own : (c : SendAction) (source : Split Flex) → BytesStay (keeping (may (sender.transfer_of c).recipient)) source.here.bytes →
+    send_with-own : (c : SendAction) (source : Split Flex) → BytesStay (keeping (may (sender.transfer_of c).recipient)) source.here.bytes → IsAsked d c →
         OnGrant (Leaves may) (send_with d t c source)
     unfolding send_with
-    send_with-own (send_action.Transmit c) source e = transmit-own c source e
-    send_with-own (send_action.SaveFile c) source e = save_scrap-own c source
-    send_with-own (send_action.Finish x) source e = granted (outs-with _ _)
+    send_with-own (send_action.Transmit c) source e to = transmit-own c source e
+    send_with-own (send_action.SaveFile c) source e to = save_scrap-own c source e to
+    send_with-own (send_action.Finish x) source e to = granted (outs-with _ _)
 
-    perform_send-own : (v : Option SendAction) → IfSome v Sends → Leaves may (perform_send d t v)
+    perform_send-own : (v : Option SendAction) → IfSome v (Sends d) → Leaves may (perform_send d t v)
     unfolding perform_send
     perform_send-own None sends = ignored-own
     perform_send-own (Some c) sends =
-        or_else-keeps (Leaves may) _ (granted-then _ _ λ source found. send_with-own c source (sends source found)) (λ refusal. outs-with _ _)
+        or_else-keeps (Leaves may) _ (granted-then _ _ λ source found. send_with-own c source (sends.0 source found) sends.1) (λ refusal. outs-with _ _)
 
     fail_sending-own : (v : Option Sending) → Leaves may (fail_sending d t v)
     unfolding fail_sending
@@ -200,7 +284,8 @@ module _ (may : MayShow) (t : Task) (own : HasOwn may t) where
     load_file-own c (Some file) stays = elim (eqb_tells file.load c.answers) [
       | inl w ↦ rw w.0 (or_else-keeps (Leaves may) _
           (granted-with _ (appended-own d g c.transfer.anchor file.bytes (stays file refl w.1)) λ longer all.
-          granted (loaded-own (record longer { scrap = None }) (record { all = all.all }) c (length file.bytes)))
+          granted (loaded-own (record longer { scrap = None }) (record { all = all.all; file = λ other q. absurd cc; given = λ other q. absurd cc }) c
+          (length file.bytes)))
           (λ refusal. ins-with d g _ _))
       | inr w ↦ rw w.0 (ignored-own d g)
     ]
@@ -222,7 +307,7 @@ module _ (may : MayShow) (t : Task) (own : HasOwn may t) where
 
     -- of each open transfer of the task, the recipient may show the bytes of the source
     abbrev pub Offered : Type 0
-    Offered = (x : Sending) → Has (outgoing.Open x) t.sending → Sends (send_action.Finish x)
+    Offered = (x : Sending) → Has (outgoing.Open x) t.sending → Sourced x
 
     -- the task may show the bytes of the scrap file whose DataLoad the message is
     abbrev pub Filed : Parcel → Body → Type 0
@@ -230,15 +315,18 @@ module _ (may : MayShow) (t : Task) (own : HasOwn may t) where
         (file : FileData) → b ≡ body.DataLoad file → (q : Asked) → Has (incoming.Asking q) t.taking →
         receiver.is_load m.message.from m.message.your_ref q ≡ true → Takes d (receiver.load_for m.message.from m.message.my_ref q)
 
-    module _ (m : Parcel) (offered : Offered) where
+    module _ (m : Parcel) (offered : Offered) (refs : HasRefs d) where
       came-own : (b : Body) → Filed m b → Leaves may (came d t m b)
       unfolding came
       came-own (body.DataSave file) filed = perform_take-own _ (save-does (Takes d) t.taking _ _ _ tt)
-      came-own (body.DataSaveAck file) filed = perform_send-own d g _ (open-does Sends t.sending _ _ (λ x has p. offered x has))
+      came-own (body.DataSaveAck file) filed =
+          perform_send-own d g _ (open-does (Sends d) t.sending (sender.file_for m.message.from m.message.my_ref) _ (λ x has p.
+          let both = and_left _ (x.id == x.last) p in
+          (offered x has, (is_equal _ _ (and_left (m.message.from == x.recipient) _ both), refs))))
       came-own (body.DataLoad file) filed = perform_take-own _ (load-does (Takes d) t.taking _ _ _ (filed file refl))
-      came-own (body.DataLoadAck file) filed = perform_send-own d g _ (open-does Sends t.sending _ _ (λ x has p. offered x has))
+      came-own (body.DataLoadAck file) filed = perform_send-own d g _ (open-does (Sends d) t.sending _ _ (λ x has p. (offered x has, tt)))
       came-own (body.RamFetch buffer amount) filed =
-          chosen (Leaves may) _ _ _ (ignored-own d g) (perform_send-own d g _ (open-does Sends t.sending _ _ (λ x has p. offered x has)))
+          chosen (Leaves may) _ _ _ (ignored-own d g) (perform_send-own d g _ (open-does (Sends d) t.sending _ _ (λ x has p. (offered x has, tt))))
       came-own (body.RamTransmit buffer n) filed =
           perform_take-own _ (transmit-does (Takes d) t.taking _ _ _ _ _ _ (λ x has. tt) (λ x e has. tt))
 

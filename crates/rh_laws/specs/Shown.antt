@@ -1,6 +1,6 @@
 -- Whose the bytes are that a task shows: it put or loaded them, or they stood in a block when that was offered to it.
 use Rattle.std.specs.Prelude.{◌≡◌, ◌≤◌, ℕ, ◌++◌, true, List, [], ◌∷◌, map, find, Option, Some, Ok}
-use Rattle.std.specs.List.{AllByRecursion}
+use Rattle.std.specs.List.{AllByRecursion, Contains}
 use Rattle.rh_defs.specs.declared.command.Command.{Command}
 use Rattle.rh_defs.specs.declared.command.Command.TheVariants as command
 use Rattle.rh_defs.specs.declared.question.Numbers.{Numbers}
@@ -11,7 +11,9 @@ use Rattle.rh_defs.specs.Heap.{Segment, bytes_of}
 use Rattle.rh_defs.specs.Slot.{Flex}
 use Rattle.rh_defs.specs.Files.{FileList, file_bytes}
 use Rattle.rh_defs.specs.Range.{all_in_range}
-use Rattle.rh_defs.specs.Desk.{Desk, Task, has_name, task_at}
+use Rattle.rh_defs.specs.Desk.{Desk, Scrap, Task, has_name, task_at}
+use Rattle.rh_defs.specs.declared.message.EventCode.TheVariants.{Recorded}
+use Rattle.rh_defs.specs.Messages.{Parcel}
 use Rattle.rh_defs.specs.Questions.{Bytes, asked}
 use Rattle.rh_defs.specs.Commands.{step}
 use Rattle.rh_defs.specs.Runs.{after, start_with}
@@ -69,7 +71,8 @@ abbrev pub AreAmong : List ℕ → List ℕ → Type 0
 AreAmong list bytes = AllByRecursion (λ b. has_byte b list ≡ true) bytes
 
 -- On a desk that each task may show these bytes on: a live task's flex blocks and the blocks of its C heap have no others,
--- and `show` answers no others. No task that begins later may show any but 0.
+-- and `show` answers no others. The scrap file has none but those of the task that its DataLoad waits for. No task that
+-- begins later may show any but 0.
 pub record ShowsOwn (d : Desk) (may : MayShow) : Type 0 where
   pub blocks :
       (h : ℕ) (t : Task) → task_at h d ≡ Some t → AllByRecursion (λ (b : Flex). AreAmong (may h) b.bytes) t.slot.blocks
@@ -79,6 +82,9 @@ pub record ShowsOwn (d : Desk) (may : MayShow) : Type 0 where
   pub shown :
       (name : List ℕ) (k : ℕ) (t : Task) (size : Numbers) (bytes : List ℕ) → find (has_name name) d.tasks ≡ Some t →
       asked d (question.Show name k) ≡ Ok (size, Bytes bytes) → AreAmong (may t.handle) bytes
+  pub file :
+      (file : Scrap) (p : Parcel) → d.scrap ≡ Some file → Contains d.post.queued p → p.code ≡ Recorded →
+      p.message.my_ref ≡ file.load → AreAmong (may p.to) file.bytes
   pub new : (h : ℕ) → d.next_handle ≤ h → may h ≡ 0 ∷ []
 
 -- so it is after each list of commands in range, from each start
@@ -112,4 +118,4 @@ AlwaysShowsOwnMarks =
     (f : ℕ → ℕ) → f 0 ≡ 0 → (pool handle ref : ℕ) (files : FileList) (commands : List Command) → IsStart pool handle ref →
     all_in_range commands ≡ true →
     ShowsOwnMarks f (after (start_with pool (renamed_files f files) handle ref) (map (renamed_command f) commands))
-        (may_show (start_with pool files handle ref) commands)
+    (may_show (start_with pool files handle ref) commands)
