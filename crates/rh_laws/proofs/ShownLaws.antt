@@ -1,14 +1,13 @@
 -- Each command leaves tasks with no bytes but those that they may show, and so does every list of commands.
-use Rattle.rh_laws.proofs.Common.{◌≡◌, ◌≢◌, ℕ, ◌≤◌, ◌<◌, ◌++◌, Bool, true, List, [], ◌∷◌, Option, Some, None, refl, sym, ap, subst, ◌∙◌, inl, inr, arith}
-use Rattle.rh_laws.proofs.Common.{map, ℤ, ◌==◌, not, find, option_map, Ok, IfSome, AllByRecursion, eqb_tells, Granted, OnGrant, granted, granted-past}
-use Rattle.rh_laws.proofs.Common.{granted-then, granted-with, or_else, or_else-keeps, append-all, Command, Manner, Body}
-use Rattle.rh_laws.proofs.Common.{Acknowledge, Asked, Sending, Incoming, Outgoing, Letter, Reply, Parcel, Post, post_poll, Segment, bytes_of}
-use Rattle.rh_laws.proofs.Common.{Split, Flex, Slot, slot_block, slot_begin, Desk, Task, Scrap, free_pages, has_name, named, task_at, with_delivered}
-use Rattle.rh_laws.proofs.Common.{Answer, after, start_with, alloc, budge, claim, extend, free, kill, load, make, mid, put, release, resize, start_task}
-use Rattle.rh_laws.proofs.Common.{save, repeat, poll, poll_taken, cancel_in, cancel_out, change, step, Bytes, Told, IsDesk, all_in_range, in_range}
-use Rattle.rh_laws.proofs.Common.{Follows, start-is, step-keeps, at_place, Offers, Has, Good, view, task_of, and_left, and_right, is_equal, with_slot, action_of, false, all-mono, has_of, post_join}
-use Rattle.rh_laws.proofs.Common.{first_is, found_name, is_found, the_task, Fits, fits, field_is, live_of, keeps}
-use Rattle.rh_laws.proofs.Common.{Changed, IsOnMemory, granted-on, in_areas, in_made, in_module, in_nothing, in_slot}
+use Rattle.rh_laws.proofs.Common.{[], Acknowledge, action_of, after, all-mono, all_in_range, AllByRecursion, alloc, and_left, and_right, Answer, ap, append-all}
+use Rattle.rh_laws.proofs.Common.{arith, Asked, at_place, Body, Bool, budge, Bytes, bytes_of, cancel_in, cancel_out, change, Changed, claim, Command, Desk}
+use Rattle.rh_laws.proofs.Common.{eqb_tells, extend, false, field_is, find, first_is, Fits, fits, Flex, Follows, found_name, free, free_pages, Good, Granted}
+use Rattle.rh_laws.proofs.Common.{granted, granted-on, granted-past, granted-then, granted-with, Has, has_name, has_of, IfSome, in_areas, in_made, in_module}
+use Rattle.rh_laws.proofs.Common.{in_nothing, in_range, in_slot, Incoming, inl, inr, is_equal, is_found, IsDesk, IsOnMemory, keeps, kill, Letter, List, live_of}
+use Rattle.rh_laws.proofs.Common.{load, make, Manner, map, mid, named, None, not, Offers, Ok, OnGrant, Option, option_map, or_else, or_else-keeps, Outgoing}
+use Rattle.rh_laws.proofs.Common.{Parcel, poll, poll_taken, Post, post_join, post_poll, put, refl, release, repeat, Reply, resize, save, Scrap, Segment}
+use Rattle.rh_laws.proofs.Common.{Sending, Slot, slot_begin, slot_block, Some, Split, start-is, start_task, start_with, step, step-keeps, subst, sym, Task}
+use Rattle.rh_laws.proofs.Common.{task_at, task_of, the_task, Told, true, view, with_delivered, with_slot, ℕ, ℤ, ◌++◌, ◌<◌, ◌==◌, ◌∙◌, ◌∷◌, ◌≡◌, ◌≢◌, ◌≤◌}
 use Rattle.rh_defs.specs.declared.command.Command.TheVariants as command
 use Rattle.rh_defs.specs.declared.message.Body.TheVariants as body
 use Rattle.rh_defs.specs.declared.message.FileData.{FileData}
@@ -34,19 +33,19 @@ use Rattle.rh_safety.proofs.SeenLaws.{block_is}
 use Rattle.rh_safety.proofs.SeenTaking.{poll_taken_is}
 use Rattle.rh_safety.proofs.SeenTasks.{found_task}
 use Rattle.rh_safety.proofs.View.{blocks_of, seen_scrap}
-use Rattle.rh_laws.specs.Addressed.{Addresses, From, Parties, addressed_again, addressed_last, addresses_next, parties_of}
+use Rattle.rh_laws.specs.Addressed.{addressed_again, addressed_last, Addresses, addresses_next, From, Parties, parties_of}
 use Rattle.rh_laws.specs.Renaming.{has_byte, renamed, renamed_block, renamed_segment, renamed_slot, renamed_task}
-use Rattle.rh_laws.specs.Shown.{AlwaysShowsOwn, AlwaysShowsOwnMarks, AreAmong, AreOfMarks, MayShow, ShowsOwn, ShowsOwnMarks, may_show, may_show_from}
-use Rattle.rh_laws.specs.Shown.{may_show_next, shows_too}
-use Rattle.rh_laws.proofs.Addresses.{Agrees, InAgrees, OutAgrees, TaskAgrees, all-has}
+use Rattle.rh_laws.specs.Shown.{AlwaysShowsOwn, AlwaysShowsOwnMarks, AreAmong, AreOfMarks, may_show, may_show_from, may_show_next, MayShow, shows_too, ShowsOwn}
+use Rattle.rh_laws.specs.Shown.{ShowsOwnMarks}
+use Rattle.rh_laws.proofs.Addresses.{Agrees, all-has, InAgrees, OutAgrees, TaskAgrees}
 use Rattle.rh_laws.proofs.AddressLaws.{step-agrees}
 use Rattle.rh_laws.proofs.RenamedHeaps.{bytes-renamed}
 use Rattle.rh_laws.proofs.RenamedDesks.{task_at-renamed}
 use Rattle.rh_laws.proofs.RenamedLaws.{always-renamed, pass, stay}
 use Rattle.rh_laws.proofs.RenamedParts.{follows-test}
-use Rattle.rh_laws.proofs.ShownSlots.{BytesStay, SlotStays, Within, alloc-stays, before-within, behind-within, block-stays, bytes-wider, claim-stays}
-use Rattle.rh_laws.proofs.ShownSlots.{extend-stays, fixed-by, free-stays, keeping, keeping-zero, mid-stays, put-stays, release-stays, resize-stays, slot-wider}
-use Rattle.rh_laws.proofs.ShownPolls.{HasOwn, HasRefs, HaveOwn, IsFor, death-own, handled-own, polled-own, same-own, ins-own, letter-own, outs-own, slot-own}
+use Rattle.rh_laws.proofs.ShownSlots.{alloc-stays, before-within, behind-within, block-stays, bytes-wider, BytesStay, claim-stays, extend-stays, fixed-by}
+use Rattle.rh_laws.proofs.ShownSlots.{free-stays, keeping, keeping-zero, mid-stays, put-stays, release-stays, resize-stays, slot-wider, SlotStays, Within}
+use Rattle.rh_laws.proofs.ShownPolls.{death-own, handled-own, HasOwn, HasRefs, HaveOwn, ins-own, IsFor, letter-own, outs-own, polled-own, same-own, slot-own}
 
 -- ---- what a task may show grows
 
@@ -80,8 +79,8 @@ too-other may (Some t) (Some bytes) h ne = elim (eqb_tells h t.handle) [ inl w �
 own-wider : (may more : MayShow) → Grows may more → (d : Desk) → HaveOwn may d → HaveOwn more d
 own-wider may more grows d g = record {
   all = go d.tasks g.all;
-  file = λ file q. all-mono {Q = IsFor more file} (λ (p : Parcel) is code same. bytes-wider (may p.to) (more p.to) (grows p.to) file.bytes (is code same)) d.post.queued
-      (g.file file q);
+  file = λ file q. all-mono {Q = IsFor more file} (λ (p : Parcel) is code same.
+      bytes-wider (may p.to) (more p.to) (grows p.to) file.bytes (is code same)) d.post.queued (g.file file q);
   given = g.given;
 }
   where

@@ -1,13 +1,12 @@
 -- Each message that a poll handles leaves all slots with no bytes but those that their tasks may show.
-use Rattle.rh_laws.proofs.Common.{◌≡◌, ℕ, true, List, length, Option, Some, None, refl, sym, ◌∙◌, subst, inl, inr, ◌==◌, IfSome, Ok}
-use Rattle.rh_laws.proofs.Common.{take, drop, eqb_tells, NoTask, Body, EventCode, User, Recorded, Acknowledge, Asked, Sending, Taking, Incoming, Outgoing}
-use Rattle.rh_laws.proofs.Common.{Letter, Outcome, Transmit, Part, SaveFile, SendAction, Claim, Append, Fetch, Next, LoadFile, TakeAction}
-use Rattle.rh_laws.proofs.Common.{Split, Flex, Slot, slot_block, Parcel, Post, Desk, Task, Scrap, task_at}
-use Rattle.rh_laws.proofs.Common.{free_pages, send_letter, with_delivered, with_post, with_sending, with_slot, with_taking, with_task}
-use Rattle.rh_laws.proofs.Common.{Handled, fail_sending, ignored, perform_send, save_scrap, send_with, transmit, accept, ack_back, append}
-use Rattle.rh_laws.proofs.Common.{appended, ask, taking_ended, fetch_more, load_file, loaded, perform_take, take_with, took, came, came_back, handled}
-use Rattle.rh_laws.proofs.Common.{AllByRecursion, OnGrant, chosen, granted, granted-both, granted-past, granted-then, granted-with, or_else-keeps, Has}
-use Rattle.rh_laws.proofs.Common.{any-grant, first_is, is_equal, is_found}
+use Rattle.rh_laws.proofs.Common.{[], accept, ack_back, Acknowledge, all-mono, AllByRecursion, and_left, any-grant, append, Append, append-all, appended, arith}
+use Rattle.rh_laws.proofs.Common.{as_returned, ask, Asked, Body, came, came_back, chosen, Claim, cond, Desk, drop, eqb_tells, EventCode, fail_sending, false}
+use Rattle.rh_laws.proofs.Common.{Fetch, fetch_more, first_is, Flex, free_pages, granted, granted-both, granted-past, granted-then, granted-with, handled}
+use Rattle.rh_laws.proofs.Common.{Handled, Has, IfSome, ignored, Incoming, inl, inr, is_equal, is_found, length, Letter, List, load_file, loaded, LoadFile}
+use Rattle.rh_laws.proofs.Common.{Next, next_ref, None, NoTask, Ok, OnGrant, Option, or_else-keeps, Outcome, Outgoing, Parcel, Part, perform_send, perform_take}
+use Rattle.rh_laws.proofs.Common.{Post, post_poll, Recorded, refl, save_scrap, SaveFile, Scrap, send_letter, send_with, SendAction, Sending, Slot, slot_block}
+use Rattle.rh_laws.proofs.Common.{Some, Split, subst, sym, take, take_with, TakeAction, Taking, taking_ended, Task, task_at, took, Transmit, transmit, true}
+use Rattle.rh_laws.proofs.Common.{User, with_delivered, with_sending, with_slot, with_taking, with_task, ℕ, ◌++◌, ◌+◌, ◌<◌, ◌==◌, ◌∙◌, ◌∷◌, ◌≡◌}
 use Rattle.rh_defs.specs.declared.message.Body.TheVariants as body
 use Rattle.rh_defs.specs.declared.message.FileData.{FileData}
 use Rattle.rh_defs.specs.declared.transfer.Incoming.TheVariants as incoming
@@ -17,16 +16,15 @@ use Rattle.rh_defs.specs.declared.transfer_action.TakeAction.TheVariants as take
 use Rattle.rh_defs.specs.declared.transfer_action.Next.TheVariants as next_action
 use Rattle.rh_defs.specs.Sender as sender
 use Rattle.rh_defs.specs.Receiver as receiver
-use Rattle.rh_safety.proofs.Actions.{bounce-does, load-does, open-does, save-does, transmit-does}
-use Rattle.rh_laws.specs.Shown.{MayShow}
-use Rattle.rh_laws.proofs.Addresses.{all-edit}
-use Rattle.rh_laws.proofs.ShownSlots.{BytesStay, SlotStays, alloc-stays, claim-stays, extend-stays, first-stays, keeping, keeping-zero, part-stays}
-use Rattle.rh_laws.proofs.Queues.{Left, death-left, poll-taken, sent-is}
 use Rattle.rh_defs.specs.Post.{parcel_of, post_death, post_is_live}
 use Rattle.rh_defs.specs.Desk.{kept_scrap}
 use Rattle.rh_defs.specs.OutgoingEvents.{wider}
-use Rattle.rh_laws.proofs.Common.{next_ref, ◌++◌, ◌<◌, [], ◌∷◌, cond, false, arith, all-mono, append-all, and_left, as_returned, post_poll, ◌+◌}
-use Rattle.rh_laws.proofs.ShownSlots.{granted-as, put-stays, without-stays, written-stays}
+use Rattle.rh_safety.proofs.Actions.{bounce-does, load-does, open-does, save-does, transmit-does}
+use Rattle.rh_laws.specs.Shown.{MayShow}
+use Rattle.rh_laws.proofs.Addresses.{all-edit}
+use Rattle.rh_laws.proofs.ShownSlots.{alloc-stays, BytesStay, claim-stays, extend-stays, first-stays, granted-as, keeping, keeping-zero, part-stays, put-stays}
+use Rattle.rh_laws.proofs.ShownSlots.{SlotStays, without-stays, written-stays}
+use Rattle.rh_laws.proofs.Queues.{death-left, Left, poll-taken, sent-is}
 
 -- ---- desks
 
@@ -49,8 +47,8 @@ abbrev pub HasRefs : Desk → Type 0
 HasRefs d = AllByRecursion (λ (p : Parcel). p.message.my_ref < next_ref d) d.post.queued
 
 -- a desk with the same tasks, messages and scrap file
-pub same-own : {may : MayShow} {d : Desk} (e : Desk) → e.tasks ≡ d.tasks → e.scrap ≡ d.scrap → e.post.queued ≡ d.post.queued → e.post.next_ref ≡ d.post.next_ref →
-    HaveOwn may d → HaveOwn may e
+pub same-own : {may : MayShow} {d : Desk} (e : Desk) → e.tasks ≡ d.tasks → e.scrap ≡ d.scrap → e.post.queued ≡ d.post.queued →
+    e.post.next_ref ≡ d.post.next_ref → HaveOwn may d → HaveOwn may e
 same-own {may} e tasks scrap queued next g = record {
   all = subst (AllByRecursion (HasOwn may)) (sym tasks) g.all;
   file = λ file q. subst (AllByRecursion (IsFor may file)) (sym queued) (g.file file (sym scrap ∙ q));
@@ -189,8 +187,8 @@ module _ (may : MayShow) (t : Task) (own : HasOwn may t) where
               (subst (λ j. BytesStay (keeping (may j)) source.here.bytes) (sym (here ∙ same)) e))) sent all);
         })
 
-    save_scrap-own : (c : SaveFile) (source : Split Flex) → BytesStay (keeping (may c.transfer.recipient)) source.here.bytes → IsAsked d (send_action.SaveFile c) →
-        OnGrant (Leaves may) (save_scrap d t c source)
+    save_scrap-own : (c : SaveFile) (source : Split Flex) → BytesStay (keeping (may c.transfer.recipient)) source.here.bytes →
+        IsAsked d (send_action.SaveFile c) → OnGrant (Leaves may) (save_scrap d t c source)
     unfolding save_scrap
     save_scrap-own c source e asked =
         let file : Scrap = record { load = next_ref d; bytes = source.here.bytes } in
@@ -202,7 +200,8 @@ module _ (may : MayShow) (t : Task) (own : HasOwn may t) where
             file = λ other q. let one : file ≡ other = cc in
                 subst (λ (z : Scrap). AllByRecursion (IsFor may z) sent.post.queued) one
                 (subst (AllByRecursion (IsFor may file)) (sym w.queued) (append-all (IsFor may file) d.post.queued _
-                (all-mono {Q = IsFor may file} (λ (p : Parcel) (low : p.message.my_ref < next_ref d) code same. absurd (omega (arith, low, same))) d.post.queued asked.1)
+                (all-mono {Q = IsFor may file} (λ (p : Parcel) (low : p.message.my_ref < next_ref d) code same.
+                absurd (omega (arith, low, same))) d.post.queued asked.1)
                 (λ code same. subst (λ j. BytesStay (keeping (may j)) source.here.bytes) (sym asked.0) e)));
             given = λ other q. let one : file ≡ other = cc in
                 subst (λ (z : Scrap). z.load < sent.post.next_ref) one (let next = w.next in omega (arith, next));

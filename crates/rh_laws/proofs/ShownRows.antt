@@ -1,14 +1,14 @@
 -- Worked runs of what tasks may show, and a block that has what its pages had, on which shown_law fails.
-use Rattle.rh_laws.proofs.Common.{◌≡◌, ℕ, ◌%◌, Bool, true, false, List, [], ◌∷◌, ◌++◌, length, map, refl, subst, Option, Some, None, Ok, AllByRecursion}
-use Rattle.rh_laws.proofs.Common.{hex_on_literals, String, Command, Granted, ◌>>=◌, or_else, Flex, slot_alloc, slot_put, Desk, Task, Answer, free_pages}
-use Rattle.rh_laws.proofs.Common.{named, task_at, with_slot, after, all_in_range, fresh, script}
+use Rattle.rh_laws.proofs.Common.{[], Parcel, Scrap, after, all_in_range, AllByRecursion, Answer, Bool, Command, Desk, false, Flex, free_pages, fresh, Granted}
+use Rattle.rh_laws.proofs.Common.{hex_on_literals, length, List, map, named, None, Ok, Option, or_else, refl, script, slot_alloc, slot_put, Some, String, subst}
+use Rattle.rh_laws.proofs.Common.{Task, task_at, true, with_slot, ℕ, ◌%◌, ◌++◌, ◌>>=◌, ◌∷◌, ◌≡◌}
 use Rattle.rh_defs.specs.declared.command.Command.TheVariants as command
 use Rattle.rh_defs.specs.declared.reply.Reply.TheVariants as reply
 use Rattle.rh_defs.specs.Runs.{start}
 use Rattle.rh_defs.specs.Script
 use Rattle.rh_safety.proofs.SafetyRows.{prefixes}
 use Rattle.rh_laws.specs.Renaming.{renamed_command}
-use Rattle.rh_laws.specs.Shown.{AreAmong, ShowsOwn, may_show}
+use Rattle.rh_laws.specs.Shown.{AreAmong, may_show, ShowsOwn}
 
 -- the bytes of each flex block of the live task with a handle
 abbrev blocks_at : Option Task → List (List ℕ)
@@ -53,6 +53,21 @@ b_has = refl
 loaded : may_show (start 64 ((102 ∷ [], 5 ∷ 6 ∷ []) ∷ [])) (script ("task a 4" ∷ "load a 0 f" ∷ [])) 1 ≡ 0 ∷ 5 ∷ 6 ∷ []
 unfolding Script.computing hex_on_literals
 loaded = refl
+
+-- a, which answers no fetch, is asked for a file: the scrap file waits for b with bytes that b may show
+abbrev filed_once : Desk
+filed_once =
+    after fresh (script ("task a 4 file" ∷ "task b 4" ∷ "alloc a 0 2" ∷ "put a 0 0 0708" ∷ "save a 0 b x" ∷ "poll b" ∷ "poll a" ∷ "poll b"
+    ∷ "poll a" ∷ "poll b" ∷ "poll a" ∷ []))
+
+abbrev load_and_bytes : Option Scrap → List ℕ
+load_and_bytes None = []
+load_and_bytes (Some file) = file.load ∷ file.bytes
+
+waits : (load_and_bytes filed_once.scrap, map (λ (p : Parcel). p.message.my_ref ∷ p.to ∷ []) filed_once.post.queued) ≡
+    (4 ∷ 7 ∷ 8 ∷ [], (4 ∷ 2 ∷ []) ∷ [])
+unfolding Script.computing hex_on_literals
+waits = refl
 
 -- ---- marks
 

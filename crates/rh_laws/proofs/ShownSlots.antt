@@ -1,18 +1,17 @@
 -- Slots that stay under a renaming: each call leaves such a slot. A renaming that keeps the bytes of a list and makes all
 -- others 0 leaves just the bytes of that list, and 0.
-use Rattle.rh_laws.proofs.Common.{◌≡◌, ℕ, Bool, true, false, cond, List, [], ◌∷◌, ◌++◌, map, refl, sym, ap, ◌∙◌, ℤ, ◌==◌, ◌||◌, take, drop}
-use Rattle.rh_laws.proofs.Common.{take-map, drop-map, Granted, Follows, OnGrant, Split, Segment, Used, Hole, Flex, Slot, heap_block_at}
-use Rattle.rh_laws.proofs.Common.{slot_alloc, slot_block, slot_claim, slot_extend, slot_free, slot_mid, slot_put, slot_release, slot_resize}
-use Rattle.rh_laws.proofs.Common.{buffer_at, written_in, without_buffer}
+use Rattle.rh_laws.proofs.Common.{[], ap, Bool, buffer_at, cond, drop, drop-map, false, Flex, Follows, Granted, heap_block_at, Hole, List, map, OnGrant, refl}
+use Rattle.rh_laws.proofs.Common.{Segment, Slot, slot_alloc, slot_block, slot_claim, slot_extend, slot_free, slot_mid, slot_put, slot_release, slot_resize}
+use Rattle.rh_laws.proofs.Common.{Split, sym, take, take-map, true, Used, without_buffer, written_in, ℕ, ℤ, ◌++◌, ◌==◌, ◌||◌, ◌∙◌, ◌∷◌, ◌≡◌}
 use Rattle.rh_defs.specs.Places.{first_bytes}
 use Rattle.rh_defs.proofs.Chains as chains
 use Rattle.rh_laws.specs.Renaming.{has_byte, renamed_block, renamed_segment, renamed_slot}
 use Rattle.rh_laws.proofs.RenamedParts.{By}
 use Rattle.rh_laws.proofs.RenamedDesks.{result-by}
 use Rattle.rh_laws.proofs.RenamedLaws.{or-right, zero-stays}
-use Rattle.rh_laws.proofs.RenamedSlots.{renamed_given, renamed_here, buffer_at-renamed, first_bytes-renamed, heap_block_at-renamed, slot_alloc-renamed}
-use Rattle.rh_laws.proofs.RenamedSlots.{slot_block-renamed, slot_claim-renamed, slot_extend-renamed, slot_free-renamed, slot_mid-renamed}
-use Rattle.rh_laws.proofs.RenamedSlots.{slot_put-renamed, slot_release-renamed, slot_resize-renamed, written_in-renamed}
+use Rattle.rh_laws.proofs.RenamedSlots.{buffer_at-renamed, first_bytes-renamed, heap_block_at-renamed, renamed_given, renamed_here, slot_alloc-renamed}
+use Rattle.rh_laws.proofs.RenamedSlots.{slot_block-renamed, slot_claim-renamed, slot_extend-renamed, slot_free-renamed, slot_mid-renamed, slot_put-renamed}
+use Rattle.rh_laws.proofs.RenamedSlots.{slot_release-renamed, slot_resize-renamed, written_in-renamed}
 
 -- ---- what stays
 

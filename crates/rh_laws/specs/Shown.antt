@@ -1,5 +1,5 @@
 -- Whose the bytes are that a task shows: it put or loaded them, or they stood in a block when that was offered to it.
-use Rattle.std.specs.Prelude.{◌≡◌, ◌≤◌, ℕ, ◌++◌, true, List, [], ◌∷◌, map, find, Option, Some, Ok}
+use Rattle.std.specs.Prelude.{[], find, List, map, Ok, Option, Some, true, ℕ, ◌++◌, ◌∷◌, ◌≡◌, ◌≤◌}
 use Rattle.std.specs.List.{AllByRecursion, Contains}
 use Rattle.rh_defs.specs.declared.command.Command.{Command}
 use Rattle.rh_defs.specs.declared.command.Command.TheVariants as command
@@ -7,14 +7,14 @@ use Rattle.rh_defs.specs.declared.question.Numbers.{Numbers}
 use Rattle.rh_defs.specs.declared.question.Question.TheVariants as question
 use Rattle.rh_defs.specs.declared.reply.Reply.{Reply}
 use Rattle.rh_defs.specs.declared.reply.Reply.TheVariants as reply
-use Rattle.rh_defs.specs.Heap.{Segment, bytes_of}
+use Rattle.rh_defs.specs.Heap.{bytes_of, Segment}
 use Rattle.rh_defs.specs.Slot.{Flex}
-use Rattle.rh_defs.specs.Files.{FileList, file_bytes}
+use Rattle.rh_defs.specs.Files.{file_bytes, FileList}
 use Rattle.rh_defs.specs.Range.{all_in_range}
-use Rattle.rh_defs.specs.Desk.{Desk, Scrap, Task, has_name, task_at}
+use Rattle.rh_defs.specs.Desk.{Desk, has_name, Scrap, Task, task_at}
 use Rattle.rh_defs.specs.declared.message.EventCode.TheVariants.{Recorded}
 use Rattle.rh_defs.specs.Messages.{Parcel}
-use Rattle.rh_defs.specs.Questions.{Bytes, asked}
+use Rattle.rh_defs.specs.Questions.{asked, Bytes}
 use Rattle.rh_defs.specs.Commands.{step}
 use Rattle.rh_defs.specs.Runs.{after, start_with}
 use Rattle.rh_defs.specs.Laws.{IsStart}
@@ -39,7 +39,8 @@ put_shows may d name bytes _ = may
 
 -- a load that was done: its task may show the file's bytes
 abbrev pub load_shows : MayShow → Desk → List ℕ → List ℕ → Reply → MayShow
-load_shows may d name file (reply.Block address) = shows_too may (find (has_name name) d.tasks) (file_bytes file d.files)
+load_shows may d name file (reply.Block address) =
+    shows_too may (find (has_name name) d.tasks) (file_bytes file d.files)
 load_shows may d name file _ = may
 
 -- a save that was accepted: the task that it is to may show the bytes that the block has then
@@ -70,9 +71,9 @@ may_show d commands = may_show_from (λ h. 0 ∷ []) d commands
 abbrev pub AreAmong : List ℕ → List ℕ → Type 0
 AreAmong list bytes = AllByRecursion (λ b. has_byte b list ≡ true) bytes
 
--- On a desk that each task may show these bytes on: a live task's flex blocks and the blocks of its C heap have no others,
--- and `show` answers no others. The scrap file has none but those of the task that its DataLoad waits for. No task that
--- begins later may show any but 0.
+-- A live task's flex blocks and the blocks of its C heap have no bytes but those that it may show, and `show` answers
+-- no others. The scrap file has none but those of the task that its queued DataLoad is for. A task that begins later
+-- may show 0 alone.
 pub record ShowsOwn (d : Desk) (may : MayShow) : Type 0 where
   pub blocks :
       (h : ℕ) (t : Task) → task_at h d ≡ Some t → AllByRecursion (λ (b : Flex). AreAmong (may h) b.bytes) t.slot.blocks
@@ -111,11 +112,11 @@ pub record ShowsOwnMarks (f : ℕ → ℕ) (d : Desk) (may : MayShow) : Type 0 w
       (h : ℕ) (t : Task) → task_at h d ≡ Some t →
       AllByRecursion (λ (g : Segment). AreOfMarks f (may h) (bytes_of g)) t.slot.heap.segments
 
--- Let puts and files have marks in place of bytes, any numbers, and let f give the byte of each, and 0 for 0. Then the run
--- with these bytes leaves each block with bytes of marks that its task may show in the run with the marks.
+-- Let puts and files have marks in place of bytes, which are any numbers, and let f give the byte of each mark, and 0
+-- for 0. The run with the bytes leaves each block with bytes of marks that its task may show in the run with the marks.
 abbrev pub AlwaysShowsOwnMarks : Type 0
 AlwaysShowsOwnMarks =
-    (f : ℕ → ℕ) → f 0 ≡ 0 → (pool handle ref : ℕ) (files : FileList) (commands : List Command) → IsStart pool handle ref →
-    all_in_range commands ≡ true →
+    (f : ℕ → ℕ) → f 0 ≡ 0 → (pool handle ref : ℕ) (files : FileList) (commands : List Command) →
+    IsStart pool handle ref → all_in_range commands ≡ true →
     ShowsOwnMarks f (after (start_with pool (renamed_files f files) handle ref) (map (renamed_command f) commands))
     (may_show (start_with pool files handle ref) commands)
