@@ -35,8 +35,8 @@ use Rattle.rh_safety.proofs.SeenTasks.{found_task}
 use Rattle.rh_safety.proofs.View.{blocks_of, seen_scrap}
 use Rattle.rh_laws.specs.Addressed.{addressed_again, addressed_last, Addresses, addresses_next, From, Parties, parties_of}
 use Rattle.rh_laws.specs.Renaming.{has_byte, renamed, renamed_block, renamed_segment, renamed_slot, renamed_task}
-use Rattle.rh_laws.specs.Shown.{AlwaysShowsOwn, AlwaysShowsOwnMarks, AreAmong, AreOfMarks, may_show, may_show_from, may_show_next, MayShow, shows_too, ShowsOwn}
-use Rattle.rh_laws.specs.Shown.{ShowsOwnMarks}
+use Rattle.rh_laws.specs.MayShow.{AlwaysShowsOwn, AlwaysShowsOwnMarks, AreAmong, AreOfMarks, may_show, may_show_from, may_show_next, MayShow, shows_too}
+use Rattle.rh_laws.specs.MayShow.{ShowsOwn, ShowsOwnMarks}
 use Rattle.rh_laws.proofs.Addresses.{Agrees, all-has, InAgrees, OutAgrees, TaskAgrees}
 use Rattle.rh_laws.proofs.AddressLaws.{step-agrees}
 use Rattle.rh_laws.proofs.RenamedHeaps.{bytes-renamed}
@@ -157,13 +157,8 @@ next-covers o a may d (command.Save name k to leaf) (reply.Sent ref) covers =
     let more : MayShow = shows_too may (find (has_name to) d.tasks) (source_of (find (has_name name) d.tasks) k) in
     covers-at o a more ref _ _ (covers-wider may more (too-grows may (find (has_name to) d.tasks) _) covers)
     (saved-stays may (find (has_name name) d.tasks) (find (has_name to) d.tasks) (source_of (find (has_name name) d.tasks) k))
-next-covers o a may d (command.Save name k to leaf) r covers = covers
 next-covers o a may d (command.Repeat name) (reply.Sent ref) covers = again-covers o a may ref (last_of (find (has_name name) d.tasks)) covers
-next-covers o a may d (command.Repeat name) r covers = covers
-next-covers o a may d (command.Put name k offset bytes) r covers =
-    covers-wider may _ (next-grows may d (command.Put name k offset bytes) r) covers
-next-covers o a may d (command.Load name k file) r covers = covers-wider may _ (next-grows may d (command.Load name k file) r) covers
-next-covers o a may d c r covers = covers
+next-covers o a may d c r covers = covers-wider may _ (next-grows may d c r) covers
 
 -- ---- commands
 

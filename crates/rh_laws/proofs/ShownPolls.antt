@@ -1,11 +1,11 @@
 -- Each message that a poll handles leaves all slots with no bytes but those that their tasks may show.
 use Rattle.rh_laws.proofs.Common.{[], accept, ack_back, Acknowledge, all-mono, AllByRecursion, and_left, any-grant, append, Append, append-all, appended, arith}
 use Rattle.rh_laws.proofs.Common.{as_returned, ask, Asked, Body, came, came_back, chosen, Claim, cond, Desk, drop, eqb_tells, EventCode, fail_sending, false}
-use Rattle.rh_laws.proofs.Common.{Fetch, fetch_more, first_is, Flex, free_pages, granted, granted-both, granted-past, granted-then, granted-with, handled}
-use Rattle.rh_laws.proofs.Common.{Handled, Has, IfSome, ignored, Incoming, inl, inr, is_equal, is_found, length, Letter, List, load_file, loaded, LoadFile}
+use Rattle.rh_laws.proofs.Common.{Fetch, fetch_more, first_is, Flex, free_pages, granted, granted-both, granted-past, granted-then, granted-with, Handled}
+use Rattle.rh_laws.proofs.Common.{handled, Has, IfSome, ignored, Incoming, inl, inr, is_equal, is_found, length, Letter, List, load_file, loaded, LoadFile}
 use Rattle.rh_laws.proofs.Common.{Next, next_ref, None, NoTask, Ok, OnGrant, Option, or_else-keeps, Outcome, Outgoing, Parcel, Part, perform_send, perform_take}
 use Rattle.rh_laws.proofs.Common.{Post, post_poll, Recorded, refl, save_scrap, SaveFile, Scrap, send_letter, send_with, SendAction, Sending, Slot, slot_block}
-use Rattle.rh_laws.proofs.Common.{Some, Split, subst, sym, take, take_with, TakeAction, Taking, taking_ended, Task, task_at, took, Transmit, transmit, true}
+use Rattle.rh_laws.proofs.Common.{Some, Split, subst, sym, take, take_with, TakeAction, Taking, taking_ended, Task, task_at, took, transmit, Transmit, true}
 use Rattle.rh_laws.proofs.Common.{User, with_delivered, with_sending, with_slot, with_taking, with_task, ℕ, ◌++◌, ◌+◌, ◌<◌, ◌==◌, ◌∙◌, ◌∷◌, ◌≡◌}
 use Rattle.rh_defs.specs.declared.message.Body.TheVariants as body
 use Rattle.rh_defs.specs.declared.message.FileData.{FileData}
@@ -20,7 +20,7 @@ use Rattle.rh_defs.specs.Post.{parcel_of, post_death, post_is_live}
 use Rattle.rh_defs.specs.Desk.{kept_scrap}
 use Rattle.rh_defs.specs.OutgoingEvents.{wider}
 use Rattle.rh_safety.proofs.Actions.{bounce-does, load-does, open-does, save-does, transmit-does}
-use Rattle.rh_laws.specs.Shown.{MayShow}
+use Rattle.rh_laws.specs.MayShow.{MayShow}
 use Rattle.rh_laws.proofs.Addresses.{all-edit}
 use Rattle.rh_laws.proofs.ShownSlots.{alloc-stays, BytesStay, claim-stays, extend-stays, first-stays, granted-as, keeping, keeping-zero, part-stays, put-stays}
 use Rattle.rh_laws.proofs.ShownSlots.{SlotStays, without-stays, written-stays}

@@ -1,14 +1,14 @@
 -- Worked runs of what tasks may show, and a block that has what its pages had, on which shown_law fails.
-use Rattle.rh_laws.proofs.Common.{[], Parcel, Scrap, after, all_in_range, AllByRecursion, Answer, Bool, Command, Desk, false, Flex, free_pages, fresh, Granted}
-use Rattle.rh_laws.proofs.Common.{hex_on_literals, length, List, map, named, None, Ok, Option, or_else, refl, script, slot_alloc, slot_put, Some, String, subst}
-use Rattle.rh_laws.proofs.Common.{Task, task_at, true, with_slot, ℕ, ◌%◌, ◌++◌, ◌>>=◌, ◌∷◌, ◌≡◌}
+use Rattle.rh_laws.proofs.Common.{[], after, all_in_range, AllByRecursion, Answer, Bool, Command, Desk, false, Flex, free_pages, fresh, Granted}
+use Rattle.rh_laws.proofs.Common.{hex_on_literals, length, List, map, named, None, Ok, Option, or_else, Parcel, refl, Scrap, script, slot_alloc, slot_put, Some}
+use Rattle.rh_laws.proofs.Common.{String, subst, Task, task_at, true, with_slot, ℕ, ◌%◌, ◌++◌, ◌>>=◌, ◌∷◌, ◌≡◌}
 use Rattle.rh_defs.specs.declared.command.Command.TheVariants as command
 use Rattle.rh_defs.specs.declared.reply.Reply.TheVariants as reply
 use Rattle.rh_defs.specs.Runs.{start}
 use Rattle.rh_defs.specs.Script
 use Rattle.rh_safety.proofs.SafetyRows.{prefixes}
 use Rattle.rh_laws.specs.Renaming.{renamed_command}
-use Rattle.rh_laws.specs.Shown.{AreAmong, may_show, ShowsOwn}
+use Rattle.rh_laws.specs.MayShow.{AreAmong, may_show, ShowsOwn}
 
 -- the bytes of each flex block of the live task with a handle
 abbrev blocks_at : Option Task → List (List ℕ)

@@ -12,4 +12,4 @@ pub mod Renaming
 pub mod Claimed
 pub mod Rest
 pub mod SendersDone
-pub mod Shown
+pub mod MayShow

@@ -1,6 +1,6 @@
 //! Whose the bytes are that a task shows.
 
-ghost use Rattle.rh_laws.specs.Shown.{AlwaysShowsOwn, AlwaysShowsOwnMarks};
+ghost use Rattle.rh_laws.specs.MayShow.{AlwaysShowsOwn, AlwaysShowsOwnMarks};
 
 /// After any commands: each byte of a live task's blocks, and each that `show` answers, is 0, or was put or loaded by
 /// that task, or stood in a block when that was offered to it. So a task that begins has no other's bytes. Marks tell
