@@ -78,15 +78,11 @@ too-other may (Some t) (Some bytes) h ne = elim (eqb_tells h t.handle) [ inl w �
 
 own-wider : (may more : MayShow) → Grows may more → (d : Desk) → HaveOwn may d → HaveOwn more d
 own-wider may more grows d g = record {
-  all = go d.tasks g.all;
+  all = all-mono {Q = HasOwn more} (λ (t : Task) is. slot-wider (may t.handle) (more t.handle) (grows t.handle) t.slot is) d.tasks g.all;
   file = λ file q. all-mono {Q = IsFor more file} (λ (p : Parcel) is code same.
       bytes-wider (may p.to) (more p.to) (grows p.to) file.bytes (is code same)) d.post.queued (g.file file q);
   given = g.given;
 }
-  where
-    go : (ts : List Task) → AllByRecursion (HasOwn may) ts → AllByRecursion (HasOwn more) ts
-    go [] all = tt
-    go (t ∷ ts) all = (slot-wider (may t.handle) (more t.handle) (grows t.handle) t.slot all.0, go ts all.1)
 
 -- what a command makes of it: nothing, or some task may show some bytes too
 data Next (may : MayShow) (d : Desk) : MayShow → Type 0 where
@@ -95,11 +91,8 @@ data Next (may : MayShow) (d : Desk) : MayShow → Type 0 where
 
 next-is : (may : MayShow) (d : Desk) (c : Command) (r : Reply) → Next may d (may_show_next may d c r)
 next-is may d (command.Put name k offset bytes) reply.Done = given_more name (Some bytes)
-next-is may d (command.Put name k offset bytes) r = alike
 next-is may d (command.Load name k file) (reply.Block address) = given_more name (file_bytes file d.files)
-next-is may d (command.Load name k file) r = alike
 next-is may d (command.Save name k to leaf) (reply.Sent ref) = given_more to (source_of (find (has_name name) d.tasks) k)
-next-is may d (command.Save name k to leaf) r = alike
 next-is may d c r = alike
 
 next-grows : (may : MayShow) (d : Desk) (c : Command) (r : Reply) → Grows may (may_show_next may d c r)
