@@ -1,23 +1,20 @@
 -- Each command leaves tasks with no bytes but those that they may show, and so does every list of commands.
-use Rattle.rh_laws.proofs.Common.{[], Acknowledge, action_of, after, all-mono, all_in_range, AllByRecursion, alloc, and_left, and_right, Answer, ap, append-all}
-use Rattle.rh_laws.proofs.Common.{arith, Asked, at_place, Body, Bool, budge, Bytes, bytes_of, cancel_in, cancel_out, change, Changed, claim, Command, Desk}
-use Rattle.rh_laws.proofs.Common.{eqb_tells, extend, false, field_is, find, first_is, Fits, fits, Flex, Follows, found_name, free, free_pages, Good, Granted}
-use Rattle.rh_laws.proofs.Common.{granted, granted-on, granted-past, granted-then, granted-with, Has, has_name, has_of, IfSome, in_areas, in_made, in_module}
-use Rattle.rh_laws.proofs.Common.{in_nothing, in_range, in_slot, Incoming, inl, inr, is_equal, is_found, IsDesk, IsOnMemory, keeps, kill, Letter, List, live_of}
-use Rattle.rh_laws.proofs.Common.{load, make, Manner, map, mid, named, None, not, Offers, Ok, OnGrant, Option, option_map, or_else, or_else-keeps, Outgoing}
-use Rattle.rh_laws.proofs.Common.{Parcel, poll, poll_taken, Post, post_join, post_poll, put, refl, release, repeat, Reply, resize, save, Scrap, Segment}
-use Rattle.rh_laws.proofs.Common.{Sending, Slot, slot_begin, slot_block, Some, Split, start-is, start_task, start_with, step, step-keeps, subst, sym, Task}
-use Rattle.rh_laws.proofs.Common.{task_at, task_of, the_task, Told, true, view, with_delivered, with_slot, ℕ, ℤ, ◌++◌, ◌<◌, ◌==◌, ◌∙◌, ◌∷◌, ◌≡◌, ◌≢◌, ◌≤◌}
+use Rattle.rh_laws.proofs.Common.{[], Acknowledge, after, all-mono, all_in_range, AllByRecursion, alloc, and_left, and_right, Answer, ap, append-all, arith}
+use Rattle.rh_laws.proofs.Common.{at_place, Body, Bool, budge, Bytes, bytes_of, cancel_in, cancel_out, change, Changed, claim, Command, Desk, eqb_tells, extend}
+use Rattle.rh_laws.proofs.Common.{false, field_is, find, first_is, Fits, fits, Flex, Follows, found_name, free, free_pages, Good, Granted, granted, granted-on}
+use Rattle.rh_laws.proofs.Common.{granted-past, granted-then, granted-with, Has, has_name, has_of, IfSome, in_areas, in_made, in_module, in_nothing, in_range}
+use Rattle.rh_laws.proofs.Common.{in_slot, inl, inr, is_equal, is_found, IsDesk, IsOnMemory, keeps, kill, Letter, List, live_of, load, make, Manner, map, mid}
+use Rattle.rh_laws.proofs.Common.{named, None, not, Offers, Ok, OnGrant, Option, option_map, or_else, or_else-keeps, Outgoing, Parcel, poll, poll_taken, Post}
+use Rattle.rh_laws.proofs.Common.{post_join, post_poll, put, Recorded, refl, release, repeat, Reply, resize, save, Segment, Sending, Slot, slot_begin}
+use Rattle.rh_laws.proofs.Common.{slot_block, Some, Split, start-is, start_task, start_with, step, step-keeps, subst, sym, Task, task_at, task_of, the_task}
+use Rattle.rh_laws.proofs.Common.{Told, true, view, with_delivered, with_slot, ℕ, ℤ, ◌++◌, ◌<◌, ◌==◌, ◌∙◌, ◌∷◌, ◌≡◌, ◌≢◌, ◌≤◌}
 use Rattle.rh_defs.specs.declared.command.Command.TheVariants as command
 use Rattle.rh_defs.specs.declared.message.Body.TheVariants as body
-use Rattle.rh_defs.specs.declared.message.FileData.{FileData}
 use Rattle.rh_defs.specs.declared.refusal.Refusal.TheVariants.{NoFile}
 use Rattle.rh_defs.specs.declared.reply.Reply.TheVariants as reply
-use Rattle.rh_defs.specs.declared.transfer.Incoming.TheVariants as incoming
 use Rattle.rh_defs.specs.declared.transfer.Outgoing.TheVariants as outgoing
 use Rattle.rh_defs.specs.Files.{file_bytes}
 use Rattle.rh_defs.specs.Questions.{Listed, show}
-use Rattle.rh_defs.specs.Receiver as receiver
 use Rattle.rh_defs.specs.Records.{most_records}
 use Rattle.rh_defs.proofs.Chains.{grant-holds}
 use Rattle.rh_defs.proofs.Changes.{slot_name}
@@ -25,19 +22,17 @@ use Rattle.rh_defs.proofs.PostKeeps.{post_poll-kept}
 use Rattle.rh_defs.proofs.Lists.{filter-all, find-all, rise-below}
 use Rattle.rh_safety.specs.Held.{Edits, edits_next}
 use Rattle.rh_safety.specs.Offered.{last_of, offered_again, offered_last, offers_next, source_of}
-use Rattle.rh_safety.proofs.KeptPolls.{given}
 use Rattle.rh_safety.proofs.Numbers.{numbers-go-up}
 use Rattle.rh_safety.proofs.Runs.{start_good}
 use Rattle.rh_safety.proofs.SeenBlocks.{the_block}
 use Rattle.rh_safety.proofs.SeenLaws.{block_is}
-use Rattle.rh_safety.proofs.SeenTaking.{poll_taken_is}
 use Rattle.rh_safety.proofs.SeenTasks.{found_task}
-use Rattle.rh_safety.proofs.View.{blocks_of, seen_scrap}
+use Rattle.rh_safety.proofs.View.{blocks_of}
 use Rattle.rh_laws.specs.Addressed.{addressed_again, addressed_last, Addresses, addresses_next, From, Parties, parties_of}
 use Rattle.rh_laws.specs.Renaming.{has_byte, renamed, renamed_block, renamed_segment, renamed_slot, renamed_task}
 use Rattle.rh_laws.specs.MayShow.{AlwaysShowsOwn, AlwaysShowsOwnMarks, AreAmong, AreOfMarks, may_show, may_show_from, may_show_next, MayShow, shows_too}
 use Rattle.rh_laws.specs.MayShow.{ShowsOwn, ShowsOwnMarks}
-use Rattle.rh_laws.proofs.Addresses.{Agrees, all-has, InAgrees, OutAgrees, TaskAgrees}
+use Rattle.rh_laws.proofs.Addresses.{Agrees, all-has, OutAgrees, TaskAgrees}
 use Rattle.rh_laws.proofs.AddressLaws.{step-agrees}
 use Rattle.rh_laws.proofs.RenamedHeaps.{bytes-renamed}
 use Rattle.rh_laws.proofs.RenamedDesks.{task_at-renamed}
@@ -46,6 +41,7 @@ use Rattle.rh_laws.proofs.RenamedParts.{follows-test}
 use Rattle.rh_laws.proofs.ShownSlots.{alloc-stays, before-within, behind-within, block-stays, bytes-wider, BytesStay, claim-stays, extend-stays, fixed-by}
 use Rattle.rh_laws.proofs.ShownSlots.{free-stays, keeping, keeping-zero, mid-stays, put-stays, release-stays, resize-stays, slot-wider, SlotStays, Within}
 use Rattle.rh_laws.proofs.ShownPolls.{death-own, handled-own, HasOwn, HasRefs, HaveOwn, ins-own, IsFor, letter-own, outs-own, polled-own, same-own, slot-own}
+use Rattle.rh_laws.proofs.ShownPolls.{taken-for}
 
 -- ---- what a task may show grows
 
@@ -347,17 +343,6 @@ module _ {o : Offers} {e : Edits} {a : Addresses} {may : MayShow} (d : Desk) (ke
         covers x.id h x.recipient source.here.bytes (all-has (OutAgrees a h) t.sending (outgoing.Open x) has-agreed.outs has)
         (w.offered ∙ sym w.there ∙ here)
 
-    file-shown : (m : Parcel) → polled.1 ≡ Some m → (m.code ≡ Acknowledge → ⊥) → (file : FileData) → m.message.body ≡ body.DataLoad file →
-        (x : Asked) → Has (incoming.Asking x) t.taking → receiver.is_load m.message.from m.message.your_ref x ≡ true →
-        (scrap : Scrap) → now.scrap ≡ Some scrap → scrap.load ≡ m.message.my_ref → BytesStay (keeping (may h)) scrap.bytes
-    file-shown m taken ne file kind x has passes scrap there load =
-        let w = given d t f is good polled (f.polled h) (poll_taken_is d h f (live_of d h t is)) m taken in
-        let seen : Has (incoming.Asking x) ((view now).taking h) =
-        subst (λ (ws : List Incoming). Has (incoming.Asking x) ws) (sym (field_is (λ y. y.taking) [] h now.tasks t w.is)) has in
-        covers x.id x.sender h scrap.bytes (all-has (InAgrees a h) t.taking (incoming.Asking x) has-agreed.ins has)
-        (((w.came ne).read.ok.file h x seen).whole (seen_scrap scrap) (ap (option_map seen_scrap) there) (ap action_of kind) (sym load)
-        (is_equal _ _ (and_right (m.message.from == x.sender) _ passes)))
-
     -- refs of the messages that are left
     refs-left : HasRefs now
     unfolding with_delivered
@@ -368,7 +353,7 @@ module _ {o : Offers} {e : Edits} {a : Addresses} {may : MayShow} (d : Desk) (ke
     taken-own None taken = polled-own h d g
     taken-own (Some m) taken =
         handled-own may t (named-own may d g name t q) now (polled-own h d g) m source-shown refs-left m.code
-        (λ ne file kind x has passes. file-shown m taken ne file kind x has passes)
+        (λ ne file there load. taken-for h d g m taken ne file there load)
 
   poll-leaves : (name : List ℕ) → OnGrant (Leaves may d g) (poll d name)
   unfolding poll
@@ -504,7 +489,8 @@ module _ (may : MayShow) (d : Desk) (w : Reached may d) where
         (ap (λ (s : Slot). s.heap.segments) (at-own h t at));
     shown = λ name k t size bytes q is. grant-holds (show-own name k) is t q;
     file = λ file p q has code same.
-        among p.to file.bytes (all-has _ d.post.queued p (w.own.file file q) (has_of d.post.queued p has) code same);
+        let waits : p.code ≡ Acknowledge → ⊥ = λ z. let y : Recorded ≡ Acknowledge = sym code ∙ z in cc in
+        among p.to file.bytes (all-has _ d.post.queued p (w.own.file file q) (has_of d.post.queued p has) waits same);
     new = w.new;
   }
 

@@ -1,21 +1,18 @@
 -- Each message that a poll handles leaves all slots with no bytes but those that their tasks may show.
-use Rattle.rh_laws.proofs.Common.{[], accept, ack_back, Acknowledge, all-mono, AllByRecursion, and_left, any-grant, append, Append, append-all, appended, arith}
+use Rattle.rh_laws.proofs.Common.{[], accept, ack_back, Acknowledge, all-mono, AllByRecursion, and_left, any-grant, Append, append, append-all, appended, arith}
 use Rattle.rh_laws.proofs.Common.{as_returned, ask, Asked, Body, came, came_back, chosen, Claim, cond, Desk, drop, eqb_tells, EventCode, fail_sending, false}
-use Rattle.rh_laws.proofs.Common.{Fetch, fetch_more, first_is, Flex, free_pages, granted, granted-both, granted-past, granted-then, granted-with, Handled}
-use Rattle.rh_laws.proofs.Common.{handled, Has, IfSome, ignored, Incoming, inl, inr, is_equal, is_found, length, Letter, List, load_file, loaded, LoadFile}
+use Rattle.rh_laws.proofs.Common.{Fetch, fetch_more, first_is, Flex, free_pages, granted, granted-both, granted-past, granted-then, granted-with, handled}
+use Rattle.rh_laws.proofs.Common.{Handled, Has, IfSome, ignored, Incoming, inl, inr, is_equal, is_found, length, Letter, List, load_file, loaded, LoadFile}
 use Rattle.rh_laws.proofs.Common.{Next, next_ref, None, NoTask, Ok, OnGrant, Option, or_else-keeps, Outcome, Outgoing, Parcel, Part, perform_send, perform_take}
 use Rattle.rh_laws.proofs.Common.{Post, post_poll, Recorded, refl, save_scrap, SaveFile, Scrap, send_letter, send_with, SendAction, Sending, Slot, slot_block}
 use Rattle.rh_laws.proofs.Common.{Some, Split, subst, sym, take, take_with, TakeAction, Taking, taking_ended, Task, task_at, took, transmit, Transmit, true}
 use Rattle.rh_laws.proofs.Common.{User, with_delivered, with_sending, with_slot, with_taking, with_task, ℕ, ◌++◌, ◌+◌, ◌<◌, ◌==◌, ◌∙◌, ◌∷◌, ◌≡◌}
 use Rattle.rh_defs.specs.declared.message.Body.TheVariants as body
-use Rattle.rh_defs.specs.declared.message.FileData.{FileData}
-use Rattle.rh_defs.specs.declared.transfer.Incoming.TheVariants as incoming
 use Rattle.rh_defs.specs.declared.transfer.Outgoing.TheVariants as outgoing
 use Rattle.rh_defs.specs.declared.transfer_action.SendAction.TheVariants as send_action
 use Rattle.rh_defs.specs.declared.transfer_action.TakeAction.TheVariants as take_action
 use Rattle.rh_defs.specs.declared.transfer_action.Next.TheVariants as next_action
 use Rattle.rh_defs.specs.Sender as sender
-use Rattle.rh_defs.specs.Receiver as receiver
 use Rattle.rh_defs.specs.Post.{parcel_of, post_death, post_is_live}
 use Rattle.rh_defs.specs.Desk.{kept_scrap}
 use Rattle.rh_defs.specs.OutgoingEvents.{wider}
@@ -24,7 +21,7 @@ use Rattle.rh_laws.specs.MayShow.{MayShow}
 use Rattle.rh_laws.proofs.Addresses.{all-edit}
 use Rattle.rh_laws.proofs.ShownSlots.{alloc-stays, BytesStay, claim-stays, extend-stays, first-stays, granted-as, keeping, keeping-zero, part-stays, put-stays}
 use Rattle.rh_laws.proofs.ShownSlots.{SlotStays, without-stays, written-stays}
-use Rattle.rh_laws.proofs.Queues.{death-left, Left, poll-taken, sent-is}
+use Rattle.rh_laws.proofs.Queues.{death-left, IsMine, Left, poll-taken, sent-is}
 
 -- ---- desks
 
@@ -32,9 +29,9 @@ use Rattle.rh_laws.proofs.Queues.{death-left, Left, poll-taken, sent-is}
 abbrev pub HasOwn : MayShow → Task → Type 0
 HasOwn may t = SlotStays (keeping (may t.handle)) t.slot
 
--- a queued message, if it is the DataLoad of the scrap file: whom it is for may show the file's bytes
+-- a queued message, if it is the DataLoad of the scrap file and didn't come back: whom it is for may show the file's bytes
 abbrev pub IsFor : MayShow → Scrap → Parcel → Type 0
-IsFor may file p = p.code ≡ Recorded → p.message.my_ref ≡ file.load → BytesStay (keeping (may p.to)) file.bytes
+IsFor may file p = (p.code ≡ Acknowledge → ⊥) → p.message.my_ref ≡ file.load → BytesStay (keeping (may p.to)) file.bytes
 
 -- so it is of each task, and of the scrap file, where there is one
 pub record HaveOwn (may : MayShow) (d : Desk) : Type 0 where
@@ -55,9 +52,16 @@ same-own {may} e tasks scrap queued next g = record {
   given = λ file q. subst (λ n. file.load < n) (sym next) (g.given file (sym scrap ∙ q));
 }
 
--- a message that goes back is no DataLoad that waits
+-- of a message that goes back nothing is asked
 back-for : (may : MayShow) (file : Scrap) (p : Parcel) → IsFor may file (as_returned p)
-back-for may file p code = absurd (let z : Acknowledge ≡ Recorded = code in cc)
+back-for may file p ne = absurd (ne refl)
+
+-- a scrap file that was kept was there
+was-there : (p : Post) (file : Scrap) (o : Option Scrap) → kept_scrap p o ≡ Some file → o ≡ Some file
+was-there p file None q = q
+was-there p file (Some other) q =
+    elim (post_is_live other.load p) as (λ b. cond b (Some other) None ≡ Some file → Some other ≡ Some file)
+    [ true ↦ λ q. q | false ↦ λ q. absurd cc ] q
 
 -- after a letter was sent
 record Sent (may : MayShow) (l : Letter) (d e : Desk) : Type 0 where
@@ -112,18 +116,22 @@ module _ {may : MayShow} where
   unfolding with_delivered
   delivered-own p d left g = record {
     all = g.all;
-    file = λ file q. (left file).mail (g.file file (was file d.scrap q));
-    given = λ file q. subst (λ n. file.load < n) (sym (left file).next) (g.given file (was file d.scrap q));
+    file = λ file q. (left file).mail (g.file file (was-there p file d.scrap q));
+    given = λ file q. subst (λ n. file.load < n) (sym (left file).next) (g.given file (was-there p file d.scrap q));
   }
-    where
-      was : (file : Scrap) (o : Option Scrap) → kept_scrap p o ≡ Some file → o ≡ Some file
-      was file None q = q
-      was file (Some other) q =
-          elim (post_is_live other.load p) as (λ b. cond b (Some other) None ≡ Some file → Some other ≡ Some file)
-          [ true ↦ λ q. q | false ↦ λ q. absurd cc ] q
 
   pub polled-own : (h : ℕ) (d : Desk) → HaveOwn may d → HaveOwn may (with_delivered (post_poll h d.post).0 d)
   polled-own h d g = delivered-own _ d (λ file. (poll-taken (IsFor may file) (back-for may file) h d.post).left) g
+
+  -- the message that a poll takes, if it is the DataLoad of the scrap file
+  pub taken-for : (h : ℕ) (d : Desk) → HaveOwn may d → (m : Parcel) → (post_poll h d.post).1 ≡ Some m → (m.code ≡ Acknowledge → ⊥) → (file : Scrap) →
+      (with_delivered (post_poll h d.post).0 d).scrap ≡ Some file → file.load ≡ m.message.my_ref → BytesStay (keeping (may h)) file.bytes
+  unfolding with_delivered
+  taken-for h d g m q ne file there load =
+      let all = g.file file (was-there (post_poll h d.post).0 file d.scrap there) in
+      let mine = subst (λ (v : Option Parcel). IfSome v (IsMine (IsFor may file) (back-for may file) h)) q
+      ((poll-taken (IsFor may file) (back-for may file) h d.post).mine all) in
+      subst (λ j. BytesStay (keeping (may j)) file.bytes) mine.own (mine.agrees ne (sym load))
 
   pub death-own : (h : ℕ) (d : Desk) → HaveOwn may d → HaveOwn may (with_delivered (post_death h d.post) d)
   death-own h d g = delivered-own _ d (λ file. death-left (IsFor may file) (back-for may file) h d.post) g
@@ -309,20 +317,18 @@ module _ (may : MayShow) (t : Task) (own : HasOwn may t) where
     Offered = (x : Sending) → Has (outgoing.Open x) t.sending → Sourced x
 
     -- the task may show the bytes of the scrap file whose DataLoad the message is
-    abbrev pub Filed : Parcel → Body → Type 0
-    Filed m b =
-        (file : FileData) → b ≡ body.DataLoad file → (q : Asked) → Has (incoming.Asking q) t.taking →
-        receiver.is_load m.message.from m.message.your_ref q ≡ true → Takes d (receiver.load_for m.message.from m.message.my_ref q)
+    abbrev pub Filed : Parcel → Type 0
+    Filed m = (file : Scrap) → d.scrap ≡ Some file → file.load ≡ m.message.my_ref → BytesStay f file.bytes
 
     module _ (m : Parcel) (offered : Offered) (refs : HasRefs d) where
-      came-own : (b : Body) → Filed m b → Leaves may (came d t m b)
+      came-own : (b : Body) → Filed m → Leaves may (came d t m b)
       unfolding came
       came-own (body.DataSave file) filed = perform_take-own _ (save-does (Takes d) t.taking _ _ _ tt)
       came-own (body.DataSaveAck file) filed =
           perform_send-own d g _ (open-does (Sends d) t.sending (sender.file_for m.message.from m.message.my_ref) _ (λ x has p.
           let both = and_left _ (x.id == x.last) p in
           (offered x has, (is_equal _ _ (and_left (m.message.from == x.recipient) _ both), refs))))
-      came-own (body.DataLoad file) filed = perform_take-own _ (load-does (Takes d) t.taking _ _ _ (filed file refl))
+      came-own (body.DataLoad file) filed = perform_take-own _ (load-does (Takes d) t.taking _ _ _ (λ q has p. filed))
       came-own (body.DataLoadAck file) filed = perform_send-own d g _ (open-does (Sends d) t.sending _ _ (λ x has p. (offered x has, tt)))
       came-own (body.RamFetch buffer amount) filed =
           chosen (Leaves may) _ _ _ (ignored-own d g) (perform_send-own d g _ (open-does (Sends d) t.sending _ _ (λ x has p. (offered x has, tt))))
@@ -337,7 +343,7 @@ module _ (may : MayShow) (t : Task) (own : HasOwn may t) where
           perform_take-own _ (bounce-does (Takes d) t.taking _ (λ x has. tt) (λ x e has. tt))
       came_back-own b = fail_sending-own d g _
 
-      pub handled-own : (c : EventCode) → ((c ≡ Acknowledge → ⊥) → Filed m m.message.body) → HaveOwn may (handled d t m c).0
+      pub handled-own : (c : EventCode) → ((c ≡ Acknowledge → ⊥) → Filed m) → HaveOwn may (handled d t m c).0
       unfolding handled
       handled-own User filed = (came-own m.message.body (filed (λ z. cc))).desk
       handled-own Recorded filed = (came-own m.message.body (filed (λ z. cc))).desk
