@@ -1,7 +1,7 @@
 -- Worked runs of what tasks may show, and a block that has what its pages had, on which shown_law fails.
 use Rattle.rh_laws.proofs.Common.{[], after, all_in_range, AllByRecursion, Answer, Bool, Command, Desk, false, Flex, free_pages, fresh, Granted}
-use Rattle.rh_laws.proofs.Common.{hex_on_literals, length, List, map, named, None, Ok, Option, or_else, Parcel, refl, Scrap, script, slot_alloc, slot_put, Some}
-use Rattle.rh_laws.proofs.Common.{String, subst, Task, task_at, true, with_slot, ℕ, ◌%◌, ◌++◌, ◌>>=◌, ◌∷◌, ◌≡◌}
+use Rattle.rh_laws.proofs.Common.{hex_on_literals, in_range, length, List, map, named, None, Ok, Option, or_else, Parcel, refl, Scrap, script, slot_alloc}
+use Rattle.rh_laws.proofs.Common.{slot_put, Some, String, subst, Task, task_at, true, with_slot, ℕ, ◌%◌, ◌++◌, ◌>>=◌, ◌∷◌, ◌≡◌}
 use Rattle.rh_defs.specs.declared.command.Command.TheVariants as command
 use Rattle.rh_defs.specs.declared.reply.Reply.TheVariants as reply
 use Rattle.rh_defs.specs.Runs.{start}
@@ -64,10 +64,13 @@ abbrev load_and_bytes : Option Scrap → List ℕ
 load_and_bytes None = []
 load_and_bytes (Some file) = file.load ∷ file.bytes
 
-waits : (load_and_bytes filed_once.scrap, map (λ (p : Parcel). p.message.my_ref ∷ p.to ∷ []) filed_once.post.queued) ≡
-    (4 ∷ 7 ∷ 8 ∷ [], (4 ∷ 2 ∷ []) ∷ [])
+file_bytes : load_and_bytes filed_once.scrap ≡ 4 ∷ 7 ∷ 8 ∷ []
 unfolding Script.computing hex_on_literals
-waits = refl
+file_bytes = refl
+
+load_waits : map (λ (p : Parcel). p.message.my_ref ∷ p.to ∷ []) filed_once.post.queued ≡ (4 ∷ 2 ∷ []) ∷ []
+unfolding Script.computing hex_on_literals
+load_waits = refl
 
 -- ---- marks
 
@@ -79,7 +82,7 @@ marked =
     ∷ script ("save a 0 b x" ∷ "poll b" ∷ "poll a" ∷ "poll b" ∷ []))
 
 in_range_marked : all_in_range marked ≡ true
-unfolding Script.computing hex_on_literals
+unfolding Script.computing hex_on_literals in_range
 in_range_marked = refl
 
 marks_of_b : may_show fresh marked 2 ≡ 0 ∷ 2007 ∷ 2009 ∷ 1007 ∷ 1008 ∷ []
