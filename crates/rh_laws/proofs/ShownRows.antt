@@ -1,5 +1,5 @@
 -- Worked runs of what tasks may show, and a block that has what its pages had, on which shown_law fails.
-use Rattle.rh_laws.proofs.Common.{[], after, all_in_range, AllByRecursion, Answer, Bool, Command, Desk, false, Flex, free_pages, fresh, Granted}
+use Rattle.rh_laws.proofs.Common.{[], after, all_in_range, AllByRecursion, Answer, Command, Desk, false, Flex, free_pages, fresh, Granted}
 use Rattle.rh_laws.proofs.Common.{hex_on_literals, in_range, length, List, map, named, None, Ok, Option, or_else, Parcel, refl, Scrap, script, slot_alloc}
 use Rattle.rh_laws.proofs.Common.{slot_put, Some, String, subst, Task, task_at, true, with_slot, ℕ, ◌%◌, ◌++◌, ◌>>=◌, ◌∷◌, ◌≡◌}
 use Rattle.rh_defs.specs.declared.command.Command.TheVariants as command
