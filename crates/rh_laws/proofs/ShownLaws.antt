@@ -1,7 +1,7 @@
 -- Each command leaves tasks with no bytes but those that they may show, and so does every list of commands.
 use Rattle.rh_laws.proofs.Common.{[], Acknowledge, after, all-mono, all_in_range, AllByRecursion, alloc, and_left, and_right, Answer, ap, append-all, arith}
 use Rattle.rh_laws.proofs.Common.{at_place, Body, Bool, budge, Bytes, bytes_of, cancel_in, cancel_out, change, Changed, claim, Command, Desk, eqb_tells, extend}
-use Rattle.rh_laws.proofs.Common.{false, field_is, find, first_is, Fits, fits, Flex, Follows, found_name, free, free_pages, Good, Granted, granted, granted-on}
+use Rattle.rh_laws.proofs.Common.{false, field_is, find, first_is, fits, Fits, Flex, Follows, found_name, free, free_pages, Good, Granted, granted, granted-on}
 use Rattle.rh_laws.proofs.Common.{granted-past, granted-then, granted-with, Has, has_name, has_of, IfSome, in_areas, in_made, in_module, in_nothing, in_range}
 use Rattle.rh_laws.proofs.Common.{in_slot, inl, inr, is_equal, is_found, IsDesk, IsOnMemory, keeps, kill, Letter, List, live_of, load, make, Manner, map, mid}
 use Rattle.rh_laws.proofs.Common.{named, None, not, Offers, Ok, OnGrant, Option, option_map, or_else, or_else-keeps, Outgoing, Parcel, poll, poll_taken, Post}
@@ -38,8 +38,8 @@ use Rattle.rh_laws.proofs.RenamedHeaps.{bytes-renamed}
 use Rattle.rh_laws.proofs.RenamedDesks.{task_at-renamed}
 use Rattle.rh_laws.proofs.RenamedLaws.{always-renamed, pass, stay}
 use Rattle.rh_laws.proofs.RenamedParts.{follows-test}
-use Rattle.rh_laws.proofs.ShownSlots.{alloc-stays, before-within, behind-within, block-stays, bytes-wider, BytesStay, claim-stays, extend-stays, fixed-by}
-use Rattle.rh_laws.proofs.ShownSlots.{free-stays, keeping, keeping-zero, mid-stays, put-stays, release-stays, resize-stays, slot-wider, SlotStays, Within}
+use Rattle.rh_laws.proofs.ShownSlots.{alloc-only, AreOnly, before-within, behind-within, block-only, bytes-wider, claim-only, extend-only, fixed-by, free-only}
+use Rattle.rh_laws.proofs.ShownSlots.{HasOnly, keeping, mid-only, put-only, release-only, resize-only, slot-wider, Within}
 use Rattle.rh_laws.proofs.ShownPolls.{death-own, handled-own, HasOwn, HasRefs, HaveOwn, ins-own, IsFor, letter-own, outs-own, polled-own, same-own, slot-own}
 use Rattle.rh_laws.proofs.ShownPolls.{taken-for}
 
@@ -60,9 +60,9 @@ too-grows may (Some t) (Some bytes) h x e = elim (eqb_tells h t.handle) [
   | inr w ↦ rw w.0 e
 ]
 
-too-stays : (may : MayShow) (t : Task) (bytes : List ℕ) → BytesStay (keeping (shows_too may (Some t) (Some bytes) t.handle)) bytes
+too-stays : (may : MayShow) (t : Task) (bytes : List ℕ) → AreOnly (shows_too may (Some t) (Some bytes) t.handle) bytes
 too-stays may t bytes =
-    subst (λ l. BytesStay (keeping l) bytes) (sym (too-here may t bytes))
+    subst (λ l. AreOnly l bytes) (sym (too-here may t bytes))
     (stay (λ b. has_byte b (may t.handle ++ bytes)) bytes (behind-within (may t.handle) bytes))
 
 -- a task that isn't found may show what it could
@@ -101,14 +101,14 @@ next-grows may d c r = go (next-is may d c r)
 -- ---- what was offered to a task it may show
 
 abbrev Covers : Offers → Addresses → MayShow → Type 0
-Covers o a may = (id s r : ℕ) (file : List ℕ) → From (a id) s r → o id ≡ Some file → BytesStay (keeping (may r)) file
+Covers o a may = (id s r : ℕ) (file : List ℕ) → From (a id) s r → o id ≡ Some file → AreOnly (may r) file
 
 covers-wider : {o : Offers} {a : Addresses} (may more : MayShow) → Grows may more → Covers o a may → Covers o a more
 covers-wider may more grows covers id s r file from is = bytes-wider (may r) (more r) (grows r) file (covers id s r file from is)
 
 -- one more id that offers something
 covers-at : (o : Offers) (a : Addresses) (may : MayShow) (ref : ℕ) (p : Option Parties) (v : Option (List ℕ)) → Covers o a may →
-    ((s r : ℕ) (file : List ℕ) → From p s r → v ≡ Some file → BytesStay (keeping (may r)) file) →
+    ((s r : ℕ) (file : List ℕ) → From p s r → v ≡ Some file → AreOnly (may r) file) →
     Covers (at_place o ref v) (at_place a ref p) may
 covers-at o a may ref p v covers new id s r file = elim (eqb_tells id ref) [
   | inl w ↦ rw w.0 (new s r file)
@@ -117,12 +117,12 @@ covers-at o a may ref p v covers new id s r file = elim (eqb_tells id ref) [
 
 -- a save
 saved-stays : (may : MayShow) (o p : Option Task) (b : Option (List ℕ)) (s r : ℕ) (file : List ℕ) → From (parties_of o p) s r → b ≡ Some file →
-    BytesStay (keeping (shows_too may p b r)) file
+    AreOnly (shows_too may p b r) file
 saved-stays may (Some x) (Some y) (Some bytes) s r file from is =
     let same : y.handle ≡ r = ap receiver_in from in
     let one : bytes ≡ file = cc in
-    subst (λ j. BytesStay (keeping (shows_too may (Some y) (Some bytes) j)) file) same
-    (subst (λ l. BytesStay (keeping (shows_too may (Some y) (Some bytes) y.handle)) l) one (too-stays may y bytes))
+    subst (λ j. AreOnly (shows_too may (Some y) (Some bytes) j) file) same
+    (subst (λ l. AreOnly (shows_too may (Some y) (Some bytes) y.handle) l) one (too-stays may y bytes))
   where
     receiver_in : Option Parties → ℕ
     receiver_in None = 0
@@ -164,68 +164,60 @@ module _ (may : MayShow) (d : Desk) (g : HaveOwn may d) where
   leaves is = granted (record { desk = is })
 
   -- another slot for the task that was found
-  slot-leaves : (t : Task) (s : Slot) → SlotStays (keeping (may t.handle)) s → {said : Reply} → OnGrant Leaves (Ok (with_slot t.handle s d, said))
+  slot-leaves : (t : Task) (s : Slot) → HasOnly (may t.handle) s → {said : Reply} → OnGrant Leaves (Ok (with_slot t.handle s d, said))
   slot-leaves t s stays = leaves (slot-own t.handle s stays d g)
 
   alloc-leaves : (name : List ℕ) (k n : ℕ) → OnGrant Leaves (alloc d name k n)
   unfolding alloc
   alloc-leaves name k n =
-      granted-then _ _ λ t e.
-      granted-with _ (alloc-stays (keeping (may t.handle)) (keeping-zero (may t.handle)) t.slot (named-own name t e) (free_pages d) k n) λ p stays.
-      slot-leaves t p.0 stays
+      granted-then _ _ λ t e. granted-with _ (alloc-only (named-own name t e) (free_pages d) k n) λ p stays. slot-leaves t p.0 stays
 
   free-leaves : (name : List ℕ) (k : ℕ) → OnGrant Leaves (free d name k)
   unfolding free
   free-leaves name k =
       granted-then _ _ λ t e. granted-then _ _ λ b idle.
-      granted-with _ (free-stays (keeping (may t.handle)) t.slot (named-own name t e) k) λ s stays. slot-leaves t s stays
+      granted-with _ (free-only (named-own name t e) k) λ s stays. slot-leaves t s stays
 
   extend-leaves : (name : List ℕ) (k n : ℕ) → OnGrant Leaves (extend d name k n)
   unfolding extend
   extend-leaves name k n =
       granted-then _ _ λ t e. granted-then _ _ λ b idle.
-      granted-with _ (extend-stays (keeping (may t.handle)) (keeping-zero (may t.handle)) t.slot (named-own name t e) (free_pages d) k n) λ s stays.
-      slot-leaves t s stays
+      granted-with _ (extend-only (named-own name t e) (free_pages d) k n) λ s stays. slot-leaves t s stays
 
   mid-leaves : (name : List ℕ) (k offset : ℕ) (by : ℤ) → OnGrant Leaves (mid d name k offset by)
   unfolding mid
   mid-leaves name k offset by =
       granted-then _ _ λ t e. granted-then _ _ λ b idle.
-      granted-with _ (mid-stays (keeping (may t.handle)) (keeping-zero (may t.handle)) t.slot (named-own name t e) (free_pages d) k offset by) λ s stays.
-      slot-leaves t s stays
+      granted-with _ (mid-only (named-own name t e) (free_pages d) k offset by) λ s stays. slot-leaves t s stays
 
   claim-leaves : (name : List ℕ) (n : ℕ) → OnGrant Leaves (claim d name n)
   unfolding claim
   claim-leaves name n =
-      granted-then _ _ λ t e.
-      granted-with _ (claim-stays (keeping (may t.handle)) (keeping-zero (may t.handle)) t.slot (named-own name t e) (free_pages d) n) λ p stays.
-      slot-leaves t p.0 stays
+      granted-then _ _ λ t e. granted-with _ (claim-only (named-own name t e) (free_pages d) n) λ p stays. slot-leaves t p.0 stays
 
   release-leaves : (name : List ℕ) (address : ℕ) → OnGrant Leaves (release d name address)
   unfolding release
   release-leaves name address =
       granted-then _ _ λ t e. granted-then _ _ λ b idle.
-      granted-with _ (release-stays (keeping (may t.handle)) t.slot (named-own name t e) address) λ s stays. slot-leaves t s stays
+      granted-with _ (release-only (named-own name t e) address) λ s stays. slot-leaves t s stays
 
   resize-leaves : (name : List ℕ) (address : ℕ) (delta : ℤ) → OnGrant Leaves (resize d name address delta)
   unfolding resize
   resize-leaves name address delta =
       granted-then _ _ λ t e. granted-then _ _ λ b idle.
-      granted-with _ (resize-stays (keeping (may t.handle)) (keeping-zero (may t.handle)) t.slot (named-own name t e) (free_pages d) address delta)
-      λ p stays. slot-leaves t p.0 stays
+      granted-with _ (resize-only (named-own name t e) (free_pages d) address delta) λ p stays. slot-leaves t p.0 stays
 
   budge-leaves : (name : List ℕ) (on : Bool) → OnGrant Leaves (budge d name on)
   unfolding budge
   budge-leaves name on =
-      granted-then _ _ λ t e.
-      slot-leaves t _ (ap (λ (s : Slot). record s { budging = on }) (named-own name t e))
+      granted-then _ _ λ t e. slot-leaves t _ (record { same = ap (λ (s : Slot). record s { budging = on }) (named-own name t e).same })
 
   start_task-leaves : (name : List ℕ) (buffer : ℕ) (manner : Manner) → OnGrant Leaves (start_task d name buffer manner)
   unfolding start_task slot_begin post_join
   start_task-leaves name buffer manner =
       granted-past _ _ _ λ x. granted-past _ _ _ λ y. granted-past _ _ _ λ z.
       granted-with _ (fixed-by {g = renamed_slot (keeping (may d.next_handle))} (follows-test _ _ _ _ _ refl (Follows.both refl)) refl) λ s stays.
-      leaves (record { all = append-all (HasOwn may) d.tasks _ g.all stays; file = g.file; given = g.given })
+      leaves (record { all = append-all (HasOwn may) d.tasks _ g.all (record { same = stays }); file = g.file; given = g.given })
 
   kill-leaves : (name : List ℕ) → OnGrant Leaves (kill d name)
   unfolding kill
@@ -283,14 +275,14 @@ module _ (may : MayShow) (d : Desk) (g : HaveOwn may d) where
     all-wider : HaveOwn (shows_too may (Some t) (Some bytes)) d
     all-wider = own-wider may _ (too-grows may (Some t) (Some bytes)) d g
 
-    task-wider : HasOwn may t → SlotStays (keeping (shows_too may (Some t) (Some bytes) t.handle)) t.slot
+    task-wider : HasOwn may t → HasOnly (shows_too may (Some t) (Some bytes) t.handle) t.slot
     task-wider own = slot-wider (may t.handle) _ (too-grows may (Some t) (Some bytes) t.handle) t.slot own
 
   put-gives : (name : List ℕ) (k offset : ℕ) (bytes : List ℕ) → OnGrant (Gives (command.Put name k offset bytes)) (put d name k offset bytes)
   unfolding put
   put-gives name k offset bytes =
       granted-then _ _ λ t e. granted-then _ _ λ b idle.
-      granted-with _ (put-stays _ t.slot (task-wider t bytes (named-own may d g name t e)) k offset bytes (too-stays may t bytes)) λ s stays.
+      granted-with _ (put-only (task-wider t bytes (named-own may d g name t e)) k offset bytes (too-stays may t bytes)) λ s stays.
       granted (record {
         desk = subst (λ o. HaveOwn (shows_too may o (Some bytes)) (with_slot t.handle s d)) (sym (found_name d name t e))
             (slot-own t.handle s stays d (all-wider t bytes));
@@ -301,9 +293,8 @@ module _ (may : MayShow) (d : Desk) (g : HaveOwn may d) where
   load-gives name k file =
       granted-then _ _ λ t e. granted-then _ _ λ entry i.
       let bytes : List ℕ = entry.1 in
-      let list : List ℕ = shows_too may (Some t) (Some bytes) t.handle in
-      granted-with _ (alloc-stays (keeping list) (keeping-zero list) t.slot (task-wider t bytes (named-own may d g name t e)) (free_pages d) k _) λ p there.
-      granted-with _ (put-stays (keeping list) p.0 there k 0 bytes (too-stays may t bytes)) λ s stays.
+      granted-with _ (alloc-only (task-wider t bytes (named-own may d g name t e)) (free_pages d) k _) λ p there.
+      granted-with _ (put-only there k 0 bytes (too-stays may t bytes)) λ s stays.
       granted (record {
         desk = subst (λ o. HaveOwn (shows_too may o (file_bytes file d.files)) (with_slot t.handle s d)) (sym (found_name d name t e))
             (subst (λ v. HaveOwn (shows_too may (Some t) v) (with_slot t.handle s d))
@@ -333,7 +324,7 @@ module _ {o : Offers} {e : Edits} {a : Addresses} {may : MayShow} (d : Desk) (ke
         subst (λ (v : Option Task). IfSome v (TaskAgrees a)) (found_name d name t q) (find-all (TaskAgrees a) (has_name name) d.tasks agrees.of_tasks)
 
     source-shown : (x : Sending) → Has (outgoing.Open x) t.sending → (source : Split Flex) → slot_block x.anchor t.slot ≡ Ok source →
-        BytesStay (keeping (may x.recipient)) source.here.bytes
+        AreOnly (may x.recipient) source.here.bytes
     source-shown x has source found =
         let w = good.inv.outs.source h x (subst (λ (vs : List Outgoing). Has (outgoing.Open x) vs)
         (sym (field_is (λ y. y.sending) [] h d.tasks t is)) has) in
@@ -464,29 +455,29 @@ listed_bytes (Bytes bytes) = bytes
 listed_bytes _ = []
 
 module _ (may : MayShow) (d : Desk) (w : Reached may d) where
-  among : (h : ℕ) (bytes : List ℕ) → BytesStay (keeping (may h)) bytes → AreAmong (may h) bytes
+  among : (h : ℕ) (bytes : List ℕ) → AreOnly (may h) bytes → AreAmong (may h) bytes
   among h bytes e = pass (λ b. has_byte b (may h)) (w.zero h) bytes e
 
-  at-own : (h : ℕ) (t : Task) → task_at h d ≡ Some t → SlotStays (keeping (may h)) t.slot
+  at-own : (h : ℕ) (t : Task) → task_at h d ≡ Some t → HasOnly (may h) t.slot
   at-own h t at =
       let own : HasOwn may t = subst (λ (v : Option Task). IfSome v (HasOwn may)) at (find-all (HasOwn may) (λ (y : Task). y.handle == h) d.tasks w.own.all) in
-      subst (λ j. SlotStays (keeping (may j)) t.slot) (is_equal _ _ (first_is (λ (y : Task). y.handle == h) d.tasks t at).1) own
+      subst (λ j. HasOnly (may j) t.slot) (is_equal _ _ (first_is (λ (y : Task). y.handle == h) d.tasks t at).1) own
 
   show-own : (name : List ℕ) (k : ℕ) → OnGrant (λ (told : Told). (t : Task) → find (has_name name) d.tasks ≡ Some t →
       AreAmong (may t.handle) (listed_bytes told.1)) (show d name k)
   unfolding show
   show-own name k =
-      granted-then _ _ λ u e. granted-with _ (block-stays (keeping (may u.handle)) u.slot (named-own may d w.own name u e) k) λ b stays.
+      granted-then _ _ λ u e. granted-with _ (block-only (named-own may d w.own name u e) k) λ b stays.
       granted (λ t q. let one : Some u ≡ Some t = sym (found_name d name u e) ∙ q in let same : u ≡ t = cc in
       subst (λ (y : Task). AreAmong (may y.handle) b.here.bytes) same (among u.handle b.here.bytes stays))
 
   shows-own : ShowsOwn d may
   shows-own = record {
     blocks = λ h t at. each-stays (renamed_block (keeping (may h))) _ (λ (b : Flex) e. among h b.bytes (ap (λ (c : Flex). c.bytes) e)) t.slot.blocks
-        (ap (λ (s : Slot). s.blocks) (at-own h t at));
+        (ap (λ (s : Slot). s.blocks) (at-own h t at).same);
     heap = λ h t at. each-stays (renamed_segment (keeping (may h))) _ (λ (s : Segment) e.
         among h (bytes_of s) (sym (bytes-renamed (keeping (may h)) s) ∙ ap bytes_of e)) t.slot.heap.segments
-        (ap (λ (s : Slot). s.heap.segments) (at-own h t at));
+        (ap (λ (s : Slot). s.heap.segments) (at-own h t at).same);
     shown = λ name k t size bytes q is. grant-holds (show-own name k) is t q;
     file = λ file p q has code same.
         let waits : p.code ≡ Acknowledge → ⊥ = λ z. let y : Recorded ≡ Acknowledge = sym code ∙ z in cc in

@@ -1,5 +1,5 @@
 -- Each message that a poll handles leaves all slots with no bytes but those that their tasks may show.
-use Rattle.rh_laws.proofs.Common.{[], accept, ack_back, Acknowledge, all-mono, AllByRecursion, and_left, any-grant, Append, append, append-all, appended, arith}
+use Rattle.rh_laws.proofs.Common.{[], accept, ack_back, Acknowledge, all-mono, AllByRecursion, and_left, any-grant, append, Append, append-all, appended, arith}
 use Rattle.rh_laws.proofs.Common.{as_returned, ask, Asked, Body, came, came_back, chosen, Claim, cond, Desk, drop, eqb_tells, EventCode, fail_sending, false}
 use Rattle.rh_laws.proofs.Common.{Fetch, fetch_more, first_is, Flex, free_pages, granted, granted-both, granted-past, granted-then, granted-with, handled}
 use Rattle.rh_laws.proofs.Common.{Handled, Has, IfSome, ignored, Incoming, inl, inr, is_equal, is_found, length, Letter, List, load_file, loaded, LoadFile}
@@ -19,19 +19,19 @@ use Rattle.rh_defs.specs.OutgoingEvents.{wider}
 use Rattle.rh_safety.proofs.Actions.{bounce-does, load-does, open-does, save-does, transmit-does}
 use Rattle.rh_laws.specs.MayShow.{MayShow}
 use Rattle.rh_laws.proofs.Addresses.{all-edit}
-use Rattle.rh_laws.proofs.ShownSlots.{alloc-stays, BytesStay, claim-stays, extend-stays, first-stays, granted-as, keeping, keeping-zero, part-stays, put-stays}
-use Rattle.rh_laws.proofs.ShownSlots.{SlotStays, without-stays, written-stays}
+use Rattle.rh_laws.proofs.ShownSlots.{alloc-only, AreOnly, claim-only, extend-only, first-only, granted-as, HasOnly, part-only, put-only, without-only}
+use Rattle.rh_laws.proofs.ShownSlots.{written-only}
 use Rattle.rh_laws.proofs.Queues.{death-left, IsMine, Left, poll-taken, sent-is}
 
 -- ---- desks
 
 -- a task has no bytes but those that it may show
 abbrev pub HasOwn : MayShow → Task → Type 0
-HasOwn may t = SlotStays (keeping (may t.handle)) t.slot
+HasOwn may t = HasOnly (may t.handle) t.slot
 
 -- a queued message, if it is the DataLoad of the scrap file and didn't come back: whom it is for may show the file's bytes
 abbrev pub IsFor : MayShow → Scrap → Parcel → Type 0
-IsFor may file p = (p.code ≡ Acknowledge → ⊥) → p.message.my_ref ≡ file.load → BytesStay (keeping (may p.to)) file.bytes
+IsFor may file p = (p.code ≡ Acknowledge → ⊥) → p.message.my_ref ≡ file.load → AreOnly (may p.to) file.bytes
 
 -- so it is of each task, and of the scrap file, where there is one
 pub record HaveOwn (may : MayShow) (d : Desk) : Type 0 where
@@ -76,9 +76,9 @@ module _ {may : MayShow} where
   unfolding with_task
   task-own h edit keeps d g = record { all = all-edit (HasOwn may) h edit keeps d.tasks g.all; file = g.file; given = g.given }
 
-  pub slot-own : (h : ℕ) (s : Slot) → SlotStays (keeping (may h)) s → (d : Desk) → HaveOwn may d → HaveOwn may (with_slot h s d)
+  pub slot-own : (h : ℕ) (s : Slot) → HasOnly (may h) s → (d : Desk) → HaveOwn may d → HaveOwn may (with_slot h s d)
   slot-own h s stays d g =
-      task-own h (λ (t : Task). record t { slot = s }) (λ t same is. subst (λ j. SlotStays (keeping (may j)) s) (sym same) stays) d g
+      task-own h (λ (t : Task). record t { slot = s }) (λ t same is. subst (λ j. HasOnly (may j) s) (sym same) stays) d g
 
   pub outs-own : (h : ℕ) (edit : List Outgoing → List Outgoing) (d : Desk) → HaveOwn may d → HaveOwn may (with_sending h edit d)
   outs-own h edit d g = task-own h (λ (t : Task). record t { sending = edit t.sending }) (λ t same is. is) d g
@@ -89,7 +89,7 @@ module _ {may : MayShow} where
   ended-own : (h : ℕ) (x : Taking) (edit : List Incoming → List Incoming) (d : Desk) → HaveOwn may d → HaveOwn may (taking_ended h x edit d)
   unfolding taking_ended
   ended-own h x edit d g =
-      ins-own h edit _ (task-own h _ (λ t same is. without-stays (keeping (may t.handle)) t.slot is x.buffer) d g)
+      ins-own h edit _ (task-own h _ (λ t same is. without-only is x.buffer) d g)
 
   letter-sent : (l : Letter) (d : Desk) → HaveOwn may d → OnGrant (Sent may l d) (send_letter l d)
   unfolding send_letter with_task
@@ -125,13 +125,13 @@ module _ {may : MayShow} where
 
   -- the message that a poll takes, if it is the DataLoad of the scrap file
   pub taken-for : (h : ℕ) (d : Desk) → HaveOwn may d → (m : Parcel) → (post_poll h d.post).1 ≡ Some m → (m.code ≡ Acknowledge → ⊥) → (file : Scrap) →
-      (with_delivered (post_poll h d.post).0 d).scrap ≡ Some file → file.load ≡ m.message.my_ref → BytesStay (keeping (may h)) file.bytes
+      (with_delivered (post_poll h d.post).0 d).scrap ≡ Some file → file.load ≡ m.message.my_ref → AreOnly (may h) file.bytes
   unfolding with_delivered
   taken-for h d g m q ne file there load =
       let all = g.file file (was-there (post_poll h d.post).0 file d.scrap there) in
       let mine = subst (λ (v : Option Parcel). IfSome v (IsMine (IsFor may file) (back-for may file) h)) q
       ((poll-taken (IsFor may file) (back-for may file) h d.post).mine all) in
-      subst (λ j. BytesStay (keeping (may j)) file.bytes) mine.own (mine.agrees ne (sym load))
+      subst (λ j. AreOnly (may j) file.bytes) mine.own (mine.agrees ne (sym load))
 
   pub death-own : (h : ℕ) (d : Desk) → HaveOwn may d → HaveOwn may (with_delivered (post_death h d.post) d)
   death-own h d g = delivered-own _ d (λ file. death-left (IsFor may file) (back-for may file) h d.post) g
@@ -146,12 +146,9 @@ module _ (may : MayShow) (t : Task) (own : HasOwn may t) where
   abbrev h : ℕ
   h = t.handle
 
-  abbrev f : ℕ → ℕ
-  f = keeping (may h)
-
   -- the recipient may show the bytes of the source
   abbrev pub Sourced : Sending → Type 0
-  Sourced x = (source : Split Flex) → slot_block x.anchor t.slot ≡ Ok source → BytesStay (keeping (may x.recipient)) source.here.bytes
+  Sourced x = (source : Split Flex) → slot_block x.anchor t.slot ≡ Ok source → AreOnly (may x.recipient) source.here.bytes
 
   -- a file is for the recipient, who asked for it, and no queued message has the ref that its DataLoad gets
   abbrev IsAsked : Desk → SendAction → Type 0
@@ -163,7 +160,7 @@ module _ (may : MayShow) (t : Task) (own : HasOwn may t) where
 
   -- the task may show the bytes of its scrap file
   abbrev Takes : Desk → TakeAction → Type 0
-  Takes d (take_action.LoadFile c) = (file : Scrap) → d.scrap ≡ Some file → file.load ≡ c.answers → BytesStay f file.bytes
+  Takes d (take_action.LoadFile c) = (file : Scrap) → d.scrap ≡ Some file → file.load ≡ c.answers → AreOnly (may h) file.bytes
   Takes d c = Unit {0}
 
   module _ (d : Desk) (g : HaveOwn may d) where
@@ -179,7 +176,7 @@ module _ (may : MayShow) (t : Task) (own : HasOwn may t) where
     outs-with : (edit : List Outgoing → List Outgoing) (o : Outcome) → Leaves may (with_sending h edit d, o)
     outs-with edit o = record { desk = outs-own h edit d g }
 
-    transmit-own : (c : Transmit) (source : Split Flex) → BytesStay (keeping (may c.transfer.recipient)) source.here.bytes →
+    transmit-own : (c : Transmit) (source : Split Flex) → AreOnly (may c.transfer.recipient) source.here.bytes →
         OnGrant (Leaves may) (transmit d t c source)
     unfolding transmit
     transmit-own c source e =
@@ -190,12 +187,12 @@ module _ (may : MayShow) (t : Task) (own : HasOwn may t) where
         is_equal _ _ (first_is (λ (y : Task). y.handle == c.transfer.recipient) d.tasks r found).1 in
         granted (record {
           desk = outs-own h _ _ (task-own r.handle _ (λ u here is.
-              written-stays (keeping (may u.handle)) u.slot is c.buffer c.room (take p.n (drop p.offset source.here.bytes))
-              (part-stays (keeping (may u.handle)) p.n p.offset source.here.bytes
-              (subst (λ j. BytesStay (keeping (may j)) source.here.bytes) (sym (here ∙ same)) e))) sent all);
+              written-only is c.buffer c.room (take p.n (drop p.offset source.here.bytes))
+              (part-only (may u.handle) p.n p.offset source.here.bytes
+              (subst (λ j. AreOnly (may j) source.here.bytes) (sym (here ∙ same)) e))) sent all);
         })
 
-    save_scrap-own : (c : SaveFile) (source : Split Flex) → BytesStay (keeping (may c.transfer.recipient)) source.here.bytes →
+    save_scrap-own : (c : SaveFile) (source : Split Flex) → AreOnly (may c.transfer.recipient) source.here.bytes →
         IsAsked d (send_action.SaveFile c) → OnGrant (Leaves may) (save_scrap d t c source)
     unfolding save_scrap
     save_scrap-own c source e asked =
@@ -210,13 +207,13 @@ module _ (may : MayShow) (t : Task) (own : HasOwn may t) where
                 (subst (AllByRecursion (IsFor may file)) (sym w.queued) (append-all (IsFor may file) d.post.queued _
                 (all-mono {Q = IsFor may file} (λ (p : Parcel) (low : p.message.my_ref < next_ref d) code same.
                 absurd (omega (arith, low, same))) d.post.queued asked.1)
-                (λ code same. subst (λ j. BytesStay (keeping (may j)) source.here.bytes) (sym asked.0) e)));
+                (λ code same. subst (λ j. AreOnly (may j) source.here.bytes) (sym asked.0) e)));
             given = λ other q. let one : file ≡ other = cc in
                 subst (λ (z : Scrap). z.load < sent.post.next_ref) one (let next = w.next in omega (arith, next));
           });
         })
 
-    send_with-own : (c : SendAction) (source : Split Flex) → BytesStay (keeping (may (sender.transfer_of c).recipient)) source.here.bytes → IsAsked d c →
+    send_with-own : (c : SendAction) (source : Split Flex) → AreOnly (may (sender.transfer_of c).recipient) source.here.bytes → IsAsked d c →
         OnGrant (Leaves may) (send_with d t c source)
     unfolding send_with
     send_with-own (send_action.Transmit c) source e to = transmit-own c source e
@@ -237,17 +234,17 @@ module _ (may : MayShow) (t : Task) (own : HasOwn may t) where
     accept-own : (c : Claim) → OnGrant (Leaves may) (accept d t c)
     unfolding accept
     accept-own c =
-        granted-then _ _ λ k free. granted-with _ (claim-stays f (keeping-zero (may h)) t.slot own (free_pages d) t.buffer) λ b claimed.
-        granted-with _ (alloc-stays f (keeping-zero (may h)) b.0 claimed _ k 0) λ p there.
+        granted-then _ _ λ k free. granted-with _ (claim-only own (free_pages d) t.buffer) λ b claimed.
+        granted-with _ (alloc-only claimed _ k 0) λ p there.
         granted-with _ (letter-own _ _ (slot-own h p.0 there d g)) λ sent all.
         granted (record { desk = ins-own h _ _ all })
 
-    appended-own : (k : ℕ) (bytes : List ℕ) → BytesStay f bytes → OnGrant (HaveOwn may) (appended d t k bytes)
+    appended-own : (k : ℕ) (bytes : List ℕ) → AreOnly (may h) bytes → OnGrant (HaveOwn may) (appended d t k bytes)
     unfolding appended
     appended-own k bytes e =
         granted-then _ _ λ document found.
-        granted-with _ (extend-stays f (keeping-zero (may h)) t.slot own (free_pages d) k _) λ longer stays.
-        granted-with _ (put-stays f longer stays k _ bytes e) λ s filled.
+        granted-with _ (extend-only own (free_pages d) k _) λ longer stays.
+        granted-with _ (put-only stays k _ bytes e) λ s filled.
         granted (slot-own h s filled d g)
 
     fetch_more-own : (c : Append) (b : Fetch) → OnGrant (Leaves may) (fetch_more d t c b)
@@ -280,11 +277,11 @@ module _ (may : MayShow) (t : Task) (own : HasOwn may t) where
     unfolding append
     append-own c =
         or_else-keeps (Leaves may) _
-        (granted-with _ (appended-own d g c.transfer.anchor _ (first-stays f t.slot own c.n c.transfer.buffer)) λ longer all.
+        (granted-with _ (appended-own d g c.transfer.anchor _ (first-only own c.n c.transfer.buffer)) λ longer all.
         granted (took-own longer all c c.next))
         (λ refusal. ended-with d g c.transfer _ _)
 
-    load_file-own : (c : LoadFile) (v : Option Scrap) → ((file : Scrap) → v ≡ Some file → file.load ≡ c.answers → BytesStay f file.bytes) →
+    load_file-own : (c : LoadFile) (v : Option Scrap) → ((file : Scrap) → v ≡ Some file → file.load ≡ c.answers → AreOnly (may h) file.bytes) →
         Leaves may (load_file d t c v)
     unfolding load_file
     load_file-own c None stays = ignored-own d g
@@ -318,7 +315,7 @@ module _ (may : MayShow) (t : Task) (own : HasOwn may t) where
 
     -- the task may show the bytes of the scrap file whose DataLoad the message is
     abbrev pub Filed : Parcel → Type 0
-    Filed m = (file : Scrap) → d.scrap ≡ Some file → file.load ≡ m.message.my_ref → BytesStay f file.bytes
+    Filed m = (file : Scrap) → d.scrap ≡ Some file → file.load ≡ m.message.my_ref → AreOnly (may h) file.bytes
 
     module _ (m : Parcel) (offered : Offered) (refs : HasRefs d) where
       came-own : (b : Body) → Filed m → Leaves may (came d t m b)

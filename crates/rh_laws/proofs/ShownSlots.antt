@@ -2,7 +2,7 @@
 -- others 0 leaves just the bytes of that list, and 0.
 use Rattle.rh_laws.proofs.Common.{[], ap, Bool, buffer_at, cond, drop, drop-map, false, Flex, Follows, Granted, heap_block_at, Hole, List, map, OnGrant, refl}
 use Rattle.rh_laws.proofs.Common.{Segment, Slot, slot_alloc, slot_block, slot_claim, slot_extend, slot_free, slot_mid, slot_put, slot_release, slot_resize}
-use Rattle.rh_laws.proofs.Common.{Split, sym, take, take-map, true, Used, without_buffer, written_in, ℕ, ℤ, ◌++◌, ◌==◌, ◌||◌, ◌∙◌, ◌∷◌, ◌≡◌}
+use Rattle.rh_laws.proofs.Common.{Split, subst, sym, take, take-map, true, Used, without_buffer, written_in, ℕ, ℤ, ◌++◌, ◌==◌, ◌||◌, ◌∙◌, ◌∷◌, ◌≡◌}
 use Rattle.rh_defs.specs.Places.{first_bytes}
 use Rattle.rh_defs.proofs.Chains as chains
 use Rattle.rh_laws.specs.Renaming.{has_byte, renamed_block, renamed_segment, renamed_slot}
@@ -13,13 +13,23 @@ use Rattle.rh_laws.proofs.RenamedSlots.{buffer_at-renamed, first_bytes-renamed, 
 use Rattle.rh_laws.proofs.RenamedSlots.{slot_block-renamed, slot_claim-renamed, slot_extend-renamed, slot_free-renamed, slot_mid-renamed, slot_put-renamed}
 use Rattle.rh_laws.proofs.RenamedSlots.{slot_release-renamed, slot_resize-renamed, written_in-renamed}
 
--- ---- what stays
+-- ---- the bytes of a list
 
-abbrev pub SlotStays : (ℕ → ℕ) → Slot → Type 0
-SlotStays f s = renamed_slot f s ≡ s
+-- a byte of the list as it is, and 0 for each other
+abbrev pub keeping : List ℕ → ℕ → ℕ
+keeping list b = cond (has_byte b list) b 0
 
-abbrev pub BytesStay : (ℕ → ℕ) → List ℕ → Type 0
-BytesStay f bytes = map f bytes ≡ bytes
+pub keeping-zero : (list : List ℕ) → keeping list 0 ≡ 0
+keeping-zero list = zero-stays (has_byte 0 list)
+
+-- bytes and a slot that this leaves: they have none but those of the list, and 0
+abbrev pub AreOnly : List ℕ → List ℕ → Type 0
+AreOnly list bytes = map (keeping list) bytes ≡ bytes
+
+pub record HasOnly (list : List ℕ) (s : Slot) : Type 0 where
+  pub same : renamed_slot (keeping list) s ≡ s
+
+-- ---- calls
 
 -- what a chain gives that does the same to the renamed thing, which is that thing
 pub fixed-by : {A : Type 0} {g : A → A} {x y : Granted A} → Follows (By g) x y → y ≡ x → OnGrant (λ z. g z ≡ z) x
@@ -32,73 +42,75 @@ granted-as f (chains.granted {x = x} p) = chains.granted (f x p)
 granted-as f chains.refused = chains.refused
 
 -- some of the bytes
-pub part-stays : (f : ℕ → ℕ) (n from : ℕ) (bytes : List ℕ) → BytesStay f bytes → BytesStay f (take n (drop from bytes))
-part-stays f n from bytes e =
-    sym (take-map f n (drop from bytes)) ∙ ap (take n) (sym (drop-map f from bytes)) ∙ ap (λ l. take n (drop from l)) e
+pub part-only : (list : List ℕ) (n from : ℕ) (bytes : List ℕ) → AreOnly list bytes → AreOnly list (take n (drop from bytes))
+part-only list n from bytes e =
+    sym (take-map (keeping list) n (drop from bytes)) ∙ ap (take n) (sym (drop-map (keeping list) from bytes)) ∙ ap (λ l. take n (drop from l)) e
 
--- ---- calls
+module _ {list : List ℕ} {s : Slot} (has : HasOnly list s) where
+  abbrev f : ℕ → ℕ
+  f = keeping list
 
-module _ (f : ℕ → ℕ) (s : Slot) (stays : SlotStays f s) where
-  pub block-stays : (k : ℕ) → OnGrant (λ (b : Split Flex). BytesStay f b.here.bytes) (slot_block k s)
-  block-stays k =
+  abbrev zero-is : f 0 ≡ 0
+  zero-is = keeping-zero list
+
+  -- a slot, and one with an address, out of a call that does the same to the renamed slot
+  slot-only : (call : Slot → Granted Slot) → Follows (By (renamed_slot f)) (call s) (call (renamed_slot f s)) → OnGrant (HasOnly list) (call s)
+  slot-only call alike = granted-as (λ (n : Slot) e. record { same = e }) (fixed-by alike (ap call has.same))
+
+  given-only : (call : Slot → Granted (Slot × ℕ)) → Follows (By (renamed_given f)) (call s) (call (renamed_slot f s)) →
+      OnGrant (λ (p : Slot × ℕ). HasOnly list p.0) (call s)
+  given-only call alike =
+      granted-as (λ (p : Slot × ℕ) e. record { same = ap (λ (q : Slot × ℕ). q.0) e }) (fixed-by alike (ap call has.same))
+
+  pub block-only : (k : ℕ) → OnGrant (λ (b : Split Flex). AreOnly list b.here.bytes) (slot_block k s)
+  block-only k =
       granted-as (λ (b : Split Flex) e. ap (λ (c : Split Flex). c.here.bytes) e)
-      (fixed-by {g = renamed_here f} (slot_block-renamed f k s) (ap (slot_block k) stays))
+      (fixed-by {g = renamed_here f} (slot_block-renamed f k s) (ap (slot_block k) has.same))
 
-  pub free-stays : (k : ℕ) → OnGrant (SlotStays f) (slot_free k s)
-  free-stays k = fixed-by (slot_free-renamed f k s) (ap (slot_free k) stays)
+  pub alloc-only : (free k n : ℕ) → OnGrant (λ (p : Slot × ℕ). HasOnly list p.0) (slot_alloc free k n s)
+  alloc-only free k n = given-only (slot_alloc free k n) (slot_alloc-renamed f zero-is free k n s)
 
-  pub put-stays : (k offset : ℕ) (bytes : List ℕ) → BytesStay f bytes → OnGrant (SlotStays f) (slot_put k offset bytes s)
-  put-stays k offset bytes e =
-      fixed-by (slot_put-renamed f k offset bytes s)
-      (ap (λ l. slot_put k offset l (renamed_slot f s)) e ∙ ap (slot_put k offset bytes) stays)
+  pub free-only : (k : ℕ) → OnGrant (HasOnly list) (slot_free k s)
+  free-only k = slot-only (slot_free k) (slot_free-renamed f k s)
 
-  pub release-stays : (address : ℕ) → OnGrant (SlotStays f) (slot_release address s)
-  release-stays address = fixed-by (slot_release-renamed f address s) (ap (slot_release address) stays)
+  pub extend-only : (free k n : ℕ) → OnGrant (HasOnly list) (slot_extend free k n s)
+  extend-only free k n = slot-only (slot_extend free k n) (slot_extend-renamed f zero-is free k n s)
 
-  pub without-stays : (address : ℕ) → SlotStays f (without_buffer address s)
-  without-stays address = sym (result-by s (slot_release-renamed f address s)) ∙ ap (without_buffer address) stays
+  pub mid-only : (free k offset : ℕ) (by : ℤ) → OnGrant (HasOnly list) (slot_mid free k offset by s)
+  mid-only free k offset by = slot-only (slot_mid free k offset by) (slot_mid-renamed f zero-is free k offset by s)
 
-  pub first-stays : (n address : ℕ) → BytesStay f (first_bytes n (heap_block_at address s))
-  first-stays n address =
+  pub put-only : (k offset : ℕ) (bytes : List ℕ) → AreOnly list bytes → OnGrant (HasOnly list) (slot_put k offset bytes s)
+  put-only k offset bytes e =
+      slot-only (slot_put k offset bytes) (subst (λ l. Follows (By (renamed_slot f)) (slot_put k offset bytes s)
+      (slot_put k offset l (renamed_slot f s))) e (slot_put-renamed f k offset bytes s))
+
+  pub claim-only : (free n : ℕ) → OnGrant (λ (p : Slot × ℕ). HasOnly list p.0) (slot_claim free n s)
+  claim-only free n = given-only (slot_claim free n) (slot_claim-renamed f zero-is free n s)
+
+  pub release-only : (address : ℕ) → OnGrant (HasOnly list) (slot_release address s)
+  release-only address = slot-only (slot_release address) (slot_release-renamed f address s)
+
+  pub resize-only : (free address : ℕ) (delta : ℤ) → OnGrant (λ (p : Slot × ℕ). HasOnly list p.0) (slot_resize free address delta s)
+  resize-only free address delta = given-only (slot_resize free address delta) (slot_resize-renamed f zero-is free address delta s)
+
+  pub without-only : (address : ℕ) → HasOnly list (without_buffer address s)
+  without-only address = record { same = sym (result-by s (slot_release-renamed f address s)) ∙ ap (without_buffer address) has.same }
+
+  pub first-only : (n address : ℕ) → AreOnly list (first_bytes n (heap_block_at address s))
+  first-only n address =
       sym (first_bytes-renamed f n (heap_block_at address s)) ∙ ap (first_bytes n) (sym (heap_block_at-renamed f address s))
-      ∙ ap (λ u. first_bytes n (heap_block_at address u)) stays
+      ∙ ap (λ u. first_bytes n (heap_block_at address u)) has.same
 
-  pub written-stays : (address room : ℕ) (bytes : List ℕ) → BytesStay f bytes → SlotStays f (written_in address bytes (buffer_at address room s) s)
-  written-stays address room bytes e =
-      sym (written_in-renamed f address bytes (buffer_at address room s) s)
-      ∙ ap (λ o. written_in address (map f bytes) o (renamed_slot f s)) (sym (buffer_at-renamed f address room s))
-      ∙ ap (λ u. written_in address (map f bytes) (buffer_at address room u) u) stays
-      ∙ ap (λ l. written_in address l (buffer_at address room s) s) e
+  pub written-only : (address room : ℕ) (bytes : List ℕ) → AreOnly list bytes → HasOnly list (written_in address bytes (buffer_at address room s) s)
+  written-only address room bytes e = record {
+    same =
+        sym (written_in-renamed f address bytes (buffer_at address room s) s)
+        ∙ ap (λ o. written_in address (map f bytes) o (renamed_slot f s)) (sym (buffer_at-renamed f address room s))
+        ∙ ap (λ u. written_in address (map f bytes) (buffer_at address room u) u) has.same
+        ∙ ap (λ l. written_in address l (buffer_at address room s) s) e;
+  }
 
-module _ (f : ℕ → ℕ) (zero-is : f 0 ≡ 0) (s : Slot) (stays : SlotStays f s) where
-  -- a slot with an address
-  given : {r : Granted (Slot × ℕ)} → OnGrant (λ p. renamed_given f p ≡ p) r → OnGrant (λ (p : Slot × ℕ). SlotStays f p.0) r
-  given all = granted-as (λ (p : Slot × ℕ) e. ap (λ (q : Slot × ℕ). q.0) e) all
-
-  pub alloc-stays : (free k n : ℕ) → OnGrant (λ (p : Slot × ℕ). SlotStays f p.0) (slot_alloc free k n s)
-  alloc-stays free k n = given (fixed-by (slot_alloc-renamed f zero-is free k n s) (ap (slot_alloc free k n) stays))
-
-  pub extend-stays : (free k n : ℕ) → OnGrant (SlotStays f) (slot_extend free k n s)
-  extend-stays free k n = fixed-by (slot_extend-renamed f zero-is free k n s) (ap (slot_extend free k n) stays)
-
-  pub mid-stays : (free k offset : ℕ) (by : ℤ) → OnGrant (SlotStays f) (slot_mid free k offset by s)
-  mid-stays free k offset by = fixed-by (slot_mid-renamed f zero-is free k offset by s) (ap (slot_mid free k offset by) stays)
-
-  pub claim-stays : (free n : ℕ) → OnGrant (λ (p : Slot × ℕ). SlotStays f p.0) (slot_claim free n s)
-  claim-stays free n = given (fixed-by (slot_claim-renamed f zero-is free n s) (ap (slot_claim free n) stays))
-
-  pub resize-stays : (free address : ℕ) (delta : ℤ) → OnGrant (λ (p : Slot × ℕ). SlotStays f p.0) (slot_resize free address delta s)
-  resize-stays free address delta =
-      given (fixed-by (slot_resize-renamed f zero-is free address delta s) (ap (slot_resize free address delta) stays))
-
--- ---- bytes of a list
-
--- the bytes of the list, and 0 for each other
-abbrev pub keeping : List ℕ → ℕ → ℕ
-keeping list b = cond (has_byte b list) b 0
-
-pub keeping-zero : (list : List ℕ) → keeping list 0 ≡ 0
-keeping-zero list = zero-stays (has_byte 0 list)
+-- ---- more bytes
 
 -- each byte of the first is one of the second
 abbrev pub Within : List ℕ → List ℕ → Type 0
@@ -127,11 +139,11 @@ module _ (small large : List ℕ) (within : Within small large) where
   map-twice f g same [] = refl
   map-twice f g same (x ∷ xs) = ap (λ y. y ∷ map g (map f xs)) (same x) ∙ ap (λ l. f x ∷ l) (map-twice f g same xs)
 
-  pub bytes-wider : (bytes : List ℕ) → BytesStay (keeping small) bytes → BytesStay (keeping large) bytes
+  pub bytes-wider : (bytes : List ℕ) → AreOnly small bytes → AreOnly large bytes
   bytes-wider bytes e = ap (map (keeping large)) (sym e) ∙ map-twice (keeping small) (keeping large) twice bytes ∙ e
 
-  pub slot-wider : (s : Slot) → SlotStays (keeping small) s → SlotStays (keeping large) s
-  slot-wider s e = ap (renamed_slot (keeping large)) (sym e) ∙ both ∙ e
+  pub slot-wider : (s : Slot) → HasOnly small s → HasOnly large s
+  slot-wider s has = record { same = ap (renamed_slot (keeping large)) (sym has.same) ∙ both ∙ has.same }
     where
       block : (b : Flex) → renamed_block (keeping large) (renamed_block (keeping small) b) ≡ renamed_block (keeping small) b
       block b = ap (with_bytes b.anchor) (map-twice (keeping small) (keeping large) twice b.bytes)
