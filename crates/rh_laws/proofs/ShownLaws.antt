@@ -1,13 +1,13 @@
 -- Each command leaves tasks with no bytes but those that they may show, and so does every list of commands.
 use Rattle.rh_laws.proofs.Common.{[], Acknowledge, after, all-mono, all_in_range, AllByRecursion, alloc, and_left, and_right, Answer, ap, append-all, arith}
-use Rattle.rh_laws.proofs.Common.{at_place, Body, Bool, budge, Bytes, bytes_of, cancel_in, cancel_out, change, Changed, claim, Command, Desk, eqb_tells, extend}
+use Rattle.rh_laws.proofs.Common.{at_place, Body, budge, Bytes, bytes_of, cancel_in, cancel_out, change, Changed, claim, Command, Desk, eqb_tells, extend}
 use Rattle.rh_laws.proofs.Common.{false, field_is, find, first_is, fits, Fits, Flex, Follows, found_name, free, free_pages, Good, Granted, granted, granted-on}
 use Rattle.rh_laws.proofs.Common.{granted-past, granted-then, granted-with, Has, has_name, has_of, IfSome, in_areas, in_made, in_module, in_nothing, in_range}
-use Rattle.rh_laws.proofs.Common.{in_slot, inl, inr, is_equal, is_found, IsDesk, IsOnMemory, keeps, kill, Letter, List, live_of, load, make, Manner, map, mid}
-use Rattle.rh_laws.proofs.Common.{named, None, not, Offers, Ok, OnGrant, Option, option_map, or_else, or_else-keeps, Outgoing, Parcel, poll, poll_taken, Post}
+use Rattle.rh_laws.proofs.Common.{in_slot, inl, inr, is_equal, is_found, IsDesk, IsOnMemory, keeps, kill, Letter, List, live_of, load, make, map, mid, named}
+use Rattle.rh_laws.proofs.Common.{None, not, Offers, Ok, OnGrant, Option, option_map, or_else, or_else-keeps, Outgoing, Parcel, poll, poll_taken, Post}
 use Rattle.rh_laws.proofs.Common.{post_join, post_poll, put, Recorded, refl, release, repeat, Reply, resize, save, Segment, Sending, Slot, slot_begin}
 use Rattle.rh_laws.proofs.Common.{slot_block, Some, Split, start-is, start_task, start_with, step, step-keeps, subst, sym, Task, task_at, task_of, the_task}
-use Rattle.rh_laws.proofs.Common.{Told, true, view, with_delivered, with_slot, ℕ, ℤ, ◌++◌, ◌<◌, ◌==◌, ◌∙◌, ◌∷◌, ◌≡◌, ◌≢◌, ◌≤◌}
+use Rattle.rh_laws.proofs.Common.{Told, true, view, with_delivered, with_slot, ℕ, ◌++◌, ◌<◌, ◌==◌, ◌∙◌, ◌∷◌, ◌≡◌, ◌≢◌, ◌≤◌}
 use Rattle.rh_defs.specs.declared.command.Command.TheVariants as command
 use Rattle.rh_defs.specs.declared.message.Body.TheVariants as body
 use Rattle.rh_defs.specs.declared.refusal.Refusal.TheVariants.{NoFile}
@@ -151,6 +151,13 @@ next-covers o a may d c r covers = covers-wider may _ (next-grows may d c r) cov
 
 -- ---- commands
 
+-- those that put and load nothing, and aren't polls
+abbrev IsPlain : Command → Type 0
+IsPlain (command.Put name k offset bytes) = ⊥
+IsPlain (command.Load name k file) = ⊥
+IsPlain (command.Poll name) = ⊥
+IsPlain c = Unit {0}
+
 module _ (may : MayShow) (d : Desk) (g : HaveOwn may d) where
   named-own : (name : List ℕ) (t : Task) → named name d ≡ Ok t → HasOwn may t
   named-own name t q =
@@ -167,91 +174,6 @@ module _ (may : MayShow) (d : Desk) (g : HaveOwn may d) where
   slot-leaves : (t : Task) (s : Slot) → HasOnly (may t.handle) s → {said : Reply} → OnGrant Leaves (Ok (with_slot t.handle s d, said))
   slot-leaves t s stays = leaves (slot-own t.handle s stays d g)
 
-  alloc-leaves : (name : List ℕ) (k n : ℕ) → OnGrant Leaves (alloc d name k n)
-  unfolding alloc
-  alloc-leaves name k n =
-      granted-then _ _ λ t e. granted-with _ (alloc-only (named-own name t e) (free_pages d) k n) λ p stays. slot-leaves t p.0 stays
-
-  free-leaves : (name : List ℕ) (k : ℕ) → OnGrant Leaves (free d name k)
-  unfolding free
-  free-leaves name k =
-      granted-then _ _ λ t e. granted-then _ _ λ b idle.
-      granted-with _ (free-only (named-own name t e) k) λ s stays. slot-leaves t s stays
-
-  extend-leaves : (name : List ℕ) (k n : ℕ) → OnGrant Leaves (extend d name k n)
-  unfolding extend
-  extend-leaves name k n =
-      granted-then _ _ λ t e. granted-then _ _ λ b idle.
-      granted-with _ (extend-only (named-own name t e) (free_pages d) k n) λ s stays. slot-leaves t s stays
-
-  mid-leaves : (name : List ℕ) (k offset : ℕ) (by : ℤ) → OnGrant Leaves (mid d name k offset by)
-  unfolding mid
-  mid-leaves name k offset by =
-      granted-then _ _ λ t e. granted-then _ _ λ b idle.
-      granted-with _ (mid-only (named-own name t e) (free_pages d) k offset by) λ s stays. slot-leaves t s stays
-
-  claim-leaves : (name : List ℕ) (n : ℕ) → OnGrant Leaves (claim d name n)
-  unfolding claim
-  claim-leaves name n =
-      granted-then _ _ λ t e. granted-with _ (claim-only (named-own name t e) (free_pages d) n) λ p stays. slot-leaves t p.0 stays
-
-  release-leaves : (name : List ℕ) (address : ℕ) → OnGrant Leaves (release d name address)
-  unfolding release
-  release-leaves name address =
-      granted-then _ _ λ t e. granted-then _ _ λ b idle.
-      granted-with _ (release-only (named-own name t e) address) λ s stays. slot-leaves t s stays
-
-  resize-leaves : (name : List ℕ) (address : ℕ) (delta : ℤ) → OnGrant Leaves (resize d name address delta)
-  unfolding resize
-  resize-leaves name address delta =
-      granted-then _ _ λ t e. granted-then _ _ λ b idle.
-      granted-with _ (resize-only (named-own name t e) (free_pages d) address delta) λ p stays. slot-leaves t p.0 stays
-
-  budge-leaves : (name : List ℕ) (on : Bool) → OnGrant Leaves (budge d name on)
-  unfolding budge
-  budge-leaves name on =
-      granted-then _ _ λ t e. slot-leaves t _ (record { same = ap (λ (s : Slot). record s { budging = on }) (named-own name t e).same })
-
-  start_task-leaves : (name : List ℕ) (buffer : ℕ) (manner : Manner) → OnGrant Leaves (start_task d name buffer manner)
-  unfolding start_task slot_begin post_join
-  start_task-leaves name buffer manner =
-      granted-past _ _ _ λ x. granted-past _ _ _ λ y. granted-past _ _ _ λ z.
-      granted-with _ (fixed-by {g = renamed_slot (keeping (may d.next_handle))} (follows-test _ _ _ _ _ refl (Follows.both refl)) refl) λ s stays.
-      leaves (record { all = append-all (HasOwn may) d.tasks _ g.all (record { same = stays }); file = g.file; given = g.given })
-
-  kill-leaves : (name : List ℕ) → OnGrant Leaves (kill d name)
-  unfolding kill
-  kill-leaves name =
-      granted-then _ _ λ t e. let dead = death-own t.handle d g in
-      leaves (record {
-        all = filter-all (HasOwn may) (λ (other : Task). not (other.handle == t.handle)) d.tasks g.all;
-        file = dead.file;
-        given = dead.given;
-      })
-
-  save-leaves : (name : List ℕ) (k : ℕ) (to leaf : List ℕ) → OnGrant Leaves (save d name k to leaf)
-  unfolding save
-  save-leaves name k to leaf =
-      granted-then _ _ λ t e. granted-then _ _ λ b idle. granted-past _ _ _ λ full. granted-then _ _ λ r i.
-      granted-with _ (letter-own _ d g) λ sent all. leaves (outs-own t.handle _ sent all)
-
-  repeat-leaves : (name : List ℕ) → OnGrant Leaves (repeat d name)
-  unfolding repeat
-  repeat-leaves name =
-      granted-then _ _ λ t e. granted-then _ _ λ last f. granted-with _ (letter-own _ d g) λ sent all. leaves all
-
-  cancel_in-leaves : (name : List ℕ) (id : Option ℕ) → OnGrant Leaves (cancel_in d name id)
-  unfolding cancel_in
-  cancel_in-leaves name id = granted-then _ _ λ t e. granted-then _ _ λ records f. leaves (ins-own t.handle _ d g)
-
-  cancel_out-leaves : (name : List ℕ) (id : Option ℕ) → OnGrant Leaves (cancel_out d name id)
-  unfolding cancel_out
-  cancel_out-leaves name id = granted-then _ _ λ t e. granted-then _ _ λ records f. leaves (outs-own t.handle _ d g)
-
-  make-leaves : (most : ℕ) → OnGrant Leaves (make d most)
-  unfolding make
-  make-leaves most = granted-past _ _ _ λ x. granted-past _ _ _ λ y. leaves (same-own _ refl refl refl refl g)
-
   -- a command on memory that is no task's
   changed-leaves : {c : Command} → slot_name c ≡ None → (x : Answer) → Changed c d x → Leaves x
   changed-leaves none _ (in_slot name t s own e is) = absurd (let z : None ≡ Some name = sym none ∙ own in cc)
@@ -262,6 +184,52 @@ module _ (may : MayShow) (d : Desk) (g : HaveOwn may d) where
 
   memory-leaves : (c : Command) → IsOnMemory c → slot_name c ≡ None → OnGrant Leaves (change d c)
   memory-leaves c is none = granted-on d c is (changed-leaves none)
+
+  change-leaves : (c : Command) → IsPlain c → OnGrant Leaves (change d c)
+  unfolding start_task slot_begin post_join kill alloc free extend mid claim release resize budge save repeat cancel_in cancel_out make
+  change-leaves (command.Put name k offset bytes) plain = absurd plain
+  change-leaves (command.Load name k file) plain = absurd plain
+  change-leaves (command.Poll name) plain = absurd plain
+  change-leaves (command.Task name buffer manner) plain =
+      granted-past _ _ _ λ x. granted-past _ _ _ λ y. granted-past _ _ _ λ z.
+      granted-with _ (fixed-by {g = renamed_slot (keeping (may d.next_handle))} (follows-test _ _ _ _ _ refl (Follows.both refl)) refl) λ s stays.
+      leaves (record { all = append-all (HasOwn may) d.tasks _ g.all (record { same = stays }); file = g.file; given = g.given })
+  change-leaves (command.Kill name) plain =
+      granted-then _ _ λ t e. let dead = death-own t.handle d g in
+      leaves (record {
+        all = filter-all (HasOwn may) (λ (other : Task). not (other.handle == t.handle)) d.tasks g.all;
+        file = dead.file;
+        given = dead.given;
+      })
+  change-leaves (command.Alloc name k n) plain =
+      granted-then _ _ λ t e. granted-with _ (alloc-only (named-own name t e) (free_pages d) k n) λ p only. slot-leaves t p.0 only
+  change-leaves (command.Free name k) plain =
+      granted-then _ _ λ t e. granted-then _ _ λ b idle. granted-with _ (free-only (named-own name t e) k) λ s only. slot-leaves t s only
+  change-leaves (command.Extend name k n) plain =
+      granted-then _ _ λ t e. granted-then _ _ λ b idle.
+      granted-with _ (extend-only (named-own name t e) (free_pages d) k n) λ s only. slot-leaves t s only
+  change-leaves (command.Mid name k offset by) plain =
+      granted-then _ _ λ t e. granted-then _ _ λ b idle.
+      granted-with _ (mid-only (named-own name t e) (free_pages d) k offset by) λ s only. slot-leaves t s only
+  change-leaves (command.Claim name n) plain =
+      granted-then _ _ λ t e. granted-with _ (claim-only (named-own name t e) (free_pages d) n) λ p only. slot-leaves t p.0 only
+  change-leaves (command.Release name address) plain =
+      granted-then _ _ λ t e. granted-then _ _ λ b idle.
+      granted-with _ (release-only (named-own name t e) address) λ s only. slot-leaves t s only
+  change-leaves (command.Resize name address delta) plain =
+      granted-then _ _ λ t e. granted-then _ _ λ b idle.
+      granted-with _ (resize-only (named-own name t e) (free_pages d) address delta) λ p only. slot-leaves t p.0 only
+  change-leaves (command.Budge name on) plain =
+      granted-then _ _ λ t e. slot-leaves t _ (record { same = ap (λ (s : Slot). record s { budging = on }) (named-own name t e).same })
+  change-leaves (command.Save name k to leaf) plain =
+      granted-then _ _ λ t e. granted-then _ _ λ b idle. granted-past _ _ _ λ full. granted-then _ _ λ r i.
+      granted-with _ (letter-own _ d g) λ sent all. leaves (outs-own t.handle _ sent all)
+  change-leaves (command.Repeat name) plain =
+      granted-then _ _ λ t e. granted-then _ _ λ last f. granted-with _ (letter-own _ d g) λ sent all. leaves all
+  change-leaves (command.CancelIn name id) plain = granted-then _ _ λ t e. granted-then _ _ λ records f. leaves (ins-own t.handle _ d g)
+  change-leaves (command.CancelOut name id) plain = granted-then _ _ λ t e. granted-then _ _ λ records f. leaves (outs-own t.handle _ d g)
+  change-leaves (command.Make most) plain = granted-past _ _ _ λ x. granted-past _ _ _ λ y. leaves (same-own _ refl refl refl refl g)
+  change-leaves c plain = memory-leaves c tt refl
 
 -- ---- commands that give a task bytes of its own
 
@@ -378,30 +346,17 @@ module _ (may : MayShow) (d : Desk) (w : Reached may d) where
   kept-own all = (or_else-keeps (Leaves may d w.own) _ all (λ refusal. record { desk = w.own })).desk
 
   step-own : (c : Command) → HaveOwn (then c) (step d c).0
-  step-own (command.Task name buffer manner) = kept-own (start_task-leaves may d w.own name buffer manner)
-  step-own (command.Kill name) = kept-own (kill-leaves may d w.own name)
-  step-own (command.Alloc name k n) = kept-own (alloc-leaves may d w.own name k n)
   step-own (command.Load name k file) =
       (or_else-keeps (Gives may d w.own (command.Load name k file)) _ (load-gives may d w.own name k file) (λ refusal. record { desk = w.own })).desk
   step-own (command.Put name k offset bytes) =
       (or_else-keeps (Gives may d w.own (command.Put name k offset bytes)) _ (put-gives may d w.own name k offset bytes)
       (λ refusal. record { desk = w.own })).desk
-  step-own (command.Free name k) = kept-own (free-leaves may d w.own name k)
-  step-own (command.Extend name k n) = kept-own (extend-leaves may d w.own name k n)
-  step-own (command.Mid name k offset by) = kept-own (mid-leaves may d w.own name k offset by)
-  step-own (command.Claim name n) = kept-own (claim-leaves may d w.own name n)
-  step-own (command.Release name address) = kept-own (release-leaves may d w.own name address)
-  step-own (command.Resize name address delta) = kept-own (resize-leaves may d w.own name address delta)
-  step-own (command.Budge name on) = kept-own (budge-leaves may d w.own name on)
   step-own (command.Save name k to leaf) =
       let own = own-then (command.Save name k to leaf) in
-      (or_else-keeps (Leaves (then (command.Save name k to leaf)) d own) _ (save-leaves _ d own name k to leaf) (λ refusal. record { desk = own })).desk
+      (or_else-keeps (Leaves (then (command.Save name k to leaf)) d own) _ (change-leaves _ d own (command.Save name k to leaf) tt)
+      (λ refusal. record { desk = own })).desk
   step-own (command.Poll name) = kept-own (poll-leaves d w.kept (fits d w.kept) w.good w.agrees w.covers w.own name)
-  step-own (command.CancelIn name id) = kept-own (cancel_in-leaves may d w.own name id)
-  step-own (command.CancelOut name id) = kept-own (cancel_out-leaves may d w.own name id)
-  step-own (command.Repeat name) = kept-own (repeat-leaves may d w.own name)
-  step-own (command.Make most) = kept-own (make-leaves may d w.own most)
-  step-own c = kept-own (memory-leaves may d w.own c tt refl)
+  step-own c = kept-own (change-leaves may d w.own c tt)
 
   -- a live task's handle was given
   below : (name : List ℕ) (t : Task) → find (has_name name) d.tasks ≡ Some t → t.handle < d.next_handle
