@@ -33,48 +33,6 @@ out-want b (Open x) w e = go (b && x.last == x.id) e
 out-want b (Out_done i n) w e = absurd (none_some None refl e)
 out-want b (Out_failed i n) w e = absurd (none_some None refl e)
 
--- ---- what is not found isn't there
-
-find-none : {A : Type 0} (p : A → Bool) (xs : List A) (x : A) → find p xs ≡ None → Has x xs → p x ≡ false
-find-none p [] x q has = absurd has
-find-none p (y ∷ xs) x q has =
-    either (λ z. z ≡ None → p x ≡ false) (p y) (Some y) (find p xs) (λ r s. absurd (none_some None refl (sym s)))
-    (λ r s. elim has as (λ _. p x ≡ false) [ inl e ↦ ap p (sym e) ∙ r | inr k ↦ find-none p xs x s k ]) q
-
-abbrev has_buffer : (Taking → Bool) → In → Bool
-has_buffer p (Fetching f) = p f
-has_buffer p (Draining f) = p f
-has_buffer p v = false
-
-abbrev wants_file : (Asked → Bool) → In → Bool
-wants_file p (Asking q) = p q
-wants_file p v = false
-
-active-find : (p : Taking → Bool) (ws : List In) → active_of p ws ≡ find (has_buffer p) ws
-active-find p [] = refl
-active-find p (Fetching g ∷ ws) = ap (λ (o : Option In). if p g then Some (Fetching g) else o) (active-find p ws)
-active-find p (Draining g ∷ ws) = ap (λ (o : Option In). if p g then Some (Draining g) else o) (active-find p ws)
-active-find p (Asking g ∷ ws) = active-find p ws
-active-find p (In_done i a n ∷ ws) = active-find p ws
-active-find p (In_failed i a n ∷ ws) = active-find p ws
-
-asking-find : (p : Asked → Bool) (ws : List In) → asking_of p ws ≡ None → find (wants_file p) ws ≡ None
-asking-find p [] q = refl
-asking-find p (Asking g ∷ ws) q =
-    either (λ (o : Option Asked). o ≡ None → (if p g then Some (Asking g) else find (wants_file p) ws) ≡ None) (p g) (Some g) (asking_of p ws)
-    (λ r s. absurd (none_some None refl (sym s))) (λ r s. rw r (asking-find p ws s)) q
-asking-find p (Fetching g ∷ ws) q = asking-find p ws q
-asking-find p (Draining g ∷ ws) q = asking-find p ws q
-asking-find p (In_done i a n ∷ ws) q = asking-find p ws q
-asking-find p (In_failed i a n ∷ ws) q = asking-find p ws q
-
-pub active-none : (p : Taking → Bool) (ws : List In) (f : Taking) → active_of p ws ≡ None → Active ws f → p f ≡ false
-active-none p ws f q (inl has) = find-none (has_buffer p) ws (Fetching f) (sym (active-find p ws) ∙ q) has
-active-none p ws f q (inr has) = find-none (has_buffer p) ws (Draining f) (sym (active-find p ws) ∙ q) has
-
-pub asking-none : (p : Asked → Bool) (ws : List In) (x : Asked) → asking_of p ws ≡ None → Has (Asking x) ws → p x ≡ false
-asking-none p ws x q has = find-none (wants_file p) ws (Asking x) (asking-find p ws q) has
-
 -- ---- which kinds of message are for which wants
 
 pub data Sort : Type 0 where

@@ -8,8 +8,9 @@ use Rattle.std.proofs.lemmas.List.{take-append-drop, drop-take, take-take}
 use Rattle.std.proofs.Math.Seq.{take-append_seam}
 use Rattle.std.specs.List.{Contains}
 use Rattle.std.specs.Io.{StartsWith}
+use Rattle.std.specs.Option.{option_map}
 use Rattle.rh_safety.proofs.Ends.{IsPrefixOf, how_many, Message, Sending, Taking, Asked, Out, Open, Out_done}
-use Rattle.rh_safety.proofs.Ends.{Out_failed, In, Fetching, Draining, Asking, In_done, In_failed, Has, Pairwise, put}
+use Rattle.rh_safety.proofs.Ends.{Active, Out_failed, In, Fetching, Draining, Asking, In_done, In_failed, Has, Pairwise, put}
 use Rattle.rh_safety.proofs.Ends.{any, first, drop_first, one_more, with_id, find_open, find_active, find_asking, first_for, without_first}
 
 -- what holds of the new value and of the old ones elsewhere holds everywhere
@@ -160,62 +161,79 @@ first_is p (y ∷ xs) x q =
     either (λ z. z ≡ Some x → Has x (y ∷ xs) × (p x ≡ true)) (p y) (Some y) (first p xs)
     (λ r s. let z : y ≡ x = cc in (inl z, ap p (sym z) ∙ r)) (λ r s. let w = first_is p xs x s in (inr w.0, w.1)) q
 
-pub open_is : (p : Sending → Bool) (vs : List Out) (x : Sending) → find_open p vs ≡ Some x →
-    Has (Open x) vs × (p x ≡ true)
-open_is p [] x q = absurd (none_some None refl q)
-open_is p (Open y ∷ vs) x q =
-    either (λ z. z ≡ Some x → Has (Open x) (Open y ∷ vs) × (p x ≡ true)) (p y) (Some y) (find_open p vs)
-    (λ r s. let z : y ≡ x = cc in (inl (ap Open z), ap p (sym z) ∙ r)) (λ r s. let w = open_is p vs x s in
-    (inr w.0, w.1)) q
-open_is p (Out_done i n ∷ vs) x q = let w = open_is p vs x q in (inr w.0, w.1)
-open_is p (Out_failed i n ∷ vs) x q = let w = open_is p vs x q in (inr w.0, w.1)
+-- nothing that passes is there, where none was found
+first_none : {A : Type 0} (p : A → Bool) (xs : List A) (x : A) → first p xs ≡ None → Has x xs → p x ≡ false
+first_none p [] x q has = absurd has
+first_none p (y ∷ xs) x q has =
+    either (λ z. z ≡ None → p x ≡ false) (p y) (Some y) (first p xs) (λ r s. absurd (none_some None refl (sym s)))
+    (λ r s. elim has as (λ _. p x ≡ false) [ inl e ↦ ap p (sym e) ∙ r | inr k ↦ first_none p xs x s k ]) q
 
-pub open_none : (p : Sending → Bool) (vs : List Out) (x : Sending) → find_open p vs ≡ None → Has (Open x) vs →
-    p x ≡ false
-open_none p [] x q h = absurd h
-open_none p (Open y ∷ vs) x q h =
-    either (λ z. z ≡ None → p x ≡ false) (p y) (Some y) (find_open p vs)
-    (λ r s. absurd (none_some None refl (sym s)))
-    (λ r s. elim h [ inl e ↦ let z : y ≡ x = cc in ap p (sym z) ∙ r | inr k ↦ open_none p vs x s k ]) q
-open_none p (Out_done i n ∷ vs) x q (inl e) = absurd (let z : Out_done i n ≡ Open x = e in (cc))
-open_none p (Out_done i n ∷ vs) x q (inr h) = open_none p vs x q h
-open_none p (Out_failed i n ∷ vs) x q (inl e) = absurd (let z : Out_failed i n ≡ Open x = e in (cc))
-open_none p (Out_failed i n ∷ vs) x q (inr h) = open_none p vs x q h
+-- the three ways to look for a record, as the first that passes a test
+abbrev opens : (Sending → Bool) → Out → Bool
+opens p (Open x) = p x
+opens p v = false
+
+abbrev buffers : (Taking → Bool) → In → Bool
+buffers p (Fetching f) = p f
+buffers p (Draining f) = p f
+buffers p w = false
+
+abbrev asks : (Asked → Bool) → In → Bool
+asks p (Asking q) = p q
+asks p w = false
+
+open_first : (p : Sending → Bool) (vs : List Out) → option_map Open (find_open p vs) ≡ first (opens p) vs
+open_first p [] = refl
+open_first p (Open y ∷ vs) = elim (p y) as (λ b. option_map Open (if b then Some y else find_open p vs) ≡
+    (if b then Some (Open y) else first (opens p) vs)) [ true ↦ refl | false ↦ open_first p vs ]
+open_first p (Out_done i n ∷ vs) = open_first p vs
+open_first p (Out_failed i n ∷ vs) = open_first p vs
+
+active_first : (p : Taking → Bool) (ws : List In) → find_active p ws ≡ first (buffers p) ws
+active_first p [] = refl
+active_first p (Fetching y ∷ ws) = ap (λ (o : Option In). if p y then Some (Fetching y) else o) (active_first p ws)
+active_first p (Draining y ∷ ws) = ap (λ (o : Option In). if p y then Some (Draining y) else o) (active_first p ws)
+active_first p (Asking y ∷ ws) = active_first p ws
+active_first p (In_done i a n ∷ ws) = active_first p ws
+active_first p (In_failed i a n ∷ ws) = active_first p ws
+
+asking_first : (p : Asked → Bool) (ws : List In) → option_map Asking (find_asking p ws) ≡ first (asks p) ws
+asking_first p [] = refl
+asking_first p (Asking y ∷ ws) = elim (p y) as (λ b. option_map Asking (if b then Some y else find_asking p ws) ≡
+    (if b then Some (Asking y) else first (asks p) ws)) [ true ↦ refl | false ↦ asking_first p ws ]
+asking_first p (Fetching y ∷ ws) = asking_first p ws
+asking_first p (Draining y ∷ ws) = asking_first p ws
+asking_first p (In_done i a n ∷ ws) = asking_first p ws
+asking_first p (In_failed i a n ∷ ws) = asking_first p ws
+
+pub open_is : (p : Sending → Bool) (vs : List Out) (x : Sending) → find_open p vs ≡ Some x → Has (Open x) vs × (p x ≡ true)
+open_is p vs x q = first_is (opens p) vs (Open x) (sym (open_first p vs) ∙ ap (option_map Open) q)
+
+pub open_none : (p : Sending → Bool) (vs : List Out) (x : Sending) → find_open p vs ≡ None → Has (Open x) vs → p x ≡ false
+open_none p vs x q has = first_none (opens p) vs (Open x) (sym (open_first p vs) ∙ ap (option_map Open) q) has
+
+pub asking_is : (p : Asked → Bool) (ws : List In) (x : Asked) → find_asking p ws ≡ Some x → Has (Asking x) ws × (p x ≡ true)
+asking_is p ws x q = first_is (asks p) ws (Asking x) (sym (asking_first p ws) ∙ ap (option_map Asking) q)
+
+pub asking_none : (p : Asked → Bool) (ws : List In) (x : Asked) → find_asking p ws ≡ None → Has (Asking x) ws → p x ≡ false
+asking_none p ws x q has = first_none (asks p) ws (Asking x) (sym (asking_first p ws) ∙ ap (option_map Asking) q) has
 
 -- a record that holds a buffer and meets the test
 pub data FoundActive (p : Taking → Bool) (ws : List In) : In → Type 0 where
   fetches : (t : Taking) → Has (Fetching t) ws → p t ≡ true → FoundActive p ws (Fetching t)
   drains : (t : Taking) → Has (Draining t) ws → p t ≡ true → FoundActive p ws (Draining t)
 
-later_active : (p : Taking → Bool) (y : In) (ws : List In) (w : In) → FoundActive p ws w → FoundActive p (y ∷ ws) w
-later_active p y ws w (fetches t h q) = fetches t (inr h) q
-later_active p y ws w (drains t h q) = drains t (inr h) q
-
 pub active_is : (p : Taking → Bool) (ws : List In) (w : In) → find_active p ws ≡ Some w → FoundActive p ws w
-active_is p [] w q = absurd (none_some None refl q)
-active_is p (Fetching y ∷ ws) w q =
-    either (λ z. z ≡ Some w → FoundActive p (Fetching y ∷ ws) w) (p y) (Some (Fetching y)) (find_active p ws)
-    (λ r s. let z : Fetching y ≡ w = cc in subst (λ v. FoundActive p (Fetching y ∷ ws) v) z (fetches y (inl refl) r))
-    (λ r s. later_active p (Fetching y) ws w (active_is p ws w s)) q
-active_is p (Draining y ∷ ws) w q =
-    either (λ z. z ≡ Some w → FoundActive p (Draining y ∷ ws) w) (p y) (Some (Draining y)) (find_active p ws)
-    (λ r s. let z : Draining y ≡ w = cc in subst (λ v. FoundActive p (Draining y ∷ ws) v) z (drains y (inl refl) r))
-    (λ r s. later_active p (Draining y) ws w (active_is p ws w s)) q
-active_is p (Asking y ∷ ws) w q = later_active p (Asking y) ws w (active_is p ws w q)
-active_is p (In_done i a n ∷ ws) w q = later_active p (In_done i a n) ws w (active_is p ws w q)
-active_is p (In_failed i a n ∷ ws) w q = later_active p (In_failed i a n) ws w (active_is p ws w q)
+active_is p ws w q = let z = first_is (buffers p) ws w (sym (active_first p ws) ∙ q) in by w z.0 z.1
+  where
+    by : (w : In) → Has w ws → buffers p w ≡ true → FoundActive p ws w
+    by (Fetching y) has e = fetches y has e
+    by (Draining y) has e = drains y has e
+    by _ has e = absurd cc
 
-pub asking_is : (p : Asked → Bool) (ws : List In) (x : Asked) → find_asking p ws ≡ Some x →
-    Has (Asking x) ws × (p x ≡ true)
-asking_is p [] x q = absurd (none_some None refl q)
-asking_is p (Fetching y ∷ ws) x q = let w = asking_is p ws x q in (inr w.0, w.1)
-asking_is p (Draining y ∷ ws) x q = let w = asking_is p ws x q in (inr w.0, w.1)
-asking_is p (Asking y ∷ ws) x q =
-    either (λ z. z ≡ Some x → Has (Asking x) (Asking y ∷ ws) × (p x ≡ true)) (p y) (Some y) (find_asking p ws)
-    (λ r s. let z : y ≡ x = cc in (inl (ap Asking z), ap p (sym z) ∙ r)) (λ r s. let w = asking_is p ws x s in
-    (inr w.0, w.1)) q
-asking_is p (In_done i a n ∷ ws) x q = let w = asking_is p ws x q in (inr w.0, w.1)
-asking_is p (In_failed i a n ∷ ws) x q = let w = asking_is p ws x q in (inr w.0, w.1)
+pub active_none : (p : Taking → Bool) (ws : List In) (f : Taking) → find_active p ws ≡ None → Active ws f → p f ≡ false
+active_none p ws f q (inl has) = first_none (buffers p) ws (Fetching f) (sym (active_first p ws) ∙ q) has
+active_none p ws f q (inr has) = first_none (buffers p) ws (Draining f) (sym (active_first p ws) ∙ q) has
 
 -- pairs of a list
 pub pair_append : {A : Type 0} (R : A → A → Type 0) (xs ys : List A) → Pairwise R xs → Pairwise R ys →

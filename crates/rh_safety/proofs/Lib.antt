@@ -48,6 +48,7 @@ pub mod OwnEdits
 pub mod SeenKeys
 pub mod Alternations
 pub mod Actions
+pub mod Acts
 pub mod SeenRanges
 pub mod SeenBuffers
 pub mod RecordLaws
