@@ -1,22 +1,14 @@
 -- Each message that a poll handles leaves the blocks of the task that polls accounted for.
-use Rattle.rh_laws.proofs.Common.{◌≡◌, ◌≢◌, ℕ, ◌+◌, ◌-◌, ◌≤◌, Bool, List, length, take, drop, Option, Some, None, refl, sym, ap, ◌∙◌, subst, ◌⊎◌, inl}
-use Rattle.rh_laws.proofs.Common.{inr, arith, length-take, min, IfSome, eqb_tells, Body, EventCode, User, Recorded, Acknowledge, Letter, Outcome, Asked}
-use Rattle.rh_laws.proofs.Common.{Sending, Taking, Incoming, Outgoing, Transmit, Part, SaveFile, SendAction, Claim, Append, Fetch, Next, LoadFile}
-use Rattle.rh_laws.proofs.Common.{TakeAction, Granted, Rise, Split, Flex, Slot, Parcel, buffer_at, written_in, Post, asking_of, in_id, is_buffer_of}
-use Rattle.rh_laws.proofs.Common.{with_id, Desk, Task, Scrap, next_ref, send_letter, task_at, with_delivered, with_post, with_sending, with_slot}
-use Rattle.rh_laws.proofs.Common.{with_taking, with_task, Handled, ignored, fail_sending, perform_send, save_scrap, send_with, transmit, accept}
-use Rattle.rh_laws.proofs.Common.{ack_back, append, appended, ask, taking_ended, fetch_more, load_file, loaded, perform_take, take_with, took}
-use Rattle.rh_laws.proofs.Common.{without_buffer, came, came_back, handled, OnGrant, chosen, granted, granted-both, granted-past, granted-then}
-use Rattle.rh_laws.proofs.Common.{granted-with, or_else-keeps, Has, asking_is, buffers_of, task_of, any-grant}
-use Rattle.rh_defs.specs.declared.message.Body.TheVariants as body
+use Rattle.rh_laws.proofs.Common.{Active, Body, Desk, EventCode, Handled, Has, Incoming, Letter, List, None, Ok, OnGrant, Option, Outcome, Outgoing, Parcel}
+use Rattle.rh_laws.proofs.Common.{Part, Post, Rise, Slot, Some, Taking, Task, ap, appended, arith, buffer_at, buffers_of, drop, eqb_tells, granted}
+use Rattle.rh_laws.proofs.Common.{granted-then, handled, in_id, inl, inr, is_buffer_of, length, length-take, min, next_ref, refl, send_letter, subst, sym, take}
+use Rattle.rh_laws.proofs.Common.{taking_ended, task_at, task_of, with_delivered, with_id, with_post, with_sending, with_slot, with_taking, with_task}
+use Rattle.rh_laws.proofs.Common.{without_buffer, written_in, ℕ, ◌+◌, ◌-◌, ◌∙◌, ◌≡◌, ◌≢◌, ◌≤◌}
 use Rattle.rh_defs.specs.declared.transfer.Incoming.TheVariants as incoming
-use Rattle.rh_defs.specs.declared.transfer_action.SendAction.TheVariants as send_action
-use Rattle.rh_defs.specs.declared.transfer_action.TakeAction.TheVariants as take_action
-use Rattle.rh_defs.specs.declared.transfer_action.Next.TheVariants as next_action
-use Rattle.rh_defs.specs.Sender as sender
 use Rattle.rh_defs.specs.Receiver as receiver
-use Rattle.rh_defs.proofs.Chains.{refused}
-use Rattle.rh_safety.proofs.Actions.{bounce-does, load-does, save-does, transmit-does}
+use Rattle.rh_defs.proofs.Chains.{grant-holds}
+use Rattle.rh_safety.proofs.Acts.{Act, abandons, asks, claim_of, claims, fails, finishes, gives_up, handled-acts, loads, loads_only, part_of, saves, sends}
+use Rattle.rh_safety.proofs.Acts.{skips, takes_full, takes_last, takes_some}
 use Rattle.rh_safety.proofs.SeenBlocks.{added_still, alloc_is, changed_still, extend_is, put_is}
 use Rattle.rh_safety.proofs.SeenHeaps.{claim_is, claimed_free, claimed_map}
 use Rattle.rh_laws.proofs.Frames.{edit-other, edit-own}
@@ -94,11 +86,6 @@ stands-ends {h} {d} {s} {ws} f edit w =
     stands-takes edit (stands-own (λ (t : Task). record t { slot = without_buffer f.buffer t.slot }) (λ y. refl)
     (without_buffer f.buffer s) ws (λ y q. ap (without_buffer f.buffer) q) (λ y q. q) w)
 
--- what follows of a grant
-grant-mono : {A : Type 0} {P Q : A → Type 0} {r : Granted A} → ((x : A) → P x → Q x) → OnGrant P r → OnGrant Q r
-grant-mono f (granted {x = x} p) = granted (f x p)
-grant-mono f refused = refused
-
 -- no more bytes go out than were asked for
 part-fits : (amount rest : ℕ) (bytes : List ℕ) → length (take (min amount rest) bytes) ≤ amount
 part-fits amount rest bytes = simp length-take (omega arith)
@@ -148,12 +135,12 @@ module _ (c : ℕ → Option ℕ) (t : Task) (next : ℕ) (up : Rise in_id 0 nex
   abbrev K : Handled → Type 0
   K = Keeps c h
 
-  abbrev HasBuffer : Taking → Type 0
-  HasBuffer f = Has (incoming.Fetching f) t.taking ⊎ Has (incoming.Draining f) t.taking
-
   -- a letter
-  letter-kept : {d : Desk} (l : Letter) → Kept c h d t.taking → OnGrant (λ e. Kept c h e t.taking) (send_letter l d)
-  letter-kept {d} l g = grant-mono (λ e w. record { slot = g.slot; stands = w; all = g.all }) (stands-letter l g.stands)
+  letter-kept : {d e : Desk} (l : Letter) → send_letter l d ≡ Ok e → Kept c h d t.taking → Kept c h e t.taking
+  letter-kept l q g = record { slot = g.slot; stands = grant-holds (stands-letter l g.stands) q; all = g.all }
+
+  outs-keep : (d : Desk) → Kept c h d t.taking → (edit : List Outgoing → List Outgoing) (o : Outcome) → K (with_sending h edit d, o)
+  outs-keep d g edit o = record { records = t.taking; desk = record { slot = g.slot; stands = stands-sends edit g.stands; all = g.all } }
 
   -- a record written anew, which keeps its buffer or has none
   renewed-after : (d : Desk) → Kept c h d t.taking → (w v : Incoming) → Has w t.taking →
@@ -168,7 +155,7 @@ module _ (c : ℕ → Option ℕ) (t : Task) (next : ℕ) (up : Rise in_id 0 nex
   }
 
   -- a record that ends
-  ended-after : (d : Desk) → Kept c h d t.taking → (f : Taking) (v : Incoming) → HasBuffer f → ((p : ℕ) → one p v ≡ 0) → (o : Outcome) →
+  ended-after : (d : Desk) → Kept c h d t.taking → (f : Taking) (v : Incoming) → Active t.taking f → ((p : ℕ) → one p v ≡ 0) → (o : Outcome) →
       K (taking_ended h f (λ ws. with_id in_id f.id v ws) d, o)
   ended-after d g f v has none o = record {
     records = with_id in_id f.id v t.taking;
@@ -182,194 +169,61 @@ module _ (c : ℕ → Option ℕ) (t : Task) (next : ℕ) (up : Rise in_id 0 nex
     };
   }
 
-  module _ (d : Desk) (g : Kept c h d t.taking) where
-    ignored-keeps : K (ignored d)
-    ignored-keeps = record { records = t.taking; desk = g }
+  module _ (d : Desk) (g : Kept c h d t.taking) (m : Parcel) where
+    longer : {e : Desk} (k : ℕ) (bytes : List ℕ) → appended d t k bytes ≡ Ok e → Kept c h e t.taking
+    unfolding appended
+    longer k bytes q = grant-holds kept q
+      where
+        kept : OnGrant (λ e. Kept c h e t.taking) (appended d t k bytes)
+        kept =
+            granted-then _ _ λ document found. granted-then _ _ λ longer e. granted-then _ _ λ s f.
+            granted (record {
+              slot = s;
+              stands = stands-slot s g.stands;
+              all = same-accounts (λ i. changed_still (put_is k _ bytes longer s f) i ∙ changed_still (extend_is _ k _ t.slot longer e) i) all;
+            })
 
-    outs-kept : (edit : List Outgoing → List Outgoing) → Kept c h (with_sending h edit d) t.taking
-    outs-kept edit = record { slot = g.slot; stands = stands-sends edit g.stands; all = g.all }
-
-    outs-keep : (edit : List Outgoing → List Outgoing) (o : Outcome) → K (with_sending h edit d, o)
-    outs-keep edit o = record { records = t.taking; desk = outs-kept edit }
-
-    renewed-keeps : (w v : Incoming) → Has w t.taking → ((p : ℕ) → is_buffer_of p v ≡ is_buffer_of p w) → (o : Outcome) →
-        K (with_taking h (λ ws. with_id in_id (in_id w) v ws) d, o)
-    renewed-keeps w v has same o = renewed-after d g w v has same o
-
-    ended-keeps : (f : Taking) (v : Incoming) → HasBuffer f → ((p : ℕ) → one p v ≡ 0) → (o : Outcome) →
-        K (taking_ended h f (λ ws. with_id in_id f.id v ws) d, o)
-    ended-keeps f v has none o = ended-after d g f v has none o
-
-    failed-keeps : (f : Taking) → HasBuffer f → (o : Outcome) → K (taking_ended h f (receiver.taking_failed f) d, o)
-    failed-keeps f has o = ended-keeps f (incoming.Failed f.id f.anchor f.count) has (λ p. refl) o
-
-    transmit-keeps : (a : Transmit) (source : Split Flex) → OnGrant K (transmit d t a source)
-    unfolding transmit
-    transmit-keeps a source =
-        granted-then _ _ λ r live. granted-past _ _ _ λ reach. granted-with _ (letter-kept _ g) λ sent w.
-        let p : Part = sender.next_part a (length source.here.bytes) in
+    act-keeps : {back : _} {b : Body} {x : Handled} → Act d t m back b x → K x
+    act-keeps (skips none) = record { records = t.taking; desk = g }
+    act-keeps (fails x o it) = outs-keep d g _ _
+    act-keeps (sends {buffer = buffer} {n = n} x source r sent it w) =
+        let p : Part = part_of d t m buffer n x source in
         let new : List ℕ = take p.n (drop p.offset source.here.bytes) in
-        let few : length new ≤ a.room = part-fits a.room (length source.here.bytes - p.offset) (drop p.offset source.here.bytes) in
-        let k = written-kept r.handle (λ s. written_in a.buffer new (buffer_at a.buffer a.room s) s)
-        (λ s p. written-sizes a.buffer a.room s new few p) w in
-        granted (record {
-          records = t.taking;
-          desk = record { slot = k.slot; stands = stands-sends _ k.stands; all = k.all };
-        })
-
-    fail_sending-keeps : (v : Option Sending) → K (fail_sending d t v)
-    unfolding fail_sending
-    fail_sending-keeps None = ignored-keeps
-    fail_sending-keeps (Some x) = outs-keep _ _
-
-    accept-keeps : (a : Claim) → OnGrant K (accept d t a)
-    unfolding accept
-    accept-keeps a =
-        granted-then _ _ λ k free. granted-then _ _ λ b e. granted-then _ _ λ p f.
+        let few : length new ≤ n = part-fits n (length source.here.bytes - p.offset) (drop p.offset source.here.bytes) in
+        outs-keep _ (written-kept r.handle (λ s. written_in buffer new (buffer_at buffer n s) s) (λ s p. written-sizes buffer n s new few p)
+        (letter-kept _ w.letter g)) _ _
+    act-keeps (saves x source sent it there none l) =
+        outs-keep (record sent { scrap = Some _ }) (kept-as (letter-kept _ l (kept-as g _ refl)) _ refl) _ _
+    act-keeps (finishes x source it there) = outs-keep d g _ _
+    act-keeps (claims k b p sent few free e f l) =
         let w = claim_is _ t.buffer t.slot b e in
         let v = alloc_is _ k 0 b.0 p f in
-        granted-with _ (stands-letter _ (stands-slot p.0 g.stands)) λ sent st.
-        granted (record {
-          records = receiver.taking_claimed a k b.1 (next_ref d) t.taking;
+        record {
+          records = receiver.taking_claimed (claim_of d t m) k b.1 (next_ref d) t.taking;
           desk = record {
             slot = p.0;
-            stands = stands-takes (receiver.taking_claimed a k b.1 (next_ref d)) st;
+            stands = stands-takes (receiver.taking_claimed (claim_of d t m) k b.1 (next_ref d)) (grant-holds (stands-letter _ (stands-slot p.0 g.stands)) l);
             all = same-accounts (λ i. added_still k _ b.0 p.0 v i ∙ claimed_map w i)
-                (begun-accounts (receiver.new_taking a k b.1 (next_ref d)) _ (claimed_free w) all);
+                (begun-accounts (receiver.new_taking (claim_of d t m) k b.1 (next_ref d)) _ (claimed_free w) all);
           };
-        })
+        }
+    act-keeps (gives_up f o it) = ended-after d g f (incoming.Failed f.id f.anchor f.count) it.has (λ p. refl) o
+    act-keeps (takes_last {n = n} f e it l less) =
+        ended-after e (longer _ _ l) f (incoming.Done f.id f.anchor (f.count + n)) (inl it.has) (λ p. refl) _
+    act-keeps (takes_some {n = n} f e o it l) =
+        ended-after e (longer _ _ l) f (incoming.Failed f.id f.anchor (f.count + n)) (inl it.has) (λ p. refl) o
+    act-keeps (takes_full {n = n} f e sent it l full s) =
+        renewed-after sent (letter-kept _ s (longer _ _ l)) (incoming.Fetching f)
+        (incoming.Fetching (record f { count = f.count + n; fetch = next_ref e })) it.has (λ p. refl) _
+    act-keeps (asks f sent it none l) =
+        ended-after sent (letter-kept _ l g) f (incoming.Asking (receiver.asked_by f (next_ref d))) (inl it.has) (λ p. refl) _
+    act-keeps (abandons q o it) = renewed-after d g (incoming.Asking q) (incoming.Failed q.id q.anchor 0) it.has (λ p. refl) o
+    act-keeps (loads_only q file e o it w) =
+        renewed-after (record e { scrap = None }) (kept-as (longer _ _ w.longer_is) _ refl) (incoming.Asking q)
+        (incoming.Failed q.id q.anchor (length file.bytes)) it.has (λ p. refl) o
+    act-keeps (loads q file e sent it w l) =
+        renewed-after sent (letter-kept _ l (kept-as (longer _ _ w.longer_is) _ refl)) (incoming.Asking q)
+        (incoming.Done q.id q.anchor (length file.bytes)) it.has (λ p. refl) _
 
-    appended-kept : (k : ℕ) (bytes : List ℕ) → OnGrant (λ e. Kept c h e t.taking) (appended d t k bytes)
-    unfolding appended
-    appended-kept k bytes =
-        granted-then _ _ λ document found. granted-then _ _ λ longer e. granted-then _ _ λ s f.
-        granted (record {
-          slot = s;
-          stands = stands-slot s g.stands;
-          all = same-accounts (λ i. changed_still (put_is k _ bytes longer s f) i ∙ changed_still (extend_is _ k _ t.slot longer e) i) all;
-        })
-
-    fetch_more-keeps : (a : Append) → Has (incoming.Fetching a.transfer) t.taking → (b : Fetch) → OnGrant K (fetch_more d t a b)
-    unfolding fetch_more
-    fetch_more-keeps a has b =
-        granted-with _ (letter-kept _ g) λ sent w.
-        granted (renewed-after sent w (incoming.Fetching a.transfer)
-        (incoming.Fetching (record a.transfer { count = a.transfer.count + a.n; fetch = next_ref d })) has (λ p. refl) _)
-
-    took-keeps : (a : Append) → Has (incoming.Fetching a.transfer) t.taking → (b : Next) → K (took d t a b)
-    unfolding took
-    took-keeps a has next_action.Finish =
-        ended-keeps a.transfer (incoming.Done a.transfer.id a.transfer.anchor (a.transfer.count + a.n)) (inl has) (λ p. refl) _
-    took-keeps a has (next_action.Fetch b) =
-        or_else-keeps K _ (fetch_more-keeps a has b)
-        (λ refusal. ended-keeps a.transfer (incoming.Failed a.transfer.id a.transfer.anchor (a.transfer.count + a.n)) (inl has) (λ p. refl) _)
-
-    ask-keeps : (f : Taking) → HasBuffer f → OnGrant K (ask d t f)
-    unfolding ask
-    ask-keeps f has =
-        granted-with _ (letter-kept _ g) λ sent w.
-        granted (ended-after sent w f (incoming.Asking (receiver.asked_by f (next_ref d))) has (λ p. refl) _)
-
-    ack_back-keeps : (v : Option Asked) → ((q : Asked) → v ≡ Some q → Has (incoming.Asking q) t.taking) → K (ack_back d t v)
-    unfolding ack_back
-    ack_back-keeps None asks = ignored-keeps
-    ack_back-keeps (Some q) asks = renewed-keeps (incoming.Asking q) (incoming.Failed q.id q.anchor 0) (asks q refl) (λ p. refl) _
-
-    loaded-keeps : (a : LoadFile) → Has (incoming.Asking a.transfer) t.taking → (n : ℕ) → K (loaded d t a n)
-    unfolding loaded
-    loaded-keeps a has n =
-        let q : Asked = a.transfer in
-        or_else-keeps K _
-        (granted-with _ (letter-kept _ g) λ sent w.
-        granted (renewed-after sent w (incoming.Asking q) (incoming.Done q.id q.anchor n) has (λ p. refl) _))
-        (λ refusal. renewed-keeps (incoming.Asking q) (incoming.Failed q.id q.anchor n) has (λ p. refl) _)
-
-  -- the record of an action is one of the task's
-  abbrev IsOf : TakeAction → Type 0
-  IsOf (take_action.Claim a) = Unit {0}
-  IsOf (take_action.Append a) = Has (incoming.Fetching a.transfer) t.taking
-  IsOf (take_action.AskForFile f) = Has (incoming.Fetching f) t.taking
-  IsOf (take_action.LoadFile a) = Has (incoming.Asking a.transfer) t.taking
-  IsOf (take_action.Release a) = HasBuffer a.transfer
-
-  module _ (d : Desk) (g : Kept c h d t.taking) where
-    save_scrap-keeps : (a : SaveFile) (source : Split Flex) → OnGrant K (save_scrap d t a source)
-    unfolding save_scrap
-    save_scrap-keeps a source =
-        granted-past _ _ _ λ busy. granted-both _ (any-grant _) λ y u. granted-past _ _ _ λ room.
-        granted-with _ (letter-kept _ (kept-as g _ refl)) λ sent w.
-        granted (outs-keep (record sent { scrap = _ }) (kept-as w _ refl) _ _)
-
-    send_with-keeps : (a : SendAction) (source : Split Flex) → OnGrant K (send_with d t a source)
-    unfolding send_with
-    send_with-keeps (send_action.Transmit a) source = transmit-keeps d g a source
-    send_with-keeps (send_action.SaveFile a) source = save_scrap-keeps a source
-    send_with-keeps (send_action.Finish x) source = granted (outs-keep d g _ _)
-
-    perform_send-keeps : (v : Option SendAction) → K (perform_send d t v)
-    unfolding perform_send
-    perform_send-keeps None = ignored-keeps d g
-    perform_send-keeps (Some a) =
-        or_else-keeps K _ (granted-then _ _ λ source found. send_with-keeps a source) (λ refusal. outs-keep d g _ _)
-
-    append-keeps : (a : Append) → Has (incoming.Fetching a.transfer) t.taking → K (append d t a)
-    unfolding append
-    append-keeps a has =
-        or_else-keeps K _
-        (granted-with _ (appended-kept d g a.transfer.anchor _) λ longer w. granted (took-keeps longer w a has a.next))
-        (λ refusal. failed-keeps d g a.transfer (inl has) _)
-
-    load_file-keeps : (a : LoadFile) → Has (incoming.Asking a.transfer) t.taking → (v : Option Scrap) → K (load_file d t a v)
-    unfolding load_file
-    load_file-keeps a has None = ignored-keeps d g
-    load_file-keeps a has (Some file) =
-        let q : Asked = a.transfer in
-        chosen K _ _ _
-        (or_else-keeps K _
-        (granted-with _ (appended-kept d g q.anchor file.bytes) λ longer w.
-        granted (loaded-keeps (record longer { scrap = None }) (kept-as w _ refl) a has (length file.bytes)))
-        (λ refusal. renewed-keeps d g (incoming.Asking q) (incoming.Failed q.id q.anchor 0) has (λ p. refl) _))
-        (ignored-keeps d g)
-
-    take_with-keeps : (a : TakeAction) → IsOf a → K (take_with d t a)
-    unfolding take_with
-    take_with-keeps (take_action.Claim a) is = or_else-keeps K _ (accept-keeps d g a) (λ refusal. ignored-keeps d g)
-    take_with-keeps (take_action.Append a) is = append-keeps a is
-    take_with-keeps (take_action.AskForFile f) is =
-        or_else-keeps K _ (ask-keeps d g f (inl is)) (λ refusal. failed-keeps d g f (inl is) _)
-    take_with-keeps (take_action.LoadFile a) is = load_file-keeps a is d.scrap
-    take_with-keeps (take_action.Release a) is = failed-keeps d g a.transfer is _
-
-    perform_take-keeps : (v : Option TakeAction) → IfSome v IsOf → K (perform_take d t v)
-    unfolding perform_take
-    perform_take-keeps None is = ignored-keeps d g
-    perform_take-keeps (Some a) is = take_with-keeps a is
-
-    asking-found : (test : Asked → Bool) (q : Asked) → asking_of test t.taking ≡ Some q → Has (incoming.Asking q) t.taking
-    asking-found test q e = (asking_is test t.taking q e).0
-
-    came-keeps : (m : Parcel) (b : Body) → K (came d t m b)
-    unfolding came
-    came-keeps m (body.DataSave file) = perform_take-keeps _ (save-does IsOf t.taking _ _ _ tt)
-    came-keeps m (body.DataSaveAck file) = perform_send-keeps _
-    came-keeps m (body.DataLoad file) = perform_take-keeps _ (load-does IsOf t.taking _ _ _ (λ q has p. has))
-    came-keeps m (body.DataLoadAck file) = perform_send-keeps _
-    came-keeps m (body.RamFetch buffer amount) = chosen K _ _ _ (ignored-keeps d g) (perform_send-keeps _)
-    came-keeps m (body.RamTransmit buffer n) =
-        perform_take-keeps _ (transmit-does IsOf t.taking _ _ _ _ _ _ (λ f has. has) (λ f e has. has))
-
-    came_back-keeps : (m : Parcel) (b : Body) → K (came_back d t m b)
-    unfolding came_back
-    came_back-keeps m (body.DataSave file) = fail_sending-keeps d g _
-    came_back-keeps m (body.DataSaveAck file) = ack_back-keeps d g _ (asking-found _)
-    came_back-keeps m (body.DataLoad file) = fail_sending-keeps d g _
-    came_back-keeps m (body.DataLoadAck file) = ignored-keeps d g
-    came_back-keeps m (body.RamFetch buffer amount) =
-        perform_take-keeps _ (bounce-does IsOf t.taking _ (λ f has. has) (λ f e has. has))
-    came_back-keeps m (body.RamTransmit buffer n) = fail_sending-keeps d g _
-
-    pub handled-keeps : (m : Parcel) (code : EventCode) → Keeps c t.handle (handled d t m code)
-    unfolding handled
-    handled-keeps m User = came-keeps m m.message.body
-    handled-keeps m Recorded = came-keeps m m.message.body
-    handled-keeps m Acknowledge = came_back-keeps m m.message.body
+    pub handled-keeps : (code : EventCode) → Keeps c t.handle (handled d t m code)
+    handled-keeps code = act-keeps (handled-acts d t m code)

@@ -1,5 +1,5 @@
 -- What holds of a run: each record, each DataSave that is queued and each that was sent last agree with what was offered.
-use Rattle.rh_laws.proofs.Common.{◌≡◌, ℕ, ◌+◌, ◌≤◌, Bool, List, [], ◌∷◌, Option, Some, None, refl, sym, subst, inl, inr, arith, ◌==◌, nat_le, AllByRecursion}
+use Rattle.rh_laws.proofs.Common.{◌≡◌, ℕ, ◌+◌, ◌≤◌, Bool, false, true, List, [], ◌∷◌, Option, Some, None, refl, sym, subst, inl, inr, arith, ◌==◌, nat_le, AllByRecursion}
 use Rattle.rh_laws.proofs.Common.{eqb_tells, Body, EventCode, User, Recorded, Acknowledge, Letter, Outgoing, Incoming, Taking, Parcel, Post, as_returned}
 use Rattle.rh_laws.proofs.Common.{in_id, out_id, with_id, Slot, Desk, Task, edit_task, free_pages, send_letter, with_delivered, with_post, with_sending}
 use Rattle.rh_laws.proofs.Common.{with_slot, with_taking, with_task, taking_ended, OnGrant, chosen, granted, granted-with, all-mono, append-all, Has, at_place}
@@ -7,6 +7,7 @@ use Rattle.rh_defs.specs.declared.message.Body.TheVariants as body
 use Rattle.rh_defs.specs.declared.transfer.Outgoing.TheVariants as outgoing
 use Rattle.rh_defs.specs.declared.transfer.Incoming.TheVariants as incoming
 use Rattle.rh_defs.specs.Records.{dropped, one_more}
+use Rattle.rh_safety.proofs.Acts.{is_back}
 use Rattle.rh_laws.specs.Addressed.{Addresses, AgreesIn, AgreesOut, From, Parties}
 use Rattle.rh_laws.proofs.Queues.{Left, sent-is}
 
@@ -22,6 +23,12 @@ abbrev pub CodeAgrees : EventCode → Type 0 → Type 0
 CodeAgrees User agrees = agrees
 CodeAgrees Recorded agrees = agrees
 CodeAgrees Acknowledge agrees = Unit {0}
+
+-- one that didn't come back
+pub code-says : (c : EventCode) {P : Type 0} → CodeAgrees c P → is_back c ≡ false → P
+code-says User p e = p
+code-says Recorded p e = p
+code-says Acknowledge p e = absurd (let z : true ≡ false = e in (cc))
 
 abbrev pub ParcelAgrees : Addresses → Parcel → Type 0
 ParcelAgrees a p = CodeAgrees p.code (BodyAgrees a p.message.from p.to p.message.my_ref p.message.body)

@@ -103,7 +103,7 @@ pub use Rattle.rh_safety.proofs.Ends.{Active, Edits, Has, Message, Offers}
 pub use Rattle.rh_safety.proofs.Invariant.{Good}
 pub use Rattle.rh_defs.proofs.Changes.{Changed, IsOnMemory, in_areas, in_made, in_module, in_nothing, in_slot}
 pub use Rattle.rh_defs.proofs.Steps.{granted-on}
-pub use Rattle.rh_safety.proofs.OwnEdits.{any-grant}
+pub use Rattle.rh_safety.proofs.Acts.{any-grant}
 pub use Rattle.rh_safety.proofs.SafetyRows.{fresh, script}
 pub use Rattle.rh_safety.proofs.SeenBlocks.{found_name, ok_is}
 pub use Rattle.rh_safety.proofs.SeenDesks.{fits}

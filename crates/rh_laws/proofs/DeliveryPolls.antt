@@ -1,23 +1,17 @@
 -- Each message that a poll handles keeps what holds of transfers and of the files that were loaded.
-use Rattle.rh_laws.proofs.Common.{◌≡◌, ℕ, ◌+◌, ◌<◌, true, List, [], ◌∷◌, length, Option, Some, None, refl, sym, ap, subst, ◌∙◌, inl, inr, arith, nat_eq}
-use Rattle.rh_laws.proofs.Common.{IfSome, AllByRecursion, eqb_tells, Refusal, Body, EventCode, User, Recorded, Acknowledge, Asked, Sending, Taking}
-use Rattle.rh_laws.proofs.Common.{Incoming, Outgoing, Transmit, Part, SaveFile, SendAction, Claim, Append, Fetch, Next, LoadFile, TakeAction, Split}
-use Rattle.rh_laws.proofs.Common.{Flex, Parcel, load_ack_letter, as_returned, in_id, with_id, Desk, Task, Scrap, next_ref, with_slot, with_task}
-use Rattle.rh_laws.proofs.Common.{Handled, fail_sending, ignored, perform_send, refused, save_scrap, send_with, transmit, accept, ack_back, append}
-use Rattle.rh_laws.proofs.Common.{appended, ask, taking_ended, fetch_more, load_file, loaded, perform_take, take_with, took, came, came_back, handled}
-use Rattle.rh_laws.proofs.Common.{OnGrant, chosen, granted, granted-both, granted-past, granted-then, granted-with, or_else-keeps, Active, Has}
-use Rattle.rh_laws.proofs.Common.{and_left, and_right, asking_is, is_equal, same_value, any-grant}
-use Rattle.rh_defs.specs.declared.message.Body.TheVariants as body
+use Rattle.rh_laws.proofs.Common.{Acknowledge, Active, AllByRecursion, Asked, Body, Desk, EventCode, Handled, Has, Incoming, Letter, List, None, Ok, OnGrant}
+use Rattle.rh_laws.proofs.Common.{Option, Outgoing, Parcel, Part, Recorded, Sending, Some, Taking, Task, User, [], and_left, and_right, ap, appended, arith}
+use Rattle.rh_laws.proofs.Common.{as_returned, chosen, eqb_tells, false, granted, granted-then, handled, in_id, inl, inr, is_equal, length, load_ack_letter}
+use Rattle.rh_laws.proofs.Common.{nat_eq, next_ref, out_id, refl, same_value, send_letter, subst, sym, taking_ended, true, with_id, with_sending}
+use Rattle.rh_laws.proofs.Common.{with_taking, with_task, ℕ, ◌+◌, ◌<◌, ◌∙◌, ◌∷◌, ◌≡◌}
+use Rattle.rh_defs.proofs.Chains.{grant-holds}
 use Rattle.rh_defs.specs.declared.transfer.Incoming.TheVariants as incoming
 use Rattle.rh_defs.specs.declared.transfer.Outgoing.TheVariants as outgoing
-use Rattle.rh_defs.specs.declared.transfer_action.SendAction.TheVariants as send_action
-use Rattle.rh_defs.specs.declared.transfer_action.TakeAction.TheVariants as take_action
-use Rattle.rh_defs.specs.declared.transfer_action.Next.TheVariants as next_action
-use Rattle.rh_defs.specs.IncomingEvents.{end_failed}
 use Rattle.rh_defs.specs.Sender as sender
 use Rattle.rh_defs.specs.Receiver as receiver
-use Rattle.rh_safety.proofs.Actions.{bounce-does, load-does, open-does, save-does, transmit-does}
-use Rattle.rh_laws.proofs.Addresses.{CodeAgrees, all-has, all-more, all-with}
+use Rattle.rh_safety.proofs.Acts.{Act, abandons, asks, claims, fails, finishes, gives_up, handled-acts, load_of, loads, loads_only, part_of, saves, sends}
+use Rattle.rh_safety.proofs.Acts.{skips, takes_full, takes_last, takes_some, transmit_of}
+use Rattle.rh_laws.proofs.Addresses.{CodeAgrees, all-has, all-more, all-with, code-says}
 use Rattle.rh_laws.proofs.Deliveries.{Agrees, Comes, Grows, HandleAgrees, InAgrees, Ins, Marks, OutAgrees, ParcelAgrees, Says, Unloaded, ended-agrees}
 use Rattle.rh_laws.proofs.Deliveries.{grows-same, ins-agree, letter-agrees, marked, ins-become, marked-agrees, marked-grows, marked-here, outs-agree}
 use Rattle.rh_laws.proofs.Deliveries.{plain-agrees, says-grows, slot-agrees, task-agrees, tasks-grow}
@@ -95,311 +89,126 @@ module _ (a : Marks) (h id : ℕ) where
       by_code Recorded low c = both low c
       by_code Acknowledge low c = tt
 
-module _ (a : Marks) (t : Task) (own : HandleAgrees a (InAgrees a) t.handle t) where
+-- ---- edits of a desk that agrees
+
+module _ (b : Marks) (h : ℕ) (e : Desk) (all : Agrees b e) where
+  out : (id : ℕ) (v : Outgoing) → OutAgrees b v → Agrees b (with_sending h (λ vs. with_id out_id id v vs) e)
+  out id v is = outs-agree h _ (λ vs old. all-with (OutAgrees b) out_id id v vs is old) e all
+
+  in_ : (id : ℕ) (w : Incoming) → InAgrees b h w → Agrees b (with_taking h (λ ws. with_id in_id id w ws) e)
+  in_ id w is = ins-agree h _ (λ ws old. all-with (InAgrees b h) in_id id w ws is old) e all
+
+  ended : (f : Taking) (w : Incoming) → InAgrees b h w → Agrees b (taking_ended h f (λ ws. with_id in_id f.id w ws) e)
+  ended f w is = ended-agrees h f _ (λ ws old. all-with (InAgrees b h) in_id f.id w ws is old) e all
+
+  posted : {sent : Desk} (l : Letter) → Says b l.from e.post.next_ref l.your_ref l.body → send_letter l e ≡ Ok sent → Agrees b sent
+  posted l is q = grant-holds (plain-agrees b l e is all) q
+
+-- ---- each message
+
+module _ (a : Marks) (t : Task) (own : HandleAgrees a (InAgrees a) t.handle t) (d : Desk) (g : Agrees a d) (past : IsPast d t) (m : Parcel) where
   abbrev h : ℕ
   h = t.handle
 
-  -- ---- records of the task
+  of-active : (f : Taking) → Active t.taking f → Unloaded a h f.id
+  of-active f (inl has) = all-has (InAgrees a h) t.taking (incoming.Fetching f) own.ins has
+  of-active f (inr has) = all-has (InAgrees a h) t.taking (incoming.Draining f) own.ins has
 
-  -- a record that has a buffer
-  fetching-agrees : (f : Taking) → Has (incoming.Fetching f) t.taking → Unloaded a h f.id
-  fetching-agrees f has = all-has (InAgrees a h) t.taking (incoming.Fetching f) own.ins has
-
-  active-agrees : (f : Taking) → Active t.taking f → Unloaded a h f.id
-  active-agrees f (inl has) = fetching-agrees f has
-  active-agrees f (inr has) = all-has (InAgrees a h) t.taking (incoming.Draining f) own.ins has
-
-  -- a record that waits for a file
-  abbrev Waits : Asked → Type 0
-  Waits q = Has (incoming.Asking q) t.taking × (a.of_ref q.ack ≡ Some q.id) × Unloaded a h q.id
-
-  -- the DataSaveAck of an action belongs to its transfer
-  abbrev ActionSays : SendAction → Type 0
-  ActionSays (send_action.Transmit c) = Unit {0}
-  ActionSays (send_action.SaveFile c) = a.of_ref c.answers ≡ Some c.transfer.id
-  ActionSays (send_action.Finish x) = Unit {0}
-
-  -- no file of an action's transfer was loaded, and the DataLoad of one belongs to its transfer
-  abbrev ActionComes : TakeAction → Type 0
-  ActionComes (take_action.Claim c) = Unloaded a h c.id
-  ActionComes (take_action.Append c) = Unloaded a h c.transfer.id
-  ActionComes (take_action.AskForFile f) = Unloaded a h f.id
-  ActionComes (take_action.LoadFile c) = Waits c.transfer × (a.of_ref c.answers ≡ Some c.transfer.id)
-  ActionComes (take_action.Release c) = Unloaded a h c.transfer.id
-
-  -- records written anew
-  abbrev AllOut : Marks → List Outgoing → Type 0
-  AllOut b vs = AllByRecursion (OutAgrees b) vs
-
-  abbrev AllIn : Marks → List Incoming → Type 0
-  AllIn b ws = AllByRecursion (InAgrees b h) ws
-
-  failed-out : (b : Marks) (x : Sending) (vs : List Outgoing) → AllOut b vs → AllOut b (sender.sending_failed x vs)
-  failed-out b x vs all = all-with (OutAgrees b) _ x.id (outgoing.Failed x.id x.count) vs tt all
-
-  loaded-out : (b : Marks) (x : Sending) (n : ℕ) (vs : List Outgoing) → AllOut b vs → AllOut b (sender.sending_loaded x n vs)
-  loaded-out b x n vs all = all-with (OutAgrees b) _ x.id (outgoing.Done x.id n) vs tt all
-
-  saved-out : (b : Marks) (c : SaveFile) (ref : ℕ) → b.of_ref ref ≡ Some c.transfer.id → (vs : List Outgoing) → AllOut b vs →
-      AllOut b (sender.saved c ref vs)
-  saved-out b c ref is vs all = all-with (OutAgrees b) _ c.transfer.id (outgoing.Open (record c.transfer { last = ref })) vs is all
-
-  sent-out : (b : Marks) (c : Transmit) (p : Part) (ref : ℕ) → b.of_ref ref ≡ Some c.transfer.id → (vs : List Outgoing) → AllOut b vs →
-      AllOut b (sender.sent c p ref vs)
-  sent-out b c p ref is vs all =
-      all-with (OutAgrees b) _ c.transfer.id (sender.after_sent c p ref) vs (chosen (OutAgrees b) p.is_last _ _ tt is) all
-
-  failed-in : (f : Taking) → Unloaded a h f.id → (n : ℕ) (ws : List Incoming) → AllIn a ws →
-      AllIn a (with_id in_id f.id (incoming.Failed f.id f.anchor n) ws)
-  failed-in f is n ws all = all-with (InAgrees a h) _ f.id (incoming.Failed f.id f.anchor n) ws is all
-
-  module _ (c : Append) (is : Unloaded a h c.transfer.id) where
-    finished-in : (ws : List Incoming) → AllIn a ws → AllIn a (receiver.finished c ws)
-    finished-in ws all =
-        all-with (InAgrees a h) _ c.transfer.id (incoming.Done c.transfer.id c.transfer.anchor (c.transfer.count + c.n)) ws tt all
-
-    fetched-in : (ref : ℕ) (ws : List Incoming) → AllIn a ws → AllIn a (receiver.fetched c ref ws)
-    fetched-in ref ws all =
-        all-with (InAgrees a h) _ c.transfer.id
-        (incoming.Fetching (record c.transfer { count = c.transfer.count + c.n; fetch = ref })) ws is all
-
-  asking-in : (b : Marks) (f : Taking) (ref : ℕ) → b.of_ref ref ≡ Some f.id → Unloaded b h f.id → (ws : List Incoming) →
-      AllIn b ws → AllIn b (receiver.asking f ref ws)
-  asking-in b f ref is apart ws all =
-      all-with (InAgrees b h) _ f.id (incoming.Asking (receiver.asked_by f ref)) ws (is, apart) all
-
-  abandoned-in : (q : Asked) → Unloaded a h q.id → (n : ℕ) (ws : List Incoming) → AllIn a ws → AllIn a (receiver.abandoned q n ws)
-  abandoned-in q is n ws all = all-with (InAgrees a h) _ q.id (incoming.Failed q.id q.anchor n) ws is all
-
-  -- ---- what is done with a message
+  of-asking : (q : Asked) → Has (incoming.Asking q) t.taking → (a.of_ref q.ack ≡ Some q.id) × Unloaded a h q.id
+  of-asking q has = all-has (InAgrees a h) t.taking (incoming.Asking q) own.ins has
 
   still : {x : Handled} → Agrees a x.0 → Keeps a x
-  still g = record { marks = a; more = grows-same a; desk = g }
+  still all = record { marks = a; more = grows-same a; desk = all }
 
-  module _ (d : Desk) (g : Agrees a d) where
-    -- where the next ref belongs to the transfer from then on
-    abbrev next_of : ℕ → Marks
-    next_of id = marked a (next_ref d) (Some id)
+  -- where the next ref belongs to the transfer from then on
+  abbrev next_of : ℕ → Marks
+  next_of id = marked a (next_ref d) (Some id)
 
-    next-more : (id : ℕ) → Grows a (next_of id)
-    next-more id = marked-grows a (next_ref d) (Some id) (g.born (next_ref d) (omega arith))
+  next-more : (id : ℕ) → Grows a (next_of id)
+  next-more id = marked-grows a (next_ref d) (Some id) (g.born (next_ref d) (omega arith))
 
-    next-is : (id : ℕ) → (next_of id).of_ref (next_ref d) ≡ Some id
-    next-is id = marked-here a (next_ref d) (Some id)
+  next-is : (id : ℕ) → (next_of id).of_ref (next_ref d) ≡ Some id
+  next-is id = marked-here a (next_ref d) (Some id)
 
-    marks : {x : Handled} (id : ℕ) → Agrees (next_of id) x.0 → Keeps a x
-    marks id all = record { marks = next_of id; more = next-more id; desk = all }
+  marks : {x : Handled} (id : ℕ) → Agrees (next_of id) x.0 → Keeps a x
+  marks id all = record { marks = next_of id; more = next-more id; desk = all }
 
-    ignored-keeps : Keeps a (ignored d)
-    ignored-keeps = still g
+  -- the document with more bytes, and the same post
+  record IsLonger (e : Desk) : Type 0 where
+    desk : Agrees a e
+    post : e.post ≡ d.post
 
-    refused-keeps : (x : Sending) (refusal : Refusal) → Keeps a (refused d t x refusal)
-    refused-keeps x refusal = still (outs-agree h _ (failed-out a x) d g)
+  longer : {e : Desk} (k : ℕ) (bytes : List ℕ) → appended d t k bytes ≡ Ok e → IsLonger e
+  unfolding appended with_task
+  longer {e} k bytes q = grant-holds is q
+    where
+      is : OnGrant IsLonger (appended d t k bytes)
+      is = granted-then _ _ λ document found. granted-then _ _ λ more e. granted-then _ _ λ s e2.
+          granted (record { desk = slot-agrees h s d g; post = refl })
 
-    failed_with-keeps : (f : Taking) → Unloaded a h f.id → (n : ℕ) (o : _) →
-        Keeps a (taking_ended h f (λ ws. with_id in_id f.id (incoming.Failed f.id f.anchor n) ws) d, o)
-    failed_with-keeps f is n o = still (ended-agrees h f _ (failed-in f is n) d g)
+  -- a DataLoad that answers a record's DataSaveAck belongs to the record's transfer
+  load-answers : (i : ℕ) × (a.of_ref m.message.my_ref ≡ Some i) × (a.of_ref m.message.your_ref ≡ Some i) → (q : Asked) → Has (incoming.Asking q) t.taking →
+      receiver.is_load m.message.from m.message.your_ref q ≡ true → a.of_ref m.message.my_ref ≡ Some q.id
+  load-answers of q has p =
+      let ack : m.message.your_ref ≡ q.ack = is_equal _ _ (and_right (nat_eq m.message.from q.sender) _ p) in
+      let same : of.0 ≡ q.id = same_value (a.of_ref m.message.your_ref) of.2 (ap a.of_ref ack ∙ (of-asking q has).0) in
+      of.1 ∙ ap Some same
 
-    failed-keeps : (f : Taking) → Unloaded a h f.id → (o : _) → Keeps a (end_failed d t f, o)
-    failed-keeps f is o = failed_with-keeps f is f.count o
+  -- the DataLoad that it answers belongs to the transfer of the record
+  loaded-keeps : (q : Asked) (n : ℕ) (e sent : Desk) (o : _) → IsLonger e → Has (incoming.Asking q) t.taking → a.of_ref m.message.my_ref ≡ Some q.id →
+      send_letter (load_ack_letter h (load_of d t m q) n) (record e { scrap = None }) ≡ Ok sent →
+      Keeps a (with_taking h (receiver.taking_loaded q n) sent, o)
+  loaded-keeps q n e sent o w has is s =
+      let more = loads-more a h q.id in
+      let low = subst (λ p. q.id < p.next_ref) (sym w.post) (past.below (incoming.Asking q) has) in
+      let above = subst (λ p. AllByRecursion (ParcelAbove h q.id) p.queued) (sym w.post) (past.above (incoming.Asking q) has) in
+      let all = grant-holds (letter-agrees (now_loaded a h q.id) (ButOne a h q.id) (load_ack_letter h (load_of d t m q) n) (record e { scrap = None }) (record {
+        born = λ i up. w.desk.born i (omega (arith, up));
+        unloaded = λ r i up. others-apart a h q.id r i (λ here same. omega (arith, low, up, same)) (w.desk.unloaded r i up);
+        of_tasks = tasks-grow a (now_loaded a h q.id) more (InAgrees a) (ButOne a h q.id) (but-one a h q.id) e.tasks w.desk.of_tasks;
+        mail = mail-loaded a h q.id e.post.queued above w.desk.mail;
+        says = (q.id, is, inl refl);
+      })) s in
+      record {
+        marks = now_loaded a h q.id;
+        more = more;
+        desk = ins-become h (receiver.taking_loaded q n) (ins-done a h q.id q.anchor n) (λ j other w but. but (λ here same. other here)) sent all;
+      }
 
-    transmit-keeps : (c : Transmit) (source : Split Flex) → OnGrant (Keeps a) (transmit d t c source)
-    unfolding transmit
-    transmit-keeps c source =
-        let id : ℕ = c.transfer.id in
-        granted-then _ _ λ r live. granted-past _ _ _ λ reach.
-        granted-with _ (marked-agrees a (Some id) _ d tt g) λ sent all.
-        granted (marks id (outs-agree h _ (sent-out (next_of id) c (sender.next_part c (length source.here.bytes)) (next_ref d) (next-is id)) _
-        (task-agrees r.handle _ (λ u. refl) (λ u old. record { sent = old.sent; outs = old.outs; ins = old.ins }) sent all)))
+  act-keeps : {back : _} {b : Body} {x : Handled} → Act d t m back b x → (back ≡ false → Says a m.message.from m.message.my_ref m.message.your_ref b) →
+      (back ≡ false → Unloaded a h m.message.my_ref) → Keeps a x
+  act-keeps (skips none) is apart = still g
+  act-keeps (fails x o it) is apart = still (out a h d g x.id (outgoing.Failed x.id x.count) tt)
+  act-keeps (sends {buffer = buffer} {n = n} x source r sent it w) is apart =
+      let p : Part = part_of d t m buffer n x source in
+      let all = grant-holds (marked-agrees a (Some x.id) _ d tt g) w.letter in
+      marks x.id (out (next_of x.id) h _ (task-agrees r.handle _ (λ u. refl) (λ u old. record { sent = old.sent; outs = old.outs; ins = old.ins }) sent all)
+      x.id (sender.after_sent (transmit_of d t m buffer n x) p (next_ref d)) (chosen (OutAgrees (next_of x.id)) p.is_last _ _ tt (next-is x.id)))
+  act-keeps (saves x source sent it there none l) is apart =
+      let id : m.message.your_ref ≡ x.id =
+      is_equal _ _ (and_right _ (nat_eq m.message.your_ref x.id) (and_left _ (nat_eq x.id x.last) it.passes)) in
+      let all = grant-holds (marked-agrees a (Some x.id) _ _ (x.id, next-is x.id, (next-more x.id).refs m.message.my_ref x.id (is refl ∙ ap Some id)) g) l in
+      marks x.id (out (next_of x.id) h (record sent { scrap = Some _ }) all x.id (outgoing.Open (record x { last = next_ref d })) (next-is x.id))
+  act-keeps (finishes x source it there) is apart = still (out a h d g x.id (outgoing.Done x.id (length source.here.bytes)) tt)
+  act-keeps (claims k b p sent few free claim alloc l) is apart =
+      still (ins-agree h _ (λ ws old. all-more (InAgrees a h) _ _ ws (apart refl) old) sent (posted a h _ (slot-agrees h _ d g) _ tt l))
+  act-keeps (gives_up f o it) is apart = still (ended a h d g f (incoming.Failed f.id f.anchor f.count) (of-active f it.has))
+  act-keeps (takes_last {n = n} f e it l less) is apart = still (ended a h e (longer _ _ l).desk f (incoming.Done f.id f.anchor (f.count + n)) tt)
+  act-keeps (takes_some {n = n} f e o it l) is apart =
+      still (ended a h e (longer _ _ l).desk f (incoming.Failed f.id f.anchor (f.count + n)) (of-active f (inl it.has)))
+  act-keeps (takes_full {n = n} f e sent it l full s) is apart =
+      still (in_ a h sent (posted a h e (longer _ _ l).desk _ tt s) f.id (incoming.Fetching (record f { count = f.count + n; fetch = next_ref e }))
+      (of-active f (inl it.has)))
+  act-keeps (asks f sent it none l) is apart =
+      let all = grant-holds (marked-agrees a (Some f.id) _ d (next-is f.id) g) l in
+      marks f.id (ended (next_of f.id) h sent all f (incoming.Asking (receiver.asked_by f (next_ref d))) (next-is f.id, of-active f (inl it.has)))
+  act-keeps (abandons q o it) is apart = still (in_ a h d g q.id (incoming.Failed q.id q.anchor 0) (of-asking q it.has).1)
+  act-keeps (loads_only q file e o it w) is apart =
+      still (in_ a h (record e { scrap = None }) (longer _ _ w.longer_is).desk q.id (incoming.Failed q.id q.anchor (length file.bytes)) (of-asking q it.has).1)
+  act-keeps (loads q file e sent it w l) is apart =
+      loaded-keeps q (length file.bytes) e sent _ (longer _ _ w.longer_is) it.has (load-answers (is refl) q it.has (and_right _ _ it.passes)) l
 
-    fail_sending-keeps : (v : Option Sending) → Keeps a (fail_sending d t v)
-    unfolding fail_sending
-    fail_sending-keeps None = ignored-keeps
-    fail_sending-keeps (Some x) = still (outs-agree h _ (failed-out a x) d g)
-
-    save_scrap-keeps : (c : SaveFile) → a.of_ref c.answers ≡ Some c.transfer.id → (source : Split Flex) →
-        OnGrant (Keeps a) (save_scrap d t c source)
-    unfolding save_scrap
-    save_scrap-keeps c is source =
-        let id : ℕ = c.transfer.id in
-        granted-past _ _ _ λ busy. granted-both _ (any-grant _) λ y u. granted-past _ _ _ λ room.
-        granted-with _ (marked-agrees a (Some id) _ _ (id, next-is id, (next-more id).refs c.answers id is) g) λ sent all.
-        granted (marks id (outs-agree h _ (saved-out (next_of id) c (next_ref d) (next-is id)) _ all))
-
-    send_with-keeps : (c : SendAction) → ActionSays c → (source : Split Flex) → OnGrant (Keeps a) (send_with d t c source)
-    unfolding send_with
-    send_with-keeps (send_action.Transmit c) is source = transmit-keeps c source
-    send_with-keeps (send_action.SaveFile c) is source = save_scrap-keeps c is source
-    send_with-keeps (send_action.Finish x) is source = granted (still (outs-agree h _ (loaded-out a x _) d g))
-
-    perform_send-keeps : (v : Option SendAction) → IfSome v ActionSays → Keeps a (perform_send d t v)
-    unfolding perform_send
-    perform_send-keeps None is = ignored-keeps
-    perform_send-keeps (Some c) is =
-        or_else-keeps (Keeps a) _ (granted-then _ _ λ source found. send_with-keeps c is source) (refused-keeps (sender.transfer_of c))
-
-    accept-keeps : (c : Claim) → Unloaded a h c.id → OnGrant (Keeps a) (accept d t c)
-    unfolding accept
-    accept-keeps c is =
-        granted-then _ _ λ k free. granted-then _ _ λ b claimed. granted-then _ _ λ p there.
-        granted-with _ (plain-agrees a _ _ tt (slot-agrees h _ d g)) λ sent all.
-        granted (still (ins-agree h _ (λ ws old. all-more (InAgrees a h) _ _ ws is old) sent all))
-
-    -- the document with more bytes, and the same post
-    record IsLonger (e : Desk) : Type 0 where
-      desk : Agrees a e
-      post : e.post ≡ d.post
-
-    slot-post : (s : _) → (with_slot h s d).post ≡ d.post
-    unfolding with_task
-    slot-post s = refl
-
-    appended-longer : (k : ℕ) (bytes : List ℕ) → OnGrant IsLonger (appended d t k bytes)
-    unfolding appended
-    appended-longer k bytes =
-        granted-then _ _ λ document found. granted-then _ _ λ longer e. granted-then _ _ λ s e2.
-        granted (record { desk = slot-agrees h s d g; post = slot-post s })
-
-    fetch_more-keeps : (c : Append) → Unloaded a h c.transfer.id → (b : Fetch) → OnGrant (Keeps a) (fetch_more d t c b)
-    unfolding fetch_more
-    fetch_more-keeps c is b =
-        granted-with _ (plain-agrees a _ d tt g) λ sent all.
-        granted (still (ins-agree h _ (fetched-in c is (next_ref d)) sent all))
-
-    took-keeps : (c : Append) → Unloaded a h c.transfer.id → (b : Next) → Keeps a (took d t c b)
-    unfolding took
-    took-keeps c is next_action.Finish = still (ended-agrees h c.transfer _ (finished-in c is) d g)
-    took-keeps c is (next_action.Fetch b) =
-        or_else-keeps (Keeps a) _ (fetch_more-keeps c is b) (λ refusal. failed_with-keeps c.transfer is _ _)
-
-    ask-keeps : (f : Taking) → Unloaded a h f.id → OnGrant (Keeps a) (ask d t f)
-    unfolding ask
-    ask-keeps f is =
-        granted-with _ (marked-agrees a (Some f.id) _ d (next-is f.id) g) λ sent all.
-        granted (marks f.id (ended-agrees h f _ (asking-in (next_of f.id) f (next_ref d) (next-is f.id) is) sent all))
-
-    ack_back-keeps : (v : Option Asked) → ((q : Asked) → v ≡ Some q → Unloaded a h q.id) → Keeps a (ack_back d t v)
-    unfolding ack_back
-    ack_back-keeps None apart = ignored-keeps
-    ack_back-keeps (Some q) apart = still (ins-agree h _ (abandoned-in q (apart q refl) 0) d g)
-
-    -- the DataLoad that it answers belongs to the transfer of the record
-    loaded-keeps : (c : LoadFile) → Has (incoming.Asking c.transfer) t.taking → Unloaded a h c.transfer.id →
-        a.of_ref c.answers ≡ Some c.transfer.id → IsPast d t → (n : ℕ) → Keeps a (loaded d t c n)
-    unfolding loaded
-    loaded-keeps c has apart is past n =
-        let q : Asked = c.transfer in
-        let b : Marks = now_loaded a h q.id in
-        let more = loads-more a h q.id in
-        let low = past.below (incoming.Asking q) has in
-        or_else-keeps (Keeps a) _
-        (granted-with _ (letter-agrees b (ButOne a h q.id) (load_ack_letter h c n) d (record {
-          born = λ i up. g.born i (omega (arith, up));
-          unloaded = λ r i up. others-apart a h q.id r i (λ here same. omega (arith, low, up, same)) (g.unloaded r i up);
-          of_tasks = tasks-grow a b more (InAgrees a) (ButOne a h q.id) (but-one a h q.id) d.tasks g.of_tasks;
-          mail = mail-loaded a h q.id d.post.queued (past.above (incoming.Asking q) has) g.mail;
-          says = (q.id, is, inl refl);
-        })) λ sent all.
-        granted (record {
-          marks = b;
-          more = more;
-          desk = ins-become h (receiver.taking_loaded q n) (ins-done a h q.id q.anchor n)
-              (λ j other w but. but (λ here same. other here)) sent all;
-        }))
-        (λ refusal. still (ins-agree h _ (abandoned-in q apart n) d g))
-
-  -- a record that waits for a file
-  waits-of : (q : Asked) → Has (incoming.Asking q) t.taking → Waits q
-  waits-of q has = let is = all-has (InAgrees a h) t.taking (incoming.Asking q) own.ins has in (has, is.0, is.1)
-
-  module _ (d : Desk) (g : Agrees a d) (past : IsPast d t) where
-    append-keeps : (c : Append) → Unloaded a h c.transfer.id → Keeps a (append d t c)
-    unfolding append
-    append-keeps c is =
-        or_else-keeps (Keeps a) _
-        (granted-with _ (appended-longer d g c.transfer.anchor _) λ longer all. granted (took-keeps longer all.desk c is c.next))
-        (λ refusal. failed-keeps d g c.transfer is _)
-
-    load_file-keeps : (c : LoadFile) → Waits c.transfer → a.of_ref c.answers ≡ Some c.transfer.id → (v : Option Scrap) →
-        Keeps a (load_file d t c v)
-    unfolding load_file
-    load_file-keeps c w is None = ignored-keeps d g
-    load_file-keeps c w is (Some file) =
-        chosen (Keeps a) _ _ _
-        (or_else-keeps (Keeps a) _
-        (granted-with _ (appended-longer d g c.transfer.anchor file.bytes) λ longer all.
-        granted (loaded-keeps (record longer { scrap = None }) all.desk c w.0 w.2 is (record {
-          below = λ v has. subst (λ p. in_id v < p.next_ref) (sym all.post) (past.below v has);
-          above = λ v has. subst (λ p. AllByRecursion (ParcelAbove h (in_id v)) p.queued) (sym all.post) (past.above v has);
-        }) (length file.bytes)))
-        (λ refusal. still (ins-agree h _ (abandoned-in c.transfer w.2 0) d g)))
-        (ignored-keeps d g)
-
-    take_with-keeps : (c : TakeAction) → ActionComes c → Keeps a (take_with d t c)
-    unfolding take_with
-    take_with-keeps (take_action.Claim c) is = or_else-keeps (Keeps a) _ (accept-keeps d g c is) (λ refusal. ignored-keeps d g)
-    take_with-keeps (take_action.Append c) is = append-keeps c is
-    take_with-keeps (take_action.AskForFile f) is =
-        or_else-keeps (Keeps a) _ (ask-keeps d g f is) (λ refusal. failed-keeps d g f is _)
-    take_with-keeps (take_action.LoadFile c) is = load_file-keeps c is.0 is.1 d.scrap
-    take_with-keeps (take_action.Release c) is = failed-keeps d g c.transfer is _
-
-    perform_take-keeps : (v : Option TakeAction) → IfSome v ActionComes → Keeps a (perform_take d t v)
-    unfolding perform_take
-    perform_take-keeps None is = ignored-keeps d g
-    perform_take-keeps (Some c) is = take_with-keeps c is
-
-    -- a DataSaveAck belongs to the transfer that it answers
-    ack-answers : (m : Parcel) → a.of_ref m.message.my_ref ≡ Some m.message.your_ref → (x : Sending) →
-        sender.asks_for m.message.from m.message.your_ref x ≡ true → a.of_ref m.message.my_ref ≡ Some x.id
-    ack-answers m is x p =
-        is ∙ ap (λ (i : ℕ). Option.Some i)
-        (is_equal _ _ (and_right _ (nat_eq m.message.your_ref x.id) (and_left _ (nat_eq x.id x.last) p)))
-
-    -- a DataLoad that answers a record's DataSaveAck belongs to the record's transfer
-    load-answers : (m : Parcel) → (i : ℕ) × (a.of_ref m.message.my_ref ≡ Some i) × (a.of_ref m.message.your_ref ≡ Some i) →
-        (q : Asked) → Waits q → receiver.is_load m.message.from m.message.your_ref q ≡ true → a.of_ref m.message.my_ref ≡ Some q.id
-    load-answers m of q w p =
-        let ack : m.message.your_ref ≡ q.ack = is_equal _ _ (and_right (nat_eq m.message.from q.sender) _ p) in
-        let mine : a.of_ref m.message.your_ref ≡ Some q.id = ap a.of_ref ack ∙ w.1 in
-        let same : of.0 ≡ q.id = same_value (a.of_ref m.message.your_ref) of.2 mine in
-        of.1 ∙ ap (λ (i : ℕ). Option.Some i) same
-
-    came-keeps : (m : Parcel) (b : Body) → Says a m.message.from m.message.my_ref m.message.your_ref b →
-        Unloaded a h m.message.my_ref → Keeps a (came d t m b)
-    unfolding came
-    came-keeps m (body.DataSave file) is apart = perform_take-keeps _ (save-does ActionComes t.taking _ _ _ apart)
-    came-keeps m (body.DataSaveAck file) is apart =
-        perform_send-keeps d g _ (open-does ActionSays t.sending _ _ (λ x has p. ack-answers m is x p))
-    came-keeps m (body.DataLoad file) is apart =
-        perform_take-keeps _
-        (load-does ActionComes t.taking _ _ _ (λ q has p. let w = waits-of q has in (w, load-answers m is q w p)))
-    came-keeps m (body.DataLoadAck file) is apart = perform_send-keeps d g _ (open-does ActionSays t.sending _ _ (λ x has p. tt))
-    came-keeps m (body.RamFetch buffer amount) is apart =
-        chosen (Keeps a) _ _ _ (ignored-keeps d g)
-        (perform_send-keeps d g _ (open-does ActionSays t.sending _ _ (λ x has p. tt)))
-    came-keeps m (body.RamTransmit buffer n) is apart =
-        perform_take-keeps _
-        (transmit-does ActionComes t.taking _ _ _ _ _ _ (λ f has. fetching-agrees f has) (λ f e has. active-agrees f has))
-
-    came_back-keeps : (m : Parcel) (b : Body) → Keeps a (came_back d t m b)
-    unfolding came_back
-    came_back-keeps m (body.DataSave file) = fail_sending-keeps d g _
-    came_back-keeps m (body.DataSaveAck file) =
-        ack_back-keeps d g _ (λ q e. (waits-of q (asking_is _ t.taking q e).0).2)
-    came_back-keeps m (body.DataLoad file) = fail_sending-keeps d g _
-    came_back-keeps m (body.DataLoadAck file) = ignored-keeps d g
-    came_back-keeps m (body.RamFetch buffer amount) =
-        perform_take-keeps _
-        (bounce-does ActionComes t.taking _ (λ f has. fetching-agrees f has) (λ f e has. active-agrees f has))
-    came_back-keeps m (body.RamTransmit buffer n) = fail_sending-keeps d g _
-
-    handled-keeps : (m : Parcel) → m.to ≡ h → (c : EventCode) → CodeAgrees c (Comes a m) → Keeps a (handled d t m c)
-    unfolding handled
-    handled-keeps m to User is = came-keeps m m.message.body is.says (subst (λ j. Unloaded a j m.message.my_ref) to is.apart)
-    handled-keeps m to Recorded is = came-keeps m m.message.body is.says (subst (λ j. Unloaded a j m.message.my_ref) to is.apart)
-    handled-keeps m to Acknowledge is = came_back-keeps m m.message.body
-
-    -- a message that is the task's
-    pub mine-keeps : (m : Parcel) → m.to ≡ h → ParcelAgrees a m → Keeps a (handled d t m m.code)
-    mine-keeps m to is = handled-keeps m to m.code is
+  -- a message that is the task's
+  pub mine-keeps : m.to ≡ h → ParcelAgrees a m → Keeps a (handled d t m m.code)
+  mine-keeps to is = act-keeps (handled-acts d t m m.code) (λ e. (code-says m.code is e).says)
+      (λ e. subst (λ j. Unloaded a j m.message.my_ref) to (code-says m.code is e).apart)

@@ -1,7 +1,7 @@
 -- A poll leaves other tasks as they were, but for the first bytes of one buffer.
 use Rattle.rh_laws.proofs.Common.{◌≡◌, ◌≢◌, ℕ, Bool, true, false, List, [], length, take, drop, Option, Some, None, refl, sym, ap, ◌∙◌, subst, ◌⊎◌, inl}
 use Rattle.rh_laws.proofs.Common.{inr, arith, ◌-◌, ◌==◌, min, Ok, option_map, eqb_tells, Refusal, NoTask, Command, Body, EventCode, User, Recorded}
-use Rattle.rh_laws.proofs.Common.{Acknowledge, Sending, Taking, Incoming, Outgoing, Part, found_or, Split, bytes_of, Flex, heap_block_at, slot_block}
+use Rattle.rh_laws.proofs.Common.{and_left, and_right, Acknowledge, Sending, Taking, Incoming, Outgoing, Part, found_or, Split, bytes_of, Flex, heap_block_at, slot_block}
 use Rattle.rh_laws.proofs.Common.{buffer_at, with_heap_bytes, written_in, Parcel, post_poll, open_of, Desk, Task, named, next_ref, send_letter, task_at}
 use Rattle.rh_laws.proofs.Common.{with_delivered, with_sending, with_task, Handled, ignored, perform_send, send_with, transmit, answers_none, came}
 use Rattle.rh_laws.proofs.Common.{handled, Answer, event, poll, poll_taken, step, Active, Has, buffers_of, task_of, view, contains_of, either, first_is}
@@ -17,10 +17,12 @@ use Rattle.rh_defs.proofs.Chains.{grant-holds}
 use Rattle.rh_safety.proofs.Ends.{Letter}
 use Rattle.rh_safety.proofs.Sight as sight
 use Rattle.rh_safety.proofs.Invariant.{Offered}
-use Rattle.rh_safety.proofs.KeptFetch.{Reaches, fetch_in, reaches}
+use Rattle.rh_safety.proofs.KeptFetch.{fetch_in, reaches}
 use Rattle.rh_safety.proofs.KeptPolls.{Given, given}
-use Rattle.rh_safety.proofs.OwnEdits.{Did, OwnEdits, came_back-own, ignored-own, on_ack-own, on_load_ack-own, perform_take-own, refused-own}
-use Rattle.rh_safety.proofs.Polls.{Taken, Waiter}
+use Rattle.rh_safety.proofs.Acts.{ForOpen, Sends, handled-acts, not-back, part_of, poured, transmit_of}
+use Rattle.rh_safety.proofs.Basics.{not_true}
+use Rattle.rh_safety.proofs.OwnEdits.{OwnEdits, act-own}
+use Rattle.rh_safety.proofs.Polls.{Taken}
 use Rattle.rh_safety.proofs.SeenBlocks.{from_test, the_block}
 use Rattle.rh_safety.proofs.SeenDocuments.{letter_of}
 use Rattle.rh_safety.proofs.SeenFrames.{bind, done, instead_of}
@@ -60,70 +62,70 @@ holds-one : (r : Task) (f : Taking) → Active r.taking f → HoldsOne r f
 holds-one r f (inl has) = inl (contains_of r.taking (incoming.Fetching f) has)
 holds-one r f (inr has) = inr (contains_of r.taking (incoming.Draining f) has)
 
-module _ (k : ℕ) (t : Task) (ne : t.handle ≢ k) (d : Desk) (m : Parcel) where
+module _ (k : ℕ) (t : Task) (ne : t.handle ≢ k) (d : Desk) (m : Parcel) (is : task_of t.handle d.tasks ≡ Some t) where
   -- the other task is as it was, or one buffer of it is filled
   abbrev Fills : Handled → Type 0
   Fills x = Leaves k d x.0 ⊎ FillsBuffer t k (task_at k d) (task_at k x.0) (event m x).1
 
-  calm : {x : Handled} → Did (Leaves k) d x → Fills x
-  calm c = inl c.desk
+  module _ (buffer n : ℕ) (x : Sending) (source : Split Flex) (r : Task) (sent : Desk) (it : ForOpen d t m false (body.RamFetch buffer n) x)
+      (w : Sends d t m buffer n x source r sent) (leaves : Leaves k d sent) where
+    abbrev l : Letter
+    l = fetch_in m buffer n
 
-  module _ (is : task_of t.handle d.tasks ≡ Some t) (l : Letter) where
-    -- what goes out for a record: the next bytes of the source
-    abbrev part_of : Sending → Split Flex → Part
-    part_of x source = sender.next_part (sight.answer_of l x) (length source.here.bytes)
+    -- the next bytes of the source, and the recipient with them in its buffer
+    abbrev p : Part
+    p = part_of d t m buffer n x source
 
-    abbrev bytes_out : Sending → Split Flex → List ℕ
-    bytes_out x source = take (part_of x source).n (drop x.count source.here.bytes)
+    abbrev out : List ℕ
+    out = take p.n (drop p.offset source.here.bytes)
 
-    -- the recipient with them in its buffer
-    abbrev poured_in : List ℕ → Task → Task
-    poured_in bytes r = record r { slot = written_in l.address bytes (buffer_at l.address l.amount r.slot) r.slot }
+    abbrev filled : Task → Task
+    filled r = record r { slot = written_in buffer out (buffer_at buffer n r.slot) r.slot }
 
-    poured : (x : Sending) (source : Split Flex) (r : Task) (sent : Desk) → Has (outgoing.Open x) t.sending →
-        slot_block x.anchor t.slot ≡ Ok source → task_of x.recipient d.tasks ≡ Some r → Reaches (view d) (sight.answer_of l x) →
-        Waiter (view d) t.handle x l → Leaves k d sent → Fills (
-          with_sending t.handle (sender.sent (sight.answer_of l x) (part_of x source) (next_ref d))
-              (with_task r.handle (poured_in (bytes_out x source)) sent),
-          outcome.Sent (part_of x source).n (next_ref d),
-        )
-    poured x source r sent has found to reach w leaves =
-        let p : Part = part_of x source in
-        let out : List ℕ = bytes_out x source in
-        let same : r.handle ≡ x.recipient = is_equal _ _ (first_is (λ (y : Task). y.handle == x.recipient) d.tasks r to).1 in
-        let written : Desk = with_task r.handle (poured_in out) sent in
-        let records : Leaves k written (with_sending t.handle (sender.sent (sight.answer_of l x) p (next_ref d)) written) =
+    fetch-fills : {o : Offered} {e : ℕ → ℕ → Bool} → Taken o e (view d) t.handle l → Fills (
+      with_sending t.handle (sender.sent (transmit_of d t m buffer n x) p (next_ref d)) (poured d t m buffer n p source r sent),
+      outcome.Sent p.n (next_ref d),
+    )
+    fetch-fills tk =
+        let same : r.handle ≡ x.recipient = is_equal _ _ (first_is (λ (y : Task). y.handle == x.recipient) d.tasks r w.to).1 in
+        let written : Desk = poured d t m buffer n p source r sent in
+        let records : Leaves k written (with_sending t.handle (sender.sent (transmit_of d t m buffer n x) p (next_ref d)) written) =
         outs-leave t.handle k ne _ written in
         elim (eqb_tells x.recipient k) [
-          | inr away ↦ inl (both-leave leaves (both-leave (task-leaves r.handle k (λ e. away.1 (sym same ∙ e)) (poured_in out) (λ y.
-              refl) sent) records))
+          | inr away ↦ inl (both-leave leaves (both-leave (task-leaves r.handle k (λ e. away.1 (sym same ∙ e)) filled (λ y. refl) sent) records))
           | inl here ↦
-              let was : task_at k d ≡ Some r = subst (λ j. task_of j d.tasks ≡ Some r) here.1 to in
-              let c = buffer_found l.address l.amount r.slot reach.old (ap (λ (g : ℕ → Option (List ℕ)). g l.address)
-              (sym (field_is (λ y. buffers_of y.slot) (λ a. None) x.recipient d.tasks r to)) ∙ reach.there) reach.fits
-              (heap_block_at l.address r.slot) refl in
-              let now : written_in l.address out (buffer_at l.address l.amount r.slot) r.slot ≡ with_heap_bytes c.cut 0 out r.slot =
-              ap (λ o. written_in l.address out o r.slot) c.found in
-              let own : task_at k written ≡ Some (poured_in out r) =
-              own-task k (poured_in out) (λ y. refl) sent r (same ∙ here.1) (leaves.same ∙ was) in
+              let lives = live_of d x.recipient r w.to in
+              let file = not_true _ (and_left _ (sender.would_answer m.message.from m.message.your_ref n x) it.passes) in
+              let found = and_right _ (sender.would_answer m.message.from m.message.your_ref n x) it.passes in
+              let reach = reaches d t m is buffer n tk file x it.has found lives in
+              let off = field_is (λ y. answers_none y.manner) false t.handle d.tasks t is ∙ file in
+              let wait = tk.waiter x (subst (λ (vs : List Outgoing). Has (outgoing.Open x) vs)
+              (sym (field_is (λ y. y.sending) [] t.handle d.tasks t is)) it.has) refl found off lives in
+              let was : task_at k d ≡ Some r = subst (λ j. task_of j d.tasks ≡ Some r) here.1 w.to in
+              let c = buffer_found buffer n r.slot reach.old (ap (λ (g : ℕ → Option (List ℕ)). g buffer)
+              (sym (field_is (λ y. buffers_of y.slot) (λ a. None) x.recipient d.tasks r w.to)) ∙ reach.there) reach.fits
+              (heap_block_at buffer r.slot) refl in
+              let now : written_in buffer out (buffer_at buffer n r.slot) r.slot ≡ with_heap_bytes c.cut 0 out r.slot =
+              ap (λ o. written_in buffer out o r.slot) c.found in
+              let own : task_at k written ≡ Some (filled r) = own-task k filled (λ y. refl) sent r (same ∙ here.1) (leaves.same ∙ was) in
               inr (record {
                 receiver = r;
                 was = was;
                 out = x;
-                sends = contains_of t.sending (outgoing.Open x) has;
+                sends = contains_of t.sending (outgoing.Open x) it.has;
                 recipient = here.1;
                 source = source.here.bytes;
-                source_is = ap (option_map (λ (b : Split Flex). b.here.bytes)) (the_block x.anchor t.slot source found);
-                into = w.taking;
-                holds = holds-one r w.taking (subst (λ (ws : List Incoming). Active ws w.taking)
-                    (field_is (λ y. y.taking) [] x.recipient d.tasks r to) w.is_active);
-                same_id = w.same_id;
-                from = w.sender;
+                source_is = ap (option_map (λ (b : Split Flex). b.here.bytes)) (the_block x.anchor t.slot source w.source_is);
+                into = wait.taking;
+                holds = holds-one r wait.taking (subst (λ (ws : List Incoming). Active ws wait.taking)
+                    (field_is (λ y. y.taking) [] x.recipient d.tasks r w.to) wait.is_active);
+                same_id = wait.same_id;
+                from = wait.sender;
                 buffer = c.cut;
-                buffer_is = ap (λ a. heap_block_at a r.slot) w.names ∙ c.is;
+                buffer_is = ap (λ a. heap_block_at a r.slot) wait.names ∙ c.is;
                 n = p.n;
                 portion = ap (λ a. min a (length source.here.bytes - x.count))
-                    (w.amount ∙ field_is (λ y. y.buffer) 1 x.recipient d.tasks r to);
+                    (wait.amount ∙ field_is (λ y. y.buffer) 1 x.recipient d.tasks r w.to);
                 room = let z = reach.fits in let y : length (bytes_of c.cut.here) ≡ length reach.old = ap (λ (v : List ℕ).
                     length v) c.bytes in omega arith;
                 filled = records.same ∙ own ∙ ap (λ s. Some (record r { slot = s })) now;
@@ -131,56 +133,11 @@ module _ (k : ℕ) (t : Task) (ne : t.handle ≢ k) (d : Desk) (m : Parcel) wher
               })
         ]
 
-    fetch-fills : (v : Option Sending) → ((x : Sending) → v ≡ Some x → Has (outgoing.Open x) t.sending) →
-        ((x : Sending) → v ≡ Some x → (view d).live x.recipient ≡ true → Reaches (view d) (sight.answer_of l x)) →
-        ((x : Sending) → v ≡ Some x → (view d).live x.recipient ≡ true → Waiter (view d) t.handle x l) →
-        Fills (perform_send d t (option_map (sender.transmit_for l.from l.me l.address l.amount) v))
-    unfolding perform_send send_with transmit
-    fetch-fills None has reach wait = calm (ignored-own (Leaves k) t (own-leaves t.handle k ne) d)
-    fetch-fills (Some x) has reach wait =
-        by_grant Fills _ _
-        (λ y q. with_step (slot_block x.anchor t.slot) _ y q (λ source e1 q1.
-        let letter = transmit_letter t.handle (sight.answer_of l x) (part_of x source) in
-        with_step (found_or (task_at x.recipient d) NoTask) _ y q1 (λ r e2 q2.
-        with_step (send_letter letter d) _ y (from_test _ _ y q2) (λ sent e3 q3.
-        let to : task_of x.recipient d.tasks ≡ Some r = is_found (task_at x.recipient d) NoTask r e2 in
-        let lives = live_of d x.recipient r to in
-        let leaves : Leaves k d sent = grant-holds (letter-leaves k letter d ne) e3 in
-        subst Fills (ok_is _ y q3) (poured x source r sent (has x refl) e1 to (reach x refl lives) (wait x refl lives)
-        leaves)))))
-        (λ refusal q. calm (refused-own (Leaves k) t (own-leaves t.handle k ne) d x refusal))
-
-  -- ---- all messages
-
-  module _ {o : Offered} {e : ℕ → ℕ → Bool} (is : task_of t.handle d.tasks ≡ Some t) where
-    -- a record that would answer a fetch has one that waits
-    waits : (buffer amount : ℕ) → Taken o e (view d) t.handle (fetch_in m buffer amount) → answers_none t.manner ≡ false →
-        (x : Sending) → open_of (sight.would_answer (fetch_in m buffer amount)) t.sending ≡ Some x →
-        (view d).live x.recipient ≡ true → Waiter (view d) t.handle x (fetch_in m buffer amount)
-    waits buffer amount tk file x q lives =
-        let found = open_is (sight.would_answer (fetch_in m buffer amount)) t.sending x q in
-        tk.waiter x (subst (λ (vs : List Outgoing). Has (outgoing.Open x) vs)
-        (sym (field_is (λ y. y.sending) [] t.handle d.tasks t is)) found.0) refl found.1
-        (field_is (λ y. answers_none y.manner) false t.handle d.tasks t is ∙ file) lives
-
-    came-fills : (b : Body) → Taken o e (view d) t.handle (letter_of m b) → Fills (came d t m b)
-    unfolding came
-    came-fills (body.DataSave file) tk = calm (perform_take-own (Leaves k) t (own-leaves t.handle k ne) d _)
-    came-fills (body.DataSaveAck file) tk = calm (on_ack-own (Leaves k) t (own-leaves t.handle k ne) d m)
-    came-fills (body.DataLoad file) tk = calm (perform_take-own (Leaves k) t (own-leaves t.handle k ne) d _)
-    came-fills (body.DataLoadAck file) tk = calm (on_load_ack-own (Leaves k) t (own-leaves t.handle k ne) d m)
-    came-fills (body.RamFetch buffer amount) tk =
-        either Fills (answers_none t.manner) (ignored d) _ (λ y. calm (ignored-own (Leaves k) t (own-leaves t.handle k ne) d)) (λ y.
-        fetch-fills is (fetch_in m buffer amount) (open_of (sight.would_answer (fetch_in m buffer amount)) t.sending)
-        (λ x q. (open_is (sight.would_answer (fetch_in m buffer amount)) t.sending x q).0)
-        (reaches d t m is buffer amount tk y) (waits buffer amount tk y))
-    came-fills (body.RamTransmit buffer n) tk = calm (perform_take-own (Leaves k) t (own-leaves t.handle k ne) d _)
-
-    handled-fills : Given o e d t m → (c : EventCode) → m.code ≡ c → Fills (handled d t m c)
-    unfolding handled
-    handled-fills w User q = came-fills m.message.body (w.came (λ z. let y : User ≡ Acknowledge = sym q ∙ z in cc))
-    handled-fills w Recorded q = came-fills m.message.body (w.came (λ z. let y : Recorded ≡ Acknowledge = sym q ∙ z in cc))
-    handled-fills w Acknowledge q = calm (came_back-own (Leaves k) t (own-leaves t.handle k ne) d m m.message.body)
+  handled-fills : {o : Offered} {e : ℕ → ℕ → Bool} → Given o e d t m → Fills (handled d t m m.code)
+  handled-fills {o} {e} w =
+      act-own (Leaves k) t (own-leaves t.handle k ne) d m (λ back b x. (back ≡ false → Taken o e (view d) t.handle (letter_of m b)) → Fills x)
+      (λ back b x leaves tk. inl leaves) (λ buffer n x source r sent it s leaves tk. fetch-fills buffer n x source r sent it s leaves (tk refl))
+      (handled-acts d t m m.code) (λ came. w.came (not-back m.code came))
 
 -- ---- a poll
 
@@ -207,7 +164,7 @@ module _ {o : Offered} {e : ℕ → ℕ → Bool} (d : Desk) (f : Fits d) (g : G
       go : (v : Option Parcel) → (post_poll t.handle d.post).1 ≡ v → FillsAt d t h (poll_taken at_ t v)
       go None q = inl refl
       go (Some m) q = told (handled-fills h t ne at_ m is (given d t f is g (post_poll t.handle d.post) (f.polled t.handle)
-          (poll_taken_is d t.handle f (live_of d t.handle t is)) m q) m.code refl)
+          (poll_taken_is d t.handle f (live_of d t.handle t is)) m q))
 
 -- a filled buffer leaves the flex blocks
 blocks-left : (d : Desk) (t : Task) (h : ℕ) (a : Answer) → FillsAt d t h a →

@@ -13,7 +13,7 @@ use Rattle.rh_defs.specs.Letters.{transmit_letter}
 use Rattle.rh_defs.specs.Sender as sender
 use Rattle.rh_defs.specs.Receiver as receiver
 use Rattle.rh_safety.proofs.Arrivals.{Began}
-use Rattle.rh_safety.proofs.Basics.{FoundActive, active_is, drains, fetches, not_true, open_none}
+use Rattle.rh_safety.proofs.Basics.{FoundActive, active_is, active_none, asking_none, drains, fetches, not_true, open_none}
 use Rattle.rh_safety.proofs.Ends.{Asking, Draining, Edits, Fetching, In, In_done, In_failed, Message, Offers, Open, Out, Out_done, Out_failed, is_going, put}
 use Rattle.rh_safety.proofs.Ends.{with_id}
 use Rattle.rh_safety.proofs.Invariant.{Inv, Unread}
@@ -31,7 +31,7 @@ use Rattle.rh_safety.proofs.View.{seen_letter, seen_scrap}
 use Rattle.rh_laws.proofs.Wants.{Asks, InWants, Tells, Want, file, is_sent, part, peer_of, ref_of, reply, want_in, want_out}
 use Rattle.rh_laws.proofs.WantEdits.{For, answer, own_back}
 use Rattle.rh_laws.proofs.WantDeeds.{Anew, Goes, IsSpent, Meets, Replying, Sends, Turns}
-use Rattle.rh_laws.proofs.WantRecords.{InWant, NoneIn, NoneOut, OnlyIn, OnlyOut, Ready, active-none, asking-none, asks-fits, by_ask, by_drain, by_fetch, deed}
+use Rattle.rh_laws.proofs.WantRecords.{InWant, NoneIn, NoneOut, OnlyIn, OnlyOut, Ready, asks-fits, by_ask, by_drain, by_fetch, deed}
 use Rattle.rh_laws.proofs.WantRecords.{files, fits, idle, ids-moved, in-deed, in-want, ins-moved, none-sent, out-deed, out-want, outs-stay, parts, replies}
 use Rattle.rh_laws.proofs.WantRecords.{sort_of, tells-fits, un}
 
@@ -156,13 +156,13 @@ module _ (Q : sight.Desk → Type 0) {o : Offers} {e : Edits} (d : Desk) (t : Ta
     none-active : fits back (action_of b) files ≡ false → (test : Taking → Bool) → active_of test (D.taking k) ≡ None →
         ((f : Taking) → For D (M b) k (part f.fetch f.sender f.buffer) → test f ≡ true) → NoneIn D k (M b)
     none-active p test q would =
-        no-such (λ f act g. un (sym (active-none test (D.taking k) f q act) ∙ would f g)) (λ x has g. un (sym p ∙ a.sorts _ g))
+        no-such (λ f act g. un (sym (active_none test (D.taking k) f q act) ∙ would f g)) (λ x has g. un (sym p ∙ a.sorts _ g))
 
     -- none that waits for a file
     none-asking : fits back (action_of b) parts ≡ false → (test : Asked → Bool) → asking_of test (D.taking k) ≡ None →
         ((q : Asked) → For D (M b) k (file q.ack q.sender) → test q ≡ true) → NoneIn D k (M b)
     none-asking p test q would =
-        no-such (λ f act g. un (sym p ∙ a.sorts _ g)) (λ x has g. un (sym (asking-none test (D.taking k) x q has) ∙ would x g))
+        no-such (λ f act g. un (sym p ∙ a.sorts _ g)) (λ x has g. un (sym (asking_none test (D.taking k) x q has) ∙ would x g))
 
   -- ---- messages that came back
 
@@ -558,8 +558,7 @@ module _ (Q : sight.Desk → Type 0) {o : Offers} {e : Edits} (d : Desk) (t : Ta
         by : (v : Option Sending) → open_of (sender.would_answer m.message.from your amount) (D.sending k) ≡ v →
             P (perform_send d t (option_map (sender.transmit_for m.message.from m.message.my_ref buffer amount) v))
         by None s = idle D k (M b) bf refl none-in (none-open b bf (came-aim b) (sender.would_answer m.message.from your amount) s would)
-        by (Some y) s = go _ (fetch.transmit_does d t is a (fetch.reaches d t m is buffer amount tk manner y
-            (ap (open_of (sender.would_answer m.message.from your amount)) (sym sendings) ∙ s)))
+        by (Some y) s = go _ (fetch.transmit_does d t is a (fetch.reaches d t m is buffer amount tk manner y (subst (Has (Open y)) sendings w.0) w.1))
           where
             a : Transmit
             a = record { transfer = y; to = m.message.from; answers = m.message.my_ref; buffer = buffer; room = amount }

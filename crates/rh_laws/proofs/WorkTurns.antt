@@ -124,7 +124,7 @@ module _ {o : Offers} {e : Edits} (d : Desk) (name : List ℕ) (is : IsDesk d) (
         } in
         let z : Falls o t (good-owns d t at g) (work_offered o after) d.post.next_ref held (names_of d.tasks)
         (work_queued m.code m.message.body) (handled after t m m.code) =
-        handled-falls o t (good-owns d t at g) (work_offered o after) d.post.next_ref held (names_of d.tasks) m w.lets after on m.code w.back w.room in
+        handled-falls o t (good-owns d t at g) (work_offered o after) d.post.next_ref held (names_of d.tasks) m after on w.lets m.code w.back w.room in
         let falls = z.work in
         let taken = w.work in
         let next = z.next in

@@ -1,6 +1,6 @@
 -- What a task does with a message that a poll hands it, told once: the record that the message is for, the letter that goes out,
 -- and the desk after it.
-use Rattle.rh_safety.proofs.Common.{Acknowledge, Active, AnchorInUse, Append, Asked, Bool, Body, Claim, Desk, EventCode, Fetch, FoundActive, Handled, Has}
+use Rattle.rh_safety.proofs.Common.{Acknowledge, Active, AnchorInUse, Append, Asked, Bool, Body, Claim, Desk, Err, EventCode, Fetch, FoundActive, Granted, Handled, Has, OnGrant}
 use Rattle.rh_safety.proofs.Common.{Incoming, LoadFile, NoTask, None, Ok, Option, Outcome, Part, Recorded, SaveFile, Scrap, SendAction, Sending, Split, Flex}
 use Rattle.rh_safety.proofs.Common.{Some, TakeAction, Taking, Task, Transmit, User, accept, ack_back, active_is, and_right, answers_none, append, appended}
 use Rattle.rh_safety.proofs.Common.{ask, asking_is, buffer_at, came, came_back, drains, drop, either, fail_sending, false, fetch_letter, fetch_more, fetches}
@@ -27,17 +27,25 @@ use Rattle.rh_defs.specs.Records.{active_of, asking_of}
 use Rattle.rh_defs.specs.Sender as sender
 use Rattle.rh_defs.specs.Receiver as receiver
 use Rattle.rh_safety.proofs.Basics.{active_none, asking_none, not_true, open_none}
-use Rattle.rh_safety.proofs.OwnEdits.{any-grant}
+use Rattle.rh_defs.proofs.Chains as chains
 
 -- a message came back, by its code
 abbrev pub is_back : EventCode → Bool
 is_back Acknowledge = true
 is_back _ = false
 
+pub not-back : (c : EventCode) → is_back c ≡ false → c ≡ Acknowledge → ⊥
+not-back c e z = let y : true ≡ false = subst (λ c. is_back c ≡ false) z e in cc
+
 -- the file of this ref is there
 abbrev pub is_file : ℕ → Option Scrap → Bool
 is_file ref None = false
 is_file ref (Some file) = file.load == ref
+
+-- a step of which nothing is known
+pub any-grant : {A : Type 0} (r : Granted A) → OnGrant (λ (x : A). Unit {0}) r
+any-grant (Ok x) = granted tt
+any-grant (Err refusal) = chains.refused
 
 and-false : (a b : Bool) → b ≡ false → (a && b) ≡ false
 and-false true b e = e
@@ -127,12 +135,13 @@ module _ (d : Desk) (t : Task) (m : Parcel) where
     pub names : file.load ≡ my
     pub longer_is : appended d t q.anchor file.bytes ≡ Ok longer
 
-  -- the part of the source that goes out, and the recipient that it goes to
+  -- the source of what goes out, the recipient that it goes to, and the desk with the letter
   pub record Sends (buffer n : ℕ) (x : Sending) (source : Split Flex) (r : Task) (sent : Desk) : Type 0 where
     pub source_is : slot_block x.anchor t.slot ≡ Ok source
     pub to : task_at x.recipient d ≡ Some r
     pub letter : send_letter (transmit_letter h (transmit_of buffer n x) (sender.next_part (transmit_of buffer n x) (length source.here.bytes))) d ≡ Ok sent
 
+  -- what goes out of it, and the recipient's buffer with that
   abbrev pub part_of : ℕ → ℕ → Sending → Split Flex → Part
   part_of buffer n x source = sender.next_part (transmit_of buffer n x) (length source.here.bytes)
 

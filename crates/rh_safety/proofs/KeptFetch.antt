@@ -3,7 +3,7 @@ use Rattle.rh_safety.proofs.Common.{◌≡◌, ℕ, ◌≤◌, true, false, List
 use Rattle.rh_safety.proofs.Common.{length-drop, length-take, ◌++◌, nat_eq, Ok, Refusal, NoTask, Outcome, Sending, option_map, open_of, Transmit, Part}
 use Rattle.rh_safety.proofs.Common.{Outgoing, found_or, written, bytes_of, Slot, heap_block_at, slot_block, buffer_at, Parcel, transmit_letter, Desk, Task}
 use Rattle.rh_safety.proofs.Common.{next_ref, task_at, with_task, send_letter, Handled, transmit, send_with, perform_send, answers_none, view, seen_letter}
-use Rattle.rh_safety.proofs.Common.{blocks_of, buffers_of, task_of, Letter, Offers, Edits, put, same_value, open_is, first_is, is_equal, Good, field_is}
+use Rattle.rh_safety.proofs.Common.{blocks_of, buffers_of, task_of, Has, Letter, Offers, Open, Edits, put, same_value, open_is, first_is, is_equal, Good, field_is}
 use Rattle.rh_safety.proofs.Common.{live_of, slot_is, slot_at, outs_view, buffer_view, is_found, seen_good}
 use Rattle.rh_defs.specs.declared.reply.Outcome.TheVariants as outcome
 use Rattle.rh_defs.specs.declared.message.Action.TheVariants as action
@@ -151,22 +151,13 @@ module _ (d : Desk) (t : Task) (m : Parcel) (is : task_of t.handle d.tasks ≡ S
           fits = let y = a.amount in let z = held.size in omega arith;
         }
 
-    -- what the taking says of a record that would answer
-    waits : Taken o e (view d) t.handle l → (view d).file t.handle ≡ false → (x : Sending) →
-        open_of (sight.would_answer l) ((view d).sending t.handle) ≡ Some x →
-        (view d).live x.recipient ≡ true → Waiter (view d) t.handle x l
-    waits tk file x q lives =
-        let w = open_is (sight.would_answer l) ((view d).sending t.handle) x q in
-        tk.waiter x w.0 refl w.1 file lives
-
     -- the range that it names is in one buffer
-    pub reaches : Taken o e (view d) t.handle l → answers_none t.manner ≡ false → (x : Sending) →
-        open_of (sight.would_answer l) t.sending ≡ Some x → (view d).live x.recipient ≡ true →
-        Reaches (view d) (sight.answer_of l x)
-    reaches tk file x q lives =
+    pub reaches : Taken o e (view d) t.handle l → answers_none t.manner ≡ false → (x : Sending) → Has (Open x) t.sending →
+        sight.would_answer l x ≡ true → (view d).live x.recipient ≡ true → Reaches (view d) (sight.answer_of l x)
+    reaches tk file x has passes lives =
         let off = field_is (λ y. answers_none y.manner) false t.handle d.tasks t is ∙ file in
-        let found = ap (open_of (sight.would_answer l)) (field_is (λ y. y.sending) [] t.handle d.tasks t is) ∙ q in
-        reached x (called t.handle l tk refl off x found) (waits tk off x found lives)
+        let here = subst (Has (Open x)) (sym (field_is (λ y. y.sending) [] t.handle d.tasks t is)) has in
+        reached x (called t.handle l tk refl off x here passes) (tk.waiter x here refl passes off lives)
 
     fetch_by : Taken o e (view d) t.handle l → (view d).file t.handle ≡ false →
         (v : Option Sending) → open_of (sight.would_answer l) ((view d).sending t.handle) ≡ v →
@@ -175,9 +166,10 @@ module _ (d : Desk) (t : Task) (m : Parcel) (is : task_of t.handle d.tasks ≡ S
     fetch_by tk file None q = unanswered_good t.handle l tk (λ x r w y. let z : true ≡ false =
         sym w ∙ open_none (sight.would_answer l) ((view d).sending t.handle) x q r in cc)
     fetch_by tk file (Some x) q =
-        let c = called t.handle l tk refl file x q in
-        done_good x c (waits tk file x q) _ (transmit_does d t is (sight.answer_of l x) (λ lives.
-        reached x c (waits tk file x q lives)))
+        let w = open_is (sight.would_answer l) ((view d).sending t.handle) x q in
+        let c = called t.handle l tk refl file x w.0 w.1 in
+        done_good x c (tk.waiter x w.0 refl w.1 file) _ (transmit_does d t is (sight.answer_of l x) (λ lives.
+        reached x c (tk.waiter x w.0 refl w.1 file lives)))
 
     pub fetch_keeps : Taken o e (view d) t.handle l → answers_none t.manner ≡ false →
         Good o e (view (perform_send d t (sender.on_fetch m.message.from m.message.my_ref m.message.your_ref buffer amount

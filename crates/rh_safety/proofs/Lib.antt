@@ -44,11 +44,11 @@ pub mod SeenFiles
 pub mod SeenDesks
 pub mod Lines
 pub mod SeenLaws
+pub mod Acts
 pub mod OwnEdits
 pub mod SeenKeys
 pub mod Alternations
 pub mod Actions
-pub mod Acts
 pub mod SeenRanges
 pub mod SeenBuffers
 pub mod RecordLaws

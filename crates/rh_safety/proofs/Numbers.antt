@@ -31,7 +31,7 @@ use Rattle.rh_defs.proofs.QuestionLaws.{is_quiet}
 use Rattle.rh_defs.proofs.Steps.{granted-on}
 use Rattle.rh_safety.specs.Refs.{HaveOwnRefs}
 use Rattle.rh_safety.specs.Numbers.{GoUp, NumbersGoUp, handles_in, refs_in, refs_of_outcome, areas_in}
-use Rattle.rh_safety.proofs.OwnEdits.{any-grant}
+use Rattle.rh_safety.proofs.Acts.{any-grant}
 
 -- ---- numbers that go up
 

@@ -281,19 +281,17 @@ module _ {o : Offered} {e : ℕ → ℕ → Bool} {d : Desk} (h : ℕ) (l : Lett
   }
 
   -- a fetch that a record answers
-  pub called : l.kind ≡ RamFetch → d.file h ≡ false → (x : Sending) →
-      find_open (would_answer l) (d.sending h) ≡ Some x →
+  pub called : l.kind ≡ RamFetch → d.file h ≡ false → (x : Sending) → Has (Open x) (d.sending h) → would_answer l x ≡ true →
       Called o e d h x l
-  called k file x q =
-      let w = open_is (would_answer l) (d.sending h) x q in
-      let u = would_tells x l w.1 in
+  called k file x has passes =
+      let u = would_tells x l passes in
       record {
         inv = t.inv;
         others = λ s y r ne. t.others s y r (λ here c f n. ne here (t.inv.outs.lasts h y x
-            (subst (λ j. Has (Open y) (d.sending j)) here r) w.0 (sym (would_tells y l f).answers ∙ u.answers)));
+            (subst (λ j. Has (Open y) (d.sending j)) here r) has (sym (would_tells y l f).answers ∙ u.answers)));
         born = t.born;
         read = t.read;
-        is_open = w.0;
+        is_open = has;
         kind = k;
         from = u.from;
       }

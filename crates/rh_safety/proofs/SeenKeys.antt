@@ -66,7 +66,7 @@ letter_keys l d = granted-then _ _ λ sent e. granted (task_keys l.from _ (with_
 
 -- a message that is handled leaves them too
 pub handled_keys : (d : Desk) (t : Task) (m : Parcel) (c : EventCode) → SameKeys d (handled d t m c).0
-handled_keys d t m c = (handled-own SameKeys t own d slot_keys m c).desk
+handled_keys d t m c = handled-own SameKeys t own d m slot_keys c
   where
     own : OwnEdits t.handle SameKeys
     own = record {
