@@ -40,6 +40,7 @@ pub mod SeenPosts
 pub mod SeenTaking
 pub mod SeenDocuments
 pub mod SeenWrites
+pub mod SeenActs
 pub mod SeenFiles
 pub mod SeenDesks
 pub mod Lines
