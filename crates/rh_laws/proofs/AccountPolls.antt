@@ -185,7 +185,7 @@ module _ (c : ℕ → Option ℕ) (t : Task) (next : ℕ) (up : Rise in_id 0 nex
 
     act-keeps : {back : _} {b : Body} {x : Handled} → Act d t m back b x → K x
     act-keeps (skips none) = record { records = t.taking; desk = g }
-    act-keeps (fails x o it) = outs-keep d g _ _
+    act-keeps (fails x o it z) = outs-keep d g _ _
     act-keeps (sends {buffer = buffer} {n = n} x source r sent it w) =
         let p : Part = part_of d t m buffer n x source in
         let new : List ℕ = take p.n (drop p.offset source.here.bytes) in
@@ -207,20 +207,20 @@ module _ (c : ℕ → Option ℕ) (t : Task) (next : ℕ) (up : Rise in_id 0 nex
                 (begun-accounts (receiver.new_taking (claim_of d t m) k b.1 (next_ref d)) _ (claimed_free w) all);
           };
         }
-    act-keeps (gives_up f o it) = ended-after d g f (incoming.Failed f.id f.anchor f.count) it.has (λ p. refl) o
+    act-keeps (gives_up f o it z) = ended-after d g f (incoming.Failed f.id f.anchor f.count) it.has (λ p. refl) o
     act-keeps (takes_last {n = n} f e it l less) =
         ended-after e (longer _ _ l) f (incoming.Done f.id f.anchor (f.count + n)) (inl it.has) (λ p. refl) _
     act-keeps (takes_some {n = n} f e o it l) =
-        ended-after e (longer _ _ l) f (incoming.Failed f.id f.anchor (f.count + n)) (inl it.has) (λ p. refl) o
+        ended-after e (longer _ _ l) f (incoming.Failed f.id f.anchor (f.count + n)) (inl it.has) (λ p. refl) _
     act-keeps (takes_full {n = n} f e sent it l full s) =
         renewed-after sent (letter-kept _ s (longer _ _ l)) (incoming.Fetching f)
         (incoming.Fetching (record f { count = f.count + n; fetch = next_ref e })) it.has (λ p. refl) _
     act-keeps (asks f sent it none l) =
         ended-after sent (letter-kept _ l g) f (incoming.Asking (receiver.asked_by f (next_ref d))) (inl it.has) (λ p. refl) _
-    act-keeps (abandons q o it) = renewed-after d g (incoming.Asking q) (incoming.Failed q.id q.anchor 0) it.has (λ p. refl) o
+    act-keeps (abandons q o it z) = renewed-after d g (incoming.Asking q) (incoming.Failed q.id q.anchor 0) it.has (λ p. refl) o
     act-keeps (loads_only q file e o it w) =
         renewed-after (record e { scrap = None }) (kept-as (longer _ _ w.longer_is) _ refl) (incoming.Asking q)
-        (incoming.Failed q.id q.anchor (length file.bytes)) it.has (λ p. refl) o
+        (incoming.Failed q.id q.anchor (length file.bytes)) it.has (λ p. refl) _
     act-keeps (loads q file e sent it w l) =
         renewed-after sent (letter-kept _ l (kept-as (longer _ _ w.longer_is) _ refl)) (incoming.Asking q)
         (incoming.Done q.id q.anchor (length file.bytes)) it.has (λ p. refl) _

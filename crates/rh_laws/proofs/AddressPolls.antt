@@ -56,7 +56,7 @@ module _ (a : Addresses) (t : Task) (own : TaskAgrees a t) (d : Desk) (g : Agree
 
   act-agrees : {back : _} {b : Body} {x : Handled} → Act d t m back b x → (back ≡ false → BodyAgrees a m.message.from h m.message.my_ref b) → Agrees a x.0
   act-agrees (skips none) is = g
-  act-agrees (fails x o it) is = out d g x.id (outgoing.Failed x.id x.count) (x.recipient, of-open x it.has)
+  act-agrees (fails x o it z) is = out d g x.id (outgoing.Failed x.id x.count) (x.recipient, of-open x it.has)
   act-agrees (sends {buffer = buffer} {n = n} x source r sent it w) is =
       let p : Part = part_of d t m buffer n x source in
       let from = of-open x it.has in
@@ -67,7 +67,7 @@ module _ (a : Addresses) (t : Task) (own : TaskAgrees a t) (d : Desk) (g : Agree
   act-agrees (finishes x source it there) is = out d g x.id (outgoing.Done x.id (length source.here.bytes)) (x.recipient, of-open x it.has)
   act-agrees (claims k b p sent few free claim alloc l) is =
       ins-agree h _ (λ ws old. all-more (InAgrees a h) _ _ ws (is refl) old) sent (posted _ (slot-agrees h _ d g) _ tt l)
-  act-agrees (gives_up f o it) is = ended d g f (incoming.Failed f.id f.anchor f.count) (f.sender, of-active f it.has)
+  act-agrees (gives_up f o it z) is = ended d g f (incoming.Failed f.id f.anchor f.count) (f.sender, of-active f it.has)
   act-agrees (takes_last {n = n} f e it l less) is =
       ended e (longer _ _ l) f (incoming.Done f.id f.anchor (f.count + n)) (f.sender, of-active f (inl it.has))
   act-agrees (takes_some {n = n} f e o it l) is =
@@ -76,7 +76,7 @@ module _ (a : Addresses) (t : Task) (own : TaskAgrees a t) (d : Desk) (g : Agree
       in_ sent (posted e (longer _ _ l) _ tt s) f.id (incoming.Fetching (record f { count = f.count + n; fetch = next_ref e })) (of-active f (inl it.has))
   act-agrees (asks f sent it none l) is =
       ended sent (posted d g _ tt l) f (incoming.Asking (receiver.asked_by f (next_ref d))) (of-active f (inl it.has))
-  act-agrees (abandons q o it) is = in_ d g q.id (incoming.Failed q.id q.anchor 0) (q.sender, of-asking q it.has)
+  act-agrees (abandons q o it z) is = in_ d g q.id (incoming.Failed q.id q.anchor 0) (q.sender, of-asking q it.has)
   act-agrees (loads_only q file e o it w) is =
       in_ (record e { scrap = None }) (longer _ _ w.longer_is) q.id (incoming.Failed q.id q.anchor (length file.bytes)) (q.sender, of-asking q it.has)
   act-agrees (loads q file e sent it w l) is =

@@ -178,7 +178,7 @@ module _ (a : Marks) (t : Task) (own : HandleAgrees a (InAgrees a) t.handle t) (
   act-keeps : {back : _} {b : Body} {x : Handled} → Act d t m back b x → (back ≡ false → Says a m.message.from m.message.my_ref m.message.your_ref b) →
       (back ≡ false → Unloaded a h m.message.my_ref) → Keeps a x
   act-keeps (skips none) is apart = still g
-  act-keeps (fails x o it) is apart = still (out a h d g x.id (outgoing.Failed x.id x.count) tt)
+  act-keeps (fails x o it z) is apart = still (out a h d g x.id (outgoing.Failed x.id x.count) tt)
   act-keeps (sends {buffer = buffer} {n = n} x source r sent it w) is apart =
       let p : Part = part_of d t m buffer n x source in
       let all = grant-holds (marked-agrees a (Some x.id) _ d tt g) w.letter in
@@ -192,7 +192,7 @@ module _ (a : Marks) (t : Task) (own : HandleAgrees a (InAgrees a) t.handle t) (
   act-keeps (finishes x source it there) is apart = still (out a h d g x.id (outgoing.Done x.id (length source.here.bytes)) tt)
   act-keeps (claims k b p sent few free claim alloc l) is apart =
       still (ins-agree h _ (λ ws old. all-more (InAgrees a h) _ _ ws (apart refl) old) sent (posted a h _ (slot-agrees h _ d g) _ tt l))
-  act-keeps (gives_up f o it) is apart = still (ended a h d g f (incoming.Failed f.id f.anchor f.count) (of-active f it.has))
+  act-keeps (gives_up f o it z) is apart = still (ended a h d g f (incoming.Failed f.id f.anchor f.count) (of-active f it.has))
   act-keeps (takes_last {n = n} f e it l less) is apart = still (ended a h e (longer _ _ l).desk f (incoming.Done f.id f.anchor (f.count + n)) tt)
   act-keeps (takes_some {n = n} f e o it l) is apart =
       still (ended a h e (longer _ _ l).desk f (incoming.Failed f.id f.anchor (f.count + n)) (of-active f (inl it.has)))
@@ -202,7 +202,7 @@ module _ (a : Marks) (t : Task) (own : HandleAgrees a (InAgrees a) t.handle t) (
   act-keeps (asks f sent it none l) is apart =
       let all = grant-holds (marked-agrees a (Some f.id) _ d (next-is f.id) g) l in
       marks f.id (ended (next_of f.id) h sent all f (incoming.Asking (receiver.asked_by f (next_ref d))) (next-is f.id, of-active f (inl it.has)))
-  act-keeps (abandons q o it) is apart = still (in_ a h d g q.id (incoming.Failed q.id q.anchor 0) (of-asking q it.has).1)
+  act-keeps (abandons q o it z) is apart = still (in_ a h d g q.id (incoming.Failed q.id q.anchor 0) (of-asking q it.has).1)
   act-keeps (loads_only q file e o it w) is apart =
       still (in_ a h (record e { scrap = None }) (longer _ _ w.longer_is).desk q.id (incoming.Failed q.id q.anchor (length file.bytes)) (of-asking q it.has).1)
   act-keeps (loads q file e sent it w l) is apart =

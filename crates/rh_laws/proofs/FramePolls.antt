@@ -17,7 +17,8 @@ use Rattle.rh_defs.proofs.Chains.{grant-holds}
 use Rattle.rh_safety.proofs.Ends.{Letter}
 use Rattle.rh_safety.proofs.Sight as sight
 use Rattle.rh_safety.proofs.Invariant.{Offered}
-use Rattle.rh_safety.proofs.KeptFetch.{fetch_in, reaches}
+use Rattle.rh_safety.proofs.KeptActs.{reaches, waits}
+use Rattle.rh_safety.proofs.SeenActs.{fetch_in}
 use Rattle.rh_safety.proofs.KeptPolls.{Given, given}
 use Rattle.rh_safety.proofs.Acts.{ForOpen, Sends, handled-acts, not-back, part_of, poured, transmit_of}
 use Rattle.rh_safety.proofs.Basics.{not_true}
@@ -97,10 +98,8 @@ module _ (k : ℕ) (t : Task) (ne : t.handle ≢ k) (d : Desk) (m : Parcel) (is 
               let lives = live_of d x.recipient r w.to in
               let file = not_true _ (and_left _ (sender.would_answer m.message.from m.message.your_ref n x) it.passes) in
               let found = and_right _ (sender.would_answer m.message.from m.message.your_ref n x) it.passes in
-              let reach = reaches d t m is buffer n tk file x it.has found lives in
-              let off = field_is (λ y. answers_none y.manner) false t.handle d.tasks t is ∙ file in
-              let wait = tk.waiter x (subst (λ (vs : List Outgoing). Has (outgoing.Open x) vs)
-              (sym (field_is (λ y. y.sending) [] t.handle d.tasks t is)) it.has) refl found off lives in
+              let reach = reaches d t m is buffer n tk x it.has file found lives in
+              let wait = waits d t m is buffer n tk x it.has file found lives in
               let was : task_at k d ≡ Some r = subst (λ j. task_of j d.tasks ≡ Some r) here.1 w.to in
               let c = buffer_found buffer n r.slot reach.old (ap (λ (g : ℕ → Option (List ℕ)). g buffer)
               (sym (field_is (λ y. buffers_of y.slot) (λ a. None) x.recipient d.tasks r w.to)) ∙ reach.there) reach.fits

@@ -23,26 +23,12 @@ use Rattle.rh_safety.proofs.Ends.{Letter, first_for}
 use Rattle.rh_safety.proofs.Sight as sight
 use Rattle.rh_safety.proofs.Invariant.{rests}
 use Rattle.rh_safety.proofs.Turns.{first_one}
-use Rattle.rh_safety.proofs.PollTurns as other
 use Rattle.rh_safety.proofs.SeenKeys.{handle_named, SameKeys}
 use Rattle.rh_safety.proofs.SeenTaking.{IsTaken, lost_queue, picked_by, poll_taken_is}
 use Rattle.rh_safety.proofs.SeenFiles.{seen_live}
-use Rattle.rh_laws.proofs.ScrapViews.{came_as, came_is, back_is, asked_view, filed_view, done_view, told_view}
+use Rattle.rh_laws.proofs.ScrapViews.{asked_goes, back_acts, done_goes, filed_goes, ignored_goes, told_goes}
 use Rattle.rh_safety.proofs.Alternations.{IsNamed, found_of, poll_in_range, poll_step, taken_keys}
-use Rattle.rh_safety.proofs.PollTurns.{lost_picked, lost_twice, one_of}
-
--- ---- the message that is taken
-
--- the scrap file of a recorded message stays when that is taken
-abbrev KeepsFile : Desk → Desk → Parcel → Type 0
-KeepsFile d e p = (file : Scrap) → d.scrap ≡ Some file → p.code ≡ Recorded → file.load ≡ p.message.my_ref →
-    e.scrap ≡ Some file
-
--- A task takes the message, which is the only one, and deals with it.
-pub data Turn (d : Desk) : ℕ → Message → Answer → Type 0 where
-  takes : (e : Desk) (t : Task) (p : Parcel) → task_of t.handle e.tasks ≡ Some t →
-      sight.lost (view e) ≡ sight.picked (sight.lost (view d)) t.handle (seen_parcel p) p.code → KeepsFile d e p →
-      Turn d t.handle (seen_parcel p) (event p (transfer.handled e t p p.code))
+use Rattle.rh_safety.proofs.PollTurns.{Turn, came_acts, lost_twice, takes, turn_is}
 
 module _ (d : Desk) (t : Task) (p : Post × Option Parcel) (w : IsTaken d t.handle p)
     (is : task_of t.handle d.tasks ≡ Some t) where
@@ -51,34 +37,6 @@ module _ (d : Desk) (t : Task) (p : Post × Option Parcel) (w : IsTaken d t.hand
 
   abbrev left : Desk
   left = with_delivered p.0 d
-
-  -- the poll of a task that holds nothing, where the post has one message for it
-  turn_is : (m : Message) → (view d).held here ≡ None → (view d).queue ≡ m ∷ [] → m.to ≡ here →
-      Turn d here m (poll_taken left t p.1)
-  unfolding poll_taken with_delivered
-  turn_is m none queue to =
-      let back = sight.returned (view d) here ((view d).held here) in
-      let same : sight.lost_if w.lost back ≡ sight.lost_if w.lost (view d) = ap (λ (v : Option Message).
-      sight.lost_if w.lost (sight.returned (view d) here v)) none in
-      let first : option_map seen_parcel p.1 ≡ Some m = sym w.first ∙ ap (λ (y : sight.Desk). first_for here y.queue)
-      same ∙ ap (first_for here) (lost_queue w.lost (view d) ∙ queue) ∙ first_one here m to in
-      let o = one_of p.1 m first in
-      let q : Parcel = o.0 in
-      let seen : view left ≡ sight.picked (sight.lost_if w.lost (view d)) here (seen_parcel q) q.code = w.seen ∙
-      ap (λ (v : Option Parcel). picked_by here (option_map seen_parcel v) (sight.lost_if w.lost back)) o.1 ∙
-      ap (λ (y : sight.Desk). sight.picked y here (seen_parcel q) q.code) same in
-      let taken : sight.lost (view left) ≡ sight.picked (sight.lost (view d)) here (seen_parcel q) q.code =
-      ap sight.lost seen ∙ lost_picked (sight.lost_if w.lost (view d)) here (seen_parcel q) q.code ∙
-      ap (λ (y : sight.Desk). sight.picked y here (seen_parcel q) q.code) (lost_twice w.lost (view d)) in
-      let keeps : KeepsFile d left q = λ file there code load.
-      let held : (view left).held here ≡ Some (seen_parcel q) = ap (λ (y : sight.Desk). y.held here)
-      (taken ∙ ap (sight.picked (sight.lost (view d)) here (seen_parcel q)) code) ∙
-      put_same (view d).held here (Some (seen_parcel q)) in
-      let live : post_is_live file.load p.0 ≡ true = seen_live p.0 file.load (rests here (seen_parcel q) held
-      (sym load)) in
-      ap (kept_scrap p.0) there ∙ (rw live refl) in
-      subst (λ (v : Option Parcel). Turn d here m (poll_taken left t v)) (sym o.1)
-      (subst (λ (x : Message). Turn d here x (event q (transfer.handled left t q q.code))) o.2 (takes left t q is taken keeps))
 
   -- the poll of a task for which there is no message, even where one has gone back
   none_is : first_for here (sight.returned (view d) here ((view d).held here)).queue ≡ None →
@@ -98,29 +56,6 @@ module _ (d : Desk) (t : Task) (p : Post × Option Parcel) (w : IsTaken d t.hand
 
 -- ---- what each message leaves to see
 
-module _ (e : Desk) (t : Task) (p : Parcel) where
-  -- a message that came
-  came_handled : (c : EventCode) → (c ≡ Acknowledge → ⊥) → (x : Handled) →
-      came_as e t p (action_of p.message.body) ≡ Some x → transfer.handled e t p c ≡ x
-  unfolding transfer.handled
-  came_handled User ne x q = came_is e t p p.message.body x q
-  came_handled Recorded ne x q = came_is e t p p.message.body x q
-  came_handled Acknowledge ne x q = absurd (ne refl)
-
-  -- a fetch that came back
-  back_handled : (c : EventCode) → c ≡ Acknowledge → action_of p.message.body ≡ action.RamFetch →
-      transfer.handled e t p c ≡ perform_take e t (receiver.on_taking_bounce p.message.my_ref t.taking)
-  unfolding transfer.handled
-  back_handled User q kind = absurd (let z : User ≡ Acknowledge = q in (cc))
-  back_handled Recorded q kind = absurd (let z : Recorded ≡ Acknowledge = q in (cc))
-  back_handled Acknowledge q kind = back_is e t p p.message.body kind
-
-  -- the handler was refused nothing
-  granted_by : (x : Handled) (k : Action) → transfer.handled e t p p.code ≡ x → action_of p.message.body ≡ k →
-      is_refused_poll (event p (transfer.handled e t p p.code)).1 ≡ false → is_refusal k x.1 ≡ false
-  granted_by x k same kind granted = subst (λ (j : Action). is_refusal j x.1 ≡ false) kind
-      (ap (λ (z : Handled). is_refusal (action_of p.message.body) z.1) (sym same) ∙ granted)
-
 -- another code than that of a message that came back
 recorded_came : (c : EventCode) → c ≡ Recorded → c ≡ Acknowledge → ⊥
 recorded_came c q r = let z : Recorded ≡ Acknowledge = sym q ∙ r in (cc)
@@ -136,16 +71,7 @@ ignored_turn d h m a (takes e t p is taken keeps) code kind file =
     let seen = taken ∙ ap (sight.picked (sight.lost (view d)) t.handle (seen_parcel p)) code in
     let none : answers_none t.manner ≡ true = sym (field_is (λ y. answers_none y.manner) false t.handle e.tasks t is) ∙
     ap (λ (y : sight.Desk). y.file t.handle) seen ∙ file in
-    let same = came_handled e t p p.code (recorded_came p.code code) (ignored e) (ap (came_as e t p) kind ∙
-    ap (λ (b : Bool). if b then Some (ignored e) else None) none) in
-    ap (λ (z : Handled). sight.lost (view z.0)) same ∙ seen
-
--- what a first fetch that came back asks for
-back_asks : (f : Taking) → f.count ≡ 0 → receiver.back_for (incoming.Fetching f) ≡ Some (take_action.AskForFile f)
-back_asks f none = ap (λ (b : Bool). Option.Some (if b then take_action.AskForFile f else take_action.Release (record {
-  transfer = f;
-  ending = ending.Unanswered;
-}))) (eq-eqb f.count 0 none)
+    ap sight.lost (ignored_goes e t p is p.message.body (came_acts e t p (recorded_came p.code code)) kind none) ∙ seen
 
 -- a first fetch that came back
 pub asked_turn : (d : Desk) (h : ℕ) (m : Message) (a : Answer) → Turn d h m a → is_refused_poll a.1 ≡ false →
@@ -154,12 +80,8 @@ pub asked_turn : (d : Desk) (h : ℕ) (m : Message) (a : Answer) → Turn d h m 
     sight.lost (view a.0) ≡ sight.asked (sight.picked (sight.lost (view d)) h m Acknowledge) h f
 asked_turn d h m a (takes e t p is taken keeps) granted code kind f none found =
     let seen = taken ∙ ap (sight.picked (sight.lost (view d)) t.handle (seen_parcel p)) code in
-    let records : t.taking ≡ (view d).taking t.handle = sym (field_is (λ y. y.taking) [] t.handle e.tasks t is) ∙
-    ap (λ (y : sight.Desk). y.taking t.handle) seen in
-    let same = back_handled e t p p.code code kind ∙ ap (perform_take e t) (ap (receiver.on_taking_bounce p.message.my_ref)
-    records ∙ ap (receiver.of_record receiver.back_for) found ∙ back_asks f none) in
-    ap (λ (z : Handled). sight.lost (view z.0)) same ∙
-    ap sight.lost (asked_view e t p p.message.body is f (granted_by e t p _ action.RamFetch same kind granted)) ∙
+    ap sight.lost (asked_goes e t p is p.message.body (back_acts e t p code) kind f none
+    (ap (λ (y : sight.Desk). active_of (λ k. k.fetch == p.message.my_ref) (y.taking t.handle)) seen ∙ found) granted) ∙
     ap (λ (y : sight.Desk). sight.asked y t.handle f) seen
 
 -- a DataSaveAck
@@ -188,16 +110,9 @@ pub filed_turn : (d : Desk) (h : ℕ) (m : Message) (a : Answer) → Turn d h m 
 filed_turn d h m a (takes e t p is taken keeps) granted code kind x bytes found from there =
     let l : Letter = (seen_parcel p).letter in
     let seen = taken ∙ ap (sight.picked (sight.lost (view d)) t.handle (seen_parcel p)) code in
-    let records : t.sending ≡ (view d).sending t.handle = sym (field_is (λ y. y.sending) [] t.handle e.tasks t is) ∙
-    ap (λ (y : sight.Desk). y.sending t.handle) seen in
-    let act : Sending → SendAction = sender.file_for p.message.from p.message.my_ref in
-    let same = came_handled e t p p.code (recorded_came p.code code) (perform_send e t (Some (act x))) (ap (came_as e t p)
-    kind ∙ ap (λ (o : Option Sending). Option.Some (perform_send e t (option_map act o))) (ap (open_of (sender.asks_for
-    p.message.from p.message.your_ref)) records ∙ found)) in
-    let block = ap (λ (y : sight.Desk). y.block t.handle x.anchor) seen ∙ there in
-    let v = filed_view e t p p.message.body is x bytes from block (granted_by e t p _ action.DataSaveAck same kind
-    granted) in
-    let after = ap (λ (z : Handled). view z.0) same ∙ v in
+    let after = filed_goes e t p is p.message.body (came_acts e t p (recorded_came p.code code)) kind x bytes
+    (ap (λ (y : sight.Desk). open_of (sender.asks_for p.message.from p.message.your_ref) (y.sending t.handle)) seen ∙ found) from
+    (ap (λ (y : sight.Desk). y.block t.handle x.anchor) seen ∙ there) granted in
     let file = file_of (transfer.handled e t p p.code).0.scrap (view e).next_ref bytes (ap (λ (y : sight.Desk).
     y.scrap) after) in
     record {
@@ -218,15 +133,8 @@ told_turn d h m a (takes e t p is taken keeps) granted code kind q file there lo
     let l : Letter = (seen_parcel p).letter in
     let n = length file.bytes in
     let seen = taken ∙ ap (sight.picked (sight.lost (view d)) t.handle (seen_parcel p)) code in
-    let records : t.taking ≡ (view d).taking t.handle = sym (field_is (λ y. y.taking) [] t.handle e.tasks t is) ∙
-    ap (λ (y : sight.Desk). y.taking t.handle) seen in
-    let act : Asked → TakeAction = receiver.load_for p.message.from p.message.my_ref in
-    let same = came_handled e t p p.code (recorded_came p.code code) (perform_take e t (Some (act q))) (ap (came_as e t p)
-    kind ∙ ap (λ (o : Option Asked). Option.Some (perform_take e t (option_map act o))) (ap (asking_of (receiver.is_load
-    p.message.from p.message.your_ref)) records ∙ found)) in
-    ap (λ (z : Handled). sight.lost (view z.0)) same ∙
-    ap sight.lost (told_view e t p p.message.body is q file (keeps file there code load) load from (granted_by e t p _
-    action.DataLoad same kind granted)) ∙
+    ap sight.lost (told_goes e t p is p.message.body (came_acts e t p (recorded_came p.code code)) kind q file (keeps file there code load) load
+    (ap (λ (y : sight.Desk). asking_of (receiver.is_load p.message.from p.message.your_ref) (y.taking t.handle)) seen ∙ found) from granted) ∙
     ap (λ (y : sight.Desk). sight.lost (sight.told (sight.copied y t.handle q file.bytes) t.handle l q n)) seen
 
 -- a DataLoadAck
@@ -237,22 +145,15 @@ pub done_turn : (d : Desk) (h : ℕ) (m : Message) (a : Answer) → Turn d h m a
     (view d)) h m User) h x (outgoing.Done x.id (length bytes))
 done_turn d h m a (takes e t p is taken keeps) granted code kind x bytes found there =
     let seen = taken ∙ ap (sight.picked (sight.lost (view d)) t.handle (seen_parcel p)) code in
-    let records : t.sending ≡ (view d).sending t.handle = sym (field_is (λ y. y.sending) [] t.handle e.tasks t is) ∙
-    ap (λ (y : sight.Desk). y.sending t.handle) seen in
-    let same = came_handled e t p p.code (user_came p.code code) (perform_send e t (Some (send_action.Finish x)))
-    (ap (came_as e t p) kind ∙ ap (λ (o : Option Sending). Option.Some (perform_send e t (option_map send_action.Finish o)))
-    (ap (open_of (sender.is_loaded p.message.from p.message.your_ref)) records ∙ found)) in
-    let block = ap (λ (y : sight.Desk). y.block t.handle x.anchor) seen ∙ there in
-    ap (λ (z : Handled). sight.lost (view z.0)) same ∙
-    ap sight.lost (done_view e t p p.message.body is x bytes block (granted_by e t p _ action.DataLoadAck same kind
-    granted)) ∙
+    ap sight.lost (done_goes e t p is p.message.body (came_acts e t p (user_came p.code code)) kind x bytes
+    (ap (λ (y : sight.Desk). open_of (sender.is_loaded p.message.from p.message.your_ref) (y.sending t.handle)) seen ∙ found)
+    (ap (λ (y : sight.Desk). y.block t.handle x.anchor) seen ∙ there) granted) ∙
     ap (λ (y : sight.Desk). sight.with_out y t.handle x (outgoing.Done x.id (length bytes))) seen
 
 -- ---- a poll, by name
 
 -- the desk after a poll of task h
 pub record IsPolled (d : Desk) (h : ℕ) (a : Answer) : Type 0 where
-  pub first : (m : Message) → (view d).held h ≡ None → (view d).queue ≡ m ∷ [] → m.to ≡ h → other.Turn d h m a
   pub turn : (m : Message) → (view d).held h ≡ None → (view d).queue ≡ m ∷ [] → m.to ≡ h → Turn d h m a
   pub none : first_for h (sight.returned (view d) h ((view d).held h)).queue ≡ None →
       sight.lost (view a.0) ≡ sight.lost (sight.returned (view d) h ((view d).held h))
@@ -274,8 +175,6 @@ is_polled d name h kept valid is_named =
     let taken = poll_taken_is d t.handle f (live_of d t.handle t is) in
     let same = poll_step d name t w.1 in
     subst (λ (k : ℕ). IsPolled d k (step d (command.Poll name))) w.2 (record {
-      first = λ m none queue to. subst (λ (y : Answer). other.Turn d t.handle m y) (sym same) (other.turn_is d t m p
-          taken is none queue to);
       turn = λ m none queue to. subst (λ (y : Answer). Turn d t.handle m y) (sym same) (turn_is d t p taken is m
           none queue to);
       none = λ nothing. subst (λ (y : Answer). sight.lost (view y.0) ≡ sight.lost (sight.returned (view d) t.handle

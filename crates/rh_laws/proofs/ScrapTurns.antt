@@ -489,7 +489,7 @@ module _ (d : Desk) (w : IsReached d) (s r : List ℕ) (k : ℕ) (leaf : List �
       let none = ap (λ (y : sight.Desk). y.held hr) seen0 ∙ none_held D hs hr k source quiet hr in
       let queue = ap (λ (y : sight.Desk). y.queue) seen0 ∙ offer_queued D hs hr k source quiet in
       subst (λ (y : sight.Desk). Began (sight.picked y hr m Recorded) hr m.letter (seen one)) seen0
-      (other.save_turn d0 hr m (step d0 (command.Poll r)) (first.first m none queue refl) (granted d0 (command.Poll r)
+      (other.save_turn d0 hr m (step d0 (command.Poll r)) (first.turn m none queue refl) (granted d0 (command.Poll r)
       (from_second s r) c.all) (λ z. let y : Recorded ≡ Acknowledge = z in (cc)) refl)
 
   abbrev places : Pair

@@ -147,7 +147,7 @@ module _ (o : Offers) (t : Task) (own : Owns o t) (w n : ℕ) (held : Option Par
     act-falls : {back : Bool} {b : Body} {r : Handled} → Act d t m back b r → Lets m.message.my_ref held → (back ≡ true → held ≡ None) →
         held_work held + 1 ≤ work_of back b → Falls (work_of back b) r
     act-falls (skips none) lets bare room = plain-falls room d _ is
-    act-falls (fails x why it) lets bare room = shut-falls room (sender.sending_failed x) (failed-outs x it.has) _
+    act-falls (fails x why it z) lets bare room = shut-falls room (sender.sending_failed x) (failed-outs x it.has) _
     act-falls (sends {buffer = buffer} {n = n} x source r sent it w) lets bare room =
         let a : Transmit = transmit_of d t m buffer n x in
         let part : Part = part_of d t m buffer n x source in
@@ -174,7 +174,7 @@ module _ (o : Offers) (t : Task) (own : Owns o t) (w n : ℕ) (held : Option Par
         shut-falls room (sender.sending_loaded x (length source.here.bytes)) (loaded-outs x it.has _) _
     act-falls (claims k b p sent few free claim alloc l) lets bare room =
         let all = grant-holds (letter-here o _ refl lets _ (slot-here o h _ d is)) l in sent-falls 8 (omega arith) _ _ (all.0, ins-here o h _ sent all.1)
-    act-falls (gives_up f why it) lets bare room = plain-falls room _ _ (ended-here o h f _ d is)
+    act-falls (gives_up f why it z) lets bare room = plain-falls room _ _ (ended-here o h f _ d is)
     act-falls (takes_last f e it l less) lets bare room = plain-falls room _ _ (ended-here o h f _ e (longer _ _ l))
     act-falls (takes_some f e x it l) lets bare room = plain-falls room _ _ (ended-here o h f _ e (longer _ _ l))
     act-falls (takes_full f e sent it l full s) lets bare room =
@@ -182,7 +182,7 @@ module _ (o : Offers) (t : Task) (own : Owns o t) (w n : ℕ) (held : Option Par
     act-falls (asks f sent it none l) lets bare room =
         let all = grant-holds (letter-here o _ refl (subst (Lets f.id) (sym (bare refl)) tt) d is) l in
         sent-falls 5 (omega arith) _ _ (all.0, ended-here o h f _ sent all.1)
-    act-falls (abandons q x it) lets bare room = plain-falls room _ _ (ins-here o h _ d is)
+    act-falls (abandons q x it z) lets bare room = plain-falls room _ _ (ins-here o h _ d is)
     act-falls (loads_only q file e x it w) lets bare room =
         plain-falls room _ _ (ins-here o h _ (record e { scrap = None }) (filed e None e.areas (longer _ _ w.longer_is)))
     act-falls (loads q file e sent it w l) lets bare room =

@@ -1,7 +1,7 @@
 -- What a task does with a message that a poll hands it, told once: the record that the message is for, the letter that goes out,
 -- and the desk after it.
 use Rattle.rh_safety.proofs.Common.{Acknowledge, Active, AnchorInUse, Append, Asked, Bool, Body, Claim, Desk, Err, EventCode, Fetch, FoundActive, Granted, Handled, Has, OnGrant}
-use Rattle.rh_safety.proofs.Common.{Incoming, LoadFile, NoTask, None, Ok, Option, Outcome, Part, Recorded, SaveFile, Scrap, SendAction, Sending, Split, Flex}
+use Rattle.rh_safety.proofs.Common.{Incoming, LoadFile, NoTask, None, Ok, Option, Outcome, Part, Recorded, Refusal, SaveFile, Scrap, SendAction, Sending, Split, Flex}
 use Rattle.rh_safety.proofs.Common.{Some, TakeAction, Taking, Task, Transmit, User, accept, ack_back, active_is, and_right, answers_none, append, appended}
 use Rattle.rh_safety.proofs.Common.{ask, asking_is, buffer_at, came, came_back, drains, drop, either, fail_sending, false, fetch_letter, fetch_more, fetches}
 use Rattle.rh_safety.proofs.Common.{free_anchor, free_pages, granted, granted-past, granted-then, handled, heap_block_at, if◌then◌else◌, ignored, inl, inr}
@@ -36,6 +36,11 @@ is_back _ = false
 
 pub not-back : (c : EventCode) → is_back c ≡ false → c ≡ Acknowledge → ⊥
 not-back c e z = let y : true ≡ false = subst (λ c. is_back c ≡ false) z e in cc
+
+pub came-back : (c : EventCode) → is_back c ≡ true → c ≡ Acknowledge
+came-back User e = absurd (let z : false ≡ true = e in (cc))
+came-back Recorded e = absurd (let z : false ≡ true = e in (cc))
+came-back Acknowledge e = refl
 
 -- the file of this ref is there
 abbrev pub is_file : ℕ → Option Scrap → Bool
@@ -86,10 +91,12 @@ module _ (d : Desk) (t : Task) (m : Parcel) where
   is_for_asking back b q = false
 
   pub record ForOpen (back : Bool) (b : Body) (x : Sending) : Type 0 where
+    pub found : open_of (is_for_open back b) t.sending ≡ Some x
     pub has : Has (outgoing.Open x) t.sending
     pub passes : is_for_open back b x ≡ true
 
   pub record ForFetching (back : Bool) (b : Body) (f : Taking) : Type 0 where
+    pub found : active_of (is_for_active back b) t.taking ≡ Some (incoming.Fetching f)
     pub has : Has (incoming.Fetching f) t.taking
     pub passes : is_for_active back b f ≡ true
 
@@ -98,6 +105,7 @@ module _ (d : Desk) (t : Task) (m : Parcel) where
     pub passes : is_for_active back b f ≡ true
 
   pub record ForAsking (back : Bool) (b : Body) (q : Asked) : Type 0 where
+    pub found : asking_of (is_for_asking back b) t.taking ≡ Some q
     pub has : Has (incoming.Asking q) t.taking
     pub passes : is_for_asking back b q ≡ true
 
@@ -108,6 +116,17 @@ module _ (d : Desk) (t : Task) (m : Parcel) where
     pub asking : (q : Asked) → Has (incoming.Asking q) t.taking → is_for_asking back b q ≡ false
 
   -- ---- what is done with it
+
+  -- why nothing comes of a record: its message came back, or what there was to do was refused
+  abbrev pub Refuses : Bool → Outcome → Type 0
+  Refuses false o = (r : Refusal) × (o ≡ outcome.Refused r)
+  Refuses true o = Unit {0}
+
+  -- why one that has a buffer ends: it was cancelled, or refused, or its fetch came back that wasn't the first
+  pub data Leaves (back : Bool) (b : Body) (f : Taking) (o : Outcome) : Type 0 where
+    drained : active_of (is_for_active back b) t.taking ≡ Some (incoming.Draining f) → Leaves back b f o
+    refused : (r : Refusal) → o ≡ outcome.Refused r → Leaves back b f o
+    unanswered : active_of (is_for_active back b) t.taking ≡ Some (incoming.Fetching f) → back ≡ true → (f.count == 0) ≡ false → Leaves back b f o
 
   -- the answers to a DataSave, a DataSaveAck, a DataLoad and a fetch, and what follows on n bytes
   abbrev pub claim_of : Claim
@@ -153,7 +172,7 @@ module _ (d : Desk) (t : Task) (m : Parcel) where
   pub data Act : Bool → Body → Handled → Type 0 where
     skips : {back : Bool} {b : Body} → ForNone back b → Act back b (ignored d)
     -- an open record fails, sends bytes, saves a file, and ends
-    fails : {back : Bool} {b : Body} (x : Sending) (o : Outcome) → ForOpen back b x → Act back b (with_sending h (sender.sending_failed x) d, o)
+    fails : {back : Bool} {b : Body} (x : Sending) (o : Outcome) → ForOpen back b x → Refuses back o → Act back b (with_sending h (sender.sending_failed x) d, o)
     sends : {buffer n : ℕ} (x : Sending) (source : Split Flex) (r : Task) (sent : Desk) → ForOpen false (body.RamFetch buffer n) x →
         Sends buffer n x source r sent → Act false (body.RamFetch buffer n) (
           with_sending h (sender.sent (transmit_of buffer n x) (part_of buffer n x source) (next_ref d)) (poured buffer n (part_of buffer n x source) source r sent),
@@ -174,14 +193,14 @@ module _ (d : Desk) (t : Task) (m : Parcel) where
         send_letter (fetch_letter h (receiver.first_fetch claim_of b.1 t.buffer)) (with_slot h p.0 d) ≡ Ok sent →
         Act false (body.DataSave file) (with_taking h (receiver.taking_claimed claim_of k b.1 (next_ref d)) sent, outcome.Fetch (next_ref d))
     -- one that has a buffer ends with none of the bytes, with the last ones, with the first of more, and goes on; or asks for a file
-    gives_up : {back : Bool} {b : Body} (f : Taking) (o : Outcome) → ForActive back b f → Act back b (end_failed d t f, o)
+    gives_up : {back : Bool} {b : Body} (f : Taking) (o : Outcome) → ForActive back b f → Leaves back b f o → Act back b (end_failed d t f, o)
     takes_last : {buffer n : ℕ} (f : Taking) (longer : Desk) → ForFetching false (body.RamTransmit buffer n) f → longer_of n f longer →
         nat_lt n t.buffer ≡ true → Act false (body.RamTransmit buffer n) (
           taking_ended h f (receiver.finished (append_of n f)) longer,
           outcome.TookLast n,
         )
-    takes_some : {buffer n : ℕ} (f : Taking) (longer : Desk) (o : Outcome) → ForFetching false (body.RamTransmit buffer n) f → longer_of n f longer →
-        Act false (body.RamTransmit buffer n) (taking_ended h f (receiver.failed_with (append_of n f) n) longer, o)
+    takes_some : {buffer n : ℕ} (f : Taking) (longer : Desk) (r : Refusal) → ForFetching false (body.RamTransmit buffer n) f → longer_of n f longer →
+        Act false (body.RamTransmit buffer n) (taking_ended h f (receiver.failed_with (append_of n f) n) longer, outcome.TookFailed n r)
     takes_full : {buffer n : ℕ} (f : Taking) (longer sent : Desk) → ForFetching false (body.RamTransmit buffer n) f → longer_of n f longer →
         nat_lt n t.buffer ≡ false → send_letter (fetch_letter h (receiver.next_fetch f my t.buffer)) longer ≡ Ok sent →
         Act false (body.RamTransmit buffer n) (
@@ -192,9 +211,9 @@ module _ (d : Desk) (t : Task) (m : Parcel) where
         send_letter (ack_letter h f) d ≡ Ok sent →
         Act true (body.RamFetch buffer n) (taking_ended h f (receiver.asking f (next_ref d)) sent, outcome.Asked (next_ref d))
     -- one that waits for a file ends without it, with it, and with its sender told
-    abandons : {back : Bool} {b : Body} (q : Asked) (o : Outcome) → ForAsking back b q → Act back b (with_taking h (receiver.abandoned q 0) d, o)
-    loads_only : {file : FileData} (q : Asked) (scrap : Scrap) (longer : Desk) (o : Outcome) → ForAsking false (body.DataLoad file) q → Loads q scrap longer →
-        Act false (body.DataLoad file) (with_taking h (receiver.abandoned q (length scrap.bytes)) (record longer { scrap = None }), o)
+    abandons : {back : Bool} {b : Body} (q : Asked) (o : Outcome) → ForAsking back b q → Refuses back o → Act back b (with_taking h (receiver.abandoned q 0) d, o)
+    loads_only : {file : FileData} (q : Asked) (scrap : Scrap) (longer : Desk) (r : Refusal) → ForAsking false (body.DataLoad file) q → Loads q scrap longer →
+        Act false (body.DataLoad file) (with_taking h (receiver.abandoned q (length scrap.bytes)) (record longer { scrap = None }), outcome.LoadedFailed (length scrap.bytes) r)
     loads : {file : FileData} (q : Asked) (scrap : Scrap) (longer sent : Desk) → ForAsking false (body.DataLoad file) q → Loads q scrap longer →
         send_letter (load_ack_letter h (load_of q) (length scrap.bytes)) (record longer { scrap = None }) ≡ Ok sent →
         Act false (body.DataLoad file) (with_taking h (receiver.taking_loaded q (length scrap.bytes)) sent, outcome.Loaded (length scrap.bytes))
@@ -215,7 +234,7 @@ module _ (d : Desk) (t : Task) (m : Parcel) where
   unfolding fail_sending
   failed active asking None e = unopened active asking e
   failed {b} active asking (Some x) e =
-      let w = open_is (is_for_open true b) t.sending x e in fails x outcome.Failed (record { has = w.0; passes = w.1 })
+      let w = open_is (is_for_open true b) t.sending x e in fails x outcome.Failed (record { found = e; has = w.0; passes = w.1 }) tt
 
   fetched : (buffer n : ℕ) → answers_none t.manner ≡ false → (v : Option Sending) → open_of (sender.would_answer from your n) t.sending ≡ v →
       Act false (body.RamFetch buffer n) (perform_send d t (option_map (sender.transmit_for from my buffer n) v))
@@ -227,11 +246,15 @@ module _ (d : Desk) (t : Task) (m : Parcel) where
   })
   fetched buffer n some (Some x) e =
       let w = open_is (sender.would_answer from your n) t.sending x e in
-      let it : ForOpen false (body.RamFetch buffer n) x = record { has = w.0; passes = rw some w.1 } in
+      let it : ForOpen false (body.RamFetch buffer n) x = record {
+        found = subst (λ c. open_of (λ x. not c && sender.would_answer from your n x) t.sending ≡ Some x) (sym some) e;
+        has = w.0;
+        passes = rw some w.1;
+      } in
       or_else-keeps (Act false (body.RamFetch buffer n)) _
       (granted-then _ _ λ source s. granted-then _ _ λ r to. granted-past _ _ _ λ reach. granted-then _ _ λ sent l.
       granted (sends x source r sent it (record { source_is = s; to = is_found (task_at x.recipient d) NoTask r to; letter = l })))
-      (λ refusal. fails x (outcome.Refused refusal) it)
+      (λ refusal. fails x (outcome.Refused refusal) it (refusal, refl))
 
   filed : (file : FileData) (v : Option Sending) → open_of (sender.asks_for from your) t.sending ≡ v →
       Act false (body.DataSaveAck file) (perform_send d t (option_map (sender.file_for from my) v))
@@ -239,11 +262,11 @@ module _ (d : Desk) (t : Task) (m : Parcel) where
   filed file None e = unopened (λ f. refl) (λ q. refl) e
   filed file (Some x) e =
       let w = open_is (sender.asks_for from your) t.sending x e in
-      let it : ForOpen false (body.DataSaveAck file) x = record { has = w.0; passes = w.1 } in
+      let it : ForOpen false (body.DataSaveAck file) x = record { found = e; has = w.0; passes = w.1 } in
       or_else-keeps (Act false (body.DataSaveAck file)) _
       (granted-then _ _ λ source s. granted-past _ _ _ λ busy. granted-both _ (any-grant _) λ y u. granted-past _ _ _ λ room.
       granted-then _ _ λ sent l. granted (saves x source sent it s busy l))
-      (λ refusal. fails x (outcome.Refused refusal) it)
+      (λ refusal. fails x (outcome.Refused refusal) it (refusal, refl))
 
   finished : (file : FileData) (v : Option Sending) → open_of (sender.is_loaded from your) t.sending ≡ v →
       Act false (body.DataLoadAck file) (perform_send d t (option_map send_action.Finish v))
@@ -251,9 +274,9 @@ module _ (d : Desk) (t : Task) (m : Parcel) where
   finished file None e = unopened (λ f. refl) (λ q. refl) e
   finished file (Some x) e =
       let w = open_is (sender.is_loaded from your) t.sending x e in
-      let it : ForOpen false (body.DataLoadAck file) x = record { has = w.0; passes = w.1 } in
+      let it : ForOpen false (body.DataLoadAck file) x = record { found = e; has = w.0; passes = w.1 } in
       or_else-keeps (Act false (body.DataLoadAck file)) _ (granted-then _ _ λ source s. granted (finishes x source it s))
-      (λ refusal. fails x (outcome.Refused refusal) it)
+      (λ refusal. fails x (outcome.Refused refusal) it (refusal, refl))
 
   claimed : (file : FileData) → Act false (body.DataSave file) (perform_take d t (receiver.on_save (is_deaf t.manner) from my t.taking))
   unfolding perform_take take_with accept
@@ -280,14 +303,14 @@ module _ (d : Desk) (t : Task) (m : Parcel) where
     some-taken longer l =
         either (λ (b : Next). T (took longer t (append_of n f) b)) (nat_lt n t.buffer) _ _ (λ less. takes_last f longer it l less)
         (λ full. or_else-keeps T _ (granted-then _ _ λ sent s. granted (takes_full f longer sent it l full s))
-        (λ refusal. takes_some f longer (outcome.TookFailed n refusal) it l))
+        (λ refusal. takes_some f longer refusal it l))
 
     appends : T (perform_take d t (Some (receiver.append_for t.buffer my n f)))
     unfolding perform_take take_with append
     appends =
         let active : ForActive false (body.RamTransmit buffer n) f = record { has = inl it.has; passes = it.passes } in
-        either (λ (a : TakeAction). T (take_with d t a)) (nat_le (2 ^ 32) (f.count + n)) _ _ (λ many. gives_up f _ active)
-        (λ few. or_else-keeps T _ (granted-then _ _ λ longer l. granted (some-taken longer l)) (λ refusal. gives_up f _ active))
+        either (λ (a : TakeAction). T (take_with d t a)) (nat_le (2 ^ 32) (f.count + n)) _ _ (λ many. gives_up f _ active (refused _ refl))
+        (λ few. or_else-keeps T _ (granted-then _ _ λ longer l. granted (some-taken longer l)) (λ refusal. gives_up f _ active (refused refusal refl)))
 
   transmitted : (buffer n : ℕ) (v : Option Incoming) → active_of (receiver.is_answer t.buffer from your buffer n) t.taking ≡ v →
       Act false (body.RamTransmit buffer n) (perform_take d t (receiver.of_record (receiver.take_for t.buffer my n) v))
@@ -297,12 +320,13 @@ module _ (d : Desk) (t : Task) (m : Parcel) where
     active = λ f has. active_none (receiver.is_answer t.buffer from your buffer n) t.taking f e has;
     asking = λ q has. refl;
   })
-  transmitted buffer n (Some w) e = found w (active_is (receiver.is_answer t.buffer from your buffer n) t.taking w e)
+  transmitted buffer n (Some w) e = found w e (active_is (receiver.is_answer t.buffer from your buffer n) t.taking w e)
     where
-      found : (w : Incoming) → FoundActive (receiver.is_answer t.buffer from your buffer n) t.taking w →
+      found : (w : Incoming) → active_of (receiver.is_answer t.buffer from your buffer n) t.taking ≡ Some w →
+          FoundActive (receiver.is_answer t.buffer from your buffer n) t.taking w →
           Act false (body.RamTransmit buffer n) (perform_take d t (receiver.take_for t.buffer my n w))
-      found w (fetches f has p) = appends f (record { has = has; passes = p })
-      found w (drains f has p) = gives_up f _ (record { has = inr has; passes = p })
+      found w q (fetches f has p) = appends f (record { found = q; has = has; passes = p })
+      found w q (drains f has p) = gives_up f _ (record { has = inr has; passes = p }) (drained q)
 
   returned : (buffer n : ℕ) (v : Option Incoming) → active_of (λ f. f.fetch == my) t.taking ≡ v →
       Act true (body.RamFetch buffer n) (perform_take d t (receiver.of_record receiver.back_for v))
@@ -312,21 +336,23 @@ module _ (d : Desk) (t : Task) (m : Parcel) where
     active = λ f has. active_none (λ (f : Taking). f.fetch == my) t.taking f e has;
     asking = λ q has. refl;
   })
-  returned buffer n (Some w) e = found w (active_is (λ (f : Taking). f.fetch == my) t.taking w e)
+  returned buffer n (Some w) e = found w e (active_is (λ (f : Taking). f.fetch == my) t.taking w e)
     where
       B : Handled → Type 0
       B x = Act true (body.RamFetch buffer n) x
 
-      found : (w : Incoming) → FoundActive (λ (f : Taking). f.fetch == my) t.taking w → B (perform_take d t (receiver.back_for w))
-      found w (drains f has p) = gives_up f _ (record { has = inr has; passes = p })
-      found w (fetches f has p) =
+      found : (w : Incoming) → active_of (λ (f : Taking). f.fetch == my) t.taking ≡ Some w → FoundActive (λ (f : Taking). f.fetch == my) t.taking w →
+          B (perform_take d t (receiver.back_for w))
+      found w q (drains f has p) = gives_up f _ (record { has = inr has; passes = p }) (drained q)
+      found w q (fetches f has p) =
           let active : ForActive true (body.RamFetch buffer n) f = record { has = inl has; passes = p } in
           either (λ (a : TakeAction). B (take_with d t a)) (f.count == 0) _ _
-          (λ none. or_else-keeps B _ (granted-then _ _ λ sent l. granted (asks f sent (record { has = has; passes = p }) none l))
-          (λ refusal. gives_up f _ active))
-          (λ some. gives_up f _ active)
+          (λ none. or_else-keeps B _ (granted-then _ _ λ sent l. granted (asks f sent (record { found = q; has = has; passes = p }) none l))
+          (λ refusal. gives_up f _ active (refused refusal refl)))
+          (λ some. gives_up f _ active (unanswered q refl some))
 
-  module _ (file : FileData) (q : Asked) (has : Has (incoming.Asking q) t.taking) (p : receiver.is_load from your q ≡ true) where
+  module _ (file : FileData) (q : Asked) (found : asking_of (receiver.is_load from your) t.taking ≡ Some q)
+      (has : Has (incoming.Asking q) t.taking) (p : receiver.is_load from your q ≡ true) where
     abbrev L : Handled → Type 0
     L x = Act false (body.DataLoad file) x
 
@@ -335,12 +361,16 @@ module _ (d : Desk) (t : Task) (m : Parcel) where
     file-loaded None e = skips (record { open_ = λ x h. refl; active = λ f h. refl; asking = λ y h. rw e refl })
     file-loaded (Some scrap) e =
         either L (scrap.load == my) _ _ (λ same.
-        let it : ForAsking false (body.DataLoad file) q = record { has = has; passes = rw (e, same) p } in
+        let it : ForAsking false (body.DataLoad file) q = record {
+          found = subst (λ c. asking_of (λ q. c && receiver.is_load from your q) t.taking ≡ Some q) (sym (ap (is_file my) e ∙ same)) found;
+          has = has;
+          passes = rw (e, same) p;
+        } in
         or_else-keeps L _ (granted-then _ _ λ longer l.
         let loaded_ : Loads q scrap longer = record { there = e; names = is_equal _ _ same; longer_is = l } in
         granted (or_else-keeps L _ (granted-then _ _ λ sent s. granted (loads q scrap longer sent it loaded_ s))
-        (λ refusal. loads_only q scrap longer _ it loaded_)))
-        (λ refusal. abandons q _ it))
+        (λ refusal. loads_only q scrap longer refusal it loaded_)))
+        (λ refusal. abandons q _ it (refusal, refl)))
         (λ other. skips (record { open_ = λ x h. refl; active = λ f h. refl; asking = λ y h. rw (e, other) refl }))
 
   asked : (file : FileData) (v : Option Asked) → asking_of (receiver.is_load from your) t.taking ≡ v →
@@ -351,7 +381,7 @@ module _ (d : Desk) (t : Task) (m : Parcel) where
     active = λ f has. refl;
     asking = λ q has. and-false (is_file my d.scrap) _ (asking_none (receiver.is_load from your) t.taking q e has);
   })
-  asked file (Some q) e = let w = asking_is (receiver.is_load from your) t.taking q e in file-loaded file q w.0 w.1 d.scrap refl
+  asked file (Some q) e = let w = asking_is (receiver.is_load from your) t.taking q e in file-loaded file q e w.0 w.1 d.scrap refl
 
   unasked : (file : FileData) (v : Option Asked) → asking_of (λ q. q.ack == my) t.taking ≡ v → Act true (body.DataSaveAck file) (ack_back d t v)
   unfolding ack_back
@@ -361,7 +391,7 @@ module _ (d : Desk) (t : Task) (m : Parcel) where
     asking = λ q has. asking_none (λ (q : Asked). q.ack == my) t.taking q e has;
   })
   unasked file (Some q) e =
-      let w = asking_is (λ (q : Asked). q.ack == my) t.taking q e in abandons q outcome.Failed (record { has = w.0; passes = w.1 })
+      let w = asking_is (λ (q : Asked). q.ack == my) t.taking q e in abandons q outcome.Failed (record { found = e; has = w.0; passes = w.1 }) tt
 
   came-acts : (b : Body) → Act false b (came d t m b)
   unfolding came

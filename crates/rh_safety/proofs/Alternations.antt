@@ -87,8 +87,8 @@ is_polled {o} {e} d name h kept good valid is_named =
     let p = post_poll t.handle d.post in
     let same = poll_step d name t w.1 in
     subst (λ (k : ℕ). IsPolled o e d k (step d (command.Poll name))) w.2 (record {
-      turn = λ m none queue to. subst (λ (y : Answer). Turn d t.handle m y) (sym same) (turn_is d t m p
-          (poll_taken_is d t.handle f (live_of d t.handle t is)) is none queue to);
+      turn = λ m none queue to. subst (λ (y : Answer). Turn d t.handle m y) (sym same) (turn_is d t p
+          (poll_taken_is d t.handle f (live_of d t.handle t is)) is m none queue to);
       keys = subst (λ (y : Answer). SameKeys d y.0) (sym same) (taken_keys (with_delivered p.0 d) t p.1 ∙
           delivered_keys p.0 d);
       kept = step-keeps d (command.Poll name) (poll_in_range name valid) kept;

@@ -1,46 +1,16 @@
 -- A poll keeps the invariant.
 use Rattle.rh_safety.proofs.Common.{◌≡◌, ℕ, ◌<◌, true, false, List, Option, Some, None, refl, sym, ap, ◌∙◌, subst, option_map, Body, EventCode, User}
-use Rattle.rh_safety.proofs.Common.{Recorded, Acknowledge, Parcel, action_of, Post, post_poll, Desk, Task, named, with_delivered, Handled, ignored}
+use Rattle.rh_safety.proofs.Common.{Recorded, Acknowledge, Parcel, action_of, Post, post_poll, Desk, Task, named, with_delivered, Handled, handled, ignored}
 use Rattle.rh_safety.proofs.Common.{answers_none, poll, poll_taken, step, view, seen_parcel, task_of, Offers, Edits, first_for, either, Good, LiveFile}
 use Rattle.rh_safety.proofs.Common.{field_is, live_of, Fits, HaveOwnSeats, bind, done, instead_of, the_task, Keeps, seen_good, Taking, Active}
-use Rattle.rh_defs.specs.declared.message.Action.TheVariants as action
-use Rattle.rh_defs.specs.declared.message.Body.TheVariants as body
 use Rattle.rh_defs.specs.declared.command.Command.TheVariants as command
-use Rattle.rh_defs.specs.Transfer as transfer
 use Rattle.rh_safety.proofs.Sight as sight
-use Rattle.rh_safety.proofs.Polls.{Taken, not_fetch_good, unanswered_good, came_taken, back_ready, left_good, unpicked_live, lost_if_handle, returned_handle}
+use Rattle.rh_safety.proofs.Polls.{Taken, came_taken, back_ready, left_good, unpicked_live, lost_if_handle, returned_handle}
 use Rattle.rh_safety.proofs.SeenTaking.{IsTaken, picked_by, poll_taken_is}
-use Rattle.rh_safety.proofs.SeenDocuments.{letter_of}
 use Rattle.rh_safety.proofs.SeenFiles.{delivered_live}
 use Rattle.rh_safety.proofs.Sends.{Quiet}
-use Rattle.rh_safety.proofs.KeptBacks.{back_keeps}
-use Rattle.rh_safety.proofs.KeptFetch.{fetch_keeps}
-use Rattle.rh_safety.proofs.KeptOffers.{save_keeps}
-use Rattle.rh_safety.proofs.KeptTransmits.{transmit_keeps}
-use Rattle.rh_safety.proofs.KeptFiles.{ack_keeps, load_keeps, load_ack_keeps}
-
-module _ {o : Offers} {e : Edits} (d : Desk) (t : Task) (m : Parcel) (is : task_of t.handle d.tasks ≡ Some t) where
-  good_of : (b : Body) → Taken o e (view d) t.handle (letter_of m b) → (action_of b ≡ action.RamFetch → ⊥) →
-      Good o e (view d)
-  good_of b = not_fetch_good t.handle (letter_of m b)
-
-  came_keeps : (b : Body) → Taken o e (view d) t.handle (letter_of m b) → Good o e (view (transfer.came d t m b).0)
-  unfolding transfer.came
-  came_keeps (body.DataSave x) tk = save_keeps d t m (body.DataSave x) is (good_of (body.DataSave x) tk (λ q.
-      let z : action.DataSave ≡ action.RamFetch = q in (cc))) tk.read refl
-  came_keeps (body.DataSaveAck x) tk = ack_keeps d t m (body.DataSaveAck x) is (good_of (body.DataSaveAck x) tk (λ q.
-      let z : action.DataSaveAck ≡ action.RamFetch = q in (cc))) tk.read refl
-  came_keeps (body.DataLoad x) tk = load_keeps d t m (body.DataLoad x) is (good_of (body.DataLoad x) tk (λ q.
-      let z : action.DataLoad ≡ action.RamFetch = q in (cc))) tk.read refl
-  came_keeps (body.DataLoadAck x) tk = load_ack_keeps d t m (body.DataLoadAck x) is (good_of (body.DataLoadAck x) tk
-      (λ q. let z : action.DataLoadAck ≡ action.RamFetch = q in (cc))) tk.read
-  came_keeps (body.RamFetch buffer amount) tk = either (λ (x : Handled). Good o e (view x.0)) (answers_none t.manner)
-      (ignored d) _
-      (λ y. unanswered_good t.handle (letter_of m (body.RamFetch buffer amount)) tk (λ x r w z. let v : true ≡ false =
-      sym (field_is (λ y. answers_none y.manner) false t.handle d.tasks t is ∙ y) ∙ z in cc))
-      (λ y. fetch_keeps d t m is buffer amount tk y)
-  came_keeps (body.RamTransmit buffer n) tk = transmit_keeps d t m is buffer n (good_of (body.RamTransmit buffer n) tk
-      (λ q. let z : action.RamTransmit ≡ action.RamFetch = q in (cc))) tk.read
+use Rattle.rh_safety.proofs.Acts.{came-back, handled-acts, not-back}
+use Rattle.rh_safety.proofs.KeptActs.{act_good}
 
 -- what is known of the desk that a message is handled on: it was taken just now, or came back
 pub record Given (o : Offers) (e : Edits) (d : Desk) (t : Task) (m : Parcel) : Type 0 where
@@ -51,14 +21,12 @@ pub record Given (o : Offers) (e : Edits) (d : Desk) (t : Task) (m : Parcel) : T
   pub quiet : m.code ≡ Acknowledge → (k : Taking) → Active ((view d).taking t.handle) k → m.message.my_ref ≡ k.fetch →
       Quiet (view d) t.handle k.id
 
-handled_keeps : {o : Offers} {e : Edits} (d : Desk) (t : Task) (m : Parcel) → Given o e d t m → (c : EventCode) →
-    m.code ≡ c → Good o e (view (transfer.handled d t m c).0)
-unfolding transfer.handled
-handled_keeps d t m w User q = came_keeps d t m w.is m.message.body (w.came (λ z. let y : User ≡ Acknowledge = sym q ∙ z
-    in (cc)))
-handled_keeps d t m w Recorded q = came_keeps d t m w.is m.message.body (w.came (λ z. let y : Recorded ≡ Acknowledge =
-    sym q ∙ z in (cc)))
-handled_keeps {o} {e} d t m w Acknowledge q = back_keeps o e d t m w.is (w.back q) w.handle (w.quiet q) m.message.body
+handled_keeps : {o : Offers} {e : Edits} (d : Desk) (t : Task) (m : Parcel) → Given o e d t m → Good o e (view (handled d t m m.code).0)
+handled_keeps d t m w = act_good d t m w.is (handled-acts d t m m.code) (record {
+  came = λ b. w.came (not-back m.code b);
+  good = λ b. w.back (came-back m.code b);
+  quiet = λ b. w.quiet (came-back m.code b);
+})
 
 module _ {o : Offers} {e : Edits} (d : Desk) (t : Task) (f : Fits d) (is : task_of t.handle d.tasks ≡ Some t)
     (g : Good o e (view d)) (p : Post × Option Parcel) (own : HaveOwnSeats p.0) (w : IsTaken d t.handle p) where
@@ -108,7 +76,7 @@ module _ {o : Offers} {e : Edits} (d : Desk) (t : Task) (f : Fits d) (is : task_
       let seen : view (with_delivered p.0 d) ≡ left = w.seen ∙ ap (λ (v : Option Parcel). picked_by t.handle
       (option_map seen_parcel v) left) q in
       seen_good seen (left_is_good (subst LiveFile seen safe))
-  by_message (Some m) q = handled_keeps (with_delivered p.0 d) t m (given m q) m.code refl
+  by_message (Some m) q = handled_keeps (with_delivered p.0 d) t m (given m q)
 
 pub poll_keeps : {o : Offers} {e : Edits} (d : Desk) (name : List ℕ) → Fits d → Good o e (view d) →
     Keeps o e d (command.Poll name) (step d (command.Poll name))

@@ -23,12 +23,8 @@ pub mod KeptCancels
 pub mod KeptRepeats
 pub mod KeptEdits
 pub mod KeptBlocks
-pub mod KeptFetch
 pub mod KeptFrames
-pub mod KeptOffers
-pub mod KeptTransmits
-pub mod KeptFiles
-pub mod KeptBacks
+pub mod KeptActs
 pub mod KeptPolls
 pub mod PollTurns
 pub mod SeenBlocks

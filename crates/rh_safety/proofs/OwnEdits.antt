@@ -56,17 +56,17 @@ module _ (R : Desk → Desk → Type 0) (t : Task) (own : OwnEdits t.handle R) (
         outcome.Sent (part_of d t m buffer n x source).n (next_ref d),
       )) → {back : Bool} {b : Body} {x : Handled} → Act d t m back b x → P back b x
   act-own P just sent_ (skips none) = just _ _ _ (own.same d)
-  act-own P just sent_ (fails x o it) = just _ _ _ (own.outs _ d)
+  act-own P just sent_ (fails x o it z) = just _ _ _ (own.outs _ d)
   act-own P just sent_ (sends {buffer = buffer} {n = n} x source r sent it w) = sent_ buffer n x source r sent it w (posted _ refl w.letter (own.same d))
   act-own P just sent_ (saves x source sent it there none l) = just _ _ _ (outs _ (own.after (posted _ refl l (own.areas _ d)) (own.scrap _ sent)))
   act-own P just sent_ (finishes x source it there) = just _ _ _ (own.outs _ d)
   act-own P just sent_ (claims k b p sent few free claim alloc l) = just _ _ _ (ins _ (posted _ refl l (own.slot (λ s. p.0) d)))
-  act-own P just sent_ (gives_up f o it) = just _ _ _ (ended f _ (own.same d))
+  act-own P just sent_ (gives_up f o it z) = just _ _ _ (ended f _ (own.same d))
   act-own P just sent_ (takes_last f e it l less) = just _ _ _ (ended f _ (longer _ _ l))
   act-own P just sent_ (takes_some f e o it l) = just _ _ _ (ended f _ (longer _ _ l))
   act-own P just sent_ (takes_full f e sent it l full s) = just _ _ _ (ins _ (posted _ refl s (longer _ _ l)))
   act-own P just sent_ (asks f sent it none l) = just _ _ _ (ended f _ (posted _ refl l (own.same d)))
-  act-own P just sent_ (abandons q o it) = just _ _ _ (own.ins _ d)
+  act-own P just sent_ (abandons q o it z) = just _ _ _ (own.ins _ d)
   act-own P just sent_ (loads_only q file e o it w) = just _ _ _ (ins _ (own.after (longer _ _ w.longer_is) (own.scrap _ e)))
   act-own P just sent_ (loads q file e sent it w l) = just _ _ _ (ins _ (posted _ refl l (own.after (longer _ _ w.longer_is) (own.scrap _ e))))
 

@@ -81,7 +81,7 @@ module _ (d : Desk) (t : Task) (m : Parcel) (is : task_of t.handle d.tasks ≡ S
   live : (view d).live h ≡ true
   live = live_of d h t is
 
-  buffer_size : (view d).buf h ≡ t.buffer
+  pub buffer_size : (view d).buf h ≡ t.buffer
   buffer_size = field_is (λ y. y.buffer) 1 h d.tasks t is
 
   -- the bytes at an anchor
@@ -103,7 +103,7 @@ module _ (d : Desk) (t : Task) (m : Parcel) (is : task_of t.handle d.tasks ≡ S
     abbrev S : List ℕ
     S = source.here.bytes
 
-    recipient_lives : (view d).live x.recipient ≡ true
+    pub recipient_lives : (view d).live x.recipient ≡ true
     recipient_lives = live_of d x.recipient r s.to
 
     -- the bytes are in the buffer
@@ -254,9 +254,9 @@ module _ (d : Desk) (t : Task) (m : Parcel) (is : task_of t.handle d.tasks ≡ S
           view (taking_ended h f (receiver.finished (append_of d t m n f)) longer) ≡ taken_desk (view d) h f (letter_of m (body.RamTransmit buffer n))
       takes_last_seen less = ends_seen (In_done f.id f.anchor (f.count + n)) ∙ choose true less
 
-      pub takes_full_seen : (sent : Desk) → nat_lt n t.buffer ≡ false → send_letter (fetch_letter h (receiver.next_fetch f m.message.my_ref t.buffer)) longer ≡ Ok sent →
-          view (with_taking h (receiver.fetched (append_of d t m n f) (next_ref longer)) sent) ≡ taken_desk (view d) h f (letter_of m (body.RamTransmit buffer n))
-      takes_full_seen sent full e =
+      pub fetched_seen : (sent : Desk) → send_letter (fetch_letter h (receiver.next_fetch f m.message.my_ref t.buffer)) longer ≡ Ok sent →
+          view (with_taking h (receiver.fetched (append_of d t m n f) (next_ref longer)) sent) ≡ now false
+      fetched_seen sent e =
           let w = is_longer in
           let D : sight.Desk = sight.longer (view d) h f n in
           let letter : ℕ → _ = λ size. fetch_letter h (receiver.next_fetch f m.message.my_ref size) in
@@ -267,7 +267,11 @@ module _ (d : Desk) (t : Task) (m : Parcel) (is : task_of t.handle d.tasks ≡ S
           ap (λ (k : ℕ). let y = sight.sent D h (seen_letter (letter t.buffer) k) in record y { taking = put y.taking h (receiver.fetched (append_of d t m n f) k (y.taking h)) })
           (ap (λ p. p.next_ref) w.post) ∙
           ap (λ (k : ℕ). let y = sight.sent D h (seen_letter (letter k) D.next_ref) in
-          record y { taking = put y.taking h (receiver.fetched (append_of d t m n f) D.next_ref (y.taking h)) }) (sym buffer_size) ∙ choose false full)
+          record y { taking = put y.taking h (receiver.fetched (append_of d t m n f) D.next_ref (y.taking h)) }) (sym buffer_size))
+
+      pub takes_full_seen : (sent : Desk) → nat_lt n t.buffer ≡ false → send_letter (fetch_letter h (receiver.next_fetch f m.message.my_ref t.buffer)) longer ≡ Ok sent →
+          view (with_taking h (receiver.fetched (append_of d t m n f) (next_ref longer)) sent) ≡ taken_desk (view d) h f (letter_of m (body.RamTransmit buffer n))
+      takes_full_seen sent full e = fetched_seen sent e ∙ choose false full
 
   -- the sender is asked for a file
   pub asks_seen : (f : Taking) (sent : Desk) → send_letter (ack_letter h f) d ≡ Ok sent →

@@ -41,7 +41,8 @@ use Rattle.rh_safety.proofs.SeenDocuments.{letter_of, block_there}
 use Rattle.rh_safety.proofs.SeenTaking.{poll_taken_is}
 use Rattle.rh_safety.proofs.SeenWrites.{buffer_found}
 use Rattle.rh_safety.proofs.Sight as sight
-use Rattle.rh_safety.proofs.KeptFetch.{Reaches, fetch_in, reaches}
+use Rattle.rh_safety.proofs.KeptActs.{reaches}
+use Rattle.rh_safety.proofs.SeenActs.{Reaches, fetch_in}
 use Rattle.rh_safety.proofs.KeptPolls.{Given, given}
 use Rattle.rh_safety.proofs.SeenLaws.{block_is}
 
@@ -352,7 +353,7 @@ module _ {o : Offered} {e : ℕ → ℕ → Bool} (d : Desk) (t : Task) (m : Par
       either Fine (answers_none t.manner) (ignored d) _ (λ y. refl) (λ y.
       perform_send_fine d t _ (if-mapped (HasSource d t) (sender.transmit_for m.message.from m.message.my_ref buffer amount)
       (open_of test t.sending)
-      (λ x q. let w = open_is test t.sending x q in (source_there is tk.inv x w.0, reaches d t m is buffer amount tk y x w.0 w.1))))
+      (λ x q. let w = open_is test t.sending x q in (source_there is tk.inv x w.0, reaches d t m is buffer amount tk x w.0 y w.1))))
   came_fine is (body.RamTransmit buffer n) tk =
       perform_take_fine d t _
       (transmit-does (HasDocument t) t.taking _ _ _ _ _ _ (λ f has. fetching_there is tk.inv f has) (λ f e has. tt))

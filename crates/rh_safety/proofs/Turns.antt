@@ -12,8 +12,7 @@ use Rattle.rh_safety.proofs.Sight.{Desk, saved, picked, ended, bytes_of, longer,
 use Rattle.rh_safety.proofs.Basics.{take_more, front_written, length_written, or_left, or_right, drop_old, Has-right}
 use Rattle.rh_safety.proofs.Arrivals.{Began, take_whole}
 use Rattle.rh_safety.proofs.Polls.{would_true}
-use Rattle.rh_safety.proofs.KeptFetch.{gone}
-use Rattle.rh_safety.proofs.KeptTransmits.{taken_desk}
+use Rattle.rh_safety.proofs.SeenActs.{gone, taken_desk}
 
 -- ---- lists whose last record is the only one that goes on
 
