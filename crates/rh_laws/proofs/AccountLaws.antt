@@ -2,7 +2,7 @@
 use Rattle.rh_laws.proofs.Common.{◌≡◌, ◌≢◌, ℕ, ◌+◌, ◌<◌, ◌≤◌, Bool, true, false, not, List, [], ◌∷◌, ◌++◌, length, Option, Some, None, ◌-◌, refl, sym, ap}
 use Rattle.rh_laws.proofs.Common.{◌∙◌, subst, ◌⊎◌, inl, inr, arith, take, drop, length-take, ◌==◌, find, filter, ℤ, Ok, option_map, eqb_tells}
 use Rattle.rh_laws.proofs.Common.{length-replicate, Command, Manner, Reply, Incoming, Refusal, NotOpen, Granted, or_else, with_heap_bytes, IsDesk, Rise}
-use Rattle.rh_laws.proofs.Common.{zeros, all_in_range, in_range, Segment, Used, Hole, block_room, first_place, Parcel, post_poll, in_id, is_buffer_of, Slot}
+use Rattle.rh_laws.proofs.Common.{bytes_of, Split, zeros, all_in_range, in_range, Segment, Used, Hole, block_room, first_place, Parcel, post_poll, in_id, is_buffer_of, Slot}
 use Rattle.rh_laws.proofs.Common.{heap_start, slot_begin, Desk, Task, has_name, named, next_ref, task_at, with_delivered, with_slot, Answer, start_task, kill}
 use Rattle.rh_laws.proofs.Common.{alloc, load, put, free, extend, mid, claim, release, resize, budge, after, start_with, save, repeat, poll, poll_taken}
 use Rattle.rh_laws.proofs.Common.{cancel_in, cancel_out, event, step, handled, OnGrant, granted, granted-past, granted-then, granted-unless, granted-with}
@@ -30,7 +30,9 @@ use Rattle.rh_laws.proofs.Frames.{leaves-others}
 use Rattle.rh_laws.proofs.FramePolls.{polls-fill}
 use Rattle.rh_laws.proofs.Accounts.{Accounts, claimed-accounts, is-vacant, none-hold, released-accounts, renewed-accounts, resized-accounts, same-accounts}
 use Rattle.rh_laws.proofs.Accounts.{size-is, size_in, sized-accounts}
-use Rattle.rh_laws.proofs.AccountSlots.{at-address, resize-is}
+use Rattle.rh_laws.proofs.AccountSlots.{at-address}
+use Rattle.rh_safety.proofs.SeenDocuments.{buffer_is}
+use Rattle.rh_safety.proofs.SeenHeaps.{resize_is}
 use Rattle.rh_laws.proofs.AccountPolls.{Kept, Stands, handled-keeps, stands-delivered, stands-letter, stands-sends, stands-slot, stands-takes}
 
 -- ---- lists of tasks
@@ -270,7 +272,8 @@ module _ (c : Claims) (d : Desk) {o : Offers} {e : Edits} (g : Good o e (view d)
   unfolding resize
   resize-own name a by =
       granted-then _ _ λ t q. granted-then _ _ λ b i. granted-then _ _ λ p j.
-      let r = resize-is _ a by t.slot p j in
+      let r = resize_is _ a by t.slot p j in
+      let was = ap size_in (sym (buffer_is a t.slot) ∙ ap (option_map (λ (x : Split Segment). bytes_of x.here)) r.1) in
       let size : Option ℕ = size_after by (c t.handle a) in
       let now : claims_next c d (command.Resize name a by) (reply.Block p.1) t.handle ≡ at_place (at_place (c t.handle) a None) p.1 size =
       ap (λ v. resized_at c v a by p.1 t.handle) (found name t q) ∙ noted-own (noted c t.handle a None) t.handle p.1 size
@@ -278,8 +281,8 @@ module _ (c : Claims) (d : Desk) {o : Offers} {e : Edits} (g : Good o e (view d)
       granted (kept-own name t q (claims_next c d (command.Resize name a by)) (with_slot t.handle p.0 d, reply.Block p.1) t.taking (record {
         slot = p.0;
         stands = stands-slot p.0 (stand name t q);
-        all = subst (λ m. Accounts m (buffers_of p.0) t.taking) (sym now) (same-accounts r.moves
-            (resized-accounts a p.1 r.was r.bytes by (idle_is a t b i) r.was_is r.size r.free (counted name t q)));
+        all = subst (λ m. Accounts m (buffers_of p.0) t.taking) (sym now) (same-accounts r.2.moved
+            (resized-accounts a p.1 (length (bytes_of r.0.here)) r.2.bytes by (idle_is a t b i) was r.2.size r.2.free (counted name t q)));
       }))
 
   -- ---- messages and records

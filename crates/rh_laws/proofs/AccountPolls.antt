@@ -13,7 +13,8 @@ use Rattle.rh_safety.proofs.SeenBlocks.{added_still, alloc_is, changed_still, ex
 use Rattle.rh_safety.proofs.SeenHeaps.{claim_is, claimed_free, claimed_map}
 use Rattle.rh_laws.proofs.Frames.{edit-other, edit-own}
 use Rattle.rh_laws.proofs.Accounts.{Accounts, begun-accounts, ended-accounts, one, renewed-accounts, same-accounts, size_in, sized-accounts}
-use Rattle.rh_laws.proofs.AccountSlots.{rid-map, written-sizes}
+use Rattle.rh_laws.proofs.AccountSlots.{written-sizes}
+use Rattle.rh_safety.proofs.SeenDocuments.{rid_of}
 
 -- ---- the task of a handle
 
@@ -162,7 +163,7 @@ module _ (c : ℕ → Option ℕ) (t : Task) (next : ℕ) (up : Rise in_id 0 nex
     desk = record {
       slot = without_buffer f.buffer g.slot;
       stands = stands-ends f (λ ws. with_id in_id f.id v ws) g.stands;
-      all = same-accounts (rid-map f.buffer g.slot) (elim has [
+      all = same-accounts (rid_of f.buffer g.slot).buffers (elim has [
         | inl y ↦ ended-accounts next up (incoming.Fetching f) v f.buffer y (λ p. refl) none g.all
         | inr y ↦ ended-accounts next up (incoming.Draining f) v f.buffer y (λ p. refl) none g.all
       ]);

@@ -30,30 +30,6 @@ use Rattle.rh_laws.proofs.ScrapViews.{asked_goes, back_acts, done_goes, filed_go
 use Rattle.rh_safety.proofs.Alternations.{IsNamed, found_of, poll_in_range, poll_step, taken_keys}
 use Rattle.rh_safety.proofs.PollTurns.{Turn, came_acts, lost_twice, takes, turn_is}
 
-module _ (d : Desk) (t : Task) (p : Post × Option Parcel) (w : IsTaken d t.handle p)
-    (is : task_of t.handle d.tasks ≡ Some t) where
-  abbrev here : ℕ
-  here = t.handle
-
-  abbrev left : Desk
-  left = with_delivered p.0 d
-
-  -- the poll of a task for which there is no message, even where one has gone back
-  none_is : first_for here (sight.returned (view d) here ((view d).held here)).queue ≡ None →
-      sight.lost (view (poll_taken left t p.1).0) ≡ sight.lost (sight.returned (view d) here ((view d).held here))
-  unfolding poll_taken
-  none_is none =
-      let back = sight.returned (view d) here ((view d).held here) in
-      let nothing = empty p.1 (sym w.first ∙ ap (first_for here) (lost_queue w.lost back) ∙ none) in
-      let seen : view left ≡ sight.lost_if w.lost back = w.seen ∙ ap (λ (v : Option Parcel).
-      picked_by here (option_map seen_parcel v) (sight.lost_if w.lost back)) nothing in
-      subst (λ (v : Option Parcel). sight.lost (view (poll_taken left t v).0) ≡ sight.lost back) (sym nothing)
-      (ap sight.lost seen ∙ lost_twice w.lost back)
-    where
-      empty : (o : Option Parcel) → option_map seen_parcel o ≡ None → o ≡ None
-      empty None q = refl
-      empty (Some m) q = absurd (none_some None refl (sym q))
-
 -- ---- what each message leaves to see
 
 -- another code than that of a message that came back
@@ -149,37 +125,3 @@ done_turn d h m a (takes e t p is taken keeps) granted code kind x bytes found t
     (ap (λ (y : sight.Desk). open_of (sender.is_loaded p.message.from p.message.your_ref) (y.sending t.handle)) seen ∙ found)
     (ap (λ (y : sight.Desk). y.block t.handle x.anchor) seen ∙ there) granted) ∙
     ap (λ (y : sight.Desk). sight.with_out y t.handle x (outgoing.Done x.id (length bytes))) seen
-
--- ---- a poll, by name
-
--- the desk after a poll of task h
-pub record IsPolled (d : Desk) (h : ℕ) (a : Answer) : Type 0 where
-  pub turn : (m : Message) → (view d).held h ≡ None → (view d).queue ≡ m ∷ [] → m.to ≡ h → Turn d h m a
-  pub none : first_for h (sight.returned (view d) h ((view d).held h)).queue ≡ None →
-      sight.lost (view a.0) ≡ sight.lost (sight.returned (view d) h ((view d).held h))
-  pub keys : SameKeys d a.0
-  pub kept : IsDesk a.0
-
-delivered_keys : (p : Post) (d : Desk) → SameKeys d (with_delivered p d)
-unfolding with_delivered
-delivered_keys p d = refl
-
-pub is_polled : (d : Desk) (name : List ℕ) (h : ℕ) → IsDesk d → is_name name ≡ true → IsNamed name d h →
-    IsPolled d h (step d (command.Poll name))
-is_polled d name h kept valid is_named =
-    let f = fits d kept in
-    let w = found_of h (find (has_name name) d.tasks) (handle_named name d.tasks ∙ is_named) in
-    let t = w.0 in
-    let is : task_of t.handle d.tasks ≡ Some t = found_task (has_name name) d.tasks t f.handles w.1 in
-    let p = post_poll t.handle d.post in
-    let taken = poll_taken_is d t.handle f (live_of d t.handle t is) in
-    let same = poll_step d name t w.1 in
-    subst (λ (k : ℕ). IsPolled d k (step d (command.Poll name))) w.2 (record {
-      turn = λ m none queue to. subst (λ (y : Answer). Turn d t.handle m y) (sym same) (turn_is d t p taken is m
-          none queue to);
-      none = λ nothing. subst (λ (y : Answer). sight.lost (view y.0) ≡ sight.lost (sight.returned (view d) t.handle
-          ((view d).held t.handle))) (sym same) (none_is d t p taken is nothing);
-      keys = subst (λ (y : Answer). SameKeys d y.0) (sym same) (taken_keys (with_delivered p.0 d) t p.1 ∙
-          delivered_keys p.0 d);
-      kept = step-keeps d (command.Poll name) (poll_in_range name valid) kept;
-    })

@@ -13,7 +13,7 @@ use Rattle.rh_safety.proofs.Sight as sight
 use Rattle.rh_safety.proofs.Basics.{not_true, put_all, drop_old, Has-right}
 use Rattle.rh_safety.proofs.Invariant.{Offered}
 use Rattle.rh_safety.proofs.Arrivals.{Began}
-use Rattle.rh_safety.proofs.Turns.{Pair, outgoing_at, incoming_at, fetch_of, offer, let_go, without_one}
+use Rattle.rh_safety.proofs.Turns.{Pair, outgoing_at, incoming_at, fetch_of, offer, let_go, pair_of, rest as stay, rest_old as stay_old, without_one}
 use Rattle.rh_safety.proofs.PollTurns as other
 use Rattle.rh_safety.proofs.SeenKeys.{named_in, handle_named}
 use Rattle.rh_safety.proofs.SeenSaves.{IsSaved, save_step}
@@ -22,40 +22,13 @@ use Rattle.rh_laws.specs.ScrapTurns.{CanSaveFile, EndsByFile, ScrapAlternates, e
 use Rattle.rh_laws.proofs.ScrapStages.{Older, Stage, IsFree, back_of, ack_of, load_of, told_of, asked_at, ignored_fetch, holds_fetch, fetch_back}
 use Rattle.rh_laws.proofs.ScrapStages.{fetch_back_free, finds_fetch, asked_stage, asked_free, finds_asked, filed_stage, filed_free, finds_load, told_stage}
 use Rattle.rh_laws.proofs.ScrapStages.{told_free, finds_told, done_stage, lost_stage}
-use Rattle.rh_laws.proofs.ScrapPolls.{IsPolled, is_polled, ignored_turn, asked_turn, FileMade, filed_turn, told_turn, done_turn}
-use Rattle.rh_safety.proofs.Alternations.{IsNamed, none_seated, rest_granted, save_names, sender_done}
-
-granted : (d : Desk) (c : Command) (cs : List Command) → all_granted d (c ∷ cs) ≡ true →
-    is_refused_poll (step d c).1 ≡ false
-granted d c cs q = not_true _ (and_left (not (is_refused_poll (step d c).1)) _ q)
+use Rattle.rh_laws.proofs.ScrapPolls.{ignored_turn, asked_turn, FileMade, filed_turn, told_turn, done_turn}
+use Rattle.rh_safety.proofs.Alternations.{IsNamed, IsPolled, granted, is_polled, none_seated, receiver_done, rest_granted, save_names, sender_done}
 
 -- ---- what is told at the end
 
-has_taken : (d : Desk) (h : ℕ) (w : In) → Has w ((view d).taking h) →
-    (t : Task) × (task_at h d ≡ Some t) × Has w t.taking
-has_taken d h w = go (task_of h d.tasks) refl
-  where
-    go : (o : Option Task) → task_of h d.tasks ≡ o → Has w (of (λ (t : Task). t.taking) [] o) →
-        (t : Task) × (task_at h d ≡ Some t) × Has w t.taking
-    go None e q = absurd q
-    go (Some t) e q = (t, e, q)
-
 last_has : {A : Type 0} (x : A) (xs ys : List A) → ys ≡ xs ++ x ∷ [] → Has x ys
 last_has x xs ys q = subst (λ z. Has x z) (sym q) (Has-right x xs (x ∷ []) (inl refl))
-
-receiver_done : (d : Desk) (h id anchor : ℕ) (source : List ℕ) →
-    Has (In_done id anchor (length source)) ((view d).taking h) → (view d).block h anchor ≡ Some source →
-    ReceiverDone d h id source
-receiver_done d h id anchor source has there =
-    let w = has_taken d h (In_done id anchor (length source)) has in
-    record {
-      task = w.0;
-      is = w.1;
-      anchor = anchor;
-      takes = contains_of w.0.taking (In_done id anchor (length source)) w.2;
-      document = sym (block_is w.0.slot anchor) ∙ sym (ap (λ (g : ℕ → Option (List ℕ)). g anchor)
-          (field_is (λ (y : Task). blocks_of y.slot) (λ a. None) h d.tasks w.0 w.1)) ∙ there;
-    }
 
 -- ---- from poll to poll
 
@@ -317,32 +290,9 @@ module _ (s r : List ℕ) (valid_s : is_name s ≡ true) (valid_r : is_name r �
 
 -- ---- the save and the first poll
 
--- the records that stay where one more is made
-abbrev stay : {A : Type 0} → ℕ → (A → Bool) → List A → List A
-stay most keep xs = if nat_le most (length xs) then drop_first keep xs else xs
-
-stay_old : {A : Type 0} (most : ℕ) (keep : A → Bool) (xs : List A) (x : A) → Has x (stay most keep xs) → Has x xs
-stay_old most keep xs x h = either (λ z. Has x z → Has x xs) (nat_le most (length xs)) (drop_first keep xs) xs
-    (λ b k. drop_old keep xs x k) (λ b k. k) h
-
 active_old : (most : ℕ) (ws : List In) (t : Taking) → Active (stay most is_going ws) t → Active ws t
 active_old most ws t (inl h) = inl (stay_old most is_going ws (Fetching t) h)
 active_old most ws t (inr h) = inr (stay_old most is_going ws (Draining t) h)
-
--- the transfer that begins, its document and its buffer
-abbrev pair_of : sight.Desk → ℕ → ℕ → ℕ → List ℕ → ℕ → ℕ → Pair
-pair_of d s r anchor source document address = record {
-  sender = s;
-  receiver = r;
-  id = d.next_ref;
-  anchor = anchor;
-  source = source;
-  document = document;
-  address = address;
-  room = d.buf r;
-  outs = stay d.most is_open (d.sending s);
-  ins = stay d.most is_going (d.taking r);
-}
 
 older : {o : Offered} {e : ℕ → ℕ → Bool} (d : sight.Desk) → Good o e d → (s r anchor : ℕ) (source : List ℕ)
     (document address : ℕ) → s ≢ r → Older (pair_of d s r anchor source document address)

@@ -1,5 +1,5 @@
 -- Two tasks polled in turn bring a transfer to its end, on the desk itself.
-use Rattle.rh_safety.proofs.Common.{◌≡◌, ℕ, zero, suc, ◌+◌, ◌-◌, ◌*◌, ◌/◌, ◌<◌, ◌≤◌, Bool, true, false, not, List, [], ◌∷◌, length, Option, Some, None, refl}
+use Rattle.rh_safety.proofs.Common.{first_for, ◌≡◌, ℕ, zero, suc, ◌+◌, ◌-◌, ◌*◌, ◌/◌, ◌<◌, ◌≤◌, Bool, true, false, not, List, [], ◌∷◌, length, Option, Some, None, refl}
 use Rattle.rh_safety.proofs.Common.{sym, ap, ◌∙◌, subst, arith, ◌&&◌, ◌==◌, find, map, Ok, option_map, list_any, Command, Recorded, Incoming, is_name, IsDesk}
 use Rattle.rh_safety.proofs.Common.{in_range, Parcel, Seat, held_by, post_poll, ◌>>=◌, found_or, or_else, Desk, Task, has_name, task_at, named}
 use Rattle.rh_safety.proofs.Common.{with_delivered, Answer, poll, poll_taken, step, after, is_open, is_going, answers_none, EventCode, User, Acknowledge}
@@ -26,7 +26,7 @@ use Rattle.rh_safety.proofs.SeenSaves.{IsSaved, save_step, save_keeps}
 use Rattle.rh_safety.proofs.SeenDesks.{fits}
 use Rattle.rh_safety.proofs.SeenLaws.{IsReached, block_is}
 use Rattle.rh_safety.proofs.KeptPolls.{poll_keeps}
-use Rattle.rh_safety.proofs.PollTurns.{Turn, turn_is, fetch_turn, taker, transmit_turn, save_turn}
+use Rattle.rh_safety.proofs.PollTurns.{Turn, none_is, turn_is, fetch_turn, taker, transmit_turn, save_turn}
 
 -- ---- one poll, by name
 
@@ -35,11 +35,12 @@ abbrev pub IsNamed : List ℕ → Desk → ℕ → Type 0
 IsNamed name d h = named_in name (keys_of d.tasks) ≡ Some h
 
 -- the desk after a poll of task h
-record IsPolled (o : Offered) (e : Edits) (d : Desk) (h : ℕ) (a : Answer) : Type 0 where
+pub record IsPolled (d : Desk) (h : ℕ) (a : Answer) : Type 0 where
   pub turn : (m : Message) → (view d).held h ≡ None → (view d).queue ≡ m ∷ [] → m.to ≡ h → Turn d h m a
+  pub none : first_for h (sight.returned (view d) h ((view d).held h)).queue ≡ None →
+      sight.lost (view a.0) ≡ sight.lost (sight.returned (view d) h ((view d).held h))
   pub keys : SameKeys d a.0
   pub kept : IsDesk a.0
-  pub good : Good o e (view a.0)
 
 pub taken_keys : (d : Desk) (t : Task) (v : Option Parcel) → SameKeys d (poll_taken d t v).0
 unfolding poll_taken
@@ -77,36 +78,36 @@ record Tasks (o : Offered) (e : Edits) (s r : List ℕ) (hs hr : ℕ) (d : Desk)
   pub sender : IsNamed s d hs
   pub receiver : IsNamed r d hr
 
-is_polled : {o : Offered} {e : Edits} (d : Desk) (name : List ℕ) (h : ℕ) → IsDesk d → Good o e (view d) →
-    is_name name ≡ true → IsNamed name d h → IsPolled o e d h (step d (command.Poll name))
-is_polled {o} {e} d name h kept good valid is_named =
+pub is_polled : (d : Desk) (name : List ℕ) (h : ℕ) → IsDesk d → is_name name ≡ true → IsNamed name d h →
+    IsPolled d h (step d (command.Poll name))
+is_polled d name h kept valid is_named =
     let f = fits d kept in
     let w = found_of h (find (has_name name) d.tasks) (handle_named name d.tasks ∙ is_named) in
     let t = w.0 in
     let is : task_of t.handle d.tasks ≡ Some t = found_task (has_name name) d.tasks t f.handles w.1 in
     let p = post_poll t.handle d.post in
+    let taken = poll_taken_is d t.handle f (live_of d t.handle t is) in
     let same = poll_step d name t w.1 in
-    subst (λ (k : ℕ). IsPolled o e d k (step d (command.Poll name))) w.2 (record {
-      turn = λ m none queue to. subst (λ (y : Answer). Turn d t.handle m y) (sym same) (turn_is d t p
-          (poll_taken_is d t.handle f (live_of d t.handle t is)) is m none queue to);
-      keys = subst (λ (y : Answer). SameKeys d y.0) (sym same) (taken_keys (with_delivered p.0 d) t p.1 ∙
-          delivered_keys p.0 d);
+    subst (λ (k : ℕ). IsPolled d k (step d (command.Poll name))) w.2 (record {
+      turn = λ m none queue to. subst (λ (y : Answer). Turn d t.handle m y) (sym same) (turn_is d t p taken is m none queue to);
+      none = λ nothing. subst (λ (y : Answer). sight.lost (view y.0) ≡ sight.lost (sight.returned (view d) t.handle
+          ((view d).held t.handle))) (sym same) (none_is d t p taken is nothing);
+      keys = subst (λ (y : Answer). SameKeys d y.0) (sym same) (taken_keys (with_delivered p.0 d) t p.1 ∙ delivered_keys p.0 d);
       kept = step-keeps d (command.Poll name) (poll_in_range name valid) kept;
-      good = poll_keeps d name f good;
     })
 
-next_tasks : {o : Offered} {e : Edits} {s r : List ℕ} {hs hr : ℕ} {d : Desk} (h : ℕ) (a : Answer) →
-    Tasks o e s r hs hr d → IsPolled o e d h a → Tasks o e s r hs hr a.0
-next_tasks {s = s} {r = r} h a t p = record {
+next_tasks : {o : Offered} {e : Edits} {s r : List ℕ} {hs hr : ℕ} {d : Desk} (h : ℕ) (name : List ℕ) →
+    Tasks o e s r hs hr d → IsPolled d h (step d (command.Poll name)) → Tasks o e s r hs hr (step d (command.Poll name)).0
+next_tasks {s = s} {r = r} {d = d} h name t p = record {
   kept = p.kept;
-  good = p.good;
+  good = poll_keeps d name (fits d t.kept) t.good;
   valid_sender = t.valid_sender;
   valid_receiver = t.valid_receiver;
   sender = ap (named_in s) p.keys ∙ t.sender;
   receiver = ap (named_in r) p.keys ∙ t.receiver;
 }
 
-granted : (d : Desk) (c : Command) (cs : List Command) → all_granted d (c ∷ cs) ≡ true →
+pub granted : (d : Desk) (c : Command) (cs : List Command) → all_granted d (c ∷ cs) ≡ true →
     is_refused_poll (step d c).1 ≡ false
 granted d c cs q = not_true _ (and_left (not (is_refused_poll (step d c).1)) _ q)
 
@@ -130,11 +131,11 @@ module _ (o : Offered) (e : Edits) (s r : List ℕ) (p : Pair) where
     pub sent : Has (Out_done p.id (length p.source)) ((view before).sending p.sender)
     pub came : AllCame p (sight.lost (view last))
 
-  sender_polled : (d : Desk) → IsPair d → IsPolled o e d p.sender (step d (command.Poll s))
-  sender_polled d t = is_polled d s p.sender t.kept t.good t.valid_sender t.sender
+  sender_polled : (d : Desk) → IsPair d → IsPolled d p.sender (step d (command.Poll s))
+  sender_polled d t = is_polled d s p.sender t.kept t.valid_sender t.sender
 
-  receiver_polled : (d : Desk) → IsPair d → IsPolled o e d p.receiver (step d (command.Poll r))
-  receiver_polled d t = is_polled d r p.receiver t.kept t.good t.valid_receiver t.receiver
+  receiver_polled : (d : Desk) → IsPair d → IsPolled d p.receiver (step d (command.Poll r))
+  receiver_polled d t = is_polled d r p.receiver t.kept t.valid_receiver t.receiver
 
   -- the sender answers
   sender_turn : (d : Desk) (k : ℕ) (w : AtFetch d k) (within : k ≤ length p.source) →
@@ -180,7 +181,7 @@ module _ (o : Offered) (e : Edits) (s r : List ℕ) (p : Pair) where
       let a : Answered p (sight.lost (view d1)) k n (view d).next_ref v Plain = subst (λ (y : sight.Desk).
       Answered p y k n (view d).next_ref v Plain) (sym (sender_turn d k w within (granted d (command.Poll s)
       (turns r s zero) q))) (sent_last p (sight.lost (view d)) k w.waits within short) in
-      let t1 = next_tasks p.sender (step d (command.Poll s)) w.tasks (sender_polled d w.tasks) in
+      let t1 = next_tasks p.sender s w.tasks (sender_polled d w.tasks) in
       let less : n < p.room = omega arith in
       let all : k + n ≡ length p.source = omega arith in
       let eq = receiver_turn d1 k n (view d).next_ref v Plain a t1 (λ z. let y : Plain ≡ Acknowledge = z in (cc))
@@ -206,12 +207,12 @@ module _ (o : Offered) (e : Edits) (s r : List ℕ) (p : Pair) where
       let a : Answered p (sight.lost (view d1)) k n (view d).next_ref v Recorded = subst (λ (y : sight.Desk).
       Answered p y k n (view d).next_ref v Recorded) (sym (sender_turn d k w within (granted d (command.Poll s)
       (turns r s (suc j)) q))) (sent_full p (sight.lost (view d)) k w.waits within (omega arith)) in
-      let t1 = next_tasks p.sender (step d (command.Poll s)) w.tasks (sender_polled d w.tasks) in
+      let t1 = next_tasks p.sender s w.tasks (sender_polled d w.tasks) in
       let q1 = rest_granted d (command.Poll s) (turns r s (suc j)) q in
       let eq = receiver_turn d1 k n (view d).next_ref v Recorded a t1 (λ z. let y : Recorded ≡ Acknowledge = z in (cc))
       (omega arith) (granted d1 (command.Poll r) (command.Poll s ∷ turns r s j) q1) in
       more_turns j d2 (k + n) (record {
-        tasks = next_tasks p.receiver (step d1 (command.Poll r)) t1 (receiver_polled d1 t1);
+        tasks = next_tasks p.receiver r t1 (receiver_polled d1 t1);
         waits = subst (λ (y : sight.Desk). Waiting p y (k + n)) (sym eq) (took_full p (sight.lost (view d1)) k n
             (view d).next_ref v Recorded a refl refl refl);
       }) (omega arith) (omega arith) (rest_granted d1 (command.Poll r) (command.Poll s ∷ turns r s j) q1)
@@ -246,16 +247,18 @@ sender_done d h id source q =
     let w = has_sent d h (Out_done id (length source)) q in
     record { task = w.0; is = w.1; sends = contains_of w.0.sending (Out_done id (length source)) w.2 }
 
-receiver_done : (d : Desk) (p : Pair) → AllCame p (sight.lost (view d)) → ReceiverDone d p.receiver p.id p.source
-receiver_done d p a =
-    let w = has_taken d p.receiver (In_done p.id p.document (length p.source)) a.takes in
+pub receiver_done : (d : Desk) (h id anchor : ℕ) (source : List ℕ) →
+    Has (In_done id anchor (length source)) ((view d).taking h) → (view d).block h anchor ≡ Some source →
+    ReceiverDone d h id source
+receiver_done d h id anchor source has there =
+    let w = has_taken d h (In_done id anchor (length source)) has in
     record {
       task = w.0;
       is = w.1;
-      anchor = p.document;
-      takes = contains_of w.0.taking (In_done p.id p.document (length p.source)) w.2;
-      document = sym (block_is w.0.slot p.document) ∙ sym (ap (λ (g : ℕ → Option (List ℕ)). g p.document)
-          (field_is (λ (y : Task). blocks_of y.slot) (λ a. None) p.receiver d.tasks w.0 w.1)) ∙ a.document;
+      anchor = anchor;
+      takes = contains_of w.0.taking (In_done id anchor (length source)) w.2;
+      document = sym (block_is w.0.slot anchor) ∙ sym (ap (λ (g : ℕ → Option (List ℕ)). g anchor)
+          (field_is (λ (y : Task). blocks_of y.slot) (λ a. None) h d.tasks w.0 w.1)) ∙ there;
     }
 
 -- ---- the save and the first poll
@@ -352,8 +355,8 @@ module _ (d : Desk) (w : IsReached d) (s r : List ℕ) (k : ℕ) (leaf : List �
         c.can.receiver_is;
   }
 
-  first : IsPolled o0 w.edits d0 hr (step d0 (command.Poll r))
-  first = is_polled d0 r hr tasks0.kept tasks0.good tasks0.valid_receiver tasks0.receiver
+  first : IsPolled d0 hr (step d0 (command.Poll r))
+  first = is_polled d0 r hr tasks0.kept tasks0.valid_receiver tasks0.receiver
 
   abbrev d1 : Desk
   d1 = (step d0 (command.Poll r)).0
@@ -383,7 +386,7 @@ module _ (d : Desk) (w : IsReached d) (s r : List ℕ) (k : ℕ) (leaf : List �
       let size = room_is in
       let same : j * p.room ≡ j * u.buffer = ap (λ n. j * n) room_is in
       more_turns o0 w.edits s r p j d1 0 (record {
-        tasks = next_tasks hr (step d0 (command.Poll r)) tasks0 first;
+        tasks = next_tasks hr r tasks0 first;
         waits = took_first D hs hr k source ready (sight.lost (view d1)) began;
       }) (omega arith) (omega arith) (rest_granted d0 (command.Poll r) (command.Poll s ∷ turns r s j) c.all)
 
@@ -391,7 +394,7 @@ module _ (d : Desk) (w : IsReached d) (s r : List ℕ) (k : ℕ) (leaf : List �
   done = subst (λ i. EndsDone d0 s r (suc j) hs hr i source) saved_is.ref (record {
     before = sender_done _ hs p.id source ends.sent;
     sends = sender_done _ hs p.id source ends.came.sends;
-    takes = receiver_done _ p ends.came;
+    takes = receiver_done _ hr p.id p.document p.source ends.came.takes ends.came.document;
   })
 
 pub alternates : (d : Desk) → IsReached d → Alternates d

@@ -95,6 +95,22 @@ module _ (d : Desk) (t : Task) (p : Post × Option Parcel) (w : IsTaken d t.hand
       subst (λ (v : Option Parcel). Turn d here m (poll_taken left t v)) (sym o.1)
       (subst (λ (x : Message). Turn d here x (event q (transfer.handled left t q q.code))) o.2 (takes left t q is taken keeps))
 
+  -- the poll of a task for which there is no message, even where one has gone back
+  pub none_is : first_for here (sight.returned (view d) here ((view d).held here)).queue ≡ None →
+      sight.lost (view (poll_taken left t p.1).0) ≡ sight.lost (sight.returned (view d) here ((view d).held here))
+  unfolding poll_taken
+  none_is none =
+      let back = sight.returned (view d) here ((view d).held here) in
+      let nothing = empty p.1 (sym w.first ∙ ap (first_for here) (lost_queue w.lost back) ∙ none) in
+      let seen : view left ≡ sight.lost_if w.lost back = w.seen ∙ ap (λ (v : Option Parcel).
+      picked_by here (option_map seen_parcel v) (sight.lost_if w.lost back)) nothing in
+      subst (λ (v : Option Parcel). sight.lost (view (poll_taken left t v).0) ≡ sight.lost back) (sym nothing)
+      (ap sight.lost seen ∙ lost_twice w.lost back)
+    where
+      empty : (o : Option Parcel) → option_map seen_parcel o ≡ None → o ≡ None
+      empty None q = refl
+      empty (Some m) q = absurd (none_some None refl (sym q))
+
 -- a message that came
 pub came_acts : (d : Desk) (t : Task) (p : Parcel) → (p.code ≡ Acknowledge → ⊥) → Act d t p false p.message.body (transfer.handled d t p p.code)
 came_acts d t p came = by p.code came

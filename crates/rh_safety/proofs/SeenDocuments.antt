@@ -58,7 +58,7 @@ pub buffer_is : (a : ℕ) (s : Slot) →
 buffer_is a s = block_is (a - heap_start) first_place s.heap.segments
 
 -- a slot without a buffer, which may be gone already
-record IsRid (a : ℕ) (s n : Slot) : Type 0 where
+pub record IsRid (a : ℕ) (s n : Slot) : Type 0 where
   pub buffers : Same (buffers_of n) (put (buffers_of s) a None)
   pub blocks : Same (blocks_of n) (blocks_of s)
 
@@ -73,7 +73,7 @@ rid_by a s (Err r) e None q = record {
 }
 rid_by a s (Err r) e (Some b) q = absurd (let z : Ok (with_heap (released b s.heap) s) ≡ Err r = rw q at e in (cc))
 
-rid_of : (a : ℕ) (s : Slot) → IsRid a s (without_buffer a s)
+pub rid_of : (a : ℕ) (s : Slot) → IsRid a s (without_buffer a s)
 rid_of a s = rid_by a s (slot_release a s) refl (heap_block_at a s) refl
 
 -- a record that ends

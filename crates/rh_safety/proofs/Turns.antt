@@ -47,14 +47,14 @@ drop_none keep p (x ∷ xs) n =
     rw z (drop_none keep p xs (or_right (p x) _ n))) (λ b. or_right (p x) _ n)
 
 -- what stays of a list with one more record
-abbrev rest : {A : Type 0} → ℕ → (A → Bool) → List A → List A
+abbrev pub rest : {A : Type 0} → ℕ → (A → Bool) → List A → List A
 rest most keep xs = if nat_le most (length xs) then drop_first keep xs else xs
 
 rest_none : {A : Type 0} (most : ℕ) (p : A → Bool) (xs : List A) → any p xs ≡ false → any p (rest most p xs) ≡ false
 rest_none most p xs n = either (λ z. any p z ≡ false) (nat_le most (length xs)) (drop_first p xs) xs (λ b. drop_none p
     p xs n) (λ b. n)
 
-rest_old : {A : Type 0} (most : ℕ) (p : A → Bool) (xs : List A) (w : A) → Has w (rest most p xs) → Has w xs
+pub rest_old : {A : Type 0} (most : ℕ) (p : A → Bool) (xs : List A) (w : A) → Has w (rest most p xs) → Has w xs
 rest_old most p xs w h = either (λ z. Has w z → Has w xs) (nat_le most (length xs)) (drop_first p xs) xs (λ b k.
     drop_old p xs w k) (λ b k. k) h
 
