@@ -3,6 +3,7 @@
 ghost use Rattle.std.specs.Prelude.{◌≡◌};
 
 use crate::ground::Ground;
+use rh_store::bytes::slide_in;
 
 /// Bytes and page numbers that the caller lends, whatever they hold.
 #[derive(Drop)]
@@ -49,7 +50,8 @@ impl<'a> Ground for LentGround<'a> {
     }
 
     fn slide(&mut self, from: usize, to: usize, n: usize) {
-        self.bytes.copy_within(from..from + n, to);
+        let bytes = &mut *self.bytes;
+        slide_in(bytes, from, to, n);
     }
 
     #[tactic(auto, unfolding(rh_region::specs::Zeros::zeros))]

@@ -7,6 +7,7 @@ ghost use Rattle.rh_pages.specs.declared.table.TheConstants.{LISTS};
 use crate::ground::Ground;
 use crate::table::LISTS;
 use rh_region::Region;
+use rh_store::bytes::slide_in;
 use std::alloc::{AllocError, Global};
 
 /// A region, and page numbers in one vector.
@@ -68,7 +69,8 @@ impl Ground for RegionGround {
 
     #[inline(always)]
     fn slide(&mut self, from: usize, to: usize, n: usize) {
-        self.region.slide(from, to, n);
+        let len = self.region.len();
+        slide_in(self.region.bytes_mut(0, len), from, to, n);
     }
 
     #[inline(always)]

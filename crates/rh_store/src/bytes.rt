@@ -2,8 +2,10 @@
 ghost use Rattle.std.specs.Prelude.{◌≡◌, ◌+◌, ◌<◌, ◌≤◌, length, replicate};
 ghost use Rattle.rh_defs.specs.Bytes.{word, with_part, put_word, part};
 
-/// From this distance on bytes move in pieces, each by one copy.
-const FAR: usize = 512;
+/// Bytes that move over themselves go in pieces of so many, and what is left of them in short ones.
+const PIECE: usize = 2048;
+
+const SHORT: usize = 128;
 
 /// The word of four bytes in little-endian order at an offset.
 #[tactic(auto, unfolding(rh_defs::specs::Bytes::word))]
@@ -59,44 +61,100 @@ fn copy_up(b: &mut [u8], from: usize, to: usize, n: usize)
     put_in(high, 0, part_of(low, from, n));
 }
 
-/// Moves n bytes down from the lowest on, in pieces that are no longer than the way that they go.
+/// Writes an array over as many bytes.
+#[inline(always)]
+fn put_array<const N: usize>(b: &mut [u8], piece: [u8; N])
+    requires { length b.old ≡ N }
+    ensures { b.new ≡ piece.entry }
+{
+    if let Some(place) = b.as_mut_array::<N>() {
+        *place = piece;
+    }
+}
+
+/// Moves N bytes, all of which are read before one is written. N is known when this is built, and a move is then one
+/// `memmove`, or a few wide words.
+#[inline(always)]
+fn move_whole<const N: usize>(b: &mut [u8], from: usize, to: usize)
+    requires source { from + N ≤ length b.old }
+    requires target { to + N ≤ length b.old }
+    ensures { b.new ≡ with_part b.old to (part b.old from N) }
+{
+    if let Some(read) = part_of(b, from, N).as_array::<N>() {
+        let piece = *read;
+        put_array(&mut b[to..to + N], piece);
+    }
+}
+
+/// How many of n bytes the next piece has.
+#[inline(always)]
+fn next_piece(n: usize) -> usize
+    ensures most { result ≤ n }
+    ensures some { 0 < n → 0 < result }
+{
+    if PIECE <= n {
+        PIECE
+    } else if SHORT <= n {
+        SHORT
+    } else {
+        n
+    }
+}
+
+/// Moves the n bytes of a piece.
+#[inline(always)]
+fn move_piece(b: &mut [u8], from: usize, to: usize, n: usize)
+    requires source { from + n ≤ length b.old }
+    requires target { to + n ≤ length b.old }
+    ensures { b.new ≡ with_part b.old to (part b.old from n) }
+{
+    match n {
+        PIECE => move_whole::<PIECE>(b, from, to),
+        SHORT => move_whole::<SHORT>(b, from, to),
+        _ => b.copy_within(from..from + n, to),
+    }
+}
+
+/// Moves n bytes down over themselves, in pieces from the lowest on.
 fn slide_down(b: &mut [u8], from: usize, to: usize, n: usize)
     requires source { from + n ≤ length b.old }
-    requires down { to < from }
+    requires down { to ≤ from }
     ensures { b.new ≡ with_part b.old to (part b.old from n) }
 {
     let mut moved = 0;
     'walk: while moved < n {
-        let size = (n - moved).min(from - to);
-        copy_down(b, from + moved, to + moved, size);
+        let size = next_piece(n - moved);
+        move_piece(b, from + moved, to + moved, size);
         moved += size;
     }
 }
 
-/// Moves n bytes up from the highest on, in pieces that are no longer than the way that they go.
+/// Moves n bytes up over themselves, in pieces from the highest on.
 fn slide_up(b: &mut [u8], from: usize, to: usize, n: usize)
     requires target { to + n ≤ length b.old }
-    requires up { from < to }
+    requires up { from ≤ to }
     ensures { b.new ≡ with_part b.old to (part b.old from n) }
 {
     let mut left = n;
     'walk: while 0 < left {
-        let size = left.min(to - from);
+        let size = next_piece(left);
         left -= size;
-        copy_up(b, from + left, to + left, size);
+        move_piece(b, from + left, to + left, size);
     }
 }
 
-/// Moves n bytes from one offset to another. The two ranges may overlap. Out of line, so that its loops are no part of
-/// callers that move nothing.
+/// Moves n bytes from one offset to another. The two ranges may overlap; where they don't, this is one copy. Out of
+/// line, so that its loops are no part of callers that move nothing.
 #[inline(never)]
 pub fn slide_in(b: &mut [u8], from: usize, to: usize, n: usize)
     requires source { from + n ≤ length b.old }
     requires target { to + n ≤ length b.old }
     ensures { b.new ≡ with_part b.old to (part b.old from n) }
 {
-    if from.abs_diff(to) < FAR {
-        b.copy_within(from..from + n, to);
+    if to + n <= from {
+        copy_down(b, from, to, n);
+    } else if from + n <= to {
+        copy_up(b, from, to, n);
     } else if to < from {
         slide_down(b, from, to, n);
     } else {
