@@ -2,9 +2,13 @@
 ghost use Rattle.std.specs.Prelude.{◌≡◌, ◌+◌, ◌<◌, ◌≤◌, length, replicate};
 ghost use Rattle.rh_defs.specs.Bytes.{word, with_part, put_word, part};
 
-/// Bytes that move over themselves go in pieces of so many, and what is left of them in short ones.
-const PIECE: usize = 2048;
+/// The longest piece of bytes that move over themselves. A page that moves by 64 bytes or fewer has one.
+const LONG: usize = 4032;
 
+/// The piece for what is shorter.
+const MIDDLE: usize = 2048;
+
+/// The piece for what is shorter still, which moves without a call.
 const SHORT: usize = 128;
 
 /// The word of four bytes in little-endian order at an offset.
@@ -92,8 +96,10 @@ fn next_piece(n: usize) -> usize
     ensures most { result ≤ n }
     ensures some { 0 < n → 0 < result }
 {
-    if PIECE <= n {
-        PIECE
+    if LONG <= n {
+        LONG
+    } else if MIDDLE <= n {
+        MIDDLE
     } else if SHORT <= n {
         SHORT
     } else {
@@ -109,7 +115,8 @@ fn move_piece(b: &mut [u8], from: usize, to: usize, n: usize)
     ensures { b.new ≡ with_part b.old to (part b.old from n) }
 {
     match n {
-        PIECE => move_whole::<PIECE>(b, from, to),
+        LONG => move_whole::<LONG>(b, from, to),
+        MIDDLE => move_whole::<MIDDLE>(b, from, to),
         SHORT => move_whole::<SHORT>(b, from, to),
         _ => b.copy_within(from..from + n, to),
     }
