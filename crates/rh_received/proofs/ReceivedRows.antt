@@ -41,6 +41,7 @@ shown_as lines slots = record {
   made = [];
   scrap = [];
   free = 0;
+  ids = [];
 }
 
 document_stands : AnchorLeadsTo two_pages 0 six

@@ -8,6 +8,7 @@ use Rattle.std.proofs.lemmas.List.{length-append, take_more, append_assoc}
 use Rattle.rh_defs.specs.declared.sizes.TheConstants.{FIXED_AREAS}
 use Rattle.rh_store.specs.declared.store.AreaId.{AreaId}
 use Rattle.rh_tasks.specs.Standing.{StandsIn, numbers}
+use Rattle.rh_tasks.specs.View.{ids_of, scrap_size}
 
 -- ---- a list that is filled
 module _ {A : Type 0} (f : A → AreaId) (xs : List A) (i : ℕ) (old items : List AreaId) (so_far : items ≡ old ++ map f (take i xs)) where
@@ -66,6 +67,10 @@ dropped : {A : Type 0} (xs ys : List A) → drop (length xs) (xs ++ ys) ≡ ys
 dropped [] ys = refl
 dropped (x ∷ xs) ys = dropped xs ys
 
+-- the first bytes of an area are as many of them
+scrap-first : (b : List ℕ) (n : ℕ) → n ≤ length b → take (length (take n b)) b ≡ take n b
+scrap-first b n l = ap (λ k. take k b) (let size : length (take n b) ≡ n = omega (arith, length-take n b, l) in size)
+
 -- ---- the areas of a world
 module _ {m : Memory} {seats : List Seat} {made : List MadeArea} {files : FileList} {kept : Kept} (w : IsWorld m seats made files kept) where
   abbrev mades : List ℕ
@@ -75,7 +80,7 @@ module _ {m : Memory} {seats : List Seat} {made : List MadeArea} {files : FileLi
   slots = map slot_area seats
 
   abbrev pub ids : List ℕ
-  ids = (fixed ++ mades) ++ slots
+  ids = ids_of seats made
 
   all-opened : AllByRecursion (IsOpen m) ids
   all-opened =
@@ -116,6 +121,8 @@ module _ {m : Memory} {seats : List Seat} {made : List MadeArea} {files : FileLi
       let slot_bytes : Seat → List ℕ = λ s. bytes m s.slot.area.0 in
       let behind : 6 + length (map made_bytes made) ≡ length (fixed ++ mades) = omega (arith, long, length-map made made_bytes) in
       record {
+        listed = refl;
+        fixed = refl;
         apart = all-distinct;
         opened = all-opened;
         count = w.areas.count ∙ omega (arith, long, length-append (fixed ++ mades) slots, length-map seats slot_area);
@@ -127,6 +134,7 @@ module _ {m : Memory} {seats : List Seat} {made : List MadeArea} {files : FileLi
             ap (λ n. map (bytes m) (drop n ids)) behind
             ∙ ap (map (bytes m)) (dropped (fixed ++ mades) slots) ∙ map-twice (bytes m) slot_area seats;
         module_bytes = refl;
+        scrap = scrap-first (bytes m 5) (scrap_size kept.scrap) w.scrap;
         free = refl;
         pool = refl;
       }

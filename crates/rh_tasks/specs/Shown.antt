@@ -14,7 +14,8 @@ use Rattle.rh_wimp.specs.Chains.{AllLie, Apart, rows_of}
 use Rattle.rh_wimp.specs.PostIn.{parcels_of, unlinked}
 
 -- The desk; the bytes of the module area, and of each slot in order of handle; the lengths of areas 0 to 5 and of the
--- made areas in order of number; the scrap file's bytes, which are the first of area 5; and the free pages.
+-- made areas in order of number; the scrap file's bytes, which are the first of area 5; the free pages; and which of the
+-- store's areas these are: areas 0 to 5, the made areas in order of number, and the slots in order of handle.
 pub record Shown : Type 0 where
   pub desk : Desk
   pub module_bytes : List ℕ
@@ -23,6 +24,7 @@ pub record Shown : Type 0 where
   pub made : List ℕ
   pub scrap : List ℕ
   pub free : ℕ
+  pub ids : List ℕ
 
 -- all messages: for each seat those queued for it, and the one that it holds
 abbrev pub messages_of : Post → List Parcel

@@ -1,5 +1,5 @@
 -- The desk that the seats, the made areas and the store's memory spell, and what holds of every world.
-use Rattle.std.specs.Prelude.{◌≡◌, ◌≢◌, ◌==◌, ℕ, ◌+◌, ◌/◌, ◌≤◌, List, [], ◌∷◌, length, map, take, if◌then◌else◌, Option, Some, None, Bool}
+use Rattle.std.specs.Prelude.{◌≡◌, ◌≢◌, ◌==◌, ℕ, ◌+◌, ◌/◌, ◌≤◌, List, [], ◌∷◌, ◌++◌, length, map, take, if◌then◌else◌, Option, Some, None, Bool}
 use Rattle.std.specs.List.{AllByRecursion}
 use Rattle.std.specs.Option.{option_map}
 use Rattle.std.specs.Str.{bytes_eq}
@@ -110,7 +110,11 @@ slot_area s = s.slot.area.0
 abbrev pub made_area : MadeArea → ℕ
 made_area a = a.area.0
 
--- the desk, and the bytes and lengths of the areas
+-- the store's areas in the order of a list of areas: areas 0 to 5, the made ones and the slots
+abbrev pub ids_of : List Seat → List MadeArea → List ℕ
+ids_of seats made = (fixed ++ map made_area made) ++ map slot_area seats
+
+-- the desk, the bytes and lengths of the areas, and which they are
 abbrev pub shown_of : Memory → List Seat → List MadeArea → FileList → Kept → Shown
 shown_of m seats made files kept = record {
   desk = desk_of m seats made files kept;
@@ -120,6 +124,7 @@ shown_of m seats made files kept = record {
   made = map (λ (a : MadeArea). length (bytes m a.area.0)) made;
   scrap = take (scrap_size kept.scrap) (bytes m scrap_area);
   free = m.free;
+  ids = ids_of seats made;
 }
 
 -- ---- what holds of every world
