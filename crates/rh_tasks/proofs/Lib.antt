@@ -18,6 +18,8 @@ pub mod SlotCommands
 pub mod Loads
 pub mod Spelling
 pub mod Budges
+pub mod BlockOrders
+pub mod BlockWrites
 pub mod Reorders
 pub mod Places
 pub mod Deaths

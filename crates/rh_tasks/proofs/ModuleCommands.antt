@@ -2,13 +2,16 @@
 use Rattle.rh_tasks.proofs.Common.{◌≡◌, ℕ, ◌-◌, ◌%◌, Bool, true, false, refl, ap, sym, subst, ◌∙◌, List, length, ℤ, Option, Some, None, Ok, Err, IsOk}
 use Rattle.rh_tasks.proofs.Common.{is_some, ok_or, option_map, PAGE, Memory, bytes, FileList, Command, Refusal, NotABlock, Reply, Granted, ◌>>=◌, ◌>>◌}
 use Rattle.rh_tasks.proofs.Common.{refuse_if, found_or, left_of, no_answer, Split, first_at, Heap, Segment, block_at, block_size, size_of, module_claim}
-use Rattle.rh_tasks.proofs.Common.{module_resize, module_change, in_range, Post, Desk, free_pages, Answer, module_start, change, module_heap_in, IsQueue}
+use Rattle.rh_tasks.proofs.Common.{module_resize, module_change, in_range, Post, Desk, free_pages, IsDesk, Answer, module_start, change, module_heap_in}
+use Rattle.rh_tasks.proofs.Common.{IsQueue}
 use Rattle.rh_tasks.proofs.Common.{post_in}
 use Rattle.rh_tasks.proofs.Common.{Seat, MadeArea, Kept, the_module, desk_of, IsWorld, begins, ends, granted-same, free-is, granted-keeps}
 use Rattle.rh_defs.specs.declared.refusal.Refusal.TheVariants.{NotYours}
 use Rattle.rh_defs.specs.Blocks.{SameShape}
 use Rattle.rh_defs.specs.Heap.{is_block_at, need_found}
 use Rattle.rh_defs.specs.declared.heap.HeapRefusal.TheVariants as heap_refusal
+use Rattle.rh_defs.proofs.Desks.{with_module-keeps}
+use Rattle.rh_defs.proofs.ModuleKeeps.{Fills}
 use Rattle.rh_defs.proofs.ModuleLaws.{module_free-none, module_resize-refused}
 use Rattle.rh_defs.proofs.ShapeLaws.{blank_cut, block-blank}
 use Rattle.rh_defs.specs.Module.{module_free}
@@ -19,6 +22,8 @@ use Rattle.rh_module.specs.ModuleCalls as module_calls
 use Rattle.rh_wimp.specs.QueueLaws.{post_with_heap}
 use Rattle.rh_wimp.proofs.FrameLaws.{IsOff}
 use Rattle.rh_wimp.proofs.BesideLaws.{Beside, off-message, claim-beside, free-beside, resize-beside, change-beside, answers-beside, queue-beside, post_in-calls}
+use Rattle.rh_tasks.specs.BlockBytes.{heap_written}
+use Rattle.rh_tasks.proofs.BlockWrites.{write-beside}
 use Rattle.rh_tasks.proofs.Chains.{skipped, answered, answer-refused}
 use Rattle.rh_tasks.proofs.Posts.{small, smaller, is-post}
 use Rattle.rh_tasks.proofs.Fixed.{module-desk, module-world}
@@ -146,6 +151,10 @@ module _ {m : Memory} {seats : List Seat} {made : List MadeArea} {files : FileLi
         (no_answer (module_free (address - module_start) the_post.heap))
     frees = free-beside h kept.queue the_post (address - module_start) (is-post w) off
 
+    pub writes : (offset : ℕ) (xs : List ℕ) → Beside h kept.queue the_post (no_answer (heap_written (address - module_start) offset xs h))
+        (no_answer (heap_written (address - module_start) offset xs the_post.heap))
+    writes offset xs = write-beside h kept.queue the_post (address - module_start) offset xs (is-post w) off
+
     pub resizes : (delta : ℤ)
         → Beside h kept.queue the_post (module_resize m.free (address - module_start) delta h)
         (module_resize m.free (address - module_start) delta the_post.heap)
@@ -181,6 +190,11 @@ module _ {m : Memory} {seats : List Seat} {made : List MadeArea} {files : FileLi
 
       pub area-world : (c : Command) → change d c ≡ on_module call said d → in_range c ≡ true → length (bytes n 1) % PAGE ≡ 0 → IsWorld n seats made files kept
       area-world c same ranged whole = module-world w l.only still post-is whole (granted-keeps d _ c (said a) (same ∙ area-done) ranged w.desk)
+
+      -- the same of a call that is no command
+      pub area-keeps : Fills (free_pages d) the_post.heap heap → length (bytes n 1) % PAGE ≡ 0 → IsWorld n seats made files kept
+      area-keeps fills whole = module-world w l.only still post-is whole (subst IsDesk (sym (module-desk w l.only still post-is))
+          (with_module-keeps heap d fills w.desk))
 
     -- behind the look for a block, where no message lies
     pub own-is : (address : ℕ) → post_is_message (address - module_start) the_post ≡ false

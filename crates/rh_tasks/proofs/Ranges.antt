@@ -40,3 +40,9 @@ save-anchor name k to leaf h = grind (arith, nat_tests)
 pub save-leaf : (name : List ℕ) (k : ℕ) (to leaf : List ℕ) → in_range (command.Save name k to leaf) ≡ true → is_leaf leaf ≡ true
 unfolding in_range
 save-leaf name k to leaf h = grind (arith, nat_tests)
+
+-- a `put` may be for any anchor
+pub put-any : (name : List ℕ) (k other offset : ℕ) (bytes : List ℕ) → in_range (command.Put name k offset bytes) ≡ true → other < anchor_count
+    → in_range (command.Put name other offset bytes) ≡ true
+unfolding in_range
+put-any name k other offset bytes h low = grind (arith, nat_tests)

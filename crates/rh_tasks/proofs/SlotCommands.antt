@@ -1,14 +1,18 @@
 -- The commands on a task's slot, from what the slot's call leaves.
-use Rattle.rh_tasks.proofs.Common.{◌≡◌, ℕ, ◌∙◌, refl, sym, ap, List, None, Ok, Err, IsOk, true, false, list_any, Memory, FileList, Command, Refusal}
-use Rattle.rh_tasks.proofs.Common.{NotABlock, Reply, Granted, no_answer, in_range, Desk, idle_block, idle_buffer, Answer, change, slot_in, LeavesSlotIn, Seat}
-use Rattle.rh_tasks.proofs.Common.{MadeArea, Kept, task_of, desk_of, IsWorld, Owns, slid, granted, changed}
+use Rattle.rh_tasks.proofs.Common.{◌≡◌, ℕ, ◌∙◌, refl, sym, ap, subst, List, None, Ok, Err, IsOk, true, false, list_any, Memory, FileList, Command, Refusal}
+use Rattle.rh_tasks.proofs.Common.{NotABlock, Reply, Granted, no_answer, in_range, free_pages, IsDesk, IsRoomed, Desk, idle_block, idle_buffer, Answer, change}
+use Rattle.rh_tasks.proofs.Common.{slot_in, LeavesSlotIn, Seat, MadeArea, Kept, task_of, desk_of, IsWorld, Owns, slid, granted, changed}
 use Rattle.rh_defs.specs.declared.reply.Reply.TheVariants as reply
 use Rattle.rh_defs.specs.Slot as plain
 use Rattle.rh_defs.specs.Records.{is_buffer_of}
+use Rattle.rh_defs.proofs.Desks.{with_slot-keeps}
 use Rattle.rh_slot.specs.declared.slot.Slot.{Slot}
 use Rattle.rh_tasks.proofs.Leaves.{refused, unchanged}
 use Rattle.rh_tasks.proofs.Calls.{on_slot, on_idle, slot-refused, slot-done, slot-world, idle-is, first-is}
+use Rattle.rh_tasks.proofs.Finding.{sits}
 use Rattle.rh_tasks.proofs.Looks.{buffer-none}
+use Rattle.rh_tasks.proofs.Moves.{slid-desk, slid-world}
+use Rattle.rh_tasks.proofs.Slides.{at-task, seat-at}
 
 -- the slot that a call leaves, and its block's address as the reply
 abbrev pub placed_slot : plain.Slot × ℕ → plain.Slot
@@ -84,6 +88,17 @@ module _ {m : Memory} {seats : List Seat} {made : List MadeArea} {files : FileLi
 
       pub buffer-world : (c : Command) → change d c ≡ on_buffer → in_range c ≡ true → IsWorld n seats made files kept
       buffer-world c same ranged = slot-world call same_slot done_reply w o (slid l) (changed l) refl c (same ∙ buffer-is) ranged
+
+      -- the same of a call that is no command
+      pub buffer-keeps : ((new : plain.Slot) → plain.IsSlot (slot_in m slot) → call m.free (slot_in m slot) ≡ Ok new
+          → IsRoomed (free_pages d) (slot_in m slot) new) → IsWorld n seats made files kept
+      unfolding task_of
+      buffer-keeps keeps =
+          let task = at-task d o.place (task_of m o.seat) w.desk (seat-at w (sits o.found)) in
+          let its : plain.IsSlot (slot_in m slot) = subst (λ x. plain.IsSlot (slot_in m x)) o.slot_is task.slot in
+          let roomed : IsRoomed (free_pages d) (slot_in m o.seat.slot) (slot_in n slot) =
+          subst (λ x. IsRoomed (free_pages d) (slot_in m x) (slot_in n slot)) (sym o.slot_is) (keeps (slot_in n slot) its (changed l)) in
+          slid-world w o (slid l) (subst IsDesk (sym (slid-desk w o (slid l))) (with_slot-keeps d (task_of m o.seat) (slot_in n slot) task roomed w.desk))
 
     pub buffer-refused : {n : Memory} {r : Refusal} → LeavesSlotIn m n slot (no_answer (call m.free (slot_in m slot))) (Err r) → on_buffer ≡ Err r
     buffer-refused l = buffer-is ∙ slot-refused call same_slot done_reply w o (unchanged l)

@@ -1,4 +1,5 @@
 pub mod Answer
+pub mod BlockBytes
 pub mod Finding
 pub mod Inner
 pub mod Shown

@@ -3,6 +3,7 @@
 
 mod accepting;
 mod areas;
+mod block_bytes;
 mod blocks;
 mod c_heap;
 mod documents;

@@ -65,7 +65,7 @@ pub struct MadeSight {
 }
 
 /// Whether `n` bytes from an offset on lie in a block of `size` bytes.
-fn fits(size: usize, offset: usize, n: usize) -> bool
+pub fn fits(size: usize, offset: usize, n: usize) -> bool
     ensures { IsTrue result ↔ (offset + n ≤ size) }
 {
     offset <= size && n <= size - offset
