@@ -27,6 +27,8 @@ LONGEST = 120
 # The test that no call takes memory, the functions that it counts, and where the calls that it makes by a list stand;
 # and the same test of an open desk.
 NO_MEMORY, LISTS, DESK_MEMORY = "c/tests/takes_no_memory.c", "c/tests/expect.h", "c/tests/desk_memory.c"
+# The test that is run with the sanitizer for threads as well, where the compiler has it.
+THREADS, OF_THREADS = "c/tests/desk_threads.c", ["-O1", "-g", "-fsanitize=thread", "-pthread"]
 GIVERS = ["malloc", "calloc", "realloc", "aligned_alloc"]
 SHIMMED = ["sort", "-r", "README.md"]
 
@@ -98,7 +100,7 @@ def compile_plain(suite, path, way):
 def try_test(suite, path, way):
     """Compiles one test in one way, and runs it."""
     what, made = f"{stem(path)}, {way}", f"{suite.work}/{stem(path)}-{way.replace(' ', '-')}"
-    counted = [f"-Wl,--wrap={it}" for it in GIVERS] * (path == NO_MEMORY)
+    counted = [f"-Wl,--wrap={it}" for it in GIVERS] * (path == NO_MEMORY) + ["-pthread"] * (path == THREADS)
     objects = [plain_object(suite, it, way) for it in plain(suite)]
     if suite.compiled(what, [path, *objects], [*C11, *WAYS[way], *counted], made):
         suite.ran(what, [made])
@@ -162,6 +164,15 @@ def try_rows(suite):
         suite.ran("the worked rows by run_desk", ["tools/tests/test-rows", made, "--scripts"])
 
 
+def try_threads(suite):
+    """The test with threads finds nothing amiss with the sanitizer for threads, where the compiler has it."""
+    words = [*archive.compiler(), *OF_THREADS, "-x", "c", "-", "-o", f"{suite.work}/empty"]
+    has = subprocess.run(words, input=b"int main(void) { return 0; }", capture_output=True, check=False)
+    made = f"{suite.work}/threads-apart"
+    if has.returncode == 0 and suite.compiled("threads, apart", [THREADS], [*C11, *OF_THREADS], made):
+        suite.ran("threads, apart", [made])
+
+
 def shim(suite, made, flags=()):
     """Compiles the example that is a malloc; gives whether that went well."""
     sources = ["c/examples/malloc_shim.c", "c/plain/os_heap.c"]
@@ -187,7 +198,7 @@ def run_all(suite):
         for made in [pool.submit(compile_plain, suite, path, way) for way in ways for path in plain(suite)]:
             made.result()
         calls = [pool.submit(try_test, suite, path, way) for way in ways for path in tests]
-        others = (try_archive, try_calls, try_header, try_examples, try_rows, try_shim)
+        others = (try_archive, try_calls, try_header, try_examples, try_rows, try_shim, try_threads)
         calls += [pool.submit(it, suite) for it in others]
     for it in calls:
         it.result()
