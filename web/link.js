@@ -35,6 +35,12 @@ export function hashOf({ name, pages, position, text, files }) {
   return hash.length <= MOST_CHARACTERS ? hash : undefined;
 }
 
+// What stands behind the # of a link that is the whole of a text, also where that part is there alone; or an empty text.
+export function hashIn(text) {
+  const [, hash] = /^(?:[^ #]*#)?((?:name|pages|at|script|file)=[!-~]*)$/.exec(text.trim()) ?? [];
+  return hash !== undefined && /(?:^|&)script=/.test(hash) ? hash : "";
+}
+
 // A file of a link; one without a colon has no name.
 function fileOf(value) {
   const colon = value.indexOf(":");

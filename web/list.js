@@ -1,20 +1,21 @@
 // The script on the page: a row for each line, with its reply. Of a long script some lines around a place have rows.
 
-import { outcomeOf } from "./script.js";
+import { explained } from "./explain.js";
+import { element } from "./prose.js";
+import { isRemark, outcomeOf } from "./script.js";
 
 // The rows at most, and by how many lines they move at once.
 const ROWS = 400;
 const MOVE = 200;
 // The characters of a reply that are shown.
 const SHOWN_REPLY = 4000;
+// The rows at most on paper.
+const PRINTED_ROWS = 5000;
+// How much of the list is above the line that ran last, where this has to be brought into view.
+const ABOVE = 0.7;
+// What tells why a line went as it did, beside the one that ran last.
+const TOLD = ["refused", "bad"];
 const FITS_BY_ITSELF = CSS.supports("field-sizing", "content");
-
-// An element with a class.
-function element(tag, className) {
-  const made = document.createElement(tag);
-  made.className = className;
-  return made;
-}
 
 // A reply as it is shown: cut where it is very long.
 function shownReply(reply) {
@@ -29,13 +30,15 @@ class Row {
   #number = element("button", "number");
   field = element("textarea", "line");
   #reply = element("div", "reply");
+  #why = element("div", "why");
+  #explainedFor = "";
   #remove = element("button", "remove");
 
   constructor(list) {
     Object.assign(this.#number, { type: "button", tabIndex: -1 });
     Object.assign(this.#remove, { type: "button", tabIndex: -1, textContent: "\u00d7" });
     Object.assign(this.field, { rows: 1, spellcheck: false, autocomplete: "off", autocapitalize: "off" });
-    this.root.append(this.#number, this.field, this.#reply, this.#remove);
+    this.root.append(this.#number, this.field, this.#reply, this.#why, this.#remove);
     this.#number.addEventListener("click", () => list.session.moveTo(this.index + 1));
     this.#remove.addEventListener("click", () => list.remove(this.index));
     this.field.addEventListener("change", () => this.commit(list));
@@ -56,9 +59,27 @@ class Row {
     this.root.className = ["row", outcomeOf(reply)].join(" ");
     this.root.classList.toggle("ahead", !hasRun);
     this.root.classList.toggle("current", index === session.command);
-    this.root.classList.toggle("remark", /^ *#/.test(lines[index]));
+    this.root.classList.toggle("remark", isRemark(lines[index]));
     this.root.classList.toggle("changed", hasRun && session.changed.has(index));
     if (isOther) this.#write(lines[index]);
+    const isTold = index === session.command || TOLD.includes(outcomeOf(reply));
+    this.#explain(session, lines[index], isTold ? reply : null);
+  }
+
+  // Tells what the line did, why it was refused, or what is wrong with it; a near miss has a button that mends it.
+  #explain(session, line, reply) {
+    const key = reply === null ? "" : `${line}\n${reply}`;
+    if (key === this.#explainedFor) return;
+    this.#explainedFor = key;
+    const { outcome, says, fix } = reply === null ? {} : explained(line, reply);
+    this.#why.className = `why ${outcome ?? ""}`.trim();
+    this.#why.replaceChildren(says ?? "");
+    if (fix === undefined) return;
+    const button = element("button", "fix");
+    const isEnded = fix === line;
+    Object.assign(button, { type: "button", textContent: isEnded ? "End the line" : `Make it: ${fix.trim()}` });
+    button.addEventListener("click", () => session.replace(this.index, this.index + 1, [fix]));
+    this.#why.append(" ", button);
   }
 
   // Names what stands in the row by the line's number.
@@ -69,8 +90,9 @@ class Row {
     this.#remove.ariaLabel = `Take line ${number} away`;
     this.#remove.title = `Take line ${number} away`;
     this.#reply.id = `reply-${number}`;
+    this.#why.id = `why-${number}`;
     this.field.ariaLabel = `Line ${number}`;
-    this.field.setAttribute("aria-describedby", this.#reply.id);
+    this.field.setAttribute("aria-describedby", `${this.#reply.id} ${this.#why.id}`);
   }
 
   #write(line) {
@@ -112,6 +134,7 @@ export class List {
   #later;
   #leave;
   #rows = [];
+  #most = ROWS;
   #first = 0;
   // The line whose field is reached by the tab key.
   #focused = 0;
@@ -127,6 +150,8 @@ export class List {
     earlier.addEventListener("click", () => this.#showMore(-MOVE));
     later.addEventListener("click", () => this.#showMore(MOVE));
     addEventListener("resize", () => this.#rows.forEach((row) => row.fit()));
+    addEventListener("beforeprint", () => this.#allow(PRINTED_ROWS));
+    addEventListener("afterprint", () => this.#allow(ROWS));
   }
 
   // Shows the session. The line that ran last comes into view, unless the list is being worked in; it has the focus
@@ -136,10 +161,16 @@ export class List {
     const { activeElement } = document;
     const isWorkedIn = this.#root.contains(activeElement);
     if (!isWorkedIn) this.#focused = at;
-    if (!isWorkedIn && (at < this.#first || at >= this.#first + ROWS)) this.#first = at - MOVE;
+    if (!isWorkedIn && (at < this.#first || at >= this.#first + this.#most)) this.#first = at - MOVE;
     this.#moveRows(this.#first);
     if (!isWorkedIn) this.#reveal(at);
     if (activeElement.hidden && [this.#earlier, this.#later].includes(activeElement)) this.focus(at);
+  }
+
+  // Lets so many lines have rows, as many more go on paper.
+  #allow(most) {
+    this.#most = most;
+    this.#moveRows(this.#first);
   }
 
   // Gives rows to lines before or behind. A button that isn't needed then leaves the focus to a line.
@@ -152,8 +183,8 @@ export class List {
   // Gives rows to the lines from a place on.
   #moveRows(first) {
     const count = this.session.state.lines.length;
-    this.#first = Math.max(0, Math.min(first, count - ROWS));
-    const shown = Math.min(ROWS, count - this.#first);
+    this.#first = Math.max(0, Math.min(first, count - this.#most));
+    const shown = Math.min(this.#most, count - this.#first);
     while (this.#rows.length > shown) this.#rows.pop().root.remove();
     while (this.#rows.length < shown) this.#addRow();
     this.#rows.forEach((row, at) => row.show(this.session, this.#first + at));
@@ -190,8 +221,9 @@ export class List {
     if (!row) return;
     const { top, bottom } = row.getBoundingClientRect();
     const frame = this.#scroller.getBoundingClientRect();
-    if (bottom > frame.bottom) this.#scroller.scrollTop += bottom - frame.bottom;
-    if (top < frame.top) this.#scroller.scrollTop -= frame.top - top;
+    if (top >= frame.top && bottom <= frame.bottom) return;
+    const room = Math.max(0, frame.height - (bottom - top));
+    this.#scroller.scrollTop += top - frame.top - Math.min(ABOVE * frame.height, room);
   }
 
   // Moves the focus to the field of a line; behind the last one it leaves the list.
@@ -231,6 +263,11 @@ export class List {
       remove: () => this.remove(index),
     };
     actions[action]();
+  }
+
+  // Whether a field is that of a line into which nothing was typed.
+  isUnedited(field) {
+    return this.#rows.some((row) => row.field === field && !row.isEdited);
   }
 
   // Puts what is being typed into a line into the script.

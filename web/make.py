@@ -13,12 +13,23 @@ TOP = WEB.parent
 TARGET = WEB / "out/vervainfile.html"
 RELEASED = TOP / "dist/vervainfile.html"
 # The parts of the page's script, each behind those that it uses.
-SCRIPTS = ("bytes.js", "script.js", "desk.js", "instance.js", "files.js", "link.js", "session.js", "list.js",
-           "picture.js", "memory.js", "shelf.js", "prompt.js", "page.js")
+SCRIPTS = ("bytes.js", "script.js", "desk.js", "instance.js", "files.js", "link.js", "kept.js", "session.js",
+           "prose.js", "words.js", "mend.js", "explain.js", "list.js", "picture.js", "memory.js", "lessons.js",
+           "story.js", "steps.js", "guess.js", "shelf.js", "live.js", "complete.js", "prompt.js", "help.js",
+           "panels.js", "notice.js", "share.js", "page.js")
 # How many bytes a page may have.
 MOST_BYTES = 400_000
 USUAL_PAGES = 64
 IMPORT = re.compile(r"^import \{[^}]*\} from \"\./([a-z_]+\.js)\";\n", re.MULTILINE)
+# A name at the head of a part, as no other part may have it.
+NAME = re.compile(r"^(?:export )?(?:async )?(?:const|let|function\*?|class) (\w+)", re.MULTILINE)
+# A question of a lesson: behind which line it is asked, and for each answer a label, the line of the script or the
+# commands behind that line whose reply has it, and which word of which row it is.
+CHECK = re.compile(r"After line (\d+)\. (.*)\.")
+ANSWER = re.compile(r"([^:]+): (?:line (\d+)|(`[^`]+`(?:, `[^`]+`)*)), word (\d+)(?: of row (\d+))?")
+# What the paragraphs of a lesson that belong to a question begin with.
+PARTS_OF_QUESTION = {"asks": re.compile(r"\*\*Question \d+\.\*\* "), "answer": re.compile(r"\*Answer\.\* "),
+                     "check": re.compile(r"\*Check\.\* ")}
 
 
 class PageFault(Exception):
@@ -31,9 +42,12 @@ def base64_of(content):
 
 def bundle(files):
     """One script of the parts of a page's script, by their names: their imports and exports fall away."""
-    seen, text = set(), []
+    seen, text, named = set(), [], {}
     for name, path in files.items():
         source = path.read_text()
+        for it in NAME.findall(source):
+            if named.setdefault(it, name) != name:
+                raise PageFault(f"{name} and {named[it]} both have the name {it}")
         unseen = set(IMPORT.findall(source)) - seen
         if unseen:
             raise PageFault(f"{name} stands before {', '.join(sorted(unseen))}")
@@ -64,11 +78,59 @@ def lessons():
     return {f"lessons/{name}": f"{number}. {title[0].upper()}{title[1:]}" for number, name, title in rows}
 
 
+def answer_of(text, after):
+    """Where the right answer stands that a part of a check names: in the last reply to which lines, and its word."""
+    found = ANSWER.fullmatch(text)
+    if not found:
+        raise PageFault(f"docs/LESSONS.md has a check that can't be read: {text}")
+    label, line, commands, word, row = found.groups()
+    return {"label": label, "upTo": int(line or after), "then": re.findall(r"`([^`]+)`", commands or ""),
+            "word": int(word), "row": int(row or 1)}
+
+
+def question_of(parts, length):
+    """A question of a lesson whose script has so many lines. One without a check is asked at its end."""
+    check = parts.get("check")
+    found = CHECK.fullmatch(check) if check else None
+    if check and not found:
+        raise PageFault(f"docs/LESSONS.md has a check that can't be read: {check}")
+    after = int(found[1]) if found else length
+    fields = [answer_of(it, after) for it in found[2].split("; ")] if found else []
+    return {"asks": parts["asks"], "answer": parts["answer"], "after": after, "fields": fields}
+
+
+def questions_in(text, length):
+    """The questions in the text of a lesson."""
+    found = []
+    for paragraph in re.split(r"\n{2,}", text.strip()):
+        words = " ".join(paragraph.split())
+        kind = next((it for it, begins in PARTS_OF_QUESTION.items() if begins.match(words)), None)
+        if kind == "asks":
+            found.append({})
+        if kind:
+            found[-1][kind] = PARTS_OF_QUESTION[kind].sub("", words, count=1)
+    return [question_of(it, length) for it in found]
+
+
+def questions():
+    """The questions of each lesson by its name, as docs/LESSONS.md has them."""
+    texts = re.split(r"^## ", (TOP / "docs/LESSONS.md").read_text(), flags=re.MULTILINE)
+    by_number = {it.split(".")[0]: it for it in texts}
+    return {name: questions_in(by_number[title.split(".")[0]], len(text_of(name).splitlines()))
+            for name, title in lessons().items()}
+
+
+def text_of(name):
+    """The script of an example."""
+    return (TOP / f"examples/{name}.desk").read_text()
+
+
 def topics():
-    """The names of examples about each topic, as README.md has them."""
+    """The examples about each topic by their names, with their titles, as README.md has them."""
     table = (TOP / "README.md").read_text().partition("| About | Scripts |\n")[2].partition("\n\n")[0]
     rows = re.findall(r"^\| ([a-z].*?) \| (.*?) \|$", table, re.MULTILINE)
-    return {topic.capitalize(): re.findall(r"`([^`]+)`", names) for topic, names in rows}
+    return {topic.capitalize(): {name: f"{name}: {title}" for name, title in re.findall(r"`([^`]+)` \((.*?)\)", names)}
+            for topic, names in rows}
 
 
 def examples():
@@ -76,9 +138,10 @@ def examples():
     folder = TOP / "examples"
     scripts = (*folder.glob("*.desk"), *folder.glob("lessons/*.desk"))
     names = {str(it.relative_to(folder).with_suffix("")) for it in scripts}
-    titled = {"Lessons": lessons(), **{topic: {it: it for it in about} for topic, about in topics().items()}}
-    rest = names - {name for group in titled.values() for name in group}
-    groups = {"First": {it: it for it in sorted(rest)}, **titled}
+    titled = topics()
+    groups = {"First": titled.pop("First", {}), "Lessons": lessons(), **titled}
+    for name in sorted(names.difference(*groups.values())):
+        raise PageFault(f"README.md has no title for examples/{name}.desk")
     return [{"label": label, "examples": [{"name": name, "title": title, **example_of(folder / f"{name}.desk")}
                                           for name, title in group.items()]} for label, group in groups.items()]
 
@@ -86,15 +149,6 @@ def examples():
 def examples_by_name():
     """Each example of all groups by its name."""
     return {it["name"]: it for group in examples() for it in group["examples"]}
-
-
-def forms():
-    """The forms of all commands, as docs/FORMATS.md has them."""
-    block = re.search(r"```\n(task NAME BUF .*?)```", (TOP / "docs/FORMATS.md").read_text(), re.DOTALL)
-    if not block:
-        raise PageFault("docs/FORMATS.md has no forms of commands")
-    lines = block[1].splitlines()
-    return sorted(form for line in lines for form in re.split(r" {2,}", line.strip()))
 
 
 def policy(script, style, connects):
@@ -114,7 +168,7 @@ def page_of(module, replaced=None, connects="'none'"):
     """The text of a page with a module. Tests put scripts in place of others, and let the page connect."""
     script = bundle({name: WEB / name for name in SCRIPTS} | (replaced or {}))
     style = (WEB / "style.css").read_text()
-    data = {"module": base64_of(gzip.compress(module, 9, mtime=0)), "examples": examples(), "forms": forms(),
+    data = {"module": base64_of(gzip.compress(module, 9, mtime=0)), "examples": examples(), "questions": questions(),
             "pictureStyle": (WEB / "picture.css").read_text()}
     for name, text in (("script", script), ("style", style)):
         if f"</{name}" in text.lower() or "<!--" in text:

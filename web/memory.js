@@ -1,4 +1,4 @@
-// The side of the page that shows memory after the last command: as a picture, or as a map of characters.
+// What stands beside the script: memory after the last command, as a picture or as a map of characters, and messages.
 
 import { shownText } from "./bytes.js";
 import { Refusal } from "./desk.js";
@@ -8,6 +8,8 @@ import { outcomeOf } from "./script.js";
 const NO_LINES = "Nothing has run yet. Type a command at the prompt, or load an example.";
 const NOTHING = "Nothing has run yet. Step runs the next command, Run all runs every line.";
 const NO_COMMAND = "No command has run yet: the lines that have run are remarks, or empty.";
+// A command by which a script sends messages.
+const SENDS = /^ *save /;
 const NO_DRAWING = "The module of this page draws no pictures.";
 
 // Why a session has no step to be shown.
@@ -32,6 +34,10 @@ export class Memory {
   #session;
   #parts;
   #picture;
+  #chart;
+  // Whether the script sends messages, and the replies by which that is known.
+  #sends = false;
+  #replies;
   // What the last command has changed, in words.
   changes = [];
 
@@ -40,6 +46,7 @@ export class Memory {
     this.#session = session;
     this.#parts = parts;
     this.#picture = new Picture(parts.picture, addedStyle);
+    this.#chart = new Picture(parts.chart, addedStyle);
     parts.views.hidden = !(session.has("vf_draw") && session.has("vf_map"));
     for (const radio of this.#radios()) radio.addEventListener("change", () => this.show());
   }
@@ -58,9 +65,12 @@ export class Memory {
   // Shows memory as it is after the last command.
   show() {
     this.changes = [];
+    const isEmpty = this.#session.state.lines.length === 0;
+    this.#parts.empty.hidden = !isEmpty;
+    this.#showMessages([], "");
     const fault = this.#session.fault || this.#draw();
     this.#parts.nothing.textContent = fault;
-    this.#parts.nothing.hidden = !fault;
+    this.#parts.nothing.hidden = !fault || isEmpty;
     const view = fault ? undefined : this.#view;
     this.#parts.picture.hidden = view !== "picture";
     this.#parts.map.hidden = view !== "map";
@@ -85,10 +95,27 @@ export class Memory {
       this.#parts.map.textContent = shownText(this.#session.drawn("vf_map", false));
       return "";
     }
-    const step = lastStepOf(this.#session.drawn("vf_draw", false));
-    this.#picture.show(step);
-    this.changes = step.changes;
+    const { style, memory, messages, legend, changes } = lastStepOf(this.#session.drawn("vf_draw", false));
+    this.#picture.show(style, memory, legend);
+    this.#showMessages(messages, style);
+    this.changes = changes;
     return "";
+  }
+
+  // Shows the messages of a step. They have their place from the first step on where the script sends some.
+  #showMessages(messages, style) {
+    const { replies, state } = this.#session;
+    if (replies !== this.#replies) {
+      this.#replies = replies;
+      this.#sends = state.lines.some((line, at) => SENDS.test(line) && outcomeOf(replies[at]) === "ok");
+    }
+    const hasRoom = this.#sends && this.#view === "picture";
+    this.#parts.messages.hidden = !hasRoom;
+    document.body.classList.toggle("with-messages", hasRoom);
+    if (!hasRoom) return;
+    this.#parts["no-messages"].hidden = messages.length > 0;
+    this.#chart.show(style, messages, []);
+    this.#parts.messages.scrollTop = this.#parts.messages.scrollHeight;
   }
 
   #tellChanges() {

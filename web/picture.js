@@ -1,19 +1,23 @@
-// The picture of memory: the last figure of a sheet, in a tree of its own, with the sheet's style.
+// Pictures of memory and of messages: the last figure of a sheet, each in a tree of its own, with the sheet's style.
 
 import { shownText } from "./bytes.js";
 
 // The style of a sheet; a browser would refuse one that it finds in a page.
 const STYLE = /<style>([^]*?)<\/style>/;
 
-// The last step of a sheet: the sheet's style, what the command has changed in words, the figure, how figures are read.
+// The last step of a sheet: the sheet's style, what the command has changed in words, the figures of memory and of the
+// messages, and how figures are read.
 export function lastStepOf(sheet) {
   const text = shownText(sheet);
   const page = new DOMParser().parseFromString(text.replace(STYLE, ""), "text/html");
   const step = [...page.querySelectorAll("main section")].at(-1);
+  const defs = page.querySelector(".defs");
+  const aside = step?.querySelector(":scope > aside");
   return {
     style: STYLE.exec(text)?.[1] ?? "",
     changes: [...step?.querySelectorAll(".change") ?? []].map((change) => change.textContent),
-    parts: [page.querySelector(".defs"), ...step?.querySelectorAll(":scope > .memory, :scope > aside") ?? []],
+    memory: [defs, step?.querySelector(":scope > .memory")],
+    messages: aside ? [defs, aside] : [],
     legend: [page.querySelector("header > p"), page.querySelector(".key")],
   };
 }
@@ -42,7 +46,6 @@ function frameOf(label, elements) {
 export class Picture {
   #tree;
   #figure = document.createElement("div");
-  #legend = document.createElement("details");
   #sheetStyle = new CSSStyleSheet();
   #styleText;
 
@@ -52,11 +55,11 @@ export class Picture {
     added.replaceSync(addedStyle);
     this.#tree = host.attachShadow({ mode: "open" });
     this.#tree.adoptedStyleSheets = [this.#sheetStyle, added];
-    this.#tree.append(this.#figure, this.#legend);
+    this.#tree.append(this.#figure);
   }
 
-  // Shows the last step of a sheet.
-  show({ style, parts, legend }) {
+  // Shows parts of a sheet, and what is said of how they are read, with the sheet's style.
+  show(style, parts, legend) {
     if (style !== this.#styleText) this.#restyle(style, legend);
     const scrolled = [...this.#figure.querySelectorAll(".wide")].map((frame) => frame.scrollLeft);
     this.#figure.replaceChildren(...copies(parts));
@@ -77,8 +80,12 @@ export class Picture {
   #restyle(style, legend) {
     this.#styleText = style;
     this.#sheetStyle.replaceSync(style.replaceAll(":root", ":host"));
+    this.#tree.querySelector("details")?.remove();
+    if (!legend.length) return;
     const summary = document.createElement("summary");
+    const details = document.createElement("details");
     summary.textContent = "How figures are read";
-    this.#legend.replaceChildren(summary, ...copies(legend));
+    details.append(summary, ...copies(legend));
+    this.#tree.append(details);
   }
 }

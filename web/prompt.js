@@ -1,32 +1,36 @@
-// The prompt: a line is typed and entered; the arrow keys go through the lines that were entered before.
+// The prompt: a line is typed and entered; Tab completes its words; the arrow keys go through what was entered before.
 
-// The forms shown at once.
-const SHOWN_FORMS = 4;
+import { aboutWord, candidates, formsFor, typedWords } from "./complete.js";
+import { element } from "./prose.js";
 
-// The forms of commands that a line may become, as far as it is typed.
-export function formsFor(line, forms) {
-  const words = line.trimStart().split(/ +/);
-  if (words[0] === "") return [];
-  const fits = words.length > 1 ? (form) => form.split(" ")[0] === words[0] : (form) => form.startsWith(words[0]);
-  return forms.filter(fits).slice(0, SHOWN_FORMS);
+// A form as it is shown, with the word marked that is being typed.
+function formShown(form, at) {
+  const code = element("code");
+  const words = form.words.map((word, index) => index === at ? element("b", "", word) : word);
+  code.append(...words.flatMap((word, index) => index ? [" ", word] : [word]));
+  return code;
 }
 
 export class Prompt {
   #field;
   #hint;
-  #forms;
+  #live;
+  #files;
   #enter;
   #entered = [];
   // The place in what was entered; its length stands for the line that is being typed.
   #at = 0;
   #typed = "";
   #usualHint = "";
+  // What Tab goes through: the line before the word, the words that fit, and which of them stands in the field.
+  #offered;
 
-  // Of its elements, the forms of all commands, and a function that takes the lines that are entered.
-  constructor({ form, field, hint }, forms, enter) {
+  // Of its elements, what is live, a function that gives the files, and one that takes the lines that are entered.
+  constructor({ form, field, hint }, live, files, enter) {
     this.#field = field;
     this.#hint = hint;
-    this.#forms = forms;
+    this.#live = live;
+    this.#files = files;
     this.#enter = enter;
     form.addEventListener("submit", (event) => {
       event.preventDefault();
@@ -34,7 +38,14 @@ export class Prompt {
     });
     field.addEventListener("paste", (event) => this.#onPaste(event));
     field.addEventListener("keydown", (event) => this.#onKey(event));
-    field.addEventListener("input", () => this.#tellForms());
+    field.addEventListener("input", () => {
+      this.#offered = undefined;
+      this.#tellForms();
+    });
+    hint.addEventListener("click", (event) => {
+      const word = event.target.closest("button")?.value;
+      if (word !== undefined) this.#take(word);
+    });
   }
 
   focus() {
@@ -69,6 +80,7 @@ export class Prompt {
 
   #onKey(event) {
     if (event.isComposing) return;
+    if (event.key === "Tab" && this.#complete(event)) event.preventDefault();
     const moves = { ArrowUp: -1, ArrowDown: 1 };
     if (event.key in moves) {
       event.preventDefault();
@@ -96,15 +108,80 @@ export class Prompt {
   #write(line) {
     this.#field.value = line;
     this.#field.setSelectionRange(line.length, line.length);
+    this.#offered = undefined;
     this.#tellForms();
   }
 
+  // ---- completion
+
+  // The words that fit at the end of the line.
+  get #fitting() {
+    return candidates(this.#field.value, this.#live, this.#files());
+  }
+
+  // The line before the word that is being typed.
+  get #front() {
+    const { value } = this.#field;
+    return this.#offered?.front ?? value.slice(0, value.length - typedWords(value).at(-1).length);
+  }
+
+  // Puts a word that fits at the end of the line, or the next one; Shift goes back among them. Gives whether there is
+  // one: where nothing is typed, or nothing fits, the key leaves the field.
+  #complete({ shiftKey, ctrlKey, altKey, metaKey }) {
+    const { value, selectionEnd } = this.#field;
+    const isPlain = !ctrlKey && !altKey && !metaKey;
+    if (!isPlain || value.trim() === "" || selectionEnd !== value.length || (shiftKey && !this.#offered)) return false;
+    if (!this.#offered) this.#offer();
+    const { front, words, at } = this.#offered ?? { words: [] };
+    if (!words.length) return false;
+    if (words.length === 1) {
+      this.#take(words[0].word);
+      return true;
+    }
+    this.#offered.at = (at + (shiftKey ? words.length - 1 : 1)) % words.length;
+    this.#field.value = front + words[this.#offered.at].word;
+    this.#tellForms();
+    return true;
+  }
+
+  // Finds the words for Tab to go through, from before the first on.
+  #offer() {
+    const words = this.#fitting;
+    if (words.length) this.#offered = { front: this.#front, words, at: -1 };
+  }
+
+  // Takes a word, with a space where more may come.
+  #take(word) {
+    const line = this.#front + word;
+    const count = typedWords(line).length;
+    const goesOn = formsFor(line).some((form) => form.words.length > count);
+    this.#write(goesOn ? `${line} ` : line);
+    this.#field.focus();
+  }
+
+  // ---- what stands below
+
   #tellForms() {
-    const forms = formsFor(this.#field.value, this.#forms).map((form) => {
-      const code = document.createElement("code");
-      code.textContent = form;
-      return code;
+    const { value } = this.#field;
+    if (value.trim() === "") {
+      this.#hint.replaceChildren(this.#usualHint);
+      return;
+    }
+    const at = typedWords(value).length - 1;
+    const forms = formsFor(value);
+    const told = forms.length === 1 ? [element("span", "about", aboutWord(forms[0], value))] : [];
+    const words = this.#offered?.words ?? (at > 0 && forms.length ? this.#fitting : []);
+    this.#hint.replaceChildren(...forms.map((form) => formShown(form, at)), ...told, ...this.#buttons(words));
+    if (!forms.length) this.#hint.textContent = "No command begins so.";
+  }
+
+  // Buttons for words that fit, of which the one in the field is marked.
+  #buttons(words) {
+    return words.map(({ word, about }, at) => {
+      const button = element("button", "word", word);
+      Object.assign(button, { type: "button", value: word, title: about, tabIndex: -1 });
+      button.ariaPressed = String(at === this.#offered?.at);
+      return button;
     });
-    this.#hint.replaceChildren(...forms.length ? forms : [this.#usualHint]);
   }
 }

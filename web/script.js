@@ -6,7 +6,18 @@ import { bytesOf } from "./bytes.js";
 const LINE_BYTES = 1024;
 const CHARACTER_BYTES = 4;
 const SKIPPED = /^ *(?:#|$)/;
+const REMARK = /^ *#/;
 const MARK = /^ *#picture(?: |$)/;
+
+// Whether a line is skipped as a remark.
+export function isRemark(line) {
+  return REMARK.test(line);
+}
+
+// The title that a line gives to the picture of the next command, where it is such a mark.
+export function titleOf(line) {
+  return MARK.test(line) ? line.replace(MARK, "").trim() : undefined;
+}
 
 // The lines of a script, and whether its last one has no line feed: such a line doesn't run.
 export function linesOf(text) {
@@ -39,6 +50,11 @@ function answered({ lines, isCut }) {
 // The replies in a run's text, each with the lines that belong to it.
 function repliesOf(text) {
   return text === "" ? [] : text.slice(0, -1).split(/\n(?! {2})/);
+}
+
+// The last reply of a run's text.
+export function lastReplyOf(text) {
+  return repliesOf(text).at(-1) ?? "";
 }
 
 // For each line of a script its reply in a run's text, or null where it has none; nothing where these don't fit.

@@ -3,7 +3,7 @@
 import { bytesOf, textOf } from "./bytes.js";
 import { KINDS, Refusal, packedFiles } from "./desk.js";
 import {
-  commandBefore, linesOf, markedText, positionAfterStep, positionBeforeStep, repliesByLine, textOfLines,
+  commandBefore, lastReplyOf, linesOf, markedText, positionAfterStep, positionBeforeStep, repliesByLine, textOfLines,
 } from "./script.js";
 
 export const LEAST_PAGES = 8;
@@ -16,7 +16,8 @@ const MOST_PAST = 50;
 // The characters of a script's name at most.
 const MOST_NAME = 100;
 
-const EMPTY = { name: "script.desk", lines: [], isCut: false, position: 0, pages: USUAL_PAGES, files: [] };
+// Of a script: the example that it was made of, its name and lines, how many have run, pages and files.
+const EMPTY = { example: "", name: "script.desk", lines: [], isCut: false, position: 0, pages: USUAL_PAGES, files: [] };
 
 // Whether a pool can have so many pages.
 export function arePages(pages) {
@@ -37,7 +38,9 @@ function otherReplies(before, after) {
 
 export class Session {
   #desk;
+  // What the script was before changes, the last one behind, and what it was before they were taken back.
   #past = [];
+  #ahead = [];
   #listeners = [];
   #loadListeners = [];
   state = EMPTY;
@@ -73,6 +76,23 @@ export class Session {
     return this.#past.length > 0;
   }
 
+  get canRedo() {
+    return this.#ahead.length > 0;
+  }
+
+  // All that a tab needs to go on with the session when it is loaded again.
+  get history() {
+    return { past: this.#past, state: this.state, ahead: this.#ahead };
+  }
+
+  // Goes on where a session was.
+  resume({ past, state, ahead }) {
+    this.#past = past;
+    this.#ahead = ahead;
+    this.#show(state);
+    for (const listener of this.#loadListeners) listener();
+  }
+
   // The whole script.
   get text() {
     return textOfLines(this.state.lines, this.state.isCut);
@@ -88,12 +108,22 @@ export class Session {
   change(change) {
     this.#past.push(this.state);
     if (this.#past.length > MOST_PAST) this.#past.shift();
+    this.#ahead = [];
     this.#show({ ...this.state, ...change });
   }
 
   // Takes the last change back.
   undo() {
-    if (this.canUndo) this.#show(this.#past.pop());
+    if (!this.canUndo) return;
+    this.#ahead.push(this.state);
+    this.#show(this.#past.pop());
+  }
+
+  // Makes the change again that was taken back last.
+  redo() {
+    if (!this.canRedo) return;
+    this.#past.push(this.state);
+    this.#show(this.#ahead.pop());
   }
 
   #show(state) {
@@ -135,10 +165,10 @@ export class Session {
   }
 
   // Loads a script, none of whose lines has run.
-  load({ name, text, pages = USUAL_PAGES, files = [], position = 0 }) {
+  load({ name, text, pages = USUAL_PAGES, files = [], position = 0, example = "" }) {
     const script = linesOf(text);
     const at = Math.max(0, Math.min(Math.trunc(position), script.lines.length)) || 0;
-    this.change({ ...EMPTY, ...script, name: deskName(name), pages, files, position: at });
+    this.change({ ...script, example, name: deskName(name), pages, files, position: at });
     for (const listener of this.#loadListeners) listener();
   }
 
@@ -162,6 +192,20 @@ export class Session {
   drawn(call, isWhole) {
     const text = isWhole ? this.text : markedText(this.state, this.command);
     return this.#desk.text(call, this.#job(text, isWhole ? 0 : 1));
+  }
+
+  // What the module replies to a question behind the lines that have run.
+  asked(question) {
+    const { lines, position, isCut } = this.state;
+    const end = isCut && position === lines.length ? position - 1 : position;
+    const text = textOfLines([...lines.slice(0, end), question], false);
+    return lastReplyOf(textOf(this.#desk.text("vf_run", this.#job(text, 0))));
+  }
+
+  // What the module replies to the last line of another script, over its own pages and files.
+  replyTo({ lines, pages, files }) {
+    const job = { pages, script: bytesOf(textOfLines(lines, false)), files: packedFiles(files) };
+    return lastReplyOf(textOf(this.#desk.text("vf_run", job)));
   }
 
   // What the module says of bytes as a heap and as a slot: a line of each.

@@ -13,8 +13,8 @@ import make
 # What is compared of figures: the memory and what stands beside it, as a browser reads the sheet of a whole script.
 FIGURES_OF_SHEET = """[...new DOMParser().parseFromString(%s, 'text/html').querySelectorAll('main section')].map(
   (step) => [...step.querySelectorAll('.memory > *, aside > *')].map((it) => it.outerHTML).join(''))"""
-FIGURE_SHOWN = """[...document.querySelector('#picture').shadowRoot.querySelectorAll('.wide > *, aside > *')]
-  .map((it) => it.outerHTML).join('')"""
+FIGURE_SHOWN = """[['#picture', '.wide > *'], ['#chart', 'aside > *']].flatMap(([host, found]) =>
+  [...document.querySelector(host).shadowRoot.querySelectorAll(found)]).map((it) => it.outerHTML).join('')"""
 STYLE = re.compile(r"<style>.*?</style>", re.DOTALL)
 # Examples whose every step is looked at.
 DRAWN = ("transfer", "sliding", "mistakes", "killed", "lessons/death")
@@ -158,11 +158,11 @@ def check_drawn_files(bench):
 
 def check_parts(bench):
     """The parts of the page's script that need no page pass their own tests."""
-    names = ("bytes.js", "script.js", "desk.js", "files.js", "link.js", "session.js", "picture.js", "prompt.js")
-    tests = ("parts.js", "parts_desk.js", "parts_session.js")
+    names = [it for it in make.SCRIPTS if it not in ("instance.js", "page.js")]
+    tests = ("parts.js", "parts_desk.js", "parts_session.js", "parts_words.js")
     script = make.bundle({name: WEB / name for name in names} | {name: WEB / "tests" / name for name in tests})
     tab = bench.browser.open("about:blank")
     tab.value(f"(() => {{ {script} }})()")
     same(tab.value("partFaults"), [], "what is wrong with parts")
-    holds(tab.value("partCount") > 30, "tests of parts are missing")
+    holds(tab.value("partCount") > 60, "tests of parts are missing")
     tab.close()

@@ -16,7 +16,11 @@ SHOWN = "document.querySelector('#name').value + document.querySelector('#files'
 AT_FIRST = """(() => {
   document.querySelector('#fresh').click();
   document.querySelector('[value=picture]').click();
-  if (!document.querySelector('#help').hidden) document.querySelector('#help-button').click();
+  document.querySelector('[value=memory]').click();
+  if (document.querySelector('#predict').checked) document.querySelector('#predict').click();
+  for (const name of ['file', 'help']) {
+    if (!document.querySelector(`#${name}`).hidden) document.querySelector(`#${name}-button`).click();
+  }
   const prompt = document.querySelector('#command');
   prompt.focus();
   prompt.value = '';

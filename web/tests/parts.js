@@ -5,7 +5,7 @@ import { Desk, packedFiles } from "./desk.js";
 import { faultOfFile, faultOfName, nameFor } from "./files.js";
 import { hashOf, readHash } from "./link.js";
 import { Picture, lastStepOf } from "./picture.js";
-import { formsFor } from "./prompt.js";
+import { formsFor } from "./complete.js";
 import {
   hasReply, linesOf, markedText, outcomeOf, positionAfterStep, positionBeforeStep, repliesByLine, textOfLines,
 } from "./script.js";
@@ -190,24 +190,35 @@ const TESTS = {
     same(hashes.map((hash) => readHash(hash) === undefined), [true, false, ...Array(5).fill(true)]);
   },
   "the forms of a command are found as it is typed"() {
-    const forms = ["budge NAME off", "budge NAME on", "areas", "area K DELTA"];
-    same(["", "b", "area", "area ", " budge a", "z"].map((line) => formsFor(line, forms).length), [0, 2, 2, 1, 2, 0]);
-    same(formsFor("c", ["c 1", "c 2", "b", "c 3", "c 4", "c 5"]), ["c 1", "c 2", "c 3", "c 4"]);
+    const found = (line) => formsFor(line).map(({ form }) => form);
+    same(["", "z", "budge a x", "areas x"].map(found), [[], [], [], []]);
+    same(found("bu"), ["budge NAME on", "budge NAME off"]);
+    same(found("area"), ["areas", "area K DELTA"]);
+    same([found("area "), found(" budge a"), found("budge a of")],
+      [["area K DELTA"], ["budge NAME on", "budge NAME off"], ["budge NAME off"]]);
+    same([found("areas "), found("cancel a in ")], [["areas"], ["cancel NAME in", "cancel NAME in ID"]]);
+    same(found("c").length, 5);
   },
   "of a sheet the last figure is shown, with its style; links that lead out of it are plain words"() {
     const host = document.createElement("div");
     const link = (target) => `<a href="${target}">${target}</a>`;
     const links = `${["#in", "#out", "https://example.com/"].map(link).join("")}<b id="in"></b>`;
     const figure = (name) => `<div class="memory"><svg><title>${name}</title></svg>${links}</div>`;
-    const step = (name) => `<section><p class="change">${name}</p>${figure(name)}</section>`;
+    const aside = (name) => `<aside><svg><title>${name}</title></svg></aside>`;
+    const step = (name) => `<section><p class="change">${name}</p>${figure(name)}${aside(`of ${name}`)}</section>`;
     const sheet = `<style>:root { --text: red; }</style><main>${step("one")}${step("two")}</main>`;
-    const last = lastStepOf(bytesOf(sheet));
-    new Picture(host, ":host { color: var(--text); }").show(last);
+    const { style, changes, memory, messages } = lastStepOf(bytesOf(sheet));
+    const picture = new Picture(host, ":host { color: var(--text); }");
+    picture.show(style, memory, []);
     const found = (selector) => [...host.shadowRoot.querySelectorAll(selector)].map((it) => it.textContent);
-    same([last.changes, found("title"), found("a[href]"), found("a").length], [["two"], ["two"], ["#in"], 3]);
+    same([changes, found("title"), found("a[href]"), found("a").length], [["two"], ["two"], ["#in"], 3]);
     document.body.append(host);
     same(getComputedStyle(host).color, "rgb(255, 0, 0)");
-    new Picture(document.createElement("div"), "").show(lastStepOf(bytesOf("<p>none</p>")));
+    picture.show(style, messages, []);
+    same([found("title"), found("details")], [["of two"], []]);
+    const none = lastStepOf(bytesOf("<p>none</p>"));
+    new Picture(document.createElement("div"), "").show(none.style, none.memory, none.legend);
+    same([none.messages, none.changes], [[], []]);
   },
   "a module begins anew after it has stopped, and gets more room where its text needs it"() {
     const made = [];

@@ -4,7 +4,7 @@ import { Desk } from "./desk.js";
 import { runAll, same, told } from "./parts.js";
 
 // What each call takes, as web/README.md has it.
-const FORMS = {
+const CALL_FORMS = {
   vf_run: ["pages", "pool", "numbers", "script", "files", "text", "needed"],
   vf_map: ["pages", "pool", "numbers", "script", "files", "marked", "text", "needed"],
   vf_draw: ["pages", "pool", "numbers", "script", "name", "files", "marked", "text", "needed"],
@@ -37,7 +37,7 @@ function noting(status, initial = 16n, maximum = 99n, ownEnd = OWN_END) {
   new Uint8Array(memory.buffer).fill(0xff);
   const notes = {};
   const exports = { memory, __heap_base: { value: BigInt(ownEnd) } };
-  for (const [call, form] of Object.entries(FORMS)) {
+  for (const [call, form] of Object.entries(CALL_FORMS)) {
     const noted = (...words) => {
       Object.assign(notes, { words: named(form, words), bytes: new Uint8Array(memory.buffer.slice(0)) });
       return status;
@@ -57,7 +57,7 @@ function rangesOf(words) {
 
 const DESK_TESTS = {
   "a call gets its numbers, and buffers with as much as they hold"() {
-    for (const [call, form] of Object.entries(FORMS)) {
+    for (const [call, form] of Object.entries(CALL_FORMS)) {
       const { desk, notes } = noting(0);
       desk.text(call, GIVEN);
       const { words, bytes } = notes;
@@ -72,7 +72,7 @@ const DESK_TESTS = {
     }
   },
   "what a call gets lies behind what the module has, within its memory, and apart"() {
-    for (const call in FORMS) {
+    for (const call in CALL_FORMS) {
       const { desk, notes } = noting(0, 1n);
       desk.text(call, GIVEN);
       let end = OWN_END;

@@ -1,6 +1,7 @@
 // Tests of what the page keeps, with a desk that stands in for the module.
 
 import { bytesOf, textOf } from "./bytes.js";
+import { historyOfText, textOfHistory } from "./kept.js";
 import { runAll, same } from "./parts.js";
 import { hasReply, linesOf } from "./script.js";
 import { Session, arePages, deskName } from "./session.js";
@@ -56,7 +57,8 @@ const SESSION_TESTS = {
     const session = sessionOf("a\n", 1);
     session.change({ pages: 8, files: [{ name: "f", bytes: Uint8Array.of(1) }] });
     session.load({ name: "b", text: "b\n" });
-    same(session.state, { name: "b.desk", lines: ["b"], isCut: false, position: 0, pages: 64, files: [] });
+    same(session.state,
+      { example: "", name: "b.desk", lines: ["b"], isCut: false, position: 0, pages: 64, files: [] });
   },
   "the last 50 changes are taken back, one by one"() {
     const session = new Session(echo());
@@ -89,10 +91,73 @@ const SESSION_TESTS = {
     same(found, ["x\na\n", "a\n", ""]);
   },
   "a change leaves all else as it is"() {
-    const session = sessionOf("a\nb", 1);
+    const session = new Session(echo());
+    session.change({ name: "a.desk", lines: ["a", "b"], isCut: true, position: 1 });
     const files = [{ name: "f", bytes: Uint8Array.of(1) }];
     for (const change of [{ pages: 8 }, { files }, { name: "b.desk" }]) session.change(change);
-    same(session.state, { name: "b.desk", lines: ["a", "b"], isCut: true, position: 1, pages: 8, files });
+    same(session.state,
+      { example: "", name: "b.desk", lines: ["a", "b"], isCut: true, position: 1, pages: 8, files });
+  },
+  "what was taken back is made again, one by one, until another change is made"() {
+    const session = sessionOf("a\n", 1);
+    for (const pages of [8, 9, 10]) session.change({ pages });
+    same([session.canUndo, session.canRedo], [true, false]);
+    const found = ["undo", "undo", "redo", "redo", "redo", "undo"].map((move) => {
+      session[move]();
+      return [session.state.pages, session.canRedo];
+    });
+    same(found, [[9, true], [8, true], [9, true], [10, false], [10, false], [9, true]]);
+    session.back();
+    same([session.canRedo, session.state.position], [true, 0]);
+    session.change({ pages: 11 });
+    same([session.canRedo, session.state.pages], [false, 11]);
+  },
+  "a session goes on where another one was"() {
+    const session = sessionOf("a\nb\n", 1);
+    session.change({ pages: 8 });
+    session.change({ pages: 9 });
+    session.undo();
+    const next = new Session(echo());
+    next.resume(historyOfText(textOfHistory(session.history)));
+    same([next.state, next.replies, next.command], [session.state, ["ok a", "ok b"], 0]);
+    const found = ["redo", "undo", "undo", "undo"].map((move) => {
+      next[move]();
+      return [next.state.pages, next.state.lines.length];
+    });
+    same(found, [[9, 2], [8, 2], [64, 2], [64, 0]]);
+  },
+  "a tab keeps lines, files and places of states as they are, each file once"() {
+    const file = { name: "f", bytes: Uint8Array.of(0, 255, 10) };
+    const text = textOf(Uint8Array.of(0xe9, 0x0a, 0xff, 0xe2, 0x82, 0xac));
+    const state = { example: "x", name: "n.desk", ...linesOf(text), position: 1, pages: 9, files: [file] };
+    const kept = textOfHistory({ past: [state, { ...state, files: [] }], state, ahead: [state] });
+    same(historyOfText(kept), { past: [state, { ...state, files: [] }], state, ahead: [state] });
+    same(kept.split("base64").length, 2);
+    same([historyOfText(""), historyOfText(null)], [undefined, undefined]);
+  },
+  "of a long history a tab keeps what is nearest, and of too long a script nothing"() {
+    const state = (length) => ({ lines: ["a".repeat(length)], files: [] });
+    const found = (past, now, ahead) => {
+      const kept = historyOfText(textOfHistory({ past, state: now, ahead }));
+      return kept && [kept.past, kept.ahead].map((them) => them.map(({ lines }) => lines[0].length));
+    };
+    const past = [1, 2, 900000, 3, 4].map(state);
+    same(found(past, state(10), [5, 6].map(state)), [[1, 2, 900000, 3, 4], [5, 6]]);
+    same(found(past, state(1200000), [5, 6].map(state)), [[3, 4], [5, 6]]);
+    same([found(past, state(1999800), []), found(past, state(2000001), [])], [[[3, 4], []], undefined]);
+    same(found([], { lines: [], files: [{ name: "f", bytes: new Uint8Array(1600000) }] }, []), undefined);
+  },
+  "what is asked behind the lines that have run changes nothing"() {
+    const desk = echo();
+    const session = new Session(desk);
+    session.load({ name: "n", text: "a\nb\nc", pages: 8, position: 2 });
+    const before = session.history.state;
+    same(session.asked("areas"), "ok areas");
+    session.moveTo(3);
+    session.asked("heap a");
+    same(desk.asked.slice(-2).map(({ script, pages }) => [script, pages]), [["a\nb\nareas\n", 8], ["a\nb\nheap a\n", 8]]);
+    same(session.replyTo({ lines: ["x", "y"], pages: 9, files: [] }), "ok y");
+    same([{ ...before, position: 3 }, desk.asked.at(-1).pages], [session.state, 9]);
   },
   "a step is no change"() {
     const session = sessionOf("a\nb\n");

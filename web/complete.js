@@ -1,0 +1,79 @@
+// What the word at the end of a line may become, by the forms of commands and by what is live.
+
+import { FORMS, KINDS_OF_WORDS, isKind } from "./words.js";
+
+const ANCHORS = 64;
+// The first number of an area that was made.
+const FIRST_MADE = 256;
+// The words that are offered at most.
+const MOST_OFFERED = 24;
+// Commands whose anchor must be free, and whose name is a new one.
+const NEEDS_FREE_ANCHOR = ["alloc", "load"];
+
+// The words of a line; the last is the one that is being typed, and may be empty.
+export function typedWords(line) {
+  return line.replace(/^ +/, "").split(/ +/);
+}
+
+// Whether a form may become of words of which the last is being typed.
+function fits(form, words) {
+  const last = words.length - 1;
+  if (words.length > form.words.length) return words.length === form.words.length + 1 && words[last] === "" && last > 0
+    && fits(form, words.slice(0, last)) && isWhole(form, words.slice(0, last));
+  return words.every((word, at) => isKind(form.words[at])
+    || (at === last ? form.words[at].startsWith(word) : form.words[at] === word));
+}
+
+// Whether all words that a form has by themselves stand there.
+function isWhole(form, words) {
+  return form.words.every((word, at) => isKind(word) || word === words[at]);
+}
+
+// The forms of commands that a line may become, as far as it is typed.
+export function formsFor(line) {
+  const words = typedWords(line);
+  return words[0] === "" ? [] : FORMS.filter((form) => fits(form, words));
+}
+
+// What is told of the word that is being typed: what its kind is in a form.
+export function aboutWord(form, line) {
+  const kind = form.words[typedWords(line).length - 1];
+  return kind && isKind(kind) ? `${kind}: ${form.about[kind] ?? KINDS_OF_WORDS[kind].about}` : form.says;
+}
+
+const sized = ({ size }) => `${size} bytes`;
+
+// The anchors that fit: those of blocks, or the first that has none.
+function anchors(command, task, live) {
+  const blocks = live.blocks(task);
+  if (!NEEDS_FREE_ANCHOR.includes(command)) return blocks.map((it) => ({ word: it.anchor, about: sized(it) }));
+  const used = new Set(blocks.map(({ anchor }) => Number(anchor)));
+  const free = Array.from({ length: ANCHORS }, (_, at) => at).find((at) => !used.has(at));
+  return free === undefined ? [] : [{ word: String(free), about: "the first without a block" }];
+}
+
+// The words of a kind that are live.
+const LIVE_WORDS = {
+  NAME: ([command], live) => command === "task" ? [] : live.tasks.map((word) => ({ word, about: "a task" })),
+  TO: ([, task], live) => live.tasks.filter((word) => word !== task).map((word) => ({ word, about: "a task" })),
+  FILE: (words, live, files) => files.map(({ name, bytes }) => ({ word: name, about: `${bytes.length} bytes` })),
+  A: ([command, task], live) => anchors(command, task, live),
+  K: ([command], live) => live.areas.filter(({ number }) => command !== "remove" || number >= FIRST_MADE)
+    .map(({ number, pages }) => ({ word: number, about: `${pages} pages` })),
+  ID: ([, task, way], live) => live.transfers(task, way).map(({ id, state }) => ({ word: id, about: state })),
+  ADDR: ([command, task], live) => command === "rma" ? live.inModuleArea.map((word) => ({ word, about: "a block" }))
+    : live.used(task).map((it) => ({ word: it.address, about: sized(it) })),
+};
+
+// The words that may stand at the end of a line in place of the one that is being typed, each once.
+export function candidates(line, live, files) {
+  const words = typedWords(line);
+  const at = words.length - 1;
+  const kinds = new Set(formsFor([...words.slice(0, at), ""].join(" ")).map((form) => form.words[at]));
+  if (at === 0) FORMS.forEach((form) => kinds.add(form.words[0]));
+  const all = [...kinds].filter(Boolean).flatMap((kind) =>
+    isKind(kind) ? LIVE_WORDS[kind]?.(words, live, files) ?? [] : [{ word: kind, about: "" }]);
+  const wanted = words[at].toLowerCase();
+  const fitting = all.filter(({ word }) => word.toLowerCase().startsWith(wanted) && word !== words[at]);
+  return [...new Map(fitting.map((it) => [it.word, it])).values()].slice(0, MOST_OFFERED);
+}
